@@ -88,10 +88,14 @@ fn converted<R: Read + Drop, W: Deliver + Drop>(
     };
     let mut reader = Counted::new(input);
     let Ok(mut converter) = Converter::new(alloc, setup) else {
+        drop(reader);
         return None;
     };
-    let report = converter.run(&mut reader, writer).ok()?;
-    Some((report, converter.kept()))
+    let ran = converter.run(&mut reader, writer);
+    let kept = converter.kept();
+    drop(converter);
+    drop(reader);
+    Some((ran.ok()?, kept))
 }
 
 /// Converts a stream and adds its file and report to the digest.
@@ -106,14 +110,20 @@ fn convert(alloc: Global, setup: Setup, stream: Stream, digest: Digest) -> Optio
 /// Converts a stream of MSM7 with the plan that fits it.
 pub fn bulk(alloc: Global, seed: u64, amount: u64, digest: Digest) -> Option<Digest> {
     let setup = setup(alloc, PLAN, Gather::Bit)?;
-    let stream = Stream::new(alloc, Kind::Plain, seed, amount.saturating_mul(1000), 0).ok()?;
+    let Ok(stream) = Stream::new(alloc, Kind::Plain, seed, amount.saturating_mul(1000), 0) else {
+        drop(setup);
+        return None;
+    };
     convert(alloc, setup, stream, digest)
 }
 
 /// Converts a stream whose epochs are in several messages, with all signals.
 pub fn unordered(alloc: Global, seed: u64, amount: u64, digest: Digest) -> Option<Digest> {
     let setup = setup(alloc, ALL, Gather::Time)?;
-    let stream = Stream::new(alloc, Kind::Unordered, seed, amount.saturating_mul(100), 0).ok()?;
+    let Ok(stream) = Stream::new(alloc, Kind::Unordered, seed, amount.saturating_mul(100), 0) else {
+        drop(setup);
+        return None;
+    };
     convert(alloc, setup, stream, digest)
 }
 
@@ -121,22 +131,48 @@ pub fn unordered(alloc: Global, seed: u64, amount: u64, digest: Digest) -> Optio
 /// 1,400 bytes.
 pub fn live(alloc: Global, seed: u64, amount: u64, digest: Digest) -> Option<Digest> {
     let setup = setup(alloc, ALL, Gather::Bit)?;
-    let mut stream = Stream::new(alloc, Kind::Mixed, seed, amount.saturating_mul(1000), 0).ok()?;
+    let Ok(mut stream) = Stream::new(alloc, Kind::Mixed, seed, amount.saturating_mul(1000), 0)
+    else {
+        drop(setup);
+        return None;
+    };
+    let Ok(buffered) = Buffered::new(alloc, digest) else {
+        drop(stream);
+        drop(setup);
+        return None;
+    };
+    let mut writer = Counted::new(buffered);
+    let Ok(mut converter) = Converter::new(alloc, setup) else {
+        drop(writer);
+        drop(stream);
+        return None;
+    };
     let mut random = Random::new(seed ^ 77);
-    let mut writer = Counted::new(Buffered::new(alloc, digest).ok()?);
-    let mut converter = Converter::new(alloc, setup).ok()?;
+    let report = feed_all(&mut converter, &mut stream, &mut random, &mut writer);
+    let kept = converter.kept();
+    drop(converter);
+    drop(stream);
+    let mut digest = writer.into_inner().into_inner();
+    add_report(&mut digest, &report?, kept);
+    Some(digest)
+}
+
+/// Feeds a stream to a converter in pieces of 1 to 1,400 bytes.
+fn feed_all(
+    converter: &mut Converter,
+    stream: &mut Stream,
+    random: &mut Random,
+    writer: &mut Counted<Buffered<Digest>>,
+) -> Option<Report> {
     let mut buffer = [0u8; 1400];
     for _ in 0..u64::MAX {
-        let piece = next_piece(&mut stream, &mut random, &mut buffer)?;
+        let piece = next_piece(stream, random, &mut buffer)?;
         if piece.is_empty() {
             break;
         }
-        converter.feed(piece, &mut writer).ok()?;
+        converter.feed(piece, writer).ok()?;
     }
-    let report = converter.finish(&mut writer).ok()?;
-    let mut digest = writer.into_inner().into_inner();
-    add_report(&mut digest, &report, converter.kept());
-    Some(digest)
+    converter.finish(writer).ok()
 }
 
 /// Reads a piece of 1 to 1,400 bytes, less at the end of the stream and none after it.
@@ -155,7 +191,10 @@ fn next_piece<'a>(
 /// Reads a file back as the command `check` does.
 pub fn check(alloc: Global, seed: u64, amount: u64, digest: Digest) -> Option<Digest> {
     let setup = setup(alloc, PLAN, Gather::Bit)?;
-    let stream = Stream::new(alloc, Kind::Plain, seed, 60, 0).ok()?;
+    let Ok(stream) = Stream::new(alloc, Kind::Plain, seed, 60, 0) else {
+        drop(setup);
+        return None;
+    };
     let time = u64::from(WEEK) * 604_800_000 + stream.time() % 604_800_000;
     let mut writer = Counted::new(Buffered::new(alloc, Vec::new(alloc)).ok()?);
     let _ = converted(alloc, setup, stream, &mut writer)?;
@@ -210,7 +249,10 @@ fn is_done(found: Result<(), StreamFault<Infallible>>) -> bool {
 /// bytes that begin many frames.
 pub fn corrupted(alloc: Global, seed: u64, amount: u64, digest: Digest) -> Option<Digest> {
     let setup = setup(alloc, PLAN, Gather::Bit)?;
-    let stream = Stream::new(alloc, Kind::Short, seed, amount.saturating_mul(1000), 5).ok()?;
+    let Ok(stream) = Stream::new(alloc, Kind::Short, seed, amount.saturating_mul(1000), 5) else {
+        drop(setup);
+        return None;
+    };
     let digest = convert(alloc, setup, stream, digest)?;
     counted(alloc, Hostile::new(alloc, seed, amount), digest)
 }
