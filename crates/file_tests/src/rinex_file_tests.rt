@@ -10,6 +10,7 @@ mod long;
 mod parts;
 mod pieces;
 mod reading;
+mod slots;
 mod times;
 mod writing;
 

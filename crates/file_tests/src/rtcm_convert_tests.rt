@@ -2,6 +2,7 @@
 //! if a device fails.
 mod by_definition;
 mod faults;
+mod forms;
 mod hostile;
 mod script;
 mod waiting;

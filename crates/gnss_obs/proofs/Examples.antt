@@ -1,5 +1,6 @@
 -- Values worked out by hand, which the definitions compute.
 use Rattle.std.proofs.Common.{pos, negsuc, ◌≡◌, refl, Some, None, true, false}
+use Rattle.gnss_obs.specs.Channels.{channel_hertz}
 use Rattle.gnss_obs.specs.Names.{nearest_pseudorange, nearest_phase, nearest_doppler, nearest_strength, strength_digit, times4, times7, lost}
 
 -- 70 ms, and the next range that MSM7 encodes
@@ -19,6 +20,22 @@ slow_on_l1 = refl
 
 slow_on_l5 : nearest_doppler 1176450000 (pos 1) ≡ pos 0
 slow_on_l5 = refl
+
+-- the carriers of channels -7, 0 and 6 of GLONASS
+lowest_g1 : channel_hertz 1 0 ≡ 1_598_062_500
+lowest_g1 = refl
+
+middle_g1 : channel_hertz 1 7 ≡ 1_602_000_000
+middle_g1 = refl
+
+middle_g2 : channel_hertz 2 7 ≡ 1_246_000_000
+middle_g2 = refl
+
+highest_g1 : channel_hertz 1 13 ≡ 1_605_375_000
+highest_g1 = refl
+
+highest_g2 : channel_hertz 2 13 ≡ 1_248_625_000
+highest_g2 = refl
 
 -- 45.0625 dB-Hz is a tie
 strong : nearest_strength 721 ≡ pos 45063

@@ -7,14 +7,14 @@ use Rattle.std.proofs.lemmas.Map.Keys.{IsDistinct-IsPermutation, IsDistinct-push
 use Rattle.std.proofs.lemmas.Cmp.{nat_eq_equiv}
 use Rattle.std.specs.List.{IsDistinct}
 use Rattle.gnss_obs.proofs.OrderLemmas.{sort_moves}
-use Rattle.gnss_obs.specs.declared.arrivals.Added.TheVariants.{Kept}
+use Rattle.gnss_obs.specs.declared.epoch_cells.Added.TheVariants.{Kept}
 use Rattle.std.specs.Prelude.{nat_le}
-use Rattle.gnss_system.proofs.SystemLaws.{each_system}
+use Rattle.gnss_system.proofs.SystemLaws.{each_system, equal_values, value_mapped, value_tabulated}
 use Rattle.gnss_system.specs.Signals.{table}
-use Rattle.gnss_system.specs.SystemValues.{value_of}
+use Rattle.gnss_system.specs.SystemValues.{value_of, with_value_of, map_by}
 use Rattle.gnss_system.specs.declared.by_system.BySystem.{BySystem}
 use Rattle.gnss_obs.specs.declared.cells.Cells.{Cells}
-use Rattle.gnss_obs.specs.Names.{System, Gps, Galileo, Cell, Added, Satellite, SignalAt, IsSignal, AreHeld, AreKept, EpochValue, IsHeld, list_any, cells_of, IsObserved, heard_cell, same_key, cell_sort_key, is_held, AddsCell, IsAdded, slot, has_slot, sorted_cells, outcome_by, cells_after, epoch_with}
+use Rattle.gnss_obs.specs.Names.{System, Cell, Added, Satellite, SignalAt, IsSignal, AreHeld, AreKept, CellLists, IsHeld, list_any, no_cells, IsObserved, heard_cell, same_key, cell_sort_key, is_held, AddsCell, IsAdded, slot, has_slot, sorted_cells, outcome_by, cells_after}
 use Rattle.std.proofs.lemmas.Grind.{common_steps}
 
 -- ---- sorted cells
@@ -33,9 +33,11 @@ none_kept : (system : System) {cells : List Cell} → cells ≡ [] → AreKept s
 unfolding IsDistinct
 none_kept system none = subst (AreKept system) (sym none) (record { held = record { each = All-nil (IsHeld system); few = omega arith }; apart = tt })
 
-pub all_empty : (lists : BySystem (Box Cells Global)) → lists.gps.value ≡ [] → lists.galileo.value ≡ [] → (s : System) → AreKept s (value_of s lists).value
-all_empty lists gps galileo Gps = none_kept Gps gps
-all_empty lists gps galileo Galileo = none_kept Galileo galileo
+pub none_mapped : (lists : BySystem (Box Cells Global)) → ((s : System) → (value_of s lists).value ≡ []) → map_by (λ c. c.value) lists ≡ no_cells
+none_mapped lists none = equal_values _ _ (λ s. value_mapped s (λ c. c.value) lists ∙ none s ∙ sym (value_tabulated s (λ s. [])))
+
+pub all_empty : (lists : BySystem (Box Cells Global)) → ((s : System) → (value_of s lists).value ≡ []) → (s : System) → AreKept s (value_of s lists).value
+all_empty lists none s = none_kept s (none s)
 
 -- ---- one more cell
 
@@ -81,11 +83,11 @@ kept_added {system} {cells = cells} {x} Kept is kept observed low same a =
     })
 kept_added {system} {cells} _ is kept observed low same a = subst (AreKept system) (sym (a.cells ∙ same)) kept
 
-pub is_added : {system : System} {old e : EpochValue} {cells new : List Cell} {x : Cell} {k : Added} → x.satellite.system ≡ system → AreHeld system (cells_of system e)
-    → IsObserved (heard_cell x) → e ≡ old → cells ≡ cells_of system e → AddsCell cells x k new → IsAdded old x k (epoch_with system e new)
+pub is_added : {system : System} {old e : CellLists} {cells new : List Cell} {x : Cell} {k : Added} → x.satellite.system ≡ system → AreHeld system (value_of system e)
+    → IsObserved (heard_cell x) → e ≡ old → cells ≡ value_of system e → AddsCell cells x k new → IsAdded old x k (with_value_of system e new)
 is_added {system} {e} {cells} {new} {x} {k} is held observed same at a =
-    subst (λ v. IsAdded v x k (epoch_with system e new)) same (record {
-      outcome = subst (λ s. k ≡ outcome_by (is_held (cells_of s e) (heard_cell x)) (length (cells_of s e))) (sym is)
-          (a.outcome ∙ ap (λ l. outcome_by (has_slot (slot x) (map slot l)) (length l)) at ∙ ap (λ b. outcome_by b (length (cells_of system e))) (held_slot system x is observed.key.signal (cells_of system e) held.each));
-      epoch = subst (λ s. epoch_with system e new ≡ epoch_with s e (cells_after k (cells_of s e) x)) (sym is) (ap (epoch_with system e) (a.cells ∙ ap (λ l. cells_after k l x) at));
+    subst (λ v. IsAdded v x k (with_value_of system e new)) same (record {
+      outcome = subst (λ s. k ≡ outcome_by (is_held (value_of s e) (heard_cell x)) (length (value_of s e))) (sym is)
+          (a.outcome ∙ ap (λ l. outcome_by (has_slot (slot x) (map slot l)) (length l)) at ∙ ap (λ b. outcome_by b (length (value_of system e))) (held_slot system x is observed.key.signal (value_of system e) held.each));
+      lists = subst (λ s. with_value_of system e new ≡ with_value_of s e (cells_after k (value_of s e) x)) (sym is) (ap (with_value_of system e) (a.cells ∙ ap (λ l. cells_after k l x) at));
     })

@@ -1,6 +1,7 @@
 -- The test for a loss of lock.
-use Rattle.std.proofs.Common.{ℕ, ◌≡◌, ◌<◌, ◌≤◌, arith, refl, ◌+◌, ◌*◌, ◌^◌, ◌==◌, ◌||◌, nat_lt}
-use Rattle.gnss_obs.specs.LockTimes.{doublings, least4, least7, no_time}
+use Rattle.std.proofs.Common.{rules, ℕ, ◌≡◌, ◌<◌, ◌≤◌, arith, refl, ap, get_or, ◌+◌, ◌*◌, ◌==◌, ◌||◌, nat_lt, Bool, true, false, Option, Some, None}
+use Rattle.gnss_obs.specs.LockTimes.{least4, least7, time_of, times7}
+use Rattle.gnss_obs.specs.declared.lock.TheConstants.{LEAST7}
 use Rattle.gnss_system.proofs.Checked.{passes_at, is_less, is_equal, unless_less}
 
 -- the steps of the indicators, each computed
@@ -16,9 +17,18 @@ counts7 i below = is_equal _ _ (passes_at (λ j. least7 j == j) 65 i refl (omega
 pub doubles7 : (i : ℕ) → 32 ≤ i → i + 32 ≤ 704 → least7 (i + 32) ≡ 2 * least7 i
 doubles7 i above below = is_equal _ _ (unless_less i 32 _ (passes_at (λ j. nat_lt j 32 || (least7 (j + 32) == 2 * least7 j)) 673 i refl (omega (arith, below))) above)
 
--- an indicator's range ends where that of the next one begins
-pub steps7 : (i : ℕ) → i < 704 → least7 i + 2 ^ doublings i ≡ least7 (i + 1)
-steps7 i below = is_equal _ _ (passes_at (λ j. (least7 j + 2 ^ doublings j) == least7 (j + 1)) 704 i refl below)
+-- the words of the table are those of the least times
+abbrev same_time : Option ℕ → Option ℕ → Bool
+same_time None None = true
+same_time (Some a) (Some b) = a == b
+same_time None (Some b) = false
+same_time (Some a) None = false
 
-pub ends7 : (i : ℕ) → i < 705 → least7 i + 2 ^ doublings i < no_time
-ends7 i below = is_less _ _ (passes_at (λ j. nat_lt (least7 j + 2 ^ doublings j) no_time) 705 i refl below)
+is_same_time : (s t : Option ℕ) → same_time s t ≡ true → s ≡ t
+is_same_time None None h = refl
+is_same_time None (Some b) h = absurd (search rules)
+is_same_time (Some a) None h = absurd (search rules)
+is_same_time (Some a) (Some b) h = ap Some (is_equal a b h)
+
+pub words7 : (i : ℕ) → i < 706 → time_of (get_or LEAST7 i 0) ≡ (times7 i).least
+words7 i below = is_same_time _ _ (passes_at (λ j. same_time (time_of (get_or LEAST7 j 0)) (times7 j).least) 706 i refl below)

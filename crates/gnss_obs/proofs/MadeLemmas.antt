@@ -3,13 +3,15 @@ use Rattle.std.proofs.Common.{◌≡◌, ℕ, ◌<◌, true≢false, true, false
 use Rattle.std.specs.List.{list_all, sum_by}
 use Rattle.std.proofs.lemmas.List.Folds.{sum_by-zero}
 use Rattle.gnss_system.specs.Systems.{systems, index_of, before, after}
-use Rattle.gnss_system.specs.SystemValues.{value_of, tabulate, map_by}
+use Rattle.gnss_system.specs.SystemValues.{value_of, tabulate, map_by, of_two}
 use Rattle.gnss_system.specs.declared.by_system.BySystem.{BySystem}
 use Rattle.gnss_obs.specs.Plans.{first_fault, signals_or_none, plan_unless, is_nil, plan_by, signals_in, is_none_planned}
 use Rattle.gnss_obs.specs.SignalLists.{AreRead, AreAdded}
+use Rattle.gnss_obs.specs.Values.{plan_with}
 use Rattle.gnss_obs.specs.Names.{System, Gps, Galileo, PlanFault, UnknownCode, RepeatedCode, NothingPlanned, Memory, SignalAt, PlanValue, plan_of, indices, IsOf, DoneOr, IsDefined, IsMade, IsMemoryFaultOr, IsPlanResult, IsUnplanned}
-use Rattle.gnss_system.proofs.SystemLaws.{Below, below_list, all_list, same_all, each_system, systems_split, index_less, equal_values, value_tabulated, value_mapped, sum_none}
+use Rattle.gnss_system.proofs.SystemLaws.{each_of_two, Below, below_list, all_list, same_all, each_system, systems_split, index_less, equal_values, value_tabulated, value_mapped, sum_none}
 use Rattle.gnss_obs.proofs.FitLemmas.{unfit_not_of}
+use Rattle.gnss_obs.proofs.PlanLemmas.{none_of}
 use Rattle.std.proofs.lemmas.Grind.{common_steps}
 
 abbrev fault_of : {A : Type 0} → Result A PlanFault → PlanFault
@@ -18,7 +20,7 @@ fault_of (Err e) = e
 
 made : {A : Type 0} (P : PlanFault → Type 0) (Done : Type 0) (added : Result A PlanFault) (lists : BySystem (List SignalAt)) (result : Result PlanValue PlanFault) → DoneOr P Done added
     → IsMade added lists result
-    → MatchResult result (λ p. Done × (is_none_planned lists ≡ false) × (p ≡ map_by indices lists))
+    → MatchResult result (λ p. Done × (is_none_planned lists ≡ false) × (p ≡ plan_with (map_by indices lists)))
     (λ e. IsMemoryFaultOr P e ⊎ (Done × (is_none_planned lists ≡ true) × (e ≡ NothingPlanned)))
 made P Done (Ok u) lists (Ok p) is m = (is, m.1, m.2)
 made P Done (Ok u) lists (Err e) is (inl bad) = absurd (true≢false (ap is_ok bad))
@@ -61,19 +63,19 @@ none_alike lists = same_all _ _ (λ s. ap is_nil (value_mapped s indices lists) 
   alike [] = refl
   alike (s ∷ ss) = refl
 
-read_plan : (f : System → Result (List ℕ) PlanFault) (plan : PlanValue) → ((s : System) → f s ≡ Ok (value_of s plan)) → plan_by f ≡ (if is_none_planned plan then Err NothingPlanned else Ok plan)
-read_plan f plan each = ap₂ plan_unless (no_fault f (λ s. ap is_ok (each s))) same where
-  same : tabulate (λ s. signals_or_none (f s)) ≡ plan
+read_plan : (f : System → Result (List ℕ) PlanFault) (lists : BySystem (List ℕ)) → ((s : System) → f s ≡ Ok (value_of s lists)) → plan_by f ≡ (if is_none_planned lists then Err NothingPlanned else Ok (plan_with lists))
+read_plan f lists each = ap₂ plan_unless (no_fault f (λ s. ap is_ok (each s))) same where
+  same : tabulate (λ s. signals_or_none (f s)) ≡ lists
   same = equal_values _ _ (λ s. value_tabulated s (λ t. signals_or_none (f t)) ∙ ap signals_or_none (each s))
 
 pub plan_read : {A : Type 0} (added : Result A PlanFault) (texts : BySystem (List ℕ)) (lists : BySystem (List SignalAt)) (result : Result PlanValue PlanFault)
     → DoneOr (λ e. plan_of texts ≡ Err e) (AreRead texts lists) added → IsMade added lists result → IsDefined (plan_of texts) result
 plan_read added texts lists result is m = by result (made (λ e. plan_of texts ≡ Err e) (AreRead texts lists) added lists result is m) where
-  plan : AreRead texts lists → plan_of texts ≡ (if is_none_planned lists then Err NothingPlanned else Ok (map_by indices lists))
-  plan read = read_plan (signals_in texts) (map_by indices lists) (λ s. (read s).0 ∙ ap Ok (sym (value_mapped s indices lists))) ∙ ap (λ b. if b then Err NothingPlanned else Ok (map_by indices lists)) (none_alike lists)
+  plan : AreRead texts lists → plan_of texts ≡ (if is_none_planned lists then Err NothingPlanned else Ok (plan_with (map_by indices lists)))
+  plan read = read_plan (signals_in texts) (map_by indices lists) (λ s. (read s).0 ∙ ap Ok (sym (value_mapped s indices lists))) ∙ ap (λ b. if b then Err NothingPlanned else Ok (plan_with (map_by indices lists))) (none_alike lists)
 
   by : (result : Result PlanValue PlanFault)
-      → MatchResult result (λ p. AreRead texts lists × (is_none_planned lists ≡ false) × (p ≡ map_by indices lists))
+      → MatchResult result (λ p. AreRead texts lists × (is_none_planned lists ≡ false) × (p ≡ plan_with (map_by indices lists)))
       (λ e. IsMemoryFaultOr (λ e. plan_of texts ≡ Err e) e ⊎ (AreRead texts lists × (is_none_planned lists ≡ true) × (e ≡ NothingPlanned)))
       → IsDefined (plan_of texts) result
   by (Ok p) h = plan h.0 ∙ rw (h.1, h.2) refl
@@ -98,21 +100,20 @@ some_of lists none = by _ (sum_by-zero (λ s. length (value_of s lists)) systems
   by n h = grind (arith, h)
 
 -- The signals of two systems, and none of the others.
-pub two_of : (lists : BySystem (Bor (List SignalAt))) → IsOf Gps lists.gps.now → IsOf Galileo lists.galileo.now → (s : System) → IsOf s (value_of s lists).now
-two_of lists gps galileo Gps = gps
-two_of lists gps galileo Galileo = galileo
+pub two_of : (gps galileo none : Bor (List SignalAt)) → IsOf Gps gps.now → IsOf Galileo galileo.now → none.now ≡ [] → (s : System) → IsOf s (value_of s (of_two gps galileo none)).now
+two_of gps galileo none g e empty = each_of_two (λ s (l : Bor (List SignalAt)). IsOf s l.now) g e (λ s. subst (IsOf s) (sym empty) (none_of s))
 
 pub plan_added : {A : Type 0} (added : Result A PlanFault) (signals lists : BySystem (List SignalAt)) (result : Result PlanValue PlanFault)
     → DoneOr (IsUnplanned signals) (AreAdded signals lists) added → IsMade added lists result → IsPlanResult signals result
 plan_added added signals lists result is m = by result (made (IsUnplanned signals) (AreAdded signals lists) added lists result is m) where
   by : (result : Result PlanValue PlanFault)
-      → MatchResult result (λ p. AreAdded signals lists × (is_none_planned lists ≡ false) × (p ≡ map_by indices lists))
+      → MatchResult result (λ p. AreAdded signals lists × (is_none_planned lists ≡ false) × (p ≡ plan_with (map_by indices lists)))
       (λ e. IsMemoryFaultOr (IsUnplanned signals) e ⊎ (AreAdded signals lists × (is_none_planned lists ≡ true) × (e ≡ NothingPlanned)))
       → IsPlanResult signals result
   by (Ok p) h = record {
     each = h.0.1;
     some = some_of signals (ap is_none_planned (sym h.0.0) ∙ h.1);
-    value = h.2 ∙ ap (map_by indices) h.0.0;
+    value = h.2 ∙ ap (λ l. plan_with (map_by indices l)) h.0.0;
   }
   by (Err e) (inl bad) = bad
   by (Err e) (inr none) = inr (subst (IsUnplanned signals) (sym none.2) (nil_at signals (ap is_none_planned (sym none.0.0) ∙ none.1)))

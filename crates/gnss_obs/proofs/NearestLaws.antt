@@ -4,7 +4,8 @@ use Rattle.std.proofs.Math.IntN.{neg_ℤ, negsuc-*ℤ-pos}
 use Rattle.std.proofs.Math.Nat.{div-div-eq-div-mul, mul-div_cancel_left}
 use Rattle.std.proofs.lemmas.Int.{ints, unsigned_abs-mul}
 use Rattle.std.proofs.lemmas.Nat.{mul-le, div-add-mod', mod_below}
-use Rattle.gnss_obs.specs.Rounding.{IsNearest, nearest, nearest_size}
+use Rattle.std.specs.Prelude.{Option, Some, None, option_map}
+use Rattle.gnss_obs.specs.Rounding.{IsNearest, IsRounded, nearest, nearest_size}
 
 -- the distance of the product from the fraction
 pub size_bounds : (n q : ℕ) → 0 < q → (2 * (nearest_size n q * q) ≤ 2 * n + q) × (2 * n + q < 2 * (nearest_size n q * q) + 2 * q)
@@ -55,6 +56,10 @@ nearest_is (negsuc n) q some = let b = size_bounds (n + 1) q some in mirror (nea
   mirror v t n q e a b =
       let product : v *ℤ pos q ≡ pos 0 -ℤ pos (t * q) = ap (λ x. x *ℤ pos q) e ∙ mirrored t q in
       record { near = rw product (mirror_apart (t * q) n q a b); tie = rw product (mirror_tied (t * q) n q b) }
+
+pub rounded : {A : Type 0} (above : A → ℤ) (q : ℕ) (x : Option A) → 0 < q → IsRounded above q x (option_map (λ a. nearest (above a) q) x)
+rounded above q None some = tt
+rounded above q (Some a) some = nearest_is (above a) q some
 
 -- the size of a quotient by an even number
 halved : (n h : ℕ) → nearest_size n (2 * h) ≡ (n + h) / (2 * h)

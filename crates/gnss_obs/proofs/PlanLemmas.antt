@@ -4,11 +4,15 @@ use Rattle.std.proofs.Common.{Bor}
 use Rattle.std.proofs.lemmas.Cmp.{nat_eq_equiv}
 use Rattle.std.proofs.lemmas.Map.Keys.{IsDistinct-push}
 use Rattle.std.proofs.lemmas.Map.Steps.{length-le_from_distinct_below}
-use Rattle.std.proofs.lemmas.List.Elements.{All-push, All-head, All-tail}
+use Rattle.std.proofs.lemmas.List.Elements.{All-push, All-head, All-map, All-tail, All-weaker}
 use Rattle.std.proofs.lemmas.Str.Pattern.{IsSplitOnceResult, split_once_first}
 use Rattle.gnss_obs.specs.Names.{ListedSignal, RepeatedCode, System, SignalAt, IsSignal, table, signal_of_code, signal_where, signal_at, PlanFault, between_commas, onto_first, one_signal_more, below, signals_of, signals_after, IsTaken, indices, IsMemoryFaultOr, IsOf, ArePlanned, DoneOr, RefusesCode, TakesCode}
 use Rattle.std.specs.List.{list_any, position_or_len, before_first, after_first, IsDistinct}
 use Rattle.std.proofs.lemmas.Grind.{common_steps}
+use Rattle.gnss_system.specs.declared.system.System.TheVariants.{Glonass}
+use Rattle.gnss_obs.specs.Channels.{ChannelsValue, no_channels}
+use Rattle.gnss_obs.specs.Plans.{is_nil, with_channels}
+use Rattle.gnss_obs.specs.Names.{PlanValue, planned_of}
 
 abbrev comma : ℕ → Bool
 comma b = b == 44
@@ -64,19 +68,21 @@ indices-push (r ∷ ss) s = ap (λ l. r.index ∷ l) (indices-push ss s)
 abbrev OfSystem : System → SignalAt → Type 0
 OfSystem system s = (s.system ≡ system) × IsSignal s
 
-among_below : (system : System) (ss : List SignalAt) → All (λ (s : SignalAt). (s.system ≡ system) × IsSignal s) ss → (q : ℕ) → list_any (nat_eq q) (indices ss) ≡ true → q < length (table system)
-among_below system [] h q e = grind (arith, e)
-among_below system (s ∷ ss) h q e = by (nat_eq q s.index) refl e (among_below system ss (All-tail (OfSystem system) s ss h) q) where
-  by : (b : Bool) → nat_eq q s.index ≡ b → (b || list_any (nat_eq q) (indices ss)) ≡ true → (list_any (nat_eq q) (indices ss) ≡ true → q < length (table system)) → q < length (table system)
-  by true same e more =
-      let is : s.index ≡ q = grind (arith, same) in
-      subst (λ n. n < length (table system)) is (let here = All-head (OfSystem system) s ss h in subst (λ (c : System). s.index < length (table c)) here.0 here.1)
-  by false same e more = more e
+pub listed_by : (system : System) (ss : List SignalAt) → All (OfSystem system) ss → All (λ i. i < length (table system)) (indices ss)
+listed_by system ss all = All-map (λ i. i < length (table system)) (λ s. s.index) ss (All-weaker (OfSystem system) (λ s. s.index < length (table system)) (λ s is. subst (λ t. s.index < length (table t)) is.0 is.1) ss all)
+
+one_below : (q x n : ℕ) (others : Bool) → x < n → (others ≡ true → q < n) → (nat_eq q x || others) ≡ true → q < n
+one_below q x n others less more h = grind (arith, h)
+
+each_below : (n : ℕ) (xs : List ℕ) → All (λ i. i < n) xs → (q : ℕ) → list_any (nat_eq q) xs ≡ true → q < n
+each_below n [] below q h = cc
+each_below n (x ∷ xs) below q h = one_below q x n (list_any (nat_eq q) xs) (All-head (λ i. i < n) x xs below) (each_below n xs (All-tail (λ i. i < n) x xs below) q) h
+
+pub few_below : (n : ℕ) (xs : List ℕ) → All (λ i. i < n) xs → IsDistinct nat_eq xs → length xs ≤ n
+few_below n xs below apart = length-le_from_distinct_below xs n apart (each_below n xs below)
 
 pub few_signals : (system : System) (ss : List SignalAt) → IsOf system ss → length ss ≤ length (table system)
-few_signals system ss h =
-    let few = length-le_from_distinct_below (indices ss) (length (table system)) h.apart (among_below system ss h.each) in
-    subst (λ n. n ≤ length (table system)) (length_indices ss) few
+few_signals system ss h = subst (λ n. n ≤ length (table system)) (length_indices ss) (few_below (length (table system)) (indices ss) (listed_by system ss h.each) h.apart)
 
 pub none_of : (system : System) → IsOf system []
 unfolding IsDistinct
@@ -87,6 +93,19 @@ is_of-push system ss s h same listed new = record {
   each = All-push (OfSystem system) ss s h.each (same, listed);
   apart = subst (IsDistinct nat_eq) (sym (indices-push ss s)) (IsDistinct-push nat_eq_equiv (indices ss) s.index h.apart (sym (any_index s.index ss) ∙ new));
 }
+
+-- ---- channels
+
+pub none_planned : (ss : List SignalAt) → indices ss ≡ [] → ss ≡ []
+none_planned [] h = refl
+none_planned (s ∷ ss) h = cc
+
+pub some_planned : (ss : List SignalAt) {planned : List ℕ} → indices ss ≡ planned → (ss ≡ [] → ⊥) → is_nil planned ≡ false
+some_planned [] same h = absurd (h refl)
+some_planned (s ∷ ss) same h = sym (ap is_nil same)
+
+pub channelled : (p : PlanValue) (channels : ChannelsValue) → is_nil (planned_of Glonass p) ≡ false → record p { channels = channels } ≡ with_channels p channels
+channelled p channels h = ap (λ (b : Bool). record p { channels = if b then no_channels else channels }) (sym h)
 
 -- ---- one more code
 

@@ -1,11 +1,11 @@
 -- Satellites as the bits of a set.
 use Rattle.std.proofs.Common.{◌≡◌, ℕ, zero, suc, ◌+◌, ◌*◌, ◌<◌, ◌≤◌, ◌^◌, ◌%◌, Bool, true, false, List, [], ◌∷◌, ◌++◌, refl, sym, ap, ◌∙◌, subst, arith, length, All, nat_lt, nat_eq, min, max, take, get_or}
-use Rattle.std.proofs.lemmas.List.{take_all, take_more}
+use Rattle.std.proofs.lemmas.List.{take_more}
 use Rattle.std.proofs.lemmas.Nat.{and_le_l}
 use Rattle.std.specs.Int.{bit_at, bit_not, trailing_zeros, w64}
 use Rattle.std.specs.Int.RustNames.{bit_and, bit_or}
 use Rattle.std.specs.Int.Count.{trailing_of_zero}
-use Rattle.std.proofs.lemmas.List.Elements.{All-nil, All-push, All-weaker}
+use Rattle.std.proofs.lemmas.List.Elements.{All-push, All-weaker}
 use Rattle.std.proofs.lemmas.Nat.Bits.{bit_at_and, bit_at_or, bit_at-lt, bit_at-zero, bit_at_set_same, bit_at_set_other, bit_at_clear_same, bit_at_clear_other, bit_at-trailing_zeros}
 use Rattle.gnss_obs.specs.Arriving.{HasSatellites}
 use Rattle.gnss_obs.specs.Names.{AreBelow, AreHeld, Cell, IsHeld, System, cell_number, place_in, satellites, sorted_cells}
@@ -16,9 +16,6 @@ use Rattle.gnss_obs.proofs.SortLemmas.{Gap, IsFrom, below_all, below_first, belo
 
 abbrev IsIn : ℕ → Cell → Type 0
 IsIn set c = bit_at set c.satellite.id ≡ 1
-
-pub no_satellites : (most : ℕ) → HasSatellites most [] 0
-no_satellites most = record { listed = λ n e. absurd (omega (arith, bit_at-zero n, e)); each = All-nil (λ (c : Cell). bit_at 0 c.satellite.id ≡ 1) }
 
 abbrev with : ℕ → ℕ → ℕ
 with set id = bit_or set (1 * 2 ^ id % 2 ^ 64)
@@ -54,9 +51,6 @@ one_satellite_more system cells set i x held less is id h =
     let few = subst (λ s. x.satellite.id ≤ satellites s) own.satellite own.number.1 in
     subst (λ n. HasSatellites (satellites system) (take (i + 1) cells) (with set n)) (sym id)
     (subst (λ l. HasSatellites (satellites system) l (with set x.satellite.id)) (ap (λ c. take i cells ++ c ∷ []) is ∙ sym (take_more cells i x less)) (satellite_more (satellites system) set (take i cells) x (few_satellites system) few h))
-
-pub all_taken : (most : ℕ) (cells : List Cell) (set i : ℕ) → length cells ≤ i → HasSatellites most (take i cells) set → HasSatellites most cells set
-all_taken most cells set i end h = subst (λ l. HasSatellites most l set) (take_all i cells end) h
 
 -- ---- the lowest satellite of a set
 

@@ -11,9 +11,11 @@ use Rattle.gnss_obs.proofs.PlanLemmas.{indices-push, is_of-push}
 use Rattle.std.proofs.lemmas.Grind.{common_steps}
 use Rattle.std.proofs.lemmas.List.Quantifiers.{position-Some}
 use Rattle.std.proofs.lemmas.Option.{slice_get-get_or}
-use Rattle.gnss_obs.specs.Names.{Gps, Galileo, System, ListedSignal, table, id_of, indices, signal_at, signal_of_id, option_map_or}
+use Rattle.std.specs.Prelude.{nat_le}
+use Rattle.gnss_system.proofs.SystemLaws.{each_system}
+use Rattle.gnss_obs.specs.Names.{System, ListedSignal, table, id_of, indices, signal_at, signal_of_id, option_map_or}
 use Rattle.gnss_obs.specs.Plans.{if_planned, planned_signal}
-use Rattle.gnss_obs.proofs.TableLaws.{id_back, ids_within}
+use Rattle.gnss_obs.proofs.TableLaws.{id_back}
 use Rattle.gnss_system.proofs.Checked.{is_equal}
 
 pub none_before : {X : Type 0} (p : X → Bool) (xs : List X) → list_any p xs ≡ false → position_or_len p xs ≡ length xs
@@ -103,21 +105,15 @@ listed_at system i within = grind (arith, common_steps, within)
 
 -- No signal has this index.
 pub no_signal : (system : System) → signal_at system 255 ≡ None
-no_signal Gps = refl
-no_signal Galileo = refl
+no_signal system = by _ _ (each_system (λ system. nat_le (length (table system)) 255) system refl) where
+  by : (n : ℕ) (s : SignalAt) → nat_le n 255 ≡ true → (if nat_lt 255 n then Some s else None) ≡ None
+  by n s few = grind (arith, common_steps, few)
 
 pub none_planned : (system : System) (id : ℕ) → planned_signal system [] id ≡ None
 none_planned system id = by (signal_of_id system id) where
   by : (o : Option SignalAt) → option_and_then (if_planned []) o ≡ None
   by None = refl
   by (Some s) = refl
-
--- No signal has an ID above the greatest one.
-pub unlisted : (system : System) (planned : List ℕ) (id : ℕ) → 32 < id → planned_signal system planned id ≡ None
-unlisted system planned id above = by (signal_of_id system id) refl where
-  by : (o : Option SignalAt) → signal_of_id system id ≡ o → option_and_then (if_planned planned) o ≡ None
-  by None e = refl
-  by (Some s) e = let found = id_found system id s e in let most = ids_within s found.1 in absurd (omega (arith, above, most.1, found.2))
 
 last_of : (system : System) (ss : List SignalAt) (s : SignalAt) → All (λ (r : SignalAt). (r.system ≡ system) × IsSignal r) (ss ++ s ∷ []) → s.system ≡ system
 last_of system [] s h = (All-head (λ (r : SignalAt). (r.system ≡ system) × IsSignal r) s [] h).0

@@ -7,11 +7,10 @@ use Rattle.std.proofs.lemmas.List.Quantifiers.{position-Some}
 use Rattle.std.proofs.lemmas.List.Sorted.{All-permutation, IsPermutation-sym, length_permutation}
 use Rattle.std.proofs.lemmas.Map.Keys.{apart_from_distinct, IsDistinct-head, IsDistinct-tail}
 use Rattle.gnss_obs.specs.Order.{Rise, RiseTo}
-use Rattle.gnss_obs.specs.Names.{AreBelow, AreHeld, AreKept, AreOrderedBy, AreSortedByPlan, HasPlannedCells, IsPlanned, Cell, IsHeld, IsOf, IsSignal, SignalAt, System, has_slot, indices, IsDistinct, slot, table, place_in, SortKey, is_before, SortKeysRise, insert_by, cell_sort_key, sorted_cells, sorted_epoch, cell_number, EpochValue, PlanValue, planned_of, cells_of, option_map_or, AllByRecursion}
+use Rattle.gnss_obs.specs.Names.{AreBelow, AreHeld, AreKept, AreOrderedBy, IsPlanned, Cell, IsHeld, IsOf, IsSignal, SignalAt, System, has_slot, indices, IsDistinct, slot, table, place_in, SortKey, is_before, SortKeysRise, insert_by, cell_sort_key, sorted_cells, cell_number, option_map_or, AllByRecursion}
 use Rattle.gnss_obs.proofs.HeldLemmas.{low_index}
 use Rattle.gnss_obs.proofs.OrderLemmas.{Before, Differ, sort_moves, sorted_rise}
 use Rattle.gnss_obs.proofs.PlanLemmas.{few_signals, length_indices}
-use Rattle.gnss_system.proofs.SystemLaws.{equal_values, value_tabulated}
 use Rattle.std.proofs.lemmas.Grind.{common_steps}
 
 -- ---- numbers of cells
@@ -321,17 +320,6 @@ pub few_sorted : (planned : List ℕ) (cells : List Cell) → length cells < 2 �
 few_sorted planned [] h = refl
 few_sorted planned (c ∷ []) h = refl
 few_sorted planned (c ∷ d ∷ cells) h = absurd (omega (arith, h))
-
--- Sorting an epoch in order changes nothing.
-pub epoch_same : (p : PlanValue) (e : EpochValue) → AreSortedByPlan p e → sorted_epoch p e ≡ e
-epoch_same p e h =
-    ap (λ cells. record { time = e.time; cells = cells }) (equal_values _ _ (λ s.
-    value_tabulated s (λ t. sorted_cells (planned_of t p) (cells_of t e)) ∙ sorted_same (planned_of s p) (cells_of s e) (h s)))
-
--- The cells of a sorted epoch are planned if they were.
-pub planned_sorted : (p : PlanValue) (e : EpochValue) → HasPlannedCells p e → HasPlannedCells p (sorted_epoch p e)
-planned_sorted p e h s =
-    subst (All (IsPlanned (planned_of s p))) (sym (value_tabulated s (λ t. sorted_cells (planned_of t p) (cells_of t e)))) (to_sorted (IsPlanned (planned_of s p)) (planned_of s p) (cells_of s e) (h s))
 
 -- ---- cells in the order of their slots
 

@@ -6,12 +6,12 @@ use Rattle.std.specs.Int.{bit_at}
 use Rattle.std.specs.List.{All, AllByRecursion, IsDistinct, list_any}
 use Rattle.gnss_system.specs.declared.system.System.{System}
 use Rattle.gnss_obs.specs.declared.cell.Cell.{Cell}
-use Rattle.gnss_obs.specs.declared.arrivals.Added.{Added}
-use Rattle.gnss_obs.specs.declared.arrivals.Added.TheVariants.{Kept, Repeated, Crowded}
+use Rattle.gnss_obs.specs.declared.epoch_cells.Added.{Added}
+use Rattle.gnss_obs.specs.declared.epoch_cells.Added.TheVariants.{Kept, Repeated, Crowded}
 use Rattle.gnss_system.specs.Satellites.{most_satellites}
 use Rattle.gnss_obs.specs.HeardCells.{heard_cell}
-use Rattle.gnss_obs.specs.Values.{AreHeld, PlanValue, EpochValue, planned_of, cells_of, most_cells}
-use Rattle.gnss_system.specs.SystemValues.{with_value_of, tabulate}
+use Rattle.gnss_obs.specs.Values.{AreHeld, CellLists, PlanValue, EpochValue, planned_of, most_cells}
+use Rattle.gnss_system.specs.SystemValues.{value_of, with_value_of, tabulate}
 use Rattle.gnss_obs.specs.Plans.{place_in}
 use Rattle.gnss_obs.specs.Order.{sorted_by, cell_sort_key}
 use Rattle.gnss_obs.specs.PlanOrder.{is_held}
@@ -27,15 +27,12 @@ abbrev pub cells_after : Added → List Cell → Cell → List Cell
 cells_after Kept cells x = cells ++ x ∷ []
 cells_after _ cells x = cells
 
-abbrev pub epoch_with : System → EpochValue → List Cell → EpochValue
-epoch_with s e cells = record e { cells = with_value_of s e.cells cells }
-
 -- One more cell is kept, unless one of its key is kept, or there is no room.
-pub record IsAdded (old : EpochValue) (x : Cell) (added : Added) (new : EpochValue) : Type 0 where
-  pub outcome : added ≡ outcome_by (is_held (cells_of x.satellite.system old) (heard_cell x))
-      (length (cells_of x.satellite.system old))
-  pub epoch : new
-      ≡ epoch_with x.satellite.system old (cells_after added (cells_of x.satellite.system old) x)
+pub record IsAdded (old : CellLists) (x : Cell) (added : Added) (new : CellLists) : Type 0 where
+  pub outcome : added ≡ outcome_by (is_held (value_of x.satellite.system old) (heard_cell x))
+      (length (value_of x.satellite.system old))
+  pub lists : new
+      ≡ with_value_of x.satellite.system old (cells_after added (value_of x.satellite.system old) x)
 
 -- ---- the table that finds the cell of a key
 
@@ -77,9 +74,11 @@ pub record AddsCell (old : List Cell) (x : Cell) (added : Added) (new : List Cel
 abbrev pub sorted_cells : List ℕ → List Cell → List Cell
 sorted_cells planned cells = sorted_by (cell_sort_key planned) cells
 
+abbrev pub sorted_lists : PlanValue → CellLists → CellLists
+sorted_lists p lists = tabulate (λ s. sorted_cells (planned_of s p) (value_of s lists))
+
 abbrev pub sorted_epoch : PlanValue → EpochValue → EpochValue
-sorted_epoch p e =
-    record { time = e.time; cells = tabulate (λ s. sorted_cells (planned_of s p) (cells_of s e)) }
+sorted_epoch p e = record { time = e.time; cells = sorted_lists p e.cells }
 
 -- A number that rises with the sort key.
 abbrev pub cell_number : List ℕ → Cell → ℕ

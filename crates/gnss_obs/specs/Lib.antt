@@ -3,6 +3,7 @@ pub mod Observables
 pub mod LockTimes
 pub mod Weeks
 pub mod Dates
+pub mod Channels
 pub mod Values
 pub mod Plans
 pub mod SignalLists
@@ -10,6 +11,5 @@ pub mod HeardCells
 pub mod Order
 pub mod PlanOrder
 pub mod Arriving
-pub mod Stages
 pub mod GatheredEpochs
 pub mod Names

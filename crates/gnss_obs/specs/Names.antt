@@ -1,7 +1,7 @@
 -- The names that proofs cite, in one place.
 pub use Rattle.std.specs.List.{AllByRecursion, IsDistinct, list_any}
 pub use Rattle.std.specs.Option.{option_map_or}
-pub use Rattle.gnss_obs.specs.Arriving.{AddsCell, AreBelow, AreKept, IsAdded, cell_number, cells_after, epoch_with, has_slot, outcome_by, slot, sorted_cells, sorted_epoch}
+pub use Rattle.gnss_obs.specs.Arriving.{AddsCell, AreBelow, AreKept, IsAdded, cell_number, cells_after, has_slot, outcome_by, slot, sorted_cells, sorted_epoch, sorted_lists}
 pub use Rattle.gnss_obs.specs.Dates.{IsCivil, IsCivilOf, YearMonthDay, civil_of, clock_of, date_of, month_length, month_on, year_length, year_on}
 pub use Rattle.gnss_obs.specs.HeardCells.{IsObserved, heard_cell, same_key}
 pub use Rattle.gnss_obs.specs.PlanOrder.{HasPlannedCells, IsPlanned, is_held}
@@ -12,13 +12,11 @@ pub use Rattle.gnss_obs.specs.Plans.{CodesNameSignals, IsTaken, below, between_c
 pub use Rattle.gnss_obs.specs.Rounding.{IsNearest, nearest}
 pub use Rattle.gnss_system.specs.Satellites.{Satellite, satellites}
 pub use Rattle.gnss_obs.specs.SignalLists.{ArePlanned, DoneOr, IsDefined, IsMade, IsMemoryFaultOr, IsOf, IsPlanResult, IsUnfit, IsUnfitAfter, IsUnplanned, RefusesCode, TakesCode, indices}
-pub use Rattle.gnss_system.specs.SignalRows.{rows}
 pub use Rattle.gnss_system.specs.SignalTables.{band_of, carrier_of}
-pub use Rattle.gnss_system.specs.Signals.{IsSignal, SignalAt, after, carriers, code_of, greatest_signal_id, hertz_of, id_of, signal_at, signal_of_code, signal_of_id, signal_where, table}
-pub use Rattle.gnss_obs.specs.Stages.{PendingValue, stage_value}
-pub use Rattle.gnss_obs.specs.Values.{AreHeld, Closed, EpochValue, IsHeld, PlanValue, cells_of, planned_of}
+pub use Rattle.gnss_system.specs.Signals.{IsSignal, SignalAt, after, carriers, code_of, greatest_signal_id, hertz_of, id_of, rows, signal_at, signal_of_code, signal_of_id, signal_where, table}
+pub use Rattle.gnss_obs.specs.Values.{AreHeld, CellLists, Closed, EpochValue, IsHeld, PlanValue, cells_of, no_cells, planned_of}
 pub use Rattle.gnss_obs.specs.Weeks.{weeks}
-pub use Rattle.gnss_obs.specs.declared.arrivals.Added.{Added}
+pub use Rattle.gnss_obs.specs.declared.epoch_cells.Added.{Added}
 pub use Rattle.gnss_obs.specs.declared.cell.Cell.{Cell}
 pub use Rattle.gnss_obs.specs.declared.civil.Civil.{Civil}
 pub use Rattle.gnss_obs.specs.declared.fault.PlanFault.{PlanFault}

@@ -4,7 +4,8 @@ use Rattle.std.specs.List.{list_any}
 use Rattle.gnss_system.specs.declared.system.System.{System}
 use Rattle.gnss_obs.specs.declared.cell.Cell.{Cell}
 use Rattle.gnss_obs.specs.HeardCells.{HeardCell, has_same_key, heard_cell}
-use Rattle.gnss_obs.specs.Values.{PlanValue, EpochValue, planned_of, cells_of}
+use Rattle.gnss_system.specs.SystemValues.{value_of}
+use Rattle.gnss_obs.specs.Values.{CellLists, PlanValue, planned_of}
 use Rattle.gnss_obs.specs.Plans.{place_in}
 
 -- A cell of that key is kept.
@@ -16,5 +17,5 @@ abbrev pub IsPlanned : List ℕ → Cell → Type 0
 IsPlanned planned c = is_some (place_in c.signal planned) ≡ true
 
 -- The signal of each cell is planned.
-abbrev pub HasPlannedCells : PlanValue → EpochValue → Type 0
-HasPlannedCells p e = (s : System) → All (IsPlanned (planned_of s p)) (cells_of s e)
+abbrev pub HasPlannedCells : PlanValue → CellLists → Type 0
+HasPlannedCells p lists = (s : System) → All (IsPlanned (planned_of s p)) (value_of s lists)

@@ -8,7 +8,9 @@ use Rattle.gnss_system.specs.Systems.{systems}
 use Rattle.gnss_system.specs.SystemValues.{value_of, tabulate}
 use Rattle.gnss_system.specs.declared.by_system.BySystem.{BySystem}
 use Rattle.gnss_system.specs.Signals.{SignalAt, table, signal_of_code, signal_of_id}
-use Rattle.gnss_obs.specs.Values.{PlanValue}
+use Rattle.gnss_system.specs.declared.system.System.TheVariants.{Glonass}
+use Rattle.gnss_obs.specs.Channels.{ChannelsValue, no_channels}
+use Rattle.gnss_obs.specs.Values.{PlanValue, plan_with, planned_of}
 use Rattle.gnss_obs.specs.declared.fault.PlanFault.{PlanFault}
 use Rattle.gnss_obs.specs.declared.fault.PlanFault.TheVariants.{UnknownCode, RepeatedCode, NothingPlanned}
 
@@ -95,10 +97,14 @@ signals_or_none (Err e) = []
 abbrev pub is_none_planned : {A : Type 0} → BySystem (List A) → Bool
 is_none_planned lists = list_all (λ s. is_nil (value_of s lists)) systems
 
+-- The plan with these channels; a plan without a signal of GLONASS has none.
+abbrev pub with_channels : PlanValue → ChannelsValue → PlanValue
+with_channels p channels = record p { channels = if is_nil (planned_of Glonass p) then no_channels else channels }
+
 -- The plan of results for each system, or their first fault.
-abbrev pub plan_unless : Option PlanFault → PlanValue → Result PlanValue PlanFault
-plan_unless (Some e) plan = Err e
-plan_unless None plan = if is_none_planned plan then Err NothingPlanned else Ok plan
+abbrev pub plan_unless : Option PlanFault → BySystem (List ℕ) → Result PlanValue PlanFault
+plan_unless (Some e) signals = Err e
+plan_unless None signals = if is_none_planned signals then Err NothingPlanned else Ok (plan_with signals)
 
 abbrev pub plan_by : (System → Result (List ℕ) PlanFault) → Result PlanValue PlanFault
 plan_by f = plan_unless (first_fault f systems) (tabulate (λ s. signals_or_none (f s)))

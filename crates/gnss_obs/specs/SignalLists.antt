@@ -11,7 +11,7 @@ use Rattle.gnss_system.specs.SystemValues.{value_of, map_by}
 use Rattle.gnss_system.specs.declared.by_system.BySystem.{BySystem}
 use Rattle.gnss_obs.specs.declared.fault.PlanFault.{PlanFault}
 use Rattle.gnss_obs.specs.declared.fault.PlanFault.TheVariants.{UnknownCode, RepeatedCode, NothingPlanned, Memory}
-use Rattle.gnss_obs.specs.Values.{PlanValue}
+use Rattle.gnss_obs.specs.Values.{PlanValue, plan_with}
 
 -- The indices of signals in the table of their system.
 abbrev pub indices : List SignalAt → List ℕ
@@ -105,7 +105,7 @@ IsUnplanned lists other = ⊥
 pub record IsPlanOf (lists : BySystem (List SignalAt)) (p : PlanValue) : Type 0 where
   pub each : (s : System) → IsOf s (value_of s lists)
   pub some : 0 < sum_by (λ s. length (value_of s lists)) systems
-  pub value : p ≡ map_by indices lists
+  pub value : p ≡ plan_with (map_by indices lists)
 
 -- The result for these signals is their plan, or a fault.
 abbrev pub IsPlanResult : BySystem (List SignalAt) → Result PlanValue PlanFault → Type 0
@@ -114,7 +114,8 @@ IsPlanResult lists result = MatchResult result (IsPlanOf lists) (IsMemoryFaultOr
 -- The plan of these signals, if they were added without a fault and there is one.
 abbrev pub IsMade : {A : Type 0} → Result A PlanFault → BySystem (List SignalAt) → Result PlanValue PlanFault → Type 0
 IsMade added lists result =
-    MatchResult result (λ p. IsOk added × (is_none_planned lists ≡ false) × (p ≡ map_by indices lists))
+    MatchResult result
+    (λ p. IsOk added × (is_none_planned lists ≡ false) × (p ≡ plan_with (map_by indices lists)))
     (λ e. (added ≡ Err e) ⊎ (IsOk added × (is_none_planned lists ≡ true) × (e ≡ NothingPlanned)))
 
 -- The signals of each system are those of its text.

@@ -10,25 +10,38 @@ use Rattle.gnss_system.specs.Satellites.{satellites as satellites_in, IsSatellit
 use Rattle.gnss_system.specs.Signals.{IsSignal}
 use Rattle.gnss_system.specs.declared.system.System.{System}
 use Rattle.gnss_obs.specs.declared.cell.Cell.{Cell}
+use Rattle.gnss_obs.specs.Channels.{ChannelsValue, no_channels}
 use Rattle.gnss_obs.specs.declared.cell.StationValues.{StationValues}
 
--- ---- plans: the wanted signals of each system, in order, by their indices in the system's table
+-- ---- plans: the wanted signals of each system, in order, by their indices in the system's table; and the channels of
+-- the GLONASS satellites
 
-abbrev pub PlanValue : Type 0
-PlanValue = BySystem (List ℕ)
+pub record PlanValue : Type 0 where
+  pub signals : BySystem (List ℕ)
+  pub channels : ChannelsValue
+
+-- A plan of these signals, without channels.
+abbrev pub plan_with : BySystem (List ℕ) → PlanValue
+plan_with signals = record { signals = signals; channels = no_channels }
 
 abbrev pub planned_of : System → PlanValue → List ℕ
-planned_of s p = value_of s p
+planned_of s p = value_of s p.signals
 
 -- ---- epochs: the time in milliseconds since 1980-01-06 00:00:00, and the kept cells of each system
 
+abbrev pub CellLists : Type 0
+CellLists = BySystem (List Cell)
+
+abbrev pub no_cells : CellLists
+no_cells = tabulate (λ s. [])
+
 pub record EpochValue : Type 0 where
   pub time : ℕ
-  pub cells : BySystem (List Cell)
+  pub cells : CellLists
 
 -- An epoch without cells.
 abbrev pub empty_epoch : ℕ → EpochValue
-empty_epoch time = record { time = time; cells = tabulate (λ s. []) }
+empty_epoch time = record { time = time; cells = no_cells }
 
 abbrev pub cells_of : System → EpochValue → List Cell
 cells_of s e = value_of s e.cells

@@ -1,76 +1,98 @@
 //! Epochs: the observations of one time.
-ghost use Rattle.std.specs.Prelude.{◌≡◌, ◌+◌, ◌<◌, ◌≤◌, length, drop};
+ghost use Rattle.std.specs.Prelude.{◌≡◌, ◌+◌, ◌<◌, ◌≤◌, length, drop, IfOk};
 ghost use Rattle.std.specs.Prelude.{nat_lt};
 ghost use Rattle.std.specs.List.{list_any};
 ghost use Rattle.gnss_obs.specs.Values.{AreHeld, cells_of, has_value, satellites_written, is_written, written_among};
-ghost use Rattle.gnss_obs.specs.Values.{most_written, run};
-ghost use Rattle.gnss_obs.specs.Order.{AreSorted};
+ghost use Rattle.gnss_obs.specs.Values.{most_written, run, empty_epoch, no_cells, no_values};
+ghost use Rattle.gnss_obs.specs.Arriving.{sorted_lists};
+ghost use Rattle.gnss_obs.specs.Order.{AreSorted, AreSortedByPlan};
+ghost use Rattle.gnss_obs.specs.PlanOrder.{HasPlannedCells};
 ghost use Rattle.gnss_system.specs.declared.system.System.{System};
 ghost use Rattle.gnss_system.specs.Satellites.{satellites as satellites_in};
 
-use crate::arrivals::Arrivals;
 use crate::cell::{Cell, StationValues};
+use crate::epoch_cells::EpochCells;
+use crate::plan::Plan;
 use crate::time::GpsTime;
 use gnss_system::{SYSTEMS, System};
+use std::alloc::{AllocError, Global};
 use std::marker::Model;
 
 /// Largest number of cells of one system that an epoch keeps.
 pub const MOST_CELLS: usize = 256;
 
-/// A closed epoch: its time, the kept cells of each system, and the station values, at first those
-/// that were known when it was closed.
+/// A closed epoch: its time, the kept cells of each system, and the station values that were known
+/// when it was closed.
 #[derive(Drop)]
 pub struct Epoch {
-    cells: Arrivals,
+    time: GpsTime,
+    cells: EpochCells,
+    values: StationValues,
 }
 
 impl Model for Epoch {
     ghost use Rattle.gnss_system.specs.declared.system.System.{System};
-    ghost use Rattle.gnss_obs.specs.Values.{Closed, cells_of};
+    ghost use Rattle.gnss_system.specs.SystemValues.{value_of};
+    ghost use Rattle.gnss_obs.specs.Values.{Closed};
     ghost use Rattle.gnss_obs.specs.Order.{AreSorted};
 
     ghost Value = { Closed };
 
-    ghost view = { λ e. e.cells };
+    ghost view = { λ e. record { epoch = record { time = e.time; cells = e.cells }; values = e.values } };
 
-    ghost invariant = { λ e. (s : System) → AreSorted (cells_of s e.cells.epoch) };
+    ghost invariant = { λ e. (s : System) → AreSorted (value_of s e.cells) };
 }
 
 impl Epoch {
-    /// Returns the epoch of these cells.
-    pub(crate) fn of(cells: Arrivals) -> Epoch
-        requires { (s : System) → AreSorted (cells_of s cells.epoch) }
-        ensures { result ≡ cells }
+    /// Returns an epoch of time 0 without cells, to which `close` moves those of another one.
+    ///
+    /// # Errors
+    ///
+    /// `AllocError` if an allocation failed.
+    pub fn new(alloc: Global) -> Result<Epoch, AllocError>
+        ensures { IfOk result (λ e. e ≡ record { epoch = empty_epoch 0; values = no_values }) }
     {
-        Epoch { cells }
+        Ok(Epoch {
+            time: GpsTime::within(0),
+            cells: EpochCells::new(alloc)?,
+            values: StationValues::zero(),
+        })
     }
 
-    /// Returns the cells, so that more can be added.
-    pub(crate) fn into_arrivals(self) -> Arrivals
-        ensures { result ≡ self }
+    /// Closes a pending epoch: moves its cells to this one, sorted by satellite and then by the
+    /// order of a plan.
+    pub fn close(
+        &mut self,
+        pending: &mut EpochCells,
+        plan: &Plan,
+        time: GpsTime,
+        values: StationValues,
+    )
+        requires { HasPlannedCells plan.now pending.old }
+        ensures closed { self.new ≡ record {
+          epoch = record { time = time; cells = sorted_lists plan.now pending.old };
+          values = values;
+        } }
+        ensures order { AreSortedByPlan plan.now self.new.epoch }
+        ensures none { pending.new ≡ no_cells }
     {
-        self.cells
-    }
-
-    /// Sets the station values.
-    pub(crate) fn set_values(&mut self, values: StationValues)
-        ensures { self.new ≡ record { epoch = self.old.epoch; values = values } }
-    {
-        self.cells.set_values(values);
+        pending.move_sorted(plan, &mut self.cells);
+        self.time = time;
+        self.values = values;
     }
 
     /// Returns the time of the epoch.
     pub fn time(&self) -> GpsTime
         ensures { result ≡ self.now.epoch.time }
     {
-        self.cells.time()
+        self.time
     }
 
-    /// Returns the station values: those set last, at first those known when it was closed.
+    /// Returns the station values that were known when it was closed.
     pub fn station_values(&self) -> StationValues
         ensures { result ≡ self.now.values }
     {
-        self.cells.station_values()
+        self.values
     }
 
     /// Returns the kept cells of a system, at most 256, sorted by satellite and then by the order
@@ -81,7 +103,7 @@ impl Epoch {
         ensures held { AreHeld system result.now }
         ensures order { AreSorted result.now }
     {
-        self.cells.cells(system)
+        self.cells.of(system)
     }
 
     /// Returns the number of satellites to write: those with a cell that has a pseudorange, a
@@ -90,8 +112,12 @@ impl Epoch {
         ensures count { result ≡ satellites_written self.now.epoch }
         ensures bound { result ≤ most_written }
     {
-        written(self.cells(System::Gps), System::Gps)
-            + written(self.cells(System::Galileo), System::Galileo)
+        let mut count = 0;
+        for i in 0..SYSTEMS.len() {
+            let system = System::at(i);
+            count += written(self.cells(system), system);
+        }
+        count
     }
 
     /// Returns whether there is a satellite to write.

@@ -1,10 +1,12 @@
 //! Laws of the definitions: each is the contract of a function without a body.
-ghost use Rattle.std.specs.Prelude.{◌≡◌, ◌+◌, ◌*◌, ◌^◌, ◌<◌, ◌≤◌, ◌≤ℤ◌, ℕ, ℤ, pos, unsigned_abs, Some};
+ghost use Rattle.std.specs.Prelude.{◌≡◌, ◌+◌, ◌*◌, ◌^◌, ◌<◌, ◌≤◌, ◌≤ℤ◌, ℕ, ℤ, pos, unsigned_abs, Some, IfSome};
 ghost use Rattle.gnss_obs.specs.LockTimes.{last4, last7, least4, least7};
 ghost use Rattle.gnss_obs.specs.Rounding.{IsNearest, nearest};
 ghost use Rattle.gnss_obs.specs.Observables.{nearest_pseudorange, nearest_phase, nearest_doppler, nearest_strength};
-ghost use Rattle.gnss_system.specs.Signals.{SignalAt, IsSignal, greatest_signal_id, after, id_of, code_of, hertz_of};
+ghost use Rattle.gnss_system.specs.Signals.{SignalAt, IsSignal, greatest_signal_id, after, id_of, code_of, most_hertz};
 ghost use Rattle.gnss_system.specs.Signals.{signal_of_id, signal_of_code};
+ghost use Rattle.gnss_system.specs.Satellites.{Satellite};
+ghost use Rattle.gnss_obs.specs.Channels.{AreChannels, ChannelsValue, hertz_in};
 ghost use Rattle.gnss_obs.specs.Weeks.{week, weeks};
 ghost use Rattle.gnss_obs.specs.Dates.{IsCivilOf, civil_of};
 ghost use Rattle.gnss_obs.specs.Plans.{CodesNameTheirSignals};
@@ -38,10 +40,12 @@ pub fn lock_times()
 /// 99,999 thousandths.
 pub fn sizes()
     ensures metres { (r : ℤ) → unsigned_abs r ≤ 2 ^ 40 → unsigned_abs (nearest_pseudorange r) < 10 ^ 12 }
-    ensures cycles { (s : SignalAt) (p : ℤ) → unsigned_abs p ≤ 2 ^ 40
-        → unsigned_abs (nearest_phase (hertz_of s) p) < 10 ^ 12 }
-    ensures shift { (s : SignalAt) (v : ℤ) → unsigned_abs v ≤ 10 ^ 8
-        → unsigned_abs (nearest_doppler (hertz_of s) v) < 10 ^ 12 }
+    ensures carriers { (channels : ChannelsValue) (satellite : Satellite) (s : SignalAt) → AreChannels channels
+        → IfSome (hertz_in channels satellite s) (λ h. h ≤ most_hertz) }
+    ensures cycles { (h : ℕ) (p : ℤ) → h ≤ most_hertz → unsigned_abs p ≤ 2 ^ 40
+        → unsigned_abs (nearest_phase h p) < 10 ^ 12 }
+    ensures shift { (h : ℕ) (v : ℤ) → h ≤ most_hertz → unsigned_abs v ≤ 10 ^ 8
+        → unsigned_abs (nearest_doppler h v) < 10 ^ 12 }
     ensures decibels { (s : ℕ) → 0 < s → s < 2 ^ 10
         → (pos 1 ≤ℤ nearest_strength s) × (nearest_strength s ≤ℤ pos 99_999) }
 {}

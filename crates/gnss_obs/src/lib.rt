@@ -1,21 +1,22 @@
 //! The values of a RINEX file: satellites, signals, observables, lock times, times, plans, cells and
 //! epochs.
 //!
-//! A [`Plan`] lists the wanted signals. A [`GpsTime`] counts milliseconds of GPS time and converts
-//! to and from a [`Civil`] date. An [`Epoch`] has the [`Cell`]s of one time in order.
+//! A [`Plan`] lists the wanted signals, and has the [`Channels`] of the GLONASS satellites. A
+//! [`GpsTime`] counts milliseconds of GPS time and converts to and from a [`Civil`] date. An
+//! [`Epoch`] has the [`Cell`]s of one time in order.
 #![tactic(auto)]
 
-mod arrivals;
 mod cell;
 mod cells;
+mod channels;
 mod civil;
 mod epoch;
+mod epoch_cells;
 mod fault;
 pub mod laws;
 mod lock;
 mod observables;
 mod order;
-mod pending;
 mod plan;
 mod rounding;
 mod satellite;
@@ -24,17 +25,17 @@ mod signals;
 mod thousandths;
 mod time;
 
-pub use arrivals::Added;
 pub use cell::{Cell, GREATEST_COORDINATE, LEAST_COORDINATE, StationValues};
+pub use channels::Channels;
 pub use civil::Civil;
 pub use epoch::{Epoch, MOST_CELLS, end_of, is_written};
+pub use epoch_cells::{Added, EpochCells};
 pub use fault::PlanFault;
-pub use gnss_system::{
-    BySystem, GALILEO_SATELLITES, GALILEO_SIGNAL_COUNT, GPS_SATELLITES, GPS_SIGNAL_COUNT, System,
-};
+pub use gnss_system::{BySystem, GALILEO_SIGNAL_COUNT, GPS_SIGNAL_COUNT, System};
 pub use lock::{Lock, is_lost};
-pub use observables::{doppler, phase, pseudorange, strength, strength_digit};
-pub use pending::Pending;
+pub use observables::{
+    doppler, doppler_at, phase, phase_at, pseudorange, strength, strength_digit,
+};
 pub use plan::Plan;
 pub use satellite::Sat;
 pub use signal::Signal;

@@ -58,20 +58,34 @@ fn least4(code: u8) -> u32
     if code == 0 { 0 } else { 1 << (code + 4) }
 }
 
-/// Returns the least time of an indicator DF407 from 0 to 704, and the length of its range, in
-/// milliseconds.
-fn range7(code: u16) -> (u32, u32)
-    requires { code ≤ last7 }
-    ensures least { result.0 ≡ LockTimes.least7 code }
-    ensures next { code < last7 → result.0 + result.1 ≡ LockTimes.least7 (code + 1) }
-    ensures fits { result.0 + result.1 < u32.MAX }
+/// Writes an array of the least times of the indicators DF407, and `NO_TIME` for those without
+/// one. The times of the first 64 are their numbers, and each later row of 32 has those of the row
+/// before, doubled.
+macro_rules! least_times {
+    ([$($time:expr),*] [$($n:literal),*] $unit:literal $($units:literal)*) => {
+        least_times![[$($time,)* $((32 + $n) * $unit),*] [$($n),*] $($units)*]
+    };
+    ([$($time:expr),*] [$($n:literal),*]) => {
+        [$($time,)* 67_108_864, NO_TIME]
+    };
+}
+
+/// The least time of each indicator DF407 from 0 to 704, in milliseconds, and `NO_TIME` for 705.
+const LEAST7: [u32; 706] = least_times![
+    [0, 1, 2, 3, 4, 5, 6, 7, 8, 9, 10, 11, 12, 13, 14, 15,
+    16, 17, 18, 19, 20, 21, 22, 23, 24, 25, 26, 27, 28, 29, 30, 31]
+    [0, 1, 2, 3, 4, 5, 6, 7, 8, 9, 10, 11, 12, 13, 14, 15,
+    16, 17, 18, 19, 20, 21, 22, 23, 24, 25, 26, 27, 28, 29, 30, 31]
+    1 2 4 8 16 32 64 128 256 512 1_024 2_048 4_096 8_192 16_384 32_768 65_536 131_072 262_144
+    524_288 1_048_576
+];
+
+/// Returns the word of the least time of an indicator DF407 from 0 to 705.
+fn least7(code: u16) -> u32
+    requires { code ≤ last7 + 1 }
+    ensures { time_of result ≡ (times7 code).least }
 {
-    let code = code as u32;
-    if code < 32 {
-        return (code, 1);
-    }
-    let k = code / 32 - 1;
-    ((code % 32 + 32) << k, 1 << k)
+    LEAST7[code as usize]
 }
 
 impl Lock {
@@ -96,11 +110,9 @@ impl Lock {
         if code > LAST_DF407 {
             return Lock::default();
         }
-        let is_last = code == LAST_DF407;
-        let (least, length) = range7(code);
         Lock {
-            least,
-            upper: if is_last { NO_TIME } else { least + length },
+            least: least7(code),
+            upper: least7(code + 1),
         }
     }
 

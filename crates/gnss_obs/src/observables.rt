@@ -3,8 +3,9 @@ ghost use Rattle.std.specs.Prelude.{◌≡◌, ◌*◌, ◌^◌, ◌<◌, ◌≤
 ghost use Rattle.std.specs.Option.{option_map, ForSome};
 ghost use Rattle.gnss_obs.specs.Rounding.{IsRounded};
 ghost use Rattle.gnss_obs.specs.Observables.{light, nearest_pseudorange, nearest_phase, nearest_doppler};
+ghost use Rattle.gnss_obs.specs.Observables.{phase_by, doppler_by};
 ghost use Rattle.gnss_obs.specs.Observables.{nearest_strength, strength_digit};
-ghost use Rattle.gnss_system.specs.Signals.{hertz_of};
+ghost use Rattle.gnss_system.specs.Signals.{hertz_of, most_hertz};
 
 use crate::rounding::nearest_whole;
 use crate::{Signal, Thousandths};
@@ -35,9 +36,21 @@ pub fn phase(phase: Option<i64>, signal: Signal) -> Option<Thousandths>
     ensures value { result ≡ option_map (nearest_phase (hertz_of signal)) phase }
     ensures bound { IfSome result (λ t. unsigned_abs t < 10 ^ 12) }
 {
-    match phase {
-        None => None,
-        Some(p) => Some(Thousandths::new(nearest_whole(p, signal.hertz(), 1 << 30))),
+    phase_at(phase, Some(signal.hertz()))
+}
+
+/// Returns the carrier phase as `phase` does, at a carrier frequency in hertz, at most
+/// 1,605,375,000. `None` also if there is no carrier.
+#[inline(always)]
+pub fn phase_at(phase: Option<i64>, hertz: Option<u32>) -> Option<Thousandths>
+    requires range { ForSome phase (λ p. unsigned_abs p ≤ 2 ^ 40) }
+    requires carrier { IfSome hertz (λ h. (0 < h) × (h ≤ most_hertz)) }
+    ensures value { result ≡ phase_by hertz phase }
+    ensures bound { IfSome result (λ t. unsigned_abs t < 10 ^ 12) }
+{
+    match (phase, hertz) {
+        (Some(p), Some(h)) => Some(Thousandths::new(nearest_whole(p, h, 1 << 30))),
+        _ => None,
     }
 }
 
@@ -50,9 +63,21 @@ pub fn doppler(rate: Option<i32>, signal: Signal) -> Option<Thousandths>
     ensures value { result ≡ option_map (nearest_doppler (hertz_of signal)) rate }
     ensures bound { IfSome result (λ t. unsigned_abs t < 10 ^ 12) }
 {
-    match rate {
-        None => None,
-        Some(v) => Some(Thousandths::new(nearest_whole(0 - v as i64, signal.hertz(), 5 * LIGHT))),
+    doppler_at(rate, Some(signal.hertz()))
+}
+
+/// Returns the Doppler shift as `doppler` does, at a carrier frequency in hertz, at most
+/// 1,605,375,000. `None` also if there is no carrier.
+#[inline(always)]
+pub fn doppler_at(rate: Option<i32>, hertz: Option<u32>) -> Option<Thousandths>
+    requires range { ForSome rate (λ v. unsigned_abs v ≤ 10 ^ 8) }
+    requires carrier { IfSome hertz (λ h. (0 < h) × (h ≤ most_hertz)) }
+    ensures value { result ≡ doppler_by hertz rate }
+    ensures bound { IfSome result (λ t. unsigned_abs t < 10 ^ 12) }
+{
+    match (rate, hertz) {
+        (Some(v), Some(h)) => Some(Thousandths::new(nearest_whole(0 - v as i64, h, 5 * LIGHT))),
+        _ => None,
     }
 }
 
@@ -77,5 +102,5 @@ pub fn strength(strength: Option<u16>) -> Option<Thousandths>
 pub fn strength_digit(strength: Thousandths) -> u8
     ensures { result ≡ strength_digit strength }
 {
-    (strength.value() / 6000).clamp(1, 9) as u8
+    (strength.value().clamp(6_000, 54_000) as u32 / 6_000) as u8
 }

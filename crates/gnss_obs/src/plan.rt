@@ -1,19 +1,21 @@
 //! Plans: the wanted signals of each system.
-ghost use Rattle.std.specs.Prelude.{◌≡◌, ◌<◌, ◌≤◌, ◌+◌, [], true, length, slice_index, codes, IfErr, IsOk, Err};
+ghost use Rattle.std.specs.Prelude.{◌≡◌, ◌<◌, ◌≤◌, ◌+◌, [], true, length, slice_index, codes, nat_eq, All, IfErr, IsOk, Err};
 ghost use Rattle.gnss_system.specs.declared.system.System.{System};
-ghost use Rattle.gnss_system.specs.declared.system.System.TheVariants.{Gps, Galileo};
+ghost use Rattle.gnss_system.specs.declared.system.System.TheVariants.{Gps, Galileo, Glonass};
 ghost use Rattle.gnss_system.specs.Systems.{systems};
 ghost use Rattle.gnss_system.specs.SystemValues.{value_of, tabulate, map_by, of_two};
-ghost use Rattle.std.specs.List.{sum_by};
+ghost use Rattle.std.specs.List.{sum_by, IsDistinct};
 ghost use Rattle.gnss_system.specs.Signals.{table};
+ghost use Rattle.gnss_obs.specs.Channels.{AreChannels, no_channels};
 ghost use Rattle.gnss_obs.specs.Order.{Rise};
 ghost use Rattle.gnss_obs.specs.Values.{planned_of};
 ghost use Rattle.gnss_obs.specs.Plans.{plan_of, planned_signal, signals_of, signals_coded, place_in};
-ghost use Rattle.gnss_obs.specs.Plans.{is_none_planned};
+ghost use Rattle.gnss_obs.specs.Plans.{is_none_planned, with_channels};
 ghost use Rattle.gnss_obs.specs.SignalLists.{indices, IsOf, ArePlanned, HasEvery, IsPushed};
 ghost use Rattle.gnss_obs.specs.SignalLists.{TakesCode, RefusesCode, IsDefined, DoneOr, IsUnfitAfter, IsUnfit};
 ghost use Rattle.gnss_obs.specs.SignalLists.{IsMade, IsPlanResult, IsUnplanned, AreRead, AreAdded};
 
+use crate::channels::Channels;
 use crate::fault::PlanFault;
 use crate::signal::Signal;
 use crate::signals::Signals;
@@ -22,23 +24,28 @@ use std::alloc::Global;
 use std::marker::Model;
 
 /// The wanted signals of each system, in the order in which they are written: at least one signal
-/// in all.
+/// in all. And the channels of the GLONASS satellites.
 #[derive(Drop)]
 pub struct Plan {
     signals: BySystem<Signals>,
+    channels: Channels,
 }
 
 impl Model for Plan {
     ghost use Rattle.gnss_system.specs.declared.system.System.{System};
     ghost use Rattle.gnss_system.specs.SystemValues.{value_of, map_by};
     ghost use Rattle.gnss_obs.specs.Values.{PlanValue};
+    ghost use Rattle.std.specs.Prelude.{◌≡◌, []};
+    ghost use Rattle.gnss_system.specs.declared.system.System.TheVariants.{Glonass};
+    ghost use Rattle.gnss_obs.specs.Channels.{no_channels};
     ghost use Rattle.gnss_obs.specs.SignalLists.{indices, IsOf};
 
     ghost Value = { PlanValue };
 
-    ghost view = { λ p. map_by indices p.signals };
+    ghost view = { λ p. record { signals = map_by indices p.signals; channels = p.channels } };
 
-    ghost invariant = { λ p. (s : System) → IsOf s (value_of s p.signals) };
+    ghost invariant = { λ p. ((s : System) → IsOf s (value_of s p.signals))
+        × (value_of Glonass p.signals ≡ [] → p.channels ≡ no_channels) };
 }
 
 impl Plan {
@@ -50,7 +57,7 @@ impl Plan {
     pub fn parse(alloc: Global, gps: &str, galileo: &str) -> Result<Plan, PlanFault>
         ensures { IsDefined (plan_of (of_two gps.now galileo.now (codes "none"))) result }
     {
-        Plan::parse_all(alloc, &BySystem { gps, galileo })
+        Plan::parse_all(alloc, &BySystem::of_two(gps, galileo, "none"))
     }
 
     /// Parses a plan from a text for each system. A text is `all` for all signals in the order of
@@ -85,7 +92,7 @@ impl Plan {
         ensures planned { IsOf Gps gps.now → IsOf Galileo galileo.now → 0 < length gps.now + length galileo.now
             → IfErr result (λ e. e ≡ PlanFault.Memory) }
     {
-        Plan::from_lists(alloc, &BySystem { gps, galileo })
+        Plan::from_lists(alloc, &BySystem::of_two(gps, galileo, &[]))
     }
 
     /// Returns the plan of these signals of each system in this order.
@@ -113,11 +120,38 @@ impl Plan {
         let fault = match added {
             Err(fault) => fault,
             Ok(()) if is_none_planned(&lists) => PlanFault::NothingPlanned,
-            Ok(()) => return Ok(Plan { signals: lists }),
+            Ok(()) => {
+                return Ok(Plan {
+                    signals: lists,
+                    channels: Channels::none(),
+                });
+            }
         };
         // A call drops a list with less proof than the end of its scope.
         drop(lists);
         Err(fault)
+    }
+
+    /// Returns the plan of the same signals with these channels of the GLONASS satellites, or with
+    /// none if no signal of GLONASS is wanted. Other calls return plans with none.
+    pub fn with_channels(self, channels: Channels) -> Plan
+        ensures { result ≡ with_channels self channels }
+    {
+        if self.list(System::Glonass).is_empty() {
+            return Plan {
+                channels: Channels::none(),
+                ..self
+            };
+        }
+        Plan { channels, ..self }
+    }
+
+    /// Returns the channels of the GLONASS satellites.
+    #[inline(always)]
+    pub fn channels(&self) -> &Channels
+        ensures { result.now ≡ self.now.channels }
+    {
+        &self.channels
     }
 
     /// Returns the number of wanted signals of a system.
@@ -134,6 +168,18 @@ impl Plan {
         ensures system { IsOf system result.now }
     {
         self.list(system).as_slice()
+    }
+
+    /// Shows that the wanted signals of each system are of its table, and none of them twice; and
+    /// that no channel is known if no signal of GLONASS is wanted.
+    pub fn are_listed(&self)
+        ensures listed { (s : System) → All (λ i. i < length (table s)) (planned_of s self.now) }
+        ensures apart { (s : System) → IsDistinct nat_eq (planned_of s self.now) }
+        ensures channels { AreChannels self.now.channels }
+        ensures unplanned { planned_of Glonass self.now ≡ [] → self.now.channels ≡ no_channels }
+    {
+        // The prover knows the invariant of a type once a field is read.
+        self.channels.are_channels();
     }
 
     /// Returns the wanted signal of a system at this index.
@@ -178,7 +224,7 @@ impl Plan {
 
     // Returns the list of the wanted signals of a system.
     #[inline(always)]
-    fn list(&self, system: System) -> &Signals
+    pub fn list(&self, system: System) -> &Signals
         ensures indices { indices result.now ≡ planned_of system self.now }
         ensures system { IsOf system result.now }
     {
@@ -193,10 +239,7 @@ type Added = Result<(), PlanFault>;
 fn no_signals(alloc: Global) -> BySystem<Signals>
     ensures { result ≡ tabulate (λ s. []) }
 {
-    BySystem {
-        gps: Signals::new(alloc),
-        galileo: Signals::new(alloc),
-    }
+    BySystem::each(|_| Signals::new(alloc))
 }
 
 // Returns whether there is no signal of a system.

@@ -5,7 +5,7 @@ ghost use Rattle.gnss_system.specs.Satellites.{Satellite, IsSatellite, satellite
 use gnss_system::System;
 use std::marker::Model;
 
-/// A satellite: GPS 1 to 32 or Galileo 1 to 36.
+/// A satellite of a system.
 #[derive(Clone, Copy)]
 pub struct Sat {
     system: System,
@@ -33,8 +33,8 @@ impl Default for Sat {
 }
 
 impl Sat {
-    /// Returns the satellite with this number, or `None` if the system has none. The number is that
-    /// of RINEX, and the position in the satellite mask DF394 of RTCM 10403.3, counted from 1.
+    /// Returns the satellite with this ID, or `None` if the system has none. The ID is the position
+    /// in the satellite mask DF394 of RTCM 10403.3, counted from 1.
     pub fn new(system: System, id: u8) -> Option<Sat>
         ensures value { result ≡ satellite_of_id system id }
         ensures listed { IsSome result ↔ ((1 ≤ id) × (id ≤ satellites system)) }
@@ -52,7 +52,7 @@ impl Sat {
         self.system
     }
 
-    /// Returns the number of the satellite in its system, from 1.
+    /// Returns the ID of the satellite in its system, from 1.
     pub fn id(self) -> u8
         ensures value { result ≡ self.id }
         ensures listed { IsSatellite self }

@@ -96,7 +96,8 @@ impl Signal {
         self.system.row().signals[self.index as usize].1
     }
 
-    /// Returns the carrier frequency, in hertz: at most 1,575,420,000.
+    /// Returns the carrier frequency, in hertz: at most 1,602,000,000. For GLONASS it is that of
+    /// channel 0.
     pub fn hertz(self) -> u32
         ensures value { result ≡ hertz_of self }
         ensures positive { 0 < result }
@@ -112,8 +113,8 @@ impl Signal {
         self.system
     }
 
-    /// Returns the index in the table of the system, from 0, by rising signal ID: GPS `1C` 0 to
-    /// `1X` 14, Galileo `1C` 0 to `5X` 18.
+    /// Returns the index in the table of the system, from 0, by rising signal ID: of GPS 0 for `1C`
+    /// to 14 for `1X`.
     pub fn index(self) -> usize
         ensures value { result ≡ self.index }
         ensures listed { IsSignal self }

@@ -9,7 +9,7 @@ ghost use Rattle.gnss_obs.specs.SignalLists.{indices, IsAdded, IsOf};
 
 use crate::order::{UNSORTED, least_next_after};
 use crate::signal::Signal;
-use gnss_system::{MOST_SIGNALS, NO_ROW};
+use gnss_system::{ID_COUNT, MOST_SIGNALS, NO_ROW};
 use indexmap::IndexSet;
 use std::alloc::{AllocError, Global};
 use std::marker::Model;
@@ -22,14 +22,14 @@ pub struct Signals {
     // search asks the set.
     places: [Option<usize>; MOST_SIGNALS],
     // The index of each signal in the table of its system, by its ID, or `NO_ROW`.
-    rows_by_id: [u8; 33],
+    rows_by_id: [u8; ID_COUNT],
     // The least index in the table that may follow if the signals' indices rise, or `UNSORTED`.
     least_next: usize,
 }
 
 impl Model for Signals {
-    ghost use Rattle.std.specs.Prelude.{List, ◌≡◌, length};
-    ghost use Rattle.gnss_system.specs.Signals.{SignalAt};
+    ghost use Rattle.std.specs.Prelude.{List, ◌≡◌, ◌+◌, length};
+    ghost use Rattle.gnss_system.specs.Signals.{SignalAt, greatest_signal_id};
     ghost use Rattle.gnss_obs.specs.Order.{IsLeastNext};
     ghost use Rattle.gnss_obs.specs.SignalLists.{indices, AreFound, AreRows};
 
@@ -38,7 +38,7 @@ impl Model for Signals {
     ghost view = { λ s. s.order.keys };
 
     ghost invariant = { λ s. AreFound s.places (indices s.order.keys) × IsLeastNext s.least_next (indices s.order.keys)
-        × (length s.rows_by_id ≡ 33) × AreRows s.rows_by_id s.order.keys };
+        × (length s.rows_by_id ≡ greatest_signal_id + 1) × AreRows s.rows_by_id s.order.keys };
 }
 
 impl Signals {
@@ -49,7 +49,7 @@ impl Signals {
         Signals {
             order: IndexSet::new(alloc),
             places: [None; MOST_SIGNALS],
-            rows_by_id: [NO_ROW; 33],
+            rows_by_id: [NO_ROW; ID_COUNT],
             least_next: 0,
         }
     }
@@ -116,7 +116,7 @@ impl Signals {
         ensures { (system : System) → IsOf system self.now
             → signal_at system result ≡ planned_signal system (indices self.now) id }
     {
-        if id < 33 {
+        if (id as usize) < ID_COUNT {
             self.rows_by_id[id as usize] as usize
         } else {
             NO_ROW as usize

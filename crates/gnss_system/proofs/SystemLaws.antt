@@ -1,18 +1,19 @@
 -- The systems by their indices, and the values of one system after a change of another's.
 use Rattle.std.proofs.Common.{ℕ, ◌≡◌, ◌+◌, ◌<◌, ◌==◌, ◌||◌, Bool, true, false, true≢false, List, [], ◌∷◌, ◌++◌, length, get_or, set, refl, sym, ap, ap₂, ◌∙◌, subst, arith}
 use Rattle.std.specs.List.{list_all, list_any, sum_by}
-use Rattle.std.specs.Prelude.{zero, suc, ◌≤◌, cond, find, Some, take, nat_lt, eqb, if◌then◌else◌}
+use Rattle.std.specs.Option.{option_map_or}
+use Rattle.std.specs.Prelude.{zero, suc, ◌≤◌, cond, find, Option, None, Some, take, nat_lt, eqb, if◌then◌else◌}
 use Rattle.std.proofs.lemmas.List.Sums.{sum_by-cons}
 use Rattle.std.proofs.lemmas.List.Folds.{list_all_more, sum_by-zero}
 use Rattle.gnss_system.proofs.Checked.{passes_at, is_equal}
 use Rattle.std.proofs.lemmas.List.{get_or-set_other}
 use Rattle.std.proofs.lemmas.Grind.{common_steps}
 use Rattle.gnss_system.specs.declared.system.System.{System}
-use Rattle.gnss_system.specs.declared.system.System.TheVariants.{Gps, Galileo}
+use Rattle.gnss_system.specs.declared.system.System.TheVariants.{Gps, Galileo, Glonass, Beidou, Qzss, Sbas}
 use Rattle.gnss_system.specs.declared.by_system.BySystem.{BySystem}
 use Rattle.gnss_system.specs.Satellites.{letter, system_of_letter}
 use Rattle.gnss_system.specs.Systems.{systems, index_of, is_system, before, after}
-use Rattle.gnss_system.specs.SystemValues.{value_of, with_value_of, tabulate, map_by, listed}
+use Rattle.gnss_system.specs.SystemValues.{value_of, with_value_of, tabulate, map_by, of_two, listed}
 
 -- ---- indices
 
@@ -23,6 +24,10 @@ system_at i = get_or systems i Gps
 pub system_back : (s : System) → system_at (index_of s) ≡ s
 system_back Gps = refl
 system_back Galileo = refl
+system_back Glonass = refl
+system_back Beidou = refl
+system_back Qzss = refl
+system_back Sbas = refl
 
 pub index_less : (s : System) → index_of s < length systems
 index_less s = grind (arith, common_steps)
@@ -38,9 +43,16 @@ system_self a b e = rw e (self (index_of b)) where
   self : (n : ℕ) → (n == n) ≡ true
   self n = grind arith
 
+pub each_system : (p : System → Bool) (s : System) → list_all p systems ≡ true → p s ≡ true
+each_system p s h = grind (arith, common_steps, h)
+
+-- A search finds a system if its outcome is that system for each of them.
+pub found_same : (o : Option System) (s : System) → option_map_or (λ t. is_system t s) o false ≡ true → o ≡ Some s
+found_same None s h = absurd (true≢false (sym h))
+found_same (Some t) s h = ap Some (system_same t s h)
+
 pub letter_back : (s : System) → system_of_letter (letter s) ≡ Some s
-letter_back Gps = refl
-letter_back Galileo = refl
+letter_back s = found_same _ s (each_system (λ s. option_map_or (λ t. is_system t s) (system_of_letter (letter s)) false) s refl)
 
 found_passes : (p : System → Bool) (ss : List System) (s : System) → find p ss ≡ Some s → p s ≡ true
 found_passes p [] s h = cc
@@ -53,9 +65,6 @@ pub letter_found : (byte : ℕ) (s : System) → system_of_letter byte ≡ Some 
 letter_found byte s h = is_equal _ _ (found_passes (λ s. letter s == byte) systems s h)
 
 -- ---- what is true of all
-
-pub each_system : (p : System → Bool) (s : System) → list_all p systems ≡ true → p s ≡ true
-each_system p s h = grind (arith, common_steps, h)
 
 pub one_any : (p : System → Bool) (s : System) → p s ≡ true → list_any p systems ≡ true
 one_any p s h = grind (arith, common_steps, h)
@@ -82,14 +91,26 @@ some_system p (s ∷ ss) h = by (p s) refl h (some_system p ss) where
 pub value_after : {A : Type 0} (s : System) (values : BySystem A) (x : A) → value_of s (with_value_of s values x) ≡ x
 value_after Gps values x = refl
 value_after Galileo values x = refl
+value_after Glonass values x = refl
+value_after Beidou values x = refl
+value_after Qzss values x = refl
+value_after Sbas values x = refl
 
 value_listed : {A : Type 0} (s : System) (values : BySystem A) (d : A) → get_or (listed values) (index_of s) d ≡ value_of s values
 value_listed Gps values d = refl
 value_listed Galileo values d = refl
+value_listed Glonass values d = refl
+value_listed Beidou values d = refl
+value_listed Qzss values d = refl
+value_listed Sbas values d = refl
 
 listed_after : {A : Type 0} (s : System) (values : BySystem A) (x : A) → listed (with_value_of s values x) ≡ set (listed values) (index_of s) x
 listed_after Gps values x = refl
 listed_after Galileo values x = refl
+listed_after Glonass values x = refl
+listed_after Beidou values x = refl
+listed_after Qzss values x = refl
+listed_after Sbas values x = refl
 
 pub value_of_other : {A : Type 0} (s t : System) (values : BySystem A) (x : A) → is_system s t ≡ false → value_of t (with_value_of s values x) ≡ value_of t values
 value_of_other s t values x h =
@@ -101,13 +122,20 @@ value_of_other s t values x h =
 pub value_tabulated : {A : Type 0} (s : System) (f : System → A) → value_of s (tabulate f) ≡ f s
 value_tabulated Gps f = refl
 value_tabulated Galileo f = refl
+value_tabulated Glonass f = refl
+value_tabulated Beidou f = refl
+value_tabulated Qzss f = refl
+value_tabulated Sbas f = refl
 
 -- Equal for each system.
 pub equal_values : {A : Type 0} (a b : BySystem A) → ((s : System) → value_of s a ≡ value_of s b) → a ≡ b
-equal_values a b h = λ i. record { gps = h Gps i; galileo = h Galileo i }
+equal_values a b h = λ i. record { gps = h Gps i; galileo = h Galileo i; glonass = h Glonass i; beidou = h Beidou i; qzss = h Qzss i; sbas = h Sbas i }
+
+pub is_tabulated : {A : Type 0} (values : BySystem A) (f : System → A) → ((s : System) → value_of s values ≡ f s) → values ≡ tabulate f
+is_tabulated values f each = equal_values values (tabulate f) (λ s. each s ∙ sym (value_tabulated s f))
 
 pub tabulated_same : {A : Type 0} (f g : System → A) → ((s : System) → f s ≡ g s) → tabulate f ≡ tabulate g
-tabulated_same f g same = equal_values _ _ (λ s. value_tabulated s f ∙ same s ∙ sym (value_tabulated s g))
+tabulated_same f g same = is_tabulated (tabulate f) g (λ s. value_tabulated s f ∙ same s)
 
 pub value_mapped : {A B : Type 0} (s : System) (f : A → B) (values : BySystem A) → value_of s (map_by f values) ≡ f (value_of s values)
 value_mapped s f values = value_tabulated s (λ t. f (value_of t values))
@@ -140,10 +168,18 @@ mapped_after f s values x = equal_values _ _ (λ t. by t (is_system s t) refl) w
 pub systems_split : (s : System) → systems ≡ before s ++ s ∷ after s
 systems_split Gps = refl
 systems_split Galileo = refl
+systems_split Glonass = refl
+systems_split Beidou = refl
+systems_split Qzss = refl
+systems_split Sbas = refl
 
 systems_next : (s : System) → take (index_of s + 1) systems ≡ before s ++ s ∷ []
 systems_next Gps = refl
 systems_next Galileo = refl
+systems_next Glonass = refl
+systems_next Beidou = refl
+systems_next Qzss = refl
+systems_next Sbas = refl
 
 pub systems_taken : (n : ℕ) (s : System) → index_of s ≡ n → take (n + 1) systems ≡ take n systems ++ s ∷ []
 systems_taken n s at = subst (λ (m : ℕ). take (m + 1) systems ≡ take m systems ++ s ∷ []) at (systems_next s)
@@ -152,6 +188,10 @@ systems_taken n s at = subst (λ (m : ℕ). take (m + 1) systems ≡ take m syst
 pub with_same : {A : Type 0} (s : System) (values : BySystem A) → with_value_of s values (value_of s values) ≡ values
 with_same Gps values = refl
 with_same Galileo values = refl
+with_same Glonass values = refl
+with_same Beidou values = refl
+with_same Qzss values = refl
+with_same Sbas values = refl
 
 -- ---- a change of the value of a system
 
@@ -161,13 +201,16 @@ each_after {A} P s values x each own t = by (is_system s t) refl where
   by true e = subst (λ (r : System). P r (value_of r (with_value_of s values x))) (system_same s t e) (subst (P s) (sym (value_after s values x)) own)
   by false e = subst (P t) (sym (value_of_other s t values x e)) (each t)
 
+-- What is true of the values of GPS and Galileo, and of the same one for each other system.
+pub each_of_two : {A : Type 0} (P : System → A → Type 0) {gps galileo other : A} → P Gps gps → P Galileo galileo → ((s : System) → P s other) → (s : System) → P s (value_of s (of_two gps galileo other))
+each_of_two P {gps} {galileo} {other} g e others =
+    each_after P Gps (with_value_of Galileo (tabulate (λ s. other)) galileo) gps
+    (each_after P Galileo (tabulate (λ s. other)) galileo (λ s. subst (P s) (sym (value_tabulated s (λ s. other))) (others s)) e) g
+
 -- ---- what is true of the systems below an index
 
 abbrev pub Below : (System → Type 0) → ℕ → Type 0
 Below P n = (t : System) → index_of t < n → P t
-
-pub below_none : (P : System → Type 0) → Below P 0
-below_none P t less = absurd (omega (arith, less))
 
 pub below_next : (P : System → Type 0) (n : ℕ) (s : System) → index_of s ≡ n → Below P n → P s → Below P (n + 1)
 below_next P n s at below own t less = by (is_system s t) refl where

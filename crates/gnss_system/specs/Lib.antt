@@ -2,5 +2,4 @@ pub mod Systems
 pub mod SystemValues
 pub mod Satellites
 pub mod SignalTables
-pub mod SignalRows
 pub mod Signals

@@ -1,33 +1,15 @@
 -- The signals of each system.
 use Rattle.std.specs.Prelude.{ℕ, List, [], ◌+◌, Bool, ◌==◌, ◌<◌, nat_lt, if◌then◌else◌, Option, Some, None, option_map}
-use Rattle.std.specs.Prelude.{length, position, slice_get}
+use Rattle.std.specs.Prelude.{length, position, slice_get, zero, suc, ◌∷◌, ◌++◌, unwrap_or}
 use Rattle.std.specs.Option.{option_map_or}
 use Rattle.std.specs.Str.{bytes_eq}
 use Rattle.gnss_system.specs.declared.tables.ListedSignal.{ListedSignal}
 use Rattle.gnss_system.specs.declared.system.System.{System}
-use Rattle.gnss_system.specs.declared.system.System.TheVariants.{Gps, Galileo}
-use Rattle.gnss_system.specs.SignalTables.{gps_signals, galileo_signals, gps_carriers, galileo_carriers, band_of}
-use Rattle.gnss_system.specs.SignalTables.{carrier_of}
-
--- the table of a system
-abbrev pub table : System → List ListedSignal
-table Gps = gps_signals
-table Galileo = galileo_signals
-
--- the number of signals in each table
-abbrev pub gps_signal_count : ℕ
-gps_signal_count = 15
-
-abbrev pub galileo_signal_count : ℕ
-galileo_signal_count = 19
-
-abbrev pub signal_count : System → ℕ
-signal_count Gps = gps_signal_count
-signal_count Galileo = galileo_signal_count
+pub use Rattle.gnss_system.specs.SignalTables.{table, carriers, band_of, carrier_of}
 
 -- the largest number of signals in a table
 abbrev pub most_signals : ℕ
-most_signals = galileo_signal_count
+most_signals = 19
 
 -- a signal: its index in the table of its system, from 0
 pub record SignalAt : Type 0 where
@@ -65,6 +47,18 @@ signal_of_code system code = signal_where system (λ e. bytes_eq e.1 code)
 abbrev pub greatest_signal_id : ℕ
 greatest_signal_id = 32
 
+-- for each ID from 0 to the greatest one, the index of its signal in a system's table, or `no_row`
+abbrev pub no_row : ℕ
+no_row = 255
+
+abbrev pub values_below : (ℕ → ℕ) → ℕ → List ℕ
+values_below f zero = []
+values_below f (suc n) = values_below f n ++ f n ∷ []
+
+abbrev pub rows : System → List ℕ
+rows system =
+    values_below (λ id. unwrap_or (position (λ e. e.0 == id) (table system)) no_row) (greatest_signal_id + 1)
+
 -- the ID of a signal
 abbrev pub id_of : SignalAt → ℕ
 id_of s = option_map_or (λ e. e.0) (slice_get (table s.system) s.index) 0
@@ -73,15 +67,10 @@ id_of s = option_map_or (λ e. e.0) (slice_get (table s.system) s.index) 0
 abbrev pub code_of : SignalAt → List ℕ
 code_of s = option_map_or (λ e. e.1) (slice_get (table s.system) s.index) []
 
--- the carriers of a system, in hertz
-abbrev pub carriers : System → List (ℕ × ℕ)
-carriers Gps = gps_carriers
-carriers Galileo = galileo_carriers
-
--- the largest carrier frequency, in hertz
+-- the largest carrier frequency, in hertz: that of channel 6 of GLONASS in band 1
 abbrev pub most_hertz : ℕ
-most_hertz = 1575420000
+most_hertz = 1605375000
 
--- the carrier frequency of a signal, in hertz
+-- the carrier frequency of a signal, in hertz, of GLONASS that of channel 0
 abbrev pub hertz_of : SignalAt → ℕ
 hertz_of s = carrier_of (carriers s.system) (band_of (code_of s))

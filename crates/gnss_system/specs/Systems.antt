@@ -1,16 +1,20 @@
 -- The satellite systems in their order, and their indices.
 use Rattle.std.specs.Prelude.{ℕ, List, [], ◌∷◌, ◌+◌, ◌==◌, Bool, take, drop}
 use Rattle.gnss_system.specs.declared.system.System.{System}
-use Rattle.gnss_system.specs.declared.system.System.TheVariants.{Gps, Galileo}
+use Rattle.gnss_system.specs.declared.system.System.TheVariants.{Gps, Galileo, Glonass, Beidou, Qzss, Sbas}
 
 -- All systems, in the order of a file.
 abbrev pub systems : List System
-systems = Gps ∷ Galileo ∷ []
+systems = Gps ∷ Galileo ∷ Glonass ∷ Beidou ∷ Qzss ∷ Sbas ∷ []
 
 -- The index of a system among all.
 abbrev pub index_of : System → ℕ
 index_of Gps = 0
 index_of Galileo = 1
+index_of Glonass = 2
+index_of Beidou = 3
+index_of Qzss = 4
+index_of Sbas = 5
 
 -- Whether two systems are the same.
 abbrev pub is_system : System → System → Bool

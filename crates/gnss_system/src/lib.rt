@@ -6,5 +6,8 @@ mod system;
 mod tables;
 
 pub use by_system::BySystem;
-pub use system::{GALILEO_SATELLITES, GPS_SATELLITES, MOST_SATELLITES, SYSTEMS, System, SystemRow};
-pub use tables::{GALILEO_SIGNAL_COUNT, GPS_SIGNAL_COUNT, ListedSignal, MOST_SIGNALS, NO_ROW};
+pub use system::{SYSTEMS, System};
+pub use tables::{
+    GALILEO_SIGNAL_COUNT, GPS_SIGNAL_COUNT, ID_COUNT, ListedSignal, MOST_SATELLITES, MOST_SIGNALS,
+    NO_ROW, SystemRow,
+};

@@ -1,51 +1,7 @@
-//! The satellite systems: a row for each.
-ghost use Rattle.std.specs.Prelude.{◌≡◌, ◌<◌, ◌≤◌, length};
+//! The satellite systems.
+ghost use Rattle.std.specs.Prelude.{ℕ, ◌≡◌, ◌<◌, ◌≤◌, length, IfSome, IfNone};
 
-use crate::tables::{GALILEO_ROWS, GALILEO_SIGNALS, GPS_ROWS, GPS_SIGNALS, ListedSignal};
-
-/// Number of GPS satellites.
-pub const GPS_SATELLITES: u8 = 32;
-
-/// Number of Galileo satellites.
-pub const GALILEO_SATELLITES: u8 = 36;
-
-/// Largest number of satellites of a system.
-pub const MOST_SATELLITES: u8 = GALILEO_SATELLITES;
-
-/// What differs between the systems in RINEX 3.05 and RTCM 10403.3.
-#[derive(Clone, Copy)]
-pub struct SystemRow {
-    /// The letter in RINEX, in ASCII.
-    letter: u8,
-    /// The number of satellites.
-    satellites: u8,
-    /// The number of the first satellite in RINEX.
-    first_number: u8,
-    /// The satellites as a satellite mask, DF394, whose most significant bit is ID 1.
-    satellite_mask: u64,
-    /// The signals, by rising signal ID.
-    pub signals: &'static [ListedSignal],
-    /// For each signal ID from 0 to 32, its row in `signals`, or `NO_ROW`.
-    pub rows_by_id: &'static [u8],
-}
-
-const GPS: SystemRow = SystemRow {
-    letter: b'G',
-    satellites: GPS_SATELLITES,
-    first_number: 1,
-    satellite_mask: 0xFFFF_FFFF_0000_0000,
-    signals: &GPS_SIGNALS,
-    rows_by_id: &GPS_ROWS,
-};
-
-const GALILEO: SystemRow = SystemRow {
-    letter: b'E',
-    satellites: GALILEO_SATELLITES,
-    first_number: 1,
-    satellite_mask: 0xFFFF_FFFF_F000_0000,
-    signals: &GALILEO_SIGNALS,
-    rows_by_id: &GALILEO_ROWS,
-};
+use crate::tables::{BEIDOU, GALILEO, GLONASS, GPS, QZSS, SBAS, SystemRow};
 
 /// A satellite system.
 #[derive(Clone, Copy, PartialEq, Eq, Hash)]
@@ -54,10 +10,25 @@ pub enum System {
     Gps,
     /// Galileo, `E` in RINEX.
     Galileo,
+    /// GLONASS, `R` in RINEX.
+    Glonass,
+    /// BeiDou, `C` in RINEX.
+    Beidou,
+    /// QZSS, `J` in RINEX.
+    Qzss,
+    /// SBAS, `S` in RINEX.
+    Sbas,
 }
 
 /// All systems, in the order of a file.
-pub const SYSTEMS: [System; 2] = [System::Gps, System::Galileo];
+pub const SYSTEMS: [System; 6] = [
+    System::Gps,
+    System::Galileo,
+    System::Glonass,
+    System::Beidou,
+    System::Qzss,
+    System::Sbas,
+];
 
 impl System {
     ghost use Rattle.gnss_system.specs.Systems.{systems, index_of};
@@ -70,26 +41,38 @@ impl System {
         SYSTEMS[index]
     }
 
-    ghost use Rattle.gnss_system.specs.Satellites.{satellites, most_satellites, first_number, satellite_set};
-    ghost use Rattle.gnss_system.specs.Satellites.{letter, system_of_letter};
-    ghost use Rattle.gnss_system.specs.Signals.{table, signal_count, most_signals};
-    ghost use Rattle.gnss_system.specs.SignalRows.{rows};
+    ghost use Rattle.gnss_system.specs.Satellites.{satellites, most_satellites, first_number, number_of, satellite_set};
+    ghost use Rattle.gnss_system.specs.Satellites.{Satellite, IsSatellite};
+    ghost use Rattle.gnss_system.specs.Satellites.{name_of, letter, system_of_letter};
+    ghost use Rattle.gnss_system.specs.Signals.{table, most_signals, rows};
 
     /// Returns the row of the system.
     #[inline(always)]
     pub fn row(self) -> SystemRow
+        ensures name { result.name.now ≡ name_of self }
         ensures letter { result.letter ≡ letter self }
         ensures first { result.first_number ≡ first_number self }
         ensures mask { result.satellite_mask ≡ satellite_set self }
         ensures signals { result.signals.now ≡ table self }
-        ensures count { length result.signals.now ≡ signal_count self }
         ensures bound { length result.signals.now ≤ most_signals }
         ensures rows { result.rows_by_id.now ≡ rows self }
     {
         match self {
             System::Gps => GPS,
             System::Galileo => GALILEO,
+            System::Glonass => GLONASS,
+            System::Beidou => BEIDOU,
+            System::Qzss => QZSS,
+            System::Sbas => SBAS,
         }
+    }
+
+    /// Returns the name of the system in small letters.
+    pub fn name(self) -> &'static str
+        ensures text { result.now ≡ name_of self }
+        ensures short { length result.now ≤ 7 }
+    {
+        self.row().name
     }
 
     /// Returns the letter of the system in RINEX, in ASCII.
@@ -106,6 +89,10 @@ impl System {
         match letter {
             b'G' => Some(System::Gps),
             b'E' => Some(System::Galileo),
+            b'R' => Some(System::Glonass),
+            b'C' => Some(System::Beidou),
+            b'J' => Some(System::Qzss),
+            b'S' => Some(System::Sbas),
             _ => None,
         }
     }
@@ -119,14 +106,41 @@ impl System {
         match self {
             System::Gps => GPS.satellites,
             System::Galileo => GALILEO.satellites,
+            System::Glonass => GLONASS.satellites,
+            System::Beidou => BEIDOU.satellites,
+            System::Qzss => QZSS.satellites,
+            System::Sbas => SBAS.satellites,
         }
     }
 
     /// Returns the number of the first satellite of the system in RINEX.
     pub fn first_number(self) -> u8
-        ensures { result ≡ first_number self }
+        ensures value { result ≡ first_number self }
+        ensures bound { (1 ≤ result) × (result ≤ 20) }
     {
         self.row().first_number
+    }
+
+    /// Returns the number in RINEX of the satellite with this ID.
+    pub fn number_of(self, id: u8) -> u8
+        requires { number_of self id < 100 }
+        ensures { result ≡ number_of self id }
+    {
+        id + (self.first_number() - 1)
+    }
+
+    /// Returns the ID of the satellite with this number in RINEX, or `None` if the system has none.
+    pub fn id_of_number(self, number: u8) -> Option<u8>
+        ensures found { IfSome result
+            (λ id. IsSatellite (record { system = self; id = id }) × (number_of self id ≡ number)) }
+        ensures none { IfNone result
+            ((id : ℕ) → IsSatellite (record { system = self; id = id }) → number_of self id ≡ number → ⊥) }
+    {
+        let before = self.first_number() - 1;
+        if number <= before || number - before > self.satellites() {
+            return None;
+        }
+        Some(number - before)
     }
 
     /// Returns the satellites of the system as a satellite mask, DF394 of RTCM 10403.3, whose most
@@ -140,7 +154,6 @@ impl System {
     /// Returns the number of signals of the system, whose indices count from 0.
     pub fn signals(self) -> usize
         ensures value { result ≡ length (table self) }
-        ensures count { result ≡ signal_count self }
         ensures bound { result ≤ most_signals }
     {
         self.row().signals.len()

@@ -1,5 +1,8 @@
 -- The cells of a message, one by one: those that are listed, and the number of others.
 use Rattle.gnss_obs.specs.Plans.{if_planned, place_in}
+use Rattle.gnss_obs.specs.Channels.{ChannelsValue}
+use Rattle.obs_epoch.specs.Clock.{State}
+use Rattle.obs_epoch.specs.GathererSteps.{GathererValue}
 use Rattle.obs_epoch.specs.Names.{SignalAt, LockField, Cell, System, Entry, CellOutcome, Skipped, count_in, seen_in, unlisted_in, HeardCell, kept_cell, heard_cell, has_listed_key, with_skipped, PlanValue, Loaded, load, load_one, load_entries, with_unlisted, outcome_in, hold, hold_by, planned_cell, CellCounts, option_map_or, cons_option}
 use Rattle.std.proofs.Common.{◌≡◌, ℕ, ◌+◌, Bool, ◌&&◌, List, [], ◌∷◌, refl, sym, ap, subst, true, false, ◌∙◌, arith, Option, Some, None, is_some, filter_map, cond, option_and_then, if◌then◌else◌}
 use Rattle.std.proofs.lemmas.Grind.{common_steps}
@@ -17,42 +20,55 @@ later n l (x ∷ xs) = ap (λ v. load v xs) (later_one n l x) ∙ later n (load_
 twice : (n m : ℕ) (l : Loaded) → with_unlisted n (with_unlisted m l) ≡ with_unlisted (m + n) l
 twice n m l = grind (arith, common_steps)
 
-abbrev listed : LockField → System → List Entry → List HeardCell
-listed field system es = filter_map (seen_in field system) es
+abbrev listed : ChannelsValue → LockField → System → List Entry → List HeardCell
+listed channels field system es = filter_map (seen_in channels field system) es
 
-abbrev others : LockField → System → List Entry → ℕ
-others field system es = unlisted_in field system es
+abbrev others : ChannelsValue → LockField → System → List Entry → ℕ
+others channels field system es = unlisted_in channels field system es
+
+kept_setup : (k : CellOutcome) (g : GathererValue) (x : HeardCell) → (hold_by k g x).clock ≡ g.clock
+kept_setup k g x = grind (arith, common_steps)
 
 none_more : (l : Loaded) → l ≡ with_unlisted 0 l
 none_more l = grind (arith, common_steps)
 
-pub load_entries_is : (field : LockField) (system : System) (l : Loaded) (es : List Entry)
-    → load_entries field system l es ≡ with_unlisted (others field system es) (load l (listed field system es))
-load_entries_is field system l [] = none_more l
-load_entries_is field system l (e ∷ es) = by (seen_in field system e) (λ v. load_entries_is field system v es) where
-  by : (o : Option HeardCell) → ((v : Loaded) → load_entries field system v es ≡ with_unlisted (others field system es) (load v (listed field system es)))
-      → load_entries field system (option_map_or (load_one l) o (with_unlisted 1 l)) es
-      ≡ with_unlisted (cond (is_some o) 0 1 + others field system es) (load l (cons_option o (listed field system es)))
-  by None more =
-      more (with_unlisted 1 l) ∙ ap (with_unlisted (others field system es)) (later 1 l (listed field system es))
-      ∙ twice (others field system es) 1 (load l (listed field system es))
-  by (Some x) more = more (load_one l x) ∙ ap (λ n. with_unlisted n (load (load_one l x) (listed field system es))) (zero-plus (others field system es)) where
-    zero-plus : (n : ℕ) → n ≡ 0 + n
-    zero-plus n = omega arith
+pub load_entries_is : (channels : ChannelsValue) (field : LockField) (system : System) (l : Loaded) (es : List Entry) → l.state.clock.setup.plan.channels ≡ channels
+    → load_entries field system l es ≡ with_unlisted (others channels field system es) (load l (listed channels field system es))
+load_entries_is channels field system l [] same = none_more l
+load_entries_is channels field system l (e ∷ es) same =
+    ap (λ (c : ChannelsValue). load_entries field system (option_map_or (load_one l) (seen_in c field system e) (with_unlisted 1 l)) es) same
+    ∙ by (seen_in channels field system e) (λ v kept. load_entries_is channels field system v es kept) where
+      by : (o : Option HeardCell) → ((v : Loaded) → v.state.clock.setup.plan.channels ≡ channels → load_entries field system v es ≡ with_unlisted (others channels field system es) (load v (listed channels field system es)))
+          → load_entries field system (option_map_or (load_one l) o (with_unlisted 1 l)) es
+          ≡ with_unlisted (cond (is_some o) 0 1 + others channels field system es) (load l (cons_option o (listed channels field system es)))
+      by None more =
+          more (with_unlisted 1 l) same ∙ ap (with_unlisted (others channels field system es)) (later 1 l (listed channels field system es))
+          ∙ twice (others channels field system es) 1 (load l (listed channels field system es))
+      by (Some x) more =
+          more (load_one l x) (ap (λ (c : State). c.setup.plan.channels) (kept_setup (outcome_in l.state x) l.state x) ∙ same)
+          ∙ ap (λ n. with_unlisted n (load (load_one l x) (listed channels field system es))) (zero-plus (others channels field system es)) where
+            zero-plus : (n : ℕ) → n ≡ 0 + n
+            zero-plus n = omega arith
 
 one_skipped : (a b : Bool) (l : Loaded) (h : HeardCell) (k : CellOutcome) → None ≡ (if b then Some (kept_cell h 0) else None)
     → with_unlisted 1 l ≡ record { state = hold_by (if a && b then k else Skipped) l.state h; counts = count_in (if a && b then k else Skipped) l.counts }
 one_skipped a b l h k e = grind (arith, common_steps, e)
 
 -- An entry of no planned signal is skipped.
-pub unplanned_entry : (p : PlanValue) (o : Option HeardCell) (l : Loaded) → p ≡ l.state.clock.setup.plan → None ≡ option_and_then (planned_cell p) o
-    → with_unlisted 1 l ≡ option_map_or (load_one l) o (with_unlisted 1 l)
-unplanned_entry p None l same e = refl
-unplanned_entry p (Some h) l same e = one_skipped (has_listed_key h) _ l h _ (e ∙ ap (λ q. planned_cell q h) same)
+pub unplanned_entry : (p : PlanValue) (seen : ChannelsValue → Option HeardCell) (l : Loaded) → p ≡ l.state.clock.setup.plan → None ≡ option_and_then (planned_cell p) (seen p.channels)
+    → with_unlisted 1 l ≡ option_map_or (load_one l) (seen l.state.clock.setup.plan.channels) (with_unlisted 1 l)
+unplanned_entry p seen l same e =
+    by (seen p.channels) e ∙ ap (λ (q : PlanValue). option_map_or (load_one l) (seen q.channels) (with_unlisted 1 l)) same where
+      by : (o : Option HeardCell) → None ≡ option_and_then (planned_cell p) o → with_unlisted 1 l ≡ option_map_or (load_one l) o (with_unlisted 1 l)
+      by None e = refl
+      by (Some h) e = one_skipped (has_listed_key h) _ l h _ (e ∙ ap (λ q. planned_cell q h) same)
 
 -- A planned entry is that of its cell.
-pub planned_entry : (p : PlanValue) (o : Option HeardCell) (x : Cell) → Some x ≡ option_and_then (planned_cell p) o → Some (heard_cell x) ≡ o
-planned_entry p o x e = grind (arith, common_steps, e)
+pub planned_entry : (p q : PlanValue) (seen : ChannelsValue → Option HeardCell) (x : Cell) → p ≡ q → Some x ≡ option_and_then (planned_cell p) (seen p.channels)
+    → Some (heard_cell x) ≡ seen q.channels
+planned_entry p q seen x same e = by (seen p.channels) e ∙ ap (λ (r : PlanValue). seen r.channels) same where
+  by : (o : Option HeardCell) → Some x ≡ option_and_then (planned_cell p) o → Some (heard_cell x) ≡ o
+  by o e = grind (arith, common_steps, e)
 
 -- A planned signal of an ID is the signal of that ID, and planned.
 pub signal_planned : (planned : List ℕ) (o : Option SignalAt) (s : SignalAt) → Some s ≡ option_and_then (if_planned planned) o → (o ≡ Some s) × (is_some (place_in s planned) ≡ true)

@@ -10,6 +10,7 @@ pub mod CountsLemmas
 pub mod ClosedLemmas
 pub mod OneStepLemmas
 pub mod ClockLemmas
+pub mod HeardLemmas
 pub mod Rows
 pub mod EntryLemmas
 pub mod HistoryLemmas

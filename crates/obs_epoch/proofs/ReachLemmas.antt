@@ -1,8 +1,10 @@
 -- Bounds of the values of epochs.
-use Rattle.obs_epoch.specs.Names.{LockField, Df402, Df407, System, Satellite, satellite_of_id, SignalAt, signal_of_id, hertz_of, nearest_pseudorange, nearest_phase, nearest_doppler, nearest_strength, LockTime, Entry, Message, Station, Msm4, Msm7, Other, IsMessage, IsMeasured, EntriesAreMeasured, PointsAreInRange, entries, StationValues, weeks, Closed, HasTwelveDigits, cells_of, planned_of, most_cells, GatherSetup, Heard, heard, observed, seen_in, lock_by, HeardCell, kept_cell, Timed, is_at, timed, timed_after, taken_at, is_of_system, is_planned, offered, firsts_after, firsts, kept, cells_at, has_same_key, times, lli_with, lli_of, has_lost, cells_with_lli, epoch_at, values_after_message, is_shut, open_after, before_closing, closed_list_at, all_epochs, IsHeardCell, IsHeard, IsStrength, IsGathered, same_place, AreGathered, AreStationValues, IsGatheredEpoch, TimesRise, AreGatheredEpochs, KnownLock}
+use Rattle.obs_epoch.specs.Names.{LockField, Df402, Df407, System, Satellite, satellite_of_id, SignalAt, signal_of_id, nearest_pseudorange, nearest_phase, nearest_doppler, nearest_strength, LockTime, Entry, Message, Station, Msm4, Msm5, Msm6, Msm7, Other, IsMessage, IsMeasured, EntriesAreMeasured, PointsAreInRange, entries, StationValues, weeks, Closed, HasTwelveDigits, cells_of, planned_of, most_cells, GatherSetup, Heard, heard, observed, seen_in, lock_by, HeardCell, kept_cell, Timed, is_at, timed, timed_after, taken_at, is_of_system, is_planned, offered, firsts_after, firsts, kept, cells_at, has_same_key, times, lli_with, lli_of, has_lost, cells_with_lli, epoch_at, values_after_message, is_shut, open_after, before_closing, closed_list_at, all_epochs, IsHeardCell, IsHeard, IsStrength, IsGathered, same_place, AreGathered, AreStationValues, IsGatheredEpoch, TimesRise, AreGatheredEpochs, KnownLock}
 use Rattle.std.proofs.Common.{◌≡◌, ℕ, zero, suc, ℤ, pos, ◌+◌, ◌*◌, ◌^◌, ◌<◌, ◌≤◌, ◌≤ℤ◌, Bool, true, false, List, [], ◌∷◌, ◌++◌, filter, take, ap, arith, Option, Some, None, nat_lt, is_some, unsigned_abs, if◌then◌else◌, flat_map, filter_map, option_map, option_and_then, IfSome, fold}
 use Rattle.std.specs.List.{AllByRecursion, IsDistinct, cons_option}
 use Rattle.rtcm_msg.specs.Msm.{week}
+use Rattle.gnss_system.specs.Signals.{most_hertz}
+use Rattle.gnss_obs.specs.Channels.{AreChannels, ChannelsValue, hertz_in}
 use Rattle.obs_epoch.proofs.OrderLemmas.{all-sorted, distinct-sorted}
 use Rattle.obs_epoch.proofs.NotingLemmas.{kept_distinct}
 use Rattle.std.proofs.lemmas.Grind.{common_steps}
@@ -34,41 +36,54 @@ all_take P (suc n) (x ∷ xs) h = (h.0, all_take P n xs h.1)
 -- The values of measured cells are within their bounds.
 pub record AreSizes : Type 0 where
   pub metres : (r : ℤ) → unsigned_abs r ≤ 2 ^ 40 → unsigned_abs (nearest_pseudorange r) < 10 ^ 12
-  pub cycles : (s : SignalAt) (p : ℤ) → unsigned_abs p ≤ 2 ^ 40 → unsigned_abs (nearest_phase (hertz_of s) p) < 10 ^ 12
-  pub shift : (s : SignalAt) (v : ℤ) → unsigned_abs v ≤ 10 ^ 8 → unsigned_abs (nearest_doppler (hertz_of s) v) < 10 ^ 12
+  pub carriers : (channels : ChannelsValue) (satellite : Satellite) (s : SignalAt) → AreChannels channels → IfSome (hertz_in channels satellite s) (λ h. h ≤ most_hertz)
+  pub cycles : (h : ℕ) (p : ℤ) → h ≤ most_hertz → unsigned_abs p ≤ 2 ^ 40 → unsigned_abs (nearest_phase h p) < 10 ^ 12
+  pub shift : (h : ℕ) (v : ℤ) → h ≤ most_hertz → unsigned_abs v ≤ 10 ^ 8 → unsigned_abs (nearest_doppler h v) < 10 ^ 12
   pub decibels : (s : ℕ) → 0 < s → s < 1024 → (pos 1 ≤ℤ nearest_strength s) × (nearest_strength s ≤ℤ pos 99_999)
 
 mapped : {A B : Type 0} (f : A → B) (P : A → Type 0) (Q : B → Type 0) → ((x : A) → P x → Q (f x)) → (o : Option A) → IfSome o P → IfSome (option_map f o) Q
 mapped f P Q h None k = tt
 mapped f P Q h (Some x) k = h x k
 
-observed_given : AreSizes → (lock : LockTime) (e : Entry) (satellite : Satellite) (signal : SignalAt) → IsMeasured e → IsHeardCell (observed lock e satellite signal)
-observed_given z lock e satellite signal h = record {
+-- A value at a known carrier.
+at_carrier : (f : ℕ → ℤ → ℤ) (m : ℕ) → ((h : ℕ) (x : ℤ) → h ≤ most_hertz → unsigned_abs x ≤ m → unsigned_abs (f h x) < 10 ^ 12) → (hertz : Option ℕ) (o : Option ℤ)
+    → IfSome hertz (λ h. h ≤ most_hertz) → IfSome o (λ x. unsigned_abs x ≤ m) → IfSome (option_and_then (λ h. option_map (f h) o) hertz) HasTwelveDigits
+at_carrier f m small None o within h = tt
+at_carrier f m small (Some hertz) o within h = mapped (f hertz) (λ x. unsigned_abs x ≤ m) HasTwelveDigits (λ x. small hertz x within) o h
+
+observed_given : AreSizes → (channels : ChannelsValue) (lock : LockTime) (e : Entry) (satellite : Satellite) (signal : SignalAt) → AreChannels channels → IsMeasured e
+    → IsHeardCell (observed channels lock e satellite signal)
+observed_given z channels lock e satellite signal valid h = record {
   c = mapped nearest_pseudorange (λ r. unsigned_abs r ≤ 2 ^ 40) HasTwelveDigits z.metres e.range h.range;
-  l = mapped (nearest_phase (hertz_of signal)) (λ r. unsigned_abs r ≤ 2 ^ 40) HasTwelveDigits (z.cycles signal) e.phase h.phase;
-  d = mapped (nearest_doppler (hertz_of signal)) (λ v. unsigned_abs v ≤ 10 ^ 8) HasTwelveDigits (z.shift signal) e.rate h.rate;
+  l = at_carrier nearest_phase (2 ^ 40) z.cycles (hertz_in channels satellite signal) e.phase (z.carriers channels satellite signal valid) h.phase;
+  d = at_carrier nearest_doppler (10 ^ 8) z.shift (hertz_in channels satellite signal) e.rate (z.carriers channels satellite signal valid) h.rate;
   s = mapped nearest_strength (λ (s : ℕ). (0 < s) × (s < 1024)) IsStrength (λ s k. z.decibels s k.0 k.1) e.strength h.strength;
 }
 
-seen_given : AreSizes → (field : LockField) (system : System) (e : Entry) → IsMeasured e → IfSome (seen_in field system e) IsHeardCell
-seen_given z field system e h = by (satellite_of_id system e.satellite) (signal_of_id system e.signal) where
-  by : (a : Option Satellite) (b : Option SignalAt) → IfSome (option_and_then (λ satellite. option_map (observed (lock_by field e.lock) e satellite) b) a) IsHeardCell
+seen_given : AreSizes → (channels : ChannelsValue) (field : LockField) (system : System) (e : Entry) → AreChannels channels → IsMeasured e → IfSome (seen_in channels field system e) IsHeardCell
+seen_given z channels field system e valid h = by (satellite_of_id system e.satellite) (signal_of_id system e.signal) where
+  by : (a : Option Satellite) (b : Option SignalAt) → IfSome (option_and_then (λ satellite. option_map (observed channels (lock_by field e.lock) e satellite) b) a) IsHeardCell
   by None b = tt
   by (Some satellite) None = tt
-  by (Some satellite) (Some signal) = observed_given z (lock_by field e.lock) e satellite signal h
+  by (Some satellite) (Some signal) = observed_given z channels (lock_by field e.lock) e satellite signal valid h
 
-cells_given : AreSizes → (field : LockField) (system : System) (es : List Entry) → AllByRecursion IsMeasured es → AllByRecursion IsHeardCell (filter_map (seen_in field system) es)
-cells_given z field system [] h = tt
-cells_given z field system (e ∷ es) h = by (seen_in field system e) (seen_given z field system e h.0) (cells_given z field system es h.1) where
-  by : (o : Option HeardCell) → IfSome o IsHeardCell → AllByRecursion IsHeardCell (filter_map (seen_in field system) es) → AllByRecursion IsHeardCell (cons_option o (filter_map (seen_in field system) es))
-  by None k l = l
-  by (Some x) k l = (k, l)
+cells_given : AreSizes → (channels : ChannelsValue) (field : LockField) (system : System) (es : List Entry) → AreChannels channels → AllByRecursion IsMeasured es
+    → AllByRecursion IsHeardCell (filter_map (seen_in channels field system) es)
+cells_given z channels field system [] valid h = tt
+cells_given z channels field system (e ∷ es) valid h =
+    by (seen_in channels field system e) (seen_given z channels field system e valid h.0) (cells_given z channels field system es valid h.1) where
+      by : (o : Option HeardCell) → IfSome o IsHeardCell → AllByRecursion IsHeardCell (filter_map (seen_in channels field system) es)
+          → AllByRecursion IsHeardCell (cons_option o (filter_map (seen_in channels field system) es))
+      by None k l = l
+      by (Some x) k l = (k, l)
 
-pub message_heard : AreSizes → EntriesAreMeasured → PointsAreInRange → (m : Message) → IsMessage m → IsHeard (heard m)
-message_heard z all points (Station p) h = record { cells = tt; point = points p h }
-message_heard z all points (Msm4 m) h = record { cells = cells_given z Df402 _ (entries (Msm4 m)) (all (Msm4 m)); point = tt }
-message_heard z all points (Msm7 m) h = record { cells = cells_given z Df407 _ (entries (Msm7 m)) (all (Msm7 m)); point = tt }
-message_heard z all points (Other n set) h = record { cells = tt; point = tt }
+pub message_heard : AreSizes → EntriesAreMeasured → PointsAreInRange → (channels : ChannelsValue) (leap : ℕ) (m : Message) → AreChannels channels → IsMessage m → IsHeard (heard channels leap m)
+message_heard z all points channels leap (Station p) v h = record { cells = tt; point = points p h }
+message_heard z all points channels leap (Msm4 m) v h = record { cells = cells_given z channels Df402 _ (entries (Msm4 m)) v (all (Msm4 m)); point = tt }
+message_heard z all points channels leap (Msm5 m) v h = record { cells = cells_given z channels Df402 _ (entries (Msm5 m)) v (all (Msm5 m)); point = tt }
+message_heard z all points channels leap (Msm6 m) v h = record { cells = cells_given z channels Df407 _ (entries (Msm6 m)) v (all (Msm6 m)); point = tt }
+message_heard z all points channels leap (Msm7 m) v h = record { cells = cells_given z channels Df407 _ (entries (Msm7 m)) v (all (Msm7 m)); point = tt }
+message_heard z all points channels leap (Other n set) v h = record { cells = tt; point = tt }
 
 -- ---- times
 

@@ -1,17 +1,28 @@
 -- The definitions computed on small lists.
-use Rattle.std.proofs.Common.{◌≡◌, ℕ, ◌+◌, ◌*◌, Bool, true, false, List, [], ◌∷◌, map, refl, Option, Some, None, pos, ℤ}
+use Rattle.gnss_system.specs.declared.system.System.TheVariants.{Glonass}
+use Rattle.obs_epoch.specs.Heard.{tow_of}
+use Rattle.std.proofs.Common.{◌≡◌, ℕ, ◌+◌, ◌*◌, ◌^◌, Bool, true, false, List, [], ◌∷◌, map, refl, Option, Some, None, pos, ℤ}
 use Rattle.obs_epoch.specs.Names.{Gps, GatherSetup, Heard, HeardCell, timed, counts_of, no_values, EpochValue, Cell}
+use Rattle.gnss_system.specs.SystemValues.{of_two}
+use Rattle.gnss_obs.specs.Values.{plan_with}
 use Rattle.rtcm_msg.specs.Msm.{week}
-use Rattle.obs_epoch.specs.Epochs.{epochs, closed_epochs}
+use Rattle.obs_epoch.specs.Epochs.{closed_times, epoch_at, epochs}
 
 abbrev setup : GatherSetup
-setup = record { plan = record { gps = 2 ∷ []; galileo = 2 ∷ [] }; start_week = 2300; station = Some 7; by_bit = true; initial = no_values }
+setup = record { plan = plan_with (of_two (2 ∷ []) (2 ∷ []) []); start_week = 2300; station = Some 7; by_bit = true; initial = no_values; leap = 18 }
 
 abbrev observed : ℕ → Bool → List HeardCell → Heard
 observed tow more cells = record { station = Some 7; tow = Some tow; more = Some more; cells = cells; unlisted = 0; point = None }
 
 abbrev other : Bool → Heard
 other more = record { station = Some 7; tow = None; more = Some more; cells = []; unlisted = 0; point = None }
+
+-- Thursday 11:13:29.001 in Moscow, and Sunday 00:00 there, which is Saturday 21:00 UTC.
+thursday : tow_of Glonass 18 (4 * 2 ^ 27 + 40_409_001) ≡ 375_227_001
+thursday = refl
+
+sunday : tow_of Glonass 18 0 ≡ 594_018_000
+sunday = refl
 
 -- Two weeks, exactly half a week ahead, and more than that.
 abbrev four : List Heard
@@ -55,7 +66,7 @@ three =
 pub three_llis : small_lli (epochs setup (timed setup three)) ≡ (0 ∷ []) ∷ (0 ∷ []) ∷ (1 ∷ []) ∷ []
 three_llis = refl
 
-pub two_closed : small_lli (closed_epochs setup (timed setup three)) ≡ (0 ∷ []) ∷ (0 ∷ []) ∷ []
+pub two_closed : small_lli (map (epoch_at setup (timed setup three)) (closed_times setup (timed setup three))) ≡ (0 ∷ []) ∷ (0 ∷ []) ∷ []
 two_closed = refl
 
 pub one_repeated : counts_of setup [] (cell None None ∷ cell None (Some 1) ∷ []) ≡ record { kept = 1; skipped = 0; repeated = 1; crowded = 0 }

@@ -1,7 +1,17 @@
 -- The counts of the cells with a value, and of those of a message.
 use Rattle.obs_epoch.specs.Names.{LockField, System, Satellite, SignalAt, IsSignal, signal_of_id, LockTime, Entry, Heard, seen_in, observed, HeardCell, SignalCountsValue, brings_value, valued, is_of_signal, count_of, AreSignalCounts, cons_option}
+use Rattle.obs_epoch.specs.Names.{satellite_of_id, nearest_pseudorange, nearest_strength}
+use Rattle.obs_epoch.specs.SignalCounts.{every_channel}
+use Rattle.gnss_obs.specs.Channels.{hertz_by, hertz_in, number_at, slot_count}
+use Rattle.gnss_obs.specs.Observables.{phase_by, doppler_by}
+use Rattle.gnss_system.specs.Satellites.{IsSatellite, satellites}
+use Rattle.gnss_system.specs.declared.system.System.TheVariants.{Glonass}
+use Rattle.std.proofs.Common.{◌<◌, ◌-◌, ◌||◌, None, true, refl}
 use Rattle.rtcm_msg.specs.Presences.{has_value}
-use Rattle.std.proofs.Common.{◌≡◌, ℕ, ◌≤◌, Bool, List, [], ◌∷◌, ◌++◌, length, sym, subst, arith, Option, Some, filter, is_some, filter_map, unwrap_or, option_map}
+use Rattle.std.proofs.lemmas.List.{get_or-replicate, length-replicate}
+use Rattle.gnss_system.specs.Signals.{most_signals}
+use Rattle.gnss_system.specs.SystemValues.{value_of}
+use Rattle.std.proofs.Common.{◌≡◌, ◌∙◌, ap, get_or, replicate, ℕ, ◌≤◌, Bool, List, [], ◌∷◌, ◌++◌, length, sym, subst, arith, Option, Some, filter, is_some, filter_map, unwrap_or, option_map}
 use Rattle.std.proofs.lemmas.List.Sums.{length-filter, count_by-le-length}
 use Rattle.std.proofs.lemmas.Grind.{common_steps}
 
@@ -27,8 +37,25 @@ listed_of system id g h = grind (arith, common_steps)
 is_some-map : {X Y : Type 0} (f : X → Y) (o : Option X) → is_some (option_map f o) ≡ is_some o
 is_some-map f o = grind (arith, common_steps)
 
-pub value_same : (lock : LockTime) (e : Entry) (s : Satellite) (g : SignalAt) → brings_value (observed lock e s g) ≡ has_value e
-value_same lock e s g = grind (arith, common_steps, is_some-map)
+-- Each satellite has a carrier if each slot has a channel.
+pub every_hertz : (system : System) (id : ℕ) (s : Satellite) (g : SignalAt) → satellite_of_id system id ≡ Some s → is_some (hertz_in every_channel s g) ≡ true
+every_hertz system id s g h = by s.system s.id g (satellite_is system id s h) where
+  satellite_is : (system : System) (id : ℕ) (s : Satellite) → satellite_of_id system id ≡ Some s → IsSatellite s
+  satellite_is system id s h = grind (arith, common_steps, h)
+
+  at : (n : ℕ) → n < slot_count → get_or every_channel n None ≡ Some 7
+  at n less = get_or-replicate {A = Option ℕ} slot_count n (Some 7) None less
+
+  by : (system : System) (id : ℕ) (g : SignalAt) → (1 ≤ id) × (id ≤ satellites system) → is_some (hertz_by system (number_at every_channel id) g) ≡ true
+  by Glonass id g h = rw (at (id - 1) (omega (arith, h.0, h.1))) refl
+  by _ id g h = refl
+
+pub value_same : (lock : LockTime) (e : Entry) (s : Satellite) (g : SignalAt) → is_some (hertz_in every_channel s g) ≡ true → brings_value (observed every_channel lock e s g) ≡ has_value e
+value_same lock e s g some = by (hertz_in every_channel s g) some where
+  by : (o : Option ℕ) → is_some o ≡ true
+      → (is_some (option_map nearest_pseudorange e.range) || is_some (phase_by o e.phase) || is_some (doppler_by o e.rate) || is_some (option_map nearest_strength e.strength)) ≡ has_value e
+  by None h = cc
+  by (Some n) h = grind (arith, common_steps, is_some-map)
 
 -- The cells of one entry and of the entries after it.
 pub one_first : (o : Option HeardCell) (xs : List HeardCell) → filter brings_value (cons_option o []) ++ filter brings_value xs ≡ filter brings_value (cons_option o xs)
@@ -43,5 +70,21 @@ wanted_cells wanted station m at is = grind (arith, common_steps)
 pub message_counted : (after : SignalCountsValue) (cells front : List HeardCell) (wanted : Option ℕ) (m : Heard) → valued wanted m ≡ front → AreSignalCounts after (cells ++ front) → AreSignalCounts after (cells ++ valued wanted m)
 message_counted after cells front wanted m same h = subst (λ (l : List HeardCell). AreSignalCounts after (cells ++ l)) (sym same) h
 
-pub few_valued : (field : LockField) (system : System) (es : List Entry) (cells : List HeardCell) → cells ≡ filter brings_value (filter_map (seen_in field system) es) → length es ≤ 64 → length cells ≤ 64
+pub few_valued : (field : LockField) (system : System) (es : List Entry) (cells : List HeardCell) → cells ≡ filter brings_value (filter_map (seen_in every_channel field system) es) → length es ≤ 64 → length cells ≤ 64
 few_valued field system es cells is few = grind (arith, common_steps, few_passed, length-filter_map)
+
+-- Counts that are all 0.
+abbrev no_cells : List ℕ
+no_cells = replicate most_signals 0
+
+pub none_counted : (c : SignalCountsValue) → ((s : System) → value_of s c ≡ no_cells) → AreSignalCounts c []
+none_counted c none = record {
+  size = λ s. ap length (none s) ∙ length-replicate {A = ℕ} most_signals 0;
+  each = λ s i listed. zero_at s i;
+  past = λ s i past. zero_at s i;
+} where
+  zero : (i : ℕ) → get_or no_cells i 0 ≡ 0
+  zero i = grind (arith, common_steps)
+
+  zero_at : (s : System) (i : ℕ) → get_or (value_of s c) i 0 ≡ 0
+  zero_at s i = ap (λ (l : List ℕ). get_or l i 0) (none s) ∙ zero i

@@ -1,7 +1,7 @@
 -- The whole step: a property of the list before holds for the list after one more message.
 use Rattle.std.proofs.Common.{◌≡◌, ℕ, Bool, true, false, not, ◌||◌, ◌&&◌, List, [], ◌∷◌, ◌++◌, refl, sym, ap, ap₂, ◌∙◌, subst, arith, append-nil, Option, Some, None, is_some, ◌⊎◌, inl, inr, if◌then◌else◌, option_to_list}
 use Rattle.std.proofs.lemmas.List.Sums.{fold-append}
-use Rattle.obs_epoch.specs.Names.{Message, Kind, CloseFirst, CellCounts, GatherSetup, Heard, heard, is_own, ends_epoch, HeardCell, Timed, greatest_time, taken_at, timed, no_counts, with_skipped, offered, counts_of, counts_of_message, epoch_at, closed_so_far, closed_times, values_of, values_after_message, State, HasHeardMessages, is_pending, closes_first, is_close_first, is_accepted, kind_after, with_unlisted, GathererValue, Loaded, empty_epoch, noted, load, loaded_if, outcome_in, load_one, with_time, closed_if, closed_noted, epoch_begun, just_closed_as, rested, take_step, end_step, is_same, count_in, KnownLock, held_at, Locked, HasTakenMessages, EpochValue, option_map_or}
+use Rattle.obs_epoch.specs.Names.{Message, Kind, CloseFirst, CellCounts, GatherSetup, Heard, heard_by, is_own, ends_epoch, HeardCell, Timed, greatest_time, taken_at, timed, no_counts, with_skipped, offered, counts_of, counts_of_message, epoch_at, closed_so_far, closed_times, values_of, values_after_message, State, HasHeardMessages, is_pending, closes_first, is_close_first, is_accepted, kind_after, with_unlisted, GathererValue, Loaded, empty_epoch, noted, load, loaded_if, loaded_where, outcome_in, load_one, with_time, begun_by, closed_if, closed_noted, epoch_begun, shut_where, ended_where, open_by, take_step, end_step, is_same, count_in, KnownLock, held_at, Locked, HasTakenMessages, EpochValue, option_map_or}
 use Rattle.rtcm_msg.specs.declared.message.Message.TheVariants as message
 use Rattle.obs_epoch.specs.Step.{kind_by, step_by, closed_time, closed_of}
 use Rattle.obs_epoch.proofs.TimesLemmas.{next, timed-push}
@@ -9,6 +9,7 @@ use Rattle.obs_epoch.proofs.ClockLemmas.{standing, same_state, takes, closes, ne
 use Rattle.obs_epoch.proofs.ClosedLemmas.{taken_follows}
 use Rattle.obs_epoch.proofs.ClosingLemmas.{accepted, closing, refused}
 use Rattle.obs_epoch.proofs.CountsLemmas.{counts_are}
+use Rattle.obs_epoch.proofs.HeardLemmas.{heard_step, same_latest}
 use Rattle.obs_epoch.proofs.LoadLemmas.{hold_is}
 use Rattle.obs_epoch.proofs.NotingLemmas.{noted_locked}
 use Rattle.obs_epoch.proofs.OneStepLemmas.{locked-push, closed_later, loaded_taken, held_same}
@@ -168,11 +169,13 @@ pending_taken {g} {s} {ms} m {shut} h early none t e =
 abbrev pub IsSet : Heard → Type 0
 IsSet m = (m.point ≡ None) ⊎ ((m.tow ≡ None) × (m.more ≡ None))
 
-pub given_alone : (m : Message) → IsSet (heard m)
-given_alone (message.Station p) = inr (refl, refl)
-given_alone (message.Msm4 m) = inl refl
-given_alone (message.Msm7 m) = inl refl
-given_alone (message.Other number set) = inl refl
+pub given_alone : (s : GatherSetup) (m : Message) → IsSet (heard_by s m)
+given_alone s (message.Station p) = inr (refl, refl)
+given_alone s (message.Msm4 m) = inl refl
+given_alone s (message.Msm5 m) = inl refl
+given_alone s (message.Msm6 m) = inl refl
+given_alone s (message.Msm7 m) = inl refl
+given_alone s (message.Other number set) = inl refl
 
 closes_none : (g : State) (m : Heard) → m.tow ≡ None → m.more ≡ None → closed_time g m ≡ None
 closes_none g m tow more = grind (arith, tow, more)
@@ -285,25 +288,30 @@ ended g s ms false h = by g.clock.pending refl where
   by false f = ended_none g s ms false h f
 
 -- A message with a time has no point.
-pub no_point : (s : GatherSetup) (xs : List Timed) (m : Message) → closes_first s xs (heard m) ≡ true → (heard m).point ≡ None
-no_point s xs m h = grind (arith, common_steps, h)
+pub no_point : (s own : GatherSetup) (xs : List Timed) (m : Message) → closes_first s xs (heard_by own m) ≡ true → (heard_by own m).point ≡ None
+no_point s own xs m h = grind (arith, common_steps, h)
 
 -- ---- what neither the pending epoch nor the lock records change
 
--- A field that doesn't depend on them.
-abbrev IsApart : (GathererValue → Bool) → Type 0
+-- A part that doesn't depend on them.
+abbrev IsApart : {A : Type 0} → (GathererValue → A) → Type 0
 IsApart f = (g : GathererValue) (e : EpochValue) (locks : List (Option KnownLock)) → f (record g { epoch = e; locks = locks }) ≡ f g
 
-load_apart : (f : GathererValue → Bool) → IsApart f → (l : Loaded) (xs : List HeardCell) → f (load l xs).state ≡ f l.state
+load_apart : {A : Type 0} (f : GathererValue → A) → IsApart f → (l : Loaded) (xs : List HeardCell) → f (load l xs).state ≡ f l.state
 load_apart f apart l [] = refl
 load_apart f apart l (x ∷ xs) = load_apart f apart (load_one l x) xs ∙ ap f (hold_is (outcome_in l.state x) l.state x) ∙ apart l.state _ l.state.locks
 
-loaded_apart : (f : GathererValue → Bool) → IsApart f → (accepted : Bool) (before : Option ℕ) (g : GathererValue) (m : Heard) → f (loaded_if accepted before g m).state ≡ f g
+loaded_apart : {A : Type 0} (f : GathererValue → A) → IsApart f → (accepted : Bool) (before : Option ℕ) (g : GathererValue) (m : Heard) → f (loaded_if accepted before g m).state ≡ f g
 loaded_apart f apart true before g m = load_apart f apart _ m.cells ∙ begun (is_same before g.clock.latest) where
   begun : (b : Bool) → f (if b then g else record g { epoch = empty_epoch (option_map_or (λ t. t) g.clock.latest 0) }) ≡ f g
   begun true = refl
   begun false = apart g _ g.locks
 loaded_apart f apart false before g m = refl
+
+-- The clock stays as it is while cells are loaded.
+pub loaded_clock : (accepted : Bool) (g : GathererValue) (m : Heard) → (loaded_where accepted g m).state.clock ≡ g.clock
+loaded_clock true g m = load_apart (λ v. v.clock) (λ v e locks. refl) _ m.cells
+loaded_clock false g m = refl
 
 closed_loaded : (accepted : Bool) (before : Option ℕ) (g : GathererValue) (m : Heard) → (loaded_if accepted before (with_time g m) m).state.just_closed ≡ is_some (closed_time g.clock m)
 closed_loaded accepted before g m = loaded_apart (λ v. v.just_closed) (λ v e locks. refl) accepted before (with_time g m) m
@@ -327,33 +335,63 @@ handed_is g m = step_apart (λ v. v.just_closed) (λ v e locks. refl) g m
 pub ended_is : (g : GathererValue) (m : Heard) → (take_step g m).state.has_ended ≡ g.has_ended
 ended_is g m = step_apart (λ v. v.has_ended) (λ v e locks. refl) g m
 
--- ---- the messages of a call that may close the epoch at its end
+-- ---- the cells are loaded while the epoch is pending
 
-abbrev resting : Loaded → Loaded
-resting l = record { state = rested l.state; counts = l.counts }
+-- With another value of whether an epoch is pending, and none just closed.
+abbrev standing_by : Bool → GathererValue → GathererValue
+standing_by p g = record g { clock = record g.clock { pending = p }; just_closed = false }
 
-one_rested : (l : Loaded) (x : HeardCell) → load_one (resting l) x ≡ resting (load_one l x)
-one_rested l x =
+abbrev standing_loaded : Bool → Loaded → Loaded
+standing_loaded p l = record { state = standing_by p l.state; counts = l.counts }
+
+one_standing : (p : Bool) (l : Loaded) (x : HeardCell) → load_one (standing_loaded p l) x ≡ standing_loaded p (load_one l x)
+one_standing p l x =
     let k = outcome_in l.state x in
-    ap (λ s. record { state = s; counts = count_in k l.counts }) (hold_is k (rested l.state) x ∙ sym (ap rested (hold_is k l.state x)))
+    ap (λ s. record { state = s; counts = count_in k l.counts }) (hold_is k (standing_by p l.state) x ∙ sym (ap (standing_by p) (hold_is k l.state x)))
 
-load_rested : (l : Loaded) (xs : List HeardCell) → load (resting l) xs ≡ resting (load l xs)
-load_rested l [] = refl
-load_rested l (x ∷ xs) = ap (λ v. load v xs) (one_rested l x) ∙ load_rested (load_one l x) xs
+load_standing : (p : Bool) (l : Loaded) (xs : List HeardCell) → load (standing_loaded p l) xs ≡ standing_loaded p (load l xs)
+load_standing p l [] = refl
+load_standing p l (x ∷ xs) = ap (λ v. load v xs) (one_standing p l x) ∙ load_standing p (load_one l x) xs
 
-pub loaded_rested : (accepted : Bool) (before : Option ℕ) (g : GathererValue) (m : Heard) → loaded_if accepted before (rested g) m ≡ resting (loaded_if accepted before g m)
-loaded_rested true before g m =
-    ap (λ v. with_unlisted m.unlisted (load (record { state = v; counts = no_counts }) m.cells)) (begun (is_same before g.clock.latest))
-    ∙ ap (with_unlisted m.unlisted) (load_rested (record { state = epoch_begun before g; counts = no_counts }) m.cells) where
-      begun : (b : Bool) → (if b then rested g else record (rested g) { epoch = empty_epoch (option_map_or (λ t. t) g.clock.latest 0) })
-          ≡ rested (if b then g else record g { epoch = empty_epoch (option_map_or (λ t. t) g.clock.latest 0) })
-      begun b = grind (arith, common_steps)
-loaded_rested false before g m = refl
+loaded_standing : (accepted p : Bool) (g : GathererValue) (m : Heard) → loaded_where accepted (standing_by p g) m ≡ standing_loaded p (loaded_where accepted g m)
+loaded_standing true p g m = ap (with_unlisted m.unlisted) (load_standing p (record { state = g; counts = no_counts }) m.cells)
+loaded_standing false p g m = refl
+
+-- The cells of the message, from the epoch that has begun.
+loaded_begun : (g : GathererValue) (m : Heard) (accepted : Bool) → is_accepted (kind_by g.clock no_counts m) ≡ accepted
+    → loaded_where accepted (epoch_begun g.clock.latest (with_time g m)) m ≡ loaded_if accepted g.clock.latest (with_time g m) m
+loaded_begun g m true e = refl
+loaded_begun g m false e =
+    ap (λ b. record { state = if b then with_time g m else record (with_time g m) { epoch = empty_epoch (option_map_or (λ t. t) (with_time g m).clock.latest 0) }; counts = no_counts })
+    (same_latest g.clock m e)
+
+abbrev pub loads : GathererValue → Heard → Loaded
+loads g m = loaded_if (is_accepted (kind_by g.clock no_counts m)) g.clock.latest (with_time g m) m
+
+-- What a message loads while its epoch is pending.
+pub loaded_by : (g : GathererValue) (m : Heard)
+    → loaded_where (is_accepted (kind_by g.clock no_counts m)) (begun_by g m) m ≡ standing_loaded (open_by g.clock m).pending (loads g m)
+loaded_by g m =
+    let accepted = is_accepted (kind_by g.clock no_counts m) in
+    let p = (open_by g.clock m).pending in
+    let v = epoch_begun g.clock.latest (with_time g m) in
+    ap (λ (v : GathererValue). loaded_where accepted v m) (began (is_same g.clock.latest (with_time g m).clock.latest))
+    ∙ loaded_standing accepted p v m ∙ ap (standing_loaded p) (loaded_begun g m accepted refl) where
+      began : (b : Bool) → record (if b then with_time g m else record (with_time g m) { epoch = empty_epoch (option_map_or (λ t. t) (with_time g m).clock.latest 0) })
+          { clock = open_by g.clock m; just_closed = false }
+          ≡ standing_by (open_by g.clock m).pending (if b then with_time g m else record (with_time g m) { epoch = empty_epoch (option_map_or (λ t. t) (with_time g m).clock.latest 0) })
+      began true = ap (λ c. record (with_time g m) { clock = c; just_closed = false }) (heard_step g.clock m)
+      began false = ap (λ c. record (with_time g m) { clock = c; epoch = empty_epoch (option_map_or (λ t. t) (with_time g m).clock.latest 0); just_closed = false }) (heard_step g.clock m)
 
 -- The step of the gatherer, from what its message loads and whether the epoch is closed then.
-pub closed_is : (g : GathererValue) (m : Heard) (l : Loaded) (closed : Bool) → l ≡ loaded_if (is_accepted (kind_by g.clock no_counts m)) g.clock.latest (rested (with_time g m)) m
-    → closed ≡ is_some (closed_time g.clock m) → closed_noted (just_closed_as closed l.state) ≡ (take_step g m).state
-closed_is g m l closed e is =
+pub closed_is : (g : GathererValue) (m : Heard) (l : Loaded) (closed : Bool) → l ≡ loaded_where (is_accepted (kind_by g.clock no_counts m)) (begun_by g m) m
+    → closed ≡ is_some (closed_time g.clock m) → ended_where closed (open_by g.clock m) ≡ step_by g.clock m → closed_noted (shut_where closed l.state) ≡ (take_step g m).state
+closed_is g m l closed e is ended =
     let accepted = is_accepted (kind_by g.clock no_counts m) in
-    ap (λ (v : Loaded). closed_noted (just_closed_as closed v.state)) (e ∙ loaded_rested accepted g.clock.latest (with_time g m) m)
-    ∙ ap (λ b. closed_noted (just_closed_as b (loaded_if accepted g.clock.latest (with_time g m) m).state)) (is ∙ sym (closed_loaded accepted g.clock.latest g m)) ∙ noted_is g m
+    let v = (loads g m).state in
+    let clock : v.clock ≡ step_by g.clock m = loaded_apart (λ v. v.clock) (λ v e locks. refl) accepted g.clock.latest (with_time g m) m in
+    let shut : ended_where closed (record v.clock { pending = (open_by g.clock m).pending }) ≡ v.clock =
+    ap (λ (c : State). ended_where closed (record c { pending = (open_by g.clock m).pending })) clock
+    ∙ ap (ended_where closed) (sym (heard_step g.clock m)) ∙ ended ∙ sym clock in
+    ap (λ (k : Loaded). closed_noted (shut_where closed k.state)) (e ∙ loaded_by g m)
+    ∙ ap₂ (λ c b. closed_noted (record v { clock = c; just_closed = b })) shut (is ∙ sym (closed_loaded accepted g.clock.latest g m)) ∙ noted_is g m

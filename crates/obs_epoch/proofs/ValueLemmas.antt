@@ -1,13 +1,14 @@
 -- The value of a gatherer: with one more cell, after a message, and when its epoch is closed.
 use Rattle.std.proofs.Common.{◌≡◌, ℕ, Bool, true, false, List, [], ◌∷◌, ◌++◌, refl, sym, ap, ap₂, ◌∙◌, subst, arith, length, Option, is_some, if◌then◌else◌, All}
 use Rattle.std.proofs.lemmas.List.Elements.{All-nil, All-push}
-use Rattle.obs_epoch.specs.Names.{System, Cell, EpochValue, PlanValue, planned_of, cells_of, PendingValue, KnownLock, place_in, is_planned, has_same_key, GatherSetup, Heard, IsKey, HeardCell, kept_cell, heard_cell, insert_by, cell_sort_key, Skipped, lookup, outcome_of_added, values_after_message, StationValues, is_held, GathererValue, with_more_in, with_more, outcome_in, hold, hold_by, just_closed_as, noted, rested, with_time, IsPending, AreSortedByPlan, HasPlannedCells, IsPlanned, empty_epoch, Added, IsAdded, cells_after, epoch_with, outcome_by, sorted_cells, sorted_epoch, State, step_by, lli_with}
+use Rattle.obs_epoch.specs.Names.{System, Cell, EpochValue, PlanValue, planned_of, cells_of, CellLists, Closed, KeepsEpoch, KnownLock, place_in, is_planned, has_same_key, GatherSetup, Heard, IsKey, HeardCell, kept_cell, heard_cell, insert_by, cell_sort_key, Skipped, lookup, outcome_of_added, values_after_message, StationValues, is_held, GathererValue, with_more_in, with_more, outcome_in, hold, hold_by, noted, begun_by, with_time, HasPlannedCells, IsPlanned, empty_epoch, epoch_in, open_by, is_same, no_cells, option_map_or, time_in, Added, IsAdded, cells_after, epoch_with, outcome_by, sorted_cells, sorted_epoch, State, step_by, lli_with}
 use Rattle.gnss_system.specs.Systems.{systems}
-use Rattle.gnss_system.specs.SystemValues.{with_value_of, tabulate}
+use Rattle.gnss_system.specs.SystemValues.{value_of, with_value_of, tabulate}
 use Rattle.gnss_system.proofs.SystemLaws.{each_after, value_tabulated, tabulated_after, with_same as same_after}
 use Rattle.obs_epoch.specs.Held.{note_systems}
-use Rattle.gnss_obs.proofs.SortLemmas.{epoch_same, planned_sorted}
-use Rattle.gnss_obs.specs.declared.arrivals.Added.TheVariants as added
+use Rattle.obs_epoch.proofs.ClockLemmas.{same_state}
+use Rattle.obs_epoch.proofs.HeardLemmas.{heard_step}
+use Rattle.gnss_obs.specs.declared.epoch_cells.Added.TheVariants as added
 use Rattle.std.proofs.lemmas.List.Sums.{fold-append}
 use Rattle.std.proofs.lemmas.List.Sorted.{list_any-IsPermutation, length_permutation}
 use Rattle.gnss_obs.proofs.OrderLemmas.{sort_moves}
@@ -71,32 +72,32 @@ hold_after added.Repeated g x lli e = refl
 hold_after added.Crowded g x lli e = refl
 
 -- A cell that arrives is held.
-pub held_is : (g : GathererValue) {e new : EpochValue} (x : HeardCell) {lli : ℕ} {k : Added} → g.epoch ≡ sorted_epoch g.clock.setup.plan e → is_planned g.clock.setup x ≡ true
-    → lli ≡ lli_with g.epoch.time x (lookup g.locks x) → IsAdded e (kept_cell x lli) k new → record g { epoch = sorted_epoch g.clock.setup.plan new } ≡ hold g x
+pub held_is : (g : GathererValue) {e : EpochValue} {new : CellLists} (x : HeardCell) {lli : ℕ} {k : Added} → g.epoch ≡ sorted_epoch g.clock.setup.plan e → is_planned g.clock.setup x ≡ true
+    → lli ≡ lli_with g.epoch.time x (lookup g.locks x) → IsAdded e.cells (kept_cell x lli) k new → record g { epoch = sorted_epoch g.clock.setup.plan (record e { cells = new }) } ≡ hold g x
 held_is g {e} x {lli} {k} is planned mark added =
     let p = g.clock.setup.plan in
-    ap (λ v. record g { epoch = v }) (ap (sorted_epoch p) added.epoch ∙ sorted_after k p e (kept_cell x lli) ∙ ap (λ v. epoch_after k p v (kept_cell x lli)) (sym is))
+    ap (λ v. record g { epoch = v }) (ap (λ cells. sorted_epoch p (record e { cells = cells })) added.lists ∙ sorted_after k p e (kept_cell x lli) ∙ ap (λ v. epoch_after k p v (kept_cell x lli)) (sym is))
     ∙ hold_after k g x lli mark ∙ ap (λ o. hold_by o g x) (ap outcome_of_added added.outcome ∙ sym (outcome_added g p e x is planned))
 
-pub outcome_is : (g : GathererValue) {e new : EpochValue} (x : HeardCell) (lli : ℕ) {k : Added} → g.epoch ≡ sorted_epoch g.clock.setup.plan e → is_planned g.clock.setup x ≡ true
-    → IsAdded e (kept_cell x lli) k new → outcome_of_added k ≡ outcome_in g x
+pub outcome_is : (g : GathererValue) {e : EpochValue} {new : CellLists} (x : HeardCell) (lli : ℕ) {k : Added} → g.epoch ≡ sorted_epoch g.clock.setup.plan e → is_planned g.clock.setup x ≡ true
+    → IsAdded e.cells (kept_cell x lli) k new → outcome_of_added k ≡ outcome_in g x
 outcome_is g {e} x lli is planned added = ap outcome_of_added added.outcome ∙ sym (outcome_added g g.clock.setup.plan e x is planned)
 
 -- The cells are still planned.
-pub planned_added : (p : PlanValue) (e new : EpochValue) (x : Cell) {k : Added} → IsPlanned (planned_of x.satellite.system p) x → HasPlannedCells p e → IsAdded e x k new → HasPlannedCells p new
-planned_added p e new x {k} own h a =
-    subst (HasPlannedCells p) (sym a.epoch)
-    (each_after (λ s cells. All (IsPlanned (planned_of s p)) cells) x.satellite.system e.cells (cells_after k (cells_of x.satellite.system e) x) h (by k)) where
-      by : (k : Added) → All (IsPlanned (planned_of x.satellite.system p)) (cells_after k (cells_of x.satellite.system e) x)
-      by added.Kept = All-push (IsPlanned (planned_of x.satellite.system p)) (cells_of x.satellite.system e) x (h x.satellite.system) own
+pub planned_added : (p : PlanValue) (old new : CellLists) (x : Cell) {k : Added} → IsPlanned (planned_of x.satellite.system p) x → HasPlannedCells p old → IsAdded old x k new → HasPlannedCells p new
+planned_added p old new x {k} own h a =
+    subst (HasPlannedCells p) (sym a.lists)
+    (each_after (λ s cells. All (IsPlanned (planned_of s p)) cells) x.satellite.system old (cells_after k (value_of x.satellite.system old) x) h (by k)) where
+      by : (k : Added) → All (IsPlanned (planned_of x.satellite.system p)) (cells_after k (value_of x.satellite.system old) x)
+      by added.Kept = All-push (IsPlanned (planned_of x.satellite.system p)) (value_of x.satellite.system old) x (h x.satellite.system) own
       by added.Repeated = h x.satellite.system
       by added.Crowded = h x.satellite.system
 
-pub none_planned : (p : PlanValue) (t : ℕ) → HasPlannedCells p (empty_epoch t)
-none_planned p t = λ s. subst (All (IsPlanned (planned_of s p))) (sym (value_tabulated s (λ c. []))) (All-nil (IsPlanned (planned_of s p)))
+pub none_planned : (p : PlanValue) → HasPlannedCells p no_cells
+none_planned p = λ s. subst (All (IsPlanned (planned_of s p))) (sym (value_tabulated s (λ c. []))) (All-nil (IsPlanned (planned_of s p)))
 
-pub step_setup : (g : State) (m : Heard) → (step_by g m).setup ≡ g.setup
-step_setup g m = grind (arith, common_steps)
+pub heard_setup : (g : State) (m : Heard) → (open_by g m).setup ≡ g.setup
+heard_setup g m = grind (arith, common_steps)
 
 -- ---- the value of the gatherer
 
@@ -104,46 +105,61 @@ pub never_both : (b : Bool) → b ≡ false → b ≡ true → ⊥
 never_both b e f = cc
 
 -- The value of a gatherer with these parts inside.
-abbrev pub gathered_of : State → PendingValue → List (Option KnownLock) → Bool → Bool → GathererValue
-gathered_of clock pending locks just_closed has_ended =
-    record { clock = clock; epoch = sorted_epoch clock.setup.plan pending.epoch; locks = locks; values = pending.values; just_closed = just_closed; has_ended = has_ended }
+abbrev pub gathered_of : State → CellLists → Closed → StationValues → List (Option KnownLock) → Bool → Bool → GathererValue
+gathered_of clock pending closed values locks just_closed has_ended =
+    record { clock = clock; epoch = epoch_in clock pending closed; locks = locks; values = values; just_closed = just_closed; has_ended = has_ended }
+
+abbrev pub open_epoch : State → CellLists → EpochValue
+open_epoch clock pending = record { time = time_in clock; cells = pending }
+
+-- The epoch while one is pending, and while none is.
+pub open_is : (clock : State) (pending : CellLists) (closed : Closed) → clock.pending ≡ true → epoch_in clock pending closed ≡ sorted_epoch clock.setup.plan (open_epoch clock pending)
+open_is clock pending closed e = ap (λ b. if b then sorted_epoch clock.setup.plan (open_epoch clock pending) else closed.epoch) e
+
+pub shut_is : (clock : State) (pending : CellLists) (closed : Closed) → clock.pending ≡ false → epoch_in clock pending closed ≡ closed.epoch
+shut_is clock pending closed e = ap (λ b. if b then sorted_epoch clock.setup.plan (open_epoch clock pending) else closed.epoch) e
+
+-- An epoch that begins has no cells.
+begins : (old new : State) (pending : CellLists) (closed : Closed) → KeepsEpoch old new → new.setup ≡ old.setup → (old.pending ≡ false → pending ≡ no_cells)
+    → epoch_in new pending closed ≡ (if is_same old.latest new.latest then epoch_in old pending closed else empty_epoch (time_in new))
+begins old new pending closed keeps setup none = by old.pending new.pending refl refl where
+  itself : (l : Option ℕ) → is_same l l ≡ true
+  itself l = grind (arith, common_steps)
+
+  unchanged : new ≡ old → epoch_in new pending closed ≡ (if is_same old.latest new.latest then epoch_in old pending closed else empty_epoch (time_in new))
+  unchanged e =
+      ap (λ (c : State). epoch_in c pending closed) e
+      ∙ ap (λ b. if b then epoch_in old pending closed else empty_epoch (time_in new)) (sym (itself old.latest) ∙ ap (λ (c : State). is_same old.latest c.latest) (sym e))
+
+  by : (was is : Bool) → old.pending ≡ was → new.pending ≡ is → epoch_in new pending closed ≡ (if is_same old.latest new.latest then epoch_in old pending closed else empty_epoch (time_in new))
+  by true is e f = let kept = keeps.kept e in unchanged (same_state new old.setup old.latest old.pending setup kept.1 (kept.0 ∙ sym e))
+  by false false e f = unchanged (keeps.none f)
+  by false true e f =
+      open_is new pending closed f ∙ ap (λ lists. sorted_epoch new.setup.plan (open_epoch new lists)) (none e)
+      ∙ ap (λ b. if b then epoch_in old pending closed else empty_epoch (time_in new)) (sym (keeps.begun e f))
 
 abbrev parts : GathererValue → State → EpochValue → StationValues → GathererValue
 parts g clock e values = record { clock = clock; epoch = e; locks = g.locks; values = values; just_closed = false; has_ended = g.has_ended }
 
 -- The value after the time and the station values of a message.
-pub heard_is : (g : GathererValue) {e new : EpochValue} {clock : State} {v values : StationValues} (m : Heard) → g.epoch ≡ sorted_epoch g.clock.setup.plan e → clock ≡ step_by g.clock m → new ≡ e
-    → v ≡ values → values ≡ values_after_message g.clock.setup g.values m
-    → record { clock = clock; epoch = sorted_epoch clock.setup.plan new; locks = g.locks; values = v; just_closed = false; has_ended = g.has_ended } ≡ rested (with_time g m)
-heard_is g {new} {clock} {v} m is step same given by_m =
-    ap (λ (c : State). parts g c (sorted_epoch c.setup.plan new) v) step
-    ∙ ap₂ (λ f u. parts g (step_by g.clock m) f u)
-    (ap (λ s. sorted_epoch s.plan new) (step_setup g.clock m) ∙ ap (sorted_epoch g.clock.setup.plan) same ∙ sym is) (given ∙ by_m)
+pub heard_is : (g : GathererValue) {clock : State} {pending : CellLists} (closed : Closed) {values : StationValues} (m : Heard) → g.epoch ≡ epoch_in g.clock pending closed → clock ≡ open_by g.clock m
+    → KeepsEpoch g.clock clock → (g.clock.pending ≡ false → pending ≡ no_cells) → values ≡ values_after_message g.clock.setup g.values m
+    → parts g clock (epoch_in clock pending closed) values ≡ begun_by g m
+heard_is g {clock} {pending} closed {values} m epoch is keeps none given =
+    ap₂ (λ e v. parts g clock e v) (begins g.clock clock pending closed keeps (ap (λ (c : State). c.setup) is ∙ heard_setup g.clock m) none) given
+    ∙ ap₂ (λ (c : State) (l : Option ℕ). after c (is_same g.clock.latest l) l) is latest
+    ∙ ap (λ e. parts g (open_by g.clock m) (if is_same g.clock.latest w.clock.latest then e else empty_epoch (option_map_or (λ t. t) w.clock.latest 0)) w.values) (sym epoch)
+    ∙ whole (is_same g.clock.latest w.clock.latest) where
+      w : GathererValue
+      w = with_time g m
 
--- ---- a closed epoch
+      latest : clock.latest ≡ w.clock.latest
+      latest = ap (λ (c : State). c.latest) (is ∙ heard_step g.clock m)
 
-abbrev pub closed_value : PlanValue → PendingValue → PendingValue
-closed_value p q = record { epoch = sorted_epoch p q.epoch; values = q.values; is_open = false }
+      after : State → Bool → Option ℕ → GathererValue
+      after c b l = parts g c (if b then epoch_in g.clock pending closed else empty_epoch (option_map_or (λ t. t) l 0)) w.values
 
--- A closed epoch is in order.
-pub pending_closed : (p : PlanValue) (q r : PendingValue) (b : Bool) → HasPlannedCells p q.epoch → AreSortedByPlan p r.epoch → r ≡ closed_value p q → IsPending p r b
-pending_closed p q r b planned order is = record {
-  planned = subst (HasPlannedCells p) (sym (ap (λ (v : PendingValue). v.epoch) is)) (planned_sorted p q.epoch planned);
-  closed = λ e. (ap (λ (v : PendingValue). v.is_open) is, epoch_same p r.epoch order, order);
-}
-
-abbrev closed_parts : GathererValue → EpochValue → List (Option KnownLock) → StationValues → GathererValue
-closed_parts g e l v = record { clock = g.clock; epoch = e; locks = l; values = v; just_closed = true; has_ended = g.has_ended }
-
--- The locks of a closed epoch are recorded.
-pub noted_closed : (g : GathererValue) (q : PendingValue) {r : PendingValue} {second : List (Option KnownLock)} → AreSortedByPlan g.clock.setup.plan r.epoch
-    → g.epoch ≡ sorted_epoch g.clock.setup.plan q.epoch → g.values ≡ q.values → r ≡ closed_value g.clock.setup.plan q → second ≡ note_systems r.epoch g.locks systems
-    → record { clock = g.clock; epoch = sorted_epoch g.clock.setup.plan r.epoch; locks = second; values = r.values; just_closed = true; has_ended = g.has_ended } ≡ noted (just_closed_as true g)
-noted_closed g q {r} {second} order epoch values is both =
-    ap (λ v. closed_parts g v second r.values) (epoch_same g.clock.setup.plan r.epoch order ∙ same)
-    ∙ ap₂ (λ l v. closed_parts g g.epoch l v) locks (ap (λ (v : PendingValue). v.values) is ∙ sym values) where
-      same : r.epoch ≡ g.epoch
-      same = ap (λ (v : PendingValue). v.epoch) is ∙ sym epoch
-
-      locks : second ≡ note_systems g.epoch g.locks systems
-      locks = both ∙ ap (λ (v : EpochValue). note_systems v g.locks systems) same
+      whole : (b : Bool) → parts g (open_by g.clock m) (if b then g.epoch else empty_epoch (option_map_or (λ t. t) w.clock.latest 0)) w.values
+          ≡ record (if b then w else record w { epoch = empty_epoch (option_map_or (λ t. t) w.clock.latest 0) }) { clock = open_by g.clock m; just_closed = false }
+      whole true = refl
+      whole false = refl

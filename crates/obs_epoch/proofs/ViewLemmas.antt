@@ -1,20 +1,19 @@
 -- A view and its message.
-use Rattle.std.proofs.Common.{arith, ◌≡◌, ◌∙◌, refl, Bool, true, Option, ℕ}
+use Rattle.std.proofs.Common.{arith, ◌≡◌, ◌∙◌, refl, Bool, true, ℕ}
+use Rattle.gnss_obs.specs.Channels.{ChannelsValue}
 use Rattle.obs_epoch.proofs.EntryLemmas.{load_entries_is}
-use Rattle.obs_epoch.specs.Names.{Message, Form, FormedMsm, formed, message_in, lock_field, summary, MsmValue, entries, heard, heard_msm, heard_summary, without_cells, System, GathererValue, epoch_begun, load_entries, loaded_if, no_counts}
+use Rattle.obs_epoch.specs.Names.{Message, Form, FormedMsm, formed, message_in, lock_field, summary, MsmValue, entries, heard, heard_by, heard_msm, heard_summary, without_cells, GathererValue, load_entries, loaded_where, no_counts}
 use Rattle.std.proofs.lemmas.Grind.{common_steps}
 
-pub summary_heard : (m : Message) → heard_summary (summary m) ≡ without_cells (heard m)
-summary_heard m = grind (arith, common_steps)
+by_form : (channels : ChannelsValue) (leap : ℕ) (f : Form) (v : MsmValue) → heard channels leap (message_in f v) ≡ heard_msm channels leap (lock_field f) v (entries (message_in f v))
+by_form channels leap f v = grind (arith, common_steps)
 
-by_form : (f : Form) (v : MsmValue) → heard (message_in f v) ≡ heard_msm (lock_field f) v (entries (message_in f v))
-by_form f v = grind (arith, common_steps)
+pub heard_formed : (channels : ChannelsValue) (leap : ℕ) (m : FormedMsm) → heard channels leap (formed m) ≡ heard_msm channels leap (lock_field m.form) m.msm (entries (formed m))
+heard_formed channels leap m = by_form channels leap m.form m.msm
 
-pub heard_formed : (m : FormedMsm) → heard (formed m) ≡ heard_msm (lock_field m.form) m.msm (entries (formed m))
-heard_formed m = by_form m.form m.msm
-
--- The entries of a view of this system, if the message is accepted.
-pub loaded_view : (m : FormedMsm) (system : System) (is_accepted : Bool) (before : Option ℕ) (g s : GathererValue) → system ≡ m.msm.system → is_accepted ≡ true → s ≡ epoch_begun before g
-    → load_entries (lock_field m.form) system (record { state = s; counts = no_counts }) (entries (formed m)) ≡ loaded_if is_accepted before g (heard (formed m))
-loaded_view m system is_accepted before g s same is begun =
-    load_entries_is (lock_field m.form) system (record { state = s; counts = no_counts }) (entries (formed m)) ∙ rw (same, begun, is, heard_formed m) refl
+-- The entries of a view, if the message is accepted.
+pub loaded_view : (m : FormedMsm) (is_accepted : Bool) (g : GathererValue) → is_accepted ≡ true
+    → load_entries (lock_field m.form) m.msm.system (record { state = g; counts = no_counts }) (entries (formed m)) ≡ loaded_where is_accepted g (heard_by g.clock.setup (formed m))
+loaded_view m is_accepted g is =
+    load_entries_is g.clock.setup.plan.channels (lock_field m.form) m.msm.system (record { state = g; counts = no_counts }) (entries (formed m)) refl
+    ∙ rw (is, heard_formed g.clock.setup.plan.channels g.clock.setup.leap m) refl

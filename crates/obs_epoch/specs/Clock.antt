@@ -1,5 +1,5 @@
 -- The value of a clock.
-use Rattle.std.specs.Prelude.{ℕ, ◌≡◌, ◌*◌, ◌<◌, ◌&&◌, Bool, false, not, nat_lt, List, Option}
+use Rattle.std.specs.Prelude.{ℕ, ◌≡◌, ◌*◌, ◌<◌, ◌&&◌, Bool, true, false, not, nat_lt, List, Option, is_some}
 use Rattle.std.specs.Option.{option_map_or, ForSome}
 use Rattle.obs_epoch.specs.Heard.{GatherSetup, Heard, is_own}
 use Rattle.rtcm_msg.specs.Msm.{week}
@@ -12,10 +12,11 @@ pub record State : Type 0 where
   pub latest : Option ℕ
   pub pending : Bool
 
--- The start week and the greatest time are within the weeks.
-pub record IsWithinWeeks (start_week : ℕ) (latest : Option ℕ) : Type 0 where
+-- The start week and the greatest time are within the weeks; a pending epoch has a time.
+pub record IsWithinWeeks (start_week : ℕ) (latest : Option ℕ) (pending : Bool) : Type 0 where
   pub start : start_week < weeks
   pub time : ForSome latest (λ t. t < weeks * week)
+  pub known : pending ≡ true → is_some latest ≡ true
 
 -- The epoch of the greatest time is not closed.
 abbrev pub is_pending : GatherSetup → List Timed → Bool

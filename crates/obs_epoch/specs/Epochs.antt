@@ -32,16 +32,12 @@ epochs s xs = map (epoch_at s xs) (times xs)
 abbrev pub is_shut : GatherSetup → List Timed → ℕ → Bool
 is_shut s xs t = is_closed s t xs || option_map_or (λ u. nat_lt t u) (greatest_time xs) false
 
--- The epochs that are closed within the list.
-abbrev pub closed_epochs : GatherSetup → List Timed → List EpochValue
-closed_epochs s xs = map (epoch_at s xs) (filter (is_shut s xs) (times xs))
-
 -- The point of a station message; the height is kept if the message has none.
-abbrev pub values_by : StationParts → ℕ → StationValues
-values_by p height = record { x = p.x; y = p.y; z = p.z; height = option_map_or (λ h. h) p.height height }
+abbrev pub values_from : StationParts → ℕ → StationValues
+values_from p height = record { x = p.x; y = p.y; z = p.z; height = option_map_or (λ h. h) p.height height }
 
 abbrev pub values_after_message : GatherSetup → StationValues → Heard → StationValues
-values_after_message s v m = if is_own s m then option_map_or (λ p. values_by p v.height) m.point v else v
+values_after_message s v m = if is_own s m then option_map_or (λ p. values_from p v.height) m.point v else v
 
 -- The point of the last own message that has one, and the last height; the initial values before.
 abbrev pub values_of : GatherSetup → List Heard → StationValues

@@ -13,32 +13,40 @@ use Rattle.obs_epoch.specs.Heard.{Heard, seen_in}
 use Rattle.gnss_obs.specs.HeardCells.{HeardCell, kept_cell}
 use Rattle.obs_epoch.specs.Cells.{no_counts, with_skipped}
 use Rattle.obs_epoch.specs.Kinds.{is_accepted}
-use Rattle.gnss_obs.specs.Values.{PlanValue, planned_of, EpochValue, cells_of, empty_epoch}
+use Rattle.gnss_obs.specs.Values.{PlanValue, planned_of, CellLists, Closed, EpochValue, cells_of, empty_epoch, no_cells}
 use Rattle.gnss_obs.specs.PlanOrder.{HasPlannedCells}
-use Rattle.gnss_obs.specs.Arriving.{sorted_epoch, epoch_with}
-use Rattle.gnss_obs.specs.Stages.{PendingValue}
+use Rattle.gnss_obs.specs.Arriving.{sorted_lists}
+use Rattle.gnss_system.specs.SystemValues.{with_value_of}
 use Rattle.gnss_obs.specs.Plans.{place_in}
 use Rattle.gnss_obs.specs.Order.{AreSortedByPlan, insert_by, cell_sort_key}
 use Rattle.obs_epoch.specs.Loss.{lli_with}
 use Rattle.obs_epoch.specs.Epochs.{values_after_message}
 use Rattle.obs_epoch.specs.Clock.{State}
-use Rattle.obs_epoch.specs.Step.{kind_by, step_by, closed_time}
+use Rattle.obs_epoch.specs.Step.{kind_by, step_by, open_by, ended_where, is_same, time_in, closed_time}
 use Rattle.gnss_obs.specs.declared.cell.Cell.{Cell}
 use Rattle.obs_epoch.specs.declared.locks.KnownLock.{KnownLock}
 use Rattle.obs_epoch.specs.declared.taken.CellCounts.{CellCounts}
 
--- ---- the pending epoch
+-- ---- the pending epoch, and the one closed last
 
-abbrev pub no_pending : StationValues → PendingValue
-no_pending values = record { epoch = empty_epoch 0; values = values; is_open = true }
+-- The pending epoch, its cells sorted; if none is pending, the one closed last.
+abbrev pub epoch_in : State → CellLists → Closed → EpochValue
+epoch_in clock pending last =
+    if clock.pending then record { time = time_in clock; cells = sorted_lists clock.setup.plan pending } else last.epoch
 
--- The cells are planned. An epoch that was just closed is in the order of the plan.
-pub record IsPending (p : PlanValue) (now : PendingValue) (just_closed : Bool) : Type 0 where
-  pub planned : HasPlannedCells p now.epoch
+-- The cells are planned, and there are none if no epoch is pending. An epoch that was just closed is in the order of the
+-- plan, and no epoch is pending.
+pub record IsGathering (clock : State) (pending : CellLists) (last : Closed) (values : StationValues)
+    (just_closed : Bool) : Type 0 where
+  pub planned : HasPlannedCells clock.setup.plan pending
+  pub none : clock.pending ≡ false → pending ≡ no_cells
   pub closed : just_closed ≡ true
-      → (now.is_open ≡ false) × (sorted_epoch p now.epoch ≡ now.epoch) × AreSortedByPlan p now.epoch
+      → (clock.pending ≡ false) × AreSortedByPlan clock.setup.plan last.epoch × (last.values ≡ values)
 
--- A sorted epoch after one more cell has arrived.
+abbrev pub epoch_with : System → EpochValue → List Cell → EpochValue
+epoch_with s e cells = record e { cells = with_value_of s e.cells cells }
+
+-- A sorted epoch after one more cell has arrived. A gatherer appends the cell; its value has the epoch sorted.
 abbrev pub with_more_in : System → PlanValue → EpochValue → Cell → EpochValue
 with_more_in s p e m = epoch_with s e (insert_by (cell_sort_key (planned_of s p)) m (cells_of s e))
 
@@ -88,11 +96,12 @@ abbrev pub with_unlisted : ℕ → Loaded → Loaded
 with_unlisted n l = record { state = l.state; counts = with_skipped n l.counts }
 
 abbrev pub load_entry : LockField → System → Loaded → Entry → Loaded
-load_entry field system l e = option_map_or (load_one l) (seen_in field system e) (with_unlisted 1 l)
+load_entry field system l e =
+    option_map_or (load_one l) (seen_in l.state.clock.setup.plan.channels field system e) (with_unlisted 1 l)
 
--- The system with this number.
-abbrev pub system_as : ℕ → System
-system_as number = if number == 0 then Gps else Galileo
+-- A system by number: 0 is GPS, 1 Galileo, and any other number a given system.
+abbrev pub system_as : ℕ → System → System
+system_as number system = if number == 0 then Gps else (if number == 1 then Galileo else system)
 
 -- The entries of a message, one by one.
 abbrev pub load_entries : LockField → System → Loaded → List Entry → Loaded
@@ -113,12 +122,6 @@ closed_noted g = if g.just_closed then noted g else g
 
 -- ---- a whole message
 
-abbrev pub is_same : Option ℕ → Option ℕ → Bool
-is_same None None = true
-is_same None (Some b) = false
-is_same (Some a) None = false
-is_same (Some a) (Some b) = a == b
-
 -- The epoch of the greatest time, without cells if that time is new.
 abbrev pub epoch_begun : Option ℕ → GathererValue → GathererValue
 epoch_begun before g =
@@ -131,6 +134,12 @@ loaded_if accepted before g m =
     if accepted then load_heard (record { state = epoch_begun before g; counts = no_counts }) m
     else record { state = g; counts = no_counts }
 
+-- The cells of a message are kept in the epoch that has begun, if it is accepted.
+abbrev pub loaded_where : Bool → GathererValue → Heard → Loaded
+loaded_where accepted g m =
+    if accepted then load_heard (record { state = g; counts = no_counts }) m
+    else record { state = g; counts = no_counts }
+
 -- The clock and the station values process the message.
 abbrev pub with_time : GathererValue → Heard → GathererValue
 with_time g m =
@@ -140,6 +149,10 @@ with_time g m =
       just_closed = is_some (closed_time g.clock m);
     }
 
+-- The same before the cells of the message, and before its epoch is closed.
+abbrev pub begun_by : GathererValue → Heard → GathererValue
+begun_by g m = record (epoch_begun g.clock.latest (with_time g m)) { clock = open_by g.clock m; just_closed = false }
+
 abbrev pub closed_if : Bool → Loaded → Loaded
 closed_if b l = record { state = if b then noted l.state else l.state; counts = l.counts }
 
@@ -148,8 +161,9 @@ take_step g m =
     closed_if (is_some (closed_time g.clock m))
     (loaded_if (is_accepted (kind_by g.clock no_counts m)) g.clock.latest (with_time g m) m)
 
-abbrev pub just_closed_as : Bool → GathererValue → GathererValue
-just_closed_as closed g = record g { just_closed = closed }
+-- The pending epoch is closed, or no epoch.
+abbrev pub shut_where : Bool → GathererValue → GathererValue
+shut_where closed g = record g { clock = ended_where closed g.clock; just_closed = closed }
 
 -- The last call closed no epoch.
 abbrev pub rested : GathererValue → GathererValue

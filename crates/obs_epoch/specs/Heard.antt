@@ -1,36 +1,43 @@
 -- The setup of a gatherer, and the parts of a message that it uses.
 use Rattle.std.specs.Prelude.{ℕ, ◌==◌, ◌&&◌, Bool, true, false, not, List, [], ◌∷◌, if◌then◌else◌}
-use Rattle.std.specs.Prelude.{Option, Some, None, option_map, option_and_then, filter_map, ◌+◌, is_some}
+use Rattle.std.specs.Prelude.{Option, Some, None, option_map, option_and_then, filter_map, ◌+◌, ◌-◌, ◌*◌, ◌/◌, ◌%◌, ◌^◌}
+use Rattle.std.specs.Prelude.{is_some}
 use Rattle.std.specs.Prelude.{Result, Ok, Err}
 use Rattle.std.specs.Option.{option_map_or}
 use Rattle.gnss_system.specs.declared.system.System.{System}
+use Rattle.gnss_system.specs.declared.system.System.TheVariants.{Beidou, Glonass}
 use Rattle.gnss_system.specs.Satellites.{Satellite, satellite_of_id}
-use Rattle.gnss_system.specs.Signals.{SignalAt, signal_of_id, hertz_of}
-use Rattle.gnss_obs.specs.Observables.{nearest_pseudorange, nearest_phase, nearest_doppler, nearest_strength}
+use Rattle.gnss_system.specs.Signals.{SignalAt, signal_of_id}
+use Rattle.gnss_obs.specs.Channels.{ChannelsValue, hertz_in}
+use Rattle.gnss_obs.specs.Observables.{nearest_pseudorange, phase_by, doppler_by, nearest_strength}
+use Rattle.gnss_obs.specs.Weeks.{day}
 use Rattle.gnss_obs.specs.LockTimes.{LockTime, times4, times7}
 use Rattle.rtcm_msg.specs.declared.station.StationParts.{StationParts}
 use Rattle.rtcm_msg.specs.declared.entry.Entry.{Entry}
 use Rattle.rtcm_msg.specs.declared.message.Message.{Message}
 use Rattle.rtcm_msg.specs.declared.message.Message.TheVariants as message
-use Rattle.rtcm_msg.specs.Msm.{MsmValue}
+use Rattle.rtcm_msg.specs.Msm.{MsmValue, week}
 use Rattle.rtcm_msg.specs.declared.entry.LockField.{LockField}
 use Rattle.rtcm_msg.specs.declared.entry.LockField.TheVariants.{Df402, Df407}
 use Rattle.rtcm_msg.specs.declared.summary.Summary.{Summary}
 use Rattle.rtcm_msg.specs.declared.fault.MsgFault.{MsgFault}
-use Rattle.rtcm_msg.specs.Decoding.{message_at}
+use Rattle.rtcm_msg.specs.Decoding.{message_at, message_with}
+use Rattle.rtcm_msg.specs.declared.number.MsmSet.{MsmSet}
 use Rattle.rtcm_msg.specs.Entries.{entries}
 use Rattle.gnss_obs.specs.Values.{PlanValue}
 use Rattle.gnss_obs.specs.declared.cell.StationValues.{StationValues}
 use Rattle.gnss_obs.specs.HeardCells.{HeardCell}
 
 -- The setup of a gatherer: the planned signals, the week of the first time, the station (none: the messages of all
--- stations as if they were one), whether a message may close an epoch, and the station values before any message.
+-- stations as if they were one), whether a message may close an epoch, the station values before any message, and GPS
+-- time minus UTC in seconds.
 pub record GatherSetup : Type 0 where
   pub plan : PlanValue
   pub start_week : ℕ
   pub station : Option ℕ
   pub by_bit : Bool
   pub initial : StationValues
+  pub leap : ℕ
 
 -- The parts of a message that a gatherer uses: the station, if the message has one; the time of week, if it has
 -- observations; whether more messages of the same time follow, if it contains DF393; its cells of listed satellites and
@@ -43,23 +50,23 @@ pub record Heard : Type 0 where
   pub unlisted : ℕ
   pub point : Option StationParts
 
--- The values of a cell in thousandths, and its lock.
-abbrev pub observed : LockTime → Entry → Satellite → SignalAt → HeardCell
-observed lock e satellite signal = record {
+-- The values of a cell in thousandths, and its lock: a phase and a shift only at a known carrier.
+abbrev pub observed : ChannelsValue → LockTime → Entry → Satellite → SignalAt → HeardCell
+observed channels lock e satellite signal = record {
   satellite = satellite;
   signal = signal;
   c = option_map nearest_pseudorange e.range;
-  l = option_map (nearest_phase (hertz_of signal)) e.phase;
-  d = option_map (nearest_doppler (hertz_of signal)) e.rate;
+  l = phase_by (hertz_in channels satellite signal) e.phase;
+  d = doppler_by (hertz_in channels satellite signal) e.rate;
   s = option_map nearest_strength e.strength;
   lock = lock;
   half_cycle = e.half_cycle;
 }
 
 -- A cell of a message, if its satellite and its signal are listed.
-abbrev pub seen_by : LockTime → System → Entry → Option HeardCell
-seen_by lock system e =
-    option_and_then (λ satellite. option_map (observed lock e satellite) (signal_of_id system e.signal))
+abbrev pub seen_by : ChannelsValue → LockTime → System → Entry → Option HeardCell
+seen_by channels lock system e =
+    option_and_then (λ satellite. option_map (observed channels lock e satellite) (signal_of_id system e.signal))
     (satellite_of_id system e.satellite)
 
 -- The lock of a lock time indicator of this field.
@@ -68,30 +75,42 @@ lock_by Df402 code = times4 code
 lock_by Df407 code = times7 code
 
 -- A cell of a message of this lock field and system.
-abbrev pub seen_in : LockField → System → Entry → Option HeardCell
-seen_in field system e = seen_by (lock_by field e.lock) system e
+abbrev pub seen_in : ChannelsValue → LockField → System → Entry → Option HeardCell
+seen_in channels field system e = seen_by channels (lock_by field e.lock) system e
 
 -- The number of cells of an unlisted satellite or signal.
-abbrev pub unlisted_in : LockField → System → List Entry → ℕ
-unlisted_in field system [] = 0
-unlisted_in field system (e ∷ es) = (if is_some (seen_in field system e) then 0 else 1) + unlisted_in field system es
+abbrev pub unlisted_in : ChannelsValue → LockField → System → List Entry → ℕ
+unlisted_in channels field system [] = 0
+unlisted_in channels field system (e ∷ es) =
+    (if is_some (seen_in channels field system e) then 0 else 1) + unlisted_in channels field system es
 
-abbrev pub heard_msm : LockField → MsmValue → List Entry → Heard
-heard_msm field m es = record {
+-- The time of week in GPS time of an epoch time, both in milliseconds, with GPS time minus UTC in seconds: BeiDou time
+-- is 14 s less than GPS time; GLONASS time is UTC plus 3 h, a day of the week in 3 bits (DF416) and a time of day in 27
+-- (DF034).
+abbrev pub tow_of : System → ℕ → ℕ → ℕ
+tow_of Beidou leap time = (time + 14_000) % week
+tow_of Glonass leap time = (day * (time / 2 ^ 27) + time % 2 ^ 27 + (week - 10_800_000) + 1000 * leap) % week
+tow_of system leap time = time
+
+abbrev pub heard_msm : ChannelsValue → ℕ → LockField → MsmValue → List Entry → Heard
+heard_msm channels leap field m es = record {
   station = Some m.header.station;
-  tow = Some m.header.time;
+  tow = Some (tow_of m.system leap m.header.time);
   more = Some m.header.more;
-  cells = filter_map (seen_in field m.system) es;
-  unlisted = unlisted_in field m.system es;
+  cells = filter_map (seen_in channels field m.system) es;
+  unlisted = unlisted_in channels field m.system es;
   point = None;
 }
 
-abbrev pub heard : Message → Heard
-heard (message.Station p) =
+-- The parts of a message, with these channels of GLONASS satellites and leap seconds.
+abbrev pub heard : ChannelsValue → ℕ → Message → Heard
+heard channels leap (message.Station p) =
     record { station = Some p.station; tow = None; more = None; cells = []; unlisted = 0; point = Some p }
-heard (message.Msm4 m) = heard_msm Df402 m (entries (message.Msm4 m))
-heard (message.Msm7 m) = heard_msm Df407 m (entries (message.Msm7 m))
-heard (message.Other number set) =
+heard channels leap (message.Msm4 m) = heard_msm channels leap Df402 m (entries (message.Msm4 m))
+heard channels leap (message.Msm5 m) = heard_msm channels leap Df402 m (entries (message.Msm5 m))
+heard channels leap (message.Msm6 m) = heard_msm channels leap Df407 m (entries (message.Msm6 m))
+heard channels leap (message.Msm7 m) = heard_msm channels leap Df407 m (entries (message.Msm7 m))
+heard channels leap (message.Other number set) =
     record {
       station = option_map (λ p. p.0) set;
       tow = None;
@@ -100,6 +119,10 @@ heard (message.Other number set) =
       unlisted = 0;
       point = None;
     }
+
+-- The same with those of a setup.
+abbrev pub heard_by : GatherSetup → Message → Heard
+heard_by s m = heard s.plan.channels s.leap m
 
 -- A message without its cells.
 abbrev pub without_cells : Heard → Heard
@@ -118,10 +141,13 @@ abbrev pub ends_epoch : GatherSetup → Heard → Bool
 ends_epoch s m = s.by_bit && is_own s m && option_map_or not m.more false
 
 -- The parts of a message, or `None` if it was refused.
-abbrev pub heard_of : Result Message MsgFault → Option Heard
-heard_of (Ok m) = Some (heard m)
-heard_of (Err e) = None
+abbrev pub heard_of : ChannelsValue → ℕ → Result Message MsgFault → Option Heard
+heard_of channels leap (Ok m) = Some (heard channels leap m)
+heard_of channels leap (Err e) = None
 
--- The parts of the message in these bytes.
-abbrev pub heard_in : List ℕ → Option Heard
-heard_in bytes = heard_of (message_at bytes)
+-- The parts of the message in these bytes, if the MSMs of this set are decoded, and if all are.
+abbrev pub heard_in : ChannelsValue → ℕ → MsmSet → List ℕ → Option Heard
+heard_in channels leap set bytes = heard_of channels leap (message_with set bytes)
+
+abbrev pub heard_at : ChannelsValue → ℕ → List ℕ → Option Heard
+heard_at channels leap bytes = heard_of channels leap (message_at bytes)

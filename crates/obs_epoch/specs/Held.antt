@@ -18,8 +18,8 @@ use Rattle.obs_epoch.specs.declared.locks.Keys.{Keys}
 use Rattle.obs_epoch.specs.declared.taken.CellCounts.{CellCounts}
 use Rattle.gnss_obs.specs.PlanOrder.{is_held}
 use Rattle.gnss_obs.specs.Arriving.{outcome_by}
-use Rattle.gnss_obs.specs.declared.arrivals.Added.{Added}
-use Rattle.gnss_obs.specs.declared.arrivals.Added.TheVariants as added
+use Rattle.gnss_obs.specs.declared.epoch_cells.Added.{Added}
+use Rattle.gnss_obs.specs.declared.epoch_cells.Added.TheVariants as added
 
 -- ---- lock records: an entry for each key, system after system
 

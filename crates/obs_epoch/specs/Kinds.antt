@@ -5,6 +5,7 @@ use Rattle.obs_epoch.specs.declared.taken.Kind.TheVariants as kinds
 use Rattle.std.specs.Prelude.{nat_lt}
 use Rattle.std.specs.Option.{option_map_or}
 use Rattle.obs_epoch.specs.declared.taken.Gather.{Gather}
+use Rattle.obs_epoch.specs.declared.taken.GatherOptions.{GatherOptions}
 use Rattle.obs_epoch.specs.declared.taken.Gather.TheVariants as gathers
 use Rattle.gnss_obs.specs.Values.{PlanValue}
 use Rattle.obs_epoch.specs.Heard.{GatherSetup, Heard, is_own}
@@ -50,9 +51,20 @@ is_by_bit gathers.Bit = true
 is_by_bit gathers.Time = false
 
 -- The setup of a gatherer with these arguments.
+abbrev pub setup_by : PlanValue → ℕ → Option ℕ → Gather → GatherOptions → GatherSetup
+setup_by plan start_week station gather options = record {
+  plan = plan;
+  start_week = start_week;
+  station = station;
+  by_bit = is_by_bit gather;
+  initial = options.initial;
+  leap = options.leap_seconds;
+}
+
+-- The same with 18 leap seconds.
 abbrev pub setup_with : PlanValue → ℕ → Option ℕ → Gather → StationValues → GatherSetup
 setup_with plan start_week station gather initial =
-    record { plan = plan; start_week = start_week; station = station; by_bit = is_by_bit gather; initial = initial }
+    setup_by plan start_week station gather (record { initial = initial; leap_seconds = 18 })
 
 -- The same setup with station values of 0.
 abbrev pub setup_of : PlanValue → ℕ → Option ℕ → Gather → GatherSetup

@@ -15,3 +15,4 @@ pub mod Laws
 pub mod Reach
 pub mod SignalCounts
 pub mod Names
+pub mod Sets

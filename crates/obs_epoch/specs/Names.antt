@@ -4,12 +4,12 @@ pub use Rattle.std.specs.Option.{option_map_or}
 pub use Rattle.gnss_obs.specs.GatheredEpochs.{AreGathered, AreGatheredEpochs, AreStationValues, IsGathered, IsGatheredEpoch, IsStrength, TimesRise, same_place}
 pub use Rattle.gnss_obs.specs.HeardCells.{HeardCell, IsKey, has_same_key, kept_cell}
 pub use Rattle.gnss_obs.specs.LockTimes.{LockTime}
-pub use Rattle.gnss_obs.specs.Names.{AreSortedByPlan, Closed, EpochValue, HasPlannedCells, IsAdded, IsHeld, IsPlanned, IsSignal, PendingValue, PlanValue, Satellite, SignalAt, SortKey, SortKeysRise, cell_sort_key, cells_after, cells_of, epoch_with, heard_cell, hertz_of, id_of, insert_by, is_before, is_held, nearest_doppler, nearest_phase, nearest_pseudorange, nearest_strength, outcome_by, place_in, planned_of, signal_of_id, sorted_cells, sorted_epoch, table, weeks}
+pub use Rattle.gnss_obs.specs.Names.{AreSortedByPlan, Closed, EpochValue, HasPlannedCells, IsAdded, IsHeld, IsPlanned, IsSignal, CellLists, PlanValue, Satellite, SignalAt, SortKey, SortKeysRise, cell_sort_key, cells_after, cells_of, heard_cell, hertz_of, id_of, insert_by, is_before, is_held, nearest_doppler, nearest_phase, nearest_pseudorange, nearest_strength, outcome_by, place_in, planned_of, signal_of_id, no_cells, sorted_cells, sorted_epoch, sorted_lists, table, weeks}
 pub use Rattle.gnss_obs.specs.Order.{sort_key_of, sorted}
 pub use Rattle.gnss_system.specs.Satellites.{satellite_of_id, satellite_set}
 pub use Rattle.gnss_system.specs.Systems.{is_system}
 pub use Rattle.gnss_obs.specs.Values.{HasTwelveDigits, empty_epoch, most_cells, no_values}
-pub use Rattle.gnss_obs.specs.declared.arrivals.Added.{Added}
+pub use Rattle.gnss_obs.specs.declared.epoch_cells.Added.{Added}
 pub use Rattle.gnss_obs.specs.declared.cell.Cell.{Cell}
 pub use Rattle.gnss_obs.specs.declared.cell.StationValues.{StationValues}
 pub use Rattle.gnss_system.specs.declared.system.System.TheVariants.{Galileo, Gps}
@@ -19,16 +19,16 @@ pub use Rattle.obs_epoch.specs.Calls.{IsCloseFirstExactly}
 pub use Rattle.obs_epoch.specs.Cells.{add, cells_at, cells_counted, counts_of, counts_of_message, firsts, firsts_after, has_listed_key, is_among, is_of_system, is_planned, kept, kept_of_all, no_counts, offered, with_skipped}
 pub use Rattle.obs_epoch.specs.Clock.{HasHeardMessages, State, closes_first, is_pending}
 pub use Rattle.obs_epoch.specs.Epochs.{cells_with_lli, closed_so_far, closed_times, epoch_at, is_shut, values_after_message, values_of}
-pub use Rattle.obs_epoch.specs.GathererSteps.{GathererValue, IsPending, Loaded, closed_if, closed_noted, end_step, epoch_begun, hold, hold_by, is_same, just_closed_as, load, load_entries, load_one, loaded_if, noted, outcome_in, planned_cell, rested, take_step, with_more, with_more_in, with_time, with_unlisted}
+pub use Rattle.obs_epoch.specs.GathererSteps.{GathererValue, IsGathering, Loaded, begun_by, closed_if, closed_noted, end_step, epoch_begun, epoch_in, epoch_with, hold, hold_by, load, load_entries, load_one, loaded_if, loaded_where, noted, outcome_in, planned_cell, rested, shut_where, take_step, with_more, with_more_in, with_time, with_unlisted}
 pub use Rattle.obs_epoch.specs.GathererAfter.{HasTakenMessages, Locked, held_at, locked_in}
 pub use Rattle.obs_epoch.specs.GathererHistory.{HasGatheredEpochs, IsAwaited, all_epochs, before_closing, closed_list_at, open_after, returned_epoch}
-pub use Rattle.obs_epoch.specs.Heard.{GatherSetup, Heard, ends_epoch, heard, heard_msm, heard_summary, is_own, lock_by, observed, seen_in, unlisted_in, without_cells}
+pub use Rattle.obs_epoch.specs.Heard.{GatherSetup, Heard, ends_epoch, heard, heard_by, heard_msm, heard_summary, is_own, lock_by, observed, seen_in, unlisted_in, without_cells}
 pub use Rattle.obs_epoch.specs.Held.{CellOutcome, Crowded, Kept, Repeated, Skipped, TracksLocks, count_in, lock_place, lookup, most_locks, no_locks, note, note_all, outcome_of, outcome_of_added, put, recorded}
 pub use Rattle.obs_epoch.specs.Kinds.{is_accepted, is_close_first, kind_after, kind_of, with_counts}
 pub use Rattle.obs_epoch.specs.Loss.{has_lost, is_locked, last_of, latest_in, lli_of, lli_with, lock_of, locked_at, previous, times}
 pub use Rattle.obs_epoch.specs.Reach.{IsHeard, IsHeardCell}
 pub use Rattle.obs_epoch.specs.SignalCounts.{AreSignalCounts, CountsEntries, SignalCountsValue, brings_value, count_of, counted, counted_more, counted_more_in, is_of_signal, signal_counts, signal_in, up_by, valued}
-pub use Rattle.obs_epoch.specs.Step.{ended_where, is_first_at, is_late_at, kind_by, step_by}
+pub use Rattle.obs_epoch.specs.Step.{KeepsEpoch, ended_where, open_by, is_first_at, is_late_at, is_same, kind_by, step_by, time_in}
 pub use Rattle.obs_epoch.specs.Times.{Timed, ahead, from_first, greatest_time, is_at, is_closed, is_late, is_past, max_known, taken_at, time_of, timed, timed_after}
 pub use Rattle.obs_epoch.specs.declared.locks.KnownLock.{KnownLock}
 pub use Rattle.obs_epoch.specs.declared.taken.CellCounts.{CellCounts}
@@ -47,6 +47,6 @@ pub use Rattle.rtcm_msg.specs.declared.entry.Entry.{Entry}
 pub use Rattle.rtcm_msg.specs.declared.entry.LockField.TheVariants.{Df402, Df407}
 pub use Rattle.rtcm_msg.specs.declared.entry.LockField.{LockField}
 pub use Rattle.rtcm_msg.specs.declared.header.MsmHeader.{MsmHeader}
-pub use Rattle.rtcm_msg.specs.declared.message.Message.TheVariants.{Msm4, Msm7, Other, Station}
+pub use Rattle.rtcm_msg.specs.declared.message.Message.TheVariants.{Msm4, Msm5, Msm6, Msm7, Other, Station}
 pub use Rattle.rtcm_msg.specs.declared.message.Message.{Message}
 pub use Rattle.rtcm_msg.specs.declared.view.Form.{Form}

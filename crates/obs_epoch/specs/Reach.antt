@@ -1,9 +1,10 @@
 -- Bounds of the values in the epochs of decoded messages.
-use Rattle.std.specs.Prelude.{List, IfSome}
+use Rattle.std.specs.Prelude.{ℕ, List, IfSome}
 use Rattle.std.specs.List.{AllByRecursion}
 use Rattle.rtcm_msg.specs.declared.message.Message.{Message}
 use Rattle.rtcm_msg.specs.Encoding.{IsMessage}
 use Rattle.rtcm_msg.specs.Bounds.{IsPoint}
+use Rattle.gnss_obs.specs.Channels.{AreChannels, ChannelsValue}
 use Rattle.gnss_obs.specs.Values.{HasTwelveDigits}
 use Rattle.obs_epoch.specs.Heard.{GatherSetup, Heard, heard}
 use Rattle.gnss_obs.specs.HeardCells.{HeardCell}
@@ -29,7 +30,8 @@ pub record IsHeard (m : Heard) : Type 0 where
 -- ---- laws
 
 abbrev pub MessagesAreHeard : Type 0
-MessagesAreHeard = (m : Message) → IsMessage m → IsHeard (heard m)
+MessagesAreHeard = (channels : ChannelsValue) (leap : ℕ) (m : Message) → AreChannels channels → IsMessage m
+    → IsHeard (heard channels leap m)
 
 abbrev pub EpochsAreGathered : Type 0
 EpochsAreGathered = (s : GatherSetup) (ms : List Heard) → AreStationValues s.initial → AllByRecursion IsHeard ms

@@ -1,6 +1,7 @@
 -- The number of cells with a value in messages, by signal.
 use Rattle.std.specs.Prelude.{◌≡◌, ℕ, ◌+◌, ◌-◌, ◌<◌, ◌≤◌, ◌^◌, ◌==◌, ◌&&◌, ◌||◌, Bool, true, false, min, nat_lt, List}
 use Rattle.std.specs.Prelude.{[], ◌++◌, length, get_or, set, filter, filter_map, Option, is_some, if◌then◌else◌}
+use Rattle.std.specs.Prelude.{Some, replicate}
 use Rattle.std.specs.Option.{option_map_or}
 use Rattle.std.specs.List.{list_any}
 use Rattle.gnss_system.specs.declared.system.System.{System}
@@ -12,10 +13,15 @@ use Rattle.rtcm_msg.specs.Msm.{most_pairs}
 use Rattle.rtcm_msg.specs.declared.entry.Entry.{Entry}
 use Rattle.rtcm_msg.specs.declared.entry.LockField.{LockField}
 use Rattle.obs_epoch.specs.Heard.{Heard, seen_in}
+use Rattle.gnss_obs.specs.Channels.{ChannelsValue, slot_count}
 use Rattle.gnss_obs.specs.HeardCells.{HeardCell}
 use Rattle.gnss_system.specs.Systems.{is_system}
 
 -- ---- the cells that are counted
+
+-- A channel for each slot: a cell with a phase range or a rate is counted, whatever its carrier is.
+abbrev pub every_channel : ChannelsValue
+every_channel = replicate slot_count (Some 7)
 
 -- The cell has a pseudorange, a phase, a Doppler shift or a strength.
 abbrev pub brings_value : HeardCell → Bool
@@ -82,7 +88,7 @@ pub record AreSignalCounts (c : SignalCountsValue) (cells : List HeardCell) : Ty
 abbrev pub CountsEntries : (c c' : SignalCountsValue) → System → List Entry → Type 0
 CountsEntries c c' system entries =
     (field : LockField) (cells : List HeardCell) → length cells + length entries < 2 ^ 63 → AreSignalCounts c cells
-    → AreSignalCounts c' (cells ++ filter brings_value (filter_map (seen_in field system) entries))
+    → AreSignalCounts c' (cells ++ filter brings_value (filter_map (seen_in every_channel field system) entries))
 
 -- From c to c' the cells of a message that have a value were counted.
 pub record CountsMessage (c c' : SignalCountsValue) (wanted : Option ℕ) (m : Heard) : Type 0 where

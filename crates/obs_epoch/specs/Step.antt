@@ -1,5 +1,5 @@
 -- One step of the clock, computed from its fields.
-use Rattle.std.specs.Prelude.{ℕ, ◌+◌, ◌*◌, ◌/◌, ◌==◌, ◌&&◌, ◌||◌, Bool, true, false, not, nat_lt, Option, Some, None}
+use Rattle.std.specs.Prelude.{ℕ, ◌≡◌, ◌+◌, ◌*◌, ◌/◌, ◌==◌, ◌&&◌, ◌||◌, Bool, true, false, not, nat_lt, Option, Some, None}
 use Rattle.std.specs.Prelude.{is_some, if◌then◌else◌}
 use Rattle.std.specs.Option.{option_map_or}
 use Rattle.obs_epoch.specs.declared.taken.Kind.{Kind}
@@ -51,6 +51,34 @@ timed_by g m = if is_own g.setup m then option_map_or (step_at g) m.tow g else g
 
 abbrev pub step_by : State → Heard → State
 step_by g m = ended_where (ends_epoch g.setup m) (timed_by g m)
+
+-- ---- a step whose epoch is still to be closed
+
+-- The greatest time, 0 before the first.
+abbrev pub time_in : State → ℕ
+time_in g = option_map_or (λ t. t) g.latest 0
+
+abbrev pub open_at : State → ℕ → State
+open_at g tow =
+    if is_accepted (kind_now g no_counts tow) then record g { latest = Some (time_at g tow); pending = true } else g
+
+-- The clock after the time of a message; the epoch that the message closes is still pending.
+abbrev pub open_by : State → Heard → State
+open_by g m = if is_own g.setup m then option_map_or (open_at g) m.tow g else g
+
+abbrev pub is_same : Option ℕ → Option ℕ → Bool
+is_same None None = true
+is_same None (Some b) = false
+is_same (Some a) None = false
+is_same (Some a) (Some b) = a == b
+
+-- A pending epoch stays pending, and an epoch that begins is of another time than the last one.
+pub record KeepsEpoch (old new : State) : Type 0 where
+  pub kept : old.pending ≡ true → (new.pending ≡ true) × (new.latest ≡ old.latest)
+  pub begun : old.pending ≡ false → new.pending ≡ true → is_same old.latest new.latest ≡ false
+  pub none : new.pending ≡ false → new ≡ old
+
+-- ---- the closing
 
 -- The time of the epoch that a step closes, from the outcome, whether the message ends its epoch, whether an epoch was
 -- pending, and the greatest times before and after.

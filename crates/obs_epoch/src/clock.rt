@@ -1,13 +1,13 @@
 //! The times of messages.
-ghost use Rattle.std.specs.Prelude.{◌==◌, ◌≡◌, ◌<◌, ◌*◌, [], true, false};
+ghost use Rattle.std.specs.Prelude.{◌==◌, ◌≡◌, ◌<◌, ◌*◌, [], true, false, is_some};
 ghost use Rattle.std.specs.Option.{ForSome};
 ghost use Rattle.rtcm_msg.specs.Msm.{week};
-ghost use Rattle.obs_epoch.specs.Heard.{heard_summary, is_own};
-ghost use Rattle.obs_epoch.specs.Kinds.{setup_with};
+ghost use Rattle.obs_epoch.specs.Heard.{ends_epoch, heard_summary, is_own};
+ghost use Rattle.obs_epoch.specs.Kinds.{setup_by};
 ghost use Rattle.gnss_obs.specs.Weeks.{weeks};
 
-use crate::taken::{CellCounts, Gather, Kind};
-use gnss_obs::{Plan, StationValues, WEEK, WEEKS};
+use crate::taken::{CellCounts, Gather, GatherOptions, Kind};
+use gnss_obs::{GpsTime, Plan, WEEK, WEEKS};
 use rtcm_msg::Summary;
 use std::marker::Model;
 
@@ -18,7 +18,7 @@ pub struct Clock {
     start_week: u32,
     station: Option<u16>,
     by_bit: bool,
-    initial: StationValues,
+    options: GatherOptions,
     latest: Option<u64>,
     pending: bool,
 }
@@ -36,19 +36,21 @@ impl Model for Clock {
             start_week = c.start_week;
             station = c.station;
             by_bit = c.by_bit;
-            initial = c.initial;
+            initial = c.options.initial;
+            leap = c.options.leap_seconds;
           };
       latest = c.latest;
       pending = c.pending;
     } };
 
-    ghost invariant = { λ c. IsWithinWeeks c.start_week c.latest };
+    ghost invariant = { λ c. IsWithinWeeks c.start_week c.latest c.pending };
 }
 
 impl Clock {
     ghost use Rattle.obs_epoch.specs.Clock.{HasHeardMessages};
     ghost use Rattle.obs_epoch.specs.Cells.{no_counts};
-    ghost use Rattle.obs_epoch.specs.Step.{kind_by, step_by, kind_now, step_at, timed_by, closed_time};
+    ghost use Rattle.obs_epoch.specs.Step.{KeepsEpoch, kind_by, step_by, kind_now, ended_where, closed_time};
+    ghost use Rattle.obs_epoch.specs.Step.{open_at, open_by, time_in};
 
     /// Returns the clock before the first message.
     pub fn new(
@@ -56,10 +58,10 @@ impl Clock {
         start_week: u32,
         station: Option<u16>,
         gather: Gather,
-        initial: StationValues,
+        options: GatherOptions,
     ) -> Clock
         requires { start_week < weeks }
-        ensures setup { result.setup ≡ setup_with plan start_week station gather initial }
+        ensures setup { result.setup ≡ setup_by plan start_week station gather options }
         ensures history { HasHeardMessages result result.setup [] false }
     {
         Clock {
@@ -67,7 +69,7 @@ impl Clock {
             start_week,
             station,
             by_bit: matches!(gather, Gather::Bit),
-            initial,
+            options,
             latest: None,
             pending: false,
         }
@@ -80,46 +82,48 @@ impl Clock {
         &self.plan
     }
 
-    /// Ends the messages, and returns whether an epoch was pending.
-    pub fn end(&mut self) -> bool
-        ensures was { result ≡ self.old.pending }
-        ensures step { self.new ≡ record self.old { pending = false } }
+    /// Returns GPS time minus UTC, in seconds.
+    pub fn leap_seconds(&self) -> u8
+        ensures { result ≡ self.now.setup.leap }
     {
-        let was = self.pending;
+        self.options.leap_seconds
+    }
+
+    /// Returns whether an epoch is pending.
+    pub fn is_pending(&self) -> bool
+        ensures { result ≡ self.now.pending }
+    {
+        self.pending
+    }
+
+    /// Closes the pending epoch, if there is one.
+    pub fn end(&mut self)
+        ensures { self.new ≡ record self.old { pending = false } }
+    {
         self.pending = false;
-        was
     }
 
-    /// Returns the greatest time so far, in milliseconds since 1980-01-06 00:00:00.
-    pub fn latest(&self) -> Option<u64>
-        ensures value { result ≡ self.now.latest }
-        ensures bound { ForSome result (λ t. t < weeks * week) }
+    /// Returns the greatest time so far: that of the pending epoch. It is 0 before the first.
+    #[inline(always)]
+    pub fn time(&self) -> GpsTime
+        ensures { result ≡ time_in self.now }
     {
-        self.latest
+        GpsTime::within(self.latest.unwrap_or(0))
     }
 
-    /// Processes a message, and returns its outcome, with counts of 0, and the time of the epoch
-    /// that it closes.
-    pub fn step(&mut self, said: &Summary) -> (Kind, Option<u64>)
+    /// Processes a message, and returns its outcome, with counts of 0, and whether it closes the
+    /// pending epoch, which is pending until `end`.
+    pub fn step(&mut self, said: &Summary) -> (Kind, bool)
         requires { ForSome said.now.time (λ tow. tow < week) }
         ensures kind { result.0 ≡ kind_by self.old no_counts (heard_summary said.now) }
-        ensures closed { result.1 ≡ closed_time self.old (heard_summary said.now) }
-        ensures step { self.new ≡ step_by self.old (heard_summary said.now) }
+        ensures closed { result.1 ≡ is_some (closed_time self.old (heard_summary said.now)) }
+        ensures step { self.new ≡ open_by self.old (heard_summary said.now) }
+        ensures keeps { KeepsEpoch self.old self.new }
+        ensures ended { ended_where result.1 self.new ≡ step_by self.old (heard_summary said.now) }
     {
-        let is_mark = self.by_bit && self.is_own(said) && said.more == Some(false);
-        let was = self.pending;
-        let before = self.latest;
+        let ends = self.ends_epoch(said);
         let kind = self.outcome(said);
-        if is_mark {
-            self.pending = false;
-        }
-        let closed = match kind {
-            Kind::CloseFirst => before,
-            Kind::Kept(_) if is_mark => self.latest,
-            _ if is_mark && was => self.latest,
-            _ => None,
-        };
-        (kind, closed)
+        (kind, kind.is_close_first() || ends && self.pending)
     }
 
     /// Returns whether a message is of the wanted station.
@@ -133,11 +137,19 @@ impl Clock {
         }
     }
 
+    // Returns whether a message ends its epoch. A pending epoch has a time.
+    fn ends_epoch(&self, said: &Summary) -> bool
+        ensures value { result ≡ ends_epoch self.now.setup (heard_summary said.now) }
+        ensures known { self.now.pending ≡ true → is_some self.now.latest ≡ true }
+    {
+        self.by_bit && self.is_own(said) && said.more == Some(false)
+    }
+
     // Processes the time of a message, and returns its outcome.
     fn outcome(&mut self, said: &Summary) -> Kind
         requires { ForSome said.now.time (λ tow. tow < week) }
         ensures kind { result ≡ kind_by self.old no_counts (heard_summary said.now) }
-        ensures step { self.new ≡ timed_by self.old (heard_summary said.now) }
+        ensures step { self.new ≡ open_by self.old (heard_summary said.now) }
     {
         match said.time {
             None if said.point.is_none() => Kind::Ignored,
@@ -151,7 +163,7 @@ impl Clock {
     fn place(&mut self, tow: u32) -> Kind
         requires { tow < week }
         ensures kind { result ≡ kind_now self.old no_counts tow }
-        ensures step { self.new ≡ step_at self.old tow }
+        ensures step { self.new ≡ open_at self.old tow }
     {
         let mut time = self.start_week as u64 * WEEK + tow as u64;
         if let Some(latest) = self.latest {
@@ -161,7 +173,6 @@ impl Clock {
             }
             time = latest + ahead;
             if time < WEEKS * WEEK && ahead > 0 && self.pending {
-                self.pending = false;
                 return Kind::CloseFirst;
             }
         }

@@ -8,32 +8,32 @@ ghost use Rattle.rtcm_msg.specs.Viewed.{viewed_message};
 ghost use Rattle.rtcm_msg.specs.Forms.{lock_field};
 ghost use Rattle.rtcm_msg.specs.Views.{formed};
 ghost use Rattle.gnss_obs.specs.Weeks.{weeks};
-ghost use Rattle.obs_epoch.specs.Heard.{GatherSetup, Heard, heard, heard_summary};
+ghost use Rattle.obs_epoch.specs.Heard.{GatherSetup, Heard, heard_by, heard_summary};
 ghost use Rattle.gnss_obs.specs.Order.{AreSortedByPlan};
 ghost use Rattle.gnss_obs.specs.Plans.{place_in};
 ghost use Rattle.gnss_obs.specs.HeardCells.{heard_cell, IsObserved};
 ghost use Rattle.obs_epoch.specs.Epochs.{values_after_message, values_of};
-ghost use Rattle.obs_epoch.specs.Held.{count_in, most_locks, no_locks, outcome_of_added, recorded};
-ghost use Rattle.obs_epoch.specs.Step.{kind_by, closed_time};
+ghost use Rattle.obs_epoch.specs.Held.{count_in, most_locks, outcome_of_added, recorded};
+ghost use Rattle.obs_epoch.specs.Step.{kind_by, closed_time, ended_where, step_by};
 ghost use Rattle.gnss_obs.specs.Values.{Closed, cells_of, most_cells, planned_of};
-ghost use Rattle.obs_epoch.specs.Kinds.{is_no_station, setup_with, setup_of, with_counts};
+ghost use Rattle.obs_epoch.specs.Kinds.{is_no_station, setup_by, setup_with, setup_of, with_counts};
 ghost use Rattle.obs_epoch.specs.GathererHistory.{HasGatheredEpochs, closed_by, closed_in, plan_in};
 ghost use Rattle.obs_epoch.specs.Calls.{TakesMessage, EndsPendingEpoch, StaysEnded, HoldsCells, HoldsLockedKeys};
 ghost use Rattle.gnss_obs.specs.declared.fault.PlanFault.{PlanFault};
-ghost use Rattle.obs_epoch.specs.GathererSteps.{closed_noted, loaded_if, load_entry, load_entries, epoch_begun};
-ghost use Rattle.obs_epoch.specs.GathererSteps.{load, system_as, rested, outcome_in, hold, no_pending};
-ghost use Rattle.obs_epoch.specs.GathererSteps.{just_closed_as, with_time};
+ghost use Rattle.obs_epoch.specs.GathererSteps.{closed_noted, loaded_where, load_entry, load_entries, begun_by};
+ghost use Rattle.obs_epoch.specs.GathererSteps.{load, system_as, rested, outcome_in, hold, shut_where};
 ghost use Rattle.obs_epoch.specs.Cells.{cells_counted, no_counts};
 
 use crate::clock::Clock;
 use crate::locks::{Locks, lli, note_systems};
 use crate::observe::observe;
-use crate::taken::{CellCounts, Gather, Kind, Taken};
-use gnss_obs::{
-    Added, Cell, Epoch, GpsTime, Pending, Plan, PlanFault, StationValues, System, WEEKS,
-};
+use crate::start::new_parts;
+use crate::taken::{CellCounts, Gather, GatherOptions, Kind, LEAP_SECONDS, Taken};
+use crate::tow::summary_of;
+use gnss_obs::{Added, Cell, Epoch, EpochCells, Plan, PlanFault, StationValues, System};
 use rtcm_msg::{
-    Entries, Entry, Form, Grid, Grid4, Grid7, LockField, Message, MsmView, Summary, View,
+    Entries, Entry, Form, Grid, Grid4, Grid5, Grid6, Grid7, LockField, Message, MsmView, Summary,
+    View,
 };
 use std::alloc::Global;
 use std::marker::Model;
@@ -42,28 +42,32 @@ use std::marker::Model;
 #[derive(Drop)]
 pub struct Gatherer {
     clock: Clock,
-    pending: Pending,
+    // The cells of the pending epoch, whose time is that of the clock; none if no epoch is pending.
+    pending: EpochCells,
+    // The epoch closed last.
+    closed: Epoch,
+    values: StationValues,
     locks: Locks,
+    // Whether the last call closed it.
     just_closed: bool,
     has_ended: bool,
 }
 
 impl Model for Gatherer {
-    ghost use Rattle.obs_epoch.specs.GathererSteps.{GathererValue, IsPending};
-    ghost use Rattle.gnss_obs.specs.Arriving.{sorted_epoch};
+    ghost use Rattle.obs_epoch.specs.GathererSteps.{GathererValue, IsGathering, epoch_in};
 
     ghost Value = { GathererValue };
 
     ghost view = { λ a. record {
       clock = a.clock;
-      epoch = sorted_epoch a.clock.setup.plan a.pending.epoch;
+      epoch = epoch_in a.clock a.pending a.closed;
       locks = a.locks;
-      values = a.pending.values;
+      values = a.values;
       just_closed = a.just_closed;
       has_ended = a.has_ended;
     } };
 
-    ghost invariant = { λ a. IsPending a.clock.setup.plan a.pending a.just_closed };
+    ghost invariant = { λ a. IsGathering a.clock a.pending a.closed a.values a.just_closed };
 }
 
 impl Gatherer {
@@ -120,12 +124,45 @@ impl Gatherer {
         ensures only { IfErr result
             (λ e. (e ≡ PlanFault.BadWeek) ⊎ ((e ≡ PlanFault.BadStation) ⊎ (e ≡ PlanFault.Memory))) }
     {
-        match new_parts(alloc, start_week, station, initial) {
-            Ok((pending, locks)) => {
-                let clock = Clock::new(plan, start_week, station, gather, initial);
+        let options = GatherOptions {
+            initial,
+            leap_seconds: LEAP_SECONDS,
+        };
+        Gatherer::with_options(alloc, plan, start_week, station, gather, options)
+    }
+
+    /// Returns a gatherer as `new` does, with these options.
+    ///
+    /// # Errors
+    ///
+    /// Those of `new`.
+    pub fn with_options(
+        alloc: Global,
+        plan: Plan,
+        start_week: u32,
+        station: Option<u16>,
+        gather: Gather,
+        options: GatherOptions,
+    ) -> Result<Gatherer, PlanFault>
+        ensures history { IfOk result
+            (λ g. HasGatheredEpochs g (setup_by plan start_week station gather options) [] [] None) }
+        ensures going { IfOk result (λ g. g.has_ended ≡ false) }
+        ensures none { IfOk result (λ g. closed_in g ≡ None) }
+        ensures accepted { IsOk result → (start_week < weeks) × (is_no_station station ≡ false) }
+        ensures week { (result ≡ Err PlanFault.BadWeek) ↔ (weeks ≤ start_week) }
+        ensures station { (result ≡ Err PlanFault.BadStation)
+            ↔ ((start_week < weeks) × (is_no_station station ≡ true)) }
+        ensures only { IfErr result
+            (λ e. (e ≡ PlanFault.BadWeek) ⊎ ((e ≡ PlanFault.BadStation) ⊎ (e ≡ PlanFault.Memory))) }
+    {
+        match new_parts(alloc, start_week, station) {
+            Ok((pending, closed, locks)) => {
+                let clock = Clock::new(plan, start_week, station, gather, options);
                 Ok(Gatherer {
                     clock,
                     pending,
+                    closed,
+                    values: options.initial,
                     locks,
                     just_closed: false,
                     has_ended: false,
@@ -144,7 +181,7 @@ impl Gatherer {
     /// at once.
     pub fn take(&mut self, m: &Message) -> Taken
         requires { self.old.has_ended ≡ false }
-        ensures { TakesMessage self.old self.new (heard m.now) result }
+        ensures { TakesMessage self.old self.new (heard_by self.old.clock.setup m.now) result }
     {
         self.take_view(&m.view())
     }
@@ -152,11 +189,11 @@ impl Gatherer {
     /// Processes a message as `take` does, but reads its cells from the bytes of the message.
     pub fn take_view(&mut self, view: &View<'_>) -> Taken
         requires { self.old.has_ended ≡ false }
-        ensures { TakesMessage self.old self.new (heard (viewed_message view.now)) result }
+        ensures { TakesMessage self.old self.new (heard_by self.old.clock.setup (viewed_message view.now)) result }
     {
-        let before = self.clock.latest();
-        let (kind, closed) = self.hear(&view.summary());
-        let counts = self.load(kind.is_accepted(), before, view);
+        let said = summary_of(view, self.clock.leap_seconds());
+        let (kind, closed) = self.hear(&said);
+        let counts = self.load(kind.is_accepted(), view);
         self.note_closed(closed);
         Taken {
             kind: kind.with_counts(counts),
@@ -177,7 +214,7 @@ impl Gatherer {
             self.just_closed = false;
             return false;
         }
-        let closed = self.clock.end();
+        let closed = self.clock.is_pending();
         self.has_ended = true;
         self.note_closed(closed);
         self.just_closed
@@ -192,7 +229,7 @@ impl Gatherer {
             ≡ closed_by (closed_in self.now) self.now.values }
     {
         if self.just_closed {
-            self.pending.closed()
+            Some(&self.closed)
         } else {
             None
         }
@@ -212,7 +249,11 @@ impl Gatherer {
         ensures held { HoldsCells self.now system result }
         ensures bound { result ≤ most_cells }
     {
-        self.pending.cells(system).len()
+        if self.clock.is_pending() {
+            self.pending.of(system).len()
+        } else {
+            self.closed.cells(system).len()
+        }
     }
 
     /// Returns the number of lock records: one for each satellite and signal of which a closed
@@ -232,7 +273,14 @@ impl Gatherer {
             → HasGatheredEpochs self.now s ms es again
             → result ≡ values_of s ms }
     {
-        self.pending.station_values()
+        self.values
+    }
+
+    /// Returns GPS time minus UTC, in seconds.
+    pub fn leap_seconds(&self) -> u8
+        ensures { result ≡ self.now.clock.setup.leap }
+    {
+        self.clock.leap_seconds()
     }
 
     /// Returns the wanted signals.
@@ -243,38 +291,41 @@ impl Gatherer {
     }
 
     // Processes the time and the station values of a message, and returns its outcome, with counts
-    // of 0, and whether the epoch is to be closed.
+    // of 0, and whether the pending epoch is to be closed.
     fn hear(&mut self, said: &Summary) -> (Kind, bool)
         requires { ForSome said.now.time (λ tow. tow < week) }
         ensures kind { result.0 ≡ kind_by self.old.clock no_counts (heard_summary said.now) }
         ensures closed { result.1 ≡ is_some (closed_time self.old.clock (heard_summary said.now)) }
-        ensures step { self.new ≡ rested (with_time self.old (heard_summary said.now)) }
+        ensures step { self.new ≡ begun_by self.old (heard_summary said.now) }
+        ensures ended { ended_where result.1 self.new.clock ≡ step_by self.old.clock (heard_summary said.now) }
     {
         let values = self.values_after(said);
-        self.pending.set_values(values);
-        let (kind, closed) = self.clock.step(said);
+        self.values = values;
         self.just_closed = false;
-        (kind, closed.is_some())
+        self.clock.step(said)
     }
 
-    // Closes the epoch if it is to be closed, and records the locks of its cells.
+    // Closes the pending epoch if it is to be closed, and records the locks of its cells.
     fn note_closed(&mut self, closed: bool)
-        ensures { self.new ≡ closed_noted (just_closed_as closed self.old) }
+        requires { closed ≡ true → self.old.clock.pending ≡ true }
+        ensures { self.new ≡ closed_noted (shut_where closed self.old) }
     {
         self.just_closed = closed;
         if !closed {
             return;
         }
-        self.pending.close(self.clock.plan());
-        let time = self.pending.time().milliseconds();
-        note_systems(&mut self.locks, time, &self.pending);
+        let at = self.clock.time();
+        self.closed
+            .close(&mut self.pending, self.clock.plan(), at, self.values);
+        self.clock.end();
+        note_systems(&mut self.locks, at.milliseconds(), &self.closed);
     }
 
     // Returns the station values after a message.
     fn values_after(&self, said: &Summary) -> StationValues
         ensures { result ≡ values_after_message self.now.clock.setup self.now.values (heard_summary said.now) }
     {
-        let values = self.pending.station_values();
+        let values = self.values;
         match said.point {
             Some(parts) if self.clock.is_own(said) => StationValues {
                 x: parts.x,
@@ -288,48 +339,53 @@ impl Gatherer {
 
     // Processes the cells of a message if it is accepted, and returns their outcomes.
     #[inline(never)]
-    fn load(&mut self, is_accepted: bool, before: Option<u64>, view: &View<'_>) -> CellCounts
-        requires { self.old.just_closed ≡ false }
+    fn load(&mut self, is_accepted: bool, view: &View<'_>) -> CellCounts
+        requires { is_accepted ≡ true → self.old.clock.pending ≡ true }
         ensures { record { state = self.new; counts = result }
-            ≡ loaded_if is_accepted before self.old (heard (viewed_message view.now)) }
+            ≡ loaded_where is_accepted self.old (heard_by self.old.clock.setup (viewed_message view.now)) }
     {
         if !is_accepted {
             return CellCounts::default();
         }
-        self.begin(before);
         match view {
-            View::Msm(m) => match (m.form(), m.system()) {
-                (Form::Msm4, System::Gps) => self.load_as::<0, Grid4>(m),
-                (Form::Msm4, System::Galileo) => self.load_as::<1, Grid4>(m),
-                (Form::Msm7, System::Gps) => self.load_as::<0, Grid7>(m),
-                (Form::Msm7, System::Galileo) => self.load_as::<1, Grid7>(m),
+            View::Msm(m) => match m.system() {
+                System::Gps => self.load_of::<0>(m),
+                System::Galileo => self.load_of::<1>(m),
+                _ => self.load_of::<2>(m),
             },
             View::Station(_) | View::Other { number: _, set: _ } => CellCounts::default(),
         }
     }
 
-    // Processes the cells of a message of system `S`, 0 for GPS, and form `G`. It isn't inlined, so
-    // that the loop over them is compiled by itself for each system and form.
+    // Processes the cells of a message of system `S`: 0 for GPS, 1 for Galileo, 2 for any other.
+    #[inline(always)]
+    fn load_of<const S: usize>(&mut self, m: &MsmView<'_>) -> CellCounts
+        requires system { system_as S m.now.msm.system ≡ m.now.msm.system }
+        requires pending { self.old.clock.pending ≡ true }
+        ensures { record { state = self.new; counts = result }
+            ≡ load_entries (lock_field m.now.form) m.now.msm.system (record { state = self.old; counts = no_counts })
+            (entries (formed m.now)) }
+    {
+        match m.form() {
+            Form::Msm4 => self.load_as::<S, Grid4>(m),
+            Form::Msm5 => self.load_as::<S, Grid5>(m),
+            Form::Msm6 => self.load_as::<S, Grid6>(m),
+            Form::Msm7 => self.load_as::<S, Grid7>(m),
+        }
+    }
+
+    // Processes the cells of a message of system `S` and form `G`. It isn't inlined, so that the
+    // loop over them is compiled by itself for each `S` and `G`.
     #[inline(never)]
     fn load_as<const S: usize, G: Grid>(&mut self, m: &MsmView<'_>) -> CellCounts
         requires form { G.form ≡ m.now.form }
-        requires rested { self.old.just_closed ≡ false }
+        requires system { system_as S m.now.msm.system ≡ m.now.msm.system }
+        requires pending { self.old.clock.pending ≡ true }
         ensures { record { state = self.new; counts = result }
-            ≡ load_entries (lock_field m.now.form) (system_as S) (record { state = self.old; counts = no_counts })
+            ≡ load_entries (lock_field m.now.form) m.now.msm.system (record { state = self.old; counts = no_counts })
             (entries (formed m.now)) }
     {
-        self.take_all::<S, G>(&mut m.entries())
-    }
-
-    fn begin(&mut self, before: Option<u64>)
-        requires { self.old.just_closed ≡ false }
-        ensures step { self.new ≡ epoch_begun before self.old }
-        ensures rested { self.new.just_closed ≡ false }
-    {
-        let latest = self.clock.latest();
-        if before != latest {
-            self.pending.begin(GpsTime::within(latest.unwrap_or(0)));
-        }
+        self.take_all::<S, G>(m.system(), &mut m.entries())
     }
 
     // Keeps a cell of a planned signal, unless a cell of its key is kept or there is no room, and
@@ -340,28 +396,34 @@ impl Gatherer {
         requires system { x.satellite.system ≡ system }
         requires planned { is_some (place_in x.signal (planned_of x.satellite.system self.old.clock.setup.plan))
             ≡ true }
-        requires rested { self.old.just_closed ≡ false }
+        requires pending { self.old.clock.pending ≡ true }
         requires few { cells_counted n.old < usize.MAX }
         ensures counts { n.new ≡ count_in (outcome_in self.old (heard_cell x)) n.old }
         ensures step { self.new ≡ hold self.old (heard_cell x) }
-        ensures rested { self.new.just_closed ≡ false }
+        ensures pending { self.new.clock.pending ≡ true }
         ensures one { cells_counted n.new ≡ cells_counted n.old + 1 }
     {
-        let time = self.pending.time().milliseconds();
+        let time = self.clock.time().milliseconds();
         x.lli = lli(&x, time, self.locks.latest(system, &x));
         count(self.pending.add(x), n);
     }
 
-    // Processes the cells of a message of system `S` and form `G`, and returns their outcomes.
-    fn take_all<const S: usize, G: Grid>(&mut self, cells: &mut Entries<'_>) -> CellCounts
+    // Processes the cells of a message of this system, which is `S`, and form `G`, and returns their
+    // outcomes.
+    fn take_all<const S: usize, G: Grid>(
+        &mut self,
+        system: System,
+        cells: &mut Entries<'_>,
+    ) -> CellCounts
         requires form { G.form ≡ cells.old.form }
-        requires rested { self.old.just_closed ≡ false }
+        requires system { system_as S system ≡ system }
+        requires pending { self.old.clock.pending ≡ true }
         requires few { length cells.old.left ≤ most_pairs }
         ensures { record { state = self.new; counts = result }
-            ≡ load_entries (lock_field cells.old.form) (system_as S) (record { state = self.old; counts = no_counts })
+            ≡ load_entries (lock_field cells.old.form) system (record { state = self.old; counts = no_counts })
             cells.old.left }
     {
-        let (field, system) = (G::form().lock_field(), system_as::<S>());
+        let (field, system) = (G::form().lock_field(), system_as::<S>(system));
         let mut counts = CellCounts::default();
         while let Some(entry) = cells.next_in::<G>() {
             self.take_entry(field, system, &entry, &mut counts);
@@ -373,11 +435,11 @@ impl Gatherer {
     #[inline(always)]
     fn take_entry(&mut self, field: LockField, system: System, entry: &Entry, n: &mut CellCounts)
         requires entry { IsEntry (codes_of field) entry.now }
-        requires rested { self.old.just_closed ≡ false }
+        requires pending { self.old.clock.pending ≡ true }
         requires few { cells_counted n.old < usize.MAX }
         ensures step { record { state = self.new; counts = n.new }
             ≡ load_entry field system (record { state = self.old; counts = n.old }) entry.now }
-        ensures rested { self.new.just_closed ≡ false }
+        ensures pending { self.new.clock.pending ≡ true }
         ensures one { cells_counted n.new ≡ cells_counted n.old + 1 }
     {
         match observe(self.clock.plan(), field, system, entry) {
@@ -387,12 +449,17 @@ impl Gatherer {
     }
 }
 
-// Returns the system with this number.
+// Returns a system that is `S`, as a constant if it is GPS or Galileo.
 #[inline(always)]
-fn system_as<const S: usize>() -> System
-    ensures { result ≡ system_as S }
+fn system_as<const S: usize>(system: System) -> System
+    requires { system_as S system ≡ system }
+    ensures { result ≡ system }
 {
-    if S == 0 { System::Gps } else { System::Galileo }
+    match S {
+        0 => System::Gps,
+        1 => System::Galileo,
+        _ => system,
+    }
 }
 
 // Counts the outcome of a cell of a planned signal.
@@ -407,31 +474,4 @@ fn count(added: Added, n: &mut CellCounts)
         Added::Repeated => n.repeated += 1,
         Added::Crowded => n.crowded += 1,
     }
-}
-
-// Returns an epoch without cells and empty lock records, if the start week and the station are
-// valid.
-fn new_parts(
-    alloc: Global,
-    start_week: u32,
-    station: Option<u16>,
-    initial: StationValues,
-) -> Result<(Pending, Locks), PlanFault>
-    ensures empty { IfOk result (λ r. (r.0 ≡ no_pending initial) × (r.1 ≡ no_locks)) }
-    ensures accepted { IsOk result → (start_week < weeks) × (is_no_station station ≡ false) }
-    ensures week { (result ≡ Err PlanFault.BadWeek) ↔ (weeks ≤ start_week) }
-    ensures station { (result ≡ Err PlanFault.BadStation)
-        ↔ ((start_week < weeks) × (is_no_station station ≡ true)) }
-    ensures only { IfErr result
-        (λ e. (e ≡ PlanFault.BadWeek) ⊎ ((e ≡ PlanFault.BadStation) ⊎ (e ≡ PlanFault.Memory))) }
-{
-    if start_week as u64 >= WEEKS {
-        return Err(PlanFault::BadWeek);
-    }
-    if station.unwrap_or(0) > 4_095 {
-        return Err(PlanFault::BadStation);
-    }
-    let locks = Locks::new(alloc).map_err(|_| PlanFault::Memory)?;
-    let pending = Pending::new(alloc, initial).map_err(|_| PlanFault::Memory)?;
-    Ok((pending, locks))
 }

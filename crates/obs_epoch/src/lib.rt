@@ -9,11 +9,16 @@ mod gather;
 pub mod laws;
 mod locks;
 mod observe;
+mod set;
 mod signal_counts;
+mod start;
 mod taken;
+mod tow;
 
 pub use gather::Gatherer;
 // The benchmark imports it from here.
 pub use gnss_obs::Plan;
+pub use set::msm_set;
 pub use signal_counts::SignalCounts;
-pub use taken::{CellCounts, Gather, Kind, Taken};
+pub use taken::{CellCounts, Gather, GatherOptions, Kind, LEAP_SECONDS, Taken};
+pub use tow::tow_of;

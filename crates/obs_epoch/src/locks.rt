@@ -8,22 +8,13 @@ ghost use Rattle.obs_epoch.specs.Loss.{lli_with};
 ghost use Rattle.gnss_obs.specs.Values.{AreHeld};
 ghost use Rattle.gnss_system.specs.Systems.{systems};
 
-use gnss_obs::{
-    Cell, GALILEO_SATELLITES, GALILEO_SIGNAL_COUNT, GPS_SATELLITES, GPS_SIGNAL_COUNT, Lock,
-    Pending, is_lost,
-};
+use gnss_obs::{Cell, Epoch, Lock, is_lost};
 use gnss_system::{SYSTEMS, System};
 use std::alloc::{AllocError, Global};
 use std::marker::Model;
 
-/// Number of keys of GPS: one for each pair of a satellite and a signal of the table.
-const GPS_KEYS: usize = GPS_SATELLITES as usize * GPS_SIGNAL_COUNT;
-
-/// Number of keys of Galileo: one for each pair of a satellite and a signal of the table.
-const GALILEO_KEYS: usize = GALILEO_SATELLITES as usize * GALILEO_SIGNAL_COUNT;
-
 /// Largest number of lock records: one for each key of all systems.
-pub const MOST_LOCKS: usize = GPS_KEYS + GALILEO_KEYS;
+pub const MOST_LOCKS: usize = 2_566;
 
 /// A known lock, and the time of its epoch in milliseconds since 1980-01-06 00:00:00.
 #[derive(Clone, Copy)]
@@ -127,20 +118,19 @@ pub struct Keys {
 fn keys_of(system: System) -> Keys
     ensures { AreKeysOf system result }
 {
-    match system {
-        System::Gps => Keys {
-            first: 0,
-            signals: GPS_SIGNAL_COUNT,
-        },
-        System::Galileo => Keys {
-            first: GPS_KEYS,
-            signals: GALILEO_SIGNAL_COUNT,
-        },
-    }
+    let (first, signals) = match system {
+        System::Gps => (0, 15),
+        System::Galileo => (480, 19),
+        System::Glonass => (1_164, 4),
+        System::Beidou => (1_272, 16),
+        System::Qzss => (2_280, 13),
+        System::Sbas => (2_410, 4),
+    };
+    Keys { first, signals }
 }
 
 /// Records the locks of the cells of an epoch, one system after the other.
-pub fn note_systems(locks: &mut Locks, time: u64, epoch: &Pending)
+pub fn note_systems(locks: &mut Locks, time: u64, epoch: &Epoch)
     requires { time ≡ epoch.now.epoch.time }
     ensures { locks.new ≡ note_systems epoch.now.epoch locks.old systems }
 {

@@ -6,15 +6,16 @@ ghost use Rattle.obs_epoch.specs.Heard.{seen_in};
 ghost use Rattle.gnss_obs.specs.HeardCells.{heard_cell, IsObserved};
 ghost use Rattle.obs_epoch.specs.GathererSteps.{planned_cell};
 
-use gnss_obs::{Cell, Lock, Plan, Sat, System, doppler, phase, pseudorange, strength};
+use gnss_obs::{Cell, Lock, Plan, Sat, System, doppler_at, phase_at, pseudorange, strength};
 use rtcm_msg::{Entry, LockField};
 
 /// Returns the cell of an entry if its satellite is listed and its signal is planned, else `None`.
-/// Values are computed only for such an entry.
+/// Values are computed only for such an entry, phase and Doppler shift only at a known carrier.
 #[inline(always)]
 pub fn observe(plan: &Plan, field: LockField, system: System, entry: &Entry) -> Option<Cell>
     requires { IsEntry (codes_of field) entry.now }
-    ensures value { result ≡ option_and_then (planned_cell plan.now) (seen_in field system entry.now) }
+    ensures value { result
+        ≡ option_and_then (planned_cell plan.now) (seen_in plan.now.channels field system entry.now) }
     ensures observed { IfSome result (λ x. IsObserved (heard_cell x)) }
     ensures system { IfSome result (λ x. x.satellite.system ≡ system) }
 {
@@ -22,20 +23,23 @@ pub fn observe(plan: &Plan, field: LockField, system: System, entry: &Entry) -> 
         Sat::new(system, entry.satellite),
         plan.wanted(system, entry.signal),
     ) {
-        (Some(satellite), Some(signal)) => Some(Cell {
-            satellite,
-            signal,
-            c: pseudorange(entry.range),
-            l: phase(entry.phase, signal),
-            d: doppler(entry.rate, signal),
-            s: strength(entry.strength),
-            lli: 0,
-            lock: match field {
-                LockField::Df402 => Lock::from_df402(entry.lock as u8),
-                LockField::Df407 => Lock::from_df407(entry.lock),
-            },
-            half_cycle: entry.half_cycle,
-        }),
+        (Some(satellite), Some(signal)) => {
+            let carrier = plan.channels().hertz(satellite, signal);
+            Some(Cell {
+                satellite,
+                signal,
+                c: pseudorange(entry.range),
+                l: phase_at(entry.phase, carrier),
+                d: doppler_at(entry.rate, carrier),
+                s: strength(entry.strength),
+                lli: 0,
+                lock: match field {
+                    LockField::Df402 => Lock::from_df402(entry.lock as u8),
+                    LockField::Df407 => Lock::from_df407(entry.lock),
+                },
+                half_cycle: entry.half_cycle,
+            })
+        }
         _ => None,
     }
 }

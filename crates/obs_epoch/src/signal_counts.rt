@@ -1,9 +1,9 @@
 //! The number of cells with a value, by signal.
-ghost use Rattle.std.specs.Prelude.{◌≡◌, ◌<◌, ◌≤◌, [], length, nat_lt};
+ghost use Rattle.std.specs.Prelude.{◌≡◌, ◌<◌, ◌≤◌, [], length, nat_lt, replicate};
 ghost use Rattle.std.specs.List.{list_any};
-ghost use Rattle.gnss_system.specs.Signals.{table};
+ghost use Rattle.gnss_system.specs.Signals.{table, most_signals};
 ghost use Rattle.obs_epoch.specs.Heard.{heard};
-ghost use Rattle.obs_epoch.specs.SignalCounts.{counted, has_any, counted_more, CountsEntries};
+ghost use Rattle.obs_epoch.specs.SignalCounts.{counted, every_channel, has_any, counted_more, CountsEntries};
 ghost use Rattle.obs_epoch.specs.SignalCounts.{CountsMessage, AreSignalCounts};
 ghost use Rattle.rtcm_msg.specs.Entries.{entries};
 ghost use Rattle.rtcm_msg.specs.Msm.{most_pairs};
@@ -35,10 +35,11 @@ impl SignalCounts {
         ensures { AreSignalCounts result [] }
     {
         SignalCounts {
-            counts: BySystem {
-                gps: [0; MOST_SIGNALS],
-                galileo: [0; MOST_SIGNALS],
-            },
+            counts: BySystem::each(
+                |_| -> [u64; MOST_SIGNALS]
+                    ensures { result ≡ replicate most_signals 0 }
+                { [0; MOST_SIGNALS] },
+            ),
         }
     }
 
@@ -64,14 +65,14 @@ impl SignalCounts {
 
     /// Counts the cells of a message of this station; with `None`, of any station.
     pub fn count_message(&mut self, station: Option<u16>, message: &Message)
-        ensures { CountsMessage self.old self.new station (heard message.now) }
+        ensures { CountsMessage self.old self.new station (heard every_channel 0 message.now) }
     {
         self.count_view(station, &message.view());
     }
 
     /// Counts as `count_message` does, but reads the cells from the bytes of the message.
     pub fn count_view(&mut self, station: Option<u16>, view: &View<'_>)
-        ensures { CountsMessage self.old self.new station (heard (viewed_message view.now)) }
+        ensures { CountsMessage self.old self.new station (heard every_channel 0 (viewed_message view.now)) }
     {
         if let View::Msm(m) = view {
             let own = m.header().station;

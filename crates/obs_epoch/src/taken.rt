@@ -2,6 +2,8 @@
 ghost use Rattle.std.specs.Prelude.{◌≡◌};
 ghost use Rattle.obs_epoch.specs.Kinds.{is_accepted, is_close_first, with_counts};
 
+use gnss_obs::StationValues;
+
 /// How the epochs of a station are closed.
 #[derive(Clone, Copy)]
 pub enum Gather {
@@ -12,10 +14,22 @@ pub enum Gather {
     Time,
 }
 
+/// GPS time minus UTC from 2017-01-01 on, in seconds.
+pub const LEAP_SECONDS: u8 = 18;
+
+/// Further options of a gatherer.
+#[derive(Clone, Copy)]
+pub struct GatherOptions {
+    /// The station values until a station message contains others.
+    pub initial: StationValues,
+    /// GPS time minus UTC, in seconds. GLONASS time is 3 h ahead of UTC.
+    pub leap_seconds: u8,
+}
+
 /// The outcome of a message.
 #[derive(Clone, Copy, PartialEq)]
 pub enum Kind {
-    /// A message of a number other than 1005, 1006, 1074, 1077, 1094 and 1097, of any station.
+    /// A message of another number than those that are decoded, of any station.
     Ignored,
     /// A station message, 1005 or 1006.
     Station,

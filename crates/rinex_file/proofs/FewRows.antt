@@ -1,23 +1,15 @@
 -- A plan has no more signals than the tables, and an epoch no more satellites than the planned systems.
-use Rattle.rinex_file.proofs.Names.{arith, ◌≡◌, refl, subst, ℕ, suc, ◌+◌, ◌-◌, ◌<◌, ◌≤◌, Bool, true, false, eqb, List, [], ◌∷◌, length, ◌||◌, if◌then◌else◌, All, map, nat_lt, slice_index, list_any, IsStrictlyIncreasing, eqb-true, lt-ltb, All-head, All-tail, length-le_from_distinct_below, table, System, PlanValue, planned_of, satellites, SatelliteRow, IsPlan, IsSatelliteRow, AreSatelliteRows, rank_of, most_rows}
+use Rattle.rinex_file.proofs.Names.{arith, ◌≡◌, refl, subst, ℕ, suc, ◌+◌, ◌-◌, ◌<◌, ◌≤◌, Bool, true, false, List, [], ◌∷◌, length, if◌then◌else◌, All, map, nat_lt, slice_index, IsStrictlyIncreasing, lt-ltb, All-head, All-tail, table, System, PlanValue, planned_of, satellites, SatelliteRow, IsPlan, IsSatelliteRow, AreSatelliteRows, rank_of, most_rows}
 use Rattle.std.specs.List.{sum_by}
+use Rattle.gnss_obs.proofs.PlanLemmas.{few_below}
 use Rattle.std.proofs.Common.{◌*◌, le_trans, lit≤}
 use Rattle.gnss_system.specs.Systems.{systems, index_of, is_system}
 use Rattle.gnss_system.proofs.SystemLaws.{sum_at_most, sum_less, system_same}
 
 -- ---- signals
 
-one_below : (q x n : ℕ) (others : Bool) → x < n → (others ≡ true → q < n) → ((eqb q x) || others) ≡ true → q < n
-one_below q x n others less more h = grind (arith, eqb-true)
-
-each_below : (n : ℕ) (xs : List ℕ) → All (λ i. i < n) xs → (q : ℕ) → list_any (eqb q) xs ≡ true → q < n
-each_below n [] below q h = cc
-each_below n (x ∷ xs) below q h =
-    one_below q x n (list_any (eqb q) xs) (All-head (λ i. i < n) x xs below) (each_below n xs (All-tail (λ i. i < n) x xs below) q) h
-
 pub few_planned : (p : PlanValue) → IsPlan p → (system : System) → length (planned_of system p) ≤ length (table system)
-few_planned p is system =
-    length-le_from_distinct_below (planned_of system p) (length (table system)) (is.apart system) (each_below (length (table system)) (planned_of system p) (is.listed system))
+few_planned p is system = few_below (length (table system)) (planned_of system p) (is.listed system) (is.apart system)
 
 -- ---- satellites
 

@@ -1,13 +1,13 @@
 -- The lines of a file value are lines, and none is longer than the largest line that is read.
 use Rattle.rinex_file.specs.File.{lines_of_parts as lines_of_file}
-use Rattle.rinex_file.proofs.Rows.Sizes.{small_value, length-value, strength_fits, few_satellites}
+use Rattle.rinex_file.proofs.Rows.Sizes.{small_value, length-value, strength_fits, few_numbers}
 use Rattle.rinex_file.proofs.Rows.Trimmed.{filled, length-trimmed}
 use Rattle.rinex_file.proofs.Digits.Numbers.{has-append, has-right, lacks-padded, length-right, length-padded}
 use Rattle.rinex_file.proofs.FewRows.{few_most, few_rows}
 use Rattle.rinex_file.proofs.PlainTexts.{clean-fixed, IsPlain, plain-append, plain-padded, plain, plain-flat_map, plain-joined, also}
 use Rattle.rinex_file.proofs.Reading.Epochs.{few_signals_of}
 use Rattle.rinex_file.proofs.HeaderRows.Plain.{IsFileLine, as_line, of_80, whole_field, second_field, no_letter, IsShort, short_time, line_of_position, line_of_delta, lines_of_header}
-use Rattle.rinex_file.proofs.Names.{arith, lit≤, ◌≡◌, ◌∙◌, ap, refl, sym, subst, ℕ, ◌+◌, ◌*◌, ◌^◌, ◌<◌, ◌≤◌, ℤ, pos, false, Option, Some, None, IfSome, List, [], ◌∷◌, ◌++◌, length, replicate, decimal, get_or, append_assoc, ◌==◌, ◌||◌, map, flat_map, All, codes, AllByRecursion, or_parts, All-nil, All-head, All-tail, All-cons, All-append, All-map, satellites, System, StationValues, Civil, civil_of, PlanValue, trimmed, IsLine, event_line, stamped_lines, change_lines, file_lines, AreTexts, IsPlan, AreValues, FitsColumns, AreSignalValues, IsRow, IsSatelliteRow, IsStamped, IsChange, AreChanges, IsFileValue, changed_by, most_satellites, planned_in, header_lines, position_line, delta_line, epoch_line, field, lli_byte, strength_byte, signal_text, letter, row_text, satellite_line, joined, right, padded, fixed, has, HeaderLists, SignalValues, Row, SatelliteRow, Stamped, FileValue, most_line, most_signals}
+use Rattle.rinex_file.proofs.Names.{arith, lit≤, ◌≡◌, ◌∙◌, ap, refl, sym, subst, ℕ, ◌+◌, ◌*◌, ◌^◌, ◌<◌, ◌≤◌, ℤ, pos, false, Option, Some, None, IfSome, List, [], ◌∷◌, ◌++◌, length, replicate, decimal, get_or, append_assoc, ◌==◌, ◌||◌, map, flat_map, All, codes, AllByRecursion, or_parts, All-nil, All-head, All-tail, All-cons, All-append, All-map, satellites, System, StationValues, Civil, civil_of, PlanValue, trimmed, IsLine, event_line, stamped_lines, change_lines, file_lines, AreTexts, IsPlan, AreValues, FitsColumns, AreSignalValues, IsRow, IsSatelliteRow, IsStamped, IsChange, AreChanges, IsFileValue, changed_by, most_satellites, planned_in, header_lines, position_line, delta_line, epoch_line, field, lli_byte, strength_byte, signal_text, letter, row_text, satellite_line, joined, right, padded, fixed, has, HeaderLists, SignalValues, Row, SatelliteRow, Stamped, FileValue, most_line, most_signals, number_of}
 
 -- ---- epochs
 
@@ -75,19 +75,17 @@ plain_trimmed n text is = grind (arith, filled, has-append, length-trimmed, or_p
 plain_number : (n : ℕ) → n < 100 → IsPlain 2 (padded 2 n)
 plain_number n h = grind (arith, length-padded, lacks-padded)
 
-line_of_row : (letter signals most : ℕ) (r : Row) → IsRow most signals r → (letter == 10) ≡ false → most ≤ most_satellites → signals ≤ most_signals → IsFileLine (trimmed (row_text letter r) ++ 10 ∷ [])
-line_of_row letter signals most r is other few less =
+line_of_row : (letter number signals most : ℕ) (r : Row) → IsRow most signals r → (letter == 10) ≡ false → number < 100 → signals ≤ most_signals → IsFileLine (trimmed (row_text letter number r.signal_values) ++ 10 ∷ [])
+line_of_row letter number signals most r is other small less =
     let count = is.whole in
-    let number = is.satellite.1 in
-    let small : r.satellite < 100 = omega (arith, number, few) in
-    let columns = plain-append 2 (length r.signal_values * 64) (padded 2 r.satellite) (flat_map signal_text r.signal_values) (plain_number r.satellite small) (plain-flat_map 64 signal_text r.signal_values (λ k d h. plain_entry (get_or r.signal_values k d) (is.signal_values k d h))) in
-    let all = plain-append 1 (2 + length r.signal_values * 64) (letter ∷ []) (padded 2 r.satellite ++ flat_map signal_text r.signal_values)
+    let columns = plain-append 2 (length r.signal_values * 64) (padded 2 number) (flat_map signal_text r.signal_values) (plain_number number small) (plain-flat_map 64 signal_text r.signal_values (λ k d h. plain_entry (get_or r.signal_values k d) (is.signal_values k d h))) in
+    let all = plain-append 1 (2 + length r.signal_values * 64) (letter ∷ []) (padded 2 number ++ flat_map signal_text r.signal_values)
     (record { clean = ap (λ c. c || false) other; short = lit≤ tt }) columns in
-    as_line (1 + (2 + length r.signal_values * 64)) (trimmed (row_text letter r)) (plain_trimmed (1 + (2 + length r.signal_values * 64)) (row_text letter r) all) (omega (arith, count, less))
+    as_line (1 + (2 + length r.signal_values * 64)) (trimmed (row_text letter number r.signal_values)) (plain_trimmed (1 + (2 + length r.signal_values * 64)) (row_text letter number r.signal_values) all) (omega (arith, count, less))
 
 line_of_seen : (signals : System → ℕ) (s : SatelliteRow) → IsSatelliteRow signals s → ((t : System) → signals t ≤ most_signals) → IsFileLine (satellite_line s)
 unfolding satellite_line
-line_of_seen signals s is few = line_of_row (letter s.system) (signals s.system) (satellites s.system) s.row is.row (no_letter s.system) (few_satellites s.system) (few s.system)
+line_of_seen signals s is few = line_of_row (letter s.system) (number_of s.system s.row.satellite) (signals s.system) (satellites s.system) s.row is.row (no_letter s.system) (few_numbers s.system s.row.satellite is.row.satellite.1) (few s.system)
 
 -- ---- the whole
 

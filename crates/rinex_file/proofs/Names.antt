@@ -3,10 +3,11 @@ pub use Rattle.arrayvec.specs.ArrayVec.{array_vec_len}
 pub use Rattle.gnss_system.proofs.Checked.{is_equal, is_less, passes_at}
 pub use Rattle.gnss_obs.proofs.GroupLemmas.{Above, Climb, Left, left_all, sorted_climbs}
 pub use Rattle.gnss_obs.proofs.PlanLemmas.{any_index, few_signals, indices-push, length_indices, none_of}
+pub use Rattle.gnss_obs.specs.Channels.{AreChannels, ChannelsValue, most_number, no_channels, number_at, slot_count, with_number}
 pub use Rattle.gnss_obs.specs.Dates.{IsCivilOf, civil_of}
 pub use Rattle.gnss_obs.specs.GatheredEpochs.{AreGathered, AreGatheredEpochs, AreStationValues, IsCoordinate, IsGathered, IsGatheredEpoch, TimesRise, same_place}
 pub use Rattle.gnss_obs.specs.Plans.{place_in}
-pub use Rattle.gnss_system.specs.Satellites.{letter, most_satellites, satellites}
+pub use Rattle.gnss_system.specs.Satellites.{letter, most_satellites, number_of, satellites}
 pub use Rattle.gnss_system.specs.Systems.{index_of, is_system, systems}
 pub use Rattle.gnss_obs.specs.SignalLists.{IsAdded, IsOf, indices}
 pub use Rattle.gnss_system.specs.Signals.{IsSignal, SignalAt, code_of, most_signals, signal_of_code, table}
@@ -20,6 +21,8 @@ pub use Rattle.gnss_obs.specs.declared.civil.Civil.{Civil}
 pub use Rattle.gnss_system.specs.declared.system.System.{System}
 pub use Rattle.gnss_system.specs.declared.system.System.TheVariants.{Galileo, Gps}
 pub use Rattle.memchr.specs.Find.{IsFirstByte, is_byte}
+pub use Rattle.rtcm_bits.specs.Prefix.{IsPrefix}
+pub use Rattle.rinex_file.specs.Accepted.{AreBegunWith, AreEpochsBefore, AreEpochsRead, AreFirstEpochs, IsFaultAfter}
 pub use Rattle.rinex_file.specs.Begun.{AreBegun, IsEventBegun, lines_of_header, part_lines, whole_lines}
 unfoldable pub use Rattle.rinex_file.specs.Blanks.{trimmed}
 pub use Rattle.rinex_file.specs.Blanks.{IsEnded, before_cut, filled_to}
@@ -32,22 +35,24 @@ pub use Rattle.rinex_file.specs.File.{lines_of_systems}
 pub use Rattle.rinex_file.specs.FileValues.{AreChanges, AreSatelliteRows, AreSignalValues, AreTexts, AreValues, FitsColumns, HaveRoom, IsChange, IsFileValue, IsFirstSame, IsFrom, IsPlan, IsRow, IsSatelliteRow, IsStamped, IsText, IsTime, changed_by, has_some_value, most_rows, planned_in, rank_of, time_stamped, values_following}
 pub use Rattle.rinex_file.specs.Gathered.{AreSignals, HasSatellite}
 unfoldable pub use Rattle.rinex_file.specs.Header.{header_line, header_lines, row_line}
-pub use Rattle.rinex_file.specs.Header.{all_rows, codes_of, delta_line, end_line, flagged_letter, first_line, first_types, has_line, height_line, is_planned, letter_of, lengths, lines_from, most_type_rows, position_line, row_at, row_count, row_lines, row_place, strength_line, systems_letter, text_columns, texts_line, type_columns, type_front, type_line, type_of, type_rows, types_of, version_fields, version_by, version_line}
+pub use Rattle.rinex_file.specs.Header.{all_rows, codes_of, delta_line, biases_line, end_line, flagged_letter, first_line, first_slots, first_types, has_line, height_line, is_planned, letter_of, lengths, lines_from, most_type_rows, position_line, row_at, row_count, row_lines, row_place, slots_line, slots_with, strength_line, systems_letter, text_columns, texts_line, type_columns, type_front, type_line, type_of, type_rows, types_of, version_fields, version_by, version_line}
 pub use Rattle.rinex_file.specs.Limits.{most_line}
 unfoldable pub use Rattle.rinex_file.specs.Lines.{epoch_line, field, satellite_line, signal_text}
 pub use Rattle.rinex_file.specs.Lines.{epoch_fields, lli_byte, row_text, strength_byte}
 pub use Rattle.rinex_file.specs.Numbers.{fixed, joined, left, padded, right}
 pub use Rattle.rinex_file.specs.ParserState.{FollowsHistory, GoesOnWithLine, History, IsLast, IsNext, RefusesLine, ShowsLine, TakesLine, changes_of, events_in, nothing, progress_at, rows_in, stamped_at, with_line}
+pub use Rattle.rinex_file.specs.Read.EpochSteps.{HasReadTo, IsSummaryOf, ReadsNextEpoch}
 pub use Rattle.rinex_file.specs.Read.Fields.{ReadsExactly, digits_from, digits_in, has, next_digit, number_in, some_if}
-pub use Rattle.rinex_file.specs.Read.HeaderSteps.{EndsHeader, GoesOn, GoesTo, HasSignalAt, IsHeaderLineRead, IsOnly, NoneGoesOn, ReadsOrRefuses, ReadsOrRefusesTexts, ReadsTexts, RefusesHeaderLine, RefusesTexts, RefusesTypes, SameFrom, StepsTo, Takes, TakesHeaderLine, TakesTypes, begins_with, expected_if, if_fine, known_line, texts_in, with_first, with_letter, with_texts, with_types, with_values}
+pub use Rattle.rinex_file.specs.Read.HeaderSteps.{AreSlotsBefore, EndsHeader, IsLineOfSlots, SlotsFollow, TakesOrRefusesSlots, TakesSlots, with_slots, GoesOn, GoesTo, HasSignalAt, IsHeaderLineRead, IsOnly, NoneGoesOn, ReadsOrRefuses, ReadsOrRefusesTexts, ReadsTexts, RefusesHeaderLine, RefusesTexts, RefusesTypes, SameFrom, StepsTo, Takes, TakesHeaderLine, TakesTypes, begins_with, expected_if, if_fine, known_line, texts_in, with_first, with_letter, with_texts, with_types, with_values}
 unfoldable pub use Rattle.rinex_file.specs.Read.Keeping.{stamped_text}
 pub use Rattle.rinex_file.specs.Read.Keeping.{HasReadWhole, HasRoom, HaveRowsRoom, Stores, history_of}
 unfoldable pub use Rattle.rinex_file.specs.Read.Progress.{HasLinesLeft}
-pub use Rattle.rinex_file.specs.Read.Progress.{AreCounted, AreSameTexts, AreSized, AreTypes, AreTypesOf, AreValid, Has, HasRow, IsAt, IsBetween, IsHeadAt, IsInEpoch, IsInEvent, IsInHeader, IsPosition, IsShown, Known, Progress, Shown, StartsAt, counted, fits, is_chosen, shown_of, types_before, begun_at, epoch_after, expected_next, file_with, lines_after, lines_before, position_of, shown_line, shown_rows, shown_with, signals_begun, stamped, types_line, with_epoch, with_row}
+pub use Rattle.rinex_file.specs.Read.Progress.{AreCounted, AreSameTexts, AreSized, AreTypes, AreTypesOf, AreValid, Has, HasRow, IsAt, IsAtEpoch, IsHeadAt, IsInEpoch, IsInEvent, IsInHeader, IsPosition, IsShown, Known, Progress, Shown, StartsAt, counted, fits, is_chosen, shown_of, types_before, begun_at, epoch_after, expected_next, file_with, lines_after, lines_before, position_of, shown_line, shown_rows, shown_with, signals_begun, stamped, types_line, with_epoch, with_row, AreSameSlots, AreSlotsAt, AreSlotsRead, known_slots, slots_before}
 pub use Rattle.rinex_file.specs.Read.Row.{AreEntries, IsRowOf}
 pub use Rattle.rinex_file.specs.Read.Sound.{AreLinesAt, AreLinesOf, AreRead, HasReadLines, IsBegun, IsEventExpected, IsSound, IsSoundAt, MayBegin, values_now}
 pub use Rattle.rinex_file.specs.Read.Steps.{HasRead, IsTaken, IsTextOfOnly, IsWhole, ReadsNextLine, file_at}
-pub use Rattle.rinex_file.specs.Rows.{HasSignals}
+pub use Rattle.rinex_file.specs.Slots.{AreSlots, SlotNumber, channel_text, last_slot, slot_rows, slot_text, slots_columns, slots_from, slots_front, slots_in_line, slots_of}
+pub use Rattle.rinex_file.specs.Rows.{AreApart, HasColumns, IsBlankBut, values_at}
 pub use Rattle.rinex_file.specs.Texts.{HeaderLists, fault_of, fields, fields_of, first_fault, front_of, is_printable, label_of, place_of, text_count, text_of, text_row_index, text_rows, trimmed_texts, width_of}
 pub use Rattle.rinex_file.specs.TextsOf.{lists_of}
 pub use Rattle.rinex_file.specs.Times.{AreTimes, AreTimesOrNone, steps_of}
@@ -58,9 +63,9 @@ pub use Rattle.rinex_file.specs.declared.header.fields.HeaderField.{HeaderField}
 pub use Rattle.rinex_file.specs.declared.header.fields.HeaderField.TheVariants.{AntType}
 pub use Rattle.rinex_file.specs.declared.header.fields.TextRow.{TextRow}
 pub use Rattle.rinex_file.specs.declared.header.rows.HeaderRow.{HeaderRow}
-pub use Rattle.rinex_file.specs.declared.header.rows.HeaderRow.TheVariants.{Delta, End, First, Position, Shift, StrengthUnit, Texts, Types, Version}
+pub use Rattle.rinex_file.specs.declared.header.rows.HeaderRow.TheVariants.{Biases, Delta, End, First, Position, Shift, Slots, StrengthUnit, Texts, Types, Version}
 pub use Rattle.rinex_file.specs.declared.read.expected.AddedRow.{AddedRow}
-pub use Rattle.rinex_file.specs.declared.read.expected.AddedRow.TheVariants.{NoRow}
+pub use Rattle.rinex_file.specs.declared.read.expected.AddedRow.TheVariants.{LastRow, NoRow, OneRow}
 pub use Rattle.rinex_file.specs.declared.read.expected.Expected.{Expected}
 pub use Rattle.rinex_file.specs.declared.read.expected.Expected.TheVariants.{Epoch, EventEpoch, EventHeight, EventPosition, Header, Satellite}
 pub use Rattle.rinex_file.specs.declared.read.expected.Refusal.{Refusal}
@@ -77,7 +82,7 @@ pub use Rattle.rinex_file.specs.declared.read.reading.Reading.{Reading}
 pub use Rattle.rinex_file.specs.declared.read.times.EpochTimes.{EpochTimes}
 pub use Rattle.rinex_file.specs.declared.write.digits.TheConstants.{PAIRS}
 pub use Rattle.rtcm_bits.specs.Device.{AppendsPrefix, HasFailed}
-pub use Rattle.std.proofs.Common.{Fits, List, None, OnErr, Option, [], add-one, ap, append-nil, append_assoc, ap₂, arith, decimal, drop, eqb, filter, get_or, inl, inr, length, length-append, lit<, lit≤, negsuc, of_z, refl, replicate, rules, slice_index_or, subst, suc, sym, take, to_z, unsigned_abs, w64, w8, zero, zero-add, ℕ, ℤ, ◌%◌, ◌*◌, ◌++◌, ◌+◌, ◌/◌, ◌<◌, ◌^◌, ◌∙◌, ◌∷◌, ◌≡◌, ◌≤ℤ◌}
+pub use Rattle.std.proofs.Common.{Fits, ◌⊎◌, List, None, OnErr, Option, [], add-one, ap, append-nil, append_assoc, ap₂, arith, decimal, drop, eqb, filter, get_or, inl, inr, length, length-append, lit<, lit≤, negsuc, of_z, refl, replicate, rules, slice_index_or, subst, suc, sym, take, to_z, unsigned_abs, w64, w8, zero, zero-add, ℕ, ℤ, ◌%◌, ◌*◌, ◌++◌, ◌+◌, ◌/◌, ◌<◌, ◌^◌, ◌∙◌, ◌∷◌, ◌≡◌, ◌≤ℤ◌}
 pub use Rattle.std.proofs.KnownBytes.{Appends-nil, Appends-trans, Consumes-nil, Consumes-trans}
 pub use Rattle.std.proofs.Math.Nat.{div-le_self, le-min, min-eq_left, min-eq_right, min-le_left, min-le_right, mod-le, mod-lt, pow-le-pow_right, pow-suc}
 pub use Rattle.std.proofs.Math.Seq.{drop-append-add, drop-cons, take-add, take-append-add, take-append_seam}

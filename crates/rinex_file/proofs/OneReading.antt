@@ -4,8 +4,8 @@ use Rattle.rinex_file.proofs.Digits.Numbers.{has-append, has-right, length-right
 use Rattle.rinex_file.proofs.Digits.Padded.{two_digits}
 use Rattle.rinex_file.proofs.Fields.Lanes.{lane_is}
 use Rattle.rinex_file.proofs.HeaderRows.Texts.{trimmed-trimmed}
-use Rattle.rinex_file.proofs.Rows.Sizes.{length-value, length-field, length-room, length-signals, small_value, strength_fits, values_fit, all_values_fit, few_satellites, front_line}
-use Rattle.rinex_file.proofs.Names.{arith, ◌≡◌, ◌∙◌, sym, ap, ap₂, refl, subst, ℕ, zero, suc, ◌+◌, ◌-◌, ◌*◌, ◌/◌, ◌%◌, ◌<◌, ◌≤◌, List, [], ◌∷◌, ◌++◌, length, take, drop, replicate, get_or, ℤ, unsigned_abs, decimal, true, false, Option, Some, None, IfSome, flat_map, All, Bool, ◌||◌, is_negative, sign_text, take_at, drop_at, take_all, drop-drop, get_or_at, get_or-append-add, length_push, All-head, All-tail, take-append_seam, System, SignalValues, SatelliteRow, satellite_row, no_signal_values, FitsColumns, AreSignalValues, trimmed, filled_to, IsEnded, right, padded, fixed, field, signal_text, lli_byte, strength_byte, letter, row_text, satellite_line, has, number_in, ReadsExactly, IsRowOf, blanks}
+use Rattle.rinex_file.proofs.Rows.Sizes.{length-value, length-field, length-room, length-signals, small_value, strength_fits, values_fit, all_values_fit, few_numbers, front_line}
+use Rattle.rinex_file.proofs.Names.{arith, ◌≡◌, ◌∙◌, sym, ap, ap₂, refl, subst, ℕ, zero, suc, ◌+◌, ◌-◌, ◌*◌, ◌/◌, ◌%◌, ◌<◌, ◌≤◌, List, [], ◌∷◌, ◌++◌, length, take, drop, replicate, get_or, ℤ, unsigned_abs, decimal, true, false, Option, Some, None, IfSome, flat_map, All, Bool, ◌||◌, is_negative, sign_text, take_at, drop_at, take_all, drop-drop, get_or_at, get_or-append-add, length_push, All-head, All-tail, take-append_seam, System, SignalValues, SatelliteRow, satellite_row, no_signal_values, FitsColumns, AreSignalValues, trimmed, filled_to, IsEnded, right, padded, fixed, field, signal_text, lli_byte, strength_byte, letter, row_text, satellite_line, has, number_in, ReadsExactly, IsRowOf, blanks, number_of, satellites}
 
 -- ---- a field
 
@@ -168,12 +168,12 @@ number_once m n h k e =
     omega (arith, tens, ones)
 
 -- the parts of a satellite's line without its line feed
-pub record IsTextOf (text : List ℕ) (signals : ℕ) (v : SatelliteRow) : Type 0 where
-  pub small : v.row.satellite < 100
+pub record IsSatelliteText (text : List ℕ) (signals : ℕ) (v : SatelliteRow) : Type 0 where
+  pub small : number_of v.system v.row.satellite < 100
   pub long : 3 ≤ length text
   pub short : length text ≤ 3 + 64 * signals
   pub letter : get_or text 0 0 ≡ letter v.system
-  pub number : get_or text 1 0 ∷ get_or text 2 0 ∷ [] ≡ padded 2 v.row.satellite
+  pub number : get_or text 1 0 ∷ get_or text 2 0 ∷ [] ≡ padded 2 (number_of v.system v.row.satellite)
   pub columns : filled_to (64 * signals) (drop 3 text) ≡ flat_map signal_text v.row.signal_values
 
 -- a line feed that follows these bytes
@@ -192,16 +192,16 @@ three_kept id columns h =
     let b = 48 + id % 10 in
     ap (λ l. trimmed (l ++ columns)) (two_digits id h) ∙ trimmed-front a (b ∷ columns) (not_blank a (omega arith)) ∙ ap (λ l. a ∷ l) (trimmed-front b columns (not_blank b (omega arith)))
 
-pub text_of_line : (system : System) (signals : ℕ) (v : SatelliteRow) (line : List ℕ) → IsRowOf system signals v → line ≡ satellite_line v → IsTextOf (take (length line - 1) line) signals v
+pub text_of_line : (system : System) (signals : ℕ) (v : SatelliteRow) (line : List ℕ) → IsRowOf system signals v → line ≡ satellite_line v → IsSatelliteText (take (length line - 1) line) signals v
 text_of_line system signals v line (same, is) e =
     let columns = flat_map signal_text v.row.signal_values in
-    let id = v.row.satellite in
-    let small : id < 100 = omega (arith, is.satellite.1, few_satellites system) in
+    let id = number_of v.system v.row.satellite in
+    let small = few_numbers v.system v.row.satellite (subst (λ s. v.row.satellite ≤ satellites s) (sym same) is.satellite.1) in
     let first = letter v.system in
     let text = first ∷ (48 + id / 10) ∷ (48 + id % 10) ∷ trimmed columns in
     let size : length columns ≡ 64 * signals = length-signals v.row.signal_values (all_values_fit v.row.signal_values is.signal_values) ∙ ap (λ (n : ℕ). 64 * n) is.whole in
     let less = length-trimmed columns in
-    subst (λ (t : List ℕ). IsTextOf t signals v) (sym (feed_cut line text (e ∙ front_line v ∙ ap (λ t. first ∷ (t ++ 10 ∷ [])) (three_kept id columns small)))) (record {
+    subst (λ (t : List ℕ). IsSatelliteText t signals v) (sym (feed_cut line text (e ∙ front_line v ∙ ap (λ t. first ∷ (t ++ 10 ∷ [])) (three_kept id columns small)))) (record {
       small = small;
       long = omega arith;
       short = omega (arith, size, less);
@@ -213,18 +213,23 @@ text_of_line system signals v line (same, is) e =
 same_row : (v w : SatelliteRow) → v.system ≡ w.system → v.row.satellite ≡ w.row.satellite → v.row.signal_values ≡ w.row.signal_values → v ≡ w
 same_row v w s n es = ap₂ (λ a b. satellite_row a b v.row.signal_values) s n ∙ ap (satellite_row w.system w.row.satellite) es
 
+same_id : (v w : SatelliteRow) → v.system ≡ w.system → number_of v.system v.row.satellite ≡ number_of w.system w.row.satellite → v.row.satellite ≡ w.row.satellite
+same_id v w s e = by _ _ _ (subst (λ (t : System). number_of t v.row.satellite ≡ number_of w.system w.row.satellite) s e) where
+  by : (m n k : ℕ) → m + k ≡ n + k → m ≡ n
+  by m n k e = omega (arith, e)
+
 pub line_once : (system : System) (signals : ℕ) {v w : SatelliteRow} {line : List ℕ} → IsRowOf system signals v → IsRowOf system signals w → line ≡ satellite_line v → line ≡ satellite_line w → v ≡ w
 line_once system signals {v} {w} {line} is also e f =
     let a = text_of_line system signals v line is e in
     let b = text_of_line system signals w line also f in
-    same_row v w (is.0 ∙ sym also.0) (number_once v.row.satellite w.row.satellite a.small b.small (sym a.number ∙ b.number))
+    same_row v w (is.0 ∙ sym also.0) (same_id v w (is.0 ∙ sym also.0) (number_once _ _ a.small b.small (sym a.number ∙ b.number)))
     (signals_once v.row.signal_values w.row.signal_values is.1.signal_values also.1.signal_values (is.1.whole ∙ sym also.1.whole) (sym a.columns ∙ b.columns))
 
 -- it ends in a line feed that follows another byte than a blank
 pub line_ended : (v : SatelliteRow) (line : List ℕ) → line ≡ satellite_line v → IsEnded line
 unfolding satellite_line
 line_ended v line e =
-    let text = row_text (letter v.system) v.row in
+    let text = row_text (letter v.system) (number_of v.system v.row.satellite) v.row.signal_values in
     let front = front_line v in
     (trimmed text, e, some (trimmed text) _ _ front, trimmed-trimmed text) where
       some : (text rest : List ℕ) (b : ℕ) → text ++ 10 ∷ [] ≡ b ∷ (rest ++ 10 ∷ []) → 0 < length text

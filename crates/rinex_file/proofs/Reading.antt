@@ -6,3 +6,4 @@ pub mod Events
 pub mod Header
 pub mod Times
 pub mod Summary
+pub mod Accepted

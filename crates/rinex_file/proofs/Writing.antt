@@ -1,5 +1,6 @@
 -- Lines and files as they are written.
 pub mod Sent
+pub mod Skipped
 pub mod Satellites
 pub mod OwnCells
 pub mod Stored

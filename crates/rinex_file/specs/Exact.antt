@@ -28,7 +28,7 @@ abbrev pub IsFound : Found → List ℕ → Option (List ℕ) → ℕ → ℕ �
 IsFound Line bytes left old new = IsLine bytes × (new ≡ old)
 IsFound End bytes left old new = (has 10 bytes ≡ false) × IsAtEnd left × (new ≡ old) × (length bytes < most_line)
 IsFound Long bytes left old new = (length bytes ≡ most_line) × (has 10 bytes ≡ false) × (new ≡ old)
-IsFound Failed bytes left old new = HasFailed old new
+IsFound Failed bytes left old new = HasFailed old new × (has 10 bytes ≡ false)
 
 -- `lines` are the first lines of the input, and `rest` follows them
 pub record AreFirstLines (input : List ℕ) (lines : List (List ℕ)) (rest : List ℕ) : Type 0 where

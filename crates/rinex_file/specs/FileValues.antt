@@ -5,11 +5,13 @@ use Rattle.std.specs.Prelude.{IfSome, IsTrue}
 use Rattle.std.specs.List.{IsDistinct, list_all, sum_by}
 use Rattle.std.specs.List.Sorted.{IsStrictlyIncreasing}
 use Rattle.gnss_system.specs.declared.system.System.{System}
+use Rattle.gnss_system.specs.declared.system.System.TheVariants.{Glonass}
 use Rattle.gnss_system.specs.Systems.{systems, index_of}
 use Rattle.gnss_system.specs.Satellites.{satellites}
 use Rattle.gnss_system.specs.Signals.{table}
 use Rattle.gnss_obs.specs.declared.cell.StationValues.{StationValues}
 use Rattle.gnss_obs.specs.GatheredEpochs.{IsCoordinate}
+use Rattle.gnss_obs.specs.Channels.{AreChannels, no_channels}
 use Rattle.gnss_obs.specs.Values.{PlanValue, planned_of}
 use Rattle.gnss_obs.specs.Weeks.{week, weeks}
 use Rattle.rinex_file.specs.declared.header.fields.HeaderField.{HeaderField}
@@ -30,11 +32,13 @@ pub record AreTexts (x : HeaderLists) : Type 0 where
   pub count : length x ≡ text_count
   pub each : (field : HeaderField) → IsText (width_of field) (text_of x field)
 
--- listed signals, none of them twice, and at least one in all
+-- listed signals, none of them twice, and at least one in all; channels only if a signal of GLONASS is planned
 pub record IsPlan (p : PlanValue) : Type 0 where
   pub listed : (system : System) → All (λ i. i < length (table system)) (planned_of system p)
   pub apart : (system : System) → IsDistinct nat_eq (planned_of system p)
-  pub some : 0 < length p.gps + length p.galileo
+  pub some : (system : System) × (0 < length (planned_of system p))
+  pub channels : AreChannels p.channels
+  pub unplanned : planned_of Glonass p ≡ [] → p.channels ≡ no_channels
 
 -- z is at least `low` and at most `high`
 abbrev pub IsFrom : ℤ → ℤ → ℤ → Type 0

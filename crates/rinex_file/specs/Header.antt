@@ -3,10 +3,10 @@ use Rattle.std.specs.Prelude.{ℕ, zero, suc, ℤ, pos, ◌+◌, ◌*◌, ◌/�
 use Rattle.std.specs.Prelude.{take, drop, map, flat_map, replicate, decimal, codes, get_or, Bool, true, false, nat_lt}
 use Rattle.std.specs.List.{filter}
 use Rattle.gnss_system.specs.Satellites.{letter}
-use Rattle.gnss_system.specs.Systems.{systems, is_system}
+use Rattle.gnss_system.specs.Systems.{systems, index_of}
 use Rattle.gnss_system.specs.Signals.{code_of}
 use Rattle.gnss_system.specs.declared.system.System.{System}
-use Rattle.gnss_system.specs.declared.system.System.TheVariants.{Gps, Galileo}
+use Rattle.gnss_system.specs.declared.system.System.TheVariants.{Glonass}
 use Rattle.gnss_obs.specs.declared.cell.StationValues.{StationValues}
 use Rattle.gnss_obs.specs.declared.civil.Civil.{Civil}
 use Rattle.gnss_obs.specs.Values.{PlanValue, planned_of}
@@ -15,8 +15,9 @@ use Rattle.rinex_file.specs.declared.header.fields.TextRow.{TextRow}
 use Rattle.rinex_file.specs.declared.header.rows.HeaderRow.{HeaderRow}
 use Rattle.rinex_file.specs.declared.header.rows.TheConstants.{ROWS}
 use Rattle.rinex_file.specs.declared.header.rows.HeaderRow.TheVariants.{Version, Texts, Position, Delta, Types}
-use Rattle.rinex_file.specs.declared.header.rows.HeaderRow.TheVariants.{StrengthUnit, First, Shift, End}
+use Rattle.rinex_file.specs.declared.header.rows.HeaderRow.TheVariants.{StrengthUnit, First, Shift, Slots, Biases, End}
 use Rattle.rinex_file.specs.Numbers.{joined, left, right, fixed}
+use Rattle.rinex_file.specs.Slots.{SlotNumber, slots_of, slots_columns, slot_rows}
 use Rattle.rinex_file.specs.Limits.{content_columns, label_columns, types_in_line}
 use Rattle.rinex_file.specs.Texts.{HeaderLists, width_of, text_of, fields_of, text_row_index, front_of, label_of}
 
@@ -113,6 +114,20 @@ codes_of system signals = map (λ index. code_of (record { system = system; inde
 abbrev pub shift_line : System → List ℕ
 shift_line system = header_line (letter system ∷ []) (codes "SYS / PHASE SHIFT")
 
+-- ---- channels of GLONASS
+
+-- a line of slots with a channel; there are `count`, and these are the first of them
+abbrev pub slots_with : ℕ → List SlotNumber → ℕ → List ℕ
+slots_with count slots row = header_line (slots_columns count slots row) (codes "GLONASS SLOT / FRQ #")
+
+-- a line of these slots, all of them
+abbrev pub slots_line : List SlotNumber → ℕ → List ℕ
+slots_line slots row = slots_with (length slots) slots row
+
+-- the line of unknown biases
+abbrev pub biases_line : List ℕ
+biases_line = header_line [] (codes "GLONASS COD/PHS/BIS")
+
 -- ---- units, time and end
 
 abbrev pub strength_line : List ℕ
@@ -143,12 +158,17 @@ row_line x p v t (Types system row) =
 row_line x p v t StrengthUnit = strength_line
 row_line x p v t First = first_line t
 row_line x p v t (Shift system) = shift_line system
+row_line x p v t (Slots row) = slots_line (slots_of p.channels) row
+row_line x p v t Biases = biases_line
 row_line x p v t End = end_line
 
--- whether a row is in the header: types and phase shifts are those of a planned system
+-- whether a row is in the header: types and phase shifts are those of a planned system, channels those of GLONASS
 abbrev pub has_line : PlanValue → HeaderRow → Bool
 has_line p (Types system row) = nat_lt row (type_rows (length (planned_of system p)))
 has_line p (Shift system) = is_planned p system
+has_line p (Slots zero) = is_planned p Glonass
+has_line p (Slots (suc row)) = nat_lt (suc row) (slot_rows (length (slots_of p.channels)))
+has_line p Biases = is_planned p Glonass
 has_line p other = true
 
 abbrev pub row_lines : HeaderLists → PlanValue → StationValues → Civil → HeaderRow → List (List ℕ)
@@ -180,30 +200,32 @@ abbrev pub index_where : (HeaderRow → Bool) → List HeaderRow → ℕ
 index_where test [] = 0
 index_where test (row ∷ rows) = if test row then 0 else 1 + index_where test rows
 
--- the rows of the same kind and system
+-- the rows of the same kind, but for those of a system
 abbrev pub is_alike : HeaderRow → HeaderRow → Bool
 is_alike Version Version = true
 is_alike (Texts a) (Texts b) = true
 is_alike Position Position = true
 is_alike Delta Delta = true
-is_alike (Types s a) (Types t b) = is_system s t
 is_alike StrengthUnit StrengthUnit = true
 is_alike First First = true
-is_alike (Shift s) (Shift t) = is_system s t
+is_alike Biases Biases = true
 is_alike End End = true
 is_alike other row = false
 
--- the index of the first row of a system's types
+-- the index of the first row of a system's types: after the height's, in the order of the systems
 abbrev pub first_types : System → ℕ
-first_types Gps = index_where (is_alike (Types Gps 0)) all_rows
-first_types Galileo = index_where (is_alike (Types Galileo 0)) all_rows
+first_types system = index_where (is_alike Delta) all_rows + 1 + most_type_rows * index_of system
+
+-- the index of the first row of slots: after the phase shifts
+abbrev pub first_slots : ℕ
+first_slots = index_where (is_alike First) all_rows + 1 + length systems
 
 -- the index of a row
 abbrev pub row_place : HeaderRow → ℕ
 row_place (Texts row) = index_where (is_alike (Texts row)) all_rows + text_row_index row
 row_place (Types system row) = first_types system + row
-row_place (Shift Gps) = index_where (is_alike (Shift Gps)) all_rows
-row_place (Shift Galileo) = index_where (is_alike (Shift Galileo)) all_rows
+row_place (Shift system) = index_where (is_alike First) all_rows + 1 + index_of system
+row_place (Slots row) = first_slots + row
 row_place other = index_where (is_alike other) all_rows
 
 -- the lines of the rows from an index on

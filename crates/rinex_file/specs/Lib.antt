@@ -5,6 +5,7 @@ pub mod Blanks
 pub mod Texts
 pub mod Value
 pub mod Lines
+pub mod Slots
 pub mod Rows
 pub mod Header
 pub mod File
@@ -13,6 +14,7 @@ pub mod TextsOf
 pub mod FileValues
 pub mod Begun
 pub mod Exact
+pub mod Accepted
 pub mod Times
 pub mod ParserState
 pub mod Blocks

@@ -3,11 +3,11 @@ use Rattle.std.specs.Prelude.{ℕ, ℤ, pos, ◌+◌, ◌*◌, ◌==◌, List, [
 use Rattle.std.specs.Prelude.{if◌then◌else◌, Option, Some, None}
 use Rattle.std.specs.Option.{option_map_or}
 use Rattle.gnss_obs.specs.Observables.{strength_digit}
-use Rattle.gnss_system.specs.Satellites.{letter}
+use Rattle.gnss_system.specs.Satellites.{letter, number_of}
 use Rattle.gnss_obs.specs.declared.civil.Civil.{Civil}
 use Rattle.rinex_file.specs.Numbers.{joined, right, fixed, padded}
 use Rattle.rinex_file.specs.Blanks.{trimmed}
-use Rattle.rinex_file.specs.Value.{SignalValues, Row, SatelliteRow}
+use Rattle.rinex_file.specs.Value.{SignalValues, SatelliteRow}
 use Rattle.rinex_file.specs.Limits.{value_columns}
 
 -- the fields of the first line of an epoch with this number of satellites
@@ -45,9 +45,10 @@ signal_text e =
     ++ (field e.l (lli_byte e.lli) (strength_byte e.s) ++ (field e.d 32 32 ++ field e.s 32 32))
 
 -- letter and number of a satellite, and the columns of its signals
-abbrev pub row_text : ℕ → Row → List ℕ
-row_text byte r = byte ∷ padded 2 r.satellite ++ flat_map signal_text r.signal_values
+abbrev pub row_text : ℕ → ℕ → List SignalValues → List ℕ
+row_text byte number values = byte ∷ padded 2 number ++ flat_map signal_text values
 
 -- the line of a satellite, without trailing blanks
 unfoldable pub satellite_line : SatelliteRow → List ℕ
-satellite_line s = trimmed (row_text (letter s.system) s.row) ++ 10 ∷ []
+satellite_line s =
+    trimmed (row_text (letter s.system) (number_of s.system s.row.satellite) s.row.signal_values) ++ 10 ∷ []

@@ -6,3 +6,4 @@ pub mod Progress
 pub mod Sound
 pub mod Steps
 pub mod Keeping
+pub mod EpochSteps

@@ -5,5 +5,6 @@ pub(crate) mod head;
 pub(crate) mod letters;
 pub(crate) mod lines;
 pub(crate) mod rows;
+pub(crate) mod slots;
 pub(crate) mod texts;
 pub(crate) mod types;

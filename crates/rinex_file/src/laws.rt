@@ -8,7 +8,7 @@ ghost use Rattle.rinex_file.specs.Gathered.{AreSignals, IsGatheredFile};
 ghost use Rattle.rinex_file.specs.File.{header_text, file_text, gathered, IsTextInParts};
 
 use crate::header::texts::HeaderTexts;
-use gnss_obs::{Plan, System};
+use gnss_obs::Plan;
 
 /// The output of the writers is the text of a file value: the header of the first epoch, and then
 /// each epoch in turn, after an event if its station values differ from those before.
@@ -36,6 +36,5 @@ pub fn head(texts: &HeaderTexts, plan: &Plan)
     ensures plan { AreSignals plan.now }
 {
     texts.are_texts();
-    plan.of(System::Gps);
-    plan.of(System::Galileo);
+    plan.are_listed();
 }

@@ -4,7 +4,8 @@
 //! [`header_lines`], [`epoch_line`] and [`satellite_line`] format lines; [`write_header`],
 //! [`write_event`] and [`write_epoch`] write them. None of these allocates memory. [`read_file`]
 //! reads a file back, [`check_file`] only counts its contents, [`check_file_times`] also returns
-//! the times of its epochs, and [`file_bytes`] returns the text of a file that was read.
+//! the times of its epochs, an [`EpochReader`] returns epoch by epoch, and [`file_bytes`] returns
+//! the text of a file that was read.
 #![tactic(auto)]
 
 mod header;
@@ -17,6 +18,7 @@ pub use header::fault::HeadFault;
 pub use header::fields::HeaderField;
 pub use header::head::{Head, HeaderLines, header_lines};
 pub use header::texts::{HeaderTexts, Texts};
+pub use read::epochs::{EpochReader, NextEpoch};
 pub use read::fault::ReadFault;
 pub use read::file::{Counts, FileSummary, check_file, check_file_times, read_file};
 pub use read::times::EpochTimes;

@@ -1,6 +1,7 @@
 //! Reading a file line by line: a satellite's line is judged in place; the fields of other lines
 //! are read leniently, written again, and compared.
 pub(crate) mod epoch;
+pub(crate) mod epochs;
 pub(crate) mod expected;
 pub(crate) mod fault;
 pub(crate) mod fields;
@@ -12,5 +13,6 @@ pub(crate) mod numbers;
 pub(crate) mod parser_state;
 pub(crate) mod reading;
 pub(crate) mod row;
+pub(crate) mod slots;
 pub(crate) mod times;
 pub(crate) mod types;

@@ -6,9 +6,9 @@ ghost use Rattle.rinex_file.specs.ParserState.{events_in};
 
 use crate::header::texts::HeaderTexts;
 use crate::read::file::Counts;
-use crate::write::line::MOST_SIGNALS;
 use arrayvec::ArrayVec;
 use gnss_obs::{GpsTime, Plan, StationValues, System, Thousandths};
+use gnss_system::MOST_SIGNALS;
 use std::marker::Model;
 
 /// The values of a signal in a line: pseudorange (m), phase (cycles), Doppler (Hz) and strength

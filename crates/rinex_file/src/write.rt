@@ -6,6 +6,7 @@ ghost use Rattle.gnss_system.specs.Satellites.{satellites};
 ghost use Rattle.gnss_system.specs.Systems.{systems};
 ghost use Rattle.rinex_file.specs.File.{event_text, epoch_text, lines_of_systems, lines_up_to};
 ghost use Rattle.rinex_file.specs.Heads.{head_text};
+ghost use Rattle.rinex_file.specs.Rows.{IsBlankBut};
 
 pub(crate) mod digits;
 pub(crate) mod epoch;
@@ -75,23 +76,27 @@ fn write_system<W: Write>(
     plan: &Plan,
     system: System,
     row: &mut [u8; MOST_LINE],
+    used: &mut u64,
     writer: &mut Counted<W>,
 ) -> Result<(), DeviceFailed>
+    requires { IsBlankBut used.old row.old }
     ensures whole { OnOk result (Appends (W.contents writer.old.inner) (W.contents writer.new.inner)
         (lines_up_to plan.now epoch.now.epoch system (satellites system))) }
     ensures part { OnErr result (AppendsPrefix (W.contents writer.old.inner) (W.contents writer.new.inner)
         (lines_up_to plan.now epoch.now.epoch system (satellites system))) }
     ensures device { FailsWith result writer.old writer.new }
+    ensures blank { OnOk result (IsBlankBut used.new row.new) }
 {
     let cells = epoch.cells(system);
     let mut from = 0;
-    for before in 0..system.satellites() {
-        let id = before + 1;
+    while from < cells.len() {
+        let id = cells[from].satellite.id();
         let to = end_of(cells, from, id);
         let own = &cells[from..to];
         if is_written(own, id) {
-            let size = put_satellite_line(row, own, plan, system, id);
+            let size = put_satellite_line(row, used, own, plan, system, id);
             writer.write_whole(&row[..size])?;
+            row[size - 1] = b' ';
         }
         from = to;
     }
@@ -112,8 +117,9 @@ fn write_systems<W: Write>(
     ensures device { FailsWith result writer.old writer.new }
 {
     let mut row = [b' '; MOST_LINE];
+    let mut used = 0;
     for i in 0..SYSTEMS.len() {
-        write_system(epoch, plan, System::at(i), &mut row, writer)?;
+        write_system(epoch, plan, System::at(i), &mut row, &mut used, writer)?;
     }
     Ok(())
 }

@@ -197,9 +197,9 @@ isnt_answered name isnt answers = by (bytes_eq (codes "help") name) refl answers
       let bad : true ≡ false = sym is ∙ isnt in
       cc
 
-of_each : (names : Bor (List (Bor Text))) (name : Text) → bytes_eq name (codes "help") ≡ false → Answers IsCommand name (built (program names)).subs
+of_each : (forms rules : Bor (List (Bor Text))) (name : Text) → bytes_eq name (codes "help") ≡ false → Answers IsCommand name (built (program forms rules)).subs
 unfolding Answers Each
-of_each names name isnt = (
+of_each forms rules name isnt = (
   λ t. inl refl,
   (
     λ t. inr (inl refl),
@@ -212,9 +212,9 @@ of_each names name isnt = (
 
 pub command_asked : (a : App) (words : List Text) → IsProgram a → fault_of a words ≡ []
     → (name : Text) × (options : List Row) × IsCommand name × (subcommand_of a words ≡ Some (name, options))
-command_asked a words (names, rules, is) none =
+command_asked a words (forms, rules, are, also, is) none =
     subst (λ (x : App). fault_of x words ≡ [] → (name : Text) × (options : List Row) × IsCommand name × (subcommand_of x words ≡ Some (name, options))) (sym is)
-    (name_asked IsCommand (program names) words refl refl (of_each names)) none
+    (name_asked IsCommand (program forms rules) words refl refl (of_each forms rules)) none
 
 -- a parse finds the command that the words ask for
 pub found_command : (a : App) (words : List Text) (r : Result ArgMatches Error) → IsProgram a → is_simple_and_free a ≡ true → FailsBy (fault_of a words) r

@@ -1,6 +1,6 @@
 -- The meaning of the exit status.
 use Rattle.rtcm2rinex.proofs.CommandLineLemmas.{is_version}
-use Rattle.rtcm2rinex.proofs.Names.{◌≡◌, ◌∙◌, inl, inr, refl, sym, subst, codes, ap, ap₂, option_map, ℕ, List, Option, Some, None, Result, Ok, Err, arith, ⊤, ◌≢◌, ◌⊎◌, IsCommand, box_value, option_map_or, Box, found_of, subcommand_rows, subcommand_rows_of, Row, Text, one_of, rows_of, out-SubCommand, SubCommand, kind_of, Error, ArgMatches, Device, SelectsCommand, IsFoundIn, RefusesWords, EndsOptionsAsked, RefusesDate, StopsOptionsAsked, EndsOptions, AreRefused, AreRefusedBy, EndsCommand, EndsFound, HasCommand, HasCompleted, HasDone, HasPrinted, HasStopped, HasStoppedEarly, HasStoppedPrinting, StopsPrinting, fault_status, status_of, error_line, length, lit<, ◌<◌, PrintsLine, PrintsSome, PrintsFault, IsNearRefused, IsNearSet, IsNumberOf, IsUntouched, InspectFault, Ends, IsInspected, of_inspection, ToolFault}
+use Rattle.rtcm2rinex.proofs.Names.{◌≡◌, ◌∙◌, inl, inr, refl, sym, subst, codes, ap, ap₂, option_map, ℕ, List, Option, Some, None, Result, Ok, Err, arith, ⊤, ◌≢◌, ◌⊎◌, IsCommand, box_value, option_map_or, Box, found_of, subcommand_rows, subcommand_rows_of, Row, Text, one_of, rows_of, out-SubCommand, SubCommand, kind_of, Error, ArgMatches, Device, SelectsCommand, IsFoundIn, RefusesWords, EndsCheck, EndsCheckAsked, EndsOptionsAsked, RefusesDate, RefusesGaps, StopsCheckAsked, StopsOptionsAsked, gaps_set, has_flag, EndsOptions, AreRefused, AreRefusedBy, EndsCommand, EndsFound, HasCommand, HasCompleted, HasDone, HasPrinted, HasStopped, HasStoppedEarly, HasStoppedPrinting, StopsPrinting, fault_status, status_of, error_line, length, lit<, ◌<◌, PrintsLine, PrintsSome, PrintsFault, IsNearRefused, IsNearSet, IsNumberOf, IsUntouched, InspectFault, Ends, IsInspected, of_inspection, ToolFault}
 use Rattle.clap.specs.declared.error.kind.ErrorKind.TheVariants as kind
 use Rattle.rtcm_inspect.specs.Devices as devices
 use Rattle.rtcm2rinex.specs.declared.fault.ToolFault.TheVariants as faults
@@ -18,6 +18,8 @@ never_zero : (fault : ToolFault) → fault_status fault ≡ 0 → ⊥
 never_zero (faults.BadDate o) e = two_zero e
 never_zero faults.BadPosition e = two_zero e
 never_zero faults.BadHeight e = two_zero e
+never_zero faults.BadChannels e = two_zero e
+never_zero faults.BadGaps e = two_zero e
 never_zero other e = one_zero e
 
 -- the devices of a command: what is known of them, and the reader and the writer before and after it
@@ -82,7 +84,21 @@ inspection_found {n = n} {o} d printed unsent e inspection same found by h = (
 pub options_stopped : {R W : Type 0} {n : Text} (d : Devices R W) (o : List Row) (fault : ToolFault) → n ≡ codes "options"
     → IsInspected (StopsOptionsAsked o d.left d.r d.r2 d.held d.waits d.w d.w2) fault ⊎ RefusesDate o d.r d.r2 d.w d.w2 fault → HasStopped d.left d.r d.r2 d.held d.waits d.w d.w2 n o fault
 options_stopped d o fault is (inl (e, same, stops)) = inr (inl (e, same, inr (inr (inr (inl (is, stops))))))
-options_stopped d o fault is (inr refused) = inr (inr (is, refused))
+options_stopped d o fault is (inr refused) = inr (inr (inl (is, refused)))
+
+-- the command `check` was stopped
+pub check_stopped : {R W : Type 0} {n : Text} (d : Devices R W) (o : List Row) (fault : ToolFault) → n ≡ codes "check"
+    → IsInspected (StopsCheckAsked o d.left d.r d.r2 d.held d.waits d.w d.w2) fault ⊎ RefusesGaps o d.r d.r2 d.w d.w2 fault → HasStopped d.left d.r d.r2 d.held d.waits d.w d.w2 n o fault
+check_stopped d o fault is (inl (e, same, stops)) = inr (inl (e, same, inr (inr (inr (inr (is, stops))))))
+check_stopped d o fault is (inr refused) = inr (inr (inr (is, refused)))
+
+-- how it ended after a valid interval, or without one
+pub check_ended : {A R W : Type 0} {ended : Result A ToolFault} (d : Devices R W) (inspection : Result A InspectFault) (o : List Row) (interval : Option ℕ) → ended ≡ of_inspection inspection → gaps_set o ≡ Ok interval
+    → EndsCheck inspection (has_flag (codes "times") o) interval d.left d.r d.r2 d.held d.waits d.w d.w2 → EndsCheckAsked ended o d.left d.r d.r2 d.held d.waits d.w d.w2
+check_ended d inspection o interval same given h =
+    subst (λ x. EndsCheckAsked x o d.left d.r d.r2 d.held d.waits d.w d.w2) (sym same)
+    (ends_inspected inspection d (λ fault. IsInspected (StopsCheckAsked o d.left d.r d.r2 d.held d.waits d.w d.w2) fault ⊎ RefusesGaps o d.r d.r2 d.w d.w2 fault)
+    (λ x p. (interval, given, p)) (λ e s. inl (e, refl, (interval, given, s))) h)
 
 -- how it ended after a valid date
 pub options_ended : {A R W : Type 0} {ended : Result A ToolFault} (d : Devices R W) (inspection : Result A InspectFault) (o : List Row) (near wanted : Option ℕ) → ended ≡ of_inspection inspection
@@ -147,7 +163,8 @@ refused_by : {R W : Type 0} (d : Devices R W) (name : Text) (options : List Row)
 refused_by d name options fault two (inl (n, inl (refused, untouched))) = (inl (n, refused), untouched)
 refused_by d name options fault two (inl (n, inr (x, start, (e, same, stops)))) = absurd (one_two (sym (ap fault_status same) ∙ two))
 refused_by d name options fault two (inr (inl (e, same, stops))) = absurd (one_two (sym (ap fault_status same) ∙ two))
-refused_by d name options fault two (inr (inr (n, refused))) = (inr (n, refused.0), refused.1)
+refused_by d name options fault two (inr (inr (inl (n, refused)))) = (inr (inl (n, refused.0)), refused.1)
+refused_by d name options fault two (inr (inr (inr (n, refused)))) = (inr (inr (n, refused.0)), refused.1)
 
 pub refused_at_two : {R W E : Type 0} {d : Devices R W} {printed : E → Option (List ℕ)} {unsent : E → List ℕ} {e e1 e2 : Device E} {words : List Text} {m : ArgMatches} {status : ℕ} (ended : Result ⊤ ToolFault) → Served d printed unsent e e1 e2 words m ended status → status ≡ 2
     → AreRefused printed unsent e e2 words × IsUntouched d.r d.r2 d.w d.w2

@@ -67,9 +67,9 @@ with_command {sub} {below} added was is plain =
     added.shape (has_local sub below is plain) ∙ ap₂ with_subcommand was (ap (λ (x : App). x.top) is)
 
 -- clap's definitions read the words by these commands and options
-pub is_read : (names : Bor (List (Bor Text))) → is_simple_and_free (program names) ≡ true
+pub is_read : (forms rules : Bor (List (Bor Text))) → is_simple_and_free (program forms rules) ≡ true
 unfolding clap_on_literals
-is_read names = refl
+is_read forms rules = refl
 
 pub is_simple_read : (a : App) → is_simple_and_free a ≡ true → is_simple a ≡ true
 is_simple_read a read = first_half (is_simple a) (is_free_app (built a)) read

@@ -22,30 +22,34 @@ pub use Rattle.clap.specs.declared.parser.matches.ArgMatches.TheViews.{out-SubCo
 pub use Rattle.clap.specs.declared.parser.matches.Found.{Found}
 pub use Rattle.clap.specs.declared.parser.matches.SubCommand.{SubCommand}
 pub use Rattle.gnss_obs.specs.GatheredEpochs.{AreStationValues}
+pub use Rattle.gnss_obs.specs.Channels.{AreChannels, ChannelsValue}
 pub use Rattle.gnss_obs.specs.Values.{no_values}
 pub use Rattle.gnss_obs.specs.declared.cell.StationValues.{StationValues}
-pub use Rattle.rtcm2rinex.specs.Asked.{EndsCheck, EndsOptionsAsked, RefusesDate, StopsOptionsAsked}
+pub use Rattle.rtcm2rinex.specs.Asked.{EndsCheck, EndsCheckAsked, EndsOptionsAsked, RefusesDate, RefusesGaps, StopsCheckAsked, StopsOptionsAsked}
 pub use Rattle.rtcm2rinex.specs.CommandLine.{FailsParsing, IsCommand, IsFoundIn, IsProgram, Makes, RefusesWords, SelectsCommand, command_set, more_of, option_set, program, start_of, with_commands, with_options}
 pub use Rattle.rtcm2rinex.specs.Commands.{AreRefused, AreRefusedBy, EndsCommand, EndsFound, HasCommand, HasCompleted, HasDone, HasPrinted, HasStopped, HasStoppedEarly, HasStoppedPrinting, StopsPrinting, fault_status, status_of}
 pub use Rattle.rtcm2rinex.specs.Converting.{EndsConversion, EndsConverting, StopsConversion, StopsConverting}
+pub use Rattle.rtcm_inspect.specs.ChannelTexts.{channels_of, channels_text}
 pub use Rattle.rtcm_inspect.specs.Dates.{IsHourOf, IsWeekOf}
 pub use Rattle.rtcm2rinex.specs.Devices.{Ends, HaveFailedBy, IsInspected, of_inspection}
 unfoldable pub use Rattle.rtcm2rinex.specs.ErrorLines.{error_line}
 pub use Rattle.rtcm2rinex.specs.ErrorLines.{error_words}
-pub use Rattle.rtcm_inspect.specs.Lengths.{length_below, position_of}
+pub use Rattle.rtcm_inspect.specs.Lengths.{interval_of, length_below, position_of}
 pub use Rattle.rtcm2rinex.specs.Printing.{PrintsFault}
 unfoldable pub use Rattle.rtcm2rinex.specs.Reports.{report_line}
 pub use Rattle.rtcm2rinex.specs.Reports.{counts_named}
-pub use Rattle.rtcm2rinex.specs.SetupOptions.{HasSetupFault, IsFirstFault, IsNearRefused, IsNearSet, IsNoonOf, IsNumberOf, IsSetupRefused, IsWeekRefused, IsWeekSet, options_of, text_set, values_by, values_in, values_set}
+unfoldable pub use Rattle.rtcm2rinex.specs.SetupOptions.{plan_set}
+pub use Rattle.rtcm2rinex.specs.SetupOptions.{HasSetupFault, IsFirstFault, IsNearRefused, IsNearSet, IsNoonOf, IsNumberOf, IsNumberOr, IsSetupRefused, IsWeekRefused, IsWeekSet, channels_by, channels_set, gaps_set, has_flag, interval_by, interval_in, options_of, text_set, values_by, values_in, values_set}
 pub use Rattle.rtcm2rinex.specs.declared.commands.CommandRow.{CommandRow}
 pub use Rattle.rtcm2rinex.specs.declared.commands.OptionRow.{OptionRow}
 pub use Rattle.rtcm2rinex.specs.declared.commands.Tables.{Tables}
 pub use Rattle.rtcm2rinex.specs.declared.fault.ToolFault.{ToolFault}
 pub use Rattle.rtcm2rinex.specs.declared.fault.ToolFault.TheVariants.{Convert}
-pub use Rattle.rtcm_bits.specs.Device.{Device}
-pub use Rattle.rtcm_convert.specs.Faults.{IsSentAfter, IsSetupFault, IsUntouched}
+pub use Rattle.rtcm_bits.specs.Device.{Device, IsUntouched}
+pub use Rattle.rtcm_convert.specs.Faults.{IsSentAfter, IsSetupFault}
 pub use Rattle.rtcm_convert.specs.Made.{IsMadeEmpty, IsMadeInPart, IsMadeSoFar, IsMadeToLimit}
-pub use Rattle.rtcm_convert.specs.SetupValues.{IsBad, IsBadWith, Start, start_with, start_zero}
+pub use Rattle.rtcm_convert.specs.SetupValues.{IsBad, IsBadWith, Start, start_by, start_zero}
+pub use Rattle.rtcm_convert.specs.declared.setup.ConvertOptions.{ConvertOptions}
 pub use Rattle.rtcm_convert.specs.declared.fault.Fault.{Fault}
 pub use Rattle.rtcm_convert.specs.declared.fault.Fault.TheVariants.{BadSetup, Failed, Finished, Memory, NoEpoch, Read, TooLong, Write}
 pub use Rattle.rtcm_convert.specs.declared.report.Report.{Report}

@@ -1,6 +1,6 @@
 -- The program's command line: its commands and their options, by which clap's definitions read words. They agree with
 -- the manual page.
-use Rattle.std.specs.Prelude.{◌≡◌, ◌⊎◌, pos, true, List, [], ◌∷◌, map, fold, codes, Some, Result, IfOk}
+use Rattle.std.specs.Prelude.{◌≡◌, ◌⊎◌, pos, true, List, [], ◌∷◌, ◌++◌, map, flat_map, fold, codes, Some, Result, IfOk}
 use Rattle.std.specs.Borrow.{Bor}
 use Rattle.clap.specs.Walk.{Row, Rule, Text}
 use Rattle.clap.specs.Simple.{App, app_of, new_app, new_rule, on_top, subcommand_of, subcommand_rows_of, with_rule}
@@ -16,6 +16,10 @@ use Rattle.clap.specs.declared.builder.action.ArgAction.TheVariants as action
 use Rattle.clap.specs.declared.builder.command.Command.{Command}
 use Rattle.clap.specs.declared.builder.value_parser.ValueParser.{ValueParser}
 use Rattle.clap.specs.declared.builder.value_parser.ValueParser.TheVariants as value
+use Rattle.gnss_system.specs.declared.system.System.{System}
+use Rattle.gnss_system.specs.declared.system.System.TheVariants.{Gps, Galileo, Glonass}
+use Rattle.gnss_system.specs.Satellites.{name_of}
+use Rattle.gnss_system.specs.Systems.{systems}
 use Rattle.rtcm_scan.specs.Scan.{most_bytes}
 use Rattle.rtcm2rinex.specs.declared.commands.CommandRow.{CommandRow}
 use Rattle.rtcm2rinex.specs.declared.commands.OptionRow.{OptionRow}
@@ -52,9 +56,25 @@ week = required (option (codes "week"))
 abbrev pub date : Rule
 date = required (option (codes "date"))
 
--- the option of the planned signals of a system
-abbrev pub planned : Text → Rule
-planned name = or_else (codes "all") (option name)
+-- the option of the planned signals of a system: without it, all of GPS and Galileo, and none of another system
+abbrev pub signals_otherwise : System → Text
+signals_otherwise Gps = codes "all"
+signals_otherwise Galileo = codes "all"
+signals_otherwise other = codes "none"
+
+abbrev pub planned : System → Rule
+planned s = or_else (signals_otherwise s) (option (name_of s))
+
+-- the option of a system, followed by those of the channels and the leap seconds if it is GLONASS
+abbrev pub channels : Rule
+channels = or_else [] (option (codes "glonass-channels"))
+
+abbrev pub leap_seconds : Rule
+leap_seconds = read_by (value.Unsigned 0 255) (or_else (codes "18") (option (codes "leap-seconds")))
+
+abbrev pub planned_with : System → List Rule
+planned_with Glonass = planned Glonass ∷ channels ∷ leap_seconds ∷ []
+planned_with other = planned other ∷ []
 
 abbrev pub station : Rule
 station = read_by (value.Signed (pos 0) (pos 4095)) (option (codes "station"))
@@ -66,6 +86,14 @@ near = option (codes "near")
 abbrev pub times : Rule
 times = flag (codes "times")
 
+-- an interval of epochs
+abbrev pub gaps : Rule
+gaps = option (codes "gaps")
+
+-- whether all messages are shown
+abbrev pub all : Rule
+all = flag (codes "all")
+
 -- the position that holds until a station message has another
 abbrev pub position : Rule
 position = or_else (codes "0,0,0") (option (codes "position"))
@@ -73,12 +101,22 @@ position = or_else (codes "0,0,0") (option (codes "position"))
 abbrev pub height : Rule
 height = or_else (codes "0") (option (codes "antenna-height"))
 
--- the names of the rules of gathering; their addresses don't matter
-abbrev pub AreRules : Bor (List (Bor Text)) → Type 0
-AreRules names = map (λ s. s.now) names.now ≡ codes "bit" ∷ codes "time" ∷ []
+-- an option whose value is one of these names, the first if it isn't given; their addresses don't matter
+abbrev pub Choices : Type 0
+Choices = Bor (List (Bor Text))
 
-abbrev pub gather : Bor (List (Bor Text)) → Rule
-gather names = read_by (value.Names names) (or_else (codes "bit") (option (codes "gather")))
+abbrev pub AreChoices : List Text → Choices → Type 0
+AreChoices texts names = map (λ s. s.now) names.now ≡ texts
+
+abbrev pub choice : Text → Text → Choices → Rule
+choice name first names = read_by (value.Names names) (or_else first (option name))
+
+-- the forms of MSM that are read, and the rule of gathering
+abbrev pub msm : Choices → Rule
+msm names = choice (codes "msm") (codes "4,7") names
+
+abbrev pub gather : Choices → Rule
+gather names = choice (codes "gather") (codes "bit") names
 
 -- at most the largest number of bytes of a stream
 abbrev pub limit : Rule
@@ -114,6 +152,7 @@ rows_of tables options.None = []
 rows_of tables options.Station = tables.station.now
 rows_of tables options.Near = tables.station.now
 rows_of tables options.Convert = tables.convert.now
+rows_of tables options.All = tables.all.now
 rows_of tables options.Times = tables.times.now
 
 abbrev pub more_of : Tables → Options → List OptionRow
@@ -136,13 +175,15 @@ of_station name = with_options (new_app name) (station ∷ [])
 abbrev pub fitting : App
 fitting = with_options (of_station (codes "options")) (near ∷ [])
 
-abbrev pub check : App
-check = with_options (new_app (codes "check")) (times ∷ [])
+abbrev pub show : App
+show = with_options (new_app (codes "show")) (all ∷ [])
 
-abbrev pub convert : Bor (List (Bor Text)) → App
-convert names = with_options (with_options (new_app (codes "convert"))
-    (week ∷ date ∷ planned (codes "gps") ∷ planned (codes "galileo") ∷ station ∷ position ∷ height ∷ gather names
-    ∷ limit ∷ []))
+abbrev pub check : App
+check = with_options (new_app (codes "check")) (times ∷ gaps ∷ [])
+
+abbrev pub convert : (forms rules : Choices) → App
+convert forms rules = with_options (with_options (new_app (codes "convert"))
+    (week ∷ date ∷ (flat_map planned_with systems ++ msm forms ∷ station ∷ position ∷ height ∷ gather rules ∷ limit ∷ [])))
     texts
 
 -- a command is required, and `--version` is accepted
@@ -153,18 +194,19 @@ abbrev pub start : App
 start = start_of (codes "rtcm2rinex")
 
 abbrev pub listings : App
-listings = with_subcommand (with_subcommand start (new_app (codes "frames")).top) (new_app (codes "show")).top
+listings = with_subcommand (with_subcommand start (new_app (codes "frames")).top) show.top
 
 abbrev pub signal_commands : App
 signal_commands =
     with_subcommand (with_subcommand listings (of_station (codes "signals")).top) fitting.top
 
-abbrev pub program : Bor (List (Bor Text)) → App
-program names = with_subcommand (with_subcommand signal_commands (convert names).top) check.top
+abbrev pub program : (forms rules : Choices) → App
+program forms rules = with_subcommand (with_subcommand signal_commands (convert forms rules).top) check.top
 
 -- the commands and options are those of the program
 abbrev pub IsProgram : App → Type 0
-IsProgram a = (names : Bor (List (Bor Text))) × AreRules names × (a ≡ program names)
+IsProgram a = (forms : Choices) × (rules : Choices) × AreChoices (codes "4,7" ∷ codes "all" ∷ []) forms
+    × AreChoices (codes "bit" ∷ codes "time" ∷ []) rules × (a ≡ program forms rules)
 
 -- the tables of the program's commands and options
 abbrev pub AreTables : Tables → Type 0

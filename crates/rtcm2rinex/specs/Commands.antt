@@ -6,22 +6,20 @@ use Rattle.clap.specs.Walk.{Row, Text}
 use Rattle.clap.specs.declared.error.kind.ErrorKind.TheVariants.{DisplayVersion, OutOfMemory}
 use Rattle.clap.specs.declared.error.kind.ErrorKind.{ErrorKind}
 use Rattle.clap.specs.declared.parser.matches.ArgMatches.{ArgMatches}
-use Rattle.rtcm_bits.specs.Device.{Device}
+use Rattle.rtcm_bits.specs.Device.{Device, IsUntouched, Moves}
 use Rattle.rtcm_scan.specs.Scan.{most_bytes}
-use Rattle.rtcm_convert.specs.Faults.{IsUntouched}
-use Rattle.rtcm_convert.specs.Moves.{Moves}
 use Rattle.rtcm_inspect.specs.FrameLines.{frame_lines}
 use Rattle.rtcm_inspect.specs.ShowLines.{show_lines}
 use Rattle.rtcm_inspect.specs.Listing.{ListsAll, StopsListing}
 use Rattle.rtcm2rinex.specs.Converting.{IsConverted, StopsConverting}
-use Rattle.rtcm2rinex.specs.Asked.{ChecksBy, PrintsOptionsAsked, PrintsSignalsAsked, RefusesDate, StopsChecksBy}
-use Rattle.rtcm2rinex.specs.Asked.{StopsOptionsAsked, StopsSignalsAsked}
+use Rattle.rtcm2rinex.specs.Asked.{ChecksAsked, PrintsOptionsAsked, PrintsSignalsAsked, RefusesDate, RefusesGaps}
+use Rattle.rtcm2rinex.specs.Asked.{StopsCheckAsked, StopsOptionsAsked, StopsSignalsAsked}
 use Rattle.rtcm2rinex.specs.CommandLine.{SelectsCommand, FailsParsing, IsCommand}
 use Rattle.rtcm_inspect.specs.Devices.{AreFine}
 use Rattle.rtcm_inspect.specs.Printing.{PrintsLine, PrintsPart, PrintsSome, PrintsText}
 use Rattle.rtcm2rinex.specs.Devices.{Ends, HaveFailedBy, IsInspected}
 use Rattle.rtcm2rinex.specs.ErrorLines.{error_line}
-use Rattle.rtcm2rinex.specs.SetupOptions.{IsNearRefused, IsSetupRefused, has_times}
+use Rattle.rtcm2rinex.specs.SetupOptions.{IsNearRefused, IsSetupRefused, gaps_set, has_flag}
 use Rattle.rtcm_inspect.specs.declared.fault.InspectFault.{InspectFault}
 use Rattle.rtcm_inspect.specs.declared.fault.InspectFault.TheVariants as inspect
 use Rattle.rtcm2rinex.specs.declared.fault.ToolFault.{ToolFault}
@@ -34,10 +32,10 @@ abbrev pub HasPrinted : {R W : Type 0} → (R → Option (List ℕ)) → (r r' :
     → (w w' : Device W) → Text → List Row → Type 0
 HasPrinted left r r' held w w' name options =
     ((name ≡ codes "frames") × Moves left r r' held w w' (ListsAll frame_lines))
-    ⊎ ((name ≡ codes "show") × Moves left r r' held w w' (ListsAll show_lines))
+    ⊎ ((name ≡ codes "show") × Moves left r r' held w w' (ListsAll (show_lines (has_flag (codes "all") options))))
     ⊎ ((name ≡ codes "signals") × Moves left r r' held w w' (PrintsSignalsAsked options))
     ⊎ ((name ≡ codes "options") × Moves left r r' held w w' (PrintsOptionsAsked options))
-    ⊎ ((name ≡ codes "check") × ChecksBy (has_times options) (left r.inner) (held w.inner) (held w'.inner))
+    ⊎ ((name ≡ codes "check") × ChecksAsked options (left r.inner) (held w.inner) (held w'.inner))
 
 -- The command of this name completed: the file of the stream was written, which has an epoch, and its report was
 -- printed; or any other command, and nothing was written to standard error.
@@ -52,10 +50,10 @@ abbrev pub HasStoppedPrinting : {R W : Type 0} → (R → Option (List ℕ)) →
     → (W → List ℕ) → (w w' : Device W) → Text → List Row → InspectFault → Type 0
 HasStoppedPrinting left r r' held waits w w' name options fault =
     ((name ≡ codes "frames") × StopsListing most_bytes frame_lines left r r' held waits w w' fault)
-    ⊎ ((name ≡ codes "show") × StopsListing most_bytes show_lines left r r' held waits w w' fault)
+    ⊎ ((name ≡ codes "show") × StopsListing most_bytes (show_lines (has_flag (codes "all") options)) left r r' held waits w w' fault)
     ⊎ ((name ≡ codes "signals") × StopsSignalsAsked options left r r' held waits w w' fault)
     ⊎ ((name ≡ codes "options") × StopsOptionsAsked options left r r' held waits w w' fault)
-    ⊎ ((name ≡ codes "check") × StopsChecksBy (has_times options) left r r' held waits w w' fault)
+    ⊎ ((name ≡ codes "check") × StopsCheckAsked options left r r' held waits w w' fault)
 
 -- the command was stopped by a fault
 abbrev pub HasStopped : {R W : Type 0} → (R → Option (List ℕ)) → (r r' : Device R) → (W → Option (List ℕ))
@@ -64,6 +62,7 @@ HasStopped left r r' held waits w w' name options fault =
     ((name ≡ codes "convert") × StopsConverting options left r r' held waits w w' fault)
     ⊎ IsInspected (HasStoppedPrinting left r r' held waits w w' name options) fault
     ⊎ ((name ≡ codes "options") × RefusesDate options r r' w w' fault)
+    ⊎ ((name ≡ codes "check") × RefusesGaps options r r' w w' fault)
 
 -- how the command ended; it prints no fault
 abbrev pub EndsCommand : {A R W E : Type 0} → Result A ToolFault → (R → Option (List ℕ)) → (r r' : Device R)
@@ -87,11 +86,13 @@ EndsFound result found left r r' held waits w w' printed unsent e e' =
 
 -- ---- the exit status
 
--- the exit status of a fault: 2 for an invalid date, position or height
+-- the exit status of a fault: 2 for an invalid date, position, height, list of channels or interval
 abbrev pub fault_status : ToolFault → ℕ
 fault_status (faults.BadDate option) = 2
 fault_status faults.BadPosition = 2
 fault_status faults.BadHeight = 2
+fault_status faults.BadChannels = 2
+fault_status faults.BadGaps = 2
 fault_status other = 1
 
 -- the exit status of a command with this result
@@ -134,9 +135,11 @@ abbrev pub AreRefusedBy : Text → List Row → ToolFault → Type 0
 AreRefusedBy name options fault =
     ((name ≡ codes "convert") × IsSetupRefused options fault)
     ⊎ ((name ≡ codes "options") × IsNearRefused options fault)
+    ⊎ ((name ≡ codes "check") × (gaps_set options ≡ Err fault))
 
 -- The words lead to an error other than the version's text, and a text was printed; or they ask for a command with an
--- option whose date, position or antenna height is invalid, and the line of that fault was printed.
+-- option whose date, position, antenna height, list of channels or interval is invalid, and the line of that fault was
+-- printed.
 abbrev pub AreRefused : {E : Type 0} → (E → Option (List ℕ)) → (E → List ℕ) → (e e' : Device E) → List Text → Type 0
 AreRefused printed unsent e e' words =
     ((k : ErrorKind) × FailsParsing words k × (k ≡ DisplayVersion → ⊥) × PrintsSome printed unsent e e')

@@ -2,9 +2,7 @@
 use Rattle.std.specs.Prelude.{◌≡◌, ◌⊎◌, ℕ, List, Option, Result, IfSome, []}
 use Rattle.rtcm_convert.specs.SetupValues.{Start, IsBadWith}
 use Rattle.rtcm_convert.specs.Made.{IsMadeEmpty, IsMadeWith, IsMadeToLimit, IsMadeSoFar, IsMadeInPart}
-use Rattle.rtcm_convert.specs.Faults.{IsUntouched}
-use Rattle.rtcm_convert.specs.Moves.{Moves}
-use Rattle.rtcm_bits.specs.Device.{Device}
+use Rattle.rtcm_bits.specs.Device.{Device, IsUntouched, Moves}
 use Rattle.rtcm_convert.specs.declared.fault.Fault.{Fault}
 use Rattle.rtcm_convert.specs.declared.fault.Fault.TheVariants as convert
 use Rattle.rtcm_convert.specs.declared.report.Report.{Report}

@@ -34,6 +34,10 @@ error_words faults.BadPosition =
     ∷ codes "-13743895.3472 to 13743895.3471" ∷ []
 error_words faults.BadHeight =
     codes "BadHeight" ∷ codes "--antenna-height HEIGHT: metres, up to 4 decimals, 0 to 6.5535" ∷ []
+error_words faults.BadChannels =
+    codes "BadChannels" ∷ codes "--glonass-channels SLOT:CHANNEL,..: slots 1 to 27, each once,"
+    ∷ codes "channels -7 to 6" ∷ []
+error_words faults.BadGaps = codes "BadGaps" ∷ codes "--gaps SECONDS: up to 3 decimals, 0.001 to 86400" ∷ []
 error_words (faults.Header e) = header_words e
 error_words (faults.Plan e) = plan_words e
 error_words (faults.Convert e) = conversion_word e ∷ []

@@ -1,17 +1,21 @@
 //! The whole program, over a reader, a writer and a writer for faults.
-ghost use Rattle.std.specs.Prelude.{◌≡◌, ◌≢◌, ◌≤◌};
+ghost use Rattle.std.specs.Prelude.{◌≡◌, ◌≢◌, ◌<◌, ◌≤◌, IfSome};
 ghost use Rattle.std.specs.IoError.{error_kind};
 ghost use Rattle.std.specs.declared.io.ErrorKind.TheVariants as kinds;
 ghost use Rattle.clap.specs.Simple.{subcommand_rows_of};
 ghost use Rattle.clap.specs.Walk.{texts};
-ghost use Rattle.rtcm_convert.specs.Faults.{IsUntouched};
+ghost use Rattle.rtcm_bits.specs.Device.{IsUntouched};
 ghost use Rattle.clap.specs.Values.{kind_of};
 ghost use Rattle.clap.specs.declared.error.kind.ErrorKind.TheVariants.{DisplayVersion, OutOfMemory};
-ghost use Rattle.rtcm2rinex.specs.Asked.{EndsOptionsAsked};
+ghost use Rattle.rtcm2rinex.specs.Asked.{EndsCheck, EndsCheckAsked, EndsOptionsAsked};
 ghost use Rattle.rtcm2rinex.specs.Commands.{AreRefused, EndsFound, HasCommand};
 ghost use Rattle.rtcm2rinex.specs.Commands.{HasStoppedEarly, HasCompleted, StopsPrinting, status_of};
 ghost use Rattle.rtcm2rinex.specs.Devices.{of_inspection};
 ghost use Rattle.rtcm2rinex.specs.ErrorLines.{error_line, not_text_line};
+ghost use Rattle.rtcm_scan.specs.Scan.{most_bytes};
+ghost use Rattle.rtcm_inspect.specs.Lengths.{longest_interval};
+ghost use Rattle.rtcm_inspect.specs.Listing.{EndsListing};
+ghost use Rattle.rtcm_inspect.specs.ShowLines.{show_lines};
 ghost use Rattle.rtcm_inspect.specs.Printing.{PrintsLine, PrintsSome, PrintsText};
 ghost use Rattle.rtcm2rinex.specs.Printing.{PrintsFault};
 ghost use Rattle.rtcm2rinex.specs.declared.cli.TheConstants.{VERSION};
@@ -22,13 +26,17 @@ use crate::cli::{VERSION, parse};
 use crate::convert::{report_line, run_convert_with};
 use crate::error_lines::error_line;
 use crate::fault::ToolFault;
-use crate::options::{has_times, near_of, setup_of, start_week_of, station_of, values_of};
+use crate::options::{
+    channels_of, forms_of, gaps_of, has_all, has_times, leap_seconds_of, near_of, setup_of,
+    start_week_of, station_of, values_of,
+};
 use clap::ArgMatches;
 use clap::error::ErrorKind;
 use rtcm_bits::{Counted, Deliver};
+use rtcm_convert::ConvertOptions;
 use rtcm_inspect::{
-    InspectFault, print_line, print_text, run_check, run_check_times, run_frames, run_options,
-    run_show, run_signals,
+    InspectFault, print_line, print_text, run_check, run_check_gaps, run_check_times, run_frames,
+    run_options, run_show, run_show_all, run_signals,
 };
 use std::alloc::Global;
 use std::io;
@@ -36,7 +44,7 @@ use std::io::Read;
 
 /// Runs the command that the words ask for, the first of which is the program's name, and returns
 /// the exit status: 0 after success, 1 after a fault, and 2 if the words aren't accepted, ask for
-/// help, or have an invalid date, position or height.
+/// help, or have an invalid date, position, height, list of channels or interval.
 pub fn command<R: Read, W: Deliver, E: Deliver>(
     alloc: Global,
     words: &[&str],
@@ -57,8 +65,9 @@ pub fn command<R: Read, W: Deliver, E: Deliver>(
     ensures stopped { result ≡ 1 → HasStoppedEarly R.remaining reader.old reader.new W.contents W.waiting writer.old
         writer.new E.contents E.waiting faults.old faults.new (texts words.now) }
 
-    // They aren't accepted, ask for help, or have an invalid date, position or height, and a text
-    // was written to `faults`. Nothing was read, and nothing was written to the output.
+    // They aren't accepted, ask for help, or have an invalid date, position, height, list of
+    // channels or interval, and a text was written to `faults`. Nothing was read, and nothing was
+    // written to the output.
     ensures refused { result ≡ 2 → AreRefused E.contents E.waiting faults.old faults.new (texts words.now)
         × IsUntouched reader.old reader.new writer.old writer.new }
 {
@@ -93,12 +102,11 @@ fn run<R: Read, W: Deliver, E: Deliver>(
     };
     match name {
         "frames" => of_inspection(run_frames(alloc, reader, writer)),
-        "show" => of_inspection(run_show(alloc, reader, writer)),
+        "show" => of_inspection(show(alloc, has_all(options), reader, writer)),
         "signals" => of_inspection(run_signals(alloc, station_of(options), reader, writer)),
         "options" => print_options(alloc, options, reader, writer),
         "convert" => convert(alloc, options, reader, writer, faults),
-        _ if has_times(options) => of_inspection(run_check_times(alloc, reader, writer)),
-        _ => of_inspection(run_check(alloc, reader, writer)),
+        _ => check(alloc, options, reader, writer),
     }
 }
 
@@ -107,6 +115,23 @@ fn of_inspection(ended: Result<(), InspectFault>) -> Result<(), ToolFault>
     ensures { result ≡ of_inspection ended }
 {
     ended.map_err(ToolFault::Inspect)
+}
+
+/// Shows all messages, or those that `convert` reads by default.
+fn show<R: Read, W: Deliver>(
+    alloc: Global,
+    all: bool,
+    reader: &mut Counted<R>,
+    writer: &mut Counted<W>,
+) -> Result<(), InspectFault>
+    ensures { EndsListing result most_bytes (show_lines all)
+        R.remaining reader.old reader.new W.contents W.waiting writer.old writer.new }
+{
+    if all {
+        run_show_all(alloc, reader, writer)
+    } else {
+        run_show(alloc, reader, writer)
+    }
 }
 
 /// Prints the options that fit the stream, for the station and near the date that are given.
@@ -123,6 +148,39 @@ fn print_options<R: Read, W: Deliver>(
     of_inspection(run_options(alloc, station_of(options), near, reader, writer))
 }
 
+/// Reads a file back, and prints the times and the gaps if they are asked for.
+fn check<R: Read, W: Deliver>(
+    alloc: Global,
+    options: &ArgMatches,
+    reader: &mut Counted<R>,
+    writer: &mut Counted<W>,
+) -> Result<(), ToolFault>
+    ensures { EndsCheckAsked result (options_of options.now) R.remaining reader.old reader.new
+        W.contents W.waiting writer.old writer.new }
+{
+    let interval = gaps_of(options)?;
+    of_inspection(check_by(alloc, interval, has_times(options), reader, writer))
+}
+
+/// Reads a file back, and prints the times, and the gaps at an interval.
+fn check_by<R: Read, W: Deliver>(
+    alloc: Global,
+    interval: Option<u64>,
+    with_times: bool,
+    reader: &mut Counted<R>,
+    writer: &mut Counted<W>,
+) -> Result<(), InspectFault>
+    requires { IfSome interval (λ n. (0 < n) × (n ≤ longest_interval)) }
+    ensures { EndsCheck result with_times interval R.remaining reader.old reader.new
+        W.contents W.waiting writer.old writer.new }
+{
+    match interval {
+        Some(interval) => run_check_gaps(alloc, interval, with_times, reader, writer),
+        None if with_times => run_check_times(alloc, reader, writer),
+        None => run_check(alloc, reader, writer),
+    }
+}
+
 /// Converts the stream as the options ask, and prints the report. A failure of its writer is
 /// ignored, since the file is already written.
 fn convert<R: Read, W: Deliver, E: Deliver>(
@@ -137,8 +195,14 @@ fn convert<R: Read, W: Deliver, E: Deliver>(
 {
     let start_week = start_week_of(options)?;
     let initial = values_of(options)?;
-    let setup = setup_of(alloc, options, start_week)?;
-    match run_convert_with(alloc, setup, initial, reader, writer) {
+    let channels = channels_of(options)?;
+    let setup = setup_of(alloc, options, start_week, channels)?;
+    let given = ConvertOptions {
+        initial,
+        forms: forms_of(options),
+        leap_seconds: leap_seconds_of(options),
+    };
+    match run_convert_with(alloc, setup, given, reader, writer) {
         Ok(report) => {
             print_line(report_line(&report).as_bytes(), faults);
             Ok(())
@@ -204,8 +268,8 @@ pub fn refuse_words<E: Deliver>(error: &io::Error, faults: &mut Counted<E>) -> u
 }
 
 /// Prints the fault of a command, if any, on one line, and returns the exit status: 0 after
-/// success, 2 if a date, the position or the height is invalid, else 1. A failure of this writer is
-/// ignored.
+/// success, 2 if a date, the position, the height, the list of channels or the interval is invalid,
+/// else 1. A failure of this writer is ignored.
 fn exit_status<E: Deliver>(ended: Result<(), ToolFault>, faults: &mut Counted<E>) -> u8
     ensures value { result ≡ status_of ended }
     ensures range { result ≤ 2 }
@@ -214,7 +278,11 @@ fn exit_status<E: Deliver>(ended: Result<(), ToolFault>, faults: &mut Counted<E>
     let Err(fault) = ended else { return 0 };
     print_line(error_line(fault).as_bytes(), faults);
     match fault {
-        ToolFault::BadDate(_) | ToolFault::BadPosition | ToolFault::BadHeight => 2,
+        ToolFault::BadDate(_)
+        | ToolFault::BadPosition
+        | ToolFault::BadHeight
+        | ToolFault::BadChannels
+        | ToolFault::BadGaps => 2,
         _ => 1,
     }
 }

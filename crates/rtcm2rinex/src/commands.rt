@@ -31,7 +31,9 @@ pub enum Options {
     Near,
     /// Those of a conversion, and then the texts of the header.
     Convert,
-    /// Whether times are printed.
+    /// Whether all messages are shown.
+    All,
+    /// Whether times are printed, and the interval of the epochs.
     Times,
 }
 
@@ -68,7 +70,9 @@ pub struct Tables<'a> {
     pub station: &'a [OptionRow<'a>],
     /// The option of a date near the first observations.
     pub near: &'a [OptionRow<'a>],
-    /// The flag that prints times.
+    /// The flag that shows all messages.
+    pub all: &'a [OptionRow<'a>],
+    /// The flag that prints times, and the option of an interval.
     pub times: &'a [OptionRow<'a>],
     /// The options of a conversion.
     pub convert: &'a [OptionRow<'a>],
@@ -122,7 +126,7 @@ const COMMANDS: &[CommandRow<'static>] = &[
                    A line as '52 1077 2003 1000 0 1 1 1' is an MSM: place, number, station, time\n\
                    in milliseconds of the week, DF393, and how many satellites, signals and cells\n\
                    it has.",
-        options: Options::None,
+        options: Options::All,
     },
     CommandRow {
         name: "signals",
@@ -142,8 +146,9 @@ const COMMANDS: &[CommandRow<'static>] = &[
                    A line as '--gps 1C,2W --galileo none --position=1.0000,-2.0000,3.0000' has\n\
                    every signal with a pseudorange, a phase, a Doppler shift or a strength, and\n\
                    the position of the first message 1005 or 1006. With --near it begins with\n\
-                   the week, as '--week 2300', and with --station it has the station. Without\n\
-                   --station a stream of several stations is refused.",
+                   the week, as '--week 2300', and has the leap seconds for GLONASS; with\n\
+                   --station it has the station. Without --station a stream of several stations\n\
+                   is refused.",
         options: Options::Near,
     },
     CommandRow {
@@ -188,17 +193,47 @@ const NEAR: &[OptionRow<'static>] = option_rows! {
          observations, as 2024-02-04: prints --week too";
 };
 
-/// The flag that prints times.
-const TIMES: &[OptionRow<'static>] = &[OptionRow {
-    name: "times",
-    value: "",
-    required: false,
-    defaults: &[],
-    parser: ValueParser::Bool,
-    action: ArgAction::SetTrue,
-    help: "Also prints the first and the last epoch and the\n\
-           smallest step between epochs",
-}];
+/// A flag: its name and its help text.
+macro_rules! flag {
+    ($name:expr, $help:expr) => {
+        OptionRow {
+            name: $name,
+            value: "",
+            required: false,
+            defaults: &[],
+            parser: ValueParser::Bool,
+            action: ArgAction::SetTrue,
+            help: $help,
+        }
+    };
+}
+
+/// The flag that shows all messages.
+const ALL: &[OptionRow<'static>] = &[flag!(
+    "all",
+    "Also shows MSM5 and MSM6: all messages that\n\
+     convert can read"
+)];
+
+/// The flag that prints times, and the option of an interval.
+const TIMES: &[OptionRow<'static>] = &[
+    flag!(
+        "times",
+        "Also prints the first and the last epoch and the\n\
+         smallest step between epochs"
+    ),
+    OptionRow {
+        name: "gaps",
+        value: "SECONDS",
+        required: false,
+        defaults: &[],
+        parser: TEXT,
+        action: ArgAction::Set,
+        help: "Also prints consecutive epochs that are more than\n\
+               this apart, 0.001 to 86400, and how many epochs\n\
+               at this interval the file has",
+    },
+];
 
 /// The options of a conversion.
 const CONVERT: &[OptionRow<'static>] = option_rows! {
@@ -212,6 +247,29 @@ const CONVERT: &[OptionRow<'static>] = option_rows! {
     "galileo", "SIGNALS", false, &["all"], TEXT,
         "Galileo signals in the file's order: all, none,\n\
          or codes as 1C,5Q";
+    "glonass", "SIGNALS", false, &["none"], TEXT,
+        "GLONASS signals in the file's order: all, none,\n\
+         or codes as 1C,2P";
+    "glonass-channels", "CHANNELS", false, &[""], TEXT,
+        "Channels of GLONASS slots, as 1:1,2:-4: without\n\
+         one a satellite has no phase and no Doppler\n\
+         shift";
+    "leap-seconds", "SECONDS", false, &["18"], ValueParser::Unsigned(0, 255),
+        "GPS time minus UTC, 0 to 255, for the times of\n\
+         GLONASS";
+    "beidou", "SIGNALS", false, &["none"], TEXT,
+        "BeiDou signals in the file's order: all, none,\n\
+         or codes as 2I,6I";
+    "qzss", "SIGNALS", false, &["none"], TEXT,
+        "QZSS signals in the file's order: all, none,\n\
+         or codes as 1C,2X";
+    "sbas", "SIGNALS", false, &["none"], TEXT,
+        "SBAS signals in the file's order: all, none,\n\
+         or codes as 1C,5I";
+    "msm", "FORMS", false, &["4,7"], ValueParser::Names(&["4,7", "all"]),
+        "Forms of MSM that are read: MSM4 and MSM7, or\n\
+         MSM4 to MSM7 with\n\
+         all";
     "station", "NUMBER", false, &[], STATIONS,
         "Reference station (DF003), 0 to 4095; without\n\
          it the messages of every station count";
@@ -256,6 +314,7 @@ pub fn program_tables() -> Tables<'static>
         commands: COMMANDS,
         station: STATION,
         near: NEAR,
+        all: ALL,
         times: TIMES,
         convert: CONVERT,
         texts: TEXTS,
@@ -271,6 +330,7 @@ impl<'a> Tables<'a> {
             Options::None => &[],
             Options::Station | Options::Near => self.station,
             Options::Convert => self.convert,
+            Options::All => self.all,
             Options::Times => self.times,
         }
     }

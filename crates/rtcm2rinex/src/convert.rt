@@ -1,14 +1,13 @@
 //! The command `convert`: the observation file of a stream.
 ghost use Rattle.std.specs.Prelude.{◌≡◌, ◌≤◌, ◌↔◌, Err, max};
 ghost use Rattle.rtcm_bits.specs.FrameOf.{longest_frame};
-ghost use Rattle.rtcm_convert.specs.SetupValues.{IsBad, IsBadWith, start_with, start_zero};
+ghost use Rattle.rtcm_convert.specs.SetupValues.{IsBad, IsBadWith, start_by, start_zero};
 ghost use Rattle.rtcm2rinex.specs.Converting.{EndsConversion};
 ghost use Rattle.rtcm2rinex.specs.Reports.{report_line};
 
 use crate::fault::ToolFault;
-use gnss_obs::StationValues;
 use rtcm_bits::{Counted, Deliver};
-use rtcm_convert::{Fault, Report, Setup, convert_stream_with};
+use rtcm_convert::{ConvertOptions, Fault, Report, Setup, convert_with_options};
 use rtcm_inspect::OutputLine;
 use std::alloc::Global;
 use std::io::Read;
@@ -32,11 +31,10 @@ pub fn run_convert<R: Read, W: Deliver>(
     ensures bad_setup { result ≡ Err (ToolFault.Convert Fault.BadSetup) ↔ IsBad setup }
     ensures widest { reader.new.widest ≤ max reader.old.widest longest_frame }
 {
-    run_convert_with(alloc, setup, StationValues::zero(), reader, writer)
+    run_convert_with(alloc, setup, ConvertOptions::default(), reader, writer)
 }
 
-/// Writes the observation file of a stream as `run_convert` does. The station values are `initial`
-/// until a station message has others.
+/// Writes the observation file of a stream as `run_convert` does, with these options.
 ///
 /// # Errors
 ///
@@ -44,16 +42,16 @@ pub fn run_convert<R: Read, W: Deliver>(
 pub fn run_convert_with<R: Read, W: Deliver>(
     alloc: Global,
     setup: Setup,
-    initial: StationValues,
+    options: ConvertOptions,
     reader: &mut Counted<R>,
     writer: &mut Counted<W>,
 ) -> Result<Report, ToolFault>
-    ensures ends { EndsConversion result (start_with setup initial)
+    ensures ends { EndsConversion result (start_by setup options)
         R.remaining reader.old reader.new W.contents W.waiting writer.old writer.new }
-    ensures bad_setup { result ≡ Err (ToolFault.Convert Fault.BadSetup) ↔ IsBadWith (start_with setup initial) }
+    ensures bad_setup { result ≡ Err (ToolFault.Convert Fault.BadSetup) ↔ IsBadWith (start_by setup options) }
     ensures widest { reader.new.widest ≤ max reader.old.widest longest_frame }
 {
-    match convert_stream_with(alloc, setup, initial, reader, writer) {
+    match convert_with_options(alloc, setup, options, reader, writer) {
         Ok(report) => Ok(report),
         Err(fault) => Err(ToolFault::Convert(fault)),
     }

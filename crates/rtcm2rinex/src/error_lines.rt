@@ -37,6 +37,15 @@ fn add_error(line: &mut OutputLine, fault: ToolFault)
             line.add_word("BadHeight");
             line.add_word("--antenna-height HEIGHT: metres, up to 4 decimals, 0 to 6.5535");
         }
+        ToolFault::BadChannels => {
+            line.add_word("BadChannels");
+            line.add_word("--glonass-channels SLOT:CHANNEL,..: slots 1 to 27, each once,");
+            line.add_word("channels -7 to 6");
+        }
+        ToolFault::BadGaps => {
+            line.add_word("BadGaps");
+            line.add_word("--gaps SECONDS: up to 3 decimals, 0.001 to 86400");
+        }
         ToolFault::Header(fault) => add_header_error(line, fault),
         ToolFault::Plan(fault) => add_plan_error(line, fault),
         ToolFault::Convert(fault) => line.add_word(conversion_name(fault)),

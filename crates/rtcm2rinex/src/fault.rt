@@ -16,6 +16,10 @@ pub enum ToolFault {
     BadPosition,
     /// The text of `--antenna-height` isn't a height.
     BadHeight,
+    /// The text of `--glonass-channels` isn't a list of channels.
+    BadChannels,
+    /// The text of `--gaps` isn't an interval.
+    BadGaps,
     /// A text of the header was refused.
     Header(HeadFault),
     /// The plan of signals was refused.

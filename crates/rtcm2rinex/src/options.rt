@@ -1,20 +1,24 @@
 //! The values of the options of the commands.
-ghost use Rattle.std.specs.Prelude.{◌≡◌, MatchResult, codes, not};
+ghost use Rattle.std.specs.Prelude.{◌≡◌, ◌<◌, ◌≤◌, IfOk, IfSome, MatchResult, Ok, codes, not};
 ghost use Rattle.clap.specs.Walk.{one_of};
 ghost use Rattle.std.specs.Str.{bytes_eq};
+ghost use Rattle.gnss_obs.specs.SignalLists.{IsDefined};
 ghost use Rattle.obs_epoch.specs.Kinds.{is_by_bit};
 ghost use Rattle.rinex_file.specs.TextsOf.{lists_of};
+ghost use Rattle.rtcm_inspect.specs.Lengths.{longest_interval};
 ghost use Rattle.rtcm2rinex.specs.SetupOptions.{HasSetupFault, IsNearRefused, IsNearSet, IsNumberOf};
-ghost use Rattle.rtcm2rinex.specs.SetupOptions.{IsSetupOf, IsWeekRefused, IsWeekSet, has_times};
-ghost use Rattle.rtcm2rinex.specs.SetupOptions.{options_of, text_set, texts_set, values_set};
+ghost use Rattle.rtcm2rinex.specs.SetupOptions.{IsNumberOr, channels_set};
+ghost use Rattle.rtcm2rinex.specs.SetupOptions.{IsSetupOf, IsWeekRefused, IsWeekSet, gaps_set, has_flag};
+ghost use Rattle.rtcm2rinex.specs.SetupOptions.{forms_set, options_of, plan_set, text_set, texts_set, values_set};
 
 use crate::fault::{DateOption, ToolFault};
 use clap::ArgMatches;
-use gnss_obs::{GpsTime, Plan, StationValues};
-use obs_epoch::Gather;
+use gnss_obs::{BySystem, Channels, GpsTime, Plan, PlanFault, StationValues};
+use obs_epoch::{Gather, LEAP_SECONDS};
 use rinex_file::{HeaderTexts, Texts};
 use rtcm_convert::Setup;
-use rtcm_inspect::{hour_of, length_below, position_of, week_of};
+use rtcm_inspect::{hour_of, interval_of, length_below, position_of, week_of};
+use rtcm_msg::Forms;
 use rtcm_scan::MOST_BYTES;
 use std::alloc::Global;
 
@@ -49,35 +53,74 @@ pub fn near_of(options: &ArgMatches) -> Result<Option<GpsTime>, ToolFault>
     }
 }
 
+/// Returns the interval of `--gaps` in milliseconds, or `None` if the option isn't given.
+///
+/// # Errors
+///
+/// `BadGaps` if the text isn't an interval.
+pub fn gaps_of(options: &ArgMatches) -> Result<Option<u64>, ToolFault>
+    ensures value { result ≡ gaps_set (options_of options.now) }
+    ensures fits { IfOk result (λ gap. IfSome gap (λ n. (0 < n) × (n ≤ longest_interval))) }
+{
+    match options.get_str("gaps") {
+        Some(text) => match interval_of(text) {
+            Some(interval) => Ok(Some(interval)),
+            None => Err(ToolFault::BadGaps),
+        },
+        None => Ok(None),
+    }
+}
+
+/// Returns whether all messages are shown.
+pub fn has_all(options: &ArgMatches) -> bool
+    ensures { result ≡ has_flag (codes "all") (options_of options.now) }
+{
+    text(options, "all") == "true"
+}
+
 /// Returns whether times are printed.
 pub fn has_times(options: &ArgMatches) -> bool
-    ensures { result ≡ has_times (options_of options.now) }
+    ensures { result ≡ has_flag (codes "times") (options_of options.now) }
 {
     text(options, "times") == "true"
 }
 
-/// Returns the settings of a conversion that begins in a week. The texts of the header are checked
-/// before the plan.
+/// Returns the settings of a conversion that begins in a week, with these channels. The texts of the
+/// header are checked before the plan.
 ///
 /// # Errors
 ///
 /// `Header` if a text of the header is refused, and `Plan` if the plan is.
-pub fn setup_of(alloc: Global, options: &ArgMatches, start_week: u32) -> Result<Setup, ToolFault>
-    requires { IsWeekSet (options_of options.now) start_week }
+pub fn setup_of(
+    alloc: Global,
+    options: &ArgMatches,
+    start_week: u32,
+    channels: Channels,
+) -> Result<Setup, ToolFault>
+    requires week { IsWeekSet (options_of options.now) start_week }
+    requires channels { channels_set (options_of options.now) ≡ Ok channels }
     ensures { MatchResult result (IsSetupOf (options_of options.now)) (HasSetupFault (options_of options.now)) }
 {
     let texts = HeaderTexts::new(&texts_of(options)).map_err(ToolFault::Header)?;
-    let plan = Plan::parse(alloc, text(options, "gps"), text(options, "galileo")).map_err(
-        ToolFault::Plan,
-    )?;
+    let plan = plan_of(alloc, options).map_err(ToolFault::Plan)?;
     Ok(Setup {
-        plan,
+        plan: plan.with_channels(channels),
         texts,
         start_week,
         station: station_of(options),
         gather: gather_of(text(options, "gather")),
         limit: options.get_one::<u64>("limit").unwrap_or(MOST_BYTES),
     })
+}
+
+/// Returns the plan of the options of each system, without channels.
+fn plan_of(alloc: Global, options: &ArgMatches) -> Result<Plan, PlanFault>
+    ensures { IsDefined (plan_set (options_of options.now)) result }
+{
+    Plan::parse_all(
+        alloc,
+        &BySystem::each(|system| text(options, system.name())),
+    )
 }
 
 /// Returns the texts of the header.
@@ -107,6 +150,25 @@ fn gather_of(name: &str) -> Gather
         "time" => Gather::Time,
         _ => Gather::Bit,
     }
+}
+
+/// Returns the forms of MSM that are read.
+pub fn forms_of(options: &ArgMatches) -> Forms
+    ensures { result ≡ forms_set (options_of options.now) }
+{
+    match text(options, "msm") {
+        "all" => Forms::All,
+        _ => Forms::FourAndSeven,
+    }
+}
+
+/// Returns GPS time minus UTC in seconds.
+pub fn leap_seconds_of(options: &ArgMatches) -> u8
+    ensures { IsNumberOr 8 18 (one_of (codes "leap-seconds") (options_of options.now)) result }
+{
+    options
+        .get_one::<u8>("leap-seconds")
+        .unwrap_or(LEAP_SECONDS)
 }
 
 /// Returns the value of an option that is required or has a default.
@@ -142,5 +204,19 @@ pub fn values_of(options: &ArgMatches) -> Result<StationValues, ToolFault>
             z,
             height: height as u16,
         }),
+    }
+}
+
+/// Returns the channels of the options.
+///
+/// # Errors
+///
+/// `BadChannels` if the text has another form.
+pub fn channels_of(options: &ArgMatches) -> Result<Channels, ToolFault>
+    ensures { result ≡ channels_set (options_of options.now) }
+{
+    match rtcm_inspect::channels_of(text(options, "glonass-channels")) {
+        Some(channels) => Ok(channels),
+        None => Err(ToolFault::BadChannels),
     }
 }

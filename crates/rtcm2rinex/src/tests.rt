@@ -6,6 +6,7 @@ mod check;
 mod convert;
 mod faults;
 mod frames;
+mod leap_seconds;
 mod messages;
 mod scenario;
 mod signals;

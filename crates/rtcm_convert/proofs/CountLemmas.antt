@@ -1,6 +1,6 @@
 -- Each frame is counted once.
 use Rattle.rtcm_convert.proofs.ExactLemmas.{outcomes_length}
-use Rattle.rtcm_convert.proofs.Names.{◌≡◌, ℕ, ◌+◌, List, [], ◌∷◌, ◌++◌, Bool, false, refl, ◌∙◌, arith, length, Option, Some, None, sum_by, option_map, sum_by-cons, Framed, frames_of, Kind, GatherSetup, Heard, is_close_first, kind_of, SetupValue, messages_of, heard_in, outcomes, outcomes_after, tally_of_one, report_of, IsCountedOnce, Report}
+use Rattle.rtcm_convert.proofs.Names.{◌≡◌, ℕ, ◌+◌, List, [], ◌∷◌, ◌++◌, Bool, false, refl, ◌∙◌, arith, length, Option, Some, None, sum_by, option_map, sum_by-cons, Framed, frames_of, Kind, GatherSetup, Heard, is_close_first, kind_of, SetupValue, message_of, messages_of, outcomes, outcomes_after, tally_of_one, report_of, IsCountedOnce, Report}
 use Rattle.obs_epoch.specs.declared.taken.Kind.TheVariants as kind
 
 -- the outcome that no frame has
@@ -21,7 +21,7 @@ heard_done kinds s ms (Some m) = kinds s ms m
 
 outcomes_done : Kinds → (s : SetupValue) (before fs : List Framed) → AreDone (outcomes_after s before fs)
 outcomes_done kinds s before [] = tt
-outcomes_done kinds s before (f ∷ fs) = (heard_done kinds s.gather (messages_of before) (heard_in f.message), outcomes_done kinds s (before ++ f ∷ []) fs)
+outcomes_done kinds s before (f ∷ fs) = (heard_done kinds s.gather (messages_of s before) (message_of s f), outcomes_done kinds s (before ++ f ∷ []) fs)
 
 -- what a frame adds to the seven kinds
 abbrev seven : Report → ℕ

@@ -2,7 +2,7 @@
 -- cells.
 use Rattle.obs_epoch.specs.Cells.{kept_of_all as kept_both}
 use Rattle.rtcm_msg.specs.declared.view.Form.TheVariants as forms
-use Rattle.rtcm_convert.proofs.Names.{◌≡◌, ◌||◌, ℕ, ◌+◌, ◌*◌, ◌≤◌, most_bytes, List, [], ◌∷◌, ◌++◌, Bool, true, false, refl, sym, ap, subst, arith, rules, length, length-append, add-zero, suc, zero, nat_lt, Option, Some, None, is_some, not, LockField, Df402, Df407, count_by, filter, filter_map, if◌then◌else◌, cons_option, zip, option_map_or, length-map, sum_by-cons, length-filter, count_by-le-length, System, uint, Framed, Message, Entry, MasksValue, MsmValue, AreMasks, pair_count, IsMessage, chosen, cell_pairs, all_pairs, entries, entry_in, Kind, GatherSetup, Heard, heard, heard_msm, is_own, seen_in, unlisted_in, HeardCell, Timed, timed, timed_after, taken_at, is_late, is_past, time_of, times, counts_of, counts_of_message, no_counts, with_skipped, is_planned, is_among, offered, kind_of, kind_at, all_epochs, closed_at, satellites_written, SetupValue, messages_of, heard_in, epochs_in, outcomes_after, capped, capped_tally, sum_of_counts, tally_of, tally_of_one, IsFew, AreFew, Report, CellCounts}
+use Rattle.rtcm_convert.proofs.Names.{◌≡◌, ◌||◌, ℕ, ◌+◌, ◌*◌, ◌≤◌, most_bytes, List, [], ◌∷◌, ◌++◌, Bool, true, false, refl, sym, ap, subst, arith, rules, length, length-append, add-zero, suc, zero, nat_lt, Option, Some, None, is_some, not, LockField, Df402, Df407, count_by, filter, filter_map, if◌then◌else◌, cons_option, zip, option_map_or, length-map, sum_by-cons, length-filter, count_by-le-length, System, uint, Framed, Message, Entry, MasksValue, MsmValue, AreMasks, pair_count, IsMessage, chosen, cell_pairs, all_pairs, entries, entry_in, Kind, GatherSetup, Heard, heard, heard_by, ChannelsValue, heard_msm, is_own, seen_in, unlisted_in, HeardCell, Timed, timed, timed_after, taken_at, is_late, is_past, time_of, times, counts_of, counts_of_message, no_counts, with_skipped, is_planned, is_among, offered, kind_of, kind_at, all_epochs, closed_at, satellites_written, SetupValue, messages_of, message_of, epochs_in, outcomes_after, capped, capped_tally, sum_of_counts, tally_of, tally_of_one, IsFew, AreFew, Report, CellCounts}
 use Rattle.rtcm_msg.specs.declared.message.Message.TheVariants as message
 use Rattle.obs_epoch.specs.declared.taken.Kind.TheVariants as kind
 
@@ -35,6 +35,8 @@ cell_pairs_few s ys h =
 entries_few : (m : Message) → IsMessage m → length (entries m) ≤ 64
 entries_few (message.Station s) h = omega arith
 entries_few (message.Msm4 v) h = subst (λ (n : ℕ). n ≤ 64) (sym (length-map (zip (cell_pairs v.sets) v.cells) (entry_in forms.Msm4 v))) (cell_pairs_few v.sets v.cells h.sets)
+entries_few (message.Msm5 v) h = subst (λ (n : ℕ). n ≤ 64) (sym (length-map (zip (cell_pairs v.sets) v.cells) (entry_in forms.Msm5 v))) (cell_pairs_few v.sets v.cells h.sets)
+entries_few (message.Msm6 v) h = subst (λ (n : ℕ). n ≤ 64) (sym (length-map (zip (cell_pairs v.sets) v.cells) (entry_in forms.Msm6 v))) (cell_pairs_few v.sets v.cells h.sets)
 entries_few (message.Msm7 v) h = subst (λ (n : ℕ). n ≤ 64) (sym (length-map (zip (cell_pairs v.sets) v.cells) (entry_in forms.Msm7 v))) (cell_pairs_few v.sets v.cells h.sets)
 entries_few (message.Other n set) h = omega arith
 
@@ -50,26 +52,28 @@ unlisted_step : (b : Bool) (n k : ℕ) → n ≤ k → (if b then 0 else 1) + n 
 unlisted_step true n k le = omega arith
 unlisted_step false n k le = omega arith
 
-unlisted_few : (field : LockField) (system : System) (es : List Entry) → unlisted_in field system es ≤ length es
-unlisted_few field system [] = omega arith
-unlisted_few field system (e ∷ es) = unlisted_step (is_some (seen_in field system e)) (unlisted_in field system es) (length es) (unlisted_few field system es)
+unlisted_few : (channels : ChannelsValue) (field : LockField) (system : System) (es : List Entry) → unlisted_in channels field system es ≤ length es
+unlisted_few channels field system [] = omega arith
+unlisted_few channels field system (e ∷ es) = unlisted_step (is_some (seen_in channels field system e)) (unlisted_in channels field system es) (length es) (unlisted_few channels field system es)
 
 -- the content of a message has at most 64 cells, and at most 64 unlisted ones
 record HasFew (m : Heard) : Type 0 where
   cells : length m.cells ≤ 64
   unlisted : m.unlisted ≤ 64
 
-heard_msm_few : (field : LockField) (v : MsmValue) (es : List Entry) → length es ≤ 64 → HasFew (heard_msm field v es)
-heard_msm_few field v es le = record {
-  cells = omega (arith, filter_map_few (seen_in field v.system) es, le);
-  unlisted = omega (arith, unlisted_few field v.system es, le);
+heard_msm_few : (channels : ChannelsValue) (leap : ℕ) (field : LockField) (v : MsmValue) (es : List Entry) → length es ≤ 64 → HasFew (heard_msm channels leap field v es)
+heard_msm_few channels leap field v es le = record {
+  cells = omega (arith, filter_map_few (seen_in channels field v.system) es, le);
+  unlisted = omega (arith, unlisted_few channels field v.system es, le);
 }
 
-heard_few : (m : Message) → IsMessage m → HasFew (heard m)
-heard_few (message.Station s) h = record { cells = omega arith; unlisted = omega arith }
-heard_few (message.Msm4 v) h = heard_msm_few Df402 v (entries (message.Msm4 v)) (entries_few (message.Msm4 v) h)
-heard_few (message.Msm7 v) h = heard_msm_few Df407 v (entries (message.Msm7 v)) (entries_few (message.Msm7 v) h)
-heard_few (message.Other n set) h = record { cells = omega arith; unlisted = omega arith }
+heard_few : (channels : ChannelsValue) (leap : ℕ) (m : Message) → IsMessage m → HasFew (heard channels leap m)
+heard_few channels leap (message.Station s) h = record { cells = omega arith; unlisted = omega arith }
+heard_few channels leap (message.Msm4 v) h = heard_msm_few channels leap Df402 v (entries (message.Msm4 v)) (entries_few (message.Msm4 v) h)
+heard_few channels leap (message.Msm5 v) h = heard_msm_few channels leap Df402 v (entries (message.Msm5 v)) (entries_few (message.Msm5 v) h)
+heard_few channels leap (message.Msm6 v) h = heard_msm_few channels leap Df407 v (entries (message.Msm6 v)) (entries_few (message.Msm6 v) h)
+heard_few channels leap (message.Msm7 v) h = heard_msm_few channels leap Df407 v (entries (message.Msm7 v)) (entries_few (message.Msm7 v) h)
+heard_few channels leap (message.Other n set) h = record { cells = omega arith; unlisted = omega arith }
 
 -- ---- the counts of a message
 
@@ -120,8 +124,8 @@ heard_kind_few s ms m h =
     let xs = timed s ms in
     kind_few (is_some m.tow || is_some m.point) (is_own s m) _ (own_few s xs (counts_of_message s xs m) m.tow (counts_few_at s xs m (taken_at s xs m) h))
 
-pub message_few : (s : GatherSetup) (ms : List Heard) (m : Message) → IsMessage m → IsFew (tally_of_one (Some (kind_of s ms (heard m))))
-message_few s ms m h = heard_kind_few s ms (heard m) (heard_few m h)
+pub message_few : (s : GatherSetup) (ms : List Heard) (m : Message) → IsMessage m → IsFew (tally_of_one (Some (kind_of s ms (heard_by s m))))
+message_few s ms m h = heard_kind_few s ms (heard_by s m) (heard_few s.plan.channels s.leap m h)
 
 pub few_more : (os : List (Option Kind)) (o : Option Kind) → AreFew os → IsFew (tally_of_one o) → AreFew (os ++ o ∷ [])
 few_more [] o h k = (k, tt)
@@ -176,11 +180,11 @@ timed_length s earlier (m ∷ ms) =
 
 pub epochs_few : (s : SetupValue) (fs : List Framed) → epochs_in s fs ≤ length fs
 epochs_few s fs =
-    let ms = messages_of fs in
+    let ms = messages_of s fs in
     let g = s.gather in
     let all = all_epochs g ms in
     let written = length-filter (λ e. nat_lt 0 (satellites_written e.epoch)) all in
-    omega (arith, written, count_by-le-length (λ e. nat_lt 0 (satellites_written e.epoch)) all, length-map (times (timed g ms)) (closed_at g ms), times_few (timed g ms), timed_length g [] ms, filter_map_few (λ (f : Framed). heard_in f.message) fs)
+    omega (arith, written, count_by-le-length (λ e. nat_lt 0 (satellites_written e.epoch)) all, length-map (times (timed g ms)) (closed_at g ms), times_few (timed g ms), timed_length g [] ms, filter_map_few (message_of s) fs)
 
 pub whole_epochs : (n k most : ℕ) → n ≤ k → 6 * k ≤ most → most ≤ most_bytes → capped n ≡ n
 whole_epochs n k most a b c = omega arith

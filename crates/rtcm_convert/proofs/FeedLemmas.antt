@@ -1,7 +1,7 @@
 -- A piece that a converter accepts, and the end of its stream.
 use Rattle.rtcm_scan.specs.declared.feed.StreamFault.TheVariants.{Read, TooLong}
 use Rattle.rtcm_convert.proofs.StreamLemmas.{piece_whole, piece_part, piece_fine, to_limit}
-use Rattle.rtcm_convert.proofs.Names.{◌≡◌, ◌≢◌, ℕ, ◌<◌, ◌++◌, List, length, Bool, true, false, sym, subst, ◌∙◌, [], Option, suc, zero, arith, refl, true≢false, Device, HasExaminedSome, Passes, Breaks, PassesToLimit, AtFault, up_to_limit, FramerValue, StreamFault, Sink, Conversion, kept_of, KeepsNow, IsGoing, IsFit, HasConverted, HasFinished, TakesPiece, CutsAtLimit, WritesPrefixOfAdded, FinishesNow, FinishesEmptyNow, SetupValue, IsKeptAtEnd, IsWithinBounds, skipped_before, frames_of, known_place, report_with, Report, FiledGrows, Files, BreaksFiling, EndsBytes, AppendsDecided, FileWriter}
+use Rattle.rtcm_convert.proofs.Names.{FinishesEmptyNow, sym, ◌≡◌, ◌≢◌, ℕ, ◌<◌, ◌++◌, List, length, Bool, true, false, subst, ◌∙◌, [], Option, suc, zero, arith, refl, Device, HasExaminedSome, Passes, Breaks, PassesToLimit, AtFault, up_to_limit, FramerValue, StreamFault, Sink, Conversion, kept_of, KeepsNow, IsGoing, IsFit, HasConverted, HasFinished, TakesPiece, CutsAtLimit, WritesPrefixOfAdded, FinishesNow, SetupValue, IsKeptAtEnd, IsWithinBounds, skipped_before, frames_of, known_place, report_with, Report, FiledGrows, Files, BreaksFiling, EndsBytes, AppendsDecided, FileWriter}
 
 pub read_of : {F : Type 0} (f : StreamFault F) (P Q R : Type 0) → f ≡ Read → AtFault f P Q R → P
 read_of f P Q R e a = subst (λ (x : StreamFault _). AtFault x P Q R) e a
@@ -14,25 +14,6 @@ sink_of f x P Q R e a = subst (λ (y : StreamFault _). AtFault y P Q R) e a
 
 abbrev pub with_flags : Bool → Bool → FramerValue → FileWriter → Conversion
 with_flags failed over v w = record { scan = v; file_writer = w; has_failed = failed; has_ended = over }
-
--- nothing is asked of a converter that has failed or ended but that its framer examined some bytes
-pub failed_fit : (over : Bool) (v : FramerValue) (w : FileWriter) → HasExaminedSome v → IsFit (with_flags true over v w)
-failed_fit over v w some = record {
-  going = λ go. absurd (true≢false go.fine);
-  listening = λ go. absurd (true≢false go.fine);
-  ready = λ go. absurd (true≢false go.fine);
-  drained = λ go. absurd (true≢false go.fine);
-  examined = some;
-}
-
-pub ended_fit : (failed : Bool) (v : FramerValue) (w : FileWriter) → HasExaminedSome v → IsFit (with_flags failed true v w)
-ended_fit failed v w some = record {
-  going = λ go. absurd (true≢false go.more);
-  listening = λ go. absurd (true≢false go.more);
-  ready = λ go. absurd (true≢false go.more);
-  drained = λ go. absurd (true≢false go.more);
-  examined = some;
-}
 
 module _ {W : Type 0} {failed over : Bool} {v v' : FramerValue} {w w' : FileWriter} {o o' : Device W} {c : W → Option (List ℕ)} (piece : List ℕ) where
   pub fed_whole : KeepsNow (with_flags failed over v' w') → v.has_ended ≡ false → v'.has_ended ≡ false → Passes (Files c) v w o v' w' o' piece → TakesPiece (with_flags failed over v w) (with_flags failed over v' w') (c o.inner) (c o'.inner) piece

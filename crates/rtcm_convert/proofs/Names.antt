@@ -1,6 +1,7 @@
 -- The names that proofs cite, passed on from one place. Declares nothing.
 pub use Rattle.gnss_obs.specs.GatheredEpochs.{AreGatheredEpochs, AreStationValues, IsGatheredEpoch, TimesRise}
 pub use Rattle.gnss_obs.specs.HeardCells.{HeardCell}
+pub use Rattle.gnss_obs.specs.Channels.{AreChannels, ChannelsValue}
 pub use Rattle.gnss_obs.specs.Values.{Closed, EpochValue, PlanValue, no_values, same_values, satellites_written}
 pub use Rattle.gnss_obs.specs.declared.cell.StationValues.{StationValues}
 pub use Rattle.gnss_system.specs.declared.system.System.{System}
@@ -9,7 +10,7 @@ pub use Rattle.obs_epoch.specs.Epochs.{closed_so_far, closed_times}
 pub use Rattle.obs_epoch.specs.GathererSteps.{GathererValue}
 pub use Rattle.obs_epoch.specs.GathererAfter.{locked_in}
 pub use Rattle.obs_epoch.specs.GathererHistory.{HasGatheredEpochs, IsAwaited, all_epochs, closed_at, closed_by, closed_epochs, closed_in, closed_list_at, is_done, known_epochs, plan_in}
-pub use Rattle.obs_epoch.specs.Heard.{GatherSetup, Heard, heard, heard_in, heard_msm, heard_of, is_own, seen_in, unlisted_in}
+pub use Rattle.obs_epoch.specs.Heard.{GatherSetup, Heard, heard, heard_by, heard_msm, heard_of, is_own, seen_in, unlisted_in}
 pub use Rattle.obs_epoch.specs.Kinds.{is_close_first, kind_at, kind_of}
 pub use Rattle.obs_epoch.specs.Laws.{ClosedComeFirst}
 pub use Rattle.obs_epoch.specs.Loss.{times}
@@ -22,13 +23,13 @@ pub use Rattle.rinex_file.specs.FileValues.{AreTexts}
 pub use Rattle.rinex_file.specs.Gathered.{AreSignals, HasSatellite, IsGatheredFile}
 pub use Rattle.rinex_file.specs.Texts.{HeaderLists}
 unfoldable pub use Rattle.rtcm_bits.specs.Bits.{uint}
-pub use Rattle.rtcm_bits.specs.Device.{AppendsPrefix, Device, HasFailed}
+pub use Rattle.rtcm_bits.specs.Device.{AppendsPrefix, Device, HasFailed, IsBetween}
 pub use Rattle.rtcm_bits.specs.FrameOf.{longest_frame}
 pub use Rattle.rtcm_bits.specs.Prefix.{IsPrefix}
-pub use Rattle.rtcm_convert.specs.Broken.{BrokeInPieces, FailedWriting, FailedWritingAtEnd, IsBetween, IsBroken, joined_pieces}
+pub use Rattle.rtcm_convert.specs.Broken.{BrokeInPieces, FailedWriting, FailedWritingAtEnd, IsBroken, joined_pieces}
 pub use Rattle.rtcm_convert.specs.Conversion.{Completed, CompletedEmpty, CompletesEmptyFile, CompletesFile, Conversion, CutsAtLimit, FailsAtEnd, FailsAtPiece, FailsFeeding, FailsFinishing, FinishesEmptyNow, FinishesNow, HasConverted, HasFinished, IsFit, IsGoing, IsPastLimit, KeepsNow, LeftBy, RanToFault, RanToLimit, StopsAtEnd, TakesFromReader, TakesPiece, WritesAdded, WritesPrefixOfAdded, kept_of, refusal}
 unfoldable pub use Rattle.rtcm_convert.specs.Converted.{text_of_epochs}
-pub use Rattle.rtcm_convert.specs.Converted.{SetupValue, epochs_in, file, messages_of, so_far, text_with, written_epochs}
+pub use Rattle.rtcm_convert.specs.Converted.{SetupValue, epochs_in, file, message_of, messages_of, so_far, text_with, written_epochs}
 pub use Rattle.rtcm_convert.specs.Faults.{FailsToWrite, FailsWithReader, FailsWithWriter, IsFeedFault, IsFinishFault, IsPiecesFault, IsRunFault, IsSentAfter, IsSentAtFault, IsSetupFault, ReaderFailures, WriterFailures}
 pub use Rattle.rtcm_convert.specs.Fed.{AppendsBetween, AppendsPrefixBetween, AppendsUpTo}
 pub use Rattle.rtcm_convert.specs.Filed.{HasFiledEpochs, HasFiledFrames, Settled, added, epochs_after, last_values, opening, values_after, values_following_closed}
@@ -38,14 +39,14 @@ pub use Rattle.rtcm_convert.specs.Made.{AreMadeToLimit, IsMade, IsMadeEmpty, IsM
 pub use Rattle.rtcm_convert.specs.Outcomes.{AreFew, IsFew, capped, capped_tally, outcome, outcomes, outcomes_after, report_of, report_with, sum_of_counts, tallies_added, tally_of, tally_of_one}
 pub use Rattle.rtcm_convert.specs.Pieces.{StopsInPieces}
 pub use Rattle.rtcm_convert.specs.Readable.{AreSound, HasValue, IsReadable}
-pub use Rattle.rtcm_convert.specs.SetupValues.{IsBadWith, IsBadStart, Start, setup_value_with, start_with, start_value, start_zero}
+pub use Rattle.rtcm_convert.specs.SetupValues.{IsBadWith, IsBadStart, Start, options_with, setup_value_by, setup_value_with, start_by, start_with, start_value, start_zero}
 pub use Rattle.rtcm_convert.specs.Steps.{BreaksInFrame, BreaksInRest, EndsFile, TakesFrame}
 pub use Rattle.rtcm_convert.specs.Stream.{AppendsDecided, AppendsPrefixOfDecided, AppendsPrefixOfRest, BreaksAtEndOf, BreaksFiling, Drained, EndsBytes, Files, HasDrained, HasDrainedSome}
 pub use Rattle.rtcm_convert.specs.declared.fault.Fault.{Fault}
 pub use Rattle.rtcm_convert.specs.declared.fault.Fault.TheVariants.{BadSetup, Failed, Finished, Memory, NoEpoch, Read, TooLong, Write}
 pub use Rattle.rtcm_convert.specs.declared.file_writer.FileWriter.{FileWriter}
 pub use Rattle.rtcm_convert.specs.declared.report.Report.{Report}
-pub use Rattle.rtcm_msg.specs.Decoding.{message_at}
+pub use Rattle.rtcm_msg.specs.Decoding.{message_with}
 pub use Rattle.rtcm_msg.specs.Encoding.{IsMessage}
 unfoldable pub use Rattle.rtcm_msg.specs.Entries.{chosen}
 pub use Rattle.rtcm_msg.specs.Entries.{all_pairs, cell_pairs, entries, entry_in}
@@ -56,6 +57,7 @@ pub use Rattle.rtcm_msg.specs.declared.entry.LockField.{LockField}
 pub use Rattle.rtcm_msg.specs.declared.entry.LockField.TheVariants.{Df402, Df407}
 pub use Rattle.rtcm_msg.specs.declared.fault.MsgFault.{MsgFault}
 pub use Rattle.rtcm_msg.specs.declared.message.Message.{Message}
+pub use Rattle.rtcm_msg.specs.declared.number.MsmSet.{MsmSet}
 unfoldable pub use Rattle.rtcm_scan.specs.Decided.{decided_frames, frames_before}
 pub use Rattle.rtcm_scan.specs.Decided.{skipped_before}
 pub use Rattle.rtcm_scan.specs.Drained.{IsDrained}

@@ -1,7 +1,7 @@
 -- Pieces that a converter accepts up to the end of its stream.
 use Rattle.rtcm_convert.proofs.PartLemmas.{goes_on-trans}
 use Rattle.rtcm_convert.proofs.RunLemmas.{completed_after, empty_after}
-use Rattle.rtcm_convert.proofs.Names.{◌≡◌, ℕ, ◌+◌, ◌<◌, ◌≤◌, inl, inr, List, [], ◌∷◌, ◌++◌, sym, ap, subst, ◌∙◌, arith, Option, Err, append-nil, append_assoc, length, length-append, take, drop, get_or, IsErrOf, flat_map, Vec, take_more, take-append-drop, take-append-le, flat_map-append, take-length, joined_pieces, SetupValue, AppendsDecided, AppendsPrefixOfDecided, Conversion, HasConverted, TakesPiece, CutsAtLimit, WritesPrefixOfAdded, StopsAtEnd, FinishesNow, FinishesEmptyNow, CompletesFile, CompletesEmptyFile, FailsAtEnd, StopsInPieces, IsFeedFault, Fault, NoEpoch, Report}
+use Rattle.rtcm_convert.proofs.Names.{◌≡◌, ℕ, ◌+◌, ◌<◌, ◌≤◌, inl, inr, List, [], ◌∷◌, ◌++◌, sym, ap, subst, ◌∙◌, arith, Option, append-nil, append_assoc, length, length-append, take, drop, get_or, flat_map, Vec, take_more, take-append-drop, take-append-le, flat_map-append, take-length, joined_pieces, SetupValue, AppendsDecided, AppendsPrefixOfDecided, Conversion, HasConverted, TakesPiece, CutsAtLimit, WritesPrefixOfAdded, StopsAtEnd, FinishesNow, FinishesEmptyNow, CompletesFile, CompletesEmptyFile, FailsAtEnd, StopsInPieces, Report}
 
 -- ---- the first pieces
 
@@ -87,8 +87,3 @@ pieces_broke {b} {c} pieces i piece came less more stop = inl (
       let e : (bytes ++ joined_pieces (take i pieces)) ++ piece ≡ bytes ++ joined_pieces (take (i + 1) pieces) = append_assoc bytes (joined_pieces (take i pieces)) piece ∙ ap (λ l. bytes ++ l) more in
       record { mid = b; before = j.1; last = subst (λ (l : List ℕ). AppendsPrefixOfDecided b c s (bytes ++ joined_pieces (take i pieces)) l) e (stop s (bytes ++ joined_pieces (take i pieces)) j.0) },
 )
-
--- `feed` never returns `NoEpoch`
-pub not_empty : {A : Type 0} (fault : Fault) → IsFeedFault fault → IsErrOf {T = A} {E = Fault} (Err fault) NoEpoch → ⊥
-not_empty fault (inl long) e = absurd cc
-not_empty fault (inr write) e = absurd cc

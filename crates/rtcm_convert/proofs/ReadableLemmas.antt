@@ -1,28 +1,28 @@
 -- The bytes written are the text of a file value.
-use Rattle.rtcm_convert.proofs.Names.{◌≡◌, ℕ, ◌<◌, inl, inr, Bool, true, false, List, [], ◌∷◌, ◌++◌, length, filter, refl, sym, subst, arith, Option, Some, None, Result, Ok, Err, nat_lt, append-nil, cond, IfSome, AllByRecursion, cons_option, Framed, Message, MsgFault, IsMessage, message_at, PlanValue, Closed, satellites_written, Heard, IsPrefix, all_epochs, closed_epochs, ClosedComeFirst, IsHeard, MessagesAreHeard, EpochsAreGathered, IsGatheredEpoch, TimesRise, AreGatheredEpochs, HeaderLists, AreTexts, gathered, AreSignals, HasSatellite, IsGatheredFile, SetupValue, heard_of, heard_in, messages_of, written_epochs, text_of_epochs, text_with, file, so_far, epochs_in, IsFileText, HasValue, IsReadable, AreSound}
+use Rattle.rtcm_convert.proofs.Names.{◌≡◌, ℕ, ◌<◌, inl, inr, Bool, true, false, List, [], ◌∷◌, ◌++◌, length, filter, refl, sym, subst, arith, Option, Some, None, Result, Ok, Err, nat_lt, append-nil, cond, IfSome, AllByRecursion, cons_option, Framed, Message, MsgFault, IsMessage, MsmSet, message_with, PlanValue, Closed, satellites_written, Heard, IsPrefix, all_epochs, closed_epochs, ClosedComeFirst, IsHeard, MessagesAreHeard, EpochsAreGathered, IsGatheredEpoch, TimesRise, AreGatheredEpochs, HeaderLists, AreTexts, gathered, AreSignals, HasSatellite, IsGatheredFile, SetupValue, heard_of, message_of, messages_of, written_epochs, text_of_epochs, text_with, file, so_far, epochs_in, IsFileText, HasValue, IsReadable, AreSound, AreChannels}
 
 -- the laws of the crates below on messages, epochs and files
 pub record Known : Type 0 where
-  pub value : (bytes : List ℕ) (m : Message) → message_at bytes ≡ Ok m → IsMessage m
+  pub value : (set : MsmSet) (bytes : List ℕ) (m : Message) → message_with set bytes ≡ Ok m → IsMessage m
   pub heard : MessagesAreHeard
   pub epochs : EpochsAreGathered
   pub first : ClosedComeFirst
   pub gathered : IsGatheredFile
   pub text : IsFileText
 
-pub known : ((bytes : List ℕ) (m : Message) → message_at bytes ≡ Ok m → IsMessage m) → MessagesAreHeard → EpochsAreGathered → ClosedComeFirst → IsGatheredFile → IsFileText → Known
+pub known : ((set : MsmSet) (bytes : List ℕ) (m : Message) → message_with set bytes ≡ Ok m → IsMessage m) → MessagesAreHeard → EpochsAreGathered → ClosedComeFirst → IsGatheredFile → IsFileText → Known
 known value heard epochs first gathered text = record { value = value; heard = heard; epochs = epochs; first = first; gathered = gathered; text = text }
 
 -- ---- messages
 
-message_heard : Known → (bytes : List ℕ) (r : Result Message MsgFault) → message_at bytes ≡ r → IfSome (heard_of r) IsHeard
-message_heard k bytes (Ok m) e = k.heard m (k.value bytes m e)
-message_heard k bytes (Err fault) e = tt
+message_heard : Known → (s : SetupValue) (bytes : List ℕ) (r : Result Message MsgFault) → AreChannels s.gather.plan.channels → message_with s.set bytes ≡ r → IfSome (heard_of s.gather.plan.channels s.gather.leap r) IsHeard
+message_heard k s bytes (Ok m) are e = k.heard s.gather.plan.channels s.gather.leap m are (k.value s.set bytes m e)
+message_heard k s bytes (Err fault) are e = tt
 
-messages_heard : Known → (fs : List Framed) → AllByRecursion IsHeard (messages_of fs)
-messages_heard k [] = tt
-messages_heard k (f ∷ fs) = by (heard_in f.message) (message_heard k f.message (message_at f.message) refl) (messages_heard k fs) where
-  by : (o : Option Heard) → IfSome o IsHeard → AllByRecursion IsHeard (messages_of fs) → AllByRecursion IsHeard (cons_option o (messages_of fs))
+messages_heard : Known → (s : SetupValue) (fs : List Framed) → AreChannels s.gather.plan.channels → AllByRecursion IsHeard (messages_of s fs)
+messages_heard k s [] are = tt
+messages_heard k s (f ∷ fs) are = by (message_of s f) (message_heard k s f.message (message_with s.set f.message) are refl) (messages_heard k s fs are) where
+  by : (o : Option Heard) → IfSome o IsHeard → AllByRecursion IsHeard (messages_of s fs) → AllByRecursion IsHeard (cons_option o (messages_of s fs))
   by None h l = l
   by (Some m) h l = (h, l)
 
@@ -72,7 +72,7 @@ text_valued : Known → {texts : HeaderLists} {plan : PlanValue} (es : List Clos
 unfolding text_of_epochs
 text_valued k [] x p h some none = absurd (omega (arith, none))
 text_valued k {texts} {plan} (e ∷ es) x p h some none =
-    (gathered texts plan e.values (e ∷ es), record { is = k.gathered texts plan e es x p h some; same = k.text texts plan e es })
+    (gathered texts plan e.values (e ∷ es), k.gathered texts plan e es x p h some, k.text texts plan e es)
 
 with_valued : Known → (s : SetupValue) (es : List Closed) → AreSound s → AreGatheredEpochs s.gather.plan es → 0 < length (written_epochs es) → HasValue (text_with s es)
 with_valued k s es sound h =
@@ -89,13 +89,13 @@ with_readable : Known → (s : SetupValue) (es : List Closed) → AreSound s →
 with_readable k s es sound h = no_text s.texts s.gather.plan (written_epochs es) (with_valued k s es sound h)
 
 pub file_valued : Known → (s : SetupValue) (fs : List Framed) → AreSound s → 0 < epochs_in s fs → HasValue (file s fs)
-file_valued k s fs sound some = with_valued k s (all_epochs s.gather (messages_of fs)) sound (k.epochs s.gather (messages_of fs) sound.initial (messages_heard k fs)) some
+file_valued k s fs sound some = with_valued k s (all_epochs s.gather (messages_of s fs)) sound (k.epochs s.gather (messages_of s fs) sound.initial (messages_heard k s fs sound.plan.channels)) some
 
 pub file_readable : Known → (s : SetupValue) (fs : List Framed) → AreSound s → IsReadable (file s fs)
-file_readable k s fs sound = with_readable k s (all_epochs s.gather (messages_of fs)) sound (k.epochs s.gather (messages_of fs) sound.initial (messages_heard k fs))
+file_readable k s fs sound = with_readable k s (all_epochs s.gather (messages_of s fs)) sound (k.epochs s.gather (messages_of s fs) sound.initial (messages_heard k s fs sound.plan.channels))
 
 pub so_far_readable : Known → (s : SetupValue) (fs : List Framed) → AreSound s → IsReadable (so_far s fs)
 so_far_readable k s fs sound =
-    let ms = messages_of fs in
-    let all = subst (λ l. AreGatheredEpochs s.gather.plan (all_epochs s.gather l)) (sym (append-nil ms)) (k.epochs s.gather ms sound.initial (messages_heard k fs)) in
+    let ms = messages_of s fs in
+    let all = subst (λ l. AreGatheredEpochs s.gather.plan (all_epochs s.gather l)) (sym (append-nil ms)) (k.epochs s.gather ms sound.initial (messages_heard k s fs sound.plan.channels)) in
     with_readable k s (closed_epochs s.gather ms) sound (front s.gather.plan (closed_epochs s.gather ms) (all_epochs s.gather (ms ++ [])) (k.first s.gather ms []) all)

@@ -16,6 +16,7 @@ pub record Took (old new : GathererValue) (kind : Kind) (m : Heard) : Type 0 whe
 pub record Wrote (old new : FileWriter) (now : GathererValue) (a b : Option (List ℕ)) : Type 0 where
   pub gatherer : new.gatherer ≡ now
   pub texts : new.texts ≡ old.texts
+  pub set : new.set ≡ old.set
   pub epochs : new.epochs ≡ epochs_after old.epochs (closed_in now)
   pub values : new.values ≡ values_after old.values (closed_in now) now.values
   pub out : Appends a b (added old.texts (plan_in now) old.values (closed_in now) now.values)
@@ -28,6 +29,7 @@ wrote_all {w} {g} {a} {b} {s} {es} o x y =
       es ++ closed_by (closed_in g) g.values,
       record {
         texts = o.texts ∙ x.texts;
+        set = o.set ∙ x.set;
         gatherer = rw o.gatherer y;
         epochs = o.epochs ∙ ap (λ n. epochs_after n (closed_in g)) x.epochs ∙ sym (count-closed es (closed_in g) g.values);
         values = o.values ∙ ap (λ w. values_after w (closed_in g) g.values) x.values ∙ sym (last-closed es (closed_in g) g.values);

@@ -3,15 +3,15 @@ use Rattle.rtcm_convert.proofs.PartLemmas.{goes_on-refl, goes_on-trans, breaks_o
 use Rattle.rtcm_convert.proofs.TextLemmas.{cap_more, count, last, text-closed}
 use Rattle.rtcm_convert.proofs.ExactLemmas.{few_more, message_few, refused_few}
 use Rattle.rtcm_convert.proofs.StepLemmas.{Wrote, wrote_all, part_of}
-use Rattle.rtcm_convert.proofs.Names.{◌≡◌, ℕ, List, [], ◌∷◌, ◌++◌, true, false, refl, sym, ap, subst, ◌∙◌, Option, Some, None, Result, Ok, Err, IfOk, OnOk, append-nil, append_assoc, ◌+◌, arith, sum_by, common_steps, filter_map-append, sum_by-append, AppendsPrefix, Framed, Message, MsgFault, message_at, IsMessage, Kind, Closed, GatherSetup, Heard, heard, is_close_first, kind_of, GathererValue, HasGatheredEpochs, IsAwaited, closed_by, closed_in, plan_in, closed_epochs, all_epochs, known_epochs, SetupValue, text_with, so_far, file, messages_of, heard_in, outcome, outcomes, outcomes_after, capped, capped_tally, tallies_added, sum_of_counts, tally_of, tally_of_one, IsFew, AreFew, AppendsBetween, AppendsPrefixBetween, added, HasFiledEpochs, Settled, HasFiledFrames, EndsFile, Report, FileWriter}
+use Rattle.rtcm_convert.proofs.Names.{◌≡◌, ℕ, List, [], ◌∷◌, ◌++◌, true, false, refl, sym, ap, subst, ◌∙◌, Option, Some, None, Result, Ok, Err, IfOk, OnOk, append-nil, append_assoc, ◌+◌, arith, sum_by, common_steps, filter_map-append, sum_by-append, AppendsPrefix, Framed, Message, MsgFault, MsmSet, message_with, IsMessage, Kind, Closed, GatherSetup, Heard, heard_by, is_close_first, kind_of, GathererValue, HasGatheredEpochs, IsAwaited, closed_by, closed_in, plan_in, closed_epochs, all_epochs, known_epochs, SetupValue, text_with, so_far, file, message_of, messages_of, outcome, outcomes, outcomes_after, capped, capped_tally, tallies_added, sum_of_counts, tally_of, tally_of_one, IsFew, AreFew, AppendsBetween, AppendsPrefixBetween, added, HasFiledEpochs, Settled, HasFiledFrames, EndsFile, Report, FileWriter}
 
 -- the epochs written after these, and their text
 abbrev pub Written : FileWriter → SetupValue → List Heard → Option Heard → Option (List ℕ) → Option (List ℕ) → List Closed → Type 0
 Written w s ms again a b es = (all : List Closed) × HasFiledEpochs w s ms all again × AppendsBetween a b (text_with s es) (text_with s all)
 
-abbrev pub IsPart : FileWriter → Heard → Option (List ℕ) → Option (List ℕ) → Type 0
-IsPart v m a b = (s : SetupValue) (ms : List Heard) (es : List Closed) (again : Option Heard) → IsAwaited again m → HasFiledEpochs v s ms es again
-    → AppendsPrefixBetween a b (text_with s es) (text_with s (closed_epochs s.gather (ms ++ m ∷ [])))
+abbrev pub IsPart : FileWriter → Message → Option (List ℕ) → Option (List ℕ) → Type 0
+IsPart v m a b = (s : SetupValue) (ms : List Heard) (es : List Closed) (again : Option Heard) → IsAwaited again (heard_by s.gather m) → HasFiledEpochs v s ms es again
+    → AppendsPrefixBetween a b (text_with s es) (text_with s (closed_epochs s.gather (ms ++ heard_by s.gather m ∷ [])))
 
 abbrev pub Goes : Option (List ℕ) → Option (List ℕ) → SetupValue → List Heard → List Heard → Type 0
 Goes a b s ms ns = AppendsBetween a b (text_with s (closed_epochs s.gather ms)) (text_with s (closed_epochs s.gather ns))
@@ -31,23 +31,27 @@ settle_again going first p =
     let q = settle first.0 going p in
     (q.0, goes_on-trans first.2 q.1)
 
-pub part_alone : {v : FileWriter} {m : Heard} {a b : Option (List ℕ)} → IsPart v m a b → (s : SetupValue) (ms : List Heard) → Settled v s ms → Breaks a b s ms (ms ++ m ∷ [])
-part_alone p s ms x = p s ms (closed_epochs s.gather ms) None tt x
+pub part_alone : {v : FileWriter} {a b : Option (List ℕ)} (m : Message) → IsPart v m a b → (s : SetupValue) (ms : List Heard) → Settled v s ms → Breaks a b s ms (ms ++ heard_by s.gather m ∷ [])
+part_alone m p s ms x = p s ms (closed_epochs s.gather ms) None tt x
 
-pub part_again : {w : FileWriter} {m : Heard} {a b c : Option (List ℕ)} {s : SetupValue} {ms : List Heard}
-    → Written w s ms (Some m) a b (closed_epochs s.gather ms) → IsPart w m b c → Breaks a c s ms (ms ++ m ∷ [])
-part_again {m} {s} {ms} first p = breaks_off-after first.2 (p s ms first.0 (Some m) refl first.1)
+pub part_again : {w : FileWriter} {a b c : Option (List ℕ)} {s : SetupValue} {ms : List Heard} (m : Message)
+    → Written w s ms (Some (heard_by s.gather m)) a b (closed_epochs s.gather ms) → IsPart w m b c → Breaks a c s ms (ms ++ heard_by s.gather m ∷ [])
+part_again {s = s} {ms} m first p = breaks_off-after first.2 (p s ms first.0 (Some (heard_by s.gather m)) refl first.1)
+
+-- what is read of a frame with the file writer's set is read with that of the settings
+in_set : {v : FileWriter} {s : SetupValue} {fs : List Framed} {r : Result Message MsgFault} → HasFiledFrames v s fs → (f : Framed) → message_with v.set f.message ≡ r → message_with s.set f.message ≡ r
+in_set y f read = ap (λ (set : MsmSet). message_with set f.message) (sym y.settled.set) ∙ read
 
 -- the messages of one more frame
-messages_more : (fs : List Framed) (f : Framed) (m : Message) → message_at f.message ≡ Ok m → messages_of (fs ++ f ∷ []) ≡ messages_of fs ++ heard m ∷ []
-messages_more fs f m e =
-    let one : messages_of (f ∷ []) ≡ heard m ∷ [] = rw e refl in
-    filter_map-append (λ (f : Framed). heard_in f.message) fs (f ∷ []) ∙ ap (λ l. messages_of fs ++ l) one
+messages_more : (s : SetupValue) (fs : List Framed) (f : Framed) (m : Message) → message_with s.set f.message ≡ Ok m → messages_of s (fs ++ f ∷ []) ≡ messages_of s fs ++ heard_by s.gather m ∷ []
+messages_more s fs f m e =
+    let one : messages_of s (f ∷ []) ≡ heard_by s.gather m ∷ [] = rw e refl in
+    filter_map-append (message_of s) fs (f ∷ []) ∙ ap (λ l. messages_of s fs ++ l) one
 
-messages_same : (fs : List Framed) (f : Framed) (d : MsgFault) → message_at f.message ≡ Err d → messages_of (fs ++ f ∷ []) ≡ messages_of fs
-messages_same fs f d e =
-    let none : messages_of (f ∷ []) ≡ [] = rw e refl in
-    filter_map-append (λ (f : Framed). heard_in f.message) fs (f ∷ []) ∙ ap (λ l. messages_of fs ++ l) none ∙ append-nil (messages_of fs)
+messages_same : (s : SetupValue) (fs : List Framed) (f : Framed) (d : MsgFault) → message_with s.set f.message ≡ Err d → messages_of s (fs ++ f ∷ []) ≡ messages_of s fs
+messages_same s fs f d e =
+    let none : messages_of s (f ∷ []) ≡ [] = rw e refl in
+    filter_map-append (message_of s) fs (f ∷ []) ∙ ap (λ l. messages_of s fs ++ l) none ∙ append-nil (messages_of s fs)
 
 -- one more outcome
 outcomes_after-one : (s : SetupValue) (before fs : List Framed) (f : Framed) → outcomes_after s before (fs ++ f ∷ []) ≡ outcomes_after s before fs ++ outcome s (before ++ fs) f ∷ []
@@ -87,54 +91,56 @@ few_one : (s : SetupValue) (fs : List Framed) (f : Framed) (o : Option Kind) →
 few_one s fs f o is few one =
     subst (λ (l : List (Option Kind)). AreFew l) (sym (outcomes_after-one s [] fs f)) (subst (λ (x : Option Kind). AreFew (outcomes s fs ++ x ∷ [])) is (few_more (outcomes s fs) o few one))
 
-outcome_ok : (s : SetupValue) (fs : List Framed) (f : Framed) (m : Message) (k : Kind) → message_at f.message ≡ Ok m → k ≡ kind_of s.gather (messages_of fs) (heard m) → Some k ≡ outcome s fs f
+outcome_ok : (s : SetupValue) (fs : List Framed) (f : Framed) (m : Message) (k : Kind) → message_with s.set f.message ≡ Ok m → k ≡ kind_of s.gather (messages_of s fs) (heard_by s.gather m) → Some k ≡ outcome s fs f
 outcome_ok s fs f m k e is = rw e (ap Some is)
 
-outcome_err : (s : SetupValue) (fs : List Framed) (f : Framed) (d : MsgFault) → message_at f.message ≡ Err d → None ≡ outcome s fs f
+outcome_err : (s : SetupValue) (fs : List Framed) (f : Framed) (d : MsgFault) → message_with s.set f.message ≡ Err d → None ≡ outcome s fs f
 outcome_err s fs f d e = rw e refl
 
-pub files_more : {v w x : FileWriter} {s : SetupValue} {fs : List Framed} (f : Framed) {m : Message} {k : Kind} {a b : Option (List ℕ)} → message_at f.message ≡ Ok m → IsMessage m
-    → ((s : SetupValue) (ms : List Heard) → Settled v s ms → Settled w s (ms ++ heard m ∷ []) × Goes a b s ms (ms ++ heard m ∷ []))
-    → ((s : SetupValue) (ms : List Heard) → Settled v s ms → k ≡ kind_of s.gather ms (heard m))
+pub files_more : {v w x : FileWriter} {s : SetupValue} {fs : List Framed} (f : Framed) {m : Message} {k : Kind} {a b : Option (List ℕ)} → message_with v.set f.message ≡ Ok m → IsMessage m
+    → ((s : SetupValue) (ms : List Heard) → Settled v s ms → Settled w s (ms ++ heard_by s.gather m ∷ []) × Goes a b s ms (ms ++ heard_by s.gather m ∷ []))
+    → ((s : SetupValue) (ms : List Heard) → Settled v s ms → k ≡ kind_of s.gather ms (heard_by s.gather m))
     → w.tally ≡ v.tally → x ≡ record w { tally = tallies_added w.tally (tally_of_one (Some k)) }
     → HasFiledFrames v s fs → HasFiledFrames x s (fs ++ f ∷ []) × AppendsBetween a b (so_far s fs) (so_far s (fs ++ f ∷ []))
-files_more {w} {s} {fs} f {m} {k} {a} {b} e valid t kind same now y =
-    let p = t s (messages_of fs) y.settled in
-    let ms = sym (messages_more fs f m e) in
-    let z : Settled w s (messages_of (fs ++ f ∷ [])) = subst (λ (ms : List Heard). Settled w s ms) ms p.0 in (
+files_more {w} {s} {fs} f {m} {k} {a} {b} read valid t kind same now y =
+    let e = in_set y f read in
+    let p = t s (messages_of s fs) y.settled in
+    let ms = sym (messages_more s fs f m e) in
+    let z : Settled w s (messages_of s (fs ++ f ∷ [])) = subst (λ (ms : List Heard). Settled w s ms) ms p.0 in (
       rw now record {
-        settled = record { texts = z.texts; gatherer = z.gatherer; epochs = z.epochs; values = z.values };
-        tally = tally_one s fs f (outcome_ok s fs f m k e (kind s (messages_of fs) y.settled)) (same ∙ y.tally) refl;
-        few = few_one s fs f (Some (kind_of s.gather (messages_of fs) (heard m))) (outcome_ok s fs f m _ e refl) y.few (message_few s.gather (messages_of fs) m valid);
+        settled = record { texts = z.texts; set = z.set; gatherer = z.gatherer; epochs = z.epochs; values = z.values };
+        tally = tally_one s fs f (outcome_ok s fs f m k e (kind s (messages_of s fs) y.settled)) (same ∙ y.tally) refl;
+        few = few_one s fs f (Some (kind_of s.gather (messages_of s fs) (heard_by s.gather m))) (outcome_ok s fs f m _ e refl) y.few (message_few s.gather (messages_of s fs) m valid);
       },
-      subst (λ (ns : List Heard). Goes a b s (messages_of fs) ns) ms p.1,
+      subst (λ (ns : List Heard). Goes a b s (messages_of s fs) ns) ms p.1,
     )
 
-pub files_same : {v x : FileWriter} {s : SetupValue} {fs : List Framed} (f : Framed) {d : MsgFault} {a : Option (List ℕ)} → message_at f.message ≡ Err d → x ≡ record v { tally = tallies_added v.tally (tally_of_one None) }
+pub files_same : {v x : FileWriter} {s : SetupValue} {fs : List Framed} (f : Framed) {d : MsgFault} {a : Option (List ℕ)} → message_with v.set f.message ≡ Err d → x ≡ record v { tally = tallies_added v.tally (tally_of_one None) }
     → HasFiledFrames v s fs → HasFiledFrames x s (fs ++ f ∷ []) × AppendsBetween a a (so_far s fs) (so_far s (fs ++ f ∷ []))
-files_same {v} {s} {fs} f {d} {a} e now y =
-    let ms = sym (messages_same fs f d e) in
-    let z : Settled v s (messages_of (fs ++ f ∷ [])) = subst (λ (ms : List Heard). Settled v s ms) ms y.settled in (
+files_same {v} {s} {fs} f {d} {a} read now y =
+    let e = in_set y f read in
+    let ms = sym (messages_same s fs f d e) in
+    let z : Settled v s (messages_of s (fs ++ f ∷ [])) = subst (λ (ms : List Heard). Settled v s ms) ms y.settled in (
       rw now record {
-        settled = record { texts = z.texts; gatherer = z.gatherer; epochs = z.epochs; values = z.values };
+        settled = record { texts = z.texts; set = z.set; gatherer = z.gatherer; epochs = z.epochs; values = z.values };
         tally = tally_one s fs f (outcome_err s fs f d e) y.tally refl;
         few = few_one s fs f None (outcome_err s fs f d e) y.few refused_few;
       },
-      subst (λ (ns : List Heard). Goes a a s (messages_of fs) ns) ms (goes_on-refl a _),
+      subst (λ (ns : List Heard). Goes a a s (messages_of s fs) ns) ms (goes_on-refl a _),
     )
 
-pub files_part : {v : FileWriter} (f : Framed) {m : Message} {a b : Option (List ℕ)} → message_at f.message ≡ Ok m
-    → ((s : SetupValue) (ms : List Heard) → Settled v s ms → Breaks a b s ms (ms ++ heard m ∷ []))
+pub files_part : {v : FileWriter} (f : Framed) {m : Message} {a b : Option (List ℕ)} → message_with v.set f.message ≡ Ok m
+    → ((s : SetupValue) (ms : List Heard) → Settled v s ms → Breaks a b s ms (ms ++ heard_by s.gather m ∷ []))
     → (s : SetupValue) (fs : List Framed) → HasFiledFrames v s fs → AppendsPrefixBetween a b (so_far s fs) (so_far s (fs ++ f ∷ []))
-files_part f {m} {a} {b} e t s fs x =
-    subst (λ (ns : List Heard). Breaks a b s (messages_of fs) ns) (sym (messages_more fs f m e)) (t s (messages_of fs) x.settled)
+files_part f {m} {a} {b} read t s fs x =
+    subst (λ (ns : List Heard). Breaks a b s (messages_of s fs) ns) (sym (messages_more s fs f m (in_set x f read))) (t s (messages_of s fs) x.settled)
 
 -- the rest of the file
 pub file_whole : (v w : FileWriter) (g : GathererValue) (a b : Option (List ℕ)) → Wrote v w g a b → g.has_ended ≡ true
     → ((s : GatherSetup) (ms : List Heard) (es : List Closed) → HasGatheredEpochs v.gatherer s ms es None → HasGatheredEpochs g s ms (es ++ closed_by (closed_in g) g.values) None)
     → EndsFile v w a b
 file_whole v w g a b o over t s fs x =
-    let ms = messages_of fs in
+    let ms = messages_of s fs in
     let es = closed_epochs s.gather ms in
     let now = t s.gather ms es x.settled.gatherer in
     let p = wrote_all o x.settled now in
@@ -152,7 +158,7 @@ pub file_part : {v : FileWriter} {g : GathererValue} {a b : Option (List ℕ)} �
     → ((s : GatherSetup) (ms : List Heard) (es : List Closed) → HasGatheredEpochs v.gatherer s ms es None → HasGatheredEpochs g s ms (es ++ closed_by (closed_in g) g.values) None)
     → (s : SetupValue) (fs : List Framed) → HasFiledFrames v s fs → AppendsPrefixBetween a b (so_far s fs) (file s fs)
 file_part {g} {a} {b} p over t s fs x =
-    let ms = messages_of fs in
+    let ms = messages_of s fs in
     let es = closed_epochs s.gather ms in
     let now = t s.gather ms es x.settled.gatherer in
     let e : es ++ closed_by (closed_in g) g.values ≡ all_epochs s.gather ms = now.epochs refl ∙ ap (λ h. known_epochs h s.gather ms) over in
@@ -160,22 +166,22 @@ file_part {g} {a} {b} p over t s fs x =
     subst (λ (all : List Closed). AppendsPrefixBetween a b (so_far s fs) (text_with s all)) e (breaks_off-by a b _ _ _ (text-closed s es (closed_in g) g.values) out)
 
 -- a message that is passed twice
-pub taken_again : {E : Type 0} {v w : FileWriter} (x : FileWriter) {m : Heard} {a b : Option (List ℕ)} (c : Option (List ℕ)) (r : Result Kind E) → x.gatherer.has_ended ≡ false
-    → ((s : SetupValue) (ms : List Heard) (es : List Closed) → HasFiledEpochs v s ms es None → Written w s ms (Some m) a b es)
-    → IfOk r (λ k. is_close_first k ≡ false → (s : SetupValue) (ms : List Heard) (es : List Closed) (again : Option Heard) → IsAwaited again m → HasFiledEpochs w s ms es again → Written x s (ms ++ m ∷ []) None b c es)
-    → IfOk r (λ k. (s : SetupValue) (ms : List Heard) (es : List Closed) → HasFiledEpochs w s ms es (Some m) → is_close_first k ≡ false)
-    → OnOk r ((s : SetupValue) (ms : List Heard) → Settled v s ms → Settled x s (ms ++ m ∷ []) × Goes a c s ms (ms ++ m ∷ []))
-taken_again {v} {w} x {m} {a} {b} c (Ok k) going first taken again = λ s ms y.
-    let one : Written w s ms (Some m) a b (closed_epochs s.gather ms) = first s ms (closed_epochs s.gather ms) y in
-    settle_again going one (taken (again s ms one.0 one.1) s ms one.0 (Some m) refl one.1)
-taken_again x c (Err e) going first taken again = tt
+pub taken_again : {E : Type 0} {v w : FileWriter} (x : FileWriter) (m : Message) {a b : Option (List ℕ)} (c : Option (List ℕ)) (r : Result Kind E) → x.gatherer.has_ended ≡ false
+    → ((s : SetupValue) (ms : List Heard) (es : List Closed) → HasFiledEpochs v s ms es None → Written w s ms (Some (heard_by s.gather m)) a b es)
+    → IfOk r (λ k. is_close_first k ≡ false → (s : SetupValue) (ms : List Heard) (es : List Closed) (again : Option Heard) → IsAwaited again (heard_by s.gather m) → HasFiledEpochs w s ms es again → Written x s (ms ++ heard_by s.gather m ∷ []) None b c es)
+    → IfOk r (λ k. (s : SetupValue) (ms : List Heard) (es : List Closed) → HasFiledEpochs w s ms es (Some (heard_by s.gather m)) → is_close_first k ≡ false)
+    → OnOk r ((s : SetupValue) (ms : List Heard) → Settled v s ms → Settled x s (ms ++ heard_by s.gather m ∷ []) × Goes a c s ms (ms ++ heard_by s.gather m ∷ []))
+taken_again {v} {w} x m {a} {b} c (Ok k) going first taken again = λ s ms y.
+    let one : Written w s ms (Some (heard_by s.gather m)) a b (closed_epochs s.gather ms) = first s ms (closed_epochs s.gather ms) y in
+    settle_again going one (taken (again s ms one.0 one.1) s ms one.0 (Some (heard_by s.gather m)) refl one.1)
+taken_again x m c (Err e) going first taken again = tt
 
-pub kind_again : {E : Type 0} {v w : FileWriter} {m : Heard} {a b : Option (List ℕ)} (r : Result Kind E)
-    → ((s : SetupValue) (ms : List Heard) (es : List Closed) → HasFiledEpochs v s ms es None → Written w s ms (Some m) a b es)
-    → IfOk r (λ k. is_close_first k ≡ false → (s : SetupValue) (ms : List Heard) (es : List Closed) (again : Option Heard) → IsAwaited again m → HasFiledEpochs w s ms es again → k ≡ kind_of s.gather ms m)
-    → IfOk r (λ k. (s : SetupValue) (ms : List Heard) (es : List Closed) → HasFiledEpochs w s ms es (Some m) → is_close_first k ≡ false)
-    → IfOk r (λ k. (s : SetupValue) (ms : List Heard) → Settled v s ms → k ≡ kind_of s.gather ms m)
-kind_again {w} {m} {a} {b} (Ok k) first kind again = λ s ms y.
-    let one : Written w s ms (Some m) a b (closed_epochs s.gather ms) = first s ms (closed_epochs s.gather ms) y in
-    kind (again s ms one.0 one.1) s ms one.0 (Some m) refl one.1
-kind_again (Err e) first kind again = tt
+pub kind_again : {E : Type 0} {v w : FileWriter} {a b : Option (List ℕ)} (m : Message) (r : Result Kind E)
+    → ((s : SetupValue) (ms : List Heard) (es : List Closed) → HasFiledEpochs v s ms es None → Written w s ms (Some (heard_by s.gather m)) a b es)
+    → IfOk r (λ k. is_close_first k ≡ false → (s : SetupValue) (ms : List Heard) (es : List Closed) (again : Option Heard) → IsAwaited again (heard_by s.gather m) → HasFiledEpochs w s ms es again → k ≡ kind_of s.gather ms (heard_by s.gather m))
+    → IfOk r (λ k. (s : SetupValue) (ms : List Heard) (es : List Closed) → HasFiledEpochs w s ms es (Some (heard_by s.gather m)) → is_close_first k ≡ false)
+    → IfOk r (λ k. (s : SetupValue) (ms : List Heard) → Settled v s ms → k ≡ kind_of s.gather ms (heard_by s.gather m))
+kind_again {w = w} {a} {b} m (Ok k) first kind again = λ s ms y.
+    let one : Written w s ms (Some (heard_by s.gather m)) a b (closed_epochs s.gather ms) = first s ms (closed_epochs s.gather ms) y in
+    kind (again s ms one.0 one.1) s ms one.0 (Some (heard_by s.gather m)) refl one.1
+kind_again m (Err e) first kind again = tt

@@ -107,19 +107,13 @@ ClosedInAll = (s : GatherSetup) (ms more : List Heard) → IsPrefix (closed_epoc
 -- more frames leave the text as a prefix
 pub so_far-more : ClosedStay → (s : SetupValue) (fs more : List Framed) → IsPrefix (so_far s fs) (so_far s (fs ++ more))
 so_far-more stay s fs more =
-    text-more s (closed_epochs s.gather (messages_of fs)) (closed_epochs s.gather (messages_of (fs ++ more)))
-    (rw filter_map-append (stay s.gather (messages_of fs) (messages_of more)))
+    text-more s (closed_epochs s.gather (messages_of s fs)) (closed_epochs s.gather (messages_of s (fs ++ more)))
+    (rw filter_map-append (stay s.gather (messages_of s fs) (messages_of s more)))
 
 pub so_far-all : ClosedInAll → (s : SetupValue) (fs more : List Framed) → IsPrefix (so_far s fs) (file s (fs ++ more))
 so_far-all stay s fs more =
-    text-more s (closed_epochs s.gather (messages_of fs)) (all_epochs s.gather (messages_of (fs ++ more)))
-    (rw filter_map-append (stay s.gather (messages_of fs) (messages_of more)))
-
--- the text before an epoch: the header
-pub opening_first : {p q : PlanValue} {n : Option StationValues} {v w : StationValues} {k : ℕ} (P : List ℕ → Type 0) (t : HeaderLists) (e : EpochValue)
-    → n ≡ None → q ≡ p → w ≡ v → k ≡ e.time → P (header_text t q w k) → P (opening t p n e v)
-opening_first {p} {v = v} P t e none plan values time x =
-    subst (λ (o : Option StationValues). P (opening t p o e v)) (sym none) (rw (← plan, ← values, ← time) x)
+    text-more s (closed_epochs s.gather (messages_of s fs)) (all_epochs s.gather (messages_of s (fs ++ more)))
+    (rw filter_map-append (stay s.gather (messages_of s fs) (messages_of s more)))
 
 -- the same: an event, or nothing
 pub opening_later : {n : Option StationValues} {v before w : StationValues} {b : Bool} (P : List ℕ → Type 0) (t : HeaderLists) (p : PlanValue) (e : EpochValue)

@@ -4,15 +4,8 @@ use Rattle.std.specs.Io.KnownBytes.{Appends, Consumes, IsAtEnd}
 use Rattle.rtcm_bits.specs.FrameOf.{longest_frame}
 use Rattle.rtcm_scan.specs.Frames.{frames_of}
 use Rattle.rtcm_scan.specs.Decided.{decided, decided_frames}
-use Rattle.rtcm_bits.specs.Prefix.{IsPrefix}
+use Rattle.rtcm_bits.specs.Device.{IsBetween}
 use Rattle.rtcm_convert.specs.Converted.{SetupValue, so_far, file}
-
--- the bytes written are at least the lower text, and at most the upper one
-pub record IsBetween (a b : Option (List ℕ)) (lower upper : List ℕ) : Type 0 where
-  pub out : List ℕ
-  pub went : Appends a b out
-  pub least : IsPrefix lower out
-  pub most : IsPrefix out upper
 
 -- they are at least the file of the epochs that the decided frames of these bytes close, and at most the whole file
 abbrev pub IsBetweenDecidedAndWhole : Option (List ℕ) → Option (List ℕ) → SetupValue → List ℕ → Type 0

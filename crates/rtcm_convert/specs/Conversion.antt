@@ -8,7 +8,7 @@ use Rattle.rtcm_scan.specs.Decided.{decided}
 use Rattle.rtcm_scan.specs.Scan.{FramerValue}
 use Rattle.rtcm_scan.specs.Drained.{IsDrained}
 use Rattle.rtcm_convert.specs.Converted.{SetupValue, epochs_in}
-use Rattle.gnss_system.specs.declared.system.System.TheVariants.{Gps, Galileo}
+use Rattle.gnss_system.specs.SystemValues.{tabulate}
 use Rattle.gnss_obs.specs.Values.{cells_of}
 use Rattle.obs_epoch.specs.Held.{recorded}
 use Rattle.rtcm_convert.specs.Kept.{IsWithinBounds, IsKeptNow, IsKeptAtEnd}
@@ -69,8 +69,7 @@ pub record HasFinished (v : Conversion) (s : SetupValue) (b : List ℕ) : Type 0
 abbrev pub kept_of : Conversion → Kept
 kept_of v = record {
   held = length v.scan.held;
-  gps_cells = length (cells_of Gps v.file_writer.gatherer.epoch);
-  galileo_cells = length (cells_of Galileo v.file_writer.gatherer.epoch);
+  cells = tabulate (λ s. length (cells_of s v.file_writer.gatherer.epoch));
   locks = recorded v.file_writer.gatherer.locks;
   examined = v.scan.examined;
   most = v.scan.most;

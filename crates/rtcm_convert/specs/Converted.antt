@@ -1,21 +1,27 @@
 -- The file that frames make.
-use Rattle.std.specs.Prelude.{ℕ, nat_lt, List, [], ◌∷◌, ◌++◌, length, filter}
+use Rattle.std.specs.Prelude.{ℕ, nat_lt, List, [], ◌∷◌, ◌++◌, length, filter, Option}
 use Rattle.std.specs.List.{filter_map}
 use Rattle.rtcm_scan.specs.Frames.{Framed}
 use Rattle.gnss_obs.specs.Values.{PlanValue, Closed, satellites_written}
+use Rattle.rtcm_msg.specs.declared.number.MsmSet.{MsmSet}
 use Rattle.obs_epoch.specs.Heard.{GatherSetup, Heard, heard_in}
 use Rattle.obs_epoch.specs.GathererHistory.{all_epochs, closed_epochs}
 use Rattle.rinex_file.specs.Texts.{HeaderLists}
 use Rattle.rinex_file.specs.File.{header_text, closed_text}
 
--- the settings of a conversion
+-- the settings of a conversion, and the MSMs that it decodes
 pub record SetupValue : Type 0 where
   pub gather : GatherSetup
   pub texts : HeaderLists
+  pub set : MsmSet
+
+-- the message of a frame, unless it is refused
+abbrev pub message_of : SetupValue → Framed → Option Heard
+message_of s f = heard_in s.gather.plan.channels s.gather.leap s.set f.message
 
 -- the messages of these frames in order, without refused ones
-abbrev pub messages_of : List Framed → List Heard
-messages_of fs = filter_map (λ f. heard_in f.message) fs
+abbrev pub messages_of : SetupValue → List Framed → List Heard
+messages_of s fs = filter_map (message_of s) fs
 
 -- the epochs in which a satellite has a value
 abbrev pub written_epochs : List Closed → List Closed
@@ -34,12 +40,12 @@ text_with s es = text_of_epochs s.texts s.gather.plan (written_epochs es)
 
 -- the file that these frames make
 abbrev pub file : SetupValue → List Framed → List ℕ
-file s fs = text_with s (all_epochs s.gather (messages_of fs))
+file s fs = text_with s (all_epochs s.gather (messages_of s fs))
 
 -- the file of the epochs that these frames close
 abbrev pub so_far : SetupValue → List Framed → List ℕ
-so_far s fs = text_with s (closed_epochs s.gather (messages_of fs))
+so_far s fs = text_with s (closed_epochs s.gather (messages_of s fs))
 
 -- the number of epochs in the file
 abbrev pub epochs_in : SetupValue → List Framed → ℕ
-epochs_in s fs = length (written_epochs (all_epochs s.gather (messages_of fs)))
+epochs_in s fs = length (written_epochs (all_epochs s.gather (messages_of s fs)))

@@ -50,10 +50,6 @@ FailsWithReader result old new =
 abbrev pub FailsWithDevices : {R W A : Type 0} → Result A Fault → (r r' : Device R) → (w w' : Device W) → Type 0
 FailsWithDevices result r r' w w' = FailsWithReader result r r' × FailsWithWriter result w w'
 
--- both devices are as before
-abbrev pub IsUntouched : {R W : Type 0} → (r r' : Device R) → (w w' : Device W) → Type 0
-IsUntouched r r' w w' = (r' ≡ r) × (w' ≡ w)
-
 -- the faults of a setup
 abbrev pub IsSetupFault : Fault → Type 0
 IsSetupFault fault = (fault ≡ BadSetup) ⊎ (fault ≡ Memory)

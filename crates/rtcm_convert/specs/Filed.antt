@@ -61,6 +61,7 @@ last_values (c ∷ cs) = Some (values_following_closed c.values cs)
 pub record HasFiledEpochs (v : FileWriter) (s : SetupValue) (ms : List Heard) (es : List Closed)
     (again : Option Heard) : Type 0 where
   pub texts : v.texts ≡ s.texts
+  pub set : v.set ≡ s.set
   pub gatherer : HasGatheredEpochs v.gatherer s.gather ms es again
   pub epochs : v.epochs ≡ capped (length (written_epochs es))
   pub values : v.values ≡ last_values (written_epochs es)
@@ -73,10 +74,10 @@ Settled v s ms = HasFiledEpochs v s ms (closed_epochs s.gather ms) None
 pub record HasGathered (v : FileWriter) (s : SetupValue) (fs : List Framed) : Type 0 where
   pub ended : v.gatherer.has_ended ≡ true
   pub epochs : List Closed
-  pub gathers : HasGatheredEpochs v.gatherer s.gather (messages_of fs) epochs None
+  pub gathers : HasGatheredEpochs v.gatherer s.gather (messages_of s fs) epochs None
 
 -- the file writer processed the messages of these frames and wrote the epochs that they close
 pub record HasFiledFrames (v : FileWriter) (s : SetupValue) (fs : List Framed) : Type 0 where
-  pub settled : Settled v s (messages_of fs)
+  pub settled : Settled v s (messages_of s fs)
   pub tally : v.tally ≡ capped_tally (tally_of (outcomes s fs))
   pub few : AreFew (outcomes s fs)

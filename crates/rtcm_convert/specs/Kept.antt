@@ -1,7 +1,7 @@
 -- What a converter holds of the frames that it processed.
 use Rattle.std.specs.Prelude.{◌≡◌, ℕ, ◌*◌, ◌≤◌, List, drop, length}
 use Rattle.gnss_system.specs.declared.system.System.{System}
-use Rattle.gnss_system.specs.declared.system.System.TheVariants.{Gps, Galileo}
+use Rattle.gnss_system.specs.SystemValues.{value_of}
 use Rattle.rtcm_bits.specs.FrameOf.{longest_frame}
 use Rattle.rtcm_scan.specs.Decided.{decided, decided_frames}
 use Rattle.rtcm_scan.specs.Frames.{Framed, frames_of}
@@ -19,7 +19,7 @@ use Rattle.gnss_obs.specs.Values.{cells_of}
 
 -- the messages of these frames with their times
 abbrev pub timed_of : SetupValue → List Framed → List Timed
-timed_of s fs = timed s.gather (messages_of fs)
+timed_of s fs = timed s.gather (messages_of s fs)
 
 -- the cells of a system of the epoch of the greatest time: the pending one or, if none is pending, the one closed last
 abbrev pub cells_kept : SetupValue → System → List Framed → ℕ
@@ -43,8 +43,7 @@ locks_in_all s fs = locks_at s fs (times (timed_of s fs))
 -- the bounds that hold at every moment, when `taken` bytes were accepted
 pub record IsWithinBounds (taken : ℕ) (k : Kept) : Type 0 where
   pub held : k.held ≤ longest_frame
-  pub gps_cells : k.gps_cells ≤ most_cells
-  pub galileo_cells : k.galileo_cells ≤ most_cells
+  pub cells : (system : System) → value_of system k.cells ≤ most_cells
   pub locks : k.locks ≤ most_locks
   pub examined : k.examined ≤ most_looks * taken
   pub most : k.most ≤ most_looks
@@ -52,8 +51,7 @@ pub record IsWithinBounds (taken : ℕ) (k : Kept) : Type 0 where
 -- the values after these bytes were accepted
 pub record IsKeptNow (s : SetupValue) (b : List ℕ) (k : Kept) : Type 0 where
   pub held : k.held ≡ length (drop (decided b) b)
-  pub gps_cells : k.gps_cells ≡ cells_kept s Gps (decided_frames b)
-  pub galileo_cells : k.galileo_cells ≡ cells_kept s Galileo (decided_frames b)
+  pub cells : (system : System) → value_of system k.cells ≡ cells_kept s system (decided_frames b)
   pub locks : k.locks ≡ locks_kept s (decided_frames b)
   pub examined : k.examined ≡ examined_now b
   pub most : k.most ≡ most_now b
@@ -61,8 +59,7 @@ pub record IsKeptNow (s : SetupValue) (b : List ℕ) (k : Kept) : Type 0 where
 -- the values after the stream of these bytes was ended
 pub record IsKeptAtEnd (s : SetupValue) (b : List ℕ) (k : Kept) : Type 0 where
   pub held : k.held ≡ 0
-  pub gps_cells : k.gps_cells ≡ cells_kept s Gps (frames_of b)
-  pub galileo_cells : k.galileo_cells ≡ cells_kept s Galileo (frames_of b)
+  pub cells : (system : System) → value_of system k.cells ≡ cells_kept s system (frames_of b)
   pub locks : k.locks ≡ locks_in_all s (frames_of b)
   pub examined : k.examined ≡ examined b
   pub most : k.most ≡ most b

@@ -1,7 +1,6 @@
 pub mod Converted
 pub mod Outcomes
 pub mod Faults
-pub mod Moves
 pub mod Fed
 pub mod Filed
 pub mod Steps

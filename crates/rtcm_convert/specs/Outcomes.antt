@@ -5,14 +5,13 @@ use Rattle.rtcm_scan.specs.Frames.{Framed, frames_of}
 use Rattle.rtcm_scan.specs.Decided.{skipped_before}
 use Rattle.obs_epoch.specs.declared.taken.Kind.{Kind}
 use Rattle.obs_epoch.specs.declared.taken.Kind.TheVariants as kind
-use Rattle.obs_epoch.specs.Heard.{heard_in}
 use Rattle.obs_epoch.specs.Kinds.{kind_of}
-use Rattle.rtcm_convert.specs.Converted.{SetupValue, messages_of, epochs_in}
+use Rattle.rtcm_convert.specs.Converted.{SetupValue, message_of, messages_of, epochs_in}
 use Rattle.rtcm_convert.specs.declared.report.Report.{Report}
 
 -- the outcome of a frame after these: `None` if its message is refused, else that of the message
 abbrev pub outcome : SetupValue → List Framed → Framed → Option Kind
-outcome s before f = option_map (λ m. kind_of s.gather (messages_of before) m) (heard_in f.message)
+outcome s before f = option_map (λ m. kind_of s.gather (messages_of s before) m) (message_of s f)
 
 abbrev pub outcomes_after : SetupValue → List Framed → List Framed → List (Option Kind)
 outcomes_after s before [] = []

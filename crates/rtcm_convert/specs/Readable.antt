@@ -9,12 +9,8 @@ use Rattle.rinex_file.specs.File.{file_text}
 use Rattle.rtcm_convert.specs.Converted.{SetupValue, file, so_far, epochs_in}
 
 -- the text of a file value
-pub record IsTextOf (v : FileValue) (text : List ℕ) : Type 0 where
-  pub is : IsFileValue v
-  pub same : text ≡ file_text v
-
 abbrev pub HasValue : List ℕ → Type 0
-HasValue text = (v : FileValue) × IsTextOf v text
+HasValue text = (v : FileValue) × IsFileValue v × (text ≡ file_text v)
 
 -- empty, or the text of a file value
 abbrev pub IsReadable : List ℕ → Type 0

@@ -2,7 +2,8 @@
 use Rattle.std.specs.Prelude.{◌≡◌, ℕ, true, false, List, [], ◌∷◌, ◌++◌, Option, Some, None}
 use Rattle.rtcm_scan.specs.Frames.{Framed}
 use Rattle.gnss_obs.specs.Values.{Closed}
-use Rattle.obs_epoch.specs.Heard.{Heard}
+use Rattle.rtcm_msg.specs.declared.message.Message.{Message}
+use Rattle.obs_epoch.specs.Heard.{Heard, heard_by}
 use Rattle.obs_epoch.specs.Kinds.{is_close_first, kind_of}
 use Rattle.obs_epoch.specs.declared.taken.Kind.{Kind}
 use Rattle.obs_epoch.specs.GathererHistory.{IsAwaited, closed_epochs}
@@ -12,7 +13,7 @@ use Rattle.rtcm_convert.specs.Fed.{AppendsBetween, AppendsPrefixBetween}
 use Rattle.rtcm_convert.specs.Filed.{HasFiledEpochs, Settled, HasFiledFrames, HasGathered}
 use Rattle.rtcm_convert.specs.declared.file_writer.FileWriter.{FileWriter}
 
--- ---- a message that is passed, for the first time or again
+-- ---- a message that is passed, for the first time or again: it is heard by the setup of the gatherer
 
 -- the message was not processed: an epoch is closed first, and then the message must be passed again
 abbrev pub IsCloseFirst : Kind → Type 0
@@ -23,50 +24,54 @@ abbrev pub IsFinalKind : Kind → Type 0
 IsFinalKind kind = is_close_first kind ≡ false
 
 -- the epoch that was closed first was written, and the message must be passed again
-abbrev pub WritesFirst : FileWriter → FileWriter → Heard → Option (List ℕ) → Option (List ℕ) → Type 0
+abbrev pub WritesFirst : FileWriter → FileWriter → Message → Option (List ℕ) → Option (List ℕ) → Type 0
 WritesFirst v w m a b = (s : SetupValue) (ms : List Heard) (es : List Closed) → HasFiledEpochs v s ms es None
-    → (all : List Closed) × HasFiledEpochs w s ms all (Some m) × AppendsBetween a b (text_with s es) (text_with s all)
+    → (all : List Closed) × HasFiledEpochs w s ms all (Some (heard_by s.gather m))
+    × AppendsBetween a b (text_with s es) (text_with s all)
 
 -- the message was processed, and the epoch that it closed was written
-abbrev pub TakesMessage : FileWriter → FileWriter → Heard → Option (List ℕ) → Option (List ℕ) → Type 0
+abbrev pub TakesMessage : FileWriter → FileWriter → Message → Option (List ℕ) → Option (List ℕ) → Type 0
 TakesMessage v w m a b = (s : SetupValue) (ms : List Heard) (es : List Closed) (again : Option Heard)
-    → IsAwaited again m → HasFiledEpochs v s ms es again
-    → (all : List Closed) × HasFiledEpochs w s (ms ++ m ∷ []) all None
+    → IsAwaited again (heard_by s.gather m) → HasFiledEpochs v s ms es again
+    → (all : List Closed) × HasFiledEpochs w s (ms ++ heard_by s.gather m ∷ []) all None
     × AppendsBetween a b (text_with s es) (text_with s all)
 
 -- a message that is passed again is processed
-abbrev pub IsTakenAgain : FileWriter → Heard → Kind → Type 0
+abbrev pub IsTakenAgain : FileWriter → Message → Kind → Type 0
 IsTakenAgain v m kind =
-    (s : SetupValue) (ms : List Heard) (es : List Closed) → HasFiledEpochs v s ms es (Some m) → IsFinalKind kind
+    (s : SetupValue) (ms : List Heard) (es : List Closed) → HasFiledEpochs v s ms es (Some (heard_by s.gather m))
+    → IsFinalKind kind
 
 -- the outcome of the message
-abbrev pub IsKindOf : FileWriter → Heard → Kind → Type 0
-IsKindOf v m kind = (s : SetupValue) (ms : List Heard) (es : List Closed) (again : Option Heard) → IsAwaited again m
-    → HasFiledEpochs v s ms es again
-    → kind ≡ kind_of s.gather ms m
+abbrev pub IsKindOf : FileWriter → Message → Kind → Type 0
+IsKindOf v m kind = (s : SetupValue) (ms : List Heard) (es : List Closed) (again : Option Heard)
+    → IsAwaited again (heard_by s.gather m) → HasFiledEpochs v s ms es again
+    → kind ≡ kind_of s.gather ms (heard_by s.gather m)
 
 -- a prefix of what it closes was written
-abbrev pub BreaksInMessage : FileWriter → Heard → Option (List ℕ) → Option (List ℕ) → Type 0
+abbrev pub BreaksInMessage : FileWriter → Message → Option (List ℕ) → Option (List ℕ) → Type 0
 BreaksInMessage v m a b = (s : SetupValue) (ms : List Heard) (es : List Closed) (again : Option Heard)
-    → IsAwaited again m → HasFiledEpochs v s ms es again
-    → AppendsPrefixBetween a b (text_with s es) (text_with s (closed_epochs s.gather (ms ++ m ∷ [])))
+    → IsAwaited again (heard_by s.gather m) → HasFiledEpochs v s ms es again
+    → AppendsPrefixBetween a b (text_with s es) (text_with s (closed_epochs s.gather (ms ++ heard_by s.gather m ∷ [])))
 
 -- ---- the next message
 
 -- it was processed, and the epochs that it closes were written
-abbrev pub TakesNext : FileWriter → FileWriter → Heard → Option (List ℕ) → Option (List ℕ) → Type 0
-TakesNext v w m a b = (s : SetupValue) (ms : List Heard) → Settled v s ms → Settled w s (ms ++ m ∷ [])
-    × AppendsBetween a b (text_with s (closed_epochs s.gather ms)) (text_with s (closed_epochs s.gather (ms ++ m ∷ [])))
+abbrev pub TakesNext : FileWriter → FileWriter → Message → Option (List ℕ) → Option (List ℕ) → Type 0
+TakesNext v w m a b = (s : SetupValue) (ms : List Heard) → Settled v s ms → Settled w s (ms ++ heard_by s.gather m ∷ [])
+    × AppendsBetween a b (text_with s (closed_epochs s.gather ms))
+    (text_with s (closed_epochs s.gather (ms ++ heard_by s.gather m ∷ [])))
 
 -- the outcome of the message
-abbrev pub IsKindOfNext : FileWriter → Heard → Kind → Type 0
-IsKindOfNext v m kind = (s : SetupValue) (ms : List Heard) → Settled v s ms → kind ≡ kind_of s.gather ms m
+abbrev pub IsKindOfNext : FileWriter → Message → Kind → Type 0
+IsKindOfNext v m kind =
+    (s : SetupValue) (ms : List Heard) → Settled v s ms → kind ≡ kind_of s.gather ms (heard_by s.gather m)
 
 -- a prefix of what it closes was written
-abbrev pub BreaksInNext : FileWriter → Heard → Option (List ℕ) → Option (List ℕ) → Type 0
+abbrev pub BreaksInNext : FileWriter → Message → Option (List ℕ) → Option (List ℕ) → Type 0
 BreaksInNext v m a b = (s : SetupValue) (ms : List Heard) → Settled v s ms
     → AppendsPrefixBetween a b (text_with s (closed_epochs s.gather ms))
-    (text_with s (closed_epochs s.gather (ms ++ m ∷ [])))
+    (text_with s (closed_epochs s.gather (ms ++ heard_by s.gather m ∷ [])))
 
 -- ---- the next frame, and the end
 

@@ -10,11 +10,12 @@ ghost use Rattle.gnss_obs.specs.Values.{cells_of};
 ghost use Rattle.obs_epoch.specs.Held.{most_locks, recorded};
 ghost use Rattle.gnss_obs.specs.Values.{most_cells};
 ghost use Rattle.rtcm_convert.specs.Kept.{cells_kept, locks_kept, locks_in_all, IsWithinBounds, IsKeptNow, IsKeptAtEnd};
-ghost use Rattle.rtcm_convert.specs.Moves.{Moves};
+ghost use Rattle.rtcm_bits.specs.Device.{IsUntouched, Moves};
 ghost use Rattle.rtcm_convert.specs.Outcomes.{report_with};
-ghost use Rattle.rtcm_convert.specs.Faults.{FailsWithReader, FailsWithWriter, IsSentAfter, IsUntouched, IsSetupFault};
+ghost use Rattle.rtcm_convert.specs.Faults.{FailsWithReader, FailsWithWriter, IsSentAfter, IsSetupFault};
 ghost use Rattle.rtcm_convert.specs.Faults.{IsFeedFault, IsFinishFault, IsPiecesFault, IsRunFault};
-ghost use Rattle.rtcm_convert.specs.SetupValues.{setup_value, setup_value_with, start_with, IsBad, IsBadWith};
+ghost use Rattle.rtcm_convert.specs.SetupValues.{setup_value, setup_value_by, setup_value_with, start_by};
+ghost use Rattle.rtcm_convert.specs.SetupValues.{start_with, IsBad, IsBadWith};
 ghost use Rattle.rtcm_convert.specs.Converted.{SetupValue};
 ghost use Rattle.rtcm_convert.specs.Conversion.{kept_of, KeepsNow, HasConverted, HasFinished, IsGoing, GoesOnBy};
 ghost use Rattle.rtcm_convert.specs.Conversion.{TakesPiece, CutsAtLimit, WritesPrefixOfAdded, StopsAtEnd, IsLeft};
@@ -30,9 +31,10 @@ use crate::file_writer::FileWriter;
 use crate::kept::Kept;
 use crate::laws;
 use crate::report::Report;
-use crate::setup::Setup;
+use crate::setup::{ConvertOptions, Setup};
 use crate::stream::end_stream;
-use gnss_obs::{StationValues, System};
+use gnss_obs::StationValues;
+use gnss_system::{BySystem, System};
 use rtcm_bits::{Counted, Deliver, LONGEST_FRAME};
 use rtcm_scan::{Frame, Framer, MOST_BYTES, StreamFault};
 use std::alloc::Global;
@@ -66,7 +68,8 @@ impl Model for Converter {
 }
 
 impl Converter {
-    /// Returns a converter that has accepted no byte. Only this call and `with_values` allocate.
+    /// Returns a converter that has accepted no byte. Only this call, `with_values` and
+    /// `with_options` allocate.
     ///
     /// # Errors
     ///
@@ -97,12 +100,31 @@ impl Converter {
         ensures fits { IfOk result (λ c. AreStationValues initial) }
         ensures only { IfErr result IsSetupFault }
     {
-        if setup.limit > MOST_BYTES || !initial.fits_message() {
+        Converter::with_options(alloc, setup, ConvertOptions::with_values(initial))
+    }
+
+    /// Returns a converter as `new` does, with these options.
+    ///
+    /// # Errors
+    ///
+    /// Those of `with_values`.
+    pub fn with_options(
+        alloc: Global,
+        setup: Setup,
+        options: ConvertOptions,
+    ) -> Result<Converter, Fault>
+        ensures history { IfOk result (λ c. HasConverted c (setup_value_by setup options) []) }
+        ensures fresh { IfOk result (λ c. (c.scan.limit ≡ setup.limit) × (c.scan.taken ≡ 0)) }
+        ensures bad { result ≡ Err Fault.BadSetup ↔ IsBadWith (start_by setup options) }
+        ensures fits { IfOk result (λ c. AreStationValues options.initial) }
+        ensures only { IfErr result IsSetupFault }
+    {
+        if setup.limit > MOST_BYTES || !options.initial.fits_message() {
             drop(setup);
             return Err(Fault::BadSetup);
         }
         let limit = setup.limit;
-        let file_writer = match FileWriter::new(alloc, setup, initial) {
+        let file_writer = match FileWriter::new(alloc, setup, options) {
             Ok(file_writer) => file_writer,
             Err(fault) => return Err(fault),
         };
@@ -383,8 +405,7 @@ impl Converter {
     {
         Kept {
             held: self.held(),
-            gps_cells: self.cells(System::Gps),
-            galileo_cells: self.cells(System::Galileo),
+            cells: BySystem::each(|system| self.cells(system)),
             locks: self.locks(),
             examined: self.examined(),
             most: self.most(),

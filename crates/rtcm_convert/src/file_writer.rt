@@ -3,9 +3,8 @@ ghost use Rattle.std.specs.Prelude.{◌≡◌, ◌↔◌, [], false, true, Err, 
 ghost use Rattle.std.specs.Io.KnownBytes.{Appends};
 ghost use Rattle.rtcm_bits.specs.Device.{AppendsPrefix, FailsWith};
 ghost use Rattle.rtcm_msg.specs.Viewed.{viewed_message};
-ghost use Rattle.obs_epoch.specs.Heard.{heard};
 ghost use Rattle.rtcm_convert.specs.Faults.{FailsToWrite, IsSetupFault};
-ghost use Rattle.rtcm_convert.specs.SetupValues.{setup_value_with, IsBadStart};
+ghost use Rattle.rtcm_convert.specs.SetupValues.{setup_value_by, IsBadStart};
 ghost use Rattle.rtcm_convert.specs.Filed.{HasFiledFrames, opening_of, added_by, HasCountedClosed};
 ghost use Rattle.rtcm_convert.specs.Steps.{IsCloseFirst, IsFinalKind, WritesFirst, TakesMessage, IsTakenAgain};
 ghost use Rattle.rtcm_convert.specs.Steps.{IsKindOf, BreaksInMessage, TakesNext, IsKindOfNext, BreaksInNext};
@@ -13,12 +12,12 @@ ghost use Rattle.rtcm_convert.specs.Steps.{EndsFile, BreaksInRest};
 
 use crate::fault::Fault;
 use crate::report::Report;
-use crate::setup::Setup;
+use crate::setup::{ConvertOptions, Setup};
 use gnss_obs::{Epoch, PlanFault, StationValues};
-use obs_epoch::{Gatherer, Kind};
+use obs_epoch::{GatherOptions, Gatherer, Kind, msm_set};
 use rinex_file::{Head, HeadFault, HeaderTexts, write_epoch, write_event, write_header};
 use rtcm_bits::{Counted, Deliver};
-use rtcm_msg::View;
+use rtcm_msg::{MsmSet, View};
 use std::alloc::Global;
 use std::io::Write;
 
@@ -27,6 +26,8 @@ use std::io::Write;
 pub(crate) struct FileWriter {
     /// Gathers the cells of the messages into epochs.
     pub(crate) gatherer: Gatherer,
+    /// The MSMs that are decoded.
+    pub(crate) set: MsmSet,
     /// The texts of the header.
     pub(crate) texts: HeaderTexts,
     /// The station values that were written last: in the header, or in an event.
@@ -43,24 +44,30 @@ impl FileWriter {
     pub(crate) fn new(
         alloc: Global,
         setup: Setup,
-        initial: StationValues,
+        options: ConvertOptions,
     ) -> Result<FileWriter, Fault>
-        ensures history { IfOk result (λ file_writer. HasFiledFrames file_writer (setup_value_with setup initial) []) }
+        ensures history { IfOk result (λ file_writer. HasFiledFrames file_writer (setup_value_by setup options) []) }
         ensures going { IfOk result (λ file_writer. file_writer.gatherer.has_ended ≡ false) }
         ensures bad { result ≡ Err Fault.BadSetup ↔ IsBadStart setup }
         ensures only { IfErr result IsSetupFault }
     {
+        let set = msm_set(&setup.plan, options.forms);
         let texts = setup.texts;
-        match Gatherer::with_values(
+        let given = GatherOptions {
+            initial: options.initial,
+            leap_seconds: options.leap_seconds,
+        };
+        match Gatherer::with_options(
             alloc,
             setup.plan,
             setup.start_week,
             setup.station,
             setup.gather,
-            initial,
+            given,
         ) {
             Ok(gatherer) => Ok(FileWriter {
                 gatherer,
+                set,
                 texts,
                 values: None,
                 epochs: 0,
@@ -68,6 +75,7 @@ impl FileWriter {
             }),
             Err(fault) => {
                 drop(texts);
+                drop(set);
                 match fault {
                     PlanFault::BadWeek => Err(Fault::BadSetup),
                     PlanFault::BadStation => Err(Fault::BadSetup),
@@ -118,7 +126,7 @@ impl FileWriter {
         ensures device { FailsWith result writer.old writer.new }
         ensures now { OnOk result (HasCountedClosed self.old self.new) }
         ensures same { (self.new.gatherer ≡ self.old.gatherer) × (self.new.texts ≡ self.old.texts)
-            × (self.new.tally ≡ self.old.tally) }
+            × (self.new.set ≡ self.old.set) × (self.new.tally ≡ self.old.tally) }
     {
         let Some(epoch) = self.gatherer.closed() else {
             return Ok(());
@@ -143,18 +151,18 @@ impl FileWriter {
         requires { self.old.gatherer.has_ended ≡ false }
         // The message is to be passed again.
         ensures first { IfOk result
-            (λ kind. IsCloseFirst kind → WritesFirst self.old self.new (heard (viewed_message message.now))
+            (λ kind. IsCloseFirst kind → WritesFirst self.old self.new (viewed_message message.now)
             (W.contents writer.old.inner) (W.contents writer.new.inner)) }
         // It was accepted.
         ensures taken { IfOk result
-            (λ kind. IsFinalKind kind → TakesMessage self.old self.new (heard (viewed_message message.now))
+            (λ kind. IsFinalKind kind → TakesMessage self.old self.new (viewed_message message.now)
             (W.contents writer.old.inner) (W.contents writer.new.inner)) }
-        ensures again { IfOk result (λ kind. IsTakenAgain self.old (heard (viewed_message message.now)) kind) }
+        ensures again { IfOk result (λ kind. IsTakenAgain self.old (viewed_message message.now) kind) }
         ensures kind { IfOk result
-            (λ kind. IsFinalKind kind → IsKindOf self.old (heard (viewed_message message.now)) kind) }
+            (λ kind. IsFinalKind kind → IsKindOf self.old (viewed_message message.now) kind) }
         ensures same { self.new.tally ≡ self.old.tally }
         ensures part { OnErr result
-            (BreaksInMessage self.old (heard (viewed_message message.now)) (W.contents writer.old.inner)
+            (BreaksInMessage self.old (viewed_message message.now) (W.contents writer.old.inner)
             (W.contents writer.new.inner)) }
         ensures device { FailsToWrite result writer.old writer.new }
         ensures ended { self.new.gatherer.has_ended ≡ false }
@@ -174,12 +182,12 @@ impl FileWriter {
     ) -> Result<Kind, Fault>
         requires { self.old.gatherer.has_ended ≡ false }
         ensures whole { OnOk result
-            (TakesNext self.old self.new (heard (viewed_message message.now)) (W.contents writer.old.inner)
+            (TakesNext self.old self.new (viewed_message message.now) (W.contents writer.old.inner)
             (W.contents writer.new.inner)) }
-        ensures kind { IfOk result (λ kind. IsKindOfNext self.old (heard (viewed_message message.now)) kind) }
+        ensures kind { IfOk result (λ kind. IsKindOfNext self.old (viewed_message message.now) kind) }
         ensures same { self.new.tally ≡ self.old.tally }
         ensures part { OnErr result
-            (BreaksInNext self.old (heard (viewed_message message.now)) (W.contents writer.old.inner)
+            (BreaksInNext self.old (viewed_message message.now) (W.contents writer.old.inner)
             (W.contents writer.new.inner)) }
         ensures device { FailsToWrite result writer.old writer.new }
         ensures ended { self.new.gatherer.has_ended ≡ false }

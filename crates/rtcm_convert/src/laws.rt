@@ -5,10 +5,10 @@ ghost use Rattle.std.specs.Prelude.{ℕ, ◌<◌, List};
 ghost use Rattle.rtcm_scan.specs.Frames.{frames_of};
 ghost use Rattle.rtcm_scan.specs.Decided.{decided_frames};
 ghost use Rattle.rtcm_convert.specs.Converted.{so_far, file, epochs_in};
-ghost use Rattle.rtcm_convert.specs.SetupValues.{setup_value_with};
+ghost use Rattle.rtcm_convert.specs.SetupValues.{setup_value_by};
 ghost use Rattle.gnss_obs.specs.Values.{no_values};
 ghost use Rattle.gnss_obs.specs.GatheredEpochs.{AreStationValues};
-ghost use Rattle.gnss_obs.specs.declared.cell.StationValues.{StationValues};
+ghost use Rattle.rtcm_convert.specs.declared.setup.ConvertOptions.{ConvertOptions};
 ghost use Rattle.rtcm_convert.specs.Readable.{FilesAreReadable, FilesHaveValues, SoFarIsReadable, IsReadable, HasValue};
 
 use crate::setup::Setup;
@@ -55,23 +55,23 @@ pub fn readable()
     ensures so_far { SoFarIsReadable }
     ensures zero { AreStationValues no_values }
 {
-    rtcm_msg::laws::measures();
+    rtcm_msg::laws::message_sets();
     obs_epoch::laws::gathered();
     obs_epoch::laws::closed_stay();
     rinex_file::laws::values();
     text();
 }
 
-/// For every setup, initial station values and stream: what is written is empty or the text of a
+/// For every setup, options and stream: what is written is empty or the text of a
 /// file value, which [`read_file`](rinex_file::read_file) reads as that value.
 pub fn read_back(setup: &Setup)
-    ensures file { (v : StationValues) → AreStationValues v → (b : List ℕ)
-        → IsReadable (file (setup_value_with setup.now v) (frames_of b)) }
-    ensures some { (v : StationValues) → AreStationValues v → (b : List ℕ)
-        → 0 < epochs_in (setup_value_with setup.now v) (frames_of b)
-        → HasValue (file (setup_value_with setup.now v) (frames_of b)) }
-    ensures so_far { (v : StationValues) → AreStationValues v → (b : List ℕ)
-        → IsReadable (so_far (setup_value_with setup.now v) (decided_frames b)) }
+    ensures file { (o : ConvertOptions) → AreStationValues o.initial → (b : List ℕ)
+        → IsReadable (file (setup_value_by setup.now o) (frames_of b)) }
+    ensures some { (o : ConvertOptions) → AreStationValues o.initial → (b : List ℕ)
+        → 0 < epochs_in (setup_value_by setup.now o) (frames_of b)
+        → HasValue (file (setup_value_by setup.now o) (frames_of b)) }
+    ensures so_far { (o : ConvertOptions) → AreStationValues o.initial → (b : List ℕ)
+        → IsReadable (so_far (setup_value_by setup.now o) (decided_frames b)) }
     ensures zero { AreStationValues no_values }
 {
     readable();

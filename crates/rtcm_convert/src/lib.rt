@@ -16,5 +16,5 @@ pub use converter::Converter;
 pub use fault::Fault;
 pub use kept::Kept;
 pub use report::Report;
-pub use setup::Setup;
-pub use whole::{convert_pieces, convert_stream, convert_stream_with};
+pub use setup::{ConvertOptions, Setup};
+pub use whole::{convert_pieces, convert_stream, convert_stream_with, convert_with_options};

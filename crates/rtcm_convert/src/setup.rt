@@ -1,8 +1,12 @@
 //! The settings of a conversion.
+ghost use Rattle.std.specs.Prelude.{◌≡◌};
+ghost use Rattle.gnss_obs.specs.Values.{no_values};
+ghost use Rattle.rtcm_convert.specs.SetupValues.{options_with};
 
-use gnss_obs::Plan;
-use obs_epoch::Gather;
+use gnss_obs::{Plan, StationValues};
+use obs_epoch::{Gather, LEAP_SECONDS};
 use rinex_file::HeaderTexts;
+use rtcm_msg::Forms;
 
 /// The settings of a conversion.
 #[derive(Drop)]
@@ -20,4 +24,37 @@ pub struct Setup {
     pub gather: Gather,
     /// Largest number of bytes accepted, up to 2^48.
     pub limit: u64,
+}
+
+/// The settings of a conversion that have default values.
+#[derive(Clone, Copy)]
+pub struct ConvertOptions {
+    /// The station values until a station message has others: 0.
+    pub initial: StationValues,
+    /// The forms of the MSMs that are decoded: MSM4 and MSM7.
+    pub forms: Forms,
+    /// GPS time minus UTC in seconds, which gives GLONASS times in GPS time: 18, that from 2017 on.
+    pub leap_seconds: u8,
+}
+
+impl ConvertOptions {
+    /// Returns the default values with these station values.
+    pub(crate) fn with_values(initial: StationValues) -> ConvertOptions
+        ensures { result ≡ options_with initial }
+    {
+        ConvertOptions {
+            initial,
+            forms: Forms::FourAndSeven,
+            leap_seconds: LEAP_SECONDS,
+        }
+    }
+}
+
+impl Default for ConvertOptions {
+    /// Returns the default values.
+    fn default() -> ConvertOptions
+        ensures { result ≡ options_with no_values }
+    {
+        ConvertOptions::with_values(StationValues::zero())
+    }
 }

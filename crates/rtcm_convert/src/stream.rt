@@ -8,7 +8,7 @@ use crate::fault::Fault;
 use crate::file_writer::FileWriter;
 use crate::laws;
 use rtcm_bits::{Counted, Deliver};
-use rtcm_msg::look;
+use rtcm_msg::look_in;
 use rtcm_scan::{Frame, FrameSink, Framer};
 
 impl<W: Deliver> FrameSink<Counted<W>> for FileWriter {
@@ -23,7 +23,7 @@ impl<W: Deliver> FrameSink<Counted<W>> for FileWriter {
     ghost broke = { BreaksFiling W.contents };
 
     fn take(&mut self, frame: &Frame, out: &mut Counted<W>) -> Result<(), Fault> {
-        match look(&frame.message) {
+        match look_in(&self.set, &frame.message) {
             Err(_) => {
                 self.tally.count(None);
                 Ok(())

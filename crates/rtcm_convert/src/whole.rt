@@ -1,17 +1,17 @@
 //! Whole streams.
 ghost use Rattle.std.specs.Prelude.{◌≡◌, ◌≢◌, ◌↔◌, Err, IsErrOf, IfOk, IfErr, IfSome};
-ghost use Rattle.rtcm_convert.specs.Moves.{Moves};
-ghost use Rattle.rtcm_convert.specs.Faults.{FailsWithDevices, FailsWithWriter, IsSentAfter, IsSetupFault, IsUntouched};
+ghost use Rattle.rtcm_bits.specs.Device.{IsUntouched, Moves};
+ghost use Rattle.rtcm_convert.specs.Faults.{FailsWithDevices, FailsWithWriter, IsSentAfter, IsSetupFault};
 ghost use Rattle.rtcm_convert.specs.Broken.{BrokeInPieces, joined_pieces};
 ghost use Rattle.rtcm_convert.specs.Made.{IsMadeWith, IsMadeEmpty, IsMadeToLimit, AreMadeToLimit, IsMadeSoFar};
 ghost use Rattle.rtcm_convert.specs.Made.{IsMadeInPart};
-ghost use Rattle.rtcm_convert.specs.SetupValues.{setup_value, start_with, start_zero, IsBad, IsBadWith};
+ghost use Rattle.rtcm_convert.specs.SetupValues.{setup_value, start_by, start_with, start_zero, IsBad, IsBadWith};
 
 use crate::converter::Converter;
 use crate::fault::Fault;
 use crate::laws;
 use crate::report::Report;
-use crate::setup::Setup;
+use crate::setup::{ConvertOptions, Setup};
 use gnss_obs::StationValues;
 use rtcm_bits::{Counted, Deliver};
 use std::alloc::Global;
@@ -69,8 +69,6 @@ pub fn convert_stream<R: Read, W: Deliver>(
 ///
 /// Those of [`convert_stream`], and `BadSetup` for coordinates that don't fit 38 bits (DF025 to
 /// DF027).
-// Not inlined, so that the converter isn't in the stack frame of every command.
-#[inline(never)]
 pub fn convert_stream_with<R: Read, W: Deliver>(
     alloc: Global,
     setup: Setup,
@@ -107,9 +105,56 @@ pub fn convert_stream_with<R: Read, W: Deliver>(
         → IsUntouched reader.old reader.new writer.old writer.new) }
     ensures only { (result ≢ Err Fault.Failed) × (result ≢ Err Fault.Finished) }
 {
+    let options = ConvertOptions::with_values(initial);
+    convert_with_options(alloc, setup, options, reader, writer)
+}
+
+/// Writes the observation file of a stream as [`convert_stream`] does, with these options.
+///
+/// # Errors
+///
+/// Those of [`convert_stream_with`].
+// Not inlined, so that the converter isn't in the stack frame of every command.
+#[inline(never)]
+pub fn convert_with_options<R: Read, W: Deliver>(
+    alloc: Global,
+    setup: Setup,
+    options: ConvertOptions,
+    reader: &mut Counted<R>,
+    writer: &mut Counted<W>,
+) -> Result<Report, Fault>
+    // The file that was written is the one of the stream's frames in order, has an epoch, and is
+    // the text of a file value; and that is its report.
+    ensures made { IfOk result (λ report.
+        IfSome (R.remaining reader.old.inner)
+        (IsMadeWith (start_by setup options) report (W.contents writer.old.inner) (W.contents writer.new.inner))) }
+    // The file has no epoch, and is empty.
+    ensures no_epoch { IsErrOf result Fault.NoEpoch
+        → IfSome (R.remaining reader.old.inner)
+        (IsMadeEmpty (start_by setup options) (W.contents writer.old.inner) (W.contents writer.new.inner)) }
+    // The stream is longer than the limit; the bytes up to it were accepted, and the file of the
+    // epochs that they close was written.
+    ensures long { IsErrOf result Fault.TooLong
+        → Moves R.remaining reader.old reader.new W.contents writer.old writer.new
+        (IsMadeToLimit (start_by setup options)) }
+    // The file of the epochs that the bytes read close was written.
+    ensures read { IsErrOf result Fault.Read → Moves R.remaining reader.old reader.new W.contents writer.old writer.new
+        (IsMadeSoFar (start_by setup options)) }
+    // The writer failed at one of the pieces read, or when all was read.
+    ensures write { IsErrOf result Fault.Write
+        → Moves R.remaining reader.old reader.new W.contents writer.old writer.new
+        (IsMadeInPart (start_by setup options)) }
+    // Nothing waits in the writer, unless it failed.
+    ensures sent { IsSentAfter result (W.waiting writer.old.inner) (W.waiting writer.new.inner) }
+    ensures devices { FailsWithDevices result reader.old reader.new writer.old writer.new }
+    ensures bad_setup { result ≡ Err Fault.BadSetup ↔ IsBadWith (start_by setup options) }
+    ensures untouched { IfErr result (λ fault. IsSetupFault fault
+        → IsUntouched reader.old reader.new writer.old writer.new) }
+    ensures only { (result ≢ Err Fault.Failed) × (result ≢ Err Fault.Finished) }
+{
     laws::prefix();
     laws::read_back(&setup);
-    match Converter::with_values(alloc, setup, initial) {
+    match Converter::with_options(alloc, setup, options) {
         Ok(mut converter) => {
             let answer = converter.run(reader, writer);
             drop(converter);

@@ -2,7 +2,7 @@
 use Rattle.rinex_file.specs.declared.read.file.Counts.{Counts}
 use Rattle.rtcm_inspect.proofs.PrintingLemmas.{passed, Printed}
 use Rattle.rtcm_inspect.proofs.LineLemmas.{add_count, add_text, add_word, end_line}
-use Rattle.rtcm_inspect.proofs.Names.{◌≡◌, ◌∙◌, ◌∷◌, ◌++◌, [], ap, inl, inr, codes, decimal, length, refl, sym, subst, ℕ, List, Option, Some, None, Result, Ok, Err, IfSome, Device, HasFailed, IsNoFault, FileValue, file_text, IsFileValue, AreCounts, ReadFault, Memory, Read, ⊤, IsErrAnd, Keeps, InspectFault, Ends, ReadFailures, rows_in, line, check_line, ChecksWhole, IsCheckedOr, StopsAnyCheck}
+use Rattle.rtcm_inspect.proofs.Names.{◌≡◌, ◌∙◌, ◌∷◌, ◌++◌, [], ap, inl, inr, codes, decimal, length, refl, sym, subst, ℕ, List, Option, Some, None, Result, Ok, Err, IfSome, Device, HasFailed, IsNoFault, FileValue, file_text, IsFileValue, AreCounts, ReadFault, Memory, Read, ⊤, IsErrAnd, Keeps, InspectFault, Ends, ReadFailures, rows_in, line, check_line, ChecksPart, ChecksWhole, IsCheckedOr}
 use Rattle.rtcm_inspect.specs.declared.fault.InspectFault.TheVariants as faults
 
 -- what holds for all bytes holds for known ones
@@ -39,13 +39,13 @@ line_built {counts} {v} none start epochs satellites events text are =
     ∙ ap (λ (n : ℕ). line (codes "epochs" ∷ count_words (length v.epochs) (rows_in v.epochs) n)) are.events
 
 -- the output of a file was written, or a part of it
-pub checked : {R W : Type 0} {held : W → Option (List ℕ)} {waits : W → List ℕ} {w w2 : Device W} {out : List ℕ} (IsOutput : FileValue → List ℕ → Type 0) (left : R → Option (List ℕ)) (r r2 : Device R) (ended : Result ⊤ InspectFault)
-    → ((v : FileValue) × IsFileValue v × IfSome (left r.inner) (λ input. input ≡ file_text v) × IsOutput v out) → r2.failures ≡ r.failures → Printed ended held waits w w2 out
-    → Ends ended r r2 waits w w2 (λ _. ChecksWhole IsOutput (left r.inner) (held w.inner) (held w2.inner)) (StopsAnyCheck IsOutput left r r2 held waits w w2)
-checked {out = out} IsOutput left r r2 (Ok u) f same p = ((same, p.ends.0, p.ends.1), (f.0, f.1, f.2, (out, f.3, p.ends.2)))
-checked {held = held} {waits} {w} {w2} {out} IsOutput left r r2 (Err fault) f same p =
-    subst (λ (f : InspectFault). Ends (Err f) r r2 waits w w2 (λ (u : ⊤). ChecksWhole IsOutput (left r.inner) (held w.inner) (held w2.inner)) (StopsAnyCheck IsOutput left r r2 held waits w w2)) (sym p.ends.0)
-    ((same, p.ends.1.0), inr (f.0, f.1, f.2, (out, f.3, p.ends.1.1)))
+pub checked : {R W : Type 0} {held : W → Option (List ℕ)} {waits : W → List ℕ} {w w2 : Device W} {out : List ℕ} (IsOutput : FileValue → List ℕ → Type 0) (Stops : InspectFault → Type 0) (left : R → Option (List ℕ)) (r r2 : Device R) (ended : Result ⊤ InspectFault)
+    → (ChecksPart IsOutput (left r.inner) (held w.inner) (held w2.inner) → Stops faults.Write) → ((v : FileValue) × IsFileValue v × IfSome (left r.inner) (λ input. input ≡ file_text v) × IsOutput v out) → r2.failures ≡ r.failures → Printed ended held waits w w2 out
+    → Ends ended r r2 waits w w2 (λ _. ChecksWhole IsOutput (left r.inner) (held w.inner) (held w2.inner)) Stops
+checked {out = out} IsOutput Stops left r r2 (Ok u) stops f same p = ((same, p.ends.0, p.ends.1), (f.0, f.1, f.2, (out, f.3, p.ends.2)))
+checked {held = held} {waits} {w} {w2} {out} IsOutput Stops left r r2 (Err fault) stops f same p =
+    subst (λ (f : InspectFault). Ends (Err f) r r2 waits w w2 (λ (u : ⊤). ChecksWhole IsOutput (left r.inner) (held w.inner) (held w2.inner)) Stops) (sym p.ends.0)
+    ((same, p.ends.1.0), stops (f.0, f.1, f.2, (out, f.3, p.ends.1.1)))
 
 -- the same for each file value that was read
 pub checked_or : {W : Type 0} {held : W → Option (List ℕ)} {waits : W → List ℕ} {w w2 : Device W} {out : List ℕ} (IsOutput : FileValue → List ℕ → Type 0) (ended : Result ⊤ InspectFault) (v : FileValue) → IsOutput v out

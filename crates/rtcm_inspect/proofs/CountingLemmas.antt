@@ -1,7 +1,7 @@
 -- Signal counts as a consumer of frames.
 use Rattle.rtcm_inspect.proofs.PrintingLemmas.{Printed}
 use Rattle.rtcm_inspect.proofs.StreamLemmas.{Began}
-use Rattle.rtcm_inspect.proofs.Names.{◌≡◌, ◌∙◌, ap, inr, ◌*◌, ◌<◌, ◌≤◌, ◌^◌, sym, subst, arith, Bool, true, ℕ, List, [], ◌∷◌, ◌++◌, Option, Result, Ok, Err, length, length-append, append-nil, refl, Framed, frames_of, known_frames, Device, HasFailed, StreamFault, ⊤, InspectFault, ReadFailures, stream_fault, AtFault, Passes, BreaksReading, PassesAll, PassesToLimit, Reads, FramerValue, most_bytes, AreSignalCounts, CountsMessage, SignalCountsValue, valued, heard, HeardCell, heard_of, message_at, MsgFault, Message, valued_in, valued_of, flat_map-append, AreFirst, AreOptionsOf, EndsOptions, EndsSignals, ReadsTooMuch, signals_text, Counts, StopsCounting, HasCounted, IsCounted, AreSignals, NeverFails, option_map_or, StreamSignals, piece_bytes}
+use Rattle.rtcm_inspect.proofs.Names.{◌≡◌, ◌∙◌, ap, inr, ◌*◌, ◌<◌, ◌≤◌, ◌^◌, sym, subst, arith, Bool, true, ℕ, List, [], ◌∷◌, ◌++◌, Option, Result, Ok, Err, length, length-append, append-nil, refl, Framed, frames_of, known_frames, Device, HasFailed, StreamFault, ⊤, InspectFault, ReadFailures, stream_fault, AtFault, Passes, BreaksReading, PassesAll, PassesToLimit, Reads, FramerValue, most_bytes, AreSignalCounts, CountsMessage, SignalCountsValue, valued, inspected, HeardCell, inspected_of, message_at, MsgFault, Message, valued_in, valued_of, flat_map-append, AreFirst, AreOptionsOf, EndsOptions, EndsSignals, ReadsTooMuch, signals_text, Counts, StopsCounting, HasCounted, IsCounted, AreSignals, NeverFails, option_map_or, StreamSignals, piece_bytes, forms_had, channels_in}
 use Rattle.rtcm_scan.specs.declared.feed.StreamFault.TheVariants as stream
 
 valued_more : (wanted : Option ℕ) (fs : List Framed) (f : Framed) (cells : List HeardCell) → valued_of wanted f ≡ cells → valued_in wanted (fs ++ f ∷ []) ≡ valued_in wanted fs ++ cells
@@ -9,12 +9,12 @@ valued_more wanted fs f cells is =
     flat_map-append (valued_of wanted) fs (f ∷ []) ∙ ap (λ (l : List HeardCell). valued_in wanted fs ++ l) (append-nil (valued_of wanted f) ∙ is)
 
 -- the cells of one more message that was read
-pub read_counted : {c c2 : SignalCountsValue} {wanted : Option ℕ} {fs : List Framed} (f : Framed) {m : Message} → message_at f.message ≡ Ok m → CountsMessage c c2 wanted (heard m)
+pub read_counted : {c c2 : SignalCountsValue} {wanted : Option ℕ} {fs : List Framed} (f : Framed) {m : Message} → message_at f.message ≡ Ok m → CountsMessage c c2 wanted (inspected m)
     → length fs < 2 ^ 56 → IsCounted c wanted fs → IsCounted c2 wanted (fs ++ f ∷ [])
 read_counted {c2} {wanted} {fs} f {m} is step small h =
     let cells : List HeardCell = valued_in wanted fs in
-    let more : List HeardCell = valued wanted (heard m) in
-    let own : valued_of wanted f ≡ more = ap (λ (r : Result Message MsgFault). option_map_or (valued wanted) (heard_of r) []) is in
+    let more : List HeardCell = valued wanted (inspected m) in
+    let own : valued_of wanted f ≡ more = ap (λ (r : Result Message MsgFault). option_map_or (valued wanted) (inspected_of r) []) is in
     let all = valued_more wanted fs f more own in
     record {
       signal_counts = subst (AreSignalCounts c2) (sym all) (step.counts cells (omega (arith, h.few, small)) h.signal_counts);
@@ -25,7 +25,7 @@ read_counted {c2} {wanted} {fs} f {m} is step small h =
 pub refused_counted : {c : SignalCountsValue} {wanted : Option ℕ} {fs : List Framed} (f : Framed) {e : MsgFault} → message_at f.message ≡ Err e → IsCounted c wanted fs → IsCounted c wanted (fs ++ f ∷ [])
 refused_counted {c} {wanted} {fs} f is h =
     let cells : List HeardCell = valued_in wanted fs in
-    let own : valued_of wanted f ≡ [] = ap (λ (r : Result Message MsgFault). option_map_or (valued wanted) (heard_of r) []) is in
+    let own : valued_of wanted f ≡ [] = ap (λ (r : Result Message MsgFault). option_map_or (valued wanted) (inspected_of r) []) is in
     let all = valued_more wanted fs f [] own ∙ append-nil cells in
     record {
       signal_counts = subst (AreSignalCounts c) (sym all) h.signal_counts;
@@ -33,8 +33,8 @@ refused_counted {c} {wanted} {fs} f is h =
     }
 
 -- no frame was counted
-pub none_counted : (c : StreamSignals) (wanted : Option ℕ) → AreSignalCounts c.signal_counts [] → AreFirst c.first wanted [] → AreSignals c wanted []
-none_counted c wanted signal_counts first = record { counted = record { signal_counts = signal_counts; few = omega arith }; first = first }
+pub none_counted : (c : StreamSignals) (wanted : Option ℕ) → AreSignalCounts c.signal_counts [] → c.forms ≡ forms_had wanted [] → c.channels ≡ channels_in wanted [] → AreFirst c.first wanted [] → AreSignals c wanted []
+none_counted c wanted signal_counts forms channels first = record { counted = record { signal_counts = signal_counts; few = omega arith }; forms = forms; channels = channels; first = first }
 
 pub new_counts : (c : StreamSignals) → Counts c tt [] c tt []
 new_counts c = record { same = refl; counts = λ few begun. begun }
@@ -42,14 +42,16 @@ new_counts c = record { same = refl; counts = λ few begun. begun }
 -- one more frame was counted
 pub one_more_counted : {c0 : StreamSignals} (c : StreamSignals) {c2 : StreamSignals} {ps fs : List Framed} (f : Framed) → c2.station ≡ c.station
     → ((gs : List Framed) → length gs < 2 ^ 56 → IsCounted c.signal_counts c.station gs → IsCounted c2.signal_counts c.station (gs ++ f ∷ []))
-    → ((gs : List Framed) → AreFirst c.first c.station gs → AreFirst c2.first c.station (gs ++ f ∷ []))
+    → ((gs : List Framed) → c.forms ≡ forms_had c.station gs → c2.forms ≡ forms_had c.station (gs ++ f ∷ []))
+    → ((gs : List Framed) → c.channels ≡ channels_in c.station gs → c2.channels ≡ channels_in c.station (gs ++ f ∷ []))
+    → ((gs : List Framed) → length gs < 2 ^ 56 → AreFirst c.first c.station gs → AreFirst c2.first c.station (gs ++ f ∷ []))
     → Counts c0 tt ps c tt fs → Counts c0 tt ps c2 tt (fs ++ f ∷ [])
-one_more_counted c {c2} {fs} f kept step first s = record {
+one_more_counted c {c2} {fs} f kept step forms channels first s = record {
   same = kept ∙ s.same;
   counts = λ few begun.
       let fewer : length fs < 2 ^ 56 = omega (arith, length-append fs (f ∷ []), few) in
       let before : AreSignals c c.station fs = subst (λ (wanted : Option ℕ). AreSignals c wanted fs) (sym s.same) (s.counts fewer begun) in
-      subst (λ (wanted : Option ℕ). AreSignals c2 wanted (fs ++ f ∷ [])) s.same (record { counted = step fs fewer before.counted; first = first fs before.first });
+      subst (λ (wanted : Option ℕ). AreSignals c2 wanted (fs ++ f ∷ [])) s.same (record { counted = step fs fewer before.counted; forms = forms fs before.forms; channels = channels fs before.channels; first = first fs fewer before.first });
 }
 
 -- ---- a stream that is counted from its start

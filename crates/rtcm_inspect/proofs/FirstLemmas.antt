@@ -1,62 +1,54 @@
 -- What the first messages contain, after one more frame.
-use Rattle.rtcm_inspect.proofs.Names.{◌≡◌, ◌∙◌, ◌==◌, ◌++◌, ℕ, true, false, not, List, [], ◌∷◌, Option, Some, None, Result, Ok, Err, IfSome, refl, sym, ap, find, append-nil, arith, option_and_then, option_or, filter_map-append, find-append, Framed, message_at, InRange, StationParts, MsgFault, Message, Heard, heard, AreFirst, first_in, first_station, first_tow, one_of, point_of, sender, stations_in, stations_of, tow_of, with_other, heard_in, heard_of, FirstMessages, Unknown, One, Several}
+use Rattle.rtcm_inspect.proofs.Names.{◌≡◌, ◌∙◌, ◌==◌, ◌++◌, ℕ, true, false, not, List, [], ◌∷◌, Option, Some, None, Result, Ok, Err, IfSome, refl, sym, ap, find, append-nil, arith, option_and_then, option_or, filter_map-append, find-append, Framed, message_at, InRange, StationParts, MsgFault, Message, Heard, inspected, AreFirst, first_in, first_station, first_tow, option_to_list, point_of, sender, stations_in, stations_of, tow_of, with_other, inspected_at, inspected_of, AreTows, FirstMessages, Unknown, One, Several}
 
 or_more : {A : Type 0} (a b c : Option A) → option_or a (option_or b c) ≡ option_or (option_or a b) c
 or_more None b c = refl
 or_more (Some x) b c = refl
 
-or_none : {A : Type 0} (a : Option A) → option_or a None ≡ a
+pub or_none : {A : Type 0} (a : Option A) → option_or a None ≡ a
 or_none None = refl
 or_none (Some x) = refl
 
 -- one more frame
-first_more : {A : Type 0} (has : Heard → Option A) (fs : List Framed) (f : Framed) → first_in has (fs ++ f ∷ []) ≡ option_or (first_in has fs) (option_and_then has (heard_in f.message))
-first_more has [] f = or_none (option_and_then has (heard_in f.message))
-first_more has (g ∷ fs) f = ap (option_or (option_and_then has (heard_in g.message))) (first_more has fs f) ∙ or_more (option_and_then has (heard_in g.message)) (first_in has fs) (option_and_then has (heard_in f.message))
+pub first_more : {A : Type 0} (read : List ℕ → Option Heard) (has : Heard → Option A) (fs : List Framed) (f : Framed) → first_in read has (fs ++ f ∷ []) ≡ option_or (first_in read has fs) (option_and_then has (read f.message))
+first_more read has [] f = or_none (option_and_then has (read f.message))
+first_more read has (g ∷ fs) f = ap (option_or (option_and_then has (read g.message))) (first_more read has fs f) ∙ or_more (option_and_then has (read g.message)) (first_in read has fs) (option_and_then has (read f.message))
 
 -- a frame with this message, if it was read
 first_after : {A : Type 0} (has : Heard → Option A) (fs : List Framed) (f : Framed) (r : Result Message MsgFault) → message_at f.message ≡ r
-    → first_in has (fs ++ f ∷ []) ≡ option_or (first_in has fs) (option_and_then has (heard_of r))
-first_after has fs f r is = first_more has fs f ∙ ap (λ (r : Result Message MsgFault). option_or (first_in has fs) (option_and_then has (heard_of r))) is
+    → first_in inspected_at has (fs ++ f ∷ []) ≡ option_or (first_in inspected_at has fs) (option_and_then has (inspected_of r))
+first_after has fs f r is = first_more inspected_at has fs f ∙ ap (λ (r : Result Message MsgFault). option_or (first_in inspected_at has fs) (option_and_then has (inspected_of r))) is
 
-stations_more : (fs : List Framed) (f : Framed) → stations_of (fs ++ f ∷ []) ≡ stations_of fs ++ one_of (option_and_then sender (heard_in f.message))
-stations_more fs f = filter_map-append (λ g. option_and_then sender (heard_in g.message)) fs (f ∷ []) ∙ ap (λ (l : List ℕ). stations_of fs ++ l) (by (option_and_then sender (heard_in f.message)) refl) where
-  by : (o : Option ℕ) → option_and_then sender (heard_in f.message) ≡ o → stations_of (f ∷ []) ≡ one_of (option_and_then sender (heard_in f.message))
+stations_more : (fs : List Framed) (f : Framed) → stations_of (fs ++ f ∷ []) ≡ stations_of fs ++ option_to_list (option_and_then sender (inspected_at f.message))
+stations_more fs f = filter_map-append (λ g. option_and_then sender (inspected_at g.message)) fs (f ∷ []) ∙ ap (λ (l : List ℕ). stations_of fs ++ l) (by (option_and_then sender (inspected_at f.message)) refl) where
+  by : (o : Option ℕ) → option_and_then sender (inspected_at f.message) ≡ o → stations_of (f ∷ []) ≡ option_to_list (option_and_then sender (inspected_at f.message))
   by None e = grind (arith, e)
   by (Some n) e = grind (arith, e)
 
-stations_after : (fs : List Framed) (f : Framed) (r : Result Message MsgFault) → message_at f.message ≡ r → stations_of (fs ++ f ∷ []) ≡ stations_of fs ++ one_of (option_and_then sender (heard_of r))
-stations_after fs f r is = stations_more fs f ∙ ap (λ (r : Result Message MsgFault). stations_of fs ++ one_of (option_and_then sender (heard_of r))) is
+stations_after : (fs : List Framed) (f : Framed) (r : Result Message MsgFault) → message_at f.message ≡ r → stations_of (fs ++ f ∷ []) ≡ stations_of fs ++ option_to_list (option_and_then sender (inspected_of r))
+stations_after fs f r is = stations_more fs f ∙ ap (λ (r : Result Message MsgFault). stations_of fs ++ option_to_list (option_and_then sender (inspected_of r))) is
 
 -- a message that was read
-pub first_read : {x y : FirstMessages} {wanted : Option ℕ} {fs : List Framed} (f : Framed) {m : Message} → message_at f.message ≡ Ok m → y.point ≡ option_or x.point (point_of wanted (heard m))
-    → y.tow ≡ option_or x.tow (tow_of wanted (heard m)) → (x.stations ≡ stations_in (stations_of fs) → y.stations ≡ stations_in (stations_of fs ++ one_of (sender (heard m))))
+pub first_read : {x y : FirstMessages} {wanted : Option ℕ} {fs : List Framed} (f : Framed) {m : Message} → message_at f.message ≡ Ok m → y.point ≡ option_or x.point (point_of wanted (inspected m))
+    → (AreTows x.tows wanted fs → AreTows y.tows wanted (fs ++ f ∷ [])) → (x.stations ≡ stations_in (stations_of fs) → y.stations ≡ stations_in (stations_of fs ++ option_to_list (sender (inspected m))))
     → (IfSome x.point InRange → IfSome y.point InRange) → AreFirst x wanted fs → AreFirst y wanted (fs ++ f ∷ [])
-first_read {wanted} {fs} f {m} is point tow stations range h = record {
-  point = point ∙ ap (λ (o : Option StationParts). option_or o (point_of wanted (heard m))) h.point ∙ sym (first_after (point_of wanted) fs f (Ok m) is);
-  tow = tow ∙ ap (λ (o : Option ℕ). option_or o (tow_of wanted (heard m))) h.tow ∙ sym (first_after (tow_of wanted) fs f (Ok m) is);
+first_read {wanted} {fs} f {m} is point tows stations range h = record {
+  point = point ∙ ap (λ (o : Option StationParts). option_or o (point_of wanted (inspected m))) h.point ∙ sym (first_after (point_of wanted) fs f (Ok m) is);
+  tows = tows h.tows;
   stations = stations h.stations ∙ ap stations_in (sym (stations_after fs f (Ok m) is));
   in_range = range h.in_range;
 }
 
 -- a message that was refused
-pub first_refused : {x : FirstMessages} {wanted : Option ℕ} {fs : List Framed} (f : Framed) {e : MsgFault} → message_at f.message ≡ Err e → AreFirst x wanted fs → AreFirst x wanted (fs ++ f ∷ [])
-first_refused {wanted} {fs} f {e} is h = record {
+pub first_refused : {x : FirstMessages} {wanted : Option ℕ} {fs : List Framed} (f : Framed) {e : MsgFault} → message_at f.message ≡ Err e → (AreTows x.tows wanted fs → AreTows x.tows wanted (fs ++ f ∷ [])) → AreFirst x wanted fs → AreFirst x wanted (fs ++ f ∷ [])
+first_refused {wanted} {fs} f {e} is tows h = record {
   point = h.point ∙ sym (first_after (point_of wanted) fs f (Err e) is ∙ or_none (first_station wanted fs));
-  tow = h.tow ∙ sym (first_after (tow_of wanted) fs f (Err e) is ∙ or_none (first_tow wanted fs));
+  tows = tows h.tows;
   stations = h.stations ∙ ap stations_in (sym (stations_after fs f (Err e) is ∙ append-nil (stations_of fs)));
   in_range = h.in_range;
 }
 
 -- ---- one more station
-
--- the first of all
-pub first_one : (ns : List ℕ) (n : ℕ) → Unknown ≡ stations_in ns → One n ≡ stations_in (ns ++ n ∷ [])
-first_one [] n e = refl
-first_one (a ∷ ns) n e = by (find (λ n. not (n == a)) ns) e where
-  by : (o : Option ℕ) → Unknown ≡ with_other a o → One n ≡ stations_in (a ∷ ns ++ n ∷ [])
-  by None e = cc
-  by (Some b) e = cc
 
 -- the same one, or another
 more_of_one : (a : ℕ) (ns : List ℕ) (n : ℕ) (other : Option ℕ) → find (λ m. not (m == a)) (n ∷ []) ≡ other → find (λ m. not (m == a)) ns ≡ None → with_other a other ≡ stations_in (a ∷ ns ++ n ∷ [])

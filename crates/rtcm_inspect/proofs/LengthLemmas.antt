@@ -1,6 +1,6 @@
 -- Numbers, dates and lengths that are read from text, and lengths that were written.
 use Rattle.std.proofs.Common.{◌≡◌, ◌≢◌, ◌∙◌, ◌≤◌, ◌<◌, ◌+◌, ◌-◌, ◌*◌, ◌/◌, ◌%◌, ◌^◌, ◌&&◌, ◌==◌, ◌++◌, ℕ, ℤ, pos, negsuc, neg_ℤ, suc, Bool, true, false, not, List, [], ◌∷◌, Option, Some, None, Result, Ok, Err, IfSome, Bor, option_map, unwrap_or, length, length-append, get_or, drop, decimal, codes, append_assoc, arith, rules, refl, sym, ap, subst, lit≤}
-use Rattle.rtcm_inspect.proofs.Names.{inl, inr, ◌↔◌, IsNumeral, digits_value, signed_digits_value, without_leading_sign, decimal_is_IsNumeral, ParsesUnsigned, IsCivilOf, week, weeks, Civil, IsHourOf, IsWeekNumber, IsWeekOf, civil_in, if◌then◌else◌, option_and_then, option_map_or, nat_le, nat_lt, nat_tests, common_steps, list_all, result_ok, is_digit, digits_from, digits_in, next_digit, number_of as digits_number, number_of, MatchOption, IsNumeralModel, numerals_by_fold, parse_plain, digits_value_short, position_or_len, position_or_len_is, get_or_append_left, get_or_at, take_at, drop_at, length_push, decimal_nonempty, digits_decimal, digits_value-decimal, length-decimal-le, list_all-append, AllPass-from_list_all, FitsInt, InRange, StationParts, height_text, position_text, after_byte, coordinate_by, coordinate_of, cut, decimals_of, length_below, length_by, length_of, position_of, four_digits, metres, size_text, coordinate_bound}
+use Rattle.rtcm_inspect.proofs.Names.{inl, inr, ◌↔◌, IsNumeral, digits_value, signed_digits_value, without_leading_sign, decimal_is_IsNumeral, ParsesUnsigned, IsCivilOf, week, weeks, Civil, IsHourOf, IsWeekNumber, IsWeekOf, civil_in, if◌then◌else◌, option_and_then, option_map_or, nat_le, nat_lt, nat_tests, common_steps, list_all, result_ok, is_digit, digits_from, digits_in, next_digit, number_of as digits_number, number_of, MatchOption, IsNumeralModel, numerals_by_fold, parse_plain, digits_value_short, position_or_len, position_or_len_is, get_or_append_left, get_or_at, take_at, drop_at, length_push, decimal_nonempty, digits_decimal, digits_value-decimal, length-decimal-le, list_all-append, AllPass-from_list_all, FitsInt, InRange, StationParts, height_text, position_text, after_byte, coordinate_by, coordinate_of, cut, decimals_of, fixed_by, fixed_point, length_below, position_of, four_digits, metres, size_text, coordinate_bound}
 
 -- ---- numbers of digits alone
 
@@ -15,6 +15,12 @@ own = numerals_by_fold _ (search rules) digits_from (search rules)
 
 pub number_read : (most : ℕ) (text : List ℕ) → 1 ≤ length text → length text ≤ most → list_all is_digit text ≡ true → digits_number most text ≡ Some (digits_in text)
 number_read most text some few all = rw (is_le 1 (length text) some, is_le (length text) most few, all) refl
+
+-- a number that was written
+pub decimal_read : (most n : ℕ) → 0 < most → n < 10 ^ most → n < 2 ^ 64 → digits_number most (decimal n) ≡ Some n
+decimal_read most n some small fits =
+    number_read most (decimal n) (omega (arith, decimal_nonempty n fits)) (length-decimal-le most n some small fits) (digits_decimal own n fits)
+    ∙ ap (λ (k : ℕ). Some k) (digits_value-decimal own n fits)
 
 -- a text that is empty, too long, or has another character
 pub number_missing : (most : ℕ) (text : List ℕ) → (list_all is_digit text ≡ true → 1 ≤ length text → length text ≤ most → ⊥) → digits_number most text ≡ None
@@ -82,10 +88,10 @@ next_of n d h = grind (arith, nat_tests)
 four_read : (n : ℕ) → digits_in (four_digits n) ≡ n % 10000
 four_read n = rw (next_of 0 (n / 1000 % 10) (omega arith), next_of _ (n / 100 % 10) (omega arith), next_of _ (n / 10 % 10) (omega arith), next_of _ (n % 10) (omega arith)) (omega arith)
 
--- a byte below the digits isn't one
-no_byte : (c : ℕ) (ds : List ℕ) → c < 48 → list_all is_digit ds ≡ true → list_all (λ x. not (x == c)) ds ≡ true
-no_byte c [] low h = refl
-no_byte c (x ∷ xs) low h = both (not (x == c)) _ (grind (arith, nat_tests)) (no_byte c xs low (rest_of (is_digit x) (list_all is_digit xs) h))
+-- another byte isn't among digits
+pub no_byte : (c : ℕ) (ds : List ℕ) → is_digit c ≡ false → list_all is_digit ds ≡ true → list_all (λ x. not (x == c)) ds ≡ true
+no_byte c [] other h = refl
+no_byte c (x ∷ xs) other h = both (not (x == c)) _ (grind (arith, nat_tests)) (no_byte c xs other (rest_of (is_digit x) (list_all is_digit xs) h))
 
 -- ---- weeks
 
@@ -136,7 +142,7 @@ week_read n m small = (λ h. elim h [ inl number ↦ is number | inr date ↦ ab
 
 -- ---- separators
 
-cut_first : (c : ℕ) (a b : List ℕ) → list_all (λ x. not (x == c)) a ≡ true → cut c (a ++ c ∷ b) ≡ Some (a, b)
+pub cut_first : (c : ℕ) (a b : List ℕ) → list_all (λ x. not (x == c)) a ≡ true → cut c (a ++ c ∷ b) ≡ Some (a, b)
 cut_first c a b h = rw (place, is_lt (length a) (length (a ++ c ∷ b)) (omega (arith, length-append a (c ∷ b))), take_at a (c ∷ b) (length a) refl, after) refl
   where
     same : (c == c) ≡ true
@@ -177,23 +183,20 @@ module _ (n : ℕ) (small : n < 10 ^ 12) where
   all_digits = digits_decimal own (n / 10000) whole_fits
 
   whole_read : number_of 8 (decimal (n / 10000)) ≡ Some (n / 10000)
-  whole_read =
-      let some = decimal_nonempty (n / 10000) whole_fits in
-      number_read 8 (decimal (n / 10000)) (omega (arith, some)) (length-decimal-le 8 (n / 10000) (omega arith) whole_small whole_fits) all_digits
-      ∙ ap (λ (k : ℕ). Some k) (digits_value-decimal own (n / 10000) whole_fits)
+  whole_read = decimal_read 8 (n / 10000) (omega arith) whole_small whole_fits
 
-  decimals_read : decimals_of (four_digits n) ≡ Some (n % 10000)
+  decimals_read : decimals_of 4 (four_digits n) ≡ Some (n % 10000)
   decimals_read =
       let four = number_read 4 (four_digits n) (lit≤ tt) (lit≤ tt) (four_are_digits n) ∙ ap (λ (k : ℕ). Some k) (four_read n) in
       ap (option_map (λ k. k * 10 ^ (4 - length (four_digits n)))) four ∙ ap (λ (k : ℕ). Some k) (times_one (n % 10000) (10 ^ (4 - length (four_digits n))) refl)
 
-  pub size_read : length_of (size_text n) ≡ Some n
+  pub size_read : fixed_point 4 (size_text n) ≡ Some n
   size_read =
       let whole = decimal (n / 10000) in
       let text = whole ++ 0x2E ∷ four_digits n in
-      let parted : cut 0x2E text ≡ Some (whole, four_digits n) = cut_first 0x2E whole (four_digits n) (no_byte 0x2E whole (omega arith) all_digits) in
-      ap length_of (size_shape n) ∙ ap (length_by text) parted
-      ∙ ap (option_and_then (λ k. option_map (λ d. k * 10000 + d) (decimals_of (four_digits n)))) whole_read
+      let parted : cut 0x2E text ≡ Some (whole, four_digits n) = cut_first 0x2E whole (four_digits n) (no_byte 0x2E whole refl all_digits) in
+      ap (fixed_point 4) (size_shape n) ∙ ap (fixed_by 4 text) parted
+      ∙ ap (option_and_then (λ k. option_map (λ d. k * 10000 + d) (decimals_of 4 (four_digits n)))) whole_read
       ∙ ap (option_map (λ d. n / 10000 * 10000 + d)) decimals_read ∙ ap (λ (k : ℕ). Some k) (joined n)
 
   pub size_below : (bound : ℕ) → n < bound → length_below bound (size_text n) ≡ Some n
@@ -210,7 +213,7 @@ module _ (n : ℕ) (small : n < 10 ^ 12) where
       let whole = decimal (n / 10000) in
       ap (list_all (λ x. not (x == 0x2C))) (size_shape n) ∙ list_all-append (λ x. not (x == 0x2C)) whole (0x2E ∷ four_digits n)
       ∙ both (list_all (λ x. not (x == 0x2C)) whole) (list_all (λ x. not (x == 0x2C)) (0x2E ∷ four_digits n))
-      (no_byte 0x2C whole (omega arith) all_digits) (no_byte 0x2C (four_digits n) (omega arith) (four_are_digits n))
+      (no_byte 0x2C whole refl all_digits) (no_byte 0x2C (four_digits n) refl (four_are_digits n))
 
 pub coordinate_read : (z : ℤ) → FitsInt 38 z → coordinate_of (metres z) ≡ Some z
 coordinate_read (pos n) fits =

@@ -6,7 +6,10 @@ mod ListingLemmas
 mod ShowLemmas
 mod ReadBackLemmas
 mod CheckLemmas
+mod GapLemmas
 pub mod PrintingLemmas
+mod SetLemmas
+mod TowLemmas
 mod FirstLemmas
 mod CountingLemmas
 mod SignalLemmas
@@ -14,4 +17,7 @@ mod ValuedLemmas
 mod PlannedLemmas
 mod SkipLemmas
 mod WeekLemmas
+mod OptionLemmas
 mod LengthLemmas
+mod ChannelLemmas
+mod StreamChannelLemmas

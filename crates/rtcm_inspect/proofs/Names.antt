@@ -6,22 +6,29 @@ pub use Rattle.gnss_obs.specs.Plans.{below, between_commas, one_signal_more, ont
 pub use Rattle.gnss_system.specs.Satellites.{IsSatellite, Satellite, satellite_of_id, satellites}
 pub use Rattle.gnss_system.specs.Systems.{is_system}
 pub use Rattle.gnss_system.specs.Signals.{IsSignal, SignalAt, code_of, signal_of_code, signal_of_id, table}
-pub use Rattle.gnss_obs.specs.Values.{PlanValue, planned_of}
+pub use Rattle.gnss_obs.specs.Channels.{AreChannels, ChannelsValue, most_number, no_channels, number_at, slot_count, with_number}
+pub use Rattle.gnss_obs.specs.Values.{PlanValue, plan_with, planned_of}
 pub use Rattle.gnss_obs.specs.Weeks.{week, weeks}
 pub use Rattle.gnss_obs.specs.declared.fault.PlanFault.{PlanFault}
 pub use Rattle.gnss_obs.specs.declared.fault.PlanFault.TheVariants.{RepeatedCode}
 pub use Rattle.gnss_system.specs.declared.system.System.{System}
 pub use Rattle.gnss_system.specs.declared.system.System.TheVariants.{Galileo, Gps}
 pub use Rattle.obs_epoch.specs.Cells.{counts_of, counts_of_message, has_listed_key, is_planned, no_counts, offered, with_skipped}
-pub use Rattle.obs_epoch.specs.Heard.{GatherSetup, Heard, heard, heard_in, heard_of, is_own, lock_by, observed, seen_in}
-pub use Rattle.obs_epoch.specs.SignalCounts.{AreSignalCounts, CountsMessage, SignalCountsValue, brings_value, count_of, counted, has_any, is_of_signal, is_of_station, signal_counts, signal_in, valued}
+pub use Rattle.obs_epoch.specs.Heard.{GatherSetup, Heard, heard, heard_by, heard_in, heard_msm, heard_of, is_own, lock_by, observed, seen_in, unlisted_in}
+pub use Rattle.obs_epoch.specs.SignalCounts.{AreSignalCounts, CountsMessage, SignalCountsValue, brings_value, count_of, counted, every_channel, has_any, is_of_signal, is_of_station, signal_counts, signal_in, valued}
+pub use Rattle.obs_epoch.specs.Sets.{set_of}
 pub use Rattle.obs_epoch.specs.Times.{Timed, ahead, greatest_time, is_closed, is_past, max_known, taken_at, timed_after}
-pub use Rattle.rinex_file.specs.Counting.{AreCounts, IsSummary}
-pub use Rattle.rinex_file.specs.Exact.{IsNoFault}
-pub use Rattle.rinex_file.specs.File.{file_text}
-pub use Rattle.rinex_file.specs.FileValues.{IsFileValue}
+pub use Rattle.rinex_file.specs.Accepted.{AreFirstEpochs}
+pub use Rattle.rinex_file.specs.Blocks.{LeavesRest}
+pub use Rattle.rinex_file.specs.Counting.{AreCounts, IsSummary, IsTextWith}
+pub use Rattle.rinex_file.specs.Exact.{IfTextOfFile, IsNoFault, most_lines}
+pub use Rattle.rinex_file.specs.File.{file_lines, file_text}
+pub use Rattle.rinex_file.specs.FileValues.{IsFileValue, time_stamped}
 pub use Rattle.rinex_file.specs.ParserState.{rows_in}
-pub use Rattle.rinex_file.specs.Value.{FileValue}
+pub use Rattle.rinex_file.specs.Read.EpochSteps.{HasReadEpochs, IsSummaryOf, ReadsEpoch}
+pub use Rattle.rinex_file.specs.Times.{AreTimes, AreTimesOrNone, steps_of}
+pub use Rattle.rinex_file.specs.declared.read.times.EpochTimes.{EpochTimes}
+pub use Rattle.rinex_file.specs.Value.{FileValue, Stamped}
 pub use Rattle.rinex_file.specs.declared.read.fault.ReadFault.{ReadFault}
 pub use Rattle.rinex_file.specs.declared.read.fault.ReadFault.TheVariants.{Memory, Read}
 pub use Rattle.rinex_file.specs.declared.read.file.FileSummary.{FileSummary}
@@ -33,28 +40,33 @@ pub use Rattle.rtcm_bits.specs.FrameOf.{frame_bytes, longest_message, longest_me
 pub use Rattle.rtcm_bits.specs.Prefix.{IsPrefix}
 pub use Rattle.rtcm_bits.specs.declared.counted.DeviceFailed.{DeviceFailed}
 unfoldable pub use Rattle.rtcm_inspect.specs.Checking.{check_line}
-pub use Rattle.rtcm_inspect.specs.Checking.{AreLinesOf, ChecksWhole, IsCheckedOr, IsLineOf, StopsAnyCheck}
+pub use Rattle.rtcm_inspect.specs.Checking.{AreLinesOf, ChecksPart, ChecksWhole, IsCheckedOr, IsLineOf, StopsAnyCheck}
 pub use Rattle.rtcm_inspect.specs.Counting.{AreSignals, Counts, HasCounted, IsCounted, NeverFails, StopsCounting}
 unfoldable pub use Rattle.rtcm_inspect.specs.DateTexts.{time_line}
-pub use Rattle.rtcm_inspect.specs.DateTexts.{clock_text, date_text, times_lines}
+pub use Rattle.rtcm_inspect.specs.DateTexts.{clock_text, date_text, moment_words, times_lines}
 pub use Rattle.rtcm_inspect.specs.Devices.{Ends, EndsDelivery, HaveFailedBy, IsDelivered, ReadFailures, stream_fault}
-pub use Rattle.rtcm_inspect.specs.FirstMessages.{AreFirst, first_in, first_station, first_tow, mixed_of, one_of, point_of, sender, stations_in, stations_of, tow_of, with_other}
+pub use Rattle.rtcm_inspect.specs.FirstMessages.{AreFirst, first_station, mixed_of, point_of, sender, stations_in, stations_of, with_other}
+pub use Rattle.rtcm_inspect.specs.FirstTows.{AreTows, first_in, first_tow, tow_of}
 unfoldable pub use Rattle.rtcm_inspect.specs.Fitting.{options_line}
-pub use Rattle.rtcm_inspect.specs.Fitting.{antenna_words, height_text, number_start, number_words, position_text, position_word, station_words}
+pub use Rattle.rtcm_inspect.specs.Fitting.{antenna_words, channel_words, forms_words, further_words, height_text, number_start, number_words, options_text, position_text, position_word, station_words}
 unfoldable pub use Rattle.rtcm_inspect.specs.FrameLines.{frame_line, number_word}
+unfoldable pub use Rattle.rtcm_inspect.specs.Gaps.{complete_line, gap_line}
+pub use Rattle.rtcm_inspect.specs.Gaps.{AreGapsOf, ReadsGaps, StopsGaps, gap_between, gaps_after, gaps_of, times_if}
+pub use Rattle.rtcm_inspect.specs.Inspected.{inspected, inspected_at, inspected_in, inspected_of}
 pub use Rattle.rtcm_inspect.specs.Lines.{line, with_words}
 pub use Rattle.rtcm_inspect.specs.Listing.{EndsListing, Lists, ListsAll, ListsDecided, ListsPart, ListsToLimit, ListsUpTo, StopsListing, WritesLine, listing_line, listing_lines, piece_bytes}
 pub use Rattle.rtcm_inspect.specs.Metres.{four_digits, metres, size_text}
 pub use Rattle.rtcm_inspect.specs.NearWeek.{IsNearestWeek, IsWeekFor, IsWeekNear, half_week}
 pub use Rattle.rtcm_inspect.specs.OptionOutput.{AreOptionsOf, EndsOptions}
-pub use Rattle.rtcm_inspect.specs.Printing.{EndsPrinting, PrintsLine}
+pub use Rattle.rtcm_inspect.specs.Printing.{EndsPrinting, PrintsLine, PrintsPart, PrintsText}
 pub use Rattle.rtcm_inspect.specs.ReadBack.{AreEncoded, AreKnown, AreReadAs, ReadsBack}
 unfoldable pub use Rattle.rtcm_inspect.specs.ShowLines.{fault_line, msm_line, show_line, station_line}
-pub use Rattle.rtcm_inspect.specs.ShowLines.{fault_words, height_words, read_line}
+pub use Rattle.rtcm_inspect.specs.ShowLines.{fault_words, height_words, read_for, read_line}
 pub use Rattle.rtcm_inspect.specs.SignalLaws.{SkipsOnly}
 pub use Rattle.rtcm_inspect.specs.SignalOutput.{EndsSignals, ReadsTooMuch}
 unfoldable pub use Rattle.rtcm_inspect.specs.Signals.{count_line}
-pub use Rattle.rtcm_inspect.specs.Signals.{code_list, codes_word, count_lines, had, had_below, lines_below, plan_had, signals_text, valued_in, valued_of}
+pub use Rattle.rtcm_inspect.specs.Signals.{code_list, codes_word, count_lines, decodes, forms_had, had, had_below, has_counted, has_other_value, is_of_other, lines_below, needs_all, plan_had, plan_in, set_had, signals_text, valued_in, valued_of, with_forms}
+pub use Rattle.rtcm_inspect.specs.StreamChannels.{channels_in, sent_by, sent_in, sent_of, with_first, with_sent}
 pub use Rattle.rtcm_inspect.specs.WeekLaws.{first_time}
 pub use Rattle.rtcm_inspect.specs.declared.counting.StreamSignals.{StreamSignals}
 pub use Rattle.rtcm_inspect.specs.declared.fault.InspectFault.{InspectFault}
@@ -62,22 +74,25 @@ pub use Rattle.rtcm_inspect.specs.declared.first_messages.FirstMessages.{FirstMe
 pub use Rattle.rtcm_inspect.specs.declared.first_messages.Stations.{Stations}
 pub use Rattle.rtcm_inspect.specs.declared.first_messages.Stations.TheVariants.{One, Several, Unknown}
 pub use Rattle.rtcm_inspect.specs.declared.listing.Listing.{Listing}
-pub use Rattle.rtcm_msg.specs.Decoding.{message_at}
+pub use Rattle.rtcm_msg.specs.Channels.{channel_of_1020, sent_channels}
+pub use Rattle.rtcm_msg.specs.Decoding.{message_at, message_with}
 pub use Rattle.rtcm_msg.specs.Encoding.{IsEncoding, IsMessage, ReadsMessage, is_other, message_bits}
 pub use Rattle.rtcm_msg.specs.Entries.{entries}
 pub use Rattle.rtcm_msg.specs.Msm.{MasksValue, MsmValue}
 pub use Rattle.rtcm_msg.specs.Station.{InRange}
 pub use Rattle.rtcm_msg.specs.Viewed.{viewed_message}
 pub use Rattle.rtcm_msg.specs.Views.{FormedMsm, formed, message_in}
-pub use Rattle.rtcm_msg.specs.Numbers.{message_number}
+pub use Rattle.rtcm_msg.specs.Numbers.{have_form, message_number}
 pub use Rattle.rtcm_msg.specs.declared.entry.Entry.{Entry}
 pub use Rattle.rtcm_msg.specs.declared.entry.LockField.{LockField}
 pub use Rattle.rtcm_msg.specs.declared.entry.LockField.TheVariants.{Df402, Df407}
 pub use Rattle.rtcm_msg.specs.declared.fault.MsgFault.{MsgFault}
 pub use Rattle.rtcm_msg.specs.declared.header.MsmHeader.{MsmHeader}
 pub use Rattle.rtcm_msg.specs.declared.message.Message.{Message}
-pub use Rattle.rtcm_msg.specs.declared.message.Message.TheVariants.{Msm4, Msm7, Other, Station}
+pub use Rattle.rtcm_msg.specs.declared.message.Message.TheVariants.{Msm4, Msm5, Msm6, Msm7, Other, Station}
 pub use Rattle.rtcm_msg.specs.declared.station.StationParts.{StationParts}
+pub use Rattle.rtcm_msg.specs.declared.number.Forms.{Forms}
+pub use Rattle.rtcm_msg.specs.declared.number.MsmSet.{MsmSet}
 pub use Rattle.rtcm_msg.specs.declared.view.Form.{Form}
 pub use Rattle.rtcm_scan.specs.Decided.{decided_frames}
 pub use Rattle.rtcm_scan.specs.Drained.{IsDrained}
@@ -103,14 +118,14 @@ pub use Rattle.std.proofs.lemmas.Option.{IfSome_then, slice_get-get_or}
 pub use Rattle.std.specs.Io.KnownBytes.{Appends, Keeps}
 pub use Rattle.std.specs.List.{after_first, before_first, cons_option, count_by, flat_map, join_with_byte, list_all, list_any, position_or_len, slice_get}
 pub use Rattle.std.specs.Option.{option_map, option_map_or, option_or}
-pub use Rattle.std.specs.Prelude.{MatchOption, codes, cond, filter_map, if◌then◌else◌, nat_le, nat_lt, option_and_then, position, ⊤, ◌↔◌, ◌≢◌}
+pub use Rattle.std.specs.Prelude.{MatchOption, codes, cond, filter_map, if◌then◌else◌, nat_le, nat_lt, option_and_then, option_to_list, position, unwrap_or, ⊤, ◌↔◌, ◌≢◌}
 pub use Rattle.std.specs.Result.{IsErrAnd, result_ok}
 pub use Rattle.std.specs.Str.{bytes_eq}
-pub use Rattle.std.proofs.Common.{All, Bool, Err, FitsSigned, IfSome, List, None, Ok, OnErr, OnOk, Option, Result, Some, [], ap, append-nil, append_assoc, ap₂, arith, count_ones, decimal, drop, false, filter, find, get_or, inl, inr, is_some, length, length-append, length-drop, length-take, lit≤, map, nat_eq, negsuc, not, of_z, pos, refl, replicate, rules, subst, suc, sym, take, take-append-drop, to_z, true, w64, zero, ℕ, ℤ, ◌&&◌, ◌*◌, ◌++◌, ◌+◌, ◌-◌, ◌/◌, ◌<◌, ◌==◌, ◌^◌, ◌||◌, ◌∙◌, ◌∷◌, ◌≡◌, ◌≤◌}
+pub use Rattle.std.proofs.Common.{All, Bool, Err, FitsSigned, IfSome, List, None, Ok, OnErr, OnOk, Option, Result, Some, [], ap, append-nil, append_assoc, ap₂, arith, count_ones, decimal, drop, false, filter, find, get_or, inl, inr, is_some, length, length-append, length-drop, length-take, lit≤, map, nat_eq, negsuc, not, of_z, pos, refl, replicate, rules, subst, suc, sym, take, take-append-drop, to_z, true, w64, zero, ℕ, ℤ, ◌&&◌, ◌%◌, ◌*◌, ◌++◌, ◌+◌, ◌-◌, ◌/◌, ◌<◌, ◌==◌, ◌^◌, ◌||◌, ◌∙◌, ◌∷◌, ◌≡◌, ◌≤◌}
 pub use Rattle.gnss_obs.specs.declared.civil.Civil.{Civil}
 pub use Rattle.rinex_file.specs.Read.Fields.{digits_from, digits_in, next_digit}
 pub use Rattle.rtcm_inspect.specs.Dates.{IsHourOf, IsWeekNumber, IsWeekOf, civil_in}
-pub use Rattle.rtcm_inspect.specs.Lengths.{after_byte, coordinate_by, coordinate_of, cut, decimals_of, is_digit, length_below, length_by, length_of, number_of, position_of}
+pub use Rattle.rtcm_inspect.specs.Lengths.{after_byte, coordinate_by, coordinate_of, cut, decimals_of, fixed_by, fixed_point, is_digit, length_below, number_of, position_of}
 pub use Rattle.std.proofs.lemmas.Str.Parse.{IsNumeralModel, digits_value_short, numerals_by_fold, parse_plain}
 pub use Rattle.std.proofs.lemmas.Str.Pattern.{starts_char, strip_prefix_char}
 pub use Rattle.std.specs.Str.Parse.{IsNumeral, ParsesUnsigned, digits_value, signed_digits_value, without_leading_sign}

@@ -1,7 +1,7 @@
 -- The plan of the signals of a stream has a column for each of its values, and their line is parsed as that plan.
 use Rattle.rtcm_inspect.proofs.SignalLemmas.{own_signal}
 use Rattle.gnss_system.specs.declared.tables.ListedSignal as tables
-use Rattle.rtcm_inspect.proofs.Names.{◌≡◌, ℕ, zero, suc, ◌+◌, ◌<◌, ◌≤◌, ◌==◌, ◌&&◌, ◌||◌, Bool, true, false, not, List, [], ◌∷◌, ◌++◌, length, refl, sym, ap, ap₂, ◌∙◌, subst, arith, filter, map, All, Some, Result, Ok, Err, nat_eq, get_or, append-nil, append_assoc, is_some, ◌≢◌, AllPass-from_list_all, common_steps, list_all, nat_tests, option_map_or, slice_get, slice_get-get_or, cond, nat_lt, position, list_any, position_or_len, bytes_eq, filter-append, list_any-append, System, SignalAt, IsSignal, table, code_of, signal_of_code, PlanFault, RepeatedCode, is_planned, has_listed_key, GatherSetup, HeardCell, IsKey, below, place_in, between_commas, onto_first, one_signal_more, signals_after, signals_of, plan_of, planned_of, is_of_signal, count_of, signal_in, had, plan_had, code_list, codes_word}
+use Rattle.rtcm_inspect.proofs.Names.{◌≡◌, ℕ, zero, suc, ◌+◌, ◌<◌, ◌≤◌, ◌==◌, ◌&&◌, ◌||◌, Bool, true, false, not, List, [], ◌∷◌, ◌++◌, length, refl, sym, ap, ap₂, ◌∙◌, subst, arith, filter, map, All, Some, Result, Ok, Err, nat_eq, get_or, append-nil, append_assoc, is_some, ◌≢◌, AllPass-from_list_all, common_steps, list_all, nat_tests, option_map_or, slice_get, slice_get-get_or, cond, nat_lt, position, list_any, position_or_len, bytes_eq, filter-append, list_any-append, System, SignalAt, IsSignal, table, code_of, signal_of_code, PlanFault, RepeatedCode, is_planned, has_listed_key, GatherSetup, HeardCell, IsKey, below, place_in, between_commas, onto_first, one_signal_more, signals_after, signals_of, plan_of, planned_of, is_of_signal, count_of, signal_in, had, plan_had, plan_with, ChannelsValue, code_list, codes_word}
 use Rattle.std.proofs.Common.{None, if◌then◌else◌}
 use Rattle.gnss_system.specs.Systems.{systems}
 use Rattle.gnss_system.specs.SystemValues.{tabulate, value_of}
@@ -33,7 +33,7 @@ filter-climbs p (suc n) = subst (Climbs 0 (suc n)) (sym (filter-append p (below 
 
 -- ---- codes between commas
 
-abbrev is_comma : ℕ → Bool
+abbrev pub is_comma : ℕ → Bool
 is_comma b = b == 44
 
 -- the text begins with a digit or a smaller byte
@@ -66,11 +66,11 @@ neither : (a b : Bool) → (a || b) ≡ false → (a ≡ false) × (b ≡ false)
 neither true b h = cc
 neither false b h = (refl, h)
 
-last_code : (code : List ℕ) → list_any is_comma code ≡ false → between_commas code ≡ code ∷ []
+pub last_code : (code : List ℕ) → list_any is_comma code ≡ false → between_commas code ≡ code ∷ []
 last_code [] h = refl
 last_code (b ∷ bs) h = let n = neither (b == 44) _ h in rw n.0 (ap (onto_first b) (last_code bs n.1))
 
-first_code : (code rest : List ℕ) → list_any is_comma code ≡ false → between_commas (code ++ 44 ∷ rest) ≡ code ∷ between_commas rest
+pub first_code : (code rest : List ℕ) → list_any is_comma code ≡ false → between_commas (code ++ 44 ∷ rest) ≡ code ∷ between_commas rest
 first_code [] rest h = refl
 first_code (b ∷ bs) rest h = let n = neither (b == 44) _ h in rw n.0 (ap (onto_first b) (first_code bs rest n.1))
 
@@ -160,18 +160,18 @@ key_listed x key =
     let listed : x.signal.index < length (table x.satellite.system) = subst (λ (u : System). x.signal.index < length (table u)) key.same key.signal in
     grind (arith, nat_tests, key.satellite.0, key.satellite.1)
 
-had_in : (cells : List HeardCell) (system : System) → planned_of system (plan_had cells) ≡ had cells system
-had_in cells system = value_tabulated system (had cells)
+had_in : (cells : List HeardCell) (channels : ChannelsValue) (system : System) → planned_of system (plan_had cells channels) ≡ had cells system
+had_in cells channels system = value_tabulated system (had cells)
 
-planned_one : (s : GatherSetup) (cells : List HeardCell) (x : HeardCell) → s.plan ≡ plan_had cells → IsKey x → 0 < count_of x.signal cells → is_planned s x ≡ true
-planned_one s cells x plan key some =
-    let same : planned_of x.satellite.system s.plan ≡ had cells x.signal.system = ap (planned_of x.satellite.system) plan ∙ had_in cells x.satellite.system ∙ ap (had cells) (sym key.same) in
+planned_one : (channels : ChannelsValue) (s : GatherSetup) (cells : List HeardCell) (x : HeardCell) → s.plan ≡ plan_had cells channels → IsKey x → 0 < count_of x.signal cells → is_planned s x ≡ true
+planned_one channels s cells x plan key some =
+    let same : planned_of x.satellite.system s.plan ≡ had cells x.signal.system = ap (planned_of x.satellite.system) plan ∙ had_in cells channels x.satellite.system ∙ ap (had cells) (sym key.same) in
     let place : is_some (place_in x.signal (planned_of x.satellite.system s.plan)) ≡ true =
     ap (λ (l : List ℕ). is_some (place_in x.signal l)) same ∙ some_place (λ i. i == x.signal.index) (had cells x.signal.system) (own_among cells x.signal key.signal some) in
     ap₂ (λ a b. a && b) (key_listed x key) place
 
-pub all_planned : (s : GatherSetup) (cells : List HeardCell) → s.plan ≡ plan_had cells → All IsKey cells → All (λ x. is_planned s x ≡ true) cells
-all_planned s cells plan keys = λ k d within. planned_one s cells (get_or cells k d) plan (keys k d within) (count_in (get_or cells k d).signal cells k d within (own_signal (get_or cells k d)))
+pub all_planned : (channels : ChannelsValue) (s : GatherSetup) (cells : List HeardCell) → s.plan ≡ plan_had cells channels → All IsKey cells → All (λ x. is_planned s x ≡ true) cells
+all_planned channels s cells plan keys = λ k d within. planned_one channels s cells (get_or cells k d) plan (keys k d within) (count_in (get_or cells k d).signal cells k d within (own_signal (get_or cells k d)))
 
 -- ---- the line is read as the plan
 
@@ -183,15 +183,15 @@ no_fault : (f : System → Result (List ℕ) PlanFault) (g : System → List ℕ
 no_fault f g each [] = refl
 no_fault f g each (s ∷ ss) = rw (each s) (no_fault f g each ss)
 
-plan_from : (f : System → Result (List ℕ) PlanFault) (g : System → List ℕ) → ((s : System) → f s ≡ Ok (g s)) → (s : System) → (g s ≡ [] → ⊥) → plan_by f ≡ Ok (tabulate g)
+plan_from : (f : System → Result (List ℕ) PlanFault) (g : System → List ℕ) → ((s : System) → f s ≡ Ok (g s)) → (s : System) → (g s ≡ [] → ⊥) → plan_by f ≡ Ok (plan_with (tabulate g))
 plan_from f g each s some =
     ap₂ plan_unless (no_fault f g each systems) (tabulated_same (λ s. signals_or_none (f s)) g (λ s. ap signals_or_none (each s)))
-    ∙ ap (λ (b : Bool). if b then Err NothingPlanned else Ok (tabulate g)) (not_all (λ t. is_nil (value_of t (tabulate g))) s (ap is_nil (value_tabulated s g) ∙ not_nil (g s) some)) where
+    ∙ ap (λ (b : Bool). if b then Err NothingPlanned else Ok (plan_with (tabulate g))) (not_all (λ t. is_nil (value_of t (tabulate g))) s (ap is_nil (value_tabulated s g) ∙ not_nil (g s) some)) where
       not_nil : (xs : List ℕ) → (xs ≡ [] → ⊥) → is_nil xs ≡ false
       not_nil [] some = absurd (some refl)
       not_nil (x ∷ xs) some = refl
 
-pub plan_read : CodesReadBack → (cells : List HeardCell) → 0 < length cells → All IsKey cells → plan_of (tabulate (λ s. codes_word s (had cells s))) ≡ Ok (plan_had cells)
+pub plan_read : CodesReadBack → (cells : List HeardCell) → 0 < length cells → All IsKey cells → plan_of (tabulate (λ s. codes_word s (had cells s))) ≡ Ok (plan_with (tabulate (had cells)))
 plan_read law [] some keys = absurd (omega (arith, some))
 plan_read law (x ∷ xs) some keys =
     let cells : List HeardCell = x ∷ xs in

@@ -1,5 +1,5 @@
 -- Texts written in one call, and failed calls.
-use Rattle.rtcm_inspect.proofs.Names.{◌≡◌, ◌∙◌, inl, inr, sym, subst, append-nil, ℕ, List, [], Option, Result, Ok, Err, OnErr, OnOk, Appends, Keeps, Appends-kept, Appends-nil, Appends-trans, Device, HasFailed, EndsDelivery, IsDelivered, DeviceFailed, ⊤, IsErrAnd, WritesLine, EndsPrinting, PrintsLine, InspectFault}
+use Rattle.rtcm_inspect.proofs.Names.{◌≡◌, ◌∙◌, ◌++◌, ap, inl, inr, sym, subst, append-nil, append_assoc, ℕ, List, [], Option, Result, Ok, Err, OnErr, OnOk, Appends, Keeps, Appends-kept, Appends-nil, Appends-trans, Device, HasFailed, EndsDelivery, IsDelivered, DeviceFailed, ⊤, IsErrAnd, WritesLine, EndsPrinting, PrintsLine, PrintsText, AppendsPrefix, IsPrefix, InspectFault}
 
 pub on_err : {A E : Type 0} (r : Result A E) (P Q : Type 0) → (P → Q) → OnErr r P → OnErr r Q
 on_err (Ok x) P Q f p = p
@@ -57,3 +57,17 @@ line_written r held w w2 x y e h = subst (WritesLine r held w w2) e h
 pub passed : {A E : Type 0} (r : Result A E) (e : E) (P : Result A E → Type 0) → IsErrAnd r (λ y. y ≡ e) → P (Err e) → P r
 passed (Ok x) e P is h = absurd is
 passed (Err y) e P is h = subst (λ z. P (Err z)) (sym is) h
+
+part_after : (a b c : Option (List ℕ)) (x y : List ℕ) → Appends a b x → AppendsPrefix b c y → AppendsPrefix a c (x ++ y)
+part_after a b c x y first (rest, (sent, split, went)) = (rest, (x ++ sent, ap (λ l. x ++ l) split ∙ sym (append_assoc x sent rest), Appends-trans a b c x sent first went))
+
+-- a text that was written after another one
+pub printed_after : {A W : Type 0} (r : Result A InspectFault) (held : W → Option (List ℕ)) (waits : W → List ℕ) (w w1 w2 : Device W) (x y : List ℕ) → PrintsText held waits w w1 x → EndsPrinting r held waits w1 w2 y
+    → EndsPrinting r held waits w w2 (x ++ y)
+printed_after (Ok u) held waits w w1 w2 x y first next = (next.0 ∙ first.0, next.1, Appends-trans _ _ _ x y first.2 next.2)
+printed_after (Err fault) held waits w w1 w2 x y first next =
+    (next.0, (subst (λ (n : ℕ). HasFailed n w2.failures) first.0 next.1.0, part_after _ _ _ x y first.2 next.1.1))
+
+-- a prefix of a text is one of a longer text
+pub longer_part : (a b : Option (List ℕ)) (x y : List ℕ) → AppendsPrefix a b x → IsPrefix x y → AppendsPrefix a b y
+longer_part a b x y (rest, (sent, split, went)) (more, e) = (rest ++ more, (sent, e ∙ ap (λ l. l ++ more) split ∙ append_assoc sent rest more, went))

@@ -1,13 +1,13 @@
 -- The line of a message.
-use Rattle.rtcm_inspect.proofs.Names.{◌≡◌, ◌∙◌, ap, sym, ℕ, ℤ, pos, negsuc, List, Result, Ok, FitsSigned, w64, to_z, of_z, arith, refl, to_z-of_z, FitsInt, Framed, MsgFault, Message, message_at, Form, MsmValue, FormedMsm, formed, message_in, message_number, show_line, read_line, msm_line}
+use Rattle.rtcm_inspect.proofs.Names.{◌≡◌, ◌∙◌, ap, sym, ℕ, ℤ, pos, negsuc, List, Result, Ok, FitsSigned, w64, to_z, of_z, arith, refl, to_z-of_z, FitsInt, Bool, Framed, MsgFault, Message, read_for, Form, MsmValue, FormedMsm, formed, message_in, message_number, show_line, read_line, msm_line}
 use Rattle.rtcm_msg.specs.declared.view.Form.TheVariants as forms
 
-pub shown : (f : Framed) (r : Result Message MsgFault) {bytes : List ℕ} → bytes ≡ f.message → message_at bytes ≡ r → show_line f ≡ read_line f r
+pub shown : (all : Bool) (f : Framed) (r : Result Message MsgFault) {bytes : List ℕ} → bytes ≡ f.message → read_for all bytes ≡ r → show_line all f ≡ read_line f r
 unfolding show_line
-shown f r {bytes} e h = ap (read_line f) (sym (ap message_at e) ∙ h)
+shown all f r {bytes} e h = ap (read_line f) (sym (ap (read_for all) e) ∙ h)
 
-pub shown_value : (f : Framed) (v m : Message) {bytes : List ℕ} → bytes ≡ f.message → message_at bytes ≡ Ok v → v ≡ m → show_line f ≡ read_line f (Ok m)
-shown_value f v m e h same = shown f (Ok m) e (h ∙ ap (λ (x : Message). Ok x) same)
+pub shown_value : (all : Bool) (f : Framed) (v m : Message) {bytes : List ℕ} → bytes ≡ f.message → read_for all bytes ≡ Ok v → v ≡ m → show_line all f ≡ read_line f (Ok m)
+shown_value all f v m e h same = shown all f (Ok m) e (h ∙ ap (λ (x : Message). Ok x) same)
 
 -- the line of an MSM of either form
 pub shown_msm : (f : Framed) (m : FormedMsm) → read_line f (Ok (formed m)) ≡ msm_line f.offset (message_number m.form m.msm.system) m.msm
@@ -15,6 +15,8 @@ shown_msm f m = by_form m.form m.msm
   where
     by_form : (form : Form) (v : MsmValue) → read_line f (Ok (message_in form v)) ≡ msm_line f.offset (message_number form v.system) v
     by_form forms.Msm4 v = refl
+    by_form forms.Msm5 v = refl
+    by_form forms.Msm6 v = refl
     by_form forms.Msm7 v = refl
 
 -- a coordinate as a parameter

@@ -1,5 +1,5 @@
 -- The text of the signals of a stream, signal by signal.
-use Rattle.rtcm_inspect.proofs.Names.{◌≡◌, ℕ, zero, suc, ◌+◌, ◌<◌, ◌≤◌, ◌==◌, ◌&&◌, ◌||◌, All, Result, Ok, OnOk, Bool, true, false, List, [], ◌∷◌, ◌++◌, length, get_or, refl, sym, ap, ap₂, ◌∙◌, subst, arith, filter, map, append-nil, append_assoc, map-append, flat_map-append, cond, nat_lt, codes, list_any, All-head, filter-append, length-filter, count_by-le-length, flat_map, join_with_byte, System, table, code_of, below, SignalCountsValue, AreSignalCounts, common_steps, counted, signal_counts, has_any, signal_in, count_of, is_of_signal, had_below, had, code_list, codes_word, count_line, lines_below, IsKey, HeardCell}
+use Rattle.rtcm_inspect.proofs.Names.{◌≡◌, ℕ, zero, suc, ◌+◌, ◌<◌, ◌≤◌, ◌==◌, ◌&&◌, ◌||◌, All, Result, Ok, OnOk, Bool, true, false, List, [], ◌∷◌, ◌++◌, length, get_or, refl, sym, ap, ap₂, ◌∙◌, subst, arith, filter, map, append-nil, append_assoc, map-append, flat_map-append, cond, nat_lt, codes, list_any, All-head, filter-append, length-filter, count_by-le-length, flat_map, join_with_byte, System, table, code_of, below, SignalCountsValue, AreSignalCounts, common_steps, counted, signal_counts, has_any, signal_in, count_of, is_of_signal, had_below, had, code_list, codes_word, count_line, lines_below, IsKey, HeardCell, list_any-append, has_counted}
 use Rattle.gnss_system.specs.Systems.{systems, index_of}
 use Rattle.gnss_system.proofs.Checked.{is_less}
 use Rattle.gnss_system.proofs.SystemLaws.{none_any, some_system}
@@ -40,7 +40,7 @@ abbrev pub IsPartly : (start text : List ℕ) (separator : ℕ) (system : System
 IsPartly start text separator system [] = (text ≡ start) × (separator ≡ 0x20)
 IsPartly start text separator system (i ∷ is) = (text ≡ start ++ 0x20 ∷ code_list system (i ∷ is)) × (separator ≡ 0x2C)
 
-join-push : (x : List ℕ) (xs : List (List ℕ)) (y : List ℕ) → join_with_byte 0x2C (x ∷ xs ++ y ∷ []) ≡ join_with_byte 0x2C (x ∷ xs) ++ 0x2C ∷ y
+pub join-push : (x : List ℕ) (xs : List (List ℕ)) (y : List ℕ) → join_with_byte 0x2C (x ∷ xs ++ y ∷ []) ≡ join_with_byte 0x2C (x ∷ xs) ++ 0x2C ∷ y
 join-push x [] y = refl
 join-push x (z ∷ xs) y = ap (λ (l : List ℕ). x ++ 0x2C ∷ l) (join-push z xs y) ∙ sym (append_assoc x (0x2C ∷ join_with_byte 0x2C (z ∷ xs)) (0x2C ∷ y))
 
@@ -142,3 +142,60 @@ no_cells c (x ∷ xs) h keys none = absurd (omega (arith, h.each x.signal.system
 
   zero : counted c x.signal.system x.signal.index ≡ 0
   zero = any_none (signal_counts x.signal.system c) (none_any (λ s. list_any (λ n. nat_lt 0 n) (signal_counts s c)) none x.signal.system) x.signal.index
+
+pub any_cells : (c : SignalCountsValue) (cells : List HeardCell) → AreSignalCounts c cells → All IsKey cells → has_any c ≡ nat_lt 0 (length cells)
+any_cells c cells h keys = by (has_any c) refl where
+  by : (b : Bool) → has_any c ≡ b → b ≡ nat_lt 0 (length cells)
+  by true is = sym (positive (length cells) (some_cells c cells h is))
+  by false is = sym (ap (λ (xs : List HeardCell). nat_lt 0 (length xs)) (no_cells c cells h keys is))
+
+-- ---- whether a system has a cell, by the counts of its signals
+
+last_any : (b d : Bool) → (b || (d || false)) ≡ (b || d)
+last_any true d = refl
+last_any false true = refl
+last_any false false = refl
+
+any_more : (c : SignalCountsValue) (system : System) (i : ℕ) → list_any (λ j. nat_lt 0 (counted c system j)) (below (i + 1)) ≡ (list_any (λ j. nat_lt 0 (counted c system j)) (below i) || nat_lt 0 (counted c system i))
+any_more c system i =
+    ap (list_any (λ j. nat_lt 0 (counted c system j))) (below-more i) ∙ list_any-append (λ j. nat_lt 0 (counted c system j)) (below i) (i ∷ [])
+    ∙ last_any (list_any (λ j. nat_lt 0 (counted c system j)) (below i)) (nat_lt 0 (counted c system i))
+
+or_true : (b : Bool) → true ≡ (b || true)
+or_true true = refl
+or_true false = refl
+
+or_none : (b : Bool) → b ≡ (b || false)
+or_none true = refl
+or_none false = refl
+
+pub one_counted : (c : SignalCountsValue) (system : System) (i n : ℕ) → n ≡ counted c system i → 0 < n → true ≡ list_any (λ j. nat_lt 0 (counted c system j)) (below (i + 1))
+one_counted c system i n is some =
+    or_true (list_any (λ j. nat_lt 0 (counted c system j)) (below i)) ∙ sym (any_more c system i ∙ ap (λ (b : Bool). list_any (λ j. nat_lt 0 (counted c system j)) (below i) || b) (ap (nat_lt 0) (sym is) ∙ positive n some))
+
+pub none_more : (c : SignalCountsValue) (system : System) (i n : ℕ) → n ≡ counted c system i → n ≤ 0
+    → list_any (λ j. nat_lt 0 (counted c system j)) (below i) ≡ list_any (λ j. nat_lt 0 (counted c system j)) (below (i + 1))
+none_more c system i n is none =
+    or_none (list_any (λ j. nat_lt 0 (counted c system j)) (below i)) ∙ sym (any_more c system i ∙ ap (λ (b : Bool). list_any (λ j. nat_lt 0 (counted c system j)) (below i) || b) (ap (nat_lt 0) (sym is) ∙ zero_count n none))
+
+pub last_index : (system : System) (i n : ℕ) → n ≡ length (table system) → i ≤ n → n ≤ i → i ≡ length (table system)
+last_index system i n is within end = omega (arith, is, within, end)
+
+any_filter : (p : ℕ → Bool) (xs : List ℕ) → list_any p xs ≡ nat_lt 0 (length (filter p xs))
+any_filter p [] = refl
+any_filter p (x ∷ xs) = by (p x) (any_filter p xs) where
+  by : (b : Bool) → list_any p xs ≡ nat_lt 0 (length (filter p xs)) → (b || list_any p xs) ≡ nat_lt 0 (length (cond b (x ∷ filter p xs) (filter p xs)))
+  by true h = grind arith
+  by false h = h
+
+same_below : (p q : ℕ → Bool) (n : ℕ) → ((i : ℕ) → i < n → p i ≡ q i) → list_any p (below n) ≡ list_any q (below n)
+same_below p q zero same = refl
+same_below p q (suc n) same =
+    let e : n + 1 ≡ suc n = omega arith in
+    let more = λ (r : ℕ → Bool). ap (list_any r) (subst (λ (m : ℕ). below m ≡ below n ++ n ∷ []) e (below-more n)) ∙ list_any-append r (below n) (n ∷ []) in
+    more p ∙ ap₂ (λ (a b : Bool). a || (b || false)) (same_below p q n (λ i less. same i (omega (arith, less)))) (same n (omega arith)) ∙ sym (more q)
+
+pub decodes_had : (c : SignalCountsValue) (cells : List HeardCell) → AreSignalCounts c cells → (system : System) → has_counted c system ≡ nat_lt 0 (length (had cells system))
+decodes_had c cells h system =
+    same_below (λ i. nat_lt 0 (counted c system i)) (λ i. nat_lt 0 (count_of (signal_in system i) cells)) (length (table system)) (λ i less. ap (nat_lt 0) (h.each system i less))
+    ∙ any_filter (λ i. nat_lt 0 (count_of (signal_in system i) cells)) (below (length (table system)))

@@ -1,17 +1,10 @@
 -- The cells that a conversion skips with the plan of a stream's signals.
+use Rattle.rtcm_msg.specs.Encoding.{other_of}
+use Rattle.rtcm_msg.specs.Sets.{is_in_set}
+use Rattle.rtcm_inspect.proofs.SetLemmas.{ArePlanned, SetLaws, front, rest, found_inside, found_outside, found_refused, none_valued}
 use Rattle.rtcm_inspect.proofs.WeekLemmas.{own_counts}
-use Rattle.rtcm_inspect.proofs.Names.{◌≡◌, ◌+◌, ◌≤◌, Bool, true, false, not, ℕ, List, [], ◌∷◌, ◌++◌, filter, Option, Some, None, All, refl, subst, arith, cond, count_by, option_map_or, All-nil, All-cons, All-head, All-tail, sum_by-cons, Framed, counts_of, counts_of_message, is_planned, no_counts, offered, with_skipped, brings_value, is_of_station, valued, GatherSetup, Heard, is_own, HeardCell, Timed, SkipsOnly, valued_in, valued_of}
-
-abbrev ArePlanned : GatherSetup → List HeardCell → Type 0
-ArePlanned s xs = All (λ x. is_planned s x ≡ true) xs
-
-front : (s : GatherSetup) (xs ys : List HeardCell) → ArePlanned s (xs ++ ys) → ArePlanned s xs
-front s [] ys h = All-nil (λ x. is_planned s x ≡ true)
-front s (x ∷ xs) ys h = All-cons (λ x. is_planned s x ≡ true) x xs (All-head (λ x. is_planned s x ≡ true) x (xs ++ ys) h) (front s xs ys (All-tail (λ x. is_planned s x ≡ true) x (xs ++ ys) h))
-
-rest : (s : GatherSetup) (xs ys : List HeardCell) → ArePlanned s (xs ++ ys) → ArePlanned s ys
-rest s [] ys h = h
-rest s (x ∷ xs) ys h = rest s xs ys (All-tail (λ x. is_planned s x ≡ true) x (xs ++ ys) h)
+use Rattle.gnss_obs.specs.LockTimes.{LockTime}
+use Rattle.rtcm_inspect.proofs.Names.{◌≡◌, ◌∙◌, ◌+◌, ◌≤◌, ◌==◌, ap, ap₂, sym, bits_of, cons_option, every_channel, filter_map, heard_by, heard_msm, if◌then◌else◌, inspected, inspected_in, inspected_of, is_some, lock_by, observed, option_and_then, option_map, satellite_of_id, seen_in, signal_of_id, unlisted_in, ChannelsValue, Df402, Df407, Entry, LockField, MsmValue, Satellite, SignalAt, System, entries, Station, Msm4, Msm5, Msm6, Msm7, Other, message_at, Message, MsgFault, MsmSet, Result, Ok, Err, Bool, true, false, not, ℕ, List, [], ◌∷◌, ◌++◌, filter, Option, Some, None, All, refl, subst, arith, cond, count_by, option_map_or, All-nil, All-cons, All-head, All-tail, sum_by-cons, Framed, counts_of, counts_of_message, is_planned, no_counts, offered, with_skipped, brings_value, is_of_station, valued, GatherSetup, Heard, is_own, HeardCell, Timed, SkipsOnly, valued_in, valued_of}
 
 abbrev one_unless : Bool → ℕ
 one_unless b = cond (not b) 1 0
@@ -38,23 +31,96 @@ few_skipped s (x ∷ xs) h = rw (counted (is_planned s) x xs, counted brings_val
       planned_kept (is_planned s x) _ _ (All-head (λ x. is_planned s x ≡ true) x (filter brings_value xs) h) (more (All-tail (λ x. is_planned s x ≡ true) x (filter brings_value xs) h))
   by false h more = at_most (is_planned s x) _ _ (more h)
 
-message_skips : (s : GatherSetup) (earlier : List Timed) (m : Heard) → ArePlanned s (valued s.station m)
-    → (counts_of_message s earlier m).skipped ≤ m.unlisted + count_by (λ x. not (brings_value x)) m.cells
-message_skips s earlier m h = by (is_own s m) _ (λ own. few_skipped s m.cells (of_own (is_of_station s.station m) (own_counts s m own) h)) where
-  of_own : (b : Bool) → b ≡ true → ArePlanned s (cond b (filter brings_value m.cells) []) → ArePlanned s (filter brings_value m.cells)
+-- ---- a message is heard with the channels of a setup, and inspected with others
+
+module _ (s : GatherSetup) (c d : ChannelsValue) (field : LockField) (system : System) where
+  abbrev skipped_among : List HeardCell → ℕ
+  skipped_among xs = count_by (λ x. not (is_planned s x)) xs
+
+  -- the key of a cell doesn't depend on the channels
+  one_skipped : (e : Entry) (xs ys : List HeardCell) → skipped_among xs ≡ skipped_among ys → skipped_among (cons_option (seen_in c field system e) xs) ≡ skipped_among (cons_option (seen_in d field system e) ys)
+  one_skipped e xs ys same = by (satellite_of_id system e.satellite) (signal_of_id system e.signal) where
+    lock : LockTime
+    lock = lock_by field e.lock
+
+    by : (u : Option Satellite) (g : Option SignalAt)
+        → skipped_among (cons_option (option_and_then (λ u. option_map (observed c lock e u) g) u) xs) ≡ skipped_among (cons_option (option_and_then (λ u. option_map (observed d lock e u) g) u) ys)
+    by None g = same
+    by (Some u) None = same
+    by (Some u) (Some g) =
+        counted (is_planned s) (observed c lock e u g) xs ∙ ap (λ (n : ℕ). one_unless (is_planned s (observed d lock e u g)) + n) same ∙ sym (counted (is_planned s) (observed d lock e u g) ys)
+
+  skipped_same : (es : List Entry) → skipped_among (filter_map (seen_in c field system) es) ≡ skipped_among (filter_map (seen_in d field system) es)
+  skipped_same [] = refl
+  skipped_same (e ∷ es) = one_skipped e (filter_map (seen_in c field system) es) (filter_map (seen_in d field system) es) (skipped_same es)
+
+  unlisted_same : (es : List Entry) → unlisted_in c field system es ≡ unlisted_in d field system es
+  unlisted_same [] = refl
+  unlisted_same (e ∷ es) = ap₂ (λ (b : Bool) (n : ℕ). (if b then 0 else 1) + n) (by (satellite_of_id system e.satellite) (signal_of_id system e.signal)) (unlisted_same es) where
+    lock : LockTime
+    lock = lock_by field e.lock
+
+    by : (u : Option Satellite) (g : Option SignalAt) → is_some (option_and_then (λ u. option_map (observed c lock e u) g) u) ≡ is_some (option_and_then (λ u. option_map (observed d lock e u) g) u)
+    by None g = refl
+    by (Some u) None = refl
+    by (Some u) (Some g) = refl
+
+-- what a conversion counts of a message doesn't depend on the channels
+record SameKeys (s : GatherSetup) (x y : Heard) : Type 0 where
+  station : x.station ≡ y.station
+  unlisted : x.unlisted ≡ y.unlisted
+  skipped : count_by (λ z. not (is_planned s z)) x.cells ≡ count_by (λ z. not (is_planned s z)) y.cells
+
+msm_keys : (s : GatherSetup) (field : LockField) (v : MsmValue) (es : List Entry) → SameKeys s (heard_msm s.plan.channels s.leap field v es) (heard_msm every_channel 0 field v es)
+msm_keys s field v es = record { station = refl; unlisted = unlisted_same s s.plan.channels every_channel field v.system es; skipped = skipped_same s s.plan.channels every_channel field v.system es }
+
+same_keys : (s : GatherSetup) (m : Message) → SameKeys s (heard_by s m) (inspected m)
+same_keys s (Station p) = record { station = refl; unlisted = refl; skipped = refl }
+same_keys s (Msm4 v) = msm_keys s Df402 v (entries (Msm4 v))
+same_keys s (Msm5 v) = msm_keys s Df402 v (entries (Msm5 v))
+same_keys s (Msm6 v) = msm_keys s Df407 v (entries (Msm6 v))
+same_keys s (Msm7 v) = msm_keys s Df407 v (entries (Msm7 v))
+same_keys s (Other k set) = record { station = refl; unlisted = refl; skipped = refl }
+
+message_skips : (s : GatherSetup) (earlier : List Timed) (x y : Heard) → SameKeys s x y → ArePlanned s (valued s.station y)
+    → (counts_of_message s earlier x).skipped ≤ y.unlisted + count_by (λ z. not (brings_value z)) y.cells
+message_skips s earlier x y same h = by (is_own s x) _ (λ own. omega (arith, same.skipped, few_skipped s y.cells (of_own (is_of_station s.station y) (own_counts s y (ap (λ (o : Option ℕ). option_map_or (λ from. option_map_or (λ wanted. from == wanted) s.station true) o false) (sym same.station) ∙ own)) h))) where
+  of_own : (b : Bool) → b ≡ true → ArePlanned s (cond b (filter brings_value y.cells) []) → ArePlanned s (filter brings_value y.cells)
   of_own true e h = h
   of_own false e h = cc
 
-  by : (b : Bool) (time : Option ℕ) → (b ≡ true → count_by (λ x. not (is_planned s x)) m.cells ≤ count_by (λ x. not (brings_value x)) m.cells)
-      → (option_map_or (λ u. with_skipped m.unlisted (counts_of s (offered s u earlier) m.cells)) (cond b time None) no_counts).skipped
-      ≤ m.unlisted + count_by (λ x. not (brings_value x)) m.cells
+  by : (b : Bool) (time : Option ℕ) → (b ≡ true → count_by (λ z. not (is_planned s z)) x.cells ≤ count_by (λ z. not (brings_value z)) y.cells)
+      → (option_map_or (λ u. with_skipped x.unlisted (counts_of s (offered s u earlier) x.cells)) (cond b time None) no_counts).skipped
+      ≤ y.unlisted + count_by (λ z. not (brings_value z)) y.cells
   by true None few = omega arith
-  by true (Some u) few = omega (arith, few refl)
+  by true (Some u) few = omega (arith, same.unlisted, few refl)
   by false time few = omega arith
 
-pub frames_skip : (s : GatherSetup) (earlier : List Timed) (fs : List Framed) → ArePlanned s (valued_in s.station fs) → All (SkipsOnly s earlier) fs
-frames_skip s earlier [] h = All-nil (SkipsOnly s earlier)
-frames_skip s earlier (f ∷ fs) h =
-    All-cons (SkipsOnly s earlier) f fs
-    (λ m is. message_skips s earlier m (subst (λ (o : Option Heard). ArePlanned s (option_map_or (valued s.station) o [])) is (front s (valued_of s.station f) (valued_in s.station fs) h)))
-    (frames_skip s earlier fs (rest s (valued_of s.station f) (valued_in s.station fs) h))
+-- the cells that are read with a set are planned, too
+planned_in : SetLaws → (set : MsmSet) (s : GatherSetup) (f : Framed) → ArePlanned s (valued_of s.station f) → ArePlanned s (option_map_or (valued s.station) (inspected_in 0 set f.message) [])
+planned_in laws set s f h = by (message_at f.message) refl where
+  goal : List HeardCell → Type 0
+  goal cells = ArePlanned s cells
+
+  other : valued s.station (inspected (other_of (bits_of f.message))) ≡ []
+  other = none_valued s.station f.message
+
+  none : option_map_or (valued s.station) (inspected_in 0 set f.message) [] ≡ [] → goal (option_map_or (valued s.station) (inspected_in 0 set f.message) [])
+  none e = subst goal (sym e) (All-nil (λ x. is_planned s x ≡ true))
+
+  by_set : (m : Message) → message_at f.message ≡ Ok m → (b : Bool) → is_in_set set m ≡ b → goal (option_map_or (valued s.station) (inspected_in 0 set f.message) [])
+  by_set m read true is =
+      subst goal (ap (λ (r : Result Message MsgFault). option_map_or (valued s.station) (inspected_of r) []) read ∙ sym (found_inside laws 0 set f.message (valued s.station) [] other m read is)) h
+  by_set m read false is = none (found_outside laws 0 set f.message (valued s.station) [] other m read is)
+
+  by : (r : Result Message MsgFault) → message_at f.message ≡ r → goal (option_map_or (valued s.station) (inspected_in 0 set f.message) [])
+  by (Ok m) read = by_set m read (is_in_set set m) refl
+  by (Err e) read = none (found_refused laws 0 set f.message (valued s.station) [] other e read)
+
+pub frames_skip : SetLaws → (set : MsmSet) (s : GatherSetup) (earlier : List Timed) (fs : List Framed) → ArePlanned s (valued_in s.station fs) → All (SkipsOnly set s earlier) fs
+frames_skip laws set s earlier [] h = All-nil (SkipsOnly set s earlier)
+frames_skip laws set s earlier (f ∷ fs) h =
+    All-cons (SkipsOnly set s earlier) f fs
+    (λ m is. message_skips s earlier (heard_by s m) (inspected m) (same_keys s m)
+    (subst (λ (r : Result Message MsgFault). ArePlanned s (option_map_or (valued s.station) (inspected_of r) [])) is (planned_in laws set s f (front s (valued_of s.station f) (valued_in s.station fs) h))))
+    (frames_skip laws set s earlier fs (rest s (valued_of s.station f) (valued_in s.station fs) h))

@@ -1,6 +1,6 @@
 -- The cells with a value are of listed satellites and signals.
 use Rattle.std.specs.Option.{option_and_then}
-use Rattle.rtcm_inspect.proofs.Names.{◌≡◌, ℕ, ◌<◌, ◌≤◌, ◌==◌, ◌&&◌, Bool, true, false, List, [], ◌∷◌, length, refl, sym, ap, ◌∙◌, subst, arith, filter, All, Option, Some, None, Result, Ok, Err, LockField, Df402, Df407, filter_map, cond, nat_lt, nat_le, option_map, option_map_or, cons_option, position_or_len, All-nil, All-cons, All-append, All-filter, System, Satellite, IsSatellite, satellites, satellite_of_id, SignalAt, IsSignal, table, signal_of_id, Entry, Message, Station, Msm4, Msm7, Other, entries, MsgFault, message_at, Framed, Heard, heard, seen_in, lock_by, observed, HeardCell, IsKey, heard_of, brings_value, is_of_station, valued, signal_in, valued_of, valued_in}
+use Rattle.rtcm_inspect.proofs.Names.{MsmValue, heard_msm, ◌≡◌, ℕ, ◌<◌, ◌≤◌, ◌==◌, ◌&&◌, Bool, true, false, List, [], ◌∷◌, length, refl, sym, ap, ◌∙◌, subst, arith, filter, All, Option, Some, None, Result, Ok, Err, LockField, Df402, Df407, filter_map, cond, nat_lt, nat_le, option_map, option_map_or, cons_option, position_or_len, All-nil, All-cons, All-append, All-filter, System, Satellite, IsSatellite, satellites, satellite_of_id, SignalAt, IsSignal, table, signal_of_id, Entry, Message, Station, Msm4, Msm5, Msm6, Msm7, Other, entries, MsgFault, message_at, Framed, Heard, inspected, every_channel, seen_in, lock_by, observed, HeardCell, IsKey, inspected_of, brings_value, is_of_station, valued, signal_in, valued_of, valued_in}
 use Rattle.gnss_system.specs.declared.tables.ListedSignal as tables
 
 some_same : {X : Type 0} (x y : X) → Some x ≡ Some y → x ≡ y
@@ -32,10 +32,10 @@ satellite_listed system id s h = by (nat_le 1 id && nat_le id (satellites system
   by false t e = absurd (grind (arith, e))
 
 -- a cell that is seen
-seen_key : (field : LockField) (system : System) (e : Entry) (x : HeardCell) → seen_in field system e ≡ Some x → IsKey x
+seen_key : (field : LockField) (system : System) (e : Entry) (x : HeardCell) → seen_in every_channel field system e ≡ Some x → IsKey x
 seen_key field system e x h = by (satellite_of_id system e.satellite) (signal_of_id system e.signal) (satellite_listed system e.satellite) (listed_of system e.signal) h where
   seen : Satellite → SignalAt → HeardCell
-  seen s g = observed (lock_by field e.lock) e s g
+  seen s g = observed every_channel (lock_by field e.lock) e s g
 
   key : (s : Satellite) (g : SignalAt) → (s.system ≡ system) × IsSatellite s → (g.system ≡ system) × IsSignal g → IsKey (seen s g)
   key s g a b = record { satellite = a.1; signal = b.1; same = b.0 ∙ sym a.0 }
@@ -46,16 +46,18 @@ seen_key field system e x h = by (satellite_of_id system e.satellite) (signal_of
   by (Some s) None a b h = absurd (grind (arith, h))
   by (Some s) (Some g) a b h = subst IsKey (some_same (seen s g) x h) (key s g (a s refl) (b g refl))
 
-all_seen : (field : LockField) (system : System) (es : List Entry) → All IsKey (filter_map (seen_in field system) es)
+all_seen : (field : LockField) (system : System) (es : List Entry) → All IsKey (filter_map (seen_in every_channel field system) es)
 all_seen field system [] = All-nil IsKey
-all_seen field system (e ∷ es) = by (seen_in field system e) (seen_key field system e) (all_seen field system es) where
-  by : (o : Option HeardCell) → ((x : HeardCell) → o ≡ Some x → IsKey x) → All IsKey (filter_map (seen_in field system) es) → All IsKey (cons_option o (filter_map (seen_in field system) es))
+all_seen field system (e ∷ es) = by (seen_in every_channel field system e) (seen_key field system e) (all_seen field system es) where
+  by : (o : Option HeardCell) → ((x : HeardCell) → o ≡ Some x → IsKey x) → All IsKey (filter_map (seen_in every_channel field system) es) → All IsKey (cons_option o (filter_map (seen_in every_channel field system) es))
   by None h rest = rest
-  by (Some x) h rest = All-cons IsKey x (filter_map (seen_in field system) es) (h x refl) rest
+  by (Some x) h rest = All-cons IsKey x (filter_map (seen_in every_channel field system) es) (h x refl) rest
 
-all_heard : (m : Message) → All IsKey (heard m).cells
+all_heard : (m : Message) → All IsKey (inspected m).cells
 all_heard (Station p) = All-nil IsKey
 all_heard (Msm4 m) = all_seen Df402 m.system (entries (Msm4 m))
+all_heard (Msm5 m) = all_seen Df402 m.system (entries (Msm5 m))
+all_heard (Msm6 m) = all_seen Df407 m.system (entries (Msm6 m))
 all_heard (Msm7 m) = all_seen Df407 m.system (entries (Msm7 m))
 all_heard (Other n set) = All-nil IsKey
 
@@ -65,11 +67,40 @@ all_valued wanted m h = by (is_of_station wanted m) where
   by true = All-filter brings_value IsKey m.cells h
   by false = All-nil IsKey
 
+-- the cells of a message
+pub message_keys : (wanted : Option ℕ) (m : Message) → All IsKey (valued wanted (inspected m))
+message_keys wanted m = all_valued wanted (inspected m) (all_heard m)
+
 frame_keys : (wanted : Option ℕ) (f : Framed) → All IsKey (valued_of wanted f)
 frame_keys wanted f = by (message_at f.message) where
-  by : (r : Result Message MsgFault) → All IsKey (option_map_or (valued wanted) (heard_of r) [])
-  by (Ok m) = all_valued wanted (heard m) (all_heard m)
+  by : (r : Result Message MsgFault) → All IsKey (option_map_or (valued wanted) (inspected_of r) [])
+  by (Ok m) = message_keys wanted m
   by (Err e) = All-nil IsKey
+
+-- the system of the cells of an MSM
+seen_system : (field : LockField) (system : System) (e : Entry) (x : HeardCell) → seen_in every_channel field system e ≡ Some x → x.satellite.system ≡ system
+seen_system field system e x h = by (satellite_of_id system e.satellite) (signal_of_id system e.signal) (satellite_listed system e.satellite) h where
+  seen : Satellite → SignalAt → HeardCell
+  seen s g = observed every_channel (lock_by field e.lock) e s g
+
+  by : (s : Option Satellite) (g : Option SignalAt) → ((v : Satellite) → s ≡ Some v → (v.system ≡ system) × IsSatellite v) → option_and_then (λ s. option_map (seen s) g) s ≡ Some x → x.satellite.system ≡ system
+  by None g a h = absurd (grind (arith, h))
+  by (Some s) None a h = absurd (grind (arith, h))
+  by (Some s) (Some g) a h = subst (λ (y : HeardCell). y.satellite.system ≡ system) (some_same (seen s g) x h) (a s refl).0
+
+all_system : (field : LockField) (system : System) (es : List Entry) → All (λ x. x.satellite.system ≡ system) (filter_map (seen_in every_channel field system) es)
+all_system field system [] = All-nil (λ x. x.satellite.system ≡ system)
+all_system field system (e ∷ es) = by (seen_in every_channel field system e) (seen_system field system e) (all_system field system es) where
+  by : (o : Option HeardCell) → ((x : HeardCell) → o ≡ Some x → x.satellite.system ≡ system) → All (λ x. x.satellite.system ≡ system) (filter_map (seen_in every_channel field system) es)
+      → All (λ x. x.satellite.system ≡ system) (cons_option o (filter_map (seen_in every_channel field system) es))
+  by None h more = more
+  by (Some x) h more = All-cons (λ x. x.satellite.system ≡ system) x (filter_map (seen_in every_channel field system) es) (h x refl) more
+
+pub valued_system : (wanted : Option ℕ) (field : LockField) (v : MsmValue) (es : List Entry) → All (λ x. x.satellite.system ≡ v.system) (valued wanted (heard_msm every_channel 0 field v es))
+valued_system wanted field v es = by (is_of_station wanted (heard_msm every_channel 0 field v es)) where
+  by : (b : Bool) → All (λ x. x.satellite.system ≡ v.system) (cond b (filter brings_value (filter_map (seen_in every_channel field v.system) es)) [])
+  by true = All-filter brings_value (λ x. x.satellite.system ≡ v.system) (filter_map (seen_in every_channel field v.system) es) (all_system field v.system es)
+  by false = All-nil (λ x. x.satellite.system ≡ v.system)
 
 -- the cells of frames
 pub valued_keys : (wanted : Option ℕ) (fs : List Framed) → All IsKey (valued_in wanted fs)

@@ -1,5 +1,5 @@
 -- The nearest week, and the time of the first MSM.
-use Rattle.rtcm_inspect.proofs.Names.{◌≡◌, ◌∙◌, ◌+◌, ◌-◌, ◌*◌, ◌/◌, ◌<◌, ◌≤◌, ◌==◌, ◌&&◌, ◌||◌, ◌++◌, ℕ, Bool, true, false, List, [], ◌∷◌, Option, Some, None, Result, Ok, Err, refl, sym, ap, ap₂, arith, cons_option, filter_map, nat_lt, option_and_then, if◌then◌else◌, option_or, option_map_or, week, weeks, Framed, message_at, MsgFault, Message, Station, Msm4, Msm7, Other, GatherSetup, Heard, is_own, is_of_station, Timed, ahead, greatest_time, is_closed, is_past, max_known, taken_at, timed_after, first_tow, tow_of, heard_in, heard_of, IsNearestWeek, IsWeekNear, half_week, first_time, inl, inr}
+use Rattle.rtcm_inspect.proofs.Names.{◌≡◌, ◌∙◌, ◌+◌, ◌-◌, ◌*◌, ◌/◌, ◌<◌, ◌≤◌, ◌==◌, ◌&&◌, ◌||◌, ◌++◌, ℕ, Bool, true, false, List, [], ◌∷◌, Option, Some, None, Result, Ok, Err, refl, sym, ap, ap₂, arith, cons_option, filter_map, nat_lt, option_and_then, if◌then◌else◌, option_or, option_map_or, week, weeks, Framed, message_with, MsmSet, MsgFault, Message, Station, Msm4, Msm5, Msm6, Msm7, Other, GatherSetup, Heard, is_own, is_of_station, Timed, ahead, greatest_time, is_closed, is_past, max_known, taken_at, timed_after, first_tow, tow_of, ChannelsValue, every_channel, heard_in, heard_of, IsNearestWeek, IsWeekNear, half_week, first_time, inl, inr}
 
 -- ---- the nearest week, by its quotient q: n = q * week + r
 
@@ -54,12 +54,14 @@ no_tow : {t : ℕ} → ◌≡◌ {A = Option ℕ} None (Some t) → ⊥
 no_tow e = cc
 
 -- an MSM has a station
-has_station : (r : Result Message MsgFault) (m : Heard) (tow : ℕ) → heard_of r ≡ Some m → m.tow ≡ Some tow → (n : ℕ) × (m.station ≡ Some n)
-has_station (Ok (Station p)) m tow is t = absurd (let e : m.tow ≡ None = ap (λ (o : Option Heard). tow_in o) (sym is) in no_tow (sym e ∙ t))
-has_station (Ok (Msm4 v)) m tow is t = (v.header.station, ap (λ (o : Option Heard). station_in o) (sym is))
-has_station (Ok (Msm7 v)) m tow is t = (v.header.station, ap (λ (o : Option Heard). station_in o) (sym is))
-has_station (Ok (Other k set)) m tow is t = absurd (let e : m.tow ≡ None = ap (λ (o : Option Heard). tow_in o) (sym is) in no_tow (sym e ∙ t))
-has_station (Err e) m tow is t = cc
+has_station : (channels : ChannelsValue) (leap : ℕ) (r : Result Message MsgFault) (m : Heard) (tow : ℕ) → heard_of channels leap r ≡ Some m → m.tow ≡ Some tow → (n : ℕ) × (m.station ≡ Some n)
+has_station channels leap (Ok (Station p)) m tow is t = absurd (let e : m.tow ≡ None = ap (λ (o : Option Heard). tow_in o) (sym is) in no_tow (sym e ∙ t))
+has_station channels leap (Ok (Msm4 v)) m tow is t = (v.header.station, ap (λ (o : Option Heard). station_in o) (sym is))
+has_station channels leap (Ok (Msm5 v)) m tow is t = (v.header.station, ap (λ (o : Option Heard). station_in o) (sym is))
+has_station channels leap (Ok (Msm6 v)) m tow is t = (v.header.station, ap (λ (o : Option Heard). station_in o) (sym is))
+has_station channels leap (Ok (Msm7 v)) m tow is t = (v.header.station, ap (λ (o : Option Heard). station_in o) (sym is))
+has_station channels leap (Ok (Other k set)) m tow is t = absurd (let e : m.tow ≡ None = ap (λ (o : Option Heard). tow_in o) (sym is) in no_tow (sym e ∙ t))
+has_station channels leap (Err e) m tow is t = cc
 
 first_time-append : (xs ys : List Timed) → first_time (xs ++ ys) ≡ option_or (first_time xs) (first_time ys)
 first_time-append [] ys = refl
@@ -153,9 +155,26 @@ dated_step {tow} {rest} s (Some m) ms now more station earlier none first = by (
       let own = counts_own s m from.0 from.1 parts.0 in
       first_stays s (s.start_week * week + tow) (earlier ++ x ∷ []) ms (now_first earlier x (s.start_week * week + tow) (taken_first s earlier m now (none_greatest earlier none) own is) none)
 
-dated_after : (s : GatherSetup) (tow : ℕ) (fs : List Framed) → is_past (s.start_week * week + tow) ≡ false → Dated s tow (first_tow s.station fs) (filter_map (λ (f : Framed). heard_in f.message) fs)
-dated_after s tow [] now = λ earlier none first. absurd (no_tow first)
-dated_after s tow (f ∷ fs) now = dated_step s (heard_in f.message) (filter_map (λ (f : Framed). heard_in f.message) fs) now (dated_after s tow fs now) (λ m t is h. has_station (message_at f.message) m t is h)
+-- the time of week doesn't depend on the channels
+same_tow : (wanted : Option ℕ) (c d : ChannelsValue) (leap : ℕ) (r : Result Message MsgFault) → option_and_then (tow_of wanted) (heard_of c leap r) ≡ option_and_then (tow_of wanted) (heard_of d leap r)
+same_tow wanted c d leap (Ok (Station p)) = refl
+same_tow wanted c d leap (Ok (Msm4 v)) = refl
+same_tow wanted c d leap (Ok (Msm5 v)) = refl
+same_tow wanted c d leap (Ok (Msm6 v)) = refl
+same_tow wanted c d leap (Ok (Msm7 v)) = refl
+same_tow wanted c d leap (Ok (Other k set)) = refl
+same_tow wanted c d leap (Err e) = refl
 
-pub dated : (s : GatherSetup) (fs : List Framed) (tow : ℕ) → s.start_week < weeks → tow < week → first_tow s.station fs ≡ Some tow → first_time (timed_after s [] (filter_map (λ (f : Framed). heard_in f.message) fs)) ≡ Some (s.start_week * week + tow)
-dated s fs tow within small first = dated_after s tow fs (not_past s.start_week tow within small) [] refl first
+-- the messages of frames by a setup
+abbrev heard_all : MsmSet → GatherSetup → List Framed → List Heard
+heard_all set s fs = filter_map (λ f. heard_in s.plan.channels s.leap set f.message) fs
+
+dated_after : (set : MsmSet) (s : GatherSetup) (tow : ℕ) (fs : List Framed) → is_past (s.start_week * week + tow) ≡ false → Dated s tow (first_tow s.leap set s.station fs) (heard_all set s fs)
+dated_after set s tow [] now = λ earlier none first. absurd (no_tow first)
+dated_after set s tow (f ∷ fs) now = λ earlier none first.
+    dated_step s (heard_in s.plan.channels s.leap set f.message) (heard_all set s fs) now (dated_after set s tow fs now)
+    (λ m t is h. has_station s.plan.channels s.leap (message_with set f.message) m t is h) earlier none
+    (ap (λ (o : Option ℕ). option_or o (first_tow s.leap set s.station fs)) (same_tow s.station s.plan.channels every_channel s.leap (message_with set f.message)) ∙ first)
+
+pub dated : (set : MsmSet) (s : GatherSetup) (fs : List Framed) (tow : ℕ) → s.start_week < weeks → tow < week → first_tow s.leap set s.station fs ≡ Some tow → first_time (timed_after s [] (heard_all set s fs)) ≡ Some (s.start_week * week + tow)
+dated set s fs tow within small first = dated_after set s tow fs (not_past s.start_week tow within small) [] refl first

@@ -8,7 +8,8 @@ use Rattle.rtcm_scan.specs.declared.framer.ScanFault.TheVariants as scan
 use Rattle.rtcm_msg.specs.Msm.{most_pairs}
 use Rattle.obs_epoch.specs.SignalCounts.{SignalCountsValue, AreSignalCounts}
 use Rattle.rtcm_inspect.specs.FirstMessages.{AreFirst}
-use Rattle.rtcm_inspect.specs.Signals.{valued_in}
+use Rattle.rtcm_inspect.specs.Signals.{forms_had, valued_in}
+use Rattle.rtcm_inspect.specs.StreamChannels.{channels_in}
 use Rattle.rtcm_inspect.specs.SignalOutput.{ReadsTooMuch}
 use Rattle.rtcm_inspect.specs.declared.fault.InspectFault.{InspectFault}
 use Rattle.rtcm_inspect.specs.declared.fault.InspectFault.TheVariants as faults
@@ -22,6 +23,8 @@ pub record IsCounted (c : SignalCountsValue) (wanted : Option ℕ) (fs : List Fr
 -- the signals of these frames
 pub record AreSignals (s : StreamSignals) (wanted : Option ℕ) (fs : List Framed) : Type 0 where
   pub counted : IsCounted s.signal_counts wanted fs
+  pub forms : s.forms ≡ forms_had wanted fs
+  pub channels : s.channels ≡ channels_in wanted fs
   pub first : AreFirst s.first wanted fs
 
 -- The stream was read to its end, and its signals were counted.

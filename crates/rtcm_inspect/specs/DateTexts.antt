@@ -31,14 +31,26 @@ clock_bytes = 3 * (1 + 2) + 1 + 3
 abbrev pub seconds_text : ℕ → List ℕ
 seconds_text n = decimal (n / 1000) ++ codes "." ++ three_digits n
 
+-- the date and the time of day of a time
+abbrev pub moment_words : ℕ → List (List ℕ)
+moment_words t = date_text (civil_of t) ∷ clock_text (civil_of t) ∷ []
+
+-- the bytes of these texts and of a blank before each
+abbrev pub moment_bytes : ℕ
+moment_bytes = 11 + clock_bytes
+
 -- a name, and the date and the time of day of a time
 unfoldable pub time_line : List ℕ → ℕ → List ℕ
-time_line name t = line (name ∷ date_text (civil_of t) ∷ clock_text (civil_of t) ∷ [])
+time_line name t = line (name ∷ moment_words t)
 
 -- the smallest step between epochs, if there are two
 abbrev pub step_line : Option ℕ → List ℕ
 step_line None = []
 step_line (Some n) = line (codes "step" ∷ seconds_text n ∷ [])
+
+-- the most bytes of the lines of the times
+abbrev pub longest_times : ℕ
+longest_times = 2 * 40 + 30
 
 -- the times of the first and of the last epoch, and the step
 abbrev pub times_lines : EpochTimes → List ℕ

@@ -1,8 +1,7 @@
 -- The state of the devices of a command by its result: they were r and w before, and are r' and w' after it.
 use Rattle.std.specs.Prelude.{◌≡◌, ℕ, Result, Ok, Err, [], List, Option}
-use Rattle.std.specs.Io.KnownBytes.{Appends, Keeps}
+use Rattle.std.specs.Io.KnownBytes.{Keeps}
 use Rattle.rtcm_bits.specs.Device.{Device, HasFailed}
-use Rattle.rtcm_bits.specs.Prefix.{IsPrefix}
 use Rattle.rtcm_scan.specs.declared.feed.StreamFault.{StreamFault}
 use Rattle.rtcm_scan.specs.declared.feed.StreamFault.TheVariants as stream
 use Rattle.rtcm_scan.specs.declared.framer.ScanFault.TheVariants as scan
@@ -31,23 +30,6 @@ CountsReader (Err fault) r r' = ReadFailures fault r.failures r'.failures
 abbrev pub WriteFailures : InspectFault → ℕ → ℕ → Type 0
 WriteFailures faults.Write before after = HasFailed before after
 WriteFailures _ before after = after ≡ before
-
--- P relates the bytes left to read before and after, and the bytes written before and after
-abbrev pub Moves : {R W : Type 0} → (R → Option (List ℕ)) → (r r' : Device R) → (W → Option (List ℕ))
-    → (w w' : Device W)
-    → ((r r' w w' : Option (List ℕ)) → Type 0) → Type 0
-Moves left r r' held w w' P = P (left r.inner) (left r'.inner) (held w.inner) (held w'.inner)
-
--- both devices are as before
-abbrev pub IsUntouched : {R W : Type 0} → (r r' : Device R) → (w w' : Device W) → Type 0
-IsUntouched r r' w w' = (r' ≡ r) × (w' ≡ w)
-
--- the bytes written are at least the lower text, and at most the upper one
-pub record IsBetween (a b : Option (List ℕ)) (lower upper : List ℕ) : Type 0 where
-  pub out : List ℕ
-  pub went : Appends a b out
-  pub least : IsPrefix lower out
-  pub most : IsPrefix out upper
 
 -- no device failed, and nothing waits in the writer
 abbrev pub AreFine : {R W : Type 0} → (r r' : Device R) → (W → List ℕ) → (w w' : Device W) → Type 0

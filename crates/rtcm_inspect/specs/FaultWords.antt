@@ -1,5 +1,5 @@
 -- The names of faults, and what they carry, as words. They agree with the manual page.
-use Rattle.std.specs.Prelude.{ℕ, List, [], ◌∷◌, Option, Some, None, codes, decimal}
+use Rattle.std.specs.Prelude.{ℕ, List, [], ◌∷◌, codes, decimal}
 use Rattle.gnss_system.specs.Satellites.{letter}
 use Rattle.gnss_obs.specs.declared.fault.PlanFault.{PlanFault}
 use Rattle.gnss_obs.specs.declared.fault.PlanFault.TheVariants as plans
@@ -34,11 +34,6 @@ plan_words plans.NothingPlanned = codes "NothingPlanned" ∷ []
 plan_words plans.BadWeek = codes "BadWeek" ∷ []
 plan_words plans.BadStation = codes "BadStation" ∷ []
 plan_words plans.Memory = codes "Memory" ∷ []
-
--- a name, and a number if there is one
-abbrev pub named : List ℕ → Option ℕ → List (List ℕ)
-named name None = name ∷ []
-named name (Some k) = name ∷ decimal k ∷ []
 
 -- a line of a file, counted from 1
 abbrev pub file_words : ReadFault → List (List ℕ)

@@ -5,32 +5,21 @@ use Rattle.std.specs.Option.{option_or}
 use Rattle.rtcm_scan.specs.Frames.{Framed}
 use Rattle.rtcm_msg.specs.Station.{InRange}
 use Rattle.rtcm_msg.specs.declared.station.StationParts.{StationParts}
-use Rattle.obs_epoch.specs.Heard.{Heard, heard_in}
+use Rattle.obs_epoch.specs.Heard.{Heard}
 use Rattle.obs_epoch.specs.SignalCounts.{is_of_station}
+use Rattle.rtcm_inspect.specs.FirstTows.{AreTows, first_in}
+use Rattle.rtcm_inspect.specs.Inspected.{inspected_at}
 use Rattle.rtcm_inspect.specs.declared.first_messages.FirstMessages.{FirstMessages}
 use Rattle.rtcm_inspect.specs.declared.first_messages.Stations.{Stations}
 use Rattle.rtcm_inspect.specs.declared.first_messages.Stations.TheVariants.{Unknown, One, Several}
-
--- what the first message contains that has it
-abbrev pub first_in : {A : Type 0} → (Heard → Option A) → List Framed → Option A
-first_in has [] = None
-first_in has (f ∷ fs) = option_or (option_and_then has (heard_in f.message)) (first_in has fs)
 
 -- the content of a station message (1005 or 1006) of the wanted station; if none is given, of any station
 abbrev pub point_of : Option ℕ → Heard → Option StationParts
 point_of wanted m = if is_of_station wanted m then m.point else None
 
--- the time of week of an MSM of the wanted station; if none is given, of any station
-abbrev pub tow_of : Option ℕ → Heard → Option ℕ
-tow_of wanted m = if is_of_station wanted m then m.tow else None
-
 -- the content of the first station message in these frames
 abbrev pub first_station : Option ℕ → List Framed → Option StationParts
-first_station wanted fs = first_in (point_of wanted) fs
-
--- the time of week of the first MSM in them
-abbrev pub first_tow : Option ℕ → List Framed → Option ℕ
-first_tow wanted fs = first_in (tow_of wanted) fs
+first_station wanted fs = first_in inspected_at (point_of wanted) fs
 
 -- ---- stations
 
@@ -38,13 +27,9 @@ first_tow wanted fs = first_in (tow_of wanted) fs
 abbrev pub sender : Heard → Option ℕ
 sender m = if is_some m.tow || is_some m.point then m.station else None
 
-abbrev pub one_of : Option ℕ → List ℕ
-one_of None = []
-one_of (Some n) = n ∷ []
-
 -- the stations of the MSMs and station messages in these frames, in order
 abbrev pub stations_of : List Framed → List ℕ
-stations_of fs = filter_map (λ f. option_and_then sender (heard_in f.message)) fs
+stations_of fs = filter_map (λ f. option_and_then sender (inspected_at f.message)) fs
 
 -- none, one, or the first and the first other one
 abbrev pub with_other : ℕ → Option ℕ → Stations
@@ -70,6 +55,6 @@ mixed wanted fs = mixed_of wanted (stations_in (stations_of fs))
 -- x is what the first messages in these frames contain
 pub record AreFirst (x : FirstMessages) (wanted : Option ℕ) (fs : List Framed) : Type 0 where
   pub point : x.point ≡ first_station wanted fs
-  pub tow : x.tow ≡ first_tow wanted fs
+  pub tows : AreTows x.tows wanted fs
   pub stations : x.stations ≡ stations_in (stations_of fs)
   pub in_range : IfSome x.point InRange

@@ -1,14 +1,21 @@
 -- The options of `convert` that fit a stream.
-use Rattle.std.specs.Prelude.{ℕ, pos, List, [], ◌∷◌, ◌++◌, Option, Some, None, codes, decimal}
+use Rattle.std.specs.Prelude.{ℕ, pos, List, [], ◌∷◌, ◌++◌, Option, Some, None, codes, decimal, flat_map, if◌then◌else◌, length, nat_lt, Bool, not, ◌||◌, ◌&&◌}
 use Rattle.std.specs.List.{join_with_byte}
-use Rattle.gnss_system.specs.declared.system.System.TheVariants.{Gps, Galileo}
+use Rattle.gnss_system.specs.declared.system.System.{System}
+use Rattle.gnss_system.specs.declared.system.System.TheVariants.{Gps, Galileo, Glonass}
+use Rattle.gnss_system.specs.Satellites.{name_of}
+use Rattle.gnss_system.specs.Systems.{systems, is_system}
 use Rattle.rtcm_msg.specs.declared.station.StationParts.{StationParts}
+use Rattle.rtcm_msg.specs.declared.number.Forms.{Forms}
+use Rattle.rtcm_msg.specs.declared.number.Forms.TheVariants.{FourAndSeven, All}
 use Rattle.rtcm_scan.specs.Frames.{Framed}
-use Rattle.gnss_obs.specs.Values.{PlanValue}
+use Rattle.gnss_obs.specs.Values.{PlanValue, planned_of}
+use Rattle.gnss_obs.specs.Channels.{ChannelsValue}
+use Rattle.rtcm_inspect.specs.ChannelTexts.{channels_text}
 use Rattle.rtcm_inspect.specs.FirstMessages.{first_station}
-use Rattle.rtcm_inspect.specs.Lines.{line}
+use Rattle.rtcm_inspect.specs.Lines.{line, with_words}
 use Rattle.rtcm_inspect.specs.Metres.{metres}
-use Rattle.rtcm_inspect.specs.Signals.{codes_word, plan_had, valued_in}
+use Rattle.rtcm_inspect.specs.Signals.{codes_word, forms_had, plan_in}
 
 -- X, Y and Z in metres
 abbrev pub position_text : StationParts → List ℕ
@@ -32,25 +39,59 @@ abbrev pub station_words : Option StationParts → List (List ℕ)
 station_words None = []
 station_words (Some s) = position_word s ∷ antenna_words s.height
 
--- an option with a number and a blank, if there is a number
-abbrev pub number_start : List ℕ → Option ℕ → List ℕ
-number_start name None = []
-number_start name (Some n) = name ++ 0x20 ∷ (decimal n ++ 0x20 ∷ [])
-
 -- the words of this option
 abbrev pub number_words : List ℕ → Option ℕ → List (List ℕ)
 number_words name None = []
 number_words name (Some n) = name ∷ decimal n ∷ []
 
--- the line of the options with this week and this station that plan these signals, and of those with the values of this
--- station message
-unfoldable pub options_line : (week station : Option ℕ) → PlanValue → Option StationParts → List ℕ
-options_line week station p first =
+-- the channels in a text, if there is one
+abbrev pub channel_words : List ℕ → List (List ℕ)
+channel_words [] = []
+channel_words (b ∷ bs) = codes "--glonass-channels" ∷ (b ∷ bs) ∷ []
+
+-- of GLONASS the channels, and the leap seconds, if they are known
+abbrev pub further_words : (leap : Option ℕ) → ChannelsValue → System → List (List ℕ)
+further_words leap channels Glonass =
+    channel_words (channels_text channels) ++ number_words (codes "--leap-seconds") leap
+further_words leap channels other = []
+
+-- the signals of another system than GPS and Galileo, if there are some
+abbrev pub is_other : System → Bool
+is_other s = not (is_system s Gps || is_system s Galileo)
+
+abbrev pub other_words : (leap : Option ℕ) → PlanValue → System → List (List ℕ)
+other_words leap p s =
+    if is_other s && nat_lt 0 (length (planned_of s p))
+    then (codes "--" ++ name_of s) ∷ codes_word s (planned_of s p) ∷ further_words leap p.channels s
+    else []
+
+-- the forms, if they aren't the default
+abbrev pub forms_words : Forms → List (List ℕ)
+forms_words FourAndSeven = []
+forms_words All = codes "--msm" ∷ codes "all" ∷ []
+
+-- an option with a number and a blank, if there is a number
+abbrev pub number_start : List ℕ → Option ℕ → List ℕ
+number_start name None = []
+number_start name (Some n) = name ++ 0x20 ∷ (decimal n ++ 0x20 ∷ [])
+
+-- the first words of the options, up to the signals of Galileo
+abbrev pub first_words : (week station : Option ℕ) → PlanValue → List ℕ
+first_words week station p =
+    with_words ((number_start (codes "--week") week ++ number_start (codes "--station") station) ++ codes "--gps")
+    (codes_word Gps p.signals.gps ∷ codes "--galileo" ∷ codes_word Galileo p.signals.galileo ∷ [])
+
+-- the line of the options with this week, these leap seconds and this station that plan these signals in these forms,
+-- and of those with the values of this station message
+unfoldable pub options_line : (week leap station : Option ℕ) → PlanValue → Forms → Option StationParts → List ℕ
+options_line week leap station p forms first =
     line
     (number_words (codes "--week") week
     ++ (number_words (codes "--station") station
-    ++ codes "--gps" ∷ codes_word Gps p.gps ∷ codes "--galileo" ∷ codes_word Galileo p.galileo ∷ station_words first))
+    ++ codes "--gps" ∷ codes_word Gps p.signals.gps ∷ codes "--galileo" ∷ codes_word Galileo p.signals.galileo
+    ∷ (flat_map (other_words leap p) systems ++ (forms_words forms ++ station_words first))))
 
--- the output of `options` for these frames, with this week
-abbrev pub options_text : (week wanted : Option ℕ) → List Framed → List ℕ
-options_text week wanted fs = options_line week wanted (plan_had (valued_in wanted fs)) (first_station wanted fs)
+-- the output of `options` for these frames, with this week and these leap seconds
+abbrev pub options_text : (week leap wanted : Option ℕ) → List Framed → List ℕ
+options_text week leap wanted fs =
+    options_line week leap wanted (plan_in wanted fs) (forms_had wanted fs) (first_station wanted fs)

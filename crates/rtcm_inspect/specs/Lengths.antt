@@ -1,4 +1,4 @@
--- Lengths in metres, read from text in units of 0.0001 m.
+-- Lengths in metres, read from text in units of 0.0001 m, and intervals in seconds, in milliseconds.
 use Rattle.std.specs.Prelude.{ℕ, ℤ, pos, neg_ℤ, nat_le, nat_lt, ◌+◌, ◌-◌, ◌*◌, ◌^◌, ◌==◌, ◌&&◌, Bool, List, [], ◌∷◌, take, drop}
 use Rattle.std.specs.Prelude.{length, Option, Some, None, option_map, option_and_then, position}
 use Rattle.std.specs.Prelude.{if◌then◌else◌}
@@ -21,21 +21,31 @@ number_of most text = if nat_le 1 (length text) && nat_le (length text) most the
 abbrev pub cut : ℕ → List ℕ → Option (List ℕ × List ℕ)
 cut separator text = option_map (λ i. (take i text, drop (i + 1) text)) (position (λ b. b == separator) text)
 
--- one to four decimals, in units of 0.0001
-abbrev pub decimals_of : List ℕ → Option ℕ
-decimals_of text = option_map (λ n. n * 10 ^ (4 - length text)) (number_of 4 text)
+-- one to `most` decimals, in units of the last
+abbrev pub decimals_of : ℕ → List ℕ → Option ℕ
+decimals_of most text = option_map (λ n. n * 10 ^ (most - length text)) (number_of most text)
 
--- one to eight digits, and decimals after a point (0x2E), if there is one
-abbrev pub length_by : List ℕ → Option (List ℕ × List ℕ) → Option ℕ
-length_by text None = option_map (λ n. n * 10000) (number_of 8 text)
-length_by text (Some p) = option_and_then (λ n. option_map (λ d. n * 10000 + d) (decimals_of p.1)) (number_of 8 p.0)
+-- one to eight digits, and up to `most` decimals after a point (0x2E), if there is one
+abbrev pub fixed_by : ℕ → List ℕ → Option (List ℕ × List ℕ) → Option ℕ
+fixed_by most text None = option_map (λ n. n * 10 ^ most) (number_of 8 text)
+fixed_by most text (Some p) =
+    option_and_then (λ n. option_map (λ d. n * 10 ^ most + d) (decimals_of most p.1)) (number_of 8 p.0)
 
-abbrev pub length_of : List ℕ → Option ℕ
-length_of text = length_by text (cut 0x2E text)
+abbrev pub fixed_point : ℕ → List ℕ → Option ℕ
+fixed_point most text = fixed_by most text (cut 0x2E text)
 
 -- a length below a bound
 abbrev pub length_below : ℕ → List ℕ → Option ℕ
-length_below bound text = option_and_then (λ n. if nat_lt n bound then Some n else None) (length_of text)
+length_below bound text = option_and_then (λ n. if nat_lt n bound then Some n else None) (fixed_point 4 text)
+
+-- the greatest interval: a day
+abbrev pub longest_interval : ℕ
+longest_interval = 86400000
+
+-- an interval of at most a day, but not 0
+abbrev pub interval_of : List ℕ → Option ℕ
+interval_of text =
+    option_and_then (λ n. if nat_lt 0 n && nat_le n longest_interval then Some n else None) (fixed_point 3 text)
 
 -- the bytes after a first one, if the text begins with it
 abbrev pub after_byte : ℕ → List ℕ → Option (List ℕ)

@@ -9,8 +9,14 @@ pub mod ReadBack
 pub mod DateTexts
 pub mod Lengths
 pub mod Dates
+pub mod ChannelTexts
+pub mod LeapSeconds
 pub mod Checking
+pub mod Inspected
+pub mod FirstTows
+pub mod Gaps
 pub mod FirstMessages
+pub mod StreamChannels
 pub mod NearWeek
 pub mod Signals
 pub mod Fitting
@@ -21,3 +27,4 @@ pub mod Printing
 pub mod SignalLaws
 pub mod WeekLaws
 pub mod LengthLaws
+pub mod ChannelLaws

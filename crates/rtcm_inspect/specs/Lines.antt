@@ -36,6 +36,17 @@ longest_name = 10
 abbrev pub longest_option : ℕ
 longest_option = longest_name + 1 + longest_number + 1
 
+-- the most bytes of the option of the signals of a system, after a blank, and of it and the further options of GLONASS
+abbrev pub longest_codes : ℕ
+longest_codes = 72
+
+abbrev pub longest_plan : ℕ
+longest_plan = 300
+
+-- room for the line of the options of a conversion
+abbrev pub longest_options : ℕ
+longest_options = 2_816
+
 -- the words with single blanks between them and a line feed after the last
 abbrev pub line : List (List ℕ) → List ℕ
 line words = join_with_byte 0x20 words ++ 0x0A ∷ []

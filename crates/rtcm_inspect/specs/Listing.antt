@@ -1,29 +1,27 @@
 -- What a command that lists a stream's frames has read and written.
-use Rattle.std.specs.Prelude.{◌≡◌, ◌<◌, ◌≤◌, ℕ, Bool, true, List, ◌++◌, take, length, Option, Result, OnOk, OnErr, ⊤}
+use Rattle.std.specs.Prelude.{◌≡◌, ◌<◌, ◌≤◌, ℕ, Bool, true, false, List, ◌++◌, take, length, Option, Result, OnOk, OnErr, ⊤}
 use Rattle.std.specs.Prelude.{[]}
 use Rattle.std.specs.List.{flat_map}
 use Rattle.std.specs.Io.KnownBytes.{Appends, Consumes, IsAtEnd}
-use Rattle.rtcm_bits.specs.Device.{AppendsPrefix, Device, FailsWith, HasFailed}
+use Rattle.rtcm_bits.specs.Device.{AppendsPrefix, Device, FailsWith, HasFailed, IsBetween, IsUntouched, Moves}
 use Rattle.rtcm_bits.specs.declared.counted.DeviceFailed.{DeviceFailed}
 use Rattle.rtcm_scan.specs.Frames.{Framed, frames_of}
 use Rattle.rtcm_scan.specs.Decided.{decided_frames}
 use Rattle.rtcm_scan.specs.Known.{known_frames}
 use Rattle.rtcm_scan.specs.declared.framer.ScanFault.TheVariants as scan
-use Rattle.rtcm_inspect.specs.Devices.{IsBetween}
-use Rattle.rtcm_inspect.specs.Devices.{IsUntouched}
-use Rattle.rtcm_inspect.specs.Devices.{Moves}
 use Rattle.rtcm_inspect.specs.Devices.{Ends}
 use Rattle.rtcm_inspect.specs.declared.fault.InspectFault.{InspectFault}
 use Rattle.rtcm_inspect.specs.declared.fault.InspectFault.TheVariants as faults
 use Rattle.rtcm_inspect.specs.declared.listing.Listing.{Listing}
-use Rattle.rtcm_inspect.specs.declared.listing.Listing.TheVariants.{Frames, Messages}
+use Rattle.rtcm_inspect.specs.declared.listing.Listing.TheVariants.{Frames, Messages, AllMessages}
 use Rattle.rtcm_inspect.specs.FrameLines.{frame_line}
 use Rattle.rtcm_inspect.specs.ShowLines.{show_line}
 
 -- the line of a frame
 abbrev pub listing_line : Listing → Framed → List ℕ
 listing_line Frames f = frame_line f
-listing_line Messages f = show_line f
+listing_line Messages f = show_line false f
+listing_line AllMessages f = show_line true f
 
 -- the lines of frames, one after the other
 abbrev pub listing_lines : Listing → List Framed → List ℕ

@@ -1,23 +1,30 @@
 -- What the command `options` has read and written. The reader had r left and now has r', and the writer had written w
 -- and now has written w'. `near` is the noon of the given date.
-use Rattle.std.specs.Prelude.{◌≡◌, ◌⊎◌, ℕ, ◌<◌, List, [], length, Option, Some, None, Result}
+use Rattle.std.specs.Prelude.{◌≡◌, ◌⊎◌, ℕ, ◌<◌, List, [], length, option_map, Option, Some, None, Result}
 use Rattle.std.specs.Io.KnownBytes.{Appends, Consumes, IsAtEnd}
-use Rattle.rtcm_bits.specs.Device.{AppendsPrefix, Device}
+use Rattle.rtcm_bits.specs.Device.{AppendsPrefix, Device, Moves}
 use Rattle.rtcm_scan.specs.Frames.{Framed, frames_of}
-use Rattle.rtcm_inspect.specs.Devices.{Ends, IsDelivered, IsUnread, Moves}
-use Rattle.rtcm_inspect.specs.FirstMessages.{first_tow, mixed}
+use Rattle.rtcm_inspect.specs.Devices.{Ends, IsDelivered, IsUnread}
+use Rattle.rtcm_inspect.specs.FirstMessages.{mixed}
+use Rattle.rtcm_inspect.specs.FirstTows.{first_tow}
 use Rattle.rtcm_inspect.specs.Fitting.{options_text}
+use Rattle.rtcm_inspect.specs.LeapSeconds.{leap_at, leap_near}
 use Rattle.rtcm_inspect.specs.NearWeek.{IsWeekFor}
 use Rattle.rtcm_inspect.specs.SignalOutput.{StopsReading}
-use Rattle.rtcm_inspect.specs.Signals.{valued_in}
+use Rattle.rtcm_inspect.specs.Signals.{set_had, valued_in}
 use Rattle.rtcm_inspect.specs.declared.fault.InspectFault.{InspectFault}
 use Rattle.rtcm_inspect.specs.declared.fault.InspectFault.TheVariants as faults
 
--- The messages of one station count, one of their cells has a value, and the text is the line of the options that fit
--- these frames.
+-- the text is the line of the options that fit these frames
+abbrev pub IsDatedLine : (near wanted : Option ℕ) → List Framed → List ℕ → Type 0
+IsDatedLine near wanted fs text =
+    (w : Option ℕ) × IsWeekFor near (first_tow (leap_near near) (set_had wanted fs) wanted fs) w
+    × (text ≡ options_text w (option_map leap_at near) wanted fs)
+
+-- The messages of one station count, one of their cells has a value, and the text is that line.
 abbrev pub AreOptionsOf : (near wanted : Option ℕ) → List Framed → List ℕ → Type 0
-AreOptionsOf near wanted fs text = (mixed wanted fs ≡ None) × (0 < length (valued_in wanted fs))
-    × ((w : Option ℕ) × IsWeekFor near (first_tow wanted fs) w × (text ≡ options_text w wanted fs))
+AreOptionsOf near wanted fs text =
+    (mixed wanted fs ≡ None) × (0 < length (valued_in wanted fs)) × IsDatedLine near wanted fs text
 
 -- The messages of several stations count, of which these are the first two; or of one, and no cell has a value.
 abbrev pub AreOptionsRefused : Option ℕ → List Framed → InspectFault → Type 0

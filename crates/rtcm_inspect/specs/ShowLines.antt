@@ -1,17 +1,19 @@
 -- The lines of `show`.
-use Rattle.std.specs.Prelude.{ℕ, pos, List, [], ◌∷◌, Option, Some, None, Result, Ok, Err, is_some, count_ones, codes}
-use Rattle.std.specs.Prelude.{decimal, if◌then◌else◌}
+use Rattle.std.specs.Prelude.{ℕ, Bool, true, false, pos, List, [], ◌∷◌, Option, Some, None, Result, Ok, Err, is_some, count_ones, codes}
+use Rattle.std.specs.Prelude.{decimal, if◌then◌else◌, ◌+◌, ◌*◌, ◌/◌, ◌%◌, ◌^◌}
 use Rattle.std.specs.List.{flat_map}
+use Rattle.gnss_system.specs.declared.system.System.{System}
+use Rattle.gnss_system.specs.declared.system.System.TheVariants.{Glonass}
 use Rattle.rtcm_bits.specs.Bits.{bit}
 use Rattle.rtcm_scan.specs.Frames.{Framed}
 use Rattle.rtcm_msg.specs.declared.fault.MsgFault.{MsgFault}
 use Rattle.rtcm_msg.specs.declared.fault.MsgFault.TheVariants.{Short, TooManyCells, BadTime}
 use Rattle.rtcm_msg.specs.declared.message.Message.{Message}
-use Rattle.rtcm_msg.specs.declared.message.Message.TheVariants.{Station, Msm4, Msm7, Other}
+use Rattle.rtcm_msg.specs.declared.message.Message.TheVariants.{Station, Msm4, Msm5, Msm6, Msm7, Other}
 use Rattle.rtcm_msg.specs.declared.station.StationParts.{StationParts}
 use Rattle.rtcm_msg.specs.Msm.{MsmValue}
-use Rattle.rtcm_msg.specs.Decoding.{message_at}
-use Rattle.rtcm_msg.specs.Numbers.{message_number}
+use Rattle.rtcm_msg.specs.Decoding.{message_at, message_with}
+use Rattle.rtcm_msg.specs.Numbers.{default_set, message_number}
 use Rattle.rtcm_msg.specs.declared.view.Form.TheVariants as forms
 use Rattle.rtcm_inspect.specs.FrameLines.{number_word}
 use Rattle.rtcm_inspect.specs.Lines.{line}
@@ -29,12 +31,18 @@ station_line offset s =
     (decimal offset ∷ decimal (if is_some s.height then 1006 else 1005) ∷ decimal s.station ∷ metres s.x
     ∷ metres s.y ∷ metres s.z ∷ height_words s.height)
 
+-- an epoch time of a system in ms of its week: of GLONASS a day of the week (DF416) and a time of day (DF034) in 27 bits
+abbrev pub time_of_week : System → ℕ → ℕ
+time_of_week Glonass time = 86_400_000 * (time / 2 ^ 27) + time % 2 ^ 27
+time_of_week system time = time
+
 -- an MSM: offset, number, station (DF003), time (ms of the week), DF393, and the numbers of satellites, signals and
 -- cells
 unfoldable pub msm_line : ℕ → ℕ → MsmValue → List ℕ
 msm_line offset number m =
     line
-    (decimal offset ∷ decimal number ∷ decimal m.header.station ∷ decimal m.header.time
+    (decimal offset ∷ decimal number ∷ decimal m.header.station
+    ∷ decimal (time_of_week m.system m.header.time)
     ∷ decimal (bit m.header.more)
     ∷ decimal (count_ones m.sets.satellites) ∷ decimal (count_ones m.sets.signals) ∷ decimal (count_ones m.sets.cells)
     ∷ [])
@@ -52,14 +60,21 @@ fault_line offset message fault = line (decimal offset ∷ number_word message �
 abbrev pub read_line : Framed → Result Message MsgFault → List ℕ
 read_line f (Ok (Station s)) = station_line f.offset s
 read_line f (Ok (Msm4 m)) = msm_line f.offset (message_number forms.Msm4 m.system) m
+read_line f (Ok (Msm5 m)) = msm_line f.offset (message_number forms.Msm5 m.system) m
+read_line f (Ok (Msm6 m)) = msm_line f.offset (message_number forms.Msm6 m.system) m
 read_line f (Ok (Msm7 m)) = msm_line f.offset (message_number forms.Msm7 m.system) m
 read_line f (Ok (Other n set)) = []
 read_line f (Err fault) = fault_line f.offset f.message fault
 
+-- a message as it is read: of all messages, or of those that `convert` reads by default
+abbrev pub read_for : (all : Bool) → List ℕ → Result Message MsgFault
+read_for true bytes = message_at bytes
+read_for false bytes = message_with default_set bytes
+
 -- the line of a frame
-unfoldable pub show_line : Framed → List ℕ
-show_line f = read_line f (message_at f.message)
+unfoldable pub show_line : (all : Bool) → Framed → List ℕ
+show_line all f = read_line f (read_for all f.message)
 
 -- the lines of frames, one after the other
-abbrev pub show_lines : List Framed → List ℕ
-show_lines fs = flat_map show_line fs
+abbrev pub show_lines : (all : Bool) → List Framed → List ℕ
+show_lines all fs = flat_map (show_line all) fs

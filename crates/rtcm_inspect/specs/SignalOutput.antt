@@ -2,11 +2,10 @@
 -- had written w and now has written w'. `text` is the output for the frames of a stream, for one station or for all.
 use Rattle.std.specs.Prelude.{◌≡◌, ◌⊎◌, ℕ, ◌<◌, List, [], length, Option, Result}
 use Rattle.std.specs.Io.KnownBytes.{Appends, Consumes, IsAtEnd}
-use Rattle.rtcm_bits.specs.Device.{AppendsPrefix, Device}
+use Rattle.rtcm_bits.specs.Device.{AppendsPrefix, Device, Moves}
 use Rattle.rtcm_scan.specs.Frames.{Framed, frames_of}
 use Rattle.rtcm_scan.specs.Scan.{most_bytes}
 use Rattle.rtcm_scan.specs.declared.framer.ScanFault.TheVariants as scan
-use Rattle.rtcm_inspect.specs.Devices.{Moves}
 use Rattle.rtcm_inspect.specs.Devices.{Ends, IsDelivered, IsUnread}
 use Rattle.rtcm_inspect.specs.declared.fault.InspectFault.{InspectFault}
 use Rattle.rtcm_inspect.specs.declared.fault.InspectFault.TheVariants as faults

@@ -1,25 +1,39 @@
 -- The signals of a stream, and their texts.
 use Rattle.std.specs.Prelude.{ℕ, nat_lt, List, [], ◌∷◌, ◌++◌, map, filter, flat_map, length, codes, decimal, Option}
+use Rattle.std.specs.Prelude.{Bool, true, false, not, ◌&&◌, ◌||◌, Result, Ok, Err, if◌then◌else◌}
 use Rattle.std.specs.Option.{option_map_or}
-use Rattle.std.specs.List.{join_with_byte}
+use Rattle.std.specs.List.{join_with_byte, list_any}
 use Rattle.rtcm_scan.specs.Frames.{Framed}
 use Rattle.gnss_system.specs.declared.system.System.{System}
-use Rattle.gnss_system.specs.Systems.{systems}
+use Rattle.gnss_system.specs.declared.system.System.TheVariants.{Gps, Galileo}
+use Rattle.gnss_system.specs.Systems.{is_system, systems}
 use Rattle.gnss_system.specs.SystemValues.{tabulate}
 use Rattle.gnss_system.specs.Satellites.{letter}
 use Rattle.gnss_system.specs.Signals.{SignalAt, table, code_of}
-use Rattle.obs_epoch.specs.Heard.{heard_in}
-use Rattle.obs_epoch.specs.SignalCounts.{valued, count_of, signal_in}
-use Rattle.gnss_obs.specs.Plans.{below}
-use Rattle.gnss_obs.specs.Values.{PlanValue}
+use Rattle.rtcm_msg.specs.declared.fault.MsgFault.{MsgFault}
+use Rattle.rtcm_msg.specs.declared.message.Message.{Message}
+use Rattle.rtcm_msg.specs.declared.message.Message.TheVariants.{Station, Msm4, Msm5, Msm6, Msm7, Other}
+use Rattle.rtcm_msg.specs.declared.view.Form.TheVariants as form
+use Rattle.rtcm_msg.specs.declared.number.Forms.{Forms}
+use Rattle.rtcm_msg.specs.declared.number.Forms.TheVariants.{FourAndSeven, All}
+use Rattle.rtcm_msg.specs.declared.number.MsmSet.{MsmSet}
+use Rattle.rtcm_msg.specs.Numbers.{have_form}
+use Rattle.rtcm_msg.specs.Decoding.{message_at}
+use Rattle.obs_epoch.specs.Sets.{set_of}
+use Rattle.obs_epoch.specs.SignalCounts.{SignalCountsValue, valued, count_of, counted, signal_in}
+use Rattle.gnss_obs.specs.Plans.{below, with_channels}
+use Rattle.gnss_obs.specs.Channels.{ChannelsValue}
+use Rattle.gnss_obs.specs.Values.{PlanValue, plan_with}
+use Rattle.rtcm_inspect.specs.Inspected.{inspected, inspected_at}
 use Rattle.rtcm_inspect.specs.Lines.{line}
+use Rattle.rtcm_inspect.specs.StreamChannels.{channels_in}
 use Rattle.gnss_obs.specs.HeardCells.{HeardCell}
 
 -- ---- the cells that count
 
 -- the cells of a frame that have a value and are of listed satellites and signals; the message may be refused
 abbrev pub valued_of : Option ℕ → Framed → List HeardCell
-valued_of wanted f = option_map_or (valued wanted) (heard_in f.message) []
+valued_of wanted f = option_map_or (valued wanted) (inspected_at f.message) []
 
 -- the same for a list of frames in order, regardless of their times
 abbrev pub valued_in : Option ℕ → List Framed → List HeardCell
@@ -34,9 +48,50 @@ had_below cells system n = filter (λ i. nat_lt 0 (count_of (signal_in system i)
 abbrev pub had : List HeardCell → System → List ℕ
 had cells system = had_below cells system (length (table system))
 
--- the plan of these signals, in the order of the tables
-abbrev pub plan_had : List HeardCell → PlanValue
-plan_had cells = tabulate (had cells)
+-- the plan of these signals, in the order of the tables, with these channels if GLONASS has a signal
+abbrev pub plan_had : List HeardCell → ChannelsValue → PlanValue
+plan_had cells channels = with_channels (plan_with (tabulate (had cells))) channels
+
+-- the plan of the signals and channels of these frames
+abbrev pub plan_in : Option ℕ → List Framed → PlanValue
+plan_in wanted fs = plan_had (valued_in wanted fs) (channels_in wanted fs)
+
+-- ---- the forms of their messages
+
+-- an MSM of another form than these
+abbrev pub is_of_other : Forms → Message → Bool
+is_of_other forms (Msm4 m) = not (have_form forms form.Msm4)
+is_of_other forms (Msm5 m) = not (have_form forms form.Msm5)
+is_of_other forms (Msm6 m) = not (have_form forms form.Msm6)
+is_of_other forms (Msm7 m) = not (have_form forms form.Msm7)
+is_of_other forms other = false
+
+-- it has a cell that counts
+abbrev pub has_other_value : Forms → Option ℕ → Message → Bool
+has_other_value forms wanted m = is_of_other forms m && nat_lt 0 (length (valued wanted (inspected m)))
+
+-- the forms with that of one more message
+abbrev pub with_forms : Forms → Option ℕ → Message → Forms
+with_forms forms wanted m = if has_other_value forms wanted m then All else forms
+
+abbrev pub needs_all : Option ℕ → Result Message MsgFault → Bool
+needs_all wanted (Ok m) = has_other_value FourAndSeven wanted m
+needs_all wanted (Err e) = false
+
+-- the forms of these frames: all, if a cell that counts is of MSM5 or MSM6
+abbrev pub forms_had : Option ℕ → List Framed → Forms
+forms_had wanted fs = if list_any (λ f. needs_all wanted (message_at f.message)) fs then All else FourAndSeven
+
+-- the MSMs that a conversion decodes with the plan of their signals, in their forms
+abbrev pub set_had : Option ℕ → List Framed → MsmSet
+set_had wanted fs = set_of (plan_in wanted fs) (forms_had wanted fs)
+
+-- by the counts: whether a signal of a system has a cell, and whether its MSMs are decoded
+abbrev pub has_counted : SignalCountsValue → System → Bool
+has_counted c s = list_any (λ i. nat_lt 0 (counted c s i)) (below (length (table s)))
+
+abbrev pub decodes : SignalCountsValue → System → Bool
+decodes c s = is_system s Gps || is_system s Galileo || has_counted c s
 
 -- ---- the text
 

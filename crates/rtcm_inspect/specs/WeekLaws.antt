@@ -3,10 +3,11 @@ use Rattle.std.specs.Prelude.{◌≡◌, ◌↔◌, ℕ, ◌+◌, ◌*◌, ◌<�
 use Rattle.std.specs.Option.{option_or}
 use Rattle.gnss_obs.specs.Weeks.{week, weeks}
 use Rattle.rtcm_scan.specs.Frames.{Framed}
+use Rattle.rtcm_msg.specs.declared.number.MsmSet.{MsmSet}
 use Rattle.obs_epoch.specs.Heard.{GatherSetup, heard_in}
 use Rattle.obs_epoch.specs.Times.{Timed, timed}
 use Rattle.rtcm_inspect.specs.Dates.{IsWeekOf}
-use Rattle.rtcm_inspect.specs.FirstMessages.{first_tow}
+use Rattle.rtcm_inspect.specs.FirstTows.{first_tow}
 use Rattle.rtcm_inspect.specs.NearWeek.{IsNearestWeek, IsWeekNear, half_week}
 
 -- from 1980-01-09 12:00 on exactly one week is the nearest
@@ -27,8 +28,9 @@ abbrev pub first_time : List Timed → Option ℕ
 first_time [] = None
 first_time (x ∷ xs) = option_or x.time (first_time xs)
 
--- a conversion accepts the first MSM of the station, or of any, and its time is in the start week
+-- a conversion that decodes the MSMs of a set accepts the first one of the station, or of any, and its time is in the
+-- start week
 abbrev pub IsDatedByWeek : Type 0
-IsDatedByWeek = (s : GatherSetup) (fs : List Framed) (tow : ℕ) → s.start_week < weeks → tow < week
-    → first_tow s.station fs ≡ Some tow
-    → first_time (timed s (filter_map (λ f. heard_in f.message) fs)) ≡ Some (s.start_week * week + tow)
+IsDatedByWeek = (set : MsmSet) (s : GatherSetup) (fs : List Framed) (tow : ℕ) → s.start_week < weeks → tow < week
+    → first_tow s.leap set s.station fs ≡ Some tow
+    → first_time (timed s (filter_map (λ f. heard_in s.plan.channels s.leap set f.message) fs)) ≡ Some (s.start_week * week + tow)

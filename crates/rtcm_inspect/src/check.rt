@@ -3,7 +3,8 @@ ghost use Rattle.std.specs.Prelude.{◌≡◌, ◌≤◌, length};
 ghost use Rattle.rinex_file.specs.Blocks.{LeavesRest};
 ghost use Rattle.rinex_file.specs.Counting.{AreCounts};
 ghost use Rattle.rinex_file.specs.Value.{FileValue};
-ghost use Rattle.rtcm_inspect.specs.Devices.{Ends, Moves};
+ghost use Rattle.rtcm_inspect.specs.Devices.{Ends};
+ghost use Rattle.rtcm_bits.specs.Device.{Moves};
 ghost use Rattle.rtcm_inspect.specs.Checking.{AcceptsFiles, AreLinesOf, ChecksFile, ChecksTimes, IsLineOf};
 ghost use Rattle.rtcm_inspect.specs.Checking.{StopsChecking, StopsCheckingTimes, check_line};
 
@@ -84,7 +85,7 @@ pub fn run_check_times<R: Read, W: Deliver>(
 }
 
 /// Returns the line of the counts of a file.
-fn counts_line(counts: &Counts) -> OutputLine
+pub(crate) fn counts_line(counts: &Counts) -> OutputLine
     ensures line { (v : FileValue) → AreCounts counts.now v → result ≡ check_line v }
     ensures short { length result ≤ 100 }
 {

@@ -1,14 +1,21 @@
 //! The signals of a stream, counted while it is read.
-ghost use Rattle.std.specs.Prelude.{IfOk, IfErr};
+ghost use Rattle.std.specs.Prelude.{◌≡◌, IfOk, IfErr, length, nat_lt};
+ghost use Rattle.rtcm_msg.specs.Viewed.{viewed_message};
+ghost use Rattle.obs_epoch.specs.SignalCounts.{valued};
+ghost use Rattle.rtcm_inspect.specs.Inspected.{inspected};
+ghost use Rattle.rtcm_inspect.specs.Signals.{with_forms};
 ghost use Rattle.rtcm_inspect.specs.Counting.{HasCounted, StopsCounting};
 ghost use Rattle.rtcm_inspect.specs.Devices.{CountsReader};
 
 use crate::fault::InspectFault;
-use crate::first_messages::FirstMessages;
+use crate::first_messages::{FirstMessages, is_of_other};
 use crate::listing::PIECE_BYTES;
+use crate::stream_channels::{with_1020, with_channels};
+use gnss_obs::Channels;
 use obs_epoch::SignalCounts;
 use rtcm_bits::{Counted, DeviceFailed};
-use rtcm_msg::look;
+use rtcm_msg::laws::message_sets;
+use rtcm_msg::{Forms, View, look};
 use rtcm_scan::{Frame, FrameSink, Framer, MOST_BYTES, ScanFault, laws};
 use std::alloc::Global;
 use std::io::Read;
@@ -20,6 +27,10 @@ pub struct StreamSignals {
     pub station: Option<u16>,
     /// The number of cells of each signal that have a value.
     pub signal_counts: SignalCounts,
+    /// The forms of the MSMs of these cells: all, if one is an MSM5 or MSM6.
+    pub forms: Forms,
+    /// The channels of GLONASS satellites: the first ones that the messages have.
+    pub channels: Channels,
     /// What the first messages contain.
     pub first: FirstMessages,
 }
@@ -35,10 +46,15 @@ impl FrameSink<()> for StreamSignals {
 
     /// Counts the cells of the frame's message, and keeps what it contains if it is a first one.
     fn take(&mut self, frame: &Frame, _out: &mut ()) -> Result<(), DeviceFailed> {
-        match look(frame.message.as_slice()) {
+        message_sets();
+        let message = frame.message.as_slice();
+        self.channels = with_1020(self.channels, message);
+        match &look(message) {
             Ok(view) => {
-                self.signal_counts.count_view(self.station, &view);
-                self.first = self.first.with(self.station, &view);
+                self.signal_counts.count_view(self.station, view);
+                self.forms = with_forms(self.forms, self.station, view);
+                self.channels = with_channels(self.channels, self.station, view);
+                self.first.add(self.station, view);
                 Ok(())
             }
             // A refused message has no cells.
@@ -49,6 +65,28 @@ impl FrameSink<()> for StreamSignals {
     fn send(&self, _out: &mut ()) -> Result<(), DeviceFailed> {
         Ok(())
     }
+}
+
+/// Returns the forms after one more message: all, if it is an MSM in another form, and has a cell
+/// with a value.
+fn with_forms(forms: Forms, station: Option<u16>, view: &View<'_>) -> Forms
+    ensures { result ≡ with_forms forms station (viewed_message view.now) }
+{
+    if is_of_other(forms, view) && has_value(station, view) {
+        Forms::All
+    } else {
+        forms
+    }
+}
+
+/// Returns whether a cell of a message of this station has a value; if none is given, of any.
+#[inline(never)]
+fn has_value(station: Option<u16>, view: &View<'_>) -> bool
+    ensures { result ≡ nat_lt 0 (length (valued station (inspected (viewed_message view.now)))) }
+{
+    let mut signal_counts = SignalCounts::new();
+    signal_counts.count_view(station, view);
+    signal_counts.has_any()
 }
 
 /// Counts the signals of a stream of at most 2^48 bytes that have a cell with a value, for one
@@ -75,6 +113,8 @@ pub fn read_signals<R: Read>(
     let mut signals = StreamSignals {
         station,
         signal_counts: SignalCounts::new(),
+        forms: Forms::FourAndSeven,
+        channels: Channels::none(),
         first: FirstMessages::new(),
     };
     let mut buffer = [0; PIECE_BYTES];

@@ -1,8 +1,8 @@
 //! The names of faults, and what they carry, as words of a line.
-ghost use Rattle.std.specs.Prelude.{◌≡◌, ◌+◌, ◌≤◌, [], ◌∷◌, decimal, length};
+ghost use Rattle.std.specs.Prelude.{◌≡◌, ◌+◌, ◌≤◌, [], ◌∷◌, decimal, length, map, option_to_list};
 ghost use Rattle.gnss_system.specs.Satellites.{letter};
 ghost use Rattle.rinex_file.specs.Texts.{field_name};
-ghost use Rattle.rtcm_inspect.specs.FaultWords.{file_words, header_words, inspection_words, named};
+ghost use Rattle.rtcm_inspect.specs.FaultWords.{file_words, header_words, inspection_words};
 ghost use Rattle.rtcm_inspect.specs.FaultWords.{plan_words, scan_word};
 ghost use Rattle.rtcm_inspect.specs.Lines.{longest_error, longest_fault, longest_fault_name, longest_start, with_words};
 
@@ -70,7 +70,7 @@ pub fn add_plan_error(line: &mut OutputLine, fault: PlanFault)
 
 /// Returns the name of a fault of a file, and the number of the line.
 fn file_name(fault: ReadFault) -> (&'static str, Option<u64>)
-    ensures words { file_words fault ≡ named result.0.now result.1 }
+    ensures words { file_words fault ≡ result.0.now ∷ map decimal (option_to_list result.1) }
     ensures short { length result.0.now ≤ longest_fault_name }
 {
     match fault {

@@ -1,14 +1,18 @@
 //! What the first messages of a stream contain.
-ghost use Rattle.std.specs.Prelude.{◌≡◌, ◌∷◌, ◌++◌, [], ℕ, List, Option, IfSome, Ok};
+ghost use Rattle.std.specs.Option.{option_or};
+ghost use Rattle.std.specs.Prelude.{◌≡◌, ◌<◌, ◌^◌, ◌∷◌, ◌++◌, [], ℕ, List, Option, IfSome, Ok, length, option_to_list};
 ghost use Rattle.rtcm_msg.specs.Decoding.{message_at};
 ghost use Rattle.rtcm_msg.specs.Station.{InRange};
 ghost use Rattle.rtcm_msg.specs.Viewed.{viewed_message};
 ghost use Rattle.rtcm_scan.specs.Frames.{Framed};
-ghost use Rattle.obs_epoch.specs.Heard.{heard};
-ghost use Rattle.rtcm_inspect.specs.FirstMessages.{AreFirst, mixed_of, one_of, point_of, sender};
-ghost use Rattle.rtcm_inspect.specs.FirstMessages.{stations_in, tow_of};
+ghost use Rattle.rtcm_inspect.specs.FirstMessages.{AreFirst, mixed_of, point_of, sender};
+ghost use Rattle.rtcm_inspect.specs.FirstMessages.{stations_in};
+ghost use Rattle.rtcm_inspect.specs.Inspected.{inspected};
+ghost use Rattle.rtcm_inspect.specs.Signals.{is_of_other};
+ghost use Rattle.rtcm_inspect.specs.FirstMessages as first;
 
-use rtcm_msg::{StationParts, View};
+use crate::first_tows::FirstTows;
+use rtcm_msg::{Forms, StationParts, View};
 
 /// The stations of a stream's MSMs and station messages.
 #[derive(Clone, Copy)]
@@ -24,7 +28,7 @@ pub enum Stations {
 impl Stations {
     /// Returns the stations after one more message, of this station if it has one.
     pub fn with(self, station: Option<u16>) -> Stations
-        ensures { (ns : List ℕ) → self ≡ stations_in ns → result ≡ stations_in (ns ++ one_of station) }
+        ensures { (ns : List ℕ) → self ≡ stations_in ns → result ≡ stations_in (ns ++ option_to_list station) }
     {
         match (self, station) {
             (same, None) => same,
@@ -52,8 +56,8 @@ impl Stations {
 pub struct FirstMessages {
     /// The content of the first station message of the wanted station.
     pub point: Option<StationParts>,
-    /// The time of week of its first MSM, in milliseconds.
-    pub tow: Option<u32>,
+    /// The times of week of its first MSMs.
+    pub tows: FirstTows,
     /// The stations of all MSMs and station messages.
     pub stations: Stations,
 }
@@ -65,27 +69,35 @@ impl FirstMessages {
     {
         FirstMessages {
             point: None,
-            tow: None,
+            tows: FirstTows::new(),
             stations: Stations::Unknown,
         }
     }
 
-    /// Returns what is known after one more message.
-    pub fn with(self, wanted: Option<u16>, view: &View<'_>) -> FirstMessages
+    /// Adds one more message.
+    pub fn add(&mut self, wanted: Option<u16>, view: &View<'_>)
         ensures { (fs : List Framed) (f : Framed) → message_at f.message ≡ Ok (viewed_message view.now)
-            → AreFirst self wanted fs → AreFirst result wanted (fs ++ f ∷ []) }
+            → length fs < 2 ^ 56 → AreFirst self.old wanted fs → AreFirst self.new wanted (fs ++ f ∷ []) }
     {
-        FirstMessages {
-            point: self.point.or(point_of(wanted, view)),
-            tow: self.tow.or(tow_of(wanted, view)),
-            stations: self.stations.with(sender(view)),
-        }
+        add_point(&mut self.point, wanted, view);
+        self.tows.add(wanted, view);
+        self.stations = self.stations.with(sender(view));
+    }
+}
+
+/// Keeps the content of a station message, unless that of an earlier one is known.
+fn add_point(known: &mut Option<StationParts>, wanted: Option<u16>, view: &View<'_>)
+    ensures value { known.new ≡ option_or known.old (point_of wanted (inspected (viewed_message view.now))) }
+    ensures in_range { IfSome known.old InRange → IfSome known.new InRange }
+{
+    if known.is_none() {
+        *known = point_of(wanted, view);
     }
 }
 
 /// Returns the content of a station message of the wanted station; if none is given, of any.
 fn point_of(wanted: Option<u16>, view: &View<'_>) -> Option<StationParts>
-    ensures value { result ≡ point_of wanted (heard (viewed_message view.now)) }
+    ensures value { result ≡ point_of wanted (inspected (viewed_message view.now)) }
     ensures in_range { IfSome result InRange }
 {
     match view {
@@ -97,22 +109,19 @@ fn point_of(wanted: Option<u16>, view: &View<'_>) -> Option<StationParts>
     }
 }
 
-/// Returns the time of week of an MSM of the wanted station; if none is given, of any.
-fn tow_of(wanted: Option<u16>, view: &View<'_>) -> Option<u32>
-    ensures { result ≡ tow_of wanted (heard (viewed_message view.now)) }
+/// Returns whether a message is an MSM in another form than these.
+pub fn is_of_other(forms: Forms, view: &View<'_>) -> bool
+    ensures { result ≡ is_of_other forms (viewed_message view.now) }
 {
     match view {
-        View::Msm(message) => {
-            let header = message.header();
-            (wanted.unwrap_or(header.station) == header.station).then_some(header.time)
-        }
-        _ => None,
+        View::Msm(message) => !forms.have(message.form()),
+        _ => false,
     }
 }
 
 /// Returns the station of an MSM or a station message.
 fn sender(view: &View<'_>) -> Option<u16>
-    ensures { result ≡ sender (heard (viewed_message view.now)) }
+    ensures { result ≡ sender (inspected (viewed_message view.now)) }
 {
     match view {
         View::Station(message) => Some(message.parts().station),

@@ -2,8 +2,9 @@
 ghost use Rattle.std.specs.Prelude.{List, ℕ};
 ghost use Rattle.rtcm_msg.specs.declared.message.Message.{Message};
 ghost use Rattle.rtcm_inspect.specs.ReadBack.{AreKnown, AreEncoded, ReadsBack};
-ghost use Rattle.rtcm_inspect.specs.SignalLaws.{LeavesNoneOut, AreReadAsPlan, SkipsNoValue};
+ghost use Rattle.rtcm_inspect.specs.SignalLaws.{LeavesNoneOut, LosesNone, AreReadAsPlan, SkipsNoValue};
 ghost use Rattle.rtcm_inspect.specs.WeekLaws.{AreWeeksRead, HasOneWeek, IsDatedByWeek, IsNearestPrinted};
+ghost use Rattle.rtcm_inspect.specs.ChannelLaws.{AreChannelsRead, HasChannels};
 ghost use Rattle.rtcm_inspect.specs.LengthLaws.{AreHeightsRead, ArePositionsRead};
 
 /// Every list of messages of known layouts has encodings. For every choice of these, their frames,
@@ -22,19 +23,22 @@ pub fn read_back()
 
 /// The lists that `run_options` prints are read as the plan of the signals that they name. A
 /// conversion with this plan has a column for each value of a listed satellite and signal, and
-/// counts as `skipped` only unlisted cells and cells without a value.
+/// counts as `skipped` only unlisted cells and cells without a value, in any forms. In the printed
+/// forms it reads every cell with a value.
 pub fn signals()
     ensures columns { LeavesNoneOut }
     ensures read { AreReadAsPlan }
     ensures skips { SkipsNoValue }
+    ensures all { LosesNone }
 {
     gnss_obs::laws::signal_tables();
+    rtcm_msg::laws::message_sets();
 }
 
 /// The week that `run_options` prints for a date. From 1980-01-09 on exactly one week puts a time
 /// of week at most half a week before noon, or less than half a week after it, and it is printed if
 /// it is one from 0 to 99,999. The printed number is read as this week, and a conversion with a
-/// start week gives the first MSM, of the station or of any, its time in that week.
+/// start week gives the first MSM that it decodes, of the station or of any, its time in that week.
 pub fn near()
     ensures one { HasOneWeek }
     ensures printed { IsNearestPrinted }
@@ -47,4 +51,10 @@ pub fn near()
 pub fn lengths()
     ensures positions { ArePositionsRead }
     ensures heights { AreHeightsRead }
+{}
+
+/// The channels that `run_options` prints for a stream are read as these, for every stream.
+pub fn channels()
+    ensures read { AreChannelsRead }
+    ensures some { HasChannels }
 {}

@@ -1,5 +1,5 @@
 //! The commands `frames` and `show`: a line for each frame, or for each message, of a stream.
-ghost use Rattle.std.specs.Prelude.{◌≡◌, ◌+◌, ◌≤◌, ◌∷◌, ◌++◌, length};
+ghost use Rattle.std.specs.Prelude.{◌≡◌, ◌+◌, ◌≤◌, ◌∷◌, ◌++◌, true, false, length};
 ghost use Rattle.rtcm_bits.specs.FrameOf.{longest_message};
 ghost use Rattle.rtcm_scan.specs.Results.{framed};
 ghost use Rattle.rtcm_scan.specs.Scan.{most_bytes};
@@ -8,13 +8,17 @@ ghost use Rattle.rtcm_msg.specs.Numbers.{message_number};
 ghost use Rattle.rtcm_inspect.specs.FrameLines.{frame_line, frame_lines, number_word};
 ghost use Rattle.rtcm_inspect.specs.Lines.{longest_number, longest_prefix, with_words};
 ghost use Rattle.rtcm_inspect.specs.ShowLines.{fault_words, height_words};
-ghost use Rattle.rtcm_inspect.specs.ShowLines.{msm_line, show_line, show_lines, station_line};
+ghost use Rattle.rtcm_msg.specs.Fields.{GivesViewed};
+ghost use Rattle.rtcm_msg.specs.Viewed.{viewed_message};
+ghost use Rattle.rtcm_inspect.specs.ShowLines.{read_for};
+ghost use Rattle.rtcm_inspect.specs.ShowLines.{msm_line, show_line, show_lines, station_line, time_of_week};
 ghost use Rattle.rtcm_inspect.specs.Listing.{EndsListing, listing_line, listing_lines};
 
 use crate::fault::InspectFault;
 use crate::line::OutputLine;
+use gnss_system::System;
 use rtcm_bits::{BitReader, Counted, Deliver, DeviceFailed};
-use rtcm_msg::{MsgFault, MsmView, StationParts, View, look};
+use rtcm_msg::{MsgFault, MsmSet, MsmView, StationParts, View, look, look_in};
 use rtcm_scan::{Frame, FrameSink, Framer, MOST_BYTES, ScanFault, laws};
 use std::alloc::Global;
 use std::io::Read;
@@ -27,8 +31,11 @@ pub const PIECE_BYTES: usize = 65_536;
 pub enum Listing {
     /// A line for each frame.
     Frames,
-    /// A line for each message that is read or refused.
+    /// A line for each message that `convert` reads or refuses by default: of MSMs, MSM4 and MSM7 of
+    /// GPS and Galileo.
     Messages,
+    /// A line for each message that is read or refused.
+    AllMessages,
 }
 
 impl<W: Deliver> FrameSink<Counted<W>> for Listing {
@@ -61,7 +68,9 @@ fn add_line(line: &mut OutputLine, listing: Listing, frame: &Frame)
 {
     match listing {
         Listing::Frames => add_frame(line, frame),
-        Listing::Messages => add_message(line, frame),
+        Listing::Messages | Listing::AllMessages => {
+            add_message(line, matches!(listing, Listing::AllMessages), frame);
+        }
     }
 }
 
@@ -82,8 +91,8 @@ pub fn run_frames<R: Read, W: Deliver>(
     list(alloc, Listing::Frames, MOST_BYTES, reader, writer)
 }
 
-/// Writes a line for each message of the stream that is read or refused: a station, the head of an
-/// MSM, or the fault.
+/// Writes a line for each message of the stream that `convert` reads or refuses by default: a
+/// station, the head of an MSM, or the fault.
 ///
 /// # Errors
 ///
@@ -93,10 +102,26 @@ pub fn run_show<R: Read, W: Deliver>(
     reader: &mut Counted<R>,
     writer: &mut Counted<W>,
 ) -> Result<(), InspectFault>
-    ensures { EndsListing result most_bytes show_lines
+    ensures { EndsListing result most_bytes (show_lines false)
         R.remaining reader.old reader.new W.contents W.waiting writer.old writer.new }
 {
     list(alloc, Listing::Messages, MOST_BYTES, reader, writer)
+}
+
+/// Writes the lines of `run_show`, and those of MSMs of all systems and forms that are read.
+///
+/// # Errors
+///
+/// Those of `list`.
+pub fn run_show_all<R: Read, W: Deliver>(
+    alloc: Global,
+    reader: &mut Counted<R>,
+    writer: &mut Counted<W>,
+) -> Result<(), InspectFault>
+    ensures { EndsListing result most_bytes (show_lines true)
+        R.remaining reader.old reader.new W.contents W.waiting writer.old writer.new }
+{
+    list(alloc, Listing::AllMessages, MOST_BYTES, reader, writer)
 }
 
 /// Writes the lines of a stream of at most `limit` bytes, and delivers them after each piece that
@@ -148,12 +173,12 @@ fn add_frame(line: &mut OutputLine, frame: &Frame)
 /// offset, number and fault.
 // Inlined into the loop of `frames`, its buffers would be cleared for every frame.
 #[inline(never)]
-fn add_message(line: &mut OutputLine, frame: &Frame)
+fn add_message(line: &mut OutputLine, all: bool, frame: &Frame)
     requires { length line.old ≤ longest_prefix }
-    ensures { line.new ≡ line.old ++ show_line (framed frame.now) }
+    ensures { line.new ≡ line.old ++ show_line all (framed frame.now) }
 {
     let message = frame.message.as_slice();
-    match look(message) {
+    match read_for(all, message) {
         Ok(view) => match &view {
             View::Station(station) => add_station(line, frame.offset, station.parts()),
             View::Msm(msm) => add_msm(line, frame.offset, msm),
@@ -165,6 +190,17 @@ fn add_message(line: &mut OutputLine, frame: &Frame)
             add_fault(line, fault);
             line.finish();
         }
+    }
+}
+
+/// Reads a message: one of all, or one that `convert` reads by default.
+fn read_for(all: bool, message: &[u8]) -> Result<View<'_>, MsgFault>
+    ensures { GivesViewed viewed_message result (read_for all message.now) }
+{
+    if all {
+        look(message)
+    } else {
+        look_in(&MsmSet::default(), message)
     }
 }
 
@@ -220,12 +256,23 @@ fn add_msm(line: &mut OutputLine, offset: u64, msm: &MsmView<'_>)
     line.put_number(offset);
     line.add_number(msm.number() as u64);
     line.add_number(header.station as u64);
-    line.add_number(header.time as u64);
+    line.add_number(time_of_week(msm.system(), header.time));
     line.add_number(u64::from(header.more));
     line.add_number(msm.satellites() as u64);
     line.add_number(msm.masks().signals().count_ones() as u64);
     line.add_number(msm.cells() as u64);
     line.finish();
+}
+
+/// Returns an epoch time of a system in milliseconds of its week: of GLONASS the day of the week
+/// (DF416) and the time of day (DF034) are apart.
+fn time_of_week(system: System, time: u32) -> u64
+    ensures { result ≡ time_of_week system time }
+{
+    match system {
+        System::Glonass => 86_400_000 * u64::from(time / (1 << 27)) + u64::from(time % (1 << 27)),
+        _ => u64::from(time),
+    }
 }
 
 /// Adds the name of a fault and, for `Short`, the index of the first bit of the field.

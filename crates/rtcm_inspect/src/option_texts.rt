@@ -1,8 +1,8 @@
-//! Weeks, dates and lengths, read from text.
+//! Weeks, dates, lengths and intervals, read from text.
 ghost use Rattle.std.specs.Prelude.{◌≡◌, ◌≤◌, ◌<◌, ◌^◌, ℕ, IfSome, MatchOption, None, Some};
 ghost use Rattle.rtcm_inspect.specs.Dates.{IsHourOf, IsWeekNumber, IsWeekOf, civil_in, fixed_number};
-ghost use Rattle.rtcm_inspect.specs.Lengths.{coordinate_of, cut, decimals_of};
-ghost use Rattle.rtcm_inspect.specs.Lengths.{length_below, length_of, number_of, position_of};
+ghost use Rattle.rtcm_inspect.specs.Lengths.{coordinate_of, cut, decimals_of, fixed_point, interval_of};
+ghost use Rattle.rtcm_inspect.specs.Lengths.{length_below, longest_interval, number_of, position_of};
 
 use gnss_obs::{Civil, GREATEST_COORDINATE, GpsTime, LEAST_COORDINATE, WEEK, WEEKS};
 
@@ -112,34 +112,51 @@ pub fn length_below(text: &str, bound: u64) -> Option<u64>
     ensures value { result ≡ length_below bound text.now }
     ensures below { IfSome result (λ n. n < bound) }
 {
-    match length_of(text) {
+    match fixed_point(text, 4) {
         Some(length) if length < bound => Some(length),
         _ => None,
     }
 }
 
-/// Parses a length of at most eight digits, a point and four decimals, in units of 0.0001 m.
-fn length_of(text: &str) -> Option<u64>
-    ensures { result ≡ length_of text.now }
+/// Returns the interval in a text in milliseconds, given in seconds with up to three decimals, of
+/// 0.001 to 86,400. `None` for any other text.
+pub fn interval_of(text: &str) -> Option<u64>
+    ensures value { result ≡ interval_of text.now }
+    ensures fits { IfSome result (λ n. (0 < n) × (n ≤ longest_interval)) }
 {
-    let (whole, decimals) = cut(text, '.').unwrap_or((text, "0"));
-    match (number_of(whole, 8), decimals_of(decimals)) {
-        (Some(whole), Some(decimals)) => Some(whole * 10_000 + decimals),
+    match fixed_point(text, 3) {
+        Some(interval) if 0 < interval && interval <= 86_400_000 => Some(interval),
         _ => None,
     }
 }
 
-/// Parses one to four decimals, in units of 0.0001.
-fn decimals_of(text: &str) -> Option<u64>
-    ensures value { result ≡ decimals_of text.now }
+/// Parses at most eight digits, a point and `most` decimals, in units of the last decimal.
+fn fixed_point(text: &str, most: usize) -> Option<u64>
+    requires { most ≤ 4 }
+    ensures { result ≡ fixed_point most text.now }
+{
+    let unit = 10u64.pow(most as u32);
+    match cut(text, '.') {
+        Some((whole, decimals)) => match (number_of(whole, 8), decimals_of(decimals, most)) {
+            (Some(whole), Some(decimals)) => Some(whole * unit + decimals),
+            _ => None,
+        },
+        None => Some(number_of(text, 8)? * unit),
+    }
+}
+
+/// Parses one to `most` decimals, in units of the last.
+fn decimals_of(text: &str, most: usize) -> Option<u64>
+    requires { most ≤ 4 }
+    ensures value { result ≡ decimals_of most text.now }
     ensures small { IfSome result (λ n. n < 10 ^ 12) }
 {
-    let number = number_of(text, 4)?;
-    Some(number * 10u64.pow(4 - text.len() as u32))
+    let number = number_of(text, most)?;
+    Some(number * 10u64.pow((most - text.len()) as u32))
 }
 
 /// Returns the texts before and after the first separator, or `None` if there is none.
-fn cut(text: &str, separator: char) -> Option<(&str, &str)>
+pub(crate) fn cut(text: &str, separator: char) -> Option<(&str, &str)>
     requires { separator < 128 }
     ensures { MatchOption result (cut separator text.now ≡ None)
         (λ p. cut separator text.now ≡ Some (p.0.now, p.1.now)) }
@@ -148,7 +165,7 @@ fn cut(text: &str, separator: char) -> Option<(&str, &str)>
 }
 
 /// Parses a number of one to `most` digits.
-fn number_of(text: &str, most: usize) -> Option<u64>
+pub(crate) fn number_of(text: &str, most: usize) -> Option<u64>
     requires { most ≤ 8 }
     ensures value { result ≡ number_of most text.now }
     ensures small { IfSome result (λ n. n < 10 ^ most) }

@@ -1,34 +1,52 @@
 //! The command `options`: the options of `convert` that fit a stream.
-ghost use Rattle.std.specs.Prelude.{◌≡◌, ◌+◌, ◌*◌, ◌<◌, ◌≤◌, ◌∷◌, ◌++◌, List, Option, IfOk, IfErr, IfSome, length};
+ghost use Rattle.std.specs.Prelude.{◌≡◌, ◌+◌, ◌*◌, ◌<◌, ◌≤◌, ◌∷◌, ◌++◌, [], codes, flat_map, List, Option, IfOk, IfErr};
+ghost use Rattle.std.specs.Prelude.{IfSome, Some, length};
+ghost use Rattle.gnss_obs.specs.Channels.{slot_count};
 ghost use Rattle.gnss_obs.specs.HeardCells.{HeardCell};
 ghost use Rattle.gnss_obs.specs.Weeks.{week, weeks};
 ghost use Rattle.gnss_system.specs.declared.system.System.TheVariants.{Gps, Galileo};
+ghost use Rattle.gnss_system.specs.Systems.{systems};
 ghost use Rattle.rtcm_msg.specs.Station.{InRange};
 ghost use Rattle.rtcm_scan.specs.Frames.{Framed};
 ghost use Rattle.obs_epoch.specs.SignalCounts.{AreSignalCounts};
 ghost use Rattle.rtcm_inspect.specs.Counting.{AreSignals};
-ghost use Rattle.rtcm_inspect.specs.Fitting.{number_start, options_text, station_words};
-ghost use Rattle.rtcm_inspect.specs.Lines.{longest_name, longest_option, with_words};
+ghost use Rattle.rtcm_inspect.specs.ChannelTexts.{channels_text};
+ghost use Rattle.rtcm_inspect.specs.Fitting.{channel_words, first_words, forms_words, further_words};
+ghost use Rattle.rtcm_inspect.specs.Fitting.{is_other, number_start, number_words, options_text};
+ghost use Rattle.rtcm_inspect.specs.Fitting.{other_words, station_words};
+ghost use Rattle.rtcm_inspect.specs.Lines.{longest_line, longest_name, longest_option, longest_options};
+ghost use Rattle.rtcm_inspect.specs.Lines.{longest_codes, longest_number, longest_plan, with_words};
 ghost use Rattle.rtcm_inspect.specs.NearWeek.{IsWeekFor, IsWeekNear};
-ghost use Rattle.rtcm_inspect.specs.OptionOutput.{AreOptionsOf, AreOptionsRefused, EndsOptions};
-ghost use Rattle.rtcm_inspect.specs.Signals.{codes_word, had};
+ghost use Rattle.rtcm_inspect.specs.OptionOutput.{AreOptionsOf, AreOptionsRefused, EndsOptions, IsDatedLine};
+ghost use Rattle.rtcm_inspect.specs.Signals.{codes_word, decodes, had, has_counted, plan_had, plan_in, set_had};
 
+use crate::channel_texts::channels_text;
 use crate::counting::{StreamSignals, read_signals};
 use crate::fault::InspectFault;
+use crate::leap_seconds::leap_at;
 use crate::line::{OutputLine, deliver_waiting, print_text};
 use crate::signals::code_at;
-use gnss_obs::{GpsTime, System, WEEK, WEEKS};
+use arrayvec::ArrayVec;
+use gnss_obs::{Channels, GpsTime, WEEK, WEEKS};
+use gnss_system::{BySystem, SYSTEMS, System};
 use obs_epoch::SignalCounts;
 use rtcm_bits::{Counted, Deliver};
-use rtcm_msg::StationParts;
+use rtcm_msg::{Forms, MsmSet, StationParts};
 use std::alloc::Global;
 use std::io::Read;
 
+/// Room for the line of the options.
+const OPTIONS_BYTES: usize = 2_816;
+
+/// The line of the options, which is longer than others.
+type OptionsText = ArrayVec<u8, OPTIONS_BYTES>;
+
 /// Delivers what waits in the writer, reads a stream, and writes a line of the options of `convert`
 /// that fit it: the week in which its first MSM is nearest to a date, given by its noon, the
-/// station, the signals of the cells that have a value, and the values of the first station
-/// message. If no station is given, the line has none, and the stream may have no messages of
-/// another one than the first.
+/// station, the signals of the cells that have a value, of GLONASS the first channel of each slot and
+/// the leap seconds of the date, the forms of the MSMs, and the values of the first station message.
+/// If no station is given, the line has none, and the stream may have no messages of another one
+/// than the first.
 ///
 /// A time that is half a week from noon in two weeks is that before noon. If the nearest week is
 /// before the first or after the last one, 99,999, that one is written.
@@ -50,8 +68,8 @@ pub fn run_options<R: Read, W: Deliver>(
 {
     deliver_waiting(writer)?;
     let signals = read_signals(alloc, station, reader)?;
-    let line = options_of(&signals, near)?;
-    print_text(line.as_bytes(), writer)
+    let text = options_of(&signals, near)?;
+    print_text(text.as_slice(), writer)
 }
 
 /// Returns the line of the options that fit a stream.
@@ -59,28 +77,87 @@ pub fn run_options<R: Read, W: Deliver>(
 /// # Errors
 ///
 /// `SeveralStations` and `NoSignal`.
-fn options_of(signals: &StreamSignals, near: Option<GpsTime>) -> Result<OutputLine, InspectFault>
+fn options_of(signals: &StreamSignals, near: Option<GpsTime>) -> Result<OptionsText, InspectFault>
     requires { IfSome signals.now.first.point InRange }
     ensures line { (fs : List Framed) → AreSignals signals.now signals.now.station fs
-        → IfOk result (AreOptionsOf near signals.now.station fs) }
+        → IfOk result (λ text. AreOptionsOf near signals.now.station fs text.items) }
     ensures refused { (fs : List Framed) → AreSignals signals.now signals.now.station fs
         → IfErr result (AreOptionsRefused signals.now.station fs) }
 {
     match signals.first.stations.mixed(signals.station) {
         Some((first, other)) => Err(InspectFault::SeveralStations(first, other)),
         None if !signals.signal_counts.has_any() => Err(InspectFault::NoSignal),
-        None => {
-            let week = week_for(near, signals.first.tow);
-            Ok(options_line(signals, week))
-        }
+        None => Ok(dated_line(signals, near)),
     }
 }
 
-/// Returns the line of the options that fit a stream of signals, with this week.
-fn options_line(signals: &StreamSignals, week: Option<u32>) -> OutputLine
+/// Returns the line of the options that fit a stream, near the noon of a date if one is given.
+fn dated_line(signals: &StreamSignals, near: Option<GpsTime>) -> OptionsText
     requires { IfSome signals.now.first.point InRange }
     ensures { (fs : List Framed) → AreSignals signals.now signals.now.station fs
-        → result ≡ options_text week signals.now.station fs }
+        → IsDatedLine near signals.now.station fs result.items }
+{
+    match near {
+        Some(noon) => {
+            let leap = leap_at(noon);
+            let tow = signals.first.tows.first(&set_had(signals), leap);
+            options_line(signals, week_for(noon, tow), Some(leap))
+        }
+        None => options_line(signals, None, None),
+    }
+}
+
+/// Returns the MSMs that a conversion decodes with the options that fit a stream.
+fn set_had(signals: &StreamSignals) -> MsmSet
+    ensures { (fs : List Framed) → AreSignals signals.now signals.now.station fs
+        → result ≡ set_had signals.now.station fs }
+{
+    MsmSet {
+        systems: BySystem::each(|system| decodes(&signals.signal_counts, system)),
+        forms: signals.forms,
+    }
+}
+
+/// Returns whether a conversion decodes the MSMs of a system: those of GPS and Galileo, and of any
+/// other of which a signal has a cell with a value.
+fn decodes(signal_counts: &SignalCounts, system: System) -> bool
+    ensures { result ≡ decodes signal_counts.now system }
+{
+    matches!(system, System::Gps | System::Galileo) || has_signal(signal_counts, system)
+}
+
+/// Returns whether a signal of a system has a cell with a value.
+fn has_signal(signal_counts: &SignalCounts, system: System) -> bool
+    ensures { result ≡ has_counted signal_counts.now system }
+{
+    let mut found = false;
+    for index in 0..system.signals() {
+        if signal_counts.count(system, index) > 0 {
+            found = true;
+        }
+    }
+    found
+}
+
+/// Returns the line of the options that fit a stream of signals, with this week and these leap
+/// seconds.
+fn options_line(signals: &StreamSignals, week: Option<u32>, leap: Option<u8>) -> OptionsText
+    requires { IfSome signals.now.first.point InRange }
+    ensures { (fs : List Framed) → AreSignals signals.now signals.now.station fs
+        → result.items ≡ options_text week leap signals.now.station fs }
+{
+    let mut text = ArrayVec::new();
+    put_line(&mut text, &first_words(signals, week));
+    add_others(&mut text, signals, leap);
+    put_line(&mut text, &last_words(signals));
+    text
+}
+
+/// Returns the first words of the options, up to the signals of Galileo.
+fn first_words(signals: &StreamSignals, week: Option<u32>) -> OutputLine
+    ensures text { (fs : List Framed) → AreSignals signals.now signals.now.station fs
+        → result ≡ first_words week signals.now.station (plan_in signals.now.station fs) }
+    ensures short { length result ≤ longest_line }
 {
     let mut line = OutputLine::new();
     add_number(&mut line, "--week", week);
@@ -89,17 +166,115 @@ fn options_line(signals: &StreamSignals, week: Option<u32>) -> OutputLine
     add_codes(&mut line, &signals.signal_counts, System::Gps);
     line.add_word("--galileo");
     add_codes(&mut line, &signals.signal_counts, System::Galileo);
+    line
+}
+
+/// Returns the last words of the options, each after a blank, and the line feed.
+fn last_words(signals: &StreamSignals) -> OutputLine
+    requires { IfSome signals.now.first.point InRange }
+    ensures text { result
+        ≡ with_words [] (forms_words signals.now.forms ++ station_words signals.now.first.point) ++ 0x0A ∷ [] }
+    ensures short { length result ≤ longest_line }
+{
+    let mut line = OutputLine::new();
+    add_forms(&mut line, signals.forms);
     add_station(&mut line, signals.first.point);
     line.finish();
     line
 }
 
-/// Returns the week of the options for the noon of a date, if one is given, and the time of week of
-/// the first MSM.
-fn week_for(near: Option<GpsTime>, tow: Option<u32>) -> Option<u32>
-    ensures { IsWeekFor near tow result }
+/// Adds the options of the systems other than GPS and Galileo that have a signal.
+fn add_others(text: &mut OptionsText, signals: &StreamSignals, leap: Option<u8>)
+    requires { length text.old.items ≤ longest_line }
+    ensures text { (cells : List HeardCell) → AreSignalCounts signals.now.signal_counts cells
+        → text.new.items
+        ≡ with_words text.old.items (flat_map (other_words leap (plan_had cells signals.now.channels)) systems) }
+    ensures short { length text.new.items + longest_line ≤ longest_options }
 {
-    Some(week_near(near?.milliseconds(), tow?))
+    for i in 0..SYSTEMS.len() {
+        add_other(text, signals, leap, System::at(i));
+    }
+}
+
+/// Adds the options of a system, if it is another than GPS and Galileo and has a signal.
+fn add_other(text: &mut OptionsText, signals: &StreamSignals, leap: Option<u8>, system: System)
+    requires { length text.old.items + longest_plan ≤ longest_options }
+    ensures text { (cells : List HeardCell) → AreSignalCounts signals.now.signal_counts cells
+        → text.new.items
+        ≡ with_words text.old.items (other_words leap (plan_had cells signals.now.channels) system) }
+    ensures short { length text.new.items ≤ length text.old.items + longest_plan }
+{
+    if !is_other(system) {
+        return;
+    }
+    if !has_signal(&signals.signal_counts, system) {
+        return;
+    }
+    let mut line = OutputLine::new();
+    line.put(b" --");
+    line.put(system.name().as_bytes());
+    add_codes(&mut line, &signals.signal_counts, system);
+    add_further(&mut line, &signals.channels, leap, system);
+    put_line(text, &line);
+}
+
+/// Adds the further options of GLONASS: the channels and the leap seconds, if they are known.
+fn add_further(line: &mut OutputLine, channels: &Channels, leap: Option<u8>, system: System)
+    requires { length line.old ≤ longest_codes }
+    ensures text { line.new ≡ with_words line.old (further_words leap channels.now system) }
+    ensures short { length line.new ≤ longest_plan }
+{
+    if let System::Glonass = system {
+        add_channels(line, channels);
+        add_leap(line, leap);
+    }
+}
+
+/// Adds the option of the channels, if one is known.
+fn add_channels(line: &mut OutputLine, channels: &Channels)
+    requires { length line.old ≤ longest_codes }
+    ensures text { line.new ≡ with_words line.old (channel_words (channels_text channels.now)) }
+    ensures short { length line.new ≤ length line.old + 20 + 6 * slot_count }
+{
+    let text = channels_text(channels);
+    if !text.as_bytes().is_empty() {
+        line.add_word("--glonass-channels");
+        line.add_part(b' ', text.as_bytes());
+    }
+}
+
+/// Adds the option of the leap seconds, if they are known.
+fn add_leap(line: &mut OutputLine, leap: Option<u8>)
+    requires { length line.old ≤ longest_plan }
+    ensures text { line.new ≡ with_words line.old (number_words (codes "--leap-seconds") leap) }
+    ensures short { length line.new ≤ length line.old + 16 + longest_number }
+{
+    if let Some(leap) = leap {
+        line.add_word("--leap-seconds");
+        line.add_number(u64::from(leap));
+    }
+}
+
+/// Returns whether a system is another than GPS and Galileo.
+fn is_other(system: System) -> bool
+    ensures { result ≡ is_other system }
+{
+    !matches!(system, System::Gps | System::Galileo)
+}
+
+/// Appends a line.
+fn put_line(text: &mut OptionsText, line: &OutputLine)
+    requires { length text.old.items + length line.now ≤ longest_options }
+    ensures { text.new.items ≡ text.old.items ++ line.now }
+{
+    text.try_extend_from_slice(line.as_bytes()).unwrap();
+}
+
+/// Returns the week of the options for the noon of a date and the time of week of the first MSM.
+fn week_for(noon: GpsTime, tow: Option<u32>) -> Option<u32>
+    ensures { IsWeekFor (Some noon) tow result }
+{
+    Some(week_near(noon.milliseconds(), tow?))
 }
 
 /// Returns the week in which a time of week is nearest to noon.
@@ -145,10 +320,25 @@ fn add_codes(line: &mut OutputLine, signal_counts: &SignalCounts, system: System
     }
 }
 
+/// Adds the option of the forms, if they aren't the default.
+fn add_forms(line: &mut OutputLine, forms: Forms)
+    requires { length line.old ≤ 210 }
+    ensures text { line.new ≡ with_words line.old (forms_words forms) }
+    ensures short { length line.new ≤ length line.old + 10 }
+{
+    match forms {
+        Forms::FourAndSeven => {}
+        Forms::All => {
+            line.add_word("--msm");
+            line.add_word("all");
+        }
+    }
+}
+
 /// Adds the options of a station message, if there is one: the position, and the antenna height of
 /// a 1006.
 fn add_station(line: &mut OutputLine, station: Option<StationParts>)
-    requires room { length line.old ≤ 210 }
+    requires room { length line.old ≤ 220 }
     requires in_range { IfSome station InRange }
     ensures text { line.new ≡ with_words line.old (station_words station) }
     ensures short { length line.new ≤ length line.old + 160 }

@@ -19,7 +19,7 @@ use std::alloc::Global;
 use std::io::Read;
 
 /// Room for a line of each signal, of at most 26 bytes.
-const TEXT_BYTES: usize = 1_024;
+const TEXT_BYTES: usize = 2_048;
 
 /// Delivers what waits in the writer, reads a stream, and writes the table of its signals that have
 /// a cell with a value, of one station or of all.
@@ -59,7 +59,7 @@ fn add_systems(text: &mut ArrayVec<u8, TEXT_BYTES>, signal_counts: &SignalCounts
 
 /// Adds a line for each signal of a system that has a cell.
 fn add_lines(text: &mut ArrayVec<u8, TEXT_BYTES>, signal_counts: &SignalCounts, system: System)
-    requires { length text.old.items + 26 * length (table system) ≤ 1_024 }
+    requires { length text.old.items + 26 * length (table system) ≤ 2_048 }
     ensures text { (cells : List HeardCell) → AreSignalCounts signal_counts.now cells
         → text.new.items ≡ text.old.items ++ count_lines cells system }
     ensures short { length text.new.items ≤ length text.old.items + 26 * length (table system) }

@@ -1,7 +1,8 @@
 //! Times as text, and the lines of `check --times`.
 ghost use Rattle.std.specs.Prelude.{◌≡◌, ◌+◌, ◌≤◌, ◌∷◌, ◌++◌, length};
-ghost use Rattle.rtcm_inspect.specs.DateTexts.{clock_bytes, clock_text, date_text, step_line};
-ghost use Rattle.rtcm_inspect.specs.DateTexts.{time_line, times_lines};
+ghost use Rattle.rtcm_inspect.specs.DateTexts.{clock_bytes, clock_text, date_text, longest_times};
+ghost use Rattle.rtcm_inspect.specs.DateTexts.{moment_bytes, moment_words, step_line, time_line, times_lines};
+ghost use Rattle.rtcm_inspect.specs.Lines.{with_words};
 
 use crate::line::OutputLine;
 use gnss_obs::{Civil, GpsTime};
@@ -10,7 +11,8 @@ use rinex_file::EpochTimes;
 /// Adds the lines of the times of a file's epochs.
 pub fn add_times(text: &mut OutputLine, times: &EpochTimes)
     requires { length text.old ≤ 100 }
-    ensures { text.new ≡ text.old ++ times_lines times.now }
+    ensures text { text.new ≡ text.old ++ times_lines times.now }
+    ensures short { length text.new ≤ length text.old + longest_times }
 {
     add_time(text, "first", times.first);
     add_time(text, "last", times.last);
@@ -24,11 +26,20 @@ fn add_time(text: &mut OutputLine, name: &str, time: GpsTime)
     ensures text { text.new ≡ text.old ++ time_line name.now time }
     ensures short { length text.new ≤ length text.old + 40 }
 {
-    let civil = time.civil();
     text.put(name.as_bytes());
+    add_moment(text, time);
+    text.finish();
+}
+
+/// Adds the date and the time of day of a time, each after a blank.
+pub(crate) fn add_moment(text: &mut OutputLine, time: GpsTime)
+    requires { length text.old ≤ 250 }
+    ensures text { text.new ≡ with_words text.old (moment_words time) }
+    ensures short { length text.new ≤ length text.old + moment_bytes }
+{
+    let civil = time.civil();
     add_date(text, &civil);
     add_clock(text, &civil);
-    text.finish();
 }
 
 /// Adds a blank and a date.
@@ -58,7 +69,8 @@ fn add_clock(text: &mut OutputLine, civil: &Civil)
 /// Adds the line of the step in seconds, if there is one.
 fn add_step(text: &mut OutputLine, step: Option<u64>)
     requires { length text.old ≤ 300 }
-    ensures { text.new ≡ text.old ++ step_line step }
+    ensures text { text.new ≡ text.old ++ step_line step }
+    ensures short { length text.new ≤ length text.old + 30 }
 {
     if let Some(step) = step {
         text.put(b"step");

@@ -5,7 +5,7 @@ use Rattle.std.specs.Ordering.{int_eq}
 use Rattle.std.specs.List.{AllByRecursion}
 use Rattle.std.proofs.lemmas.Int.{ints, unsigned_abs-mul}
 use Rattle.std.proofs.lemmas.Nat.{mul-le}
-use Rattle.rtcm_msg.specs.Names.{FitsInt, Message, Station, Msm4, Msm7, Other, Pair, Form, scaled, invalid_range, range_joined, invalid_rough_rate, invalid_fine_rate, rate_joined, strength_of, MsmValue, entry_in, entries, IsMeasured}
+use Rattle.rtcm_msg.specs.Names.{FitsInt, Message, Station, Msm4, Msm5, Msm6, Msm7, Other, Pair, Form, scaled, invalid_range, range_joined, invalid_rough_rate, invalid_fine_rate, rate_joined, strength_of, MsmValue, entry_in, entries, IsMeasured}
 use Rattle.rtcm_msg.specs.declared.view.Form.TheVariants as forms
 use Rattle.rtcm_msg.specs.declared.data.Satellite.{Satellite}
 use Rattle.rtcm_msg.specs.declared.data.Cell.{Cell}
@@ -93,5 +93,7 @@ each f v (x ∷ xs) = (measured f x.0 _ _ (satellite_in_range f _) (cell_in_rang
 pub entries_measured : (m : Message) → AllByRecursion IsMeasured (entries m)
 entries_measured (Station s) = tt
 entries_measured (Msm4 v) = each forms.Msm4 v _
+entries_measured (Msm5 v) = each forms.Msm5 v _
+entries_measured (Msm6 v) = each forms.Msm6 v _
 entries_measured (Msm7 v) = each forms.Msm7 v _
 entries_measured (Other n set) = tt

@@ -3,13 +3,14 @@ use Rattle.std.proofs.Common.{ℕ, ℤ, ◌≡◌, ◌+◌, ◌*◌, ◌/◌, �
 use Rattle.std.proofs.lemmas.Nat.{mod_low, shr_high, pow-add}
 use Rattle.std.proofs.lemmas.List.{length-take}
 use Rattle.rtcm_bits.specs.BitLaws.{number-fits, pow_mono}
-use Rattle.rtcm_bits.specs.Bits.{signed}
+use Rattle.rtcm_bits.specs.Bits.{signed, raw}
+use Rattle.std.proofs.Math.Nat.{div-div-eq-div-mul, div-one}
 use Rattle.rtcm_msg.specs.Names.{Table, FieldKind, width, widths, Contents, content, total_width, unpacked, field_at, row_at, Form, LastBits, AreLast, satellite_widths, cell_widths}
 use Rattle.rtcm_msg.specs.Packed.{packed}
 use Rattle.rtcm_msg.specs.LastBits.{EndWith}
 use Rattle.rtcm_msg.specs.declared.data.Satellite.{Satellite}
 use Rattle.rtcm_msg.specs.declared.data.Cell.{Cell}
-use Rattle.rtcm_msg.specs.Forms.{Precision, precision, is_fine, has_rates, satellite_table_by, satellite_of, satellite_data, satellite_contents, satellite_number, cell_table, cell_of, cell_data, cell_number, rate_table, rate_in}
+use Rattle.rtcm_msg.specs.Forms.{Precision, precision, is_fine, has_rates, satellite_table_by, satellite_of, satellite_data, satellite_contents, satellite_number, cell_table, cell_of, cell_data, cell_number, rate_table, rate_in, cell_table_by, cell_contents, rateless, rateless_number}
 
 -- The contents of item i, when the data of n items begin at a bit; the fields before them have k bits.
 abbrev pub contents_after : (t : Table) → ℕ → List Bool → ℕ → ℕ → ℕ → Contents t
@@ -129,9 +130,27 @@ satellite_unpacked f rates n s is e = subst (λ (b : Bool). s ≡ satellite_of b
 pub satellite_packed : (f : Form) (rates : Bool) (s : Satellite) (n : ℕ) → has_rates f ≡ rates → n ≡ packed (satellite_table_by rates) (satellite_contents rates s) → n ≡ satellite_number f s
 satellite_packed f rates s n is e = subst (λ (b : Bool). n ≡ packed (satellite_table_by b) (satellite_contents b s)) (sym is) e
 
--- The same of a cell, in a known form.
-pub cell_unpacked : (f k : Form) (n : ℕ) (c : Cell) → f ≡ k → c ≡ cell_data k n → c ≡ cell_data f n
-cell_unpacked f k n c is e = subst (λ (g : Form). c ≡ cell_data g n) (sym is) e
+-- The same of a cell without its rate.
+pub rateless_is : (fine b : Bool) (n : ℕ) (c : Cell) → fine ≡ b → c ≡ rateless b n → c ≡ rateless fine n
+rateless_is fine b n c is e = subst (λ (b : Bool). c ≡ rateless b n) (sym is) e
 
-pub cell_packed : (f k : Form) (c : Cell) (n : ℕ) → f ≡ k → n ≡ cell_number k c → n ≡ cell_number f c
-cell_packed f k c n is e = subst (λ (g : Form). n ≡ cell_number g c) (sym is) e
+pub rateless_packed : (fine b : Bool) (c : Cell) (n : ℕ) → fine ≡ b → n ≡ rateless_number b c → n ≡ rateless_number fine c
+rateless_packed fine b c n is e = subst (λ (b : Bool). n ≡ rateless_number b c) (sym is) e
+
+-- The rate follows the other fields.
+shifted : (n k j : ℕ) → 15 + k ≡ j → n / 2 ^ 15 / 2 ^ k ≡ n / 2 ^ j
+shifted n k j e = div-div-eq-div-mul n (2 ^ 15) (2 ^ k) ∙ ap (λ (d : ℕ). n / d) (sym (pow-add 2 15 k) ∙ ap (λ (x : ℕ). 2 ^ x) e)
+
+rate_last : (fine : Bool) (n : ℕ) (rate : ℤ) → rate ≡ signed 15 (n % 2 ^ 15) → record (rateless fine (n / 2 ^ 15)) { rate = rate } ≡ cell_of fine true (unpacked (cell_table_by fine true) n)
+rate_last true n rate e = rw (e, shifted n 45 60 refl, shifted n 21 36 refl, shifted n 11 26 refl, shifted n 10 25 refl, shifted n 0 15 refl, div-one n) refl
+rate_last false n rate e = rw (e, shifted n 33 48 refl, shifted n 11 26 refl, shifted n 7 22 refl, shifted n 6 21 refl, shifted n 0 15 refl, div-one n) refl
+
+pub cell_unpacked : (f : Form) (n : ℕ) {c : Cell} {rate : ℤ} → has_rates f ≡ true → rate ≡ signed 15 (n % 2 ^ 15) → c ≡ rateless (is_fine f) (n / 2 ^ 15) → record c { rate = rate } ≡ cell_data f n
+cell_unpacked f n {c} {rate} has is e = ap (λ (c : Cell). record c { rate = rate }) e ∙ (rate_last (is_fine f) n rate is ∙ ap (λ (b : Bool). cell_of (is_fine f) b (unpacked (cell_table_by (is_fine f) b) n)) (sym has))
+
+with_rate : (fine : Bool) (c : Cell) → rateless_number fine c * 2 ^ 15 + raw 15 c.rate ≡ packed (cell_table_by fine true) (cell_contents fine true c)
+with_rate true c = omega arith
+with_rate false c = omega arith
+
+pub cell_packed : (f : Form) (c : Cell) {n rate : ℕ} → has_rates f ≡ true → n ≡ rateless_number (is_fine f) c → rate ≡ raw 15 c.rate → n * 32768 + rate ≡ cell_number f c
+cell_packed f c has e r = rw (e, r) (with_rate (is_fine f) c ∙ ap (λ (b : Bool). packed (cell_table_by (is_fine f) b) (cell_contents (is_fine f) b c)) (sym has))

@@ -1,13 +1,13 @@
 -- The result of reading bits: the value, or the fault.
-use Rattle.std.proofs.Common.{ℕ, zero, suc, ◌≡◌, ◌+◌, ◌*◌, ◌^◌, ◌<◌, ◌≤◌, Bool, List, [], ◌∷◌, ◌++◌, length, Result, Ok, Err, None, refl, ap, ◌∙◌, arith, ◌⊎◌, inl, inr, replicate, count_ones}
-use Rattle.std.proofs.lemmas.Bool.{cases_lt}
+use Rattle.std.proofs.Common.{ℕ, zero, suc, ◌≡◌, ◌+◌, ◌*◌, ◌^◌, ◌<◌, ◌≤◌, Bool, true, false, List, [], ◌∷◌, ◌++◌, length, Result, Ok, Err, None, refl, ap, ◌∙◌, arith, ◌⊎◌, inl, inr, replicate, count_ones}
+use Rattle.std.proofs.lemmas.Bool.{cases_lt, cases_Bool}
 use Rattle.std.proofs.lemmas.List.{length-replicate, length-drop}
 use Rattle.gnss_system.specs.declared.system.System.{System}
-use Rattle.rtcm_msg.specs.Names.{Cursor, MsgFault, BadTime, TooManyCells, Short, MsmHeader, number_at, ◌>>=◌, first_past, total_width, column_at, columns_at, repeated, time_table, header_table, mask_table, header_of, header_at, masks_at, msm_at, week, MsmValue, pair_count}
+use Rattle.rtcm_msg.specs.Names.{Cursor, MsgFault, BadTime, TooManyCells, Short, MsmHeader, number_at, ◌>>=◌, first_past, total_width, column_at, columns_at, repeated, time_table, header_table, mask_table, header_of, header_at, masks_at, msm_at, is_time, MsmValue, pair_count}
 use Rattle.rtcm_msg.proofs.FieldLaws.{contents_at, fields_at, cursor_at, field_at, number_there_at, ShortAt, short_at_more, short_at_after, fields_read, past_none, past_through}
 use Rattle.rtcm_msg.proofs.Binds.{number_short}
 use Rattle.rtcm_msg.proofs.Combine.{past_here, past_next}
-use Rattle.rtcm_msg.proofs.MsmLaws.{head_widths, tail_widths, mask_widths, header_chain, header_rest_is, in_time, too_late, sets_chain, few_rest, many_rest}
+use Rattle.rtcm_msg.proofs.MsmLaws.{head_widths, tail_widths, mask_widths, header_chain, header_rest_is, in_time, no_time_of, sets_chain, few_rest, many_rest}
 
 -- ---- columns
 
@@ -81,26 +81,26 @@ pair_count_of bits = pair_count (field_at bits 73 64) (field_at bits 137 32)
 -- The cases of the result.
 pub data MsmEnd (sw cw : List ℕ) (g : System) (bits : List Bool) : Type 0 where
   no_time : (e : MsgFault) → length bits < 54 → ShortAt bits 12 (msm_widths sw cw bits) e → msm_at sw cw g (cursor_at bits 12) ≡ Err e → MsmEnd sw cw g bits
-  late : 54 ≤ length bits → week ≤ field_at bits 24 30 → msm_at sw cw g (cursor_at bits 12) ≡ Err BadTime → MsmEnd sw cw g bits
-  no_masks : (e : MsgFault) → field_at bits 24 30 < week → length bits < 169 → ShortAt bits 12 (msm_widths sw cw bits) e → msm_at sw cw g (cursor_at bits 12) ≡ Err e → MsmEnd sw cw g bits
-  many : field_at bits 24 30 < week → 169 ≤ length bits → 64 < pair_count_of bits → msm_at sw cw g (cursor_at bits 12) ≡ Err TooManyCells → MsmEnd sw cw g bits
-  short : (e : MsgFault) → field_at bits 24 30 < week → pair_count_of bits ≤ 64 → ShortAt bits 12 (msm_widths sw cw bits) e → msm_at sw cw g (cursor_at bits 12) ≡ Err e → MsmEnd sw cw g bits
-  good : (v : MsmValue × Cursor) → field_at bits 24 30 < week → pair_count_of bits ≤ 64 → first_past (length bits) 12 (msm_widths sw cw bits) ≡ None → msm_at sw cw g (cursor_at bits 12) ≡ Ok v → MsmEnd sw cw g bits
+  late : 54 ≤ length bits → is_time g (field_at bits 24 30) ≡ false → msm_at sw cw g (cursor_at bits 12) ≡ Err BadTime → MsmEnd sw cw g bits
+  no_masks : (e : MsgFault) → is_time g (field_at bits 24 30) ≡ true → length bits < 169 → ShortAt bits 12 (msm_widths sw cw bits) e → msm_at sw cw g (cursor_at bits 12) ≡ Err e → MsmEnd sw cw g bits
+  many : is_time g (field_at bits 24 30) ≡ true → 169 ≤ length bits → 64 < pair_count_of bits → msm_at sw cw g (cursor_at bits 12) ≡ Err TooManyCells → MsmEnd sw cw g bits
+  short : (e : MsgFault) → is_time g (field_at bits 24 30) ≡ true → pair_count_of bits ≤ 64 → ShortAt bits 12 (msm_widths sw cw bits) e → msm_at sw cw g (cursor_at bits 12) ≡ Err e → MsmEnd sw cw g bits
+  good : (v : MsmValue × Cursor) → is_time g (field_at bits 24 30) ≡ true → pair_count_of bits ≤ 64 → first_past (length bits) 12 (msm_widths sw cw bits) ≡ None → msm_at sw cw g (cursor_at bits 12) ≡ Ok v → MsmEnd sw cw g bits
 
 -- The cases of the header.
-data HeaderEnd (bits : List Bool) : Type 0 where
-  no_time : (e : MsgFault) → length bits < 54 → ShortAt bits 12 head_widths e → header_at (cursor_at bits 12) ≡ Err e → HeaderEnd bits
-  late : 54 ≤ length bits → week ≤ field_at bits 24 30 → header_at (cursor_at bits 12) ≡ Err BadTime → HeaderEnd bits
-  short : (e : MsgFault) → field_at bits 24 30 < week → length bits < 73 → ShortAt bits 12 (head_widths ++ tail_widths) e → header_at (cursor_at bits 12) ≡ Err e → HeaderEnd bits
-  good : (v : MsmHeader) → field_at bits 24 30 < week → 73 ≤ length bits → header_at (cursor_at bits 12) ≡ Ok (v, cursor_at bits 73) → HeaderEnd bits
+data HeaderEnd (g : System) (bits : List Bool) : Type 0 where
+  no_time : (e : MsgFault) → length bits < 54 → ShortAt bits 12 head_widths e → header_at g (cursor_at bits 12) ≡ Err e → HeaderEnd g bits
+  late : 54 ≤ length bits → is_time g (field_at bits 24 30) ≡ false → header_at g (cursor_at bits 12) ≡ Err BadTime → HeaderEnd g bits
+  short : (e : MsgFault) → is_time g (field_at bits 24 30) ≡ true → length bits < 73 → ShortAt bits 12 (head_widths ++ tail_widths) e → header_at g (cursor_at bits 12) ≡ Err e → HeaderEnd g bits
+  good : (v : MsmHeader) → is_time g (field_at bits 24 30) ≡ true → 73 ≤ length bits → header_at g (cursor_at bits 12) ≡ Ok (v, cursor_at bits 73) → HeaderEnd g bits
 
-header_end : (bits : List Bool) → 12 ≤ length bits → HeaderEnd bits
-header_end bits h = elim (fields_read time_table bits 12 h) [
-  | inl few ↦ no_time few.1.0 few.0 few.1.2 (header_chain (cursor_at bits 12) ∙ rw few.1.1 refl)
-  | inr there ↦ elim (cases_lt (field_at bits 24 30) week) [
-    | inr over ↦ late there.0 over (header_chain (cursor_at bits 12) ∙ rw (there.1, too_late (field_at bits 24 30) (cursor_at bits 54) over) refl)
+header_end : (g : System) (bits : List Bool) → 12 ≤ length bits → HeaderEnd g bits
+header_end g bits h = elim (fields_read time_table bits 12 h) [
+  | inl few ↦ no_time few.1.0 few.0 few.1.2 (header_chain g (cursor_at bits 12) ∙ rw few.1.1 refl)
+  | inr there ↦ elim (cases_Bool (is_time g (field_at bits 24 30))) [
+    | inr over ↦ late there.0 over (header_chain g (cursor_at bits 12) ∙ rw (there.1, no_time_of g (field_at bits 24 30) (cursor_at bits 54) over) refl)
     | inl early ↦
-        let chain : header_at (cursor_at bits 12) ≡ (fields_at header_table (cursor_at bits 54) >>= λ m. Ok (header_of (field_at bits 12 12) (field_at bits 24 30) m.0, m.1)) = header_chain (cursor_at bits 12) ∙ rw (there.1, in_time (field_at bits 24 30) (cursor_at bits 54) early, header_rest_is (field_at bits 12 12) (field_at bits 24 30) (cursor_at bits 54)) refl in
+        let chain : header_at g (cursor_at bits 12) ≡ (fields_at header_table (cursor_at bits 54) >>= λ m. Ok (header_of (field_at bits 12 12) (field_at bits 24 30) m.0, m.1)) = header_chain g (cursor_at bits 12) ∙ rw (there.1, in_time g (field_at bits 24 30) (cursor_at bits 54) early, header_rest_is (field_at bits 12 12) (field_at bits 24 30) (cursor_at bits 54)) refl in
         elim (fields_read header_table bits 54 there.0) [
           | inl few ↦ short few.1.0 early few.0 (short_at_after head_widths tail_widths bits 12 few.1.0 there.0 few.1.2) (chain ∙ rw few.1.1 refl)
           | inr all ↦ good (header_of (field_at bits 12 12) (field_at bits 24 30) (contents_at header_table bits 54)) early all.0 (chain ∙ rw all.1 refl)
@@ -157,7 +157,7 @@ header_widths = head_widths ++ tail_widths
 
 pub msm_end : (sw cw : List ℕ) (g : System) (bits : List Bool) → 12 ≤ length bits → MsmEnd sw cw g bits
 unfolding msm_at
-msm_end sw cw g bits h = by_header (header_end bits h)
+msm_end sw cw g bits h = by_header (header_end g bits h)
   where
     place : (p : ℕ) → 12 + total_width (header_widths ++ (64 ∷ 32 ∷ p ∷ [])) ≡ 169 + p
     place p = omega arith
@@ -171,7 +171,7 @@ msm_end sw cw g bits h = by_header (header_end bits h)
     data_widths : List ℕ
     data_widths = repeated (count_ones (field_at bits 73 64)) sw ++ repeated (count_ones (field_at bits 169 p)) cw
 
-    by_data : (v : MsmHeader) → field_at bits 24 30 < week → header_at (cursor_at bits 12) ≡ Ok (v, cursor_at bits 73) → 73 ≤ length bits → p ≤ 64 → 169 + p ≤ length bits
+    by_data : (v : MsmHeader) → is_time g (field_at bits 24 30) ≡ true → header_at g (cursor_at bits 12) ≡ Ok (v, cursor_at bits 73) → 73 ≤ length bits → p ≤ 64 → 169 + p ≤ length bits
         → masks_at (cursor_at bits 73) ≡ Ok (record { satellites = field_at bits 73 64; signals = field_at bits 137 32; cells = field_at bits 169 p }, cursor_at bits (169 + p)) → DataEnd sw cw (count_ones (field_at bits 73 64)) (count_ones (field_at bits 169 p)) bits (169 + p) → MsmEnd sw cw g bits
     by_data v early header room few there sets (short e s is) = short e early few (short_at_after (header_widths ++ (64 ∷ 32 ∷ p ∷ [])) data_widths bits 12 e (long p there) (rw (place p) s))
         (rw (header, sets) (is (λ s c. Ok (record { system = g; header = v; sets = record { satellites = field_at bits 73 64; signals = field_at bits 137 32; cells = field_at bits 169 p }; satellites = s; cells = c.0 }, c.1))))
@@ -179,13 +179,13 @@ msm_end sw cw g bits h = by_header (header_end bits h)
         (past_through (header_widths ++ (64 ∷ 32 ∷ p ∷ [])) data_widths (length bits) 12 (long p there) ∙ past_none data_widths (length bits) (12 + total_width (header_widths ++ (64 ∷ 32 ∷ p ∷ []))) (rw (place p) all))
         (rw (header, sets) (is (λ s c. Ok (record { system = g; header = v; sets = record { satellites = field_at bits 73 64; signals = field_at bits 137 32; cells = field_at bits 169 p }; satellites = s; cells = c.0 }, c.1))))
 
-    by_sets : (v : MsmHeader) → field_at bits 24 30 < week → header_at (cursor_at bits 12) ≡ Ok (v, cursor_at bits 73) → 73 ≤ length bits → SetsEnd bits → MsmEnd sw cw g bits
+    by_sets : (v : MsmHeader) → is_time g (field_at bits 24 30) ≡ true → header_at g (cursor_at bits 12) ≡ Ok (v, cursor_at bits 73) → 73 ≤ length bits → SetsEnd bits → MsmEnd sw cw g bits
     by_sets v early header room (no_masks e few s is) = no_masks e early few (short_at_after header_widths (mask_widths ++ (p ∷ data_widths)) bits 12 e room (short_at_more mask_widths (p ∷ data_widths) bits 73 e s)) (rw (header, is) refl)
     by_sets v early header room (many there over is) = many early there over (rw (header, is) refl)
     by_sets v early header room (short e few s is) = short e early few (short_at_after header_widths ((64 ∷ 32 ∷ p ∷ []) ++ data_widths) bits 12 e room (short_at_more (64 ∷ 32 ∷ p ∷ []) data_widths bits 73 e s)) (rw (header, is) refl)
     by_sets v early header room (good few there is) = by_data v early header room few there is (data_end sw cw (count_ones (field_at bits 73 64)) (count_ones (field_at bits 169 p)) bits (169 + p) there)
 
-    by_header : HeaderEnd bits → MsmEnd sw cw g bits
+    by_header : HeaderEnd g bits → MsmEnd sw cw g bits
     by_header (no_time e few s is) = no_time e few (short_at_more head_widths (tail_widths ++ (mask_widths ++ (p ∷ data_widths))) bits 12 e s) (rw is refl)
     by_header (late there over is) = late there over (rw is refl)
     by_header (short e early few s is) = no_masks e early (omega (arith, few)) (short_at_more header_widths (mask_widths ++ (p ∷ data_widths)) bits 12 e s) (rw is refl)

@@ -3,13 +3,14 @@ use Rattle.std.proofs.Common.{ℕ, ◌≡◌, ◌+◌, ◌-◌, ◌*◌, ◌%◌
 use Rattle.std.proofs.Math.Nat.{mod-eq_of_lt}
 use Rattle.std.proofs.lemmas.Bool.{cases_lt}
 use Rattle.std.proofs.lemmas.List.{length-drop}
-use Rattle.rtcm_msg.specs.Names.{bits_of, MsgFault, BadTime, TooManyCells, Short, Table, widths, ◌>>=◌, first_past, number_at, total_width, end_of_rows, time_table, header_table, mask_table, header_of, header_in, header_at, masks_at, week, pair_count, field_widths, parts_in, station_at, station_table}
+use Rattle.gnss_system.specs.declared.system.System.{System}
+use Rattle.rtcm_msg.specs.Names.{bits_of, MsgFault, BadTime, TooManyCells, Short, Table, widths, ◌>>=◌, first_past, number_at, total_width, end_of_rows, time_table, header_table, mask_table, header_of, header_in, header_at, masks_at, is_time, pair_count, field_widths, parts_in, station_at, station_table}
 use Rattle.rtcm_bits.specs.BitLaws.{length-bits_of}
 use Rattle.rtcm_msg.proofs.Binds.{number_short}
 use Rattle.rtcm_msg.proofs.Combine.{ok_err, past_here}
 use Rattle.rtcm_msg.proofs.FieldLaws.{contents_at, fields_at, cursor_at, field_at, number_there_at, ShortAt, fields_read, past_none}
 use Rattle.rtcm_msg.proofs.StationLaws.{station_chain, station_widths, height_widths}
-use Rattle.rtcm_msg.proofs.MsmLaws.{header_chain, header_rest_is, in_time, too_late, sets_chain, few_rest, many_rest}
+use Rattle.rtcm_msg.proofs.MsmLaws.{header_chain, header_rest_is, in_time, no_time_of, sets_chain, few_rest, many_rest}
 use Rattle.rtcm_msg.proofs.MessageLaws.{station_end}
 
 -- ---- the check
@@ -96,30 +97,30 @@ module _ (bytes : List ℕ) where
   within : (n : ℕ) → n ≤ 8 * length bytes → n ≤ length bits
   within n h = rw (length-bits_of bytes) h
 
-  pub time_missing : (e : MsgFault) → 12 ≤ 8 * length bytes → Err e ≡ end_of_rows (widths time_table) 1 (8 * length bytes) 12 → header_at (cursor_at bits 12) ≡ Err e
-  time_missing e h check = header_chain (cursor_at bits 12) ∙ rw (fields_missing time_table bits 12 e (within 12 h) (checked (widths time_table) 12 e check)) refl
+  pub time_missing : (g : System) (e : MsgFault) → 12 ≤ 8 * length bytes → Err e ≡ end_of_rows (widths time_table) 1 (8 * length bytes) 12 → header_at g (cursor_at bits 12) ≡ Err e
+  time_missing g e h check = header_chain g (cursor_at bits 12) ∙ rw (fields_missing time_table bits 12 e (within 12 h) (checked (widths time_table) 12 e check)) refl
 
-  pub time_late : 54 ≤ 8 * length bytes → week ≤ field_at bits 24 30 → header_at (cursor_at bits 12) ≡ Err BadTime
-  time_late h late = header_chain (cursor_at bits 12) ∙ rw (fields_whole time_table bits 12 (within 54 h), too_late (field_at bits 24 30) (cursor_at bits 54) late) refl
+  pub time_late : (g : System) → 54 ≤ 8 * length bytes → is_time g (field_at bits 24 30) ≡ false → header_at g (cursor_at bits 12) ≡ Err BadTime
+  time_late g h late = header_chain g (cursor_at bits 12) ∙ rw (fields_whole time_table bits 12 (within 54 h), no_time_of g (field_at bits 24 30) (cursor_at bits 54) late) refl
 
-  after_time : 54 ≤ 8 * length bytes → field_at bits 24 30 < week → header_at (cursor_at bits 12) ≡ (fields_at header_table (cursor_at bits 54) >>= λ m. Ok (header_of (field_at bits 12 12) (field_at bits 24 30) m.0, m.1))
-  after_time h early = header_chain (cursor_at bits 12) ∙ rw (fields_whole time_table bits 12 (within 54 h), in_time (field_at bits 24 30) (cursor_at bits 54) early, header_rest_is (field_at bits 12 12) (field_at bits 24 30) (cursor_at bits 54)) refl
+  after_time : (g : System) → 54 ≤ 8 * length bytes → is_time g (field_at bits 24 30) ≡ true → header_at g (cursor_at bits 12) ≡ (fields_at header_table (cursor_at bits 54) >>= λ m. Ok (header_of (field_at bits 12 12) (field_at bits 24 30) m.0, m.1))
+  after_time g h early = header_chain g (cursor_at bits 12) ∙ rw (fields_whole time_table bits 12 (within 54 h), in_time g (field_at bits 24 30) (cursor_at bits 54) early, header_rest_is (field_at bits 12 12) (field_at bits 24 30) (cursor_at bits 54)) refl
 
-  header_missing : (e : MsgFault) → 54 ≤ 8 * length bytes → field_at bits 24 30 < week → Err e ≡ end_of_rows (widths header_table) 1 (8 * length bytes) 54 → header_at (cursor_at bits 12) ≡ Err e
-  header_missing e h early check = after_time h early ∙ rw (fields_missing header_table bits 54 e (within 54 h) (checked (widths header_table) 54 e check)) refl
+  header_missing : (g : System) (e : MsgFault) → 54 ≤ 8 * length bytes → is_time g (field_at bits 24 30) ≡ true → Err e ≡ end_of_rows (widths header_table) 1 (8 * length bytes) 54 → header_at g (cursor_at bits 12) ≡ Err e
+  header_missing g e h early check = after_time g h early ∙ rw (fields_missing header_table bits 54 e (within 54 h) (checked (widths header_table) 54 e check)) refl
 
-  pub header_whole : 73 ≤ 8 * length bytes → field_at bits 24 30 < week → header_at (cursor_at bits 12) ≡ Ok (header_in bits (field_at bits 24 30), cursor_at bits 73)
-  header_whole h early = after_time (omega (arith, h)) early ∙ rw (fields_whole header_table bits 54 (within 73 h)) refl
+  pub header_whole : (g : System) → 73 ≤ 8 * length bytes → is_time g (field_at bits 24 30) ≡ true → header_at g (cursor_at bits 12) ≡ Ok (header_in bits (field_at bits 24 30), cursor_at bits 73)
+  header_whole g h early = after_time g (omega (arith, h)) early ∙ rw (fields_whole header_table bits 54 (within 73 h)) refl
 
   masks_missing : (e : MsgFault) → 73 ≤ 8 * length bytes → Err e ≡ end_of_rows (widths mask_table) 1 (8 * length bytes) 73 → masks_at (cursor_at bits 73) ≡ Err e
   masks_missing e h check = sets_chain (cursor_at bits 73) ∙ rw (fields_missing mask_table bits 73 e (within 73 h) (checked (widths mask_table) 73 e check)) refl
 
   -- The header and the first two masks are checked at once.
-  pub head_missing : (e : MsgFault) → 54 ≤ 8 * length bytes → field_at bits 24 30 < week → Err e ≡ end_of_rows (widths header_table ++ widths mask_table) 1 (8 * length bytes) 54
-      → (header_at (cursor_at bits 12) ≡ Err e) ⊎ ((header_at (cursor_at bits 12) ≡ Ok (header_in bits (field_at bits 24 30), cursor_at bits 73)) × (masks_at (cursor_at bits 73) ≡ Err e))
-  head_missing e h early check = elim (check_split (widths header_table) (widths mask_table) (8 * length bytes) 54 e h check) [
-    | inl first ↦ inl (header_missing e h early first)
-    | inr second ↦ inr (header_whole second.0 early, masks_missing e second.0 second.1)
+  pub head_missing : (g : System) (e : MsgFault) → 54 ≤ 8 * length bytes → is_time g (field_at bits 24 30) ≡ true → Err e ≡ end_of_rows (widths header_table ++ widths mask_table) 1 (8 * length bytes) 54
+      → (header_at g (cursor_at bits 12) ≡ Err e) ⊎ ((header_at g (cursor_at bits 12) ≡ Ok (header_in bits (field_at bits 24 30), cursor_at bits 73)) × (masks_at (cursor_at bits 73) ≡ Err e))
+  head_missing g e h early check = elim (check_split (widths header_table) (widths mask_table) (8 * length bytes) 54 e h check) [
+    | inl first ↦ inl (header_missing g e h early first)
+    | inr second ↦ inr (header_whole g second.0 early, masks_missing e second.0 second.1)
   ]
 
   abbrev pairs : ℕ

@@ -2,11 +2,12 @@
 use Rattle.std.proofs.Common.{ℕ, ◌≡◌, ◌+◌, ◌*◌, ◌/◌, ◌^◌, ◌≤◌, List, [], ◌∷◌, ◌++◌, length, refl, ◌∙◌, arith, lit≤, length-append, count_ones, Option, Some, None}
 use Rattle.std.specs.List.{flat_map}
 use Rattle.std.proofs.lemmas.Nat.{mul-le, ones-le}
-use Rattle.rtcm_msg.specs.Names.{uint, Message, field_bits, fields_width, total_width, columns, station_fields, MsmValue, IsValue, pair_count, msm_bits, header_fields, mask_fields, IsMessage, message_bits, message_number, satellite_widths, cell_widths}
+use Rattle.rtcm_msg.specs.Names.{uint, Message, field_bits, fields_width, total_width, columns, station_fields, MsmValue, IsValue, pair_count, msm_bits, header_fields, mask_fields, IsMessage, message_bits, message_number, satellite_widths, cell_widths, Form}
 use Rattle.rtcm_bits.specs.FrameOf.{longest_message_bits}
 use Rattle.rtcm_bits.specs.BitLaws.{length-uint}
 use Rattle.rtcm_msg.specs.declared.message.Message.TheVariants as messages
 use Rattle.rtcm_msg.specs.declared.view.Form.TheVariants as forms
+use Rattle.rtcm_msg.specs.FormLaws.{narrow}
 
 length-field_bits : (fs : List (ℕ × ℕ)) → length (field_bits fs) ≡ fields_width fs
 unfolding field_bits
@@ -41,12 +42,17 @@ msm_short sw cw number v few h =
     few_cells : (p c : ℕ) → p ≤ 64 → count_ones c ≤ p → count_ones c ≤ 64
     few_cells p c h k = omega (arith, h, k)
 
+formed_short : (form : Form) (m : MsmValue) → IsValue (satellite_widths form) (cell_widths form) m → length (msm_bits (satellite_widths form) (cell_widths form) (message_number form m.system) m 0) ≤ longest_message_bits
+formed_short form m h = let few = narrow form in msm_short (satellite_widths form) (cell_widths form) (message_number form m.system) m (omega (arith, few.0, few.1)) h
+
 pub message_short : (v : Message) → IsMessage v → length (message_bits v 0) ≤ longest_message_bits
 message_short (messages.Station s) h = rw (length-field_bits (station_fields s 0)) (by_height s.height)
   where
     by_height : (x : Option ℕ) → fields_width (station_fields (record s { height = x }) 0) ≤ longest_message_bits
     by_height None = lit≤ tt
     by_height (Some k) = lit≤ tt
-message_short (messages.Msm4 m) h = msm_short (satellite_widths forms.Msm4) (cell_widths forms.Msm4) (message_number forms.Msm4 m.system) m (lit≤ tt) h
-message_short (messages.Msm7 m) h = msm_short (satellite_widths forms.Msm7) (cell_widths forms.Msm7) (message_number forms.Msm7 m.system) m (lit≤ tt) h
+message_short (messages.Msm4 m) h = formed_short forms.Msm4 m h
+message_short (messages.Msm5 m) h = formed_short forms.Msm5 m h
+message_short (messages.Msm6 m) h = formed_short forms.Msm6 m h
+message_short (messages.Msm7 m) h = formed_short forms.Msm7 m h
 message_short (messages.Other n set) h = lit≤ tt

@@ -1,9 +1,9 @@
 -- No field that is read ends after the first 8,184 bits.
-use Rattle.std.proofs.Common.{ℕ, ◌≡◌, ◌+◌, ◌*◌, ◌≤◌, Bool, true, false, List, ◌∷◌, ◌++◌, length, take, drop, Result, Ok, Err, Option, refl, sym, ap, ◌∙◌, arith, lit≤, inl, inr, append_assoc, nat_lt, nat_le, count_ones, length-append}
+use Rattle.std.proofs.Common.{ℕ, ◌≡◌, ◌+◌, ◌*◌, ◌≤◌, Bool, true, false, List, ◌∷◌, ◌++◌, length, take, drop, Result, Ok, Err, Option, refl, sym, ap, ap₂, ◌∙◌, arith, lit≤, inl, inr, append_assoc, nat_lt, nat_le, count_ones, length-append}
 use Rattle.std.proofs.lemmas.Bool.{cases_lt, le-leb, lt-ltb}
 use Rattle.std.proofs.lemmas.Nat.{ones-le, mul-le}
 use Rattle.std.proofs.lemmas.List.{length-drop, take-append-le, drop-append-le, take-append-drop, length-take-le}
-use Rattle.rtcm_msg.specs.Names.{bits_of, number, MsgFault, BadTime, TooManyCells, Short, Message, first_past, total_width, message_of, message_at, ReadsMessage, IsFault, is_read_msm, set_of, layout, layout_by, Kind, OfStation, OfMsm, OfOther, kind_of, is_msm_kind, has_bad_time, has_too_many, repeated, Form, satellite_widths, cell_widths}
+use Rattle.rtcm_msg.specs.Names.{bits_of, number, MsgFault, BadTime, TooManyCells, Short, Message, first_past, total_width, message_by, message_with, MsmSet, kind_with, ReadsMessage, IsFault, is_read_msm, set_of, layout, layout_by, Kind, kind_of, is_msm_kind, has_bad_time, has_too_many, repeated, Form, satellite_widths, cell_widths}
 use Rattle.rtcm_bits.specs.FrameOf.{longest_message, longest_message_bits}
 use Rattle.rtcm_bits.specs.BitLaws.{bits_of-append, length-bits_of, number-take-fits}
 use Rattle.rtcm_msg.specs.Encoding.{number_of}
@@ -11,10 +11,12 @@ use Rattle.rtcm_msg.proofs.FieldLaws.{past_none, field_at}
 use Rattle.rtcm_msg.proofs.FaultLaws.{total-append, total-repeated, pair_count_of}
 use Rattle.rtcm_msg.proofs.MessageLaws.{read_again, message_found, message_fault, message_only_fault, and_all, not_true, some_none}
 use Rattle.rtcm_msg.specs.declared.message.Message.TheVariants as messages
+use Rattle.rtcm_msg.specs.declared.number.Kind.TheVariants as kinds
 use Rattle.rtcm_msg.specs.FormLaws.{narrow}
+use Rattle.rtcm_msg.proofs.SetLaws.{by_set, message_known, message_other}
 
 -- A field is the same if more bits follow.
-field_more : (a b : List Bool) (place w : ℕ) → place + w ≤ length a → field_at (a ++ b) place w ≡ field_at a place w
+pub field_more : (a b : List Bool) (place w : ℕ) → place + w ≤ length a → field_at (a ++ b) place w ≡ field_at a place w
 field_more a b place w h = ap number (ap (take w) (drop-append-le place a b (omega arith)) ∙ take-append-le w (drop place a) b (omega (arith, length-drop place a)))
 
 le_more : (k : ℕ) (a b : List Bool) → k ≤ length a → nat_le k (length (a ++ b)) ≡ nat_le k (length a)
@@ -59,12 +61,12 @@ total_few form s c p hs hc hp =
     rw (total-append (repeated s sw) (repeated c cw), total-repeated s sw, total-repeated c cw) (omega (arith, one, two, hp))
 
 layout_few : (bits : List Bool) (k : Kind) → kind_of (number_of bits) ≡ k → longest_message_bits ≤ length bits → has_too_many bits ≡ false → total_width (layout_by k bits) ≤ longest_message_bits
-layout_few bits (OfStation true) e long few = lit≤ tt
-layout_few bits (OfStation false) e long few = lit≤ tt
-layout_few bits (OfMsm form g) e long few =
+layout_few bits (kinds.Station true) e long few = lit≤ tt
+layout_few bits (kinds.Station false) e long few = lit≤ tt
+layout_few bits (kinds.Msm form g) e long few =
     let pairs_few = pairs_are bits (ap is_msm_kind e) long few in
     total_few form (count_ones (field_at bits 73 64)) (count_ones (field_at bits 169 (pair_count_of bits))) (pair_count_of bits) (ones_few bits 73 64 (lit≤ tt) (omega (arith, long))) (ones_few bits 169 (pair_count_of bits) pairs_few (omega (arith, long, pairs_few))) pairs_few
-layout_few bits OfOther e long few = lit≤ tt
+layout_few bits kinds.Other e long few = lit≤ tt
 
 fault_more : (a b : List Bool) (e : MsgFault) → longest_message_bits ≤ length a → IsFault a e → IsFault (a ++ b) e
 fault_more a b BadTime long f = time_more a b long ∙ f
@@ -75,20 +77,29 @@ fault_more a b (Short k) long (time, few, inr x) = absurd (some_none (first_past
     le_all : (t n : ℕ) → t ≤ longest_message_bits → longest_message_bits ≤ n → 0 + t ≤ n
     le_all t n h k = omega arith
 
-message_more : (a b : List Bool) → longest_message_bits ≤ length a → message_of a ≡ message_of (a ++ b)
-message_more a b long = go (message_of a) refl
+message_more : (a b : List Bool) → longest_message_bits ≤ length a → message_by kind_of a ≡ message_by kind_of (a ++ b)
+message_more a b long = go (message_by kind_of a) refl
   where
-    go : (r : Result Message MsgFault) → message_of a ≡ r → message_of a ≡ message_of (a ++ b)
+    go : (r : Result Message MsgFault) → message_by kind_of a ≡ r → message_by kind_of a ≡ message_by kind_of (a ++ b)
     go (Ok v) e = e ∙ sym (read_again (a ++ b) v (reads_more a b long v (message_found a v e).reads))
     go (Err f) e = e ∙ sym (message_only_fault (a ++ b) f (fault_more a b f long (message_fault a f e)))
 
--- The first 1,023 bytes determine the message.
-pub message_prefix : (bytes : List ℕ) → longest_message ≤ length bytes → message_at (take longest_message bytes) ≡ message_at bytes
-message_prefix bytes h =
-    let prefix = take longest_message bytes in
-    let len : length (bits_of prefix) ≡ 8 * longest_message = length-bits_of prefix ∙ ap (λ (n : ℕ). 8 * n) (length-take-le longest_message bytes h) in
-    let whole : bits_of bytes ≡ bits_of prefix ++ bits_of (drop longest_message bytes) = ap bits_of (sym (take-append-drop longest_message bytes)) ∙ bits_of-append prefix (drop longest_message bytes) in
-    message_more (bits_of prefix) (bits_of (drop longest_message bytes)) (exact_long _ len) ∙ ap message_of (sym whole)
+-- The first 1,023 bytes determine the message, and if the MSMs of a set are decoded.
+prefix_bits : (bytes : List ℕ) → longest_message ≤ length bytes → (longest_message_bits ≤ length (bits_of (take longest_message bytes))) × (bits_of bytes ≡ bits_of (take longest_message bytes) ++ bits_of (drop longest_message bytes))
+prefix_bits bytes h = (exact_long _ (length-bits_of (take longest_message bytes) ∙ ap (λ (n : ℕ). 8 * n) (length-take-le longest_message bytes h)), ap bits_of (sym (take-append-drop longest_message bytes)) ∙ bits_of-append (take longest_message bytes) (drop longest_message bytes))
   where
     exact_long : (n : ℕ) → n ≡ 8 * longest_message → longest_message_bits ≤ n
     exact_long n e = omega arith
+
+with_more : (set : MsmSet) (a b : List Bool) → longest_message_bits ≤ length a → message_by (kind_with set) a ≡ message_by (kind_with set) (a ++ b)
+with_more set a b long =
+    let there : 12 ≤ length a = omega (arith, long) in
+    let more : 12 ≤ length (a ++ b) = omega (arith, long, length-append a b) in
+    let same = ap (kind_with set) (number_more a b long) in
+    elim (by_set set (number_of a)) [
+      | inl known ↦ message_known set a known ∙ (message_more a b long ∙ sym (message_known set (a ++ b) (same ∙ (known ∙ ap kind_of (sym (number_more a b long))))))
+      | inr other ↦ message_other set a there other ∙ (ap₂ (λ n s. Ok (messages.Other n s)) (sym (number_more a b long)) (sym (set_more a b long)) ∙ sym (message_other set (a ++ b) more (same ∙ other)))
+    ]
+
+pub with_prefix : (set : MsmSet) (bytes : List ℕ) → longest_message ≤ length bytes → message_with set (take longest_message bytes) ≡ message_with set bytes
+with_prefix set bytes h = let p = prefix_bits bytes h in with_more set _ _ p.0 ∙ ap (message_by (kind_with set)) (sym p.1)

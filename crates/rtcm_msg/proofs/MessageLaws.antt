@@ -1,13 +1,12 @@
 -- Reading a message: the bits that were read, reading an encoding, and the fault.
-use Rattle.std.proofs.Common.{ℕ, ◌≡◌, ◌+◌, ◌==◌, ◌^◌, ◌<◌, ◌≤◌, ◌&&◌, Bool, true, false, List, [], ◌∷◌, ◌++◌, length, drop, Result, Ok, Err, Option, Some, None, refl, sym, ap, subst, ◌∙◌, arith, lit<, ◌⊎◌, inl, inr, append_assoc, nat_lt, nat_le, if◌then◌else◌, is_some, IsTrue, replicate}
-use Rattle.std.specs.List.{AllByRecursion}
+use Rattle.std.proofs.Common.{ℕ, ◌≡◌, ◌+◌, ◌==◌, ◌^◌, ◌<◌, ◌≤◌, ◌&&◌, Bool, true, false, List, [], ◌∷◌, ◌++◌, length, drop, Result, Ok, Err, Option, Some, None, refl, sym, ap, subst, ◌∙◌, arith, not, ◌⊎◌, inl, inr, append_assoc, nat_lt, nat_le, if◌then◌else◌, is_some, IsTrue, replicate}
 use Rattle.std.proofs.lemmas.Bool.{cases_lt, lt-leb, le-leb, lt-ltb, le-ltb}
 use Rattle.std.proofs.lemmas.Nat.{pow_pos}
 use Rattle.std.proofs.lemmas.List.{length-drop, drop-drop}
 use Rattle.gnss_system.specs.declared.system.System.{System}
-use Rattle.gnss_system.specs.declared.system.System.TheVariants.{Gps, Galileo}
-use Rattle.rtcm_msg.specs.Names.{uint, filled, missing, Cursor, MsgFault, BadTime, TooManyCells, Short, StationParts, Message, ◌>>=◌, field_bits, first_past, total_width, columns, station_at, station_table, station_parts, msm_at, msm_bits, MsmValue, IsValue, week, mask_fields, message_of, body_at, start, other_at, set_at, body_by, Kind, OfStation, OfMsm, OfOther, kind_in, kind_of, kind_table, is_msm_kind, station_number, ReadsMessage, IsMessage, IsFault, message_bits, reserved_width, is_other, is_read_msm, set_of, layout, layout_by, has_bad_time, has_too_many, Form, satellite_widths, cell_widths, message_number, message_in}
+use Rattle.rtcm_msg.specs.Names.{bits_of, message_at, uint, filled, missing, Cursor, MsgFault, BadTime, TooManyCells, Short, StationParts, Message, ◌>>=◌, field_bits, first_past, total_width, columns, station_at, station_table, station_parts, msm_at, msm_bits, MsmValue, IsValue, is_time, mask_fields, message_by, start, other_at, other_of, set_at, body_by, Kind, kind_of, is_msm_kind, station_number, ReadsMessage, IsMessage, IsFault, message_bits, reserved_width, is_other, is_read_msm, layout, layout_by, has_bad_time, has_too_many, is_bad_time, Form, satellite_widths, cell_widths, message_number, message_in}
 use Rattle.rtcm_msg.specs.Encoding.{number_of}
+use Rattle.rtcm_msg.proofs.NumberLaws.{number_is, of_station, of_msm}
 use Rattle.rtcm_msg.proofs.Binds.{bind_ok, ok_inj, of_read, number_consumed, number_short}
 use Rattle.rtcm_msg.proofs.Combine.{cursor, number_again, ok_err, past_here, past_next}
 use Rattle.rtcm_msg.proofs.StationLaws.{station_again, station_consumed, station_tail, station_widths, height_widths, station_chain, IsRead}
@@ -16,48 +15,17 @@ use Rattle.rtcm_msg.proofs.FieldLaws.{contents_at, fields_at, cursor_at, field_a
 use Rattle.rtcm_msg.proofs.FaultLaws.{MsmEnd, no_time, late, no_masks, many, short, good, msm_end, msm_widths, pair_count_of}
 use Rattle.rtcm_msg.specs.declared.message.Message.TheVariants as messages
 use Rattle.rtcm_msg.specs.declared.view.Form.TheVariants as forms
+use Rattle.rtcm_msg.specs.declared.number.Kind.TheVariants as kinds
 
 -- ---- the message number
 
--- The number of a kind.
-abbrev pub IsNumber : Kind → ℕ → Type 0
-IsNumber (OfStation has) n = n ≡ station_number has
-IsNumber (OfMsm form g) n = n ≡ message_number form g
-IsNumber OfOther n = Unit {0}
+pub message_there : (kind : ℕ → Kind) (bits : List Bool) → 12 ≤ length bits → message_by kind bits ≡ body_by (kind (number_of bits)) (number_of bits) (cursor_at bits 12)
+unfolding message_by
+message_there kind bits h = rw (number_there_at 12 bits 0 h) refl
 
-row_is : (b : Bool) (n m : ℕ) (k j : Kind) → (n == m) ≡ b → IsNumber k m → IsNumber j n → IsNumber (if b then k else j) n
-row_is true n m k j e h t = let same : n ≡ m = grind (arith, e) in rw same h
-row_is false n m k j e h t = t
-
-rows_are : (n : ℕ) (rows : List (ℕ × Kind)) → AllByRecursion (λ r. IsNumber r.1 r.0) rows → IsNumber (kind_in rows n) n
-rows_are n [] h = tt
-rows_are n (r ∷ rows) h = row_is (n == r.0) n r.0 r.1 (kind_in rows n) refl h.0 (rows_are n rows h.1)
-
-pub number_is : (n : ℕ) (k : Kind) → kind_of n ≡ k → IsNumber k n
-number_is n k e = subst (λ (k : Kind). IsNumber k n) e (rows_are n kind_table (refl, (refl, (refl, (refl, (refl, (refl, tt)))))))
-
-of_station : (has : Bool) → (kind_of (station_number has) ≡ OfStation has) × (station_number has < 2 ^ 12)
-of_station true = (refl, lit< tt)
-of_station false = (refl, lit< tt)
-
-of_msm : (form : Form) (g : System) → (kind_of (message_number form g) ≡ OfMsm form g) × (message_number form g < 2 ^ 12)
-of_msm forms.Msm4 Galileo = (refl, lit< tt)
-of_msm forms.Msm4 Gps = (refl, lit< tt)
-of_msm forms.Msm7 Galileo = (refl, lit< tt)
-of_msm forms.Msm7 Gps = (refl, lit< tt)
-
--- The value of a message of a known kind.
-read_by : (n : ℕ) (k : Kind) (c : Cursor) → kind_of n ≡ k → body_at n c ≡ body_by k n c
-unfolding body_at
-read_by n k c e = ap (λ (k : Kind). body_by k n c) e
-
-pub message_there : (bits : List Bool) → 12 ≤ length bits → message_of bits ≡ body_at (number_of bits) (cursor_at bits 12)
-unfolding message_of
-message_there bits h = rw (number_there_at 12 bits 0 h) refl
-
-pub message_none : (bits : List Bool) → length bits < 12 → message_of bits ≡ Err (Short 0)
-unfolding message_of
-message_none bits h = rw (number_short 12 (start bits) h) refl
+pub message_none : (kind : ℕ → Kind) (bits : List Bool) → length bits < 12 → message_by kind bits ≡ Err (Short 0)
+unfolding message_by
+message_none kind bits h = rw (number_short 12 (start bits) h) refl
 
 -- ---- other messages
 
@@ -73,18 +41,18 @@ other_set bits h = elim (cases_lt (length bits) 55) [ inl few ↦ none bits few 
         let one : drop 30 (drop 12 (drop 12 bits)) ≡ drop 54 bits = ap (drop 30) (drop-drop 12 12 bits) ∙ drop-drop 30 24 bits in
         rw (one, le-ltb (length (drop 12 bits)) 43 more, le-leb 55 (length bits) lots) refl
 
-other_is : (bits : List Bool) → 12 ≤ length bits → other_at (number_of bits) (cursor_at bits 12) ≡ messages.Other (number_of bits) (set_of bits)
+pub other_is : (bits : List Bool) → 12 ≤ length bits → other_at (number_of bits) (cursor_at bits 12) ≡ other_of bits
 other_is bits h = rw (other_set bits h) refl
 
 -- ---- reading an encoding
 
 -- Bits that begin with this message number are read as the fields after it.
-again : (bits : List Bool) (n : ℕ) (tail rest : List Bool) → n < 2 ^ 12 → bits ≡ (uint 12 n ++ tail) ++ rest → message_of bits ≡ body_at n (cursor 12 (tail ++ rest))
-unfolding message_of
+again : (bits : List Bool) (n : ℕ) (tail rest : List Bool) → n < 2 ^ 12 → bits ≡ (uint 12 n ++ tail) ++ rest → message_by kind_of bits ≡ body_by (kind_of n) n (cursor 12 (tail ++ rest))
+unfolding message_by
 again bits n tail rest small is = rw (is, append_assoc (uint 12 n) tail rest, number_again 12 n 0 (tail ++ rest) small) refl
 
 msm_again_by : (form : Form) (bits rest : List Bool) (m : MsmValue) (reserved : ℕ) → IsValue (satellite_widths form) (cell_widths form) m → reserved < 128
-    → bits ≡ msm_bits (satellite_widths form) (cell_widths form) (message_number form m.system) m reserved ++ rest → message_of bits ≡ Ok (message_in form m)
+    → bits ≡ msm_bits (satellite_widths form) (cell_widths form) (message_number form m.system) m reserved ++ rest → message_by kind_of bits ≡ Ok (message_in form m)
 unfolding field_bits
 msm_again_by form bits rest m reserved h small is =
     let sw = satellite_widths form in
@@ -93,21 +61,23 @@ msm_again_by form bits rest m reserved h small is =
     let tail = msm_tail sw cw m reserved in
     let read = msm_again sw cw m reserved 12 rest h small in
     again bits n tail rest (of_msm form m.system).1 (is ∙ ap (λ t. t ++ rest) (append_assoc (uint 12 n) (field_bits (header_tail m.header reserved)) (field_bits (mask_fields m.sets) ++ (columns sw m.satellites ++ columns cw m.cells))))
-    ∙ (read_by n _ (cursor 12 (tail ++ rest)) (of_msm form m.system).0 ∙ rw read.1 refl)
+    ∙ rw ((of_msm form m.system).0, read.1) refl
 
-pub message_again : (bits rest : List Bool) (v : Message) (reserved : ℕ) → IsMessage v → is_other v ≡ false → reserved < 2 ^ reserved_width v → bits ≡ message_bits v reserved ++ rest → message_of bits ≡ Ok v
+pub message_again : (bits rest : List Bool) (v : Message) (reserved : ℕ) → IsMessage v → is_other v ≡ false → reserved < 2 ^ reserved_width v → bits ≡ message_bits v reserved ++ rest → message_by kind_of bits ≡ Ok v
 unfolding field_bits
 message_again bits rest (messages.Station s) reserved h known small is =
     let n = station_number (is_some s.height) in
-    again bits n (field_bits (station_tail s reserved)) rest (of_station (is_some s.height)).1 is ∙ (read_by n _ (cursor 12 (field_bits (station_tail s reserved) ++ rest)) (of_station (is_some s.height)).0 ∙ rw (station_again s reserved 12 rest h small) refl)
+    again bits n (field_bits (station_tail s reserved)) rest (of_station (is_some s.height)).1 is ∙ rw ((of_station (is_some s.height)).0, station_again s reserved 12 rest h small) refl
 message_again bits rest (messages.Msm4 m) reserved h known small is = msm_again_by forms.Msm4 bits rest m reserved h small is
+message_again bits rest (messages.Msm5 m) reserved h known small is = msm_again_by forms.Msm5 bits rest m reserved h small is
+message_again bits rest (messages.Msm6 m) reserved h known small is = msm_again_by forms.Msm6 bits rest m reserved h small is
 message_again bits rest (messages.Msm7 m) reserved h known small is = msm_again_by forms.Msm7 bits rest m reserved h small is
 message_again bits rest (messages.Other n set) reserved h known small is = cc
 
 -- Bits that begin with the encoding of a value are read as the value.
-pub read_again : (bits : List Bool) (v : Message) → ReadsMessage bits v → message_of bits ≡ Ok v
+pub read_again : (bits : List Bool) (v : Message) → ReadsMessage bits v → message_by kind_of bits ≡ Ok v
 read_again bits v (inl b) = message_again bits b.rest v b.encodes.reserved b.is_value b.known b.encodes.fits (b.joined ∙ ap (λ t. t ++ b.rest) b.encodes.bits_are)
-read_again bits v (inr o) = message_there bits o.number_there ∙ (read_by (number_of bits) OfOther (cursor_at bits 12) o.unread ∙ ap Ok (other_is bits o.number_there ∙ sym o.value))
+read_again bits v (inr o) = message_there kind_of bits o.number_there ∙ (ap (λ (k : Kind). body_by k (number_of bits) (cursor_at bits 12)) o.unread ∙ ap Ok (other_is bits o.number_there ∙ sym o.value))
 
 -- ---- what was read
 
@@ -135,6 +105,8 @@ found_station bits has s d prefix r =
 begins_msm : (form : Form) (bits : List Bool) (m : MsmValue) (reserved : ℕ) (rest : List Bool) → IsValue (satellite_widths form) (cell_widths form) m → reserved < 128
     → bits ≡ msm_bits (satellite_widths form) (cell_widths form) (message_number form m.system) m reserved ++ rest → Found bits (message_in form m)
 begins_msm forms.Msm4 bits m reserved rest h small is = begins bits (messages.Msm4 m) reserved rest h refl small is
+begins_msm forms.Msm5 bits m reserved rest h small is = begins bits (messages.Msm5 m) reserved rest h refl small is
+begins_msm forms.Msm6 bits m reserved rest h small is = begins bits (messages.Msm6 m) reserved rest h refl small is
 begins_msm forms.Msm7 bits m reserved rest h small is = begins bits (messages.Msm7 m) reserved rest h refl small is
 
 found_msm : (form : Form) (bits : List Bool) (g : System) (m : MsmValue) (d : Cursor) → bits ≡ uint 12 (message_number form g) ++ drop 12 bits → IsMsmRead (satellite_widths form) (cell_widths form) g m (cursor_at bits 12) d → Found bits (message_in form m)
@@ -147,28 +119,28 @@ found_msm form bits g m d prefix r =
     ∙ ap (λ (t : List Bool). t ++ d.rest) (sym (append_assoc (uint 12 n) (field_bits (header_tail m.header r.reserved)) (field_bits (mask_fields m.sets) ++ content))))
 
 body_found : (bits : List Bool) (v : Message) → 12 ≤ length bits → (k : Kind) → kind_of (number_of bits) ≡ k → body_by k (number_of bits) (cursor_at bits 12) ≡ Ok v → Found bits v
-body_found bits v h (OfStation has) e read =
+body_found bits v h (kinds.Station has) e read =
     let body = bind_ok (station_at has (cursor_at bits 12)) _ v read in
     let x : Message = messages.Station body.0.0 in
     of_read (Found bits) x v body.2 (found_station bits has body.0.0 body.0.1 (begins_with_number bits h ∙ ap (λ (k : ℕ). uint 12 k ++ drop 12 bits) (number_is _ _ e)) (station_consumed has (cursor_at bits 12) body.0 body.1))
-body_found bits v h (OfMsm form g) e read =
+body_found bits v h (kinds.Msm form g) e read =
     let body = bind_ok (msm_at (satellite_widths form) (cell_widths form) g (cursor_at bits 12)) _ v read in
     of_read (Found bits) (message_in form body.0.0) v body.2 (found_msm form bits g body.0.0 body.0.1 (begins_with_number bits h ∙ ap (λ (k : ℕ). uint 12 k ++ drop 12 bits) (number_is _ _ e)) (msm_consumed (satellite_widths form) (cell_widths form) g (cursor_at bits 12) body.0 body.1))
-body_found bits v h OfOther e read =
-    let value : v ≡ messages.Other (number_of bits) (set_of bits) = ok_inj v _ _ refl (sym read) ∙ other_is bits h in
+body_found bits v h kinds.Other e read =
+    let value : v ≡ other_of bits = ok_inj v _ _ refl (sym read) ∙ other_is bits h in
     subst (Found bits) (sym value) (record { is_message = tt; reads = inr (record { number_there = h; unread = e; value = refl }) })
 
-pub message_found : (bits : List Bool) (v : Message) → message_of bits ≡ Ok v → Found bits v
+pub message_found : (bits : List Bool) (v : Message) → message_by kind_of bits ≡ Ok v → Found bits v
 message_found bits v read = elim (cases_lt (length bits) 12) [
-  | inl few ↦ absurd (ok_err v (Short 0) (message_of bits) read (message_none bits few))
-  | inr there ↦ body_found bits v there _ refl (sym (message_there bits there ∙ read_by (number_of bits) _ (cursor_at bits 12) refl) ∙ read)
+  | inl few ↦ absurd (ok_err v (Short 0) (message_by kind_of bits) read (message_none kind_of bits few))
+  | inr there ↦ body_found bits v there _ refl (sym (message_there kind_of bits there) ∙ read)
 ]
 
 -- ---- the fault
 
 data MessageEnd (bits : List Bool) : Type 0 where
-  faulty : (e : MsgFault) → IsFault bits e → message_of bits ≡ Err e → MessageEnd bits
-  sound : (v : Message) → ((f : MsgFault) → IsFault bits f → ⊥) → message_of bits ≡ Ok v → MessageEnd bits
+  faulty : (e : MsgFault) → IsFault bits e → message_by kind_of bits ≡ Err e → MessageEnd bits
+  sound : (v : Message) → ((f : MsgFault) → IsFault bits f → ⊥) → message_by kind_of bits ≡ Ok v → MessageEnd bits
 
 and_first : (a b c : Bool) → a ≡ false → (a && b && c) ≡ false
 and_first true b c h = absurd (cc)
@@ -177,6 +149,10 @@ and_first false b c h = refl
 and_second : (a b c : Bool) → b ≡ false → (a && b && c) ≡ false
 and_second true b c h = rw h refl
 and_second false b c h = refl
+
+and_false : (a : Bool) → (a && false) ≡ false
+and_false true = refl
+and_false false = refl
 
 and_third : (a b c : Bool) → c ≡ false → (a && b && c) ≡ false
 and_third true true c h = h
@@ -197,8 +173,14 @@ pub record InTime (bits : List Bool) : Type 0 where
   pub time : has_bad_time bits ≡ false
   pub few : has_too_many bits ≡ false
 
-no_msm_in_time : (bits : List Bool) → is_read_msm (number_of bits) ≡ false → InTime bits
-no_msm_in_time bits h = record { time = and_first (is_read_msm (number_of bits)) (nat_le 54 (length bits)) (nat_le week (field_at bits 24 30)) h; few = and_first (is_read_msm (number_of bits)) (nat_le 169 (length bits)) (nat_lt 64 (pair_count_of bits)) h }
+time_by : (bits : List Bool) (k : Kind) → kind_of (number_of bits) ≡ k → has_bad_time bits ≡ (nat_le 54 (length bits) && is_bad_time k (field_at bits 24 30))
+time_by bits k e = ap (λ (k : Kind). nat_le 54 (length bits) && is_bad_time k (field_at bits 24 30)) e
+
+no_msm_in_time : (bits : List Bool) (k : Kind) → kind_of (number_of bits) ≡ k → is_msm_kind k ≡ false → is_bad_time k (field_at bits 24 30) ≡ false → InTime bits
+no_msm_in_time bits k e none fine = record {
+  time = time_by bits k e ∙ ap (λ (b : Bool). nat_le 54 (length bits) && b) fine ∙ and_false (nat_le 54 (length bits));
+  few = and_first (is_read_msm (number_of bits)) (nat_le 169 (length bits)) (nat_lt 64 (pair_count_of bits)) (ap is_msm_kind e ∙ none);
+}
 
 no_fault : (bits : List Bool) → 12 ≤ length bits → InTime bits → first_past (length bits) 0 (layout bits) ≡ None → (f : MsgFault) → IsFault bits f → ⊥
 no_fault bits h clean none BadTime f = not_true (has_bad_time bits) clean.time f
@@ -227,64 +209,67 @@ station_end bits has h = elim (fields_read station_table bits 12 h) [
       | inr all ↦ inr ((station_parts (contents_at station_table bits 12) (Some (field_at bits 152 16)), cursor_at bits 168), station_chain true (cursor_at bits 12) ∙ rw (read, number_there_at 16 bits 152 all) refl, past_none (station_widths ++ (16 ∷ [])) (length bits) 12 all)
     ]
 
-pub layout_station : (has : Bool) (bits : List Bool) → layout_by (OfStation has) bits ≡ 12 ∷ (station_widths ++ height_widths has)
+pub layout_station : (has : Bool) (bits : List Bool) → layout_by (kinds.Station has) bits ≡ 12 ∷ (station_widths ++ height_widths has)
 layout_station true bits = refl
 layout_station false bits = refl
 
--- The result of reading a multiple signal message, for the widths of either grid.
-msm_message_end : {bits : List Bool} {sw cw : List ℕ} {g : System} (wrap : MsmValue → Message) → 12 ≤ length bits → is_read_msm (number_of bits) ≡ true → layout bits ≡ 12 ∷ msm_widths sw cw bits
-    → message_of bits ≡ (msm_at sw cw g (cursor_at bits 12) >>= λ m. Ok (wrap m.0)) → MsmEnd sw cw g bits → MessageEnd bits
-msm_message_end {bits} {sw} {cw} {g} wrap h msm lay read end = go end
+-- The result of reading a multiple signal message, for the widths of any form.
+msm_message_end : {bits : List Bool} {sw cw : List ℕ} {g : System} (wrap : MsmValue → Message) → 12 ≤ length bits → is_read_msm (number_of bits) ≡ true
+    → has_bad_time bits ≡ (nat_le 54 (length bits) && not (is_time g (field_at bits 24 30))) → layout bits ≡ 12 ∷ msm_widths sw cw bits
+    → message_by kind_of bits ≡ (msm_at sw cw g (cursor_at bits 12) >>= λ m. Ok (wrap m.0)) → MsmEnd sw cw g bits → MessageEnd bits
+msm_message_end {bits} {sw} {cw} {g} wrap h msm time lay read end = go end
   where
     m : Bool
     m = is_read_msm (number_of bits)
 
-    early_is : field_at bits 24 30 < week → has_bad_time bits ≡ false
-    early_is early = and_third m (nat_le 54 (length bits)) (nat_le week (field_at bits 24 30)) (lt-leb week (field_at bits 24 30) early)
+    early_is : is_time g (field_at bits 24 30) ≡ true → has_bad_time bits ≡ false
+    early_is early = time ∙ ap (λ (b : Bool). nat_le 54 (length bits) && not b) early ∙ and_false (nat_le 54 (length bits))
 
     few_is : pair_count_of bits ≤ 64 → has_too_many bits ≡ false
     few_is few = and_third m (nat_le 169 (length bits)) (nat_lt 64 (pair_count_of bits)) (le-ltb 64 (pair_count_of bits) few)
 
     go : MsmEnd sw cw g bits → MessageEnd bits
-    go (no_time e few s is) = faulty e (short_fault bits (msm_widths sw cw bits) e h (record { time = and_second m (nat_le 54 (length bits)) (nat_le week (field_at bits 24 30)) (lt-leb 54 (length bits) few); few = and_second m (nat_le 169 (length bits)) (nat_lt 64 (pair_count_of bits)) (lt-leb 169 (length bits) (omega (arith, few))) }) lay s) (read ∙ rw is refl)
-    go (late there over is) = faulty BadTime (and_all m (nat_le 54 (length bits)) (nat_le week (field_at bits 24 30)) msm (le-leb 54 (length bits) there) (le-leb week (field_at bits 24 30) over)) (read ∙ rw is refl)
+    go (no_time e few s is) = faulty e (short_fault bits (msm_widths sw cw bits) e h (record { time = time ∙ rw (lt-leb 54 (length bits) few) refl; few = and_second m (nat_le 169 (length bits)) (nat_lt 64 (pair_count_of bits)) (lt-leb 169 (length bits) (omega (arith, few))) }) lay s) (read ∙ rw is refl)
+    go (late there over is) = faulty BadTime (time ∙ rw (le-leb 54 (length bits) there, over) refl) (read ∙ rw is refl)
     go (no_masks e early few s is) = faulty e (short_fault bits (msm_widths sw cw bits) e h (record { time = early_is early; few = and_second m (nat_le 169 (length bits)) (nat_lt 64 (pair_count_of bits)) (lt-leb 169 (length bits) few) }) lay s) (read ∙ rw is refl)
     go (many early there over is) = faulty TooManyCells (early_is early, and_all m (nat_le 169 (length bits)) (nat_lt 64 (pair_count_of bits)) msm (le-leb 169 (length bits) there) (lt-ltb 64 (pair_count_of bits) over)) (read ∙ rw is refl)
     go (short e early few s is) = faulty e (short_fault bits (msm_widths sw cw bits) e h (record { time = early_is early; few = few_is few }) lay s) (read ∙ rw is refl)
     go (good v early few none is) = sound (wrap v.0) (no_fault bits h (record { time = early_is early; few = few_is few }) (past_all bits (msm_widths sw cw bits) h lay none)) (read ∙ rw is refl)
 
-end_by : (bits : List Bool) → 12 ≤ length bits → (k : Kind) → layout bits ≡ layout_by k bits → is_read_msm (number_of bits) ≡ is_msm_kind k → message_of bits ≡ body_by k (number_of bits) (cursor_at bits 12) → MessageEnd bits
+end_by : (bits : List Bool) → 12 ≤ length bits → (k : Kind) → kind_of (number_of bits) ≡ k → message_by kind_of bits ≡ body_by k (number_of bits) (cursor_at bits 12) → MessageEnd bits
 unfolding first_past
-end_by bits h (OfStation has) lay msm read =
-    let lay : layout bits ≡ 12 ∷ (station_widths ++ height_widths has) = lay ∙ layout_station has bits in
-    let clean = no_msm_in_time bits msm in
+end_by bits h (kinds.Station has) e read =
+    let lay : layout bits ≡ 12 ∷ (station_widths ++ height_widths has) = ap (λ (k : Kind). layout_by k bits) e ∙ layout_station has bits in
+    let clean = no_msm_in_time bits (kinds.Station has) e refl refl in
     elim (station_end bits has h) [
       | inl bad ↦ faulty bad.0 (short_fault bits (station_widths ++ height_widths has) bad.0 h clean lay bad.2) (read ∙ rw bad.1 refl)
       | inr fine ↦ sound (messages.Station fine.0.0) (no_fault bits h clean (past_all bits (station_widths ++ height_widths has) h lay fine.2)) (read ∙ rw fine.1 refl)
     ]
-end_by bits h (OfMsm form g) lay msm read = msm_message_end (message_in form) h msm lay read (msm_end (satellite_widths form) (cell_widths form) g bits h)
-end_by bits h OfOther lay msm read = sound _ (no_fault bits h (no_msm_in_time bits msm) (ap (first_past (length bits) 0) lay)) read
+end_by bits h (kinds.Msm form g) e read =
+    msm_message_end (message_in form) h (ap is_msm_kind e) (time_by bits (kinds.Msm form g) e) (ap (λ (k : Kind). layout_by k bits) e) read (msm_end (satellite_widths form) (cell_widths form) g bits h)
+end_by bits h kinds.Other e read =
+    sound _ (no_fault bits h (no_msm_in_time bits kinds.Other e refl refl) (ap (λ (k : Kind). first_past (length bits) 0 (layout_by k bits)) e)) read
 
 message_end : (bits : List Bool) → MessageEnd bits
 unfolding first_past
 message_end bits = elim (cases_lt (length bits) 12) [
   | inl few ↦ faulty (Short 0) (
-    and_second (is_read_msm (number_of bits)) (nat_le 54 (length bits)) (nat_le week (field_at bits 24 30)) (lt-leb 54 (length bits) (omega (arith, few))),
+    rw (lt-leb 54 (length bits) (omega (arith, few))) refl,
     and_second (is_read_msm (number_of bits)) (nat_le 169 (length bits)) (nat_lt 64 (pair_count_of bits)) (lt-leb 169 (length bits) (omega (arith, few))),
     inl (few, refl),
-  ) (message_none bits few)
-  | inr there ↦ end_by bits there _ refl refl (message_there bits there ∙ read_by (number_of bits) _ (cursor_at bits 12) refl)
+  ) (message_none kind_of bits few)
+  | inr there ↦ end_by bits there _ refl (message_there kind_of bits there)
 ]
 
-pub message_fault : (bits : List Bool) (e : MsgFault) → message_of bits ≡ Err e → IsFault bits e
+pub message_fault : (bits : List Bool) (e : MsgFault) → message_by kind_of bits ≡ Err e → IsFault bits e
 message_fault bits e read = go (message_end bits)
   where
     err_same : (e d : MsgFault) (r : Result Message MsgFault) → r ≡ Err e → r ≡ Err d → e ≡ d
     err_same e d r a b = cc
 
     go : MessageEnd bits → IsFault bits e
-    go (faulty d f is) = subst (IsFault bits) (err_same d e (message_of bits) is read) f
-    go (sound v none is) = absurd (ok_err v e (message_of bits) is read)
+    go (faulty d f is) = subst (IsFault bits) (err_same d e (message_by kind_of bits) is read) f
+    go (sound v none is) = absurd (ok_err v e (message_by kind_of bits) is read)
 
 fault_one : (bits : List Bool) (e f : MsgFault) → IsFault bits e → IsFault bits f → e ≡ f
 fault_one bits BadTime BadTime a b = refl
@@ -303,10 +288,10 @@ fault_one bits (Short k) (Short j) (at, am, inr x) (bt, bm, inr y) = ap Short (s
     some_same : (r : Option ℕ) (k j : ℕ) → r ≡ Some k → r ≡ Some j → k ≡ j
     some_same r k j e f = cc
 
-pub message_only_fault : (bits : List Bool) (f : MsgFault) → IsFault bits f → message_of bits ≡ Err f
+pub message_only_fault : (bits : List Bool) (f : MsgFault) → IsFault bits f → message_by kind_of bits ≡ Err f
 message_only_fault bits f fault = go (message_end bits)
   where
-    go : MessageEnd bits → message_of bits ≡ Err f
+    go : MessageEnd bits → message_by kind_of bits ≡ Err f
     go (faulty d at_masks is) = is ∙ ap Err (fault_one bits d f at_masks fault)
     go (sound v none is) = absurd (none f fault)
 
@@ -317,3 +302,6 @@ zero_read v value known = inl (record { is_value = value; known = known; prefix 
   where
     zero_fits : (v : Message) → 0 < 2 ^ reserved_width v
     zero_fits v = pow_pos (reserved_width v)
+
+pub message_value : (bytes : List ℕ) (m : Message) → message_at bytes ≡ Ok m → IsMessage m
+message_value bytes m read = (message_found (bits_of bytes) m read).is_message

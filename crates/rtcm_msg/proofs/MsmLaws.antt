@@ -1,9 +1,12 @@
 -- Reading a multiple signal message: the bits that were read, reading an encoding, and the fault.
-use Rattle.std.proofs.Common.{ℕ, ◌≡◌, ◌+◌, ◌*◌, ◌^◌, ◌<◌, ◌≤◌, Bool, List, [], ◌∷◌, ◌++◌, length, Result, Ok, Err, refl, sym, ap, ◌∙◌, arith, inl, inr, append_assoc, replicate, count_ones, ◌/◌}
-use Rattle.std.proofs.lemmas.Bool.{cases_lt}
+use Rattle.std.proofs.Common.{ℕ, ◌≡◌, ◌+◌, ◌*◌, ◌^◌, ◌<◌, ◌≤◌, Bool, true, false, List, [], ◌∷◌, ◌++◌, length, Result, Ok, Err, refl, sym, ap, ◌∙◌, arith, inl, inr, append_assoc, replicate, count_ones, ◌/◌, nat_lt}
+use Rattle.std.proofs.lemmas.Bool.{cases_lt, cases_Bool}
 use Rattle.std.proofs.lemmas.List.{length-map, length-replicate}
 use Rattle.gnss_system.specs.declared.system.System.{System}
-use Rattle.rtcm_msg.specs.Names.{uint, Cursor, MsgFault, BadTime, TooManyCells, MsmHeader, number_at, reading, ◌>>=◌, field_bits, total_width, columns, columns_at, EachBelow, masks_after, header_at, masks_at, msm_at, checked_time, week, IsHeader, AreMasks, IsValue, MasksValue, MsmValue, pair_count, mask_fields, time_table, header_table, mask_table, time_contents, header_contents, header_of, widths, Contents, fields_of}
+use Rattle.gnss_system.specs.declared.system.System.TheVariants.{Gps, Galileo, Glonass, Beidou, Qzss, Sbas}
+use Rattle.gnss_system.proofs.Checked.{both_first, is_less}
+use Rattle.rtcm_msg.specs.Msm.{week}
+use Rattle.rtcm_msg.specs.Names.{uint, Cursor, MsgFault, BadTime, TooManyCells, MsmHeader, number_at, reading, ◌>>=◌, field_bits, total_width, columns, columns_at, EachBelow, masks_after, header_at, masks_at, msm_at, checked_time, is_time, IsHeader, AreMasks, IsValue, MasksValue, MsmValue, pair_count, mask_fields, time_table, header_table, mask_table, time_contents, header_contents, header_of, widths, Contents, fields_of}
 use Rattle.rtcm_msg.proofs.Binds.{of_read, bind_ok, number_consumed}
 use Rattle.rtcm_msg.proofs.Combine.{ok_err, cursor, number_again}
 use Rattle.rtcm_msg.proofs.WritingSteps.{field_bits-append}
@@ -33,9 +36,9 @@ header_rest station time c = reading header_table c (λ m. Ok (header_of station
 pub header_rest_is : (station time : ℕ) (c : Cursor) → header_rest station time c ≡ (fields_at header_table c >>= λ m. Ok (header_of station time m.0, m.1))
 header_rest_is station time c = reading_is header_table c (λ m. Ok (header_of station time m.0, m.1))
 
-pub header_chain : (c : Cursor) → header_at c ≡ (fields_at time_table c >>= λ n. checked_time n.0.1.0 n.1 >>= λ t. header_rest n.0.0 t.0 t.1)
+pub header_chain : (g : System) (c : Cursor) → header_at g c ≡ (fields_at time_table c >>= λ n. checked_time g n.0.1.0 n.1 >>= λ t. header_rest n.0.0 t.0 t.1)
 unfolding header_at
-header_chain c = reading_is time_table c (λ n. checked_time n.0.1.0 n.1 >>= λ t. header_rest n.0.0 t.0 t.1)
+header_chain g c = reading_is time_table c (λ n. checked_time g n.0.1.0 n.1 >>= λ t. header_rest n.0.0 t.0 t.1)
 
 -- Two sequences of fields, one after the other.
 pub both : (fs gs : List (ℕ × ℕ)) (a b d : List Bool) → a ≡ field_bits fs ++ b → b ≡ field_bits gs ++ d → a ≡ field_bits (fs ++ gs) ++ d
@@ -43,52 +46,60 @@ both fs gs a b d e f = e ∙ (ap (λ t. field_bits fs ++ t) f ∙ (sym (append_a
 
 -- ---- times
 
-pub in_time : (t : ℕ) (c : Cursor) → t < week → checked_time t c ≡ Ok (t, c)
-in_time t c h = grind arith
+pub in_time : (g : System) (t : ℕ) (c : Cursor) → is_time g t ≡ true → checked_time g t c ≡ Ok (t, c)
+in_time g t c h = rw h refl
 
-pub too_late : (t : ℕ) (c : Cursor) → week ≤ t → checked_time t c ≡ Err BadTime
-too_late t c h = grind arith
+pub no_time_of : (g : System) (t : ℕ) (c : Cursor) → is_time g t ≡ false → checked_time g t c ≡ Err BadTime
+no_time_of g t c h = rw h refl
+
+week_fits : (t : ℕ) → nat_lt t week ≡ true → t < 2 ^ 30
+week_fits t h = let less = is_less t week h in omega (arith, less)
+
+pub time_fits : (g : System) (t : ℕ) → is_time g t ≡ true → t < 2 ^ 30
+time_fits Gps t h = week_fits t h
+time_fits Galileo t h = week_fits t h
+time_fits Glonass t h = let less = is_less (t / 2 ^ 27) 7 (both_first _ _ h) in omega (arith, less)
+time_fits Beidou t h = week_fits t h
+time_fits Qzss t h = week_fits t h
+time_fits Sbas t h = week_fits t h
 
 -- ---- headers
 
-pub record IsHeaderRead (v : MsmHeader) (c d : Cursor) : Type 0 where
+pub record IsHeaderRead (g : System) (v : MsmHeader) (c d : Cursor) : Type 0 where
   pub reserved : ℕ
   pub small : reserved < 128
-  pub is_header : IsHeader v
+  pub is_header : IsHeader g v
   pub bits : c.rest ≡ field_bits (header_tail v reserved) ++ d.rest
 
-header_done : (c : Cursor) (n : Contents time_table × Cursor) (m : Contents header_table × Cursor) → FieldsConsumed time_table c n → n.0.1.0 < week → FieldsConsumed header_table n.1 m → IsHeaderRead (header_of n.0.0 n.0.1.0 m.0) c m.1
-header_done c n m a early b = record {
+header_done : (g : System) (c : Cursor) (n : Contents time_table × Cursor) (m : Contents header_table × Cursor) → FieldsConsumed time_table c n → is_time g n.0.1.0 ≡ true → FieldsConsumed header_table n.1 m → IsHeaderRead g (header_of n.0.0 n.0.1.0 m.0) c m.1
+header_done g c n m a early b = record {
   reserved = m.0.1.1.0;
   small = b.fit.1.1.0;
   is_header = record { station = a.fit.0; time = early; iods = b.fit.1.0; steering = b.fit.1.1.1.0; clock = b.fit.1.1.1.1.0; interval = b.fit.1.1.1.1.1.1.0 };
   bits = both (fields_of time_table n.0) (fields_of header_table m.0) _ _ _ a.bits b.bits;
 }
 
-pub header_consumed : (c : Cursor) (v : MsmHeader × Cursor) → header_at c ≡ Ok v → IsHeaderRead v.0 c v.1
-header_consumed c v e =
-    let head = bind_ok (fields_at time_table c) _ v (sym (header_chain c) ∙ e) in
+pub header_consumed : (g : System) (c : Cursor) (v : MsmHeader × Cursor) → header_at g c ≡ Ok v → IsHeaderRead g v.0 c v.1
+header_consumed g c v e =
+    let head = bind_ok (fields_at time_table c) _ v (sym (header_chain g c) ∙ e) in
     let consumed = fields_ok time_table c head.0 refl head.1 in
-    elim (cases_lt head.0.0.1.0 week) [
+    elim (cases_Bool (is_time g head.0.0.1.0)) [
       | inl early ↦
-          let tail = bind_ok (fields_at header_table head.0.1) _ v (sym (header_rest_is head.0.0.0 head.0.0.1.0 head.0.1) ∙ (rw (in_time head.0.0.1.0 head.0.1 early) at head.2)) in
+          let tail = bind_ok (fields_at header_table head.0.1) _ v (sym (header_rest_is head.0.0.0 head.0.0.1.0 head.0.1) ∙ (rw (in_time g head.0.0.1.0 head.0.1 early) at head.2)) in
           let x : MsmHeader × Cursor = (header_of head.0.0.0 head.0.0.1.0 tail.0.0, tail.0.1) in
-          of_read (λ (w : MsmHeader × Cursor). IsHeaderRead w.0 c w.1) x v tail.2 (header_done c head.0 tail.0 consumed early (fields_ok header_table head.0.1 tail.0 refl tail.1))
-      | inr late ↦ absurd (ok_err v BadTime _ head.2 (rw (too_late head.0.0.1.0 head.0.1 late) refl))
+          of_read (λ (w : MsmHeader × Cursor). IsHeaderRead g w.0 c w.1) x v tail.2 (header_done g c head.0 tail.0 consumed early (fields_ok header_table head.0.1 tail.0 refl tail.1))
+      | inr late ↦ absurd (ok_err v BadTime _ head.2 (rw (no_time_of g head.0.0.1.0 head.0.1 late) refl))
     ]
 
-pub header_again : (v : MsmHeader) (reserved place : ℕ) (rest : List Bool) → IsHeader v → reserved < 128 → header_at (cursor place (field_bits (header_tail v reserved) ++ rest)) ≡ Ok (v, cursor (place + 42 + 19) rest)
-header_again v reserved place rest h small =
+pub header_again : (g : System) (v : MsmHeader) (reserved place : ℕ) (rest : List Bool) → IsHeader g v → reserved < 128 → header_at g (cursor place (field_bits (header_tail v reserved) ++ rest)) ≡ Ok (v, cursor (place + 42 + 19) rest)
+header_again g v reserved place rest h small =
     let n = time_contents v in
     let m = header_contents v reserved in
     let c = cursor place (field_bits (header_tail v reserved) ++ rest) in
     let split : c ≡ cursor place (field_bits (fields_of time_table n) ++ (field_bits (fields_of header_table m) ++ rest)) = ap (cursor place) (ap (λ t. t ++ rest) (field_bits-append (fields_of time_table n) (fields_of header_table m)) ∙ append_assoc (field_bits (fields_of time_table n)) (field_bits (fields_of header_table m)) rest) in
-    let first = fields_again time_table n place (field_bits (fields_of header_table m) ++ rest) refl (h.station, (early v.time h.time, tt)) in
+    let first = fields_again time_table n place (field_bits (fields_of header_table m) ++ rest) refl (h.station, (time_fits g v.time h.time, tt)) in
     let second = fields_again header_table m (place + 42) rest refl (tt, (h.iods, (small, (h.steering, (h.clock, (tt, (h.interval, tt))))))) in
-    header_chain c ∙ rw (split, first, in_time v.time (cursor (place + 42) (field_bits (fields_of header_table m) ++ rest)) h.time, header_rest_is v.station v.time (cursor (place + 42) (field_bits (fields_of header_table m) ++ rest)), second) refl
-  where
-    early : (t : ℕ) → t < week → t < 2 ^ 30
-    early t h = omega (arith, h)
+    header_chain g c ∙ rw (split, first, in_time g v.time (cursor (place + 42) (field_bits (fields_of header_table m) ++ rest)) h.time, header_rest_is v.station v.time (cursor (place + 42) (field_bits (fields_of header_table m) ++ rest)), second) refl
 
 -- ---- masks
 
@@ -157,7 +168,7 @@ pub record IsMsmRead (sw cw : List ℕ) (g : System) (v : MsmValue) (c d : Curso
 columns_count : (ws : List ℕ) (n : ℕ) (c : Cursor) (x : List ℕ × Cursor) → ColumnsConsumed ws (replicate n 0) c x → length x.0 ≡ n
 columns_count ws n c x t = sym (length-map x.0 (λ k. k / 2 ^ total_width ws)) ∙ (ap length t.high ∙ length-replicate n 0)
 
-msm_done : {sw cw : List ℕ} {g : System} {c : Cursor} {h : MsmHeader × Cursor} {s : MasksValue × Cursor} {x y : List ℕ × Cursor} → IsHeaderRead h.0 c h.1 → AreSetsRead s.0 h.1 s.1
+msm_done : {sw cw : List ℕ} {g : System} {c : Cursor} {h : MsmHeader × Cursor} {s : MasksValue × Cursor} {x y : List ℕ × Cursor} → IsHeaderRead g h.0 c h.1 → AreSetsRead s.0 h.1 s.1
     → columns_at sw (replicate (count_ones s.0.satellites) 0) s.1 ≡ Ok x → columns_at cw (replicate (count_ones s.0.cells) 0) x.1 ≡ Ok y
     → IsMsmRead sw cw g (record { system = g; header = h.0; sets = s.0; satellites = x.0; cells = y.0 }) c y.1
 msm_done {sw} {cw} {c} {h} {s} {x} {y} a b e f =
@@ -188,13 +199,13 @@ columns_same ws ns count place rest len below = rw (← len, ← highs_zero (tot
 pub msm_consumed : (sw cw : List ℕ) (g : System) (c : Cursor) (v : MsmValue × Cursor) → msm_at sw cw g c ≡ Ok v → IsMsmRead sw cw g v.0 c v.1
 unfolding msm_at
 msm_consumed sw cw g c v e =
-    let header = bind_ok (header_at c) _ v e in
+    let header = bind_ok (header_at g c) _ v e in
     let sets = bind_ok (masks_at header.0.1) _ v header.2 in
     let satellites = bind_ok (columns_at sw (replicate (count_ones sets.0.0.satellites) 0) sets.0.1) _ v sets.2 in
     let cells = bind_ok (columns_at cw (replicate (count_ones sets.0.0.cells) 0) satellites.0.1) _ v satellites.2 in
     let x : MsmValue × Cursor = (record { system = g; header = header.0.0; sets = sets.0.0; satellites = satellites.0.0; cells = cells.0.0 }, cells.0.1) in
     of_read (λ (w : MsmValue × Cursor). IsMsmRead sw cw g w.0 c w.1) x v cells.2
-    (msm_done (header_consumed c header.0 header.1) (sets_consumed header.0.1 sets.0 sets.1) satellites.1 cells.1)
+    (msm_done (header_consumed g c header.0 header.1) (sets_consumed header.0.1 sets.0 sets.1) satellites.1 cells.1)
 
 pub msm_again : (sw cw : List ℕ) (v : MsmValue) (reserved place : ℕ) (rest : List Bool) → IsValue sw cw v → reserved < 128 → (d : Cursor) × (msm_at sw cw v.system (cursor place (msm_tail sw cw v reserved ++ rest)) ≡ Ok (v, d))
 unfolding msm_at
@@ -209,7 +220,7 @@ msm_again sw cw v reserved place rest h small =
     append_assoc (field_bits (header_tail v.header reserved)) (field_bits (mask_fields v.sets) ++ (columns sw v.satellites ++ columns cw v.cells)) rest
     ∙ ap (λ t. field_bits (header_tail v.header reserved) ++ t) (append_assoc (field_bits (mask_fields v.sets)) (columns sw v.satellites ++ columns cw v.cells) rest
     ∙ ap (λ t. field_bits (mask_fields v.sets) ++ t) (append_assoc (columns sw v.satellites) (columns cw v.cells) rest)) in
-    let first = header_again v.header reserved place sets h.header small in
+    let first = header_again v.system v.header reserved place sets h.header small in
     let second = sets_again v.sets here mid h.sets in
     let third = columns_same sw v.satellites (count_ones v.sets.satellites) there last h.satellite_count h.satellites in
     let fourth = columns_same cw v.cells (count_ones v.sets.cells) (there + total_width sw * length v.satellites) rest h.cell_count h.cells in

@@ -1,7 +1,7 @@
 -- Numbers with a sign whose width is changed.
 use mir.Syntax.{Width}
 use mir.Val.{hbits}
-use Rattle.std.proofs.Common.{ℕ, ℤ, pos, negsuc, ◌≡◌, ◌<◌, ◌≤◌, ◌^◌, arith, unsigned_abs, w32, to_z, of_z, FitsSigned}
+use Rattle.std.proofs.Common.{ℕ, ℤ, ◌≡◌, ◌<◌, ◌≤◌, ◌^◌, arith, to_z, of_z, FitsSigned}
 use Rattle.std.proofs.lemmas.Int.{to_z-of_z}
 
 abbrev raised : (n a b : ℕ) → n < a → a ≤ b → n < b
@@ -12,7 +12,3 @@ wider a b z f h = rw (to_z-of_z a z f) (to_z-of_z b z (record { sfits = raised _
 
 pub narrower : (a b : Width) (z : ℤ) → FitsSigned b z → 2 ^ hbits b ≤ 2 ^ hbits a → to_z b (of_z b (to_z a (of_z a z))) ≡ z
 narrower a b z f h = rw (to_z-of_z a z (record { sfits = raised _ _ _ f.sfits h })) (to_z-of_z b z f)
-
-pub size_32 : (z : ℤ) → FitsSigned w32 z → unsigned_abs z ≤ 2147483648
-size_32 (pos n) f = omega (arith, f.sfits)
-size_32 (negsuc n) f = f.sfits

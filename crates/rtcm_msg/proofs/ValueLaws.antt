@@ -77,6 +77,8 @@ entries_are v ps e = rw e (same v.form v.msm)
   where
     same : (form : Form) (v : MsmValue) → entries (message_in form v) ≡ map (entry_in form v) (zip (cell_pairs v.sets) v.cells)
     same forms.Msm4 v = refl
+    same forms.Msm5 v = refl
+    same forms.Msm6 v = refl
     same forms.Msm7 v = refl
 
 pub few_entries : (v : FormedMsm) (n : ℕ) → n ≡ length v.msm.cells → n ≤ 64 → length (entries (formed v)) ≤ 64

@@ -10,26 +10,26 @@ use Rattle.rtcm_msg.proofs.RowLaws.{Ends, rows_end, rows_count, end_is, row_is}
 
 -- ---- reading in parts
 
-pub msm_good : (sw cw : List ℕ) (g : System) (c0 : Cursor) {c1 c2 c3 c4 : Cursor} {h : MsmHeader} {s : MasksValue} {xs ys : List ℕ} → header_at c0 ≡ Ok (h, c1) → masks_at c1 ≡ Ok (s, c2)
+pub msm_good : (sw cw : List ℕ) (g : System) (c0 : Cursor) {c1 c2 c3 c4 : Cursor} {h : MsmHeader} {s : MasksValue} {xs ys : List ℕ} → header_at g c0 ≡ Ok (h, c1) → masks_at c1 ≡ Ok (s, c2)
     → columns_at sw (replicate (count_ones s.satellites) 0) c2 ≡ Ok (xs, c3) → columns_at cw (replicate (count_ones s.cells) 0) c3 ≡ Ok (ys, c4)
     → msm_at sw cw g c0 ≡ Ok (record { system = g; header = h; sets = s; satellites = xs; cells = ys }, c4)
 unfolding msm_at
 msm_good sw cw g c0 e f i j = rw (e, f, i, j) refl
 
-pub no_header : (form : Form) (g : System) (c : Cursor) (x : MsgFault) → header_at c ≡ Err x → formed_at form g c ≡ Err x
+pub no_header : (form : Form) (g : System) (c : Cursor) (x : MsgFault) → header_at g c ≡ Err x → formed_at form g c ≡ Err x
 unfolding msm_at
 no_header form g c x e = rw e refl
 
-pub no_masks : (form : Form) (g : System) (c d : Cursor) (h : MsmHeader) (x : MsgFault) → header_at c ≡ Ok (h, d) → masks_at d ≡ Err x → formed_at form g c ≡ Err x
+pub no_masks : (form : Form) (g : System) (c d : Cursor) (h : MsmHeader) (x : MsgFault) → header_at g c ≡ Ok (h, d) → masks_at d ≡ Err x → formed_at form g c ≡ Err x
 unfolding msm_at
 no_masks form g c d h x e f = rw (e, f) refl
 
-pub msm_first : (sw cw : List ℕ) (g : System) (c0 : Cursor) {c1 c2 : Cursor} {h : MsmHeader} {s : MasksValue} {x : MsgFault} → header_at c0 ≡ Ok (h, c1) → masks_at c1 ≡ Ok (s, c2)
+pub msm_first : (sw cw : List ℕ) (g : System) (c0 : Cursor) {c1 c2 : Cursor} {h : MsmHeader} {s : MasksValue} {x : MsgFault} → header_at g c0 ≡ Ok (h, c1) → masks_at c1 ≡ Ok (s, c2)
     → columns_at sw (replicate (count_ones s.satellites) 0) c2 ≡ Err x → msm_at sw cw g c0 ≡ Err x
 unfolding msm_at
 msm_first sw cw g c0 e f i = rw (e, f, i) refl
 
-pub msm_second : (sw cw : List ℕ) (g : System) (c0 : Cursor) {c1 c2 c3 : Cursor} {h : MsmHeader} {s : MasksValue} {xs : List ℕ} {x : MsgFault} → header_at c0 ≡ Ok (h, c1) → masks_at c1 ≡ Ok (s, c2)
+pub msm_second : (sw cw : List ℕ) (g : System) (c0 : Cursor) {c1 c2 c3 : Cursor} {h : MsmHeader} {s : MasksValue} {xs : List ℕ} {x : MsgFault} → header_at g c0 ≡ Ok (h, c1) → masks_at c1 ≡ Ok (s, c2)
     → columns_at sw (replicate (count_ones s.satellites) 0) c2 ≡ Ok (xs, c3) → columns_at cw (replicate (count_ones s.cells) 0) c3 ≡ Err x → msm_at sw cw g c0 ≡ Err x
 unfolding msm_at
 msm_second sw cw g c0 e f i j = rw (e, f, i, j) refl
@@ -47,8 +47,8 @@ pub formed_short : (form : Form) (g : System) (c0 : Cursor) (x : MsgFault) → m
 formed_short form g c0 x e = rw e refl
 
 -- The position of the data of satellites, after the header and the masks.
-pub record AfterMasks (bytes : List ℕ) (h : MsmHeader) (s : MasksValue) (place : ℕ) : Type 0 where
-  pub header : header_at (cursor_at (bits_of bytes) 12) ≡ Ok (h, cursor_at (bits_of bytes) 73)
+pub record AfterMasks (g : System) (bytes : List ℕ) (h : MsmHeader) (s : MasksValue) (place : ℕ) : Type 0 where
+  pub header : header_at g (cursor_at (bits_of bytes) 12) ≡ Ok (h, cursor_at (bits_of bytes) 73)
   pub masks : masks_at (cursor_at (bits_of bytes) 73) ≡ Ok (s, cursor_at (bits_of bytes) place)
   pub there : place ≤ 8 * length bytes
 
@@ -63,7 +63,7 @@ pub record AreSizes (form : Form) (s : MasksValue) (sw cw : List ℕ) (n m : ℕ
 counted : {x : Result ℕ MsgFault} {vs ws : List ℕ} (bytes : List ℕ) (n place : ℕ) → x ≡ end_of_rows vs n (8 * length bytes) place → vs ≡ ws → x ≡ end_of_rows ws n (length (bits_of bytes)) place
 counted bytes n place e same = e ∙ rw (same, length-bits_of bytes) refl
 
-pub first_short : (form : Form) (g : System) {bytes sw : List ℕ} {h : MsmHeader} {s : MasksValue} {n p : ℕ} {x : MsgFault} → AfterMasks bytes h s p → sw ≡ satellite_widths form → n ≡ s.satellites
+pub first_short : (form : Form) (g : System) {bytes sw : List ℕ} {h : MsmHeader} {s : MasksValue} {n p : ℕ} {x : MsgFault} → AfterMasks g bytes h s p → sw ≡ satellite_widths form → n ≡ s.satellites
     → Err x ≡ end_of_rows sw (count_ones n) (8 * length bytes) p → formed_at form g (cursor_at (bits_of bytes) 12) ≡ Err x
 first_short form g {bytes} {s} {n} {p} {x} head sws ns short =
     let bits = bits_of bytes in
@@ -72,7 +72,7 @@ first_short form g {bytes} {s} {n} {p} {x} head sws ns short =
     formed_short form g (cursor_at bits 12) x (msm_first ws (cell_widths form) g (cursor_at bits 12) head.header head.masks
     (data_read ws bits p (ap count_ones ns) there (counted bytes (count_ones n) p short sws)))
 
-pub second_short : {form : Form} (g : System) {bytes sw cw : List ℕ} {h : MsmHeader} {s : MasksValue} {n m p at : ℕ} {x : MsgFault} → AfterMasks bytes h s p → AreSizes form s sw cw n m
+pub second_short : {form : Form} (g : System) {bytes sw cw : List ℕ} {h : MsmHeader} {s : MasksValue} {n m p at : ℕ} {x : MsgFault} → AfterMasks g bytes h s p → AreSizes form s sw cw n m
     → Ok at ≡ end_of_rows sw (count_ones n) (8 * length bytes) p → at ≤ 8 * length bytes → Err x ≡ end_of_rows cw (count_ones m) (8 * length bytes) at → formed_at form g (cursor_at (bits_of bytes) 12) ≡ Err x
 second_short {form} g {bytes} {s} {n} {m} {p} {at} {x} head sizes first room short =
     let bits = bits_of bytes in
@@ -99,9 +99,9 @@ pub record Found (form : Form) (g : System) (bits : List Bool) (c0 : Cursor) (h 
   pub cells_there : at + m * total_width (cell_widths form) ≤ length bits
 
 -- The message whose data end within the bits.
-pub whole : {form : Form} {g : System} {bytes sw cw : List ℕ} {h : MsmHeader} {s : MasksValue} {n m p at end : ℕ} → AfterMasks bytes h s p → AreSizes form s sw cw n m
+pub whole : {form : Form} {g : System} {bytes sw cw : List ℕ} {h : MsmHeader} {s : MasksValue} {n m p at end : ℕ} → AfterMasks g bytes h s p → AreSizes form s sw cw n m
     → Ok at ≡ end_of_rows sw (count_ones n) (8 * length bytes) p → at ≤ 8 * length bytes → Ok end ≡ end_of_rows cw (count_ones m) (8 * length bytes) at → end ≤ 8 * length bytes
-    → IsHeader h → AreMasks s → Found form g (bits_of bytes) (cursor_at (bits_of bytes) 12) h s (count_ones n) p (count_ones m) at
+    → IsHeader g h → AreMasks s → Found form g (bits_of bytes) (cursor_at (bits_of bytes) 12) h s (count_ones n) p (count_ones m) at
 whole {form} {g} {bytes} {s} {n} {m} {p} {at} {end} head sizes first room second last is_header are_sets =
     let bits = bits_of bytes in
     let sw = satellite_widths form in

@@ -8,7 +8,10 @@ use Rattle.rtcm_msg.specs.declared.message.Message.{Message}
 use Rattle.rtcm_msg.specs.Fields.{number_at, ◌>>=◌}
 use Rattle.rtcm_msg.specs.Station.{station_at}
 use Rattle.rtcm_msg.specs.declared.message.Message.TheVariants as messages
-use Rattle.rtcm_msg.specs.Numbers.{Kind, OfStation, OfMsm, OfOther, kind_of}
+use Rattle.rtcm_msg.specs.declared.number.Kind.{Kind}
+use Rattle.rtcm_msg.specs.declared.number.Kind.TheVariants as kinds
+use Rattle.rtcm_msg.specs.declared.number.MsmSet.{MsmSet}
+use Rattle.rtcm_msg.specs.Numbers.{kind_of, kind_with}
 use Rattle.rtcm_msg.specs.Views.{formed_at}
 
 -- The message numbers of the MSMs of GPS, GLONASS, Galileo, SBAS, QZSS and BeiDou.
@@ -35,16 +38,18 @@ start bits = record { place = 0; rest = bits }
 
 -- The value, after the message number n.
 abbrev pub body_by : Kind → ℕ → Cursor → Result Message MsgFault
-body_by (OfStation has_height) n c = station_message_at has_height c
-body_by (OfMsm form system) n c = formed_at form system c
-body_by OfOther n c = Ok (other_at n c)
+body_by (kinds.Station has_height) n c = station_message_at has_height c
+body_by (kinds.Msm form system) n c = formed_at form system c
+body_by kinds.Other n c = Ok (other_at n c)
 
-unfoldable pub body_at : ℕ → Cursor → Result Message MsgFault
-body_at n c = body_by (kind_of n) n c
+-- The value that bits are decoded to, with a function that says what a message of a number contains.
+unfoldable pub message_by : (ℕ → Kind) → List Bool → Result Message MsgFault
+message_by kind bits = number_at 12 (start bits) >>= λ n. body_by (kind n.0) n.0 n.1
 
--- The value that bits are decoded to.
-unfoldable pub message_of : List Bool → Result Message MsgFault
-message_of bits = number_at 12 (start bits) >>= λ n. body_at n.0 n.1
-
+-- The value that bytes are decoded to.
 abbrev pub message_at : List ℕ → Result Message MsgFault
-message_at bytes = message_of (bits_of bytes)
+message_at bytes = message_by kind_of (bits_of bytes)
+
+-- The same if of the MSMs only those of the set are decoded.
+abbrev pub message_with : MsmSet → List ℕ → Result Message MsgFault
+message_with set bytes = message_by (kind_with set) (bits_of bytes)

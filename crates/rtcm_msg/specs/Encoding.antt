@@ -1,25 +1,29 @@
 -- The encodings of messages, the messages of bits, and the faults of bits.
-use Rattle.std.specs.Prelude.{◌≡◌, ℕ, ◌^◌, ◌<◌, ◌≤◌, ◌==◌, ◌&&◌, nat_lt, nat_le, if◌then◌else◌, Bool, true, false}
+use Rattle.std.specs.Prelude.{◌≡◌, ℕ, ◌^◌, ◌<◌, ◌≤◌, ◌==◌, ◌&&◌, nat_lt, nat_le, not, if◌then◌else◌, Bool, true, false}
 use Rattle.std.specs.Prelude.{List, [], ◌∷◌, ◌++◌, length, Option, Some, None, replicate, count_ones, IsTrue, ◌⊎◌}
 use Rattle.rtcm_bits.specs.Bits.{bits_of, filled}
 use Rattle.rtcm_msg.specs.declared.fault.MsgFault.{MsgFault}
 use Rattle.rtcm_msg.specs.declared.fault.MsgFault.TheVariants.{Short, TooManyCells, BadTime}
 use Rattle.rtcm_msg.specs.declared.message.Message.{Message}
-use Rattle.rtcm_msg.specs.declared.message.Message.TheVariants.{Station, Msm4, Msm7, Other}
+use Rattle.rtcm_msg.specs.declared.message.Message.TheVariants.{Station, Msm4, Msm5, Msm6, Msm7, Other}
 use Rattle.rtcm_msg.specs.Fields.{field_bits, first_past, field_at}
 use Rattle.rtcm_msg.specs.Station.{station_fields, InRange, station_table, height_table}
-use Rattle.rtcm_msg.specs.Msm.{MsmValue, msm_bits, IsValue, week, time_table, header_table, mask_table, cell_mask_table}
-use Rattle.rtcm_msg.specs.Msm.{satellite_mask_bits, signal_mask_bits, pair_count, most_pairs}
+use Rattle.rtcm_msg.specs.Msm.{MsmValue, msm_bits, IsValue, is_time, time_table, header_table, mask_table}
+use Rattle.rtcm_msg.specs.Msm.{cell_mask_table, satellite_mask_bits, signal_mask_bits, pair_count, most_pairs}
 use Rattle.rtcm_msg.specs.Layout.{widths, number_table}
 use Rattle.rtcm_msg.specs.Decoding.{is_any_msm}
 use Rattle.rtcm_msg.specs.declared.view.Form.{Form}
 use Rattle.rtcm_msg.specs.declared.view.Form.TheVariants as forms
 use Rattle.rtcm_msg.specs.Forms.{satellite_widths, cell_widths}
-use Rattle.rtcm_msg.specs.Numbers.{Kind, OfStation, OfMsm, OfOther, kind_of, message_number}
+use Rattle.rtcm_msg.specs.declared.number.Kind.{Kind}
+use Rattle.rtcm_msg.specs.declared.number.Kind.TheVariants as kinds
+use Rattle.rtcm_msg.specs.Numbers.{kind_of, message_number}
 
 abbrev pub is_other : Message → Bool
 is_other (Station s) = false
 is_other (Msm4 m) = false
+is_other (Msm5 m) = false
+is_other (Msm6 m) = false
 is_other (Msm7 m) = false
 is_other (Other n set) = true
 
@@ -34,6 +38,8 @@ form_bits f m reserved = msm_bits (satellite_widths f) (cell_widths f) (message_
 abbrev pub IsMessage : Message → Type 0
 IsMessage (Station s) = InRange s
 IsMessage (Msm4 m) = IsMsm forms.Msm4 m
+IsMessage (Msm5 m) = IsMsm forms.Msm5 m
+IsMessage (Msm6 m) = IsMsm forms.Msm6 m
 IsMessage (Msm7 m) = IsMsm forms.Msm7 m
 IsMessage (Other n set) = Unit {0}
 
@@ -41,6 +47,8 @@ IsMessage (Other n set) = Unit {0}
 abbrev pub reserved_width : Message → ℕ
 reserved_width (Station s) = 1
 reserved_width (Msm4 m) = 7
+reserved_width (Msm5 m) = 7
+reserved_width (Msm6 m) = 7
 reserved_width (Msm7 m) = 7
 reserved_width (Other n set) = 0
 
@@ -48,6 +56,8 @@ reserved_width (Other n set) = 0
 abbrev pub message_bits : Message → ℕ → List Bool
 message_bits (Station s) reserved = field_bits (station_fields s reserved)
 message_bits (Msm4 m) reserved = form_bits forms.Msm4 m reserved
+message_bits (Msm5 m) reserved = form_bits forms.Msm5 m reserved
+message_bits (Msm6 m) reserved = form_bits forms.Msm6 m reserved
 message_bits (Msm7 m) reserved = form_bits forms.Msm7 m reserved
 message_bits (Other n set) reserved = []
 
@@ -65,9 +75,9 @@ abbrev pub number_of : List Bool → ℕ
 number_of bits = field_at bits 0 12
 
 abbrev pub is_msm_kind : Kind → Bool
-is_msm_kind (OfStation has_height) = false
-is_msm_kind (OfMsm form system) = true
-is_msm_kind OfOther = false
+is_msm_kind (kinds.Station has_height) = false
+is_msm_kind (kinds.Msm form system) = true
+is_msm_kind kinds.Other = false
 
 abbrev pub is_read_msm : ℕ → Bool
 is_read_msm n = is_msm_kind (kind_of n)
@@ -78,10 +88,13 @@ set_of bits = if is_any_msm (number_of bits)
     then (if nat_le 55 (length bits) then Some (field_at bits 12 12, field_at bits 54 1 == 1) else None) else None
 
 -- A message that isn't decoded.
+abbrev pub other_of : List Bool → Message
+other_of bits = Other (number_of bits) (set_of bits)
+
 pub record IsOther (bits : List Bool) (v : Message) : Type 0 where
   pub number_there : 12 ≤ length bits
-  pub unread : kind_of (number_of bits) ≡ OfOther
-  pub value : v ≡ Other (number_of bits) (set_of bits)
+  pub unread : kind_of (number_of bits) ≡ kinds.Other
+  pub value : v ≡ other_of bits
 
 -- The bits begin with an encoding of the value.
 pub record BeginsWith (bits : List Bool) (v : Message) : Type 0 where
@@ -113,16 +126,22 @@ msm_layout satellite_widths cell_widths bits =
 
 -- The widths for a message of this kind.
 abbrev pub layout_by : Kind → List Bool → List ℕ
-layout_by (OfStation has_height) bits =
+layout_by (kinds.Station has_height) bits =
     widths (number_table ++ (station_table ++ (if has_height then height_table else [])))
-layout_by (OfMsm form system) bits = msm_layout (satellite_widths form) (cell_widths form) bits
-layout_by OfOther bits = []
+layout_by (kinds.Msm form system) bits = msm_layout (satellite_widths form) (cell_widths form) bits
+layout_by kinds.Other bits = []
 
 abbrev pub layout : List Bool → List ℕ
 layout bits = layout_by (kind_of (number_of bits)) bits
 
+-- A message of this kind has an epoch time, which isn't one of its system.
+abbrev pub is_bad_time : Kind → ℕ → Bool
+is_bad_time (kinds.Station has_height) time = false
+is_bad_time (kinds.Msm form system) time = not (is_time system time)
+is_bad_time kinds.Other time = false
+
 abbrev pub has_bad_time : List Bool → Bool
-has_bad_time bits = is_read_msm (number_of bits) && nat_le 54 (length bits) && nat_le week (field_at bits 24 30)
+has_bad_time bits = nat_le 54 (length bits) && is_bad_time (kind_of (number_of bits)) (field_at bits 24 30)
 
 abbrev pub has_too_many : List Bool → Bool
 has_too_many bits =

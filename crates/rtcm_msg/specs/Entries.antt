@@ -4,7 +4,7 @@ use Rattle.std.specs.Prelude.{slice_index}
 use Rattle.std.specs.List.{flat_map, zip, enumerate_from}
 use Rattle.rtcm_bits.specs.Bits.{uint}
 use Rattle.rtcm_msg.specs.declared.message.Message.{Message}
-use Rattle.rtcm_msg.specs.declared.message.Message.TheVariants.{Station, Msm4, Msm7, Other}
+use Rattle.rtcm_msg.specs.declared.message.Message.TheVariants.{Station, Msm4, Msm5, Msm6, Msm7, Other}
 use Rattle.rtcm_msg.specs.declared.pairs.Pair.{Pair}
 use Rattle.rtcm_msg.specs.declared.entry.Entry.{Entry}
 use Rattle.rtcm_msg.specs.Msm.{MsmValue, MasksValue, pair_count, satellite_mask_bits, signal_mask_bits}
@@ -65,5 +65,7 @@ entries_in f v = map (entry_in f v) (zip (cell_pairs v.sets) v.cells)
 abbrev pub entries : Message → List Entry
 entries (Station s) = []
 entries (Msm4 v) = entries_in forms.Msm4 v
+entries (Msm5 v) = entries_in forms.Msm5 v
+entries (Msm6 v) = entries_in forms.Msm6 v
 entries (Msm7 v) = entries_in forms.Msm7 v
 entries (Other n set) = []

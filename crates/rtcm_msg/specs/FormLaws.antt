@@ -1,6 +1,5 @@
 -- Packing and unpacking undo each other.
-use Rattle.std.proofs.Common.{ap, ◌<◌, ℕ, ℤ, Bool, true, false, All, lit≤, ◌≡◌, ◌^◌, ◌≤◌, ◌∙◌, refl, sym, arith}
-use Rattle.std.proofs.lemmas.List.Elements.{All-from_recursion}
+use Rattle.std.proofs.Common.{ap, ◌<◌, ℕ, ℤ, Bool, true, false, lit≤, ◌≡◌, ◌^◌, ◌≤◌, ◌∙◌, refl, sym, arith}
 use Rattle.rtcm_msg.specs.declared.view.Form.{Form}
 use Rattle.rtcm_msg.specs.declared.view.Form.TheVariants as forms
 use Rattle.rtcm_msg.specs.declared.data.Satellite.{Satellite}
@@ -9,65 +8,74 @@ use Rattle.rtcm_msg.specs.Layout.{Contents}
 use Rattle.rtcm_msg.specs.LayoutLaws.{FitAll, have_signs, packed_fits, unpacked-packed, unpacked_fit, packed-unpacked}
 use Rattle.rtcm_msg.specs.Packed.{total_width, packed, unpacked}
 use Rattle.rtcm_msg.specs.Fractions.{invalid_rough_rate, invalid_fine_rate}
-use Rattle.rtcm_msg.specs.Forms.{is_fine, has_rates, satellite_table, rate_table, cell_table, satellite_contents, FitsIf}
+use Rattle.rtcm_msg.specs.Forms.{is_fine, has_rates, satellite_table_by, satellite_table, rate_table, cell_table_by, cell_table}
+use Rattle.rtcm_msg.specs.Forms.{satellite_contents, FitsIf, FitsSatellite}
 use Rattle.rtcm_msg.specs.Forms.{satellite_of, rate_contents, rate_in, cell_contents, cell_of, satellite_widths}
 use Rattle.rtcm_msg.specs.Forms.{cell_widths, IsSatelliteData, IsCellData, satellite_number, satellite_data, cell_number}
 use Rattle.rtcm_msg.specs.Forms.{cell_data}
 
-satellite_signs : (f : Form) → have_signs (satellite_table f) ≡ true
-satellite_signs forms.Msm4 = refl
-satellite_signs forms.Msm7 = refl
+satellite_signs : (rates : Bool) → have_signs (satellite_table_by rates) ≡ true
+satellite_signs false = refl
+satellite_signs true = refl
+
+cell_signs_by : (fine rates : Bool) → have_signs (cell_table_by fine rates) ≡ true
+cell_signs_by false false = refl
+cell_signs_by false true = refl
+cell_signs_by true false = refl
+cell_signs_by true true = refl
 
 cell_signs : (f : Form) → have_signs (cell_table f) ≡ true
-cell_signs forms.Msm4 = refl
-cell_signs forms.Msm7 = refl
+cell_signs f = cell_signs_by (is_fine f) (has_rates f)
 
 -- ---- satellites
 
-satellite_fit : (f : Form) (s : Satellite) → IsSatelliteData f s
-    → FitAll (satellite_table f) (satellite_contents (has_rates f) s)
-satellite_fit forms.Msm4 s h = (h.whole, (h.fraction, tt))
-satellite_fit forms.Msm7 s h = (h.whole, (h.extended, (h.fraction, (h.rate, tt))))
+satellite_fit : (rates : Bool) (s : Satellite) → FitsSatellite rates s
+    → FitAll (satellite_table_by rates) (satellite_contents rates s)
+satellite_fit false s h = (h.whole, (h.fraction, tt))
+satellite_fit true s h = (h.whole, (h.extended, (h.fraction, (h.rate, tt))))
 
-satellite_is : (f : Form) (cs : Contents (satellite_table f)) → FitAll (satellite_table f) cs
-    → IsSatelliteData f (satellite_of (has_rates f) cs)
-satellite_is forms.Msm4 cs h = record { whole = h.0; extended = lit≤ tt; fraction = h.1.0; rate = refl }
-satellite_is forms.Msm7 cs h = record { whole = h.0; extended = h.1.0; fraction = h.1.1.0; rate = h.1.1.1.0 }
+satellite_is : (rates : Bool) (cs : Contents (satellite_table_by rates)) → FitAll (satellite_table_by rates) cs
+    → FitsSatellite rates (satellite_of rates cs)
+satellite_is false cs h = record { whole = h.0; extended = lit≤ tt; fraction = h.1.0; rate = refl }
+satellite_is true cs h = record { whole = h.0; extended = h.1.0; fraction = h.1.1.0; rate = h.1.1.1.0 }
 
 -- What a form has no field for is fixed.
 fixed : (s : Satellite) → s.extended < 1 → s.rate ≡ invalid_rough_rate
     → record { whole = s.whole; extended = 0; fraction = s.fraction; rate = invalid_rough_rate } ≡ s
 fixed s e r = let z : s.extended ≡ 0 = omega (arith, e) in rw (z, r) refl
 
-satellite_kept : (f : Form) (s : Satellite) → IsSatelliteData f s
-    → satellite_of (has_rates f) (satellite_contents (has_rates f) s) ≡ s
-satellite_kept forms.Msm4 s h = fixed s h.extended h.rate
-satellite_kept forms.Msm7 s h = refl
+satellite_kept : (rates : Bool) (s : Satellite) → FitsSatellite rates s
+    → satellite_of rates (satellite_contents rates s) ≡ s
+satellite_kept false s h = fixed s h.extended h.rate
+satellite_kept true s h = refl
 
 pub satellite_fits : (f : Form) (s : Satellite) → IsSatelliteData f s
     → satellite_number f s < 2 ^ total_width (satellite_widths f)
 satellite_fits f s h =
-    packed_fits (satellite_table f) (satellite_contents (has_rates f) s) (satellite_signs f) (satellite_fit f s h)
+    let rates = has_rates f in
+    packed_fits (satellite_table f) (satellite_contents rates s) (satellite_signs rates) (satellite_fit rates s h)
 
 pub satellite_back : (f : Form) (s : Satellite) → IsSatelliteData f s → satellite_data f (satellite_number f s) ≡ s
 satellite_back f s h =
-    ap (satellite_of (has_rates f))
-    (unpacked-packed (satellite_table f) (satellite_contents (has_rates f) s) (satellite_signs f) (satellite_fit f s h))
-    ∙ satellite_kept f s h
+    let rates = has_rates f in
+    ap (satellite_of rates)
+    (unpacked-packed (satellite_table f) (satellite_contents rates s) (satellite_signs rates) (satellite_fit rates s h))
+    ∙ satellite_kept rates s h
 
 pub satellite_in_range : (f : Form) (n : ℕ) → IsSatelliteData f (satellite_data f n)
 satellite_in_range f n =
-    satellite_is f (unpacked (satellite_table f) n) (unpacked_fit (satellite_table f) n (satellite_signs f))
+    satellite_is (has_rates f) _ (unpacked_fit (satellite_table f) n (satellite_signs (has_rates f)))
 
-contents_kept : (f : Form) (cs : Contents (satellite_table f))
-    → satellite_contents (has_rates f) (satellite_of (has_rates f) cs) ≡ cs
-contents_kept forms.Msm4 cs = refl
-contents_kept forms.Msm7 cs = refl
+contents_kept : (rates : Bool) (cs : Contents (satellite_table_by rates))
+    → satellite_contents rates (satellite_of rates cs) ≡ cs
+contents_kept false cs = refl
+contents_kept true cs = refl
 
 pub satellite_same : (f : Form) (n : ℕ) → n < 2 ^ total_width (satellite_widths f)
     → satellite_number f (satellite_data f n) ≡ n
 satellite_same f n h =
-    rw (contents_kept f (unpacked (satellite_table f) n)) (packed-unpacked (satellite_table f) n (satellite_signs f) h)
+    rw (contents_kept (has_rates f) (unpacked (satellite_table f) n))
+    (packed-unpacked (satellite_table f) n (satellite_signs (has_rates f)) h)
 
 -- ---- cells
 
@@ -126,18 +134,9 @@ cell_same f n h =
 
 -- ---- widths
 
-pub satellite_widths_few : (f : Form) → All (λ w. w ≤ 64) (satellite_widths f)
-satellite_widths_few forms.Msm4 = All-from_recursion (λ w. w ≤ 64) (satellite_widths forms.Msm4) (lit≤ tt, (lit≤ tt, tt))
-satellite_widths_few forms.Msm7 =
-    All-from_recursion (λ w. w ≤ 64) (satellite_widths forms.Msm7) (lit≤ tt, (lit≤ tt, (lit≤ tt, (lit≤ tt, tt))))
-
-pub cell_widths_few : (f : Form) → All (λ w. w ≤ 64) (cell_widths f)
-cell_widths_few forms.Msm4 =
-    All-from_recursion (λ w. w ≤ 64) (cell_widths forms.Msm4) (lit≤ tt, (lit≤ tt, (lit≤ tt, (lit≤ tt, (lit≤ tt, tt)))))
-cell_widths_few forms.Msm7 =
-    All-from_recursion (λ w. w ≤ 64) (cell_widths forms.Msm7) (lit≤ tt, (lit≤ tt, (lit≤ tt, (lit≤ tt, (lit≤ tt, (lit≤ tt, tt))))))
-
 -- The total widths of the fields of a satellite and of a cell, so that the largest message fits a frame.
 pub narrow : (f : Form) → (total_width (satellite_widths f) ≤ 36) × (total_width (cell_widths f) ≤ 80)
 narrow forms.Msm4 = (lit≤ tt, lit≤ tt)
+narrow forms.Msm5 = (lit≤ tt, lit≤ tt)
+narrow forms.Msm6 = (lit≤ tt, lit≤ tt)
 narrow forms.Msm7 = (lit≤ tt, lit≤ tt)

@@ -25,11 +25,15 @@ use Rattle.rtcm_msg.specs.Fractions as fractions
 -- Cells have the finer units and the wider fields of MSM6 and MSM7.
 abbrev pub is_fine : Form → Bool
 is_fine forms.Msm4 = false
+is_fine forms.Msm5 = false
+is_fine forms.Msm6 = true
 is_fine forms.Msm7 = true
 
 -- There are phase range rates, and extended satellite information.
 abbrev pub has_rates : Form → Bool
 has_rates forms.Msm4 = false
+has_rates forms.Msm5 = true
+has_rates forms.Msm6 = false
 has_rates forms.Msm7 = true
 
 -- ---- the fields
@@ -42,7 +46,7 @@ satellite_table_by false =
     ∷ []
 satellite_table_by true =
     (397, Uint 8)  -- rough range, whole ms, 255 invalid
-    ∷ (0, Uint 4)  -- extended satellite information, which has no number of its own for GPS and Galileo
+    ∷ (0, Uint 4)  -- extended satellite information, of GLONASS DF419, which has no number for other systems
     ∷ (398, Uint 10)  -- rough range below 1 ms, 2^-10 ms
     ∷ (399, Int 14)  -- rough phase range rate, m/s, -2^13 invalid
     ∷ []
@@ -102,18 +106,24 @@ abbrev pub extended_width : Bool → ℕ
 extended_width false = 0
 extended_width true = 4
 
-pub record IsSatelliteData (f : Form) (s : Satellite) : Type 0 where
+pub record FitsSatellite (rates : Bool) (s : Satellite) : Type 0 where
   pub whole : s.whole < 2 ^ 8
-  pub extended : s.extended < 2 ^ extended_width (has_rates f)
+  pub extended : s.extended < 2 ^ extended_width rates
   pub fraction : s.fraction < 2 ^ 10
-  pub rate : FitsIf (has_rates f) 14 invalid_rough_rate s.rate
+  pub rate : FitsIf rates 14 invalid_rough_rate s.rate
 
-pub record IsCellData (f : Form) (c : Cell) : Type 0 where
-  pub range : FitsInt (precision (is_fine f)).range c.range
-  pub phase : FitsInt (precision (is_fine f)).phase c.phase
-  pub lock : c.lock < 2 ^ (precision (is_fine f)).lock
-  pub strength : c.strength < 2 ^ (precision (is_fine f)).strength
-  pub rate : FitsIf (has_rates f) 15 invalid_fine_rate c.rate
+pub record FitsCell (fine rates : Bool) (c : Cell) : Type 0 where
+  pub range : FitsInt (precision fine).range c.range
+  pub phase : FitsInt (precision fine).phase c.phase
+  pub lock : c.lock < 2 ^ (precision fine).lock
+  pub strength : c.strength < 2 ^ (precision fine).strength
+  pub rate : FitsIf rates 15 invalid_fine_rate c.rate
+
+abbrev pub IsSatelliteData : Form → Satellite → Type 0
+IsSatelliteData f s = FitsSatellite (has_rates f) s
+
+abbrev pub IsCellData : Form → Cell → Type 0
+IsCellData f c = FitsCell (is_fine f) (has_rates f) c
 
 -- The contents of the fields of a satellite and of a cell, and back.
 abbrev pub satellite_contents : (rates : Bool) → Satellite → Contents (satellite_table_by rates)
@@ -161,6 +171,13 @@ cell_number f c = packed (cell_table f) (cell_contents (is_fine f) (has_rates f)
 
 abbrev pub cell_data : Form → ℕ → Cell
 cell_data f p = cell_of (is_fine f) (has_rates f) (unpacked (cell_table f) p)
+
+-- The fields of a cell before the rate, and back.
+abbrev pub rateless_number : Bool → Cell → ℕ
+rateless_number fine c = packed (cell_table_by fine false) (cell_contents fine false c)
+
+abbrev pub rateless : Bool → ℕ → Cell
+rateless fine p = cell_of fine false (unpacked (cell_table_by fine false) p)
 
 -- ---- faults
 

@@ -1,7 +1,7 @@
 -- The meaning of a multiple signal message: a header, the satellites with their data, the signals, and the cells of
 -- pairs of both.
 use Rattle.gnss_system.specs.declared.system.System.{System}
-use Rattle.std.specs.Prelude.{ℕ, ◌≡◌, ◌+◌, ◌*◌, ◌≤◌, ◌⊎◌, Bool, List, [], ◌∷◌, map, length}
+use Rattle.std.specs.Prelude.{ℕ, ◌≡◌, ◌+◌, ◌*◌, ◌≤◌, ◌⊎◌, List, [], ◌∷◌, map, length}
 use Rattle.std.specs.List.{zip}
 use Rattle.rtcm_msg.specs.declared.header.MsmHeader.{MsmHeader}
 use Rattle.rtcm_msg.specs.declared.pairs.Pair.{Pair}
@@ -66,7 +66,7 @@ data_of xs = map (λ x. x.1) xs
 -- The satellites and the signals rise, with at most the largest number of pairs. The pairs of the cells are of these
 -- and rise. The data fit the fields.
 pub record IsMeaning (satellite_widths cell_widths : List ℕ) (m : Meaning) : Type 0 where
-  pub header : IsHeader m.header
+  pub header : IsHeader m.system m.header
   pub satellites : Rising 1 satellite_mask_bits (keys m.satellites)
   pub signals : Rising 1 signal_mask_bits m.signals
   pub few : length (keys m.satellites) * length m.signals ≤ most_pairs

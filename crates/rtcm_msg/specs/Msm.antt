@@ -1,7 +1,8 @@
 -- The values of multiple signal messages.
 use Rattle.gnss_system.specs.declared.system.System.{System}
-use Rattle.std.specs.Prelude.{[], ◌≡◌, ℕ, ◌==◌, ◌*◌, ◌^◌, ◌<◌, ◌≤◌, nat_lt, nat_le, if◌then◌else◌, Bool, List, ◌∷◌, ◌++◌}
-use Rattle.std.specs.Prelude.{length, Result, Ok, Err, replicate, count_ones}
+use Rattle.gnss_system.specs.declared.system.System.TheVariants.{Glonass}
+use Rattle.std.specs.Prelude.{[], ◌≡◌, ℕ, ◌==◌, ◌*◌, ◌/◌, ◌%◌, ◌^◌, ◌<◌, ◌≤◌, ◌&&◌, nat_lt, if◌then◌else◌, Bool, List, ◌∷◌}
+use Rattle.std.specs.Prelude.{◌++◌, length, Result, Ok, Err, replicate, count_ones, IsTrue}
 use Rattle.rtcm_bits.specs.Cursors.{Cursor}
 use Rattle.rtcm_msg.specs.declared.fault.MsgFault.{MsgFault}
 use Rattle.rtcm_msg.specs.declared.fault.MsgFault.TheVariants.{TooManyCells, BadTime}
@@ -16,6 +17,16 @@ use Rattle.rtcm_msg.specs.Columns.{columns_at, EachBelow}
 -- A week in milliseconds.
 abbrev pub week : ℕ
 week = 604800000
+
+-- A day with a leap second, in milliseconds.
+abbrev pub longest_day : ℕ
+longest_day = 86401000
+
+-- An epoch time of a system: milliseconds of the week. Of GLONASS the day of the week, DF416, and in the low 27 bits
+-- the milliseconds of the day, DF034; day 7 is an unknown one.
+abbrev pub is_time : System → ℕ → Bool
+is_time Glonass time = nat_lt (time / 2 ^ 27) 7 && nat_lt (time % 2 ^ 27) longest_day
+is_time system time = nat_lt time week
 
 -- The width of the satellite mask: one bit for each satellite ID, from 1 on.
 abbrev pub satellite_mask_bits : ℕ
@@ -53,9 +64,9 @@ pub record MsmValue : Type 0 where
   pub satellites : List ℕ
   pub cells : List ℕ
 
-pub record IsHeader (h : MsmHeader) : Type 0 where
+pub record IsHeader (system : System) (h : MsmHeader) : Type 0 where
   pub station : h.station < 2 ^ 12
-  pub time : h.time < week
+  pub time : IsTrue (is_time system h.time)
   pub iods : h.iods < 2 ^ 3
   pub steering : h.steering < 2 ^ 2
   pub clock : h.clock < 2 ^ 2
@@ -74,7 +85,7 @@ msm_of_parts system header sets satellites cells =
 
 -- A value whose fields have these widths.
 pub record IsValue (satellite_widths cell_widths : List ℕ) (v : MsmValue) : Type 0 where
-  pub header : IsHeader v.header
+  pub header : IsHeader v.system v.header
   pub sets : AreMasks v.sets
   pub satellite_count : length v.satellites ≡ count_ones v.sets.satellites
   pub cell_count : length v.cells ≡ count_ones v.sets.cells
@@ -87,7 +98,7 @@ pub record IsValue (satellite_widths cell_widths : List ℕ) (v : MsmValue) : Ty
 abbrev pub time_table : Table
 time_table =
     (3, Uint 12)  -- reference station ID
-    ∷ (4, Uint 30)  -- GPS epoch time, ms of the week; of Galileo DF248
+    ∷ (4, Uint 30)  -- epoch time of GPS and SBAS; of Galileo DF248, GLONASS DF416 and DF034, BeiDou DF427, QZSS DF428
     ∷ []
 
 -- The fields after the epoch time.
@@ -154,8 +165,8 @@ msm_bits satellite_widths cell_widths number v reserved =
 -- ---- reading, after the message number
 
 -- The epoch time is checked as soon as it is read.
-abbrev pub checked_time : ℕ → Cursor → Result (ℕ × Cursor) MsgFault
-checked_time time c = if nat_le week time then Err BadTime else Ok (time, c)
+abbrev pub checked_time : System → ℕ → Cursor → Result (ℕ × Cursor) MsgFault
+checked_time system time c = if is_time system time then Ok (time, c) else Err BadTime
 
 abbrev pub header_of : ℕ → ℕ → Contents header_table → MsmHeader
 header_of station time (more, (iods, (reserved, (steering, (clock, (smoothing, (interval, end))))))) =
@@ -174,8 +185,9 @@ header_of station time (more, (iods, (reserved, (steering, (clock, (smoothing, (
 abbrev pub after_time_at : ℕ → ℕ → Cursor → Result (MsmHeader × Cursor) MsgFault
 after_time_at station time c = reading header_table c (λ m. Ok (header_of station time m.0, m.1))
 
-unfoldable pub header_at : Cursor → Result (MsmHeader × Cursor) MsgFault
-header_at c = reading time_table c (λ n. checked_time n.0.1.0 n.1 >>= λ time. after_time_at n.0.0 time.0 time.1)
+unfoldable pub header_at : System → Cursor → Result (MsmHeader × Cursor) MsgFault
+header_at system c =
+    reading time_table c (λ n. checked_time system n.0.1.0 n.1 >>= λ time. after_time_at n.0.0 time.0 time.1)
 
 -- The number of pairs is checked as soon as both masks are read.
 abbrev pub masks_after : ℕ → ℕ → Cursor → Result (MasksValue × Cursor) MsgFault
@@ -189,7 +201,7 @@ masks_at c = reading mask_table c (λ m. masks_after m.0.0 m.0.1.0 m.1)
 
 unfoldable pub msm_at : List ℕ → List ℕ → System → Cursor → Result (MsmValue × Cursor) MsgFault
 msm_at satellite_widths cell_widths system c = do
-  header ← header_at c
+  header ← header_at system c
   sets ← masks_at header.1
   satellites ← columns_at satellite_widths (replicate (count_ones sets.0.satellites) 0) sets.1
   cells ← columns_at cell_widths (replicate (count_ones sets.0.cells) 0) satellites.1

@@ -5,10 +5,10 @@ pub use Rattle.rtcm_bits.specs.Cursors.{Cursor, advanced, unsigned_at}
 pub use Rattle.rtcm_msg.specs.Bounds.{IsMeasured}
 pub use Rattle.rtcm_msg.specs.Columns.{EachBelow}
 unfoldable pub use Rattle.rtcm_msg.specs.Columns.{column_at, columns_at}
-pub use Rattle.rtcm_msg.specs.Decoding.{body_by, is_any_msm, message_at, other_at, set_at, set_in, start}
-unfoldable pub use Rattle.rtcm_msg.specs.Decoding.{body_at, message_of}
-pub use Rattle.rtcm_msg.specs.Encoding.{IsFault, IsMessage, ReadsMessage, has_bad_time, has_too_many, is_msm_kind, is_other}
-pub use Rattle.rtcm_msg.specs.Encoding.{is_read_msm, layout, layout_by, message_bits, repeated, reserved_width, set_of}
+pub use Rattle.rtcm_msg.specs.Decoding.{body_by, is_any_msm, message_at, message_with, other_at, set_at, set_in, start}
+unfoldable pub use Rattle.rtcm_msg.specs.Decoding.{message_by}
+pub use Rattle.rtcm_msg.specs.Encoding.{IsFault, IsMessage, ReadsMessage, has_bad_time, has_too_many, is_bad_time}
+pub use Rattle.rtcm_msg.specs.Encoding.{is_msm_kind, is_other, is_read_msm, layout, layout_by, message_bits, repeated, reserved_width, set_of, other_of}
 pub use Rattle.rtcm_msg.specs.Entries.{IsEntry, Rising, all_pairs, cell_pairs, entries, entries_in, entry_in, ids, pair}
 unfoldable pub use Rattle.rtcm_msg.specs.Entries.{chosen, up_from}
 pub use Rattle.rtcm_msg.specs.Fields.{cursor_at, field_at, fields_width, reading, ◌>>=◌}
@@ -23,7 +23,7 @@ pub use Rattle.rtcm_msg.specs.Meaning.{Each, IsIn, IsMeaning, Meaning, cell_ids,
 pub use Rattle.rtcm_msg.specs.Meaning.{pair_number}
 pub use Rattle.rtcm_msg.specs.Msm.{AreMasks, IsHeader, IsValue, MasksValue, MsmValue, checked_time, codes_of}
 pub use Rattle.rtcm_msg.specs.Msm.{header_contents, header_fields, header_in, header_of, header_table, mask_fields}
-pub use Rattle.rtcm_msg.specs.Msm.{mask_table, masks_after, msm_bits, pair_count, time_contents, time_table, week}
+pub use Rattle.rtcm_msg.specs.Msm.{is_time, mask_table, masks_after, msm_bits, pair_count, time_contents, time_table}
 unfoldable pub use Rattle.rtcm_msg.specs.Msm.{header_at, masks_at, msm_at}
 pub use Rattle.rtcm_msg.specs.Packed.{total_width, unpacked}
 unfoldable pub use Rattle.rtcm_msg.specs.Packed.{columns}
@@ -42,15 +42,16 @@ pub use Rattle.rtcm_msg.specs.Viewed.{Unread}
 pub use Rattle.rtcm_msg.specs.Views.{AreDataOf, AreWithin, FormedMsm, cell_rows, formed, formed_at}
 pub use Rattle.rtcm_msg.specs.Views.{message_in, satellite_rows}
 pub use Rattle.rtcm_msg.specs.Forms.{cell_widths, lock_field, satellite_widths}
-pub use Rattle.rtcm_msg.specs.Numbers.{Kind, OfMsm, OfOther, OfStation, kind_in, kind_of, kind_table, message_number}
-pub use Rattle.rtcm_msg.specs.Numbers.{station_number}
+pub use Rattle.rtcm_msg.specs.Numbers.{kind_of, kind_with, kind_within, message_number, station_number}
+pub use Rattle.rtcm_msg.specs.declared.number.Kind.{Kind}
+pub use Rattle.rtcm_msg.specs.declared.number.MsmSet.{MsmSet}
 pub use Rattle.rtcm_msg.specs.declared.entry.Entry.{Entry}
 pub use Rattle.rtcm_msg.specs.declared.fault.MsgFault.{MsgFault}
 pub use Rattle.rtcm_msg.specs.declared.fault.MsgFault.TheVariants.{BadTime, Short, TooManyCells}
 pub use Rattle.rtcm_msg.specs.declared.header.MsmHeader.{MsmHeader}
 pub use Rattle.rtcm_msg.specs.declared.last_bits.LastBits.{LastBits}
 pub use Rattle.rtcm_msg.specs.declared.message.Message.{Message}
-pub use Rattle.rtcm_msg.specs.declared.message.Message.TheVariants.{Msm4, Msm7, Other, Station}
+pub use Rattle.rtcm_msg.specs.declared.message.Message.TheVariants.{Msm4, Msm5, Msm6, Msm7, Other, Station}
 pub use Rattle.rtcm_msg.specs.declared.pairs.Pair.{Pair}
 pub use Rattle.rtcm_msg.specs.declared.pairs.Pairs.{Pairs}
 pub use Rattle.rtcm_msg.specs.declared.station.StationParts.{StationParts}

@@ -1,43 +1,81 @@
--- The message numbers, DF002, and what a message of each contains.
-use Rattle.std.specs.Prelude.{ℕ, ◌+◌, ◌==◌, List, [], ◌∷◌, Bool, true, false, if◌then◌else◌}
+-- The message numbers, DF002, what a message of each contains, and which of them are decoded.
+use Rattle.std.specs.Prelude.{ℕ, ◌+◌, ◌*◌, ◌/◌, ◌%◌, ◌==◌, ◌&&◌, [], ◌∷◌, Bool, true, false, if◌then◌else◌}
+use Rattle.std.specs.Prelude.{Option, Some, None}
+use Rattle.std.specs.List.{find}
 use Rattle.gnss_system.specs.declared.system.System.{System}
-use Rattle.gnss_system.specs.declared.system.System.TheVariants.{Gps, Galileo}
+use Rattle.gnss_system.specs.declared.system.System.TheVariants.{Gps, Galileo, Glonass, Beidou, Qzss, Sbas}
+use Rattle.gnss_system.specs.Systems.{systems}
+use Rattle.gnss_system.specs.SystemValues.{value_of, of_two}
 use Rattle.rtcm_msg.specs.declared.view.Form.{Form}
 use Rattle.rtcm_msg.specs.declared.view.Form.TheVariants as forms
-
--- A station message, with a height or without, a multiple signal message of a form and a system, or a message that isn't
--- decoded.
-pub data Kind : Type 0 where
-  OfStation : Bool → Kind
-  OfMsm : Form → System → Kind
-  OfOther : Kind
+use Rattle.rtcm_msg.specs.declared.number.Kind.{Kind}
+use Rattle.rtcm_msg.specs.declared.number.Kind.TheVariants as kinds
+use Rattle.rtcm_msg.specs.declared.number.Forms.{Forms}
+use Rattle.rtcm_msg.specs.declared.number.Forms.TheVariants.{FourAndSeven, All}
+use Rattle.rtcm_msg.specs.declared.number.MsmSet.{MsmSet}
 
 abbrev pub station_number : Bool → ℕ
 station_number has_height = if has_height then 1006 else 1005
 
--- The number of MSM4 of a system; those of MSM5, MSM6 and MSM7 follow.
-abbrev pub msm4_number : System → ℕ
-msm4_number Gps = 1074
-msm4_number Galileo = 1094
+-- The numbers of a system's MSMs, without their last digit.
+abbrev pub tens_of : System → ℕ
+tens_of Gps = 107
+tens_of Galileo = 109
+tens_of Glonass = 108
+tens_of Beidou = 112
+tens_of Qzss = 111
+tens_of Sbas = 110
+
+-- The last digit of the numbers of a form.
+abbrev pub digit_of : Form → ℕ
+digit_of forms.Msm4 = 4
+digit_of forms.Msm5 = 5
+digit_of forms.Msm6 = 6
+digit_of forms.Msm7 = 7
 
 abbrev pub message_number : Form → System → ℕ
-message_number forms.Msm4 system = msm4_number system
-message_number forms.Msm7 system = msm4_number system + 3
+message_number form system = tens_of system * 10 + digit_of form
 
-abbrev pub kind_table : List (ℕ × Kind)
-kind_table =
-    (1005, OfStation false)
-    ∷ (1006, OfStation true)
-    ∷ (1074, OfMsm forms.Msm4 Gps)
-    ∷ (1077, OfMsm forms.Msm7 Gps)
-    ∷ (1094, OfMsm forms.Msm4 Galileo)
-    ∷ (1097, OfMsm forms.Msm7 Galileo)
-    ∷ []
+abbrev pub form_of_digit : ℕ → Option Form
+form_of_digit d = find (λ f. digit_of f == d) (forms.Msm4 ∷ forms.Msm5 ∷ forms.Msm6 ∷ forms.Msm7 ∷ [])
 
--- The kind of the first row with this number.
-abbrev pub kind_in : List (ℕ × Kind) → ℕ → Kind
-kind_in [] n = OfOther
-kind_in (row ∷ rows) n = if n == row.0 then row.1 else kind_in rows n
+abbrev pub system_of_tens : ℕ → Option System
+system_of_tens t = find (λ s. tens_of s == t) systems
 
+abbrev pub msm_kind : Option Form → Option System → Kind
+msm_kind None system = kinds.Other
+msm_kind (Some form) None = kinds.Other
+msm_kind (Some form) (Some system) = kinds.Msm form system
+
+-- What a message of a number contains.
 abbrev pub kind_of : ℕ → Kind
-kind_of n = kind_in kind_table n
+kind_of n = if n == 1005 then kinds.Station false
+    else (if n == 1006 then kinds.Station true
+    else msm_kind (form_of_digit (n % 10)) (system_of_tens (n / 10)))
+
+-- ---- a set of MSMs
+
+abbrev pub have_form : Forms → Form → Bool
+have_form All form = true
+have_form FourAndSeven forms.Msm4 = true
+have_form FourAndSeven forms.Msm5 = false
+have_form FourAndSeven forms.Msm6 = false
+have_form FourAndSeven forms.Msm7 = true
+
+-- An MSM that isn't in the set isn't decoded.
+abbrev pub kind_within : MsmSet → Kind → Kind
+kind_within set (kinds.Station has_height) = kinds.Station has_height
+kind_within set (kinds.Msm form system) =
+    if value_of system set.systems && have_form set.forms form then kinds.Msm form system else kinds.Other
+kind_within set kinds.Other = kinds.Other
+
+-- What a message of a number contains if the MSMs of the set are decoded.
+abbrev pub kind_with : MsmSet → ℕ → Kind
+kind_with set n = kind_within set (kind_of n)
+
+-- The set of MSM4 and MSM7 of GPS and Galileo, and the set of all MSMs.
+abbrev pub default_set : MsmSet
+default_set = record { systems = of_two true true false; forms = FourAndSeven }
+
+abbrev pub whole_set : MsmSet
+whole_set = record { systems = of_two true true true; forms = All }

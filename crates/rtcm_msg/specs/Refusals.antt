@@ -1,12 +1,13 @@
 -- The parts that make a value, and the first fault of others.
 use Rattle.std.specs.Prelude.{ℕ, Bool, List, [], ◌∷◌, length, ◌^◌, ◌==◌, ◌&&◌, nat_lt, nat_le, if◌then◌else◌, not, Option, Some, None}
 use Rattle.std.specs.Prelude.{Result, Ok, Err, count_ones}
+use Rattle.gnss_system.specs.declared.system.System.{System}
 use Rattle.rtcm_msg.specs.declared.fault.Field.{Field}
 use Rattle.rtcm_msg.specs.declared.header.MsmHeader.{MsmHeader}
 use Rattle.rtcm_msg.specs.declared.station.StationParts.{StationParts}
 use Rattle.rtcm_msg.specs.declared.fault.ValueFault.{ValueFault}
 use Rattle.rtcm_msg.specs.Ranges.{fits_int}
-use Rattle.rtcm_msg.specs.Msm.{MasksValue, pair_count, week, most_pairs}
+use Rattle.rtcm_msg.specs.Msm.{MasksValue, pair_count, is_time, most_pairs}
 use Rattle.rtcm_msg.specs.declared.fault.ValueFault.TheVariants as faults
 use Rattle.rtcm_msg.specs.declared.fault.Field.TheVariants as fields
 
@@ -56,15 +57,15 @@ out_of_range None = None
 out_of_range (Some f) = Some (faults.OutOfRange f)
 
 -- The fault for which parts are refused; the last two arguments are the first bad field of satellites and of cells.
-abbrev pub msm_refusal : MsmHeader → MasksValue → ℕ → ℕ → Option Field → Option Field → Option ValueFault
-msm_refusal h s satellites cells satellite_fault cell_fault =
-    if nat_le week h.time then Some faults.BadTime
+abbrev pub msm_refusal : System → MsmHeader → MasksValue → ℕ → ℕ → Option Field → Option Field → Option ValueFault
+msm_refusal system h s satellites cells satellite_fault cell_fault =
+    if not (is_time system h.time) then Some faults.BadTime
     else (if (satellites == count_ones s.satellites) && (cells == count_ones s.cells)
     then out_of_range (first_field (header_fault h) (first_field satellite_fault cell_fault))
     else Some faults.CellCount)
 
 -- The fault for which data of satellites and cells are refused; the functions give the first bad field of each.
-abbrev pub data_refusal : {S C : Type 0} → MsmHeader → MasksValue → (List S → Option Field) → List S
+abbrev pub data_refusal : {S C : Type 0} → System → MsmHeader → MasksValue → (List S → Option Field) → List S
     → (List C → Option Field) → List C → Option ValueFault
-data_refusal h s satellite_fault satellites cell_fault cells =
-    msm_refusal h s (length satellites) (length cells) (satellite_fault satellites) (cell_fault cells)
+data_refusal system h s satellite_fault satellites cell_fault cells =
+    msm_refusal system h s (length satellites) (length cells) (satellite_fault satellites) (cell_fault cells)

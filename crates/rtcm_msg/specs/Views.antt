@@ -1,5 +1,5 @@
 -- Messages that are read from their bytes.
-use Rattle.std.specs.Prelude.{◌≡◌, ℕ, ◌+◌, ◌*◌, ◌≤◌, Bool, List, length, Result, Ok}
+use Rattle.std.specs.Prelude.{◌≡◌, ℕ, ◌+◌, ◌*◌, ◌≤◌, List, length, Result, Ok}
 use Rattle.gnss_system.specs.declared.system.System.{System}
 use Rattle.rtcm_msg.specs.declared.message.Message.{Message}
 use Rattle.rtcm_msg.specs.declared.message.Message.TheVariants as messages
@@ -23,6 +23,8 @@ use Rattle.rtcm_msg.specs.Forms.{satellite_widths, cell_widths}
 
 abbrev pub message_in : Form → MsmValue → Message
 message_in forms.Msm4 v = messages.Msm4 v
+message_in forms.Msm5 v = messages.Msm5 v
+message_in forms.Msm6 v = messages.Msm6 v
 message_in forms.Msm7 v = messages.Msm7 v
 
 pub record FormedMsm : Type 0 where

@@ -12,6 +12,7 @@ ghost use Rattle.rtcm_msg.specs.Packed.{total_width};
 ghost use Rattle.rtcm_msg.specs.Forms as forms;
 ghost use Rattle.rtcm_msg.specs.Forms.{IsSatelliteData, IsCellData, satellite_number, satellite_data};
 ghost use Rattle.rtcm_msg.specs.Forms.{cell_number, cell_data, fine_range, fine_phase, has_range, precision};
+ghost use Rattle.rtcm_msg.specs.Forms.{rateless, rateless_number};
 ghost use Rattle.rtcm_msg.specs.FormLaws as laws;
 ghost use Rattle.rtcm_msg.specs.Entries.{IsEntry};
 ghost use Rattle.rtcm_msg.specs.declared.fault.Field.{Field};
@@ -31,11 +32,12 @@ use rtcm_bits::{raw_of, signed_of};
 pub struct Satellite {
     /// Rough range in whole milliseconds, DF397: 8 bits, 255 if invalid.
     pub whole: u8,
-    /// Extended satellite information: 4 bits, and 0 in MSM4.
+    /// Extended satellite information, of GLONASS DF419: 4 bits, and 0 in MSM4 and MSM6.
     pub extended: u8,
     /// Rough range modulo 1 ms, in 2^-10 ms, DF398: 10 bits.
     pub fraction: u16,
-    /// Rough phase range rate in m/s, DF399: 14 bits with a sign, -2^13 if invalid, and in MSM4.
+    /// Rough phase range rate in m/s, DF399: 14 bits with a sign, -2^13 if invalid, and in MSM4
+    /// and MSM6.
     pub rate: i16,
 }
 
@@ -55,7 +57,7 @@ pub struct Cell {
     /// 2^-4 dB-Hz.
     pub strength: u16,
     /// Fine phase range rate in 0.0001 m/s, DF404: 15 bits with a sign, -2^14 if invalid, and in
-    /// MSM4.
+    /// MSM4 and MSM6.
     pub rate: i16,
 }
 
@@ -200,21 +202,30 @@ impl Form {
         requires { IsCellData self cell.now }
         ensures { result ≡ cell_number self cell.now }
     {
-        match self {
-            Form::Msm4 => {
-                let range = raw_of(cell.range as i64, 15);
-                let first = range * (1 << 22) + raw_of(cell.phase as i64, 22);
-                let number = (first as u128 * 16 + cell.lock as u128) * 2 + cell.half_cycle as u128;
-                number * 64 + cell.strength as u128
-            }
-            Form::Msm7 => {
-                let range = raw_of(cell.range as i64, 20);
-                let first = range * (1 << 24) + raw_of(cell.phase as i64, 24);
-                let number = (first as u128 * 1024 + cell.lock as u128) * 2
-                    + cell.half_cycle as u128;
-                let number = number * 1024 + cell.strength as u128;
-                number * 32768 + raw_of(cell.rate as i64, 15) as u128
-            }
+        let number = self.rateless_number(cell);
+        if self.has_rates() {
+            number * 32768 + raw_of(cell.rate as i64, 15) as u128
+        } else {
+            number
+        }
+    }
+
+    /// Returns the fields before the rate in one number.
+    fn rateless_number(self, cell: &Cell) -> u128
+        requires { IsCellData self cell.now }
+        ensures value { result ≡ rateless_number (forms.is_fine self) cell.now }
+        ensures bound { result < 2 ^ 65 }
+    {
+        if self.is_fine() {
+            let range = raw_of(cell.range as i64, 20);
+            let first = range * (1 << 24) + raw_of(cell.phase as i64, 24);
+            let number = (first as u128 * 1024 + cell.lock as u128) * 2 + cell.half_cycle as u128;
+            number * 1024 + cell.strength as u128
+        } else {
+            let range = raw_of(cell.range as i64, 15);
+            let first = range * (1 << 22) + raw_of(cell.phase as i64, 22);
+            let number = (first as u128 * 16 + cell.lock as u128) * 2 + cell.half_cycle as u128;
+            number * 64 + cell.strength as u128
         }
     }
 
@@ -223,23 +234,38 @@ impl Form {
         requires { number < 2 ^ total_width (forms.cell_widths self) }
         ensures { result ≡ cell_data self number }
     {
-        match self {
-            Form::Msm4 => Cell {
+        if self.has_rates() {
+            Cell {
+                rate: signed_of((number % 32768) as u64, 15) as i16,
+                ..self.rateless(number / 32768)
+            }
+        } else {
+            self.rateless(number)
+        }
+    }
+
+    /// Returns the cell without a rate whose other fields are packed in the number.
+    fn rateless(self, number: u128) -> Cell
+        ensures { result ≡ rateless (forms.is_fine self) number }
+    {
+        if self.is_fine() {
+            Cell {
+                range: signed_of((number / (1 << 45) % (1 << 20)) as u64, 20) as i32,
+                phase: signed_of((number / (1 << 21) % (1 << 24)) as u64, 24) as i32,
+                lock: (number / (1 << 11) % 1024) as u16,
+                half_cycle: number / (1 << 10) % 2 == 1,
+                strength: (number % 1024) as u16,
+                rate: INVALID_FINE_RATE,
+            }
+        } else {
+            Cell {
                 range: signed_of((number / (1 << 33) % (1 << 15)) as u64, 15) as i32,
                 phase: signed_of((number / (1 << 11) % (1 << 22)) as u64, 22) as i32,
                 lock: (number / (1 << 7) % 16) as u16,
                 half_cycle: number / (1 << 6) % 2 == 1,
                 strength: (number % 64) as u16,
                 rate: INVALID_FINE_RATE,
-            },
-            Form::Msm7 => Cell {
-                range: signed_of((number / (1 << 60) % (1 << 20)) as u64, 20) as i32,
-                phase: signed_of((number / (1 << 36) % (1 << 24)) as u64, 24) as i32,
-                lock: (number / (1 << 26) % 1024) as u16,
-                half_cycle: number / (1 << 25) % 2 == 1,
-                strength: (number / (1 << 15) % 1024) as u16,
-                rate: signed_of((number % 32768) as u64, 15) as i16,
-            },
+            }
         }
     }
 }
@@ -481,7 +507,7 @@ impl Form {
 }
 
 /// Returns the phase range rate in 0.0001 m/s: the sum of the rough and the fine rate. `None` if
-/// either is invalid, and in MSM4.
+/// either is invalid, and in MSM4 and MSM6.
 pub(crate) fn rate(satellite: &Satellite, cell: &Cell) -> Option<i32>
     ensures value { result ≡ forms.rate_of satellite.now cell.now }
     ensures bound { (f : Form) → IsSatelliteData f satellite.now → IsCellData f cell.now

@@ -14,7 +14,7 @@ pub struct Entry {
     /// DF406. `None` if invalid.
     pub phase: Option<i64>,
     /// Phase range rate in 0.0001 m/s, at most 10^8 in absolute value: DF399 with DF404. `None` if
-    /// invalid, and in MSM4.
+    /// invalid, and in MSM4 and MSM6.
     pub rate: Option<i32>,
     /// Carrier to noise ratio in 1/16 dB-Hz, 1 to 1023: DF403 or DF408. `None` if not computed.
     pub strength: Option<u16>,

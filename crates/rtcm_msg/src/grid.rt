@@ -40,7 +40,7 @@ pub trait Grid {
     }
 
     /// Returns the phase range rate in 0.0001 m/s: the sum of the rough and the fine rate. `None`
-    /// if either is invalid, and in MSM4.
+    /// if either is invalid, and in MSM4 and MSM6.
     fn rate(satellite: &Satellite, cell: &Cell) -> Option<i32>
         ensures value { result ≡ forms.rate_of satellite.now cell.now }
         ensures bound { IsSatelliteData form satellite.now → IsCellData form cell.now
@@ -106,7 +106,7 @@ pub trait Grid {
     }
 }
 
-/// The form of MSM4: messages 1074 and 1094.
+/// The form of MSM4.
 pub struct Grid4;
 
 impl Grid for Grid4 {
@@ -120,7 +120,35 @@ impl Grid for Grid4 {
     }
 }
 
-/// The form of MSM7: messages 1077 and 1097.
+/// The form of MSM5.
+pub struct Grid5;
+
+impl Grid for Grid5 {
+    ghost use Rattle.rtcm_msg.specs.declared.view.Form.TheVariants.{Msm5};
+
+    ghost form = { Msm5 };
+
+    #[inline(always)]
+    fn form() -> Form {
+        Form::Msm5
+    }
+}
+
+/// The form of MSM6.
+pub struct Grid6;
+
+impl Grid for Grid6 {
+    ghost use Rattle.rtcm_msg.specs.declared.view.Form.TheVariants.{Msm6};
+
+    ghost form = { Msm6 };
+
+    #[inline(always)]
+    fn form() -> Form {
+        Form::Msm6
+    }
+}
+
+/// The form of MSM7.
 pub struct Grid7;
 
 impl Grid for Grid7 {

@@ -39,8 +39,8 @@ impl Form {
         ensures last { AreLast (forms.cell_widths self) result }
     {
         let (range, phase, lock, strength) = match self {
-            Form::Msm4 => (15, 22, 4, 6),
-            Form::Msm7 => (20, 24, 10, 10),
+            Form::Msm4 | Form::Msm5 => (15, 22, 4, 6),
+            Form::Msm6 | Form::Msm7 => (20, 24, 10, 10),
         };
         let phases = place + count * range;
         let locks = phases + count * phase;

@@ -1,10 +1,14 @@
 //! Reads and writes the messages of RTCM 10403.3 that the converter uses: station messages 1005 and
-//! 1006, and the multiple signal messages (MSM) 1074, 1077, 1094 and 1097.
+//! 1006, and the multiple signal messages (MSM) of the forms MSM4 to MSM7: 1074 to 1077 of GPS, 1084
+//! to 1087 of GLONASS, 1094 to 1097 of Galileo, 1104 to 1107 of SBAS, 1114 to 1117 of QZSS and 1124
+//! to 1127 of BeiDou.
 //!
 //! [`decode`] reads a message and [`encode`] writes one. [`look`] returns a [`View`] that reads the
-//! cells of an MSM one by one from its bytes, each as an [`Entry`].
+//! cells of an MSM one by one from its bytes, each as an [`Entry`], and [`look_in`] decodes the
+//! MSMs of a set alone.
 #![tactic(auto)]
 
+mod channels;
 mod data;
 mod entry;
 mod fault;
@@ -25,16 +29,18 @@ mod value_counts;
 mod view;
 mod writing;
 
+pub use channels::{SentChannels, channel_of_1020};
 pub use data::{Cell, INVALID_FINE_RATE, INVALID_ROUGH_RATE, Satellite};
 pub use entry::{Entry, LockField};
 pub use fault::{Field, MsgFault, ValueFault};
 pub use gnss_system::System;
-pub use grid::{Grid, Grid4, Grid7};
+pub use grid::{Grid, Grid4, Grid5, Grid6, Grid7};
 pub use header::{MsmHeader, WEEK};
 pub use masks::Masks;
 pub use message::{Message, decode, encode};
 pub use msm::Msm;
+pub use number::{Forms, MsmSet};
 pub use station::{Station, StationParts};
 pub use summary::Summary;
 pub use value_counts::ValueCounts;
-pub use view::{Entries, Form, MsmView, View, look};
+pub use view::{Entries, Form, MsmView, View, look, look_in};

@@ -1,6 +1,5 @@
 //! The masks of an MSM: its satellites, its signals and its cells.
 ghost use Rattle.std.specs.Prelude.{◌≡◌, ◌*◌, ◌≤◌, Ok, Err, IfOk, IfErr, length};
-ghost use Rattle.gnss_system.specs.declared.system.System.{System};
 ghost use Rattle.rtcm_bits.specs.Bits.{bits_of};
 ghost use Rattle.rtcm_bits.specs.FrameOf.{longest_message};
 ghost use Rattle.rtcm_msg.specs.Fields.{cursor_at};
@@ -11,7 +10,8 @@ ghost use Rattle.rtcm_msg.specs.Refusals.{masks_of};
 
 use crate::fault::{Field, MsgFault, ValueFault};
 use crate::field::end_of_fields;
-use crate::header::{MsmHeader, WEEK, header_in};
+use crate::header::{MsmHeader, header_in, is_time};
+use gnss_system::System;
 use rtcm_bits::number_at;
 use std::marker::Model;
 
@@ -101,7 +101,7 @@ impl Masks {
     }
 }
 
-/// Widths in bits of the first fields after the message number: DF003, and DF004 or DF248.
+/// Widths in bits of the first fields after the message number: DF003, and the epoch time.
 const TIME_WIDTHS: &[u32] = &[12, 30];
 
 /// Widths of the fields after the epoch time: DF393, DF409, 7 reserved bits, DF411, DF412, DF417
@@ -109,27 +109,27 @@ const TIME_WIDTHS: &[u32] = &[12, 30];
 const HEAD_WIDTHS: &[u32] = &[1, 3, 7, 2, 2, 1, 3, SATELLITE_MASK_BITS, SIGNAL_MASK_BITS];
 
 /// Reads the header and the masks of an MSM after its message number, and returns them with the bit
-/// after them. An epoch time of a week or more is refused before the fields after it are read, and
-/// more than 64 pairs before the third mask is read.
+/// after them. An epoch time that isn't one of the system is refused before the fields after it are
+/// read, and more than 64 pairs before the third mask is read.
 ///
 /// # Errors
 ///
-/// `Short` if a field does not end within the message, `BadTime` for a time of a week or more,
-/// `TooManyCells` for more than 64 pairs.
-pub(crate) fn read_head(bytes: &[u8]) -> Result<(MsmHeader, Masks, usize), MsgFault>
+/// `Short` if a field does not end within the message, `BadTime` for a time that isn't one of the
+/// system, `TooManyCells` for more than 64 pairs.
+pub(crate) fn read_head(system: System, bytes: &[u8]) -> Result<(MsmHeader, Masks, usize), MsgFault>
     requires number { 12 ≤ 8 * length bytes.now }
     requires small { length bytes.now ≤ longest_message }
     ensures read { IfOk result (λ x.
-        (header_at (cursor_at (bits_of bytes.now) 12) ≡ Ok (x.0, cursor_at (bits_of bytes.now) 73))
+        (header_at system (cursor_at (bits_of bytes.now) 12) ≡ Ok (x.0, cursor_at (bits_of bytes.now) 73))
         × (masks_at (cursor_at (bits_of bytes.now) 73) ≡ Ok (x.1, cursor_at (bits_of bytes.now) x.2))) }
-    ensures is_header { IfOk result (λ x. IsHeader x.0) }
+    ensures is_header { IfOk result (λ x. IsHeader system x.0) }
     ensures within { IfOk result (λ x. (169 ≤ x.2) × (x.2 ≤ 8 * length bytes.now)) }
-    ensures fault { IfErr result (λ e. (form : Form) → (g : System)
-        → formed_at form g (cursor_at (bits_of bytes.now) 12) ≡ Err e) }
+    ensures fault { IfErr result (λ e. (form : Form)
+        → formed_at form system (cursor_at (bits_of bytes.now) 12) ≡ Err e) }
 {
     end_of_fields(bytes, TIME_WIDTHS, 1, 12)?;
     let time = number_at(bytes, 24, 30) as u32;
-    if time >= WEEK {
+    if !is_time(system, time) {
         return Err(MsgFault::BadTime);
     }
     end_of_fields(bytes, HEAD_WIDTHS, 1, 54)?;

@@ -12,7 +12,7 @@ ghost use Rattle.rtcm_msg.specs.declared.message.Message.TheVariants as messages
 
 use crate::fault::MsgFault;
 use crate::field::flag_at;
-use crate::grid::{Grid4, Grid7};
+use crate::grid::{Grid4, Grid5, Grid6, Grid7};
 use crate::msm::{Msm, view_of, write_msm};
 use crate::station::Station;
 use crate::view::{View, look};
@@ -25,9 +25,13 @@ use rtcm_bits::{BitWriter, LONGEST_MESSAGE, number_at};
 pub enum Message {
     /// Message 1005 or 1006.
     Station(Station),
-    /// Message 1074 or 1094.
+    /// MSM4, as 1074 of GPS.
     Msm4(Msm<Grid4>),
-    /// Message 1077 or 1097.
+    /// MSM5, as 1075.
+    Msm5(Msm<Grid5>),
+    /// MSM6, as 1076.
+    Msm6(Msm<Grid6>),
+    /// MSM7, as 1077.
     Msm7(Msm<Grid7>),
     /// A message of any other number, DF002. For an MSM of any type, 1071 to 1127, `set` is its
     /// station, DF003, and its multiple message bit, DF393, if the message contains them.
@@ -55,13 +59,13 @@ pub(crate) fn read_set(number: u16, bytes: &[u8]) -> Option<(u16, bool)>
 }
 
 /// Decodes a message. Reserved bits and bits after the last field are ignored. Each number other
-/// than 1005, 1006, 1074, 1077, 1094 and 1097 gives `Message::Other`.
+/// than 1005, 1006 and those of MSM4 to MSM7 of a system gives `Message::Other`.
 ///
 /// # Errors
 ///
 /// The first fault in the order of the fields: `Short` with the index of the first bit of a field
-/// that does not end within the message, `BadTime` for an epoch time of a week or more as soon as
-/// it is read, `TooManyCells` for more than 64 pairs of a satellite and a signal as soon as both
+/// that does not end within the message, `BadTime` for an epoch time that isn't one of the system as
+/// soon as it is read, `TooManyCells` for more than 64 pairs of a satellite and a signal as soon as both
 /// masks are read.
 pub fn decode(bytes: &[u8]) -> Result<Message, MsgFault>
     ensures exact { GivesViewed (λ m. m) result (message_at bytes.now) }
@@ -82,6 +86,8 @@ impl Message {
         match self {
             Message::Station(station) => View::Station(*station),
             Message::Msm4(msm) => View::Msm(view_of(msm)),
+            Message::Msm5(msm) => View::Msm(view_of(msm)),
+            Message::Msm6(msm) => View::Msm(view_of(msm)),
             Message::Msm7(msm) => View::Msm(view_of(msm)),
             Message::Other { number, set } => View::Other {
                 number: *number,
@@ -109,6 +115,8 @@ pub fn encode(message: &Message, bytes: &mut ArrayVec<u8, LONGEST_MESSAGE>)
     match message {
         Message::Station(station) => write_station(&mut writer, &station.parts()),
         Message::Msm4(msm) => write_msm(&mut writer, msm),
+        Message::Msm5(msm) => write_msm(&mut writer, msm),
+        Message::Msm6(msm) => write_msm(&mut writer, msm),
         Message::Msm7(msm) => write_msm(&mut writer, msm),
         Message::Other { .. } => unreachable!(),
     }

@@ -13,7 +13,7 @@ ghost use Rattle.rtcm_msg.specs.Numbers.{message_number};
 use crate::data::{Cell, HasFields, Satellite};
 use crate::fault::{Field, ValueFault};
 use crate::grid::Grid;
-use crate::header::{MsmHeader, WEEK, header_fault};
+use crate::header::{MsmHeader, header_fault, is_time};
 use crate::masks::{MOST_PAIRS, Masks};
 use crate::number::message_number;
 use crate::view::{Data, Form, MsmView};
@@ -23,8 +23,8 @@ use gnss_system::System;
 use rtcm_bits::BitWriter;
 use std::marker::{Model, PhantomData};
 
-/// A multiple signal message of GPS or Galileo in the form `G`: a header, the satellites and
-/// signals of the masks, data for each satellite, and a cell for each pair in the cell mask.
+/// A multiple signal message in the form `G`: a header, the satellites and signals of the masks,
+/// data for each satellite, and a cell for each pair in the cell mask.
 #[derive(Drop)]
 pub struct Msm<G: Grid> {
     /// The satellite system.
@@ -59,9 +59,9 @@ impl<G: Grid> Msm<G> {
     ///
     /// # Errors
     ///
-    /// In this order: `BadTime` if the epoch time is a week or more; `CellCount` if the number of
-    /// satellites or cells isn't the number in the masks; `OutOfRange` with the first field, in the
-    /// order of the layout, that does not fit its bits.
+    /// In this order: `BadTime` if the epoch time isn't one of the system; `CellCount` if the number
+    /// of satellites or cells isn't the number in the masks; `OutOfRange` with the first field, in
+    /// the order of the layout, that does not fit its bits.
     pub fn new(
         system: System,
         header: MsmHeader,
@@ -69,16 +69,23 @@ impl<G: Grid> Msm<G> {
         satellites: &[Satellite],
         cells: &[Cell],
     ) -> Result<Msm<G>, ValueFault>
-        ensures refused { IfErr result (λ e.
-            data_refusal header masks (satellite_fault G.form) satellites.now (cell_fault G.form) cells.now ≡ Some e) }
-        ensures accepted { IfOk result (λ _.
-            data_refusal header masks (satellite_fault G.form) satellites.now (cell_fault G.form) cells.now ≡ None) }
+        ensures refused { IfErr result (λ e. data_refusal system header masks
+            (satellite_fault G.form) satellites.now (cell_fault G.form) cells.now ≡ Some e) }
+        ensures accepted { IfOk result (λ _. data_refusal system header masks
+            (satellite_fault G.form) satellites.now (cell_fault G.form) cells.now ≡ None) }
         ensures made { IfOk result (λ m. m ≡ msm_of_parts system header masks
             (map (satellite_number G.form) satellites.now) (map (cell_number G.form) cells.now)) }
     {
         let form = G::form();
         let faults = (form.satellite_fault(satellites), form.cell_fault(cells));
-        match msm_fault(&header, &masks, satellites.len(), cells.len(), faults) {
+        match msm_fault(
+            system,
+            &header,
+            &masks,
+            satellites.len(),
+            cells.len(),
+            faults,
+        ) {
             Some(fault) => Err(fault),
             None => Ok(Msm {
                 system,
@@ -98,7 +105,7 @@ impl<G: Grid> Msm<G> {
         self.system
     }
 
-    /// Returns the message number, DF002: 1074 to 1077 or 1094 to 1097.
+    /// Returns the message number, DF002.
     pub fn number(&self) -> u16
         ensures value { result ≡ message_number G.form self.now.system }
         ensures bound { result < 2 ^ 12 }
@@ -109,7 +116,7 @@ impl<G: Grid> Msm<G> {
     /// Returns the header fields.
     pub fn header(&self) -> MsmHeader
         ensures value { result ≡ self.now.header }
-        ensures in_range { IsHeader result }
+        ensures in_range { IsHeader self.now.system result }
     {
         self.header
     }
@@ -162,17 +169,18 @@ impl<G: Grid> Msm<G> {
 /// masks, or of the first field out of range. The last argument has the first such field of the
 /// satellites and of the cells.
 fn msm_fault(
+    system: System,
     header: &MsmHeader,
     masks: &Masks,
     satellites: usize,
     cells: usize,
     faults: (Option<Field>, Option<Field>),
 ) -> Option<ValueFault>
-    ensures value { result ≡ msm_refusal header.now masks.now satellites cells faults.0 faults.1 }
-    ensures none { IfNone result (IsHeader header.now × (faults.0 ≡ None) × (faults.1 ≡ None)
+    ensures value { result ≡ msm_refusal system header.now masks.now satellites cells faults.0 faults.1 }
+    ensures none { IfNone result (IsHeader system header.now × (faults.0 ≡ None) × (faults.1 ≡ None)
         × (satellites ≡ count_ones masks.now.satellites) × (cells ≡ count_ones masks.now.cells)) }
 {
-    if header.time >= WEEK {
+    if !is_time(system, header.time) {
         return Some(ValueFault::BadTime);
     }
     let counts = (masks.satellites().count_ones(), masks.cells().count_ones());

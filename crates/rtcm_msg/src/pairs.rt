@@ -96,6 +96,7 @@ pub(crate) fn with_signals(mut pairs: Pairs) -> Pairs
 
 /// Returns the first pair, whose satellite has a signal left, and the other pairs.
 #[inline(always)]
+#[tactic(auto, using(crate::proofs::ValueLaws::id_within))]
 pub(crate) fn split_signal(pairs: Pairs) -> (Pair, Pairs)
     requires first { HasFirst pairs }
     requires in_range { ArePairs pairs }

@@ -1,8 +1,8 @@
 //! The contents of a message other than its satellites and cells.
-ghost use Rattle.std.specs.Prelude.{◌≡◌, ◌<◌};
+ghost use Rattle.std.specs.Prelude.{◌≡◌, IsTrue};
 ghost use Rattle.std.specs.Option.{ForSome};
-ghost use Rattle.rtcm_msg.specs.Msm.{week};
-ghost use Rattle.rtcm_msg.specs.Summaries.{summary};
+ghost use Rattle.rtcm_msg.specs.Msm.{is_time};
+ghost use Rattle.rtcm_msg.specs.Summaries.{summary, system_of};
 ghost use Rattle.rtcm_msg.specs.Viewed.{viewed_message};
 
 use crate::station::StationParts;
@@ -14,8 +14,7 @@ use crate::view::View;
 pub struct Summary {
     /// Reference station ID, DF003.
     pub station: Option<u16>,
-    /// Epoch time in milliseconds of the week, DF004 or DF248: only messages 1074, 1077, 1094 and
-    /// 1097 have one.
+    /// Epoch time of the system, see `MsmHeader::time`: only decoded MSMs have one.
     pub time: Option<u32>,
     /// Multiple message bit, DF393.
     pub more: Option<bool>,
@@ -27,7 +26,8 @@ impl<'a> View<'a> {
     /// Returns the contents of the message other than the data of satellites and cells.
     pub fn summary(&self) -> Summary
         ensures value { result ≡ summary (viewed_message self.now) }
-        ensures time { ForSome result.time (λ time. time < week) }
+        ensures time { ForSome result.time (λ time.
+            ForSome (system_of (viewed_message self.now)) (λ system. IsTrue (is_time system time))) }
     {
         let none = Summary::default();
         match self {

@@ -13,7 +13,7 @@ ghost use Rattle.rtcm_msg.specs.ValueCounts.{has_listed_value, value_count, has_
 ghost use Rattle.rtcm_msg.specs.ValueCounts.{entries_left, AreCells, AreAtMost, AddsCounts};
 
 use crate::fractions::INVALID_RANGE;
-use crate::grid::{Grid, Grid4, Grid7};
+use crate::grid::{Grid, Grid4, Grid5, Grid6, Grid7};
 use crate::masks::SIGNAL_MASK_BITS;
 use crate::pairs::{CellsLeft, Pair, split_first, split_signal, with_signals};
 use crate::view::{Form, MsmView};
@@ -206,6 +206,7 @@ impl<'a> MsmView<'a> {
     /// Returns, for each signal of the message, the number of its cells that have a value and whose
     /// satellite is in the set `listed`, in which the most significant bit is satellite ID 1.
     #[inline(always)]
+    #[tactic(auto, using(crate::proofs::ValueLaws::no_cells, crate::proofs::ValueLaws::few_entries))]
     pub fn value_counts(&self, listed: u64) -> ValueCounts
         ensures signals { result.left ≡ ids signal_mask_bits self.now.msm.sets.signals }
         ensures counts { (i : ℕ) → i < signal_mask_bits
@@ -219,6 +220,8 @@ impl<'a> MsmView<'a> {
         let _ = self.cells();
         match self.form() {
             Form::Msm4 => self.count_all::<Grid4>(listed),
+            Form::Msm5 => self.count_all::<Grid5>(listed),
+            Form::Msm6 => self.count_all::<Grid6>(listed),
             Form::Msm7 => self.count_all::<Grid7>(listed),
         }
     }
@@ -249,6 +252,7 @@ impl Model for ValueCounts {
 impl ValueCounts {
     /// Returns the next signal ID and the number of its cells, or `None` after the last one.
     #[inline(always)]
+    #[tactic(auto, using(crate::proofs::ValueLaws::id_within, crate::proofs::ValueLaws::id_once, crate::proofs::PairLaws::ids_none))]
     pub fn next(&mut self) -> Option<(u8, u8)>
         ensures some { IfSome result (λ x. (self.old.left ≡ x.0 ∷ self.new.left)
             × (x.1 ≡ slice_index self.old.counts (x.0 - 1))) }

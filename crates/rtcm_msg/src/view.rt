@@ -5,7 +5,7 @@ ghost use Rattle.rtcm_bits.specs.Bits.{bits_of};
 ghost use Rattle.rtcm_bits.specs.FrameOf.{longest_message};
 ghost use Rattle.rtcm_msg.specs.Fields.{GivesViewed, cursor_at};
 ghost use Rattle.rtcm_msg.specs.Msm.{codes_of, IsHeader, IsValue, satellite_mask_bits, most_pairs};
-ghost use Rattle.rtcm_msg.specs.Decoding.{message_at, body_at};
+ghost use Rattle.rtcm_msg.specs.Decoding.{body_by, message_at, message_with};
 ghost use Rattle.rtcm_msg.specs.Viewed.{viewed_message, IsCached};
 ghost use Rattle.rtcm_msg.specs.Forms as forms;
 ghost use Rattle.rtcm_msg.specs.Forms.{lock_field, satellite_data, satellite_number, cell_data, cell_number};
@@ -19,13 +19,13 @@ use crate::data::{Cell, Satellite};
 use crate::entry::{Entry, LockField};
 use crate::fault::MsgFault;
 use crate::field::end_of_fields;
-use crate::grid::{Grid, Grid4, Grid7};
+use crate::grid::{Grid, Grid4, Grid5, Grid6, Grid7};
 use crate::header::MsmHeader;
 use crate::last_bits::LastBits;
 use crate::masks::{Masks, read_head};
 use crate::message::{Message, read_set};
 use crate::msm::msm_of;
-use crate::number::message_number;
+use crate::number::{Kind, MsmSet, message_number};
 use crate::pairs::{CellsLeft, Pair, split_cells};
 use crate::station::{Station, view_station};
 use gnss_system::System;
@@ -35,9 +35,13 @@ use std::marker::Model;
 /// The layout and precision of an MSM.
 #[derive(Clone, Copy, PartialEq)]
 pub enum Form {
-    /// Messages 1074 and 1094.
+    /// MSM4, as 1074 of GPS.
     Msm4,
-    /// Messages 1077 and 1097.
+    /// MSM5, as 1075: the cells of MSM4 with phase range rates.
+    Msm5,
+    /// MSM6, as 1076: the cells of MSM7 without phase range rates.
+    Msm6,
+    /// MSM7, as 1077.
     Msm7,
 }
 
@@ -47,7 +51,7 @@ impl Form {
     pub fn is_fine(self) -> bool
         ensures { result ≡ forms.is_fine self }
     {
-        matches!(self, Form::Msm7)
+        matches!(self, Form::Msm6 | Form::Msm7)
     }
 
     /// Returns whether there are phase range rates, and extended satellite information.
@@ -55,16 +59,17 @@ impl Form {
     pub fn has_rates(self) -> bool
         ensures { result ≡ forms.has_rates self }
     {
-        matches!(self, Form::Msm7)
+        matches!(self, Form::Msm5 | Form::Msm7)
     }
 
     /// Returns the field of the lock time indicators.
     pub fn lock_field(self) -> LockField
         ensures { result ≡ forms.lock_field self }
     {
-        match self {
-            Form::Msm4 => LockField::Df402,
-            Form::Msm7 => LockField::Df407,
+        if self.is_fine() {
+            LockField::Df407
+        } else {
+            LockField::Df402
         }
     }
 
@@ -76,6 +81,8 @@ impl Form {
     {
         match self {
             Form::Msm4 => (&[8, 10], &[15, 22, 4, 1, 6]),
+            Form::Msm5 => (&[8, 4, 10, 14], &[15, 22, 4, 1, 6, 15]),
+            Form::Msm6 => (&[8, 10], &[20, 24, 10, 1, 10]),
             Form::Msm7 => (&[8, 4, 10, 14], &[20, 24, 10, 1, 10, 15]),
         }
     }
@@ -155,7 +162,7 @@ impl<'a> MsmView<'a> {
         self.system
     }
 
-    /// Returns the message number, DF002: 1074, 1077, 1094 or 1097.
+    /// Returns the message number, DF002.
     pub fn number(&self) -> u16
         ensures value { result ≡ message_number self.now.form self.now.msm.system }
         ensures bound { result < 2 ^ 12 }
@@ -166,7 +173,7 @@ impl<'a> MsmView<'a> {
     /// Returns the header fields.
     pub fn header(&self) -> MsmHeader
         ensures value { result ≡ self.now.msm.header }
-        ensures in_range { IsHeader result }
+        ensures in_range { IsHeader self.now.msm.system result }
     {
         self.header
     }
@@ -315,6 +322,8 @@ impl<'a> Entries<'a> {
     {
         match self.view.form() {
             Form::Msm4 => self.next_in::<Grid4>(),
+            Form::Msm5 => self.next_in::<Grid5>(),
+            Form::Msm6 => self.next_in::<Grid6>(),
             Form::Msm7 => self.next_in::<Grid7>(),
         }
     }
@@ -354,7 +363,7 @@ impl<'a> Entries<'a> {
 pub enum View<'a> {
     /// Message 1005 or 1006.
     Station(Station),
-    /// Message 1074, 1077, 1094 or 1097.
+    /// A multiple signal message.
     Msm(MsmView<'a>),
     /// A message of any other number, see `Message::Other`.
     Other {
@@ -372,6 +381,8 @@ impl<'a> View<'a> {
             View::Station(station) => Message::Station(station),
             View::Msm(msm) => match msm.form() {
                 Form::Msm4 => Message::Msm4(msm_of(&msm)),
+                Form::Msm5 => Message::Msm5(msm_of(&msm)),
+                Form::Msm6 => Message::Msm6(msm_of(&msm)),
                 Form::Msm7 => Message::Msm7(msm_of(&msm)),
             },
             View::Other { number, set } => Message::Other { number, set },
@@ -379,13 +390,14 @@ impl<'a> View<'a> {
     }
 }
 
-/// Reads the header and masks of an MSM after its message number.
-fn view_msm<'a>(bytes: &'a [u8], form: Form, system: System) -> Result<View<'a>, MsgFault>
+/// Reads the header and masks of an MSM of the form `G` after its message number.
+fn view_msm<G: Grid>(bytes: &[u8], system: System) -> Result<View<'_>, MsgFault>
     requires small { length bytes.now ≤ longest_message }
     requires number { 12 ≤ 8 * length bytes.now }
-    ensures { GivesViewed viewed_message result (views.formed_at form system (cursor_at (bits_of bytes.now) 12)) }
+    ensures { GivesViewed viewed_message result (views.formed_at G.form system (cursor_at (bits_of bytes.now) 12)) }
 {
-    let (header, masks, satellites_at) = read_head(bytes)?;
+    let form = G::form();
+    let (header, masks, satellites_at) = read_head(system, bytes)?;
     let satellites = masks.satellites().count_ones() as usize;
     let cells = masks.cells().count_ones() as usize;
     let (satellite_widths, cell_widths) = form.widths();
@@ -402,20 +414,21 @@ fn view_msm<'a>(bytes: &'a [u8], form: Form, system: System) -> Result<View<'a>,
     }))
 }
 
-/// Reads a message after its message number.
-#[tactic(auto, unfolding(crate::specs::Decoding::body_at))]
-fn view_body(number: u16, bytes: &[u8]) -> Result<View<'_>, MsgFault>
+/// Reads a message of this kind after its message number.
+fn view_body(kind: Kind, number: u16, bytes: &[u8]) -> Result<View<'_>, MsgFault>
     requires small { length bytes.now ≤ longest_message }
     requires number { 12 ≤ 8 * length bytes.now }
-    ensures { GivesViewed viewed_message result (body_at number (cursor_at (bits_of bytes.now) 12)) }
+    ensures { GivesViewed viewed_message result (body_by kind number (cursor_at (bits_of bytes.now) 12)) }
 {
-    match number {
-        1005 | 1006 => view_station(bytes, number == 1006),
-        1074 => view_msm(bytes, Form::Msm4, System::Gps),
-        1077 => view_msm(bytes, Form::Msm7, System::Gps),
-        1094 => view_msm(bytes, Form::Msm4, System::Galileo),
-        1097 => view_msm(bytes, Form::Msm7, System::Galileo),
-        _ => Ok(View::Other {
+    match kind {
+        Kind::Station(has_height) => view_station(bytes, has_height),
+        Kind::Msm(form, system) => match form {
+            Form::Msm4 => view_msm::<Grid4>(bytes, system),
+            Form::Msm5 => view_msm::<Grid5>(bytes, system),
+            Form::Msm6 => view_msm::<Grid6>(bytes, system),
+            Form::Msm7 => view_msm::<Grid7>(bytes, system),
+        },
+        Kind::Other => Ok(View::Other {
             number,
             set: read_set(number, bytes),
         }),
@@ -432,10 +445,24 @@ pub fn look(bytes: &[u8]) -> Result<View<'_>, MsgFault>
     ensures exact { GivesViewed viewed_message result (message_at bytes.now) }
     ensures message { IfOk result (λ v. IsMessage (viewed_message v)) }
 {
+    look_in(&MsmSet::all(), bytes)
+}
+
+/// Reads a message as `look` does, but decodes only the MSMs of a set. An MSM that isn't in the set
+/// gives `View::Other`, as a message of a number that `decode` does not decode.
+///
+/// # Errors
+///
+/// Those of `decode`, and none for an MSM that isn't in the set and has a message number.
+pub fn look_in<'a>(set: &MsmSet, bytes: &'a [u8]) -> Result<View<'a>, MsgFault>
+    ensures exact { GivesViewed viewed_message result (message_with set.now bytes.now) }
+    ensures message { IfOk result (λ v. IsMessage (viewed_message v)) }
+{
     // no field ends after the longest message
     let bytes = bytes.get(..LONGEST_MESSAGE).unwrap_or(bytes);
     if bytes.len() < 2 {
         return Err(MsgFault::Short(0));
     }
-    view_body(number_at(bytes, 0, 12) as u16, bytes)
+    let number = number_at(bytes, 0, 12) as u16;
+    view_body(set.kind(number), number, bytes)
 }

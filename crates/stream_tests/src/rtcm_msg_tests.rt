@@ -1,5 +1,7 @@
 //! What no clause states: encoded messages from outside, and that each call can succeed.
 
+mod forms;
+mod glonass;
 mod known;
 mod prefixes;
 mod texts;
@@ -94,12 +96,14 @@ pub fn is_written_back(bytes: &[u8]) -> bool {
     is_written_as(bytes, bytes)
 }
 
-static MESSAGES: [Known; 6] = [
+static MESSAGES: [Known; 8] = [
     Known::Station,
     Known::Height,
     Known::Fine,
     Known::Coarse,
     Known::Galileo,
+    Known::Msm5,
+    Known::Msm6,
     Known::Empty,
 ];
 
@@ -178,7 +182,7 @@ fn has_head(bytes: &[u8], form: Form, number: u16, system: System) -> bool {
     }
 }
 
-static HEADS: [(Sent, Form, u16, System); 3] = [
+static HEADS: [(Sent, Form, u16, System); 5] = [
     (Sent(Known::Fine, 36, &[]), Form::Msm7, 1077, System::Gps),
     (
         Sent(Known::Fine, 36, &[(0, 0x44), (1, 0x97)]),
@@ -190,6 +194,13 @@ static HEADS: [(Sent, Form, u16, System); 3] = [
         Sent(Known::Galileo, 30, &[]),
         Form::Msm4,
         1094,
+        System::Galileo,
+    ),
+    (Sent(Known::Msm5, 34, &[]), Form::Msm5, 1075, System::Gps),
+    (
+        Sent(Known::Msm6, 32, &[]),
+        Form::Msm6,
+        1096,
         System::Galileo,
     ),
 ];
@@ -271,7 +282,28 @@ const COARSE_ENTRY: Entry = Entry {
 };
 
 /// Messages with their numbers and cells.
-static ENTRIES: [(Sent, u16, Entry); 6] = [
+static ENTRIES: [(Sent, u16, Entry); 8] = [
+    (
+        Sent(Known::Msm5, 34, &[]),
+        1075,
+        Entry {
+            range: Some(152_469_241_728),
+            phase: Some(152_469_241_860),
+            rate: Some(-81_926_383),
+            ..COARSE_ENTRY
+        },
+    ),
+    (
+        Sent(Known::Msm6, 32, &[]),
+        1096,
+        Entry {
+            range: Some(150_323_855_364),
+            phase: Some(150_323_855_359),
+            rate: None,
+            lock: 1023,
+            ..FINE_ENTRY
+        },
+    ),
     (Sent(Known::Coarse, 30, &[]), 1074, COARSE_ENTRY),
     (Sent(Known::Galileo, 30, &[]), 1094, COARSE_ENTRY),
     (Sent(Known::Fine, 36, &[]), 1077, FINE_ENTRY),
@@ -384,17 +416,17 @@ fn is_other(bytes: &[u8], wanted: u16, of: Option<(u16, bool)>) -> bool {
 }
 
 static OTHERS: [(&[u8], u16, Option<(u16, bool)>); 7] = [
-    // 1127 of station 2003 with DF393 = 0, whole up to bit 55, and one byte less
+    // 1123 of station 2003 with DF393 = 0, whole up to bit 55, and one byte less
     (
-        &[0x46, 0x77, 0xD3, 0x00, 0x00, 0x0F, 0xA0],
-        1127,
+        &[0x46, 0x37, 0xD3, 0x00, 0x00, 0x0F, 0xA0],
+        1123,
         Some((2003, false)),
     ),
-    (&[0x46, 0x77, 0xD3, 0x00, 0x00, 0x0F], 1127, None),
-    // 1075 with DF393 = 1; 1070, 1078 and 1230 are no MSMs, 1131 is one of a later system
+    (&[0x46, 0x37, 0xD3, 0x00, 0x00, 0x0F], 1123, None),
+    // 1073 with DF393 = 1; 1070, 1078 and 1230 are no MSMs, 1131 is one of a later system
     (
-        &[0x43, 0x37, 0xD3, 0x00, 0x00, 0x0F, 0xA2],
-        1075,
+        &[0x43, 0x17, 0xD3, 0x00, 0x00, 0x0F, 0xA2],
+        1073,
         Some((2003, true)),
     ),
     (&[0x42, 0xE7, 0xD3, 0x00, 0x00, 0x0F, 0xA0], 1070, None),

@@ -105,7 +105,7 @@ pub fn is_counted(alloc: Global, parts: &[Part], content: &Content) -> bool {
 }
 
 /// Whether a file of these parts has this fault, or none.
-fn has_fault(alloc: Global, parts: &[Part], fault: Option<ReadFault>) -> bool {
+pub fn has_fault(alloc: Global, parts: &[Part], fault: Option<ReadFault>) -> bool {
     let text = joined(parts);
     let found = fault_of(alloc, text.as_slice());
     drop(text);

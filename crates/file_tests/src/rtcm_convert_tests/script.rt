@@ -5,11 +5,15 @@
 use super::by_definition::Text;
 use super::{Frame, bytes_of, file};
 use devices_for_tests::{PieceReader, ReadEnd, ShortWriter, WriteEnd};
-use gnss_obs::{Plan, System};
+use gnss_obs::{Plan, StationValues, System};
 use obs_epoch::Gather;
 use rinex_file::{HeaderTexts, Texts};
 use rtcm_bits::{Counted, Deliver};
-use rtcm_convert::{Converter, Fault, Report, Setup, convert_pieces, convert_stream};
+use rtcm_convert::{
+    ConvertOptions, Converter, Fault, Report, Setup, convert_pieces, convert_stream,
+    convert_with_options,
+};
+use rtcm_msg::Forms;
 use rtcm_scan::MOST_BYTES;
 use std::alloc::{AllocError, Global};
 use std::io::Read;
@@ -265,6 +269,27 @@ pub fn convert<R: Read, W: Deliver>(
     writer: &mut Counted<W>,
 ) -> Result<Report, Fault> {
     convert_stream(alloc, setup(alloc, options)?, reader, writer)
+}
+
+/// The report of these bytes, of which MSMs in these forms are converted.
+pub fn report_of(alloc: Global, bytes: &[u8], forms: Forms) -> Result<Report, Fault> {
+    let initial = StationValues::zero();
+    let mut reader = Counted::new(PieceReader::new(bytes, &[1], ReadEnd::Ends));
+    let mut writer = writer(7, 1_500, WriteEnd::TakesNone);
+    let report = match setup(alloc, &OPTIONS) {
+        Ok(setup) => {
+            let options = ConvertOptions {
+                initial,
+                forms,
+                leap_seconds: 18,
+            };
+            convert_with_options(alloc, setup, options, &mut reader, &mut writer)
+        }
+        Err(fault) => Err(fault),
+    };
+    drop(reader);
+    drop(writer);
+    report
 }
 
 fn pieces<W: Deliver>(

@@ -68,3 +68,10 @@ ends_set xs a b l =
 pub with_ends : (v : ℤ) (lost strength : ℕ) → FitsColumns v → set (set (field (Some v) 32 32) 14 lost) 15 strength ≡ field (Some v) lost strength
 unfolding field
 with_ends v lost strength fits = ends_set (right 14 (fixed 3 v)) lost strength (length-right 14 (fixed 3 v) (length-value v fits))
+
+pub with_end : (v : ℤ) (strength : ℕ) → FitsColumns v → set (field (Some v) 32 32) 15 strength ≡ field (Some v) 32 strength
+unfolding field
+with_end v strength fits =
+    let xs : List ℕ = right 14 (fixed 3 v) in
+    let size : length (xs ++ 32 ∷ []) ≡ 15 = length-append xs (32 ∷ []) ∙ ap (λ n. n + 1) (length-right 14 (fixed 3 v) (length-value v fits)) in
+    ap (λ t. set t 15 strength) (sym (append_assoc xs (32 ∷ []) (32 ∷ []))) ∙ set_at (xs ++ 32 ∷ []) 32 [] strength 15 size ∙ append_assoc xs (32 ∷ []) (strength ∷ [])

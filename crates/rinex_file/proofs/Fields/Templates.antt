@@ -1,7 +1,10 @@
 -- Digits in lanes, added to the columns of a field.
 use Rattle.rinex_file.proofs.Fields.Columns.{field_text, nine_digits, within_columns}
+use Rattle.rinex_file.proofs.Digits.Numbers.{not_negative}
 use Rattle.rinex_file.proofs.Digits.Padded.{IsSpaced, empty_columns, spaced, spaced_is, padded_digits, three_digits}
 use Rattle.rinex_file.proofs.Names.{arith, ◌≡◌, ◌∙◌, sym, ap, ap₂, refl, subst, ℕ, ℤ, zero, suc, ◌+◌, ◌-◌, ◌/◌, ◌%◌, ◌^◌, ◌<◌, ◌≤◌, List, [], ◌∷◌, ◌++◌, map, length, decimal, append_assoc, append-nil, length-append, inl, inr, true, false, unsigned_abs, Bool, Some, is_negative, cases_lt, decimal_digit, decimal_step, first_decimal, length-decimal-le, padded, FitsColumns, field, AreBelow, digit_columns, digits_onto, empty_column, leading, template}
+use Rattle.std.proofs.Common.{◌<ℤ◌, ◌≤ℤ◌, pos, negsuc, false}
+use Rattle.std.proofs.lemmas.Int.{ints}
 use lib.Lanes.{zip2}
 
 abbrev pub added : ℕ → ℕ → ℕ
@@ -109,6 +112,24 @@ front_whole b s h = subst (λ (ds : List ℕ). IsWhole b ds (s / 1000)) (front_i
 
 pub start_is : (s : ℕ) → s < 10 ^ 13 → leading (front s) + length (decimal (s / 1000)) ≡ 10
 start_is s h = (front_whole false s h).0
+
+-- the first digit other than zero has this number of others before it
+abbrev IsFirst : ℕ → List ℕ → Type 0
+IsFirst k [] = ⊥
+IsFirst zero (d ∷ ds) = 0 < d
+IsFirst (suc k) (d ∷ ds) = (d ≡ 0) × IsFirst k ds
+
+leading_at : (k : ℕ) (ds : List ℕ) → IsFirst k ds → leading ds ≡ k
+leading_at k [] h = absurd h
+leading_at zero (zero ∷ ds) h = absurd (omega (arith, h))
+leading_at zero (suc d ∷ ds) h = refl
+leading_at (suc k) (zero ∷ ds) h = ap suc (leading_at k ds h.1)
+leading_at (suc k) (suc d ∷ ds) h = absurd (omega (arith, h.0))
+
+-- the leading zeros of a value with eight whole digits
+pub eight_whole : (v : ℤ) → pos 10_000_000_000 ≤ℤ v → v <ℤ pos 100_000_000_000 → (is_negative v ≡ false) × (leading (front (unsigned_abs v)) ≡ 2)
+eight_whole (pos n) least below = (not_negative n, leading_at 2 (front n) (omega (arith, ints, least, below)))
+eight_whole (negsuc n) least below = absurd (omega (arith, ints, least))
 
 -- with any numbers in the two last lanes
 columns_with : (b : Bool) (s y z : ℕ) → s < 10 ^ 13 → zip2 added (digit_columns s y z) (template b 9 (leading (front s))) ≡ empty_columns b (leading (front s)) ++ rest_with s (added y 32) (added z 32)

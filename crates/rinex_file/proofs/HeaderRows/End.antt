@@ -1,12 +1,18 @@
 -- The last line of a header, the header that was read, and the start.
 use Rattle.rinex_file.proofs.Reading.Epochs.{few_signals_of}
 use Rattle.rinex_file.proofs.HeaderRows.Agree.{split_at, less_or}
-use Rattle.gnss_system.proofs.SystemLaws.{each_system, equal_values}
+use Rattle.gnss_system.proofs.SystemLaws.{each_system, equal_values, value_tabulated}
+use Rattle.gnss_system.specs.SystemValues.{tabulate, value_of}
+use Rattle.gnss_obs.proofs.PlanLemmas.{listed_by}
 use Rattle.rinex_file.proofs.HeaderRows.Letters.{same_flags}
-use Rattle.rinex_file.proofs.HeaderRows.Some.{SomeShown, some_shown}
+use Rattle.rinex_file.proofs.HeaderRows.Some.{SomeShown, none_before, some_shown}
+use Rattle.gnss_system.specs.declared.system.System.TheVariants.{Glonass}
+use Rattle.rinex_file.proofs.HeaderRows.Slots.{no_slots, same_channels, slots_are, slots_room}
+use Rattle.rinex_file.specs.declared.header.fields.TextRow.TheVariants as row
+use Rattle.rinex_file.proofs.HeaderRows.Places.{all_before}
 use Rattle.rinex_file.proofs.HeaderRows.Steps.{rest_next}
 use Rattle.rinex_file.proofs.HeaderRows.Texts.{place_back, same_at, same_rows}
-use Rattle.rinex_file.proofs.Names.{nat_lt, ◌&&◌, letter, arith, ◌≡◌, ◌∙◌, sym, ap, ap₂, map, refl, subst, ℕ, ℤ, pos, suc, lit<, lit≤, ◌<◌, true, ◌||◌, min, List, [], ◌∷◌, ◌++◌, length, get_or, replicate, All, nat_eq, AllOfLen, IsDistinct, take_all, ext_get_or, All-map, All-weaker, SignalAt, IsSignal, table, System, Gps, Galileo, indices, IsOf, PlanValue, planned_of, StationValues, TextRow, Texts, Position, Delta, First, End, trimmed, HeaderLists, text_count, text_of, width_of, fields, fields_of, text_rows, HeaderField, AntType, IsText, AreTexts, AreValues, IsTime, row_line, row_place, end_line, most_type_rows, Known, Shown, IsShown, AreValid, IsHeadAt, shown_with, lines_before, signals_begun, RefusesHeaderLine, EndsHeader, none_of, row_at, AreSized, AreTypesOf, AreSameTexts, Has, HasRow, fits, counted, types_before, StrengthUnit, SameFrom, position_of, ◌==◌, is_chosen, is_less, first_types, ◌+◌, ◌-◌}
+use Rattle.rinex_file.proofs.Names.{nat_lt, ◌&&◌, letter, arith, ◌≡◌, ◌∙◌, sym, ap, ap₂, map, refl, subst, ℕ, ℤ, pos, suc, lit<, lit≤, ◌<◌, true, ◌||◌, min, List, [], ◌∷◌, ◌++◌, length, get_or, replicate, All, nat_eq, AllOfLen, IsDistinct, take_all, ext_get_or, SignalAt, table, System, indices, IsOf, planned_of, StationValues, TextRow, Texts, Position, Delta, First, End, trimmed, HeaderLists, text_count, text_of, width_of, fields, fields_of, text_rows, HeaderField, AntType, IsText, AreTexts, AreValues, IsTime, row_line, row_place, end_line, most_type_rows, Known, Shown, IsShown, AreValid, IsHeadAt, shown_with, lines_before, signals_begun, RefusesHeaderLine, EndsHeader, none_of, row_at, AreSized, AreTypesOf, AreSameTexts, Has, HasRow, fits, counted, types_before, StrengthUnit, SameFrom, position_of, ◌==◌, is_chosen, is_less, ◌+◌, PlanValue, Slots, SlotNumber, AreChannels, AreSameSlots, AreSlotsRead, known_slots, no_channels, slots_before, slots_of}
 
 -- ---- a header with all that was read is the one that was read
 
@@ -16,20 +22,22 @@ made_values x y z height = record { x = x; y = y; z = z; height = height }
 same_values : (v w : StationValues) → v.x ≡ w.x → v.y ≡ w.y → v.z ≡ w.z → v.height ≡ w.height → v ≡ w
 same_values v w a b c d = grind arith
 
+same_plan : (p q : PlanValue) → p.signals ≡ q.signals → p.channels ≡ q.channels → p ≡ q
+same_plan p q a b = grind arith
+
 same_shown : (g h : Shown) → g.texts ≡ h.texts → g.plan ≡ h.plan → g.values ≡ h.values → g.first ≡ h.first → g ≡ h
 same_shown g h a b c d = grind arith
 
 text_here : (r : TextRow) → row_at (row_place (Texts r)) ≡ Texts r
-text_here r = grind arith
+text_here row.Program = refl
+text_here row.Marker = refl
+text_here row.MarkerType = refl
+text_here row.Observer = refl
+text_here row.Receiver = refl
+text_here row.Antenna = refl
 
 text_far : (r : TextRow) → row_place (Texts r) < row_place End
 text_far r = grind arith
-
--- all types are before the rows after the unit's
-all_before : (s : System) (from : ℕ) → row_place StrengthUnit < from → types_before s from ≡ most_type_rows
-all_before s from far = by (first_types s) (is_less _ _ (each_system (λ s. nat_lt (first_types s + 5) (row_place StrengthUnit)) s refl)) where
-  by : (f : ℕ) → f + 5 < row_place StrengthUnit → min most_type_rows (from - f) ≡ most_type_rows
-  by f few = omega (arith, few, far)
 
 module _ (k : Known) (h : Shown) (is : IsShown h) (valid : AreValid k) (has : Has k (row_place End) h) where
   texts : h.texts ≡ k.shown.texts
@@ -52,8 +60,15 @@ module _ (k : Known) (h : Shown) (is : IsShown h) (valid : AreValid k) (has : Ha
       let position : position_of h.values ≡ position_of k.shown.values = has.rows (row_place Position) (lit< tt) in
       same_values h.values k.shown.values (ap (λ (v : StationValues). v.x) position) (ap (λ (v : StationValues). v.y) position) (ap (λ (v : StationValues). v.z) position) (has.rows (row_place Delta) (lit< tt))
 
+  channels : h.plan.channels ≡ k.shown.plan.channels
+  channels =
+      let slots : AreSameSlots 3 k.slots (known_slots k) (slots_of h.plan.channels) = has.rows (row_place (Slots 3)) (lit< tt) in
+      let a = slots_room 0 (slots_of h.plan.channels) (slots_are h.plan.channels is.plan.channels) in
+      let b = slots_room 0 (known_slots k) (slots_are k.shown.plan.channels valid.channels) in
+      same_channels h.plan.channels k.shown.plan.channels is.plan.channels valid.channels (sym (take_all 32 (slots_of h.plan.channels) (omega (arith, a))) ∙ slots.begun ∙ take_all 32 (known_slots k) (omega (arith, b)))
+
   pub same_header : h ≡ k.shown
-  same_header = same_shown h k.shown texts (equal_values h.plan k.shown.plan signals) values (has.rows (row_place First) (lit< tt))
+  same_header = same_shown h k.shown texts (same_plan h.plan k.shown.plan (equal_values h.plan.signals k.shown.plan.signals signals) channels) values (has.rows (row_place First) (lit< tt))
 
 -- ---- the last line
 
@@ -67,6 +82,7 @@ module _ (k : Known) (line : List ℕ) (from : ℕ) (at : IsHeadAt k from) (same
   at_end = record {
     valid = at.valid;
     sized = same.sized;
+    slots = same.slots;
     fitting = λ l. less_or (fits k (row_place End) ≡ true) (row_place StrengthUnit) from
         (λ far. still_fits k from far (at.fitting (omega (arith, far)))) (λ low. let e = same.none (row_place StrengthUnit) low (lit< tt) in cc);
     expected = lit< tt;
@@ -95,37 +111,35 @@ module _ (k : Known) (line : List ℕ) (from : ℕ) (at : IsHeadAt k from) (same
     lines = split_at k.shown (row_place End) ∙ ap (λ l. l ++ end_line ∷ []) (same.lines k.shown is_shown has_all) ∙ ap (λ l. lines_before k.shown from ++ l ∷ []) (sym e);
   }
 
-pub no_end_line : (line : List ℕ) → (line ≡ end_line → ⊥) → RefusesHeaderLine End line
+pub no_end_line : (k : Known) (line : List ℕ) → (line ≡ end_line → ⊥) → RefusesHeaderLine k End line
 unfolding row_line
-no_end_line line never h is e = never (sym e)
+no_end_line k line never h is has e = never (sym e)
 
 -- ---- the start
 
-pub listed_by : (system : System) (ss : List SignalAt) → All (λ s. (s.system ≡ system) × IsSignal s) ss → All (λ i. i < length (table system)) (indices ss)
-listed_by system ss all = All-map (λ i. i < length (table system)) (λ s. s.index) ss (All-weaker (λ s. (s.system ≡ system) × IsSignal s) (λ s. s.index < length (table system)) (λ (s : SignalAt) (is : (s.system ≡ system) × IsSignal s). subst (λ t. s.index < length (table t)) is.0 is.1) ss all)
-
-pub valid_by : {k made : Known} {gps galileo : List SignalAt} → made ≡ k → AreTexts made.shown.texts → IsOf Gps gps → IsOf Galileo galileo → AreValues made.shown.values → IsTime made.shown.first
-    → made.shown.plan ≡ record { gps = indices gps; galileo = indices galileo } → AreValid k
-valid_by {made = made} {gps} {galileo} e texts g l values first plan = subst AreValid e (record { texts = texts; listed = listed; apart = apart; values = values; first = first }) where
-  listed : (system : System) → All (λ i. i < length (table system)) (planned_of system made.shown.plan)
-  listed Gps = subst (λ (p : PlanValue). All (λ i. i < length (table Gps)) p.gps) (sym plan) (listed_by Gps gps g.each)
-  listed Galileo = subst (λ (p : PlanValue). All (λ i. i < length (table Galileo)) p.galileo) (sym plan) (listed_by Galileo galileo l.each)
-
-  apart : (system : System) → IsDistinct nat_eq (planned_of system made.shown.plan)
-  apart Gps = subst (λ (p : PlanValue). IsDistinct nat_eq p.gps) (sym plan) g.apart
-  apart Galileo = subst (λ (p : PlanValue). IsDistinct nat_eq p.galileo) (sym plan) l.apart
+pub valid_by : {k made : Known} (signals : System → List SignalAt) → made ≡ k → AreTexts made.shown.texts → AreChannels made.shown.plan.channels → AreValues made.shown.values → IsTime made.shown.first → ((s : System) → IsOf s (signals s))
+    → made.shown.plan.signals ≡ tabulate (λ s. indices (signals s)) → AreValid k
+valid_by {made = made} signals e texts channels values first of plan = subst AreValid e (record {
+  texts = texts;
+  listed = λ s. subst (All (λ i. i < length (table s))) (here s) (listed_by s (signals s) (of s).each);
+  apart = λ s. subst (IsDistinct nat_eq) (here s) (of s).apart;
+  channels = channels;
+  values = values;
+  first = first;
+}) where
+  here : (s : System) → indices (signals s) ≡ planned_of s made.shown.plan
+  here s = sym (ap (value_of s) plan ∙ value_tabulated s (λ t. indices (signals t)))
 
 -- nothing was read
-pub begins : (k : Known) → AreValid k → k.counts.gps ≡ 0 → k.counts.galileo ≡ 0 → k.shown.plan.gps ≡ [] → k.shown.plan.galileo ≡ [] → IsHeadAt k 0
-begins k valid m n gps galileo = record { valid = valid; sized = sized; fitting = λ l. absurd (omega (arith, l)); expected = lit≤ tt } where
-  none : (s : System) (count : ℕ) (signals : List ℕ) → count ≡ 0 → signals ≡ [] → AreSized s 0 count signals
-  none s count signals e f = record { few = omega (arith, e); none = λ z. e; size = ap length f ∙ zero_min count e } where
+pub begins : (k : Known) → AreValid k → ((s : System) → counted k s ≡ 0) → ((s : System) → planned_of s k.shown.plan ≡ []) → k.slots ≡ 0 → k.shown.plan.channels ≡ no_channels → IsHeadAt k 0
+begins k valid none_counted none_planned no_count none_known = record { valid = valid; sized = λ s. none s (counted k s) _ (none_counted s) (none_planned s); slots = nothing (known_slots k) k.slots no_count (ap slots_of none_known ∙ no_slots); fitting = λ l. absurd (omega (arith, l)); expected = lit≤ tt } where
+  none : (s : System) (count : ℕ) (signals : List ℕ) → count ≡ 0 → signals ≡ [] → AreSized s (types_before s 0) count signals
+  none s count signals e f = subst (λ rows. AreSized s rows count signals) (sym (none_before s)) (record { few = omega (arith, e); none = λ z. e; size = ap length f ∙ zero_min count e }) where
     zero_min : (c : ℕ) → c ≡ 0 → 0 ≡ min (signals_begun 0) c
     zero_min c e = omega (arith, e)
 
-  sized : (s : System) → AreSized s (types_before s 0) (counted k s) (planned_of s k.shown.plan)
-  sized Gps = none Gps k.counts.gps k.shown.plan.gps m gps
-  sized Galileo = none Galileo k.counts.galileo k.shown.plan.galileo n galileo
+  nothing : (slots : List SlotNumber) (count : ℕ) → count ≡ 0 → slots ≡ [] → AreSlotsRead (slots_before 0) (counted k Glonass) count slots
+  nothing slots count e f = subst (AreSlotsRead (slots_before 0) (counted k Glonass) count) (sym f) (record { none = λ z. e; unplanned = λ z. e; size = omega (arith, e); room = omega (arith, e) })
 
 blank_text : (f : HeaderField) → IsText (width_of f) (text_of (replicate text_count []) f)
 unfolding trimmed

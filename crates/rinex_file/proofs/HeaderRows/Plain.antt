@@ -5,9 +5,10 @@ use Rattle.gnss_obs.proofs.WalkLemmas.{date_of_is}
 use Rattle.gnss_obs.specs.Dates.{IsCivil}
 use Rattle.rinex_file.proofs.Reading.Epochs.{few_signals_of}
 use Rattle.rinex_file.proofs.HeaderRows.Texts.{few_columns}
+use Rattle.rinex_file.proofs.HeaderRows.Slots.{slots_are, slots_room}
 use Rattle.rinex_file.proofs.HeaderRows.Types.{length-system_types}
-use Rattle.rinex_file.proofs.PlainTexts.{both, IsPlain, plain-wider, plain-append, plain-left, plain-right, plain-decimal, plain-fixed, plain, plain-flat_map, plain-joined, also, plain-text}
-use Rattle.rinex_file.proofs.Names.{arith, lit≤, lit<, ◌≡◌, ap, refl, subst, ℕ, zero, suc, ◌+◌, ◌*◌, ◌/◌, ◌%◌, ◌^◌, ◌<◌, ◌≤◌, ℤ, pos, unsigned_abs, Bool, true, false, List, [], ◌∷◌, ◌++◌, length, take, drop, decimal, get_or, append_assoc, length-append, ◌==◌, ◌||◌, ◌&&◌, not, if◌then◌else◌, nat_le, flat_map, All, codes, slice_get, AllByRecursion, list_all, option_map_or, cond_both, ints, length-take, All-nil, All-head, All-tail, All-cons, All-append, All-map, All-take, All-drop, All-replicate, code_of, System, StationValues, Civil, civil_of, PlanValue, planned_of, HeaderField, TextRow, HeaderRow, Version, Texts, Position, Delta, Types, StrengthUnit, First, Shift, End, IsLine, AreTexts, IsPlan, AreValues, IsTime, IsCoordinate, header_line, version_fields, version_line, lengths, first_line, text_columns, texts_line, types_of, type_front, type_columns, type_line, codes_of, row_line, row_lines, has_line, all_rows, header_lines, position_line, delta_line, letter, joined, left, right, fixed, has, HeaderLists, width_of, text_of, fields_of, label_of, front_of, common_steps, most_line, most_signals, systems_letter, is_planned, letter_of, systems, filter}
+use Rattle.rinex_file.proofs.PlainTexts.{both, IsPlain, plain-wider, plain-append, plain-left, plain-right, plain-decimal, plain-fixed, plain-padded, plain, plain-flat_map, plain-joined, also, plain-text}
+use Rattle.rinex_file.proofs.Names.{arith, lit≤, lit<, ◌≡◌, ap, refl, subst, ℕ, zero, suc, ◌+◌, ◌*◌, ◌/◌, ◌%◌, ◌^◌, ◌<◌, ◌≤◌, ℤ, pos, unsigned_abs, Bool, true, false, List, [], ◌∷◌, ◌++◌, length, take, drop, decimal, get_or, append_assoc, length-append, ◌==◌, ◌||◌, ◌&&◌, not, if◌then◌else◌, nat_le, flat_map, All, codes, slice_get, AllByRecursion, list_all, option_map_or, cond_both, ints, length-take, All-nil, All-head, All-tail, All-cons, All-append, All-map, All-take, All-drop, All-replicate, code_of, System, StationValues, Civil, civil_of, PlanValue, planned_of, HeaderField, TextRow, HeaderRow, Version, Texts, Position, Delta, Types, StrengthUnit, First, Shift, End, IsLine, AreTexts, IsPlan, AreValues, IsTime, IsCoordinate, header_line, version_fields, version_line, lengths, first_line, text_columns, texts_line, types_of, type_front, type_columns, type_line, codes_of, row_line, row_lines, has_line, all_rows, header_lines, position_line, delta_line, letter, joined, left, right, fixed, has, HeaderLists, width_of, text_of, fields_of, label_of, front_of, common_steps, most_line, most_signals, systems_letter, is_planned, letter_of, systems, filter, ◌-◌, nat_lt, padded, most_number, slot_count, nat_tests, AreSlots, SlotNumber, channel_text, slot_text, slots_columns, slots_front, slots_line, slots_of, Slots, Biases}
 
 -- ---- a line of a file
 
@@ -118,6 +119,40 @@ one_of_types system signals row few =
     line_of_types (letter system) types row (no_letter system) (omega (arith, count, few)) (types_are_plain (codes_of system signals)
     (All-map (IsPlain 2) (λ index. code_of (record { system = system; index = index })) signals (λ k d h. code_of_signal system (get_or signals k d))))
 
+-- ---- slots
+
+no_feed : (n : ℕ) → (48 + n == 10) ≡ false
+no_feed n = grind (arith, nat_tests)
+
+plain_channel : (n : ℕ) → n ≤ most_number → IsPlain 2 (channel_text n)
+plain_channel n few = by (nat_lt n 7) where
+  by : (b : Bool) → IsPlain 2 (if b then 45 ∷ (48 + (7 - n)) ∷ [] else 32 ∷ (48 + (n - 7)) ∷ [])
+  by true = record { clean = ap (λ c. c || false) (no_feed (7 - n)); short = lit≤ tt }
+  by false = record { clean = ap (λ c. c || false) (no_feed (n - 7)); short = lit≤ tt }
+
+plain_slot : (s : SlotNumber) → s.slot ≤ slot_count → s.number ≤ most_number → IsPlain 27 (slot_text s)
+plain_slot s few number =
+    plain-append 1 26 (82 ∷ []) (padded 2 s.slot ++ 32 ∷ (channel_text s.number ++ 32 ∷ [])) (plain 1 _ refl (lit≤ tt))
+    (plain-append 22 4 (padded 2 s.slot) (32 ∷ (channel_text s.number ++ 32 ∷ [])) (plain-padded 2 s.slot (omega (arith, few))) (plain-append 1 3 (32 ∷ []) (channel_text s.number ++ 32 ∷ []) (plain 1 _ refl (lit≤ tt)) (plain-append 2 1 (channel_text s.number) (32 ∷ []) (plain_channel s.number number) (plain 1 _ refl (lit≤ tt)))))
+
+plain_slots : (last : ℕ) (ss : List SlotNumber) → AreSlots last ss → All (λ s. IsPlain 27 (slot_text s)) ss
+plain_slots last [] are = All-nil _
+plain_slots last (s ∷ ss) are = let room = slots_room s.slot ss are.2 in All-cons (λ s. IsPlain 27 (slot_text s)) s ss (plain_slot s (omega (arith, room)) are.1) (plain_slots s.slot ss are.2)
+
+plain_front : (count row : ℕ) → count < 2 ^ 64 → IsPlain 24 (slots_front count row)
+plain_front count zero few = plain-append 23 1 (right 3 (decimal count)) (32 ∷ []) (plain-right 3 20 (decimal count) (plain-decimal count few)) (plain 1 _ refl (lit≤ tt))
+plain_front count (suc row) few = record { clean = refl; short = lit≤ tt }
+
+line_of_slots : (ss : List SlotNumber) (row : ℕ) → AreSlots 0 ss → IsFileLine (slots_line ss row)
+line_of_slots ss row are =
+    let room = slots_room 0 ss are in
+    let here = take 8 (drop (8 * row) ss) in
+    let each = All-take (λ s. IsPlain 27 (slot_text s)) 8 (drop (8 * row) ss) (All-drop (λ s. IsPlain 27 (slot_text s)) (8 * row) ss (plain_slots 0 ss are)) in
+    header (24 + 216) (slots_columns (length ss) ss row) (codes "GLONASS SLOT / FRQ #")
+    (plain-append 24 216 (slots_front (length ss) row) (flat_map slot_text here) (plain_front (length ss) row (omega (arith, room)))
+    (plain-wider (length here * 27) 216 (flat_map slot_text here) (omega (arith, length-take 8 (drop (8 * row) ss))) (plain-flat_map 27 slot_text here each)))
+    (plain 20 _ refl (lit≤ tt)) (lit≤ tt)
+
 -- ---- times
 
 -- each part of a date and time of day fits 32 bits
@@ -195,6 +230,8 @@ line_in {p} texts plan values time (Types s row) = one_of_types s (planned_of s 
 line_in texts plan values time StrengthUnit = header 4 (codes "DBHZ") (codes "SIGNAL STRENGTH UNIT") (record { clean = refl; short = lit≤ tt }) (plain 20 _ refl (lit≤ tt)) (lit≤ tt)
 line_in {t} texts plan values time First = line_of_first t time
 line_in texts plan values time (Shift s) = header 1 (letter s ∷ []) (codes "SYS / PHASE SHIFT") (plain 1 _ (ap (λ c. c || false) (no_letter s)) (lit≤ tt)) (plain 20 _ refl (lit≤ tt)) (lit≤ tt)
+line_in {p} texts plan values time (Slots row) = line_of_slots (slots_of p.channels) row (slots_are p.channels plan.channels)
+line_in texts plan values time Biases = header 0 [] (codes "GLONASS COD/PHS/BIS") (record { clean = refl; short = lit≤ tt }) (plain 20 _ refl (lit≤ tt)) (lit≤ tt)
 line_in texts plan values time End = header 0 [] (codes "END OF HEADER") (record { clean = refl; short = lit≤ tt }) (plain 20 _ refl (lit≤ tt)) (lit≤ tt)
 
 lines_of_rows : (x : HeaderLists) (p : PlanValue) (v : StationValues) (t : Civil) → ((r : HeaderRow) → IsFileLine (row_line x p v t r)) → (rows : List HeaderRow) → All IsFileLine (flat_map (row_lines x p v t) rows)

@@ -2,10 +2,12 @@
 use Rattle.rinex_file.specs.Read.HeaderSteps.{AreBegun}
 use Rattle.gnss_system.proofs.SystemLaws.{value_after, value_of_other}
 use Rattle.rinex_file.proofs.HeaderRows.Agree.{types_in, types_shown, rows_when}
-use Rattle.rinex_file.proofs.HeaderRows.Steps.{Law, known_count, own_before, other_before, either, single, present, shows_next}
+use Rattle.rinex_file.proofs.HeaderRows.Slots.{slots_are, slots_go_on, same_after, line_after_same, same_before}
+use Rattle.rinex_file.proofs.HeaderRows.Places.{either, none_of_slots, other_before, own_before, slots_here}
+use Rattle.rinex_file.proofs.HeaderRows.Steps.{Law, known_count, single, present, shows_next}
 use Rattle.rinex_file.proofs.HeaderRows.Texts.{equal_or, same_here, same_line, kept_texts, same_texts, texts_back}
 use Rattle.rinex_file.proofs.PlainTexts.{both}
-use Rattle.rinex_file.proofs.Names.{arith, ◌≡◌, ◌∙◌, sym, ap, refl, subst, ℕ, zero, suc, ◌+◌, ◌<◌, ◌≤◌, Bool, true, false, List, [], ◌∷◌, length, take, min, ◌↔◌, ◌^◌, get_or, Option, Some, None, IsTrue, nat_lt, codes, nat_le, list_all, take-take, take-map, SignalAt, table, System, is_less, is_system, indices, planned_of, civil_of, StationValues, length_indices, Types, Version, Texts, Position, Delta, StrengthUnit, First, Shift, row_line, row_count, row_at, has_line, type_rows, position_line, row_place, header_line, height_line, first_line, strength_line, version_by, Known, Has, HasRow, AreSized, AreTypesOf, AreCounted, AreSameTexts, counted, types_before, systems_letter, shown_line, shown_rows, AreTypes, types_line, signals_begun, IsPosition, position_of, Shown, IsShown, known_line, NoneGoesOn, TakesTypes, RefusesTypes, with_types, IsHeaderLineRead, RefusesHeaderLine, ReadsOrRefuses, ReadsTexts, RefusesTexts, with_texts, with_values, with_first, with_letter, TextRow, HeaderRow, HeaderLists, text_row_index, fields_of, place_of, front_of, HeaderField, AntType, IsTime, letter, ReadsExactly, same_Some, ⊤}
+use Rattle.rinex_file.proofs.Names.{arith, ◌≡◌, ◌∙◌, sym, ap, refl, subst, ℕ, zero, suc, ◌+◌, ◌<◌, ◌≤◌, Bool, true, false, List, [], ◌∷◌, length, take, min, ◌↔◌, ◌^◌, get_or, Option, Some, None, IsTrue, nat_lt, codes, nat_le, list_all, take-take, take-map, SignalAt, table, System, is_less, is_system, indices, planned_of, civil_of, StationValues, length_indices, Types, Version, Texts, Position, Delta, StrengthUnit, First, Shift, row_line, row_count, row_at, has_line, type_rows, position_line, row_place, header_line, height_line, first_line, strength_line, version_by, Known, Has, HasRow, AreSized, AreTypesOf, AreCounted, AreSameTexts, counted, types_before, systems_letter, shown_line, shown_rows, AreTypes, types_line, signals_begun, IsPosition, position_of, Shown, IsShown, known_line, NoneGoesOn, TakesTypes, RefusesTypes, with_types, IsHeaderLineRead, RefusesHeaderLine, ReadsOrRefuses, ReadsTexts, RefusesTexts, with_texts, with_values, with_first, with_letter, TextRow, HeaderRow, HeaderLists, text_row_index, fields_of, place_of, front_of, HeaderField, AntType, IsTime, letter, ReadsExactly, same_Some, ⊤, ◌*◌, Slots, Biases, biases_line, slots_line, slots_of, slots_in_line, known_slots, with_slots, AreSlotsAt, AreSlotsBefore, SlotsFollow, IsLineOfSlots, TakesSlots, TakesOrRefusesSlots, ChannelsValue}
 
 -- ---- numbers of signals
 
@@ -58,11 +60,11 @@ same_made P {a} {b} {xs} {ys} e f = (λ p. subst (λ n. P n ys) e (subst (P a) f
 
 -- what was read of a system is new, and what was read of another is the same
 own_made : (P : ℕ → List ℕ → Type 0) (s : System) (k : Known) (count : ℕ) (signals : List ℕ) → P count signals ↔ P (counted (with_types s k count signals) s) (planned_of s (with_types s k count signals).shown.plan)
-own_made P s k count signals = same_made P (sym (value_after s k.counts count)) (sym (value_after s k.shown.plan signals))
+own_made P s k count signals = same_made P (sym (value_after s k.counts count)) (sym (value_after s k.shown.plan.signals signals))
 
 other_made : (P : ℕ → List ℕ → Type 0) (s t : System) (k : Known) (count : ℕ) (signals : List ℕ) → is_system s t ≡ false
     → P (counted k t) (planned_of t k.shown.plan) ↔ P (counted (with_types s k count signals) t) (planned_of t (with_types s k count signals).shown.plan)
-other_made P s t k count signals e = same_made P (sym (value_of_other s t k.counts count e)) (sym (value_of_other s t k.shown.plan signals e))
+other_made P s t k count signals e = same_made P (sym (value_of_other s t k.counts count e)) (sym (value_of_other s t k.shown.plan.signals signals e))
 
 next_row : (row : ℕ) → row + 1 ≡ suc row
 next_row row = omega arith
@@ -90,6 +92,11 @@ module _ (k : Known) (s : System) (row n : ℕ) (line : List ℕ) (less : n < ro
 
   pub types_sized : (u : System) → AreSized u (types_before u (suc n)) (counted after u) (planned_of u after.shown.plan)
   types_sized = each_system AreSized AreSized (record { few = t.few; none = λ e. absurd (omega (arith, e)); size = t.size ∙ ap (λ m. min (signals_begun m) count) (next_row row) }) sized (λ u rows c xs a. a)
+
+  pub types_slots : AreSlotsAt k n → AreSlotsAt after (suc n)
+  types_slots r =
+      let z = none_of_slots less s row at in
+      record { none = λ e. r.none z.0; unplanned = λ e. r.none z.0; size = r.size ∙ ap (λ m. min (slots_in_line * m) k.slots) (z.0 ∙ sym z.1); room = r.room }
 
   pub types_law : Law k n line after
   unfolding row_line
@@ -186,12 +193,12 @@ turned x y fs a = same_texts x y x fs a (same_here x fs)
 
 pub line_texts : (r : TextRow) (line : List ℕ) (k : Known) (x : HeaderLists) → ReadsTexts r line k.shown.texts x → IsHeaderLineRead (Texts r) line k (with_texts k x)
 unfolding row_line
-line_texts r line k x read = record { plan = refl; counts = λ s. refl; own = own; kept = kept } where
+line_texts r line k x read = record { signals = refl; counts = λ s. refl; slots = (refl, refl); own = own; kept = kept } where
   same : (i : ℕ) → i < start_of r → get_or x i [] ≡ get_or k.shown.texts i []
   same = kept_texts (start_of r) (fields_of r) (length (front_of r)) line k.shown.texts (own_texts r) read.read
 
-  own : (h : Shown) → IsShown h → (shown_line h (Texts r) ≡ line) ↔ AreSameTexts h.texts x (fields_of r)
-  own h is = (
+  own : (h : Shown) → IsShown h → Has k (row_place (Texts r)) h → (shown_line h (Texts r) ≡ line) ↔ AreSameTexts h.texts x (fields_of r)
+  own h is before = (
     λ e.
         let back = texts_back h.texts is.texts r line k.shown.texts read.size e in
         turned x h.texts (fields_of r) (subst (λ y. AreSameTexts y h.texts (fields_of r)) (same_Some back.new x (sym back.read ∙ read.read)) back.same),
@@ -206,9 +213,9 @@ line_texts r line k x read = record { plan = refl; counts = λ s. refl; own = ow
       )
   kept h other less = (λ e. e, λ e. e)
 
-pub refuse_texts : (r : TextRow) (line : List ℕ) → RefusesTexts r line → RefusesHeaderLine (Texts r) line
+pub refuse_texts : (k : Known) (r : TextRow) (line : List ℕ) → RefusesTexts r line → RefusesHeaderLine k (Texts r) line
 unfolding row_line
-refuse_texts r line refuses h is e = refuses h.texts is.texts e
+refuse_texts k r line refuses h is before e = refuses h.texts is.texts e
 
 -- ---- station values
 
@@ -218,9 +225,9 @@ no_height v e = ap (λ (n : ℕ). record v { height = n }) e
 pub line_position : (k : Known) (v : StationValues) (line : List ℕ) → ReadsExactly IsPosition position_line line (Some v)
     → IsHeaderLineRead Position line k (with_values k (record v { height = k.shown.values.height }))
 unfolding row_line
-line_position k v line r = record { plan = refl; counts = λ s. refl; own = own; kept = kept } where
-  own : (h : Shown) → IsShown h → (shown_line h Position ≡ line) ↔ (position_of h.values ≡ position_of v)
-  own h is =
+line_position k v line r = record { signals = refl; counts = λ s. refl; slots = (refl, refl); own = own; kept = kept } where
+  own : (h : Shown) → IsShown h → Has k (row_place Position) h → (shown_line h Position ≡ line) ↔ (position_of h.values ≡ position_of v)
+  own h is before =
       let e = exact {Is = IsPosition} {text = position_line} r (position_of h.values) (is.values.x, is.values.y, is.values.z, refl) in
       (λ f. e.0 f ∙ no_height v r.0.3, λ f. e.1 (f ∙ sym (no_height v r.0.3)))
 
@@ -228,9 +235,9 @@ line_position k v line r = record { plan = refl; counts = λ s. refl; own = own;
   kept h Position less = absurd (omega (arith, less))
   kept h other less = (λ e. e, λ e. e)
 
-pub refuse_position : (line : List ℕ) → ReadsExactly IsPosition position_line line None → RefusesHeaderLine Position line
+pub refuse_position : (k : Known) (line : List ℕ) → ReadsExactly IsPosition position_line line None → RefusesHeaderLine k Position line
 unfolding row_line
-refuse_position line r h is e = r (position_of h.values) (is.values.x, is.values.y, is.values.z, refl) (sym e)
+refuse_position k line r h is before e = r (position_of h.values) (is.values.x, is.values.y, is.values.z, refl) (sym e)
 
 abbrev Height : List ℕ → Option ℕ → Type 0
 Height line r = ReadsExactly (λ h. h < 2 ^ 16) height_line line r
@@ -238,14 +245,14 @@ Height line r = ReadsExactly (λ h. h < 2 ^ 16) height_line line r
 pub line_delta : (k : Known) (height : ℕ) (line : List ℕ) → Height line (Some height)
     → IsHeaderLineRead Delta line k (with_values k (record k.shown.values { height = height }))
 unfolding row_line
-line_delta k height line r = record { plan = refl; counts = λ s. refl; own = λ h is. exact {Is = λ h. h < 2 ^ 16} {text = height_line} r h.values.height is.values.height; kept = kept } where
+line_delta k height line r = record { signals = refl; counts = λ s. refl; slots = (refl, refl); own = λ h is before. exact {Is = λ h. h < 2 ^ 16} {text = height_line} r h.values.height is.values.height; kept = kept } where
   kept : (h : Shown) (q : HeaderRow) → row_place q < row_place Delta → HasRow k h q ↔ HasRow (with_values k (record k.shown.values { height = height })) h q
   kept h Delta less = absurd (omega (arith, less))
   kept h other less = (λ e. e, λ e. e)
 
-pub refuse_delta : (line : List ℕ) → Height line None → RefusesHeaderLine Delta line
+pub refuse_delta : (k : Known) (line : List ℕ) → Height line None → RefusesHeaderLine k Delta line
 unfolding row_line
-refuse_delta line r h is e = r h.values.height is.values.height (sym e)
+refuse_delta k line r h is before e = r h.values.height is.values.height (sym e)
 
 -- ---- the first epoch
 
@@ -254,38 +261,63 @@ FirstTime line r = ReadsExactly IsTime (λ t. first_line (civil_of t)) line r
 
 pub line_first : (k : Known) (t : ℕ) (line : List ℕ) → FirstTime line (Some t) → IsHeaderLineRead First line k (with_first k t)
 unfolding row_line
-line_first k t line r = record { plan = refl; counts = λ s. refl; own = λ h is. exact {Is = IsTime} {text = λ t. first_line (civil_of t)} r h.first is.first; kept = kept } where
+line_first k t line r = record { signals = refl; counts = λ s. refl; slots = (refl, refl); own = λ h is before. exact {Is = IsTime} {text = λ t. first_line (civil_of t)} r h.first is.first; kept = kept } where
   kept : (h : Shown) (q : HeaderRow) → row_place q < row_place First → HasRow k h q ↔ HasRow (with_first k t) h q
   kept h First less = absurd (omega (arith, less))
   kept h other less = (λ e. e, λ e. e)
 
-pub refuse_first : (line : List ℕ) → FirstTime line None → RefusesHeaderLine First line
+pub refuse_first : (k : Known) (line : List ℕ) → FirstTime line None → RefusesHeaderLine k First line
 unfolding row_line
-refuse_first line r h is e = r h.first is.first (sym e)
+refuse_first k line r h is before e = r h.first is.first (sym e)
 
 -- ---- lines that are always the same
 
-line_fixed : (r : HeaderRow) {text line : List ℕ} (k : Known) (b : Bool) → ((h : Shown) → shown_line h r ≡ text) → ((h : Shown) → HasRow k h r)
+line_fixed : (r : HeaderRow) {text line : List ℕ} (k : Known) (b : Bool) → SlotsFollow r line k k → ((h : Shown) → shown_line h r ≡ text) → ((h : Shown) → HasRow k h r)
     → (IsTrue b ↔ (line ≡ text)) → ReadsOrRefuses r line k k b
-line_fixed r k true shows said is = record { plan = refl; counts = λ s. refl; own = λ h shown. (λ e. said h, λ e. shows h ∙ sym (is.0 refl)); kept = λ h q less. (λ e. e, λ e. e) }
-line_fixed r k false shows said is = λ h shown l. let e = is.1 (sym l ∙ shows h) in cc
+line_fixed r k true slots shows said is = record { signals = refl; counts = λ s. refl; slots = slots; own = λ h shown before. (λ e. said h, λ e. shows h ∙ sym (is.0 refl)); kept = λ h q less. (λ e. e, λ e. e) }
+line_fixed r k false slots shows said is = λ h shown before l. let e = is.1 (sym l ∙ shows h) in cc
 
 pub line_unit : (k : Known) (line : List ℕ) (b : Bool) → (IsTrue b ↔ (line ≡ strength_line)) → ReadsOrRefuses StrengthUnit line k k b
 unfolding row_line
-line_unit k line b is = line_fixed StrengthUnit k b (λ h. refl) (λ h. tt) is
+line_unit k line b is = line_fixed StrengthUnit k b (refl, refl) (λ h. refl) (λ h. tt) is
 
 pub line_shift : (system : System) (byte : ℕ) (k : Known) (line : List ℕ) (b : Bool) → byte ≡ letter system
     → (IsTrue b ↔ (line ≡ header_line (byte ∷ []) (codes "SYS / PHASE SHIFT"))) → ReadsOrRefuses (Shift system) line k k b
 unfolding row_line
 line_shift system byte k line b e is =
-    line_fixed (Shift system) k b (λ h. refl) (λ h. tt) (subst (λ l. IsTrue b ↔ (line ≡ header_line (l ∷ []) (codes "SYS / PHASE SHIFT"))) e is)
+    line_fixed (Shift system) k b (refl, refl) (λ h. refl) (λ h. tt) (subst (λ l. IsTrue b ↔ (line ≡ header_line (l ∷ []) (codes "SYS / PHASE SHIFT"))) e is)
+
+pub line_biases : (k : Known) (line : List ℕ) (b : Bool) → (IsTrue b ↔ (line ≡ biases_line)) → ReadsOrRefuses Biases line k k b
+unfolding row_line
+line_biases k line b is = line_fixed Biases k b (refl, refl) (λ h. refl) (λ h. tt) is
+
+-- ---- slots
+
+-- the slots of a header with what was read before its line
+module _ (row : ℕ) (line : List ℕ) (k : Known) (before : AreSlotsBefore k (Slots row)) where
+  slots_line_of : (h : Shown) → IsShown h → Has k (row_place (Slots row)) h → slots_line (slots_of h.plan.channels) row ≡ line → IsLineOfSlots row line k.slots (known_slots k) (slots_of h.plan.channels)
+  slots_line_of h is has e = slots_go_on (slots_are h.plan.channels is.plan.channels) before.1 (λ i next. subst (HasRow k h) (slots_here i (earlier i next)) (has.rows (row_place (Slots i)) (omega (arith, next)))) e where
+    earlier : (i : ℕ) → row ≡ suc i → i < 4
+    earlier i next = let few = before.0 in omega (arith, few, next)
+
+  slots_read : (count : ℕ) (channels : ChannelsValue) → TakesSlots row line k.slots (known_slots k) count (slots_of channels) → IsHeaderLineRead (Slots row) line k (with_slots k count channels)
+  unfolding row_line
+  slots_read count channels t = record { signals = refl; counts = λ s. refl; slots = t; own = λ h is has. (λ e. same_after t (slots_line_of h is has e), λ a. line_after_same t a); kept = kept } where
+    kept : (h : Shown) (q : HeaderRow) → row_place q < row_place (Slots row) → HasRow k h q ↔ HasRow (with_slots k count channels) h q
+    kept h (Slots i) less = same_before t i (omega (arith, less))
+    kept h other less = (λ e. e, λ e. e)
+
+  pub line_slots : (count : ℕ) (channels : ChannelsValue) (b : Bool) → TakesOrRefusesSlots row line k.slots (known_slots k) count (slots_of channels) b → ReadsOrRefuses (Slots row) line k (with_slots k count channels) b
+  unfolding row_line
+  line_slots count channels true t = slots_read count channels t
+  line_slots count channels false none = λ h is has e. none (slots_of h.plan.channels) (slots_line_of h is has e)
 
 -- ---- version and systems
 
 pub line_version : (k : Known) (l : ℕ) (line : List ℕ) → ReadsExactly (λ byte. ⊤) version_by line (Some l) → IsHeaderLineRead Version line k (with_letter k l)
 unfolding row_line
-line_version k l line r = record { plan = refl; counts = λ s. refl; own = λ h is. exact {Is = λ byte. ⊤} {text = version_by} r (systems_letter h.plan) tt; kept = λ h q less. absurd (omega (arith, less)) }
+line_version k l line r = record { signals = refl; counts = λ s. refl; slots = (refl, refl); own = λ h is before. exact {Is = λ byte. ⊤} {text = version_by} r (systems_letter h.plan) tt; kept = λ h q less. absurd (omega (arith, less)) }
 
-pub refuse_version : (line : List ℕ) → ReadsExactly (λ byte. ⊤) version_by line None → RefusesHeaderLine Version line
+pub refuse_version : (k : Known) (line : List ℕ) → ReadsExactly (λ byte. ⊤) version_by line None → RefusesHeaderLine k Version line
 unfolding row_line
-refuse_version line r h is e = r (systems_letter h.plan) tt (sym e)
+refuse_version k line r h is before e = r (systems_letter h.plan) tt (sym e)

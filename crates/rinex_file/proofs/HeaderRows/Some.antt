@@ -4,8 +4,11 @@ use Rattle.gnss_system.proofs.SystemLaws.{value_tabulated}
 use Rattle.gnss_system.specs.SystemValues.{tabulate}
 use Rattle.rinex_file.proofs.HeaderRows.Letters.{flagged, same_flags}
 use Rattle.rinex_file.proofs.HeaderRows.Texts.{equal_or, same_here}
+use Rattle.gnss_system.specs.declared.system.System.TheVariants.{Glonass}
+use Rattle.rinex_file.proofs.HeaderRows.Slots.{More, more_slots, no_channels_are, same_channels}
+use Rattle.rinex_file.proofs.HeaderRows.Places.{own_slots, place_at}
 use Rattle.rinex_file.proofs.PlainTexts.{both}
-use Rattle.rinex_file.proofs.Names.{All, All-cons, All-nil, All-push, AreCounted, AreSized, AreTypesOf, Bool, Delta, First, Galileo, Gps, Has, HasRow, HeaderRow, IsDistinct, IsDistinct-push, IsHeadAt, IsShown, Known, List, PlanValue, Position, System, Texts, Version, ap, arith, counted, eqb, false, fields_of, flagged_letter, is_chosen, is_equal, is_less, is_planned, le-length_from_below, length, length-append, letter, list_any, min, nat_eq, nat_eq_equiv, nat_lt, nat_tests, nil_from_length, planned_of, refl, row_at, shown_with, signals_begun, subst, suc, sym, systems_letter, table, take, take-append_seam, take-take, take_all, take_min, true, types_before, zero, ◌&&◌, ◌++◌, ◌+◌, ◌-◌, ◌<◌, ◌==◌, ◌||◌, ◌∙◌, ◌∷◌, ◌≡◌, ◌≤◌, [], ℕ, lit<}
+use Rattle.rinex_file.proofs.Names.{All, All-cons, All-nil, All-push, AreCounted, AreSized, AreTypesOf, Bool, Delta, First, Has, HasRow, HeaderRow, IsDistinct, IsDistinct-push, IsHeadAt, IsShown, Known, List, PlanValue, Position, System, Texts, Version, ap, arith, counted, eqb, false, fields_of, flagged_letter, is_chosen, is_equal, is_less, is_planned, le-length_from_below, length, length-append, letter, list_any, min, nat_eq, nat_eq_equiv, nat_lt, nat_tests, nil_from_length, planned_of, refl, row_at, shown_with, signals_begun, subst, suc, sym, systems_letter, table, take, take-append_seam, take-take, take_all, take_min, true, types_before, zero, ◌&&◌, ◌++◌, ◌+◌, ◌-◌, ◌<◌, ◌==◌, ◌||◌, ◌∙◌, ◌∷◌, ◌≡◌, ◌≤◌, [], ℕ, lit<, ◌*◌, append-nil, take-append-le, row_count, Slots, SlotNumber, AreSlotsAt, known_slots, slots_before, slots_of, no_channels}
 
 -- ---- signals of a system, with others up to a number
 
@@ -115,17 +118,27 @@ pub record SomeShown (k : Known) (n : ℕ) : Type 0 where
   pub is : IsShown (shown_with k p)
   pub has : Has k n (shown_with k p)
 
-own_rows : (k : Known) (p : PlanValue) (r : HeaderRow) → systems_letter p ≡ k.letter → HasRow k (shown_with k p) r
-own_rows k p Version e = e
-own_rows k p (Texts row) e = same_here k.shown.texts (fields_of row)
-own_rows k p Position e = refl
-own_rows k p Delta e = refl
-own_rows k p First e = refl
-own_rows k p other e = tt
+-- slots that begin with those that were read, if there are no more or those are the lines up to a row
+begun_slots : (row rows count : ℕ) (read more : List SlotNumber) → row < rows → length read ≡ min (8 * rows) count → length more ≡ count - length read → take (8 * suc row) (read ++ more) ≡ take (8 * suc row) read
+begun_slots row rows count read [] less size rest = ap (take (8 * suc row)) (append-nil read)
+begun_slots row rows count read (s ∷ more) less size rest = take-append-le (8 * suc row) read (s ∷ more) (omega (arith, less, size, rest))
 
-planned_some : (p : PlanValue) (s : System) → 0 < length (planned_of s p) → 0 < length p.gps + length p.galileo
-planned_some p Gps some = omega (arith, some)
-planned_some p Galileo some = omega (arith, some)
+own_rows : (k : Known) (n : ℕ) (p : PlanValue) (more : List SlotNumber) (i : ℕ) → i < n → n < row_count → AreSlotsAt k n → slots_of p.channels ≡ known_slots k ++ more → length more ≡ k.slots - length (known_slots k) → (r : HeaderRow) → row_at i ≡ r
+    → (systems_letter p ≡ k.letter) → HasRow k (shown_with k p) r
+own_rows k n p more i less few at is size Version here e = e
+own_rows k n p more i less few at is size (Texts row) here e = same_here k.shown.texts (fields_of row)
+own_rows k n p more i less few at is size Position here e = refl
+own_rows k n p more i less few at is size Delta here e = refl
+own_rows k n p more i less few at is size First here e = refl
+own_rows k n p more i less few at is size (Slots row) here e =
+    let place = place_at i (Slots row) (omega (arith, less, few)) here in
+    let four = (own_slots {n = i} (omega (arith, less, few)) row here).2 in
+    let read = at.size in
+    record {
+      number = omega (arith, read, size, ap length is, length-append (known_slots k) more);
+      begun = ap (take (8 * suc row)) is ∙ begun_slots row (slots_before n) k.slots (known_slots k) more (omega (arith, place, four, less)) read size;
+    }
+own_rows k n p more i less few at is size other here e = tt
 
 module _ (k : Known) (n : ℕ) (at : IsHeadAt k n) (flags : System → Bool) (same : 0 < n → flagged_letter flags ≡ k.letter) (some : 0 < flagged_letter flags)
     (may : (s : System) → flags s ≡ true → (types_before s n == 0 || nat_lt 0 (counted k s)) ≡ true) (none : (s : System) → (counted k s == 0 || flags s) ≡ true) where
@@ -135,14 +148,31 @@ module _ (k : Known) (n : ℕ) (at : IsHeadAt k n) (flags : System → Bool) (sa
   abbrev all : System → List ℕ
   all s = (choice s).all
 
+  more : More k.shown.plan.channels (k.slots - length (known_slots k))
+  more = let room = at.slots.room in let size = at.slots.size in more_slots (k.slots - length (known_slots k)) k.shown.plan.channels at.valid.channels (omega (arith, room, size))
+
   abbrev p : PlanValue
-  p = tabulate all
+  p = record { signals = tabulate all; channels = more.channels }
+
+  -- without a signal of GLONASS no slot has a channel
+  unplanned : planned_of Glonass p ≡ [] → more.channels ≡ no_channels
+  unplanned e =
+      let flag : flags Glonass ≡ false = sym (choice Glonass).some ∙ ap (λ (xs : List ℕ). nat_lt 0 (length xs)) (sym (value_tabulated Glonass all) ∙ e) in
+      let count : counted k Glonass ≡ 0 = zero_count (counted k Glonass) (flags Glonass) flag (none Glonass) in
+      let slots = at.slots.unplanned count in
+      let read = at.slots.size in
+      let size = more.size in
+      let whole = ap length more.is in
+      let both = length-append (known_slots k) more.more in
+      same_channels more.channels no_channels more.are no_channels_are (nil_from_length (slots_of more.channels) (omega (arith, slots, read, size, whole, both))) where
+        zero_count : (n : ℕ) (b : Bool) → b ≡ false → (n == 0 || b) ≡ true → n ≡ 0
+        zero_count n b e f = grind (arith, nat_tests, e, f)
 
   letter_is : systems_letter p ≡ flagged_letter flags
   letter_is = same_flags (is_planned p) flags (λ s. ap (λ xs. nat_lt 0 (length xs)) (value_tabulated s all) ∙ (choice s).some)
 
-  some_signals : 0 < length p.gps + length p.galileo
-  some_signals = let (s, flag) = flagged (is_planned p) (subst (λ m. 0 < m) (sym letter_is) some) in planned_some p s (is_less 0 (length (planned_of s p)) flag)
+  some_signals : (s : System) × (0 < length (planned_of s p))
+  some_signals = let (s, flag) = flagged (is_planned p) (subst (λ m. 0 < m) (sym letter_is) some) in (s, is_less 0 (length (planned_of s p)) flag)
 
   made : SomeShown k n
   made = record {
@@ -155,10 +185,12 @@ module _ (k : Known) (n : ℕ) (at : IsHeadAt k n) (flags : System → Bool) (sa
         listed = λ s. subst (AreBelow (length (table s))) (sym (value_tabulated s all)) (choice s).below;
         apart = λ s. subst (IsDistinct nat_eq) (sym (value_tabulated s all)) (choice s).apart;
         some = some_signals;
+        channels = more.are;
+        unplanned = unplanned;
       };
     };
     has = record {
-      rows = λ i l. own_rows k p (row_at i) (letter_is ∙ same (omega (arith, l)));
+      rows = λ i l. own_rows k n p more.more i l at.expected at.slots more.is more.size (row_at i) refl (letter_is ∙ same (omega (arith, l)));
       types = λ s. subst (AreTypesOf (types_before s n) (counted k s) (planned_of s k.shown.plan)) (sym (value_tabulated s all)) (choice s).types;
     };
   }

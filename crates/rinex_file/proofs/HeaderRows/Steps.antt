@@ -1,61 +1,16 @@
 -- The steps from a row of a header to the next.
 use Rattle.rinex_file.proofs.Reading.Epochs.{cons_parts}
 use Rattle.rinex_file.proofs.HeaderRows.Agree.{less_or, rows_when, placed, line_next, line_none, before_next}
-use Rattle.gnss_system.proofs.Checked.{passes_below}
-use Rattle.gnss_system.proofs.SystemLaws.{each_system, system_same, system_self}
+use Rattle.gnss_system.proofs.SystemLaws.{each_system}
 use Rattle.rinex_file.proofs.HeaderRows.Letters.{has_fits}
 use Rattle.rinex_file.proofs.HeaderRows.Texts.{equal_or}
 use Rattle.rinex_file.proofs.HeaderRows.Types.{content_first}
+use Rattle.gnss_system.specs.declared.system.System.TheVariants.{Glonass}
+use Rattle.gnss_obs.specs.Channels.{slot_count}
+use Rattle.rinex_file.proofs.HeaderRows.Slots.{no_slots}
 use Rattle.rinex_file.proofs.PlainTexts.{both}
-use Rattle.rinex_file.proofs.Names.{Result, Refusal, TakesHeaderLine, expected_if, if◌then◌else◌, drop, all_rows, arith, ◌≡◌, ◌∙◌, sym, ap, refl, subst, ℕ, zero, suc, ◌+◌, ◌<◌, ◌≤◌, Bool, true, false, List, [], ◌∷◌, ◌++◌, length, take, append-nil, not, take_all, ◌≢◌, ◌==◌, ◌&&◌, min, ◌↔◌, nat_lt, nat_tests, System, passes_at, planned_of, civil_of, Known, IsShown, AreValid, Shown, IsHeadAt, shown_rows, shown_line, lines_before, lines_after, signals_begun, HeaderRow, Types, StrengthUnit, Shift, End, Expected, has_line, row_at, row_count, row_place, most_type_rows, type_rows, known_line, RefusesHeaderLine, NoneGoesOn, SameFrom, AreCounted, AreSized, AreTypesOf, Has, HasRow, counted, fits, types_before, begins_with, IsHeaderLineRead, GoesOn, Takes, is_system, flat_map, row_line, header_line, letter, codes, is_equal, index_of}
-
--- ---- the rows of types before an index
-
-abbrev pub is_types : HeaderRow → Bool
-is_types (Types s row) = true
-is_types other = false
-
--- the number of lines of a system's types before a row and before the next
-abbrev step_ok : System → ℕ → HeaderRow → Bool
-step_ok s n (Types t row) = if is_system t s then (types_before s n == row) && (types_before s (suc n) == suc row) else types_before s (suc n) == types_before s n
-step_ok s n (Shift t) = (types_before s (suc n) == types_before s n) && (types_before t n == most_type_rows)
-step_ok s n other = types_before s (suc n) == types_before s n
-
-steps_ok : (s : System) (n : ℕ) → n < row_count → step_ok s n (row_at n) ≡ true
-steps_ok s n less = passes_at (λ i. step_ok s i (row_at i)) row_count n (each_system (λ s. passes_below (λ i. step_ok s i (row_at i)) row_count) s refl) less
-
-module _ {n : ℕ} (less : n < row_count) where
-  step_is : {r : HeaderRow} (s : System) → row_at n ≡ r → step_ok s n r ≡ true
-  step_is s at = sym (ap (step_ok s n) at) ∙ steps_ok s n less
-
-  pub plain_before : (r : HeaderRow) (s : System) → row_at n ≡ r → is_types r ≡ false → types_before s (suc n) ≡ types_before s n
-  plain_before (Types t row) s at plain = cc
-  plain_before (Shift t) s at plain = is_equal (types_before s (suc n)) (types_before s n) (both (types_before s (suc n) == types_before s n) (types_before t n == most_type_rows) (step_is s at)).0
-  plain_before other s at plain = is_equal (types_before s (suc n)) (types_before s n) (step_is s at)
-
-  pub all_before : (s : System) → row_at n ≡ Shift s → types_before s n ≡ most_type_rows
-  all_before s at = is_equal (types_before s n) most_type_rows (both (types_before s (suc n) == types_before s n) (types_before s n == most_type_rows) (step_is s at)).1
-
-  pub own_before : (s : System) (row : ℕ) → row_at n ≡ Types s row → (types_before s n ≡ row) × (types_before s (suc n) ≡ suc row)
-  own_before s row at = let two = both (types_before s n == row) (types_before s (suc n) == suc row) (sym (ap (λ b. if b then (types_before s n == row) && (types_before s (suc n) == suc row) else types_before s (suc n) == types_before s n) (system_self s s refl)) ∙ step_is s at) in (is_equal (types_before s n) row two.0, is_equal (types_before s (suc n)) (suc row) two.1)
-
-  pub other_before : (s t : System) (row : ℕ) → row_at n ≡ Types t row → is_system t s ≡ false → types_before s (suc n) ≡ types_before s n
-  other_before s t row at other = is_equal (types_before s (suc n)) (types_before s n) (sym (ap (λ b. if b then (types_before s n == row) && (types_before s (suc n) == suc row) else types_before s (suc n) == types_before s n) other) ∙ step_is s at)
-
--- the same system, or another
-pub either : (P : Type 0) (s t : System) → (t ≡ s → P) → (is_system s t ≡ false → P) → P
-either P s t same other = by (is_system s t) refl where
-  by : (b : Bool) → is_system s t ≡ b → P
-  by true e = same (sym (system_same s t e))
-  by false e = other e
-
-flipped : (s t : System) → is_system s t ≡ false → is_system t s ≡ false
-flipped s t e = turn (index_of s) (index_of t) e where
-  turn : (a b : ℕ) → (a == b) ≡ false → (b == a) ≡ false
-  turn a b e = grind (arith, nat_tests, e)
-
-pub place_at : (n : ℕ) (r : HeaderRow) → n < row_count → row_at n ≡ r → n ≡ row_place r
-place_at n r less at = sym (placed n less) ∙ ap row_place at
+use Rattle.rinex_file.proofs.HeaderRows.Places.{all_before, either, flipped, is_types, other_before, other_slots, own_before, own_slots, place_at, plain_before, slots_here}
+use Rattle.rinex_file.proofs.Names.{Result, Refusal, TakesHeaderLine, expected_if, drop, all_rows, arith, ◌≡◌, ◌∙◌, sym, ap, refl, subst, ℕ, zero, suc, ◌+◌, ◌<◌, ◌≤◌, Bool, true, false, List, [], ◌∷◌, ◌++◌, length, take, append-nil, not, take_all, ◌≢◌, ◌==◌, ◌&&◌, min, ◌↔◌, nat_lt, nat_tests, System, planned_of, civil_of, Known, IsShown, AreValid, Shown, IsHeadAt, shown_rows, shown_line, lines_before, lines_after, signals_begun, HeaderRow, Types, StrengthUnit, Shift, End, Expected, has_line, row_at, row_count, row_place, most_type_rows, type_rows, known_line, RefusesHeaderLine, NoneGoesOn, SameFrom, AreCounted, AreSized, AreTypesOf, Has, HasRow, counted, fits, types_before, begins_with, IsHeaderLineRead, GoesOn, Takes, flat_map, row_line, header_line, letter, codes, is_less, lit<, ◌*◌, ◌-◌, ap₂, value_of, nil_from_length, Slots, Biases, SlotNumber, slots_of, last_slot, slots_in_line, slot_rows, AreSlotsRead, AreSlotsAt, AreSameSlots, AreSlotsBefore, SlotsFollow, known_slots}
 
 -- ---- the number of a system's signals
 
@@ -67,41 +22,103 @@ known_count (suc rows) count all some are = are
 moved : (P : ℕ → ℕ → List ℕ → Type 0) {a b c d : ℕ} {xs ys : List ℕ} → a ≡ b → c ≡ d → xs ≡ ys → P a c xs → P b d ys
 moved P {a} {b} {c} {d} {xs} {ys} e f g p = subst (λ n. P n d ys) e (subst (λ n. P a n ys) f (subst (P a c) g p))
 
+slots_moved : {a b p q c d : ℕ} {xs ys : List SlotNumber} → a ≡ b → p ≡ q → c ≡ d → xs ≡ ys → AreSlotsRead a p c xs → AreSlotsRead b q d ys
+slots_moved {a} {b} {p} {q} {c} {d} {xs} {ys} e f g same s = record {
+  none = λ z. sym g ∙ s.none (e ∙ z);
+  unplanned = λ z. sym g ∙ s.unplanned (f ∙ z);
+  size = sym (ap length same) ∙ s.size ∙ ap₂ (λ m n. min (slots_in_line * m) n) e g;
+  room = subst (λ (l : List SlotNumber). d + last_slot 0 l ≤ length l + slot_count) same (subst (λ n. n + last_slot 0 xs ≤ length xs + slot_count) g s.room);
+}
+
+is_none : (n : ℕ) → nat_lt 0 n ≡ false → n ≡ 0
+is_none n e = grind (arith, e, nat_tests)
+
+-- a line of slots is expected only if signals of GLONASS are planned
+none_expected : (row : ℕ) (k : Known) (line : List ℕ) → known_line k line (Slots row) ≡ true → counted k Glonass ≡ 0 → (counted k Glonass ≡ 0 → k.slots ≡ 0) → ⊥
+none_expected zero k line has none unplanned = let some = is_less 0 (counted k Glonass) has in omega (arith, some, none)
+none_expected (suc row) k line has none unplanned = let some = is_less (suc row) (slot_rows k.slots) has in let z = unplanned none in omega (arith, some, z)
+
+-- the slots before an expected line
+pub slots_expected : {n : ℕ} (less : n < row_count) (r : HeaderRow) (k : Known) (line : List ℕ) → row_at n ≡ r → known_line k line r ≡ true → AreSlotsAt k n → AreSlotsBefore k r
+slots_expected less (Slots zero) k line at has s =
+    let own = (own_slots less 0 at).0 in
+    let size = s.size in
+    (lit< tt, omega (arith, size, own), λ l. absurd (omega (arith, l)))
+slots_expected less (Slots (suc row)) k line at has s =
+    let own = own_slots less (suc row) at in
+    let rows = is_less (suc row) (slot_rows k.slots) has in
+    let more : 8 * suc row < k.slots = omega (arith, rows) in
+    let size : length (known_slots k) ≡ min (8 * suc row) k.slots = s.size ∙ ap (λ m. min (slots_in_line * m) k.slots) own.0 in
+    (own.2, omega (arith, size, more), λ l. more)
+slots_expected less r k line at has s = tt
+
 -- ---- a row apart from types
 
 module _ {n : ℕ} {r : HeaderRow} {line : List ℕ} {old new : Known} (less : n < row_count) (at : row_at n ≡ r) (plain : is_types r ≡ false) (read : IsHeaderLineRead r line old new) where
   row_law : (h : Shown) → IsShown h → (Has old n h × (shown_line h r ≡ line)) ↔ Has new (suc n) h
   row_law h is = (to, from) where
+    placed_at : Has old n h → Has old (row_place r) h
+    placed_at a = subst (λ m. Has old m h) (place_at n r less at) a
+
     before : (i : ℕ) → i < n → row_place (row_at i) < row_place r
     before i l = subst (λ m. row_place (row_at i) < m) (place_at n r less at) (subst (λ m. m < n) (sym (placed i (omega (arith, l, less)))) l)
 
     to : Has old n h × (shown_line h r ≡ line) → Has new (suc n) h
     to (a, e) = record {
       rows = λ i l. equal_or (HasRow new h (row_at i)) i n
-          (λ same. subst (HasRow new h) (sym at ∙ ap row_at (sym same)) ((read.own h is).0 e))
+          (λ same. subst (HasRow new h) (sym at ∙ ap row_at (sym same)) ((read.own h is (placed_at a)).0 e))
           (λ far. let l' : i < n = omega (arith, l, far) in (read.kept h (row_at i) (before i l')).0 (a.rows i l'));
-      types = λ s. moved (λ rows c xs. AreTypesOf rows c xs (planned_of s h.plan)) (sym (plain_before less r s at plain)) (sym (read.counts s)) (ap (planned_of s) (sym read.plan)) (a.types s);
+      types = λ s. moved (λ rows c xs. AreTypesOf rows c xs (planned_of s h.plan)) (sym (plain_before less r s at plain)) (sym (read.counts s)) (ap (value_of s) (sym read.signals)) (a.types s);
     }
 
     from : Has new (suc n) h → Has old n h × (shown_line h r ≡ line)
-    from a = (
-      record {
+    from a = (b, (read.own h is (placed_at b)).1 (subst (HasRow new h) at (a.rows n (omega arith)))) where
+      b : Has old n h
+      b = record {
         rows = λ i l. (read.kept h (row_at i) (before i l)).1 (a.rows i (omega (arith, l)));
-        types = λ s. moved (λ rows c xs. AreTypesOf rows c xs (planned_of s h.plan)) (plain_before less r s at plain) (read.counts s) (ap (planned_of s) read.plan) (a.types s);
-      },
-      (read.own h is).1 (subst (HasRow new h) at (a.rows n (omega arith))),
-    )
+        types = λ s. moved (λ rows c xs. AreTypesOf rows c xs (planned_of s h.plan)) (plain_before less r s at plain) (read.counts s) (ap (value_of s) read.signals) (a.types s);
+      }
 
   pub row_sized : ((s : System) → AreSized s (types_before s n) (counted old s) (planned_of s old.shown.plan)) → (s : System) → AreSized s (types_before s (suc n)) (counted new s) (planned_of s new.shown.plan)
-  row_sized sized s = moved (AreSized s) (sym (plain_before less r s at plain)) (sym (read.counts s)) (ap (planned_of s) (sym read.plan)) (sized s)
+  row_sized sized s = moved (AreSized s) (sym (plain_before less r s at plain)) (sym (read.counts s)) (ap (value_of s) (sym read.signals)) (sized s)
+
+  pub row_slots : known_line old line r ≡ true → AreSlotsAt old n → AreSlotsAt new (suc n)
+  row_slots has s = by r at has read.slots where
+    by : (q : HeaderRow) → row_at n ≡ q → known_line old line q ≡ true → SlotsFollow q line old new → AreSlotsAt new (suc n)
+    by (Slots row) at has t =
+        let next = (own_slots less row at).1 in
+        record {
+          none = λ e. absurd (omega (arith, next, e));
+          unplanned = λ e. absurd (none_expected row old line has (sym (read.counts Glonass) ∙ e) s.unplanned);
+          size = t.size ∙ ap (λ m. min (slots_in_line * m) new.slots) (sym next);
+          room = t.room;
+        }
+    by q at has t = slots_moved (other_slots less q at refl) (sym (read.counts Glonass)) (sym t.0) (sym t.1) s
 
 -- ---- which rows have a line
 
-pub plain_present : {n : ℕ} (less : n < row_count) (r : HeaderRow) → row_at n ≡ r → is_types r ≡ false → (k : Known) (line : List ℕ) (h : Shown) → Has k n h → has_line h.plan r ≡ known_line k line r
-plain_present less (Types s row) at plain k line h has = cc
-plain_present {n} less (Shift s) at plain k line h has = ap (nat_lt 0) (sym (known_count (types_before s n) (counted k s) (planned_of s h.plan) (some_rows (all_before less s at)) (has.types s).number)) where
+-- after the types, the number of a system's signals is known
+planned_known : (n : ℕ) → row_place StrengthUnit < n → (s : System) (k : Known) (h : Shown) → Has k n h → nat_lt 0 (length (planned_of s h.plan)) ≡ nat_lt 0 (counted k s)
+planned_known n far s k h has = ap (nat_lt 0) (sym (known_count (types_before s n) (counted k s) (planned_of s h.plan) (some_rows (all_before s n far)) (has.types s).number)) where
   some_rows : {m : ℕ} → m ≡ most_type_rows → 0 < m
   some_rows e = omega (arith, e)
+
+far_slots : (n row : ℕ) → n ≡ row_place (Slots row) → row_place StrengthUnit < n
+far_slots n row e = omega (arith, e)
+
+-- after a line of slots, the number of slots is known, and the first of them
+slots_known : {n : ℕ} (less : n < row_count) (row : ℕ) (k : Known) (h : Shown) → row_at n ≡ Slots (suc row) → Has k n h → AreSameSlots row k.slots (known_slots k) (slots_of h.plan.channels)
+slots_known {n} less row k h at has =
+    let few = (own_slots less (suc row) at).2 in
+    let e : n ≡ row_place (Slots (suc row)) = place_at n (Slots (suc row)) less at in
+    subst (HasRow k h) (slots_here row (omega (arith, few))) (has.rows (row_place (Slots row)) (omega (arith, e)))
+
+pub plain_present : {n : ℕ} (less : n < row_count) (r : HeaderRow) → row_at n ≡ r → is_types r ≡ false → (k : Known) (line : List ℕ) (h : Shown) → Has k n h → has_line h.plan r ≡ known_line k line r
+plain_present less (Types s row) at plain k line h has = cc
+plain_present {n} less (Shift s) at plain k line h has = let e = place_at n (Shift s) less at in planned_known n (omega (arith, e)) s k h has
+plain_present {n} less (Slots zero) at plain k line h has = planned_known n (far_slots n 0 (place_at n (Slots 0) less at)) Glonass k h has
+plain_present less (Slots (suc row)) at plain k line h has = ap (λ m. nat_lt (suc row) (slot_rows m)) (sym (slots_known less row k h at has).number)
+plain_present {n} less Biases at plain k line h has = let e = place_at n Biases less at in planned_known n (omega (arith, e)) Glonass k h has
 plain_present less other at plain k line h has = refl
 
 -- the first byte of a line of types, or of the unit's
@@ -228,16 +245,59 @@ not_last : (n : ℕ) (k : Known) (line : List ℕ) → n < row_count → known_l
 not_last n k line less lacks = grind (arith, less_or)
 
 module _ (k : Known) (line : List ℕ) {n : ℕ} (less : n < row_count) (lacks : known_line k line (row_at n) ≡ false)
-    (sized : (s : System) → AreSized s (types_before s n) (counted k s) (planned_of s k.shown.plan)) where
+    (sized : (s : System) → AreSized s (types_before s n) (counted k s) (planned_of s k.shown.plan)) (slots : AreSlotsAt k n) where
   -- a line of types that isn't the first is known to be there or not
   known_rows : (s : System) (row : ℕ) → row_at n ≡ Types s row → 0 < row → nat_lt row (type_rows (counted k s)) ≡ false
   known_rows s zero at some = absurd (omega (arith, some))
   known_rows s (suc row) at some = sym (ap (known_line k line) at) ∙ lacks
 
-  nothing_known : (r : HeaderRow) → row_at n ≡ r → (h : Shown) → HasRow k h r
-  nothing_known (Types s row) at h = tt
-  nothing_known (Shift s) at h = tt
-  nothing_known r at h = let e = sym (ap (known_line k line) at) ∙ lacks in cc
+  -- no slots are left for a line of slots that isn't there
+  none_left : (row : ℕ) → row_at n ≡ Slots row → k.slots ≤ slots_in_line * row
+  none_left zero at = let e = slots.unplanned (is_none (counted k Glonass) (sym (ap (known_line k line) at) ∙ lacks)) in omega (arith, e)
+  none_left (suc row) at = let rows = not_less (suc row) (slot_rows k.slots) (sym (ap (known_line k line) at) ∙ lacks) in omega (arith, rows) where
+    not_less : (a b : ℕ) → nat_lt a b ≡ false → b ≤ a
+    not_less a b e = grind (arith, e, nat_tests)
+
+  few_read : length (known_slots k) ≤ k.slots
+  few_read = let size = slots.size in omega (arith, size)
+
+  slots_same : (row : ℕ) → row_at n ≡ Slots row → (h : Shown) → IsShown h → Has k n h → AreSameSlots row k.slots (known_slots k) (slots_of h.plan.channels)
+  slots_same zero at h is has =
+      let unplanned = planned_known n (far_slots n 0 (place_at n (Slots 0) less at)) Glonass k h has ∙ sym (ap (known_line k line) at) ∙ lacks in
+      let none : slots_of h.plan.channels ≡ [] = ap slots_of (is.plan.unplanned (nil_from_length (planned_of Glonass h.plan) (is_none (length (planned_of Glonass h.plan)) unplanned))) ∙ no_slots in
+      let left = none_left 0 at in
+      let few = few_read in
+      let read : known_slots k ≡ [] = nil_from_length (known_slots k) (omega (arith, left, few)) in
+      record { number = omega (arith, left, ap length none); begun = ap (take 8) (none ∙ sym read) }
+  slots_same (suc row) at h is has =
+      let s = slots_known less row k h at has in
+      let left = none_left (suc row) at in
+      let few = few_read in
+      let number = s.number in
+      let same : slots_of h.plan.channels ≡ known_slots k =
+      sym (take_all (8 * suc row) (slots_of h.plan.channels) (omega (arith, left, number))) ∙ s.begun ∙ take_all (8 * suc row) (known_slots k) (omega (arith, left, few)) in
+      record { number = s.number; begun = ap (take (8 * suc (suc row))) same }
+
+  nothing_known : (r : HeaderRow) → row_at n ≡ r → (h : Shown) → IsShown h → Has k n h → HasRow k h r
+  nothing_known (Types s row) at h is has = tt
+  nothing_known (Shift s) at h is has = tt
+  nothing_known (Slots row) at h is has = slots_same row at h is has
+  nothing_known Biases at h is has = tt
+  nothing_known r at h is has = let e = sym (ap (known_line k line) at) ∙ lacks in cc
+
+  slots_skipped : (r : HeaderRow) → row_at n ≡ r → AreSlotsAt k (suc n)
+  slots_skipped (Slots row) at =
+      let own = own_slots less row at in
+      let next = own.1 in
+      let left = none_left row at in
+      let size : length (known_slots k) ≡ min (8 * row) k.slots = slots.size ∙ ap (λ m. min (slots_in_line * m) k.slots) own.0 in
+      record {
+        none = λ e. absurd (omega (arith, next, e));
+        unplanned = slots.unplanned;
+        size = (let e : length (known_slots k) ≡ min (8 * suc row) k.slots = omega (arith, size, left) in e) ∙ ap (λ m. min (slots_in_line * m) k.slots) (sym next);
+        room = slots.room;
+      }
+  slots_skipped r at = slots_moved (other_slots less r at refl) refl refl refl slots
 
   -- what holds of the rows of types before this row holds before the next, and the other way round
   to_next : (P : System → ℕ → Type 0) (s : System) → ((row : ℕ) → row_at n ≡ Types s row → P s row → P s (suc row)) → P s (types_before s n) → P s (types_before s (suc n))
@@ -284,7 +344,7 @@ module _ (k : Known) (line : List ℕ) {n : ℕ} (less : n < row_count) (lacks :
         record {
           is = on.is;
           has = record {
-            rows = λ i l. equal_or (HasRow k h (row_at i)) i n (λ same. nothing_known (row_at i) (ap row_at (sym same)) h) (λ far. on.has.rows i (omega (arith, l, far)));
+            rows = λ i l. equal_or (HasRow k h (row_at i)) i n (λ same. nothing_known (row_at i) (ap row_at (sym same)) h on.is on.has) (λ far. on.has.rows i (omega (arith, l, far)));
             types = λ s. to_next (typed h) s (λ row at. skip_types row (counted k s) (planned_of s k.shown.plan) (planned_of s h.plan) (sym (ap (has_line h.plan) at) ∙ none)) (on.has.types s);
           };
           rest = rest_skipped less on none;
@@ -292,6 +352,7 @@ module _ (k : Known) (line : List ℕ) {n : ℕ} (less : n < row_count) (lacks :
     back = λ h is has. back h has;
     lines = λ h is has. before_next h n less ∙ ap (λ l. lines_before h n ++ l) (rows_when h (row_at n) false (none_there (row_at n) refl h has)) ∙ append-nil (lines_before h n);
     none = λ i low high. let e : i ≡ n = omega (arith, low, high) in ap (λ j. known_line k line (row_at j)) e ∙ lacks;
+    slots = slots_skipped (row_at n) refl;
     sized = λ s. to_next (λ s rows. AreSized s rows (counted k s) (planned_of s k.shown.plan)) s (λ row at z. skip_sized s row (counted k s) (planned_of s k.shown.plan) z (known_rows s row at)) (sized s);
     expected = not_last n k line less lacks;
   }
@@ -303,11 +364,12 @@ same_on k line a b c s t = record {
   lines = λ h is has. t.lines h is has ∙ s.lines h is (t.back h is has);
   none = λ i low high. less_or (known_line k line (row_at i) ≡ false) i b (λ l. s.none i low l) (λ m. t.none i m high);
   sized = t.sized;
+  slots = t.slots;
   expected = t.expected;
 }
 
 pub here : (k : Known) (line : List ℕ) (n : ℕ) → IsHeadAt k n → SameFrom k line n n
-here k line n at = record { goes = λ h others left on. on; back = λ h is has. has; lines = λ h is has. refl; none = λ i low high. absurd (omega (arith, low, high)); sized = at.sized; expected = at.expected }
+here k line n at = record { goes = λ h others left on. on; back = λ h is has. has; lines = λ h is has. refl; none = λ i low high. absurd (omega (arith, low, high)); sized = at.sized; slots = at.slots; expected = at.expected }
 
 -- ---- a row with a line
 
@@ -336,9 +398,9 @@ takes_from {line = line} s t = record {
 pub none_from : {k : Known} {line : List ℕ} {a b : ℕ} → SameFrom k line a b → NoneGoesOn k b line → NoneGoesOn k a line
 none_from s none h others left on = none h others left (s.goes h others left on)
 
-pub none_at : {k : Known} {line : List ℕ} {n : ℕ} (r : HeaderRow) → n < row_count → known_line k line (row_at n) ≡ true → row_at n ≡ r → RefusesHeaderLine r line → NoneGoesOn k n line
+pub none_at : {k : Known} {line : List ℕ} {n : ℕ} (r : HeaderRow) → n < row_count → known_line k line (row_at n) ≡ true → row_at n ≡ r → RefusesHeaderLine k r line → NoneGoesOn k n line
 none_at {k} {line} {n} r less has at refuses h others left on =
-    refuses h on.is (ap (shown_line h) (sym at) ∙ shows_next less on (present less on ∙ has))
+    refuses h on.is (subst (λ m. Has k m h) (place_at n r less at) on.has) (ap (shown_line h) (sym at) ∙ shows_next less on (present less on ∙ has))
 
 pub single : (x y : List ℕ) → ◌≡◌ {A = List (List ℕ)} (x ∷ []) (y ∷ []) → x ≡ y
 single x y e = cc
@@ -365,11 +427,11 @@ before_last n r less is other = grind (arith, less_or)
 
 -- the line was taken; the next row is expected if some plan fits, and else no header goes on with the line
 pub decided : {old new : Known} {from n : ℕ} {line : List ℕ} (r : HeaderRow) {result : Result Expected Refusal} → n < row_count → row_at n ≡ r → r ≢ End → Takes old from line new (n + 1) → AreValid new
-    → ((s : System) → AreSized s (types_before s (suc n)) (counted new s) (planned_of s new.shown.plan)) → result ≡ expected_if (fits new (n + 1)) (n + 1) → TakesHeaderLine old from line new result
-decided {old} {new} {from} {n} {line} r less at other takes valid sized e = subst (TakesHeaderLine old from line new) (sym e) (by (fits new (n + 1)) refl) where
+    → ((s : System) → AreSized s (types_before s (suc n)) (counted new s) (planned_of s new.shown.plan)) → AreSlotsAt new (suc n) → result ≡ expected_if (fits new (n + 1)) (n + 1) → TakesHeaderLine old from line new result
+decided {old} {new} {from} {n} {line} r less at other takes valid sized slots e = subst (TakesHeaderLine old from line new) (sym e) (by (fits new (n + 1)) refl) where
   next : suc n ≡ n + 1
   next = omega arith
 
   by : (b : Bool) → fits new (n + 1) ≡ b → TakesHeaderLine old from line new (expected_if b (n + 1))
-  by true fit = record { takes = takes; at = record { valid = valid; sized = λ s. subst (λ m. AreSized s (types_before s m) (counted new s) (planned_of s new.shown.plan)) next (sized s); fitting = λ l. fit; expected = before_last n r less at other } }
+  by true fit = record { takes = takes; at = record { valid = valid; sized = λ s. subst (λ m. AreSized s (types_before s m) (counted new s) (planned_of s new.shown.plan)) next (sized s); slots = subst (AreSlotsAt new) next slots; fitting = λ l. fit; expected = before_last n r less at other } }
   by false lacks = λ h others left on. let b = takes.goes h others left on in let fit = has_fits new (n + 1) h (omega arith) b.is b.has in cc

@@ -1,12 +1,14 @@
 -- A line of types: the columns of the signals that begin in it, and the signals that are read from it.
 use Rattle.std.proofs.lemmas.Str.Ascii.{IsAscii-from_all}
-use Rattle.std.proofs.lemmas.List.Folds.{Any-from_list_any}
+use Rattle.gnss_system.proofs.Checked.{passes_below}
+use Rattle.gnss_system.proofs.SystemLaws.{each_system}
+use Rattle.gnss_obs.proofs.PlanLemmas.{few_below}
 use Rattle.std.proofs.lemmas.List.Sums.{AllPass-from_list_all}
 use Rattle.std.proofs.lemmas.List.Concat.{get_or-flat_map}
 use Rattle.std.proofs.lemmas.List.{get_or-map}
 use Rattle.rinex_file.proofs.Entries.{flat_map-append}
 use Rattle.rinex_file.proofs.Digits.Numbers.{length-right, digits_in-whole}
-use Rattle.rinex_file.proofs.Names.{min, ◌-◌, length-take, length-drop, arith, rules, ◌≡◌, ◌∙◌, ap, refl, ℕ, zero, suc, ◌+◌, ◌<◌, ◌≤◌, ◌==◌, Bool, true, false, List, [], ◌∷◌, length, take, drop, Some, Option, nat_lt, sym, ◌*◌, ◌/◌, ◌%◌, ◌++◌, get_or, append_assoc, append-nil, ap₂, subst, ◌^◌, ◌||◌, replicate, decimal, nat_eq, IsAscii, IsUtf8, flat_map, slice_index, codes, All, list_any, IsDistinct, IsUtf8-from_ascii, cases_lt, length-map, take_more, get_or-drop, take_all, take_at, take-take, take-map, drop_at, drop-drop, drop-take, get_or-take, All-get_or, apart_from_distinct, IsDistinct-tail, length-le_from_distinct_below, length-decimal-le, System, Gps, Galileo, SignalAt, IsSignal, table, code_of, signal_of_code, passes_at, is_less, is_equal, indices, IsOf, any_index, indices-push, type_of, types_of, codes_of, type_columns, header_line, type_front, joined, left, right, letter, digits_in, AreTypes, types_line, signals_begun, HasSignalAt, same_Some, list_all, All-weaker, eqb-true, most_signals}
+use Rattle.rinex_file.proofs.Names.{min, ◌-◌, length-take, length-drop, arith, rules, ◌≡◌, ◌∙◌, ap, refl, ℕ, zero, suc, ◌+◌, ◌<◌, ◌≤◌, ◌==◌, Bool, true, false, List, [], ◌∷◌, length, take, drop, Some, Option, nat_lt, sym, ◌*◌, ◌/◌, ◌%◌, ◌++◌, get_or, append_assoc, append-nil, ap₂, subst, ◌^◌, ◌||◌, replicate, decimal, nat_eq, IsAscii, IsUtf8, flat_map, slice_index, codes, list_any, IsDistinct, IsUtf8-from_ascii, cases_lt, length-map, take_more, get_or-drop, take_all, take_at, take-take, take-map, drop_at, drop-drop, drop-take, get_or-take, All-get_or, apart_from_distinct, IsDistinct-tail, length-decimal-le, System, SignalAt, IsSignal, table, code_of, signal_of_code, passes_at, is_less, is_equal, indices, IsOf, any_index, indices-push, type_of, types_of, codes_of, type_columns, header_line, type_front, joined, left, right, letter, digits_in, AreTypes, types_line, signals_begun, HasSignalAt, same_Some, list_all, All-weaker, most_signals}
 
 abbrev signal : System → ℕ → SignalAt
 signal system index = record { system = system; index = index }
@@ -17,20 +19,21 @@ abbrev two_bytes : System → ℕ → Bool
 two_bytes system i = length (code_of (signal system i)) == 2
 
 pub length-code : (system : System) (i : ℕ) → i < length (table system) → length (code_of (signal system i)) ≡ 2
-length-code Gps i h = is_equal _ _ (passes_at (two_bytes Gps) 15 i refl h)
-length-code Galileo i h = is_equal _ _ (passes_at (two_bytes Galileo) 19 i refl h)
+length-code system i h = is_equal _ _ (passes_at (two_bytes system) (length (table system)) i (each_system (λ s. passes_below (two_bytes s) (length (table s))) system refl) h)
 
 -- ---- ASCII
 
 abbrev ascii_bytes : List ℕ → Bool
 ascii_bytes bs = list_all (λ b. nat_lt b 128) bs
 
+abbrev ascii_code : System → ℕ → Bool
+ascii_code system i = ascii_bytes (code_of (signal system i))
+
 ascii_from : (bs : List ℕ) → ascii_bytes bs ≡ true → IsAscii bs
 ascii_from bs h = IsAscii-from_all bs (All-weaker (λ b. nat_lt b 128 ≡ true) (λ b. b < 128) (λ b less. is_less b 128 less) bs (AllPass-from_list_all (λ b. nat_lt b 128) bs h))
 
 pub utf8-code : (system : System) (i : ℕ) → i < length (table system) → IsUtf8 (code_of (signal system i))
-utf8-code Gps i h = IsUtf8-from_ascii _ (ascii_from _ (passes_at (λ j. ascii_bytes (code_of (signal Gps j))) 15 i refl h))
-utf8-code Galileo i h = IsUtf8-from_ascii _ (ascii_from _ (passes_at (λ j. ascii_bytes (code_of (signal Galileo j))) 19 i refl h))
+utf8-code system i h = IsUtf8-from_ascii _ (ascii_from _ (passes_at (ascii_code system) (length (table system)) i (each_system (λ s. passes_below (ascii_code s) (length (table s))) system refl) h))
 
 -- ---- one signal
 
@@ -305,13 +308,8 @@ shown_line system all so_far row count size is = grind (arith, length-system_typ
 
 -- ---- the number of signals
 
-among_listed : (most : ℕ) (all : List ℕ) → All (λ i. i < most) all → (q : ℕ) → list_any (nat_eq q) all ≡ true → q < most
-among_listed most all listed q found =
-    let (k, x, less, is, same) = Any-from_list_any (nat_eq q) all found in
-    subst (λ (n : ℕ). n < most) (is ∙ sym (eqb-true q x same)) (listed k x less)
-
 pub few_types : (system : System) (all : List ℕ) → AreTypes system all → length all ≤ length (table system)
-few_types system all are = length-le_from_distinct_below all (length (table system)) are.apart (among_listed (length (table system)) all are.listed)
+few_types system all are = few_below (length (table system)) all are.listed are.apart
 
 -- the first line has the number in its columns
 pub count_shown : (system : System) (all line : List ℕ) → AreTypes system all → length (table system) ≤ most_signals → line ≡ types_line system all 0

@@ -2,7 +2,7 @@
 use Rattle.rinex_file.proofs.FewRows.{few_most, few_rows, few_planned}
 use Rattle.rinex_file.proofs.Entries.{few_signals}
 use Rattle.std.proofs.Common.{le_trans}
-use Rattle.rinex_file.proofs.Names.{arith, ◌≡◌, refl, ℕ, ◌<◌, List, [], ◌∷◌, ◌++◌, length, length-append, suc, ◌+◌, ◌≤◌, sym, ap, ap₂, subst, ◌∙◌, append_assoc, append-nil, zero-add, drop, get_or, Option, Some, None, Expected, IsStrictlyIncreasing, All, map, flat_map, Result, Ok, Err, IsErrAnd, get_or_append_left, map-append, common_steps, All-head, All-tail, All-nil, All-push, flat_map-append, System, PlanValue, planned_of, civil_of, StationValues, Stamped, SatelliteRow, FileValue, time_stamped, IsFileValue, IsPlan, IsStamped, IsSatelliteRow, AreSatelliteRows, IsTime, IsChange, AreChanges, IsFirstSame, changed_by, values_following, rank_of, most_rows, planned_in, Epoch, Satellite, epoch_line, satellite_line, stamped_lines, change_lines, event_line, Progress, file_with, stamped, StartsAt, IsAt, IsBetween, IsInEvent, IsInEpoch, HasLinesLeft, epoch_after, begun_at, with_row, with_epoch, AreRead, IsBegun, IsEventExpected, IsSoundAt, IsSound, MayBegin, values_now, AreLinesAt, lines_of_header, whole_lines, part_lines, AddedRow, Refusal, Memory, Bad, ParserState, History, FollowsHistory, GoesOnWithLine, ShowsLine, RefusesLine, TakesLine, progress_at, Known, NoRow, IsNext, most_signals}
+use Rattle.rinex_file.proofs.Names.{arith, ◌≡◌, refl, ℕ, ◌<◌, List, [], ◌∷◌, ◌++◌, length, length-append, suc, ◌+◌, ◌≤◌, sym, ap, ap₂, subst, ◌∙◌, append_assoc, append-nil, zero-add, drop, get_or, Option, Some, None, Expected, IsStrictlyIncreasing, All, map, flat_map, Result, Ok, Err, IsErrAnd, get_or_append_left, map-append, common_steps, All-head, All-tail, All-nil, All-push, flat_map-append, System, PlanValue, planned_of, civil_of, StationValues, Stamped, SatelliteRow, FileValue, time_stamped, IsFileValue, IsPlan, IsStamped, IsSatelliteRow, AreSatelliteRows, IsTime, IsChange, AreChanges, IsFirstSame, changed_by, values_following, rank_of, most_rows, planned_in, Epoch, Satellite, epoch_line, satellite_line, stamped_lines, change_lines, event_line, Progress, file_with, stamped, StartsAt, IsAt, IsAtEpoch, IsInEvent, IsInEpoch, HasLinesLeft, epoch_after, begun_at, with_row, with_epoch, AreRead, IsBegun, IsEventExpected, IsSoundAt, IsSound, MayBegin, values_now, AreLinesAt, lines_of_header, whole_lines, part_lines, AddedRow, Refusal, Memory, Bad, ParserState, History, FollowsHistory, GoesOnWithLine, ShowsLine, RefusesLine, TakesLine, progress_at, Known, NoRow, IsNext, most_signals}
 
 -- a line was refused: memory ran out, or no file continues with it
 pub stopped : {Q : Refusal → Type 0} (old new : ParserState) (line : List ℕ) (r : Result AddedRow Refusal) → IsErrAnd r Q → ((e : Refusal) → Q e → e ≡ Bad → (h : History) → FollowsHistory old h → RefusesLine (progress_at old h) line)
@@ -134,7 +134,7 @@ from_others {s} {v} {line} {left} (e ∷ es) never is value starts rest = by e.c
 pub epoch_next : (s : Progress) (c : Option StationValues) (v : FileValue) (line : List ℕ) (left : List (List ℕ)) → s.expected ≡ epoch_after c → (c ≡ None → NoEvent s line) → HasLinesLeft s v (line ∷ left) → EpochNext s c v line left
 unfolding HasLinesLeft
 epoch_next s None v line left expected never (is, at) =
-    let here : IsBetween s v (line ∷ left) = subst (λ d. IsAt s d v (line ∷ left)) expected at in
+    let here : IsAtEpoch s v (line ∷ left) = subst (λ d. IsAt s d v (line ∷ left)) expected at in
     from_others here.others (never refl) is here.value here.starts here.rest
 epoch_next s (Some w) v line left expected never (is, at) =
     let here : IsInEvent s 3 (λ x. x ≡ w) v (line ∷ left) = subst (λ d. IsAt s d v (line ∷ left)) expected at in
@@ -336,7 +336,7 @@ last_shows s line expected row shown taken are =
 
 from_none : (s : Progress) {v : FileValue} {left : List (List ℕ)} (more : List SatelliteRow) (others : List Stamped) → length more ≡ 0
     → v ≡ file_with s (s.epochs ++ stamped s (s.rows ++ more) ∷ others) → StartsAt s.known.shown.first (s.epochs ++ stamped s (s.rows ++ more) ∷ others)
-    → left ≡ map satellite_line more ++ flat_map stamped_lines others → IsBetween (with_epoch s) v left
+    → left ≡ map satellite_line more ++ flat_map stamped_lines others → IsAtEpoch (with_epoch s) v left
 from_none s (m ∷ ms) others count value starts rest = absurd (omega (arith, count))
 from_none s [] others count value starts rest = grind (arith, append-nil, append_assoc)
 

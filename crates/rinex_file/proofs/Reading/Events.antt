@@ -1,7 +1,7 @@
 -- The steps of a reading from one line of an event to the next.
 use Rattle.rinex_file.proofs.Digits.Numbers.{has-append}
 use Rattle.rinex_file.proofs.Reading.Epochs.{lines_with, lines_are, changes_midst, sound_between, at_expected, file_value, cons_parts}
-use Rattle.rinex_file.proofs.Names.{arith, lit<, ◌≡◌, ◌≢◌, ℕ, zero, suc, ◌<◌, ◌^◌, ◌-◌, ◌*◌, ◌/◌, ◌%◌, unsigned_abs, ℤ, pos, get_or, List, [], ◌∷◌, ◌++◌, refl, sym, ap, subst, ◌∙◌, length, drop, append_assoc, replicate, decimal, Option, Some, None, true, false, ⊤, ◌||◌, flat_map, is_negative, sign_text, civil_of, Civil, StationValues, Expected, Epoch, EventPosition, EventHeight, EventEpoch, Stamped, FileValue, IsFileValue, IsChange, position_line, height_line, epoch_fields, epoch_line, joined, padded, fixed, has, stamped_lines, event_line, whole_lines, GoesOnWithLine, ShowsLine, Progress, file_with, StartsAt, IsAt, IsBetween, IsInEvent, IsPosition, position_of, HasLinesLeft, expected_next, IsSound, AreLinesAt, values_now, drop-cons}
+use Rattle.rinex_file.proofs.Names.{arith, lit<, ◌≡◌, ◌≢◌, ℕ, zero, suc, ◌<◌, ◌^◌, ◌-◌, ◌*◌, ◌/◌, ◌%◌, unsigned_abs, ℤ, pos, get_or, List, [], ◌∷◌, ◌++◌, refl, sym, ap, subst, ◌∙◌, length, drop, append_assoc, replicate, decimal, Option, Some, None, true, false, ⊤, ◌||◌, flat_map, is_negative, sign_text, civil_of, Civil, StationValues, Expected, Epoch, EventPosition, EventHeight, EventEpoch, Stamped, FileValue, IsFileValue, IsChange, position_line, height_line, epoch_fields, epoch_line, joined, padded, fixed, has, stamped_lines, event_line, whole_lines, GoesOnWithLine, ShowsLine, Progress, file_with, StartsAt, IsAt, IsAtEpoch, IsInEvent, IsPosition, position_of, HasLinesLeft, expected_next, IsSound, AreLinesAt, values_now, drop-cons}
 
 -- ---- an event's line isn't that of an epoch, which has a point
 
@@ -69,7 +69,7 @@ event_with h shown rest =
 pub event_taken : (s : Progress) (line : List ℕ) → s.expected ≡ Epoch → line ≡ event_line → GoesOnWithLine s (expected_next s EventPosition) line
 unfolding HasLinesLeft
 event_taken s line expected shown v left on =
-    let here : IsBetween s v (line ∷ left) = subst (λ d. IsAt s d v (line ∷ left)) expected on.1 in
+    let here : IsAtEpoch s v (line ∷ left) = subst (λ d. IsAt s d v (line ∷ left)) expected on.1 in
     (on.0, event_begins s here.others shown here.value here.starts here.rest)
 
 pub event_shows : (s : Progress) (line : List ℕ) → s.expected ≡ Epoch → line ≡ event_line → ShowsLine s (expected_next s EventPosition) line

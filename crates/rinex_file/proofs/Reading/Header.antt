@@ -4,7 +4,7 @@ use Rattle.rinex_file.proofs.HeaderRows.Some.{none_before, some_shown}
 use Rattle.rinex_file.proofs.HeaderRows.End.{zero_values}
 use Rattle.rinex_file.proofs.Reading.Lines.{consumed}
 use Rattle.rinex_file.proofs.Reading.Epochs.{lines_with, lines_are, sound_open, sound_between, at_expected, file_value}
-use Rattle.rinex_file.proofs.Names.{Has, GoesOn, AreSized, AreTypesOf, types_before, counted, planned_of, System, shown_of, arith, ◌≡◌, ◌∙◌, sym, ap, refl, ℕ, zero, suc, ◌+◌, ◌<◌, pos, List, [], ◌∷◌, ◌++◌, length, Option, IfSome, lit<, subst, take, drop, append-nil, None, Some, ⊤, map, flat_map, All-head, All-nil, length-map, nil_from_length, StationValues, civil_of, ParserState, Expected, Header, Epoch, EventPosition, EventHeight, EventEpoch, Satellite, IsChange, IsFileValue, AreBegun, IsEventBegun, lines_of_header, whole_lines, AreBefore, IsExpectedAt, Progress, IsPosition, shown_with, lines_after, stamped, Known, Shown, IsShown, IsHeadAt, file_with, StartsAt, IsInHeader, IsAt, IsBetween, IsInEvent, position_of, IsInEpoch, HasLinesLeft, RefusesLine, IsSound, IsSoundAt, IsEventExpected, AreLinesAt, values_now, AreRead, AreLinesOf, History, FollowsHistory, progress_at, GoesOnWithLine, ShowsLine, IsTaken, SatelliteRow, Stamped, FileValue, header_lines, satellite_line, event_lines, stamped_lines, file_lines, lines_of_parts, GoesTo, EndsHeader, NoneGoesOn}
+use Rattle.rinex_file.proofs.Names.{Has, GoesOn, AreSized, AreTypesOf, types_before, counted, planned_of, System, shown_of, arith, ◌≡◌, ◌∙◌, sym, ap, refl, ℕ, zero, suc, ◌+◌, ◌<◌, pos, List, [], ◌∷◌, ◌++◌, length, Option, IfSome, lit<, subst, take, drop, append-nil, inl, inr, AreBegunWith, None, Some, ⊤, map, flat_map, All-head, All-nil, length-map, nil_from_length, StationValues, civil_of, ParserState, Expected, Header, Epoch, EventPosition, EventHeight, EventEpoch, Satellite, IsChange, IsFileValue, AreBegun, IsEventBegun, lines_of_header, whole_lines, AreBefore, IsExpectedAt, Progress, IsPosition, shown_with, lines_after, stamped, Known, Shown, IsShown, IsHeadAt, file_with, StartsAt, IsInHeader, IsAt, IsAtEpoch, IsInEvent, position_of, IsInEpoch, HasLinesLeft, RefusesLine, IsSound, IsSoundAt, IsEventExpected, AreLinesAt, values_now, AreRead, AreLinesOf, History, FollowsHistory, progress_at, GoesOnWithLine, ShowsLine, IsTaken, SatelliteRow, Stamped, FileValue, header_lines, satellite_line, event_lines, stamped_lines, file_lines, lines_of_parts, GoesTo, EndsHeader, NoneGoesOn}
 
 some_lines : (xs : List (List ℕ)) → (xs ≡ [] → ⊥) → 0 < length xs
 some_lines [] some = absurd (some refl)
@@ -66,6 +66,16 @@ are_before s (Satellite n) lines sound are = record {
   are = are;
 }
 
+-- the same with the epochs that were read
+pub begun_with : (s : Progress) (expected : Expected) (lines : List (List ℕ)) → IsSoundAt s expected → AreLinesAt s expected lines → AreBegunWith s.epochs lines
+unfolding are_before event_before
+begun_with s (Header place) lines sound are = inl (sound.0, are_before s (Header place) lines sound are)
+begun_with s Epoch lines sound are = inr (inl (are_before s Epoch lines sound are, refl))
+begun_with s EventPosition lines sound are = inr (inr (inl (are_before s EventPosition lines sound are, refl)))
+begun_with s (EventHeight p) lines sound are = inr (inr (inr (inl (are_before s (EventHeight p) lines sound are, refl))))
+begun_with s (EventEpoch w) lines sound are = inr (inr (inr (inr (inl (are_before s (EventEpoch w) lines sound are, refl)))))
+begun_with s (Satellite n) lines sound are = inr (inr (inr (inr (inr (are_before s (Satellite n) lines sound are, refl)))))
+
 are_begun : (expected : Expected) (lines : List (List ℕ)) → AreBefore expected lines → AreBegun lines
 are_begun v0 lines h = grind arith
 
@@ -124,7 +134,7 @@ module _ (s : Progress) {place : ℕ} (line : List ℕ) (expected : s.expected �
     header_shows taken are h is has = ap (λ l. l ++ line ∷ []) (subst (λ d. AreLinesAt s d taken) expected are h is (goes.takes.back h is has)) ∙ sym (goes.takes.lines h is has)
 
   module _ {k : Known} (none : s.epochs ≡ []) (end : EndsHeader s.known place line k) where
-    ended : (v : FileValue) (left : List (List ℕ)) → IsFileValue v → IsInHeader s place v (line ∷ left) → IsBetween (known_as s k Epoch) v left
+    ended : (v : FileValue) (left : List (List ℕ)) → IsFileValue v → IsInHeader s place v (line ∷ left) → IsAtEpoch (known_as s k Epoch) v left
     ended v left is here =
         let (header, rest) = end.goes _ _ left (goes_on_with is here) in
         let all = here.first ∷ here.others in

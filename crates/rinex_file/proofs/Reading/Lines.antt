@@ -59,6 +59,11 @@ leaves_more a b c (xs, first) (ys, next) = (xs ++ ys, Consumes-trans a b c xs ys
 pub leaves_all : (a : Option (List ℕ)) → LeavesRest a a
 leaves_all a = ([], Consumes-nil a)
 
+-- nothing was read ahead
+pub none_ahead : (r : Option (List ℕ)) (block : List ℕ) → block ≡ [] → prepend_known block r ≡ r
+none_ahead None block e = refl
+none_ahead (Some x) block e = ap (λ b. Some (b ++ x)) e
+
 -- no byte is left ahead, nor of the reader
 pub at_end : (ahead : List ℕ) (r : Option (List ℕ)) → ahead ≡ [] → IsAtEnd r → IsAtEnd (prepend_known ahead r)
 at_end ahead v1 none end = grind arith

@@ -13,12 +13,13 @@ some_times (e ∷ es) None are some = cc
 pub has_times : (c : ParserState) (h : History) (input : Option (List ℕ)) → IsWhole c h input → is_some c.times ≡ true
 has_times c h input whole = some_times h.epochs c.times whole.history.counted.times whole.is.some
 
-module _ {c : ParserState} (s : FileSummary) (counts : s.counts ≡ c.counts) (times : c.times ≡ Some s.times) {h : History} {input : Option (List ℕ)} (whole : IsWhole c h input) where
-  summed : IsSummary s (file_at c h)
-  summed = let counted = whole.history.counted in grind (arith, no_rows_more, subst (AreTimesOrNone (map time_stamped h.epochs)) times counted.times)
+pub summed : {c : ParserState} (s : FileSummary) → s.counts ≡ c.counts → c.times ≡ Some s.times → {h : History} {input : Option (List ℕ)} → IsWhole c h input → IsSummary s (file_at c h)
+summed s counts times {h} whole = let counted = whole.history.counted in grind (arith, no_rows_more, subst (AreTimesOrNone (map time_stamped h.epochs)) times counted.times)
 
-  pub summary_found : IsTextWith (IsSummary s) input
-  summary_found = record { v = file_at c h; is = whole.is; few = whole.few; text = said_of input _ _ (λ bytes text. text.same) whole.text; holds = summed }
+-- what holds of the file that was read whole
+module _ {c : ParserState} {h : History} {input : Option (List ℕ)} (whole : IsWhole c h input) (Holds : FileValue → Type 0) (holds : Holds (file_at c h)) where
+  pub text_with : IsTextWith Holds input
+  text_with = record { v = file_at c h; is = whole.is; few = whole.few; text = said_of input _ _ (λ bytes text. text.same) whole.text; holds = holds }
 
-  pub summary_only : (v : FileValue) → IsFileValue v → IfSome input (λ bytes. bytes ≡ file_text v → IsSummary s v)
-  summary_only v is = said_of input _ _ (λ bytes text same. subst (IsSummary s) (sym (text.only v is same)) summed) whole.text
+  pub only_with : (v : FileValue) → IsFileValue v → IfSome input (λ bytes. bytes ≡ file_text v → Holds v)
+  only_with v is = said_of input _ _ (λ bytes text same. subst Holds (sym (text.only v is same)) holds) whole.text

@@ -1,8 +1,7 @@
 -- A satellite's cells, each stored at its signal's index in the plan.
-use Rattle.rinex_file.proofs.HeaderRows.Texts.{trimmed-blanks}
-use Rattle.rinex_file.proofs.Rows.Sizes.{if_fits, length-room, length-signals}
+use Rattle.rinex_file.proofs.Rows.Sizes.{if_fits, length-room}
 use Rattle.rinex_file.proofs.Digits.Padded.{two_digits}
-use Rattle.rinex_file.proofs.Names.{arith, ◌≡◌, ◌∙◌, sym, ap, ap₂, refl, subst, ℕ, zero, suc, ◌+◌, ◌*◌, ◌-◌, ◌<◌, ◌≤◌, List, [], ◌∷◌, ◌++◌, map, take, drop, length, replicate, get_or, append_assoc, length-append, false, ◌==◌, Some, None, slice_set, ◌&&◌, ◌≢◌, nat_eq, find, flat_map, position, All, if◌then◌else◌, option_map_or, IsDistinct, position_or_len, take_at, drop_at, drop_all, length-drop, length-take-le, length-replicate, length-set, take-append-le, drop-append-le, drop-take, replicate-append-replicate, cond_both, and_from, and_right, eq-eqb, ne_eqb, eqb-true, eqb-false, position-Some, All-from_recursion, All-head, All-tail, All-map, fails_before_first, System, Cell, IsHeld, SignalValues, signal_values_of, no_signal_values, signal_values_at, is_of_key, HaveRoom, trimmed, field, signal_text, HasSignals, padded, take-append-add, drop-append-add}
+use Rattle.rinex_file.proofs.Names.{arith, ◌≡◌, ◌∙◌, sym, ap, ap₂, refl, ℕ, zero, suc, ◌+◌, ◌*◌, ◌<◌, ◌≤◌, List, [], ◌∷◌, ◌++◌, map, take, drop, length, replicate, get_or, append_assoc, length-append, false, ◌==◌, Some, None, slice_set, ◌&&◌, ◌≢◌, nat_eq, find, flat_map, position, All, if◌then◌else◌, option_map_or, IsDistinct, position_or_len, take_at, drop_at, length-take-le, replicate-append-replicate, cond_both, and_from, and_right, eq-eqb, ne_eqb, eqb-true, eqb-false, position-Some, All-from_recursion, All-head, All-tail, fails_before_first, System, Cell, IsHeld, SignalValues, signal_values_of, no_signal_values, signal_values_at, is_of_key, HaveRoom, field, signal_text, padded, take-append-add, drop-append-add}
 
 -- ---- what a cell before others changes
 
@@ -56,7 +55,7 @@ cell_put signals id p c rest apart is own =
     ∙ set_place p signals within (eqb-true (get_or signals p 0) c.signal.index here) apart (others_stay c rest id)
 
 -- the values of cells fit their columns
-none_fit : HaveRoom no_signal_values
+pub none_fit : HaveRoom no_signal_values
 none_fit = record { c = tt; l = tt; d = tt; s = tt; lli = omega arith }
 
 -- what holds of the values of each cell, and if there is none, holds of those at a signal
@@ -66,13 +65,13 @@ found_as P Q id index each none (c ∷ cells) all =
     cond_both (is_of_key id index c) (Some c) (find (is_of_key id index) cells) (λ o. Q (option_map_or signal_values_of o no_signal_values)) (λ is. each c (All-head P c cells all))
     (λ isnt. found_as P Q id index each none cells (All-tail P c cells all))
 
-pub all_fit : (system : System) (cells : List Cell) (id : ℕ) (signals : List ℕ) → All (IsHeld system) cells → All HaveRoom (map (signal_values_at cells id) signals)
-all_fit system cells id signals all = All-map HaveRoom (signal_values_at cells id) signals (λ k d less. found_as (IsHeld system) HaveRoom id (get_or signals k d) (λ c h. record { c = if_fits c.c h.c; l = if_fits c.l h.l; d = if_fits c.d h.d; s = if_fits c.s h.s; lli = h.lli }) none_fit cells all)
+pub held_fits : (system : System) (c : Cell) → IsHeld system c → HaveRoom (signal_values_of c)
+held_fits system c h = record { c = if_fits c.c h.c; l = if_fits c.l h.l; d = if_fits c.d h.d; s = if_fits c.s h.s; lli = h.lli }
 
 -- ---- the signals of a line
 
 -- the columns of a signal are replaced
-replaced : (values : List SignalValues) (p : ℕ) (v : SignalValues) → All HaveRoom values → p < length values
+pub replaced : (values : List SignalValues) (p : ℕ) (v : SignalValues) → All HaveRoom values → p < length values
     → take (64 * p) (flat_map signal_text values) ++ (signal_text v ++ drop 64 (drop (64 * p) (flat_map signal_text values))) ≡ flat_map signal_text (slice_set values p v)
 replaced [] p v all h = absurd (omega (arith, h))
 replaced (x ∷ values) zero v all h = ap (λ t. signal_text v ++ t) (drop_at (signal_text x) (flat_map signal_text values) 64 (length-room x (All-head HaveRoom x values all)))
@@ -84,94 +83,14 @@ replaced (x ∷ values) (suc p) v all h =
     ∙ append_assoc (signal_text x) (take (64 * p) (flat_map signal_text values)) (signal_text v ++ drop 64 (drop (64 * p) (flat_map signal_text values)))
     ∙ ap (λ t. signal_text x ++ t) (replaced values p v (All-tail HaveRoom x values all) (omega (arith, h)))
 
--- the place of a signal in a line that begins with three columns
-pub record HasPlace (front : List ℕ) (values : List SignalValues) (p : ℕ) : Type 0 where
-  pub three : length front ≡ 3
-  pub room : All HaveRoom values
-  pub within : p < length values
-
--- a line of which some columns are replaced, with blanks at its end
-pub put_signal : {front : List ℕ} (line blank : List ℕ) {values : List SignalValues} {p : ℕ} (v : SignalValues) → HasPlace front values p → 3 + 64 * p + 64 ≤ length line
-    → line ++ blank ≡ front ++ flat_map signal_text values → (take (3 + 64 * p) line ++ (signal_text v ++ drop 64 (drop (3 + 64 * p) line))) ++ blank ≡ front ++ flat_map signal_text (slice_set values p v)
-put_signal {front} line blank {values} {p} v place within is =
-    let n = 3 + 64 * p in
-    let f = flat_map signal_text values in
-    let size : n ≡ length front + 64 * p = omega (arith, place.three) in
-    let a : take n line ≡ front ++ take (64 * p) f = sym (take-append-le n line blank (omega (arith, within))) ∙ ap₂ take size is ∙ take-append-add front f (64 * p) in
-    let long : 64 ≤ length (drop n line) = rw length-drop (omega (arith, within)) in
-    let b : drop 64 (drop n line) ++ blank ≡ drop 64 (drop (64 * p) f) =
-    sym (drop-append-le 64 (drop n line) blank long) ∙ ap (drop 64) (sym (drop-append-le n line blank (omega (arith, within))) ∙ ap₂ drop size is ∙ drop-append-add front f (64 * p)) in
-    append_assoc (take n line) (signal_text v ++ drop 64 (drop n line)) blank
-    ∙ ap₂ (λ x y. x ++ y) a (append_assoc (signal_text v) (drop 64 (drop n line)) blank ∙ ap (λ t. signal_text v ++ t) b)
-    ∙ append_assoc front (take (64 * p) f) (signal_text v ++ drop 64 (drop (64 * p) f)) ∙ ap (λ t. front ++ t) (replaced values p v place.room place.within)
-
-length-columns_put : (x text : List ℕ) (n : ℕ) → n + 64 ≤ length x → length text ≡ 64 → length (take n x ++ (text ++ drop 64 (drop n x))) ≡ length x
-length-columns_put x text n h l = grind (arith, length-take-le, length-drop, length-append, (length-drop 64 (drop n x) ∙ ap (λ k. k - 64) (length-drop n x)))
-
--- a line has no more columns than its signals
-short_line : (line front : List ℕ) (values : List SignalValues) → length front ≡ 3 → All HaveRoom values → HasSignals line front values → length line ≤ 3 + 64 * length values
-short_line line front values l all is =
-    let total : length (front ++ flat_map signal_text values) ≡ 3 + 64 * length values = length-append front (flat_map signal_text values) ∙ ap₂ (λ a b. a + b) l (length-signals values all) in
-    let parts : length (line ++ replicate (3 + 64 * length values - length line) 32) ≡ length line + (3 + 64 * length values - length line) =
-    length-append line (replicate (3 + 64 * length values - length line) 32) ∙ ap (λ k. length line + k) (length-replicate (3 + 64 * length values - length line) 32) in
-    let same = ap length is in
-    omega (arith, total, parts, same)
-
--- blanks at the end of a line change nothing
-more_blanks : (line front : List ℕ) (values : List SignalValues) (m : ℕ) → HasSignals line front values → length line + m ≤ 3 + 64 * length values → HasSignals (line ++ replicate m 32) front values
-more_blanks line front values m is few = grind (arith, length-append, length-replicate, append_assoc, replicate-append-replicate)
-
--- the columns of a signal are written into a line
-pub put_row : (old : List ℕ) {y text front : List ℕ} {others : List SignalValues} {p : ℕ} (v : SignalValues) → HasPlace front others p → HasSignals old front others
-    → HaveRoom v → y ≡ old ++ replicate (3 + 64 * p + 64 - length old) 32 → text ≡ signal_text v → 3 + 64 * p + 64 ≤ length y
-    → HasSignals (take (3 + 64 * p) y ++ (text ++ drop 64 (drop (3 + 64 * p) y))) front (slice_set others p v)
-put_row old {y} {text} {front} {others} {p} v place is room is_y is_text far =
-    let m : ℕ = 3 + 64 * p + 64 - length old in
-    let width = 3 + 64 * length others in
-    let blanks : ℕ = width - length y in
-    let text_size : length text ≡ 64 = ap length is_text ∙ length-room v room in
-    let short = short_line old front others place.three place.room is in
-    let size : length y ≡ length old + m = ap length is_y ∙ length-append old (replicate m 32) ∙ ap (λ k. length old + k) (length-replicate m 32) in
-    let before : HasSignals y front others = subst (λ (t : List ℕ). HasSignals t front others) (sym is_y) (more_blanks old front others m is (omega (arith, short, place.within))) in
-    let same : length (take (3 + 64 * p) y ++ (text ++ drop 64 (drop (3 + 64 * p) y))) ≡ length y = length-columns_put y text (3 + 64 * p) far text_size in
-    let count : 3 + 64 * length (slice_set others p v) - length (take (3 + 64 * p) y ++ (text ++ drop 64 (drop (3 + 64 * p) y))) ≡ blanks = ap₂ (λ a b. 3 + 64 * a - b) (length-set others p v) same in
-    ap (λ k. (take (3 + 64 * p) y ++ (text ++ drop 64 (drop (3 + 64 * p) y))) ++ replicate k 32) count
-    ∙ ap (λ t. (take (3 + 64 * p) y ++ (t ++ drop 64 (drop (3 + 64 * p) y))) ++ replicate blanks 32) is_text ∙ put_signal y (replicate blanks 32) v place far before
-
--- the first n columns of a row of which 64 are replaced
-pub first_columns : (row text : List ℕ) (s n : ℕ) → length text ≡ 64 → s + 64 ≤ n → n ≤ length row
-    → take n (take s row ++ (text ++ drop 64 (drop s row))) ≡ take s (take n row) ++ (text ++ drop 64 (drop s (take n row)))
-first_columns row text zero n l h within =
-    let size : n ≡ 64 + (n - 64) = omega (arith, h) in
-    let text_size : n ≡ length text + (n - 64) = omega (arith, h, l) in
-    ap (λ k. take k (text ++ drop 64 row)) text_size ∙ take-append-add text (drop 64 row) (n - 64)
-    ∙ ap (λ t. text ++ t) (sym (ap (λ k. drop 64 (take k row)) size ∙ drop-take 64 (n - 64) row))
-first_columns [] text (suc s) n l h within = absurd (omega (arith, h, within))
-first_columns (x ∷ row) text (suc s) zero l h within = absurd (omega (arith, h))
-first_columns (x ∷ row) text (suc s) (suc n) l h within = ap (λ t. x ∷ t) (first_columns row text s n l (omega (arith, h)) (omega (arith, within)))
-
--- a line and the blanks at its end
-pub trimmed_line : (line front : List ℕ) (values : List SignalValues) → HasSignals line front values → trimmed line ≡ trimmed (front ++ flat_map signal_text values)
-trimmed_line line front values is = sym (trimmed-blanks (3 + 64 * length values - length line) line) ∙ ap trimmed is
-
 -- ---- the beginning of a line
 
-none_text : (n : ℕ) → flat_map signal_text (replicate n no_signal_values) ≡ replicate (64 * n) 32
+pub none_text : (n : ℕ) → flat_map signal_text (replicate n no_signal_values) ≡ replicate (64 * n) 32
 unfolding signal_text field
 none_text zero = refl
 none_text (suc n) =
     let size : 64 + 64 * n ≡ 64 * suc n = omega arith in
     ap (λ b. replicate 64 32 ++ b) (none_text n) ∙ replicate-append-replicate {A = ℕ} 64 (64 * n) 32 ∙ ap (λ k. replicate {A = ℕ} k 32) size
-
--- letter and number, before any value
-begun : (front : List ℕ) (n : ℕ) → length front ≡ 3 → HasSignals front front (replicate n no_signal_values)
-begun front n l =
-    let count = length-replicate n no_signal_values in
-    let size : 3 + 64 * length (replicate n no_signal_values) - length front ≡ 64 * n = omega (arith, l, count) in
-    ap (λ k. front ++ replicate k 32) size ∙ ap (λ t. front ++ t) (sym (none_text n))
-
-pub begun_entries : {line front : List ℕ} (cells : List Cell) (id : ℕ) {n : ℕ} (signals : List ℕ) → line ≡ front → length front ≡ 3 → n ≡ length cells → HasSignals line front (map (signal_values_at (drop n cells) id) signals)
-begun_entries {front} cells id {n} signals is l size = rw (is, drop_all n cells (omega (arith, size)), none_put id signals) (begun front (length signals) l)
 
 -- a signal is written after others
 pub signal_after : (row text : List ℕ) {front more : List ℕ} (n : ℕ) {k : ℕ} → length text ≡ 64 → k ≡ 64 → n + 64 ≤ length row → take n row ≡ front → more ≡ take n row ++ (text ++ drop k (drop n row)) → take (n + 64) more ≡ front ++ text
@@ -184,6 +103,12 @@ signal_after row text n {k} size width within is put =
 pub three_set : (row : List ℕ) (a b c : ℕ) → 3 ≤ length row → take 3 (slice_set (slice_set (slice_set row 0 a) 1 b) 2 c) ≡ a ∷ b ∷ c ∷ []
 three_set (x ∷ y ∷ z ∷ row) a b c h = refl
 three_set row a b c h = absurd (omega (arith, h))
+
+pub three_dropped : (row : List ℕ) (a b c : ℕ) → drop 3 (slice_set (slice_set (slice_set row 0 a) 1 b) 2 c) ≡ drop 3 row
+three_dropped [] a b c = refl
+three_dropped (x ∷ []) a b c = refl
+three_dropped (x ∷ y ∷ []) a b c = refl
+three_dropped (x ∷ y ∷ z ∷ row) a b c = refl
 
 pub front_length : (letter id : ℕ) → id < 100 → length (letter ∷ padded 2 id) ≡ 3
 front_length letter id h = ap (λ t. suc (length t)) (two_digits id h)

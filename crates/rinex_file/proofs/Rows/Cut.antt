@@ -1,7 +1,7 @@
 -- Columns of a text whose blanks at the end were cut.
 use Rattle.rinex_file.proofs.OneReading.{signals_once}
 use Rattle.rinex_file.proofs.Rows.Written.{line_is, text_is}
-use Rattle.rinex_file.proofs.Names.{arith, ◌≡◌, ◌∙◌, sym, ap, ap₂, refl, subst, ℕ, ◌+◌, ◌-◌, ◌*◌, ◌/◌, ◌%◌, ◌<◌, ◌≤◌, List, [], ◌∷◌, ◌++◌, length, take, drop, replicate, get_or, append-nil, length-append, inl, inr, flat_map, All, Bool, true, false, list_any, cases_lt, length-drop, length-take, length-take-le, length_push, take_all, drop_all, take-append-le, drop-append-le, take-replicate, drop-replicate, length-replicate, Any-from_list_any, list_any-from_Any, min-le_left, take-append-add, drop-append-add, take-append_seam, SignalValues, SatelliteRow, no_signal_values, AreSignalValues, has_some_value, AreEntries, IsEnded, filled_to, padded, field, signal_text, satellite_line, letter, row_text, ReadsExactly, some_if}
+use Rattle.rinex_file.proofs.Names.{arith, ◌≡◌, ◌∙◌, sym, ap, ap₂, refl, subst, ℕ, ◌+◌, ◌-◌, ◌*◌, ◌/◌, ◌%◌, ◌<◌, ◌≤◌, List, [], ◌∷◌, ◌++◌, length, take, drop, replicate, get_or, append-nil, length-append, inl, inr, flat_map, All, Bool, true, false, list_any, cases_lt, length-drop, length-take, length-take-le, length_push, take_all, drop_all, take-append-le, drop-append-le, take-replicate, drop-replicate, length-replicate, Any-from_list_any, list_any-from_Any, min-le_left, take-append-add, drop-append-add, take-append_seam, SignalValues, SatelliteRow, no_signal_values, AreSignalValues, has_some_value, AreEntries, IsEnded, filled_to, padded, field, signal_text, satellite_line, letter, row_text, ReadsExactly, some_if, number_of}
 
 -- a text of the whole width is not padded
 pub filled_whole : (n : ℕ) (text : List ℕ) → length text ≡ n → filled_to n text ≡ text
@@ -127,7 +127,7 @@ filled_line line text n t cut is =
 
 -- letter, number and signals
 row_is : (text : List ℕ) {letter : ℕ} (id n : ℕ) (es : List SignalValues) → 3 ≤ length text → get_or text 0 0 ≡ letter → padded 2 id ≡ get_or text 1 0 ∷ get_or text 2 0 ∷ []
-    → filled_to n (drop 3 text) ≡ flat_map signal_text es → filled_to (3 + n) text ≡ row_text letter (record { satellite = id; signal_values = es })
+    → filled_to n (drop 3 text) ≡ flat_map signal_text es → filled_to (3 + n) text ≡ row_text letter id es
 row_is (a ∷ b ∷ c ∷ rest) id n es long first number signals =
     let missing : 3 + n - length (a ∷ b ∷ c ∷ rest) ≡ n - length rest = omega arith in
     ap (λ (k : ℕ). a ∷ b ∷ c ∷ (rest ++ replicate k 32)) missing ∙ text_is (a ∷ b ∷ c ∷ filled_to n rest) id es (omega arith) first number signals
@@ -136,7 +136,7 @@ row_is (a ∷ []) id n es long first number signals = absurd (omega (arith, long
 row_is [] id n es long first number signals = absurd (omega (arith, long))
 
 pub cut_line_is : (v : SatelliteRow) {line text : List ℕ} (n : ℕ) → IsEnded line → text ≡ take (length line - 1) line → 3 ≤ length text
-    → get_or text 0 0 ≡ letter v.system → padded 2 v.row.satellite ≡ get_or text 1 0 ∷ get_or text 2 0 ∷ []
+    → get_or text 0 0 ≡ letter v.system → padded 2 (number_of v.system v.row.satellite) ≡ get_or text 1 0 ∷ get_or text 2 0 ∷ []
     → filled_to n (drop 3 text) ≡ flat_map signal_text v.row.signal_values → line ≡ satellite_line v
 cut_line_is v {line} {text} n ended cut long first number signals =
-    line_is v line (filled_to (3 + n) text) (3 + n) ended (λ t is. filled_line line text (3 + n) t cut is) (row_is text v.row.satellite n v.row.signal_values long first number signals)
+    line_is v line (filled_to (3 + n) text) (3 + n) ended (λ t is. filled_line line text (3 + n) t cut is) (row_is text (number_of v.system v.row.satellite) n v.row.signal_values long first number signals)

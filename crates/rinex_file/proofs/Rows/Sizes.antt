@@ -1,7 +1,8 @@
 -- The sizes of the parts of a satellite's line, and its first letter.
 use Rattle.rinex_file.proofs.Digits.Numbers.{length-fixed, length-right, not_negative}
 use Rattle.rinex_file.proofs.Rows.Trimmed.{trimmed-front}
-use Rattle.rinex_file.proofs.Names.{arith, ◌≡◌, ℕ, suc, ◌*◌, ◌^◌, ◌<◌, ◌≤◌, List, [], ◌∷◌, ◌++◌, length, refl, ap, length-append, ℤ, pos, negsuc, unsigned_abs, to_z, of_z, w64, Option, Some, None, IfSome, flat_map, All, sign_text, ints, to_z-of_z, fits_signed_from_abs, All-head, All-tail, All-weaker, padded, fixed, most_satellites, satellites, System, HasTwelveDigits, SignalValues, SatelliteRow, FitsColumns, HaveRoom, AreSignalValues, IsFrom, trimmed, field, signal_text, satellite_line, letter}
+use Rattle.gnss_system.proofs.SystemLaws.{each_system}
+use Rattle.rinex_file.proofs.Names.{arith, ◌≡◌, ℕ, suc, ◌*◌, ◌^◌, ◌<◌, ◌≤◌, List, [], ◌∷◌, ◌++◌, length, refl, ap, length-append, ℤ, pos, negsuc, unsigned_abs, to_z, of_z, w64, Option, Some, None, IfSome, flat_map, All, sign_text, ints, to_z-of_z, fits_signed_from_abs, All-head, All-tail, All-weaker, padded, fixed, most_satellites, satellites, System, HasTwelveDigits, SignalValues, SatelliteRow, FitsColumns, HaveRoom, AreSignalValues, IsFrom, trimmed, field, signal_text, satellite_line, letter, number_of, nat_lt, true, ◌+◌}
 
 most : (n : ℕ) → FitsColumns (pos n) → n ≤ 9_999_999_999_999
 most n h = let high = h.1 in omega (arith, ints)
@@ -63,9 +64,14 @@ length-signals (e ∷ es) all = grind (arith, length-append, (length-room e (All
 letter_is : (s : System) → letter s ≡ 32 → ⊥
 letter_is s e = grind arith
 
-pub front_line : (s : SatelliteRow) → satellite_line s ≡ letter s.system ∷ (trimmed (padded 2 s.row.satellite ++ flat_map signal_text s.row.signal_values) ++ 10 ∷ [])
+pub front_line : (s : SatelliteRow) → satellite_line s ≡ letter s.system ∷ (trimmed (padded 2 (number_of s.system s.row.satellite) ++ flat_map signal_text s.row.signal_values) ++ 10 ∷ [])
 unfolding satellite_line
-front_line s = ap (λ t. t ++ 10 ∷ []) (trimmed-front (letter s.system) (padded 2 s.row.satellite ++ flat_map signal_text s.row.signal_values) (letter_is s.system))
+front_line s = ap (λ t. t ++ 10 ∷ []) (trimmed-front (letter s.system) (padded 2 (number_of s.system s.row.satellite) ++ flat_map signal_text s.row.signal_values) (letter_is s.system))
 
 pub few_satellites : (s : System) → satellites s ≤ most_satellites
 few_satellites s = grind arith
+
+pub few_numbers : (s : System) (id : ℕ) → id ≤ satellites s → number_of s id < 100
+few_numbers s id few = by _ _ few (each_system (λ s. nat_lt (number_of s (satellites s)) 100) s refl) where
+  by : (n k : ℕ) → id ≤ n → nat_lt (n + k) 100 ≡ true → id + k < 100
+  by n k few h = grind (arith, few, h)

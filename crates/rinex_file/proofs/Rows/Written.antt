@@ -2,7 +2,7 @@
 use Rattle.rinex_file.proofs.Rows.Trimmed.{uncut, cut_last, length-trimmed}
 use Rattle.rinex_file.proofs.Digits.Padded.{two_digits}
 use Rattle.rinex_file.proofs.HeaderRows.Texts.{trimmed-blanks}
-use Rattle.rinex_file.proofs.Names.{arith, ◌≡◌, ◌≢◌, ◌∙◌, sym, ap, ap₂, refl, ℕ, ◌+◌, ◌-◌, ◌*◌, ◌/◌, ◌%◌, ◌≤◌, ◌<◌, List, [], ◌∷◌, ◌++◌, length, take, drop, replicate, get_or, append-nil, take-append-drop, Bool, true, false, flat_map, ◌||◌, IsTrue, ◌↔◌, not, nat_eq, list_any, take-add, drop-drop, take_all, take_more, length-drop, length-take-le, length_push, get_or-take, get_or_append_left, ne_eqb, flat_map-append, list_any-append, SignalValues, SatelliteRow, has_some_value, trimmed, IsEnded, padded, field, signal_text, lli_byte, strength_byte, row_text, satellite_line, letter}
+use Rattle.rinex_file.proofs.Names.{arith, ◌≡◌, ◌≢◌, ◌∙◌, sym, ap, ap₂, refl, ℕ, ◌+◌, ◌-◌, ◌*◌, ◌/◌, ◌%◌, ◌≤◌, ◌<◌, List, [], ◌∷◌, ◌++◌, length, take, drop, replicate, get_or, append-nil, take-append-drop, Bool, true, false, flat_map, ◌||◌, IsTrue, ◌↔◌, not, nat_eq, list_any, take-add, drop-drop, take_all, take_more, length-drop, length-take-le, length_push, get_or-take, get_or_append_left, ne_eqb, flat_map-append, list_any-append, SignalValues, SatelliteRow, has_some_value, trimmed, IsEnded, padded, field, signal_text, lli_byte, strength_byte, row_text, satellite_line, letter, number_of}
 
 -- ---- the columns of a signal
 
@@ -90,14 +90,14 @@ ends line long feed = (λ held. ended line long feed (other_byte _ held), λ is.
 -- ---- the line of a satellite
 
 pub line_is : (v : SatelliteRow) (line text : List ℕ) (width : ℕ) → IsEnded line
-    → ((t : List ℕ) → line ≡ t ++ 10 ∷ [] → text ≡ t ++ replicate (width - length t) 32) → text ≡ row_text (letter v.system) v.row → line ≡ satellite_line v
+    → ((t : List ℕ) → line ≡ t ++ 10 ∷ [] → text ≡ t ++ replicate (width - length t) 32) → text ≡ row_text (letter v.system) (number_of v.system v.row.satellite) v.row.signal_values → line ≡ satellite_line v
 unfolding satellite_line
 line_is v line text width (t, is, some, whole) filled shown =
     is ∙ ap (λ l. l ++ 10 ∷ []) (sym whole ∙ sym (trimmed-blanks (width - length t) t) ∙ ap trimmed (sym (filled t is) ∙ shown))
 
 -- letter, number and signals
 pub text_is : (text : List ℕ) {letter : ℕ} (id : ℕ) (es : List SignalValues) → 3 ≤ length text → get_or text 0 0 ≡ letter → padded 2 id ≡ get_or text 1 0 ∷ get_or text 2 0 ∷ []
-    → drop 3 text ≡ flat_map signal_text es → text ≡ row_text letter (record { satellite = id; signal_values = es })
+    → drop 3 text ≡ flat_map signal_text es → text ≡ row_text letter id es
 text_is (a ∷ b ∷ c ∷ rest) {letter} id es long first number signals =
     ap₂ (λ x y. x ∷ b ∷ c ∷ y) first signals ∙ ap (λ l. letter ∷ (l ++ flat_map signal_text es)) (sym number)
 text_is (a ∷ b ∷ []) id es long first number signals = absurd (omega (arith, long))

@@ -1,7 +1,7 @@
 -- The cells of one satellite, in a list in the order of satellites.
 use Rattle.rinex_file.proofs.Names.{◌≡◌, ℕ, zero, suc, ◌+◌, ◌-◌, ◌<◌, ◌≤◌, Bool, true, false, List, [], ◌∷◌, filter, take, drop, refl, sym, ap, ap₂, ◌∙◌, subst, arith, length, if◌then◌else◌, cond, AllByRecursion, drop-drop, Cell, is_written, is_of_satellite, run, Above, Climb, Left}
 
-climb-drop : (n : ℕ) (cells : List Cell) → Climb cells → Climb (drop n cells)
+pub climb-drop : (n : ℕ) (cells : List Cell) → Climb cells → Climb (drop n cells)
 climb-drop zero cells h = h
 climb-drop (suc n) [] h = tt
 climb-drop (suc n) (c ∷ cells) h = climb-drop n cells h.1
@@ -11,11 +11,11 @@ pub record Parted (id : ℕ) (cells : List Cell) : Type 0 where
   pub above : Above id (drop (run id cells) cells)
   pub rest : (later : ℕ) → id < later → filter (is_of_satellite later) cells ≡ filter (is_of_satellite later) (drop (run id cells) cells)
 
-all_above : (n m : ℕ) (cells : List Cell) → n < m → AllByRecursion (λ (d : Cell). m ≤ d.satellite.id) cells → Above n cells
+pub all_above : (n m : ℕ) (cells : List Cell) → n < m → AllByRecursion (λ (d : Cell). m ≤ d.satellite.id) cells → Above n cells
 all_above n m [] lt h = tt
 all_above n m (c ∷ cells) lt h = (omega (arith, lt, h.0), all_above n m cells lt h.1)
 
-none_above : (n : ℕ) (cells : List Cell) → Above n cells → filter (is_of_satellite n) cells ≡ []
+pub none_above : (n : ℕ) (cells : List Cell) → Above n cells → filter (is_of_satellite n) cells ≡ []
 none_above n [] h = refl
 none_above n (c ∷ cells) h = grind (arith, (none_above n cells h.1))
 

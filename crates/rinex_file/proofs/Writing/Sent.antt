@@ -43,13 +43,13 @@ module _ (v : StationValues) (a b c d : Option (List ℕ)) where
 
 -- ---- satellite by satellite
 
-one_of : (p : PlanValue) (e : EpochValue) (s : System) (n : ℕ) (b : Bool)
+one_part : (p : PlanValue) (e : EpochValue) (s : System) (n : ℕ) (b : Bool)
     → joined (map satellite_line (map (row_in_epoch p e s) (if b then suc n ∷ [] else []))) ≡ (if b then satellite_line (row_in_epoch p e s (suc n)) else [])
-one_of p e s n b = grind (arith, append-nil)
+one_part p e s n b = grind (arith, append-nil)
 
 lines_suc : (p : PlanValue) (e : EpochValue) (s : System) (n : ℕ) → lines_up_to p e s (suc n) ≡ lines_up_to p e s n ++ line_or_none p e s (suc n)
 unfolding lines_up_to line_among
-lines_suc p e s n = grind (arith, filter-append, map-append, joined-append, one_of)
+lines_suc p e s n = grind (arith, filter-append, map-append, joined-append, one_part)
 
 pub lines_more : (p : PlanValue) (e : EpochValue) (s : System) (n m : ℕ) → m ≡ suc n → lines_up_to p e s m ≡ lines_up_to p e s n ++ line_or_none p e s m
 lines_more p e s n m is = subst (λ k. lines_up_to p e s k ≡ lines_up_to p e s n ++ line_or_none p e s k) (sym is) (lines_suc p e s n)

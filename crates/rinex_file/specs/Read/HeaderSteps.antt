@@ -1,17 +1,20 @@
 -- From one line of a header to the next while its lines are read.
-use Rattle.std.specs.Prelude.{◌≡◌, ℕ, zero, suc, ◌+◌, ◌<◌, ◌≤◌, ◌==◌, nat_lt, Bool, true, false, List, [], ◌∷◌, ◌++◌, length}
+use Rattle.std.specs.Prelude.{◌≡◌, ℕ, zero, suc, ◌+◌, ◌*◌, ◌<◌, ◌≤◌, ◌==◌, nat_lt, Bool, true, false, List, [], ◌∷◌, ◌++◌, length}
 use Rattle.std.specs.Prelude.{set, take, drop, min, Option, Some, None, Result, Ok, Err, ⊤, ◌↔◌}
 use Rattle.gnss_obs.specs.declared.cell.StationValues.{StationValues}
 use Rattle.gnss_system.specs.Signals.{SignalAt, IsSignal, code_of, table}
 use Rattle.gnss_system.specs.declared.system.System.{System}
-use Rattle.gnss_obs.specs.Values.{planned_of}
+use Rattle.gnss_system.specs.declared.system.System.TheVariants.{Glonass}
+use Rattle.gnss_system.specs.declared.by_system.BySystem.{BySystem}
+use Rattle.gnss_obs.specs.Channels.{ChannelsValue, slot_count}
+use Rattle.gnss_obs.specs.Values.{PlanValue, planned_of}
 use Rattle.gnss_system.specs.Satellites.{letter}
 use Rattle.gnss_system.specs.SystemValues.{with_value_of}
 use Rattle.rinex_file.specs.declared.header.fault.HeadFault.{HeadFault}
 use Rattle.rinex_file.specs.declared.header.fields.HeaderField.{HeaderField}
 use Rattle.rinex_file.specs.declared.header.fields.TextRow.{TextRow}
 use Rattle.rinex_file.specs.declared.header.rows.HeaderRow.{HeaderRow}
-use Rattle.rinex_file.specs.declared.header.rows.HeaderRow.TheVariants.{Types, Shift, End}
+use Rattle.rinex_file.specs.declared.header.rows.HeaderRow.TheVariants.{Types, Shift, Slots, Biases, End}
 use Rattle.rinex_file.specs.declared.read.expected.Expected.{Expected}
 use Rattle.rinex_file.specs.declared.read.expected.Expected.TheVariants.{Header, Epoch}
 use Rattle.rinex_file.specs.declared.read.expected.Refusal.{Refusal}
@@ -20,9 +23,10 @@ use Rattle.rinex_file.specs.Begun.{lines_of_header}
 use Rattle.rinex_file.specs.Blanks.{trimmed}
 use Rattle.rinex_file.specs.Texts.{HeaderLists, place_of, width_of, fault_of, fields_of, front_of, text_count}
 use Rattle.rinex_file.specs.FileValues.{AreTexts}
-use Rattle.rinex_file.specs.Header.{row_at, row_place, row_count, texts_line, type_rows}
+use Rattle.rinex_file.specs.Header.{row_at, row_place, row_count, texts_line, type_rows, slots_with, slots_line}
+use Rattle.rinex_file.specs.Slots.{SlotNumber, AreSlots, last_slot, slot_rows, slots_in_line}
 use Rattle.rinex_file.specs.Read.Progress.{Known, Shown, IsShown, IsHeadAt, Has, HasRow, AreSized, types_before, lines_after}
-use Rattle.rinex_file.specs.Read.Progress.{lines_before, counted, shown_line}
+use Rattle.rinex_file.specs.Read.Progress.{lines_before, counted, shown_line, AreSlotsAt, known_slots}
 use Rattle.rinex_file.specs.Read.Progress.{AreTypes, types_line, signals_begun}
 
 -- a row other than those of types and the last
@@ -36,29 +40,68 @@ abbrev pub begins_with : ℕ → List ℕ → Bool
 begins_with byte [] = false
 begins_with byte (b ∷ bs) = b == byte
 
+-- the slots in the lines before a line of slots were read, and there are more
+abbrev pub AreSlotsBefore : Known → HeaderRow → Type 0
+AreSlotsBefore k (Slots row) =
+    (row < 4) × (length (known_slots k) ≡ slots_in_line * row) × (0 < row → slots_in_line * row < k.slots)
+AreSlotsBefore k other = ⊤
+
 -- whether a row has a line, if this line comes next: a system is planned if its letter comes where its types begin
 abbrev pub known_line : Known → List ℕ → HeaderRow → Bool
 known_line k line (Types system zero) = begins_with (letter system) line
 known_line k line (Types system (suc row)) = nat_lt (suc row) (type_rows (counted k system))
 known_line k line (Shift system) = nat_lt 0 (counted k system)
+known_line k line (Slots zero) = nat_lt 0 (counted k Glonass)
+known_line k line (Slots (suc row)) = nat_lt (suc row) (slot_rows k.slots)
+known_line k line Biases = nat_lt 0 (counted k Glonass)
 known_line k line other = true
+
+-- the line is one of these slots, of which there are `count` if it isn't the first, and `old` are in the lines before it
+pub record IsLineOfSlots (row : ℕ) (line : List ℕ) (count : ℕ) (old all : List SlotNumber) : Type 0 where
+  pub are : AreSlots 0 all
+  pub later : 0 < row → count ≡ length all
+  pub begun : old ≡ take (slots_in_line * row) all
+  pub is : line ≡ slots_line all row
+
+-- A line of slots was read, after lines with the number `before` and the slots `old`: the number of slots, and those in
+-- the lines up to this one.
+pub record TakesSlots (row : ℕ) (line : List ℕ) (before : ℕ) (old : List SlotNumber) (count : ℕ)
+    (new : List SlotNumber) : Type 0 where
+  pub later : 0 < row → before ≡ count
+  pub size : length new ≡ min (slots_in_line * suc row) count
+  pub room : count + last_slot 0 new ≤ length new + slot_count
+  pub grows : take (slots_in_line * row) new ≡ old
+  pub shown : line ≡ slots_with count new row
+  pub taken : (all : List SlotNumber) → IsLineOfSlots row line before old all
+      → (length all ≡ count) × (new ≡ take (slots_in_line * suc row) all)
+
+-- the line was taken, or it is no line of slots after these
+abbrev pub TakesOrRefusesSlots : ℕ → List ℕ → ℕ → List SlotNumber → ℕ → List SlotNumber → Bool → Type 0
+TakesOrRefusesSlots row line before old count new true = TakesSlots row line before old count new
+TakesOrRefusesSlots row line before old count new false = (all : List SlotNumber) → IsLineOfSlots row line before old all → ⊥
+
+-- the number of slots and the slots after the line of a row
+abbrev pub SlotsFollow : HeaderRow → List ℕ → Known → Known → Type 0
+SlotsFollow (Slots row) line old new = TakesSlots row line old.slots (known_slots old) new.slots (known_slots new)
+SlotsFollow other line old new = (new.slots ≡ old.slots) × (known_slots new ≡ known_slots old)
 
 -- The line of a row, apart from types, was read: a header has the line if it has what is known after it; what the rows
 -- before said is unchanged.
 pub record IsHeaderLineRead (row : HeaderRow) (line : List ℕ) (old new : Known) : Type 0 where
-  pub plan : new.shown.plan ≡ old.shown.plan
+  pub signals : new.shown.plan.signals ≡ old.shown.plan.signals
   pub counts : (s : System) → counted new s ≡ counted old s
-  pub own : (h : Shown) → IsShown h → (shown_line h row ≡ line) ↔ HasRow new h row
+  pub slots : SlotsFollow row line old new
+  pub own : (h : Shown) → IsShown h → Has old (row_place row) h → (shown_line h row ≡ line) ↔ HasRow new h row
   pub kept : (h : Shown) (r : HeaderRow) → row_place r < row_place row → HasRow old h r ↔ HasRow new h r
 
--- no header has this line in a row
-abbrev pub RefusesHeaderLine : HeaderRow → List ℕ → Type 0
-RefusesHeaderLine row line = (h : Shown) → IsShown h → shown_line h row ≡ line → ⊥
+-- no header with what was read has this line in a row
+abbrev pub RefusesHeaderLine : Known → HeaderRow → List ℕ → Type 0
+RefusesHeaderLine old row line = (h : Shown) → IsShown h → Has old (row_place row) h → shown_line h row ≡ line → ⊥
 
 -- the line was accepted, and this is known after it; or no header has it in this row
 abbrev pub ReadsOrRefuses : HeaderRow → List ℕ → Known → Known → Bool → Type 0
 ReadsOrRefuses row line old new true = IsHeaderLineRead row line old new
-ReadsOrRefuses row line old new false = RefusesHeaderLine row line
+ReadsOrRefuses row line old new false = RefusesHeaderLine old row line
 
 -- a header has what was read, and its lines from an index on, with others after them, are these
 pub record GoesOn (k : Known) (place : ℕ) (h : Shown) (others lines : List (List ℕ)) : Type 0 where
@@ -115,6 +158,7 @@ pub record SameFrom (k : Known) (line : List ℕ) (place next : ℕ) : Type 0 wh
   pub lines : (h : Shown) → IsShown h → Has k next h → lines_before h next ≡ lines_before h place
   pub none : (i : ℕ) → place ≤ i → i < next → known_line k line (row_at i) ≡ false
   pub sized : (s : System) → AreSized s (types_before s next) (counted k s) (planned_of s k.shown.plan)
+  pub slots : AreSlotsAt k next
   pub expected : next < row_count
 
 -- ---- texts
@@ -159,10 +203,19 @@ with_first k first = record k { shown = record k.shown { first = first } }
 abbrev pub with_letter : Known → ℕ → Known
 with_letter k letter = record k { letter = letter }
 
+abbrev pub with_signals : PlanValue → BySystem (List ℕ) → PlanValue
+with_signals p signals = record p { signals = signals }
+
+abbrev pub with_slots : Known → ℕ → ChannelsValue → Known
+with_slots k count channels = record k {
+  shown = record k.shown { plan = record k.shown.plan { channels = channels } };
+  slots = count;
+}
+
 -- what was read, with the number of a system's signals and those that were read
 abbrev pub with_types : System → Known → ℕ → List ℕ → Known
 with_types system k count signals = record k {
-  shown = record k.shown { plan = with_value_of system k.shown.plan signals };
+  shown = record k.shown { plan = with_signals k.shown.plan (with_value_of system k.shown.plan.signals signals) };
   counts = with_value_of system k.counts count;
 }
 

@@ -7,6 +7,7 @@ use Rattle.rinex_file.specs.declared.read.parser_state.ParserState.{ParserState}
 use Rattle.rinex_file.specs.ParserState.{History}
 use Rattle.rinex_file.specs.Numbers.{joined}
 use Rattle.rinex_file.specs.File.{stamped_lines}
+use Rattle.gnss_system.specs.Satellites.{number_of}
 use Rattle.gnss_system.specs.Signals.{most_signals}
 use Rattle.rinex_file.specs.Read.Steps.{IsWhole}
 
@@ -25,7 +26,7 @@ HasReadWhole is_stored c k input = (h : History) × IsWhole c h input × Stores 
 -- a line has room for a satellite
 abbrev pub HasRoom : SatelliteRow → Type 0
 HasRoom s =
-    (s.row.satellite < 100) × All AreSignalValues s.row.signal_values
+    (number_of s.system s.row.satellite < 100) × All AreSignalValues s.row.signal_values
     × (length s.row.signal_values ≤ most_signals)
 
 abbrev pub HaveRowsRoom : Stamped → Type 0

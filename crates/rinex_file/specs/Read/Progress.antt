@@ -3,11 +3,13 @@ use Rattle.std.specs.Prelude.{◌≡◌, ℕ, zero, suc, ◌+◌, ◌-◌, ◌*�
 use Rattle.std.specs.Prelude.{List, [], ◌∷◌, ◌++◌, length, take, drop, map, All, nat_eq}
 use Rattle.std.specs.Prelude.{flat_map, Option, Some, None, ⊤}
 use Rattle.gnss_system.specs.declared.system.System.{System}
+use Rattle.gnss_system.specs.declared.system.System.TheVariants.{Glonass}
 use Rattle.gnss_obs.specs.declared.cell.StationValues.{StationValues}
+use Rattle.gnss_obs.specs.Channels.{AreChannels, slot_count}
 use Rattle.gnss_obs.specs.Values.{PlanValue, planned_of}
 use Rattle.gnss_obs.specs.Dates.{civil_of}
 use Rattle.rinex_file.specs.declared.header.rows.HeaderRow.{HeaderRow}
-use Rattle.rinex_file.specs.declared.header.rows.HeaderRow.TheVariants.{Version, Texts, Position, Delta, First}
+use Rattle.rinex_file.specs.declared.header.rows.HeaderRow.TheVariants.{Version, Texts, Position, Delta, First, Slots}
 use Rattle.rinex_file.specs.declared.read.expected.Expected.{Expected}
 use Rattle.rinex_file.specs.declared.read.expected.Expected.TheVariants.{Header, Epoch, EventPosition, EventHeight}
 use Rattle.rinex_file.specs.declared.read.expected.Expected.TheVariants.{EventEpoch, Satellite}
@@ -17,7 +19,8 @@ use Rattle.rinex_file.specs.Value.{SatelliteRow, Stamped, FileValue}
 use Rattle.gnss_obs.specs.GatheredEpochs.{IsCoordinate}
 use Rattle.rinex_file.specs.FileValues.{AreTexts, IsPlan, AreValues, IsTime, IsFileValue}
 use Rattle.rinex_file.specs.Header.{row_line, row_lines, lines_from, all_rows, row_at, row_count, first_types, flagged_letter}
-use Rattle.rinex_file.specs.Header.{most_type_rows}
+use Rattle.rinex_file.specs.Header.{most_type_rows, first_slots}
+use Rattle.rinex_file.specs.Slots.{SlotNumber, slots_of, last_slot, slots_in_line}
 use Rattle.rinex_file.specs.Header.{systems_letter, type_line, types_of, codes_of}
 use Rattle.rinex_file.specs.Limits.{types_in_line}
 use Rattle.rinex_file.specs.Lines.{satellite_line}
@@ -60,11 +63,13 @@ abbrev pub lines_after : Shown → ℕ → List (List ℕ)
 lines_after h place = lines_from h.texts h.plan h.values (civil_of h.first) place
 
 -- What was read of a header: its parts, each with its initial value until its line is read; the letter in the first
--- line; and the number of a system's signals, by its first line of types, or 0 without one.
+-- line; the number of a system's signals, by its first line of types, or 0 without one; and the number of slots with a
+-- channel, by the first line of slots, or 0 without one.
 pub record Known : Type 0 where
   pub shown : Shown
   pub letter : ℕ
   pub counts : BySystem ℕ
+  pub slots : ℕ
 
 abbrev pub counted : Known → System → ℕ
 counted k system = value_of system k.counts
@@ -92,6 +97,7 @@ pub record AreValid (k : Known) : Type 0 where
   pub texts : AreTexts k.shown.texts
   pub listed : (system : System) → All (λ i. i < length (table system)) (planned_of system k.shown.plan)
   pub apart : (system : System) → IsDistinct nat_eq (planned_of system k.shown.plan)
+  pub channels : AreChannels k.shown.plan.channels
   pub values : AreValues k.shown.values
   pub first : IsTime k.shown.first
 
@@ -117,6 +123,15 @@ AreSameTexts x y (f ∷ fs) = (text_of x f ≡ text_of y f) × AreSameTexts x y 
 abbrev pub position_of : StationValues → StationValues
 position_of v = record v { height = 0 }
 
+-- the slots with a channel in the header that was read
+abbrev pub known_slots : Known → List SlotNumber
+known_slots k = slots_of k.shown.plan.channels
+
+-- the lines of slots up to a row are those of `count` slots, of which these were read
+pub record AreSameSlots (row count : ℕ) (slots all : List SlotNumber) : Type 0 where
+  pub number : count ≡ length all
+  pub begun : take (slots_in_line * suc row) all ≡ take (slots_in_line * suc row) slots
+
 -- a header has what the line of a row said, apart from types
 abbrev pub HasRow : Known → Shown → HeaderRow → Type 0
 HasRow k h Version = systems_letter h.plan ≡ k.letter
@@ -124,6 +139,7 @@ HasRow k h (Texts row) = AreSameTexts h.texts k.shown.texts (fields_of row)
 HasRow k h Position = position_of h.values ≡ position_of k.shown.values
 HasRow k h Delta = h.values.height ≡ k.shown.values.height
 HasRow k h First = h.first ≡ k.shown.first
+HasRow k h (Slots row) = AreSameSlots row k.slots (known_slots k) (slots_of h.plan.channels)
 HasRow k h other = ⊤
 
 -- a header has what the rows before an index said
@@ -142,6 +158,21 @@ pub record AreSized (s : System) (rows count : ℕ) (signals : List ℕ) : Type 
   pub none : rows ≡ 0 → count ≡ 0
   pub size : length signals ≡ min (signals_begun rows) count
 
+-- the number of lines of slots, present or not, whose rows are before an index
+abbrev pub slots_before : ℕ → ℕ
+slots_before place = min 4 (place - first_slots)
+
+-- the slots in a number of lines of slots, present or not, were read, if this number of signals of GLONASS is planned:
+-- the others follow the last of them
+pub record AreSlotsRead (rows planned count : ℕ) (slots : List SlotNumber) : Type 0 where
+  pub none : rows ≡ 0 → count ≡ 0
+  pub unplanned : planned ≡ 0 → count ≡ 0
+  pub size : length slots ≡ min (slots_in_line * rows) count
+  pub room : count + last_slot 0 slots ≤ length slots + slot_count
+
+abbrev pub AreSlotsAt : Known → ℕ → Type 0
+AreSlotsAt k place = AreSlotsRead (slots_before place) (counted k Glonass) k.slots (known_slots k)
+
 -- signals of a system are planned, or may be by the first line if the row of its first types isn't before an index: `M`
 -- is the letter of two or more systems, another letter that of one
 abbrev pub is_chosen : Known → ℕ → System → Bool
@@ -156,6 +187,7 @@ fits k place = (flagged_letter (is_chosen k place) == k.letter) && nat_lt 0 k.le
 pub record IsHeadAt (k : Known) (place : ℕ) : Type 0 where
   pub valid : AreValid k
   pub sized : (s : System) → AreSized s (types_before s place) (counted k s) (planned_of s k.shown.plan)
+  pub slots : AreSlotsAt k place
   pub fitting : 0 < place → fits k place ≡ true
   pub expected : place < row_count
 
@@ -202,7 +234,7 @@ pub record IsInHeader (s : Progress) (place : ℕ) (v : FileValue) (left : List 
   pub rest : lines_after (shown_of v first.time) place ++ flat_map stamped_lines (first ∷ others) ≡ left
 
 -- an epoch is expected, or the end
-pub record IsBetween (s : Progress) (v : FileValue) (left : List (List ℕ)) : Type 0 where
+pub record IsAtEpoch (s : Progress) (v : FileValue) (left : List (List ℕ)) : Type 0 where
   pub others : List Stamped
   pub value : v ≡ file_with s (s.epochs ++ others)
   pub starts : StartsAt s.known.shown.first (s.epochs ++ others)
@@ -235,7 +267,7 @@ pub record IsInEpoch (s : Progress) (satellites : ℕ) (v : FileValue) (left : L
 
 abbrev pub IsAt : Progress → Expected → FileValue → List (List ℕ) → Type 0
 IsAt s (Header place) v left = IsInHeader s place v left
-IsAt s Epoch v left = IsBetween s v left
+IsAt s Epoch v left = IsAtEpoch s v left
 IsAt s EventPosition v left = IsInEvent s 1 (λ w. ⊤) v left
 IsAt s (EventHeight position) v left = IsInEvent s 2 (λ w. position_of w ≡ position) v left
 IsAt s (EventEpoch values) v left = IsInEvent s 3 (λ w. w ≡ values) v left

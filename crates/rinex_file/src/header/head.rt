@@ -10,10 +10,11 @@ ghost use Rattle.rinex_file.specs.Header.{systems_letter};
 
 use crate::header::letters::flagged_letter;
 use crate::header::lines::{
-    END, SHIFT, STRENGTH_UNIT, UNIT, delta_line, first_line, labelled, position_line, texts_line,
-    version_by,
+    BIASES, END, SHIFT, STRENGTH_UNIT, UNIT, delta_line, first_line, labelled, position_line,
+    texts_line, version_by,
 };
 use crate::header::rows::{HeaderRow, ROW_COUNT, row_at};
+use crate::header::slots::{slot_rows, slots_in, slots_with};
 use crate::header::texts::HeaderTexts;
 use crate::header::types::{type_rows, types_with};
 use crate::write::line::Line;
@@ -40,6 +41,9 @@ fn has_line(plan: &Plan, row: HeaderRow) -> bool
     match row {
         HeaderRow::Types(system, row) => row < type_rows(plan.signals(system)),
         HeaderRow::Shift(system) => plan.signals(system) > 0,
+        HeaderRow::Slots(0) => plan.signals(System::Glonass) > 0,
+        HeaderRow::Slots(row) => row < slot_rows(slots_in(plan.channels())),
+        HeaderRow::Biases => plan.signals(System::Glonass) > 0,
         _ => true,
     }
 }
@@ -65,10 +69,7 @@ fn place_from(plan: &Plan, from: usize) -> Option<usize>
 fn systems_letter(plan: &Plan) -> u8
     ensures { result ≡ systems_letter plan.now }
 {
-    flagged_letter(&BySystem {
-        gps: plan.signals(System::Gps) > 0,
-        galileo: plan.signals(System::Galileo) > 0,
-    })
+    flagged_letter(&BySystem::each(|system| plan.signals(system) > 0))
 }
 
 /// Returns the line of a row.
@@ -90,6 +91,11 @@ fn line_of(head: &Head, row: HeaderRow) -> Line
         HeaderRow::StrengthUnit => labelled(UNIT, STRENGTH_UNIT),
         HeaderRow::First => first_line(head.first),
         HeaderRow::Shift(system) => labelled(&[system.letter()], SHIFT),
+        HeaderRow::Slots(row) => {
+            let channels = head.plan.channels();
+            slots_with(slots_in(channels), channels, row)
+        }
+        HeaderRow::Biases => labelled(b"", BIASES),
         HeaderRow::End => labelled(b"", END),
     }
 }

@@ -6,7 +6,6 @@ ghost use Rattle.rinex_file.specs.Header.{flagged_letter};
 use gnss_system::{BySystem, SYSTEMS, System};
 
 /// Returns the letter of the systems with a flag: that of one, or `M` for several, and 0 for none.
-#[tactic(auto, using(crate::proofs::HeaderRows::Letters::letter_next))]
 pub(crate) fn flagged_letter(flags: &BySystem<bool>) -> u8
     ensures { result ≡ flagged_letter (λ s. value_of s flags.now) }
 {

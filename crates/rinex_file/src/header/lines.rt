@@ -24,6 +24,8 @@ pub(crate) const DELTA: &[u8] = b"ANTENNA: DELTA H/E/N";
 pub(crate) const STRENGTH_UNIT: &[u8] = b"SIGNAL STRENGTH UNIT";
 /// The phase shifts of a system, of which there are none.
 pub(crate) const SHIFT: &[u8] = b"SYS / PHASE SHIFT";
+/// The code and phase biases of GLONASS, of which none is known.
+pub(crate) const BIASES: &[u8] = b"GLONASS COD/PHS/BIS";
 /// The last line.
 pub(crate) const END: &[u8] = b"END OF HEADER";
 

@@ -4,7 +4,8 @@ ghost use Rattle.rinex_file.specs.Header.{row_at, row_count, first_types};
 
 use crate::header::fields::TextRow::{self, *};
 use HeaderRow::*;
-use gnss_obs::System::{self, *};
+use gnss_system::SYSTEMS;
+use gnss_system::System::{self, *};
 
 /// The content of the line of a row.
 #[derive(Clone, Copy)]
@@ -25,42 +26,63 @@ pub enum HeaderRow {
     First,
     /// `SYS / PHASE SHIFT`.
     Shift(System),
+    /// `GLONASS SLOT / FRQ #`: a line of slots with a channel, counted from 0.
+    Slots(usize),
+    /// `GLONASS COD/PHS/BIS`.
+    Biases,
     /// `END OF HEADER`.
     End,
 }
 
-/// The number of rows.
-pub(crate) const ROW_COUNT: usize = 26;
+// The rows of a file of these systems in order. The signals of a system have at most six lines of
+// types, and the slots of GLONASS at most four.
+macro_rules! rows {
+    ($($system:ident)*) => {
+        [
+            Version,
+            Texts(Program),
+            Texts(Marker),
+            Texts(MarkerType),
+            Texts(Observer),
+            Texts(Receiver),
+            Texts(Antenna),
+            Position,
+            Delta,
+            $(
+                Types($system, 0),
+                Types($system, 1),
+                Types($system, 2),
+                Types($system, 3),
+                Types($system, 4),
+                Types($system, 5),
+            )*
+            StrengthUnit,
+            First,
+            $(Shift($system),)*
+            Slots(0),
+            Slots(1),
+            Slots(2),
+            Slots(3),
+            Biases,
+            End,
+        ]
+    };
+}
 
-/// The rows in order. The signals of a system have at most six lines of types.
-pub(crate) const ROWS: [HeaderRow; ROW_COUNT] = [
-    Version,
-    Texts(Program),
-    Texts(Marker),
-    Texts(MarkerType),
-    Texts(Observer),
-    Texts(Receiver),
-    Texts(Antenna),
-    Position,
-    Delta,
-    Types(Gps, 0),
-    Types(Gps, 1),
-    Types(Gps, 2),
-    Types(Gps, 3),
-    Types(Gps, 4),
-    Types(Gps, 5),
-    Types(Galileo, 0),
-    Types(Galileo, 1),
-    Types(Galileo, 2),
-    Types(Galileo, 3),
-    Types(Galileo, 4),
-    Types(Galileo, 5),
-    StrengthUnit,
-    First,
-    Shift(Gps),
-    Shift(Galileo),
-    End,
-];
+/// The number of rows before those of types.
+const FIRST_TYPES: usize = 9;
+
+/// The number of rows of a system's types.
+const TYPE_ROWS: usize = 6;
+
+/// The number of rows of slots.
+const SLOT_ROWS: usize = 4;
+
+/// The number of rows: of each system also one of its phase shift, and four others.
+pub(crate) const ROW_COUNT: usize = FIRST_TYPES + (TYPE_ROWS + 1) * SYSTEMS.len() + SLOT_ROWS + 4;
+
+/// The rows in order.
+pub(crate) const ROWS: [HeaderRow; ROW_COUNT] = rows!(Gps Galileo Glonass Beidou Qzss Sbas);
 
 /// Returns the row at an index, counted from 0.
 pub(crate) fn row_at(place: usize) -> HeaderRow
@@ -74,8 +96,5 @@ pub(crate) fn row_at(place: usize) -> HeaderRow
 pub(crate) fn first_types(system: System) -> usize
     ensures { result ≡ first_types system }
 {
-    match system {
-        Gps => 9,
-        Galileo => 15,
-    }
+    FIRST_TYPES + TYPE_ROWS * system as usize
 }

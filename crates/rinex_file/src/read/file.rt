@@ -16,7 +16,7 @@ use crate::read::parser_state::ParserState;
 use crate::read::reading::Reading;
 use crate::read::times::EpochTimes;
 use crate::values::{ObsFile, StoredEpoch, StoredRow};
-use gnss_obs::Plan;
+use gnss_obs::{BySystem, Plan};
 use rtcm_bits::Counted;
 use std::alloc::{AllocError, Global};
 use std::io::Read;
@@ -99,9 +99,8 @@ impl FileBuilder {
         ensures { IfSome result (λ f. f ≡ file_at parser_state (history_of self)) }
     {
         let head = parser_state.head;
-        let gps = head.types.gps.signals.as_slice();
-        let galileo = head.types.galileo.signals.as_slice();
-        let plan = Plan::from_signals(self.alloc, gps, galileo);
+        let lists = BySystem::each(|system| head.types.of(system).signals.as_slice());
+        let plan = Plan::from_lists(self.alloc, &lists);
         drop(parser_state.last_read);
         drop(head.types);
         drop(self.rows);
@@ -111,7 +110,7 @@ impl FileBuilder {
         };
         Some(ObsFile {
             texts: head.texts,
-            plan,
+            plan: plan.with_channels(head.slots.channels),
             values: head.values,
             epochs: self.epochs,
             counts: parser_state.counts,

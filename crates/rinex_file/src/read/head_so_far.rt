@@ -6,11 +6,12 @@ ghost use Rattle.gnss_obs.specs.Values.{planned_of};
 ghost use Rattle.rinex_file.specs.Header.{type_rows, row_at};
 ghost use Rattle.rinex_file.specs.Read.Progress.{AreValid, IsHeadAt, counted, signals_begun, is_chosen, fits};
 ghost use Rattle.rinex_file.specs.Read.HeaderSteps.{begins_with, expected_if, known_line, SameFrom, TakesHeaderLine};
-ghost use Rattle.rinex_file.specs.Read.HeaderSteps.{TakesTypes, RefusesTypes, with_types, IsOnly, ReadsOrRefuses};
+ghost use Rattle.rinex_file.specs.Read.HeaderSteps.{TakesTypes, RefusesTypes, with_types, AreSlotsBefore, IsOnly, ReadsOrRefuses};
 
 use crate::header::letters::flagged_letter;
-use crate::header::lines::{END, SHIFT, STRENGTH_UNIT, UNIT};
+use crate::header::lines::{BIASES, END, SHIFT, STRENGTH_UNIT, UNIT};
 use crate::header::rows::{HeaderRow, first_types, row_at};
+use crate::header::slots::slot_rows;
 use crate::header::texts::HeaderTexts;
 use crate::header::types::type_rows;
 use crate::read::epoch::read_first;
@@ -18,6 +19,7 @@ use crate::read::expected::{Expected, Refusal};
 use crate::read::header_lines::{
     is_header_line, read_delta, read_position, read_texts, read_version,
 };
+use crate::read::slots::SlotsSoFar;
 use crate::read::types::TypesSoFar;
 use gnss_obs::{BySystem, GpsTime, StationValues, System};
 use std::alloc::Global;
@@ -30,6 +32,7 @@ pub(crate) struct HeadSoFar {
     pub(crate) letter: u8,
     pub(crate) texts: HeaderTexts,
     pub(crate) types: BySystem<TypesSoFar>,
+    pub(crate) slots: SlotsSoFar,
     pub(crate) values: StationValues,
     pub(crate) first: GpsTime,
 }
@@ -38,7 +41,8 @@ impl Model for HeadSoFar {
     ghost use Rattle.std.specs.Prelude.{◌≤◌, length};
     ghost use Rattle.gnss_system.specs.Signals.{table};
     ghost use Rattle.gnss_obs.specs.SignalLists.{indices, IsOf};
-    ghost use Rattle.gnss_system.specs.declared.system.System.TheVariants.{Gps, Galileo};
+    ghost use Rattle.gnss_system.specs.declared.system.System.{System};
+    ghost use Rattle.gnss_system.specs.SystemValues.{value_of, map_by};
     ghost use Rattle.rinex_file.specs.Read.Progress.{Known};
     ghost use Rattle.rinex_file.specs.FileValues.{AreValues, IsTime};
 
@@ -48,17 +52,17 @@ impl Model for HeadSoFar {
       shown =
           record {
             texts = h.texts;
-            plan = record { gps = indices h.types.gps.signals; galileo = indices h.types.galileo.signals };
+            plan = record { signals = map_by (λ t. indices t.signals) h.types; channels = h.slots.channels };
             values = h.values;
             first = h.first;
           };
       letter = h.letter;
-      counts = record { gps = h.types.gps.count; galileo = h.types.galileo.count };
+      counts = map_by (λ t. t.count) h.types;
+      slots = h.slots.count;
     } };
 
-    ghost invariant = { λ h. IsOf Gps h.types.gps.signals × IsOf Galileo h.types.galileo.signals
-        × AreValues h.values × IsTime h.first
-        × (h.types.gps.count ≤ length (table Gps)) × (h.types.galileo.count ≤ length (table Galileo)) };
+    ghost invariant = { λ h. AreValues h.values × IsTime h.first × ((s : System) →
+        IsOf s (value_of s h.types).signals × ((value_of s h.types).count ≤ length (table s))) };
 }
 
 impl HeadSoFar {
@@ -69,10 +73,8 @@ impl HeadSoFar {
         let head = HeadSoFar {
             letter: 0,
             texts: HeaderTexts::blank(),
-            types: BySystem {
-                gps: TypesSoFar::new(alloc),
-                galileo: TypesSoFar::new(alloc),
-            },
+            types: BySystem::each(|_| TypesSoFar::new(alloc)),
+            slots: SlotsSoFar::new(),
             values: StationValues::zero(),
             first: GpsTime::new(0).unwrap(),
         };
@@ -103,6 +105,7 @@ impl HeadSoFar {
         // The prover knows the invariant of a type once a field is read.
         let _ = &self.types;
         self.texts.are_texts();
+        self.slots.channels.are_channels();
     }
 
     /// Returns whether a row has a line, if this line comes next.
@@ -113,6 +116,9 @@ impl HeadSoFar {
             HeaderRow::Types(system, 0) => begins_with(line, system.letter()),
             HeaderRow::Types(system, row) => row < type_rows(self.of(system).count),
             HeaderRow::Shift(system) => self.of(system).count > 0,
+            HeaderRow::Slots(0) => self.of(System::Glonass).count > 0,
+            HeaderRow::Slots(row) => row < slot_rows(self.slots.count as usize),
+            HeaderRow::Biases => self.of(System::Glonass).count > 0,
             _ => true,
         }
     }
@@ -145,10 +151,7 @@ impl HeadSoFar {
     fn fits(&self, place: usize) -> bool
         ensures { result ≡ fits self.now place }
     {
-        let chosen = BySystem {
-            gps: self.is_chosen(place, System::Gps),
-            galileo: self.is_chosen(place, System::Galileo),
-        };
+        let chosen = BySystem::each(|system| self.is_chosen(place, system));
         flagged_letter(&chosen) == self.letter && self.letter > 0
     }
 
@@ -169,7 +172,8 @@ impl HeadSoFar {
 
     /// Reads the line of a row, or returns None if no header has it.
     fn read_header_line(&mut self, row: HeaderRow, line: &[u8]) -> Option<()>
-        requires { IsOnly row }
+        requires only { IsOnly row }
+        requires slots { AreSlotsBefore self.old row }
         ensures { ReadsOrRefuses row line.now self.old self.new (is_some result) }
     {
         match row {
@@ -196,6 +200,8 @@ impl HeadSoFar {
             HeaderRow::Shift(system) => {
                 is_header_line(line, &[system.letter()], SHIFT).then_some(())
             }
+            HeaderRow::Slots(row) => self.slots.take(row, line).then_some(()),
+            HeaderRow::Biases => is_header_line(line, b"", BIASES).then_some(()),
             HeaderRow::Types(_, _) | HeaderRow::End => None,
         }
     }

@@ -1,5 +1,5 @@
 //! The lines of a reader, of which blocks are read ahead.
-ghost use Rattle.std.specs.Prelude.{◌≡◌, ◌==◌, ◌<◌, ◌≤◌, [], ◌∷◌, take, drop, length, false, IfNone, IfSome};
+ghost use Rattle.std.specs.Prelude.{◌≡◌, ◌==◌, ◌<◌, ◌≤◌, [], ◌∷◌, take, drop, length, false, IfNone, IfSome, Some};
 ghost use Rattle.std.specs.Io.KnownBytes.{Consumes, prepend_known};
 ghost use Rattle.arrayvec.specs.ArrayVec.{array_vec_len};
 ghost use Rattle.rinex_file.specs.Read.Fields.{has};
@@ -59,6 +59,7 @@ impl Block {
         ensures some { IfNone result ((0 < length self.new) × (reader.new.failures ≡ reader.old.failures)) }
         ensures none { IfSome result (λ found. IsFound found [] (prepend_known self.new (R.remaining reader.new.inner))
             reader.old.failures reader.new.failures) }
+        ensures failed { result ≡ Some Found.Failed → self.new ≡ [] }
     {
         if self.at < self.end {
             return None;
@@ -128,6 +129,7 @@ fn next_line<R: Read>(reader: &mut Counted<R>, block: &mut Block, line: &mut Lin
         × LeavesRest (R.remaining reader.old.inner) (R.remaining reader.new.inner) }
     ensures found { IsFound result line.new.items (prepend_known block.new (R.remaining reader.new.inner))
         reader.old.failures reader.new.failures }
+    ensures failed { result ≡ Found.Failed → block.new ≡ [] }
 {
     line.clear();
     while !line.is_full() {
@@ -204,6 +206,7 @@ impl Lines {
             × LeavesRest (R.remaining reader.old.inner) (R.remaining reader.new.inner) }
         ensures found { IsFound result self.new.line (prepend_known self.new.ahead (R.remaining reader.new.inner))
             reader.old.failures reader.new.failures }
+        ensures failed { result ≡ Found.Failed → self.new.ahead ≡ [] }
     {
         let done = self.size;
         self.size = 0;

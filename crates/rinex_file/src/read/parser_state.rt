@@ -56,10 +56,7 @@ fn rank_of(row: &SatelliteRow) -> u64
 fn planned_signals(head: &HeadSoFar) -> BySystem<usize>
     ensures { (s : System) → value_of s result ≡ planned_in head.now.shown.plan s }
 {
-    BySystem {
-        gps: head.planned(System::Gps),
-        galileo: head.planned(System::Galileo),
-    }
+    BySystem::each(|system| head.planned(system))
 }
 
 /// Returns the number of satellites of the systems of which some signal is planned.

@@ -1,6 +1,7 @@
 //! The reading of a file, line by line.
-ghost use Rattle.std.specs.Prelude.{◌≡◌, ◌==◌, ℕ, List, Option, Err};
+ghost use Rattle.std.specs.Prelude.{◌≡◌, ◌==◌, ◌+◌, ℕ, List, Option, Err, IfErr};
 ghost use Rattle.rtcm_bits.specs.Device.{HasFailed};
+ghost use Rattle.rinex_file.specs.Accepted.{AreEpochsRead, IsFaultAfter};
 ghost use Rattle.rinex_file.specs.Exact.{ExplainsFault, IsFaulty, IsExpectedAt};
 ghost use Rattle.rinex_file.specs.Blocks.{LeavesRest};
 ghost use Rattle.rinex_file.specs.ParserState.{History, nothing};
@@ -32,6 +33,7 @@ fn fault_at(expected: Expected, number: u64) -> ReadFault
     ensures faulty { (input : List ℕ) → IsFaulty input number → IsExpectedAt expected input number
         → ExplainsFault input result }
     ensures other { result ≡ ReadFault.Read → ⊥ }
+    ensures number { (n : ℕ) → number ≡ n + 1 → IsFaultAfter result n }
 {
     match expected {
         Expected::Header(_) => ReadFault::BadHeader(number),
@@ -62,6 +64,10 @@ impl Reading {
         requires { (h : History) × (input : Option (List ℕ)) × HasRead self.old h input (R.remaining reader.old.inner) }
         ensures goes { GoesOnReading self.old (R.remaining reader.old.inner) self.new (R.remaining reader.new.inner)
             result }
+        ensures decided { result ≡ Err ReadFault.Read → (h : History) → (input : Option (List ℕ))
+            → HasRead self.old h input (R.remaining reader.old.inner)
+            → AreEpochsRead h.epochs input (R.remaining reader.new.inner) }
+        ensures number { IfErr result (λ e. IsFaultAfter e self.old.count) }
         ensures left { LeavesRest (R.remaining reader.old.inner) (R.remaining reader.new.inner) }
         ensures failed { result ≡ Err ReadFault.Read → HasFailed reader.old.failures reader.new.failures }
         ensures same { (result ≡ Err ReadFault.Read → ⊥) → reader.new.failures ≡ reader.old.failures }

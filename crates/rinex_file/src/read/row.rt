@@ -16,10 +16,10 @@ ghost use Rattle.rinex_file.specs.Limits.{signal_columns};
 
 use crate::read::fields::{field_in, is_blank_at};
 use crate::values::{SatelliteRow, SignalValues};
-use crate::write::line::{MOST_SIGNALS, SIGNAL_COLUMNS};
+use crate::write::line::SIGNAL_COLUMNS;
 use crate::write::satellite::strength_column;
 use arrayvec::ArrayVec;
-use gnss_system::{BySystem, System};
+use gnss_system::{BySystem, MOST_SIGNALS, System};
 
 /// Returns the loss-of-lock indicator in the LLI column of a phase, or None if it is no such
 /// column.
@@ -185,12 +185,15 @@ fn read_of(line: &[u8], system: System, signals: usize, row: &mut SatelliteRow) 
     if text.len() < 3 || text.len() > 3 + SIGNAL_COLUMNS * signals {
         return false;
     }
-    let Some(id) = two_digits_in(text[1], text[2]) else {
+    let Some(number) = two_digits_in(text[1], text[2]) else {
         return false;
     };
-    if text[0] != system.letter() || id == 0 || id > system.satellites() {
+    if text[0] != system.letter() {
         return false;
     }
+    let Some(id) = system.id_of_number(number) else {
+        return false;
+    };
     row.system = system;
     row.satellite = id;
     resize(&mut row.signal_values, signals);

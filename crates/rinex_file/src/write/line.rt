@@ -5,7 +5,7 @@ ghost use Rattle.arrayvec.specs.ArrayVec.{array_vec_len};
 ghost use Rattle.rinex_file.specs.Limits.{most_line};
 
 use arrayvec::ArrayVec;
-use gnss_obs::GALILEO_SIGNAL_COUNT;
+use gnss_system::MOST_SIGNALS;
 use itoa::Buffer;
 
 /// Width of a value field, in columns: F14.3 plus the LLI and SSI columns.
@@ -13,9 +13,6 @@ pub(crate) const VALUE_COLUMNS: usize = 16;
 
 /// Width of a signal, in columns: pseudorange, phase, Doppler shift and strength.
 pub(crate) const SIGNAL_COLUMNS: usize = 64;
-
-/// Largest number of signals of a system: those of Galileo.
-pub(crate) const MOST_SIGNALS: usize = GALILEO_SIGNAL_COUNT;
 
 /// Largest size of a line with its line feed, in bytes: three columns for a satellite, and
 /// those of its signals.

@@ -1,21 +1,21 @@
 //! Observation lines: RINEX 3.05, table A3, "OBSERVATION DATA RECORD".
 ghost use Rattle.std.specs.Prelude.{◌≡◌, ◌≤◌, ◌<◌, ◌++◌, ℕ, [], ◌∷◌, length, take, All, List, IfSome, Some};
-ghost use Rattle.std.specs.Prelude.{◌-◌, replicate, slice_set};
+ghost use Rattle.std.specs.Prelude.{◌-◌, ◌^◌, drop, flat_map, slice_index, slice_set};
 ghost use Rattle.gnss_obs.specs.declared.cell.Cell.{Cell};
-ghost use Rattle.gnss_system.specs.Satellites.{letter};
+ghost use Rattle.gnss_system.specs.Satellites.{letter, number_of};
 ghost use Rattle.gnss_system.specs.Signals.{most_signals};
 ghost use Rattle.gnss_obs.specs.Values.{AreHeld};
 ghost use Rattle.rinex_file.specs.FileValues.{FitsColumns, HaveRoom};
-ghost use Rattle.rinex_file.specs.Value.{signal_values_of, satellite_row, row_among, row_in_epoch};
+ghost use Rattle.rinex_file.specs.Value.{entries_of, signal_values_of, satellite_row, row_among, row_in_epoch};
 ghost use Rattle.rinex_file.specs.Numbers.{padded};
 ghost use Rattle.rinex_file.specs.Blanks.{trimmed};
 ghost use Rattle.rinex_file.specs.Lines.{field, lli_byte, strength_byte, signal_text, satellite_line};
-ghost use Rattle.rinex_file.specs.Rows.{HasSignals};
+ghost use Rattle.rinex_file.specs.Rows.{AreApart, IsBlankBut, HasColumns};
 ghost use Rattle.rinex_file.specs.Limits.{most_line, signal_columns, value_columns};
 
 use crate::values::SignalValues;
 use crate::write::digits::columns_of;
-use crate::write::lanes::{columns_in, columns_in_two};
+use crate::write::lanes::{columns_in, columns_in_two, columns_of_range};
 use crate::write::line::{Line, MOST_LINE, SIGNAL_COLUMNS, VALUE_COLUMNS, put};
 use gnss_obs::{Cell, Epoch, Plan, Sat, System, Thousandths, strength_digit};
 use std::marker::Model;
@@ -37,6 +37,23 @@ fn put_value(columns: &mut [u8], value: &Option<Thousandths>, lost: u8, strength
     };
     columns_in(value.value()).copy_to_slice(columns);
     columns[14] = lost;
+    columns[15] = strength;
+}
+
+/// Writes a pseudorange as [`put_value`] does.
+#[inline(always)]
+#[tactic(auto, unfolding(crate::specs::Lines::field))]
+fn put_range(columns: &mut [u8], value: &Option<Thousandths>, strength: u8)
+    requires fits { IfSome value.now FitsColumns }
+    requires room { length columns.old ≡ value_columns }
+    ensures text { columns.new ≡ field value.now 32 strength }
+    ensures size { length columns.new ≡ value_columns }
+{
+    let Some(value) = value else {
+        columns.fill(b' ');
+        return;
+    };
+    columns_of_range(value.value()).copy_to_slice(columns);
     columns[15] = strength;
 }
 
@@ -132,7 +149,7 @@ fn put_signal(columns: &mut [u8], values: &ValueRefs)
     let lli = *values.lli;
     let lost = if lli == 0 { b' ' } else { b'0' + lli };
     let (range, others) = columns.split_at_mut(VALUE_COLUMNS);
-    put_value(range, values.c, b' ', strength);
+    put_range(range, values.c, strength);
     let (phase, others) = others.split_at_mut(VALUE_COLUMNS);
     put_value(phase, values.l, lost, strength);
     put_doppler_and_strength(others, values.d, values.s);
@@ -142,6 +159,7 @@ fn put_signal(columns: &mut [u8], values: &ValueRefs)
 pub(crate) fn trimmed_len(text: &[u8]) -> usize
     ensures text { take result text.now ≡ trimmed text.now }
     ensures bound { result ≤ length text.now }
+    ensures blank { result < length text.now → slice_index text.now result ≡ 32 }
 {
     let mut end = text.len();
     while end > 0 && text[end - 1] == b' ' {
@@ -153,48 +171,80 @@ pub(crate) fn trimmed_len(text: &[u8]) -> usize
 /// Writes the letter and number of a satellite into the first columns of a row.
 #[inline(always)]
 fn begin_columns(row: &mut [u8; MOST_LINE], system: System, id: u8)
-    requires { id < 100 }
-    ensures { take 3 row.new ≡ letter system ∷ padded 2 id }
+    requires { number_of system id < 100 }
+    ensures front { take 3 row.new ≡ letter system ∷ padded 2 (number_of system id) }
+    ensures rest { drop 3 row.new ≡ drop 3 row.old }
 {
+    let number = system.number_of(id);
     row[0] = system.letter();
-    row[1] = b'0' + id / 10;
-    row[2] = b'0' + id % 10;
+    row[1] = b'0' + number / 10;
+    row[2] = b'0' + number % 10;
 }
 
-/// Appends blanks to the first `size` columns of a row if they end before column `end`. Returns
-/// their number then.
+/// Writes the columns of the signal at this index in the plan into a row.
 #[inline(always)]
-fn reach(row: &mut [u8; MOST_LINE], size: usize, end: usize) -> usize
-    requires room { end < most_line }
-    requires within { size < most_line }
-    ensures text { take result row.new ≡ take size row.old ++ replicate (end - size) 32 }
-    ensures end { end ≤ result }
-    ensures bound { result < most_line }
-{
-    if size >= end {
-        return size;
-    }
-    row[size..end].fill(b' ');
-    end
-}
-
-/// Writes the columns of the signal at this index into a row that has `size` columns. Returns their
-/// number then.
-#[inline(always)]
-fn put_columns(row: &mut [u8; MOST_LINE], size: usize, place: usize, values: &ValueRefs) -> usize
+fn put_columns(row: &mut [u8; MOST_LINE], place: usize, values: &ValueRefs)
     requires fits { HaveRoom values.now }
     requires few { place < most_signals }
-    requires within { size < most_line }
-    ensures text { (front : List ℕ) (others : List SignalValues) → length front ≡ 3 → All HaveRoom others
-        → place < length others → HasSignals (take size row.old) front others
-        → HasSignals (take result row.new) front (slice_set others place values.now) }
-    ensures bound { result < most_line }
+    ensures columns { (all : List SignalValues) → All HaveRoom all → place < length all
+        → drop 3 row.old ≡ flat_map signal_text all ++ 32 ∷ []
+        → drop 3 row.new ≡ flat_map signal_text (slice_set all place values.now) ++ 32 ∷ [] }
+    ensures front { take 3 row.new ≡ take 3 row.old }
 {
     let start = 3 + SIGNAL_COLUMNS * place;
-    let end = start + SIGNAL_COLUMNS;
-    let size = reach(row, size, end);
-    put_signal(&mut row[start..end], values);
-    size
+    put_signal(&mut row[start..start + SIGNAL_COLUMNS], values);
+}
+
+/// Writes the columns of the signals of a satellite's cells into a row, and returns the set of their
+/// indices in the plan: bit n is index n.
+#[inline(always)]
+fn put_cells(row: &mut [u8; MOST_LINE], cells: &[Cell], plan: &Plan, system: System, id: u8) -> u64
+    requires { AreHeld system cells.now }
+    ensures columns { (used : ℕ) → IsBlankBut used row.old
+        → HasColumns used result (entries_of plan.now system id cells.now) row.new }
+    ensures front { take 3 row.new ≡ take 3 row.old }
+    ensures few { result < 2 ^ most_signals }
+{
+    // By the contract of `of` no signal is planned twice, so each has one index.
+    let signals = plan.list(system);
+    let mut own = 0;
+    // The first cell of a signal is the one that is written, so it is written last.
+    let mut at = cells.len();
+    while at > 0 {
+        at -= 1;
+        let cell = &cells[at];
+        if cell.satellite.id() == id
+            && let Some(place) = signals.place(cell.signal)
+        {
+            put_columns(row, place, &ValueRefs::of(cell));
+            own |= 1 << place;
+        }
+    }
+    own
+}
+
+/// Blanks the columns of the signals at these indices.
+#[inline(always)]
+fn blank_columns(row: &mut [u8; MOST_LINE], places: u64)
+    requires { places < 2 ^ most_signals }
+    ensures columns { (own : ℕ) (values : List SignalValues) → AreApart places own
+        → HasColumns places own values row.old → HasColumns 0 own values row.new }
+    ensures front { take 3 row.new ≡ take 3 row.old }
+{
+    let (none, zero) = (None, 0);
+    let mut left = places;
+    while left != 0 {
+        let place = left.trailing_zeros();
+        let values = ValueRefs {
+            c: &none,
+            l: &none,
+            d: &none,
+            s: &none,
+            lli: &zero,
+        };
+        put_columns(row, place as usize, &values);
+        left &= !(1 << place);
+    }
 }
 
 /// Ends the first `size` columns of a row: a line feed follows the last that is not blank. Returns
@@ -202,7 +252,8 @@ fn put_columns(row: &mut [u8; MOST_LINE], size: usize, place: usize, values: &Va
 fn end_columns(row: &mut [u8; MOST_LINE], size: usize) -> usize
     requires { size < most_line }
     ensures text { take result row.new ≡ trimmed (take size row.old) ++ 10 ∷ [] }
-    ensures bound { result ≤ most_line }
+    ensures bound { (0 < result) × (result ≤ most_line) }
+    ensures blank { slice_index row.old size ≡ 32 → slice_set row.new (result - 1) 32 ≡ row.old }
 {
     let end = trimmed_len(&row[..size]);
     row[end] = b'\n';
@@ -210,35 +261,30 @@ fn end_columns(row: &mut [u8; MOST_LINE], size: usize) -> usize
 }
 
 /// Writes the line of a satellite with these cells over the first bytes of a row, and returns its
-/// length. The row is not cleared before, as each column up to the end of the line is written.
+/// length. The row is blank but for its first columns and those of the signals in `used`, so that
+/// only these are blanked; so it is again once the line feed is replaced by a blank.
+#[inline(always)]
 pub(crate) fn put_satellite_line(
     row: &mut [u8; MOST_LINE],
+    used: &mut u64,
     cells: &[Cell],
     plan: &Plan,
     system: System,
     id: u8,
 ) -> usize
     requires held { AreHeld system cells.now }
-    requires id { id < 100 }
+    requires id { number_of system id < 100 }
+    requires blank { IsBlankBut used.old row.old }
     ensures text { take result row.new ≡ satellite_line (row_among plan.now system cells.now id) }
-    ensures bound { result ≤ most_line }
+    ensures bound { (0 < result) × (result ≤ most_line) }
+    ensures blank { IsBlankBut used.new (slice_set row.new (result - 1) 32) }
 {
     begin_columns(row, system, id);
-    // By the contract of `of` no signal is planned twice, so each has one index.
-    let _ = plan.of(system);
-    let mut size = 3;
-    // The first cell of a signal is the one that is written, so it is written last.
-    let mut at = cells.len();
-    while at > 0 {
-        at -= 1;
-        let cell = &cells[at];
-        if cell.satellite.id() == id
-            && let Some(place) = plan.place_among(system, cell.signal)
-        {
-            size = put_columns(row, size, place, &ValueRefs::of(cell));
-        }
-    }
-    end_columns(row, size)
+    let own = put_cells(row, cells, plan, system, id);
+    blank_columns(row, *used & !own);
+    *used = own;
+    let places = (64 - own.leading_zeros()) as usize;
+    end_columns(row, 3 + SIGNAL_COLUMNS * places)
 }
 
 /// Writes the line of a satellite with these values of the planned signals over the first bytes of
@@ -249,7 +295,7 @@ pub(crate) fn put_values(
     system: System,
     id: u8,
 ) -> usize
-    requires id { id < 100 }
+    requires id { number_of system id < 100 }
     requires room { All HaveRoom values.now }
     requires few { length values.now ≤ most_signals }
     ensures text { take result row.new ≡ satellite_line (satellite_row system id values.now) }
@@ -276,7 +322,9 @@ pub fn satellite_line(epoch: &Epoch, plan: &Plan, satellite: Sat, line: &mut Lin
 {
     let cells = epoch.cells(satellite.system());
     let mut row = [b' '; MOST_LINE];
-    let size = put_satellite_line(&mut row, cells, plan, satellite.system(), satellite.id());
+    let mut used = 0;
+    let system = satellite.system();
+    let size = put_satellite_line(&mut row, &mut used, cells, plan, system, satellite.id());
     line.clear();
     put(line, &row[..size]);
 }

@@ -59,3 +59,40 @@ static OF_SPOILT: Setting = Setting {
 fn a_damaged_file_is_refused(rt: HostRuntime) {
     assert_come(&rt, rt.alloc(), &OF_SPOILT, &SPOILT);
 }
+
+const GAPS: [&str; 4] = ["rtcm2rinex", "check", "--gaps", "0.999"];
+
+/// A gap of one second, in a file and before a line that is refused.
+static WITH_A_GAP: [Case; 2] = [
+    (
+        &[],
+        File(&[], &[Time, Values, NextTime, NextValues]),
+        Good(
+            Lines(
+                "gap 2024-02-04 00:00:01.000 2024-02-04 00:00:02.000\n\
+                 epochs 2 satellites 2 events 0\n\
+                 complete 2 of 2\n",
+            ),
+            "",
+        ),
+    ),
+    (
+        &[],
+        File(&[], &[Time, Values, NextTime, NextValues, Time]),
+        Fault(
+            Lines("gap 2024-02-04 00:00:01.000 2024-02-04 00:00:02.000\n"),
+            "rtcm2rinex: BadEpoch 19\n",
+        ),
+    ),
+];
+
+static OF_GAPS: Setting = Setting {
+    words: &GAPS,
+    sizes: &[&[1], &[]],
+    ..FAULTLESS
+};
+
+#[test]
+fn the_gaps_of_a_file_are_printed(rt: HostRuntime) {
+    assert_come(&rt, rt.alloc(), &OF_GAPS, &WITH_A_GAP);
+}

@@ -130,24 +130,27 @@ fn given_station_values_are_in_the_header(rt: HostRuntime) {
     assert_come(&rt, rt.alloc(), &PLACING, &PLACED);
 }
 
-/// A missing coordinate, five decimals, a letter, 38 bits exceeded, and a height of 17 bits.
-static NOT_LENGTHS: [Case; 5] = [
+/// A missing coordinate, five decimals, a letter, 38 bits exceeded, a height of 17 bits, channel 7,
+/// and a slot that is given twice.
+static NOT_VALUES: [Case; 7] = [
     (&["--position=1,2"], IN_ONE, Refused),
     (&["--position=1.00000,2,3"], IN_ONE, Refused),
     (&["--position=1,x,3"], IN_ONE, Refused),
     (&["--position=13743895.3472,0,0"], IN_ONE, Refused),
     (&["--antenna-height=6.5536"], IN_ONE, Refused),
+    (&["--glonass-channels=1:7"], IN_ONE, Refused),
+    (&["--glonass-channels=2:1,1:0,2:1"], IN_ONE, Refused),
 ];
 
-/// A conversion whose lengths follow.
+/// A conversion whose lengths or channels follow.
 static MEASURING: Setting = Setting {
     words: &OPTIONS,
     ..FAULTLESS
 };
 
 #[test]
-fn texts_that_are_no_lengths_read_nothing(rt: HostRuntime) {
-    assert_come(&rt, rt.alloc(), &MEASURING, &NOT_LENGTHS);
+fn texts_that_are_no_values_read_nothing(rt: HostRuntime) {
+    assert_come(&rt, rt.alloc(), &MEASURING, &NOT_VALUES);
 }
 
 /// A conversion whose other options follow.

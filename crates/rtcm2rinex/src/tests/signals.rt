@@ -3,8 +3,8 @@ use super::messages::{COARSE, HEIGHT};
 use super::scenario::Expected::Good;
 use super::scenario::{Case, FAULTLESS, Setting, assert_come};
 use super::texts::Piece::{Fine, Framed};
-use super::texts::Text;
 use super::texts::Text::{Lines, Stream};
+use super::texts::{Piece, Text};
 
 pub const SIGNALS: [&str; 2] = ["rtcm2rinex", "signals"];
 
@@ -35,7 +35,15 @@ fn signals_are_listed_with_their_cells(rt: HostRuntime) {
 
 pub const PLAN: [&str; 2] = ["rtcm2rinex", "options"];
 
-static PLANS: [Case; 2] = [
+/// A 1087 with a cell of slot 5 and channel 1, a second after the start of Sunday in Moscow.
+const OF_GLONASS: Piece = Fine(&[(1, 0xF7), (22, 0xA0)]);
+
+/// A 1020 with channel -7 of slot 5, and one with channel 1 of slot 27.
+const OTHER_CHANNEL: Piece = Framed(&[0x3F, 0xC1, 0x40]);
+
+const OTHER_SLOT: Piece = Framed(&[0x3F, 0xC6, 0xD0]);
+
+static PLANS: [Case; 4] = [
     (
         &[],
         OF_THREE,
@@ -49,6 +57,25 @@ static PLANS: [Case; 2] = [
                 "--gps 1C --galileo none --position=1114104.5999,-4850729.7108,3975521.4643 \
                  --antenna-height 1.5000\n",
             ),
+            "",
+        ),
+    ),
+    (
+        &["--near", "2024-02-04"],
+        Stream(&[OTHER_SLOT, OF_GLONASS, OTHER_CHANNEL]),
+        Good(
+            Lines(
+                "--week 2299 --gps none --galileo none --glonass 1C --glonass-channels 5:1,27:1 \
+                 --leap-seconds 18\n",
+            ),
+            "",
+        ),
+    ),
+    (
+        &[],
+        Stream(&[OTHER_CHANNEL, OF_GLONASS]),
+        Good(
+            Lines("--gps none --galileo none --glonass 1C --glonass-channels 5:-7\n"),
             "",
         ),
     ),

@@ -3,7 +3,7 @@ use super::known::{Known, bytes_of};
 use rtcm_msg::{MsgFault, decode};
 
 /// A message, and the widths of its fields.
-static FIELDS: [(Known, &[usize]); 4] = [
+static FIELDS: [(Known, &[usize]); 6] = [
     (
         Known::Station,
         &[12, 12, 6, 1, 1, 1, 1, 38, 1, 1, 38, 2, 38],
@@ -22,6 +22,18 @@ static FIELDS: [(Known, &[usize]); 4] = [
         Known::Coarse,
         &[
             12, 12, 30, 1, 3, 7, 2, 2, 1, 3, 64, 32, 1, 8, 10, 15, 22, 4, 1, 6,
+        ],
+    ),
+    (
+        Known::Msm5,
+        &[
+            12, 12, 30, 1, 3, 7, 2, 2, 1, 3, 64, 32, 1, 8, 4, 10, 14, 15, 22, 4, 1, 6, 15,
+        ],
+    ),
+    (
+        Known::Msm6,
+        &[
+            12, 12, 30, 1, 3, 7, 2, 2, 1, 3, 64, 32, 1, 8, 10, 20, 24, 10, 1, 10,
         ],
     ),
 ];

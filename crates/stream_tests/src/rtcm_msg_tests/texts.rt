@@ -12,7 +12,7 @@ static MESSAGE_TEXTS: [(MsgFault, &str); 3] = [
         MsgFault::TooManyCells,
         "more than 64 pairs of a satellite and a signal",
     ),
-    (MsgFault::BadTime, "an epoch time of a week or more"),
+    (MsgFault::BadTime, "an epoch time out of range"),
 ];
 
 static VALUE_TEXTS: [(ValueFault, &str); 4] = [
@@ -28,7 +28,7 @@ static VALUE_TEXTS: [(ValueFault, &str); 4] = [
         ValueFault::CellCount,
         "another number of satellites or cells than in the masks",
     ),
-    (ValueFault::BadTime, "an epoch time of a week or more"),
+    (ValueFault::BadTime, "an epoch time out of range"),
 ];
 
 #[test]

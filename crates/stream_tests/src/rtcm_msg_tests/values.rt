@@ -62,7 +62,11 @@ fn masks_are_judged(rt: HostRuntime) {
 }
 
 /// The fault of these parts of a message whose masks have one satellite and one cell.
-fn msm_fault<G: Grid>(time: u32, satellites: &[Satellite], cells: &[Cell]) -> Option<ValueFault> {
+pub fn msm_fault<G: Grid>(
+    time: u32,
+    satellites: &[Satellite],
+    cells: &[Cell],
+) -> Option<ValueFault> {
     let header = MsmHeader { time, ..HEADER };
     // satellite 5 and signal 2
     match Masks::new(1 << 59, 1 << 30, 1) {
@@ -80,15 +84,15 @@ static WIDE: Cell = Cell {
     rate: 0,
 };
 
-/// Data of MSM4: the satellite and the cell of the coarse message.
-const COARSE_SATELLITE: Satellite = Satellite {
+/// Data of MSM4, which all forms have.
+pub const COARSE_SATELLITE: Satellite = Satellite {
     whole: 70,
     extended: 0,
     fraction: 1023,
     rate: INVALID_ROUGH_RATE,
 };
 
-const COARSE_CELL: Cell = Cell {
+pub const COARSE_CELL: Cell = Cell {
     range: -1,
     phase: 1,
     lock: 15,
@@ -119,76 +123,6 @@ fn parts_are_judged(rt: HostRuntime) {
             && has_fault(1000, &[WIDE], ValueFault::OutOfRange(Field::FinePhase))
             && coarse == Some(ValueFault::OutOfRange(Field::RangeFraction))
     );
-}
-
-/// Whether MSM4 refuses a satellite or a cell with a field that only MSM7 has, or that is wider
-/// there, and accepts it without.
-#[test]
-fn msm4_has_no_field_of_msm7(rt: HostRuntime) {
-    let cells: [(Cell, Field); 5] = [
-        (
-            Cell {
-                range: 1 << 14,
-                ..COARSE_CELL
-            },
-            Field::FineRange,
-        ),
-        (
-            Cell {
-                phase: 1 << 21,
-                ..COARSE_CELL
-            },
-            Field::FinePhase,
-        ),
-        (
-            Cell {
-                lock: 16,
-                ..COARSE_CELL
-            },
-            Field::Lock,
-        ),
-        (
-            Cell {
-                strength: 64,
-                ..COARSE_CELL
-            },
-            Field::Strength,
-        ),
-        (
-            Cell {
-                rate: 0,
-                ..COARSE_CELL
-            },
-            Field::FineRate,
-        ),
-    ];
-    for (cell, field) in &cells {
-        let fault = msm_fault::<Grid4>(1000, &[COARSE_SATELLITE], &[*cell]);
-        assert!(rt; fault == Some(ValueFault::OutOfRange(*field)));
-        assert!(rt; msm_fault::<Grid7>(1000, &[SATELLITE], &[*cell]) == None);
-    }
-    let satellites: [(Satellite, Field); 2] = [
-        (
-            Satellite {
-                extended: 1,
-                ..COARSE_SATELLITE
-            },
-            Field::Extended,
-        ),
-        (
-            Satellite {
-                rate: 0,
-                ..COARSE_SATELLITE
-            },
-            Field::RoughRate,
-        ),
-    ];
-    for (satellite, field) in &satellites {
-        let fault = msm_fault::<Grid4>(1000, &[*satellite], &[COARSE_CELL]);
-        assert!(rt; fault == Some(ValueFault::OutOfRange(*field)));
-        assert!(rt; msm_fault::<Grid7>(1000, &[*satellite], &[CELL]) == None);
-    }
-    assert!(rt; msm_fault::<Grid4>(1000, &[COARSE_SATELLITE], &[COARSE_CELL]) == None);
 }
 
 /// Writes the message 1077 of these masks and data.

@@ -4,7 +4,7 @@ use Rattle.std.proofs.Common.{arith}
 use Rattle.std.proofs.lemmas.Grind.{common_steps}
 
 pub returns-clause-heard : goal.returns-clause-heard
-returns-clause-heard c = grind (arith, common_steps, message_heard, c.sizes.ensures.metres, c.sizes.ensures.cycles, c.sizes.ensures.shift, c.sizes.ensures.decibels, c.measures.ensures.cells, c.measures.ensures.points)
+returns-clause-heard c = grind (arith, common_steps, message_heard, c.sizes.ensures.metres, c.sizes.ensures.carriers, c.sizes.ensures.cycles, c.sizes.ensures.shift, c.sizes.ensures.decibels, c.measures.ensures.cells, c.measures.ensures.points)
 
 pub returns-clause-epochs : goal.returns-clause-epochs
 returns-clause-epochs c = epochs_gathered

@@ -19,11 +19,11 @@ returns-after-field-clause-value c =
     let own = signal_planned (planned_of c.args.system c.args.plan.now) _ c.in-Some-Some.signal c.in-Some-Some.ensures' in
     let same = sym (satellite_is c.args.system c.args.entry.now.satellite _ (sym c.in-Some-Some.ensures.value)).0 in
     let planned = subst (λ system. is_some (place_in c.in-Some-Some.signal (planned_of system c.args.plan.now)) ≡ true) same own.1 in
-    rw (← c.in-Some-Some.ensures.value, own.0, c.pseudorange.ensures.value, c.phase.ensures.value, c.doppler.ensures.value, c.strength.ensures.value, lock, planned) refl
+    rw (← c.in-Some-Some.ensures.value, own.0, c.pseudorange.ensures.value, c.phase_at.ensures.value, c.doppler_at.ensures.value, c.hertz-carrier.ensures.value, c.channels.ensures, c.strength.ensures.value, lock, planned) refl
 
 pub returns-after-field-clause-observed : goal.returns-after-field-clause-observed
 returns-after-field-clause-observed c =
     let satellite = satellite_is c.args.system c.args.entry.now.satellite _ (sym c.in-Some-Some.ensures.value) in
     let own = signal_planned (planned_of c.args.system c.args.plan.now) _ c.in-Some-Some.signal c.in-Some-Some.ensures' in
     let listed = listed_of c.args.system c.args.entry.now.signal _ own.0 in
-    record { key = record { satellite = satellite.1; signal = listed.1; same = listed.0 ∙ sym satellite.0 }; c = c.pseudorange.ensures.bound; l = c.phase.ensures.bound; d = c.doppler.ensures.bound; s = c.strength.ensures.bound }
+    record { key = record { satellite = satellite.1; signal = listed.1; same = listed.0 ∙ sym satellite.0 }; c = c.pseudorange.ensures.bound; l = c.phase_at.ensures.bound; d = c.doppler_at.ensures.bound; s = c.strength.ensures.bound }

@@ -1,10 +1,11 @@
+use Rattle.rinex_file.proofs.Rows.Columns.{blank_row}
 use Rattle.rinex_file.proofs.Writing.Sent.{lines_next, lines_after, lines_all, part_after, part_first, where_failed}
 use Rattle.rinex_file.proofs.Names.{arith, sym, subst, refl, Appends, Appends-nil, Appends-trans, lines_of_systems, lines_up_to, satellites}
 use Rattle.gnss_system.specs.Systems.{after}
 use Rattle.rinex_file.proofs.write.write_systems.Goals as goal
 
 pub loop-i-init : goal.loop-i-init
-loop-i-init g c = record { out = Appends-nil (g.W.Write.contents c.args.writer.now.inner); fine = refl; widest = refl }
+loop-i-init g c = record { out = Appends-nil (g.W.Write.contents c.args.writer.now.inner); blank = blank_row; fine = refl; widest = refl }
 
 pub loop-i-preserved : goal.loop-i-preserved
 loop-i-preserved g c =
@@ -15,6 +16,7 @@ loop-i-preserved g c =
     record {
       out = subst (λ l. Appends a d l) (sym (lines_next c.args.plan.now c.args.epoch.now.epoch c.loop-i.i c.at.result c.at.ensures))
           (Appends-trans a (contents c.loop-i.writer.inner) d _ _ inv.out c.in_ok-write_system.ensures.whole);
+      blank = c.in_ok-write_system.ensures.blank;
       fine = grind (arith, c.in_ok-write_system.ensures, inv.fine);
       widest = grind (arith, c.in_ok-write_system.ensures, inv.widest);
     }

@@ -10,7 +10,7 @@ returns-in-Ok c =
     (versioned _ _ _ c.version.ensures c.subcommand_required-start.ensures c.described.ensures) in
     let is : IsProgram program = subst IsProgram (sym same) c.program_tables-tables.ensures in
     let parse = c.try_get_matches_from in
-    let read : is_simple_and_free program ≡ true = ap is_simple_and_free is.2 ∙ is_read is.0 in
+    let read : is_simple_and_free program ≡ true = ap is_simple_and_free is.4 ∙ is_read is.0 is.1 in
     record {
       asked = found_command program (texts c.args.words.now) parse.result is read (parse.ensures.kinds read) parse.ensures.matches;
       refused = IfErr-weaker parse.result _ _ (λ e h. elim h [ inl memory ↦ inl memory | inr among ↦ inr (program, is, among) ]) (why _ parse.result (parse.ensures.kinds read));

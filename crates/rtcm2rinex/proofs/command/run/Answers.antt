@@ -1,5 +1,8 @@
-use Rattle.rtcm2rinex.proofs.CommandLemmas.{Devices, ends_so, inspection_found, is_check, options_stopped, sub_found}
-use Rattle.rtcm2rinex.proofs.Names.{◌∙◌, Bool, inl, inr, refl, subst, sym, EndsCheck, options_of}
+use Rattle.rtcm2rinex.proofs.CommandLemmas.{Devices, check_stopped, ends_so, inspection_found, is_check, options_stopped, sub_found}
+use Rattle.rtcm2rinex.proofs.Names.{Bool, inl, inr, refl, subst, options_of}
+use Rattle.rtcm_scan.specs.Scan.{most_bytes}
+use Rattle.rtcm_inspect.specs.Listing.{EndsListing}
+use Rattle.rtcm_inspect.specs.ShowLines.{show_lines}
 use Rattle.rtcm2rinex.proofs.command.run.Goals as goal
 
 pub returns-in-frames : goal.returns-in-frames
@@ -10,9 +13,10 @@ returns-in-frames g c =
 
 pub returns-in-show : goal.returns-in-show
 returns-in-show g c =
-    let d : Devices _ _ = record { left = g.R.Read.remaining; held = g.W.Write.contents; waits = g.W.Deliver.waiting; r = c.args.reader.now; r2 = c.run_show.new.reader; w = c.args.writer.now; w2 = c.run_show.new.writer } in
-    inspection_found d g.E.Write.contents g.E.Deliver.waiting c.args.faults.now c.run_show.result c.of_inspection-in-show.ensures (sub_found _ c.in-Some.ensures.name c.in-Some.ensures.rows)
-    (λ x h. inr (inl (c.in-show.is, h)), λ f h. inr (inl (c.in-show.is, h))) c.run_show.ensures
+    let d : Devices _ _ = record { left = g.R.Read.remaining; held = g.W.Write.contents; waits = g.W.Deliver.waiting; r = c.args.reader.now; r2 = c.show.new.reader; w = c.args.writer.now; w2 = c.show.new.writer } in
+    inspection_found d g.E.Write.contents g.E.Deliver.waiting c.args.faults.now c.show.result c.of_inspection-in-show.ensures (sub_found _ c.in-Some.ensures.name c.in-Some.ensures.rows)
+    (λ x h. inr (inl (c.in-show.is, h)), λ f h. inr (inl (c.in-show.is, h)))
+    (subst (λ (b : Bool). EndsListing c.show.result most_bytes (show_lines b) g.R.Read.remaining c.args.reader.now c.show.new.reader g.W.Write.contents g.W.Deliver.waiting c.args.writer.now c.show.new.writer) c.has_all.ensures c.show.ensures)
 
 pub returns-in-signals : goal.returns-in-signals
 returns-in-signals g c =
@@ -44,16 +48,11 @@ pub returns-in_default-name : goal.returns-in_default-name
 returns-in_default-name g c =
     let found = sub_found _ c.in-Some.ensures.name c.in-Some.ensures.rows in
     let n = is_check c.args.matches.now c.requires found c.in_default-name.not-frames c.in_default-name.not-show c.in_default-name.not-signals c.in_default-name.not-options c.in_default-name.not-convert in
-    let d : Devices _ _ = record { left = g.R.Read.remaining; held = g.W.Write.contents; waits = g.W.Deliver.waiting; r = c.args.reader.now; r2 = c.run_check_times.new.reader; w = c.args.writer.now; w2 = c.run_check_times.new.writer } in
-    inspection_found d g.E.Write.contents g.E.Deliver.waiting c.args.faults.now c.run_check_times.result c.of_inspection-in_default-name.ensures found
-    (λ x h. inr (inr (inr (inr (n, h)))), λ f h. inr (inr (inr (inr (n, h)))))
-    (subst (λ (b : Bool). EndsCheck c.run_check_times.result b g.R.Read.remaining c.args.reader.now c.run_check_times.new.reader g.W.Write.contents g.W.Deliver.waiting c.args.writer.now c.run_check_times.new.writer) (sym c.if-has_times.true ∙ c.has_times.ensures) c.run_check_times.ensures.ends)
-
-pub returns-in_default-2 : goal.returns-in_default-2
-returns-in_default-2 g c =
-    let found = sub_found _ c.in-Some.ensures.name c.in-Some.ensures.rows in
-    let n = is_check c.args.matches.now c.requires found c.in_default-name.not-frames c.in_default-name.not-show c.in_default-name.not-signals c.in_default-name.not-options c.in_default-name.not-convert in
-    let d : Devices _ _ = record { left = g.R.Read.remaining; held = g.W.Write.contents; waits = g.W.Deliver.waiting; r = c.args.reader.now; r2 = c.run_check.new.reader; w = c.args.writer.now; w2 = c.run_check.new.writer } in
-    inspection_found d g.E.Write.contents g.E.Deliver.waiting c.args.faults.now c.run_check.result c.of_inspection-in_default-2.ensures found
-    (λ x h. inr (inr (inr (inr (n, h)))), λ f h. inr (inr (inr (inr (n, h)))))
-    (subst (λ (b : Bool). EndsCheck c.run_check.result b g.R.Read.remaining c.args.reader.now c.run_check.new.reader g.W.Write.contents g.W.Deliver.waiting c.args.writer.now c.run_check.new.writer) (sym c.if-has_times.false ∙ c.has_times.ensures) c.run_check.ensures.ends)
+    let d : Devices _ _ = record { left = g.R.Read.remaining; held = g.W.Write.contents; waits = g.W.Deliver.waiting; r = c.args.reader.now; r2 = c.check.new.reader; w = c.args.writer.now; w2 = c.check.new.writer } in (
+      c.in-Some.name.now,
+      options_of c.in-Some.options.now,
+      found,
+      ends_so c.check.result d (λ x h. inr (inr (inr (inr (inr (n, h)))), refl))
+          (λ f h. (check_stopped d (options_of c.in-Some.options.now) f n h, refl))
+          c.check.ensures,
+    )

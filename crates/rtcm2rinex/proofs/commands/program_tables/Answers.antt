@@ -2,4 +2,4 @@ use Rattle.std.proofs.Common.{refl}
 use Rattle.rtcm2rinex.proofs.commands.program_tables.Goals as goal
 
 pub returns : goal.returns
-returns c = (_, refl, refl)
+returns c = (_, _, refl, refl, refl)

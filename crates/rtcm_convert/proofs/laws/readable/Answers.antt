@@ -4,5 +4,5 @@ use Rattle.rtcm_convert.proofs.laws.readable.Goals as goal
 
 pub returns : goal.returns
 returns c =
-    let k = known c.measures.ensures.value c.gathered.ensures.heard c.gathered.ensures.epochs c.closed_stay.ensures.first c.values.ensures c.text.ensures in
+    let k = known c.message_sets.ensures.value c.gathered.ensures.heard c.gathered.ensures.epochs c.closed_stay.ensures.first c.values.ensures c.text.ensures in
     record { file = file_readable k; some = file_valued k; so_far = so_far_readable k; zero = search rules }

@@ -1,7 +1,6 @@
-use Rattle.rtcm_convert.proofs.FaultLemmas.{pieces_known, never, not_of_setup, not_err, setup_only, setup_sent, setup_writer}
-use Rattle.rtcm_convert.proofs.PartLemmas.{same_fault}
+use Rattle.rtcm_convert.proofs.FaultLemmas.{pieces_known, never, not_of_setup, not_err}
 use Rattle.rtcm_convert.proofs.WholeLemmas.{BeganNew, run_made, run_empty, pieces_cut, pieces_failed}
-use Rattle.rtcm_convert.proofs.Names.{Some, refl, no_values, LeftBy, BadSetup, Read, TooLong, Write, NoEpoch, Failed, Finished, joined_pieces, start_zero}
+use Rattle.rtcm_convert.proofs.Names.{Some, refl, no_values, options_with, LeftBy, BadSetup, Read, Failed, Finished, joined_pieces, start_zero}
 use Rattle.rtcm_convert.proofs.whole.convert_pieces.Goals as goal
 
 pub returns-in-Ok : goal.returns-in-Ok
@@ -16,7 +15,7 @@ returns-in-Ok g c =
     let left = n.left.0.1 h.history.going in
     let no = never (λ f. LeftBy f w) pieces_known r left in
     record {
-      made = run_made _ (Some (joined_pieces c.args.pieces.now)) _ _ r new (c.read_back.ensures.some no_values c.read_back.ensures.zero) n.whole;
+      made = run_made _ (Some (joined_pieces c.args.pieces.now)) _ _ r new (c.read_back.ensures.some (options_with no_values) c.read_back.ensures.zero) n.whole;
       no_epoch = λ e. run_empty _ (Some (joined_pieces c.args.pieces.now)) _ _ new (n.no_epoch e);
       long = λ e. pieces_cut c.args.pieces.now new h.fresh.1 (n.long e);
       write = λ e. pieces_failed c.args.pieces.now new (n.write e);
@@ -24,20 +23,5 @@ returns-in-Ok g c =
       writer = n.device;
       bad_setup = (λ e. absurd (no BadSetup refl e), λ b. absurd (not_err v BadSetup (h.bad.1 b)));
       untouched = not_of_setup (λ f. LeftBy f w) pieces_known _ r left refl refl;
-      only = (no Failed refl, no Finished refl, no Read refl);
-    }
-
-pub returns-in-Err : goal.returns-in-Err
-returns-in-Err g c =
-    let no = setup_only c.in-Err.fault c.in-Err.ensures.only in
-    record {
-      made = tt;
-      no_epoch = λ e. absurd (setup_only c.in-Err.fault c.in-Err.ensures.only NoEpoch refl e);
-      long = λ e. absurd (setup_only c.in-Err.fault c.in-Err.ensures.only TooLong refl e);
-      write = λ e. absurd (setup_only c.in-Err.fault c.in-Err.ensures.only Write refl e);
-      sent = setup_sent c.in-Err.fault c.in-Err.ensures.only _;
-      writer = setup_writer c.in-Err.fault c.in-Err.ensures.only c.args.writer.now;
-      bad_setup = (λ e. c.in-Err.ensures.bad.0 (same_fault c.in-Err.fault BadSetup e), λ b. same_fault c.in-Err.fault BadSetup (c.in-Err.ensures.bad.1 b));
-      untouched = λ _. refl;
       only = (no Failed refl, no Finished refl, no Read refl);
     }

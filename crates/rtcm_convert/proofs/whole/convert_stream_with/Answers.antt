@@ -1,44 +1,12 @@
-use Rattle.rtcm_convert.proofs.FaultLemmas.{run_known, never, not_of_setup, not_err, setup_only, setup_sent, setup_reader, setup_writer}
-use Rattle.rtcm_convert.proofs.PartLemmas.{same_fault}
-use Rattle.rtcm_convert.proofs.WholeLemmas.{BeganNew, run_made, run_empty, run_read, run_long, run_write}
-use Rattle.rtcm_convert.proofs.Names.{refl, LeftBy, BadSetup, Read, TooLong, Write, NoEpoch, Failed, Finished, start_with}
+use Rattle.rtcm_convert.specs.declared.setup.ConvertOptions.{ConvertOptions}
+use Rattle.rtcm_convert.specs.Made.{IsMadeInPart}
+use Rattle.rtcm_convert.proofs.Names.{◌≡◌, subst, BadSetup, Err, IsBadWith, IsErrOf, Write, start_by}
 use Rattle.rtcm_convert.proofs.whole.convert_stream_with.Goals as goal
 
-pub returns-in-Ok : goal.returns-in-Ok
-returns-in-Ok g c =
-    let x = start_with c.args.setup c.args.initial in
-    let v = c.in-Ok.converter in
-    let h = c.in-Ok.ensures in
-    let w = c.run-answer.new.self in
-    let r = c.run-answer.result in
-    let n = c.run-answer.ensures in
-    let from = g.R.Read.remaining c.args.reader.now.inner in
-    let new : BeganNew v w x = record { nothing = c.prefix.ensures.nothing; history = h.history; same = n.left.0.0; limit = h.fresh.0 } in
-    let left = n.left.0.1 h.history.going in
-    let no = never (λ f. LeftBy f w) run_known r left in
-    record {
-      made = run_made _ from _ _ r new (c.read_back.ensures.some c.args.initial h.fits) n.whole;
-      no_epoch = λ e. run_empty _ from _ _ new (n.no_epoch e);
-      long = λ e. run_long new (n.long e);
-      read = λ e. run_read from _ new (n.read e);
-      write = λ e. run_write from _ new (n.write e);
-      sent = n.sent;
-      devices = (n.reader, n.writer);
-      bad_setup = (λ e. absurd (no BadSetup refl e), λ b. absurd (not_err v BadSetup (h.bad.1 b)));
-      untouched = not_of_setup (λ f. LeftBy f w) run_known _ r left refl refl;
-      only = (no Failed refl, no Finished refl);
-    }
+pub returns-clause-write : goal.returns-clause-write
+returns-clause-write g c =
+    subst (λ (o : ConvertOptions). IsErrOf c.convert_with_options.result Write → IsMadeInPart (start_by c.args.setup o) (g.R.Read.remaining c.args.reader.now.inner) (g.R.Read.remaining c.convert_with_options.new.reader.inner) (g.W.Write.contents c.args.writer.now.inner) (g.W.Write.contents c.convert_with_options.new.writer.inner)) c.with_values-options.ensures c.convert_with_options.ensures.write
 
-pub returns-in-Err : goal.returns-in-Err
-returns-in-Err g c = record {
-  made = tt;
-  no_epoch = λ e. absurd (setup_only c.in-Err.fault c.in-Err.ensures.only NoEpoch refl e);
-  long = λ e. absurd (setup_only c.in-Err.fault c.in-Err.ensures.only TooLong refl e);
-  read = λ e. absurd (setup_only c.in-Err.fault c.in-Err.ensures.only Read refl e);
-  write = λ e. absurd (setup_only c.in-Err.fault c.in-Err.ensures.only Write refl e);
-  sent = setup_sent c.in-Err.fault c.in-Err.ensures.only _;
-  devices = (setup_reader c.in-Err.fault c.in-Err.ensures.only c.args.reader.now, setup_writer c.in-Err.fault c.in-Err.ensures.only c.args.writer.now);
-  bad_setup = (λ e. c.in-Err.ensures.bad.0 (same_fault c.in-Err.fault BadSetup e), λ b. same_fault c.in-Err.fault BadSetup (c.in-Err.ensures.bad.1 b));
-  untouched = λ _. (refl, refl);
-  only = (setup_only c.in-Err.fault c.in-Err.ensures.only Failed refl, setup_only c.in-Err.fault c.in-Err.ensures.only Finished refl);
-}
+pub returns-clause-bad_setup : goal.returns-clause-bad_setup
+returns-clause-bad_setup g c =
+    subst (λ (o : ConvertOptions). (c.convert_with_options.result ≡ Err BadSetup → IsBadWith (start_by c.args.setup o)) × (IsBadWith (start_by c.args.setup o) → c.convert_with_options.result ≡ Err BadSetup)) c.with_values-options.ensures c.convert_with_options.ensures.bad_setup

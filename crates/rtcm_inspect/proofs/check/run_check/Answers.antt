@@ -1,12 +1,12 @@
 use Rattle.rtcm_inspect.proofs.CheckLemmas.{checked, checked_or, kept_first, read_failures, refused, where_known}
 use Rattle.rtcm_inspect.proofs.PrintingLemmas.{printed_later}
-use Rattle.rtcm_inspect.proofs.Names.{ap, Err, IfSome_then, IsLineOf}
+use Rattle.rtcm_inspect.proofs.Names.{ap, inr, Err, IfSome_then, IsLineOf, StopsAnyCheck}
 use Rattle.rtcm_inspect.proofs.check.run_check.Goals as goal
 
 pub returns-in-Ok-clause-ends : goal.returns-in-Ok-clause-ends
 returns-in-Ok-clause-ends g c =
     let found = c.in-Ok.ensures.found in
-    checked IsLineOf g.R.Read.remaining c.args.reader.now c.check_file.new.reader c.print_text.result (found.v, found.is, found.text, c.counts_line-line.ensures.line found.v found.holds) (c.in-Ok.ensures.same (λ e. cc))
+    checked IsLineOf (StopsAnyCheck IsLineOf g.R.Read.remaining c.args.reader.now c.check_file.new.reader g.W.Write.contents g.W.Deliver.waiting c.args.writer.now c.print_text.new.writer) g.R.Read.remaining c.args.reader.now c.check_file.new.reader c.print_text.result (λ part. inr part) (found.v, found.is, found.text, c.counts_line-line.ensures.line found.v found.holds) (c.in-Ok.ensures.same (λ e. cc))
     (printed_later c.print_text.result g.W.Write.contents g.W.Deliver.waiting c.deliver_waiting.new.writer c.print_text.new.writer c.in_ok-deliver_waiting.ensures c.as_bytes.ensures.text c.print_text.ensures)
 
 pub returns-in-Ok-clause-only : goal.returns-in-Ok-clause-only

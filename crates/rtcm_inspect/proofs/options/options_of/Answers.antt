@@ -1,6 +1,6 @@
 use Rattle.rtcm_inspect.proofs.SignalLemmas.{no_cells, some_cells}
 use Rattle.rtcm_inspect.proofs.ValuedLemmas.{valued_keys}
-use Rattle.rtcm_inspect.proofs.Names.{◌∙◌, ap, sym, subst, Option, ℕ, mixed_of, IsWeekFor, valued_in, Stations}
+use Rattle.rtcm_inspect.proofs.Names.{◌∙◌, ap, sym, mixed_of, valued_in, Stations}
 use Rattle.rtcm_inspect.proofs.options.options_of.Goals as goal
 
 pub returns-in-None-clause-refused : goal.returns-in-None-clause-refused
@@ -15,5 +15,5 @@ returns-in-None-2-clause-line c = λ fs h.
     let s = c.args.signals.now in (
       ap (λ (x : Stations). mixed_of s.station x) (sym h.first.stations) ∙ sym c.mixed.ensures ∙ c.in-None.is,
       some_cells _ (valued_in s.station fs) h.counted.signal_counts (sym c.has_any.ensures ∙ c.if-not-has_any.false),
-      (c.week_for-week.result, subst (λ (t : Option ℕ). IsWeekFor c.args.near t c.week_for-week.result) h.first.tow c.week_for-week.ensures, c.options_line.ensures fs h),
+      c.dated_line.ensures fs h,
     )

@@ -12,8 +12,8 @@ use Rattle.rtcm_inspect.proofs.signals.add_systems.Goals as goal
 abbrev room : List System → ℕ
 room ss = 26 * sum_by (λ s. length (table s)) ss
 
-fits : (s : System) → room (before s) + 26 * length (table s) ≤ 1_024
-fits s = at_most _ _ (each_system (λ s. nat_le (room (before s) + 26 * length (table s)) 1_024) s refl) where
+fits : (s : System) → room (before s) + 26 * length (table s) ≤ 2_048
+fits s = at_most _ _ (each_system (λ s. nat_le (room (before s) + 26 * length (table s)) 2_048) s refl) where
   at_most : (a b : ℕ) → nat_le a b ≡ true → a ≤ b
   at_most a b h = grind (arith, h)
 

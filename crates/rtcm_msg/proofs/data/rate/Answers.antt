@@ -1,17 +1,9 @@
-use Rattle.std.proofs.Common.{ℤ, pos, ◌≡◌, ◌*ℤ◌, ◌+ℤ◌, Some, Bool, true, false, refl, ap, arith, rules, w16, w32, to_z, of_z, FitsSigned, lit≤}
+use Rattle.std.proofs.Common.{ℤ, pos, ◌≡◌, ◌*ℤ◌, ◌+ℤ◌, arith, rules, w16, w32, to_z, of_z, FitsSigned, lit≤}
 use Rattle.std.proofs.lemmas.Int.{ints, to_z-of_z}
-use Rattle.std.proofs.lemmas.Bool.Decides.{Decides-int_eq}
-use Rattle.std.specs.Bool.{Decides}
-use Rattle.std.specs.Ordering.{int_eq}
-use Rattle.rtcm_msg.specs.Names.{invalid_rough_rate, invalid_fine_rate, rate_joined}
 use Rattle.rtcm_msg.proofs.BoundsLaws.{rate_small, rough_rate_small, fine_rate_small}
 use Rattle.rtcm_msg.specs.Forms.{has_rates}
 use Rattle.rtcm_msg.proofs.SignedLaws.{wider}
 use Rattle.rtcm_msg.proofs.data.rate.Goals as goal
-
-not_that : {P : Type 0} (b : Bool) → Decides b P → (P → ⊥) → b ≡ false
-not_that true d other = absurd (other (d.0 refl))
-not_that false d other = refl
 
 product_fits : (s : ℤ) → FitsSigned w16 s → FitsSigned w32 (s *ℤ pos 10000)
 product_fits s f = omega (arith, ints, f)
@@ -22,20 +14,6 @@ sum_fits s c f g = omega (arith, ints, f, g)
 sum_is : (s c : ℤ) → FitsSigned w16 s → FitsSigned w16 c
     → to_z w32 (of_z w32 (to_z w32 (of_z w32 (to_z w32 (of_z w32 (to_z w16 (of_z w16 s))) *ℤ pos 10000)) +ℤ to_z w32 (of_z w32 (to_z w16 (of_z w16 c))))) ≡ (s *ℤ pos 10000) +ℤ c
 sum_is s c f g = rw (wider w16 w32 s f (lit≤ tt), wider w16 w32 c g (lit≤ tt), to_z-of_z w32 (s *ℤ pos 10000) (product_fits s f)) (to_z-of_z w32 ((s *ℤ pos 10000) +ℤ c) (sum_fits s c f g))
-
-joined : (s c r : ℤ) → (of_z w16 s ≡ 57344 → ⊥) → (of_z w16 c ≡ 49152 → ⊥) → r ≡ (s *ℤ pos 10000) +ℤ c → Some r ≡ rate_joined s c
-joined s c r a b e =
-    let rough = not_that (int_eq s invalid_rough_rate) (Decides-int_eq s invalid_rough_rate) (λ h. a (ap (of_z w16) h)) in
-    let fine = not_that (int_eq c invalid_fine_rate) (Decides-int_eq c invalid_fine_rate) (λ h. b (ap (of_z w16) h)) in
-    rw (rough, fine, e) refl
-
-pub returns-clause-value : goal.returns-clause-value
-returns-clause-value c =
-    let s = c.args.satellite.now.rate in
-    let f = c.args.cell.now.rate in
-    let a : FitsSigned w16 s = search rules in
-    let b : FitsSigned w16 f = search rules in
-    joined s f _ c.if-satellite.false c.if-cell.false (sum_is s f a b)
 
 pub returns-clause-bound : goal.returns-clause-bound
 returns-clause-bound c = λ form hs hc.

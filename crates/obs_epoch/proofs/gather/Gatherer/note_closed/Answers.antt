@@ -1,27 +1,39 @@
 use Rattle.std.proofs.Common.{◌≡◌, ◌∙◌, Bool, true, sym, ap, ap₂, arith, refl, subst}
 use Rattle.std.proofs.lemmas.Grind.{common_steps}
-use Rattle.obs_epoch.specs.Names.{AreSortedByPlan, GathererValue, HasPlannedCells, closed_noted, just_closed_as}
-use Rattle.obs_epoch.proofs.ValueLemmas.{closed_value, gathered_of, noted_closed, pending_closed}
+use Rattle.obs_epoch.specs.Names.{AreSortedByPlan, CellLists, Closed, EpochValue, GathererValue, HasPlannedCells, KnownLock, State, closed_noted, no_cells, shut_where, sorted_lists}
+use Rattle.obs_epoch.specs.Held.{note_systems}
+use Rattle.gnss_system.specs.Systems.{systems}
+use Rattle.obs_epoch.proofs.ValueLemmas.{gathered_of, none_planned, open_is, shut_is}
 use Rattle.obs_epoch.proofs.gather.Gatherer.note_closed.Goals as goal
 
 pub close-requires : goal.close-requires
-close-requires c = subst (λ p. HasPlannedCells p c.self.inside.pending.epoch) (sym c.plan.ensures) c.self.invariant.planned
+close-requires c = subst (λ p. HasPlannedCells p c.self.inside.pending) (sym c.plan.ensures) c.self.invariant.planned
 
 pub invariant_of-self-2 : goal.invariant_of-self-2
 invariant_of-self-2 c =
-    pending_closed c.self.inside.clock.setup.plan c.self.inside.pending c.close.new.self c.args.closed c.self.invariant.planned
-    (subst (λ p. AreSortedByPlan p c.close.new.self.epoch) c.plan.ensures c.close.ensures.order) (c.close.ensures.closed ∙ ap (λ p. closed_value p c.self.inside.pending) c.plan.ensures)
+    let plan = ap (λ (g : State). g.setup.plan) c.end.ensures in
+    record {
+      planned = subst (HasPlannedCells c.end.new.self.setup.plan) (sym c.close.ensures.none) (none_planned c.end.new.self.setup.plan);
+      none = λ e. c.close.ensures.none;
+      closed = λ e. (
+        ap (λ (g : State). g.pending) c.end.ensures,
+        subst (λ p. AreSortedByPlan p c.close.new.self.epoch) (c.plan.ensures ∙ sym plan) c.close.ensures.order,
+        ap (λ (k : Closed). k.values) c.close.ensures.closed,
+      );
+    }
 
 pub returns : goal.returns
 returns c =
     let i = c.self.inside in
-    let q = i.pending in
-    let r = c.close.new.self in
-    let p = i.clock.setup.plan in
-    let g : GathererValue = gathered_of i.clock q i.locks i.just_closed i.has_ended in
+    let g : GathererValue = gathered_of i.clock i.pending i.closed i.values i.locks i.just_closed i.has_ended in
     let shut : c.args.closed ≡ true = grind (arith, common_steps, c.if-not-closed.false) in
-    let made : Bool → GathererValue = λ b. gathered_of i.clock r c.note_systems.new.locks b i.has_ended in
-    ap made shut
-    ∙ noted_closed g q (subst (λ p. AreSortedByPlan p r.epoch) c.plan.ensures c.close.ensures.order) refl refl (c.close.ensures.closed ∙ ap (λ p. closed_value p q) c.plan.ensures)
-    c.note_systems.ensures
-    ∙ ap₂ (λ b v. closed_noted (just_closed_as b v)) (sym shut) c.self.view_is
+    let going : i.clock.pending ≡ true = ap (λ (v : GathererValue). v.clock.pending) c.self.view_is ∙ c.requires shut in
+    let epoch : c.close.new.self.epoch ≡ g.epoch =
+    ap (λ (k : Closed). k.epoch) c.close.ensures.closed
+    ∙ ap₂ (λ t p. let e : EpochValue = record { time = t; cells = sorted_lists p i.pending } in e) c.time-at.ensures c.plan.ensures
+    ∙ sym (open_is i.clock i.pending i.closed going) in
+    ap₂ (λ (b : Bool) (e : EpochValue). record g { clock = c.end.new.self; epoch = e; locks = c.note_systems.new.locks; just_closed = b }) shut
+    (shut_is c.end.new.self c.close.new.pending c.close.new.self (ap (λ (k : State). k.pending) c.end.ensures) ∙ epoch)
+    ∙ ap₂ (λ (k : State) locks. record g { clock = k; locks = locks; just_closed = true }) c.end.ensures
+    (c.note_systems.ensures ∙ ap (λ (e : EpochValue). note_systems e i.locks systems) epoch)
+    ∙ ap₂ (λ b v. closed_noted (shut_where b v)) (sym shut) c.self.view_is

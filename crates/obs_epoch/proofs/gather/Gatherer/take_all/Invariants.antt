@@ -1,4 +1,4 @@
-use Rattle.std.proofs.Common.{◌≡◌, ◌+◌, ◌≤◌, false, length}
+use Rattle.std.proofs.Common.{◌≡◌, ◌+◌, ◌≤◌, true, length}
 use Rattle.obs_epoch.specs.Names.{cells_counted, no_counts, load_entries, lock_field}
 use Rattle.obs_epoch.proofs.gather.Gatherer.take_all.Given as goal
 
@@ -7,7 +7,7 @@ invariant-loop-entry g l = record {
   field : l.field ≡ lock_field l.fn.cells.form;
   same : load_entries (lock_field l.fn.cells.form) l.system (record { state = l.self; counts = l.counts }) l.cells.left
       ≡ load_entries (lock_field l.fn.cells.form) l.system (record { state = l.fn.self; counts = no_counts }) l.fn.cells.left;
-  rested : l.self.just_closed ≡ false;
+  pending : l.self.clock.pending ≡ true;
   form : l.cells.form ≡ l.fn.cells.form;
   counted : cells_counted l.counts + length l.cells.left ≤ 64;
 }

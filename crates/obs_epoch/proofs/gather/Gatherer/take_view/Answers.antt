@@ -1,44 +1,62 @@
 -- A message that closes the epoch is to be passed again; any other is the next one of the list, and its cells are
 -- loaded if it is accepted.
-use Rattle.std.proofs.Common.{◌++◌, ◌∷◌, [], sym, ap, ◌∙◌, subst, Some, None, ◌≡◌, ℕ, Bool, ap₂, Option, is_some}
-use Rattle.obs_epoch.specs.Names.{viewed_message, heard, Heard, heard_summary, without_cells, timed, GathererValue, take_step, Loaded, loaded_if, rested, with_time, is_close_first, is_accepted, with_counts, IsCloseFirstExactly, HasGatheredEpochs, returned_epoch, no_counts}
-use Rattle.obs_epoch.proofs.TakeLemmas.{no_point, given_alone, closed_is, ended_is, loaded_rested}
+use Rattle.std.proofs.Common.{◌++◌, ◌∷◌, [], sym, ap, ◌∙◌, subst, Some, None, ◌≡◌, ℕ, Bool, ap₂, is_some, true}
+use Rattle.obs_epoch.specs.Names.{viewed_message, heard, heard_by, GatherSetup, Heard, heard_summary, without_cells, timed, GathererValue, State, take_step, Loaded, begun_by, ended_where, loaded_where, is_close_first, is_accepted, with_counts, IsCloseFirstExactly, HasGatheredEpochs, returned_epoch, no_counts}
+use Rattle.obs_epoch.proofs.TakeLemmas.{no_point, given_alone, closed_is, ended_is, loaded_by, loaded_clock, loads}
+use Rattle.obs_epoch.proofs.HeardLemmas.{opens, closes_open}
+use Rattle.obs_epoch.proofs.ValueLemmas.{heard_setup}
 use Rattle.obs_epoch.proofs.ReturnedLemmas.{gathers_first, gathers_taken, has_closed}
 use Rattle.obs_epoch.proofs.KindLemmas.{counted_kind, exactly_first, again_taken, fits_now, kind_taken}
-use Rattle.obs_epoch.specs.Step.{kind_by, closed_time}
-use Rattle.obs_epoch.proofs.ViewLemmas.{summary_heard}
+use Rattle.obs_epoch.specs.Step.{kind_by, step_by, closed_time}
 use Rattle.obs_epoch.proofs.gather.Gatherer.take_view.Goals as goal
 
 abbrev message : goal.After-self-2 → Heard
-message c = heard (viewed_message c.args.view.now)
+message c = heard_by c.args.self.now.clock.setup (viewed_message c.args.view.now)
 
-said_is : (c : goal.After-self-2) → heard_summary c.summary.result ≡ without_cells (message c)
-said_is c = ap heard_summary c.summary.ensures.value ∙ summary_heard (viewed_message c.args.view.now)
+said_is : (c : goal.After-self-2) → heard_summary c.summary_of-said.result ≡ without_cells (message c)
+said_is c =
+    let setup = c.args.self.now.clock.setup in
+    c.summary_of-said.ensures.value setup.plan.channels
+    ∙ ap (λ (leap : ℕ). without_cells (heard setup.plan.channels leap (viewed_message c.args.view.now))) (c.leap_seconds.ensures ∙ ap (λ (g : GathererValue). g.clock.setup.leap) c.self.view_is)
 
 kind_is : (c : goal.After-self-2) → c.hear-kind.result.0 ≡ kind_by c.args.self.now.clock no_counts (message c)
 kind_is c = c.hear-kind.ensures.kind ∙ ap (kind_by c.args.self.now.clock no_counts) (said_is c)
 
-same_loaded : {a b : Bool} {o p : Option ℕ} {g h : GathererValue} (m : Heard) → a ≡ b → o ≡ p → g ≡ h → loaded_if a o g m ≡ loaded_if b p h m
-same_loaded {b} {o} {g} m d e f = ap (λ k. loaded_if k o g m) d ∙ ap₂ (λ k i. loaded_if b k i m) e f
-
 abbrev accepted : goal.After-self-2 → Bool
 accepted c = is_accepted (kind_by c.args.self.now.clock no_counts (message c))
 
+begun_is : (c : goal.After-self-2) → c.hear-kind.new.self ≡ begun_by c.args.self.now (message c)
+begun_is c = c.hear-kind.ensures.step ∙ ap (begun_by c.args.self.now) (said_is c)
+
 loaded_is : (c : goal.After-self-2)
-    → record { state = c.load-counts.new.self; counts = c.load-counts.result } ≡ loaded_if (accepted c) c.args.self.now.clock.latest (rested (with_time c.args.self.now (message c))) (message c)
+    → record { state = c.load-counts.new.self; counts = c.load-counts.result } ≡ loaded_where (accepted c) (begun_by c.args.self.now (message c)) (message c)
 loaded_is c =
     c.load-counts.ensures
-    ∙ same_loaded (message c) (c.is_accepted.ensures ∙ ap is_accepted (kind_is c)) (c.latest-before.ensures.value ∙ ap (λ (g : GathererValue). g.clock.latest) c.self.view_is)
-    (c.hear-kind.ensures.step ∙ ap (λ m. rested (with_time c.args.self.now m)) (said_is c))
+    ∙ ap (λ (s : GatherSetup). loaded_where c.is_accepted.result c.hear-kind.new.self (heard_by s (viewed_message c.args.view.now)))
+    (ap (λ (g : GathererValue). g.clock.setup) c.hear-kind.ensures.step ∙ heard_setup c.args.self.now.clock (heard_summary c.summary_of-said.result))
+    ∙ ap₂ (λ b g. loaded_where b g (message c)) (c.is_accepted.ensures ∙ ap is_accepted (kind_is c)) (begun_is c)
 
-counts_are : (c : goal.After-self-2) → c.load-counts.result ≡ (loaded_if (accepted c) c.args.self.now.clock.latest (with_time c.args.self.now (message c)) (message c)).counts
-counts_are c = ap (λ (l : Loaded). l.counts) (loaded_is c ∙ loaded_rested (accepted c) c.args.self.now.clock.latest (with_time c.args.self.now (message c)) (message c))
+counts_are : (c : goal.After-self-2) → c.load-counts.result ≡ (loads c.args.self.now (message c)).counts
+counts_are c = ap (λ (l : Loaded). l.counts) (loaded_is c ∙ loaded_by c.args.self.now (message c))
 
 step_is : (c : goal.After-self-2) → c.note_closed.new.self ≡ (take_step c.args.self.now (message c)).state
 step_is c =
     c.note_closed.ensures
     ∙ closed_is c.args.self.now (message c) (record { state = c.load-counts.new.self; counts = c.load-counts.result }) c.hear-kind.result.1 (loaded_is c)
     (c.hear-kind.ensures.closed ∙ ap (λ m. is_some (closed_time c.args.self.now.clock m)) (said_is c))
+    (ap (ended_where c.hear-kind.result.1) (sym (ap (λ (g : GathererValue). g.clock) (begun_is c))) ∙ c.hear-kind.ensures.ended ∙ ap (step_by c.args.self.now.clock) (said_is c))
+
+pub load-counts-requires : goal.load-counts-requires
+load-counts-requires c = λ e.
+    ap (λ (g : GathererValue). g.clock.pending) c.hear-kind.ensures.step
+    ∙ opens c.args.self.now.clock (heard_summary c.summary_of-said.result) (ap is_accepted (sym c.hear-kind.ensures.kind) ∙ sym c.is_accepted.ensures ∙ e)
+
+pub note_closed-requires : goal.note_closed-requires
+note_closed-requires c = λ e.
+    ap (λ (l : Loaded). l.state.clock.pending) c.load-counts.ensures
+    ∙ ap (λ (k : State). k.pending) (loaded_clock c.is_accepted.result c.hear-kind.new.self (heard_by c.hear-kind.new.self.clock.setup (viewed_message c.args.view.now)))
+    ∙ ap (λ (g : GathererValue). g.clock.pending) c.hear-kind.ensures.step
+    ∙ closes_open c.args.self.now.clock (heard_summary c.summary_of-said.result) (sym c.hear-kind.ensures.closed ∙ e)
 
 pub returns : goal.returns
 returns c =
@@ -49,20 +67,20 @@ returns c =
     let step = step_is c in
     let same = ap is_close_first kind in
     let exactly : IsCloseFirstExactly now m c.with_counts.result = λ s ms es h.
-    same ∙ exactly_first m (take_step now m).counts h c.requires (no_point s (timed s ms) read) in
+    same ∙ exactly_first m (take_step now m).counts h c.requires (no_point s now.clock.setup (timed s ms) read) in
     record {
       exactly = exactly;
       first = λ s ms es h early.
           let first = sym (exactly s ms es h) ∙ early in
           subst (λ (g : GathererValue). HasGatheredEpochs g s ms (es ++ returned_epoch g) (Some m)) (sym step)
-          (gathers_first m h c.requires first (no_point s (timed s ms) read first));
+          (gathers_first m h c.requires first (no_point s now.clock.setup (timed s ms) read first));
       again = λ s ms es h. same ∙ again_taken (take_step now m).counts h c.requires;
       taken = λ s ms es again h fit other.
-          let early = fits_now again m (take_step now m).counts h c.requires (no_point s (timed s ms) read) fit (sym same ∙ other) in
+          let early = fits_now again m (take_step now m).counts h c.requires (no_point s now.clock.setup (timed s ms) read) fit (sym same ∙ other) in
           subst (λ (g : GathererValue). HasGatheredEpochs g s (ms ++ m ∷ []) (es ++ returned_epoch g) None) (sym step)
-          (gathers_taken m h c.requires early (given_alone read));
+          (gathers_taken m h c.requires early (given_alone now.clock.setup read));
       kind = λ s ms es again h fit other.
-          let early = fits_now again m (take_step now m).counts h c.requires (no_point s (timed s ms) read) fit (sym same ∙ other) in
+          let early = fits_now again m (take_step now m).counts h c.requires (no_point s now.clock.setup (timed s ms) read) fit (sym same ∙ other) in
           kind ∙ kind_taken m h c.requires early;
       closed = ap (λ (g : GathererValue). g.just_closed) c.self-2.view_is ∙ has_closed c.note_closed.new.self;
       going = ap (λ (g : GathererValue). g.has_ended) step ∙ ended_is now m ∙ c.requires;

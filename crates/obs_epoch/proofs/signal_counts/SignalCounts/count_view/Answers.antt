@@ -1,6 +1,7 @@
 use Rattle.std.proofs.Common.{◌∙◌, ◌≡◌, ◌≤◌, ◌<◌, ◌+◌, ◌^◌, ap, sym, refl, subst, ℕ, List, length, arith, filter, filter_map, unwrap_or}
 use Rattle.obs_epoch.specs.Names.{Entry, MsmHeader, entries, FormedMsm, formed, System, viewed_message, lock_field, heard, heard_msm, seen_in, brings_value, valued}
 use Rattle.obs_epoch.proofs.SignalCountsLemmas.{wanted_cells, message_counted, few_valued}
+use Rattle.obs_epoch.specs.SignalCounts.{every_channel}
 use Rattle.obs_epoch.proofs.ViewLemmas.{heard_formed}
 use Rattle.obs_epoch.proofs.signal_counts.SignalCounts.count_view.Goals as goal
 
@@ -14,14 +15,14 @@ returns-then-unwrap_or-own c =
     let wanted = c.args.station in
     let system = c.system.result in
     let es : List Entry = entries (formed m) in
-    let same : valued wanted (heard (viewed_message c.args.view.now)) ≡ filter brings_value (filter_map (seen_in field system) es) =
-    ap (λ v. valued wanted (heard (viewed_message v))) c.in-Msm.is ∙ ap (valued wanted) (heard_formed m)
-    ∙ wanted_cells wanted m.msm.header.station (heard_msm field m.msm (entries (formed m))) refl
+    let same : valued wanted (heard every_channel 0 (viewed_message c.args.view.now)) ≡ filter brings_value (filter_map (seen_in every_channel field system) es) =
+    ap (λ v. valued wanted (heard every_channel 0 (viewed_message v))) c.in-Msm.is ∙ ap (valued wanted) (heard_formed every_channel 0 m)
+    ∙ wanted_cells wanted m.msm.header.station (heard_msm every_channel 0 field m.msm (entries (formed m))) refl
     (subst (λ (x : MsmHeader). unwrap_or wanted x.station ≡ x.station) c.header-own.ensures.value (sym c.unwrap_or.ensures ∙ c.if-unwrap_or-own.true))
-    ∙ ap (λ (s : System). filter brings_value (filter_map (seen_in field s) es)) (sym c.system.ensures) in
+    ∙ ap (λ (s : System). filter brings_value (filter_map (seen_in every_channel field s) es)) (sym c.system.ensures) in
     record {
       counts = λ cells few h.
-          message_counted c.count_cells.new.self cells (filter brings_value (filter_map (seen_in field system) es)) wanted (heard (viewed_message c.args.view.now)) same
+          message_counted c.count_cells.new.self cells (filter brings_value (filter_map (seen_in every_channel field system) es)) wanted (heard every_channel 0 (viewed_message c.args.view.now)) same
           (c.count_cells.ensures.counts field cells (room (length cells) (length es) few c.count_cells.ensures.few) h);
-      few = few_valued field system es (valued wanted (heard (viewed_message c.args.view.now))) same c.count_cells.ensures.few;
+      few = few_valued field system es (valued wanted (heard every_channel 0 (viewed_message c.args.view.now))) same c.count_cells.ensures.few;
     }

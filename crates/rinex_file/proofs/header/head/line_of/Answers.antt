@@ -1,7 +1,11 @@
 -- Each row's line is the one that the row's own function makes; a row that has no line for this plan has none here.
 use Rattle.rinex_file.proofs.HeaderRows.Types.{length-system_types}
-use Rattle.rinex_file.proofs.Names.{◌∙◌, sym, ap, ℕ, [], ◌∷◌, codes, civil_of, row_line, header_line, version_by, ◌++◌, ◌*◌, indices, length_indices, few_signals, letter, type_front, type_columns, type_line, types_of, codes_of}
+use Rattle.rinex_file.proofs.Names.{◌∙◌, sym, ap, ℕ, [], ◌∷◌, codes, civil_of, row_line, header_line, version_by, ◌++◌, ◌*◌, indices, length_indices, few_signals, letter, type_front, type_columns, type_line, types_of, codes_of, arith, zero, suc, true, length, ◌≡◌, ◌≤◌, PlanValue, has_line, is_less, Slots, slot_count, slot_rows, slots_line, slots_of, slots_with}
 use Rattle.rinex_file.proofs.header.head.line_of.Goals as goal
+
+few_rows : (p : PlanValue) (row n : ℕ) → has_line p (Slots row) ≡ true → n ≡ length (slots_of p.channels) → n ≤ slot_count → row ≤ 100
+few_rows p zero n has e few = omega arith
+few_rows p (suc row) n has e few = let rows = is_less (suc row) (slot_rows (length (slots_of p.channels))) has in omega (arith, rows, e, few)
 
 pub returns-in-Version : goal.returns-in-Version
 unfolding row_line
@@ -48,6 +52,23 @@ returns-in-First c = let h = c.args.head.now in c.first_line.ensures ∙ ap (row
 pub returns-in-End : goal.returns-in-End
 unfolding row_line
 returns-in-End c = let h = c.args.head.now in c.labelled-in-End.ensures ∙ ap (row_line h.texts.now h.plan.now h.values (civil_of h.first)) (sym c.in-End.is)
+
+pub slots_with-requires : goal.slots_with-requires
+slots_with-requires c =
+    let p = c.args.head.now.plan.now in
+    few_rows p c.in-Slots.row c.slots_in.result (sym (ap (has_line p) c.in-Slots.is) ∙ c.requires) (c.slots_in.ensures.value ∙ ap (λ x. length (slots_of x)) c.channels-channels.ensures) c.slots_in.ensures.bound
+
+pub returns-in-Slots : goal.returns-in-Slots
+unfolding row_line
+returns-in-Slots c =
+    let h = c.args.head.now in
+    let row = c.in-Slots.row in
+    c.slots_with.ensures ∙ ap (λ n. slots_with n (slots_of c.channels-channels.result.now) row) c.slots_in.ensures.value ∙ ap (λ x. slots_line (slots_of x) row) c.channels-channels.ensures
+    ∙ ap (row_line h.texts.now h.plan.now h.values (civil_of h.first)) (sym c.in-Slots.is)
+
+pub returns-in-Biases : goal.returns-in-Biases
+unfolding row_line
+returns-in-Biases c = let h = c.args.head.now in c.labelled-in-Biases.ensures ∙ ap (row_line h.texts.now h.plan.now h.values (civil_of h.first)) (sym c.in-Biases.is)
 
 pub returns-in-Shift : goal.returns-in-Shift
 unfolding row_line

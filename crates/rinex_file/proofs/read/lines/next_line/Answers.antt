@@ -8,7 +8,7 @@ found_after : (f : Found) (bytes : List ℕ) (left : Option (List ℕ)) {first o
 found_after Line bytes left new endless few same ((body, shape, none), fine) = absurd (not_nil _ [] (body, shape, none) refl)
 found_after End bytes left new endless few same (none, end, fine, empty) = (endless, end, fine ∙ same, few)
 found_after Long bytes left new endless few same (size, none, fine) = absurd (omega (arith, size))
-found_after Failed bytes left new endless few same failed = subst (λ (n : ℕ). HasFailed n new) same failed
+found_after Failed bytes left new endless few same (failed, none) = (subst (λ (n : ℕ). HasFailed n new) same failed, endless)
 
 not_full : (n m : ℕ) → false ≡ nat_eq n m → n ≤ m → n < m
 not_full n m h most = grind arith

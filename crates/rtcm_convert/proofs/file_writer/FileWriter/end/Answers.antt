@@ -1,26 +1,22 @@
 use Rattle.rtcm_convert.proofs.PartLemmas.{goes_on-kept, goes_on-front}
 use Rattle.rtcm_convert.proofs.TakeLemmas.{file_whole, file_part}
-use Rattle.rtcm_convert.proofs.Names.{ℕ, ◌∙◌, ap, refl, subst, GathererValue, HasFailed}
+use Rattle.rtcm_convert.proofs.Names.{◌∙◌, ap, refl, GathererValue}
 use Rattle.rtcm_convert.proofs.file_writer.FileWriter.end.Goals as goal
 
 pub returns-in-Err : goal.returns-in-Err
 returns-in-Err g c =
     let e = c.in-Err.ensures in
-    record { whole = tt; same = e.same.2; part = file_part e.part c.end.ensures.ended (λ s ms es x. (c.end.ensures.closes s ms es x c.requires).1); device = (refl, e.device); sent = tt; ended = ap (λ (v : GathererValue). v.has_ended) e.same.0 ∙ c.end.ensures.ended }
+    record { whole = tt; same = e.same.3; part = file_part e.part c.end.ensures.ended (λ s ms es x. (c.end.ensures.closes s ms es x c.requires).1); device = (refl, e.device); sent = tt; ended = ap (λ (v : GathererValue). v.has_ended) e.same.0 ∙ c.end.ensures.ended }
 
-pub returns-in-Err-flush_whole : goal.returns-in-Err-flush_whole
-returns-in-Err-flush_whole g c =
+pub returns-in-Err-flush_whole-clause-part : goal.returns-in-Err-flush_whole-clause-part
+returns-in-Err-flush_whole-clause-part g c =
     let e = c.in_default.ensures in
-    let d = c.in-Err-flush_whole.ensures.device in
-    let whole = file_whole c.args.self.now c.write_closed.new.self c.end.new.self _ _ (record { gatherer = e.same.0; texts = e.same.1; epochs = e.now.0; values = e.now.1; out = e.whole }) c.end.ensures.ended (λ s ms es x. (c.end.ensures.closes s ms es x c.requires).1) in
-    let failed = subst (λ (n : ℕ). HasFailed n c.flush_whole.new.self.failures) e.device.1 d.0 in
-    let ended = ap (λ (v : GathererValue). v.has_ended) e.same.0 ∙ c.end.ensures.ended in
-    record { whole = tt; same = e.same.2; part = λ s fs x. goes_on-front (goes_on-kept (whole s fs x).0 c.flush_whole.ensures.kept); device = (refl, (failed, tt, d.2 ∙ e.device.2)); sent = tt; ended = ended }
+    let whole = file_whole c.args.self.now c.write_closed.new.self c.end.new.self _ _ (record { gatherer = e.same.0; texts = e.same.1; set = e.same.2; epochs = e.now.0; values = e.now.1; out = e.whole }) c.end.ensures.ended (λ s ms es x. (c.end.ensures.closes s ms es x c.requires).1) in
+    λ s fs x. goes_on-front (goes_on-kept (whole s fs x).0 c.flush_whole.ensures.kept)
 
-pub returns : goal.returns
-returns g c =
+pub returns-clause-whole : goal.returns-clause-whole
+returns-clause-whole g c =
     let e = c.in_default.ensures in
     let d = c.in_default-flush_whole.ensures in
-    let whole = file_whole c.args.self.now c.write_closed.new.self c.end.new.self _ _ (record { gatherer = e.same.0; texts = e.same.1; epochs = e.now.0; values = e.now.1; out = e.whole }) c.end.ensures.ended (λ s ms es x. (c.end.ensures.closes s ms es x c.requires).1) in
-    let ended = ap (λ (v : GathererValue). v.has_ended) e.same.0 ∙ c.end.ensures.ended in
-    record { whole = λ s fs x. (let p = whole s fs x in (goes_on-kept p.0 d.kept, p.1, p.2)); same = e.same.2; part = tt; device = (tt, (tt, d.device.1 ∙ e.device.1, d.device.2 ∙ e.device.2)); sent = d.sent; ended = ended }
+    let whole = file_whole c.args.self.now c.write_closed.new.self c.end.new.self _ _ (record { gatherer = e.same.0; texts = e.same.1; set = e.same.2; epochs = e.now.0; values = e.now.1; out = e.whole }) c.end.ensures.ended (λ s ms es x. (c.end.ensures.closes s ms es x c.requires).1) in
+    λ s fs x. (let p = whole s fs x in (goes_on-kept p.0 d.kept, p.1, p.2))

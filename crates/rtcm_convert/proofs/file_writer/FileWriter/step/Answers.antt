@@ -1,28 +1,30 @@
-use Rattle.rtcm_convert.proofs.StepLemmas.{Took, Wrote, wrote_all, wrote_part}
-use Rattle.rtcm_convert.proofs.Names.{ap, refl, ◌∙◌, GathererValue, heard, viewed_message}
+use Rattle.rtcm_convert.proofs.StepLemmas.{Wrote, wrote_all, wrote_part}
+use Rattle.obs_epoch.specs.Calls.{TakesMessage}
+use Rattle.obs_epoch.specs.declared.taken.Taken.{Taken}
+use Rattle.rtcm_convert.proofs.Names.{ap, subst, ◌∙◌, Closed, FileWriter, GatherSetup, GathererValue, HasFiledEpochs, Heard, List, Message, Option, SetupValue, heard_by, viewed_message}
 use Rattle.rtcm_convert.proofs.file_writer.FileWriter.step.Goals as goal
 
-pub returns-in-Err : goal.returns-in-Err
-returns-in-Err g c =
-    let t = c.take_view-taken.ensures in
-    let e = c.in-Err.ensures in
-    let took : Took c.args.self.now.gatherer c.take_view-taken.new.self c.take_view-taken.result.kind (heard (viewed_message c.args.message.now)) =
-    record { first = t.first; taken = t.taken; again = t.again; ended = t.going } in
-    let ended = ap (λ (v : GathererValue). v.has_ended) e.same.0 ∙ t.going in
-    record { first = tt; taken = tt; again = tt; kind = tt; same = e.same.2; part = wrote_part took e.part; device = (refl, e.device); ended = ended }
+-- what the gatherer does with a message, by the settings
+heard_so : (v : FileWriter) (new : GathererValue) (m : Message) (taken : Taken) → TakesMessage v.gatherer new (heard_by v.gatherer.clock.setup m) taken
+    → {s : SetupValue} {ms : List Heard} {es : List Closed} {again : Option Heard} → HasFiledEpochs v s ms es again → TakesMessage v.gatherer new (heard_by s.gather m) taken
+heard_so v new m taken t x = subst (λ (g : GatherSetup). TakesMessage v.gatherer new (heard_by g m) taken) x.gatherer.standing.clock.setup t
+
+pub returns-in-Err-clause-part : goal.returns-in-Err-clause-part
+returns-in-Err-clause-part g c = λ s ms es again f x.
+    let t = heard_so c.args.self.now c.take_view-taken.new.self (viewed_message c.args.message.now) c.take_view-taken.result c.take_view-taken.ensures x in
+    wrote_part (record { first = t.first; taken = t.taken; again = t.again; ended = t.going }) c.in-Err.ensures.part s ms es again f x
 
 pub returns-in-Ok : goal.returns-in-Ok
 returns-in-Ok g c =
-    let t = c.take_view-taken.ensures in
     let e = c.in-Ok.ensures in
-    let o : Wrote c.args.self.now c.write_closed.new.self c.take_view-taken.new.self _ _ = record { gatherer = e.same.0; texts = e.same.1; epochs = e.now.0; values = e.now.1; out = e.whole } in
+    let o : Wrote c.args.self.now c.write_closed.new.self c.take_view-taken.new.self _ _ = record { gatherer = e.same.0; texts = e.same.1; set = e.same.2; epochs = e.now.0; values = e.now.1; out = e.whole } in
     record {
-      first = λ shut s ms es x. wrote_all o x (t.first s.gather ms es x.gatherer shut);
-      taken = λ stays s ms es again f x. wrote_all o x (t.taken s.gather ms es again x.gatherer f stays);
-      again = λ s ms es x. t.again s.gather ms es x.gatherer;
-      kind = λ stays s ms es again f x. t.kind s.gather ms es again x.gatherer f stays;
-      same = e.same.2;
+      first = λ shut s ms es x. wrote_all o x ((heard_so c.args.self.now c.take_view-taken.new.self (viewed_message c.args.message.now) c.take_view-taken.result c.take_view-taken.ensures x).first s.gather ms es x.gatherer shut);
+      taken = λ stays s ms es again f x. wrote_all o x ((heard_so c.args.self.now c.take_view-taken.new.self (viewed_message c.args.message.now) c.take_view-taken.result c.take_view-taken.ensures x).taken s.gather ms es again x.gatherer f stays);
+      again = λ s ms es x. (heard_so c.args.self.now c.take_view-taken.new.self (viewed_message c.args.message.now) c.take_view-taken.result c.take_view-taken.ensures x).again s.gather ms es x.gatherer;
+      kind = λ stays s ms es again f x. (heard_so c.args.self.now c.take_view-taken.new.self (viewed_message c.args.message.now) c.take_view-taken.result c.take_view-taken.ensures x).kind s.gather ms es again x.gatherer f stays;
+      same = e.same.3;
       part = tt;
       device = (tt, e.device);
-      ended = ap (λ (v : GathererValue). v.has_ended) e.same.0 ∙ t.going;
+      ended = ap (λ (v : GathererValue). v.has_ended) e.same.0 ∙ c.take_view-taken.ensures.going;
     }

@@ -1,4 +1,4 @@
-use Rattle.rtcm_convert.proofs.Names.{sym, ap, refl, ◌∙◌, message_at, framed}
+use Rattle.rtcm_convert.proofs.Names.{sym, ap, refl, ◌∙◌, message_with, framed}
 use Rattle.rtcm_convert.proofs.StreamLemmas as sink
 use Rattle.rtcm_convert.proofs.TakeLemmas as writer
 use Rattle.rtcm_convert.proofs.stream.FileWriterFrameSinkCounted.take.Goals as goal
@@ -6,7 +6,7 @@ use Rattle.rtcm_convert.proofs.stream.FileWriterFrameSinkCounted.take.Goals as g
 pub returns-in-Err-clause-whole : goal.returns-in-Err-clause-whole
 returns-in-Err-clause-whole g c =
     sink.files_more (framed c.args.frame.now)
-    (λ s fs x. writer.files_same (framed c.args.frame.now) (ap message_at (sym c.deref.ensures.0) ∙ c.in-Err.ensures.exact)
+    (λ s fs x. writer.files_same (framed c.args.frame.now) (ap (message_with c.args.self.now.set) (sym c.deref.ensures.0) ∙ c.in-Err.ensures.exact)
     (ap (λ r. record c.args.self.now { tally = r }) c.count.ensures) x) (refl, refl)
 
 pub returns-in-Ok-take_message-clause-whole : goal.returns-in-Ok-take_message-clause-whole
@@ -14,12 +14,12 @@ returns-in-Ok-take_message-clause-whole g c =
     let e = c.in-Ok-take_message.ensures in
     sink.files_more (framed c.args.frame.now)
     (λ s fs x. writer.files_more (framed c.args.frame.now)
-    (ap message_at (sym c.deref.ensures.0) ∙ c.in-Ok.ensures.exact) c.in-Ok.ensures.message e.whole e.kind e.same (ap (λ r. record c.take_message.new.self { tally = r }) c.count-in-Ok-take_message.ensures) x)
+    (ap (message_with c.args.self.now.set) (sym c.deref.ensures.0) ∙ c.in-Ok.ensures.exact) c.in-Ok.ensures.message e.whole e.kind e.same (ap (λ r. record c.take_message.new.self { tally = r }) c.count-in-Ok-take_message.ensures) x)
     (e.device.1.1, e.device.1.2)
 
 pub returns-in-Err-take_message-clause-part : goal.returns-in-Err-take_message-clause-part
 returns-in-Err-take_message-clause-part g c =
     let e = c.in-Err-take_message.ensures in
     sink.files_part (framed c.args.frame.now)
-    (writer.files_part (framed c.args.frame.now) (ap message_at (sym c.deref.ensures.0) ∙ c.in-Ok.ensures.exact) e.part)
+    (writer.files_part (framed c.args.frame.now) (ap (message_with c.args.self.now.set) (sym c.deref.ensures.0) ∙ c.in-Ok.ensures.exact) e.part)
     (e.device.1.0, e.device.1.2)

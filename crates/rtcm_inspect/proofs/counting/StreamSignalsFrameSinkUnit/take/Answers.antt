@@ -1,21 +1,30 @@
 use Rattle.rtcm_inspect.proofs.CountingLemmas.{one_more_counted, read_counted, refused_counted}
 use Rattle.rtcm_inspect.proofs.FirstLemmas.{first_refused}
-use Rattle.rtcm_inspect.proofs.Names.{◌∙◌, ap, refl, sym, message_at, viewed_message, framed}
+use Rattle.rtcm_inspect.proofs.StreamChannelLemmas.{channels_read, channels_refused}
+use Rattle.rtcm_inspect.proofs.SetLemmas.{forms_read, forms_refused}
+use Rattle.rtcm_inspect.proofs.TowLemmas.{tows_refused}
+use Rattle.rtcm_msg.specs.Fields.{GivesViewed}
+use Rattle.rtcm_msg.specs.declared.view.View.{View}
+use Rattle.rtcm_inspect.proofs.Names.{subst, ChannelsValue, List, ℕ, channel_of_1020, option_to_list, sent_of, with_sent, Result, MsgFault, ◌∙◌, ap, refl, sym, message_at, viewed_message, framed}
 use Rattle.rtcm_inspect.proofs.counting.StreamSignalsFrameSinkUnit.take.Goals as goal
 
 pub returns-in-Ok-clause-whole : goal.returns-in-Ok-clause-whole
 returns-in-Ok-clause-whole c = λ c0 o ps fs took.
     let s = c.args.self.now in
     let f = framed c.args.frame.now in
+    let first = c.with_1020-self.ensures ∙ ap (λ (bytes : List ℕ). with_sent s.channels (option_to_list (channel_of_1020 bytes))) c.as_slice-message.ensures.value in
     let m = viewed_message c.in-Ok.view in
-    let is = ap message_at (sym c.as_slice.ensures.value) ∙ c.in-Ok.ensures.exact in
+    let is = ap message_at (sym c.as_slice-message.ensures.value) ∙ subst (λ (r : Result View MsgFault). GivesViewed viewed_message r (message_at c.as_slice-message.result.now)) c.in-Ok.is c.look.ensures.exact in
     one_more_counted s f refl
-    (λ gs few h. read_counted f is c.count_view.ensures few h) (λ gs h. c.with-self.ensures gs f is h) took
+    (λ gs few h. read_counted f is c.count_view.ensures few h) (λ gs h. forms_read s.station gs f m is c.with_forms-self.ensures h)
+    (λ gs h. channels_read s.station gs f is (c.with_channels-self.ensures ∙ ap (λ (x : ChannelsValue). with_sent x (sent_of s.station m)) first) h) (λ gs few h. c.add.ensures gs f is few h) took
 
 pub returns-in-Err-clause-whole : goal.returns-in-Err-clause-whole
 returns-in-Err-clause-whole c = λ c0 o ps fs took.
     let s = c.args.self.now in
     let f = framed c.args.frame.now in
-    let is = ap message_at (sym c.as_slice.ensures.value) ∙ c.in-Err.ensures.exact in
-    one_more_counted s f refl (λ gs few h. refused_counted f is h)
-    (λ gs h. first_refused f is h) took
+    let first = c.with_1020-self.ensures ∙ ap (λ (bytes : List ℕ). with_sent s.channels (option_to_list (channel_of_1020 bytes))) c.as_slice-message.ensures.value in
+    let is = ap message_at (sym c.as_slice-message.ensures.value) ∙ subst (λ (r : Result View MsgFault). GivesViewed viewed_message r (message_at c.as_slice-message.result.now)) c.in-Err.is c.look.ensures.exact in
+    one_more_counted s f refl (λ gs few h. refused_counted f is h) (λ gs h. forms_refused s.station gs f _ is h)
+    (λ gs h. channels_refused s.station gs f is first h)
+    (λ gs few h. first_refused f is (tows_refused (record { inside = c.message_sets.ensures.inside; outside = c.message_sets.ensures.outside; refused = c.message_sets.ensures.refused }) f is) h) took

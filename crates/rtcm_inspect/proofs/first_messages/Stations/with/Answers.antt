@@ -1,10 +1,10 @@
 use Rattle.rtcm_inspect.proofs.FirstLemmas.{one_kept, one_more, several_kept}
-use Rattle.rtcm_inspect.proofs.Names.{◌≡◌, ◌∙◌, ◌++◌, sym, ap, Some, List, Option, ℕ, one_of, stations_in, Stations}
+use Rattle.rtcm_inspect.proofs.Names.{◌≡◌, ◌∙◌, ◌++◌, sym, ap, Some, List, Option, ℕ, option_to_list, stations_in, Stations}
 use Rattle.rtcm_inspect.proofs.first_messages.Stations.with.Goals as goal
 
 -- the station that was given
-given : (ns : List ℕ) (x : Stations) (station : Option ℕ) (n : ℕ) → station ≡ Some n → x ≡ stations_in (ns ++ one_of (Some n)) → x ≡ stations_in (ns ++ one_of station)
-given ns x station n is h = h ∙ ap (λ (o : Option ℕ). stations_in (ns ++ one_of o)) (sym is)
+given : (ns : List ℕ) (x : Stations) (station : Option ℕ) (n : ℕ) → station ≡ Some n → x ≡ stations_in (ns ++ option_to_list (Some n)) → x ≡ stations_in (ns ++ option_to_list station)
+given ns x station n is h = h ∙ ap (λ (o : Option ℕ). stations_in (ns ++ option_to_list o)) (sym is)
 
 pub returns-in-One-Some : goal.returns-in-One-Some
 returns-in-One-Some c = λ ns h.

@@ -1,10 +1,6 @@
-use Rattle.std.proofs.Common.{rules}
-use Rattle.rtcm_msg.specs.declared.view.Form.TheVariants as forms
+use Rattle.std.proofs.Common.{◌∙◌, sym, rules}
 use Rattle.rtcm_msg.proofs.ContentLaws.{cell_packed}
 use Rattle.rtcm_msg.proofs.view.Form.cell_number.Goals as goal
 
-pub returns-in-Msm4 : goal.returns-in-Msm4
-returns-in-Msm4 c = cell_packed c.args.self forms.Msm4 c.args.cell.now _ c.in-Msm4.is (search rules)
-
-pub returns-in-Msm7 : goal.returns-in-Msm7
-returns-in-Msm7 c = cell_packed c.args.self forms.Msm7 c.args.cell.now _ c.in-Msm7.is (search rules)
+pub returns-then-has_rates : goal.returns-then-has_rates
+returns-then-has_rates c = cell_packed c.args.self c.args.cell.now (sym c.has_rates.ensures ∙ c.if-has_rates.true) c.rateless_number-number.ensures.value (search rules)

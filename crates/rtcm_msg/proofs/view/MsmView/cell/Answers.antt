@@ -22,11 +22,6 @@ returns-in-Bits c =
     ∙ ap (cell_data c.args.form) (row_value c.in-Bits.bytes.now c.self.inside.cells c.in-Bits.cells.place c.args.i widths there.there.cells_there h ∙ (ap (λ (d : Data). slice_index (cell_rows c.self.inside.form c.self.inside.cells d) c.args.i) (sym c.in-Bits.is) ∙ ap (λ (v : FormedMsm). slice_index v.msm.cells c.args.i) c.self.view_is)) in
     record { value = value; in_range = subst (IsCellData c.args.form) (sym value) (cell_in_range c.args.form _); same = ap (cell_number c.args.form) value ∙ cell_same c.args.form _ small }
 
-pub cell_of-requires : goal.cell_of-requires
-cell_of-requires c =
-    let widths : cell_widths c.args.form ≡ cell_widths c.self.inside.form = ap cell_widths (c.requires.form ∙ sym (ap (λ (v : FormedMsm). v.form) c.self.view_is)) in
-    rw (ap (λ (d : Data). slice_index (cell_rows c.self.inside.form c.self.inside.cells d) c.args.i) (sym c.in-Packed.is) ∙ ap (λ (v : FormedMsm). slice_index v.msm.cells c.args.i) c.self.view_is) (fits _ (slice_index c.args.self.now.msm.cells c.args.i) (cell_widths c.args.form) (cell_widths c.self.inside.form) (ap (λ (v : FormedMsm). slice_index v.msm.cells c.args.i) c.self.view_is) widths (c.self.invariant.0.cells c.args.i))
-
 pub returns-in-Packed : goal.returns-in-Packed
 returns-in-Packed c =
     let widths : cell_widths c.args.form ≡ cell_widths c.self.inside.form = ap cell_widths (c.requires.form ∙ sym (ap (λ (v : FormedMsm). v.form) c.self.view_is)) in

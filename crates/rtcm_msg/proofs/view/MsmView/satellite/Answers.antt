@@ -19,11 +19,6 @@ returns-in-Bits c =
     ∙ ap (satellite_data c.args.form) (row_value c.in-Bits.bytes.now c.self.inside.satellites c.in-Bits.place c.args.i widths there.there.satellites_there h ∙ (ap (λ (d : Data). slice_index (satellite_rows c.self.inside.form c.self.inside.satellites d) c.args.i) (sym c.in-Bits.is) ∙ ap (λ (v : FormedMsm). slice_index v.msm.satellites c.args.i) c.self.view_is)) in
     record { value = value; in_range = subst (IsSatelliteData c.args.form) (sym value) (satellite_in_range c.args.form _); same = ap (satellite_number c.args.form) value ∙ satellite_same c.args.form _ small }
 
-pub satellite_of-requires : goal.satellite_of-requires
-satellite_of-requires c =
-    let widths : satellite_widths c.args.form ≡ satellite_widths c.self.inside.form = ap satellite_widths (c.requires.form ∙ sym (ap (λ (v : FormedMsm). v.form) c.self.view_is)) in
-    rw (ap (λ (d : Data). slice_index (satellite_rows c.self.inside.form c.self.inside.satellites d) c.args.i) (sym c.in-Packed.is) ∙ ap (λ (v : FormedMsm). slice_index v.msm.satellites c.args.i) c.self.view_is) (fits _ (slice_index c.args.self.now.msm.satellites c.args.i) (satellite_widths c.args.form) (satellite_widths c.self.inside.form) (ap (λ (v : FormedMsm). slice_index v.msm.satellites c.args.i) c.self.view_is) widths (c.self.invariant.0.satellites c.args.i))
-
 pub returns-in-Packed : goal.returns-in-Packed
 returns-in-Packed c =
     let widths : satellite_widths c.args.form ≡ satellite_widths c.self.inside.form = ap satellite_widths (c.requires.form ∙ sym (ap (λ (v : FormedMsm). v.form) c.self.view_is)) in

@@ -1,7 +1,7 @@
 -- Each kind of row is read by its own function: what it takes is kept, and a line that it refuses is no line of the
 -- row, so that the header so far is as it was.
-use Rattle.rinex_file.proofs.HeaderRows.Read.{line_version, refuse_version, line_texts, refuse_texts, line_position, refuse_position, line_delta, refuse_delta, line_unit, line_first, refuse_first, line_shift}
-use Rattle.rinex_file.proofs.Names.{arith, ap, Option, Some, ◌≡◌, subst, refl, ℕ, List, Bool, true, false, inl, inr, is_some, then_some, ⊤, TextRow, HeaderRow, Texts, HeaderLists, Known, IsOnly, ReadsOrRefuses, ReadsOrRefusesTexts, with_texts}
+use Rattle.rinex_file.proofs.HeaderRows.Read.{line_version, refuse_version, line_texts, refuse_texts, line_position, refuse_position, line_delta, refuse_delta, line_unit, line_first, refuse_first, line_shift, line_slots, line_biases}
+use Rattle.rinex_file.proofs.Names.{arith, ap, Option, Some, ◌≡◌, subst, refl, ℕ, List, Bool, true, false, inl, inr, is_some, then_some, ⊤, TextRow, HeaderRow, Texts, HeaderLists, Known, IsOnly, ReadsOrRefuses, ReadsOrRefusesTexts, with_texts, AreSlotsBefore, Slots, sym}
 use Rattle.rinex_file.proofs.read.head_so_far.HeadSoFar.read_header_line.Goals as goal
 
 -- the row, what was known before it and what was returned, by other names
@@ -14,10 +14,10 @@ is_taken b result e = grind (arith, e)
 
 of_texts : (r : TextRow) (line : List ℕ) (k : Known) (x : HeaderLists) (b : Bool) → ReadsOrRefusesTexts r line k.shown.texts x b → ReadsOrRefuses (Texts r) line k (with_texts k x) b
 of_texts r line k x true read = line_texts r line k x read
-of_texts r line k x false refuses = refuse_texts r line refuses
+of_texts r line k x false refuses = refuse_texts k r line refuses
 
 pub returns-in_err-self-inside-in-Version : goal.returns-in_err-self-inside-in-Version
-returns-in_err-self-inside-in-Version c = of_row c.args.line.now c.args.self.now _ (ap is_some c.from_residual.ensures) c.in-Version.is refl (refuse_version c.args.line.now c.in_err-self-inside-in-Version.ensures)
+returns-in_err-self-inside-in-Version c = of_row c.args.line.now c.args.self.now _ (ap is_some c.from_residual.ensures) c.in-Version.is refl (refuse_version c.args.self.now c.args.line.now c.in_err-self-inside-in-Version.ensures)
 
 pub returns-in_ok-self-inside-in-Version : goal.returns-in_ok-self-inside-in-Version
 returns-in_ok-self-inside-in-Version c = of_row c.args.line.now _ (Some tt) refl c.in-Version.is c.self.view_is (line_version _ _ c.args.line.now c.in_ok-self-inside-in-Version.ensures)
@@ -28,13 +28,13 @@ returns-in-Texts c =
     (of_texts c.in-Texts.row c.args.line.now _ c.read_texts.new.texts c.read_texts.result c.read_texts.ensures)
 
 pub returns-in_err-values-in-Position : goal.returns-in_err-values-in-Position
-returns-in_err-values-in-Position c = of_row c.args.line.now c.args.self.now _ (ap is_some c.from_residual-in_err-values-in-Position.ensures) c.in-Position.is refl (refuse_position c.args.line.now c.in_err-values-in-Position.ensures)
+returns-in_err-values-in-Position c = of_row c.args.line.now c.args.self.now _ (ap is_some c.from_residual-in_err-values-in-Position.ensures) c.in-Position.is refl (refuse_position c.args.self.now c.args.line.now c.in_err-values-in-Position.ensures)
 
 pub returns-in_ok-values-in-Position : goal.returns-in_ok-values-in-Position
 returns-in_ok-values-in-Position c = of_row c.args.line.now _ (Some tt) refl c.in-Position.is c.self.view_is (line_position _ _ c.args.line.now c.in_ok-values-in-Position.ensures)
 
 pub returns-in_err-self-inside-in-Delta : goal.returns-in_err-self-inside-in-Delta
-returns-in_err-self-inside-in-Delta c = of_row c.args.line.now c.args.self.now _ (ap is_some c.from_residual-in_err-self-inside-in-Delta.ensures) c.in-Delta.is refl (refuse_delta c.args.line.now c.in_err-self-inside-in-Delta.ensures)
+returns-in_err-self-inside-in-Delta c = of_row c.args.line.now c.args.self.now _ (ap is_some c.from_residual-in_err-self-inside-in-Delta.ensures) c.in-Delta.is refl (refuse_delta c.args.self.now c.args.line.now c.in_err-self-inside-in-Delta.ensures)
 
 pub returns-in_ok-self-inside-in-Delta : goal.returns-in_ok-self-inside-in-Delta
 returns-in_ok-self-inside-in-Delta c = of_row c.args.line.now _ (Some tt) refl c.in-Delta.is c.self.view_is (line_delta _ _ c.args.line.now c.in_ok-self-inside-in-Delta.ensures)
@@ -45,7 +45,7 @@ returns-in-StrengthUnit c =
     (line_unit c.args.self.now c.args.line.now c.is_header_line.result c.is_header_line.ensures)
 
 pub returns-in_err-self-inside-in-First : goal.returns-in_err-self-inside-in-First
-returns-in_err-self-inside-in-First c = of_row c.args.line.now c.args.self.now _ (ap is_some c.from_residual-in_err-self-inside-in-First.ensures) c.in-First.is refl (refuse_first c.args.line.now c.in_err-self-inside-in-First.ensures)
+returns-in_err-self-inside-in-First c = of_row c.args.line.now c.args.self.now _ (ap is_some c.from_residual-in_err-self-inside-in-First.ensures) c.in-First.is refl (refuse_first c.args.self.now c.args.line.now c.in_err-self-inside-in-First.ensures)
 
 pub returns-in_ok-self-inside-in-First : goal.returns-in_ok-self-inside-in-First
 returns-in_ok-self-inside-in-First c = of_row c.args.line.now _ (Some tt) refl c.in-First.is c.self.view_is (line_first _ _ c.args.line.now c.in_ok-self-inside-in-First.ensures)
@@ -56,8 +56,19 @@ returns-in-Shift c =
     of_row c.args.line.now c.args.self.now _ (is_taken _ _ c.then_some-in-Shift.ensures) c.in-Shift.is refl
     (line_shift c.in-Shift.system c.letter.result c.args.self.now c.args.line.now same.result c.letter.ensures same.ensures)
 
+pub returns-in-Slots : goal.returns-in-Slots
+returns-in-Slots c =
+    let row = c.in-Slots.row in
+    of_row c.args.line.now _ _ (is_taken _ _ c.then_some-in-Slots.ensures) c.in-Slots.is c.self.view_is
+    (line_slots row c.args.line.now _ (subst (λ (k : Known). AreSlotsBefore k (Slots row)) (sym c.self.view_is) (subst (AreSlotsBefore c.args.self.now) c.in-Slots.is c.requires.slots)) c.take.new.self.count c.take.new.self.channels c.take.result c.take.ensures)
+
+pub returns-in-Biases : goal.returns-in-Biases
+returns-in-Biases c =
+    let same = c.is_header_line-in-Biases in
+    of_row c.args.line.now c.args.self.now _ (is_taken _ _ c.then_some-in-Biases.ensures) c.in-Biases.is refl (line_biases c.args.self.now c.args.line.now same.result same.ensures)
+
 pub returns-in-Types : goal.returns-in-Types
 returns-in-Types c = elim c.in-Types.is [
-  | inl (s, i, is) ↦ absurd (subst IsOnly is c.requires)
-  | inr is ↦ absurd (subst IsOnly is c.requires)
+  | inl (s, i, is) ↦ absurd (subst IsOnly is c.requires.only)
+  | inr is ↦ absurd (subst IsOnly is c.requires.only)
 ]

@@ -1,10 +1,11 @@
 -- A line is a row of types, the end of the header, or one of the other rows, each in its place; what is known goes
 -- on by it.
 use Rattle.rinex_file.proofs.HeaderRows.End.{ends, no_end_line}
-use Rattle.rinex_file.proofs.HeaderRows.Read.{begun_here, types_law, types_sized, none_taken, rows_there}
-use Rattle.rinex_file.proofs.HeaderRows.Steps.{Law, takes_row, takes_from, none_at, none_from, plain_law, row_sized, is_types, decided, own_before, place_at}
+use Rattle.rinex_file.proofs.HeaderRows.Read.{begun_here, types_law, types_sized, types_slots, none_taken, rows_there}
+use Rattle.rinex_file.proofs.HeaderRows.Steps.{Law, takes_row, takes_from, none_at, none_from, plain_law, row_sized, row_slots, slots_expected, decided}
+use Rattle.rinex_file.proofs.HeaderRows.Places.{is_types, own_before, place_at}
 use Rattle.rinex_file.proofs.Judged.{refused}
-use Rattle.rinex_file.proofs.Names.{◌≡◌, ◌∙◌, sym, ap, subst, refl, false, suc, ℕ, List, Result, Ok, Err, IsErrAnd, System, HeaderRow, Expected, Refusal, Memory, Bad, Types, End, planned_of, end_line, row_place, Known, IsHeadAt, SameFrom, AreSized, types_before, counted, IsOnly, known_line, EndsHeader, NoneGoesOn, TakesHeaderLine}
+use Rattle.rinex_file.proofs.Names.{◌≡◌, ◌∙◌, sym, ap, subst, refl, false, suc, ℕ, List, Result, Ok, Err, IsErrAnd, System, HeaderRow, Expected, Refusal, Memory, Bad, Types, End, planned_of, end_line, row_place, Known, IsHeadAt, SameFrom, AreSized, types_before, counted, IsOnly, known_line, EndsHeader, NoneGoesOn, TakesHeaderLine, AreSlotsAt, true}
 use Rattle.rinex_file.proofs.read.head_so_far.HeadSoFar.take.Goals as goal
 
 -- a refusal that was passed on
@@ -50,6 +51,7 @@ returns-in_ok-take_types-in-Types c =
     (takes_from same (takes_row old new line same.expected c.place_from-place.ensures.here (subst (λ (k : Known). Law old n line k) kept (types_law old s row n line same.expected is count signals taken same.sized))))
     c.are_valid.ensures
     (subst (λ (k : Known). (u : System) → AreSized u (types_before u (suc n)) (counted k u) (planned_of u k.shown.plan)) kept (types_sized old s row n line same.expected is count signals taken same.sized))
+    (subst (λ (k : Known). AreSlotsAt k (suc n)) kept (types_slots old s row n line same.expected is count signals taken same.sized same.slots))
     c.expected_at.ensures
 
 pub returns-in_err-take_types-in-Types : goal.returns-in_err-take_types-in-Types
@@ -66,7 +68,7 @@ pub returns-in-End-2 : goal.returns-in-End-2
 returns-in-End-2 c =
     let same = c.place_from-place.ensures.same in
     none_from same (none_at End same.expected c.place_from-place.ensures.here (sym c.row_at.ensures ∙ c.in-End.is)
-    (no_end_line c.args.line.now (refused c.is_header_line.result (c.args.line.now ≡ end_line) c.is_header_line.ensures c.if-is_header_line.false)))
+    (no_end_line c.args.self.now c.args.line.now (refused c.is_header_line.result (c.args.line.now ≡ end_line) c.is_header_line.ensures c.if-is_header_line.false)))
 
 at_end : (k : Known) (n from : ℕ) (line : List ℕ) → n ≡ row_place End → IsHeadAt k from → SameFrom k line from n → line ≡ end_line → EndsHeader k from line k
 at_end k n from line e at same is = ends k line from at (subst (SameFrom k line from) e same) is
@@ -82,6 +84,9 @@ returns-in_default-read_header_line c =
     let same = c.place_from-place.ensures.same in
     none_from same (none_at c.row_at.result same.expected c.place_from-place.ensures.here (sym c.row_at.ensures) c.in_default-read_header_line.ensures)
 
+here_known : (k : Known) (line : List ℕ) {r q : HeaderRow} → r ≡ q → known_line k line q ≡ true → known_line k line r ≡ true
+here_known k line e known = ap (known_line k line) e ∙ known
+
 plain : (r : HeaderRow) → ((s : System) (i : ℕ) → r ≡ Types s i → ⊥) → is_types r ≡ false
 plain (Types s i) other = absurd (other s i refl)
 plain r other = refl
@@ -95,12 +100,17 @@ returns-in-Some c =
     let apart = plain c.row_at.result c.in_default.not-Types in
     decided c.row_at.result same.expected at c.in_default.not-End
     (takes_from same (takes_row old new c.args.line.now same.expected c.place_from-place.ensures.here (plain_law same.expected at apart c.place_from-place.ensures.here c.in-Some.ensures)))
-    c.are_valid-in_default.ensures (row_sized same.expected at apart c.in-Some.ensures same.sized) c.expected_at-in_default.ensures
+    c.are_valid-in_default.ensures (row_sized same.expected at apart c.in-Some.ensures same.sized) (row_slots same.expected at apart c.in-Some.ensures (here_known c.args.self.now c.args.line.now c.row_at.ensures c.place_from-place.ensures.here) same.slots) c.expected_at-in_default.ensures
 
 sole : (r : HeaderRow) → ((s : System) (i : ℕ) → r ≡ Types s i → ⊥) → (r ≡ End → ⊥) → IsOnly r
 sole (Types s i) other far = other s i refl
 sole End other far = far refl
 sole r other far = tt
 
-pub read_header_line-requires : goal.read_header_line-requires
-read_header_line-requires c = sole c.row_at.result c.in_default.not-Types c.in_default.not-End
+pub read_header_line-requires-clause-only : goal.read_header_line-requires-clause-only
+read_header_line-requires-clause-only c = sole c.row_at.result c.in_default.not-Types c.in_default.not-End
+
+pub read_header_line-requires-clause-slots : goal.read_header_line-requires-clause-slots
+read_header_line-requires-clause-slots c =
+    let same = c.place_from-place.ensures.same in
+    slots_expected same.expected c.row_at.result c.args.self.now c.args.line.now (sym c.row_at.ensures) (here_known c.args.self.now c.args.line.now c.row_at.ensures c.place_from-place.ensures.here) same.slots

@@ -2,6 +2,7 @@
 -- the parser takes or refuses. The lines taken so far go on by one.
 use Rattle.rinex_file.proofs.FileLines.{lines_are_lines}
 use Rattle.rinex_file.proofs.Judged.{refused as judged}
+use Rattle.rinex_file.proofs.Reading.Accepted.{epochs_read}
 use Rattle.rinex_file.proofs.Reading.Header.{unfinished, file_shown, only_file, file_read, sound_rows, begun, expected_at}
 use Rattle.rinex_file.proofs.Reading.Lines.{one_more, refused, over_long, cut, whole, both_said, too_long, line_some, is_empty, not_empty}
 use Rattle.rinex_file.proofs.read.reading.Reading.next.Goals.{then-self-eq-MOST_LINES+else-not-is_empty, else-self-eq-MOST_LINES}
@@ -78,6 +79,10 @@ returns-in-Err-Bad-clause-goes g c = λ h input read.
     both_said input _ _ _ c.fault_at-fault.ensures.faulty
     (refused lines_are_lines _ c.next.new.self.line read.taken c.in-Line.ensures.found.0 c.in-Line.ensures.taken.0 (subst (RefusesLine s) c.line.ensures.line (takes h read.history)))
     (expected_at read.taken refl read.history)
+
+pub returns-in-Failed-clause-decided : goal.returns-in-Failed-clause-decided
+returns-in-Failed-clause-decided g c = λ is h input read.
+    epochs_read (g.R.Read.remaining c.next.new.reader.inner) c.next.new.self.line read c.in-Failed.ensures.taken.0 (c.in-Failed.ensures.failed refl) c.in-Failed.ensures.found.1
 
 pub overflow_add-number : goal.overflow_add-number
 overflow_add-number g c = let (h, input, read) = c.requires in let few = read.within.1 in omega (arith, few)

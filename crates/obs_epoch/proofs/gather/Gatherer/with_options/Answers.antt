@@ -1,0 +1,28 @@
+use Rattle.std.proofs.Common.{[], refl, sym, ap, subst, rules, false, ◌∙◌}
+use Rattle.obs_epoch.specs.Names.{Closed, HasPlannedCells, HasHeardMessages, GatherSetup}
+use Rattle.obs_epoch.proofs.OneStepLemmas.{none_locked}
+use Rattle.obs_epoch.proofs.ValueLemmas.{none_planned, shut_is}
+use Rattle.obs_epoch.proofs.gather.Gatherer.with_options.Goals as goal
+
+pub invariant_of-result : goal.invariant_of-result
+invariant_of-result c = record {
+  planned = subst (HasPlannedCells c.new-clock.result.setup.plan) (sym c.in-Ok.ensures.pending) (none_planned c.new-clock.result.setup.plan);
+  none = λ e. c.in-Ok.ensures.pending;
+  closed = λ e. cc;
+}
+
+pub returns-in-Ok-clause-history : goal.returns-in-Ok-clause-history
+returns-in-Ok-clause-history c =
+    record {
+      standing = record {
+        clock = subst (λ (s : GatherSetup). HasHeardMessages c.new-clock.result s [] false) c.new-clock.ensures.setup c.new-clock.ensures.history;
+        epoch = shut_is c.new-clock.result c.in-Ok.pending c.in-Ok.closed c.new-clock.ensures.history.pending ∙ ap (λ (e : Closed). e.epoch) c.in-Ok.ensures.closed;
+        locks = none_locked _ _ c.in-Ok.ensures.locks;
+        values = refl;
+      };
+      returned = refl;
+      epochs = λ e. refl;
+      first = search rules;
+      fits = tt;
+      plan = ap (λ (s : GatherSetup). s.plan) c.new-clock.ensures.setup;
+    }

@@ -1,0 +1,25 @@
+//! The MSMs that a conversion decodes.
+ghost use Rattle.std.specs.Prelude.{◌≡◌};
+ghost use Rattle.obs_epoch.specs.Sets.{is_decoded, set_of};
+
+use gnss_obs::Plan;
+use gnss_system::{BySystem, System};
+use rtcm_msg::{Forms, MsmSet};
+
+/// Returns the MSMs that a conversion with this plan decodes, in these forms: those of GPS and
+/// Galileo, and those of each other system of which a signal is planned.
+pub fn msm_set(plan: &Plan, forms: Forms) -> MsmSet
+    ensures { result ≡ set_of plan.now forms }
+{
+    MsmSet {
+        systems: BySystem::each(|system| is_decoded(plan, system)),
+        forms,
+    }
+}
+
+/// Returns whether the MSMs of a system are decoded.
+fn is_decoded(plan: &Plan, system: System) -> bool
+    ensures { result ≡ is_decoded plan.now system }
+{
+    matches!(system, System::Gps | System::Galileo) || plan.signals(system) > 0
+}

@@ -1,0 +1,45 @@
+//! What a gatherer starts with.
+ghost use Rattle.std.specs.Prelude.{◌≡◌, ◌↔◌, ◌⊎◌, ◌<◌, ◌≤◌, true, false, IfOk, IfErr, IsOk, Err};
+ghost use Rattle.gnss_obs.specs.Values.{empty_epoch, no_cells, no_values};
+ghost use Rattle.gnss_obs.specs.Weeks.{weeks};
+ghost use Rattle.gnss_obs.specs.declared.fault.PlanFault.{PlanFault};
+ghost use Rattle.obs_epoch.specs.Held.{no_locks};
+ghost use Rattle.obs_epoch.specs.Kinds.{is_no_station};
+
+use crate::locks::Locks;
+use gnss_obs::{Epoch, EpochCells, PlanFault, WEEKS};
+use std::alloc::Global;
+
+/// Returns no cells, an epoch without cells and empty lock records, if the start week and the
+/// station are valid.
+///
+/// # Errors
+///
+/// `BadWeek` for a week greater than 99,999, else `BadStation` for a station greater than 4,095,
+/// else `Memory` if an allocation failed.
+pub fn new_parts(
+    alloc: Global,
+    start_week: u32,
+    station: Option<u16>,
+) -> Result<(EpochCells, Epoch, Locks), PlanFault>
+    ensures pending { IfOk result (λ r. r.0 ≡ no_cells) }
+    ensures closed { IfOk result (λ r. r.1 ≡ record { epoch = empty_epoch 0; values = no_values }) }
+    ensures locks { IfOk result (λ r. r.2 ≡ no_locks) }
+    ensures accepted { IsOk result → (start_week < weeks) × (is_no_station station ≡ false) }
+    ensures week { (result ≡ Err PlanFault.BadWeek) ↔ (weeks ≤ start_week) }
+    ensures station { (result ≡ Err PlanFault.BadStation)
+        ↔ ((start_week < weeks) × (is_no_station station ≡ true)) }
+    ensures only { IfErr result
+        (λ e. (e ≡ PlanFault.BadWeek) ⊎ ((e ≡ PlanFault.BadStation) ⊎ (e ≡ PlanFault.Memory))) }
+{
+    if start_week as u64 >= WEEKS {
+        return Err(PlanFault::BadWeek);
+    }
+    if station.unwrap_or(0) > 4_095 {
+        return Err(PlanFault::BadStation);
+    }
+    let locks = Locks::new(alloc).map_err(|_| PlanFault::Memory)?;
+    let pending = EpochCells::new(alloc).map_err(|_| PlanFault::Memory)?;
+    let closed = Epoch::new(alloc).map_err(|_| PlanFault::Memory)?;
+    Ok((pending, closed, locks))
+}

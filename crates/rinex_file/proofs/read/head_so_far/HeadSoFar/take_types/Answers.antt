@@ -1,0 +1,12 @@
+use Rattle.gnss_system.proofs.SystemLaws.{each_after}
+use Rattle.rinex_file.proofs.Names.{◌≤◌, length, table, IsOf}
+use Rattle.rinex_file.proofs.read.head_so_far.HeadSoFar.take_types.Goals as goal
+
+pub invariant_of-self : goal.invariant_of-self
+invariant_of-self c =
+    let held = c.self.invariant in (
+      held.0,
+      held.1,
+      each_after (λ s types. IsOf s types.signals × (types.count ≤ length (table s))) c.args.system c.self.inside.types c.take.new.self held.2
+          (c.take.ensures.signals, c.take.ensures.few),
+    )

@@ -1,0 +1,34 @@
+use Rattle.rtcm_convert.proofs.FaultLemmas.{run_known, never, not_of_setup, not_err}
+use Rattle.rtcm_convert.proofs.PartLemmas.{same_fault}
+use Rattle.rtcm_convert.proofs.WholeLemmas.{BeganNew, run_made, run_empty, run_read, run_long, run_write}
+use Rattle.rtcm_convert.proofs.Names.{refl, LeftBy, BadSetup, Failed, Finished, start_by}
+use Rattle.rtcm_convert.proofs.whole.convert_with_options.Goals as goal
+
+pub returns-in-Ok : goal.returns-in-Ok
+returns-in-Ok g c =
+    let x = start_by c.args.setup c.args.options in
+    let v = c.in-Ok.converter in
+    let h = c.in-Ok.ensures in
+    let w = c.run-answer.new.self in
+    let r = c.run-answer.result in
+    let n = c.run-answer.ensures in
+    let from = g.R.Read.remaining c.args.reader.now.inner in
+    let new : BeganNew v w x = record { nothing = c.prefix.ensures.nothing; history = h.history; same = n.left.0.0; limit = h.fresh.0 } in
+    let left = n.left.0.1 h.history.going in
+    let no = never (λ f. LeftBy f w) run_known r left in
+    record {
+      made = run_made _ from _ _ r new (c.read_back.ensures.some c.args.options h.fits) n.whole;
+      no_epoch = λ e. run_empty _ from _ _ new (n.no_epoch e);
+      long = λ e. run_long new (n.long e);
+      read = λ e. run_read from _ new (n.read e);
+      write = λ e. run_write from _ new (n.write e);
+      sent = n.sent;
+      devices = (n.reader, n.writer);
+      bad_setup = (λ e. absurd (no BadSetup refl e), λ b. absurd (not_err v BadSetup (h.bad.1 b)));
+      untouched = not_of_setup (λ f. LeftBy f w) run_known _ r left refl refl;
+      only = (no Failed refl, no Finished refl);
+    }
+
+pub returns-in-Err-clause-bad_setup : goal.returns-in-Err-clause-bad_setup
+returns-in-Err-clause-bad_setup g c =
+    (λ e. c.in-Err.ensures.bad.0 (same_fault c.in-Err.fault BadSetup e), λ b. same_fault c.in-Err.fault BadSetup (c.in-Err.ensures.bad.1 b))

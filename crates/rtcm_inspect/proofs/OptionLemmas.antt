@@ -1,0 +1,51 @@
+-- The line of the options, of its parts.
+use Rattle.rtcm_inspect.proofs.LineLemmas.{end_line}
+use Rattle.rtcm_inspect.proofs.Names.{◌≡◌, ◌∙◌, [], ◌∷◌, ◌++◌, ℕ, List, Option, Some, None, Bool, true, false, ap, sym, append_assoc, append-nil, codes, decimal, refl, join_with_byte, flat_map, flat_map-append, PlanValue, Gps, Galileo, System, StationParts, codes_word, Forms, forms_words, number_start, number_words, options_line, station_words, line, with_words}
+use Rattle.gnss_system.specs.Systems.{systems}
+use Rattle.rtcm_inspect.specs.Fitting.{first_words, other_words}
+
+-- an option with a number before the words of a line
+first_option : (name : List ℕ) (n : Option ℕ) (w : List ℕ) (ws : List (List ℕ)) → number_start name n ++ line (w ∷ ws) ≡ line (number_words name n ++ w ∷ ws)
+first_option name None w ws = refl
+first_option name (Some n) w ws =
+    append_assoc name (0x20 ∷ (decimal n ++ 0x20 ∷ [])) (line (w ∷ ws)) ∙ ap (λ (l : List ℕ). name ++ 0x20 ∷ l) (append_assoc (decimal n) (0x20 ∷ []) (line (w ∷ ws)))
+    ∙ ap (λ (l : List ℕ). name ++ 0x20 ∷ l) (sym (append_assoc (decimal n) (0x20 ∷ join_with_byte 0x20 (w ∷ ws)) (0x0A ∷ [])))
+    ∙ sym (append_assoc name (0x20 ∷ (decimal n ++ 0x20 ∷ join_with_byte 0x20 (w ∷ ws))) (0x0A ∷ []))
+
+-- two of them
+two_options : (first second : List ℕ) (n m : Option ℕ) (w : List ℕ) (ws : List (List ℕ))
+    → (number_start first n ++ number_start second m) ++ line (w ∷ ws) ≡ line (number_words first n ++ (number_words second m ++ w ∷ ws))
+two_options first second n None w ws = ap (λ (l : List ℕ). l ++ line (w ∷ ws)) (append-nil (number_start first n)) ∙ first_option first n w ws
+two_options first second n (Some m) w ws =
+    append_assoc (number_start first n) (number_start second (Some m)) (line (w ∷ ws)) ∙ ap (λ (l : List ℕ). number_start first n ++ l) (first_option second (Some m) w ws)
+    ∙ first_option first n second (decimal m ∷ w ∷ ws)
+
+pub words_more : (text : List ℕ) (first more : List (List ℕ)) → with_words (with_words text first) more ≡ with_words text (first ++ more)
+words_more text [] more = refl
+words_more text (w ∷ ws) more = words_more (text ++ 0x20 ∷ w) ws more
+
+-- a text before the words
+pub words_after : (t u : List ℕ) (ws : List (List ℕ)) → t ++ with_words u ws ≡ with_words (t ++ u) ws
+words_after t u [] = refl
+words_after t u (w ∷ ws) = words_after t (u ++ 0x20 ∷ w) ws ∙ ap (λ (l : List ℕ). with_words l ws) (sym (append_assoc t u (0x20 ∷ w)))
+
+-- the words of one more system
+pub others_more : (leap : Option ℕ) (p : PlanValue) (t : List ℕ) (ss : List System) (s : System)
+    → with_words (with_words t (flat_map (other_words leap p) ss)) (other_words leap p s) ≡ with_words t (flat_map (other_words leap p) (ss ++ s ∷ []))
+others_more leap p t ss s =
+    words_more t (flat_map (other_words leap p) ss) (other_words leap p s)
+    ∙ ap (with_words t) (ap (λ (l : List (List ℕ)). flat_map (other_words leap p) ss ++ l) (sym (append-nil (other_words leap p s))) ∙ sym (flat_map-append (other_words leap p) ss (s ∷ [])))
+
+-- the line, of its first words, those of the other systems, and the last ones
+pub line_made : (week leap own : Option ℕ) (p : PlanValue) (forms : Forms) (point : Option StationParts) {one two all : List ℕ} → one ≡ first_words week own p → two ≡ with_words one (flat_map (other_words leap p) systems)
+    → all ≡ two ++ (with_words [] (forms_words forms ++ station_words point) ++ 0x0A ∷ []) → all ≡ options_line week leap own p forms point
+unfolding options_line
+line_made week leap own p forms point {one} {two} {all} first second third =
+    let last = forms_words forms ++ station_words point in
+    let others = flat_map (other_words leap p) systems in
+    let start = number_start (codes "--week") week ++ number_start (codes "--station") own in
+    let shown : List (List ℕ) = codes_word Gps p.signals.gps ∷ codes "--galileo" ∷ codes_word Galileo p.signals.galileo ∷ [] in
+    let joined = ap (λ (l : List ℕ). l ++ 0x0A ∷ []) (words_after two [] last ∙ ap (λ (l : List ℕ). with_words l last) (append-nil two ∙ second ∙ ap (λ (l : List ℕ). with_words l others) first)
+    ∙ words_more (first_words week own p) others last ∙ words_more (start ++ codes "--gps") shown (others ++ last)) in
+    end_line start (codes "--gps") (shown ++ (others ++ last)) (third ∙ sym (append_assoc two (with_words [] last) (0x0A ∷ [])) ∙ joined) refl
+    ∙ two_options (codes "--week") (codes "--station") week own (codes "--gps") (shown ++ (others ++ last))

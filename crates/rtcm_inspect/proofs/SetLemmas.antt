@@ -1,0 +1,226 @@
+-- What is read of messages if only the MSMs of a set are decoded.
+use Rattle.std.specs.Prelude.{◌⊎◌}
+use Rattle.rtcm_msg.specs.Encoding.{other_of}
+use Rattle.rtcm_msg.specs.Sets.{has_msm, is_in_set}
+use Rattle.rtcm_msg.specs.declared.number.Forms.TheVariants as forms
+use Rattle.rtcm_msg.specs.declared.view.Form.TheVariants as form
+use Rattle.gnss_system.specs.SystemValues.{value_of}
+use Rattle.gnss_system.proofs.SystemLaws.{value_tabulated}
+use Rattle.obs_epoch.specs.Sets.{is_decoded}
+use Rattle.rtcm_inspect.specs.SignalLaws.{ReadsAll}
+use Rattle.rtcm_inspect.proofs.ValuedLemmas.{valued_system}
+use Rattle.rtcm_inspect.proofs.Names.{All-head, All-tail, Df402, Df407, GatherSetup, SignalAt, entries, has_listed_key, is_planned, is_some, is_system, place_in, planned_of, ◌≡◌, ◌∙◌, ◌++◌, ◌||◌, ℕ, Bool, true, false, not, List, [], ◌∷◌, Option, Some, None, Result, Ok, Err, All, All-cons, All-nil, ⊤, ◌&&◌, ap, arith, bits_of, brings_value, cond, filter, inl, inr, length, list_any, list_any-append, nat_lt, option_and_then, option_map_or, refl, subst, sym, if◌then◌else◌, Framed, MsgFault, Message, Station, Msm4, Msm5, Msm6, Msm7, Other, Form, Forms, MsmSet, MsmValue, message_at, message_with, message_in, have_form, System, Gps, Galileo, PlanValue, Heard, HeardCell, every_channel, heard, heard_of, inspected, inspected_in, inspected_of, is_of_station, set_of, valued, forms_had, has_other_value, is_of_other, needs_all, plan_had, set_had, tow_of, valued_in, valued_of, with_forms}
+
+-- the laws of the messages of a set
+pub record SetLaws : Type 0 where
+  pub inside : (set : MsmSet) (bytes : List ℕ) (m : Message) → message_at bytes ≡ Ok m → is_in_set set m ≡ true → message_with set bytes ≡ Ok m
+  pub outside : (set : MsmSet) (bytes : List ℕ) (m : Message) → message_at bytes ≡ Ok m → is_in_set set m ≡ false → message_with set bytes ≡ Ok (other_of (bits_of bytes))
+  pub refused : (set : MsmSet) (bytes : List ℕ) (e : MsgFault) → message_at bytes ≡ Err e → (message_with set bytes ≡ Err e) ⊎ (message_with set bytes ≡ Ok (other_of (bits_of bytes)))
+
+-- ---- a message that isn't decoded
+
+same_none : {A : Type 0} (b : Bool) (x : A) → (if b then x else x) ≡ x
+same_none true x = refl
+same_none false x = refl
+
+abbrev found : {A : Type 0} → (leap : ℕ) → (Heard → A) → A → Result Message MsgFault → A
+found leap has none r = option_map_or has (heard_of every_channel leap r) none
+
+-- what is found in a message of the set, if nothing is in one that isn't decoded
+module _ {A : Type 0} (laws : SetLaws) (leap : ℕ) (set : MsmSet) (bytes : List ℕ) (has : Heard → A) (none : A) (other : has (heard every_channel leap (other_of (bits_of bytes))) ≡ none) where
+  pub found_inside : (m : Message) → message_at bytes ≡ Ok m → is_in_set set m ≡ true → option_map_or has (inspected_in leap set bytes) none ≡ has (heard every_channel leap m)
+  found_inside m read is = ap (found leap has none) (laws.inside set bytes m read is)
+
+  pub found_outside : (m : Message) → message_at bytes ≡ Ok m → is_in_set set m ≡ false → option_map_or has (inspected_in leap set bytes) none ≡ none
+  found_outside m read is = ap (found leap has none) (laws.outside set bytes m read is) ∙ other
+
+  pub found_refused : (e : MsgFault) → message_at bytes ≡ Err e → option_map_or has (inspected_in leap set bytes) none ≡ none
+  found_refused e read = by (laws.refused set bytes e read) where
+    by : (message_with set bytes ≡ Err e) ⊎ (message_with set bytes ≡ Ok (other_of (bits_of bytes))) → found leap has none (message_with set bytes) ≡ none
+    by (inl is) = ap (found leap has none) is
+    by (inr is) = ap (found leap has none) is ∙ other
+
+-- ---- the time of week
+
+tow_found : (wanted : Option ℕ) (o : Option Heard) → option_and_then (tow_of wanted) o ≡ option_map_or (tow_of wanted) o None
+tow_found wanted None = refl
+tow_found wanted (Some m) = refl
+
+none_of_other : (leap : ℕ) (wanted : Option ℕ) (bytes : List ℕ) → tow_of wanted (heard every_channel leap (other_of (bits_of bytes))) ≡ None
+none_of_other leap wanted bytes = same_none (is_of_station wanted (heard every_channel leap (other_of (bits_of bytes)))) None
+
+pub tow_read : SetLaws → (leap : ℕ) (set : MsmSet) (wanted : Option ℕ) (bytes : List ℕ) (m : Message) → message_at bytes ≡ Ok m
+    → option_and_then (tow_of wanted) (inspected_in leap set bytes) ≡ (if is_in_set set m then tow_of wanted (heard every_channel leap m) else None)
+tow_read laws leap set wanted bytes m read = tow_found wanted (inspected_in leap set bytes) ∙ by (is_in_set set m) refl where
+  by : (b : Bool) → is_in_set set m ≡ b → option_map_or (tow_of wanted) (inspected_in leap set bytes) None ≡ (if b then tow_of wanted (heard every_channel leap m) else None)
+  by true is = found_inside laws leap set bytes (tow_of wanted) None (none_of_other leap wanted bytes) m read is
+  by false is = found_outside laws leap set bytes (tow_of wanted) None (none_of_other leap wanted bytes) m read is
+
+pub tow_refused : SetLaws → (leap : ℕ) (set : MsmSet) (wanted : Option ℕ) (bytes : List ℕ) (e : MsgFault) → message_at bytes ≡ Err e → option_and_then (tow_of wanted) (inspected_in leap set bytes) ≡ None
+tow_refused laws leap set wanted bytes e read =
+    tow_found wanted (inspected_in leap set bytes)
+    ∙ found_refused laws leap set bytes (tow_of wanted) None (none_of_other leap wanted bytes) e read
+
+-- ---- the cells that count
+
+pub none_valued : (wanted : Option ℕ) (bytes : List ℕ) → valued wanted (inspected (other_of (bits_of bytes))) ≡ []
+none_valued wanted bytes = same_none (is_of_station wanted (inspected (other_of (bits_of bytes)))) []
+
+-- a message in these forms, or without such cells
+abbrev IsHad : Forms → Option ℕ → Result Message MsgFault → Type 0
+IsHad fs wanted (Ok m) = has_other_value fs wanted m ≡ false
+IsHad fs wanted (Err e) = ⊤
+
+abbrev pub ArePlanned : GatherSetup → List HeardCell → Type 0
+ArePlanned s xs = All (λ x. is_planned s x ≡ true) xs
+
+pub front : (s : GatherSetup) (xs ys : List HeardCell) → ArePlanned s (xs ++ ys) → ArePlanned s xs
+front s [] ys h = All-nil (λ x. is_planned s x ≡ true)
+front s (x ∷ xs) ys h = All-cons (λ x. is_planned s x ≡ true) x xs (All-head (λ x. is_planned s x ≡ true) x (xs ++ ys) h) (front s xs ys (All-tail (λ x. is_planned s x ≡ true) x (xs ++ ys) h))
+
+pub rest : (s : GatherSetup) (xs ys : List HeardCell) → ArePlanned s (xs ++ ys) → ArePlanned s ys
+rest s [] ys h = h
+rest s (x ∷ xs) ys h = rest s xs ys (All-tail (λ x. is_planned s x ≡ true) x (xs ++ ys) h)
+
+planned_some : (a : Bool) (g : SignalAt) (is : List ℕ) → (a && is_some (place_in g is)) ≡ true → nat_lt 0 (length is) ≡ true
+planned_some true g [] h = absurd (grind (arith, h))
+planned_some false g [] h = cc
+planned_some a g (i ∷ is) h = grind arith
+
+in_plan : (a b c : Bool) → c ≡ true → (a || b || c) ≡ true
+in_plan true b c h = refl
+in_plan false true c h = refl
+in_plan false false c h = h
+
+-- the system of a planned cell is decoded
+decoded : (s : GatherSetup) (x : HeardCell) → is_planned s x ≡ true → is_decoded s.plan x.satellite.system ≡ true
+decoded s x h =
+    in_plan (is_system x.satellite.system Gps) (is_system x.satellite.system Galileo) _ (planned_some (has_listed_key x) x.signal (planned_of x.satellite.system s.plan) h)
+
+not_out : (a b n : Bool) → a ≡ true → (a && b) ≡ false → (not b && n) ≡ false → n ≡ false
+not_out true true n e out had = cc
+not_out true false n e out had = had
+not_out false b n e out had = cc
+
+-- an MSM outside the set has no cell that counts
+no_cell : (s : GatherSetup) (fs : Forms) (f : Form) (system : System) (xs : List HeardCell) → All (λ x. x.satellite.system ≡ system) xs → ArePlanned s xs → has_msm (set_of s.plan fs) f system ≡ false
+    → (not (have_form fs f) && nat_lt 0 (length xs)) ≡ false → xs ≡ []
+no_cell s fs f system [] of planned out had = refl
+no_cell s fs f system (x ∷ xs) of planned out had =
+    let same : x.satellite.system ≡ system = All-head (λ (x : HeardCell). x.satellite.system ≡ system) x xs of in
+    let is : value_of system (set_of s.plan fs).systems ≡ true = value_tabulated system (is_decoded s.plan) ∙ subst (λ (u : System). is_decoded s.plan u ≡ true) same (decoded s x (All-head (λ x. is_planned s x ≡ true) x xs planned)) in
+    let none = not_out (value_of system (set_of s.plan fs).systems) (have_form fs f) (nat_lt 0 (length (x ∷ xs))) is out had in
+    absurd (grind (arith, none))
+
+kept_frame : SetLaws → (s : GatherSetup) (fs : Forms) (f : Framed) → ArePlanned s (valued_of s.station f) → IsHad fs s.station (message_at f.message) → ReadsAll (set_of s.plan fs) s f
+kept_frame laws s fs f planned had = by (message_at f.message) refl had where
+  cells : (m : Message) → message_at f.message ≡ Ok m → valued_of s.station f ≡ valued s.station (inspected m)
+  cells m read = ap (λ (r : Result Message MsgFault). option_map_or (valued s.station) (inspected_of r) []) read
+
+  none : (m : Message) → is_in_set (set_of s.plan fs) m ≡ false → has_other_value fs s.station m ≡ false → ArePlanned s (valued s.station (inspected m)) → valued s.station (inspected m) ≡ []
+  none (Station p) out had h = cc
+  none (Msm4 v) out had h = no_cell s fs form.Msm4 v.system (valued s.station (inspected (Msm4 v))) (valued_system s.station Df402 v (entries (Msm4 v))) h out had
+  none (Msm5 v) out had h = no_cell s fs form.Msm5 v.system (valued s.station (inspected (Msm5 v))) (valued_system s.station Df402 v (entries (Msm5 v))) h out had
+  none (Msm6 v) out had h = no_cell s fs form.Msm6 v.system (valued s.station (inspected (Msm6 v))) (valued_system s.station Df407 v (entries (Msm6 v))) h out had
+  none (Msm7 v) out had h = no_cell s fs form.Msm7 v.system (valued s.station (inspected (Msm7 v))) (valued_system s.station Df407 v (entries (Msm7 v))) h out had
+  none (Other n o) out had h = cc
+
+  by_set : (m : Message) → message_at f.message ≡ Ok m → has_other_value fs s.station m ≡ false → (b : Bool) → is_in_set (set_of s.plan fs) m ≡ b → ReadsAll (set_of s.plan fs) s f
+  by_set m read had true is = found_inside laws 0 (set_of s.plan fs) f.message (valued s.station) [] (none_valued s.station f.message) m read is ∙ sym (cells m read)
+  by_set m read had false is =
+      found_outside laws 0 (set_of s.plan fs) f.message (valued s.station) [] (none_valued s.station f.message) m read is ∙ sym (cells m read ∙ none m is had (subst (ArePlanned s) (cells m read) planned))
+
+  by : (r : Result Message MsgFault) → message_at f.message ≡ r → IsHad fs s.station r → ReadsAll (set_of s.plan fs) s f
+  by (Ok m) read had = by_set m read had (is_in_set (set_of s.plan fs) m) refl
+  by (Err e) read had =
+      found_refused laws 0 (set_of s.plan fs) f.message (valued s.station) [] (none_valued s.station f.message) e read
+      ∙ sym (ap (λ (r : Result Message MsgFault). option_map_or (valued s.station) (inspected_of r) []) read)
+
+-- no form is another than all
+none_other : (m : Message) → is_of_other forms.All m ≡ false
+none_other (Station p) = refl
+none_other (Msm4 v) = refl
+none_other (Msm5 v) = refl
+none_other (Msm6 v) = refl
+none_other (Msm7 v) = refl
+none_other (Other n s) = refl
+
+all_had : (wanted : Option ℕ) (r : Result Message MsgFault) → IsHad forms.All wanted r
+all_had wanted (Ok m) = ap (λ (b : Bool). b && nat_lt 0 (length (valued wanted (inspected m)))) (none_other m)
+all_had wanted (Err e) = tt
+
+not_needed : (wanted : Option ℕ) (r : Result Message MsgFault) → needs_all wanted r ≡ false → IsHad forms.FourAndSeven wanted r
+not_needed wanted (Ok m) h = h
+not_needed wanted (Err e) h = tt
+
+abbrev needs : Option ℕ → Framed → Bool
+needs wanted f = needs_all wanted (message_at f.message)
+
+kept_all : SetLaws → (s : GatherSetup) (fs : List Framed) → ArePlanned s (valued_in s.station fs) → All (ReadsAll (set_of s.plan forms.All) s) fs
+kept_all laws s [] h = All-nil (ReadsAll (set_of s.plan forms.All) s)
+kept_all laws s (f ∷ fs) h =
+    All-cons (ReadsAll (set_of s.plan forms.All) s) f fs (kept_frame laws s forms.All f (front s (valued_of s.station f) (valued_in s.station fs) h) (all_had s.station (message_at f.message)))
+    (kept_all laws s fs (rest s (valued_of s.station f) (valued_in s.station fs) h))
+
+first_false : (a b : Bool) → (a || b) ≡ false → a ≡ false
+first_false true b h = cc
+first_false false b h = refl
+
+rest_false : (a b : Bool) → (a || b) ≡ false → b ≡ false
+rest_false true b h = cc
+rest_false false b h = h
+
+kept_seven : SetLaws → (s : GatherSetup) (fs : List Framed) → ArePlanned s (valued_in s.station fs) → list_any (needs s.station) fs ≡ false → All (ReadsAll (set_of s.plan forms.FourAndSeven) s) fs
+kept_seven laws s [] p h = All-nil (ReadsAll (set_of s.plan forms.FourAndSeven) s)
+kept_seven laws s (f ∷ fs) p h =
+    let here : needs s.station f ≡ false = first_false (needs s.station f) (list_any (needs s.station) fs) h in
+    All-cons (ReadsAll (set_of s.plan forms.FourAndSeven) s) f fs
+    (kept_frame laws s forms.FourAndSeven f (front s (valued_of s.station f) (valued_in s.station fs) p) (not_needed s.station (message_at f.message) here))
+    (kept_seven laws s fs (rest s (valued_of s.station f) (valued_in s.station fs) p) (rest_false (needs s.station f) (list_any (needs s.station) fs) h))
+
+pub loses_none : SetLaws → (s : GatherSetup) (fs : List Framed) → ArePlanned s (valued_in s.station fs) → All (ReadsAll (set_of s.plan (forms_had s.station fs)) s) fs
+loses_none laws s fs planned = by (list_any (needs s.station) fs) refl where
+  by : (b : Bool) → list_any (needs s.station) fs ≡ b → All (ReadsAll (set_of s.plan (if b then forms.All else forms.FourAndSeven)) s) fs
+  by true h = kept_all laws s fs planned
+  by false h = kept_seven laws s fs planned h
+
+-- ---- the forms of one more message
+
+either : (wanted : Option ℕ) (m : Message) (b : Bool) → with_forms (if b then forms.All else forms.FourAndSeven) wanted m ≡ (if b || (needs_all wanted (Ok m) || false) then forms.All else forms.FourAndSeven)
+either wanted m true = same_none (has_other_value forms.All wanted m) forms.All
+either wanted m false = by (has_other_value forms.FourAndSeven wanted m) where
+  by : (c : Bool) → (if c then forms.All else forms.FourAndSeven) ≡ (if c || false then forms.All else forms.FourAndSeven)
+  by true = refl
+  by false = refl
+
+or_false : (b : Bool) → (b || false) ≡ b
+or_false true = refl
+or_false false = refl
+
+forms_more : (wanted : Option ℕ) (fs : List Framed) (f : Framed) (r : Result Message MsgFault) → message_at f.message ≡ r
+    → forms_had wanted (fs ++ f ∷ []) ≡ (if list_any (needs wanted) fs || (needs_all wanted r || false) then forms.All else forms.FourAndSeven)
+forms_more wanted fs f r read =
+    ap (λ (b : Bool). if b then forms.All else forms.FourAndSeven)
+    (list_any-append (needs wanted) fs (f ∷ []) ∙ ap (λ (r : Result Message MsgFault). list_any (needs wanted) fs || (needs_all wanted r || false)) read)
+
+pub forms_read : {before after : Forms} (wanted : Option ℕ) (fs : List Framed) (f : Framed) (m : Message) → message_at f.message ≡ Ok m → after ≡ with_forms before wanted m → before ≡ forms_had wanted fs
+    → after ≡ forms_had wanted (fs ++ f ∷ [])
+forms_read wanted fs f m read new old =
+    new ∙ ap (λ (x : Forms). with_forms x wanted m) old ∙ either wanted m (list_any (needs wanted) fs) ∙ sym (forms_more wanted fs f (Ok m) read)
+
+pub forms_refused : {before : Forms} (wanted : Option ℕ) (fs : List Framed) (f : Framed) (e : MsgFault) → message_at f.message ≡ Err e → before ≡ forms_had wanted fs → before ≡ forms_had wanted (fs ++ f ∷ [])
+forms_refused wanted fs f e read old =
+    old ∙ sym (forms_more wanted fs f (Err e) read ∙ ap (λ (b : Bool). if b then forms.All else forms.FourAndSeven) (or_false (list_any (needs wanted) fs)))
+
+-- the form and the system of a view
+pub in_set : (f : Form) (v : MsmValue) (set : MsmSet) → is_in_set set (message_in f v) ≡ has_msm set f v.system
+in_set form.Msm4 v set = refl
+in_set form.Msm5 v set = refl
+in_set form.Msm6 v set = refl
+in_set form.Msm7 v set = refl
+
+pub view_other : (fs : Forms) (f : Form) (v : MsmValue) → is_of_other fs (message_in f v) ≡ not (have_form fs f)
+view_other fs form.Msm4 v = refl
+view_other fs form.Msm5 v = refl
+view_other fs form.Msm6 v = refl
+view_other fs form.Msm7 v = refl

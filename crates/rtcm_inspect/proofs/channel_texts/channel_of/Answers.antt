@@ -1,0 +1,7 @@
+use Rattle.std.proofs.Common.{arith, rules}
+use Rattle.rtcm_inspect.proofs.LengthLemmas.{no_sign}
+use Rattle.rtcm_inspect.proofs.Names.{strip_prefix_char}
+use Rattle.rtcm_inspect.proofs.channel_texts.channel_of.Goals as goal
+
+pub returns-in_default-number_of-2-clause-value : goal.returns-in_default-number_of-2-clause-value
+returns-in_default-number_of-2-clause-value c = rw (no_sign c.args.text.now _ (strip_prefix_char 45 _ _ c.strip_prefix.ensures.cases (omega arith)) c.in-None.is) (search rules)

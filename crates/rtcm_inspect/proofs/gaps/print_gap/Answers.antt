@@ -1,0 +1,20 @@
+use Rattle.rtcm_inspect.proofs.GapLemmas.{one_gap}
+use Rattle.rtcm_inspect.proofs.LineLemmas.{add_text}
+use Rattle.rtcm_inspect.proofs.Names.{◌≡◌, ◌∙◌, ap, arith, length, option_map, refl, subst, EndsPrinting}
+use Rattle.rtcm_inspect.proofs.gaps.print_gap.Goals as goal
+
+pub add_moment-requires-2 : goal.add_moment-requires-2
+add_moment-requires-2 g c =
+    let start : length c.put.new.self ≡ 3 = ap length (add_text c.put.ensures c.new-line.ensures refl) in
+    omega (arith, start, c.add_moment.ensures.short)
+
+pub finish-requires : goal.finish-requires
+finish-requires g c =
+    let start : length c.put.new.self ≡ 3 = ap length (add_text c.put.ensures c.new-line.ensures refl) in
+    omega (arith, start, c.add_moment.ensures.short, c.add_moment-2.ensures.short)
+
+pub returns : goal.returns
+returns g c =
+    subst (EndsPrinting c.print_text.result g.W.Write.contents g.W.Deliver.waiting c.args.writer.now c.print_text.new.writer)
+    (c.as_bytes.ensures.text ∙ one_gap c.args.interval (ap (option_map (λ t. t.last)) c.in-Some.is) (omega (arith, c.if-milliseconds-interval.false, c.milliseconds.ensures.value, c.milliseconds-2.ensures.value)) c.new-line.ensures c.put.ensures c.add_moment.ensures.text c.add_moment-2.ensures.text c.finish.ensures)
+    c.print_text.ensures

@@ -1,0 +1,16 @@
+use Rattle.rtcm_inspect.proofs.Names.{◌≡◌, ◌+◌, ◌-◌, List, gaps_of, PrintsText, Stamped, LeavesRest, HasReadEpochs, most_lines}
+use Rattle.rtcm_inspect.proofs.gaps.print_gaps.Given as goal
+
+-- the gaps of the epochs that were read were written
+abbrev pub invariant-loop-before : goal.invariant-loop-before
+invariant-loop-before g l =
+    let remaining = g.R.Read.remaining in
+    record {
+      read : (es : List Stamped) × HasReadEpochs l.file es (remaining l.fn.reader.inner) (remaining l.reader.inner)
+          × PrintsText g.W.Write.contents g.W.Deliver.waiting l.fn.writer l.writer (gaps_of l.interval es);
+      left : LeavesRest (remaining l.fn.reader.inner) (remaining l.reader.inner);
+      same : l.reader.failures ≡ l.fn.reader.failures;
+    }
+
+abbrev pub decreases-loop-before : goal.decreases-loop-before
+decreases-loop-before g l = most_lines + 1 - l.file.reading.count

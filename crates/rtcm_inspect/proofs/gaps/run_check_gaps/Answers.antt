@@ -1,0 +1,30 @@
+use Rattle.rtcm_inspect.proofs.CheckLemmas.{checked, checked_or, kept_first, where_known}
+use Rattle.rtcm_inspect.proofs.GapLemmas.{gaps_refused, whole_output}
+use Rattle.rtcm_inspect.proofs.PrintingLemmas.{printed_after, printed_later}
+use Rattle.rtcm_inspect.proofs.Names.{◌++◌, ap, inr, List, ℕ, AreGapsOf, IfSome_then, StopsGaps, gaps_of}
+use Rattle.rtcm_inspect.proofs.gaps.run_check_gaps.Goals as goal
+
+pub returns-in_err-deliver_waiting-clause-only : goal.returns-in_err-deliver_waiting-clause-only
+returns-in_err-deliver_waiting-clause-only g c = λ v is few.
+    let end = c.in_err-deliver_waiting.ensures in
+    where_known _ (g.R.Read.remaining c.args.reader.now.inner) (λ input same. kept_first (AreGapsOf c.args.interval c.args.with_times) _ _ c.from_residual.result v c.from_residual.ensures.1 end.0 end.2)
+
+pub returns-in-Ok-clause-ends : goal.returns-in-Ok-clause-ends
+returns-in-Ok-clause-ends g c =
+    let (es, found, only, printed, same) = c.in-Ok.ensures.gaps in
+    checked (AreGapsOf c.args.interval c.args.with_times) (StopsGaps c.args.interval c.args.with_times g.R.Read.remaining c.args.reader.now c.print_gaps-read.new.reader g.W.Write.contents g.W.Deliver.waiting c.args.writer.now c.print_text.new.writer) g.R.Read.remaining c.args.reader.now c.print_gaps-read.new.reader c.print_text.result (λ part. inr (inr part))
+    (found.v, found.is, found.text, whole_output c.args.interval c.args.with_times c.in-Ok.summary found.v es found.holds c.counts_line-text.ensures.line c.add_asked_times.ensures.text c.add_complete.ensures) same
+    (printed_later c.print_text.result g.W.Write.contents g.W.Deliver.waiting c.deliver_waiting.new.writer c.print_text.new.writer c.in_ok-deliver_waiting.ensures (ap (λ (t : List ℕ). gaps_of c.args.interval es ++ t) c.as_bytes.ensures.text)
+    (printed_after c.print_text.result g.W.Write.contents g.W.Deliver.waiting c.deliver_waiting.new.writer c.print_gaps-read.new.writer c.print_text.new.writer (gaps_of c.args.interval es) _ printed c.print_text.ensures))
+
+pub returns-in-Ok-clause-only : goal.returns-in-Ok-clause-only
+returns-in-Ok-clause-only g c = λ v is few.
+    let (es, found, only, printed, same) = c.in-Ok.ensures.gaps in
+    IfSome_then (g.R.Read.remaining c.args.reader.now.inner) (only v is few)
+    (λ input h text. checked_or (AreGapsOf c.args.interval c.args.with_times) c.print_text.result v (whole_output c.args.interval c.args.with_times c.in-Ok.summary v es (h text) c.counts_line-text.ensures.line c.add_asked_times.ensures.text c.add_complete.ensures)
+    (printed_later {w = c.args.writer.now} c.print_text.result g.W.Write.contents g.W.Deliver.waiting c.deliver_waiting.new.writer c.print_text.new.writer c.in_ok-deliver_waiting.ensures (ap (λ (t : List ℕ). gaps_of c.args.interval es ++ t) c.as_bytes.ensures.text)
+    (printed_after c.print_text.result g.W.Write.contents g.W.Deliver.waiting c.deliver_waiting.new.writer c.print_gaps-read.new.writer c.print_text.new.writer (gaps_of c.args.interval es) _ printed c.print_text.ensures)))
+
+pub returns-in-Err-clause-only : goal.returns-in-Err-clause-only
+returns-in-Err-clause-only g c = λ v is few.
+    gaps_refused g.W.Write.contents g.W.Deliver.waiting c.deliver_waiting.new.writer c.args.interval c.args.with_times g.R.Read.remaining c.args.reader.now c.print_gaps-read.new.reader c.args.writer.now c.print_gaps-read.new.writer c.in-Err.fault v is few c.in_ok-deliver_waiting.ensures c.in-Err.ensures.gaps

@@ -1,0 +1,26 @@
+use Rattle.rtcm_inspect.proofs.Names.{◌≡◌, ◌∙◌, ◌≤◌, ℕ, List, Option, PlanValue, ap, arith, flat_map, length, sym, plan_had, with_words}
+use Rattle.std.specs.Prelude.{take}
+use Rattle.std.proofs.lemmas.List.{take_all}
+use Rattle.gnss_system.specs.Systems.{systems}
+use Rattle.gnss_system.proofs.SystemLaws.{systems_taken}
+use Rattle.rtcm_inspect.specs.Fitting.{other_words}
+use Rattle.rtcm_inspect.proofs.OptionLemmas.{others_more}
+use Rattle.rtcm_inspect.proofs.options.add_others.Goals as goal
+
+pub loop-i-preserved : goal.loop-i-preserved
+loop-i-preserved c =
+    let n : ℕ = c.loop-i.i in
+    let old = c.args.text.now.items in
+    let e = systems_taken n c.at.result c.at.ensures in
+    record {
+      text = λ cells h. (let p = plan_had cells c.args.signals.now.channels in
+          c.add_other.ensures.text cells h ∙ ap (λ (l : List ℕ). with_words l (other_words c.args.leap p c.at.result)) (c.loop-i.invariant.text cells h)
+          ∙ others_more c.args.leap p old (take n systems) c.at.result ∙ ap (λ ss. with_words old (flat_map (other_words c.args.leap p) ss)) (sym e));
+      short = let s = c.add_other.ensures.short in let b = c.loop-i.invariant.short in omega (arith, s, b);
+    }
+
+all : (leap : Option ℕ) (p : PlanValue) (old : List ℕ) (n : ℕ) → length systems ≤ n → with_words old (flat_map (other_words leap p) (take n systems)) ≡ with_words old (flat_map (other_words leap p) systems)
+all leap p old n h = ap (λ ss. with_words old (flat_map (other_words leap p) ss)) (take_all n systems h)
+
+pub returns-clause-text : goal.returns-clause-text
+returns-clause-text c = λ cells h. c.loop-i.invariant.text cells h ∙ all c.args.leap (plan_had cells c.args.signals.now.channels) c.args.text.now.items c.loop-i.i (let end = c.loop-i-test.false in omega (arith, end))

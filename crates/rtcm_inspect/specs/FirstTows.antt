@@ -1,0 +1,82 @@
+-- The times of week of the first MSMs of a stream, by system and form.
+use Rattle.std.specs.Prelude.{◌≡◌, ℕ, ◌+◌, ◌*◌, ◌%◌, ◌<◌, ◌≤◌, nat_lt, List, [], ◌∷◌, length, Option, Some, None, IfSome}
+use Rattle.std.specs.Prelude.{option_and_then, option_map, if◌then◌else◌}
+use Rattle.std.specs.Option.{option_or}
+use Rattle.gnss_obs.specs.Weeks.{week}
+use Rattle.gnss_system.specs.declared.system.System.{System}
+use Rattle.gnss_system.specs.declared.system.System.TheVariants.{Glonass}
+use Rattle.gnss_system.specs.declared.by_system.BySystem.{BySystem}
+use Rattle.gnss_system.specs.SystemValues.{value_of}
+use Rattle.gnss_system.specs.Systems.{systems}
+use Rattle.rtcm_msg.specs.Numbers.{have_form}
+use Rattle.rtcm_msg.specs.declared.number.Forms.{Forms}
+use Rattle.rtcm_msg.specs.declared.number.Forms.TheVariants.{FourAndSeven, All}
+use Rattle.rtcm_msg.specs.declared.number.MsmSet.{MsmSet}
+use Rattle.rtcm_msg.specs.declared.view.Form.{Form}
+use Rattle.rtcm_scan.specs.Frames.{Framed}
+use Rattle.rtcm_msg.specs.Sets.{has_msm, is_in_set}
+use Rattle.rtcm_msg.specs.declared.message.Message.{Message}
+use Rattle.obs_epoch.specs.Heard.{Heard}
+use Rattle.obs_epoch.specs.SignalCounts.{is_of_station}
+use Rattle.rtcm_inspect.specs.Inspected.{inspected_in}
+use Rattle.rtcm_inspect.specs.declared.first_tows.PlacedTow.{PlacedTow}
+use Rattle.rtcm_inspect.specs.declared.first_tows.SystemTows.{SystemTows}
+use Rattle.rtcm_inspect.specs.declared.first_tows.FirstTows.{FirstTows}
+
+-- what the first message contains that has it, of messages that are read in this way
+abbrev pub first_in : {A : Type 0} → (List ℕ → Option Heard) → (Heard → Option A) → List Framed → Option A
+first_in read has [] = None
+first_in read has (f ∷ fs) = option_or (option_and_then has (read f.message)) (first_in read has fs)
+
+-- the time of week of an MSM of the wanted station; if none is given, of any station
+abbrev pub tow_of : Option ℕ → Heard → Option ℕ
+tow_of wanted m = if is_of_station wanted m then m.tow else None
+
+-- the time of week of the first MSM of a set in these frames, by these leap seconds
+abbrev pub first_tow : (leap : ℕ) → MsmSet → Option ℕ → List Framed → Option ℕ
+first_tow leap set wanted fs = first_in (inspected_in leap set) (tow_of wanted) fs
+
+-- a time of week of a system by these leap seconds, if it is this one by none: only that of GLONASS depends on them
+abbrev pub later_by : System → (leap : ℕ) → ℕ → ℕ
+later_by Glonass leap tow = (tow + 1000 * leap) % week
+later_by system leap tow = tow
+
+-- the message is an MSM of this system and form
+abbrev pub IsMsmOf : Message → System → Form → Type 0
+IsMsmOf m system form = (set : MsmSet) → is_in_set set m ≡ has_msm set form system
+
+-- ---- by system and form
+
+-- the time of week by these leap seconds; it was placed without any
+abbrev pub placed_by : (leap : ℕ) → PlacedTow → ℕ
+placed_by leap t = later_by t.system leap t.tow
+
+-- the first MSM of a system in these forms
+abbrev pub tow_in : Forms → SystemTows → Option PlacedTow
+tow_in FourAndSeven x = x.four_and_seven
+tow_in All x = x.all
+
+-- y are the first ones after one more MSM of this form
+abbrev pub IsWith : SystemTows → Form → PlacedTow → SystemTows → Forms → Type 0
+IsWith x form t y forms = tow_in forms y ≡ (if have_form forms form then option_or (tow_in forms x) (Some t) else tow_in forms x)
+
+abbrev pub earlier : Option PlacedTow → Option PlacedTow → Option PlacedTow
+earlier None b = b
+earlier (Some x) None = Some x
+earlier (Some x) (Some y) = if nat_lt y.place x.place then Some y else Some x
+
+-- the first MSM of a system, if it is in the set
+abbrev pub entry : MsmSet → BySystem SystemTows → System → Option PlacedTow
+entry set tows s = if value_of s set.systems then tow_in set.forms (value_of s tows) else None
+
+-- the first MSM of the set, of these systems
+abbrev pub earliest : MsmSet → BySystem SystemTows → List System → Option PlacedTow
+earliest set tows [] = None
+earliest set tows (s ∷ ss) = earlier (entry set tows s) (earliest set tows ss)
+
+-- x are the first ones of these frames
+pub record AreTows (x : FirstTows) (wanted : Option ℕ) (fs : List Framed) : Type 0 where
+  pub few : x.messages ≤ length fs
+  pub before : (s : System) (forms : Forms) → IfSome (tow_in forms (value_of s x.tows)) (λ t. t.place < x.messages)
+  pub first : (leap : ℕ) (set : MsmSet)
+      → option_map (placed_by leap) (earliest set x.tows systems) ≡ first_tow leap set wanted fs

@@ -1,0 +1,119 @@
+//! GLONASS channels as text.
+ghost use Rattle.std.specs.Prelude.{◌≡◌, ◌+◌, ◌*◌, ◌≤◌, IfSome, length};
+ghost use Rattle.gnss_obs.specs.Channels.{most_number, slot_count};
+ghost use Rattle.rtcm_inspect.specs.ChannelTexts.{after_comma, channel_of, channels_of, channels_text};
+ghost use Rattle.rtcm_inspect.specs.ChannelTexts.{slot_channel_of, slot_of, slot_text, with_entry};
+
+use crate::line::OutputLine;
+use crate::option_texts::{cut, number_of};
+use gnss_obs::Channels;
+
+/// Returns the channels of a text: slots from 1 to 27 with their channels from -7 to 6, as
+/// `1:1,2:-4`, each slot once and in any order. An empty text has none. `None` for any other text.
+pub fn channels_of(text: &str) -> Option<Channels>
+    ensures { result ≡ channels_of text.now }
+{
+    if text.is_empty() {
+        return Some(Channels::none());
+    }
+    let mut channels = Channels::none();
+    let mut rest = text;
+    while let Some((entry, after)) = rest.split_once(',') {
+        channels = with_entry(channels, entry)?;
+        rest = after;
+    }
+    with_entry(channels, rest)
+}
+
+/// Returns the channels with that of one more slot. `None` for a text of another form, and for a
+/// slot that has a channel.
+fn with_entry(known: Channels, text: &str) -> Option<Channels>
+    ensures { result ≡ with_entry known text.now }
+{
+    let (slot, number) = slot_channel_of(text)?;
+    if known.number(slot).is_some() {
+        return None;
+    }
+    let mut channels = known;
+    channels.set(slot, number);
+    Some(channels)
+}
+
+/// Parses a slot and the number of its channel, separated by a colon.
+fn slot_channel_of(text: &str) -> Option<(u8, u8)>
+    ensures value { result ≡ slot_channel_of text.now }
+    ensures bounds { IfSome result (λ p. (1 ≤ p.0) × (p.0 ≤ slot_count) × (p.1 ≤ most_number)) }
+{
+    let (slot, channel) = cut(text, ':')?;
+    match (slot_of(slot), channel_of(channel)) {
+        (Some(slot), Some(number)) => Some((slot, number)),
+        _ => None,
+    }
+}
+
+/// Parses a slot from 1 to 27 without a leading zero.
+fn slot_of(text: &str) -> Option<u8>
+    ensures value { result ≡ slot_of text.now }
+    ensures bounds { IfSome result (λ n. (1 ≤ n) × (n ≤ slot_count)) }
+{
+    if text.starts_with('0') {
+        return None;
+    }
+    match number_of(text, 2) {
+        Some(slot) if 1 <= slot && slot <= 27 => Some(slot as u8),
+        _ => None,
+    }
+}
+
+/// Parses a channel from -7 to 6, and returns its number: the channel plus 7.
+fn channel_of(text: &str) -> Option<u8>
+    ensures value { result ≡ channel_of text.now }
+    ensures bound { IfSome result (λ n. n ≤ most_number) }
+{
+    match text.strip_prefix('-') {
+        Some(size) => match number_of(size, 1) {
+            Some(size) if 1 <= size && size <= 7 => Some(7 - size as u8),
+            _ => None,
+        },
+        None => match number_of(text, 1) {
+            Some(size) if size <= 6 => Some(7 + size as u8),
+            _ => None,
+        },
+    }
+}
+
+/// Returns the text of channels, by rising slots.
+pub fn channels_text(channels: &Channels) -> OutputLine
+    ensures text { result ≡ channels_text channels.now }
+    ensures short { length result ≤ 6 * slot_count }
+{
+    channels.are_channels();
+    let mut line = OutputLine::new();
+    for i in 0..27u8 {
+        match channels.number(i + 1) {
+            Some(number) => add_slot(&mut line, i + 1, number),
+            None => {}
+        }
+    }
+    line
+}
+
+/// Adds a slot and its channel, after a comma if another one is before it.
+fn add_slot(line: &mut OutputLine, slot: u8, number: u8)
+    requires slot { slot ≤ slot_count }
+    requires number { number ≤ most_number }
+    requires room { length line.old ≤ 6 * slot_count }
+    ensures { line.new ≡ after_comma line.old (slot_text slot number) }
+{
+    if !line.as_bytes().is_empty() {
+        line.put(b",");
+    }
+    line.put_number(u64::from(slot));
+    if number < 7 {
+        line.put(b":-");
+        line.put_number(u64::from(7 - number));
+    } else {
+        line.put(b":");
+        line.put_number(u64::from(number - 7));
+    }
+}

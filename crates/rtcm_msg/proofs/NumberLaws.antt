@@ -1,0 +1,76 @@
+-- The message numbers.
+use Rattle.std.proofs.Common.{ℕ, ◌≡◌, ◌+◌, ◌*◌, ◌/◌, ◌%◌, ◌==◌, ◌^◌, ◌<◌, Bool, true, false, List, [], ◌∷◌, Option, Some, None, refl, subst, arith, lit<, if◌then◌else◌}
+use Rattle.std.specs.Option.{option_map_or}
+use Rattle.std.specs.Prelude.{IfSome, nat_lt, ◌&&◌}
+use Rattle.std.specs.List.{find}
+use Rattle.std.proofs.lemmas.Nat.{div-add-mod'}
+use Rattle.gnss_system.specs.declared.system.System.{System}
+use Rattle.gnss_system.proofs.Checked.{is_less, both_first, both_second}
+use Rattle.gnss_system.proofs.SystemLaws.{each_system, found_same}
+use Rattle.gnss_system.specs.Systems.{systems, is_system}
+use Rattle.rtcm_msg.specs.Names.{Kind, kind_of, station_number, message_number, Form}
+use Rattle.rtcm_msg.specs.Numbers.{digit_of, tens_of, form_of_digit, system_of_tens, msm_kind}
+use Rattle.rtcm_msg.specs.declared.view.Form.TheVariants as forms
+use Rattle.rtcm_msg.specs.declared.number.Kind.TheVariants as kinds
+
+-- The number of a kind.
+abbrev pub IsNumber : Kind → ℕ → Type 0
+IsNumber (kinds.Station has) n = n ≡ station_number has
+IsNumber (kinds.Msm form g) n = n ≡ message_number form g
+IsNumber kinds.Other n = Unit {0}
+
+row_is : (b : Bool) (n m : ℕ) (k j : Kind) → (n == m) ≡ b → IsNumber k m → IsNumber j n → IsNumber (if b then k else j) n
+row_is true n m k j e h t = let same : n ≡ m = grind (arith, e) in rw same h
+row_is false n m k j e h t = t
+
+first_passes : {A : Type 0} (p : A → Bool) (x : A) (o : Option A) (b : Bool) → p x ≡ b → IfSome o (λ x. p x ≡ true) → IfSome (if b then Some x else o) (λ x. p x ≡ true)
+first_passes p x o true e h = e
+first_passes p x o false e h = h
+
+found_passes : {A : Type 0} (p : A → Bool) (xs : List A) → IfSome (find p xs) (λ x. p x ≡ true)
+found_passes p [] = tt
+found_passes p (x ∷ xs) = first_passes p x (find p xs) (p x) refl (found_passes p xs)
+
+msm_number : (n : ℕ) (f : Option Form) (g : Option System) → IfSome f (λ f. (digit_of f == n % 10) ≡ true) → IfSome g (λ g. (tens_of g == n / 10) ≡ true) → IsNumber (msm_kind f g) n
+msm_number n None g d t = tt
+msm_number n (Some f) None d t = tt
+msm_number n (Some f) (Some g) d t = let parts = div-add-mod' n 10 in grind (arith, d, t, parts)
+
+pub number_is : (n : ℕ) (k : Kind) → kind_of n ≡ k → IsNumber k n
+number_is n k e = subst (λ (k : Kind). IsNumber k n) e (row_is (n == 1005) n 1005 _ _ refl refl (row_is (n == 1006) n 1006 _ _ refl refl (msm_number n (form_of_digit (n % 10)) (system_of_tens (n / 10)) (found_passes (λ f. digit_of f == n % 10) (forms.Msm4 ∷ forms.Msm5 ∷ forms.Msm6 ∷ forms.Msm7 ∷ [])) (found_passes (λ g. tens_of g == n / 10) systems))))
+
+pub of_station : (has : Bool) → (kind_of (station_number has) ≡ kinds.Station has) × (station_number has < 2 ^ 12)
+of_station true = (refl, lit< tt)
+of_station false = (refl, lit< tt)
+
+digit_known : (form : Form) → (form_of_digit (digit_of form) ≡ Some form) × (digit_of form < 10)
+digit_known forms.Msm4 = (refl, lit< tt)
+digit_known forms.Msm5 = (refl, lit< tt)
+digit_known forms.Msm6 = (refl, lit< tt)
+digit_known forms.Msm7 = (refl, lit< tt)
+
+tens_known : (g : System) → (system_of_tens (tens_of g) ≡ Some g) × (100 < tens_of g) × (tens_of g < 400)
+tens_known g =
+    let back = each_system (λ g. option_map_or (λ s. is_system s g) (system_of_tens (tens_of g)) false) g refl in
+    let within = each_system (λ g. nat_lt 100 (tens_of g) && nat_lt (tens_of g) 400) g refl in
+    (found_same _ g back, is_less _ _ (both_first _ _ within), is_less _ _ (both_second (nat_lt 100 (tens_of g)) _ within))
+
+pub of_msm : (form : Form) (g : System) → (kind_of (message_number form g) ≡ kinds.Msm form g) × (message_number form g < 2 ^ 12)
+of_msm form g =
+    let d = digit_known form in
+    let t = tens_known g in
+    let n = message_number form g in
+    let a : (n == 1005) ≡ false = other n 1005 (omega (arith, t.1)) in
+    let b : (n == 1006) ≡ false = other n 1006 (omega (arith, t.1)) in
+    let low : n % 10 ≡ digit_of form = low_ten (tens_of g) (digit_of form) d.1 in
+    let high : n / 10 ≡ tens_of g = shr_ten (tens_of g) (digit_of form) d.1 in
+    (rw (a, b, low, high, d.0, t.0) refl, omega (arith, d.1, t.2))
+  where
+    other : (n m : ℕ) → m < n → (n == m) ≡ false
+    other n m h = grind (arith, h)
+
+    low_ten : (t d : ℕ) → d < 10 → (t * 10 + d) % 10 ≡ d
+    low_ten t d h = omega (arith, h)
+
+    shr_ten : (t d : ℕ) → d < 10 → (t * 10 + d) / 10 ≡ t
+    shr_ten t d h = omega (arith, h)

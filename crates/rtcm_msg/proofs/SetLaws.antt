@@ -1,0 +1,139 @@
+-- Messages if the MSMs of a set are decoded.
+use Rattle.std.proofs.Common.{ℕ, ◌≡◌, ◌==◌, arith, ◌&&◌, ◌≤◌, Bool, true, false, List, [], ◌∷◌, length, Ok, Err, refl, sym, ap, ◌∙◌, ◌⊎◌, inl, inr, if◌then◌else◌}
+use Rattle.std.specs.List.{AllByRecursion}
+use Rattle.std.proofs.lemmas.Bool.{cases_lt}
+use Rattle.gnss_system.specs.declared.system.System.TheVariants.{Gps, Galileo}
+use Rattle.gnss_system.specs.SystemValues.{value_of}
+use Rattle.gnss_system.proofs.SystemLaws.{each_of_two}
+use Rattle.rtcm_msg.specs.declared.number.Forms.TheVariants.{FourAndSeven}
+use Rattle.rtcm_msg.specs.Names.{bits_of, message_number, Message, MsgFault, MsmValue, Kind, MsmSet, kind_of, kind_with, kind_within, message_by, message_at, message_with, body_by, other_of, IsMessage, Form, message_in, satellite_widths, cell_widths, station_at, msm_at, cursor_at, Short}
+use Rattle.rtcm_msg.specs.Encoding.{number_of}
+use Rattle.rtcm_msg.specs.Numbers.{have_form, whole_set, default_set}
+use Rattle.rtcm_msg.specs.Sets.{is_in_set, kind_table, kind_in, message_by_table}
+use Rattle.rtcm_msg.proofs.Binds.{bind_ok, of_read}
+use Rattle.rtcm_msg.proofs.Combine.{ok_err}
+use Rattle.rtcm_msg.proofs.MsmLaws.{msm_consumed}
+use Rattle.rtcm_msg.proofs.NumberLaws.{number_is}
+use Rattle.rtcm_msg.proofs.MessageLaws.{message_there, message_none, message_found, other_is}
+use Rattle.rtcm_msg.specs.declared.message.Message.TheVariants as messages
+use Rattle.rtcm_msg.specs.declared.view.Form.TheVariants as forms
+use Rattle.rtcm_msg.specs.declared.number.Kind.TheVariants as kinds
+
+-- A kind stays, or its messages aren't decoded.
+kept : (set : MsmSet) (k : Kind) → (kind_within set k ≡ k) ⊎ (kind_within set k ≡ kinds.Other)
+kept set (kinds.Station h) = inl refl
+kept set (kinds.Msm f g) = by (value_of g set.systems && have_form set.forms f) where
+  by : (b : Bool) → ((if b then kinds.Msm f g else kinds.Other) ≡ kinds.Msm f g) ⊎ ((if b then kinds.Msm f g else kinds.Other) ≡ kinds.Other)
+  by true = inl refl
+  by false = inr refl
+kept set kinds.Other = inl refl
+
+pub by_set : (set : MsmSet) (n : ℕ) → (kind_with set n ≡ kind_of n) ⊎ (kind_with set n ≡ kinds.Other)
+by_set set n = kept set (kind_of n)
+
+pub same_kind : (k j : ℕ → Kind) (bits : List Bool) → k (number_of bits) ≡ j (number_of bits) → message_by k bits ≡ message_by j bits
+same_kind k j bits same = elim (cases_lt (length bits) 12) [
+  | inl few ↦ message_none k bits few ∙ sym (message_none j bits few)
+  | inr there ↦ message_there k bits there ∙ (ap (λ (k : Kind). body_by k (number_of bits) (cursor_at bits 12)) same ∙ sym (message_there j bits there))
+]
+
+pub message_known : (set : MsmSet) (bits : List Bool) → kind_with set (number_of bits) ≡ kind_of (number_of bits) → message_by (kind_with set) bits ≡ message_by kind_of bits
+message_known set bits same = same_kind (kind_with set) kind_of bits same
+
+pub message_other : (set : MsmSet) (bits : List Bool) → 12 ≤ length bits → kind_with set (number_of bits) ≡ kinds.Other → message_by (kind_with set) bits ≡ Ok (other_of bits)
+message_other set bits there other = message_there (kind_with set) bits there ∙ (ap (λ (k : Kind). body_by k (number_of bits) (cursor_at bits 12)) other ∙ ap Ok (other_is bits there))
+
+-- The message, or the one that isn't decoded.
+with_is : (set : MsmSet) (bytes : List ℕ) → (message_with set bytes ≡ message_at bytes) ⊎ (message_with set bytes ≡ Ok (other_of (bits_of bytes)))
+with_is set bytes = elim (by_set set (number_of (bits_of bytes))) [
+  | inl known ↦ inl (message_known set (bits_of bytes) known)
+  | inr other ↦ elim (cases_lt (length (bits_of bytes)) 12) [
+    | inl few ↦ inl (message_none (kind_with set) (bits_of bytes) few ∙ sym (message_none kind_of (bits_of bytes) few))
+    | inr there ↦ inr (message_other set (bits_of bytes) there other)
+  ]
+]
+
+pub refused : (set : MsmSet) (bytes : List ℕ) (e : MsgFault) → message_at bytes ≡ Err e → (message_with set bytes ≡ Err e) ⊎ (message_with set bytes ≡ Ok (other_of (bits_of bytes)))
+refused set bytes e is = elim (with_is set bytes) [ inl same ↦ inl (same ∙ is) | inr other ↦ inr other ]
+
+pub value_with : (set : MsmSet) (bytes : List ℕ) (m : Message) → message_with set bytes ≡ Ok m → IsMessage m
+value_with set bytes m e = elim (with_is set bytes) [ inl same ↦ (message_found (bits_of bytes) m (sym same ∙ e)).is_message | inr other ↦ of_read IsMessage (other_of (bits_of bytes)) m (sym other ∙ e) tt ]
+
+-- ---- the whole set
+
+all_kept : (k : Kind) → kind_within whole_set k ≡ k
+all_kept (kinds.Station h) = refl
+all_kept (kinds.Msm f g) = rw (each_of_two (λ g (b : Bool). b ≡ true) {gps = true} {galileo = true} {other = true} refl refl (λ g. refl) g) refl
+all_kept kinds.Other = refl
+
+pub whole_is : (bytes : List ℕ) → message_with whole_set bytes ≡ message_at bytes
+whole_is bytes = message_known whole_set (bits_of bytes) (all_kept (kind_of (number_of (bits_of bytes))))
+
+-- ---- the messages in a set
+
+in_set : (set : MsmSet) (form : Form) (v : MsmValue) → is_in_set set (message_in form v) ≡ (value_of v.system set.systems && have_form set.forms form)
+in_set set forms.Msm4 v = refl
+in_set set forms.Msm5 v = refl
+in_set set forms.Msm6 v = refl
+in_set set forms.Msm7 v = refl
+
+-- What a message of this value contains if the MSMs of a set are decoded.
+kind_read : (set : MsmSet) (k : Kind) (bits : List Bool) (m : Message) → body_by k (number_of bits) (cursor_at bits 12) ≡ Ok m → kind_within set k ≡ (if is_in_set set m then k else kinds.Other)
+kind_read set (kinds.Station h) bits m e = let body = bind_ok (station_at h (cursor_at bits 12)) _ m e in of_read (λ m. kinds.Station h ≡ (if is_in_set set m then kinds.Station h else kinds.Other)) (messages.Station body.0.0) m body.2 refl
+kind_read set (kinds.Msm f g) bits m e =
+    let body = bind_ok (msm_at (satellite_widths f) (cell_widths f) g (cursor_at bits 12)) _ m e in
+    let system = (msm_consumed (satellite_widths f) (cell_widths f) g (cursor_at bits 12) body.0 body.1).system in
+    of_read (λ m. kind_within set (kinds.Msm f g) ≡ (if is_in_set set m then kinds.Msm f g else kinds.Other)) (message_in f body.0.0) m body.2 (rw (in_set set f body.0.0, system) refl)
+kind_read set kinds.Other bits m e = of_read (λ m. kinds.Other ≡ (if is_in_set set m then kinds.Other else kinds.Other)) (messages.Other _ _) m e refl
+
+read_there : (bytes : List ℕ) (m : Message) → message_at bytes ≡ Ok m → 12 ≤ length (bits_of bytes)
+read_there bytes m e = elim (cases_lt (length (bits_of bytes)) 12) [ inl few ↦ absurd (ok_err m (Short 0) (message_at bytes) e (message_none kind_of (bits_of bytes) few)) | inr there ↦ there ]
+
+pub inside : (set : MsmSet) (bytes : List ℕ) (m : Message) → message_at bytes ≡ Ok m → is_in_set set m ≡ true → message_with set bytes ≡ Ok m
+inside set bytes m e is =
+    let bits = bits_of bytes in
+    let kind = kind_read set (kind_of (number_of bits)) bits m (sym (message_there kind_of bits (read_there bytes m e)) ∙ e) in
+    message_known set bits (kind ∙ rw is refl) ∙ e
+
+pub outside : (set : MsmSet) (bytes : List ℕ) (m : Message) → message_at bytes ≡ Ok m → is_in_set set m ≡ false → message_with set bytes ≡ Ok (other_of (bits_of bytes))
+outside set bytes m e is =
+    let bits = bits_of bytes in
+    let there = read_there bytes m e in
+    let kind = kind_read set (kind_of (number_of bits)) bits m (sym (message_there kind_of bits there) ∙ e) in
+    message_other set bits there (kind ∙ rw is refl)
+
+-- ---- the default set
+
+row_known : (b : Bool) (n m : ℕ) (k j : Kind) → (n == m) ≡ b → kind_with default_set m ≡ k → (kind_with default_set n ≡ j) ⊎ (j ≡ kinds.Other)
+    → (kind_with default_set n ≡ (if b then k else j)) ⊎ ((if b then k else j) ≡ kinds.Other)
+row_known true n m k j e h t = let same : n ≡ m = grind (arith, e) in inl (ap (kind_with default_set) same ∙ h)
+row_known false n m k j e h t = t
+
+rows_known : (n : ℕ) (rows : List (ℕ × Kind)) → AllByRecursion (λ r. kind_with default_set r.0 ≡ r.1) rows → (kind_with default_set n ≡ kind_in rows n) ⊎ (kind_in rows n ≡ kinds.Other)
+rows_known n [] h = inr refl
+rows_known n (r ∷ rows) h = row_known (n == r.0) n r.0 r.1 (kind_in rows n) refl h.0 (rows_known n rows h.1)
+
+no_row : (n : ℕ) (k : Kind) → kind_of n ≡ k → kind_in kind_table n ≡ kinds.Other → kind_within default_set k ≡ kind_in kind_table n
+no_row n (kinds.Station true) e none = rw (number_is n _ e) refl
+no_row n (kinds.Station false) e none = rw (number_is n _ e) refl
+no_row n (kinds.Msm f g) e none =
+    each_of_two (λ g b. n ≡ message_number f g → (if b && have_form FourAndSeven f then kinds.Msm f g else kinds.Other) ≡ kind_in kind_table n)
+    (of_gps f) (of_galileo f) (λ g e. sym none) g (number_is n (kinds.Msm f g) e) where
+      of_gps : (f : Form) → n ≡ message_number f Gps → (if have_form FourAndSeven f then kinds.Msm f Gps else kinds.Other) ≡ kind_in kind_table n
+      of_gps forms.Msm4 e = rw e refl
+      of_gps forms.Msm5 e = sym none
+      of_gps forms.Msm6 e = sym none
+      of_gps forms.Msm7 e = rw e refl
+
+      of_galileo : (f : Form) → n ≡ message_number f Galileo → (if have_form FourAndSeven f then kinds.Msm f Galileo else kinds.Other) ≡ kind_in kind_table n
+      of_galileo forms.Msm4 e = rw e refl
+      of_galileo forms.Msm5 e = sym none
+      of_galileo forms.Msm6 e = sym none
+      of_galileo forms.Msm7 e = rw e refl
+no_row n kinds.Other e none = sym none
+
+pub table_is : (n : ℕ) → kind_with default_set n ≡ kind_in kind_table n
+table_is n = elim (rows_known n kind_table (refl, (refl, (refl, (refl, (refl, (refl, tt))))))) [ inl same ↦ same | inr none ↦ no_row n (kind_of n) refl none ]
+
+pub by_table : (bytes : List ℕ) → message_with default_set bytes ≡ message_by_table bytes
+by_table bytes = same_kind (kind_with default_set) (kind_in kind_table) (bits_of bytes) (table_is (number_of (bits_of bytes)))

@@ -1,0 +1,51 @@
+use Rattle.std.proofs.Common.{ℕ, ◌≡◌, ◌≢◌, ◌+◌, ◌<◌, ◌≤◌, ◌==◌, ◌++◌, ◌∙◌, Bool, true, false, List, length, take, drop, nat_le, Some, None, refl, sym, ap, arith, lit≤}
+use Rattle.std.proofs.lemmas.List.{take-append-drop, length-take-le}
+use Rattle.rtcm_bits.specs.BitLaws.{bits_of-append, length-bits_of}
+use Rattle.rtcm_msg.specs.Names.{bits_of, field_at}
+use Rattle.rtcm_msg.specs.Channels.{channel_of_1020}
+use Rattle.rtcm_msg.proofs.LongLaws.{field_more}
+use Rattle.rtcm_msg.proofs.channels.channel_of_1020.Goals as goal
+
+too_short : (bytes : List ℕ) → length bytes < 3 → channel_of_1020 bytes ≡ None
+too_short bytes few =
+    let less : nat_le 23 (length (bits_of bytes)) ≡ false = grind (arith, length-bits_of bytes, few) in
+    rw less refl
+
+module _ (bytes : List ℕ) (long : 3 ≤ length bytes) where
+  there : nat_le 23 (length (bits_of bytes)) ≡ true
+  there = grind (arith, length-bits_of bytes, long)
+
+  -- The first three bytes determine the fields.
+  same : (place w : ℕ) → place + w ≤ 24 → field_at (bits_of (take 3 bytes)) place w ≡ field_at (bits_of bytes) place w
+  same place w fits =
+      let split : bits_of bytes ≡ bits_of (take 3 bytes) ++ bits_of (drop 3 bytes) = ap bits_of (sym (take-append-drop 3 bytes)) ∙ bits_of-append (take 3 bytes) (drop 3 bytes) in
+      let room : place + w ≤ length (bits_of (take 3 bytes)) = let size = length-bits_of (take 3 bytes) in let three = length-take-le 3 bytes long in omega (arith, size, three, fits) in
+      sym (ap (λ (bits : List Bool). field_at bits place w) split ∙ field_more (bits_of (take 3 bytes)) (bits_of (drop 3 bytes)) place w room)
+
+  another : (n : ℕ) → n ≡ field_at (bits_of (take 3 bytes)) 0 12 → n ≢ 1020 → channel_of_1020 bytes ≡ None
+  another n is not_it =
+      let no : (field_at (bits_of bytes) 0 12 == 1020) ≡ false = apart n _ (is ∙ same 0 12 (lit≤ tt)) not_it in
+      rw (there, no) refl
+    where
+      apart : (n m : ℕ) → n ≡ m → n ≢ 1020 → (m == 1020) ≡ false
+      apart n m e h = grind (arith, e, h)
+
+  whole : (n slot channel : ℕ) → n ≡ field_at (bits_of (take 3 bytes)) 0 12 → n ≡ 1020 → slot ≡ field_at (bits_of (take 3 bytes)) 12 6 → channel ≡ field_at (bits_of (take 3 bytes)) 18 5
+      → channel_of_1020 bytes ≡ Some (slot, channel)
+  whole n slot channel is it s k =
+      let yes : (field_at (bits_of bytes) 0 12 == 1020) ≡ true = equal n _ (is ∙ same 0 12 (lit≤ tt)) it in
+      rw (there, yes, s, k, same 12 6 (lit≤ tt), same 18 5 (lit≤ tt)) refl
+    where
+      equal : (n m : ℕ) → n ≡ m → n ≡ 1020 → (m == 1020) ≡ true
+      equal n m e h = grind (arith, e, h)
+
+pub returns-then-bytes-lt-CHANNEL_BYTES-clause-value : goal.returns-then-bytes-lt-CHANNEL_BYTES-clause-value
+returns-then-bytes-lt-CHANNEL_BYTES-clause-value c = sym (too_short c.args.bytes.now c.if-bytes-lt-CHANNEL_BYTES.true)
+
+pub returns-then-number_at-ne1020-clause-value : goal.returns-then-number_at-ne1020-clause-value
+returns-then-number_at-ne1020-clause-value c =
+    sym (another c.args.bytes.now c.if-bytes-lt-CHANNEL_BYTES.false c.number_at.result c.number_at.ensures.value c.if-number_at-ne1020.true)
+
+pub returns-clause-value : goal.returns-clause-value
+returns-clause-value c =
+    sym (whole c.args.bytes.now c.if-bytes-lt-CHANNEL_BYTES.false c.number_at.result c.byte_at.result c.byte_at-2.result c.number_at.ensures.value c.if-number_at-ne1020.false c.byte_at.ensures.value c.byte_at-2.ensures.value)
