@@ -108,6 +108,7 @@ LOCKS = [
     (6, 705),
 ]
 UNDECODED = msm(1075, 2000)[:12]
+OF_TWO_STATIONS = [msm(1077, 1000), msm(1075, 1000, station=7), msm(1096, 1000, station=7)]
 ROWS: list[tuple[str, list[str], list[bytes]]] = [
     ("convert-locks-of-all-forms", OF_1C, [msm(1070 + form, 1000 * n, lock=i) for n, (form, i) in enumerate(LOCKS)]),
     # an epoch of four forms, which a later cell of a satellite and signal doesn't change
@@ -126,6 +127,10 @@ ROWS: list[tuple[str, list[str], list[bytes]]] = [
     ("convert-does-not-refuse-another-form", CONVERT, [msm(1077, 1000), UNDECODED, msm(1075, 604_800_000)]),
     ("convert-refuses-another-form", ALL, [msm(1077, 1000), UNDECODED, msm(1075, 604_800_000)]),
     ("convert-the-default-forms", [*CONVERT, "--msm", "4,7"], [msm(1075, 1000), msm(1077, 1000)]),
+    # one of another station is ignored, or with `--msm all` counted as of another station
+    ("convert-another-form-of-another-station", [*CONVERT, "--station", "2003"], OF_TWO_STATIONS),
+    ("convert-any-form-of-another-station", [*ALL, "--station", "2003"], OF_TWO_STATIONS),
+    ("convert-bytes-after-the-last-field", OF_1C, [msm(1075, 1000) + bytes(10), msm(1076, 2000) + b"\xff" * 50]),
     # `--msm all` if a cell that is counted is of MSM5 or MSM6; the week is that of the first decoded MSM
     ("options-of-msm5", ["options"], [msm(1074, 1000), msm(1095, 1000)]),
     ("options-of-msm6", ["options"], [msm(1077, 1000), msm(1076, 1000)]),
@@ -146,10 +151,19 @@ ROWS: list[tuple[str, list[str], list[bytes]]] = [
     ),
     ("convert-one-form", [*CONVERT, "--msm", "5"], []),
     ("convert-forms-in-another-order", [*CONVERT, "--msm", "7,4"], []),
+    ("convert-forms-in-capitals", [*CONVERT, "--msm", "ALL"], []),
+    ("convert-no-forms", [*CONVERT, "--msm", ""], []),
     ("convert-forms-twice", [*ALL, "--msm", "all"], []),
     ("show-all-twice", ["show", "--all", "--all"], []),
 ]
-USAGE = ("convert-one-form", "convert-forms-in-another-order", "convert-forms-twice", "show-all-twice")
+USAGE = (
+    "convert-one-form",
+    "convert-forms-in-another-order",
+    "convert-forms-in-capitals",
+    "convert-no-forms",
+    "convert-forms-twice",
+    "show-all-twice",
+)
 
 
 def recording_rows() -> list[dict]:

@@ -8,7 +8,7 @@ from reference_impl.stream import time_sent
 
 from .common import CONVERT, STATION, check_row, file_of, file_row, msm, replaced, row, without
 from .forms import GR30, STFU
-from .systems import DATE, GMSD7, NEITHER, SAMPLE
+from .systems import DATE, GMSD7, NEITHER, SAMPLE, THREE, all_satellites, number, table_rows
 
 DAY = 86_400_000
 ALL = [*CONVERT, *NEITHER, "--glonass", "all"]
@@ -62,6 +62,10 @@ def recording_rows() -> list[dict]:
         file_row("stfu-options-near", ["options", "--near", "2016-04-06"], STFU),
         file_row("gmsd7-glonass", words(1709, "1P,1C,2P", CHANNELS_2012, "--leap-seconds", "16"), GMSD7, "obs"),
         file_row("gmsd7-glonass-without-channels", words(1709, "1C", "", "--leap-seconds", "16"), GMSD7),
+        file_row("gmsd7-signals", ["signals"], GMSD7),
+        file_row("gmsd7-options-of-a-later-week", ["options", "--near", "2012-10-21"], GMSD7),
+        file_row("gmsd7-show-all", ["show", "--all"], GMSD7, "txt"),
+        file_row("stfu-show-all", ["show", "--all"], STFU, "txt"),
         # GLONASS is then two seconds before GPS, or after it
         file_row("gmsd7-glonass-of-other-leap-seconds", gmsd7_words("14"), GMSD7),
         file_row("gmsd7-glonass-of-more-leap-seconds", gmsd7_words("18"), GMSD7),
@@ -190,6 +194,12 @@ ROWS: list[tuple[str, list[str], list[bytes]]] = [
     ("glonass-options-near-a-week-that-ends", NEAR, [msm(1084, at(WEEK - 1)), msm(1077, 0)]),
     ("glonass-options-near-a-week-that-begins", NEAR, [msm(1084, at(0)), msm(1077, 0)]),
     ("glonass-signals", ["signals"], [msm(1087, at(0), [1, 28], [*range(1, 33)])]),
+    (
+        "convert-an-epoch-of-six-systems",
+        [*CONVERT, *THREE, "--glonass", "all", "--glonass-channels", "3:5"],
+        [msm(number(system), time_sent(system, 1000), [3], more=system != "E") for system in "SJCRGE"],
+    ),
+    ("convert-all-satellites-of-six-systems", *all_satellites("GERCJS")),
     ("convert-a-code-of-glonass", [*CONVERT, "--glonass", "1C,3I"], []),
     # channels are validated after the height, before the texts and the plans
     ("convert-bad-channels-after-the-height", [*ALL, "--glonass-channels", "x", "--antenna-height", "x"], []),
@@ -313,4 +323,4 @@ def streams() -> dict[str, bytes]:
 
 def rows() -> list[dict]:
     made = [row(name, words, messages) for name, words, messages in ROWS]
-    return [*made, *recording_rows(), *option_rows(), *check_rows()]
+    return [*made, *recording_rows(), *table_rows(["R"]), *option_rows(), *check_rows()]

@@ -1,5 +1,5 @@
-"""Cases of BeiDou, QZSS and SBAS, and of all systems: systems.json."""
-from reference_impl.messages import FIRST_NUMBERS, SATELLITES, SIGNALS, WEEK
+"""Cases of BeiDou, QZSS and SBAS: systems.json. A case is made if the program reads the systems that it has."""
+from reference_impl.messages import FIRST_NUMBERS, READ_SYSTEMS, SATELLITES, SIGNALS, WEEK
 from reference_impl.options import OPTION_NAMES
 from reference_impl.stream import time_sent as time
 
@@ -10,12 +10,17 @@ SAMPLE = "samples/zed-f9t-2019-10-17.rtcm3"
 GMSD7 = "cases/input/gmsd7-2012-10-14.rtcm3"
 DATE = ["--date", "20240204 000001 UTC"]
 NEITHER = ["--gps", "none", "--galileo", "none"]
-OTHERS = [system for system in OPTION_NAMES if system not in "GE"]
-EVERY = [word for system in OTHERS for word in (f"--{OPTION_NAMES[system]}", "all")]
+# The systems of which there are cases here, as far as the program reads them.
+OTHERS = [system for system in "CJS" if system in READ_SYSTEMS]
 
 
 def number(system: str, form: int = 4) -> int:
     return FIRST_NUMBERS[system] + form
+
+
+def read(rows: dict[str, list]) -> list:
+    """Returns the rows of the systems that the program reads; the key is the letters of those that a row has."""
+    return [row for systems, some in rows.items() if set(systems) <= set(READ_SYSTEMS) for row in some]
 
 
 def recording_rows() -> list[dict]:
@@ -23,26 +28,29 @@ def recording_rows() -> list[dict]:
     of_beidou = [*NEITHER, "--beidou"]
     plan = ["--gps", "1C", "--galileo", "none", "--beidou", "2I,6I,7I", "--qzss", "1C,6L,2X,5X,1X"]
     of_2025 = ["--msm", "all", *of_beidou, "2I,6I,7I,5P,1P"]
-    return [
-        file_row("zed-f9t-beidou", ["convert", "--week", "2075", *DATE, *of_beidou, "2I"], SAMPLE),
-        file_row("gr30-beidou", ["convert", "--week", "2355", *DATE, *of_2025], GR30, "obs"),
-        file_row("stfu-sbas", ["convert", "--week", "1891", *DATE, *NEITHER, "--sbas", "1C,5I"], STFU),
-        file_row("stfu-show-all", ["show", "--all"], STFU, "txt"),
-        file_row("gmsd7-signals", ["signals"], GMSD7),
-        file_row("gmsd7-options", ["options", "--near", "2012-10-14"], GMSD7),
-        file_row("gmsd7-options-of-a-later-week", ["options", "--near", "2012-10-21"], GMSD7),
-        file_row("gmsd7-show-all", ["show", "--all"], GMSD7, "txt"),
-        file_row("gmsd7-convert", ["convert", "--week", "1709", *DATE, *plan], GMSD7, "obs"),
-    ]
+    of_qzss = ["--week", "1709", *DATE, *NEITHER, "--qzss", "1C,6L,2X,5X,1X"]
+    rows = {
+        "J": [file_row("gmsd7-qzss", ["convert", *of_qzss], GMSD7)],
+        "C": [
+            file_row("zed-f9t-beidou", ["convert", "--week", "2075", *DATE, *of_beidou, "2I"], SAMPLE),
+            file_row("gr30-beidou", ["convert", "--week", "2355", *DATE, *of_2025], GR30, "obs"),
+        ],
+        "S": [file_row("stfu-sbas", ["convert", "--week", "1891", *DATE, *NEITHER, "--sbas", "1C,5I"], STFU)],
+        "CJ": [
+            file_row("gmsd7-convert", ["convert", "--week", "1709", *DATE, *plan], GMSD7, "obs"),
+            file_row("gmsd7-options", ["options", "--near", "2012-10-14"], GMSD7),
+        ],
+    }
+    return read(rows)
 
 
-def table_rows() -> list[dict]:
-    """Returns cases of every signal ID, every satellite ID, and every field at its limits, for each system."""
+def table_rows(systems: list[str]) -> list[dict]:
+    """Returns cases of every signal ID, every satellite ID, and times at their limits, for each of these systems."""
     made = []
-    for system in OTHERS:
+    for system in systems:
         name = OPTION_NAMES[system]
         words = [*CONVERT, *NEITHER, f"--{name}", "all"]
-        signals = [msm(number(system), 1000, [3, 9], [*range(1, 33)])]
+        signals = [msm(number(system, 7), time(system, 1000), [3, 9], [*range(1, 33)])]
         first = min(SIGNALS[system])
         every = [msm(number(system), 1000, [*range(1, 65)], [first], part=512)]
         times = [msm(number(system), time) for time in (0, 1, WEEK - 1, WEEK, WEEK + 1, (1 << 30) - 1)]
@@ -60,27 +68,56 @@ def table_rows() -> list[dict]:
     return made
 
 
-def longest_rows() -> list[dict]:
-    """Returns cases of 207 satellites in an epoch, and of more than 256 cells of a system."""
-    systems = list(SATELLITES)
+def all_satellites(systems: str) -> tuple[list[str], list[bytes]]:
+    """Returns the command line and the messages of an epoch with all satellites of these systems."""
     sent = [(system, part) for system in systems for part in ([*range(1, 33)], [*range(33, SATELLITES[system] + 1)])]
     messages = [
         msm(number(system), time(system, 1000), part, [2], more=1) for system, part in sent if part and part[-1] <= 64
     ]
-    plan = ["--gps", "1C", "--galileo", "1C", "--beidou", "2I", "--qzss", "1C", "--sbas", "1C", "--glonass", "1C"]
+    plan = [word for system in systems for word in (f"--{OPTION_NAMES[system]}", SIGNALS[system][2])]
+    return [*CONVERT, *plan], messages
+
+
+def longest_rows() -> list[dict]:
+    """Returns cases of 180 satellites in an epoch, and of more than 256 cells of a system."""
+    words, messages = all_satellites("GECJS")
     four = [[4 * n + 1, 4 * n + 2, 4 * n + 3, 4 * n + 4] for n in range(4)]
-    signals = sorted(SIGNALS["C"])
-    crowded = [msm(1124, 0, part, signals, more=1) for part in four] + [msm(1124, 0, [63], [2])]
-    return [
-        row("convert-all-satellites", [*CONVERT, *plan], messages),
-        row("convert-all-satellites-in-falling-order", [*CONVERT, *plan], messages[::-1]),
-        row("convert-257-cells-of-beidou", [*CONVERT, *NEITHER, "--beidou", "all"], crowded),
-    ]
+    crowded = [msm(1124, 0, part, sorted(SIGNALS["C"]), more=1) for part in four] + [msm(1124, 0, [63], [2])]
+    rows = {
+        "C": [row("convert-257-cells-of-beidou", [*CONVERT, *NEITHER, "--beidou", "all"], crowded)],
+        "CJS": [
+            row("convert-all-satellites-of-five-systems", words, messages),
+            row("convert-all-satellites-in-falling-order", words, messages[::-1]),
+        ],
+    }
+    return read(rows)
 
 
 SUNDAY = ["options", "--near", "2024-02-11"]
 BOTH = [*CONVERT, "--gps", "1C", "--galileo", "none", "--beidou", "2I"]
-ROWS: list[tuple[str, list[str], list[bytes]]] = [
+Row = tuple[str, list[str], list[bytes]]
+OF_QZSS: list[Row] = [
+    ("options-of-msm5-of-qzss", ["options"], [msm(1077, 1000), msm(1115, 1000)]),
+    ("options-near-a-week-of-qzss", SUNDAY, [msm(1114, WEEK - 1), msm(1077, 0)]),
+    (
+        "options-near-a-week-without-qzss",
+        SUNDAY,
+        [msm(1114, WEEK - 1, whole=255, strength=0), msm(1077, 0)],
+    ),
+    ("options-of-two-stations-of-qzss", ["options"], [msm(1077, 1000), msm(1114, 1000, station=7)]),
+    ("convert-one-system-qzss", [*CONVERT, *NEITHER, "--qzss", "1C"], [msm(1117, 1000), msm(1077, 1000)]),
+    ("convert-a-code-twice", [*CONVERT, "--qzss", "1C,5X,1C"], []),
+    (
+        "convert-qzss-before-gps",
+        [*CONVERT, "--gps", "1C", "--galileo", "none", "--qzss", "1C"],
+        [msm(1114, 1000, [1, 10, 11], more=1), msm(1074, 1000)],
+    ),
+    ("convert-an-end-by-unplanned-qzss", [*CONVERT, "--gps", "1C"], [msm(1077, 1000), msm(1114, 1000), msm(1077, 1000)]),
+    ("convert-refuses-qzss", [*CONVERT, "--qzss", "1C"], [msm(1077, 1000), msm(1114, 1000)[:12], msm(1114, WEEK)]),
+    ("convert-msm6-of-qzss-by-default", [*CONVERT, "--qzss", "1C"], [msm(1077, 1000, more=1), msm(1116, 1000)[:12]]),
+    ("convert-nothing-planned-of-qzss", [*CONVERT, *NEITHER, "--qzss", "none"], []),
+]
+OF_BEIDOU: list[Row] = [
     # BeiDou's time is 14 s less than GPS time: one epoch at a week's begin, and the week of a stream
     *(
         (f"convert-beidou-at-{at}-of-a-week", BOTH, [msm(1077, at, more=1), msm(1124, time("C", at))])
@@ -99,20 +136,22 @@ ROWS: list[tuple[str, list[str], list[bytes]]] = [
         SUNDAY,
         [msm(1124, WEEK - 14_001, whole=255, strength=0), msm(1077, 0)],
     ),
-    ("options-near-a-week-of-sbas", SUNDAY, [msm(1104, WEEK - 1), msm(1077, 0)]),
-    ("options-of-msm5-of-qzss", ["options"], [msm(1077, 1000), msm(1115, 1000)]),
     ("options-of-two-stations-of-beidou", ["options"], [msm(1077, 1000), msm(1124, 1000, station=7)]),
     (
         "options-of-beidou-of-another-station",
         ["options", "--station", "2003"],
         [msm(1124, 1, station=7), msm(1077, 1000)],
     ),
-    # systems in any order in an epoch, and in the order of the table in the file
+    # drafts of the message had GPS time: BeiDou is then 14 s ahead, and what follows is late
     (
-        "convert-an-epoch-of-all-systems",
-        [*CONVERT, *EVERY],
-        [msm(number(system), time(system, 1000), [3], more=system != "E") for system in "SJCRGE"],
+        "convert-beidou-of-a-draft",
+        BOTH,
+        [message for at in (1000, 2000) for message in (msm(1077, at, more=1), msm(1124, at))],
     ),
+    ("convert-a-code-of-a-draft", [*CONVERT, "--beidou", "1I"], []),
+]
+OF_SBAS: list[Row] = [
+    ("options-near-a-week-of-sbas", SUNDAY, [msm(1104, WEEK - 1), msm(1077, 0)]),
     (
         "convert-an-end-by-sbas",
         [*CONVERT, "--sbas", "1C"],
@@ -126,19 +165,27 @@ ROWS: list[tuple[str, list[str], list[bytes]]] = [
     ("convert-refuses-sbas", [*CONVERT, "--sbas", "5X"], [msm(1077, 1000), msm(1104, 1000)[:12], msm(1104, WEEK)]),
     ("convert-msm6-of-sbas-by-default", [*CONVERT, "--sbas", "1C"], [msm(1077, 1000, more=1), msm(1106, 1000)[:12]]),
     ("convert-msm6-of-sbas", [*CONVERT, "--sbas", "1C", "--msm", "all"], [msm(1077, 1000, more=1), msm(1106, 1000)]),
-    ("convert-one-system-qzss", [*CONVERT, *NEITHER, "--qzss", "1C"], [msm(1117, 1000), msm(1077, 1000)]),
+]
+THREE = ["--beidou", "all", "--qzss", "all", "--sbas", "all"]
+OF_THREE: list[Row] = [
+    # systems in any order in an epoch, and in the order of the table in the file
+    (
+        "convert-an-epoch-of-five-systems",
+        [*CONVERT, *THREE],
+        [msm(number(system), time(system, 1000), [3], more=system != "E") for system in "SJCGE"],
+    ),
     ("convert-nothing-planned", [*CONVERT, *NEITHER, "--beidou", "none", "--qzss", "none", "--sbas", "none"], []),
-    ("convert-a-code-of-a-draft", [*CONVERT, "--beidou", "1I"], []),
-    ("convert-a-code-twice", [*CONVERT, "--qzss", "1C,5X,1C"], []),
     ("convert-two-codes-unknown", [*CONVERT, "--sbas", "x", "--beidou", "2I,y"], []),
     ("convert-a-code-of-another-system", [*CONVERT, "--sbas", "1C,2I", "--qzss", "all"], []),
 ]
+ROWS = {"J": OF_QZSS, "C": OF_BEIDOU, "S": OF_SBAS, "CJS": OF_THREE}
 
 
 def check_rows() -> list[dict]:
-    """Returns cases of `check`: files of each system and of several, each with a line changed."""
+    """Returns cases of `check`: files of each system, each with a line changed."""
     made = []
-    for system, codes in {"C": "2I", "J": "1C", "S": "1C"}.items():
+    for system in OTHERS:
+        codes = SIGNALS[system][2]
         lines = file_of(
             {OPTION_NAMES[system]: codes}, [msm(number(system), time(system, 1000), [1, SATELLITES[system]])]
         )
@@ -163,7 +210,7 @@ def check_rows() -> list[dict]:
                 replaced(lines, epoch(lines), f"{epoch(lines)[:-3]}{SATELLITES[system] + 1:>3}"),
             ),
         ]
-    return made + mixed_rows()
+    return made
 
 
 def epoch(lines: list[str]) -> str:
@@ -176,6 +223,7 @@ def lettered(first: str, letter: str) -> str:
 
 
 def mixed_rows() -> list[dict]:
+    """Returns cases of `check`: files of three systems, each with lines changed."""
     plan = {"gps": "1C", "beidou": "2I,6I", "sbas": "1C"}
     lines = file_of(
         plan, [msm(1074, 1000, [1], more=1), msm(1124, time("C", 1000), [2, 63], more=1), msm(1104, 1000, [1])]
@@ -204,5 +252,6 @@ def streams() -> dict[str, bytes]:
 
 
 def rows() -> list[dict]:
-    made = [row(name, words, messages) for name, words, messages in ROWS]
-    return [*made, *recording_rows(), *table_rows(), *longest_rows(), *check_rows()]
+    made = [row(name, words, messages) for name, words, messages in read(ROWS)]
+    made += [*recording_rows(), *table_rows(OTHERS), *longest_rows(), *check_rows()]
+    return made + (mixed_rows() if "C" in OTHERS and "S" in OTHERS else [])

@@ -1,21 +1,35 @@
 """What a command has to write of a stream before it ends."""
 
+from collections.abc import Iterator
+
 from .commands import convert, frame_lines, show_lines
 from .epochs import Setup
+from .files import check_lines
 from .frames import decided_length
-from .options import plan_of
+from .options import Fault, plan_of
 
 CONVERT = "convert --week 2075 --date x --gps 1C,2L --galileo 1C,7Q".split()
+GAPS = "check --gaps 0.5".split()
 TEXTS = "run_by marker observer agency rec_number rec_type rec_version ant_number ant_type".split()
 
 
-def decided_output(command: str, data: bytes) -> bytes:
-    """Returns what these bytes decide: of `convert`, with the options of CONVERT, the file of the closed epochs."""
+def gaps(data: bytes) -> Iterator[str]:
+    """Yields the gaps between the epochs of a file that may be cut."""
+    try:
+        yield from (line for line in check_lines(data, False, 500) if line.startswith("gap "))
+    except Fault:
+        pass
+
+
+def decided_output(words: list[str], data: bytes) -> bytes:
+    """Returns what these bytes decide: of CONVERT the file of the closed epochs, of GAPS those of the whole epochs."""
     decided = data[: decided_length(data)]
-    if command == "convert":
+    if words == GAPS:
+        lines = gaps(data)
+    elif words == CONVERT:
         setup = Setup(2075, None, True, plan_of("1C,2L", "1C,7Q"))
         texts = dict.fromkeys(TEXTS, "") | {"date": "x", "marker_type": "GEODETIC"}
         lines, _ = convert(decided, setup, texts, has_ended=False)
     else:
-        lines = {"frames": frame_lines, "show": show_lines}.get(command, lambda _: [])(decided)
+        lines = {"frames": frame_lines, "show": show_lines}.get(words[0], lambda _: [])(decided)
     return "".join(line + "\n" for line in lines).encode("ascii")

@@ -170,7 +170,6 @@ class File:
         self.expect(found[3] == str(count).rjust(3))
         self.expect(time == self.first if before is None else time > before)
         self.expect(0 < count <= sum(SATELLITES[system] for system in self.plan))
-        self.times.append(time)
         return time, count
 
     def signal(self, text: str) -> bool:
@@ -220,23 +219,40 @@ class File:
             satellite = None
             for _ in range(count):
                 satellite = self.satellite(satellite)
+            self.times.append(time)
+
+
+def shown(time: int) -> str:
+    return (datetime(1980, 1, 6) + timedelta(milliseconds=time)).isoformat(" ", "milliseconds")
 
 
 def time_lines(times: list[int]) -> list[str]:
     """Returns the lines of the first time, the last one, and the smallest step, if there are two."""
-    shown = [(datetime(1980, 1, 6) + timedelta(milliseconds=time)).isoformat(" ", "milliseconds") for time in times]
-    lines = [f"first {shown[0]}", f"last {shown[-1]}"]
+    lines = [f"first {shown(times[0])}", f"last {shown(times[-1])}"]
     steps = [later - time for time, later in zip(times, times[1:])]
     return lines + [f"step {min(steps) // 1000}.{min(steps) % 1000:03}"] if steps else lines
 
 
-def check_lines(data: bytes, has_times: bool = False) -> list[str]:
-    """Returns the counts of a file, and the lines of its times if asked for. Raises its fault, if it has one."""
-    file, kind = File(data), ""
+def check_lines(data: bytes, has_times: bool = False, interval: int | None = None) -> Iterator[str]:
+    """Yields the gaps at an interval of ms, the counts of a file, its times, and whether it is complete, as asked for.
+
+    Raises its fault, if it has one, after the gaps of the epochs before it.
+    """
+    file, kind, fault = File(data), "", None
     try:
         for kind in file.read():
             pass
     except (ValueError, IndexError):
-        raise Fault(f"{kind} {file.number}") from None
-    counts = f"epochs {len(file.times)} satellites {file.satellites} events {file.events}"
-    return [counts, *time_lines(file.times)] if has_times else [counts]
+        fault = Fault(f"{kind} {file.number}")
+    except Fault as cut:
+        fault = cut
+    times = file.times
+    if interval is not None:
+        for time, later in zip(times, times[1:]):
+            yield from [f"gap {shown(time)} {shown(later)}"] if later - time > interval else []
+    if fault:
+        raise fault
+    yield f"epochs {len(times)} satellites {file.satellites} events {file.events}"
+    yield from time_lines(times) if has_times else []
+    if interval is not None:
+        yield f"complete {len(times)} of {(times[-1] - times[0]) // interval + 1}"

@@ -56,10 +56,9 @@ def system_of(number: int) -> str:
     return next(system for system, first in FIRST_NUMBERS.items() if first == number // 10 * 10)
 
 
-# What the program decodes of what is read here: the forms will be (4, 5, 6, 7) with the option `--msm`, the systems
-# "GECJS" with `--beidou`, `--qzss` and `--sbas`, "GERCJS" with `--glonass`.
-READ_FORMS = (4, 7)
-READ_SYSTEMS = "GE"
+# What the program decodes of what is read here.
+READ_FORMS = (4, 5, 6, 7)
+READ_SYSTEMS = "GERCJS"
 # The MSMs that are decoded by `signals` and `options`, and by default by `convert` and `show`.
 EVERY = numbers_of(READ_SYSTEMS, READ_FORMS)
 DEFAULT = numbers_of("GE", (4, 7))

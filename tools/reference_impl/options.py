@@ -78,6 +78,15 @@ def length_of(text: str) -> int:
     return -size if sign else size
 
 
+def interval_of(text: str) -> int:
+    """Returns the interval of the option `--gaps`, in ms."""
+    found = re.fullmatch(r"(\d{1,8})(?:\.(\d{1,3}))?", text, re.ASCII)
+    interval = int(found[1]) * 1000 + int((found[2] or "").ljust(3, "0")) if found else 0
+    if not 0 < interval <= DAY:
+        raise Fault("BadGaps --gaps SECONDS: up to 3 decimals, 0.001 to 86400")
+    return interval
+
+
 def station_values(position: str, height: str) -> StationValues:
     """Returns the values of the options `--position` and `--antenna-height`."""
     try:
