@@ -1,10 +1,12 @@
 # make build      proves and builds the program, crates/rtcm2rinex/out/rtcm2rinex
-# make run        builds it, converts a recording with the options that fit it, prints the start of the file and the
-#                 report, and checks the file
+# make run        builds it, prints the options that fit a recording, converts its GPS and Galileo with them, prints the
+#                 start of the file and the report, and checks the file
 # make try        converts the recording before any proof, by the toolchain's way to run unproved code, and prints the
 #                 start of the file: a first look within a minute. It proves nothing; `make run` does
 # make dist       packs the proved program with its documents, out/rtcm2rinex-VERSION-linux-x86_64.tar.gz
-# make install    builds it if it is missing, and installs program and manual page to PREFIX (/usr/local)
+# make deb        the same as a Debian package, out/rtcm2rinex_VERSION_amd64.deb; needs dpkg-deb
+# make install    builds it if it is missing, and installs program, manual page and completion for bash to PREFIX
+#                 (/usr/local)
 # make read-back  builds it, and has RTKLIB read back the converted recordings
 # make test       runs the gate: documents, all proofs, must-fail mutants, tests, stored cases, the commands of the manual
 #                 page, random streams, fault injection (docs/GATE.md)
@@ -15,7 +17,7 @@ SAMPLE := samples/zed-f9t-2019-10-17
 MADE := out/zed-f9t-2019-10-17
 OPTIONS := --week 2075 --date "20240204 000001 UTC"
 
-# What `options` prints for the recording, so that one build is enough for `make try`.
+# What `options` prints for the recording, but for other systems than GPS and Galileo.
 PLAN := --gps 1C,2L --galileo 1C,7Q --position=-2386072.7310,-3922192.5049,4414363.4131
 
 PREFIX ?= /usr/local
@@ -23,15 +25,15 @@ PREFIX ?= /usr/local
 # The prover's allocator returns memory to the kernel that it soon needs again; keeping it makes checks faster.
 export MIMALLOC_PURGE_DELAY ?= -1
 
-.PHONY: build run try dist install read-back test bench mutants
+.PHONY: build run try dist deb install read-back test bench mutants
 
 build:
 	@tools/build
 
 run: build
 	@mkdir -p out
-	plan=$$($(PROGRAM) options < $(SAMPLE).rtcm3) && echo "$$plan" && \
-	    $(PROGRAM) convert $(OPTIONS) $$plan < $(SAMPLE).rtcm3 > $(MADE).obs 2> $(MADE).report
+	$(PROGRAM) options < $(SAMPLE).rtcm3
+	$(PROGRAM) convert $(OPTIONS) $(PLAN) < $(SAMPLE).rtcm3 > $(MADE).obs 2> $(MADE).report
 	@head -n 20 $(MADE).obs
 	@echo ".. $$(wc -l < $(MADE).obs) lines in $(MADE).obs, and the report:"
 	@cat $(MADE).report
@@ -51,12 +53,17 @@ try:
 dist: build
 	@tools/dist $(PROGRAM)
 
+deb: build
+	@tools/dist --deb $(PROGRAM)
+
 # An existing program is installed as it is, so that `sudo make install` proves nothing.
 install:
 	@test -x $(PROGRAM) || $(MAKE) build
 	install -d $(DESTDIR)$(PREFIX)/bin $(DESTDIR)$(PREFIX)/share/man/man1
+	install -d $(DESTDIR)$(PREFIX)/share/bash-completion/completions
 	install -m 755 $(PROGRAM) $(DESTDIR)$(PREFIX)/bin/rtcm2rinex
 	install -m 644 docs/rtcm2rinex.1 $(DESTDIR)$(PREFIX)/share/man/man1/rtcm2rinex.1
+	install -m 644 docs/rtcm2rinex.bash $(DESTDIR)$(PREFIX)/share/bash-completion/completions/rtcm2rinex
 
 read-back: build
 	@tools/read_back $(PROGRAM)
