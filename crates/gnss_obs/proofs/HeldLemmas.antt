@@ -7,6 +7,7 @@ use Rattle.std.proofs.lemmas.Map.Keys.{IsDistinct-IsPermutation, IsDistinct-push
 use Rattle.std.proofs.lemmas.Cmp.{nat_eq_equiv}
 use Rattle.std.specs.List.{IsDistinct}
 use Rattle.gnss_obs.proofs.OrderLemmas.{sort_moves}
+use Rattle.gnss_obs.specs.Order.{AreSorted}
 use Rattle.gnss_obs.specs.declared.epoch_cells.Added.TheVariants.{Kept}
 use Rattle.std.specs.Prelude.{nat_le}
 use Rattle.gnss_system.proofs.SystemLaws.{each_system, equal_values, value_mapped, value_tabulated}
@@ -35,6 +36,10 @@ none_kept system none = subst (AreKept system) (sym none) (record { held = recor
 
 pub none_mapped : (lists : BySystem (Box Cells Global)) → ((s : System) → (value_of s lists).value ≡ []) → map_by (λ c. c.value) lists ≡ no_cells
 none_mapped lists none = equal_values _ _ (λ s. value_mapped s (λ c. c.value) lists ∙ none s ∙ sym (value_tabulated s (λ s. [])))
+
+-- Empty lists are in any order.
+pub none_sorted : {cells : CellLists} → cells ≡ no_cells → (s : System) → AreSorted (value_of s cells)
+none_sorted none = λ s. subst AreSorted (sym (ap (value_of s) none ∙ value_tabulated s (λ s. []))) ([], tt)
 
 pub all_empty : (lists : BySystem (Box Cells Global)) → ((s : System) → (value_of s lists).value ≡ []) → (s : System) → AreKept s (value_of s lists).value
 all_empty lists none s = none_kept s (none s)

@@ -109,6 +109,10 @@ pub record Closed : Type 0 where
   pub epoch : EpochValue
   pub values : StationValues
 
+-- A closed epoch without its cells.
+abbrev pub cleared : Closed → Closed
+cleared c = record c { epoch = empty_epoch c.epoch.time }
+
 -- All values are 0, for a station of unknown position.
 abbrev pub no_values : StationValues
 no_values = record { x = pos 0; y = pos 0; z = pos 0; height = 0 }

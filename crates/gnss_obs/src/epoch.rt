@@ -3,7 +3,7 @@ ghost use Rattle.std.specs.Prelude.{◌≡◌, ◌+◌, ◌<◌, ◌≤◌, leng
 ghost use Rattle.std.specs.Prelude.{nat_lt};
 ghost use Rattle.std.specs.List.{list_any};
 ghost use Rattle.gnss_obs.specs.Values.{AreHeld, cells_of, has_value, satellites_written, is_written, written_among};
-ghost use Rattle.gnss_obs.specs.Values.{most_written, run, empty_epoch, no_cells, no_values};
+ghost use Rattle.gnss_obs.specs.Values.{most_written, run, cleared, empty_epoch, no_cells, no_values};
 ghost use Rattle.gnss_obs.specs.Arriving.{sorted_lists};
 ghost use Rattle.gnss_obs.specs.Order.{AreSorted, AreSortedByPlan};
 ghost use Rattle.gnss_obs.specs.PlanOrder.{HasPlannedCells};
@@ -79,6 +79,13 @@ impl Epoch {
         pending.move_sorted(plan, &mut self.cells);
         self.time = time;
         self.values = values;
+    }
+
+    /// Removes its cells, as another epoch begins.
+    pub fn clear(&mut self)
+        ensures { self.new ≡ cleared self.old }
+    {
+        self.cells.clear();
     }
 
     /// Returns the time of the epoch.

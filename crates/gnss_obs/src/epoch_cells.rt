@@ -83,6 +83,13 @@ impl EpochCells {
         add_to(&mut self.lists, x.satellite.system(), x)
     }
 
+    /// Removes all cells.
+    pub(crate) fn clear(&mut self)
+        ensures { self.new ≡ no_cells }
+    {
+        clear_all(&mut self.lists);
+    }
+
     /// Moves the cells of each system to `sorted`, in the order of satellites and then of a plan.
     pub(crate) fn move_sorted(&mut self, plan: &Plan, sorted: &mut EpochCells)
         requires { HasPlannedCells plan.now self.old }
@@ -99,6 +106,15 @@ fn no_lists(alloc: Global) -> Result<BySystem<Box<Cells>>, AllocError>
     ensures { IfOk result (λ lists. (s : System) → (value_of s lists).value ≡ []) }
 {
     BySystem::try_each(|_| no_list(alloc))
+}
+
+// Removes the cells of each system.
+fn clear_all(cells: &mut BySystem<Box<Cells>>)
+    ensures { (s : System) → (value_of s cells.new).value ≡ [] }
+{
+    for i in 0..SYSTEMS.len() {
+        cells.of_mut(System::at(i)).clear();
+    }
 }
 
 // Moves the cells of each system, sorted.

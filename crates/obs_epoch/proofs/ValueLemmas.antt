@@ -1,11 +1,13 @@
 -- The value of a gatherer: with one more cell, after a message, and when its epoch is closed.
-use Rattle.std.proofs.Common.{◌≡◌, ℕ, Bool, true, false, List, [], ◌∷◌, ◌++◌, refl, sym, ap, ap₂, ◌∙◌, subst, arith, length, Option, is_some, if◌then◌else◌, All}
+use Rattle.std.proofs.Common.{◌≡◌, ℕ, ◌+◌, Bool, true, false, List, [], ◌∷◌, ◌++◌, refl, sym, ap, ap₂, ◌∙◌, subst, arith, length, Option, is_some, if◌then◌else◌, All}
 use Rattle.std.proofs.lemmas.List.Elements.{All-nil, All-push}
 use Rattle.obs_epoch.specs.Names.{System, Cell, EpochValue, PlanValue, planned_of, cells_of, CellLists, Closed, KeepsEpoch, KnownLock, place_in, is_planned, has_same_key, GatherSetup, Heard, IsKey, HeardCell, kept_cell, heard_cell, insert_by, cell_sort_key, Skipped, lookup, outcome_of_added, values_after_message, StationValues, is_held, GathererValue, with_more_in, with_more, outcome_in, hold, hold_by, noted, begun_by, with_time, HasPlannedCells, IsPlanned, empty_epoch, epoch_in, open_by, is_same, no_cells, option_map_or, time_in, Added, IsAdded, cells_after, epoch_with, outcome_by, sorted_cells, sorted_epoch, State, step_by, lli_with}
 use Rattle.gnss_system.specs.Systems.{systems}
 use Rattle.gnss_system.specs.SystemValues.{value_of, with_value_of, tabulate}
 use Rattle.gnss_system.proofs.SystemLaws.{each_after, value_tabulated, tabulated_after, with_same as same_after}
 use Rattle.obs_epoch.specs.Held.{note_systems}
+use Rattle.obs_epoch.specs.GathererSteps.{cleared_if}
+use mathlib.Core.Bool.{beq, not}
 use Rattle.obs_epoch.proofs.ClockLemmas.{same_state}
 use Rattle.obs_epoch.proofs.HeardLemmas.{heard_step}
 use Rattle.gnss_obs.specs.declared.epoch_cells.Added.TheVariants as added
@@ -118,6 +120,38 @@ open_is clock pending closed e = ap (λ b. if b then sorted_epoch clock.setup.pl
 
 pub shut_is : (clock : State) (pending : CellLists) (closed : Closed) → clock.pending ≡ false → epoch_in clock pending closed ≡ closed.epoch
 shut_is clock pending closed e = ap (λ b. if b then sorted_epoch clock.setup.plan (open_epoch clock pending) else closed.epoch) e
+
+-- The held cells are those of one epoch, as the pending one or the one closed last has none.
+pub count_held : (system : System) (clock : State) (pending : CellLists) (closed : Closed) → (clock.pending ≡ false → pending ≡ no_cells) → (clock.pending ≡ true → closed.epoch.cells ≡ no_cells)
+    → length (value_of system pending) + length (cells_of system closed.epoch) ≡ length (cells_of system (epoch_in clock pending closed))
+count_held system clock pending closed none empty = by clock.pending refl where
+  zero : {cells : CellLists} → cells ≡ no_cells → length (value_of system cells) ≡ 0
+  zero e = ap (λ cells. length (value_of system cells)) e ∙ ap (λ (l : List Cell). length l) (value_tabulated system (λ s. []))
+
+  by : (b : Bool) → clock.pending ≡ b → length (value_of system pending) + length (cells_of system closed.epoch) ≡ length (cells_of system (epoch_in clock pending closed))
+  by true e =
+      let held = zero (empty e) in
+      let n : length (value_of system pending) + length (cells_of system closed.epoch) ≡ length (value_of system pending) = omega (arith, held) in
+      n ∙ sym (count_same system clock.setup.plan (open_epoch clock pending)) ∙ ap (λ (v : EpochValue). length (cells_of system v)) (sym (open_is clock pending closed e))
+  by false e =
+      let held = zero (none e) in
+      let n : length (value_of system pending) + length (cells_of system closed.epoch) ≡ length (cells_of system closed.epoch) = omega (arith, held) in
+      n ∙ ap (λ (v : EpochValue). length (cells_of system v)) (sym (shut_is clock pending closed e))
+
+-- While an epoch is pending, the one closed last has no cells.
+pub begins_empty : (was is : Bool) (last : Closed) → (was ≡ true → last.epoch.cells ≡ no_cells) → is ≡ true → (cleared_if (not (beq is was)) last).epoch.cells ≡ no_cells
+begins_empty true is last empty e = rw e (empty refl)
+begins_empty false is last empty e = rw e refl
+
+-- The epoch is the same if another one begins, whose cells are not those of the one closed last.
+pub clears_none : {old new : State} (pending : CellLists) (last : Closed) → KeepsEpoch old new
+    → epoch_in new pending (cleared_if (not (beq new.pending old.pending)) last) ≡ epoch_in new pending last
+clears_none {old} {new} pending last keeps = by new.pending refl where
+  by : (b : Bool) → new.pending ≡ b → epoch_in new pending (cleared_if (not (beq new.pending old.pending)) last) ≡ epoch_in new pending last
+  by true e = open_is new pending (cleared_if (not (beq new.pending old.pending)) last) e ∙ sym (open_is new pending last e)
+  by false e = ap (λ l. epoch_in new pending l) (stays (old.pending) (ap (λ (c : State). c.pending) (sym (keeps.none e)) ∙ e) e) where
+    stays : (was : Bool) → was ≡ false → new.pending ≡ false → cleared_if (not (beq new.pending was)) last ≡ last
+    stays was h f = rw h (rw f refl)
 
 -- An epoch that begins has no cells.
 begins : (old new : State) (pending : CellLists) (closed : Closed) → KeepsEpoch old new → new.setup ≡ old.setup → (old.pending ≡ false → pending ≡ no_cells)

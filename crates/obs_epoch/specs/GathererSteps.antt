@@ -13,7 +13,7 @@ use Rattle.obs_epoch.specs.Heard.{Heard, seen_in}
 use Rattle.gnss_obs.specs.HeardCells.{HeardCell, kept_cell}
 use Rattle.obs_epoch.specs.Cells.{no_counts, with_skipped}
 use Rattle.obs_epoch.specs.Kinds.{is_accepted}
-use Rattle.gnss_obs.specs.Values.{PlanValue, planned_of, CellLists, Closed, EpochValue, cells_of, empty_epoch, no_cells}
+use Rattle.gnss_obs.specs.Values.{PlanValue, planned_of, CellLists, Closed, EpochValue, cells_of, cleared, empty_epoch, no_cells}
 use Rattle.gnss_obs.specs.PlanOrder.{HasPlannedCells}
 use Rattle.gnss_obs.specs.Arriving.{sorted_lists}
 use Rattle.gnss_system.specs.SystemValues.{with_value_of}
@@ -34,12 +34,17 @@ abbrev pub epoch_in : State → CellLists → Closed → EpochValue
 epoch_in clock pending last =
     if clock.pending then record { time = time_in clock; cells = sorted_lists clock.setup.plan pending } else last.epoch
 
--- The cells are planned, and there are none if no epoch is pending. An epoch that was just closed is in the order of the
--- plan, and no epoch is pending.
+-- The epoch closed last, whose cells are removed when another one begins.
+abbrev pub cleared_if : Bool → Closed → Closed
+cleared_if begins last = if begins then cleared last else last
+
+-- The cells are planned, and there are none if no epoch is pending; while one is pending, the epoch closed last has none.
+-- An epoch that was just closed is in the order of the plan, and no epoch is pending.
 pub record IsGathering (clock : State) (pending : CellLists) (last : Closed) (values : StationValues)
     (just_closed : Bool) : Type 0 where
   pub planned : HasPlannedCells clock.setup.plan pending
   pub none : clock.pending ≡ false → pending ≡ no_cells
+  pub empty : clock.pending ≡ true → last.epoch.cells ≡ no_cells
   pub closed : just_closed ≡ true
       → (clock.pending ≡ false) × AreSortedByPlan clock.setup.plan last.epoch × (last.values ≡ values)
 

@@ -21,6 +21,7 @@ ghost use Rattle.obs_epoch.specs.GathererHistory.{HasGatheredEpochs, closed_by, 
 ghost use Rattle.obs_epoch.specs.Calls.{TakesMessage, EndsPendingEpoch, StaysEnded, HoldsCells, HoldsLockedKeys};
 ghost use Rattle.gnss_obs.specs.declared.fault.PlanFault.{PlanFault};
 ghost use Rattle.obs_epoch.specs.GathererSteps.{closed_noted, loaded_where, load_entry, load_entries, begun_by};
+ghost use Rattle.obs_epoch.specs.GathererSteps.{cleared_if};
 ghost use Rattle.obs_epoch.specs.GathererSteps.{load, system_as, rested, outcome_in, hold, shut_where};
 ghost use Rattle.obs_epoch.specs.Cells.{cells_counted, no_counts};
 
@@ -44,7 +45,7 @@ pub struct Gatherer {
     clock: Clock,
     // The cells of the pending epoch, whose time is that of the clock; none if no epoch is pending.
     pending: EpochCells,
-    // The epoch closed last.
+    // The epoch closed last; it has no cells while another one is pending.
     closed: Epoch,
     values: StationValues,
     locks: Locks,
@@ -242,18 +243,14 @@ impl Gatherer {
         self.has_ended
     }
 
-    /// Returns the number of kept cells of a system: those of the pending epoch or, if none is
-    /// pending, of the epoch closed last.
+    /// Returns the number of kept cells of a system: those of the pending epoch and of the epoch
+    /// closed last, which has none while another one is pending.
     pub fn cells(&self, system: System) -> usize
         ensures count { result ≡ length (cells_of system self.now.epoch) }
         ensures held { HoldsCells self.now system result }
         ensures bound { result ≤ most_cells }
     {
-        if self.clock.is_pending() {
-            self.pending.of(system).len()
-        } else {
-            self.closed.cells(system).len()
-        }
+        self.pending.of(system).len() + self.closed.cells(system).len()
     }
 
     /// Returns the number of lock records: one for each satellite and signal of which a closed
@@ -302,7 +299,10 @@ impl Gatherer {
         let values = self.values_after(said);
         self.values = values;
         self.just_closed = false;
-        self.clock.step(said)
+        let was_pending = self.clock.is_pending();
+        let step = self.clock.step(said);
+        clear_if(self.clock.is_pending() != was_pending, &mut self.closed);
+        step
     }
 
     // Closes the pending epoch if it is to be closed, and records the locks of its cells.
@@ -459,6 +459,16 @@ fn system_as<const S: usize>(system: System) -> System
         0 => System::Gps,
         1 => System::Galileo,
         _ => system,
+    }
+}
+
+// Removes the cells of the epoch closed last if another one begins, so that those of one epoch are
+// held.
+fn clear_if(begins: bool, last: &mut Epoch)
+    ensures { last.new ≡ cleared_if begins last.old }
+{
+    if begins {
+        last.clear();
     }
 }
 

@@ -3,7 +3,7 @@ use Rattle.std.proofs.lemmas.Grind.{common_steps}
 use Rattle.obs_epoch.specs.Names.{AreSortedByPlan, CellLists, Closed, EpochValue, GathererValue, HasPlannedCells, KnownLock, State, closed_noted, no_cells, shut_where, sorted_lists}
 use Rattle.obs_epoch.specs.Held.{note_systems}
 use Rattle.gnss_system.specs.Systems.{systems}
-use Rattle.obs_epoch.proofs.ValueLemmas.{gathered_of, none_planned, open_is, shut_is}
+use Rattle.obs_epoch.proofs.ValueLemmas.{gathered_of, never_both, none_planned, open_is, shut_is}
 use Rattle.obs_epoch.proofs.gather.Gatherer.note_closed.Goals as goal
 
 pub close-requires : goal.close-requires
@@ -15,6 +15,7 @@ invariant_of-self-2 c =
     record {
       planned = subst (HasPlannedCells c.end.new.self.setup.plan) (sym c.close.ensures.none) (none_planned c.end.new.self.setup.plan);
       none = λ e. c.close.ensures.none;
+      empty = λ e. absurd (never_both _ (ap (λ (g : State). g.pending) c.end.ensures) e);
       closed = λ e. (
         ap (λ (g : State). g.pending) c.end.ensures,
         subst (λ p. AreSortedByPlan p c.close.new.self.epoch) (c.plan.ensures ∙ sym plan) c.close.ensures.order,

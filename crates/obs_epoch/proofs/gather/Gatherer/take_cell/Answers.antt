@@ -11,6 +11,7 @@ invariant_of-self c =
     record {
       planned = planned_added c.self.inside.clock.setup.plan c.self.inside.pending c.add.new.self m planned c.self.invariant.planned c.add.ensures;
       none = λ e. absurd (never_both _ e going);
+      empty = c.self.invariant.empty;
       closed = λ e. absurd (never_both _ (c.self.invariant.closed e).0 going);
     }
 

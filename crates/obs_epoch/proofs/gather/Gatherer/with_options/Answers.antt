@@ -8,6 +8,7 @@ pub invariant_of-result : goal.invariant_of-result
 invariant_of-result c = record {
   planned = subst (HasPlannedCells c.new-clock.result.setup.plan) (sym c.in-Ok.ensures.pending) (none_planned c.new-clock.result.setup.plan);
   none = λ e. c.in-Ok.ensures.pending;
+  empty = λ e. ap (λ (l : Closed). l.epoch.cells) c.in-Ok.ensures.closed;
   closed = λ e. cc;
 }
 
