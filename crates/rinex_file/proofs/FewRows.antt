@@ -1,17 +1,9 @@
--- A plan has no more signals than the tables, and an epoch no more satellites than the planned systems.
-use Rattle.rinex_file.proofs.Names.{arith, ◌≡◌, refl, subst, ℕ, suc, ◌+◌, ◌-◌, ◌<◌, ◌≤◌, Bool, true, false, List, [], ◌∷◌, length, if◌then◌else◌, All, map, nat_lt, slice_index, IsStrictlyIncreasing, lt-ltb, All-head, All-tail, table, System, PlanValue, planned_of, satellites, SatelliteRow, IsPlan, IsSatelliteRow, AreSatelliteRows, rank_of, most_rows}
+-- An epoch has no more satellites than the planned systems.
+use Rattle.rinex_file.proofs.Names.{arith, ◌≡◌, refl, subst, ℕ, suc, ◌+◌, ◌-◌, ◌<◌, ◌≤◌, Bool, true, false, List, [], ◌∷◌, length, if◌then◌else◌, All, map, nat_lt, slice_index, IsStrictlyIncreasing, lt-ltb, All-head, All-tail, System, satellites, SatelliteRow, IsSatelliteRow, AreSatelliteRows, rank_of, most_rows}
 use Rattle.std.specs.List.{sum_by}
-use Rattle.gnss_obs.proofs.PlanLemmas.{few_below}
 use Rattle.std.proofs.Common.{◌*◌, le_trans, lit≤}
 use Rattle.gnss_system.specs.Systems.{systems, index_of, is_system}
 use Rattle.gnss_system.proofs.SystemLaws.{sum_at_most, sum_less, system_same}
-
--- ---- signals
-
-pub few_planned : (p : PlanValue) → IsPlan p → (system : System) → length (planned_of system p) ≤ length (table system)
-few_planned p is system = few_below (length (table system)) (planned_of system p) (is.listed system) (is.apart system)
-
--- ---- satellites
 
 -- the ranks from k on of a system, and those of the planned systems
 ranks : ℕ → System → ℕ

@@ -1,4 +1,5 @@
 -- Epochs that were gathered from messages make a file value.
+use Rattle.rinex_file.proofs.HeaderRows.End.{all_same}
 use Rattle.gnss_system.specs.Systems.{systems, index_of}
 use Rattle.gnss_system.specs.Satellites.{satellites as satellites_in}
 use Rattle.gnss_system.proofs.SystemLaws.{index_back, system_at, systems_taken}
@@ -123,9 +124,6 @@ all_seen plan c h (s ∷ ss) = All-append (IsSatelliteRow (planned_in plan)) (ro
 
 -- ---- ranks
 
-written_rise : (cells : List Cell) (most : ℕ) → IsStrictlyIncreasing (written_satellites cells most)
-written_rise cells most = IsStrictlyIncreasing-filter (is_written cells) (numbers most) (numbers_rise most)
-
 rise_higher : (base : ℕ) (ids : List ℕ) → IsStrictlyIncreasing ids → IsStrictlyIncreasing (map (λ id. base + id) ids)
 rise_higher base ids h k less =
     let size : length (map (λ id. base + id) ids) ≡ length ids = length-map ids (λ id. base + id) in
@@ -166,7 +164,7 @@ ranks_below plan e (suc n) few =
           (All-weaker (λ x. x < 100 * n + 1) (λ x. x < 100 * suc n + 1) (λ x h. omega (arith, h)) (ranks plan e (take n systems)) before.0)
           (All-map (λ x. x < 100 * suc n + 1) (λ id. 100 * n + id) ids (λ k d h. let last = (number k d h).0.1 in omega (arith, last, most)))),
       subst IsStrictlyIncreasing is (below_all (100 * n + 1) (ranks plan e (take n systems)) (map (λ id. 100 * n + id) ids) before.0
-          (All-map (λ y. 100 * n + 1 ≤ y) (λ id. 100 * n + id) ids (λ k d h. let first = (number k d h).0.0 in omega (arith, first))) before.1 (rise_higher (100 * n) ids (written_rise cells (satellites_in s)))),
+          (All-map (λ y. 100 * n + 1 ≤ y) (λ id. 100 * n + id) ids (λ k d h. let first = (number k d h).0.0 in omega (arith, first))) before.1 (rise_higher (100 * n) ids (IsStrictlyIncreasing-filter (is_written cells) (numbers (satellites_in s)) (numbers_rise (satellites_in s))))),
     )
 
 ranks_rise : (plan : PlanValue) (e : EpochValue) → IsStrictlyIncreasing (ranks plan e systems)
@@ -197,9 +195,6 @@ times_rise plan v (e ∷ f ∷ es) h (suc k) less = grind (arith, (times_rise pl
 
 same_self : (v : StationValues) → same_values v v ≡ true
 same_self v = grind (arith, Decides-int_eq)
-
-all_same : (v w : StationValues) → v.x ≡ w.x → v.y ≡ w.y → v.z ≡ w.z → v.height ≡ w.height → v ≡ w
-all_same v w p q r s = grind arith
 
 same_are : (v w : StationValues) → same_values v w ≡ true → v ≡ w
 same_are v w h = grind (arith, and_parts, all_same, Decides-int_eq, eqb-true)

@@ -5,7 +5,7 @@ use Rattle.rinex_file.proofs.Digits.Padded.{two_digits}
 use Rattle.rinex_file.proofs.Fields.Lanes.{lane_is}
 use Rattle.rinex_file.proofs.HeaderRows.Texts.{trimmed-trimmed}
 use Rattle.rinex_file.proofs.Rows.Sizes.{length-value, length-field, length-room, length-signals, small_value, strength_fits, values_fit, all_values_fit, few_numbers, front_line}
-use Rattle.rinex_file.proofs.Names.{arith, ◌≡◌, ◌∙◌, sym, ap, ap₂, refl, subst, ℕ, zero, suc, ◌+◌, ◌-◌, ◌*◌, ◌/◌, ◌%◌, ◌<◌, ◌≤◌, List, [], ◌∷◌, ◌++◌, length, take, drop, replicate, get_or, ℤ, unsigned_abs, decimal, true, false, Option, Some, None, IfSome, flat_map, All, Bool, ◌||◌, is_negative, sign_text, take_at, drop_at, take_all, drop-drop, get_or_at, get_or-append-add, length_push, All-head, All-tail, take-append_seam, System, SignalValues, SatelliteRow, satellite_row, no_signal_values, FitsColumns, AreSignalValues, trimmed, filled_to, IsEnded, right, padded, fixed, field, signal_text, lli_byte, strength_byte, letter, row_text, satellite_line, has, number_in, ReadsExactly, IsRowOf, blanks, number_of, satellites}
+use Rattle.rinex_file.proofs.Names.{arith, ◌≡◌, ◌∙◌, sym, ap, ap₂, refl, subst, ℕ, zero, suc, ◌+◌, ◌-◌, ◌*◌, ◌/◌, ◌%◌, ◌<◌, ◌≤◌, List, [], ◌∷◌, ◌++◌, length, take, drop, replicate, get_or, ℤ, unsigned_abs, decimal, true, Option, Some, None, IfSome, flat_map, All, is_negative, sign_text, take_at, drop_at, take_all, drop-drop, get_or_at, get_or-append-add, length_push, All-head, All-tail, take-append_seam, System, SignalValues, SatelliteRow, satellite_row, no_signal_values, FitsColumns, AreSignalValues, trimmed, filled_to, IsEnded, right, padded, fixed, field, signal_text, lli_byte, strength_byte, letter, row_text, satellite_line, has, number_in, ReadsExactly, IsRowOf, blanks, number_of, satellites, or_right, same_Some, ◌^◌}
 
 -- ---- a field
 
@@ -27,21 +27,13 @@ field_parts v lost strength h =
     let size = length-right 14 (fixed 3 v) (length-value v h) in
     (take_at text (lost ∷ strength ∷ []) 14 size, get_or_at text lost (strength ∷ []) 0 14 size, second_end text lost strength size)
 
-or_true : (b : Bool) → (b || true) ≡ true
-or_true true = refl
-or_true false = refl
-
 -- a value has a point
-point : (v : ℤ) → has 46 (right 14 (fixed 3 v)) ≡ true
-point v =
-    let sign = sign_text (is_negative v) in
-    let whole = decimal (unsigned_abs v / 1000) in
-    let part = 46 ∷ padded 3 (unsigned_abs v % 1000) in
-    has-right 46 14 (fixed 3 v) refl ∙ has-append 46 (sign ++ whole) part ∙ or_true (has 46 (sign ++ whole))
+pub has-point : (places : ℕ) (z : ℤ) → has 46 (fixed places z) ≡ true
+has-point places z = has-append 46 (sign_text (is_negative z) ++ decimal (unsigned_abs z / 10 ^ places)) (46 ∷ padded places (unsigned_abs z % 10 ^ places)) ∙ or_right _ true refl
 
 no_value : (v : ℤ) (a b c d : ℕ) → FitsColumns v → field None a b ≡ field (Some v) c d → ⊥
 no_value v a b c d h e =
-    let blank : has 46 (take 14 (replicate 16 32)) ≡ true = ap (λ t. has 46 (take 14 t)) (no_field a b ∙ e) ∙ ap (has 46) (field_parts v c d h).0 ∙ point v in
+    let blank : has 46 (take 14 (replicate 16 32)) ≡ true = ap (λ t. has 46 (take 14 t)) (no_field a b ∙ e) ∙ ap (has 46) (field_parts v c d h).0 ∙ has-right 46 14 (fixed 3 v) refl ∙ has-point 3 v in
     cc
 
 pub field_once : {v w : Option ℤ} (a b c d : ℕ) → IfSome v FitsColumns → IfSome w FitsColumns → field v a b ≡ field w c d → v ≡ w
@@ -53,9 +45,7 @@ field_once {v = Some v} {w = Some w} a b c d h k e =
     ap Some (sym (number_in-fixed 14 3 v (omega arith) (small_value v h)) ∙ ap number_in same ∙ number_in-fixed 14 3 w (omega arith) (small_value w k))
 
 pub value_once : (v w : ℤ) (a b : ℕ) → FitsColumns v → FitsColumns w → field (Some v) a b ≡ field (Some w) a b → v ≡ w
-value_once v w a b h k e = inside v w (field_once a b a b h k e) where
-  inside : (v w : ℤ) → Some v ≡ Some w → v ≡ w
-  inside v w e = cc
+value_once v w a b h k e = same_Some v w (field_once a b a b h k e)
 
 -- columns that are not all blank are those of a value
 pub value_of : {xs : List ℕ} (w : Option ℤ) (lost strength : ℕ) {n : ℕ} → IfSome w FitsColumns → xs ≡ field w lost strength → n ≡ blanks xs → (n ≡ 16 → ⊥)
@@ -210,9 +200,6 @@ text_of_line system signals v line (same, is) e =
       columns = fill-trimmed (64 * signals) columns size;
     })
 
-same_row : (v w : SatelliteRow) → v.system ≡ w.system → v.row.satellite ≡ w.row.satellite → v.row.signal_values ≡ w.row.signal_values → v ≡ w
-same_row v w s n es = ap₂ (λ a b. satellite_row a b v.row.signal_values) s n ∙ ap (satellite_row w.system w.row.satellite) es
-
 same_id : (v w : SatelliteRow) → v.system ≡ w.system → number_of v.system v.row.satellite ≡ number_of w.system w.row.satellite → v.row.satellite ≡ w.row.satellite
 same_id v w s e = by _ _ _ (subst (λ (t : System). number_of t v.row.satellite ≡ number_of w.system w.row.satellite) s e) where
   by : (m n k : ℕ) → m + k ≡ n + k → m ≡ n
@@ -222,8 +209,8 @@ pub line_once : (system : System) (signals : ℕ) {v w : SatelliteRow} {line : L
 line_once system signals {v} {w} {line} is also e f =
     let a = text_of_line system signals v line is e in
     let b = text_of_line system signals w line also f in
-    same_row v w (is.0 ∙ sym also.0) (same_id v w (is.0 ∙ sym also.0) (number_once _ _ a.small b.small (sym a.number ∙ b.number)))
-    (signals_once v.row.signal_values w.row.signal_values is.1.signal_values also.1.signal_values (is.1.whole ∙ sym also.1.whole) (sym a.columns ∙ b.columns))
+    ap₂ (λ r s. satellite_row r s v.row.signal_values) (is.0 ∙ sym also.0) (same_id v w (is.0 ∙ sym also.0) (number_once _ _ a.small b.small (sym a.number ∙ b.number)))
+    ∙ ap (satellite_row w.system w.row.satellite) (signals_once v.row.signal_values w.row.signal_values is.1.signal_values also.1.signal_values (is.1.whole ∙ sym also.1.whole) (sym a.columns ∙ b.columns))
 
 -- it ends in a line feed that follows another byte than a blank
 pub line_ended : (v : SatelliteRow) (line : List ℕ) → line ≡ satellite_line v → IsEnded line

@@ -139,7 +139,7 @@ digits_in-whole width n fits = digits_in-right width (decimal n) ∙ digits_from
 pub length-right : (width : ℕ) (text : List ℕ) → length text ≤ width → length (right width text) ≡ width
 length-right width text short = simp (length-append, length-replicate) (omega (arith, short))
 
-length-sign : (b : Bool) → length (sign_text b) ≤ 1
+pub length-sign : (b : Bool) → length (sign_text b) ≤ 1
 length-sign b = grind arith
 
 -- this number of digits before the point

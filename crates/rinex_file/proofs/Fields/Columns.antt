@@ -22,9 +22,6 @@ nine_digits v h negative =
 
 -- ---- the field of a value
 
-length-three : (p : ℕ) → p < 1000 → length (padded 3 p) ≡ 3
-length-three p h = ap length (three_digits p h)
-
 -- blanks and the sign
 other_column : (n : ℕ) → empty_column n false ≡ 32
 other_column zero = refl
@@ -53,7 +50,7 @@ field_text v start lost strength columns some =
     let d = decimal (unsigned_abs v / 1000) in
     let p = padded 3 (unsigned_abs v % 1000) in
     let ends : List ℕ = lost ∷ strength ∷ [] in
-    let size : length ((sign ++ d) ++ 46 ∷ p) ≡ length sign + length d + 4 = omega (arith, length-append (sign ++ d) (46 ∷ p), length-append sign d, length-three (unsigned_abs v % 1000) (omega arith)) in
+    let size : length ((sign ++ d) ++ 46 ∷ p) ≡ length sign + length d + 4 = omega (arith, length-append (sign ++ d) (46 ∷ p), length-append sign d, ap length (three_digits (unsigned_abs v % 1000) (omega arith))) in
     let blank : 14 - length ((sign ++ d) ++ 46 ∷ p) ≡ start - length sign = omega (arith, size, columns) in
     let parts : (replicate (start - length sign) 32 ++ ((sign ++ d) ++ 46 ∷ p)) ++ ends ≡ (replicate (start - length sign) 32 ++ sign) ++ (d ++ (46 ∷ p ++ ends)) = simp append_assoc in
     ap (λ k. (replicate k 32 ++ ((sign ++ d) ++ 46 ∷ p)) ++ ends) blank ∙ parts ∙ ap (λ l. l ++ (d ++ (46 ∷ p ++ ends))) (sym (empty_columns_are (is_negative v) start some))

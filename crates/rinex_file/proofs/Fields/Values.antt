@@ -5,7 +5,7 @@ use Rattle.rinex_file.proofs.Fields.Columns.{blank_columns, last_minus, empty_co
 use Rattle.rinex_file.proofs.Fields.Lanes.{taken, below_at, added_back, taken_back, template_below, tenth_below}
 use Rattle.rinex_file.proofs.Fields.Templates.{added, front, start_is, leading-le, length-template, sign_before, value_columns}
 use Rattle.rinex_file.proofs.OneReading.{field_parts}
-use Rattle.rinex_file.proofs.Names.{arith, ◌≡◌, ◌∙◌, sym, ap, ap₂, refl, subst, cond, ℕ, zero, suc, ◌+◌, ◌-◌, ◌*◌, ◌/◌, ◌%◌, ◌^◌, ◌<◌, ◌≤◌, List, [], ◌∷◌, ◌++◌, map, length, get_or, replicate, drop, take, decimal, append_assoc, true, false, eqb, not, inl, inr, ℤ, pos, negsuc, unsigned_abs, Some, w8, Bool, ◌==◌, if◌then◌else◌, neg_ℤ, nat_lt, prefix_len, is_negative, cases_Bool, eqb-true, ne_eqb, ints, decimal_digit, first_decimal, length-map, prefix_len-le-length, bitmask_splat, first_set_mask_l, mask_l-mod, length-zip2, drop_all, drop_more, get_or-drop, get_or-zip2, add-one, FitsColumns, field, AreBelow, AreWithin, blanks, digit_columns, empty_column, has_minus, leading, template, LIMITS}
+use Rattle.rinex_file.proofs.Names.{arith, ◌≡◌, ◌∙◌, sym, ap, ap₂, refl, subst, cond, ℕ, zero, suc, ◌+◌, ◌-◌, ◌*◌, ◌/◌, ◌%◌, ◌^◌, ◌<◌, ◌≤◌, List, [], ◌∷◌, ◌++◌, map, length, get_or, replicate, drop, take, decimal, append_assoc, true, false, eqb, not, inl, inr, ℤ, pos, negsuc, unsigned_abs, Some, w8, Bool, ◌==◌, if◌then◌else◌, neg_ℤ, nat_lt, prefix_len, is_negative, cases_Bool, eqb-true, ne_eqb, ints, decimal_digit, first_decimal, length-map, prefix_len-le-length, bitmask_splat, first_set_mask_l, mask_l-mod, length-zip2, drop_all, drop_more, get_or-drop, get_or-zip2, add-one, FitsColumns, field, AreBelow, AreWithin, blanks, digit_columns, empty_column, has_minus, leading, template, LIMITS, le-ltb, ltb-false}
 use lib.Count.{count_trailing_zeros}
 use lib.Lanes.{zip2, mask_l, top}
 
@@ -14,18 +14,12 @@ use lib.Lanes.{zip2, mask_l, top}
 abbrev pub above : List ℕ → List ℕ → ℕ
 above ls ds = mask_l (map (top 7) (zip2 (λ a b. cond (nat_lt a b) 255 0) ls ds))
 
-not_above : (l d : ℕ) → d ≤ l → nat_lt l d ≡ false
-not_above l d h = grind arith
-
-at_most : (l d : ℕ) → nat_lt l d ≡ false → d ≤ l
-at_most l d h = grind arith
-
 none_above : (ls ds : List ℕ) → AreWithin ls ds → above ls ds ≡ 0
 none_above [] ds h = refl
 none_above (l ∷ ls) [] h = refl
 none_above (l ∷ ls) (d ∷ ds) h =
     let none = none_above ls ds h.1 in
-    ap₂ (λ b m. cond (top 7 (cond b 255 0)) 1 0 + 2 * m) (not_above l d h.0) none
+    ap₂ (λ b m. cond (top 7 (cond b 255 0)) 1 0 + 2 * m) (le-ltb l d h.0) none
 
 all_within : (ls ds : List ℕ) → above ls ds ≡ 0 → AreWithin ls ds
 all_within [] ds e = tt
@@ -35,7 +29,7 @@ all_within (l ∷ ls) (d ∷ ds) e =
       | inl over ↦ let one : 1 + 2 * above ls ds ≡ 0 = ap (λ b. cond (top 7 (cond b 255 0)) 1 0 + 2 * above ls ds) (sym over) ∙ e in absurd (omega (arith, one))
       | inr low ↦
           let rest : 0 + 2 * above ls ds ≡ 0 = ap (λ b. cond (top 7 (cond b 255 0)) 1 0 + 2 * above ls ds) (sym low) ∙ e in
-          (at_most l d low, all_within ls ds (omega (arith, rest)))
+          (ltb-false l d low, all_within ls ds (omega (arith, rest)))
     ]
 
 -- no digit is above its limit if and only if no lane of the comparison is set

@@ -1,9 +1,9 @@
 -- Version, position and height are read back from their lines; the lines of a header up to a row and from it on.
 use Rattle.std.proofs.lemmas.Grind.{flat_map-append}
-use Rattle.rinex_file.proofs.Digits.Numbers.{number_in-fixed, digits_in-right, digits_in-fixed, length-fixed, length-right}
+use Rattle.rinex_file.proofs.Digits.Numbers.{number_in-fixed, digits_in-right, digits_in-fixed, length-fixed, length-right, length-sign}
 use Rattle.rinex_file.proofs.Reading.Dates.{IsField, AreFields, field_at}
 use Rattle.rinex_file.proofs.HeaderRows.Types.{content_first}
-use Rattle.rinex_file.proofs.Names.{arith, ◌≡◌, ◌∙◌, refl, sym, ap, ℕ, ◌+◌, ◌/◌, ◌<◌, ◌≤◌, ◌^◌, List, [], ◌∷◌, ◌++◌, length, take, drop, append-nil, length-append, Bool, true, false, ℤ, pos, unsigned_abs, suc, lit<, ◌==◌, codes, if◌then◌else◌, flat_map, nat_lt, slice_get, unwrap_or, is_negative, digits, sign_text, ints, take_more, take-append-drop, drop-cons, System, passes_at, is_equal, civil_of, PlanValue, planned_of, StationValues, Civil, joined, right, fixed, digits_in, number_in, header_line, lengths, height_line, row_line, row_lines, has_line, header_lines, all_rows, row_count, row_at, row_place, lines_from, type_rows, version_by, Shown, shown_rows, lines_before, lines_after, IsShown, shown_line, AreTypes, types_line, IsCoordinate, End, Types, lines_of_header, HeaderLists, HeaderRow, drop-append-le}
+use Rattle.rinex_file.proofs.Names.{arith, ◌≡◌, ◌∙◌, refl, sym, ap, ℕ, ◌+◌, ◌/◌, ◌<◌, ◌≤◌, ◌^◌, List, [], ◌∷◌, ◌++◌, length, take, drop, append-nil, length-append, Bool, true, false, ℤ, pos, unsigned_abs, suc, lit<, ◌==◌, codes, if◌then◌else◌, flat_map, slice_get, unwrap_or, is_negative, digits, ints, take_more, take-append-drop, drop-cons, System, passes_at, is_equal, PlanValue, planned_of, StationValues, Civil, joined, right, fixed, digits_in, number_in, header_line, lengths, height_line, row_line, row_lines, has_line, header_lines, all_rows, row_count, row_at, row_place, lines_from, type_rows, version_by, Shown, shown_rows, lines_before, lines_after, IsShown, shown_line, AreTypes, types_line, IsCoordinate, End, Types, lines_of_header, HeaderLists, HeaderRow, drop-append-le, lt-ltb}
 
 -- ---- version
 
@@ -12,9 +12,6 @@ unfolding header_line digits
 letter_at letter = refl
 
 -- ---- position and height
-
-length-sign : (b : Bool) → length (sign_text b) ≤ 1
-length-sign b = grind arith
 
 -- a number that fits 14 columns
 abbrev pub Fits14 : ℤ → Type 0
@@ -69,13 +66,9 @@ coordinate-fits z is = grind (arith, ints)
 pub placed : (n : ℕ) → n < row_count → row_place (row_at n) ≡ n
 placed n less = is_equal (row_place (row_at n)) n (passes_at (λ i. row_place (row_at i) == i) row_count n refl less)
 
--- the rows from an index on
-rows_next : (n : ℕ) → n < row_count → drop n all_rows ≡ row_at n ∷ drop (suc n) all_rows
-rows_next n less = drop-cons all_rows n End less
-
 module _ (x : HeaderLists) (p : PlanValue) (v : StationValues) (t : Civil) (n : ℕ) (less : n < row_count) where
   shape : lines_from x p v t n ≡ row_lines x p v t (row_at n) ++ lines_from x p v t (suc n)
-  shape = ap (flat_map (row_lines x p v t)) (rows_next n less)
+  shape = ap (flat_map (row_lines x p v t)) (drop-cons all_rows n End less)
 
   pub line_next : has_line p (row_at n) ≡ true → lines_from x p v t n ≡ row_line x p v t (row_at n) ∷ lines_from x p v t (suc n)
   line_next has = shape ∙ ap (λ b. (if b then row_line x p v t (row_at n) ∷ [] else []) ++ lines_from x p v t (suc n)) has
@@ -85,9 +78,6 @@ module _ (x : HeaderLists) (p : PlanValue) (v : StationValues) (t : Civil) (n : 
 
 module _ (h : Shown) where
   -- the lines up to a row, and those from it on
-  pub after_next : (n : ℕ) → n < row_count → lines_after h n ≡ shown_rows h (row_at n) ++ lines_after h (suc n)
-  after_next n less = shape h.texts h.plan h.values (civil_of h.first) n less
-
   pub before_next : (n : ℕ) → n < row_count → lines_before h (suc n) ≡ lines_before h n ++ shown_rows h (row_at n)
   before_next n less =
       let next : suc n ≡ n + 1 = omega arith in
@@ -114,12 +104,9 @@ less_or P i j less more = grind arith
 pub types_shown : (s : System) (h : Shown) → IsShown h → 0 < length (planned_of s h.plan) → AreTypes s (planned_of s h.plan)
 types_shown s h is some = record { listed = is.plan.listed s; apart = is.plan.apart s; some = some }
 
-pub is_lt : (a b : ℕ) → a < b → nat_lt a b ≡ true
-is_lt a b h = grind (arith, h)
-
 pub rows_when : (h : Shown) (r : HeaderRow) (b : Bool) → has_line h.plan r ≡ b → shown_rows h r ≡ (if b then shown_line h r ∷ [] else [])
 rows_when h r b e = ap (λ c. if c then shown_line h r ∷ [] else []) e
 
 pub types_in : (h : Shown) (s : System) (r : ℕ) → r < type_rows (length (planned_of s h.plan)) → shown_rows h (Types s r) ≡ types_line s (planned_of s h.plan) r ∷ []
 unfolding row_line
-types_in h s r less = rows_when h (Types s r) true (is_lt r (type_rows (length (planned_of s h.plan))) less)
+types_in h s r less = rows_when h (Types s r) true (lt-ltb r (type_rows (length (planned_of s h.plan))) less)

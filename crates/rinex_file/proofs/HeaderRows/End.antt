@@ -1,7 +1,7 @@
 -- The last line of a header, the header that was read, and the start.
 use Rattle.rinex_file.proofs.Reading.Epochs.{few_signals_of}
 use Rattle.rinex_file.proofs.HeaderRows.Agree.{split_at, less_or}
-use Rattle.gnss_system.proofs.SystemLaws.{each_system, equal_values, value_tabulated}
+use Rattle.gnss_system.proofs.SystemLaws.{equal_values, value_tabulated}
 use Rattle.gnss_system.specs.SystemValues.{tabulate, value_of}
 use Rattle.gnss_obs.proofs.PlanLemmas.{listed_by}
 use Rattle.rinex_file.proofs.HeaderRows.Letters.{same_flags}
@@ -12,15 +12,12 @@ use Rattle.rinex_file.specs.declared.header.fields.TextRow.TheVariants as row
 use Rattle.rinex_file.proofs.HeaderRows.Places.{all_before}
 use Rattle.rinex_file.proofs.HeaderRows.Steps.{rest_next}
 use Rattle.rinex_file.proofs.HeaderRows.Texts.{place_back, same_at, same_rows}
-use Rattle.rinex_file.proofs.Names.{nat_lt, ◌&&◌, letter, arith, ◌≡◌, ◌∙◌, sym, ap, ap₂, map, refl, subst, ℕ, ℤ, pos, suc, lit<, lit≤, ◌<◌, true, ◌||◌, min, List, [], ◌∷◌, ◌++◌, length, get_or, replicate, All, nat_eq, AllOfLen, IsDistinct, take_all, ext_get_or, SignalAt, table, System, indices, IsOf, planned_of, StationValues, TextRow, Texts, Position, Delta, First, End, trimmed, HeaderLists, text_count, text_of, width_of, fields, fields_of, text_rows, HeaderField, AntType, IsText, AreTexts, AreValues, IsTime, row_line, row_place, end_line, most_type_rows, Known, Shown, IsShown, AreValid, IsHeadAt, shown_with, lines_before, signals_begun, RefusesHeaderLine, EndsHeader, none_of, row_at, AreSized, AreTypesOf, AreSameTexts, Has, HasRow, fits, counted, types_before, StrengthUnit, SameFrom, position_of, ◌==◌, is_chosen, is_less, ◌+◌, PlanValue, Slots, SlotNumber, AreChannels, AreSameSlots, AreSlotsRead, known_slots, no_channels, slots_before, slots_of}
+use Rattle.rinex_file.proofs.Names.{nat_lt, ◌&&◌, letter, arith, ◌≡◌, ◌∙◌, sym, ap, ap₂, map, refl, subst, ℕ, pos, suc, lit<, lit≤, ◌<◌, true, ◌||◌, min, List, [], ◌∷◌, ◌++◌, length, get_or, replicate, All, nat_eq, AllOfLen, IsDistinct, take_all, ext_get_or, SignalAt, table, System, indices, IsOf, planned_of, StationValues, TextRow, Texts, Position, Delta, First, End, trimmed, HeaderLists, text_count, text_of, width_of, fields, fields_of, text_rows, HeaderField, AntType, IsText, AreTexts, AreValues, IsTime, row_line, row_place, end_line, most_type_rows, Known, Shown, IsShown, AreValid, IsHeadAt, shown_with, lines_before, signals_begun, RefusesHeaderLine, EndsHeader, none_of, row_at, AreSized, AreTypesOf, AreSameTexts, Has, HasRow, fits, counted, types_before, StrengthUnit, SameFrom, position_of, ◌==◌, is_chosen, ◌+◌, PlanValue, Slots, SlotNumber, AreChannels, AreSameSlots, AreSlotsRead, known_slots, no_channels, slots_before, slots_of}
 
 -- ---- a header with all that was read is the one that was read
 
-abbrev made_values : ℤ → ℤ → ℤ → ℕ → StationValues
-made_values x y z height = record { x = x; y = y; z = z; height = height }
-
-same_values : (v w : StationValues) → v.x ≡ w.x → v.y ≡ w.y → v.z ≡ w.z → v.height ≡ w.height → v ≡ w
-same_values v w a b c d = grind arith
+pub all_same : (v w : StationValues) → v.x ≡ w.x → v.y ≡ w.y → v.z ≡ w.z → v.height ≡ w.height → v ≡ w
+all_same v w a b c d = grind arith
 
 same_plan : (p q : PlanValue) → p.signals ≡ q.signals → p.channels ≡ q.channels → p ≡ q
 same_plan p q a b = grind arith
@@ -58,7 +55,7 @@ module _ (k : Known) (h : Shown) (is : IsShown h) (valid : AreValid k) (has : Ha
   values : h.values ≡ k.shown.values
   values =
       let position : position_of h.values ≡ position_of k.shown.values = has.rows (row_place Position) (lit< tt) in
-      same_values h.values k.shown.values (ap (λ (v : StationValues). v.x) position) (ap (λ (v : StationValues). v.y) position) (ap (λ (v : StationValues). v.z) position) (has.rows (row_place Delta) (lit< tt))
+      all_same h.values k.shown.values (ap (λ (v : StationValues). v.x) position) (ap (λ (v : StationValues). v.y) position) (ap (λ (v : StationValues). v.z) position) (has.rows (row_place Delta) (lit< tt))
 
   channels : h.plan.channels ≡ k.shown.plan.channels
   channels =
@@ -160,5 +157,5 @@ none_read system ss e = subst (IsOf system) (sym e) (none_of system)
 pub zero_time : (t : ℕ) → t ≡ 0 → IsTime t
 zero_time t e = subst IsTime (sym e) (lit≤ tt)
 
-pub zero_values : AreValues (made_values (pos 0) (pos 0) (pos 0) 0)
+pub zero_values : AreValues (record { x = pos 0; y = pos 0; z = pos 0; height = 0 })
 zero_values = grind arith

@@ -5,13 +5,12 @@ use Rattle.std.specs.List.{list_any}
 use Rattle.gnss_system.specs.Systems.{is_system}
 use Rattle.gnss_system.proofs.SystemLaws.{any_system, equal_indices, letter_back, system_same, systems_taken}
 use Rattle.gnss_system.specs.Satellites.{system_of_letter}
-use Rattle.rinex_file.proofs.HeaderRows.Agree.{is_lt}
 use Rattle.rinex_file.proofs.HeaderRows.Texts.{equal_or}
-use Rattle.rinex_file.proofs.Names.{arith, refl, sym, ap, ap₂, subst, ◌≡◌, ◌∙◌, ℕ, zero, suc, ◌+◌, ◌<◌, ◌≤◌, ◌==◌, ◌&&◌, ◌||◌, cond, Bool, true, false, List, [], ◌∷◌, length, nat_lt, nat_tests, lit<, filter, System, letter, PlanValue, planned_of, systems, is_planned, letter_of, flagged_letter, systems_letter, Known, IsShown, Shown, Has, AreCounted, counted, types_before, is_chosen, fits, same_Some, if◌then◌else◌, index_of, take, filter-append, append-nil, ◌++◌, All, All-head, filter_passes}
+use Rattle.rinex_file.proofs.Names.{arith, refl, sym, ap, ap₂, subst, ◌≡◌, ◌∙◌, ℕ, zero, suc, ◌+◌, ◌<◌, ◌≤◌, ◌==◌, ◌&&◌, ◌||◌, cond, Bool, true, false, List, [], ◌∷◌, length, nat_lt, nat_tests, lit<, filter, System, letter, PlanValue, planned_of, systems, is_planned, letter_of, flagged_letter, systems_letter, Known, IsShown, Shown, Has, counted, types_before, is_chosen, fits, same_Some, if◌then◌else◌, index_of, take, filter-append, append-nil, ◌++◌, All, All-head, filter_passes, eq-eqb, lt-ltb, or_right, AreSized}
 
 -- ---- letters
 
-one_letter : (s t : System) → letter s ≡ letter t → s ≡ t
+pub one_letter : (s t : System) → letter s ≡ letter t → s ≡ t
 one_letter s t e = same_Some s t (sym (letter_back s) ∙ ap system_of_letter e ∙ letter_back t)
 
 some_letter : (s : System) → (letter s == 0) ≡ false
@@ -51,9 +50,6 @@ flagged f = by (filter f systems) (filter_passes f systems) where
 -- a system with a flag is one of those with a flag
 has_flag : (f : System → Bool) (s : System) → f s ≡ true → list_any (is_system s) (filter f systems) ≡ true
 has_flag f s e = any-filter_same (is_system s) f true (λ t h. subst (λ r. f r ≡ true) (system_same s t h) e) systems ∙ any_system s
-
-is_same : (a b : ℕ) → a ≡ b → (a == b) ≡ true
-is_same a b e = grind (arith, nat_tests, e)
 
 -- a letter other than `M` is that of each system with a flag
 own_letter : (f : System → Bool) (m : ℕ) → (m ≡ 77 → ⊥) → flagged_letter f ≡ m → (s : System) → f s ≡ true → letter s ≡ m
@@ -124,28 +120,26 @@ chosen_letter f some may m is positive sub sup = equal_or (flagged_letter (chose
 
 -- ---- a header with what was read has a plan that fits
 
-counted_flag : (rows count : ℕ) (all : List ℕ) → AreCounted rows count all → nat_lt 0 count ≡ true → nat_lt 0 (length all) ≡ true
-counted_flag zero count all are some = let e = sym (ap (nat_lt 0) are) ∙ some in cc
-counted_flag (suc rows) count all are some = ap (nat_lt 0) (sym are) ∙ some
+counted_flag : (rows count : ℕ) (all : List ℕ) → (rows ≡ 0 → count ≡ 0) → (0 < rows → count ≡ length all) → nat_lt 0 count ≡ true → nat_lt 0 (length all) ≡ true
+counted_flag zero count all none are some = let e = sym (ap (nat_lt 0) (none refl)) ∙ some in cc
+counted_flag (suc rows) count all none are some = ap (nat_lt 0) (sym (are (omega arith))) ∙ some
 
-planned_flag : (rows count : ℕ) (all : List ℕ) → AreCounted rows count all → nat_lt 0 (length all) ≡ true → (rows == 0 || nat_lt 0 count) ≡ true
+planned_flag : (rows count : ℕ) (all : List ℕ) → (0 < rows → count ≡ length all) → nat_lt 0 (length all) ≡ true → (rows == 0 || nat_lt 0 count) ≡ true
 planned_flag zero count all are some = refl
-planned_flag (suc rows) count all are some = or_right (suc rows == 0) (nat_lt 0 count) (ap (nat_lt 0) are ∙ some) where
-  or_right : (a b : Bool) → b ≡ true → (a || b) ≡ true
-  or_right a b e = grind (arith, e)
+planned_flag (suc rows) count all are some = or_right (suc rows == 0) (nat_lt 0 count) (ap (nat_lt 0) (are (omega arith)) ∙ some)
 
 some_planned : (p : PlanValue) (s : System) → 0 < length (planned_of s p) → 0 < systems_letter p
-some_planned p s some = by (filter (is_planned p) systems) (has_flag (is_planned p) s (is_lt 0 (length (planned_of s p)) some)) where
+some_planned p s some = by (filter (is_planned p) systems) (has_flag (is_planned p) s (lt-ltb 0 (length (planned_of s p)) some)) where
   by : (ss : List System) → list_any (is_system s) ss ≡ true → 0 < letter_of ss
   by [] one = cc
   by (r ∷ []) one = grind arith
   by (r ∷ t ∷ ss) one = lit< tt
 
-pub has_fits : (k : Known) (n : ℕ) (h : Shown) → 0 < n → IsShown h → Has k n h → fits k n ≡ true
-has_fits k n h first is has =
+pub has_fits : (k : Known) (n : ℕ) (h : Shown) → 0 < n → ((s : System) → AreSized s (types_before s n) (counted k s) (planned_of s k.shown.plan)) → IsShown h → Has k n h → fits k n ≡ true
+has_fits k n h first sized is has =
     let letter : systems_letter h.plan ≡ k.letter = has.rows 0 first in
     let positive = subst (λ m. 0 < m) letter (some_planned h.plan is.plan.some.0 is.plan.some.1) in
     let chosen = chosen_letter (is_planned h.plan) (λ s. nat_lt 0 (counted k s)) (λ s. types_before s n == 0) k.letter letter positive
-    (λ s e. counted_flag (types_before s n) (counted k s) (planned_of s h.plan) (has.types s).number e)
+    (λ s e. counted_flag (types_before s n) (counted k s) (planned_of s h.plan) (sized s).none (has.types s).number e)
     (λ s e. planned_flag (types_before s n) (counted k s) (planned_of s h.plan) (has.types s).number e) in
-    ap₂ (λ a b. a && b) (is_same (flagged_letter (is_chosen k n)) k.letter chosen) (is_lt 0 k.letter positive)
+    ap₂ (λ a b. a && b) (eq-eqb (flagged_letter (is_chosen k n)) k.letter chosen) (lt-ltb 0 k.letter positive)

@@ -16,12 +16,9 @@ abbrev step_ok : System → ℕ → HeaderRow → Bool
 step_ok s n (Types t row) = if is_system t s then (types_before s n == row) && (types_before s (suc n) == suc row) else types_before s (suc n) == types_before s n
 step_ok s n other = types_before s (suc n) == types_before s n
 
-steps_ok : (s : System) (n : ℕ) → n < row_count → step_ok s n (row_at n) ≡ true
-steps_ok s n less = passes_at (λ i. step_ok s i (row_at i)) row_count n (each_system (λ s. passes_below (λ i. step_ok s i (row_at i)) row_count) s refl) less
-
 module _ {n : ℕ} (less : n < row_count) where
   step_is : {r : HeaderRow} (s : System) → row_at n ≡ r → step_ok s n r ≡ true
-  step_is s at = sym (ap (step_ok s n) at) ∙ steps_ok s n less
+  step_is s at = sym (ap (step_ok s n) at) ∙ passes_at (λ i. step_ok s i (row_at i)) row_count n (each_system (λ s. passes_below (λ i. step_ok s i (row_at i)) row_count) s refl) less
 
   pub plain_before : (r : HeaderRow) (s : System) → row_at n ≡ r → is_types r ≡ false → types_before s (suc n) ≡ types_before s n
   plain_before (Types t row) s at plain = cc

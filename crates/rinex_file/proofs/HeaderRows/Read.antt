@@ -4,15 +4,12 @@ use Rattle.gnss_system.proofs.SystemLaws.{value_after, value_of_other}
 use Rattle.rinex_file.proofs.HeaderRows.Agree.{types_in, types_shown, rows_when}
 use Rattle.rinex_file.proofs.HeaderRows.Slots.{slots_are, slots_go_on, same_after, line_after_same, same_before}
 use Rattle.rinex_file.proofs.HeaderRows.Places.{either, none_of_slots, other_before, own_before, slots_here}
-use Rattle.rinex_file.proofs.HeaderRows.Steps.{Law, known_count, single, present, shows_next}
+use Rattle.rinex_file.proofs.HeaderRows.Steps.{Law, single, present, shows_next, begun_more}
 use Rattle.rinex_file.proofs.HeaderRows.Texts.{equal_or, same_here, same_line, kept_texts, same_texts, texts_back}
 use Rattle.rinex_file.proofs.PlainTexts.{both}
-use Rattle.rinex_file.proofs.Names.{arith, ◌≡◌, ◌∙◌, sym, ap, refl, subst, ℕ, zero, suc, ◌+◌, ◌<◌, ◌≤◌, Bool, true, false, List, [], ◌∷◌, length, take, min, ◌↔◌, ◌^◌, get_or, Option, Some, None, IsTrue, nat_lt, codes, nat_le, list_all, take-take, take-map, SignalAt, table, System, is_less, is_system, indices, planned_of, civil_of, StationValues, length_indices, Types, Version, Texts, Position, Delta, StrengthUnit, First, Shift, row_line, row_count, row_at, has_line, type_rows, position_line, row_place, header_line, height_line, first_line, strength_line, version_by, Known, Has, HasRow, AreSized, AreTypesOf, AreCounted, AreSameTexts, counted, types_before, systems_letter, shown_line, shown_rows, AreTypes, types_line, signals_begun, IsPosition, position_of, Shown, IsShown, known_line, NoneGoesOn, TakesTypes, RefusesTypes, with_types, IsHeaderLineRead, RefusesHeaderLine, ReadsOrRefuses, ReadsTexts, RefusesTexts, with_texts, with_values, with_first, with_letter, TextRow, HeaderRow, HeaderLists, text_row_index, fields_of, place_of, front_of, HeaderField, AntType, IsTime, letter, ReadsExactly, same_Some, ⊤, ◌*◌, Slots, Biases, biases_line, slots_line, slots_of, slots_in_line, known_slots, with_slots, AreSlotsAt, AreSlotsBefore, SlotsFollow, IsLineOfSlots, TakesSlots, TakesOrRefusesSlots, ChannelsValue}
+use Rattle.rinex_file.proofs.Names.{arith, ◌≡◌, ◌∙◌, sym, ap, refl, subst, ℕ, zero, suc, ◌+◌, ◌<◌, ◌≤◌, Bool, true, false, List, [], ◌∷◌, length, take, min, ◌↔◌, ◌^◌, get_or, Option, Some, None, IsTrue, nat_lt, codes, nat_le, list_all, take-take, take-map, SignalAt, table, System, is_less, is_system, indices, planned_of, civil_of, StationValues, length_indices, Types, Version, Texts, Position, Delta, StrengthUnit, First, Shift, row_line, row_count, row_at, has_line, type_rows, position_line, row_place, header_line, height_line, first_line, strength_line, version_by, Known, Has, HasRow, AreSized, AreTypesOf, AreSameTexts, counted, types_before, systems_letter, shown_line, shown_rows, AreTypes, types_line, signals_begun, IsPosition, position_of, Shown, IsShown, known_line, NoneGoesOn, TakesTypes, RefusesTypes, with_types, IsHeaderLineRead, RefusesHeaderLine, ReadsOrRefuses, ReadsTexts, RefusesTexts, with_texts, with_values, with_first, with_letter, TextRow, HeaderRow, HeaderLists, text_row_index, fields_of, place_of, front_of, HeaderField, AntType, IsTime, letter, ReadsExactly, same_Some, ⊤, ◌*◌, Slots, Biases, biases_line, slots_line, slots_of, slots_in_line, known_slots, with_slots, AreSlotsAt, AreSlotsBefore, SlotsFollow, IsLineOfSlots, TakesSlots, TakesOrRefusesSlots, ChannelsValue, add-one}
 
 -- ---- numbers of signals
-
-begun_more : (row : ℕ) → signals_begun row ≤ signals_begun (row + 1)
-begun_more row = omega arith
 
 -- the first of these signals are those that were read before
 begun_in_front : (old new all : List ℕ) (row : ℕ) → take (length old) new ≡ old → length old ≡ signals_begun row → new ≡ take (signals_begun (row + 1)) all → old ≡ take (signals_begun row) all
@@ -66,9 +63,6 @@ other_made : (P : ℕ → List ℕ → Type 0) (s t : System) (k : Known) (count
     → P (counted k t) (planned_of t k.shown.plan) ↔ P (counted (with_types s k count signals) t) (planned_of t (with_types s k count signals).shown.plan)
 other_made P s t k count signals e = same_made P (sym (value_of_other s t k.counts count e)) (sym (value_of_other s t k.shown.plan.signals signals e))
 
-next_row : (row : ℕ) → row + 1 ≡ suc row
-next_row row = omega arith
-
 module _ (k : Known) (s : System) (row n : ℕ) (line : List ℕ) (less : n < row_count) (at : row_at n ≡ Types s row) (count : ℕ) (signals : List ℕ)
     (t : TakesTypes s row line (counted k s) (planned_of s k.shown.plan) count signals)
     (sized : (u : System) → AreSized u (types_before u n) (counted k u) (planned_of u k.shown.plan)) where
@@ -91,7 +85,7 @@ module _ (k : Known) (s : System) (row n : ℕ) (line : List ℕ) (less : n < ro
       (subst (λ m. Q u m (counted k u) (planned_of u k.shown.plan)) (sym (other_before less u s row at other)) (same u (types_before u n) (counted k u) (planned_of u k.shown.plan) (all u))))
 
   pub types_sized : (u : System) → AreSized u (types_before u (suc n)) (counted after u) (planned_of u after.shown.plan)
-  types_sized = each_system AreSized AreSized (record { few = t.few; none = λ e. absurd (omega (arith, e)); size = t.size ∙ ap (λ m. min (signals_begun m) count) (next_row row) }) sized (λ u rows c xs a. a)
+  types_sized = each_system AreSized AreSized (record { few = t.few; none = λ e. absurd (omega (arith, e)); size = t.size ∙ ap (λ m. min (signals_begun m) count) (add-one row) }) sized (λ u rows c xs a. a)
 
   pub types_slots : AreSlotsAt k n → AreSlotsAt after (suc n)
   types_slots r =
@@ -103,9 +97,6 @@ module _ (k : Known) (s : System) (row n : ℕ) (line : List ℕ) (less : n < ro
   types_law h is = (to, from) where
     all : List ℕ
     all = planned_of s h.plan
-
-    later : (row : ℕ) → AreCounted row (counted k s) all → 0 < row → counted k s ≡ length all
-    later row are some = known_count row (counted k s) all some are
 
     before : Has k n h → AreTypesOf row (counted k s) (planned_of s k.shown.plan) all
     before a = subst (λ m. AreTypesOf m (counted k s) (planned_of s k.shown.plan) all) own.0 (a.types s)
@@ -119,11 +110,11 @@ module _ (k : Known) (s : System) (row n : ℕ) (line : List ℕ) (less : n < ro
           let are : AreTypes s all = types_shown s h is (omega (arith, few)) in
           let shows : line ≡ types_line s all row = single line (types_line s all row) (sym e ∙ ap (shown_rows h) at ∙ types_in h s row few) in
           let b = before a in
-          let taken = (t.taken all are).0 ((t.counts all are (later row b.number) shows, b.begun), shows) in
+          let taken = (t.taken all are).0 ((t.counts all are b.number shows, b.begun), shows) in
           record {
             rows = λ i l. (same_rows_known s k count signals h (row_at i)).0 (equal_or (HasRow k h (row_at i)) i n (λ same. subst (HasRow k h) (sym at ∙ ap row_at (sym same)) tt) (λ far. a.rows i (omega (arith, l, far))));
             types = each_system (λ u rows c xs. AreTypesOf rows c xs (planned_of u h.plan)) (λ u rows c xs. AreTypesOf rows c xs (planned_of u h.plan))
-                (record { number = sym taken.0; begun = taken.1 ∙ ap (λ m. take (signals_begun m) all) (next_row row) }) a.types (λ u rows c xs b. b);
+                (record { number = λ l. sym taken.0; begun = taken.1 ∙ ap (λ m. take (signals_begun m) all) (add-one row) }) a.types (λ u rows c xs b. b);
           }
 
     from : Has after (suc n) h → Has k n h × (shown_rows h (row_at n) ≡ line ∷ [])
@@ -132,25 +123,24 @@ module _ (k : Known) (s : System) (row n : ℕ) (line : List ℕ) (less : n < ro
       mine = (own_made (λ c xs. AreTypesOf (suc row) c xs all) s k count signals).1
           (subst (λ m. AreTypesOf m (counted after s) (planned_of s after.shown.plan) all) own.1 (a.types s))
 
+      same : count ≡ length all
+      same = mine.number (omega arith)
+
       are : AreTypes s all
-      are = types_shown s h is (subst (λ c. 0 < c) mine.number some_count)
+      are = types_shown s h is (subst (λ c. 0 < c) same some_count)
 
       taken : AreBegun count row (planned_of s k.shown.plan) all × (line ≡ types_line s all row)
-      taken = (t.taken all are).1 (sym mine.number, mine.begun ∙ ap (λ m. take (signals_begun m) all) (sym (next_row row)))
-
-      number : (row : ℕ) → (row ≡ 0 → counted k s ≡ 0) → (0 < row → counted k s ≡ count) → AreCounted row (counted k s) all
-      number zero none later = none refl
-      number (suc row) none later = later (omega arith) ∙ mine.number
+      taken = (t.taken all are).1 (sym same, mine.begun ∙ ap (λ m. take (signals_begun m) all) (sym (add-one row)))
 
       types : (u : System) → AreTypesOf (types_before u n) (counted k u) (planned_of u k.shown.plan) (planned_of u h.plan)
       types u = either (AreTypesOf (types_before u n) (counted k u) (planned_of u k.shown.plan) (planned_of u h.plan)) s u
           (λ e. subst (λ v. AreTypesOf (types_before v n) (counted k v) (planned_of v k.shown.plan) (planned_of v h.plan)) (sym e)
-          (subst (λ m. AreTypesOf m (counted k s) (planned_of s k.shown.plan) all) (sym own.0) (record { number = number row (λ e. (sized s).none (own.0 ∙ e)) t.later; begun = taken.0.1 })))
+          (subst (λ m. AreTypesOf m (counted k s) (planned_of s k.shown.plan) all) (sym own.0) (record { number = λ l. t.later l ∙ same; begun = taken.0.1 })))
           (λ other. (other_made (λ c xs. AreTypesOf (types_before u n) c xs (planned_of u h.plan)) s u k count signals other).1
           (subst (λ m. AreTypesOf m (counted after u) (planned_of u after.shown.plan) (planned_of u h.plan)) (other_before less u s row at other) (a.types u)))
 
       shows : shown_rows h (row_at n) ≡ line ∷ []
-      shows = ap (shown_rows h) at ∙ types_in h s row (subst (λ c. row < type_rows c) mine.number t.rows) ∙ ap (λ l. l ∷ []) (sym taken.1)
+      shows = ap (shown_rows h) at ∙ types_in h s row (subst (λ c. row < type_rows c) same t.rows) ∙ ap (λ l. l ∷ []) (sym taken.1)
 
 -- ---- the line is refused
 
@@ -161,7 +151,7 @@ none_taken k s row n line less at has refuses h others left on =
     let there : has_line h.plan (Types s row) ≡ true = sym (ap (has_line h.plan) at) ∙ present less on ∙ has in
     let few = is_less row (type_rows (length (planned_of s h.plan))) there in
     let b : AreTypesOf row (counted k s) (planned_of s k.shown.plan) (planned_of s h.plan) = subst (λ m. AreTypesOf m (counted k s) (planned_of s k.shown.plan) (planned_of s h.plan)) (own_before less s row at).0 (on.has.types s) in
-    refuses (planned_of s h.plan) (types_shown s h on.is (omega (arith, few))) (λ some. known_count row (counted k s) (planned_of s h.plan) some b.number) b.begun
+    refuses (planned_of s h.plan) (types_shown s h on.is (omega (arith, few))) b.number b.begun
     (sym (shows_next less on (present less on ∙ has)) ∙ ap (shown_line h) at)
 
 -- ---- rows that are read exactly

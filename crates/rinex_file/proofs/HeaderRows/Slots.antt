@@ -2,17 +2,17 @@
 use Rattle.std.proofs.lemmas.List.Elements.{All-set}
 use Rattle.std.proofs.lemmas.List.Sums.{length-filter}
 use Rattle.std.specs.Prelude.{count_by}
-use Rattle.rinex_file.proofs.HeaderRows.Agree.{is_lt, less_or}
+use Rattle.rinex_file.proofs.HeaderRows.Agree.{less_or}
 use Rattle.gnss_obs.specs.Channels.{AreChannels, ChannelsValue, most_number, no_channels, number_at, slot_count, with_number}
 use Rattle.rinex_file.specs.Slots.{AreSlots, SlotNumber, channel_text, last_slot, slot_text, slots_columns, slots_from, slots_front, slots_in_line, slots_of}
 use Rattle.rinex_file.specs.Header.{slots_line, slots_with}
 use Rattle.rinex_file.specs.Read.Progress.{AreSameSlots}
 use Rattle.rinex_file.proofs.Judged.{refused}
 use Rattle.rinex_file.specs.Read.HeaderSteps.{IsLineOfSlots, TakesOrRefusesSlots, TakesSlots}
-use Rattle.rinex_file.proofs.Digits.Numbers.{digits_in-padded, digits_in-whole, length-padded, length-right}
+use Rattle.rinex_file.proofs.Digits.Numbers.{digits_in-padded, digits_in-whole, length-right}
 use Rattle.rinex_file.proofs.Digits.Padded.{two_digits}
 use Rattle.rinex_file.proofs.HeaderRows.Types.{content_first}
-use Rattle.rinex_file.proofs.Names.{All, All-head, All-replicate, All-tail, IfSome, List, None, Option, Some, [], ap, append-nil, append_assoc, ap₂, arith, codes, decimal, digits_in, drop, drop-append-le, drop-cons, drop-drop, drop-take, header_line, IsTrue, ◌↔◌, nil_from_length, drop_all, drop_at, flat_map, flat_map-append, get_or, get_or-drop, get_or-take, length, length-append, length-decimal-le, length-drop, length-set, length-take, min, nat_lt, padded, refl, replicate, right, set, suc, sym, take, take-append-le, take_all, take_at, take-take, take_more, filter, is_some, nat_tests, zero, ◌*◌, ◌++◌, ◌+◌, ◌-◌, ◌/◌, ◌%◌, ◌<◌, ◌∙◌, ◌∷◌, ◌≡◌, ◌≤◌, ℕ, Bool, true, false, if◌then◌else◌, ◌^◌, subst}
+use Rattle.rinex_file.proofs.Names.{All, All-head, All-replicate, All-tail, IfSome, List, None, Option, Some, [], ap, append-nil, append_assoc, ap₂, arith, codes, decimal, digits_in, drop, drop-append-le, drop-cons, drop-drop, drop-take, header_line, IsTrue, ◌↔◌, nil_from_length, drop_all, drop_at, flat_map, flat_map-append, get_or, get_or-drop, get_or-take, length, length-append, length-decimal-le, length-drop, length-set, length-take, min, nat_lt, padded, refl, right, set, suc, sym, take, take-append-le, take_all, take_at, take-take, take_more, filter, is_some, zero, ◌*◌, ◌++◌, ◌+◌, ◌-◌, ◌/◌, ◌%◌, ◌<◌, ◌∙◌, ◌∷◌, ◌≡◌, ◌≤◌, ℕ, Bool, true, false, if◌then◌else◌, subst, lt-ltb, le-ltb}
 
 -- ---- slots that follow others
 
@@ -260,12 +260,10 @@ slot_columns : (slot : ℕ) (channel : List ℕ) → slot ≤ slot_count → 82 
 slot_columns slot channel few = ap (λ (p : List ℕ). 82 ∷ (p ++ 32 ∷ (channel ++ 32 ∷ []))) (two_digits slot (omega (arith, few)))
 
 pub slot_low : (slot n : ℕ) → slot ≤ slot_count → n < 7 → 82 ∷ (48 + slot / 10) ∷ (48 + slot % 10) ∷ 32 ∷ 45 ∷ (48 + (7 - n)) ∷ 32 ∷ [] ≡ slot_text (at slot n)
-slot_low slot n few low = sym (slot_columns slot (channel_text n) few ∙ ap (λ b. 82 ∷ (48 + slot / 10) ∷ (48 + slot % 10) ∷ 32 ∷ ((if b then 45 ∷ (48 + (7 - n)) ∷ [] else 32 ∷ (48 + (n - 7)) ∷ []) ++ 32 ∷ [])) (is_lt n 7 low))
+slot_low slot n few low = sym (slot_columns slot (channel_text n) few ∙ ap (λ b. 82 ∷ (48 + slot / 10) ∷ (48 + slot % 10) ∷ 32 ∷ ((if b then 45 ∷ (48 + (7 - n)) ∷ [] else 32 ∷ (48 + (n - 7)) ∷ []) ++ 32 ∷ [])) (lt-ltb n 7 low))
 
 pub slot_high : (slot n : ℕ) → slot ≤ slot_count → 7 ≤ n → 82 ∷ (48 + slot / 10) ∷ (48 + slot % 10) ∷ 32 ∷ 32 ∷ (48 + (n - 7)) ∷ 32 ∷ [] ≡ slot_text (at slot n)
-slot_high slot n few high = sym (slot_columns slot (channel_text n) few ∙ ap (λ b. 82 ∷ (48 + slot / 10) ∷ (48 + slot % 10) ∷ 32 ∷ ((if b then 45 ∷ (48 + (7 - n)) ∷ [] else 32 ∷ (48 + (n - 7)) ∷ []) ++ 32 ∷ [])) (isnt_lt n 7 high)) where
-  isnt_lt : (a b : ℕ) → b ≤ a → nat_lt a b ≡ false
-  isnt_lt a b h = grind (arith, h, nat_tests)
+slot_high slot n few high = sym (slot_columns slot (channel_text n) few ∙ ap (λ b. 82 ∷ (48 + slot / 10) ∷ (48 + slot % 10) ∷ 32 ∷ ((if b then 45 ∷ (48 + (7 - n)) ∷ [] else 32 ∷ (48 + (n - 7)) ∷ []) ++ 32 ∷ [])) (le-ltb n 7 high))
 
 -- the slot and the channel in the columns of a slot
 abbrev ShowsSlot : SlotNumber → List ℕ → Type 0
@@ -331,13 +329,10 @@ module _ {row before : ℕ} {line : List ℕ} {old all : List SlotNumber} (l : I
     there : (i : ℕ) → i < length (in_line row all) → get_or (in_line row all) i d ≡ get_or all (8 * row + i) d
     there i h = let size = length-take 8 (drop (8 * row) all) in get_or-take 8 (drop (8 * row) all) i d (omega (arith, h, size)) ∙ get_or-drop (8 * row) all i d
 
-    size_here : length (in_line row all) ≡ min 8 (length all - 8 * row)
-    size_here = length-take 8 (drop (8 * row) all) ∙ ap (min 8) (length-drop (8 * row) all)
-
     shown_line : ShowsSlot slot_here (drop (4 + 7 * q) line)
     shown_line =
         let count = few_slots in
-        let size = size_here in
+        let size : length (in_line row all) ≡ min 8 (length all - 8 * row) = length-take 8 (drop (8 * row) all) ∙ ap (min 8) (length-drop (8 * row) all) in
         let front = slots_front (length all) row in
         let slots = flat_map slot_text (in_line row all) in
         let content = content_first (slots_columns (length all) all row) (codes "GLONASS SLOT / FRQ #") in

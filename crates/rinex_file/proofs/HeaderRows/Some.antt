@@ -1,5 +1,4 @@
 -- Some header has what was read.
-use Rattle.rinex_file.proofs.HeaderRows.Agree.{is_lt}
 use Rattle.gnss_system.proofs.SystemLaws.{value_tabulated}
 use Rattle.gnss_system.specs.SystemValues.{tabulate}
 use Rattle.rinex_file.proofs.HeaderRows.Letters.{flagged, same_flags}
@@ -8,7 +7,7 @@ use Rattle.gnss_system.specs.declared.system.System.TheVariants.{Glonass}
 use Rattle.rinex_file.proofs.HeaderRows.Slots.{More, more_slots, no_channels_are, same_channels}
 use Rattle.rinex_file.proofs.HeaderRows.Places.{own_slots, place_at}
 use Rattle.rinex_file.proofs.PlainTexts.{both}
-use Rattle.rinex_file.proofs.Names.{All, All-cons, All-nil, All-push, AreCounted, AreSized, AreTypesOf, Bool, Delta, First, Has, HasRow, HeaderRow, IsDistinct, IsDistinct-push, IsHeadAt, IsShown, Known, List, PlanValue, Position, System, Texts, Version, ap, arith, counted, eqb, false, fields_of, flagged_letter, is_chosen, is_equal, is_less, is_planned, le-length_from_below, length, length-append, letter, list_any, min, nat_eq, nat_eq_equiv, nat_lt, nat_tests, nil_from_length, planned_of, refl, row_at, shown_with, signals_begun, subst, suc, sym, systems_letter, table, take, take-append_seam, take-take, take_all, take_min, true, types_before, zero, ◌&&◌, ◌++◌, ◌+◌, ◌-◌, ◌<◌, ◌==◌, ◌||◌, ◌∙◌, ◌∷◌, ◌≡◌, ◌≤◌, [], ℕ, lit<, ◌*◌, append-nil, take-append-le, row_count, Slots, SlotNumber, AreSlotsAt, known_slots, slots_before, slots_of, no_channels}
+use Rattle.rinex_file.proofs.Names.{All, All-cons, All-nil, All-push, AreSized, AreTypesOf, Bool, Delta, First, Has, HasRow, HeaderRow, IsDistinct, IsDistinct-push, IsHeadAt, IsShown, Known, List, PlanValue, Position, System, Texts, Version, ap, arith, counted, eqb, false, fields_of, flagged_letter, is_chosen, is_equal, is_less, is_planned, le-length_from_below, length, length-append, letter, list_any, min, nat_eq, nat_eq_equiv, nat_lt, nat_tests, nil_from_length, planned_of, refl, row_at, shown_with, signals_begun, subst, suc, sym, systems_letter, table, take, take-append_seam, take-take, take_all, take_min, true, types_before, zero, ◌&&◌, ◌++◌, ◌+◌, ◌-◌, ◌<◌, ◌==◌, ◌||◌, ◌∙◌, ◌∷◌, ◌≡◌, ◌≤◌, [], ℕ, lit<, ◌*◌, append-nil, take-append-le, row_count, Slots, SlotNumber, AreSlotsAt, known_slots, slots_before, slots_of, no_channels, lt-ltb, or_right}
 
 -- ---- signals of a system, with others up to a number
 
@@ -63,9 +62,6 @@ record Choice (s : System) (rows count : ℕ) (signals : List ℕ) (chosen : Boo
   some : nat_lt 0 (length all) ≡ chosen
   types : AreTypesOf rows count signals all
 
-all_by : (n count : ℕ) (xs all : List ℕ) → xs ≡ take (length xs) all → length xs ≡ min n count → count ≡ length all → xs ≡ take n all
-all_by n count xs all e size is = e ∙ ap (λ m. take m all) (size ∙ ap (min n) is) ∙ take_min n all
-
 no_signals : (signals : List ℕ) (m count : ℕ) → length signals ≡ min m count → count ≡ 0 → signals ≡ []
 no_signals signals m count size none = nil_from_length signals (omega (arith, size, none))
 
@@ -80,22 +76,18 @@ choose s false rows count signals below apart sized may none = record {
   below = All-nil (λ i. i < length (table s));
   apart = tt;
   some = refl;
-  types = record { number = number rows; begun = no_signals signals (signals_begun rows) count sized.size zero_count ∙ sym (take_all (signals_begun rows) [] (omega arith)) };
+  types = record { number = λ l. zero_count; begun = no_signals signals (signals_begun rows) count sized.size zero_count ∙ sym (take_all (signals_begun rows) [] (omega arith)) };
 } where
   zero_count : count ≡ 0
   zero_count = zero_from count none where
     zero_from : (n : ℕ) → (n == 0 || false) ≡ true → n ≡ 0
     zero_from n e = grind (arith, nat_tests, e)
-
-  number : (rows : ℕ) → AreCounted rows count []
-  number zero = zero_count
-  number (suc rows) = zero_count
 choose s true zero count signals below apart sized may none = record {
   all = 0 ∷ [];
   below = All-cons (λ i. i < length (table s)) 0 [] (table_some s) (All-nil (λ i. i < length (table s)));
   apart = (tt, tt);
   some = refl;
-  types = record { number = sized.none refl; begun = no_signals signals (signals_begun 0) count sized.size (sized.none refl) };
+  types = record { number = λ l. absurd (omega (arith, l)); begun = no_signals signals (signals_begun 0) count sized.size (sized.none refl) };
 }
 choose s true (suc rows) count signals below apart sized may none =
     let some : 0 < count = positive rows count (may refl) in
@@ -107,8 +99,8 @@ choose s true (suc rows) count signals below apart sized may none =
       all = made.all;
       below = made.below;
       apart = made.apart;
-      some = is_lt 0 (length made.all) (omega (arith, made_size, some));
-      types = record { number = sym made_size; begun = all_by (signals_begun (suc rows)) count signals made.all made.begins size (sym made_size) };
+      some = lt-ltb 0 (length made.all) (omega (arith, made_size, some));
+      types = record { number = λ l. sym made_size; begun = made.begins ∙ ap (λ m. take m made.all) (size ∙ ap (min (signals_begun (suc rows))) (sym made_size)) ∙ take_min (signals_begun (suc rows)) made.all };
     } where
       positive : (rows count : ℕ) → (suc rows == 0 || nat_lt 0 count) ≡ true → 0 < count
       positive rows count e = grind (arith, nat_tests, e)
@@ -200,9 +192,7 @@ pub none_before : (s : System) → types_before s 0 ≡ 0
 none_before s = omega arith
 
 pub some_shown : (k : Known) (n : ℕ) → IsHeadAt k n → SomeShown k n
-some_shown k zero at = made k 0 at (λ s. true) (λ l. absurd (omega (arith, l))) (lit< tt) (λ s e. ap (λ m. m == 0 || nat_lt 0 (counted k s)) (none_before s)) (λ s. or_true (counted k s == 0)) where
-  or_true : (b : Bool) → (b || true) ≡ true
-  or_true b = grind arith
+some_shown k zero at = made k 0 at (λ s. true) (λ l. absurd (omega (arith, l))) (lit< tt) (λ s e. ap (λ m. m == 0 || nat_lt 0 (counted k s)) (none_before s)) (λ s. or_right (counted k s == 0) true refl)
 some_shown k (suc n) at =
     let fit = both (flagged_letter (is_chosen k (suc n)) == k.letter) (nat_lt 0 k.letter) (at.fitting (omega arith)) in
     let same = is_equal (flagged_letter (is_chosen k (suc n))) k.letter fit.0 in

@@ -10,13 +10,9 @@ use Rattle.gnss_obs.specs.Channels.{slot_count}
 use Rattle.rinex_file.proofs.HeaderRows.Slots.{no_slots}
 use Rattle.rinex_file.proofs.PlainTexts.{both}
 use Rattle.rinex_file.proofs.HeaderRows.Places.{all_before, either, flipped, is_types, other_before, other_slots, own_before, own_slots, place_at, plain_before, slots_here}
-use Rattle.rinex_file.proofs.Names.{Result, Refusal, TakesHeaderLine, expected_if, drop, all_rows, arith, ◌≡◌, ◌∙◌, sym, ap, refl, subst, ℕ, zero, suc, ◌+◌, ◌<◌, ◌≤◌, Bool, true, false, List, [], ◌∷◌, ◌++◌, length, take, append-nil, not, take_all, ◌≢◌, ◌==◌, ◌&&◌, min, ◌↔◌, nat_lt, nat_tests, System, planned_of, civil_of, Known, IsShown, AreValid, Shown, IsHeadAt, shown_rows, shown_line, lines_before, lines_after, signals_begun, HeaderRow, Types, StrengthUnit, Shift, End, Expected, has_line, row_at, row_count, row_place, most_type_rows, type_rows, known_line, RefusesHeaderLine, NoneGoesOn, SameFrom, AreCounted, AreSized, AreTypesOf, Has, HasRow, counted, fits, types_before, begins_with, IsHeaderLineRead, GoesOn, Takes, flat_map, row_line, header_line, letter, codes, is_less, lit<, ◌*◌, ◌-◌, ap₂, value_of, nil_from_length, Slots, Biases, SlotNumber, slots_of, last_slot, slots_in_line, slot_rows, AreSlotsRead, AreSlotsAt, AreSameSlots, AreSlotsBefore, SlotsFollow, known_slots}
+use Rattle.rinex_file.proofs.Names.{Result, Refusal, TakesHeaderLine, expected_if, drop, all_rows, arith, ◌≡◌, ◌∙◌, sym, ap, refl, subst, ℕ, zero, suc, ◌+◌, ◌<◌, ◌≤◌, Bool, true, false, List, [], ◌∷◌, ◌++◌, length, take, append-nil, not, take_all, ◌≢◌, ◌==◌, ◌&&◌, min, ◌↔◌, nat_lt, nat_tests, System, planned_of, civil_of, Known, IsShown, AreValid, Shown, IsHeadAt, shown_rows, shown_line, lines_before, lines_after, signals_begun, HeaderRow, Types, StrengthUnit, Shift, End, Expected, has_line, row_at, row_count, row_place, most_type_rows, type_rows, known_line, RefusesHeaderLine, NoneGoesOn, SameFrom, AreSized, AreTypesOf, Has, HasRow, counted, fits, types_before, begins_with, IsHeaderLineRead, GoesOn, Takes, flat_map, row_line, header_line, letter, codes, is_less, lit<, ◌*◌, ◌-◌, ap₂, value_of, nil_from_length, Slots, Biases, SlotNumber, slots_of, last_slot, slots_in_line, slot_rows, AreSlotsRead, AreSlotsAt, AreSameSlots, AreSlotsBefore, SlotsFollow, known_slots, not-true, ltb-false, add-one, eq-eqb}
 
 -- ---- the number of a system's signals
-
-pub known_count : (rows count : ℕ) (all : List ℕ) → 0 < rows → AreCounted rows count all → count ≡ length all
-known_count zero count all some are = absurd (omega (arith, some))
-known_count (suc rows) count all some are = are
 
 -- what holds of a number of lines, a number of signals and signals holds of equal ones
 moved : (P : ℕ → ℕ → List ℕ → Type 0) {a b c d : ℕ} {xs ys : List ℕ} → a ≡ b → c ≡ d → xs ≡ ys → P a c xs → P b d ys
@@ -99,7 +95,7 @@ module _ {n : ℕ} {r : HeaderRow} {line : List ℕ} {old new : Known} (less : n
 
 -- after the types, the number of a system's signals is known
 planned_known : (n : ℕ) → row_place StrengthUnit < n → (s : System) (k : Known) (h : Shown) → Has k n h → nat_lt 0 (length (planned_of s h.plan)) ≡ nat_lt 0 (counted k s)
-planned_known n far s k h has = ap (nat_lt 0) (sym (known_count (types_before s n) (counted k s) (planned_of s h.plan) (some_rows (all_before s n far)) (has.types s).number)) where
+planned_known n far s k h has = ap (nat_lt 0) (sym ((has.types s).number (some_rows (all_before s n far)))) where
   some_rows : {m : ℕ} → m ≡ most_type_rows → 0 < m
   some_rows e = omega (arith, e)
 
@@ -146,15 +142,12 @@ unfolding row_line
 types_byte h s zero byte = first_byte _ (codes "SYS / # / OBS TYPES") (letter s) byte _ refl
 types_byte h s (suc row) byte = first_byte _ (codes "SYS / # / OBS TYPES") 32 byte _ refl
 
-not_true : (b : Bool) → not b ≡ true → b ≡ false
-not_true b e = grind (arith, e)
-
 types_apart : (h : Shown) (byte : ℕ) (s : System) (row : ℕ) (rows : List HeaderRow) (others left : List (List ℕ)) (line : List ℕ) → not (byte_of (Types s row) == byte) ≡ true
     → (flat_map (shown_rows h) rows ++ others ≡ line ∷ left → begins_with byte line ≡ false) → (b : Bool) → has_line h.plan (Types s row) ≡ b
     → flat_map (shown_rows h) (Types s row ∷ rows) ++ others ≡ line ∷ left → begins_with byte line ≡ false
 types_apart h byte s row rows others left line other more true has same =
     ap (begins_with byte) (cons_parts line (shown_line h (Types s row)) left (flat_map (shown_rows h) rows ++ others) (sym same ∙ ap (λ l. (l ++ flat_map (shown_rows h) rows) ++ others) (rows_when h (Types s row) true has))).0
-    ∙ types_byte h s row byte ∙ not_true (byte_of (Types s row) == byte) other
+    ∙ types_byte h s row byte ∙ not-true (byte_of (Types s row) == byte) other
 types_apart h byte s row rows others left line other more false has same = more (sym (ap (λ l. (l ++ flat_map (shown_rows h) rows) ++ others) (rows_when h (Types s row) false has)) ∙ same)
 
 -- the first line of these rows doesn't begin with the byte
@@ -163,16 +156,13 @@ begins_apart h byte [] others left line e same = cc
 begins_apart h byte (Types s row ∷ rows) others left line e same =
     let two = both (not (byte_of (Types s row) == byte)) (apart_from byte rows) e in
     types_apart h byte s row rows others left line two.0 (begins_apart h byte rows others left line two.1) (has_line h.plan (Types s row)) refl same
-begins_apart h byte (StrengthUnit ∷ rows) others left line e same = ap (begins_with byte) (cons_parts line (shown_line h StrengthUnit) left (flat_map (shown_rows h) rows ++ others) (sym same)).0 ∙ unit_byte h byte ∙ not_true (68 == byte) e
+begins_apart h byte (StrengthUnit ∷ rows) others left line e same = ap (begins_with byte) (cons_parts line (shown_line h StrengthUnit) left (flat_map (shown_rows h) rows ++ others) (sym same)).0 ∙ unit_byte h byte ∙ not-true (68 == byte) e
 begins_apart h byte (r ∷ rows) others left line e same = cc
 
 -- no line of the rows after a system's first line of types begins with its letter, up to the unit's
 after_types : (n : ℕ) (s : System) → n < row_count → row_at n ≡ Types s 0 → apart_from (letter s) (drop (suc n) all_rows) ≡ true
 after_types n s less at = let place = place_at n (Types s 0) less at in subst (λ m. apart_from (letter s) (drop (suc m) all_rows) ≡ true) (sym place)
     (each_system (λ s. apart_from (letter s) (drop (suc (row_place (Types s 0))) all_rows)) s refl)
-
-same_letter : (s : System) → (letter s == letter s) ≡ true
-same_letter s = each_system (λ s. letter s == letter s) s refl
 
 module _ {n : ℕ} (less : n < row_count) {k : Known} {line : List ℕ} {h : Shown} {others left : List (List ℕ)} (on : GoesOn k n h others (line ∷ left)) where
   pub shows_next : has_line h.plan (row_at n) ≡ true → shown_line h (row_at n) ≡ line
@@ -192,10 +182,10 @@ module _ {n : ℕ} (less : n < row_count) {k : Known} {line : List ℕ} {h : Sho
     by : (r : HeaderRow) → row_at n ≡ r → has_line h.plan (row_at n) ≡ known_line k line (row_at n)
     by (Types s zero) at = ap (has_line h.plan) at ∙ first (has_line h.plan (Types s 0)) refl ∙ sym (ap (known_line k line) at) where
       first : (b : Bool) → has_line h.plan (Types s 0) ≡ b → has_line h.plan (Types s 0) ≡ begins_with (letter s) line
-      first true has = has ∙ sym (sym (ap (begins_with (letter s)) (sym (ap (shown_line h) at) ∙ shows_next (ap (has_line h.plan) at ∙ has))) ∙ types_byte h s 0 (letter s) ∙ same_letter s)
+      first true has = has ∙ sym (sym (ap (begins_with (letter s)) (sym (ap (shown_line h) at) ∙ shows_next (ap (has_line h.plan) at ∙ has))) ∙ types_byte h s 0 (letter s) ∙ eq-eqb (letter s) (letter s) refl)
       first false lacks = lacks ∙ sym (begins_apart h (letter s) (drop (suc n) all_rows) others left line (after_types n s less at) (rest_skipped (ap (has_line h.plan) at ∙ lacks)))
     by (Types s (suc row)) at =
-        let count = known_count (types_before s n) (counted k s) (planned_of s h.plan) (some_rows (own_before less s (suc row) at).0) (on.has.types s).number in
+        let count = (on.has.types s).number (some_rows (own_before less s (suc row) at).0) in
         ap (has_line h.plan) at ∙ ap (λ m. nat_lt (suc row) (type_rows m)) (sym count) ∙ sym (ap (known_line k line) at) where
           some_rows : {m : ℕ} → m ≡ suc row → 0 < m
           some_rows e = omega (arith, e)
@@ -203,43 +193,41 @@ module _ {n : ℕ} (less : n < row_count) {k : Known} {line : List ℕ} {h : Sho
 
 -- ---- a row without a line
 
+pub begun_more : (row : ℕ) → signals_begun row ≤ signals_begun (row + 1)
+begun_more row = omega arith
+
 -- all signals begin before a line of types that isn't there
 all_begun : (row : ℕ) (count : ℕ) → nat_lt row (type_rows count) ≡ false → count ≤ signals_begun row
 all_begun row count lacks = let more : type_rows count ≤ row = grind (arith, lacks, nat_tests) in omega (arith, more)
 
-begun_more : (row : ℕ) → signals_begun row ≤ signals_begun (suc row)
-begun_more row = omega arith
-
 take_whole : (row : ℕ) (all : List ℕ) → length all ≤ signals_begun row → take (signals_begun row) all ≡ take (signals_begun (suc row)) all
 take_whole row all few = let more = begun_more row in take_all (signals_begun row) all few ∙ sym (take_all (signals_begun (suc row)) all (omega (arith, few, more)))
 
+-- so do all signals of a system whose line of types isn't there
+few_begun : (row count : ℕ) → (row ≡ 0 → count ≡ 0) → (0 < row → nat_lt row (type_rows count) ≡ false) → count ≤ signals_begun row
+few_begun zero count none lacks = let e = none refl in omega (arith, e)
+few_begun (suc row) count none lacks = all_begun (suc row) count (lacks (omega arith))
+
 -- the types that are known before a row of types without a line, and after it
-skip_types : (row count : ℕ) (signals all : List ℕ) → nat_lt row (type_rows (length all)) ≡ false → AreTypesOf row count signals all → AreTypesOf (suc row) count signals all
-skip_types row count signals all lacks are =
+skip_types : (row count : ℕ) (signals all : List ℕ) → (row ≡ 0 → count ≡ 0) → nat_lt row (type_rows (length all)) ≡ false → AreTypesOf row count signals all → AreTypesOf (suc row) count signals all
+skip_types row count signals all none lacks are =
     let few = all_begun row (length all) lacks in
-    record { number = number row few are.number; begun = are.begun ∙ take_whole row all few } where
-      number : (row : ℕ) → length all ≤ signals_begun row → AreCounted row count all → count ≡ length all
-      number zero few same = omega (arith, same, few)
-      number (suc row) few same = same
+    record { number = λ some. number row few none are.number; begun = are.begun ∙ take_whole row all few } where
+      number : (row : ℕ) → length all ≤ signals_begun row → (row ≡ 0 → count ≡ 0) → (0 < row → count ≡ length all) → count ≡ length all
+      number zero few none same = let e = none refl in omega (arith, e, few)
+      number (suc row) few none same = same (omega arith)
 
 unskip_types : (s : System) (row count : ℕ) (signals all : List ℕ) → AreSized s row count signals → (0 < row → nat_lt row (type_rows count) ≡ false) → AreTypesOf (suc row) count signals all → AreTypesOf row count signals all
-unskip_types s row count signals all sized lacks are = record { number = number row sized.none; begun = are.begun ∙ sym (take_whole row all (few row sized.none lacks)) } where
-  same : count ≡ length all
-  same = are.number
-
-  number : (row : ℕ) → (row ≡ 0 → count ≡ 0) → AreCounted row count all
-  number zero none = none refl
-  number (suc row) none = same
-
-  few : (row : ℕ) → (row ≡ 0 → count ≡ 0) → (0 < row → nat_lt row (type_rows count) ≡ false) → length all ≤ signals_begun row
-  few zero none lacks = let e = none refl in omega (arith, e, same)
-  few (suc row) none lacks = let l = all_begun (suc row) count (lacks (omega arith)) in omega (arith, l, same)
+unskip_types s row count signals all sized lacks are =
+    let same = are.number (omega arith) in
+    let few = few_begun row count sized.none lacks in
+    record { number = λ some. same; begun = are.begun ∙ sym (take_whole row all (omega (arith, few, same))) }
 
 skip_sized : (s : System) (row count : ℕ) (signals : List ℕ) → AreSized s row count signals → (0 < row → nat_lt row (type_rows count) ≡ false) → AreSized s (suc row) count signals
-skip_sized s row count signals sized lacks = record { few = sized.few; none = λ e. absurd (omega (arith, e)); size = sized.size ∙ by row sized.none lacks } where
-  by : (row : ℕ) → (row ≡ 0 → count ≡ 0) → (0 < row → nat_lt row (type_rows count) ≡ false) → min (signals_begun row) count ≡ min (signals_begun (suc row)) count
-  by zero none lacks = let e = none refl in omega (arith, e)
-  by (suc row) none lacks = let l = all_begun (suc row) count (lacks (omega arith)) in let more = begun_more (suc row) in omega (arith, l, more)
+skip_sized s row count signals sized lacks =
+    let few = few_begun row count sized.none lacks in
+    let more = begun_more row in
+    record { few = sized.few; none = λ e. absurd (omega (arith, e)); size = sized.size ∙ omega (arith, few, more) }
 
 not_last : (n : ℕ) (k : Known) (line : List ℕ) → n < row_count → known_line k line (row_at n) ≡ false → suc n < row_count
 not_last n k line less lacks = grind (arith, less_or)
@@ -254,9 +242,7 @@ module _ (k : Known) (line : List ℕ) {n : ℕ} (less : n < row_count) (lacks :
   -- no slots are left for a line of slots that isn't there
   none_left : (row : ℕ) → row_at n ≡ Slots row → k.slots ≤ slots_in_line * row
   none_left zero at = let e = slots.unplanned (is_none (counted k Glonass) (sym (ap (known_line k line) at) ∙ lacks)) in omega (arith, e)
-  none_left (suc row) at = let rows = not_less (suc row) (slot_rows k.slots) (sym (ap (known_line k line) at) ∙ lacks) in omega (arith, rows) where
-    not_less : (a b : ℕ) → nat_lt a b ≡ false → b ≤ a
-    not_less a b e = grind (arith, e, nat_tests)
+  none_left (suc row) at = let rows = ltb-false (suc row) (slot_rows k.slots) (sym (ap (known_line k line) at) ∙ lacks) in omega (arith, rows)
 
   few_read : length (known_slots k) ≤ k.slots
   few_read = let size = slots.size in omega (arith, size)
@@ -299,22 +285,14 @@ module _ (k : Known) (line : List ℕ) {n : ℕ} (less : n < row_count) (lacks :
       }
   slots_skipped r at = slots_moved (other_slots less r at refl) refl refl refl slots
 
-  -- what holds of the rows of types before this row holds before the next, and the other way round
-  to_next : (P : System → ℕ → Type 0) (s : System) → ((row : ℕ) → row_at n ≡ Types s row → P s row → P s (suc row)) → P s (types_before s n) → P s (types_before s (suc n))
-  to_next P s step p = by (row_at n) refl where
-    by : (r : HeaderRow) → row_at n ≡ r → P s (types_before s (suc n))
-    by (Types t row) at = either (P s (types_before s (suc n))) s t
-        (λ e. let at' = at ∙ ap (λ u. Types u row) e in let own = own_before less s row at' in subst (P s) (sym own.1) (step row at' (subst (P s) own.0 p)))
-        (λ other. subst (P s) (sym (other_before less s t row at (flipped s t other))) p)
-    by r at = subst (P s) (sym (plain_before less r s at refl)) p
-
-  to_last : (P : System → ℕ → Type 0) (s : System) → ((row : ℕ) → row_at n ≡ Types s row → types_before s n ≡ row → P s (suc row) → P s row) → P s (types_before s (suc n)) → P s (types_before s n)
-  to_last P s step p = by (row_at n) refl where
-    by : (r : HeaderRow) → row_at n ≡ r → P s (types_before s n)
-    by (Types t row) at = either (P s (types_before s n)) s t
-        (λ e. let at' = at ∙ ap (λ u. Types u row) e in let own = own_before less s row at' in subst (P s) (sym own.0) (step row at' own.0 (subst (P s) own.1 p)))
-        (λ other. subst (P s) (other_before less s t row at (flipped s t other)) p)
-    by r at = subst (P s) (plain_before less r s at refl) p
+  -- what holds of equal numbers of rows of types, and of those before and after a row, holds of those before this row and the next
+  beside : (R : ℕ → ℕ → Type 0) (s : System) → ((m : ℕ) → R m m) → ((row : ℕ) → row_at n ≡ Types s row → types_before s n ≡ row → R row (suc row)) → R (types_before s n) (types_before s (suc n))
+  beside R s same step = by (row_at n) refl where
+    by : (r : HeaderRow) → row_at n ≡ r → R (types_before s n) (types_before s (suc n))
+    by (Types t row) at = either (R (types_before s n) (types_before s (suc n))) s t
+        (λ e. let at' = at ∙ ap (λ u. Types u row) e in let own = own_before less s row at' in subst (λ m. R m (types_before s (suc n))) (sym own.0) (subst (R row) (sym own.1) (step row at' own.0)))
+        (λ other. subst (R (types_before s n)) (sym (other_before less s t row at (flipped s t other))) (same (types_before s n)))
+    by r at = subst (R (types_before s n)) (sym (plain_before less r s at refl)) (same (types_before s n))
 
   abbrev typed : Shown → System → ℕ → Type 0
   typed h s rows = AreTypesOf rows (counted k s) (planned_of s k.shown.plan) (planned_of s h.plan)
@@ -325,13 +303,13 @@ module _ (k : Known) (line : List ℕ) {n : ℕ} (less : n < row_count) (lacks :
   back : (h : Shown) → Has k (suc n) h → Has k n h
   back h has = record {
     rows = λ i l. has.rows i (omega (arith, l));
-    types = λ s. to_last (typed h) s (λ row at e. unskip_types s row (counted k s) (planned_of s k.shown.plan) (planned_of s h.plan) (sized_at s row e) (known_rows s row at)) (has.types s);
+    types = λ s. beside (λ m i. typed h s i → typed h s m) s (λ m a. a) (λ row at e. unskip_types s row (counted k s) (planned_of s k.shown.plan) (planned_of s h.plan) (sized_at s row e) (known_rows s row at)) (has.types s);
   }
 
   none_there : (r : HeaderRow) → row_at n ≡ r → (h : Shown) → Has k (suc n) h → has_line h.plan (row_at n) ≡ false
   none_there (Types s row) at h has =
       let own = own_before less s row at in
-      ap (has_line h.plan) at ∙ none row (planned_of s h.plan) (subst (typed h s) own.1 (has.types s)).number (sized_at s row own.0).none (known_rows s row at) where
+      ap (has_line h.plan) at ∙ none row (planned_of s h.plan) ((subst (typed h s) own.1 (has.types s)).number (omega arith)) (sized_at s row own.0).none (known_rows s row at) where
         none : {count : ℕ} (row : ℕ) (all : List ℕ) → count ≡ length all → (row ≡ 0 → count ≡ 0) → (0 < row → nat_lt row (type_rows count) ≡ false) → nat_lt row (type_rows (length all)) ≡ false
         none zero all same zeros lacks = ap (λ m. nat_lt 0 (type_rows m)) (sym same ∙ zeros refl)
         none (suc row) all same zeros lacks = ap (λ m. nat_lt (suc row) (type_rows m)) (sym same) ∙ lacks (omega arith)
@@ -345,7 +323,7 @@ module _ (k : Known) (line : List ℕ) {n : ℕ} (less : n < row_count) (lacks :
           is = on.is;
           has = record {
             rows = λ i l. equal_or (HasRow k h (row_at i)) i n (λ same. nothing_known (row_at i) (ap row_at (sym same)) h on.is on.has) (λ far. on.has.rows i (omega (arith, l, far)));
-            types = λ s. to_next (typed h) s (λ row at. skip_types row (counted k s) (planned_of s k.shown.plan) (planned_of s h.plan) (sym (ap (has_line h.plan) at) ∙ none)) (on.has.types s);
+            types = λ s. beside (λ m i. typed h s m → typed h s i) s (λ m a. a) (λ row at e. skip_types row (counted k s) (planned_of s k.shown.plan) (planned_of s h.plan) (sized_at s row e).none (sym (ap (has_line h.plan) at) ∙ none)) (on.has.types s);
           };
           rest = rest_skipped less on none;
         };
@@ -353,7 +331,7 @@ module _ (k : Known) (line : List ℕ) {n : ℕ} (less : n < row_count) (lacks :
     lines = λ h is has. before_next h n less ∙ ap (λ l. lines_before h n ++ l) (rows_when h (row_at n) false (none_there (row_at n) refl h has)) ∙ append-nil (lines_before h n);
     none = λ i low high. let e : i ≡ n = omega (arith, low, high) in ap (λ j. known_line k line (row_at j)) e ∙ lacks;
     slots = slots_skipped (row_at n) refl;
-    sized = λ s. to_next (λ s rows. AreSized s rows (counted k s) (planned_of s k.shown.plan)) s (λ row at z. skip_sized s row (counted k s) (planned_of s k.shown.plan) z (known_rows s row at)) (sized s);
+    sized = λ s. beside (λ m i. AreSized s m (counted k s) (planned_of s k.shown.plan) → AreSized s i (counted k s) (planned_of s k.shown.plan)) s (λ m a. a) (λ row at e z. skip_sized s row (counted k s) (planned_of s k.shown.plan) z (known_rows s row at)) (sized s);
     expected = not_last n k line less lacks;
   }
 
@@ -378,15 +356,13 @@ abbrev pub Law : Known → ℕ → List ℕ → Known → Type 0
 Law old n line new = (h : Shown) → IsShown h → (Has old n h × (shown_rows h (row_at n) ≡ line ∷ [])) ↔ Has new (suc n) h
 
 pub takes_row : (old new : Known) (line : List ℕ) {n : ℕ} → n < row_count → known_line old line (row_at n) ≡ true → Law old n line new → Takes old n line new (n + 1)
-takes_row old new line {n} less has law = subst (λ m. Takes old n line new m) next (record {
+takes_row old new line {n} less has law = subst (λ m. Takes old n line new m) (sym (add-one n)) (record {
   goes = λ h others left on.
       let there = present less on ∙ has in
       record { is = on.is; has = (law h on.is).0 (on.has, rows_when h (row_at n) true there ∙ ap (λ l. l ∷ []) (shows_next less on there)); rest = rest_next less on there };
   back = λ h is a. ((law h is).1 a).0;
   lines = λ h is a. before_next h n less ∙ ap (λ l. lines_before h n ++ l) ((law h is).1 a).1;
-}) where
-  next : suc n ≡ n + 1
-  next = omega arith
+})
 
 pub takes_from : {old new : Known} {line : List ℕ} {a b c : ℕ} → SameFrom old line a b → Takes old b line new c → Takes old a line new c
 takes_from {line = line} s t = record {
@@ -430,8 +406,11 @@ pub decided : {old new : Known} {from n : ℕ} {line : List ℕ} (r : HeaderRow)
     → ((s : System) → AreSized s (types_before s (suc n)) (counted new s) (planned_of s new.shown.plan)) → AreSlotsAt new (suc n) → result ≡ expected_if (fits new (n + 1)) (n + 1) → TakesHeaderLine old from line new result
 decided {old} {new} {from} {n} {line} r less at other takes valid sized slots e = subst (TakesHeaderLine old from line new) (sym e) (by (fits new (n + 1)) refl) where
   next : suc n ≡ n + 1
-  next = omega arith
+  next = sym (add-one n)
+
+  all : (s : System) → AreSized s (types_before s (n + 1)) (counted new s) (planned_of s new.shown.plan)
+  all s = subst (λ m. AreSized s (types_before s m) (counted new s) (planned_of s new.shown.plan)) next (sized s)
 
   by : (b : Bool) → fits new (n + 1) ≡ b → TakesHeaderLine old from line new (expected_if b (n + 1))
-  by true fit = record { takes = takes; at = record { valid = valid; sized = λ s. subst (λ m. AreSized s (types_before s m) (counted new s) (planned_of s new.shown.plan)) next (sized s); slots = subst (AreSlotsAt new) next slots; fitting = λ l. fit; expected = before_last n r less at other } }
-  by false lacks = λ h others left on. let b = takes.goes h others left on in let fit = has_fits new (n + 1) h (omega arith) b.is b.has in cc
+  by true fit = record { takes = takes; at = record { valid = valid; sized = all; slots = subst (AreSlotsAt new) next slots; fitting = λ l. fit; expected = before_last n r less at other } }
+  by false lacks = λ h others left on. let b = takes.goes h others left on in let fit = has_fits new (n + 1) h (omega arith) all b.is b.has in cc

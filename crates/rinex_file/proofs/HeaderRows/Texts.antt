@@ -63,9 +63,6 @@ blanks_printable (suc k) = blanks_printable k
 no_fault : (f : HeaderField) (text : List ℕ) → IsText (width_of f) text → fault_of f (left (width_of f) text) ≡ None
 no_fault f text is = grind (arith, list_all-append, blanks_printable, trimmed-blanks)
 
-cut_left : (width : ℕ) (text : List ℕ) → IsText width text → trimmed (left width text) ≡ text
-cut_left width text is = trimmed-blanks (width - length text) text ∙ is.cut
-
 -- texts that are read from the columns of those of `x`: in these fields they are the same, and what was the same stays so
 pub record Back (x : HeaderLists) (fs : List HeaderField) (column : ℕ) (line : List ℕ) (old : HeaderLists) : Type 0 where
   pub new : HeaderLists
@@ -84,7 +81,7 @@ read_back {x} (f ∷ fs) {column} front rest {line} {old} are size at shape =
     let columns : take w (drop column line) ≡ own =
     ap (λ l. take w (drop column l)) shape ∙ ap (take w) (drop_at front ((own ++ more) ++ rest) column at ∙ append_assoc own more rest) ∙ take_at own (more ++ rest) w wide in
     let text = trimmed (take w (drop column line)) in
-    let is : text ≡ text_of x f = ap trimmed columns ∙ cut_left w (text_of x f) (are.each f) in
+    let is : text ≡ text_of x f = ap trimmed columns ∙ trimmed-blanks (w - length (text_of x f)) (text_of x f) ∙ (are.each f).cut in
     let next = read_back fs (front ++ own) rest {old = set old (place_of f) text} are (length-set old (place_of f) text ∙ size)
     (length-append front own ∙ ap (λ n. n + length own) at ∙ ap (λ n. column + n) wide)
     (shape ∙ ap (λ l. front ++ l) (append_assoc own more rest) ∙ sym (append_assoc front own (more ++ rest))) in

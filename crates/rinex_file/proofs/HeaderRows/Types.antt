@@ -8,7 +8,7 @@ use Rattle.std.proofs.lemmas.List.Concat.{get_or-flat_map}
 use Rattle.std.proofs.lemmas.List.{get_or-map}
 use Rattle.rinex_file.proofs.Entries.{flat_map-append}
 use Rattle.rinex_file.proofs.Digits.Numbers.{length-right, digits_in-whole}
-use Rattle.rinex_file.proofs.Names.{min, ◌-◌, length-take, length-drop, arith, rules, ◌≡◌, ◌∙◌, ap, refl, ℕ, zero, suc, ◌+◌, ◌<◌, ◌≤◌, ◌==◌, Bool, true, false, List, [], ◌∷◌, length, take, drop, Some, Option, nat_lt, sym, ◌*◌, ◌/◌, ◌%◌, ◌++◌, get_or, append_assoc, append-nil, ap₂, subst, ◌^◌, ◌||◌, replicate, decimal, nat_eq, IsAscii, IsUtf8, flat_map, slice_index, codes, list_any, IsDistinct, IsUtf8-from_ascii, cases_lt, length-map, take_more, get_or-drop, take_all, take_at, take-take, take-map, drop_at, drop-drop, drop-take, get_or-take, All-get_or, apart_from_distinct, IsDistinct-tail, length-decimal-le, System, SignalAt, IsSignal, table, code_of, signal_of_code, passes_at, is_less, is_equal, indices, IsOf, any_index, indices-push, type_of, types_of, codes_of, type_columns, header_line, type_front, joined, left, right, letter, digits_in, AreTypes, types_line, signals_begun, HasSignalAt, same_Some, list_all, All-weaker, most_signals}
+use Rattle.rinex_file.proofs.Names.{min, ◌-◌, length-take, length-drop, arith, rules, ◌≡◌, ◌∙◌, ap, refl, ℕ, zero, suc, ◌+◌, ◌<◌, ◌≤◌, ◌==◌, Bool, true, false, List, [], ◌∷◌, length, take, drop, Some, Option, nat_lt, sym, ◌*◌, ◌/◌, ◌%◌, ◌++◌, get_or, append_assoc, append-nil, ap₂, subst, ◌^◌, ◌||◌, replicate, decimal, nat_eq, IsAscii, IsUtf8, flat_map, slice_index, codes, list_any, IsDistinct, IsUtf8-from_ascii, cases_lt, length-map, take_more, get_or-drop, take_all, take_at, take-take, take-map, drop_at, drop-drop, drop-take, get_or-take, All-get_or, apart_from_distinct, IsDistinct-tail, length-decimal-le, System, SignalAt, IsSignal, table, code_of, signal_of_code, passes_at, is_less, is_equal, indices, IsOf, any_index, indices-push, type_of, types_of, codes_of, type_columns, header_line, type_front, joined, left, right, letter, digits_in, AreTypes, types_line, signals_begun, HasSignalAt, same_Some, list_all, All-weaker, most_signals, both_ways}
 
 abbrev signal : System → ℕ → SignalAt
 signal system index = record { system = system; index = index }
@@ -62,6 +62,9 @@ types_at cs q r d e h k =
 
 quarter : (i n : ℕ) → i < 4 * n → i / 4 < n
 quarter i n h = omega (arith, h)
+
+fourth : (k : ℕ) → 4 * k / 4 ≡ k
+fourth k = omega arith
 
 split : (i : ℕ) → i ≡ 4 * (i / 4) + i % 4
 split i = omega arith
@@ -216,9 +219,6 @@ code_in_line {system} {all} row q k are few within place less =
       none_left : (k : ℕ) → 4 * k % 4 ≡ 0
       none_left k = omega arith
 
-      fourth : (k : ℕ) → 4 * k / 4 ≡ k
-      fourth k = omega arith
-
 -- ---- the signals that are read from a line
 
 types_take : (m : ℕ) (cs : List (List ℕ)) → types_of (take m cs) ≡ take (4 * m) (types_of cs)
@@ -280,9 +280,6 @@ pub code_here : {system : System} {all line : List ℕ} {row place : ℕ} → Is
 code_here {row = row} {place} at =
     ap (λ l. take 2 (drop (column_of row place) l)) at.is ∙ code_in_line row (4 * place - 13 * row) place at.are at.few (in_row row place at.high) (same_place row place at.low) at.less
 
-not_both : (b : Bool) → b ≡ true → b ≡ false → ⊥
-not_both b h k = grind (arith, h, k)
-
 -- the signal that is read from its column
 pub read_here : {system : System} {all line : List ℕ} {row place : ℕ} {found : Option SignalAt} → IsInLine system all line row place
     → ((s : SignalAt) → HasSignalAt system line (column_of row place) s → found ≡ Some s) → found ≡ Some (signal_at system all place)
@@ -297,7 +294,7 @@ taken_more all place s old same less before = indices-push old s ∙ ap₂ (λ l
 
 pub taken_before : {system : System} {all : List ℕ} (place : ℕ) (s : SignalAt) (old : List SignalAt) → AreTypes system all → s.index ≡ slice_index all place → place < length all → list_any (λ (r : SignalAt). s.index == r.index) old ≡ true
     → indices old ≡ take place all → ⊥
-taken_before {all} place s old are same less twice before = not_both _ twice (any_index s.index old ∙ ap₂ (λ i l. list_any (nat_eq i) l) same before ∙ not_before all place are.apart less)
+taken_before {all} place s old are same less twice before = both_ways _ (any_index s.index old ∙ ap₂ (λ i l. list_any (nat_eq i) l) same before ∙ not_before all place are.apart less) twice
 
 -- ---- the whole line
 
@@ -330,9 +327,7 @@ pub count_read : (system : System) (all line : List ℕ) → AreTypes system all
 count_read system all line are bound is =
     let few = few_types system all are in
     let fits : 4 * length all < 2 ^ 64 = omega (arith, few, bound) in
-    ap (λ t. digits_in t / 4) (count_shown system all line are bound is) ∙ ap (λ (n : ℕ). n / 4) (digits_in-whole 3 (4 * length all) fits) ∙ fourth (length all) where
-      fourth : (k : ℕ) → 4 * k / 4 ≡ k
-      fourth k = omega arith
+    ap (λ t. digits_in t / 4) (count_shown system all line are bound is) ∙ ap (λ (n : ℕ). n / 4) (digits_in-whole 3 (4 * length all) fits) ∙ fourth (length all)
 
 shorter_still : {X : Type 0} (n : ℕ) (xs : List X) → length (take n xs) ≤ length xs
 shorter_still n xs = simp length-take (omega arith)

@@ -2,7 +2,7 @@
 use Rattle.rinex_file.proofs.FileLines.{lines_are_lines}
 use Rattle.rinex_file.proofs.Reading.Header.{begun_with}
 use Rattle.rinex_file.proofs.Reading.Lines.{consumed, none_ahead, splits}
-use Rattle.rinex_file.proofs.Names.{◌≡◌, ◌∙◌, sym, ap, refl, subst, ℕ, List, [], ◌∷◌, ◌++◌, Option, IfSome, AddedRow, NoRow, OneRow, LastRow, Expected, Header, Epoch, EventPosition, EventHeight, EventEpoch, Satellite, ParserState, Reading, Progress, History, HasRead, HasReadTo, IsTaken, stamped_at, IsSoundAt, IsAt, IsSound, HasLinesLeft, progress_at, with_line, SatelliteRow, Stamped, FileValue, IsFileValue, stamped, joined, file_text, file_lines, AreEpochsRead, AreFirstEpochs, Consumes, Consumes-trans, IsPrefix, false, has, prepend_known}
+use Rattle.rinex_file.proofs.Names.{◌≡◌, sym, ap, refl, subst, ℕ, List, [], ◌∷◌, ◌++◌, Option, IfSome, AddedRow, NoRow, OneRow, LastRow, Expected, Header, Epoch, EventPosition, EventHeight, EventEpoch, Satellite, ParserState, Reading, Progress, History, HasRead, HasReadTo, stamped_at, IsSoundAt, IsAt, IsSound, HasLinesLeft, progress_at, with_line, SatelliteRow, Stamped, FileValue, stamped, joined, file_lines, AreEpochsRead, AreFirstEpochs, Consumes, Consumes-trans, IsPrefix, false, has, prepend_known}
 
 -- a file that continues after what was read begins with the epochs that were read
 at_left : (s : Progress) (expected : Expected) (v : FileValue) (left : List (List ℕ)) → IsSoundAt s expected → IsAt s expected v left → IsPrefix s.epochs v.epochs

@@ -1,8 +1,9 @@
 -- The steps of a reading from one line of an epoch to the next.
-use Rattle.rinex_file.proofs.FewRows.{few_most, few_rows, few_planned}
+use Rattle.gnss_obs.proofs.PlanLemmas.{few_below}
+use Rattle.rinex_file.proofs.FewRows.{few_most, few_rows}
 use Rattle.rinex_file.proofs.Entries.{few_signals}
 use Rattle.std.proofs.Common.{le_trans}
-use Rattle.rinex_file.proofs.Names.{arith, ◌≡◌, refl, ℕ, ◌<◌, List, [], ◌∷◌, ◌++◌, length, length-append, suc, ◌+◌, ◌≤◌, sym, ap, ap₂, subst, ◌∙◌, append_assoc, append-nil, zero-add, drop, get_or, Option, Some, None, Expected, IsStrictlyIncreasing, All, map, flat_map, Result, Ok, Err, IsErrAnd, get_or_append_left, map-append, common_steps, All-head, All-tail, All-nil, All-push, flat_map-append, System, PlanValue, planned_of, civil_of, StationValues, Stamped, SatelliteRow, FileValue, time_stamped, IsFileValue, IsPlan, IsStamped, IsSatelliteRow, AreSatelliteRows, IsTime, IsChange, AreChanges, IsFirstSame, changed_by, values_following, rank_of, most_rows, planned_in, Epoch, Satellite, epoch_line, satellite_line, stamped_lines, change_lines, event_line, Progress, file_with, stamped, StartsAt, IsAt, IsAtEpoch, IsInEvent, IsInEpoch, HasLinesLeft, epoch_after, begun_at, with_row, with_epoch, AreRead, IsBegun, IsEventExpected, IsSoundAt, IsSound, MayBegin, values_now, AreLinesAt, lines_of_header, whole_lines, part_lines, AddedRow, Refusal, Memory, Bad, ParserState, History, FollowsHistory, GoesOnWithLine, ShowsLine, RefusesLine, TakesLine, progress_at, Known, NoRow, IsNext, most_signals}
+use Rattle.rinex_file.proofs.Names.{arith, ◌≡◌, refl, ℕ, ◌<◌, List, [], ◌∷◌, ◌++◌, length, length-append, suc, ◌+◌, ◌≤◌, sym, ap, ap₂, subst, ◌∙◌, append_assoc, append-nil, zero-add, drop, get_or, Option, Some, None, Expected, IsStrictlyIncreasing, All, map, flat_map, Result, Ok, Err, IsErrAnd, get_or_append_left, map-append, common_steps, All-head, All-tail, All-nil, All-push, flat_map-append, System, PlanValue, planned_of, civil_of, StationValues, Stamped, SatelliteRow, FileValue, time_stamped, IsFileValue, IsPlan, IsStamped, IsSatelliteRow, AreSatelliteRows, IsTime, IsChange, AreChanges, IsFirstSame, changed_by, values_following, rank_of, most_rows, planned_in, Epoch, Satellite, epoch_line, satellite_line, stamped_lines, change_lines, event_line, Progress, file_with, stamped, StartsAt, IsAt, IsAtEpoch, IsInEvent, IsInEpoch, HasLinesLeft, epoch_after, begun_at, with_row, with_epoch, AreRead, IsBegun, IsEventExpected, IsSoundAt, IsSound, MayBegin, values_now, AreLinesAt, lines_of_header, whole_lines, part_lines, AddedRow, Refusal, Memory, Bad, ParserState, History, FollowsHistory, GoesOnWithLine, ShowsLine, RefusesLine, TakesLine, progress_at, Known, NoRow, IsNext, most_signals, table}
 
 -- a line was refused: memory ran out, or no file continues with it
 pub stopped : {Q : Refusal → Type 0} (old new : ParserState) (line : List ℕ) (r : Result AddedRow Refusal) → IsErrAnd r Q → ((e : Refusal) → Q e → e ≡ Bad → (h : History) → FollowsHistory old h → RefusesLine (progress_at old h) line)
@@ -75,13 +76,6 @@ at_expected s d expected v left on = subst (λ d. IsAt s d v left) expected on.1
 -- an epoch after this change, at this time, with these satellites
 abbrev pub at_time : Option StationValues → ℕ → List SatelliteRow → Stamped
 at_time c t rows = record { change = c; time = t; rows = rows }
-
-same_epoch : (e : Stamped) (c : Option StationValues) (t : ℕ) → e.change ≡ c → e.time ≡ t → e ≡ at_time c t e.rows
-same_epoch e c t h k = ap₂ (λ (x : Option StationValues) (u : ℕ). at_time x u e.rows) h k
-
--- the same time and number
-abbrev SameLine : ℕ → ℕ → ℕ → ℕ → Type 0
-SameLine u m t n = ◌≡◌ {A = ℕ × ℕ} (u, m) (t, n)
 
 -- what follows if the first line of an epoch is next, after this change of station values
 pub record EpochNext (s : Progress) (c : Option StationValues) (v : FileValue) (line : List ℕ) (left : List (List ℕ)) : Type 0 where
@@ -178,9 +172,9 @@ module _ (s : Progress) (c : Option StationValues) {t n : ℕ} {line : List ℕ}
   -- the epoch that the line begins
   to_within : (v : FileValue) (left : List (List ℕ)) → EpochNext s c v line left → IsInEpoch (begun_at s c t n) n v left
   to_within v left next =
-      let same : SameLine next.e.time (length next.e.rows) t n = only (next.e.time, length next.e.rows) (may_begin s c v line left next) next.shown in
+      let same : ◌≡◌ {A = ℕ × ℕ} (next.e.time, length next.e.rows) (t, n) = only (next.e.time, length next.e.rows) (may_begin s c v line left next) next.shown in
       let time : next.e.time ≡ t = ap (λ w. w.0) same in
-      let epoch : next.e ≡ at_time c t (s.rows ++ next.e.rows) = same_epoch next.e c t next.change time ∙ ap (λ r. at_time c t (r ++ next.e.rows)) (sym none) in
+      let epoch : next.e ≡ at_time c t (s.rows ++ next.e.rows) = ap₂ (λ (x : Option StationValues) (u : ℕ). at_time x u next.e.rows) next.change time ∙ ap (λ r. at_time c t (r ++ next.e.rows)) (sym none) in
       record {
         more = next.e.rows;
         others = next.es;
@@ -346,7 +340,7 @@ pub sound_open : (s : Progress) (n : ℕ) → s.expected ≡ Satellite n → IsS
 sound_open s n expected sound = subst (λ d. IsSoundAt s d) expected sound
 
 pub few_signals_of : (p : PlanValue) → IsPlan p → (system : System) → length (planned_of system p) ≤ most_signals
-few_signals_of p is system = let few = few_planned p is system in let most = few_signals system in omega (arith, few, most)
+few_signals_of p is system = let few = few_below (length (table system)) (planned_of system p) (is.listed system) (is.apart system) in let most = few_signals system in omega (arith, few, most)
 
 pub few_at : (s : Progress) (n : ℕ) → s.expected ≡ Satellite n → IsSound s → ((t : System) → planned_in s.known.shown.plan t ≤ most_signals)
 few_at s n expected sound = few_signals_of s.known.shown.plan (sound_open s n expected sound).0.shown.plan

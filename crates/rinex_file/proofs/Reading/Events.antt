@@ -1,7 +1,8 @@
 -- The steps of a reading from one line of an event to the next.
+use Rattle.rinex_file.proofs.OneReading.{has-point}
 use Rattle.rinex_file.proofs.Digits.Numbers.{has-append}
 use Rattle.rinex_file.proofs.Reading.Epochs.{lines_with, lines_are, changes_midst, sound_between, at_expected, file_value, cons_parts}
-use Rattle.rinex_file.proofs.Names.{arith, lit<, ◌≡◌, ◌≢◌, ℕ, zero, suc, ◌<◌, ◌^◌, ◌-◌, ◌*◌, ◌/◌, ◌%◌, unsigned_abs, ℤ, pos, get_or, List, [], ◌∷◌, ◌++◌, refl, sym, ap, subst, ◌∙◌, length, drop, append_assoc, replicate, decimal, Option, Some, None, true, false, ⊤, ◌||◌, flat_map, is_negative, sign_text, civil_of, Civil, StationValues, Expected, Epoch, EventPosition, EventHeight, EventEpoch, Stamped, FileValue, IsFileValue, IsChange, position_line, height_line, epoch_fields, epoch_line, joined, padded, fixed, has, stamped_lines, event_line, whole_lines, GoesOnWithLine, ShowsLine, Progress, file_with, StartsAt, IsAt, IsAtEpoch, IsInEvent, IsPosition, position_of, HasLinesLeft, expected_next, IsSound, AreLinesAt, values_now, drop-cons}
+use Rattle.rinex_file.proofs.Names.{arith, lit<, ◌≡◌, ◌≢◌, ℕ, zero, suc, ◌<◌, ◌^◌, ◌-◌, ◌*◌, pos, get_or, List, [], ◌∷◌, ◌++◌, refl, sym, ap, subst, ◌∙◌, length, drop, append_assoc, replicate, Option, Some, None, true, false, ⊤, ◌||◌, flat_map, civil_of, Civil, StationValues, Expected, Epoch, EventPosition, EventHeight, EventEpoch, Stamped, FileValue, IsFileValue, IsChange, position_line, height_line, epoch_fields, epoch_line, joined, fixed, has, stamped_lines, event_line, whole_lines, GoesOnWithLine, ShowsLine, Progress, file_with, StartsAt, IsAt, IsAtEpoch, IsInEvent, IsPosition, position_of, HasLinesLeft, expected_next, IsSound, AreLinesAt, values_now, drop-cons}
 
 -- ---- an event's line isn't that of an epoch, which has a point
 
@@ -16,14 +17,11 @@ has_field [] k less h = absurd (omega (arith, less))
 has_field (f ∷ fs) zero less h = has_front f (joined fs) h
 has_field (f ∷ fs) (suc k) less h = has_after f (joined fs) (has_field fs k (omega (arith, less)) h)
 
-fixed_point : (z : ℤ) → has 46 (fixed 7 z) ≡ true
-fixed_point z = has_after (sign_text (is_negative z) ++ decimal (unsigned_abs z / 10 ^ 7)) (46 ∷ padded 7 (unsigned_abs z % 10 ^ 7)) refl
-
 has_point : (t : Civil) (n : ℕ) → has 46 (epoch_line t n) ≡ true
 unfolding epoch_line
 has_point t n =
     let second = fixed 7 (pos (t.millisecond * 10_000)) in
-    has_field (epoch_fields t n) 10 (lit< tt) (has_after (replicate (11 - length second) 32) second (fixed_point (pos (t.millisecond * 10_000))))
+    has_field (epoch_fields t n) 10 (lit< tt) (has_after (replicate (11 - length second) 32) second (has-point 7 (pos (t.millisecond * 10_000))))
 
 no_point : has 46 event_line ≡ false
 unfolding event_line
@@ -136,12 +134,6 @@ position_shows s p line expected shown taken are =
 abbrev pub with_height : StationValues → ℕ → StationValues
 with_height p h = record p { height = h }
 
-abbrev SameValues : StationValues → StationValues → Type 0
-SameValues v w = v ≡ w
-
-same_with : (w p : StationValues) (h : ℕ) → position_of w ≡ p → w.height ≡ h → SameValues w (with_height p h)
-same_with w p h a b = ap (λ q. with_height q w.height) a ∙ ap (with_height p) b
-
 abbrev HeightNext : Progress → Expected → StationValues → FileValue → List ℕ → List (List ℕ) → Type 0
 HeightNext s d p v line left = EventNext s d 2 (λ w. position_of w ≡ p) v line left
 
@@ -156,8 +148,8 @@ module _ (s : Progress) (p : StationValues) (line : List ℕ) (expected : s.expe
       none next.event.values.height next.change.0.height next.shown
 
   module _ (h : ℕ) (only : (k : ℕ) → k < 2 ^ 16 → line ≡ height_line k → k ≡ h) where
-    same_next : (d : Expected) (v : FileValue) (left : List (List ℕ)) (next : HeightNext s d p v line left) → SameValues next.event.values (with_height p h)
-    same_next d v left next = same_with next.event.values p h next.event.shown (only next.event.values.height next.change.0.height next.shown)
+    same_next : (d : Expected) (v : FileValue) (left : List (List ℕ)) (next : HeightNext s d p v line left) → next.event.values ≡ with_height p h
+    same_next d v left next = ap (λ q. with_height q next.event.values.height) next.event.shown ∙ ap (with_height p) (only next.event.values.height next.change.0.height next.shown)
 
     -- the station values are those before
     pub same_height : with_height p h ≡ values_now s → (v : FileValue) (left : List (List ℕ)) → HasLinesLeft s v (line ∷ left) → ⊥

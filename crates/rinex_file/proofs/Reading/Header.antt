@@ -166,7 +166,7 @@ sound_header s place expected sound = subst (λ d. IsSoundAt s d) expected sound
 has_nothing : (k : Known) (h : Shown) → IsHeadAt k 0 → Has k 0 h
 has_nothing k h at = record { rows = λ i l. absurd (omega (arith, l)); types = λ s. unread s (types_before s 0) (counted k s) (planned_of s k.shown.plan) (planned_of s h.plan) (none_before s) (at.sized s) } where
   unread : (s : System) (rows count : ℕ) (signals all : List ℕ) → rows ≡ 0 → AreSized s rows count signals → AreTypesOf rows count signals all
-  unread s zero count signals all e sized = let size = sized.size in record { number = sized.none refl; begun = nil_from_length signals (omega (arith, size)) }
+  unread s zero count signals all e sized = let size = sized.size in record { number = λ l. absurd (omega (arith, l)); begun = nil_from_length signals (omega (arith, size)) }
   unread s (suc rows) count signals all e sized = absurd (omega (arith, e))
 
 pub header_starts : (s : Progress) → s.expected ≡ Header 0 → IsHeadAt s.known 0 → (v : FileValue) → IsFileValue v → HasLinesLeft s v (file_lines v)
@@ -239,17 +239,14 @@ file_shown s taken expected sound some are =
 no_epochs : (es : List Stamped) (n : ℕ) → n ≡ length es → (0 < n → ⊥) → es ≡ []
 no_epochs es n size never = nil_from_length es (omega (arith, size, never))
 
-unfinished_at : (c : ParserState) (h : History) (expected : Expected) → c.expected ≡ expected → FollowsHistory c h → ((expected ≡ Epoch) × (0 < c.counts.epochs) → ⊥) → (v : FileValue) → HasLinesLeft (progress_at c h) v [] → ⊥
-unfinished_at c h (Header place) same history never v on = header_unfinished (progress_at c h) place same history.sound v on
-unfinished_at c h Epoch same history never v on = no_file (progress_at c h) same (no_epochs h.epochs c.counts.epochs history.counted.epochs (λ some. never (refl, some))) v on
-unfinished_at c h EventPosition same history never v on = event_unfinished (progress_at c h) 1 (λ w. ⊤) (lit< tt) v (at_expected (progress_at c h) EventPosition same v [] on)
-unfinished_at c h (EventHeight p) same history never v on = event_unfinished (progress_at c h) 2 (λ w. position_of w ≡ p) (lit< tt) v (at_expected (progress_at c h) (EventHeight p) same v [] on)
-unfinished_at c h (EventEpoch w) same history never v on = event_unfinished (progress_at c h) 3 (λ x. x ≡ w) (lit< tt) v (at_expected (progress_at c h) (EventEpoch w) same v [] on)
-unfinished_at c h (Satellite n) same history never v on = epoch_unfinished (progress_at c h) n same history.sound v on
-
 -- lines are missing
-pub unfinished : (c : ParserState) (h : History) → FollowsHistory c h → ((c.expected ≡ Epoch) × (0 < c.counts.epochs) → ⊥) → (v : FileValue) → HasLinesLeft (progress_at c h) v [] → ⊥
-unfinished c h history never v on = unfinished_at c h c.expected refl history never v on
+pub unfinished : (c : ParserState) (h : History) (expected : Expected) → c.expected ≡ expected → FollowsHistory c h → ((expected ≡ Epoch) × (0 < c.counts.epochs) → ⊥) → (v : FileValue) → HasLinesLeft (progress_at c h) v [] → ⊥
+unfinished c h (Header place) same history never v on = header_unfinished (progress_at c h) place same history.sound v on
+unfinished c h Epoch same history never v on = no_file (progress_at c h) same (no_epochs h.epochs c.counts.epochs history.counted.epochs (λ some. never (refl, some))) v on
+unfinished c h EventPosition same history never v on = event_unfinished (progress_at c h) 1 (λ w. ⊤) (lit< tt) v (at_expected (progress_at c h) EventPosition same v [] on)
+unfinished c h (EventHeight p) same history never v on = event_unfinished (progress_at c h) 2 (λ w. position_of w ≡ p) (lit< tt) v (at_expected (progress_at c h) (EventHeight p) same v [] on)
+unfinished c h (EventEpoch w) same history never v on = event_unfinished (progress_at c h) 3 (λ x. x ≡ w) (lit< tt) v (at_expected (progress_at c h) (EventEpoch w) same v [] on)
+unfinished c h (Satellite n) same history never v on = epoch_unfinished (progress_at c h) n same history.sound v on
 
 -- no satellite was read if an epoch is expected
 pub sound_rows : (s : Progress) → s.expected ≡ Epoch → IsSound s → s.rows ≡ []

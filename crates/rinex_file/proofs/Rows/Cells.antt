@@ -1,7 +1,6 @@
 -- A satellite's cells, each stored at its signal's index in the plan.
 use Rattle.rinex_file.proofs.Rows.Sizes.{if_fits, length-room}
-use Rattle.rinex_file.proofs.Digits.Padded.{two_digits}
-use Rattle.rinex_file.proofs.Names.{arith, ◌≡◌, ◌∙◌, sym, ap, ap₂, refl, ℕ, zero, suc, ◌+◌, ◌*◌, ◌<◌, ◌≤◌, List, [], ◌∷◌, ◌++◌, map, take, drop, length, replicate, get_or, append_assoc, length-append, false, ◌==◌, Some, None, slice_set, ◌&&◌, ◌≢◌, nat_eq, find, flat_map, position, All, if◌then◌else◌, option_map_or, IsDistinct, position_or_len, take_at, drop_at, length-take-le, replicate-append-replicate, cond_both, and_from, and_right, eq-eqb, ne_eqb, eqb-true, eqb-false, position-Some, All-from_recursion, All-head, All-tail, fails_before_first, System, Cell, IsHeld, SignalValues, signal_values_of, no_signal_values, signal_values_at, is_of_key, HaveRoom, field, signal_text, padded, take-append-add, drop-append-add}
+use Rattle.rinex_file.proofs.Names.{arith, ◌≡◌, ◌∙◌, sym, ap, ap₂, refl, ℕ, zero, suc, ◌+◌, ◌*◌, ◌<◌, ◌≤◌, List, [], ◌∷◌, ◌++◌, map, take, drop, length, replicate, get_or, append_assoc, length-append, false, ◌==◌, Some, None, slice_set, ◌&&◌, ◌≢◌, nat_eq, find, flat_map, position, All, if◌then◌else◌, option_map_or, IsDistinct, position_or_len, take_at, drop_at, length-take-le, replicate-append-replicate, cond_both, and_from, and_right, eq-eqb, ne_eqb, eqb-true, eqb-false, position-Some, All-from_recursion, All-head, All-tail, fails_before_first, System, Cell, IsHeld, SignalValues, signal_values_of, no_signal_values, signal_values_at, is_of_key, HaveRoom, field, signal_text, take-append-add, drop-append-add}
 
 -- ---- what a cell before others changes
 
@@ -109,6 +108,3 @@ three_dropped [] a b c = refl
 three_dropped (x ∷ []) a b c = refl
 three_dropped (x ∷ y ∷ []) a b c = refl
 three_dropped (x ∷ y ∷ z ∷ row) a b c = refl
-
-pub front_length : (letter id : ℕ) → id < 100 → length (letter ∷ padded 2 id) ≡ 3
-front_length letter id h = ap (λ t. suc (length t)) (two_digits id h)

@@ -144,6 +144,11 @@ value_blanked {left} {own} {p} {all} {row} {new} is apart columns h = record {
     still true x = let few : q < most_signals = grind (arith, x) in subst (λ n. n ≤ bit_at own q) (bit_at_clear_other w64 left p (omega (arith, low)) q (omega (arith, few)) (apart_at p q at)) covers
     still false x = let from : most_signals ≤ q = grind (arith, x) in omega (arith, none_above left q h.few from)
 
+-- the same columns have these values, but for the signals in `used` and not in `own`
+recast : {used own used' own' : ℕ} {all all' : List SignalValues} {row : List ℕ} (h : HasColumns used own all row) → used' < 2 ^ most_signals → length all' ≤ most_signals
+    → ((p : ℕ) → bit_at used' p ≤ bit_at own' p → values_at h.shown p ≡ values_at all' p) → ((p : ℕ) → bit_at own' p ≡ 0 → values_at all' p ≡ no_signal_values) → HasColumns used' own' all' row
+recast h few short same only = record { shown = h.shown; size = h.size; room = h.room; columns = h.columns; few = few; short = short; same = same; only = only }
+
 -- ---- from the cells that are written to the columns that are left
 
 over : (used own q : ℕ) → own < 2 ^ most_signals → q < most_signals → bit_at (bit_and used (bit_not w64 own)) q + bit_at own q ≡ max (bit_at used q) (bit_at own q)
@@ -153,16 +158,7 @@ over used own q few low =
     omega (arith, both, not, bit_at-lt used q, bit_at-lt own q)
 
 pub left_over : {used own : ℕ} {all : List SignalValues} {row : List ℕ} → own < 2 ^ most_signals → HasColumns used own all row → HasColumns (bit_and used (bit_not w64 own)) own all row
-left_over {used} {own} {all} {row} few h = record {
-  shown = h.shown;
-  size = h.size;
-  room = h.room;
-  columns = h.columns;
-  few = omega (arith, h.few, and_le_l used (bit_not w64 own));
-  short = h.short;
-  same = λ q covers. h.same q (by q (nat_lt q most_signals) refl covers);
-  only = h.only;
-} where
+left_over {used} {own} {all} {row} few h = recast h (omega (arith, h.few, and_le_l used (bit_not w64 own))) h.short (λ q covers. h.same q (by q (nat_lt q most_signals) refl covers)) h.only where
   by : (q : ℕ) (b : Bool) → nat_lt q most_signals ≡ b → bit_at (bit_and used (bit_not w64 own)) q ≤ bit_at own q → bit_at used q ≤ bit_at own q
   by q true x covers = let low : q < most_signals = grind (arith, x) in omega (arith, over used own q few low, bit_at-lt used q, bit_at-lt own q, covers)
   by q false x covers = let from : most_signals ≤ q = grind (arith, x) in omega (arith, none_above used q h.few from)
@@ -231,29 +227,11 @@ module _ {own m : ℕ} {all : List SignalValues} {row : List ℕ} (h : HasColumn
 
   -- the row before the next line
   pub next_blank : own < 2 ^ most_signals → IsBlankBut own row
-  next_blank fits = record {
-    shown = h.shown;
-    size = h.size;
-    room = h.room;
-    columns = h.columns;
-    few = fits;
-    short = omega arith;
-    same = λ p covers. h.same p (omega arith) ∙ h.only p (omega (arith, covers));
-    only = λ p out. refl;
-  }
+  next_blank fits = recast h fits (omega arith) (λ p covers. h.same p (omega arith) ∙ h.only p (omega (arith, covers))) (λ p out. refl)
 
 -- before any cell
 pub no_cells : {used : ℕ} {row : List ℕ} (cells : List Cell) (id : ℕ) (signals : List ℕ) → length signals ≤ most_signals → IsBlankBut used row → HasColumns used 0 (map (signal_values_at (drop (length cells) cells) id) signals) row
-no_cells {used} {row} cells id signals short h = record {
-  shown = h.shown;
-  size = h.size;
-  room = h.room;
-  columns = h.columns;
-  few = h.few;
-  short = omega (arith, short, length-map signals (signal_values_at (drop (length cells) cells) id));
-  same = λ p covers. h.same p covers ∙ sym (none p);
-  only = λ p out. none p;
-} where
+no_cells {used} {row} cells id signals short h = recast h h.few (omega (arith, short, length-map signals (signal_values_at (drop (length cells) cells) id))) (λ p covers. h.same p covers ∙ sym (none p)) (λ p out. none p) where
   none : (p : ℕ) → values_at (map (signal_values_at (drop (length cells) cells) id) signals) p ≡ no_signal_values
   none p = rw (drop_all (length cells) cells (omega arith), none_put id signals) (none_at (length signals) p)
 

@@ -102,9 +102,7 @@ entries_read n text values true size each is shows = (
 )
 entries_read n text values false size each is shows = λ es are e.
     let same = signals_once es values are.each each (are.whole ∙ sym size) (sym e ∙ shows) in
-    no_value (is ∙ ap (list_any has_some_value) (sym same) ∙ list_any-from_Any has_some_value es are.some) where
-      no_value : false ≡ true → ⊥
-      no_value e = cc
+    let never : false ≡ true = is ∙ ap (list_any has_some_value) (sym same) ∙ list_any-from_Any has_some_value es are.some in cc
 
 -- all signals were read
 pub all_read : {n i : ℕ} (text : List ℕ) (values : List SignalValues) {some : Bool} → length values ≡ n → n ≤ i → length text ≤ 64 * n → All AreSignalValues (take i values)

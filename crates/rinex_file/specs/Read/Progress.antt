@@ -1,5 +1,5 @@
 -- What is known of a file while it is read line by line, and which files are still possible.
-use Rattle.std.specs.Prelude.{◌≡◌, ℕ, zero, suc, ◌+◌, ◌-◌, ◌*◌, ◌/◌, ◌<◌, ◌≤◌, ◌==◌, ◌||◌, ◌&&◌, true, min, Bool, nat_lt}
+use Rattle.std.specs.Prelude.{◌≡◌, ℕ, suc, ◌+◌, ◌-◌, ◌*◌, ◌/◌, ◌<◌, ◌≤◌, ◌==◌, ◌||◌, ◌&&◌, true, min, Bool, nat_lt}
 use Rattle.std.specs.Prelude.{List, [], ◌∷◌, ◌++◌, length, take, drop, map, All, nat_eq}
 use Rattle.std.specs.Prelude.{flat_map, Option, Some, None, ⊤}
 use Rattle.gnss_system.specs.declared.system.System.{System}
@@ -105,14 +105,10 @@ pub record AreValid (k : Known) : Type 0 where
 abbrev pub types_before : System → ℕ → ℕ
 types_before s place = min most_type_rows (place - first_types s)
 
--- the number of a system's signals is known by its first line of types
-abbrev pub AreCounted : ℕ → ℕ → List ℕ → Type 0
-AreCounted zero count all = count ≡ 0
-AreCounted (suc rows) count all = count ≡ length all
-
--- of the types of these signals of a system, this number of lines was read, present or not
+-- of the types of these signals of a system, this number of lines was read, present or not; the first of them has the
+-- number of the signals
 pub record AreTypesOf (rows count : ℕ) (signals all : List ℕ) : Type 0 where
-  pub number : AreCounted rows count all
+  pub number : 0 < rows → count ≡ length all
   pub begun : signals ≡ take (signals_begun rows) all
 
 -- these texts are the same in these fields

@@ -4,7 +4,7 @@ ghost use Rattle.arrayvec.specs.ArrayVec.{array_vec_len};
 ghost use Rattle.gnss_obs.specs.Channels.{most_number, slot_count};
 ghost use Rattle.rinex_file.specs.Header.{slots_with};
 ghost use Rattle.rinex_file.specs.Limits.{most_line};
-ghost use Rattle.rinex_file.specs.Slots.{SlotNumber, slot_text, slot_rows, slots_front, slots_in_line, slots_of};
+ghost use Rattle.rinex_file.specs.Slots.{slot_text, slot_rows, slots_front, slots_in_line, slots_of};
 
 use crate::header::lines::labelled;
 use crate::write::line::{Line, put, put_whole};

@@ -1,8 +1,7 @@
 //! The lines of a reader, of which blocks are read ahead.
-ghost use Rattle.std.specs.Prelude.{◌≡◌, ◌==◌, ◌<◌, ◌≤◌, [], ◌∷◌, take, drop, length, false, IfNone, IfSome, Some};
+ghost use Rattle.std.specs.Prelude.{◌≡◌, ◌==◌, ◌<◌, ◌≤◌, [], take, drop, length, IfNone, IfSome, Some};
 ghost use Rattle.std.specs.Io.KnownBytes.{Consumes, prepend_known};
 ghost use Rattle.arrayvec.specs.ArrayVec.{array_vec_len};
-ghost use Rattle.rinex_file.specs.Read.Fields.{has};
 ghost use Rattle.rinex_file.specs.Blocks.{MovesBytes, LeavesRest};
 ghost use Rattle.rinex_file.specs.Exact.{IsFound, IsLine};
 ghost use Rattle.rinex_file.specs.Limits.{most_line};

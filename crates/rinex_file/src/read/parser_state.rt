@@ -1,6 +1,6 @@
 //! The state of the parser of a file: what the next line has to fit, and counts. It doesn't grow
 //! with the file.
-ghost use Rattle.std.specs.Prelude.{◌≡◌, ◌<◌, ◌≤◌, ◌^◌, ◌↔◌, [], None, true, IsTrue};
+ghost use Rattle.std.specs.Prelude.{◌≡◌, ◌<◌, ◌^◌, ◌↔◌, [], None, IsTrue};
 ghost use Rattle.gnss_system.specs.declared.system.System.{System};
 ghost use Rattle.gnss_system.specs.SystemValues.{value_of};
 ghost use Rattle.rinex_file.specs.Value.{FileValue};

@@ -9,7 +9,7 @@ ghost use Rattle.rinex_file.specs.FileValues.{FitsColumns, HaveRoom};
 ghost use Rattle.rinex_file.specs.Value.{entries_of, signal_values_of, satellite_row, row_among, row_in_epoch};
 ghost use Rattle.rinex_file.specs.Numbers.{padded};
 ghost use Rattle.rinex_file.specs.Blanks.{trimmed};
-ghost use Rattle.rinex_file.specs.Lines.{field, lli_byte, strength_byte, signal_text, satellite_line};
+ghost use Rattle.rinex_file.specs.Lines.{field, strength_byte, signal_text, satellite_line};
 ghost use Rattle.rinex_file.specs.Rows.{AreApart, IsBlankBut, HasColumns};
 ghost use Rattle.rinex_file.specs.Limits.{most_line, signal_columns, value_columns};
 

@@ -1,5 +1,6 @@
+use Rattle.rinex_file.proofs.HeaderRows.Letters.{one_letter}
 use Rattle.rinex_file.proofs.Rows.Sizes.{front_line}
-use Rattle.rinex_file.proofs.Names.{arith, ◌≡◌, ◌∙◌, sym, ap, subst, ℕ, ◌<◌, List, Option, Some, None, slice_get, option_copied, System, Row, SatelliteRow, IsSatelliteRow, IsRow, satellites, satellite_line, letter, ReadsExactly, some_if, IsRowOf}
+use Rattle.rinex_file.proofs.Names.{arith, ◌≡◌, ◌∙◌, sym, ap, subst, ℕ, ◌<◌, List, Option, Some, None, slice_get, option_copied, System, Row, SatelliteRow, IsSatelliteRow, IsRow, satellites, satellite_line, letter, ReadsExactly, some_if, IsRowOf, same_Some}
 use Rattle.gnss_system.specs.Satellites.{system_of_letter}
 use Rattle.gnss_system.specs.SystemValues.{value_of}
 use Rattle.gnss_system.proofs.SystemLaws.{letter_back, letter_found}
@@ -18,12 +19,6 @@ is_seen signals system s (same, is) = record {
 is_of : (signals : System → ℕ) (system : System) (s : SatelliteRow) → s.system ≡ system → IsSatelliteRow signals s → IsRowOf system (signals system) s
 is_of signals system s same is = (same, subst (λ (r : System). IsRow (satellites r) (signals r) s.row) same is.row)
 
-inside : {A : Type 0} (a b : A) → Some a ≡ Some b → a ≡ b
-inside a b e = cc
-
-one_letter : (s t : System) → letter s ≡ letter t → s ≡ t
-one_letter s t e = inside s t (sym (letter_back s) ∙ ap system_of_letter e ∙ letter_back t)
-
 -- the first byte of a line
 first_is : (line : List ℕ) (v : SatelliteRow) → line ≡ satellite_line v → slice_get line 0 ≡ Some (letter v.system)
 first_is line v e = ap (λ l. slice_get l 0) (e ∙ front_line v)
@@ -32,14 +27,14 @@ first_is line v e = ap (λ l. slice_get l 0) (e ∙ front_line v)
 of_all : (signals : System → ℕ) (system : System) (line : List ℕ) (r : Option SatelliteRow) → slice_get line 0 ≡ Some (letter system)
     → ReadsExactly (IsRowOf system (signals system)) satellite_line line r → ReadsExactly (IsSatelliteRow signals) satellite_line line r
 of_all signals system line None letter read =
-    λ v is e. read v (is_of signals system v (one_letter v.system system (inside _ _ (sym (first_is line v e) ∙ letter))) is) e
+    λ v is e. read v (is_of signals system v (one_letter v.system system (same_Some _ _ (sym (first_is line v e) ∙ letter))) is) e
 of_all signals system line (Some s) letter (is, text, only) =
-    (is_seen signals system s is, text, λ v also e. only v (is_of signals system v (one_letter v.system system (inside _ _ (sym (first_is line v e) ∙ letter))) also) e)
+    (is_seen signals system s is, text, λ v also e. only v (is_of signals system v (one_letter v.system system (same_Some _ _ (sym (first_is line v e) ∙ letter))) also) e)
 
 -- a line with another first byte is that of no satellite
 no_letter : (line : List ℕ) (b : ℕ) (v : SatelliteRow) → Some b ≡ slice_get line 0 → system_of_letter b ≡ None → line ≡ satellite_line v → ⊥
 no_letter line b v at none e =
-    let is : b ≡ letter v.system = inside _ _ (at ∙ first_is line v e) in
+    let is : b ≡ letter v.system = same_Some _ _ (at ∙ first_is line v e) in
     let clash : None ≡ Some v.system = sym none ∙ ap system_of_letter is ∙ letter_back v.system in
     cc
 

@@ -1,7 +1,7 @@
 use Rattle.rinex_file.proofs.Entries.{few_signals}
 use Rattle.rinex_file.proofs.Judged.{at_some}
 use Rattle.rinex_file.proofs.HeaderRows.Types.{IsInLine, still_grows, read_here, index_read, taken_more, taken_before}
-use Rattle.rinex_file.proofs.Names.{arith, ◌≡◌, ◌∙◌, sym, ap, refl, subst, none-some, ℕ, List, [], ◌∷◌, ◌++◌, length-append, length, take, min, ◌+◌, ◌<◌, ◌≤◌, Ok, take_at, take_min, common_steps, System, SignalAt, IsSignal, AreTypes, types_line, signals_begun, table, indices, IsAdded, IsOf}
+use Rattle.rinex_file.proofs.Names.{arith, ◌≡◌, ◌∙◌, sym, ap, refl, subst, none-some, ℕ, List, [], ◌∷◌, length, take, min, ◌+◌, ◌<◌, ◌≤◌, Ok, take_at, take_min, common_steps, System, SignalAt, IsSignal, AreTypes, types_line, signals_begun, table, indices, IsAdded, IsOf, length_push}
 use Rattle.rinex_file.proofs.read.types.take_signals.Goals as goal
 
 -- the index of the signal is below that of the first one of the next line, and there are that many
@@ -22,12 +22,6 @@ returns-in-Ok-false-clause-bad c = λ refused all are begun is.
     taken_before c.loop-place.place c.in-Some.signal c.loop-place.signals are (index_read (read_here here c.signal_in.ensures.read) c.in-Some.is) here.less
     (c.add.ensures.old (c.in-Ok-false.is ∙ ap Ok c.in-Ok-false.field-0-test)).1 (c.loop-place.invariant.read all are begun is)
 
-one_more : (old : List SignalAt) (s : SignalAt) (new : List SignalAt) → new ≡ old ++ s ∷ [] → length new ≡ length old + 1
-one_more old s new e = ap length e ∙ length-append old (s ∷ [])
-
-one_grows : (old : List SignalAt) (s : SignalAt) (new : List SignalAt) → new ≡ old ++ s ∷ [] → take (length old) new ≡ old
-one_grows old s new e = ap (take (length old)) e ∙ take_at old (s ∷ []) (length old) refl
-
 pub loop-place-preserved : goal.loop-place-preserved
 loop-place-preserved c =
     let inv = c.loop-place.invariant in
@@ -35,8 +29,8 @@ loop-place-preserved c =
     let added : IsAdded c.loop-place.signals s c.add.new.self = c.add.ensures.new (c.in-Ok-true.is ∙ ap Ok c.in-Ok-true.field-0-test) in
     record {
       of = subst (λ (t : System). IsOf t c.add.new.self) (at_some _ s (λ (t : SignalAt). (t.system ≡ c.args.system) × IsSignal t) c.in-Some.is c.signal_in.ensures.system).0 added.2;
-      grows = still_grows c.args.signals.now c.loop-place.signals c.add.new.self inv.grows (one_grows _ s _ added.0);
-      size = one_more _ s _ added.0 ∙ ap (λ n. n + 1) inv.size;
+      grows = still_grows c.args.signals.now c.loop-place.signals c.add.new.self inv.grows (ap (take (length c.loop-place.signals)) added.0 ∙ take_at c.loop-place.signals (s ∷ []) (length c.loop-place.signals) refl);
+      size = ap length added.0 ∙ length_push c.loop-place.signals s ∙ ap (λ n. n + 1) inv.size;
       from = omega (arith, inv.from);
       to = omega arith;
       read = λ all are begun is.

@@ -36,7 +36,7 @@ returns-in-End-2-clause-goes g c = λ h input read.
     let parser_state = c.args.self.now.parser_state in
     let end = c.in-End.ensures in
     cut lines_are_lines _ {bytes = c.next.new.self.line} read.taken (begun _ _ _ _ read.taken read.history.sound) end.found.0 end.found.3 end.found.1 end.taken.0
-    (λ none. unfinished parser_state h read.history (judged c.may_end.result _ c.may_end.ensures c.if-may_end.false))
+    (λ none. unfinished parser_state h parser_state.expected refl read.history (judged c.may_end.result _ c.may_end.ensures c.if-may_end.false))
 
 pub returns-in-End-2-2-clause-goes : goal.returns-in-End-2-2-clause-goes
 returns-in-End-2-2-clause-goes g c = λ h input read.
