@@ -72,8 +72,7 @@ place_one x y k l e = by (nat_lt (index_of x.satellite.system) (index_of y.satel
       let u : j < length (table s) = subst (λ (r : System). j < length (table r)) (sym same) n in
       let v : base_of s + (length (table s) * (a - 1) + i) ≡ base_of s + (length (table s) * (b - 1) + j) = subst (λ (r : System). base_of s + (length (table s) * (a - 1) + i) ≡ base_of r + (length (table r) * (b - 1) + j)) (sym same) e in
       let both = row_one (length (table s)) (a - 1) (b - 1) i j m u (omega (arith, v)) in
-      let f = both.0 in
-      (omega (arith, f, p, q), both.1)
+      (omega (arith, both.0, p, q), both.1)
 
   all : (s t : System) (a b i j : ℕ) → s ≡ t → (a ≡ b) × (i ≡ j) → (is_system s t && (a == b) && (i == j)) ≡ true
   all s t a b i j same both = let f = system_self s t same in let g = both.0 in let h = both.1 in grind (arith, common_steps, f, g, h)

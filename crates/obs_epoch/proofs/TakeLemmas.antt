@@ -139,15 +139,13 @@ pub record Taken (g : GathererValue) (s : GatherSetup) (ms : List Heard) (m : He
 pub taken : (g : GathererValue) (s : GatherSetup) (ms : List Heard) (m : Heard) (shut : Bool) → HasTakenMessages g s ms shut → closes_first s (timed s ms) m ≡ shut → Taken g s ms m shut
 taken g s ms m shut h early =
     let xs = timed s ms in
-    let o = closed_time g.clock m in
     let was = clock_is g.clock s ms shut h.clock in
     let kind : (n : CellCounts) → kind_by g.clock n m ≡ kind_after s xs n m = λ n. ap (λ c. kind_by c n m) was ∙ (takes s xs n m shut early).0 in
     let r = reached g s ms m shut h early in
-    let l = loaded_if (is_accepted (kind_by g.clock no_counts m)) g.clock.latest (with_time g m) m in
     record {
       kind = kind;
       counts = r.counts;
-      after = assemble o r.mid (time_taken m h early) (times_taken g s ms m shut h early);
+      after = assemble (closed_time g.clock m) r.mid (time_taken m h early) (times_taken g s ms m shut h early);
     }
 
 -- An epoch that a message closes that isn't accepted was pending.

@@ -1,11 +1,9 @@
 -- The value of a gatherer: with one more cell, after a message, and when its epoch is closed.
 use Rattle.std.proofs.Common.{◌≡◌, ℕ, ◌+◌, Bool, true, false, List, [], ◌∷◌, ◌++◌, refl, sym, ap, ap₂, ◌∙◌, subst, arith, length, Option, is_some, if◌then◌else◌, All}
 use Rattle.std.proofs.lemmas.List.Elements.{All-nil, All-push}
-use Rattle.obs_epoch.specs.Names.{System, Cell, EpochValue, PlanValue, planned_of, cells_of, CellLists, Closed, KeepsEpoch, KnownLock, place_in, is_planned, has_same_key, GatherSetup, Heard, IsKey, HeardCell, kept_cell, heard_cell, insert_by, cell_sort_key, Skipped, lookup, outcome_of_added, values_after_message, StationValues, is_held, GathererValue, with_more_in, with_more, outcome_in, hold, hold_by, noted, begun_by, with_time, HasPlannedCells, IsPlanned, empty_epoch, epoch_in, open_by, is_same, no_cells, option_map_or, time_in, Added, IsAdded, cells_after, epoch_with, outcome_by, sorted_cells, sorted_epoch, State, step_by, lli_with}
-use Rattle.gnss_system.specs.Systems.{systems}
+use Rattle.obs_epoch.specs.Names.{System, Cell, EpochValue, PlanValue, planned_of, cells_of, CellLists, Closed, KeepsEpoch, KnownLock, place_in, is_planned, has_same_key, GatherSetup, Heard, IsKey, HeardCell, kept_cell, heard_cell, insert_by, cell_sort_key, Skipped, lookup, outcome_of_added, values_after_message, StationValues, is_held, GathererValue, with_more_in, with_more, outcome_in, hold, hold_by, begun_by, with_time, HasPlannedCells, IsPlanned, empty_epoch, epoch_in, open_by, is_same, no_cells, option_map_or, time_in, Added, IsAdded, cells_after, epoch_with, outcome_by, sorted_cells, sorted_epoch, State, lli_with}
 use Rattle.gnss_system.specs.SystemValues.{value_of, with_value_of, tabulate}
 use Rattle.gnss_system.proofs.SystemLaws.{each_after, value_tabulated, tabulated_after, with_same as same_after}
-use Rattle.obs_epoch.specs.Held.{note_systems}
 use Rattle.obs_epoch.specs.GathererSteps.{cleared_if}
 use mathlib.Core.Bool.{beq, not}
 use Rattle.obs_epoch.proofs.ClockLemmas.{same_state}

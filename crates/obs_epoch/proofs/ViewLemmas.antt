@@ -2,7 +2,7 @@
 use Rattle.std.proofs.Common.{arith, ◌≡◌, ◌∙◌, refl, Bool, true, ℕ}
 use Rattle.gnss_obs.specs.Channels.{ChannelsValue}
 use Rattle.obs_epoch.proofs.EntryLemmas.{load_entries_is}
-use Rattle.obs_epoch.specs.Names.{Message, Form, FormedMsm, formed, message_in, lock_field, summary, MsmValue, entries, heard, heard_by, heard_msm, heard_summary, without_cells, GathererValue, load_entries, loaded_where, no_counts}
+use Rattle.obs_epoch.specs.Names.{Form, FormedMsm, formed, message_in, lock_field, MsmValue, entries, heard, heard_by, heard_msm, GathererValue, load_entries, loaded_where, no_counts}
 use Rattle.std.proofs.lemmas.Grind.{common_steps}
 
 by_form : (channels : ChannelsValue) (leap : ℕ) (f : Form) (v : MsmValue) → heard channels leap (message_in f v) ≡ heard_msm channels leap (lock_field f) v (entries (message_in f v))

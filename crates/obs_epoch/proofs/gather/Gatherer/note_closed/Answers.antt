@@ -1,6 +1,6 @@
-use Rattle.std.proofs.Common.{◌≡◌, ◌∙◌, Bool, true, sym, ap, ap₂, arith, refl, subst}
+use Rattle.std.proofs.Common.{◌≡◌, ◌∙◌, Bool, true, sym, ap, ap₂, arith, subst}
 use Rattle.std.proofs.lemmas.Grind.{common_steps}
-use Rattle.obs_epoch.specs.Names.{AreSortedByPlan, CellLists, Closed, EpochValue, GathererValue, HasPlannedCells, KnownLock, State, closed_noted, no_cells, shut_where, sorted_lists}
+use Rattle.obs_epoch.specs.Names.{AreSortedByPlan, Closed, EpochValue, GathererValue, HasPlannedCells, State, closed_noted, shut_where, sorted_lists}
 use Rattle.obs_epoch.specs.Held.{note_systems}
 use Rattle.gnss_system.specs.Systems.{systems}
 use Rattle.obs_epoch.proofs.ValueLemmas.{gathered_of, never_both, none_planned, open_is, shut_is}

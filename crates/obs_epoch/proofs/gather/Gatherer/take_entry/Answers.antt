@@ -1,4 +1,4 @@
-use Rattle.std.proofs.Common.{ap, ap₂, ◌≡◌, ◌∙◌}
+use Rattle.std.proofs.Common.{ap, ap₂, ◌∙◌}
 use Rattle.obs_epoch.specs.Names.{GathererValue, Loaded, load_one, with_unlisted, option_map_or, seen_in}
 use Rattle.obs_epoch.proofs.EntryLemmas.{unplanned_entry, planned_entry}
 use Rattle.obs_epoch.proofs.gather.Gatherer.take_entry.Goals as goal

@@ -1,6 +1,6 @@
 -- A message that closes the epoch is to be passed again; any other is the next one of the list, and its cells are
 -- loaded if it is accepted.
-use Rattle.std.proofs.Common.{◌++◌, ◌∷◌, [], sym, ap, ◌∙◌, subst, Some, None, ◌≡◌, ℕ, Bool, ap₂, is_some, true}
+use Rattle.std.proofs.Common.{◌++◌, ◌∷◌, [], sym, ap, ◌∙◌, subst, Some, None, ◌≡◌, ℕ, Bool, ap₂, is_some}
 use Rattle.obs_epoch.specs.Names.{viewed_message, heard, heard_by, GatherSetup, Heard, heard_summary, without_cells, timed, GathererValue, State, take_step, Loaded, begun_by, ended_where, loaded_where, is_close_first, is_accepted, with_counts, IsCloseFirstExactly, HasGatheredEpochs, returned_epoch, no_counts}
 use Rattle.obs_epoch.proofs.TakeLemmas.{no_point, given_alone, closed_is, ended_is, loaded_by, loaded_clock, loads}
 use Rattle.obs_epoch.proofs.HeardLemmas.{opens, closes_open}

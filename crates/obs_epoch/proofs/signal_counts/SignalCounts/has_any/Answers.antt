@@ -16,5 +16,4 @@ loop-i-preserved c =
 
 pub returns : goal.returns
 returns c =
-    let end = c.loop-i-test.false in
-    sym (any_none (λ s. list_any (λ n. nat_lt 0 n) (signal_counts s c.args.self.now)) (below_all (λ s. list_any (λ n. nat_lt 0 n) (signal_counts s c.args.self.now) ≡ false) c.loop-i.i (omega (arith, end)) c.loop-i.invariant) systems)
+    sym (any_none (λ s. list_any (λ n. nat_lt 0 n) (signal_counts s c.args.self.now)) (below_all (λ s. list_any (λ n. nat_lt 0 n) (signal_counts s c.args.self.now) ≡ false) c.loop-i.i (omega (arith, c.loop-i-test.false)) c.loop-i.invariant) systems)
