@@ -2,7 +2,7 @@
 -- cells.
 use Rattle.obs_epoch.specs.Cells.{kept_of_all as kept_both}
 use Rattle.rtcm_msg.specs.declared.view.Form.TheVariants as forms
-use Rattle.rtcm_convert.proofs.Names.{◌≡◌, ◌||◌, ℕ, ◌+◌, ◌*◌, ◌≤◌, most_bytes, List, [], ◌∷◌, ◌++◌, Bool, true, false, refl, sym, ap, subst, arith, rules, length, length-append, add-zero, suc, zero, nat_lt, Option, Some, None, is_some, not, LockField, Df402, Df407, count_by, filter, filter_map, if◌then◌else◌, cons_option, zip, option_map_or, length-map, sum_by-cons, length-filter, count_by-le-length, System, uint, Framed, Message, Entry, MasksValue, MsmValue, AreMasks, pair_count, IsMessage, chosen, cell_pairs, all_pairs, entries, entry_in, Kind, GatherSetup, Heard, heard, heard_by, ChannelsValue, heard_msm, is_own, seen_in, unlisted_in, HeardCell, Timed, timed, timed_after, taken_at, is_late, is_past, time_of, times, counts_of, counts_of_message, no_counts, with_skipped, is_planned, is_among, offered, kind_of, kind_at, all_epochs, closed_at, satellites_written, SetupValue, messages_of, message_of, epochs_in, outcomes_after, capped, capped_tally, sum_of_counts, tally_of, tally_of_one, IsFew, AreFew, Report, CellCounts}
+use Rattle.rtcm_convert.proofs.Names.{common_steps, ◌≡◌, ◌||◌, ℕ, ◌+◌, ◌*◌, ◌≤◌, most_bytes, List, [], ◌∷◌, ◌++◌, Bool, true, false, refl, sym, ap, subst, arith, rules, length, length-append, add-zero, suc, zero, nat_lt, Option, Some, None, is_some, not, LockField, Df402, Df407, count_by, filter, filter_map, if◌then◌else◌, zip, option_map_or, length-map, sum_by-cons, length-filter, count_by-le-length, System, uint, Framed, Message, Entry, MasksValue, MsmValue, AreMasks, pair_count, IsMessage, chosen, cell_pairs, all_pairs, entries, entry_in, Kind, GatherSetup, Heard, heard, heard_by, ChannelsValue, heard_msm, is_own, seen_in, unlisted_in, HeardCell, Timed, timed, timed_after, taken_at, is_late, is_past, time_of, times, counts_of, counts_of_message, no_counts, with_skipped, is_planned, is_among, offered, kind_of, kind_at, all_epochs, closed_at, satellites_written, SetupValue, messages_of, message_of, epochs_in, outcomes_after, capped, capped_tally, sum_of_counts, tally_of, tally_of_one, IsFew, AreFew, Report, CellCounts}
 use Rattle.rtcm_msg.specs.declared.message.Message.TheVariants as message
 use Rattle.obs_epoch.specs.declared.taken.Kind.TheVariants as kind
 
@@ -40,21 +40,13 @@ entries_few (message.Msm6 v) h = subst (λ (n : ℕ). n ≤ 64) (sym (length-map
 entries_few (message.Msm7 v) h = subst (λ (n : ℕ). n ≤ 64) (sym (length-map (zip (cell_pairs v.sets) v.cells) (entry_in forms.Msm7 v))) (cell_pairs_few v.sets v.cells h.sets)
 entries_few (message.Other n set) h = omega arith
 
-cons_option_few : {Y : Type 0} (o : Option Y) (ys : List Y) (n : ℕ) → length ys ≤ n → length (cons_option o ys) ≤ suc n
-cons_option_few None ys n le = omega arith
-cons_option_few (Some y) ys n le = omega arith
-
 filter_map_few : {X Y : Type 0} (h : X → Option Y) (xs : List X) → length (filter_map h xs) ≤ length xs
 filter_map_few h [] = omega arith
-filter_map_few h (x ∷ xs) = cons_option_few (h x) (filter_map h xs) (length xs) (filter_map_few h xs)
-
-unlisted_step : (b : Bool) (n k : ℕ) → n ≤ k → (if b then 0 else 1) + n ≤ suc k
-unlisted_step true n k le = omega arith
-unlisted_step false n k le = omega arith
+filter_map_few h (x ∷ xs) = grind (arith, common_steps, filter_map_few h xs)
 
 unlisted_few : (channels : ChannelsValue) (field : LockField) (system : System) (es : List Entry) → unlisted_in channels field system es ≤ length es
 unlisted_few channels field system [] = omega arith
-unlisted_few channels field system (e ∷ es) = unlisted_step (is_some (seen_in channels field system e)) (unlisted_in channels field system es) (length es) (unlisted_few channels field system es)
+unlisted_few channels field system (e ∷ es) = grind (arith, common_steps, unlisted_few channels field system es)
 
 -- the content of a message has at most 64 cells, and at most 64 unlisted ones
 record HasFew (m : Heard) : Type 0 where

@@ -31,14 +31,11 @@ not_err x e h = absurd cc
 apart : (test : Fault → Bool) (f g : Fault) → test f ≡ true → test g ≡ false → f ≡ g → ⊥
 apart test f g holds fails e = false≢true (sym fails ∙ ap test (sym e) ∙ holds)
 
-apart_err : {A : Type 0} (test : Fault → Bool) (f g : Fault) → test f ≡ true → test g ≡ false → IsErrOf {T = A} (Err f) g → ⊥
-apart_err test f g holds fails h = let e : f ≡ g = cc in apart test f g holds fails e
-
 -- a call whose faults are of one kind returns no other
 module _ {K : Fault → Type 0} {test : Fault → Bool} (L : Fault → Type 0) (known : (f : Fault) → K f → test f ≡ true) where
   pub never : {A : Type 0} (r : Result A Fault) → IfErr r (λ f. K f × L f) → (g : Fault) → test g ≡ false → IsErrOf r g → ⊥
   never (Ok x) left g fails e = not_err x g e
-  never (Err f) left g fails e = apart_err test f g (known f left.0) fails e
+  never (Err f) left g fails e = let same : f ≡ g = cc in apart test f g (known f left.0) fails same
 
   not_setup : (f : Fault) → test f ≡ true → test BadSetup ≡ false → test Memory ≡ false → IsSetupFault f → ⊥
   not_setup f holds bad memory (inl e) = apart test f BadSetup holds bad e

@@ -30,7 +30,7 @@ pub use Rattle.rtcm_convert.specs.Broken.{BrokeInPieces, FailedWriting, FailedWr
 pub use Rattle.rtcm_convert.specs.Conversion.{Completed, CompletedEmpty, CompletesEmptyFile, CompletesFile, Conversion, CutsAtLimit, FailsAtEnd, FailsAtPiece, FailsFeeding, FailsFinishing, FinishesEmptyNow, FinishesNow, HasConverted, HasFinished, IsFit, IsGoing, IsPastLimit, KeepsNow, LeftBy, RanToFault, RanToLimit, StopsAtEnd, TakesFromReader, TakesPiece, WritesAdded, WritesPrefixOfAdded, kept_of, refusal}
 unfoldable pub use Rattle.rtcm_convert.specs.Converted.{text_of_epochs}
 pub use Rattle.rtcm_convert.specs.Converted.{SetupValue, epochs_in, file, message_of, messages_of, so_far, text_with, written_epochs}
-pub use Rattle.rtcm_convert.specs.Faults.{FailsToWrite, FailsWithReader, FailsWithWriter, IsFeedFault, IsFinishFault, IsPiecesFault, IsRunFault, IsSentAfter, IsSentAtFault, IsSetupFault, ReaderFailures, WriterFailures}
+pub use Rattle.rtcm_convert.specs.Faults.{FailsToWrite, FailsWithWriter, IsPiecesFault, IsRunFault, IsSetupFault, WriterFailures}
 pub use Rattle.rtcm_convert.specs.Fed.{AppendsBetween, AppendsPrefixBetween, AppendsUpTo}
 pub use Rattle.rtcm_convert.specs.Filed.{HasFiledEpochs, HasFiledFrames, Settled, added, epochs_after, last_values, opening, values_after, values_following_closed}
 pub use Rattle.rtcm_convert.specs.Kept.{IsKeptAtEnd, IsWithinBounds, locks_at, locks_in_all}
@@ -39,7 +39,7 @@ pub use Rattle.rtcm_convert.specs.Made.{AreMadeToLimit, IsMade, IsMadeEmpty, IsM
 pub use Rattle.rtcm_convert.specs.Outcomes.{AreFew, IsFew, capped, capped_tally, outcome, outcomes, outcomes_after, report_of, report_with, sum_of_counts, tallies_added, tally_of, tally_of_one}
 pub use Rattle.rtcm_convert.specs.Pieces.{StopsInPieces}
 pub use Rattle.rtcm_convert.specs.Readable.{AreSound, HasValue, IsReadable}
-pub use Rattle.rtcm_convert.specs.SetupValues.{IsBadWith, IsBadStart, Start, options_with, setup_value_by, setup_value_with, start_by, start_with, start_value, start_zero}
+pub use Rattle.rtcm_convert.specs.SetupValues.{IsBadWith, IsBadStart, Start, options_with, setup_value_by, start_by, start_with, start_value, start_zero}
 pub use Rattle.rtcm_convert.specs.Steps.{BreaksInFrame, BreaksInRest, EndsFile, TakesFrame}
 pub use Rattle.rtcm_convert.specs.Stream.{AppendsDecided, AppendsPrefixOfDecided, AppendsPrefixOfRest, BreaksAtEndOf, BreaksFiling, Drained, EndsBytes, Files, HasDrained, HasDrainedSome}
 pub use Rattle.rtcm_convert.specs.declared.fault.Fault.{Fault}
@@ -73,7 +73,7 @@ pub use Rattle.rtcm_scan.specs.declared.feed.StreamFault.TheVariants.{Sink}
 pub use Rattle.std.proofs.KnownBytes.{Appends-kept, Appends-nil, Appends-trans, Consumes-whole}
 pub use Rattle.std.proofs.Math.Seq.{take-length}
 pub use Rattle.std.proofs.lemmas.Bool.{cases_Bool, false≢true}
-pub use Rattle.std.proofs.lemmas.Cmp.{int_eq_equiv}
+pub use Rattle.std.proofs.lemmas.Bool.Decides.{Decides-int_eq}
 pub use Rattle.std.proofs.lemmas.Grind.{common_steps, flat_map-append}
 pub use Rattle.std.proofs.lemmas.List.{append_cancel_left, length-map, take-append-drop, take-append-le, take_more}
 pub use Rattle.std.proofs.lemmas.List.Elements.{filter-append, filter_map-append}
@@ -83,5 +83,5 @@ pub use Rattle.std.proofs.lemmas.Result.{IfOk-weaker, on_err_weaker, on_ok_weake
 pub use Rattle.std.specs.Io.KnownBytes.{Appends, Consumes, IsAtEnd, Keeps}
 pub use Rattle.std.specs.List.{AllByRecursion, cons_option, zip}
 pub use Rattle.std.specs.Option.{option_map_or}
-pub use Rattle.std.specs.Prelude.{IfSome, IsErrOf, OnErr, OnOk, Vec, cond, count_by, filter, filter_map, flat_map, if◌then◌else◌, length, map, option_map, option_to_list, sum_by, ⊤, ◌==◌}
-pub use Rattle.std.proofs.Common.{Bool, Err, IfErr, IfOk, List, None, Ok, Option, Result, Some, [], add-zero, ap, append-nil, append_assoc, arith, drop, false, get_or, inl, inr, is_some, length-append, max, nat_lt, not, refl, rules, subst, suc, sym, take, true, true≢false, zero, ℕ, ◌*◌, ◌++◌, ◌+◌, ◌-◌, ◌<◌, ◌^◌, ◌||◌, ◌∙◌, ◌∷◌, ◌≡◌, ◌≢◌, ◌≤◌, ◌⊎◌}
+pub use Rattle.std.specs.Prelude.{IfSome, IsErrOf, OnErr, OnOk, Vec, cond, count_by, filter, filter_map, flat_map, if◌then◌else◌, length, map, option_map, option_to_list, sum_by, ⊤}
+pub use Rattle.std.proofs.Common.{Bool, Err, IfErr, IfOk, List, None, Ok, Option, Result, Some, [], add-zero, ap, append-nil, append_assoc, arith, drop, false, get_or, inl, inr, is_some, length-append, nat_lt, not, refl, rules, subst, suc, sym, take, true, true≢false, zero, ℕ, ◌*◌, ◌++◌, ◌+◌, ◌-◌, ◌<◌, ◌||◌, ◌∙◌, ◌∷◌, ◌≡◌, ◌≢◌, ◌≤◌, ◌⊎◌}

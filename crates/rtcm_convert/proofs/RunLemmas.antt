@@ -2,7 +2,7 @@
 use Rattle.rtcm_convert.proofs.FeedLemmas.{with_flags, fed_whole, fed_long}
 use Rattle.rtcm_convert.proofs.PartLemmas.{goes_on-trans, up_to_earlier, up_to_later}
 use Rattle.rtcm_convert.proofs.StreamLemmas.{passed_here, piece_whole, so_far-front}
-use Rattle.rtcm_convert.proofs.Names.{◌≡◌, ℕ, List, ◌++◌, ap, subst, ◌∙◌, Option, append_assoc, length, ◌+◌, ◌<◌, refl, Bool, true, false, None, Some, arith, length-append, IfSome, if◌then◌else◌, Consumes, IsAtEnd, Consumes-whole, Device, HasFailed, IsPrefix, longest_frame, decided_frames, Framed, known_frames, PassesToLimit, BreaksAfter, Reads, ReadsOn, FramerValue, SetupValue, so_far, AppendsUpTo, FiledGrows, FileWriter, Report, AppendsDecided, AppendsPrefixOfRest, BreaksFiling, Files, HasDrainedSome, Conversion, KeepsNow, IsGoing, refusal, HasConverted, TakesFromReader, IsPastLimit, CutsAtLimit, RanToFault, RanToLimit, Completed, CompletedEmpty, FinishesNow, FinishesEmptyNow, CompletesFile, CompletesEmptyFile, FailsFeeding, FailsFinishing, Failed, Finished}
+use Rattle.rtcm_convert.proofs.Names.{◌≡◌, ℕ, List, ◌++◌, ap, sym, subst, ◌∙◌, Option, append_assoc, length, ◌+◌, ◌<◌, refl, Bool, true, false, None, Some, arith, length-append, IfSome, if◌then◌else◌, Consumes, IsAtEnd, Consumes-whole, Device, HasFailed, IsPrefix, longest_frame, decided_frames, Framed, known_frames, PassesToLimit, BreaksAfter, Reads, ReadsOn, FramerValue, SetupValue, so_far, AppendsUpTo, FiledGrows, FileWriter, Report, AppendsDecided, AppendsPrefixOfRest, BreaksFiling, Files, HasDrainedSome, Conversion, KeepsNow, IsGoing, refusal, HasConverted, TakesFromReader, IsPastLimit, CutsAtLimit, RanToFault, RanToLimit, Completed, CompletedEmpty, FinishesNow, FinishesEmptyNow, CompletesFile, CompletesEmptyFile, FailsFeeding, FailsFinishing, Failed, Finished}
 
 flags : (ended failed : Bool) → None ≡ (if ended then Some Finished else if failed then Some Failed else None) → (failed ≡ false) × (ended ≡ false)
 flags true failed e = absurd cc
@@ -10,8 +10,8 @@ flags false true e = absurd cc
 flags false false e = (refl, refl)
 
 -- a converter without a refusal has neither failed nor ended
-pub going_on : (v : Conversion) → None ≡ refusal v → IsGoing v
-going_on v e = let p = flags v.has_ended v.has_failed e in record { fine = p.0; more = p.1 }
+pub going_on : {x v : Conversion} → x ≡ v → None ≡ refusal v → IsGoing x
+going_on {v = v} same e = let p = flags v.has_ended v.has_failed e in subst (λ (x : Conversion). IsGoing x) (sym same) (record { fine = p.0; more = p.1 })
 
 pub completed_after : {w : Conversion} {n : List ℕ} {a b c : Option (List ℕ)} {s : SetupValue} {x y : List ℕ} {report : Report} → AppendsDecided a b s x y → Completed w n b c s y y report → Completed w n a c s x y report
 completed_after e f = record { out = goes_on-trans e f.out; sent = f.sent; some = f.some; report_is = f.report_is; finished = f.finished; kept = f.kept; bounds = f.bounds }

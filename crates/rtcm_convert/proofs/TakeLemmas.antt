@@ -3,7 +3,7 @@ use Rattle.rtcm_convert.proofs.PartLemmas.{goes_on-refl, goes_on-trans, breaks_o
 use Rattle.rtcm_convert.proofs.TextLemmas.{cap_more, count, last, text-closed}
 use Rattle.rtcm_convert.proofs.ExactLemmas.{few_more, message_few, refused_few}
 use Rattle.rtcm_convert.proofs.StepLemmas.{Wrote, wrote_all, part_of}
-use Rattle.rtcm_convert.proofs.Names.{◌≡◌, ℕ, List, [], ◌∷◌, ◌++◌, true, false, refl, sym, ap, subst, ◌∙◌, Option, Some, None, Result, Ok, Err, IfOk, OnOk, append-nil, append_assoc, ◌+◌, arith, sum_by, common_steps, filter_map-append, sum_by-append, AppendsPrefix, Framed, Message, MsgFault, MsmSet, message_with, IsMessage, Kind, Closed, GatherSetup, Heard, heard_by, is_close_first, kind_of, GathererValue, HasGatheredEpochs, IsAwaited, closed_by, closed_in, plan_in, closed_epochs, all_epochs, known_epochs, SetupValue, text_with, so_far, file, message_of, messages_of, outcome, outcomes, outcomes_after, capped, capped_tally, tallies_added, sum_of_counts, tally_of, tally_of_one, IsFew, AreFew, AppendsBetween, AppendsPrefixBetween, added, HasFiledEpochs, Settled, HasFiledFrames, EndsFile, Report, FileWriter}
+use Rattle.rtcm_convert.proofs.Names.{◌≡◌, ℕ, List, [], ◌∷◌, ◌++◌, true, false, refl, sym, ap, subst, ◌∙◌, Option, Some, None, Result, Ok, Err, IfOk, OnOk, append-nil, append_assoc, ◌+◌, arith, common_steps, filter_map-append, sum_by-append, AppendsPrefix, Framed, Message, MsgFault, MsmSet, message_with, IsMessage, Kind, Closed, GatherSetup, Heard, heard_by, is_close_first, kind_of, GathererValue, HasGatheredEpochs, IsAwaited, closed_by, closed_in, plan_in, closed_epochs, all_epochs, known_epochs, SetupValue, text_with, so_far, file, message_of, messages_of, outcome, outcomes, outcomes_after, capped, capped_tally, tallies_added, sum_of_counts, tally_of, tally_of_one, IsFew, AreFew, AppendsBetween, AppendsPrefixBetween, added, HasFiledEpochs, Settled, HasFiledFrames, EndsFile, Report, FileWriter}
 
 -- the epochs written after these, and their text
 abbrev pub Written : FileWriter → SetupValue → List Heard → Option Heard → Option (List ℕ) → Option (List ℕ) → List Closed → Type 0
@@ -59,13 +59,10 @@ outcomes_after-one s before [] f = ap (λ l. outcome s l f ∷ []) (sym (append-
 outcomes_after-one s before (g ∷ fs) f =
     ap (λ l. outcome s before g ∷ l) (outcomes_after-one s (before ++ g ∷ []) fs f ∙ ap (λ l. outcomes_after s (before ++ g ∷ []) fs ++ outcome s l f ∷ []) (append_assoc before (g ∷ []) fs))
 
-sum_one : (w : Option Kind → ℕ) (os : List (Option Kind)) (o : Option Kind) → capped (capped (sum_by w os) + w o) ≡ capped (sum_by w (os ++ o ∷ []))
-sum_one w os o =
-    let one : sum_by w (o ∷ []) ≡ w o = grind (arith, common_steps) in
-    cap_more (sum_by w os) (w o) ∙ ap capped (ap (λ k. sum_by w os + k) (sym one) ∙ sym (sum_by-append w os (o ∷ [])))
-
 total_one : (count : Report → ℕ) (os : List (Option Kind)) (o : Option Kind) → capped (capped (sum_of_counts count os) + count (tally_of_one o)) ≡ capped (sum_of_counts count (os ++ o ∷ []))
-total_one count os o = sum_one (λ o. count (tally_of_one o)) os o
+total_one count os o =
+    let one : sum_of_counts count (o ∷ []) ≡ count (tally_of_one o) = grind (arith, common_steps) in
+    cap_more (sum_of_counts count os) (count (tally_of_one o)) ∙ ap capped (ap (λ k. sum_of_counts count os + k) (sym one) ∙ sym (sum_by-append (λ o. count (tally_of_one o)) os (o ∷ [])))
 
 tally_more : (os : List (Option Kind)) (o : Option Kind) → tallies_added (capped_tally (tally_of os)) (tally_of_one o) ≡ capped_tally (tally_of (os ++ o ∷ []))
 tally_more os o =

@@ -1,5 +1,5 @@
 -- The text of a file, epoch by epoch.
-use Rattle.rtcm_convert.proofs.Names.{◌≡◌, ℕ, List, [], ◌∷◌, ◌++◌, Bool, true, false, refl, sym, ap, subst, ◌∙◌, arith, Option, Some, None, append_assoc, append-nil, nat_lt, length, length-append, ◌+◌, ◌==◌, if◌then◌else◌, int_eq_equiv, filter-append, filter_map-append, Framed, IsPrefix, PlanValue, EpochValue, Closed, same_values, satellites_written, StationValues, GatherSetup, Heard, closed_epochs, all_epochs, closed_by, HeaderLists, header_text, epoch_text, event_text, change_text, closed_text, file_text, gathered, SetupValue, messages_of, written_epochs, text_of_epochs, text_with, so_far, file, capped, opening, added, epochs_after, values_after, values_following_closed, last_values}
+use Rattle.rtcm_convert.proofs.Names.{Decides-int_eq, ◌≡◌, ℕ, List, [], ◌∷◌, ◌++◌, Bool, true, false, refl, sym, ap, subst, ◌∙◌, arith, Option, Some, None, append_assoc, append-nil, nat_lt, length, length-append, ◌+◌, if◌then◌else◌, filter-append, filter_map-append, Framed, IsPrefix, PlanValue, EpochValue, Closed, same_values, satellites_written, StationValues, GatherSetup, Heard, closed_epochs, all_epochs, closed_by, HeaderLists, header_text, epoch_text, event_text, change_text, closed_text, file_text, gathered, SetupValue, messages_of, written_epochs, text_of_epochs, text_with, so_far, file, capped, opening, added, epochs_after, values_after, values_following_closed, last_values}
 
 -- a capped count that is increased
 pub cap_more : (n k : ℕ) → capped (capped n + k) ≡ capped (n + k)
@@ -8,9 +8,7 @@ cap_more n k = omega arith
 -- ---- station values
 
 same_self : (v : StationValues) → same_values v v ≡ true
-same_self v = rw (int_eq_equiv.refl v.x, int_eq_equiv.refl v.y, int_eq_equiv.refl v.z) (nat_self v.height) where
-  nat_self : (n : ℕ) → (n == n) ≡ true
-  nat_self n = grind arith
+same_self v = grind (arith, Decides-int_eq)
 
 -- no event is written if they are the same
 no_change : (v : StationValues) → change_text v v ≡ []

@@ -32,22 +32,15 @@ returns-in-Err-clause-write g c =
 
 pub returns-clause-whole : goal.returns-clause-whole
 returns-clause-whole g c =
-    let i = c.loop-piece.invariant in
-    let n = c.finish.ensures in
-    let r = c.finish.result in
     let all = pieces_all (λ piece. piece.items) c.args.pieces.now c.loop-piece.piece-index c.loop-piece.auto.piece-index-end c.loop-piece-test.false in
-    IfOk-weaker r _ _ (λ _. pieces_whole _ i.came all) n.whole
+    IfOk-weaker c.finish.result _ _ (λ _. pieces_whole _ c.loop-piece.invariant.came all) c.finish.ensures.whole
 
 pub returns-clause-no_epoch : goal.returns-clause-no_epoch
 returns-clause-no_epoch g c =
-    let i = c.loop-piece.invariant in
-    let n = c.finish.ensures in
     let all = pieces_all (λ piece. piece.items) c.args.pieces.now c.loop-piece.piece-index c.loop-piece.auto.piece-index-end c.loop-piece-test.false in
-    λ e. pieces_empty _ i.came all (n.no_epoch e)
+    λ e. pieces_empty _ c.loop-piece.invariant.came all (c.finish.ensures.no_epoch e)
 
 pub returns-clause-write : goal.returns-clause-write
 returns-clause-write g c =
-    let i = c.loop-piece.invariant in
-    let n = c.finish.ensures in
     let all = pieces_all (λ piece. piece.items) c.args.pieces.now c.loop-piece.piece-index c.loop-piece.auto.piece-index-end c.loop-piece-test.false in
-    λ e. pieces_broke_at_end _ i.came c.args.pieces.now all (n.part e)
+    λ e. pieces_broke_at_end _ c.loop-piece.invariant.came c.args.pieces.now all (c.finish.ensures.part e)

@@ -1,15 +1,14 @@
 -- A new converter has examined, counted and written nothing.
+use Rattle.rtcm_convert.proofs.FaultLemmas.{not_err}
+use Rattle.rtcm_convert.proofs.PartLemmas.{same_fault}
 use Rattle.rtcm_convert.proofs.converter.Converter.with_options.Goals.{then-setup-gt-MOST_BYTES-via-then-setup-gt-MOST_BYTES, then-setup-gt-MOST_BYTES-via-else-setup-gt-MOST_BYTES+then-not-fits_message}
-use Rattle.rtcm_convert.proofs.Names.{true≢false, ◌≡◌, ◌≤◌, most_bytes, ℕ, List, [], subst, refl, sym, inl, inr, arith, ap, Result, Ok, Err, AreStationValues, Start, start_by, start_value, IsBadWith, IsBadStart, decided_frames, frames_before, IsDrained, HasExamined, IsCountedExactly, Framed, frames_of, frames_from, known_frames, new_scan, FramerValue, HasFiledFrames, HasDrained}
+use Rattle.rtcm_convert.proofs.Names.{true≢false, ◌≡◌, ◌≤◌, most_bytes, ℕ, List, [], subst, refl, sym, inl, inr, arith, ap, AreStationValues, Start, start_by, start_value, IsBadWith, IsBadStart, decided_frames, frames_before, IsDrained, HasExamined, IsCountedExactly, Framed, frames_of, frames_from, known_frames, new_scan, FramerValue, HasFiledFrames, HasDrained}
 use Rattle.rtcm_convert.proofs.converter.Converter.with_options.Goals as goal
 
 bad_start : (x : Start) → AreStationValues x.options.initial → x.setup.limit ≤ most_bytes → IsBadWith x → IsBadStart x.setup
 bad_start x fits within (inl unfit) = absurd (unfit fits)
 bad_start x fits within (inr (inl over)) = absurd (omega (arith, within, over))
 bad_start x fits within (inr (inr start)) = start
-
-not_err : {A E P : Type 0} (x : A) (e : E) → Ok x ≡ Err e → P
-not_err x e h = absurd cc
 
 none_known : (v : FramerValue) (limit : ℕ) → v ≡ new_scan limit → [] ≡ known_frames v.has_ended []
 unfolding decided_frames frames_before frames_of frames_from
@@ -22,9 +21,6 @@ new_drained v limit e framer drained counted = record {
   counted = counted;
 }
 
-same_err : {A B E : Type 0} (e f : E) → ◌≡◌ {A = Result A E} (Err e) (Err f) → ◌≡◌ {A = Result B E} (Err e) (Err f)
-same_err e f h = let k : e ≡ f = cc in ap Err k
-
 pub returns-then-setup-gt-MOST_BYTES-clause-bad : goal.returns-then-setup-gt-MOST_BYTES-clause-bad
 returns-then-setup-gt-MOST_BYTES-clause-bad c = (
   λ _. elim c.then-setup-gt-MOST_BYTES.branch [
@@ -35,16 +31,14 @@ returns-then-setup-gt-MOST_BYTES-clause-bad c = (
 )
 
 pub returns-in-Err-clause-bad : goal.returns-in-Err-clause-bad
-returns-in-Err-clause-bad c =
-    let x = start_by c.args.setup c.args.options in (
-      λ e. inr (inr (c.in-Err.ensures.bad.0 (same_err _ _ e))),
-      λ b. same_err _ _ (c.in-Err.ensures.bad.1 (bad_start x (c.if-not-fits_message.ensures.0 refl) c.if-setup-gt-MOST_BYTES.false b)),
-    )
+returns-in-Err-clause-bad c = (
+  λ e. inr (inr (c.in-Err.ensures.bad.0 (same_fault _ _ e))),
+  λ b. same_fault _ _ (c.in-Err.ensures.bad.1 (bad_start (start_by c.args.setup c.args.options) (c.if-not-fits_message.ensures.0 refl) c.if-setup-gt-MOST_BYTES.false b)),
+)
 
 pub returns-in-Err-new-clause-bad : goal.returns-in-Err-new-clause-bad
 returns-in-Err-new-clause-bad c =
-    let x = start_by c.args.setup c.args.options in
-    (λ e. cc, λ b. not_err _ _ (c.in-Ok.ensures.bad.1 (bad_start x (c.if-not-fits_message.ensures.0 refl) c.if-setup-gt-MOST_BYTES.false b)))
+    (λ e. cc, λ b. absurd (not_err _ _ (c.in-Ok.ensures.bad.1 (bad_start (start_by c.args.setup c.args.options) (c.if-not-fits_message.ensures.0 refl) c.if-setup-gt-MOST_BYTES.false b))))
 
 pub returns-in-Ok-new-clause-history : goal.returns-in-Ok-new-clause-history
 returns-in-Ok-new-clause-history c =

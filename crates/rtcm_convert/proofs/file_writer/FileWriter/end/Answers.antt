@@ -17,6 +17,5 @@ returns-in-Err-flush_whole-clause-part g c =
 pub returns-clause-whole : goal.returns-clause-whole
 returns-clause-whole g c =
     let e = c.in_default.ensures in
-    let d = c.in_default-flush_whole.ensures in
     let whole = file_whole c.args.self.now c.write_closed.new.self c.end.new.self _ _ (record { gatherer = e.same.0; texts = e.same.1; set = e.same.2; epochs = e.now.0; values = e.now.1; out = e.whole }) c.end.ensures.ended (λ s ms es x. (c.end.ensures.closes s ms es x c.requires).1) in
-    λ s fs x. (let p = whole s fs x in (goes_on-kept p.0 d.kept, p.1, p.2))
+    λ s fs x. (let p = whole s fs x in (goes_on-kept p.0 c.in_default-flush_whole.ensures.kept, p.1, p.2))

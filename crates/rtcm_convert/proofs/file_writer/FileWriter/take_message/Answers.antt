@@ -14,9 +14,8 @@ returns-then-not-is_close_first-clause-whole g c =
 
 pub returns-then-not-is_close_first-clause-kind : goal.returns-then-not-is_close_first-clause-kind
 returns-then-not-is_close_first-clause-kind g c =
-    let n = c.in-Ok.ensures in
     let stays = sym c.if-not-is_close_first.ensures in
-    λ s ms x. n.kind stays s ms (closed_epochs s.gather ms) None tt x
+    λ s ms x. c.in-Ok.ensures.kind stays s ms (closed_epochs s.gather ms) None tt x
 
 pub returns : goal.returns
 returns g c =

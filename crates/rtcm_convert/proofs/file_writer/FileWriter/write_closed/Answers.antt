@@ -11,6 +11,4 @@ returns-in-Err-clause-part g c =
 pub returns-in-Err-write_epoch-clause-part : goal.returns-in-Err-write_epoch-clause-part
 returns-in-Err-write_epoch-clause-part g c =
     let f = c.args.self.now in
-    let o = c.in_default-open.ensures in
-    let n = c.in-Err-write_epoch.ensures in
-    prefix_after _ _ _ _ _ (added_lent f.texts f.values (closed_in f.gatherer) f.gatherer.values c.plan.ensures c.in-Some.ensures.closed (sym c.has_satellites.ensures ∙ c.if-not-has_satellites.false)) o.whole n.part
+    prefix_after _ _ _ _ _ (added_lent f.texts f.values (closed_in f.gatherer) f.gatherer.values c.plan.ensures c.in-Some.ensures.closed (sym c.has_satellites.ensures ∙ c.if-not-has_satellites.false)) c.in_default-open.ensures.whole c.in-Err-write_epoch.ensures.part
