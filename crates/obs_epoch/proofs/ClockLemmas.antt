@@ -5,14 +5,10 @@ use Rattle.rtcm_msg.specs.Msm.{week}
 use Rattle.obs_epoch.proofs.TimesLemmas.{next, greatest-push, greatest-present, greater-absent, none-absent, closed-push, closed-new}
 use Rattle.std.proofs.lemmas.Grind.{common_steps}
 
--- A message without a time doesn't change the greatest time.
-max_none : (a : Option ℕ) → max_known a None ≡ a
-max_none a = grind (arith, common_steps)
-
 -- A message that isn't accepted changes no time, and may close the pending epoch.
 pub same_time : (s : GatherSetup) (xs : List Timed) (x : Timed) → x.time ≡ None
     → (greatest_time (xs ++ x ∷ []) ≡ greatest_time xs) × (is_pending s (xs ++ x ∷ []) ≡ (is_pending s xs && not (ends_epoch s x.message)))
-same_time s xs x e = grind (arith, common_steps, greatest-push, max_none, closed-push, greatest-present)
+same_time s xs x e = grind (arith, common_steps, greatest-push, closed-push, greatest-present)
 
 -- An accepted message of time u is of the greatest time, whose epoch isn't closed, or of a greater time.
 pub data Follows (s : GatherSetup) (xs : List Timed) (u : ℕ) : Type 0 where
@@ -83,21 +79,15 @@ ended_to s xs m latest pending at is = grind (arith, common_steps)
 -- An own message without a time.
 no_time : (s : GatherSetup) (xs : List Timed) (n : CellCounts) (m : Heard) (shut : Bool) → is_own s m ≡ true → m.tow ≡ None → closes_first s xs m ≡ shut
     → Takes s xs n m shut
-no_time s xs n m shut own none closes = grind (arith, common_steps, same_time, next, and_true, ended_to)
+no_time s xs n m shut own none closes = grind (arith, common_steps, same_time, next, ended_to)
 
 not_later : (s : GatherSetup) (xs : List Timed) (m : Heard) {tow t : ℕ} {shut : Bool} → m.tow ≡ Some tow → greatest_time xs ≡ Some t
     → closes_first s xs m ≡ shut → ahead t tow ≡ 0 → shut ≡ false
 not_later s xs m some at closes none = grind (arith, some, at, closes, none)
 
-late_by : (s : GatherSetup) (xs : List Timed) (m : Heard) {tow : ℕ} {shut : Bool} (g : Option ℕ) → greatest_time xs ≡ g → m.tow ≡ Some tow → closes_first s xs m ≡ shut
-    → is_late_at (record { setup = s; latest = g; pending = is_pending s xs && not shut }) tow
-    ≡ option_map_or (λ t. nat_lt (week / 2) (ahead t tow) || ((ahead t tow == 0) && is_closed s t xs)) g false
-late_by s xs m None at some closes = refl
-late_by s xs m (Some t) at some closes = grind (arith, common_steps, not_later, closes)
-
 late_same : (s : GatherSetup) (xs : List Timed) (m : Heard) (tow : ℕ) (shut : Bool) → m.tow ≡ Some tow → closes_first s xs m ≡ shut
     → is_late_at (standing s xs shut) tow ≡ is_late s xs tow
-late_same s xs m tow shut some closes = late_by s xs m (greatest_time xs) refl some closes
+late_same s xs m tow shut some closes = grind (arith, common_steps, not_later)
 
 -- An own message that is late or after the last week.
 not_taken : (s : GatherSetup) (xs : List Timed) (n : CellCounts) (m : Heard) {tow : ℕ} {shut : Bool} → is_own s m ≡ true → m.tow ≡ Some tow → closes_first s xs m ≡ shut

@@ -3,7 +3,7 @@ use Rattle.std.proofs.Common.{◌≡◌, ℕ, ◌<◌, ◌≤◌, ◌⊎◌, inl
 use Rattle.std.proofs.lemmas.List.Elements.{filter-append}
 use Rattle.std.proofs.lemmas.Bool.{cases_Bool}
 use Rattle.obs_epoch.specs.Names.{GatherSetup, Heard, ends_epoch, Timed, max_known, greatest_time, is_closed, taken_at, timed, time_of, is_late, times, is_shut, closed_times, option_map_or}
-use Rattle.obs_epoch.proofs.TimesLemmas.{some_eq, greatest-push, max_known-none, greatest-present, greater-absent, none-absent, closed-push, closed-new, next, timed-push}
+use Rattle.obs_epoch.proofs.TimesLemmas.{or_true, some_eq, greatest-push, max_known-none, greatest-present, greater-absent, none-absent, closed-push, closed-new, next, timed-push}
 use Rattle.obs_epoch.proofs.ClockLemmas.{at_self, Follows, follows, first, greater, equal}
 use Rattle.std.proofs.lemmas.Grind.{common_steps}
 
@@ -120,9 +120,6 @@ times-push_same (y ∷ ys) x u e h =
     same_step y.time (greatest_time ys) u (times ys) (times (ys ++ x ∷ [])) h (times-push_same ys x u e) (times-push_new ys x u e)
 
 -- ---- which epochs are closed
-
-or_true : (a b : Bool) → b ≡ true → (a || b) ≡ true
-or_true a b h = grind (arith, common_steps, h)
 
 or_false : (a b : Bool) → b ≡ false → (a || b) ≡ a
 or_false a b h = grind (arith, common_steps, h)

@@ -1,5 +1,5 @@
 -- Counting cell by cell gives the counts of the whole message.
-use Rattle.std.proofs.Common.{◌≡◌, ℕ, ◌+◌, ◌≤◌, Bool, true, false, not, ◌||◌, ◌&&◌, List, [], ◌∷◌, ◌++◌, filter, refl, sym, ap, ap₂, ◌∙◌, subst, arith, length, append_assoc, append-nil, length-append, nat_le, if◌then◌else◌, cond, count_by, length-take-le, take_all, flat_map, ◌==◌}
+use Rattle.std.proofs.Common.{◌≡◌, ℕ, ◌+◌, ◌≤◌, Bool, true, false, not, ◌||◌, ◌&&◌, List, [], ◌∷◌, ◌++◌, filter, refl, sym, ap, ap₂, ◌∙◌, subst, arith, length, append_assoc, append-nil, length-append, nat_le, if◌then◌else◌, cond, count_by, length-take-le, take_all, flat_map}
 use Rattle.std.proofs.lemmas.List.Concat.{length-flat_map}
 use Rattle.gnss_system.specs.Systems.{systems}
 use Rattle.gnss_system.proofs.SystemLaws.{system_same, any_system, sum_grown}
@@ -23,13 +23,10 @@ among_over (c ∷ ss) xs p =
       once : (a b : Bool) → (a || (b && a)) ≡ ((true || b) && a)
       once a b = grind (arith, common_steps)
 
-      turned : (a b : ℕ) → (a == b) ≡ false → (b == a) ≡ false
-      turned a b e = grind (arith, e)
-
       by : (a b : Bool) → is_system p.satellite.system c ≡ a → (is_among (kept c xs) p || (b && is_among (kept p.satellite.system xs) p)) ≡ ((a || b) && is_among (kept p.satellite.system xs) p)
       by true b e =
           ap (λ (d : System). is_among (kept d xs) p || (b && is_among (kept p.satellite.system xs) p)) (sym (system_same p.satellite.system c e)) ∙ once (is_among (kept p.satellite.system xs) p) b
-      by false b e = ap (λ a. a || (b && is_among (kept p.satellite.system xs) p)) (kept_apart c xs p (turned _ _ e))
+      by false b e = ap (λ a. a || (b && is_among (kept p.satellite.system xs) p)) (kept_apart c xs p (grind (arith, e)))
 
 both-among : (xs : List HeardCell) (p : HeardCell) → is_among (kept_of_all xs) p ≡ is_among (kept p.satellite.system xs) p
 both-among xs p = among_over systems xs p ∙ ap (λ b. b && is_among (kept p.satellite.system xs) p) (any_system p.satellite.system)
@@ -41,9 +38,7 @@ own system x e = grind (arith, common_steps, e)
 all_kept : (system : System) (xs : List HeardCell) → nat_le most_cells (length (kept system xs)) ≡ false → kept system xs ≡ mine system xs
 all_kept system xs h = take_all most_cells (mine system xs) (fits most_cells (length (mine system xs)) (length (kept system xs)) (length-take-le most_cells (mine system xs)) h) where
   fits : (most all few : ℕ) → (most ≤ all → few ≡ most) → nat_le most few ≡ false → all ≤ most
-  fits most all few is h = by (nat_le all most) refl where
-    by : (b : Bool) → nat_le all most ≡ b → all ≤ most
-    by b e = grind (arith, common_steps, e)
+  fits most all few is h = grind (arith, common_steps, is, h)
 
 -- For every next cell, an earlier cell is kept as before.
 known-push : (system : System) (xs : List HeardCell) (y p : HeardCell) → is_of_system system p ≡ true → is_among xs p ≡ true → is_among (kept system (xs ++ y ∷ [])) p ≡ is_among (kept system xs) p
@@ -78,12 +73,9 @@ both-length xs y a n e f =
       other_length : (system : System) → is_of_system system y ≡ false → length (kept system (xs ++ y ∷ [])) ≡ length (kept system xs) + 0
       other_length system other = length-add system xs y false (not_own system y other (is_among (kept system xs) y) (nat_le most_cells (length (kept system xs))))
 
-      turned : (a b : ℕ) → (a == b) ≡ false → (b == a) ≡ false
-      turned a b e = grind (arith, e)
-
       by : (t : System) (b : Bool) → is_system y.satellite.system t ≡ b → length (kept t (xs ++ y ∷ [])) ≡ length (kept t xs) + (if b then (if not (a || n) then 1 else 0) else 0)
       by t true h = own_length t (system_same y.satellite.system t h)
-      by t false h = other_length t (turned _ _ h)
+      by t false h = other_length t (grind (arith, h))
 
 self_system : (y : HeardCell) → is_of_system y.satellite.system y ≡ true
 self_system y = grind (arith, common_steps)

@@ -35,11 +35,11 @@ done g m known = grind (arith, common_steps, known)
 pub heard_step : (g : State) (m : Heard) → open_by g m ≡ record (step_by g m) { pending = (open_by g m).pending }
 heard_step g m = grind (arith, common_steps, same_state)
 
+pub same_itself : (l : Option ℕ) → is_same l l ≡ true
+same_itself l = grind (arith, common_steps)
+
 -- A message that isn't accepted has no time.
 pub same_latest : (g : State) (m : Heard) → is_accepted (kind_by g no_counts m) ≡ false → is_same g.latest (step_by g m).latest ≡ true
-same_latest g m refused = ap (is_same g.latest) stays ∙ itself g.latest where
+same_latest g m refused = ap (is_same g.latest) stays ∙ same_itself g.latest where
   stays : (step_by g m).latest ≡ g.latest
   stays = grind (arith, common_steps, refused)
-
-  itself : (l : Option ℕ) → is_same l l ≡ true
-  itself l = grind (arith, common_steps)

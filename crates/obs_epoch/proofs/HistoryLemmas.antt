@@ -1,7 +1,7 @@
 -- The epochs of a list after one more message, with their station values.
 use Rattle.std.proofs.Common.{◌≡◌, ℕ, Bool, true, false, not, List, [], ◌∷◌, ◌++◌, filter, refl, sym, ap, ap₂, ◌∙◌, subst, arith, Option, Some, None, nat_lt, append_assoc, append-nil, if◌then◌else◌, cond, option_to_list}
 use Rattle.std.proofs.lemmas.List.{map-append}
-use Rattle.obs_epoch.specs.Names.{GatherSetup, Heard, ends_epoch, Timed, is_at, max_known, greatest_time, from_first, is_closed, taken_at, timed, times, is_shut, closed_times, epoch_at, values_of, is_pending, EpochValue, option_map_or, list_any}
+use Rattle.obs_epoch.specs.Names.{GatherSetup, Heard, ends_epoch, Timed, max_known, greatest_time, is_closed, taken_at, timed, times, is_shut, closed_times, epoch_at, values_of, is_pending, EpochValue, option_map_or, list_any}
 use Rattle.rtcm_bits.specs.Prefix.{IsPrefix}
 use Rattle.obs_epoch.specs.GathererHistory.{open_after, before_closing, closed_at, closed_list_at, closed_epochs, all_epochs}
 use Rattle.obs_epoch.proofs.TimesLemmas.{next, timed-push, greatest-push}
@@ -17,11 +17,7 @@ any-more s (y ∷ ys) x h = grind (arith, common_steps)
 
 closed-more : (s : GatherSetup) (t : ℕ) (xs : List Timed) (x : Timed) → is_closed s t xs ≡ true → is_closed s t (xs ++ x ∷ []) ≡ true
 closed-more s t [] x h = absurd (grind (arith, h))
-closed-more s t (y ∷ ys) x h = by (is_at t y) h (closed-more s t ys x) where
-  by : (b : Bool) → list_any (λ (z : Timed). ends_epoch s z.message) (if b then y ∷ ys else from_first t ys) ≡ true → (is_closed s t ys ≡ true → is_closed s t (ys ++ x ∷ []) ≡ true)
-      → list_any (λ (z : Timed). ends_epoch s z.message) (if b then y ∷ (ys ++ x ∷ []) else from_first t (ys ++ x ∷ [])) ≡ true
-  by true h more = any-more s (y ∷ ys) x h
-  by false h more = more h
+closed-more s t (y ∷ ys) x h = grind (arith, common_steps, any-more, closed-more s t ys x)
 
 later_known : (t : ℕ) (a b : Option ℕ) → option_map_or (λ u. nat_lt t u) a false ≡ true → option_map_or (λ u. nat_lt t u) (max_known a b) false ≡ true
 later_known t a b h = grind (arith, common_steps, h)

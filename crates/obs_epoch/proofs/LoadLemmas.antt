@@ -1,5 +1,5 @@
 -- The cells of one more message, kept one by one, are the kept cells of the longer list.
-use Rattle.std.proofs.Common.{[], ◌≡◌, ℕ, suc, Bool, true, false, not, ◌||◌, ◌&&◌, List, ◌∷◌, ◌++◌, filter, refl, sym, ap, ap₂, ◌∙◌, subst, ◌==◌, arith, length, append_assoc, append-nil, Option, nat_le, if◌then◌else◌, cond}
+use Rattle.std.proofs.Common.{[], ◌≡◌, ℕ, suc, Bool, true, false, not, ◌||◌, ◌&&◌, List, ◌∷◌, ◌++◌, filter, refl, sym, ap, ap₂, ◌∙◌, subst, arith, length, append_assoc, append-nil, Option, nat_le, if◌then◌else◌, cond}
 use Rattle.obs_epoch.specs.Names.{System, is_system, CellOutcome, Crowded, Kept, Repeated, Skipped, count_in, lookup, outcome_by, outcome_of, outcome_of_added, is_held, GatherSetup, HeardCell, kept_cell, is_of_system, is_among, kept, add, is_planned, has_same_key, lli_with, GathererValue, with_more, outcome_in, hold, hold_by, load, PlanValue, planned_of, most_cells, EpochValue, cells_of, insert_by, sort_key_of, sorted, cell_sort_key, Cell, KnownLock, CellCounts}
 use Rattle.gnss_obs.specs.declared.epoch_cells.Added.TheVariants as added
 use Rattle.gnss_system.specs.SystemValues.{value_of, with_value_of, tabulate}
@@ -81,16 +81,13 @@ same_epoch : (p : PlanValue) (f : HeardCell → Option KnownLock) (t : ℕ) (xs 
 same_epoch p f t xs ys same = ap (λ cells. record { time = t; cells = cells }) (equal_values _ _ (λ system.
     cells_in_of system p f t xs ∙ ap (λ ks. with_lli_by f t (sorted (planned_of system p) ks)) (same system) ∙ sym (cells_in_of system p f t ys)))
 
-turned : (a b : ℕ) → (a == b) ≡ false → (b == a) ≡ false
-turned a b e = grind (arith, e)
-
 -- A cell that isn't kept changes no system's kept cells.
 kept_same : (xs : List HeardCell) (x : HeardCell) → (is_among (kept x.satellite.system xs) x || nat_le most_cells (length (kept x.satellite.system xs))) ≡ true → (system : System) → kept system xs ≡ kept system (xs ++ x ∷ [])
 kept_same xs x full system = sym (kept-add system xs x ∙ by (is_system x.satellite.system system) refl) where
   by : (b : Bool) → is_system x.satellite.system system ≡ b → add system (kept system xs) x ≡ kept system xs
   by true e = subst (λ (s : System). add s (kept s xs) x ≡ kept s xs) (system_same x.satellite.system system e)
       (add_own x.satellite.system (kept x.satellite.system xs) x (system_self x.satellite.system x.satellite.system refl) ∙ ap (λ b. if b then kept x.satellite.system xs else kept x.satellite.system xs ++ x ∷ []) full)
-  by false e = add_other system (kept system xs) x (turned _ _ e)
+  by false e = add_other system (kept system xs) x (grind (arith, e))
 
 -- A cell that is kept is inserted into the cells of its system.
 kept_more : (p : PlanValue) (f : HeardCell → Option KnownLock) (t : ℕ) (xs : List HeardCell) (x : HeardCell) → (is_among (kept x.satellite.system xs) x || nat_le most_cells (length (kept x.satellite.system xs))) ≡ false
@@ -117,7 +114,7 @@ kept_more p f t xs x room = ap (λ cells. record { time = t; cells = cells }) (e
       subst (λ (s : System). value_of s (with_value_of own before more) ≡ with_lli_by f t (sorted (planned_of s p) (kept s (xs ++ x ∷ [])))) (system_same own system e) at_own ∙ sym (cells_in_of system p f t (xs ++ x ∷ []))
   by system false e =
       value_of_other own system before more e ∙ cells_in_of system p f t xs
-      ∙ ap (λ ks. with_lli_by f t (sorted (planned_of system p) ks)) (sym (kept-add system xs x ∙ add_other system (kept system xs) x (turned _ _ e)))
+      ∙ ap (λ ks. with_lli_by f t (sorted (planned_of system p) ks)) (sym (kept-add system xs x ∙ add_other system (kept system xs) x (grind (arith, e))))
       ∙ sym (cells_in_of system p f t (xs ++ x ∷ []))
 
 -- After one more cell, the pending epoch is that of the longer list.

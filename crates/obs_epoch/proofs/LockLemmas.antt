@@ -67,10 +67,7 @@ seens ms = map (λ (m : Cell). (heard_cell m)) ms
 
 pub find_none : (key : HeardCell) (xs : List HeardCell) → is_among xs key ≡ false → find (has_same_key key) xs ≡ None
 find_none key [] h = refl
-find_none key (x ∷ xs) h = by (has_same_key key x) h (find_none key xs) where
-  by : (b : Bool) → (b || is_among xs key) ≡ false → (is_among xs key ≡ false → find (has_same_key key) xs ≡ None) → (if b then Some x else find (has_same_key key) xs) ≡ None
-  by true h more = grind (arith, h)
-  by false h more = more h
+find_none key (x ∷ xs) h = grind (arith, common_steps, find_none key xs)
 
 head_apart : (x : HeardCell) (xs : List HeardCell) → IsDistinct has_same_key (x ∷ xs) → is_among xs x ≡ false
 head_apart x xs d = none xs (IsDistinct-head has_same_key x xs d) where
@@ -116,12 +113,8 @@ tracks_put ts noted x l k h = record {
   size = length-set ts (lock_place x) (Some l) ∙ h.size;
 } where
   by : (s : Bool) (o : Option KnownLock) (b : Bool) → is_some o ≡ b → is_some (answer s l o) ≡ (b || s)
-  by true o b e = or_true b where
-    or_true : (b : Bool) → true ≡ (b || true)
-    or_true b = grind (arith, common_steps)
-  by false o b e = e ∙ or_false b where
-    or_false : (b : Bool) → b ≡ (b || false)
-    or_false b = grind (arith, common_steps)
+  by true o b e = grind (arith, common_steps)
+  by false o b e = grind (arith, common_steps, e)
 
 -- The locked ones of these cells.
 abbrev pub locked : List HeardCell → List HeardCell

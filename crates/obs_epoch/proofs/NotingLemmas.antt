@@ -1,5 +1,5 @@
 -- A closing: the locks of the pending epoch are recorded.
-use Rattle.std.proofs.Common.{◌≡◌, ℕ, true, false, List, [], ◌∷◌, ◌++◌, filter, refl, sym, ap, ap₂, ◌∙◌, subst, arith, length, append_assoc, append-nil, Option, Some, None, flat_map, find, option_and_then, filter_map, unwrap_or, fold, ◌==◌, ◌||◌, Bool, if◌then◌else◌}
+use Rattle.std.proofs.Common.{◌≡◌, ℕ, true, false, List, [], ◌∷◌, ◌++◌, filter, refl, sym, ap, ap₂, ◌∙◌, subst, arith, length, append_assoc, append-nil, Option, Some, None, flat_map, find, option_and_then, filter_map, unwrap_or, fold, ◌||◌, Bool, if◌then◌else◌}
 use Rattle.std.specs.Option.{option_or}
 use Rattle.std.specs.List.{IsDistinct, cons_option, list_any}
 use Rattle.gnss_system.specs.Systems.{systems}
@@ -122,9 +122,6 @@ found_over s xs t key rs (c ∷ ss) size =
       twice : (b : Bool) (l o : Option KnownLock) → option_or (if b then l else None) (option_or l o) ≡ option_or l o
       twice b l o = grind (arith, common_steps)
 
-      turned : (a b : ℕ) → (a == b) ≡ false → (b == a) ≡ false
-      turned a b e = grind (arith, e)
-
       by : (a b : Bool) → is_system key.satellite.system c ≡ a
           → option_or (if b then locked_at s xs key t else None) (option_or (option_and_then (lock_of t) (find (has_same_key key) (cells_at s t xs c))) (lookup rs key))
           ≡ option_or (if (a || b) then locked_at s xs key t else None) (lookup rs key)
@@ -133,7 +130,7 @@ found_over s xs t key rs (c ∷ ss) size =
           ∙ twice b (locked_at s xs key t) (lookup rs key)
       by false b e =
           ap (λ o. option_or (if b then locked_at s xs key t else None) (option_or (option_and_then (lock_of t) o) (lookup rs key)))
-          (find_none key (cells_at s t xs c) (at_apart s t xs c key (turned _ _ e)))
+          (find_none key (cells_at s t xs c) (at_apart s t xs c key (grind (arith, e))))
 
 tracks_over : (s : GatherSetup) (xs : List Timed) (t : ℕ) (rs : List (Option KnownLock)) (noted : List HeardCell) (ss : List System) → TracksLocks rs noted
     → TracksLocks (noting s xs t rs ss) (noted ++ filter is_locked (flat_map (cells_at s t xs) ss))

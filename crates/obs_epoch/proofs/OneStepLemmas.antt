@@ -1,11 +1,13 @@
 -- A step of the gatherer adds one message to the list.
-use Rattle.std.proofs.Common.{◌≡◌, ℕ, zero, suc, replicate, ◌<◌, Bool, true, false, not, ◌||◌, List, [], ◌∷◌, ◌++◌, filter, refl, sym, ap, ap₂, ◌∙◌, subst, arith, length, append-nil, Option, Some, None, nat_lt, if◌then◌else◌, cond, filter_map, flat_map}
+use Rattle.std.proofs.Common.{◌≡◌, ℕ, ◌<◌, Bool, true, false, not, List, [], ◌∷◌, ◌++◌, filter, refl, sym, ap, ap₂, ◌∙◌, subst, arith, append-nil, Option, Some, None, nat_lt, if◌then◌else◌, filter_map, flat_map}
+use Rattle.std.proofs.lemmas.List.{length-replicate}
 use Rattle.std.proofs.lemmas.List.Elements.{filter-append}
 use Rattle.obs_epoch.specs.Names.{GatherSetup, Heard, ends_epoch, HeardCell, kept_cell, Timed, is_at, greatest_time, is_closed, taken_at, no_counts, cells_at, offered, is_planned, locked_at, latest_in, previous, times, lli_with, cells_with_lli, epoch_at, closed_so_far, lookup, no_locks, State, closes_first, GathererValue, empty_epoch, load, epoch_begun, is_same, locked_in, held_at, Locked, KnownLock, option_map_or, list_any}
 use Rattle.gnss_system.proofs.SystemLaws.{equal_values, value_tabulated}
 use Rattle.obs_epoch.specs.Names.{planned_of, sorted, kept}
 use Rattle.obs_epoch.proofs.TimesLemmas.{next, greater-absent, none-absent}
 use Rattle.obs_epoch.proofs.ClockLemmas.{standing, same_time, Follows, first, greater, equal, new_time}
+use Rattle.obs_epoch.proofs.HeardLemmas.{same_itself}
 use Rattle.obs_epoch.proofs.ClosedLemmas.{Below, when, ends, closed_is, passes_all, one_fails, less_true, less_false, taken_follows, times-push_same}
 use Rattle.obs_epoch.proofs.ClosingLemmas.{taken_by, own_of}
 use Rattle.obs_epoch.proofs.EpochLemmas.{IsLater, AllLater, all_none, all_below, cells_at-push, times_before, epoch_at-push}
@@ -80,16 +82,10 @@ offered-more s xs m u some = grind (arith, common_steps)
 
 none_at : (u : ℕ) (xs : List Timed) → list_any (is_at u) xs ≡ false → filter (is_at u) xs ≡ []
 none_at u [] h = refl
-none_at u (x ∷ xs) h = by (is_at u x) h (none_at u xs) where
-  by : (b : Bool) → (b || list_any (is_at u) xs) ≡ false → (list_any (is_at u) xs ≡ false → filter (is_at u) xs ≡ []) → cond b (x ∷ filter (is_at u) xs) (filter (is_at u) xs) ≡ []
-  by true h more = grind (arith, h)
-  by false h more = more h
+none_at u (x ∷ xs) h = grind (arith, common_steps, none_at u xs)
 
 none_offered : (s : GatherSetup) (xs : List Timed) (u : ℕ) → list_any (is_at u) xs ≡ false → offered s u xs ≡ []
 none_offered s xs u h = ap (flat_map (λ (x : Timed). filter (is_planned s) x.message.cells)) (none_at u xs h)
-
-same_known : (u : ℕ) → is_same (Some u) (Some u) ≡ true
-same_known u = grind arith
 
 not_known : (t u : ℕ) → t < u → is_same (Some t) (Some u) ≡ false
 not_known t u h = grind arith
@@ -111,7 +107,7 @@ begun_is {g} {s} {xs} m {u} {shut} some h held locks now = ap (λ o. begun_to (g
   by (first e) = fresh (ap (λ o. is_same o (Some u)) e) (none-absent xs u e)
   by (greater t e lt) = fresh (ap (λ o. is_same o (Some u)) e ∙ not_known t u lt) (greater-absent xs t u e lt)
   by (equal e c) =
-      let same : is_same (greatest_time xs) (Some u) ≡ true = ap (λ o. is_same o (Some u)) e ∙ same_known u in
+      let same : is_same (greatest_time xs) (Some u) ≡ true = ap (λ o. is_same o (Some u)) e ∙ same_itself (Some u) in
       let at : filter (λ v. nat_lt v u) (times xs) ≡ closed_so_far s xs shut =
       ap (filter (λ v. nat_lt v u)) (sym (times-push_same xs (next s xs m) u some e)) ∙ (before_taken s xs m u shut some h).0 in
       let known : (key : HeardCell) → lookup g.locks key ≡ previous s xs u key =
@@ -155,12 +151,5 @@ held_same s xs m none =
 
 -- ---- before the first message
 
-abbrev none_known : Option KnownLock
-none_known = None
-
-none_sized : (n : ℕ) → length (replicate n none_known) ≡ n
-none_sized zero = refl
-none_sized (suc n) = ap suc (none_sized n)
-
 pub none_locked : (g : GathererValue) (s : GatherSetup) → g.locks ≡ no_locks → Locked g s [] (closed_so_far s [] false)
-none_locked g s e = grind (arith, common_steps, none_found, none_recorded, none_sized)
+none_locked g s e = grind (arith, common_steps, none_found, none_recorded, length-replicate {A = Option KnownLock})

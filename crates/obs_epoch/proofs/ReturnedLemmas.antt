@@ -1,7 +1,7 @@
 -- A call of the gatherer returns the epoch that the longer list closes.
 use Rattle.std.proofs.Common.{◌≡◌, ℕ, Bool, true, false, ◌||◌, ◌&&◌, List, [], ◌∷◌, ◌++◌, refl, sym, ap, ap₂, ◌∙◌, subst, arith, Option, Some, None, is_some, nat_lt, append-nil, if◌then◌else◌, option_to_list}
 use Rattle.std.proofs.lemmas.List.{map-append}
-use Rattle.obs_epoch.specs.Names.{GatherSetup, Heard, ends_epoch, Closed, EpochValue, Timed, is_at, greatest_time, from_first, is_closed, taken_at, timed, times, is_shut, closed_times, closed_so_far, epoch_at, values_of, is_pending, closes_first, GathererValue, empty_epoch, take_step, end_step, noted, HasTakenMessages, held_at, option_map_or, list_any}
+use Rattle.obs_epoch.specs.Names.{GatherSetup, Heard, Closed, EpochValue, Timed, is_at, greatest_time, is_closed, taken_at, timed, times, is_shut, closed_times, closed_so_far, epoch_at, values_of, is_pending, closes_first, GathererValue, empty_epoch, take_step, end_step, noted, HasTakenMessages, held_at, option_map_or, list_any}
 use Rattle.obs_epoch.specs.Step.{closed_time as closes}
 use Rattle.rtcm_bits.specs.Prefix.{IsPrefix}
 use Rattle.obs_epoch.specs.GathererHistory.{before_closing, closed_at, closed_list_at, known_epochs, closed_by, closed_in, returned_epoch, is_done, HasGatheredEpochs}
@@ -18,11 +18,7 @@ use Rattle.std.proofs.lemmas.Grind.{common_steps}
 
 closed_absent : (s : GatherSetup) (t : ℕ) (xs : List Timed) → list_any (is_at t) xs ≡ false → is_closed s t xs ≡ false
 closed_absent s t [] h = refl
-closed_absent s t (x ∷ xs) h = by (is_at t x) h (closed_absent s t xs) where
-  by : (b : Bool) → (b || list_any (is_at t) xs) ≡ false → (list_any (is_at t) xs ≡ false → is_closed s t xs ≡ false)
-      → list_any (λ (y : Timed). ends_epoch s y.message) (if b then x ∷ xs else from_first t xs) ≡ false
-  by true h more = grind (arith, h)
-  by false h more = more h
+closed_absent s t (x ∷ xs) h = grind (arith, common_steps, closed_absent s t xs)
 
 open_by : (s : GatherSetup) (xs : List Timed) (t : ℕ) → is_closed s t xs ≡ false → option_map_or (λ u. nat_lt t u) (greatest_time xs) false ≡ false → is_shut s xs t ≡ false
 open_by s xs t a b = ap₂ (λ (p q : Bool). p || q) a b
@@ -100,15 +96,8 @@ pending_closed v s ms e p epoch values has = grind (arith, common_steps, before_
 
 -- ---- the calls
 
-and_false : (a b : Bool) → a ≡ false → (a && b) ≡ false
-and_false a b e = ap (λ c. c && b) e
-
-or_and : (b a p : Bool) → a ≡ false → (b || (a && p)) ≡ b
-or_and true a p e = refl
-or_and false a p e = and_false a p e
-
 pub not_done : (v : GathererValue) (s : GatherSetup) (ms : List Heard) (again : Option Heard) → v.has_ended ≡ false → is_done v s ms again ≡ is_some again
-not_done v s ms again going = or_and (is_some again) v.has_ended (is_pending s (timed s ms)) going
+not_done v s ms again going = grind (arith, common_steps, going)
 
 -- A message is processed.
 pub gathers_taken : {g : GathererValue} {s : GatherSetup} {ms : List Heard} {es : List Closed} {again : Option Heard} (m : Heard) → HasGatheredEpochs g s ms es again → g.has_ended ≡ false
@@ -192,9 +181,6 @@ end_ended b h e = grind (arith, common_steps, e)
 pub end_handed : (b : Bool) (h : GathererValue) → (if b then noted h else h).just_closed ≡ h.just_closed
 end_handed b h = grind (arith, common_steps)
 
-and_true : (a : Bool) → (a && true) ≡ a
-and_true a = grind (arith, common_steps)
-
 -- No message follows.
 pub gathers_ended : (g : GathererValue) (s : GatherSetup) (ms : List Heard) (es : List Closed) → HasGatheredEpochs g s ms es None → g.has_ended ≡ false
     → (g.clock.pending ≡ is_pending s (timed s ms)) × HasGatheredEpochs (end_step g) s ms (es ++ returned_epoch (end_step g)) None
@@ -227,7 +213,7 @@ gathers_ended g s ms es h going = (
   f = ended g s ms false standing
 
   pending : g.clock.pending ≡ is_pending s xs
-  pending = f.was ∙ and_true (is_pending s xs)
+  pending = f.was ∙ grind (arith, common_steps)
 
   over : v.has_ended ≡ true
   over = end_ended g.clock.pending _ refl

@@ -9,7 +9,7 @@ use Rattle.gnss_system.proofs.Checked.{passes_at, passes_below, is_equal}
 use Rattle.gnss_obs.proofs.TableLaws.{id_back, ids_within}
 use Rattle.rtcm_msg.proofs.ValueLaws.{count_first}
 use Rattle.obs_epoch.proofs.SignalCountsLemmas.{every_hertz, listed_of, value_same, one_first, few_of}
-use Rattle.gnss_system.proofs.SystemLaws.{each_system, value_after, value_of_other, system_same}
+use Rattle.gnss_system.proofs.SystemLaws.{system_self, each_system, value_after, value_of_other, system_same}
 use Rattle.rtcm_bits.specs.Bits.{odd}
 use Rattle.std.proofs.Common.{◌/◌}
 use Rattle.gnss_system.specs.Signals.{most_signals}
@@ -30,9 +30,6 @@ one_way false false there back = refl
 both_of : (a b : Bool) → (a && b) ≡ true → (a ≡ true) × (b ≡ true)
 both_of true b h = (refl, h)
 both_of false b h = grind (arith, h)
-
-system_self : (a b : System) → a ≡ b → is_system a b ≡ true
-system_self a b h = grind (arith, common_steps, h)
 
 equal_self : (a b : ℕ) → a ≡ b → (a == b) ≡ true
 equal_self a b h = grind (arith, h)

@@ -4,6 +4,7 @@ use Rattle.std.proofs.lemmas.List.Sums.{fold-append}
 use Rattle.obs_epoch.specs.Names.{Message, Kind, CloseFirst, CellCounts, GatherSetup, Heard, heard_by, is_own, ends_epoch, HeardCell, Timed, greatest_time, taken_at, timed, no_counts, with_skipped, offered, counts_of, counts_of_message, epoch_at, closed_so_far, closed_times, values_of, values_after_message, State, HasHeardMessages, is_pending, closes_first, is_close_first, is_accepted, kind_after, with_unlisted, GathererValue, Loaded, empty_epoch, noted, load, loaded_if, loaded_where, outcome_in, load_one, with_time, begun_by, closed_if, closed_noted, epoch_begun, shut_where, ended_where, open_by, take_step, end_step, is_same, count_in, KnownLock, held_at, Locked, HasTakenMessages, EpochValue, option_map_or}
 use Rattle.rtcm_msg.specs.declared.message.Message.TheVariants as message
 use Rattle.obs_epoch.specs.Step.{kind_by, step_by, closed_time, closed_of}
+use Rattle.gnss_system.proofs.Checked.{both_first}
 use Rattle.obs_epoch.proofs.TimesLemmas.{next, timed-push}
 use Rattle.obs_epoch.proofs.ClockLemmas.{standing, same_state, takes, closes, new_time}
 use Rattle.obs_epoch.proofs.ClosedLemmas.{taken_follows}
@@ -159,9 +160,7 @@ pending_taken {g} {s} {ms} m {shut} h early none t e =
     let was = clock_is g.clock s ms shut h.clock in
     let kind : (n : CellCounts) → kind_by g.clock n m ≡ kind_after s xs n m = λ n. ap (λ c. kind_by c n m) was ∙ (takes s xs n m shut early).0 in
     let p : g.clock.pending ≡ true = was_pending (kind_by g.clock no_counts m) _ _ _ (ap is_close_first (kind no_counts) ∙ (refused s xs no_counts m none).0) (ap is_accepted (kind no_counts) ∙ (refused s xs no_counts m none).1) e in
-    left_true (is_pending s xs) (not shut) (sym h.clock.pending ∙ p) where
-      left_true : (a b : Bool) → (a && b) ≡ true → a ≡ true
-      left_true a b e = grind (arith, common_steps, e)
+    both_first (is_pending s xs) (not shut) (sym h.clock.pending ∙ p)
 
 -- A message with a point has neither a time nor a multiple message bit.
 abbrev pub IsSet : Heard → Type 0
@@ -254,9 +253,6 @@ ended_by g s ms shut b is was after = grind (arith, common_steps)
 ended_none : (g : GathererValue) (s : GatherSetup) (ms : List Heard) (shut : Bool) → HasTakenMessages g s ms shut → g.clock.pending ≡ false → Ended g s ms shut
 ended_none g s ms shut h f = grind (arith, common_steps)
 
-and_not_true : (b : Bool) → false ≡ (b && not true)
-and_not_true b = grind (arith, common_steps)
-
 -- The pending epoch is closed.
 ended_some : (g : GathererValue) (s : GatherSetup) (ms : List Heard) → HasTakenMessages g s ms false → g.clock.pending ≡ true → Ended g s ms false
 ended_some g s ms h f = by (greatest_time (timed s ms)) refl where
@@ -267,7 +263,7 @@ ended_some g s ms h f = by (greatest_time (timed s ms)) refl where
   by None e = absurd (grind (arith, f, e, h.clock.pending))
   by (Some t) e =
       let mid : Mid (stopping g) s ms true (closed_so_far s xs false) = record {
-        clock = record { setup = h.clock.setup; latest = h.clock.latest; pending = and_not_true (is_pending s xs) };
+        clock = record { setup = h.clock.setup; latest = h.clock.latest; pending = grind (arith, common_steps) };
         epoch = h.epoch;
         locks = record { found = h.locks.found; tracks = h.locks.tracks };
         values = h.values;

@@ -7,7 +7,7 @@ use Rattle.gnss_system.proofs.SystemLaws.{each_after, value_tabulated, tabulated
 use Rattle.obs_epoch.specs.GathererSteps.{cleared_if}
 use mathlib.Core.Bool.{beq, not}
 use Rattle.obs_epoch.proofs.ClockLemmas.{same_state}
-use Rattle.obs_epoch.proofs.HeardLemmas.{heard_step}
+use Rattle.obs_epoch.proofs.HeardLemmas.{heard_step, same_itself}
 use Rattle.gnss_obs.specs.declared.epoch_cells.Added.TheVariants as added
 use Rattle.std.proofs.lemmas.List.Sums.{fold-append}
 use Rattle.std.proofs.lemmas.List.Sorted.{list_any-IsPermutation, length_permutation}
@@ -155,13 +155,10 @@ clears_none {old} {new} pending last keeps = by new.pending refl where
 begins : (old new : State) (pending : CellLists) (closed : Closed) → KeepsEpoch old new → new.setup ≡ old.setup → (old.pending ≡ false → pending ≡ no_cells)
     → epoch_in new pending closed ≡ (if is_same old.latest new.latest then epoch_in old pending closed else empty_epoch (time_in new))
 begins old new pending closed keeps setup none = by old.pending new.pending refl refl where
-  itself : (l : Option ℕ) → is_same l l ≡ true
-  itself l = grind (arith, common_steps)
-
   unchanged : new ≡ old → epoch_in new pending closed ≡ (if is_same old.latest new.latest then epoch_in old pending closed else empty_epoch (time_in new))
   unchanged e =
       ap (λ (c : State). epoch_in c pending closed) e
-      ∙ ap (λ b. if b then epoch_in old pending closed else empty_epoch (time_in new)) (sym (itself old.latest) ∙ ap (λ (c : State). is_same old.latest c.latest) (sym e))
+      ∙ ap (λ b. if b then epoch_in old pending closed else empty_epoch (time_in new)) (sym (same_itself old.latest) ∙ ap (λ (c : State). is_same old.latest c.latest) (sym e))
 
   by : (was is : Bool) → old.pending ≡ was → new.pending ≡ is → epoch_in new pending closed ≡ (if is_same old.latest new.latest then epoch_in old pending closed else empty_epoch (time_in new))
   by true is e f = let kept = keeps.kept e in unchanged (same_state new old.setup old.latest old.pending setup kept.1 (kept.0 ∙ sym e))
