@@ -69,17 +69,13 @@ pub made_of : (at : DateTime) {t year month day hour minute second milli : ℕ} 
     → milli ≡ at.time.subsec_nanosecond / 1_000_000 → IsCivilOf t (record { year = year; month = month; day = day; hour = hour; minute = minute; millisecond = second * 1_000 + milli })
 made_of at {t} {year} {month} {day} {hour} {minute} {second} e is h i s f =
     let parts = parts_of at t e in
-    let hours = at.time.hour_in in
-    let minutes = at.time.minute_in in
-    let seconds = at.time.second_in in
-    let nanos = at.time.subsec_in in
     record {
       valid = record {
         date = subst (λ (v : ℤ). IsCivilDate v month day) (sym is.year)
             (subst (λ (n : ℕ). IsCivilDate at.date.year n day) (sym is.month) (subst (λ (n : ℕ). IsCivilDate at.date.year at.date.month n) (sym is.day) (valid_date at.date)));
-        hour = omega (arith, h, hours);
-        minute = omega (arith, i, minutes);
-        millisecond = omega (arith, s, f, seconds, nanos);
+        hour = omega (arith, h, at.time.hour_in);
+        minute = omega (arith, i, at.time.minute_in);
+        millisecond = omega (arith, s, f, at.time.second_in, at.time.subsec_in);
       };
       days = same_days at.date is t parts.0;
       clock = rw (h, i, s, f) (clock_is at.time.hour at.time.minute at.time.second at.time.subsec_nanosecond (t % 86_400_000) parts.1);

@@ -136,10 +136,7 @@ counted_is n last (c ∷ cells) up within above from = by (has_value c) (c.satel
 few_written : (cells : List Cell) (n : ℕ) → written_among cells n ≤ n
 unfolding written_among
 few_written cells zero = omega arith
-few_written cells (suc n) = by (is_written cells (suc n)) (few_written cells n) where
-  by : (b : Bool) → written_among cells n ≤ n → written_among cells n + one_if b ≤ suc n
-  by true h = omega (arith, h)
-  by false h = omega (arith, h)
+few_written cells (suc n) = grind (arith, common_steps, few_written cells n)
 
 pub all_counted : (count last i : ℕ) (cells : List Cell) → length cells ≤ i → count + counted_after last (drop i cells) ≡ counted_after 0 cells → count ≡ counted_after 0 cells
 all_counted count last i cells end h = grind (arith, common_steps)

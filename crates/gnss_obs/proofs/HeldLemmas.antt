@@ -24,9 +24,8 @@ pub kept_sorted : (system : System) (planned : List ℕ) (cells : List Cell) →
 kept_sorted system planned cells h =
     let moved = sort_moves (cell_sort_key planned) cells in
     let n = length_permutation cells (sorted_cells planned cells) moved in
-    let m = h.held.few in
     record {
-      held = record { each = All-permutation (IsHeld system) cells (sorted_cells planned cells) moved h.held.each; few = omega (arith, n, m) };
+      held = record { each = All-permutation (IsHeld system) cells (sorted_cells planned cells) moved h.held.each; few = omega (arith, n, h.held.few) };
       apart = IsDistinct-IsPermutation nat_eq nat_eq_equiv.symm (map slot cells) (map slot (sorted_cells planned cells)) (IsPermutation-map slot cells (sorted_cells planned cells) moved) h.apart;
     }
 

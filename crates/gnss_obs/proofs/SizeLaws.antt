@@ -5,7 +5,7 @@ use Rattle.std.specs.Prelude.{true, nat_le}
 use Rattle.std.proofs.Common.{refl}
 use Rattle.gnss_system.specs.Signals.{most_hertz}
 use Rattle.std.specs.List.{list_all, All}
-use Rattle.std.specs.Prelude.{◌==◌, ◌-◌, zero, suc, Bool, false, Option, Some, None, IfSome, get_or, if◌then◌else◌}
+use Rattle.std.specs.Prelude.{◌-◌, zero, suc, Option, Some, None, IfSome, get_or}
 use Rattle.std.proofs.lemmas.List.Elements.{All-head, All-tail}
 use Rattle.gnss_system.specs.Satellites.{Satellite}
 use Rattle.gnss_system.specs.declared.system.System.TheVariants.{Glonass}
@@ -28,10 +28,7 @@ pub hertz_within : (s : SignalAt) → hertz_of s ≤ most_hertz
 hertz_within s = carrier_within (band_of (code_of s)) (carriers s.system) (carriers_within s.system)
 
 channel_within : (band n : ℕ) → n ≤ most_number → channel_hertz band n ≤ most_hertz
-channel_within band n h = by (band == 1) where
-  by : (b : Bool) → (if b then 1_598_062_500 + 562_500 * n else 1_242_937_500 + 437_500 * n) ≤ most_hertz
-  by true = omega (arith, h)
-  by false = omega (arith, h)
+channel_within band n h = grind (arith, common_steps, h)
 
 abbrev IsNumber : Option ℕ → Type 0
 IsNumber number = IfSome number (λ n. n ≤ most_number)

@@ -7,23 +7,19 @@ use Rattle.gnss_obs.proofs.order.copy_satellite.Goals as goal
 pub push-requires : goal.push-requires
 push-requires c =
     let found = c.in-Some.ensures.found in
-    let x = c.index-as_slice-at.result in
     let next = entry_found c.args.id c.in-Some.at (record { plan = c.requires.signals; kept = c.requires.kept; planned = c.requires.planned }) (record { less = c.loop-i-test.true; is = c.index-signals-i.is; listed = c.index.ensures.listed })
     (found.0, λ d. found.1 d ∙ ap (λ n. 32 * c.args.id + n) c.index.ensures.value)
-    (c.index-as_slice-at.is ∙ ap (λ l. get_or l c.in-Some.at x) c.as_slice.ensures.cells) c.loop-i.invariant in
-    let room = next.0 in
-    let few = c.requires.kept.held.few in
-    omega (arith, room, few)
+    (c.index-as_slice-at.is ∙ ap (λ l. get_or l c.in-Some.at c.index-as_slice-at.result) c.as_slice.ensures.cells) c.loop-i.invariant in
+    omega (arith, next.0, c.requires.kept.held.few)
 
 pub loop-i-preserved : goal.loop-i-preserved
 loop-i-preserved c = elim c.match-find.branch [
   | in-Some w ↦
       let found = w.in-Some.ensures.found in
-      let x = w.index-as_slice-at.result in
       subst (AreBelow (indices c.args.signals.now) (64 * c.args.id + (c.loop-i.i + 1)) c.args.cells.now) (sym (w.sorted-is ∙ w.push.ensures))
       (entry_found c.args.id w.in-Some.at (record { plan = c.requires.signals; kept = c.requires.kept; planned = c.requires.planned }) (record { less = c.loop-i-test.true; is = c.index-signals-i.is; listed = c.index.ensures.listed })
       (found.0, λ d. found.1 d ∙ ap (λ n. 32 * c.args.id + n) c.index.ensures.value)
-      (w.index-as_slice-at.is ∙ ap (λ l. get_or l w.in-Some.at x) w.as_slice.ensures.cells) c.loop-i.invariant).1
+      (w.index-as_slice-at.is ∙ ap (λ l. get_or l w.in-Some.at w.index-as_slice-at.result) w.as_slice.ensures.cells) c.loop-i.invariant).1
   | in_default w ↦
       subst (AreBelow (indices c.args.signals.now) (64 * c.args.id + (c.loop-i.i + 1)) c.args.cells.now) (sym w.sorted-is)
       (entry_none c.args.id (record { plan = c.requires.signals; kept = c.requires.kept; planned = c.requires.planned }) (record { less = c.loop-i-test.true; is = c.index-signals-i.is; listed = c.index.ensures.listed })

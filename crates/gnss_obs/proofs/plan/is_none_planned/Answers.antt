@@ -6,5 +6,4 @@ use Rattle.gnss_obs.proofs.plan.is_none_planned.Goals as goal
 
 pub returns : goal.returns
 returns c =
-    let end = c.loop-i-test.false in
-    sym (all_list (λ s. is_nil (value_of s c.args.lists.now)) (λ s. ap is_nil (below_all (λ s. value_of s c.args.lists.now ≡ []) c.loop-i.i (omega (arith, end)) c.loop-i.invariant s)))
+    sym (all_list (λ s. is_nil (value_of s c.args.lists.now)) (λ s. ap is_nil (below_all (λ s. value_of s c.args.lists.now ≡ []) c.loop-i.i (omega (arith, c.loop-i-test.false)) c.loop-i.invariant s)))

@@ -18,8 +18,7 @@ loop-i-preserved c =
 
 pub returns : goal.returns
 returns c =
-    let end = c.loop-i-test.false in
     sym (sum_none (λ s. written_among (cells_of s c.args.self.now.epoch) (satellites_in s)) (λ s.
-    zero_from _ (below_all (λ s. nat_lt 0 (written_among (cells_of s c.args.self.now.epoch) (satellites_in s)) ≡ false) c.loop-i.i (omega (arith, end)) c.loop-i.invariant s))) where
+    zero_from _ (below_all (λ s. nat_lt 0 (written_among (cells_of s c.args.self.now.epoch) (satellites_in s)) ≡ false) c.loop-i.i (omega (arith, c.loop-i-test.false)) c.loop-i.invariant s))) where
       zero_from : (n : ℕ) → nat_lt 0 n ≡ false → n ≡ 0
       zero_from n h = grind (arith, h)

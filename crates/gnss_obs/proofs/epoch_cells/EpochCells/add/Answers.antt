@@ -11,9 +11,8 @@ pub returns : goal.returns
 returns c =
     let system = c.system.result in
     let lists = c.self.inside.lists in
-    let new = c.add_to.new.cells in
     subst (IsAdded c.args.self.now c.args.x c.add_to.result)
-    (sym (ap (map_by (λ list. list.value)) c.add_to.ensures.others ∙ mapped_after (λ list. list.value) system lists (value_of system new)))
+    (sym (ap (map_by (λ list. list.value)) c.add_to.ensures.others ∙ mapped_after (λ list. list.value) system lists (value_of system c.add_to.new.cells)))
     (is_added (sym c.system.ensures) (subst (AreHeld system) (sym (value_mapped system (λ list. list.value) lists)) (c.self.invariant system).held) c.requires.observed c.self.view_is
     (sym (value_mapped system (λ list. list.value) lists)) c.add_to.ensures.own)
 

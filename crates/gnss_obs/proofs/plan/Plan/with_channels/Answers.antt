@@ -1,5 +1,4 @@
 use Rattle.std.proofs.Common.{◌≡◌, ◌∙◌, [], ap, sym, true≢false}
-use Rattle.gnss_system.specs.SystemValues.{value_of}
 use Rattle.gnss_system.specs.declared.system.System.TheVariants.{Glonass}
 use Rattle.gnss_system.proofs.SystemLaws.{value_mapped}
 use Rattle.gnss_obs.specs.Names.{PlanValue, indices, planned_of}
