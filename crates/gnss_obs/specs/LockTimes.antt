@@ -19,15 +19,15 @@ word_of t = unwrap_or t no_time
 abbrev pub time_of : ℕ → Option ℕ
 time_of word = if word == no_time then None else Some word
 
--- the last indicator of MSM4 (DF402)
+-- the last indicator of MSM4 and MSM5 (DF402)
 abbrev pub last4 : ℕ
 last4 = 15
 
--- the last indicator of MSM7 (DF407) that has a time; from 705 on the lock is unknown
+-- the last indicator of MSM6 and MSM7 (DF407) that has a time; from 705 on the lock is unknown
 abbrev pub last7 : ℕ
 last7 = 704
 
--- the least time of an indicator of MSM4: 0 for 0, 32 for 1, and twice the one before from 2 on
+-- the least time of an indicator of MSM4 and MSM5: 0 for 0, 32 for 1, and twice the one before from 2 on
 abbrev pub least4 : ℕ → ℕ
 least4 i = if i == 0 then 0 else 2 ^ (i + 4)
 
@@ -38,11 +38,11 @@ times4 i = record {
   upper = if i == last4 then None else Some (least4 (i + 1));
 }
 
--- the number of doublings of the unit of the least time at an indicator of MSM7
+-- the number of doublings of the unit of the least time at an indicator of MSM6 and MSM7
 abbrev pub doublings : ℕ → ℕ
 doublings i = i / 32 - 1
 
--- the least time of an indicator of MSM7, from 0 to the last that has one
+-- the least time of an indicator of MSM6 and MSM7, from 0 to the last that has one
 abbrev pub least7 : ℕ → ℕ
 least7 i = (i - 32 * doublings i) * 2 ^ doublings i
 

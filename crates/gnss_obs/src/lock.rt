@@ -89,7 +89,7 @@ fn least7(code: u16) -> u32
 }
 
 impl Lock {
-    /// Returns the lock of an indicator of MSM4 (RTCM 10403.3 DF402), 0 to 15.
+    /// Returns the lock of an indicator of MSM4 and MSM5 (RTCM 10403.3 DF402), 0 to 15.
     pub fn from_df402(code: u8) -> Lock
         requires { code ≤ last4 }
         ensures { result ≡ times4 code }
@@ -101,8 +101,8 @@ impl Lock {
         }
     }
 
-    /// Returns the lock of an indicator of MSM7 (RTCM 10403.3 DF407), 0 to 1,023. From 705 on it
-    /// is unknown.
+    /// Returns the lock of an indicator of MSM6 and MSM7 (RTCM 10403.3 DF407), 0 to 1,023. From
+    /// 705 on it is unknown.
     pub fn from_df407(code: u16) -> Lock
         requires { code < 2 ^ 10 }
         ensures { result ≡ times7 code }

@@ -222,7 +222,7 @@ impl Plan {
         self.list(system).is_in_table_order()
     }
 
-    // Returns the list of the wanted signals of a system.
+    /// Returns the list of the wanted signals of a system.
     #[inline(always)]
     pub fn list(&self, system: System) -> &Signals
         ensures indices { indices result.now ≡ planned_of system self.now }

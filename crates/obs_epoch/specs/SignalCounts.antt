@@ -19,7 +19,7 @@ use Rattle.gnss_system.specs.Systems.{is_system}
 
 -- ---- the cells that are counted
 
--- A channel for each slot: a cell with a phase range or a rate is counted, whatever its carrier is.
+-- A channel for each slot: a cell with a phase range or a rate is counted, regardless of its carrier.
 abbrev pub every_channel : ChannelsValue
 every_channel = replicate slot_count (Some 7)
 

@@ -73,7 +73,8 @@ impl Model for Gatherer {
 
 impl Gatherer {
     /// Returns a gatherer of the messages of one station; with `None`, of all stations as if they
-    /// were one. The first time is in the start week. No other call allocates memory.
+    /// were one. The first time is in the start week. Only this call, `with_values` and
+    /// `with_options` allocate.
     ///
     /// # Errors
     ///

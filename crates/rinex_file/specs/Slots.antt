@@ -34,7 +34,8 @@ last_slot last (s ∷ ss) = last_slot s.slot ss
 abbrev pub slots_in_line : ℕ
 slots_in_line = 8
 
--- the number of lines that a number of slots needs, beside the first; the last may not be full
+-- the number of lines that a number of slots needs, of which the last may not be full; it is 0 without a slot, and
+-- then one line is written too
 abbrev pub slot_rows : ℕ → ℕ
 slot_rows count = (count + 7) / slots_in_line
 

@@ -42,7 +42,7 @@ use std::io::Read;
 use std::marker::Model;
 
 /// Converts a stream to an observation file. It holds at most 1,029 bytes of the stream, 256 cells
-/// per system and 1,164 lock records; [`kept`](Converter::kept) returns their numbers.
+/// per system and 2,566 lock records; [`kept`](Converter::kept) returns their numbers.
 #[derive(Drop)]
 pub struct Converter {
     framer: Framer,
@@ -439,7 +439,7 @@ impl Converter {
         self.file_writer.gatherer.cells(system)
     }
 
-    /// Returns the number of lock records held, from 0 to 1,164: one for each satellite and signal
+    /// Returns the number of lock records held, from 0 to 2,566: one for each satellite and signal
     /// of which a closed epoch has a kept cell with a valid phase and a known lock.
     pub fn locks(&self) -> usize
         ensures value { result ≡ recorded self.now.file_writer.gatherer.locks }

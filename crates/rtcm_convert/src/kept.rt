@@ -10,7 +10,7 @@ pub struct Kept {
     /// Number of cells of each system of the pending epoch or, if none is pending, of the one closed
     /// last; at most 256.
     pub cells: BySystem<usize>,
-    /// Number of lock records, at most 1,164.
+    /// Number of lock records, at most 2,566.
     pub locks: usize,
     /// Number of reads of bytes in all.
     pub examined: u64,

@@ -24,7 +24,8 @@ pub(crate) fn slots_in(channels: &Channels) -> usize
     channels.count()
 }
 
-/// Returns the number of lines that a number of slots needs, beside the first.
+/// Returns the number of lines that a number of slots needs. It is 0 without a slot; then one line
+/// is written too.
 pub(crate) fn slot_rows(count: usize) -> usize
     requires { count ≤ 1000 }
     ensures { result ≡ slot_rows count }

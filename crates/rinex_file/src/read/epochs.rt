@@ -18,9 +18,11 @@ use std::io::Read;
 /// What follows in a file.
 #[derive(Clone, Copy)]
 pub enum NextEpoch {
-    /// An epoch at a time, and the times of those before it, if there are any.
+    /// An epoch.
     Epoch {
+        /// The times of the epochs before it, if there are any.
         before: Option<EpochTimes>,
+        /// Its time.
         time: GpsTime,
     },
     /// The end of the file, which has this summary.
@@ -44,7 +46,7 @@ impl EpochReader {
     }
 
     /// Reads the lines of the next epoch, or the end of the file. It accepts the files that
-    /// [`check_file`](crate::check_file) accepts.
+    /// [`check_file`](crate::check_file) accepts. Not to be called after the end or an error.
     ///
     /// # Errors
     ///
