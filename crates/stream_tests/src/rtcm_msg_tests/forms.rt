@@ -126,66 +126,112 @@ fn messages_have_up_to_64_cells(rt: HostRuntime) {
     }
 }
 
+// The data of satellites and cells with rates: the greatest values, the least valid ones, and the
+// invalid ones.
+static SATELLITES: [Satellite; 3] = [
+    Satellite {
+        whole: 254,
+        extended: 15,
+        fraction: 1023,
+        rate: 8191,
+    },
+    Satellite {
+        whole: 0,
+        extended: 0,
+        fraction: 0,
+        rate: -8191,
+    },
+    Satellite {
+        whole: 70,
+        extended: 0,
+        fraction: 0,
+        rate: INVALID_ROUGH_RATE,
+    },
+];
+
+static COARSE_CELLS: [Cell; 3] = [
+    Cell {
+        range: 16_383,
+        phase: 2_097_151,
+        lock: 15,
+        half_cycle: true,
+        strength: 63,
+        rate: 16_383,
+    },
+    Cell {
+        range: -16_383,
+        phase: -2_097_151,
+        lock: 0,
+        half_cycle: false,
+        strength: 1,
+        rate: -16_383,
+    },
+    Cell {
+        range: -16_384,
+        phase: -2_097_152,
+        lock: 0,
+        half_cycle: false,
+        strength: 0,
+        rate: INVALID_FINE_RATE,
+    },
+];
+
+static FINE_CELLS: [Cell; 3] = [
+    Cell {
+        range: 524_287,
+        phase: 8_388_607,
+        lock: 1023,
+        half_cycle: true,
+        strength: 1023,
+        rate: 16_383,
+    },
+    Cell {
+        range: -524_287,
+        phase: -8_388_607,
+        lock: 0,
+        half_cycle: false,
+        strength: 1,
+        rate: -16_383,
+    },
+    Cell {
+        range: -524_288,
+        phase: -8_388_608,
+        lock: 0,
+        half_cycle: false,
+        strength: 0,
+        rate: INVALID_FINE_RATE,
+    },
+];
+
+/// The data of a satellite and a cell in a form, which may lack the rates and the extended
+/// information.
+fn of_form(form: Form, satellite: Satellite, cell: Cell) -> (Satellite, Cell) {
+    if form.has_rates() {
+        return (satellite, cell);
+    }
+    let satellite = Satellite {
+        extended: 0,
+        rate: INVALID_ROUGH_RATE,
+        ..satellite
+    };
+    let cell = Cell {
+        rate: INVALID_FINE_RATE,
+        ..cell
+    };
+    (satellite, cell)
+}
+
 /// The greatest values of a form, the least valid ones, and the invalid ones.
 fn limits(form: Form) -> [(Satellite, Cell); 3] {
-    let (range, phase, lock, strength) = if form.is_fine() {
-        (1 << 19, 1 << 23, 1023, 1023)
+    let cells = if form.is_fine() {
+        &FINE_CELLS
     } else {
-        (1 << 14, 1 << 21, 15, 63)
+        &COARSE_CELLS
     };
-    let rates = form.has_rates();
-    let rough = |rate: i16| if rates { rate } else { INVALID_ROUGH_RATE };
-    let fine = |rate: i16| if rates { rate } else { INVALID_FINE_RATE };
-    let extended = if rates { 15 } else { 0 };
     [
-        (
-            Satellite {
-                whole: 254,
-                extended,
-                fraction: 1023,
-                rate: rough(8191),
-            },
-            Cell {
-                range: range - 1,
-                phase: phase - 1,
-                lock,
-                half_cycle: true,
-                strength,
-                rate: fine(16383),
-            },
-        ),
-        (
-            Satellite {
-                whole: 0,
-                extended: 0,
-                fraction: 0,
-                rate: rough(-8191),
-            },
-            Cell {
-                range: 1 - range,
-                phase: 1 - phase,
-                lock: 0,
-                half_cycle: false,
-                strength: 1,
-                rate: fine(-16383),
-            },
-        ),
-        (
-            Satellite {
-                whole: 70,
-                extended: 0,
-                fraction: 0,
-                rate: INVALID_ROUGH_RATE,
-            },
-            Cell {
-                range: -range,
-                phase: -phase,
-                lock: 0,
-                half_cycle: false,
-                strength: 0,
-                rate: INVALID_FINE_RATE,
-            },
-        ),
+        of_form(form, SATELLITES[0], cells[0]),
+        of_form(form, SATELLITES[1], cells[1]),
+        of_form(form, SATELLITES[2], cells[2]),
     ]
 }
 
