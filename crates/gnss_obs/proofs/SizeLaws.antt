@@ -5,11 +5,11 @@ use Rattle.std.specs.Prelude.{true, nat_le}
 use Rattle.std.proofs.Common.{refl}
 use Rattle.gnss_system.specs.Signals.{most_hertz}
 use Rattle.std.specs.List.{list_all, All}
-use Rattle.std.specs.Prelude.{◌-◌, zero, suc, Option, Some, None, IfSome, get_or}
+use Rattle.std.specs.Prelude.{◌==◌, ◌-◌, zero, suc, Bool, false, Option, Some, None, IfSome, get_or, if◌then◌else◌}
 use Rattle.std.proofs.lemmas.List.Elements.{All-head, All-tail}
 use Rattle.gnss_system.specs.Satellites.{Satellite}
 use Rattle.gnss_system.specs.declared.system.System.TheVariants.{Glonass}
-use Rattle.gnss_obs.specs.Channels.{AreChannels, ChannelsValue, channel_hertz, hertz_by, hertz_in, most_number, number_at}
+use Rattle.gnss_obs.specs.Channels.{AreChannels, ChannelsValue, carrier_at, channel_hertz, hertz_by, hertz_in, most_number, number_at}
 use Rattle.gnss_system.proofs.SystemLaws.{each_system}
 use Rattle.gnss_obs.specs.Names.{System, carrier_of, band_of, SignalAt, carriers, code_of, hertz_of, light, nearest_pseudorange, nearest_phase, nearest_doppler}
 use Rattle.gnss_obs.proofs.NearestLaws.{nearest_is, nearest_bound, product_within}
@@ -28,7 +28,10 @@ pub hertz_within : (s : SignalAt) → hertz_of s ≤ most_hertz
 hertz_within s = carrier_within (band_of (code_of s)) (carriers s.system) (carriers_within s.system)
 
 channel_within : (band n : ℕ) → n ≤ most_number → channel_hertz band n ≤ most_hertz
-channel_within band n h = grind (arith, common_steps, h)
+channel_within band n h = by (band == 1) where
+  by : (b : Bool) → (if b then carrier_at 1 562_500 n else carrier_at 2 437_500 n) ≤ most_hertz
+  by true = omega (arith, h)
+  by false = omega (arith, h)
 
 abbrev IsNumber : Option ℕ → Type 0
 IsNumber number = IfSome number (λ n. n ≤ most_number)

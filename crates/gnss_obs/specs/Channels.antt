@@ -4,7 +4,7 @@ use Rattle.std.specs.Prelude.{Option, Some, None, option_map, if◌then◌else�
 use Rattle.gnss_system.specs.declared.system.System.{System}
 use Rattle.gnss_system.specs.declared.system.System.TheVariants.{Glonass}
 use Rattle.gnss_system.specs.Satellites.{Satellite, satellites}
-use Rattle.gnss_system.specs.Signals.{SignalAt, band_of, code_of, hertz_of}
+use Rattle.gnss_system.specs.Signals.{SignalAt, band_of, carrier_of, carriers, code_of, hertz_of}
 
 -- The number of the channel of each slot from 1 on, if it is known: the channel plus 7 (DF040, DF419).
 abbrev pub ChannelsValue : Type 0
@@ -34,10 +34,13 @@ number_at channels slot = get_or channels (slot - 1) None
 abbrev pub with_number : ChannelsValue → ℕ → ℕ → ChannelsValue
 with_number channels slot number = set channels (slot - 1) (Some number)
 
+-- The carrier in hertz at a number of steps from channel -7 of a band of GLONASS, of which channel 0 is in the table.
+abbrev pub carrier_at : (band step number : ℕ) → ℕ
+carrier_at band step number = carrier_of (carriers Glonass) band + step * number - step * 7
+
 -- The carrier of a band of GLONASS at the channel of a number, in hertz: 562.5 kHz or 437.5 kHz from one to the next.
 abbrev pub channel_hertz : ℕ → ℕ → ℕ
-channel_hertz band number =
-    if band == 1 then 1_598_062_500 + 562_500 * number else 1_242_937_500 + 437_500 * number
+channel_hertz band number = if band == 1 then carrier_at 1 562_500 number else carrier_at 2 437_500 number
 
 -- The carrier of a signal of a satellite in hertz, if it is known: that of GLONASS depends on the satellite's channel.
 abbrev pub hertz_by : System → Option ℕ → SignalAt → Option ℕ
