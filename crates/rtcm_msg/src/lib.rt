@@ -22,6 +22,7 @@ mod masks;
 mod message;
 mod msm;
 mod number;
+mod packed;
 mod pairs;
 mod station;
 mod summary;
