@@ -1,8 +1,8 @@
 # make build      proves and builds the program, crates/rtcm2rinex/out/rtcm2rinex
-# make run        builds it, prints the options that fit a recording, converts its GPS and Galileo with them, prints the
+# make run        builds it, prints the options that fit a recording, converts all its systems with them, prints the
 #                 start of the file and the report, and checks the file
-# make try        converts the recording before any proof, by the toolchain's way to run unproved code, and prints the
-#                 start of the file: a first look within a minute. It proves nothing; `make run` does
+# make try        converts the recording with the stored options before any proof, by the toolchain's way to run
+#                 unproved code, and prints the start of the file: a first look within a minute. It proves nothing
 # make dist       packs the proved program with its documents, out/rtcm2rinex-VERSION-linux-x86_64.tar.gz
 # make deb        the same as a Debian package, out/rtcm2rinex_VERSION_amd64.deb; needs dpkg-deb
 # make install    builds it if it is missing, and installs program, manual page and completion for bash to PREFIX
@@ -15,10 +15,8 @@
 PROGRAM := crates/rtcm2rinex/out/rtcm2rinex
 SAMPLE := samples/zed-f9t-2019-10-17
 MADE := out/zed-f9t-2019-10-17
-OPTIONS := --week 2075 --date "20240204 000001 UTC"
-
-# What `options` prints for the recording, but for other systems than GPS and Galileo.
-PLAN := --gps 1C,2L --galileo 1C,7Q --position=-2386072.7310,-3922192.5049,4414363.4131
+DAY := 2019-10-17
+DATE := "20240204 000001 UTC"
 
 PREFIX ?= /usr/local
 
@@ -32,20 +30,21 @@ build:
 
 run: build
 	@mkdir -p out
-	$(PROGRAM) options < $(SAMPLE).rtcm3
-	$(PROGRAM) convert $(OPTIONS) $(PLAN) < $(SAMPLE).rtcm3 > $(MADE).obs 2> $(MADE).report
-	@head -n 20 $(MADE).obs
+	$(PROGRAM) options --near $(DAY) < $(SAMPLE).rtcm3 > $(MADE).plan
+	@cat $(MADE).plan
+	$(PROGRAM) convert --date $(DATE) $$(cat $(MADE).plan) < $(SAMPLE).rtcm3 > $(MADE).obs 2> $(MADE).report
+	@head -n 30 $(MADE).obs
 	@echo ".. $$(wc -l < $(MADE).obs) lines in $(MADE).obs, and the report:"
 	@cat $(MADE).report
-	@cmp $(MADE).obs $(SAMPLE).obs && cmp $(MADE).report $(SAMPLE).report && echo "both as stored in samples/"
+	@for part in plan obs report; do cmp $(MADE).$$part $(SAMPLE).$$part || exit 1; done; echo "all as stored in samples/"
 	@echo "read back: $$($(PROGRAM) check < $(MADE).obs)"
 
 try:
 	@mkdir -p out
 	@echo "nothing is proved here: the program is built without its proofs (make run proves it)"
-	@cd crates/rtcm2rinex && rt try -- convert $(OPTIONS) $(PLAN) < ../../$(SAMPLE).rtcm3 \
+	@cd crates/rtcm2rinex && rt try -- convert --date $(DATE) $$(cat ../../$(SAMPLE).plan) < ../../$(SAMPLE).rtcm3 \
 	    > ../../out/try.obs 2> ../../out/try.report || { cat ../../out/try.report; exit 1; }
-	@head -n 20 out/try.obs
+	@head -n 30 out/try.obs
 	@echo ".. $$(wc -l < out/try.obs) lines in out/try.obs, and the report:"
 	@grep '^bytes ' out/try.report
 	@cmp out/try.obs $(SAMPLE).obs && echo "the file is as stored in samples/; nothing was proved"
