@@ -2,6 +2,7 @@
 //!
 //! A test is a setting and a list of cases; `scenario` runs them.
 mod broken;
+mod channels;
 mod check;
 mod convert;
 mod faults;

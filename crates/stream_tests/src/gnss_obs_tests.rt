@@ -1,4 +1,6 @@
 //! Values from outside: the rows of the tables, and fractions computed by hand.
+mod channels;
+
 use gnss_obs::{
     Lock, Sat, Signal, System, Thousandths, doppler, is_lost, phase, pseudorange, strength,
     strength_digit,
