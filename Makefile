@@ -7,7 +7,7 @@
 # make deb        the same as a Debian package, out/rtcm2rinex_VERSION_amd64.deb; needs dpkg-deb
 # make install    builds it if it is missing, and installs program, manual page and completion for bash to PREFIX
 #                 (/usr/local)
-# make read-back  builds it, and has RTKLIB read back the converted recordings
+# make read-back  builds it, has RTKLIB read back the converted recordings, and compares RTKLIB's own conversions
 # make test       runs the gate: documents, all proofs, must-fail mutants, tests, stored cases, the commands of the manual
 #                 page, random streams, fault injection (docs/GATE.md)
 # make bench      compares the instructions of the programs that make test left with stored ones; needs valgrind
