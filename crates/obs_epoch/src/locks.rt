@@ -13,8 +13,19 @@ use gnss_system::{SYSTEMS, System};
 use std::alloc::{AllocError, Global};
 use std::marker::Model;
 
+// The first entry of each system but GPS. A system has one for each satellite and signal.
+const GALILEO_FIRST: usize = 32 * 15;
+
+const GLONASS_FIRST: usize = GALILEO_FIRST + 36 * 19;
+
+const BEIDOU_FIRST: usize = GLONASS_FIRST + 27 * 4;
+
+const QZSS_FIRST: usize = BEIDOU_FIRST + 63 * 16;
+
+const SBAS_FIRST: usize = QZSS_FIRST + 10 * 13;
+
 /// Largest number of lock records: one for each key of all systems.
-pub const MOST_LOCKS: usize = 2_566;
+pub const MOST_LOCKS: usize = SBAS_FIRST + 39 * 4;
 
 /// A known lock, and the time of its epoch in milliseconds since 1980-01-06 00:00:00.
 #[derive(Clone, Copy)]
@@ -120,11 +131,11 @@ fn keys_of(system: System) -> Keys
 {
     let (first, signals) = match system {
         System::Gps => (0, 15),
-        System::Galileo => (480, 19),
-        System::Glonass => (1_164, 4),
-        System::Beidou => (1_272, 16),
-        System::Qzss => (2_280, 13),
-        System::Sbas => (2_410, 4),
+        System::Galileo => (GALILEO_FIRST, 19),
+        System::Glonass => (GLONASS_FIRST, 4),
+        System::Beidou => (BEIDOU_FIRST, 16),
+        System::Qzss => (QZSS_FIRST, 13),
+        System::Sbas => (SBAS_FIRST, 4),
     };
     Keys { first, signals }
 }
