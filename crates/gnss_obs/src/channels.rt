@@ -9,14 +9,17 @@ use crate::signal::Signal;
 use gnss_system::System;
 use std::marker::Model;
 
-/// Number of GLONASS slots: one for each satellite.
-const SLOT_COUNT: usize = 27;
+/// Greatest GLONASS slot: there is one for each satellite, from 1 on.
+pub const GREATEST_SLOT: u8 = 27;
+
+/// Greatest number of a GLONASS channel, that of channel 6.
+pub const GREATEST_CHANNEL_NUMBER: u8 = 13;
 
 /// The frequency channel of each GLONASS slot, if it is known, as the number that messages contain:
 /// the channel plus 7, 0 to 13 (RTCM 10403.3, DF040 and DF419).
 #[derive(Clone, Copy)]
 pub struct Channels {
-    numbers: [Option<u8>; SLOT_COUNT],
+    numbers: [Option<u8>; GREATEST_SLOT as usize],
 }
 
 impl Model for Channels {
@@ -37,7 +40,7 @@ impl Channels {
         ensures { result ≡ no_channels }
     {
         Channels {
-            numbers: [None; SLOT_COUNT],
+            numbers: [None; GREATEST_SLOT as usize],
         }
     }
 

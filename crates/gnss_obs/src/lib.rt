@@ -26,7 +26,7 @@ mod thousandths;
 mod time;
 
 pub use cell::{Cell, GREATEST_COORDINATE, LEAST_COORDINATE, StationValues};
-pub use channels::Channels;
+pub use channels::{Channels, GREATEST_CHANNEL_NUMBER, GREATEST_SLOT};
 pub use civil::Civil;
 pub use epoch::{Epoch, MOST_CELLS, end_of, is_written};
 pub use epoch_cells::{Added, EpochCells};

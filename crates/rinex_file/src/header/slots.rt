@@ -8,10 +8,7 @@ ghost use Rattle.rinex_file.specs.Slots.{slot_text, slot_rows, slots_front, slot
 
 use crate::header::lines::labelled;
 use crate::write::line::{Line, put, put_whole};
-use gnss_obs::Channels;
-
-/// Number of slots.
-pub(crate) const SLOT_COUNT: u8 = 27;
+use gnss_obs::{Channels, GREATEST_SLOT};
 
 /// Largest number of slots in a line.
 pub(crate) const SLOTS_IN_LINE: usize = 8;
@@ -81,7 +78,7 @@ fn put_slots(content: &mut Line, channels: &Channels, row: usize)
 {
     channels.are_channels();
     let mut before = 0;
-    for i in 0..SLOT_COUNT {
+    for i in 0..GREATEST_SLOT {
         if let Some(number) = channels.number(i + 1) {
             if before / SLOTS_IN_LINE == row {
                 put_slot(content, i + 1, number);

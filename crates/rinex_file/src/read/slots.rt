@@ -5,10 +5,10 @@ ghost use Rattle.rinex_file.specs.Read.Fields.{digits_in};
 ghost use Rattle.rinex_file.specs.Read.HeaderSteps.{IsLineOfSlots, TakesOrRefusesSlots};
 ghost use Rattle.rinex_file.specs.Slots.{SlotNumber, channel_text, last_slot, slots_in_line, slots_of};
 
-use crate::header::slots::{SLOT_COUNT, SLOTS_IN_LINE, slots_with};
+use crate::header::slots::{SLOTS_IN_LINE, slots_with};
 use crate::read::header_lines::columns;
 use crate::read::numbers::{digits_in, is_same};
-use gnss_obs::Channels;
+use gnss_obs::{Channels, GREATEST_CHANNEL_NUMBER, GREATEST_SLOT};
 
 /// What was read of the channels.
 #[derive(Drop)]
@@ -33,7 +33,7 @@ fn number_in(text: &[u8]) -> Option<u8>
     } else {
         size.saturating_add(7)
     };
-    (number <= 13).then_some(number)
+    (number <= GREATEST_CHANNEL_NUMBER).then_some(number)
 }
 
 /// Returns the last slot with a channel, or 0 without one.
@@ -42,7 +42,7 @@ fn last_slot(channels: &Channels) -> u64
 {
     channels.are_channels();
     let mut last = 0;
-    for i in 0..SLOT_COUNT {
+    for i in 0..GREATEST_SLOT {
         if channels.number(i + 1).is_some() {
             last = i as u64 + 1;
         }
@@ -78,7 +78,7 @@ fn take_slots(channels: &mut Channels, row: usize, end: usize, line: &[u8]) -> O
         if slot <= last {
             return None;
         }
-        if slot > SLOT_COUNT as u64 {
+        if slot > GREATEST_SLOT as u64 {
             return None;
         }
         channels.set(slot as u8, number);
@@ -120,7 +120,7 @@ impl SlotsSoFar {
             self.new.count (slots_of self.new.channels) result }
     {
         let count = self.read_count(row, line);
-        if count > SLOT_COUNT as u64 {
+        if count > GREATEST_SLOT as u64 {
             return false;
         }
         let end = (count as usize).min(SLOTS_IN_LINE * row + SLOTS_IN_LINE);
@@ -129,7 +129,7 @@ impl SlotsSoFar {
         };
         // Each slot that is left has a number above the last.
         let most = count - end as u64 + last;
-        if most > SLOT_COUNT as u64 {
+        if most > GREATEST_SLOT as u64 {
             return false;
         }
         self.count = count as u8;
