@@ -10,12 +10,12 @@ ghost use Rattle.rtcm_inspect.specs.Devices.{CountsReader};
 use crate::fault::InspectFault;
 use crate::first_messages::{FirstMessages, is_of_other};
 use crate::listing::PIECE_BYTES;
-use crate::stream_channels::{with_1020, with_channels};
+use crate::stream_channels::add_sent_channels;
 use gnss_obs::Channels;
 use obs_epoch::SignalCounts;
 use rtcm_bits::{Counted, DeviceFailed};
 use rtcm_msg::laws::message_sets;
-use rtcm_msg::{Forms, View, look};
+use rtcm_msg::{Forms, MsmSet, View, look_in};
 use rtcm_scan::{Frame, FrameSink, Framer, MOST_BYTES, ScanFault, laws};
 use std::alloc::Global;
 use std::io::Read;
@@ -48,12 +48,12 @@ impl FrameSink<()> for StreamSignals {
     fn take(&mut self, frame: &Frame, _out: &mut ()) -> Result<(), DeviceFailed> {
         message_sets();
         let message = frame.message.as_slice();
-        self.channels = with_1020(self.channels, message);
-        match &look(message) {
+        // Not `look`, which would copy the view for each message.
+        match &look_in(&MsmSet::all(), message) {
             Ok(view) => {
                 self.signal_counts.count_view(self.station, view);
                 self.forms = with_forms(self.forms, self.station, view);
-                self.channels = with_channels(self.channels, self.station, view);
+                add_sent_channels(&mut self.channels, self.station, message, view);
                 self.first.add(self.station, view);
                 Ok(())
             }

@@ -1,15 +1,46 @@
 //! The channels of GLONASS satellites that a stream has.
-ghost use Rattle.std.specs.Prelude.{◌≡◌, option_to_list};
+ghost use Rattle.std.specs.Prelude.{◌≡◌, ◌++◌, Ok, option_to_list};
 ghost use Rattle.rtcm_msg.specs.Channels.{channel_of_1020};
+ghost use Rattle.rtcm_msg.specs.Decoding.{message_at};
 ghost use Rattle.rtcm_msg.specs.Viewed.{viewed_message};
 ghost use Rattle.rtcm_inspect.specs.StreamChannels.{sent_of, with_first, with_sent};
 
 use gnss_obs::Channels;
+use gnss_system::System;
 use rtcm_msg::{SentChannels, View, channel_of_1020};
+
+/// Adds the channels that a message has, each if it is the first one of its slot: that of a 1020,
+/// and those of an MSM of this station; if no station is given, of any.
+// Most messages have none: they are passed over by their number or system, and nothing is copied.
+pub fn add_sent_channels(
+    known: &mut Channels,
+    station: Option<u16>,
+    message: &[u8],
+    view: &View<'_>,
+)
+    ensures { message_at message.now ≡ Ok (viewed_message view.now)
+        → known.new ≡ with_sent known.old
+        (option_to_list (channel_of_1020 message.now) ++ sent_of station (viewed_message view.now)) }
+{
+    match view {
+        View::Msm(msm) => {
+            if let System::Glonass = msm.system() {
+                *known = with_channels(*known, station, view);
+            }
+        }
+        View::Other { number, .. } => {
+            if *number == 1020 {
+                *known = with_1020(*known, message);
+            }
+        }
+        View::Station(_) => {}
+    }
+}
 
 /// Returns the channels with those that an MSM of this station sends, if it is the first one that
 /// has a channel for their slots; if no station is given, one of any.
-pub fn with_channels(known: Channels, station: Option<u16>, view: &View<'_>) -> Channels
+#[inline(never)]
+fn with_channels(known: Channels, station: Option<u16>, view: &View<'_>) -> Channels
     ensures { result ≡ with_sent known (sent_of station (viewed_message view.now)) }
 {
     match view {
@@ -26,7 +57,8 @@ pub fn with_channels(known: Channels, station: Option<u16>, view: &View<'_>) -> 
 }
 
 /// Returns the channels with that of a 1020, if it is the first one of its slot.
-pub fn with_1020(known: Channels, message: &[u8]) -> Channels
+#[inline(never)]
+fn with_1020(known: Channels, message: &[u8]) -> Channels
     ensures { result ≡ with_sent known (option_to_list (channel_of_1020 message.now)) }
 {
     match channel_of_1020(message) {

@@ -1,0 +1,22 @@
+use Rattle.rtcm_inspect.proofs.StreamChannelLemmas.{msm_isnt_1020, none_of_another, none_sent, only_sent}
+use Rattle.rtcm_inspect.proofs.Names.{◌≡◌, ◌∙◌, ◌==◌, arith, false, refl, viewed_message}
+use Rattle.rtcm_inspect.proofs.stream_channels.add_sent_channels.Goals as goal
+
+pub returns-in-Glonass : goal.returns-in-Glonass
+returns-in-Glonass c = λ read.
+    let v = c.in-Msm.msm in
+    c.with_channels.ensures ∙ only_sent c.args.known.now c.args.station c.args.message.now (viewed_message c.args.view.now) (rw c.in-Msm.is (msm_isnt_1020 v.form v.msm)) read
+
+pub returns-in_default : goal.returns-in_default
+returns-in_default c = λ read.
+    let v = c.in-Msm.msm in
+    none_sent c.args.known.now c.args.station c.args.message.now (viewed_message c.args.view.now) (rw c.in-Msm.is (msm_isnt_1020 v.form v.msm)) (rw c.in-Msm.is (none_of_another v.form v.msm (λ is. c.in_default.not-Glonass (c.system.ensures ∙ is)))) read
+
+pub returns-else-number-eq1020 : goal.returns-else-number-eq1020
+returns-else-number-eq1020 c = λ read.
+    let other : (c.in-Other.number == 1020) ≡ false = grind (arith, c.if-number-eq1020.false) in
+    none_sent c.args.known.now c.args.station c.args.message.now (viewed_message c.args.view.now) (rw c.in-Other.is other) (rw c.in-Other.is refl) read
+
+pub returns-in-Station : goal.returns-in-Station
+returns-in-Station c = λ read.
+    none_sent c.args.known.now c.args.station c.args.message.now (viewed_message c.args.view.now) (rw c.in-Station.is refl) (rw c.in-Station.is refl) read
