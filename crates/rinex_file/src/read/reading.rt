@@ -57,6 +57,8 @@ impl Reading {
     }
 
     /// Reads the next line and returns what it adds, or None at the end of the file.
+    // Two loops call it, and a call for each line would cost 30 instructions.
+    #[inline(always)]
     pub(crate) fn next<R: Read>(
         &mut self,
         reader: &mut Counted<R>,
