@@ -209,11 +209,7 @@ macro_rules! flag {
 }
 
 /// The flag that shows all messages.
-const ALL: &[OptionRow<'static>] = &[flag!(
-    "all",
-    "Also shows MSM5 and MSM6: all messages that\n\
-     convert can read"
-)];
+const ALL: &[OptionRow<'static>] = &[flag!("all", "Shows MSM4 to MSM7 of every system")];
 
 /// The flag that prints times, and the option of an interval.
 const TIMES: &[OptionRow<'static>] = &[
@@ -267,9 +263,8 @@ const CONVERT: &[OptionRow<'static>] = option_rows! {
         "SBAS signals in the file's order: all, none,\n\
          or codes as 1C,5I";
     "msm", "FORMS", false, &["4,7"], ValueParser::Names(&["4,7", "all"]),
-        "Forms of MSM that are read: MSM4 and MSM7, or\n\
-         MSM4 to MSM7 with\n\
-         all";
+        "Forms of MSM that are read: 4,7, or all, which\n\
+         is MSM4 to MSM7";
     "station", "NUMBER", false, &[], STATIONS,
         "Reference station (DF003), 0 to 4095; without\n\
          it the messages of every station count";
