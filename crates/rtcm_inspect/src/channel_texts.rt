@@ -6,7 +6,7 @@ ghost use Rattle.rtcm_inspect.specs.ChannelTexts.{slot_channel_of, slot_of, slot
 
 use crate::line::OutputLine;
 use crate::option_texts::{cut, number_of};
-use gnss_obs::Channels;
+use gnss_obs::{Channels, GREATEST_SLOT};
 
 /// Returns the channels of a text: slots from 1 to 27 with their channels from -7 to 6, as
 /// `1:1,2:-4`, each slot once and in any order. An empty text has none. `None` for any other text.
@@ -60,7 +60,7 @@ fn slot_of(text: &str) -> Option<u8>
         return None;
     }
     match number_of(text, 2) {
-        Some(slot) if 1 <= slot && slot <= 27 => Some(slot as u8),
+        Some(slot) if 1 <= slot && slot <= GREATEST_SLOT as u64 => Some(slot as u8),
         _ => None,
     }
 }
@@ -89,7 +89,7 @@ pub fn channels_text(channels: &Channels) -> OutputLine
 {
     channels.are_channels();
     let mut line = OutputLine::new();
-    for i in 0..27u8 {
+    for i in 0..GREATEST_SLOT {
         match channels.number(i + 1) {
             Some(number) => add_slot(&mut line, i + 1, number),
             None => {}

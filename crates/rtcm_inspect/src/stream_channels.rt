@@ -5,7 +5,7 @@ ghost use Rattle.rtcm_msg.specs.Decoding.{message_at};
 ghost use Rattle.rtcm_msg.specs.Viewed.{viewed_message};
 ghost use Rattle.rtcm_inspect.specs.StreamChannels.{sent_of, with_first, with_sent};
 
-use gnss_obs::Channels;
+use gnss_obs::{Channels, GREATEST_CHANNEL_NUMBER, GREATEST_SLOT};
 use gnss_system::System;
 use rtcm_msg::{SentChannels, View, channel_of_1020};
 
@@ -84,10 +84,10 @@ fn with_sent(known: Channels, sent: SentChannels<'_>) -> Channels
 fn with_first(known: Channels, slot: u8, number: u8) -> Channels
     ensures { result ≡ with_first known (slot, number) }
 {
-    if slot < 1 || slot > 27 {
+    if slot < 1 || slot > GREATEST_SLOT {
         return known;
     }
-    if number > 13 || known.number(slot).is_some() {
+    if number > GREATEST_CHANNEL_NUMBER || known.number(slot).is_some() {
         return known;
     }
     let mut channels = known;
