@@ -61,10 +61,14 @@ setup_by plan start_week station gather options = record {
   leap = options.leap_seconds;
 }
 
--- The same with 18 leap seconds.
+-- GPS time minus UTC in seconds from 2017-01-01 on, which holds if no other number is given.
+abbrev pub default_leap : ℕ
+default_leap = 18
+
+-- The same with the default of the leap seconds.
 abbrev pub setup_with : PlanValue → ℕ → Option ℕ → Gather → StationValues → GatherSetup
 setup_with plan start_week station gather initial =
-    setup_by plan start_week station gather (record { initial = initial; leap_seconds = 18 })
+    setup_by plan start_week station gather (record { initial = initial; leap_seconds = default_leap })
 
 -- The same setup with station values of 0.
 abbrev pub setup_of : PlanValue → ℕ → Option ℕ → Gather → GatherSetup

@@ -9,7 +9,7 @@ use Rattle.clap.specs.declared.parser.matches.ArgMatches.{ArgMatches}
 use Rattle.rtcm_msg.specs.declared.number.Forms.{Forms}
 use Rattle.rtcm_msg.specs.declared.number.Forms.TheVariants.{FourAndSeven, All}
 use Rattle.rtcm_scan.specs.Scan.{most_bytes}
-use Rattle.obs_epoch.specs.Kinds.{is_by_bit}
+use Rattle.obs_epoch.specs.Kinds.{default_leap, is_by_bit}
 use Rattle.gnss_system.specs.Satellites.{name_of}
 use Rattle.gnss_system.specs.SystemValues.{tabulate}
 use Rattle.gnss_obs.specs.Channels.{ChannelsValue}
@@ -145,7 +145,7 @@ pub record IsStartOf (options : List Row) (x : Start) : Type 0 where
   pub setup : IsSetupOf options x.setup
   pub initial : values_set options ≡ Ok x.options.initial
   pub forms : x.options.forms ≡ forms_set options
-  pub leap : IsNumberOr 8 18 (one_of (codes "leap-seconds") options) x.options.leap_seconds
+  pub leap : IsNumberOr 8 default_leap (one_of (codes "leap-seconds") options) x.options.leap_seconds
 
 -- Of these options a text of the header has this fault; or the texts are valid, and the plan has this fault, or memory
 -- ran out for it.

@@ -7,6 +7,7 @@ use Rattle.gnss_obs.specs.Channels.{AreChannels, ChannelsValue}
 use Rattle.gnss_obs.specs.Values.{no_values}
 use Rattle.gnss_obs.specs.Weeks.{weeks}
 use Rattle.obs_epoch.specs.Epochs.{values_from}
+use Rattle.obs_epoch.specs.Kinds.{default_leap}
 use Rattle.rtcm_inspect.specs.ChannelTexts.{channels_text}
 use Rattle.rtcm_inspect.specs.Fitting.{height_text, position_text}
 use Rattle.rtcm2rinex.specs.SetupOptions.{IsNumberOf, IsNumberOr, IsWeekSet, channels_set, text_set, values_set}
@@ -38,7 +39,7 @@ IsStationRead = (options : List Row) (n : ℕ) (found : Option ℕ) → n < 2 ^ 
 abbrev pub AreLeapSecondsRead : Type 0
 AreLeapSecondsRead = (options : List Row) (n m : ℕ) → n < 2 ^ 8
     → one_of (codes "leap-seconds") options ≡ Some (decimal n)
-    → IsNumberOr 8 18 (one_of (codes "leap-seconds") options) m → m ≡ n
+    → IsNumberOr 8 default_leap (one_of (codes "leap-seconds") options) m → m ≡ n
 
 -- with the text of channels, the satellites have these channels
 abbrev pub AreChannelsSet : Type 0

@@ -3,7 +3,7 @@ ghost use Rattle.std.specs.Prelude.{◌≡◌, ◌<◌, ◌≤◌, IfOk, IfSome,
 ghost use Rattle.clap.specs.Walk.{one_of};
 ghost use Rattle.std.specs.Str.{bytes_eq};
 ghost use Rattle.gnss_obs.specs.SignalLists.{IsDefined};
-ghost use Rattle.obs_epoch.specs.Kinds.{is_by_bit};
+ghost use Rattle.obs_epoch.specs.Kinds.{default_leap, is_by_bit};
 ghost use Rattle.rinex_file.specs.TextsOf.{lists_of};
 ghost use Rattle.rtcm_inspect.specs.Lengths.{longest_interval};
 ghost use Rattle.rtcm2rinex.specs.SetupOptions.{HasSetupFault, IsNearRefused, IsNearSet, IsNumberOf};
@@ -164,7 +164,7 @@ pub fn forms_of(options: &ArgMatches) -> Forms
 
 /// Returns GPS time minus UTC in seconds.
 pub fn leap_seconds_of(options: &ArgMatches) -> u8
-    ensures { IsNumberOr 8 18 (one_of (codes "leap-seconds") (options_of options.now)) result }
+    ensures { IsNumberOr 8 default_leap (one_of (codes "leap-seconds") (options_of options.now)) result }
 {
     options
         .get_one::<u8>("leap-seconds")

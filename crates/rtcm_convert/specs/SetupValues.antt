@@ -4,7 +4,7 @@ use Rattle.gnss_obs.specs.Weeks.{weeks}
 use Rattle.gnss_obs.specs.Values.{no_values}
 use Rattle.rtcm_scan.specs.Scan.{most_bytes}
 use Rattle.rtcm_msg.specs.declared.number.Forms.TheVariants.{FourAndSeven}
-use Rattle.obs_epoch.specs.Kinds.{setup_by, is_no_station}
+use Rattle.obs_epoch.specs.Kinds.{default_leap, setup_by, is_no_station}
 use Rattle.obs_epoch.specs.declared.taken.GatherOptions.{GatherOptions}
 use Rattle.obs_epoch.specs.Sets.{set_of}
 use Rattle.gnss_obs.specs.GatheredEpochs.{AreStationValues}
@@ -27,7 +27,7 @@ setup_value_by x options = record {
 
 -- the default forms and leap seconds, and the station values that hold until a station message has others
 abbrev pub options_with : StationValues → ConvertOptions
-options_with initial = record { initial = initial; forms = FourAndSeven; leap_seconds = 18 }
+options_with initial = record { initial = initial; forms = FourAndSeven; leap_seconds = default_leap }
 
 abbrev pub setup_value_with : Setup → StationValues → SetupValue
 setup_value_with x initial = setup_value_by x (options_with initial)

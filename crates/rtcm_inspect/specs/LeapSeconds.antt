@@ -3,6 +3,7 @@ use Rattle.std.specs.Prelude.{ℕ, ◌+◌, ◌*◌, nat_le, count_by, List, [],
 use Rattle.std.specs.Option.{option_map_or}
 use Rattle.gnss_obs.specs.Dates.{civil_of}
 use Rattle.gnss_obs.specs.declared.civil.Civil.{Civil}
+use Rattle.obs_epoch.specs.Kinds.{default_leap}
 
 -- the months since year 0
 abbrev pub month_number : (year month : ℕ) → ℕ
@@ -26,4 +27,4 @@ leap_at t = leap_in (civil_of t)
 
 -- the leap seconds near the noon of a date, or those from 2017 on if none is given
 abbrev pub leap_near : Option ℕ → ℕ
-leap_near near = option_map_or leap_at near 18
+leap_near near = option_map_or leap_at near default_leap
