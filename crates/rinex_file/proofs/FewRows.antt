@@ -1,5 +1,5 @@
 -- An epoch has no more satellites than the planned systems.
-use Rattle.rinex_file.proofs.Names.{arith, ◌≡◌, refl, subst, ℕ, suc, ◌+◌, ◌-◌, ◌<◌, ◌≤◌, Bool, true, false, List, [], ◌∷◌, length, if◌then◌else◌, All, map, nat_lt, slice_index, IsStrictlyIncreasing, lt-ltb, All-head, All-tail, System, satellites, SatelliteRow, IsSatelliteRow, AreSatelliteRows, rank_of, most_rows}
+use Rattle.rinex_file.proofs.Names.{arith, ◌≡◌, refl, subst, ℕ, suc, ◌+◌, ◌-◌, ◌<◌, ◌≤◌, Bool, true, List, [], ◌∷◌, length, if◌then◌else◌, All, map, nat_lt, slice_index, IsStrictlyIncreasing, lt-ltb, All-head, All-tail, System, satellites, SatelliteRow, IsSatelliteRow, AreSatelliteRows, rank_of, most_rows}
 use Rattle.std.specs.List.{sum_by}
 use Rattle.std.proofs.Common.{◌*◌, le_trans, lit≤}
 use Rattle.gnss_system.specs.Systems.{systems, index_of, is_system}
@@ -14,11 +14,7 @@ room signals k = sum_by (λ s. if nat_lt 0 (signals s) then ranks k s else 0) sy
 
 fewer : (b own : Bool) (i j r k m : ℕ) → (own ≡ true → (b ≡ true) × (i ≡ j) × (r ≤ m)) → 1 ≤ r → k ≤ 100 * j + r
     → (if b then m - ((100 * j + r) + 1 - (100 * i + 1)) else 0) + (if own then 1 else 0) ≤ (if b then m - (k - (100 * i + 1)) else 0)
-fewer false false i j r k m f some low = omega arith
-fewer true false i j r k m f some low = omega (arith, some, low)
-fewer b true i j r k m f some low = let h = f refl in rw (h.0, h.1) (less (h.2)) where
-  less : r ≤ m → m - ((100 * j + r) + 1 - (100 * j + 1)) + 1 ≤ m - (k - (100 * j + 1))
-  less few = omega (arith, few, some, low)
+fewer b own i j r k m f some low = grind arith
 
 -- a satellite has one of the ranks that are left
 one_less : {signals : System → ℕ} (k n : ℕ) {s : SatelliteRow} → IsSatelliteRow signals s → k ≤ rank_of s → n ≤ room signals (rank_of s + 1) → suc n ≤ room signals k
@@ -51,15 +47,11 @@ few_from signals k (s ∷ rows) each rise low =
 
 from_one : (signals : System → ℕ) → room signals 1 ≤ most_rows signals
 unfolding ranks
-from_one signals = sum_at_most _ (λ s. if nat_lt 0 (signals s) then satellites s else 0) (λ s. less (nat_lt 0 (signals s)) (satellites s) (1 - (100 * index_of s + 1))) systems where
-  less : (b : Bool) (m n : ℕ) → (if b then m - n else 0) ≤ (if b then m else 0)
-  less b m n = grind arith
+from_one signals = grind (arith, sum_at_most)
 
 -- they fit the columns of an epoch's line
 pub few_most : (signals : System → ℕ) → most_rows signals ≤ 999
-few_most signals = le_trans (sum_at_most (λ s. if nat_lt 0 (signals s) then satellites s else 0) satellites (λ s. part (nat_lt 0 (signals s)) (satellites s)) systems) (lit≤ tt) where
-  part : (b : Bool) (m : ℕ) → (if b then m else 0) ≤ m
-  part b m = grind arith
+few_most signals = grind (arith, le_trans, sum_at_most, lit≤)
 
 pub some_rank : (signals : System → ℕ) (s : SatelliteRow) → IsSatelliteRow signals s → 0 < rank_of s
 some_rank signals s is = let h = is.row.satellite.0 in omega (arith, h)

@@ -79,8 +79,7 @@ has_fields text e is shown =
 
 -- the LLI column of a phase, or a blank
 lli_at : (l : Option ℤ) (lli strength : ℕ) → IfSome l FitsColumns → (l ≡ None → lli ≡ 0) → get_or (field l (lli_byte lli) strength) 14 0 ≡ lli_byte lli
-lli_at None lli strength h none = ap (λ r. get_or r 14 0) (sym (no_field (lli_byte lli) strength)) ∙ sym (ap lli_byte (none refl))
-lli_at (Some v) lli strength h none = (field_parts v (lli_byte lli) strength h).1
+lli_at l lli strength h none = grind (arith, no_field, field_parts)
 
 pub lli_column : (text : List ℕ) (e : SignalValues) → AreSignalValues e → HasFields text e → get_or text 30 0 ≡ lli_byte e.lli
 lli_column text e is fields =
@@ -109,9 +108,7 @@ pub signal_read : (text : List ℕ) (e : SignalValues) → AreSignalValues e →
 signal_read text e is shows = (is, shows, λ w also f. signal_once w e also is (sym f ∙ shows))
 
 pub blank_read : (text : List ℕ) (e : SignalValues) → e ≡ no_signal_values → text ≡ signal_text no_signal_values → ReadsExactly AreSignalValues signal_text text (Some e)
-blank_read text e none shows =
-    subst (λ (x : SignalValues). ReadsExactly AreSignalValues signal_text text (Some x)) (sym none)
-    (signal_read text no_signal_values (record { c = tt; l = tt; d = tt; s = tt; lli = omega arith; without_phase = λ e. refl }) shows)
+blank_read text e none shows = grind (arith, signal_read)
 
 -- no values are read
 pub none_read : (text : List ℕ) (r : Option SignalValues) → r ≡ None → ((e : SignalValues) → AreSignalValues e → text ≡ signal_text e → ⊥) → ReadsExactly AreSignalValues signal_text text r
@@ -151,11 +148,7 @@ signal_at (e ∷ es) (suc i) are h =
 -- ---- the line of a satellite
 
 pub number_once : (m n : ℕ) → m < 100 → n < 100 → padded 2 m ≡ padded 2 n → m ≡ n
-number_once m n h k e =
-    let same = sym (two_digits m h) ∙ e ∙ two_digits n k in
-    let tens : 48 + m / 10 ≡ 48 + n / 10 = ap (λ l. get_or l 0 0) same in
-    let ones : 48 + m % 10 ≡ 48 + n % 10 = ap (λ l. get_or l 1 0) same in
-    omega (arith, tens, ones)
+number_once m n h k e = grind (arith, two_digits)
 
 -- the parts of a satellite's line without its line feed
 pub record IsSatelliteText (text : List ℕ) (signals : ℕ) (v : SatelliteRow) : Type 0 where
@@ -177,10 +170,7 @@ not_blank b h e = omega (arith, h, e)
 
 -- the first three columns are not blank
 three_kept : (id : ℕ) (columns : List ℕ) → id < 100 → trimmed (padded 2 id ++ columns) ≡ (48 + id / 10) ∷ (48 + id % 10) ∷ trimmed columns
-three_kept id columns h =
-    let a = 48 + id / 10 in
-    let b = 48 + id % 10 in
-    ap (λ l. trimmed (l ++ columns)) (two_digits id h) ∙ trimmed-front a (b ∷ columns) (not_blank a (omega arith)) ∙ ap (λ l. a ∷ l) (trimmed-front b columns (not_blank b (omega arith)))
+three_kept id columns h = grind (arith, two_digits, trimmed-front, not_blank)
 
 pub text_of_line : (system : System) (signals : ℕ) (v : SatelliteRow) (line : List ℕ) → IsRowOf system signals v → line ≡ satellite_line v → IsSatelliteText (take (length line - 1) line) signals v
 text_of_line system signals v line (same, is) e =
@@ -201,9 +191,7 @@ text_of_line system signals v line (same, is) e =
     })
 
 same_id : (v w : SatelliteRow) → v.system ≡ w.system → number_of v.system v.row.satellite ≡ number_of w.system w.row.satellite → v.row.satellite ≡ w.row.satellite
-same_id v w s e = by _ _ _ (subst (λ (t : System). number_of t v.row.satellite ≡ number_of w.system w.row.satellite) s e) where
-  by : (m n k : ℕ) → m + k ≡ n + k → m ≡ n
-  by m n k e = omega (arith, e)
+same_id v w s e = grind arith
 
 pub line_once : (system : System) (signals : ℕ) {v w : SatelliteRow} {line : List ℕ} → IsRowOf system signals v → IsRowOf system signals w → line ≡ satellite_line v → line ≡ satellite_line w → v ≡ w
 line_once system signals {v} {w} {line} is also e f =

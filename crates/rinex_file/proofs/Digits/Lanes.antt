@@ -40,15 +40,7 @@ abbrev pub eight : ℕ → List ℕ → List ℕ
 eight n rest = n % 10 ∷ n / 10 % 10 ∷ n / 100 % 10 ∷ n / 1000 % 10 ∷ n / 10_000 % 10 ∷ n / 100_000 % 10 ∷ n / 1_000_000 % 10 ∷ n / 10_000_000 ∷ rest
 
 pub ones_and_tens : (n : ℕ) (rest : List ℕ) → pairs (four n rest) ≡ eight n (pairs rest)
-ones_and_tens n rest =
-    let o0 : n % 100 % 10 ≡ n % 10 = omega arith in
-    let t0 : n % 100 / 10 ≡ n / 10 % 10 = omega arith in
-    let o1 : n / 100 % 100 % 10 ≡ n / 100 % 10 = omega arith in
-    let t1 : n / 100 % 100 / 10 ≡ n / 1_000 % 10 = omega arith in
-    let o2 : n / 10_000 % 100 % 10 ≡ n / 10_000 % 10 = omega arith in
-    let t2 : n / 10_000 % 100 / 10 ≡ n / 100_000 % 10 = omega arith in
-    let t3 : n / 1_000_000 / 10 ≡ n / 10_000_000 = omega arith in
-    λ i. o0 i ∷ t0 i ∷ o1 i ∷ t1 i ∷ o2 i ∷ t2 i ∷ n / 1_000_000 % 10 ∷ t3 i ∷ pairs rest
+ones_and_tens n rest = grind arith
 
 -- ---- leading zeros
 

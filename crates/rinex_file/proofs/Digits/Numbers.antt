@@ -1,5 +1,5 @@
 -- A number that was written is read back, so its text determines it.
-use Rattle.rinex_file.proofs.Names.{rules, arith, ◌≡◌, ℕ, zero, suc, ◌+◌, ◌-◌, ◌*◌, ◌/◌, ◌%◌, ◌^◌, ◌<◌, ◌≤◌, List, [], ◌∷◌, ◌++◌, length, replicate, decimal, refl, sym, ap, ◌∙◌, Bool, false, append_assoc, length-append, ℤ, pos, negsuc, neg_ℤ, unsigned_abs, ◌||◌, ◌==◌, if◌then◌else◌, is_negative, sign_text, pow-suc, div-le_self, mod-le, mod-lt, pow-add, div-add-mod', length-replicate, decimal_by_steps, length-decimal-le, right, padded, fixed, next_digit, digits_from, digits_in, has, number_in}
+use Rattle.rinex_file.proofs.Names.{rules, arith, ◌≡◌, ℕ, zero, suc, ◌+◌, ◌-◌, ◌*◌, ◌/◌, ◌%◌, ◌^◌, ◌<◌, ◌≤◌, List, [], ◌∷◌, ◌++◌, length, replicate, decimal, refl, sym, ap, ◌∙◌, Bool, false, append_assoc, length-append, ℤ, pos, unsigned_abs, ◌||◌, ◌==◌, is_negative, sign_text, pow-suc, div-le_self, mod-le, mod-lt, pow-add, div-add-mod', length-replicate, decimal_by_steps, length-decimal-le, right, padded, fixed, next_digit, digits_from, digits_in, has, number_in}
 
 pub digits_from-append : (n : ℕ) (xs ys : List ℕ) → digits_from n (xs ++ ys) ≡ digits_from (digits_from n xs) ys
 digits_from-append n [] ys = refl
@@ -116,14 +116,12 @@ pub not_negative : (n : ℕ) → is_negative (pos n) ≡ false
 not_negative n = search rules
 
 has_minus-fixed : (places : ℕ) (z : ℤ) → unsigned_abs z < 2 ^ 64 → has 45 (fixed places z) ≡ is_negative z
-has_minus-fixed places (pos n) fits = grind (arith, not_negative, no_minus-size)
-has_minus-fixed places (negsuc n) fits = refl
+has_minus-fixed places z fits = grind (arith, not_negative, no_minus-size)
 
 -- ---- the number is read back, so its text determines it
 
 by_parts : (z : ℤ) (text : List ℕ) → digits_in text ≡ unsigned_abs z → has 45 text ≡ is_negative z → number_in text ≡ z
-by_parts (pos n) text d m = ap (λ b. if b then neg_ℤ (pos (digits_in text)) else pos (digits_in text)) (m ∙ not_negative n) ∙ ap pos d
-by_parts (negsuc n) text d m = ap (λ b. if b then neg_ℤ (pos (digits_in text)) else pos (digits_in text)) m ∙ ap (λ k. neg_ℤ (pos k)) d
+by_parts z text d m = grind (arith, not_negative)
 
 pub number_in-fixed : (width places : ℕ) (z : ℤ) → 0 < places → unsigned_abs z < 2 ^ 64 → number_in (right width (fixed places z)) ≡ z
 number_in-fixed width places z some fits = grind (arith, by_parts, digits_in-right, digits_in-fixed, has-right, has_minus-fixed)

@@ -2,30 +2,25 @@
 use Rattle.rinex_file.proofs.Digits.Numbers.{length-right}
 use Rattle.rinex_file.proofs.Digits.Padded.{empty_columns, three_digits}
 use Rattle.rinex_file.proofs.Rows.Sizes.{length-value}
-use Rattle.rinex_file.proofs.Names.{arith, ◌≡◌, ◌∙◌, sym, ap, ap₂, refl, ℕ, zero, suc, ◌+◌, ◌-◌, ◌/◌, ◌%◌, ◌^◌, ◌<◌, ◌≤◌, List, [], ◌∷◌, ◌++◌, length, replicate, append_assoc, append-nil, length-append, decimal, ℤ, pos, negsuc, unsigned_abs, true, false, Bool, set, Some, is_negative, sign_text, length-decimal-le, set_at, ints, FitsColumns, padded, right, fixed, field, empty_column}
+use Rattle.rinex_file.proofs.Names.{arith, ◌≡◌, ◌∙◌, sym, ap, ap₂, refl, ℕ, zero, suc, ◌+◌, ◌-◌, ◌/◌, ◌%◌, ◌^◌, ◌<◌, ◌≤◌, List, [], ◌∷◌, ◌++◌, length, replicate, append_assoc, append-nil, length-append, decimal, ℤ, unsigned_abs, true, false, Bool, set, Some, is_negative, sign_text, length-decimal-le, set_at, ints, FitsColumns, padded, right, fixed, field, empty_column}
 
 -- ---- the size of a value
 
 -- ten digits before the point, or nine and a minus
 pub within_signed : (v : ℤ) → FitsColumns v → is_negative v ≡ true → unsigned_abs v < 10 ^ 12
-within_signed (pos n) h negative = absurd (grind (arith, negative))
-within_signed (negsuc n) h negative = let low = h.0 in omega (arith, ints, low)
+within_signed v h negative = grind (arith, ints)
 
 pub within_columns : (v : ℤ) → FitsColumns v → unsigned_abs v < 10 ^ 13
-within_columns (pos n) h = let high = h.1 in omega (arith, ints, high)
-within_columns (negsuc n) h = let low = h.0 in omega (arith, ints, low)
+within_columns v h = grind (arith, ints)
 
 pub nine_digits : (v : ℤ) → FitsColumns v → is_negative v ≡ true → length (decimal (unsigned_abs v / 1000)) ≤ 9
-nine_digits v h negative =
-    let small = within_signed v h negative in
-    length-decimal-le 9 (unsigned_abs v / 1000) (omega arith) (omega (arith, small)) (omega (arith, small))
+nine_digits v h negative = grind (arith, within_signed, length-decimal-le)
 
 -- ---- the field of a value
 
 -- blanks and the sign
 other_column : (n : ℕ) → empty_column n false ≡ 32
-other_column zero = refl
-other_column (suc n) = refl
+other_column n = grind arith
 
 pub blank_columns : (n : ℕ) → empty_columns false n ≡ replicate n 32
 blank_columns zero = refl
@@ -36,24 +31,12 @@ last_minus zero = refl
 last_minus (suc n) = ap (λ l. 32 ∷ l) (last_minus n)
 
 pub empty_columns_are : (b : Bool) (n : ℕ) → (b ≡ true → 1 ≤ n) → empty_columns b n ≡ replicate (n - length (sign_text b)) 32 ++ sign_text b
-empty_columns_are false n some =
-    let all : n ≡ n - 0 = omega arith in
-    blank_columns n ∙ ap (λ k. replicate k 32) all ∙ sym (append-nil (replicate (n - 0) 32))
-empty_columns_are true zero some = absurd (let one = some refl in omega (arith, one))
-empty_columns_are true (suc n) some = let others : n ≡ suc n - 1 = omega arith in last_minus n ∙ ap (λ k. replicate k 32 ++ 45 ∷ []) others
+empty_columns_are b n some = grind (arith, blank_columns, append-nil, last_minus)
 
 pub field_text : (v : ℤ) (start lost strength : ℕ) → start + length (decimal (unsigned_abs v / 1000)) ≡ 10 → (is_negative v ≡ true → 1 ≤ start)
     → field (Some v) lost strength ≡ empty_columns (is_negative v) start ++ (decimal (unsigned_abs v / 1000) ++ (46 ∷ padded 3 (unsigned_abs v % 1000) ++ lost ∷ strength ∷ []))
 unfolding field
-field_text v start lost strength columns some =
-    let sign = sign_text (is_negative v) in
-    let d = decimal (unsigned_abs v / 1000) in
-    let p = padded 3 (unsigned_abs v % 1000) in
-    let ends : List ℕ = lost ∷ strength ∷ [] in
-    let size : length ((sign ++ d) ++ 46 ∷ p) ≡ length sign + length d + 4 = omega (arith, length-append (sign ++ d) (46 ∷ p), length-append sign d, ap length (three_digits (unsigned_abs v % 1000) (omega arith))) in
-    let blank : 14 - length ((sign ++ d) ++ 46 ∷ p) ≡ start - length sign = omega (arith, size, columns) in
-    let parts : (replicate (start - length sign) 32 ++ ((sign ++ d) ++ 46 ∷ p)) ++ ends ≡ (replicate (start - length sign) 32 ++ sign) ++ (d ++ (46 ∷ p ++ ends)) = simp append_assoc in
-    ap (λ k. (replicate k 32 ++ ((sign ++ d) ++ 46 ∷ p)) ++ ends) blank ∙ parts ∙ ap (λ l. l ++ (d ++ (46 ∷ p ++ ends))) (sym (empty_columns_are (is_negative v) start some))
+field_text v start lost strength columns some = grind (arith, length-append, three_digits, append_assoc, empty_columns_are)
 
 -- ---- a field of which the two last columns are written after the others
 

@@ -77,21 +77,7 @@ twos_below base n small (a ∷ b ∷ xs) h = (small a b h.0 h.1.0, twos_below ba
 digits_are : {s a b c d e f g h i j k l m n y z : ℕ} → AreBelow 10 (a ∷ b ∷ c ∷ d ∷ e ∷ f ∷ g ∷ h ∷ i ∷ j ∷ l ∷ m ∷ n ∷ []) → k ≡ 0
     → s ≡ a * 1_000_000_000_000 + b * 100_000_000_000 + c * 10_000_000_000 + d * 1_000_000_000 + e * 100_000_000 + f * 10_000_000 + g * 1_000_000 + h * 100_000 + i * 10_000 + j * 1000 + l * 100 + m * 10 + n
     → (a ∷ b ∷ c ∷ d ∷ e ∷ f ∷ g ∷ h ∷ i ∷ j ∷ k ∷ l ∷ m ∷ n ∷ y ∷ z ∷ [] ≡ digit_columns s y z) × (s < 10 ^ 13)
-digits_are {s} {a} {b} {c} {d} {e} {f} {g} {h} {i} {j} {k} {l} {m} {n} {y} {z} (ha, (hb, (hc, (hd, (he, (hf, (hg, (hh, (hi, (hj, (hl, (hm, (hn, t))))))))))))) point is =
-    let qn : n ≡ s % 10 = omega (arith, is, hn) in
-    let qm : m ≡ s / 10 % 10 = omega (arith, is, hn, hm) in
-    let ql : l ≡ s / 100 % 10 = omega (arith, is, hn, hm, hl) in
-    let qj : j ≡ s / 1000 % 10 = omega (arith, is, hn, hm, hl, hj) in
-    let qi : i ≡ s / 10_000 % 10 = omega (arith, is, hn, hm, hl, hj, hi) in
-    let qh : h ≡ s / 100_000 % 10 = omega (arith, is, hn, hm, hl, hj, hi, hh) in
-    let qg : g ≡ s / 1_000_000 % 10 = omega (arith, is, hn, hm, hl, hj, hi, hh, hg) in
-    let qf : f ≡ s / 10_000_000 % 10 = omega (arith, is, hn, hm, hl, hj, hi, hh, hg, hf) in
-    let qe : e ≡ s / 100_000_000 % 10 = omega (arith, is, hn, hm, hl, hj, hi, hh, hg, hf, he) in
-    let qd : d ≡ s / 1_000_000_000 % 10 = omega (arith, is, hn, hm, hl, hj, hi, hh, hg, hf, he, hd) in
-    let qc : c ≡ s / 10_000_000_000 % 10 = omega (arith, is, hn, hm, hl, hj, hi, hh, hg, hf, he, hd, hc) in
-    let qb : b ≡ s / 100_000_000_000 % 10 = omega (arith, is, hn, hm, hl, hj, hi, hh, hg, hf, he, hd, hc, hb) in
-    let qa : a ≡ s / 1_000_000_000_000 = omega (arith, is, hn, hm, hl, hj, hi, hh, hg, hf, he, hd, hc, hb) in
-    (λ o. qa o ∷ qb o ∷ qc o ∷ qd o ∷ qe o ∷ qf o ∷ qg o ∷ qh o ∷ qi o ∷ qj o ∷ point o ∷ ql o ∷ qm o ∷ qn o ∷ y ∷ z ∷ [], omega (arith, qa, ha))
+digits_are h0 point is = grind arith
 
 -- the size of the digits in lanes
 abbrev pub size_l : List ℕ → ℕ
@@ -144,9 +130,7 @@ bytes_below (x ∷ xs) h = (h.0.fits, bytes_below xs h.1)
 
 -- the sixteen columns of a text as lanes
 pub lanes_are : (text : List ℕ) (at : ℕ) → chunk 0 16 (take (at + 16 - at) (drop at text)) ≡ take 16 (drop at text)
-lanes_are text at =
-    let few : at + 16 - at ≡ 16 = omega arith in
-    ap (λ n. take 16 (take n (drop at text))) few ∙ take-take 16 16 (drop at text) (omega arith)
+lanes_are text at = grind (arith, take-take)
 
 pub lane_is : (text : List ℕ) (at k : ℕ) → k < 16 → get_or (take 16 (drop at text)) k 0 ≡ get_or text (at + k) 0
 lane_is text at k h = get_or-take 16 (drop at text) k 0 h ∙ get_or-drop at text k 0

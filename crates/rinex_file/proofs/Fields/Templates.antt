@@ -3,7 +3,7 @@ use Rattle.rinex_file.proofs.Fields.Columns.{field_text, nine_digits, within_col
 use Rattle.rinex_file.proofs.Digits.Numbers.{not_negative}
 use Rattle.rinex_file.proofs.Digits.Padded.{IsSpaced, empty_columns, spaced, spaced_is, padded_digits, three_digits}
 use Rattle.rinex_file.proofs.Names.{arith, ◌≡◌, ◌∙◌, sym, ap, ap₂, refl, subst, ℕ, ℤ, zero, suc, ◌+◌, ◌-◌, ◌/◌, ◌%◌, ◌^◌, ◌<◌, ◌≤◌, List, [], ◌∷◌, ◌++◌, map, length, decimal, append_assoc, append-nil, length-append, inl, inr, true, false, unsigned_abs, Bool, Some, is_negative, cases_lt, decimal_digit, decimal_step, first_decimal, length-decimal-le, padded, FitsColumns, field, AreBelow, digit_columns, digits_onto, empty_column, leading, template}
-use Rattle.std.proofs.Common.{◌<ℤ◌, ◌≤ℤ◌, pos, negsuc, false}
+use Rattle.std.proofs.Common.{◌<ℤ◌, ◌≤ℤ◌, pos, false}
 use Rattle.std.proofs.lemmas.Int.{ints}
 use lib.Lanes.{zip2}
 
@@ -17,9 +17,7 @@ all_added b [] xs h = refl
 all_added b (d ∷ ds) xs h = let one : (d + 48) % 2 ^ 8 ≡ 48 + d = omega (arith, h.0) in ap₂ (λ a l. a ∷ l) one (all_added b ds xs h.1)
 
 empty_added : (n : ℕ) (b : Bool) → added 0 (empty_column n b) ≡ empty_column n b
-empty_added zero true = refl
-empty_added zero false = refl
-empty_added (suc n) b = refl
+empty_added n b = grind arith
 
 digits_added : (b : Bool) (ds xs : List ℕ) → AreBelow 10 ds → zip2 added (ds ++ xs) (template b (length ds) (leading ds)) ≡ spaced b ds ++ zip2 added xs (template b 0 0)
 digits_added b [] xs h = refl
@@ -47,10 +45,7 @@ abbrev IsWhole : Bool → List ℕ → ℕ → Type 0
 IsWhole b ds w = (leading ds + length (decimal w) ≡ 10) × (spaced b ds ++ (48 + w % 10) ∷ [] ≡ empty_columns b (leading ds) ++ decimal w)
 
 one_digit : (b : Bool) (w : ℕ) → w < 10 → IsWhole b (digits_onto 8 0 []) w
-one_digit b w h =
-    let d = decimal_digit w h in
-    let same : w % 10 ≡ w = omega (arith, h) in
-    (ap (λ l. 9 + length l) d, ap (λ l. empty_columns b 9 ++ l) (ap (λ x. (48 + x) ∷ []) same ∙ sym d))
+one_digit b w h = grind (arith, decimal_digit)
 
 more_digits : (b : Bool) (w : ℕ) → 10 ≤ w → w < 10 ^ 10 → IsWhole b (digits_onto 8 (w / 10) []) w
 more_digits b w big small =
@@ -80,17 +75,7 @@ abbrev back : ℕ → ℕ → ℕ → List ℕ
 back s y z = s / 1000 % 10 ∷ 0 ∷ s / 100 % 10 ∷ s / 10 % 10 ∷ s % 10 ∷ y ∷ z ∷ []
 
 front_is : (s : ℕ) → digits_onto 8 (s / 1000 / 10) [] ≡ front s
-front_is s =
-    let q0 : s / 1000 / 10 ≡ s / 10_000 = omega arith in
-    let q1 : s / 1000 / 10 / 10 ≡ s / 100_000 = omega arith in
-    let q2 : s / 1000 / 10 / 10 / 10 ≡ s / 1_000_000 = omega arith in
-    let q3 : s / 1000 / 10 / 10 / 10 / 10 ≡ s / 10_000_000 = omega arith in
-    let q4 : s / 1000 / 10 / 10 / 10 / 10 / 10 ≡ s / 100_000_000 = omega arith in
-    let q5 : s / 1000 / 10 / 10 / 10 / 10 / 10 / 10 ≡ s / 1_000_000_000 = omega arith in
-    let q6 : s / 1000 / 10 / 10 / 10 / 10 / 10 / 10 / 10 ≡ s / 10_000_000_000 = omega arith in
-    let q7 : s / 1000 / 10 / 10 / 10 / 10 / 10 / 10 / 10 / 10 ≡ s / 100_000_000_000 = omega arith in
-    let q8 : s / 1000 / 10 / 10 / 10 / 10 / 10 / 10 / 10 / 10 / 10 ≡ s / 1_000_000_000_000 = omega arith in
-    λ i. q8 i ∷ q7 i % 10 ∷ q6 i % 10 ∷ q5 i % 10 ∷ q4 i % 10 ∷ q3 i % 10 ∷ q2 i % 10 ∷ q1 i % 10 ∷ q0 i % 10 ∷ []
+front_is s = grind arith
 
 front_below : (s : ℕ) → s < 10 ^ 13 → AreBelow 10 (front s)
 front_below s h = omega (arith, h)
@@ -100,12 +85,7 @@ abbrev pub rest_with : ℕ → ℕ → ℕ → List ℕ
 rest_with s lost strength = decimal (s / 1000) ++ (46 ∷ padded 3 (s % 1000) ++ lost ∷ strength ∷ [])
 
 last_columns : (b : Bool) (s y z : ℕ) → zip2 added (back s y z) (template b 0 0) ≡ (48 + s / 1000 % 10) ∷ (46 ∷ padded 3 (s % 1000) ++ added y 32 ∷ added z 32 ∷ [])
-last_columns b s y z =
-    let a : (s / 1000 % 10 + 48) % 2 ^ 8 ≡ 48 + s / 1000 % 10 = omega arith in
-    let c : (s / 100 % 10 + 48) % 2 ^ 8 ≡ 48 + s % 1000 / 100 = omega arith in
-    let d : (s / 10 % 10 + 48) % 2 ^ 8 ≡ 48 + s % 1000 / 10 % 10 = omega arith in
-    let e : (s % 10 + 48) % 2 ^ 8 ≡ 48 + s % 1000 % 10 = omega arith in
-    (λ i. a i ∷ 46 ∷ c i ∷ d i ∷ e i ∷ added y 32 ∷ added z 32 ∷ []) ∙ ap (λ t. (48 + s / 1000 % 10) ∷ (46 ∷ t ++ added y 32 ∷ added z 32 ∷ [])) (sym (three_digits (s % 1000) (omega arith)))
+last_columns b s y z = grind (arith, three_digits)
 
 front_whole : (b : Bool) (s : ℕ) → s < 10 ^ 13 → (leading (front s) + length (decimal (s / 1000)) ≡ 10) × (spaced b (front s) ++ (48 + s / 1000 % 10) ∷ [] ≡ empty_columns b (leading (front s)) ++ decimal (s / 1000))
 front_whole b s h = subst (λ (ds : List ℕ). IsWhole b ds (s / 1000)) (front_is s) (whole b (s / 1000) (omega (arith, h)))
@@ -128,8 +108,7 @@ leading_at (suc k) (suc d ∷ ds) h = absurd (omega (arith, h.0))
 
 -- the leading zeros of a value with eight whole digits
 pub eight_whole : (v : ℤ) → pos 10_000_000_000 ≤ℤ v → v <ℤ pos 100_000_000_000 → (is_negative v ≡ false) × (leading (front (unsigned_abs v)) ≡ 2)
-eight_whole (pos n) least below = (not_negative n, leading_at 2 (front n) (omega (arith, ints, least, below)))
-eight_whole (negsuc n) least below = absurd (omega (arith, ints, least))
+eight_whole v least below = grind (arith, not_negative, leading_at, ints)
 
 -- with any numbers in the two last lanes
 columns_with : (b : Bool) (s y z : ℕ) → s < 10 ^ 13 → zip2 added (digit_columns s y z) (template b 9 (leading (front s))) ≡ empty_columns b (leading (front s)) ++ rest_with s (added y 32) (added z 32)
@@ -141,10 +120,7 @@ columns_with b s y z h =
 
 -- before the digits of a value is a column for its sign
 pub sign_before : (v : ℤ) → FitsColumns v → is_negative v ≡ true → 1 ≤ leading (front (unsigned_abs v))
-sign_before v fits negative =
-    let size = start_is (unsigned_abs v) (within_columns v fits) in
-    let few = nine_digits v fits negative in
-    omega (arith, size, few)
+sign_before v fits negative = grind (arith, start_is, within_columns, nine_digits)
 
 pub value_columns : (v : ℤ) (y z : ℕ) → FitsColumns v
     → zip2 added (digit_columns (unsigned_abs v) y z) (template (is_negative v) 9 (leading (front (unsigned_abs v)))) ≡ field (Some v) (added y 32) (added z 32)

@@ -5,7 +5,7 @@ use Rattle.rinex_file.proofs.Fields.Columns.{blank_columns, last_minus, empty_co
 use Rattle.rinex_file.proofs.Fields.Lanes.{taken, below_at, added_back, taken_back, template_below, tenth_below}
 use Rattle.rinex_file.proofs.Fields.Templates.{added, front, start_is, leading-le, length-template, sign_before, value_columns}
 use Rattle.rinex_file.proofs.OneReading.{field_parts}
-use Rattle.rinex_file.proofs.Names.{arith, ◌≡◌, ◌∙◌, sym, ap, ap₂, refl, subst, cond, ℕ, zero, suc, ◌+◌, ◌-◌, ◌*◌, ◌/◌, ◌%◌, ◌^◌, ◌<◌, ◌≤◌, List, [], ◌∷◌, ◌++◌, map, length, get_or, replicate, drop, take, decimal, append_assoc, true, false, eqb, not, inl, inr, ℤ, pos, negsuc, unsigned_abs, Some, w8, Bool, ◌==◌, if◌then◌else◌, neg_ℤ, nat_lt, prefix_len, is_negative, cases_Bool, eqb-true, ne_eqb, ints, decimal_digit, first_decimal, length-map, prefix_len-le-length, bitmask_splat, first_set_mask_l, mask_l-mod, length-zip2, drop_all, drop_more, get_or-drop, get_or-zip2, add-one, FitsColumns, field, AreBelow, AreWithin, blanks, digit_columns, empty_column, has_minus, leading, template, LIMITS, le-ltb, ltb-false}
+use Rattle.rinex_file.proofs.Names.{arith, ◌≡◌, ◌∙◌, sym, ap, ap₂, refl, subst, cond, ℕ, zero, suc, ◌+◌, ◌-◌, ◌*◌, ◌/◌, ◌%◌, ◌^◌, ◌<◌, ◌≤◌, List, [], ◌∷◌, ◌++◌, map, length, get_or, replicate, drop, take, decimal, append_assoc, true, false, eqb, not, inl, inr, ℤ, pos, unsigned_abs, Some, w8, Bool, ◌==◌, if◌then◌else◌, neg_ℤ, nat_lt, prefix_len, is_negative, cases_Bool, eqb-true, ne_eqb, ints, decimal_digit, first_decimal, length-map, prefix_len-le-length, bitmask_splat, first_set_mask_l, mask_l-mod, length-zip2, drop_all, drop_more, get_or-drop, get_or-zip2, add-one, FitsColumns, field, AreBelow, AreWithin, blanks, digit_columns, empty_column, has_minus, leading, template, LIMITS, le-ltb, ltb-false}
 use lib.Count.{count_trailing_zeros}
 use lib.Lanes.{zip2, mask_l, top}
 
@@ -44,8 +44,7 @@ limits ds size =
 -- ---- the blanks before other columns
 
 not_not : (b : Bool) → not (not b) ≡ b
-not_not true = refl
-not_not false = refl
+not_not b = grind arith
 
 blanks_counted : (xs : List ℕ) → prefix_len (λ x. not (not (eqb x 32))) xs ≡ blanks xs
 blanks_counted [] = refl
@@ -67,10 +66,7 @@ pub some_written : (xs : List ℕ) → length xs ≡ 16 → (written xs ≡ 0 �
 some_written xs size some = sym (ap (λ b. cond b 16 (count_trailing_zeros 64 (written xs))) (ne_eqb (written xs) 0 some)) ∙ first_written xs size
 
 pub few_blanks : (xs : List ℕ) → length xs ≡ 16 → (written xs ≡ 0 → ⊥) → count_trailing_zeros 64 (written xs) ≤ 16
-few_blanks xs size some =
-    let count = some_written xs size some in
-    let less = prefix_len-le-length (λ b. b == 32) xs in
-    omega (arith, count, less, size)
+few_blanks xs size some = grind (arith, some_written, prefix_len-le-length)
 
 blanks_first : (xs : List ℕ) → xs ≡ replicate (blanks xs) 32 ++ drop (blanks xs) xs
 blanks_first [] = refl
@@ -95,10 +91,7 @@ blanks_before (suc k) b rest other =
     (ap (λ (n : ℕ). 1 + n) count ∙ omega arith, at)
 
 begins_with : (columns rest : List ℕ) (k b : ℕ) → columns ≡ replicate k 32 ++ b ∷ rest → (b == 32) ≡ false → (blanks columns ≡ k) × (has_minus columns ≡ (b == 45))
-begins_with columns rest k b is other =
-    let text = replicate k 32 ++ b ∷ rest in
-    let (count, at) = blanks_before k b rest other in
-    (ap blanks is ∙ count, ap has_minus is ∙ ap (λ d. d == 45) (ap (λ n. get_or text n 0) count ∙ at))
+begins_with columns rest k b is other = grind (arith, blanks_before)
 
 -- a text that begins with a digit
 abbrev BeginsWithDigit : List ℕ → Type 0
@@ -193,25 +186,11 @@ shown {columns} {ts} {start} {b} {v} below fits is minus at rows =
     }
 
 pub within : (ds : List ℕ) (start : ℕ) (b : Bool) (v : ℤ) → IsShown ds start b v → AreWithin LIMITS ds
-within ds start b v is =
-    let size = is.size in
-    let (y, z) = is.ends in
-    subst (AreWithin LIMITS) (sym is.digits) (digits_within (unsigned_abs v) is.lost is.strength size y z) where
-      digits_within : (s y z : ℕ) → s < 10 ^ 13 → y < 256 → z < 256 → AreWithin LIMITS (digit_columns s y z)
-      digits_within s y z h k l = omega (arith, h, k, l)
+within ds start b v is = grind arith
 
 -- a negative value has a digit other than zero
 pub no_zero : {ds : List ℕ} {start s y z : ℕ} {b : Bool} {v : ℤ} → IsShown ds start b v → b ≡ true → s ≡ 0 → ds ≡ digit_columns s y z → ⊥
-no_zero {y} {z} {b} {v} is minus none digits =
-    some v (is.sign ∙ minus) (zero_size (unsigned_abs v) is.lost is.strength y z (sym (digits ∙ ap (λ n. digit_columns n y z) none) ∙ is.digits)) where
-      zero_size : (n a b y z : ℕ) → digit_columns 0 y z ≡ digit_columns n a b → n ≡ 0
-      zero_size n a b y z e =
-          let low : AreWithin (replicate 14 0) (digit_columns n a b) = subst (AreWithin (replicate 14 0)) e (omega arith) in
-          omega (arith, low)
-
-      some : (v : ℤ) → is_negative v ≡ true → unsigned_abs v ≡ 0 → ⊥
-      some (pos n) negative none = absurd (grind (arith, negative))
-      some (negsuc n) negative none = omega (arith, none)
+no_zero is minus none digits = grind arith
 
 -- ---- the value in columns
 
@@ -220,23 +199,14 @@ IsValue columns v = FitsColumns v × (columns ≡ field (Some v) (get_or columns
 
 -- columns that begin so
 begin_as : (b : Bool) (start : ℕ) (columns : List ℕ) → length columns ≡ 16 → blanks columns ≤ 9 → Begins columns b start → columns ≡ empty_columns b start ++ drop start columns
-begin_as false start columns size few (sign, at) = blanks_first columns ∙ ap (λ k. replicate k 32 ++ drop k columns) at ∙ ap (λ l. l ++ drop start columns) (sym (blank_columns start))
-begin_as true start columns size few (sign, at) =
-    let k = blanks columns in
-    let minus : get_or columns k 0 ≡ 45 = eqb-true (get_or columns k 0) 45 sign in
-    blanks_first columns ∙ ap (λ l. replicate k 32 ++ l) (drop_more columns k 0 (omega (arith, size, few)) ∙ ap (λ d. d ∷ drop (k + 1) columns) minus)
-    ∙ sym (append_assoc (replicate k 32) (45 ∷ []) (drop (k + 1) columns)) ∙ ap (λ l. l ++ drop (k + 1) columns) (sym (last_minus k))
-    ∙ ap₂ (λ m n. empty_columns true m ++ drop n columns) (sym (add-one k) ∙ at) at
+begin_as b start columns size few h2 = grind (arith, blanks_first, blank_columns, eqb-true, drop_more, append_assoc, last_minus, add-one)
 
 -- their leading zeros end where the first digit is, if that is not a zero or is the last
 empty_taken : (b : Bool) (n : ℕ) → taken (empty_column n b) (empty_column n b) ≡ 0
-empty_taken true zero = refl
-empty_taken false zero = refl
-empty_taken b (suc n) = refl
+empty_taken b n = grind arith
 
 no_leading : (d : ℕ) (ds : List ℕ) → (d ≡ 0 → ⊥) → leading (d ∷ ds) ≡ 0
-no_leading zero ds some = absurd (some refl)
-no_leading (suc d) ds some = refl
+no_leading d ds some = grind arith
 
 zeros_before : (b : Bool) (n start : ℕ) (rest : List ℕ) → start ≤ n → get_or rest 0 0 < 256 → (start < n → get_or rest 0 0 ≡ 48 → ⊥)
     → leading (take n (zip2 taken (empty_columns b start ++ rest) (template b n start))) ≡ start
@@ -294,17 +264,7 @@ no_zero_first b (suc n) (suc start) (x ∷ xs) small none is =
 -- the value of a size and a sign
 signed_is : (s : ℕ) (b : Bool) → s < 10 ^ 13 → (b ≡ true → 1 ≤ leading (front s)) → (b ≡ true → s ≡ 0 → ⊥)
     → FitsColumns (if b then neg_ℤ (pos s) else pos s) × (is_negative (if b then neg_ℤ (pos s) else pos s) ≡ b) × (unsigned_abs (if b then neg_ℤ (pos s) else pos s) ≡ s)
-signed_is s false small before some = ((omega (arith, ints), omega (arith, ints, small)), not_negative s, refl)
-signed_is zero true small before some = absurd (some refl refl)
-signed_is (suc m) true small before some =
-    let fits : suc m < 10 ^ 12 = first_zero (suc m) (before refl) in
-    ((omega (arith, ints, fits), omega (arith, ints)), refl, refl) where
-      none : (d : ℕ) (ds : List ℕ) → 1 ≤ leading (d ∷ ds) → d ≡ 0
-      none zero ds h = refl
-      none (suc d) ds h = absurd (omega (arith, h))
-
-      first_zero : (s : ℕ) → 1 ≤ leading (front s) → s < 10 ^ 12
-      first_zero s h = let zeros = none (s / 1_000_000_000_000) _ h in omega (arith, zeros)
+signed_is s b small before some = grind (arith, ints, not_negative)
 
 -- these are the columns of the value whose digits are left
 pub value_is : {columns ts : List ℕ} (s : ℕ) {start : ℕ} (b : Bool) → AreColumns columns → s < 10 ^ 13 → start ≡ leading (front s) → (b ≡ true → (1 ≤ start) × (s ≡ 0 → ⊥))

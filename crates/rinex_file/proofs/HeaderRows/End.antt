@@ -6,13 +6,12 @@ use Rattle.gnss_system.specs.SystemValues.{tabulate, value_of}
 use Rattle.gnss_obs.proofs.PlanLemmas.{listed_by}
 use Rattle.rinex_file.proofs.HeaderRows.Letters.{same_flags}
 use Rattle.rinex_file.proofs.HeaderRows.Some.{SomeShown, none_before, some_shown}
-use Rattle.gnss_system.specs.declared.system.System.TheVariants.{Glonass}
 use Rattle.rinex_file.proofs.HeaderRows.Slots.{no_slots, same_channels, slots_are, slots_room}
 use Rattle.rinex_file.specs.declared.header.fields.TextRow.TheVariants as row
 use Rattle.rinex_file.proofs.HeaderRows.Places.{all_before}
 use Rattle.rinex_file.proofs.HeaderRows.Steps.{rest_next}
 use Rattle.rinex_file.proofs.HeaderRows.Texts.{place_back, same_at, same_rows}
-use Rattle.rinex_file.proofs.Names.{nat_lt, ◌&&◌, letter, arith, ◌≡◌, ◌∙◌, sym, ap, ap₂, map, refl, subst, ℕ, pos, suc, lit<, lit≤, ◌<◌, true, ◌||◌, min, List, [], ◌∷◌, ◌++◌, length, get_or, replicate, All, nat_eq, AllOfLen, IsDistinct, take_all, ext_get_or, SignalAt, table, System, indices, IsOf, planned_of, StationValues, TextRow, Texts, Position, Delta, First, End, trimmed, HeaderLists, text_count, text_of, width_of, fields, fields_of, text_rows, HeaderField, AntType, IsText, AreTexts, AreValues, IsTime, row_line, row_place, end_line, most_type_rows, Known, Shown, IsShown, AreValid, IsHeadAt, shown_with, lines_before, signals_begun, RefusesHeaderLine, EndsHeader, none_of, row_at, AreSized, AreTypesOf, AreSameTexts, Has, HasRow, fits, counted, types_before, StrengthUnit, SameFrom, position_of, ◌==◌, is_chosen, ◌+◌, PlanValue, Slots, SlotNumber, AreChannels, AreSameSlots, AreSlotsRead, known_slots, no_channels, slots_before, slots_of}
+use Rattle.rinex_file.proofs.Names.{arith, ◌≡◌, ◌∙◌, sym, ap, ap₂, map, refl, subst, ℕ, pos, suc, lit<, lit≤, ◌<◌, true, List, [], ◌∷◌, ◌++◌, length, get_or, replicate, All, nat_eq, AllOfLen, IsDistinct, take_all, ext_get_or, SignalAt, table, System, indices, IsOf, planned_of, StationValues, TextRow, Texts, Position, Delta, First, End, trimmed, HeaderLists, text_count, text_of, width_of, fields, fields_of, text_rows, HeaderField, AntType, IsText, AreTexts, AreValues, IsTime, row_line, row_place, end_line, Known, Shown, IsShown, AreValid, IsHeadAt, shown_with, lines_before, RefusesHeaderLine, EndsHeader, none_of, row_at, AreSameTexts, Has, HasRow, fits, counted, StrengthUnit, SameFrom, position_of, PlanValue, Slots, AreChannels, AreSameSlots, known_slots, no_channels, slots_of}
 
 -- ---- a header with all that was read is the one that was read
 
@@ -46,11 +45,7 @@ module _ (k : Known) (h : Shown) (is : IsShown h) (valid : AreValid k) (has : Ha
     at i less = subst (λ j. get_or h.texts j [] ≡ get_or k.shown.texts j []) (place_back i less) (same_at h.texts k.shown.texts fields i AntType less (same_rows h.texts k.shown.texts row_of text_rows))
 
   signals : (s : System) → planned_of s h.plan ≡ planned_of s k.shown.plan
-  signals s =
-      let few = few_signals_of h.plan is.plan s in
-      let types : AreTypesOf most_type_rows (counted k s) (planned_of s k.shown.plan) (planned_of s h.plan) =
-      subst (λ m. AreTypesOf m (counted k s) (planned_of s k.shown.plan) (planned_of s h.plan)) (all_before s (row_place End) (lit< tt)) (has.types s) in
-      sym (types.begun ∙ take_all (signals_begun most_type_rows) (planned_of s h.plan) (omega (arith, few)))
+  signals s = grind (arith, few_signals_of, all_before, lit<, take_all)
 
   values : h.values ≡ k.shown.values
   values =
@@ -71,8 +66,7 @@ module _ (k : Known) (h : Shown) (is : IsShown h) (valid : AreValid k) (has : Ha
 
 -- what fits at a row after the types fits at the last
 still_fits : (k : Known) (from : ℕ) → row_place StrengthUnit < from → fits k from ≡ true → fits k (row_place End) ≡ true
-still_fits k from far e = ap (λ m. (m == k.letter) && nat_lt 0 k.letter) (same_flags (is_chosen k (row_place End)) (is_chosen k from) (λ s. ap (λ m. nat_lt 0 (counted k s) || (m == 0 && (k.letter == 77 || k.letter == letter s)))
-    (all_before s (row_place End) (lit< tt) ∙ sym (all_before s from far)))) ∙ e
+still_fits k from far e = grind (arith, same_flags, all_before, lit<)
 
 module _ (k : Known) (line : List ℕ) (from : ℕ) (at : IsHeadAt k from) (same : SameFrom k line from (row_place End)) where
   at_end : IsHeadAt k (row_place End)
@@ -129,14 +123,7 @@ valid_by {made = made} signals e texts channels values first of plan = subst Are
 
 -- nothing was read
 pub begins : (k : Known) → AreValid k → ((s : System) → counted k s ≡ 0) → ((s : System) → planned_of s k.shown.plan ≡ []) → k.slots ≡ 0 → k.shown.plan.channels ≡ no_channels → IsHeadAt k 0
-begins k valid none_counted none_planned no_count none_known = record { valid = valid; sized = λ s. none s (counted k s) _ (none_counted s) (none_planned s); slots = nothing (known_slots k) k.slots no_count (ap slots_of none_known ∙ no_slots); fitting = λ l. absurd (omega (arith, l)); expected = lit≤ tt } where
-  none : (s : System) (count : ℕ) (signals : List ℕ) → count ≡ 0 → signals ≡ [] → AreSized s (types_before s 0) count signals
-  none s count signals e f = subst (λ rows. AreSized s rows count signals) (sym (none_before s)) (record { few = omega (arith, e); none = λ z. e; size = ap length f ∙ zero_min count e }) where
-    zero_min : (c : ℕ) → c ≡ 0 → 0 ≡ min (signals_begun 0) c
-    zero_min c e = omega (arith, e)
-
-  nothing : (slots : List SlotNumber) (count : ℕ) → count ≡ 0 → slots ≡ [] → AreSlotsRead (slots_before 0) (counted k Glonass) count slots
-  nothing slots count e f = subst (AreSlotsRead (slots_before 0) (counted k Glonass) count) (sym f) (record { none = λ z. e; unplanned = λ z. e; size = omega (arith, e); room = omega (arith, e) })
+begins k valid none_counted none_planned no_count none_known = grind (arith, no_slots, lit≤, none_before)
 
 blank_text : (f : HeaderField) → IsText (width_of f) (text_of (replicate text_count []) f)
 unfolding trimmed

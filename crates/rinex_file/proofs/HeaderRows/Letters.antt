@@ -6,7 +6,7 @@ use Rattle.gnss_system.specs.Systems.{is_system}
 use Rattle.gnss_system.proofs.SystemLaws.{any_system, equal_indices, letter_back, system_same, systems_taken}
 use Rattle.gnss_system.specs.Satellites.{system_of_letter}
 use Rattle.rinex_file.proofs.HeaderRows.Texts.{equal_or}
-use Rattle.rinex_file.proofs.Names.{arith, refl, sym, ap, ap₂, subst, ◌≡◌, ◌∙◌, ℕ, zero, suc, ◌+◌, ◌<◌, ◌≤◌, ◌==◌, ◌&&◌, ◌||◌, cond, Bool, true, false, List, [], ◌∷◌, length, nat_lt, nat_tests, lit<, filter, System, letter, PlanValue, planned_of, systems, is_planned, letter_of, flagged_letter, systems_letter, Known, IsShown, Shown, Has, counted, types_before, is_chosen, fits, same_Some, if◌then◌else◌, index_of, take, filter-append, append-nil, ◌++◌, All, All-head, filter_passes, eq-eqb, lt-ltb, or_right, AreSized}
+use Rattle.rinex_file.proofs.Names.{arith, refl, sym, ap, ap₂, subst, ◌≡◌, ◌∙◌, ℕ, ◌+◌, ◌<◌, ◌≤◌, ◌==◌, ◌&&◌, ◌||◌, cond, Bool, true, false, List, [], ◌∷◌, length, nat_lt, nat_tests, lit<, filter, System, letter, PlanValue, planned_of, systems, is_planned, letter_of, flagged_letter, systems_letter, Known, IsShown, Shown, Has, counted, types_before, is_chosen, fits, same_Some, if◌then◌else◌, index_of, take, filter-append, append-nil, ◌++◌, All, All-head, filter_passes, eq-eqb, lt-ltb, or_right, AreSized}
 
 -- ---- letters
 
@@ -23,9 +23,7 @@ not_several s e = grind arith
 
 -- with one system more
 joined_letter : (ss : List System) (s : System) → letter_of (ss ++ s ∷ []) ≡ (if letter_of ss == 0 then letter s else 77)
-joined_letter [] s = refl
-joined_letter (r ∷ []) s = sym (ap (λ b. if b then letter s else 77) (some_letter r))
-joined_letter (r ∷ t ∷ ss) s = refl
+joined_letter ss s = grind (arith, some_letter)
 
 -- of the systems before an index, with the one at it
 pub letter_next : (f : System → Bool) (n : ℕ) (s : System) → index_of s ≡ n
@@ -53,21 +51,13 @@ has_flag f s e = any-filter_same (is_system s) f true (λ t h. subst (λ r. f r 
 
 -- a letter other than `M` is that of each system with a flag
 own_letter : (f : System → Bool) (m : ℕ) → (m ≡ 77 → ⊥) → flagged_letter f ≡ m → (s : System) → f s ≡ true → letter s ≡ m
-own_letter f m far is s e = by (filter f systems) (has_flag f s e) is where
-  by : (ss : List System) → list_any (is_system s) ss ≡ true → letter_of ss ≡ m → letter s ≡ m
-  by [] one is = cc
-  by (r ∷ []) one is = ap letter (equal_indices s r (grind (arith, one))) ∙ is
-  by (r ∷ t ∷ ss) one is = absurd (far (sym is))
+own_letter f m far is s e = grind (arith, has_flag, equal_indices)
 
 several_size : (ss : List System) → letter_of ss ≡ 77 → 2 ≤ length ss
-several_size [] e = absurd (omega (arith, e))
-several_size (s ∷ []) e = absurd (not_several s e)
-several_size (s ∷ t ∷ ss) e = omega arith
+several_size ss e = grind (arith, not_several)
 
 several_from : (ss : List System) → 2 ≤ length ss → letter_of ss ≡ 77
-several_from [] l = absurd (omega (arith, l))
-several_from (s ∷ []) l = absurd (omega (arith, l))
-several_from (s ∷ t ∷ ss) l = refl
+several_from ss l = grind arith
 
 more_flags : (f g : System → Bool) → ((s : System) → f s ≡ true → g s ≡ true) → (ss : List System) → length (filter f ss) ≤ length (filter g ss)
 more_flags f g le [] = omega arith
@@ -121,19 +111,13 @@ chosen_letter f some may m is positive sub sup = equal_or (flagged_letter (chose
 -- ---- a header with what was read has a plan that fits
 
 counted_flag : (rows count : ℕ) (all : List ℕ) → (rows ≡ 0 → count ≡ 0) → (0 < rows → count ≡ length all) → nat_lt 0 count ≡ true → nat_lt 0 (length all) ≡ true
-counted_flag zero count all none are some = let e = sym (ap (nat_lt 0) (none refl)) ∙ some in cc
-counted_flag (suc rows) count all none are some = ap (nat_lt 0) (sym (are (omega arith))) ∙ some
+counted_flag rows count all none are some = grind arith
 
 planned_flag : (rows count : ℕ) (all : List ℕ) → (0 < rows → count ≡ length all) → nat_lt 0 (length all) ≡ true → (rows == 0 || nat_lt 0 count) ≡ true
-planned_flag zero count all are some = refl
-planned_flag (suc rows) count all are some = or_right (suc rows == 0) (nat_lt 0 count) (ap (nat_lt 0) (are (omega arith)) ∙ some)
+planned_flag rows count all are some = grind (arith, or_right)
 
 some_planned : (p : PlanValue) (s : System) → 0 < length (planned_of s p) → 0 < systems_letter p
-some_planned p s some = by (filter (is_planned p) systems) (has_flag (is_planned p) s (lt-ltb 0 (length (planned_of s p)) some)) where
-  by : (ss : List System) → list_any (is_system s) ss ≡ true → 0 < letter_of ss
-  by [] one = cc
-  by (r ∷ []) one = grind arith
-  by (r ∷ t ∷ ss) one = lit< tt
+some_planned p s some = grind (arith, has_flag, lt-ltb, lit<)
 
 pub has_fits : (k : Known) (n : ℕ) (h : Shown) → 0 < n → ((s : System) → AreSized s (types_before s n) (counted k s) (planned_of s k.shown.plan)) → IsShown h → Has k n h → fits k n ≡ true
 has_fits k n h first sized is has =

@@ -3,7 +3,7 @@ use Rattle.gnss_system.proofs.Checked.{passes_below}
 use Rattle.gnss_system.proofs.SystemLaws.{each_system, system_same, system_self}
 use Rattle.rinex_file.proofs.HeaderRows.Agree.{placed}
 use Rattle.rinex_file.proofs.PlainTexts.{both}
-use Rattle.rinex_file.proofs.Names.{if◌then◌else◌, arith, ◌≡◌, ◌∙◌, sym, ap, refl, ℕ, zero, suc, ◌+◌, ◌<◌, Bool, true, false, ◌==◌, ◌&&◌, min, nat_lt, nat_tests, System, passes_at, HeaderRow, Types, StrengthUnit, row_at, row_count, row_place, most_type_rows, types_before, is_system, is_equal, index_of, first_types, is_less, ◌-◌, Slots, slots_before}
+use Rattle.rinex_file.proofs.Names.{if◌then◌else◌, arith, ◌≡◌, ◌∙◌, sym, ap, refl, ℕ, zero, suc, ◌<◌, Bool, true, false, ◌==◌, ◌&&◌, nat_lt, nat_tests, System, passes_at, HeaderRow, Types, StrengthUnit, row_at, row_count, row_place, most_type_rows, types_before, is_system, is_equal, is_less, Slots, slots_before}
 
 -- ---- the rows of types before an index
 
@@ -32,9 +32,7 @@ module _ {n : ℕ} (less : n < row_count) where
 
 -- all types are before the rows after the unit's
 pub all_before : (s : System) (n : ℕ) → row_place StrengthUnit < n → types_before s n ≡ most_type_rows
-all_before s n far = by (first_types s) (is_less _ _ (each_system (λ s. nat_lt (first_types s + 5) (row_place StrengthUnit)) s refl)) where
-  by : (f : ℕ) → f + 5 < row_place StrengthUnit → min most_type_rows (n - f) ≡ most_type_rows
-  by f few = omega (arith, few, far)
+all_before s n far = grind (arith, is_less, each_system)
 
 -- ---- the rows of slots before an index
 
@@ -75,15 +73,10 @@ slots_here (suc (suc (suc (suc row)))) few = absurd (omega (arith, few))
 
 -- the same system, or another
 pub either : (P : Type 0) (s t : System) → (t ≡ s → P) → (is_system s t ≡ false → P) → P
-either P s t same other = by (is_system s t) refl where
-  by : (b : Bool) → is_system s t ≡ b → P
-  by true e = same (sym (system_same s t e))
-  by false e = other e
+either P s t same other = grind (arith, system_same)
 
 pub flipped : (s t : System) → is_system s t ≡ false → is_system t s ≡ false
-flipped s t e = turn (index_of s) (index_of t) e where
-  turn : (a b : ℕ) → (a == b) ≡ false → (b == a) ≡ false
-  turn a b e = grind (arith, nat_tests, e)
+flipped s t e = grind (arith, nat_tests)
 
 pub place_at : (n : ℕ) (r : HeaderRow) → n < row_count → row_at n ≡ r → n ≡ row_place r
 place_at n r less at = sym (placed n less) ∙ ap row_place at

@@ -8,7 +8,7 @@ use Rattle.rinex_file.proofs.HeaderRows.Texts.{few_columns}
 use Rattle.rinex_file.proofs.HeaderRows.Slots.{slots_are, slots_room}
 use Rattle.rinex_file.proofs.HeaderRows.Types.{length-system_types}
 use Rattle.rinex_file.proofs.PlainTexts.{both, IsPlain, plain-wider, plain-append, plain-left, plain-right, plain-decimal, plain-fixed, plain-padded, plain, plain-flat_map, plain-joined, also, plain-text}
-use Rattle.rinex_file.proofs.Names.{arith, lit≤, lit<, ◌≡◌, ap, refl, subst, ℕ, zero, suc, ◌+◌, ◌*◌, ◌/◌, ◌%◌, ◌^◌, ◌<◌, ◌≤◌, ℤ, pos, unsigned_abs, Bool, true, false, List, [], ◌∷◌, ◌++◌, length, take, drop, decimal, get_or, append_assoc, length-append, ◌==◌, ◌||◌, ◌&&◌, not, if◌then◌else◌, nat_le, flat_map, All, codes, slice_get, AllByRecursion, list_all, option_map_or, cond_both, ints, length-take, All-nil, All-head, All-tail, All-cons, All-append, All-map, All-take, All-drop, All-replicate, code_of, System, StationValues, Civil, civil_of, PlanValue, planned_of, HeaderField, TextRow, HeaderRow, Version, Texts, Position, Delta, Types, StrengthUnit, First, Shift, End, IsLine, AreTexts, IsPlan, AreValues, IsTime, IsCoordinate, header_line, version_fields, version_line, lengths, first_line, text_columns, texts_line, types_of, type_front, type_columns, type_line, codes_of, row_line, row_lines, has_line, all_rows, header_lines, position_line, delta_line, letter, joined, left, right, fixed, has, HeaderLists, width_of, text_of, fields_of, label_of, front_of, common_steps, most_line, most_signals, systems_letter, is_planned, letter_of, systems, filter, ◌-◌, nat_lt, padded, most_number, slot_count, nat_tests, AreSlots, SlotNumber, channel_text, slot_text, slots_columns, slots_front, slots_line, slots_of, Slots, Biases}
+use Rattle.rinex_file.proofs.Names.{arith, lit≤, lit<, ◌≡◌, ap, refl, subst, ℕ, zero, suc, ◌+◌, ◌*◌, ◌/◌, ◌%◌, ◌^◌, ◌<◌, ◌≤◌, ℤ, pos, unsigned_abs, Bool, true, false, List, [], ◌∷◌, ◌++◌, length, take, drop, decimal, get_or, append_assoc, length-append, ◌==◌, ◌||◌, ◌&&◌, not, if◌then◌else◌, nat_le, flat_map, All, codes, slice_get, AllByRecursion, list_all, option_map_or, cond_both, ints, length-take, All-nil, All-head, All-tail, All-cons, All-append, All-map, All-take, All-drop, All-replicate, code_of, System, StationValues, Civil, civil_of, PlanValue, planned_of, HeaderField, TextRow, HeaderRow, Version, Texts, Position, Delta, Types, StrengthUnit, First, Shift, End, IsLine, AreTexts, IsPlan, AreValues, IsTime, IsCoordinate, header_line, version_fields, version_line, lengths, first_line, text_columns, texts_line, types_of, type_front, type_columns, type_line, codes_of, row_line, row_lines, has_line, all_rows, header_lines, position_line, delta_line, letter, joined, left, right, fixed, has, HeaderLists, width_of, text_of, fields_of, label_of, front_of, common_steps, most_line, most_signals, systems_letter, is_planned, letter_of, systems, filter, padded, most_number, slot_count, nat_tests, AreSlots, SlotNumber, channel_text, slot_text, slots_columns, slots_front, slots_line, slots_of, Slots, Biases}
 
 -- ---- a line of a file
 
@@ -125,10 +125,7 @@ no_feed : (n : ℕ) → (48 + n == 10) ≡ false
 no_feed n = grind (arith, nat_tests)
 
 plain_channel : (n : ℕ) → n ≤ most_number → IsPlain 2 (channel_text n)
-plain_channel n few = by (nat_lt n 7) where
-  by : (b : Bool) → IsPlain 2 (if b then 45 ∷ (48 + (7 - n)) ∷ [] else 32 ∷ (48 + (n - 7)) ∷ [])
-  by true = record { clean = ap (λ c. c || false) (no_feed (7 - n)); short = lit≤ tt }
-  by false = record { clean = ap (λ c. c || false) (no_feed (n - 7)); short = lit≤ tt }
+plain_channel n few = grind (arith, no_feed, lit≤)
 
 plain_slot : (s : SlotNumber) → s.slot ≤ slot_count → s.number ≤ most_number → IsPlain 27 (slot_text s)
 plain_slot s few number =

@@ -7,7 +7,7 @@ use Rattle.rinex_file.proofs.HeaderRows.Places.{either, none_of_slots, other_bef
 use Rattle.rinex_file.proofs.HeaderRows.Steps.{Law, single, present, shows_next, begun_more}
 use Rattle.rinex_file.proofs.HeaderRows.Texts.{equal_or, same_here, same_line, kept_texts, same_texts, texts_back}
 use Rattle.rinex_file.proofs.PlainTexts.{both}
-use Rattle.rinex_file.proofs.Names.{arith, ◌≡◌, ◌∙◌, sym, ap, refl, subst, ℕ, zero, suc, ◌+◌, ◌<◌, ◌≤◌, Bool, true, false, List, [], ◌∷◌, length, take, min, ◌↔◌, ◌^◌, get_or, Option, Some, None, IsTrue, nat_lt, codes, nat_le, list_all, take-take, take-map, SignalAt, table, System, is_less, is_system, indices, planned_of, civil_of, StationValues, length_indices, Types, Version, Texts, Position, Delta, StrengthUnit, First, Shift, row_line, row_count, row_at, has_line, type_rows, position_line, row_place, header_line, height_line, first_line, strength_line, version_by, Known, Has, HasRow, AreSized, AreTypesOf, AreSameTexts, counted, types_before, systems_letter, shown_line, shown_rows, AreTypes, types_line, signals_begun, IsPosition, position_of, Shown, IsShown, known_line, NoneGoesOn, TakesTypes, RefusesTypes, with_types, IsHeaderLineRead, RefusesHeaderLine, ReadsOrRefuses, ReadsTexts, RefusesTexts, with_texts, with_values, with_first, with_letter, TextRow, HeaderRow, HeaderLists, text_row_index, fields_of, place_of, front_of, HeaderField, AntType, IsTime, letter, ReadsExactly, same_Some, ⊤, ◌*◌, Slots, Biases, biases_line, slots_line, slots_of, slots_in_line, known_slots, with_slots, AreSlotsAt, AreSlotsBefore, SlotsFollow, IsLineOfSlots, TakesSlots, TakesOrRefusesSlots, ChannelsValue, add-one}
+use Rattle.rinex_file.proofs.Names.{arith, ◌≡◌, ◌∙◌, sym, ap, refl, subst, ℕ, suc, ◌+◌, ◌<◌, ◌≤◌, Bool, true, false, List, [], ◌∷◌, length, take, min, ◌↔◌, ◌^◌, get_or, Option, Some, None, IsTrue, nat_lt, codes, nat_le, list_all, take-take, take-map, SignalAt, table, System, is_less, is_system, indices, planned_of, civil_of, StationValues, length_indices, Types, Version, Texts, Position, Delta, StrengthUnit, First, Shift, row_line, row_count, row_at, has_line, type_rows, position_line, row_place, header_line, height_line, first_line, strength_line, version_by, Known, Has, HasRow, AreSized, AreTypesOf, AreSameTexts, counted, types_before, systems_letter, shown_line, shown_rows, AreTypes, types_line, signals_begun, IsPosition, position_of, Shown, IsShown, known_line, NoneGoesOn, TakesTypes, RefusesTypes, with_types, IsHeaderLineRead, RefusesHeaderLine, ReadsOrRefuses, ReadsTexts, RefusesTexts, with_texts, with_values, with_first, with_letter, TextRow, HeaderRow, HeaderLists, text_row_index, fields_of, place_of, front_of, HeaderField, AntType, IsTime, letter, ReadsExactly, same_Some, ⊤, ◌*◌, Slots, Biases, biases_line, slots_line, slots_of, slots_in_line, known_slots, with_slots, AreSlotsAt, AreSlotsBefore, SlotsFollow, IsLineOfSlots, TakesSlots, TakesOrRefusesSlots, ChannelsValue, add-one}
 
 -- ---- numbers of signals
 
@@ -38,19 +38,14 @@ row_taken {system} {count} {row = row} {line} {old} new few rows later grows beg
 
 -- a line of types that isn't the first is expected by the number of signals
 pub rows_there : (k : Known) (line : List ℕ) (s : System) (row : ℕ) → known_line k line (Types s row) ≡ true → 0 < row → row < type_rows (counted k s)
-rows_there k line s zero has far = absurd (omega (arith, far))
-rows_there k line s (suc row) has far = is_less (suc row) (type_rows (counted k s)) has
+rows_there k line s row has far = grind (arith, is_less)
 
 -- the signals that begin before an expected line were read
 pub begun_here : (s : System) (row rows count : ℕ) (signals : List ℕ) → (0 < row → row < type_rows count) → rows ≡ row → AreSized s rows count signals → length signals ≡ signals_begun row
-begun_here s row rows count signals expected e r = r.size ∙ ap (λ m. min (signals_begun m) count) e ∙ by row expected where
-  by : (row : ℕ) → (0 < row → row < type_rows count) → min (signals_begun row) count ≡ signals_begun row
-  by zero expected = omega arith
-  by (suc row) expected = let l = expected (omega arith) in omega (arith, l)
+begun_here s row rows count signals expected e r = grind arith
 
 same_rows_known : (s : System) (k : Known) (count : ℕ) (signals : List ℕ) (h : Shown) (r : HeaderRow) → HasRow k h r ↔ HasRow (with_types s k count signals) h r
-same_rows_known s k count signals h Version = (λ e. e, λ e. e)
-same_rows_known s k count signals h other = (λ e. e, λ e. e)
+same_rows_known s k count signals h other = grind arith
 
 same_made : (P : ℕ → List ℕ → Type 0) {a b : ℕ} {xs ys : List ℕ} → a ≡ b → xs ≡ ys → P a xs ↔ P b ys
 same_made P {a} {b} {xs} {ys} e f = (λ p. subst (λ n. P n ys) e (subst (P a) f p), λ p. subst (P a) (sym f) (subst (λ n. P n ys) (sym e) p))
@@ -235,10 +230,7 @@ Height line r = ReadsExactly (λ h. h < 2 ^ 16) height_line line r
 pub line_delta : (k : Known) (height : ℕ) (line : List ℕ) → Height line (Some height)
     → IsHeaderLineRead Delta line k (with_values k (record k.shown.values { height = height }))
 unfolding row_line
-line_delta k height line r = record { signals = refl; counts = λ s. refl; slots = (refl, refl); own = λ h is before. exact {Is = λ h. h < 2 ^ 16} {text = height_line} r h.values.height is.values.height; kept = kept } where
-  kept : (h : Shown) (q : HeaderRow) → row_place q < row_place Delta → HasRow k h q ↔ HasRow (with_values k (record k.shown.values { height = height })) h q
-  kept h Delta less = absurd (omega (arith, less))
-  kept h other less = (λ e. e, λ e. e)
+line_delta k height line r = grind (arith, exact)
 
 pub refuse_delta : (k : Known) (line : List ℕ) → Height line None → RefusesHeaderLine k Delta line
 unfolding row_line
@@ -274,8 +266,7 @@ line_unit k line b is = line_fixed StrengthUnit k b (refl, refl) (λ h. refl) (�
 pub line_shift : (system : System) (byte : ℕ) (k : Known) (line : List ℕ) (b : Bool) → byte ≡ letter system
     → (IsTrue b ↔ (line ≡ header_line (byte ∷ []) (codes "SYS / PHASE SHIFT"))) → ReadsOrRefuses (Shift system) line k k b
 unfolding row_line
-line_shift system byte k line b e is =
-    line_fixed (Shift system) k b (refl, refl) (λ h. refl) (λ h. tt) (subst (λ l. IsTrue b ↔ (line ≡ header_line (l ∷ []) (codes "SYS / PHASE SHIFT"))) e is)
+line_shift system byte k line b e is = grind (arith, line_fixed)
 
 pub line_biases : (k : Known) (line : List ℕ) (b : Bool) → (IsTrue b ↔ (line ≡ biases_line)) → ReadsOrRefuses Biases line k k b
 unfolding row_line
@@ -299,8 +290,7 @@ module _ (row : ℕ) (line : List ℕ) (k : Known) (before : AreSlotsBefore k (S
 
   pub line_slots : (count : ℕ) (channels : ChannelsValue) (b : Bool) → TakesOrRefusesSlots row line k.slots (known_slots k) count (slots_of channels) b → ReadsOrRefuses (Slots row) line k (with_slots k count channels) b
   unfolding row_line
-  line_slots count channels true t = slots_read count channels t
-  line_slots count channels false none = λ h is has e. none (slots_of h.plan.channels) (slots_line_of h is has e)
+  line_slots count channels b t = grind (arith, slots_read, slots_line_of)
 
 -- ---- version and systems
 

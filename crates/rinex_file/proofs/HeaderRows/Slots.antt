@@ -12,7 +12,7 @@ use Rattle.rinex_file.specs.Read.HeaderSteps.{IsLineOfSlots, TakesOrRefusesSlots
 use Rattle.rinex_file.proofs.Digits.Numbers.{digits_in-padded, digits_in-whole, length-right}
 use Rattle.rinex_file.proofs.Digits.Padded.{two_digits}
 use Rattle.rinex_file.proofs.HeaderRows.Types.{content_first}
-use Rattle.rinex_file.proofs.Names.{All, All-head, All-replicate, All-tail, IfSome, List, None, Option, Some, [], ap, append-nil, append_assoc, ap₂, arith, codes, decimal, digits_in, drop, drop-append-le, drop-cons, drop-drop, drop-take, header_line, IsTrue, ◌↔◌, nil_from_length, drop_all, drop_at, flat_map, flat_map-append, get_or, get_or-drop, get_or-take, length, length-append, length-decimal-le, length-drop, length-set, length-take, min, nat_lt, padded, refl, right, set, suc, sym, take, take-append-le, take_all, take_at, take-take, take_more, filter, is_some, zero, ◌*◌, ◌++◌, ◌+◌, ◌-◌, ◌/◌, ◌%◌, ◌<◌, ◌∙◌, ◌∷◌, ◌≡◌, ◌≤◌, ℕ, Bool, true, false, if◌then◌else◌, subst, lt-ltb, le-ltb}
+use Rattle.rinex_file.proofs.Names.{All, All-head, All-replicate, All-tail, IfSome, List, None, Option, Some, [], ap, append-nil, append_assoc, ap₂, arith, codes, decimal, digits_in, drop, drop-append-le, drop-cons, drop-drop, drop-take, header_line, IsTrue, ◌↔◌, nil_from_length, drop_all, drop_at, flat_map, flat_map-append, get_or, get_or-drop, get_or-take, length, length-append, length-decimal-le, length-drop, length-set, length-take, min, padded, refl, right, set, suc, sym, take, take-append-le, take_all, take_at, take-take, take_more, filter, is_some, zero, ◌*◌, ◌++◌, ◌+◌, ◌-◌, ◌/◌, ◌%◌, ◌<◌, ◌∙◌, ◌∷◌, ◌≡◌, ◌≤◌, ℕ, Bool, if◌then◌else◌, subst, lt-ltb, le-ltb}
 
 -- ---- slots that follow others
 
@@ -114,10 +114,7 @@ added_from last (suc i) n (Some m ∷ c) le less =
     (added_from (suc last) i n c (omega (arith, le)) (omega (arith, less)) ∙ ap (λ (k : ℕ). slots_from (suc (suc last)) c ++ at k n ∷ []) same)
 
 pub slot_added : (c : ChannelsValue) (slot n : ℕ) → AreChannels c → last_slot 0 (slots_of c) < slot → slot ≤ slot_count → slots_of (with_number c slot n) ≡ slots_of c ++ at slot n ∷ []
-slot_added c slot n are less few =
-    let size = are.slots in
-    let same : 1 + (slot - 1) ≡ slot = omega (arith, less) in
-    added_from 0 (slot - 1) n c (omega (arith, less)) (omega (arith, less, few, size)) ∙ ap (λ (k : ℕ). slots_of c ++ at k n ∷ []) same
+slot_added c slot n are less few = grind (arith, added_from)
 
 -- ---- more slots, after the last
 
@@ -164,18 +161,11 @@ taken_from low (suc k) (Some n ∷ c) less = let same : suc low + k ≡ low + su
 
 -- the slots of one number more
 pub slots_taken : (c : ChannelsValue) (k : ℕ) → k < length c → slots_of (take (k + 1) c) ≡ slots_of (take k c) ++ one_slot (k + 1) (number_at c (k + 1))
-slots_taken c k less =
-    let next : k + 1 ≡ suc k = omega arith in
-    let first : 1 + k ≡ k + 1 = omega arith in
-    let same : k ≡ k + 1 - 1 = omega arith in
-    ap (λ (n : ℕ). slots_of (take n c)) next ∙ taken_from 1 k c less ∙ ap₂ (λ (i j : ℕ). slots_of (take k c) ++ one_slot i (get_or c j None)) first same
+slots_taken c k less = grind (arith, taken_from)
 
 -- the last slot of one number more
 pub last_taken : (c : ChannelsValue) (k : ℕ) → k < length c → last_slot 0 (slots_of (take (k + 1) c)) ≡ (if is_some (number_at c (k + 1)) then k + 1 else last_slot 0 (slots_of (take k c)))
-last_taken c k less = ap (last_slot 0) (slots_taken c k less) ∙ by (number_at c (k + 1)) where
-  by : (o : Option ℕ) → last_slot 0 (slots_of (take k c) ++ one_slot (k + 1) o) ≡ (if is_some o then k + 1 else last_slot 0 (slots_of (take k c)))
-  by None = ap (last_slot 0) (append-nil (slots_of (take k c)))
-  by (Some n) = last_push 0 (slots_of (take k c)) (at (k + 1) n)
+last_taken c k less = grind (arith, slots_taken, append-nil, last_push)
 
 counted_from : (low : ℕ) (c : ChannelsValue) → length (filter is_some c) ≡ length (slots_from low c)
 counted_from low [] = refl
@@ -201,9 +191,7 @@ line_more row ss s here =
     ap (take 8) (drop-append-le (8 * row) ss (s ∷ []) low) ∙ take_all 8 (rest ++ s ∷ []) (omega (arith, size, few)) ∙ ap (λ (l : List SlotNumber). l ++ s ∷ []) (sym (take_all 8 rest (omega (arith, few))))
 
 line_before : (row : ℕ) (ss : List SlotNumber) (s : SlotNumber) → length ss < 8 * row → in_line row (ss ++ s ∷ []) ≡ in_line row ss
-line_before row ss s less =
-    let size = length-append ss (s ∷ []) in
-    ap (take 8) (drop_all (8 * row) (ss ++ s ∷ []) (omega (arith, size, less)) ∙ sym (drop_all (8 * row) ss (omega (arith, less))))
+line_before row ss s less = grind (arith, length-append, drop_all)
 
 line_after : (row : ℕ) (ss : List SlotNumber) (s : SlotNumber) → 8 * row + 8 ≤ length ss → in_line row (ss ++ s ∷ []) ≡ in_line row ss
 line_after row ss s more =
@@ -212,18 +200,14 @@ line_after row ss s more =
 
 -- a slot of another line
 line_other : (row : ℕ) (ss : List SlotNumber) (s : SlotNumber) → (length ss / 8 ≡ row → ⊥) → in_line row (ss ++ s ∷ []) ≡ in_line row ss
-line_other row ss s other =
-    less_or (in_line row (ss ++ s ∷ []) ≡ in_line row ss) (length ss) (8 * row) (λ less. line_before row ss s less)
-    (λ low. less_or (in_line row (ss ++ s ∷ []) ≡ in_line row ss) (length ss) (8 * row + 8) (λ high. absurd (other (omega (arith, low, high)))) (λ more. line_after row ss s more))
+line_other row ss s other = grind (arith, less_or, line_before, line_after)
 
 -- these columns follow others
 abbrev pub ArePut : ℕ → List SlotNumber → List ℕ → List ℕ → Type 0
 ArePut row ss old new = new ≡ old ++ flat_map slot_text (in_line row ss)
 
 pub put_here : {row : ℕ} (ss : List SlotNumber) (s : SlotNumber) (old : List ℕ) {content new : List ℕ} → ArePut row ss old content → new ≡ content ++ slot_text s → length ss / 8 ≡ row → ArePut row (ss ++ s ∷ []) old new
-put_here {row} ss s old are e here =
-    e ∙ ap (λ (t : List ℕ). t ++ slot_text s) are ∙ append_assoc old (flat_map slot_text (in_line row ss)) (slot_text s)
-    ∙ ap (λ (t : List ℕ). old ++ t) (sym (ap (flat_map slot_text) (line_more row ss s here) ∙ flat_map-append slot_text (in_line row ss) (s ∷ []) ∙ ap (λ (t : List ℕ). flat_map slot_text (in_line row ss) ++ t) (append-nil (slot_text s))))
+put_here ss s old are e here = grind (arith, append_assoc, line_more, flat_map-append, append-nil)
 
 pub put_elsewhere : {row : ℕ} (ss : List SlotNumber) (s : SlotNumber) (old : List ℕ) {content : List ℕ} → ArePut row ss old content → (length ss / 8 ≡ row → ⊥) → ArePut row (ss ++ s ∷ []) old content
 put_elsewhere {row} ss s old are other = are ∙ ap (λ (l : List SlotNumber). old ++ flat_map slot_text l) (sym (line_other row ss s other))
@@ -240,21 +224,13 @@ same_slots_line row count a b e = ap (λ (l : List SlotNumber). header_line (slo
 -- ---- the columns of a slot
 
 pub length-channel : (n : ℕ) → length (channel_text n) ≡ 2
-length-channel n = by (nat_lt n 7) where
-  by : (b : Bool) → length (if b then 45 ∷ (48 + (7 - n)) ∷ [] else 32 ∷ (48 + (n - 7)) ∷ []) ≡ 2
-  by true = refl
-  by false = refl
+length-channel n = grind arith
 
 channel_first : (n : ℕ) (rest : List ℕ) → take 2 ((channel_text n ++ 32 ∷ []) ++ rest) ≡ channel_text n
-channel_first n rest = by (nat_lt n 7) where
-  by : (b : Bool) → take 2 (((if b then 45 ∷ (48 + (7 - n)) ∷ [] else 32 ∷ (48 + (n - 7)) ∷ []) ++ 32 ∷ []) ++ rest) ≡ (if b then 45 ∷ (48 + (7 - n)) ∷ [] else 32 ∷ (48 + (n - 7)) ∷ [])
-  by true = refl
-  by false = refl
+channel_first n rest = grind arith
 
 pub length-slot : (s : SlotNumber) → s.slot < 100 → length (slot_text s) ≡ 7
-length-slot s few =
-    ap (λ (p : List ℕ). length (82 ∷ (p ++ 32 ∷ (channel_text s.number ++ 32 ∷ [])))) (two_digits s.slot few)
-    ∙ (let size = length-append (channel_text s.number) (32 ∷ []) in let two = length-channel s.number in omega (arith, size, two))
+length-slot s few = grind (arith, two_digits, length-append, length-channel)
 
 slot_columns : (slot : ℕ) (channel : List ℕ) → slot ≤ slot_count → 82 ∷ (padded 2 slot ++ 32 ∷ (channel ++ 32 ∷ [])) ≡ 82 ∷ (48 + slot / 10) ∷ (48 + slot % 10) ∷ 32 ∷ (channel ++ 32 ∷ [])
 slot_columns slot channel few = ap (λ (p : List ℕ). 82 ∷ (p ++ 32 ∷ (channel ++ 32 ∷ []))) (two_digits slot (omega (arith, few)))
@@ -270,10 +246,7 @@ abbrev ShowsSlot : SlotNumber → List ℕ → Type 0
 ShowsSlot s text = (take 2 (drop 1 text) ≡ padded 2 s.slot) × (take 2 (drop 4 text) ≡ channel_text s.number)
 
 slot_shown : (s : SlotNumber) (rest : List ℕ) → s.slot < 100 → ShowsSlot s (slot_text s ++ rest)
-slot_shown s rest few =
-    let two = two_digits s.slot few in
-    let text : List ℕ → List ℕ = λ (p : List ℕ). 82 ∷ ((p ++ 32 ∷ (channel_text s.number ++ 32 ∷ [])) ++ rest) in
-    (ap (λ (p : List ℕ). take 2 (drop 1 (text p))) two ∙ sym two, ap (λ (p : List ℕ). take 2 (drop 4 (text p))) two ∙ channel_first s.number rest)
+slot_shown s rest few = grind (arith, two_digits, channel_first)
 
 each_slot : (last : ℕ) (ss : List SlotNumber) (i : ℕ) (d : SlotNumber) → AreSlots last ss → i < length ss → ((get_or ss i d).slot ≤ slot_count) × ((get_or ss i d).number ≤ most_number)
 each_slot last [] i d are less = absurd (omega (arith, less))
@@ -402,10 +375,7 @@ up_to row new all e = sym (take-take (8 * suc row) (8 * suc row) all (omega arit
 pub line_judged : {row before count : ℕ} {line again : List ℕ} {old new : List SlotNumber} (b : Bool) → (IsTrue b ↔ (line ≡ again)) → again ≡ slots_with count new row → (0 < row → before ≡ count)
     → length new ≡ min (8 * suc row) count → count + last_slot 0 new ≤ length new + slot_count → take (8 * row) new ≡ old
     → ((all : List SlotNumber) → IsLineOfSlots row line before old all → (length all ≡ count) × (new ≡ take (8 * suc row) all)) → TakesOrRefusesSlots row line before old count new b
-line_judged true compared shown later size room grows taken = record { later = later; size = size; room = room; grows = grows; shown = compared.0 refl ∙ shown; taken = taken }
-line_judged {row} {count = count} {new = new} false compared shown later size room grows taken = λ all l.
-    let t = taken all l in
-    refused false _ compared refl (l.is ∙ ap (λ (n : ℕ). slots_with n all row) t.0 ∙ same_slots_line row count all new (up_to row new all t.1) ∙ sym shown)
+line_judged b compared shown later size room grows taken = grind (arith, refused, same_slots_line, up_to)
 
 -- ---- what is known after a line of slots
 
@@ -425,12 +395,4 @@ module _ {row before count : ℕ} {line : List ℕ} {old new : List SlotNumber} 
 
   -- what the lines before said
   pub same_before : (i : ℕ) → i < row → AreSameSlots i before old all ↔ AreSameSlots i count new all
-  same_before i less = (
-    λ s. record { number = sym number ∙ s.number; begun = s.begun ∙ sym first },
-    λ s. record { number = number ∙ s.number; begun = s.begun ∙ first },
-  ) where
-    number : before ≡ count
-    number = t.later (omega (arith, less))
-
-    first : take (8 * suc i) new ≡ take (8 * suc i) old
-    first = sym (take-take (8 * suc i) (8 * row) new (omega (arith, less))) ∙ ap (take (8 * suc i)) t.grows
+  same_before i less = grind (arith, take-take)

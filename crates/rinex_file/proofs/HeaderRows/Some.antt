@@ -148,17 +148,7 @@ module _ (k : Known) (n : ℕ) (at : IsHeadAt k n) (flags : System → Bool) (sa
 
   -- without a signal of GLONASS no slot has a channel
   unplanned : planned_of Glonass p ≡ [] → more.channels ≡ no_channels
-  unplanned e =
-      let flag : flags Glonass ≡ false = sym (choice Glonass).some ∙ ap (λ (xs : List ℕ). nat_lt 0 (length xs)) (sym (value_tabulated Glonass all) ∙ e) in
-      let count : counted k Glonass ≡ 0 = zero_count (counted k Glonass) (flags Glonass) flag (none Glonass) in
-      let slots = at.slots.unplanned count in
-      let read = at.slots.size in
-      let size = more.size in
-      let whole = ap length more.is in
-      let both = length-append (known_slots k) more.more in
-      same_channels more.channels no_channels more.are no_channels_are (nil_from_length (slots_of more.channels) (omega (arith, slots, read, size, whole, both))) where
-        zero_count : (n : ℕ) (b : Bool) → b ≡ false → (n == 0 || b) ≡ true → n ≡ 0
-        zero_count n b e f = grind (arith, nat_tests, e, f)
+  unplanned e = grind (arith, choice, value_tabulated, length-append, same_channels, no_channels_are, nil_from_length, nat_tests)
 
   letter_is : systems_letter p ≡ flagged_letter flags
   letter_is = same_flags (is_planned p) flags (λ s. ap (λ xs. nat_lt 0 (length xs)) (value_tabulated s all) ∙ (choice s).some)

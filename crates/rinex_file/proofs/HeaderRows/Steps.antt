@@ -6,11 +6,10 @@ use Rattle.rinex_file.proofs.HeaderRows.Letters.{has_fits}
 use Rattle.rinex_file.proofs.HeaderRows.Texts.{equal_or}
 use Rattle.rinex_file.proofs.HeaderRows.Types.{content_first}
 use Rattle.gnss_system.specs.declared.system.System.TheVariants.{Glonass}
-use Rattle.gnss_obs.specs.Channels.{slot_count}
 use Rattle.rinex_file.proofs.HeaderRows.Slots.{no_slots}
 use Rattle.rinex_file.proofs.PlainTexts.{both}
 use Rattle.rinex_file.proofs.HeaderRows.Places.{all_before, either, flipped, is_types, other_before, other_slots, own_before, own_slots, place_at, plain_before, slots_here}
-use Rattle.rinex_file.proofs.Names.{Result, Refusal, TakesHeaderLine, expected_if, drop, all_rows, arith, ◌≡◌, ◌∙◌, sym, ap, refl, subst, ℕ, zero, suc, ◌+◌, ◌<◌, ◌≤◌, Bool, true, false, List, [], ◌∷◌, ◌++◌, length, take, append-nil, not, take_all, ◌≢◌, ◌==◌, ◌&&◌, min, ◌↔◌, nat_lt, nat_tests, System, planned_of, civil_of, Known, IsShown, AreValid, Shown, IsHeadAt, shown_rows, shown_line, lines_before, lines_after, signals_begun, HeaderRow, Types, StrengthUnit, Shift, End, Expected, has_line, row_at, row_count, row_place, most_type_rows, type_rows, known_line, RefusesHeaderLine, NoneGoesOn, SameFrom, AreSized, AreTypesOf, Has, HasRow, counted, fits, types_before, begins_with, IsHeaderLineRead, GoesOn, Takes, flat_map, row_line, header_line, letter, codes, is_less, lit<, ◌*◌, ◌-◌, ap₂, value_of, nil_from_length, Slots, Biases, SlotNumber, slots_of, last_slot, slots_in_line, slot_rows, AreSlotsRead, AreSlotsAt, AreSameSlots, AreSlotsBefore, SlotsFollow, known_slots, not-true, ltb-false, add-one, eq-eqb}
+use Rattle.rinex_file.proofs.Names.{Result, Refusal, TakesHeaderLine, expected_if, drop, all_rows, arith, ◌≡◌, ◌∙◌, sym, ap, refl, subst, ℕ, zero, suc, ◌+◌, ◌<◌, ◌≤◌, Bool, true, false, List, [], ◌∷◌, ◌++◌, length, take, append-nil, not, take_all, ◌≢◌, ◌==◌, ◌&&◌, min, ◌↔◌, nat_lt, nat_tests, System, planned_of, civil_of, Known, IsShown, AreValid, Shown, IsHeadAt, shown_rows, shown_line, lines_before, lines_after, signals_begun, HeaderRow, Types, StrengthUnit, Shift, End, Expected, has_line, row_at, row_count, row_place, type_rows, known_line, RefusesHeaderLine, NoneGoesOn, SameFrom, AreSized, AreTypesOf, Has, HasRow, counted, fits, types_before, begins_with, IsHeaderLineRead, GoesOn, Takes, flat_map, row_line, header_line, letter, codes, is_less, lit<, ◌*◌, value_of, nil_from_length, Slots, Biases, SlotNumber, slots_of, slots_in_line, slot_rows, AreSlotsRead, AreSlotsAt, AreSameSlots, AreSlotsBefore, SlotsFollow, known_slots, not-true, ltb-false, add-one, eq-eqb}
 
 -- ---- the number of a system's signals
 
@@ -19,34 +18,18 @@ moved : (P : ℕ → ℕ → List ℕ → Type 0) {a b c d : ℕ} {xs ys : List 
 moved P {a} {b} {c} {d} {xs} {ys} e f g p = subst (λ n. P n d ys) e (subst (λ n. P a n ys) f (subst (P a c) g p))
 
 slots_moved : {a b p q c d : ℕ} {xs ys : List SlotNumber} → a ≡ b → p ≡ q → c ≡ d → xs ≡ ys → AreSlotsRead a p c xs → AreSlotsRead b q d ys
-slots_moved {a} {b} {p} {q} {c} {d} {xs} {ys} e f g same s = record {
-  none = λ z. sym g ∙ s.none (e ∙ z);
-  unplanned = λ z. sym g ∙ s.unplanned (f ∙ z);
-  size = sym (ap length same) ∙ s.size ∙ ap₂ (λ m n. min (slots_in_line * m) n) e g;
-  room = subst (λ (l : List SlotNumber). d + last_slot 0 l ≤ length l + slot_count) same (subst (λ n. n + last_slot 0 xs ≤ length xs + slot_count) g s.room);
-}
+slots_moved e f g same s = grind arith
 
 is_none : (n : ℕ) → nat_lt 0 n ≡ false → n ≡ 0
 is_none n e = grind (arith, e, nat_tests)
 
 -- a line of slots is expected only if signals of GLONASS are planned
 none_expected : (row : ℕ) (k : Known) (line : List ℕ) → known_line k line (Slots row) ≡ true → counted k Glonass ≡ 0 → (counted k Glonass ≡ 0 → k.slots ≡ 0) → ⊥
-none_expected zero k line has none unplanned = let some = is_less 0 (counted k Glonass) has in omega (arith, some, none)
-none_expected (suc row) k line has none unplanned = let some = is_less (suc row) (slot_rows k.slots) has in let z = unplanned none in omega (arith, some, z)
+none_expected row k line has none unplanned = grind (arith, is_less)
 
 -- the slots before an expected line
 pub slots_expected : {n : ℕ} (less : n < row_count) (r : HeaderRow) (k : Known) (line : List ℕ) → row_at n ≡ r → known_line k line r ≡ true → AreSlotsAt k n → AreSlotsBefore k r
-slots_expected less (Slots zero) k line at has s =
-    let own = (own_slots less 0 at).0 in
-    let size = s.size in
-    (lit< tt, omega (arith, size, own), λ l. absurd (omega (arith, l)))
-slots_expected less (Slots (suc row)) k line at has s =
-    let own = own_slots less (suc row) at in
-    let rows = is_less (suc row) (slot_rows k.slots) has in
-    let more : 8 * suc row < k.slots = omega (arith, rows) in
-    let size : length (known_slots k) ≡ min (8 * suc row) k.slots = s.size ∙ ap (λ m. min (slots_in_line * m) k.slots) own.0 in
-    (own.2, omega (arith, size, more), λ l. more)
-slots_expected less r k line at has s = tt
+slots_expected less r k line at has s = grind (arith, own_slots, lit<, is_less)
 
 -- ---- a row apart from types
 
@@ -95,9 +78,7 @@ module _ {n : ℕ} {r : HeaderRow} {line : List ℕ} {old new : Known} (less : n
 
 -- after the types, the number of a system's signals is known
 planned_known : (n : ℕ) → row_place StrengthUnit < n → (s : System) (k : Known) (h : Shown) → Has k n h → nat_lt 0 (length (planned_of s h.plan)) ≡ nat_lt 0 (counted k s)
-planned_known n far s k h has = ap (nat_lt 0) (sym ((has.types s).number (some_rows (all_before s n far)))) where
-  some_rows : {m : ℕ} → m ≡ most_type_rows → 0 < m
-  some_rows e = omega (arith, e)
+planned_known n far s k h has = grind (arith, all_before)
 
 far_slots : (n row : ℕ) → n ≡ row_place (Slots row) → row_place StrengthUnit < n
 far_slots n row e = omega (arith, e)
@@ -205,29 +186,17 @@ take_whole row all few = let more = begun_more row in take_all (signals_begun ro
 
 -- so do all signals of a system whose line of types isn't there
 few_begun : (row count : ℕ) → (row ≡ 0 → count ≡ 0) → (0 < row → nat_lt row (type_rows count) ≡ false) → count ≤ signals_begun row
-few_begun zero count none lacks = let e = none refl in omega (arith, e)
-few_begun (suc row) count none lacks = all_begun (suc row) count (lacks (omega arith))
+few_begun row count none lacks = grind (arith, all_begun)
 
 -- the types that are known before a row of types without a line, and after it
 skip_types : (row count : ℕ) (signals all : List ℕ) → (row ≡ 0 → count ≡ 0) → nat_lt row (type_rows (length all)) ≡ false → AreTypesOf row count signals all → AreTypesOf (suc row) count signals all
-skip_types row count signals all none lacks are =
-    let few = all_begun row (length all) lacks in
-    record { number = λ some. number row few none are.number; begun = are.begun ∙ take_whole row all few } where
-      number : (row : ℕ) → length all ≤ signals_begun row → (row ≡ 0 → count ≡ 0) → (0 < row → count ≡ length all) → count ≡ length all
-      number zero few none same = let e = none refl in omega (arith, e, few)
-      number (suc row) few none same = same (omega arith)
+skip_types row count signals all none lacks are = grind (arith, all_begun, take_whole)
 
 unskip_types : (s : System) (row count : ℕ) (signals all : List ℕ) → AreSized s row count signals → (0 < row → nat_lt row (type_rows count) ≡ false) → AreTypesOf (suc row) count signals all → AreTypesOf row count signals all
-unskip_types s row count signals all sized lacks are =
-    let same = are.number (omega arith) in
-    let few = few_begun row count sized.none lacks in
-    record { number = λ some. same; begun = are.begun ∙ sym (take_whole row all (omega (arith, few, same))) }
+unskip_types s row count signals all sized lacks are = grind (arith, few_begun, take_whole)
 
 skip_sized : (s : System) (row count : ℕ) (signals : List ℕ) → AreSized s row count signals → (0 < row → nat_lt row (type_rows count) ≡ false) → AreSized s (suc row) count signals
-skip_sized s row count signals sized lacks =
-    let few = few_begun row count sized.none lacks in
-    let more = begun_more row in
-    record { few = sized.few; none = λ e. absurd (omega (arith, e)); size = sized.size ∙ omega (arith, few, more) }
+skip_sized s row count signals sized lacks = grind (arith, few_begun, begun_more)
 
 not_last : (n : ℕ) (k : Known) (line : List ℕ) → n < row_count → known_line k line (row_at n) ≡ false → suc n < row_count
 not_last n k line less lacks = grind (arith, less_or)
@@ -236,13 +205,11 @@ module _ (k : Known) (line : List ℕ) {n : ℕ} (less : n < row_count) (lacks :
     (sized : (s : System) → AreSized s (types_before s n) (counted k s) (planned_of s k.shown.plan)) (slots : AreSlotsAt k n) where
   -- a line of types that isn't the first is known to be there or not
   known_rows : (s : System) (row : ℕ) → row_at n ≡ Types s row → 0 < row → nat_lt row (type_rows (counted k s)) ≡ false
-  known_rows s zero at some = absurd (omega (arith, some))
-  known_rows s (suc row) at some = sym (ap (known_line k line) at) ∙ lacks
+  known_rows s row at some = grind arith
 
   -- no slots are left for a line of slots that isn't there
   none_left : (row : ℕ) → row_at n ≡ Slots row → k.slots ≤ slots_in_line * row
-  none_left zero at = let e = slots.unplanned (is_none (counted k Glonass) (sym (ap (known_line k line) at) ∙ lacks)) in omega (arith, e)
-  none_left (suc row) at = let rows = ltb-false (suc row) (slot_rows k.slots) (sym (ap (known_line k line) at) ∙ lacks) in omega (arith, rows)
+  none_left row at = grind (arith, is_none, ltb-false)
 
   few_read : length (known_slots k) ≤ k.slots
   few_read = let size = slots.size in omega (arith, size)
@@ -265,25 +232,10 @@ module _ (k : Known) (line : List ℕ) {n : ℕ} (less : n < row_count) (lacks :
       record { number = s.number; begun = ap (take (8 * suc (suc row))) same }
 
   nothing_known : (r : HeaderRow) → row_at n ≡ r → (h : Shown) → IsShown h → Has k n h → HasRow k h r
-  nothing_known (Types s row) at h is has = tt
-  nothing_known (Shift s) at h is has = tt
-  nothing_known (Slots row) at h is has = slots_same row at h is has
-  nothing_known Biases at h is has = tt
-  nothing_known r at h is has = let e = sym (ap (known_line k line) at) ∙ lacks in cc
+  nothing_known r at h is has = grind (arith, slots_same)
 
   slots_skipped : (r : HeaderRow) → row_at n ≡ r → AreSlotsAt k (suc n)
-  slots_skipped (Slots row) at =
-      let own = own_slots less row at in
-      let next = own.1 in
-      let left = none_left row at in
-      let size : length (known_slots k) ≡ min (8 * row) k.slots = slots.size ∙ ap (λ m. min (slots_in_line * m) k.slots) own.0 in
-      record {
-        none = λ e. absurd (omega (arith, next, e));
-        unplanned = slots.unplanned;
-        size = (let e : length (known_slots k) ≡ min (8 * suc row) k.slots = omega (arith, size, left) in e) ∙ ap (λ m. min (slots_in_line * m) k.slots) (sym next);
-        room = slots.room;
-      }
-  slots_skipped r at = slots_moved (other_slots less r at refl) refl refl refl slots
+  slots_skipped r at = grind (arith, own_slots, none_left, slots_moved, other_slots)
 
   -- what holds of equal numbers of rows of types, and of those before and after a row, holds of those before this row and the next
   beside : (R : ℕ → ℕ → Type 0) (s : System) → ((m : ℕ) → R m m) → ((row : ℕ) → row_at n ≡ Types s row → types_before s n ≡ row → R row (suc row)) → R (types_before s n) (types_before s (suc n))

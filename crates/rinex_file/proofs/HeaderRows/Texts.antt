@@ -23,9 +23,7 @@ abbrev pub field_at : ℕ → HeaderField
 field_at i = get_or fields i AntType
 
 field_back : (f g : HeaderField) → place_of f ≡ place_of g → f ≡ g
-field_back f g e = back f ∙ ap field_at e ∙ sym (back g) where
-  back : (f : HeaderField) → f ≡ field_at (place_of f)
-  back f = grind arith
+field_back f g e = grind arith
 
 field_less : (field : HeaderField) → place_of field < text_count
 field_less field = grind arith
@@ -45,9 +43,7 @@ module _ (x : HeaderLists) (f : HeaderField) (text : List ℕ) (size : length x 
 
   -- what holds of the text that is set and of the others holds of each
   set_each : (P : HeaderField → List ℕ → Type 0) → P f text → (g : HeaderField) → P g (text_of x g) → P g (text_of (set x (place_of f) text) g)
-  set_each P own g other = equal_or (P g (text_of (set x (place_of f) text) g)) (place_of g) (place_of f)
-      (λ e. subst (λ h. P h (text_of (set x (place_of f) text) h)) (sym (field_back g f e)) (subst (P f) (sym set_here) own))
-      (λ e. subst (P g) (sym (get_or-set_other x (place_of f) (place_of g) text [] e)) other)
+  set_each P own g other = grind (arith, equal_or, field_back, set_here, get_or-set_other)
 
 pub set_text : (x : HeaderLists) (f : HeaderField) (text : List ℕ) → AreTexts x → IsText (width_of f) text → AreTexts (set x (place_of f) text)
 set_text x f text are is =
@@ -141,8 +137,7 @@ not_same r line old new size read other x are e =
     other (sym e ∙ sym (same_line back.new x r back.same) ∙ ap (λ y. texts_line y r) (same_Some back.new new (sym back.read ∙ read)))
 
 not_fine : (fault : Option HeadFault) (r : Option HeaderLists) → (fault ≡ None → ⊥) → if_fine fault r ≡ None
-not_fine None r some = absurd (some refl)
-not_fine (Some fault) r some = refl
+not_fine fault r some = grind arith
 
 -- the field at an index and those after it
 pub fields_from : {items fs : List HeaderField} (i : ℕ) (d : HeaderField) → items ≡ fs → i < length items → drop i fs ≡ get_or items i d ∷ drop (i + 1) fs
@@ -151,26 +146,19 @@ fields_from {items} i d same less = subst (λ l. drop i l ≡ get_or items i d �
 -- a text that is left has a fault
 pub refused_text : {fs rest : List HeaderField} {f : HeaderField} {width : ℕ} {columns : List ℕ} (column : ℕ) (line : List ℕ) (x : HeaderLists) → fs ≡ f ∷ rest
     → width ≡ width_of f → columns ≡ take width (drop column line) → (fault_of f columns ≡ None → ⊥) → texts_in fs column line x ≡ None
-refused_text {f = f} column line x next w at some =
-    ap (λ l. texts_in l column line x) next ∙ not_fine _ _ (λ e. some (ap (fault_of f) (at ∙ ap (λ n. take n (drop column line)) w) ∙ e))
+refused_text column line x next w at some = grind (arith, not_fine)
 
 fine : (fault : Option HeadFault) (r : Option HeaderLists) → fault ≡ None → if_fine fault r ≡ r
-fine None r none = refl
-fine (Some fault) r none = cc
+fine fault r none = grind arith
 
 -- the texts from one without a fault on are it and those after it
 pub added_text : {fs rest : List HeaderField} {f : HeaderField} {width : ℕ} {columns : List ℕ} {new : HeaderLists} (column : ℕ) (line : List ℕ) (x : HeaderLists) → fs ≡ f ∷ rest
     → width ≡ width_of f → columns ≡ take width (drop column line) → None ≡ fault_of f columns → new ≡ set x (place_of f) (trimmed columns)
     → texts_in rest (column + width) line new ≡ texts_in fs column line x
-added_text {fs} {rest} {f} {width} {columns} column line x next w at is set_is =
-    let text : columns ≡ take (width_of f) (drop column line) = at ∙ ap (λ n. take n (drop column line)) w in
-    let all : texts_in fs column line x ≡ texts_in rest (column + width_of f) line (set x (place_of f) (trimmed (take (width_of f) (drop column line)))) =
-    ap (λ l. texts_in l column line x) next ∙ fine _ _ (ap (fault_of f) (sym text) ∙ sym is) in
-    cc
+added_text column line x next w at is set_is = grind (arith, fine)
 
 fine_read : (fault : Option HeadFault) (r : Option HeaderLists) (new : HeaderLists) → if_fine fault r ≡ Some new → r ≡ Some new
-fine_read None r new e = e
-fine_read (Some fault) r new e = cc
+fine_read fault r new e = grind arith
 
 far_place : (i n place : ℕ) → i < n → nat_le n place ≡ true → i ≢ place
 far_place i n place less far = grind (arith, far)
@@ -228,16 +216,11 @@ abbrev pub AreCut : ℕ → HeaderLists → HeaderLists → Type 0
 AreCut i t x = (j : ℕ) → j < i → get_or x j [] ≡ trimmed (get_or t j [])
 
 pub one_cut : (i : ℕ) (t x : HeaderLists) → length x ≡ text_count → i < text_count → AreCut i t x → AreCut (i + 1) t (set x i (trimmed (get_or t i [])))
-one_cut i t x size few cut j less = equal_or _ j i
-    (λ e. subst (λ k. get_or (set x i (trimmed (get_or t i []))) k [] ≡ trimmed (get_or t k [])) (sym e) (get_or-set_same x i (trimmed (get_or t i [])) [] (subst (λ n. i < n) (sym size) few)))
-    (λ other. get_or-set_other x i j (trimmed (get_or t i [])) [] other ∙ cut j (omega (arith, less, other)))
+one_cut i t x size few cut = grind (arith, equal_or, get_or-set_same, get_or-set_other)
 
 pub one_stored : (t x : HeaderLists) {new : HeaderLists} {i : ℕ} (d : HeaderField) {text : List ℕ} → i < text_count → length x ≡ text_count → AreCut i t x
     → text ≡ text_of t (get_or fields i d) → new ≡ set x (place_of (get_or fields i d)) (trimmed text) → AreCut (i + 1) t new × (length new ≡ text_count)
-one_stored t x {new} {i} d less size cut is value =
-    let place : place_of (get_or fields i d) ≡ i = ap place_of (get_or_default fields i d AntType less) ∙ place_back i less in
-    let stored : new ≡ set x i (trimmed (get_or t i [])) = value ∙ ap₂ (λ n b. set x n (trimmed b)) place (is ∙ ap (λ n. get_or t n []) place) in
-    (subst (AreCut (i + 1) t) (sym stored) (one_cut i t x size less cut), ap length stored ∙ length-set x i (trimmed (get_or t i [])) ∙ size)
+one_stored t x d less size cut is value = grind (arith, get_or_default, place_back, one_cut, length-set)
 
 pub all_cut : (t x : HeaderLists) → length t ≡ text_count → length x ≡ text_count → AreCut text_count t x → x ≡ trimmed_texts t
 unfolding trimmed

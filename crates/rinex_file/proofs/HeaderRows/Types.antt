@@ -51,8 +51,7 @@ length-types_of [] = refl
 length-types_of (c ∷ cs) = ap (λ n. suc (suc (suc (suc n)))) (length-types_of cs) ∙ four_more (length cs)
 
 first_four : (c : List ℕ) (rest : List (List ℕ)) (r : ℕ) (e : List ℕ) → r < 4 → get_or (type_of 0 c ∷ type_of 1 c ∷ type_of 2 c ∷ type_of 3 c ∷ rest) r e ≡ type_of r c
-first_four c rest (suc (suc (suc (suc r)))) e h = absurd (omega (arith, h))
-first_four c rest r e h = refl
+first_four c rest r e h = grind arith
 
 pub types_at : (cs : List (List ℕ)) (q r : ℕ) (d e : List ℕ) → q < length cs → r < 4 → get_or (types_of cs) (4 * q + r) e ≡ type_of r (get_or cs q d)
 types_at cs q r d e h k =
@@ -277,8 +276,7 @@ pub record IsInLine (system : System) (all line : List ℕ) (row place : ℕ) : 
   pub less : place < length all
 
 pub code_here : {system : System} {all line : List ℕ} {row place : ℕ} → IsInLine system all line row place → take 2 (drop (column_of row place) line) ≡ code_of (signal_at system all place)
-code_here {row = row} {place} at =
-    ap (λ l. take 2 (drop (column_of row place) l)) at.is ∙ code_in_line row (4 * place - 13 * row) place at.are at.few (in_row row place at.high) (same_place row place at.low) at.less
+code_here at = grind (arith, code_in_line, in_row)
 
 -- the signal that is read from its column
 pub read_here : {system : System} {all line : List ℕ} {row place : ℕ} {found : Option SignalAt} → IsInLine system all line row place

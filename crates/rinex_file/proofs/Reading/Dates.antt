@@ -104,15 +104,7 @@ epoch_parts t n =
 
 epoch_are : (t : Civil) (n : ℕ) → HasColumns t → n < 1000 → AreFields digits_in (epoch_parts t n) (date_fields t 3 11 ((3, 0) ∷ (3, n) ∷ []))
 unfolding epoch_parts
-epoch_are t n is few =
-    let year = is_whole 4 t.year (omega arith) (omega (arith, is.year)) (omega (arith, is.year)) in
-    let month = is_two t.month (omega (arith, is.month)) in
-    let day = is_two t.day (omega (arith, is.day)) in
-    let hour = is_two t.hour (omega (arith, is.hour)) in
-    let minute = is_two t.minute (omega (arith, is.minute)) in
-    let second = is_second 11 t.millisecond (omega arith) is.millisecond in
-    let count = is_whole 3 n (omega arith) (omega (arith, few)) (omega (arith, few)) in
-    ((ap (λ (m : ℕ). suc (suc m)) year.0, year.1), (month, (day, (hour, (minute, (second, ((refl, refl), (count, tt))))))))
+epoch_are t n is few = grind (arith, is_whole, is_two, is_second)
 
 in_parts : (t : Civil) (n : ℕ) → epoch_line t n ≡ joined (epoch_parts t n) ++ (10 ∷ [])
 unfolding epoch_line epoch_parts
@@ -149,9 +141,7 @@ by_parts : (t u : ℕ) → t / day_length ≡ u / day_length → t % day_length 
 by_parts t u d c = sym (div-add-mod' t day_length) ∙ ap (λ q. q * day_length + t % day_length) d ∙ ap (λ r. u / day_length * day_length + r) c ∙ div-add-mod' u day_length
 
 pub one_time : (t u : ℕ) (c : Civil) → IsCivilOf t c → IsCivilOf u c → t ≡ u
-one_time t u c is also =
-    let days : pos (t / day_length) ≡ pos (u / day_length) = sym is.days ∙ also.days in
-    by_parts t u (cc) (sym is.clock ∙ also.clock)
+one_time t u c is also = grind (arith, by_parts)
 
 -- ---- the date and time of day of the numbers that were read
 

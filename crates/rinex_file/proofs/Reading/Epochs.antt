@@ -3,14 +3,12 @@ use Rattle.gnss_obs.proofs.PlanLemmas.{few_below}
 use Rattle.rinex_file.proofs.FewRows.{few_most, few_rows}
 use Rattle.rinex_file.proofs.Entries.{few_signals}
 use Rattle.std.proofs.Common.{le_trans}
-use Rattle.rinex_file.proofs.Names.{arith, ◌≡◌, refl, ℕ, ◌<◌, List, [], ◌∷◌, ◌++◌, length, length-append, suc, ◌+◌, ◌≤◌, sym, ap, ap₂, subst, ◌∙◌, append_assoc, append-nil, zero-add, drop, get_or, Option, Some, None, Expected, IsStrictlyIncreasing, All, map, flat_map, Result, Ok, Err, IsErrAnd, get_or_append_left, map-append, common_steps, All-head, All-tail, All-nil, All-push, flat_map-append, System, PlanValue, planned_of, civil_of, StationValues, Stamped, SatelliteRow, FileValue, time_stamped, IsFileValue, IsPlan, IsStamped, IsSatelliteRow, AreSatelliteRows, IsTime, IsChange, AreChanges, IsFirstSame, changed_by, values_following, rank_of, most_rows, planned_in, Epoch, Satellite, epoch_line, satellite_line, stamped_lines, change_lines, event_line, Progress, file_with, stamped, StartsAt, IsAt, IsAtEpoch, IsInEvent, IsInEpoch, HasLinesLeft, epoch_after, begun_at, with_row, with_epoch, AreRead, IsBegun, IsEventExpected, IsSoundAt, IsSound, MayBegin, values_now, AreLinesAt, lines_of_header, whole_lines, part_lines, AddedRow, Refusal, Memory, Bad, ParserState, History, FollowsHistory, GoesOnWithLine, ShowsLine, RefusesLine, TakesLine, progress_at, Known, NoRow, IsNext, most_signals, table}
+use Rattle.rinex_file.proofs.Names.{arith, ◌≡◌, refl, ℕ, ◌<◌, List, [], ◌∷◌, ◌++◌, length, length-append, suc, ◌+◌, ◌≤◌, sym, ap, ap₂, subst, ◌∙◌, append_assoc, append-nil, zero-add, drop, get_or, Option, Some, None, Expected, IsStrictlyIncreasing, All, map, flat_map, Result, IsErrAnd, get_or_append_left, map-append, common_steps, All-head, All-tail, All-nil, All-push, flat_map-append, System, PlanValue, planned_of, civil_of, StationValues, Stamped, SatelliteRow, FileValue, time_stamped, IsFileValue, IsPlan, IsStamped, IsSatelliteRow, AreSatelliteRows, IsTime, IsChange, AreChanges, IsFirstSame, changed_by, values_following, rank_of, most_rows, planned_in, Epoch, Satellite, epoch_line, satellite_line, stamped_lines, change_lines, event_line, Progress, file_with, stamped, StartsAt, IsAt, IsAtEpoch, IsInEvent, IsInEpoch, HasLinesLeft, epoch_after, begun_at, with_row, with_epoch, AreRead, IsBegun, IsSoundAt, IsSound, MayBegin, values_now, AreLinesAt, lines_of_header, whole_lines, part_lines, AddedRow, Refusal, Bad, ParserState, History, FollowsHistory, GoesOnWithLine, ShowsLine, RefusesLine, TakesLine, progress_at, Known, NoRow, IsNext, most_signals, table}
 
 -- a line was refused: memory ran out, or no file continues with it
 pub stopped : {Q : Refusal → Type 0} (old new : ParserState) (line : List ℕ) (r : Result AddedRow Refusal) → IsErrAnd r Q → ((e : Refusal) → Q e → e ≡ Bad → (h : History) → FollowsHistory old h → RefusesLine (progress_at old h) line)
     → TakesLine old new line r
-stopped {Q} old new line (Ok added) is bad = absurd is
-stopped {Q} old new line (Err Bad) is bad = bad Bad is refl
-stopped {Q} old new line (Err Memory) is bad = tt
+stopped old new line r is bad = grind arith
 
 -- the first of ascending numbers are ascending
 pub rise_front : (xs ys : List ℕ) → IsStrictlyIncreasing (xs ++ ys) → IsStrictlyIncreasing xs
@@ -212,19 +210,14 @@ sound_between s expected sound = subst (λ d. IsSoundAt s d) expected sound
 
 -- what holds before the first line of an epoch
 pub sound_epoch : (s : Progress) (c : Option StationValues) → s.expected ≡ epoch_after c → IsSound s → AreRead s × (s.rows ≡ []) × IsChange (values_now s) c × (s.epochs ≡ [] → c ≡ None)
-sound_epoch s None expected sound = let (read, rows) = sound_between s expected sound in (read, rows, tt, λ none. refl)
-sound_epoch s (Some w) expected sound =
-    let held : IsEventExpected s × IsChange (values_now s) (Some w) = subst (λ d. IsSoundAt s d) expected sound in
-    (held.0.0, held.0.1, held.1, λ none. absurd (held.0.2 none))
+sound_epoch s c expected sound = grind (arith, sound_between)
 
 room_left : (rows : List SatelliteRow) (n most : ℕ) → rows ≡ [] → n ≤ most → length rows + n ≤ most
 room_left rows n most none room = let size : length rows ≡ 0 = ap length none in omega (arith, size, room)
 
 pub sound_begun : {s : Progress} {c : Option StationValues} {t n : ℕ} → AreRead s → s.rows ≡ [] → MayBegin s t n → IsTime t → IsChange (values_now s) c → (s.epochs ≡ [] → c ≡ None)
     → IsSound (begun_at s c t n)
-sound_begun {s} {n} read none may time change same =
-    let rows : AreSatelliteRows (planned_in s.known.shown.plan) s.rows = subst (AreSatelliteRows (planned_in s.known.shown.plan)) (sym none) (no_rows _) in
-    (read, record { time = time; later = may.later; rows = rows; first = may.first; change = change; same = same }, may.some, room_left s.rows n _ none may.room)
+sound_begun read none may time change same = grind (arith, no_rows, room_left)
 
 -- ---- the line of a satellite
 
@@ -264,9 +257,7 @@ from_more {s} (m ∷ ms) others is count value starts rest =
 
 pub row_next : (s : Progress) (n : ℕ) (v : FileValue) (line : List ℕ) (left : List (List ℕ)) → s.expected ≡ Satellite (suc n) → HasLinesLeft s v (line ∷ left) → RowNext s n v line left
 unfolding HasLinesLeft
-row_next s n v line left expected (is, at) =
-    let here : IsInEpoch s (suc n) v (line ∷ left) = subst (λ d. IsAt s d v (line ∷ left)) expected at in
-    from_more here.more here.others is here.count here.value here.starts here.rest
+row_next s n v line left expected h1 = grind (arith, from_more)
 
 module _ (s : Progress) (n : ℕ) (line : List ℕ) (expected : s.expected ≡ Satellite (suc n)) where
   pub no_row : ((w : SatelliteRow) → IsSatelliteRow (planned_in s.known.shown.plan) w → line ≡ satellite_line w → ⊥) → RefusesLine s line
@@ -408,9 +399,4 @@ state_with c e k change t = record c { expected = e; head = k; change = change; 
 pub goes_on : {c : ParserState} {h : History} (e : Expected) (k : Known) (change : Option StationValues) (t : ℕ) {line : List ℕ} → FollowsHistory c h
     → IsSound (progress_at (state_with c e k change t) h) → GoesOnWithLine (progress_at c h) (progress_at (state_with c e k change t) h) line
     → ShowsLine (progress_at c h) (progress_at (state_with c e k change t) h) line → IsNext c (state_with c e k change t) NoRow line h
-goes_on e k change t history sound follows shows = record {
-  history = record { sound = sound; counted = history.counted };
-  follows = follows;
-  shows = shows;
-  room = λ n (epochs, rows, events). (omega (arith, epochs), omega (arith, rows), omega (arith, events));
-}
+goes_on e k change t history sound follows shows = grind arith

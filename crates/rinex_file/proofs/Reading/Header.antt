@@ -4,7 +4,7 @@ use Rattle.rinex_file.proofs.HeaderRows.Some.{none_before, some_shown}
 use Rattle.rinex_file.proofs.HeaderRows.End.{zero_values}
 use Rattle.rinex_file.proofs.Reading.Lines.{consumed}
 use Rattle.rinex_file.proofs.Reading.Epochs.{lines_with, lines_are, sound_open, sound_between, at_expected, file_value}
-use Rattle.rinex_file.proofs.Names.{Has, GoesOn, AreSized, AreTypesOf, types_before, counted, planned_of, System, shown_of, arith, ◌≡◌, ◌∙◌, sym, ap, refl, ℕ, zero, suc, ◌+◌, ◌<◌, pos, List, [], ◌∷◌, ◌++◌, length, Option, IfSome, lit<, subst, take, drop, append-nil, inl, inr, AreBegunWith, None, Some, ⊤, map, flat_map, All-head, All-nil, length-map, nil_from_length, StationValues, civil_of, ParserState, Expected, Header, Epoch, EventPosition, EventHeight, EventEpoch, Satellite, IsChange, IsFileValue, AreBegun, IsEventBegun, lines_of_header, whole_lines, AreBefore, IsExpectedAt, Progress, IsPosition, shown_with, lines_after, stamped, Known, Shown, IsShown, IsHeadAt, file_with, StartsAt, IsInHeader, IsAt, IsAtEpoch, IsInEvent, position_of, IsInEpoch, HasLinesLeft, RefusesLine, IsSound, IsSoundAt, IsEventExpected, AreLinesAt, values_now, AreRead, AreLinesOf, History, FollowsHistory, progress_at, GoesOnWithLine, ShowsLine, IsTaken, SatelliteRow, Stamped, FileValue, header_lines, satellite_line, event_lines, stamped_lines, file_lines, lines_of_parts, GoesTo, EndsHeader, NoneGoesOn}
+use Rattle.rinex_file.proofs.Names.{Has, GoesOn, shown_of, arith, ◌≡◌, ◌∙◌, sym, ap, refl, ℕ, zero, suc, ◌+◌, ◌<◌, pos, List, [], ◌∷◌, ◌++◌, length, Option, IfSome, lit<, subst, take, drop, append-nil, inl, inr, AreBegunWith, None, Some, ⊤, map, flat_map, All-head, All-nil, length-map, nil_from_length, StationValues, civil_of, ParserState, Expected, Header, Epoch, EventPosition, EventHeight, EventEpoch, Satellite, IsChange, IsFileValue, AreBegun, IsEventBegun, lines_of_header, whole_lines, AreBefore, IsExpectedAt, Progress, IsPosition, shown_with, lines_after, stamped, Known, Shown, IsShown, IsHeadAt, file_with, StartsAt, IsInHeader, IsAt, IsAtEpoch, IsInEvent, position_of, HasLinesLeft, RefusesLine, IsSound, IsSoundAt, IsEventExpected, AreLinesAt, values_now, AreRead, AreLinesOf, History, FollowsHistory, progress_at, GoesOnWithLine, ShowsLine, IsTaken, SatelliteRow, Stamped, FileValue, header_lines, satellite_line, event_lines, stamped_lines, file_lines, lines_of_parts, GoesTo, EndsHeader, NoneGoesOn}
 
 some_lines : (xs : List (List ℕ)) → (xs ≡ [] → ⊥) → 0 < length xs
 some_lines [] some = absurd (some refl)
@@ -164,10 +164,7 @@ sound_header s place expected sound = subst (λ d. IsSoundAt s d) expected sound
 
 -- every header has what is known before the first line
 has_nothing : (k : Known) (h : Shown) → IsHeadAt k 0 → Has k 0 h
-has_nothing k h at = record { rows = λ i l. absurd (omega (arith, l)); types = λ s. unread s (types_before s 0) (counted k s) (planned_of s k.shown.plan) (planned_of s h.plan) (none_before s) (at.sized s) } where
-  unread : (s : System) (rows count : ℕ) (signals all : List ℕ) → rows ≡ 0 → AreSized s rows count signals → AreTypesOf rows count signals all
-  unread s zero count signals all e sized = let size = sized.size in record { number = λ l. absurd (omega (arith, l)); begun = nil_from_length signals (omega (arith, size)) }
-  unread s (suc rows) count signals all e sized = absurd (omega (arith, e))
+has_nothing k h at = grind (arith, none_before, begun, nil_from_length)
 
 pub header_starts : (s : Progress) → s.expected ≡ Header 0 → IsHeadAt s.known 0 → (v : FileValue) → IsFileValue v → HasLinesLeft s v (file_lines v)
 unfolding HasLinesLeft header_lines
@@ -193,10 +190,7 @@ no_rows_left n (m ∷ ms) others some count rest = cc
 
 pub epoch_unfinished : (s : Progress) (n : ℕ) → s.expected ≡ Satellite n → IsSound s → (v : FileValue) → HasLinesLeft s v [] → ⊥
 unfolding HasLinesLeft
-epoch_unfinished s n expected sound v (is, at) =
-    let here : IsInEpoch s n v [] = subst (λ d. IsAt s d v []) expected at in
-    let all : 0 < n = (sound_open s n expected sound).2 in
-    no_rows_left n here.more here.others all here.count here.rest
+epoch_unfinished s n expected sound v h2 = grind (arith, sound_open, no_rows_left)
 
 -- a line of an event or of its epoch is missing
 pub event_unfinished : (s : Progress) (k : ℕ) (Show : StationValues → Type 0) → k < 4 → (v : FileValue) → IsInEvent s k Show v [] → ⊥

@@ -2,7 +2,7 @@
 use Rattle.rinex_file.specs.declared.read.fault.ReadFault.TheVariants.{Memory}
 use Rattle.rinex_file.proofs.Digits.Numbers.{has-append, lacks-append}
 use Rattle.rinex_file.proofs.Writing.Sent.{joined-append}
-use Rattle.rinex_file.proofs.Names.{arith, ◌≡◌, ◌∙◌, sym, ap, subst, refl, ℕ, zero, suc, ◌+◌, ◌-◌, ◌<◌, ◌≤◌, true, false, List, [], ◌∷◌, ◌++◌, length, take, drop, get_or, length-append, take-add, append_assoc, append-nil, Option, Some, None, IfSome, inl, inr, is_some, ◌||◌, ◌==◌, nat_eq, nat_lt, min, All, ⊤, Bool, Ok, Consumes, IsAtEnd, prepend_known, min-eq_left, min-eq_right, min-le_left, min-le_right, le-min, false_from_ne_true, or_parts, or_right, append_cancel_left, length-take-le, take-append-drop, length_push, drop-take, drop-drop, take-take, Consumes-nil, Consumes-trans, All-head, All-tail, All-push, has, LeavesRest, AreMoved, MovesBytes, IsLine, IsTextOf, NoFileBegins, IsCutShort, IsTooLong, IsFaulty, ExplainsFault, IsNoFault, most_lines, ParserState, AddedRow, Reading, FileValue, IsFileValue, file_text, file_lines, History, with_line, GoesOnWithLine, ShowsLine, RefusesLine, ReadsNextLine, HasRead, IsWhole, IsTextOfOnly, file_at, IsTaken, FileBuilder, history_of, HasReadWhole, joined, ReadFault, Read, CutShort, TooLong, AreBegun, Progress, HasLinesLeft, AreLinesOf, HasReadLines, most_line}
+use Rattle.rinex_file.proofs.Names.{arith, ◌≡◌, ◌∙◌, sym, ap, subst, refl, ℕ, zero, suc, ◌+◌, ◌-◌, ◌<◌, ◌≤◌, true, false, List, [], ◌∷◌, ◌++◌, length, take, drop, get_or, length-append, take-add, append_assoc, append-nil, Option, Some, IfSome, inl, is_some, ◌||◌, ◌==◌, nat_eq, nat_lt, min, All, ⊤, Bool, Ok, Consumes, IsAtEnd, prepend_known, min-eq_left, min-eq_right, min-le_left, min-le_right, le-min, false_from_ne_true, or_parts, or_right, append_cancel_left, length-take-le, take-append-drop, length_push, drop-take, drop-drop, take-take, Consumes-nil, Consumes-trans, All-head, All-tail, All-push, has, LeavesRest, AreMoved, MovesBytes, IsLine, IsTextOf, NoFileBegins, IsCutShort, IsTooLong, IsFaulty, ExplainsFault, IsNoFault, most_lines, ParserState, AddedRow, Reading, FileValue, IsFileValue, file_text, file_lines, History, with_line, GoesOnWithLine, ShowsLine, RefusesLine, ReadsNextLine, HasRead, IsWhole, IsTextOfOnly, file_at, IsTaken, FileBuilder, history_of, HasReadWhole, joined, ReadFault, Read, CutShort, TooLong, AreBegun, Progress, HasLinesLeft, AreLinesOf, HasReadLines, most_line}
 
 -- ---- bytes that are moved to a line
 
@@ -13,8 +13,7 @@ pub record IsFeed (near : List ℕ) (feed : ℕ) : Type 0 where
   pub found : feed < length near → take 1 (drop feed near) ≡ 10 ∷ []
 
 moved_are : {near : List ℕ} {feed count room : ℕ} (b : Bool) → IsFeed near feed → nat_lt feed room ≡ b → length near ≡ room → count ≡ min (feed + 1) room → AreMoved b (take count near)
-moved_are true at is size e = grind (arith, min-eq_left, take-add)
-moved_are false at is size e = grind (arith, min-eq_right)
+moved_are b at is size e = grind (arith, min-eq_left, take-add, min-eq_right)
 
 pub moved : {held near new line line' : List ℕ} {room feed count : ℕ} → IsFeed near feed → near ≡ take room held → room ≡ min (length held) (most_line - length line)
     → count ≡ min (feed + 1) room → new ≡ drop count held → line' ≡ line ++ take count near → length line ≤ most_line → MovesBytes (nat_lt feed room) held new line line'
@@ -61,8 +60,7 @@ leaves_all a = ([], Consumes-nil a)
 
 -- nothing was read ahead
 pub none_ahead : (r : Option (List ℕ)) (block : List ℕ) → block ≡ [] → prepend_known block r ≡ r
-none_ahead None block e = refl
-none_ahead (Some x) block e = ap (λ b. Some (b ++ x)) e
+none_ahead r block e = grind arith
 
 -- no byte is left ahead, nor of the reader
 pub at_end : (ahead : List ℕ) (r : Option (List ℕ)) → ahead ≡ [] → IsAtEnd r → IsAtEnd (prepend_known ahead r)
@@ -275,8 +273,7 @@ module _ (are_lines : (v : FileValue) → IsFileValue v → All IsLine (file_lin
     not_many {v} lines rest is are many some few e = grind (arith, splits, no_more, (splits (file_lines v) lines rest (are_lines v is) are e))
 
     faulty_not : (v : FileValue) (input : List ℕ) (k : ℕ) → IsFileValue v → IsFaulty input k → input ≡ file_text v → ⊥
-    faulty_not v input k is (inl r) e = r.none v r.rest is (sym e ∙ r.first.first)
-    faulty_not v input k is (inr l) e = not_long l.lines l.long l.rest is l.first.are l.size l.endless (sym e ∙ l.first.first)
+    faulty_not v input k is h1 e = grind (arith, not_long)
 
     -- a fault that is explained isn't that of a file's text
     not_explained : (v : FileValue) (input : List ℕ) (fault : ReadFault) → IsFileValue v → length (file_lines v) ≤ most_lines → ExplainsFault input fault → input ≡ file_text v → IsNoFault fault
@@ -292,22 +289,18 @@ module _ (are_lines : (v : FileValue) → IsFileValue v → All IsLine (file_lin
 
 -- a property of the input that follows from two others
 pub both_said : (a : Option (List ℕ)) (P Q R : List ℕ → Type 0) → ((input : List ℕ) → P input → Q input → R input) → IfSome a P → IfSome a Q → IfSome a R
-both_said None P Q R h p q = tt
-both_said (Some input) P Q R h p q = h input p q
+both_said a P Q R h p q = grind arith
 
 -- a property of the input that follows from another
 pub said_of : (a : Option (List ℕ)) (P Q : List ℕ → Type 0) → ((input : List ℕ) → P input → Q input) → IfSome a P → IfSome a Q
-said_of None P Q h p = tt
-said_of (Some input) P Q h p = h input p
+said_of a P Q h p = grind arith
 
 pub explains_memory : (a : Option (List ℕ)) → IfSome a (λ input. ExplainsFault input Memory)
-explains_memory None = tt
-explains_memory (Some input) = tt
+explains_memory a = grind arith
 
 -- a memory fault has nothing to explain
 pub no_reason : (a : Option (List ℕ)) (v : FileValue) → IfSome a (λ input. input ≡ file_text v → ⊤)
-no_reason None v = tt
-no_reason (Some input) v = λ e. tt
+no_reason a v = grind arith
 
 -- a line has its line feed
 pub line_some : (bytes : List ℕ) → IsLine bytes → 0 < length bytes
@@ -320,8 +313,7 @@ pub added_more : (old new : Reading) (h : History) (input left : Option (List �
 added_more old new h input left e goes = subst (λ (x : Option AddedRow). ReadsNextLine old new h input left (Ok x)) e goes
 
 pub the_end : (old new : Reading) (h : History) (input left : Option (List ℕ)) (o : Option AddedRow) → is_some o ≡ false → ReadsNextLine old new h input left (Ok o) → IsWhole new.parser_state h input
-the_end old new h input left None none goes = goes
-the_end old new h input left (Some added) none goes = cc
+the_end old new h input left o none goes = grind arith
 
 pub file_found : (c : ParserState) (h : History) (input : Option (List ℕ)) (f : FileValue) → IsWhole c h input → f ≡ file_at c h → IsTextOf f input
 file_found c h input f whole same = grind (arith, said_of)

@@ -1,18 +1,16 @@
 -- A satellite's cells, each stored at its signal's index in the plan.
 use Rattle.rinex_file.proofs.Rows.Sizes.{if_fits, length-room}
-use Rattle.rinex_file.proofs.Names.{arith, ◌≡◌, ◌∙◌, sym, ap, ap₂, refl, ℕ, zero, suc, ◌+◌, ◌*◌, ◌<◌, ◌≤◌, List, [], ◌∷◌, ◌++◌, map, take, drop, length, replicate, get_or, append_assoc, length-append, false, ◌==◌, Some, None, slice_set, ◌&&◌, ◌≢◌, nat_eq, find, flat_map, position, All, if◌then◌else◌, option_map_or, IsDistinct, position_or_len, take_at, drop_at, length-take-le, replicate-append-replicate, cond_both, and_from, and_right, eq-eqb, ne_eqb, eqb-true, eqb-false, position-Some, All-from_recursion, All-head, All-tail, fails_before_first, System, Cell, IsHeld, SignalValues, signal_values_of, no_signal_values, signal_values_at, is_of_key, HaveRoom, field, signal_text, take-append-add, drop-append-add}
+use Rattle.rinex_file.proofs.Names.{arith, ◌≡◌, ◌∙◌, sym, ap, ap₂, refl, ℕ, zero, suc, ◌+◌, ◌*◌, ◌<◌, ◌≤◌, List, [], ◌∷◌, ◌++◌, map, take, drop, length, replicate, get_or, append_assoc, length-append, false, ◌==◌, Some, None, slice_set, ◌≢◌, nat_eq, find, flat_map, position, All, if◌then◌else◌, option_map_or, IsDistinct, take_at, drop_at, length-take-le, replicate-append-replicate, cond_both, and_from, and_right, eq-eqb, ne_eqb, eqb-true, eqb-false, position-Some, All-from_recursion, All-head, All-tail, fails_before_first, System, Cell, IsHeld, SignalValues, signal_values_of, no_signal_values, signal_values_at, is_of_key, HaveRoom, field, signal_text, take-append-add, drop-append-add}
 
 -- ---- what a cell before others changes
 
 -- a cell changes the values of its own signal alone
 pub others_stay : (c : Cell) (rest : List Cell) (id other : ℕ) → other ≢ c.signal.index → signal_values_at (c ∷ rest) id other ≡ signal_values_at rest id other
-others_stay c rest id other apart =
-    ap (λ b. option_map_or signal_values_of (if b then Some c else find (is_of_key id other) rest) no_signal_values) (and_right (c.satellite.id == id) (c.signal.index == other) (ne_eqb c.signal.index other (λ e. apart (sym e))))
+others_stay c rest id other apart = grind (arith, and_right, ne_eqb)
 
 -- a cell of another satellite changes none
 pub other_stays : (c : Cell) (rest : List Cell) (id : ℕ) (signals : List ℕ) → (c.satellite.id == id) ≡ false → map (signal_values_at (c ∷ rest) id) signals ≡ map (signal_values_at rest id) signals
-other_stays c rest id signals other =
-    ap (λ b. map (λ index. option_map_or signal_values_of (if b && (c.signal.index == index) then Some c else find (is_of_key id index) rest) no_signal_values) signals) other
+other_stays c rest id signals other = grind arith
 
 -- ---- if the signal is planned, and if it isn't
 
@@ -22,9 +20,7 @@ map_same f g (s ∷ signals) all = ap₂ (λ a l. a ∷ l) (All-head (λ s. f s 
 
 pub no_place : (index : ℕ) (signals : List ℕ) (f g : ℕ → SignalValues) → position (λ i. i == index) signals ≡ None → ((other : ℕ) → other ≢ index → f other ≡ g other)
     → map f signals ≡ map g signals
-no_place index signals f g e same =
-    let none : length signals ≤ position_or_len (λ i. i == index) signals = grind arith in
-    map_same f g signals (λ k d less. same (get_or signals k d) (eqb-false (get_or signals k d) index (fails_before_first (λ i. i == index) signals k d (omega (arith, less, none)))))
+no_place index signals f g e same = grind (arith, map_same, eqb-false, fails_before_first)
 
 -- a list of values with the one at a signal's index replaced
 set_place : (p : ℕ) {index : ℕ} (signals : List ℕ) {f g : ℕ → SignalValues} → p < length signals → get_or signals p 0 ≡ index → IsDistinct nat_eq signals → ((other : ℕ) → other ≢ index → f other ≡ g other)
@@ -93,10 +89,7 @@ none_text (suc n) =
 
 -- a signal is written after others
 pub signal_after : (row text : List ℕ) {front more : List ℕ} (n : ℕ) {k : ℕ} → length text ≡ 64 → k ≡ 64 → n + 64 ≤ length row → take n row ≡ front → more ≡ take n row ++ (text ++ drop k (drop n row)) → take (n + 64) more ≡ front ++ text
-signal_after row text n {k} size width within is put =
-    let first = length-take-le n row (omega (arith, within)) in
-    let long : length (take n row ++ text) ≡ n + 64 = length-append (take n row) text ∙ omega (arith, first, size) in
-    ap (take (n + 64)) (put ∙ sym (append_assoc (take n row) text (drop k (drop n row)))) ∙ take_at (take n row ++ text) (drop k (drop n row)) (n + 64) long ∙ ap (λ l. l ++ text) is
+signal_after row text n size width within is put = grind (arith, length-take-le, length-append, append_assoc, take_at)
 
 -- the first three columns are written
 pub three_set : (row : List ℕ) (a b c : ℕ) → 3 ≤ length row → take 3 (slice_set (slice_set (slice_set row 0 a) 1 b) 2 c) ≡ a ∷ b ∷ c ∷ []
@@ -104,7 +97,4 @@ three_set (x ∷ y ∷ z ∷ row) a b c h = refl
 three_set row a b c h = absurd (omega (arith, h))
 
 pub three_dropped : (row : List ℕ) (a b c : ℕ) → drop 3 (slice_set (slice_set (slice_set row 0 a) 1 b) 2 c) ≡ drop 3 row
-three_dropped [] a b c = refl
-three_dropped (x ∷ []) a b c = refl
-three_dropped (x ∷ y ∷ []) a b c = refl
-three_dropped (x ∷ y ∷ z ∷ row) a b c = refl
+three_dropped row a b c = grind arith

@@ -33,9 +33,7 @@ columns_put row text p {k} all v wide width is room less columns =
     ∙ sym (append_assoc (take n t) (signal_text v ++ drop 64 (drop n t)) (32 ∷ [])) ∙ ap (λ x. x ++ 32 ∷ []) (replaced all p v room less)
 
 pub front_kept : (row rest : List ℕ) (n : ℕ) → 3 + n ≤ length row → take 3 (take (3 + n) row ++ rest) ≡ take 3 row
-front_kept row rest n h =
-    let long = length-take-le (3 + n) row h in
-    take-append-le 3 (take (3 + n) row) rest (omega (arith, long)) ∙ take-take 3 (3 + n) row (omega arith)
+front_kept row rest n h = grind (arith, length-take-le, take-append-le, take-take)
 
 -- ---- the values at an index after those at one were replaced
 
@@ -91,10 +89,7 @@ none_above : (set q : ℕ) → set < 2 ^ most_signals → most_signals ≤ q →
 none_above set q few from = bit_at_above set most_signals q few from
 
 pub is_signal : (set p : ℕ) → set < 2 ^ most_signals → bit_at set p ≡ 1 → p < most_signals
-is_signal set p few is = by (nat_lt p most_signals) refl where
-  by : (b : Bool) → nat_lt p most_signals ≡ b → p < most_signals
-  by true x = grind (arith, x)
-  by false x = let from : most_signals ≤ p = grind (arith, x) in absurd (omega (arith, none_above set p few from, is))
+is_signal set p few is = grind (arith, none_above)
 
 without_le : (set p q : ℕ) → bit_at (without set p) q ≤ bit_at set q
 without_le set p q = omega (arith, bit_at_and set (bit_not w64 (1 * 2 ^ p % 2 ^ 64)) q)
@@ -158,15 +153,10 @@ over used own q few low =
     omega (arith, both, not, bit_at-lt used q, bit_at-lt own q)
 
 pub left_over : {used own : ℕ} {all : List SignalValues} {row : List ℕ} → own < 2 ^ most_signals → HasColumns used own all row → HasColumns (bit_and used (bit_not w64 own)) own all row
-left_over {used} {own} {all} {row} few h = recast h (omega (arith, h.few, and_le_l used (bit_not w64 own))) h.short (λ q covers. h.same q (by q (nat_lt q most_signals) refl covers)) h.only where
-  by : (q : ℕ) (b : Bool) → nat_lt q most_signals ≡ b → bit_at (bit_and used (bit_not w64 own)) q ≤ bit_at own q → bit_at used q ≤ bit_at own q
-  by q true x covers = let low : q < most_signals = grind (arith, x) in omega (arith, over used own q few low, bit_at-lt used q, bit_at-lt own q, covers)
-  by q false x covers = let from : most_signals ≤ q = grind (arith, x) in omega (arith, none_above used q h.few from)
+left_over few h = grind (arith, recast, and_le_l, over, bit_at-lt, none_above)
 
 pub apart_over : (used own : ℕ) → used < 2 ^ most_signals → own < 2 ^ most_signals → AreApart (bit_and used (bit_not w64 own)) own
-apart_over used own fits few q is =
-    let low = is_signal (bit_and used (bit_not w64 own)) q (omega (arith, fits, and_le_l used (bit_not w64 own))) is in
-    omega (arith, over used own q few low, is, bit_at-lt used q, bit_at-lt own q)
+apart_over used own fits few = grind (arith, is_signal, and_le_l, over, bit_at-lt)
 
 -- ---- the columns of a line
 
@@ -231,9 +221,7 @@ module _ {own m : ℕ} {all : List SignalValues} {row : List ℕ} (h : HasColumn
 
 -- before any cell
 pub no_cells : {used : ℕ} {row : List ℕ} (cells : List Cell) (id : ℕ) (signals : List ℕ) → length signals ≤ most_signals → IsBlankBut used row → HasColumns used 0 (map (signal_values_at (drop (length cells) cells) id) signals) row
-no_cells {used} {row} cells id signals short h = recast h h.few (omega (arith, short, length-map signals (signal_values_at (drop (length cells) cells) id))) (λ p covers. h.same p covers ∙ sym (none p)) (λ p out. none p) where
-  none : (p : ℕ) → values_at (map (signal_values_at (drop (length cells) cells) id) signals) p ≡ no_signal_values
-  none p = rw (drop_all (length cells) cells (omega arith), none_put id signals) (none_at (length signals) p)
+no_cells cells id signals short h = grind (arith, recast, length-map, drop_all, none_put, none_at)
 
 pub few_with : (own p : ℕ) → own < 2 ^ most_signals → p < most_signals → bit_or own (1 * 2 ^ p % 2 ^ 64) < 2 ^ most_signals
 few_with own p few low = or_lt most_signals own (1 * 2 ^ p % 2 ^ 64) few (subst (λ n. n < 2 ^ most_signals) (sym (one_shl p 64 (omega (arith, low)))) (pow-lt low))
@@ -265,16 +253,7 @@ blank_row = record {
 
 -- only the first columns changed
 pub same_columns : {used own : ℕ} {all : List SignalValues} {row new : List ℕ} → drop 3 new ≡ drop 3 row → HasColumns used own all row → HasColumns used own all new
-same_columns is h = record {
-  shown = h.shown;
-  size = h.size;
-  room = h.room;
-  columns = is ∙ h.columns;
-  few = h.few;
-  short = h.short;
-  same = h.same;
-  only = h.only;
-}
+same_columns is h = grind arith
 
 -- the line feed is replaced
 pub feed_replaced : (row : List ℕ) (n : ℕ) → get_or row n 0 ≡ 32 → slice_set (slice_set row n 10) n 32 ≡ row

@@ -1,7 +1,7 @@
 -- Columns of a text whose blanks at the end were cut.
 use Rattle.rinex_file.proofs.OneReading.{signals_once}
 use Rattle.rinex_file.proofs.Rows.Written.{line_is, text_is}
-use Rattle.rinex_file.proofs.Names.{arith, ◌≡◌, ◌∙◌, sym, ap, ap₂, refl, subst, ℕ, ◌+◌, ◌-◌, ◌*◌, ◌/◌, ◌%◌, ◌<◌, ◌≤◌, List, [], ◌∷◌, ◌++◌, length, take, drop, replicate, get_or, append-nil, length-append, inl, inr, flat_map, All, Bool, true, false, list_any, cases_lt, length-drop, length-take, length-take-le, length_push, take_all, drop_all, take-append-le, drop-append-le, take-replicate, drop-replicate, length-replicate, Any-from_list_any, list_any-from_Any, min-le_left, take-append-add, drop-append-add, take-append_seam, SignalValues, SatelliteRow, no_signal_values, AreSignalValues, has_some_value, AreEntries, IsEnded, filled_to, padded, field, signal_text, satellite_line, letter, row_text, ReadsExactly, some_if, number_of}
+use Rattle.rinex_file.proofs.Names.{arith, ◌≡◌, ◌∙◌, sym, ap, ap₂, refl, ℕ, ◌+◌, ◌-◌, ◌*◌, ◌/◌, ◌%◌, ◌<◌, ◌≤◌, List, [], ◌∷◌, ◌++◌, length, take, drop, replicate, get_or, append-nil, length-append, inl, inr, flat_map, All, Bool, true, false, list_any, cases_lt, length-drop, length-take, length-take-le, length_push, take_all, drop_all, take-append-le, drop-append-le, take-replicate, drop-replicate, length-replicate, Any-from_list_any, list_any-from_Any, min-le_left, take-append-add, drop-append-add, take-append_seam, SignalValues, SatelliteRow, no_signal_values, AreSignalValues, has_some_value, AreEntries, IsEnded, filled_to, padded, field, signal_text, satellite_line, letter, row_text, ReadsExactly, some_if, number_of}
 
 -- a text of the whole width is not padded
 pub filled_whole : (n : ℕ) (text : List ℕ) → length text ≡ n → filled_to n text ≡ text
@@ -15,16 +15,11 @@ filled_over n text blanks same = ap (λ l. text ++ l) (ap (drop (length text)) s
 
 -- after the end of the text
 pub filled_blank : (n at : ℕ) (text : List ℕ) → length text ≤ at → filled_to n (take n (drop at text)) ≡ replicate n 32
-filled_blank n at text end =
-    let none : take n (drop at text) ≡ [] = ap (take n) (drop_all at text end) ∙ take_all n [] (omega arith) in
-    let width : n - 0 ≡ n = omega arith in
-    ap (filled_to n) none ∙ ap (λ (k : ℕ). replicate k 32) width
+filled_blank n at text end = grind (arith, drop_all, take_all)
 
 -- within the text
 pub filled_within : (n at : ℕ) (text : List ℕ) → at + n ≤ length text → filled_to n (take n (drop at text)) ≡ take n (drop at text)
-filled_within n at text less =
-    let size = length-drop at text in
-    filled_whole n (take n (drop at text)) (length-take-le n (drop at text) (omega (arith, size, less)))
+filled_within n at text less = grind (arith, length-drop, filled_whole, length-take-le)
 
 -- at its end
 pub filled_end : (n at : ℕ) (text : List ℕ) → length text ≤ at + n → filled_to n (take n (drop at text)) ≡ filled_to n (drop at text)
@@ -108,11 +103,7 @@ entries_read n text values false size each is shows = λ es are e.
 pub all_read : {n i : ℕ} (text : List ℕ) (values : List SignalValues) {some : Bool} → length values ≡ n → n ≤ i → length text ≤ 64 * n → All AreSignalValues (take i values)
     → some ≡ list_any has_some_value (take i values) → flat_map signal_text (take i values) ≡ take (64 * i) (filled_to (64 * n) text)
     → ReadsExactly (AreEntries n) (flat_map signal_text) (filled_to (64 * n) text) (some_if some values)
-all_read {n} {i} text values {some} size end short each is shown =
-    let all : take i values ≡ values = take_all i values (omega (arith, size, end)) in
-    let whole = length-filled (64 * n) text short in
-    entries_read n (filled_to (64 * n) text) values some size (subst (All AreSignalValues) all each) (is ∙ ap (list_any has_some_value) all)
-    (sym (sym (ap (flat_map signal_text) all) ∙ shown ∙ take_all (64 * i) (filled_to (64 * n) text) (omega (arith, whole, end))))
+all_read text values size end short each is shown = grind (arith, take_all, length-filled, entries_read)
 
 -- ---- the line
 
@@ -126,12 +117,7 @@ filled_line line text n t cut is =
 -- letter, number and signals
 row_is : (text : List ℕ) {letter : ℕ} (id n : ℕ) (es : List SignalValues) → 3 ≤ length text → get_or text 0 0 ≡ letter → padded 2 id ≡ get_or text 1 0 ∷ get_or text 2 0 ∷ []
     → filled_to n (drop 3 text) ≡ flat_map signal_text es → filled_to (3 + n) text ≡ row_text letter id es
-row_is (a ∷ b ∷ c ∷ rest) id n es long first number signals =
-    let missing : 3 + n - length (a ∷ b ∷ c ∷ rest) ≡ n - length rest = omega arith in
-    ap (λ (k : ℕ). a ∷ b ∷ c ∷ (rest ++ replicate k 32)) missing ∙ text_is (a ∷ b ∷ c ∷ filled_to n rest) id es (omega arith) first number signals
-row_is (a ∷ b ∷ []) id n es long first number signals = absurd (omega (arith, long))
-row_is (a ∷ []) id n es long first number signals = absurd (omega (arith, long))
-row_is [] id n es long first number signals = absurd (omega (arith, long))
+row_is text id n es long first number signals = grind (arith, text_is)
 
 pub cut_line_is : (v : SatelliteRow) {line text : List ℕ} (n : ℕ) → IsEnded line → text ≡ take (length line - 1) line → 3 ≤ length text
     → get_or text 0 0 ≡ letter v.system → padded 2 (number_of v.system v.row.satellite) ≡ get_or text 1 0 ∷ get_or text 2 0 ∷ []

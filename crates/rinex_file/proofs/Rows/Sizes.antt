@@ -2,7 +2,7 @@
 use Rattle.rinex_file.proofs.Digits.Numbers.{length-fixed, length-right, not_negative}
 use Rattle.rinex_file.proofs.Rows.Trimmed.{trimmed-front}
 use Rattle.gnss_system.proofs.SystemLaws.{each_system}
-use Rattle.rinex_file.proofs.Names.{arith, ◌≡◌, ℕ, suc, ◌*◌, ◌^◌, ◌<◌, ◌≤◌, List, [], ◌∷◌, ◌++◌, length, refl, ap, length-append, ℤ, pos, negsuc, unsigned_abs, to_z, of_z, w64, Option, Some, None, IfSome, flat_map, All, sign_text, ints, to_z-of_z, fits_signed_from_abs, All-head, All-tail, All-weaker, padded, fixed, most_satellites, satellites, System, HasTwelveDigits, SignalValues, SatelliteRow, FitsColumns, HaveRoom, AreSignalValues, IsFrom, trimmed, field, signal_text, satellite_line, letter, number_of, nat_lt, true, ◌+◌}
+use Rattle.rinex_file.proofs.Names.{arith, ◌≡◌, ℕ, suc, ◌*◌, ◌^◌, ◌<◌, ◌≤◌, List, [], ◌∷◌, ◌++◌, length, refl, ap, length-append, ℤ, pos, negsuc, unsigned_abs, to_z, of_z, w64, Option, IfSome, flat_map, All, sign_text, ints, to_z-of_z, fits_signed_from_abs, All-head, All-tail, All-weaker, padded, fixed, most_satellites, satellites, System, HasTwelveDigits, SignalValues, SatelliteRow, FitsColumns, HaveRoom, AreSignalValues, IsFrom, trimmed, field, signal_text, satellite_line, letter, number_of}
 
 most : (n : ℕ) → FitsColumns (pos n) → n ≤ 9_999_999_999_999
 most n h = let high = h.1 in omega (arith, ints)
@@ -33,8 +33,7 @@ two_after xs a b l = simp length-append (omega (arith, l))
 
 pub length-field : (v : Option ℤ) (lost strength : ℕ) → IfSome v FitsColumns → length (field v lost strength) ≡ 16
 unfolding field
-length-field None lost strength h = refl
-length-field (Some v) lost strength h = grind (arith, two_after, length-right, length-value)
+length-field v lost strength h = grind (arith, two_after, length-right, length-value)
 
 -- ---- the four fields of a signal
 
@@ -72,6 +71,4 @@ pub few_satellites : (s : System) → satellites s ≤ most_satellites
 few_satellites s = grind arith
 
 pub few_numbers : (s : System) (id : ℕ) → id ≤ satellites s → number_of s id < 100
-few_numbers s id few = by _ _ few (each_system (λ s. nat_lt (number_of s (satellites s)) 100) s refl) where
-  by : (n k : ℕ) → id ≤ n → nat_lt (n + k) 100 ≡ true → id + k < 100
-  by n k few h = grind (arith, few, h)
+few_numbers s id few = grind (arith, each_system)

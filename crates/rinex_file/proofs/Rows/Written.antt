@@ -2,7 +2,7 @@
 use Rattle.rinex_file.proofs.Rows.Trimmed.{uncut, cut_last, length-trimmed}
 use Rattle.rinex_file.proofs.Digits.Padded.{two_digits}
 use Rattle.rinex_file.proofs.HeaderRows.Texts.{trimmed-blanks}
-use Rattle.rinex_file.proofs.Names.{arith, ◌≡◌, ◌≢◌, ◌∙◌, sym, ap, ap₂, refl, ℕ, ◌+◌, ◌-◌, ◌*◌, ◌/◌, ◌%◌, ◌≤◌, ◌<◌, List, [], ◌∷◌, ◌++◌, length, take, drop, replicate, get_or, append-nil, take-append-drop, Bool, true, false, flat_map, ◌||◌, IsTrue, ◌↔◌, not, nat_eq, list_any, take-add, drop-drop, take_all, take_more, length-drop, length-take-le, length_push, get_or-take, get_or_append_left, ne_eqb, flat_map-append, list_any-append, SignalValues, SatelliteRow, has_some_value, trimmed, IsEnded, padded, field, signal_text, lli_byte, strength_byte, row_text, satellite_line, letter, number_of}
+use Rattle.rinex_file.proofs.Names.{arith, ◌≡◌, ◌≢◌, ◌∙◌, sym, ap, ap₂, refl, ℕ, ◌+◌, ◌-◌, ◌*◌, ◌≤◌, ◌<◌, List, [], ◌∷◌, ◌++◌, length, take, drop, replicate, get_or, append-nil, take-append-drop, Bool, false, flat_map, ◌||◌, IsTrue, ◌↔◌, not, nat_eq, list_any, take-add, drop-drop, take_all, take_more, length-drop, length-take-le, length_push, get_or-take, get_or_append_left, ne_eqb, flat_map-append, list_any-append, SignalValues, SatelliteRow, has_some_value, trimmed, IsEnded, padded, field, signal_text, lli_byte, strength_byte, row_text, satellite_line, letter, number_of}
 
 -- ---- the columns of a signal
 
@@ -31,8 +31,7 @@ signals_more text i es e pushed before here =
     ∙ sym (take-add (64 * i) 64 text) ∙ ap (λ n. take n text) next
 
 or_none : (b : Bool) → (b || false) ≡ b
-or_none true = refl
-or_none false = refl
+or_none b = grind arith
 
 pub some_more : (es new : List SignalValues) (e : SignalValues) (a b : Bool) → new ≡ es ++ e ∷ [] → a ≡ list_any has_some_value es → b ≡ has_some_value e
     → (a || b) ≡ list_any has_some_value new
@@ -41,17 +40,10 @@ some_more es new e a b pushed is here = ap₂ (λ s t. s || t) is here ∙ sym (
 -- ---- the number of a satellite
 
 pub number_shown : (t o : ℕ) → 48 ≤ t → t ≤ 57 → 48 ≤ o → o ≤ 57 → padded 2 ((t - 48) * 10 + (o - 48)) ≡ t ∷ o ∷ []
-number_shown t o a b c d =
-    let n = (t - 48) * 10 + (o - 48) in
-    let tens : 48 + n / 10 ≡ t = omega (arith, a, b, c, d) in
-    let ones : 48 + n % 10 ≡ o = omega (arith, a, b, c, d) in
-    two_digits n (omega (arith, b, d)) ∙ ap₂ (λ x y. x ∷ y ∷ []) tens ones
+number_shown t o a b c d = grind (arith, two_digits)
 
 pub digits_shown : (t o n : ℕ) → n < 100 → t ∷ o ∷ [] ≡ padded 2 n → (48 ≤ t) × (t ≤ 57) × (48 ≤ o) × (o ≤ 57)
-digits_shown t o n h e =
-    let tens : t ≡ 48 + n / 10 = ap (λ l. get_or l 0 0) (e ∙ two_digits n h) in
-    let ones : o ≡ 48 + n % 10 = ap (λ l. get_or l 1 0) (e ∙ two_digits n h) in
-    (omega (arith, tens), omega (arith, tens, h), omega (arith, ones), omega (arith, ones))
+digits_shown t o n h e = grind (arith, two_digits)
 
 -- ---- the end of a line
 
@@ -92,14 +84,9 @@ ends line long feed = (λ held. ended line long feed (other_byte _ held), λ is.
 pub line_is : (v : SatelliteRow) (line text : List ℕ) (width : ℕ) → IsEnded line
     → ((t : List ℕ) → line ≡ t ++ 10 ∷ [] → text ≡ t ++ replicate (width - length t) 32) → text ≡ row_text (letter v.system) (number_of v.system v.row.satellite) v.row.signal_values → line ≡ satellite_line v
 unfolding satellite_line
-line_is v line text width (t, is, some, whole) filled shown =
-    is ∙ ap (λ l. l ++ 10 ∷ []) (sym whole ∙ sym (trimmed-blanks (width - length t) t) ∙ ap trimmed (sym (filled t is) ∙ shown))
+line_is v line text width h0 filled shown = grind (arith, trimmed-blanks)
 
 -- letter, number and signals
 pub text_is : (text : List ℕ) {letter : ℕ} (id : ℕ) (es : List SignalValues) → 3 ≤ length text → get_or text 0 0 ≡ letter → padded 2 id ≡ get_or text 1 0 ∷ get_or text 2 0 ∷ []
     → drop 3 text ≡ flat_map signal_text es → text ≡ row_text letter id es
-text_is (a ∷ b ∷ c ∷ rest) {letter} id es long first number signals =
-    ap₂ (λ x y. x ∷ b ∷ c ∷ y) first signals ∙ ap (λ l. letter ∷ (l ++ flat_map signal_text es)) (sym number)
-text_is (a ∷ b ∷ []) id es long first number signals = absurd (omega (arith, long))
-text_is (a ∷ []) id es long first number signals = absurd (omega (arith, long))
-text_is [] id es long first number signals = absurd (omega (arith, long))
+text_is text id es long first number signals = grind arith

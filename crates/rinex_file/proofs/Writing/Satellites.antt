@@ -1,5 +1,5 @@
 -- The cells of one satellite, in a list in the order of satellites.
-use Rattle.rinex_file.proofs.Names.{◌≡◌, ℕ, zero, suc, ◌+◌, ◌-◌, ◌<◌, ◌≤◌, Bool, true, false, List, [], ◌∷◌, filter, take, drop, refl, sym, ap, ap₂, ◌∙◌, subst, arith, length, if◌then◌else◌, cond, AllByRecursion, drop-drop, Cell, is_written, is_of_satellite, run, Above, Climb, Left}
+use Rattle.rinex_file.proofs.Names.{◌≡◌, ℕ, zero, suc, ◌+◌, ◌-◌, ◌<◌, ◌≤◌, Bool, List, [], ◌∷◌, filter, take, drop, refl, arith, length, AllByRecursion, drop-drop, Cell, is_written, is_of_satellite, run, Above, Climb, Left}
 
 pub climb-drop : (n : ℕ) (cells : List Cell) → Climb cells → Climb (drop n cells)
 climb-drop zero cells h = h
@@ -21,29 +21,7 @@ none_above n (c ∷ cells) h = grind (arith, (none_above n cells h.1))
 
 parted_by : {n id : ℕ} {c : Cell} {cells : List Cell} (b : Bool) → is_of_satellite id c ≡ b → n < c.satellite.id → id ≡ suc n → AllByRecursion (λ (d : Cell). c.satellite.id ≤ d.satellite.id) cells
     → Parted id cells → Parted id (c ∷ cells)
-parted_by {id} {c} {cells} true e lt is up h = record {
-  group = ap₂ (λ b k. cond b (c ∷ filter (is_of_satellite id) cells) (filter (is_of_satellite id) cells)) e (refl {a = zero}) ∙ ap (λ l. c ∷ l) h.group ∙ ap (λ k. take k (c ∷ cells)) (sym one);
-  above = subst (λ k. Above id (drop k (c ∷ cells))) (sym one) h.above;
-  rest = λ later l. ap (λ b. cond b (c ∷ filter (is_of_satellite later) cells) (filter (is_of_satellite later) cells)) (other later l) ∙ h.rest later l ∙ ap (λ k. filter (is_of_satellite later) (drop k (c ∷ cells))) (sym one);
-} where
-  one : run id (c ∷ cells) ≡ suc (run id cells)
-  one = ap (λ b. if b then suc (run id cells) else 0) e
-
-  other : (later : ℕ) → id < later → is_of_satellite later c ≡ false
-  other later l = grind (arith, e, l)
-parted_by {id} {c} {cells} false e lt is up h = record {
-  group = none_above id (c ∷ cells) all ∙ ap (λ k. take k (c ∷ cells)) (sym none);
-  above = subst (λ k. Above id (drop k (c ∷ cells))) (sym none) all;
-  rest = λ later l. ap (λ k. filter (is_of_satellite later) (drop k (c ∷ cells))) (sym none);
-} where
-  none : run id (c ∷ cells) ≡ 0
-  none = ap (λ b. if b then suc (run id cells) else 0) e
-
-  over : id < c.satellite.id
-  over = grind (arith, e, lt, is)
-
-  all : Above id (c ∷ cells)
-  all = (over, all_above id c.satellite.id cells over up)
+parted_by b e lt is up h = grind (arith, none_above, all_above)
 
 -- The cells of a satellite come first if no cell of a lower number does.
 pub parted : (n id : ℕ) (cells : List Cell) → id ≡ suc n → Climb cells → Above n cells → Parted id cells

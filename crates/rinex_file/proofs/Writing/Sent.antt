@@ -6,7 +6,7 @@ use Rattle.gnss_system.specs.Systems.{systems, index_of, before, after}
 use Rattle.gnss_system.specs.Satellites.{satellites as satellites_in}
 use Rattle.gnss_system.proofs.SystemLaws.{systems_split, systems_taken}
 use Rattle.rinex_file.proofs.Entries.{flat_map-append}
-use Rattle.rinex_file.proofs.Names.{arith, ◌≡◌, ◌∙◌, sym, ap, ap₂, refl, subst, ℕ, zero, suc, ◌+◌, ◌-◌, ◌≤◌, List, [], ◌∷◌, ◌++◌, length, append_assoc, append-nil, length-append, Option, Bool, true, false, Result, Ok, Err, OnOk, OnErr, map, if◌then◌else◌, IfErr, Appends, Appends-trans, map-append, length-map, filter-append, AppendsPrefix, HasFailed, System, Cell, cells_of, flat_map, take, take_all, civil_of, PlanValue, EpochValue, is_written, written_among, satellites_written, joined, written_satellites, row_among, row_in_epoch, rows_of, satellite_line, epoch_line, StationValues, position_line, delta_line, event_line, event_text, line_among, line_or_none, lines_up_to, lines_of_systems, epoch_text}
+use Rattle.rinex_file.proofs.Names.{arith, ◌≡◌, ◌∙◌, sym, ap, ap₂, refl, subst, ℕ, zero, suc, ◌+◌, ◌-◌, ◌≤◌, List, [], ◌∷◌, ◌++◌, length, append_assoc, append-nil, length-append, Option, Bool, true, false, Result, OnOk, OnErr, map, if◌then◌else◌, IfErr, Appends, Appends-trans, map-append, length-map, filter-append, AppendsPrefix, HasFailed, System, Cell, cells_of, flat_map, take, take_all, civil_of, PlanValue, EpochValue, is_written, written_among, satellites_written, joined, written_satellites, row_among, row_in_epoch, rows_of, satellite_line, epoch_line, StationValues, position_line, delta_line, event_line, event_text, line_among, line_or_none, lines_up_to, lines_of_systems, epoch_text}
 
 -- a part of the first is a part of both
 pub part_first : (a c : Option (List ℕ)) {text : List ℕ} (next rest : List ℕ) → text ≡ next ++ rest → AppendsPrefix a c next → AppendsPrefix a c text
@@ -149,17 +149,14 @@ module _ (p : PlanValue) (e : EpochValue) where
 -- ---- what holds of a call that failed
 
 pub where_failed : {A E : Type 0} (r : Result A E) (P : Type 0) → P → OnErr r P
-where_failed (Ok x) P p = tt
-where_failed (Err e) P p = p
+where_failed r P p = grind arith
 
 -- nothing is promised of it
 pub failed : {A E : Type 0} (Q : E → Type 0) (r : Result A E) (P : Type 0) → IsErrAnd r Q → OnOk r P
-failed Q (Ok x) P h = absurd h
-failed Q (Err e) P h = tt
+failed Q r P h = grind arith
 
 pub only_fault : {A E : Type 0} (Q : E → Type 0) (r : Result A E) → IsErrAnd r Q → IfErr r Q
-only_fault Q (Ok x) h = absurd h
-only_fault Q (Err e) h = h
+only_fault Q r h = grind arith
 
 -- the device failed after calls that didn't
 pub failed_after : {A E : Type 0} (Q : E → Type 0) (r : Result A E) (first before after : ℕ) → IsErrAnd r Q → before ≡ first → HasFailed before after → OnErr r (HasFailed first after)

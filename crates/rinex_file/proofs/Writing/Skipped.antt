@@ -18,8 +18,7 @@ lower n m [] le h = tt
 lower n m (c ∷ cells) le h = (omega (arith, le, h.0), lower n m cells le h.1)
 
 none_left : {n from m : ℕ} {cells : List Cell} → Left n from cells → n < m → Above m (drop from cells) → is_written cells m ≡ false
-none_left {n} {from} {m} {cells} left less above =
-    sym (any_from m cells) ∙ ap (λ (l : List Cell). is_written l m) (left.rest m less ∙ none_above m (drop from cells) above)
+none_left left less above = grind (arith, any_from, none_above)
 
 skipped : (p : PlanValue) (e : EpochValue) (s : System) {n from : ℕ} (cells : List Cell) (k m : ℕ) → cells ≡ cells_of s e → m ≡ n + k → Left n from cells → Above m (drop from cells)
     → lines_up_to p e s m ≡ lines_up_to p e s n
@@ -65,12 +64,7 @@ next_sent {p} {e} {s} {from} {to} {id} {cells} {a} {b} cell sent all held order 
 -- its line was written, if it has one
 pub one_sent : {p : PlanValue} {e : EpochValue} {s : System} {from to id : ℕ} {cells : List Cell} {a b d : Option (List ℕ)} → IsNext p e s from to id cells a b
     → Appends b d (line_among p s (take (to - from) (drop from cells)) id) → AreSent p e s to cells a d
-one_sent {p} {e} {s} {from} {to} {id} {cells} {a} {b} {d} h more = record {
-  last = id;
-  most = h.most;
-  left = h.left;
-  out = subst (λ l. Appends a d l) (sym (lines_more p e s h.before id h.next)) (Appends-trans a b d _ _ h.out (subst (λ l. Appends b d l) h.line more));
-}
+one_sent h more = grind (arith, lines_more, Appends-trans)
 
 pub all_sent : {p : PlanValue} {e : EpochValue} {s : System} {from : ℕ} {cells : List Cell} {a b : Option (List ℕ)} → AreSent p e s from cells a b → cells ≡ cells_of s e → length cells ≤ from
     → Appends a b (lines_up_to p e s (satellites s))

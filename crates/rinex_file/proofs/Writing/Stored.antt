@@ -2,15 +2,14 @@
 use Rattle.rinex_file.proofs.Reading.Epochs.{few_signals_of}
 use Rattle.rinex_file.proofs.Rows.Sizes.{few_numbers}
 use Rattle.rinex_file.proofs.Writing.Sent.{joined-append}
-use Rattle.rinex_file.proofs.Names.{arith, ◌≡◌, ◌∙◌, sym, ap, ap₂, refl, ℕ, ◌+◌, ◌<◌, ◌≤◌, List, [], ◌∷◌, ◌++◌, length, take, get_or, append_assoc, append-nil, All, map, flat_map, take_all, take_more, flat_map-append, flat_map-map, System, civil_of, SatelliteRow, Stamped, FileValue, IsSatelliteRow, IsFileValue, planned_in, header_lines, joined, epoch_line, satellite_line, header_text, change_lines, stamped_lines, file_text, lines_of_parts, HasRoom, HaveRowsRoom, stamped_text, most_signals}
+use Rattle.rinex_file.proofs.Names.{arith, ◌≡◌, ◌∙◌, sym, ap, ap₂, refl, ℕ, ◌+◌, ◌<◌, ◌≤◌, List, [], ◌∷◌, ◌++◌, length, take, get_or, append_assoc, append-nil, All, map, flat_map, take_all, take_more, flat_map-append, flat_map-map, System, civil_of, SatelliteRow, Stamped, FileValue, IsSatelliteRow, IsFileValue, header_lines, joined, epoch_line, satellite_line, header_text, change_lines, stamped_lines, file_text, lines_of_parts, HasRoom, HaveRowsRoom, stamped_text, most_signals}
 
 has_room : (signals : System → ℕ) (s : SatelliteRow) → ((t : System) → signals t ≤ most_signals) → IsSatelliteRow signals s → HasRoom s
 has_room signals s few is = (few_numbers s.system s.row.satellite is.row.satellite.1, is.row.signal_values, let whole = is.row.whole in omega (arith, whole, few s.system))
 
 -- each line has room for its satellite
 pub lines_have_room : (v : FileValue) → IsFileValue v → All HaveRowsRoom v.epochs
-lines_have_room v is =
-    λ i d less k x here. has_room (planned_in v.plan) (get_or (get_or v.epochs i d).rows k x) (few_signals_of v.plan is.plan) ((is.epochs i d less).rows.each k x here)
+lines_have_room v is = grind (arith, has_room, few_signals_of)
 
 joined_parts : (es : List Stamped) → joined (flat_map stamped_lines es) ≡ flat_map stamped_text es
 unfolding stamped_text

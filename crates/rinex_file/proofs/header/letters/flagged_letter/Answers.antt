@@ -1,6 +1,6 @@
 use Rattle.rinex_file.proofs.HeaderRows.Letters.{letter_next}
 use Rattle.rinex_file.proofs.header.letters.flagged_letter.Goals.{then-of+then-letter-eq0, then-of+else-letter-eq0, else-of}
-use Rattle.rinex_file.proofs.Names.{arith, ◌≡◌, ◌∙◌, ◌==◌, ◌+◌, sym, ap, if◌then◌else◌, nat_tests, false, filter, index_of, letter, letter_of, systems, take, true, value_of, Bool, System, ℕ}
+use Rattle.rinex_file.proofs.Names.{arith, ◌≡◌, ◌∙◌, ◌==◌, ◌+◌, sym, ap, if◌then◌else◌, nat_tests, filter, index_of, letter, letter_of, systems, take, true, value_of, Bool, System, ℕ}
 use Rattle.rinex_file.proofs.header.letters.flagged_letter.Goals as goal
 
 abbrev joined : Bool → ℕ → ℕ → ℕ
