@@ -5,7 +5,7 @@ use Rattle.rinex_file.proofs.Digits.Padded.{two_digits}
 use Rattle.rinex_file.proofs.Fields.Lanes.{lane_is}
 use Rattle.rinex_file.proofs.HeaderRows.Texts.{trimmed-trimmed}
 use Rattle.rinex_file.proofs.Rows.Sizes.{length-value, length-field, length-room, length-signals, small_value, strength_fits, values_fit, all_values_fit, few_numbers, front_line}
-use Rattle.rinex_file.proofs.Names.{arith, ◌≡◌, ◌∙◌, sym, ap, ap₂, refl, subst, ℕ, zero, suc, ◌+◌, ◌-◌, ◌*◌, ◌/◌, ◌%◌, ◌<◌, ◌≤◌, List, [], ◌∷◌, ◌++◌, length, take, drop, replicate, get_or, ℤ, unsigned_abs, decimal, true, Option, Some, None, IfSome, flat_map, All, is_negative, sign_text, take_at, drop_at, take_all, drop-drop, get_or_at, get_or-append-add, length_push, All-head, All-tail, take-append_seam, System, SignalValues, SatelliteRow, satellite_row, no_signal_values, FitsColumns, AreSignalValues, trimmed, filled_to, IsEnded, right, padded, fixed, field, signal_text, lli_byte, strength_byte, letter, row_text, satellite_line, has, number_in, ReadsExactly, IsRowOf, blanks, number_of, satellites, or_right, same_Some, ◌^◌}
+use Rattle.rinex_file.proofs.Names.{common_steps, arith, ◌≡◌, ◌∙◌, sym, ap, ap₂, refl, subst, ℕ, zero, suc, ◌+◌, ◌-◌, ◌*◌, ◌/◌, ◌%◌, ◌<◌, ◌≤◌, List, [], ◌∷◌, ◌++◌, length, take, drop, replicate, get_or, ℤ, unsigned_abs, decimal, true, Option, Some, None, IfSome, flat_map, All, is_negative, sign_text, take_at, drop_at, take_all, drop-drop, get_or_at, get_or-append-add, length_push, All-head, All-tail, take-append_seam, System, SignalValues, SatelliteRow, satellite_row, no_signal_values, FitsColumns, AreSignalValues, trimmed, filled_to, IsEnded, right, padded, fixed, field, signal_text, lli_byte, strength_byte, letter, row_text, satellite_line, has, number_in, ReadsExactly, IsRowOf, blanks, number_of, satellites, or_right, same_Some, ◌^◌}
 
 -- ---- a field
 
@@ -14,9 +14,7 @@ unfolding field
 no_field lost strength = refl
 
 second_end : (text : List ℕ) (a b : ℕ) → length text ≡ 14 → get_or (text ++ a ∷ b ∷ []) 15 0 ≡ b
-second_end text a b size =
-    let at : 15 ≡ length text + 1 = omega (arith, size) in
-    ap (λ k. get_or (text ++ a ∷ b ∷ []) k 0) at ∙ get_or-append-add text (a ∷ b ∷ []) 1 0
+second_end text a b size = grind (arith, common_steps, get_or-append-add)
 
 -- the columns of a value, and its LLI and SSI columns
 pub field_parts : (v : ℤ) (lost strength : ℕ) → FitsColumns v
@@ -51,9 +49,7 @@ value_once v w a b h k e = same_Some v w (field_once a b a b h k e)
 pub value_of : {xs : List ℕ} (w : Option ℤ) (lost strength : ℕ) {n : ℕ} → IfSome w FitsColumns → xs ≡ field w lost strength → n ≡ blanks xs → (n ≡ 16 → ⊥)
     → (v : ℤ) × FitsColumns v × (xs ≡ field (Some v) lost strength) × (get_or xs 14 0 ≡ lost) × (get_or xs 15 0 ≡ strength)
 value_of None lost strength h is count some = absurd (some (count ∙ ap blanks (is ∙ sym (no_field lost strength))))
-value_of (Some v) lost strength h is count some =
-    let (columns, first, second) = field_parts v lost strength h in
-    (v, h, is, ap (λ r. get_or r 14 0) is ∙ first, ap (λ r. get_or r 15 0) is ∙ second)
+value_of (Some v) lost strength h is count some = grind (arith, field_parts)
 
 -- ---- a signal
 
@@ -161,9 +157,7 @@ pub record IsSatelliteText (text : List ℕ) (signals : ℕ) (v : SatelliteRow) 
 
 -- a line feed that follows these bytes
 feed_cut : (line text : List ℕ) → line ≡ text ++ 10 ∷ [] → take (length line - 1) line ≡ text
-feed_cut line text is =
-    let size : length line ≡ length text + 1 = ap length is ∙ length_push text 10 in
-    ap₂ (λ (k : ℕ) (l : List ℕ). take k l) (omega (arith, size)) is ∙ take-append_seam text (10 ∷ [])
+feed_cut line text is = grind (arith, common_steps, length_push, take-append_seam)
 
 not_blank : (b : ℕ) → 48 ≤ b → b ≡ 32 → ⊥
 not_blank b h e = omega (arith, h, e)
@@ -203,10 +197,4 @@ line_once system signals {v} {w} {line} is also e f =
 -- it ends in a line feed that follows another byte than a blank
 pub line_ended : (v : SatelliteRow) (line : List ℕ) → line ≡ satellite_line v → IsEnded line
 unfolding satellite_line
-line_ended v line e =
-    let text = row_text (letter v.system) (number_of v.system v.row.satellite) v.row.signal_values in
-    let front = front_line v in
-    (trimmed text, e, some (trimmed text) _ _ front, trimmed-trimmed text) where
-      some : (text rest : List ℕ) (b : ℕ) → text ++ 10 ∷ [] ≡ b ∷ (rest ++ 10 ∷ []) → 0 < length text
-      some [] rest b e = absurd (let size : 1 ≡ suc (length (rest ++ 10 ∷ [])) = ap length e in omega (arith, size, length_push rest 10))
-      some (x ∷ xs) rest b e = omega arith
+line_ended v line e = grind (arith, common_steps, front_line, trimmed-trimmed, length_push)

@@ -24,13 +24,7 @@ Below (z ∷ zs) = (z < 100) × Below zs
 
 pub bytes_of : (zs : List ℕ) → Below zs → digits_l 256 (twice zs) (number_l 65536 (lanes zs)) ≡ pairs zs
 bytes_of [] h = refl
-bytes_of (z ∷ zs) h =
-    let rest = number_l 65536 (lanes zs) in
-    let is : lane z ≡ z % 10 + 256 * (z / 10) = omega (arith, h.0) in
-    let ones : (lane z + 65536 * rest) % 256 ≡ z % 10 = omega (arith, h.0, is) in
-    let tens : (lane z + 65536 * rest) / 256 % 256 ≡ z / 10 = omega (arith, h.0, is) in
-    let on : (lane z + 65536 * rest) / 256 / 256 ≡ rest = omega (arith, h.0, is) in
-    (λ i. ones i ∷ tens i ∷ digits_l 256 (twice zs) (on i)) ∙ ap (λ l. z % 10 ∷ z / 10 ∷ l) (bytes_of zs h.1)
+bytes_of (z ∷ zs) h = grind (arith, (bytes_of zs h.1))
 
 -- the digits of two numbers, two in each lane, the last ones of the first number first
 abbrev pub four : ℕ → List ℕ → List ℕ
@@ -69,18 +63,9 @@ more_bits (suc n) k = suc (more_bits n k)
 -- the first lane that differs is that of the first digit other than zero
 pub first_flag : (n k : ℕ) (xs rest : List ℕ) → n < length xs → get_or xs n 0 < 255 → count_trailing_zeros (more_bits n k) (flags xs (ends n rest)) ≡ leading (take n xs)
 first_flag n k [] rest h small = absurd (omega (arith, h))
-first_flag zero k (x ∷ xs) rest h small =
-    let apart : eqb x 255 ≡ false = ne_eqb x 255 (λ e. omega (arith, e, small)) in
-    let m : ℕ = flags xs rest in
-    ap (λ b. count_trailing_zeros (suc k) (cond (top 7 (cond (not b) 255 0)) 1 0 + 2 * m)) apart ∙ odd k (1 + 2 * m) (omega arith)
-first_flag (suc n) k (zero ∷ xs) rest h small =
-    let m : ℕ = flags xs (ends n rest) in
-    let half : (0 + 2 * m) / 2 ≡ m = omega arith in
-    even (more_bits n k) (0 + 2 * m) (omega arith) ∙ ap suc (ap (count_trailing_zeros (more_bits n k)) half ∙ first_flag n k xs rest (omega (arith, h)) small)
-first_flag (suc n) k (suc d ∷ xs) rest h small =
-    let apart : eqb (suc d) 0 ≡ false = ne_eqb (suc d) 0 (λ e. omega (arith, e)) in
-    let m : ℕ = flags xs (ends n rest) in
-    ap (λ b. count_trailing_zeros (suc (more_bits n k)) (cond (top 7 (cond (not b) 255 0)) 1 0 + 2 * m)) apart ∙ odd (more_bits n k) (1 + 2 * m) (omega arith)
+first_flag zero k (x ∷ xs) rest h small = grind (arith, ne_eqb, odd)
+first_flag (suc n) k (zero ∷ xs) rest h small = grind (arith, even, (first_flag n k xs rest (omega (arith, h)) small))
+first_flag (suc n) k (suc d ∷ xs) rest h small = grind (arith, ne_eqb, odd)
 
 -- a mask of at most 64 lanes
 pub few_flags : (xs ys : List ℕ) → length xs ≡ length ys → length xs ≤ 64 → flags xs ys % 2 ^ 64 ≡ flags xs ys

@@ -21,9 +21,7 @@ spaced_is b [] zero text e h = absurd (let none : get_or text 0 0 ≡ 0 = ap (λ
 spaced_is b [] (suc z) text e h = cc
 spaced_is b (zero ∷ ds) zero text e h = absurd (let low : get_or text 0 0 ≡ 48 = ap (λ l. get_or l 0 0) (sym e) in omega (arith, h, low))
 spaced_is b (suc d ∷ ds) zero text e h = (e, refl)
-spaced_is b (zero ∷ ds) (suc z) text e h =
-    let (columns, zeros) = spaced_is b ds z text (ap (drop 1) e) h in
-    (ap₂ (λ n l. empty_column n b ∷ l) zeros columns, ap suc zeros)
+spaced_is b (zero ∷ ds) (suc z) text e h = grind (arith, (spaced_is b ds z text (ap (drop 1) e) h))
 spaced_is b (suc d ∷ ds) (suc z) text e h = absurd (let low : 48 + suc d ≡ 48 = ap (λ l. get_or l 0 0) e in omega (arith, low))
 
 -- ---- a number with leading zeros, digit by digit

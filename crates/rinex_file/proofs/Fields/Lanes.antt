@@ -20,9 +20,7 @@ pairs_by are zero [] l h = refl
 pairs_by are zero (a ∷ xs) l h = absurd (omega (arith, l))
 pairs_by are (suc k) [] l h = absurd (omega (arith, l))
 pairs_by are (suc k) (a ∷ []) l h = absurd (omega (arith, l))
-pairs_by {byte} {base} {width} {factor} {part} are (suc k) (a ∷ b ∷ xs) l h =
-    let (one, on) = are.lane a b (number_l byte xs) h.0 h.1.0 in
-    (λ i. one i ∷ pairs_l width factor part k (on i)) ∙ ap (λ t. (a * base + b) ∷ t) (pairs_by are k xs (omega (arith, l)) h.1.1)
+pairs_by {byte} {base} {width} {factor} {part} are (suc k) (a ∷ b ∷ xs) l h = grind (arith, (pairs_by are k xs (omega (arith, l)) h.1.1))
 
 pub pairs_are : (k : ℕ) (xs : List ℕ) → length xs ≡ 2 * k → AreBelow 10 xs → pairs_l 65536 2561 256 k (number_l 256 xs) ≡ twos_of 10 xs
 pairs_are k xs l h = pairs_by {byte = 256} {base = 10} {width = 65536} {factor = 2561} {part = 256} (record { lane = λ a b w p q. (omega (arith, p, q), omega (arith, p, q)) }) k xs l h
@@ -40,10 +38,7 @@ bytes_of (suc k) n h =
 
 number_below : (xs : List ℕ) → AreBelow 100 xs → number_l 65536 xs < 65536 ^ length xs
 number_below [] h = omega arith
-number_below (a ∷ xs) h =
-    let p : 65536 ^ suc (length xs) ≡ 65536 ^ length xs * 65536 = pow-suc 65536 (length xs) in
-    let more = number_below xs h.1 in
-    omega (arith, h.0, p, more)
+number_below (a ∷ xs) h = grind (arith, pow-suc, (number_below xs h.1))
 
 pub fours_of_bytes : (xs : List ℕ) → length xs ≡ 8 → AreBelow 100 xs → pairs_l 4294967296 6553601 65536 4 (number_l 256 (digits_l 256 16 (number_l 65536 xs))) ≡ twos_of 100 xs
 fours_of_bytes xs l h =
@@ -97,25 +92,17 @@ taken a b = (a + (2 ^ 8 - b)) % 2 ^ 8
 pub added_back : (xs ts : List ℕ) → length xs ≡ length ts → AreBelow 256 xs → AreBelow 256 ts → zip2 added (zip2 taken xs ts) ts ≡ xs
 added_back [] ts l h k = refl
 added_back (x ∷ xs) [] l h k = absurd (omega (arith, l))
-added_back (x ∷ xs) (t ∷ ts) l h k =
-    let one : ((x + (2 ^ 8 - t)) % 2 ^ 8 + t) % 2 ^ 8 ≡ x = omega (arith, h.0, k.0) in
-    ap₂ (λ a r. a ∷ r) one (added_back xs ts (omega (arith, l)) h.1 k.1)
+added_back (x ∷ xs) (t ∷ ts) l h k = grind (arith, (added_back xs ts (omega (arith, l)) h.1 k.1))
 
 pub taken_back : (ds ts : List ℕ) → length ds ≡ length ts → AreBelow 256 ds → AreBelow 256 ts → zip2 taken (zip2 added ds ts) ts ≡ ds
 taken_back [] ts l h k = refl
 taken_back (d ∷ ds) [] l h k = absurd (omega (arith, l))
-taken_back (d ∷ ds) (t ∷ ts) l h k =
-    let one : ((d + t) % 2 ^ 8 + (2 ^ 8 - t)) % 2 ^ 8 ≡ d = omega (arith, h.0, k.0) in
-    ap₂ (λ a r. a ∷ r) one (taken_back ds ts (omega (arith, l)) h.1 k.1)
+taken_back (d ∷ ds) (t ∷ ts) l h k = grind (arith, (taken_back ds ts (omega (arith, l)) h.1 k.1))
 
 pub template_below : (b : Bool) (n z : ℕ) → AreBelow 256 (template b n z)
 template_below b zero z = omega arith
 template_below b (suc n) zero = (omega arith, template_below b n 0)
-template_below b (suc n) (suc z) = (empty_below z b, template_below b n z) where
-  empty_below : (n : ℕ) (b : Bool) → empty_column n b < 256
-  empty_below zero true = omega arith
-  empty_below zero false = omega arith
-  empty_below (suc n) b = omega arith
+template_below b (suc n) (suc z) = grind (arith, (template_below b n z))
 
 -- ---- the bytes of lanes
 

@@ -5,7 +5,7 @@ use Rattle.rinex_file.proofs.Fields.Columns.{blank_columns, last_minus, empty_co
 use Rattle.rinex_file.proofs.Fields.Lanes.{taken, below_at, added_back, taken_back, template_below, tenth_below}
 use Rattle.rinex_file.proofs.Fields.Templates.{added, front, start_is, leading-le, length-template, sign_before, value_columns}
 use Rattle.rinex_file.proofs.OneReading.{field_parts}
-use Rattle.rinex_file.proofs.Names.{arith, ◌≡◌, ◌∙◌, sym, ap, ap₂, refl, subst, cond, ℕ, zero, suc, ◌+◌, ◌-◌, ◌*◌, ◌/◌, ◌%◌, ◌^◌, ◌<◌, ◌≤◌, List, [], ◌∷◌, ◌++◌, map, length, get_or, replicate, drop, take, decimal, append_assoc, true, false, eqb, not, inl, inr, ℤ, pos, unsigned_abs, Some, w8, Bool, ◌==◌, if◌then◌else◌, neg_ℤ, nat_lt, prefix_len, is_negative, cases_Bool, eqb-true, ne_eqb, ints, decimal_digit, first_decimal, length-map, prefix_len-le-length, bitmask_splat, first_set_mask_l, mask_l-mod, length-zip2, drop_all, drop_more, get_or-drop, get_or-zip2, add-one, FitsColumns, field, AreBelow, AreWithin, blanks, digit_columns, empty_column, has_minus, leading, template, LIMITS, le-ltb, ltb-false}
+use Rattle.rinex_file.proofs.Names.{common_steps, arith, ◌≡◌, ◌∙◌, sym, ap, ap₂, refl, subst, cond, ℕ, zero, suc, ◌+◌, ◌-◌, ◌*◌, ◌/◌, ◌%◌, ◌^◌, ◌<◌, ◌≤◌, List, [], ◌∷◌, ◌++◌, map, length, get_or, replicate, drop, take, decimal, append_assoc, true, false, eqb, not, inl, inr, ℤ, pos, unsigned_abs, Some, w8, Bool, ◌==◌, if◌then◌else◌, neg_ℤ, nat_lt, prefix_len, is_negative, cases_Bool, eqb-true, ne_eqb, ints, decimal_digit, first_decimal, length-map, prefix_len-le-length, bitmask_splat, first_set_mask_l, mask_l-mod, length-zip2, drop_all, drop_more, get_or-drop, get_or-zip2, add-one, FitsColumns, field, AreBelow, AreWithin, blanks, digit_columns, empty_column, has_minus, leading, template, LIMITS, le-ltb, ltb-false}
 use lib.Count.{count_trailing_zeros}
 use lib.Lanes.{zip2, mask_l, top}
 
@@ -17,9 +17,7 @@ above ls ds = mask_l (map (top 7) (zip2 (λ a b. cond (nat_lt a b) 255 0) ls ds)
 none_above : (ls ds : List ℕ) → AreWithin ls ds → above ls ds ≡ 0
 none_above [] ds h = refl
 none_above (l ∷ ls) [] h = refl
-none_above (l ∷ ls) (d ∷ ds) h =
-    let none = none_above ls ds h.1 in
-    ap₂ (λ b m. cond (top 7 (cond b 255 0)) 1 0 + 2 * m) (le-ltb l d h.0) none
+none_above (l ∷ ls) (d ∷ ds) h = grind (arith, le-ltb, (none_above ls ds h.1))
 
 all_within : (ls ds : List ℕ) → above ls ds ≡ 0 → AreWithin ls ds
 all_within [] ds e = tt
@@ -86,9 +84,7 @@ sixteen_blank xs n size count all =
 -- blanks before another column
 blanks_before : (k b : ℕ) (rest : List ℕ) → (b == 32) ≡ false → (blanks (replicate k 32 ++ b ∷ rest) ≡ k) × (get_or (replicate k 32 ++ b ∷ rest) k 0 ≡ b)
 blanks_before zero b rest other = (ap (λ t. cond t (1 + blanks rest) 0) other, refl)
-blanks_before (suc k) b rest other =
-    let (count, at) = blanks_before k b rest other in
-    (ap (λ (n : ℕ). 1 + n) count ∙ omega arith, at)
+blanks_before (suc k) b rest other = grind (arith, (blanks_before k b rest other))
 
 begins_with : (columns rest : List ℕ) (k b : ℕ) → columns ≡ replicate k 32 ++ b ∷ rest → (b == 32) ≡ false → (blanks columns ≡ k) × (has_minus columns ≡ (b == 45))
 begins_with columns rest k b is other = grind (arith, blanks_before)
@@ -98,8 +94,7 @@ abbrev BeginsWithDigit : List ℕ → Type 0
 BeginsWithDigit text = (b : ℕ) × (rest : List ℕ) × (text ≡ b ∷ rest) × (48 ≤ b)
 
 begins : (text : List ℕ) → 48 < get_or text 0 0 → BeginsWithDigit text
-begins [] h = absurd (omega (arith, h))
-begins (b ∷ rest) h = (b, rest, refl, omega (arith, h))
+begins text h = grind (arith, common_steps)
 
 decimal_begins : (w : ℕ) → w < 2 ^ 64 → BeginsWithDigit (decimal w)
 decimal_begins zero h = (48, [], decimal_digit 0 (omega arith), omega arith)
@@ -213,9 +208,7 @@ zeros_before : (b : Bool) (n start : ℕ) (rest : List ℕ) → start ≤ n → 
 zeros_before b zero start rest few small some = omega (arith, few)
 zeros_before b (suc n) zero [] few small some = refl
 zeros_before b (suc n) zero (x ∷ rest) few small some = no_leading (taken x 48) (take n (zip2 taken rest (template b n 0))) (λ none. some (omega arith) (omega (arith, none, small)))
-zeros_before b (suc n) (suc start) rest few small some =
-    ap (λ d. leading (d ∷ take n (zip2 taken (empty_columns b start ++ rest) (template b n start)))) (empty_taken b start)
-    ∙ ap (λ (k : ℕ). suc k) (zeros_before b n start rest (omega (arith, few)) small (λ h. some (omega (arith, h))))
+zeros_before b (suc n) (suc start) rest few small some = grind (arith, empty_taken, (zeros_before b n start rest (omega (arith, few)) small (λ h. some (omega (arith, h)))))
 
 -- sixteen columns of a field, of which at most nine are blank before the value
 pub record AreColumns (columns : List ℕ) : Type 0 where
@@ -242,11 +235,7 @@ within_nine {columns} ts start true are long (sign, at) last within =
 
 -- the digits of a zero begin with one
 pub zero_first : {columns ts : List ℕ} (b : Bool) {start s y z : ℕ} → AreColumns columns → start ≡ leading (front s) → ts ≡ template b 9 start → zip2 taken columns ts ≡ digit_columns s y z → s ≡ 0 → get_or columns start 0 ≡ 48
-zero_first {columns} b {start} are lead row digits none =
-    let nine : start ≡ 9 = lead ∙ ap (λ n. leading (front n)) none in
-    let h = below_at 256 columns (omega arith) are.below 9 in
-    let lane = sym (get_or-zip2 taken columns (template b 9 9) 9 0 0 0 (omega (arith, are.size)) (omega arith)) ∙ ap (λ l. get_or (zip2 taken columns l) 9 0) (ap (template b 9) (sym nine) ∙ sym row) ∙ ap (λ l. get_or l 9 0) digits in
-    ap (λ n. get_or columns n 0) nine ∙ omega (arith, h, lane, none)
+zero_first b are lead row digits none = grind (arith, common_steps, below_at, get_or-zip2)
 
 -- no value with more than one whole digit begins with a zero
 pub no_zero_first : (b : Bool) (n start : ℕ) (xs : List ℕ) → start < n → get_or xs start 0 ≡ 48 → leading (take n (zip2 taken xs (template b n start))) ≡ start → ⊥

@@ -61,12 +61,7 @@ several_from ss l = grind arith
 
 more_flags : (f g : System → Bool) → ((s : System) → f s ≡ true → g s ≡ true) → (ss : List System) → length (filter f ss) ≤ length (filter g ss)
 more_flags f g le [] = omega arith
-more_flags f g le (s ∷ ss) = by (f s) (g s) (le s) (more_flags f g le ss) where
-  by : (a b : Bool) → (a ≡ true → b ≡ true) → length (filter f ss) ≤ length (filter g ss) → length (cond a (s ∷ filter f ss) (filter f ss)) ≤ length (cond b (s ∷ filter g ss) (filter g ss))
-  by true true le more = omega (arith, more)
-  by true false le more = let e = le refl in cc
-  by false true le more = omega (arith, more)
-  by false false le more = more
+more_flags f g le (s ∷ ss) = grind (arith, (more_flags f g le ss))
 
 -- ---- which systems may be planned
 

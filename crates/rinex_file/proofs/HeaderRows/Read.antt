@@ -7,7 +7,7 @@ use Rattle.rinex_file.proofs.HeaderRows.Places.{either, none_of_slots, other_bef
 use Rattle.rinex_file.proofs.HeaderRows.Steps.{Law, single, present, shows_next, begun_more}
 use Rattle.rinex_file.proofs.HeaderRows.Texts.{equal_or, same_here, same_line, kept_texts, same_texts, texts_back}
 use Rattle.rinex_file.proofs.PlainTexts.{both}
-use Rattle.rinex_file.proofs.Names.{arith, ◌≡◌, ◌∙◌, sym, ap, refl, subst, ℕ, suc, ◌+◌, ◌<◌, ◌≤◌, Bool, true, false, List, [], ◌∷◌, length, take, min, ◌↔◌, ◌^◌, get_or, Option, Some, None, IsTrue, nat_lt, codes, nat_le, list_all, take-take, take-map, SignalAt, table, System, is_less, is_system, indices, planned_of, civil_of, StationValues, length_indices, Types, Version, Texts, Position, Delta, StrengthUnit, First, Shift, row_line, row_count, row_at, has_line, type_rows, position_line, row_place, header_line, height_line, first_line, strength_line, version_by, Known, Has, HasRow, AreSized, AreTypesOf, AreSameTexts, counted, types_before, systems_letter, shown_line, shown_rows, AreTypes, types_line, signals_begun, IsPosition, position_of, Shown, IsShown, known_line, NoneGoesOn, TakesTypes, RefusesTypes, with_types, IsHeaderLineRead, RefusesHeaderLine, ReadsOrRefuses, ReadsTexts, RefusesTexts, with_texts, with_values, with_first, with_letter, TextRow, HeaderRow, HeaderLists, text_row_index, fields_of, place_of, front_of, HeaderField, AntType, IsTime, letter, ReadsExactly, same_Some, ⊤, ◌*◌, Slots, Biases, biases_line, slots_line, slots_of, slots_in_line, known_slots, with_slots, AreSlotsAt, AreSlotsBefore, SlotsFollow, IsLineOfSlots, TakesSlots, TakesOrRefusesSlots, ChannelsValue, add-one}
+use Rattle.rinex_file.proofs.Names.{common_steps, arith, ◌≡◌, ◌∙◌, sym, ap, refl, subst, ℕ, suc, ◌+◌, ◌<◌, ◌≤◌, Bool, true, false, List, [], ◌∷◌, length, take, min, ◌↔◌, ◌^◌, get_or, Option, Some, None, IsTrue, nat_lt, codes, nat_le, list_all, take-take, take-map, SignalAt, table, System, is_less, is_system, indices, planned_of, civil_of, StationValues, length_indices, Types, Version, Texts, Position, Delta, StrengthUnit, First, Shift, row_line, row_count, row_at, has_line, type_rows, position_line, row_place, header_line, height_line, first_line, strength_line, version_by, Known, Has, HasRow, AreSized, AreTypesOf, AreSameTexts, counted, types_before, systems_letter, shown_line, shown_rows, AreTypes, types_line, signals_begun, IsPosition, position_of, Shown, IsShown, known_line, NoneGoesOn, TakesTypes, RefusesTypes, with_types, IsHeaderLineRead, RefusesHeaderLine, ReadsOrRefuses, ReadsTexts, RefusesTexts, with_texts, with_values, with_first, with_letter, TextRow, HeaderRow, HeaderLists, text_row_index, fields_of, place_of, front_of, HeaderField, AntType, IsTime, letter, ReadsExactly, same_Some, ⊤, ◌*◌, Slots, Biases, biases_line, slots_line, slots_of, slots_in_line, known_slots, with_slots, AreSlotsAt, AreSlotsBefore, SlotsFollow, IsLineOfSlots, TakesSlots, TakesOrRefusesSlots, ChannelsValue, add-one}
 
 -- ---- numbers of signals
 
@@ -24,15 +24,7 @@ pub row_taken : {system : System} {count before row : ℕ} {line : List ℕ} {ol
     → ((all : List ℕ) → AreTypes system all → (0 < row → before ≡ length all) → line ≡ types_line system all row → length all ≡ count)
     → ((all : List ℕ) → AreTypes system all → AreBegun count row (indices old) all → (line ≡ types_line system all row) ↔ (indices new ≡ take (signals_begun (row + 1)) all))
     → TakesTypes system row line before (indices old) count (indices new)
-row_taken {system} {count} {row = row} {line} {old} new few rows later grows begun size counts taken =
-    record { few = few; rows = rows; later = later; counts = counts; taken = both_ways; size = length_indices new ∙ size } where
-      both_ways : (all : List ℕ) → AreTypes system all → (AreBegun count row (indices old) all × (line ≡ types_line system all row)) ↔ AreBegun count (row + 1) (indices new) all
-      both_ways all are = (
-        λ q. (q.0.0, (taken all are q.0).0 q.1),
-        λ b.
-            let before = begun_in_front (indices old) (indices new) all row (grows_indices old new grows) (length_indices old ∙ begun) b.1 in
-            ((b.0, before), (taken all are (b.0, before)).1 b.1),
-      )
+row_taken new few rows later grows begun size counts taken = grind (arith, common_steps, length_indices, begun_in_front, grows_indices)
 
 -- ---- a line of types
 

@@ -12,7 +12,7 @@ use Rattle.rinex_file.specs.Read.HeaderSteps.{IsLineOfSlots, TakesOrRefusesSlots
 use Rattle.rinex_file.proofs.Digits.Numbers.{digits_in-padded, digits_in-whole, length-right}
 use Rattle.rinex_file.proofs.Digits.Padded.{two_digits}
 use Rattle.rinex_file.proofs.HeaderRows.Types.{content_first}
-use Rattle.rinex_file.proofs.Names.{All, All-head, All-replicate, All-tail, IfSome, List, None, Option, Some, [], ap, append-nil, append_assoc, ap₂, arith, codes, decimal, digits_in, drop, drop-append-le, drop-cons, drop-drop, drop-take, header_line, IsTrue, ◌↔◌, nil_from_length, drop_all, drop_at, flat_map, flat_map-append, get_or, get_or-drop, get_or-take, length, length-append, length-decimal-le, length-drop, length-set, length-take, min, padded, refl, right, set, suc, sym, take, take-append-le, take_all, take_at, take-take, take_more, filter, is_some, zero, ◌*◌, ◌++◌, ◌+◌, ◌-◌, ◌/◌, ◌%◌, ◌<◌, ◌∙◌, ◌∷◌, ◌≡◌, ◌≤◌, ℕ, Bool, if◌then◌else◌, subst, lt-ltb, le-ltb}
+use Rattle.rinex_file.proofs.Names.{common_steps, All, All-head, All-replicate, All-tail, IfSome, List, None, Option, Some, [], ap, append-nil, append_assoc, ap₂, arith, codes, decimal, digits_in, drop, drop-append-le, drop-cons, drop-drop, drop-take, header_line, IsTrue, ◌↔◌, nil_from_length, drop_all, drop_at, flat_map, flat_map-append, get_or, get_or-drop, get_or-take, length, length-append, length-decimal-le, length-drop, length-set, length-take, min, padded, refl, right, set, suc, sym, take, take-append-le, take_all, take_at, take-take, take_more, filter, is_some, zero, ◌*◌, ◌++◌, ◌+◌, ◌-◌, ◌/◌, ◌%◌, ◌<◌, ◌∙◌, ◌∷◌, ◌≡◌, ◌≤◌, ℕ, Bool, if◌then◌else◌, subst, lt-ltb, le-ltb}
 
 -- ---- slots that follow others
 
@@ -65,9 +65,7 @@ same_from low (x ∷ c) [] size e = absurd (omega (arith, size))
 same_from low (None ∷ c) (None ∷ d) size e = ap (λ (l : ChannelsValue). None ∷ l) (same_from (suc low) c d (omega (arith, size)) e)
 same_from low (None ∷ c) (Some n ∷ d) size e = let l = first_from (suc low) c _ _ e in absurd (omega (arith, l))
 same_from low (Some m ∷ c) (None ∷ d) size e = let l = first_from (suc low) d _ _ (sym e) in absurd (omega (arith, l))
-same_from low (Some m ∷ c) (Some n ∷ d) size e =
-    let one : SlotNumber = record { slot = low; number = m } in
-    ap₂ (λ (k : ℕ) (l : ChannelsValue). Some k ∷ l) (ap (λ (l : List SlotNumber). (get_or l 0 one).number) e) (same_from (suc low) c d (omega (arith, size)) (ap (λ (l : List SlotNumber). drop 1 l) e))
+same_from low (Some m ∷ c) (Some n ∷ d) size e = grind (arith, (same_from (suc low) c d (omega (arith, size)) (ap (λ (l : List SlotNumber). drop 1 l) e)))
 
 pub same_channels : (c d : ChannelsValue) → AreChannels c → AreChannels d → slots_of c ≡ slots_of d → c ≡ d
 same_channels c d a b e = same_from 1 c d (a.slots ∙ sym b.slots) e
@@ -99,19 +97,10 @@ at slot number = record { slot = slot; number = number }
 
 added_from : (last i n : ℕ) (c : ChannelsValue) → last_slot last (slots_from (suc last) c) ≤ last + i → i < length c → slots_from (suc last) (set c i (Some n)) ≡ slots_from (suc last) c ++ at (suc last + i) n ∷ []
 added_from last i n [] le less = absurd (omega (arith, less))
-added_from last zero n (None ∷ c) le less =
-    let none = none_after last (suc (suc last)) c (omega arith) (omega (arith, le)) in
-    let same : suc last ≡ suc last + 0 = omega arith in
-    ap₂ (λ (k : ℕ) (l : List SlotNumber). at k n ∷ l) same none ∙ sym (ap (λ (l : List SlotNumber). l ++ at (suc last + 0) n ∷ []) none)
+added_from last zero n (None ∷ c) le less = grind (arith, none_after)
 added_from last zero n (Some m ∷ c) le less = let more = at_least (suc last) (suc (suc last)) c (omega arith) in absurd (omega (arith, le, more))
-added_from last (suc i) n (None ∷ c) le less =
-    let same : suc (suc last) + i ≡ suc last + suc i = omega arith in
-    added_from (suc last) i n c (later_last last (suc last) (suc last + i) (slots_from (suc (suc last)) c) (omega (arith, le)) (omega arith)) (omega (arith, less))
-    ∙ ap (λ (k : ℕ). slots_from (suc (suc last)) c ++ at k n ∷ []) same
-added_from last (suc i) n (Some m ∷ c) le less =
-    let same : suc (suc last) + i ≡ suc last + suc i = omega arith in
-    ap (λ (l : List SlotNumber). at (suc last) m ∷ l)
-    (added_from (suc last) i n c (omega (arith, le)) (omega (arith, less)) ∙ ap (λ (k : ℕ). slots_from (suc (suc last)) c ++ at k n ∷ []) same)
+added_from last (suc i) n (None ∷ c) le less = grind (arith, later_last, (added_from (suc last) i n c (later_last last (suc last) (suc last + i) (slots_from (suc (suc last)) c) (omega (arith, le)) (omega arith)) (omega (arith, less))))
+added_from last (suc i) n (Some m ∷ c) le less = grind (arith, (added_from (suc last) i n c (omega (arith, le)) (omega (arith, less))))
 
 pub slot_added : (c : ChannelsValue) (slot n : ℕ) → AreChannels c → last_slot 0 (slots_of c) < slot → slot ≤ slot_count → slots_of (with_number c slot n) ≡ slots_of c ++ at slot n ∷ []
 slot_added c slot n are less few = grind (arith, added_from)
@@ -154,10 +143,8 @@ taken_from : (low k : ℕ) (c : ChannelsValue) → k < length c → slots_from l
 taken_from low k [] less = absurd (omega (arith, less))
 taken_from low zero (None ∷ c) less = refl
 taken_from low zero (Some n ∷ c) less = let same : low ≡ low + 0 = omega arith in ap (λ (k : ℕ). at k n ∷ []) same
-taken_from low (suc k) (None ∷ c) less = let same : suc low + k ≡ low + suc k = omega arith in
-    taken_from (suc low) k c (omega (arith, less)) ∙ ap (λ (j : ℕ). slots_from (suc low) (take k c) ++ one_slot j (get_or c k None)) same
-taken_from low (suc k) (Some n ∷ c) less = let same : suc low + k ≡ low + suc k = omega arith in
-    ap (λ (l : List SlotNumber). at low n ∷ l) (taken_from (suc low) k c (omega (arith, less)) ∙ ap (λ (j : ℕ). slots_from (suc low) (take k c) ++ one_slot j (get_or c k None)) same)
+taken_from low (suc k) (None ∷ c) less = grind (arith, (taken_from (suc low) k c (omega (arith, less))))
+taken_from low (suc k) (Some n ∷ c) less = grind (arith, (taken_from (suc low) k c (omega (arith, less))))
 
 -- the slots of one number more
 pub slots_taken : (c : ChannelsValue) (k : ℕ) → k < length c → slots_of (take (k + 1) c) ≡ slots_of (take k c) ++ one_slot (k + 1) (number_at c (k + 1))
@@ -182,21 +169,13 @@ in_line row ss = take slots_in_line (drop (slots_in_line * row) ss)
 
 -- a slot that is in the line, or isn't
 line_more : (row : ℕ) (ss : List SlotNumber) (s : SlotNumber) → length ss / 8 ≡ row → in_line row (ss ++ s ∷ []) ≡ in_line row ss ++ s ∷ []
-line_more row ss s here =
-    let low : 8 * row ≤ length ss = omega (arith, here) in
-    let high : length ss < 8 * row + 8 = omega (arith, here) in
-    let rest = drop (8 * row) ss in
-    let few : length rest < 8 = let size = length-drop (8 * row) ss in omega (arith, size, high) in
-    let size = length-append rest (s ∷ []) in
-    ap (take 8) (drop-append-le (8 * row) ss (s ∷ []) low) ∙ take_all 8 (rest ++ s ∷ []) (omega (arith, size, few)) ∙ ap (λ (l : List SlotNumber). l ++ s ∷ []) (sym (take_all 8 rest (omega (arith, few))))
+line_more row ss s here = grind (arith, common_steps, length-drop, length-append, drop-append-le, take_all)
 
 line_before : (row : ℕ) (ss : List SlotNumber) (s : SlotNumber) → length ss < 8 * row → in_line row (ss ++ s ∷ []) ≡ in_line row ss
 line_before row ss s less = grind (arith, length-append, drop_all)
 
 line_after : (row : ℕ) (ss : List SlotNumber) (s : SlotNumber) → 8 * row + 8 ≤ length ss → in_line row (ss ++ s ∷ []) ≡ in_line row ss
-line_after row ss s more =
-    let size = length-drop (8 * row) ss in
-    ap (take 8) (drop-append-le (8 * row) ss (s ∷ []) (omega (arith, more))) ∙ take-append-le 8 (drop (8 * row) ss) (s ∷ []) (omega (arith, size, more))
+line_after row ss s more = grind (arith, common_steps, length-drop, drop-append-le, take-append-le)
 
 -- a slot of another line
 line_other : (row : ℕ) (ss : List SlotNumber) (s : SlotNumber) → (length ss / 8 ≡ row → ⊥) → in_line row (ss ++ s ∷ []) ≡ in_line row ss

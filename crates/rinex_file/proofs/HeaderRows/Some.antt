@@ -7,7 +7,7 @@ use Rattle.gnss_system.specs.declared.system.System.TheVariants.{Glonass}
 use Rattle.rinex_file.proofs.HeaderRows.Slots.{More, more_slots, no_channels_are, same_channels}
 use Rattle.rinex_file.proofs.HeaderRows.Places.{own_slots, place_at}
 use Rattle.rinex_file.proofs.PlainTexts.{both}
-use Rattle.rinex_file.proofs.Names.{All, All-cons, All-nil, All-push, AreSized, AreTypesOf, Bool, Delta, First, Has, HasRow, HeaderRow, IsDistinct, IsDistinct-push, IsHeadAt, IsShown, Known, List, PlanValue, Position, System, Texts, Version, ap, arith, counted, eqb, false, fields_of, flagged_letter, is_chosen, is_equal, is_less, is_planned, le-length_from_below, length, length-append, letter, list_any, min, nat_eq, nat_eq_equiv, nat_lt, nat_tests, nil_from_length, planned_of, refl, row_at, shown_with, signals_begun, subst, suc, sym, systems_letter, table, take, take-append_seam, take-take, take_all, take_min, true, types_before, zero, ◌&&◌, ◌++◌, ◌+◌, ◌-◌, ◌<◌, ◌==◌, ◌||◌, ◌∙◌, ◌∷◌, ◌≡◌, ◌≤◌, [], ℕ, lit<, ◌*◌, append-nil, take-append-le, row_count, Slots, SlotNumber, AreSlotsAt, known_slots, slots_before, slots_of, no_channels, lt-ltb, or_right}
+use Rattle.rinex_file.proofs.Names.{common_steps, All, All-cons, All-nil, All-push, AreSized, AreTypesOf, Bool, Delta, First, Has, HasRow, HeaderRow, IsDistinct, IsDistinct-push, IsHeadAt, IsShown, Known, List, PlanValue, Position, System, Texts, Version, ap, arith, counted, eqb, false, fields_of, flagged_letter, is_chosen, is_equal, is_less, is_planned, le-length_from_below, length, length-append, letter, list_any, min, nat_eq, nat_eq_equiv, nat_lt, nat_tests, nil_from_length, planned_of, refl, row_at, shown_with, signals_begun, subst, suc, sym, systems_letter, table, take, take-append_seam, take-take, take_all, take_min, true, types_before, zero, ◌&&◌, ◌++◌, ◌+◌, ◌-◌, ◌<◌, ◌==◌, ◌||◌, ◌∙◌, ◌∷◌, ◌≡◌, ◌≤◌, [], ℕ, lit<, ◌*◌, append-nil, take-append-le, row_count, Slots, SlotNumber, AreSlotsAt, known_slots, slots_before, slots_of, no_channels, lt-ltb, or_right}
 
 -- ---- signals of a system, with others up to a number
 
@@ -112,8 +112,7 @@ pub record SomeShown (k : Known) (n : ℕ) : Type 0 where
 
 -- slots that begin with those that were read, if there are no more or those are the lines up to a row
 begun_slots : (row rows count : ℕ) (read more : List SlotNumber) → row < rows → length read ≡ min (8 * rows) count → length more ≡ count - length read → take (8 * suc row) (read ++ more) ≡ take (8 * suc row) read
-begun_slots row rows count read [] less size rest = ap (take (8 * suc row)) (append-nil read)
-begun_slots row rows count read (s ∷ more) less size rest = take-append-le (8 * suc row) read (s ∷ more) (omega (arith, less, size, rest))
+begun_slots row rows count read more less size rest = grind (arith, common_steps, append-nil, take-append-le)
 
 own_rows : (k : Known) (n : ℕ) (p : PlanValue) (more : List SlotNumber) (i : ℕ) → i < n → n < row_count → AreSlotsAt k n → slots_of p.channels ≡ known_slots k ++ more → length more ≡ k.slots - length (known_slots k) → (r : HeaderRow) → row_at i ≡ r
     → (systems_letter p ≡ k.letter) → HasRow k (shown_with k p) r

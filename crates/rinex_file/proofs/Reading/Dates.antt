@@ -31,11 +31,8 @@ pub field_at : {X : Type 0} (read : List ℕ → X) (fs : List (List ℕ)) (ps :
     → read (take (get_or ps k d).0 (drop (start_of ps k) (joined fs ++ tail))) ≡ (get_or ps k d).1
 field_at read fs [] k d tail are less = absurd (omega (arith, less))
 field_at read [] (p ∷ ps) k d tail are less = absurd are
-field_at read (f ∷ fs) ((w, x) ∷ ps) zero d tail ((size, is), are) less =
-    ap (λ t. read (take w t)) (append_assoc f (joined fs) tail) ∙ ap read (take_at f (joined fs ++ tail) w size) ∙ is
-field_at read (f ∷ fs) ((w, x) ∷ ps) (suc k) d tail ((size, is), are) less =
-    ap (λ t. read (take (get_or ps k d).0 t)) (ap (drop (w + start_of ps k)) (append_assoc f (joined fs) tail) ∙ skip f (joined fs ++ tail) w (start_of ps k) size)
-    ∙ field_at read fs ps k d tail are (omega (arith, less))
+field_at read (f ∷ fs) ((w, x) ∷ ps) zero d tail ((size, is), are) less = grind (arith, append_assoc, take_at)
+field_at read (f ∷ fs) ((w, x) ∷ ps) (suc k) d tail ((size, is), are) less = grind (arith, append_assoc, skip, (field_at read fs ps k d tail are (omega (arith, less))))
 
 -- ---- the lines with a date and time of day
 

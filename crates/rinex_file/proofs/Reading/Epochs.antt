@@ -105,8 +105,7 @@ next_with {s} e es is value starts change text =
     }
 
 some_epochs : (es others : List Stamped) (e : Stamped) (w : StationValues) → IsFirstSame (es ++ e ∷ others) → e.change ≡ Some w → 0 < length es
-some_epochs [] others e w first is = let none : e.change ≡ None = first in cc
-some_epochs (x ∷ xs) others e w first is = omega arith
+some_epochs es others e w first is = grind (arith, common_steps)
 
 -- no event begins with the line, or none is allowed here
 abbrev pub NoEvent : Progress → List ℕ → Type 0
@@ -322,8 +321,7 @@ last_shows s line expected row shown taken are =
 from_none : (s : Progress) {v : FileValue} {left : List (List ℕ)} (more : List SatelliteRow) (others : List Stamped) → length more ≡ 0
     → v ≡ file_with s (s.epochs ++ stamped s (s.rows ++ more) ∷ others) → StartsAt s.known.shown.first (s.epochs ++ stamped s (s.rows ++ more) ∷ others)
     → left ≡ map satellite_line more ++ flat_map stamped_lines others → IsAtEpoch (with_epoch s) v left
-from_none s (m ∷ ms) others count value starts rest = absurd (omega (arith, count))
-from_none s [] others count value starts rest = grind (arith, append-nil, append_assoc)
+from_none s more others count value starts rest = grind (arith, common_steps, append-nil, append_assoc)
 
 -- ---- what holds after the line of a satellite is accepted
 
@@ -353,14 +351,7 @@ module _ (s : Progress) (n : ℕ) {left : ℕ} (expected : s.expected ≡ Satell
   rows_more = seen_more (planned_in s.known.shown.plan) s.rows row (sound_open s left expected sound).1.rows is rise
 
   pub sound_row : 0 < n → left ≡ suc n → IsSound (with_row s row n)
-  sound_row some one =
-      let (read, begun, all, room) = sound_open s left expected sound in
-      let size : length s.rows + left ≡ length (s.rows ++ row ∷ []) + n = ap (λ (k : ℕ). length s.rows + k) one ∙ one_fewer s.rows row n in (
-        read,
-        record { time = begun.time; later = begun.later; rows = rows_more; first = begun.first; change = begun.change; same = begun.same },
-        some,
-        subst (λ (k : ℕ). k ≤ most_rows (planned_in s.known.shown.plan)) size room,
-      )
+  sound_row some one = grind (arith, common_steps, sound_open, one_fewer, rows_more)
 
   pub sound_closed : IsSound (with_epoch (with_row s row n))
   sound_closed =

@@ -4,11 +4,10 @@ use Rattle.rinex_file.proofs.HeaderRows.Some.{none_before, some_shown}
 use Rattle.rinex_file.proofs.HeaderRows.End.{zero_values}
 use Rattle.rinex_file.proofs.Reading.Lines.{consumed}
 use Rattle.rinex_file.proofs.Reading.Epochs.{lines_with, lines_are, sound_open, sound_between, at_expected, file_value}
-use Rattle.rinex_file.proofs.Names.{Has, GoesOn, shown_of, arith, ◌≡◌, ◌∙◌, sym, ap, refl, ℕ, zero, suc, ◌+◌, ◌<◌, pos, List, [], ◌∷◌, ◌++◌, length, Option, IfSome, lit<, subst, take, drop, append-nil, inl, inr, AreBegunWith, None, Some, ⊤, map, flat_map, All-head, All-nil, length-map, nil_from_length, StationValues, civil_of, ParserState, Expected, Header, Epoch, EventPosition, EventHeight, EventEpoch, Satellite, IsChange, IsFileValue, AreBegun, IsEventBegun, lines_of_header, whole_lines, AreBefore, IsExpectedAt, Progress, IsPosition, shown_with, lines_after, stamped, Known, Shown, IsShown, IsHeadAt, file_with, StartsAt, IsInHeader, IsAt, IsAtEpoch, IsInEvent, position_of, HasLinesLeft, RefusesLine, IsSound, IsSoundAt, IsEventExpected, AreLinesAt, values_now, AreRead, AreLinesOf, History, FollowsHistory, progress_at, GoesOnWithLine, ShowsLine, IsTaken, SatelliteRow, Stamped, FileValue, header_lines, satellite_line, event_lines, stamped_lines, file_lines, lines_of_parts, GoesTo, EndsHeader, NoneGoesOn}
+use Rattle.rinex_file.proofs.Names.{common_steps, Has, GoesOn, shown_of, arith, ◌≡◌, ◌∙◌, sym, ap, refl, ℕ, zero, suc, ◌+◌, ◌<◌, pos, List, [], ◌∷◌, ◌++◌, length, Option, IfSome, lit<, subst, take, drop, append-nil, inl, inr, AreBegunWith, None, Some, ⊤, map, flat_map, All-head, All-nil, length-map, nil_from_length, StationValues, civil_of, ParserState, Expected, Header, Epoch, EventPosition, EventHeight, EventEpoch, Satellite, IsChange, IsFileValue, AreBegun, IsEventBegun, lines_of_header, whole_lines, AreBefore, IsExpectedAt, Progress, IsPosition, shown_with, lines_after, stamped, Known, Shown, IsShown, IsHeadAt, file_with, StartsAt, IsInHeader, IsAt, IsAtEpoch, IsInEvent, position_of, HasLinesLeft, RefusesLine, IsSound, IsSoundAt, IsEventExpected, AreLinesAt, values_now, AreRead, AreLinesOf, History, FollowsHistory, progress_at, GoesOnWithLine, ShowsLine, IsTaken, SatelliteRow, Stamped, FileValue, header_lines, satellite_line, event_lines, stamped_lines, file_lines, lines_of_parts, GoesTo, EndsHeader, NoneGoesOn}
 
 some_lines : (xs : List (List ℕ)) → (xs ≡ [] → ⊥) → 0 < length xs
-some_lines [] some = absurd (some refl)
-some_lines (x ∷ xs) some = omega arith
+some_lines xs some = grind (arith, common_steps)
 
 -- ---- station values of a position that aren't these
 

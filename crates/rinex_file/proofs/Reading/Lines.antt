@@ -2,7 +2,7 @@
 use Rattle.rinex_file.specs.declared.read.fault.ReadFault.TheVariants.{Memory}
 use Rattle.rinex_file.proofs.Digits.Numbers.{has-append, lacks-append}
 use Rattle.rinex_file.proofs.Writing.Sent.{joined-append}
-use Rattle.rinex_file.proofs.Names.{arith, ◌≡◌, ◌∙◌, sym, ap, subst, refl, ℕ, zero, suc, ◌+◌, ◌-◌, ◌<◌, ◌≤◌, true, false, List, [], ◌∷◌, ◌++◌, length, take, drop, get_or, length-append, take-add, append_assoc, append-nil, Option, Some, IfSome, inl, is_some, ◌||◌, ◌==◌, nat_eq, nat_lt, min, All, ⊤, Bool, Ok, Consumes, IsAtEnd, prepend_known, min-eq_left, min-eq_right, min-le_left, min-le_right, le-min, false_from_ne_true, or_parts, or_right, append_cancel_left, length-take-le, take-append-drop, length_push, drop-take, drop-drop, take-take, Consumes-nil, Consumes-trans, All-head, All-tail, All-push, has, LeavesRest, AreMoved, MovesBytes, IsLine, IsTextOf, NoFileBegins, IsCutShort, IsTooLong, IsFaulty, ExplainsFault, IsNoFault, most_lines, ParserState, AddedRow, Reading, FileValue, IsFileValue, file_text, file_lines, History, with_line, GoesOnWithLine, ShowsLine, RefusesLine, ReadsNextLine, HasRead, IsWhole, IsTextOfOnly, file_at, IsTaken, FileBuilder, history_of, HasReadWhole, joined, ReadFault, Read, CutShort, TooLong, AreBegun, Progress, HasLinesLeft, AreLinesOf, HasReadLines, most_line}
+use Rattle.rinex_file.proofs.Names.{common_steps, arith, ◌≡◌, ◌∙◌, sym, ap, subst, refl, ℕ, zero, suc, ◌+◌, ◌-◌, ◌<◌, ◌≤◌, true, false, List, [], ◌∷◌, ◌++◌, length, take, drop, get_or, length-append, take-add, append_assoc, append-nil, Option, Some, IfSome, inl, is_some, ◌||◌, ◌==◌, nat_eq, nat_lt, min, All, ⊤, Bool, Ok, Consumes, IsAtEnd, prepend_known, min-eq_left, min-eq_right, min-le_left, min-le_right, le-min, false_from_ne_true, or_parts, or_right, append_cancel_left, length-take-le, take-append-drop, length_push, drop-take, drop-drop, take-take, Consumes-nil, Consumes-trans, All-head, All-tail, All-push, has, LeavesRest, AreMoved, MovesBytes, IsLine, IsTextOf, NoFileBegins, IsCutShort, IsTooLong, IsFaulty, ExplainsFault, IsNoFault, most_lines, ParserState, AddedRow, Reading, FileValue, IsFileValue, file_text, file_lines, History, with_line, GoesOnWithLine, ShowsLine, RefusesLine, ReadsNextLine, HasRead, IsWhole, IsTextOfOnly, file_at, IsTaken, FileBuilder, history_of, HasReadWhole, joined, ReadFault, Read, CutShort, TooLong, AreBegun, Progress, HasLinesLeft, AreLinesOf, HasReadLines, most_line}
 
 -- ---- bytes that are moved to a line
 
@@ -72,8 +72,7 @@ pub is_full : (n most : ℕ) → true ≡ nat_eq n most → n ≡ most
 is_full n most same = grind arith
 
 pub is_empty : (xs : List ℕ) → true ≡ nat_eq (length xs) 0 → xs ≡ []
-is_empty [] same = refl
-is_empty (x ∷ xs) same = let none : suc (length xs) ≡ 0 = is_full _ _ same in absurd (omega (arith, none))
+is_empty xs same = grind (arith, common_steps, is_full)
 
 pub not_empty : (n : ℕ) → false ≡ nat_eq n 0 → 0 < n
 not_empty n other = grind arith
@@ -129,8 +128,7 @@ are_more taken line are is = All-push IsLine taken line are is
 
 -- bytes without a line feed contain no line
 endless_lines : (more : List (List ℕ)) (bytes : List ℕ) → All IsLine more → has 10 bytes ≡ false → bytes ≡ joined more → more ≡ []
-endless_lines [] bytes are endless e = refl
-endless_lines (m ∷ ms) bytes are endless e = grind (arith, has-line, All-head, (has-line m (joined ms) (All-head IsLine m ms are)), (ap (has 10) (sym e) ∙ endless))
+endless_lines more bytes are endless e = grind (arith, common_steps, has-line, All-head)
 
 -- a short line isn't within bytes without a line feed
 not_within : (body x long rest : List ℕ) → has 10 long ≡ false → length body < length long → body ++ 10 ∷ x ≡ long ++ rest → ⊥
@@ -154,13 +152,11 @@ not_front m x long rest (body, e, endless) short none same = grind (arith, lengt
 
 not_first : (more : List (List ℕ)) (long rest : List ℕ) → All IsLine more → All IsShort more → length long ≡ most_line → has 10 long ≡ false → long ++ rest ≡ joined more → ⊥
 not_first [] long rest are short size endless e = grind (arith, length-append, (ap length e), (length-append long rest))
-not_first (m ∷ ms) long rest are short size endless e =
-    not_front m (joined ms) long rest (All-head IsLine m ms are) (omega (arith, (All-head IsShort m ms short), size)) endless (sym e)
+not_first (m ∷ ms) long rest are short size endless e = grind (arith, not_front, All-head)
 
 -- bytes after the largest number of lines are no lines of a file
 no_more : (lines more : List (List ℕ)) {all : List (List ℕ)} {rest : List ℕ} → all ≡ lines ++ more → rest ≡ joined more → length lines ≡ most_lines → length all ≤ most_lines → 0 < length rest → ⊥
-no_more lines [] split text many few some = grind arith
-no_more lines (m ∷ ms) split text many few some = grind (arith, length-append)
+no_more lines more split text many few some = grind (arith, common_steps, length-append)
 
 -- ---- what a reader returned
 

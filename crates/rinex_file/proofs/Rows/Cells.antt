@@ -27,11 +27,8 @@ set_place : (p : ℕ) {index : ℕ} (signals : List ℕ) {f g : ℕ → SignalVa
     → slice_set (map g signals) p (f index) ≡ map f signals
 unfolding IsDistinct
 set_place p [] within here apart same = absurd (omega (arith, within))
-set_place zero (s ∷ signals) {f} {g} within here apart same =
-    ap₂ (λ a l. a ∷ l) (ap f (sym here)) (sym (map_same f g signals (λ k d less. same (get_or signals k d) (λ e. eqb-false s (get_or signals k d) (All-from_recursion (λ y. nat_eq s y ≡ false) signals apart.0 k d less) (here ∙ sym e)))))
-set_place (suc p) {index} (s ∷ signals) {f} {g} within here apart same =
-    let other = All-from_recursion (λ y. nat_eq s y ≡ false) signals apart.0 p 0 (omega (arith, within)) in
-    ap₂ (λ a l. a ∷ l) (sym (same s (λ e. eqb-false s (get_or signals p 0) other (e ∙ sym here)))) (set_place p signals (omega (arith, within)) here apart.1 same)
+set_place zero (s ∷ signals) {f} {g} within here apart same = grind (arith, map_same, eqb-false, All-from_recursion)
+set_place (suc p) {index} (s ∷ signals) {f} {g} within here apart same = grind (arith, All-from_recursion, eqb-false, (set_place p signals (omega (arith, within)) here apart.1 same))
 
 -- ---- a satellite's cells
 
@@ -56,9 +53,7 @@ none_fit = record { c = tt; l = tt; d = tt; s = tt; lli = omega arith }
 -- what holds of the values of each cell, and if there is none, holds of those at a signal
 pub found_as : (P : Cell → Type 0) (Q : SignalValues → Type 0) (id index : ℕ) → ((c : Cell) → P c → Q (signal_values_of c)) → Q no_signal_values → (cells : List Cell) → All P cells → Q (signal_values_at cells id index)
 found_as P Q id index each none [] all = none
-found_as P Q id index each none (c ∷ cells) all =
-    cond_both (is_of_key id index c) (Some c) (find (is_of_key id index) cells) (λ o. Q (option_map_or signal_values_of o no_signal_values)) (λ is. each c (All-head P c cells all))
-    (λ isnt. found_as P Q id index each none cells (All-tail P c cells all))
+found_as P Q id index each none (c ∷ cells) all = grind (arith, cond_both, All-head, All-tail, (found_as P Q id index each none cells (All-tail P c cells all)))
 
 pub held_fits : (system : System) (c : Cell) → IsHeld system c → HaveRoom (signal_values_of c)
 held_fits system c h = record { c = if_fits c.c h.c; l = if_fits c.l h.l; d = if_fits c.d h.d; s = if_fits c.s h.s; lli = h.lli }

@@ -2,7 +2,7 @@
 use Rattle.rinex_file.proofs.HeaderRows.Texts.{trimmed-blanks}
 use Rattle.rinex_file.proofs.Rows.Cells.{none_fit, none_put, none_text, replaced}
 use Rattle.rinex_file.proofs.Rows.Sizes.{length-signals}
-use Rattle.rinex_file.proofs.Names.{arith, ◌≡◌, ◌≢◌, ◌∙◌, sym, ap, ap₂, refl, subst, ℕ, zero, suc, ◌+◌, ◌*◌, ◌-◌, ◌<◌, ◌≤◌, ◌%◌, ◌^◌, Bool, true, false, List, [], ◌∷◌, ◌++◌, take, drop, length, replicate, get_or, append_assoc, length-append, slice_set, nat_eq, flat_map, All, length-drop, length-take-le, length-replicate, length-set, take-append-le, drop-append-le, drop-drop, drop-take, take_at, flat_map-append, map, drop_all, Cell, signal_values_at, SignalValues, no_signal_values, HaveRoom, trimmed, signal_text, most_signals, AreApart, HasColumns, IsBlankBut, values_at}
+use Rattle.rinex_file.proofs.Names.{common_steps, arith, ◌≡◌, ◌≢◌, ◌∙◌, sym, ap, ap₂, refl, subst, ℕ, zero, suc, ◌+◌, ◌*◌, ◌-◌, ◌<◌, ◌≤◌, ◌%◌, ◌^◌, Bool, true, false, List, [], ◌∷◌, ◌++◌, take, drop, length, replicate, get_or, append_assoc, length-append, slice_set, nat_eq, flat_map, All, length-drop, length-take-le, length-replicate, length-set, take-append-le, drop-append-le, drop-drop, drop-take, take_at, flat_map-append, map, drop_all, Cell, signal_values_at, SignalValues, no_signal_values, HaveRoom, trimmed, signal_text, most_signals, AreApart, HasColumns, IsBlankBut, values_at}
 use Rattle.std.proofs.Math.Pow.{pow-lt}
 use Rattle.std.proofs.Common.{max, pow_mono, nat_lt, take-add}
 use Rattle.std.specs.Int.{bit_at, bit_not, leading_zeros, w64}
@@ -206,14 +206,7 @@ module _ {own m : ℕ} {all : List SignalValues} {row : List ℕ} (h : HasColumn
       ∙ sym (trimmed_filled front (take m h.shown) h.shown after) ∙ trimmed_filled front all h.shown (fills all h.shown (omega (arith, h.size, h.short)) (λ p. h.same p (omega arith)))
 
   pub blank_after : get_or row (3 + 64 * m) 0 ≡ 32
-  blank_after =
-      let (k, columns) = columns_are in
-      let at : 3 + 64 * m ≡ 3 + (length first + 0) = omega (arith, first_size) in
-      ap (λ n. get_or row n 0) at ∙ sym (get_or-drop 3 row (length first + 0) 0) ∙ ap (λ l. get_or l (length first + 0) 0) columns ∙ next first k where
-        next : (xs : List ℕ) (k : ℕ) → get_or (xs ++ (replicate k 32 ++ 32 ∷ [])) (length xs + 0) 0 ≡ 32
-        next [] zero = refl
-        next [] (suc k) = refl
-        next (x ∷ xs) k = let more : length (x ∷ xs) + 0 ≡ suc (length xs + 0) = omega arith in ap (λ n. get_or ((x ∷ xs) ++ (replicate k 32 ++ 32 ∷ [])) n 0) more ∙ next xs k
+  blank_after = grind (arith, common_steps, columns_are, first_size, get_or-drop)
 
   -- the row before the next line
   pub next_blank : own < 2 ^ most_signals → IsBlankBut own row

@@ -1,7 +1,7 @@
 -- Columns of a text whose blanks at the end were cut.
 use Rattle.rinex_file.proofs.OneReading.{signals_once}
 use Rattle.rinex_file.proofs.Rows.Written.{line_is, text_is}
-use Rattle.rinex_file.proofs.Names.{arith, ◌≡◌, ◌∙◌, sym, ap, ap₂, refl, ℕ, ◌+◌, ◌-◌, ◌*◌, ◌/◌, ◌%◌, ◌<◌, ◌≤◌, List, [], ◌∷◌, ◌++◌, length, take, drop, replicate, get_or, append-nil, length-append, inl, inr, flat_map, All, Bool, true, false, list_any, cases_lt, length-drop, length-take, length-take-le, length_push, take_all, drop_all, take-append-le, drop-append-le, take-replicate, drop-replicate, length-replicate, Any-from_list_any, list_any-from_Any, min-le_left, take-append-add, drop-append-add, take-append_seam, SignalValues, SatelliteRow, no_signal_values, AreSignalValues, has_some_value, AreEntries, IsEnded, filled_to, padded, field, signal_text, satellite_line, letter, row_text, ReadsExactly, some_if, number_of}
+use Rattle.rinex_file.proofs.Names.{common_steps, arith, ◌≡◌, ◌∙◌, sym, ap, ap₂, refl, ℕ, ◌+◌, ◌-◌, ◌*◌, ◌/◌, ◌%◌, ◌<◌, ◌≤◌, List, [], ◌∷◌, ◌++◌, length, take, drop, replicate, get_or, append-nil, length-append, inl, inr, flat_map, All, Bool, true, false, list_any, cases_lt, length-drop, length-take, length-take-le, length_push, take_all, drop_all, take-append-le, drop-append-le, take-replicate, drop-replicate, length-replicate, Any-from_list_any, list_any-from_Any, min-le_left, take-append-add, drop-append-add, take-append_seam, SignalValues, SatelliteRow, no_signal_values, AreSignalValues, has_some_value, AreEntries, IsEnded, filled_to, padded, field, signal_text, satellite_line, letter, row_text, ReadsExactly, some_if, number_of}
 
 -- a text of the whole width is not padded
 pub filled_whole : (n : ℕ) (text : List ℕ) → length text ≡ n → filled_to n text ≡ text
@@ -109,10 +109,7 @@ all_read text values size end short each is shown = grind (arith, take_all, leng
 
 -- the padded text of a line without its line feed
 pub filled_line : (line text : List ℕ) (n : ℕ) (t : List ℕ) → text ≡ take (length line - 1) line → line ≡ t ++ 10 ∷ [] → filled_to n text ≡ t ++ replicate (n - length t) 32
-filled_line line text n t cut is =
-    let size : length line ≡ length t + 1 = ap length is ∙ length_push t 10 in
-    let same : text ≡ t = cut ∙ ap₂ (λ (k : ℕ) (l : List ℕ). take k l) (omega (arith, size)) is ∙ take-append_seam t (10 ∷ []) in
-    ap (filled_to n) same
+filled_line line text n t cut is = grind (arith, common_steps, length_push, take-append_seam)
 
 -- letter, number and signals
 row_is : (text : List ℕ) {letter : ℕ} (id n : ℕ) (es : List SignalValues) → 3 ≤ length text → get_or text 0 0 ≡ letter → padded 2 id ≡ get_or text 1 0 ∷ get_or text 2 0 ∷ []

@@ -1,5 +1,5 @@
 -- A text whose trailing blanks were cut is restored by padding it.
-use Rattle.rinex_file.proofs.Names.{arith, ◌≡◌, ℕ, suc, ◌+◌, ◌-◌, ◌<◌, ◌≤◌, List, [], ◌∷◌, ◌++◌, length, replicate, take, get_or, refl, sym, ap, ◌∙◌, true, false, length-append, ◌==◌, if◌then◌else◌, length-replicate, take_all, take_more, eqb-true, trimmed, before_cut}
+use Rattle.rinex_file.proofs.Names.{common_steps, arith, ◌≡◌, ℕ, suc, ◌+◌, ◌-◌, ◌<◌, ◌≤◌, List, [], ◌∷◌, ◌++◌, length, replicate, take, get_or, refl, sym, ap, ◌∙◌, true, false, length-append, ◌==◌, if◌then◌else◌, length-replicate, take_all, take_more, eqb-true, trimmed, before_cut}
 
 -- some blanks make the text whole
 abbrev FilledTo : List ℕ → List ℕ → Type 0
@@ -38,8 +38,7 @@ trimmed-blank [] = refl
 trimmed-blank (b ∷ bs) = ap (before_cut b) (trimmed-blank bs)
 
 keeps : (b : ℕ) (xs : List ℕ) (c : ℕ) → before_cut b (xs ++ c ∷ []) ≡ b ∷ (xs ++ c ∷ [])
-keeps b [] c = refl
-keeps b (x ∷ xs) c = refl
+keeps b xs c = grind (arith, common_steps)
 
 before_cut-other : (b : ℕ) → (b ≡ 32 → ⊥) → before_cut b [] ≡ b ∷ []
 before_cut-other b other = grind arith
@@ -59,15 +58,10 @@ cut_enough text n h other = take_more text n 0 h ∙ sym (trimmed-other (take n 
 
 -- and those on the whole text
 pub cut_last : (text rest : List ℕ) (n : ℕ) → n ≡ length text → 0 < n → get_or text (n - 1) 0 ≡ 32 → rest ≡ take (n - 1) text → trimmed rest ≡ trimmed text
-cut_last text rest n size some blank is =
-    let whole : n - 1 + 1 ≡ length text = omega (arith, size, some) in
-    ap trimmed is ∙ sym (cut_more text (n - 1) (omega (arith, size, some)) blank) ∙ ap trimmed (ap (λ k. take k text) whole ∙ take_all (length text) text (omega arith))
+cut_last text rest n size some blank is = grind (arith, common_steps, cut_more, take_all)
 
 pub uncut : (text : List ℕ) (n : ℕ) → n ≡ length text → 0 < n → (get_or text (n - 1) 0 ≡ 32 → ⊥) → text ≡ trimmed text
-uncut text n size some other =
-    let whole : n - 1 + 1 ≡ length text = omega (arith, size, some) in
-    let all : take (n - 1 + 1) text ≡ text = ap (λ k. take k text) whole ∙ take_all (length text) text (omega arith) in
-    sym all ∙ cut_enough text (n - 1) (omega (arith, size, some)) other ∙ ap trimmed all
+uncut text n size some other = grind (arith, common_steps, take_all, cut_enough)
 
 in_front : (b : ℕ) (l : List ℕ) → (b ≡ 32 → ⊥) → before_cut b l ≡ b ∷ l
 in_front b l other = grind (arith, before_cut-other)

@@ -6,7 +6,7 @@ use Rattle.gnss_system.specs.Systems.{systems, index_of, before, after}
 use Rattle.gnss_system.specs.Satellites.{satellites as satellites_in}
 use Rattle.gnss_system.proofs.SystemLaws.{systems_split, systems_taken}
 use Rattle.rinex_file.proofs.Entries.{flat_map-append}
-use Rattle.rinex_file.proofs.Names.{arith, ◌≡◌, ◌∙◌, sym, ap, ap₂, refl, subst, ℕ, zero, suc, ◌+◌, ◌-◌, ◌≤◌, List, [], ◌∷◌, ◌++◌, length, append_assoc, append-nil, length-append, Option, Bool, true, false, Result, OnOk, OnErr, map, if◌then◌else◌, IfErr, Appends, Appends-trans, map-append, length-map, filter-append, AppendsPrefix, HasFailed, System, Cell, cells_of, flat_map, take, take_all, civil_of, PlanValue, EpochValue, is_written, written_among, satellites_written, joined, written_satellites, row_among, row_in_epoch, rows_of, satellite_line, epoch_line, StationValues, position_line, delta_line, event_line, event_text, line_among, line_or_none, lines_up_to, lines_of_systems, epoch_text}
+use Rattle.rinex_file.proofs.Names.{common_steps, arith, ◌≡◌, ◌∙◌, sym, ap, ap₂, refl, subst, ℕ, zero, suc, ◌+◌, ◌-◌, ◌≤◌, List, [], ◌∷◌, ◌++◌, length, append_assoc, append-nil, length-append, Option, Bool, true, false, Result, OnOk, OnErr, map, if◌then◌else◌, IfErr, Appends, Appends-trans, map-append, length-map, filter-append, AppendsPrefix, HasFailed, System, Cell, cells_of, flat_map, take, take_all, civil_of, PlanValue, EpochValue, is_written, written_among, satellites_written, joined, written_satellites, row_among, row_in_epoch, rows_of, satellite_line, epoch_line, StationValues, position_line, delta_line, event_line, event_text, line_among, line_or_none, lines_up_to, lines_of_systems, epoch_text}
 
 -- a part of the first is a part of both
 pub part_first : (a c : Option (List ℕ)) {text : List ℕ} (next rest : List ℕ) → text ≡ next ++ rest → AppendsPrefix a c next → AppendsPrefix a c text
@@ -107,9 +107,7 @@ length-rows p e = length-over p e systems
 lines_over : (p : PlanValue) (e : EpochValue) (ss : List System) → joined (map satellite_line (flat_map (rows_of p e) ss)) ≡ lines_of_systems p e ss
 unfolding lines_up_to
 lines_over p e [] = refl
-lines_over p e (s ∷ ss) =
-    ap joined (map-append satellite_line (rows_of p e s) (flat_map (rows_of p e) ss))
-    ∙ joined-append (map satellite_line (rows_of p e s)) (map satellite_line (flat_map (rows_of p e) ss)) ∙ ap (λ l. joined (map satellite_line (rows_of p e s)) ++ l) (lines_over p e ss)
+lines_over p e (s ∷ ss) = grind (arith, map-append, joined-append, (lines_over p e ss))
 
 -- the lines of an epoch: its own, and those of the systems
 pub epoch_parts : (p : PlanValue) (e : EpochValue) → epoch_text p e ≡ epoch_line (civil_of e.time) (satellites_written e) ++ lines_of_systems p e systems
@@ -122,14 +120,10 @@ epoch_parts p e =
 module _ (p : PlanValue) (e : EpochValue) where
   -- those of one more system, and those of the others after them
   pub lines_next : (n : ℕ) (s : System) → index_of s ≡ n → lines_of_systems p e (take (n + 1) systems) ≡ lines_of_systems p e (take n systems) ++ lines_up_to p e s (satellites_in s)
-  lines_next n s at =
-      ap (lines_of_systems p e) (systems_taken n s at) ∙ flat_map-append (λ s. lines_up_to p e s (satellites_in s)) (take n systems) (s ∷ [])
-      ∙ ap (λ l. lines_of_systems p e (take n systems) ++ l) (append-nil (lines_up_to p e s (satellites_in s)))
+  lines_next n s at = grind (arith, common_steps, systems_taken, flat_map-append, append-nil)
 
   pub lines_after : (n : ℕ) (s : System) → index_of s ≡ n → lines_of_systems p e systems ≡ lines_of_systems p e (take n systems) ++ (lines_up_to p e s (satellites_in s) ++ lines_of_systems p e (after s))
-  lines_after n s at =
-      ap (lines_of_systems p e) (systems_split s) ∙ flat_map-append (λ s. lines_up_to p e s (satellites_in s)) (before s) (s ∷ after s)
-      ∙ ap (λ (m : ℕ). lines_of_systems p e (take m systems) ++ (lines_up_to p e s (satellites_in s) ++ lines_of_systems p e (after s))) at
+  lines_after n s at = grind (arith, common_steps, systems_split, flat_map-append)
 
   pub lines_all : (n : ℕ) → length systems ≤ n → lines_of_systems p e (take n systems) ≡ lines_of_systems p e systems
   lines_all n h = ap (lines_of_systems p e) (take_all n systems h)

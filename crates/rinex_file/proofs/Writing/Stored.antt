@@ -2,7 +2,7 @@
 use Rattle.rinex_file.proofs.Reading.Epochs.{few_signals_of}
 use Rattle.rinex_file.proofs.Rows.Sizes.{few_numbers}
 use Rattle.rinex_file.proofs.Writing.Sent.{joined-append}
-use Rattle.rinex_file.proofs.Names.{arith, ◌≡◌, ◌∙◌, sym, ap, ap₂, refl, ℕ, ◌+◌, ◌<◌, ◌≤◌, List, [], ◌∷◌, ◌++◌, length, take, get_or, append_assoc, append-nil, All, map, flat_map, take_all, take_more, flat_map-append, flat_map-map, System, civil_of, SatelliteRow, Stamped, FileValue, IsSatelliteRow, IsFileValue, header_lines, joined, epoch_line, satellite_line, header_text, change_lines, stamped_lines, file_text, lines_of_parts, HasRoom, HaveRowsRoom, stamped_text, most_signals}
+use Rattle.rinex_file.proofs.Names.{common_steps, arith, ◌≡◌, ◌∙◌, sym, ap, ap₂, refl, ℕ, ◌+◌, ◌<◌, ◌≤◌, List, [], ◌∷◌, ◌++◌, length, take, get_or, append_assoc, append-nil, All, map, flat_map, take_all, take_more, flat_map-append, flat_map-map, System, civil_of, SatelliteRow, Stamped, FileValue, IsSatelliteRow, IsFileValue, header_lines, joined, epoch_line, satellite_line, header_text, change_lines, stamped_lines, file_text, lines_of_parts, HasRoom, HaveRowsRoom, stamped_text, most_signals}
 
 has_room : (signals : System → ℕ) (s : SatelliteRow) → ((t : System) → signals t ≤ most_signals) → IsSatelliteRow signals s → HasRoom s
 has_room signals s few is = (few_numbers s.system s.row.satellite is.row.satellite.1, is.row.signal_values, let whole = is.row.whole in omega (arith, whole, few s.system))
@@ -19,11 +19,7 @@ joined_parts (e ∷ es) = joined-append (stamped_lines e) (flat_map stamped_line
 -- the text of one more was appended
 pub one_more : {A : Type 0} (f : A → List ℕ) (xs : List A) (i : ℕ) {x : A} (front : List ℕ) {old new : List ℕ} → i < length xs → x ≡ get_or xs i x
     → old ≡ front ++ flat_map f (take i xs) → new ≡ old ++ f x → new ≡ front ++ flat_map f (take (i + 1) xs)
-one_more f xs i {x} front less at before after =
-    let so_far = flat_map f (take i xs) in
-    let all : flat_map f (take (i + 1) xs) ≡ so_far ++ f x =
-    ap (flat_map f) (take_more xs i x less) ∙ flat_map-append f (take i xs) (get_or xs i x ∷ []) ∙ ap (λ t. so_far ++ t) (append-nil (f (get_or xs i x)) ∙ ap f (sym at)) in
-    after ∙ ap (λ l. l ++ f x) before ∙ append_assoc front so_far (f x) ∙ ap (λ t. front ++ t) (sym all)
+one_more f xs i front less at before after = grind (arith, common_steps, take_more, flat_map-append, append-nil, append_assoc)
 
 -- change, epoch line and satellites were appended
 pub epoch_whole : {v e : Stamped} {rows : List SatelliteRow} (old : List ℕ) {mid line text new : List ℕ} → v ≡ e → rows ≡ v.rows → mid ≡ old ++ joined (change_lines v.change) → line ≡ epoch_line (civil_of v.time) (length rows)
