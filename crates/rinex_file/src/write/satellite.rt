@@ -6,7 +6,7 @@ ghost use Rattle.gnss_system.specs.Satellites.{letter, number_of};
 ghost use Rattle.gnss_system.specs.Signals.{most_signals};
 ghost use Rattle.gnss_obs.specs.Values.{AreHeld};
 ghost use Rattle.rinex_file.specs.FileValues.{FitsColumns, HaveRoom};
-ghost use Rattle.rinex_file.specs.Value.{entries_of, signal_values_of, satellite_row, row_among, row_in_epoch};
+ghost use Rattle.rinex_file.specs.Value.{entries_of, satellite_row, row_among, row_in_epoch};
 ghost use Rattle.rinex_file.specs.Numbers.{padded};
 ghost use Rattle.rinex_file.specs.Blanks.{trimmed};
 ghost use Rattle.rinex_file.specs.Lines.{field, strength_byte, signal_text, satellite_line};
@@ -121,21 +121,6 @@ impl<'a> Model for ValueRefs<'a> {
     ghost view = { λ v. record { c = v.c.now; l = v.l.now; d = v.d.now; s = v.s.now; lli = v.lli.now } };
 }
 
-impl<'a> ValueRefs<'a> {
-    /// Returns the values of a cell.
-    fn of(cell: &'a Cell) -> ValueRefs<'a>
-        ensures { result ≡ signal_values_of cell.now }
-    {
-        ValueRefs {
-            c: &cell.c,
-            l: &cell.l,
-            d: &cell.d,
-            s: &cell.s,
-            lli: &cell.lli,
-        }
-    }
-}
-
 /// Writes the columns of a signal.
 #[inline(always)]
 #[tactic(auto, unfolding(crate::specs::Lines::signal_text))]
@@ -216,7 +201,8 @@ fn put_cells(row: &mut [u8; MOST_LINE], cells: &[Cell], plan: &Plan, system: Sys
         if cell.satellite.id() == id
             && let Some(place) = signals.place(cell.signal)
         {
-            put_columns(row, place, &ValueRefs::of(cell));
+            let (c, l, d, s, lli) = (&cell.c, &cell.l, &cell.d, &cell.s, &cell.lli);
+            put_columns(row, place, &ValueRefs { c, l, d, s, lli });
             own |= 1 << place;
         }
     }
@@ -235,14 +221,8 @@ fn blank_columns(row: &mut [u8; MOST_LINE], places: u64)
     let mut left = places;
     while left != 0 {
         let place = left.trailing_zeros();
-        let values = ValueRefs {
-            c: &none,
-            l: &none,
-            d: &none,
-            s: &none,
-            lli: &zero,
-        };
-        put_columns(row, place as usize, &values);
+        let (c, l, d, s, lli) = (&none, &none, &none, &none, &zero);
+        put_columns(row, place as usize, &ValueRefs { c, l, d, s, lli });
         left &= !(1 << place);
     }
 }

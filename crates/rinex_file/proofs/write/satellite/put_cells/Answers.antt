@@ -4,7 +4,7 @@ use Rattle.rinex_file.proofs.Entries.{few_signals as short_table}
 use Rattle.rinex_file.proofs.Rows.Cells.{no_place, others_stay, other_stays, cell_put, held_fits}
 use Rattle.rinex_file.proofs.Rows.Columns.{few_with, no_cells, value_put}
 use Rattle.rinex_file.proofs.write.satellite.put_cells.Goals.{After-list-signals, else-id-via-else-id, else-id-via-then-id+in-None-1}
-use Rattle.rinex_file.proofs.Names.{arith, ◌≡◌, ◌∙◌, refl, sym, ap, ap₂, subst, ◌+◌, ◌-◌, ◌<◌, ◌≤◌, ◌∷◌, ℕ, List, length, drop, false, slice_index_or, ◌==◌, nat_eq, IsDistinct, drop_more, length-map, position, position-Some, Some, Cell, SignalAt, IsHeld, planned_of, few_signals, SignalValues, signal_values_at, entries_of, HaveRoom, slice_set, most_signals, HasColumns, ◌*◌, ◌^◌, ◌%◌}
+use Rattle.rinex_file.proofs.Names.{arith, ◌≡◌, ◌∙◌, refl, sym, ap, ap₂, subst, ◌+◌, ◌-◌, ◌<◌, ◌≤◌, ◌∷◌, ℕ, List, length, drop, false, slice_index_or, ◌==◌, nat_eq, IsDistinct, drop_more, length-map, position, position-Some, Some, Cell, SignalAt, IsHeld, planned_of, few_signals, SignalValues, signal_values_at, entries_of, signal_values_of, most_signals, HasColumns, ◌*◌, ◌^◌, ◌%◌}
 use Rattle.std.specs.Int.RustNames.{bit_or}
 use Rattle.rinex_file.proofs.write.satellite.put_cells.Goals as goal
 
@@ -56,11 +56,11 @@ loop-at-preserved-in-loop-at c =
     let (within, here, none) = position-Some (λ i. i == cell.signal.index) signals p 0 place in
     let size = length-map signals (signal_values_at rest id) in
     let most = few ((goal.at.loop-at-preserved-in-loop-at c).After-list-signals) in
-    let put = ap (λ (v : SignalValues). slice_set (entries_of c.args.plan.now c.args.system id rest) p v) c.of.ensures ∙ cell_put signals id p cell rest apart place own in
+    let put = cell_put signals id p cell rest apart place own in
     record {
       columns = λ used h. subst (λ (xs : List Cell). HasColumns used (bit_or c.loop-at.own (1 * 2 ^ p % 2 ^ 64)) (entries_of c.args.plan.now c.args.system id xs) c.put_columns.new.row)
           (sym (more cells at cell some inv.within c.index-cells-at.is))
-          (value_put c.of.result (subst HaveRoom (sym c.of.ensures) (held_fits c.args.system cell held)) (omega (arith, size, within)) put c.put_columns.ensures.columns (inv.columns used h));
+          (value_put (signal_values_of cell) (held_fits c.args.system cell held) (omega (arith, size, within)) put c.put_columns.ensures.columns (inv.columns used h));
       front = c.put_columns.ensures.front ∙ inv.front;
       within = omega (arith, inv.within);
       few = few_with c.loop-at.own p inv.few (omega (arith, within, most));
