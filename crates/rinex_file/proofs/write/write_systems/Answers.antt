@@ -8,18 +8,7 @@ pub loop-i-init : goal.loop-i-init
 loop-i-init g c = record { out = Appends-nil (g.W.Write.contents c.args.writer.now.inner); blank = blank_row; fine = refl; widest = refl }
 
 pub loop-i-preserved : goal.loop-i-preserved
-loop-i-preserved g c =
-    let contents = g.W.Write.contents in
-    let a = contents c.args.writer.now.inner in
-    let d = contents c.write_system.new.writer.inner in
-    let inv = c.loop-i.invariant in
-    record {
-      out = subst (λ l. Appends a d l) (sym (lines_next c.args.plan.now c.args.epoch.now.epoch c.loop-i.i c.at.result c.at.ensures))
-          (Appends-trans a (contents c.loop-i.writer.inner) d _ _ inv.out c.in_ok-write_system.ensures.whole);
-      blank = c.in_ok-write_system.ensures.blank;
-      fine = grind (arith, c.in_ok-write_system.ensures, inv.fine);
-      widest = grind (arith, c.in_ok-write_system.ensures, inv.widest);
-    }
+loop-i-preserved g c = grind (arith, c.loop-i.invariant, c.at.ensures, c.in_ok-write_system.ensures.whole, c.in_ok-write_system.ensures.blank, c.in_ok-write_system.ensures, lines_next, Appends-trans)
 
 pub returns-in_err-write_system-clause-part : goal.returns-in_err-write_system-clause-part
 returns-in_err-write_system-clause-part g c =
@@ -34,7 +23,4 @@ returns-in_err-write_system-clause-part g c =
     (part_first b d (lines_up_to p e s (satellites s)) (lines_of_systems p e (after s)) refl c.in_err-write_system.ensures.part))
 
 pub returns-clause-whole : goal.returns-clause-whole
-returns-clause-whole g c =
-    let contents = g.W.Write.contents in
-    subst (λ l. Appends (contents c.args.writer.now.inner) (contents c.loop-i.writer.inner) l)
-    (lines_all c.args.plan.now c.args.epoch.now.epoch c.loop-i.i (let end = c.loop-i-test.false in omega (arith, end))) c.loop-i.invariant.out
+returns-clause-whole g c = grind (arith, c.loop-i-test.false, c.loop-i.invariant.out, lines_all)

@@ -4,8 +4,7 @@ use Rattle.rinex_file.proofs.Names.{◌∙◌, sym, ap, ℕ, [], ◌∷◌, code
 use Rattle.rinex_file.proofs.header.head.line_of.Goals as goal
 
 few_rows : (p : PlanValue) (row n : ℕ) → has_line p (Slots row) ≡ true → n ≡ length (slots_of p.channels) → n ≤ slot_count → row ≤ 100
-few_rows p zero n has e few = omega arith
-few_rows p (suc row) n has e few = let rows = is_less (suc row) (slot_rows (length (slots_of p.channels))) has in omega (arith, rows, e, few)
+few_rows p row n has e few = grind (arith, is_less)
 
 pub returns-in-Version : goal.returns-in-Version
 unfolding row_line
@@ -54,9 +53,7 @@ unfolding row_line
 returns-in-End c = let h = c.args.head.now in c.labelled-in-End.ensures ∙ ap (row_line h.texts.now h.plan.now h.values (civil_of h.first)) (sym c.in-End.is)
 
 pub slots_with-requires : goal.slots_with-requires
-slots_with-requires c =
-    let p = c.args.head.now.plan.now in
-    few_rows p c.in-Slots.row c.slots_in.result (sym (ap (has_line p) c.in-Slots.is) ∙ c.requires) (c.slots_in.ensures.value ∙ ap (λ x. length (slots_of x)) c.channels-channels.ensures) c.slots_in.ensures.bound
+slots_with-requires c = grind (arith, c.in-Slots.is, c.requires, c.slots_in.ensures.value, c.channels-channels.ensures, c.slots_in.ensures.bound, few_rows)
 
 pub returns-in-Slots : goal.returns-in-Slots
 unfolding row_line

@@ -6,12 +6,7 @@ use Rattle.rinex_file.proofs.Names.{arith, ◌∙◌, ap, refl, is_some, Err, []
 use Rattle.rinex_file.proofs.read.epochs.next_epoch.Goals as goal
 
 pub loop-added-init : goal.loop-added-init
-loop-added-init g c = record {
-  read = λ es input read. ([], read, omega arith);
-  some = c.requires;
-  left = leaves_all _;
-  same = refl;
-}
+loop-added-init g c = grind (arith, c.requires, leaves_all)
 
 pub next-requires : goal.next-requires
 next-requires g c =

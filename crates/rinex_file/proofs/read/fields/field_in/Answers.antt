@@ -41,11 +41,7 @@ returns-then-text-at-2 c = λ w fits is.
     c.if-text-at-2.true strength
 
 pub value_in-requires-clause-sign : goal.value_in-requires-clause-sign
-value_in-requires-clause-sign c =
-    let is = lanes_are c.args.text.now c.args.at in
-    let columns = take 16 (drop c.args.at c.args.text.now) in
-    let few : c.blanks_in-empty.result < 16 = omega (arith, c.if-empty-gt9.false) in
-    ap (λ b. b == 45) (sym (lane_is c.args.text.now c.args.at c.blanks_in-empty.result few) ∙ ap₂ (λ r k. get_or r k 0) (sym is) c.blanks_in-empty.ensures.count)
+value_in-requires-clause-sign c = grind (arith, c.if-empty-gt9.false, c.blanks_in-empty.ensures.count, lanes_are, lane_is)
 
 pub value_in-requires-clause-first : goal.value_in-requires-clause-first
 value_in-requires-clause-first c =
@@ -53,12 +49,7 @@ value_in-requires-clause-first c =
     sym (ap (λ r. get_or r start 0) (lanes_are c.args.text.now c.args.at) ∙ lane_is c.args.text.now c.args.at start (grind (arith, c.from.ensures, c.if-empty-gt9.false)))
 
 pub returns-in-Some : goal.returns-in-Some
-returns-in-Some c =
-    let is = lanes_are c.args.text.now c.args.at in
-    let lost = ap (λ r. get_or r 14 0) is ∙ lane_is c.args.text.now c.args.at 14 (omega arith) ∙ c.if-text-at.false in
-    let strength = ap (λ r. get_or r 15 0) is ∙ lane_is c.args.text.now c.args.at 15 (omega arith) ∙ c.if-text-at-2.false in
-    let shows = sym is ∙ c.in-Some.ensures.1 ∙ ap₂ (λ a b. field (Some c.in-Some.value) a b) lost strength in
-    (c.in-Some.ensures.0, shows, λ w fits e. field_once _ _ c.args.lost c.args.strength fits c.in-Some.ensures.0 (sym e ∙ shows))
+returns-in-Some c = grind (arith, c.if-text-at.false, c.if-text-at-2.false, c.in-Some.ensures.1, c.in-Some.ensures.0, lanes_are, lane_is, field_once)
 
 pub returns-in-None : goal.returns-in-None
 returns-in-None c = λ w fits e.

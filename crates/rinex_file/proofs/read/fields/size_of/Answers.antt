@@ -28,11 +28,7 @@ pub overflow_mul-result : goal.overflow_mul-result
 overflow_mul-result c = let high = halves ((goal.at.overflow_mul-result c).After-eights) 0 in omega (arith, high)
 
 pub overflow_add-result : goal.overflow_add-result
-overflow_add-result c =
-    let at = (goal.at.overflow_add-result c).After-eights in
-    let high = halves at 0 in
-    let low = halves at 1 in
-    omega (arith, high, low)
+overflow_add-result c = grind (arith, halves)
 
 sum : (c : After-eights) → get_or c.eights.result 0 0 * 100_000_000 + get_or c.eights.result 1 0 ≡ size_l c.args.digits
 sum c = ap (λ es. get_or es 0 0 * 100_000_000 + get_or es 1 0) (c.eights.ensures ∙ ap (twos_of 10_000) (c.fours.ensures ∙ ap (twos_of 100) c.twos.ensures))

@@ -5,15 +5,10 @@ use Rattle.rinex_file.proofs.read.file.read_lines.Goals as goal
 
 -- a fact that holds if there was no error
 kept : {A E : Type 0} (r : Result A E) (P : Type 0) → is_err r ≡ false → OnOk r P → P
-kept (Ok x) P fine p = p
-kept (Err x) P fine p = cc
+kept r P fine p = grind arith
 
 pub loop-added-init : goal.loop-added-init
-loop-added-init g c = record {
-  read = (nothing, c.requires.read, λ stored. c.requires.none);
-  left = leaves_all _;
-  same = refl;
-}
+loop-added-init g c = grind (arith, c.requires.read, c.requires.none, leaves_all)
 
 pub loop-added-preserved : goal.loop-added-preserved
 loop-added-preserved g c =

@@ -21,10 +21,7 @@ returns-then-move_to-clause-taken g c =
     (moved_taken _ _ _ c.loop-block.invariant.taken c.fill.ensures.same c.move_to.ensures, leaves_more _ _ _ c.loop-block.invariant.left c.fill.ensures.left)
 
 pub returns-then-move_to-clause-found : goal.returns-then-move_to-clause-found
-returns-then-move_to-clause-found g c = (
-  line_whole _ _ _ _ c.loop-block.invariant.endless (subst (λ (b : Bool). MovesBytes b c.fill.new.self c.move_to.new.self c.loop-block.line.items c.move_to.new.line.items) c.if-move_to.true c.move_to.ensures),
-  c.in_default.ensures.some.1 ∙ c.loop-block.invariant.same,
-)
+returns-then-move_to-clause-found g c = grind (arith, c.loop-block.invariant.endless, c.if-move_to.true, c.move_to.ensures, c.in_default.ensures.some.1, c.loop-block.invariant.same, line_whole)
 
 pub loop-block-preserved : goal.loop-block-preserved
 loop-block-preserved g c =
@@ -42,8 +39,7 @@ pub loop-block-init : goal.loop-block-init
 loop-block-init g c = grind (arith, Consumes-nil, leaves_all)
 
 pub returns-in-Some-clause-found : goal.returns-in-Some-clause-found
-returns-in-Some-clause-found g c = found_after c.in-Some.found _ _ _ c.loop-block.invariant.endless
-    (not_full _ _ (sym c.loop-block-test.true ∙ c.is_full.ensures.value) c.loop-block.invariant.within) c.loop-block.invariant.same c.in-Some.ensures.none
+returns-in-Some-clause-found g c = grind (arith, c.loop-block.invariant.endless, c.loop-block-test.true, c.is_full.ensures.value, c.loop-block.invariant.within, c.loop-block.invariant.same, c.in-Some.ensures.none, found_after, not_full)
 
 pub returns-clause-taken : goal.returns-clause-taken
 returns-clause-taken g c = (c.loop-block.invariant.taken, c.loop-block.invariant.left)

@@ -31,6 +31,4 @@ returns-in-None-clause-read c = λ es are shows.
     (sym (filled_part (64 * n) (64 * i) text (omega (arith, c.loop-i-test.true)) c.requires.room) ∙ ap (λ t. take 64 (drop (64 * i) t)) shows ∙ at)
 
 pub returns-clause-read : goal.returns-clause-read
-returns-clause-read c =
-    all_read c.args.text.now c.loop-i.values c.loop-i.auto.values c.loop-i-test.false c.requires.room c.loop-i.invariant.each
-    c.loop-i.invariant.some c.loop-i.invariant.text
+returns-clause-read c = grind (arith, c.loop-i-test.false, c.requires.room, c.loop-i.invariant.each, c.loop-i.invariant.some, c.loop-i.invariant.text, all_read)

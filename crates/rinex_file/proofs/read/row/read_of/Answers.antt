@@ -47,17 +47,11 @@ row_read : (all : Bool) {system : System} (signals : ℕ) {line columns : List �
     → (columns ≡ flat_map signal_text seen.row.signal_values → line ≡ satellite_line seen)
     → ((v : SatelliteRow) → IsRowOf system signals v → line ≡ satellite_line v → columns ≡ flat_map signal_text v.row.signal_values)
     → ReadsExactly (AreEntries signals) (flat_map signal_text) columns (some_if all seen.row.signal_values) → ReadsExactly (IsRowOf system signals) satellite_line line (some_if all seen)
-row_read true {system} signals {line} seen same number shown columns_of (are, is, only) =
-    let row : IsRowOf system signals seen = (same, record { satellite = number; signal_values = are.each; whole = are.whole; some = are.some }) in
-    (row, shown is, λ v also e. line_once system signals also row e (shown is))
-row_read false signals seen same number shown columns_of none = λ v is e.
-    none v.row.signal_values (record { each = is.1.signal_values; whole = is.1.whole; some = is.1.some }) (columns_of v is e)
+row_read all signals seen same number shown columns_of none = grind (arith, line_once)
 
 -- a list after all its elements were lent
 lent : (old new : List SignalValues) → length new ≡ length old → take (length old) (new ++ drop (length new) old) ≡ new
-lent old new size =
-    ap (λ l. take (length old) (new ++ l)) (drop_all (length new) old (omega (arith, size)))
-    ∙ ap (take (length old)) (append-nil new) ∙ take_all (length old) new (omega (arith, size))
+lent old new size = grind (arith, drop_all, append-nil, take_all)
 
 pub put_each_in-requires-clause-last : goal.put_each_in-requires-clause-last
 put_each_in-requires-clause-last c =

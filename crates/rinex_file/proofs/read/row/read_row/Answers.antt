@@ -11,10 +11,7 @@ has_signal : (most signals : ℕ) (r : Row) → IsRow most signals r → 0 < sig
 has_signal most signals r is = let (k, d, less, at, value) = is.some in omega (arith, less, is.whole)
 
 is_seen : (signals : System → ℕ) (system : System) (s : SatelliteRow) → IsRowOf system (signals system) s → IsSatelliteRow signals s
-is_seen signals system s (same, is) = record {
-  planned = subst (λ (r : System). 0 < signals r) (sym same) (has_signal (satellites system) (signals system) s.row is);
-  row = subst (λ (r : System). IsRow (satellites r) (signals r) s.row) (sym same) is;
-}
+is_seen signals system s (same, is) = grind (arith, has_signal)
 
 is_of : (signals : System → ℕ) (system : System) (s : SatelliteRow) → s.system ≡ system → IsSatelliteRow signals s → IsRowOf system (signals system) s
 is_of signals system s same is = (same, subst (λ (r : System). IsRow (satellites r) (signals r) s.row) same is.row)

@@ -47,9 +47,7 @@ loop-index-preserved c =
     }
 
 pub returns-clause-bound : goal.returns-clause-bound
-returns-clause-bound c =
-    let inv = c.loop-index.invariant in
-    subst (λ n. n ≤ slot_count) (sym inv.last) (last_bound 0 (slots_of c.loop-index.channels) (slots_are c.loop-index.channels inv.are))
+returns-clause-bound c = grind (arith, c.loop-index.invariant, last_bound, slots_are)
 
 pub returns-clause-taken : goal.returns-clause-taken
 returns-clause-taken c = λ count all l few.

@@ -7,9 +7,7 @@ use Rattle.rinex_file.proofs.read.types.take_signals.Goals as goal
 -- the index of the signal is below that of the first one of the next line, and there are that many
 there : {system : System} {all line : List ℕ} {row place end a count : ℕ} → AreTypes system all → line ≡ types_line system all row → signals_begun row ≤ place → place < end → end ≡ min a count → a ≡ signals_begun (row + 1)
     → length all ≡ count → count ≤ length (table system) → IsInLine system all line row place
-there {system} are is low less least next size bound =
-    let most = few_signals system in
-    record { are = are; few = omega (arith, size, bound, most); is = is; low = low; high = omega (arith, less, least, next); less = omega (arith, less, least, size) }
+there {system} are is low less least next size bound = grind (arith, few_signals)
 
 pub returns-in_default-clause-bad : goal.returns-in_default-clause-bad
 returns-in_default-clause-bad c = λ refused all are begun is.

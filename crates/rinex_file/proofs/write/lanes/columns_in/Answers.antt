@@ -2,7 +2,4 @@ use Rattle.rinex_file.proofs.Names.{arith, ◌≡◌, ◌∙◌, sym, ap, unsign
 use Rattle.rinex_file.proofs.write.lanes.columns_in.Goals as goal
 
 pub returns-clause-text : goal.returns-clause-text
-returns-clause-text c =
-    let v = c.args.value in
-    let is : to_z w64 (of_z w64 v) ≡ v = grind (arith, to_z-of_z) in
-    c.columns_with.ensures.text v c.requires (sym (ap is_negative is)) (c.digits.ensures ∙ ap (λ n. digit_columns n 0 0) (c.unsigned_abs.ensures.value ∙ ap unsigned_abs is))
+returns-clause-text c = grind (arith, c.columns_with.ensures.text, c.requires, c.digits.ensures, c.unsigned_abs.ensures.value, to_z-of_z)

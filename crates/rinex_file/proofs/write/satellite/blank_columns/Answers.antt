@@ -16,11 +16,7 @@ put_columns-requires-clause-few c =
     is_signal left (trailing_zeros w64 left) c.loop-left.invariant.few (is_left left c.loop-left-test.true (omega arith))
 
 pub loop-left-smaller : goal.loop-left-smaller
-loop-left-smaller c =
-    let left = c.loop-left.left in
-    let is = is_left left c.loop-left-test.true (omega arith) in
-    let low = is_signal left (trailing_zeros w64 left) c.loop-left.invariant.few is in
-    less_without left (trailing_zeros w64 left) (omega (arith, low)) is
+loop-left-smaller c = grind (arith, c.loop-left-test.true, c.loop-left.invariant.few, is_left, is_signal, less_without)
 
 pub loop-left-preserved : goal.loop-left-preserved
 loop-left-preserved c =

@@ -9,9 +9,7 @@ use Rattle.std.specs.Int.RustNames.{bit_or}
 use Rattle.rinex_file.proofs.write.satellite.put_cells.Goals as goal
 
 more : (cells : List Cell) (at : ℕ) (cell : Cell) → 0 < at → at ≤ length cells → cell ≡ slice_index_or cells (at - 1) cell → drop (at - 1) cells ≡ cell ∷ drop at cells
-more cells at cell some within is =
-    let back : at - 1 + 1 ≡ at = omega (arith, some) in
-    drop_more cells (at - 1) cell (omega (arith, within, some)) ∙ ap₂ (λ x n. x ∷ drop n cells) (sym is) back
+more cells at cell some within is = grind (arith, drop_more)
 
 few : (c : After-list-signals) → length (planned_of c.args.system c.args.plan.now) ≤ most_signals
 few c =
@@ -34,9 +32,7 @@ pub put_columns-requires-clause-few : goal.put_columns-requires-clause-few
 put_columns-requires-clause-few c = placed c.index-cells-at.result.signal.index _ c.in-Some.place (few ((goal.at.put_columns-requires-clause-few c).After-list-signals)) (in_plan c.index-cells-at.result.signal.index c.list-signals.ensures.indices (sym c.place.ensures ∙ c.in-Some.is))
 
 pub overflow_shl-own : goal.overflow_shl-own
-overflow_shl-own c =
-    let low = placed c.index-cells-at.result.signal.index _ c.in-Some.place (few ((goal.at.overflow_shl-own c).After-list-signals)) (in_plan c.index-cells-at.result.signal.index c.list-signals.ensures.indices (sym c.place.ensures ∙ c.in-Some.is)) in
-    omega (arith, low)
+overflow_shl-own c = grind (arith, c.list-signals.ensures.indices, c.place.ensures, c.in-Some.is, placed, few, in_plan)
 
 pub loop-at-preserved-in-loop-at : goal.loop-at-preserved-in-loop-at
 loop-at-preserved-in-loop-at c =

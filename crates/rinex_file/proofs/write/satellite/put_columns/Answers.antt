@@ -9,6 +9,4 @@ returns-clause-columns c all room less columns =
     columns_put c.args.row.now c.put_signal.new.columns c.args.place all c.args.values.now (omega (arith, size)) wide c.put_signal.ensures.text room less columns
 
 pub returns-clause-front : goal.returns-clause-front
-returns-clause-front c =
-    let size : length c.args.row.now ≡ most_line = omega arith in
-    front_kept c.args.row.now _ (64 * c.args.place) (omega (arith, size, c.requires.few))
+returns-clause-front c = grind (arith, c.requires.few, front_kept)

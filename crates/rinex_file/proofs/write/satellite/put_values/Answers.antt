@@ -18,6 +18,4 @@ loop-value-preserved c =
 
 pub returns-clause-text : goal.returns-clause-text
 unfolding satellite_line
-returns-clause-text c =
-    c.end_columns.ensures.text
-    ∙ ap (λ t. trimmed t ++ 10 ∷ []) (c.loop-value.invariant.shown ∙ ap (λ vs. (letter c.args.system ∷ padded 2 (number_of c.args.system c.args.id)) ++ flat_map signal_text vs) (take_all c.loop-value.value-index c.args.values.now c.loop-value-test.false))
+returns-clause-text c = grind (arith, c.end_columns.ensures.text, c.loop-value.invariant.shown, c.loop-value-test.false, take_all)

@@ -18,7 +18,4 @@ invariant_of-self c =
     (set_text _ c.args.field (trimmed text) c.self.invariant is)
 
 pub returns-clause-value : goal.returns-clause-value
-returns-clause-value c =
-    map-set (λ text. text.items) c.self.inside.texts c.place.result c.put.new.line
-    ∙ ap₂ (λ i t. set (map (λ text. text.items) c.self.inside.texts) i t) c.place.ensures.place (kept ((goal.at.returns-clause-value c).After-put))
-    ∙ ap (λ x. set x (place_of c.args.field) (trimmed c.args.text.now)) c.self.view_is
+returns-clause-value c = grind (arith, c.place.ensures.place, map-set, kept)

@@ -14,10 +14,7 @@ made signals channels = record { signals = signals; channels = channels }
 
 -- a plan has these channels, unless there are some without a signal of GLONASS
 with_own : (p : PlanValue) (signals : BySystem (List ℕ)) (channels : ChannelsValue) → p.signals ≡ signals → (value_of Glonass signals ≡ [] → channels ≡ no_channels) → with_channels p channels ≡ made signals channels
-with_own p signals channels e none = ap (λ (s : BySystem (List ℕ)). with_channels (made s p.channels) channels) e ∙ ap (made signals) (by (value_of Glonass signals) none) where
-  by : (xs : List ℕ) → (xs ≡ [] → channels ≡ no_channels) → (if is_nil xs then no_channels else channels) ≡ channels
-  by [] none = sym (none refl)
-  by (x ∷ xs) none = refl
+with_own p signals channels e none = grind arith
 
 -- the plan of what was read of the types and of the channels
 plan_read : (types : BySystem TypesSoFar) (channels : ChannelsValue) {lists : BySystem (Bor (List SignalAt))} {plan : PlanValue} → plan ≡ plan_with (map_by indices (map_by (λ l. l.now) lists))

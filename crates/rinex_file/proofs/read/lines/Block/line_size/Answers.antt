@@ -13,9 +13,7 @@ line_at held room n within (none, feed) =
     )
 
 line_of : (held : List ℕ) (r : Option ℕ) (most room n : ℕ) → room ≡ min (length held) most → IsFirstByte (is_byte 10) (take room held) r → r ≡ Some n → IsLine (take (n + 1) held)
-line_of held r most room n least first is =
-    let low = min-le_left (length held) most in
-    line_at held room n (omega (arith, least, low)) (subst (IsFirstByte (is_byte 10) (take room held)) is first)
+line_of held r most room n least first is = grind (arith, min-le_left, line_at)
 
 pub returns-in-Some-clause-whole : goal.returns-in-Some-clause-whole
 returns-in-Some-clause-whole c = λ some.

@@ -8,8 +8,7 @@ feed_at near n less is = ap (take 1) (drop-cons near n 0 less) ∙ ap (λ b. b �
 
 -- no line feed is before the first one
 first_feed : (near : List ℕ) (r : Option ℕ) (room feed : ℕ) → IsFirstByte (is_byte 10) near r → length near ≡ room → feed ≡ unwrap_or r room → IsFeed near feed
-first_feed near None room feed first size is = grind (arith, no_feed)
-first_feed near (Some n) room feed first size is = grind (arith, no_feed, feed_at)
+first_feed near r room feed first size is = grind (arith, no_feed, feed_at)
 
 in_room : (held : List ℕ) (r : Option ℕ) (most room feed : ℕ) → IsFirstByte (is_byte 10) (take room held) r → room ≡ min (length held) most → feed ≡ unwrap_or r room → IsFeed (take room held) feed
 in_room held r most room feed first least is =
@@ -17,6 +16,4 @@ in_room held r most room feed first least is =
     first_feed (take room held) r room feed first (length-take-le room held (omega (arith, least, low))) is
 
 pub returns : goal.returns
-returns c =
-    let first = in_room _ c.memchr.result _ c.min-room.result c.unwrap_or-feed.result c.memchr.ensures c.min-room.ensures c.unwrap_or-feed.ensures in
-    grind (arith, moved_of, moved, left_ahead, first)
+returns c = grind (arith, c.memchr.ensures, c.min-room.ensures, c.unwrap_or-feed.ensures, in_room, moved_of, moved, left_ahead)

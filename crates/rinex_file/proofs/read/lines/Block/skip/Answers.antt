@@ -3,12 +3,7 @@ use Rattle.rinex_file.proofs.Names.{arith, ◌≡◌, ◌∙◌, sym, ap, ℕ, L
 use Rattle.rinex_file.proofs.read.lines.Block.skip.Goals as goal
 
 few : (n count : ℕ) (xs now : List ℕ) → take n xs ≡ now → count ≤ length now → count ≤ n
-few n count xs now is most =
-    let size = sym (ap length is) ∙ length-take n xs in
-    let low = min-le_left n (length xs) in
-    omega (arith, most, size, low)
+few n count xs now is most = grind (arith, length-take, min-le_left)
 
 pub returns : goal.returns
-returns c =
-    let inside = c.self.inside in
-    left_ahead inside.bytes inside.at inside.end c.args.count (few _ c.args.count _ _ c.self.view_is c.requires) ∙ ap (drop c.args.count) c.self.view_is
+returns c = grind (arith, c.requires, left_ahead, few)

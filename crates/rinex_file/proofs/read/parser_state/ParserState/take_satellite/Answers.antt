@@ -103,17 +103,14 @@ returns-then-left-gt1 c = λ h history.
 
 -- the station values that changed last, after a change or none
 changed_or : (result change before : Option StationValues) (v : StationValues) → result ≡ option_or change before → changed_by v result ≡ changed_by (changed_by v before) change
-changed_or result None before v e = ap (changed_by v) e
-changed_or result (Some w) before v e = ap (changed_by v) e
+changed_or result change before v e = grind arith
 
 -- at most one event is counted
 event_room : (k : ℕ) (b : Bool) (n : ℕ) → k ≤ n → k + bool_byte b ≤ n + 1
-event_room k true n few = omega (arith, few)
-event_room k false n few = omega (arith, few)
+event_room k b n few = grind arith
 
 changed : (o : Option StationValues) (b : Bool) → b ≡ is_some o → bool_byte b ≡ changes_of o
-changed None b is = ap bool_byte is
-changed (Some v) b is = ap bool_byte is
+changed o b is = grind arith
 
 pub returns : goal.returns
 returns c = λ h history.

@@ -91,7 +91,4 @@ pub take-requires-clause-history : goal.take-requires-clause-history
 take-requires-clause-history g c = let (h, input, read) = c.requires in (h, read.history)
 
 pub take-requires-clause-room : goal.take-requires-clause-room
-take-requires-clause-room g c =
-    let (h, input, read) = c.requires in
-    let ((epochs, rows, events), few) = read.within in
-    (omega (arith, epochs, few), omega (arith, rows, few), omega (arith, events, few))
+take-requires-clause-room g c = grind (arith, c.requires)
