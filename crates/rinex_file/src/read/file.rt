@@ -101,11 +101,7 @@ impl FileBuilder {
         let head = parser_state.head;
         let lists = BySystem::each(|system| head.types.of(system).signals.as_slice());
         let plan = Plan::from_lists(self.alloc, &lists);
-        drop(parser_state.last_read);
-        drop(head.types);
-        drop(self.rows);
         let Ok(plan) = plan else {
-            drop(self.epochs);
             return None;
         };
         Some(ObsFile {

@@ -85,9 +85,6 @@ pub fn file_bytes(alloc: Global, file: &ObsFile) -> Result<Vec<u8>, AllocError>
     let mut text = Counted::new(Vec::new(alloc));
     match write_file(file, &mut text) {
         Ok(()) => Ok(text.into_inner()),
-        Err(_) => {
-            drop(text);
-            Err(AllocError)
-        }
+        Err(_) => Err(AllocError),
     }
 }
