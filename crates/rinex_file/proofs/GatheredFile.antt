@@ -7,7 +7,7 @@ use Rattle.rinex_file.proofs.Rows.Sizes.{few_satellites, if_fits}
 use Rattle.rinex_file.proofs.Rows.Cells.{found_as}
 use Rattle.rinex_file.proofs.FewRows.{rise-tail}
 use Rattle.rinex_file.proofs.Writing.Sent.{length-rows}
-use Rattle.rinex_file.proofs.Names.{◌≡◌, ℕ, zero, suc, ◌+◌, ◌*◌, ◌<◌, ◌≤◌, ◌==◌, Bool, true, false, ◌||◌, ◌&&◌, List, [], ◌∷◌, ◌++◌, map, length, get_or, refl, sym, ap, ◌∙◌, subst, arith, Option, Some, None, is_some, inl, inr, if◌then◌else◌, find, IsTrue, Any, All, option_map_or, AllByRecursion, IsDistinct, IsStrictlyIncreasing, and_parts, eqb-true, cases_Bool, map-append, flat_map-append, append-nil, flat_map, take, get_or-map, length-map, All-from_recursion, All-nil, All-cons, All-head, All-tail, All-append, All-push, All-map, All-weaker, All-filter, All-replicate, filter_passes, IsStrictlyIncreasing-filter, map-map, position-Some, System, Gps, Cell, PlanValue, EpochValue, Closed, same_values, cells_of, planned_of, has_value, is_written, place_in, IsGathered, AreGathered, IsGatheredEpoch, AreGatheredEpochs, TimesRise, AreStationValues, same_place, Decides-int_eq, StationValues, HeaderLists, numbers, written_satellites, no_signal_values, signal_values_of, is_of_key, signal_values_at, row_of, row_among, row_in_epoch, rows_of, change_from, stamped_after, all_stamped, AreTexts, AreValues, has_some_value, AreSignalValues, IsRow, planned_in, rank_of, IsSatelliteRow, IsStamped, IsChange, AreChanges, changed_by, time_stamped, IsFileValue, gathered, AreSignals, HasSatellite}
+use Rattle.rinex_file.proofs.Names.{common_steps, ◌≡◌, ℕ, zero, suc, ◌+◌, ◌*◌, ◌<◌, ◌≤◌, ◌==◌, Bool, true, false, ◌||◌, ◌&&◌, List, [], ◌∷◌, ◌++◌, map, length, get_or, refl, sym, ap, ◌∙◌, subst, arith, Option, Some, None, is_some, inl, inr, if◌then◌else◌, find, IsTrue, Any, All, option_map_or, AllByRecursion, IsDistinct, IsStrictlyIncreasing, and_parts, eqb-true, cases_Bool, map-append, flat_map-append, append-nil, flat_map, take, get_or-map, length-map, All-from_recursion, All-nil, All-cons, All-head, All-tail, All-append, All-push, All-map, All-weaker, All-filter, All-replicate, filter_passes, IsStrictlyIncreasing-filter, map-map, position-Some, System, Gps, Cell, PlanValue, EpochValue, Closed, same_values, cells_of, planned_of, has_value, is_written, place_in, IsGathered, AreGathered, IsGatheredEpoch, AreGatheredEpochs, TimesRise, AreStationValues, same_place, Decides-int_eq, StationValues, HeaderLists, numbers, written_satellites, no_signal_values, signal_values_of, is_of_key, signal_values_at, row_of, row_among, row_in_epoch, rows_of, change_from, stamped_after, all_stamped, AreTexts, AreValues, has_some_value, AreSignalValues, IsRow, planned_in, rank_of, IsSatelliteRow, IsStamped, IsChange, AreChanges, changed_by, time_stamped, IsFileValue, gathered, AreSignals, HasSatellite}
 
 -- ---- numbers in ascending order
 
@@ -27,14 +27,11 @@ IsUpTo most i = (1 ≤ i) × (i ≤ most)
 
 numbers_within : (n : ℕ) → All (IsUpTo n) (numbers n)
 numbers_within zero = All-nil (IsUpTo 0)
-numbers_within (suc n) =
-    All-push (IsUpTo (suc n)) (numbers n) (suc n) (All-weaker (IsUpTo n) (IsUpTo (suc n)) (λ i h. let most = h.1 in (h.0, omega (arith, most))) (numbers n) (numbers_within n)) (omega arith, omega arith)
+numbers_within (suc n) = grind (arith, common_steps, All-push, All-weaker, (numbers_within n))
 
 numbers_rise : (n : ℕ) → IsStrictlyIncreasing (numbers n)
 numbers_rise zero = λ k less. absurd (omega (arith, less))
-numbers_rise (suc n) =
-    below_all (suc n) (numbers n) (suc n ∷ []) (All-weaker (IsUpTo n) (λ x. x < suc n) (λ x h. let most = h.1 in omega (arith, most)) (numbers n) (numbers_within n))
-    (All-replicate (λ y. suc n ≤ y) 1 (suc n) (omega arith)) (numbers_rise n) (λ k less. absurd (omega (arith, less)))
+numbers_rise (suc n) = grind (arith, common_steps, below_all, All-weaker, numbers_within, All-replicate, (numbers_rise n))
 
 -- ---- entries
 

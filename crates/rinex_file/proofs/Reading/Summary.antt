@@ -1,6 +1,6 @@
 -- The counts of a file that was read whole, and the times of its epochs.
 use Rattle.rinex_file.proofs.Reading.Lines.{said_of}
-use Rattle.rinex_file.proofs.Names.{common_steps, arith, ◌≡◌, sym, ap, subst, refl, ℕ, ◌+◌, ◌<◌, List, [], ◌∷◌, length, Option, Some, None, IfSome, map, is_some, true, ParserState, EpochTimes, FileSummary, SatelliteRow, Stamped, FileValue, IsFileValue, time_stamped, file_text, History, AreTimesOrNone, IsSummary, IsTextWith, IsWhole, file_at}
+use Rattle.rinex_file.proofs.Names.{common_steps, arith, ◌≡◌, sym, ap, subst, ℕ, ◌+◌, ◌<◌, List, [], length, Option, Some, IfSome, map, is_some, true, ParserState, EpochTimes, FileSummary, SatelliteRow, Stamped, FileValue, IsFileValue, time_stamped, file_text, History, AreTimesOrNone, IsSummary, IsTextWith, IsWhole, file_at}
 
 no_rows_more : (n m : ℕ) (rows : List SatelliteRow) → n ≡ m + length rows → rows ≡ [] → n ≡ m
 no_rows_more n m rows e none = let zero : length rows ≡ 0 = ap length none in omega (arith, e, zero)

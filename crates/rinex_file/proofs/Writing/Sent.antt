@@ -6,7 +6,7 @@ use Rattle.gnss_system.specs.Systems.{systems, index_of, before, after}
 use Rattle.gnss_system.specs.Satellites.{satellites as satellites_in}
 use Rattle.gnss_system.proofs.SystemLaws.{systems_split, systems_taken}
 use Rattle.rinex_file.proofs.Entries.{flat_map-append}
-use Rattle.rinex_file.proofs.Names.{common_steps, arith, ◌≡◌, ◌∙◌, sym, ap, ap₂, refl, subst, ℕ, zero, suc, ◌+◌, ◌-◌, ◌≤◌, List, [], ◌∷◌, ◌++◌, length, append_assoc, append-nil, length-append, Option, Bool, true, false, Result, OnOk, OnErr, map, if◌then◌else◌, IfErr, Appends, Appends-trans, map-append, length-map, filter-append, AppendsPrefix, HasFailed, System, Cell, cells_of, flat_map, take, take_all, civil_of, PlanValue, EpochValue, is_written, written_among, satellites_written, joined, written_satellites, row_among, row_in_epoch, rows_of, satellite_line, epoch_line, StationValues, position_line, delta_line, event_line, event_text, line_among, line_or_none, lines_up_to, lines_of_systems, epoch_text}
+use Rattle.rinex_file.proofs.Names.{common_steps, arith, ◌≡◌, ◌∙◌, sym, ap, refl, subst, ℕ, zero, suc, ◌+◌, ◌-◌, ◌≤◌, List, [], ◌∷◌, ◌++◌, length, append_assoc, append-nil, length-append, Option, Bool, true, false, Result, OnOk, OnErr, map, if◌then◌else◌, IfErr, Appends, Appends-trans, map-append, length-map, filter-append, AppendsPrefix, HasFailed, System, Cell, cells_of, flat_map, take, take_all, civil_of, PlanValue, EpochValue, is_written, written_among, satellites_written, joined, written_satellites, row_among, row_in_epoch, rows_of, satellite_line, epoch_line, StationValues, position_line, delta_line, event_line, event_text, line_among, line_or_none, lines_up_to, lines_of_systems, epoch_text}
 
 -- a part of the first is a part of both
 pub part_first : (a c : Option (List ℕ)) {text : List ℕ} (next rest : List ℕ) → text ≡ next ++ rest → AppendsPrefix a c next → AppendsPrefix a c text
@@ -96,10 +96,7 @@ length-written cells (suc n) = grind (arith, filter-append, length-append, one_m
 
 length-over : (p : PlanValue) (e : EpochValue) (ss : List System) → length (flat_map (rows_of p e) ss) ≡ sum_by (λ s. written_among (cells_of s e) (satellites_in s)) ss
 length-over p e [] = refl
-length-over p e (s ∷ ss) =
-    length-append (rows_of p e s) (flat_map (rows_of p e) ss)
-    ∙ ap₂ (λ m n. m + n) (length-map (written_satellites (cells_of s e) (satellites_in s)) (row_in_epoch p e s) ∙ length-written (cells_of s e) (satellites_in s)) (length-over p e ss)
-    ∙ sym (sum_by-cons (λ s. written_among (cells_of s e) (satellites_in s)) s ss)
+length-over p e (s ∷ ss) = grind (arith, common_steps, length-append, length-map, length-written, sum_by-cons, (length-over p e ss))
 
 pub length-rows : (p : PlanValue) (e : EpochValue) → length (flat_map (rows_of p e) systems) ≡ satellites_written e
 length-rows p e = length-over p e systems

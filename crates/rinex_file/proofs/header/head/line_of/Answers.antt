@@ -1,6 +1,6 @@
 -- Each row's line is the one that the row's own function makes; a row that has no line for this plan has none here.
 use Rattle.rinex_file.proofs.HeaderRows.Types.{length-system_types}
-use Rattle.rinex_file.proofs.Names.{◌∙◌, sym, ap, ℕ, [], ◌∷◌, codes, civil_of, row_line, header_line, version_by, ◌++◌, ◌*◌, indices, length_indices, few_signals, letter, type_front, type_columns, type_line, types_of, codes_of, arith, zero, suc, true, length, ◌≡◌, ◌≤◌, PlanValue, has_line, is_less, Slots, slot_count, slot_rows, slots_line, slots_of, slots_with}
+use Rattle.rinex_file.proofs.Names.{◌∙◌, sym, ap, ℕ, [], ◌∷◌, codes, civil_of, row_line, header_line, version_by, ◌++◌, ◌*◌, indices, length_indices, few_signals, letter, type_front, type_columns, type_line, types_of, codes_of, arith, true, length, ◌≡◌, ◌≤◌, PlanValue, has_line, is_less, Slots, slot_count, slots_line, slots_of, slots_with}
 use Rattle.rinex_file.proofs.header.head.line_of.Goals as goal
 
 few_rows : (p : PlanValue) (row n : ℕ) → has_line p (Slots row) ≡ true → n ≡ length (slots_of p.channels) → n ≤ slot_count → row ≤ 100

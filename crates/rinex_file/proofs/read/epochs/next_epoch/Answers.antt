@@ -2,7 +2,7 @@ use Rattle.rinex_file.proofs.FileLines.{lines_are_lines, lines_are_short}
 use Rattle.rinex_file.proofs.Reading.Accepted.{first_epochs, one_epoch, same_epochs}
 use Rattle.rinex_file.proofs.Reading.Lines.{added_more, both_said, leaves_all, leaves_more, only_faults, the_end}
 use Rattle.rinex_file.proofs.Reading.Summary.{has_times, only_with, summed, text_with}
-use Rattle.rinex_file.proofs.Names.{arith, ◌∙◌, ap, refl, is_some, Err, [], IsSummaryOf}
+use Rattle.rinex_file.proofs.Names.{arith, ◌∙◌, ap, refl, is_some, Err, IsSummaryOf}
 use Rattle.rinex_file.proofs.read.epochs.next_epoch.Goals as goal
 
 pub loop-added-init : goal.loop-added-init

@@ -4,7 +4,7 @@ use Rattle.rinex_file.proofs.Fields.Lanes.{lanes_are, lane_is, sixteen_long}
 use Rattle.rinex_file.proofs.Fields.Values.{few_before, sixteen_blank}
 use Rattle.rinex_file.proofs.OneReading.{no_field, field_once, value_of}
 use Rattle.rinex_file.proofs.read.fields.field_in.Goals.{After-blanks_in-empty}
-use Rattle.rinex_file.proofs.Names.{arith, ◌≡◌, ◌∙◌, ap, ap₂, sym, ℤ, ℕ, ◌+◌, ◌<◌, take, drop, Option, Some, get_or, IfSome, ◌==◌, FitsColumns, blanks, field}
+use Rattle.rinex_file.proofs.Names.{arith, ◌≡◌, ◌∙◌, ap, ap₂, sym, ℤ, ℕ, ◌+◌, take, drop, Option, Some, get_or, IfSome, FitsColumns, blanks, field}
 use Rattle.rinex_file.proofs.read.fields.field_in.Goals as goal
 
 counted : (c : After-blanks_in-empty) → c.blanks_in-empty.result ≡ blanks (take 16 (drop c.args.at c.args.text.now))

@@ -1,6 +1,6 @@
 use Rattle.rinex_file.proofs.Reading.Lines.{added_more, the_end, leaves_all, leaves_more}
 use Rattle.rinex_file.proofs.read.file.read_lines.Goals.{else-is_stored-via-then-is_stored+else-is_err, else-is_stored-via-else-is_stored}
-use Rattle.rinex_file.proofs.Names.{arith, ◌≡◌, ◌∙◌, sym, ap, refl, true, false, is_some, Result, Ok, Err, OnOk, is_err, history_of, nothing, with_line}
+use Rattle.rinex_file.proofs.Names.{arith, ◌≡◌, ◌∙◌, sym, ap, true, false, is_some, Result, OnOk, is_err, history_of, with_line}
 use Rattle.rinex_file.proofs.read.file.read_lines.Goals as goal
 
 -- a fact that holds if there was no error

@@ -1,6 +1,6 @@
 use Rattle.rinex_file.proofs.HeaderRows.Texts.{not_same, not_printable, fields_from, refused_text, added_text, few_columns}
 use Rattle.rinex_file.proofs.Judged.{refused}
-use Rattle.rinex_file.proofs.Names.{arith, ◌≡◌, ◌∙◌, sym, ap, subst, refl, ◌≤◌, ◌+◌, ◌*◌, ℕ, List, Bool, true, false, IsTrue, ◌↔◌, Some, length, drop_all, HeaderField, TextRow, HeaderLists, fields_of, front_of, text_count, width_of, texts_line, ReadsOrRefusesTexts, texts_in}
+use Rattle.rinex_file.proofs.Names.{arith, ◌≡◌, ◌≤◌, ◌+◌, ◌*◌, ℕ, List, Bool, IsTrue, ◌↔◌, Some, length, drop_all, HeaderField, TextRow, HeaderLists, fields_of, front_of, text_count, width_of, texts_line, ReadsOrRefusesTexts, texts_in}
 use Rattle.rinex_file.proofs.read.header_lines.read_texts.Goals as goal
 
 compared : (r : TextRow) {line again : List ℕ} (old : HeaderLists) {new : HeaderLists} (b : Bool) → length old ≡ text_count → texts_in (fields_of r) (length (front_of r)) line old ≡ Some new

@@ -4,7 +4,7 @@ use Rattle.rinex_file.proofs.Judged.{refused}
 use Rattle.rinex_file.proofs.Rows.Cut.{cut_line_is, filled_over}
 use Rattle.rinex_file.proofs.OneReading.{IsSatelliteText, line_ended, line_once, text_of_line}
 use Rattle.rinex_file.proofs.read.row.read_of.Goals.{After-saturating_sub, then-text-lt3-via-then-text-lt3, then-text-lt3-via-else-text-lt3+then-text-signals}
-use Rattle.rinex_file.proofs.Names.{arith, ◌≡◌, ◌∙◌, sym, ap, refl, subst, ℕ, ◌*◌, ◌≤◌, List, Bool, true, false, ◌-◌, ◌++◌, append-nil, length, take, drop, replicate, ◌/◌, flat_map, SignalValues, drop_all, take_all, take_rest, System, satellites, SatelliteRow, letter, satellite_line, signal_text, filled_to, ReadsExactly, some_if, AreEntries, IsRowOf, number_of, padded}
+use Rattle.rinex_file.proofs.Names.{arith, ◌≡◌, ◌∙◌, sym, ap, refl, subst, ℕ, ◌*◌, ◌≤◌, List, Bool, ◌-◌, ◌++◌, append-nil, length, take, drop, replicate, ◌/◌, flat_map, SignalValues, drop_all, take_all, take_rest, System, satellites, SatelliteRow, letter, satellite_line, signal_text, filled_to, ReadsExactly, some_if, AreEntries, IsRowOf, number_of, padded}
 use Rattle.rinex_file.proofs.read.row.read_of.Goals as goal
 
 pub returns-then-not-is_ended : goal.returns-then-not-is_ended

@@ -1,6 +1,6 @@
 use Rattle.rinex_file.proofs.HeaderRows.Slots.{last_taken}
 use Rattle.rinex_file.proofs.read.slots.last_slot.Goals.{then-is_some, else-is_some}
-use Rattle.rinex_file.proofs.Names.{arith, ◌∙◌, ◌<◌, ◌+◌, sym, ap, if◌then◌else◌, is_some, last_slot, length, slots_of, take, Bool, ℕ}
+use Rattle.rinex_file.proofs.Names.{arith}
 use Rattle.rinex_file.proofs.read.slots.last_slot.Goals as goal
 
 pub loop-i-preserved : goal.loop-i-preserved

@@ -1,5 +1,5 @@
 use Rattle.rinex_file.proofs.HeaderRows.Slots.{at, has_slot, last_bound, last_push, no_slot, number_set, slot_added, slots_are}
-use Rattle.rinex_file.proofs.Names.{AreChannels, arith, ◌≡◌, ◌∙◌, ◌∷◌, ◌++◌, ◌-◌, ◌*◌, ◌<◌, ◌≤◌, slot_count, [], sym, ap, ap₂, digits_in, get_or, last_slot, length, length-append, none-some, same_Some, slots_of, subst, take, take-append-le, with_number, List, SlotNumber}
+use Rattle.rinex_file.proofs.Names.{AreChannels, arith, ◌≡◌, ◌∙◌, ◌∷◌, ◌++◌, ◌-◌, ◌*◌, ◌<◌, [], sym, ap, ap₂, digits_in, get_or, last_slot, length, length-append, none-some, same_Some, slots_of, subst, take, take-append-le, with_number, List, SlotNumber}
 use Rattle.rinex_file.proofs.read.slots.take_slots.Goals as goal
 
 pub returns-in_default-clause-none : goal.returns-in_default-clause-none

@@ -1,4 +1,4 @@
-use Rattle.rinex_file.proofs.Names.{arith, ◌≡◌, ◌∙◌, sym, ap, unsigned_abs, to_z, of_z, w64, is_negative, to_z-of_z, digit_columns}
+use Rattle.rinex_file.proofs.Names.{arith, to_z-of_z}
 use Rattle.rinex_file.proofs.write.lanes.columns_in.Goals as goal
 
 pub returns-clause-text : goal.returns-clause-text

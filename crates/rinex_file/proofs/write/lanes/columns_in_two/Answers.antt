@@ -1,4 +1,4 @@
-use Rattle.rinex_file.proofs.Names.{arith, ◌≡◌, ◌∙◌, sym, ap, unsigned_abs, to_z, of_z, w64, ℤ, pos, negsuc, ◌<◌, ◌^◌, is_negative, to_z-of_z, ints, FitsColumns, digit_columns, field, Some, subst}
+use Rattle.rinex_file.proofs.Names.{arith, ◌∙◌, ap, unsigned_abs, ℤ, ◌<◌, ◌^◌, to_z-of_z, ints, FitsColumns, digit_columns}
 use Rattle.rinex_file.proofs.write.lanes.columns_in_two.Goals as goal
 
 fits : (v : ℤ) → unsigned_abs v < 10 ^ 8 → FitsColumns v

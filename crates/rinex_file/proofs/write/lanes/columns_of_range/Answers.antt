@@ -1,6 +1,5 @@
 use Rattle.rinex_file.proofs.Fields.Templates.{eight_whole}
-use Rattle.rinex_file.proofs.Names.{arith, ◌≡◌, ◌∙◌, sym, ap, to_z, of_z, w64, to_z-of_z, unsigned_abs, digit_columns, leading, take}
-use Rattle.std.proofs.Common.{◌≤ℤ◌, ◌<ℤ◌, pos}
+use Rattle.rinex_file.proofs.Names.{arith, to_z-of_z}
 use Rattle.rinex_file.proofs.write.lanes.columns_of_range.Goals as goal
 
 pub returns-then-value-lt100000000000-clause-text : goal.returns-then-value-lt100000000000-clause-text

@@ -1,5 +1,5 @@
 use Rattle.rinex_file.proofs.Rows.Columns.{feed_replaced}
-use Rattle.rinex_file.proofs.Names.{arith, ◌≡◌, ◌∙◌, ◌+◌, ◌-◌, inl, inr, cases_lt, ap, sym, length, take, length-take-le, slice_index, slice_set, most_line}
+use Rattle.rinex_file.proofs.Names.{arith, cases_lt, length-take-le}
 use Rattle.std.proofs.lemmas.List.{get_or-take}
 use Rattle.rinex_file.proofs.write.satellite.end_columns.Goals as goal
 

@@ -1,4 +1,4 @@
-use Rattle.rinex_file.proofs.Names.{arith, ◌≡◌, ◌∙◌, ap, ap₂, ◌++◌, Some, length, to_z, of_z, w64, to_z-of_z, put_chunk_whole, field, common_steps}
+use Rattle.rinex_file.proofs.Names.{arith, to_z-of_z, put_chunk_whole, common_steps}
 use Rattle.rinex_file.proofs.write.satellite.put_doppler_and_strength.Goals as goal
 
 pub returns-then-unsigned_abs-lt100000000-clause-text : goal.returns-then-unsigned_abs-lt100000000-clause-text

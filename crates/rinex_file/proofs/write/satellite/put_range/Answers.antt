@@ -1,5 +1,5 @@
 use Rattle.rinex_file.proofs.Fields.Columns.{with_end}
-use Rattle.rinex_file.proofs.Names.{arith, ◌≡◌, ◌∙◌, ap, Some, length, to_z, of_z, w64, set, to_z-of_z, put_chunk_whole, FitsColumns, field}
+use Rattle.rinex_file.proofs.Names.{arith, to_z-of_z, put_chunk_whole}
 use Rattle.rinex_file.proofs.write.satellite.put_range.Goals as goal
 
 pub returns-clause-text : goal.returns-clause-text

@@ -1,6 +1,6 @@
 use Rattle.rinex_file.proofs.Rows.Cells.{signal_after}
 use Rattle.rinex_file.proofs.Writing.Stored.{one_more}
-use Rattle.rinex_file.proofs.Names.{arith, ◌≡◌, ◌∙◌, refl, ap, [], ◌∷◌, ◌++◌, length, take, flat_map, take_all, trimmed, letter, number_of, padded, satellite_line, signal_text, most_line}
+use Rattle.rinex_file.proofs.Names.{arith, ◌≡◌, ◌∙◌, refl, ap, ◌∷◌, ◌++◌, length, take, take_all, letter, number_of, padded, satellite_line, signal_text, most_line}
 use Rattle.rinex_file.proofs.write.satellite.put_values.Goals as goal
 
 pub loop-value-preserved : goal.loop-value-preserved

@@ -1,5 +1,5 @@
 use Rattle.rinex_file.proofs.Reading.Lines.{IsFeed, moved, moved_of, left_ahead, no_feed}
-use Rattle.rinex_file.proofs.Names.{arith, ◌≡◌, ◌∙◌, ap, ◌<◌, ℕ, List, [], ◌∷◌, length, take, drop, get_or, Option, Some, None, unwrap_or, ◌==◌, true, min, min-le_left, drop-cons, length-take-le, eqb-true, IsFirstByte, is_byte}
+use Rattle.rinex_file.proofs.Names.{arith, ◌≡◌, ◌∙◌, ap, ◌<◌, ℕ, List, [], ◌∷◌, length, take, drop, get_or, Option, unwrap_or, ◌==◌, true, min, min-le_left, drop-cons, length-take-le, eqb-true, IsFirstByte, is_byte}
 use Rattle.rinex_file.proofs.read.lines.Block.move_to.Goals as goal
 
 -- the byte at the first line feed

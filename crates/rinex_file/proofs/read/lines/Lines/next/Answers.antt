@@ -1,5 +1,5 @@
 use Rattle.rinex_file.proofs.Reading.Lines.{ahead_moved, leaves_all}
-use Rattle.rinex_file.proofs.Names.{arith, ◌≡◌, ◌∙◌, sym, ap, ℕ, zero, suc, ◌<◌, List, Option, take, drop, Consumes, prepend_known, take-append-drop, LeavesRest, LinesRead, last_line}
+use Rattle.rinex_file.proofs.Names.{arith, ◌≡◌, ℕ, ◌<◌, List, Option, drop, Consumes, prepend_known, take-append-drop, LeavesRest, last_line}
 use Rattle.rinex_file.proofs.read.lines.Lines.next.Goals as goal
 
 -- the first bytes of the block are consumed

@@ -4,7 +4,7 @@ use Rattle.std.specs.Option.{is_some}
 use Rattle.rinex_file.proofs.Reading.Epochs.{rise_after, rise_last, values_more, row_taken, row_shows, last_shows, no_row, bad_row, last_taken, sound_open, few_at, sound_row, sound_closed}
 use Rattle.rinex_file.proofs.FewRows.{some_rank}
 use Rattle.rinex_file.proofs.read.parser_state.ParserState.take_satellite.Goals.{then-not-is_read-via-then-not-is_read, then-not-is_read-via-else-not-is_read+then-rank-self}
-use Rattle.rinex_file.proofs.Names.{arith, ◌≡◌, ◌∙◌, ◌+◌, ◌-◌, ◌<◌, ◌∷◌, ◌++◌, [], ℕ, suc, List, sym, ap, subst, refl, length, length-append, Bool, true, false, Option, Some, None, IfSome, option_or, map, ◌≤◌, ◌↔◌, IsStrictlyIncreasing, map-append, sum_by-append, System, Satellite, SatelliteRow, Stamped, StationValues, IsSatelliteRow, changed_by, rank_of, time_stamped, satellite_line, Progress, ReadsExactly, some_if, EpochTimes, AreTimes, AreTimesOrNone, IsLast, changes_of, stamped_at, events_in, progress_at, rows_in}
+use Rattle.rinex_file.proofs.Names.{arith, ◌≡◌, ◌∙◌, ◌+◌, ◌-◌, ◌<◌, ◌∷◌, ◌++◌, [], ℕ, suc, List, sym, ap, subst, refl, length, length-append, Bool, Option, Some, None, IfSome, option_or, map, ◌≤◌, ◌↔◌, IsStrictlyIncreasing, map-append, sum_by-append, System, Satellite, SatelliteRow, Stamped, StationValues, IsSatelliteRow, changed_by, rank_of, time_stamped, satellite_line, Progress, ReadsExactly, some_if, EpochTimes, AreTimes, AreTimesOrNone, IsLast, changes_of, stamped_at, events_in, progress_at, rows_in}
 use mir.Val.{bool_byte}
 use Rattle.rinex_file.proofs.read.parser_state.ParserState.take_satellite.Goals as goal
 
