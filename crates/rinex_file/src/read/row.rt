@@ -1,8 +1,9 @@
 //! The line of a satellite, read back: its columns are judged where they are.
 ghost use Rattle.std.specs.Prelude.{◌≡◌, ◌↔◌, ◌+◌, ◌*◌, ◌%◌, ◌≤◌, ◌<◌, [], ◌∷◌, flat_map};
-ghost use Rattle.std.specs.Prelude.{length, pos, None, IfSome, IsTrue};
+ghost use Rattle.std.specs.Prelude.{length, pos, None, Some, IfSome, IsTrue, slice_get};
 ghost use Rattle.arrayvec.specs.ArrayVec.{array_vec_len};
 ghost use Rattle.gnss_system.specs.declared.system.System.{System};
+ghost use Rattle.gnss_system.specs.Satellites.{letter};
 ghost use Rattle.gnss_system.specs.Signals.{most_signals};
 ghost use Rattle.gnss_system.specs.SystemValues.{value_of};
 ghost use Rattle.rinex_file.specs.FileValues.{IsFrom, AreSignalValues, IsSatelliteRow};
@@ -173,9 +174,11 @@ fn is_ended(line: &[u8]) -> bool
     end >= 2 && line[end - 1] == b'\n' && line[end - 2] != b' '
 }
 
-/// Reads the satellite of this system in a line. Returns whether the line is that of one.
+/// Reads the satellite of the system whose letter is first in a line. Returns whether the line is
+/// that of one.
 fn read_of(line: &[u8], system: System, signals: usize, row: &mut SatelliteRow) -> bool
     requires few { signals ≤ most_signals }
+    requires first { slice_get line.now 0 ≡ Some (letter system) }
     ensures { ReadsExactly (IsRowOf system signals) satellite_line line.now (some_if result row.new) }
 {
     if !is_ended(line) {
@@ -188,9 +191,6 @@ fn read_of(line: &[u8], system: System, signals: usize, row: &mut SatelliteRow) 
     let Some(number) = two_digits_in(text[1], text[2]) else {
         return false;
     };
-    if text[0] != system.letter() {
-        return false;
-    }
     let Some(id) = system.id_of_number(number) else {
         return false;
     };

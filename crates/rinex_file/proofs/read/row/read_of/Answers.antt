@@ -4,7 +4,7 @@ use Rattle.rinex_file.proofs.Judged.{refused}
 use Rattle.rinex_file.proofs.Rows.Cut.{cut_line_is, filled_over}
 use Rattle.rinex_file.proofs.OneReading.{IsSatelliteText, line_ended, line_once, text_of_line}
 use Rattle.rinex_file.proofs.read.row.read_of.Goals.{After-saturating_sub, then-text-lt3-via-then-text-lt3, then-text-lt3-via-else-text-lt3+then-text-signals}
-use Rattle.rinex_file.proofs.Names.{arith, ◌≡◌, ◌∙◌, sym, ap, refl, subst, ℕ, ◌*◌, ◌≤◌, List, Bool, ◌-◌, ◌++◌, append-nil, length, take, drop, replicate, ◌/◌, flat_map, SignalValues, drop_all, take_all, take_rest, System, satellites, SatelliteRow, letter, satellite_line, signal_text, filled_to, ReadsExactly, some_if, AreEntries, IsRowOf, number_of, padded}
+use Rattle.rinex_file.proofs.Names.{◌∷◌, [], zero, suc, Some, slice_get, get_or, arith, ◌≡◌, ◌∙◌, sym, ap, refl, subst, ℕ, ◌*◌, ◌≤◌, List, Bool, ◌-◌, ◌++◌, append-nil, length, take, drop, replicate, ◌/◌, flat_map, SignalValues, drop_all, take_all, take_rest, System, satellites, SatelliteRow, satellite_line, signal_text, filled_to, ReadsExactly, some_if, AreEntries, IsRowOf, number_of, padded}
 use Rattle.rinex_file.proofs.read.row.read_of.Goals as goal
 
 pub returns-then-not-is_ended : goal.returns-then-not-is_ended
@@ -28,11 +28,6 @@ returns-in_default c = λ v is e.
     let p = parts ((goal.at.returns-in_default c).After-saturating_sub) v is e in
     c.in_default.ensures (number_of v.system v.row.satellite) p.small p.number
 
-pub returns-then-text-letter : goal.returns-then-text-letter
-returns-then-text-letter c = λ v is e.
-    let p = parts ((goal.at.returns-then-text-letter c).After-saturating_sub) v is e in
-    c.if-text-letter.true (p.letter ∙ ap letter is.0 ∙ sym c.letter.ensures)
-
 -- the number of a satellite of the system
 number_is : {v : SatelliteRow} {system : System} {signals number : ℕ} → IsRowOf system signals v → number_of v.system v.row.satellite ≡ number → number_of system v.row.satellite ≡ number
 number_is {v} {number} is e = subst (λ (s : System). number_of s v.row.satellite ≡ number) is.0 e
@@ -52,6 +47,12 @@ row_read all signals seen same number shown columns_of none = grind (arith, line
 -- a list after all its elements were lent
 lent : (old new : List SignalValues) → length new ≡ length old → take (length old) (new ++ drop (length new) old) ≡ new
 lent old new size = grind (arith, drop_all, append-nil, take_all)
+
+-- the first byte of a line is that of a part of it
+first_kept : (n : ℕ) (line : List ℕ) {b : ℕ} → 3 ≤ length (take n line) → slice_get line 0 ≡ Some b → get_or (take n line) 0 0 ≡ b
+first_kept n [] long is = cc
+first_kept zero (x ∷ line) long is = absurd (omega (arith, long))
+first_kept (suc n) (x ∷ line) long is = cc
 
 pub put_each_in-requires-clause-last : goal.put_each_in-requires-clause-last
 put_each_in-requires-clause-last c =
@@ -73,7 +74,7 @@ returns c =
     let read = subst (λ (k : ℕ). ReadsExactly (AreEntries k) (flat_map signal_text) (filled_to (64 * k) (take (length text - 3) (drop 3 text))) (some_if all new)) count c.put_each_in.ensures.read in
     row_read all c.args.signals _ refl c.in-Some-id_of_number.ensures.found.0
     (λ is. cut_line_is _ {text = text} n (c.is_ended.ensures.0 c.if-not-is_ended.false) (ap (λ (k : ℕ). take k line) c.saturating_sub.ensures) (omega arith)
-    (c.if-text-letter.false ∙ c.letter.ensures) (ap (padded 2) c.in-Some-id_of_number.ensures.found.1 ∙ sym c.in-Some.ensures.1) (ap (filled_to n) (sym rest) ∙ is))
+    (first_kept c.saturating_sub.result line (omega arith) c.requires.first) (ap (padded 2) c.in-Some-id_of_number.ensures.found.1 ∙ sym c.in-Some.ensures.1) (ap (filled_to n) (sym rest) ∙ is))
     (λ v is e. ap (filled_to n) rest ∙ (parts ((goal.at.returns c).After-saturating_sub) v is e).columns)
     (subst (λ (es : List SignalValues). ReadsExactly (AreEntries c.args.signals) (flat_map signal_text) (filled_to n (take (length text - 3) (drop 3 text))) (some_if all es))
     (sym (lent c.resize.new.values.items new (c.put_each_in.ensures.size ∙ ap length c.as_mut_slice.ensures.value))) read)

@@ -44,6 +44,10 @@ returns-in_default c = λ v is e. no_byte c.args.line.now v (ap option_copied (s
 pub returns-in_default-from_letter : goal.returns-in_default-from_letter
 returns-in_default-from_letter c = λ v is e. no_letter c.args.line.now c.in-Some.letter.now v c.in-Some.ensures.value (sym c.from_letter.ensures ∙ c.in_default-from_letter.is) e
 
+pub read_of-requires-clause-first : goal.read_of-requires-clause-first
+read_of-requires-clause-first c =
+    sym c.in-Some.ensures.value ∙ ap Some (sym (letter_found c.in-Some.letter.now c.in-Some-from_letter.system (sym c.from_letter.ensures ∙ c.in-Some-from_letter.is)))
+
 pub returns : goal.returns
 returns c =
     let system = c.in-Some-from_letter.system in
