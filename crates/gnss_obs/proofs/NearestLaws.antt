@@ -86,16 +86,6 @@ nearest_above (negsuc n) f h up = absurd (omega (arith, ints))
 pub product_within : (x : ℤ) (h m n : ℕ) → unsigned_abs x ≤ m → h ≤ n → unsigned_abs (x *ℤ pos h) ≤ m * n
 product_within x h m n size small = rw unsigned_abs-mul (mul-le (unsigned_abs x) h m n size small)
 
--- a negated factor
-pub turned : (x : ℤ) (q : ℕ) → (pos 0 -ℤ x) *ℤ pos q ≡ pos 0 -ℤ (x *ℤ pos q)
-turned (pos t) q = mirrored t q
-turned (negsuc t) q =
-    let up : pos 0 -ℤ negsuc t ≡ pos (suc t) = omega (arith, ints) in
-    ap (λ x. x *ℤ pos q) up ∙ back (suc t * q) ∙ ap (λ x. pos 0 -ℤ x) (sym (negsuc-*ℤ-pos t q))
-  where
-    back : (k : ℕ) → pos k ≡ pos 0 -ℤ neg_ℤ (pos k)
-    back k = omega (arith, ints)
-
 -- a nearest number is not much larger than the fraction
 pub nearest_bound : (a : ℤ) (q : ℕ) (t : ℤ) → IsNearest a q t → unsigned_abs t * q ≤ unsigned_abs a + q
 nearest_bound a q t near = rw at_size at (step (t *ℤ pos q) near.near) where

@@ -1,5 +1,5 @@
 -- The range of the values of a message.
-use Rattle.std.proofs.Common.{ℕ, ℤ, pos, ◌≡◌, ◌+◌, ◌*◌, ◌^◌, ◌<◌, ◌≤◌, ◌*ℤ◌, ◌-ℤ◌, List, [], ◌∷◌, unsigned_abs, arith, lit<, lit≤, w64, to_z, of_z}
+use Rattle.std.proofs.Common.{ℕ, ℤ, pos, ◌≡◌, ◌+◌, ◌*◌, ◌^◌, ◌<◌, ◌≤◌, ◌*ℤ◌, List, [], ◌∷◌, unsigned_abs, arith, lit<, lit≤, w64, to_z, of_z}
 use Rattle.std.proofs.lemmas.Int.{ints}
 use Rattle.std.specs.Prelude.{true, nat_le}
 use Rattle.std.proofs.Common.{refl}
@@ -11,7 +11,7 @@ use Rattle.gnss_system.specs.Satellites.{Satellite}
 use Rattle.gnss_system.specs.declared.system.System.TheVariants.{Glonass}
 use Rattle.gnss_obs.specs.Channels.{AreChannels, ChannelsValue, carrier_at, channel_hertz, hertz_by, hertz_in, most_number, number_at}
 use Rattle.gnss_system.proofs.SystemLaws.{each_system}
-use Rattle.gnss_obs.specs.Names.{System, carrier_of, band_of, SignalAt, carriers, code_of, hertz_of, light, nearest_pseudorange, nearest_phase, nearest_doppler}
+use Rattle.gnss_obs.specs.Names.{System, carrier_of, band_of, SignalAt, carriers, code_of, hertz_of, light, nearest_pseudorange, nearest_phase}
 use Rattle.gnss_obs.proofs.NearestLaws.{nearest_is, nearest_bound, product_within}
 use Rattle.std.proofs.lemmas.Grind.{common_steps}
 
@@ -50,14 +50,6 @@ channels_within channels satellite s h = by satellite.system (number_at channels
 
 -- ---- values
 
-metres_below : (a t : ℕ) → a ≤ 2 ^ 40 * light → t * 2 ^ 31 ≤ a + 2 ^ 31 → t < 10 ^ 12
-metres_below a t h k = omega (arith, h, k)
-
-pub metres_small : (r : ℤ) → unsigned_abs r ≤ 2 ^ 40 → unsigned_abs (nearest_pseudorange r) < 10 ^ 12
-metres_small r h =
-    let a = r *ℤ pos light in
-    metres_below (unsigned_abs a) (unsigned_abs (nearest_pseudorange r)) (product_within r light (2 ^ 40) light h (lit≤ tt)) (nearest_bound a (2 ^ 31) (nearest_pseudorange r) (nearest_is a (2 ^ 31) (lit< tt)))
-
 cycles_below : (a t : ℕ) → a ≤ 2 ^ 40 * most_hertz → t * 2 ^ 31 ≤ a + 2 ^ 31 → t < 10 ^ 12
 cycles_below a t h k = omega (arith, h, k)
 
@@ -67,18 +59,9 @@ cycles_small hertz p within h =
     let t = nearest_phase hertz p in
     cycles_below (unsigned_abs a) (unsigned_abs t) (product_within p hertz (2 ^ 40) most_hertz h within) (nearest_bound a (2 ^ 31) t (nearest_is a (2 ^ 31) (lit< tt)))
 
-turned : (a : ℤ) → unsigned_abs (pos 0 -ℤ a) ≡ unsigned_abs a
-turned a = omega (arith, ints)
-
-shift_below : (a b t : ℕ) → b ≡ a → a ≤ 10 ^ 8 * most_hertz → t * (10 * light) ≤ b + 10 * light → t < 10 ^ 12
-shift_below a b t e h k = omega (arith, e, h, k)
-
-pub shift_small : (hertz : ℕ) (v : ℤ) → hertz ≤ most_hertz → unsigned_abs v ≤ 10 ^ 8 → unsigned_abs (nearest_doppler hertz v) < 10 ^ 12
-shift_small hertz v within h =
-    let a = v *ℤ pos hertz in
-    let t = nearest_doppler hertz v in
-    shift_below (unsigned_abs a) (unsigned_abs (pos 0 -ℤ a)) (unsigned_abs t) (turned a) (product_within v hertz (10 ^ 8) most_hertz h within)
-    (nearest_bound (pos 0 -ℤ a) (10 * light) t (nearest_is (pos 0 -ℤ a) (10 * light) (lit< tt)))
+-- A range is rounded as a phase range at the speed of light.
+pub metres_small : (r : ℤ) → unsigned_abs r ≤ 2 ^ 40 → unsigned_abs (nearest_pseudorange r) < 10 ^ 12
+metres_small r h = cycles_small light r (lit≤ tt) h
 
 -- ---- the arguments of a rounding
 

@@ -12,6 +12,3 @@ pub returns-clause-rounded : goal.returns-clause-rounded
 returns-clause-rounded c =
     subst (IsRounded (λ v. pos 0 -ℤ (v *ℤ pos (hertz_of c.args.signal))) (10 * light) c.args.rate) (sym (value_is c))
     (rounded (λ v. pos 0 -ℤ (v *ℤ pos (hertz_of c.args.signal))) (10 * light) c.args.rate (lit< tt))
-
-pub returns-clause-value : goal.returns-clause-value
-returns-clause-value c = value_is c

@@ -13,6 +13,3 @@ pub returns-clause-rounded : goal.returns-clause-rounded
 returns-clause-rounded c =
     subst (IsRounded (λ p. p *ℤ pos (hertz_of c.args.signal)) (2 ^ 31) c.args.phase) (sym (value_is c))
     (rounded (λ p. p *ℤ pos (hertz_of c.args.signal)) (2 ^ 31) c.args.phase (lit< tt))
-
-pub returns-clause-value : goal.returns-clause-value
-returns-clause-value c = value_is c

@@ -1,4 +1,4 @@
-use Rattle.std.proofs.Common.{◌≡◌, ◌^◌, ◌*ℤ◌, ◌<◌, pos, unsigned_abs, arith, ◌∙◌, sym, ap, subst, refl, w64, to_z, of_z}
+use Rattle.std.proofs.Common.{◌≡◌, ◌^◌, ◌*ℤ◌, ◌<◌, pos, unsigned_abs, arith, ◌∙◌, sym, ap, subst, w64, to_z, of_z}
 use Rattle.std.proofs.lemmas.Int.{ints}
 use Rattle.gnss_obs.specs.Names.{nearest, nearest_phase}
 use Rattle.gnss_obs.proofs.SizeLaws.{cycles_small, kept}
@@ -9,9 +9,6 @@ value_is c =
     let same : to_z w64 (of_z w64 c.nearest_whole.result) ≡ c.nearest_whole.result = omega (arith, ints) in
     c.new.ensures ∙ same ∙ c.nearest_whole.ensures
     ∙ ap (λ x. nearest (x *ℤ pos c.in-Some-Some.h) (2 ^ 31)) (kept c.in-Some-Some.p (c.requires.range c.in-Some-Some.p c.in-Some-Some.is-0))
-
-pub returns-in-Some-Some-clause-value : goal.returns-in-Some-Some-clause-value
-returns-in-Some-Some-clause-value c = rw (c.in-Some-Some.is-0, c.in-Some-Some.is-1, value_is c) refl
 
 pub returns-in-Some-Some-clause-bound : goal.returns-in-Some-Some-clause-bound
 returns-in-Some-Some-clause-bound c =
