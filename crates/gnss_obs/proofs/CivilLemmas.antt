@@ -22,12 +22,7 @@ day_nanos = 86_400_000_000_000
 
 pub begins : (b : DateTime) → IsYmd (pos 1980) (pos 1) (pos 6) b.date → IsHms (pos 0) (pos 0) (pos 0) (pos 0) b.time → civil_nanos b ≡ pos 3657 *ℤ pos day_nanos
 unfolding civil_nanos
-begins b date time =
-    let month : b.date.month ≡ 1 = omega (arith, signed_arith, date.1) in
-    let day : b.date.day ≡ 6 = omega (arith, signed_arith, date.2) in
-    let first : epoch_day b.date ≡ pos 3657 = rw (date.0, month, day) first_day in
-    let none : time_nanos b.time ≡ 0 = omega (arith, signed_arith, time.0, time.1, time.2, time.3) in
-    rw (first, none) refl
+begins b date time = grind (arith, common_steps, first_day)
 
 -- ---- days and nanoseconds
 
@@ -154,44 +149,11 @@ pub record IsSmall (c : Civil) : Type 0 where
   pub minute : c.minute ≤ 59
   pub millisecond : c.millisecond ≤ 59_999
 
-small_to_z : (n : ℕ) → n ≤ 60 → to_z w8 n ≡ pos n
-small_to_z n h = grind arith
-
-year_to_z : (n : ℕ) → n ≤ 9999 → to_z w16 n ≡ pos n
-year_to_z n h = grind arith
-
-nanos_to_z : (n : ℕ) → n < 1000 → to_z w32 (of_z w32 (to_z w32 n *ℤ pos 1_000_000)) ≡ pos (n * 1_000_000)
-nanos_to_z n h = grind (arith, common_steps)
-
-positive : (a b : ℕ) → pos a ≡ pos b → a ≡ b
-positive a b e = omega (arith, signed_arith, e)
-
-millis_of : {h m s f hour minute : ℕ} (milli : ℕ) → h ≡ hour → m ≡ minute → s ≡ milli / 1_000 → f ≡ milli % 1_000 * 1_000_000
-    → (h * 3600 + m * 60 + s) * 1_000_000_000 + f ≡ (hour * 3_600_000 + minute * 60_000 + milli) * 1_000_000
-millis_of milli a b c d = omega (arith, a, b, c, d)
-
 pub is_at : (c : Civil) (at : DateTime) → IsSmall c → IsYmd (to_z w16 c.year) (to_z w8 c.month) (to_z w8 c.day) at.date
     → IsHms (to_z w8 c.hour) (to_z w8 c.minute) (to_z w8 (c.millisecond / 1_000)) (to_z w32 (of_z w32 (to_z w32 (c.millisecond % 1_000) *ℤ pos 1_000_000))) at.time
     → IsCivil c × (civil_nanos at ≡ days_from_civil (pos c.year) c.month c.day *ℤ pos day_nanos +ℤ pos (clock_of c * 1_000_000))
 unfolding civil_nanos
-is_at c at small date time =
-    let y : at.date.year ≡ pos c.year = date.0 ∙ year_to_z c.year small.year in
-    let m : at.date.month ≡ c.month = positive _ _ (date.1 ∙ small_to_z c.month (omega (arith, small.month))) in
-    let d : at.date.day ≡ c.day = positive _ _ (date.2 ∙ small_to_z c.day (omega (arith, small.day))) in
-    let h : at.time.hour ≡ c.hour = positive _ _ (time.0 ∙ small_to_z c.hour (omega (arith, small.hour))) in
-    let i : at.time.minute ≡ c.minute = positive _ _ (time.1 ∙ small_to_z c.minute (omega (arith, small.minute))) in
-    let s : at.time.second ≡ c.millisecond / 1_000 = positive _ _ (time.2 ∙ small_to_z (c.millisecond / 1_000) (omega (arith, small.millisecond))) in
-    let f : at.time.subsec_nanosecond ≡ c.millisecond % 1_000 * 1_000_000 = positive _ _ (time.3 ∙ nanos_to_z (c.millisecond % 1_000) (omega arith)) in
-    let nanos : time_nanos at.time ≡ clock_of c * 1_000_000 = millis_of c.millisecond h i s f in
-    let day : epoch_day at.date ≡ days_from_civil (pos c.year) c.month c.day = days_same y m d in (
-      record {
-        date = subst (λ (n : ℕ). IsCivilDate (pos c.year) c.month n) d (subst (λ (n : ℕ). IsCivilDate (pos c.year) n at.date.day) m (subst (λ (z : ℤ). IsCivilDate z at.date.month at.date.day) y (valid_date at.date)));
-        hour = omega (arith, small.hour);
-        minute = omega (arith, small.minute);
-        millisecond = omega (arith, small.millisecond);
-      },
-      ap₂ (λ (z : ℤ) (n : ℕ). z *ℤ pos day_nanos +ℤ pos n) day nanos,
-    )
+is_at c at small date time = grind (arith, common_steps)
 
 -- A valid date is accepted by the library.
 pub is_taken : (c : Civil) → IsSmall c → IsCivil c → IsDate (to_z w16 c.year) (to_z w8 c.month) (to_z w8 c.day)

@@ -1,15 +1,14 @@
 -- The plan of lists of signals, or its fault.
-use Rattle.std.proofs.Common.{◌≡◌, ℕ, ◌<◌, true≢false, true, false, List, [], ◌∷◌, ◌++◌, length, refl, sym, ap, ap₂, ◌∙◌, subst, arith, ◌⊎◌, inl, inr, Result, Ok, Err, Some, None, IfErr, MatchResult, if◌then◌else◌, is_ok, Bor, eqb, nat_lt, append-nil}
-use Rattle.std.specs.List.{list_all, sum_by}
-use Rattle.std.proofs.lemmas.List.Folds.{sum_by-zero}
-use Rattle.gnss_system.specs.Systems.{systems, index_of, before, after}
-use Rattle.gnss_system.specs.SystemValues.{value_of, tabulate, map_by, of_two}
+use Rattle.std.proofs.Common.{◌≡◌, ℕ, ◌<◌, true≢false, true, false, List, [], length, refl, sym, ap, ◌∙◌, subst, arith, ◌⊎◌, inl, inr, Result, Ok, Err, IfErr, MatchResult, if◌then◌else◌, is_ok, Bor, nat_lt}
+use Rattle.std.specs.List.{sum_by}
+use Rattle.gnss_system.specs.Systems.{systems, index_of}
+use Rattle.gnss_system.specs.SystemValues.{value_of, map_by, of_two}
 use Rattle.gnss_system.specs.declared.by_system.BySystem.{BySystem}
-use Rattle.gnss_obs.specs.Plans.{first_fault, signals_or_none, plan_unless, is_nil, plan_by, signals_in, is_none_planned}
+use Rattle.gnss_obs.specs.Plans.{plan_by, signals_in, is_none_planned}
 use Rattle.gnss_obs.specs.SignalLists.{AreRead, AreAdded}
 use Rattle.gnss_obs.specs.Values.{plan_with}
 use Rattle.gnss_obs.specs.Names.{System, Gps, Galileo, PlanFault, UnknownCode, RepeatedCode, NothingPlanned, Memory, SignalAt, PlanValue, plan_of, indices, IsOf, DoneOr, IsDefined, IsMade, IsMemoryFaultOr, IsPlanResult, IsUnplanned}
-use Rattle.gnss_system.proofs.SystemLaws.{each_of_two, Below, below_list, all_list, same_all, each_system, systems_split, index_less, equal_values, value_tabulated, value_mapped, sum_none}
+use Rattle.gnss_system.proofs.SystemLaws.{each_of_two, Below, value_mapped, sum_none}
 use Rattle.gnss_obs.proofs.FitLemmas.{unfit_not_of}
 use Rattle.gnss_obs.proofs.PlanLemmas.{none_of}
 use Rattle.std.proofs.lemmas.Grind.{common_steps}
@@ -31,20 +30,8 @@ made P Done (Err d) lists (Err e) is (inr none) = absurd (true≢false (sym none
 
 -- ---- the first fault
 
-after_ok : {A : Type 0} (f : System → Result A PlanFault) (xs ys : List System) → list_all (λ s. is_ok (f s)) xs ≡ true → first_fault f (xs ++ ys) ≡ first_fault f ys
-after_ok f [] ys all = refl
-after_ok f (x ∷ xs) ys all = grind (arith, common_steps, all, (after_ok f xs ys))
-
 pub fault_at : (f : System → Result (List ℕ) PlanFault) (s : System) (e : PlanFault) → Below (λ t. is_ok (f t) ≡ true) (index_of s) → f s ≡ Err e → plan_by f ≡ Err e
-fault_at f s e below is = rw first refl where
-  few : index_of s < length systems
-  few = index_less s
-
-  first : first_fault f systems ≡ Some e
-  first =
-      ap (first_fault f) (systems_split s)
-      ∙ after_ok f (before s) (s ∷ after s) (below_list (λ t. is_ok (f t)) (index_of s) (omega (arith, few)) below)
-      ∙ rw is refl
+fault_at f s e below is = grind (arith, common_steps)
 
 -- The text of the system at an index is refused, and those of the systems before are not.
 pub refused_at : (texts : BySystem (List ℕ)) (n : ℕ) (s : System) (e : PlanFault) → index_of s ≡ n → Below (λ t. is_ok (signals_in texts t) ≡ true) n
@@ -52,21 +39,13 @@ pub refused_at : (texts : BySystem (List ℕ)) (n : ℕ) (s : System) (e : PlanF
 refused_at texts n s e at below (inl m) = inl m
 refused_at texts n s e at below (inr is) = inr (fault_at (signals_in texts) s e (subst (Below (λ t. is_ok (signals_in texts t) ≡ true)) (sym at) below) is)
 
-no_fault : {A : Type 0} (f : System → Result A PlanFault) → ((s : System) → is_ok (f s) ≡ true) → first_fault f systems ≡ None
-no_fault f each = ap (first_fault f) (sym (append-nil systems)) ∙ after_ok f systems [] (all_list (λ s. is_ok (f s)) each)
-
 -- ---- of texts
 
 none_alike : (lists : BySystem (List SignalAt)) → is_none_planned (map_by indices lists) ≡ is_none_planned lists
-none_alike lists = same_all _ _ (λ s. ap is_nil (value_mapped s indices lists) ∙ alike (value_of s lists)) systems where
-  alike : (ss : List SignalAt) → is_nil (indices ss) ≡ is_nil ss
-  alike [] = refl
-  alike (s ∷ ss) = refl
+none_alike lists = grind (arith, common_steps)
 
 read_plan : (f : System → Result (List ℕ) PlanFault) (lists : BySystem (List ℕ)) → ((s : System) → f s ≡ Ok (value_of s lists)) → plan_by f ≡ (if is_none_planned lists then Err NothingPlanned else Ok (plan_with lists))
-read_plan f lists each = ap₂ plan_unless (no_fault f (λ s. ap is_ok (each s))) same where
-  same : tabulate (λ s. signals_or_none (f s)) ≡ lists
-  same = equal_values _ _ (λ s. value_tabulated s (λ t. signals_or_none (f t)) ∙ ap signals_or_none (each s))
+read_plan f lists each = grind (arith, common_steps)
 
 pub plan_read : {A : Type 0} (added : Result A PlanFault) (texts : BySystem (List ℕ)) (lists : BySystem (List SignalAt)) (result : Result PlanValue PlanFault)
     → DoneOr (λ e. plan_of texts ≡ Err e) (AreRead texts lists) added → IsMade added lists result → IsDefined (plan_of texts) result
@@ -84,39 +63,13 @@ plan_read added texts lists result is m = by result (made (λ e. plan_of texts �
 
 -- ---- of lists
 
-nil_at : {A : Type 0} (lists : BySystem (List A)) → is_none_planned lists ≡ true → (s : System) → value_of s lists ≡ []
-nil_at lists none s = by (value_of s lists) (each_system (λ s. is_nil (value_of s lists)) s none) where
-  by : {A : Type 0} (xs : List A) → is_nil xs ≡ true → xs ≡ []
-  by [] h = refl
-  by (x ∷ xs) h = absurd (true≢false (sym h))
-
-some_of : (lists : BySystem (List SignalAt)) → is_none_planned lists ≡ false → 0 < sum_by (λ s. length (value_of s lists)) systems
-some_of lists none = by _ (sum_by-zero (λ s. length (value_of s lists)) systems ∙ same_all _ _ (λ s. alike (value_of s lists)) systems ∙ none) where
-  alike : (ss : List SignalAt) → eqb (length ss) 0 ≡ is_nil ss
-  alike [] = refl
-  alike (s ∷ ss) = grind (arith, common_steps)
-
-  by : (n : ℕ) → eqb n 0 ≡ false → 0 < n
-  by n h = grind (arith, h)
-
 -- The signals of two systems, and none of the others.
 pub two_of : (gps galileo none : Bor (List SignalAt)) → IsOf Gps gps.now → IsOf Galileo galileo.now → none.now ≡ [] → (s : System) → IsOf s (value_of s (of_two gps galileo none)).now
 two_of gps galileo none g e empty = each_of_two (λ s (l : Bor (List SignalAt)). IsOf s l.now) g e (λ s. subst (IsOf s) (sym empty) (none_of s))
 
 pub plan_added : {A : Type 0} (added : Result A PlanFault) (signals lists : BySystem (List SignalAt)) (result : Result PlanValue PlanFault)
     → DoneOr (IsUnplanned signals) (AreAdded signals lists) added → IsMade added lists result → IsPlanResult signals result
-plan_added added signals lists result is m = by result (made (IsUnplanned signals) (AreAdded signals lists) added lists result is m) where
-  by : (result : Result PlanValue PlanFault)
-      → MatchResult result (λ p. AreAdded signals lists × (is_none_planned lists ≡ false) × (p ≡ plan_with (map_by indices lists)))
-      (λ e. IsMemoryFaultOr (IsUnplanned signals) e ⊎ (AreAdded signals lists × (is_none_planned lists ≡ true) × (e ≡ NothingPlanned)))
-      → IsPlanResult signals result
-  by (Ok p) h = record {
-    each = h.0.1;
-    some = some_of signals (ap is_none_planned (sym h.0.0) ∙ h.1);
-    value = h.2 ∙ ap (λ l. plan_with (map_by indices l)) h.0.0;
-  }
-  by (Err e) (inl bad) = bad
-  by (Err e) (inr none) = inr (subst (IsUnplanned signals) (sym none.2) (nil_at signals (ap is_none_planned (sym none.0.0) ∙ none.1)))
+plan_added added signals lists result is m = grind (arith, common_steps)
 
 -- If signals are those of their systems, and there is one, the only fault is `Memory`.
 pub memory_alone : (lists : BySystem (List SignalAt)) (result : Result PlanValue PlanFault) → IsPlanResult lists result → ((s : System) → IsOf s (value_of s lists))

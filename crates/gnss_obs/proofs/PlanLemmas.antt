@@ -1,12 +1,12 @@
 -- Codes separated by commas, and the signals of a plan.
-use Rattle.std.proofs.Common.{◌≡◌, ℕ, suc, zero, ◌+◌, ◌<◌, ◌≤◌, ◌==◌, ◌||◌, Bool, true, false, not, List, [], ◌∷◌, ◌++◌, length, take, drop, All, nat_eq, refl, sym, ap, ap₂, ◌∙◌, subst, arith, Option, Some, None, Result, Ok, Err, inl, inr, rules, true≢false, cond, if◌then◌else◌, codes, is_err, bytes_eq}
+use Rattle.std.proofs.Common.{◌≡◌, ℕ, suc, zero, ◌+◌, ◌<◌, ◌≤◌, ◌==◌, ◌||◌, Bool, true, false, List, [], ◌∷◌, ◌++◌, length, All, nat_eq, refl, sym, ap, ap₂, ◌∙◌, subst, arith, Option, Some, None, Result, Ok, Err, inl, inr, rules, true≢false, if◌then◌else◌, codes, is_err, bytes_eq}
 use Rattle.std.proofs.Common.{Bor}
 use Rattle.std.proofs.lemmas.Cmp.{nat_eq_equiv}
 use Rattle.std.proofs.lemmas.Map.Keys.{IsDistinct-push}
 use Rattle.std.proofs.lemmas.Map.Steps.{length-le_from_distinct_below}
 use Rattle.std.proofs.lemmas.List.Elements.{All-push, All-head, All-map, All-tail, All-weaker}
 use Rattle.std.proofs.lemmas.Str.Pattern.{IsSplitOnceResult, split_once_first}
-use Rattle.gnss_obs.specs.Names.{ListedSignal, RepeatedCode, System, SignalAt, IsSignal, table, signal_of_code, signal_where, signal_at, PlanFault, between_commas, onto_first, one_signal_more, below, signals_of, signals_after, IsTaken, indices, IsMemoryFaultOr, IsOf, ArePlanned, DoneOr, RefusesCode, TakesCode}
+use Rattle.gnss_obs.specs.Names.{ListedSignal, RepeatedCode, System, SignalAt, IsSignal, table, signal_of_code, signal_where, signal_at, PlanFault, between_commas, one_signal_more, below, signals_of, signals_after, IsTaken, indices, IsMemoryFaultOr, IsOf, ArePlanned, DoneOr, RefusesCode, TakesCode}
 use Rattle.std.specs.List.{list_any, position_or_len, before_first, after_first, IsDistinct}
 use Rattle.std.proofs.lemmas.Grind.{common_steps}
 use Rattle.gnss_system.specs.declared.system.System.TheVariants.{Glonass}
@@ -21,26 +21,11 @@ comma b = b == 44
 
 pub no_comma : (text : List ℕ) → position_or_len comma text ≡ length text → between_commas text ≡ text ∷ []
 no_comma [] h = refl
-no_comma (b ∷ bs) h = by (comma b) h (no_comma bs) where
-  by : (c : Bool) → cond (not c) (1 + position_or_len comma bs) 0 ≡ length (b ∷ bs) → (position_or_len comma bs ≡ length bs → between_commas bs ≡ bs ∷ [])
-      → cond c ([] ∷ between_commas bs) (onto_first b (between_commas bs)) ≡ (b ∷ bs) ∷ []
-  by true h more = absurd (omega (arith, h))
-  by false h more = ap (onto_first b) (more (omega (arith, h)))
+no_comma (b ∷ bs) h = grind (arith, common_steps, no_comma bs)
 
 pub at_comma : (text : List ℕ) → position_or_len comma text < length text → between_commas text ≡ before_first comma text ∷ between_commas (after_first comma text)
 at_comma [] h = absurd (omega (arith, h))
-at_comma (b ∷ bs) h = by (comma b) h (at_comma bs) where
-  by : (c : Bool) → cond (not c) (1 + position_or_len comma bs) 0 < length (b ∷ bs)
-      → (position_or_len comma bs < length bs → between_commas bs ≡ before_first comma bs ∷ between_commas (after_first comma bs))
-      → cond c ([] ∷ between_commas bs) (onto_first b (between_commas bs))
-      ≡ take (cond (not c) (1 + position_or_len comma bs) 0) (b ∷ bs) ∷ between_commas (drop (cond (not c) (1 + position_or_len comma bs) 0 + 1) (b ∷ bs))
-  by true h more = refl
-  by false h more =
-      let n = position_or_len comma bs in
-      let one : 1 + n ≡ suc n = omega arith in
-      let two : 1 + n + 1 ≡ suc (n + 1) = omega arith in
-      ap (onto_first b) (more (omega (arith, h)))
-      ∙ ap₂ (λ (u v : ℕ). take u (b ∷ bs) ∷ between_commas (drop v (b ∷ bs))) (sym one) (sym two)
+at_comma (b ∷ bs) h = grind (arith, common_steps, at_comma bs)
 
 pub first_none : (text : List ℕ) (r : Option (Bor (List ℕ) × Bor (List ℕ))) → IsSplitOnceResult 44 text r → r ≡ None → between_commas text ≡ text ∷ []
 first_none text r split is = no_comma text (rw is at (split_once_first 44 text r split (omega arith)))
@@ -126,21 +111,18 @@ accepted system ss o s rest is has =
 pub next_code : (system : System) (before after : List SignalAt) (text code rest : List ℕ) → between_commas text ≡ code ∷ between_commas rest
     → IsTaken system (indices before) (signal_of_code system code) (indices after)
     → signals_after system (indices after) (between_commas rest) ≡ signals_after system (indices before) (between_commas text)
-next_code system before after text code rest split taken =
-    sym (taken (λ l. signals_after system l (between_commas rest))) ∙ ap (λ l. signals_after system (indices before) l) (sym split)
+next_code system before after text code rest split taken = grind (arith, common_steps)
 
 pub code_fault : (system : System) (before : List SignalAt) (text : List ℕ) {code : List ℕ} {codes : List (List ℕ)} {all : Result (List ℕ) PlanFault} (fault : PlanFault)
     → between_commas text ≡ code ∷ codes → signals_after system (indices before) (between_commas text) ≡ all → IsMemoryFaultOr (RefusesCode system code before) fault
     → IsMemoryFaultOr (λ e. all ≡ Err e) fault
 code_fault system before text fault split same (inl m) = inl m
-code_fault system before text {codes} fault split same (inr bad) =
-    inr (sym same ∙ ap (λ l. signals_after system (indices before) l) split ∙ bad (λ l. signals_after system l codes))
+code_fault system before text {codes} fault split same (inr bad) = grind (arith, common_steps)
 
 pub last_code : {A : Type 0} (system : System) (before after : List SignalAt) (text : List ℕ) {all : Result (List ℕ) PlanFault} (result : Result A PlanFault)
     → between_commas text ≡ text ∷ [] → signals_after system (indices before) (between_commas text) ≡ all
     → DoneOr (RefusesCode system text before) (TakesCode system text before after) result → DoneOr (λ e. all ≡ Err e) (ArePlanned system all after) result
-last_code system before after text (Ok u) split same h =
-    (sym same ∙ ap (λ l. signals_after system (indices before) l) split ∙ h.0 (λ l. signals_after system l []), h.1)
+last_code system before after text (Ok u) split same h = grind (arith, common_steps)
 last_code system before after text (Err e) split same h = code_fault system before text e split same h
 
 -- The signal of a code is one of the system's table.

@@ -1,5 +1,5 @@
 -- Satellites as the bits of a set.
-use Rattle.std.proofs.Common.{◌≡◌, ℕ, zero, suc, ◌+◌, ◌*◌, ◌<◌, ◌≤◌, ◌^◌, ◌%◌, Bool, true, false, List, [], ◌∷◌, ◌++◌, refl, sym, ap, ◌∙◌, subst, arith, length, All, nat_lt, nat_eq, min, max, take, get_or}
+use Rattle.std.proofs.Common.{◌≡◌, ℕ, zero, suc, ◌+◌, ◌*◌, ◌<◌, ◌≤◌, ◌^◌, ◌%◌, Bool, true, false, List, [], ◌∷◌, ◌++◌, refl, sym, ap, ◌∙◌, subst, arith, length, All, nat_lt, nat_eq, max, take, get_or}
 use Rattle.std.proofs.lemmas.List.{take_more}
 use Rattle.std.proofs.lemmas.Nat.{and_le_l}
 use Rattle.std.specs.Int.{bit_at, bit_not, trailing_zeros, w64}
@@ -68,9 +68,7 @@ lowest_least (suc m) n small e = by (nat_lt n (lowest (suc m))) refl where
   by true x = let none = (bit_at-trailing_zeros w64 (suc m) (omega arith) small).2 n (grind (arith, x)) in absurd (omega (arith, none, e))
 
 still_set : (set id n : ℕ) → bit_at (without set id) n ≡ 1 → bit_at set n ≡ 1
-still_set set id n e = less (bit_at set n) _ (bit_at-lt set n) (sym (bit_at_and set (bit_not w64 (1 * 2 ^ id % 2 ^ 64)) n) ∙ e) where
-  less : (a b : ℕ) → a < 2 → min a b ≡ 1 → a ≡ 1
-  less a b h e = omega (arith, h, e)
+still_set set id n e = grind (arith, common_steps, bit_at-lt, bit_at_and)
 
 pub lowest_bit : (set : ℕ) → 0 < set → set < 2 ^ 64 → (lowest set < 64) × (bit_at set (lowest set) ≡ 1)
 lowest_bit set some small = let at = bit_at-trailing_zeros w64 set some small in (at.0, at.1)

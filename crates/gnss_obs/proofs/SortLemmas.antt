@@ -19,13 +19,6 @@ pub place_less : (o : Option ℕ) (p : ℕ → Bool) (planned : List ℕ) → po
 place_less None p planned e few = omega arith
 place_less (Some k) p planned e few = let h = (position-Some p planned k 0 e).0 in omega (arith, h, few)
 
--- Sort keys compare as the numbers do.
-before_number : (planned : List ℕ) (a b : Cell) → length planned ≤ 64 → is_before (cell_sort_key planned a) (cell_sort_key planned b) ≡ nat_lt (cell_number planned a) (cell_number planned b)
-before_number planned a b few =
-    compare a.satellite.id b.satellite.id _ _ (place_less (place_in a.signal planned) _ planned refl few) (place_less (place_in b.signal planned) _ planned refl few) where
-      compare : (i j p q : ℕ) → p < 64 → q < 64 → is_before (record { satellite = i; place = p }) (record { satellite = j; place = q }) ≡ nat_lt (64 * i + p) (64 * j + q)
-      compare i j p q h k = grind (arith, common_steps, h, k)
-
 pub table_few : (system : System) → length (table system) ≤ 64
 table_few system = grind (arith, common_steps)
 
@@ -53,10 +46,7 @@ IsFrom planned n c = n ≤ cell_number planned c
 after_first : (planned : List ℕ) (y : Cell) (ys : List Cell) → length planned ≤ 64 → AllByRecursion (λ t. is_before (cell_sort_key planned y) t ≡ true) (map (cell_sort_key planned) ys)
     → All (IsFrom planned (cell_number planned y + 1)) ys
 after_first planned y [] few h = All-nil (IsFrom planned (cell_number planned y + 1))
-after_first planned y (z ∷ ys) few h =
-    All-cons (IsFrom planned (cell_number planned y + 1)) z ys (less (cell_number planned y) (cell_number planned z) (sym (before_number planned y z few) ∙ h.0)) (after_first planned y ys few h.1) where
-      less : (a b : ℕ) → nat_lt a b ≡ true → a + 1 ≤ b
-      less a b e = grind (arith, e)
+after_first planned y (z ∷ ys) few h = grind (arith, common_steps, after_first planned y ys few h.1)
 
 -- The only cell of number k, if there is one, is the first of the rest.
 abbrev IsNext : List ℕ → ℕ → List Cell → Cell → Type 0
@@ -123,12 +113,7 @@ abbrev IsPlaced : List ℕ → Cell → ℕ → Type 0
 IsPlaced planned c p = (place_in c.signal planned ≡ Some p) × (p < length planned) × (get_or planned p 0 ≡ c.signal.index)
 
 placed : (planned : List ℕ) (c : Cell) → is_some (place_in c.signal planned) ≡ true → (p : ℕ) × IsPlaced planned c p
-placed planned c h = by (place_in c.signal planned) refl h where
-  by : (o : Option ℕ) → place_in c.signal planned ≡ o → is_some o ≡ true → (p : ℕ) × IsPlaced planned c p
-  by None e h = cc
-  by (Some p) e h =
-      let at = position-Some (λ i. i == c.signal.index) planned p 0 e in
-      (p, (e, at.0, let is = at.1 in grind (arith, is)))
+placed planned c h = grind (arith, common_steps, position-Some)
 
 number_is : (planned : List ℕ) (c : Cell) (p : ℕ) → place_in c.signal planned ≡ Some p → cell_number planned c ≡ 64 * c.satellite.id + p
 number_is planned c p e = ap (λ o. 64 * c.satellite.id + option_map_or (λ n. n) o 0) e
@@ -146,11 +131,7 @@ same_place planned i p {a} apart h k e f = by (nat_lt i p) (nat_lt p i) refl ref
 
 -- Cells of the same sort key have the same slot.
 same_slot : (planned : List ℕ) (c d : Cell) → IsPlanned planned c → IsPlanned planned d → cell_sort_key planned c ≡ cell_sort_key planned d → slot c ≡ slot d
-same_slot planned c d h k same =
-    let p = placed planned c h in
-    let q = placed planned d k in
-    let place : p.0 ≡ q.0 = ap (λ o. option_map_or (λ n. n) o 0) (sym p.1.0) ∙ ap (λ (s : SortKey). s.place) same ∙ ap (λ o. option_map_or (λ n. n) o 0) q.1.0 in
-    ap₂ (λ n m. 32 * n + m) (ap (λ (s : SortKey). s.satellite) same) (sym p.1.2 ∙ ap (λ n. get_or planned n 0) place ∙ q.1.2)
+same_slot planned c d h k same = grind (arith, common_steps, placed)
 
 differ : (planned : List ℕ) (cells : List Cell) → All (IsPlanned planned) cells → IsDistinct nat_eq (map slot cells) → Differ (cell_sort_key planned) cells
 differ planned [] h apart = tt

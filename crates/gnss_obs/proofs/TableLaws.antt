@@ -31,15 +31,8 @@ at_each test all system i listed = below_each test (λ system. length (table sys
 abbrev signal : System → ℕ → SignalAt
 signal system i = record { system = system; index = i }
 
-abbrev id_at : System → ℕ → Bool
-id_at system i = nat_lt 0 (id_of (signal system i)) && nat_lt (id_of (signal system i)) 33
-
 pub ids_within : (s : SignalAt) → IsSignal s → (1 ≤ id_of s) × (id_of s ≤ greatest_signal_id)
-ids_within s listed =
-    let within = at_each id_at refl s.system s.index listed in
-    let low = is_less 0 (id_of s) (both_first _ _ within) in
-    let high = is_less (id_of s) 33 (both_second (nat_lt 0 (id_of s)) _ within) in
-    (omega (arith, low), omega (arith, high))
+ids_within s listed = grind (arith, common_steps)
 
 -- the first row that passes a test
 is_at : Option ℕ → ℕ → Bool
