@@ -31,10 +31,7 @@ pub struct Civil {
 fn beginning() -> DateTime
     ensures { civil_nanos result ≡ pos 3657 *ℤ pos 86_400_000_000_000 }
 {
-    match DateTime::new(1980, 1, 6, 0, 0, 0, 0) {
-        Ok(beginning) => beginning,
-        Err(_) => unreachable!(),
-    }
+    DateTime::constant(1980, 1, 6, 0, 0, 0, 0)
 }
 
 impl GpsTime {

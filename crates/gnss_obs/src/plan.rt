@@ -246,12 +246,7 @@ fn no_signals(alloc: Global) -> BySystem<Signals>
 fn is_none_planned(lists: &BySystem<Signals>) -> bool
     ensures { result ≡ is_none_planned lists.now }
 {
-    for i in 0..SYSTEMS.len() {
-        if !lists.of(System::at(i)).is_empty() {
-            return false;
-        }
-    }
-    true
+    SYSTEMS.iter().all(|system| lists.of(*system).is_empty())
 }
 
 // Appends the signals of the text of each system.
