@@ -1,19 +1,17 @@
 -- The systems by their indices, and the values of one system after a change of another's.
-use Rattle.std.proofs.Common.{ℕ, ◌≡◌, ◌+◌, ◌<◌, ◌==◌, ◌||◌, Bool, true, false, true≢false, List, [], ◌∷◌, ◌++◌, length, get_or, set, refl, sym, ap, ap₂, ◌∙◌, subst, arith}
+use Rattle.std.proofs.Common.{ℕ, ◌≡◌, ◌+◌, ◌<◌, ◌==◌, Bool, true, false, true≢false, List, [], ◌∷◌, ◌++◌, length, get_or, refl, sym, ap, ◌∙◌, subst, arith}
 use Rattle.std.specs.List.{list_all, list_any, sum_by}
 use Rattle.std.specs.Option.{option_map_or}
-use Rattle.std.specs.Prelude.{zero, suc, ◌≤◌, cond, find, Option, None, Some, take, nat_lt, eqb, if◌then◌else◌}
+use Rattle.std.specs.Prelude.{suc, ◌≤◌, find, Option, None, Some, take, nat_lt, if◌then◌else◌}
 use Rattle.std.proofs.lemmas.List.Sums.{sum_by-cons}
-use Rattle.std.proofs.lemmas.List.Folds.{list_all_more, sum_by-zero}
 use Rattle.gnss_system.proofs.Checked.{passes_at, is_equal}
-use Rattle.std.proofs.lemmas.List.{get_or-set_other}
 use Rattle.std.proofs.lemmas.Grind.{common_steps}
 use Rattle.gnss_system.specs.declared.system.System.{System}
 use Rattle.gnss_system.specs.declared.system.System.TheVariants.{Gps, Galileo, Glonass, Beidou, Qzss, Sbas}
 use Rattle.gnss_system.specs.declared.by_system.BySystem.{BySystem}
 use Rattle.gnss_system.specs.Satellites.{letter, system_of_letter}
 use Rattle.gnss_system.specs.Systems.{systems, index_of, is_system, before, after}
-use Rattle.gnss_system.specs.SystemValues.{value_of, with_value_of, tabulate, map_by, of_two, listed}
+use Rattle.gnss_system.specs.SystemValues.{value_of, with_value_of, tabulate, map_by, of_two}
 
 -- ---- indices
 
@@ -22,12 +20,7 @@ abbrev pub system_at : ℕ → System
 system_at i = get_or systems i Gps
 
 pub system_back : (s : System) → system_at (index_of s) ≡ s
-system_back Gps = refl
-system_back Galileo = refl
-system_back Glonass = refl
-system_back Beidou = refl
-system_back Qzss = refl
-system_back Sbas = refl
+system_back s = grind (arith, common_steps)
 
 pub index_less : (s : System) → index_of s < length systems
 index_less s = grind (arith, common_steps)
@@ -39,9 +32,7 @@ pub system_same : (a b : System) → is_system a b ≡ true → a ≡ b
 system_same a b h = equal_indices a b (grind (arith, h))
 
 pub system_self : (a b : System) → a ≡ b → is_system a b ≡ true
-system_self a b e = rw e (self (index_of b)) where
-  self : (n : ℕ) → (n == n) ≡ true
-  self n = grind arith
+system_self a b e = grind (arith, common_steps)
 
 pub each_system : (p : System → Bool) (s : System) → list_all p systems ≡ true → p s ≡ true
 each_system p s h = grind (arith, common_steps, h)
@@ -56,10 +47,7 @@ letter_back s = found_same _ s (each_system (λ s. option_map_or (λ t. is_syste
 
 found_passes : (p : System → Bool) (ss : List System) (s : System) → find p ss ≡ Some s → p s ≡ true
 found_passes p [] s h = cc
-found_passes p (t ∷ ss) s h = by (p t) refl h (found_passes p ss s) where
-  by : (b : Bool) → p t ≡ b → cond b (Some t) (find p ss) ≡ Some s → (find p ss ≡ Some s → p s ≡ true) → p s ≡ true
-  by true e h more = let same : t ≡ s = cc in subst (λ r. p r ≡ true) same e
-  by false e h more = more h
+found_passes p (t ∷ ss) s h = grind (arith, common_steps, found_passes p ss s)
 
 pub letter_found : (byte : ℕ) (s : System) → system_of_letter byte ≡ Some s → letter s ≡ byte
 letter_found byte s h = is_equal _ _ (found_passes (λ s. letter s == byte) systems s h)
@@ -70,10 +58,7 @@ pub one_any : (p : System → Bool) (s : System) → p s ≡ true → list_any p
 one_any p s h = grind (arith, common_steps, h)
 
 pub none_any : (p : System → Bool) → list_any p systems ≡ false → (s : System) → p s ≡ false
-none_any p none s = by (p s) refl where
-  by : (b : Bool) → p s ≡ b → b ≡ false
-  by true e = absurd (true≢false (sym (one_any p s e) ∙ none))
-  by false e = refl
+none_any p none s = grind (arith, common_steps)
 
 pub any_none : (p : System → Bool) → ((s : System) → p s ≡ false) → (ss : List System) → list_any p ss ≡ false
 any_none p each [] = refl
@@ -81,51 +66,18 @@ any_none p each (s ∷ ss) = rw (each s, any_none p each ss) refl
 
 pub some_system : (p : System → Bool) (ss : List System) → list_any p ss ≡ true → (s : System) × (p s ≡ true)
 some_system p [] h = absurd (true≢false (sym h))
-some_system p (s ∷ ss) h = by (p s) refl h (some_system p ss) where
-  by : (b : Bool) → p s ≡ b → (b || list_any p ss) ≡ true → (list_any p ss ≡ true → (t : System) × (p t ≡ true)) → (t : System) × (p t ≡ true)
-  by true e h more = (s, e)
-  by false e h more = more h
+some_system p (s ∷ ss) h = grind (arith, common_steps, some_system p ss)
 
 -- ---- values
 
 pub value_after : {A : Type 0} (s : System) (values : BySystem A) (x : A) → value_of s (with_value_of s values x) ≡ x
-value_after Gps values x = refl
-value_after Galileo values x = refl
-value_after Glonass values x = refl
-value_after Beidou values x = refl
-value_after Qzss values x = refl
-value_after Sbas values x = refl
-
-value_listed : {A : Type 0} (s : System) (values : BySystem A) (d : A) → get_or (listed values) (index_of s) d ≡ value_of s values
-value_listed Gps values d = refl
-value_listed Galileo values d = refl
-value_listed Glonass values d = refl
-value_listed Beidou values d = refl
-value_listed Qzss values d = refl
-value_listed Sbas values d = refl
-
-listed_after : {A : Type 0} (s : System) (values : BySystem A) (x : A) → listed (with_value_of s values x) ≡ set (listed values) (index_of s) x
-listed_after Gps values x = refl
-listed_after Galileo values x = refl
-listed_after Glonass values x = refl
-listed_after Beidou values x = refl
-listed_after Qzss values x = refl
-listed_after Sbas values x = refl
+value_after s values x = grind (arith, common_steps)
 
 pub value_of_other : {A : Type 0} (s t : System) (values : BySystem A) (x : A) → is_system s t ≡ false → value_of t (with_value_of s values x) ≡ value_of t values
-value_of_other s t values x h =
-    sym (value_listed t (with_value_of s values x) x) ∙ ap (λ l. get_or l (index_of t) x) (listed_after s values x)
-    ∙ get_or-set_other (listed values) (index_of s) (index_of t) x x (λ e. apart e) ∙ value_listed t values x where
-      apart : index_of t ≡ index_of s → ⊥
-      apart e = absurd (grind (arith, e, h))
+value_of_other s t values x h = grind (arith, common_steps)
 
 pub value_tabulated : {A : Type 0} (s : System) (f : System → A) → value_of s (tabulate f) ≡ f s
-value_tabulated Gps f = refl
-value_tabulated Galileo f = refl
-value_tabulated Glonass f = refl
-value_tabulated Beidou f = refl
-value_tabulated Qzss f = refl
-value_tabulated Sbas f = refl
+value_tabulated s f = grind (arith, common_steps)
 
 -- Equal for each system.
 pub equal_values : {A : Type 0} (a b : BySystem A) → ((s : System) → value_of s a ≡ value_of s b) → a ≡ b
@@ -143,55 +95,23 @@ value_mapped s f values = value_tabulated s (λ t. f (value_of t values))
 -- Values made of each value, after a change.
 pub tabulated_after : {A B : Type 0} (F : System → A → B) (s : System) (values : BySystem A) (x : A)
     → tabulate (λ t. F t (value_of t (with_value_of s values x))) ≡ with_value_of s (tabulate (λ t. F t (value_of t values))) (F s x)
-tabulated_after F s values x = equal_values _ _ (λ t. by t (is_system s t) refl) where
-  by : (t : System) (b : Bool) → is_system s t ≡ b → value_of t (tabulate (λ t. F t (value_of t (with_value_of s values x)))) ≡ value_of t (with_value_of s (tabulate (λ t. F t (value_of t values))) (F s x))
-  by t true e =
-      value_tabulated t (λ t. F t (value_of t (with_value_of s values x)))
-      ∙ subst (λ (r : System). F r (value_of r (with_value_of s values x)) ≡ value_of r (with_value_of s (tabulate (λ t. F t (value_of t values))) (F s x))) (system_same s t e)
-      (ap (F s) (value_after s values x) ∙ sym (value_after s (tabulate (λ t. F t (value_of t values))) (F s x)))
-  by t false e =
-      value_tabulated t (λ t. F t (value_of t (with_value_of s values x))) ∙ ap (F t) (value_of_other s t values x e)
-      ∙ sym (value_tabulated t (λ t. F t (value_of t values))) ∙ sym (value_of_other s t (tabulate (λ t. F t (value_of t values))) (F s x) e)
+tabulated_after F s values x = grind (arith, common_steps)
 
 -- The values mapped after a change.
 pub mapped_after : {A B : Type 0} (f : A → B) (s : System) (values : BySystem A) (x : A) → map_by f (with_value_of s values x) ≡ with_value_of s (map_by f values) (f x)
-mapped_after f s values x = equal_values _ _ (λ t. by t (is_system s t) refl) where
-  by : (t : System) (b : Bool) → is_system s t ≡ b → value_of t (map_by f (with_value_of s values x)) ≡ value_of t (with_value_of s (map_by f values) (f x))
-  by t true e =
-      value_mapped t f (with_value_of s values x)
-      ∙ subst (λ (r : System). f (value_of r (with_value_of s values x)) ≡ value_of r (with_value_of s (map_by f values) (f x))) (system_same s t e) (ap f (value_after s values x) ∙ sym (value_after s (map_by f values) (f x)))
-  by t false e =
-      value_mapped t f (with_value_of s values x) ∙ ap f (value_of_other s t values x e) ∙ sym (value_mapped t f values) ∙ sym (value_of_other s t (map_by f values) (f x) e)
+mapped_after f s values x = grind (arith, common_steps)
 
 -- ---- the systems split at one
 
 pub systems_split : (s : System) → systems ≡ before s ++ s ∷ after s
-systems_split Gps = refl
-systems_split Galileo = refl
-systems_split Glonass = refl
-systems_split Beidou = refl
-systems_split Qzss = refl
-systems_split Sbas = refl
-
-systems_next : (s : System) → take (index_of s + 1) systems ≡ before s ++ s ∷ []
-systems_next Gps = refl
-systems_next Galileo = refl
-systems_next Glonass = refl
-systems_next Beidou = refl
-systems_next Qzss = refl
-systems_next Sbas = refl
+systems_split s = grind (arith, common_steps)
 
 pub systems_taken : (n : ℕ) (s : System) → index_of s ≡ n → take (n + 1) systems ≡ take n systems ++ s ∷ []
-systems_taken n s at = subst (λ (m : ℕ). take (m + 1) systems ≡ take m systems ++ s ∷ []) at (systems_next s)
+systems_taken n s at = grind (arith, common_steps)
 
 -- Setting a value to what it is changes nothing.
 pub with_same : {A : Type 0} (s : System) (values : BySystem A) → with_value_of s values (value_of s values) ≡ values
-with_same Gps values = refl
-with_same Galileo values = refl
-with_same Glonass values = refl
-with_same Beidou values = refl
-with_same Qzss values = refl
-with_same Sbas values = refl
+with_same s values = grind (arith, common_steps)
 
 -- ---- a change of the value of a system
 
@@ -213,12 +133,7 @@ abbrev pub Below : (System → Type 0) → ℕ → Type 0
 Below P n = (t : System) → index_of t < n → P t
 
 pub below_next : (P : System → Type 0) (n : ℕ) (s : System) → index_of s ≡ n → Below P n → P s → Below P (n + 1)
-below_next P n s at below own t less = by (is_system s t) refl where
-  by : (b : Bool) → is_system s t ≡ b → P t
-  by true e = subst P (system_same s t e) own
-  by false e = below t (lower _ _ at less e) where
-    lower : (a b : ℕ) → a ≡ n → b < n + 1 → (a == b) ≡ false → b < n
-    lower a b at less e = grind (arith, at, less, e)
+below_next P n s at below own t less = grind (arith, common_steps)
 
 pub below_all : (P : System → Type 0) (n : ℕ) → length systems ≤ n → Below P n → (t : System) → P t
 below_all P n enough below t = let less = index_less t in below t (omega (arith, less, enough))
@@ -226,27 +141,8 @@ below_all P n enough below t = let less = index_less t in below t (omega (arith,
 pub index_back : (n : ℕ) → n < length systems → index_of (system_at n) ≡ n
 index_back n less = is_equal _ _ (passes_at (λ n. index_of (system_at n) == n) (length systems) n refl less)
 
-pub below_list : (p : System → Bool) (n : ℕ) → n ≤ length systems → Below (λ t. p t ≡ true) n → list_all p (take n systems) ≡ true
-below_list p zero few below = refl
-below_list p (suc n) few below =
-    let less : n < length systems = omega (arith, few) in
-    let rest : list_all p (take n systems) ≡ true = below_list p n (omega (arith, few)) (λ t l. below t (omega (arith, l))) in
-    let own : p (system_at n) ≡ true = below (system_at n) (let e = index_back n less in omega (arith, e)) in
-    let next : n + 1 ≡ suc n = omega arith in
-    subst (λ m. list_all p (take m systems) ≡ true) next (list_all_more p systems n Gps less ∙ rw (rest, own) refl)
-
-pub all_list : (p : System → Bool) → ((t : System) → p t ≡ true) → list_all p systems ≡ true
-all_list p each = below_list p (length systems) (omega arith) (λ t less. each t)
-
-pub same_all : {A : Type 0} (p q : A → Bool) → ((x : A) → p x ≡ q x) → (xs : List A) → list_all p xs ≡ list_all q xs
-same_all p q same [] = refl
-same_all p q same (x ∷ xs) = rw (same x, same_all p q same xs) refl
-
 pub not_all : (p : System → Bool) (s : System) → p s ≡ false → list_all p systems ≡ false
-not_all p s not_own = by (list_all p systems) refl where
-  by : (b : Bool) → list_all p systems ≡ b → b ≡ false
-  by true all = absurd (true≢false (sym (each_system p s all) ∙ not_own))
-  by false all = refl
+not_all p s not_own = grind (arith, common_steps)
 
 -- ---- a loop over the systems that changes the value of each: P of those passed, Q of the others
 
@@ -259,24 +155,14 @@ passed_all P Q values n enough h t = let less = index_less t in h.0 t (omega (ar
 -- ---- sums
 
 pub sum_none : (f : System → ℕ) → ((t : System) → f t ≡ 0) → nat_lt 0 (sum_by f systems) ≡ false
-sum_none f each = by _ (sum_by-zero f systems ∙ all_list (λ t. eqb (f t) 0) (λ t. rw (each t) refl)) where
-  by : (n : ℕ) → eqb n 0 ≡ true → nat_lt 0 n ≡ false
-  by n e = grind (arith, e)
+sum_none f each = grind (arith, common_steps)
 
 pub sum_some : (f : System → ℕ) (s : System) → nat_lt 0 (f s) ≡ true → nat_lt 0 (sum_by f systems) ≡ true
-sum_some f s some = by _ (sum_by-zero f systems ∙ not_all (λ t. eqb (f t) 0) s (zero_not _ some)) where
-  zero_not : (n : ℕ) → nat_lt 0 n ≡ true → eqb n 0 ≡ false
-  zero_not n e = grind (arith, e)
-
-  by : (n : ℕ) → eqb n 0 ≡ false → nat_lt 0 n ≡ true
-  by n e = grind (arith, e)
+sum_some f s some = grind (arith, common_steps)
 
 sum_parts : (f g h : System → ℕ) → ((t : System) → g t ≡ f t + h t) → (ss : List System) → sum_by g ss ≡ sum_by f ss + sum_by h ss
 sum_parts f g h each [] = refl
-sum_parts f g h each (t ∷ ss) =
-    sum_by-cons g t ss ∙ joined (f t) (h t) _ _ (each t) (sum_parts f g h each ss) ∙ ap₂ (λ a b. a + b) (sym (sum_by-cons f t ss)) (sym (sum_by-cons h t ss)) where
-      joined : (a b c d : ℕ) {e n : ℕ} → e ≡ a + b → n ≡ c + d → e + n ≡ (a + c) + (b + d)
-      joined a b c d p q = omega (arith, p, q)
+sum_parts f g h each (t ∷ ss) = grind (arith, common_steps, sum_by-cons, sum_parts f g h each ss)
 
 one_of_all : (s : System) (d : ℕ) → sum_by (λ t. if is_system s t then d else 0) systems ≡ d
 one_of_all s d = grind (arith, common_steps)
@@ -287,16 +173,11 @@ sum_grown f g s d each = sum_parts f g (λ t. if is_system s t then d else 0) ea
 
 pub sum_at_most : (f g : System → ℕ) → ((t : System) → f t ≤ g t) → (ss : List System) → sum_by f ss ≤ sum_by g ss
 sum_at_most f g each [] = omega arith
-sum_at_most f g each (t ∷ ss) = joined _ _ _ _ _ _ (sum_by-cons f t ss) (sum_by-cons g t ss) (each t) (sum_at_most f g each ss) where
-  joined : (a b c d m n : ℕ) → m ≡ a + b → n ≡ c + d → a ≤ c → b ≤ d → m ≤ n
-  joined a b c d m n p q h k = omega (arith, p, q, h, k)
+sum_at_most f g each (t ∷ ss) = grind (arith, common_steps, sum_by-cons, sum_at_most f g each ss)
 
 -- A sum is smaller if no part is greater, and that of one system is smaller.
 pub sum_less : (f g : System → ℕ) (s : System) → ((t : System) → f t + (if is_system s t then 1 else 0) ≤ g t) → suc (sum_by f systems) ≤ sum_by g systems
-sum_less f g s each =
-    let more = sum_grown f (λ t. f t + (if is_system s t then 1 else 0)) s 1 (λ t. refl) in
-    let most = sum_at_most (λ t. f t + (if is_system s t then 1 else 0)) g each systems in
-    omega (arith, more, most)
+sum_less f g s each = grind (arith, common_steps)
 
 pub any_system : (s : System) → list_any (is_system s) systems ≡ true
 any_system s = grind (arith, common_steps)
