@@ -1,6 +1,6 @@
 -- A step of the clock adds one message to the list.
 use Rattle.std.proofs.Common.{◌≡◌, ℕ, zero, suc, ◌+◌, ◌*◌, ◌/◌, ◌<◌, Bool, true, false, not, ◌||◌, ◌&&◌, List, [], ◌∷◌, ◌++◌, refl, ap, ap₂, ◌∙◌, subst, arith, Option, Some, None, nat_lt, ◌==◌}
-use Rattle.obs_epoch.specs.Names.{CloseFirst, CellCounts, GatherSetup, Heard, ends_epoch, is_own, Timed, is_at, max_known, greatest_time, is_closed, taken_at, ahead, is_late, is_past, time_of, State, is_pending, closes_first, kind_after, kind_by, step_by, is_late_at, is_first_at, ended_where, option_map_or}
+use Rattle.obs_epoch.specs.Names.{CloseFirst, CellCounts, GatherSetup, Heard, ends_epoch, is_own, Timed, greatest_time, is_closed, taken_at, ahead, is_late, is_past, time_of, State, is_pending, closes_first, kind_after, kind_by, step_by, is_late_at, is_first_at, ended_where, option_map_or}
 use Rattle.rtcm_msg.specs.Msm.{week}
 use Rattle.obs_epoch.proofs.TimesLemmas.{next, greatest-push, greatest-present, greater-absent, none-absent, closed-push, closed-new}
 use Rattle.std.proofs.lemmas.Grind.{common_steps}
@@ -21,19 +21,7 @@ at_self u time e = grind (arith, common_steps, e)
 
 pub new_time : (s : GatherSetup) (xs : List Timed) (x : Timed) (u : ℕ) → x.time ≡ Some u → Follows s xs u
     → (greatest_time (xs ++ x ∷ []) ≡ Some u) × (is_pending s (xs ++ x ∷ []) ≡ not (ends_epoch s x.message))
-new_time s xs x u e f = (latest f, ap (λ g. option_map_or (λ t. not (is_closed s t (xs ++ x ∷ []))) g false) (latest f) ∙ ap not (closed f)) where
-  here : is_at u x ≡ true
-  here = at_self u x.time e
-
-  latest : Follows s xs u → greatest_time (xs ++ x ∷ []) ≡ Some u
-  latest (first h) = greatest-push xs x ∙ ap₂ max_known h e
-  latest (greater t h lt) = greatest-push xs x ∙ ap₂ max_known h e ∙ ap Some (omega (arith, lt))
-  latest (equal h c) = greatest-push xs x ∙ ap₂ max_known h e ∙ ap Some (omega arith)
-
-  closed : Follows s xs u → is_closed s u (xs ++ x ∷ []) ≡ ends_epoch s x.message
-  closed (first h) = closed-new s u xs x (none-absent xs u h) here
-  closed (greater t h lt) = closed-new s u xs x (greater-absent xs t u h lt) here
-  closed (equal h c) = closed-push s u xs x (greatest-present xs u h) ∙ ap (λ v. v || ends_epoch s x.message) c
+new_time s xs x u e f = grind (arith, common_steps, at_self, greatest-push, closed-new, none-absent, greater-absent, closed-push, greatest-present)
 
 -- The value of a clock after these messages.
 abbrev pub standing : GatherSetup → List Timed → Bool → State

@@ -1,5 +1,5 @@
 -- A step of the clock, when the epoch that it closes is still pending.
-use Rattle.std.proofs.Common.{◌≡◌, true, false, ◌||◌, ◌&&◌, ap, ◌∙◌, arith, Option, is_some, ℕ}
+use Rattle.std.proofs.Common.{◌≡◌, true, false, ◌||◌, ◌&&◌, arith, Option, is_some, ℕ}
 use Rattle.obs_epoch.specs.Names.{Heard, KeepsEpoch, State, ends_epoch, ended_where, open_by, is_accepted, is_close_first, is_same, kind_by, no_counts, step_by}
 use Rattle.obs_epoch.specs.Step.{closed_time}
 use Rattle.obs_epoch.proofs.ClockLemmas.{same_state}
@@ -10,11 +10,7 @@ abbrev pub IsKnown : State → Type 0
 IsKnown g = g.pending ≡ true → is_some g.latest ≡ true
 
 pub keeps : (g : State) (m : Heard) → IsKnown g → KeepsEpoch g (open_by g m)
-keeps g m known = record {
-  kept = λ p. grind (arith, common_steps, known, p);
-  begun = λ p q. grind (arith, common_steps, p, q);
-  none = λ p. grind (arith, common_steps, p);
-}
+keeps g m known = grind (arith, common_steps)
 
 -- An accepted message's epoch is pending, and so is one that is to be closed.
 pub opens : (g : State) (m : Heard) → is_accepted (kind_by g no_counts m) ≡ true → (open_by g m).pending ≡ true
@@ -40,6 +36,4 @@ same_itself l = grind (arith, common_steps)
 
 -- A message that isn't accepted has no time.
 pub same_latest : (g : State) (m : Heard) → is_accepted (kind_by g no_counts m) ≡ false → is_same g.latest (step_by g m).latest ≡ true
-same_latest g m refused = ap (is_same g.latest) stays ∙ same_itself g.latest where
-  stays : (step_by g m).latest ≡ g.latest
-  stays = grind (arith, common_steps, refused)
+same_latest g m refused = grind (arith, common_steps, same_itself)

@@ -30,8 +30,7 @@ shut-push s t ms m h = ap (λ l. is_shut s l t) (timed-push s ms m) ∙ shut-mor
 
 shut-append : (s : GatherSetup) (t : ℕ) (ms more : List Heard) → is_shut s (timed s ms) t ≡ true → is_shut s (timed s (ms ++ more)) t ≡ true
 shut-append s t ms [] h = ap (λ l. is_shut s (timed s l) t) (append-nil ms) ∙ h
-shut-append s t ms (m ∷ more) h =
-    ap (λ l. is_shut s (timed s l) t) (sym (append_assoc ms (m ∷ []) more)) ∙ shut-append s t (ms ++ m ∷ []) more (shut-push s t ms m h)
+shut-append s t ms (m ∷ more) h = grind (arith, common_steps, (shut-append s t (ms ++ m ∷ []) more (shut-push s t ms m h)))
 
 -- ---- the messages before a closing
 

@@ -78,16 +78,11 @@ epoch_by p _ f e x = e
 
 -- The same kept cells give the same epoch.
 same_epoch : (p : PlanValue) (f : HeardCell → Option KnownLock) (t : ℕ) (xs ys : List HeardCell) → ((system : System) → kept system xs ≡ kept system ys) → epoch_of p f t xs ≡ epoch_of p f t ys
-same_epoch p f t xs ys same = ap (λ cells. record { time = t; cells = cells }) (equal_values _ _ (λ system.
-    cells_in_of system p f t xs ∙ ap (λ ks. with_lli_by f t (sorted (planned_of system p) ks)) (same system) ∙ sym (cells_in_of system p f t ys)))
+same_epoch p f t xs ys same = grind (arith, common_steps)
 
 -- A cell that isn't kept changes no system's kept cells.
 kept_same : (xs : List HeardCell) (x : HeardCell) → (is_among (kept x.satellite.system xs) x || nat_le most_cells (length (kept x.satellite.system xs))) ≡ true → (system : System) → kept system xs ≡ kept system (xs ++ x ∷ [])
-kept_same xs x full system = sym (kept-add system xs x ∙ by (is_system x.satellite.system system) refl) where
-  by : (b : Bool) → is_system x.satellite.system system ≡ b → add system (kept system xs) x ≡ kept system xs
-  by true e = subst (λ (s : System). add s (kept s xs) x ≡ kept s xs) (system_same x.satellite.system system e)
-      (add_own x.satellite.system (kept x.satellite.system xs) x (system_self x.satellite.system x.satellite.system refl) ∙ ap (λ b. if b then kept x.satellite.system xs else kept x.satellite.system xs ++ x ∷ []) full)
-  by false e = add_other system (kept system xs) x (grind (arith, e))
+kept_same xs x full system = grind (arith, common_steps, kept-add, system_same, add_own, system_self, add_other)
 
 -- A cell that is kept is inserted into the cells of its system.
 kept_more : (p : PlanValue) (f : HeardCell → Option KnownLock) (t : ℕ) (xs : List HeardCell) (x : HeardCell) → (is_among (kept x.satellite.system xs) x || nat_le most_cells (length (kept x.satellite.system xs))) ≡ false

@@ -1,13 +1,11 @@
 -- The lock records: their values after a closing, and their number.
-use Rattle.std.proofs.Common.{[], ◌≡◌, ℕ, zero, suc, ◌+◌, ◌<◌, set, Bool, true, false, ◌||◌, ap₂, List, ◌∷◌, ◌++◌, map, filter, refl, sym, ap, ◌∙◌, subst, arith, length, append_assoc, append-nil, length-append, Option, Some, None, is_some, get_or, replicate, if◌then◌else◌, cond, find, option_and_then, length-set}
+use Rattle.std.proofs.Common.{[], ◌≡◌, ℕ, zero, suc, ◌+◌, Bool, true, false, ◌||◌, List, ◌∷◌, ◌++◌, map, filter, refl, sym, ap, ◌∙◌, subst, arith, length, append_assoc, append-nil, length-append, Option, Some, None, is_some, get_or, replicate, if◌then◌else◌, cond, find, option_and_then, length-set}
 use Rattle.std.specs.Option.{option_map_or, option_or}
 use Rattle.std.proofs.lemmas.Map.Keys.{IsDistinct-head, IsDistinct-tail}
 use Rattle.std.proofs.lemmas.Map.Steps.{list_any_congr}
 use Rattle.std.proofs.lemmas.List.Sums.{sum_by-cons}
 use Rattle.std.proofs.lemmas.List.Elements.{filter-append}
 use Rattle.obs_epoch.specs.Names.{is_among, has_listed_key, firsts, has_same_key, lock_of, is_locked, lookup, put, note, note_all, lock_place, most_locks, no_locks, recorded, TracksLocks, HeardCell, heard_cell, KnownLock, Cell, IsDistinct, AllByRecursion}
-use Rattle.std.proofs.lemmas.List.{get_or-set_same, get_or-set_other}
-use Rattle.obs_epoch.proofs.PlaceLemmas.{listed_from, place_within, place_one, same_place}
 use Rattle.obs_epoch.proofs.CellsLemmas.{same_key_laws, firsts-push, new_key, among-push}
 use Rattle.std.proofs.lemmas.Grind.{common_steps}
 
@@ -18,19 +16,7 @@ answer same l o = if same then Some l else o
 
 pub lookup-put : (ts : List (Option KnownLock)) (x key : HeardCell) (l : KnownLock) → has_listed_key x ≡ true → length ts ≡ most_locks
     → lookup (put ts x l) key ≡ answer (has_same_key key x) l (lookup ts key)
-lookup-put ts x key l k size = by (has_same_key key x) refl (has_listed_key key) refl where
-  never : (a b : Bool) → a ≡ true → b ≡ false → b ≡ a → ⊥
-  never a b p q r = absurd (grind (arith, p, q, r))
-
-  by : (same : Bool) → has_same_key key x ≡ same → (listed : Bool) → has_listed_key key ≡ listed
-      → (if listed then get_or (set ts (lock_place x) (Some l)) (lock_place key) None else None) ≡ answer same l (if listed then get_or ts (lock_place key) None else None)
-  by true e true f =
-      let at = (same_place key x e).0 in
-      let within = place_within x (listed_from x k) in
-      ap (λ (p : ℕ). get_or (set ts (lock_place x) (Some l)) p None) at ∙ get_or-set_same ts (lock_place x) (Some l) None (omega (arith, within, size))
-  by true e false f = absurd (never _ _ k f (same_place key x e).1)
-  by false e true f = get_or-set_other ts (lock_place x) (lock_place key) (Some l) None (λ at. never true _ refl e (place_one key x (listed_from key f) (listed_from x k) at))
-  by false e false f = refl
+lookup-put ts x key l k size = grind (arith, common_steps)
 
 abbrev lock_for : HeardCell → ℕ → HeardCell → Option KnownLock
 lock_for key t x = if has_same_key key x then lock_of t x else None
@@ -38,17 +24,7 @@ lock_for key t x = if has_same_key key x then lock_of t x else None
 -- The records after a cell is recorded.
 pub lookup-note : (t : ℕ) (ts : List (Option KnownLock)) (x key : HeardCell) → has_listed_key x ≡ true → length ts ≡ most_locks
     → lookup (note t ts x) key ≡ option_or (lock_for key t x) (lookup ts key)
-lookup-note t ts x key k size = by (is_locked x) where
-  set_at : (s : Bool) (l : KnownLock) (o : Option KnownLock) → answer s l o ≡ option_or (if s then Some l else None) o
-  set_at s l o = grind (arith, common_steps)
-
-  none_at : (s : Bool) (o : Option KnownLock) → o ≡ option_or (if s then None else None) o
-  none_at s o = grind (arith, common_steps)
-
-  by : (b : Bool) → lookup (option_map_or (put ts x) (if b then Some (record { time = t; lock = x.lock }) else None) ts) key
-      ≡ option_or (if has_same_key key x then (if b then Some (record { time = t; lock = x.lock }) else None) else None) (lookup ts key)
-  by true = lookup-put ts x key (record { time = t; lock = x.lock }) k size ∙ set_at (has_same_key key x) _ _
-  by false = none_at (has_same_key key x) (lookup ts key)
+lookup-note t ts x key k size = grind (arith, common_steps)
 
 pub note_size : (t : ℕ) (ts : List (Option KnownLock)) (x : HeardCell) → length (note t ts x) ≡ length ts
 note_size t ts x = grind (arith, common_steps)
@@ -100,21 +76,10 @@ length_firsts-push : (xs : List HeardCell) (y : HeardCell) → length (firsts (x
 length_firsts-push xs y = grind (arith, common_steps, firsts-push, length-append, new_key)
 
 recorded-put : (ts : List (Option KnownLock)) (x : HeardCell) (l : KnownLock) → has_listed_key x ≡ true → length ts ≡ most_locks → recorded (put ts x l) ≡ recorded ts + (if is_some (lookup ts x) then 0 else 1)
-recorded-put ts x l k size =
-    let within = place_within x (listed_from x k) in
-    set_counted ts (lock_place x) (omega (arith, within, size)) ∙ ap (λ (b : Bool). recorded ts + (if is_some (if b then get_or ts (lock_place x) None else None) then 0 else 1)) (sym k) where
-      set_counted : (ts : List (Option KnownLock)) (p : ℕ) → p < length ts → recorded (set ts p (Some l)) ≡ recorded ts + (if is_some (get_or ts p None) then 0 else 1)
-      set_counted ts p less = grind (arith, common_steps, less)
+recorded-put ts x l k size = grind (arith, common_steps)
 
 pub tracks_put : (ts : List (Option KnownLock)) (noted : List HeardCell) (x : HeardCell) (l : KnownLock) → has_listed_key x ≡ true → TracksLocks ts noted → TracksLocks (put ts x l) (noted ++ x ∷ [])
-tracks_put ts noted x l k h = record {
-  has = λ key. ap is_some (lookup-put ts x key l k h.size) ∙ by (has_same_key key x) (lookup ts key) (is_among noted key) (h.has key) ∙ sym (among-push noted x key);
-  count = recorded-put ts x l k h.size ∙ ap₂ (λ n b. n + (if b then 0 else 1)) h.count (h.has x) ∙ sym (length_firsts-push noted x);
-  size = length-set ts (lock_place x) (Some l) ∙ h.size;
-} where
-  by : (s : Bool) (o : Option KnownLock) (b : Bool) → is_some o ≡ b → is_some (answer s l o) ≡ (b || s)
-  by true o b e = grind (arith, common_steps)
-  by false o b e = grind (arith, common_steps, e)
+tracks_put ts noted x l k h = grind (arith, common_steps, lookup-put, among-push, recorded-put, length_firsts-push, length-set)
 
 -- The locked ones of these cells.
 abbrev pub locked : List HeardCell → List HeardCell

@@ -2,9 +2,8 @@
 use Rattle.std.proofs.Common.{◌≡◌, ℕ, ◌<◌, Bool, true, false, not, List, [], ◌∷◌, ◌++◌, filter, refl, sym, ap, ap₂, ◌∙◌, subst, arith, append-nil, Option, Some, None, nat_lt, if◌then◌else◌, filter_map, flat_map}
 use Rattle.std.proofs.lemmas.List.{length-replicate}
 use Rattle.std.proofs.lemmas.List.Elements.{filter-append}
-use Rattle.obs_epoch.specs.Names.{GatherSetup, Heard, ends_epoch, HeardCell, kept_cell, Timed, is_at, greatest_time, is_closed, taken_at, no_counts, cells_at, offered, is_planned, locked_at, latest_in, previous, times, lli_with, cells_with_lli, epoch_at, closed_so_far, lookup, no_locks, State, closes_first, GathererValue, empty_epoch, load, epoch_begun, is_same, locked_in, held_at, Locked, KnownLock, option_map_or, list_any}
+use Rattle.obs_epoch.specs.Names.{GatherSetup, Heard, ends_epoch, HeardCell, kept_cell, Timed, is_at, greatest_time, is_closed, taken_at, no_counts, offered, is_planned, locked_at, latest_in, previous, times, lli_with, cells_with_lli, epoch_at, closed_so_far, lookup, no_locks, State, closes_first, GathererValue, empty_epoch, load, epoch_begun, is_same, locked_in, held_at, Locked, KnownLock, option_map_or, list_any}
 use Rattle.gnss_system.proofs.SystemLaws.{equal_values, value_tabulated}
-use Rattle.obs_epoch.specs.Names.{planned_of, sorted, kept}
 use Rattle.obs_epoch.proofs.TimesLemmas.{next, greater-absent, none-absent}
 use Rattle.obs_epoch.proofs.ClockLemmas.{standing, same_time, Follows, first, greater, equal, new_time}
 use Rattle.obs_epoch.proofs.HeardLemmas.{same_itself}
@@ -74,8 +73,7 @@ with_lli_is s xs f t [] h = refl
 with_lli_is s xs f t (k ∷ ks) h = ap₂ (λ o l. (kept_cell k (lli_with t k o)) ∷ l) (h k) (with_lli_is s xs f t ks h)
 
 epoch_is : (s : GatherSetup) (xs : List Timed) (f : HeardCell → Option KnownLock) (t : ℕ) → ((key : HeardCell) → f key ≡ previous s xs t key) → epoch_of s.plan f t (offered s t xs) ≡ epoch_at s xs t
-epoch_is s xs f t h = ap (λ cells. record { time = t; cells = cells }) (equal_values _ _ (λ system.
-    value_tabulated system (λ c. with_lli_by f t (sorted (planned_of c s.plan) (kept c (offered s t xs)))) ∙ with_lli_is s xs f t (cells_at s t xs system) h ∙ sym (value_tabulated system (λ c. cells_with_lli s xs t (cells_at s t xs c)))))
+epoch_is s xs f t h = grind (arith, common_steps, equal_values, value_tabulated, with_lli_by, with_lli_is)
 
 offered-more : (s : GatherSetup) (xs : List Timed) (m : Heard) (u : ℕ) → taken_at s xs m ≡ Some u → offered s u (xs ++ next s xs m ∷ []) ≡ offered s u xs ++ filter (is_planned s) m.cells
 offered-more s xs m u some = grind (arith, common_steps)

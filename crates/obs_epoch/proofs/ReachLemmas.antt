@@ -1,5 +1,5 @@
 -- Bounds of the values of epochs.
-use Rattle.obs_epoch.specs.Names.{LockField, Df402, Df407, System, Satellite, satellite_of_id, SignalAt, signal_of_id, nearest_pseudorange, nearest_phase, nearest_doppler, nearest_strength, LockTime, Entry, Message, Station, Msm4, Msm5, Msm6, Msm7, Other, IsMessage, IsMeasured, EntriesAreMeasured, PointsAreInRange, entries, StationValues, weeks, Closed, HasTwelveDigits, cells_of, planned_of, most_cells, GatherSetup, Heard, heard, observed, seen_in, lock_by, HeardCell, kept_cell, Timed, is_at, timed, timed_after, taken_at, is_of_system, is_planned, offered, firsts_after, firsts, kept, cells_at, has_same_key, times, lli_with, lli_of, has_lost, cells_with_lli, epoch_at, values_after_message, is_shut, open_after, before_closing, closed_list_at, all_epochs, IsHeardCell, IsHeard, IsStrength, IsGathered, same_place, AreGathered, AreStationValues, IsGatheredEpoch, TimesRise, AreGatheredEpochs, KnownLock}
+use Rattle.obs_epoch.specs.Names.{LockField, Df402, Df407, System, Satellite, satellite_of_id, SignalAt, signal_of_id, nearest_pseudorange, nearest_phase, nearest_doppler, nearest_strength, LockTime, Entry, Message, Station, Msm4, Msm5, Msm6, Msm7, Other, IsMessage, IsMeasured, EntriesAreMeasured, PointsAreInRange, entries, StationValues, weeks, Closed, HasTwelveDigits, cells_of, planned_of, most_cells, GatherSetup, Heard, heard, observed, seen_in, lock_by, HeardCell, kept_cell, Timed, is_at, timed, timed_after, taken_at, is_of_system, is_planned, offered, firsts_after, firsts, kept, cells_at, has_same_key, times, lli_with, lli_of, has_lost, cells_with_lli, epoch_at, values_after_message, is_shut, open_after, before_closing, closed_list_at, all_epochs, IsHeardCell, IsHeard, IsGathered, same_place, AreGathered, AreStationValues, IsGatheredEpoch, TimesRise, AreGatheredEpochs, KnownLock}
 use Rattle.std.proofs.Common.{◌≡◌, ℕ, zero, suc, ℤ, pos, ◌+◌, ◌*◌, ◌^◌, ◌<◌, ◌≤◌, ◌≤ℤ◌, Bool, true, false, List, [], ◌∷◌, ◌++◌, filter, take, ap, arith, Option, Some, None, nat_lt, is_some, unsigned_abs, if◌then◌else◌, flat_map, filter_map, option_map, option_and_then, IfSome, fold}
 use Rattle.std.specs.List.{AllByRecursion, IsDistinct, cons_option}
 use Rattle.rtcm_msg.specs.Msm.{week}
@@ -53,12 +53,7 @@ at_carrier f m small (Some hertz) o within h = mapped (f hertz) (λ x. unsigned_
 
 observed_given : AreSizes → (channels : ChannelsValue) (lock : LockTime) (e : Entry) (satellite : Satellite) (signal : SignalAt) → AreChannels channels → IsMeasured e
     → IsHeardCell (observed channels lock e satellite signal)
-observed_given z channels lock e satellite signal valid h = record {
-  c = mapped nearest_pseudorange (λ r. unsigned_abs r ≤ 2 ^ 40) HasTwelveDigits z.metres e.range h.range;
-  l = at_carrier nearest_phase (2 ^ 40) z.cycles (hertz_in channels satellite signal) e.phase (z.carriers channels satellite signal valid) h.phase;
-  d = at_carrier nearest_doppler (10 ^ 8) z.shift (hertz_in channels satellite signal) e.rate (z.carriers channels satellite signal valid) h.rate;
-  s = mapped nearest_strength (λ (s : ℕ). (0 < s) × (s < 1024)) IsStrength (λ s k. z.decibels s k.0 k.1) e.strength h.strength;
-}
+observed_given z channels lock e satellite signal valid h = grind (arith, common_steps, mapped, at_carrier)
 
 seen_given : AreSizes → (channels : ChannelsValue) (field : LockField) (system : System) (e : Entry) → AreChannels channels → IsMeasured e → IfSome (seen_in channels field system e) IsHeardCell
 seen_given z channels field system e valid h = by (satellite_of_id system e.satellite) (signal_of_id system e.signal) where

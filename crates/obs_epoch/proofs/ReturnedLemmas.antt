@@ -56,14 +56,7 @@ new_open {g} {s} {ms} m {shut} h early t e = by (taken_at s xs m) refl where
 pub keeps : (s : GatherSetup) (ms : List Heard) (m : Heard) (shut : Bool) (o : Option ℕ) → closes_first s (timed s ms) m ≡ shut
     → closed_so_far s (timed s (ms ++ m ∷ [])) false ≡ closed_so_far s (timed s ms) shut ++ option_to_list o
     → closed_list_at s (ms ++ m ∷ []) (closed_so_far s (timed s (ms ++ m ∷ [])) false) ≡ closed_list_at s ms (closed_so_far s (timed s ms) shut) ++ closed_list_at s (ms ++ m ∷ []) (option_to_list o)
-keeps s ms m shut o early grown =
-    let xs = timed s ms in
-    let ys = timed s (ms ++ m ∷ []) in
-    let before = closed_so_far s xs shut in
-    let all : closed_times s ys ≡ before ++ option_to_list o = sym (append-nil (closed_times s ys)) ∙ grown in
-    let each = each_front (is_shut s ys) before (option_to_list o) (subst (Each (is_shut s ys)) all (each_filter (is_shut s ys) (times ys))) in
-    ap (closed_list_at s (ms ++ m ∷ [])) grown ∙ map-append (closed_at s (ms ++ m ∷ [])) before (option_to_list o)
-    ∙ ap (λ l. l ++ closed_list_at s (ms ++ m ∷ []) (option_to_list o)) (list-push s ms m before (closed_later s xs m shut early) each)
+keeps s ms m shut o early grown = grind (arith, common_steps, append-nil, each_front, each_filter, map-append, list-push, closed_later)
 
 shut_new : (s : GatherSetup) (ys : List Timed) (before : List ℕ) (t : ℕ) → closed_so_far s ys false ≡ before ++ t ∷ [] → is_shut s ys t ≡ true
 shut_new s ys before t grown =

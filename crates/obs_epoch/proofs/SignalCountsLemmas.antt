@@ -1,17 +1,16 @@
 -- The counts of the cells with a value, and of those of a message.
 use Rattle.obs_epoch.specs.Names.{LockField, System, Satellite, SignalAt, IsSignal, signal_of_id, LockTime, Entry, Heard, seen_in, observed, HeardCell, SignalCountsValue, brings_value, valued, is_of_signal, count_of, AreSignalCounts, cons_option}
-use Rattle.obs_epoch.specs.Names.{satellite_of_id, nearest_pseudorange, nearest_strength}
+use Rattle.obs_epoch.specs.Names.{satellite_of_id}
 use Rattle.obs_epoch.specs.SignalCounts.{every_channel}
 use Rattle.gnss_obs.specs.Channels.{hertz_by, hertz_in, number_at, slot_count}
-use Rattle.gnss_obs.specs.Observables.{phase_by, doppler_by}
 use Rattle.gnss_system.specs.Satellites.{IsSatellite, satellites}
 use Rattle.gnss_system.specs.declared.system.System.TheVariants.{Glonass}
-use Rattle.std.proofs.Common.{◌<◌, ◌-◌, ◌||◌, None, true, refl}
+use Rattle.std.proofs.Common.{◌<◌, ◌-◌, None, true, refl}
 use Rattle.rtcm_msg.specs.Presences.{has_value}
 use Rattle.std.proofs.lemmas.List.{get_or-replicate, length-replicate}
 use Rattle.gnss_system.specs.Signals.{most_signals}
 use Rattle.gnss_system.specs.SystemValues.{value_of}
-use Rattle.std.proofs.Common.{◌≡◌, ◌∙◌, ap, get_or, replicate, ℕ, ◌≤◌, Bool, List, [], ◌∷◌, ◌++◌, length, sym, subst, arith, Option, Some, filter, is_some, filter_map, unwrap_or, option_map}
+use Rattle.std.proofs.Common.{◌≡◌, ◌∙◌, ap, get_or, replicate, ℕ, ◌≤◌, Bool, List, [], ◌∷◌, ◌++◌, length, sym, subst, arith, Option, Some, filter, is_some, filter_map, unwrap_or}
 use Rattle.std.proofs.lemmas.List.Sums.{length-filter, count_by-le-length}
 use Rattle.std.proofs.lemmas.Grind.{common_steps}
 
@@ -34,9 +33,6 @@ few_of g cells = few_passed (is_of_signal g) cells
 pub listed_of : (system : System) (id : ℕ) (g : SignalAt) → signal_of_id system id ≡ Some g → (g.system ≡ system) × IsSignal g
 listed_of system id g h = grind (arith, common_steps)
 
-is_some-map : {X Y : Type 0} (f : X → Y) (o : Option X) → is_some (option_map f o) ≡ is_some o
-is_some-map f o = grind (arith, common_steps)
-
 -- Each satellite has a carrier if each slot has a channel.
 pub every_hertz : (system : System) (id : ℕ) (s : Satellite) (g : SignalAt) → satellite_of_id system id ≡ Some s → is_some (hertz_in every_channel s g) ≡ true
 every_hertz system id s g h = by s.system s.id g (satellite_is system id s h) where
@@ -51,11 +47,7 @@ every_hertz system id s g h = by s.system s.id g (satellite_is system id s h) wh
   by _ id g h = refl
 
 pub value_same : (lock : LockTime) (e : Entry) (s : Satellite) (g : SignalAt) → is_some (hertz_in every_channel s g) ≡ true → brings_value (observed every_channel lock e s g) ≡ has_value e
-value_same lock e s g some = by (hertz_in every_channel s g) some where
-  by : (o : Option ℕ) → is_some o ≡ true
-      → (is_some (option_map nearest_pseudorange e.range) || is_some (phase_by o e.phase) || is_some (doppler_by o e.rate) || is_some (option_map nearest_strength e.strength)) ≡ has_value e
-  by None h = cc
-  by (Some n) h = grind (arith, common_steps, is_some-map)
+value_same lock e s g some = grind (arith, common_steps)
 
 -- The cells of one entry and of the entries after it.
 pub one_first : (o : Option HeardCell) (xs : List HeardCell) → filter brings_value (cons_option o []) ++ filter brings_value xs ≡ filter brings_value (cons_option o xs)

@@ -1,15 +1,14 @@
 -- Cells are counted signal by signal.
-use Rattle.std.proofs.Common.{◌≡◌, ℕ, zero, suc, ◌+◌, ◌-◌, ◌<◌, ◌≤◌, ◌^◌, ◌==◌, ◌&&◌, ◌||◌, not, nat_le, List, [], ◌∷◌, ◌++◌, length, get_or, filter, Bool, true, false, Option, Some, None, refl, sym, ap, ◌∙◌, subst, arith, is_some, inl, inr, position, if◌then◌else◌, cond, filter_map, option_map, option_and_then, slice_get, length-set}
+use Rattle.std.proofs.Common.{◌≡◌, ℕ, zero, suc, ◌+◌, ◌-◌, ◌<◌, ◌≤◌, ◌^◌, ◌==◌, ◌&&◌, ◌||◌, not, nat_le, List, [], ◌∷◌, ◌++◌, length, get_or, filter, Bool, true, false, Option, Some, None, refl, sym, ap, ◌∙◌, subst, arith, is_some, inl, inr, position, if◌then◌else◌, cond, filter_map, option_map, option_and_then, slice_get}
 use Rattle.std.proofs.lemmas.Bool.{cases_lt}
 use Rattle.std.proofs.lemmas.Grind.{common_steps}
-use Rattle.std.proofs.lemmas.List.{get_or-set_other}
 use Rattle.std.proofs.lemmas.List.Quantifiers.{position-Some}
-use Rattle.obs_epoch.specs.Names.{System, ListedSignal, Satellite, is_system, satellite_of_id, SignalAt, IsSignal, id_of, table, signal_of_id, HeardCell, Entry, LockField, has_id, is_in, has_listed_value, value_count, seen_in, lock_by, observed, SignalCountsValue, signal_counts, counted, signal_in, counted_more, satellite_set, up_by, brings_value, is_of_signal, count_of, CountsEntries, cons_option, option_map_or}
+use Rattle.obs_epoch.specs.Names.{System, ListedSignal, Satellite, is_system, satellite_of_id, SignalAt, IsSignal, id_of, table, signal_of_id, HeardCell, Entry, LockField, has_id, is_in, has_listed_value, value_count, seen_in, lock_by, observed, SignalCountsValue, signal_counts, counted, signal_in, counted_more, satellite_set, brings_value, is_of_signal, count_of, CountsEntries, cons_option, option_map_or}
 use Rattle.gnss_system.proofs.Checked.{passes_at, passes_below, is_equal}
 use Rattle.gnss_obs.proofs.TableLaws.{id_back, ids_within}
 use Rattle.rtcm_msg.proofs.ValueLaws.{count_first}
 use Rattle.obs_epoch.proofs.SignalCountsLemmas.{every_hertz, listed_of, value_same, one_first, few_of}
-use Rattle.gnss_system.proofs.SystemLaws.{system_self, each_system, value_after, value_of_other, system_same}
+use Rattle.gnss_system.proofs.SystemLaws.{system_self, each_system, system_same}
 use Rattle.rtcm_bits.specs.Bits.{odd}
 use Rattle.std.proofs.Common.{◌/◌}
 use Rattle.gnss_system.specs.Signals.{most_signals}
@@ -18,9 +17,6 @@ use Rattle.obs_epoch.specs.SignalCounts.{every_channel}
 use Rattle.gnss_system.specs.Satellites.{satellites}
 
 -- ---- signals and their IDs
-
-not_both : (a b : Bool) → (a ≡ true → b ≡ true → ⊥) → (a && b) ≡ false
-not_both a b h = grind (arith, common_steps, h)
 
 one_way : (a b : Bool) → (a ≡ true → b ≡ true) → (b ≡ true → a ≡ true) → a ≡ b
 one_way true b there back = sym (there refl)
@@ -56,10 +52,7 @@ id_forth system id g h = by (position (λ (e : ListedSignal). e.0 == id) (table 
 
 -- The signal with an ID is g, or not.
 no_signal : (system : System) (id : ℕ) (g : SignalAt) → IsSignal g → signal_of_id system id ≡ None → (is_system system g.system && (id == id_of g)) ≡ false
-no_signal system id g listed none = not_both (is_system system g.system) (id == id_of g) (λ a b.
-    let back : signal_of_id g.system (id_of g) ≡ Some g = id_back g listed in
-    let is : signal_of_id system id ≡ Some g = rw (system_same system g.system a, is_equal id (id_of g) b) back in
-    none_some g (signal_of_id system id) none is)
+no_signal system id g listed none = grind (arith, common_steps)
 
 the_signal : (system : System) (id : ℕ) (g s : SignalAt) → IsSignal g → signal_of_id system id ≡ Some s → (is_system system g.system && (id == id_of g)) ≡ (is_system g.system s.system && (s.index == g.index))
 the_signal system id g s listed some = one_way _ _ there back where
@@ -183,53 +176,18 @@ number_none false h m n f = omega arith
 -- ---- one number more
 
 table_below : (s : System) → length (table s) ≤ most_signals
-table_below s = few _ (each_system (λ s. nat_le (length (table s)) most_signals) s refl) where
-  few : (n : ℕ) → nat_le n most_signals ≡ true → n ≤ most_signals
-  few n e = grind (arith, e)
-
-up_by_at : (n g i : ℕ) (xs : List ℕ) → i < length xs → get_or xs i 0 + n ≤ 2 ^ 64 - 1 → get_or (up_by n xs g) i 0 ≡ get_or xs i 0 + (if g == i then n else 0)
-up_by_at n g i xs within few = grind (arith, common_steps)
+table_below s = grind (arith, common_steps)
 
 more_at : (g : SignalAt) (n : ℕ) (c : SignalCountsValue) (s : System) (i : ℕ) → i < length (signal_counts s c) → counted c s i + n ≤ 2 ^ 64 - 1
     → counted (counted_more g n c) s i ≡ counted c s i + (if is_system s g.system && (g.index == i) then n else 0)
-more_at g n c s i within few = by (is_system g.system s) refl where
-  turned : (a b : ℕ) (o : Bool) → (a == b) ≡ o → (b == a) ≡ o
-  turned a b o e = grind (arith, e)
-
-  by : (b : Bool) → is_system g.system s ≡ b → counted (counted_more g n c) s i ≡ counted c s i + (if is_system s g.system && (g.index == i) then n else 0)
-  by true e =
-      subst (λ (r : System). counted (counted_more g n c) r i ≡ counted c r i + (if (g.index == i) then n else 0)) (system_same g.system s e)
-      (ap (λ (l : List ℕ). get_or l i 0) (value_after g.system c (up_by n (signal_counts g.system c) g.index))
-      ∙ up_by_at n g.index i (signal_counts g.system c) (subst (λ (r : System). i < length (signal_counts r c)) (sym (system_same g.system s e)) within) (subst (λ (r : System). counted c r i + n ≤ 2 ^ 64 - 1) (sym (system_same g.system s e)) few))
-      ∙ ap (λ b. counted c s i + (if b && (g.index == i) then n else 0)) (sym (turned _ _ true e))
-  by false e =
-      ap (λ (l : List ℕ). get_or l i 0) (value_of_other g.system s c (up_by n (signal_counts g.system c) g.index) e)
-      ∙ more (counted c s i) ∙ ap (λ b. counted c s i + (if b && (g.index == i) then n else 0)) (sym (turned _ _ false e)) where
-        more : (n : ℕ) → n ≡ n + 0
-        more n = omega arith
+more_at g n c s i within few = grind (arith, common_steps)
 
 more_size : (g : SignalAt) (n : ℕ) (c : SignalCountsValue) (s : System) → length (signal_counts s (counted_more g n c)) ≡ length (signal_counts s c)
-more_size g n c s = by (is_system g.system s) refl where
-  by : (b : Bool) → is_system g.system s ≡ b → length (signal_counts s (counted_more g n c)) ≡ length (signal_counts s c)
-  by true e =
-      subst (λ (r : System). length (signal_counts r (counted_more g n c)) ≡ length (signal_counts r c)) (system_same g.system s e)
-      (ap (λ (l : List ℕ). length l) (value_after g.system c (up_by n (signal_counts g.system c) g.index)) ∙ length-set (signal_counts g.system c) g.index _)
-  by false e = ap (λ (l : List ℕ). length l) (value_of_other g.system s c (up_by n (signal_counts g.system c) g.index) e)
+more_size g n c s = grind (arith, common_steps)
 
 -- The counts past the end of a table don't change.
 more_past : (g : SignalAt) (n : ℕ) (c : SignalCountsValue) (s : System) (i : ℕ) → IsSignal g → length (table s) ≤ i → counted (counted_more g n c) s i ≡ counted c s i
-more_past g n c s i listed past = by (is_system g.system s) refl where
-  by : (b : Bool) → is_system g.system s ≡ b → counted (counted_more g n c) s i ≡ counted c s i
-  by true e =
-      let own : length (table g.system) ≤ i = subst (λ (r : System). length (table r) ≤ i) (sym (system_same g.system s e)) past in
-      subst (λ (r : System). counted (counted_more g n c) r i ≡ counted c r i) (system_same g.system s e)
-      (ap (λ (l : List ℕ). get_or l i 0) (value_after g.system c (up_by n (signal_counts g.system c) g.index)) ∙ get_or-set_other (signal_counts g.system c) g.index i _ 0 (λ e. absurd (omega (arith, listed, own, e))))
-  by false e = ap (λ (l : List ℕ). get_or l i 0) (value_of_other g.system s c (up_by n (signal_counts g.system c) g.index) e)
-
-number_step : (b w h : Bool) (m n : ℕ) → (w ≡ true → (h ≡ false) × (m ≡ n)) → (if b && not h then m else 0) ≡ (if b && not (w || h) then m else 0) + (if b && w then n else 0)
-number_step false w h m n f = omega arith
-number_step true true h m n f = let p = f refl in rw p.0 (omega (arith, p.1))
-number_step true false h m n f = omega arith
+more_past g n c s i listed past = grind (arith, common_steps)
 
 number_few : (b : Bool) (m : ℕ) → m ≤ 64 → (if b then m else 0) ≤ 64
 number_few b m h = grind (arith, common_steps, h)
@@ -237,10 +195,7 @@ number_few b m h = grind (arith, common_steps, h)
 -- The first of the signals that are left is no longer left.
 first_number : (system : System) (left counts : List ℕ) (x n : ℕ) (g : SignalAt) → n ≡ get_or counts (x - 1) 0 → has_id x left ≡ false
     → number system left counts g ≡ number system (x ∷ left) counts g + (if is_system system g.system && (x == id_of g) then n else 0)
-first_number system left counts x n g is once =
-    number_step (is_system system g.system) (x == id_of g) (has_id (id_of g) left) (get_or counts (id_of g - 1) 0) n (λ h.
-    let e : x ≡ id_of g = is_equal x (id_of g) h in
-    (subst (λ (y : ℕ). has_id y left ≡ false) e once, sym (is ∙ ap (λ (y : ℕ). get_or counts (y - 1) 0) e)))
+first_number system left counts x n g is once = grind (arith, common_steps)
 
 join : {a b : ℕ} (c d e : ℕ) {f : ℕ} → a ≡ b + d → b ≡ c + e → f ≡ e + d → a ≡ c + f
 join c d e x y z = omega (arith, x, y, z)

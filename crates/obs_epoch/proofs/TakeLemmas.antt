@@ -1,7 +1,7 @@
 -- The whole step: a property of the list before holds for the list after one more message.
 use Rattle.std.proofs.Common.{◌≡◌, ℕ, Bool, true, false, not, ◌||◌, ◌&&◌, List, [], ◌∷◌, ◌++◌, refl, sym, ap, ap₂, ◌∙◌, subst, arith, append-nil, Option, Some, None, is_some, ◌⊎◌, inl, inr, if◌then◌else◌, option_to_list}
 use Rattle.std.proofs.lemmas.List.Sums.{fold-append}
-use Rattle.obs_epoch.specs.Names.{Message, Kind, CloseFirst, CellCounts, GatherSetup, Heard, heard_by, is_own, ends_epoch, HeardCell, Timed, greatest_time, taken_at, timed, no_counts, with_skipped, offered, counts_of, counts_of_message, epoch_at, closed_so_far, closed_times, values_of, values_after_message, State, HasHeardMessages, is_pending, closes_first, is_close_first, is_accepted, kind_after, with_unlisted, GathererValue, Loaded, empty_epoch, noted, load, loaded_if, loaded_where, outcome_in, load_one, with_time, begun_by, closed_if, closed_noted, epoch_begun, shut_where, ended_where, open_by, take_step, end_step, is_same, count_in, KnownLock, held_at, Locked, HasTakenMessages, EpochValue, option_map_or}
+use Rattle.obs_epoch.specs.Names.{Message, Kind, CloseFirst, CellCounts, GatherSetup, Heard, heard_by, is_own, ends_epoch, HeardCell, Timed, greatest_time, taken_at, timed, no_counts, with_skipped, offered, counts_of, counts_of_message, epoch_at, closed_so_far, closed_times, values_of, values_after_message, State, HasHeardMessages, is_pending, closes_first, is_close_first, is_accepted, kind_after, with_unlisted, GathererValue, Loaded, empty_epoch, noted, load, loaded_if, loaded_where, outcome_in, load_one, with_time, begun_by, closed_if, closed_noted, epoch_begun, shut_where, ended_where, open_by, take_step, end_step, is_same, KnownLock, held_at, Locked, HasTakenMessages, EpochValue, option_map_or}
 use Rattle.rtcm_msg.specs.declared.message.Message.TheVariants as message
 use Rattle.obs_epoch.specs.Step.{kind_by, step_by, closed_time, closed_of}
 use Rattle.gnss_system.proofs.Checked.{both_first}
@@ -116,9 +116,7 @@ reached g s ms m shut h early = by (taken_at s xs m) refl where
 -- The times of the closed epochs grow by that of the epoch that the step closes.
 pub times_taken : (g : GathererValue) (s : GatherSetup) (ms : List Heard) (m : Heard) (shut : Bool) → HasTakenMessages g s ms shut → closes_first s (timed s ms) m ≡ shut
     → closed_so_far s (timed s (ms ++ m ∷ [])) false ≡ closed_so_far s (timed s ms) shut ++ option_to_list (closed_time g.clock m)
-times_taken g s ms m shut h early =
-    ap (λ l. closed_so_far s l false) (timed-push s ms m) ∙ closing s (timed s ms) m shut early
-    ∙ ap (λ c. closed_so_far s (timed s ms) shut ++ option_to_list (closed_time c m)) (sym (clock_is g.clock s ms shut h.clock))
+times_taken g s ms m shut h early = grind (arith, common_steps, timed-push, closing, clock_is)
 
 -- That time is the greatest then.
 pub time_taken : {g : GathererValue} {s : GatherSetup} {ms : List Heard} (m : Heard) {shut : Bool} → HasTakenMessages g s ms shut → closes_first s (timed s ms) m ≡ shut
@@ -155,12 +153,7 @@ was_pending k b before after other untaken e = grind (arith, common_steps)
 
 pub pending_taken : {g : GathererValue} {s : GatherSetup} {ms : List Heard} (m : Heard) {shut : Bool} → HasTakenMessages g s ms shut → closes_first s (timed s ms) m ≡ shut
     → taken_at s (timed s ms) m ≡ None → (t : ℕ) → closed_time g.clock m ≡ Some t → is_pending s (timed s ms) ≡ true
-pending_taken {g} {s} {ms} m {shut} h early none t e =
-    let xs = timed s ms in
-    let was = clock_is g.clock s ms shut h.clock in
-    let kind : (n : CellCounts) → kind_by g.clock n m ≡ kind_after s xs n m = λ n. ap (λ c. kind_by c n m) was ∙ (takes s xs n m shut early).0 in
-    let p : g.clock.pending ≡ true = was_pending (kind_by g.clock no_counts m) _ _ _ (ap is_close_first (kind no_counts) ∙ (refused s xs no_counts m none).0) (ap is_accepted (kind no_counts) ∙ (refused s xs no_counts m none).1) e in
-    both_first (is_pending s xs) (not shut) (sym h.clock.pending ∙ p)
+pending_taken {g} {s} {ms} m {shut} h early none t e = grind (arith, common_steps, clock_is, takes, was_pending, refused, both_first)
 
 -- A message with a point has neither a time nor a multiple message bit.
 abbrev pub IsSet : Heard → Type 0
@@ -339,9 +332,7 @@ abbrev standing_loaded : Bool → Loaded → Loaded
 standing_loaded p l = record { state = standing_by p l.state; counts = l.counts }
 
 one_standing : (p : Bool) (l : Loaded) (x : HeardCell) → load_one (standing_loaded p l) x ≡ standing_loaded p (load_one l x)
-one_standing p l x =
-    let k = outcome_in l.state x in
-    ap (λ s. record { state = s; counts = count_in k l.counts }) (hold_is k (standing_by p l.state) x ∙ sym (ap (standing_by p) (hold_is k l.state x)))
+one_standing p l x = grind (arith, common_steps)
 
 load_standing : (p : Bool) (l : Loaded) (xs : List HeardCell) → load (standing_loaded p l) xs ≡ standing_loaded p (load l xs)
 load_standing p l [] = refl
@@ -355,9 +346,7 @@ loaded_standing false p g m = refl
 loaded_begun : (g : GathererValue) (m : Heard) (accepted : Bool) → is_accepted (kind_by g.clock no_counts m) ≡ accepted
     → loaded_where accepted (epoch_begun g.clock.latest (with_time g m)) m ≡ loaded_if accepted g.clock.latest (with_time g m) m
 loaded_begun g m true e = refl
-loaded_begun g m false e =
-    ap (λ b. record { state = if b then with_time g m else record (with_time g m) { epoch = empty_epoch (option_map_or (λ t. t) (with_time g m).clock.latest 0) }; counts = no_counts })
-    (same_latest g.clock m e)
+loaded_begun g m false e = grind (arith, common_steps, same_latest)
 
 abbrev pub loads : GathererValue → Heard → Loaded
 loads g m = loaded_if (is_accepted (kind_by g.clock no_counts m)) g.clock.latest (with_time g m) m

@@ -1,15 +1,13 @@
 -- The value of a gatherer: with one more cell, after a message, and when its epoch is closed.
-use Rattle.std.proofs.Common.{◌≡◌, ℕ, ◌+◌, Bool, true, false, List, [], ◌∷◌, ◌++◌, refl, sym, ap, ap₂, ◌∙◌, subst, arith, length, Option, is_some, if◌then◌else◌, All}
+use Rattle.std.proofs.Common.{◌≡◌, ℕ, ◌+◌, Bool, true, false, List, [], ◌∷◌, ◌++◌, refl, sym, ap, ◌∙◌, subst, arith, length, Option, is_some, if◌then◌else◌, All}
 use Rattle.std.proofs.lemmas.List.Elements.{All-nil, All-push}
-use Rattle.obs_epoch.specs.Names.{System, Cell, EpochValue, PlanValue, planned_of, cells_of, CellLists, Closed, KeepsEpoch, KnownLock, place_in, is_planned, has_same_key, GatherSetup, Heard, IsKey, HeardCell, kept_cell, heard_cell, insert_by, cell_sort_key, Skipped, lookup, outcome_of_added, values_after_message, StationValues, is_held, GathererValue, with_more_in, with_more, outcome_in, hold, hold_by, begun_by, with_time, HasPlannedCells, IsPlanned, empty_epoch, epoch_in, open_by, is_same, no_cells, option_map_or, time_in, Added, IsAdded, cells_after, epoch_with, outcome_by, sorted_cells, sorted_epoch, State, lli_with}
-use Rattle.gnss_system.specs.SystemValues.{value_of, with_value_of, tabulate}
-use Rattle.gnss_system.proofs.SystemLaws.{each_after, value_tabulated, tabulated_after, with_same as same_after}
+use Rattle.obs_epoch.specs.Names.{System, Cell, EpochValue, PlanValue, planned_of, cells_of, CellLists, Closed, KeepsEpoch, KnownLock, place_in, is_planned, GatherSetup, Heard, IsKey, HeardCell, kept_cell, lookup, outcome_of_added, values_after_message, StationValues, is_held, GathererValue, with_more_in, with_more, outcome_in, hold, hold_by, begun_by, HasPlannedCells, IsPlanned, empty_epoch, epoch_in, open_by, is_same, no_cells, time_in, Added, IsAdded, cells_after, epoch_with, outcome_by, sorted_cells, sorted_epoch, State, lli_with}
+use Rattle.gnss_system.specs.SystemValues.{value_of}
+use Rattle.gnss_system.proofs.SystemLaws.{each_after, value_tabulated, with_same as same_after}
 use Rattle.obs_epoch.specs.GathererSteps.{cleared_if}
 use mathlib.Core.Bool.{beq, not}
-use Rattle.obs_epoch.proofs.ClockLemmas.{same_state}
-use Rattle.obs_epoch.proofs.HeardLemmas.{heard_step, same_itself}
+use Rattle.obs_epoch.proofs.HeardLemmas.{heard_step}
 use Rattle.gnss_obs.specs.declared.epoch_cells.Added.TheVariants as added
-use Rattle.std.proofs.lemmas.List.Sums.{fold-append}
 use Rattle.std.proofs.lemmas.List.Sorted.{list_any-IsPermutation, length_permutation}
 use Rattle.gnss_obs.proofs.OrderLemmas.{sort_moves}
 use Rattle.std.proofs.lemmas.Grind.{common_steps}
@@ -26,30 +24,19 @@ cells_sorted : (system : System) (p : PlanValue) (e : EpochValue) → cells_of s
 cells_sorted system p e = value_tabulated system (λ s. sorted_cells (planned_of s p) (cells_of s e))
 
 held_any : (system : System) (p : PlanValue) (e : EpochValue) (x : HeardCell) → is_held (cells_of system (sorted_epoch p e)) x ≡ is_held (cells_of system e) x
-held_any system p e x =
-    ap (λ (l : List Cell). is_held l x) (cells_sorted system p e)
-    ∙ sym (list_any-IsPermutation (λ (m : Cell). has_same_key x (heard_cell m)) (cells_of system e) _ (sort_moves (cell_sort_key (planned_of system p)) (cells_of system e)))
+held_any system p e x = grind (arith, common_steps, cells_sorted, list_any-IsPermutation, sort_moves)
 
 pub count_same : (system : System) (p : PlanValue) (e : EpochValue) → length (cells_of system (sorted_epoch p e)) ≡ length (cells_of system e)
-count_same system p e =
-    ap (λ (l : List Cell). length l) (cells_sorted system p e)
-    ∙ length_permutation (cells_of system e) _ (sort_moves (cell_sort_key (planned_of system p)) (cells_of system e))
+count_same system p e = grind (arith, common_steps, cells_sorted, length_permutation, sort_moves)
 
 -- The outcome of a planned cell.
 outcome_added : (g : GathererValue) (p : PlanValue) (e : EpochValue) (x : HeardCell) → g.epoch ≡ sorted_epoch p e → is_planned g.clock.setup x ≡ true
     → outcome_in g x ≡ outcome_of_added (outcome_by (is_held (cells_of x.satellite.system e) x) (length (cells_of x.satellite.system e)))
-outcome_added g p e x is planned =
-    ap (λ b. if b then outcome_of_added (outcome_by (is_held (cells_of x.satellite.system g.epoch) x) (length (cells_of x.satellite.system g.epoch))) else Skipped) planned
-    ∙ ap₂ (λ a n. outcome_of_added (outcome_by a n)) (ap (λ (v : EpochValue). is_held (cells_of x.satellite.system v) x) is ∙ held_any x.satellite.system p e x)
-    (ap (λ (v : EpochValue). length (cells_of x.satellite.system v)) is ∙ count_same x.satellite.system p e)
+outcome_added g p e x is planned = grind (arith, common_steps, held_any, count_same)
 
 -- Sorting a list with one more cell is inserting it into the sorted one.
 sorted_push : (system : System) (p : PlanValue) (e : EpochValue) (m : Cell) → sorted_epoch p (epoch_with system e (cells_of system e ++ m ∷ [])) ≡ with_more_in system p (sorted_epoch p e) m
-sorted_push system p e m =
-    ap (λ cells. record { time = e.time; cells = cells })
-    (tabulated_after (λ s cells. sorted_cells (planned_of s p) cells) system e.cells (cells_of system e ++ m ∷ [])
-    ∙ ap (with_value_of system (tabulate (λ s. sorted_cells (planned_of s p) (cells_of s e))))
-    (fold-append (λ ys c. insert_by (cell_sort_key (planned_of system p)) c ys) [] (cells_of system e) (m ∷ []) ∙ ap (insert_by (cell_sort_key (planned_of system p)) m) (sym (cells_sorted system p e))))
+sorted_push system p e m = grind (arith, common_steps)
 
 with_same : (system : System) (e : EpochValue) → epoch_with system e (cells_of system e) ≡ e
 with_same system e = ap (λ cells. record { time = e.time; cells = cells }) (same_after system e.cells)
@@ -144,28 +131,12 @@ begins_empty false is last empty e = rw e refl
 -- The epoch is the same if another one begins, whose cells are not those of the one closed last.
 pub clears_none : {old new : State} (pending : CellLists) (last : Closed) → KeepsEpoch old new
     → epoch_in new pending (cleared_if (not (beq new.pending old.pending)) last) ≡ epoch_in new pending last
-clears_none {old} {new} pending last keeps = by new.pending refl where
-  by : (b : Bool) → new.pending ≡ b → epoch_in new pending (cleared_if (not (beq new.pending old.pending)) last) ≡ epoch_in new pending last
-  by true e = open_is new pending (cleared_if (not (beq new.pending old.pending)) last) e ∙ sym (open_is new pending last e)
-  by false e = ap (λ l. epoch_in new pending l) (stays (old.pending) (ap (λ (c : State). c.pending) (sym (keeps.none e)) ∙ e) e) where
-    stays : (was : Bool) → was ≡ false → new.pending ≡ false → cleared_if (not (beq new.pending was)) last ≡ last
-    stays was h f = rw h (rw f refl)
+clears_none {old} {new} pending last keeps = grind (arith, common_steps)
 
 -- An epoch that begins has no cells.
 begins : (old new : State) (pending : CellLists) (closed : Closed) → KeepsEpoch old new → new.setup ≡ old.setup → (old.pending ≡ false → pending ≡ no_cells)
     → epoch_in new pending closed ≡ (if is_same old.latest new.latest then epoch_in old pending closed else empty_epoch (time_in new))
-begins old new pending closed keeps setup none = by old.pending new.pending refl refl where
-  unchanged : new ≡ old → epoch_in new pending closed ≡ (if is_same old.latest new.latest then epoch_in old pending closed else empty_epoch (time_in new))
-  unchanged e =
-      ap (λ (c : State). epoch_in c pending closed) e
-      ∙ ap (λ b. if b then epoch_in old pending closed else empty_epoch (time_in new)) (sym (same_itself old.latest) ∙ ap (λ (c : State). is_same old.latest c.latest) (sym e))
-
-  by : (was is : Bool) → old.pending ≡ was → new.pending ≡ is → epoch_in new pending closed ≡ (if is_same old.latest new.latest then epoch_in old pending closed else empty_epoch (time_in new))
-  by true is e f = let kept = keeps.kept e in unchanged (same_state new old.setup old.latest old.pending setup kept.1 (kept.0 ∙ sym e))
-  by false false e f = unchanged (keeps.none f)
-  by false true e f =
-      open_is new pending closed f ∙ ap (λ lists. sorted_epoch new.setup.plan (open_epoch new lists)) (none e)
-      ∙ ap (λ b. if b then epoch_in old pending closed else empty_epoch (time_in new)) (sym (keeps.begun e f))
+begins old new pending closed keeps setup none = grind (arith, common_steps)
 
 abbrev parts : GathererValue → State → EpochValue → StationValues → GathererValue
 parts g clock e values = record { clock = clock; epoch = e; locks = g.locks; values = values; just_closed = false; has_ended = g.has_ended }
@@ -174,21 +145,4 @@ parts g clock e values = record { clock = clock; epoch = e; locks = g.locks; val
 pub heard_is : (g : GathererValue) {clock : State} {pending : CellLists} (closed : Closed) {values : StationValues} (m : Heard) → g.epoch ≡ epoch_in g.clock pending closed → clock ≡ open_by g.clock m
     → KeepsEpoch g.clock clock → (g.clock.pending ≡ false → pending ≡ no_cells) → values ≡ values_after_message g.clock.setup g.values m
     → parts g clock (epoch_in clock pending closed) values ≡ begun_by g m
-heard_is g {clock} {pending} closed {values} m epoch is keeps none given =
-    ap₂ (λ e v. parts g clock e v) (begins g.clock clock pending closed keeps (ap (λ (c : State). c.setup) is ∙ heard_setup g.clock m) none) given
-    ∙ ap₂ (λ (c : State) (l : Option ℕ). after c (is_same g.clock.latest l) l) is latest
-    ∙ ap (λ e. parts g (open_by g.clock m) (if is_same g.clock.latest w.clock.latest then e else empty_epoch (option_map_or (λ t. t) w.clock.latest 0)) w.values) (sym epoch)
-    ∙ whole (is_same g.clock.latest w.clock.latest) where
-      w : GathererValue
-      w = with_time g m
-
-      latest : clock.latest ≡ w.clock.latest
-      latest = ap (λ (c : State). c.latest) (is ∙ heard_step g.clock m)
-
-      after : State → Bool → Option ℕ → GathererValue
-      after c b l = parts g c (if b then epoch_in g.clock pending closed else empty_epoch (option_map_or (λ t. t) l 0)) w.values
-
-      whole : (b : Bool) → parts g (open_by g.clock m) (if b then g.epoch else empty_epoch (option_map_or (λ t. t) w.clock.latest 0)) w.values
-          ≡ record (if b then w else record w { epoch = empty_epoch (option_map_or (λ t. t) w.clock.latest 0) }) { clock = open_by g.clock m; just_closed = false }
-      whole true = refl
-      whole false = refl
+heard_is g {clock} {pending} closed {values} m epoch is keeps none given = grind (arith, common_steps, begins, heard_setup, heard_step)
