@@ -1,7 +1,8 @@
 -- Each frame is counted once.
 use Rattle.rtcm_convert.proofs.ExactLemmas.{outcomes_length}
-use Rattle.rtcm_convert.proofs.Names.{◌≡◌, ℕ, ◌+◌, List, [], ◌∷◌, ◌++◌, Bool, false, refl, ◌∙◌, arith, length, Option, Some, None, sum_by, option_map, sum_by-cons, Framed, frames_of, Kind, GatherSetup, Heard, is_close_first, kind_of, SetupValue, message_of, messages_of, outcomes, outcomes_after, tally_of_one, report_of, IsCountedOnce, Report}
+use Rattle.rtcm_convert.proofs.Names.{◌≡◌, ℕ, ◌+◌, List, [], ◌∷◌, ◌++◌, Bool, false, refl, arith, length, Option, Some, None, sum_by, option_map, sum_by-cons, Framed, frames_of, Kind, GatherSetup, Heard, is_close_first, kind_of, SetupValue, message_of, messages_of, outcomes_after, tally_of_one, report_of, IsCountedOnce, Report}
 use Rattle.obs_epoch.specs.declared.taken.Kind.TheVariants as kind
+use Rattle.std.proofs.lemmas.Grind.{common_steps}
 
 -- the outcome that no frame has
 abbrev is_first : Option Kind → Bool
@@ -46,19 +47,7 @@ sum-cons count o os = sum_by-cons (λ o. count (tally_of_one o)) o os
 all_once : (os : List (Option Kind)) → AreDone os
     → sum (λ t. t.faulty) os + (sum (λ t. t.station) os + (sum (λ t. t.other) os + (sum (λ t. t.ignored) os + (sum (λ t. t.late) os + (sum (λ t. t.past) os + sum (λ t. t.taken) os))))) ≡ length os
 all_once [] d = refl
-all_once (o ∷ os) d =
-    omega (
-      arith,
-      sum-cons (λ t. t.faulty) o os,
-      sum-cons (λ t. t.station) o os,
-      sum-cons (λ t. t.other) o os,
-      sum-cons (λ t. t.ignored) o os,
-      sum-cons (λ t. t.late) o os,
-      sum-cons (λ t. t.past) o os,
-      sum-cons (λ t. t.taken) o os,
-      one_each o d.0,
-      all_once os d.1,
-    )
+all_once (o ∷ os) d = grind (arith, common_steps, all_once os d.1)
 
 one_frame : (o : Option Kind) → (tally_of_one o).frames ≡ 1
 one_frame None = refl
@@ -75,7 +64,4 @@ sum_frames [] = refl
 sum_frames (o ∷ os) = omega (arith, sum-cons (λ t. t.frames) o os, one_frame o, sum_frames os)
 
 pub counted_once : Kinds → (s : SetupValue) (b : List ℕ) → IsCountedOnce (report_of s b) (length (frames_of b))
-counted_once kinds s b =
-    let os = outcomes s (frames_of b) in
-    let n : length os ≡ length (frames_of b) = outcomes_length s [] (frames_of b) in
-    record { all = sum_frames os ∙ n; once = all_once os (outcomes_done kinds s [] (frames_of b)) ∙ n }
+counted_once kinds s b = grind (arith, common_steps, outcomes_length, sum_frames, all_once, outcomes_done)

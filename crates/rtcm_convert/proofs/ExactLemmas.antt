@@ -1,8 +1,7 @@
 -- No count of a stream reaches the greatest number that is counted: a frame has at least six bytes and at most 64
 -- cells.
-use Rattle.obs_epoch.specs.Cells.{kept_of_all as kept_both}
 use Rattle.rtcm_msg.specs.declared.view.Form.TheVariants as forms
-use Rattle.rtcm_convert.proofs.Names.{common_steps, ◌≡◌, ◌||◌, ℕ, ◌+◌, ◌*◌, ◌≤◌, most_bytes, List, [], ◌∷◌, ◌++◌, Bool, true, false, refl, sym, ap, subst, arith, rules, length, length-append, add-zero, suc, zero, nat_lt, Option, Some, None, is_some, not, LockField, Df402, Df407, count_by, filter, filter_map, if◌then◌else◌, zip, option_map_or, length-map, sum_by-cons, length-filter, count_by-le-length, System, uint, Framed, Message, Entry, MasksValue, MsmValue, AreMasks, pair_count, IsMessage, chosen, cell_pairs, all_pairs, entries, entry_in, Kind, GatherSetup, Heard, heard, heard_by, ChannelsValue, heard_msm, is_own, seen_in, unlisted_in, HeardCell, Timed, timed, timed_after, taken_at, is_late, is_past, time_of, times, counts_of, counts_of_message, no_counts, with_skipped, is_planned, is_among, offered, kind_of, kind_at, all_epochs, closed_at, satellites_written, SetupValue, messages_of, message_of, epochs_in, outcomes_after, capped, capped_tally, sum_of_counts, tally_of, tally_of_one, IsFew, AreFew, Report, CellCounts}
+use Rattle.rtcm_convert.proofs.Names.{common_steps, ◌≡◌, ◌||◌, ℕ, ◌+◌, ◌*◌, ◌≤◌, most_bytes, List, [], ◌∷◌, ◌++◌, Bool, true, false, refl, sym, ap, subst, arith, rules, length, length-append, add-zero, suc, zero, nat_lt, Option, Some, None, is_some, LockField, Df402, Df407, count_by, filter, filter_map, if◌then◌else◌, zip, option_map_or, length-map, length-filter, count_by-le-length, System, uint, Framed, Message, Entry, MasksValue, MsmValue, AreMasks, IsMessage, chosen, cell_pairs, all_pairs, entries, entry_in, Kind, GatherSetup, Heard, heard, heard_by, ChannelsValue, heard_msm, is_own, unlisted_in, HeardCell, Timed, timed, timed_after, taken_at, is_late, is_past, time_of, times, counts_of, counts_of_message, no_counts, with_skipped, is_planned, offered, kind_of, kind_at, all_epochs, closed_at, satellites_written, SetupValue, messages_of, message_of, epochs_in, outcomes_after, capped, capped_tally, sum_of_counts, tally_of, tally_of_one, IsFew, AreFew, Report, CellCounts}
 use Rattle.rtcm_msg.specs.declared.message.Message.TheVariants as message
 use Rattle.obs_epoch.specs.declared.taken.Kind.TheVariants as kind
 
@@ -26,11 +25,7 @@ zip_few (x ∷ xs) [] = omega arith
 zip_few (x ∷ xs) (y ∷ ys) = let i = zip_few xs ys in omega arith
 
 cell_pairs_few : {B : Type 0} (s : MasksValue) (ys : List B) → AreMasks s → length (zip (cell_pairs s) ys) ≤ 64
-cell_pairs_few s ys h =
-    let a = zip_few (cell_pairs s) ys in
-    let b : length (cell_pairs s) ≤ length (uint (pair_count s.satellites s.signals) s.cells) = chosen_few (uint (pair_count s.satellites s.signals) s.cells) (all_pairs s) in
-    let c : length (uint (pair_count s.satellites s.signals) s.cells) ≡ pair_count s.satellites s.signals = length-uint (pair_count s.satellites s.signals) s.cells in
-    omega (arith, a, b, c, h.few)
+cell_pairs_few s ys h = grind (arith, common_steps, zip_few, chosen_few, all_pairs, length-uint)
 
 entries_few : (m : Message) → IsMessage m → length (entries m) ≤ 64
 entries_few (message.Station s) h = omega arith
@@ -54,10 +49,7 @@ record HasFew (m : Heard) : Type 0 where
   unlisted : m.unlisted ≤ 64
 
 heard_msm_few : (channels : ChannelsValue) (leap : ℕ) (field : LockField) (v : MsmValue) (es : List Entry) → length es ≤ 64 → HasFew (heard_msm channels leap field v es)
-heard_msm_few channels leap field v es le = record {
-  cells = omega (arith, filter_map_few (seen_in channels field v.system) es, le);
-  unlisted = omega (arith, unlisted_few channels field v.system es, le);
-}
+heard_msm_few channels leap field v es le = grind (arith, common_steps, filter_map_few, unlisted_few)
 
 heard_few : (channels : ChannelsValue) (leap : ℕ) (m : Message) → IsMessage m → HasFew (heard channels leap m)
 heard_few channels leap (message.Station s) h = record { cells = omega arith; unlisted = omega arith }
@@ -78,14 +70,7 @@ planned_few : (s : GatherSetup) (xs : List HeardCell) → length (filter (is_pla
 planned_few s xs = subst (λ (n : ℕ). n ≤ length xs) (sym (length-filter (is_planned s) xs)) (count_by-le-length (is_planned s) xs)
 
 counts_few : (s : GatherSetup) (before : List HeardCell) (m : Heard) → HasFew m → CountsFew (with_skipped m.unlisted (counts_of s before m.cells))
-counts_few s before m h =
-    let planned = filter (is_planned s) m.cells in
-    let all = kept_both (before ++ planned) in
-    record {
-      skipped = omega (arith, count_by-le-length (λ x. not (is_planned s x)) m.cells, h.cells, h.unlisted);
-      repeated = omega (arith, count_by-le-length (is_among all) planned, planned_few s m.cells, h.cells);
-      crowded = omega (arith, count_by-le-length (λ x. not (is_among all x)) planned, planned_few s m.cells, h.cells);
-    }
+counts_few s before m h = grind (arith, common_steps, count_by-le-length, planned_few)
 
 counts_few_at : (s : GatherSetup) (xs : List Timed) (m : Heard) (o : Option ℕ) → HasFew m
     → CountsFew (option_map_or (λ u. with_skipped m.unlisted (counts_of s (offered s u xs) m.cells)) o no_counts)
@@ -127,26 +112,13 @@ few_more (p ∷ os) o h k = (h.0, few_more os o h.1 k)
 
 total_few : (count : Report → ℕ) → ((t : Report) → IsFew t → count t ≤ 128) → (os : List (Option Kind)) → AreFew os → sum_of_counts count os ≤ 128 * length os
 total_few count below [] h = omega arith
-total_few count below (o ∷ os) h =
-    omega (arith, sum_by-cons (λ o. count (tally_of_one o)) o os, below (tally_of_one o) h.0, total_few count below os h.1)
+total_few count below (o ∷ os) h = grind (arith, common_steps, total_few count below os h.1)
 
 whole_count : (n k most : ℕ) → n ≤ 128 * k → 6 * k ≤ most → most ≤ most_bytes → capped n ≡ n
 whole_count n k most a b c = omega arith
 
 pub tally_whole : (os : List (Option Kind)) (most : ℕ) → AreFew os → 6 * length os ≤ most → most ≤ most_bytes → capped_tally (tally_of os) ≡ tally_of os
-tally_whole os most few short small =
-    let frames_is = whole_count (sum_of_counts (λ t. t.frames) os) (length os) most (total_few (λ t. t.frames) (λ t h. h.frames) os few) short small in
-    let faulty_is = whole_count (sum_of_counts (λ t. t.faulty) os) (length os) most (total_few (λ t. t.faulty) (λ t h. h.faulty) os few) short small in
-    let station_is = whole_count (sum_of_counts (λ t. t.station) os) (length os) most (total_few (λ t. t.station) (λ t h. h.station) os few) short small in
-    let other_is = whole_count (sum_of_counts (λ t. t.other) os) (length os) most (total_few (λ t. t.other) (λ t h. h.other) os few) short small in
-    let ignored_is = whole_count (sum_of_counts (λ t. t.ignored) os) (length os) most (total_few (λ t. t.ignored) (λ t h. h.ignored) os few) short small in
-    let late_is = whole_count (sum_of_counts (λ t. t.late) os) (length os) most (total_few (λ t. t.late) (λ t h. h.late) os few) short small in
-    let past_is = whole_count (sum_of_counts (λ t. t.past) os) (length os) most (total_few (λ t. t.past) (λ t h. h.past) os few) short small in
-    let taken_is = whole_count (sum_of_counts (λ t. t.taken) os) (length os) most (total_few (λ t. t.taken) (λ t h. h.taken) os few) short small in
-    let skipped_is = whole_count (sum_of_counts (λ t. t.skipped) os) (length os) most (total_few (λ t. t.skipped) (λ t h. h.skipped) os few) short small in
-    let repeated_is = whole_count (sum_of_counts (λ t. t.repeated) os) (length os) most (total_few (λ t. t.repeated) (λ t h. h.repeated) os few) short small in
-    let crowded_is = whole_count (sum_of_counts (λ t. t.crowded) os) (length os) most (total_few (λ t. t.crowded) (λ t h. h.crowded) os few) short small in
-    cc
+tally_whole os most few short small = grind (arith, common_steps, whole_count, total_few)
 
 pub outcomes_length : (s : SetupValue) (before fs : List Framed) → length (outcomes_after s before fs) ≡ length fs
 outcomes_length s before [] = refl

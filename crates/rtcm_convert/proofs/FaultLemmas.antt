@@ -1,5 +1,6 @@
 -- The faults of a call, by the results that it never has.
-use Rattle.rtcm_convert.proofs.Names.{◌≡◌, ℕ, Bool, true, false, sym, ap, subst, ◌∙◌, inl, inr, Result, Ok, Err, IfErr, false≢true, IsErrOf, OnErr, OnOk, Device, HasFailed, FailsToWrite, WriterFailures, FailsWithWriter, IsSetupFault, IsPiecesFault, IsRunFault, Fault, BadSetup, Memory, Read, TooLong, Write, NoEpoch, ⊤}
+use Rattle.rtcm_convert.proofs.Names.{arith, ◌≡◌, ℕ, Bool, true, false, sym, ap, subst, ◌∙◌, inl, inr, Result, Ok, Err, IfErr, false≢true, IsErrOf, OnErr, OnOk, Device, HasFailed, FailsToWrite, FailsWithWriter, IsSetupFault, IsPiecesFault, IsRunFault, Fault, BadSetup, Memory, Read, TooLong, Write, NoEpoch, ⊤}
+use Rattle.std.proofs.lemmas.Grind.{common_steps}
 
 abbrev pub of_finish : Fault → Bool
 of_finish NoEpoch = true
@@ -48,11 +49,7 @@ module _ {K : Fault → Type 0} {test : Fault → Bool} (L : Fault → Type 0) (
 -- ---- a call after others that did not fail
 
 pub writer_after : {T A : Type 0} (r : Result A Fault) (old mid new : Device T) → mid.failures ≡ old.failures → mid.widest ≡ old.widest → FailsWithWriter r mid new → FailsWithWriter r old new
-writer_after r old mid new e w d = (
-  subst (λ (n : ℕ). IfErr r (λ fault. WriterFailures fault n new.failures)) e d.0,
-  subst (λ (n : ℕ). OnOk r (new.failures ≡ n)) e d.1,
-  d.2 ∙ w,
-)
+writer_after r old mid new e w d = grind (arith, common_steps)
 
 pub fails_after : {T A : Type 0} (r : Result A Fault) (old mid new : Device T) → ⊤ × (mid.failures ≡ old.failures) × (mid.widest ≡ old.widest) → FailsToWrite r mid new → FailsToWrite r old new
 fails_after r old mid new e d = (d.0, (subst (λ (n : ℕ). OnErr r (HasFailed n new.failures)) e.1 d.1.0, subst (λ (n : ℕ). OnOk r (new.failures ≡ n)) e.1 d.1.1, d.1.2 ∙ e.2))

@@ -1,5 +1,6 @@
 -- What a converter holds.
-use Rattle.rtcm_convert.proofs.Names.{◌≡◌, ℕ, List, [], ◌∷◌, true, refl, sym, ap, ◌∙◌, Option, None, map, length, if◌then◌else◌, frames_of, Closed, GatherSetup, Heard, timed, times, closed_times, closed_so_far, GathererValue, locked_in, firsts, HasGatheredEpochs, is_done, closed_list_at, SetupValue, messages_of, locks_at, locks_in_all, Conversion, HasFinished}
+use Rattle.rtcm_convert.proofs.Names.{arith, ◌≡◌, ℕ, List, [], ◌∷◌, true, refl, sym, ap, ◌∙◌, Option, None, map, length, frames_of, Closed, GatherSetup, Heard, timed, times, closed_so_far, GathererValue, locked_in, firsts, HasGatheredEpochs, is_done, closed_list_at, SetupValue, messages_of, locks_at, locks_in_all, Conversion, HasFinished}
+use Rattle.std.proofs.lemmas.Grind.{common_steps}
 
 -- the times of the epochs of these times
 times_back : (s : GatherSetup) (ms : List Heard) (ts : List ℕ) → map (λ (c : Closed). c.epoch.time) (closed_list_at s ms ts) ≡ ts
@@ -10,9 +11,7 @@ same_times : (s : GatherSetup) (ms : List Heard) (ts us : List ℕ) → closed_l
 same_times s ms ts us e = sym (times_back s ms ts) ∙ ap (map (λ (c : Closed). c.epoch.time)) e ∙ times_back s ms us
 
 closed_all : (v : GathererValue) (s : GatherSetup) (ms : List Heard) (es : List Closed) → HasGatheredEpochs v s ms es None → v.has_ended ≡ true → closed_so_far s (timed s ms) (is_done v s ms None) ≡ times (timed s ms)
-closed_all v s ms es x over =
-    same_times s ms (closed_so_far s (timed s ms) (is_done v s ms None)) (times (timed s ms))
-    (sym x.returned ∙ x.epochs refl ∙ ap (λ e. if e then closed_list_at s ms (times (timed s ms)) else closed_list_at s ms (closed_times s (timed s ms))) over)
+closed_all v s ms es x over = grind (arith, common_steps, same_times)
 
 -- one record for each key that is locked in an epoch that counts
 abbrev pub HasKeys : GathererValue → ℕ → Type 0

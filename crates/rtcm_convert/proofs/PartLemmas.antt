@@ -1,5 +1,6 @@
 -- Bytes that are written one part after the other.
-use Rattle.rtcm_convert.proofs.Names.{◌≡◌, ℕ, List, [], ◌++◌, sym, ap, ◌∙◌, Option, None, Some, refl, subst, Err, append_assoc, append-nil, IsErrOf, Appends, Keeps, append_cancel_left, Appends-trans, Appends-nil, Appends-kept, AppendsPrefix, IsPrefix, AppendsBetween, AppendsPrefixBetween, AppendsUpTo}
+use Rattle.rtcm_convert.proofs.Names.{arith, ◌≡◌, ℕ, List, [], ◌++◌, sym, ap, ◌∙◌, Option, None, Some, refl, subst, Err, append_assoc, append-nil, IsErrOf, Appends, Keeps, append_cancel_left, Appends-trans, Appends-nil, Appends-kept, AppendsPrefix, IsPrefix, AppendsBetween, AppendsPrefixBetween, AppendsUpTo}
+use Rattle.std.proofs.lemmas.Grind.{common_steps}
 
 pub prefix_more : {z : List ℕ} (a b : Option (List ℕ)) (x y : List ℕ) → z ≡ x ++ y → AppendsPrefix a b x → AppendsPrefix a b z
 prefix_more a b x y e p = (p.0 ++ y, (p.1.0, e ∙ ap (λ l. l ++ y) p.1.1 ∙ append_assoc p.1.0 p.0 y, p.1.2))
@@ -11,27 +12,13 @@ pub goes_on-refl : (a : Option (List ℕ)) (x : List ℕ) → AppendsBetween a a
 goes_on-refl a x = record { part = []; text = sym (append-nil x); out = Appends-nil a }
 
 pub goes_on-trans : {a b c : Option (List ℕ)} {x y z : List ℕ} → AppendsBetween a b x y → AppendsBetween b c y z → AppendsBetween a c x z
-goes_on-trans {a} {b} {c} {x} f g = record {
-  part = f.part ++ g.part;
-  text = g.text ∙ ap (λ l. l ++ g.part) f.text ∙ append_assoc x f.part g.part;
-  out = Appends-trans a b c f.part g.part f.out g.out;
-}
+goes_on-trans {a} {b} {c} {x} f g = grind (arith, common_steps)
 
 pub breaks_off-after : {a b c : Option (List ℕ)} {x y z : List ℕ} → AppendsBetween a b x y → AppendsPrefixBetween b c y z → AppendsPrefixBetween a c x z
-breaks_off-after {a} {b} {c} {x} f g = record {
-  part = f.part ++ g.part;
-  rest = g.rest;
-  text = g.text ∙ ap (λ l. (l ++ g.part) ++ g.rest) f.text ∙ ap (λ l. l ++ g.rest) (append_assoc x f.part g.part);
-  out = Appends-trans a b c f.part g.part f.out g.out;
-}
+breaks_off-after {a} {b} {c} {x} f g = grind (arith, common_steps)
 
 pub breaks_off-before : {a b : Option (List ℕ)} {x y z : List ℕ} → AppendsPrefixBetween a b x y → IsPrefix y z → AppendsPrefixBetween a b x z
-breaks_off-before {x} f p = record {
-  part = f.part;
-  rest = f.rest ++ p.0;
-  text = p.1 ∙ ap (λ l. l ++ p.0) f.text ∙ append_assoc (x ++ f.part) f.rest p.0;
-  out = f.out;
-}
+breaks_off-before {x} f p = grind (arith, common_steps)
 
 -- all of what the later text adds
 pub goes_on-by : (a b : Option (List ℕ)) (x y z : List ℕ) → z ≡ x ++ y → Appends a b y → AppendsBetween a b x z
@@ -39,12 +26,7 @@ goes_on-by a b x y z e o = record { part = y; text = e; out = o }
 
 -- a prefix of what it adds
 pub breaks_off-by : (a b : Option (List ℕ)) (x y z : List ℕ) → z ≡ x ++ y → AppendsPrefix a b y → AppendsPrefixBetween a b x z
-breaks_off-by a b x y z e p = record {
-  part = p.1.0;
-  rest = p.0;
-  text = e ∙ ap (λ l. x ++ l) p.1.1 ∙ sym (append_assoc x p.1.0 p.0);
-  out = p.1.2;
-}
+breaks_off-by a b x y z e p = grind (arith, common_steps)
 
 -- a flush keeps the known bytes
 pub goes_on-kept : {a b c : Option (List ℕ)} {x y : List ℕ} → AppendsBetween a b x y → Keeps b c → AppendsBetween a c x y

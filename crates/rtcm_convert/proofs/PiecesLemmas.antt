@@ -1,15 +1,14 @@
 -- Pieces that a converter accepts up to the end of its stream.
 use Rattle.rtcm_convert.proofs.PartLemmas.{goes_on-trans}
 use Rattle.rtcm_convert.proofs.RunLemmas.{completed_after, empty_after}
-use Rattle.rtcm_convert.proofs.Names.{◌≡◌, ℕ, ◌+◌, ◌<◌, ◌≤◌, inl, inr, List, [], ◌∷◌, ◌++◌, sym, ap, subst, ◌∙◌, arith, Option, append-nil, append_assoc, length, length-append, take, drop, get_or, flat_map, Vec, take_more, take-append-drop, take-append-le, flat_map-append, take-length, joined_pieces, SetupValue, AppendsDecided, AppendsPrefixOfDecided, Conversion, HasConverted, TakesPiece, CutsAtLimit, WritesPrefixOfAdded, StopsAtEnd, FinishesNow, FinishesEmptyNow, CompletesFile, CompletesEmptyFile, FailsAtEnd, StopsInPieces, Report}
+use Rattle.rtcm_convert.proofs.Names.{◌≡◌, ℕ, ◌+◌, ◌<◌, ◌≤◌, inl, inr, List, ◌++◌, sym, ap, subst, ◌∙◌, arith, Option, append_assoc, length, length-append, take, drop, get_or, flat_map, Vec, take-append-drop, take-append-le, flat_map-append, take-length, joined_pieces, SetupValue, AppendsDecided, AppendsPrefixOfDecided, Conversion, HasConverted, TakesPiece, CutsAtLimit, WritesPrefixOfAdded, StopsAtEnd, FinishesNow, FinishesEmptyNow, CompletesFile, CompletesEmptyFile, FailsAtEnd, StopsInPieces, Report}
+use Rattle.std.proofs.lemmas.Grind.{common_steps}
 
 -- ---- the first pieces
 
 pub pieces_more : {X : Type 0} (bytes : X → List ℕ) (pieces : List X) (i : ℕ) (d : X) (piece : List ℕ) → piece ≡ bytes (get_or pieces i d) → i < length pieces
     → flat_map bytes (take i pieces) ++ piece ≡ flat_map bytes (take (i + 1) pieces)
-pieces_more bytes pieces i d piece is lt =
-    sym (ap (flat_map bytes) (take_more pieces i d lt) ∙ flat_map-append bytes (take i pieces) (get_or pieces i d ∷ [])
-    ∙ ap (λ l. flat_map bytes (take i pieces) ++ l) (append-nil (bytes (get_or pieces i d)) ∙ sym is))
+pieces_more bytes pieces i d piece is lt = grind (arith, common_steps)
 
 pub pieces_all : {X : Type 0} (bytes : X → List ℕ) (pieces : List X) (i : ℕ) → i ≤ length pieces → length pieces ≤ i → flat_map bytes (take i pieces) ≡ flat_map bytes pieces
 pieces_all bytes pieces i le ge = let e : i ≡ length pieces = omega arith in ap (λ k. flat_map bytes (take k pieces)) e ∙ ap (flat_map bytes) (take-length pieces)

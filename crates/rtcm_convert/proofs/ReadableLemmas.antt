@@ -1,5 +1,6 @@
 -- The bytes written are the text of a file value.
-use Rattle.rtcm_convert.proofs.Names.{◌≡◌, ℕ, ◌<◌, inl, inr, Bool, true, false, List, [], ◌∷◌, ◌++◌, length, filter, refl, sym, subst, arith, Option, Some, None, Result, Ok, Err, nat_lt, append-nil, cond, IfSome, AllByRecursion, cons_option, Framed, Message, MsgFault, IsMessage, MsmSet, message_with, PlanValue, Closed, satellites_written, Heard, IsPrefix, all_epochs, closed_epochs, ClosedComeFirst, IsHeard, MessagesAreHeard, EpochsAreGathered, IsGatheredEpoch, TimesRise, AreGatheredEpochs, HeaderLists, AreTexts, gathered, AreSignals, HasSatellite, IsGatheredFile, SetupValue, heard_of, message_of, messages_of, written_epochs, text_of_epochs, text_with, file, so_far, epochs_in, IsFileText, HasValue, IsReadable, AreSound, AreChannels}
+use Rattle.rtcm_convert.proofs.Names.{◌≡◌, ℕ, ◌<◌, inl, inr, Bool, List, [], ◌∷◌, ◌++◌, length, filter, refl, sym, subst, arith, Option, Some, None, Result, Ok, Err, append-nil, IfSome, AllByRecursion, cons_option, Framed, Message, MsgFault, IsMessage, MsmSet, message_with, PlanValue, Closed, Heard, IsPrefix, all_epochs, closed_epochs, ClosedComeFirst, IsHeard, MessagesAreHeard, EpochsAreGathered, TimesRise, AreGatheredEpochs, HeaderLists, AreTexts, gathered, AreSignals, HasSatellite, IsGatheredFile, SetupValue, heard_of, message_of, messages_of, written_epochs, text_of_epochs, text_with, file, so_far, epochs_in, IsFileText, HasValue, IsReadable, AreSound, AreChannels}
+use Rattle.std.proofs.lemmas.Grind.{common_steps}
 
 -- the laws of the crates below on messages, epochs and files
 pub record Known : Type 0 where
@@ -30,27 +31,15 @@ messages_heard k s (f ∷ fs) are = by (message_of s f) (message_heard k s f.mes
 
 all_filter : (P : Closed → Type 0) (p : Closed → Bool) (es : List Closed) → AllByRecursion P es → AllByRecursion P (filter p es)
 all_filter P p [] h = tt
-all_filter P p (e ∷ es) h = by (p e) (all_filter P p es h.1) where
-  by : (b : Bool) → AllByRecursion P (filter p es) → AllByRecursion P (cond b (e ∷ filter p es) (filter p es))
-  by true l = (h.0, l)
-  by false l = l
+all_filter P p (e ∷ es) h = grind (arith, common_steps, all_filter P p es h.1)
 
 rise_filter : (p : Closed → Bool) (es : List Closed) → TimesRise es → TimesRise (filter p es)
 rise_filter p [] h = tt
-rise_filter p (e ∷ es) h = by (p e) (rise_filter p es h.1) where
-  by : (b : Bool) → TimesRise (filter p es) → TimesRise (cond b (e ∷ filter p es) (filter p es))
-  by true l = (all_filter (λ f. e.epoch.time < f.epoch.time) p es h.0, l)
-  by false l = l
-
-above : (n : ℕ) → nat_lt 0 n ≡ true → 0 < n
-above n h = grind (arith, h)
+rise_filter p (e ∷ es) h = grind (arith, common_steps, all_filter, rise_filter p es h.1)
 
 written_some : (es : List Closed) → AllByRecursion HasSatellite (written_epochs es)
 written_some [] = tt
-written_some (e ∷ es) = by (nat_lt 0 (satellites_written e.epoch)) refl (written_some es) where
-  by : (b : Bool) → nat_lt 0 (satellites_written e.epoch) ≡ b → AllByRecursion HasSatellite (written_epochs es) → AllByRecursion HasSatellite (cond b (e ∷ written_epochs es) (written_epochs es))
-  by true h l = (above (satellites_written e.epoch) h, l)
-  by false h l = l
+written_some (e ∷ es) = grind (arith, common_steps, written_some es)
 
 all_front : (P : Closed → Type 0) (es rest : List Closed) → AllByRecursion P (es ++ rest) → AllByRecursion P es
 all_front P [] rest h = tt
@@ -61,9 +50,7 @@ rise_front [] rest h = tt
 rise_front (e ∷ es) rest h = (all_front (λ f. e.epoch.time < f.epoch.time) es rest h.0, rise_front es rest h.1)
 
 front : (plan : PlanValue) (es all : List Closed) → IsPrefix es all → AreGatheredEpochs plan all → AreGatheredEpochs plan es
-front plan es all p h =
-    let whole = subst (AreGatheredEpochs plan) p.1 h in
-    record { each = all_front (IsGatheredEpoch plan) es p.0 whole.each; rise = rise_front es p.0 whole.rise }
+front plan es all p h = grind (arith, common_steps, all_front, rise_front)
 
 -- ---- their text
 
@@ -75,10 +62,7 @@ text_valued k {texts} {plan} (e ∷ es) x p h some none =
     (gathered texts plan e.values (e ∷ es), k.gathered texts plan e es x p h some, k.text texts plan e es)
 
 with_valued : Known → (s : SetupValue) (es : List Closed) → AreSound s → AreGatheredEpochs s.gather.plan es → 0 < length (written_epochs es) → HasValue (text_with s es)
-with_valued k s es sound h =
-    text_valued k (written_epochs es) sound.texts sound.plan
-    (record { each = all_filter (IsGatheredEpoch s.gather.plan) (λ e. nat_lt 0 (satellites_written e.epoch)) es h.each; rise = rise_filter (λ e. nat_lt 0 (satellites_written e.epoch)) es h.rise })
-    (written_some es)
+with_valued k s es sound h = grind (arith, common_steps, text_valued, all_filter, rise_filter, written_some)
 
 no_text : (texts : HeaderLists) (plan : PlanValue) (es : List Closed) → (0 < length es → HasValue (text_of_epochs texts plan es)) → IsReadable (text_of_epochs texts plan es)
 unfolding text_of_epochs

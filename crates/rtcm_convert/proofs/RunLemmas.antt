@@ -2,7 +2,8 @@
 use Rattle.rtcm_convert.proofs.FeedLemmas.{with_flags, fed_whole, fed_long}
 use Rattle.rtcm_convert.proofs.PartLemmas.{goes_on-trans, up_to_earlier, up_to_later}
 use Rattle.rtcm_convert.proofs.StreamLemmas.{passed_here, piece_whole, so_far-front}
-use Rattle.rtcm_convert.proofs.Names.{◌≡◌, ℕ, List, ◌++◌, ap, sym, subst, ◌∙◌, Option, append_assoc, length, ◌+◌, ◌<◌, refl, Bool, true, false, None, Some, arith, length-append, IfSome, if◌then◌else◌, Consumes, IsAtEnd, Consumes-whole, Device, HasFailed, IsPrefix, longest_frame, decided_frames, Framed, known_frames, PassesToLimit, BreaksAfter, Reads, ReadsOn, FramerValue, SetupValue, so_far, AppendsUpTo, FiledGrows, FileWriter, Report, AppendsDecided, AppendsPrefixOfRest, BreaksFiling, Files, HasDrainedSome, Conversion, KeepsNow, IsGoing, refusal, HasConverted, TakesFromReader, IsPastLimit, CutsAtLimit, RanToFault, RanToLimit, Completed, CompletedEmpty, FinishesNow, FinishesEmptyNow, CompletesFile, CompletesEmptyFile, FailsFeeding, FailsFinishing, Failed, Finished}
+use Rattle.rtcm_convert.proofs.Names.{◌≡◌, ℕ, List, ◌++◌, sym, subst, ◌∙◌, Option, append_assoc, refl, Bool, true, false, None, Some, arith, IfSome, if◌then◌else◌, Consumes, IsAtEnd, Consumes-whole, Device, HasFailed, IsPrefix, longest_frame, decided_frames, Framed, known_frames, PassesToLimit, BreaksAfter, Reads, ReadsOn, FramerValue, SetupValue, so_far, AppendsUpTo, FiledGrows, FileWriter, Report, AppendsDecided, AppendsPrefixOfRest, BreaksFiling, Files, HasDrainedSome, Conversion, KeepsNow, IsGoing, refusal, HasConverted, TakesFromReader, CutsAtLimit, RanToFault, RanToLimit, Completed, CompletedEmpty, FinishesNow, FinishesEmptyNow, CompletesFile, CompletesEmptyFile, FailsFeeding, FailsFinishing, Failed, Finished}
+use Rattle.std.proofs.lemmas.Grind.{common_steps}
 
 flags : (ended failed : Bool) → None ≡ (if ended then Some Finished else if failed then Some Failed else None) → (failed ≡ false) × (ended ≡ false)
 flags true failed e = absurd cc
@@ -34,31 +35,9 @@ ran_empty {v} {x} {n} r r' {a} {c} p e f =
     Consumes-whole r r' p.0 (CompletesEmptyFile v x n a c) p.1 e
     (λ s bytes y. let i = p.3 s bytes y in empty_after i.out (f s (bytes ++ p.0) i.converted))
 
-longer : (n : ℕ) (bytes xs front ys : List ℕ) → n < length (bytes ++ front) → xs ≡ front ++ ys → n < length (bytes ++ xs)
-longer n bytes xs front ys lt e =
-    let a : length (bytes ++ xs) ≡ length bytes + length xs = length-append bytes xs in
-    let b : length (bytes ++ front) ≡ length bytes + length front = length-append bytes front in
-    let c : length xs ≡ length front + length ys = ap length e ∙ length-append front ys in
-    omega arith
-
-above : (r r'' : Option (List ℕ)) (front : List ℕ) (P : List ℕ → Type 0) → Consumes r r'' front → ((xs ys : List ℕ) → xs ≡ front ++ ys → P xs) → IfSome r P
-above None r'' front P c f = tt
-above (Some xs) None front P c f = absurd c
-above (Some xs) (Some ys) front P c f = f xs ys c
-
 -- the bytes read go over the limit
 pub ran_long : {v w : Conversion} (r r' : Option (List ℕ)) {a b : Option (List ℕ)} {front : List ℕ} → Consumes r r' front → CutsAtLimit v w a b front → RanToLimit v w r r' a b
-ran_long {v} r r' {front} e k = record {
-  front = front;
-  consumes = e;
-  adds = k.adds;
-  full = k.full;
-  over = above r r' front (IsPastLimit v) e (λ xs ys f s bytes y.
-      let taken : v.scan.taken ≡ length bytes = y.drained.framer.history.taken in
-      let all : length (bytes ++ front) ≡ length bytes + length front = length-append bytes front in
-      let over : v.scan.limit < v.scan.taken + length front = k.over in
-      longer v.scan.limit bytes xs front ys (omega (arith, taken, all, over)) f);
-}
+ran_long {v} r r' {front} e k = grind (arith, common_steps)
 
 -- the known frames before the end are the decided ones
 failing_at : {a b : Option (List ℕ)} {m : List ℕ} {e : Bool} (s : SetupValue) (bytes front piece : List ℕ) → e ≡ false → IsPrefix (so_far s (decided_frames bytes)) (so_far s (decided_frames (bytes ++ front)))

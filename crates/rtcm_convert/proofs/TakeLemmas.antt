@@ -1,9 +1,9 @@
 -- A message and a frame that are processed whole.
 use Rattle.rtcm_convert.proofs.PartLemmas.{goes_on-refl, goes_on-trans, breaks_off-after, breaks_off-by}
-use Rattle.rtcm_convert.proofs.TextLemmas.{cap_more, count, last, text-closed}
+use Rattle.rtcm_convert.proofs.TextLemmas.{count, last, text-closed}
 use Rattle.rtcm_convert.proofs.ExactLemmas.{few_more, message_few, refused_few}
 use Rattle.rtcm_convert.proofs.StepLemmas.{Wrote, wrote_all, part_of}
-use Rattle.rtcm_convert.proofs.Names.{◌≡◌, ℕ, List, [], ◌∷◌, ◌++◌, true, false, refl, sym, ap, subst, ◌∙◌, Option, Some, None, Result, Ok, Err, IfOk, OnOk, append-nil, append_assoc, ◌+◌, arith, common_steps, filter_map-append, sum_by-append, AppendsPrefix, Framed, Message, MsgFault, MsmSet, message_with, IsMessage, Kind, Closed, GatherSetup, Heard, heard_by, is_close_first, kind_of, GathererValue, HasGatheredEpochs, IsAwaited, closed_by, closed_in, plan_in, closed_epochs, all_epochs, known_epochs, SetupValue, text_with, so_far, file, message_of, messages_of, outcome, outcomes, outcomes_after, capped, capped_tally, tallies_added, sum_of_counts, tally_of, tally_of_one, IsFew, AreFew, AppendsBetween, AppendsPrefixBetween, added, HasFiledEpochs, Settled, HasFiledFrames, EndsFile, Report, FileWriter}
+use Rattle.rtcm_convert.proofs.Names.{◌≡◌, ℕ, List, [], ◌∷◌, ◌++◌, true, false, refl, sym, ap, subst, ◌∙◌, Option, Some, None, Result, Ok, Err, IfOk, OnOk, append-nil, arith, common_steps, filter_map-append, AppendsPrefix, Framed, Message, MsgFault, MsmSet, message_with, IsMessage, Kind, Closed, GatherSetup, Heard, heard_by, is_close_first, kind_of, GathererValue, HasGatheredEpochs, IsAwaited, closed_by, closed_in, plan_in, closed_epochs, all_epochs, known_epochs, SetupValue, text_with, so_far, file, messages_of, outcome, outcomes, outcomes_after, capped_tally, tallies_added, tally_of, tally_of_one, IsFew, AreFew, AppendsBetween, AppendsPrefixBetween, added, HasFiledEpochs, Settled, HasFiledFrames, EndsFile, Report, FileWriter}
 
 -- the epochs written after these, and their text
 abbrev pub Written : FileWriter → SetupValue → List Heard → Option Heard → Option (List ℕ) → Option (List ℕ) → List Closed → Type 0
@@ -21,9 +21,7 @@ Breaks a b s ms ns = AppendsPrefixBetween a b (text_with s (closed_epochs s.gath
 
 pub settle : {w : FileWriter} {s : SetupValue} {ms : List Heard} {a b : Option (List ℕ)} (es : List Closed) → w.gatherer.has_ended ≡ false
     → Written w s ms None a b es → Settled w s ms × AppendsBetween a b (text_with s es) (text_with s (closed_epochs s.gather ms))
-settle {w} {s} {ms} {a} {b} es going p =
-    let e : p.0 ≡ closed_epochs s.gather ms = p.1.gatherer.epochs refl ∙ ap (λ e. known_epochs e s.gather ms) going in
-    (subst (λ (all : List Closed). HasFiledEpochs w s ms all None) e p.1, subst (λ (all : List Closed). AppendsBetween a b (text_with s es) (text_with s all)) e p.2)
+settle {w} {s} {ms} {a} {b} es going p = grind (arith, common_steps)
 
 pub settle_again : {w x : FileWriter} {s : SetupValue} {ms ns : List Heard} {m : Heard} {a b c : Option (List ℕ)} → x.gatherer.has_ended ≡ false
     → (first : Written w s ms (Some m) a b (closed_epochs s.gather ms)) → Written x s ns None b c first.0 → Settled x s ns × Goes a c s ms ns
@@ -44,49 +42,25 @@ in_set y f read = ap (λ (set : MsmSet). message_with set f.message) (sym y.sett
 
 -- the messages of one more frame
 messages_more : (s : SetupValue) (fs : List Framed) (f : Framed) (m : Message) → message_with s.set f.message ≡ Ok m → messages_of s (fs ++ f ∷ []) ≡ messages_of s fs ++ heard_by s.gather m ∷ []
-messages_more s fs f m e =
-    let one : messages_of s (f ∷ []) ≡ heard_by s.gather m ∷ [] = rw e refl in
-    filter_map-append (message_of s) fs (f ∷ []) ∙ ap (λ l. messages_of s fs ++ l) one
+messages_more s fs f m e = grind (arith, common_steps, filter_map-append)
 
 messages_same : (s : SetupValue) (fs : List Framed) (f : Framed) (d : MsgFault) → message_with s.set f.message ≡ Err d → messages_of s (fs ++ f ∷ []) ≡ messages_of s fs
-messages_same s fs f d e =
-    let none : messages_of s (f ∷ []) ≡ [] = rw e refl in
-    filter_map-append (message_of s) fs (f ∷ []) ∙ ap (λ l. messages_of s fs ++ l) none ∙ append-nil (messages_of s fs)
+messages_same s fs f d e = grind (arith, common_steps, filter_map-append, append-nil)
 
 -- one more outcome
 outcomes_after-one : (s : SetupValue) (before fs : List Framed) (f : Framed) → outcomes_after s before (fs ++ f ∷ []) ≡ outcomes_after s before fs ++ outcome s (before ++ fs) f ∷ []
 outcomes_after-one s before [] f = ap (λ l. outcome s l f ∷ []) (sym (append-nil before))
-outcomes_after-one s before (g ∷ fs) f =
-    ap (λ l. outcome s before g ∷ l) (outcomes_after-one s (before ++ g ∷ []) fs f ∙ ap (λ l. outcomes_after s (before ++ g ∷ []) fs ++ outcome s l f ∷ []) (append_assoc before (g ∷ []) fs))
-
-total_one : (count : Report → ℕ) (os : List (Option Kind)) (o : Option Kind) → capped (capped (sum_of_counts count os) + count (tally_of_one o)) ≡ capped (sum_of_counts count (os ++ o ∷ []))
-total_one count os o =
-    let one : sum_of_counts count (o ∷ []) ≡ count (tally_of_one o) = grind (arith, common_steps) in
-    cap_more (sum_of_counts count os) (count (tally_of_one o)) ∙ ap capped (ap (λ k. sum_of_counts count os + k) (sym one) ∙ sym (sum_by-append (λ o. count (tally_of_one o)) os (o ∷ [])))
+outcomes_after-one s before (g ∷ fs) f = grind (arith, common_steps, outcomes_after-one s (before ++ g ∷ []) fs f)
 
 tally_more : (os : List (Option Kind)) (o : Option Kind) → tallies_added (capped_tally (tally_of os)) (tally_of_one o) ≡ capped_tally (tally_of (os ++ o ∷ []))
-tally_more os o =
-    let frames = total_one (λ t. t.frames) os o in
-    let faulty = total_one (λ t. t.faulty) os o in
-    let station = total_one (λ t. t.station) os o in
-    let other = total_one (λ t. t.other) os o in
-    let ignored = total_one (λ t. t.ignored) os o in
-    let late_ones = total_one (λ t. t.late) os o in
-    let past = total_one (λ t. t.past) os o in
-    let taken = total_one (λ t. t.taken) os o in
-    let skipped = total_one (λ t. t.skipped) os o in
-    let repeated = total_one (λ t. t.repeated) os o in
-    let crowded = total_one (λ t. t.crowded) os o in
-    cc
+tally_more os o = grind (arith, common_steps)
 
 tally_one : (s : SetupValue) (fs : List Framed) (f : Framed) {r r' : Report} {o : Option Kind} → o ≡ outcome s fs f → r ≡ capped_tally (tally_of (outcomes s fs)) → r' ≡ tallies_added r (tally_of_one o) → r' ≡ capped_tally (tally_of (outcomes s (fs ++ f ∷ [])))
-tally_one s fs f {o} is old new =
-    new ∙ ap (λ x. tallies_added x (tally_of_one o)) old ∙ tally_more (outcomes s fs) o ∙ ap (λ x. capped_tally (tally_of (outcomes s fs ++ x ∷ []))) is ∙ ap (λ l. capped_tally (tally_of l)) (sym (outcomes_after-one s [] fs f))
+tally_one s fs f {o} is old new = grind (arith, common_steps, tallies_added, tally_of_one, tally_more, tally_of, outcomes_after-one)
 
 -- one more frame has few cells, too, so that no count is capped
 few_one : (s : SetupValue) (fs : List Framed) (f : Framed) (o : Option Kind) → o ≡ outcome s fs f → AreFew (outcomes s fs) → IsFew (tally_of_one o) → AreFew (outcomes s (fs ++ f ∷ []))
-few_one s fs f o is few one =
-    subst (λ (l : List (Option Kind)). AreFew l) (sym (outcomes_after-one s [] fs f)) (subst (λ (x : Option Kind). AreFew (outcomes s fs ++ x ∷ [])) is (few_more (outcomes s fs) o few one))
+few_one s fs f o is few one = grind (arith, common_steps, outcomes_after-one, few_more)
 
 outcome_ok : (s : SetupValue) (fs : List Framed) (f : Framed) (m : Message) (k : Kind) → message_with s.set f.message ≡ Ok m → k ≡ kind_of s.gather (messages_of s fs) (heard_by s.gather m) → Some k ≡ outcome s fs f
 outcome_ok s fs f m k e is = rw e (ap Some is)

@@ -1,5 +1,6 @@
 -- The text of a file, epoch by epoch.
-use Rattle.rtcm_convert.proofs.Names.{Decides-int_eq, ◌≡◌, ℕ, List, [], ◌∷◌, ◌++◌, Bool, true, false, refl, sym, ap, subst, ◌∙◌, arith, Option, Some, None, append_assoc, append-nil, nat_lt, length, length-append, ◌+◌, if◌then◌else◌, filter-append, filter_map-append, Framed, IsPrefix, PlanValue, EpochValue, Closed, same_values, satellites_written, StationValues, GatherSetup, Heard, closed_epochs, all_epochs, closed_by, HeaderLists, header_text, epoch_text, event_text, change_text, closed_text, file_text, gathered, SetupValue, messages_of, written_epochs, text_of_epochs, text_with, so_far, file, capped, opening, added, epochs_after, values_after, values_following_closed, last_values}
+use Rattle.rtcm_convert.proofs.Names.{Decides-int_eq, ◌≡◌, ℕ, List, [], ◌∷◌, ◌++◌, Bool, true, false, refl, sym, ap, ◌∙◌, arith, Option, Some, None, append_assoc, append-nil, nat_lt, length, length-append, ◌+◌, if◌then◌else◌, filter-append, filter_map-append, Framed, IsPrefix, PlanValue, EpochValue, Closed, same_values, satellites_written, StationValues, GatherSetup, Heard, closed_epochs, all_epochs, closed_by, HeaderLists, header_text, epoch_text, event_text, change_text, closed_text, file_text, gathered, SetupValue, messages_of, written_epochs, text_of_epochs, text_with, so_far, file, capped, opening, added, epochs_after, values_after, values_following_closed, last_values}
+use Rattle.std.proofs.lemmas.Grind.{common_steps}
 
 -- a capped count that is increased
 pub cap_more : (n k : ℕ) → capped (capped n + k) ≡ capped (n + k)
@@ -18,11 +19,7 @@ no_change v = ap (λ (b : Bool). if b then [] else event_text v) (same_self v)
 
 closed_text-append : (p : PlanValue) (v : StationValues) (cs ds : List Closed) → closed_text p v (cs ++ ds) ≡ closed_text p v cs ++ closed_text p (values_following_closed v cs) ds
 closed_text-append p v [] ds = refl
-closed_text-append p v (c ∷ cs) ds =
-    let rest = closed_text p (values_following_closed c.values cs) ds in
-    ap (λ l. change_text v c.values ++ (epoch_text p c.epoch ++ l)) (closed_text-append p c.values cs ds)
-    ∙ ap (λ l. change_text v c.values ++ l) (sym (append_assoc (epoch_text p c.epoch) (closed_text p c.values cs) rest))
-    ∙ sym (append_assoc (change_text v c.values) (epoch_text p c.epoch ++ closed_text p c.values cs) rest)
+closed_text-append p v (c ∷ cs) ds = grind (arith, common_steps, closed_text-append p c.values cs ds)
 
 -- the text of some epochs is a prefix of the text of these and more
 pub text_of-append : (t : HeaderLists) (p : PlanValue) (es fs : List Closed) → IsPrefix (text_of_epochs t p es) (text_of_epochs t p (es ++ fs))
@@ -38,14 +35,8 @@ text_of-append t p (e ∷ es) fs = (
 text_of-one : (t : HeaderLists) (p : PlanValue) (es : List Closed) (c : Closed)
     → text_of_epochs t p (es ++ c ∷ []) ≡ text_of_epochs t p es ++ (opening t p (last_values es) c.epoch c.values ++ epoch_text p c.epoch)
 unfolding text_of_epochs
-text_of-one t p [] c =
-    ap (λ l. header_text t p c.values c.epoch.time ++ (l ++ (epoch_text p c.epoch ++ []))) (no_change c.values)
-    ∙ ap (λ l. header_text t p c.values c.epoch.time ++ l) (append-nil (epoch_text p c.epoch))
-text_of-one t p (e ∷ es) c =
-    let before = values_following_closed e.values es in
-    let last = change_text before c.values ++ epoch_text p c.epoch in
-    ap (λ l. header_text t p e.values e.epoch.time ++ l) (closed_text-append p e.values (e ∷ es) (c ∷ []) ∙ ap (λ l. closed_text p e.values (e ∷ es) ++ (change_text before c.values ++ l)) (append-nil (epoch_text p c.epoch)))
-    ∙ sym (append_assoc (header_text t p e.values e.epoch.time) (closed_text p e.values (e ∷ es)) last)
+text_of-one t p [] c = grind (arith, common_steps, no_change, append-nil)
+text_of-one t p (e ∷ es) c = grind (arith, common_steps, closed_text-append, append-nil)
 
 -- one more epoch, if it is written
 text_of-maybe : (t : HeaderLists) (p : PlanValue) (es : List Closed) (c : Closed) (b : Bool)
@@ -116,28 +107,12 @@ so_far-all stay s fs more =
 -- the same: an event, or nothing
 pub opening_later : {n : Option StationValues} {v before w : StationValues} {b : Bool} (P : List ℕ → Type 0) (t : HeaderLists) (p : PlanValue) (e : EpochValue)
     → n ≡ Some before → w ≡ v → same_values before w ≡ b → P (if b then [] else event_text w) → P (opening t p n e v)
-opening_later {v = v} {before} {w} P t p e last values same x =
-    subst (λ (o : Option StationValues). P (opening t p o e v)) (sym last) (subst (λ (u : StationValues). P (change_text before u)) values
-    (subst (λ (s : Bool). P (if s then [] else event_text w)) (sym same) x))
-
--- what an epoch with a satellite adds
-added_is : {e : EpochValue} {o : Option EpochValue} (t : HeaderLists) (p : PlanValue) (n : Option StationValues) (v : StationValues) → Some e ≡ o → nat_lt 0 (satellites_written e) ≡ true
-    → added t p n o v ≡ opening t p n e v ++ epoch_text p e
-added_is {e} t p n v is some = sym (ap (λ q. added t p n q v) is) ∙ ap (λ (b : Bool). if b then opening t p n e v ++ epoch_text p e else []) some
-
--- the epoch that the gatherer returns is the one that it closed last, with the known station values
-lent : (e : Closed) (o : Option EpochValue) (v : StationValues) → e ∷ [] ≡ closed_by o v → (Some e.epoch ≡ o) × (e.values ≡ v)
-lent e None v h = cc
-lent e (Some x) v h = same h where
-  same : e ∷ [] ≡ record { epoch = x; values = v } ∷ [] → (Some e.epoch ≡ Some x) × (e.values ≡ v)
-  same h = let is : e ≡ record { epoch = x; values = v } = cc in (ap (λ (c : Closed). Some c.epoch) is, ap (λ (c : Closed). c.values) is)
+opening_later {v = v} {before} {w} P t p e last values same x = grind (arith, common_steps)
 
 -- what the epoch that the gatherer returns adds
 pub added_lent : {p q : PlanValue} {e : Closed} (t : HeaderLists) (n : Option StationValues) (o : Option EpochValue) (v : StationValues) → q ≡ p → e ∷ [] ≡ closed_by o v → nat_lt 0 (satellites_written e.epoch) ≡ true
     → added t p n o v ≡ opening t p n e.epoch e.values ++ epoch_text q e.epoch
-added_lent {p} {q} {e} t n o v same is some =
-    let l = lent e o v is in
-    ap (λ w. added t p n o w) (sym l.1) ∙ added_is t p n e.values l.0 some ∙ ap (λ r. opening t p n e.epoch e.values ++ epoch_text r e.epoch) (sym same)
+added_lent {p} {q} {e} t n o v same is some = grind (arith, common_steps)
 
 -- no frames have an empty text
 pub so_far-none : ((s : GatherSetup) → closed_epochs s [] ≡ []) → (s : SetupValue) → so_far s [] ≡ []

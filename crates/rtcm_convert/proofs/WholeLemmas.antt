@@ -1,10 +1,9 @@
 -- Whole streams.
-use Rattle.rtcm_convert.proofs.Names.{◌≡◌, ℕ, ◌+◌, ◌<◌, ◌≤◌, ◌⊎◌, inl, inr, refl, List, [], ◌++◌, sym, ap, subst, ◌∙◌, arith, Option, Result, Ok, Err, IfOk, length, take, IfSome, IfSome_then, Vec, Appends, Consumes, Appends-trans, frames_of, decided_frames, SetupValue, so_far, file, epochs_in, AppendsBetween, AppendsPrefixBetween, NothingYet, AppendsDecided, Start, start_value, HasValue, IsMade, IsMadeEmpty, IsMadeWith, IsMadeToLimit, AreMadeToLimit, StopsInPieces, IsBetween, IsBroken, FailedWriting, FailedWritingAtEnd, BrokeInPieces, joined_pieces, Conversion, HasConverted, WritesAdded, CutsAtLimit, Completed, CompletedEmpty, CompletesFile, CompletesEmptyFile, FailsAtPiece, RanToLimit, FailsFeeding, FailsFinishing, Report}
+use Rattle.rtcm_convert.proofs.Names.{◌≡◌, ℕ, ◌+◌, ◌<◌, ◌≤◌, ◌⊎◌, inl, inr, List, [], subst, ◌∙◌, arith, Option, Result, Ok, Err, IfOk, length, take, IfSome, IfSome_then, Vec, Appends, Consumes, frames_of, decided_frames, SetupValue, so_far, file, epochs_in, AppendsBetween, AppendsPrefixBetween, NothingYet, AppendsDecided, Start, start_value, HasValue, IsMade, IsMadeEmpty, IsMadeWith, IsMadeToLimit, AreMadeToLimit, StopsInPieces, IsBetween, IsBroken, FailedWriting, FailedWritingAtEnd, BrokeInPieces, joined_pieces, Conversion, HasConverted, WritesAdded, CutsAtLimit, Completed, CompletedEmpty, CompletesFile, CompletesEmptyFile, FailsAtPiece, RanToLimit, FailsFeeding, FailsFinishing, Report}
+use Rattle.std.proofs.lemmas.Grind.{common_steps}
 
 pub from_nothing : {a b : Option (List ℕ)} {y : List ℕ} → NothingYet → (s : SetupValue) → AppendsBetween a b (so_far s (decided_frames [])) y → Appends a b y
-from_nothing {a} {b} {y} nothing s g =
-    let e : y ≡ g.part = g.text ∙ ap (λ l. l ++ g.part) (nothing s) in
-    subst (λ (l : List ℕ). Appends a b l) (sym e) g.out
+from_nothing {a} {b} {y} nothing s g = grind (arith, common_steps)
 
 -- a call began with a new converter of that setup, and has the same limit at its end
 pub record BeganNew (v w : Conversion) (x : Start) : Type 0 where
@@ -61,12 +60,7 @@ run_long {x = x} {r} {a = a} {b} new p = record {
 -- what these bytes make was written, and then a prefix of what follows
 between : {a b c : Option (List ℕ)} {upper : List ℕ} (s : SetupValue) (front : List ℕ) → NothingYet → AppendsDecided a b s [] front → AppendsPrefixBetween b c (so_far s (decided_frames front)) upper
     → IsBetween a c (so_far s (decided_frames front)) upper
-between {a} {b} {c} s front nothing before last = record {
-  out = so_far s (decided_frames front) ++ last.part;
-  went = Appends-trans a b c (so_far s (decided_frames front)) last.part (from_nothing nothing s before) last.out;
-  least = (last.part, refl);
-  most = (last.rest, last.text);
-}
+between {a} {b} {c} s front nothing before last = grind (arith, common_steps)
 
 broken : {a b : Option (List ℕ)} {s : SetupValue} {front piece : List ℕ} → NothingYet → FailsAtPiece a b s [] piece front → IsBroken a b s front piece
 broken {s = s} {front} nothing p = record { between = between s front nothing p.before p.last; near = p.near }
@@ -78,10 +72,7 @@ run_write {x = x} r r' new (inr p) = inr (p.0, p.1, p.2, (let f = p.4 (start_val
 
 -- pieces that go over the limit, and pieces at which the writer failed
 pub pieces_cut : {Z : Type 0} {v w : Conversion} {x : Start} {a b : Option (List ℕ)} (pieces : List (Vec ℕ Z)) → BeganNew v w x → v.scan.taken ≡ 0 → CutsAtLimit v w a b (joined_pieces pieces) → AreMadeToLimit x a b pieces
-pieces_cut {v = v} {x = x} {a} {b} pieces new none p = record {
-  over = (let over : v.scan.limit < v.scan.taken + length (joined_pieces pieces) = p.over in let e : v.scan.limit ≡ x.setup.limit = new.limit in omega (arith, over, none, e));
-  out = subst (λ (n : ℕ). Appends a b (so_far (start_value x) (decided_frames (take n (joined_pieces pieces))))) new.limit (from_nothing new.nothing (start_value x) (p.adds (start_value x) [] new.history));
-}
+pieces_cut {v = v} {x = x} {a} {b} pieces new none p = grind (arith, common_steps)
 
 pub pieces_failed : {Z : Type 0} {v w : Conversion} {x : Start} {a b : Option (List ℕ)} (pieces : List (Vec ℕ Z)) → BeganNew v w x → StopsInPieces v a b pieces → BrokeInPieces a b (start_value x) pieces
 pieces_failed {x = x} pieces new (inl p) = let f = p.2 (start_value x) [] new.history in inl (p.0, p.1, between (start_value x) (joined_pieces (take p.0 pieces)) new.nothing f.before f.last)
