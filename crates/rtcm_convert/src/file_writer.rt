@@ -77,8 +77,7 @@ impl FileWriter {
                 drop(texts);
                 drop(set);
                 match fault {
-                    PlanFault::BadWeek => Err(Fault::BadSetup),
-                    PlanFault::BadStation => Err(Fault::BadSetup),
+                    PlanFault::BadWeek | PlanFault::BadStation => Err(Fault::BadSetup),
                     _ => Err(Fault::Memory),
                 }
             }
@@ -106,13 +105,8 @@ impl FileWriter {
                 };
                 write_header(&head, writer)
             }
-            Some(before) => {
-                if before.is_same(values) {
-                    Ok(())
-                } else {
-                    write_event(values, writer)
-                }
-            }
+            Some(before) if before.is_same(values) => Ok(()),
+            Some(_) => write_event(values, writer),
         }
     }
 
