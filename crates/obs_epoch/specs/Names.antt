@@ -4,7 +4,7 @@ pub use Rattle.std.specs.Option.{option_map_or}
 pub use Rattle.gnss_obs.specs.GatheredEpochs.{AreGathered, AreGatheredEpochs, AreStationValues, IsGathered, IsGatheredEpoch, IsStrength, TimesRise, same_place}
 pub use Rattle.gnss_obs.specs.HeardCells.{HeardCell, IsKey, has_same_key, kept_cell}
 pub use Rattle.gnss_obs.specs.LockTimes.{LockTime}
-pub use Rattle.gnss_obs.specs.Names.{AreSortedByPlan, Closed, EpochValue, HasPlannedCells, IsAdded, IsHeld, IsPlanned, IsSignal, CellLists, PlanValue, Satellite, SignalAt, SortKey, SortKeysRise, cell_sort_key, cells_after, cells_of, heard_cell, hertz_of, id_of, insert_by, is_before, is_held, nearest_doppler, nearest_phase, nearest_pseudorange, nearest_strength, outcome_by, place_in, planned_of, signal_of_id, no_cells, sorted_cells, sorted_epoch, sorted_lists, table, weeks}
+pub use Rattle.gnss_obs.specs.Names.{AreSortedByPlan, Closed, EpochValue, HasPlannedCells, IsAdded, IsHeld, IsPlanned, IsSignal, CellLists, PlanValue, Satellite, SignalAt, cell_sort_key, cells_after, cells_of, heard_cell, id_of, insert_by, is_held, nearest_doppler, nearest_phase, nearest_pseudorange, nearest_strength, outcome_by, place_in, planned_of, signal_of_id, no_cells, sorted_cells, sorted_epoch, sorted_lists, table, weeks}
 pub use Rattle.gnss_obs.specs.Order.{sort_key_of, sorted}
 pub use Rattle.gnss_system.specs.Satellites.{satellite_of_id, satellite_set}
 pub use Rattle.gnss_system.specs.Systems.{is_system}
@@ -12,14 +12,14 @@ pub use Rattle.gnss_obs.specs.Values.{HasTwelveDigits, empty_epoch, most_cells, 
 pub use Rattle.gnss_obs.specs.declared.epoch_cells.Added.{Added}
 pub use Rattle.gnss_obs.specs.declared.cell.Cell.{Cell}
 pub use Rattle.gnss_obs.specs.declared.cell.StationValues.{StationValues}
-pub use Rattle.gnss_system.specs.declared.system.System.TheVariants.{Galileo, Gps}
+pub use Rattle.gnss_system.specs.declared.system.System.TheVariants.{Gps}
 pub use Rattle.gnss_system.specs.declared.system.System.{System}
 pub use Rattle.gnss_system.specs.declared.tables.ListedSignal.{ListedSignal}
 pub use Rattle.obs_epoch.specs.Calls.{IsCloseFirstExactly}
 pub use Rattle.obs_epoch.specs.Cells.{add, cells_at, cells_counted, counts_of, counts_of_message, firsts, firsts_after, has_listed_key, is_among, is_of_system, is_planned, kept, kept_of_all, no_counts, offered, with_skipped}
 pub use Rattle.obs_epoch.specs.Clock.{HasHeardMessages, State, closes_first, is_pending}
 pub use Rattle.obs_epoch.specs.Epochs.{cells_with_lli, closed_so_far, closed_times, epoch_at, is_shut, values_after_message, values_of}
-pub use Rattle.obs_epoch.specs.GathererSteps.{GathererValue, IsGathering, Loaded, begun_by, closed_if, closed_noted, end_step, epoch_begun, epoch_in, epoch_with, hold, hold_by, load, load_entries, load_one, loaded_if, loaded_where, noted, outcome_in, planned_cell, rested, shut_where, take_step, with_more, with_more_in, with_time, with_unlisted}
+pub use Rattle.obs_epoch.specs.GathererSteps.{GathererValue, Loaded, begun_by, closed_if, closed_noted, end_step, epoch_begun, epoch_in, epoch_with, hold, hold_by, load, load_entries, load_one, loaded_if, loaded_where, noted, outcome_in, planned_cell, shut_where, take_step, with_more, with_more_in, with_time, with_unlisted}
 pub use Rattle.obs_epoch.specs.GathererAfter.{HasTakenMessages, Locked, held_at, locked_in}
 pub use Rattle.obs_epoch.specs.GathererHistory.{HasGatheredEpochs, IsAwaited, all_epochs, before_closing, closed_list_at, open_after, returned_epoch}
 pub use Rattle.obs_epoch.specs.Heard.{GatherSetup, Heard, ends_epoch, heard, heard_by, heard_msm, heard_summary, is_own, lock_by, observed, seen_in, unlisted_in, without_cells}
@@ -27,7 +27,7 @@ pub use Rattle.obs_epoch.specs.Held.{CellOutcome, Crowded, Kept, Repeated, Skipp
 pub use Rattle.obs_epoch.specs.Kinds.{is_accepted, is_close_first, kind_after, kind_of, with_counts}
 pub use Rattle.obs_epoch.specs.Loss.{has_lost, is_locked, last_of, latest_in, lli_of, lli_with, lock_of, locked_at, previous, times}
 pub use Rattle.obs_epoch.specs.Reach.{IsHeard, IsHeardCell}
-pub use Rattle.obs_epoch.specs.SignalCounts.{AreSignalCounts, CountsEntries, SignalCountsValue, brings_value, count_of, counted, counted_more, counted_more_in, is_of_signal, signal_counts, signal_in, up_by, valued}
+pub use Rattle.obs_epoch.specs.SignalCounts.{AreSignalCounts, CountsEntries, SignalCountsValue, brings_value, count_of, counted, counted_more, is_of_signal, signal_counts, signal_in, up_by, valued}
 pub use Rattle.obs_epoch.specs.Step.{KeepsEpoch, ended_where, open_by, is_first_at, is_late_at, is_same, kind_by, step_by, time_in}
 pub use Rattle.obs_epoch.specs.Times.{Timed, ahead, from_first, greatest_time, is_at, is_closed, is_late, is_past, max_known, taken_at, time_of, timed, timed_after}
 pub use Rattle.obs_epoch.specs.declared.locks.KnownLock.{KnownLock}
@@ -38,7 +38,6 @@ pub use Rattle.rtcm_msg.specs.Bounds.{EntriesAreMeasured, IsMeasured, PointsAreI
 pub use Rattle.rtcm_msg.specs.Encoding.{IsMessage}
 pub use Rattle.rtcm_msg.specs.Entries.{entries}
 pub use Rattle.rtcm_msg.specs.Msm.{MsmValue}
-pub use Rattle.rtcm_msg.specs.Summaries.{summary}
 pub use Rattle.rtcm_msg.specs.ValueCounts.{has_id, has_listed_value, is_in, value_count}
 pub use Rattle.rtcm_msg.specs.Viewed.{viewed_message}
 pub use Rattle.rtcm_msg.specs.Forms.{lock_field}
