@@ -1,5 +1,5 @@
 -- The decided part of a stream.
-use Rattle.rtcm_scan.proofs.Names.{ℕ, ◌≡◌, ◌+◌, ◌-◌, ◌<◌, ◌≤◌, Bool, true, false, not, cond, ◌&&◌, ◌||◌, ltb, List, [], ◌∷◌, ◌++◌, length, drop, get_or, refl, ap, ◌∙◌, arith, suc, zero, ◌⊎◌, ⊎_elim, inl, inr, filter, list_any, cases_lt, cases_eq, lt-ltb, le-ltb, and_from, and_left, and_right, length_push, append-nil, get_or_push, get_or_append_left, prefix_len_is, list_any-append, filter-append, begins_frame, is_open, frame_length, framed_message, Framed, frame_end, frames_from, frames_of, places, is_inside, is_tried, decided, frames_before, decided_frames, Scanned}
+use Rattle.rtcm_scan.proofs.Names.{ℕ, ◌≡◌, ◌+◌, ◌-◌, ◌<◌, ◌≤◌, Bool, true, false, not, cond, ◌&&◌, ◌||◌, ltb, List, [], ◌∷◌, ◌++◌, length, drop, get_or, refl, ap, ◌∙◌, arith, suc, zero, ◌⊎◌, ⊎_elim, inl, inr, filter, list_any, cases_lt, cases_eq, lt-ltb, le-ltb, and_from, and_left, and_right, or_left, or_right, length_push, append-nil, get_or_push, get_or_append_left, prefix_len_is, list_any-append, filter-append, begins_frame, is_open, frame_length, framed_message, Framed, frame_end, frames_from, frames_of, places, is_inside, is_tried, decided, frames_before, decided_frames, Scanned}
 use Rattle.rtcm_scan.proofs.FrameLemmas.{begins_parts, closed_whole}
 use Rattle.rtcm_scan.proofs.ScanLemmas.{scanned_le, scanned_frames}
 
@@ -20,13 +20,6 @@ get_or-places (suc n) k d h =
     ⊎_elim (λ (e : k ≡ n). rw e (get_or_push (places n) n d n l))
     (λ (e : k ≡ n → ⊥). let i : k < n = omega arith in get_or_append_left (places n) (n ∷ []) d k (omega arith) ∙ get_or-places n k d i) (cases_eq k n)
 
-or_first : (x y : Bool) → x ≡ true → (x || y) ≡ true
-or_first x y h = rw h refl
-
-or_second : (x y : Bool) → y ≡ true → (x || y) ≡ true
-or_second true y h = refl
-or_second false y h = h
-
 -- a place before the end of the scan isn't open, or is inside a frame
 pub place_scanned : (b : List ℕ) (from to k : ℕ) (fs : List Framed) → Scanned false b from to fs → from ≤ k → k < to → (is_open (drop k b) ≡ false) ⊎ (list_any (is_inside k) fs ≡ true)
 place_scanned b from to k [] s h i = inl ((s.1 k h i).closed refl)
@@ -35,10 +28,10 @@ place_scanned b from to k (f ∷ fs) s h i =
     (λ (g : f.offset ≤ k).
     ⊎_elim (λ (e : k ≡ f.offset). inl (rw e (closed_whole (drop f.offset b) (begins_parts (drop f.offset b) s.2.begins).1)))
     (λ (n : k ≡ f.offset → ⊥).
-    ⊎_elim (λ (m : k < frame_end f). inr (or_first (is_inside k f) (list_any (is_inside k) fs) (and_from _ _ (lt-ltb f.offset k (omega arith)) (lt-ltb k (frame_end f) m))))
+    ⊎_elim (λ (m : k < frame_end f). inr (or_left (is_inside k f) (list_any (is_inside k) fs) (and_from _ _ (lt-ltb f.offset k (omega arith)) (lt-ltb k (frame_end f) m))))
     (λ (m : frame_end f ≤ k).
     ⊎_elim (λ (q : is_open (drop k b) ≡ false). inl q)
-    (λ (q : list_any (is_inside k) fs ≡ true). inr (or_second (is_inside k f) (list_any (is_inside k) fs) q))
+    (λ (q : list_any (is_inside k) fs ≡ true). inr (or_right (is_inside k f) (list_any (is_inside k) fs) q))
     (place_scanned b (frame_end f) to k fs s.3 m i))
     (cases_lt k (frame_end f)))
     (cases_eq k f.offset))
@@ -94,7 +87,7 @@ decided_is b to fs h s o =
     let g : get_or (places (length b)) k 0 ≡ k = get_or-places (length b) k 0 (omega arith) in
     rw g (⊎_elim (λ (q : is_open (drop k b) ≡ false). ap not (and_right (not (list_any (is_inside k) (frames_of b))) (is_open (drop k b)) q))
     (λ (q : list_any (is_inside k) fs ≡ true).
-    let r : list_any (is_inside k) (frames_of b) ≡ true = ap (list_any (is_inside k)) split ∙ list_any-append (is_inside k) fs (frames_from to 0 (drop to b)) ∙ or_first _ _ q in
+    let r : list_any (is_inside k) (frames_of b) ≡ true = ap (list_any (is_inside k)) split ∙ list_any-append (is_inside k) fs (frames_from to 0 (drop to b)) ∙ or_left _ _ q in
     rw r refl)
     (place_scanned b 0 to k fs s (omega arith) i)))
     (λ i.

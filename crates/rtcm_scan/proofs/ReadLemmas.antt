@@ -1,5 +1,5 @@
 -- A stream that is read piece by piece.
-use Rattle.rtcm_scan.proofs.Names.{◌≡◌, ℕ, ◌+◌, ◌-◌, ◌<◌, ◌≤◌, Bool, true, false, List, [], ◌∷◌, ◌++◌, ◌∙◌, ap, sym, refl, arith, length, suc, take, drop, max, append_assoc, append-nil, subst, length-append, Option, true≢false, add-zero, Result, Ok, Err, MatchResult, Consumes, Keeps, IsAtEnd, ReadConsumes, ReadsAtMost, Consumes-trans, Consumes-nil, Framed, length-drop, take-append-le, length-take-le, longest_frame, decided, IsDrained, known_frames, known_place, FramerValue, HasReadPiece, Coming, Breaking, HasPassedAll, HasBroken, Passes, Breaks, Continues, BreaksKnown, PassesKnown, PassesToLimit, PassesAll, BreaksAfter, BreaksReading, Reads, ReadsOn, IsReadingOn, AtFault, StreamFault, Read, TooLong, Sink, most_undecided}
+use Rattle.rtcm_scan.proofs.Names.{◌≡◌, ℕ, ◌+◌, ◌-◌, ◌<◌, ◌≤◌, Bool, true, false, List, [], ◌∷◌, ◌++◌, ◌∙◌, ap, sym, refl, arith, length, take, drop, max, append_assoc, append-nil, subst, length-append, Option, true≢false, add-zero, Result, Ok, Err, MatchResult, Consumes, Keeps, IsAtEnd, ReadConsumes, ReadsAtMost, Consumes-trans, Consumes-nil, Framed, length-drop, take-append-add, take-append-le, length-take-le, longest_frame, decided, IsDrained, known_frames, known_place, FramerValue, HasReadPiece, Coming, Breaking, HasPassedAll, HasBroken, Passes, Breaks, Continues, BreaksKnown, PassesKnown, PassesToLimit, PassesAll, BreaksAfter, BreaksReading, Reads, ReadsOn, IsReadingOn, AtFault, StreamFault, Read, TooLong, Sink, most_undecided}
 use Rattle.rtcm_scan.proofs.PassingLemmas.{prefix_self, passes_sent}
 use Rattle.rtcm_scan.proofs.PrefixLemmas.{decided_near}
 
@@ -19,14 +19,9 @@ not_read (Sink x) L B P Q a q = q
 pub reading_more : {S : Type 0} {can : S → Type 0} {s s' : S} {v v' v2 : FramerValue} {n m k l : ℕ} → IsReadingOn can s v v' n m → can s' → Continues v' v2 l → k ≡ m → IsReadingOn can s' v v2 n k
 reading_more i c j e = record { can = c; limit = j.limit ∙ i.limit; ended = j.ended ∙ i.ended; some = λ h. j.some (i.some h); size = e ∙ i.size }
 
-take_over : (front piece : List ℕ) (k n : ℕ) → n ≡ length front + k → take n (front ++ piece) ≡ front ++ take k piece
-take_over [] piece k n e = let z : n ≡ k = omega (arith, e) in ap (λ (m : ℕ). take m piece) z
-take_over (x ∷ front) piece k n e =
-    let z : n ≡ suc (length front + k) = omega (arith, e) in
-    ap (λ (m : ℕ). take m (x ∷ (front ++ piece))) z ∙ ap (λ (l : List ℕ). x ∷ l) (take_over front piece k (length front + k) refl)
-
 limit_after : (limit taken w : ℕ) (front piece : List ℕ) → w ≡ taken + length front → w ≤ limit → front ++ take (limit - w) piece ≡ take (limit - taken) (front ++ piece)
-limit_after limit taken w front piece e le = sym (take_over front piece (limit - w) (limit - taken) (omega (arith, e, le)))
+limit_after limit taken w front piece e le =
+    let z : limit - taken ≡ length front + (limit - w) = omega (arith, e, le) in sym (ap (λ (m : ℕ). take m (front ++ piece)) z ∙ take-append-add front piece (limit - w))
 
 -- a read to `buf`, the front of a buffer of `size` bytes: it has room, and fits beside the held bytes if there is room for one
 pub record IsRead {E : Type 0} (res : Result ℕ E) (v : FramerValue) (r r' : Option (List ℕ)) (size : ℕ) (buf : List ℕ) : Type 0 where

@@ -2,7 +2,7 @@
 use Rattle.rtcm_scan.proofs.Names.{ℕ, ◌≡◌, ◌+◌, ◌-◌, ◌*◌, ◌<◌, ◌≤◌, min, max, Bool, true, false, not, cond, ◌&&◌, ltb, leb, List, [], ◌∷◌, ◌++◌, length, map, drop, set, get_or, refl, sym, ap, ◌∙◌, arith, suc, zero, ⊎_elim, subst, length-set, length-append, length-drop, filter, list_any, cases_lt, lt-ltb, le-ltb, get_or-set_same, map-append, filter-append, WindowValue, looked, looked_through, without_front, begins_frame, message_length, frame_length, has_preamble, framed_message, Framed, IsFrameOf, frame_end, places, is_inside, cost, FramerValue, HasFramed, first_held, IsPassed, Scanned, window_of, with_byte, with_window, with_looks, asked, with_candidate_examined, Span, span, covers, looks_at, all_looks, tried_before, spans_at, CountsLooks, HasExamined, longest_frame, most_looks, most_bytes}
 use Rattle.std.specs.List.{AllByRecursion as ByRecursion}
 use Rattle.rtcm_bits.proofs.WindowLemmas.{looked_bytes, looked_length}
-use Rattle.rtcm_scan.proofs.LooksLemmas.{one_if, looks_push, all_push, counts_look, counts_push, none_cover, greatest_same}
+use Rattle.rtcm_scan.proofs.LooksLemmas.{one_if, covers_after, looks_push, all_push, counts_look, counts_push, none_cover, greatest_same}
 use Rattle.rtcm_scan.proofs.TriedLemmas.{sum_empty, counts_skip, counts_frame, looks_frame, all_frame, empty_covers}
 use Rattle.rtcm_scan.proofs.CostLemmas.{spans_longer, cost_within}
 use Rattle.rtcm_scan.proofs.BoundLemmas.{looks_bound, all_bound}
@@ -16,12 +16,8 @@ use Rattle.rtcm_scan.proofs.FrameLemmas.{begins_parts, length-message}
 covers_more : (i p k n : ℕ) → k ≤ n → one_if (covers i (span p k)) ≤ one_if (covers i (span p n))
 covers_more i p k n h = ⊎_elim
     (λ (l : i < p + k). let x : ltb i (p + k) ≡ true = lt-ltb i (p + k) l in let y : ltb i (p + n) ≡ true = lt-ltb i (p + n) (omega arith) in rw (x, y) (omega arith))
-    (λ (l : p + k ≤ i). let x : ltb i (p + k) ≡ false = le-ltb i (p + k) l in rw x (none (leb p i)))
+    (λ (l : p + k ≤ i). omega (arith, covers_after i p k l))
     (cases_lt i (p + k))
-  where
-    none : (a : Bool) → one_if (a && false) ≤ one_if (covers i (span p n))
-    none true = omega arith
-    none false = omega arith
 
 looks_more : (xs : List Span) (q k n i : ℕ) → k ≤ n → looks_at (xs ++ span q k ∷ []) i ≤ looks_at (xs ++ span q n ∷ []) i
 looks_more xs q k n i h =

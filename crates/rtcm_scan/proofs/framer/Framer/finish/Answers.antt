@@ -1,5 +1,5 @@
-use Rattle.rtcm_scan.proofs.Names.{◌∙◌, ap, sym, subst, Bool, List, on_ok_weaker, on_err_weaker, IsPrefix, Framed, known_frames, HasBroken, FramerValue}
-use Rattle.rtcm_scan.proofs.PassingLemmas.{prefix_self, same_ended}
+use Rattle.rtcm_scan.proofs.Names.{◌∙◌, ap, sym, subst, Bool, List, on_ok_weaker, on_err_weaker, IsPrefix, Framed, known_frames, FramerValue}
+use Rattle.rtcm_scan.proofs.PassingLemmas.{prefix_self}
 use Rattle.rtcm_scan.proofs.framer.Framer.finish.Goals as goal
 
 pub returns-in-Ok-clause-whole : goal.returns-in-Ok-clause-whole
@@ -25,21 +25,3 @@ returns-in-Ok-clause-part g c =
       known = subst (λ (e : Bool). IsPrefix gs (known_frames e b)) (c.drain_into.ensures.ended ∙ ap (λ (v : FramerValue). v.has_ended) c.end.ensures.ended) (prefix_self gs);
       broken = send s o ps gs d.passed.taken;
     }) c.send.ensures.part
-
-pub returns-in-Ok-clause-ended : goal.returns-in-Ok-clause-ended
-returns-in-Ok-clause-ended g c = c.drain_into.ensures.ended ∙ ap (λ (v : FramerValue). v.has_ended) c.end.ensures.ended
-
-pub returns-in-Ok-clause-same : goal.returns-in-Ok-clause-same
-returns-in-Ok-clause-same g c = same_ended _ _ _ c.end.ensures.ended c.end.ensures.counts c.drain_into.ensures.same
-
-pub returns-in-Err-clause-part : goal.returns-in-Err-clause-part
-returns-in-Err-clause-part g c =
-    λ s o ps b fs x.
-    subst (λ (e : Bool). HasBroken g.S.FrameSink.broke e s o ps c.drain_into.new.sink c.drain_into.new.out fs b) (ap (λ (v : FramerValue). v.has_ended) c.end.ensures.ended)
-    (c.in-Err.ensures.part s o ps b fs (record { framer = c.end.ensures.counts b fs x.framer; taken = x.taken }))
-
-pub returns-in-Err-clause-ended : goal.returns-in-Err-clause-ended
-returns-in-Err-clause-ended g c = c.drain_into.ensures.ended ∙ ap (λ (v : FramerValue). v.has_ended) c.end.ensures.ended
-
-pub returns-in-Err-clause-same : goal.returns-in-Err-clause-same
-returns-in-Err-clause-same g c = same_ended _ _ _ c.end.ensures.ended c.end.ensures.counts c.drain_into.ensures.same

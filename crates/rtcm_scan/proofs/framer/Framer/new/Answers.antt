@@ -1,4 +1,3 @@
-use Rattle.rtcm_scan.proofs.Names.{refl, inl}
 use Rattle.rtcm_scan.proofs.MomentLemmas.{counts_new, drained_new, counted_new}
 use Rattle.rtcm_scan.proofs.framer.Framer.new.Goals as goal
 
@@ -10,9 +9,3 @@ returns-in-Ok-clause-drained c = drained_new c.args.limit c.new-in-Ok.result.cou
 
 pub returns-in-Ok-clause-counted : goal.returns-in-Ok-clause-counted
 returns-in-Ok-clause-counted c = counted_new c.args.limit c.new-in-Ok.result.count c.in-Ok.window c.in-Ok.ensures
-
-pub returns-then-limit-gt-MOST_BYTES-clause-bad_limit : goal.returns-then-limit-gt-MOST_BYTES-clause-bad_limit
-returns-then-limit-gt-MOST_BYTES-clause-bad_limit c = (λ _. c.if-limit-gt-MOST_BYTES.true, λ _. refl)
-
-pub returns-then-limit-gt-MOST_BYTES-clause-only : goal.returns-then-limit-gt-MOST_BYTES-clause-only
-returns-then-limit-gt-MOST_BYTES-clause-only c = inl refl

@@ -15,9 +15,6 @@ returns-in-Some-clause-some_counts c =
     let is = same_framed (frame_at c.take_frame.result c.take_frame.new.message.items) (found c.seek.new.self) c.take_frame.ensures.offset c.take_frame.ensures.message in
     λ b fs s. counts_found c.seek.new.self c.take_frame.ensures.taken f.1 f.0 is f.2 (c.in-Some.ensures.counts b fs s)
 
-pub returns-in-Some-clause-waits : goal.returns-in-Some-clause-waits
-returns-in-Some-clause-waits c = ap (λ (v : FramerValue). v.is_ready) c.take_frame.ensures.taken ∙ c.in-Some.ensures.waits
-
 pub returns-in-Some-clause-less : goal.returns-in-Some-clause-less
 returns-in-Some-clause-less c =
     let f = c.in-Some.ensures.begins in
@@ -35,13 +32,3 @@ returns-in-Some-clause-same c =
       taken = ap (λ (v : FramerValue). v.taken) c.take_frame.ensures.taken ∙ same.taken;
       ended = ap (λ (v : FramerValue). v.has_ended) c.take_frame.ensures.taken ∙ same.ended;
     }
-
-pub returns-in-None-clause-none : goal.returns-in-None-clause-none
-returns-in-None-clause-none c =
-    let n = c.in-None.ensures in
-    λ b fs s. (n.history b fs s, n.none b fs s)
-
-pub returns-in-None-clause-none_counts : goal.returns-in-None-clause-none_counts
-returns-in-None-clause-none_counts c =
-    let n = c.in-None.ensures in
-    λ b fs s. (n.counts b fs s, n.none_counts b fs s)

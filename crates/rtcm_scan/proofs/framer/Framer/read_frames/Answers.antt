@@ -1,4 +1,3 @@
-use Rattle.rtcm_scan.proofs.Names.{◌∙◌}
 use Rattle.rtcm_scan.proofs.ReadLemmas.{at_each, passes_end, breaks_end, breaks_reading}
 use Rattle.rtcm_scan.proofs.framer.Framer.read_frames.Goals as goal
 
@@ -10,16 +9,8 @@ pub returns-in-Err-finish-clause-fault : goal.returns-in-Err-finish-clause-fault
 returns-in-Err-finish-clause-fault g c =
     breaks_end g.S.FrameSink.took g.S.FrameSink.broke c.in-Ok.ensures.same.ended c.in-Ok.ensures.end.0 c.in-Ok.ensures.whole c.in-Err-finish.ensures.part
 
-pub returns-in-Err-finish-clause-reader : goal.returns-in-Err-finish-clause-reader
-returns-in-Err-finish-clause-reader g c = (c.in-Ok.ensures.reader.1, tt, c.in-Ok.ensures.reader.2)
-
 pub returns-in-Err-clause-fault : goal.returns-in-Err-clause-fault
 returns-in-Err-clause-fault g c =
     (at_each c.in-Err.fault (λ p. (p.0, p.1, p.2.0)) (λ q. q)
     (λ q. breaks_reading g.S.FrameSink.took g.S.FrameSink.broke c.requires.going q)
     c.in-Err.ensures.fault)
-
-pub returns-in-Err-clause-going : goal.returns-in-Err-clause-going
-returns-in-Err-clause-going g c =
-    let still = c.in-Err.ensures.same.ended ∙ c.requires.going in
-    at_each c.in-Err.fault (λ e. still) (λ q. still) (λ q. tt) c.in-Err.ensures.fault

@@ -1,18 +1,13 @@
 -- The frames that the bytes so far decide were passed on before more bytes are pushed, up to the limit of the
 -- framer.
 use Rattle.rtcm_scan.proofs.Names.{◌≡◌, ◌+◌, ◌∙◌, ap, arith, length, slice_range, take, FramerValue}
-use Rattle.rtcm_scan.proofs.PassingLemmas.{at_limit, continues_most, continues_same, continues_block, part_drained, part_pushed, part_breaks}
+use Rattle.rtcm_scan.proofs.PassingLemmas.{at_limit, continues_same, continues_block, part_drained, part_pushed, part_breaks}
 use Rattle.rtcm_scan.proofs.framer.Framer.take_piece.Goals as goal
 
 pub returns-in-Err-clause-part : goal.returns-in-Err-clause-part
 returns-in-Err-clause-part g c =
     let i = c.loop-fault.invariant in
     part_breaks g.S.FrameSink.took g.S.FrameSink.broke c.args.piece.now c.loop-fault.taken c.requires.going i.same.ended i.passes c.in-Err.ensures.part
-
-pub returns-in-Err-clause-same : goal.returns-in-Err-clause-same
-returns-in-Err-clause-same g c =
-    let i = c.loop-fault.invariant in
-    continues_most _ _ _ _ i.bound (continues_same _ _ _ _ i.same c.drain_into.ensures.ended c.drain_into.ensures.same)
 
 pub returns-then-next-taken-clause-whole : goal.returns-then-next-taken-clause-whole
 returns-then-next-taken-clause-whole g c =
@@ -26,11 +21,6 @@ returns-then-next-taken-clause-whole g c =
           at_limit _ _ c.room.result (c.room.ensures.some d.ready) none c.room.ensures.within ∙ c.drain_into.ensures.same.limit ∙ i.same.limit);
       ready = d.ready;
     }
-
-pub returns-then-next-taken-clause-same : goal.returns-then-next-taken-clause-same
-returns-then-next-taken-clause-same g c =
-    let i = c.loop-fault.invariant in
-    continues_most _ _ _ _ i.bound (continues_same _ _ _ _ i.same c.drain_into.ensures.ended c.drain_into.ensures.same)
 
 pub loop-fault-preserved : goal.loop-fault-preserved
 loop-fault-preserved g c =
