@@ -17,6 +17,7 @@ pub fn frames()
 {}
 
 /// No byte of a stream is read more than 1,030 times, at its end or before.
+#[tactic(auto, using(crate::proofs::BoundLemmas::most_bound, crate::proofs::BoundLemmas::examined_bound, crate::proofs::BoundLemmas::most_now_bound, crate::proofs::BoundLemmas::examined_now_bound))]
 pub fn looks()
     ensures most { (b : List ℕ) → most b ≤ most_looks }
     ensures examined { (b : List ℕ) → examined b ≤ most_looks * length b }
@@ -31,6 +32,7 @@ pub fn local()
 {}
 
 /// In a stream of frames without other bytes, each frame is found at its offset.
+#[tactic(auto, using(crate::proofs::LocalLemmas::joined))]
 pub fn joined()
     ensures { (messages : List (List ℕ)) → FitFrames messages
         → frames_of (flat_map frame_bytes messages) ≡ placed 0 messages }
@@ -38,6 +40,7 @@ pub fn joined()
 
 /// Decisions are final: the decided frames are a prefix of the frames of every longer stream,
 /// decided or not. A stream has at most one frame for each six bytes.
+#[tactic(auto, using(crate::proofs::PrefixLemmas::stays_decided, crate::proofs::PrefixLemmas::decided_nothing, crate::proofs::PrefixLemmas::six_each))]
 pub fn prefix()
     ensures decided { (b t : List ℕ) → IsPrefix (decided_frames b) (decided_frames (b ++ t)) }
     ensures frames { (b t : List ℕ) → IsPrefix (decided_frames b) (frames_of (b ++ t)) }
@@ -47,6 +50,7 @@ pub fn prefix()
 {}
 
 /// At most 1,028 bytes are undecided, one fewer than the longest frame has.
+#[tactic(auto, using(crate::proofs::PrefixLemmas::decided_near))]
 pub fn undecided()
     ensures within { (b : List ℕ) → decided b ≤ length b }
     ensures near { (b : List ℕ) → length b ≤ decided b + most_undecided }
