@@ -1,6 +1,6 @@
 -- Reading a message: the bits that were read, reading an encoding, and the fault.
 use Rattle.std.proofs.Common.{ℕ, ◌≡◌, ◌+◌, ◌==◌, ◌^◌, ◌<◌, ◌≤◌, ◌&&◌, Bool, true, false, List, [], ◌∷◌, ◌++◌, length, drop, Result, Ok, Err, Option, Some, None, refl, sym, ap, subst, ◌∙◌, arith, not, ◌⊎◌, inl, inr, append_assoc, nat_lt, nat_le, if◌then◌else◌, is_some, IsTrue, replicate}
-use Rattle.std.proofs.lemmas.Bool.{cases_lt, lt-leb, le-leb, lt-ltb, le-ltb}
+use Rattle.std.proofs.lemmas.Bool.{cases_lt, and_left, and_right, lt-leb, le-leb, lt-ltb, le-ltb}
 use Rattle.std.proofs.lemmas.Nat.{pow_pos}
 use Rattle.std.proofs.lemmas.List.{length-drop, drop-drop}
 use Rattle.gnss_system.specs.declared.system.System.{System}
@@ -142,22 +142,8 @@ data MessageEnd (bits : List Bool) : Type 0 where
   faulty : (e : MsgFault) → IsFault bits e → message_by kind_of bits ≡ Err e → MessageEnd bits
   sound : (v : Message) → ((f : MsgFault) → IsFault bits f → ⊥) → message_by kind_of bits ≡ Ok v → MessageEnd bits
 
-and_first : (a b c : Bool) → a ≡ false → (a && b && c) ≡ false
-and_first true b c h = absurd (cc)
-and_first false b c h = refl
-
 and_second : (a b c : Bool) → b ≡ false → (a && b && c) ≡ false
-and_second true b c h = rw h refl
-and_second false b c h = refl
-
-and_false : (a : Bool) → (a && false) ≡ false
-and_false true = refl
-and_false false = refl
-
-and_third : (a b c : Bool) → c ≡ false → (a && b && c) ≡ false
-and_third true true c h = h
-and_third true false c h = refl
-and_third false b c h = refl
+and_second a b c h = and_left (a && b) c (and_right a b h)
 
 pub and_all : (a b c : Bool) → a ≡ true → b ≡ true → c ≡ true → IsTrue (a && b && c)
 and_all a b c e f g = rw (e, f, g) refl
@@ -178,8 +164,8 @@ time_by bits k e = ap (λ (k : Kind). nat_le 54 (length bits) && is_bad_time k (
 
 no_msm_in_time : (bits : List Bool) (k : Kind) → kind_of (number_of bits) ≡ k → is_msm_kind k ≡ false → is_bad_time k (field_at bits 24 30) ≡ false → InTime bits
 no_msm_in_time bits k e none fine = record {
-  time = time_by bits k e ∙ ap (λ (b : Bool). nat_le 54 (length bits) && b) fine ∙ and_false (nat_le 54 (length bits));
-  few = and_first (is_read_msm (number_of bits)) (nat_le 169 (length bits)) (nat_lt 64 (pair_count_of bits)) (ap is_msm_kind e ∙ none);
+  time = time_by bits k e ∙ ap (λ (b : Bool). nat_le 54 (length bits) && b) fine ∙ and_right (nat_le 54 (length bits)) false refl;
+  few = and_left (is_read_msm (number_of bits) && nat_le 169 (length bits)) _ (and_left (is_read_msm (number_of bits)) _ (ap is_msm_kind e ∙ none));
 }
 
 no_fault : (bits : List Bool) → 12 ≤ length bits → InTime bits → first_past (length bits) 0 (layout bits) ≡ None → (f : MsgFault) → IsFault bits f → ⊥
@@ -223,10 +209,10 @@ msm_message_end {bits} {sw} {cw} {g} wrap h msm time lay read end = go end
     m = is_read_msm (number_of bits)
 
     early_is : is_time g (field_at bits 24 30) ≡ true → has_bad_time bits ≡ false
-    early_is early = time ∙ ap (λ (b : Bool). nat_le 54 (length bits) && not b) early ∙ and_false (nat_le 54 (length bits))
+    early_is early = time ∙ ap (λ (b : Bool). nat_le 54 (length bits) && not b) early ∙ and_right (nat_le 54 (length bits)) false refl
 
     few_is : pair_count_of bits ≤ 64 → has_too_many bits ≡ false
-    few_is few = and_third m (nat_le 169 (length bits)) (nat_lt 64 (pair_count_of bits)) (le-ltb 64 (pair_count_of bits) few)
+    few_is few = and_right (m && nat_le 169 (length bits)) (nat_lt 64 (pair_count_of bits)) (le-ltb 64 (pair_count_of bits) few)
 
     go : MsmEnd sw cw g bits → MessageEnd bits
     go (no_time e few s is) = faulty e (short_fault bits (msm_widths sw cw bits) e h (record { time = time ∙ rw (lt-leb 54 (length bits) few) refl; few = and_second m (nat_le 169 (length bits)) (nat_lt 64 (pair_count_of bits)) (lt-leb 169 (length bits) (omega (arith, few))) }) lay s) (read ∙ rw is refl)

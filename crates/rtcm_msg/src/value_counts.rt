@@ -7,7 +7,7 @@ ghost use Rattle.rtcm_msg.specs.Entries.{entries, entry_in, ids};
 ghost use Rattle.rtcm_msg.specs.Pairs.{HasFirst};
 ghost use Rattle.rtcm_msg.specs.Views as views;
 ghost use Rattle.rtcm_msg.specs.Forms.{satellite_data};
-ghost use Rattle.rtcm_msg.specs.Presences.{has_rest, has_value, has_fine_range};
+ghost use Rattle.rtcm_msg.specs.Presences.{has_rest, has_value};
 ghost use Rattle.rtcm_msg.specs.declared.pairs.Pair.{Pair};
 ghost use Rattle.rtcm_msg.specs.ValueCounts.{has_listed_value, value_count, has_id};
 ghost use Rattle.rtcm_msg.specs.ValueCounts.{entries_left, AreCells, AreAtMost, AddsCounts};
@@ -23,26 +23,6 @@ use std::marker::Model;
 const SIGNALS: usize = SIGNAL_MASK_BITS as usize;
 
 impl<'a> MsmView<'a> {
-    /// Returns the whole milliseconds of the rough range of satellite `i`, DF397.
-    #[inline(always)]
-    fn read_whole<G: Grid>(&self, i: usize) -> u8
-        requires form { G.form ≡ self.now.form }
-        requires satellite { i < length self.now.msm.satellites }
-        ensures { result ≡ (satellite_data self.now.form (slice_index self.now.msm.satellites i)).whole }
-    {
-        self.satellite(G::form(), i).whole
-    }
-
-    /// Returns whether cell `i` has a valid fine pseudorange.
-    #[inline(always)]
-    fn has_fine_range<G: Grid>(&self, i: usize) -> bool
-        requires form { G.form ≡ self.now.form }
-        requires cell { i < length self.now.msm.cells }
-        ensures { result ≡ has_fine_range self.now.form (slice_index self.now.msm.cells i) }
-    {
-        G::form().has_fine_range(&self.cell(G::form(), i))
-    }
-
     /// Returns whether cell `i`, which is of the satellite at `index`, has a value other than a
     /// pseudorange.
     // A pair as a parameter would be stored for each cell: 9 instructions.
@@ -73,7 +53,8 @@ impl<'a> MsmView<'a> {
         requires cell { i < length self.now.msm.cells }
         ensures { result ≡ has_value (entry_in self.now.form self.now.msm (pair, slice_index self.now.msm.cells i)) }
     {
-        (whole != INVALID_RANGE && self.has_fine_range::<G>(i)) || self.has_rest(pair.index, i)
+        (whole != INVALID_RANGE && G::form().has_fine_range(&self.cell(G::form(), i)))
+            || self.has_rest(pair.index, i)
     }
 
     /// Returns whether cell `i`, which is of the satellite and the signal of `pair`, has a value
@@ -166,7 +147,7 @@ impl<'a> MsmView<'a> {
     {
         // Brings the number of satellites into the proof.
         let _ = self.satellites();
-        let whole = self.read_whole::<G>(cells.pairs.index);
+        let whole = self.satellite(G::form(), cells.pairs.index).whole;
         cells = self.count_pair::<G>(listed, whole, cells, counts);
         while cells.pairs.signals > 0 {
             cells = self.count_pair::<G>(listed, whole, cells, counts);
