@@ -40,9 +40,7 @@ place_scanned b from to k (f ∷ fs) s h i =
 -- no scanned frame goes past the end of the scan
 pub none_past : (e : Bool) (b : List ℕ) (from to : ℕ) (fs : List Framed) → Scanned e b from to fs → list_any (is_inside to) fs ≡ false
 none_past e b from to [] s = refl
-none_past e b from to (f ∷ fs) s =
-    let l : frame_end f ≤ to = scanned_le e b (frame_end f) to fs s.3 in
-    rw (and_right _ _ (le-ltb to (frame_end f) l)) (none_past e b (frame_end f) to fs s.3)
+none_past e b from to (f ∷ fs) s = grind (arith, scanned_le, and_right, le-ltb, (none_past e b (frame_end f) to fs s.3))
 
 -- if no frame from a place on passes a test, the frames found from it on don't
 pub frames_later : (t : Framed → Bool) (p k : ℕ) (s : List ℕ) → ((f : Framed) → p ≤ f.offset → t f ≡ false) → (list_any t (frames_from p k s) ≡ false) × (filter t (frames_from p k s) ≡ [])
@@ -64,9 +62,7 @@ none_later to p k s h = (frames_later (is_inside to) p k s (λ f l. and_left _ _
 all_before : (e : Bool) (b : List ℕ) (from to : ℕ) (fs : List Framed) → Scanned e b from to fs → frames_before to fs ≡ fs
 unfolding frames_before
 all_before e b from to [] s = refl
-all_before e b from to (f ∷ fs) s =
-    let l : frame_end f ≤ to = scanned_le e b (frame_end f) to fs s.3 in
-    rw (lt-ltb f.offset to (omega arith)) (ap (λ r. f ∷ r) (all_before e b (frame_end f) to fs s.3))
+all_before e b from to (f ∷ fs) s = grind (arith, scanned_le, lt-ltb, (all_before e b (frame_end f) to fs s.3))
 
 none_before : (to p k : ℕ) (s : List ℕ) → to ≤ p → frames_before to (frames_from p k s) ≡ []
 unfolding frames_before
@@ -98,9 +94,4 @@ decided_is b to fs h s o =
 
 pub decided_frames_are : (b : List ℕ) (to : ℕ) (fs : List Framed) → to ≤ length b → Scanned false b 0 to fs → (to < length b → is_open (drop to b) ≡ true) → decided_frames b ≡ fs
 unfolding decided_frames frames_before
-decided_frames_are b to fs h s o =
-    ap (λ d. frames_before d (frames_of b)) (decided_is b to fs h s o)
-    ∙ ap (frames_before to) (frames_split false b to fs h s)
-    ∙ filter-append (λ f. ltb f.offset to) fs (frames_from to 0 (drop to b))
-    ∙ ap (λ r. r ++ frames_before to (frames_from to 0 (drop to b))) (all_before false b 0 to fs s)
-    ∙ ap (λ r. fs ++ r) (none_before to to 0 (drop to b) (omega arith)) ∙ append-nil fs
+decided_frames_are b to fs h s o = grind (arith, decided_is, frames_split, filter-append, all_before, none_before, append-nil)

@@ -1,5 +1,5 @@
 -- Everything that can be decided is decided.
-use Rattle.rtcm_scan.proofs.Names.{ℕ, ◌≡◌, ◌+◌, ◌<◌, ◌≤◌, true, false, List, [], length, drop, sym, ap, ◌∙◌, arith, sum_by, drop_all, is_open, Framed, decided, FramerValue, HasFramed, first_held, Scanned, IsDrained}
+use Rattle.rtcm_scan.proofs.Names.{ℕ, ◌≡◌, ◌+◌, ◌<◌, true, false, List, [], length, sym, ap, arith, sum_by, drop_all, is_open, Framed, FramerValue, HasFramed, first_held, Scanned, IsDrained}
 use Rattle.rtcm_scan.proofs.ScanLemmas.{scanned_all}
 use Rattle.rtcm_scan.proofs.DecidedLemmas.{decided_is, decided_frames_are}
 use Rattle.rtcm_scan.proofs.SkippedLemmas.{given_up_is}
@@ -18,14 +18,4 @@ drained_ended v b fs e h s =
     }
 
 pub drained_waiting : (v : FramerValue) (b : List ℕ) (fs : List Framed) → v.has_ended ≡ false → (0 < length v.held → is_open v.held ≡ true) → HasFramed v b fs → IsDrained v b fs
-drained_waiting v b fs e h s =
-    let f : length v.held ≤ v.taken = s.fits in
-    let c : Scanned false b 0 (first_held v) fs = (let k = s.scanned in rw e at k) in
-    let o : first_held v < length b → is_open (drop (first_held v) b) ≡ true = λ i. ap is_open (sym s.held) ∙ h (omega arith) in
-    let d : decided b ≡ first_held v = decided_is b (first_held v) fs (omega arith) c o in
-    let k : v.skipped + sum_by (λ f. length f.message + 6) fs ≡ first_held v = s.skipped in
-    record {
-      frames = rw e (sym (decided_frames_are b (first_held v) fs (omega arith) c o));
-      held = rw (e, d) s.held;
-      skipped = rw (e, d) (let g = given_up_is false b (first_held v) fs (omega arith) c in omega (arith, g, k));
-    }
+drained_waiting v b fs e h s = grind (arith, decided_is, decided_frames_are, given_up_is)

@@ -74,10 +74,7 @@ history_take v b fs h s =
 -- the framer's view after each change of its window
 pub view_pushed : {v : FramerValue} {limit skipped tried : ℕ} {w w' : WindowValue} {ended ready : Bool} (place x : ℕ) → scan_of limit place w ended ready skipped tried ≡ v → w' ≡ pushed w x
     → scan_of limit place w' ended false skipped tried ≡ with_byte v x
-view_pushed {limit} {skipped} {tried} {w} {ended} place x e f =
-    let l : length (w.bytes ++ x ∷ []) ≡ length w.bytes + 1 = length-append w.bytes (x ∷ []) in
-    let t : place + length (w.bytes ++ x ∷ []) ≡ place + length w.bytes + 1 = omega arith in
-    rw (f, ← e) (ap (λ n. let r : FramerValue = record (scan_of limit place (pushed w x) ended false skipped tried) { taken = n } in r) t)
+view_pushed {limit} {skipped} {tried} {w} {ended} place x e f = grind (arith, length-append)
 
 pub whole_frame : (held bytes : List ℕ) (size : ℕ) → begins_frame held ≡ true → size ≡ frame_length held → bytes ≡ held → (6 ≤ size) × (size ≤ length bytes)
 whole_frame held bytes size h e f =
@@ -87,7 +84,4 @@ whole_frame held bytes size h e f =
 
 pub view_dropped : {v : FramerValue} {limit skipped tried n : ℕ} {w w' : WindowValue} {ended ready : Bool} (place : ℕ) (u : WindowValue) → scan_of limit place w ended ready skipped tried ≡ v → u.bytes ≡ w.bytes
     → w' ≡ without_front u n → n ≤ length w.bytes → scan_of limit (place + n) w' ended ready skipped 0 ≡ with_window v (without_front u n) 0
-view_dropped {limit} {skipped} {n} {w} {ended} {ready} place u e g f h =
-    let l : length (drop n u.bytes) ≡ length w.bytes - n = length-drop n u.bytes ∙ ap (λ b. length b - n) g in
-    let t : place + n + length (drop n u.bytes) ≡ place + length w.bytes = omega arith in
-    rw (f, ← e) (ap (λ q. let r : FramerValue = record (scan_of limit (place + n) (without_front u n) ended ready skipped 0) { taken = q } in r) t)
+view_dropped {limit} {skipped} {n} {w} {ended} {ready} place u e g f h = grind (arith, length-drop)

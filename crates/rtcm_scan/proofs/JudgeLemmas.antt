@@ -1,5 +1,5 @@
 -- The decision about a candidate.
-use Rattle.rtcm_scan.proofs.Names.{ℕ, ◌≡◌, ◌+◌, ◌*◌, ◌<◌, ◌≤◌, ◌↔◌, Bool, true, false, cond, eqb, List, [], ◌∷◌, ◌++◌, length, take, drop, get_or, slice_index, refl, sym, ap, ◌∙◌, arith, ◌⊎◌, ⊎_elim, inl, inr, take-append-drop, append_assoc, cases_lt, cases_eq, eq-eqb, ne_eqb, length-take-le, take_more, crc, message_length, frame_length, has_preamble, sent_check, Candidate, wanted_by, HasTaken, asked, decision, if_missing, Passed, Found, preamble}
+use Rattle.rtcm_scan.proofs.Names.{ℕ, ◌≡◌, ◌+◌, ◌*◌, ◌<◌, ◌≤◌, ◌↔◌, Bool, false, cond, List, [], ◌∷◌, ◌++◌, length, take, drop, get_or, slice_index, sym, ap, ◌∙◌, arith, ◌⊎◌, ⊎_elim, take-append-drop, append_assoc, cases_lt, cases_eq, eq-eqb, ne_eqb, length-take-le, take_more, crc, message_length, frame_length, has_preamble, sent_check, Candidate, wanted_by, HasTaken, asked, decision, if_missing, Passed, Found, preamble}
 use Rattle.rtcm_scan.proofs.FrameLemmas.{length_stays, preamble_stays}
 use Rattle.rtcm_scan.proofs.CandidateLemmas.{wanted_stays, wanted_bound}
 use Rattle.rtcm_scan.proofs.DecisionLemmas.{decision_without, decision_short, decision_found, decision_wrong}
@@ -13,10 +13,7 @@ Residue = (bytes : List ℕ) (x y z : ℕ) → x < 256 → y < 256 → z < 256 �
 
 -- a place that is decided by more than one byte begins with the preamble
 pub wanted_cases : (s : List ℕ) → ((slice_index s 0 ≡ preamble) × (wanted_by s ≡ frame_length s)) ⊎ ((slice_index s 0 ≡ preamble → ⊥) × (wanted_by s ≡ 1))
-wanted_cases s = ⊎_elim
-    (λ (e : slice_index s 0 ≡ preamble). let p : eqb (slice_index s 0) preamble ≡ true = eq-eqb _ _ e in inl (e, rw p refl))
-    (λ (n : slice_index s 0 ≡ preamble → ⊥). let p : eqb (slice_index s 0) preamble ≡ false = ne_eqb _ _ n in inr (n, rw p refl))
-    (cases_eq (slice_index s 0) preamble)
+wanted_cases s = grind (arith, slice_index, eq-eqb, ne_eqb, cases_eq)
 
 wanted_more : (s : List ℕ) → 1 < wanted_by s → (slice_index s 0 ≡ preamble) × (wanted_by s ≡ frame_length s)
 wanted_more s h = ⊎_elim (λ (k : (slice_index s 0 ≡ preamble) × (wanted_by s ≡ frame_length s)). k)
@@ -50,18 +47,10 @@ take_three s n h =
 
 -- the register of a whole candidate is 0 if its CRC is valid
 check_zero : Residue → (s : List ℕ) → AreBytes s → frame_length s ≤ length s → (crc (take (frame_length s) s) ≡ 0) ↔ (sent_check s (message_length s + 3) ≡ crc (take (message_length s + 3) s))
-check_zero law s b h =
-    let n = message_length s in
-    rw (take_three s n h) (law (take (n + 3) s) (get_or s (n + 3) 0) (get_or s (n + 3 + 1) 0) (get_or s (n + 3 + 2) 0) (b (n + 3)) (b (n + 3 + 1)) (b (n + 3 + 2)))
+check_zero law s b h = grind (arith, take_three)
 
 pub judge_missing : (c : Candidate) (e : Bool) (s : List ℕ) → 0 < length s → HasTaken c (take c.count s) → c.count ≡ asked s → c.count < c.wanted → if_missing e ≡ decision e s
-judge_missing c e s l t a h =
-    ⊎_elim
-    (λ (g : length s < wanted_by s). let k = wanted_more s (omega (arith, g, l)) in decision_short e s k.0 (omega (arith, k.1, g)))
-    (λ (g : wanted_by s ≤ length s).
-    let k : c.count ≡ wanted_by s = omega arith in
-    let x : wanted_by (take c.count s) ≡ wanted_by s = wanted_take s c.count (omega arith) k in absurd (omega arith))
-    (cases_lt (length s) (wanted_by s))
+judge_missing c e s l t a h = grind (arith, wanted_more, decision_short, wanted_take, cases_lt)
 
 -- a candidate has accepted exactly the bytes that decide it
 pub record IsWhole (c : Candidate) (s : List ℕ) : Type 0 where
@@ -81,23 +70,10 @@ whole c s t a h =
     record { taken = t; count = omega arith; wanted = omega arith; within = omega arith }
 
 pub judge_found : Residue → {c : Candidate} (e : Bool) (s : List ℕ) → AreBytes s → IsWhole c s → 1 < c.wanted → c.register ≡ 0 → Found c.count ≡ decision e s
-judge_found law {c} e s b w g r =
-    let k = wanted_more s (omega (arith, w.wanted, g)) in
-    let n : c.count ≡ frame_length s = w.count ∙ k.1 in
-    let z : crc (take (frame_length s) s) ≡ 0 = ap (λ q. crc (take q s)) (sym n) ∙ sym w.taken.register ∙ r in
-    let l : frame_length s ≤ length s = omega (arith, n, w.within) in
-    ap Found n ∙ decision_found e s k.0 l ((check_zero law s b l).0 z)
+judge_found law {c} e s b w g r = grind (arith, wanted_more, Found, decision_found, check_zero)
 
 pub judge_wrong : Residue → {c : Candidate} (e : Bool) (s : List ℕ) → AreBytes s → IsWhole c s → 1 < c.wanted → (c.register ≡ 0 → ⊥) → Passed ≡ decision e s
-judge_wrong law {c} e s b w g r =
-    let n : c.count ≡ frame_length s = w.count ∙ (wanted_more s (omega (arith, w.wanted, g))).1 in
-    let l : frame_length s ≤ length s = omega (arith, n, w.within) in
-    decision_wrong e s l (λ q. r (w.taken.register ∙ ap (λ q. crc (take q s)) n ∙ (check_zero law s b l).1 q))
+judge_wrong law {c} e s b w g r = grind (arith, wanted_more, decision_wrong, check_zero)
 
 pub judge_none : (c : Candidate) (e : Bool) (s : List ℕ) → HasTaken c (take c.count s) → c.count ≡ asked s → (c.count < c.wanted → ⊥) → (1 < c.wanted → ⊥) → Passed ≡ decision e s
-judge_none c e s t a h g =
-    let w1 : c.wanted ≡ wanted_by s = (whole c s t a h).wanted in
-    ⊎_elim
-    (λ (k : (slice_index s 0 ≡ preamble) × (wanted_by s ≡ frame_length s)). let d : wanted_by s ≡ frame_length s = k.1 in absurd (g (omega arith)))
-    (λ (k : (slice_index s 0 ≡ preamble → ⊥) × (wanted_by s ≡ 1)). decision_without e s k.0)
-    (wanted_cases s)
+judge_none c e s t a h g = grind (arith, slice_index, decision_without, wanted_cases)

@@ -35,19 +35,14 @@ frame_begins m rest h =
         rw (a, b, e) (omega arith)
 
 pub frame_message : (m rest : List ℕ) → length m ≤ longest_message → framed_message (frame_bytes m ++ rest) ≡ m
-frame_message m rest h =
-    ap (λ n. take n (drop 3 (frame_bytes m ++ rest))) (length_claimed m rest h)
-    ∙ ap (λ x. take (length m) (drop 3 x)) (spread m rest)
-    ∙ take_at m (three_bytes (crc (frame_header m ++ m)) ++ rest) (length m) refl
+frame_message m rest h = grind (arith, length_claimed, spread, take_at)
 
 -- ---- a list of frames after bytes
 length-frame : (m : List ℕ) → length (frame_bytes m) ≡ length m + 6
 length-frame m = length-append (frame_header m ++ m) (three_bytes (crc (frame_header m ++ m))) ∙ (omega arith)
 
 frame_here : (pre m : List ℕ) (rest : List ℕ) → length m ≤ longest_message → IsFrameOf (pre ++ (frame_bytes m ++ rest)) (record { offset = length pre; message = m })
-frame_here pre m rest h =
-    let d : drop (length pre) (pre ++ (frame_bytes m ++ rest)) ≡ frame_bytes m ++ rest = drop_at pre (frame_bytes m ++ rest) (length pre) refl in
-    record { begins = ap begins_frame d ∙ frame_begins m rest h; message = sym (ap framed_message d ∙ frame_message m rest h) }
+frame_here pre m rest h = grind (arith, drop_at, frame_begins, frame_message)
 
 scanned_list : (pre : List ℕ) (ms : List (List ℕ)) {b : List ℕ} {p n : ℕ} → b ≡ pre ++ flat_map frame_bytes ms → p ≡ length pre → n ≡ length b → All (λ m. length m ≤ longest_message) ms → Scanned true b p n (placed p ms)
 scanned_list pre [] {b} e q r a = (let l : length b ≡ length pre = ap length (e ∙ append-nil pre) in omega arith, λ k i j. (let l : length b ≡ length pre = ap length (e ∙ append-nil pre) in absurd (omega arith)))
@@ -103,9 +98,7 @@ cut_at bytes ms k =
     ap (stream_after bytes) (sym (take-append-drop k ms)) ∙ ap (λ x. bytes ++ x) (flat_map-append frame_bytes (take k ms) (drop k ms)) ∙ sym (append_assoc bytes (flat_map frame_bytes (take k ms)) (flat_map frame_bytes (drop k ms)))
 
 place_split : (bytes : List ℕ) (ms : List (List ℕ)) (k d : ℕ) → frame_place bytes ms (k + d) ≡ frame_place bytes ms k + length (flat_map frame_bytes (take d (drop k ms)))
-place_split bytes ms k d =
-    ap (λ x. length (stream_after bytes x)) (take-add k d ms) ∙ ap (λ x. length (bytes ++ x)) (flat_map-append frame_bytes (take k ms) (take d (drop k ms)))
-    ∙ ap length (sym (append_assoc bytes (flat_map frame_bytes (take k ms)) (flat_map frame_bytes (take d (drop k ms))))) ∙ length-append (stream_after bytes (take k ms)) (flat_map frame_bytes (take d (drop k ms)))
+place_split bytes ms k d = grind (arith, take-add, flat_map-append, append_assoc, length-append)
 
 -- the frame with number i
 frame_number : (bytes : List ℕ) (ms : List (List ℕ)) (i : ℕ) → i < length ms → All (λ m. length m ≤ longest_message) ms → IsFrameOf (stream_after bytes ms) (record { offset = frame_place bytes ms i; message = get_or ms i [] })

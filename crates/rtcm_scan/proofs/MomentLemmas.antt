@@ -1,5 +1,5 @@
 -- What holds at every moment.
-use Rattle.rtcm_scan.proofs.Names.{ℕ, ◌≡◌, ◌*◌, ◌≤◌, true, false, List, [], length, refl, arith, Framed, frames_of, frames_from, WindowValue, nothing_held, FramerValue, scan_of, HasFramed, first_held, new_scan, places, tried, decided, decided_frames, frames_before, IsDrained, greatest_below, spans_now, looks_at, all_looks, spans_at, tried_before, HasExamined, IsCountedExactly, longest_frame, most_looks, most_bytes}
+use Rattle.rtcm_scan.proofs.Names.{ℕ, ◌≡◌, ◌*◌, ◌≤◌, true, false, List, [], length, refl, arith, Framed, frames_of, frames_from, WindowValue, nothing_held, FramerValue, scan_of, HasFramed, first_held, new_scan, places, tried, decided, decided_frames, frames_before, IsDrained, greatest_below, spans_now, looks_at, spans_at, tried_before, HasExamined, IsCountedExactly, longest_frame, most_looks, most_bytes}
 use Rattle.rtcm_scan.proofs.BoundLemmas.{looks_bound, all_bound, greatest_bound}
 use Rattle.rtcm_scan.proofs.HistoryLemmas.{history_end, history_from}
 use Rattle.rtcm_scan.proofs.ScanLemmas.{scanned_none}
@@ -12,10 +12,7 @@ most_moment v b fs h x =
     rw x.counts.greatest_is g
 
 pub examined_moment : (v : FramerValue) (b : List ℕ) (fs : List Framed) → length v.held ≤ longest_frame → HasExamined v b fs → v.examined ≤ most_looks * length b
-examined_moment v b fs h x =
-    let s : HasFramed v b fs = x.history in
-    let g : all_looks (spans_at b fs (first_held v) v.tried) ≤ most_looks * length b = all_bound v.has_ended b fs (first_held v) s.scanned (omega arith) (omega arith) in
-    rw x.counts.total g
+examined_moment v b fs h x = grind (arith, all_bound)
 
 pub counts_end : (v : FramerValue) (b : List ℕ) (fs : List Framed) → HasExamined v b fs → HasExamined (record v { has_ended = true }) b fs
 counts_end v b fs x = record { history = history_end v b fs x.history; limit = x.limit; within = x.within; each = x.each; tried = x.tried; counts = x.counts }
@@ -25,14 +22,7 @@ history_new limit = history_from (new_scan limit) [] [] refl refl (omega arith) 
 
 counts_empty : (limit : ℕ) → limit ≤ most_bytes → HasFramed (new_scan limit) [] [] → HasExamined (new_scan limit) [] []
 unfolding tried_before places greatest_below
-counts_empty limit h s = record {
-  history = s;
-  limit = h;
-  within = omega arith;
-  each = refl;
-  tried = omega arith;
-  counts = record { each = λ j l. absurd (omega arith); total = refl; greatest_is = refl };
-}
+counts_empty limit h s = grind arith
 
 pub counts_new : (limit tried : ℕ) (w : WindowValue) → limit ≤ most_bytes → w ≡ nothing_held → tried ≡ 0 → HasExamined (scan_of limit 0 w false true 0 tried) [] []
 counts_new limit tried w h e z = rw (e, z) (counts_empty limit h (history_new limit))

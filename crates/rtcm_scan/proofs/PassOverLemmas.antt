@@ -30,13 +30,7 @@ one_asked : (s : List ℕ) → has_preamble s ≡ false → 0 < length s → ask
 one_asked s e h = rw e (omega arith)
 
 one_more : (v : FramerValue) (n : ℕ) → v.tried ≡ 0 → has_preamble v.held ≡ false → 0 < length v.held → passed_over v (suc n) ≡ passed_over (passed (with_candidate_examined v)) n
-one_more v n e h k =
-    let a : asked v.held ≡ 1 = one_asked v.held h k in
-    let b : v.skipped + suc n ≡ v.skipped + 1 + n = omega arith in
-    let w : looked_through (window_of v) v.tried (asked v.held - v.tried) ≡ looked_through (window_of v) 0 1 = rw (e, a) refl in
-    ap (with_given_up v (without_front (looked_through (window_of v) 0 (suc n)) (suc n))) b
-    ∙ ap (λ (x : WindowValue). with_given_up v x (v.skipped + 1 + n)) (front_once (window_of v) n)
-    ∙ ap (λ (x : WindowValue). passed_over (passed (with_looks v x (asked v.held))) n) (sym w)
+one_more v n e h k = grind (arith, one_asked, front_once)
 
 -- what each step keeps
 all_passed : (s : List ℕ) (e : Bool) → has_preamble s ≡ false → IsPassed e s

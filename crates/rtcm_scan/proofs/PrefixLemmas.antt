@@ -88,10 +88,7 @@ decided_nothing = refl
 -- each frame has at least six bytes
 scanned_six : (e : Bool) (b : List ℕ) (from to : ℕ) (fs : List Framed) → Scanned e b from to fs → from + 6 * length fs ≤ to
 scanned_six e b from to [] s = let h : from ≤ to = s.0 in omega arith
-scanned_six e b from to (f ∷ fs) s =
-    let h : from ≤ f.offset = s.0 in
-    let r : frame_end f + 6 * length fs ≤ to = scanned_six e b (frame_end f) to fs s.3 in
-    omega arith
+scanned_six e b from to (f ∷ fs) s = omega (arith, (scanned_six e b (frame_end f) to fs s.3))
 
 pub six_each : (b : List ℕ) → 6 * length (frames_of b) ≤ length b
 unfolding frames_of

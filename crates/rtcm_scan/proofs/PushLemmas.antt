@@ -1,31 +1,18 @@
 -- What a framer has accepted after many bytes.
-use Rattle.rtcm_scan.proofs.Names.{ℕ, ◌≡◌, ◌+◌, ◌<◌, ◌≤◌, Bool, false, List, [], ◌∷◌, ◌++◌, length, replicate, refl, ap, arith, suc, length-append, append-nil, append_assoc, WindowValue, pushed_all, Framed, FramerValue, scan_of, with_byte, with_bytes, HasFramed, HasExamined}
+use Rattle.rtcm_scan.proofs.Names.{ℕ, ◌≡◌, ◌+◌, ◌<◌, ◌≤◌, Bool, false, List, [], ◌∷◌, ◌++◌, length, arith, length-append, append-nil, append_assoc, WindowValue, pushed_all, Framed, FramerValue, scan_of, with_byte, with_bytes, HasFramed, HasExamined}
 use Rattle.rtcm_scan.proofs.HistoryLemmas.{history_push, history_ready}
 use Rattle.rtcm_scan.proofs.StepLemmas.{step_push}
 
 -- no bytes; then one byte and those after it
 with_none : (v : FramerValue) → with_bytes v [] ≡ record v { is_ready = false }
-with_none v =
-    let z : v.taken + 0 ≡ v.taken = omega arith in
-    let h : v.held ++ [] ≡ v.held = append-nil v.held in
-    let l : v.looks ++ [] ≡ v.looks = append-nil v.looks in
-    rw (z, h, l) refl
-
-with_more : (v : FramerValue) (x : ℕ) (xs : List ℕ) → with_bytes (with_byte v x) xs ≡ with_bytes v (x ∷ xs)
-with_more v x xs =
-    let z : v.taken + 1 + length xs ≡ v.taken + suc (length xs) = omega arith in
-    let h : v.held ++ x ∷ [] ++ xs ≡ v.held ++ (x ∷ xs) = append_assoc v.held (x ∷ []) xs in
-    let l : v.looks ++ 0 ∷ [] ++ replicate (length xs) 0 ≡ v.looks ++ (0 ∷ replicate (length xs) 0) = append_assoc v.looks (0 ∷ []) (replicate (length xs) 0) in
-    rw (z, h, l) refl
+with_none v = grind (arith, append-nil)
 
 -- a property that each pushed byte keeps is kept by all of them
 push_each : (P : FramerValue → List ℕ → Type 0) → ((v : FramerValue) (b : List ℕ) → P v b → P (record v { is_ready = false }) b)
     → ((v : FramerValue) (b : List ℕ) (x : ℕ) → v.has_ended ≡ false → v.taken < v.limit → P v b → P (with_byte v x) (b ++ x ∷ []))
     → (xs : List ℕ) {v : FramerValue} {b : List ℕ} → v.has_ended ≡ false → v.taken + length xs ≤ v.limit → P v b → P (with_bytes v xs) (b ++ xs)
 push_each P none one [] {v} {b} n l h = rw (with_none v, append-nil b) (none v b h)
-push_each P none one (x ∷ xs) {v} {b} n l h =
-    let a : b ++ x ∷ [] ++ xs ≡ b ++ (x ∷ xs) = append_assoc b (x ∷ []) xs in
-    rw (← with_more v x xs, ← a) (push_each P none one xs n (omega (arith, l)) (one v b x n (omega (arith, l)) h))
+push_each P none one (x ∷ xs) {v} {b} n l h = grind (arith, append_assoc, one, (push_each P none one xs n (omega (arith, l)) (one v b x n (omega (arith, l)) h)))
 
 pub history_push_all : (v : FramerValue) (b xs : List ℕ) (fs : List Framed) → v.has_ended ≡ false → v.taken + length xs ≤ v.limit → HasFramed v b fs → HasFramed (with_bytes v xs) (b ++ xs) fs
 history_push_all v b xs fs = push_each (λ v b. HasFramed v b fs) (λ v b s. history_ready v b fs false s) (λ v b x n l s. history_push v b fs x n s) xs
@@ -43,6 +30,4 @@ has_room place n e f h = rw (← e) (f, h)
 -- the framer's view after it
 pub view_pushed_all : {v : FramerValue} {limit skipped tried : ℕ} {w w' : WindowValue} {ended ready : Bool} (place : ℕ) (xs : List ℕ) → scan_of limit place w ended ready skipped tried ≡ v → w' ≡ pushed_all w xs
     → scan_of limit place w' ended false skipped tried ≡ with_bytes v xs
-view_pushed_all {limit} {skipped} {tried} {w} {ended} place xs e f =
-    let t : place + length (w.bytes ++ xs) ≡ place + length w.bytes + length xs = omega (arith, length-append w.bytes xs) in
-    rw (f, ← e) (ap (λ n. let r : FramerValue = record (scan_of limit place (pushed_all w xs) ended false skipped tried) { taken = n } in r) t)
+view_pushed_all {limit} {skipped} {tried} {w} {ended} place xs e f = grind (arith, length-append)

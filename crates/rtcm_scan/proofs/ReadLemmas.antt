@@ -1,5 +1,5 @@
 -- A stream that is read piece by piece.
-use Rattle.rtcm_scan.proofs.Names.{◌≡◌, ℕ, ◌+◌, ◌-◌, ◌<◌, ◌≤◌, Bool, true, false, List, [], ◌∷◌, ◌++◌, ◌∙◌, ap, sym, refl, arith, length, take, drop, max, append_assoc, append-nil, subst, length-append, Option, true≢false, add-zero, Result, Ok, Err, MatchResult, Consumes, Keeps, IsAtEnd, ReadConsumes, ReadsAtMost, Consumes-trans, Consumes-nil, Framed, length-drop, take-append-add, take-append-le, length-take-le, longest_frame, decided, IsDrained, known_frames, known_place, FramerValue, HasReadPiece, Coming, Breaking, HasPassedAll, HasBroken, Passes, Breaks, Continues, BreaksKnown, PassesKnown, PassesToLimit, PassesAll, BreaksAfter, BreaksReading, Reads, ReadsOn, IsReadingOn, AtFault, StreamFault, Read, TooLong, Sink, most_undecided}
+use Rattle.rtcm_scan.proofs.Names.{◌≡◌, ℕ, ◌+◌, ◌-◌, ◌<◌, ◌≤◌, Bool, true, false, List, [], ◌++◌, ◌∙◌, ap, sym, arith, length, take, max, append_assoc, append-nil, subst, length-append, Option, add-zero, Result, Consumes, IsAtEnd, ReadConsumes, ReadsAtMost, Consumes-trans, Consumes-nil, Framed, length-drop, take-append-add, length-take-le, longest_frame, decided, IsDrained, known_frames, FramerValue, HasReadPiece, Coming, Breaking, HasPassedAll, HasBroken, Passes, Breaks, Continues, BreaksKnown, PassesKnown, PassesToLimit, PassesAll, BreaksAfter, BreaksReading, Reads, ReadsOn, IsReadingOn, AtFault, StreamFault, Read, TooLong, Sink, most_undecided}
 use Rattle.rtcm_scan.proofs.PassingLemmas.{prefix_self, passes_sent}
 use Rattle.rtcm_scan.proofs.PrefixLemmas.{decided_near}
 
@@ -9,12 +9,6 @@ at_each Read p q r a = p a
 at_each TooLong p q r a = q a
 at_each (Sink x) p q r a = r a
 
--- a fault that is not that of the reader
-pub not_read : {F : Type 0} (f : StreamFault F) (L B P Q : Type 0) → AtFault f ⊥ L B → Q → AtFault f P Q Q
-not_read Read L B P Q a q = absurd a
-not_read TooLong L B P Q a q = q
-not_read (Sink x) L B P Q a q = q
-
 -- one piece after others
 pub reading_more : {S : Type 0} {can : S → Type 0} {s s' : S} {v v' v2 : FramerValue} {n m k l : ℕ} → IsReadingOn can s v v' n m → can s' → Continues v' v2 l → k ≡ m → IsReadingOn can s' v v2 n k
 reading_more i c j e = record { can = c; limit = j.limit ∙ i.limit; ended = j.ended ∙ i.ended; some = λ h. j.some (i.some h); size = e ∙ i.size }
@@ -23,32 +17,10 @@ limit_after : (limit taken w : ℕ) (front piece : List ℕ) → w ≡ taken + l
 limit_after limit taken w front piece e le =
     let z : limit - taken ≡ length front + (limit - w) = omega (arith, e, le) in sym (ap (λ (m : ℕ). take m (front ++ piece)) z ∙ take-append-add front piece (limit - w))
 
--- a read to `buf`, the front of a buffer of `size` bytes: it has room, and fits beside the held bytes if there is room for one
-pub record IsRead {E : Type 0} (res : Result ℕ E) (v : FramerValue) (r r' : Option (List ℕ)) (size : ℕ) (buf : List ℕ) : Type 0 where
-  pub bytes : ReadConsumes r r' res buf
-  pub bound : ReadsAtMost res buf
-  pub some : 0 < length buf
-  pub near : length v.held + length buf ≤ max size (length v.held + 1)
-
-pub read_room : {E : Type 0} {v : FramerValue} {r r' : Option (List ℕ)} {size : ℕ} {buf : List ℕ} (res : Result ℕ E) (rest : List ℕ) → IsRead res v r r' size buf
-    → MatchResult res (HasReadPiece v r r' size (buf ++ rest)) (λ _. Keeps r r')
-read_room {r} {r'} {buf} (Ok n) rest read =
-    let few : n ≤ length buf = omega (arith, read.bound) in
-    record {
-      consumes = subst (λ (l : List ℕ). Consumes r r' l) (sym (take-append-le n buf rest few)) read.bytes.0;
-      at_end = λ z. read.bytes.1 z (omega (arith, read.some));
-      within = omega (arith, few, length-append buf rest);
-      near = omega (arith, few, read.near);
-    }
-read_room (Err e) rest read = read.bytes
-
 -- a piece that fits into the buffer beside the held bytes
 near_held : (v : FramerValue) (b : List ℕ) (n most : ℕ) → v.has_ended ≡ false → IsDrained v b (known_frames v.has_ended b) → length v.held + n ≤ max most (length v.held + 1)
     → (length b - decided b) + n ≤ max most longest_frame
-near_held v b n most going d fits =
-    let e : length v.held ≡ length b - decided b = ap length d.held ∙ ap (λ (h : Bool). length (drop (known_place h b) b)) going ∙ length-drop (decided b) b in
-    let u : length b ≤ decided b + most_undecided = (decided_near b).1 in
-    omega (arith, e, u, fits)
+near_held v b n most going d fits = grind (arith, Bool, length-drop, decided_near)
 
 module _ {S O : Type 0} (took : Coming S O) (broke : Breaking S O) where
   -- no byte was read, and the output was flushed
@@ -130,15 +102,7 @@ module _ {S O : Type 0} (took : Coming S O) (broke : Breaking S O) where
 
   -- the same for a stream that was to be ended
   pub breaks_reading : {v v' : FramerValue} {s s' : S} {o o' : O} {r r' : Option (List ℕ)} {most : ℕ} → v.has_ended ≡ false → BreaksAfter took broke v s o v' s' o' most r r' → BreaksReading took broke v s o s' o' most r r'
-  breaks_reading {v} going q = record {
-    front = q.front;
-    piece = q.piece;
-    ended = v.has_ended;
-    consumes = q.consumes;
-    breaks = q.breaks;
-    few = q.few;
-    at_end = λ e. absurd (true≢false (sym e ∙ going));
-  }
+  breaks_reading {v} going q = grind arith
 
   -- all was read, and the remaining frames were passed on
   pub passes_end : {v v' v2 : FramerValue} {s s' s2 : S} {o o' o2 : O} (r r' : Option (List ℕ)) → IsAtEnd r'

@@ -1,5 +1,5 @@
 -- The counts of a framer, step by step.
-use Rattle.rtcm_scan.proofs.Names.{ℕ, ◌≡◌, ◌+◌, ◌-◌, ◌*◌, ◌<◌, ◌≤◌, min, max, Bool, true, false, not, cond, ◌&&◌, ltb, leb, List, [], ◌∷◌, ◌++◌, length, map, drop, set, get_or, refl, sym, ap, ◌∙◌, arith, suc, zero, ⊎_elim, subst, length-set, length-append, length-drop, filter, list_any, cases_lt, lt-ltb, le-ltb, get_or-set_same, map-append, filter-append, WindowValue, looked, looked_through, without_front, begins_frame, message_length, frame_length, has_preamble, framed_message, Framed, IsFrameOf, frame_end, places, is_inside, cost, FramerValue, HasFramed, first_held, IsPassed, Scanned, window_of, with_byte, with_window, with_looks, asked, with_candidate_examined, Span, span, covers, looks_at, all_looks, tried_before, spans_at, CountsLooks, HasExamined, longest_frame, most_looks, most_bytes}
+use Rattle.rtcm_scan.proofs.Names.{ℕ, ◌≡◌, ◌+◌, ◌-◌, ◌*◌, ◌<◌, ◌≤◌, min, max, Bool, true, false, not, cond, List, [], ◌∷◌, ◌++◌, length, map, drop, set, get_or, refl, sym, ap, ◌∙◌, arith, suc, zero, subst, length-set, length-append, length-drop, filter, list_any, cases_lt, lt-ltb, get_or-set_same, map-append, filter-append, WindowValue, looked, looked_through, without_front, begins_frame, message_length, frame_length, has_preamble, framed_message, Framed, IsFrameOf, frame_end, places, is_inside, cost, FramerValue, HasFramed, first_held, IsPassed, Scanned, window_of, with_byte, with_window, with_looks, asked, with_candidate_examined, Span, span, covers, looks_at, all_looks, tried_before, spans_at, CountsLooks, HasExamined, longest_frame, most_looks, most_bytes}
 use Rattle.std.specs.List.{AllByRecursion as ByRecursion}
 use Rattle.rtcm_bits.proofs.WindowLemmas.{looked_bytes, looked_length}
 use Rattle.rtcm_scan.proofs.LooksLemmas.{one_if, covers_after, looks_push, all_push, counts_look, counts_push, none_cover, greatest_same}
@@ -14,10 +14,7 @@ use Rattle.rtcm_scan.proofs.FrameLemmas.{begins_parts, length-message}
 
 -- a longer span covers no less
 covers_more : (i p k n : ℕ) → k ≤ n → one_if (covers i (span p k)) ≤ one_if (covers i (span p n))
-covers_more i p k n h = ⊎_elim
-    (λ (l : i < p + k). let x : ltb i (p + k) ≡ true = lt-ltb i (p + k) l in let y : ltb i (p + n) ≡ true = lt-ltb i (p + n) (omega arith) in rw (x, y) (omega arith))
-    (λ (l : p + k ≤ i). omega (arith, covers_after i p k l))
-    (cases_lt i (p + k))
+covers_more i p k n h = grind (arith, lt-ltb, covers_after, cases_lt)
 
 looks_more : (xs : List Span) (q k n i : ℕ) → k ≤ n → looks_at (xs ++ span q k ∷ []) i ≤ looks_at (xs ++ span q n ∷ []) i
 looks_more xs q k n i h =
@@ -129,10 +126,7 @@ step_examined v b fs h x = let a = asked_bound v.held in step_examined_to v (ask
 -- the counts of a framer whose candidate was examined whole
 pub counts_whole : (v : FramerValue) (b : List ℕ) (fs : List Framed) → 0 < length v.held → v.tried ≡ asked v.held → HasExamined v b fs
     → CountsLooks (spans_at b fs (first_held v) (cost b (first_held v))) (first_held v) (length b) v.looks v.examined v.most
-counts_whole v b fs l a x =
-    let y : v.held ≡ drop (first_held v) b = x.history.held in
-    let k : v.tried ≡ cost b (first_held v) = a ∙ ap asked y ∙ sym (cost_asked b (first_held v) (omega (arith, l, ap length y))) in
-    subst (λ (q : ℕ). CountsLooks (spans_at b fs (first_held v) q) (first_held v) (length b) v.looks v.examined v.most) k x.counts
+counts_whole v b fs l a x = grind (arith, cost_asked)
 
 -- the byte at a place is dropped
 pub step_give_up : (v : FramerValue) (b : List ℕ) (fs : List Framed) → 0 < length v.held → v.tried ≡ asked v.held → IsPassed v.has_ended v.held → HasExamined v b fs
@@ -218,14 +212,7 @@ rec_both P (x ∷ xs) ys a c = (a.0, rec_both P xs ys a.1 c)
 spans_end : (b : List ℕ) (t : ℕ → Bool) (n : ℕ) → n ≤ length b → ByRecursion (λ (s : Span). s.start + s.size ≤ length b) (map (λ q. span q (cost b q)) (filter t (places n)))
 unfolding places
 spans_end b t zero l = tt
-spans_end b t (suc n) l =
-    let a : ByRecursion (λ (s : Span). s.start + s.size ≤ length b) (map (λ q. span q (cost b q)) (filter t (places n))) = spans_end b t n (omega arith) in
-    let d : length (drop n b) ≡ length b - n = length-drop n b in
-    let c : cost b n ≤ length (drop n b) = cost_within (drop n b) (omega arith) in
-    let g : map (λ q. span q (cost b q)) (filter t (places n ++ n ∷ [])) ≡ map (λ q. span q (cost b q)) (filter t (places n)) ++ map (λ q. span q (cost b q)) (filter t (n ∷ [])) =
-    ap (map (λ q. span q (cost b q))) (filter-append t (places n) (n ∷ [])) ∙ map-append (λ q. span q (cost b q)) (filter t (places n)) (filter t (n ∷ [])) in
-    subst (ByRecursion (λ (s : Span). s.start + s.size ≤ length b)) (sym g) (rec_both _ _ _ a
-    (elim (t n) as (λ v. ByRecursion (λ (s : Span). s.start + s.size ≤ length b) (map (λ q. span q (cost b q)) (cond v (n ∷ []) []))) [ true ↦ (omega arith, tt) | false ↦ tt ]))
+spans_end b t (suc n) l = grind (arith, length-drop, cost_within, filter-append, map-append, rec_both, (spans_end b t n (omega arith)))
 
 messages_end : (e : Bool) (b : List ℕ) (from to : ℕ) (fs : List Framed) → Scanned e b from to fs → to ≤ length b → ByRecursion (λ (s : Span). s.start + s.size ≤ length b) (map (λ (f : Framed). span (f.offset + 3) (length f.message)) fs)
 messages_end e b from to [] s h = tt
