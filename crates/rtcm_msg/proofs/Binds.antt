@@ -20,6 +20,9 @@ number_short w c h = grind arith
 pub ok_inj : {A : Type 0} (x y : A) (r : Result A MsgFault) → r ≡ Ok x → r ≡ Ok y → x ≡ y
 ok_inj x y r e f = cc
 
+pub ok_err : {B : Type 0} (x : B) (e : MsgFault) (r : Result B MsgFault) → r ≡ Ok x → r ≡ Err e → ⊥
+ok_err x e r a b = cc
+
 abbrev done : {A : Type 0} → A → Result A MsgFault
 done x = Ok x
 
@@ -44,9 +47,6 @@ consumed_at w c h = record {
 
 pub number_consumed : (w : ℕ) (c : Cursor) (x : ℕ × Cursor) → number_at w c ≡ Ok x → Consumed w c x
 number_consumed w c x e = elim (cases_lt (length c.rest) w) [
-  | inl short ↦ absurd (no_ok (number_at w c) (Short c.place) x (number_short w c short) e)
+  | inl short ↦ absurd (ok_err x (Short c.place) (number_at w c) e (number_short w c short))
   | inr there ↦ let is = ok_inj (unsigned_at w c, advanced c w) x (number_at w c) (number_there w c there) e in subst (Consumed w c) is (consumed_at w c there)
 ]
-  where
-    no_ok : {A : Type 0} (r : Result A MsgFault) (d : MsgFault) (x : A) → r ≡ Err d → r ≡ Ok x → ⊥
-    no_ok r d x e f = cc

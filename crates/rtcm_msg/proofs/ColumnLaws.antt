@@ -9,8 +9,6 @@ use Rattle.rtcm_bits.specs.BitLaws.{uint-low}
 use Rattle.rtcm_msg.proofs.Binds.{bind_ok, ok_inj, number_consumed, Consumed}
 use Rattle.rtcm_msg.proofs.Combine.{cursor, number_again}
 
--- ---- the fault
-
 -- ---- what was read
 
 -- The high parts of numbers.
@@ -100,7 +98,4 @@ columns_again (w ∷ ws) ns place rest =
 -- Numbers below the width have high parts of 0.
 pub highs_zero : (t : ℕ) (ns : List ℕ) → EachBelow t ns → highs t ns ≡ replicate (length ns) 0
 highs_zero t [] h = refl
-highs_zero t (n ∷ ns) h = let e : n / 2 ^ t ≡ 0 = div_eq_zero n (2 ^ t) (h zero) in rw (e, highs_zero t ns (λ k. h (suc k))) refl
-  where
-    div_eq_zero : (n p : ℕ) → n < p → n / p ≡ 0
-    div_eq_zero n p h = div-eq_of_lt h
+highs_zero t (n ∷ ns) h = let e : n / 2 ^ t ≡ 0 = div-eq_of_lt (h zero) in rw (e, highs_zero t ns (λ k. h (suc k))) refl

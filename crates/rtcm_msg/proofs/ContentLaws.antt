@@ -7,7 +7,6 @@ use Rattle.rtcm_bits.specs.Bits.{signed, raw}
 use Rattle.std.proofs.Math.Nat.{div-div-eq-div-mul, div-one}
 use Rattle.rtcm_msg.specs.Names.{Table, FieldKind, width, widths, Contents, content, total_width, unpacked, field_at, row_at, Form, LastBits, AreLast, satellite_widths, cell_widths}
 use Rattle.rtcm_msg.specs.Packed.{packed}
-use Rattle.rtcm_msg.specs.LastBits.{EndWith}
 use Rattle.rtcm_msg.specs.declared.data.Satellite.{Satellite}
 use Rattle.rtcm_msg.specs.declared.data.Cell.{Cell}
 use Rattle.rtcm_msg.specs.Forms.{Precision, precision, is_fine, has_rates, satellite_table_by, satellite_of, satellite_data, satellite_contents, satellite_number, cell_table, cell_of, cell_data, cell_number, rate_table, rate_in, cell_table_by, cell_contents, rateless, rateless_number}
@@ -76,10 +75,7 @@ unpacked_row (f ∷ fs) n bits p i m = first_unpacked f fs n bits p i m (unpacke
 -- Satellite i of n in the bits from p on.
 pub satellite_read : (f : Form) (rates : Bool) (n : ℕ) (bits : List Bool) (p i : ℕ) (s : Satellite) → has_rates f ≡ rates → s ≡ satellite_of rates (contents_at (satellite_table_by rates) n bits p i)
     → s ≡ satellite_data f (row_at (satellite_widths f) n bits p i 0)
-satellite_read f rates n bits p i s is e =
-    let u : (b : Bool) → has_rates f ≡ b → s ≡ satellite_of b (contents_at (satellite_table_by b) n bits p i) → s ≡ satellite_of (has_rates f) (contents_at (satellite_table_by (has_rates f)) n bits p i) =
-    λ b is e. subst (λ (b : Bool). s ≡ satellite_of b (contents_at (satellite_table_by b) n bits p i)) (sym is) e in
-    u rates is e ∙ sym (ap (satellite_of (has_rates f)) (unpacked_row (satellite_table_by (has_rates f)) n bits p i 0))
+satellite_read f rates n bits p i s is e = grind (arith, Bool, unpacked_row)
 
 -- Cell i of n in the bits from p on, with its rate.
 pub cell_read : (f : Form) (w : Precision) (n : ℕ) (bits : List Bool) (p i : ℕ) {range phase rate : ℤ} {lock strength : ℕ} {half_cycle : Bool} → precision (is_fine f) ≡ w
@@ -104,17 +100,10 @@ rate_by : (rates : Bool) (n : ℕ) (bits : List Bool) (p k i : ℕ) → rates �
 rate_by true n bits p k i e = refl
 rate_by false n bits p k i e = cc
 
-places : (p n a b c d : ℕ) → p + n * a + n * b + n * c + n * 1 + n * d ≡ p + n * (a + b + c + 1 + d)
-places p n a b c d = grind arith
-
 -- Where the rate of the first cell ends.
 pub rate_ends : (f : Form) (b : LastBits) → has_rates f ≡ true → AreLast (cell_widths f) b
     → b.rate + 1 ≡ b.place + b.count * ((precision (is_fine f)).range + (precision (is_fine f)).phase + (precision (is_fine f)).lock + 1 + (precision (is_fine f)).strength) + 15
-rate_ends f b has ends =
-    let w = precision (is_fine f) in
-    let e : EndWith (widths (rate_table true)) b.count (b.place + b.count * w.range + b.count * w.phase + b.count * w.lock + b.count * 1 + b.count * w.strength) (b.rate ∷ []) =
-    subst (λ (r : Bool). EndWith (widths (rate_table r)) b.count (b.place + b.count * w.range + b.count * w.phase + b.count * w.lock + b.count * 1 + b.count * w.strength) (b.rate ∷ [])) has ends.1.1.1.1.1 in
-    e.0 ∙ ap (λ (n : ℕ). n + 15) (places b.place b.count w.range w.phase w.lock w.strength)
+rate_ends f b has ends = grind (arith, Bool, ends)
 
 pub rate_read : (f : Form) (n : ℕ) (bits : List Bool) (p i : ℕ) {rate : ℤ} → has_rates f ≡ true
     → rate ≡ signed 15 (field_at bits (p + n * ((precision (is_fine f)).range + (precision (is_fine f)).phase + (precision (is_fine f)).lock + 1 + (precision (is_fine f)).strength) + i * 15) 15)

@@ -6,8 +6,8 @@ use Rattle.std.proofs.lemmas.List.{length-drop}
 use Rattle.gnss_system.specs.declared.system.System.{System}
 use Rattle.rtcm_msg.specs.Names.{bits_of, MsgFault, BadTime, TooManyCells, Short, Table, widths, ◌>>=◌, first_past, number_at, total_width, end_of_rows, time_table, header_table, mask_table, header_of, header_in, header_at, masks_at, is_time, pair_count, field_widths, parts_in, station_at, station_table}
 use Rattle.rtcm_bits.specs.BitLaws.{length-bits_of}
-use Rattle.rtcm_msg.proofs.Binds.{number_short}
-use Rattle.rtcm_msg.proofs.Combine.{ok_err, past_here}
+use Rattle.rtcm_msg.proofs.Binds.{number_short, ok_err}
+use Rattle.rtcm_msg.proofs.Combine.{past_here}
 use Rattle.rtcm_msg.proofs.FieldLaws.{contents_at, fields_at, cursor_at, field_at, number_there_at, ShortAt, fields_read, past_none}
 use Rattle.rtcm_msg.proofs.StationLaws.{station_chain, station_widths, height_widths}
 use Rattle.rtcm_msg.proofs.MsmLaws.{header_chain, header_rest_is, in_time, no_time_of, sets_chain, few_rest, many_rest}
@@ -50,10 +50,7 @@ fields_missing t bits place e h check = elim (fields_read t bits place h) [
 ]
 
 fields_whole : (t : Table) (bits : List Bool) (place : ℕ) → place + total_width (widths t) ≤ length bits → fields_at t (cursor_at bits place) ≡ Ok (contents_at t bits place, cursor_at bits (place + total_width (widths t)))
-fields_whole t bits place h = elim (fields_read t bits place (omega arith)) [
-  | inl few ↦ absurd (omega (arith, few.0, h))
-  | inr there ↦ there.1
-]
+fields_whole t bits place h = grind (arith, fields_read)
 
 number_missing : (w : ℕ) (bits : List Bool) (place : ℕ) (e : MsgFault) → place ≤ length bits → Err e ≡ end_of_rows (w ∷ []) 1 (length bits) place → number_at w (cursor_at bits place) ≡ Err e
 number_missing w bits place e h check = elim (cases_lt (length bits) (place + w)) [

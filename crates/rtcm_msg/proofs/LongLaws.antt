@@ -3,7 +3,7 @@ use Rattle.std.proofs.Common.{ℕ, ◌≡◌, ◌+◌, ◌*◌, ◌≤◌, Bool,
 use Rattle.std.proofs.lemmas.Bool.{cases_lt, le-leb, lt-ltb}
 use Rattle.std.proofs.lemmas.Nat.{ones-le, mul-le}
 use Rattle.std.proofs.lemmas.List.{length-drop, take-append-le, drop-append-le, take-append-drop, length-take-le}
-use Rattle.rtcm_msg.specs.Names.{bits_of, number, MsgFault, BadTime, TooManyCells, Short, Message, first_past, total_width, message_by, message_with, MsmSet, kind_with, ReadsMessage, IsFault, is_read_msm, set_of, layout, layout_by, Kind, kind_of, is_msm_kind, has_bad_time, has_too_many, repeated, Form, satellite_widths, cell_widths}
+use Rattle.rtcm_msg.specs.Names.{bits_of, number, MsgFault, BadTime, TooManyCells, Short, Message, total_width, message_by, message_with, MsmSet, kind_with, ReadsMessage, IsFault, is_read_msm, set_of, layout_by, Kind, kind_of, is_msm_kind, has_bad_time, has_too_many, repeated, Form, satellite_widths, cell_widths}
 use Rattle.rtcm_bits.specs.FrameOf.{longest_message, longest_message_bits}
 use Rattle.rtcm_bits.specs.BitLaws.{bits_of-append, length-bits_of, number-take-fits}
 use Rattle.rtcm_msg.specs.Encoding.{number_of}
@@ -46,10 +46,7 @@ ones_few bits place w few h =
     omega (arith, most, few)
 
 pairs_are : (bits : List Bool) → is_read_msm (number_of bits) ≡ true → longest_message_bits ≤ length bits → has_too_many bits ≡ false → pair_count_of bits ≤ 64
-pairs_are bits msm long few = elim (cases_lt 64 (pair_count_of bits)) [
-  | inl over ↦ absurd (not_true (has_too_many bits) few (and_all (is_read_msm (number_of bits)) (nat_le 169 (length bits)) (nat_lt 64 (pair_count_of bits)) msm (le-leb 169 (length bits) (omega (arith, long))) (lt-ltb 64 (pair_count_of bits) over)))
-  | inr fine ↦ fine
-]
+pairs_are bits msm long few = grind (arith, cases_lt, not_true, and_all, nat_le, nat_lt, le-leb, lt-ltb)
 
 -- The largest number of bits of a message.
 total_few : (form : Form) (s c p : ℕ) → s ≤ 64 → c ≤ 64 → p ≤ 64 → total_width (12 ∷ 12 ∷ 30 ∷ 1 ∷ 3 ∷ 7 ∷ 2 ∷ 2 ∷ 1 ∷ 3 ∷ 64 ∷ 32 ∷ p ∷ (repeated s (satellite_widths form) ++ repeated c (cell_widths form))) ≤ longest_message_bits
@@ -72,10 +69,7 @@ fault_more : (a b : List Bool) (e : MsgFault) → longest_message_bits ≤ lengt
 fault_more a b BadTime long f = time_more a b long ∙ f
 fault_more a b TooManyCells long f = (time_more a b long ∙ f.0, few_more a b long ∙ f.1)
 fault_more a b (Short k) long (time, few, inl x) = absurd (omega (arith, long, x.0))
-fault_more a b (Short k) long (time, few, inr x) = absurd (some_none (first_past (length a) 0 (layout a)) k x.1 (past_none (layout a) (length a) 0 (le_all (total_width (layout a)) (length a) (layout_few a _ refl long few) long)))
-  where
-    le_all : (t n : ℕ) → t ≤ longest_message_bits → longest_message_bits ≤ n → 0 + t ≤ n
-    le_all t n h k = omega arith
+fault_more a b (Short k) long (time, few, inr x) = grind (arith, some_none, past_none, layout_few)
 
 message_more : (a b : List Bool) → longest_message_bits ≤ length a → message_by kind_of a ≡ message_by kind_of (a ++ b)
 message_more a b long = go (message_by kind_of a) refl
@@ -92,14 +86,7 @@ prefix_bits bytes h = (exact_long _ (length-bits_of (take longest_message bytes)
     exact_long n e = omega arith
 
 with_more : (set : MsmSet) (a b : List Bool) → longest_message_bits ≤ length a → message_by (kind_with set) a ≡ message_by (kind_with set) (a ++ b)
-with_more set a b long =
-    let there : 12 ≤ length a = omega (arith, long) in
-    let more : 12 ≤ length (a ++ b) = omega (arith, long, length-append a b) in
-    let same = ap (kind_with set) (number_more a b long) in
-    elim (by_set set (number_of a)) [
-      | inl known ↦ message_known set a known ∙ (message_more a b long ∙ sym (message_known set (a ++ b) (same ∙ (known ∙ ap kind_of (sym (number_more a b long))))))
-      | inr other ↦ message_other set a there other ∙ (ap₂ (λ n s. Ok (messages.Other n s)) (sym (number_more a b long)) (sym (set_more a b long)) ∙ sym (message_other set (a ++ b) more (same ∙ other)))
-    ]
+with_more set a b long = grind (arith, length-append, number_more, by_set, message_known, message_more, message_other, ap₂, set_more)
 
 pub with_prefix : (set : MsmSet) (bytes : List ℕ) → longest_message ≤ length bytes → message_with set (take longest_message bytes) ≡ message_with set bytes
 with_prefix set bytes h = let p = prefix_bits bytes h in with_more set _ _ p.0 ∙ ap (message_by (kind_with set)) (sym p.1)

@@ -37,43 +37,31 @@ pick (x ∷ xs) (y ∷ ys) = if pair_number x == pair_number y then true ∷ pic
 
 pick_here : (x y : ℕ × ℕ) (xs ys : List (ℕ × ℕ)) → y ≡ x → pick (x ∷ xs) (y ∷ ys) ≡ true ∷ pick xs ys
 unfolding pick
-pick_here x y xs ys e = let f : (pair_number x == pair_number y) ≡ true = same (pair_number x) (pair_number y) (ap pair_number (sym e)) in rw f refl
-  where
-    same : (m n : ℕ) → m ≡ n → (m == n) ≡ true
-    same m n e = grind arith
+pick_here x y xs ys e = grind arith
 
 pick_later : (x y : ℕ × ℕ) (xs ys : List (ℕ × ℕ)) → pair_number x < pair_number y → pick (x ∷ xs) (y ∷ ys) ≡ false ∷ pick xs (y ∷ ys)
 unfolding pick
-pick_later x y xs ys h = let f : (pair_number x == pair_number y) ≡ false = other (pair_number x) (pair_number y) h in rw f refl
-  where
-    other : (m n : ℕ) → m < n → (m == n) ≡ false
-    other m n h = grind arith
+pick_later x y xs ys h = grind arith
 
 in_above : (low high : ℕ) (y : ℕ × ℕ) (xs : List (ℕ × ℕ)) → Rising low high (map pair_number xs) → IsIn y xs → low ≤ pair_number y
 in_above low high y [] r i = absurd i
 in_above low high y (x ∷ xs) r (inl e) = rw e r.0
-in_above low high y (x ∷ xs) r (inr i) = let h = in_above (pair_number x + 1) high y xs r.2 i in below low (pair_number x) (pair_number y) r.0 h
-  where
-    below : (l m n : ℕ) → l ≤ m → m + 1 ≤ n → l ≤ n
-    below l m n h k = omega arith
+in_above low high y (x ∷ xs) r (inr i) = omega (arith, high, low, (in_above (pair_number x + 1) high y xs r.2 i))
+
+more : (m n : ℕ) → m + 1 ≤ n → m + 1 ≤ n + 1
+more m n h = omega arith
 
 -- Pairs after the first one are among the others.
 others_in : (high : ℕ) (x : ℕ × ℕ) (xs ys : List (ℕ × ℕ)) → Rising (pair_number x + 1) high (map pair_number ys) → Each (λ y. IsIn y (x ∷ xs)) ys → Each (λ y. IsIn y xs) ys
 others_in high x xs [] r h = tt
-others_in high x xs (y ∷ ys) r h = (first y r.0 h.0, others_in high x xs ys (weaken (pair_number x + 1) (pair_number y + 1) high (map pair_number ys) (less (pair_number x) (pair_number y) r.0) r.2) h.1)
+others_in high x xs (y ∷ ys) r h = (first y r.0 h.0, others_in high x xs ys (weaken (pair_number x + 1) (pair_number y + 1) high (map pair_number ys) (more (pair_number x) (pair_number y) r.0) r.2) h.1)
   where
-    less : (m n : ℕ) → m + 1 ≤ n → m + 1 ≤ n + 1
-    less m n h = omega arith
-
     first : (y : ℕ × ℕ) → pair_number x + 1 ≤ pair_number y → IsIn y (x ∷ xs) → IsIn y xs
     first y up (inl e) = absurd (same (pair_number x) (pair_number y) up (ap pair_number e))
       where
         same : (m n : ℕ) → m + 1 ≤ n → n ≡ m → ⊥
         same m n h e = omega arith
     first y up (inr i) = i
-
-more : (m n : ℕ) → m + 1 ≤ n → m + 1 ≤ n + 1
-more m n h = omega arith
 
 over : (m n : ℕ) → m + 1 ≤ n → m < n
 over m n h = omega arith

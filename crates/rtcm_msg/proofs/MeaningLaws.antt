@@ -1,6 +1,7 @@
 -- A value and its meaning correspond one to one.
 use Rattle.std.proofs.Common.{ℕ, ◌≡◌, ◌+◌, ◌*◌, ◌≤◌, Bool, true, false, List, [], ◌∷◌, ◌++◌, length, map, refl, sym, ap, subst, ◌∙◌, arith}
 use Rattle.std.specs.List.{flat_map, zip, enumerate_from}
+use Rattle.std.proofs.lemmas.Slice.Zip.{firsts-zip, seconds-zip}
 use Rattle.std.proofs.lemmas.List.{length-map, map-append}
 use Rattle.rtcm_msg.specs.Names.{uint, number, Pair, MsmValue, MasksValue, AreMasks, IsValue, pair_count, ids, chosen, pair, all_pairs, cell_pairs, Rising, Meaning, meaning, ids_of, pair_number, cell_ids}
 use Rattle.rtcm_bits.specs.BitLaws.{length-uint, number_of-uint}
@@ -20,9 +21,7 @@ rising-append low middle high (x ∷ xs) ys h r s = (r.0, omega (arith, h.1, r.1
 -- The pairs of one satellite.
 row_rising : (x : ℕ × ℕ) (low : ℕ) (gs : List ℕ) → Rising low 32 gs → Rising (64 * x.1 + low) (64 * x.1 + 32) (map key (map (pair x) gs))
 row_rising x low [] r = tt
-row_rising x low (g ∷ gs) r =
-    let next : 64 * x.1 + g + 1 ≡ 64 * x.1 + (g + 1) = omega arith in
-    (omega (arith, r.0), omega (arith, r.1), rw next (row_rising x (g + 1) gs r.2))
+row_rising x low (g ∷ gs) r = grind (arith, (row_rising x (g + 1) gs r.2))
 
 rows_rising : (gs : List ℕ) (k low : ℕ) (xs : List ℕ) → Rising 1 32 gs → low ≤ 65 → Rising low 64 xs → Rising (64 * low + 1) (64 * 64 + 32) (map key (flat_map (λ x. map (pair x) gs) (enumerate_from k xs)))
 rows_rising gs k low [] g h r = tt
@@ -94,22 +93,10 @@ sets_one s t h k a g e =
 
 -- ---- maps
 
-zip_firsts : {A : Type 0} (xs : List A) (ns : List ℕ) → length xs ≡ length ns → map (λ (x : A × ℕ). x.0) (zip xs ns) ≡ xs
-zip_firsts [] [] e = refl
-zip_firsts [] (n ∷ ns) e = refl
-zip_firsts (x ∷ xs) [] e = absurd (omega (arith, e))
-zip_firsts (x ∷ xs) (n ∷ ns) e = ap (λ t. x ∷ t) (zip_firsts xs ns (omega (arith, e)))
-
-zip_seconds : {A : Type 0} (xs : List A) (ns : List ℕ) → length xs ≡ length ns → map (λ (x : A × ℕ). x.1) (zip xs ns) ≡ ns
-zip_seconds [] [] e = refl
-zip_seconds [] (n ∷ ns) e = absurd (omega (arith, e))
-zip_seconds (x ∷ xs) [] e = refl
-zip_seconds (x ∷ xs) (n ∷ ns) e = ap (λ t. n ∷ t) (zip_seconds xs ns (omega (arith, e)))
-
 zip_one : {A : Type 0} (xs ys : List A) (ms ns : List ℕ) → length xs ≡ length ms → length ys ≡ length ns → zip xs ms ≡ zip ys ns → (xs ≡ ys) × (ms ≡ ns)
 zip_one xs ys ms ns a b e = (
-  sym (zip_firsts xs ms a) ∙ (ap (map (λ x. x.0)) e ∙ zip_firsts ys ns b),
-  sym (zip_seconds xs ms a) ∙ (ap (map (λ x. x.1)) e ∙ zip_seconds ys ns b),
+  sym (firsts-zip xs ms (sym a)) ∙ (ap (map (λ x. x.0)) e ∙ firsts-zip ys ns (sym b)),
+  sym (seconds-zip xs ms (sym a)) ∙ (ap (map (λ x. x.1)) e ∙ seconds-zip ys ns (sym b)),
 )
 
 satellites_count : (sw cw : List ℕ) (v : MsmValue) → IsValue sw cw v → length (ids 64 v.sets.satellites) ≡ length v.satellites
@@ -119,10 +106,10 @@ cells_count : (sw cw : List ℕ) (v : MsmValue) → IsValue sw cw v → length (
 cells_count sw cw v h = length-map (cell_pairs v.sets) ids_of ∙ (cell_pairs_count v.sets h.sets ∙ sym h.cell_count)
 
 pub satellite_keys : (sw cw : List ℕ) (v : MsmValue) → IsValue sw cw v → map (λ x. x.0) (meaning v).satellites ≡ ids 64 v.sets.satellites
-satellite_keys sw cw v h = zip_firsts (ids 64 v.sets.satellites) v.satellites (satellites_count sw cw v h)
+satellite_keys sw cw v h = firsts-zip (ids 64 v.sets.satellites) v.satellites (sym (satellites_count sw cw v h))
 
 pub cell_keys : (sw cw : List ℕ) (v : MsmValue) → IsValue sw cw v → map (λ x. x.0) (meaning v).cells ≡ cell_ids v.sets
-cell_keys sw cw v h = zip_firsts (cell_ids v.sets) v.cells (cells_count sw cw v h)
+cell_keys sw cw v h = firsts-zip (cell_ids v.sets) v.cells (sym (cells_count sw cw v h))
 
 pub value_one : (sw cw : List ℕ) (v w : MsmValue) → IsValue sw cw v → IsValue sw cw w → meaning v ≡ meaning w → v ≡ w
 value_one sw cw v w h k e =

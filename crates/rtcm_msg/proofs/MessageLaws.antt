@@ -1,14 +1,14 @@
 -- Reading a message: the bits that were read, reading an encoding, and the fault.
-use Rattle.std.proofs.Common.{ℕ, ◌≡◌, ◌+◌, ◌==◌, ◌^◌, ◌<◌, ◌≤◌, ◌&&◌, Bool, true, false, List, [], ◌∷◌, ◌++◌, length, drop, Result, Ok, Err, Option, Some, None, refl, sym, ap, subst, ◌∙◌, arith, not, ◌⊎◌, inl, inr, append_assoc, nat_lt, nat_le, if◌then◌else◌, is_some, IsTrue, replicate}
+use Rattle.std.proofs.Common.{ℕ, ◌≡◌, ◌+◌, ◌==◌, ◌^◌, ◌<◌, ◌≤◌, ◌&&◌, Bool, true, false, List, [], ◌∷◌, ◌++◌, length, drop, Result, Ok, Err, Option, Some, None, refl, sym, ap, subst, ◌∙◌, arith, not, ◌⊎◌, inl, inr, append_assoc, nat_lt, nat_le, if◌then◌else◌, is_some, IsTrue}
 use Rattle.std.proofs.lemmas.Bool.{cases_lt, and_left, and_right, lt-leb, le-leb, lt-ltb, le-ltb}
 use Rattle.std.proofs.lemmas.Nat.{pow_pos}
 use Rattle.std.proofs.lemmas.List.{length-drop, drop-drop}
 use Rattle.gnss_system.specs.declared.system.System.{System}
-use Rattle.rtcm_msg.specs.Names.{bits_of, message_at, uint, filled, missing, Cursor, MsgFault, BadTime, TooManyCells, Short, StationParts, Message, ◌>>=◌, field_bits, first_past, total_width, columns, station_at, station_table, station_parts, msm_at, msm_bits, MsmValue, IsValue, is_time, mask_fields, message_by, start, other_at, other_of, set_at, body_by, Kind, kind_of, is_msm_kind, station_number, ReadsMessage, IsMessage, IsFault, message_bits, reserved_width, is_other, is_read_msm, layout, layout_by, has_bad_time, has_too_many, is_bad_time, Form, satellite_widths, cell_widths, message_number, message_in}
+use Rattle.rtcm_msg.specs.Names.{bits_of, message_at, uint, filled, Cursor, MsgFault, BadTime, TooManyCells, Short, StationParts, Message, ◌>>=◌, field_bits, first_past, total_width, columns, station_at, station_table, station_parts, msm_at, msm_bits, MsmValue, IsValue, is_time, mask_fields, message_by, start, other_at, other_of, set_at, body_by, Kind, kind_of, is_msm_kind, station_number, ReadsMessage, IsMessage, IsFault, message_bits, reserved_width, is_other, is_read_msm, layout, layout_by, has_bad_time, has_too_many, is_bad_time, Form, satellite_widths, cell_widths, message_number, message_in}
 use Rattle.rtcm_msg.specs.Encoding.{number_of}
 use Rattle.rtcm_msg.proofs.NumberLaws.{number_is, of_station, of_msm}
-use Rattle.rtcm_msg.proofs.Binds.{bind_ok, ok_inj, of_read, number_consumed, number_short}
-use Rattle.rtcm_msg.proofs.Combine.{cursor, number_again, ok_err, past_here, past_next}
+use Rattle.rtcm_msg.proofs.Binds.{bind_ok, ok_inj, of_read, number_consumed, number_short, ok_err}
+use Rattle.rtcm_msg.proofs.Combine.{cursor, number_again, past_here, past_next}
 use Rattle.rtcm_msg.proofs.StationLaws.{station_again, station_consumed, station_tail, station_widths, height_widths, station_chain, IsRead}
 use Rattle.rtcm_msg.proofs.MsmLaws.{msm_consumed, msm_again, msm_tail, header_tail, IsMsmRead}
 use Rattle.rtcm_msg.proofs.FieldLaws.{contents_at, fields_at, cursor_at, field_at, ShortAt, fields_read, number_there_at, short_at_more, short_at_after, past_none}
@@ -163,10 +163,7 @@ time_by : (bits : List Bool) (k : Kind) → kind_of (number_of bits) ≡ k → h
 time_by bits k e = ap (λ (k : Kind). nat_le 54 (length bits) && is_bad_time k (field_at bits 24 30)) e
 
 no_msm_in_time : (bits : List Bool) (k : Kind) → kind_of (number_of bits) ≡ k → is_msm_kind k ≡ false → is_bad_time k (field_at bits 24 30) ≡ false → InTime bits
-no_msm_in_time bits k e none fine = record {
-  time = time_by bits k e ∙ ap (λ (b : Bool). nat_le 54 (length bits) && b) fine ∙ and_right (nat_le 54 (length bits)) false refl;
-  few = and_left (is_read_msm (number_of bits) && nat_le 169 (length bits)) _ (and_left (is_read_msm (number_of bits)) _ (ap is_msm_kind e ∙ none));
-}
+no_msm_in_time bits k e none fine = grind (arith, time_by, Bool, nat_le, and_right, and_left)
 
 no_fault : (bits : List Bool) → 12 ≤ length bits → InTime bits → first_past (length bits) 0 (layout bits) ≡ None → (f : MsgFault) → IsFault bits f → ⊥
 no_fault bits h clean none BadTime f = not_true (has_bad_time bits) clean.time f
@@ -269,10 +266,7 @@ fault_one bits (Short k) TooManyCells a b = absurd (not_true (has_too_many bits)
 fault_one bits (Short k) (Short j) (at, am, inl x) (bt, bm, inl y) = ap Short (x.1 ∙ sym y.1)
 fault_one bits (Short k) (Short j) (at, am, inl x) (bt, bm, inr y) = absurd (omega (arith, x.0, y.0))
 fault_one bits (Short k) (Short j) (at, am, inr x) (bt, bm, inl y) = absurd (omega (arith, x.0, y.0))
-fault_one bits (Short k) (Short j) (at, am, inr x) (bt, bm, inr y) = ap Short (some_same (first_past (length bits) 0 (layout bits)) k j x.1 y.1)
-  where
-    some_same : (r : Option ℕ) (k j : ℕ) → r ≡ Some k → r ≡ Some j → k ≡ j
-    some_same r k j e f = cc
+fault_one bits (Short k) (Short j) (at, am, inr x) (bt, bm, inr y) = grind (arith, Option, Some)
 
 pub message_only_fault : (bits : List Bool) (f : MsgFault) → IsFault bits f → message_by kind_of bits ≡ Err f
 message_only_fault bits f fault = go (message_end bits)
@@ -284,10 +278,7 @@ message_only_fault bits f fault = go (message_end bits)
 -- ---- the encoding
 
 pub zero_read : (v : Message) → IsMessage v → is_other v ≡ false → ReadsMessage (filled (message_bits v 0)) v
-zero_read v value known = inl (record { is_value = value; known = known; prefix = message_bits v 0; rest = replicate (missing (length (message_bits v 0))) false; joined = refl; encodes = record { reserved = 0; fits = zero_fits v; bits_are = refl } })
-  where
-    zero_fits : (v : Message) → 0 < 2 ^ reserved_width v
-    zero_fits v = pow_pos (reserved_width v)
+zero_read v value known = grind (arith, pow_pos)
 
 pub message_value : (bytes : List ℕ) (m : Message) → message_at bytes ≡ Ok m → IsMessage m
 message_value bytes m read = (message_found (bits_of bytes) m read).is_message

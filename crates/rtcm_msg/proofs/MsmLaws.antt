@@ -7,8 +7,8 @@ use Rattle.gnss_system.specs.declared.system.System.TheVariants.{Gps, Galileo, G
 use Rattle.gnss_system.proofs.Checked.{both_first, is_less}
 use Rattle.rtcm_msg.specs.Msm.{week}
 use Rattle.rtcm_msg.specs.Names.{uint, Cursor, MsgFault, BadTime, TooManyCells, MsmHeader, number_at, reading, ◌>>=◌, field_bits, total_width, columns, columns_at, EachBelow, masks_after, header_at, masks_at, msm_at, checked_time, is_time, IsHeader, AreMasks, IsValue, MasksValue, MsmValue, pair_count, mask_fields, time_table, header_table, mask_table, time_contents, header_contents, header_of, widths, Contents, fields_of}
-use Rattle.rtcm_msg.proofs.Binds.{of_read, bind_ok, number_consumed}
-use Rattle.rtcm_msg.proofs.Combine.{ok_err, cursor, number_again}
+use Rattle.rtcm_msg.proofs.Binds.{of_read, bind_ok, number_consumed, ok_err}
+use Rattle.rtcm_msg.proofs.Combine.{cursor, number_again}
 use Rattle.rtcm_msg.proofs.WritingSteps.{field_bits-append}
 use Rattle.rtcm_msg.proofs.FieldLaws.{fields_at, reading_is, fields_ok, fields_again, FieldsConsumed}
 use Rattle.rtcm_msg.proofs.ColumnSteps.{columns_fit}
@@ -142,14 +142,7 @@ sets_consumed c v e =
 
 pub sets_again : (v : MasksValue) (place : ℕ) (rest : List Bool) → AreMasks v → masks_at (cursor place (field_bits (mask_fields v) ++ rest)) ≡ Ok (v, cursor (place + 96 + pair_count v.satellites v.signals) rest)
 unfolding field_bits
-sets_again v place rest h =
-    let n : Contents mask_table = (v.satellites, (v.signals, tt)) in
-    let p = pair_count v.satellites v.signals in
-    let c = cursor place (field_bits (mask_fields v) ++ rest) in
-    let split : c ≡ cursor place (field_bits (fields_of mask_table n) ++ (field_bits ((p, v.cells) ∷ []) ++ rest)) = ap (cursor place) (ap (λ t. t ++ rest) (field_bits-append (fields_of mask_table n) ((p, v.cells) ∷ [])) ∙ append_assoc (field_bits (fields_of mask_table n)) (field_bits ((p, v.cells) ∷ [])) rest) in
-    let first = fields_again mask_table n place (field_bits ((p, v.cells) ∷ []) ++ rest) refl (h.satellites, (h.signals, tt)) in
-    let second = number_again p v.cells (place + 96) rest h.cells in
-    sets_chain c ∙ rw (split, first, few_rest v.satellites v.signals (cursor (place + 96) (field_bits ((p, v.cells) ∷ []) ++ rest)) h.few, append_assoc (uint p v.cells) [] rest, second) refl
+sets_again v place rest h = grind (arith, field_bits-append, append_assoc, fields_again, number_again, sets_chain, few_rest)
 
 -- ---- the whole message
 
@@ -198,14 +191,7 @@ columns_same ws ns count place rest len below = rw (← len, ← highs_zero (tot
 
 pub msm_consumed : (sw cw : List ℕ) (g : System) (c : Cursor) (v : MsmValue × Cursor) → msm_at sw cw g c ≡ Ok v → IsMsmRead sw cw g v.0 c v.1
 unfolding msm_at
-msm_consumed sw cw g c v e =
-    let header = bind_ok (header_at g c) _ v e in
-    let sets = bind_ok (masks_at header.0.1) _ v header.2 in
-    let satellites = bind_ok (columns_at sw (replicate (count_ones sets.0.0.satellites) 0) sets.0.1) _ v sets.2 in
-    let cells = bind_ok (columns_at cw (replicate (count_ones sets.0.0.cells) 0) satellites.0.1) _ v satellites.2 in
-    let x : MsmValue × Cursor = (record { system = g; header = header.0.0; sets = sets.0.0; satellites = satellites.0.0; cells = cells.0.0 }, cells.0.1) in
-    of_read (λ (w : MsmValue × Cursor). IsMsmRead sw cw g w.0 c w.1) x v cells.2
-    (msm_done (header_consumed g c header.0 header.1) (sets_consumed header.0.1 sets.0 sets.1) satellites.1 cells.1)
+msm_consumed sw cw g c v e = grind (arith, bind_ok, count_ones, of_read, msm_done, header_consumed, sets_consumed)
 
 pub msm_again : (sw cw : List ℕ) (v : MsmValue) (reserved place : ℕ) (rest : List Bool) → IsValue sw cw v → reserved < 128 → (d : Cursor) × (msm_at sw cw v.system (cursor place (msm_tail sw cw v reserved ++ rest)) ≡ Ok (v, d))
 unfolding msm_at

@@ -1,13 +1,12 @@
 -- The message numbers.
 use Rattle.std.proofs.Common.{ℕ, ◌≡◌, ◌+◌, ◌*◌, ◌/◌, ◌%◌, ◌==◌, ◌^◌, ◌<◌, Bool, true, false, List, [], ◌∷◌, Option, Some, None, refl, subst, arith, lit<, if◌then◌else◌}
-use Rattle.std.specs.Option.{option_map_or}
-use Rattle.std.specs.Prelude.{IfSome, nat_lt, ◌&&◌}
+use Rattle.std.specs.Prelude.{IfSome, nat_lt}
 use Rattle.std.specs.List.{find}
 use Rattle.std.proofs.lemmas.Nat.{div-add-mod'}
 use Rattle.gnss_system.specs.declared.system.System.{System}
 use Rattle.gnss_system.proofs.Checked.{is_less, both_first, both_second}
 use Rattle.gnss_system.proofs.SystemLaws.{each_system, found_same}
-use Rattle.gnss_system.specs.Systems.{systems, is_system}
+use Rattle.gnss_system.specs.Systems.{systems}
 use Rattle.rtcm_msg.specs.Names.{Kind, kind_of, station_number, message_number, Form}
 use Rattle.rtcm_msg.specs.Numbers.{digit_of, tens_of, form_of_digit, system_of_tens, msm_kind}
 use Rattle.rtcm_msg.specs.declared.view.Form.TheVariants as forms
@@ -50,10 +49,7 @@ digit_known forms.Msm6 = (refl, lit< tt)
 digit_known forms.Msm7 = (refl, lit< tt)
 
 tens_known : (g : System) → (system_of_tens (tens_of g) ≡ Some g) × (100 < tens_of g) × (tens_of g < 400)
-tens_known g =
-    let back = each_system (λ g. option_map_or (λ s. is_system s g) (system_of_tens (tens_of g)) false) g refl in
-    let within = each_system (λ g. nat_lt 100 (tens_of g) && nat_lt (tens_of g) 400) g refl in
-    (found_same _ g back, is_less _ _ (both_first _ _ within), is_less _ _ (both_second (nat_lt 100 (tens_of g)) _ within))
+tens_known g = grind (arith, each_system, nat_lt, found_same, is_less, both_first, both_second)
 
 pub of_msm : (form : Form) (g : System) → (kind_of (message_number form g) ≡ kinds.Msm form g) × (message_number form g < 2 ^ 12)
 of_msm form g =

@@ -30,10 +30,7 @@ top_of w m some fits few =
 
 -- The number divided by its top bit is 1.
 whole_part : (m w : ℕ) → 2 ^ w ≤ m → m < 2 ^ suc w → m / 2 ^ w ≡ 1
-whole_part m w low high = part m (2 ^ w) low (omega (arith, high))
-  where
-    part : (m p : ℕ) → p ≤ m → m < 2 * p → m / p ≡ 1
-    part m p low high = grind arith
+whole_part m w low high = grind (arith, low, high)
 
 none_part : (m w : ℕ) → m < 2 ^ w → m / 2 ^ w ≡ 0
 none_part m w h = div-eq_of_lt h

@@ -5,8 +5,7 @@ use Rattle.std.proofs.Math.Nat.{mod-eq_of_lt, add-mod_right}
 use Rattle.std.proofs.lemmas.Bool.{cases_lt}
 use Rattle.std.proofs.lemmas.List.{length-replicate, length-drop, get_or-replicate}
 use Rattle.rtcm_msg.specs.Names.{Cursor, MsgFault, Short, cursor_at, field_at, total_width, column_at, columns_at, numbers_in, rows_at, end_of_rows, row_at}
-use Rattle.rtcm_msg.proofs.Binds.{ok_inj, number_short}
-use Rattle.rtcm_msg.proofs.Combine.{ok_err}
+use Rattle.rtcm_msg.proofs.Binds.{ok_inj, number_short, ok_err}
 use Rattle.rtcm_msg.proofs.FieldLaws.{number_there_at}
 
 -- ---- the loops over the widths
@@ -111,9 +110,7 @@ columns_next w ws ps xs c d e = rw e refl
 
 -- The first column was read.
 first_read : (w : ℕ) (ws ps : List ℕ) (bits : List Bool) (n place : ℕ) → length ps ≡ n → (x : (r : List ℕ × Cursor) × (column_at w ps (cursor_at bits place) ≡ Ok r) × ColumnRow w ps bits place r) → columns_at (w ∷ ws) ps (cursor_at bits place) ≡ columns_at ws x.0.0 (cursor_at bits (place + n * w))
-first_read w ws ps bits n place len x =
-    let after : x.0.1 ≡ cursor_at bits (place + n * w) = rw len at x.2.after in
-    columns_next w ws ps x.0.0 (cursor_at bits place) x.0.1 x.1 ∙ ap (columns_at ws x.0.0) after
+first_read w ws ps bits n place len x = grind (arith, len, columns_next)
 
 columns_row : (ws ps : List ℕ) (bits : List Bool) {n : ℕ} (place i : ℕ) → length ps ≡ n → place + n * total_width ws ≤ length bits → i < n → get_or (numbers_in (columns_at ws ps (cursor_at bits place))) i 0 ≡ row_at ws n bits place i (get_or ps i 0)
 unfolding columns_at row_at

@@ -1,19 +1,14 @@
 -- Messages if the MSMs of a set are decoded.
-use Rattle.std.proofs.Common.{ℕ, ◌≡◌, ◌==◌, arith, ◌&&◌, ◌≤◌, Bool, true, false, List, [], ◌∷◌, length, Ok, Err, refl, sym, ap, ◌∙◌, ◌⊎◌, inl, inr, if◌then◌else◌}
-use Rattle.std.specs.List.{AllByRecursion}
+use Rattle.std.proofs.Common.{ℕ, ◌≡◌, arith, ◌&&◌, ◌≤◌, Bool, true, false, List, length, Ok, Err, refl, sym, ap, ◌∙◌, ◌⊎◌, inl, inr, if◌then◌else◌}
 use Rattle.std.proofs.lemmas.Bool.{cases_lt}
-use Rattle.gnss_system.specs.declared.system.System.TheVariants.{Gps, Galileo}
 use Rattle.gnss_system.specs.SystemValues.{value_of}
 use Rattle.gnss_system.proofs.SystemLaws.{each_of_two}
-use Rattle.rtcm_msg.specs.declared.number.Forms.TheVariants.{FourAndSeven}
-use Rattle.rtcm_msg.specs.Names.{bits_of, message_number, Message, MsgFault, MsmValue, Kind, MsmSet, kind_of, kind_with, kind_within, message_by, message_at, message_with, body_by, other_of, IsMessage, Form, message_in, satellite_widths, cell_widths, station_at, msm_at, cursor_at, Short}
+use Rattle.rtcm_msg.specs.Names.{bits_of, Message, MsgFault, MsmValue, Kind, MsmSet, kind_of, kind_with, kind_within, message_by, message_at, message_with, body_by, other_of, IsMessage, Form, message_in, satellite_widths, cell_widths, station_at, msm_at, cursor_at, Short}
 use Rattle.rtcm_msg.specs.Encoding.{number_of}
-use Rattle.rtcm_msg.specs.Numbers.{have_form, whole_set, default_set}
-use Rattle.rtcm_msg.specs.Sets.{is_in_set, kind_table, kind_in, message_by_table}
-use Rattle.rtcm_msg.proofs.Binds.{bind_ok, of_read}
-use Rattle.rtcm_msg.proofs.Combine.{ok_err}
+use Rattle.rtcm_msg.specs.Numbers.{have_form, whole_set}
+use Rattle.rtcm_msg.specs.Sets.{is_in_set}
+use Rattle.rtcm_msg.proofs.Binds.{bind_ok, of_read, ok_err}
 use Rattle.rtcm_msg.proofs.MsmLaws.{msm_consumed}
-use Rattle.rtcm_msg.proofs.NumberLaws.{number_is}
 use Rattle.rtcm_msg.proofs.MessageLaws.{message_there, message_none, message_found, other_is}
 use Rattle.rtcm_msg.specs.declared.message.Message.TheVariants as messages
 use Rattle.rtcm_msg.specs.declared.view.Form.TheVariants as forms
@@ -32,10 +27,7 @@ pub by_set : (set : MsmSet) (n : ℕ) → (kind_with set n ≡ kind_of n) ⊎ (k
 by_set set n = kept set (kind_of n)
 
 pub same_kind : (k j : ℕ → Kind) (bits : List Bool) → k (number_of bits) ≡ j (number_of bits) → message_by k bits ≡ message_by j bits
-same_kind k j bits same = elim (cases_lt (length bits) 12) [
-  | inl few ↦ message_none k bits few ∙ sym (message_none j bits few)
-  | inr there ↦ message_there k bits there ∙ (ap (λ (k : Kind). body_by k (number_of bits) (cursor_at bits 12)) same ∙ sym (message_there j bits there))
-]
+same_kind k j bits same = grind (arith, cases_lt, message_none, message_there)
 
 pub message_known : (set : MsmSet) (bits : List Bool) → kind_with set (number_of bits) ≡ kind_of (number_of bits) → message_by (kind_with set) bits ≡ message_by kind_of bits
 message_known set bits same = same_kind (kind_with set) kind_of bits same
@@ -45,13 +37,7 @@ message_other set bits there other = message_there (kind_with set) bits there �
 
 -- The message, or the one that isn't decoded.
 with_is : (set : MsmSet) (bytes : List ℕ) → (message_with set bytes ≡ message_at bytes) ⊎ (message_with set bytes ≡ Ok (other_of (bits_of bytes)))
-with_is set bytes = elim (by_set set (number_of (bits_of bytes))) [
-  | inl known ↦ inl (message_known set (bits_of bytes) known)
-  | inr other ↦ elim (cases_lt (length (bits_of bytes)) 12) [
-    | inl few ↦ inl (message_none (kind_with set) (bits_of bytes) few ∙ sym (message_none kind_of (bits_of bytes) few))
-    | inr there ↦ inr (message_other set (bits_of bytes) there other)
-  ]
-]
+with_is set bytes = grind (arith, by_set, message_known, cases_lt, message_none, message_other)
 
 pub refused : (set : MsmSet) (bytes : List ℕ) (e : MsgFault) → message_at bytes ≡ Err e → (message_with set bytes ≡ Err e) ⊎ (message_with set bytes ≡ Ok (other_of (bits_of bytes)))
 refused set bytes e is = elim (with_is set bytes) [ inl same ↦ inl (same ∙ is) | inr other ↦ inr other ]
@@ -101,39 +87,3 @@ outside set bytes m e is =
     let there = read_there bytes m e in
     let kind = kind_read set (kind_of (number_of bits)) bits m (sym (message_there kind_of bits there) ∙ e) in
     message_other set bits there (kind ∙ rw is refl)
-
--- ---- the default set
-
-row_known : (b : Bool) (n m : ℕ) (k j : Kind) → (n == m) ≡ b → kind_with default_set m ≡ k → (kind_with default_set n ≡ j) ⊎ (j ≡ kinds.Other)
-    → (kind_with default_set n ≡ (if b then k else j)) ⊎ ((if b then k else j) ≡ kinds.Other)
-row_known true n m k j e h t = let same : n ≡ m = grind (arith, e) in inl (ap (kind_with default_set) same ∙ h)
-row_known false n m k j e h t = t
-
-rows_known : (n : ℕ) (rows : List (ℕ × Kind)) → AllByRecursion (λ r. kind_with default_set r.0 ≡ r.1) rows → (kind_with default_set n ≡ kind_in rows n) ⊎ (kind_in rows n ≡ kinds.Other)
-rows_known n [] h = inr refl
-rows_known n (r ∷ rows) h = row_known (n == r.0) n r.0 r.1 (kind_in rows n) refl h.0 (rows_known n rows h.1)
-
-no_row : (n : ℕ) (k : Kind) → kind_of n ≡ k → kind_in kind_table n ≡ kinds.Other → kind_within default_set k ≡ kind_in kind_table n
-no_row n (kinds.Station true) e none = rw (number_is n _ e) refl
-no_row n (kinds.Station false) e none = rw (number_is n _ e) refl
-no_row n (kinds.Msm f g) e none =
-    each_of_two (λ g b. n ≡ message_number f g → (if b && have_form FourAndSeven f then kinds.Msm f g else kinds.Other) ≡ kind_in kind_table n)
-    (of_gps f) (of_galileo f) (λ g e. sym none) g (number_is n (kinds.Msm f g) e) where
-      of_gps : (f : Form) → n ≡ message_number f Gps → (if have_form FourAndSeven f then kinds.Msm f Gps else kinds.Other) ≡ kind_in kind_table n
-      of_gps forms.Msm4 e = rw e refl
-      of_gps forms.Msm5 e = sym none
-      of_gps forms.Msm6 e = sym none
-      of_gps forms.Msm7 e = rw e refl
-
-      of_galileo : (f : Form) → n ≡ message_number f Galileo → (if have_form FourAndSeven f then kinds.Msm f Galileo else kinds.Other) ≡ kind_in kind_table n
-      of_galileo forms.Msm4 e = rw e refl
-      of_galileo forms.Msm5 e = sym none
-      of_galileo forms.Msm6 e = sym none
-      of_galileo forms.Msm7 e = rw e refl
-no_row n kinds.Other e none = sym none
-
-pub table_is : (n : ℕ) → kind_with default_set n ≡ kind_in kind_table n
-table_is n = elim (rows_known n kind_table (refl, (refl, (refl, (refl, (refl, (refl, tt))))))) [ inl same ↦ same | inr none ↦ no_row n (kind_of n) refl none ]
-
-pub by_table : (bytes : List ℕ) → message_with default_set bytes ≡ message_by_table bytes
-by_table bytes = same_kind (kind_with default_set) (kind_in kind_table) (bits_of bytes) (table_is (number_of (bits_of bytes)))

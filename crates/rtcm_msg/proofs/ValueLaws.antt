@@ -2,10 +2,10 @@
 use Rattle.std.proofs.Common.{ℕ, zero, suc, ◌≡◌, ◌≢◌, ◌+◌, ◌-◌, ◌/◌, ◌%◌, ◌==◌, ◌&&◌, ◌||◌, ◌^◌, ◌<◌, ◌≤◌, Bool, true, false, List, [], ◌∷◌, length, get_or, set, map, drop, filter, drop-cons, replicate, refl, sym, ap, ◌∙◌, subst, arith, count_ones, inl, inr}
 use Rattle.std.specs.Prelude.{cond}
 use Rattle.std.specs.List.{zip, flat_map, list_any}
-use Rattle.std.proofs.lemmas.Bool.{cases_eq}
+use Rattle.std.proofs.lemmas.Bool.{cases_eq, and_right}
 use Rattle.std.proofs.lemmas.List.Folds.{list_any-append}
 use Rattle.std.proofs.lemmas.Grind.{common_steps}
-use Rattle.rtcm_msg.specs.Names.{uint, Entry, Pair, Pairs, CellsLeft, Form, MasksValue, MsmValue, ids, chosen, Rising, entries, pair, all_pairs, cell_pairs, pairs_from, pairs_left, cell_pairs_left, ArePairs, AreAll, HasFirst, IndicesAreBelow, entry_in, FormedMsm, formed, message_in, has_listed_value, value_count, has_id, entries_left, AreCells}
+use Rattle.rtcm_msg.specs.Names.{uint, Entry, Pair, Pairs, CellsLeft, Form, MasksValue, MsmValue, ids, chosen, Rising, entries, pair, all_pairs, cell_pairs, pairs_from, pairs_left, cell_pairs_left, ArePairs, AreAll, HasFirst, IndicesAreBelow, entry_in, FormedMsm, formed, has_listed_value, value_count, has_id, entries_left, AreCells}
 use Rattle.rtcm_msg.specs.declared.view.Form.TheVariants as forms
 use Rattle.rtcm_msg.proofs.NextLaws.{no_more}
 use Rattle.rtcm_msg.proofs.IdLaws.{ids_rising}
@@ -36,15 +36,7 @@ next_there next n ps qs x e h = omega (arith, h, ap length e)
 -- The cells that are left after the first pair, with the number of cells before them.
 after_pair : {v : FormedMsm} {c : CellsLeft} {q : Pairs} {x : Pair} {n : ℕ} → AreCells v c → pairs_left c.pairs ≡ x ∷ pairs_left q → ArePairs q → length (cell_pairs_left (c.left - 1) v.msm.sets q) + n ≡ length v.msm.cells
     → AreCells v (record { pairs = q; left = c.left - 1; next = n })
-after_pair {v} {c} {q} {x} cells first in_range next = record {
-  left = (
-    one_less c.left (pairs_left c.pairs) (pairs_left q) x cells.left.0 first,
-    omega (arith, cells.left.1),
-    in_range,
-    (first_index (count_ones v.msm.sets.satellites) (pairs_left c.pairs) (pairs_left q) x first cells.left.3).1,
-  );
-  next = next;
-}
+after_pair {v} {c} {q} {x} cells first in_range next = grind (arith, one_less, first_index, count_ones)
 
 pub after_cell : (v : FormedMsm) (c : CellsLeft) (q : Pairs) (x : Pair) → AreCells v c → pairs_left c.pairs ≡ x ∷ pairs_left q → ArePairs q → cell_pairs_left c.left v.msm.sets c.pairs ≡ x ∷ cell_pairs_left (c.left - 1) v.msm.sets q
     → AreCells v (record { pairs = q; left = c.left - 1; next = c.next + 1 })
@@ -73,13 +65,7 @@ none_left v c e = rw e refl
 
 -- The entries of a message, from the pairs that have a cell.
 entries_are : (v : FormedMsm) (ps : List Pair) → ps ≡ cell_pairs v.msm.sets → entries (formed v) ≡ map (entry_in v.form v.msm) (zip ps v.msm.cells)
-entries_are v ps e = rw e (same v.form v.msm)
-  where
-    same : (form : Form) (v : MsmValue) → entries (message_in form v) ≡ map (entry_in form v) (zip (cell_pairs v.sets) v.cells)
-    same forms.Msm4 v = refl
-    same forms.Msm5 v = refl
-    same forms.Msm6 v = refl
-    same forms.Msm7 v = refl
+entries_are v ps e = grind (arith, zip)
 
 pub few_entries : (v : FormedMsm) (n : ℕ) → n ≡ length v.msm.cells → n ≤ 64 → length (entries (formed v)) ≤ 64
 few_entries v n same few = rw (entries_are v _ refl) (let h = no_more (entry_in v.form v.msm) (cell_pairs v.msm.sets) v.msm.cells in omega (arith, same, few, h))
@@ -146,10 +132,6 @@ rows_none : (g : ℕ) (gs : List ℕ) (xs : List (ℕ × ℕ)) → has_id g gs �
 rows_none g gs [] h = refl
 rows_none g gs (x ∷ xs) h = list_any-append (is_of g) (map (pair x) gs) (flat_map (λ x. map (pair x) gs) xs) ∙ rw (row_none g x gs, h, rows_none g gs xs h) refl
 
-and_none : (a b : Bool) → b ≡ false → (a && b) ≡ false
-and_none true b h = h
-and_none false b h = refl
-
 none_of : (listed g : ℕ) (form : Form) (v : MsmValue) (xs : List Pair) (cells : List ℕ) → list_any (is_of g) xs ≡ false → value_count listed g (map (entry_in form v) (zip xs cells)) ≡ zero
 none_of listed g form v [] cells h = refl
 none_of listed g form v (x ∷ xs) [] h = refl
@@ -157,7 +139,7 @@ none_of listed g form v (x ∷ xs) (n ∷ cells) h =
     let here : (x.signal == g) ≡ false = grind (arith, common_steps) in
     let later : list_any (is_of g) xs ≡ false = grind (arith, common_steps) in
     count_first (λ e. has_listed_value listed e && (e.signal == g)) (entry_in form v (x, n)) (map (entry_in form v) (zip xs cells))
-    ∙ rw (and_none (has_listed_value listed (entry_in form v (x, n))) ((entry_in form v (x, n)).signal == g) here, none_of listed g form v xs cells later) refl
+    ∙ rw (and_right (has_listed_value listed (entry_in form v (x, n))) ((entry_in form v (x, n)).signal == g) here, none_of listed g form v xs cells later) refl
 
 -- A signal that is not in the message has no cell.
 pub no_cells : (listed g : ℕ) (v : FormedMsm) → has_id g (ids 32 v.msm.sets.signals) ≡ false → value_count listed g (entries (formed v)) ≡ zero
