@@ -40,7 +40,7 @@ place_scanned b from to k (f ∷ fs) s h i =
 -- no scanned frame goes past the end of the scan
 pub none_past : (e : Bool) (b : List ℕ) (from to : ℕ) (fs : List Framed) → Scanned e b from to fs → list_any (is_inside to) fs ≡ false
 none_past e b from to [] s = refl
-none_past e b from to (f ∷ fs) s = grind (arith, scanned_le, and_right, le-ltb, (none_past e b (frame_end f) to fs s.3))
+none_past e b from to (f ∷ fs) s = grind (arith, scanned_le, (none_past e b (frame_end f) to fs s.3))
 
 -- if no frame from a place on passes a test, the frames found from it on don't
 pub frames_later : (t : Framed → Bool) (p k : ℕ) (s : List ℕ) → ((f : Framed) → p ≤ f.offset → t f ≡ false) → (list_any t (frames_from p k s) ≡ false) × (filter t (frames_from p k s) ≡ [])
@@ -62,7 +62,7 @@ none_later to p k s h = (frames_later (is_inside to) p k s (λ f l. and_left _ _
 all_before : (e : Bool) (b : List ℕ) (from to : ℕ) (fs : List Framed) → Scanned e b from to fs → frames_before to fs ≡ fs
 unfolding frames_before
 all_before e b from to [] s = refl
-all_before e b from to (f ∷ fs) s = grind (arith, scanned_le, lt-ltb, (all_before e b (frame_end f) to fs s.3))
+all_before e b from to (f ∷ fs) s = grind (arith, scanned_le, (all_before e b (frame_end f) to fs s.3))
 
 none_before : (to p k : ℕ) (s : List ℕ) → to ≤ p → frames_before to (frames_from p k s) ≡ []
 unfolding frames_before

@@ -1,5 +1,5 @@
 -- The decision about a candidate.
-use Rattle.rtcm_scan.proofs.Names.{ℕ, ◌≡◌, ◌+◌, ◌*◌, ◌<◌, ◌≤◌, ◌↔◌, Bool, false, cond, List, [], ◌∷◌, ◌++◌, length, take, drop, get_or, slice_index, sym, ap, ◌∙◌, arith, ◌⊎◌, ⊎_elim, take-append-drop, append_assoc, cases_lt, cases_eq, eq-eqb, ne_eqb, length-take-le, take_more, crc, message_length, frame_length, has_preamble, sent_check, Candidate, wanted_by, HasTaken, asked, decision, if_missing, Passed, Found, preamble}
+use Rattle.rtcm_scan.proofs.Names.{ℕ, ◌≡◌, ◌+◌, ◌*◌, ◌<◌, ◌≤◌, ◌↔◌, Bool, false, cond, List, [], ◌∷◌, ◌++◌, length, take, drop, get_or, slice_index, sym, ap, ◌∙◌, arith, ◌⊎◌, ⊎_elim, take-append-drop, append_assoc, ne_eqb, length-take-le, take_more, crc, message_length, frame_length, has_preamble, sent_check, Candidate, wanted_by, HasTaken, asked, decision, if_missing, Passed, Found, preamble}
 use Rattle.rtcm_scan.proofs.FrameLemmas.{length_stays, preamble_stays}
 use Rattle.rtcm_scan.proofs.CandidateLemmas.{wanted_stays, wanted_bound}
 use Rattle.rtcm_scan.proofs.DecisionLemmas.{decision_without, decision_short, decision_found, decision_wrong}
@@ -13,7 +13,7 @@ Residue = (bytes : List ℕ) (x y z : ℕ) → x < 256 → y < 256 → z < 256 �
 
 -- a place that is decided by more than one byte begins with the preamble
 pub wanted_cases : (s : List ℕ) → ((slice_index s 0 ≡ preamble) × (wanted_by s ≡ frame_length s)) ⊎ ((slice_index s 0 ≡ preamble → ⊥) × (wanted_by s ≡ 1))
-wanted_cases s = grind (arith, slice_index, eq-eqb, ne_eqb, cases_eq)
+wanted_cases s = grind arith
 
 wanted_more : (s : List ℕ) → 1 < wanted_by s → (slice_index s 0 ≡ preamble) × (wanted_by s ≡ frame_length s)
 wanted_more s h = ⊎_elim (λ (k : (slice_index s 0 ≡ preamble) × (wanted_by s ≡ frame_length s)). k)
@@ -50,7 +50,7 @@ check_zero : Residue → (s : List ℕ) → AreBytes s → frame_length s ≤ le
 check_zero law s b h = grind (arith, take_three)
 
 pub judge_missing : (c : Candidate) (e : Bool) (s : List ℕ) → 0 < length s → HasTaken c (take c.count s) → c.count ≡ asked s → c.count < c.wanted → if_missing e ≡ decision e s
-judge_missing c e s l t a h = grind (arith, wanted_more, decision_short, wanted_take, cases_lt)
+judge_missing c e s l t a h = grind (arith, decision_short, wanted_take)
 
 -- a candidate has accepted exactly the bytes that decide it
 pub record IsWhole (c : Candidate) (s : List ℕ) : Type 0 where
@@ -70,10 +70,10 @@ whole c s t a h =
     record { taken = t; count = omega arith; wanted = omega arith; within = omega arith }
 
 pub judge_found : Residue → {c : Candidate} (e : Bool) (s : List ℕ) → AreBytes s → IsWhole c s → 1 < c.wanted → c.register ≡ 0 → Found c.count ≡ decision e s
-judge_found law {c} e s b w g r = grind (arith, wanted_more, Found, decision_found, check_zero)
+judge_found law {c} e s b w g r = grind (arith, decision_found, check_zero)
 
 pub judge_wrong : Residue → {c : Candidate} (e : Bool) (s : List ℕ) → AreBytes s → IsWhole c s → 1 < c.wanted → (c.register ≡ 0 → ⊥) → Passed ≡ decision e s
-judge_wrong law {c} e s b w g r = grind (arith, wanted_more, decision_wrong, check_zero)
+judge_wrong law {c} e s b w g r = grind (arith, decision_wrong, check_zero)
 
 pub judge_none : (c : Candidate) (e : Bool) (s : List ℕ) → HasTaken c (take c.count s) → c.count ≡ asked s → (c.count < c.wanted → ⊥) → (1 < c.wanted → ⊥) → Passed ≡ decision e s
-judge_none c e s t a h g = grind (arith, slice_index, decision_without, wanted_cases)
+judge_none c e s t a h g = grind (arith, decision_without)

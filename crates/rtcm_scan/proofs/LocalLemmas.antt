@@ -35,7 +35,7 @@ frame_begins m rest h =
         rw (a, b, e) (omega arith)
 
 pub frame_message : (m rest : List ℕ) → length m ≤ longest_message → framed_message (frame_bytes m ++ rest) ≡ m
-frame_message m rest h = grind (arith, length_claimed, spread, take_at)
+frame_message m rest h = grind (arith, spread, take_at)
 
 -- ---- a list of frames after bytes
 length-frame : (m : List ℕ) → length (frame_bytes m) ≡ length m + 6
@@ -98,7 +98,7 @@ cut_at bytes ms k =
     ap (stream_after bytes) (sym (take-append-drop k ms)) ∙ ap (λ x. bytes ++ x) (flat_map-append frame_bytes (take k ms) (drop k ms)) ∙ sym (append_assoc bytes (flat_map frame_bytes (take k ms)) (flat_map frame_bytes (drop k ms)))
 
 place_split : (bytes : List ℕ) (ms : List (List ℕ)) (k d : ℕ) → frame_place bytes ms (k + d) ≡ frame_place bytes ms k + length (flat_map frame_bytes (take d (drop k ms)))
-place_split bytes ms k d = grind (arith, take-add, flat_map-append, append_assoc, length-append)
+place_split bytes ms k d = grind (arith, take-add, flat_map-append, length-append)
 
 -- the frame with number i
 frame_number : (bytes : List ℕ) (ms : List (List ℕ)) (i : ℕ) → i < length ms → All (λ m. length m ≤ longest_message) ms → IsFrameOf (stream_after bytes ms) (record { offset = frame_place bytes ms i; message = get_or ms i [] })

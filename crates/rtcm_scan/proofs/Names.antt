@@ -29,7 +29,7 @@ pub use Rattle.rtcm_scan.specs.declared.front.Decision.TheVariants.{Found, Open,
 pub use Rattle.std.proofs.Common.{Bool, List, Option, [], add-one, add-zero, ap, arith, cond, drop, false, get_or, inl, inr, leb, length, length-append, length-set, length-take, ltb, map, max, min, nat_eq, not, refl, replicate, set, slice_index, slice_range, subst, suc, sum_by, sym, take, take_all, true, zero, ℕ, ⊎_elim, ◌%◌, ◌&&◌, ◌*◌, ◌++◌, ◌+◌, ◌-◌, ◌/◌, ◌<◌, ◌||◌, ◌↔◌, ◌∙◌, ◌∷◌, ◌≡◌, ◌≢◌, ◌≤◌, ◌⊎◌}
 pub use Rattle.std.proofs.KnownBytes.{Consumes-nil, Consumes-trans}
 pub use Rattle.std.proofs.Math.Seq.{take-add, take-append-add}
-pub use Rattle.std.proofs.lemmas.Bool.{and_cases, and_from, and_left, and_parts, and_right, cases_Bool, cases_eq, cases_lt, eq-eqb, le-leb, false_from_ne_true, le-ltb, leb-true, lt-leb, lt-ltb, ltb-false, ltb-true, ne_eqb, or_left, or_right, true≢false}
+pub use Rattle.std.proofs.lemmas.Bool.{and_cases, and_from, and_left, and_right, cases_Bool, cases_eq, cases_lt, eq-eqb, le-leb, le-ltb, lt-leb, lt-ltb, ltb-false, ne_eqb, or_left, or_right, true≢false}
 pub use Rattle.std.proofs.lemmas.List.{append-nil, append_assoc, drop-append-le, drop-drop, drop_all, drop_at, drop_more, get_or-drop, get_or-set_other, get_or-set_same, get_or_append_left, get_or_push, length-drop, length-take-le, length_push, map-append, nil_from_length, take-append-drop, take-append-le, take_at, take_more, take_rest}
 pub use Rattle.std.proofs.lemmas.List.Concat.{flat_map-append}
 pub use Rattle.std.proofs.lemmas.List.Elements.{All-cons, All-contains, All-drop, All-head, All-nil, All-tail, All-weaker, Contains-append_right, filter-append}
@@ -37,7 +37,5 @@ pub use Rattle.std.proofs.lemmas.List.Folds.{list_any-append}
 pub use Rattle.std.proofs.lemmas.List.Kept.{AllPairs-cons}
 pub use Rattle.std.proofs.lemmas.List.Sums.{prefix_len_is, sum_by-append, sum_by-cons, sum_by_push}
 pub use Rattle.std.proofs.lemmas.Result.{on_err_weaker, on_ok_weaker}
-pub use Rattle.std.specs.Io.{ReadsAtMost}
-pub use Rattle.std.specs.Io.KnownBytes.{Consumes, IsAtEnd, ReadConsumes}
+pub use Rattle.std.specs.Io.KnownBytes.{Consumes, IsAtEnd}
 pub use Rattle.std.specs.List.{All, AllPairs, Any, Contains, count_by, filter, flat_map, list_any}
-pub use Rattle.std.specs.Prelude.{Result}

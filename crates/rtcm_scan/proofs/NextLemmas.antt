@@ -1,5 +1,5 @@
 -- The state after the steps of `next`.
-use Rattle.rtcm_scan.proofs.Names.{ℕ, ◌≡◌, ◌+◌, ◌-◌, ◌<◌, ◌≤◌, true, false, List, [], ◌∷◌, ◌++◌, length, drop, refl, sym, ap, ◌∙◌, arith, subst, length-drop, cases_Bool, nil_from_length, begins_frame, is_open, frame_length, framed_message, Framed, WindowValue, looked_through, without_front, FramerValue, HasFramed, first_held, IsPassed, window_of, with_window, with_looks, asked, with_candidate_examined, passed, HasExamined, IsCountedExactly, IsCountedTo, message_length, IsDrained}
+use Rattle.rtcm_scan.proofs.Names.{ℕ, ◌≡◌, ◌+◌, ◌-◌, ◌<◌, ◌≤◌, true, false, List, [], ◌∷◌, ◌++◌, length, drop, refl, sym, ap, ◌∙◌, arith, subst, length-drop, nil_from_length, begins_frame, is_open, frame_length, framed_message, Framed, WindowValue, looked_through, without_front, FramerValue, HasFramed, first_held, IsPassed, window_of, with_window, with_looks, asked, with_candidate_examined, passed, HasExamined, IsCountedExactly, IsCountedTo, message_length, IsDrained}
 use Rattle.rtcm_bits.proofs.WindowLemmas.{looked_bytes}
 use Rattle.rtcm_scan.proofs.StepLemmas.{step_examined, step_give_up, step_take}
 use Rattle.rtcm_scan.proofs.KnownLemmas.{counted_empty, counted_open, counted_frame}
@@ -82,15 +82,15 @@ counts_finish : (d w : FramerValue) (b : List ℕ) (fs : List Framed) → w ≡ 
 counts_finish d w b fs f x r = rw f (record { history = history_ready d b fs true x.history; limit = x.limit; within = x.within; each = x.each; tried = x.tried; counts = x.counts }, record { examined = r.examined; most = r.most })
 
 pub finish_empty : {v d w : FramerValue} {b : List ℕ} {fs : List Framed} → d ≡ v → w ≡ record d { is_ready = true } → length v.held ≡ 0 → HasFramed v b fs → HasFramed w b fs × IsDrained w b fs
-finish_empty {d} {w} {b} {fs} e f h s = grind (arith, nil_from_length, finish, drained_ended, drained_waiting, cases_Bool)
+finish_empty {d} {w} {b} {fs} e f h s = grind (arith, nil_from_length, drained_ended, drained_waiting)
 
 pub counts_empty : {v d w : FramerValue} {b : List ℕ} {fs : List Framed} → d ≡ v → w ≡ record d { is_ready = true } → length v.held ≡ 0 → HasExamined v b fs → HasExamined w b fs × IsCountedExactly w b
 counts_empty {d} {w} {b} {fs} e f h x = let x' : HasExamined d b fs = rw e x in counts_finish d w b fs f x' (counted_empty d b fs (ap (λ (y : FramerValue). length y.held) e ∙ h) x')
 
 pub finish_open : {v u d w : FramerValue} {b : List ℕ} {fs : List Framed} → u ≡ with_candidate_examined v → d ≡ u → w ≡ record d { is_ready = true } → v.has_ended ≡ false → is_open v.held ≡ true
     → HasFramed v b fs → HasFramed w b fs × IsDrained w b fs
-finish_open {v} {d} {w} {b} {fs} e g f t o s = grind (arith, history_looks, finish, drained_waiting)
+finish_open {v} {d} {w} {b} {fs} e g f t o s = grind (arith, drained_waiting)
 
 pub counts_open : {v u d w : FramerValue} {b : List ℕ} {fs : List Framed} → u ≡ with_candidate_examined v → d ≡ u → w ≡ record d { is_ready = true } → v.has_ended ≡ false → 0 < length v.held → is_open v.held ≡ true → v.tried ≤ asked v.held
     → HasExamined v b fs → HasExamined w b fs × IsCountedExactly w b
-counts_open {v} {d} {w} {b} {fs} e g f t l o k x = grind (arith, step_examined, counts_finish, counted_open)
+counts_open {v} {d} {w} {b} {fs} e g f t l o k x = grind (arith, step_examined, counted_open)

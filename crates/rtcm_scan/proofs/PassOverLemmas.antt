@@ -30,7 +30,7 @@ one_asked : (s : List ℕ) → has_preamble s ≡ false → 0 < length s → ask
 one_asked s e h = rw e (omega arith)
 
 one_more : (v : FramerValue) (n : ℕ) → v.tried ≡ 0 → has_preamble v.held ≡ false → 0 < length v.held → passed_over v (suc n) ≡ passed_over (passed (with_candidate_examined v)) n
-one_more v n e h k = grind (arith, one_asked, front_once)
+one_more v n e h k = grind (arith, front_once)
 
 -- what each step keeps
 all_passed : (s : List ℕ) (e : Bool) → has_preamble s ≡ false → IsPassed e s

@@ -44,7 +44,7 @@ continues_same v v1 v2 n k ended same = grind arith
 -- a block was accepted
 pub continues_block : {v v1 v2 : FramerValue} {n m : ℕ} (xs : List ℕ) → length xs ≡ m → Continues v v1 n → v2 ≡ with_bytes v1 xs → v2.taken ≤ v2.limit
     → ((b : List ℕ) (fs : List Framed) → HasExamined v1 b fs → HasExamined v2 (b ++ xs) fs) → Continues v v2 (n + m)
-continues_block {v} {v1} {v2} {n} xs size k push within counts = grind (arith, push)
+continues_block {v} {v1} {v2} {n} xs size k push within counts = grind arith
 
 module _ {S O : Type 0} (took : Coming S O) where
   -- bytes were accepted, and at least the frames known before them were passed on

@@ -12,7 +12,7 @@ push_each : (P : FramerValue → List ℕ → Type 0) → ((v : FramerValue) (b 
     → ((v : FramerValue) (b : List ℕ) (x : ℕ) → v.has_ended ≡ false → v.taken < v.limit → P v b → P (with_byte v x) (b ++ x ∷ []))
     → (xs : List ℕ) {v : FramerValue} {b : List ℕ} → v.has_ended ≡ false → v.taken + length xs ≤ v.limit → P v b → P (with_bytes v xs) (b ++ xs)
 push_each P none one [] {v} {b} n l h = rw (with_none v, append-nil b) (none v b h)
-push_each P none one (x ∷ xs) {v} {b} n l h = grind (arith, append_assoc, one, (push_each P none one xs n (omega (arith, l)) (one v b x n (omega (arith, l)) h)))
+push_each P none one (x ∷ xs) {v} {b} n l h = grind (arith, append_assoc, (push_each P none one xs n (omega (arith, l)) (one v b x n (omega (arith, l)) h)))
 
 pub history_push_all : (v : FramerValue) (b xs : List ℕ) (fs : List Framed) → v.has_ended ≡ false → v.taken + length xs ≤ v.limit → HasFramed v b fs → HasFramed (with_bytes v xs) (b ++ xs) fs
 history_push_all v b xs fs = push_each (λ v b. HasFramed v b fs) (λ v b s. history_ready v b fs false s) (λ v b x n l s. history_push v b fs x n s) xs

@@ -1,5 +1,5 @@
 -- A stream that is read piece by piece.
-use Rattle.rtcm_scan.proofs.Names.{◌≡◌, ℕ, ◌+◌, ◌-◌, ◌<◌, ◌≤◌, Bool, true, false, List, [], ◌++◌, ◌∙◌, ap, sym, arith, length, take, max, append_assoc, append-nil, subst, length-append, Option, add-zero, Result, Consumes, IsAtEnd, ReadConsumes, ReadsAtMost, Consumes-trans, Consumes-nil, Framed, length-drop, take-append-add, length-take-le, longest_frame, decided, IsDrained, known_frames, FramerValue, HasReadPiece, Coming, Breaking, HasPassedAll, HasBroken, Passes, Breaks, Continues, BreaksKnown, PassesKnown, PassesToLimit, PassesAll, BreaksAfter, BreaksReading, Reads, ReadsOn, IsReadingOn, AtFault, StreamFault, Read, TooLong, Sink, most_undecided}
+use Rattle.rtcm_scan.proofs.Names.{◌≡◌, ℕ, ◌+◌, ◌-◌, ◌<◌, ◌≤◌, Bool, true, false, List, [], ◌++◌, ◌∙◌, ap, sym, arith, length, take, max, append_assoc, append-nil, subst, length-append, Option, add-zero, Consumes, IsAtEnd, Consumes-trans, Consumes-nil, Framed, length-drop, take-append-add, length-take-le, longest_frame, decided, IsDrained, known_frames, FramerValue, HasReadPiece, Coming, Breaking, HasPassedAll, HasBroken, Passes, Breaks, Continues, BreaksKnown, PassesKnown, PassesToLimit, PassesAll, BreaksAfter, BreaksReading, Reads, ReadsOn, IsReadingOn, AtFault, StreamFault, Read, TooLong, Sink, most_undecided}
 use Rattle.rtcm_scan.proofs.PassingLemmas.{prefix_self, passes_sent}
 use Rattle.rtcm_scan.proofs.PrefixLemmas.{decided_near}
 
@@ -20,7 +20,7 @@ limit_after limit taken w front piece e le =
 -- a piece that fits into the buffer beside the held bytes
 near_held : (v : FramerValue) (b : List ℕ) (n most : ℕ) → v.has_ended ≡ false → IsDrained v b (known_frames v.has_ended b) → length v.held + n ≤ max most (length v.held + 1)
     → (length b - decided b) + n ≤ max most longest_frame
-near_held v b n most going d fits = grind (arith, Bool, length-drop, decided_near)
+near_held v b n most going d fits = grind (arith, length-drop, decided_near)
 
 module _ {S O : Type 0} (took : Coming S O) (broke : Breaking S O) where
   -- no byte was read, and the output was flushed

@@ -20,7 +20,7 @@ count_same t x from (suc d) h =
 -- a place before the frames, or before the scanned part, is in no frame
 none_ahead : (e : Bool) (b : List ℕ) (from to q : ℕ) (fs : List Framed) → Scanned e b from to fs → q < from → list_any (is_within q) fs ≡ false
 none_ahead e b from to q [] s l = refl
-none_ahead e b from to q (f ∷ fs) s l = grind (arith, and_left, lt-leb, (none_ahead e b (frame_end f) to q fs s.3 (omega arith)))
+none_ahead e b from to q (f ∷ fs) s l = grind (arith, (none_ahead e b (frame_end f) to q fs s.3 (omega arith)))
 
 none_from : (q p k : ℕ) (s : List ℕ) → q < p → list_any (is_within q) (frames_from p k s) ≡ false
 none_from q p k s h = (frames_later (is_within q) p k s (λ f l. and_left _ _ (lt-leb f.offset q (omega (arith, h, l))))).0

@@ -1,10 +1,10 @@
 -- The counts of a framer, step by step.
-use Rattle.rtcm_scan.proofs.Names.{ℕ, ◌≡◌, ◌+◌, ◌-◌, ◌*◌, ◌<◌, ◌≤◌, min, max, Bool, true, false, not, cond, List, [], ◌∷◌, ◌++◌, length, map, drop, set, get_or, refl, sym, ap, ◌∙◌, arith, suc, zero, subst, length-set, length-append, length-drop, filter, list_any, cases_lt, lt-ltb, get_or-set_same, map-append, filter-append, WindowValue, looked, looked_through, without_front, begins_frame, message_length, frame_length, has_preamble, framed_message, Framed, IsFrameOf, frame_end, places, is_inside, cost, FramerValue, HasFramed, first_held, IsPassed, Scanned, window_of, with_byte, with_window, with_looks, asked, with_candidate_examined, Span, span, covers, looks_at, all_looks, tried_before, spans_at, CountsLooks, HasExamined, longest_frame, most_looks, most_bytes}
+use Rattle.rtcm_scan.proofs.Names.{ℕ, ◌≡◌, ◌+◌, ◌-◌, ◌*◌, ◌<◌, ◌≤◌, min, max, Bool, true, false, not, cond, List, [], ◌∷◌, ◌++◌, length, map, drop, set, get_or, refl, sym, ap, ◌∙◌, arith, suc, zero, subst, length-set, length-append, length-drop, filter, list_any, get_or-set_same, map-append, filter-append, WindowValue, looked, looked_through, without_front, begins_frame, message_length, frame_length, has_preamble, framed_message, Framed, IsFrameOf, frame_end, places, is_inside, cost, FramerValue, HasFramed, first_held, IsPassed, Scanned, window_of, with_byte, with_window, with_looks, asked, with_candidate_examined, Span, span, covers, looks_at, all_looks, tried_before, spans_at, CountsLooks, HasExamined, longest_frame, most_looks, most_bytes}
 use Rattle.std.specs.List.{AllByRecursion as ByRecursion}
 use Rattle.rtcm_bits.proofs.WindowLemmas.{looked_bytes, looked_length}
-use Rattle.rtcm_scan.proofs.LooksLemmas.{one_if, covers_after, looks_push, all_push, counts_look, counts_push, none_cover, greatest_same}
+use Rattle.rtcm_scan.proofs.LooksLemmas.{one_if, looks_push, all_push, counts_look, counts_push, none_cover, greatest_same}
 use Rattle.rtcm_scan.proofs.TriedLemmas.{sum_empty, counts_skip, counts_frame, looks_frame, all_frame, empty_covers}
-use Rattle.rtcm_scan.proofs.CostLemmas.{spans_longer, cost_within}
+use Rattle.rtcm_scan.proofs.CostLemmas.{spans_longer}
 use Rattle.rtcm_scan.proofs.BoundLemmas.{looks_bound, all_bound}
 use Rattle.rtcm_scan.proofs.CandidateLemmas.{wanted_bound}
 use Rattle.rtcm_scan.proofs.DecidedLemmas.{none_past}
@@ -14,7 +14,7 @@ use Rattle.rtcm_scan.proofs.FrameLemmas.{begins_parts, length-message}
 
 -- a longer span covers no less
 covers_more : (i p k n : ℕ) → k ≤ n → one_if (covers i (span p k)) ≤ one_if (covers i (span p n))
-covers_more i p k n h = grind (arith, lt-ltb, covers_after, cases_lt)
+covers_more i p k n h = grind arith
 
 looks_more : (xs : List Span) (q k n i : ℕ) → k ≤ n → looks_at (xs ++ span q k ∷ []) i ≤ looks_at (xs ++ span q n ∷ []) i
 looks_more xs q k n i h =
@@ -126,7 +126,7 @@ step_examined v b fs h x = let a = asked_bound v.held in step_examined_to v (ask
 -- the counts of a framer whose candidate was examined whole
 pub counts_whole : (v : FramerValue) (b : List ℕ) (fs : List Framed) → 0 < length v.held → v.tried ≡ asked v.held → HasExamined v b fs
     → CountsLooks (spans_at b fs (first_held v) (cost b (first_held v))) (first_held v) (length b) v.looks v.examined v.most
-counts_whole v b fs l a x = grind (arith, cost_asked)
+counts_whole v b fs l a x = grind arith
 
 -- the byte at a place is dropped
 pub step_give_up : (v : FramerValue) (b : List ℕ) (fs : List Framed) → 0 < length v.held → v.tried ≡ asked v.held → IsPassed v.has_ended v.held → HasExamined v b fs
@@ -212,7 +212,7 @@ rec_both P (x ∷ xs) ys a c = (a.0, rec_both P xs ys a.1 c)
 spans_end : (b : List ℕ) (t : ℕ → Bool) (n : ℕ) → n ≤ length b → ByRecursion (λ (s : Span). s.start + s.size ≤ length b) (map (λ q. span q (cost b q)) (filter t (places n)))
 unfolding places
 spans_end b t zero l = tt
-spans_end b t (suc n) l = grind (arith, length-drop, cost_within, filter-append, map-append, rec_both, (spans_end b t n (omega arith)))
+spans_end b t (suc n) l = grind (arith, length-drop, filter-append, map-append, rec_both, (spans_end b t n (omega arith)))
 
 messages_end : (e : Bool) (b : List ℕ) (from to : ℕ) (fs : List Framed) → Scanned e b from to fs → to ≤ length b → ByRecursion (λ (s : Span). s.start + s.size ≤ length b) (map (λ (f : Framed). span (f.offset + 3) (length f.message)) fs)
 messages_end e b from to [] s h = tt
