@@ -1,15 +1,5 @@
 -- A register that processes the bits of a message one by one has the remainder of the long division.
-use Rattle.rtcm_bits.proofs.Names.{◌≡◌, ℕ, ◌<◌, ◌≤◌, Bool, true, false, cond, List, [], ◌∷◌, ◌++◌, length, drop, replicate, refl, sym, ap, ◌∙◌, arith, length-append, suc, zero, lit<, length-replicate, uint, plus, add_front, generator, remainder, bits_remainder, after_bit, after_bits}
-
-pub plus_assoc : (a b c : Bool) → plus a (plus b c) ≡ plus (plus a b) c
-plus_assoc true true true = refl
-plus_assoc true true false = refl
-plus_assoc true false c = refl
-plus_assoc false b c = refl
-
-pub plus-false : (a : Bool) → plus a false ≡ a
-plus-false true = refl
-plus-false false = refl
+use Rattle.rtcm_bits.proofs.Names.{◌≡◌, ℕ, ◌<◌, ◌≤◌, Bool, false, List, [], ◌∷◌, ◌++◌, length, drop, replicate, refl, sym, ap, ◌∙◌, arith, length-append, suc, zero, lit<, length-replicate, uint, plus, add_front, generator, remainder, bits_remainder, after_bit, after_bits}
 
 pub length-add_front : (g p : List Bool) → length (add_front g p) ≡ length p
 unfolding add_front
@@ -22,9 +12,7 @@ unfolding add_front
 add_front_assoc [] r p h = refl
 add_front_assoc (a ∷ g) [] p h = absurd (omega arith)
 add_front_assoc (a ∷ g) (b ∷ r) [] h = refl
-add_front_assoc (a ∷ g) (b ∷ r) (c ∷ p) h =
-    let e : add_front g (add_front r p) ≡ add_front (add_front g r) p = add_front_assoc g r p (omega (arith, h)) in
-    let f : plus a (plus b c) ≡ plus (plus a b) c = plus_assoc a b c in cc
+add_front_assoc (a ∷ g) (b ∷ r) (c ∷ p) h = grind (arith, (add_front_assoc g r p (omega (arith, h))))
 
 -- a coefficient of 0 adds nothing
 pub add_front_zero : (r p : List Bool) → length r < length p → add_front (r ++ false ∷ []) p ≡ add_front r p
@@ -38,9 +26,7 @@ add_front_zero (a ∷ r) (c ∷ p) h = ap (λ q. plus a c ∷ q) (add_front_zero
 pub add_front_to_zeros : (r : List Bool) → add_front r (replicate (length r) false) ≡ r
 unfolding add_front
 add_front_to_zeros [] = refl
-add_front_to_zeros (a ∷ r) =
-    let e : add_front r (replicate (length r) false) ≡ r = add_front_to_zeros r in
-    let f : plus a false ≡ a = plus-false a in cc
+add_front_to_zeros (a ∷ r) = grind (arith, (add_front_to_zeros r))
 
 pub zeros_to_front : (n : ℕ) (p : List Bool) → add_front (replicate n false) p ≡ p
 unfolding add_front
@@ -54,12 +40,7 @@ length-generator = refl
 
 pub length-after_bit : (r : List Bool) (b : Bool) → 0 < length r → length (after_bit r b) ≡ length r
 unfolding after_bit
-length-after_bit [] b h = absurd (omega arith)
-length-after_bit (c ∷ r) b h =
-    elim (plus c b) as (λ t. length (cond t (add_front (drop 1 generator) (r ++ false ∷ [])) (r ++ false ∷ [])) ≡ length (c ∷ r)) [
-      | true ↦ omega (arith, length-add_front (drop 1 generator) (r ++ false ∷ []), length-append r (false ∷ []))
-      | false ↦ omega (arith, length-append r (false ∷ []))
-    ]
+length-after_bit r b h = grind (arith, length-add_front, length-append)
 
 pub length-after_bits : (r bs : List Bool) → 0 < length r → length (after_bits r bs) ≡ length r
 unfolding after_bits
@@ -72,15 +53,7 @@ length-after_bits r (b ∷ bs) h =
 divide_step : (c m : Bool) (r p : List Bool) (n : ℕ) → length r ≡ 23 → 24 ≤ length p →
     remainder (suc n) (add_front (c ∷ r) (m ∷ p)) ≡ remainder n (add_front (after_bit (c ∷ r) m) p)
 unfolding remainder add_front after_bit
-divide_step c m r p n h k =
-    let z : add_front (r ++ false ∷ []) p ≡ add_front r p = add_front_zero r p (omega arith) in
-    let g : add_front (drop 1 generator) (add_front (r ++ false ∷ []) p) ≡ add_front (add_front (drop 1 generator) (r ++ false ∷ [])) p =
-    add_front_assoc (drop 1 generator) (r ++ false ∷ []) p (omega (arith, length-generator, length-append r (false ∷ []))) in
-    elim (plus c m) as (λ t. remainder n (cond t (add_front (drop 1 generator) (add_front r p)) (add_front r p))
-    ≡ remainder n (add_front (cond t (add_front (drop 1 generator) (r ++ false ∷ [])) (r ++ false ∷ [])) p)) [
-      | true ↦ ap (remainder n) (ap (add_front (drop 1 generator)) (sym z) ∙ g)
-      | false ↦ ap (remainder n) (sym z)
-    ]
+divide_step c m r p n h k = grind (arith, add_front_zero, add_front_assoc, length-generator, length-append)
 
 -- the whole division
 pub divide_all : (r m : List Bool) → length r ≡ 24 → remainder (length m) (add_front r (m ++ replicate 24 false)) ≡ after_bits r m

@@ -83,13 +83,7 @@ front_sum c n s e rest h p q = rw (p, q, h) (xor_comm (crc rest) (crc (c ∷ rep
 
 pub entry_more : (xs : List ℕ) (k s e : ℕ) → k < length xs → s ≡ crc (drop (length xs - k) xs) → e ≡ crc (get_or xs (length xs - 1 - k) 0 ∷ replicate k 0)
     → bit_xor s e ≡ crc (drop (length xs - (k + 1)) xs)
-entry_more xs k s e h p q =
-    let i : ℕ = length xs - 1 - k in
-    let j : length xs - 1 - k + 1 ≡ length xs - k = omega (arith, h) in
-    let z : length xs - (k + 1) ≡ length xs - 1 - k = omega (arith, h) in
-    let n : k ≡ length (drop (length xs - k) xs) = omega (arith, h, length-drop (length xs - k) xs) in
-    front_sum (get_or xs i 0) k s e (drop (length xs - k) xs) n p q
-    ∙ sym (ap crc (ap (λ (t : ℕ). drop t xs) z ∙ drop_more xs i 0 (omega (arith, h)) ∙ ap (λ (t : ℕ). get_or xs i 0 ∷ drop t xs) j))
+entry_more xs k s e h p q = grind (arith, length-drop, front_sum, drop_more)
 
 pub some_right : {x k s u v w : ℕ} (xs : List ℕ) → x < 2 ^ 24 → 3 ≤ length xs → k ≡ length xs - 3 → s ≡ crc (drop (length xs - k) xs)
     → u ≡ crc (bit_xor (x % 256) (get_or xs 2 0) ∷ replicate (length xs - 3) 0) → v ≡ crc (bit_xor (x / 256 % 256) (get_or xs 1 0) ∷ replicate (length xs - 2) 0)

@@ -94,9 +94,7 @@ abbrev several : List ℕ → ℕ → ℕ
 several v n = crc (v ++ replicate n 0)
 
 several_split : (u v : List ℕ) (n : ℕ) → several (u ++ v) n ≡ bit_xor (several u (length v + n)) (several v n)
-several_split u v n =
-    let l : length (v ++ replicate n 0) ≡ length v + n = length-append v (replicate n 0) ∙ ap (λ (m : ℕ). length v + m) (length-replicate n 0) in
-    ap crc (append_assoc u v (replicate n 0)) ∙ split_check u (v ++ replicate n 0) ∙ ap (λ (m : ℕ). bit_xor (crc (u ++ replicate m 0)) (crc (v ++ replicate n 0))) l
+several_split u v n = grind (arith, length-append, length-replicate, append_assoc, split_check, bit_xor)
 
 several_next : (v : List ℕ) (n m : ℕ) → m ≡ n + 1 → several v m ≡ next_entry (several v n)
 several_next v n m e =

@@ -1,5 +1,5 @@
 -- The counts of looks of a window. Only the first ones are stored.
-use Rattle.rtcm_bits.proofs.Names.{◌≡◌, ℕ, ◌+◌, ◌-◌, ◌<◌, ◌≤◌, min, max, List, [], ◌∷◌, ◌++◌, length, drop, replicate, slice_index, slice_set, refl, sym, ap, ◌∙◌, arith, suc, zero, length-append, length-drop, append_assoc, ⊎_elim, get_or, drop-append-le, drop-replicate, drop-set-lt, get_or-append-add, get_or-append_right, get_or_append_left, get_or-replicate, get_or-set_other, length-replicate, replicate-append-replicate, set-append_left, cases_lt, drop-append-add, get_or-append_seam, set-append_seam, Buffer, buffer, WindowValue, held_of, filled_up, counts_alone, looked_through, pushed_all, without_front}
+use Rattle.rtcm_bits.proofs.Names.{◌≡◌, ℕ, ◌+◌, ◌-◌, ◌<◌, ◌≤◌, min, max, List, [], ◌∷◌, ◌++◌, length, drop, replicate, slice_index, slice_set, refl, sym, ap, ◌∙◌, arith, suc, zero, length-append, length-drop, append_assoc, ⊎_elim, drop-append-le, drop-replicate, drop-set-lt, get_or-append-add, get_or-append_right, get_or_append_left, get_or-replicate, get_or-set_other, length-replicate, replicate-append-replicate, set-append_left, cases_lt, drop-append-add, get_or-append_seam, set-append_seam, Buffer, buffer, WindowValue, held_of, filled_up, counts_alone, looked_through, pushed_all, without_front}
 use Rattle.rtcm_bits.proofs.WindowLemmas.{AgreeFrom, looked_length, shifted, through_counts}
 
 -- the sums of a window before and after looks at k bytes: e and e' count all looks, m is the largest count after them
@@ -10,10 +10,7 @@ pub record AreSums (e e' k m largest : ℕ) : Type 0 where
 
 -- more bytes without a look
 pub filled_more : (xs : List ℕ) (o n k : ℕ) → length xs + o ≤ n → filled_up xs o (n + k) ≡ filled_up xs o n ++ replicate k 0
-filled_more xs o n k h =
-    let z : n + k - (length xs + o) ≡ n - (length xs + o) + k = omega (arith, h) in
-    let r : replicate {A = ℕ} (n - (length xs + o) + k) 0 ≡ replicate (n - (length xs + o)) 0 ++ replicate k 0 = sym (replicate-append-replicate (n - (length xs + o)) k 0) in
-    rw (z, r) (simp append_assoc)
+filled_more xs o n k h = grind (arith, replicate-append-replicate, append_assoc)
 
 pub filled_length : (xs : List ℕ) (o n : ℕ) → length xs + o ≤ n → length (filled_up xs o n) ≡ n
 filled_length xs o n h =
@@ -47,17 +44,8 @@ first_look xs o p n i e f h =
 
 pub first_looks : {e : ℕ} (b xs : List ℕ) (o n m k : ℕ) → length xs + o + k ≤ n → e ≤ 18446744073709551615
     → looked_through (held_of b (filled_up xs o n) e m) (length xs + o) k ≡ held_of b (filled_up xs (o + k) n) (min (e + k) 18446744073709551615) (max m (min k 1))
-first_looks {e} b xs o n m zero h g =
-    let y : min (e + 0) 18446744073709551615 ≡ e = grind arith in
-    let x : max m (min 0 1) ≡ m = grind arith in
-    let z : o + 0 ≡ o = omega arith in
-    rw (y, x, z) refl
-first_looks {e} b xs o n m (suc k) h g =
-    let r = first_looks b xs o n m k (omega (arith, h)) g in
-    let f = first_look xs (o + k) (o + suc k) n (length xs + o + k) (omega arith) (omega arith) (omega (arith, h)) in
-    let y : min (min (e + k) 18446744073709551615 + 1) 18446744073709551615 ≡ min (e + suc k) 18446744073709551615 = grind arith in
-    let x : max (max m (min k 1)) 1 ≡ max m (min (suc k) 1) = grind arith in
-    rw (r, f.0, f.1, y, x) refl
+first_looks {e} b xs o n m zero h g = grind arith
+first_looks {e} b xs o n m (suc k) h g = grind (arith, first_look, (first_looks b xs o n m k (omega (arith, h)) g))
 
 -- the second look at the first byte looked at once
 second_look : (xs : List ℕ) (p n : ℕ) → (slice_index (filled_up xs (suc p) n) (length xs) ≡ 1)
@@ -79,9 +67,7 @@ second_look_at {b} {q} {s} xs v g i z y t =
 one_in_front : {zs : List ℕ} {i m k : ℕ} (xs ys : List ℕ) → zs ≡ xs ++ ys → i < length xs → k ≡ m
     → (slice_set zs i (min (slice_index zs i + 1) 65535) ≡ slice_set xs i (min (slice_index xs i + 1) 65535) ++ ys)
     × (max k (min (slice_index zs i + 1) 65535) ≡ max m (min (slice_index xs i + 1) 65535))
-one_in_front {i} {m} xs ys e h f =
-    let p : slice_set (xs ++ ys) i (min (slice_index xs i + 1) 65535) ≡ slice_set xs i (min (slice_index xs i + 1) 65535) ++ ys = set-append_left xs ys i (min (slice_index xs i + 1) 65535) h in
-    rw (e, f, get_or_append_left xs ys 0 i h) (p, refl)
+one_in_front {i} {m} xs ys e h f = grind (arith, slice_set, slice_index, set-append_left, get_or_append_left)
 
 pub in_front : (xs ys : List ℕ) (m s n : ℕ) → s + n ≤ length xs
     → ((looked_through (counts_alone (xs ++ ys) m) s n).looks ≡ (looked_through (counts_alone xs m) s n).looks ++ ys)
@@ -96,13 +82,7 @@ in_front xs ys m s (suc n) h =
 pub later_looks : {b ys : List ℕ} {e e' m m' k : ℕ} {w : WindowValue} (xs : List ℕ) (o f s : ℕ) → held_of b (filled_up (drop f xs) o (length b)) e m ≡ w
     → f + s + k ≤ length xs → ys ≡ (looked_through (counts_alone xs m) (f + s) k).looks → AreSums e e' k m' (looked_through (counts_alone xs m) (f + s) k).most
     → held_of b (filled_up (drop f ys) o (length b)) e' m' ≡ looked_through w s k
-later_looks {b} {e} {m} {k} xs o f s v h p q =
-    let n = length b in
-    let t = shifted xs f m s k in
-    let l : s + k ≤ length (drop f xs) = omega (arith, h, length-drop f xs) in
-    let i = in_front (drop f xs) (replicate o 1 ++ replicate (n - (length (drop f xs) + o)) 0) m s k l in
-    let j : length (looked_through (counts_alone (drop f xs) m) s k).looks ≡ length (drop f xs) = looked_length (counts_alone (drop f xs) m) s k in
-    rw (p, q.most, q.sum, t.0, t.1, ← v, through_counts b (filled_up (drop f xs) o n) e m s k q.few, i.0, i.1, j) refl
+later_looks {b} {e} {m} {k} xs o f s v h p q = grind (arith, shifted, length-drop, in_front, looked_length, through_counts)
 
 -- without the first bytes
 drop_ones : (j o z : ℕ) → drop {A = ℕ} j (replicate o 1 ++ replicate z 0) ≡ replicate (o - j) 1 ++ replicate (z - (j - o)) 0
@@ -188,10 +168,7 @@ not_once xs o z j h = get_or-append-add xs (replicate o 1 ++ replicate z 0) j 0
     ∙ get_or-append_right (replicate o 1) (replicate z 0) o j 0 (length-replicate {A = ℕ} o 1) h ∙ zeros_at z (j - o)
 
 at_most_once : (xs : List ℕ) (o z j : ℕ) → slice_index (xs ++ (replicate o 1 ++ replicate z 0)) (length xs + j) ≤ 1
-at_most_once xs o z j = ⊎_elim
-    (λ (h : j < o). rw (at_once xs o z j h) (omega arith))
-    (λ (h : o ≤ j). rw (not_once xs o z j h) (omega arith))
-    (cases_lt j o)
+at_most_once xs o z j = grind (arith, at_once, not_once, cases_lt)
 
 pub last_looks : {b : List ℕ} {e e' m m' s k : ℕ} {w : WindowValue} (xs : List ℕ) (o : ℕ) → held_of b (filled_up xs o (length b)) e m ≡ w → length xs ≤ s → s < length xs + o
     → 0 < k → AreSums e e' k m' (max m 2) → AgreeFrom (s + k) (held_of b (filled_up xs o (length b)) e' m') (looked_through w s k)

@@ -13,13 +13,13 @@ pub use Rattle.rtcm_bits.specs.FrameOf.{frame_bytes}
 unfoldable pub use Rattle.rtcm_bits.specs.Register.{after_bit, after_bits}
 pub use Rattle.rtcm_bits.specs.Window.{WindowValue, counts_alone, filled_up, held_of, looked, looked_through, nothing_held, pushed, pushed_all, without_front}
 pub use Rattle.rtcm_bits.specs.declared.tables.TheConstants.{TABLES}
-pub use Rattle.std.proofs.Common.{Bool, List, Option, Some, [], add-zero, ap, arith, bit_and, bit_xor, cond, drop, eqb, false, get_or, inl, inr, length, length-append, length-take, lit<, lit≤, map, max, min, negsuc, of_z, pos, refl, replicate, rules, slice_index, slice_range, slice_set, subst, suc, sym, take, to_z, true, vec_capacity, zero, ℕ, ℤ, ⊎_elim, ◌%◌, ◌*◌, ◌++◌, ◌+◌, ◌-◌, ◌/◌, ◌<◌, ◌^◌, ◌∙◌, ◌∷◌, ◌≡◌, ◌≢◌, ◌≤◌, ◌⊎◌}
+pub use Rattle.std.proofs.Common.{Bool, List, Option, Some, [], add-zero, ap, arith, bit_and, bit_xor, drop, eqb, false, get_or, inl, inr, length, length-append, length-take, lit<, lit≤, map, max, min, negsuc, of_z, pos, refl, replicate, rules, slice_index, slice_range, slice_set, subst, suc, sym, take, to_z, true, vec_capacity, zero, ℕ, ℤ, ⊎_elim, ◌%◌, ◌*◌, ◌++◌, ◌+◌, ◌-◌, ◌/◌, ◌<◌, ◌^◌, ◌∙◌, ◌∷◌, ◌≡◌, ◌≢◌, ◌≤◌}
 pub use Rattle.std.proofs.KnownBytes.{Appends-trans, Keeps-refl, Keeps-trans, append_known-grown, append_known-moved}
-pub use Rattle.std.proofs.Math.Nat.{add-mul-mod_self_left, mod-eq_of_lt, mod-lt, mul-div_cancel, mul-le-mul_right, mul-lt-mul_of_pos_right, pow-le-pow_right}
+pub use Rattle.std.proofs.Math.Nat.{mod-eq_of_lt, mod-lt, mul-div_cancel, mul-le-mul_right, mul-lt-mul_of_pos_right, pow-le-pow_right}
 pub use Rattle.std.proofs.Math.Seq.{drop-append-add, drop-append_seam, drop-length, get_or-append_seam, set-append_seam, take-add, take-append-add}
-pub use Rattle.std.proofs.lemmas.Bool.{agree_below_at, cases_eq, cases_lt, eqb-true, true≢false}
+pub use Rattle.std.proofs.lemmas.Bool.{agree_below_at, cases_lt, eqb-true, true≢false}
 pub use Rattle.std.proofs.lemmas.Int.{ints, of_z-to_z, to_z-of_z}
-pub use Rattle.std.proofs.lemmas.List.{append-nil, append_assoc, drop-append-le, drop-drop, drop-replicate, drop-set-add, drop-set-lt, drop-take, drop_all, drop_at, drop_more, get_or-append-add, get_or-append_right, get_or-drop, get_or-map, get_or-replicate, get_or-set_other, get_or-take, get_or_append_left, get_or_default, get_or_push, length-drop, length-replicate, length-set, length-take-le, replicate-append-replicate, set-append_left, take-append-drop, take-append-le, take-take, take_all, take_at, take_more, take_rest, with_items_is}
+pub use Rattle.std.proofs.lemmas.List.{append-nil, append_assoc, drop-append-le, drop-drop, drop-replicate, drop-set-add, drop-set-lt, drop-take, drop_all, drop_at, drop_more, get_or-append-add, get_or-append_right, get_or-drop, get_or-map, get_or-replicate, get_or-set_other, get_or-take, get_or_append_left, get_or_push, length-drop, length-replicate, length-set, length-take-le, replicate-append-replicate, set-append_left, take-append-drop, take-append-le, take-take, take_all, take_at, take_more, take_rest, with_items_is}
 pub use Rattle.std.proofs.lemmas.Nat.{and_mask, div-add-mod', div-mul-add, field_of, one_shl, pow-add, pow_pos, shl-shr, shl_whole, shr-shr, xor_comm, xor_lt}
 pub use Rattle.std.proofs.lemmas.Nat.Bits.{bit_at-lt, bit_at_cat_high, bit_at_cat_low, bit_at_xor}
 pub use Rattle.std.proofs.lemmas.Simd.{pick_l-range_with_len}
@@ -28,5 +28,3 @@ pub use Rattle.std.specs.Int.Bits.{xor_assoc, xor_zero_r}
 pub use Rattle.std.specs.Int.Signed.{shr_z}
 pub use Rattle.std.specs.Io.KnownBytes.{Appends, Keeps, append_known}
 pub use Rattle.std.specs.Vec.{vec_len}
-pub use Rattle.std.proofs.lemmas.List.Elements.{All-append}
-pub use Rattle.std.specs.List.{All}

@@ -1,5 +1,5 @@
 -- Bits of numbers that are joined, cut, doubled and added without carry.
-use Rattle.rtcm_bits.proofs.Names.{◌≡◌, ℕ, ◌+◌, ◌-◌, ◌*◌, ◌/◌, ◌%◌, ◌^◌, ◌<◌, ◌≤◌, eqb, ◌∷◌, ◌++◌, refl, sym, ap, ◌∙◌, arith, suc, zero, inl, inr, ◌⊎◌, ⊎_elim, bit_xor, cases_eq, div-add-mod', bit_at_cat_low, bit_at_cat_high, bit_at_xor, bit_at-lt, bit_at, odd, uint, plus, add_front}
+use Rattle.rtcm_bits.proofs.Names.{◌≡◌, ℕ, ◌+◌, ◌-◌, ◌*◌, ◌/◌, ◌%◌, ◌^◌, ◌<◌, ◌≤◌, eqb, ◌∷◌, ◌++◌, refl, sym, ap, ◌∙◌, arith, suc, zero, bit_xor, div-add-mod', bit_at_cat_low, bit_at_cat_high, bit_at_xor, bit_at-lt, bit_at, odd, uint, plus, add_front}
 
 -- only the low bits count
 pub uint-cat : (w a k b : ℕ) → w ≤ k → uint w (a * 2 ^ k + b) ≡ uint w b
@@ -22,18 +22,11 @@ uint-split (suc w) k a c h =
     let r : uint (w + k) (a * 2 ^ k + c) ≡ uint w a ++ uint k c = uint-split w k a c h in
     ap (λ j. uint j (a * 2 ^ k + c)) z ∙ ap (λ q. eqb q 1 ∷ uint (w + k) (a * 2 ^ k + c)) (e ∙ ap (bit_at a) m) ∙ ap (λ q. odd (a / 2 ^ w) ∷ q) r
 
-below_two : (t : ℕ) → t < 2 → (t ≡ 0) ⊎ (t ≡ 1)
-below_two t h = ⊎_elim (λ (e : t ≡ 0). inl e) (λ (e : t ≡ 0 → ⊥). inr (omega arith)) (cases_eq t 0)
-
 plus_is : (s t : ℕ) → s < 2 → t < 2 → eqb ((s + t) % 2) 1 ≡ plus (eqb s 1) (eqb t 1)
-plus_is s t h k =
-    ⊎_elim (λ (e : s ≡ 0). ⊎_elim (λ (f : t ≡ 0). rw (e, f) refl) (λ (f : t ≡ 1). rw (e, f) refl) (below_two t k))
-    (λ (e : s ≡ 1). ⊎_elim (λ (f : t ≡ 0). rw (e, f) refl) (λ (f : t ≡ 1). rw (e, f) refl) (below_two t k)) (below_two s h)
+plus_is s t h k = grind arith
 
 -- the exclusive or of two numbers is the sum of their bits
 pub uint-xor : (w a b : ℕ) → uint w (bit_xor a b) ≡ add_front (uint w a) (uint w b)
 unfolding uint add_front
 uint-xor zero a b = refl
-uint-xor (suc w) a b =
-    let t : uint w (bit_xor a b) ≡ add_front (uint w a) (uint w b) = uint-xor w a b in
-    rw (bit_at_xor a b w, plus_is (bit_at a w) (bit_at b w) (bit_at-lt a w) (bit_at-lt b w), t) refl
+uint-xor (suc w) a b = grind (arith, bit_xor, bit_at_xor, plus_is, bit_at-lt, (uint-xor w a b))

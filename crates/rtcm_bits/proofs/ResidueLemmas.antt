@@ -10,13 +10,10 @@ add_front-append (a ∷ g) [] q h = absurd (omega arith)
 add_front-append (a ∷ g) (c ∷ p) q h = ap (λ r. plus a c ∷ r) (add_front-append g p q (omega (arith, h)))
 
 plus-same : (a : Bool) → plus a a ≡ false
-plus-same true = refl
-plus-same false = refl
+plus-same a = grind arith
 
 plus-none : (a c : Bool) → plus a c ≡ false → a ≡ c
-plus-none true true h = refl
-plus-none true false h = absurd (true≢false h)
-plus-none false c h = sym h
+plus-none a c h = grind arith
 
 pub add_front-same : (r : List Bool) → add_front r r ≡ replicate (length r) false
 unfolding add_front
@@ -86,15 +83,10 @@ unfolding after_bits after_bit
 zeros_after = refl
 
 pub after_none : (r n : List Bool) → length r ≡ 24 → length n ≡ 24 → after_bits r n ≡ replicate 24 false → r ≡ n
-after_none r n l k h =
-    let m : length (add_front r n) ≡ 24 = length-add_front r n ∙ k in
-    let s : add_front r n ≡ replicate 24 false = steps_none 24 (add_front r n) m (sym (sum_after r n l k) ∙ h) in
-    add_front-none r n (l ∙ sym k) (s ∙ ap (λ q. replicate q false) (sym k))
+after_none r n l k h = grind (arith, length-add_front, steps_none, sum_after, add_front-none)
 
 pub after_same : (r : List Bool) → length r ≡ 24 → after_bits r r ≡ replicate 24 false
-after_same r l =
-    let z : add_front r r ≡ replicate 24 false = add_front-same r ∙ ap (λ q. replicate q false) l in
-    sum_after r r l l ∙ ap (λ q. after_bits q (replicate 24 false)) z ∙ zeros_after
+after_same r l = grind (arith, add_front-same, sum_after, zeros_after)
 
 number-append : (a b : List Bool) → number (a ++ b) ≡ number a * 2 ^ length b + number b
 number-append a b = bit_lemmas.number-append a b 0 ∙ number-split b (number a)

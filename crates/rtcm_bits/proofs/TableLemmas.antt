@@ -9,20 +9,12 @@ pub table_right : (i : ℕ) → i < 256 → get_or TABLES i 0 ≡ crc (i ∷ [])
 unfolding crc bits_remainder remainder add_front generator uint number_from bits_of
 table_right i h = eqb-true (get_or TABLES i 0) (crc (i ∷ [])) (agree_below_at (λ k. eqb (get_or TABLES k 0) (crc (k ∷ []))) (λ k. true) 256 i refl h)
 
-plus_comm : (a b : Bool) → plus a b ≡ plus b a
-plus_comm true true = refl
-plus_comm true false = refl
-plus_comm false true = refl
-plus_comm false false = refl
-
 add_front_comm : (p q : List Bool) → length p ≡ length q → add_front p q ≡ add_front q p
 unfolding add_front
 add_front_comm [] [] h = refl
 add_front_comm [] (b ∷ q) h = absurd (omega arith)
 add_front_comm (a ∷ p) [] h = absurd (omega arith)
-add_front_comm (a ∷ p) (b ∷ q) h =
-    let e : plus a b ≡ plus b a = plus_comm a b in
-    let f : add_front p q ≡ add_front q p = add_front_comm p q (omega (arith, h)) in cc
+add_front_comm (a ∷ p) (b ∷ q) h = grind (arith, (add_front_comm p q (omega (arith, h))))
 
 -- the sum of two equal lists is zero
 add_twice : (g p : List Bool) → length g ≤ length p → add_front g (add_front g p) ≡ p

@@ -1,15 +1,12 @@
 -- The calls of a window and its ring, as the contracts state them.
-use Rattle.rtcm_bits.proofs.Names.{◌≡◌, ◌≢◌, ℕ, ◌+◌, ◌-◌, ◌<◌, ◌≤◌, min, max, List, [], ◌∷◌, ◌++◌, length, take, drop, slice_index, slice_range, slice_set, refl, sym, ap, ◌∙◌, arith, suc, zero, length-append, length-drop, length-set, ⊎_elim, cases_lt, drop-append-le, drop-drop, drop-set-add, get_or-drop, take_all, take_rest, take-append-add, drop-append-add, Buffer, buffer, WindowValue, held_of, counts_alone, looked_through, pushed, pushed_all, without_front, All, get_or_default}
+use Rattle.rtcm_bits.proofs.Names.{◌≡◌, ◌≢◌, ℕ, ◌+◌, ◌-◌, ◌<◌, ◌≤◌, min, max, List, ◌++◌, length, take, drop, slice_index, slice_range, slice_set, refl, sym, ap, ◌∙◌, arith, suc, zero, length-append, length-drop, length-set, cases_lt, drop-append-le, drop-drop, drop-set-add, get_or-drop, take_all, take_rest, take-append-add, drop-append-add, Buffer, buffer, WindowValue, held_of, counts_alone, looked_through, without_front}
 
 -- the counts of a range don't depend on the bytes, nor on the sum of all looks
 pub through_counts : (b xs : List ℕ) (e m start n : ℕ) → e ≤ 18446744073709551615 →
     looked_through (held_of b xs e m) start n
     ≡ held_of b (looked_through (counts_alone xs m) start n).looks (min (e + n) 18446744073709551615) (looked_through (counts_alone xs m) start n).most
 through_counts b xs e m start zero h = let z : min (e + 0) 18446744073709551615 ≡ e = grind arith in rw z refl
-through_counts b xs e m start (suc n) h =
-    let r = through_counts b xs e m start n h in
-    let z : min (min (e + n) 18446744073709551615 + 1) 18446744073709551615 ≡ min (e + suc n) 18446744073709551615 = grind arith in
-    rw (r, z) refl
+through_counts b xs e m start (suc n) h = grind (arith, (through_counts b xs e m start n h))
 
 -- one more look at the count at j, which is k after the first f
 one_more : {zs : List ℕ} {m m' : ℕ} (ys : List ℕ) (f j k : ℕ) → j ≡ f + k → drop f ys ≡ zs → m ≡ m'
@@ -108,12 +105,7 @@ range_second f b s n u h i =
 
 pub range_past : (f b : List ℕ) (s n from : ℕ) → from ≡ min s (length f) → length f < s + n
     → take (length f - from) (drop from f) ++ take (s + n - length f - (s - from)) (drop (s - from) b) ≡ slice_range (f ++ b) s (s + n)
-range_past f b s n from e l =
-    let z : s + n - s ≡ n = omega arith in
-    rw z (⊎_elim
-    (λ (k : s < length f). range_seam f b s n from (omega (arith, k)) (omega (arith, l)) (grind (arith, e, k)))
-    (λ (k : length f ≤ s). range_second f b s n from k (grind (arith, e, k)))
-    (cases_lt s (length f)))
+range_past f b s n from e l = grind (arith, range_seam, range_second, cases_lt)
 
 -- a ring that has room takes all
 pub all_taken : (b b' : Buffer ℕ) (more : List ℕ) (n : ℕ) → length b.items + length more ≤ b.capacity → n ≡ min (length more) (b.capacity - length b.items)
@@ -121,15 +113,6 @@ pub all_taken : (b b' : Buffer ℕ) (more : List ℕ) (n : ℕ) → length b.ite
 all_taken b b' more n h e g =
     let k : n ≡ length more = grind (arith, e, h) in
     g ∙ ap (λ (t : List ℕ). buffer (b.items ++ t) b.capacity) (ap (λ (q : ℕ). take q more) k ∙ take_all (length more) more (omega arith))
-
--- a byte alone
-pub pushed_one : (w v : WindowValue) (bytes : List ℕ) → length bytes ≡ 1 → v ≡ pushed w (slice_index bytes 0) → v ≡ pushed_all w bytes
-pushed_one w v [] h e = absurd (omega (arith, h))
-pushed_one w v (b ∷ []) h e = e
-pushed_one w v (b ∷ d ∷ bytes) h e = absurd (omega (arith, h))
-
-pub all_bytes : (xs : List ℕ) → ((i : ℕ) → slice_index xs i < 256) → All (λ (b : ℕ). b < 256) xs
-all_bytes xs h k d l = rw (get_or_default xs k d 0 l) (h k)
 
 -- a search in two consecutive lists
 pub others_on : {w : List ℕ} {n byte : ℕ} (f b : List ℕ) → f ++ b ≡ w → n ≤ length f + length b → ((i : ℕ) → i < n → slice_index (f ++ b) i ≢ byte)

@@ -34,20 +34,6 @@ returns-then-len-lt-CAPACITY-clause-counted c =
     (ap (drop i.first) c.in-Ok.ensures.items ∙ drop-append-le i.first i.counts.items (2 ∷ []) (omega (arith, v, c.self.invariant)))
     (record { few = search rules; sum = c.saturating_add-self-inside.ensures; most = c.raise-then-len-lt-CAPACITY.ensures })
 
-pub look_at_each-self-inside-requires-2 : goal.look_at_each-self-inside-requires-2
-look_at_each-self-inside-requires-2 c =
-    omega (arith, ap length c.as_mut_slice-2.ensures.value, c.spell_out-self-inside.ensures.size)
-
-pub invariant_of-self-2 : goal.invariant_of-self-2
-invariant_of-self-2 c =
-    let i = c.self.inside in
-    let s = c.spell_out-self-inside in
-    let ys = c.look_at_each-self-inside-2.new.counts in
-    let l : length i.bytes.items ≡ length c.args.self.now.bytes = ap (λ w. length w.bytes) c.self.view_is in
-    let k : length ys ≡ length s.new.counts.items = c.look_at_each-self-inside-2.auto.counts ∙ ap length c.as_mut_slice-2.ensures.value in
-    rw (with_items_is s.new.counts ys (k ∙ sym s.new.counts.ok.0), k)
-    (c.self.invariant.0, s.ensures.capacity, c.self.invariant.2, s.ensures.room, omega (arith, s.ensures.size), omega (arith, s.ensures.size, l, c.requires, c.self.invariant), c.self.invariant.6)
-
 pub returns-clause-counted : goal.returns-clause-counted
 returns-clause-counted c =
     let i = c.self.inside in
@@ -65,22 +51,3 @@ returns-clause-counted c =
     ∙ later_looks cs 0 s.result c.args.start (ap (λ (t : List ℕ). held_of i.bytes.items t i.looks i.greatest) o ∙ c.self.view_is) (omega (arith, s.ensures.size))
     (c.look_at_each-self-inside-2.ensures.counts ∙ ap (λ (t : List ℕ). (looked_through (counts_alone t i.greatest) (s.result + c.args.start) c.args.n).looks) c.as_mut_slice-2.ensures.value)
     (record { few = search rules; sum = c.saturating_add-self-inside.ensures; most = c.look_at_each-self-inside-2.ensures.greatest ∙ ap (λ (t : List ℕ). (looked_through (counts_alone t i.greatest) (s.result + c.args.start) c.args.n).most) c.as_mut_slice-2.ensures.value })
-
-pub invariant_of-self : goal.invariant_of-self
-invariant_of-self c =
-    let i = c.self.inside in
-    let ys = c.look_at_each-self-inside.new.counts in
-    let k : length ys ≡ length i.counts.items = c.look_at_each-self-inside.auto.counts ∙ ap length c.as_mut_slice.ensures.value in
-    rw (with_items_is i.counts ys (k ∙ sym i.counts.ok.0), k) c.self.invariant
-
-pub invariant_of-self-then-start-counted : goal.invariant_of-self-then-start-counted
-invariant_of-self-then-start-counted c =
-    let l : length c.self.inside.bytes.items ≡ length c.args.self.now.bytes = ap (λ w. length w.bytes) c.self.view_is in
-    let v = c.self.invariant in
-    (v.0, v.1, v.2, v.3, v.4, omega (arith, l, c.requires, v.4, v.5), v.6)
-
-pub spell_out-self-inside-requires : goal.spell_out-self-inside-requires
-spell_out-self-inside-requires c =
-    let l : length c.self.inside.bytes.items ≡ length c.args.self.now.bytes = ap (λ w. length w.bytes) c.self.view_is in
-    let v = c.self.invariant in
-    record { within = (v.4, v.3); few = (omega (arith, v.2, v.5), omega (arith, l, c.requires, v.2)); capacity = v.1 }
