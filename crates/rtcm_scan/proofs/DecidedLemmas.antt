@@ -4,8 +4,7 @@ use Rattle.rtcm_scan.proofs.FrameLemmas.{begins_parts, closed_whole}
 use Rattle.rtcm_scan.proofs.ScanLemmas.{scanned_le, scanned_frames}
 
 pub or_none : (x y : Bool) → y ≡ false → (x || y) ≡ x
-or_none true y h = refl
-or_none false y h = h
+or_none x y h = grind arith
 
 pub length-places : (n : ℕ) → length (places n) ≡ n
 unfolding places

@@ -15,10 +15,6 @@ Residue = (bytes : List ℕ) (x y z : ℕ) → x < 256 → y < 256 → z < 256 �
 pub wanted_cases : (s : List ℕ) → ((slice_index s 0 ≡ preamble) × (wanted_by s ≡ frame_length s)) ⊎ ((slice_index s 0 ≡ preamble → ⊥) × (wanted_by s ≡ 1))
 wanted_cases s = grind arith
 
-wanted_more : (s : List ℕ) → 1 < wanted_by s → (slice_index s 0 ≡ preamble) × (wanted_by s ≡ frame_length s)
-wanted_more s h = ⊎_elim (λ (k : (slice_index s 0 ≡ preamble) × (wanted_by s ≡ frame_length s)). k)
-    (λ (k : (slice_index s 0 ≡ preamble → ⊥) × (wanted_by s ≡ 1)). absurd (omega (arith, h, k.1))) (wanted_cases s)
-
 wanted_take : (s : List ℕ) (k : ℕ) → k ≤ length s → k ≡ wanted_by s → wanted_by (take k s) ≡ wanted_by s
 wanted_take s k h e =
     let t : take k s ++ drop k s ≡ s = take-append-drop k s in

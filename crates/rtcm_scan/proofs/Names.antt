@@ -24,7 +24,6 @@ pub use Rattle.rtcm_scan.specs.Results.{frame_at, if_missing, new_scan}
 pub use Rattle.rtcm_scan.specs.Scan.{AllPassed, FramerValue, HasFramed, IsPassed, IsScannedOn, Scanned, first_held, most_bytes, scan_of, window_of, with_byte, with_bytes, with_looks, with_window}
 pub use Rattle.rtcm_scan.specs.declared.candidate.Candidate.{Candidate}
 pub use Rattle.rtcm_scan.specs.declared.feed.StreamFault.{StreamFault}
-pub use Rattle.rtcm_scan.specs.declared.feed.StreamFault.TheVariants.{Read, Sink, TooLong}
 pub use Rattle.rtcm_scan.specs.declared.front.Decision.TheVariants.{Found, Open, Passed}
 pub use Rattle.std.proofs.Common.{Bool, List, Option, [], add-one, add-zero, ap, arith, cond, drop, false, get_or, inl, inr, leb, length, length-append, length-set, length-take, ltb, map, max, min, nat_eq, not, refl, replicate, set, slice_index, slice_range, subst, suc, sum_by, sym, take, take_all, true, zero, ℕ, ⊎_elim, ◌%◌, ◌&&◌, ◌*◌, ◌++◌, ◌+◌, ◌-◌, ◌/◌, ◌<◌, ◌||◌, ◌↔◌, ◌∙◌, ◌∷◌, ◌≡◌, ◌≢◌, ◌≤◌, ◌⊎◌}
 pub use Rattle.std.proofs.KnownBytes.{Consumes-nil, Consumes-trans}

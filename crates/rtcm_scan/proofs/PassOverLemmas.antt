@@ -1,5 +1,5 @@
 -- Bytes that begin no frame are dropped together, as if one by one.
-use Rattle.rtcm_scan.proofs.Names.{ℕ, ◌≡◌, ◌≢◌, ◌+◌, ◌-◌, ◌<◌, ◌≤◌, min, Bool, false, List, [], ◌∷◌, length, take, drop, get_or, refl, sym, ap, ◌∙◌, arith, suc, zero, slice_index, subst, drop-drop, length-drop, get_or-drop, ne_eqb, WindowValue, looked_through, without_front, has_preamble, Candidate, HasTaken, Framed, FramerValue, HasFramed, IsPassed, scan_of, window_of, with_window, with_looks, asked, with_candidate_examined, passed, HasExamined, preamble}
+use Rattle.rtcm_scan.proofs.Names.{ℕ, ◌≡◌, ◌≢◌, ◌+◌, ◌-◌, ◌<◌, ◌≤◌, min, Bool, false, List, [], ◌∷◌, length, take, drop, get_or, refl, sym, ap, ◌∙◌, arith, suc, zero, slice_index, subst, drop-drop, length-drop, get_or-drop, ne_eqb, WindowValue, looked_through, without_front, has_preamble, Candidate, HasTaken, Framed, FramerValue, HasFramed, IsPassed, scan_of, window_of, with_window, with_looks, with_candidate_examined, passed, HasExamined, preamble}
 use Rattle.rtcm_scan.proofs.FrameLemmas.{none_without}
 use Rattle.rtcm_scan.proofs.CandidateLemmas.{taken_more}
 use Rattle.rtcm_scan.proofs.NextLemmas.{step_passed, counts_passed, history_looks}
@@ -25,9 +25,6 @@ passed_over v n = with_given_up v (without_front (looked_through (window_of v) 0
 
 none_over : (v : FramerValue) → v.tried ≡ 0 → passed_over v 0 ≡ v
 none_over v e = let a : v.skipped + 0 ≡ v.skipped = omega arith in ap (λ (k : ℕ). with_given_up v (window_of v) k) a ∙ ap (λ (k : ℕ). let r : FramerValue = record v { tried = k } in r) (sym e)
-
-one_asked : (s : List ℕ) → has_preamble s ≡ false → 0 < length s → asked s ≡ 1
-one_asked s e h = rw e (omega arith)
 
 one_more : (v : FramerValue) (n : ℕ) → v.tried ≡ 0 → has_preamble v.held ≡ false → 0 < length v.held → passed_over v (suc n) ≡ passed_over (passed (with_candidate_examined v)) n
 one_more v n e h k = grind (arith, front_once)

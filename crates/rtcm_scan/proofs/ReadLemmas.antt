@@ -1,13 +1,11 @@
 -- A stream that is read piece by piece.
-use Rattle.rtcm_scan.proofs.Names.{◌≡◌, ℕ, ◌+◌, ◌-◌, ◌<◌, ◌≤◌, Bool, true, false, List, [], ◌++◌, ◌∙◌, ap, sym, arith, length, take, max, append_assoc, append-nil, subst, length-append, Option, add-zero, Consumes, IsAtEnd, Consumes-trans, Consumes-nil, Framed, length-drop, take-append-add, length-take-le, longest_frame, decided, IsDrained, known_frames, FramerValue, HasReadPiece, Coming, Breaking, HasPassedAll, HasBroken, Passes, Breaks, Continues, BreaksKnown, PassesKnown, PassesToLimit, PassesAll, BreaksAfter, BreaksReading, Reads, ReadsOn, IsReadingOn, AtFault, StreamFault, Read, TooLong, Sink, most_undecided}
+use Rattle.rtcm_scan.proofs.Names.{◌≡◌, ℕ, ◌+◌, ◌-◌, ◌<◌, ◌≤◌, Bool, true, false, List, [], ◌++◌, ◌∙◌, ap, sym, arith, length, take, max, append_assoc, append-nil, subst, length-append, Option, add-zero, Consumes, IsAtEnd, Consumes-trans, Consumes-nil, Framed, length-drop, take-append-add, length-take-le, longest_frame, decided, IsDrained, known_frames, FramerValue, HasReadPiece, Coming, Breaking, HasPassedAll, HasBroken, Passes, Breaks, Continues, BreaksKnown, PassesKnown, PassesToLimit, PassesAll, BreaksAfter, BreaksReading, Reads, ReadsOn, IsReadingOn, AtFault, StreamFault, most_undecided}
 use Rattle.rtcm_scan.proofs.PassingLemmas.{prefix_self, passes_sent}
 use Rattle.rtcm_scan.proofs.PrefixLemmas.{decided_near}
 
 -- at each fault, one proposition implies another
 pub at_each : {F P Q R P' Q' R' : Type 0} (f : StreamFault F) → (P → P') → (Q → Q') → (R → R') → AtFault f P Q R → AtFault f P' Q' R'
-at_each Read p q r a = p a
-at_each TooLong p q r a = q a
-at_each (Sink x) p q r a = r a
+at_each f p q r a = grind arith
 
 -- one piece after others
 pub reading_more : {S : Type 0} {can : S → Type 0} {s s' : S} {v v' v2 : FramerValue} {n m k l : ℕ} → IsReadingOn can s v v' n m → can s' → Continues v' v2 l → k ≡ m → IsReadingOn can s' v v2 n k

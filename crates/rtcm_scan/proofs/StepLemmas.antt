@@ -1,5 +1,5 @@
 -- The counts of a framer, step by step.
-use Rattle.rtcm_scan.proofs.Names.{ℕ, ◌≡◌, ◌+◌, ◌-◌, ◌*◌, ◌<◌, ◌≤◌, min, max, Bool, true, false, not, cond, List, [], ◌∷◌, ◌++◌, length, map, drop, set, get_or, refl, sym, ap, ◌∙◌, arith, suc, zero, subst, length-set, length-append, length-drop, filter, list_any, get_or-set_same, map-append, filter-append, WindowValue, looked, looked_through, without_front, begins_frame, message_length, frame_length, has_preamble, framed_message, Framed, IsFrameOf, frame_end, places, is_inside, cost, FramerValue, HasFramed, first_held, IsPassed, Scanned, window_of, with_byte, with_window, with_looks, asked, with_candidate_examined, Span, span, covers, looks_at, all_looks, tried_before, spans_at, CountsLooks, HasExamined, longest_frame, most_looks, most_bytes}
+use Rattle.rtcm_scan.proofs.Names.{ℕ, ◌≡◌, ◌+◌, ◌-◌, ◌*◌, ◌<◌, ◌≤◌, min, max, Bool, true, false, not, List, [], ◌∷◌, ◌++◌, length, map, drop, set, get_or, refl, sym, ap, ◌∙◌, arith, suc, zero, subst, length-set, length-append, length-drop, filter, list_any, get_or-set_same, map-append, filter-append, WindowValue, looked, looked_through, without_front, begins_frame, message_length, frame_length, framed_message, Framed, IsFrameOf, frame_end, places, is_inside, cost, FramerValue, HasFramed, first_held, IsPassed, Scanned, window_of, with_byte, with_window, with_looks, asked, with_candidate_examined, Span, span, covers, looks_at, all_looks, tried_before, spans_at, CountsLooks, HasExamined, longest_frame, most_looks, most_bytes}
 use Rattle.std.specs.List.{AllByRecursion as ByRecursion}
 use Rattle.rtcm_bits.proofs.WindowLemmas.{looked_bytes, looked_length}
 use Rattle.rtcm_scan.proofs.LooksLemmas.{one_if, looks_push, all_push, counts_look, counts_push, none_cover, greatest_same}
@@ -96,9 +96,6 @@ bound_fits {k} e b fs p s h l t = record {
 
 asked_bound : (s : List ℕ) → (asked s ≤ longest_frame) × (asked s ≤ length s)
 asked_bound s = let h = (wanted_bound s).1 in (omega arith, omega arith)
-
-pub cost_asked : (b : List ℕ) (p : ℕ) → 0 < length (drop p b) → cost b p ≡ asked (drop p b)
-cost_asked b p h = elim (has_preamble (drop p b)) as (λ v. cond v (min (frame_length (drop p b)) (length (drop p b))) 1 ≡ min (cond v (frame_length (drop p b)) 1) (length (drop p b))) [ true ↦ refl | false ↦ omega arith ]
 
 -- the candidate at the front is examined up to n of its bytes
 pub step_examined_to : (v : FramerValue) (n : ℕ) (b : List ℕ) (fs : List Framed) → v.tried ≤ n → n ≤ longest_frame → n ≤ length v.held → HasExamined v b fs
