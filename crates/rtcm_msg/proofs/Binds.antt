@@ -6,8 +6,7 @@ use Rattle.rtcm_msg.specs.Names.{uint, number, Cursor, advanced, unsigned_at, Ms
 use Rattle.rtcm_bits.specs.BitLaws.{number-take-fits, uint-number}
 
 pub bind_ok : {A B : Type 0} (r : Result A MsgFault) (f : A → Result B MsgFault) (y : B) → (r >>= f) ≡ Ok y → (x : A) × (r ≡ Ok x) × (f x ≡ Ok y)
-bind_ok (Ok x) f y e = (x, refl, e)
-bind_ok (Err d) f y e = cc
+bind_ok r f y h = grind arith
 
 pub number_there : (w : ℕ) (c : Cursor) → w ≤ length c.rest → number_at w c ≡ Ok (unsigned_at w c, advanced c w)
 unfolding number_at

@@ -1,11 +1,10 @@
 -- Bounds of the values of a cell.
-use Rattle.std.proofs.Common.{ℕ, ℤ, pos, negsuc, ◌≡◌, ◌+◌, ◌*◌, ◌-◌, ◌^◌, ◌<◌, ◌≤◌, ◌==◌, ◌+ℤ◌, ◌*ℤ◌, Bool, true, false, List, [], ◌∷◌, map, Option, Some, None, unsigned_abs, arith, lit≤, refl}
+use Rattle.std.proofs.Common.{ℕ, ℤ, pos, ◌^◌, ◌<◌, ◌≤◌, ◌+ℤ◌, ◌*ℤ◌, Bool, true, false, List, [], ◌∷◌, map, Option, Some, None, unsigned_abs, arith}
 use Rattle.std.specs.Prelude.{if◌then◌else◌, IfSome}
 use Rattle.std.specs.Ordering.{int_eq}
 use Rattle.std.specs.List.{AllByRecursion}
-use Rattle.std.proofs.lemmas.Int.{ints, unsigned_abs-mul}
-use Rattle.std.proofs.lemmas.Nat.{mul-le}
-use Rattle.rtcm_msg.specs.Names.{FitsInt, Message, Station, Msm4, Msm5, Msm6, Msm7, Other, Pair, Form, scaled, invalid_range, range_joined, invalid_rough_rate, invalid_fine_rate, rate_joined, strength_of, MsmValue, entry_in, entries, IsMeasured}
+use Rattle.std.proofs.lemmas.Int.{ints}
+use Rattle.rtcm_msg.specs.Names.{FitsInt, Message, Station, Msm4, Msm5, Msm6, Msm7, Other, Pair, Form, scaled, range_joined, invalid_rough_rate, invalid_fine_rate, rate_joined, strength_of, MsmValue, entry_in, entries, IsMeasured}
 use Rattle.rtcm_msg.specs.declared.view.Form.TheVariants as forms
 use Rattle.rtcm_msg.specs.declared.data.Satellite.{Satellite}
 use Rattle.rtcm_msg.specs.declared.data.Cell.{Cell}
@@ -20,24 +19,11 @@ Far r = unsigned_abs r ≤ 2 ^ 40
 
 -- ---- fractions
 
-fine_within : (invalid : ℤ) (k m : ℕ) (z : ℤ) → unsigned_abs z ≤ m → m * k ≤ 2 ^ 26 → IfSome (scaled invalid k z) Small
-fine_within invalid k m z h room = by (int_eq z invalid) where
-  product : unsigned_abs (z *ℤ pos k) ≤ 2 ^ 26
-  product = rw unsigned_abs-mul (let p : unsigned_abs z * k ≤ m * k = mul-le (unsigned_abs z) k m k h (omega arith) in omega (arith, p, room))
-
-  by : (b : Bool) → IfSome (if b then None else Some (z *ℤ pos k)) Small
-  by true = tt
-  by false = product
-
 joined_within : (whole fraction : ℕ) (fine : Option ℤ) → whole < 2 ^ 8 → fraction < 2 ^ 10 → IfSome fine Small → IfSome (range_joined whole fraction fine) Far
-joined_within whole fraction None w f s = tt
-joined_within whole fraction (Some fine) w f s = by (whole == invalid_range) where
-  by : (b : Bool) → IfSome (if b then None else Some (pos (whole * 2 ^ 31 + fraction * 2 ^ 21) +ℤ fine)) Far
-  by true = tt
-  by false = omega (arith, ints, w, f, s)
+joined_within whole fraction fine h k l = grind arith
 
 pub rate_small : (rough fine : ℤ) → unsigned_abs rough ≤ 2 ^ 13 → unsigned_abs fine ≤ 2 ^ 14 → unsigned_abs ((rough *ℤ pos 10000) +ℤ fine) ≤ 10 ^ 8
-rate_small rough fine r f = omega (arith, ints, r, f)
+rate_small rough fine r f = omega (arith, ints)
 
 rate_within : (rough fine : ℤ) → unsigned_abs rough ≤ 2 ^ 13 → unsigned_abs fine ≤ 2 ^ 14 → IfSome (rate_joined rough fine) (λ v. unsigned_abs v ≤ 10 ^ 8)
 rate_within rough fine r f = by (int_eq rough invalid_rough_rate) (int_eq fine invalid_fine_rate) where
@@ -46,37 +32,22 @@ rate_within rough fine r f = by (int_eq rough invalid_rough_rate) (int_eq fine i
   by false true = tt
   by false false = rate_small rough fine r f
 
-strength_within : (n k : ℕ) → 0 < k → n * k < 1024 → IfSome (strength_of n k) (λ s. (0 < s) × (s < 1024))
-strength_within n k some few = by (n == 0) refl where
-  by : (b : Bool) → (n == 0) ≡ b → IfSome (if b then None else Some (n * k)) (λ s. (0 < s) × (s < 1024))
-  by true e = tt
-  by false e = (let more : 1 ≤ n = grind (arith, e) in let p : 1 * 1 ≤ n * k = mul-le 1 1 n k more some in omega (arith, p), few)
-
-pub signed_within : (w m : ℕ) (z : ℤ) → FitsInt w z → 2 ^ (w - 1) ≤ m → unsigned_abs z ≤ m
-signed_within w m (pos n) h k = omega (arith, h, k)
-signed_within w m (negsuc n) h k = omega (arith, h, k)
-
 -- ---- cells
 
 range_small : (fine : Bool) (z : ℤ) → FitsInt (precision fine).range z → IfSome (scaled (least (precision fine).range) (precision fine).range_unit z) Small
-range_small false z h = fine_within _ 128 (2 ^ 14) z (signed_within 15 (2 ^ 14) z h (lit≤ tt)) (lit≤ tt)
-range_small true z h = fine_within _ 4 (2 ^ 19) z (signed_within 20 (2 ^ 19) z h (lit≤ tt)) (lit≤ tt)
+range_small fine z h = grind arith
 
 phase_small : (fine : Bool) (z : ℤ) → FitsInt (precision fine).phase z → IfSome (scaled (least (precision fine).phase) (precision fine).phase_unit z) Small
-phase_small false z h = fine_within _ 4 (2 ^ 21) z (signed_within 22 (2 ^ 21) z h (lit≤ tt)) (lit≤ tt)
-phase_small true z h = fine_within _ 1 (2 ^ 23) z (signed_within 24 (2 ^ 23) z h (lit≤ tt)) (lit≤ tt)
+phase_small fine z h = grind arith
 
 strength_small : (fine : Bool) (n : ℕ) → n < 2 ^ (precision fine).strength → IfSome (strength_of n (precision fine).strength_unit) (λ s. (0 < s) × (s < 1024))
-strength_small false n h = strength_within n 16 (omega arith) (omega (arith, h))
-strength_small true n h = strength_within n 1 (omega arith) (omega (arith, h))
+strength_small fine n h = grind arith
 
 pub rough_rate_small : (there : Bool) (z : ℤ) → FitsIf there 14 invalid_rough_rate z → unsigned_abs z ≤ 2 ^ 13
-rough_rate_small false z h = rw h (lit≤ tt)
-rough_rate_small true z h = signed_within 14 (2 ^ 13) z h (lit≤ tt)
+rough_rate_small there z h = grind arith
 
 pub fine_rate_small : (there : Bool) (z : ℤ) → FitsIf there 15 invalid_fine_rate z → unsigned_abs z ≤ 2 ^ 14
-fine_rate_small false z h = rw h (lit≤ tt)
-fine_rate_small true z h = signed_within 15 (2 ^ 14) z h (lit≤ tt)
+fine_rate_small there z h = grind arith
 
 measured : (f : Form) (x : Pair) (s : Satellite) (c : Cell) → IsSatelliteData f s → IsCellData f c → IsMeasured (entry f x s c)
 measured f x s c a b = record {

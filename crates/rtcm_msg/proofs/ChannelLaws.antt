@@ -9,10 +9,7 @@ use Rattle.rtcm_msg.proofs.PairLaws.{ids_none}
 use Rattle.rtcm_msg.proofs.CountLaws.{ids_count}
 
 channels_are : (f : Form) (m : MsmValue) → sent_channels (message_in f m) ≡ channels_of f m
-channels_are forms.Msm4 m = refl
-channels_are forms.Msm5 m = refl
-channels_are forms.Msm6 m = refl
-channels_are forms.Msm7 m = refl
+channels_are f m = grind arith
 
 pub channels_none : (f : Form) (n : ℕ) (rows : List ℕ) → n ≡ 0 → channels_by f (ids 64 n) rows ≡ []
 channels_none f n rows e = rw (e, ids_none 64) refl

@@ -1,5 +1,5 @@
 -- Chains of fields: the bits that were read, reading encoded fields, and the fault.
-use Rattle.std.proofs.Common.{ℕ, ◌≡◌, ◌+◌, ◌^◌, ◌<◌, ◌≤◌, Bool, List, ◌∷◌, ◌++◌, length, Result, Ok, Err, Some, refl, ◌∙◌, arith, length-append}
+use Rattle.std.proofs.Common.{ℕ, ◌≡◌, ◌+◌, ◌^◌, ◌<◌, ◌≤◌, Bool, List, ◌∷◌, ◌++◌, length, Result, Ok, Some, refl, ◌∙◌, arith, length-append}
 use Rattle.std.proofs.lemmas.List.{take_at, drop_at}
 use Rattle.rtcm_msg.specs.Names.{uint, Cursor, MsgFault, number_at, ◌>>=◌, first_past}
 use Rattle.rtcm_bits.specs.BitLaws.{length-uint, number_of-uint}
@@ -27,5 +27,4 @@ number_again w n place rest h =
     number_there w (cursor place (uint w n ++ rest)) room ∙ rw (take_at (uint w n) rest w len, drop_at (uint w n) rest w len, number_of-uint w n h) refl
 
 pub bind_bind : {A B D : Type 0} (r : Result A MsgFault) (g : A → Result B MsgFault) (f : B → Result D MsgFault) → ((r >>= g) >>= f) ≡ (r >>= λ x. g x >>= f)
-bind_bind (Ok x) g f = refl
-bind_bind (Err e) g f = refl
+bind_bind r g f = grind arith

@@ -1,5 +1,5 @@
 -- The data of one satellite or cell, read field by field.
-use Rattle.std.proofs.Common.{ℕ, ℤ, ◌≡◌, ◌+◌, ◌*◌, ◌/◌, ◌%◌, ◌^◌, ◌<◌, ◌≤◌, ◌==◌, Bool, true, false, List, [], ◌∷◌, length, take, drop, refl, sym, ap, ap₂, subst, ◌∙◌, arith, lit<}
+use Rattle.std.proofs.Common.{ℕ, ℤ, ◌≡◌, ◌+◌, ◌*◌, ◌/◌, ◌%◌, ◌^◌, ◌<◌, ◌≤◌, ◌==◌, Bool, true, List, [], ◌∷◌, length, take, drop, refl, sym, ap, ap₂, subst, ◌∙◌, arith, lit<}
 use Rattle.std.proofs.lemmas.Nat.{mod_low, shr_high, pow-add}
 use Rattle.std.proofs.lemmas.List.{length-take}
 use Rattle.rtcm_bits.specs.BitLaws.{number-fits, pow_mono}
@@ -75,7 +75,7 @@ unpacked_row (f ∷ fs) n bits p i m = first_unpacked f fs n bits p i m (unpacke
 -- Satellite i of n in the bits from p on.
 pub satellite_read : (f : Form) (rates : Bool) (n : ℕ) (bits : List Bool) (p i : ℕ) (s : Satellite) → has_rates f ≡ rates → s ≡ satellite_of rates (contents_at (satellite_table_by rates) n bits p i)
     → s ≡ satellite_data f (row_at (satellite_widths f) n bits p i 0)
-satellite_read f rates n bits p i s is e = grind (arith, Bool, unpacked_row)
+satellite_read f rates n bits p i s is e = grind (arith, unpacked_row)
 
 -- Cell i of n in the bits from p on, with its rate.
 pub cell_read : (f : Form) (w : Precision) (n : ℕ) (bits : List Bool) (p i : ℕ) {range phase rate : ℤ} {lock strength : ℕ} {half_cycle : Bool} → precision (is_fine f) ≡ w
@@ -97,13 +97,12 @@ first_ends f b e ends = rw (← e) (ends.0, (ends.1.0, (ends.1.1.0, (ends.1.1.1.
 
 -- The rate of a form that has rates.
 rate_by : (rates : Bool) (n : ℕ) (bits : List Bool) (p k i : ℕ) → rates ≡ true → signed 15 (field_at bits (p + n * k + i * 15) 15) ≡ rate_in rates (contents_after (rate_table rates) n bits p k i)
-rate_by true n bits p k i e = refl
-rate_by false n bits p k i e = cc
+rate_by rates n bits p k i h = cc
 
 -- Where the rate of the first cell ends.
 pub rate_ends : (f : Form) (b : LastBits) → has_rates f ≡ true → AreLast (cell_widths f) b
     → b.rate + 1 ≡ b.place + b.count * ((precision (is_fine f)).range + (precision (is_fine f)).phase + (precision (is_fine f)).lock + 1 + (precision (is_fine f)).strength) + 15
-rate_ends f b has ends = grind (arith, Bool, ends)
+rate_ends f b has ends = grind arith
 
 pub rate_read : (f : Form) (n : ℕ) (bits : List Bool) (p i : ℕ) {rate : ℤ} → has_rates f ≡ true
     → rate ≡ signed 15 (field_at bits (p + n * ((precision (is_fine f)).range + (precision (is_fine f)).phase + (precision (is_fine f)).lock + 1 + (precision (is_fine f)).strength) + i * 15) 15)
@@ -131,15 +130,13 @@ shifted : (n k j : ℕ) → 15 + k ≡ j → n / 2 ^ 15 / 2 ^ k ≡ n / 2 ^ j
 shifted n k j e = div-div-eq-div-mul n (2 ^ 15) (2 ^ k) ∙ ap (λ (d : ℕ). n / d) (sym (pow-add 2 15 k) ∙ ap (λ (x : ℕ). 2 ^ x) e)
 
 rate_last : (fine : Bool) (n : ℕ) (rate : ℤ) → rate ≡ signed 15 (n % 2 ^ 15) → record (rateless fine (n / 2 ^ 15)) { rate = rate } ≡ cell_of fine true (unpacked (cell_table_by fine true) n)
-rate_last true n rate e = rw (e, shifted n 45 60 refl, shifted n 21 36 refl, shifted n 11 26 refl, shifted n 10 25 refl, shifted n 0 15 refl, div-one n) refl
-rate_last false n rate e = rw (e, shifted n 33 48 refl, shifted n 11 26 refl, shifted n 7 22 refl, shifted n 6 21 refl, shifted n 0 15 refl, div-one n) refl
+rate_last fine n rate h = grind (arith, shifted, div-one)
 
 pub cell_unpacked : (f : Form) (n : ℕ) {c : Cell} {rate : ℤ} → has_rates f ≡ true → rate ≡ signed 15 (n % 2 ^ 15) → c ≡ rateless (is_fine f) (n / 2 ^ 15) → record c { rate = rate } ≡ cell_data f n
 cell_unpacked f n {c} {rate} has is e = ap (λ (c : Cell). record c { rate = rate }) e ∙ (rate_last (is_fine f) n rate is ∙ ap (λ (b : Bool). cell_of (is_fine f) b (unpacked (cell_table_by (is_fine f) b) n)) (sym has))
 
 with_rate : (fine : Bool) (c : Cell) → rateless_number fine c * 2 ^ 15 + raw 15 c.rate ≡ packed (cell_table_by fine true) (cell_contents fine true c)
-with_rate true c = omega arith
-with_rate false c = omega arith
+with_rate fine c = grind arith
 
 pub cell_packed : (f : Form) (c : Cell) {n rate : ℕ} → has_rates f ≡ true → n ≡ rateless_number (is_fine f) c → rate ≡ raw 15 c.rate → n * 32768 + rate ≡ cell_number f c
 cell_packed f c has e r = rw (e, r) (with_rate (is_fine f) c ∙ ap (λ (b : Bool). packed (cell_table_by (is_fine f) b) (cell_contents (is_fine f) b c)) (sym has))

@@ -21,9 +21,7 @@ ones_one = refl
 
 set_or_not : (a i : ℕ) (bits : List Bool) → a < 2 → length (up_from i ((a == 1) ∷ bits)) ≡ count_ones a + length (up_from (i + 1) bits)
 unfolding up_from
-set_or_not zero i bits h = rw ones_zero (omega arith)
-set_or_not (suc zero) i bits h = rw ones_one (omega arith)
-set_or_not (suc (suc k)) i bits h = absurd (omega (arith, h))
+set_or_not a i bits h = grind (arith, ones_zero, ones_one)
 
 up_count : (w n i : ℕ) → length (up_from i (uint w n)) ≡ count_ones (n % 2 ^ w)
 unfolding up_from uint

@@ -80,8 +80,7 @@ check_split (w ∷ vs) ws len place e h check = elim (cases_lt len (place + 1 * 
 -- ---- messages
 
 field_widths_are : (has : Bool) → field_widths has ≡ station_widths ++ height_widths has
-field_widths_are true = refl
-field_widths_are false = refl
+field_widths_are has = grind arith
 
 module _ (bytes : List ℕ) where
   abbrev bits : List Bool

@@ -1,9 +1,9 @@
 -- No field that is read ends after the first 8,184 bits.
-use Rattle.std.proofs.Common.{ℕ, ◌≡◌, ◌+◌, ◌*◌, ◌≤◌, Bool, true, false, List, ◌∷◌, ◌++◌, length, take, drop, Result, Ok, Err, Option, refl, sym, ap, ap₂, ◌∙◌, arith, lit≤, inl, inr, append_assoc, nat_lt, nat_le, count_ones, length-append}
+use Rattle.std.proofs.Common.{ℕ, ◌≡◌, ◌+◌, ◌*◌, ◌≤◌, Bool, true, false, List, ◌∷◌, ◌++◌, length, take, drop, Result, Ok, Err, Option, refl, sym, ap, ap₂, ◌∙◌, arith, lit≤, append_assoc, nat_lt, nat_le, count_ones, length-append}
 use Rattle.std.proofs.lemmas.Bool.{cases_lt, le-leb, lt-ltb}
 use Rattle.std.proofs.lemmas.Nat.{ones-le, mul-le}
 use Rattle.std.proofs.lemmas.List.{length-drop, take-append-le, drop-append-le, take-append-drop, length-take-le}
-use Rattle.rtcm_msg.specs.Names.{bits_of, number, MsgFault, BadTime, TooManyCells, Short, Message, total_width, message_by, message_with, MsmSet, kind_with, ReadsMessage, IsFault, is_read_msm, set_of, layout_by, Kind, kind_of, is_msm_kind, has_bad_time, has_too_many, repeated, Form, satellite_widths, cell_widths}
+use Rattle.rtcm_msg.specs.Names.{bits_of, number, MsgFault, Message, total_width, message_by, message_with, MsmSet, kind_with, ReadsMessage, IsFault, is_read_msm, set_of, layout_by, Kind, kind_of, is_msm_kind, has_bad_time, has_too_many, repeated, Form, satellite_widths, cell_widths}
 use Rattle.rtcm_bits.specs.FrameOf.{longest_message, longest_message_bits}
 use Rattle.rtcm_bits.specs.BitLaws.{bits_of-append, length-bits_of, number-take-fits}
 use Rattle.rtcm_msg.specs.Encoding.{number_of}
@@ -30,8 +30,7 @@ module _ (a b : List Bool) (long : longest_message_bits ≤ length a) where
   set_more = rw (number_more, le_more 55 a b (omega (arith, long)), field_more a b 12 12 (omega (arith, long)), field_more a b 54 1 (omega (arith, long))) refl
 
   reads_more : (v : Message) → ReadsMessage a v → ReadsMessage (a ++ b) v
-  reads_more v (inl r) = inl (record { is_value = r.is_value; known = r.known; prefix = r.prefix; rest = r.rest ++ b; joined = ap (λ t. t ++ b) r.joined ∙ append_assoc r.prefix r.rest b; encodes = r.encodes })
-  reads_more v (inr r) = inr (record { number_there = omega (arith, long, length-append a b); unread = ap kind_of number_more ∙ r.unread; value = r.value ∙ (ap (λ (n : ℕ). messages.Other n (set_of a)) (sym number_more) ∙ ap (λ (s : Option (ℕ × Bool)). messages.Other (number_of (a ++ b)) s) (sym set_more)) })
+  reads_more v h = grind (arith, append_assoc, length-append, number_more, Option, Bool, set_more)
 
   time_more : has_bad_time (a ++ b) ≡ has_bad_time a
   time_more = rw (number_more, le_more 54 a b (omega (arith, long)), field_more a b 24 30 (omega (arith, long))) refl
@@ -66,10 +65,7 @@ layout_few bits (kinds.Msm form g) e long few =
 layout_few bits kinds.Other e long few = lit≤ tt
 
 fault_more : (a b : List Bool) (e : MsgFault) → longest_message_bits ≤ length a → IsFault a e → IsFault (a ++ b) e
-fault_more a b BadTime long f = time_more a b long ∙ f
-fault_more a b TooManyCells long f = (time_more a b long ∙ f.0, few_more a b long ∙ f.1)
-fault_more a b (Short k) long (time, few, inl x) = absurd (omega (arith, long, x.0))
-fault_more a b (Short k) long (time, few, inr x) = grind (arith, some_none, past_none, layout_few)
+fault_more a b e h k = grind (arith, time_more, few_more, some_none, past_none, layout_few)
 
 message_more : (a b : List Bool) → longest_message_bits ≤ length a → message_by kind_of a ≡ message_by kind_of (a ++ b)
 message_more a b long = go (message_by kind_of a) refl

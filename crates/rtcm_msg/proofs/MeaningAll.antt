@@ -46,7 +46,7 @@ pick_later x y xs ys h = grind arith
 in_above : (low high : ℕ) (y : ℕ × ℕ) (xs : List (ℕ × ℕ)) → Rising low high (map pair_number xs) → IsIn y xs → low ≤ pair_number y
 in_above low high y [] r i = absurd i
 in_above low high y (x ∷ xs) r (inl e) = rw e r.0
-in_above low high y (x ∷ xs) r (inr i) = omega (arith, high, low, (in_above (pair_number x + 1) high y xs r.2 i))
+in_above low high y (x ∷ xs) r (inr i) = omega (arith, (in_above (pair_number x + 1) high y xs r.2 i))
 
 more : (m n : ℕ) → m + 1 ≤ n → m + 1 ≤ n + 1
 more m n h = omega arith

@@ -1,7 +1,6 @@
 -- Reading a message: the bits that were read, reading an encoding, and the fault.
 use Rattle.std.proofs.Common.{ℕ, ◌≡◌, ◌+◌, ◌==◌, ◌^◌, ◌<◌, ◌≤◌, ◌&&◌, Bool, true, false, List, [], ◌∷◌, ◌++◌, length, drop, Result, Ok, Err, Option, Some, None, refl, sym, ap, subst, ◌∙◌, arith, not, ◌⊎◌, inl, inr, append_assoc, nat_lt, nat_le, if◌then◌else◌, is_some, IsTrue}
 use Rattle.std.proofs.lemmas.Bool.{cases_lt, and_left, and_right, lt-leb, le-leb, lt-ltb, le-ltb}
-use Rattle.std.proofs.lemmas.Nat.{pow_pos}
 use Rattle.std.proofs.lemmas.List.{length-drop, drop-drop}
 use Rattle.gnss_system.specs.declared.system.System.{System}
 use Rattle.rtcm_msg.specs.Names.{bits_of, message_at, uint, filled, Cursor, MsgFault, BadTime, TooManyCells, Short, StationParts, Message, ◌>>=◌, field_bits, first_past, total_width, columns, station_at, station_table, station_parts, msm_at, msm_bits, MsmValue, IsValue, is_time, mask_fields, message_by, start, other_at, other_of, set_at, body_by, Kind, kind_of, is_msm_kind, station_number, ReadsMessage, IsMessage, IsFault, message_bits, reserved_width, is_other, is_read_msm, layout, layout_by, has_bad_time, has_too_many, is_bad_time, Form, satellite_widths, cell_widths, message_number, message_in}
@@ -76,8 +75,7 @@ message_again bits rest (messages.Other n set) reserved h known small is = cc
 
 -- Bits that begin with the encoding of a value are read as the value.
 pub read_again : (bits : List Bool) (v : Message) → ReadsMessage bits v → message_by kind_of bits ≡ Ok v
-read_again bits v (inl b) = message_again bits b.rest v b.encodes.reserved b.is_value b.known b.encodes.fits (b.joined ∙ ap (λ t. t ++ b.rest) b.encodes.bits_are)
-read_again bits v (inr o) = message_there kind_of bits o.number_there ∙ (ap (λ (k : Kind). body_by k (number_of bits) (cursor_at bits 12)) o.unread ∙ ap Ok (other_is bits o.number_there ∙ sym o.value))
+read_again bits v h = grind (arith, message_again, message_there, other_is)
 
 -- ---- what was read
 
@@ -163,13 +161,10 @@ time_by : (bits : List Bool) (k : Kind) → kind_of (number_of bits) ≡ k → h
 time_by bits k e = ap (λ (k : Kind). nat_le 54 (length bits) && is_bad_time k (field_at bits 24 30)) e
 
 no_msm_in_time : (bits : List Bool) (k : Kind) → kind_of (number_of bits) ≡ k → is_msm_kind k ≡ false → is_bad_time k (field_at bits 24 30) ≡ false → InTime bits
-no_msm_in_time bits k e none fine = grind (arith, time_by, Bool, nat_le, and_right, and_left)
+no_msm_in_time bits k e none fine = grind arith
 
 no_fault : (bits : List Bool) → 12 ≤ length bits → InTime bits → first_past (length bits) 0 (layout bits) ≡ None → (f : MsgFault) → IsFault bits f → ⊥
-no_fault bits h clean none BadTime f = not_true (has_bad_time bits) clean.time f
-no_fault bits h clean none TooManyCells f = not_true (has_too_many bits) clean.few f.1
-no_fault bits h clean none (Short k) (time, few, inl x) = omega (arith, h, x.0)
-no_fault bits h clean none (Short k) (time, few, inr x) = some_none (first_past (length bits) 0 (layout bits)) k x.1 none
+no_fault bits h k l f m = grind arith
 
 short_fault : (bits : List Bool) (ws : List ℕ) (e : MsgFault) → 12 ≤ length bits → InTime bits → layout bits ≡ 12 ∷ ws → ShortAt bits 12 ws e → IsFault bits e
 short_fault bits ws e h clean is s = subst (IsFault bits) (sym s.is) (clean.time, clean.few, inr (h, ap (first_past (length bits) 0) is ∙ (past_next 12 ws (length bits) 0 h ∙ s.past)))
@@ -193,8 +188,7 @@ station_end bits has h = elim (fields_read station_table bits 12 h) [
     ]
 
 pub layout_station : (has : Bool) (bits : List Bool) → layout_by (kinds.Station has) bits ≡ 12 ∷ (station_widths ++ height_widths has)
-layout_station true bits = refl
-layout_station false bits = refl
+layout_station has bits = grind arith
 
 -- The result of reading a multiple signal message, for the widths of any form.
 msm_message_end : {bits : List Bool} {sw cw : List ℕ} {g : System} (wrap : MsmValue → Message) → 12 ≤ length bits → is_read_msm (number_of bits) ≡ true
@@ -255,18 +249,7 @@ message_fault bits e read = go (message_end bits)
     go (sound v none is) = absurd (ok_err v e (message_by kind_of bits) is read)
 
 fault_one : (bits : List Bool) (e f : MsgFault) → IsFault bits e → IsFault bits f → e ≡ f
-fault_one bits BadTime BadTime a b = refl
-fault_one bits BadTime TooManyCells a b = absurd (not_true (has_bad_time bits) b.0 a)
-fault_one bits BadTime (Short k) a b = absurd (not_true (has_bad_time bits) b.0 a)
-fault_one bits TooManyCells BadTime a b = absurd (not_true (has_bad_time bits) a.0 b)
-fault_one bits TooManyCells TooManyCells a b = refl
-fault_one bits TooManyCells (Short k) a b = absurd (not_true (has_too_many bits) b.1 a.1)
-fault_one bits (Short k) BadTime a b = absurd (not_true (has_bad_time bits) a.0 b)
-fault_one bits (Short k) TooManyCells a b = absurd (not_true (has_too_many bits) a.1 b.1)
-fault_one bits (Short k) (Short j) (at, am, inl x) (bt, bm, inl y) = ap Short (x.1 ∙ sym y.1)
-fault_one bits (Short k) (Short j) (at, am, inl x) (bt, bm, inr y) = absurd (omega (arith, x.0, y.0))
-fault_one bits (Short k) (Short j) (at, am, inr x) (bt, bm, inl y) = absurd (omega (arith, x.0, y.0))
-fault_one bits (Short k) (Short j) (at, am, inr x) (bt, bm, inr y) = grind (arith, Option, Some)
+fault_one bits e f h k = grind arith
 
 pub message_only_fault : (bits : List Bool) (f : MsgFault) → IsFault bits f → message_by kind_of bits ≡ Err f
 message_only_fault bits f fault = go (message_end bits)
@@ -278,7 +261,7 @@ message_only_fault bits f fault = go (message_end bits)
 -- ---- the encoding
 
 pub zero_read : (v : Message) → IsMessage v → is_other v ≡ false → ReadsMessage (filled (message_bits v 0)) v
-zero_read v value known = grind (arith, pow_pos)
+zero_read v value known = grind arith
 
 pub message_value : (bytes : List ℕ) (m : Message) → message_at bytes ≡ Ok m → IsMessage m
 message_value bytes m read = (message_found (bits_of bytes) m read).is_message

@@ -1,11 +1,8 @@
 -- Reading a multiple signal message: the bits that were read, reading an encoding, and the fault.
-use Rattle.std.proofs.Common.{ℕ, ◌≡◌, ◌+◌, ◌*◌, ◌^◌, ◌<◌, ◌≤◌, Bool, true, false, List, [], ◌∷◌, ◌++◌, length, Result, Ok, Err, refl, sym, ap, ◌∙◌, arith, inl, inr, append_assoc, replicate, count_ones, ◌/◌, nat_lt}
+use Rattle.std.proofs.Common.{ℕ, ◌≡◌, ◌+◌, ◌*◌, ◌^◌, ◌<◌, ◌≤◌, Bool, true, false, List, [], ◌∷◌, ◌++◌, length, Result, Ok, Err, refl, sym, ap, ◌∙◌, arith, inl, inr, append_assoc, replicate, count_ones, ◌/◌}
 use Rattle.std.proofs.lemmas.Bool.{cases_lt, cases_Bool}
 use Rattle.std.proofs.lemmas.List.{length-map, length-replicate}
 use Rattle.gnss_system.specs.declared.system.System.{System}
-use Rattle.gnss_system.specs.declared.system.System.TheVariants.{Gps, Galileo, Glonass, Beidou, Qzss, Sbas}
-use Rattle.gnss_system.proofs.Checked.{both_first, is_less}
-use Rattle.rtcm_msg.specs.Msm.{week}
 use Rattle.rtcm_msg.specs.Names.{uint, Cursor, MsgFault, BadTime, TooManyCells, MsmHeader, number_at, reading, ◌>>=◌, field_bits, total_width, columns, columns_at, EachBelow, masks_after, header_at, masks_at, msm_at, checked_time, is_time, IsHeader, AreMasks, IsValue, MasksValue, MsmValue, pair_count, mask_fields, time_table, header_table, mask_table, time_contents, header_contents, header_of, widths, Contents, fields_of}
 use Rattle.rtcm_msg.proofs.Binds.{of_read, bind_ok, number_consumed, ok_err}
 use Rattle.rtcm_msg.proofs.Combine.{cursor, number_again}
@@ -52,16 +49,8 @@ in_time g t c h = rw h refl
 pub no_time_of : (g : System) (t : ℕ) (c : Cursor) → is_time g t ≡ false → checked_time g t c ≡ Err BadTime
 no_time_of g t c h = rw h refl
 
-week_fits : (t : ℕ) → nat_lt t week ≡ true → t < 2 ^ 30
-week_fits t h = let less = is_less t week h in omega (arith, less)
-
 pub time_fits : (g : System) (t : ℕ) → is_time g t ≡ true → t < 2 ^ 30
-time_fits Gps t h = week_fits t h
-time_fits Galileo t h = week_fits t h
-time_fits Glonass t h = let less = is_less (t / 2 ^ 27) 7 (both_first _ _ h) in omega (arith, less)
-time_fits Beidou t h = week_fits t h
-time_fits Qzss t h = week_fits t h
-time_fits Sbas t h = week_fits t h
+time_fits g t h = grind arith
 
 -- ---- headers
 
@@ -142,7 +131,7 @@ sets_consumed c v e =
 
 pub sets_again : (v : MasksValue) (place : ℕ) (rest : List Bool) → AreMasks v → masks_at (cursor place (field_bits (mask_fields v) ++ rest)) ≡ Ok (v, cursor (place + 96 + pair_count v.satellites v.signals) rest)
 unfolding field_bits
-sets_again v place rest h = grind (arith, field_bits-append, append_assoc, fields_again, number_again, sets_chain, few_rest)
+sets_again v place rest h = grind (arith, append_assoc, number_again, sets_chain)
 
 -- ---- the whole message
 
@@ -191,7 +180,7 @@ columns_same ws ns count place rest len below = rw (← len, ← highs_zero (tot
 
 pub msm_consumed : (sw cw : List ℕ) (g : System) (c : Cursor) (v : MsmValue × Cursor) → msm_at sw cw g c ≡ Ok v → IsMsmRead sw cw g v.0 c v.1
 unfolding msm_at
-msm_consumed sw cw g c v e = grind (arith, bind_ok, count_ones, of_read, msm_done, header_consumed, sets_consumed)
+msm_consumed sw cw g c v e = grind (arith, msm_done, header_consumed, sets_consumed)
 
 pub msm_again : (sw cw : List ℕ) (v : MsmValue) (reserved place : ℕ) (rest : List Bool) → IsValue sw cw v → reserved < 128 → (d : Cursor) × (msm_at sw cw v.system (cursor place (msm_tail sw cw v reserved ++ rest)) ≡ Ok (v, d))
 unfolding msm_at

@@ -4,7 +4,7 @@ use Rattle.std.specs.List.{zip}
 use Rattle.rtcm_msg.specs.Names.{Pair}
 
 pub index_below : (i n m k : ℕ) → i < n → k ≡ m → k ≡ n → i < m
-index_below i n m k h e f = omega (arith, h, e, f)
+index_below i n m k h e f = omega arith
 
 pub one_less : {x : Pair} {ps qs : List Pair} (next : ℕ) {cells : ℕ} → ps ≡ x ∷ qs → length ps + next ≡ cells → length qs + (next + 1) ≡ cells
 one_less next split count = let step = ap length split in omega (arith, count, step)

@@ -1,11 +1,8 @@
 -- The message numbers.
-use Rattle.std.proofs.Common.{ℕ, ◌≡◌, ◌+◌, ◌*◌, ◌/◌, ◌%◌, ◌==◌, ◌^◌, ◌<◌, Bool, true, false, List, [], ◌∷◌, Option, Some, None, refl, subst, arith, lit<, if◌then◌else◌}
-use Rattle.std.specs.Prelude.{IfSome, nat_lt}
+use Rattle.std.proofs.Common.{ℕ, ◌≡◌, ◌+◌, ◌*◌, ◌/◌, ◌%◌, ◌==◌, ◌^◌, ◌<◌, Bool, true, false, List, [], ◌∷◌, Option, Some, refl, subst, arith, if◌then◌else◌}
+use Rattle.std.specs.Prelude.{IfSome}
 use Rattle.std.specs.List.{find}
-use Rattle.std.proofs.lemmas.Nat.{div-add-mod'}
 use Rattle.gnss_system.specs.declared.system.System.{System}
-use Rattle.gnss_system.proofs.Checked.{is_less, both_first, both_second}
-use Rattle.gnss_system.proofs.SystemLaws.{each_system, found_same}
 use Rattle.gnss_system.specs.Systems.{systems}
 use Rattle.rtcm_msg.specs.Names.{Kind, kind_of, station_number, message_number, Form}
 use Rattle.rtcm_msg.specs.Numbers.{digit_of, tens_of, form_of_digit, system_of_tens, msm_kind}
@@ -23,33 +20,26 @@ row_is true n m k j e h t = let same : n ≡ m = grind (arith, e) in rw same h
 row_is false n m k j e h t = t
 
 first_passes : {A : Type 0} (p : A → Bool) (x : A) (o : Option A) (b : Bool) → p x ≡ b → IfSome o (λ x. p x ≡ true) → IfSome (if b then Some x else o) (λ x. p x ≡ true)
-first_passes p x o true e h = e
-first_passes p x o false e h = h
+first_passes p x o b h k = grind arith
 
 found_passes : {A : Type 0} (p : A → Bool) (xs : List A) → IfSome (find p xs) (λ x. p x ≡ true)
 found_passes p [] = tt
 found_passes p (x ∷ xs) = first_passes p x (find p xs) (p x) refl (found_passes p xs)
 
 msm_number : (n : ℕ) (f : Option Form) (g : Option System) → IfSome f (λ f. (digit_of f == n % 10) ≡ true) → IfSome g (λ g. (tens_of g == n / 10) ≡ true) → IsNumber (msm_kind f g) n
-msm_number n None g d t = tt
-msm_number n (Some f) None d t = tt
-msm_number n (Some f) (Some g) d t = let parts = div-add-mod' n 10 in grind (arith, d, t, parts)
+msm_number n f g h k = grind arith
 
 pub number_is : (n : ℕ) (k : Kind) → kind_of n ≡ k → IsNumber k n
 number_is n k e = subst (λ (k : Kind). IsNumber k n) e (row_is (n == 1005) n 1005 _ _ refl refl (row_is (n == 1006) n 1006 _ _ refl refl (msm_number n (form_of_digit (n % 10)) (system_of_tens (n / 10)) (found_passes (λ f. digit_of f == n % 10) (forms.Msm4 ∷ forms.Msm5 ∷ forms.Msm6 ∷ forms.Msm7 ∷ [])) (found_passes (λ g. tens_of g == n / 10) systems))))
 
 pub of_station : (has : Bool) → (kind_of (station_number has) ≡ kinds.Station has) × (station_number has < 2 ^ 12)
-of_station true = (refl, lit< tt)
-of_station false = (refl, lit< tt)
+of_station has = grind arith
 
 digit_known : (form : Form) → (form_of_digit (digit_of form) ≡ Some form) × (digit_of form < 10)
-digit_known forms.Msm4 = (refl, lit< tt)
-digit_known forms.Msm5 = (refl, lit< tt)
-digit_known forms.Msm6 = (refl, lit< tt)
-digit_known forms.Msm7 = (refl, lit< tt)
+digit_known form = grind arith
 
 tens_known : (g : System) → (system_of_tens (tens_of g) ≡ Some g) × (100 < tens_of g) × (tens_of g < 400)
-tens_known g = grind (arith, each_system, nat_lt, found_same, is_less, both_first, both_second)
+tens_known g = grind arith
 
 pub of_msm : (form : Form) (g : System) → (kind_of (message_number form g) ≡ kinds.Msm form g) × (message_number form g < 2 ^ 12)
 of_msm form g =

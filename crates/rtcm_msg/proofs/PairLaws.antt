@@ -7,7 +7,7 @@ use Rattle.std.proofs.lemmas.Nat.{leading_top, pow_pos}
 use Rattle.std.proofs.lemmas.Nat.Bits.{and_pow}
 use Rattle.std.proofs.lemmas.Bool.{cases_lt}
 use Rattle.std.proofs.Math.Nat.{div-eq_of_lt}
-use Rattle.rtcm_msg.specs.Names.{uint, odd, Pair, up_from, ids, pair, chosen, MasksValue, AreMasks, pair_count, all_pairs_from, pairs_from, IndicesAreBelow, AreAll}
+use Rattle.rtcm_msg.specs.Names.{uint, Pair, up_from, ids, pair, chosen, MasksValue, AreMasks, pair_count, all_pairs_from, pairs_from, IndicesAreBelow, AreAll}
 use Rattle.rtcm_bits.specs.BitLaws.{uint-low, pow_mono, length-uint}
 use Rattle.rtcm_msg.proofs.CountLaws.{ids_count, pairs_count, cell_pairs_count}
 
@@ -30,7 +30,7 @@ top_of w m some fits few =
 
 -- The number divided by its top bit is 1.
 whole_part : (m w : ℕ) → 2 ^ w ≤ m → m < 2 ^ suc w → m / 2 ^ w ≡ 1
-whole_part m w low high = grind (arith, low, high)
+whole_part m w low high = grind arith
 
 none_part : (m w : ℕ) → m < 2 ^ w → m / 2 ^ w ≡ 0
 none_part m w h = div-eq_of_lt h
@@ -89,8 +89,7 @@ ids_few w m = let few = up_few 1 (uint w m) in omega (arith, few, length-uint w 
 -- ---- pairs
 
 pub all_pairs_from_is : (all : List ℕ) (k : ℕ) (xs : List ℕ) → all_pairs_from all k xs ≡ pairs_from k xs all all
-all_pairs_from_is all k [] = refl
-all_pairs_from_is all k (x ∷ xs) = refl
+all_pairs_from_is all k xs = grind arith
 
 all_pairs_from_none : (k : ℕ) (xs : List ℕ) → all_pairs_from [] k xs ≡ []
 all_pairs_from_none k [] = refl
@@ -140,19 +139,14 @@ all_left s m g sets e f =
 
 -- ---- cells
 
-cell_clear : (n r : ℕ) → n / 2 ^ r % 2 ≢ 1 → odd (n / 2 ^ r) ≡ false
-cell_clear n r h = grind (arith, h)
-
 -- The first pair has a cell, or it has none.
 pub found : (l n : ℕ) (xs ys : List Pair) (x : Pair) → length xs ≡ l → xs ≡ x ∷ ys → n / 2 ^ (l - 1) % 2 ≡ 1 → chosen (uint l n) xs ≡ x ∷ chosen (uint (l - 1) n) ys
 unfolding chosen uint
-found zero n xs ys x count e set = absurd (omega (arith, rw e at count))
-found (suc l) n xs ys x count e set = let down : suc l - 1 ≡ l = omega arith in let bit = rw down at set in rw (e, down, bit) refl
+found l n xs ys x h k m = grind arith
 
 pub passed : (l n : ℕ) (xs ys : List Pair) (x : Pair) → length xs ≡ l → xs ≡ x ∷ ys → n / 2 ^ (l - 1) % 2 ≢ 1 → chosen (uint l n) xs ≡ chosen (uint (l - 1) n) ys
 unfolding chosen uint
-passed zero n xs ys x count e clear = absurd (omega (arith, rw e at count))
-passed (suc l) n xs ys x count e clear = let down : suc l - 1 ≡ l = omega arith in rw (e, down, cell_clear n l (rw down at clear)) refl
+passed l n xs ys x h k m = grind arith
 
 pub over : (l n : ℕ) (whole xs : List Pair) → l ≡ 0 → whole ≡ chosen (uint l n) xs → whole ≡ []
 unfolding chosen uint

@@ -110,7 +110,7 @@ columns_next w ws ps xs c d e = rw e refl
 
 -- The first column was read.
 first_read : (w : ℕ) (ws ps : List ℕ) (bits : List Bool) (n place : ℕ) → length ps ≡ n → (x : (r : List ℕ × Cursor) × (column_at w ps (cursor_at bits place) ≡ Ok r) × ColumnRow w ps bits place r) → columns_at (w ∷ ws) ps (cursor_at bits place) ≡ columns_at ws x.0.0 (cursor_at bits (place + n * w))
-first_read w ws ps bits n place len x = grind (arith, len, columns_next)
+first_read w ws ps bits n place len x = grind (arith, columns_next)
 
 columns_row : (ws ps : List ℕ) (bits : List Bool) {n : ℕ} (place i : ℕ) → length ps ≡ n → place + n * total_width ws ≤ length bits → i < n → get_or (numbers_in (columns_at ws ps (cursor_at bits place))) i 0 ≡ row_at ws n bits place i (get_or ps i 0)
 unfolding columns_at row_at

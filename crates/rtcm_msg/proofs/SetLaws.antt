@@ -2,7 +2,6 @@
 use Rattle.std.proofs.Common.{ℕ, ◌≡◌, arith, ◌&&◌, ◌≤◌, Bool, true, false, List, length, Ok, Err, refl, sym, ap, ◌∙◌, ◌⊎◌, inl, inr, if◌then◌else◌}
 use Rattle.std.proofs.lemmas.Bool.{cases_lt}
 use Rattle.gnss_system.specs.SystemValues.{value_of}
-use Rattle.gnss_system.proofs.SystemLaws.{each_of_two}
 use Rattle.rtcm_msg.specs.Names.{bits_of, Message, MsgFault, MsmValue, Kind, MsmSet, kind_of, kind_with, kind_within, message_by, message_at, message_with, body_by, other_of, IsMessage, Form, message_in, satellite_widths, cell_widths, station_at, msm_at, cursor_at, Short}
 use Rattle.rtcm_msg.specs.Encoding.{number_of}
 use Rattle.rtcm_msg.specs.Numbers.{have_form, whole_set}
@@ -16,18 +15,13 @@ use Rattle.rtcm_msg.specs.declared.number.Kind.TheVariants as kinds
 
 -- A kind stays, or its messages aren't decoded.
 kept : (set : MsmSet) (k : Kind) → (kind_within set k ≡ k) ⊎ (kind_within set k ≡ kinds.Other)
-kept set (kinds.Station h) = inl refl
-kept set (kinds.Msm f g) = by (value_of g set.systems && have_form set.forms f) where
-  by : (b : Bool) → ((if b then kinds.Msm f g else kinds.Other) ≡ kinds.Msm f g) ⊎ ((if b then kinds.Msm f g else kinds.Other) ≡ kinds.Other)
-  by true = inl refl
-  by false = inr refl
-kept set kinds.Other = inl refl
+kept set k = grind arith
 
 pub by_set : (set : MsmSet) (n : ℕ) → (kind_with set n ≡ kind_of n) ⊎ (kind_with set n ≡ kinds.Other)
 by_set set n = kept set (kind_of n)
 
 pub same_kind : (k j : ℕ → Kind) (bits : List Bool) → k (number_of bits) ≡ j (number_of bits) → message_by k bits ≡ message_by j bits
-same_kind k j bits same = grind (arith, cases_lt, message_none, message_there)
+same_kind k j bits same = grind (arith, message_none, message_there)
 
 pub message_known : (set : MsmSet) (bits : List Bool) → kind_with set (number_of bits) ≡ kind_of (number_of bits) → message_by (kind_with set) bits ≡ message_by kind_of bits
 message_known set bits same = same_kind (kind_with set) kind_of bits same
@@ -37,7 +31,7 @@ message_other set bits there other = message_there (kind_with set) bits there �
 
 -- The message, or the one that isn't decoded.
 with_is : (set : MsmSet) (bytes : List ℕ) → (message_with set bytes ≡ message_at bytes) ⊎ (message_with set bytes ≡ Ok (other_of (bits_of bytes)))
-with_is set bytes = grind (arith, by_set, message_known, cases_lt, message_none, message_other)
+with_is set bytes = grind (arith, by_set, message_known, message_none, message_other)
 
 pub refused : (set : MsmSet) (bytes : List ℕ) (e : MsgFault) → message_at bytes ≡ Err e → (message_with set bytes ≡ Err e) ⊎ (message_with set bytes ≡ Ok (other_of (bits_of bytes)))
 refused set bytes e is = elim (with_is set bytes) [ inl same ↦ inl (same ∙ is) | inr other ↦ inr other ]
@@ -48,9 +42,7 @@ value_with set bytes m e = elim (with_is set bytes) [ inl same ↦ (message_foun
 -- ---- the whole set
 
 all_kept : (k : Kind) → kind_within whole_set k ≡ k
-all_kept (kinds.Station h) = refl
-all_kept (kinds.Msm f g) = rw (each_of_two (λ g (b : Bool). b ≡ true) {gps = true} {galileo = true} {other = true} refl refl (λ g. refl) g) refl
-all_kept kinds.Other = refl
+all_kept k = grind arith
 
 pub whole_is : (bytes : List ℕ) → message_with whole_set bytes ≡ message_at bytes
 whole_is bytes = message_known whole_set (bits_of bytes) (all_kept (kind_of (number_of (bits_of bytes))))
@@ -58,10 +50,7 @@ whole_is bytes = message_known whole_set (bits_of bytes) (all_kept (kind_of (num
 -- ---- the messages in a set
 
 in_set : (set : MsmSet) (form : Form) (v : MsmValue) → is_in_set set (message_in form v) ≡ (value_of v.system set.systems && have_form set.forms form)
-in_set set forms.Msm4 v = refl
-in_set set forms.Msm5 v = refl
-in_set set forms.Msm6 v = refl
-in_set set forms.Msm7 v = refl
+in_set set form v = grind arith
 
 -- What a message of this value contains if the MSMs of a set are decoded.
 kind_read : (set : MsmSet) (k : Kind) (bits : List Bool) (m : Message) → body_by k (number_of bits) (cursor_at bits 12) ≡ Ok m → kind_within set k ≡ (if is_in_set set m then k else kinds.Other)

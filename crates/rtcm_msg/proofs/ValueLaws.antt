@@ -9,7 +9,7 @@ use Rattle.rtcm_msg.specs.Names.{uint, Entry, Pair, Pairs, CellsLeft, Form, Mask
 use Rattle.rtcm_msg.specs.declared.view.Form.TheVariants as forms
 use Rattle.rtcm_msg.proofs.NextLaws.{no_more}
 use Rattle.rtcm_msg.proofs.IdLaws.{ids_rising}
-use Rattle.rtcm_msg.proofs.PairLaws.{found, passed, one_less, first_index, top_of, ids_split}
+use Rattle.rtcm_msg.proofs.PairLaws.{found, passed, top_of, ids_split}
 
 -- ---- pairs
 
@@ -31,12 +31,12 @@ cell_none s {n} {l} p q {x} is first count bit =
 -- ---- the cells that are left
 
 pub next_there : (next n : ℕ) (ps qs : List Pair) (x : Pair) → ps ≡ x ∷ qs → length ps + next ≡ n → next < n
-next_there next n ps qs x e h = omega (arith, h, ap length e)
+next_there next n ps qs x e h = omega (arith, ap length e)
 
 -- The cells that are left after the first pair, with the number of cells before them.
 after_pair : {v : FormedMsm} {c : CellsLeft} {q : Pairs} {x : Pair} {n : ℕ} → AreCells v c → pairs_left c.pairs ≡ x ∷ pairs_left q → ArePairs q → length (cell_pairs_left (c.left - 1) v.msm.sets q) + n ≡ length v.msm.cells
     → AreCells v (record { pairs = q; left = c.left - 1; next = n })
-after_pair {v} {c} {q} {x} cells first in_range next = grind (arith, one_less, first_index, count_ones)
+after_pair {v} {c} {q} {x} cells first in_range next = grind arith
 
 pub after_cell : (v : FormedMsm) (c : CellsLeft) (q : Pairs) (x : Pair) → AreCells v c → pairs_left c.pairs ≡ x ∷ pairs_left q → ArePairs q → cell_pairs_left c.left v.msm.sets c.pairs ≡ x ∷ cell_pairs_left (c.left - 1) v.msm.sets q
     → AreCells v (record { pairs = q; left = c.left - 1; next = c.next + 1 })
@@ -65,7 +65,7 @@ none_left v c e = rw e refl
 
 -- The entries of a message, from the pairs that have a cell.
 entries_are : (v : FormedMsm) (ps : List Pair) → ps ≡ cell_pairs v.msm.sets → entries (formed v) ≡ map (entry_in v.form v.msm) (zip ps v.msm.cells)
-entries_are v ps e = grind (arith, zip)
+entries_are v ps e = grind arith
 
 pub few_entries : (v : FormedMsm) (n : ℕ) → n ≡ length v.msm.cells → n ≤ 64 → length (entries (formed v)) ≤ 64
 few_entries v n same few = rw (entries_are v _ refl) (let h = no_more (entry_in v.form v.msm) (cell_pairs v.msm.sets) v.msm.cells in omega (arith, same, few, h))
@@ -89,7 +89,7 @@ entries_first f ps qs x cells next e h = let s : next + 1 ≡ suc next = omega a
 -- ---- counts
 
 pub count_first : (p : Entry → Bool) (e : Entry) (es : List Entry) → length (filter p (e ∷ es)) ≡ cond (p e) 1 0 + length (filter p es)
-count_first p e es = grind (arith, common_steps)
+count_first p e es = grind arith
 
 pub counted : (listed : ℕ) {sig : ℕ} (i : ℕ) (old : List ℕ) {e : Entry} {all left : List Entry} → all ≡ e ∷ left → e.signal ≡ sig → 1 ≤ sig → sig ≤ length old → has_listed_value listed e ≡ true
     → get_or old i 0 + value_count listed (i + 1) all ≡ get_or (set old (sig - 1) (get_or old (sig - 1) 0 + 1)) i 0 + value_count listed (i + 1) left
@@ -121,8 +121,8 @@ chosen_none : (q : Pair → Bool) (bits : List Bool) (xs : List Pair) → list_a
 unfolding chosen
 chosen_none q [] xs h = refl
 chosen_none q (b ∷ bits) [] h = refl
-chosen_none q (true ∷ bits) (x ∷ xs) h = grind (arith, common_steps, chosen_none q bits xs)
-chosen_none q (false ∷ bits) (x ∷ xs) h = grind (arith, common_steps, chosen_none q bits xs)
+chosen_none q (true ∷ bits) (x ∷ xs) h = grind (arith, chosen_none q bits xs)
+chosen_none q (false ∷ bits) (x ∷ xs) h = grind (arith, chosen_none q bits xs)
 
 row_none : (g : ℕ) (x : ℕ × ℕ) (gs : List ℕ) → list_any (is_of g) (map (pair x) gs) ≡ has_id g gs
 row_none g x [] = refl

@@ -159,7 +159,7 @@ cells_counted form n m (datas.Packed s c) h = h.there.1
 
 -- The index is less than the number of rows.
 pub below : (i n : ℕ) (xs ys : List ℕ) → length xs ≡ n → xs ≡ ys → i < length ys → i < n
-below i n xs ys count same h = omega (arith, count, ap length same, h)
+below i n xs ys count same h = omega (arith, ap length same)
 
 pub fits : (x y : ℕ) (vs ws : List ℕ) → x ≡ y → vs ≡ ws → x < 2 ^ total_width ws → y < 2 ^ total_width vs
 fits x y vs ws e f h = rw (f, ← e) h

@@ -13,7 +13,7 @@ field_bits-append (f ∷ fs) gs = rw (field_bits-append fs gs, append_assoc (uin
 
 pub fields_next : (fs : List (ℕ × ℕ)) (i : ℕ) (old new whole : List Bool) → i < length fs → new ≡ old ++ uint (get_or fs i (0, 0)).0 (get_or fs i (0, 0)).1 → old ++ field_bits (drop i fs) ≡ whole → new ++ field_bits (drop (i + 1) fs) ≡ whole
 unfolding field_bits
-fields_next fs i old new whole h put inv = grind (arith, drop-cons, inv, add-one, append_assoc, old)
+fields_next fs i old new whole h put inv = grind (arith, drop-cons, append_assoc)
 
 pub width_next : (fs : List (ℕ × ℕ)) (i : ℕ) → i < length fs → fields_width (drop i fs) ≡ (get_or fs i (0, 0)).0 + fields_width (drop (i + 1) fs)
 width_next fs i h = rw (add-one i, drop-cons fs i (0, 0) h) refl
@@ -23,7 +23,7 @@ pub column_put : (old new : List Bool) (w s n : ℕ) → w ≤ 64 → s < 128 �
 column_put old new w s n few h put = rw (one_shl s 128 h, one_shl w 128 (omega arith), sym (uint-low w (n / 2 ^ s / 2 ^ w) (n / 2 ^ s % 2 ^ w)) ∙ ap (uint w) (div-add-mod' (n / 2 ^ s) (2 ^ w))) at put
 
 pub column_next : (f : ℕ → List Bool) (ns : List ℕ) (i : ℕ) (old : List Bool) {new whole : List Bool} → i < length ns → new ≡ old ++ f (get_or ns i 0) → old ++ flat_map f (drop i ns) ≡ whole → new ++ flat_map f (drop (i + 1) ns) ≡ whole
-column_next f ns i old h put inv = grind (arith, drop-cons, inv, add-one, append_assoc, old)
+column_next f ns i old h put inv = grind (arith, drop-cons, append_assoc)
 
 pub columns_next : (ws ns : List ℕ) (i : ℕ) (old : List Bool) {new whole : List Bool} → i < length ws → new ≡ old ++ flat_map (λ p. uint (get_or ws i 0) (p / 2 ^ total_width (drop (i + 1) ws))) ns → old ++ columns (drop i ws) ns ≡ whole → new ++ columns (drop (i + 1) ws) ns ≡ whole
 unfolding columns
