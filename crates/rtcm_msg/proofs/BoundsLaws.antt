@@ -1,14 +1,13 @@
 -- Bounds of the values of a cell.
-use Rattle.std.proofs.Common.{ℕ, ℤ, pos, ◌^◌, ◌<◌, ◌≤◌, ◌+ℤ◌, ◌*ℤ◌, Bool, true, false, List, [], ◌∷◌, map, Option, Some, None, unsigned_abs, arith}
-use Rattle.std.specs.Prelude.{if◌then◌else◌, IfSome}
-use Rattle.std.specs.Ordering.{int_eq}
+use Rattle.std.proofs.Common.{ℕ, ℤ, pos, ◌^◌, ◌<◌, ◌≤◌, ◌+ℤ◌, ◌*ℤ◌, Bool, List, [], ◌∷◌, map, Option, unsigned_abs, arith}
+use Rattle.std.specs.Prelude.{IfSome}
 use Rattle.std.specs.List.{AllByRecursion}
 use Rattle.std.proofs.lemmas.Int.{ints}
 use Rattle.rtcm_msg.specs.Names.{FitsInt, Message, Station, Msm4, Msm5, Msm6, Msm7, Other, Pair, Form, scaled, range_joined, invalid_rough_rate, invalid_fine_rate, rate_joined, strength_of, MsmValue, entry_in, entries, IsMeasured}
 use Rattle.rtcm_msg.specs.declared.view.Form.TheVariants as forms
 use Rattle.rtcm_msg.specs.declared.data.Satellite.{Satellite}
 use Rattle.rtcm_msg.specs.declared.data.Cell.{Cell}
-use Rattle.rtcm_msg.specs.Forms.{is_fine, has_rates, precision, least, entry, IsSatelliteData, IsCellData, FitsIf}
+use Rattle.rtcm_msg.specs.Forms.{precision, least, entry, IsSatelliteData, IsCellData, FitsIf}
 use Rattle.rtcm_msg.specs.FormLaws.{satellite_in_range, cell_in_range}
 
 abbrev Small : ℤ → Type 0
@@ -26,11 +25,7 @@ pub rate_small : (rough fine : ℤ) → unsigned_abs rough ≤ 2 ^ 13 → unsign
 rate_small rough fine r f = omega (arith, ints)
 
 rate_within : (rough fine : ℤ) → unsigned_abs rough ≤ 2 ^ 13 → unsigned_abs fine ≤ 2 ^ 14 → IfSome (rate_joined rough fine) (λ v. unsigned_abs v ≤ 10 ^ 8)
-rate_within rough fine r f = by (int_eq rough invalid_rough_rate) (int_eq fine invalid_fine_rate) where
-  by : (a b : Bool) → IfSome (if a then None else (if b then None else Some ((rough *ℤ pos 10000) +ℤ fine))) (λ v. unsigned_abs v ≤ 10 ^ 8)
-  by true b = tt
-  by false true = tt
-  by false false = rate_small rough fine r f
+rate_within rough fine r f = grind arith
 
 -- ---- cells
 
@@ -50,12 +45,7 @@ pub fine_rate_small : (there : Bool) (z : ℤ) → FitsIf there 15 invalid_fine_
 fine_rate_small there z h = grind arith
 
 measured : (f : Form) (x : Pair) (s : Satellite) (c : Cell) → IsSatelliteData f s → IsCellData f c → IsMeasured (entry f x s c)
-measured f x s c a b = record {
-  range = joined_within s.whole s.fraction _ a.whole a.fraction (range_small (is_fine f) c.range b.range);
-  phase = joined_within s.whole s.fraction _ a.whole a.fraction (phase_small (is_fine f) c.phase b.phase);
-  rate = rate_within s.rate c.rate (rough_rate_small (has_rates f) s.rate a.rate) (fine_rate_small (has_rates f) c.rate b.rate);
-  strength = strength_small (is_fine f) c.strength b.strength;
-}
+measured f x s c a b = grind (arith, joined_within, range_small, phase_small, rate_within, rough_rate_small, fine_rate_small, strength_small)
 
 each : (f : Form) (v : MsmValue) (xs : List (Pair × ℕ)) → AllByRecursion IsMeasured (map (entry_in f v) xs)
 each f v [] = tt

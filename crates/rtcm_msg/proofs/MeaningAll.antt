@@ -54,14 +54,7 @@ more m n h = omega arith
 -- Pairs after the first one are among the others.
 others_in : (high : ℕ) (x : ℕ × ℕ) (xs ys : List (ℕ × ℕ)) → Rising (pair_number x + 1) high (map pair_number ys) → Each (λ y. IsIn y (x ∷ xs)) ys → Each (λ y. IsIn y xs) ys
 others_in high x xs [] r h = tt
-others_in high x xs (y ∷ ys) r h = (first y r.0 h.0, others_in high x xs ys (weaken (pair_number x + 1) (pair_number y + 1) high (map pair_number ys) (more (pair_number x) (pair_number y) r.0) r.2) h.1)
-  where
-    first : (y : ℕ × ℕ) → pair_number x + 1 ≤ pair_number y → IsIn y (x ∷ xs) → IsIn y xs
-    first y up (inl e) = absurd (same (pair_number x) (pair_number y) up (ap pair_number e))
-      where
-        same : (m n : ℕ) → m + 1 ≤ n → n ≡ m → ⊥
-        same m n h e = omega arith
-    first y up (inr i) = i
+others_in high x xs (y ∷ ys) r h = grind (arith, (others_in high x xs ys (weaken (pair_number x + 1) (pair_number y + 1) high (map pair_number ys) (more (pair_number x) (pair_number y) r.0) r.2) h.1))
 
 over : (m n : ℕ) → m + 1 ≤ n → m < n
 over m n h = omega arith

@@ -1,7 +1,7 @@
 -- Reading a message: the bits that were read, reading an encoding, and the fault.
 use Rattle.std.proofs.Common.{ℕ, ◌≡◌, ◌+◌, ◌==◌, ◌^◌, ◌<◌, ◌≤◌, ◌&&◌, Bool, true, false, List, [], ◌∷◌, ◌++◌, length, drop, Result, Ok, Err, Option, Some, None, refl, sym, ap, subst, ◌∙◌, arith, not, ◌⊎◌, inl, inr, append_assoc, nat_lt, nat_le, if◌then◌else◌, is_some, IsTrue}
 use Rattle.std.proofs.lemmas.Bool.{cases_lt, and_left, and_right, lt-leb, le-leb, lt-ltb, le-ltb}
-use Rattle.std.proofs.lemmas.List.{length-drop, drop-drop}
+use Rattle.std.proofs.lemmas.List.{length-drop}
 use Rattle.gnss_system.specs.declared.system.System.{System}
 use Rattle.rtcm_msg.specs.Names.{bits_of, message_at, uint, filled, Cursor, MsgFault, BadTime, TooManyCells, Short, StationParts, Message, ◌>>=◌, field_bits, first_past, total_width, columns, station_at, station_table, station_parts, msm_at, msm_bits, MsmValue, IsValue, is_time, mask_fields, message_by, start, other_at, other_of, set_at, body_by, Kind, kind_of, is_msm_kind, station_number, ReadsMessage, IsMessage, IsFault, message_bits, reserved_width, is_other, is_read_msm, layout, layout_by, has_bad_time, has_too_many, is_bad_time, Form, satellite_widths, cell_widths, message_number, message_in}
 use Rattle.rtcm_msg.specs.Encoding.{number_of}
@@ -29,16 +29,7 @@ message_none kind bits h = rw (number_short 12 (start bits) h) refl
 -- ---- other messages
 
 pub other_set : (bits : List Bool) → 12 ≤ length bits → set_at (cursor_at bits 12) ≡ (if nat_le 55 (length bits) then Some (field_at bits 12 12, field_at bits 54 1 == 1) else None)
-other_set bits h = elim (cases_lt (length bits) 55) [ inl few ↦ none bits few | inr lots ↦ some bits lots ]
-  where
-    none : (bits : List Bool) → length bits < 55 → set_at (cursor_at bits 12) ≡ (if nat_le 55 (length bits) then Some (field_at bits 12 12, field_at bits 54 1 == 1) else None)
-    none bits few = let less : length (drop 12 bits) < 43 = omega (arith, length-drop 12 bits) in rw (lt-ltb (length (drop 12 bits)) 43 less, lt-leb 55 (length bits) few) refl
-
-    some : (bits : List Bool) → 55 ≤ length bits → set_at (cursor_at bits 12) ≡ (if nat_le 55 (length bits) then Some (field_at bits 12 12, field_at bits 54 1 == 1) else None)
-    some bits lots =
-        let more : 43 ≤ length (drop 12 bits) = omega (arith, length-drop 12 bits) in
-        let one : drop 30 (drop 12 (drop 12 bits)) ≡ drop 54 bits = ap (drop 30) (drop-drop 12 12 bits) ∙ drop-drop 30 24 bits in
-        rw (one, le-ltb (length (drop 12 bits)) 43 more, le-leb 55 (length bits) lots) refl
+other_set bits h = grind arith
 
 pub other_is : (bits : List Bool) → 12 ≤ length bits → other_at (number_of bits) (cursor_at bits 12) ≡ other_of bits
 other_is bits h = rw (other_set bits h) refl
