@@ -22,14 +22,14 @@ pub use Rattle.clap.specs.declared.parser.matches.ArgMatches.TheViews.{out-SubCo
 pub use Rattle.clap.specs.declared.parser.matches.Found.{Found}
 pub use Rattle.clap.specs.declared.parser.matches.SubCommand.{SubCommand}
 pub use Rattle.gnss_obs.specs.GatheredEpochs.{AreStationValues}
-pub use Rattle.gnss_obs.specs.Channels.{AreChannels, ChannelsValue}
+pub use Rattle.gnss_obs.specs.Channels.{ChannelsValue}
 pub use Rattle.gnss_obs.specs.Values.{no_values}
 pub use Rattle.gnss_obs.specs.declared.cell.StationValues.{StationValues}
 pub use Rattle.rtcm2rinex.specs.Asked.{EndsCheck, EndsCheckAsked, EndsOptionsAsked, RefusesDate, RefusesGaps, StopsCheckAsked, StopsOptionsAsked}
 pub use Rattle.rtcm2rinex.specs.CommandLine.{FailsParsing, IsCommand, IsFoundIn, IsProgram, Makes, RefusesWords, SelectsCommand, command_set, more_of, option_set, program, start_of, with_commands, with_options}
 pub use Rattle.rtcm2rinex.specs.Commands.{AreRefused, AreRefusedBy, EndsCommand, EndsFound, HasCommand, HasCompleted, HasDone, HasPrinted, HasStopped, HasStoppedEarly, HasStoppedPrinting, StopsPrinting, fault_status, status_of}
 pub use Rattle.rtcm2rinex.specs.Converting.{EndsConversion, EndsConverting, StopsConversion, StopsConverting}
-pub use Rattle.rtcm_inspect.specs.ChannelTexts.{channels_of, channels_text}
+pub use Rattle.rtcm_inspect.specs.ChannelTexts.{channels_of}
 pub use Rattle.rtcm_inspect.specs.Dates.{IsHourOf, IsWeekOf}
 pub use Rattle.rtcm2rinex.specs.Devices.{Ends, HaveFailedBy, IsInspected, of_inspection}
 unfoldable pub use Rattle.rtcm2rinex.specs.ErrorLines.{error_line}

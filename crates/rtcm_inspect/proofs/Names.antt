@@ -1,6 +1,6 @@
 -- The names that proofs cite, passed on from one place. Declares nothing.
 pub use Rattle.gnss_obs.specs.GatheredEpochs.{coordinate_bound}
-pub use Rattle.gnss_obs.specs.Dates.{IsCivilOf, civil_of}
+pub use Rattle.gnss_obs.specs.Dates.{IsCivilOf}
 pub use Rattle.gnss_obs.specs.HeardCells.{HeardCell, IsKey}
 pub use Rattle.gnss_obs.specs.Plans.{below, between_commas, one_signal_more, onto_first, place_in, plan_of, signals_after, signals_of}
 pub use Rattle.gnss_system.specs.Satellites.{IsSatellite, Satellite, satellite_of_id, satellites}
@@ -18,10 +18,9 @@ pub use Rattle.obs_epoch.specs.Heard.{GatherSetup, Heard, heard, heard_by, heard
 pub use Rattle.obs_epoch.specs.SignalCounts.{AreSignalCounts, CountsMessage, SignalCountsValue, brings_value, count_of, counted, every_channel, has_any, is_of_signal, is_of_station, signal_counts, signal_in, valued}
 pub use Rattle.obs_epoch.specs.Sets.{set_of}
 pub use Rattle.obs_epoch.specs.Times.{Timed, ahead, greatest_time, is_closed, is_past, max_known, taken_at, timed_after}
-pub use Rattle.rinex_file.specs.Accepted.{AreFirstEpochs}
 pub use Rattle.rinex_file.specs.Blocks.{LeavesRest}
-pub use Rattle.rinex_file.specs.Counting.{AreCounts, IsSummary, IsTextWith}
-pub use Rattle.rinex_file.specs.Exact.{IfTextOfFile, IsNoFault, most_lines}
+pub use Rattle.rinex_file.specs.Counting.{AreCounts, IsSummary}
+pub use Rattle.rinex_file.specs.Exact.{IsNoFault, most_lines}
 pub use Rattle.rinex_file.specs.File.{file_lines, file_text}
 pub use Rattle.rinex_file.specs.FileValues.{IsFileValue, time_stamped}
 pub use Rattle.rinex_file.specs.ParserState.{rows_in}
@@ -35,7 +34,7 @@ pub use Rattle.rinex_file.specs.declared.read.file.FileSummary.{FileSummary}
 unfoldable pub use Rattle.rtcm_bits.specs.Bits.{bits_of}
 pub use Rattle.rtcm_bits.specs.Bits.{FitsInt, bit, filled, missing, number, uint}
 pub use Rattle.rtcm_bits.specs.Cursors.{Cursor}
-pub use Rattle.rtcm_bits.specs.Device.{AppendsPrefix, Device, FailsWith, HasFailed}
+pub use Rattle.rtcm_bits.specs.Device.{AppendsPrefix, Device, HasFailed}
 pub use Rattle.rtcm_bits.specs.FrameOf.{frame_bytes, longest_message, longest_message_bits}
 pub use Rattle.rtcm_bits.specs.Prefix.{IsPrefix}
 pub use Rattle.rtcm_bits.specs.declared.counted.DeviceFailed.{DeviceFailed}
@@ -48,7 +47,7 @@ pub use Rattle.rtcm_inspect.specs.Devices.{Ends, EndsDelivery, HaveFailedBy, IsD
 pub use Rattle.rtcm_inspect.specs.FirstMessages.{AreFirst, first_station, mixed_of, point_of, sender, stations_in, stations_of, with_other}
 pub use Rattle.rtcm_inspect.specs.FirstTows.{AreTows, first_in, first_tow, tow_of}
 unfoldable pub use Rattle.rtcm_inspect.specs.Fitting.{options_line}
-pub use Rattle.rtcm_inspect.specs.Fitting.{antenna_words, channel_words, forms_words, further_words, height_text, number_start, number_words, options_text, position_text, position_word, station_words}
+pub use Rattle.rtcm_inspect.specs.Fitting.{antenna_words, forms_words, further_words, height_text, number_start, number_words, options_text, position_text, position_word, station_words}
 unfoldable pub use Rattle.rtcm_inspect.specs.FrameLines.{frame_line, number_word}
 unfoldable pub use Rattle.rtcm_inspect.specs.Gaps.{complete_line, gap_line}
 pub use Rattle.rtcm_inspect.specs.Gaps.{AreGapsOf, ReadsGaps, StopsGaps, gap_between, gaps_after, gaps_of, times_if}
@@ -58,7 +57,7 @@ pub use Rattle.rtcm_inspect.specs.Listing.{EndsListing, Lists, ListsAll, ListsDe
 pub use Rattle.rtcm_inspect.specs.Metres.{four_digits, metres, size_text}
 pub use Rattle.rtcm_inspect.specs.NearWeek.{IsNearestWeek, IsWeekFor, IsWeekNear, half_week}
 pub use Rattle.rtcm_inspect.specs.OptionOutput.{AreOptionsOf, EndsOptions}
-pub use Rattle.rtcm_inspect.specs.Printing.{EndsPrinting, PrintsLine, PrintsPart, PrintsText}
+pub use Rattle.rtcm_inspect.specs.Printing.{EndsPrinting, PrintsLine, PrintsText}
 pub use Rattle.rtcm_inspect.specs.ReadBack.{AreEncoded, AreKnown, AreReadAs, ReadsBack}
 unfoldable pub use Rattle.rtcm_inspect.specs.ShowLines.{fault_line, msm_line, show_line, station_line}
 pub use Rattle.rtcm_inspect.specs.ShowLines.{fault_words, height_words, read_for, read_line}
@@ -72,7 +71,7 @@ pub use Rattle.rtcm_inspect.specs.declared.counting.StreamSignals.{StreamSignals
 pub use Rattle.rtcm_inspect.specs.declared.fault.InspectFault.{InspectFault}
 pub use Rattle.rtcm_inspect.specs.declared.first_messages.FirstMessages.{FirstMessages}
 pub use Rattle.rtcm_inspect.specs.declared.first_messages.Stations.{Stations}
-pub use Rattle.rtcm_inspect.specs.declared.first_messages.Stations.TheVariants.{One, Several, Unknown}
+pub use Rattle.rtcm_inspect.specs.declared.first_messages.Stations.TheVariants.{One, Several}
 pub use Rattle.rtcm_inspect.specs.declared.listing.Listing.{Listing}
 pub use Rattle.rtcm_msg.specs.Channels.{channel_of_1020, sent_channels}
 pub use Rattle.rtcm_msg.specs.Decoding.{message_at, message_with}
@@ -121,7 +120,7 @@ pub use Rattle.std.specs.Option.{option_map, option_map_or, option_or}
 pub use Rattle.std.specs.Prelude.{MatchOption, codes, cond, filter_map, if◌then◌else◌, nat_le, nat_lt, option_and_then, option_to_list, position, unwrap_or, ⊤, ◌↔◌, ◌≢◌}
 pub use Rattle.std.specs.Result.{IsErrAnd, result_ok}
 pub use Rattle.std.specs.Str.{bytes_eq}
-pub use Rattle.std.proofs.Common.{All, Bool, Err, FitsSigned, IfSome, List, None, Ok, OnErr, OnOk, Option, Result, Some, [], ap, append-nil, append_assoc, ap₂, arith, count_ones, decimal, drop, false, filter, find, get_or, inl, inr, is_some, length, length-append, length-drop, length-take, lit≤, map, nat_eq, negsuc, not, of_z, pos, refl, replicate, rules, subst, suc, sym, take, take-append-drop, to_z, true, w64, zero, ℕ, ℤ, ◌&&◌, ◌%◌, ◌*◌, ◌++◌, ◌+◌, ◌-◌, ◌/◌, ◌<◌, ◌==◌, ◌^◌, ◌||◌, ◌∙◌, ◌∷◌, ◌≡◌, ◌≤◌}
+pub use Rattle.std.proofs.Common.{All, Bool, Err, FitsSigned, IfSome, List, None, Ok, OnErr, OnOk, Option, Result, Some, [], ap, append-nil, append_assoc, ap₂, arith, count_ones, decimal, drop, false, filter, find, get_or, inl, inr, is_some, length, length-append, length-drop, length-take, map, nat_eq, negsuc, not, of_z, pos, refl, replicate, rules, subst, suc, sym, take, take-append-drop, to_z, true, w64, zero, ℕ, ℤ, ◌&&◌, ◌%◌, ◌*◌, ◌++◌, ◌+◌, ◌-◌, ◌/◌, ◌<◌, ◌==◌, ◌^◌, ◌||◌, ◌∙◌, ◌∷◌, ◌≡◌, ◌≤◌}
 pub use Rattle.gnss_obs.specs.declared.civil.Civil.{Civil}
 pub use Rattle.rinex_file.specs.Read.Fields.{digits_from, digits_in, next_digit}
 pub use Rattle.rtcm_inspect.specs.Dates.{IsHourOf, IsWeekNumber, IsWeekOf, civil_in}

@@ -2,7 +2,7 @@ use Rattle.gnss_obs.specs.SignalLists.{IsDefined}
 use Rattle.gnss_obs.specs.declared.fault.PlanFault.{PlanFault}
 use Rattle.rinex_file.specs.Texts.{trimmed_texts}
 use Rattle.rtcm2rinex.proofs.OptionLemmas.{number_given}
-use Rattle.rtcm2rinex.proofs.Names.{◌≡◌, ◌∙◌, ℕ, List, Result, Ok, Err, IfOk, MatchResult, IsErrAnd, ap, codes, rules, subst, not, bytes_eq, HasUnsignedDigitsIfOk, ExplainsUnsignedError, found_of}
+use Rattle.rtcm2rinex.proofs.Names.{◌≡◌, ◌∙◌, ℕ, List, Result, Ok, Err, IfOk, MatchResult, IsErrAnd, ap, codes, subst, not, bytes_eq, HasUnsignedDigitsIfOk, ExplainsUnsignedError, found_of}
 use Rattle.rtcm2rinex.proofs.options.setup_of.Goals as goal
 
 -- a value whose fault was wrapped

@@ -4,7 +4,7 @@ use Rattle.std.specs.Prelude.{take, nat_le}
 use Rattle.std.specs.List.{sum_by}
 use Rattle.std.proofs.lemmas.List.{take_all}
 use Rattle.std.proofs.lemmas.List.Sums.{sum_by-append}
-use Rattle.gnss_system.specs.Systems.{systems, index_of, before}
+use Rattle.gnss_system.specs.Systems.{systems, before}
 use Rattle.gnss_system.proofs.SystemLaws.{each_system, systems_taken}
 use Rattle.rtcm_inspect.proofs.signals.add_systems.Goals as goal
 
