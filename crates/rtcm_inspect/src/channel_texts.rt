@@ -2,7 +2,8 @@
 ghost use Rattle.std.specs.Prelude.{◌≡◌, ◌+◌, ◌*◌, ◌≤◌, IfSome, length};
 ghost use Rattle.gnss_obs.specs.Channels.{most_number, slot_count};
 ghost use Rattle.rtcm_inspect.specs.ChannelTexts.{after_comma, channel_of, channels_of, channels_text};
-ghost use Rattle.rtcm_inspect.specs.ChannelTexts.{slot_channel_of, slot_of, slot_text, with_entry};
+ghost use Rattle.rtcm_inspect.specs.ChannelTexts.{slot_channel_of, slot_of, slot_text, with_entry, within};
+ghost use Rattle.rtcm_inspect.specs.Lengths.{number_of};
 
 use crate::line::OutputLine;
 use crate::option_texts::{cut, number_of};
@@ -45,10 +46,7 @@ fn slot_channel_of(text: &str) -> Option<(u8, u8)>
     ensures bounds { IfSome result (λ p. (1 ≤ p.0) × (p.0 ≤ slot_count) × (p.1 ≤ most_number)) }
 {
     let (slot, channel) = cut(text, ':')?;
-    match (slot_of(slot), channel_of(channel)) {
-        (Some(slot), Some(number)) => Some((slot, number)),
-        _ => None,
-    }
+    Some((slot_of(slot)?, channel_of(channel)?))
 }
 
 /// Parses a slot from 1 to 27 without a leading zero.
@@ -59,10 +57,7 @@ fn slot_of(text: &str) -> Option<u8>
     if text.starts_with('0') {
         return None;
     }
-    match number_of(text, 2) {
-        Some(slot) if 1 <= slot && slot <= GREATEST_SLOT as u64 => Some(slot as u8),
-        _ => None,
-    }
+    within(text, 2, 1, GREATEST_SLOT)
 }
 
 /// Parses a channel from -7 to 6, and returns its number: the channel plus 7.
@@ -71,14 +66,20 @@ fn channel_of(text: &str) -> Option<u8>
     ensures bound { IfSome result (λ n. n ≤ most_number) }
 {
     match text.strip_prefix('-') {
-        Some(size) => match number_of(size, 1) {
-            Some(size) if 1 <= size && size <= 7 => Some(7 - size as u8),
-            _ => None,
-        },
-        None => match number_of(text, 1) {
-            Some(size) if size <= 6 => Some(7 + size as u8),
-            _ => None,
-        },
+        Some(size) => Some(7 - within(size, 1, 1, 7)?),
+        None => Some(7 + within(text, 1, 0, 6)?),
+    }
+}
+
+/// Parses a number of at most this number of digits, within these bounds.
+fn within(text: &str, digits: usize, least: u8, most: u8) -> Option<u8>
+    requires { digits ≤ 2 }
+    ensures value { result ≡ within least most (number_of digits text.now) }
+    ensures bounds { IfSome result (λ n. (least ≤ n) × (n ≤ most)) }
+{
+    match number_of(text, digits)? {
+        n if u64::from(least) <= n && n <= u64::from(most) => Some(n as u8),
+        _ => None,
     }
 }
 
@@ -109,11 +110,6 @@ fn add_slot(line: &mut OutputLine, slot: u8, number: u8)
         line.put(b",");
     }
     line.put_number(u64::from(slot));
-    if number < 7 {
-        line.put(b":-");
-        line.put_number(u64::from(7 - number));
-    } else {
-        line.put(b":");
-        line.put_number(u64::from(number - 7));
-    }
+    line.put(if number < 7 { b":-" } else { b":" });
+    line.put_number(u64::from(number.abs_diff(7)));
 }

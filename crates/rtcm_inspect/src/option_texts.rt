@@ -13,10 +13,7 @@ pub fn week_of(text: &str) -> Option<u32>
 {
     match week_number(text) {
         Some(week) => Some(week),
-        None => match hour_of(text, 0) {
-            Some(midnight) => Some((midnight.milliseconds() / WEEK) as u32),
-            None => None,
-        },
+        None => Some((hour_of(text, 0)?.milliseconds() / WEEK) as u32),
     }
 }
 
@@ -35,12 +32,10 @@ fn week_number(text: &str) -> Option<u32>
 pub fn hour_of(text: &str, hour: u8) -> Option<GpsTime>
     ensures { MatchOption result ((t : ℕ) → ¬ IsHourOf hour text.now t) (IsHourOf hour text.now) }
 {
-    match civil_in(text, hour) {
-        // The inner match gives the proof the range of the time.
-        Some(civil) => match GpsTime::from_civil(&civil) {
-            Some(time) => Some(time),
-            None => None,
-        },
+    let civil = civil_in(text, hour)?;
+    // The match gives the proof the range of the time.
+    match GpsTime::from_civil(&civil) {
+        Some(time) => Some(time),
         None => None,
     }
 }
@@ -51,21 +46,14 @@ fn civil_in(text: &str, hour: u8) -> Option<Civil>
 {
     let (year, rest) = cut(text, '-')?;
     let (month, day) = cut(rest, '-')?;
-    match (
-        fixed_number(year, 4),
-        fixed_number(month, 2),
-        fixed_number(day, 2),
-    ) {
-        (Some(year), Some(month), Some(day)) => Some(Civil {
-            year: year as u16,
-            month: month as u8,
-            day: day as u8,
-            hour,
-            minute: 0,
-            millisecond: 0,
-        }),
-        _ => None,
-    }
+    Some(Civil {
+        year: fixed_number(year, 4)? as u16,
+        month: fixed_number(month, 2)? as u8,
+        day: fixed_number(day, 2)? as u8,
+        hour,
+        minute: 0,
+        millisecond: 0,
+    })
 }
 
 /// Parses a number of exactly `width` digits.
@@ -90,10 +78,7 @@ pub fn position_of(text: &str) -> Option<(i64, i64, i64)>
 {
     let (x, rest) = cut(text, ',')?;
     let (y, z) = cut(rest, ',')?;
-    match (coordinate_of(x), coordinate_of(y), coordinate_of(z)) {
-        (Some(x), Some(y), Some(z)) => Some((x, y, z)),
-        _ => None,
-    }
+    Some((coordinate_of(x)?, coordinate_of(y)?, coordinate_of(z)?))
 }
 
 /// Parses a length that fits 38 bits, with or without a minus sign, in units of 0.0001 m.
@@ -137,10 +122,9 @@ fn fixed_point(text: &str, most: usize) -> Option<u64>
 {
     let unit = 10u64.pow(most as u32);
     match cut(text, '.') {
-        Some((whole, decimals)) => match (number_of(whole, 8), decimals_of(decimals, most)) {
-            (Some(whole), Some(decimals)) => Some(whole * unit + decimals),
-            _ => None,
-        },
+        Some((whole, decimals)) => {
+            Some(number_of(whole, 8)? * unit + decimals_of(decimals, most)?)
+        }
         None => Some(number_of(text, 8)? * unit),
     }
 }
