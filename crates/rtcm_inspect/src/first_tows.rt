@@ -91,9 +91,8 @@ impl FirstTows {
         let place = self.messages;
         self.messages = self.messages.saturating_add(1);
         if let Some((system, form, tow)) = tow_of(wanted, view) {
-            self.tows
-                .of_mut(system)
-                .add(form, PlacedTow { place, system, tow });
+            let tow = PlacedTow { place, system, tow };
+            self.tows.of_mut(system).add(form, tow);
         }
     }
 
@@ -107,7 +106,8 @@ impl FirstTows {
             i -= 1;
             first = earlier(self.entry(set, System::at(i)), first);
         }
-        tow_at(first, leap)
+        let first = first?;
+        Some(later_by(first.system, leap, first.tow))
     }
 
     /// Returns the first MSM of a system, if it is in a set.
@@ -136,26 +136,13 @@ fn tow_of(wanted: Option<u16>, view: &View<'_>) -> Option<(System, Form, u32)>
             let header = message.header();
             if wanted.unwrap_or(header.station) == header.station {
                 let system = message.system();
-                Some((
-                    system,
-                    message.form(),
-                    obs_epoch::tow_of(system, 0, header.time),
-                ))
+                let tow = obs_epoch::tow_of(system, 0, header.time);
+                Some((system, message.form(), tow))
             } else {
                 None
             }
         }
         _ => None,
-    }
-}
-
-/// Returns the time of week of an MSM with these leap seconds.
-fn tow_at(placed: Option<PlacedTow>, leap: u8) -> Option<u32>
-    ensures { result ≡ option_map (placed_by leap) placed }
-{
-    match placed {
-        Some(placed) => Some(later_by(placed.system, leap, placed.tow)),
-        None => None,
     }
 }
 

@@ -138,12 +138,8 @@ impl OutputLine {
         requires { length self.old + 4 ≤ longest_line }
         ensures { self.new ≡ self.old ++ separator ∷ three_digits number }
     {
-        self.put(&[
-            separator,
-            digit(number / 100),
-            digit(number / 10),
-            digit(number),
-        ]);
+        self.add_two(separator, number / 10);
+        self.put(&[digit(number)]);
     }
 
     /// Appends a separator and the last four digits of a number.
@@ -151,13 +147,8 @@ impl OutputLine {
         requires { length self.old + 5 ≤ longest_line }
         ensures { self.new ≡ self.old ++ separator ∷ four_digits number }
     {
-        self.put(&[
-            separator,
-            digit(number / 1_000),
-            digit(number / 100),
-            digit(number / 10),
-            digit(number),
-        ]);
+        self.add_two(separator, number / 100);
+        self.put(&[digit(number / 10), digit(number)]);
     }
 
     /// Appends the line feed.

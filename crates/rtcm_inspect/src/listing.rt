@@ -68,9 +68,8 @@ fn add_line(line: &mut OutputLine, listing: Listing, frame: &Frame)
 {
     match listing {
         Listing::Frames => add_frame(line, frame),
-        Listing::Messages | Listing::AllMessages => {
-            add_message(line, matches!(listing, Listing::AllMessages), frame);
-        }
+        Listing::Messages => add_message(line, false, frame),
+        Listing::AllMessages => add_message(line, true, frame),
     }
 }
 

@@ -3,7 +3,6 @@ ghost use Rattle.std.specs.Prelude.{◌≡◌, ◌+◌, ◌*◌, ◌<◌, ◌≤
 ghost use Rattle.std.specs.Prelude.{IfSome, Some, length};
 ghost use Rattle.gnss_obs.specs.Channels.{slot_count};
 ghost use Rattle.gnss_obs.specs.HeardCells.{HeardCell};
-ghost use Rattle.gnss_obs.specs.Weeks.{week, weeks};
 ghost use Rattle.gnss_system.specs.declared.system.System.TheVariants.{Gps, Galileo};
 ghost use Rattle.gnss_system.specs.Systems.{systems};
 ghost use Rattle.rtcm_msg.specs.Station.{InRange};
@@ -16,7 +15,7 @@ ghost use Rattle.rtcm_inspect.specs.Fitting.{is_other, number_start, number_word
 ghost use Rattle.rtcm_inspect.specs.Fitting.{other_words, station_words};
 ghost use Rattle.rtcm_inspect.specs.Lines.{longest_line, longest_name, longest_option, longest_options};
 ghost use Rattle.rtcm_inspect.specs.Lines.{longest_codes, longest_number, longest_plan, with_words};
-ghost use Rattle.rtcm_inspect.specs.NearWeek.{IsWeekFor, IsWeekNear};
+ghost use Rattle.rtcm_inspect.specs.NearWeek.{IsWeekFor};
 ghost use Rattle.rtcm_inspect.specs.OptionOutput.{AreOptionsOf, AreOptionsRefused, EndsOptions, IsDatedLine};
 ghost use Rattle.rtcm_inspect.specs.Signals.{codes_word, decodes, had, has_counted, plan_had, plan_in, set_had};
 
@@ -274,16 +273,8 @@ fn put_line(text: &mut OptionsText, line: &OutputLine)
 fn week_for(noon: GpsTime, tow: Option<u32>) -> Option<u32>
     ensures { IsWeekFor (Some noon) tow result }
 {
-    Some(week_near(noon.milliseconds(), tow?))
-}
-
-/// Returns the week in which a time of week is nearest to noon.
-fn week_near(noon: u64, tow: u32) -> u32
-    requires { noon < weeks * week }
-    ensures { IsWeekNear noon tow result }
-{
-    let before = (noon + WEEK / 2 - 1).saturating_sub(tow as u64);
-    (before / WEEK).min(WEEKS - 1) as u32
+    let before = (noon.milliseconds() + WEEK / 2 - 1).saturating_sub(tow? as u64);
+    Some((before / WEEK).min(WEEKS - 1) as u32)
 }
 
 /// Adds an option with a number, if there is one, and a blank.
@@ -326,12 +317,9 @@ fn add_forms(line: &mut OutputLine, forms: Forms)
     ensures text { line.new ≡ with_words line.old (forms_words forms) }
     ensures short { length line.new ≤ length line.old + 10 }
 {
-    match forms {
-        Forms::FourAndSeven => {}
-        Forms::All => {
-            line.add_word("--msm");
-            line.add_word("all");
-        }
+    if let Forms::All = forms {
+        line.add_word("--msm");
+        line.add_word("all");
     }
 }
 

@@ -1,7 +1,10 @@
 use Rattle.rtcm_inspect.proofs.TowLemmas.{one_more}
 use Rattle.gnss_system.specs.Systems.{systems}
+use Rattle.gnss_system.specs.declared.by_system.BySystem.{BySystem}
 use Rattle.rtcm_inspect.specs.FirstTows.{earliest, placed_by}
-use Rattle.rtcm_inspect.proofs.Names.{◌≡◌, ◌∙◌, ℕ, ap, arith, drop, option_map}
+use Rattle.rtcm_inspect.specs.declared.first_tows.PlacedTow.{PlacedTow}
+use Rattle.rtcm_inspect.specs.declared.first_tows.SystemTows.{SystemTows}
+use Rattle.rtcm_inspect.proofs.Names.{◌≡◌, ◌∙◌, ◌≤◌, ℕ, Option, Some, ap, arith, drop, option_map, sym, MsmSet}
 use Rattle.rtcm_inspect.proofs.first_tows.FirstTows.first.Goals as goal
 
 pub loop-i-preserved : goal.loop-i-preserved
@@ -10,7 +13,11 @@ loop-i-preserved c = record {
   first = one_more c.args.set.now c.args.self.now.tows _ c.loop-i.i c.at.result c.at.ensures (omega (arith, c.loop-i-test.true)) c.entry.ensures c.loop-i.invariant.first c.earlier-first.ensures;
 }
 
+at_end : {n : ℕ} {first : Option PlacedTow} (set : MsmSet) (tows : BySystem SystemTows) → n ≤ 0 → first ≡ earliest set tows (drop n systems) → first ≡ earliest set tows systems
+at_end {n} set tows none is = let end : n ≡ 0 = omega (arith, none) in is ∙ ap (λ (k : ℕ). earliest set tows (drop k systems)) end
+
+pub returns-in_err-first : goal.returns-in_err-first
+returns-in_err-first c = c.from_residual.ensures ∙ ap (option_map (placed_by c.args.leap)) (sym c.in_err-first.was ∙ at_end c.args.set.now c.args.self.now.tows c.loop-i-test.false c.loop-i.invariant.first)
+
 pub returns : goal.returns
-returns c =
-    let end : c.loop-i.i ≡ 0 = omega (arith, c.loop-i-test.false) in
-    c.tow_at.ensures ∙ ap (option_map (placed_by c.args.leap)) (c.loop-i.invariant.first ∙ ap (λ (k : ℕ). earliest c.args.set.now c.args.self.now.tows (drop k systems)) end)
+returns c = ap Some c.later_by.ensures ∙ ap (option_map (placed_by c.args.leap)) (sym c.in_ok-first.was ∙ at_end c.args.set.now c.args.self.now.tows c.loop-i-test.false c.loop-i.invariant.first)
