@@ -104,7 +104,7 @@ pub use Rattle.rtcm_scan.specs.Results.{framed, new_scan}
 pub use Rattle.rtcm_scan.specs.Scan.{FramerValue, most_bytes}
 pub use Rattle.rtcm_scan.specs.declared.feed.StreamFault.{StreamFault}
 pub use Rattle.std.proofs.KnownBytes.{Appends-kept, Appends-nil, Appends-trans}
-pub use Rattle.std.proofs.lemmas.Bool.{le-leb, lt-leb}
+pub use Rattle.std.proofs.lemmas.Bool.{and_from, and_parts, false_from_ne_true, le-leb, le-ltb, lt-leb, lt-ltb, ltb-false, ltb-true, or_parts, or_right, true≢false}
 pub use Rattle.std.proofs.lemmas.Bool.Decides.{nat_tests}
 pub use Rattle.std.proofs.lemmas.Fmt.{decimal_digit, decimal_is_IsNumeral, decimal_nonempty, digits_decimal, digits_value-decimal, length-decimal-le}
 pub use Rattle.std.proofs.lemmas.Grind.{common_steps, flat_map-append}
