@@ -3,11 +3,11 @@ use Rattle.std.proofs.lemmas.Fmt.{first_decimal}
 use Rattle.std.proofs.lemmas.List.{length-take-le, set_at, take_more}
 use Rattle.std.proofs.lemmas.List.Elements.{All-take}
 use Rattle.gnss_obs.specs.Channels.{AreChannels, ChannelsValue, most_number, no_channels, number_at, slot_count, with_number}
-use Rattle.rtcm_inspect.proofs.LengthLemmas.{cut_first, decimal_read, is_le, no_byte, own}
+use Rattle.rtcm_inspect.proofs.LengthLemmas.{cut_first, decimal_read, no_byte, own}
 use Rattle.rtcm_inspect.proofs.PlannedLemmas.{first_code, is_comma, last_code}
 use Rattle.rtcm_inspect.proofs.SignalLemmas.{join-push}
 use Rattle.rtcm_inspect.specs.ChannelTexts.{after_comma, channel_of, channel_text, channels_after, channels_of, channels_text, slot_channel_of, slot_of, slot_text, slot_texts, with_entry}
-use Rattle.rtcm_inspect.proofs.Names.{after_byte, ◌≡◌, ◌∙◌, ◌+◌, ◌-◌, ◌<◌, ◌≤◌, ◌==◌, ◌^◌, ◌||◌, ◌++◌, ◌∷◌, [], ℕ, Bool, true, false, List, Option, Some, None, All, All-head, All-tail, IfSome, ⊤, ap, ap₂, append-nil, append_assoc, arith, between_commas, decimal, decimal_digit, digits_decimal, get_or, get_or_at, is_digit, join_with_byte, length, length-append, length-decimal-le, list_all, list_any, list_any-append, nat_lt, nat_tests, option_and_then, refl, replicate, sym, take, if◌then◌else◌}
+use Rattle.rtcm_inspect.proofs.Names.{le-leb, after_byte, ◌≡◌, ◌∙◌, ◌+◌, ◌-◌, ◌<◌, ◌≤◌, ◌==◌, ◌^◌, ◌||◌, ◌++◌, ◌∷◌, [], ℕ, Bool, true, false, List, Option, Some, None, All, All-head, All-tail, IfSome, ⊤, ap, ap₂, append-nil, append_assoc, arith, between_commas, decimal, decimal_digit, digits_decimal, get_or, get_or_at, is_digit, join_with_byte, length, length-append, length-decimal-le, list_all, list_any, list_any-append, nat_lt, nat_tests, option_and_then, refl, replicate, sym, take, if◌then◌else◌}
 
 -- ---- a slot and its channel
 
@@ -18,12 +18,12 @@ slot_read : (slot : ℕ) → 1 ≤ slot → slot ≤ slot_count → slot_of (dec
 slot_read slot some few =
     let first = first_decimal slot some (fits slot (omega (arith, few))) in
     let plain : (get_or (decimal slot) 0 0 == 0x30) ≡ false = grind (arith, nat_tests, first) in
-    rw (plain, decimal_read 2 slot (omega arith) (omega (arith, few)) (fits slot (omega (arith, few))), is_le 1 slot some, is_le slot 27 few) refl
+    rw (plain, decimal_read 2 slot (omega arith) (omega (arith, few)) (fits slot (omega (arith, few))), le-leb 1 slot some, le-leb slot 27 few) refl
 
 negative_read : (n : ℕ) → n < 7 → channel_of (0x2D ∷ decimal (7 - n)) ≡ Some n
 negative_read n h =
     let back : 7 - (7 - n) ≡ n = omega (arith, h) in
-    rw (decimal_read 1 (7 - n) (omega arith) (omega arith) (fits (7 - n) (omega arith)), is_le 1 (7 - n) (omega (arith, h)), is_le (7 - n) 7 (omega arith), back) refl
+    rw (decimal_read 1 (7 - n) (omega arith) (omega arith) (fits (7 - n) (omega arith)), le-leb 1 (7 - n) (omega (arith, h)), le-leb (7 - n) 7 (omega arith), back) refl
 
 positive_read : (n : ℕ) → 7 ≤ n → n ≤ most_number → channel_of (decimal (n - 7)) ≡ Some n
 positive_read n least most =
@@ -32,7 +32,7 @@ positive_read n least most =
     let back : 7 + (n - 7) ≡ n = omega (arith, least) in
     let read = decimal_read 1 (n - 7) (omega arith) small (fits (n - 7) (omega (arith, small))) in
     let plain : after_byte 0x2D (decimal (n - 7)) ≡ None = rw (decimal_digit (n - 7) small, unsigned) refl in
-    rw (plain, read, is_le 0 (n - 7) (omega arith), is_le (n - 7) 6 (omega (arith, most)), back) refl
+    rw (plain, read, le-leb 0 (n - 7) (omega arith), le-leb (n - 7) 6 (omega (arith, most)), back) refl
 
 channel_read : (n : ℕ) → n ≤ most_number → channel_of (channel_text n) ≡ Some n
 channel_read n h = by (nat_lt n 7) refl where

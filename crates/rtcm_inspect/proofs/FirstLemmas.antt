@@ -1,7 +1,7 @@
 -- What the first messages contain, after one more frame.
 use Rattle.rtcm_inspect.proofs.Names.{◌≡◌, ◌∙◌, ◌==◌, ◌++◌, ℕ, true, false, not, List, [], ◌∷◌, Option, Some, None, Result, Ok, Err, IfSome, refl, sym, ap, find, append-nil, arith, option_and_then, option_or, filter_map-append, find-append, Framed, message_at, InRange, StationParts, MsgFault, Message, Heard, inspected, AreFirst, first_in, first_station, option_to_list, point_of, sender, stations_in, stations_of, with_other, inspected_at, inspected_of, AreTows, FirstMessages, One, Several}
 
-or_more : {A : Type 0} (a b c : Option A) → option_or a (option_or b c) ≡ option_or (option_or a b) c
+pub or_more : {A : Type 0} (a b c : Option A) → option_or a (option_or b c) ≡ option_or (option_or a b) c
 or_more None b c = refl
 or_more (Some x) b c = refl
 

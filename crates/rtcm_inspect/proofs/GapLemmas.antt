@@ -6,10 +6,9 @@ use Rattle.std.proofs.Common.{min}
 use Rattle.std.specs.List.{reduce}
 use Rattle.rtcm_inspect.specs.declared.fault.InspectFault.TheVariants.{Check, Write}
 use Rattle.rtcm_inspect.proofs.CheckLemmas.{refused}
-use Rattle.rtcm_inspect.proofs.LengthLemmas.{is_lt}
 use Rattle.rtcm_inspect.proofs.LineLemmas.{add_text, end_line}
 use Rattle.rtcm_inspect.proofs.PrintingLemmas.{longer_part, printed_after, printed_later}
-use Rattle.rtcm_inspect.proofs.Names.{⊤, AppendsPrefix, AreCounts, AreGapsOf, AreTimes, AreTimesOrNone, EpochTimes, FileValue, IfSome, IsCheckedOr, IsFileValue, ap₂, check_line, complete_line, IfSome_then, IsDelivered, ReadsGaps, append_assoc, file_lines, file_text, inr, length, most_lines, steps_of, times_if, ◌≡◌, ◌∙◌, ◌+◌, ◌<◌, ◌≤◌, ◌∷◌, ◌++◌, [], ap, arith, append-nil, codes, cond, refl, subst, sym, ℕ, List, Option, Some, None, Bool, Device, EndsPrinting, Err, FileSummary, IsSummaryOf, InspectFault, IsPrefix, LeavesRest, Ok, PrintsText, ReadsEpoch, Result, Stamped, gap_between, gap_line, gaps_of, map, moment_words, time_stamped, with_words, gaps_after, option_map, map-append}
+use Rattle.rtcm_inspect.proofs.Names.{lt-ltb, ⊤, AppendsPrefix, AreCounts, AreGapsOf, AreTimes, AreTimesOrNone, EpochTimes, FileValue, IfSome, IsCheckedOr, IsFileValue, ap₂, check_line, complete_line, IfSome_then, IsDelivered, ReadsGaps, append_assoc, file_lines, file_text, inr, length, most_lines, steps_of, times_if, ◌≡◌, ◌∙◌, ◌+◌, ◌<◌, ◌≤◌, ◌∷◌, ◌++◌, [], ap, arith, append-nil, codes, cond, refl, subst, sym, ℕ, List, Option, Some, None, Bool, Device, EndsPrinting, Err, FileSummary, IsSummaryOf, InspectFault, IsPrefix, LeavesRest, Ok, PrintsText, ReadsEpoch, Result, Stamped, gap_between, gap_line, gaps_of, map, moment_words, time_stamped, with_words, gaps_after, option_map, map-append}
 
 -- the last of these times, or else that before them
 abbrev last_from : Option ℕ → List ℕ → Option ℕ
@@ -41,7 +40,7 @@ unfolding gap_line
 one_gap interval {last} {time} {start = start} is far none starts first second ends =
     let begun : start ≡ [] ++ codes "gap" = add_text starts none refl in
     end_line [] (codes "gap") (moment_words last ++ moment_words time) ends (second ∙ ap (λ (t : List ℕ). with_words t (moment_words time)) (first ∙ ap (λ (t : List ℕ). with_words t (moment_words last)) begun))
-    ∙ sym (ap (λ (o : Option ℕ). gap_between interval o time) is ∙ ap (λ (b : Bool). cond b (gap_line last time) []) (is_lt (last + interval) time far))
+    ∙ sym (ap (λ (o : Option ℕ). gap_between interval o time) is ∙ ap (λ (b : Bool). cond b (gap_line last time) []) (lt-ltb (last + interval) time far))
 
 pub leaves_all : (a : Option (List ℕ)) → LeavesRest a a
 leaves_all a = ([], Consumes-nil a)

@@ -1,20 +1,14 @@
 -- Numbers, dates and lengths that are read from text, and lengths that were written.
 use Rattle.std.proofs.Common.{◌≡◌, ◌≢◌, ◌∙◌, ◌≤◌, ◌<◌, ◌+◌, ◌-◌, ◌*◌, ◌/◌, ◌%◌, ◌^◌, ◌&&◌, ◌==◌, ◌++◌, ℕ, ℤ, pos, negsuc, neg_ℤ, suc, Bool, true, false, not, List, [], ◌∷◌, Option, Some, None, Result, Ok, Err, IfSome, Bor, option_map, unwrap_or, length, length-append, get_or, drop, decimal, codes, append_assoc, arith, rules, refl, sym, ap, subst, lit≤}
-use Rattle.rtcm_inspect.proofs.Names.{inl, inr, ◌↔◌, IsNumeral, digits_value, signed_digits_value, without_leading_sign, decimal_is_IsNumeral, ParsesUnsigned, IsCivilOf, week, weeks, Civil, IsHourOf, IsWeekNumber, IsWeekOf, civil_in, if◌then◌else◌, option_and_then, option_map_or, nat_le, nat_lt, nat_tests, common_steps, list_all, result_ok, is_digit, digits_from, digits_in, next_digit, number_of as digits_number, number_of, MatchOption, IsNumeralModel, numerals_by_fold, parse_plain, digits_value_short, position_or_len, position_or_len_is, get_or_append_left, get_or_at, take_at, drop_at, length_push, decimal_nonempty, digits_decimal, digits_value-decimal, length-decimal-le, list_all-append, AllPass-from_list_all, FitsInt, InRange, StationParts, height_text, position_text, after_byte, coordinate_by, coordinate_of, cut, decimals_of, fixed_by, fixed_point, length_below, position_of, four_digits, metres, size_text, coordinate_bound}
+use Rattle.rtcm_inspect.proofs.Names.{and_from, and_parts, le-leb, le-ltb, lt-ltb, inl, inr, ◌↔◌, IsNumeral, digits_value, signed_digits_value, without_leading_sign, decimal_is_IsNumeral, ParsesUnsigned, IsCivilOf, week, weeks, Civil, IsHourOf, IsWeekNumber, IsWeekOf, civil_in, if◌then◌else◌, option_and_then, option_map_or, nat_le, nat_lt, nat_tests, common_steps, list_all, result_ok, is_digit, digits_from, digits_in, next_digit, number_of as digits_number, number_of, MatchOption, IsNumeralModel, numerals_by_fold, parse_plain, digits_value_short, position_or_len, position_or_len_is, get_or_append_left, get_or_at, take_at, drop_at, length_push, decimal_nonempty, digits_decimal, digits_value-decimal, length-decimal-le, list_all-append, AllPass-from_list_all, FitsInt, InRange, StationParts, height_text, position_text, after_byte, coordinate_by, coordinate_of, cut, decimals_of, fixed_by, fixed_point, length_below, position_of, four_digits, metres, size_text, coordinate_bound}
 
 -- ---- numbers of digits alone
-
-pub is_le : (n m : ℕ) → n ≤ m → nat_le n m ≡ true
-is_le n m h = grind (arith, nat_tests)
-
-pub is_lt : (n m : ℕ) → n < m → nat_lt n m ≡ true
-is_lt n m h = grind (arith, nat_tests)
 
 pub own : IsNumeralModel (λ text. list_all is_digit text ≡ true) digits_in
 own = numerals_by_fold _ (search rules) digits_from (search rules)
 
 pub number_read : (most : ℕ) (text : List ℕ) → 1 ≤ length text → length text ≤ most → list_all is_digit text ≡ true → digits_number most text ≡ Some (digits_in text)
-number_read most text some few all = rw (is_le 1 (length text) some, is_le (length text) most few, all) refl
+number_read most text some few all = rw (le-leb 1 (length text) some, le-leb (length text) most few, all) refl
 
 -- a number that was written
 pub decimal_read : (most n : ℕ) → 0 < most → n < 10 ^ most → n < 2 ^ 64 → digits_number most (decimal n) ≡ Some n
@@ -67,16 +61,6 @@ no_hour hour text c is none t h =
     let same : h.0 ≡ c = ap (λ (o : Option Civil). unwrap_or o c) (sym h.1 ∙ is) in
     none t h.3 (subst (IsCivilOf t) same h.2)
 
--- ---- lengths that were written
-
-rest_of : (a b : Bool) → (a && b) ≡ true → b ≡ true
-rest_of true b e = e
-rest_of false b e = cc
-
-both : (a b : Bool) → a ≡ true → b ≡ true → (a && b) ≡ true
-both true b p q = q
-both false b p q = cc
-
 -- ---- digits
 
 four_are_digits : (n : ℕ) → list_all is_digit (four_digits n) ≡ true
@@ -91,7 +75,7 @@ four_read n = rw (next_of 0 (n / 1000 % 10) (omega arith), next_of _ (n / 100 % 
 -- another byte isn't among digits
 pub no_byte : (c : ℕ) (ds : List ℕ) → is_digit c ≡ false → list_all is_digit ds ≡ true → list_all (λ x. not (x == c)) ds ≡ true
 no_byte c [] other h = refl
-no_byte c (x ∷ xs) other h = both (not (x == c)) _ (grind (arith, nat_tests)) (no_byte c xs other (rest_of (is_digit x) (list_all is_digit xs) h))
+no_byte c (x ∷ xs) other h = and_from (not (x == c)) _ (grind (arith, nat_tests)) (no_byte c xs other (and_parts (is_digit x) (list_all is_digit xs) h).1)
 
 -- ---- weeks
 
@@ -107,13 +91,10 @@ none_at : (c : ℕ) (ds : List ℕ) → c < 48 → list_all is_digit ds ≡ true
 none_at c [] low h = refl
 none_at c (x ∷ xs) low h =
     let other : (x == c) ≡ false = grind (arith, nat_tests) in
-    rw other (omega (arith, none_at c xs low (rest_of (is_digit x) (list_all is_digit xs) h)))
-
-not_less : (n : ℕ) → nat_lt n n ≡ false
-not_less n = grind (arith, nat_tests)
+    rw other (omega (arith, none_at c xs low (and_parts (is_digit x) (list_all is_digit xs) h).1))
 
 uncut : (c : ℕ) (ds : List ℕ) → c < 48 → list_all is_digit ds ≡ true → cut c ds ≡ None
-uncut c ds low h = rw (none_at c ds low h, not_less (length ds)) refl
+uncut c ds low h = rw (none_at c ds low h, le-ltb (length ds) (length ds) (omega arith)) refl
 
 -- a number isn't a date
 no_date : (ds : List ℕ) (t : ℕ) → list_all is_digit ds ≡ true → IsHourOf 0 ds t → ⊥
@@ -143,7 +124,7 @@ week_read n m small = (λ h. elim h [ inl number ↦ is number | inr date ↦ ab
 -- ---- separators
 
 pub cut_first : (c : ℕ) (a b : List ℕ) → list_all (λ x. not (x == c)) a ≡ true → cut c (a ++ c ∷ b) ≡ Some (a, b)
-cut_first c a b h = rw (place, is_lt (length a) (length (a ++ c ∷ b)) (omega (arith, length-append a (c ∷ b))), take_at a (c ∷ b) (length a) refl, after) refl
+cut_first c a b h = rw (place, lt-ltb (length a) (length (a ++ c ∷ b)) (omega (arith, length-append a (c ∷ b))), take_at a (c ∷ b) (length a) refl, after) refl
   where
     same : (c == c) ≡ true
     same = grind (arith, nat_tests)
@@ -201,7 +182,7 @@ module _ (n : ℕ) (small : n < 10 ^ 12) where
 
   pub size_below : (bound : ℕ) → n < bound → length_below bound (size_text n) ≡ Some n
   size_below bound less =
-      ap (option_and_then (λ k. if nat_lt k bound then Some k else None)) size_read ∙ ap (λ (b : Bool). if b then Some n else None) (is_lt n bound less)
+      ap (option_and_then (λ k. if nat_lt k bound then Some k else None)) size_read ∙ ap (λ (b : Bool). if b then Some n else None) (lt-ltb n bound less)
 
   pub size_unsigned : after_byte 45 (size_text n) ≡ None
   size_unsigned =
@@ -212,7 +193,7 @@ module _ (n : ℕ) (small : n < 10 ^ 12) where
   size_whole =
       let whole = decimal (n / 10000) in
       ap (list_all (λ x. not (x == 0x2C))) (size_shape n) ∙ list_all-append (λ x. not (x == 0x2C)) whole (0x2E ∷ four_digits n)
-      ∙ both (list_all (λ x. not (x == 0x2C)) whole) (list_all (λ x. not (x == 0x2C)) (0x2E ∷ four_digits n))
+      ∙ and_from (list_all (λ x. not (x == 0x2C)) whole) (list_all (λ x. not (x == 0x2C)) (0x2E ∷ four_digits n))
       (no_byte 0x2C whole refl all_digits) (no_byte 0x2C (four_digits n) refl (four_are_digits n))
 
 pub coordinate_read : (z : ℤ) → FitsInt 38 z → coordinate_of (metres z) ≡ Some z

@@ -1,5 +1,7 @@
 -- What is read of messages if only the MSMs of a set are decoded.
+use mathlib.Core.Bool.{or-false}
 use Rattle.std.specs.Prelude.{◌⊎◌}
+use Rattle.std.proofs.lemmas.List.Folds.{list_any_at}
 use Rattle.rtcm_msg.specs.Encoding.{other_of}
 use Rattle.rtcm_msg.specs.Sets.{has_msm, is_in_set}
 use Rattle.rtcm_msg.specs.declared.number.Forms.TheVariants as forms
@@ -9,7 +11,7 @@ use Rattle.gnss_system.proofs.SystemLaws.{value_tabulated}
 use Rattle.obs_epoch.specs.Sets.{is_decoded}
 use Rattle.rtcm_inspect.specs.SignalLaws.{ReadsAll}
 use Rattle.rtcm_inspect.proofs.ValuedLemmas.{valued_system}
-use Rattle.rtcm_inspect.proofs.Names.{All-head, All-tail, Df402, Df407, GatherSetup, SignalAt, entries, has_listed_key, is_planned, is_some, is_system, place_in, planned_of, ◌≡◌, ◌∙◌, ◌++◌, ◌||◌, ℕ, Bool, true, false, not, List, [], ◌∷◌, Option, Some, None, Result, Ok, Err, All, All-cons, All-nil, ⊤, ◌&&◌, ap, arith, bits_of, inl, inr, length, list_any, list_any-append, nat_lt, option_and_then, option_map_or, refl, subst, sym, if◌then◌else◌, Framed, MsgFault, Message, Station, Msm4, Msm5, Msm6, Msm7, Other, Form, Forms, MsmSet, MsmValue, message_at, message_with, message_in, have_form, System, Gps, Galileo, Heard, HeardCell, every_channel, heard, heard_of, inspected, inspected_in, inspected_of, is_of_station, set_of, valued, forms_had, has_other_value, is_of_other, needs_all, tow_of, valued_in, valued_of, with_forms}
+use Rattle.rtcm_inspect.proofs.Names.{false_from_ne_true, or_right, true≢false, get_or, All-head, All-tail, Df402, Df407, GatherSetup, SignalAt, entries, has_listed_key, is_planned, is_some, is_system, place_in, planned_of, ◌≡◌, ◌∙◌, ◌++◌, ◌||◌, ℕ, Bool, true, false, not, List, [], ◌∷◌, Option, Some, None, Result, Ok, Err, All, All-cons, All-nil, ⊤, ◌&&◌, ap, arith, bits_of, inl, inr, length, list_any, list_any-append, nat_lt, option_and_then, option_map_or, refl, subst, sym, if◌then◌else◌, Framed, MsgFault, Message, Station, Msm4, Msm5, Msm6, Msm7, Other, Form, Forms, MsmSet, MsmValue, message_at, message_with, message_in, have_form, System, Gps, Galileo, Heard, HeardCell, every_channel, heard, heard_of, inspected, inspected_in, inspected_of, is_of_station, set_of, valued, forms_had, has_other_value, is_of_other, needs_all, tow_of, valued_in, valued_of, with_forms}
 
 -- the laws of the messages of a set
 pub record SetLaws : Type 0 where
@@ -74,28 +76,29 @@ IsHad fs wanted (Err e) = ⊤
 abbrev pub ArePlanned : GatherSetup → List HeardCell → Type 0
 ArePlanned s xs = All (λ x. is_planned s x ≡ true) xs
 
-pub front : (s : GatherSetup) (xs ys : List HeardCell) → ArePlanned s (xs ++ ys) → ArePlanned s xs
+front : (s : GatherSetup) (xs ys : List HeardCell) → ArePlanned s (xs ++ ys) → ArePlanned s xs
 front s [] ys h = All-nil (λ x. is_planned s x ≡ true)
 front s (x ∷ xs) ys h = All-cons (λ x. is_planned s x ≡ true) x xs (All-head (λ x. is_planned s x ≡ true) x (xs ++ ys) h) (front s xs ys (All-tail (λ x. is_planned s x ≡ true) x (xs ++ ys) h))
 
-pub rest : (s : GatherSetup) (xs ys : List HeardCell) → ArePlanned s (xs ++ ys) → ArePlanned s ys
+rest : (s : GatherSetup) (xs ys : List HeardCell) → ArePlanned s (xs ++ ys) → ArePlanned s ys
 rest s [] ys h = h
 rest s (x ∷ xs) ys h = rest s xs ys (All-tail (λ x. is_planned s x ≡ true) x (xs ++ ys) h)
+
+-- the cells of each frame
+pub planned_each : (s : GatherSetup) (fs : List Framed) → ArePlanned s (valued_in s.station fs) → All (λ f. ArePlanned s (valued_of s.station f)) fs
+planned_each s [] h = All-nil (λ f. ArePlanned s (valued_of s.station f))
+planned_each s (f ∷ fs) h =
+    All-cons (λ f. ArePlanned s (valued_of s.station f)) f fs (front s (valued_of s.station f) (valued_in s.station fs) h) (planned_each s fs (rest s (valued_of s.station f) (valued_in s.station fs) h))
 
 planned_some : (a : Bool) (g : SignalAt) (is : List ℕ) → (a && is_some (place_in g is)) ≡ true → nat_lt 0 (length is) ≡ true
 planned_some true g [] h = absurd (grind (arith, h))
 planned_some false g [] h = cc
 planned_some a g (i ∷ is) h = grind arith
 
-in_plan : (a b c : Bool) → c ≡ true → (a || b || c) ≡ true
-in_plan true b c h = refl
-in_plan false true c h = refl
-in_plan false false c h = h
-
 -- the system of a planned cell is decoded
 decoded : (s : GatherSetup) (x : HeardCell) → is_planned s x ≡ true → is_decoded s.plan x.satellite.system ≡ true
 decoded s x h =
-    in_plan (is_system x.satellite.system Gps) (is_system x.satellite.system Galileo) _ (planned_some (has_listed_key x) x.signal (planned_of x.satellite.system s.plan) h)
+    or_right (is_system x.satellite.system Gps || is_system x.satellite.system Galileo) _ (planned_some (has_listed_key x) x.signal (planned_of x.satellite.system s.plan) h)
 
 not_out : (a b n : Bool) → a ≡ true → (a && b) ≡ false → (not b && n) ≡ false → n ≡ false
 not_out true true n e out had = cc
@@ -156,33 +159,16 @@ not_needed wanted (Err e) h = tt
 abbrev needs : Option ℕ → Framed → Bool
 needs wanted f = needs_all wanted (message_at f.message)
 
-kept_all : SetLaws → (s : GatherSetup) (fs : List Framed) → ArePlanned s (valued_in s.station fs) → All (ReadsAll (set_of s.plan forms.All) s) fs
-kept_all laws s [] h = All-nil (ReadsAll (set_of s.plan forms.All) s)
-kept_all laws s (f ∷ fs) h =
-    All-cons (ReadsAll (set_of s.plan forms.All) s) f fs (kept_frame laws s forms.All f (front s (valued_of s.station f) (valued_in s.station fs) h) (all_had s.station (message_at f.message)))
-    (kept_all laws s fs (rest s (valued_of s.station f) (valued_in s.station fs) h))
-
-first_false : (a b : Bool) → (a || b) ≡ false → a ≡ false
-first_false true b h = cc
-first_false false b h = refl
-
-rest_false : (a b : Bool) → (a || b) ≡ false → b ≡ false
-rest_false true b h = cc
-rest_false false b h = h
-
-kept_seven : SetLaws → (s : GatherSetup) (fs : List Framed) → ArePlanned s (valued_in s.station fs) → list_any (needs s.station) fs ≡ false → All (ReadsAll (set_of s.plan forms.FourAndSeven) s) fs
-kept_seven laws s [] p h = All-nil (ReadsAll (set_of s.plan forms.FourAndSeven) s)
-kept_seven laws s (f ∷ fs) p h =
-    let here : needs s.station f ≡ false = first_false (needs s.station f) (list_any (needs s.station) fs) h in
-    All-cons (ReadsAll (set_of s.plan forms.FourAndSeven) s) f fs
-    (kept_frame laws s forms.FourAndSeven f (front s (valued_of s.station f) (valued_in s.station fs) p) (not_needed s.station (message_at f.message) here))
-    (kept_seven laws s fs (rest s (valued_of s.station f) (valued_in s.station fs) p) (rest_false (needs s.station f) (list_any (needs s.station) fs) h))
-
 pub loses_none : SetLaws → (s : GatherSetup) (fs : List Framed) → ArePlanned s (valued_in s.station fs) → All (ReadsAll (set_of s.plan (forms_had s.station fs)) s) fs
 loses_none laws s fs planned = by (list_any (needs s.station) fs) refl where
+  kept : (forms : Forms) → All (λ f. IsHad forms s.station (message_at f.message)) fs → All (ReadsAll (set_of s.plan forms) s) fs
+  kept forms had = λ k d within. kept_frame laws s forms (get_or fs k d) (planned_each s fs planned k d within) (had k d within)
+
   by : (b : Bool) → list_any (needs s.station) fs ≡ b → All (ReadsAll (set_of s.plan (if b then forms.All else forms.FourAndSeven)) s) fs
-  by true h = kept_all laws s fs planned
-  by false h = kept_seven laws s fs planned h
+  by true h = kept forms.All (λ k d within. all_had s.station (message_at (get_or fs k d).message))
+  by false h =
+      kept forms.FourAndSeven (λ k d within. not_needed s.station (message_at (get_or fs k d).message)
+      (false_from_ne_true _ (λ e. true≢false (sym (list_any_at (needs s.station) fs k d within e) ∙ h))))
 
 -- ---- the forms of one more message
 
@@ -192,10 +178,6 @@ either wanted m false = by (has_other_value forms.FourAndSeven wanted m) where
   by : (c : Bool) → (if c then forms.All else forms.FourAndSeven) ≡ (if c || false then forms.All else forms.FourAndSeven)
   by true = refl
   by false = refl
-
-or_false : (b : Bool) → (b || false) ≡ b
-or_false true = refl
-or_false false = refl
 
 forms_more : (wanted : Option ℕ) (fs : List Framed) (f : Framed) (r : Result Message MsgFault) → message_at f.message ≡ r
     → forms_had wanted (fs ++ f ∷ []) ≡ (if list_any (needs wanted) fs || (needs_all wanted r || false) then forms.All else forms.FourAndSeven)
@@ -210,7 +192,7 @@ forms_read wanted fs f m read new old =
 
 pub forms_refused : {before : Forms} (wanted : Option ℕ) (fs : List Framed) (f : Framed) (e : MsgFault) → message_at f.message ≡ Err e → before ≡ forms_had wanted fs → before ≡ forms_had wanted (fs ++ f ∷ [])
 forms_refused wanted fs f e read old =
-    old ∙ sym (forms_more wanted fs f (Err e) read ∙ ap (λ (b : Bool). if b then forms.All else forms.FourAndSeven) (or_false (list_any (needs wanted) fs)))
+    old ∙ sym (forms_more wanted fs f (Err e) read ∙ ap (λ (b : Bool). if b then forms.All else forms.FourAndSeven) (or-false (list_any (needs wanted) fs)))
 
 -- the form and the system of a view
 pub in_set : (f : Form) (v : MsmValue) (set : MsmSet) → is_in_set set (message_in f v) ≡ has_msm set f v.system

@@ -1,7 +1,6 @@
 -- The text of the signals of a stream, signal by signal.
-use Rattle.rtcm_inspect.proofs.Names.{◌≡◌, ℕ, zero, suc, ◌+◌, ◌<◌, ◌≤◌, ◌==◌, ◌&&◌, ◌||◌, All, Result, Ok, OnOk, Bool, true, false, List, [], ◌∷◌, ◌++◌, length, get_or, refl, sym, ap, ap₂, ◌∙◌, subst, arith, filter, map, append-nil, append_assoc, map-append, flat_map-append, cond, nat_lt, codes, list_any, All-head, filter-append, length-filter, count_by-le-length, flat_map, join_with_byte, System, table, code_of, below, SignalCountsValue, AreSignalCounts, common_steps, counted, signal_counts, has_any, signal_in, count_of, is_of_signal, had_below, had, code_list, codes_word, count_line, lines_below, IsKey, HeardCell, list_any-append, has_counted}
+use Rattle.rtcm_inspect.proofs.Names.{le-ltb, lt-ltb, ltb-false, ltb-true, ◌≡◌, ℕ, zero, suc, ◌+◌, ◌<◌, ◌≤◌, ◌==◌, ◌&&◌, ◌||◌, All, Result, Ok, OnOk, Bool, true, false, List, [], ◌∷◌, ◌++◌, length, get_or, refl, sym, ap, ap₂, ◌∙◌, subst, arith, filter, map, append-nil, append_assoc, map-append, flat_map-append, cond, nat_lt, codes, list_any, All-head, filter-append, length-filter, count_by-le-length, flat_map, join_with_byte, System, table, code_of, below, SignalCountsValue, AreSignalCounts, common_steps, counted, signal_counts, has_any, signal_in, count_of, is_of_signal, had_below, had, code_list, codes_word, count_line, lines_below, IsKey, HeardCell, list_any-append, has_counted}
 use Rattle.gnss_system.specs.Systems.{systems, index_of}
-use Rattle.gnss_system.proofs.Checked.{is_less}
 use Rattle.gnss_system.proofs.SystemLaws.{none_any, some_system}
 
 below-more : (i : ℕ) → below (i + 1) ≡ below i ++ i ∷ []
@@ -20,18 +19,12 @@ had_more {cells = cells} {system} {i} {n} h =
     ap (filter (λ i. nat_lt 0 (count_of (signal_in system i) cells))) (below-more i) ∙ filter-append (λ i. nat_lt 0 (count_of (signal_in system i) cells)) (below i) (i ∷ [])
     ∙ ap (λ (m : ℕ). had_below cells system i ++ cond (nat_lt 0 m) (i ∷ []) []) (sym (h.is ∙ h.counts.each system i h.within))
 
-positive : (n : ℕ) → 0 < n → nat_lt 0 n ≡ true
-positive n h = grind (arith, h)
-
-zero_count : (n : ℕ) → n ≤ 0 → nat_lt 0 n ≡ false
-zero_count n h = grind (arith, h)
-
 pub had_one : {c : SignalCountsValue} {cells : List HeardCell} {system : System} {i n : ℕ} → IsCount c cells system i n → 0 < n → had_below cells system (i + 1) ≡ had_below cells system i ++ i ∷ []
-had_one {cells = cells} {system} {i} {n} h some = had_more h ∙ ap (λ (b : Bool). had_below cells system i ++ cond b (i ∷ []) []) (positive n some)
+had_one {cells = cells} {system} {i} {n} h some = had_more h ∙ ap (λ (b : Bool). had_below cells system i ++ cond b (i ∷ []) []) (lt-ltb 0 n some)
 
 pub had_none : {c : SignalCountsValue} {cells : List HeardCell} {system : System} {i n : ℕ} → IsCount c cells system i n → n ≤ 0 → had_below cells system (i + 1) ≡ had_below cells system i
 had_none {cells = cells} {system} {i} {n} h none =
-    had_more h ∙ ap (λ (b : Bool). had_below cells system i ++ cond b (i ∷ []) []) (zero_count n none) ∙ append-nil (had_below cells system i)
+    had_more h ∙ ap (λ (b : Bool). had_below cells system i ++ cond b (i ∷ []) []) (le-ltb 0 n none) ∙ append-nil (had_below cells system i)
 
 -- ---- the codes of a system
 
@@ -116,14 +109,11 @@ some_cells c cells h any =
     let n = any_some (signal_counts m.0 c) m.1 in
     by m.0 n.0 n.2 (nat_lt n.0 (length (table m.0))) refl
   where
-    not_less : (a b : ℕ) → nat_lt a b ≡ false → b ≤ a
-    not_less a b e = grind (arith, e)
-
     by : (s : System) (i : ℕ) → 0 < counted c s i → (b : Bool) → nat_lt i (length (table s)) ≡ b → 0 < length cells
     by s i some true t =
-        let within : i < length (table s) = is_less _ _ t in
+        let within : i < length (table s) = ltb-true _ _ t in
         omega (arith, h.each s i within, some, length-filter (is_of_signal (signal_in s i)) cells, count_by-le-length (is_of_signal (signal_in s i)) cells)
-    by s i some false t = absurd (omega (arith, some, h.past s i (not_less _ _ t)))
+    by s i some false t = absurd (omega (arith, some, h.past s i (ltb-false _ _ t)))
 
 pub own_signal : (x : HeardCell) → is_of_signal x.signal x ≡ true
 own_signal x = same (index_of x.signal.system) x.signal.index where
@@ -146,7 +136,7 @@ no_cells c (x ∷ xs) h keys none = absurd (omega (arith, h.each x.signal.system
 pub any_cells : (c : SignalCountsValue) (cells : List HeardCell) → AreSignalCounts c cells → All IsKey cells → has_any c ≡ nat_lt 0 (length cells)
 any_cells c cells h keys = by (has_any c) refl where
   by : (b : Bool) → has_any c ≡ b → b ≡ nat_lt 0 (length cells)
-  by true is = sym (positive (length cells) (some_cells c cells h is))
+  by true is = sym (lt-ltb 0 (length cells) (some_cells c cells h is))
   by false is = sym (ap (λ (xs : List HeardCell). nat_lt 0 (length xs)) (no_cells c cells h keys is))
 
 -- ---- whether a system has a cell, by the counts of its signals
@@ -171,12 +161,12 @@ or_none false = refl
 
 pub one_counted : (c : SignalCountsValue) (system : System) (i n : ℕ) → n ≡ counted c system i → 0 < n → true ≡ list_any (λ j. nat_lt 0 (counted c system j)) (below (i + 1))
 one_counted c system i n is some =
-    or_true (list_any (λ j. nat_lt 0 (counted c system j)) (below i)) ∙ sym (any_more c system i ∙ ap (λ (b : Bool). list_any (λ j. nat_lt 0 (counted c system j)) (below i) || b) (ap (nat_lt 0) (sym is) ∙ positive n some))
+    or_true (list_any (λ j. nat_lt 0 (counted c system j)) (below i)) ∙ sym (any_more c system i ∙ ap (λ (b : Bool). list_any (λ j. nat_lt 0 (counted c system j)) (below i) || b) (ap (nat_lt 0) (sym is) ∙ lt-ltb 0 n some))
 
 pub none_more : (c : SignalCountsValue) (system : System) (i n : ℕ) → n ≡ counted c system i → n ≤ 0
     → list_any (λ j. nat_lt 0 (counted c system j)) (below i) ≡ list_any (λ j. nat_lt 0 (counted c system j)) (below (i + 1))
 none_more c system i n is none =
-    or_none (list_any (λ j. nat_lt 0 (counted c system j)) (below i)) ∙ sym (any_more c system i ∙ ap (λ (b : Bool). list_any (λ j. nat_lt 0 (counted c system j)) (below i) || b) (ap (nat_lt 0) (sym is) ∙ zero_count n none))
+    or_none (list_any (λ j. nat_lt 0 (counted c system j)) (below i)) ∙ sym (any_more c system i ∙ ap (λ (b : Bool). list_any (λ j. nat_lt 0 (counted c system j)) (below i) || b) (ap (nat_lt 0) (sym is) ∙ le-ltb 0 n none))
 
 pub last_index : (system : System) (i n : ℕ) → n ≡ length (table system) → i ≤ n → n ≤ i → i ≡ length (table system)
 last_index system i n is within end = omega (arith, is, within, end)

@@ -1,10 +1,10 @@
 -- The cells that a conversion skips with the plan of a stream's signals.
 use Rattle.rtcm_msg.specs.Encoding.{other_of}
 use Rattle.rtcm_msg.specs.Sets.{is_in_set}
-use Rattle.rtcm_inspect.proofs.SetLemmas.{ArePlanned, SetLaws, front, rest, found_inside, found_outside, found_refused, none_valued}
+use Rattle.rtcm_inspect.proofs.SetLemmas.{ArePlanned, SetLaws, planned_each, found_inside, found_outside, found_refused, none_valued}
 use Rattle.rtcm_inspect.proofs.WeekLemmas.{own_counts}
 use Rattle.gnss_obs.specs.LockTimes.{LockTime}
-use Rattle.rtcm_inspect.proofs.Names.{◌≡◌, ◌∙◌, ◌+◌, ◌≤◌, ◌==◌, ap, ap₂, sym, bits_of, cons_option, every_channel, filter_map, heard_by, heard_msm, if◌then◌else◌, inspected, inspected_in, inspected_of, is_some, lock_by, observed, option_and_then, option_map, satellite_of_id, seen_in, signal_of_id, unlisted_in, ChannelsValue, Df402, Df407, Entry, LockField, MsmValue, Satellite, SignalAt, System, entries, Station, Msm4, Msm5, Msm6, Msm7, Other, message_at, Message, MsgFault, MsmSet, Result, Ok, Err, Bool, true, false, not, ℕ, List, [], ◌∷◌, filter, Option, Some, None, All, refl, subst, arith, cond, count_by, option_map_or, All-nil, All-cons, All-head, All-tail, sum_by-cons, Framed, counts_of, counts_of_message, is_planned, no_counts, offered, with_skipped, brings_value, is_of_station, valued, GatherSetup, Heard, is_own, HeardCell, Timed, SkipsOnly, valued_in, valued_of}
+use Rattle.rtcm_inspect.proofs.Names.{get_or, ◌≡◌, ◌∙◌, ◌+◌, ◌≤◌, ◌==◌, ap, ap₂, sym, bits_of, cons_option, every_channel, filter_map, heard_by, heard_msm, if◌then◌else◌, inspected, inspected_in, inspected_of, is_some, lock_by, observed, option_and_then, option_map, satellite_of_id, seen_in, signal_of_id, unlisted_in, ChannelsValue, Df402, Df407, Entry, LockField, MsmValue, Satellite, SignalAt, System, entries, Station, Msm4, Msm5, Msm6, Msm7, Other, message_at, Message, MsgFault, MsmSet, Result, Ok, Err, Bool, true, false, not, ℕ, List, [], ◌∷◌, filter, Option, Some, None, All, refl, subst, arith, cond, count_by, option_map_or, All-nil, All-head, All-tail, sum_by-cons, Framed, counts_of, counts_of_message, is_planned, no_counts, offered, with_skipped, brings_value, is_of_station, valued, GatherSetup, Heard, is_own, HeardCell, Timed, SkipsOnly, valued_in, valued_of}
 
 abbrev one_unless : Bool → ℕ
 one_unless b = cond (not b) 1 0
@@ -118,9 +118,6 @@ planned_in laws set s f h = by (message_at f.message) refl where
   by (Err e) read = none (found_refused laws 0 set f.message (valued s.station) [] other e read)
 
 pub frames_skip : SetLaws → (set : MsmSet) (s : GatherSetup) (earlier : List Timed) (fs : List Framed) → ArePlanned s (valued_in s.station fs) → All (SkipsOnly set s earlier) fs
-frames_skip laws set s earlier [] h = All-nil (SkipsOnly set s earlier)
-frames_skip laws set s earlier (f ∷ fs) h =
-    All-cons (SkipsOnly set s earlier) f fs
-    (λ m is. message_skips s earlier (heard_by s m) (inspected m) (same_keys s m)
-    (subst (λ (r : Result Message MsgFault). ArePlanned s (option_map_or (valued s.station) (inspected_of r) [])) is (planned_in laws set s f (front s (valued_of s.station f) (valued_in s.station fs) h))))
-    (frames_skip laws set s earlier fs (rest s (valued_of s.station f) (valued_in s.station fs) h))
+frames_skip laws set s earlier fs h = λ k d within m is.
+    message_skips s earlier (heard_by s m) (inspected m) (same_keys s m)
+    (subst (λ (r : Result Message MsgFault). ArePlanned s (option_map_or (valued s.station) (inspected_of r) [])) is (planned_in laws set s (get_or fs k d) (planned_each s fs h k d within)))

@@ -1,4 +1,5 @@
 -- The first MSMs of each system, after one more message.
+use mathlib.Core.Bool.{and-or_distrib_right}
 use Rattle.std.specs.Option.{option_or}
 use Rattle.gnss_system.specs.Systems.{systems, index_of, is_system}
 use Rattle.std.proofs.lemmas.List.{length-take-le}
@@ -16,7 +17,7 @@ use Rattle.rtcm_inspect.specs.FirstTows.{AreTows, IsMsmOf, IsWith, earlier, earl
 use Rattle.rtcm_inspect.specs.declared.first_tows.FirstTows.{FirstTows}
 use Rattle.rtcm_inspect.specs.declared.first_tows.PlacedTow.{PlacedTow}
 use Rattle.rtcm_inspect.specs.declared.first_tows.SystemTows.{SystemTows}
-use Rattle.rtcm_inspect.proofs.Names.{Framed, Message, MsgFault, Ok, Err, ◌++◌, ◌≤◌, first_tow, every_channel, heard, inspected_in, FormedMsm, MsmValue, drop, drop_at, formed, length, length-append, message_at, message_in, nat_tests, option_map_or, take, tow_of, unwrap_or, week, ◌*◌, ◌%◌, ◌==◌, ◌≡◌, ◌∙◌, ◌+◌, ◌<◌, ◌&&◌, ◌||◌, ℕ, Bool, true, false, List, [], ◌∷◌, Option, Some, None, IfSome, ap, ap₂, arith, list_any, nat_lt, option_map, refl, subst, sym, if◌then◌else◌, have_form, Form, Forms, MsmSet, System}
+use Rattle.rtcm_inspect.proofs.Names.{le-ltb, lt-ltb, Framed, Message, MsgFault, Ok, Err, ◌++◌, ◌≤◌, first_tow, every_channel, heard, inspected_in, FormedMsm, MsmValue, drop, drop_at, formed, length, length-append, message_at, message_in, nat_tests, option_map_or, take, tow_of, unwrap_or, week, ◌*◌, ◌%◌, ◌==◌, ◌≡◌, ◌∙◌, ◌+◌, ◌<◌, ◌&&◌, ◌||◌, ℕ, Bool, true, false, List, [], ◌∷◌, Option, Some, None, IfSome, ap, ap₂, arith, list_any, nat_lt, option_map, refl, subst, sym, if◌then◌else◌, have_form, Form, Forms, MsmSet, System}
 
 -- a time of week before a place
 abbrev pub IsBefore : ℕ → Option PlacedTow → Type 0
@@ -25,12 +26,6 @@ IsBefore n o = IfSome o (λ t. t.place < n)
 -- one more, or not
 abbrev pub grown : Bool → PlacedTow → Option PlacedTow → Option PlacedTow
 grown b c o = if b then option_or o (Some c) else o
-
-less : (a b : ℕ) → a < b → nat_lt a b ≡ true
-less a b h = grind (arith, h)
-
-not_less : (a b : ℕ) → a < b → nat_lt b a ≡ false
-not_less a b h = grind (arith, h)
 
 either_is : {A : Type 0} (b : Bool) (x : A) → (if b then x else x) ≡ x
 either_is true x = refl
@@ -46,13 +41,13 @@ grown_earlier None None c h k true true = either_is (nat_lt c.place c.place) (So
 grown_earlier None None c h k true false = refl
 grown_earlier None None c h k false true = refl
 grown_earlier None None c h k false false = refl
-grown_earlier None (Some y) c h k true true = ap (λ (b : Bool). if b then Some y else Some c) (less y.place c.place k)
-grown_earlier None (Some y) c h k true false = ap (λ (b : Bool). if b then Some y else Some c) (less y.place c.place k)
+grown_earlier None (Some y) c h k true true = ap (λ (b : Bool). if b then Some y else Some c) (lt-ltb y.place c.place k)
+grown_earlier None (Some y) c h k true false = ap (λ (b : Bool). if b then Some y else Some c) (lt-ltb y.place c.place k)
 grown_earlier None (Some y) c h k false true = refl
 grown_earlier None (Some y) c h k false false = refl
-grown_earlier (Some x) None c h k true true = ap (λ (b : Bool). if b then Some c else Some x) (not_less x.place c.place h)
+grown_earlier (Some x) None c h k true true = ap (λ (b : Bool). if b then Some c else Some x) (le-ltb c.place x.place (omega (arith, h)))
 grown_earlier (Some x) None c h k true false = refl
-grown_earlier (Some x) None c h k false true = ap (λ (b : Bool). if b then Some c else Some x) (not_less x.place c.place h)
+grown_earlier (Some x) None c h k false true = ap (λ (b : Bool). if b then Some c else Some x) (le-ltb c.place x.place (omega (arith, h)))
 grown_earlier (Some x) None c h k false false = refl
 grown_earlier (Some x) (Some y) c h k true q = by q where
   by : (q : Bool) → earlier (Some x) (grown q c (Some y)) ≡ option_or (earlier (Some x) (Some y)) (Some c)
@@ -110,14 +105,7 @@ module _ (set : MsmSet) (tows : BySystem SystemTows) (system : System) (form : F
   earliest_grown (s ∷ ss) =
       ap₂ earlier (entry_grown s) (earliest_grown ss)
       ∙ grown_earlier (entry set tows s) (earliest set tows ss) c (entry_before set tows c.place before s) (earliest_before set tows c.place before ss) (is_system system s && is_in) (list_any (is_system system) ss && is_in)
-      ∙ ap (λ (b : Bool). grown b c (earlier (entry set tows s) (earliest set tows ss))) (distributed (is_system system s) (list_any (is_system system) ss) is_in)
-    where
-      distributed : (a b d : Bool) → (a && d || b && d) ≡ ((a || b) && d)
-      distributed true true true = refl
-      distributed true true false = refl
-      distributed true false true = refl
-      distributed true false false = refl
-      distributed false b d = refl
+      ∙ ap (λ (b : Bool). grown b c (earlier (entry set tows s) (earliest set tows ss))) (sym (and-or_distrib_right (is_system system s) (list_any (is_system system) ss) is_in))
 
   pub first_grown : earliest set (with_value_of system tows now) systems ≡ grown (value_of system set.systems && have_form set.forms form) c (earliest set tows systems)
   first_grown = earliest_grown systems ∙ ap (λ (b : Bool). grown (b && is_in) c (earliest set tows systems)) (any_system system)

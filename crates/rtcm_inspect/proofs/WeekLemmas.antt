@@ -1,4 +1,5 @@
 -- The nearest week, and the time of the first MSM.
+use Rattle.rtcm_inspect.proofs.FirstLemmas.{or_more, or_none}
 use Rattle.rtcm_inspect.proofs.Names.{◌≡◌, ◌∙◌, ◌+◌, ◌-◌, ◌*◌, ◌/◌, ◌<◌, ◌≤◌, ◌==◌, ◌&&◌, ◌||◌, ◌++◌, ℕ, Bool, true, false, List, [], ◌∷◌, Option, Some, None, Result, Ok, Err, refl, sym, ap, ap₂, arith, cons_option, filter_map, nat_lt, option_and_then, if◌then◌else◌, option_or, option_map_or, week, weeks, Framed, message_with, MsmSet, MsgFault, Message, Station, Msm4, Msm5, Msm6, Msm7, Other, GatherSetup, Heard, is_own, is_of_station, Timed, ahead, greatest_time, is_closed, is_past, max_known, taken_at, timed_after, first_tow, tow_of, ChannelsValue, every_channel, heard_in, heard_of, IsNearestWeek, IsWeekNear, half_week, first_time, inl, inr}
 
 -- ---- the nearest week, by its quotient q: n = q * week + r
@@ -65,10 +66,7 @@ has_station channels leap (Err e) m tow is t = cc
 
 first_time-append : (xs ys : List Timed) → first_time (xs ++ ys) ≡ option_or (first_time xs) (first_time ys)
 first_time-append [] ys = refl
-first_time-append (x ∷ xs) ys = ap (option_or x.time) (first_time-append xs ys) ∙ by x.time where
-  by : (t : Option ℕ) → option_or t (option_or (first_time xs) (first_time ys)) ≡ option_or (option_or t (first_time xs)) (first_time ys)
-  by None = refl
-  by (Some t) = refl
+first_time-append (x ∷ xs) ys = ap (option_or x.time) (first_time-append xs ys) ∙ or_more x.time (first_time xs) (first_time ys)
 
 -- without a first time there is no greatest one
 none_greatest : (xs : List Timed) → first_time xs ≡ None → greatest_time xs ≡ None
@@ -85,15 +83,10 @@ first_stays s t earlier (m ∷ ms) h =
     let x : Timed = record { message = m; time = taken_at s earlier m } in
     first_stays s t (earlier ++ x ∷ []) ms (first_time-append earlier (x ∷ []) ∙ ap (λ (o : Option ℕ). option_or o (first_time (x ∷ []))) h)
 
--- one more message, whose time isn't accepted
-still_none : (earlier : List Timed) (x : Timed) → x.time ≡ None → first_time earlier ≡ None → first_time (earlier ++ x ∷ []) ≡ None
-still_none earlier x none h =
-    first_time-append earlier (x ∷ []) ∙ ap (λ (o : Option ℕ). option_or o (first_time (x ∷ []))) h ∙ ap (λ (o : Option ℕ). option_or o None) none
-
--- the first one whose time is accepted
-now_first : (earlier : List Timed) (x : Timed) (t : ℕ) → x.time ≡ Some t → first_time earlier ≡ None → first_time (earlier ++ x ∷ []) ≡ Some t
-now_first earlier x t is h =
-    first_time-append earlier (x ∷ []) ∙ ap (λ (o : Option ℕ). option_or o (first_time (x ∷ []))) h ∙ ap (λ (o : Option ℕ). option_or o None) is
+-- one more message, the first one whose time may be accepted
+first_or_none : {time : Option ℕ} (earlier : List Timed) (x : Timed) → first_time earlier ≡ None → x.time ≡ time → first_time (earlier ++ x ∷ []) ≡ time
+first_or_none earlier x none is =
+    first_time-append earlier (x ∷ []) ∙ ap (λ (o : Option ℕ). option_or o (first_time (x ∷ []))) none ∙ or_none x.time ∙ is
 
 -- the parts of a time of week that was found
 tow_parts : (wanted : Option ℕ) (m : Heard) (t : ℕ) → tow_of wanted m ≡ Some t → (is_of_station wanted m ≡ true) × (m.tow ≡ Some t)
@@ -147,13 +140,13 @@ dated_step {tow} {rest} s (Some m) ms now more station earlier none first = by (
   x = record { message = m; time = taken_at s earlier m }
 
   by : (t : Option ℕ) → tow_of s.station m ≡ t → option_or t rest ≡ Some tow → first_time (timed_after s (earlier ++ x ∷ []) ms) ≡ Some (s.start_week * week + tow)
-  by None e first = more (earlier ++ x ∷ []) (still_none earlier x (not_taken s earlier m e) none) first
+  by None e first = more (earlier ++ x ∷ []) (first_or_none earlier x none (not_taken s earlier m e)) first
   by (Some t) e first =
       let parts = tow_parts s.station m t e in
       let is : m.tow ≡ Some tow = parts.1 ∙ first in
       let from = station m tow refl is in
       let own = counts_own s m from.0 from.1 parts.0 in
-      first_stays s (s.start_week * week + tow) (earlier ++ x ∷ []) ms (now_first earlier x (s.start_week * week + tow) (taken_first s earlier m now (none_greatest earlier none) own is) none)
+      first_stays s (s.start_week * week + tow) (earlier ++ x ∷ []) ms (first_or_none earlier x none (taken_first s earlier m now (none_greatest earlier none) own is))
 
 -- the time of week doesn't depend on the channels
 same_tow : (wanted : Option ℕ) (c d : ChannelsValue) (leap : ℕ) (r : Result Message MsgFault) → option_and_then (tow_of wanted) (heard_of c leap r) ≡ option_and_then (tow_of wanted) (heard_of d leap r)
