@@ -1,4 +1,5 @@
 -- A command after an option or a command is added.
+use Rattle.std.proofs.lemmas.Bool.{and_parts, not-true}
 use Rattle.rtcm2rinex.specs.CommandLine.{rows_of}
 use Rattle.rtcm2rinex.proofs.Names.{◌≡◌, ◌+◌, ◌<◌, ◌&&◌, ◌∷◌, [], ℕ, Bool, Result, Ok, Err, IfErr, List, Some, true, false, not, is_some, length, map, take, get_or, inl, inr, refl, sym, subst, ap, ap₂, ◌∙◌, map_more, fold-append, Rule, Text, is_empty, rule_of, App, app_of, built, app_of_fields, is_simple, new_app, on_top, with_rule, with_subcommand, AddsArg, AddsSubcommand, is_free_app, is_simple_and_free, clap_on_literals, FailsBy, HasKind, Kinds, Error, Bor, CommandRow, OptionRow, Tables, FailsParsing, RefusesWords, command_set, more_of, option_set, program, with_commands, with_options, kind_of, Arg, Command, out-Command}
 use Rattle.rtcm2rinex.specs.declared.commands.Options.TheVariants as options
@@ -7,20 +8,11 @@ use Rattle.clap.specs.declared.error.kind.ErrorKind.TheVariants as kind
 use Rattle.clap.specs.declared.builder.action.ArgAction.TheVariants as action
 
 pub second : (a b : Bool) → (a && b) ≡ true → b ≡ true
-second true b e = e
-second false b e = cc
-
-pub first_half : (a b : Bool) → (a && b) ≡ true → a ≡ true
-first_half true b e = refl
-first_half false b e = cc
-
-isnt : (a : Bool) → not a ≡ true → a ≡ false
-isnt true e = cc
-isnt false e = refl
+second a b e = (and_parts a b e).1
 
 -- an option that clap's definitions read belongs to its command alone
 local : (a : Arg) (r : Rule) → rule_of a ≡ r → r.is_simple ≡ true → a.global ≡ false
-local a r is simple = isnt a.global (second (not a.last) _ (second (not a.require_equals) _
+local a r is simple = not-true a.global (second (not a.last) _ (second (not a.require_equals) _
     (second (not a.allow_negative_numbers) _ (second (not a.allow_hyphen_values) _
     (second (not (is_some a.terminator)) _ (second (not (is_some a.val_delim)) _
     (second (is_empty a.groups.items) _ (second (is_empty a.default_vals_ifs.items) _
@@ -29,8 +21,8 @@ local a r is simple = isnt a.global (second (not a.last) _ (second (not a.requir
 has_local : (c : Command) (a : App) → app_of c ≡ a → a.top.is_plain ≡ true → (out-Command c).has_globals ≡ false
 has_local c a is plain =
     let f = out-Command c in
-    isnt f.has_globals (first_half (not f.has_globals) _ (second (not f.allow_external_subcommands) _
-    (second (is_empty f.groups.items) _ (ap (λ (x : App). x.top.is_plain) is ∙ plain))))
+    not-true f.has_globals (and_parts (not f.has_globals) _ (second (not f.allow_external_subcommands) _
+    (second (is_empty f.groups.items) _ (ap (λ (x : App). x.top.is_plain) is ∙ plain)))).0
 
 -- a command with a version that requires a subcommand
 pub versioned : (c d e : Command) {a : App} {t : Bor Text} → out-Command d ≡ record (out-Command c) { version = Some t }
@@ -72,7 +64,7 @@ unfolding clap_on_literals
 is_read forms rules = refl
 
 pub is_simple_read : (a : App) → is_simple_and_free a ≡ true → is_simple a ≡ true
-is_simple_read a read = first_half (is_simple a) (is_free_app (built a)) read
+is_simple_read a read = (and_parts (is_simple a) (is_free_app (built a)) read).0
 
 -- the reason why a parse failed, if clap's definitions read the words
 pub why : {T : Type 0} (kinds : Kinds) (r : Result T Error) → FailsBy kinds r → IfErr r (HasKind kinds)

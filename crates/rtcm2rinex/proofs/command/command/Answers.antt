@@ -1,25 +1,16 @@
 use Rattle.rtcm2rinex.proofs.CommandLineLemmas.{is_version}
-use Rattle.rtcm2rinex.proofs.CommandLemmas.{Devices, answered_in_part, failed_to_serve, has_command, refused_at_two, refused_words, served}
+use Rattle.rtcm2rinex.proofs.CommandLemmas.{Devices, Served, answered_in_part, failed_to_serve, has_command, refused_at_two, refused_words, served}
 use Rattle.rtcm2rinex.proofs.Names.{inr, refl, texts}
 use Rattle.rtcm2rinex.proofs.command.command.Goals as goal
 
 pub run-ended-requires : goal.run-ended-requires
 run-ended-requires g c = has_command (texts c.args.words.now) c.in-Ok.matches c.in-Ok.ensures.asked
 
-pub returns-in-Ok-clause-good : goal.returns-in-Ok-clause-good
-returns-in-Ok-clause-good g c =
+pub returns-in-Ok : goal.returns-in-Ok
+returns-in-Ok g c =
     let d : Devices _ _ = record { left = g.R.Read.remaining; held = g.W.Write.contents; waits = g.W.Deliver.waiting; r = c.args.reader.now; r2 = c.run-ended.new.reader; w = c.args.writer.now; w2 = c.run-ended.new.writer } in
-    served {d = d} {m = c.in-Ok.matches} c.run-ended.result (record { is = c.exit_status.ensures.value; line = c.exit_status.ensures.line; found = c.in-Ok.ensures.asked; end = c.run-ended.ensures })
-
-pub returns-in-Ok-clause-stopped : goal.returns-in-Ok-clause-stopped
-returns-in-Ok-clause-stopped g c =
-    let d : Devices _ _ = record { left = g.R.Read.remaining; held = g.W.Write.contents; waits = g.W.Deliver.waiting; r = c.args.reader.now; r2 = c.run-ended.new.reader; w = c.args.writer.now; w2 = c.run-ended.new.writer } in
-    failed_to_serve {d = d} {m = c.in-Ok.matches} c.run-ended.result (record { is = c.exit_status.ensures.value; line = c.exit_status.ensures.line; found = c.in-Ok.ensures.asked; end = c.run-ended.ensures })
-
-pub returns-in-Ok-clause-refused : goal.returns-in-Ok-clause-refused
-returns-in-Ok-clause-refused g c =
-    let d : Devices _ _ = record { left = g.R.Read.remaining; held = g.W.Write.contents; waits = g.W.Deliver.waiting; r = c.args.reader.now; r2 = c.run-ended.new.reader; w = c.args.writer.now; w2 = c.run-ended.new.writer } in
-    refused_at_two {d = d} {m = c.in-Ok.matches} c.run-ended.result (record { is = c.exit_status.ensures.value; line = c.exit_status.ensures.line; found = c.in-Ok.ensures.asked; end = c.run-ended.ensures })
+    let s : Served d g.E.Write.contents g.E.Deliver.waiting c.args.faults.now c.run-ended.new.faults c.exit_status.new.faults (texts c.args.words.now) c.in-Ok.matches c.run-ended.result c.exit_status.result = record { is = c.exit_status.ensures.value; line = c.exit_status.ensures.line; found = c.in-Ok.ensures.asked; end = c.run-ended.ensures } in
+    record { status = c.exit_status.ensures.range; good = served c.run-ended.result s; stopped = failed_to_serve c.run-ended.result s; refused = refused_at_two c.run-ended.result s }
 
 pub returns-in-Err-clause-good : goal.returns-in-Err-clause-good
 returns-in-Err-clause-good g c = λ e. (let good = c.answer-status.ensures.good e in
