@@ -28,7 +28,7 @@ pub use Rattle.gnss_obs.specs.declared.cell.StationValues.{StationValues}
 pub use Rattle.rtcm2rinex.specs.Asked.{EndsCheck, EndsCheckAsked, EndsOptionsAsked, RefusesDate, RefusesGaps, StopsCheckAsked, StopsOptionsAsked}
 pub use Rattle.rtcm2rinex.specs.CommandLine.{FailsParsing, IsCommand, IsFoundIn, IsProgram, Makes, RefusesWords, SelectsCommand, command_set, more_of, option_set, program, start_of, with_commands, with_options}
 pub use Rattle.rtcm2rinex.specs.Commands.{AreRefused, AreRefusedBy, EndsCommand, EndsFound, HasCommand, HasCompleted, HasDone, HasPrinted, HasStopped, HasStoppedEarly, HasStoppedPrinting, StopsPrinting, fault_status, status_of}
-pub use Rattle.rtcm2rinex.specs.Converting.{EndsConversion, EndsConverting, StopsConversion, StopsConverting}
+pub use Rattle.rtcm2rinex.specs.Converting.{EndsConversion, EndsConverting, StopsConversion}
 pub use Rattle.rtcm_inspect.specs.ChannelTexts.{channels_of}
 pub use Rattle.rtcm_inspect.specs.Dates.{IsHourOf, IsWeekOf}
 pub use Rattle.rtcm2rinex.specs.Devices.{Ends, HaveFailedBy, IsInspected, of_inspection}
@@ -39,7 +39,7 @@ pub use Rattle.rtcm2rinex.specs.Printing.{PrintsFault}
 unfoldable pub use Rattle.rtcm2rinex.specs.Reports.{report_line}
 pub use Rattle.rtcm2rinex.specs.Reports.{counts_named}
 unfoldable pub use Rattle.rtcm2rinex.specs.SetupOptions.{plan_set}
-pub use Rattle.rtcm2rinex.specs.SetupOptions.{HasSetupFault, IsFirstFault, IsNearRefused, IsNearSet, IsNoonOf, IsNumberOf, IsNumberOr, IsSetupRefused, IsWeekRefused, IsWeekSet, channels_by, channels_set, gaps_set, has_flag, interval_by, interval_in, options_of, text_set, values_by, values_in, values_set}
+pub use Rattle.rtcm2rinex.specs.SetupOptions.{HasSetupFault, IsFirstFault, IsNearRefused, IsNearSet, IsNoonOf, IsNumberOf, IsNumberOr, IsSetupRefused, IsWeekSet, channels_by, channels_set, gaps_set, has_flag, interval_by, interval_in, options_of, text_set, values_by, values_in, values_set}
 pub use Rattle.rtcm2rinex.specs.declared.commands.CommandRow.{CommandRow}
 pub use Rattle.rtcm2rinex.specs.declared.commands.OptionRow.{OptionRow}
 pub use Rattle.rtcm2rinex.specs.declared.commands.Tables.{Tables}

@@ -27,8 +27,8 @@ use crate::convert::{report_line, run_convert_with};
 use crate::error_lines::error_line;
 use crate::fault::ToolFault;
 use crate::options::{
-    channels_of, forms_of, gaps_of, has_all, has_times, leap_seconds_of, near_of, setup_of,
-    start_week_of, station_of, values_of,
+    channels_of, forms_of, gaps_of, has_flag, leap_seconds_of, near_of, setup_of, start_week_of,
+    station_of, values_of,
 };
 use clap::ArgMatches;
 use clap::error::ErrorKind;
@@ -102,7 +102,7 @@ fn run<R: Read, W: Deliver, E: Deliver>(
     };
     match name {
         "frames" => of_inspection(run_frames(alloc, reader, writer)),
-        "show" => of_inspection(show(alloc, has_all(options), reader, writer)),
+        "show" => of_inspection(show(alloc, has_flag(options, "all"), reader, writer)),
         "signals" => of_inspection(run_signals(alloc, station_of(options), reader, writer)),
         "options" => print_options(alloc, options, reader, writer),
         "convert" => convert(alloc, options, reader, writer, faults),
@@ -159,7 +159,7 @@ fn check<R: Read, W: Deliver>(
         W.contents W.waiting writer.old writer.new }
 {
     let interval = gaps_of(options)?;
-    of_inspection(check_by(alloc, interval, has_times(options), reader, writer))
+    of_inspection(check_by(alloc, interval, has_flag(options, "times"), reader, writer))
 }
 
 /// Reads a file back, and prints the times, and the gaps at an interval.
@@ -202,13 +202,9 @@ fn convert<R: Read, W: Deliver, E: Deliver>(
         forms: forms_of(options),
         leap_seconds: leap_seconds_of(options),
     };
-    match run_convert_with(alloc, setup, given, reader, writer) {
-        Ok(report) => {
-            print_line(report_line(&report).as_bytes(), faults);
-            Ok(())
-        }
-        Err(fault) => Err(fault),
-    }
+    let report = run_convert_with(alloc, setup, given, reader, writer)?;
+    print_line(report_line(&report).as_bytes(), faults);
+    Ok(())
 }
 
 /// Prints the version if the words ask for it, else clap's error. Returns the exit status.

@@ -1,6 +1,6 @@
 //! The lines of errors, on standard error.
-ghost use Rattle.std.specs.Prelude.{◌≡◌, ◌+◌, ◌≤◌, ◌∷◌, codes, length};
-ghost use Rattle.rtcm2rinex.specs.ErrorLines.{conversion_word, date_words, error_line, error_words};
+ghost use Rattle.std.specs.Prelude.{◌≡◌, ◌+◌, ◌≤◌, length};
+ghost use Rattle.rtcm2rinex.specs.ErrorLines.{conversion_word, error_line, error_words};
 ghost use Rattle.rtcm_inspect.specs.Lines.{longest_error, longest_fault_name, longest_start, with_words};
 
 use crate::fault::{DateOption, ToolFault};
@@ -27,7 +27,15 @@ fn add_error(line: &mut OutputLine, fault: ToolFault)
 {
     match fault {
         ToolFault::Memory => line.add_word("Memory"),
-        ToolFault::BadDate(option) => add_bad_date(line, option),
+        ToolFault::BadDate(DateOption::Week) => {
+            line.add_word("BadDate");
+            line.add_word("--week WEEK: a GPS week, 0 to 99999,");
+            line.add_word("or a date yyyy-mm-dd, 1980-01-06 to 3896-07-18");
+        }
+        ToolFault::BadDate(DateOption::Near) => {
+            line.add_word("BadDate");
+            line.add_word("--near DATE: a date yyyy-mm-dd, 1980-01-06 to 3896-07-18");
+        }
         ToolFault::BadPosition => {
             line.add_word("BadPosition");
             line.add_word("--position X,Y,Z: metres, up to 8 digits and 4 decimals each,");
@@ -50,24 +58,6 @@ fn add_error(line: &mut OutputLine, fault: ToolFault)
         ToolFault::Plan(fault) => add_plan_error(line, fault),
         ToolFault::Convert(fault) => line.add_word(conversion_name(fault)),
         ToolFault::Inspect(fault) => add_inspection_error(line, fault),
-    }
-}
-
-/// Adds the name of an invalid date, its option and the forms that this accepts.
-fn add_bad_date(line: &mut OutputLine, option: DateOption)
-    requires { length line.old ≤ longest_start }
-    ensures text { line.new ≡ with_words line.old (codes "BadDate" ∷ date_words option) }
-    ensures short { length line.new ≤ length line.old + longest_error }
-{
-    line.add_word("BadDate");
-    match option {
-        DateOption::Week => {
-            line.add_word("--week WEEK: a GPS week, 0 to 99999,");
-            line.add_word("or a date yyyy-mm-dd, 1980-01-06 to 3896-07-18");
-        }
-        DateOption::Near => {
-            line.add_word("--near DATE: a date yyyy-mm-dd, 1980-01-06 to 3896-07-18");
-        }
     }
 }
 

@@ -71,18 +71,11 @@ pub fn gaps_of(options: &ArgMatches) -> Result<Option<u64>, ToolFault>
     }
 }
 
-/// Returns whether all messages are shown.
-pub fn has_all(options: &ArgMatches) -> bool
-    ensures { result ≡ has_flag (codes "all") (options_of options.now) }
+/// Returns whether the flag of this name is given.
+pub fn has_flag(options: &ArgMatches, name: &str) -> bool
+    ensures { result ≡ has_flag name.now (options_of options.now) }
 {
-    text(options, "all") == "true"
-}
-
-/// Returns whether times are printed.
-pub fn has_times(options: &ArgMatches) -> bool
-    ensures { result ≡ has_flag (codes "times") (options_of options.now) }
-{
-    text(options, "times") == "true"
+    text(options, name) == "true"
 }
 
 /// Returns the settings of a conversion that begins in a week, with these channels. The texts of the
@@ -117,10 +110,8 @@ pub fn setup_of(
 fn plan_of(alloc: Global, options: &ArgMatches) -> Result<Plan, PlanFault>
     ensures { IsDefined (plan_set (options_of options.now)) result }
 {
-    Plan::parse_all(
-        alloc,
-        &BySystem::each(|system| text(options, system.name())),
-    )
+    let lists = BySystem::each(|system| text(options, system.name()));
+    Plan::parse_all(alloc, &lists)
 }
 
 /// Returns the texts of the header.
@@ -194,17 +185,10 @@ pub fn values_of(options: &ArgMatches) -> Result<StationValues, ToolFault>
     ensures { result ≡ values_set (options_of options.now) }
 {
     let position = position_of(text(options, "position"));
+    let (x, y, z) = position.ok_or(ToolFault::BadPosition)?;
     let height = length_below(text(options, "antenna-height"), 1 << 16);
-    match (position, height) {
-        (None, _) => Err(ToolFault::BadPosition),
-        (Some(_), None) => Err(ToolFault::BadHeight),
-        (Some((x, y, z)), Some(height)) => Ok(StationValues {
-            x,
-            y,
-            z,
-            height: height as u16,
-        }),
-    }
+    let height = height.ok_or(ToolFault::BadHeight)? as u16;
+    Ok(StationValues { x, y, z, height })
 }
 
 /// Returns the channels of the options.
@@ -215,8 +199,6 @@ pub fn values_of(options: &ArgMatches) -> Result<StationValues, ToolFault>
 pub fn channels_of(options: &ArgMatches) -> Result<Channels, ToolFault>
     ensures { result ≡ channels_set (options_of options.now) }
 {
-    match rtcm_inspect::channels_of(text(options, "glonass-channels")) {
-        Some(channels) => Ok(channels),
-        None => Err(ToolFault::BadChannels),
-    }
+    let channels = rtcm_inspect::channels_of(text(options, "glonass-channels"));
+    channels.ok_or(ToolFault::BadChannels)
 }

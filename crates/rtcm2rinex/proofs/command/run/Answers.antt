@@ -16,7 +16,7 @@ returns-in-show g c =
     let d : Devices _ _ = record { left = g.R.Read.remaining; held = g.W.Write.contents; waits = g.W.Deliver.waiting; r = c.args.reader.now; r2 = c.show.new.reader; w = c.args.writer.now; w2 = c.show.new.writer } in
     inspection_found d g.E.Write.contents g.E.Deliver.waiting c.args.faults.now c.show.result c.of_inspection-in-show.ensures (sub_found _ c.in-Some.ensures.name c.in-Some.ensures.rows)
     (λ x h. inr (inl (c.in-show.is, h)), λ f h. inr (inl (c.in-show.is, h)))
-    (subst (λ (b : Bool). EndsListing c.show.result most_bytes (show_lines b) g.R.Read.remaining c.args.reader.now c.show.new.reader g.W.Write.contents g.W.Deliver.waiting c.args.writer.now c.show.new.writer) c.has_all.ensures c.show.ensures)
+    (subst (λ (b : Bool). EndsListing c.show.result most_bytes (show_lines b) g.R.Read.remaining c.args.reader.now c.show.new.reader g.W.Write.contents g.W.Deliver.waiting c.args.writer.now c.show.new.writer) c.has_flag.ensures c.show.ensures)
 
 pub returns-in-signals : goal.returns-in-signals
 returns-in-signals g c =

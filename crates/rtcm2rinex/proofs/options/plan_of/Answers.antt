@@ -11,6 +11,6 @@ pub returns : goal.returns
 unfolding plan_set
 returns c =
     let options = options_of c.args.options.now in
-    let texts = is_tabulated (map_by (λ t. t.now) c.each.result) (λ s. text_set options (name_of s))
-    (λ s. value_mapped s (λ t. t.now) c.each.result ∙ (let given = c.each.ensures s in search rules)) in
+    let texts = is_tabulated (map_by (λ t. t.now) c.each-lists.result) (λ s. text_set options (name_of s))
+    (λ s. value_mapped s (λ t. t.now) c.each-lists.result ∙ (let given = c.each-lists.ensures s in search rules)) in
     subst (λ (t : BySystem (List ℕ)). IsDefined (plan_of t) c.parse_all.result) texts c.parse_all.ensures
