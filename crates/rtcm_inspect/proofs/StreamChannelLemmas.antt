@@ -9,7 +9,7 @@ use Rattle.rtcm_msg.specs.Encoding.{number_of}
 use Rattle.rtcm_msg.specs.Fields.{cursor_at}
 use Rattle.rtcm_msg.specs.Numbers.{kind_of}
 use Rattle.rtcm_msg.proofs.MessageLaws.{message_there}
-use Rattle.rtcm_inspect.proofs.Names.{AreChannels, Bool, ChannelsValue, Err, Form, Framed, Galileo, Gps, IfSome, List, Message, MsgFault, Msm4, Msm5, Msm6, Msm7, MsmValue, None, Ok, Option, Other, Result, Some, System, [], ap, append-nil, arith, bits_of, channel_of_1020, channels_in, false, flat_map, flat_map-append, if◌then◌else◌, inspected, is_of_station, is_some, is_system, length, message_at, message_in, most_number, nat_le, nat_tests, no_channels, not, number_at, option_to_list, refl, sent_by, sent_channels, sent_in, sent_of, slot_count, sym, true, with_first, with_number, with_sent, ℕ, ◌&&◌, ◌++◌, ◌-◌, ◌==◌, ◌∙◌, ◌∷◌, ◌≡◌, ◌≤◌}
+use Rattle.rtcm_inspect.proofs.Names.{AreChannels, Bool, ChannelsValue, Err, Form, Framed, Galileo, Gps, IfSome, List, Message, MsgFault, MsmValue, None, Ok, Option, Other, Result, Some, System, [], ap, append-nil, arith, bits_of, channel_of_1020, channels_in, false, flat_map, flat_map-append, if◌then◌else◌, inspected, is_of_station, is_some, is_system, length, message_at, message_in, most_number, nat_le, nat_tests, no_channels, not, number_at, option_to_list, refl, sent_by, sent_channels, sent_in, sent_of, slot_count, sym, true, with_first, with_number, with_sent, ℕ, ◌&&◌, ◌++◌, ◌-◌, ◌==◌, ◌∙◌, ◌∷◌, ◌≡◌, ◌≤◌}
 
 -- ---- only a message 1020 has the channel of one
 

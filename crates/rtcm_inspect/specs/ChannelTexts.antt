@@ -1,5 +1,5 @@
 -- GLONASS channels as text: slots and their channels, as `1:1,2:-4`. Channels are kept as numbers: the channel plus 7.
-use Rattle.std.specs.Prelude.{ℕ, ◌+◌, ◌-◌, ◌==◌, ◌&&◌, nat_le, nat_lt, List, [], ◌∷◌, ◌++◌, get_or, codes, decimal}
+use Rattle.std.specs.Prelude.{ℕ, ◌+◌, ◌-◌, ◌==◌, ◌&&◌, nat_le, nat_lt, List, [], ◌∷◌, ◌++◌, get_or, decimal}
 use Rattle.std.specs.Prelude.{Option, Some, None, is_some, option_map, option_and_then, if◌then◌else◌}
 use Rattle.std.specs.List.{join_with_byte}
 use Rattle.gnss_obs.specs.Channels.{ChannelsValue, no_channels, number_at, slot_count, with_number}

@@ -1,7 +1,6 @@
 -- What the first messages of a stream contain, and the stations of its messages.
 use Rattle.std.specs.Prelude.{◌≡◌, ℕ, ◌==◌, ◌||◌, not, List, [], ◌∷◌, find, filter_map, Option, Some, None, is_some}
 use Rattle.std.specs.Prelude.{IfSome, option_and_then, if◌then◌else◌}
-use Rattle.std.specs.Option.{option_or}
 use Rattle.rtcm_scan.specs.Frames.{Framed}
 use Rattle.rtcm_msg.specs.Station.{InRange}
 use Rattle.rtcm_msg.specs.declared.station.StationParts.{StationParts}

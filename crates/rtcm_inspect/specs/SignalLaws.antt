@@ -1,5 +1,5 @@
 -- The plan of the signals printed for a stream loses no value.
-use Rattle.std.specs.Prelude.{◌≡◌, ℕ, ◌+◌, ◌<◌, ◌≤◌, true, not, List, [], length, Option, Some, Ok}
+use Rattle.std.specs.Prelude.{◌≡◌, ℕ, ◌+◌, ◌<◌, ◌≤◌, true, not, List, [], length, Option, Ok}
 use Rattle.std.specs.Option.{option_map_or}
 use Rattle.std.specs.List.{All, count_by}
 use Rattle.gnss_system.specs.SystemValues.{tabulate}

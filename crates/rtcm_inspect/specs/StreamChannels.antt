@@ -1,5 +1,5 @@
 -- The channels of GLONASS satellites that a stream has, as their numbers.
-use Rattle.std.specs.Prelude.{ℕ, ◌&&◌, nat_le, not, List, [], ◌∷◌, ◌++◌, flat_map, fold, is_some, if◌then◌else◌}
+use Rattle.std.specs.Prelude.{ℕ, ◌&&◌, nat_le, not, List, [], ◌++◌, flat_map, fold, is_some, if◌then◌else◌}
 use Rattle.std.specs.Prelude.{Option, option_to_list, Result, Ok, Err}
 use Rattle.gnss_obs.specs.Channels.{ChannelsValue, most_number, no_channels, number_at, slot_count, with_number}
 use Rattle.rtcm_msg.specs.Channels.{channel_of_1020, sent_channels}
