@@ -1,5 +1,5 @@
 //! The names of faults, and what they carry, as words of a line.
-ghost use Rattle.std.specs.Prelude.{◌≡◌, ◌+◌, ◌≤◌, [], ◌∷◌, decimal, length, map, option_to_list};
+ghost use Rattle.std.specs.Prelude.{◌≡◌, ◌+◌, ◌≤◌, [], ◌∷◌, decimal, length};
 ghost use Rattle.gnss_system.specs.Satellites.{letter};
 ghost use Rattle.rinex_file.specs.Texts.{field_name};
 ghost use Rattle.rtcm_inspect.specs.FaultWords.{file_words, header_words, inspection_words};
@@ -23,13 +23,7 @@ pub fn add_inspection_error(line: &mut OutputLine, fault: InspectFault)
         InspectFault::Read => line.add_word("Read"),
         InspectFault::Write => line.add_word("Write"),
         InspectFault::Scan(fault) => line.add_word(scan_name(fault)),
-        InspectFault::Check(fault) => {
-            let (name, number) = file_name(fault);
-            line.add_word(name);
-            if let Some(number) = number {
-                line.add_number(number);
-            }
-        }
+        InspectFault::Check(fault) => add_file_error(line, fault),
         InspectFault::SeveralStations(first, other) => {
             line.add_count("SeveralStations", u64::from(first));
             line.add_number(u64::from(other));
@@ -68,20 +62,21 @@ pub fn add_plan_error(line: &mut OutputLine, fault: PlanFault)
     }
 }
 
-/// Returns the name of a fault of a file, and the number of the line.
-fn file_name(fault: ReadFault) -> (&'static str, Option<u64>)
-    ensures words { file_words fault ≡ result.0.now ∷ map decimal (option_to_list result.1) }
-    ensures short { length result.0.now ≤ longest_fault_name }
+/// Adds the name of a fault of a file, and the number of the line, if any.
+fn add_file_error(line: &mut OutputLine, fault: ReadFault)
+    requires { length line.old ≤ longest_start }
+    ensures text { line.new ≡ with_words line.old (file_words fault) }
+    ensures short { length line.new ≤ length line.old + longest_error }
 {
     match fault {
-        ReadFault::Memory => ("Memory", None),
-        ReadFault::Read => ("Read", None),
-        ReadFault::BadHeader(k) => ("BadHeader", Some(k)),
-        ReadFault::BadEpoch(k) => ("BadEpoch", Some(k)),
-        ReadFault::BadEvent(k) => ("BadEvent", Some(k)),
-        ReadFault::BadSatellite(k) => ("BadSatellite", Some(k)),
-        ReadFault::CutShort(k) => ("CutShort", Some(k)),
-        ReadFault::TooLong => ("TooLong", None),
+        ReadFault::Memory => line.add_word("Memory"),
+        ReadFault::Read => line.add_word("Read"),
+        ReadFault::BadHeader(k) => line.add_count("BadHeader", k),
+        ReadFault::BadEpoch(k) => line.add_count("BadEpoch", k),
+        ReadFault::BadEvent(k) => line.add_count("BadEvent", k),
+        ReadFault::BadSatellite(k) => line.add_count("BadSatellite", k),
+        ReadFault::CutShort(k) => line.add_count("CutShort", k),
+        ReadFault::TooLong => line.add_word("TooLong"),
     }
 }
 

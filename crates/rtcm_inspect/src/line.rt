@@ -128,7 +128,8 @@ impl OutputLine {
     /// Appends a separator and the last two digits of a number.
     pub(crate) fn add_two(&mut self, separator: u8, number: u64)
         requires { length self.old + 3 ≤ longest_line }
-        ensures { self.new ≡ self.old ++ separator ∷ two_digits number }
+        ensures text { self.new ≡ self.old ++ separator ∷ two_digits number }
+        ensures short { length self.new ≡ length self.old + 3 }
     {
         self.put(&[separator, digit(number / 10), digit(number)]);
     }
@@ -136,7 +137,8 @@ impl OutputLine {
     /// Appends a separator and the last three digits of a number.
     pub(crate) fn add_three(&mut self, separator: u8, number: u64)
         requires { length self.old + 4 ≤ longest_line }
-        ensures { self.new ≡ self.old ++ separator ∷ three_digits number }
+        ensures text { self.new ≡ self.old ++ separator ∷ three_digits number }
+        ensures short { length self.new ≡ length self.old + 4 }
     {
         self.add_two(separator, number / 10);
         self.put(&[digit(number)]);
@@ -145,7 +147,8 @@ impl OutputLine {
     /// Appends a separator and the last four digits of a number.
     pub(crate) fn add_four(&mut self, separator: u8, number: u64)
         requires { length self.old + 5 ≤ longest_line }
-        ensures { self.new ≡ self.old ++ separator ∷ four_digits number }
+        ensures text { self.new ≡ self.old ++ separator ∷ four_digits number }
+        ensures short { length self.new ≡ length self.old + 5 }
     {
         self.add_two(separator, number / 100);
         self.put(&[digit(number / 10), digit(number)]);

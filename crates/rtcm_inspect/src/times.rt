@@ -1,11 +1,11 @@
 //! Times as text, and the lines of `check --times`.
-ghost use Rattle.std.specs.Prelude.{◌≡◌, ◌+◌, ◌≤◌, ◌∷◌, ◌++◌, length};
-ghost use Rattle.rtcm_inspect.specs.DateTexts.{clock_bytes, clock_text, date_text, longest_times};
+ghost use Rattle.std.specs.Prelude.{◌≡◌, ◌+◌, ◌≤◌, ◌++◌, length};
+ghost use Rattle.rtcm_inspect.specs.DateTexts.{longest_times};
 ghost use Rattle.rtcm_inspect.specs.DateTexts.{moment_bytes, moment_words, step_line, time_line, times_lines};
 ghost use Rattle.rtcm_inspect.specs.Lines.{with_words};
 
 use crate::line::OutputLine;
-use gnss_obs::{Civil, GpsTime};
+use gnss_obs::GpsTime;
 use rinex_file::EpochTimes;
 
 /// Adds the lines of the times of a file's epochs.
@@ -38,28 +38,10 @@ pub(crate) fn add_moment(text: &mut OutputLine, time: GpsTime)
     ensures short { length text.new ≤ length text.old + moment_bytes }
 {
     let civil = time.civil();
-    add_date(text, &civil);
-    add_clock(text, &civil);
-}
-
-/// Adds a blank and a date.
-fn add_date(text: &mut OutputLine, civil: &Civil)
-    requires { length text.old ≤ 300 }
-    ensures text { text.new ≡ text.old ++ 0x20 ∷ date_text civil.now }
-    ensures short { length text.new ≤ length text.old + 11 }
-{
+    let millisecond = u64::from(civil.millisecond);
     text.add_four(b' ', u64::from(civil.year));
     text.add_two(b'-', u64::from(civil.month));
     text.add_two(b'-', u64::from(civil.day));
-}
-
-/// Adds a blank and a time of day, in milliseconds.
-fn add_clock(text: &mut OutputLine, civil: &Civil)
-    requires { length text.old ≤ 300 }
-    ensures text { text.new ≡ text.old ++ 0x20 ∷ clock_text civil.now }
-    ensures short { length text.new ≤ length text.old + clock_bytes }
-{
-    let millisecond = u64::from(civil.millisecond);
     text.add_two(b' ', u64::from(civil.hour));
     text.add_two(b':', u64::from(civil.minute));
     text.add_two(b':', millisecond / 1_000);
