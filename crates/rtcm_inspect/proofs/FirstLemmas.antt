@@ -1,5 +1,6 @@
 -- What the first messages contain, after one more frame.
-use Rattle.rtcm_inspect.proofs.Names.{◌≡◌, ◌∙◌, ◌==◌, ◌++◌, ℕ, true, false, not, List, [], ◌∷◌, Option, Some, None, Result, Ok, Err, IfSome, refl, sym, ap, find, append-nil, arith, option_and_then, option_or, filter_map-append, find-append, Framed, message_at, InRange, StationParts, MsgFault, Message, Heard, inspected, AreFirst, first_in, first_station, option_to_list, point_of, sender, stations_in, stations_of, with_other, inspected_at, inspected_of, AreTows, FirstMessages, One, Several}
+use Rattle.rtcm_inspect.specs.declared.first_messages.Stations.TheVariants.{Unknown}
+use Rattle.rtcm_inspect.proofs.Names.{Bool, Stations, if◌then◌else◌, ◌≡◌, ◌∙◌, ◌==◌, ◌++◌, ℕ, true, false, not, List, [], ◌∷◌, Option, Some, None, Result, Ok, Err, IfSome, refl, sym, ap, find, append-nil, arith, option_and_then, option_or, filter_map-append, find-append, Framed, message_at, InRange, StationParts, MsgFault, Message, Heard, inspected, AreFirst, first_in, first_station, option_to_list, point_of, sender, stations_in, stations_of, with_other, inspected_at, inspected_of, AreTows, FirstMessages, One, Several}
 
 pub or_more : {A : Type 0} (a b c : Option A) → option_or a (option_or b c) ≡ option_or (option_or a b) c
 or_more None b c = refl
@@ -50,32 +51,19 @@ first_refused {wanted} {fs} f {e} is tows h = record {
 
 -- ---- one more station
 
--- the same one, or another
-more_of_one : (a : ℕ) (ns : List ℕ) (n : ℕ) (other : Option ℕ) → find (λ m. not (m == a)) (n ∷ []) ≡ other → find (λ m. not (m == a)) ns ≡ None → with_other a other ≡ stations_in (a ∷ ns ++ n ∷ [])
-more_of_one a ns n other is none =
-    ap (with_other a) (sym is) ∙ ap (λ (o : Option ℕ). with_other a (option_or o (find (λ m. not (m == a)) (n ∷ [])))) (sym none)
-    ∙ ap (with_other a) (sym (find-append (λ m. not (m == a)) ns (n ∷ [])))
+-- the stations after one more
+abbrev pub next : Stations → ℕ → Stations
+next Unknown n = One n
+next (One a) n = if n == a then One a else Several a n
+next (Several a b) n = Several a b
 
-pub one_kept : (ns : List ℕ) (a n : ℕ) → n ≡ a → One a ≡ stations_in ns → One a ≡ stations_in (ns ++ n ∷ [])
-one_kept [] a n same e = cc
-one_kept (b ∷ ns) a n same e = by (find (λ m. not (m == b)) ns) refl e where
-  by : (o : Option ℕ) → find (λ m. not (m == b)) ns ≡ o → One a ≡ with_other b o → One a ≡ stations_in (b ∷ ns ++ n ∷ [])
-  by (Some c) none e = cc
-  by None none e = let p : a ≡ b = (let q = e in cc) in
-      (ap One p ∙ more_of_one b ns n None (let t : (n == b) ≡ true = grind (arith, same, p) in grind (arith, t)) none)
+pub one_more : (ns : List ℕ) (n : ℕ) → next (stations_in ns) n ≡ stations_in (ns ++ n ∷ [])
+one_more [] n = refl
+one_more (a ∷ ns) n = by (find (λ m. not (m == a)) ns) ∙ ap (with_other a) (sym (find-append (λ m. not (m == a)) ns (n ∷ []))) where
+  new : (b : Bool) → (if b then One a else Several a n) ≡ with_other a (if not b then Some n else None)
+  new true = refl
+  new false = refl
 
-pub one_more : (ns : List ℕ) (a n : ℕ) → (a ≡ n → ⊥) → One a ≡ stations_in ns → Several a n ≡ stations_in (ns ++ n ∷ [])
-one_more [] a n other e = cc
-one_more (b ∷ ns) a n other e = by (find (λ m. not (m == b)) ns) refl e where
-  by : (o : Option ℕ) → find (λ m. not (m == b)) ns ≡ o → One a ≡ with_other b o → Several a n ≡ stations_in (b ∷ ns ++ n ∷ [])
-  by (Some c) none e = cc
-  by None none e = let p : a ≡ b = (let q = e in cc) in
-      (ap (λ (x : ℕ). Several x n) p ∙ more_of_one b ns n (Some n) (let t : (n == b) ≡ false = grind (arith, other, p) in grind (arith, t)) none)
-
-pub several_kept : (ns : List ℕ) (a b n : ℕ) → Several a b ≡ stations_in ns → Several a b ≡ stations_in (ns ++ n ∷ [])
-several_kept [] a b n e = cc
-several_kept (c ∷ ns) a b n e = by (find (λ m. not (m == c)) ns) refl e where
-  by : (o : Option ℕ) → find (λ m. not (m == c)) ns ≡ o → Several a b ≡ with_other c o → Several a b ≡ stations_in (c ∷ ns ++ n ∷ [])
-  by None is e = cc
-  by (Some d) is e =
-      e ∙ ap (λ (o : Option ℕ). with_other c (option_or o (find (λ m. not (m == c)) (n ∷ [])))) (sym is) ∙ ap (with_other c) (sym (find-append (λ m. not (m == c)) ns (n ∷ [])))
+  by : (o : Option ℕ) → next (with_other a o) n ≡ with_other a (option_or o (find (λ m. not (m == a)) (n ∷ [])))
+  by (Some b) = refl
+  by None = new (n == a)
