@@ -1,6 +1,6 @@
 -- A listing as a consumer of frames.
 use Rattle.rtcm_inspect.proofs.StreamLemmas.{Began}
-use Rattle.rtcm_inspect.proofs.Names.{◌≡◌, ◌∙◌, ◌-◌, ◌<◌, ap, sym, subst, refl, arith, Bool, true, false, ℕ, List, [], ◌∷◌, ◌++◌, Option, append_assoc, append-nil, length, take, Appends, Keeps, flat_map-append, Appends-nil, Appends-trans, Appends-kept, AppendsPrefix, Device, HasFailed, IsPrefix, Framed, decided_frames, known_frames, ⊤, StreamFault, HaveFailedBy, stream_fault, AtFault, BreaksReading, Passes, PassesAll, PassesToLimit, Reads, FramerValue, Listing, Lists, ListsAll, ListsDecided, StopsListing, ListsPart, ListsToLimit, ListsUpTo, listing_line, listing_lines, piece_bytes}
+use Rattle.rtcm_inspect.proofs.Names.{Err, Ok, OnErr, OnOk, Result, DeviceFailed, WritesLine, ◌≡◌, ◌∙◌, ◌-◌, ◌<◌, ap, sym, subst, refl, arith, Bool, true, false, ℕ, List, [], ◌∷◌, ◌++◌, Option, append_assoc, append-nil, length, take, Appends, Keeps, flat_map-append, Appends-nil, Appends-trans, Appends-kept, AppendsPrefix, Device, HasFailed, IsPrefix, Framed, decided_frames, known_frames, ⊤, StreamFault, HaveFailedBy, stream_fault, AtFault, BreaksReading, Passes, PassesAll, PassesToLimit, Reads, FramerValue, Listing, Lists, ListsAll, ListsDecided, StopsListing, ListsPart, ListsToLimit, ListsUpTo, listing_line, listing_lines, piece_bytes}
 use Rattle.rtcm_scan.specs.declared.feed.StreamFault.TheVariants as stream
 
 -- the lines of one more frame
@@ -19,7 +19,7 @@ whole_prefix a = ([], sym (append-nil a))
 
 module _ {W : Type 0} {held : W → Option (List ℕ)} {k0 k : Listing} {o0 o o2 : Device W} {ps fs : List Framed} where
   -- a frame's line was written
-  pub one_more_listed : (f : Framed) → Appends (held o.inner) (held o2.inner) (listing_line k f) → o2.failures ≡ o.failures
+  one_more_listed : (f : Framed) → Appends (held o.inner) (held o2.inner) (listing_line k f) → o2.failures ≡ o.failures
       → Lists held k0 o0 ps k o fs → Lists held k0 o0 ps k o2 (fs ++ f ∷ [])
   one_more_listed f line fine s =
       let same : Appends (held o.inner) (held o2.inner) (listing_line k0 f) = subst (λ (x : Listing). Appends (held o.inner) (held o2.inner) (listing_line x f)) s.same line in
@@ -31,7 +31,7 @@ module _ {W : Type 0} {held : W → Option (List ℕ)} {k0 k : Listing} {o0 o o2
       }
 
   -- a prefix of the line was written
-  pub stopped_at_line : (f : Framed) → AppendsPrefix (held o.inner) (held o2.inner) (listing_line k f) → HasFailed o.failures o2.failures
+  stopped_at_line : (f : Framed) → AppendsPrefix (held o.inner) (held o2.inner) (listing_line k f) → HasFailed o.failures o2.failures
       → Lists held k0 o0 ps k o fs → ListsUpTo held k0 o0 ps k o2 fs (fs ++ f ∷ [])
   stopped_at_line f line failed s =
       let part : AppendsPrefix (held o.inner) (held o2.inner) (listing_line k0 f) = subst (λ (x : Listing). AppendsPrefix (held o.inner) (held o2.inner) (listing_line x f)) s.same line in
@@ -59,6 +59,17 @@ module _ {W : Type 0} {held : W → Option (List ℕ)} {k0 k : Listing} {o0 o o2
     };
     failed = subst (λ (n : ℕ). HasFailed n o2.failures) s.fine failed;
   }
+
+-- a frame's line, given in other terms, was written or not
+pub whole_line : {W : Type 0} {text : List ℕ} (held : W → Option (List ℕ)) (k : Listing) (o o2 : Device W) (f : Framed) (r : Result ⊤ DeviceFailed) → text ≡ listing_line k f → WritesLine r held o o2 text
+    → OnOk r ((k0 : Listing) (o0 : Device W) (ps fs : List Framed) → Lists held k0 o0 ps k o fs → Lists held k0 o0 ps k o2 (fs ++ f ∷ []))
+whole_line held k o o2 f (Ok u) is w = λ k0 o0 ps fs. one_more_listed f (subst (Appends (held o.inner) (held o2.inner)) is w.0) w.2.1
+whole_line held k o o2 f (Err e) is w = tt
+
+pub part_line : {W : Type 0} {text : List ℕ} (held : W → Option (List ℕ)) (k : Listing) (o o2 : Device W) (f : Framed) (r : Result ⊤ DeviceFailed) → text ≡ listing_line k f → WritesLine r held o o2 text
+    → OnErr r ((k0 : Listing) (o0 : Device W) (ps fs : List Framed) → Lists held k0 o0 ps k o fs → ListsUpTo held k0 o0 ps k o2 fs (fs ++ f ∷ []))
+part_line held k o o2 f (Ok u) is w = tt
+part_line held k o o2 f (Err e) is w = λ k0 o0 ps fs. stopped_at_line f (subst (AppendsPrefix (held o.inner) (held o2.inner)) is w.1) w.2.0
 
 -- ---- a stream that is listed from its start
 

@@ -1,21 +1,9 @@
 -- Texts written in one call, and failed calls.
-use Rattle.rtcm_inspect.proofs.Names.{◌≡◌, ◌∙◌, ◌++◌, ap, inl, inr, sym, subst, append-nil, append_assoc, ℕ, List, [], Option, Result, Ok, Err, OnErr, OnOk, Appends, Keeps, Appends-kept, Appends-nil, Appends-trans, Device, HasFailed, EndsDelivery, IsDelivered, DeviceFailed, ⊤, IsErrAnd, WritesLine, EndsPrinting, PrintsLine, PrintsText, AppendsPrefix, IsPrefix, InspectFault}
+use Rattle.rtcm_inspect.proofs.Names.{◌≡◌, ◌∙◌, ◌++◌, ap, inl, inr, sym, subst, append-nil, append_assoc, ℕ, List, [], Option, Result, Ok, Err, OnErr, Appends, Keeps, Appends-kept, Appends-nil, Appends-trans, Device, HasFailed, EndsDelivery, IsDelivered, IsErrAnd, EndsPrinting, PrintsLine, PrintsText, AppendsPrefix, IsPrefix, InspectFault}
 
 pub on_err : {A E : Type 0} (r : Result A E) (P Q : Type 0) → (P → Q) → OnErr r P → OnErr r Q
 on_err (Ok x) P Q f p = p
 on_err (Err e) P Q f p = f p
-
-pub on_ok : {A E : Type 0} (r : Result A E) (P Q : Type 0) → (P → Q) → OnOk r P → OnOk r Q
-on_ok (Ok x) P Q f p = f p
-on_ok (Err e) P Q f p = p
-
-pub both_ok : {A E : Type 0} (r : Result A E) (P Q : Type 0) → OnOk r P → OnOk r Q → OnOk r (P × Q)
-both_ok (Ok x) P Q p q = (p, q)
-both_ok (Err e) P Q p q = tt
-
-pub both_err : {A E : Type 0} (r : Result A E) (P Q : Type 0) → OnErr r P → OnErr r Q → OnErr r (P × Q)
-both_err (Ok x) P Q p q = tt
-both_err (Err e) P Q p q = (p, q)
 
 -- a text that was written, and then delivered or not
 pub then_delivered : {A W : Type 0} (r : Result A InspectFault) (held : W → Option (List ℕ)) (waits : W → List ℕ) (w w1 w2 : Device W) (text : List ℕ) → w1.failures ≡ w.failures
@@ -49,9 +37,6 @@ printed_later {A} {text = text} (Err fault) held waits w1 w2 kept same x =
     let h : EndsPrinting {A = A} (Err fault) held waits w1 w2 text = subst (EndsPrinting {A = A} (Err fault) held waits w1 w2) same x in
     let prefix = h.1.1 in
     record { ends = (h.0, (subst (λ (n : ℕ). HasFailed n w2.failures) kept.0 h.1.0, (prefix.0, (prefix.1.0, prefix.1.1, kept_appends _ _ _ prefix.1.0 kept.1.0 prefix.1.2)))) }
-
-pub line_written : {W : Type 0} (r : Result ⊤ DeviceFailed) (held : W → Option (List ℕ)) (w w2 : Device W) (x y : List ℕ) → x ≡ y → WritesLine r held w w2 x → WritesLine r held w w2 y
-line_written r held w w2 x y e h = subst (WritesLine r held w w2) e h
 
 -- an error that `?` returns
 pub passed : {A E : Type 0} (r : Result A E) (e : E) (P : Result A E → Type 0) → IsErrAnd r (λ y. y ≡ e) → P (Err e) → P r

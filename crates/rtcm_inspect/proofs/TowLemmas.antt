@@ -23,38 +23,33 @@ use Rattle.rtcm_inspect.proofs.Names.{le-ltb, lt-ltb, Framed, Message, MsgFault,
 abbrev pub IsBefore : ℕ → Option PlacedTow → Type 0
 IsBefore n o = IfSome o (λ t. t.place < n)
 
--- one more, or not
+-- one more, if none is known
 abbrev pub grown : Bool → PlacedTow → Option PlacedTow → Option PlacedTow
-grown b c o = if b then option_or o (Some c) else o
+grown b c None = if b then Some c else None
+grown b c (Some x) = Some x
 
 either_is : {A : Type 0} (b : Bool) (x : A) → (if b then x else x) ≡ x
 either_is true x = refl
 either_is false x = refl
 
-or_some : (b : Bool) (x y c : PlacedTow) → option_or (if b then Some y else Some x) (Some c) ≡ (if b then Some y else Some x)
-or_some true x y c = refl
-or_some false x y c = refl
+grown_some : (d b : Bool) (x y c : PlacedTow) → (if b then Some y else Some x) ≡ grown d c (if b then Some y else Some x)
+grown_some d true x y c = refl
+grown_some d false x y c = refl
+
+grown_none : (c : PlacedTow) (o : Option PlacedTow) → o ≡ grown false c o
+grown_none c None = refl
+grown_none c (Some x) = refl
 
 -- of two, each before the new one
 grown_earlier : (a b : Option PlacedTow) (c : PlacedTow) → IsBefore c.place a → IsBefore c.place b → (p q : Bool) → earlier (grown p c a) (grown q c b) ≡ grown (p || q) c (earlier a b)
 grown_earlier None None c h k true true = either_is (nat_lt c.place c.place) (Some c)
 grown_earlier None None c h k true false = refl
-grown_earlier None None c h k false true = refl
-grown_earlier None None c h k false false = refl
-grown_earlier None (Some y) c h k true true = ap (λ (b : Bool). if b then Some y else Some c) (lt-ltb y.place c.place k)
-grown_earlier None (Some y) c h k true false = ap (λ (b : Bool). if b then Some y else Some c) (lt-ltb y.place c.place k)
-grown_earlier None (Some y) c h k false true = refl
-grown_earlier None (Some y) c h k false false = refl
-grown_earlier (Some x) None c h k true true = ap (λ (b : Bool). if b then Some c else Some x) (le-ltb c.place x.place (omega (arith, h)))
-grown_earlier (Some x) None c h k true false = refl
-grown_earlier (Some x) None c h k false true = ap (λ (b : Bool). if b then Some c else Some x) (le-ltb c.place x.place (omega (arith, h)))
-grown_earlier (Some x) None c h k false false = refl
-grown_earlier (Some x) (Some y) c h k true q = by q where
-  by : (q : Bool) → earlier (Some x) (grown q c (Some y)) ≡ option_or (earlier (Some x) (Some y)) (Some c)
-  by true = sym (or_some (nat_lt y.place x.place) x y c)
-  by false = sym (or_some (nat_lt y.place x.place) x y c)
-grown_earlier (Some x) (Some y) c h k false true = sym (or_some (nat_lt y.place x.place) x y c)
-grown_earlier (Some x) (Some y) c h k false false = refl
+grown_earlier None None c h k false q = refl
+grown_earlier None (Some y) c h k true q = ap (λ (b : Bool). if b then Some y else Some c) (lt-ltb y.place c.place k)
+grown_earlier None (Some y) c h k false q = refl
+grown_earlier (Some x) None c h k p true = ap (λ (b : Bool). if b then Some c else Some x) (le-ltb c.place x.place (omega (arith, h)))
+grown_earlier (Some x) None c h k p false = refl
+grown_earlier (Some x) (Some y) c h k p q = grown_some (p || q) (nat_lt y.place x.place) x y c
 
 earlier_before : (n : ℕ) (a b : Option PlacedTow) → IsBefore n a → IsBefore n b → IsBefore n (earlier a b)
 earlier_before n None b h k = k
@@ -85,7 +80,10 @@ module _ (set : MsmSet) (tows : BySystem SystemTows) (system : System) (form : F
   after = with_value_of system tows now
 
   entry_same : (b d : Bool) (o : Option PlacedTow) → (if b then (if d then option_or o (Some c) else o) else None) ≡ grown (b && d) c (if b then o else None)
-  entry_same true d o = refl
+  entry_same true true None = refl
+  entry_same true true (Some x) = refl
+  entry_same true false None = refl
+  entry_same true false (Some x) = refl
   entry_same false d o = refl
 
   entry_grown : (s : System) → entry set after s ≡ grown (is_system system s && is_in) c (entry set tows s)
@@ -98,7 +96,7 @@ module _ (set : MsmSet) (tows : BySystem SystemTows) (system : System) (form : F
 
     by : (b : Bool) → is_system system s ≡ b → entry set after s ≡ grown (b && is_in) c (entry set tows s)
     by true e = subst (λ (t : System). entry set after t ≡ grown is_in c (entry set tows t)) (system_same system s e) own
-    by false e = ap (λ (x : SystemTows). if value_of s set.systems then tow_in set.forms x else None) (value_of_other system s tows now e)
+    by false e = ap (λ (x : SystemTows). if value_of s set.systems then tow_in set.forms x else None) (value_of_other system s tows now e) ∙ grown_none c (entry set tows s)
 
   earliest_grown : (ss : List System) → earliest set after ss ≡ grown (list_any (is_system system) ss && is_in) c (earliest set tows ss)
   earliest_grown [] = refl
@@ -150,9 +148,8 @@ tows_same laws {x} {y} {wanted} {fs} f {m} read count same none h = record {
 
 tow_grown : (leap : ℕ) (b : Bool) (c : PlacedTow) (o : Option PlacedTow) → option_map (placed_by leap) (grown b c o) ≡ option_or (option_map (placed_by leap) o) (if b then Some (placed_by leap c) else None)
 tow_grown leap true c None = refl
-tow_grown leap true c (Some t) = refl
 tow_grown leap false c None = refl
-tow_grown leap false c (Some t) = refl
+tow_grown leap b c (Some t) = refl
 
 with_before : (x y : SystemTows) (form : Form) (c : PlacedTow) (forms : Forms) → IsWith x form c y forms → IsBefore c.place (tow_in forms x) → IsBefore (c.place + 1) (tow_in forms y)
 with_before x y form c forms is h = subst (IsBefore (c.place + 1)) (sym is) (by (have_form forms form) (tow_in forms x) h) where
