@@ -1,8 +1,6 @@
 -- The end of a check of a file.
-use Rattle.rinex_file.specs.declared.read.file.Counts.{Counts}
 use Rattle.rtcm_inspect.proofs.PrintingLemmas.{passed, Printed}
-use Rattle.rtcm_inspect.proofs.LineLemmas.{add_count, add_text, add_word, end_line}
-use Rattle.rtcm_inspect.proofs.Names.{◌≡◌, ◌∙◌, ◌∷◌, ◌++◌, [], ap, inl, inr, codes, decimal, length, refl, sym, subst, ℕ, List, Option, Some, None, Result, Ok, Err, IfSome, Device, HasFailed, IsNoFault, FileValue, file_text, IsFileValue, AreCounts, ReadFault, Memory, Read, ⊤, IsErrAnd, Keeps, InspectFault, Ends, ReadFailures, rows_in, line, check_line, ChecksPart, ChecksWhole, IsCheckedOr}
+use Rattle.rtcm_inspect.proofs.Names.{◌≡◌, inl, inr, refl, sym, subst, ℕ, List, Option, Some, None, Result, Ok, Err, IfSome, Device, HasFailed, IsNoFault, FileValue, file_text, IsFileValue, ReadFault, Memory, Read, ⊤, IsErrAnd, Keeps, InspectFault, Ends, ReadFailures, ChecksPart, ChecksWhole, IsCheckedOr}
 use Rattle.rtcm_inspect.specs.declared.fault.InspectFault.TheVariants as faults
 
 -- what holds for all bytes holds for known ones
@@ -20,23 +18,6 @@ refused IsOutput v other w w' h = absurd h
 pub read_failures : (e : ReadFault) (before after : ℕ) → (e ≡ Read → HasFailed before after) → ((e ≡ Read → ⊥) → after ≡ before) → ReadFailures (faults.Check e) before after
 read_failures Read before after failed same = failed refl
 read_failures other before after failed same = same (λ e. cc)
-
-abbrev count_words : (epochs satellites events : ℕ) → List (List ℕ)
-count_words epochs satellites events = decimal epochs ∷ codes "satellites" ∷ decimal satellites ∷ codes "events" ∷ decimal events ∷ []
-
--- the line of the counts is that of the file
-pub line_built : {counts : Counts} {v : FileValue} {none start epochs satellites events text : List ℕ} → none ≡ [] → start ≡ none ++ codes "epochs" → epochs ≡ start ++ 0x20 ∷ decimal counts.epochs
-    → satellites ≡ (epochs ++ 0x20 ∷ codes "satellites") ++ 0x20 ∷ decimal counts.satellites → events ≡ (satellites ++ 0x20 ∷ codes "events") ++ 0x20 ∷ decimal counts.events
-    → text ≡ events ++ 0x0A ∷ [] → AreCounts counts v → text ≡ check_line v
-unfolding check_line
-line_built {counts} {v} none start epochs satellites events text are =
-    let first = add_word epochs (add_text start none refl) refl in
-    let second = add_count (codes "satellites") (decimal counts.satellites) satellites first in
-    let third = add_count (codes "events") (decimal counts.events) events second in
-    end_line [] (codes "epochs") (count_words counts.epochs counts.satellites counts.events) text third
-    ∙ ap (λ (n : ℕ). line (codes "epochs" ∷ count_words n counts.satellites counts.events)) are.epochs
-    ∙ ap (λ (n : ℕ). line (codes "epochs" ∷ count_words (length v.epochs) n counts.events)) are.satellites
-    ∙ ap (λ (n : ℕ). line (codes "epochs" ∷ count_words (length v.epochs) (rows_in v.epochs) n)) are.events
 
 -- the output of a file was written, or a part of it
 pub checked : {R W : Type 0} {held : W → Option (List ℕ)} {waits : W → List ℕ} {w w2 : Device W} {out : List ℕ} (IsOutput : FileValue → List ℕ → Type 0) (Stops : InspectFault → Type 0) (left : R → Option (List ℕ)) (r r2 : Device R) (ended : Result ⊤ InspectFault)

@@ -33,8 +33,4 @@ add_text {old} {new} {text} {part} {same} e f g = e ∙ ap (λ (l : List ℕ). l
 
 -- a word and three texts, the first after a `=` and the others after commas
 pub assigned : (start p x y z : List ℕ) → (((start ++ 0x20 ∷ p) ++ 0x3D ∷ x) ++ 0x2C ∷ y) ++ 0x2C ∷ z ≡ start ++ 0x20 ∷ (p ++ 0x3D ∷ (x ++ 0x2C ∷ (y ++ 0x2C ∷ z)))
-assigned start p x y z =
-    ap (λ (l : List ℕ). (l ++ 0x2C ∷ y) ++ 0x2C ∷ z) (append_assoc start (0x20 ∷ p) (0x3D ∷ x))
-    ∙ ap (λ (l : List ℕ). l ++ 0x2C ∷ z) (append_assoc start (0x20 ∷ (p ++ 0x3D ∷ x)) (0x2C ∷ y))
-    ∙ append_assoc start (0x20 ∷ ((p ++ 0x3D ∷ x) ++ 0x2C ∷ y)) (0x2C ∷ z)
-    ∙ ap (λ (l : List ℕ). start ++ 0x20 ∷ l) (append_assoc (p ++ 0x3D ∷ x) (0x2C ∷ y) (0x2C ∷ z) ∙ append_assoc p (0x3D ∷ x) ((0x2C ∷ y) ++ (0x2C ∷ z)))
+assigned start p x y z = simp append_assoc

@@ -1,24 +1,20 @@
 -- The line of the options, of its parts.
 use Rattle.rtcm_inspect.proofs.LineLemmas.{end_line}
-use Rattle.rtcm_inspect.proofs.Names.{◌≡◌, ◌∙◌, [], ◌∷◌, ◌++◌, ℕ, List, Option, Some, None, ap, sym, append_assoc, append-nil, codes, decimal, refl, join_with_byte, flat_map, flat_map-append, PlanValue, Gps, Galileo, System, StationParts, codes_word, Forms, forms_words, number_start, number_words, options_line, station_words, line, with_words}
+use Rattle.rtcm_inspect.proofs.Names.{◌≡◌, ◌∙◌, [], ◌∷◌, ◌++◌, ℕ, List, Option, Some, None, ap, sym, append_assoc, append-nil, codes, refl, flat_map, flat_map-append, PlanValue, Gps, Galileo, System, StationParts, codes_word, Forms, forms_words, number_start, number_words, options_line, station_words, line, with_words}
 use Rattle.gnss_system.specs.Systems.{systems}
 use Rattle.rtcm_inspect.specs.Fitting.{first_words, other_words}
 
 -- an option with a number before the words of a line
 first_option : (name : List ℕ) (n : Option ℕ) (w : List ℕ) (ws : List (List ℕ)) → number_start name n ++ line (w ∷ ws) ≡ line (number_words name n ++ w ∷ ws)
 first_option name None w ws = refl
-first_option name (Some n) w ws =
-    append_assoc name (0x20 ∷ (decimal n ++ 0x20 ∷ [])) (line (w ∷ ws)) ∙ ap (λ (l : List ℕ). name ++ 0x20 ∷ l) (append_assoc (decimal n) (0x20 ∷ []) (line (w ∷ ws)))
-    ∙ ap (λ (l : List ℕ). name ++ 0x20 ∷ l) (sym (append_assoc (decimal n) (0x20 ∷ join_with_byte 0x20 (w ∷ ws)) (0x0A ∷ [])))
-    ∙ sym (append_assoc name (0x20 ∷ (decimal n ++ 0x20 ∷ join_with_byte 0x20 (w ∷ ws))) (0x0A ∷ []))
+first_option name (Some n) w ws = simp append_assoc
 
 -- two of them
 two_options : (first second : List ℕ) (n m : Option ℕ) (w : List ℕ) (ws : List (List ℕ))
     → (number_start first n ++ number_start second m) ++ line (w ∷ ws) ≡ line (number_words first n ++ (number_words second m ++ w ∷ ws))
-two_options first second n None w ws = ap (λ (l : List ℕ). l ++ line (w ∷ ws)) (append-nil (number_start first n)) ∙ first_option first n w ws
-two_options first second n (Some m) w ws =
-    append_assoc (number_start first n) (number_start second (Some m)) (line (w ∷ ws)) ∙ ap (λ (l : List ℕ). number_start first n ++ l) (first_option second (Some m) w ws)
-    ∙ first_option first n second (decimal m ∷ w ∷ ws)
+two_options first second None m w ws = first_option second m w ws
+two_options first second (Some n) None w ws = simp (append_assoc, append-nil)
+two_options first second (Some n) (Some m) w ws = simp append_assoc
 
 pub words_more : (text : List ℕ) (first more : List (List ℕ)) → with_words (with_words text first) more ≡ with_words text (first ++ more)
 words_more text [] more = refl

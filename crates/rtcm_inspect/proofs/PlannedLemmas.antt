@@ -1,8 +1,9 @@
 -- The plan of the signals of a stream has a column for each of its values, and their line is parsed as that plan.
-use Rattle.rtcm_inspect.proofs.SignalLemmas.{own_signal}
+use Rattle.rtcm_inspect.proofs.SignalLemmas.{any_filter, own_signal}
 use Rattle.gnss_system.specs.declared.tables.ListedSignal as tables
-use Rattle.rtcm_inspect.proofs.Names.{or_parts, lt-ltb, ◌≡◌, ℕ, zero, suc, ◌+◌, ◌<◌, ◌≤◌, ◌==◌, ◌&&◌, ◌||◌, Bool, true, false, not, List, [], ◌∷◌, ◌++◌, length, refl, sym, ap, ap₂, ◌∙◌, subst, arith, filter, map, All, Some, Result, Ok, Err, nat_eq, get_or, append-nil, append_assoc, is_some, ◌≢◌, AllPass-from_list_all, common_steps, list_all, nat_tests, option_map_or, slice_get, slice_get-get_or, cond, nat_lt, position, list_any, position_or_len, bytes_eq, filter-append, list_any-append, System, SignalAt, IsSignal, table, code_of, signal_of_code, PlanFault, RepeatedCode, is_planned, has_listed_key, GatherSetup, HeardCell, IsKey, below, place_in, between_commas, onto_first, one_signal_more, signals_after, signals_of, plan_of, planned_of, is_of_signal, count_of, signal_in, had, plan_had, plan_with, ChannelsValue, code_list, codes_word}
+use Rattle.rtcm_inspect.proofs.Names.{or_parts, lt-ltb, ltb-true, ◌≡◌, ℕ, zero, suc, ◌+◌, ◌<◌, ◌≤◌, ◌==◌, ◌&&◌, ◌||◌, Bool, true, false, not, List, [], ◌∷◌, ◌++◌, length, refl, sym, ap, ap₂, ◌∙◌, subst, arith, filter, map, All, Some, Result, Ok, Err, nat_eq, get_or, append-nil, append_assoc, is_some, ◌≢◌, AllPass-from_list_all, common_steps, list_all, nat_tests, option_map_or, slice_get, slice_get-get_or, cond, nat_lt, position, list_any, position_or_len, bytes_eq, filter-append, list_any-append, System, SignalAt, IsSignal, table, code_of, signal_of_code, PlanFault, RepeatedCode, is_planned, has_listed_key, GatherSetup, HeardCell, IsKey, below, place_in, between_commas, onto_first, one_signal_more, signals_after, signals_of, plan_of, planned_of, is_of_signal, count_of, signal_in, had, plan_had, plan_with, ChannelsValue, code_list, codes_word}
 use Rattle.std.proofs.Common.{None, if◌then◌else◌}
+use Rattle.std.proofs.lemmas.List.Folds.{list_any_at}
 use Rattle.gnss_system.specs.Systems.{systems}
 use Rattle.gnss_system.specs.SystemValues.{tabulate, value_of}
 use Rattle.gnss_system.proofs.SystemLaws.{each_system, not_all, tabulated_same, value_tabulated}
@@ -122,12 +123,7 @@ word_read law system (i ∷ is) h =
 -- ---- the plan has the signal of each cell
 
 count_in : (g : SignalAt) (cells : List HeardCell) (i : ℕ) (d : HeardCell) → i < length cells → is_of_signal g (get_or cells i d) ≡ true → 0 < count_of g cells
-count_in g [] i d within is = absurd (omega (arith, within))
-count_in g (x ∷ xs) zero d within is = subst (λ (b : Bool). 0 < length (cond b (x ∷ filter (is_of_signal g) xs) (filter (is_of_signal g) xs))) (sym is) (omega arith)
-count_in g (x ∷ xs) (suc i) d within is = by (is_of_signal g x) (count_in g xs i d (omega (arith, within)) is) where
-  by : (b : Bool) → 0 < count_of g xs → 0 < length (cond b (x ∷ filter (is_of_signal g) xs) (filter (is_of_signal g) xs))
-  by true h = omega arith
-  by false h = h
+count_in g cells i d within is = ltb-true 0 (count_of g cells) (sym (any_filter (is_of_signal g) cells) ∙ list_any_at (is_of_signal g) cells i d within is)
 
 among_filter : (p : ℕ → Bool) (n k : ℕ) → k < n → p k ≡ true → list_any (λ i. i == k) (filter p (below n)) ≡ true
 among_filter p zero k within is = absurd (omega (arith, within))

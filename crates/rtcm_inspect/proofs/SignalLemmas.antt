@@ -171,7 +171,7 @@ none_more c system i n is none =
 pub last_index : (system : System) (i n : ℕ) → n ≡ length (table system) → i ≤ n → n ≤ i → i ≡ length (table system)
 last_index system i n is within end = omega (arith, is, within, end)
 
-any_filter : (p : ℕ → Bool) (xs : List ℕ) → list_any p xs ≡ nat_lt 0 (length (filter p xs))
+pub any_filter : {X : Type 0} (p : X → Bool) (xs : List X) → list_any p xs ≡ nat_lt 0 (length (filter p xs))
 any_filter p [] = refl
 any_filter p (x ∷ xs) = by (p x) (any_filter p xs) where
   by : (b : Bool) → list_any p xs ≡ nat_lt 0 (length (filter p xs)) → (b || list_any p xs) ≡ nat_lt 0 (length (cond b (x ∷ filter p xs) (filter p xs)))
