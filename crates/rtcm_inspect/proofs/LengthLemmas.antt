@@ -34,24 +34,14 @@ number_parsed {E} most text (Ok n) small few plain h =
 number_parsed {E} most text (Err e) small few plain h =
     (sym (number_missing most text (λ all some _. parse_plain own {E = E} 64 text (Err e) h plain (all, some, omega (arith, digits_value_short own text 8 all (omega arith))))), tt)
 
--- the clause of `strip_prefix` at a byte
-after_byte_from : (c : ℕ) (bs : List ℕ) (r : Option (Bor (List ℕ)))
-    → MatchOption r ((rest : List ℕ) → bs ≢ c ∷ rest) (λ x. bs ≡ c ∷ x.now) → option_map (λ s. s.now) r ≡ after_byte c bs
-after_byte_from c [] None h = refl
-after_byte_from c [] (Some x) h = cc
-after_byte_from c (b ∷ bs) None h = go (b == c) refl
-  where
-    go : (t : Bool) → (b == c) ≡ t → None ≡ after_byte c (b ∷ bs)
-    go true e = absurd (h bs (ap (λ n. n ∷ bs) (grind (arith, nat_tests))))
-    go false e = rw e
-after_byte_from c (b ∷ bs) (Some x) h = sym (ap (after_byte c) h ∙ first c x.now)
-  where
-    first : (c : ℕ) (rest : List ℕ) → after_byte c (c ∷ rest) ≡ Some rest
-    first c rest = let same : (c == c) ≡ true = grind (arith, nat_tests) in rw same refl
-
--- a text without a minus sign
+-- a text without a minus sign, by the clause of `strip_prefix`
 pub no_sign : (text : List ℕ) (r : Option (Bor (List ℕ))) → MatchOption r ((rest : List ℕ) → text ≢ 45 ∷ rest) (λ x. text ≡ 45 ∷ x.now) → r ≡ None → after_byte 45 text ≡ None
-no_sign text r h is = sym (after_byte_from 45 text r h) ∙ ap (option_map (λ (s : Bor (List ℕ)). s.now)) is
+no_sign text (Some x) h is = cc
+no_sign [] None h is = refl
+no_sign (b ∷ bs) None h is = by (b == 45) refl where
+  by : (t : Bool) → (b == 45) ≡ t → (if t then Some bs else None) ≡ None
+  by true e = absurd (h bs (ap (λ n. n ∷ bs) (grind (arith, nat_tests))))
+  by false e = refl
 
 -- ---- dates
 

@@ -1,5 +1,4 @@
 pub mod Names
-mod FrameLemmas
 pub mod LineLemmas
 mod StreamLemmas
 mod ListingLemmas

@@ -142,11 +142,7 @@ kept_frame laws s fs f planned had = by (message_at f.message) refl had where
 -- no form is another than all
 none_other : (m : Message) → is_of_other forms.All m ≡ false
 none_other (Station p) = refl
-none_other (Msm4 v) = refl
-none_other (Msm5 v) = refl
-none_other (Msm6 v) = refl
-none_other (Msm7 v) = refl
-none_other (Other n s) = refl
+none_other other = refl
 
 all_had : (wanted : Option ℕ) (r : Result Message MsgFault) → IsHad forms.All wanted r
 all_had wanted (Ok m) = ap (λ (b : Bool). b && nat_lt 0 (length (valued wanted (inspected m)))) (none_other m)
@@ -197,12 +193,8 @@ forms_refused wanted fs f e read old =
 -- the form and the system of a view
 pub in_set : (f : Form) (v : MsmValue) (set : MsmSet) → is_in_set set (message_in f v) ≡ has_msm set f v.system
 in_set form.Msm4 v set = refl
-in_set form.Msm5 v set = refl
-in_set form.Msm6 v set = refl
-in_set form.Msm7 v set = refl
+in_set other v set = refl
 
 pub view_other : (fs : Forms) (f : Form) (v : MsmValue) → is_of_other fs (message_in f v) ≡ not (have_form fs f)
 view_other fs form.Msm4 v = refl
-view_other fs form.Msm5 v = refl
-view_other fs form.Msm6 v = refl
-view_other fs form.Msm7 v = refl
+view_other fs other v = refl

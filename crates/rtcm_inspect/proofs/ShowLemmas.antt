@@ -15,9 +15,7 @@ shown_msm f m = by_form m.form m.msm
   where
     by_form : (form : Form) (v : MsmValue) → read_line f (Ok (message_in form v)) ≡ msm_line f.offset (message_number form v.system) v
     by_form forms.Msm4 v = refl
-    by_form forms.Msm5 v = refl
-    by_form forms.Msm6 v = refl
-    by_form forms.Msm7 v = refl
+    by_form other v = refl
 
 -- a coordinate as a parameter
 pub as_passed : (z : ℤ) → FitsInt 38 z → to_z w64 (of_z w64 z) ≡ z

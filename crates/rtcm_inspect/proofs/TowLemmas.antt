@@ -220,11 +220,7 @@ leap_later a leap = omega arith
 
 later_tow : (system : System) (leap time : ℕ) → gps_tow system leap time ≡ later_by system leap (gps_tow system 0 time)
 later_tow listed.Glonass leap time = leap_later _ leap
-later_tow listed.Gps leap time = refl
-later_tow listed.Galileo leap time = refl
-later_tow listed.Beidou leap time = refl
-later_tow listed.Qzss leap time = refl
-later_tow listed.Sbas leap time = refl
+later_tow other leap time = refl
 
 -- the time of week of a message of the wanted station
 abbrev if_own : Option ℕ → MsmValue → Option ℕ → Option ℕ
@@ -232,9 +228,7 @@ if_own wanted v tow = if option_map_or (λ n. v.header.station == n) wanted true
 
 msm_tow : (wanted : Option ℕ) (leap : ℕ) (f : Form) (v : MsmValue) → tow_of wanted (heard every_channel leap (message_in f v)) ≡ if_own wanted v (Some (gps_tow v.system leap v.header.time))
 msm_tow wanted leap shape.Msm4 v = refl
-msm_tow wanted leap shape.Msm5 v = refl
-msm_tow wanted leap shape.Msm6 v = refl
-msm_tow wanted leap shape.Msm7 v = refl
+msm_tow wanted leap other v = refl
 
 own_station : (wanted : Option ℕ) (n : ℕ) → unwrap_or wanted n ≡ n → option_map_or (λ w. n == w) wanted true ≡ true
 own_station None n e = refl

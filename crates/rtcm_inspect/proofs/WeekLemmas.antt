@@ -151,11 +151,7 @@ dated_step {tow} {rest} s (Some m) ms now more station earlier none first = by (
 -- the time of week doesn't depend on the channels
 same_tow : (wanted : Option ℕ) (c d : ChannelsValue) (leap : ℕ) (r : Result Message MsgFault) → option_and_then (tow_of wanted) (heard_of c leap r) ≡ option_and_then (tow_of wanted) (heard_of d leap r)
 same_tow wanted c d leap (Ok (Station p)) = refl
-same_tow wanted c d leap (Ok (Msm4 v)) = refl
-same_tow wanted c d leap (Ok (Msm5 v)) = refl
-same_tow wanted c d leap (Ok (Msm6 v)) = refl
-same_tow wanted c d leap (Ok (Msm7 v)) = refl
-same_tow wanted c d leap (Ok (Other k set)) = refl
+same_tow wanted c d leap (Ok other) = refl
 same_tow wanted c d leap (Err e) = refl
 
 -- the messages of frames by a setup

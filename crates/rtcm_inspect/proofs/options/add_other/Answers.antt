@@ -15,12 +15,8 @@ some_signal (i ∷ is) h = refl
 -- the plan has the channels if GLONASS has a signal
 own_channels : (leap : Option ℕ) (cells : List HeardCell) (channels : ChannelsValue) (s : System) → nat_lt 0 (length (had cells s)) ≡ true
     → further_words leap (plan_had cells channels).channels s ≡ further_words leap channels s
-own_channels leap cells channels system.Gps some = refl
-own_channels leap cells channels system.Galileo some = refl
 own_channels leap cells channels system.Glonass some = rw (some_signal (had cells system.Glonass) some) refl
-own_channels leap cells channels system.Beidou some = refl
-own_channels leap cells channels system.Qzss some = refl
-own_channels leap cells channels system.Sbas some = refl
+own_channels leap cells channels other some = refl
 
 -- no word, or the option of its signals and the further ones
 shown : (leap : Option ℕ) (cells : List HeardCell) (channels : ChannelsValue) (s : System) (b c : Bool) → is_other s ≡ b → nat_lt 0 (length (had cells s)) ≡ c
