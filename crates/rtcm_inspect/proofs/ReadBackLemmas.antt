@@ -1,4 +1,5 @@
 -- Messages, their encodings in frames, and the messages read back.
+use lib.ListN.{length-replicate}
 use Rattle.rtcm_inspect.proofs.Names.{◌≡◌, ◌∙◌, sym, ap, subst, refl, arith, ℕ, suc, zero, ◌+◌, ◌*◌, ◌/◌, ◌<◌, ◌≤◌, Bool, false, List, [], ◌∷◌, ◌++◌, length, take, drop, map, replicate, All, get_or, flat_map, length-append, length-take, length-drop, take-append-drop, bits_of, filled, missing, uint, number, frame_bytes, longest_message, longest_message_bits, Framed, AreFrames, frames_of, placed, Message, IsEncoding, IsMessage, ReadsMessage, is_other, message_bits, AreEncoded, AreReadAs, ReadsBack, AreKnown}
 
 -- laws of the layers below
@@ -18,11 +19,7 @@ abbrev pub OneValue : Type 0
 OneValue = (bits : List Bool) (v w : Message) → ReadsMessage bits v → ReadsMessage bits w → v ≡ w
 
 length-filled : (bits : List Bool) → length (filled bits) ≡ length bits + missing (length bits)
-length-filled bits = length-append bits (replicate (missing (length bits)) false) ∙ ap (λ (n : ℕ). length bits + n) (length-zeros (missing (length bits)))
-  where
-    length-zeros : (n : ℕ) → length (replicate n false) ≡ n
-    length-zeros zero = refl
-    length-zeros (suc n) = ap suc (length-zeros n)
+length-filled bits = length-append bits (replicate (missing (length bits)) false) ∙ ap (λ (n : ℕ). length bits + n) (length-replicate (missing (length bits)) false)
 
 -- an encoding fits in a frame
 encoding_short : EightBits → FewBits → (bytes : List ℕ) (v : Message) → IsMessage v → IsEncoding bytes v → length bytes ≤ longest_message

@@ -1,4 +1,5 @@
 -- The text of the signals of a stream, signal by signal.
+use mathlib.Core.Bool.{or-false}
 use Rattle.rtcm_inspect.proofs.Names.{le-ltb, lt-ltb, ltb-false, ltb-true, ◌≡◌, ℕ, zero, suc, ◌+◌, ◌<◌, ◌≤◌, ◌==◌, ◌&&◌, ◌||◌, All, Result, Ok, OnOk, Bool, true, false, List, [], ◌∷◌, ◌++◌, length, get_or, refl, sym, ap, ap₂, ◌∙◌, subst, arith, filter, map, append-nil, append_assoc, map-append, flat_map-append, cond, nat_lt, codes, list_any, All-head, filter-append, length-filter, count_by-le-length, flat_map, join_with_byte, System, table, code_of, below, SignalCountsValue, AreSignalCounts, common_steps, counted, signal_counts, has_any, signal_in, count_of, is_of_signal, had_below, had, code_list, codes_word, count_line, lines_below, IsKey, HeardCell, list_any-append, has_counted}
 use Rattle.gnss_system.specs.Systems.{systems, index_of}
 use Rattle.gnss_system.proofs.SystemLaws.{none_any, some_system}
@@ -141,35 +142,11 @@ any_cells c cells h keys = by (has_any c) refl where
 
 -- ---- whether a system has a cell, by the counts of its signals
 
-last_any : (b d : Bool) → (b || (d || false)) ≡ (b || d)
-last_any true d = refl
-last_any false true = refl
-last_any false false = refl
-
-any_more : (c : SignalCountsValue) (system : System) (i : ℕ) → list_any (λ j. nat_lt 0 (counted c system j)) (below (i + 1)) ≡ (list_any (λ j. nat_lt 0 (counted c system j)) (below i) || nat_lt 0 (counted c system i))
-any_more c system i =
+-- with one more signal, which has n cells
+pub any_more : (c : SignalCountsValue) (system : System) (i n : ℕ) → n ≡ counted c system i → list_any (λ j. nat_lt 0 (counted c system j)) (below (i + 1)) ≡ (list_any (λ j. nat_lt 0 (counted c system j)) (below i) || nat_lt 0 n)
+any_more c system i n is =
     ap (list_any (λ j. nat_lt 0 (counted c system j))) (below-more i) ∙ list_any-append (λ j. nat_lt 0 (counted c system j)) (below i) (i ∷ [])
-    ∙ last_any (list_any (λ j. nat_lt 0 (counted c system j)) (below i)) (nat_lt 0 (counted c system i))
-
-or_true : (b : Bool) → true ≡ (b || true)
-or_true true = refl
-or_true false = refl
-
-or_none : (b : Bool) → b ≡ (b || false)
-or_none true = refl
-or_none false = refl
-
-pub one_counted : (c : SignalCountsValue) (system : System) (i n : ℕ) → n ≡ counted c system i → 0 < n → true ≡ list_any (λ j. nat_lt 0 (counted c system j)) (below (i + 1))
-one_counted c system i n is some =
-    or_true (list_any (λ j. nat_lt 0 (counted c system j)) (below i)) ∙ sym (any_more c system i ∙ ap (λ (b : Bool). list_any (λ j. nat_lt 0 (counted c system j)) (below i) || b) (ap (nat_lt 0) (sym is) ∙ lt-ltb 0 n some))
-
-pub none_more : (c : SignalCountsValue) (system : System) (i n : ℕ) → n ≡ counted c system i → n ≤ 0
-    → list_any (λ j. nat_lt 0 (counted c system j)) (below i) ≡ list_any (λ j. nat_lt 0 (counted c system j)) (below (i + 1))
-none_more c system i n is none =
-    or_none (list_any (λ j. nat_lt 0 (counted c system j)) (below i)) ∙ sym (any_more c system i ∙ ap (λ (b : Bool). list_any (λ j. nat_lt 0 (counted c system j)) (below i) || b) (ap (nat_lt 0) (sym is) ∙ le-ltb 0 n none))
-
-pub last_index : (system : System) (i n : ℕ) → n ≡ length (table system) → i ≤ n → n ≤ i → i ≡ length (table system)
-last_index system i n is within end = omega (arith, is, within, end)
+    ∙ ap (λ (b : Bool). list_any (λ j. nat_lt 0 (counted c system j)) (below i) || b) (or-false (nat_lt 0 (counted c system i)) ∙ ap (nat_lt 0) (sym is))
 
 pub any_filter : {X : Type 0} (p : X → Bool) (xs : List X) → list_any p xs ≡ nat_lt 0 (length (filter p xs))
 any_filter p [] = refl

@@ -4,7 +4,7 @@ use Rattle.rtcm_msg.specs.Sets.{is_in_set}
 use Rattle.rtcm_inspect.proofs.SetLemmas.{ArePlanned, SetLaws, planned_each, found_inside, found_outside, found_refused, none_valued}
 use Rattle.rtcm_inspect.proofs.WeekLemmas.{own_counts}
 use Rattle.gnss_obs.specs.LockTimes.{LockTime}
-use Rattle.rtcm_inspect.proofs.Names.{get_or, ◌≡◌, ◌∙◌, ◌+◌, ◌≤◌, ◌==◌, ap, ap₂, sym, bits_of, cons_option, every_channel, filter_map, heard_by, heard_msm, if◌then◌else◌, inspected, inspected_in, inspected_of, is_some, lock_by, observed, option_and_then, option_map, satellite_of_id, seen_in, signal_of_id, unlisted_in, ChannelsValue, Df402, Df407, Entry, LockField, MsmValue, Satellite, SignalAt, System, entries, Station, Msm4, Msm5, Msm6, Msm7, Other, message_at, Message, MsgFault, MsmSet, Result, Ok, Err, Bool, true, false, not, ℕ, List, [], ◌∷◌, filter, Option, Some, None, All, refl, subst, arith, cond, count_by, option_map_or, All-nil, All-head, All-tail, sum_by-cons, Framed, counts_of, counts_of_message, is_planned, no_counts, offered, with_skipped, brings_value, is_of_station, valued, GatherSetup, Heard, is_own, HeardCell, Timed, SkipsOnly, valued_in, valued_of}
+use Rattle.rtcm_inspect.proofs.Names.{get_or, ◌≡◌, ◌∙◌, ◌+◌, ◌≤◌, ◌==◌, ap, ap₂, sym, bits_of, cons_option, every_channel, filter_map, heard_by, heard_msm, if◌then◌else◌, inspected, inspected_in, inspected_of, is_some, lock_by, observed, option_and_then, option_map, satellite_of_id, seen_in, signal_of_id, unlisted_in, ChannelsValue, Df402, Df407, Entry, LockField, MsmValue, Satellite, SignalAt, System, entries, Msm4, Msm5, Msm6, Msm7, message_at, Message, MsgFault, MsmSet, Result, Ok, Err, Bool, true, false, not, ℕ, List, [], ◌∷◌, filter, Option, Some, None, All, refl, subst, arith, cond, count_by, option_map_or, All-nil, All-head, All-tail, sum_by-cons, Framed, counts_of, counts_of_message, is_planned, no_counts, offered, with_skipped, brings_value, is_of_station, valued, GatherSetup, Heard, is_own, HeardCell, Timed, SkipsOnly, valued_in, valued_of}
 
 abbrev one_unless : Bool → ℕ
 one_unless b = cond (not b) 1 0
@@ -75,12 +75,11 @@ msm_keys : (s : GatherSetup) (field : LockField) (v : MsmValue) (es : List Entry
 msm_keys s field v es = record { station = refl; unlisted = unlisted_same s s.plan.channels every_channel field v.system es; skipped = skipped_same s s.plan.channels every_channel field v.system es }
 
 same_keys : (s : GatherSetup) (m : Message) → SameKeys s (heard_by s m) (inspected m)
-same_keys s (Station p) = record { station = refl; unlisted = refl; skipped = refl }
 same_keys s (Msm4 v) = msm_keys s Df402 v (entries (Msm4 v))
 same_keys s (Msm5 v) = msm_keys s Df402 v (entries (Msm5 v))
 same_keys s (Msm6 v) = msm_keys s Df407 v (entries (Msm6 v))
 same_keys s (Msm7 v) = msm_keys s Df407 v (entries (Msm7 v))
-same_keys s (Other k set) = record { station = refl; unlisted = refl; skipped = refl }
+same_keys s other = record { station = refl; unlisted = refl; skipped = refl }
 
 message_skips : (s : GatherSetup) (earlier : List Timed) (x y : Heard) → SameKeys s x y → ArePlanned s (valued s.station y)
     → (counts_of_message s earlier x).skipped ≤ y.unlisted + count_by (λ z. not (brings_value z)) y.cells

@@ -12,7 +12,7 @@ use Rattle.gnss_system.specs.declared.system.System.TheVariants as listed
 use Rattle.rtcm_msg.specs.declared.view.Form.TheVariants as shape
 use Rattle.obs_epoch.specs.Heard.{tow_of as gps_tow}
 use Rattle.rtcm_inspect.proofs.FirstLemmas.{first_more, or_none}
-use Rattle.rtcm_inspect.proofs.SetLemmas.{SetLaws, tow_read, tow_refused}
+use Rattle.rtcm_inspect.proofs.SetLemmas.{SetLaws, same_none, tow_read, tow_refused}
 use Rattle.rtcm_inspect.specs.FirstTows.{AreTows, IsMsmOf, IsWith, earlier, earliest, entry, later_by, placed_by, tow_in}
 use Rattle.rtcm_inspect.specs.declared.first_tows.FirstTows.{FirstTows}
 use Rattle.rtcm_inspect.specs.declared.first_tows.PlacedTow.{PlacedTow}
@@ -28,10 +28,6 @@ abbrev pub grown : Bool → PlacedTow → Option PlacedTow → Option PlacedTow
 grown b c None = if b then Some c else None
 grown b c (Some x) = Some x
 
-either_is : {A : Type 0} (b : Bool) (x : A) → (if b then x else x) ≡ x
-either_is true x = refl
-either_is false x = refl
-
 grown_some : (d b : Bool) (x y c : PlacedTow) → (if b then Some y else Some x) ≡ grown d c (if b then Some y else Some x)
 grown_some d true x y c = refl
 grown_some d false x y c = refl
@@ -42,7 +38,7 @@ grown_none c (Some x) = refl
 
 -- of two, each before the new one
 grown_earlier : (a b : Option PlacedTow) (c : PlacedTow) → IsBefore c.place a → IsBefore c.place b → (p q : Bool) → earlier (grown p c a) (grown q c b) ≡ grown (p || q) c (earlier a b)
-grown_earlier None None c h k true true = either_is (nat_lt c.place c.place) (Some c)
+grown_earlier None None c h k true true = same_none (nat_lt c.place c.place) (Some c)
 grown_earlier None None c h k true false = refl
 grown_earlier None None c h k false q = refl
 grown_earlier None (Some y) c h k true q = ap (λ (b : Bool). if b then Some y else Some c) (lt-ltb y.place c.place k)

@@ -1,7 +1,7 @@
 -- The cells with a value are of listed satellites and signals.
 use Rattle.std.specs.Option.{option_and_then}
 use Rattle.std.proofs.lemmas.Option.{cond_some, same_Some}
-use Rattle.rtcm_inspect.proofs.Names.{ltb-true, MsmValue, heard_msm, ◌≡◌, ℕ, ◌≤◌, ◌==◌, ◌&&◌, Bool, true, false, List, [], ◌∷◌, length, refl, sym, ◌∙◌, subst, arith, filter, All, Option, Some, None, Result, Ok, Err, LockField, Df402, Df407, filter_map, cond, nat_lt, nat_le, option_map, option_map_or, cons_option, position_or_len, All-nil, All-cons, All-append, All-filter, System, Satellite, IsSatellite, satellites, satellite_of_id, SignalAt, IsSignal, table, signal_of_id, Entry, Message, Station, Msm4, Msm5, Msm6, Msm7, Other, entries, MsgFault, message_at, Framed, Heard, inspected, every_channel, seen_in, lock_by, observed, HeardCell, IsKey, inspected_of, brings_value, is_of_station, valued, signal_in, valued_of, valued_in}
+use Rattle.rtcm_inspect.proofs.Names.{ltb-true, MsmValue, heard_msm, ◌≡◌, ℕ, ◌≤◌, ◌==◌, ◌&&◌, Bool, true, false, List, [], ◌∷◌, length, refl, sym, ◌∙◌, subst, arith, filter, All, Option, Some, None, Result, Ok, Err, LockField, Df402, Df407, filter_map, cond, nat_lt, nat_le, option_map, option_map_or, cons_option, position_or_len, All-nil, All-cons, All-append, All-filter, System, Satellite, IsSatellite, satellites, satellite_of_id, SignalAt, IsSignal, table, signal_of_id, Entry, Message, Msm4, Msm5, Msm6, Msm7, entries, MsgFault, message_at, Framed, Heard, inspected, every_channel, seen_in, lock_by, observed, HeardCell, IsKey, inspected_of, brings_value, is_of_station, valued, signal_in, valued_of, valued_in}
 use Rattle.gnss_system.specs.declared.tables.ListedSignal as tables
 
 listed_of : (system : System) (id : ℕ) (g : SignalAt) → signal_of_id system id ≡ Some g → (g.system ≡ system) × IsSignal g
@@ -55,12 +55,11 @@ all_valued P wanted m h = by (is_of_station wanted m) where
   by false = All-nil P
 
 all_heard : (m : Message) → All IsKey (inspected m).cells
-all_heard (Station p) = All-nil IsKey
 all_heard (Msm4 m) = all_seen IsKey Df402 m.system (λ x h. h.0) (entries (Msm4 m))
 all_heard (Msm5 m) = all_seen IsKey Df402 m.system (λ x h. h.0) (entries (Msm5 m))
 all_heard (Msm6 m) = all_seen IsKey Df407 m.system (λ x h. h.0) (entries (Msm6 m))
 all_heard (Msm7 m) = all_seen IsKey Df407 m.system (λ x h. h.0) (entries (Msm7 m))
-all_heard (Other n set) = All-nil IsKey
+all_heard other = All-nil IsKey
 
 -- the cells of a message
 pub message_keys : (wanted : Option ℕ) (m : Message) → All IsKey (valued wanted (inspected m))

@@ -1,4 +1,4 @@
-use Rattle.rtcm_inspect.proofs.Names.{◌≡◌, ◌∙◌, ◌≤◌, ℕ, List, Option, PlanValue, ap, arith, flat_map, length, sym, plan_had, with_words}
+use Rattle.rtcm_inspect.proofs.Names.{◌∙◌, ℕ, List, ap, arith, flat_map, sym, plan_had, with_words}
 use Rattle.std.specs.Prelude.{take}
 use Rattle.std.proofs.lemmas.List.{take_all}
 use Rattle.gnss_system.specs.Systems.{systems}
@@ -19,8 +19,6 @@ loop-i-preserved c =
       short = let s = c.add_other.ensures.short in let b = c.loop-i.invariant.short in omega (arith, s, b);
     }
 
-all : (leap : Option ℕ) (p : PlanValue) (old : List ℕ) (n : ℕ) → length systems ≤ n → with_words old (flat_map (other_words leap p) (take n systems)) ≡ with_words old (flat_map (other_words leap p) systems)
-all leap p old n h = ap (λ ss. with_words old (flat_map (other_words leap p) ss)) (take_all n systems h)
-
 pub returns-clause-text : goal.returns-clause-text
-returns-clause-text c = λ cells h. c.loop-i.invariant.text cells h ∙ all c.args.leap (plan_had cells c.args.signals.now.channels) c.args.text.now.items c.loop-i.i (let end = c.loop-i-test.false in omega (arith, end))
+returns-clause-text c = λ cells h. c.loop-i.invariant.text cells h
+    ∙ ap (λ ss. with_words c.args.text.now.items (flat_map (other_words c.args.leap (plan_had cells c.args.signals.now.channels)) ss)) (take_all c.loop-i.i systems (let end = c.loop-i-test.false in omega (arith, end)))
