@@ -49,15 +49,13 @@ IsOther value = ⊤
 plain_other : (c : List Rule) (w : Waiting) (word : Text) (h : Held) → IsOther (plain_word c w word h).1
 unfolding IsOther
 plain_other c idle word h = tt
-plain_other c (option id) word h = tt
-plain_other c positional word h = tt
+plain_other c other word h = tt
 
 flag_other : (c : List Rule) (w : Waiting) (word : Text) (h : Held) (o : Outcome) → IsOther (after_flag c w word h o).1
 unfolding IsOther
 flag_other c w word h done = tt
 flag_other c w word h (waits id) = tt
-flag_other c w word h plain = plain_other c w word h
-flag_other c w word h refused = plain_other c w word h
+flag_other c w word h other = plain_other c w word h
 
 short_other : (c : List Rule) (w : Waiting) (word : Text) (flags : Option Text) (h : Held) → IsOther (short_or_plain c w word flags h).1
 short_other c w word (Some flags) h = flag_other c w word (bundle c flags h).0 (bundle c flags h).1

@@ -8,19 +8,9 @@ use Rattle.rtcm2rinex.specs.declared.fault.ToolFault.TheVariants as faults
 one_two : ◌≡◌ {A = ℕ} 1 2 → ⊥
 one_two e = omega (arith, e)
 
-one_zero : ◌≡◌ {A = ℕ} 1 0 → ⊥
-one_zero e = omega (arith, e)
-
-two_zero : ◌≡◌ {A = ℕ} 2 0 → ⊥
-two_zero e = omega (arith, e)
-
 never_zero : (fault : ToolFault) → fault_status fault ≡ 0 → ⊥
-never_zero (faults.BadDate o) e = two_zero e
-never_zero faults.BadPosition e = two_zero e
-never_zero faults.BadHeight e = two_zero e
-never_zero faults.BadChannels e = two_zero e
-never_zero faults.BadGaps e = two_zero e
-never_zero other e = one_zero e
+never_zero (faults.BadDate o) e = omega (arith, e)
+never_zero other e = omega (arith, e)
 
 -- the devices of a command: what is known of them, and the reader and the writer before and after it
 pub record Devices (R W : Type 0) : Type 0 where
