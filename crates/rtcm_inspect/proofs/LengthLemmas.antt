@@ -21,9 +21,7 @@ pub number_missing : (most : ℕ) (text : List ℕ) → (list_all is_digit text 
 number_missing most text none = by (nat_le 1 (length text)) refl (nat_le (length text) most) refl (list_all is_digit text) refl where
   by : (a : Bool) → nat_le 1 (length text) ≡ a → (b : Bool) → nat_le (length text) most ≡ b → (c : Bool) → list_all is_digit text ≡ c → (if a && b then (if c then Some (digits_in text) else None) else None) ≡ None
   by true some true few true all = absurd (none all (grind (arith, nat_tests)) (grind (arith, nat_tests)))
-  by true some true few false all = refl
-  by true some false few c all = refl
-  by false some b few c all = refl
+  by a some b few c all = refl
 
 -- a text without a leading plus sign that was parsed
 pub number_parsed : {E : Type 0} (most : ℕ) (text : List ℕ) (r : Result ℕ E) → most ≤ 8 → length text ≤ most → (get_or text 0 0 ≢ 43) → ParsesUnsigned 64 10 text r

@@ -30,7 +30,3 @@ end_line start first words {text} {all} e f =
 -- one more text
 pub add_text : {old new text part same : List ℕ} → new ≡ old ++ part → old ≡ text → part ≡ same → new ≡ text ++ same
 add_text {old} {new} {text} {part} {same} e f g = e ∙ ap (λ (l : List ℕ). l ++ part) f ∙ ap (λ (l : List ℕ). text ++ l) g
-
--- a word and three texts, the first after a `=` and the others after commas
-pub assigned : (start p x y z : List ℕ) → (((start ++ 0x20 ∷ p) ++ 0x3D ∷ x) ++ 0x2C ∷ y) ++ 0x2C ∷ z ≡ start ++ 0x20 ∷ (p ++ 0x3D ∷ (x ++ 0x2C ∷ (y ++ 0x2C ∷ z)))
-assigned start p x y z = simp append_assoc

@@ -3,7 +3,6 @@ use Rattle.rtcm_msg.specs.Encoding.{other_of}
 use Rattle.rtcm_msg.specs.Sets.{is_in_set}
 use Rattle.rtcm_inspect.proofs.SetLemmas.{ArePlanned, SetLaws, planned_each, found_inside, found_outside, found_refused, none_valued}
 use Rattle.rtcm_inspect.proofs.WeekLemmas.{own_counts}
-use Rattle.gnss_obs.specs.LockTimes.{LockTime}
 use Rattle.rtcm_inspect.proofs.Names.{get_or, ◌≡◌, ◌∙◌, ◌+◌, ◌≤◌, ◌==◌, ap, ap₂, sym, bits_of, cons_option, every_channel, filter_map, heard_by, heard_msm, if◌then◌else◌, inspected, inspected_in, inspected_of, is_some, lock_by, observed, option_and_then, option_map, satellite_of_id, seen_in, signal_of_id, unlisted_in, ChannelsValue, Df402, Df407, Entry, LockField, MsmValue, Satellite, SignalAt, System, entries, Msm4, Msm5, Msm6, Msm7, message_at, Message, MsgFault, MsmSet, Result, Ok, Err, Bool, true, false, not, ℕ, List, [], ◌∷◌, filter, Option, Some, None, All, refl, subst, arith, cond, count_by, option_map_or, All-nil, All-head, All-tail, sum_by-cons, Framed, counts_of, counts_of_message, is_planned, no_counts, offered, with_skipped, brings_value, is_of_station, valued, GatherSetup, Heard, is_own, HeardCell, Timed, SkipsOnly, valued_in, valued_of}
 
 abbrev one_unless : Bool → ℕ
@@ -40,15 +39,11 @@ module _ (s : GatherSetup) (c d : ChannelsValue) (field : LockField) (system : S
   -- the key of a cell doesn't depend on the channels
   one_skipped : (e : Entry) (xs ys : List HeardCell) → skipped_among xs ≡ skipped_among ys → skipped_among (cons_option (seen_in c field system e) xs) ≡ skipped_among (cons_option (seen_in d field system e) ys)
   one_skipped e xs ys same = by (satellite_of_id system e.satellite) (signal_of_id system e.signal) where
-    lock : LockTime
-    lock = lock_by field e.lock
-
     by : (u : Option Satellite) (g : Option SignalAt)
-        → skipped_among (cons_option (option_and_then (λ u. option_map (observed c lock e u) g) u) xs) ≡ skipped_among (cons_option (option_and_then (λ u. option_map (observed d lock e u) g) u) ys)
-    by None g = same
-    by (Some u) None = same
+        → skipped_among (cons_option (option_and_then (λ u. option_map (observed c (lock_by field e.lock) e u) g) u) xs) ≡ skipped_among (cons_option (option_and_then (λ u. option_map (observed d (lock_by field e.lock) e u) g) u) ys)
     by (Some u) (Some g) =
-        counted (is_planned s) (observed c lock e u g) xs ∙ ap (λ (n : ℕ). one_unless (is_planned s (observed d lock e u g)) + n) same ∙ sym (counted (is_planned s) (observed d lock e u g) ys)
+        counted (is_planned s) (observed c (lock_by field e.lock) e u g) xs ∙ ap (λ (n : ℕ). one_unless (is_planned s (observed d (lock_by field e.lock) e u g)) + n) same ∙ sym (counted (is_planned s) (observed d (lock_by field e.lock) e u g) ys)
+    by u g = same
 
   skipped_same : (es : List Entry) → skipped_among (filter_map (seen_in c field system) es) ≡ skipped_among (filter_map (seen_in d field system) es)
   skipped_same [] = refl
@@ -57,13 +52,9 @@ module _ (s : GatherSetup) (c d : ChannelsValue) (field : LockField) (system : S
   unlisted_same : (es : List Entry) → unlisted_in c field system es ≡ unlisted_in d field system es
   unlisted_same [] = refl
   unlisted_same (e ∷ es) = ap₂ (λ (b : Bool) (n : ℕ). (if b then 0 else 1) + n) (by (satellite_of_id system e.satellite) (signal_of_id system e.signal)) (unlisted_same es) where
-    lock : LockTime
-    lock = lock_by field e.lock
-
-    by : (u : Option Satellite) (g : Option SignalAt) → is_some (option_and_then (λ u. option_map (observed c lock e u) g) u) ≡ is_some (option_and_then (λ u. option_map (observed d lock e u) g) u)
-    by None g = refl
+    by : (u : Option Satellite) (g : Option SignalAt) → is_some (option_and_then (λ u. option_map (observed c (lock_by field e.lock) e u) g) u) ≡ is_some (option_and_then (λ u. option_map (observed d (lock_by field e.lock) e u) g) u)
     by (Some u) None = refl
-    by (Some u) (Some g) = refl
+    by u g = refl
 
 -- what a conversion counts of a message doesn't depend on the channels
 record SameKeys (s : GatherSetup) (x y : Heard) : Type 0 where

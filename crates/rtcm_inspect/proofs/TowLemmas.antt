@@ -76,9 +76,8 @@ module _ (set : MsmSet) (tows : BySystem SystemTows) (system : System) (form : F
   after = with_value_of system tows now
 
   entry_same : (b d : Bool) (o : Option PlacedTow) → (if b then (if d then option_or o (Some c) else o) else None) ≡ grown (b && d) c (if b then o else None)
-  entry_same true true None = refl
+  entry_same true d None = refl
   entry_same true true (Some x) = refl
-  entry_same true false None = refl
   entry_same true false (Some x) = refl
   entry_same false d o = refl
 

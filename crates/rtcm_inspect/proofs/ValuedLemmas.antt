@@ -32,12 +32,11 @@ seen_key field system e x h = by (satellite_of_id system e.satellite) (signal_of
 
   by : (s : Option Satellite) (g : Option SignalAt) → ((v : Satellite) → s ≡ Some v → (v.system ≡ system) × IsSatellite v) → ((v : SignalAt) → g ≡ Some v → (v.system ≡ system) × IsSignal v)
       → option_and_then (λ s. option_map (seen s) g) s ≡ Some x → IsKey x × (x.satellite.system ≡ system)
-  by None g a b h = absurd (grind (arith, h))
-  by (Some s) None a b h = absurd (grind (arith, h))
   by (Some s) (Some g) a b h =
       let (of, satellite) = a s refl in
       let (same, signal) = b g refl in
       subst (λ (y : HeardCell). IsKey y × (y.satellite.system ≡ system)) (same_Some (seen s g) x h) (record { satellite = satellite; signal = signal; same = same ∙ sym of }, of)
+  by s g a b h = absurd (grind (arith, h))
 
 -- what holds for each cell that is seen, holds for those of entries and for those of them that count
 all_seen : (P : HeardCell → Type 0) (field : LockField) (system : System) → ((x : HeardCell) → IsKey x × (x.satellite.system ≡ system) → P x) → (es : List Entry) → All P (filter_map (seen_in every_channel field system) es)

@@ -150,8 +150,7 @@ dated_step {tow} {rest} s (Some m) ms now more station earlier none first = by (
 -- the time of week doesn't depend on the channels
 same_tow : (wanted : Option ℕ) (c d : ChannelsValue) (leap : ℕ) (r : Result Message MsgFault) → option_and_then (tow_of wanted) (heard_of c leap r) ≡ option_and_then (tow_of wanted) (heard_of d leap r)
 same_tow wanted c d leap (Ok (Station p)) = refl
-same_tow wanted c d leap (Ok other) = refl
-same_tow wanted c d leap (Err e) = refl
+same_tow wanted c d leap other = refl
 
 -- the messages of frames by a setup
 abbrev heard_all : MsmSet → GatherSetup → List Framed → List Heard

@@ -1,16 +1,12 @@
-use Rattle.rtcm_inspect.proofs.LineLemmas.{add_text, add_word, assigned}
+use Rattle.rtcm_inspect.proofs.LineLemmas.{add_word}
 use Rattle.rtcm_inspect.proofs.ShowLemmas.{as_passed}
-use Rattle.rtcm_inspect.proofs.Names.{◌≡◌, ◌∙◌, ◌∷◌, ◌++◌, ap, sym, subst, refl, rules, ℕ, ℤ, pos, List, Option, Some, None, IfSome, codes, w64, to_z, of_z, InRange, StationParts, antenna_words, position_word, station_words, with_words, metres}
+use Rattle.rtcm_inspect.proofs.Names.{append_assoc, ◌≡◌, ◌∙◌, ◌∷◌, ◌++◌, ap, sym, subst, refl, rules, ℕ, pos, List, Option, Some, None, IfSome, codes, w64, to_z, of_z, InRange, StationParts, antenna_words, position_word, station_words, with_words, metres}
 use Rattle.rtcm_inspect.proofs.options.add_station.Goals as goal
 
 -- the option of the position
 placed : (start : List ℕ) (s : StationParts) {name x y z : List ℕ} → InRange s → name ≡ start ++ 0x20 ∷ codes "--position" → x ≡ name ++ 0x3D ∷ metres (to_z w64 (of_z w64 s.x))
     → y ≡ x ++ 0x2C ∷ metres (to_z w64 (of_z w64 s.y)) → z ≡ y ++ 0x2C ∷ metres (to_z w64 (of_z w64 s.z)) → z ≡ start ++ 0x20 ∷ position_word s
-placed start s range name x y z =
-    let first = add_text x name (ap (λ (v : ℤ). 0x3D ∷ metres v) (as_passed s.x range.x)) in
-    let second = add_text y first (ap (λ (v : ℤ). 0x2C ∷ metres v) (as_passed s.y range.y)) in
-    let third = add_text z second (ap (λ (v : ℤ). 0x2C ∷ metres v) (as_passed s.z range.z)) in
-    third ∙ assigned start (codes "--position") (metres s.x) (metres s.y) (metres s.z)
+placed start s range name x y z = simp (z, y, x, name, as_passed s.x range.x, as_passed s.y range.y, as_passed s.z range.z, append_assoc)
 
 -- the words of the station, which has this height
 as_given : (start : List ℕ) (given : Option StationParts) (s : StationParts) (height : Option ℕ) → given ≡ Some s → s.height ≡ height
