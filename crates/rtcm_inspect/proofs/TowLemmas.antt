@@ -1,6 +1,5 @@
 -- The first MSMs of each system, after one more message.
 use mathlib.Core.Bool.{and-or_distrib_right}
-use Rattle.std.specs.Option.{option_or}
 use Rattle.gnss_system.specs.Systems.{systems, index_of, is_system}
 use Rattle.std.proofs.lemmas.List.{length-take-le}
 use Rattle.gnss_system.specs.SystemValues.{tabulate, value_of, with_value_of}
@@ -17,7 +16,7 @@ use Rattle.rtcm_inspect.specs.FirstTows.{AreTows, IsMsmOf, IsWith, earlier, earl
 use Rattle.rtcm_inspect.specs.declared.first_tows.FirstTows.{FirstTows}
 use Rattle.rtcm_inspect.specs.declared.first_tows.PlacedTow.{PlacedTow}
 use Rattle.rtcm_inspect.specs.declared.first_tows.SystemTows.{SystemTows}
-use Rattle.rtcm_inspect.proofs.Names.{le-ltb, lt-ltb, Framed, Message, MsgFault, Ok, Err, ◌++◌, ◌≤◌, first_tow, every_channel, heard, inspected_in, FormedMsm, MsmValue, drop, drop_at, formed, length, length-append, message_at, message_in, nat_tests, option_map_or, take, tow_of, unwrap_or, week, ◌*◌, ◌%◌, ◌==◌, ◌≡◌, ◌∙◌, ◌+◌, ◌<◌, ◌&&◌, ◌||◌, ℕ, Bool, true, false, List, [], ◌∷◌, Option, Some, None, IfSome, ap, ap₂, arith, list_any, nat_lt, option_map, refl, subst, sym, if◌then◌else◌, have_form, Form, Forms, MsmSet, System}
+use Rattle.rtcm_inspect.proofs.Names.{option_or, le-ltb, lt-ltb, Framed, Message, MsgFault, Ok, Err, ◌++◌, ◌≤◌, first_tow, every_channel, heard, inspected_in, FormedMsm, MsmValue, drop, drop_at, formed, length, length-append, message_at, message_in, nat_tests, option_map_or, take, tow_of, unwrap_or, week, ◌*◌, ◌%◌, ◌==◌, ◌≡◌, ◌∙◌, ◌+◌, ◌<◌, ◌&&◌, ◌||◌, ℕ, Bool, true, false, List, [], ◌∷◌, Option, Some, None, IfSome, ap, ap₂, arith, list_any, nat_lt, option_map, refl, subst, sym, if◌then◌else◌, have_form, Form, Forms, MsmSet, System}
 
 -- a time of week before a place
 abbrev pub IsBefore : ℕ → Option PlacedTow → Type 0

@@ -28,16 +28,15 @@ pub fn channels_of(text: &str) -> Option<Channels>
 
 /// Returns the channels with that of one more slot. `None` for a text of another form, and for a
 /// slot that has a channel.
-fn with_entry(known: Channels, text: &str) -> Option<Channels>
+fn with_entry(mut known: Channels, text: &str) -> Option<Channels>
     ensures { result ≡ with_entry known text.now }
 {
     let (slot, number) = slot_channel_of(text)?;
     if known.number(slot).is_some() {
         return None;
     }
-    let mut channels = known;
-    channels.set(slot, number);
-    Some(channels)
+    known.set(slot, number);
+    Some(known)
 }
 
 /// Parses a slot and the number of its channel, separated by a colon.

@@ -132,7 +132,7 @@ pub fn run_show_all<R: Read, W: Deliver>(
 /// than the limit or memory ran out.
 pub fn list<R: Read, W: Deliver>(
     alloc: Global,
-    listing: Listing,
+    mut listing: Listing,
     limit: u64,
     reader: &mut Counted<R>,
     writer: &mut Counted<W>,
@@ -145,7 +145,6 @@ pub fn list<R: Read, W: Deliver>(
     let Ok(mut framer) = Framer::new(alloc, limit) else {
         return Err(InspectFault::Scan(ScanFault::Memory));
     };
-    let mut listing = listing;
     let mut buffer = [0; PIECE_BYTES];
     laws::prefix();
     let read = framer.read_frames(reader, &mut buffer, &mut listing, writer);

@@ -1,6 +1,5 @@
-use Rattle.std.proofs.Common.{arith, rules}
 use Rattle.rtcm_inspect.proofs.LengthLemmas.{no_sign}
-use Rattle.rtcm_inspect.proofs.Names.{strip_prefix_char}
+use Rattle.rtcm_inspect.proofs.Names.{arith, rules, strip_prefix_char}
 use Rattle.rtcm_inspect.proofs.channel_texts.channel_of.Goals as goal
 
 pub returns-in_err-within-in-None-clause-value : goal.returns-in_err-within-in-None-clause-value

@@ -1,8 +1,7 @@
 use denote.Shadow.{shadow}
 use denote.Text.{Utf8}
-use Rattle.gnss_obs.specs.Channels.{no_channels}
 use Rattle.rtcm_inspect.specs.ChannelTexts.{channels_after}
-use Rattle.rtcm_inspect.proofs.Names.{◌≡◌, between_commas, length}
+use Rattle.rtcm_inspect.proofs.Names.{no_channels, ◌≡◌, between_commas, length}
 use Rattle.rtcm_inspect.proofs.channel_texts.channels_of.Given as goal
 
 -- The rest of the text gives what the whole text does.

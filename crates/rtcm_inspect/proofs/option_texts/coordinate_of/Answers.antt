@@ -1,6 +1,5 @@
-use Rattle.std.proofs.Common.{arith, rules}
 use Rattle.rtcm_inspect.proofs.LengthLemmas.{no_sign}
-use Rattle.rtcm_inspect.proofs.Names.{strip_prefix_char}
+use Rattle.rtcm_inspect.proofs.Names.{arith, rules, strip_prefix_char}
 use Rattle.rtcm_inspect.proofs.option_texts.coordinate_of.Goals as goal
 
 pub returns-in_err-length_below-in-None : goal.returns-in_err-length_below-in-None

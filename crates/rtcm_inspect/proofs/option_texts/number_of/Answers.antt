@@ -1,6 +1,5 @@
-use Rattle.std.proofs.Common.{◌^◌, ◌<◌, ◌∙◌, arith, sym, subst, true≢false, ℕ, Option, IfSome}
 use Rattle.rtcm_inspect.proofs.LengthLemmas.{number_parsed}
-use Rattle.rtcm_inspect.proofs.Names.{starts_char}
+use Rattle.rtcm_inspect.proofs.Names.{◌^◌, ◌<◌, ◌∙◌, arith, sym, subst, true≢false, ℕ, Option, IfSome, starts_char}
 use Rattle.rtcm_inspect.proofs.option_texts.number_of.Goals as goal
 
 pub returns : goal.returns

@@ -1,5 +1,4 @@
-use Rattle.rtcm_inspect.proofs.Names.{◌∙◌, ℕ, List, ap, arith, flat_map, sym, plan_had, with_words}
-use Rattle.std.specs.Prelude.{take}
+use Rattle.rtcm_inspect.proofs.Names.{take, ◌∙◌, ℕ, List, ap, arith, flat_map, sym, plan_had, with_words}
 use Rattle.std.proofs.lemmas.List.{take_all}
 use Rattle.gnss_system.specs.Systems.{systems}
 use Rattle.gnss_system.proofs.SystemLaws.{systems_taken}
