@@ -50,10 +50,8 @@ module _ {R W : Type 0} (left : R → Option (List ℕ)) (held : W → Option (L
     made other h = absurd h
 
     by : (p : Option (ℤ × ℤ × ℤ)) (h : Option ℕ) (c : Option ChannelsValue) → IsFirstFault (values_by p h) (channels_by c) options e → HasNoneFailed e
-    by None h c is = subst HasNoneFailed (sym is) (refl, refl)
-    by (Some (x, y, z)) None c is = subst HasNoneFailed (sym is) (refl, refl)
-    by (Some (x, y, z)) (Some h) None is = subst HasNoneFailed (sym is) (refl, refl)
     by (Some (x, y, z)) (Some h) (Some c) is = made e is
+    by p h c is = subst HasNoneFailed (sym is) (refl, refl)
 
   pub ends_refused : {E : Type 0} (ended : Result ⊤ ToolFault) (fault : ToolFault) (printed : E → Option (List ℕ)) (unsent : E → List ℕ) (e : Device E) → IsErrAnd ended (λ y. y ≡ fault) → IsSetupRefused options fault
       → EndsConverting ended options left r r held waits w w printed unsent e e

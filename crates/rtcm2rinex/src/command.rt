@@ -12,10 +12,7 @@ ghost use Rattle.rtcm2rinex.specs.Commands.{AreRefused, EndsFound, HasCommand};
 ghost use Rattle.rtcm2rinex.specs.Commands.{HasStoppedEarly, HasCompleted, StopsPrinting, status_of};
 ghost use Rattle.rtcm2rinex.specs.Devices.{of_inspection};
 ghost use Rattle.rtcm2rinex.specs.ErrorLines.{error_line, not_text_line};
-ghost use Rattle.rtcm_scan.specs.Scan.{most_bytes};
 ghost use Rattle.rtcm_inspect.specs.Lengths.{longest_interval};
-ghost use Rattle.rtcm_inspect.specs.Listing.{EndsListing};
-ghost use Rattle.rtcm_inspect.specs.ShowLines.{show_lines};
 ghost use Rattle.rtcm_inspect.specs.Printing.{PrintsLine, PrintsSome, PrintsText};
 ghost use Rattle.rtcm2rinex.specs.Printing.{PrintsFault};
 ghost use Rattle.rtcm2rinex.specs.declared.cli.TheConstants.{VERSION};
@@ -102,7 +99,8 @@ fn run<R: Read, W: Deliver, E: Deliver>(
     };
     match name {
         "frames" => of_inspection(run_frames(alloc, reader, writer)),
-        "show" => of_inspection(show(alloc, has_flag(options, "all"), reader, writer)),
+        "show" if has_flag(options, "all") => of_inspection(run_show_all(alloc, reader, writer)),
+        "show" => of_inspection(run_show(alloc, reader, writer)),
         "signals" => of_inspection(run_signals(alloc, station_of(options), reader, writer)),
         "options" => print_options(alloc, options, reader, writer),
         "convert" => convert(alloc, options, reader, writer, faults),
@@ -115,23 +113,6 @@ fn of_inspection(ended: Result<(), InspectFault>) -> Result<(), ToolFault>
     ensures { result ≡ of_inspection ended }
 {
     ended.map_err(ToolFault::Inspect)
-}
-
-/// Shows all messages, or those that `convert` reads by default.
-fn show<R: Read, W: Deliver>(
-    alloc: Global,
-    all: bool,
-    reader: &mut Counted<R>,
-    writer: &mut Counted<W>,
-) -> Result<(), InspectFault>
-    ensures { EndsListing result most_bytes (show_lines all)
-        R.remaining reader.old reader.new W.contents W.waiting writer.old writer.new }
-{
-    if all {
-        run_show_all(alloc, reader, writer)
-    } else {
-        run_show(alloc, reader, writer)
-    }
 }
 
 /// Prints the options that fit the stream, for the station and near the date that are given.

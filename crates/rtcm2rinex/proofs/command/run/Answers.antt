@@ -1,5 +1,5 @@
 use Rattle.rtcm2rinex.proofs.CommandLemmas.{Devices, check_stopped, ends_so, inspection_found, is_check, options_stopped, sub_found}
-use Rattle.rtcm2rinex.proofs.Names.{Bool, inl, inr, refl, subst, options_of}
+use Rattle.rtcm2rinex.proofs.Names.{◌∙◌, Bool, inl, inr, refl, subst, sym, options_of}
 use Rattle.rtcm_scan.specs.Scan.{most_bytes}
 use Rattle.rtcm_inspect.specs.Listing.{EndsListing}
 use Rattle.rtcm_inspect.specs.ShowLines.{show_lines}
@@ -13,10 +13,17 @@ returns-in-frames g c =
 
 pub returns-in-show : goal.returns-in-show
 returns-in-show g c =
-    let d : Devices _ _ = record { left = g.R.Read.remaining; held = g.W.Write.contents; waits = g.W.Deliver.waiting; r = c.args.reader.now; r2 = c.show.new.reader; w = c.args.writer.now; w2 = c.show.new.writer } in
-    inspection_found d g.E.Write.contents g.E.Deliver.waiting c.args.faults.now c.show.result c.of_inspection-in-show.ensures (sub_found _ c.in-Some.ensures.name c.in-Some.ensures.rows)
+    let d : Devices _ _ = record { left = g.R.Read.remaining; held = g.W.Write.contents; waits = g.W.Deliver.waiting; r = c.args.reader.now; r2 = c.run_show_all.new.reader; w = c.args.writer.now; w2 = c.run_show_all.new.writer } in
+    inspection_found d g.E.Write.contents g.E.Deliver.waiting c.args.faults.now c.run_show_all.result c.of_inspection-in-show.ensures (sub_found _ c.in-Some.ensures.name c.in-Some.ensures.rows)
     (λ x h. inr (inl (c.in-show.is, h)), λ f h. inr (inl (c.in-show.is, h)))
-    (subst (λ (b : Bool). EndsListing c.show.result most_bytes (show_lines b) g.R.Read.remaining c.args.reader.now c.show.new.reader g.W.Write.contents g.W.Deliver.waiting c.args.writer.now c.show.new.writer) c.has_flag.ensures c.show.ensures)
+    (subst (λ (b : Bool). EndsListing c.run_show_all.result most_bytes (show_lines b) g.R.Read.remaining c.args.reader.now c.run_show_all.new.reader g.W.Write.contents g.W.Deliver.waiting c.args.writer.now c.run_show_all.new.writer) (sym c.if-has_flag.true ∙ c.has_flag.ensures) c.run_show_all.ensures)
+
+pub returns-in-show-2 : goal.returns-in-show-2
+returns-in-show-2 g c =
+    let d : Devices _ _ = record { left = g.R.Read.remaining; held = g.W.Write.contents; waits = g.W.Deliver.waiting; r = c.args.reader.now; r2 = c.run_show.new.reader; w = c.args.writer.now; w2 = c.run_show.new.writer } in
+    inspection_found d g.E.Write.contents g.E.Deliver.waiting c.args.faults.now c.run_show.result c.of_inspection-in-show-2.ensures (sub_found _ c.in-Some.ensures.name c.in-Some.ensures.rows)
+    (λ x h. inr (inl (c.in-show.is, h)), λ f h. inr (inl (c.in-show.is, h)))
+    (subst (λ (b : Bool). EndsListing c.run_show.result most_bytes (show_lines b) g.R.Read.remaining c.args.reader.now c.run_show.new.reader g.W.Write.contents g.W.Deliver.waiting c.args.writer.now c.run_show.new.writer) (sym c.if-has_flag.false ∙ c.has_flag.ensures) c.run_show.ensures)
 
 pub returns-in-signals : goal.returns-in-signals
 returns-in-signals g c =
