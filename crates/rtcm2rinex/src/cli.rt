@@ -31,10 +31,9 @@ pub fn parse<'a>(alloc: Global, words: &'a [&'a str]) -> Result<ArgMatches<'a>, 
     }
 }
 
-// The functions that follow accept and return the result of an allocation, so that no loop has an
-// early exit at which it would have to drop the commands made before.
-
 /// Returns the program with a command for each row.
+// It accepts and returns the result of an allocation, so that the loop has no early exit at which it
+// would have to drop the commands made before.
 fn with_commands<'a>(
     alloc: Global,
     program: Result<Command<'a>, AllocError>,
@@ -67,26 +66,23 @@ fn command<'a>(
 ) -> Result<Command<'a>, AllocError>
     ensures { line.Makes result (command_set tables.now row.now) }
 {
-    let command = with_options(alloc, Ok(described(alloc, row)), tables.first(row.options));
+    let command = with_options(alloc, described(alloc, row), tables.first(row.options))?;
     with_options(alloc, command, tables.more(row.options))
 }
 
 /// Returns the command with an option for each of these rows.
 fn with_options<'a>(
     alloc: Global,
-    command: Result<Command<'a>, AllocError>,
+    command: Command<'a>,
     rows: &[OptionRow<'a>],
 ) -> Result<Command<'a>, AllocError>
-    ensures { (a : App) → line.Makes command.entry a → line.Makes result (line.with_options a (map option_set rows.now)) }
+    ensures { line.Makes result (line.with_options (app_of command.entry) (map option_set rows.now)) }
 {
     let mut command = command;
     for row in rows {
-        command = match command {
-            Ok(command) => command.arg(option(alloc, row)),
-            Err(error) => Err(error),
-        };
+        command = command.arg(option(alloc, row))?;
     }
-    command
+    Ok(command)
 }
 
 /// Returns a command with its help texts.
