@@ -52,7 +52,7 @@ impl FrameSink<()> for StreamSignals {
         match &look_in(&MsmSet::all(), message) {
             Ok(view) => {
                 self.signal_counts.count_view(self.station, view);
-                self.forms = with_forms(self.forms, self.station, view);
+                add_form(&mut self.forms, self.station, view);
                 add_sent_channels(&mut self.channels, self.station, message, view);
                 self.first.add(self.station, view);
                 Ok(())
@@ -67,15 +67,13 @@ impl FrameSink<()> for StreamSignals {
     }
 }
 
-/// Returns the forms after one more message: all, if it is an MSM in another form, and has a cell
+/// Adds one more message to the forms: they are all, if it is an MSM in another form, and has a cell
 /// with a value.
-fn with_forms(forms: Forms, station: Option<u16>, view: &View<'_>) -> Forms
-    ensures { result ≡ with_forms forms station (viewed_message view.now) }
+fn add_form(forms: &mut Forms, station: Option<u16>, view: &View<'_>)
+    ensures { forms.new ≡ with_forms forms.old station (viewed_message view.now) }
 {
-    if is_of_other(forms, view) && has_value(station, view) {
-        Forms::All
-    } else {
-        forms
+    if is_of_other(*forms, view) && has_value(station, view) {
+        *forms = Forms::All;
     }
 }
 

@@ -26,16 +26,18 @@ pub enum Stations {
 }
 
 impl Stations {
-    /// Returns the stations after one more message, of this station if it has one.
-    pub fn with(self, station: Option<u16>) -> Stations
-        ensures { (ns : List ℕ) → self ≡ stations_in ns → result ≡ stations_in (ns ++ option_to_list station) }
+    /// Adds the station of one more message.
+    fn add(&mut self, station: u16)
+        ensures { (ns : List ℕ) → self.old ≡ stations_in ns → self.new ≡ stations_in (ns ++ station ∷ []) }
     {
-        match (self, station) {
-            (same, None) => same,
-            (Stations::Unknown, Some(station)) => Stations::One(station),
-            (Stations::One(first), Some(station)) if first == station => Stations::One(first),
-            (Stations::One(first), Some(station)) => Stations::Several(first, station),
-            (Stations::Several(first, other), Some(_)) => Stations::Several(first, other),
+        match *self {
+            Stations::Unknown => *self = Stations::One(station),
+            Stations::One(first) => {
+                if first != station {
+                    *self = Stations::Several(first, station);
+                }
+            }
+            Stations::Several(_, _) => {}
         }
     }
 
@@ -81,7 +83,9 @@ impl FirstMessages {
     {
         add_point(&mut self.point, wanted, view);
         self.tows.add(wanted, view);
-        self.stations = self.stations.with(sender(view));
+        if let Some(station) = sender(view) {
+            self.stations.add(station);
+        }
     }
 }
 

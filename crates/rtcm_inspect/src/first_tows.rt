@@ -89,10 +89,12 @@ impl FirstTows {
     {
         message_sets();
         let place = self.messages;
-        self.messages = self.messages.saturating_add(1);
+        // No stream has 2^64 messages.
+        self.messages = self.messages.wrapping_add(1);
         if let Some((system, form, tow)) = tow_of(wanted, view) {
-            let tow = PlacedTow { place, system, tow };
-            self.tows.of_mut(system).add(form, tow);
+            self.tows
+                .of_mut(system)
+                .add(form, PlacedTow { place, system, tow });
         }
     }
 
@@ -136,8 +138,11 @@ fn tow_of(wanted: Option<u16>, view: &View<'_>) -> Option<(System, Form, u32)>
             let header = message.header();
             if wanted.unwrap_or(header.station) == header.station {
                 let system = message.system();
-                let tow = obs_epoch::tow_of(system, 0, header.time);
-                Some((system, message.form(), tow))
+                Some((
+                    system,
+                    message.form(),
+                    obs_epoch::tow_of(system, 0, header.time),
+                ))
             } else {
                 None
             }

@@ -7,7 +7,7 @@ ghost use Rattle.rtcm_inspect.specs.StreamChannels.{sent_of, with_first, with_se
 
 use gnss_obs::{Channels, GREATEST_CHANNEL_NUMBER, GREATEST_SLOT};
 use gnss_system::System;
-use rtcm_msg::{SentChannels, View, channel_of_1020};
+use rtcm_msg::{MsmView, SentChannels, View, channel_of_1020};
 
 /// Adds the channels that a message has, each if it is the first one of its slot: that of a 1020,
 /// and those of an MSM of this station; if no station is given, of any.
@@ -25,45 +25,37 @@ pub fn add_sent_channels(
     match view {
         View::Msm(msm) => {
             if let System::Glonass = msm.system() {
-                *known = with_channels(*known, station, view);
+                add_channels(known, station, msm);
             }
         }
         View::Other { number, .. } => {
             if *number == 1020 {
-                *known = with_1020(*known, message);
+                add_1020(known, message);
             }
         }
         View::Station(_) => {}
     }
 }
 
-/// Returns the channels with those that an MSM of this station sends, if it is the first one that
-/// has a channel for their slots; if no station is given, one of any.
+/// Adds the channels that an MSM of this station sends, each if it is the first one of its slot; if
+/// no station is given, those of any.
 #[inline(never)]
-fn with_channels(known: Channels, station: Option<u16>, view: &View<'_>) -> Channels
-    ensures { result ≡ with_sent known (sent_of station (viewed_message view.now)) }
+fn add_channels(known: &mut Channels, station: Option<u16>, msm: &MsmView<'_>)
+    ensures { known.new ≡ with_sent known.old (sent_of station (viewed_message (View.Msm msm.now))) }
 {
-    match view {
-        View::Msm(message) => {
-            let own = message.header().station;
-            if station.unwrap_or(own) == own {
-                with_sent(known, message.sent_channels())
-            } else {
-                known
-            }
-        }
-        _ => known,
+    let own = msm.header().station;
+    if station.unwrap_or(own) == own {
+        *known = with_sent(*known, msm.sent_channels());
     }
 }
 
-/// Returns the channels with that of a 1020, if it is the first one of its slot.
+/// Adds the channel of a 1020, if it is the first one of its slot.
 #[inline(never)]
-fn with_1020(known: Channels, message: &[u8]) -> Channels
-    ensures { result ≡ with_sent known (option_to_list (channel_of_1020 message.now)) }
+fn add_1020(known: &mut Channels, message: &[u8])
+    ensures { known.new ≡ with_sent known.old (option_to_list (channel_of_1020 message.now)) }
 {
-    match channel_of_1020(message) {
-        Some((slot, number)) => with_first(known, slot, number),
-        None => known,
+    if let Some((slot, number)) = channel_of_1020(message) {
+        *known = with_first(*known, slot, number);
     }
 }
 

@@ -1,11 +1,11 @@
 use Rattle.rtcm_inspect.proofs.StreamChannelLemmas.{msm_isnt_1020, none_of_another, none_sent, only_sent}
-use Rattle.rtcm_inspect.proofs.Names.{◌≡◌, ◌∙◌, ◌==◌, arith, false, refl, viewed_message}
+use Rattle.rtcm_inspect.proofs.Names.{◌≡◌, ◌∙◌, ◌==◌, ap, sym, arith, false, refl, Message, sent_of, with_sent, viewed_message}
 use Rattle.rtcm_inspect.proofs.stream_channels.add_sent_channels.Goals as goal
 
 pub returns-in-Glonass : goal.returns-in-Glonass
 returns-in-Glonass c = λ read.
     let v = c.in-Msm.msm in
-    c.with_channels.ensures ∙ only_sent c.args.known.now c.args.station c.args.message.now (viewed_message c.args.view.now) (rw c.in-Msm.is (msm_isnt_1020 v.form v.msm)) read
+    c.add_channels.ensures ∙ ap (λ (m : Message). with_sent c.args.known.now (sent_of c.args.station m)) (sym (ap viewed_message c.in-Msm.is)) ∙ only_sent c.args.known.now c.args.station c.args.message.now (viewed_message c.args.view.now) (rw c.in-Msm.is (msm_isnt_1020 v.form v.msm)) read
 
 pub returns-in_default : goal.returns-in_default
 returns-in_default c = λ read.

@@ -24,7 +24,7 @@ returns-in-Ok-clause-whole c = λ c0 o ps fs took.
     let is = ap message_at (sym c.as_slice-message.ensures.value) ∙ read in
     let channels = c.add_sent_channels.ensures read ∙ ap (λ (bytes : List ℕ). with_sent s.channels (option_to_list (channel_of_1020 bytes) ++ sent_of s.station m)) c.as_slice-message.ensures.value in
     one_more_counted s f refl
-    (λ gs few h. read_counted f is c.count_view.ensures few h) (λ gs h. forms_read s.station gs f m is c.with_forms-self.ensures h)
+    (λ gs few h. read_counted f is c.count_view.ensures few h) (λ gs h. forms_read s.station gs f m is c.add_form.ensures h)
     (λ gs h. channels_read s.station gs f is channels h) (λ gs few h. c.add.ensures gs f is few h) took
 
 pub returns-in-Err-clause-whole : goal.returns-in-Err-clause-whole
