@@ -1,7 +1,7 @@
 -- The table that finds the cell of a key.
-use Rattle.std.proofs.Common.{◌≡◌, ℕ, suc, zero, ◌+◌, ◌<◌, ◌≤◌, ◌==◌, Bool, true, false, List, [], ◌∷◌, ◌++◌, map, take, set, refl, sym, ap, ◌∙◌, subst, arith, length, get_or, nat_eq}
+use Rattle.std.proofs.Common.{◌≡◌, ℕ, suc, zero, ◌+◌, ◌<◌, ◌≤◌, ◌==◌, Bool, true, false, List, [], ◌∷◌, ◌++◌, map, set, refl, sym, ap, ◌∙◌, subst, arith, length, get_or, nat_eq}
 use Rattle.std.specs.List.{AllByRecursion}
-use Rattle.std.proofs.lemmas.List.{get_or-set_same, get_or-set_other, get_or_append_left, get_or-append-add, get_or-map, get_or-take, length-map, length-take-le, length-append, map-append, take_more_set}
+use Rattle.std.proofs.lemmas.List.{get_or-set_same, get_or-set_other, get_or_append_left, get_or-append-add, get_or-map, length-map, length-append, map-append}
 use Rattle.gnss_obs.specs.declared.cell.Cell.{Cell}
 use Rattle.gnss_obs.specs.Arriving.{slot, has_slot, IsFound, AreFound}
 use Rattle.std.proofs.lemmas.Grind.{common_steps}
@@ -32,28 +32,22 @@ same_at a b false h k = by (nat_eq a b) refl where
   by false e = refl
   by true e = let is : a ≡ b = grind (arith, e) in sym (h is)
 
-slots_length : (buffer : List Cell) (count : ℕ) → count ≤ length buffer → length (map slot (take count buffer)) ≡ count
-slots_length buffer count h = length-map (take count buffer) slot ∙ length-take-le count buffer h
-
-pub found_here : (table : List ℕ) (buffer : List Cell) (count s : ℕ) {c : Cell} → count ≤ length buffer → AreFound table (take count buffer) → get_or table s 0 < count
-    → c ≡ get_or buffer (get_or table s 0) c → nat_eq (slot c) s ≡ has_slot s (map slot (take count buffer))
-found_here table buffer count s {c} most all less is =
-    let slots = map slot (take count buffer) in
-    let some = slots_length buffer count most in
+pub found_here : (table : List ℕ) (cells : List Cell) (s : ℕ) {c : Cell} → AreFound table cells → get_or table s 0 < length cells
+    → c ≡ get_or cells (get_or table s 0) c → nat_eq (slot c) s ≡ has_slot s (map slot cells)
+found_here table cells s {c} all less is =
+    let slots = map slot cells in
     let n = get_or table s 0 in
-    let within : n < length (take count buffer) = subst (λ k. n < k) (sym (length-take-le count buffer most)) less in
-    let at : get_or slots n 0 ≡ slot c = get_or-map slot (take count buffer) n c 0 within ∙ ap slot (get_or-take count buffer n c less ∙ sym is) in
+    let at : get_or slots n 0 ≡ slot c = get_or-map slot cells n c 0 less ∙ ap slot (sym is) in
     let both = found_is table slots s all (has_slot s slots) refl in
-    same_at (slot c) s (has_slot s slots) (λ e. both.0 (subst (λ k. n < k) (sym some) less, at ∙ e)) (λ h. sym at ∙ (both.1 h).1)
+    same_at (slot c) s (has_slot s slots) (λ e. both.0 (subst (λ k. n < k) (sym (length-map cells slot)) less, at ∙ e)) (λ h. sym at ∙ (both.1 h).1)
 
-pub found_none : (table : List ℕ) (buffer : List Cell) (count s : ℕ) → count ≤ length buffer → AreFound table (take count buffer) → count ≤ get_or table s 0
-    → false ≡ has_slot s (map slot (take count buffer))
-found_none table buffer count s most all none = by (has_slot s (map slot (take count buffer))) refl where
-  by : (b : Bool) → has_slot s (map slot (take count buffer)) ≡ b → false ≡ b
+pub found_none : (table : List ℕ) (cells : List Cell) (s : ℕ) → AreFound table cells → length cells ≤ get_or table s 0 → false ≡ has_slot s (map slot cells)
+found_none table cells s all none = by (has_slot s (map slot cells)) refl where
+  by : (b : Bool) → has_slot s (map slot cells) ≡ b → false ≡ b
   by false e = refl
   by true e =
-      let found = found_any table (map slot (take count buffer)) s (map slot (take count buffer)) all e in
-      let less : get_or table s 0 < count = subst (λ k. get_or table s 0 < k) (slots_length buffer count most) found.0 in
+      let found = found_any table (map slot cells) s (map slot cells) all e in
+      let less : get_or table s 0 < length cells = subst (λ k. get_or table s 0 < k) (length-map cells slot) found.0 in
       absurd (omega (arith, less, none))
 
 -- ---- one more cell
@@ -80,14 +74,11 @@ found_more table slots s h (r ∷ rs) all = (by (r == s) refl, found_more table 
   by true e = let is : s ≡ r = grind (arith, e) in subst (IsFound (set table s (length slots)) (slots ++ s ∷ [])) is (found_one table slots s h)
   by false e = found_other table slots s r (λ is. absurd (grind (arith, is, e))) all.0
 
-pub slots_push : (buffer : List Cell) (count s : ℕ) (x : Cell) → count < length buffer → s ≡ slot x → map slot (take (count + 1) (set buffer count x)) ≡ map slot (take count buffer) ++ s ∷ []
-slots_push buffer count s x room is =
-    ap (map slot) (take_more_set buffer count x room) ∙ map-append slot (take count buffer) (x ∷ []) ∙ ap (λ k. map slot (take count buffer) ++ k ∷ []) (sym is)
+pub slots_push : (cells : List Cell) (s : ℕ) (x : Cell) → s ≡ slot x → map slot (cells ++ x ∷ []) ≡ map slot cells ++ s ∷ []
+slots_push cells s x is = map-append slot cells (x ∷ []) ∙ ap (λ k. map slot cells ++ k ∷ []) (sym is)
 
-pub found_push : (table : List ℕ) (buffer : List Cell) (count : ℕ) {s : ℕ} (x : Cell) → count < length buffer → s ≡ slot x → s < length table → AreFound table (take count buffer)
-    → AreFound (set table s count) (take (count + 1) (set buffer count x))
-found_push table buffer count {s} x room is within all =
-    let slots = map slot (take count buffer) in
-    let some = slots_length buffer count (omega (arith, room)) in
-    subst (λ l. AllByRecursion (IsFound (set table s count) l) l) (sym (slots_push buffer count s x room is))
-    (subst (λ n. AllByRecursion (IsFound (set table s n) (slots ++ s ∷ [])) (slots ++ s ∷ [])) some (found_more table slots s within slots all))
+pub found_push : (table : List ℕ) (cells : List Cell) {s : ℕ} (x : Cell) → s ≡ slot x → s < length table → AreFound table cells → AreFound (set table s (length cells)) (cells ++ x ∷ [])
+found_push table cells {s} x is within all =
+    let slots = map slot cells in
+    subst (λ l. AllByRecursion (IsFound (set table s (length cells)) l) l) (sym (slots_push cells s x is))
+    (subst (λ n. AllByRecursion (IsFound (set table s n) (slots ++ s ∷ [])) (slots ++ s ∷ [])) (length-map cells slot) (found_more table slots s within slots all))

@@ -1,5 +1,5 @@
 //! The cells of one system of an epoch.
-ghost use Rattle.std.specs.Prelude.{◌≡◌, ◌<◌, ◌≤◌, ◌++◌, ◌∷◌, [], true, length, map, get_or, is_some, IfSome};
+ghost use Rattle.std.specs.Prelude.{◌≡◌, ◌<◌, ◌≤◌, ◌++◌, ◌∷◌, [], true, length, map, get_or, is_some, IfSome, IfOk};
 ghost use Rattle.gnss_obs.specs.declared.cell.Cell.{Cell};
 ghost use Rattle.gnss_obs.specs.Arriving.{has_slot, slot, most_slots};
 ghost use Rattle.gnss_obs.specs.Order.{Rise};
@@ -9,6 +9,7 @@ use crate::cell::Cell;
 use crate::epoch::MOST_CELLS;
 use crate::order::{UNSORTED, least_next_after};
 use gnss_system::MOST_SATELLITES;
+use std::alloc::{AllocError, Global};
 use std::marker::Model;
 
 /// Number of entries for each satellite in the table that finds a cell by its satellite and signal:
@@ -23,8 +24,8 @@ const SLOTS: usize = SATELLITE_SLOTS * (MOST_SATELLITES as usize + 1);
 /// its satellite and signal.
 #[derive(Drop)]
 pub struct Cells {
-    buffer: [Cell; MOST_CELLS],
-    count: usize,
+    // With memory for `MOST_CELLS`, of which only what was once kept is ever written.
+    list: Vec<Cell>,
     // The index of the last cell of each key. An entry of a key without a cell may be any number:
     // so no entry has to be cleared.
     table: [u8; SLOTS],
@@ -33,7 +34,7 @@ pub struct Cells {
 }
 
 impl Model for Cells {
-    ghost use Rattle.std.specs.Prelude.{List, ◌≡◌, ◌≤◌, length, map, take};
+    ghost use Rattle.std.specs.Prelude.{List, ◌≡◌, ◌≤◌, length, map, vec_capacity};
     ghost use Rattle.gnss_obs.specs.Values.{most_cells};
     ghost use Rattle.gnss_obs.specs.Arriving.{AreFound, most_slots, slot};
     ghost use Rattle.gnss_obs.specs.Order.{IsLeastNext};
@@ -41,32 +42,35 @@ impl Model for Cells {
 
     ghost Value = { List Cell };
 
-    ghost view = { λ c. take c.count c.buffer };
+    ghost view = { λ c. c.list.items };
 
     ghost invariant = { λ c.
-        (c.count ≤ most_cells) × (length c.buffer ≡ most_cells) × (length c.table ≡ most_slots)
-        × AreFound c.table (take c.count c.buffer) × IsLeastNext c.least_next (map slot (take c.count c.buffer)) };
+        (length c.list.items ≤ most_cells) × (most_cells ≤ vec_capacity c.list) × (length c.table ≡ most_slots)
+        × AreFound c.table c.list.items × IsLeastNext c.least_next (map slot c.list.items) };
 }
 
 impl Cells {
     /// Returns an empty list.
-    pub fn new() -> Cells
-        ensures { result ≡ [] }
+    ///
+    /// # Errors
+    ///
+    /// `AllocError` if an allocation failed.
+    pub fn new(alloc: Global) -> Result<Cells, AllocError>
+        ensures { IfOk result (λ c. c ≡ []) }
     {
-        Cells {
-            buffer: [Cell::default(); MOST_CELLS],
-            count: 0,
+        Ok(Cells {
+            list: Vec::with_capacity(alloc, MOST_CELLS)?,
             // Most epochs have fewer cells, so that an entry of a key never kept is past the last.
             table: [u8::MAX; SLOTS],
             least_next: 0,
-        }
+        })
     }
 
     /// Removes all cells.
     pub fn clear(&mut self)
         ensures { self.new ≡ [] }
     {
-        self.count = 0;
+        self.list.clear();
         self.least_next = 0;
     }
 
@@ -76,8 +80,7 @@ impl Cells {
         ensures cells { result.now ≡ self.now }
         ensures bound { length result.now ≤ most_cells }
     {
-        let buffer = &self.buffer[..];
-        &buffer[..self.count]
+        self.list.as_slice()
     }
 
     /// Returns whether there is a cell of the key of another one.
@@ -97,10 +100,10 @@ impl Cells {
         ensures any { is_some result ≡ has_slot entry (map slot self.now) }
     {
         let at = self.table[entry] as usize;
-        if at >= self.count {
+        if at >= self.list.len() {
             return None;
         }
-        if slot(&self.buffer[at]) == entry {
+        if slot(&self.list[at]) == entry {
             Some(at)
         } else {
             None
@@ -113,11 +116,11 @@ impl Cells {
         requires { length self.old < most_cells }
         ensures { self.new ≡ self.old ++ x ∷ [] }
     {
-        let at = self.count;
         let entry = slot(&x);
-        self.table[entry] = at as u8;
-        self.buffer[at] = x;
-        self.count = at + 1;
+        self.table[entry] = self.list.len() as u8;
+        // Nothing: the prover has to meet the type of a cell's values before it lends the list.
+        let _ = x.c.is_some();
+        self.list.push_reserved(x);
         self.least_next = least_next_after(self.least_next, entry);
     }
 

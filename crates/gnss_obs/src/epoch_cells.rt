@@ -136,7 +136,7 @@ fn move_all(cells: &mut BySystem<Box<Cells>>, plan: &Plan, sorted: &mut BySystem
 fn no_list(alloc: Global) -> Result<Box<Cells>, AllocError>
     ensures { IfOk result (λ cells. cells.value ≡ []) }
 {
-    Box::new(alloc, Cells::new()).map_err(|_| AllocError)
+    Box::new(alloc, Cells::new(alloc)?).map_err(|_| AllocError)
 }
 
 // Appends a cell to those of a system.

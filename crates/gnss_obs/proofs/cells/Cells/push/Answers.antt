@@ -1,22 +1,25 @@
-use Rattle.std.proofs.Common.{◌≡◌, ◌<◌, ◌∙◌, ap, arith, length, map, subst, sym, take, length-take-le, length-set}
-use Rattle.gnss_obs.specs.Arriving.{slot}
+use Rattle.std.proofs.Common.{◌≡◌, ◌<◌, ◌++◌, ◌∷◌, ◌∙◌, List, [], ap, arith, length, length-append, length-set, map, set, subst, sym}
+use Rattle.gnss_obs.specs.declared.cell.Cell.{Cell}
+use Rattle.gnss_obs.specs.Arriving.{slot, AreFound}
 use Rattle.gnss_obs.specs.Order.{IsLeastNext}
+use Rattle.gnss_obs.specs.Values.{most_cells}
 use Rattle.gnss_obs.proofs.FoundLemmas.{found_push, slots_push}
 use Rattle.gnss_obs.proofs.cells.Cells.push.Goals as goal
 
 pub invariant_of-self : goal.invariant_of-self
 invariant_of-self c =
     let i = c.self.invariant in
-    let buffer = c.self.inside.buffer in
-    let count = c.self.inside.count in
+    let table = c.self.inside.table in
+    let list = c.self.inside.list.items in
     let entry = c.slot-entry.result in
     let is = c.slot-entry.ensures.entry in
-    let some : length (take count buffer) ≡ count = length-take-le count buffer (omega (arith, i.0, i.1)) in
-    let same : length (take count buffer) ≡ length c.args.self.now = ap length c.self.view_is in
-    let room : count < length buffer = omega (arith, i.1, some, same, c.requires) in (
-      omega (arith, i.1, room),
-      length-set buffer count c.args.x ∙ i.1,
-      length-set c.self.inside.table entry count ∙ i.2,
-      found_push c.self.inside.table buffer count c.args.x room is (omega (arith, c.slot-entry.ensures.bound, i.2)) i.3,
-      subst (IsLeastNext c.least_next_after-self-inside.result) (sym (slots_push buffer count entry c.args.x room is)) (c.least_next_after-self-inside.ensures (map slot (take count buffer)) i.4),
+    let more = c.push_reserved.ensures.items in
+    let few : length list < most_cells = let same = ap length c.self.view_is in omega (arith, same, c.requires) in
+    let size : c.len.result ≡ length list = omega (arith, c.len.ensures) in
+    let longer = ap length more ∙ length-append list (c.args.x ∷ []) in (
+      omega (arith, few, longer),
+      omega (arith, i.1, c.push_reserved.ensures.capacity),
+      length-set table entry c.len.result ∙ i.2,
+      subst (λ (cells : List Cell). AreFound (set table entry c.len.result) cells) (sym more) (subst (λ n. AreFound (set table entry n) (list ++ c.args.x ∷ [])) (sym size) (found_push table list c.args.x is (omega (arith, c.slot-entry.ensures.bound, i.2)) i.3)),
+      subst (λ (cells : List Cell). IsLeastNext c.least_next_after-self-inside.result (map slot cells)) (sym more) (subst (IsLeastNext c.least_next_after-self-inside.result) (sym (slots_push list entry c.args.x is)) (c.least_next_after-self-inside.ensures (map slot list) i.4)),
     )
