@@ -87,29 +87,26 @@ const B1: u32 = 1_561_098_000;
 
 const B3: u32 = 1_268_520_000;
 
+/// A list of signals by rising ID: the carrier frequency of some consecutive ones, and the ID and
+/// the code of each.
+macro_rules! signals {
+    ($($carrier:expr => $($id:literal $code:literal),*;)*) => {
+        &[$($(ListedSignal($id, *$code, $carrier)),*),*]
+    };
+}
+
 pub(crate) const GPS: SystemRow = SystemRow {
     name: "gps",
     letter: b'G',
     satellites: 32,
     first_number: 1,
     satellite_mask: 0xFFFF_FFFF_0000_0000,
-    signals: &[
-        ListedSignal(2, *b"1C", L1),
-        ListedSignal(3, *b"1P", L1),
-        ListedSignal(4, *b"1W", L1),
-        ListedSignal(8, *b"2C", L2),
-        ListedSignal(9, *b"2P", L2),
-        ListedSignal(10, *b"2W", L2),
-        ListedSignal(15, *b"2S", L2),
-        ListedSignal(16, *b"2L", L2),
-        ListedSignal(17, *b"2X", L2),
-        ListedSignal(22, *b"5I", L5),
-        ListedSignal(23, *b"5Q", L5),
-        ListedSignal(24, *b"5X", L5),
-        ListedSignal(30, *b"1S", L1),
-        ListedSignal(31, *b"1L", L1),
-        ListedSignal(32, *b"1X", L1),
-    ],
+    signals: signals! {
+        L1 => 2 b"1C", 3 b"1P", 4 b"1W";
+        L2 => 8 b"2C", 9 b"2P", 10 b"2W", 15 b"2S", 16 b"2L", 17 b"2X";
+        L5 => 22 b"5I", 23 b"5Q", 24 b"5X";
+        L1 => 30 b"1S", 31 b"1L", 32 b"1X";
+    },
     rows_by_id: &rows![0x71C3_8707],
 };
 
@@ -119,27 +116,13 @@ pub(crate) const GALILEO: SystemRow = SystemRow {
     satellites: 36,
     first_number: 1,
     satellite_mask: 0xFFFF_FFFF_F000_0000,
-    signals: &[
-        ListedSignal(2, *b"1C", E1),
-        ListedSignal(3, *b"1A", E1),
-        ListedSignal(4, *b"1B", E1),
-        ListedSignal(5, *b"1X", E1),
-        ListedSignal(6, *b"1Z", E1),
-        ListedSignal(8, *b"6C", E6),
-        ListedSignal(9, *b"6A", E6),
-        ListedSignal(10, *b"6B", E6),
-        ListedSignal(11, *b"6X", E6),
-        ListedSignal(12, *b"6Z", E6),
-        ListedSignal(14, *b"7I", E5B),
-        ListedSignal(15, *b"7Q", E5B),
-        ListedSignal(16, *b"7X", E5B),
-        ListedSignal(18, *b"8I", E5),
-        ListedSignal(19, *b"8Q", E5),
-        ListedSignal(20, *b"8X", E5),
-        ListedSignal(22, *b"5I", E5A),
-        ListedSignal(23, *b"5Q", E5A),
-        ListedSignal(24, *b"5X", E5A),
-    ],
+    signals: signals! {
+        E1 => 2 b"1C", 3 b"1A", 4 b"1B", 5 b"1X", 6 b"1Z";
+        E6 => 8 b"6C", 9 b"6A", 10 b"6B", 11 b"6X", 12 b"6Z";
+        E5B => 14 b"7I", 15 b"7Q", 16 b"7X";
+        E5 => 18 b"8I", 19 b"8Q", 20 b"8X";
+        E5A => 22 b"5I", 23 b"5Q", 24 b"5X";
+    },
     rows_by_id: &rows![0x7DF7_7700],
 };
 
@@ -149,12 +132,10 @@ pub(crate) const GLONASS: SystemRow = SystemRow {
     satellites: 27,
     first_number: 1,
     satellite_mask: 0xFFFF_FFE0_0000_0000,
-    signals: &[
-        ListedSignal(2, *b"1C", G1),
-        ListedSignal(3, *b"1P", G1),
-        ListedSignal(8, *b"2C", G2),
-        ListedSignal(9, *b"2P", G2),
-    ],
+    signals: signals! {
+        G1 => 2 b"1C", 3 b"1P";
+        G2 => 8 b"2C", 9 b"2P";
+    },
     rows_by_id: &rows![0x6180_0000],
 };
 
@@ -164,24 +145,14 @@ pub(crate) const BEIDOU: SystemRow = SystemRow {
     satellites: 63,
     first_number: 1,
     satellite_mask: 0xFFFF_FFFF_FFFF_FFFE,
-    signals: &[
-        ListedSignal(2, *b"2I", B1),
-        ListedSignal(3, *b"2Q", B1),
-        ListedSignal(4, *b"2X", B1),
-        ListedSignal(8, *b"6I", B3),
-        ListedSignal(9, *b"6Q", B3),
-        ListedSignal(10, *b"6X", B3),
-        ListedSignal(14, *b"7I", E5B),
-        ListedSignal(15, *b"7Q", E5B),
-        ListedSignal(16, *b"7X", E5B),
-        ListedSignal(22, *b"5D", L5),
-        ListedSignal(23, *b"5P", L5),
-        ListedSignal(24, *b"5X", L5),
-        ListedSignal(25, *b"7D", E5B),
-        ListedSignal(30, *b"1D", L1),
-        ListedSignal(31, *b"1P", L1),
-        ListedSignal(32, *b"1X", L1),
-    ],
+    signals: signals! {
+        B1 => 2 b"2I", 3 b"2Q", 4 b"2X";
+        B3 => 8 b"6I", 9 b"6Q", 10 b"6X";
+        E5B => 14 b"7I", 15 b"7Q", 16 b"7X";
+        L5 => 22 b"5D", 23 b"5P", 24 b"5X";
+        E5B => 25 b"7D";
+        L1 => 30 b"1D", 31 b"1P", 32 b"1X";
+    },
     rows_by_id: &rows![0x71C7_0787],
 };
 
@@ -191,21 +162,13 @@ pub(crate) const QZSS: SystemRow = SystemRow {
     satellites: 10,
     first_number: 1,
     satellite_mask: 0xFFC0_0000_0000_0000,
-    signals: &[
-        ListedSignal(2, *b"1C", L1),
-        ListedSignal(9, *b"6S", E6),
-        ListedSignal(10, *b"6L", E6),
-        ListedSignal(11, *b"6X", E6),
-        ListedSignal(15, *b"2S", L2),
-        ListedSignal(16, *b"2L", L2),
-        ListedSignal(17, *b"2X", L2),
-        ListedSignal(22, *b"5I", L5),
-        ListedSignal(23, *b"5Q", L5),
-        ListedSignal(24, *b"5X", L5),
-        ListedSignal(30, *b"1S", L1),
-        ListedSignal(31, *b"1L", L1),
-        ListedSignal(32, *b"1X", L1),
-    ],
+    signals: signals! {
+        L1 => 2 b"1C";
+        E6 => 9 b"6S", 10 b"6L", 11 b"6X";
+        L2 => 15 b"2S", 16 b"2L", 17 b"2X";
+        L5 => 22 b"5I", 23 b"5Q", 24 b"5X";
+        L1 => 30 b"1S", 31 b"1L", 32 b"1X";
+    },
     rows_by_id: &rows![0x40E3_8707],
 };
 
@@ -215,11 +178,9 @@ pub(crate) const SBAS: SystemRow = SystemRow {
     satellites: 39,
     first_number: 20,
     satellite_mask: 0xFFFF_FFFF_FE00_0000,
-    signals: &[
-        ListedSignal(2, *b"1C", L1),
-        ListedSignal(22, *b"5I", L5),
-        ListedSignal(23, *b"5Q", L5),
-        ListedSignal(24, *b"5X", L5),
-    ],
+    signals: signals! {
+        L1 => 2 b"1C";
+        L5 => 22 b"5I", 23 b"5Q", 24 b"5X";
+    },
     rows_by_id: &rows![0x4000_0700],
 };
