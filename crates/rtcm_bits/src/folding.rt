@@ -6,23 +6,29 @@ ghost use Rattle.rtcm_bits.specs.Folding.{fold_into, Sixes};
 use std::marker::Model;
 use std::simd::prelude::*;
 
+/// The lanes of two vectors from the second on, sixteen of them.
+const FROM_ONE: [usize; 16] = [1, 2, 3, 4, 5, 6, 7, 8, 9, 10, 11, 12, 13, 14, 15, 16];
+
+/// Those from the tenth on.
+const FROM_NINE: [usize; 16] = [
+    9, 10, 11, 12, 13, 14, 15, 16, 17, 18, 19, 20, 21, 22, 23, 24,
+];
+
+/// Those from the twelfth on.
+const FROM_ELEVEN: [usize; 16] = [
+    11, 12, 13, 14, 15, 16, 17, 18, 19, 20, 21, 22, 23, 24, 25, 26,
+];
+
 /// The last 96 bytes that were folded, the earliest first.
 #[derive(Drop)]
-pub(crate) struct Folded {
-    first: u8x16,
-    second: u8x16,
-    third: u8x16,
-    fourth: u8x16,
-    fifth: u8x16,
-    sixth: u8x16,
-}
+pub(crate) struct Folded(u8x16, u8x16, u8x16, u8x16, u8x16, u8x16);
 
 impl Model for Folded {
     ghost Value = { List ℕ };
 
-    ghost view = { λ f. f.first ++ (f.second ++ (f.third ++ (f.fourth ++ (f.fifth ++ f.sixth)))) };
+    ghost view = { λ f. f.0 ++ (f.1 ++ (f.2 ++ (f.3 ++ (f.4 ++ f.5)))) };
 
-    ghost invariant = { λ f. Sixes f.first f.second f.third f.fourth f.fifth f.sixth };
+    ghost invariant = { λ f. Sixes f.0 f.1 f.2 f.3 f.4 f.5 };
 }
 
 impl Folded {
@@ -35,14 +41,7 @@ impl Folded {
         bytes[0] = (register / 65536 % 256) as u8;
         bytes[1] = (register / 256 % 256) as u8;
         bytes[2] = (register % 256) as u8;
-        Folded {
-            first: u8x16::from_array(bytes),
-            second: none,
-            third: none,
-            fourth: none,
-            fifth: none,
-            sixth: none,
-        }
+        Folded(u8x16::from_array(bytes), none, none, none, none, none)
     }
 
     /// Returns the next sixteen bytes with all that was folded to them.
@@ -52,11 +51,11 @@ impl Folded {
         ensures long { length result ≡ 16 }
         ensures added { result ≡ take 16 (fold_into self.now bytes.now) }
     {
-        let farthest = self.first ^ u8x16::from_slice(bytes);
-        at_eleven(self.second, self.third)
-            ^ (at_nine(self.second, self.third)
-                ^ (at_one(self.second, self.third)
-                    ^ (at_eleven(self.first, self.second) ^ farthest)))
+        let farthest = self.0 ^ u8x16::from_slice(bytes);
+        self.1.shuffle(self.2, FROM_ELEVEN)
+            ^ (self.1.shuffle(self.2, FROM_NINE)
+                ^ (self.1.shuffle(self.2, FROM_ONE)
+                    ^ (self.0.shuffle(self.1, FROM_ELEVEN) ^ farthest)))
     }
 
     /// Returns these bytes after sixteen more, which take the place of the earliest.
@@ -65,56 +64,6 @@ impl Folded {
         requires { length next ≡ 16 }
         ensures { result ≡ drop 16 self ++ next }
     {
-        Folded {
-            first: self.second,
-            second: self.third,
-            third: self.fourth,
-            fourth: self.fifth,
-            fifth: self.sixth,
-            sixth: next,
-        }
+        Folded(self.1, self.2, self.3, self.4, self.5, next)
     }
-}
-
-/// Returns sixteen of these bytes, from the second on.
-#[inline(always)]
-fn at_one(before: u8x16, after: u8x16) -> u8x16
-    requires first { length before ≡ 16 }
-    requires next { length after ≡ 16 }
-    ensures { result ≡ take 16 (drop 1 (before ++ after)) }
-{
-    before.shuffle(
-        after,
-        [1, 2, 3, 4, 5, 6, 7, 8, 9, 10, 11, 12, 13, 14, 15, 16],
-    )
-}
-
-/// Returns sixteen of these bytes, from the tenth on.
-#[inline(always)]
-fn at_nine(before: u8x16, after: u8x16) -> u8x16
-    requires first { length before ≡ 16 }
-    requires next { length after ≡ 16 }
-    ensures { result ≡ take 16 (drop 9 (before ++ after)) }
-{
-    before.shuffle(
-        after,
-        [
-            9, 10, 11, 12, 13, 14, 15, 16, 17, 18, 19, 20, 21, 22, 23, 24,
-        ],
-    )
-}
-
-/// Returns sixteen of these bytes, from the twelfth on.
-#[inline(always)]
-fn at_eleven(before: u8x16, after: u8x16) -> u8x16
-    requires first { length before ≡ 16 }
-    requires next { length after ≡ 16 }
-    ensures { result ≡ take 16 (drop 11 (before ++ after)) }
-{
-    before.shuffle(
-        after,
-        [
-            11, 12, 13, 14, 15, 16, 17, 18, 19, 20, 21, 22, 23, 24, 25, 26,
-        ],
-    )
 }
