@@ -8,8 +8,7 @@ ghost use Rattle.rtcm_bits.specs.Delivering.{more_waits};
 
 use crate::deliver::Deliver;
 use std::alloc::{AllocError, Global};
-use std::io;
-use std::io::{ErrorKind, Write};
+use std::io::{self, ErrorKind, Write};
 use std::marker::Model;
 
 /// Capacity of the buffer, in bytes: that of a pipe.
@@ -82,10 +81,9 @@ impl<W: Write> Buffered<W> {
         }
         self.failed = true;
         while self.sent < self.bytes.len() {
-            match self.device.write(&self.bytes[self.sent..]) {
-                Ok(0) => return Err(io::Error::from(ErrorKind::WriteZero)),
-                Ok(n) => self.sent += n,
-                Err(error) => return Err(error),
+            match self.device.write(&self.bytes[self.sent..])? {
+                0 => return Err(io::Error::from(ErrorKind::WriteZero)),
+                n => self.sent += n,
             }
         }
         self.bytes.clear();

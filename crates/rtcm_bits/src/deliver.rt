@@ -6,8 +6,7 @@ ghost use Rattle.rtcm_bits.specs.Delivering.{more_waits, none_waits};
 
 use arrayvec::ArrayVec;
 use std::fs::File;
-use std::io;
-use std::io::{BufWriter, Cursor, Sink, Stderr, StderrLock, Stdout, StdoutLock, Write};
+use std::io::{self, BufWriter, Cursor, Sink, Stderr, StderrLock, Stdout, StdoutLock, Write};
 
 /// A writer that says which bytes wait in it, accepted and not passed on, and that can pass all of
 /// them on.

@@ -6,14 +6,14 @@ pub loop-self-preserved : goal.loop-self-preserved
 loop-self-preserved g c =
     let s = c.loop-self.self-inside in
     let xs = c.deref.result.now in
-    let fits = c.in-Ok.ensures.bound in
+    let fits = c.in_ok-n.ensures.bound in
     let most = length-take (length xs - s.sent) (drop s.sent xs) in
     record {
       within = omega arith;
       held = c.loop-self.invariant.held;
       room = c.loop-self.invariant.room;
       failed = c.loop-self.invariant.failed;
-      bytes = Keeps-trans _ _ _ c.loop-self.invariant.bytes (append_known-moved _ _ _ _ _ c.in-Ok.ensures.bytes (more_out s.bytes.items c.deref.result.now s.sent c.in-Ok.n c.deref.ensures.value));
+      bytes = Keeps-trans _ _ _ c.loop-self.invariant.bytes (append_known-moved _ _ _ _ _ c.in_ok-n.ensures.bytes (more_out s.bytes.items c.deref.result.now s.sent c.in_ok-n.n c.deref.ensures.value));
     }
 
 pub returns-clause-bytes : goal.returns-clause-bytes
