@@ -27,4 +27,5 @@ pub use Rattle.std.specs.Int.{bit_at, from_be_bytes, w64}
 pub use Rattle.std.specs.Int.Bits.{xor_assoc, xor_zero_r}
 pub use Rattle.std.specs.Int.Signed.{shr_z}
 pub use Rattle.std.specs.Io.KnownBytes.{Appends, Keeps, append_known}
+pub use Rattle.std.specs.Prelude.{Ok, OnOk, Result, if◌then◌else◌, is_ok}
 pub use Rattle.std.specs.Vec.{vec_len}

@@ -110,9 +110,7 @@ impl<W: Deliver> Write for Buffered<W> {
             self.write_out()?;
         }
         let n = buf.len().min(BUFFER_BYTES - self.bytes.len());
-        let Ok(()) = self.bytes.extend_from_slice(&buf[..n]) else {
-            unreachable!()
-        };
+        self.bytes.extend_from_slice(&buf[..n]).unwrap();
         Ok(n)
     }
 

@@ -84,12 +84,8 @@ pub(crate) fn spell_out(counts: &mut Vec<u16>, first: usize, once: usize, end: u
 {
     let rest = end.saturating_sub(counts.len() - first + once);
     let place = make_room(counts, first, once + rest);
-    let Ok(()) = counts.resize(counts.len() + once, 1) else {
-        unreachable!()
-    };
-    let Ok(()) = counts.resize(counts.len() + rest, 0) else {
-        unreachable!()
-    };
+    counts.resize(counts.len() + once, 1).unwrap();
+    counts.resize(counts.len() + rest, 0).unwrap();
     place
 }
 

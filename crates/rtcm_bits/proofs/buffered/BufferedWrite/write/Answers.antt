@@ -1,5 +1,6 @@
 use Rattle.rtcm_bits.proofs.Names.{◌≡◌, false, sym, ap, ◌∙◌, rules, append_known-grown, Keeps-refl}
 use Rattle.rtcm_bits.proofs.BufferLemmas.{one_more}
+use Rattle.rtcm_bits.proofs.ListLemmas.{when_ok}
 use Rattle.rtcm_bits.proofs.buffered.BufferedWrite.write.Goals.{then-self+in_ok-write_out, else-self+else-len-eq-BUFFER_BYTES}
 use Rattle.rtcm_bits.proofs.buffered.BufferedWrite.write.Goals as goal
 
@@ -15,4 +16,4 @@ returns-clause-bytes g c =
     append_known-grown _ _ held.self.waiting _ _ (rw device (elim held.branch [
       | then-self+in_ok-write_out w ↦ rw w.self-is w.write_out.ensures.bytes
       | else-self+else-len-eq-BUFFER_BYTES w ↦ rw w.self-is (Keeps-refl _)
-    ])) (one_more _ _ _ _ _ none (ap (λ v. v.waiting) (sym c.self-2.view_is)) c.in-Ok.ensures.items)
+    ])) (one_more _ _ _ _ _ none (ap (λ v. v.waiting) (sym c.self-2.view_is)) (when_ok _ c.unwrap.ensures c.extend_from_slice.ensures.items))

@@ -1,6 +1,7 @@
 -- Four cases: bytes with an entry are counted there; bytes without a look are only numbered; a second look at the
 -- first byte without an entry adds one; else every byte gets its entry first.
 use Rattle.rtcm_bits.proofs.Names.{List, [], ◌∷◌, ℕ, ◌≡◌, ◌+◌, ◌-◌, drop, drop-append-le, length, max, sym, ap, ◌∙◌, rules, arith, length-drop, with_items_is, vec_len, held_of, filled_up, looked_through, counts_alone}
+use Rattle.rtcm_bits.proofs.ListLemmas.{when_ok}
 use Rattle.rtcm_bits.proofs.LookLemmas.{first_looks_at, second_look_at, later_looks, filled_out}
 use Rattle.rtcm_bits.proofs.window.Window.count_looks.Goals as goal
 
@@ -31,7 +32,7 @@ returns-then-len-lt-CAPACITY-clause-counted c =
     let k = length-drop i.first i.counts.items in
     second_look_at {q = i.once - 1} (drop i.first i.counts.items) c.self.view_is (omega (arith, v, k, c.if-start-counted-2.true))
     (omega (arith, v, c.if-start-n.false, c.if-start-counted.false, c.if-start-counted-2.true)) c.if-n-eq1.true
-    (ap (drop i.first) c.in-Ok.ensures.items ∙ drop-append-le i.first i.counts.items (2 ∷ []) (omega (arith, v, c.self.invariant)))
+    (ap (drop i.first) (when_ok _ c.unwrap.ensures c.push.ensures.items) ∙ drop-append-le i.first i.counts.items (2 ∷ []) (omega (arith, v, c.self.invariant)))
     (record { few = search rules; sum = c.saturating_add-self-inside.ensures; most = c.raise-then-len-lt-CAPACITY.ensures })
 
 pub returns-clause-counted : goal.returns-clause-counted
