@@ -18,20 +18,18 @@ pub const GREATEST_CHANNEL_NUMBER: u8 = 13;
 /// The frequency channel of each GLONASS slot, if it is known, as the number that messages contain:
 /// the channel plus 7, 0 to 13 (RTCM 10403.3, DF040 and DF419).
 #[derive(Clone, Copy)]
-pub struct Channels {
-    numbers: [Option<u8>; GREATEST_SLOT as usize],
-}
+pub struct Channels([Option<u8>; GREATEST_SLOT as usize]);
 
 impl Model for Channels {
     ghost use Rattle.gnss_obs.specs.Channels.{AreChannels, ChannelsValue};
 
     ghost Value = { ChannelsValue };
 
-    ghost view = { λ c. c.numbers };
+    ghost view = { λ c. c.0 };
 
-    ghost invariant = { λ c. AreChannels c.numbers };
+    ghost invariant = { λ c. AreChannels c.0 };
 
-    ghost inverse = { λ c. record { numbers = c } };
+    ghost inverse = { λ c. record { 0 = c } };
 }
 
 impl Channels {
@@ -39,9 +37,7 @@ impl Channels {
     pub fn none() -> Channels
         ensures { result ≡ no_channels }
     {
-        Channels {
-            numbers: [None; GREATEST_SLOT as usize],
-        }
+        Channels([None; GREATEST_SLOT as usize])
     }
 
     /// Returns the number of the channel of a slot, 1 to 27: the channel plus 7. `None` if it isn't
@@ -52,7 +48,7 @@ impl Channels {
         ensures value { result ≡ number_at self.now slot }
         ensures bound { IfSome result (λ n. n ≤ most_number) }
     {
-        self.numbers[slot as usize - 1]
+        self.0[slot as usize - 1]
     }
 
     /// Sets the number of the channel of a slot, 1 to 27: the channel plus 7, at most 13.
@@ -61,7 +57,7 @@ impl Channels {
         requires number { number ≤ most_number }
         ensures { self.new ≡ with_number self.old slot number }
     {
-        self.numbers[slot as usize - 1] = Some(number);
+        self.0[slot as usize - 1] = Some(number);
     }
 
     /// Shows that each slot has a number, at most 13, or none.
@@ -69,7 +65,7 @@ impl Channels {
         ensures { AreChannels self.now }
     {
         // The prover knows the invariant of a type once a field is read.
-        let _ = &self.numbers;
+        let _ = &self.0;
     }
 
     /// Returns the number of slots whose channel is known.
@@ -77,7 +73,7 @@ impl Channels {
         ensures count { result ≡ count_by is_some self.now }
         ensures bound { result ≤ slot_count }
     {
-        self.numbers.iter().filter(|n| n.is_some()).count()
+        self.0.iter().filter(|n| n.is_some()).count()
     }
 
     /// Returns the carrier frequency of a signal of a satellite, in hertz: at most 1,605,375,000.

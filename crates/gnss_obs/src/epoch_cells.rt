@@ -32,11 +32,9 @@ pub enum Added {
 
 /// The kept cells of an epoch, a list for each system: while it is pending in the order in which
 /// they arrive.
+// On the heap, so that a move is short.
 #[derive(Drop)]
-pub struct EpochCells {
-    // On the heap, so that a move is short.
-    lists: BySystem<Box<Cells>>,
-}
+pub struct EpochCells(BySystem<Box<Cells>>);
 
 impl Model for EpochCells {
     ghost use Rattle.gnss_system.specs.declared.system.System.{System};
@@ -46,9 +44,9 @@ impl Model for EpochCells {
 
     ghost Value = { CellLists };
 
-    ghost view = { λ e. map_by (λ c. c.value) e.lists };
+    ghost view = { λ e. map_by (λ c. c.value) e.0 };
 
-    ghost invariant = { λ e. (s : System) → AreKept s (value_of s e.lists).value };
+    ghost invariant = { λ e. (s : System) → AreKept s (value_of s e.0).value };
 }
 
 impl EpochCells {
@@ -60,9 +58,7 @@ impl EpochCells {
     pub fn new(alloc: Global) -> Result<EpochCells, AllocError>
         ensures { IfOk result (λ e. e ≡ no_cells) }
     {
-        Ok(EpochCells {
-            lists: no_lists(alloc)?,
-        })
+        Ok(EpochCells(no_lists(alloc)?))
     }
 
     /// Returns the cells of a system.
@@ -70,7 +66,7 @@ impl EpochCells {
         ensures cells { result.now ≡ value_of system self.now }
         ensures held { AreHeld system result.now }
     {
-        self.lists.of(system).as_slice()
+        self.0.of(system).as_slice()
     }
 
     /// Appends a cell, unless one of its satellite and signal is kept, or 256 of its system.
@@ -80,14 +76,14 @@ impl EpochCells {
         requires indicator { x.lli < 4 }
         ensures { IsAdded self.old x result self.new }
     {
-        add_to(&mut self.lists, x.satellite.system(), x)
+        add_to(&mut self.0, x.satellite.system(), x)
     }
 
     /// Removes all cells.
     pub(crate) fn clear(&mut self)
         ensures { self.new ≡ no_cells }
     {
-        clear_all(&mut self.lists);
+        clear_all(&mut self.0);
     }
 
     /// Moves the cells of each system to `sorted`, in the order of satellites and then of a plan.
@@ -97,7 +93,7 @@ impl EpochCells {
         ensures order { (s : System) → AreOrderedBy (planned_of s plan.now) (value_of s sorted.new) }
         ensures none { self.new ≡ no_cells }
     {
-        move_all(&mut self.lists, plan, &mut sorted.lists);
+        move_all(&mut self.0, plan, &mut sorted.0);
     }
 }
 
@@ -191,11 +187,6 @@ fn is_sorted(cells: &Cells, plan: &Plan, system: System) -> bool
     requires planned { All (IsPlanned (planned_of system plan.now)) cells.now }
     ensures { result ≡ true → cells.now ≡ sorted_cells (planned_of system plan.now) cells.now }
 {
-    if cells.as_slice().len() < 2 {
-        return true;
-    }
-    if !cells.is_in_table_order() {
-        return false;
-    }
-    plan.is_in_table_order(system)
+    let is_short = cells.as_slice().len() < 2;
+    is_short || cells.is_in_table_order() && plan.is_in_table_order(system)
 }

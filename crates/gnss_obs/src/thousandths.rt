@@ -5,16 +5,14 @@ use std::marker::Model;
 
 /// A value in thousandths of its unit, which is the metre, the cycle, the hertz or the dB-Hz.
 #[derive(Clone, Copy, PartialEq, PartialOrd)]
-pub struct Thousandths {
-    value: i64,
-}
+pub struct Thousandths(i64);
 
 impl Model for Thousandths {
     ghost Value = { ℤ };
 
-    ghost view = { λ t. t.value };
+    ghost view = { λ t. t.0 };
 
-    ghost inverse = { λ z. record { value = z } };
+    ghost inverse = { λ z. record { 0 = z } };
 }
 
 impl Thousandths {
@@ -22,13 +20,13 @@ impl Thousandths {
     pub fn new(value: i64) -> Thousandths
         ensures { result ≡ value }
     {
-        Thousandths { value }
+        Thousandths(value)
     }
 
     /// Returns the number of thousandths.
     pub fn value(self) -> i64
         ensures { result ≡ self }
     {
-        self.value
+        self.0
     }
 }

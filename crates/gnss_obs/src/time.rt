@@ -14,9 +14,7 @@ pub const WEEKS: u64 = 100_000;
 /// A time in milliseconds since 1980-01-06 00:00:00 GPS time, in the weeks 0 to 99,999. GPS time
 /// has no leap seconds.
 #[derive(Clone, Copy)]
-pub struct GpsTime {
-    milliseconds: u64,
-}
+pub struct GpsTime(u64);
 
 impl Model for GpsTime {
     ghost use Rattle.std.specs.Prelude.{ℕ, ◌<◌, ◌*◌};
@@ -25,11 +23,11 @@ impl Model for GpsTime {
 
     ghost Value = { ℕ };
 
-    ghost view = { λ t. t.milliseconds };
+    ghost view = { λ t. t.0 };
 
-    ghost inverse = { λ n. record { milliseconds = n } };
+    ghost inverse = { λ n. record { 0 = n } };
 
-    ghost invariant = { λ t. t.milliseconds < weeks * week };
+    ghost invariant = { λ t. t.0 < weeks * week };
 }
 
 impl GpsTime {
@@ -40,7 +38,7 @@ impl GpsTime {
         ensures value { IfSome result (λ t. t ≡ milliseconds) }
     {
         if milliseconds < WEEKS * WEEK {
-            Some(GpsTime { milliseconds })
+            Some(GpsTime(milliseconds))
         } else {
             None
         }
@@ -51,7 +49,7 @@ impl GpsTime {
         requires { milliseconds < weeks * week }
         ensures { result ≡ milliseconds }
     {
-        GpsTime { milliseconds }
+        GpsTime(milliseconds)
     }
 
     /// Returns the number of milliseconds since 1980-01-06 00:00:00.
@@ -59,6 +57,6 @@ impl GpsTime {
         ensures value { result ≡ self }
         ensures bound { result < weeks * week }
     {
-        self.milliseconds
+        self.0
     }
 }

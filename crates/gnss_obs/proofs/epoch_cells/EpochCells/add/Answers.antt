@@ -10,7 +10,7 @@ use Rattle.gnss_obs.proofs.epoch_cells.EpochCells.add.Goals as goal
 pub returns : goal.returns
 returns c =
     let system = c.system.result in
-    let lists = c.self.inside.lists in
+    let lists = c.self.inside.0 in
     subst (IsAdded c.args.self.now c.args.x c.add_to.result)
     (sym (ap (map_by (λ list. list.value)) c.add_to.ensures.others ∙ mapped_after (λ list. list.value) system lists (value_of system c.add_to.new.cells)))
     (is_added (sym c.system.ensures) (subst (AreHeld system) (sym (value_mapped system (λ list. list.value) lists)) (c.self.invariant system).held) c.requires.observed c.self.view_is
@@ -20,5 +20,5 @@ pub invariant_of-self : goal.invariant_of-self
 invariant_of-self c = λ s.
     let system = c.system.result in
     subst (λ (lists : BySystem (Box Cells Global)). AreKept s (value_of s lists).value) (sym c.add_to.ensures.others)
-    (each_after (λ s list. AreKept s list.value) system c.self.inside.lists (value_of system c.add_to.new.cells) c.self.invariant
+    (each_after (λ s list. AreKept s list.value) system c.self.inside.0 (value_of system c.add_to.new.cells) c.self.invariant
     (kept_added c.add_to.result (sym c.system.ensures) (c.self.invariant system) c.requires.observed c.requires.indicator refl c.add_to.ensures.own) s)
