@@ -1,5 +1,5 @@
 -- Dates and times of day in the calendar of the library.
-use Rattle.std.proofs.Common.{true≢false, ◌≡◌, ◌<◌, ◌≤◌, ◌+◌, ◌*◌, ◌/◌, ◌%◌, ◌∙◌, ℕ, ℤ, pos, negsuc, ◌+ℤ◌, ◌-ℤ◌, ◌*ℤ◌, neg_ℤ, ◌≤ℤ◌, refl, sym, subst, arith, nat_abs, to_z, of_z, to_z-of_z, FitsSigned, w8, w16, w32, w64, ap, ap₂, T, Fits, true, false, Result, Err, IsOk, int_div, int_lt}
+use Rattle.std.proofs.Common.{true≢false, ◌≡◌, ◌<◌, ◌≤◌, ◌+◌, ◌*◌, ◌/◌, ◌%◌, ◌∙◌, ℕ, ℤ, pos, negsuc, ◌+ℤ◌, ◌-ℤ◌, ◌*ℤ◌, neg_ℤ, ◌≤ℤ◌, refl, sym, subst, arith, nat_abs, to_z, of_z, to_z-of_z, FitsSigned, w8, w16, w32, w64, ap, ap₂, T, Fits, true, false, Result, Ok, Err, IsOk, IfOk, Option, Some, None, IfSome, IfNone, int_div, int_lt}
 use lib.Signed.{non_neg}
 use Rattle.std.specs.Int.{w128}
 use Rattle.jiff_core.specs.declared.civil.date.Date.{Date}
@@ -14,6 +14,7 @@ use Rattle.jiff_core.proofs.DateLemmas.{civil as valid_date, epoch_day_range}
 use Rattle.gnss_obs.specs.Names.{IsCivil, IsCivilOf, clock_of, Civil}
 use Rattle.gnss_obs.proofs.Days.{first_day}
 use Rattle.std.proofs.lemmas.Grind.{common_steps}
+use Rattle.std.specs.Result.{result_ok}
 
 abbrev pub day_nanos : ℕ
 day_nanos = 86_400_000_000_000
@@ -160,5 +161,11 @@ pub is_taken : (c : Civil) → IsSmall c → IsCivil c → IsDate (to_z w16 c.ye
     × IsTime (to_z w8 c.hour) (to_z w8 c.minute) (to_z w8 (c.millisecond / 1_000)) (to_z w32 (of_z w32 (to_z w32 (c.millisecond % 1_000) *ℤ pos 1_000_000)))
 is_taken c small valid = grind (arith, common_steps)
 
-pub no_ok : {A E : Type 0} (r : Result A E) (e : E) → r ≡ Err e → IsOk r → ⊥
-no_ok r e is ok = absurd (true≢false (sym (subst IsOk is ok)))
+pub some_of : {A E : Type 0} {P Q : A → Type 0} {o : Option A} (r : Result A E) → o ≡ result_ok r → IfOk r P → ((x : A) → P x → Q x) → IfSome o Q
+some_of (Ok x) e h f = rw e (f x h)
+some_of (Err y) e h f = rw e tt
+
+pub none_of : {A E V : Type 0} (o : Option A) (r : Result A E) → o ≡ result_ok r → (V → IsOk r) → IfNone o (V → ⊥)
+none_of (Some x) r e h = tt
+none_of None (Ok x) e h = absurd (cc)
+none_of None (Err y) e h = λ v. absurd (true≢false (sym (h v)))

@@ -165,10 +165,6 @@ index_added {system} i {s} {ss} (Ok false) is so of at added there =
     absurd (true≢false (sym (there refl).1 ∙ none))
 index_added i (Err e) is so of at added there = absurd (true≢false is)
 
-pub when_none : (system : System) (text : List ℕ) (r : List SignalAt) → bytes_eq text (codes "all") ≡ false → bytes_eq text (codes "none") ≡ true → r ≡ []
+pub when_none : (system : System) (text : List ℕ) (r : List SignalAt) → text ≡ codes "none" → r ≡ []
     → (signals_of system text ≡ Ok (indices r)) × IsOf system r
-when_none system text r all none e = (
-  ap₂ (λ a b. if a then Ok (below (length (table system))) else (if b then Ok [] else signals_after system [] (between_commas text))) all none
-      ∙ ap (λ l. Ok (indices l)) (sym e),
-  subst (IsOf system) (sym e) (none_of system),
-)
+when_none system text r is e = rw (is, e) (refl, none_of system)

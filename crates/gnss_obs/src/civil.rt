@@ -41,16 +41,14 @@ impl GpsTime {
         ensures walk { result ≡ civil_of self }
     {
         let since = SignedDuration::from_millis(self.milliseconds() as i64);
-        match beginning().checked_add(since) {
-            Ok(at) => Civil {
-                year: at.year() as u16,
-                month: at.month() as u8,
-                day: at.day() as u8,
-                hour: at.hour() as u8,
-                minute: at.minute() as u8,
-                millisecond: at.second() as u16 * 1_000 + at.millisecond() as u16,
-            },
-            Err(_) => unreachable!(),
+        let at = beginning().checked_add(since).unwrap();
+        Civil {
+            year: at.year() as u16,
+            month: at.month() as u8,
+            day: at.day() as u8,
+            hour: at.hour() as u8,
+            minute: at.minute() as u8,
+            millisecond: at.second() as u16 * 1_000 + at.millisecond() as u16,
         }
     }
 
@@ -80,7 +78,7 @@ fn at_of(civil: &Civil) -> Option<DateTime>
     if civil.year > 9_999 || civil.month > 12 || civil.day > 31 {
         return None;
     }
-    let at = DateTime::new(
+    DateTime::new(
         civil.year as i16,
         civil.month as i8,
         civil.day as i8,
@@ -88,9 +86,6 @@ fn at_of(civil: &Civil) -> Option<DateTime>
         civil.minute as i8,
         (civil.millisecond / 1_000) as i8,
         (civil.millisecond % 1_000) as i32 * 1_000_000,
-    );
-    match at {
-        Ok(at) => Some(at),
-        Err(_) => None,
-    }
+    )
+    .ok()
 }

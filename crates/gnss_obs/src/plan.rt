@@ -113,22 +113,18 @@ impl Plan {
     }
 
     // Returns the plan of these signals, if they were added without a fault and there is one.
-    fn with(added: Added, lists: BySystem<Signals>) -> Result<Plan, PlanFault>
-        requires { IsOk added → (s : System) → IsOf s (value_of s lists) }
-        ensures { IsMade added lists result }
+    fn with(added: Added, signals: BySystem<Signals>) -> Result<Plan, PlanFault>
+        requires { IsOk added → (s : System) → IsOf s (value_of s signals) }
+        ensures { IsMade added signals result }
     {
+        let channels = Channels::none();
         let fault = match added {
             Err(fault) => fault,
-            Ok(()) if is_none_planned(&lists) => PlanFault::NothingPlanned,
-            Ok(()) => {
-                return Ok(Plan {
-                    signals: lists,
-                    channels: Channels::none(),
-                });
-            }
+            Ok(()) if is_none_planned(&signals) => PlanFault::NothingPlanned,
+            Ok(()) => return Ok(Plan { signals, channels }),
         };
         // A call drops a list with less proof than the end of its scope.
-        drop(lists);
+        drop(signals);
         Err(fault)
     }
 
@@ -308,13 +304,11 @@ fn read_signals(signals: &mut Signals, system: System, text: &str) -> Added
     ensures { DoneOr (λ e. signals_of system text.now ≡ Err e)
         (ArePlanned system (signals_of system text.now) signals.new) result }
 {
-    if text == "all" {
-        return add_every(signals, system);
+    match text {
+        "all" => add_every(signals, system),
+        "none" => Ok(()),
+        _ => read_codes(signals, system, text),
     }
-    if text == "none" {
-        return Ok(());
-    }
-    read_codes(signals, system, text)
 }
 
 // Appends all signals of a table in its order.
@@ -323,9 +317,7 @@ fn add_every(signals: &mut Signals, system: System) -> Added
     ensures { HasEvery system signals.new result }
 {
     for index in 0..system.signals() {
-        let Some(signal) = Signal::from_index(system, index) else {
-            unreachable!()
-        };
+        let signal = Signal::from_index(system, index).unwrap();
         signals.add(signal).map_err(|_| PlanFault::Memory)?;
     }
     Ok(())

@@ -9,4 +9,4 @@ loop-index-init c = (ap indices (sym c.requires), subst (IsOf c.args.system) (sy
 pub loop-index-preserved : goal.loop-index-preserved
 loop-index-preserved c =
     index_added c.loop-index.index c.add.result (search rules)
-    c.loop-index.invariant.0 c.loop-index.invariant.1 (sym c.from_index.ensures ∙ c.in-Some.is) c.add.ensures.new c.add.ensures.old
+    c.loop-index.invariant.0 c.loop-index.invariant.1 (sym c.from_index.ensures ∙ c.unwrap-signal.ensures) c.add.ensures.new c.add.ensures.old

@@ -1,4 +1,5 @@
 use Rattle.std.proofs.Common.{◌≤ℤ◌, ◌<◌, pos, arith, ◌∙◌, sym, subst}
+use Rattle.std.proofs.lemmas.Result.{IfOk-at_ok}
 use Rattle.jiff_core.proofs.SignedLemmas.{signed_arith}
 use Rattle.jiff_core.specs.Date.{epoch_day}
 use Rattle.gnss_obs.proofs.WalkLemmas.{walk_is}
@@ -8,8 +9,8 @@ use Rattle.gnss_obs.proofs.time.GpsTime.civil.Goals as goal
 
 pub overflow_cast-result : goal.overflow_cast-result
 overflow_cast-result c =
-    let at = c.in-Ok.at in
-    let moment = moment_of c.in-Ok.ensures.value c.beginning.ensures c.from_millis-since.ensures c.milliseconds.ensures.bound c.milliseconds.ensures.value in
+    let at = c.unwrap-at.result in
+    let moment = moment_of (IfOk-at_ok _ c.unwrap-at.ensures c.checked_add.ensures.value) c.beginning.ensures c.from_millis-since.ensures c.milliseconds.ensures.bound c.milliseconds.ensures.value in
     let parts = parts_of at c.args.self moment in
     let after : pos 3657 ≤ℤ epoch_day at.date = omega (arith, signed_arith, parts.0) in
     let low = subst (λ z. pos 1980 ≤ℤ z) (sym c.year.ensures) (year_from at.date after) in
@@ -18,8 +19,8 @@ overflow_cast-result c =
 
 pub returns-clause-relation : goal.returns-clause-relation
 returns-clause-relation c =
-    let at = c.in-Ok.at in
-    let moment = moment_of c.in-Ok.ensures.value c.beginning.ensures c.from_millis-since.ensures c.milliseconds.ensures.bound c.milliseconds.ensures.value in
+    let at = c.unwrap-at.result in
+    let moment = moment_of (IfOk-at_ok _ c.unwrap-at.ensures c.checked_add.ensures.value) c.beginning.ensures c.from_millis-since.ensures c.milliseconds.ensures.bound c.milliseconds.ensures.value in
     let parts = parts_of at c.args.self moment in
     let after : pos 3657 ≤ℤ epoch_day at.date = omega (arith, signed_arith, parts.0) in
     let low = subst (λ z. pos 1980 ≤ℤ z) (sym c.year.ensures) (year_from at.date after) in
