@@ -103,11 +103,7 @@ impl Cells {
         if at >= self.list.len() {
             return None;
         }
-        if slot(&self.list[at]) == entry {
-            Some(at)
-        } else {
-            None
-        }
+        (slot(&self.list[at]) == entry).then_some(at)
     }
 
     /// Appends a cell.

@@ -140,10 +140,8 @@ pub fn is_lost(then: Lock, now: Lock, elapsed: u64) -> bool
     ensures lost { IsTrue result ↔ IsLost then now elapsed }
     ensures value { result ≡ lost then.least now.least now.upper elapsed }
 {
-    match (then.least(), now.least()) {
-        (Some(before), Some(least)) => {
-            least < before || matches!(now.upper(), Some(upper) if upper as u64 <= elapsed)
-        }
-        _ => false,
-    }
+    let (Some(before), Some(least)) = (then.least(), now.least()) else {
+        return false;
+    };
+    least < before || matches!(now.upper(), Some(upper) if upper as u64 <= elapsed)
 }

@@ -68,17 +68,15 @@ impl Signals {
         ensures failed { OnErr result (self.new ≡ self.old) }
     {
         let index = signal.index();
-        match self.order.insert_full(signal) {
-            Ok((place, is_new)) => {
-                if is_new {
-                    self.places[index] = Some(place);
-                    self.rows_by_id[signal.id() as usize] = index as u8;
-                    self.least_next = least_next_after(self.least_next, index);
-                }
-                Ok(is_new)
-            }
-            Err(_) => Err(AllocError),
+        let Ok((place, is_new)) = self.order.insert_full(signal) else {
+            return Err(AllocError);
+        };
+        if is_new {
+            self.places[index] = Some(place);
+            self.rows_by_id[signal.id() as usize] = index as u8;
+            self.least_next = least_next_after(self.least_next, index);
         }
+        Ok(is_new)
     }
 
     /// Returns the number of signals.

@@ -7,8 +7,8 @@ use Rattle.gnss_obs.proofs.PlanLemmas.{any_index, indices-push, length_indices}
 use Rattle.gnss_obs.proofs.SignalLemmas.{was_new, was_there, found_more, rows_more}
 use Rattle.gnss_obs.proofs.signals.Signals.add.Goals as goal
 
-pub invariant_of-self : goal.invariant_of-self
-invariant_of-self c =
+pub invariant_of-self-then-is_new : goal.invariant_of-self-then-is_new
+invariant_of-self-then-is_new c =
     let keys = c.self.inside.order.keys in
     let s = c.args.signal in
     let of = subst (IsOf s.system) (sym c.self.view_is) c.requires in
