@@ -1,18 +1,20 @@
 //! The kept cells of an epoch.
-ghost use Rattle.std.specs.Prelude.{◌≡◌, ◌<◌, [], All, IfOk, true};
+ghost use Rattle.std.specs.Prelude.{◌≡◌, ◌+◌, ◌*◌, ◌<◌, ◌≤◌, [], All, IfOk, true};
 ghost use Rattle.gnss_obs.specs.HeardCells.{heard_cell, IsObserved};
-ghost use Rattle.gnss_obs.specs.Arriving.{IsAdded, AddsCell, AreKept, sorted_cells, sorted_lists};
+ghost use Rattle.gnss_obs.specs.Arriving.{IsAdded, AddsCell, AreBelow, AreKept, HasSatellites, sorted_cells, sorted_lists};
 ghost use Rattle.gnss_obs.specs.PlanOrder.{IsPlanned, HasPlannedCells};
 ghost use Rattle.gnss_obs.specs.Order.{AreOrderedBy};
+ghost use Rattle.gnss_obs.specs.SignalLists.{indices, IsOf};
+ghost use Rattle.gnss_system.specs.Satellites.{satellites};
 ghost use Rattle.gnss_system.specs.declared.system.System.{System};
 ghost use Rattle.gnss_system.specs.SystemValues.{value_of, with_value_of};
 ghost use Rattle.gnss_obs.specs.Values.{AreHeld, no_cells, planned_of};
 
 use crate::cell::Cell;
-use crate::cells::Cells;
+use crate::cells::{Cells, SATELLITE_SLOTS};
 use crate::epoch::MOST_CELLS;
-use crate::order::sort_into;
 use crate::plan::Plan;
+use crate::signal::Signal;
 use gnss_system::{BySystem, SYSTEMS, System};
 use std::alloc::{AllocError, Global};
 use std::boxed::Box;
@@ -37,6 +39,8 @@ pub enum Added {
 pub struct EpochCells(BySystem<Box<Cells>>);
 
 impl Model for EpochCells {
+    ghost use Rattle.gnss_obs.specs.SignalLists.{indices, IsOf};
+    ghost use Rattle.gnss_system.specs.Satellites.{satellites};
     ghost use Rattle.gnss_system.specs.declared.system.System.{System};
     ghost use Rattle.gnss_system.specs.SystemValues.{value_of, map_by};
     ghost use Rattle.gnss_obs.specs.Arriving.{AreKept};
@@ -58,7 +62,7 @@ impl EpochCells {
     pub fn new(alloc: Global) -> Result<EpochCells, AllocError>
         ensures { IfOk result (λ e. e ≡ no_cells) }
     {
-        Ok(EpochCells(no_lists(alloc)?))
+        Ok(EpochCells(BySystem::try_each(|_| no_list(alloc))?))
     }
 
     /// Returns the cells of a system.
@@ -95,13 +99,6 @@ impl EpochCells {
     {
         move_all(&mut self.0, plan, &mut sorted.0);
     }
-}
-
-// Returns an empty list of cells for each system.
-fn no_lists(alloc: Global) -> Result<BySystem<Box<Cells>>, AllocError>
-    ensures { IfOk result (λ lists. (s : System) → (value_of s lists).value ≡ []) }
-{
-    BySystem::try_each(|_| no_list(alloc))
 }
 
 // Removes the cells of each system.
@@ -189,4 +186,49 @@ fn is_sorted(cells: &Cells, plan: &Plan, system: System) -> bool
 {
     let is_short = cells.as_slice().len() < 2;
     is_short || cells.is_in_table_order() && plan.is_in_table_order(system)
+}
+
+// Copies cells in the order of their satellites and then of the plan.
+#[inline(never)]
+fn sort_into(sorted: &mut Cells, cells: &Cells, plan: &Plan, system: System)
+    requires kept { AreKept system cells.now }
+    requires planned { All (IsPlanned (planned_of system plan.now)) cells.now }
+    ensures { sorted.new ≡ sorted_cells (planned_of system plan.now) cells.now }
+{
+    let signals = plan.of(system);
+    sorted.clear();
+    let mut left = satellites_of(cells.as_slice(), system);
+    while left != 0 {
+        let id = left.trailing_zeros();
+        copy_satellite(sorted, cells, signals, system, id as u8);
+        left &= !(1 << id);
+    }
+}
+
+// Returns the set of the satellites that have a cell: bit n is satellite n.
+fn satellites_of(cells: &[Cell], system: System) -> u64
+    requires held { AreHeld system cells.now }
+    ensures { HasSatellites (satellites system) cells.now result }
+{
+    let mut set = 0;
+    for i in 0..cells.len() {
+        set |= 1 << cells[i].satellite.id();
+    }
+    set
+}
+
+// Copies the cells of a satellite in the order of the plan, after those of the satellites before.
+fn copy_satellite(sorted: &mut Cells, cells: &Cells, signals: &[Signal], system: System, id: u8)
+    requires id { id ≤ satellites system }
+    requires signals { IsOf system signals.now }
+    requires kept { AreKept system cells.now }
+    requires planned { All (IsPlanned (indices signals.now)) cells.now }
+    requires before { AreBelow (indices signals.now) (64 * id) cells.now sorted.old }
+    ensures { AreBelow (indices signals.now) (64 * (id + 1)) cells.now sorted.new }
+{
+    for i in 0..signals.len() {
+        if let Some(at) = cells.find(SATELLITE_SLOTS * id as usize + signals[i].index()) {
+            sorted.push(cells.as_slice()[at]);
+        }
+    }
 }

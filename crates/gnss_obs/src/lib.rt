@@ -18,7 +18,6 @@ mod lock;
 mod observables;
 mod order;
 mod plan;
-mod rounding;
 mod satellite;
 mod signal;
 mod signals;

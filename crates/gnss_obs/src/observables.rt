@@ -1,13 +1,12 @@
 //! Pseudorange, carrier phase, Doppler shift and signal strength, rounded to thousandths.
-ghost use Rattle.std.specs.Prelude.{◌≡◌, ◌*◌, ◌^◌, ◌<◌, ◌≤◌, ◌*ℤ◌, ◌-ℤ◌, ◌≤ℤ◌, ◌<ℤ◌, unsigned_abs, pos, IfSome};
+ghost use Rattle.std.specs.Prelude.{◌≡◌, ◌+◌, ◌*◌, ◌/◌, ◌^◌, ◌<◌, ◌≤◌, ◌*ℤ◌, ◌-ℤ◌, ◌≤ℤ◌, ◌<ℤ◌, unsigned_abs, pos, IfSome};
 ghost use Rattle.std.specs.Option.{option_map, ForSome};
-ghost use Rattle.gnss_obs.specs.Rounding.{IsRounded};
+ghost use Rattle.gnss_obs.specs.Rounding.{IsRounded, nearest};
 ghost use Rattle.gnss_obs.specs.Observables.{light, nearest_pseudorange, nearest_phase, nearest_doppler};
 ghost use Rattle.gnss_obs.specs.Observables.{phase_by, doppler_by};
 ghost use Rattle.gnss_obs.specs.Observables.{nearest_strength, strength_digit};
 ghost use Rattle.gnss_system.specs.Signals.{hertz_of, most_hertz};
 
-use crate::rounding::nearest_whole;
 use crate::{Signal, Thousandths};
 
 /// Speed of light, in metres per second.
@@ -103,4 +102,32 @@ pub fn strength_digit(strength: Thousandths) -> u8
     ensures { result ≡ strength_digit strength }
 {
     (strength.value().clamp(6_000, 54_000) as u32 / 6_000) as u8
+}
+
+/// Returns the whole number nearest to `x * factor / (2 * half)`, ties away from zero.
+#[inline(always)]
+fn nearest_whole(x: i64, factor: u32, half: u32) -> i64
+    requires factor { 0 < factor }
+    requires half { 0 < half }
+    requires size { unsigned_abs x * factor ≤ half * 2 ^ 62 }
+    ensures { result ≡ nearest (x *ℤ pos factor) (2 * half) }
+{
+    // Each sign has a division of its own: this takes fewer instructions than to apply the sign.
+    if x < 0 {
+        0 - nearest_size(x.unsigned_abs(), factor, half) as i64
+    } else {
+        nearest_size(x as u64, factor, half) as i64
+    }
+}
+
+/// Returns the whole number nearest to `size * factor / (2 * half)`, ties up.
+#[inline(always)]
+fn nearest_size(size: u64, factor: u32, half: u32) -> u64
+    requires half { 0 < half }
+    requires size { size * factor ≤ half * 2 ^ 62 }
+    ensures value { result ≡ (size * factor + half) / (2 * half) }
+    ensures bound { result < 2 ^ 62 }
+{
+    let above = size as u128 * factor as u128 + half as u128;
+    (above / (2 * half as u128)) as u64
 }

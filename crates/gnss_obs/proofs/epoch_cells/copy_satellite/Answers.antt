@@ -1,8 +1,8 @@
 use Rattle.std.proofs.Common.{◌+◌, ◌*◌, ◌∙◌, sym, ap, arith, subst, get_or, is_some, map}
 use Rattle.gnss_obs.specs.Names.{AreBelow, has_slot, indices, slot}
 use Rattle.gnss_obs.proofs.SortLemmas.{entries_end, entry_found, entry_none}
-use Rattle.gnss_obs.proofs.order.copy_satellite.Goals.{in-Some, in_default}
-use Rattle.gnss_obs.proofs.order.copy_satellite.Goals as goal
+use Rattle.gnss_obs.proofs.epoch_cells.copy_satellite.Goals.{in-Some, in_default}
+use Rattle.gnss_obs.proofs.epoch_cells.copy_satellite.Goals as goal
 
 pub push-requires : goal.push-requires
 push-requires c =

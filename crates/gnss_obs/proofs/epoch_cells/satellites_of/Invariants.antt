@@ -1,7 +1,7 @@
 use Rattle.std.proofs.Common.{take}
 use Rattle.gnss_obs.specs.Arriving.{HasSatellites}
 use Rattle.gnss_obs.specs.Names.{satellites}
-use Rattle.gnss_obs.proofs.order.satellites_of.Given as goal
+use Rattle.gnss_obs.proofs.epoch_cells.satellites_of.Given as goal
 
 abbrev pub invariant-loop-i : goal.invariant-loop-i
 invariant-loop-i l = HasSatellites (satellites l.fn.system) (take l.i l.cells) l.set

@@ -3,7 +3,7 @@ use Rattle.gnss_obs.specs.Names.{AreBelow, planned_of, satellites}
 use Rattle.gnss_obs.specs.Arriving.{HasSatellites}
 use Rattle.gnss_obs.proofs.SetLemmas.{AreSortedTo, all_sorted, few_satellites, lowest, lowest_bit, lowest_rises, lowest_sorted, none_sorted}
 use Rattle.gnss_obs.proofs.SortLemmas.{few_planned}
-use Rattle.gnss_obs.proofs.order.sort_into.Goals as goal
+use Rattle.gnss_obs.proofs.epoch_cells.sort_into.Goals as goal
 
 pub loop-left-init : goal.loop-left-init
 loop-left-init c =

@@ -1,6 +1,6 @@
 use Rattle.std.proofs.Common.{◌+◌, ◌*◌}
 use Rattle.gnss_obs.specs.Names.{AreBelow, indices}
-use Rattle.gnss_obs.proofs.order.copy_satellite.Given as goal
+use Rattle.gnss_obs.proofs.epoch_cells.copy_satellite.Given as goal
 
 abbrev pub invariant-loop-i : goal.invariant-loop-i
 invariant-loop-i l = AreBelow (indices l.signals) (64 * l.id + l.i) l.cells l.sorted

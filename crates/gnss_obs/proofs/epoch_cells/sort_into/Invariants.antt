@@ -1,7 +1,7 @@
 use Rattle.std.proofs.Common.{◌-◌}
 use Rattle.gnss_obs.specs.Names.{planned_of, satellites}
 use Rattle.gnss_obs.proofs.SetLemmas.{AreSortedTo, lowest}
-use Rattle.gnss_obs.proofs.order.sort_into.Given as goal
+use Rattle.gnss_obs.proofs.epoch_cells.sort_into.Given as goal
 
 abbrev pub invariant-loop-left : goal.invariant-loop-left
 invariant-loop-left l = AreSortedTo (satellites l.fn.system) (planned_of l.fn.system l.plan) l.cells l.left l.sorted
