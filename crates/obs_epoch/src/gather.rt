@@ -158,18 +158,15 @@ impl Gatherer {
             (λ e. (e ≡ PlanFault.BadWeek) ⊎ ((e ≡ PlanFault.BadStation) ⊎ (e ≡ PlanFault.Memory))) }
     {
         match new_parts(alloc, start_week, station) {
-            Ok((pending, closed, locks)) => {
-                let clock = Clock::new(plan, start_week, station, gather, options);
-                Ok(Gatherer {
-                    clock,
-                    pending,
-                    closed,
-                    values: options.initial,
-                    locks,
-                    just_closed: false,
-                    has_ended: false,
-                })
-            }
+            Ok((pending, closed, locks)) => Ok(Gatherer {
+                clock: Clock::new(plan, start_week, station, gather, options),
+                pending,
+                closed,
+                values: options.initial,
+                locks,
+                just_closed: false,
+                has_ended: false,
+            }),
             Err(fault) => {
                 // A call drops it with less proof than the end of its scope.
                 drop(plan);
@@ -212,14 +209,10 @@ impl Gatherer {
         ensures twice { self.old.has_ended ≡ true → (result ≡ false) × (self.new ≡ rested self.old) }
         ensures stays { StaysEnded self.old self.new }
     {
-        if self.has_ended {
-            self.just_closed = false;
-            return false;
-        }
-        let closed = self.clock.is_pending();
+        let closed = !self.has_ended && self.clock.is_pending();
         self.has_ended = true;
         self.note_closed(closed);
-        self.just_closed
+        closed
     }
 
     /// Returns the epoch that the last call of `take` or `end` closed. `None` if that call closed
@@ -230,11 +223,7 @@ impl Gatherer {
         ensures closed { option_to_list (option_map (λ e. e.now) result)
             ≡ closed_by (closed_in self.now) self.now.values }
     {
-        if self.just_closed {
-            Some(&self.closed)
-        } else {
-            None
-        }
+        self.just_closed.then_some(&self.closed)
     }
 
     /// Returns whether `end` was called.
@@ -297,8 +286,7 @@ impl Gatherer {
         ensures step { self.new ≡ begun_by self.old (heard_summary said.now) }
         ensures ended { ended_where result.1 self.new.clock ≡ step_by self.old.clock (heard_summary said.now) }
     {
-        let values = self.values_after(said);
-        self.values = values;
+        self.values = self.values_after(said);
         self.just_closed = false;
         let was_pending = self.clock.is_pending();
         let step = self.clock.step(said);

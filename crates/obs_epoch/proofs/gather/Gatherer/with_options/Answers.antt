@@ -6,7 +6,7 @@ use Rattle.obs_epoch.proofs.gather.Gatherer.with_options.Goals as goal
 
 pub invariant_of-result : goal.invariant_of-result
 invariant_of-result c = record {
-  planned = subst (HasPlannedCells c.new-clock.result.setup.plan) (sym c.in-Ok.ensures.pending) (none_planned c.new-clock.result.setup.plan);
+  planned = subst (HasPlannedCells c.new.result.setup.plan) (sym c.in-Ok.ensures.pending) (none_planned c.new.result.setup.plan);
   none = λ e. c.in-Ok.ensures.pending;
   empty = λ e. ap (λ (l : Closed). l.epoch.cells) c.in-Ok.ensures.closed;
   closed = λ e. cc;
@@ -16,8 +16,8 @@ pub returns-in-Ok-clause-history : goal.returns-in-Ok-clause-history
 returns-in-Ok-clause-history c =
     record {
       standing = record {
-        clock = subst (λ (s : GatherSetup). HasHeardMessages c.new-clock.result s [] false) c.new-clock.ensures.setup c.new-clock.ensures.history;
-        epoch = shut_is c.new-clock.result c.in-Ok.pending c.in-Ok.closed c.new-clock.ensures.history.pending ∙ ap (λ (e : Closed). e.epoch) c.in-Ok.ensures.closed;
+        clock = subst (λ (s : GatherSetup). HasHeardMessages c.new.result s [] false) c.new.ensures.setup c.new.ensures.history;
+        epoch = shut_is c.new.result c.in-Ok.pending c.in-Ok.closed c.new.ensures.history.pending ∙ ap (λ (e : Closed). e.epoch) c.in-Ok.ensures.closed;
         locks = none_locked _ _ c.in-Ok.ensures.locks;
         values = refl;
       };
@@ -25,5 +25,5 @@ returns-in-Ok-clause-history c =
       epochs = λ e. refl;
       first = search rules;
       fits = tt;
-      plan = ap (λ (s : GatherSetup). s.plan) c.new-clock.ensures.setup;
+      plan = ap (λ (s : GatherSetup). s.plan) c.new.ensures.setup;
     }
