@@ -130,11 +130,7 @@ impl Clock {
     pub fn is_own(&self, said: &Summary) -> bool
         ensures { result ≡ is_own self.now.setup (heard_summary said.now) }
     {
-        match (said.station, self.station) {
-            (None, _) => false,
-            (Some(_), None) => true,
-            (Some(from), Some(wanted)) => from == wanted,
-        }
+        said.station.is_some() && (self.station.is_none() || said.station == self.station)
     }
 
     // Returns whether a message ends its epoch. A pending epoch has a time.

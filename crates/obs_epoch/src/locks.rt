@@ -172,10 +172,7 @@ pub fn lli(x: &Cell, time: u64, before: Option<KnownLock>) -> u8
     if x.l.is_none() {
         return 0;
     }
-    let lost = match before {
-        None => false,
-        Some(was) => is_lost(was.lock, x.lock, time.saturating_sub(was.time)),
-    };
+    let lost = before.is_some_and(|was| is_lost(was.lock, x.lock, time.saturating_sub(was.time)));
     let half = if x.half_cycle { 2 } else { 0 };
     if lost { 1 + half } else { half }
 }

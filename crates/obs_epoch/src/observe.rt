@@ -19,27 +19,25 @@ pub fn observe(plan: &Plan, field: LockField, system: System, entry: &Entry) -> 
     ensures observed { IfSome result (λ x. IsObserved (heard_cell x)) }
     ensures system { IfSome result (λ x. x.satellite.system ≡ system) }
 {
-    match (
+    let (Some(satellite), Some(signal)) = (
         Sat::new(system, entry.satellite),
         plan.wanted(system, entry.signal),
-    ) {
-        (Some(satellite), Some(signal)) => {
-            let carrier = plan.channels().hertz(satellite, signal);
-            Some(Cell {
-                satellite,
-                signal,
-                c: pseudorange(entry.range),
-                l: phase_at(entry.phase, carrier),
-                d: doppler_at(entry.rate, carrier),
-                s: strength(entry.strength),
-                lli: 0,
-                lock: match field {
-                    LockField::Df402 => Lock::from_df402(entry.lock as u8),
-                    LockField::Df407 => Lock::from_df407(entry.lock),
-                },
-                half_cycle: entry.half_cycle,
-            })
-        }
-        _ => None,
-    }
+    ) else {
+        return None;
+    };
+    let carrier = plan.channels().hertz(satellite, signal);
+    Some(Cell {
+        satellite,
+        signal,
+        c: pseudorange(entry.range),
+        l: phase_at(entry.phase, carrier),
+        d: doppler_at(entry.rate, carrier),
+        s: strength(entry.strength),
+        lli: 0,
+        lock: match field {
+            LockField::Df402 => Lock::from_df402(entry.lock as u8),
+            LockField::Df407 => Lock::from_df407(entry.lock),
+        },
+        half_cycle: entry.half_cycle,
+    })
 }

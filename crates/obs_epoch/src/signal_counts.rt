@@ -17,16 +17,14 @@ use std::marker::Model;
 
 /// The number of cells with a value, for each signal of the tables.
 #[derive(Drop)]
-pub struct SignalCounts {
-    counts: BySystem<[u64; MOST_SIGNALS]>,
-}
+pub struct SignalCounts(BySystem<[u64; MOST_SIGNALS]>);
 
 impl Model for SignalCounts {
     ghost use Rattle.obs_epoch.specs.SignalCounts.{SignalCountsValue};
 
     ghost Value = { SignalCountsValue };
 
-    ghost view = { λ c. c.counts };
+    ghost view = { λ c. c.0 };
 }
 
 impl SignalCounts {
@@ -34,13 +32,11 @@ impl SignalCounts {
     pub fn new() -> SignalCounts
         ensures { AreSignalCounts result [] }
     {
-        SignalCounts {
-            counts: BySystem::each(
-                |_| -> [u64; MOST_SIGNALS]
-                    ensures { result ≡ replicate most_signals 0 }
-                { [0; MOST_SIGNALS] },
-            ),
-        }
+        SignalCounts(BySystem::each(
+            |_| -> [u64; MOST_SIGNALS]
+                ensures { result ≡ replicate most_signals 0 }
+            { [0; MOST_SIGNALS] },
+        ))
     }
 
     /// Returns the number of counted cells of the signal at this index of a system's table.
@@ -48,7 +44,7 @@ impl SignalCounts {
         requires { index < length (table system) }
         ensures { result ≡ counted self.now system index }
     {
-        self.counts.of(system)[index]
+        self.0.of(system)[index]
     }
 
     /// Returns whether a cell of any signal was counted.
@@ -56,7 +52,7 @@ impl SignalCounts {
         ensures { result ≡ has_any self.now }
     {
         for i in 0..SYSTEMS.len() {
-            if has_one(self.counts.of(System::at(i))) {
+            if has_one(self.0.of(System::at(i))) {
                 return true;
             }
         }
@@ -102,9 +98,9 @@ impl SignalCounts {
         let place = signal.index();
         // A match of its own: `of_mut` takes a jump for each signal, up to 0.7 % of `signals`.
         match signal.system() {
-            System::Gps => add_at(&mut self.counts.gps, place, count),
-            System::Galileo => add_at(&mut self.counts.galileo, place, count),
-            system => add_at(self.counts.of_mut(system), place, count),
+            System::Gps => add_at(&mut self.0.gps, place, count),
+            System::Galileo => add_at(&mut self.0.galileo, place, count),
+            system => add_at(self.0.of_mut(system), place, count),
         }
     }
 }

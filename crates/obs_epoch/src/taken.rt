@@ -86,10 +86,9 @@ impl Kind {
     pub(crate) fn with_counts(self, n: CellCounts) -> Kind
         ensures { result ≡ with_counts n self }
     {
-        if self.is_accepted() {
-            Kind::Kept(n)
-        } else {
-            self
+        match self {
+            Kind::Kept(_) => Kind::Kept(n),
+            _ => self,
         }
     }
 }

@@ -43,12 +43,9 @@ pub(crate) fn summary_of(view: &View<'_>, leap_seconds: u8) -> Summary
         → heard_summary result ≡ without_cells (heard channels leap_seconds (viewed_message view.now)) }
     ensures time { ForSome result.time (λ tow. tow < week) }
 {
-    let said = view.summary();
-    match view {
-        View::Msm(m) => Summary {
-            time: Some(tow_of(m.system(), leap_seconds, m.header().time)),
-            ..said
-        },
-        View::Station(_) | View::Other { number: _, set: _ } => said,
+    let mut said = view.summary();
+    if let View::Msm(m) = view {
+        said.time = Some(tow_of(m.system(), leap_seconds, m.header().time));
     }
+    said
 }
