@@ -1,6 +1,11 @@
 -- Frames that are passed to a sink, piece by piece.
 use Rattle.rtcm_scan.proofs.Names.{◌≡◌, ℕ, ◌+◌, ◌-◌, ◌<◌, ◌≤◌, Bool, true, false, List, [], ◌∷◌, ◌++◌, ◌∙◌, ap, sym, refl, arith, length, take, drop, append_assoc, append-nil, subst, take-append-drop, length-drop, slice_range, length-take, ⊎_elim, cases_lt, take-add, IsPrefix, Framed, frames_of, known_frames, FramerValue, with_bytes, HasExamined, Coming, Breaking, HasPassed, HasPassedAll, PassesKnown, BreaksKnown, Passes, Breaks, Continues, IsSameStream}
+use Rattle.std.specs.Prelude.{Result, OnErr}
 use Rattle.rtcm_scan.proofs.PrefixLemmas.{stays_decided}
+
+-- a promise about a result that is an error
+pub failed : {A E : Type 0} (r : Result A E) (P : Type 0) → P → OnErr r P
+failed r P p = grind arith
 
 pub prefix_self : {A : Type 0} (xs : List A) → IsPrefix xs xs
 prefix_self xs = ([], sym (append-nil xs))

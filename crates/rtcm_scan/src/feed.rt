@@ -36,9 +36,7 @@ impl Framer {
     {
         while let Some(offset) = self.next_into(&mut frame.message) {
             frame.offset = offset;
-            if let Err(fault) = sink.take(frame, out) {
-                return Err(fault);
-            }
+            sink.take(frame, out)?;
         }
         Ok(())
     }
@@ -64,9 +62,7 @@ impl Framer {
         let _ = self.taken();
         let mut taken = 0;
         loop {
-            if let Err(fault) = self.drain_into(frame, sink, out) {
-                return Err(fault);
-            }
+            self.drain_into(frame, sink, out)?;
             let next = taken + self.room().min(piece.len() - taken);
             if next == taken {
                 return Ok(taken);
@@ -133,9 +129,7 @@ impl Framer {
     {
         self.end();
         let mut frame = Frame::new();
-        match self.drain_into(&mut frame, sink, out) {
-            Ok(()) => sink.send(out),
-            Err(fault) => Err(fault),
-        }
+        self.drain_into(&mut frame, sink, out)?;
+        sink.send(out)
     }
 }

@@ -288,10 +288,8 @@ impl Framer {
         ensures same { IsScannedOn self.old self.new }
     {
         let mut message = ArrayVec::new();
-        match self.next_into(&mut message) {
-            Some(offset) => Some(Frame { offset, message }),
-            None => None,
-        }
+        let offset = self.next_into(&mut message)?;
+        Some(Frame { offset, message })
     }
 
     /// Returns the offset of the next frame, as [`next`](Framer::next) does, and replaces the
@@ -311,10 +309,8 @@ impl Framer {
         ensures kept { IfNone result (message.new ≡ message.old) }
         ensures same { IsScannedOn self.old self.new }
     {
-        match self.seek() {
-            Some(size) => Some(self.take_frame(size, message)),
-            None => None,
-        }
+        let size = self.seek()?;
+        Some(self.take_frame(size, message))
     }
 
     /// Drops bytes until a whole frame begins at the front, and returns its size, if the held bytes

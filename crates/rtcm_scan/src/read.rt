@@ -65,13 +65,10 @@ impl Framer {
             return Err(StreamFault::Sink(fault));
         }
         loop {
-            let n = match self.read_piece(reader, buffer) {
-                Ok(n) => n,
-                Err(_) => return Err(StreamFault::Read),
+            let Ok(n) = self.read_piece(reader, buffer) else {
+                return Err(StreamFault::Read);
             };
-            if let Err(fault) = self.feed(&buffer[..n], frame, sink, out) {
-                return Err(fault);
-            }
+            self.feed(&buffer[..n], frame, sink, out)?;
             if n == 0 {
                 return Ok(());
             }
@@ -110,12 +107,10 @@ impl Framer {
         ensures goes { S.can_take sink.new }
     {
         let mut frame = Frame::new();
-        match self.read_pieces(reader, buffer, &mut frame, sink, out) {
-            Ok(()) => match self.finish(sink, out) {
-                Ok(()) => Ok(()),
-                Err(fault) => Err(StreamFault::Sink(fault)),
-            },
-            Err(fault) => Err(fault),
+        self.read_pieces(reader, buffer, &mut frame, sink, out)?;
+        match self.finish(sink, out) {
+            Ok(()) => Ok(()),
+            Err(fault) => Err(StreamFault::Sink(fault)),
         }
     }
 }

@@ -3,29 +3,29 @@ use Rattle.rtcm_scan.proofs.NextLemmas.{found, step_found, counts_found, less_fo
 use Rattle.rtcm_scan.proofs.ScanLemmas.{same_framed}
 use Rattle.rtcm_scan.proofs.framer.Framer.next_into.Goals as goal
 
-pub returns-in-Some-clause-some : goal.returns-in-Some-clause-some
-returns-in-Some-clause-some c =
-    let f = c.in-Some.ensures.begins in
+pub returns-clause-some : goal.returns-clause-some
+returns-clause-some c =
+    let f = c.in_ok-size.ensures.begins in
     let is = same_framed (frame_at c.take_frame.result c.take_frame.new.message.items) (found c.seek.new.self) c.take_frame.ensures.offset c.take_frame.ensures.message in
-    λ b fs s. step_found c.seek.new.self c.take_frame.ensures.taken f.1 f.0 is (c.in-Some.ensures.history b fs s)
+    λ b fs s. step_found c.seek.new.self c.take_frame.ensures.taken f.1 f.0 is (c.in_ok-size.ensures.history b fs s)
 
-pub returns-in-Some-clause-some_counts : goal.returns-in-Some-clause-some_counts
-returns-in-Some-clause-some_counts c =
-    let f = c.in-Some.ensures.begins in
+pub returns-clause-some_counts : goal.returns-clause-some_counts
+returns-clause-some_counts c =
+    let f = c.in_ok-size.ensures.begins in
     let is = same_framed (frame_at c.take_frame.result c.take_frame.new.message.items) (found c.seek.new.self) c.take_frame.ensures.offset c.take_frame.ensures.message in
-    λ b fs s. counts_found c.seek.new.self c.take_frame.ensures.taken f.1 f.0 is f.2 (c.in-Some.ensures.counts b fs s)
+    λ b fs s. counts_found c.seek.new.self c.take_frame.ensures.taken f.1 f.0 is f.2 (c.in_ok-size.ensures.counts b fs s)
 
-pub returns-in-Some-clause-less : goal.returns-in-Some-clause-less
-returns-in-Some-clause-less c =
-    let f = c.in-Some.ensures.begins in
-    let l = less_found c.seek.new.self c.take_frame.new.self c.in-Some.size c.take_frame.ensures.taken f.1 f.0 in
-    omega (arith, l, c.in-Some.ensures.same.held)
+pub returns-clause-less : goal.returns-clause-less
+returns-clause-less c =
+    let f = c.in_ok-size.ensures.begins in
+    let l = less_found c.seek.new.self c.take_frame.new.self c.in_ok-size.size c.take_frame.ensures.taken f.1 f.0 in
+    omega (arith, l, c.in_ok-size.ensures.same.held)
 
-pub returns-in-Some-clause-same : goal.returns-in-Some-clause-same
-returns-in-Some-clause-same c =
-    let f = c.in-Some.ensures.begins in
-    let same = c.in-Some.ensures.same in
-    let l = less_found c.seek.new.self c.take_frame.new.self c.in-Some.size c.take_frame.ensures.taken f.1 f.0 in
+pub returns-clause-same : goal.returns-clause-same
+returns-clause-same c =
+    let f = c.in_ok-size.ensures.begins in
+    let same = c.in_ok-size.ensures.same in
+    let l = less_found c.seek.new.self c.take_frame.new.self c.in_ok-size.size c.take_frame.ensures.taken f.1 f.0 in
     record {
       held = omega (arith, l, same.held);
       limit = ap (λ (v : FramerValue). v.limit) c.take_frame.ensures.taken ∙ same.limit;

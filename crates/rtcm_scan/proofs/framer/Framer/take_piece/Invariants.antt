@@ -2,8 +2,8 @@ use Rattle.rtcm_scan.proofs.Names.{◌≡◌, ◌+◌, ◌-◌, ◌≤◌, take,
 use Rattle.rtcm_scan.proofs.PassingLemmas.{PassesPart}
 use Rattle.rtcm_scan.proofs.framer.Framer.take_piece.Given as goal
 
-abbrev pub invariant-loop-fault : goal.invariant-loop-fault
-invariant-loop-fault g l = record {
+abbrev pub invariant-loop-self : goal.invariant-loop-self
+invariant-loop-self g l = record {
   passes : PassesPart g.S.FrameSink.took l.fn.self l.fn.sink l.fn.out l.self l.sink l.out (take l.taken l.piece);
   can : g.S.FrameSink.can_take l.sink;
   bound : l.taken ≤ length l.piece;
@@ -11,5 +11,5 @@ invariant-loop-fault g l = record {
   same : Continues l.fn.self l.self l.taken;
 }
 
-abbrev pub decreases-loop-fault : goal.decreases-loop-fault
-decreases-loop-fault g l = length l.piece - l.taken
+abbrev pub decreases-loop-self : goal.decreases-loop-self
+decreases-loop-self g l = length l.piece - l.taken
