@@ -1,11 +1,21 @@
 -- Frames that are passed to a sink, piece by piece.
 use Rattle.rtcm_scan.proofs.Names.{◌≡◌, ℕ, ◌+◌, ◌-◌, ◌<◌, ◌≤◌, Bool, true, false, List, [], ◌∷◌, ◌++◌, ◌∙◌, ap, sym, refl, arith, length, take, drop, append_assoc, append-nil, subst, take-append-drop, length-drop, slice_range, length-take, ⊎_elim, cases_lt, take-add, IsPrefix, Framed, frames_of, known_frames, FramerValue, with_bytes, HasExamined, Coming, Breaking, HasPassed, HasPassedAll, PassesKnown, BreaksKnown, Passes, Breaks, Continues, IsSameStream}
-use Rattle.std.specs.Prelude.{Result, OnErr}
+use Rattle.std.specs.Prelude.{Result, Ok, Err, IfOk, OnErr, MatchResult}
+use Rattle.std.specs.Result.{IsErrAnd}
 use Rattle.rtcm_scan.proofs.PrefixLemmas.{stays_decided}
 
 -- a promise about a result that is an error
 pub failed : {A E : Type 0} (r : Result A E) (P : Type 0) → P → OnErr r P
 failed r P p = grind arith
+
+-- what a call promised whose fault `map_err` wraps
+pub wrapped : {T D E : Type 0} (Q : D → E → Type 0) (P : T → Type 0) (r : Result T D) (s : Result T E) (t : T) → IfOk r P → MatchResult r (λ x. s ≡ Ok x) (λ e. IsErrAnd s (Q e)) → s ≡ Ok t → P t
+wrapped Q P (Ok x) s t given is ok = subst P (let same : x ≡ t = cc in same) given
+wrapped Q P (Err e) s t given is ok = absurd (rw ok at is)
+
+pub unwrapped : {T D E P : Type 0} (Q : D → E → Type 0) (r : Result T D) (s : Result T E) (e : E) → OnErr r P → MatchResult r (λ x. s ≡ Ok x) (λ e. IsErrAnd s (Q e)) → s ≡ Err e → P
+unwrapped Q (Ok x) s e given is fault = absurd (cc (is, fault))
+unwrapped Q (Err d) s e given is fault = given
 
 pub prefix_self : {A : Type 0} (xs : List A) → IsPrefix xs xs
 prefix_self xs = ([], sym (append-nil xs))

@@ -100,13 +100,10 @@ impl Framer {
         ensures ready { OnOk result (self.new.is_ready ≡ true) }
         ensures same { Continues self.old self.new (length piece.now) }
     {
-        let taken = match self.take_piece(piece, frame, sink, out) {
-            Ok(taken) => taken,
-            Err(fault) => return Err(StreamFault::Sink(fault)),
-        };
-        if let Err(fault) = sink.send(out) {
-            return Err(StreamFault::Sink(fault));
-        }
+        let taken = self
+            .take_piece(piece, frame, sink, out)
+            .map_err(StreamFault::Sink)?;
+        sink.send(out).map_err(StreamFault::Sink)?;
         if taken < piece.len() {
             return Err(StreamFault::TooLong);
         }

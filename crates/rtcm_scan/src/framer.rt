@@ -25,7 +25,6 @@ use crate::front::{Decision, examine, judge, pass_others};
 use arrayvec::ArrayVec;
 use rtcm_bits::{LONGEST_FRAME, LONGEST_MESSAGE, Window};
 use std::alloc::Global;
-use std::fmt;
 use std::marker::Model;
 use thiserror::Error;
 
@@ -36,19 +35,17 @@ pub const MOST_BYTES: u64 = 1 << 48;
 #[derive(Clone, Copy, Debug, PartialEq, Eq, Error)]
 pub enum ScanFault {
     /// Out of memory: the held bytes can't be allocated.
+    #[error("Memory")]
     Memory,
     /// The limit is above 2^48 bytes.
+    #[error("BadLimit")]
     BadLimit,
     /// The stream is longer than the framer's limit.
+    #[error("TooLong")]
     TooLong,
     /// The stream has ended.
+    #[error("Ended")]
     Ended,
-}
-
-impl fmt::Display for ScanFault {
-    fn fmt<W: fmt::Write>(&self, f: &mut fmt::Formatter<W>) -> fmt::Result {
-        fmt::Debug::fmt(self, f)
-    }
 }
 
 /// A frame of a stream.
@@ -127,18 +124,16 @@ impl Framer {
         if limit > MOST_BYTES {
             return Err(ScanFault::BadLimit);
         }
-        match Window::new(alloc) {
-            Ok(window) => Ok(Framer {
-                window,
-                candidate: Candidate::new(),
-                limit,
-                place: 0,
-                given_up: 0,
-                ended: false,
-                drained: true,
-            }),
-            Err(_) => Err(ScanFault::Memory),
-        }
+        let window = Window::new(alloc).map_err(|_| ScanFault::Memory)?;
+        Ok(Framer {
+            window,
+            candidate: Candidate::new(),
+            limit,
+            place: 0,
+            given_up: 0,
+            ended: false,
+            drained: true,
+        })
     }
 
     /// Returns whether bytes may be pushed: none were pushed since `next` or `next_into` last

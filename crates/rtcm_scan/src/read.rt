@@ -61,9 +61,7 @@ impl Framer {
         ensures reader { CountsReads result reader.old reader.new (length buffer.old) }
         ensures same { IsReadingOn S.can_take sink.new self.old self.new (length buffer.old) (length buffer.new) }
     {
-        if let Err(fault) = sink.send(out) {
-            return Err(StreamFault::Sink(fault));
-        }
+        sink.send(out).map_err(StreamFault::Sink)?;
         loop {
             let Ok(n) = self.read_piece(reader, buffer) else {
                 return Err(StreamFault::Read);
@@ -108,9 +106,6 @@ impl Framer {
     {
         let mut frame = Frame::new();
         self.read_pieces(reader, buffer, &mut frame, sink, out)?;
-        match self.finish(sink, out) {
-            Ok(()) => Ok(()),
-            Err(fault) => Err(StreamFault::Sink(fault)),
-        }
+        self.finish(sink, out).map_err(StreamFault::Sink)
     }
 }

@@ -1,11 +1,12 @@
 use Rattle.rtcm_scan.proofs.MomentLemmas.{counts_new, drained_new, counted_new}
+use Rattle.rtcm_scan.proofs.PassingLemmas.{wrapped}
 use Rattle.rtcm_scan.proofs.framer.Framer.new.Goals as goal
 
-pub returns-in-Ok-clause-counts : goal.returns-in-Ok-clause-counts
-returns-in-Ok-clause-counts c = counts_new c.args.limit c.new-in-Ok.result.count c.in-Ok.window c.if-limit-gt-MOST_BYTES.false c.in-Ok.ensures c.new-in-Ok.ensures.taken.count
+pub returns-clause-counts : goal.returns-clause-counts
+returns-clause-counts c = counts_new c.args.limit c.new-2.result.count c.in_ok-window.window c.if-limit-gt-MOST_BYTES.false (wrapped _ _ c.new.result _ _ c.new.ensures c.map_err.ensures.cases c.in_ok-window.was) c.new-2.ensures.taken.count
 
-pub returns-in-Ok-clause-drained : goal.returns-in-Ok-clause-drained
-returns-in-Ok-clause-drained c = drained_new c.args.limit c.new-in-Ok.result.count c.in-Ok.window c.in-Ok.ensures
+pub returns-clause-drained : goal.returns-clause-drained
+returns-clause-drained c = drained_new c.args.limit c.new-2.result.count c.in_ok-window.window (wrapped _ _ c.new.result _ _ c.new.ensures c.map_err.ensures.cases c.in_ok-window.was)
 
-pub returns-in-Ok-clause-counted : goal.returns-in-Ok-clause-counted
-returns-in-Ok-clause-counted c = counted_new c.args.limit c.new-in-Ok.result.count c.in-Ok.window c.in-Ok.ensures
+pub returns-clause-counted : goal.returns-clause-counted
+returns-clause-counted c = counted_new c.args.limit c.new-2.result.count c.in_ok-window.window (wrapped _ _ c.new.result _ _ c.new.ensures c.map_err.ensures.cases c.in_ok-window.was)

@@ -1,18 +1,23 @@
 -- What was read so far was fed, so the framer, the sink and its output are those of these bytes; the loop ends at a
 -- fault, or when the reader has no byte.
-use Rattle.rtcm_scan.proofs.Names.{◌∙◌, arith, refl, take}
+use Rattle.rtcm_scan.proofs.Names.{◌∙◌, arith, refl, take, length, BreaksAfter}
 use Rattle.std.proofs.lemmas.Result.{err_from_is_err_and}
+use Rattle.rtcm_scan.proofs.PassingLemmas.{wrapped, unwrapped}
 use Rattle.rtcm_scan.proofs.ReadLemmas.{reading_more, at_each, reads_none, reads_more, limit_more, breaks_more, breaks_first}
 use Rattle.rtcm_scan.proofs.framer.Framer.read_pieces.Goals as goal
 
-pub returns-in-Err-clause-fault : goal.returns-in-Err-clause-fault
-returns-in-Err-clause-fault g c = breaks_first g.S.FrameSink.took g.S.FrameSink.broke c.args.sink.now c.args.out.now c.send.new.out c.in-Err.ensures.part
+pub returns-in_err-map_err-clause-fault : goal.returns-in_err-map_err-clause-fault
+returns-in_err-map_err-clause-fault g c =
+    let left = g.R.Read.remaining c.args.reader.now.inner in
+    let part : BreaksAfter g.S.FrameSink.took g.S.FrameSink.broke c.args.self.now c.args.sink.now c.args.out.now c.args.self.now c.args.sink.now c.send.new.out (length c.args.buffer.now) left left =
+    breaks_first g.S.FrameSink.took g.S.FrameSink.broke c.args.sink.now c.args.out.now c.send.new.out (unwrapped _ c.send.result _ _ c.send.ensures.part c.map_err.ensures.cases c.in_err-map_err.was) in
+    grind (arith, part, c.map_err.ensures.cases, c.in_err-map_err.was, c.from_residual.ensures)
 
 pub loop-n-init : goal.loop-n-init
 loop-n-init g c = record {
-  came = reads_none g.S.FrameSink.took g.S.FrameSink.broke c.args.self.now c.args.sink.now c.args.out.now c.send.new.out (g.R.Read.remaining c.args.reader.now.inner) c.in_default.ensures.whole;
+  came = reads_none g.S.FrameSink.took g.S.FrameSink.broke c.args.self.now c.args.sink.now c.args.out.now c.send.new.out (g.R.Read.remaining c.args.reader.now.inner) (wrapped _ (λ _. _) c.send.result _ _ c.send.ensures.whole c.map_err.ensures.cases c.in_ok-map_err.was);
   same = record { can = c.requires.can; limit = refl; ended = refl; some = λ h. h; size = refl };
-  sent = c.in_default.ensures.sent;
+  sent = wrapped _ (λ _. _) c.send.result _ _ c.send.ensures.sent c.map_err.ensures.cases c.in_ok-map_err.was;
   reader = refl;
   widest = omega arith;
 }
@@ -20,7 +25,7 @@ loop-n-init g c = record {
 pub returns-in_err-feed-clause-fault : goal.returns-in_err-feed-clause-fault
 returns-in_err-feed-clause-fault g c =
     let i = c.loop-n.invariant in
-    let error = err_from_is_err_and c.from_residual.result c.from_residual.ensures.1 in
+    let error = err_from_is_err_and c.from_residual-in_err-feed.result c.from_residual-in_err-feed.ensures.1 in
     rw (error.1, error.2) (at_each c.in_err-feed.field-0.0 (λ a. absurd a)
     (limit_more g.S.FrameSink.took g.S.FrameSink.broke _ i.same i.came c.in-Ok.ensures.piece c.feed.ensures.same)
     (breaks_more g.S.FrameSink.took g.S.FrameSink.broke (c.requires.going, c.read_piece.ensures.size) i.same i.came c.in-Ok.ensures.piece c.feed.ensures.same) c.in_err-feed.ensures.fault)
