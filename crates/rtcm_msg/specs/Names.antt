@@ -49,7 +49,7 @@ pub use Rattle.rtcm_msg.specs.declared.entry.Entry.{Entry}
 pub use Rattle.rtcm_msg.specs.declared.fault.MsgFault.{MsgFault}
 pub use Rattle.rtcm_msg.specs.declared.fault.MsgFault.TheVariants.{BadTime, Short, TooManyCells}
 pub use Rattle.rtcm_msg.specs.declared.header.MsmHeader.{MsmHeader}
-pub use Rattle.rtcm_msg.specs.declared.last_bits.LastBits.{LastBits}
+pub use Rattle.rtcm_msg.specs.declared.data.LastBits.{LastBits}
 pub use Rattle.rtcm_msg.specs.declared.message.Message.{Message}
 pub use Rattle.rtcm_msg.specs.declared.message.Message.TheVariants.{Msm4, Msm5, Msm6, Msm7, Other, Station}
 pub use Rattle.rtcm_msg.specs.declared.pairs.Pair.{Pair}

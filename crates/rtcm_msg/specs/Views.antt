@@ -7,7 +7,7 @@ use Rattle.rtcm_msg.specs.declared.view.Form.{Form}
 use Rattle.rtcm_msg.specs.declared.view.Form.TheVariants as forms
 use Rattle.rtcm_msg.specs.declared.view.Data.{Data}
 use Rattle.rtcm_msg.specs.declared.view.Data.TheVariants as datas
-use Rattle.rtcm_msg.specs.declared.last_bits.LastBits.{LastBits}
+use Rattle.rtcm_msg.specs.declared.data.LastBits.{LastBits}
 use Rattle.rtcm_msg.specs.LastBits.{AreLast}
 use Rattle.rtcm_msg.specs.Rows.{rows_at}
 use Rattle.rtcm_bits.specs.Bits.{bits_of}

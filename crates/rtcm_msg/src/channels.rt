@@ -5,7 +5,7 @@ ghost use Rattle.rtcm_msg.specs.Views.{formed};
 ghost use Rattle.rtcm_msg.specs.Channels as channels;
 
 use crate::field::byte_at;
-use crate::masks::SATELLITE_MASK_BITS;
+use crate::header::SATELLITE_MASK_BITS;
 use crate::pairs::split_first;
 use crate::view::MsmView;
 use gnss_system::System;

@@ -14,14 +14,13 @@ ghost use Rattle.rtcm_msg.specs.Forms.{IsSatelliteData, IsCellData, satellite_nu
 ghost use Rattle.rtcm_msg.specs.Forms.{cell_number, cell_data, fine_range, fine_phase, has_range, precision};
 ghost use Rattle.rtcm_msg.specs.FormLaws as laws;
 ghost use Rattle.rtcm_msg.specs.Entries.{IsEntry};
+ghost use Rattle.rtcm_msg.specs.Fractions.{range_joined, scaled};
 ghost use Rattle.rtcm_msg.specs.declared.fault.Field.{Field};
 ghost use Rattle.rtcm_msg.specs.declared.view.Form.{Form};
 
 use crate::entry::Entry;
 use crate::fault::{Field, first_of};
 use crate::field::{short_to, signed_to};
-use crate::fractions::{range_joined, scaled};
-use crate::last_bits::LastBits;
 use crate::pairs::Pair;
 use crate::view::Form;
 
@@ -65,9 +64,69 @@ pub const INVALID_ROUGH_RATE: i16 = -8192;
 /// The value of DF404 for an invalid fine phase range rate, and of a form without it.
 pub const INVALID_FINE_RATE: i16 = -16384;
 
-// ---- reading
+/// The values of an invalid fine pseudorange, DF400 and DF405.
+const INVALID_COARSE_RANGE: i32 = -16384;
+
+const INVALID_FINE_RANGE: i32 = -524288;
+
+/// The values of an invalid fine phase range, DF401 and DF406.
+const INVALID_COARSE_PHASE: i32 = -2097152;
+
+const INVALID_FINE_PHASE: i32 = -8388608;
+
+/// Where the data of a message's cells are. Its fields are found by their last bits: the field of
+/// cell `i` ends `i` times its width after the one of the first cell.
+#[derive(Clone, Copy)]
+pub(crate) struct LastBits {
+    /// The number of cells.
+    pub count: usize,
+    /// The first bit of the data.
+    pub place: usize,
+    /// The last bit of the first cell's fine pseudorange.
+    pub range: usize,
+    /// The last bit of its fine phase range.
+    pub phase: usize,
+    /// The last bit of its lock time indicator.
+    pub lock: usize,
+    /// The bit of its half-cycle ambiguity indicator.
+    pub half_cycle: usize,
+    /// The last bit of its carrier to noise ratio.
+    pub strength: usize,
+    /// The last bit of its fine phase range rate, if the form has one.
+    pub rate: usize,
+}
 
 impl Form {
+    // ---- reading
+
+    /// Returns the last bits of the fields of `count` cells whose data begin at bit `place`.
+    pub(crate) fn last_bits(self, count: usize, place: usize) -> LastBits
+        requires few { count ≤ most_pairs }
+        requires small { place ≤ 8 * longest_message }
+        ensures count { result.count ≡ count }
+        ensures place { result.place ≡ place }
+        ensures last { AreLast (forms.cell_widths self) result }
+    {
+        let (range, phase, lock, strength) = match self {
+            Form::Msm4 | Form::Msm5 => (15, 22, 4, 6),
+            Form::Msm6 | Form::Msm7 => (20, 24, 10, 10),
+        };
+        let phases = place + count * range;
+        let locks = phases + count * phase;
+        let half_cycle = locks + count * lock;
+        let strengths = half_cycle + count;
+        LastBits {
+            count,
+            place,
+            range: place + range - 1,
+            phase: phases + phase - 1,
+            lock: locks + lock - 1,
+            half_cycle,
+            strength: strengths + strength - 1,
+            rate: strengths + count * strength + 14,
+        }
+    }
+
     /// Reads satellite `i` of `count` satellites whose data begin at bit `place`.
     #[inline(always)]
     pub(crate) fn satellite_in(
@@ -154,103 +213,9 @@ impl Form {
             }
         }
     }
-}
 
-// ---- faults
+    // ---- faults
 
-/// The fields of a satellite or of a cell, which may not fit their bits.
-pub(crate) trait HasFields {
-    /// Whether a field does not fit its bits.
-    ghost is_bad: { Form → Field → Self → Bool };
-
-    /// Each field fits its bits.
-    ghost fit: { Form → Self → Type 0 };
-
-    /// The fields in one number, the first field in the most significant bits.
-    ghost number: { Form → Self → ℕ };
-
-    /// The sum of the widths.
-    ghost width: { Form → ℕ };
-
-    /// Returns whether a field does not fit its bits.
-    fn is_bad(&self, form: Form, field: Field) -> bool
-        ensures { result ≡ is_bad form field self.now };
-
-    /// Returns the fields in one number, the first field in the most significant bits.
-    fn number(&self, form: Form) -> u128
-        requires { fit form self.now }
-        ensures { result ≡ number form self.now };
-
-    ghost number_fits: { (f : Form) → (x : Self) → fit f x → number f x < 2 ^ width f };
-}
-
-impl HasFields for Satellite {
-    ghost is_bad = { forms.is_bad_satellite };
-
-    ghost fit = { IsSatelliteData };
-
-    ghost number = { satellite_number };
-
-    ghost width = { λ f. total_width (forms.satellite_widths f) };
-
-    fn number(&self, form: Form) -> u128 {
-        form.satellite_number(self) as u128
-    }
-
-    ghost number_fits = { laws.satellite_fits };
-
-    // The first test never succeeds. It brings the bound of a `u8` into the proof.
-    fn is_bad(&self, form: Form, field: Field) -> bool {
-        let rates = form.has_rates();
-        match field {
-            Field::RangeWhole => self.whole as u16 >= 256,
-            Field::Extended => self.extended >= if rates { 16 } else { 1 },
-            Field::RangeFraction => self.fraction >= 1024,
-            _ if rates => self.rate < INVALID_ROUGH_RATE || self.rate >= 8192,
-            _ => self.rate != INVALID_ROUGH_RATE,
-        }
-    }
-}
-
-impl HasFields for Cell {
-    ghost is_bad = { forms.is_bad_cell };
-
-    ghost fit = { IsCellData };
-
-    ghost number = { cell_number };
-
-    ghost width = { λ f. total_width (forms.cell_widths f) };
-
-    fn number(&self, form: Form) -> u128 {
-        form.cell_number(self)
-    }
-
-    ghost number_fits = { laws.cell_fits };
-
-    fn is_bad(&self, form: Form, field: Field) -> bool {
-        let fine = form.is_fine();
-        match field {
-            Field::FineRange if fine => self.range < INVALID_FINE_RANGE || self.range >= 524288,
-            Field::FineRange => self.range < INVALID_COARSE_RANGE || self.range >= 16384,
-            Field::FinePhase if fine => self.phase < INVALID_FINE_PHASE || self.phase >= 8388608,
-            Field::FinePhase => self.phase < INVALID_COARSE_PHASE || self.phase >= 2097152,
-            Field::Lock => self.lock >= if fine { 1024 } else { 16 },
-            Field::Strength => self.strength >= if fine { 1024 } else { 64 },
-            _ if form.has_rates() => self.rate < INVALID_FINE_RATE || self.rate >= 16384,
-            _ => self.rate != INVALID_FINE_RATE,
-        }
-    }
-}
-
-/// Returns whether a field does not fit its bits in some of the data, with the field.
-fn tested<T: HasFields>(form: Form, items: &[T], field: Field) -> (bool, Field)
-    ensures bad { result.0 ≡ list_any (T.is_bad form field) items.now }
-    ensures field { result.1 ≡ field }
-{
-    (items.iter().any(|item| item.is_bad(form, field)), field)
-}
-
-impl Form {
     /// Returns the first field, in the order of the layout, that does not fit its bits in some
     /// satellite.
     pub(crate) fn satellite_fault(self, satellites: &[Satellite]) -> Option<Field>
@@ -279,21 +244,9 @@ impl Form {
             tested(self, cells, Field::FineRate),
         ])
     }
-}
 
-// ---- meaning
+    // ---- meaning
 
-/// The values of an invalid fine pseudorange, DF400 and DF405.
-const INVALID_COARSE_RANGE: i32 = -16384;
-
-const INVALID_FINE_RANGE: i32 = -524288;
-
-/// The values of an invalid fine phase range, DF401 and DF406.
-const INVALID_COARSE_PHASE: i32 = -2097152;
-
-const INVALID_FINE_PHASE: i32 = -8388608;
-
-impl Form {
     /// Returns whether the cell has a valid fine pseudorange.
     #[inline(always)]
     pub(crate) fn has_fine_range(self, cell: &Cell) -> bool
@@ -392,6 +345,33 @@ impl Form {
     }
 }
 
+/// Returns a fine part in 2^-31 ms: `number` units of `unit`, or `None` for the invalid number.
+fn scaled(number: i32, invalid: i32, unit: u32) -> Option<i64>
+    requires few { unit ≤ 128 }
+    ensures value { result ≡ scaled invalid unit number }
+    ensures fits { unsigned_abs number * unit ≤ 2 ^ 38 → IfSome result (λ z. unsigned_abs z ≤ 2 ^ 38) }
+    ensures small { unsigned_abs number * unit ≤ 2 ^ 26 → IfSome result (λ z. unsigned_abs z ≤ 2 ^ 26) }
+{
+    (number != invalid).then_some(number as i64 * unit as i64)
+}
+
+/// The value of DF397 for an invalid rough range.
+pub(crate) const INVALID_RANGE: u8 = 255;
+
+/// Returns the sum of the rough range and a fine part in 2^-31 ms: `whole` milliseconds (DF397) and
+/// `fraction` / 1024 ms (DF398). `None` if either is invalid.
+fn range_joined(whole: u8, fraction: u16, fine: Option<i64>) -> Option<i64>
+    requires fits { ForSome fine (λ z. unsigned_abs z ≤ 2 ^ 38) }
+    ensures value { result ≡ range_joined whole fraction fine }
+    ensures bound { fraction < 2 ^ 10 → ForSome fine (λ z. unsigned_abs z ≤ 2 ^ 26)
+        → IfSome result (λ r. unsigned_abs r ≤ 2 ^ 40) }
+{
+    if whole == INVALID_RANGE {
+        return None;
+    }
+    Some((whole as u64 * (1 << 31) + fraction as u64 * (1 << 21)) as i64 + fine?)
+}
+
 /// Returns the phase range rate in 0.0001 m/s: the sum of the rough and the fine rate. `None` if
 /// either is invalid, and in MSM4 and MSM6.
 pub(crate) fn rate(satellite: &Satellite, cell: &Cell) -> Option<i32>
@@ -403,4 +383,96 @@ pub(crate) fn rate(satellite: &Satellite, cell: &Cell) -> Option<i32>
         return None;
     }
     Some(satellite.rate as i32 * 10000 + cell.rate as i32)
+}
+
+/// The fields of a satellite or of a cell, which may not fit their bits.
+pub(crate) trait HasFields {
+    /// Whether a field does not fit its bits.
+    ghost is_bad: { Form → Field → Self → Bool };
+
+    /// Each field fits its bits.
+    ghost fit: { Form → Self → Type 0 };
+
+    /// The fields in one number, the first field in the most significant bits.
+    ghost number: { Form → Self → ℕ };
+
+    /// The sum of the widths.
+    ghost width: { Form → ℕ };
+
+    /// Returns whether a field does not fit its bits.
+    fn is_bad(&self, form: Form, field: Field) -> bool
+        ensures { result ≡ is_bad form field self.now };
+
+    /// Returns the fields in one number, the first field in the most significant bits.
+    fn number(&self, form: Form) -> u128
+        requires { fit form self.now }
+        ensures { result ≡ number form self.now };
+
+    ghost number_fits: { (f : Form) → (x : Self) → fit f x → number f x < 2 ^ width f };
+}
+
+impl HasFields for Satellite {
+    ghost is_bad = { forms.is_bad_satellite };
+
+    ghost fit = { IsSatelliteData };
+
+    ghost number = { satellite_number };
+
+    ghost width = { λ f. total_width (forms.satellite_widths f) };
+
+    fn number(&self, form: Form) -> u128 {
+        form.satellite_number(self) as u128
+    }
+
+    ghost number_fits = { laws.satellite_fits };
+
+    // The first test never succeeds. It brings the bound of a `u8` into the proof.
+    fn is_bad(&self, form: Form, field: Field) -> bool {
+        let rates = form.has_rates();
+        match field {
+            Field::RangeWhole => self.whole as u16 >= 256,
+            Field::Extended => self.extended >= if rates { 16 } else { 1 },
+            Field::RangeFraction => self.fraction >= 1024,
+            _ if rates => self.rate < INVALID_ROUGH_RATE || self.rate >= 8192,
+            _ => self.rate != INVALID_ROUGH_RATE,
+        }
+    }
+}
+
+impl HasFields for Cell {
+    ghost is_bad = { forms.is_bad_cell };
+
+    ghost fit = { IsCellData };
+
+    ghost number = { cell_number };
+
+    ghost width = { λ f. total_width (forms.cell_widths f) };
+
+    fn number(&self, form: Form) -> u128 {
+        form.cell_number(self)
+    }
+
+    ghost number_fits = { laws.cell_fits };
+
+    fn is_bad(&self, form: Form, field: Field) -> bool {
+        let fine = form.is_fine();
+        match field {
+            Field::FineRange if fine => self.range < INVALID_FINE_RANGE || self.range >= 524288,
+            Field::FineRange => self.range < INVALID_COARSE_RANGE || self.range >= 16384,
+            Field::FinePhase if fine => self.phase < INVALID_FINE_PHASE || self.phase >= 8388608,
+            Field::FinePhase => self.phase < INVALID_COARSE_PHASE || self.phase >= 2097152,
+            Field::Lock => self.lock >= if fine { 1024 } else { 16 },
+            Field::Strength => self.strength >= if fine { 1024 } else { 64 },
+            _ if form.has_rates() => self.rate < INVALID_FINE_RATE || self.rate >= 16384,
+            _ => self.rate != INVALID_FINE_RATE,
+        }
+    }
+}
+
+/// Returns whether a field does not fit its bits in some of the data, with the field.
+fn tested<T: HasFields>(form: Form, items: &[T], field: Field) -> (bool, Field)
+    ensures bad { result.0 ≡ list_any (T.is_bad form field) items.now }
+    ensures field { result.1 ≡ field }
+{
+    (items.iter().any(|item| item.is_bad(form, field)), field)
 }

@@ -5,7 +5,7 @@ ghost use Rattle.rtcm_msg.specs.Msm.{most_pairs, satellite_mask_bits, signal_mas
 ghost use Rattle.rtcm_msg.specs.Entries.{ids, chosen};
 ghost use Rattle.rtcm_msg.specs.Pairs.{pairs_left, ArePairs, AreAll, HasFirst, IndicesAreBelow, SplitsCells};
 
-use crate::masks::{Masks, SATELLITE_MASK_BITS, SIGNAL_MASK_BITS};
+use crate::header::{Masks, SATELLITE_MASK_BITS, SIGNAL_MASK_BITS};
 
 /// The satellite and the signal of a cell.
 #[derive(Clone, Copy)]

@@ -12,9 +12,9 @@ ghost use Rattle.rtcm_msg.specs.declared.pairs.Pair.{Pair};
 ghost use Rattle.rtcm_msg.specs.ValueCounts.{has_listed_value, value_count, has_id};
 ghost use Rattle.rtcm_msg.specs.ValueCounts.{entries_left, AreCells, AreAtMost, AddsCounts};
 
-use crate::fractions::INVALID_RANGE;
+use crate::data::INVALID_RANGE;
 use crate::grid::{Grid, Grid4, Grid5, Grid6, Grid7};
-use crate::masks::SIGNAL_MASK_BITS;
+use crate::header::SIGNAL_MASK_BITS;
 use crate::pairs::{CellsLeft, Pair, split_first, split_signal, with_signals};
 use crate::view::{Form, MsmView};
 use std::marker::Model;

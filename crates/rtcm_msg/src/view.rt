@@ -15,14 +15,12 @@ ghost use Rattle.rtcm_msg.specs.Entries.{IsEntry, entries, entry_in};
 ghost use Rattle.rtcm_msg.specs.Encoding.{IsMessage};
 ghost use Rattle.rtcm_msg.specs.Views as views;
 
-use crate::data::{Cell, Satellite};
+use crate::data::{Cell, LastBits, Satellite};
 use crate::entry::{Entry, LockField};
 use crate::fault::MsgFault;
 use crate::field::end_of_fields;
 use crate::grid::{Grid, Grid4, Grid5, Grid6, Grid7};
-use crate::header::MsmHeader;
-use crate::last_bits::LastBits;
-use crate::masks::{Masks, read_head};
+use crate::header::{Masks, MsmHeader, read_head};
 use crate::message::{Message, read_set};
 use crate::msm::msm_of;
 use crate::number::{Kind, MsmSet, message_number};

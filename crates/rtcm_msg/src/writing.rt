@@ -8,8 +8,7 @@ ghost use Rattle.rtcm_msg.specs.Station.{InRange, station_fields};
 ghost use Rattle.rtcm_msg.specs.Msm.{header_fields, mask_fields};
 ghost use Rattle.rtcm_msg.specs.Packed.{columns, total_width};
 
-use crate::header::MsmHeader;
-use crate::masks::{Masks, SATELLITE_MASK_BITS, SIGNAL_MASK_BITS};
+use crate::header::{Masks, MsmHeader, SATELLITE_MASK_BITS, SIGNAL_MASK_BITS};
 use crate::station::StationParts;
 use rtcm_bits::{BitWriter, raw_of};
 

@@ -5,7 +5,7 @@ use Rattle.gnss_system.specs.declared.system.System.{System}
 use Rattle.rtcm_msg.specs.Names.{is_time}
 use Rattle.rtcm_msg.proofs.HeadLaws.{time_missing, time_late, head_missing, header_whole, masks_many, cells_missing, masks_whole}
 use Rattle.rtcm_msg.proofs.ViewLaws.{no_header, no_masks}
-use Rattle.rtcm_msg.proofs.masks.read_head.Goals as goal
+use Rattle.rtcm_msg.proofs.header.read_head.Goals as goal
 
 -- The test of the time, by the bits.
 tested : (g : System) (t u : ℕ) (b d : Bool) → t ≡ u → b ≡ is_time g t → b ≡ d → is_time g u ≡ d

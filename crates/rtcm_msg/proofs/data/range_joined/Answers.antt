@@ -1,6 +1,6 @@
 use Rattle.std.proofs.Common.{ℕ, ℤ, pos, ◌≡◌, ◌+◌, ◌*◌, ◌^◌, ◌<◌, ◌≤◌, ◌≢◌, ◌+ℤ◌, unsigned_abs, Some, ap, arith, w64, to_z, of_z, FitsSigned, false, ◌==◌}
 use Rattle.std.proofs.lemmas.Int.{ints}
-use Rattle.rtcm_msg.proofs.fractions.range_joined.Goals as goal
+use Rattle.rtcm_msg.proofs.data.range_joined.Goals as goal
 
 abbrev rough : ℕ → ℕ → ℕ
 rough w f = w * 2147483648 + f * 2097152
