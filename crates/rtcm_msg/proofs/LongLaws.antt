@@ -10,7 +10,6 @@ use Rattle.rtcm_msg.specs.Encoding.{number_of}
 use Rattle.rtcm_msg.proofs.FieldLaws.{past_none, field_at}
 use Rattle.rtcm_msg.proofs.FaultLaws.{total-append, total-repeated, pair_count_of}
 use Rattle.rtcm_msg.proofs.MessageLaws.{read_again, message_found, message_fault, message_only_fault, and_all, not_true, some_none}
-use Rattle.rtcm_msg.specs.declared.message.Message.TheVariants as messages
 use Rattle.rtcm_msg.specs.declared.number.Kind.TheVariants as kinds
 use Rattle.rtcm_msg.specs.FormLaws.{narrow}
 use Rattle.rtcm_msg.proofs.SetLaws.{by_set, message_known, message_other}

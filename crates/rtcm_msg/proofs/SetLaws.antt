@@ -10,7 +10,6 @@ use Rattle.rtcm_msg.proofs.Binds.{bind_ok, of_read, ok_err}
 use Rattle.rtcm_msg.proofs.MsmLaws.{msm_consumed}
 use Rattle.rtcm_msg.proofs.MessageLaws.{message_there, message_none, message_found, other_is}
 use Rattle.rtcm_msg.specs.declared.message.Message.TheVariants as messages
-use Rattle.rtcm_msg.specs.declared.view.Form.TheVariants as forms
 use Rattle.rtcm_msg.specs.declared.number.Kind.TheVariants as kinds
 
 -- A kind stays, or its messages aren't decoded.

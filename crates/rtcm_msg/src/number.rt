@@ -29,13 +29,7 @@ pub(crate) fn message_number(form: Form, system: System) -> u16
         System::Qzss => 111,
         System::Sbas => 110,
     };
-    let digit = match form {
-        Form::Msm4 => 4,
-        Form::Msm5 => 5,
-        Form::Msm6 => 6,
-        Form::Msm7 => 7,
-    };
-    tens * 10 + digit
+    tens * 10 + form as u16
 }
 
 /// Returns the form whose message numbers end with a digit.
@@ -66,19 +60,6 @@ fn system_of_tens(tens: u16) -> Option<System>
     }
 }
 
-/// Returns what a message of this number contains.
-fn kind_of(number: u16) -> Kind
-    ensures { result ≡ numbers.kind_of number }
-{
-    if number == 1005 || number == 1006 {
-        return Kind::Station(number == 1006);
-    }
-    match (form_of_digit(number % 10), system_of_tens(number / 10)) {
-        (Some(form), Some(system)) => Kind::Msm(form, system),
-        _ => Kind::Other,
-    }
-}
-
 /// The forms of the MSMs that are decoded.
 #[derive(Clone, Copy, PartialEq)]
 pub enum Forms {
@@ -93,10 +74,7 @@ impl Forms {
     pub fn have(self, form: Form) -> bool
         ensures { result ≡ numbers.have_form self form }
     {
-        match self {
-            Forms::FourAndSeven => form.is_fine() == form.has_rates(),
-            Forms::All => true,
-        }
+        matches!(self, Forms::All) || form.is_fine() == form.has_rates()
     }
 }
 
@@ -137,11 +115,14 @@ impl MsmSet {
     pub(crate) fn kind(&self, number: u16) -> Kind
         ensures { result ≡ numbers.kind_with self.now number }
     {
-        match kind_of(number) {
-            Kind::Msm(form, system) if !(*self.systems.of(system) && self.forms.have(form)) => {
-                Kind::Other
+        if number == 1005 || number == 1006 {
+            return Kind::Station(number == 1006);
+        }
+        match (form_of_digit(number % 10), system_of_tens(number / 10)) {
+            (Some(form), Some(system)) if *self.systems.of(system) && self.forms.have(form) => {
+                Kind::Msm(form, system)
             }
-            kind => kind,
+            _ => Kind::Other,
         }
     }
 }

@@ -30,17 +30,17 @@ use gnss_system::System;
 use rtcm_bits::{LONGEST_MESSAGE, number_at};
 use std::marker::Model;
 
-/// The layout and precision of an MSM.
+/// The layout and precision of an MSM. Its number is the last digit of the message numbers.
 #[derive(Clone, Copy, PartialEq)]
 pub enum Form {
     /// MSM4, as 1074 of GPS.
-    Msm4,
+    Msm4 = 4,
     /// MSM5, as 1075: the cells of MSM4 with phase range rates.
-    Msm5,
+    Msm5 = 5,
     /// MSM6, as 1076: the cells of MSM7 without phase range rates.
-    Msm6,
+    Msm6 = 6,
     /// MSM7, as 1077.
-    Msm7,
+    Msm7 = 7,
 }
 
 impl Form {
