@@ -1,9 +1,9 @@
 //! Values of MSMs, with the fields of each satellite and of each cell packed in one number.
 ghost use Rattle.std.specs.Prelude.{◌≡◌, ◌<◌, ◌^◌, ◌++◌, ◌≤◌, All, map, length, slice_index, count_ones};
-ghost use Rattle.std.specs.Prelude.{Some, None, IfNone, IfOk, IfErr};
+ghost use Rattle.std.specs.Prelude.{Some, None, IfOk, IfErr};
 ghost use Rattle.rtcm_msg.specs.Msm.{IsHeader, msm_bits, msm_of_parts, IsValue, satellite_mask_bits, most_pairs};
 ghost use Rattle.rtcm_msg.specs.Packed.{total_width};
-ghost use Rattle.rtcm_msg.specs.Refusals.{data_refusal, msm_refusal};
+ghost use Rattle.rtcm_msg.specs.Refusals.{data_refusal};
 ghost use Rattle.rtcm_msg.specs.Columns.{EachBelow};
 ghost use Rattle.rtcm_msg.specs.Forms.{satellite_widths, cell_widths, IsSatelliteData, IsCellData};
 ghost use Rattle.rtcm_msg.specs.Forms.{satellite_number, satellite_data, cell_number, cell_data};
@@ -11,7 +11,7 @@ ghost use Rattle.rtcm_msg.specs.Forms.{satellite_fault, cell_fault};
 ghost use Rattle.rtcm_msg.specs.Numbers.{message_number};
 
 use crate::data::{Cell, HasFields, Satellite};
-use crate::fault::{Field, ValueFault};
+use crate::fault::ValueFault;
 use crate::grid::Grid;
 use crate::header::{MOST_PAIRS, Masks, MsmHeader, header_fault, is_time};
 use crate::number::message_number;
@@ -75,26 +75,26 @@ impl<G: Grid> Msm<G> {
         ensures made { IfOk result (λ m. m ≡ msm_of_parts system header masks
             (map (satellite_number G.form) satellites.now) (map (cell_number G.form) cells.now)) }
     {
+        if !is_time(system, header.time) {
+            return Err(ValueFault::BadTime);
+        }
+        let counts = (masks.satellites().count_ones(), masks.cells().count_ones());
+        if satellites.len() != counts.0 as usize || cells.len() != counts.1 as usize {
+            return Err(ValueFault::CellCount);
+        }
         let form = G::form();
         let faults = (form.satellite_fault(satellites), form.cell_fault(cells));
-        match msm_fault(
-            system,
-            &header,
-            &masks,
-            satellites.len(),
-            cells.len(),
-            faults,
-        ) {
-            Some(fault) => Err(fault),
-            None => Ok(Msm {
-                system,
-                header,
-                masks,
-                satellites: pack(form, satellites),
-                cells: pack(form, cells),
-                grid: PhantomData,
-            }),
+        if let Some(field) = header_fault(&header).or(faults.0).or(faults.1) {
+            return Err(ValueFault::OutOfRange(field));
         }
+        Ok(Msm {
+            system,
+            header,
+            masks,
+            satellites: pack(form, satellites),
+            cells: pack(form, cells),
+            grid: PhantomData,
+        })
     }
 
     /// Returns the satellite system.
@@ -164,56 +164,6 @@ impl<G: Grid> Msm<G> {
     }
 }
 
-/// Returns the fault of a header, of numbers of satellites and cells that aren't those in the
-/// masks, or of the first field out of range. The last argument has the first such field of the
-/// satellites and of the cells.
-fn msm_fault(
-    system: System,
-    header: &MsmHeader,
-    masks: &Masks,
-    satellites: usize,
-    cells: usize,
-    faults: (Option<Field>, Option<Field>),
-) -> Option<ValueFault>
-    ensures value { result ≡ msm_refusal system header.now masks.now satellites cells faults.0 faults.1 }
-    ensures none { IfNone result (IsHeader system header.now × (faults.0 ≡ None) × (faults.1 ≡ None)
-        × (satellites ≡ count_ones masks.now.satellites) × (cells ≡ count_ones masks.now.cells)) }
-{
-    if !is_time(system, header.time) {
-        return Some(ValueFault::BadTime);
-    }
-    let counts = (masks.satellites().count_ones(), masks.cells().count_ones());
-    if satellites != counts.0 as usize || cells != counts.1 as usize {
-        return Some(ValueFault::CellCount);
-    }
-    let field = header_fault(header).or(faults.0).or(faults.1);
-    field.map(|field| ValueFault::OutOfRange(field))
-}
-
-/// Returns the satellites of a view, the fields of each in one number.
-fn satellites_of(view: &MsmView<'_>) -> ArrayVec<u128, MOST_PAIRS>
-    ensures { result.items ≡ view.now.msm.satellites }
-{
-    let form = view.form();
-    let mut satellites = ArrayVec::new();
-    for i in 0..view.satellites() {
-        satellites.push(form.satellite_number(&view.satellite(form, i)) as u128);
-    }
-    satellites
-}
-
-/// Returns the cells of a view, the fields of each in one number.
-fn cells_of(view: &MsmView<'_>) -> ArrayVec<u128, MOST_PAIRS>
-    ensures { result.items ≡ view.now.msm.cells }
-{
-    let form = view.form();
-    let mut cells = ArrayVec::new();
-    for i in 0..view.cells() {
-        cells.push(form.cell_number(&view.cell(form, i)));
-    }
-    cells
-}
-
 /// Returns a view of the message.
 pub(crate) fn view_of<G: Grid>(msm: &Msm<G>) -> MsmView<'_>
     ensures { result ≡ record { form = G.form; msm = msm.now } }
@@ -234,14 +184,21 @@ pub(crate) fn msm_of<G: Grid>(view: &MsmView<'_>) -> Msm<G>
     requires { G.form ≡ view.now.form }
     ensures { result ≡ view.now.msm }
 {
-    // Brings the invariant of the view into the proof.
-    let _ = view.form();
+    let form = view.form();
+    let mut satellites = ArrayVec::new();
+    for i in 0..view.satellites() {
+        satellites.push(form.satellite_number(&view.satellite(form, i)) as u128);
+    }
+    let mut cells = ArrayVec::new();
+    for i in 0..view.cells() {
+        cells.push(form.cell_number(&view.cell(form, i)));
+    }
     Msm {
         system: view.system,
         header: view.header(),
         masks: view.masks(),
-        satellites: satellites_of(view),
-        cells: cells_of(view),
+        satellites,
+        cells,
         grid: PhantomData,
     }
 }

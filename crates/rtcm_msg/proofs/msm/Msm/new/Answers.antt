@@ -1,8 +1,37 @@
-use Rattle.std.proofs.Common.{rules}
+use Rattle.std.proofs.Common.{ℕ, ◌≡◌, ◌∙◌, true, Option, count_ones, length, ap, arith}
+use Rattle.std.specs.Option.{option_or}
+use Rattle.gnss_system.specs.declared.system.System.{System}
+use Rattle.rtcm_msg.specs.Names.{Form, MasksValue, MsmHeader, is_time}
+use Rattle.rtcm_msg.specs.Forms.{satellite_fault, cell_fault}
+use Rattle.rtcm_msg.specs.Refusals.{header_fault, msm_refusal, out_of_range}
+use Rattle.rtcm_msg.specs.declared.fault.Field.{Field}
 use Rattle.rtcm_msg.proofs.msm.Msm.new.Goals as goal
 
-pub returns-in-Some-clause-refused : goal.returns-in-Some-clause-refused
-returns-in-Some-clause-refused g c = rw (← c.form-form.ensures) (search rules)
+chained : {h a b h' a' b' q r : Option Field} → h' ≡ h → a' ≡ a → b' ≡ b → q ≡ option_or h' a' → r ≡ option_or q b' → option_or (option_or h a) b ≡ r
+chained x y z e f = cc (x, y, z, e, f)
 
-pub returns-in-None-clause-accepted : goal.returns-in-None-clause-accepted
-returns-in-None-clause-accepted g c = rw (← c.form-form.ensures) (search rules)
+-- After the time and the numbers of satellites and cells only a field can be refused.
+by_field : (g : System) (h : MsmHeader) (s : MasksValue) (m n : ℕ) (a b r : Option Field) → is_time g h.time ≡ true → m ≡ count_ones s.satellites → n ≡ count_ones s.cells
+    → option_or (option_or (header_fault h) a) b ≡ r → msm_refusal g h s m n a b ≡ out_of_range r
+by_field g h s m n a b r time first second fields = whole ∙ ap out_of_range fields
+  where
+    whole : msm_refusal g h s m n a b ≡ out_of_range (option_or (option_or (header_fault h) a) b)
+    whole = grind (arith, time, first, second)
+
+pub returns-in-Some-clause-refused : goal.returns-in-Some-clause-refused
+returns-in-Some-clause-refused g c =
+    let time : is_time c.args.system c.args.header.time ≡ true = grind (arith, c.if-not-is_time.false, c.is_time.ensures) in
+    let first : length c.args.satellites.now ≡ count_ones c.args.masks.satellites = grind (arith, c.if-satellites-counts.false, c.satellites.ensures) in
+    let second : length c.args.cells.now ≡ count_ones c.args.masks.cells = grind (arith, c.if-cells-counts.false, c.cells.ensures.value) in
+    by_field c.args.system c.args.header c.args.masks _ _ _ _ _ time first second
+    (chained c.header_fault.ensures.first (c.satellite_fault.ensures.first ∙ ap (λ (f : Form). satellite_fault f c.args.satellites.now) c.form-form.ensures)
+    (c.cell_fault.ensures.first ∙ ap (λ (f : Form). cell_fault f c.args.cells.now) c.form-form.ensures) c.or.ensures c.or-2.ensures) ∙ ap out_of_range c.in-Some.is
+
+pub returns-clause-accepted : goal.returns-clause-accepted
+returns-clause-accepted g c =
+    let time : is_time c.args.system c.args.header.time ≡ true = grind (arith, c.if-not-is_time.false, c.is_time.ensures) in
+    let first : length c.args.satellites.now ≡ count_ones c.args.masks.satellites = grind (arith, c.if-satellites-counts.false, c.satellites.ensures) in
+    let second : length c.args.cells.now ≡ count_ones c.args.masks.cells = grind (arith, c.if-cells-counts.false, c.cells.ensures.value) in
+    by_field c.args.system c.args.header c.args.masks _ _ _ _ _ time first second
+    (chained c.header_fault.ensures.first (c.satellite_fault.ensures.first ∙ ap (λ (f : Form). satellite_fault f c.args.satellites.now) c.form-form.ensures)
+    (c.cell_fault.ensures.first ∙ ap (λ (f : Form). cell_fault f c.args.cells.now) c.form-form.ensures) c.or.ensures c.or-2.ensures) ∙ ap out_of_range c.in_default.is
