@@ -4,7 +4,6 @@ use Rattle.rtcm_msg.specs.Names.{FormedMsm, Form, MsmValue, formed, ids, message
 use Rattle.rtcm_msg.specs.Channels.{channels_by, channels_of, has_channels, sent_channels}
 use Rattle.rtcm_msg.specs.Forms.{extended_width, has_rates, satellite_data}
 use Rattle.rtcm_msg.specs.FormLaws.{satellite_in_range}
-use Rattle.rtcm_msg.specs.declared.view.Form.TheVariants as forms
 use Rattle.rtcm_msg.proofs.PairLaws.{ids_none}
 use Rattle.rtcm_msg.proofs.CountLaws.{ids_count}
 

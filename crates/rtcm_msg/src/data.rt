@@ -253,11 +253,7 @@ impl Form {
         requires { IsCellData self cell.now }
         ensures { result ≡ has_range self cell.now }
     {
-        if self.is_fine() {
-            cell.range != INVALID_FINE_RANGE
-        } else {
-            cell.range != INVALID_COARSE_RANGE
-        }
+        self.fine_range(cell).is_some()
     }
 
     /// Returns the fine pseudorange in 2^-31 ms, or `None` if it is invalid.
@@ -317,11 +313,8 @@ impl Form {
         ensures value { result ≡ forms.strength_of self cell.now }
         ensures bound { IsCellData self cell.now → IfSome result (λ s. s < 2 ^ 10) }
     {
-        if self.is_fine() {
-            (cell.strength != 0).then_some(cell.strength)
-        } else {
-            (cell.strength != 0).then_some(cell.strength * 16)
-        }
+        let unit = if self.is_fine() { 1 } else { 16 };
+        (cell.strength != 0).then_some(cell.strength * unit)
     }
 
     /// Returns the entry of a cell from its data and those of its satellite.

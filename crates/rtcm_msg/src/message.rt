@@ -89,10 +89,7 @@ impl Message {
             Message::Msm5(msm) => View::Msm(view_of(msm)),
             Message::Msm6(msm) => View::Msm(view_of(msm)),
             Message::Msm7(msm) => View::Msm(view_of(msm)),
-            Message::Other { number, set } => View::Other {
-                number: *number,
-                set: *set,
-            },
+            &Message::Other { number, set } => View::Other { number, set },
         }
     }
 

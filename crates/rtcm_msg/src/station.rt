@@ -174,7 +174,6 @@ pub(crate) fn view_station(bytes: &[u8], has_height: bool) -> Result<View<'_>, M
         (station_message_at has_height (cursor_at (bits_of bytes.now) 12)) }
 {
     end_of_fields(bytes, field_widths(has_height), 1, 12)?;
-    Ok(View::Station(Station {
-        parts: parts_in(bytes, has_height),
-    }))
+    let parts = parts_in(bytes, has_height);
+    Ok(View::Station(Station { parts }))
 }

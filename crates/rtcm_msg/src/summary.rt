@@ -29,15 +29,11 @@ impl<'a> View<'a> {
         ensures time { ForSome result.time (λ time.
             ForSome (system_of (viewed_message self.now)) (λ system. IsTrue (is_time system time))) }
     {
-        let none = Summary::default();
         match self {
-            View::Station(station) => {
-                let parts = station.parts();
-                Summary {
-                    station: Some(parts.station),
-                    point: Some(parts),
-                    ..none
-                }
+            View::Station(station) => Summary {
+                station: Some(station.parts().station),
+                point: Some(station.parts()),
+                ..Summary::default()
             },
             View::Msm(msm) => {
                 let h = msm.header();
@@ -45,13 +41,13 @@ impl<'a> View<'a> {
                     station: Some(h.station),
                     time: Some(h.time),
                     more: Some(h.more),
-                    ..none
+                    ..Summary::default()
                 }
             }
             View::Other { set, .. } => Summary {
                 station: set.map(|parts| parts.0),
                 more: set.map(|parts| parts.1),
-                ..none
+                ..Summary::default()
             },
         }
     }

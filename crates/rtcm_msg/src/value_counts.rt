@@ -7,7 +7,7 @@ ghost use Rattle.rtcm_msg.specs.Entries.{entries, entry_in, ids};
 ghost use Rattle.rtcm_msg.specs.Pairs.{HasFirst};
 ghost use Rattle.rtcm_msg.specs.Views as views;
 ghost use Rattle.rtcm_msg.specs.Forms.{satellite_data};
-ghost use Rattle.rtcm_msg.specs.Presences.{has_rest, has_value};
+ghost use Rattle.rtcm_msg.specs.Presences.{has_rest};
 ghost use Rattle.rtcm_msg.specs.declared.pairs.Pair.{Pair};
 ghost use Rattle.rtcm_msg.specs.ValueCounts.{has_listed_value, value_count, has_id};
 ghost use Rattle.rtcm_msg.specs.ValueCounts.{entries_left, AreCells, AreAtMost, AddsCounts};
@@ -43,22 +43,8 @@ impl<'a> MsmView<'a> {
         entry.phase.is_some() || entry.rate.is_some() || entry.strength.is_some()
     }
 
-    /// Returns whether cell `i`, which is of the satellite and the signal of `pair`, has a value.
-    /// Most cells have a pseudorange, so that no other field is read.
-    #[inline(always)]
-    fn has_value<G: Grid>(&self, pair: Pair, whole: u8, i: usize) -> bool
-        requires form { G.form ≡ self.now.form }
-        requires satellite { pair.index < length self.now.msm.satellites }
-        requires whole { whole ≡ (satellite_data self.now.form (slice_index self.now.msm.satellites pair.index)).whole }
-        requires cell { i < length self.now.msm.cells }
-        ensures { result ≡ has_value (entry_in self.now.form self.now.msm (pair, slice_index self.now.msm.cells i)) }
-    {
-        (whole != INVALID_RANGE && G::form().has_fine_range(&self.cell(G::form(), i)))
-            || self.has_rest(pair.index, i)
-    }
-
     /// Returns whether cell `i`, which is of the satellite and the signal of `pair`, has a value
-    /// and its satellite is in a set.
+    /// and its satellite is in a set. Most cells have a pseudorange, so that no other field is read.
     #[inline(always)]
     fn has_listed_value<G: Grid>(&self, listed: u64, pair: Pair, whole: u8, i: usize) -> bool
         requires form { G.form ≡ self.now.form }
@@ -69,7 +55,9 @@ impl<'a> MsmView<'a> {
         ensures { result ≡ has_listed_value listed
             (entry_in self.now.form self.now.msm (pair, slice_index self.now.msm.cells i)) }
     {
-        (listed >> (64 - pair.satellite)) % 2 == 1 && self.has_value::<G>(pair, whole, i)
+        (listed >> (64 - pair.satellite)) % 2 == 1
+            && ((whole != INVALID_RANGE && G::form().has_fine_range(&self.cell(G::form(), i)))
+                || self.has_rest(pair.index, i))
     }
 
     /// Counts the cell of the first pair, if it has one, and returns the cells that are left.

@@ -6,7 +6,7 @@ ghost use Rattle.rtcm_bits.specs.FrameOf.{longest_message};
 ghost use Rattle.rtcm_msg.specs.Fields.{GivesViewed, cursor_at};
 ghost use Rattle.rtcm_msg.specs.Msm.{codes_of, IsHeader, IsValue, satellite_mask_bits, most_pairs};
 ghost use Rattle.rtcm_msg.specs.Decoding.{body_by, message_at, message_with};
-ghost use Rattle.rtcm_msg.specs.Viewed.{viewed_message, IsCached};
+ghost use Rattle.rtcm_msg.specs.Viewed.{viewed_message};
 ghost use Rattle.rtcm_msg.specs.Forms as forms;
 ghost use Rattle.rtcm_msg.specs.Forms.{lock_field, satellite_data, satellite_number, cell_data, cell_number};
 ghost use Rattle.rtcm_msg.specs.Forms.{IsSatelliteData, IsCellData};
@@ -232,21 +232,6 @@ impl<'a> MsmView<'a> {
         }
     }
 
-    /// Returns the data of satellite `i`: `cached` if `i` is `index`, otherwise read from the
-    /// message.
-    #[inline(always)]
-    fn satellite_or(&self, i: usize, index: usize, cached: Satellite) -> Satellite
-        requires there { i < length self.now.msm.satellites }
-        requires cached { IsCached self.now.form self.now.msm.satellites index cached }
-        ensures { result ≡ satellite_data self.now.form (slice_index self.now.msm.satellites i) }
-    {
-        if i == index {
-            cached
-        } else {
-            self.read_satellite(i)
-        }
-    }
-
     /// Reads the data of satellite `i`.
     #[inline(never)]
     pub(crate) fn read_satellite(&self, i: usize) -> Satellite
@@ -336,17 +321,16 @@ impl<'a> Entries<'a> {
         ensures none { IfNone result ((self.old.left ≡ []) × (self.new.left ≡ [])) }
         ensures same { self.new.form ≡ self.old.form }
     {
-        let (pair, pairs, left) = split_cells(
-            self.cells.pairs,
-            self.view.masks().cells(),
-            self.cells.left,
-        )?;
+        let (view, cells) = (self.view, self.cells);
+        let (pair, pairs, left) = split_cells(cells.pairs, view.masks().cells(), cells.left)?;
         // Brings the numbers of satellites and cells into the proof.
-        let _ = (self.view.satellites(), self.view.cells());
-        let satellite = self.view.satellite_or(pair.index, self.index, self.cached);
-        let entry = self
-            .view
-            .entry(G::form(), pair, &satellite, self.cells.next);
+        let _ = (view.satellites(), view.cells());
+        let satellite = if pair.index == self.index {
+            self.cached
+        } else {
+            view.read_satellite(pair.index)
+        };
+        let entry = view.entry(G::form(), pair, &satellite, cells.next);
         self.cells.pairs = pairs;
         self.cells.left = left;
         self.cells.next += 1;

@@ -15,5 +15,5 @@ room ws has end bits same e h = rw (← same) (omega (arith, e, h))
 
 pub returns : goal.returns
 returns c =
-    rw c.parts_in.ensures.value
+    rw c.parts_in-parts.ensures.value
     (rw (station_whole c.args.bytes.now c.args.has_height (room c.field_widths.result.now c.args.has_height c.in_ok-end_of_fields.field-0 _ c.field_widths.ensures c.in_ok-end_of_fields.ensures.end c.in_ok-end_of_fields.ensures.within)) refl)
