@@ -48,16 +48,14 @@ impl<'a> MsmView<'a> {
     {
         // Brings the number of satellites into the proof.
         let _ = (self.satellites(), self.form());
-        if !self.has_channels() {
-            return SentChannels {
-                view: self,
-                satellites: 0,
-                index: 0,
-            };
-        }
+        let satellites = if self.has_channels() {
+            self.masks().satellites()
+        } else {
+            0
+        };
         SentChannels {
             view: self,
-            satellites: self.masks().satellites(),
+            satellites,
             index: 0,
         }
     }
@@ -100,10 +98,7 @@ pub fn channel_of_1020(bytes: &[u8]) -> Option<(u8, u8)>
     ensures value { result ≡ channels.channel_of_1020 bytes.now }
     ensures bounds { IfSome result (λ x. (x.0 < 2 ^ 6) × (x.1 < 2 ^ 5)) }
 {
-    if bytes.len() < CHANNEL_BYTES {
-        return None;
-    }
-    let bytes = &bytes[..CHANNEL_BYTES];
+    let bytes = bytes.get(..CHANNEL_BYTES)?;
     if number_at(bytes, 0, 12) != 1020 {
         return None;
     }

@@ -114,15 +114,9 @@ fn station_fault(parts: StationParts) -> Option<Field>
 }
 
 /// Widths in bits of the fields of message 1006 after the message number: DF003, DF021 to DF024,
-/// DF141, DF025, DF142, a reserved bit, DF026, DF364, DF027 and DF028.
+/// DF141, DF025, DF142, a reserved bit, DF026, DF364, DF027 and DF028. Message 1005 has all but the
+/// last.
 const STATION_WIDTHS: &[u32] = &[12, 6, 1, 1, 1, 1, 38, 1, 1, 38, 2, 38, 16];
-
-/// Returns the widths of the fields after the message number. Message 1005 has all but the last.
-fn field_widths(has_height: bool) -> &'static [u32]
-    ensures { result.now ≡ field_widths has_height }
-{
-    &STATION_WIDTHS[..12 + has_height as usize]
-}
 
 /// Returns a coordinate of the antenna reference point, DF025 to DF027: 38 bits with a sign.
 fn coordinate_at(bytes: &[u8], place: usize) -> i64
@@ -173,7 +167,7 @@ pub(crate) fn view_station(bytes: &[u8], has_height: bool) -> Result<View<'_>, M
     ensures { GivesViewed viewed_message result
         (station_message_at has_height (cursor_at (bits_of bytes.now) 12)) }
 {
-    end_of_fields(bytes, field_widths(has_height), 1, 12)?;
+    end_of_fields(bytes, &STATION_WIDTHS[..12 + has_height as usize], 1, 12)?;
     let parts = parts_in(bytes, has_height);
     Ok(View::Station(Station { parts }))
 }

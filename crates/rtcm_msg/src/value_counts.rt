@@ -95,26 +95,6 @@ impl<'a> MsmView<'a> {
         CellsLeft { pairs, left, next }
     }
 
-    /// Returns the cells that are left after the first pair, which has no cell.
-    #[inline(always)]
-    fn skip_pair(&self, mask: u64, cells: CellsLeft) -> CellsLeft
-        requires mask { mask ≡ self.now.msm.sets.cells }
-        requires none { mask / 2 ^ (cells.left - 1) % 2 ≢ 1 }
-        requires cells { AreCells self.now cells }
-        requires first { HasFirst cells.pairs }
-        ensures left { entries_left self.now result ≡ entries_left self.now cells }
-        ensures cells { AreCells self.now result }
-        ensures next { result.next ≡ cells.next }
-        ensures fewer { result.left < cells.left }
-    {
-        let (_, pairs) = split_signal(cells.pairs);
-        CellsLeft {
-            pairs,
-            left: cells.left - 1,
-            next: cells.next,
-        }
-    }
-
     /// Counts the cells of the first satellite, and returns the cells that are left.
     #[inline(always)]
     fn count_row<G: Grid>(
@@ -163,7 +143,8 @@ impl<'a> MsmView<'a> {
             if (mask >> (cells.left - 1)) % 2 == 1 {
                 cells = self.count_row::<G>(listed, cells, &mut counts);
             } else {
-                cells = self.skip_pair(mask, cells);
+                cells.pairs = split_signal(cells.pairs).1;
+                cells.left -= 1;
             }
         }
         ValueCounts {

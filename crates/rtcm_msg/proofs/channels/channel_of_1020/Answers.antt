@@ -39,13 +39,15 @@ module _ (bytes : List ℕ) (long : 3 ≤ length bytes) where
       equal : (n m : ℕ) → n ≡ m → n ≡ 1020 → (m == 1020) ≡ true
       equal n m e h = grind (arith, e, h)
 
-pub returns-then-bytes-lt-CHANNEL_BYTES-clause-value : goal.returns-then-bytes-lt-CHANNEL_BYTES-clause-value
-returns-then-bytes-lt-CHANNEL_BYTES-clause-value c = sym (too_short c.args.bytes.now c.if-bytes-lt-CHANNEL_BYTES.true)
+pub returns-in_err-bytes-clause-value : goal.returns-in_err-bytes-clause-value
+returns-in_err-bytes-clause-value c =
+    let few : length c.args.bytes.now < 3 = grind (arith, c.in_err-bytes.ensures.lookup.0) in c.from_residual.ensures ∙ sym (too_short c.args.bytes.now few)
 
 pub returns-then-number_at-ne1020-clause-value : goal.returns-then-number_at-ne1020-clause-value
 returns-then-number_at-ne1020-clause-value c =
-    sym (another c.args.bytes.now c.if-bytes-lt-CHANNEL_BYTES.false c.number_at.result c.number_at.ensures.value c.if-number_at-ne1020.true)
+    let l = c.in_ok-bytes.ensures.lookup.0 in sym (another c.args.bytes.now l.1 c.number_at.result (rw l.2 at c.number_at.ensures.value) c.if-number_at-ne1020.true)
 
 pub returns-clause-value : goal.returns-clause-value
 returns-clause-value c =
-    sym (whole c.args.bytes.now c.if-bytes-lt-CHANNEL_BYTES.false c.number_at.result c.byte_at.result c.byte_at-2.result c.number_at.ensures.value c.if-number_at-ne1020.false c.byte_at.ensures.value c.byte_at-2.ensures.value)
+    let l = c.in_ok-bytes.ensures.lookup.0 in
+    sym (whole c.args.bytes.now l.1 c.number_at.result c.byte_at.result c.byte_at-2.result (rw l.2 at c.number_at.ensures.value) c.if-number_at-ne1020.false (rw l.2 at c.byte_at.ensures.value) (rw l.2 at c.byte_at-2.ensures.value))

@@ -1,22 +1,21 @@
-use Rattle.std.proofs.Common.{◌≡◌, ◌∙◌, true, false, ap, arith}
+use Rattle.std.proofs.Common.{◌∙◌, ap}
 use Rattle.rtcm_msg.specs.Names.{MasksValue}
 use Rattle.rtcm_msg.proofs.ChannelLaws.{all_left, all_sent, none_left, none_sent}
+use Rattle.rtcm_msg.proofs.view.MsmView.sent_channels.Goals.{then-has_channels, else-has_channels}
 use Rattle.rtcm_msg.proofs.view.MsmView.sent_channels.Goals as goal
 
 pub invariant_of-result : goal.invariant_of-result
-invariant_of-result c = none_left c.args.self.now.msm.satellites
-
-pub returns-then-not-has_channels : goal.returns-then-not-has_channels
-returns-then-not-has_channels c =
-    let none : c.has_channels.result ≡ false = grind (arith, c.if-not-has_channels.true) in
-    none_sent c.args.self.now c.has_channels.result c.has_channels.ensures none
-
-pub invariant_of-result-2 : goal.invariant_of-result-2
-invariant_of-result-2 c =
-    all_left c.satellites-2.result c.args.self.now.msm.sets.satellites _ c.args.self.now.msm.satellites (c.satellites-2.ensures ∙ ap (λ (s : MasksValue). s.satellites) c.masks.ensures)
-    c.form.ensures.value.sets.satellites c.satellites.ensures.count c.satellites.ensures.set
+invariant_of-result c = elim c.if-has_channels.branch [
+  | then-has_channels w ↦
+      all_left c.if-has_channels.satellites c.args.self.now.msm.sets.satellites _ c.args.self.now.msm.satellites
+      (w.satellites-is ∙ w.satellites-satellites.ensures ∙ ap (λ (s : MasksValue). s.satellites) w.masks.ensures) c.form.ensures.value.sets.satellites c.satellites.ensures.count c.satellites.ensures.set
+  | else-has_channels w ↦ rw w.satellites-is (none_left c.args.self.now.msm.satellites)
+]
 
 pub returns : goal.returns
-returns c =
-    let some : c.has_channels.result ≡ true = grind (arith, c.if-not-has_channels.false) in
-    all_sent c.args.self.now c.has_channels.result _ c.has_channels.ensures some (c.satellites-2.ensures ∙ ap (λ (s : MasksValue). s.satellites) c.masks.ensures)
+returns c = elim c.if-has_channels.branch [
+  | then-has_channels w ↦
+      all_sent c.args.self.now c.has_channels.result _ c.has_channels.ensures w.if-has_channels.true
+      (w.satellites-is ∙ w.satellites-satellites.ensures ∙ ap (λ (s : MasksValue). s.satellites) w.masks.ensures)
+  | else-has_channels w ↦ rw w.satellites-is (none_sent c.args.self.now c.has_channels.result c.has_channels.ensures w.if-has_channels.false)
+]
