@@ -8,7 +8,6 @@ mod framer;
 mod frames;
 mod front;
 pub mod laws;
-mod read;
 mod sink;
 
 pub use feed::StreamFault;

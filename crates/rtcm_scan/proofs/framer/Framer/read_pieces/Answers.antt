@@ -1,7 +1,6 @@
 -- What was read so far was fed, so the framer, the sink and its output are those of these bytes; the loop ends at a
 -- fault, or when the reader has no byte.
 use Rattle.rtcm_scan.proofs.Names.{◌∙◌, arith, refl, take, length, BreaksAfter}
-use Rattle.std.proofs.lemmas.Result.{err_from_is_err_and}
 use Rattle.rtcm_scan.proofs.PassingLemmas.{wrapped, unwrapped}
 use Rattle.rtcm_scan.proofs.ReadLemmas.{reading_more, at_each, reads_none, reads_more, limit_more, breaks_more, breaks_first}
 use Rattle.rtcm_scan.proofs.framer.Framer.read_pieces.Goals as goal
@@ -22,21 +21,20 @@ loop-n-init g c = record {
   widest = omega arith;
 }
 
-pub returns-in_err-feed-clause-fault : goal.returns-in_err-feed-clause-fault
-returns-in_err-feed-clause-fault g c =
+pub returns-in-Err-feed-clause-fault : goal.returns-in-Err-feed-clause-fault
+returns-in-Err-feed-clause-fault g c =
     let i = c.loop-n.invariant in
-    let error = err_from_is_err_and c.from_residual-in_err-feed.result c.from_residual-in_err-feed.ensures.1 in
-    rw (error.1, error.2) (at_each c.in_err-feed.field-0.0 (λ a. absurd a)
+    at_each c.in-Err-feed.fault (λ a. absurd a)
     (limit_more g.S.FrameSink.took g.S.FrameSink.broke _ i.same i.came c.in-Ok.ensures.piece c.feed.ensures.same)
-    (breaks_more g.S.FrameSink.took g.S.FrameSink.broke (c.requires.going, c.read_piece.ensures.size) i.same i.came c.in-Ok.ensures.piece c.feed.ensures.same) c.in_err-feed.ensures.fault)
+    (breaks_more g.S.FrameSink.took g.S.FrameSink.broke (c.requires.going, c.read_piece.ensures.size) i.same i.came c.in-Ok.ensures.piece c.feed.ensures.same) c.in-Err-feed.ensures.fault
 
 pub loop-n-preserved : goal.loop-n-preserved
 loop-n-preserved g c =
     let i = c.loop-n.invariant in
     record {
-      came = reads_more g.S.FrameSink.took g.S.FrameSink.broke _ _ _ i.came (take c.in-Ok.n c.read_piece.new.buffer, c.in-Ok.ensures.piece.consumes, (c.in_ok-feed.ensures.whole, c.in_ok-feed.ensures.taken));
+      came = reads_more g.S.FrameSink.took g.S.FrameSink.broke _ _ _ i.came (take c.in-Ok.n c.read_piece.new.buffer, c.in-Ok.ensures.piece.consumes, (c.in_default.ensures.whole, c.in_default.ensures.taken));
       same = reading_more i.same c.feed.ensures.goes c.feed.ensures.same c.read_piece.ensures.size;
-      sent = c.in_ok-feed.ensures.sent;
+      sent = c.in_default.ensures.sent;
       reader = c.in-Ok.ensures.failures ∙ i.reader;
       widest = omega (arith, c.read_piece.ensures.widest, i.widest, i.same.size);
     }
