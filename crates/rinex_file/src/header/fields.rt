@@ -52,14 +52,22 @@ const NAMES: &[&str] = &[
     "ant_type",
 ];
 
-/// The rows of texts, in their order: the label and the texts.
-const ROWS: &[(&[u8], &[HeaderField])] = &[
-    (b"PGM / RUN BY / DATE", &[RunBy, Date]),
-    (b"MARKER NAME", &[Marker]),
-    (b"MARKER TYPE", &[MarkerType]),
-    (b"OBSERVER / AGENCY", &[Observer, Agency]),
-    (b"REC # / TYPE / VERS", &[RecNumber, RecType, RecVersion]),
-    (b"ANT # / TYPE", &[AntNumber, AntType]),
+/// The rows of texts, in their order: the label, the columns before the texts, and the texts.
+const ROWS: &[(&[u8], &[u8], &[HeaderField])] = &[
+    (
+        b"PGM / RUN BY / DATE",
+        b"rtcm2rinex          ",
+        &[RunBy, Date],
+    ),
+    (b"MARKER NAME", b"", &[Marker]),
+    (b"MARKER TYPE", b"", &[MarkerType]),
+    (b"OBSERVER / AGENCY", b"", &[Observer, Agency]),
+    (
+        b"REC # / TYPE / VERS",
+        b"",
+        &[RecNumber, RecType, RecVersion],
+    ),
+    (b"ANT # / TYPE", b"", &[AntNumber, AntType]),
 ];
 
 /// A row of texts.
@@ -130,10 +138,7 @@ impl TextRow {
         ensures value { result.now ≡ front_of self }
         ensures bound { length result.now ≤ 20 }
     {
-        match self {
-            TextRow::Program => b"rtcm2rinex          ",
-            _ => b"",
-        }
+        ROWS[self as usize].1
     }
 
     /// Returns the texts, in order.
@@ -141,6 +146,6 @@ impl TextRow {
         ensures value { result.now ≡ fields_of self }
         ensures bound { length result.now ≤ 3 }
     {
-        ROWS[self as usize].1
+        ROWS[self as usize].2
     }
 }

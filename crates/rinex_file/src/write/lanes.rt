@@ -82,6 +82,14 @@ fn ones(low: u32, high: u32) -> u8x16
     (twos + tens * u16x8::splat(246)).to_le_bytes()
 }
 
+/// The lanes of [`ones`] in their columns: those of a size in thousandths, of a first size, and of
+/// a second one. Lane 16 is a zero.
+const WHOLE: [usize; 16] = [12, 11, 10, 9, 8, 7, 6, 5, 4, 3, 16, 2, 1, 0, 16, 16];
+
+const FIRST: [usize; 16] = [16, 16, 16, 16, 16, 7, 6, 5, 4, 3, 16, 2, 1, 0, 16, 16];
+
+const SECOND: [usize; 16] = [16, 16, 16, 16, 16, 15, 14, 13, 12, 11, 16, 10, 9, 8, 16, 16];
+
 /// Returns the digits of a size in thousandths in their columns, and zeros in the others.
 #[inline(always)]
 fn digits(size: u64) -> u8x16
@@ -89,10 +97,7 @@ fn digits(size: u64) -> u8x16
     ensures { result ≡ digit_columns size 0 0 }
 {
     let low = (size % 100_000_000) as u32;
-    ones(low, (size / 100_000_000) as u32).shuffle(
-        u8x16::splat(0),
-        [12, 11, 10, 9, 8, 7, 6, 5, 4, 3, 16, 2, 1, 0, 16, 16],
-    )
+    ones(low, (size / 100_000_000) as u32).shuffle(u8x16::splat(0), WHOLE)
 }
 
 /// Returns the digits of two sizes as [`digits`] does.
@@ -105,16 +110,7 @@ fn digits_of_two(first: u32, second: u32) -> (u8x16, u8x16)
 {
     let ones = ones(first, second);
     let none = u8x16::splat(0);
-    (
-        ones.shuffle(
-            none,
-            [16, 16, 16, 16, 16, 7, 6, 5, 4, 3, 16, 2, 1, 0, 16, 16],
-        ),
-        ones.shuffle(
-            none,
-            [16, 16, 16, 16, 16, 15, 14, 13, 12, 11, 16, 10, 9, 8, 16, 16],
-        ),
-    )
+    (ones.shuffle(none, FIRST), ones.shuffle(none, SECOND))
 }
 
 /// Returns the columns to which the digits of a value are added, of which the first is in column

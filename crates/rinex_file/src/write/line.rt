@@ -104,8 +104,7 @@ pub(crate) fn put_fixed(line: &mut Line, width: usize, places: usize, scale: u64
     if value < 0 {
         text.push(b'-');
     }
-    let mut buffer = Buffer::new();
-    put(&mut text, buffer.format(size / scale).as_bytes());
+    put(&mut text, Buffer::new().format(size / scale).as_bytes());
     text.push(b'.');
     put_padded(&mut text, places, size % scale);
     put_right(line, width, text.as_slice());
@@ -119,6 +118,5 @@ pub(crate) fn put_seconds(line: &mut Line, width: usize, milliseconds: u16)
     ensures text { line.new.items ≡ line.old.items ++ right width (fixed 7 (pos (milliseconds * 10_000))) }
     ensures size { array_vec_len line.new ≤ array_vec_len line.old + 84 }
 {
-    let value = milliseconds as u64 * 10_000;
-    put_fixed(line, width, 7, 10_000_000, value as i64);
+    put_fixed(line, width, 7, 10_000_000, milliseconds as i64 * 10_000);
 }

@@ -32,8 +32,7 @@ fn put_value(columns: &mut [u8], value: &Option<Thousandths>, lost: u8, strength
     ensures size { length columns.new ≡ value_columns }
 {
     let Some(value) = value else {
-        columns.fill(b' ');
-        return;
+        return columns.fill(b' ');
     };
     columns_in(value.value()).copy_to_slice(columns);
     columns[14] = lost;
@@ -50,8 +49,7 @@ fn put_range(columns: &mut [u8], value: &Option<Thousandths>, strength: u8)
     ensures size { length columns.new ≡ value_columns }
 {
     let Some(value) = value else {
-        columns.fill(b' ');
-        return;
+        return columns.fill(b' ');
     };
     columns_of_range(value.value()).copy_to_slice(columns);
     columns[15] = strength;
@@ -71,19 +69,14 @@ pub(crate) fn strength_column(strength: &Option<Thousandths>) -> u8
 /// sizes is below 100,000, as most are. A strength alone takes fewer steps if it is from 0 to
 /// 99.999.
 #[inline(always)]
-fn put_doppler_and_strength(
-    columns: &mut [u8],
-    first: &Option<Thousandths>,
-    second: &Option<Thousandths>,
-)
-    requires first { IfSome first.now FitsColumns }
-    requires second { IfSome second.now FitsColumns }
+fn put_doppler_and_strength(columns: &mut [u8], values: &ValueRefs)
+    requires fits { HaveRoom values.now }
     requires room { length columns.old ≡ 32 }
-    ensures text { columns.new ≡ field first.now 32 32 ++ field second.now 32 32 }
+    ensures text { columns.new ≡ field values.now.d 32 32 ++ field values.now.s 32 32 }
     ensures size { length columns.new ≡ 32 }
 {
     let (front, back) = columns.split_at_mut(VALUE_COLUMNS);
-    if let (Some(shift), Some(density)) = (first, second) {
+    if let (Some(shift), Some(density)) = (values.d, values.s) {
         let (shift, density) = (shift.value(), density.value());
         if shift.unsigned_abs() + density.unsigned_abs() < 100_000_000 {
             let (shift, density) = columns_in_two(shift, density);
@@ -92,15 +85,15 @@ fn put_doppler_and_strength(
             return;
         }
     }
-    put_value(front, first, b' ', b' ');
-    if let Some(density) = second {
+    put_value(front, values.d, b' ', b' ');
+    if let Some(density) = values.s {
         let density = density.value();
         if 0 <= density && density < 100_000 {
             back.copy_from_slice(&columns_of(density as u32));
             return;
         }
     }
-    put_value(back, second, b' ', b' ');
+    put_value(back, values.s, b' ', b' ');
 }
 
 /// The values of a signal, borrowed, so that each is read when its columns are written.
@@ -137,7 +130,7 @@ fn put_signal(columns: &mut [u8], values: &ValueRefs)
     put_range(range, values.c, strength);
     let (phase, others) = others.split_at_mut(VALUE_COLUMNS);
     put_value(phase, values.l, lost, strength);
-    put_doppler_and_strength(others, values.d, values.s);
+    put_doppler_and_strength(others, values);
 }
 
 /// Returns the length of the text without trailing blanks, in bytes.
