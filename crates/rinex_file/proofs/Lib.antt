@@ -7,6 +7,7 @@ mod Entries
 mod HeaderRows
 mod Reading
 mod Judged
+mod Taken
 mod FewRows
 mod PlainTexts
 mod FileLines

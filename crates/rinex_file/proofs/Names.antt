@@ -64,12 +64,12 @@ pub use Rattle.rinex_file.specs.declared.header.fields.HeaderField.TheVariants.{
 pub use Rattle.rinex_file.specs.declared.header.fields.TextRow.{TextRow}
 pub use Rattle.rinex_file.specs.declared.header.rows.HeaderRow.{HeaderRow}
 pub use Rattle.rinex_file.specs.declared.header.rows.HeaderRow.TheVariants.{Biases, Delta, End, First, Position, Shift, Slots, StrengthUnit, Texts, Types, Version}
-pub use Rattle.rinex_file.specs.declared.read.expected.AddedRow.{AddedRow}
-pub use Rattle.rinex_file.specs.declared.read.expected.AddedRow.TheVariants.{LastRow, NoRow, OneRow}
-pub use Rattle.rinex_file.specs.declared.read.expected.Expected.{Expected}
-pub use Rattle.rinex_file.specs.declared.read.expected.Expected.TheVariants.{Epoch, EventEpoch, EventHeight, EventPosition, Header, Satellite}
-pub use Rattle.rinex_file.specs.declared.read.expected.Refusal.{Refusal}
-pub use Rattle.rinex_file.specs.declared.read.expected.Refusal.TheVariants.{Bad, Memory}
+pub use Rattle.rinex_file.specs.declared.read.parser_state.AddedRow.{AddedRow}
+pub use Rattle.rinex_file.specs.declared.read.parser_state.AddedRow.TheVariants.{LastRow, NoRow, OneRow}
+pub use Rattle.rinex_file.specs.declared.read.parser_state.Expected.{Expected}
+pub use Rattle.rinex_file.specs.declared.read.parser_state.Expected.TheVariants.{Epoch, EventEpoch, EventHeight, EventPosition, Header, Satellite}
+pub use Rattle.rinex_file.specs.declared.read.parser_state.Refusal.{Refusal}
+pub use Rattle.rinex_file.specs.declared.read.parser_state.Refusal.TheVariants.{Bad, Memory}
 pub use Rattle.rinex_file.specs.declared.read.fault.ReadFault.{ReadFault}
 pub use Rattle.rinex_file.specs.declared.read.fault.ReadFault.TheVariants.{CutShort, Read, TooLong}
 pub use Rattle.rinex_file.specs.declared.read.fields.TheConstants.{LIMITS}
@@ -78,7 +78,7 @@ pub use Rattle.rinex_file.specs.declared.read.file.FileSummary.{FileSummary}
 pub use Rattle.rinex_file.specs.declared.read.lines.Found.{Found}
 pub use Rattle.rinex_file.specs.declared.read.lines.Found.TheVariants.{Failed, Line, Long}
 pub use Rattle.rinex_file.specs.declared.read.parser_state.ParserState.{ParserState}
-pub use Rattle.rinex_file.specs.declared.read.reading.Reading.{Reading}
+pub use Rattle.rinex_file.specs.declared.read.epochs.Reading.{Reading}
 pub use Rattle.rinex_file.specs.declared.read.times.EpochTimes.{EpochTimes}
 pub use Rattle.rinex_file.specs.declared.write.digits.TheConstants.{PAIRS}
 pub use Rattle.rtcm_bits.specs.Device.{AppendsPrefix, HasFailed}

@@ -7,10 +7,10 @@ use Rattle.rinex_file.specs.declared.read.parser_state.ParserState.{ParserState}
 use Rattle.rinex_file.specs.declared.read.file.Counts.{Counts}
 use Rattle.rinex_file.specs.declared.read.times.EpochTimes.{EpochTimes}
 use Rattle.rinex_file.specs.Times.{AreTimesOrNone}
-use Rattle.rinex_file.specs.declared.read.expected.AddedRow.{AddedRow}
-use Rattle.rinex_file.specs.declared.read.expected.AddedRow.TheVariants.{NoRow, OneRow, LastRow}
-use Rattle.rinex_file.specs.declared.read.expected.Refusal.{Refusal}
-use Rattle.rinex_file.specs.declared.read.expected.Refusal.TheVariants.{Memory, Bad}
+use Rattle.rinex_file.specs.declared.read.parser_state.AddedRow.{AddedRow}
+use Rattle.rinex_file.specs.declared.read.parser_state.AddedRow.TheVariants.{NoRow, OneRow, LastRow}
+use Rattle.rinex_file.specs.declared.read.parser_state.Refusal.{Refusal}
+use Rattle.rinex_file.specs.declared.read.parser_state.Refusal.TheVariants.{Memory, Bad}
 use Rattle.rinex_file.specs.Value.{SatelliteRow, Stamped, FileValue}
 use Rattle.gnss_obs.specs.declared.cell.StationValues.{StationValues}
 use Rattle.rinex_file.specs.FileValues.{time_stamped, rank_of, changed_by, values_following}

@@ -2,7 +2,6 @@
 pub(crate) mod fault;
 pub(crate) mod fields;
 pub(crate) mod head;
-pub(crate) mod letters;
 pub(crate) mod lines;
 pub(crate) mod rows;
 pub(crate) mod slots;

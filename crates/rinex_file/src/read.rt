@@ -1,17 +1,13 @@
 //! Reading a file line by line: a satellite's line is judged in place; the fields of other lines
 //! are read leniently, written again, and compared.
-pub(crate) mod epoch;
 pub(crate) mod epochs;
-pub(crate) mod expected;
 pub(crate) mod fault;
 pub(crate) mod fields;
 pub(crate) mod file;
 pub(crate) mod head_so_far;
-pub(crate) mod header_lines;
 pub(crate) mod lines;
-pub(crate) mod numbers;
+pub(crate) mod other_lines;
 pub(crate) mod parser_state;
-pub(crate) mod reading;
 pub(crate) mod row;
 pub(crate) mod slots;
 pub(crate) mod times;

@@ -6,7 +6,7 @@ use Rattle.rinex_file.specs.declared.read.epochs.NextEpoch.TheVariants.{Epoch, E
 use Rattle.rinex_file.specs.declared.read.fault.ReadFault.{ReadFault}
 use Rattle.rinex_file.specs.declared.read.fault.ReadFault.TheVariants.{Read}
 use Rattle.rinex_file.specs.declared.read.file.FileSummary.{FileSummary}
-use Rattle.rinex_file.specs.declared.read.reading.Reading.{Reading}
+use Rattle.rinex_file.specs.declared.read.epochs.Reading.{Reading}
 use Rattle.rinex_file.specs.Accepted.{AreEpochsBefore, AreEpochsRead, AreFirstEpochs}
 use Rattle.rinex_file.specs.Counting.{IsSummary, IsTextWith}
 use Rattle.rinex_file.specs.Exact.{ExplainsFault, IfTextOfFile, IsNoFault}

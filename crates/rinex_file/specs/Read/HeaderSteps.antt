@@ -15,10 +15,10 @@ use Rattle.rinex_file.specs.declared.header.fields.HeaderField.{HeaderField}
 use Rattle.rinex_file.specs.declared.header.fields.TextRow.{TextRow}
 use Rattle.rinex_file.specs.declared.header.rows.HeaderRow.{HeaderRow}
 use Rattle.rinex_file.specs.declared.header.rows.HeaderRow.TheVariants.{Types, Shift, Slots, Biases, End}
-use Rattle.rinex_file.specs.declared.read.expected.Expected.{Expected}
-use Rattle.rinex_file.specs.declared.read.expected.Expected.TheVariants.{Header, Epoch}
-use Rattle.rinex_file.specs.declared.read.expected.Refusal.{Refusal}
-use Rattle.rinex_file.specs.declared.read.expected.Refusal.TheVariants.{Memory, Bad}
+use Rattle.rinex_file.specs.declared.read.parser_state.Expected.{Expected}
+use Rattle.rinex_file.specs.declared.read.parser_state.Expected.TheVariants.{Header, Epoch}
+use Rattle.rinex_file.specs.declared.read.parser_state.Refusal.{Refusal}
+use Rattle.rinex_file.specs.declared.read.parser_state.Refusal.TheVariants.{Memory, Bad}
 use Rattle.rinex_file.specs.Begun.{lines_of_header}
 use Rattle.rinex_file.specs.Blanks.{trimmed}
 use Rattle.rinex_file.specs.Texts.{HeaderLists, place_of, width_of, fault_of, fields_of, front_of, text_count}

@@ -1,9 +1,9 @@
 -- What holds of all that was read of a file, for every kind of expected line.
 use Rattle.std.specs.Prelude.{◌≡◌, ◌≢◌, Some, ℕ, ◌+◌, ◌<◌, ◌≤◌, List, [], ◌∷◌, ◌++◌, length, map}
 use Rattle.std.specs.List.Sorted.{IsStrictlyIncreasing}
-use Rattle.rinex_file.specs.declared.read.expected.Expected.{Expected}
-use Rattle.rinex_file.specs.declared.read.expected.Expected.TheVariants.{Header, Epoch, EventPosition, EventHeight}
-use Rattle.rinex_file.specs.declared.read.expected.Expected.TheVariants.{EventEpoch, Satellite}
+use Rattle.rinex_file.specs.declared.read.parser_state.Expected.{Expected}
+use Rattle.rinex_file.specs.declared.read.parser_state.Expected.TheVariants.{Header, Epoch, EventPosition, EventHeight}
+use Rattle.rinex_file.specs.declared.read.parser_state.Expected.TheVariants.{EventEpoch, Satellite}
 use Rattle.gnss_obs.specs.declared.cell.StationValues.{StationValues}
 use Rattle.rinex_file.specs.FileValues.{IsChange, values_following, time_stamped, most_rows, planned_in}
 use Rattle.rinex_file.specs.Begun.{AreWhole, IsPartOfNext, whole_lines, part_lines}

@@ -1,9 +1,9 @@
 -- What a reading means for all the lines that it accepted.
 use Rattle.std.specs.Prelude.{◌≡◌, ℕ, ◌+◌, ◌≤◌, List, [], length, All, Option, Some, None, Result, Ok, Err, IfSome}
 use Rattle.std.specs.Io.KnownBytes.{Consumes, prepend_known}
-use Rattle.rinex_file.specs.declared.read.expected.AddedRow.{AddedRow}
+use Rattle.rinex_file.specs.declared.read.parser_state.AddedRow.{AddedRow}
 use Rattle.rinex_file.specs.declared.read.fault.ReadFault.{ReadFault}
-use Rattle.rinex_file.specs.declared.read.reading.Reading.{Reading}
+use Rattle.rinex_file.specs.declared.read.epochs.Reading.{Reading}
 use Rattle.rinex_file.specs.declared.read.parser_state.ParserState.{ParserState}
 use Rattle.rinex_file.specs.Numbers.{joined}
 use Rattle.rinex_file.specs.Value.{FileValue}

@@ -8,10 +8,9 @@ ghost use Rattle.rinex_file.specs.Texts.{HeaderLists};
 ghost use Rattle.rinex_file.specs.Header.{row_line, has_line, row_at, row_count, lines_from, header_lines};
 ghost use Rattle.rinex_file.specs.Header.{systems_letter};
 
-use crate::header::letters::flagged_letter;
 use crate::header::lines::{
-    BIASES, END, SHIFT, STRENGTH_UNIT, UNIT, delta_line, first_line, labelled, position_line,
-    texts_line, version_by,
+    BIASES, END, SHIFT, STRENGTH_UNIT, UNIT, delta_line, first_line, flagged_letter, labelled,
+    position_line, texts_line, version_by,
 };
 use crate::header::rows::{HeaderRow, ROW_COUNT, row_at};
 use crate::header::slots::{slot_rows, slots_in, slots_with};
@@ -41,9 +40,8 @@ fn has_line(plan: &Plan, row: HeaderRow) -> bool
     match row {
         HeaderRow::Types(system, row) => row < type_rows(plan.signals(system)),
         HeaderRow::Shift(system) => plan.signals(system) > 0,
-        HeaderRow::Slots(0) => plan.signals(System::Glonass) > 0,
+        HeaderRow::Slots(0) | HeaderRow::Biases => plan.signals(System::Glonass) > 0,
         HeaderRow::Slots(row) => row < slot_rows(slots_in(plan.channels())),
-        HeaderRow::Biases => plan.signals(System::Glonass) > 0,
         _ => true,
     }
 }

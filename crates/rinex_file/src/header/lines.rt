@@ -1,14 +1,16 @@
 //! The lines of a header: RINEX 3.05, table A2.
 ghost use Rattle.std.specs.Prelude.{◌≡◌, ◌+◌, ◌≤◌, length};
 ghost use Rattle.gnss_obs.specs.Dates.{civil_of};
+ghost use Rattle.gnss_system.specs.SystemValues.{value_of};
 ghost use Rattle.rinex_file.specs.Header.{header_line, lengths, texts_line, position_line, delta_line};
-ghost use Rattle.rinex_file.specs.Header.{first_line, version_by};
+ghost use Rattle.rinex_file.specs.Header.{first_line, flagged_letter, version_by};
 ghost use Rattle.rinex_file.specs.Limits.{label_columns};
 
 use crate::header::fields::TextRow;
 use crate::header::texts::HeaderTexts;
 use crate::write::line::{Line, put, put_fixed, put_left, put_seconds, put_whole};
 use gnss_obs::{GpsTime, StationValues};
+use gnss_system::{BySystem, SYSTEMS, System};
 
 /// Width of the content of a line, in columns.
 pub(crate) const CONTENT_COLUMNS: usize = 60;
@@ -55,6 +57,20 @@ pub(crate) fn three_lengths(a: i64, b: i64, c: i64, label: &[u8]) -> Line
     put_fixed(&mut content, 14, 4, 10_000, b);
     put_fixed(&mut content, 14, 4, 10_000, c);
     labelled(content.as_slice(), label)
+}
+
+/// Returns the letter of the systems with a flag: that of one, or `M` for several, and 0 for none.
+pub(crate) fn flagged_letter(flags: &BySystem<bool>) -> u8
+    ensures { result ≡ flagged_letter (λ s. value_of s flags.now) }
+{
+    let mut letter = 0;
+    for i in 0..SYSTEMS.len() {
+        let system = System::at(i);
+        if *flags.of(system) {
+            letter = if letter == 0 { system.letter() } else { b'M' };
+        }
+    }
+    letter
 }
 
 /// Returns the line with version 3.05, the file's type and this letter of its systems.

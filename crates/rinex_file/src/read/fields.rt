@@ -8,7 +8,7 @@ ghost use Rattle.rinex_file.specs.Read.Fields.{ReadsExactly};
 ghost use Rattle.rinex_file.specs.Words.{AreBelow, AreWithin, digit_columns};
 ghost use Rattle.rinex_file.specs.Words.{blanks, has_minus, twos_of};
 
-use crate::read::numbers::signed;
+use crate::read::other_lines::signed;
 use crate::write::lanes::template;
 use gnss_obs::Thousandths;
 use std::simd::prelude::*;
@@ -52,6 +52,9 @@ fn eights(fours: u32x4) -> u64x2
     (both & u64x2::splat(0xFFFF_FFFF)) * u64x2::splat(10_000) + (both >> u64x2::splat(32))
 }
 
+/// The columns of the digits, in groups of eight; column 16 is a zero.
+const DIGITS: [usize; 16] = [16, 16, 16, 0, 1, 2, 3, 4, 5, 6, 7, 8, 9, 11, 12, 13];
+
 /// Returns the size in thousandths that has these digits in its columns.
 #[inline(always)]
 fn size_of(digits: u8x16) -> u64
@@ -59,10 +62,7 @@ fn size_of(digits: u8x16) -> u64
     ensures digits { digits ≡ digit_columns result (slice_index digits 14) (slice_index digits 15) }
     ensures bound { result < 10 ^ 13 }
 {
-    let ordered = digits.shuffle(
-        u8x16::splat(0),
-        [16, 16, 16, 0, 1, 2, 3, 4, 5, 6, 7, 8, 9, 11, 12, 13],
-    );
+    let ordered = digits.shuffle(u8x16::splat(0), DIGITS);
     let [high, low] = eights(fours(twos(ordered))).to_array();
     high * 100_000_000 + low
 }
@@ -137,10 +137,7 @@ pub(crate) fn field_in(
     if empty > 9 {
         return if empty == 16 { Some(None) } else { None };
     }
-    if text[at + 14] != lost {
-        return None;
-    }
-    if text[at + 15] != strength {
+    if text[at + 14] != lost || text[at + 15] != strength {
         return None;
     }
     let negative = text[at + empty] == b'-';

@@ -9,11 +9,10 @@ ghost use Rattle.rinex_file.specs.ParserState.{FollowsHistory, nothing, with_lin
 ghost use Rattle.rinex_file.specs.Read.Steps.{file_at, HasRead};
 ghost use Rattle.rinex_file.specs.Read.Keeping.{history_of, HasReadWhole};
 
-use crate::read::expected::AddedRow;
+use crate::read::epochs::Reading;
 use crate::read::fault::ReadFault;
 use crate::read::head_so_far::HeadSoFar;
-use crate::read::parser_state::ParserState;
-use crate::read::reading::Reading;
+use crate::read::parser_state::{AddedRow, ParserState};
 use crate::read::times::EpochTimes;
 use crate::values::{ObsFile, StoredEpoch, StoredRow};
 use gnss_obs::{BySystem, Plan};
@@ -100,10 +99,7 @@ impl FileBuilder {
     {
         let head = parser_state.head;
         let lists = BySystem::each(|system| head.types.of(system).signals.as_slice());
-        let plan = Plan::from_lists(self.alloc, &lists);
-        let Ok(plan) = plan else {
-            return None;
-        };
+        let plan = Plan::from_lists(self.alloc, &lists).ok()?;
         Some(ObsFile {
             texts: head.texts,
             plan: plan.with_channels(head.slots.channels),

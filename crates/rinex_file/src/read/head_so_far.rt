@@ -8,17 +8,15 @@ ghost use Rattle.rinex_file.specs.Read.Progress.{AreValid, IsHeadAt, counted, si
 ghost use Rattle.rinex_file.specs.Read.HeaderSteps.{begins_with, expected_if, known_line, SameFrom, TakesHeaderLine};
 ghost use Rattle.rinex_file.specs.Read.HeaderSteps.{TakesTypes, RefusesTypes, with_types, AreSlotsBefore, IsOnly, ReadsOrRefuses};
 
-use crate::header::letters::flagged_letter;
-use crate::header::lines::{BIASES, END, SHIFT, STRENGTH_UNIT, UNIT};
+use crate::header::lines::{BIASES, END, SHIFT, STRENGTH_UNIT, UNIT, flagged_letter};
 use crate::header::rows::{HeaderRow, first_types, row_at};
 use crate::header::slots::slot_rows;
 use crate::header::texts::HeaderTexts;
 use crate::header::types::type_rows;
-use crate::read::epoch::read_first;
-use crate::read::expected::{Expected, Refusal};
-use crate::read::header_lines::{
-    is_header_line, read_delta, read_position, read_texts, read_version,
+use crate::read::other_lines::{
+    read_delta, read_first, read_labelled, read_position, read_texts, read_version,
 };
+use crate::read::parser_state::{Expected, Refusal};
 use crate::read::slots::SlotsSoFar;
 use crate::read::types::TypesSoFar;
 use gnss_obs::{BySystem, GpsTime, StationValues, System};
@@ -116,9 +114,8 @@ impl HeadSoFar {
             HeaderRow::Types(system, 0) => begins_with(line, system.letter()),
             HeaderRow::Types(system, row) => row < type_rows(self.of(system).count),
             HeaderRow::Shift(system) => self.of(system).count > 0,
-            HeaderRow::Slots(0) => self.of(System::Glonass).count > 0,
+            HeaderRow::Slots(0) | HeaderRow::Biases => self.of(System::Glonass).count > 0,
             HeaderRow::Slots(row) => row < slot_rows(self.slots.count as usize),
-            HeaderRow::Biases => self.of(System::Glonass).count > 0,
             _ => true,
         }
     }
@@ -177,33 +174,22 @@ impl HeadSoFar {
         ensures { ReadsOrRefuses row line.now self.old self.new (is_some result) }
     {
         match row {
-            HeaderRow::Version => {
-                self.letter = read_version(line)?;
-                Some(())
-            }
-            HeaderRow::Texts(row) => read_texts(&mut self.texts, row, line).then_some(()),
+            HeaderRow::Version => self.letter = read_version(line)?,
+            HeaderRow::Texts(row) => read_texts(&mut self.texts, row, line)?,
             HeaderRow::Position => {
-                let mut values = read_position(line)?;
-                values.height = self.values.height;
-                self.values = values;
-                Some(())
+                let height = self.values.height;
+                self.values = read_position(line)?;
+                self.values.height = height;
             }
-            HeaderRow::Delta => {
-                self.values.height = read_delta(line)?;
-                Some(())
-            }
-            HeaderRow::StrengthUnit => is_header_line(line, UNIT, STRENGTH_UNIT).then_some(()),
-            HeaderRow::First => {
-                self.first = read_first(line)?;
-                Some(())
-            }
-            HeaderRow::Shift(system) => {
-                is_header_line(line, &[system.letter()], SHIFT).then_some(())
-            }
-            HeaderRow::Slots(row) => self.slots.take(row, line).then_some(()),
-            HeaderRow::Biases => is_header_line(line, b"", BIASES).then_some(()),
-            HeaderRow::Types(_, _) | HeaderRow::End => None,
+            HeaderRow::Delta => self.values.height = read_delta(line)?,
+            HeaderRow::StrengthUnit => read_labelled(line, UNIT, STRENGTH_UNIT)?,
+            HeaderRow::First => self.first = read_first(line)?,
+            HeaderRow::Shift(system) => read_labelled(line, &[system.letter()], SHIFT)?,
+            HeaderRow::Slots(row) => self.slots.take(row, line)?,
+            HeaderRow::Biases => read_labelled(line, b"", BIASES)?,
+            HeaderRow::Types(_, _) | HeaderRow::End => return None,
         }
+        Some(())
     }
 
     /// Processes a line, which is expected to be that of row `from` or of a later one. Returns what
@@ -219,12 +205,10 @@ impl HeadSoFar {
                 self.are_valid();
                 self.expected_at(place + 1)
             }
-            HeaderRow::End if is_header_line(line, b"", END) => Ok(Expected::Epoch),
+            HeaderRow::End if read_labelled(line, b"", END).is_some() => Ok(Expected::Epoch),
             HeaderRow::End => Err(Refusal::Bad),
             row => {
-                let Some(()) = self.read_header_line(row, line) else {
-                    return Err(Refusal::Bad);
-                };
+                self.read_header_line(row, line).ok_or(Refusal::Bad)?;
                 self.are_valid();
                 self.expected_at(place + 1)
             }

@@ -65,14 +65,11 @@ impl Block {
         }
         self.at = 0;
         self.end = 0;
-        match reader.read(&mut self.bytes) {
-            Ok(0) => Some(Found::End),
-            Ok(count) => {
-                self.end = count;
-                None
-            }
-            Err(_) => Some(Found::Failed),
-        }
+        let Ok(count) = reader.read(&mut self.bytes) else {
+            return Some(Found::Failed);
+        };
+        self.end = count;
+        (count == 0).then_some(Found::End)
     }
 
     /// Returns the size of the first line if it is whole in the block, or 0.
@@ -207,12 +204,9 @@ impl Lines {
             reader.old.failures reader.new.failures }
         ensures failed { result ≡ Found.Failed → self.new.ahead ≡ [] }
     {
-        let done = self.size;
-        self.size = 0;
-        self.block.skip(done);
-        let size = self.block.line_size();
-        if size > 0 {
-            self.size = size;
+        self.block.skip(self.size);
+        self.size = self.block.line_size();
+        if self.size > 0 {
             return Found::Line;
         }
         next_line(reader, &mut self.block, &mut self.buffer)

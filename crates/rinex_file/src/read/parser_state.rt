@@ -12,12 +12,9 @@ ghost use Rattle.rinex_file.specs.ParserState.{History, HasRoom, FollowsHistory,
 ghost use Rattle.rinex_file.specs.ParserState.{nothing, progress_at};
 ghost use Rattle.rinex_file.specs.Read.Sound.{AreLinesOf, AreRead, MayBegin};
 
-use crate::read::epoch::read_epoch_line;
-use crate::read::expected::{AddedRow, Expected, Refusal};
 use crate::read::file::Counts;
 use crate::read::head_so_far::HeadSoFar;
-use crate::read::header_lines::{read_delta, read_position};
-use crate::read::numbers::is_same;
+use crate::read::other_lines::{is_same, read_delta, read_epoch_line, read_position};
 use crate::read::row::read_row;
 use crate::read::times::{EpochTimes, with_later};
 use crate::values::SatelliteRow;
@@ -27,6 +24,43 @@ use arrayvec::ArrayVec;
 use gnss_obs::{GpsTime, StationValues};
 use gnss_system::{BySystem, SYSTEMS, System};
 use std::alloc::Global;
+
+/// The kind of line that is expected next.
+#[derive(Clone, Copy)]
+pub(crate) enum Expected {
+    /// A line of the header: that of the row at this index or of a later one.
+    Header(usize),
+    /// The line of an epoch or of an event, or the end.
+    Epoch,
+    /// The position in an event.
+    EventPosition,
+    /// The height in an event, after this position, whose height is zero.
+    EventHeight(StationValues),
+    /// The line of an epoch after an event with these station values.
+    EventEpoch(StationValues),
+    /// The line of a satellite, with the number of satellites that are left.
+    Satellite(usize),
+}
+
+/// Why a line isn't accepted.
+#[derive(Clone, Copy)]
+pub(crate) enum Refusal {
+    /// Memory ran out.
+    Memory,
+    /// No file continues with this line.
+    Bad,
+}
+
+/// What an accepted line adds to the epochs of a file.
+#[derive(Clone, Copy)]
+pub(crate) enum AddedRow {
+    /// Nothing: it is a line of the header or of an event, or begins an epoch.
+    NoRow,
+    /// A satellite of the epoch.
+    OneRow,
+    /// The last satellite of the epoch.
+    LastRow,
+}
 
 /// The state of the parser of a file.
 #[derive(Drop)]
@@ -117,13 +151,11 @@ impl ParserState {
                 Ok(AddedRow::NoRow)
             }
             Expected::Epoch => self.take_epoch(None, line, again),
-            Expected::EventPosition => match read_position(line) {
-                Some(position) => {
-                    self.expected = Expected::EventHeight(position);
-                    Ok(AddedRow::NoRow)
-                }
-                None => Err(Refusal::Bad),
-            },
+            Expected::EventPosition => {
+                let position = read_position(line).ok_or(Refusal::Bad)?;
+                self.expected = Expected::EventHeight(position);
+                Ok(AddedRow::NoRow)
+            }
             Expected::EventHeight(position) => self.take_height(position, line),
             Expected::EventEpoch(values) => self.take_epoch(Some(values), line, again),
             Expected::Satellite(left) => self.take_satellite(left, line),
@@ -156,15 +188,14 @@ impl ParserState {
         requires event { change ≡ None → (0 < self.old.counts.epochs) × (line.now ≡ event_line) → ⊥ }
         ensures { TakesLine self.old self.new line.now result }
     {
-        match read_epoch_line(line, again) {
-            Some(begun) if self.may_begin(begun.0, begun.1) => {
-                self.change = change;
-                self.time = begun.0;
-                self.expected = Expected::Satellite(begun.1);
-                Ok(AddedRow::NoRow)
-            }
-            _ => Err(Refusal::Bad),
+        let (time, satellites) = read_epoch_line(line, again).ok_or(Refusal::Bad)?;
+        if !self.may_begin(time, satellites) {
+            return Err(Refusal::Bad);
         }
+        self.change = change;
+        self.time = time;
+        self.expected = Expected::Satellite(satellites);
+        Ok(AddedRow::NoRow)
     }
 
     /// Processes the height in an event, after this position. Refuses the line if neither differs
@@ -173,9 +204,7 @@ impl ParserState {
         requires expected { self.old.expected ≡ Expected.EventHeight position }
         ensures { TakesLine self.old self.new line.now result }
     {
-        let Some(height) = read_delta(line) else {
-            return Err(Refusal::Bad);
-        };
+        let height = read_delta(line).ok_or(Refusal::Bad)?;
         let mut values = position;
         values.height = height;
         if values.is_same(self.values.unwrap_or(self.head.values)) {
@@ -193,9 +222,9 @@ impl ParserState {
         ensures { TakesLine self.old self.new line.now result }
     {
         let planned = planned_signals(&self.head);
-        let is_read = read_row(line, &planned, &mut self.last_read);
+        read_row(line, &planned, &mut self.last_read).ok_or(Refusal::Bad)?;
         let rank = rank_of(&self.last_read);
-        if !is_read || rank <= self.rank {
+        if rank <= self.rank {
             return Err(Refusal::Bad);
         }
         self.counts.satellites += 1;

@@ -1,6 +1,6 @@
 //! The line of a satellite, read back: its columns are judged where they are.
 ghost use Rattle.std.specs.Prelude.{◌≡◌, ◌↔◌, ◌+◌, ◌*◌, ◌%◌, ◌≤◌, ◌<◌, [], ◌∷◌, flat_map};
-ghost use Rattle.std.specs.Prelude.{length, pos, None, Some, IfSome, IsTrue, slice_get};
+ghost use Rattle.std.specs.Prelude.{length, pos, None, Some, IfSome, IsTrue, is_some, slice_get};
 ghost use Rattle.arrayvec.specs.ArrayVec.{array_vec_len};
 ghost use Rattle.gnss_system.specs.declared.system.System.{System};
 ghost use Rattle.gnss_system.specs.Satellites.{letter};
@@ -40,10 +40,9 @@ fn is_plausible(entry: &SignalValues) -> bool
     ensures { IsTrue result
         ↔ (IfSome entry.now.s (IsFrom (pos 1) (pos 99_999)) × (entry.now.l ≡ None → entry.now.lli ≡ 0)) }
 {
-    let is_strength = match entry.s {
-        None => true,
-        Some(v) => 1 <= v.value() && v.value() <= 99_999,
-    };
+    let is_strength = entry
+        .s
+        .is_none_or(|v| 1 <= v.value() && v.value() <= 99_999);
     is_strength && (entry.lli == 0 || entry.l.is_some())
 }
 
@@ -134,13 +133,11 @@ fn put_each_in(text: &[u8], last: &[u8; SIGNAL_COLUMNS], values: &mut [SignalVal
 {
     let mut some = false;
     for i in 0..values.len() {
-        match written_at(text, last, SIGNAL_COLUMNS * i) {
-            Some(entry) => {
-                some |= entry.has_value();
-                values[i] = entry;
-            }
-            None => return false,
-        }
+        let Some(entry) = written_at(text, last, SIGNAL_COLUMNS * i) else {
+            return false;
+        };
+        some |= entry.has_value();
+        values[i] = entry;
     }
     some
 }
@@ -174,49 +171,36 @@ fn is_ended(line: &[u8]) -> bool
     end >= 2 && line[end - 1] == b'\n' && line[end - 2] != b' '
 }
 
-/// Reads the satellite of the system whose letter is first in a line. Returns whether the line is
-/// that of one.
-fn read_of(line: &[u8], system: System, signals: usize, row: &mut SatelliteRow) -> bool
+/// Reads the satellite of the system whose letter is first in a line, or returns None if the line
+/// isn't that of one.
+fn read_of(line: &[u8], system: System, signals: usize, row: &mut SatelliteRow) -> Option<()>
     requires few { signals ≤ most_signals }
     requires first { slice_get line.now 0 ≡ Some (letter system) }
-    ensures { ReadsExactly (IsRowOf system signals) satellite_line line.now (some_if result row.new) }
+    ensures { ReadsExactly (IsRowOf system signals) satellite_line line.now (some_if (is_some result) row.new) }
 {
-    if !is_ended(line) {
-        return false;
-    }
     let text = &line[..line.len().saturating_sub(1)];
-    if text.len() < 3 || text.len() > 3 + SIGNAL_COLUMNS * signals {
-        return false;
+    if !is_ended(line) || text.len() < 3 || text.len() > 3 + SIGNAL_COLUMNS * signals {
+        return None;
     }
-    let Some(number) = two_digits_in(text[1], text[2]) else {
-        return false;
-    };
-    let Some(id) = system.id_of_number(number) else {
-        return false;
-    };
+    let number = two_digits_in(text[1], text[2])?;
+    row.satellite = system.id_of_number(number)?;
     row.system = system;
-    row.satellite = id;
     resize(&mut row.signal_values, signals);
     let columns = &text[3..];
     // Those of a signal that is not whole in the line, padded with blanks.
     let mut last = [b' '; SIGNAL_COLUMNS];
     let cut = &columns[SIGNAL_COLUMNS * (columns.len() / SIGNAL_COLUMNS)..];
     last[..cut.len()].copy_from_slice(cut);
-    put_each_in(columns, &last, row.signal_values.as_mut_slice())
+    put_each_in(columns, &last, row.signal_values.as_mut_slice()).then_some(())
 }
 
-/// Reads the satellite in a line, given the number of planned signals of each system. Returns
-/// whether the line is that of a satellite.
-pub(crate) fn read_row(line: &[u8], planned: &BySystem<usize>, row: &mut SatelliteRow) -> bool
+/// Reads the satellite in a line, given the number of planned signals of each system, or returns
+/// None if the line isn't that of a satellite.
+pub(crate) fn read_row(line: &[u8], planned: &BySystem<usize>, row: &mut SatelliteRow) -> Option<()>
     requires few { (s : System) → value_of s planned.now ≤ most_signals }
     ensures { ReadsExactly (IsSatelliteRow (λ s. value_of s planned.now)) satellite_line line.now
-        (some_if result row.new) }
+        (some_if (is_some result) row.new) }
 {
-    let Some(letter) = line.first() else {
-        return false;
-    };
-    let Some(system) = System::from_letter(*letter) else {
-        return false;
-    };
+    let system = System::from_letter(*line.first()?)?;
     read_of(line, system, *planned.of(system), row)
 }

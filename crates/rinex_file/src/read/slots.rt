@@ -1,13 +1,12 @@
 //! The channels of GLONASS in a header, read back.
-ghost use Rattle.std.specs.Prelude.{◌≡◌, ◌≤◌, ◌<◌, ◌+◌, ◌*◌, ℕ, List, None, Some, IfSome, drop, length, take};
+ghost use Rattle.std.specs.Prelude.{◌≡◌, ◌≤◌, ◌<◌, ◌+◌, ◌*◌, ℕ, List, None, Some, IfSome, drop, is_some, length, take};
 ghost use Rattle.gnss_obs.specs.Channels.{most_number, no_channels, slot_count};
 ghost use Rattle.rinex_file.specs.Read.Fields.{digits_in};
 ghost use Rattle.rinex_file.specs.Read.HeaderSteps.{IsLineOfSlots, TakesOrRefusesSlots};
 ghost use Rattle.rinex_file.specs.Slots.{SlotNumber, channel_text, last_slot, slots_in_line, slots_of};
 
 use crate::header::slots::{SLOTS_IN_LINE, slots_with};
-use crate::read::header_lines::columns;
-use crate::read::numbers::{digits_in, is_same};
+use crate::read::other_lines::{columns, digits_in, is_same};
 use gnss_obs::{Channels, GREATEST_CHANNEL_NUMBER, GREATEST_SLOT};
 
 /// What was read of the channels.
@@ -24,10 +23,7 @@ fn number_in(text: &[u8]) -> Option<u8>
     ensures bound { IfSome result (λ n. n ≤ most_number) }
     ensures read { (n : ℕ) → n ≤ most_number → text.now ≡ channel_text n → result ≡ Some n }
 {
-    if text.len() < 2 {
-        return None;
-    }
-    let size = text[1].saturating_sub(b'0');
+    let size = text.get(1)?.saturating_sub(b'0');
     let number = if text[0] == b'-' {
         7u8.saturating_sub(size)
     } else {
@@ -72,13 +68,8 @@ fn take_slots(channels: &mut Channels, row: usize, end: usize, line: &[u8]) -> O
     for index in first..end {
         let column = 4 + 7 * (index - first);
         let slot = digits_in(columns(line, column + 1, 2));
-        let Some(number) = number_in(columns(line, column + 4, 2)) else {
-            return None;
-        };
-        if slot <= last {
-            return None;
-        }
-        if slot > GREATEST_SLOT as u64 {
+        let number = number_in(columns(line, column + 4, 2))?;
+        if slot <= last || slot > GREATEST_SLOT as u64 {
             return None;
         }
         channels.set(slot as u8, number);
@@ -110,32 +101,28 @@ impl SlotsSoFar {
         digits_in(columns(line, 0, 3))
     }
 
-    /// Processes a line of slots. Returns whether it is one after those that were read, with which
-    /// some file continues.
-    pub(crate) fn take(&mut self, row: usize, line: &[u8]) -> bool
+    /// Processes a line of slots, or returns None if it isn't one after those that were read, with
+    /// which some file continues.
+    pub(crate) fn take(&mut self, row: usize, line: &[u8]) -> Option<()>
         requires row { row < 4 }
         requires begun { length (slots_of self.old.channels) ≡ slots_in_line * row }
         requires few { 0 < row → slots_in_line * row < self.old.count }
         ensures { TakesOrRefusesSlots row line.now self.old.count (slots_of self.old.channels)
-            self.new.count (slots_of self.new.channels) result }
+            self.new.count (slots_of self.new.channels) (is_some result) }
     {
         let count = self.read_count(row, line);
         if count > GREATEST_SLOT as u64 {
-            return false;
+            return None;
         }
         let end = (count as usize).min(SLOTS_IN_LINE * row + SLOTS_IN_LINE);
-        let Some(last) = take_slots(&mut self.channels, row, end, line) else {
-            return false;
-        };
+        let last = take_slots(&mut self.channels, row, end, line)?;
         // Each slot that is left has a number above the last.
         let most = count - end as u64 + last;
         if most > GREATEST_SLOT as u64 {
-            return false;
+            return None;
         }
         self.count = count as u8;
-        is_same(
-            line,
-            slots_with(count as usize, &self.channels, row).as_slice(),
-        )
+        let again = slots_with(count as usize, &self.channels, row);
+        is_same(line, again.as_slice()).then_some(())
     }
 }

@@ -8,9 +8,8 @@ ghost use Rattle.rinex_file.specs.Read.Progress.{AreTypes, types_line, signals_b
 ghost use Rattle.rinex_file.specs.Read.HeaderSteps.{ReadsRow, RefusesRow, TakesTypes, RefusesTypes, HasSignalAt};
 
 use crate::header::types::{TYPES_IN_LINE, type_rows, types_with};
-use crate::read::expected::Refusal;
-use crate::read::header_lines::columns;
-use crate::read::numbers::{digits_in, is_same};
+use crate::read::other_lines::{columns, digits_in, is_same};
+use crate::read::parser_state::Refusal;
 use gnss_obs::{Signal, Signals, System};
 use std::alloc::Global;
 
@@ -69,17 +68,13 @@ impl TypesSoFar {
         ensures bad { result ≡ Err Refusal.Bad
             → RefusesTypes system row line.now self.old.count (indices self.old.signals) }
     {
-        let Some(count) = self.read_count(system, row, line) else {
-            return Err(Refusal::Bad);
-        };
+        let count = self.read_count(system, row, line).ok_or(Refusal::Bad)?;
         take_signals(&mut self.signals, system, count, row, line)?;
         self.count = count;
         let again = types_with(system, count, self.signals.as_slice(), row);
-        if is_same(line, again.as_slice()) {
-            Ok(())
-        } else {
-            Err(Refusal::Bad)
-        }
+        is_same(line, again.as_slice())
+            .then_some(())
+            .ok_or(Refusal::Bad)
     }
 }
 
@@ -107,9 +102,7 @@ fn take_signals(
     let end = signals_begun(row + 1).min(count);
     for place in signals_begun(row)..end {
         let column = 6 + 4 * (4 * place - TYPES_IN_LINE * row) + 2;
-        let Some(signal) = signal_in(line, system, column) else {
-            return Err(Refusal::Bad);
-        };
+        let signal = signal_in(line, system, column).ok_or(Refusal::Bad)?;
         match signals.add(signal) {
             Ok(true) => {}
             Ok(false) => return Err(Refusal::Bad),

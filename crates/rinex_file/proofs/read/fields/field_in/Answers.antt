@@ -3,7 +3,7 @@
 use Rattle.rinex_file.proofs.Fields.Lanes.{lanes_are, lane_is, sixteen_long}
 use Rattle.rinex_file.proofs.Fields.Values.{few_before, sixteen_blank}
 use Rattle.rinex_file.proofs.OneReading.{no_field, field_once, value_of}
-use Rattle.rinex_file.proofs.read.fields.field_in.Goals.{After-blanks_in-empty}
+use Rattle.rinex_file.proofs.read.fields.field_in.Goals.{After-blanks_in-empty, then-text-at-via-then-text-at, then-text-at-via-else-text-at+then-text-at-2}
 use Rattle.rinex_file.proofs.Names.{arith, ◌≡◌, ◌∙◌, ap, ap₂, sym, ℤ, ℕ, ◌+◌, take, drop, Option, Some, get_or, IfSome, FitsColumns, blanks, field}
 use Rattle.rinex_file.proofs.read.fields.field_in.Goals as goal
 
@@ -33,12 +33,10 @@ returns-else-empty-eq16 c = λ w fits is.
 pub returns-then-text-at : goal.returns-then-text-at
 returns-then-text-at c = λ w fits is.
     let (v, small, shows, lost, strength) = value ((goal.at.returns-then-text-at c).After-blanks_in-empty) (λ all. omega (arith, all, c.if-empty-gt9.false)) w fits is in
-    c.if-text-at.true lost
-
-pub returns-then-text-at-2 : goal.returns-then-text-at-2
-returns-then-text-at-2 c = λ w fits is.
-    let (v, small, shows, lost, strength) = value ((goal.at.returns-then-text-at-2 c).After-blanks_in-empty) (λ all. omega (arith, all, c.if-empty-gt9.false)) w fits is in
-    c.if-text-at-2.true strength
+    elim c.then-text-at.branch [
+      | then-text-at-via-then-text-at u ↦ u.if-text-at.true lost
+      | then-text-at-via-else-text-at+then-text-at-2 u ↦ u.if-text-at-2.true strength
+    ]
 
 pub value_in-requires-clause-sign : goal.value_in-requires-clause-sign
 value_in-requires-clause-sign c = grind (arith, c.if-empty-gt9.false, c.blanks_in-empty.ensures.count, lanes_are, lane_is)

@@ -21,13 +21,13 @@ loop-i-preserved c =
           (filled_part (64 * n) (64 * i) text (omega (arith, c.loop-i-test.true)) c.requires.room ∙ c.in-Some.ensures.1);
     }
 
-pub returns-in-None-clause-read : goal.returns-in-None-clause-read
-returns-in-None-clause-read c = λ es are shows.
+pub returns-in_default-clause-read : goal.returns-in_default-clause-read
+returns-in_default-clause-read c = λ es are shows.
     let n = length c.args.values.now in
     let i = c.loop-i.i in
     let text = c.args.text.now in
     let (is, at) = signal_at es i are.each (omega (arith, c.loop-i-test.true, are.whole)) in
-    c.in-None.ensures (get_or es i no_signal_values) is
+    c.in_default.ensures (get_or es i no_signal_values) is
     (sym (filled_part (64 * n) (64 * i) text (omega (arith, c.loop-i-test.true)) c.requires.room) ∙ ap (λ t. take 64 (drop (64 * i) t)) shows ∙ at)
 
 pub returns-clause-read : goal.returns-clause-read

@@ -1,6 +1,6 @@
 use Rattle.rinex_file.proofs.HeaderRows.Letters.{one_letter}
 use Rattle.rinex_file.proofs.Rows.Sizes.{front_line}
-use Rattle.rinex_file.proofs.Names.{arith, ◌≡◌, ◌∙◌, sym, ap, subst, ℕ, ◌<◌, List, Option, Some, None, slice_get, option_copied, System, Row, SatelliteRow, IsSatelliteRow, IsRow, satellites, satellite_line, letter, ReadsExactly, some_if, IsRowOf, same_Some}
+use Rattle.rinex_file.proofs.Names.{arith, ◌≡◌, ◌∙◌, sym, ap, subst, ℕ, ◌<◌, List, Option, Some, None, is_some, slice_get, option_copied, System, Row, SatelliteRow, IsSatelliteRow, IsRow, satellites, satellite_line, letter, ReadsExactly, some_if, IsRowOf, same_Some}
 use Rattle.gnss_system.specs.Satellites.{system_of_letter}
 use Rattle.gnss_system.specs.SystemValues.{value_of}
 use Rattle.gnss_system.proofs.SystemLaws.{letter_back, letter_found}
@@ -38,19 +38,18 @@ no_letter line b v at none e =
 no_byte : (line : List ℕ) (v : SatelliteRow) → None ≡ slice_get line 0 → line ≡ satellite_line v → ⊥
 no_byte line v at e = let same : None ≡ Some (letter v.system) = at ∙ first_is line v e in cc
 
-pub returns-in_default : goal.returns-in_default
-returns-in_default c = λ v is e. no_byte c.args.line.now v (ap option_copied (sym c.in_default.is) ∙ c.first.ensures.value) e
+pub returns-in_err-first : goal.returns-in_err-first
+returns-in_err-first c = rw c.from_residual.ensures (λ v is e. no_byte c.args.line.now v c.in_err-first.ensures.value e)
 
-pub returns-in_default-from_letter : goal.returns-in_default-from_letter
-returns-in_default-from_letter c = λ v is e. no_letter c.args.line.now c.in-Some.letter.now v c.in-Some.ensures.value (sym c.from_letter.ensures ∙ c.in_default-from_letter.is) e
+pub returns-in_err-system : goal.returns-in_err-system
+returns-in_err-system c = rw c.from_residual-in_err-system.ensures (λ v is e. no_letter c.args.line.now _ v c.in_ok-first.ensures.value (sym c.in_err-system.ensures) e)
 
 pub read_of-requires-clause-first : goal.read_of-requires-clause-first
-read_of-requires-clause-first c =
-    sym c.in-Some.ensures.value ∙ ap Some (sym (letter_found c.in-Some.letter.now c.in-Some-from_letter.system (sym c.from_letter.ensures ∙ c.in-Some-from_letter.is)))
+read_of-requires-clause-first c = sym c.in_ok-first.ensures.value ∙ ap Some (sym (letter_found _ c.in_ok-system.system (sym c.in_ok-system.ensures)))
 
 pub returns : goal.returns
 returns c =
-    let system = c.in-Some-from_letter.system in
-    let found = letter_found c.in-Some.letter.now system (sym c.from_letter.ensures ∙ c.in-Some-from_letter.is) in
-    of_all (λ s. value_of s c.args.planned.now) system c.args.line.now _ (sym c.in-Some.ensures.value ∙ ap Some (sym found))
-    (subst (λ (n : ℕ). ReadsExactly (IsRowOf system n) satellite_line c.args.line.now (some_if c.read_of.result c.read_of.new.row)) c.of.ensures c.read_of.ensures)
+    let system = c.in_ok-system.system in
+    let found = letter_found _ system (sym c.in_ok-system.ensures) in
+    of_all (λ s. value_of s c.args.planned.now) system c.args.line.now _ (sym c.in_ok-first.ensures.value ∙ ap Some (sym found))
+    (subst (λ (n : ℕ). ReadsExactly (IsRowOf system n) satellite_line c.args.line.now (some_if (is_some c.read_of.result) c.read_of.new.row)) c.of.ensures c.read_of.ensures)

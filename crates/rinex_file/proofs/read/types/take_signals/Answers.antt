@@ -9,31 +9,31 @@ there : {system : System} {all line : List ℕ} {row place end a count : ℕ} �
     → length all ≡ count → count ≤ length (table system) → IsInLine system all line row place
 there {system} are is low less least next size bound = grind (arith, few_signals)
 
-pub returns-in_default-clause-bad : goal.returns-in_default-clause-bad
-returns-in_default-clause-bad c = λ refused all are begun is.
+pub returns-in_err-signal-clause-bad : goal.returns-in_err-signal-clause-bad
+returns-in_err-signal-clause-bad c = λ refused all are begun is.
     let here = there are is c.loop-place.invariant.from c.loop-place-test.true c.min-end.ensures c.signals_begun.ensures begun.0 c.requires.count in
-    none-some _ (sym c.in_default.is ∙ read_here here c.signal_in.ensures.read)
+    none-some _ (sym c.in_err-signal.ensures.ok_part ∙ read_here here c.signal_in.ensures.read)
 
 pub returns-in-Ok-false-clause-bad : goal.returns-in-Ok-false-clause-bad
 returns-in-Ok-false-clause-bad c = λ refused all are begun is.
     let here = there are is c.loop-place.invariant.from c.loop-place-test.true c.min-end.ensures c.signals_begun.ensures begun.0 c.requires.count in
-    taken_before c.loop-place.place c.in-Some.signal c.loop-place.signals are (index_read (read_here here c.signal_in.ensures.read) c.in-Some.is) here.less
+    taken_before c.loop-place.place c.in_ok-signal.signal c.loop-place.signals are (index_read (read_here here c.signal_in.ensures.read) c.in_ok-signal.ensures.ok_part) here.less
     (c.add.ensures.old (c.in-Ok-false.is ∙ ap Ok c.in-Ok-false.field-0-test)).1 (c.loop-place.invariant.read all are begun is)
 
 pub loop-place-preserved : goal.loop-place-preserved
 loop-place-preserved c =
     let inv = c.loop-place.invariant in
-    let s = c.in-Some.signal in
+    let s = c.in_ok-signal.signal in
     let added : IsAdded c.loop-place.signals s c.add.new.self = c.add.ensures.new (c.in-Ok-true.is ∙ ap Ok c.in-Ok-true.field-0-test) in
     record {
-      of = subst (λ (t : System). IsOf t c.add.new.self) (at_some _ s (λ (t : SignalAt). (t.system ≡ c.args.system) × IsSignal t) c.in-Some.is c.signal_in.ensures.system).0 added.2;
+      of = subst (λ (t : System). IsOf t c.add.new.self) (at_some _ s (λ (t : SignalAt). (t.system ≡ c.args.system) × IsSignal t) c.in_ok-signal.ensures.ok_part c.signal_in.ensures.system).0 added.2;
       grows = still_grows c.args.signals.now c.loop-place.signals c.add.new.self inv.grows (ap (take (length c.loop-place.signals)) added.0 ∙ take_at c.loop-place.signals (s ∷ []) (length c.loop-place.signals) refl);
       size = ap length added.0 ∙ length_push c.loop-place.signals s ∙ ap (λ n. n + 1) inv.size;
       from = omega (arith, inv.from);
       to = omega arith;
       read = λ all are begun is.
           let here = there are is inv.from c.loop-place-test.true c.min-end.ensures c.signals_begun.ensures begun.0 c.requires.count in
-          ap indices added.0 ∙ taken_more all c.loop-place.place s c.loop-place.signals (index_read (read_here here c.signal_in.ensures.read) c.in-Some.is) here.less (inv.read all are begun is);
+          ap indices added.0 ∙ taken_more all c.loop-place.place s c.loop-place.signals (index_read (read_here here c.signal_in.ensures.read) c.in_ok-signal.ensures.ok_part) here.less (inv.read all are begun is);
     }
 
 whole : (all : List ℕ) (place : ℕ) {end a next count : ℕ} → place ≤ end → end ≤ place → end ≡ min a count → a ≡ next → length all ≡ count → take place all ≡ take next all

@@ -5,7 +5,7 @@ use Rattle.rinex_file.proofs.HeaderRows.Read.{begun_here, types_law, types_sized
 use Rattle.rinex_file.proofs.HeaderRows.Steps.{Law, takes_row, takes_from, none_at, none_from, plain_law, row_sized, row_slots, slots_expected, decided}
 use Rattle.rinex_file.proofs.HeaderRows.Places.{is_types, own_before, place_at}
 use Rattle.rinex_file.proofs.Judged.{refused}
-use Rattle.rinex_file.proofs.Names.{◌≡◌, ◌∙◌, sym, ap, subst, refl, false, suc, ℕ, List, Result, Ok, Err, IsErrAnd, System, HeaderRow, Expected, Refusal, Memory, Bad, Types, End, planned_of, end_line, row_place, Known, IsHeadAt, SameFrom, AreSized, types_before, counted, IsOnly, known_line, EndsHeader, NoneGoesOn, TakesHeaderLine, AreSlotsAt, true}
+use Rattle.rinex_file.proofs.Names.{Option, ⊤, is_some, ReadsOrRefuses, ◌≡◌, ◌∙◌, sym, ap, subst, refl, false, suc, ℕ, List, Result, Ok, Err, IsErrAnd, System, HeaderRow, Expected, Refusal, Memory, Bad, Types, End, planned_of, end_line, row_place, Known, IsHeadAt, SameFrom, AreSized, types_before, counted, IsOnly, known_line, EndsHeader, NoneGoesOn, TakesHeaderLine, AreSlotsAt, true}
 use Rattle.rinex_file.proofs.read.head_so_far.HeadSoFar.take.Goals as goal
 
 -- a refusal that was passed on
@@ -68,7 +68,7 @@ pub returns-in-End-2 : goal.returns-in-End-2
 returns-in-End-2 c =
     let same = c.place_from-place.ensures.same in
     none_from same (none_at End same.expected c.place_from-place.ensures.here (sym c.row_at.ensures ∙ c.in-End.is)
-    (no_end_line c.args.self.now c.args.line.now (refused c.is_header_line.result (c.args.line.now ≡ end_line) c.is_header_line.ensures c.if-is_header_line.false)))
+    (no_end_line c.args.self.now c.args.line.now (refused (is_some c.read_labelled.result) (c.args.line.now ≡ end_line) c.read_labelled.ensures (sym c.is_some.ensures ∙ c.if-is_some.false))))
 
 at_end : (k : Known) (n from : ℕ) (line : List ℕ) → n ≡ row_place End → IsHeadAt k from → SameFrom k line from n → line ≡ end_line → EndsHeader k from line k
 at_end k n from line e at same is = ends k line from at (subst (SameFrom k line from) e same) is
@@ -77,12 +77,13 @@ pub returns-in-End : goal.returns-in-End
 returns-in-End c =
     let same = c.place_from-place.ensures.same in
     at_end c.args.self.now c.place_from-place.result c.args.from c.args.line.now (place_at c.place_from-place.result End same.expected (sym c.row_at.ensures ∙ c.in-End.is)) c.requires same
-    (c.is_header_line.ensures.0 c.if-is_header_line.true)
+    (c.read_labelled.ensures.0 (sym c.is_some.ensures ∙ c.if-is_some.true))
 
-pub returns-in_default-read_header_line : goal.returns-in_default-read_header_line
-returns-in_default-read_header_line c =
+pub returns-in_err-ok_or-in_default : goal.returns-in_err-ok_or-in_default
+returns-in_err-ok_or-in_default c = stopped c.args.self.now _ c.args.from c.args.line.now _ c.from_residual-in_err-ok_or-in_default.ensures.1 (λ e said bad.
     let same = c.place_from-place.ensures.same in
-    none_from same (none_at c.row_at.result same.expected c.place_from-place.ensures.here (sym c.row_at.ensures) c.in_default-read_header_line.ensures)
+    none_from same (none_at c.row_at.result same.expected c.place_from-place.ensures.here (sym c.row_at.ensures)
+    (subst (λ (r : Option ⊤). ReadsOrRefuses c.row_at.result c.args.line.now c.args.self.now c.read_header_line.new.self (is_some r)) c.in_err-ok_or-in_default.ensures.ok_part c.read_header_line.ensures)))
 
 here_known : (k : Known) (line : List ℕ) {r q : HeaderRow} → r ≡ q → known_line k line q ≡ true → known_line k line r ≡ true
 here_known k line e known = ap (known_line k line) e ∙ known
@@ -91,16 +92,17 @@ plain : (r : HeaderRow) → ((s : System) (i : ℕ) → r ≡ Types s i → ⊥)
 plain (Types s i) other = absurd (other s i refl)
 plain r other = refl
 
-pub returns-in-Some : goal.returns-in-Some
-returns-in-Some c =
+pub returns-in_ok-ok_or-in_default : goal.returns-in_ok-ok_or-in_default
+returns-in_ok-ok_or-in_default c =
     let old = c.args.self.now in
     let new = c.read_header_line.new.self in
     let same = c.place_from-place.ensures.same in
     let at = sym c.row_at.ensures in
     let apart = plain c.row_at.result c.in_default.not-Types in
+    let read = subst (λ (r : Option ⊤). ReadsOrRefuses c.row_at.result c.args.line.now old new (is_some r)) c.in_ok-ok_or-in_default.ensures.ok_part c.read_header_line.ensures in
     decided c.row_at.result same.expected at c.in_default.not-End
-    (takes_from same (takes_row old new c.args.line.now same.expected c.place_from-place.ensures.here (plain_law same.expected at apart c.place_from-place.ensures.here c.in-Some.ensures)))
-    c.are_valid-in_default.ensures (row_sized same.expected at apart c.in-Some.ensures same.sized) (row_slots same.expected at apart c.in-Some.ensures (here_known c.args.self.now c.args.line.now c.row_at.ensures c.place_from-place.ensures.here) same.slots) c.expected_at-in_default.ensures
+    (takes_from same (takes_row old new c.args.line.now same.expected c.place_from-place.ensures.here (plain_law same.expected at apart c.place_from-place.ensures.here read)))
+    c.are_valid-in_default.ensures (row_sized same.expected at apart read same.sized) (row_slots same.expected at apart read (here_known c.args.self.now c.args.line.now c.row_at.ensures c.place_from-place.ensures.here) same.slots) c.expected_at-in_default.ensures
 
 sole : (r : HeaderRow) → ((s : System) (i : ℕ) → r ≡ Types s i → ⊥) → (r ≡ End → ⊥) → IsOnly r
 sole (Types s i) other far = other s i refl

@@ -7,5 +7,5 @@ front_taken : (r : Option (List ℕ)) (ahead block buffer : List ℕ) (n : ℕ) 
     → Consumes (prepend_known ahead r) (prepend_known (drop n block) r) (last_line n block buffer) × LeavesRest r r
 front_taken r ahead block buffer n some same = grind (arith, ahead_moved, take-append-drop, leaves_all)
 
-pub returns-then-size-gt0-clause-taken : goal.returns-then-size-gt0-clause-taken
-returns-then-size-gt0-clause-taken g c = grind (arith, c.if-size-gt0.true, c.skip.ensures, front_taken)
+pub returns-then-self-gt0-clause-taken : goal.returns-then-self-gt0-clause-taken
+returns-then-self-gt0-clause-taken g c = grind (arith, c.if-self-gt0.true, c.skip.ensures, front_taken)

@@ -1,7 +1,7 @@
 use Rattle.rinex_file.proofs.Reading.Epochs.{goes_on, stopped}
 use Rattle.rinex_file.proofs.Reading.Events.{event_taken, event_shows, sound_event, position_taken, position_shows, no_position, sound_position}
 use Rattle.rinex_file.proofs.Reading.Header.{no_header, header_taken, header_shows, header_ended, ended_shows, sound_start, sound_header}
-use Rattle.rinex_file.proofs.Names.{◌≡◌, ◌<◌, ℕ, List, subst, sym, ◌∙◌, Err, ParserState, NoRow, Expected, Header, Epoch, EventPosition, EventHeight, Refusal, History, FollowsHistory, IsNext, progress_at, Known, StepsTo, TakesHeaderLine}
+use Rattle.rinex_file.proofs.Names.{IsPosition, Option, ReadsExactly, StationValues, position_line, ◌≡◌, ◌<◌, ℕ, List, subst, sym, ◌∙◌, Err, ParserState, NoRow, Expected, Header, Epoch, EventPosition, EventHeight, Refusal, History, FollowsHistory, IsNext, progress_at, Known, StepsTo, TakesHeaderLine}
 use Rattle.rinex_file.proofs.read.parser_state.ParserState.take.Goals as goal
 
 pub returns-in_err-self-in-Header : goal.returns-in_err-self-in-Header
@@ -36,13 +36,18 @@ returns-in-Epoch c = λ h history.
     (sound_event s c.in-Epoch.is history.sound (subst (λ (n : ℕ). 0 < n) history.counted.epochs c.if-self-gt0.true)) (event_taken s c.args.line.now c.in-Epoch.is shown)
     (event_shows s c.args.line.now c.in-Epoch.is shown)
 
-pub returns-in-None : goal.returns-in-None
-returns-in-None c = λ h history. no_position (progress_at c.args.self.now h) c.args.line.now c.in-EventPosition.is c.in-None.ensures
+-- what is read of the line of a position
+abbrev Reads : List ℕ → Option StationValues → Type 0
+Reads line r = ReadsExactly IsPosition position_line line r
 
-pub returns-in-Some : goal.returns-in-Some
-returns-in-Some c = λ h history.
+pub returns-in_err-position-in-EventPosition : goal.returns-in_err-position-in-EventPosition
+returns-in_err-position-in-EventPosition c = stopped c.args.self.now _ c.args.line.now _ c.from_residual-in_err-position-in-EventPosition.ensures.1 (λ e same bad h history.
+    no_position (progress_at c.args.self.now h) c.args.line.now c.in-EventPosition.is (subst (Reads c.args.line.now) c.in_err-position-in-EventPosition.ensures.ok_part c.read_position.ensures))
+
+pub returns-in_ok-position-in-EventPosition : goal.returns-in_ok-position-in-EventPosition
+returns-in_ok-position-in-EventPosition c = λ h history.
     let s = progress_at c.args.self.now h in
-    let p = c.in-Some.position in
-    let (is, shown, only) = c.in-Some.ensures in
+    let p = c.in_ok-position-in-EventPosition.position in
+    let (is, shown, only) = subst (Reads c.args.line.now) c.in_ok-position-in-EventPosition.ensures.ok_part c.read_position.ensures in
     goes_on (EventHeight p) c.args.self.now.head c.args.self.now.change c.args.self.now.time history
     (sound_position s p c.in-EventPosition.is history.sound is) (position_taken s p c.args.line.now c.in-EventPosition.is only) (position_shows s p c.args.line.now c.in-EventPosition.is shown)

@@ -1,6 +1,6 @@
-use Rattle.rinex_file.proofs.Reading.Epochs.{Begins, goes_on, epoch_taken, epoch_shows, few_satellites, no_epoch, sound_begun, sound_epoch}
+use Rattle.rinex_file.proofs.Reading.Epochs.{Begins, goes_on, stopped, epoch_taken, epoch_shows, few_satellites, no_epoch, sound_begun, sound_epoch}
 use Rattle.rinex_file.proofs.Judged.{refused}
-use Rattle.rinex_file.proofs.Names.{planned_in, ◌<◌, ◌≤◌, ℕ, subst, sym, IsTime, progress_at, Progress, MayBegin, Satellite}
+use Rattle.rinex_file.proofs.Names.{planned_in, civil_of, epoch_line, List, Option, ReadsExactly, ◌<◌, ◌≤◌, ℕ, subst, sym, IsTime, progress_at, Progress, MayBegin, Satellite}
 use Rattle.rinex_file.proofs.read.parser_state.ParserState.take_epoch.Goals as goal
 
 pub may_begin-requires : goal.may_begin-requires
@@ -10,27 +10,31 @@ may_begin-requires c = record { between = λ h history. (sound_epoch (progress_a
 fits : (s : Progress) (w : ℕ × ℕ) → Begins s w → IsTime w.0 × w.1 ≤ 999
 fits s w (time, may) = (time, few_satellites (planned_in s.known.shown.plan) w.1 may.room)
 
-pub returns-in_default-2 : goal.returns-in_default-2
-returns-in_default-2 c = λ h history.
+-- what is read of the line
+abbrev Reads : List ℕ → Option (ℕ × ℕ) → Type 0
+Reads line r = ReadsExactly (λ (e : ℕ × ℕ). IsTime e.0 × e.1 ≤ 999) (λ (e : ℕ × ℕ). epoch_line (civil_of e.0) e.1) line r
+
+pub returns-in_err-time : goal.returns-in_err-time
+returns-in_err-time c = stopped c.args.self.now _ c.args.line.now _ c.from_residual.ensures.1 (λ e same bad h history.
     let s = progress_at c.args.self.now h in
     no_epoch s c.args.change c.args.line.now c.requires.expected (λ none both. c.requires.event none (subst (λ (n : ℕ). 0 < n) (sym history.counted.epochs) both.0, both.1))
-    (λ w is. (rw c.in_default.is at c.read_epoch_line.ensures) w (fits s w is))
+    (λ w is. (subst (Reads c.args.line.now) c.in_err-time.ensures.ok_part c.read_epoch_line.ensures) w (fits s w is)))
 
-pub returns-in_default : goal.returns-in_default
-returns-in_default c = λ h history.
+pub returns-then-not-may_begin : goal.returns-then-not-may_begin
+returns-then-not-may_begin c = λ h history.
     let s = progress_at c.args.self.now h in
     no_epoch s c.args.change c.args.line.now c.requires.expected (λ none both. c.requires.event none (subst (λ (n : ℕ). 0 < n) (sym history.counted.epochs) both.0, both.1))
-    (λ w is line. refused c.may_begin.result _ (c.may_begin.ensures h history) c.if-may_begin.false
-    (subst (λ (p : ℕ × ℕ). MayBegin s p.0 p.1) (c.in-Some.ensures.2 w (fits s w is) line) is.1))
+    (λ w is line. refused c.may_begin.result _ (c.may_begin.ensures h history) c.if-not-may_begin.true
+    (subst (λ (p : ℕ × ℕ). MayBegin s p.0 p.1) ((subst (Reads c.args.line.now) c.in_ok-time.ensures.ok_part c.read_epoch_line.ensures).2 w (fits s w is) line) is.1))
 
-pub returns-in-Some : goal.returns-in-Some
-returns-in-Some c = λ h history.
+pub returns : goal.returns
+returns c = λ h history.
     let s = progress_at c.args.self.now h in
     let (read, rows, change, same) = sound_epoch s c.args.change c.requires.expected history.sound in
-    let (is, shown, only) = c.in-Some.ensures in
-    let time = c.in-Some.begun.0 in
-    let n = c.in-Some.begun.1 in
-    let may = (c.may_begin.ensures h history).0 c.if-may_begin.true in
+    let (is, shown, only) = subst (Reads c.args.line.now) c.in_ok-time.ensures.ok_part c.read_epoch_line.ensures in
+    let time = c.in_ok-time.time in
+    let n = c.in_ok-time.satellites in
+    let may = (c.may_begin.ensures h history).0 c.if-not-may_begin.false in
     goes_on (Satellite n) c.args.self.now.head c.args.change time history (sound_begun read rows may is.0 change same)
     (epoch_taken s c.args.change rows shown (λ w begins. only w (fits s w begins)) c.requires.expected
     (λ none both. c.requires.event none (subst (λ (k : ℕ). 0 < k) (sym history.counted.epochs) both.0, both.1)))

@@ -1,7 +1,7 @@
 use Rattle.rinex_file.proofs.Judged.{refused}
-use Rattle.rinex_file.proofs.Reading.Epochs.{goes_on}
+use Rattle.rinex_file.proofs.Reading.Epochs.{goes_on, stopped}
 use Rattle.rinex_file.proofs.Reading.Events.{height_taken, height_shows, no_height, same_height, sound_height}
-use Rattle.rinex_file.proofs.Names.{◌≡◌, ◌∙◌, sym, ap, subst, refl, ℕ, List, Option, Some, None, unwrap_or, StationValues, changed_by, ParserState, NoRow, Expected, EventEpoch, History, IsNext, progress_at}
+use Rattle.rinex_file.proofs.Names.{◌≡◌, ◌∙◌, ◌<◌, ◌^◌, ReadsExactly, height_line, sym, ap, subst, refl, ℕ, List, Option, Some, None, unwrap_or, StationValues, changed_by, ParserState, NoRow, Expected, EventEpoch, History, IsNext, progress_at}
 use Rattle.rinex_file.proofs.read.parser_state.ParserState.take_height.Goals as goal
 
 unwrapped : (o : Option StationValues) (v : StationValues) → unwrap_or o v ≡ changed_by v o
@@ -18,21 +18,25 @@ then k expected = record k { expected = expected }
 next_of : (k s : ParserState) (expected : Expected) (line : List ℕ) (h : History) → k ≡ s → IsNext s (then s expected) NoRow line h → IsNext s (then k expected) NoRow line h
 next_of k s expected line h same is = subst (λ (t : ParserState). IsNext s (then t expected) NoRow line h) (sym same) is
 
-pub returns-in_default : goal.returns-in_default
-returns-in_default c = λ h history.
-    no_height (progress_at c.args.self.now h) c.args.position c.args.line.now c.requires.expected c.in_default.ensures
+-- what is read of the line
+abbrev Reads : List ℕ → Option ℕ → Type 0
+Reads line r = ReadsExactly (λ n. n < 2 ^ 16) height_line line r
+
+pub returns-in_err-height : goal.returns-in_err-height
+returns-in_err-height c = stopped c.args.self.now _ c.args.line.now _ c.from_residual.ensures.1 (λ e same bad h history.
+    no_height (progress_at c.args.self.now h) c.args.position c.args.line.now c.requires.expected (subst (Reads c.args.line.now) c.in_err-height.ensures.ok_part c.read_delta.ensures))
 
 pub returns-then-is_same : goal.returns-then-is_same
 returns-then-is_same c = λ h history.
-    same_height (progress_at c.args.self.now h) c.args.position c.args.line.now c.requires.expected c.in-Some.height c.in-Some.ensures.2
+    same_height (progress_at c.args.self.now h) c.args.position c.args.line.now c.requires.expected c.in_ok-height.height (subst (Reads c.args.line.now) c.in_ok-height.ensures.ok_part c.read_delta.ensures).2
     (c.is_same.ensures.exact.0 c.if-is_same.true ∙ current _ c.args.self.now c.unwrap_or.result c.self.view_is c.unwrap_or.ensures ∙ history.counted.values c.args.self.now.head.shown.values)
 
 pub returns : goal.returns
 returns c = λ h history.
     let s = progress_at c.args.self.now h in
     let p = c.args.position in
-    let height = c.in-Some.height in
-    let (small, shown, only) = c.in-Some.ensures in
+    let height = c.in_ok-height.height in
+    let (small, shown, only) = subst (Reads c.args.line.now) c.in_ok-height.ensures.ok_part c.read_delta.ensures in
     let now = current _ c.args.self.now c.unwrap_or.result c.self.view_is c.unwrap_or.ensures ∙ history.counted.values c.args.self.now.head.shown.values in
     next_of _ c.args.self.now (EventEpoch (record p { height = height })) c.args.line.now h c.self.view_is
     (goes_on (EventEpoch (record p { height = height })) c.args.self.now.head c.args.self.now.change c.args.self.now.time history

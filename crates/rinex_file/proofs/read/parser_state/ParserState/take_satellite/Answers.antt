@@ -1,15 +1,14 @@
 -- The line is refused unless it is the text of a row whose rank rises. One row more keeps the history of the file;
 -- with the last one expected, the epoch is complete, and its counts, times and station values go on.
 use Rattle.std.specs.Option.{is_some}
-use Rattle.rinex_file.proofs.Reading.Epochs.{rise_after, rise_last, values_more, row_taken, row_shows, last_shows, no_row, bad_row, last_taken, sound_open, few_at, sound_row, sound_closed}
+use Rattle.rinex_file.proofs.Reading.Epochs.{stopped, rise_after, rise_last, values_more, row_taken, row_shows, last_shows, no_row, bad_row, last_taken, sound_open, few_at, sound_row, sound_closed}
 use Rattle.rinex_file.proofs.FewRows.{some_rank}
-use Rattle.rinex_file.proofs.read.parser_state.ParserState.take_satellite.Goals.{then-not-is_read-via-then-not-is_read, then-not-is_read-via-else-not-is_read+then-rank-self}
 use Rattle.rinex_file.proofs.Names.{arith, ◌≡◌, ◌∙◌, ◌+◌, ◌-◌, ◌<◌, ◌∷◌, ◌++◌, [], ℕ, suc, List, sym, ap, subst, refl, length, length-append, Bool, Option, Some, None, IfSome, option_or, map, ◌≤◌, ◌↔◌, IsStrictlyIncreasing, map-append, sum_by-append, System, Satellite, SatelliteRow, Stamped, StationValues, IsSatelliteRow, changed_by, rank_of, time_stamped, satellite_line, Progress, ReadsExactly, some_if, EpochTimes, AreTimes, AreTimesOrNone, IsLast, changes_of, stamped_at, events_in, progress_at, rows_in}
 use mir.Val.{bool_byte}
 use Rattle.rinex_file.proofs.read.parser_state.ParserState.take_satellite.Goals as goal
 
-pub read_row-is_read-requires : goal.read_row-is_read-requires
-read_row-is_read-requires c =
+pub read_row-requires : goal.read_row-requires
+read_row-requires c =
     let (h, history) = c.requires.history in
     let few = few_at (progress_at c.args.self.now h) c.args.left c.requires.expected history.sound in
     record { few = λ s. let most = few s in let is = c.planned_signals-planned.ensures s in omega (arith, most, is) }
@@ -37,20 +36,22 @@ last_rank rows seen n same rise m some =
     let all = subst IsStrictlyIncreasing (sym (map-append rank_of rows (seen ∷ []))) rise in
     (rise_after _ _ n m ends all, rise_last _ _ n m ends)
 
-pub returns-then-not-is_read : goal.returns-then-not-is_read
-returns-then-not-is_read c = λ h history.
+pub returns-in_err-ok_or : goal.returns-in_err-ok_or
+returns-in_err-ok_or c = stopped c.args.self.now _ c.args.line.now _ c.from_residual.ensures.1 (λ e same bad h history.
     let s = progress_at c.args.self.now h in
-    let seen = c.read_row-is_read.new.row in
+    let (read, begun, some, room) = sound_open s c.args.left c.requires.expected history.sound in
+    no_row s (c.args.left - 1) c.args.line.now (one_expected c.args.left s c.requires.expected some)
+    (shows c.args.line.now c.read_row.new.row c.planned_signals-planned.ensures (ap is_some c.in_err-ok_or.ensures.ok_part) c.read_row.ensures))
+
+pub returns-then-rank-self : goal.returns-then-rank-self
+returns-then-rank-self c = λ h history.
+    let s = progress_at c.args.self.now h in
+    let seen = c.read_row.new.row in
     let (read, begun, some, room) = sound_open s c.args.left c.requires.expected history.sound in
     let one = one_expected c.args.left s c.requires.expected some in
-    elim c.then-not-is_read.branch [
-      | then-not-is_read-via-then-not-is_read w ↦
-          no_row s (c.args.left - 1) c.args.line.now one (shows c.args.line.now seen c.planned_signals-planned.ensures w.if-not-is_read.true c.read_row-is_read.ensures)
-      | then-not-is_read-via-else-not-is_read+then-rank-self w ↦
-          let shown = shows c.args.line.now seen c.planned_signals-planned.ensures w.if-not-is_read.false c.read_row-is_read.ensures in
-          bad_row s (c.args.left - 1) c.args.line.now one seen shown.2
-          (λ rise. let more = (increasing h.rows _ history.counted.rank shown.0 c.rank_of-rank.ensures).1 rise in omega (arith, more, w.if-rank-self.true))
-    ]
+    let shown = shows c.args.line.now seen c.planned_signals-planned.ensures (ap is_some c.in_ok-ok_or.ensures.ok_part) c.read_row.ensures in
+    bad_row s (c.args.left - 1) c.args.line.now one seen shown.2
+    (λ rise. let more = (increasing h.rows _ history.counted.rank shown.0 c.rank_of-rank.ensures).1 rise in omega (arith, more, c.if-rank-self.true))
 
 last_before : (all : List ℕ) (times : Option EpochTimes) (time : ℕ) → AreTimesOrNone all times → IsStrictlyIncreasing (all ++ time ∷ []) → IfSome times (λ t. t.last < time)
 last_before all None time are rise = tt
@@ -77,9 +78,9 @@ event_counted es e n k one all = grind (arith, sum_by-append)
 pub returns-then-left-gt1 : goal.returns-then-left-gt1
 returns-then-left-gt1 c = λ h history.
     let s = progress_at c.args.self.now h in
-    let seen = c.read_row-is_read.new.row in
+    let seen = c.read_row.new.row in
     let (read, begun, some, room) = sound_open s c.args.left c.requires.expected history.sound in
-    let shown = shows c.args.line.now seen c.planned_signals-planned.ensures c.if-not-is_read.false c.read_row-is_read.ensures in
+    let shown = shows c.args.line.now seen c.planned_signals-planned.ensures (ap is_some c.in_ok-ok_or.ensures.ok_part) c.read_row.ensures in
     let rise = (increasing h.rows _ history.counted.rank shown.0 c.rank_of-rank.ensures).0 c.if-rank-self.false in
     let more : 0 < c.args.left - 1 = let n = c.if-left-gt1.true in omega (arith, n) in
     record {
@@ -115,9 +116,9 @@ changed o b is = grind arith
 pub returns : goal.returns
 returns c = λ h history.
     let s = progress_at c.args.self.now h in
-    let seen = c.read_row-is_read.new.row in
+    let seen = c.read_row.new.row in
     let (read, begun, some, room) = sound_open s c.args.left c.requires.expected history.sound in
-    let shown = shows c.args.line.now seen c.planned_signals-planned.ensures c.if-not-is_read.false c.read_row-is_read.ensures in
+    let shown = shows c.args.line.now seen c.planned_signals-planned.ensures (ap is_some c.in_ok-ok_or.ensures.ok_part) c.read_row.ensures in
     let rise = (increasing h.rows _ history.counted.rank shown.0 c.rank_of-rank.ensures).0 c.if-rank-self.false in
     let last : c.args.left ≡ suc 0 = let n = c.if-left-gt1.false in omega (arith, n, some) in
     let epoch = stamped_at c.args.self.now.change c.args.self.now.time (h.rows ++ seen ∷ []) in

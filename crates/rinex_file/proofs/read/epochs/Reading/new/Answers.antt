@@ -1,0 +1,6 @@
+use Rattle.rinex_file.proofs.Reading.Lines.{none_ahead, start}
+use Rattle.rinex_file.proofs.Names.{arith}
+use Rattle.rinex_file.proofs.read.epochs.Reading.new.Goals as goal
+
+pub returns : goal.returns
+returns c = grind (arith, none_ahead, start)

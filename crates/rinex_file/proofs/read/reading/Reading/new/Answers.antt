@@ -1,6 +1,0 @@
-use Rattle.rinex_file.proofs.Reading.Lines.{none_ahead, start}
-use Rattle.rinex_file.proofs.Names.{arith}
-use Rattle.rinex_file.proofs.read.reading.Reading.new.Goals as goal
-
-pub returns : goal.returns
-returns c = grind (arith, none_ahead, start)

@@ -1,0 +1,176 @@
+//! Lines read back, other than those of satellites, observation types and slots: their fields are
+//! read without validation, written again and compared. And the numbers in the columns of a line.
+ghost use Rattle.std.specs.Prelude.{◌≡◌, ◌↔◌, ◌+◌, ◌≤◌, ◌<◌, ◌^◌, IsTrue, ⊤, ℕ, Some, is_some};
+ghost use Rattle.std.specs.Prelude.{length, take, drop, pos, neg_ℤ, if◌then◌else◌};
+ghost use Rattle.gnss_obs.specs.Dates.{civil_of};
+ghost use Rattle.gnss_obs.specs.GatheredEpochs.{IsCoordinate};
+ghost use Rattle.rinex_file.specs.FileValues.{IsTime};
+ghost use Rattle.rinex_file.specs.Header.{first_line, header_line, height_line, position_line, version_by};
+ghost use Rattle.rinex_file.specs.Lines.{epoch_line};
+ghost use Rattle.rinex_file.specs.Read.Fields.{digits_in, number_in, ReadsExactly};
+ghost use Rattle.rinex_file.specs.Read.HeaderSteps.{ReadsOrRefusesTexts};
+ghost use Rattle.rinex_file.specs.Read.Progress.{IsPosition};
+
+use crate::header::fields::TextRow;
+use crate::header::lines::{
+    DELTA, first_line, labelled, position_line, texts_line, three_lengths, version_by,
+};
+use crate::header::texts::HeaderTexts;
+use crate::write::epoch::epoch_line;
+use crate::write::line::Line;
+use gnss_obs::laws::calendar;
+use gnss_obs::{Civil, GREATEST_COORDINATE, GpsTime, LEAST_COORDINATE, StationValues};
+
+/// Returns whether two texts are byte-identical.
+pub(crate) fn is_same(a: &[u8], b: &[u8]) -> bool
+    ensures { IsTrue result ↔ (a.now ≡ b.now) }
+{
+    a == b
+}
+
+/// Returns the digits of a text as one number; other bytes are skipped.
+pub(crate) fn digits_in(text: &[u8]) -> u64
+    requires { length text.now ≤ 18 }
+    ensures value { result ≡ digits_in text.now }
+    ensures bound { result < 10 ^ 18 }
+    ensures digits { result < 10 ^ length text.now }
+{
+    let mut number = 0;
+    for b in text {
+        if b.is_ascii_digit() {
+            number = number * 10 + (*b - b'0') as u64;
+        }
+    }
+    number
+}
+
+/// Returns a number with this size.
+pub(crate) fn signed(size: u64, has_minus: bool) -> i64
+    requires { size < 10 ^ 18 }
+    ensures { result ≡ (if has_minus then neg_ℤ (pos size) else pos size) }
+{
+    let number = size as i64;
+    if has_minus { -number } else { number }
+}
+
+/// Returns up to `width` columns of a line, from column `from` on, counted from 0.
+pub(crate) fn columns(line: &[u8], from: usize, width: usize) -> &[u8]
+    ensures value { result.now ≡ take width (drop from line.now) }
+    ensures bound { length result.now ≤ width }
+{
+    let rest = &line[from.min(line.len())..];
+    &rest[..width.min(rest.len())]
+}
+
+/// Returns the byte in place of the letter of a file's systems, or None for a line that isn't the
+/// first.
+pub(crate) fn read_version(line: &[u8]) -> Option<u8>
+    ensures { ReadsExactly (λ letter. ⊤) version_by line.now result }
+{
+    let letter = columns(line, 40, 1).first().copied().unwrap_or(0);
+    is_same(line, version_by(letter).as_slice()).then_some(letter)
+}
+
+/// Returns the number in the 14 columns of a line that begin at `from`, in 0.0001 m, limited to
+/// 38 bits.
+fn coordinate_in(line: &[u8], from: usize) -> i64
+    ensures fits { IsCoordinate result }
+    ensures value { IsCoordinate (number_in (take 14 (drop from line.now)))
+        → result ≡ number_in (take 14 (drop from line.now)) }
+{
+    let text = columns(line, from, 14);
+    signed(digits_in(text), text.contains(&b'-')).clamp(LEAST_COORDINATE, GREATEST_COORDINATE)
+}
+
+/// Returns the position of the antenna in 0.0001 m, with height zero, by its line, or None for any
+/// other line.
+pub(crate) fn read_position(line: &[u8]) -> Option<StationValues>
+    ensures { ReadsExactly IsPosition position_line line.now result }
+{
+    let position = StationValues {
+        x: coordinate_in(line, 0),
+        y: coordinate_in(line, 14),
+        z: coordinate_in(line, 28),
+        height: 0,
+    };
+    is_same(line, position_line(&position).as_slice()).then_some(position)
+}
+
+/// Returns the height of the antenna above the marker in 0.0001 m by its line, or None for any
+/// other line.
+pub(crate) fn read_delta(line: &[u8]) -> Option<u16>
+    ensures { ReadsExactly (λ h. h < 2 ^ 16) height_line line.now result }
+{
+    // A number that doesn't fit differs from the limit, which is written again.
+    let height = digits_in(columns(line, 0, 14)).min(65_535) as u16;
+    let again = three_lengths(height as i64, 0, 0, DELTA);
+    is_same(line, again.as_slice()).then_some(height)
+}
+
+/// Reads the line of this content and this label, or returns None for any other line.
+pub(crate) fn read_labelled(line: &[u8], content: &[u8], label: &[u8]) -> Option<()>
+    requires { length content.now + length label.now ≤ 1000 }
+    ensures { IsTrue (is_some result) ↔ (line.now ≡ header_line content.now label.now) }
+{
+    is_same(line, labelled(content, label).as_slice()).then_some(())
+}
+
+/// Reads the texts of a row, or returns None if the line isn't that of these texts.
+pub(crate) fn read_texts(texts: &mut HeaderTexts, row: TextRow, line: &[u8]) -> Option<()>
+    ensures { ReadsOrRefusesTexts row line.now texts.old texts.new (is_some result) }
+{
+    texts.are_texts();
+    let mut column = row.front().len();
+    for field in row.fields() {
+        let width = field.width();
+        match texts.set(*field, columns(line, column, width)) {
+            Ok(()) => column += width,
+            Err(_) => return None,
+        }
+    }
+    is_same(line, texts_line(texts, row).as_slice()).then_some(())
+}
+
+/// Returns the time in a line, or None if there is none: the year ends at column 6, and `width`
+/// columns for each other number of date and time of day and `second` columns follow. Each number
+/// is limited to the largest value of its type, which no field of a date has.
+fn time_in(line: &[u8], width: usize, second: usize) -> Option<GpsTime>
+    requires width { width ≤ 6 }
+    requires second { second ≤ 13 }
+    ensures first { (t : ℕ) → IsTime t → width ≡ 6 → second ≡ 13 → line.now ≡ first_line (civil_of t)
+        → result ≡ Some t }
+    ensures epoch { (t n : ℕ) → IsTime t → n ≤ 999 → width ≡ 3 → second ≡ 11 → line.now ≡ epoch_line (civil_of t) n
+        → result ≡ Some t }
+{
+    calendar();
+    let civil = Civil {
+        year: digits_in(columns(line, 0, 6)).min(65_535) as u16,
+        month: digits_in(columns(line, 6, width)).min(255) as u8,
+        day: digits_in(columns(line, 6 + width, width)).min(255) as u8,
+        hour: digits_in(columns(line, 6 + 2 * width, width)).min(255) as u8,
+        minute: digits_in(columns(line, 6 + 3 * width, width)).min(255) as u8,
+        millisecond: (digits_in(columns(line, 6 + 4 * width, second)) / 10_000).min(65_535) as u16,
+    };
+    GpsTime::from_civil(&civil)
+}
+
+/// Returns the time of the first epoch by its line in the header, or None for any other line.
+pub(crate) fn read_first(line: &[u8]) -> Option<GpsTime>
+    ensures { ReadsExactly IsTime (λ t. first_line (civil_of t)) line.now result }
+{
+    let time = time_in(line, 6, 13)?;
+    is_same(line, first_line(time).as_slice()).then_some(time)
+}
+
+/// Returns the time of an epoch and the number of its satellites by its first line, or None for any
+/// other line.
+pub(crate) fn read_epoch_line(line: &[u8], again: &mut Line) -> Option<(GpsTime, usize)>
+    ensures { ReadsExactly (λ (e : ℕ × ℕ). IsTime e.0 × e.1 ≤ 999) (λ (e : ℕ × ℕ). epoch_line (civil_of e.0) e.1)
+        line.now result }
+{
+    calendar();
+    let time = time_in(line, 3, 11)?;
+    let count = digits_in(columns(line, 32, 3)) as usize;
+    epoch_line(time, count, again);
+    is_same(line, again.as_slice()).then_some((time, count))
+}
