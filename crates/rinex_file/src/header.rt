@@ -3,7 +3,6 @@ pub(crate) mod fault;
 pub(crate) mod fields;
 pub(crate) mod head;
 pub(crate) mod lines;
+pub(crate) mod lists;
 pub(crate) mod rows;
-pub(crate) mod slots;
 pub(crate) mod texts;
-pub(crate) mod types;

@@ -8,8 +8,6 @@ ghost use Rattle.rinex_file.specs.File.{event_text, epoch_text, lines_of_systems
 ghost use Rattle.rinex_file.specs.Heads.{head_text};
 ghost use Rattle.rinex_file.specs.Rows.{IsBlankBut};
 
-pub(crate) mod digits;
-pub(crate) mod epoch;
 pub(crate) mod file;
 pub(crate) mod lanes;
 pub(crate) mod line;
@@ -18,8 +16,7 @@ pub(crate) mod satellite;
 use crate::header::fault::HeadFault;
 use crate::header::head::{Head, header_lines};
 use crate::header::lines::{delta_line, position_line};
-use crate::write::epoch::{epoch_line, event_line};
-use crate::write::line::{Line, MOST_LINE};
+use crate::write::line::{Line, MOST_LINE, epoch_line, event_line};
 use crate::write::satellite::put_satellite_line;
 use gnss_obs::{Epoch, Plan, StationValues, end_of, is_written};
 use gnss_system::{SYSTEMS, System};

@@ -12,10 +12,9 @@ use crate::header::lines::{
     BIASES, END, SHIFT, STRENGTH_UNIT, UNIT, delta_line, first_line, flagged_letter, labelled,
     position_line, texts_line, version_by,
 };
+use crate::header::lists::{slot_rows, slots_in, slots_with, type_rows, types_with};
 use crate::header::rows::{HeaderRow, ROW_COUNT, row_at};
-use crate::header::slots::{slot_rows, slots_in, slots_with};
 use crate::header::texts::HeaderTexts;
-use crate::header::types::{type_rows, types_with};
 use crate::write::line::Line;
 use gnss_obs::{BySystem, GpsTime, Plan, StationValues, System};
 use std::marker::Model;

@@ -42,18 +42,15 @@ macro_rules! rows {
             Version,
             Texts(Program), Texts(Marker), Texts(MarkerType),
             Texts(Observer), Texts(Receiver), Texts(Antenna),
-            Position,
-            Delta,
+            Position, Delta,
             $(
                 Types($system, 0), Types($system, 1), Types($system, 2),
                 Types($system, 3), Types($system, 4), Types($system, 5),
             )*
-            StrengthUnit,
-            First,
+            StrengthUnit, First,
             $(Shift($system),)*
             Slots(0), Slots(1), Slots(2), Slots(3),
-            Biases,
-            End,
+            Biases, End,
         ]
     };
 }

@@ -114,9 +114,8 @@ impl HeaderTexts {
     pub(crate) fn blank() -> HeaderTexts
         ensures { result ≡ replicate text_count [] }
     {
-        HeaderTexts {
-            texts: Default::default(),
-        }
+        let texts = Default::default();
+        HeaderTexts { texts }
     }
 
     /// Sets the text of a field, without trailing blanks, or returns its fault.

@@ -9,10 +9,9 @@ ghost use Rattle.rinex_file.specs.Read.HeaderSteps.{begins_with, expected_if, kn
 ghost use Rattle.rinex_file.specs.Read.HeaderSteps.{TakesTypes, RefusesTypes, with_types, AreSlotsBefore, IsOnly, ReadsOrRefuses};
 
 use crate::header::lines::{BIASES, END, SHIFT, STRENGTH_UNIT, UNIT, flagged_letter};
+use crate::header::lists::{slot_rows, type_rows};
 use crate::header::rows::{HeaderRow, first_types, row_at};
-use crate::header::slots::slot_rows;
 use crate::header::texts::HeaderTexts;
-use crate::header::types::type_rows;
 use crate::read::other_lines::{
     read_delta, read_first, read_labelled, read_position, read_texts, read_version,
 };

@@ -16,8 +16,7 @@ use crate::header::lines::{
     DELTA, first_line, labelled, position_line, texts_line, three_lengths, version_by,
 };
 use crate::header::texts::HeaderTexts;
-use crate::write::epoch::epoch_line;
-use crate::write::line::Line;
+use crate::write::line::{Line, epoch_line};
 use gnss_obs::laws::calendar;
 use gnss_obs::{Civil, GREATEST_COORDINATE, GpsTime, LEAST_COORDINATE, StationValues};
 

@@ -18,8 +18,7 @@ use crate::read::other_lines::{is_same, read_delta, read_epoch_line, read_positi
 use crate::read::row::read_row;
 use crate::read::times::{EpochTimes, with_later};
 use crate::values::SatelliteRow;
-use crate::write::epoch::event_line;
-use crate::write::line::Line;
+use crate::write::line::{Line, event_line};
 use arrayvec::ArrayVec;
 use gnss_obs::{GpsTime, StationValues};
 use gnss_system::{BySystem, SYSTEMS, System};

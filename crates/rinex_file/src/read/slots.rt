@@ -5,7 +5,7 @@ ghost use Rattle.rinex_file.specs.Read.Fields.{digits_in};
 ghost use Rattle.rinex_file.specs.Read.HeaderSteps.{IsLineOfSlots, TakesOrRefusesSlots};
 ghost use Rattle.rinex_file.specs.Slots.{SlotNumber, channel_text, last_slot, slots_in_line, slots_of};
 
-use crate::header::slots::{SLOTS_IN_LINE, slots_with};
+use crate::header::lists::{SLOTS_IN_LINE, slots_with};
 use crate::read::other_lines::{columns, digits_in, is_same};
 use gnss_obs::{Channels, GREATEST_CHANNEL_NUMBER, GREATEST_SLOT};
 

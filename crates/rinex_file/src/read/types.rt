@@ -7,7 +7,7 @@ ghost use Rattle.rinex_file.specs.Header.{most_type_rows, type_rows};
 ghost use Rattle.rinex_file.specs.Read.Progress.{AreTypes, types_line, signals_begun};
 ghost use Rattle.rinex_file.specs.Read.HeaderSteps.{ReadsRow, RefusesRow, TakesTypes, RefusesTypes, HasSignalAt};
 
-use crate::header::types::{TYPES_IN_LINE, type_rows, types_with};
+use crate::header::lists::{TYPES_IN_LINE, type_rows, types_with};
 use crate::read::other_lines::{columns, digits_in, is_same};
 use crate::read::parser_state::Refusal;
 use gnss_obs::{Signal, Signals, System};

@@ -1,10 +1,16 @@
-//! The buffer of a line, and texts and numbers of fixed width that are appended to it.
-ghost use Rattle.std.specs.Prelude.{◌≡◌, ◌+◌, ◌^◌, ◌≤◌, ◌*◌, ◌++◌, pos, replicate, decimal, length};
+//! The buffer of a line, texts and numbers of fixed width that are appended to it, and the lines of
+//! epochs and events: RINEX 3.05, table A3, "EPOCH record" and event flag 4. An event precedes each
+//! epoch whose station values differ from those before.
+ghost use Rattle.std.specs.Prelude.{◌≡◌, ◌+◌, ◌^◌, ◌≤◌, ◌*◌, ◌++◌, ◌∷◌, pos, replicate, decimal, length};
+ghost use Rattle.gnss_obs.specs.Dates.{civil_of};
+ghost use Rattle.rinex_file.specs.File.{event_line};
+ghost use Rattle.rinex_file.specs.Lines.{epoch_line};
 ghost use Rattle.rinex_file.specs.Numbers.{fixed, padded, left, right};
 ghost use Rattle.arrayvec.specs.ArrayVec.{array_vec_len};
 ghost use Rattle.rinex_file.specs.Limits.{most_line};
 
 use arrayvec::ArrayVec;
+use gnss_obs::GpsTime;
 use gnss_system::MOST_SIGNALS;
 use itoa::Buffer;
 
@@ -119,4 +125,42 @@ pub(crate) fn put_seconds(line: &mut Line, width: usize, milliseconds: u16)
     ensures size { array_vec_len line.new ≤ array_vec_len line.old + 84 }
 {
     put_fixed(line, width, 7, 10_000_000, milliseconds as i64 * 10_000);
+}
+
+/// Appends a blank and a number with two digits.
+fn put_two(line: &mut Line, number: u8)
+    requires { array_vec_len line.old + 23 ≤ most_line }
+    ensures text { line.new.items ≡ line.old.items ++ 32 ∷ padded 2 number }
+    ensures size { array_vec_len line.new ≤ array_vec_len line.old + 23 }
+{
+    put(line, b" ");
+    put_padded(line, 2, number as u64);
+}
+
+/// Writes the first line of an epoch, replacing the contents of the buffer: date and time of day,
+/// the flag 0 and the number of its satellites, which fits its three columns up to 999.
+pub fn epoch_line(time: GpsTime, satellites: usize, line: &mut Line)
+    ensures { line.new.items ≡ epoch_line (civil_of time) satellites }
+{
+    let civil = time.civil();
+    line.clear();
+    put(line, b"> ");
+    put_whole(line, 4, civil.year as u64);
+    put_two(line, civil.month);
+    put_two(line, civil.day);
+    put_two(line, civil.hour);
+    put_two(line, civil.minute);
+    put_seconds(line, 11, civil.millisecond);
+    put(line, b"  0");
+    put_whole(line, 3, satellites as u64);
+    put(line, b"\n");
+}
+
+/// Returns the first line of an event: flag 4 without a time, and the number of header lines that
+/// follow.
+#[tactic(auto, unfolding(crate::specs::File::event_line))]
+pub(crate) fn event_line() -> &'static [u8]
+    ensures { result.now ≡ event_line }
+{
+    b">                              4  2\n"
 }

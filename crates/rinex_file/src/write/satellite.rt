@@ -14,8 +14,7 @@ ghost use Rattle.rinex_file.specs.Rows.{AreApart, IsBlankBut, HasColumns};
 ghost use Rattle.rinex_file.specs.Limits.{most_line, signal_columns, value_columns};
 
 use crate::values::SignalValues;
-use crate::write::digits::columns_of;
-use crate::write::lanes::{columns_in, columns_in_two, columns_of_range};
+use crate::write::lanes::{columns_in, columns_in_two, columns_of, columns_of_range};
 use crate::write::line::{Line, MOST_LINE, SIGNAL_COLUMNS, VALUE_COLUMNS, put};
 use gnss_obs::{Cell, Epoch, Plan, Sat, System, Thousandths, strength_digit};
 use std::marker::Model;

@@ -5,7 +5,7 @@ fits : (v : ℤ) → unsigned_abs v < 10 ^ 8 → FitsColumns v
 fits v h = grind (arith, ints)
 
 pub returns-clause-first : goal.returns-clause-first
-returns-clause-first c = grind (arith, c.columns_with.ensures.text, c.requires.first, c.digits_of_two.ensures.first, c.unsigned_abs.ensures.value, to_z-of_z)
+returns-clause-first c = grind (arith, c.columns_with-shift.ensures.text, c.requires.first, c.digits_of_two.ensures.first, c.unsigned_abs.ensures.value, to_z-of_z)
 
 pub returns-clause-second : goal.returns-clause-second
 returns-clause-second c = grind (arith, c.columns_of_strength.ensures.text, to_z-of_z)

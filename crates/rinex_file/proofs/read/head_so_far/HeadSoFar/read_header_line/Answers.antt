@@ -1,7 +1,7 @@
 -- Each kind of row is read by its own function: what it takes is kept, and a line that it refuses is no line of the
 -- row, so that the header so far is as it was.
 use Rattle.rinex_file.proofs.HeaderRows.Read.{line_version, refuse_version, line_texts, refuse_texts, line_position, refuse_position, line_delta, refuse_delta, line_unit, line_first, refuse_first, line_shift, line_slots, line_biases}
-use Rattle.rinex_file.proofs.Names.{arith, ap, Option, Some, ◌≡◌, subst, refl, ℕ, List, Bool, true, false, inl, inr, is_some, then_some, ⊤, TextRow, HeaderRow, Texts, HeaderLists, Known, IsOnly, ReadsOrRefuses, ReadsOrRefusesTexts, with_texts, AreSlotsBefore, Slots, sym}
+use Rattle.rinex_file.proofs.Names.{ap, Option, Some, ◌≡◌, subst, refl, ℕ, List, Bool, true, false, inl, inr, is_some, ⊤, TextRow, HeaderRow, Texts, HeaderLists, Known, IsOnly, ReadsOrRefuses, ReadsOrRefusesTexts, with_texts, AreSlotsBefore, Slots, sym}
 use Rattle.rinex_file.proofs.read.head_so_far.HeadSoFar.read_header_line.Goals as goal
 
 -- the row, what was known before it and what was returned, by other names

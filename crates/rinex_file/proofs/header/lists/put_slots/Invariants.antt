@@ -1,6 +1,6 @@
 use Rattle.rinex_file.proofs.HeaderRows.Slots.{in_line}
 use Rattle.rinex_file.proofs.Names.{◌≡◌, ◌≤◌, ◌+◌, ◌*◌, ◌++◌, flat_map, length, take, slot_count, slot_text, slots_of}
-use Rattle.rinex_file.proofs.header.slots.put_slots.Given as goal
+use Rattle.rinex_file.proofs.header.lists.put_slots.Given as goal
 
 -- the slots so far that have a channel are in the line
 abbrev pub invariant-loop-i : goal.invariant-loop-i

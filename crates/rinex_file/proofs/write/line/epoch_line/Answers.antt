@@ -1,6 +1,6 @@
 use Rattle.rinex_file.proofs.Writing.Grown.{grown_whole}
 use Rattle.rinex_file.proofs.Names.{◌∙◌, ◌∷◌, ◌*◌, [], ap, refl, decimal, codes, pos, epoch_line, right, fixed, padded}
-use Rattle.rinex_file.proofs.write.epoch.epoch_line.Goals as goal
+use Rattle.rinex_file.proofs.write.line.epoch_line.Goals as goal
 
 pub returns : goal.returns
 unfolding epoch_line

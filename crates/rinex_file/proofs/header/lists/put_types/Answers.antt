@@ -1,6 +1,6 @@
 use Rattle.rinex_file.proofs.HeaderRows.Types.{signal_type, length-system_types, type_more, types_done, index_here, system_here}
 use Rattle.rinex_file.proofs.Names.{arith, indices, length_indices, types_of, codes_of}
-use Rattle.rinex_file.proofs.header.types.put_types.Goals as goal
+use Rattle.rinex_file.proofs.header.lists.put_types.Goals as goal
 
 pub loop-i-preserved : goal.loop-i-preserved
 loop-i-preserved c = grind (arith, length_indices, length-system_types, type_more, signal_type, index_here, system_here)

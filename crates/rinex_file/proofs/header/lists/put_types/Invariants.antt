@@ -1,6 +1,6 @@
 use Rattle.rinex_file.proofs.HeaderRows.Types.{columns}
 use Rattle.rinex_file.proofs.Names.{◌≡◌, ◌≤◌, ◌+◌, ◌-◌, ◌*◌, ◌++◌, length, take, drop, indices, types_of, codes_of}
-use Rattle.rinex_file.proofs.header.types.put_types.Given as goal
+use Rattle.rinex_file.proofs.header.lists.put_types.Given as goal
 
 -- the types so far are in the line
 abbrev pub invariant-loop-i : goal.invariant-loop-i

@@ -1,7 +1,7 @@
 use Rattle.rinex_file.proofs.HeaderRows.Slots.{at, one_slot, put_elsewhere, put_here, slots_taken}
-use Rattle.rinex_file.proofs.header.slots.put_slots.Goals.{in-Some, in_default, then-before-row, else-before-row}
+use Rattle.rinex_file.proofs.header.lists.put_slots.Goals.{in-Some, in_default, then-before-row, else-before-row}
 use Rattle.rinex_file.proofs.Names.{arith, ◌≡◌, ◌∙◌, ◌∷◌, ◌++◌, ◌+◌, ◌/◌, ◌<◌, [], sym, ap, append-nil, length, length-append, slots_of, take, Option, ℕ}
-use Rattle.rinex_file.proofs.header.slots.put_slots.Goals as goal
+use Rattle.rinex_file.proofs.header.lists.put_slots.Goals as goal
 
 pub overflow_add-before : goal.overflow_add-before
 overflow_add-before c = let few = c.loop-i.invariant.few in omega (arith, few, c.loop-i-test.true)
