@@ -84,4 +84,4 @@ pub use Rattle.std.specs.Io.KnownBytes.{Appends, Consumes, IsAtEnd, Keeps}
 pub use Rattle.std.specs.List.{AllByRecursion, cons_option, zip}
 pub use Rattle.std.specs.Option.{option_map_or}
 pub use Rattle.std.specs.Prelude.{IfSome, IsErrOf, OnErr, OnOk, Vec, cond, count_by, filter, filter_map, flat_map, if◌then◌else◌, length, map, option_map, option_to_list, sum_by, ⊤}
-pub use Rattle.std.proofs.Common.{Bool, Err, IfErr, IfOk, List, None, Ok, Option, Result, Some, [], add-zero, ap, append-nil, append_assoc, arith, drop, false, get_or, inl, inr, is_some, length-append, nat_lt, not, refl, rules, subst, suc, sym, take, true, true≢false, zero, ℕ, ◌*◌, ◌++◌, ◌+◌, ◌-◌, ◌<◌, ◌||◌, ◌∙◌, ◌∷◌, ◌≡◌, ◌≢◌, ◌≤◌, ◌⊎◌}
+pub use Rattle.std.proofs.Common.{Bool, Err, IfErr, IfOk, IsErrAnd, List, None, Ok, Option, Result, Some, [], add-zero, ap, append-nil, append_assoc, arith, drop, false, get_or, inl, inr, is_some, length-append, nat_lt, not, refl, rules, subst, suc, sym, take, true, true≢false, zero, ℕ, ◌*◌, ◌++◌, ◌+◌, ◌-◌, ◌<◌, ◌||◌, ◌∙◌, ◌∷◌, ◌≡◌, ◌≢◌, ◌≤◌, ◌⊎◌}

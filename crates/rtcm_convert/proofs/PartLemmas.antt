@@ -1,5 +1,5 @@
 -- Bytes that are written one part after the other.
-use Rattle.rtcm_convert.proofs.Names.{arith, ◌≡◌, ℕ, List, [], ◌++◌, sym, ap, ◌∙◌, Option, None, Some, refl, subst, Err, append_assoc, append-nil, IsErrOf, Appends, Keeps, append_cancel_left, Appends-trans, Appends-nil, Appends-kept, AppendsPrefix, IsPrefix, AppendsBetween, AppendsPrefixBetween, AppendsUpTo}
+use Rattle.rtcm_convert.proofs.Names.{arith, ◌≡◌, ℕ, List, [], ◌++◌, sym, ap, ◌∙◌, Option, None, Some, refl, subst, Err, append_assoc, append-nil, IsErrOf, Appends, Keeps, append_cancel_left, Appends-trans, Appends-nil, Appends-kept, AppendsPrefix, IsPrefix, AppendsBetween, AppendsPrefixBetween, AppendsUpTo, Result, Ok, OnErr, IsErrAnd}
 use Rattle.std.proofs.lemmas.Grind.{common_steps}
 
 pub prefix_more : {z : List ℕ} (a b : Option (List ℕ)) (x y : List ℕ) → z ≡ x ++ y → AppendsPrefix a b x → AppendsPrefix a b z
@@ -62,3 +62,13 @@ up_to_whole f = breaks_off-after f.before f.last
 -- the fault of a call that is returned by another
 pub same_fault : {T U E : Type 0} (x e : E) → IsErrOf {T = T} {E = E} (Err x) e → IsErrOf {T = U} {E = E} (Err x) e
 same_fault x e h = let same : x ≡ e = cc in ap Err same
+
+-- the same by `?`
+pub same_passed : {T U E : Type 0} (r : Result T E) (x e : E) → IsErrAnd r (λ y. y ≡ x) → IsErrOf r e → IsErrOf {T = U} {E = E} (Err x) e
+same_passed (Ok t) x e is h = absurd is
+same_passed (Err y) x e is h = let same : x ≡ e = cc in ap Err same
+
+-- what holds, holds at an error
+pub on_err_of : {A E P : Type 0} (r : Result A E) → P → OnErr r P
+on_err_of (Ok x) p = tt
+on_err_of (Err e) p = p

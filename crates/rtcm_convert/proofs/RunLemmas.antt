@@ -5,13 +5,13 @@ use Rattle.rtcm_convert.proofs.StreamLemmas.{passed_here, piece_whole, so_far-fr
 use Rattle.rtcm_convert.proofs.Names.{◌≡◌, ℕ, List, ◌++◌, sym, subst, ◌∙◌, Option, append_assoc, refl, Bool, true, false, None, Some, arith, IfSome, if◌then◌else◌, Consumes, IsAtEnd, Consumes-whole, Device, HasFailed, IsPrefix, longest_frame, decided_frames, Framed, known_frames, PassesToLimit, BreaksAfter, Reads, ReadsOn, FramerValue, SetupValue, so_far, AppendsUpTo, FiledGrows, FileWriter, Report, AppendsDecided, AppendsPrefixOfRest, BreaksFiling, Files, HasDrainedSome, Conversion, KeepsNow, IsGoing, refusal, HasConverted, TakesFromReader, CutsAtLimit, RanToFault, RanToLimit, Completed, CompletedEmpty, FinishesNow, FinishesEmptyNow, CompletesFile, CompletesEmptyFile, FailsFeeding, FailsFinishing, Failed, Finished}
 use Rattle.std.proofs.lemmas.Grind.{common_steps}
 
-flags : (ended failed : Bool) → None ≡ (if ended then Some Finished else if failed then Some Failed else None) → (failed ≡ false) × (ended ≡ false)
+flags : (ended failed : Bool) → (if ended then Some Finished else if failed then Some Failed else None) ≡ None → (failed ≡ false) × (ended ≡ false)
 flags true failed e = absurd cc
 flags false true e = absurd cc
 flags false false e = (refl, refl)
 
 -- a converter without a refusal has neither failed nor ended
-pub going_on : {x v : Conversion} → x ≡ v → None ≡ refusal v → IsGoing x
+pub going_on : {x v : Conversion} → x ≡ v → refusal v ≡ None → IsGoing x
 going_on {v = v} same e = let p = flags v.has_ended v.has_failed e in subst (λ (x : Conversion). IsGoing x) (sym same) (record { fine = p.0; more = p.1 })
 
 pub completed_after : {w : Conversion} {n : List ℕ} {a b c : Option (List ℕ)} {s : SetupValue} {x y : List ℕ} {report : Report} → AppendsDecided a b s x y → Completed w n b c s y y report → Completed w n a c s x y report

@@ -12,7 +12,7 @@ use Rattle.gnss_system.specs.SystemValues.{tabulate}
 use Rattle.gnss_obs.specs.Values.{cells_of}
 use Rattle.obs_epoch.specs.Held.{recorded}
 use Rattle.rtcm_convert.specs.Kept.{IsWithinBounds, IsKeptNow, IsKeptAtEnd}
-use Rattle.rtcm_convert.specs.declared.kept.Kept.{Kept}
+use Rattle.rtcm_convert.specs.declared.converter.Kept.{Kept}
 use Rattle.rtcm_convert.specs.Filed.{HasGathered}
 use Rattle.rtcm_convert.specs.Outcomes.{report_of}
 use Rattle.rtcm_scan.specs.Examined.{HasExaminedSome, IsCountedExactly}

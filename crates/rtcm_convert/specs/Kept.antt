@@ -7,7 +7,7 @@ use Rattle.rtcm_scan.specs.Decided.{decided, decided_frames}
 use Rattle.rtcm_scan.specs.Frames.{Framed, frames_of}
 use Rattle.rtcm_scan.specs.Looks.{examined, examined_now, most, most_looks, most_now}
 use Rattle.gnss_obs.specs.Values.{most_cells}
-use Rattle.rtcm_convert.specs.declared.kept.Kept.{Kept}
+use Rattle.rtcm_convert.specs.declared.converter.Kept.{Kept}
 use Rattle.obs_epoch.specs.Times.{Timed, timed}
 use Rattle.obs_epoch.specs.Cells.{firsts}
 use Rattle.obs_epoch.specs.Loss.{times}

@@ -1,6 +1,6 @@
 //! The converter: it accepts a stream piece by piece, and writes its observation file.
 ghost use Rattle.std.specs.Prelude.{◌≡◌, ◌≢◌, ◌<◌, ◌≤◌, ◌+◌, ◌*◌, ◌↔◌, [], List, ℕ, true, false, length, drop};
-ghost use Rattle.std.specs.Prelude.{Err, OnOk, IfOk, IfErr, IfSome, IsErrOf};
+ghost use Rattle.std.specs.Prelude.{Err, OnOk, IfOk, IfErr, IfSome, IsErrOf, None, Some};
 ghost use Rattle.gnss_obs.specs.GatheredEpochs.{AreStationValues};
 ghost use Rattle.rtcm_scan.specs.Frames.{frames_of};
 ghost use Rattle.rtcm_scan.specs.Decided.{decided, decided_frames, most_undecided};
@@ -27,12 +27,10 @@ ghost use Rattle.rtcm_convert.specs.Pieces.{StopsInPieces};
 ghost use Rattle.rtcm_convert.specs.Conversion.{RanToFault, RanToLimit, StopsRunning};
 
 use crate::fault::Fault;
-use crate::file_writer::FileWriter;
-use crate::kept::Kept;
+use crate::file_writer::{FileWriter, end_stream};
 use crate::laws;
 use crate::report::Report;
 use crate::setup::{ConvertOptions, Setup};
-use crate::stream::end_stream;
 use gnss_obs::StationValues;
 use gnss_system::{BySystem, System};
 use rtcm_bits::{Counted, Deliver, LONGEST_FRAME};
@@ -51,6 +49,22 @@ pub struct Converter {
     file_writer: FileWriter,
     failed: bool,
     finished: bool,
+}
+
+/// What a converter holds, and the number of times it has read its input.
+#[derive(Clone, Copy)]
+pub struct Kept {
+    /// Number of undecided bytes held, 0 to 1,029.
+    pub held: usize,
+    /// Number of cells of each system of the pending epoch or, if none is pending, of the one closed
+    /// last; at most 256.
+    pub cells: BySystem<usize>,
+    /// Number of lock records, at most 2,566.
+    pub locks: usize,
+    /// Number of reads of bytes in all.
+    pub examined: u64,
+    /// Largest number of reads of any single byte, at most 1,030.
+    pub most: u16,
 }
 
 impl Model for Converter {
@@ -74,7 +88,7 @@ impl Converter {
     /// # Errors
     ///
     /// `BadSetup` for a limit, week or station out of range, and `Memory`.
-    pub fn new(alloc: Global, setup: Setup) -> Result<Converter, Fault>
+    pub fn new(alloc: Global, setup: Setup) -> Result<Self, Fault>
         ensures history { IfOk result (λ c. HasConverted c (setup_value setup) []) }
         ensures fresh { IfOk result (λ c. (c.scan.limit ≡ setup.limit) × (c.scan.taken ≡ 0)) }
         ensures bad { result ≡ Err Fault.BadSetup ↔ IsBad setup }
@@ -89,11 +103,7 @@ impl Converter {
     /// # Errors
     ///
     /// Those of `new`, and `BadSetup` for coordinates that don't fit 38 bits (DF025 to DF027).
-    pub fn with_values(
-        alloc: Global,
-        setup: Setup,
-        initial: StationValues,
-    ) -> Result<Converter, Fault>
+    pub fn with_values(alloc: Global, setup: Setup, initial: StationValues) -> Result<Self, Fault>
         ensures history { IfOk result (λ c. HasConverted c (setup_value_with setup initial) []) }
         ensures fresh { IfOk result (λ c. (c.scan.limit ≡ setup.limit) × (c.scan.taken ≡ 0)) }
         ensures bad { result ≡ Err Fault.BadSetup ↔ IsBadWith (start_with setup initial) }
@@ -108,11 +118,7 @@ impl Converter {
     /// # Errors
     ///
     /// Those of `with_values`.
-    pub fn with_options(
-        alloc: Global,
-        setup: Setup,
-        options: ConvertOptions,
-    ) -> Result<Converter, Fault>
+    pub fn with_options(alloc: Global, setup: Setup, options: ConvertOptions) -> Result<Self, Fault>
         ensures history { IfOk result (λ c. HasConverted c (setup_value_by setup options) []) }
         ensures fresh { IfOk result (λ c. (c.scan.limit ≡ setup.limit) × (c.scan.taken ≡ 0)) }
         ensures bad { result ≡ Err Fault.BadSetup ↔ IsBadWith (start_by setup options) }
@@ -124,23 +130,18 @@ impl Converter {
             return Err(Fault::BadSetup);
         }
         let limit = setup.limit;
-        let file_writer = match FileWriter::new(alloc, setup, options) {
-            Ok(file_writer) => file_writer,
-            Err(fault) => return Err(fault),
+        let file_writer = FileWriter::new(alloc, setup, options)?;
+        let Ok(framer) = Framer::new(alloc, limit) else {
+            drop(file_writer);
+            return Err(Fault::Memory);
         };
-        match Framer::new(alloc, limit) {
-            Ok(framer) => Ok(Converter {
-                framer,
-                frame: Frame::new(),
-                file_writer,
-                failed: false,
-                finished: false,
-            }),
-            Err(_) => {
-                drop(file_writer);
-                Err(Fault::Memory)
-            }
-        }
+        Ok(Converter {
+            framer,
+            frame: Frame::new(),
+            file_writer,
+            failed: false,
+            finished: false,
+        })
     }
 
     /// Accepts a piece of the stream, of any length, writes every epoch that it closes, and has the
@@ -175,9 +176,8 @@ impl Converter {
         ensures device { FailsWithWriter result writer.old writer.new }
         ensures left { IsLeft IsFeedFault self.old self.new result }
     {
-        if let Some(earlier) = self.refusal() {
-            return Err(earlier);
-        }
+        // A refused call has no effect.
+        self.refuse()?;
         laws::filed();
         let frame = &mut self.frame;
         let file_writer = &mut self.file_writer;
@@ -226,21 +226,15 @@ impl Converter {
         ensures taken { self.new.scan.taken ≡ self.old.scan.taken }
         ensures left { IsLeft IsFinishFault self.old self.new result × OnOk result (self.new.has_ended ≡ true) }
     {
-        if let Some(fault) = self.refusal() {
-            return Err(fault);
+        self.refuse()?;
+        if let Err(_) = end_stream(&mut self.framer, &mut self.file_writer, writer) {
+            self.failed = true;
+            return Err(Fault::Write);
         }
-        match end_stream(&mut self.framer, &mut self.file_writer, writer) {
-            Ok(()) => {
-                self.finished = true;
-                // Brings the values and bounds of what is held into the proof.
-                let _ = self.kept();
-                self.ended_report()
-            }
-            Err(_) => {
-                self.failed = true;
-                Err(Fault::Write)
-            }
-        }
+        self.finished = true;
+        // Brings the values and bounds of what is held into the proof.
+        let _ = self.kept();
+        self.ended_report()
     }
 
     /// Returns the report of an ended stream, or `NoEpoch` if its file has no epoch.
@@ -299,28 +293,23 @@ impl Converter {
         ensures device { FailsWithWriter result writer.old writer.new }
         ensures left { IsLeft IsPiecesFault self.old self.new result × OnOk result (self.new.has_ended ≡ true) }
     {
-        if let Some(fault) = self.refusal() {
-            return Err(fault);
-        }
+        self.refuse()?;
         for piece in pieces {
-            if let Err(fault) = self.feed(piece, writer) {
-                return Err(fault);
-            }
+            self.feed(piece, writer)?;
         }
         self.finish(writer)
     }
 
-    /// Returns the fault of every call of a converter that is finished or has failed.
-    fn refusal(&self) -> Option<Fault>
-        ensures { result ≡ refusal self.now }
+    /// Refuses every call of a converter that is finished or has failed.
+    fn refuse(&self) -> Result<(), Fault>
+        ensures going { OnOk result (refusal self.now ≡ None) }
+        ensures refused { IfErr result (λ fault. refusal self.now ≡ Some fault) }
     {
-        if self.finished {
-            return Some(Fault::Finished);
+        match (self.finished, self.failed) {
+            (true, _) => Err(Fault::Finished),
+            (_, true) => Err(Fault::Failed),
+            _ => Ok(()),
         }
-        if self.failed {
-            return Some(Fault::Failed);
-        }
-        None
     }
 
     /// Reads the rest of the stream, at most 1,029 bytes at a time less those held, and writes the
@@ -363,17 +352,13 @@ impl Converter {
         ensures writer { FailsWithWriter result writer.old writer.new }
         ensures left { IsLeft IsRunFault self.old self.new result × OnOk result (self.new.has_ended ≡ true) }
     {
-        if let Some(fault) = self.refusal() {
-            return Err(fault);
-        }
+        self.refuse()?;
         laws::filed();
         rtcm_scan::laws::prefix();
         let mut buffer = [0u8; LONGEST_FRAME];
+        let framer = &mut self.framer;
         let frame = &mut self.frame;
-        match self
-            .framer
-            .read_pieces(reader, &mut buffer, frame, &mut self.file_writer, writer)
-        {
+        match framer.read_pieces(reader, &mut buffer, frame, &mut self.file_writer, writer) {
             Ok(()) => {
                 // Brings the values and bounds of what is held into the proof.
                 let _ = self.kept();

@@ -1,4 +1,4 @@
-//! From frames to the bytes of a file.
+//! From frames to the bytes of a file, and the end of a stream.
 ghost use Rattle.std.specs.Prelude.{◌≡◌, ◌↔◌, [], false, true, Err, OnOk, OnErr, IfOk, IfErr};
 ghost use Rattle.std.specs.Io.KnownBytes.{Appends};
 ghost use Rattle.rtcm_bits.specs.Device.{AppendsPrefix, FailsWith};
@@ -9,15 +9,19 @@ ghost use Rattle.rtcm_convert.specs.Filed.{HasFiledFrames, opening_of, added_by,
 ghost use Rattle.rtcm_convert.specs.Steps.{IsCloseFirst, IsFinalKind, WritesFirst, TakesMessage, IsTakenAgain};
 ghost use Rattle.rtcm_convert.specs.Steps.{IsKindOf, BreaksInMessage, TakesNext, IsKindOfNext, BreaksInNext};
 ghost use Rattle.rtcm_convert.specs.Steps.{EndsFile, BreaksInRest};
+ghost use Rattle.rtcm_scan.specs.Examined.{HasExaminedSome};
+ghost use Rattle.rtcm_convert.specs.Stream.{Files, BreaksFiling, HasDrainedSome, EndsBytes, BreaksAtEndOf};
 
 use crate::fault::Fault;
+use crate::laws;
 use crate::report::Report;
 use crate::setup::{ConvertOptions, Setup};
 use gnss_obs::{Epoch, PlanFault, StationValues};
 use obs_epoch::{GatherOptions, Gatherer, Kind, msm_set};
 use rinex_file::{Head, HeadFault, HeaderTexts, write_epoch, write_event, write_header};
 use rtcm_bits::{Counted, Deliver};
-use rtcm_msg::{MsmSet, View};
+use rtcm_msg::{MsmSet, View, look_in};
+use rtcm_scan::{Frame, FrameSink, Framer};
 use std::alloc::Global;
 use std::io::Write;
 
@@ -41,11 +45,7 @@ pub(crate) struct FileWriter {
 impl FileWriter {
     /// Returns a file writer that has processed no frame. A week or a station out of range is
     /// `BadSetup`.
-    pub(crate) fn new(
-        alloc: Global,
-        setup: Setup,
-        options: ConvertOptions,
-    ) -> Result<FileWriter, Fault>
+    pub(crate) fn new(alloc: Global, setup: Setup, options: ConvertOptions) -> Result<Self, Fault>
         ensures history { IfOk result (λ file_writer. HasFiledFrames file_writer (setup_value_by setup options) []) }
         ensures going { IfOk result (λ file_writer. file_writer.gatherer.has_ended ≡ false) }
         ensures bad { result ≡ Err Fault.BadSetup ↔ IsBadStart setup }
@@ -128,13 +128,9 @@ impl FileWriter {
         if !epoch.has_satellites() {
             return Ok(());
         }
-        if let Err(fault) = self.open(epoch, writer) {
-            return Err(fault);
-        }
+        self.open(epoch, writer)?;
         let values = epoch.station_values();
-        if let Err(fault) = write_epoch(epoch, self.gatherer.plan(), writer) {
-            return Err(fault);
-        }
+        write_epoch(epoch, self.gatherer.plan(), writer)?;
         self.values = Some(values);
         self.epochs = self.epochs.saturating_add(1);
         Ok(())
@@ -186,10 +182,7 @@ impl FileWriter {
         ensures device { FailsToWrite result writer.old writer.new }
         ensures ended { self.new.gatherer.has_ended ≡ false }
     {
-        let kind = match self.step(message, writer) {
-            Ok(kind) => kind,
-            Err(fault) => return Err(fault),
-        };
+        let kind = self.step(message, writer)?;
         if !kind.is_close_first() {
             return Ok(kind);
         }
@@ -216,5 +209,67 @@ impl FileWriter {
             return Err(Fault::Write);
         }
         Ok(())
+    }
+}
+
+impl<W: Deliver> FrameSink<Counted<W>> for FileWriter {
+    type Fault = Fault;
+
+    ghost can_take = { λ v. v.gatherer.has_ended ≡ false };
+
+    ghost is_sent = { λ o. W.waiting o.inner ≡ [] };
+
+    ghost took = { Files W.contents };
+
+    ghost broke = { BreaksFiling W.contents };
+
+    fn take(&mut self, frame: &Frame, out: &mut Counted<W>) -> Result<(), Fault> {
+        match look_in(&self.set, &frame.message) {
+            Err(_) => {
+                self.tally.count(None);
+                Ok(())
+            }
+            Ok(message) => match self.take_message(&message, out) {
+                Ok(kind) => {
+                    self.tally.count(Some(kind));
+                    Ok(())
+                }
+                Err(fault) => Err(fault),
+            },
+        }
+    }
+
+    fn send(&self, out: &mut Counted<W>) -> Result<(), Fault> {
+        match out.flush_whole() {
+            Ok(()) => Ok(()),
+            Err(_) => Err(Fault::Write),
+        }
+    }
+}
+
+/// Ends the stream: processes the remaining frames, writes the rest of the file, and delivers it.
+pub(crate) fn end_stream<W: Deliver>(
+    framer: &mut Framer,
+    file_writer: &mut FileWriter,
+    writer: &mut Counted<W>,
+) -> Result<(), Fault>
+    requires going { file_writer.old.gatherer.has_ended ≡ false }
+    requires listening { framer.old.has_ended ≡ false }
+    requires some { HasDrainedSome framer.old }
+    ensures whole { OnOk result
+        (EndsBytes framer.old file_writer.old framer.new file_writer.new (W.contents writer.old.inner)
+        (W.contents writer.new.inner)) }
+    ensures part { OnErr result
+        (BreaksAtEndOf framer.old file_writer.old (W.contents writer.old.inner) (W.contents writer.new.inner)) }
+    ensures device { FailsToWrite result writer.old writer.new }
+    ensures sent { OnOk result (W.waiting writer.new.inner ≡ []) }
+    ensures some { HasExaminedSome framer.new }
+    ensures same { (framer.new.limit ≡ framer.old.limit) × (framer.new.taken ≡ framer.old.taken) }
+{
+    laws::filed();
+    rtcm_scan::laws::prefix();
+    match framer.finish(file_writer, writer) {
+        Ok(()) => file_writer.end(writer),
+        Err(_) => Err(Fault::Write),
     }
 }

@@ -5,16 +5,13 @@
 mod converter;
 mod fault;
 mod file_writer;
-mod kept;
 pub mod laws;
 mod report;
 mod setup;
-mod stream;
 mod whole;
 
-pub use converter::Converter;
+pub use converter::{Converter, Kept};
 pub use fault::Fault;
-pub use kept::Kept;
 pub use report::Report;
 pub use setup::{ConvertOptions, Setup};
 pub use whole::{convert_pieces, convert_stream, convert_stream_with, convert_with_options};

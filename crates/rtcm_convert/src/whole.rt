@@ -154,14 +154,10 @@ pub fn convert_with_options<R: Read, W: Deliver>(
 {
     laws::prefix();
     laws::read_back(&setup);
-    match Converter::with_options(alloc, setup, options) {
-        Ok(mut converter) => {
-            let answer = converter.run(reader, writer);
-            drop(converter);
-            answer
-        }
-        Err(fault) => Err(fault),
-    }
+    let mut converter = Converter::with_options(alloc, setup, options)?;
+    let answer = converter.run(reader, writer);
+    drop(converter);
+    answer
 }
 
 /// Writes the observation file of a stream of these pieces: [`Converter::take_pieces`] of a new
@@ -202,12 +198,8 @@ pub fn convert_pieces<W: Deliver>(
 {
     laws::prefix();
     laws::read_back(&setup);
-    match Converter::new(alloc, setup) {
-        Ok(mut converter) => {
-            let answer = converter.take_pieces(pieces, writer);
-            drop(converter);
-            answer
-        }
-        Err(fault) => Err(fault),
-    }
+    let mut converter = Converter::new(alloc, setup)?;
+    let answer = converter.take_pieces(pieces, writer);
+    drop(converter);
+    answer
 }

@@ -3,11 +3,11 @@ use Rattle.rtcm_convert.proofs.WholeLemmas.{BeganNew, run_made, run_empty, piece
 use Rattle.rtcm_convert.proofs.Names.{Some, refl, no_values, options_with, LeftBy, BadSetup, Read, Failed, Finished, joined_pieces, start_zero}
 use Rattle.rtcm_convert.proofs.whole.convert_pieces.Goals as goal
 
-pub returns-in-Ok : goal.returns-in-Ok
-returns-in-Ok g c =
+pub returns : goal.returns
+returns g c =
     let x = start_zero c.args.setup in
-    let v = c.in-Ok.converter in
-    let h = c.in-Ok.ensures in
+    let v = c.in_ok-converter.converter in
+    let h = c.in_ok-converter.ensures in
     let w = c.take_pieces-answer.new.self in
     let r = c.take_pieces-answer.result in
     let n = c.take_pieces-answer.ensures in

@@ -1,14 +1,14 @@
-use Rattle.rtcm_convert.proofs.FaultLemmas.{run_known, never, not_of_setup, not_err}
+use Rattle.rtcm_convert.proofs.FaultLemmas.{passed, run_known, never, not_of_setup, not_err}
 use Rattle.rtcm_convert.proofs.PartLemmas.{same_fault}
 use Rattle.rtcm_convert.proofs.WholeLemmas.{BeganNew, run_made, run_empty, run_read, run_long, run_write}
-use Rattle.rtcm_convert.proofs.Names.{refl, LeftBy, BadSetup, Failed, Finished, start_by}
+use Rattle.rtcm_convert.proofs.Names.{◌≡◌, refl, Err, IsBadWith, LeftBy, BadSetup, Failed, Finished, start_by}
 use Rattle.rtcm_convert.proofs.whole.convert_with_options.Goals as goal
 
-pub returns-in-Ok : goal.returns-in-Ok
-returns-in-Ok g c =
+pub returns : goal.returns
+returns g c =
     let x = start_by c.args.setup c.args.options in
-    let v = c.in-Ok.converter in
-    let h = c.in-Ok.ensures in
+    let v = c.in_ok-converter.converter in
+    let h = c.in_ok-converter.ensures in
     let w = c.run-answer.new.self in
     let r = c.run-answer.result in
     let n = c.run-answer.ensures in
@@ -29,6 +29,8 @@ returns-in-Ok g c =
       only = (no Failed refl, no Finished refl);
     }
 
-pub returns-in-Err-clause-bad_setup : goal.returns-in-Err-clause-bad_setup
-returns-in-Err-clause-bad_setup g c =
-    (λ e. c.in-Err.ensures.bad.0 (same_fault c.in-Err.fault BadSetup e), λ b. same_fault c.in-Err.fault BadSetup (c.in-Err.ensures.bad.1 b))
+pub returns-in_err-converter-clause-bad_setup : goal.returns-in_err-converter-clause-bad_setup
+returns-in_err-converter-clause-bad_setup g c =
+    let bad = c.in_err-converter.ensures.bad in
+    passed c.from_residual.result _ (λ q. (q ≡ Err BadSetup → IsBadWith (start_by c.args.setup c.args.options)) × (IsBadWith (start_by c.args.setup c.args.options) → q ≡ Err BadSetup)) c.from_residual.ensures.1
+    (λ e. bad.0 (same_fault _ BadSetup e), λ b. same_fault _ BadSetup (bad.1 b))

@@ -8,34 +8,34 @@ use Rattle.rtcm_convert.proofs.converter.Converter.feed.Goals as goal
 
 pub invariant_of-self : goal.invariant_of-self
 invariant_of-self g c =
-    fed_fit c.args.piece.now c.self.invariant (going_on c.self.view_is c.in_default.ensures) c.in-Ok.ensures.goes c.in-Ok.ensures.ready c.feed.ensures.same.ended c.feed.ensures.same.some c.in-Ok.ensures.whole
+    fed_fit c.args.piece.now c.self.invariant (going_on c.self.view_is c.in_ok-refuse.ensures.going) c.in-Ok.ensures.goes c.in-Ok.ensures.ready c.feed.ensures.same.ended c.feed.ensures.same.some c.in-Ok.ensures.whole
 
 pub returns-in-Ok-clause-whole : goal.returns-in-Ok-clause-whole
 returns-in-Ok-clause-whole g c =
-    let go = going_on c.self.view_is c.in_default.ensures in
+    let go = going_on c.self.view_is c.in_ok-refuse.ensures.going in
     subst (λ (x : Conversion). TakesPiece x (with_flags c.self.inside.failed c.self.inside.finished c.feed.new.self c.feed.new.sink) (g.W.Write.contents c.args.writer.now.inner) (g.W.Write.contents c.feed.new.out.inner) c.args.piece.now) c.self.view_is (fed_whole c.args.piece.now (record { bounds = c.kept.ensures.bounds; values = c.kept.ensures.now }) (c.self.invariant.listening go) (c.feed.ensures.same.ended ∙ c.self.invariant.listening go) c.in-Ok.ensures.whole)
 
 pub returns-in-Ok-clause-device : goal.returns-in-Ok-clause-device
 returns-in-Ok-clause-device g c =
-    let d = piece_fine g.W.Write.contents c.args.piece.now c.in-Ok.ensures.whole (c.self.invariant.drained (going_on c.self.view_is c.in_default.ensures)) in (tt, d.1, d.2)
+    let d = piece_fine g.W.Write.contents c.args.piece.now c.in-Ok.ensures.whole (c.self.invariant.drained (going_on c.self.view_is c.in_ok-refuse.ensures.going)) in (tt, d.1, d.2)
 
 pub returns-in-Err-TooLong-clause-long : goal.returns-in-Err-TooLong-clause-long
 returns-in-Err-TooLong-clause-long g c =
-    let go = going_on c.self.view_is c.in_default.ensures in
+    let go = going_on c.self.view_is c.in_ok-refuse.ensures.going in
     let k = long_of c.in-Err-TooLong.field-0 _ _ _ c.in-Err-TooLong.field-0-is c.in-Err-TooLong.ensures.fault in
     λ _. subst (λ (x : Conversion). CutsAtLimit x (with_flags true c.self.inside.finished c.feed.new.self c.feed.new.sink) (g.W.Write.contents c.args.writer.now.inner) (g.W.Write.contents c.feed.new.out.inner) c.args.piece.now) c.self.view_is (fed_long c.args.piece.now (c.self.invariant.listening go) (c.feed.ensures.same.ended ∙ c.self.invariant.listening go) k)
 
 pub returns-in-Err-TooLong-clause-device : goal.returns-in-Err-TooLong-clause-device
 returns-in-Err-TooLong-clause-device g c =
     let k = long_of c.in-Err-TooLong.field-0 _ _ _ c.in-Err-TooLong.field-0-is c.in-Err-TooLong.ensures.fault in
-    let d = piece_fine g.W.Write.contents (up_to_limit c.self.inside.framer c.args.piece.now) k.passes (c.self.invariant.drained (going_on c.self.view_is c.in_default.ensures)) in (d.1, tt, d.2)
+    let d = piece_fine g.W.Write.contents (up_to_limit c.self.inside.framer c.args.piece.now) k.passes (c.self.invariant.drained (going_on c.self.view_is c.in_ok-refuse.ensures.going)) in (d.1, tt, d.2)
 
 pub returns-in-Err-Sink-clause-part : goal.returns-in-Err-Sink-clause-part
 returns-in-Err-Sink-clause-part g c =
     let k = sink_of c.in-Err-Sink.field-0 c.in-Err-Sink.field-0-0 _ _ _ c.in-Err-Sink.field-0-is c.in-Err-Sink.ensures.fault in
-    λ _. subst (λ (x : Conversion). WritesPrefixOfAdded x (g.W.Write.contents c.args.writer.now.inner) (g.W.Write.contents c.feed.new.out.inner) c.args.piece.now) c.self.view_is (fed_part c.args.piece.now c.filed.ensures.grows (c.self.invariant.listening (going_on c.self.view_is c.in_default.ensures)) k)
+    λ _. subst (λ (x : Conversion). WritesPrefixOfAdded x (g.W.Write.contents c.args.writer.now.inner) (g.W.Write.contents c.feed.new.out.inner) c.args.piece.now) c.self.view_is (fed_part c.args.piece.now c.filed.ensures.grows (c.self.invariant.listening (going_on c.self.view_is c.in_ok-refuse.ensures.going)) k)
 
 pub returns-in-Err-Sink-clause-device : goal.returns-in-Err-Sink-clause-device
 returns-in-Err-Sink-clause-device g c =
     let k = sink_of c.in-Err-Sink.field-0 c.in-Err-Sink.field-0-0 _ _ _ c.in-Err-Sink.field-0-is c.in-Err-Sink.ensures.fault in
-    let d = piece_failed g.W.Write.contents c.args.piece.now k (c.self.invariant.drained (going_on c.self.view_is c.in_default.ensures)) in (d.0, tt, d.1)
+    let d = piece_failed g.W.Write.contents c.args.piece.now k (c.self.invariant.drained (going_on c.self.view_is c.in_ok-refuse.ensures.going)) in (d.0, tt, d.1)

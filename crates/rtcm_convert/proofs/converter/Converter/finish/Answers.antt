@@ -4,12 +4,12 @@ use Rattle.rtcm_convert.proofs.FeedLemmas.{with_flags, finishes, finishes_empty}
 use Rattle.rtcm_convert.proofs.Names.{IfOk, IfOk-weaker, rules, subst, true, Conversion, FinishesEmptyNow, FinishesNow}
 use Rattle.rtcm_convert.proofs.converter.Converter.finish.Goals as goal
 
-pub returns-in-Ok-clause-whole : goal.returns-in-Ok-clause-whole
-returns-in-Ok-clause-whole g c =
+pub returns-clause-whole : goal.returns-clause-whole
+returns-clause-whole g c =
     let r = c.ended_report.result in
-    subst (λ (x : Conversion). IfOk r (FinishesNow x (with_flags c.self.inside.failed true c.end_stream.new.framer c.end_stream.new.file_writer) (g.W.Deliver.waiting c.end_stream.new.writer.inner) (g.W.Write.contents c.args.writer.now.inner) (g.W.Write.contents c.end_stream.new.writer.inner))) c.self.view_is (IfOk-weaker r _ _ (λ _. finishes c.in-Ok.ensures.whole c.kept.ensures.all c.kept.ensures.bounds c.in-Ok.ensures.sent) c.ended_report.ensures.some)
+    subst (λ (x : Conversion). IfOk r (FinishesNow x (with_flags c.self.inside.failed true c.end_stream.new.framer c.end_stream.new.file_writer) (g.W.Deliver.waiting c.end_stream.new.writer.inner) (g.W.Write.contents c.args.writer.now.inner) (g.W.Write.contents c.end_stream.new.writer.inner))) c.self.view_is (IfOk-weaker r _ _ (λ _. finishes c.in_default.ensures.whole c.kept.ensures.all c.kept.ensures.bounds c.in_default.ensures.sent) c.ended_report.ensures.some)
 
-pub returns-in-Ok-clause-no_epoch : goal.returns-in-Ok-clause-no_epoch
-returns-in-Ok-clause-no_epoch g c =
+pub returns-clause-no_epoch : goal.returns-clause-no_epoch
+returns-clause-no_epoch g c =
     let none = c.ended_report.ensures.none in
-    λ is. subst (λ (x : Conversion). FinishesEmptyNow x (with_flags c.self.inside.failed true c.end_stream.new.framer c.end_stream.new.file_writer) (g.W.Deliver.waiting c.end_stream.new.writer.inner) (g.W.Write.contents c.args.writer.now.inner) (g.W.Write.contents c.end_stream.new.writer.inner)) c.self.view_is (finishes_empty c.in-Ok.ensures.whole c.kept.ensures.all c.kept.ensures.bounds c.in-Ok.ensures.sent (search rules))
+    λ is. subst (λ (x : Conversion). FinishesEmptyNow x (with_flags c.self.inside.failed true c.end_stream.new.framer c.end_stream.new.file_writer) (g.W.Deliver.waiting c.end_stream.new.writer.inner) (g.W.Write.contents c.args.writer.now.inner) (g.W.Write.contents c.end_stream.new.writer.inner)) c.self.view_is (finishes_empty c.in_default.ensures.whole c.kept.ensures.all c.kept.ensures.bounds c.in_default.ensures.sent (search rules))

@@ -1,6 +1,6 @@
 -- Each piece that was fed keeps the record of what was made from the pieces so far; the loop ends at the first
 -- fault.
-use Rattle.rtcm_convert.proofs.PartLemmas.{same_fault}
+use Rattle.rtcm_convert.proofs.PartLemmas.{same_passed}
 use Rattle.rtcm_convert.proofs.PiecesLemmas.{taken_then, longer_by, pieces_more, pieces_all, pieces_rest, pieces_whole, pieces_empty, pieces_long, pieces_broke, pieces_broke_at_end}
 use Rattle.rtcm_convert.proofs.Names.{◌∙◌, ap, IfOk-weaker}
 use Rattle.rtcm_convert.proofs.converter.Converter.take_pieces.Goals as goal
@@ -9,7 +9,7 @@ pub loop-piece-preserved : goal.loop-piece-preserved
 loop-piece-preserved g c =
     let more = pieces_more (λ piece. piece.items) c.args.pieces.now c.loop-piece.piece-index c.piece-item.result c.deref.result.now (c.deref.ensures.value ∙ ap (λ v. v.items) c.piece-item.is) c.loop-piece-test.true in
     let i = c.loop-piece.invariant in
-    let n = c.in_default-feed.ensures in
+    let n = c.in_ok-feed.ensures in
     record {
       came = taken_then _ c.deref.result.now more i.came n.whole;
       taken = longer_by c.args.self.now.scan.taken _ c.deref.result.now more i.taken n.going.2;
@@ -19,16 +19,16 @@ loop-piece-preserved g c =
       unread = n.device.2 ∙ i.unread;
     }
 
-pub returns-in-Err-clause-long : goal.returns-in-Err-clause-long
-returns-in-Err-clause-long g c =
+pub returns-in_err-feed-clause-long : goal.returns-in_err-feed-clause-long
+returns-in_err-feed-clause-long g c =
     let i = c.loop-piece.invariant in
     let more = pieces_more (λ piece. piece.items) c.args.pieces.now c.loop-piece.piece-index c.piece-item.result c.deref.result.now (c.deref.ensures.value ∙ ap (λ v. v.items) c.piece-item.is) c.loop-piece-test.true in
-    λ e. pieces_long _ i.came c.deref.result.now _ i.limit i.taken (pieces_rest (λ piece. piece.items) c.args.pieces.now c.loop-piece.piece-index c.deref.result.now more) (c.in-Err.ensures.long (same_fault _ _ e))
+    λ e. pieces_long _ i.came c.deref.result.now _ i.limit i.taken (pieces_rest (λ piece. piece.items) c.args.pieces.now c.loop-piece.piece-index c.deref.result.now more) (c.in_err-feed.ensures.long (same_passed c.from_residual-in_err-feed.result _ _ c.from_residual-in_err-feed.ensures.1 e))
 
-pub returns-in-Err-clause-write : goal.returns-in-Err-clause-write
-returns-in-Err-clause-write g c =
+pub returns-in_err-feed-clause-write : goal.returns-in_err-feed-clause-write
+returns-in_err-feed-clause-write g c =
     let more = pieces_more (λ piece. piece.items) c.args.pieces.now c.loop-piece.piece-index c.piece-item.result c.deref.result.now (c.deref.ensures.value ∙ ap (λ v. v.items) c.piece-item.is) c.loop-piece-test.true in
-    λ e. pieces_broke c.args.pieces.now c.loop-piece.piece-index c.deref.result.now c.loop-piece.invariant.came c.loop-piece-test.true more (c.in-Err.ensures.part (same_fault _ _ e))
+    λ e. pieces_broke c.args.pieces.now c.loop-piece.piece-index c.deref.result.now c.loop-piece.invariant.came c.loop-piece-test.true more (c.in_err-feed.ensures.part (same_passed c.from_residual-in_err-feed.result _ _ c.from_residual-in_err-feed.ensures.1 e))
 
 pub returns-clause-whole : goal.returns-clause-whole
 returns-clause-whole g c =

@@ -1,8 +1,8 @@
 -- A new converter has examined, counted and written nothing.
-use Rattle.rtcm_convert.proofs.FaultLemmas.{not_err}
+use Rattle.rtcm_convert.proofs.FaultLemmas.{not_err, passed}
 use Rattle.rtcm_convert.proofs.PartLemmas.{same_fault}
 use Rattle.rtcm_convert.proofs.converter.Converter.with_options.Goals.{then-setup-gt-MOST_BYTES-via-then-setup-gt-MOST_BYTES, then-setup-gt-MOST_BYTES-via-else-setup-gt-MOST_BYTES+then-not-fits_message}
-use Rattle.rtcm_convert.proofs.Names.{true≢false, ◌≡◌, ◌≤◌, most_bytes, ℕ, List, [], subst, refl, sym, inl, inr, arith, ap, AreStationValues, Start, start_by, start_value, IsBadWith, IsBadStart, decided_frames, frames_before, IsDrained, HasExamined, IsCountedExactly, Framed, frames_of, frames_from, known_frames, new_scan, FramerValue, HasFiledFrames, HasDrained}
+use Rattle.rtcm_convert.proofs.Names.{true≢false, Err, BadSetup, ◌≡◌, ◌≤◌, most_bytes, ℕ, List, [], subst, refl, sym, inl, inr, arith, ap, AreStationValues, Start, start_by, start_value, IsBadWith, IsBadStart, decided_frames, frames_before, IsDrained, HasExamined, IsCountedExactly, Framed, frames_of, frames_from, known_frames, new_scan, FramerValue, HasFiledFrames, HasDrained}
 use Rattle.rtcm_convert.proofs.converter.Converter.with_options.Goals as goal
 
 bad_start : (x : Start) → AreStationValues x.options.initial → x.setup.limit ≤ most_bytes → IsBadWith x → IsBadStart x.setup
@@ -30,38 +30,41 @@ returns-then-setup-gt-MOST_BYTES-clause-bad c = (
   λ _. refl,
 )
 
-pub returns-in-Err-clause-bad : goal.returns-in-Err-clause-bad
-returns-in-Err-clause-bad c = (
-  λ e. inr (inr (c.in-Err.ensures.bad.0 (same_fault _ _ e))),
-  λ b. same_fault _ _ (c.in-Err.ensures.bad.1 (bad_start (start_by c.args.setup c.args.options) (c.if-not-fits_message.ensures.0 refl) c.if-setup-gt-MOST_BYTES.false b)),
-)
-
-pub returns-in-Err-new-clause-bad : goal.returns-in-Err-new-clause-bad
-returns-in-Err-new-clause-bad c =
-    (λ e. cc, λ b. absurd (not_err _ _ (c.in-Ok.ensures.bad.1 (bad_start (start_by c.args.setup c.args.options) (c.if-not-fits_message.ensures.0 refl) c.if-setup-gt-MOST_BYTES.false b))))
-
-pub returns-in-Ok-new-clause-history : goal.returns-in-Ok-new-clause-history
-returns-in-Ok-new-clause-history c =
+pub returns-in_err-file_writer-clause-bad : goal.returns-in_err-file_writer-clause-bad
+returns-in_err-file_writer-clause-bad c =
+    let bad = c.in_err-file_writer.ensures.bad in
     let x = start_by c.args.setup c.args.options in
-    let n = c.in-Ok-new.ensures in
-    let d = new_drained c.in-Ok-new.framer _ n.new n.counts n.drained n.counted in
+    passed c.from_residual.result _ (λ q. (q ≡ Err BadSetup → IsBadWith x) × (IsBadWith x → q ≡ Err BadSetup)) c.from_residual.ensures.1 (
+      λ e. inr (inr (bad.0 (same_fault _ _ e))),
+      λ b. same_fault _ _ (bad.1 (bad_start x (c.if-not-fits_message.ensures.0 refl) c.if-setup-gt-MOST_BYTES.false b)),
+    )
+
+pub returns-in_default-clause-bad : goal.returns-in_default-clause-bad
+returns-in_default-clause-bad c =
+    (λ e. cc, λ b. absurd (not_err _ _ (c.in_ok-file_writer.ensures.bad.1 (bad_start (start_by c.args.setup c.args.options) (c.if-not-fits_message.ensures.0 refl) c.if-setup-gt-MOST_BYTES.false b))))
+
+pub returns-clause-history : goal.returns-clause-history
+returns-clause-history c =
+    let x = start_by c.args.setup c.args.options in
+    let n = c.in-Ok.ensures in
+    let d = new_drained c.in-Ok.framer _ n.new n.counts n.drained n.counted in
     record {
       going = record { fine = refl; more = refl };
       drained = record {
         framer = d.framer;
         drained = d.drained;
         counted = d.counted;
-        file_writer = subst (λ (l : List Framed). HasFiledFrames c.in-Ok.file_writer (start_value x) l) (none_known _ _ n.new) c.in-Ok.ensures.history;
+        file_writer = subst (λ (l : List Framed). HasFiledFrames c.in_ok-file_writer.file_writer (start_value x) l) (none_known _ _ n.new) c.in_ok-file_writer.ensures.history;
       };
     }
 
 pub invariant_of-result : goal.invariant_of-result
 invariant_of-result c =
-    let n = c.in-Ok-new.ensures in
+    let n = c.in-Ok.ensures in
     record {
-      going = λ _. c.in-Ok.ensures.going;
+      going = λ _. c.in_ok-file_writer.ensures.going;
       listening = λ _. ap (λ (v : FramerValue). v.has_ended) n.new;
       ready = λ _. ap (λ (v : FramerValue). v.is_ready) n.new;
-      drained = λ _. ([], new_drained c.in-Ok-new.framer _ n.new n.counts n.drained n.counted);
+      drained = λ _. ([], new_drained c.in-Ok.framer _ n.new n.counts n.drained n.counted);
       examined = ([], [], n.counts);
     }

@@ -1,7 +1,7 @@
 use Rattle.rtcm_convert.proofs.Names.{sym, ap, refl, ◌∙◌, message_with, framed}
 use Rattle.rtcm_convert.proofs.StreamLemmas as sink
 use Rattle.rtcm_convert.proofs.TakeLemmas as writer
-use Rattle.rtcm_convert.proofs.stream.FileWriterFrameSinkCounted.take.Goals as goal
+use Rattle.rtcm_convert.proofs.file_writer.FileWriterFrameSinkCounted.take.Goals as goal
 
 pub returns-in-Err-clause-whole : goal.returns-in-Err-clause-whole
 returns-in-Err-clause-whole g c =

@@ -1,5 +1,5 @@
 use Rattle.rtcm_convert.proofs.StreamLemmas.{files_unsent}
-use Rattle.rtcm_convert.proofs.stream.FileWriterFrameSinkCounted.send.Goals as goal
+use Rattle.rtcm_convert.proofs.file_writer.FileWriterFrameSinkCounted.send.Goals as goal
 
 pub returns-in-Err-clause-part : goal.returns-in-Err-clause-part
 returns-in-Err-clause-part g c = λ s o ps fs x.

@@ -1,7 +1,7 @@
 use Rattle.rtcm_convert.proofs.EndLemmas.{ended, ended_part, ended_fine, drain_part, drain_failed}
 use Rattle.rtcm_convert.proofs.StreamLemmas.{passed_here}
 use Rattle.rtcm_convert.proofs.Names.{◌∙◌, ℕ, refl, subst, on_ok_weaker, on_err_weaker, HasFailed}
-use Rattle.rtcm_convert.proofs.stream.end_stream.Goals as goal
+use Rattle.rtcm_convert.proofs.file_writer.end_stream.Goals as goal
 
 pub returns-in-Ok-clause-whole : goal.returns-in-Ok-clause-whole
 returns-in-Ok-clause-whole g c =
