@@ -19,8 +19,8 @@ pub use Rattle.obs_epoch.specs.SignalCounts.{AreSignalCounts, CountsMessage, Sig
 pub use Rattle.obs_epoch.specs.Sets.{set_of}
 pub use Rattle.obs_epoch.specs.Times.{Timed, ahead, greatest_time, is_closed, is_past, max_known, taken_at, timed_after}
 pub use Rattle.rinex_file.specs.Blocks.{LeavesRest}
-pub use Rattle.rinex_file.specs.Counting.{AreCounts, IsSummary}
-pub use Rattle.rinex_file.specs.Exact.{IsNoFault, most_lines}
+pub use Rattle.rinex_file.specs.Counting.{AreCounts, HoldsOr, IsSummary, IsTextWith}
+pub use Rattle.rinex_file.specs.Exact.{IfTextOfFile, IsNoFault, most_lines}
 pub use Rattle.rinex_file.specs.File.{file_lines, file_text}
 pub use Rattle.rinex_file.specs.FileValues.{IsFileValue, time_stamped}
 pub use Rattle.rinex_file.specs.ParserState.{rows_in}
@@ -34,7 +34,7 @@ pub use Rattle.rinex_file.specs.declared.read.file.FileSummary.{FileSummary}
 unfoldable pub use Rattle.rtcm_bits.specs.Bits.{bits_of}
 pub use Rattle.rtcm_bits.specs.Bits.{FitsInt, bit, filled, missing, number, uint}
 pub use Rattle.rtcm_bits.specs.Cursors.{Cursor}
-pub use Rattle.rtcm_bits.specs.Device.{AppendsPrefix, Device, HasFailed}
+pub use Rattle.rtcm_bits.specs.Device.{AppendsPrefix, Device, FailsWith, HasFailed}
 pub use Rattle.rtcm_bits.specs.FrameOf.{frame_bytes, longest_message, longest_message_bits}
 pub use Rattle.rtcm_bits.specs.Prefix.{IsPrefix}
 pub use Rattle.rtcm_bits.specs.declared.counted.DeviceFailed.{DeviceFailed}
@@ -120,7 +120,7 @@ pub use Rattle.std.specs.Option.{option_map, option_map_or, option_or}
 pub use Rattle.std.specs.Prelude.{MatchOption, codes, cond, filter_map, if◌then◌else◌, nat_le, nat_lt, option_and_then, option_to_list, position, unwrap_or, ⊤, ◌↔◌, ◌≢◌}
 pub use Rattle.std.specs.Result.{IsErrAnd, result_ok}
 pub use Rattle.std.specs.Str.{bytes_eq}
-pub use Rattle.std.proofs.Common.{All, Bool, Err, FitsSigned, IfSome, List, None, Ok, OnErr, OnOk, Option, Result, Some, [], ap, append-nil, append_assoc, ap₂, arith, count_ones, decimal, drop, false, filter, find, get_or, inl, inr, is_some, length, length-append, length-drop, length-take, map, nat_eq, negsuc, not, of_z, pos, refl, replicate, rules, subst, suc, sym, take, take-append-drop, to_z, true, w64, zero, ℕ, ℤ, ◌&&◌, ◌%◌, ◌*◌, ◌++◌, ◌+◌, ◌-◌, ◌/◌, ◌<◌, ◌==◌, ◌^◌, ◌||◌, ◌∙◌, ◌∷◌, ◌≡◌, ◌≤◌}
+pub use Rattle.std.proofs.Common.{All, Bool, Err, FitsSigned, IfOk, IfSome, List, MatchResult, None, Ok, OnErr, OnOk, Option, Result, Some, [], ap, append-nil, append_assoc, ap₂, arith, count_ones, decimal, drop, false, filter, find, get_or, inl, inr, is_some, length, length-append, length-drop, length-take, map, nat_eq, negsuc, not, of_z, pos, refl, replicate, rules, subst, suc, sym, take, take-append-drop, to_z, true, w64, zero, ℕ, ℤ, ◌&&◌, ◌%◌, ◌*◌, ◌++◌, ◌+◌, ◌-◌, ◌/◌, ◌<◌, ◌==◌, ◌^◌, ◌||◌, ◌∙◌, ◌∷◌, ◌≡◌, ◌≤◌}
 pub use Rattle.gnss_obs.specs.declared.civil.Civil.{Civil}
 pub use Rattle.rinex_file.specs.Read.Fields.{digits_from, digits_in, next_digit}
 pub use Rattle.rtcm_inspect.specs.Dates.{IsHourOf, IsWeekNumber, IsWeekOf, civil_in}

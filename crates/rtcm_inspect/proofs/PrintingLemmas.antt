@@ -1,5 +1,5 @@
 -- Texts written in one call, and failed calls.
-use Rattle.rtcm_inspect.proofs.Names.{◌≡◌, ◌∙◌, ◌++◌, ap, inl, inr, sym, subst, append-nil, append_assoc, ℕ, List, [], Option, Result, Ok, Err, OnErr, Appends, Keeps, Appends-kept, Appends-nil, Appends-trans, Device, HasFailed, EndsDelivery, IsDelivered, IsErrAnd, EndsPrinting, PrintsLine, PrintsText, AppendsPrefix, IsPrefix, InspectFault}
+use Rattle.rtcm_inspect.proofs.Names.{◌≡◌, ◌∙◌, ◌++◌, ap, inl, inr, refl, sym, subst, append-nil, append_assoc, ℕ, List, [], Option, Result, Ok, Err, OnErr, Appends, Keeps, Appends-kept, Appends-nil, Appends-trans, Device, HasFailed, EndsDelivery, IsDelivered, IsErrAnd, MatchResult, EndsPrinting, PrintsLine, PrintsText, AppendsPrefix, IsPrefix, InspectFault}
 
 pub on_err : {A E : Type 0} (r : Result A E) (P Q : Type 0) → (P → Q) → OnErr r P → OnErr r Q
 on_err (Ok x) P Q f p = p
@@ -37,6 +37,15 @@ printed_later {A} {text = text} (Err fault) held waits w1 w2 kept same x =
     let h : EndsPrinting {A = A} (Err fault) held waits w1 w2 text = subst (EndsPrinting {A = A} (Err fault) held waits w1 w2) same x in
     let prefix = h.1.1 in
     record { ends = (h.0, (subst (λ (n : ℕ). HasFailed n w2.failures) kept.0 h.1.0, (prefix.0, (prefix.1.0, prefix.1.1, kept_appends _ _ _ prefix.1.0 kept.1.0 prefix.1.2)))) }
+
+-- a result whose fault was replaced
+pub unmapped : {T D E : Type 0} (Q : D → E → Type 0) (r : Result T D) (s : Result T E) (t : T) → MatchResult r (λ x. s ≡ Ok x) (λ e. IsErrAnd s (Q e)) → s ≡ Ok t → r ≡ Ok t
+unmapped Q (Ok x) s t is ok = cc
+unmapped Q (Err e) s t is ok = absurd (rw ok at is)
+
+pub unmapped_err : {T D E : Type 0} (Q : D → E → Type 0) (r : Result T D) (s : Result T E) (f : E) → MatchResult r (λ x. s ≡ Ok x) (λ e. IsErrAnd s (Q e)) → s ≡ Err f → (e : D) × (r ≡ Err e) × Q e f
+unmapped_err Q (Ok x) s f is err = absurd cc
+unmapped_err Q (Err e) s f is err = (e, refl, rw err at is)
 
 -- an error that `?` returns
 pub passed : {A E : Type 0} (r : Result A E) (e : E) (P : Result A E → Type 0) → IsErrAnd r (λ y. y ≡ e) → P (Err e) → P r

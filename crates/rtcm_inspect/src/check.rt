@@ -1,17 +1,27 @@
-//! The command `check`: whether the input is a file as `convert` writes it, and its counts.
-ghost use Rattle.std.specs.Prelude.{◌≡◌, ◌≤◌, length};
+//! The command `check`: whether the input is a file as `convert` writes it, its counts, the times
+//! of its epochs, and the gaps between them.
+ghost use Rattle.std.specs.Prelude.{◌≡◌, ◌+◌, ◌<◌, ◌≤◌, ◌++◌, [], List, Option, ℕ, length, option_map};
 ghost use Rattle.rinex_file.specs.Blocks.{LeavesRest};
 ghost use Rattle.rinex_file.specs.Counting.{AreCounts};
 ghost use Rattle.rinex_file.specs.Value.{FileValue};
 ghost use Rattle.rtcm_inspect.specs.Devices.{Ends};
 ghost use Rattle.rtcm_bits.specs.Device.{Moves};
 ghost use Rattle.rtcm_inspect.specs.Checking.{AcceptsFiles, AreLinesOf, ChecksFile, ChecksTimes, IsLineOf};
-ghost use Rattle.rtcm_inspect.specs.Checking.{StopsChecking, StopsCheckingTimes, check_line};
+ghost use Rattle.rtcm_inspect.specs.Checking.{StopsChecking, StopsCheckingTimes, check_line, ChecksWhole};
+ghost use Rattle.rinex_file.specs.Read.EpochSteps.{HasReadEpochs};
+ghost use Rattle.rtcm_inspect.specs.DateTexts.{longest_times, moment_bytes, moment_words, step_line, time_line};
+ghost use Rattle.rtcm_inspect.specs.DateTexts.{times_lines};
+ghost use Rattle.rtcm_inspect.specs.Gaps.{AreGapsOf, ReadsGaps, StopsGaps, complete_line, gap_between, times_if};
+ghost use Rattle.rtcm_inspect.specs.Lengths.{longest_interval};
+ghost use Rattle.rtcm_inspect.specs.Printing.{EndsPrinting};
+ghost use Rattle.rtcm_inspect.specs.Lines.{with_words};
 
 use crate::fault::InspectFault;
 use crate::line::{OutputLine, deliver_waiting, print_text};
-use crate::times::add_times;
-use rinex_file::{Counts, check_file, check_file_times};
+use gnss_obs::GpsTime;
+use rinex_file::{
+    Counts, EpochReader, EpochTimes, FileSummary, NextEpoch, check_file, check_file_times,
+};
 use rtcm_bits::{Counted, Deliver};
 use std::alloc::Global;
 use std::io::Read;
@@ -41,13 +51,8 @@ pub fn run_check<R: Read, W: Deliver>(
         (AcceptsFiles IsLineOf result) }
 {
     deliver_waiting(writer)?;
-    match check_file(alloc, reader) {
-        Ok(counts) => {
-            let line = counts_line(&counts);
-            print_text(line.as_bytes(), writer)
-        }
-        Err(fault) => Err(InspectFault::Check(fault)),
-    }
+    let counts = check_file(alloc, reader).map_err(InspectFault::Check)?;
+    print_text(counts_line(&counts).as_bytes(), writer)
 }
 
 /// Reads a file as `run_check` does, and also writes the times of its first and its last epoch and
@@ -74,18 +79,135 @@ pub fn run_check_times<R: Read, W: Deliver>(
         (AcceptsFiles AreLinesOf result) }
 {
     deliver_waiting(writer)?;
-    match check_file_times(alloc, reader) {
+    let summary = check_file_times(alloc, reader).map_err(InspectFault::Check)?;
+    let mut text = counts_line(&summary.counts);
+    add_times(&mut text, &summary.times);
+    print_text(text.as_bytes(), writer)
+}
+
+/// Reads a file as `run_check` does. While it is read, writes a line for each two consecutive
+/// epochs that are more than `interval` milliseconds apart; at the end the counts, the times if
+/// they are asked for, and the number of epochs with that of a complete file: those at this
+/// interval from the first to the last.
+///
+/// # Errors
+///
+/// Those of `run_check`.
+#[inline(never)]
+pub fn run_check_gaps<R: Read, W: Deliver>(
+    alloc: Global,
+    interval: u64,
+    with_times: bool,
+    reader: &mut Counted<R>,
+    writer: &mut Counted<W>,
+) -> Result<(), InspectFault>
+    requires { (0 < interval) × (interval ≤ longest_interval) }
+    ensures ends { Ends result reader.old reader.new W.waiting writer.old writer.new
+        (λ _. ChecksWhole (AreGapsOf interval with_times)
+        (R.remaining reader.old.inner) (W.contents writer.old.inner) (W.contents writer.new.inner))
+        (StopsGaps interval with_times
+        R.remaining reader.old reader.new W.contents W.waiting writer.old writer.new) }
+
+    // Some prefix of the input was read.
+    ensures left { LeavesRest (R.remaining reader.old.inner) (R.remaining reader.new.inner) }
+
+    // The text of each file value is accepted.
+    ensures only { Moves R.remaining reader.old reader.new W.contents writer.old writer.new
+        (AcceptsFiles (AreGapsOf interval with_times) result) }
+{
+    deliver_waiting(writer)?;
+    let mut file = EpochReader::new(alloc);
+    let read = print_gaps(interval, &mut file, reader, writer);
+    drop(file);
+    match read {
         Ok(summary) => {
             let mut text = counts_line(&summary.counts);
-            add_times(&mut text, &summary.times);
+            add_asked_times(&mut text, with_times, &summary.times);
+            add_complete(&mut text, interval, &summary);
             print_text(text.as_bytes(), writer)
         }
-        Err(refusal) => Err(InspectFault::Check(refusal)),
+        Err(fault) => Err(fault),
     }
 }
 
+/// Reads a file to its end, and writes a line for each gap.
+fn print_gaps<R: Read, W: Deliver>(
+    interval: u64,
+    file: &mut EpochReader,
+    reader: &mut Counted<R>,
+    writer: &mut Counted<W>,
+) -> Result<FileSummary, InspectFault>
+    requires small { interval ≤ longest_interval }
+    requires start { (input : Option (List ℕ)) → HasReadEpochs file.old [] input input }
+    requires sent { W.waiting writer.old.inner ≡ [] }
+    ensures gaps { ReadsGaps result interval
+        R.remaining reader.old reader.new W.contents W.waiting writer.old writer.new }
+    ensures left { LeavesRest (R.remaining reader.old.inner) (R.remaining reader.new.inner) }
+{
+    loop {
+        match file.next(reader) {
+            Ok(NextEpoch::Epoch { before, time }) => print_gap(interval, before, time, writer)?,
+            Ok(NextEpoch::End(summary)) => return Ok(summary),
+            Err(fault) => return Err(InspectFault::Check(fault)),
+        }
+    }
+}
+
+/// Writes the line of a gap, if the last of the times before this one is more than `interval`
+/// milliseconds earlier.
+fn print_gap<W: Deliver>(
+    interval: u64,
+    before: Option<EpochTimes>,
+    time: GpsTime,
+    writer: &mut Counted<W>,
+) -> Result<(), InspectFault>
+    requires small { interval ≤ longest_interval }
+    requires sent { W.waiting writer.old.inner ≡ [] }
+    ensures { EndsPrinting result W.contents W.waiting writer.old writer.new
+        (gap_between interval (option_map (λ t. t.last) before) time) }
+{
+    let Some(times) = before else {
+        return Ok(());
+    };
+    let last = times.last;
+    if last.milliseconds() + interval >= time.milliseconds() {
+        return Ok(());
+    }
+    let mut line = OutputLine::new();
+    line.put(b"gap");
+    add_moment(&mut line, last);
+    add_moment(&mut line, time);
+    line.finish();
+    print_text(line.as_bytes(), writer)
+}
+
+/// Adds the lines of the times, if they are asked for.
+fn add_asked_times(text: &mut OutputLine, with_times: bool, times: &EpochTimes)
+    requires { length text.old ≤ 100 }
+    ensures text { text.new ≡ text.old ++ times_if with_times times.now }
+    ensures short { length text.new ≤ length text.old + longest_times }
+{
+    if with_times {
+        add_times(text, times);
+    }
+}
+
+/// Adds the line of the number of epochs and that of a complete file.
+fn add_complete(text: &mut OutputLine, interval: u64, summary: &FileSummary)
+    requires room { length text.old ≤ 300 }
+    requires some { 0 < interval }
+    ensures { text.new ≡ text.old ++ complete_line interval summary.now.counts.epochs summary.now.times }
+{
+    let first = summary.times.first.milliseconds();
+    let span = summary.times.last.milliseconds().saturating_sub(first);
+    text.put(b"complete");
+    text.add_number(summary.counts.epochs);
+    text.add_count("of", span / interval + 1);
+    text.finish();
+}
+
 /// Returns the line of the counts of a file.
-pub(crate) fn counts_line(counts: &Counts) -> OutputLine
+fn counts_line(counts: &Counts) -> OutputLine
     ensures line { (v : FileValue) → AreCounts counts.now v → result ≡ check_line v }
     ensures short { length result ≤ 100 }
 {
@@ -96,4 +218,58 @@ pub(crate) fn counts_line(counts: &Counts) -> OutputLine
     line.add_count("events", counts.events);
     line.finish();
     line
+}
+
+/// Adds the lines of the times of a file's epochs.
+fn add_times(text: &mut OutputLine, times: &EpochTimes)
+    requires { length text.old ≤ 100 }
+    ensures text { text.new ≡ text.old ++ times_lines times.now }
+    ensures short { length text.new ≤ length text.old + longest_times }
+{
+    add_time(text, "first", times.first);
+    add_time(text, "last", times.last);
+    add_step(text, times.step);
+}
+
+/// Adds the line of a time: a name, the date and the time of day.
+fn add_time(text: &mut OutputLine, name: &str, time: GpsTime)
+    requires room { length text.old ≤ 200 }
+    requires short { length name.now ≤ 10 }
+    ensures text { text.new ≡ text.old ++ time_line name.now time }
+    ensures short { length text.new ≤ length text.old + 40 }
+{
+    text.put(name.as_bytes());
+    add_moment(text, time);
+    text.finish();
+}
+
+/// Adds the date and the time of day of a time, each after a blank.
+fn add_moment(text: &mut OutputLine, time: GpsTime)
+    requires { length text.old ≤ 250 }
+    ensures text { text.new ≡ with_words text.old (moment_words time) }
+    ensures short { length text.new ≤ length text.old + moment_bytes }
+{
+    let civil = time.civil();
+    let millisecond = u64::from(civil.millisecond);
+    text.add_four(b' ', u64::from(civil.year));
+    text.add_two(b'-', u64::from(civil.month));
+    text.add_two(b'-', u64::from(civil.day));
+    text.add_two(b' ', u64::from(civil.hour));
+    text.add_two(b':', u64::from(civil.minute));
+    text.add_two(b':', millisecond / 1_000);
+    text.add_three(b'.', millisecond);
+}
+
+/// Adds the line of the step in seconds, if there is one.
+fn add_step(text: &mut OutputLine, step: Option<u64>)
+    requires { length text.old ≤ 300 }
+    ensures text { text.new ≡ text.old ++ step_line step }
+    ensures short { length text.new ≤ length text.old + 30 }
+{
+    if let Some(step) = step {
+        text.put(b"step");
+        text.add_number(step / 1_000);
+        text.add_three(b'.', step);
+        text.finish();
+    }
 }

@@ -180,10 +180,7 @@ impl OutputLine {
 pub fn deliver_waiting<W: Deliver>(writer: &mut Counted<W>) -> Result<(), InspectFault>
     ensures { EndsDelivery result W.contents W.waiting writer.old writer.new }
 {
-    match writer.flush_whole() {
-        Ok(()) => Ok(()),
-        Err(_) => Err(InspectFault::Write),
-    }
+    writer.flush_whole().map_err(|_| InspectFault::Write)
 }
 
 /// Writes a text, and delivers it.
@@ -194,10 +191,8 @@ pub fn deliver_waiting<W: Deliver>(writer: &mut Counted<W>) -> Result<(), Inspec
 pub fn print_text<W: Deliver>(text: &[u8], writer: &mut Counted<W>) -> Result<(), InspectFault>
     ensures { EndsPrinting result W.contents W.waiting writer.old writer.new text.now }
 {
-    match writer.write_whole(text) {
-        Ok(()) => deliver_waiting(writer),
-        Err(_) => Err(InspectFault::Write),
-    }
+    writer.write_whole(text).map_err(|_| InspectFault::Write)?;
+    deliver_waiting(writer)
 }
 
 /// Writes a line to standard error, and delivers it. A failure of the writer is ignored.

@@ -1,6 +1,6 @@
 use Rattle.rtcm_inspect.proofs.LineLemmas.{add_text, end_line}
 use Rattle.rtcm_inspect.proofs.Names.{◌≡◌, ◌∙◌, ◌+◌, [], ◌∷◌, ◌++◌, ℕ, List, ap, arith, length, length-append, refl, moment_words, time_line, with_words}
-use Rattle.rtcm_inspect.proofs.times.add_time.Goals as goal
+use Rattle.rtcm_inspect.proofs.check.add_time.Goals as goal
 
 size : {new : List ℕ} (old part : List ℕ) → new ≡ old ++ part → length new ≡ length old + length part
 size old part e = ap length e ∙ length-append old part

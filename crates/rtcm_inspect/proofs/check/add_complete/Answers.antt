@@ -1,5 +1,5 @@
 use Rattle.rtcm_inspect.proofs.Names.{◌≡◌, ◌-◌, append_assoc, arith, complete_line}
-use Rattle.rtcm_inspect.proofs.gaps.add_complete.Goals as goal
+use Rattle.rtcm_inspect.proofs.check.add_complete.Goals as goal
 
 pub returns : goal.returns
 unfolding complete_line

@@ -1,7 +1,7 @@
 use Rattle.rtcm_inspect.proofs.GapLemmas.{one_gap}
 use Rattle.rtcm_inspect.proofs.LineLemmas.{add_text}
 use Rattle.rtcm_inspect.proofs.Names.{◌≡◌, ◌∙◌, ap, arith, length, option_map, refl, subst, EndsPrinting}
-use Rattle.rtcm_inspect.proofs.gaps.print_gap.Goals as goal
+use Rattle.rtcm_inspect.proofs.check.print_gap.Goals as goal
 
 pub add_moment-requires-2 : goal.add_moment-requires-2
 add_moment-requires-2 g c =

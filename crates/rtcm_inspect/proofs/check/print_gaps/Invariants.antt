@@ -1,5 +1,5 @@
 use Rattle.rtcm_inspect.proofs.Names.{◌≡◌, ◌+◌, ◌-◌, List, gaps_of, PrintsText, Stamped, LeavesRest, HasReadEpochs, most_lines}
-use Rattle.rtcm_inspect.proofs.gaps.print_gaps.Given as goal
+use Rattle.rtcm_inspect.proofs.check.print_gaps.Given as goal
 
 -- the gaps of the epochs that were read were written
 abbrev pub invariant-loop-before : goal.invariant-loop-before

@@ -3,7 +3,7 @@ use Rattle.rtcm_inspect.proofs.CheckLemmas.{read_failures}
 use Rattle.rtcm_inspect.proofs.GapLemmas.{leaves_all, leaves_more, next_is, printed_more}
 use Rattle.rtcm_inspect.proofs.PrintingLemmas.{passed}
 use Rattle.rtcm_inspect.proofs.Names.{◌∙◌, ◌++◌, ◌∷◌, [], ap, arith, refl, subst, sym, Appends-nil, Err, InspectFault, ReadFailures, ReadsGaps, ℕ}
-use Rattle.rtcm_inspect.proofs.gaps.print_gaps.Goals as goal
+use Rattle.rtcm_inspect.proofs.check.print_gaps.Goals as goal
 
 pub loop-before-init : goal.loop-before-init
 loop-before-init g c = record { read = ([], c.requires.start _, (refl, c.requires.sent, Appends-nil _)); left = leaves_all _; same = refl }

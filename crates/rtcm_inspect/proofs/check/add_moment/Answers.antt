@@ -1,5 +1,5 @@
 use Rattle.rtcm_inspect.proofs.Names.{◌≡◌, ◌∙◌, [], ◌∷◌, ap, append_assoc, clock_text, date_text, with_words, Civil}
-use Rattle.rtcm_inspect.proofs.times.add_moment.Goals as goal
+use Rattle.rtcm_inspect.proofs.check.add_moment.Goals as goal
 
 pub returns-clause-text : goal.returns-clause-text
 returns-clause-text c =

@@ -2,7 +2,7 @@ use Rattle.rtcm_inspect.proofs.CheckLemmas.{checked, checked_or, kept_first, whe
 use Rattle.rtcm_inspect.proofs.GapLemmas.{gaps_refused, whole_output}
 use Rattle.rtcm_inspect.proofs.PrintingLemmas.{printed_after, printed_later}
 use Rattle.rtcm_inspect.proofs.Names.{◌++◌, ap, inr, List, ℕ, AreGapsOf, IfSome_then, StopsGaps, gaps_of}
-use Rattle.rtcm_inspect.proofs.gaps.run_check_gaps.Goals as goal
+use Rattle.rtcm_inspect.proofs.check.run_check_gaps.Goals as goal
 
 pub returns-in_err-deliver_waiting-clause-only : goal.returns-in_err-deliver_waiting-clause-only
 returns-in_err-deliver_waiting-clause-only g c = λ v is few.
