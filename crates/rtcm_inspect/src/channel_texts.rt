@@ -76,10 +76,8 @@ fn within(text: &str, digits: usize, least: u8, most: u8) -> Option<u8>
     ensures value { result ≡ within least most (number_of digits text.now) }
     ensures bounds { IfSome result (λ n. (least ≤ n) × (n ≤ most)) }
 {
-    match number_of(text, digits)? {
-        n if u64::from(least) <= n && n <= u64::from(most) => Some(n as u8),
-        _ => None,
-    }
+    let number = u8::try_from(number_of(text, digits)?).ok()?;
+    (least <= number && number <= most).then_some(number)
 }
 
 /// Returns the text of channels, by rising slots.
@@ -90,9 +88,8 @@ pub fn channels_text(channels: &Channels) -> OutputLine
     channels.are_channels();
     let mut line = OutputLine::new();
     for i in 0..GREATEST_SLOT {
-        match channels.number(i + 1) {
-            Some(number) => add_slot(&mut line, i + 1, number),
-            None => {}
+        if let Some(number) = channels.number(i + 1) {
+            add_slot(&mut line, i + 1, number);
         }
     }
     line

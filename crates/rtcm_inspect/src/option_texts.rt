@@ -21,10 +21,8 @@ pub fn week_of(text: &str) -> Option<u32>
 fn week_number(text: &str) -> Option<u32>
     ensures { MatchOption result ((n : ℕ) → ¬ IsWeekNumber text.now n) (IsWeekNumber text.now) }
 {
-    match text.parse::<i64>() {
-        Ok(week) if 0 <= week && week < WEEKS as i64 => Some(week as u32),
-        _ => None,
-    }
+    let week = u32::try_from(text.parse::<i64>().ok()?).ok()?;
+    (u64::from(week) < WEEKS).then_some(week)
 }
 
 /// Returns this hour of the GPS date `yyyy-mm-dd` in a text, from 1980-01-06 on and before week
@@ -32,12 +30,9 @@ fn week_number(text: &str) -> Option<u32>
 pub fn hour_of(text: &str, hour: u8) -> Option<GpsTime>
     ensures { MatchOption result ((t : ℕ) → ¬ IsHourOf hour text.now t) (IsHourOf hour text.now) }
 {
-    let civil = civil_in(text, hour)?;
-    // The match gives the proof the range of the time.
-    match GpsTime::from_civil(&civil) {
-        Some(time) => Some(time),
-        None => None,
-    }
+    // The question mark gives the proof the range of the time.
+    let time = GpsTime::from_civil(&civil_in(text, hour)?)?;
+    Some(time)
 }
 
 /// Parses numbers of four, two and two digits, separated by hyphens.
@@ -97,10 +92,7 @@ pub fn length_below(text: &str, bound: u64) -> Option<u64>
     ensures value { result ≡ length_below bound text.now }
     ensures below { IfSome result (λ n. n < bound) }
 {
-    match fixed_point(text, 4) {
-        Some(length) if length < bound => Some(length),
-        _ => None,
-    }
+    fixed_point(text, 4).filter(|length| *length < bound)
 }
 
 /// Returns the interval in a text in milliseconds, given in seconds with up to three decimals, of
@@ -109,10 +101,7 @@ pub fn interval_of(text: &str) -> Option<u64>
     ensures value { result ≡ interval_of text.now }
     ensures fits { IfSome result (λ n. (0 < n) × (n ≤ longest_interval)) }
 {
-    match fixed_point(text, 3) {
-        Some(interval) if 0 < interval && interval <= 86_400_000 => Some(interval),
-        _ => None,
-    }
+    fixed_point(text, 3).filter(|interval| 0 < *interval && *interval <= 86_400_000)
 }
 
 /// Parses at most eight digits, a point and `most` decimals, in units of the last decimal.

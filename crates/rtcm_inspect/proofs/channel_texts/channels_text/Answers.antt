@@ -1,7 +1,7 @@
 use Rattle.std.proofs.lemmas.List.{take_all}
 use Rattle.rtcm_inspect.specs.ChannelTexts.{after_comma, channels_text, slot_text}
 use Rattle.rtcm_inspect.proofs.ChannelLemmas.{number_here, slot_none, slot_short, slot_some}
-use Rattle.rtcm_inspect.proofs.channel_texts.channels_text.Goals.{in-None, in-Some}
+use Rattle.rtcm_inspect.proofs.channel_texts.channels_text.Goals.{in-Some, in_default}
 use Rattle.rtcm_inspect.proofs.Names.{◌≡◌, ◌∙◌, ◌+◌, ◌<◌, ℕ, List, None, Some, ap, arith, get_or, length, sym}
 use Rattle.rtcm_inspect.proofs.channel_texts.channels_text.Goals as goal
 
@@ -20,7 +20,7 @@ loop-i-preserved c =
             text = w.add_slot.ensures ∙ ap (λ (l : List ℕ). after_comma l (slot_text (i + 1) n)) c.loop-i.invariant.text ∙ sym (slot_some channels i are within n is);
             short = omega (arith, ap length w.add_slot.ensures, small, c.loop-i.invariant.short);
           }))
-      | in-None w ↦ (let none : get_or channels i None ≡ None = sym (w.in-None.ensures.value ∙ number_here channels i) in
+      | in_default w ↦ (let none : get_or channels i None ≡ None = sym (w.in_default.ensures.value ∙ number_here channels i) in
           rw w.line-is (record { text = c.loop-i.invariant.text ∙ sym (slot_none channels i are within none); short = omega (arith, c.loop-i.invariant.short) }))
     ]
 

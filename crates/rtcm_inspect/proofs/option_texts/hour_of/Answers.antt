@@ -2,8 +2,8 @@ use Rattle.std.proofs.Common.{◌∙◌, rules, sym}
 use Rattle.rtcm_inspect.proofs.LengthLemmas.{no_hour}
 use Rattle.rtcm_inspect.proofs.option_texts.hour_of.Goals as goal
 
-pub returns-in-Some : goal.returns-in-Some
-returns-in-Some c = (c.in_ok-civil.civil, sym c.civil_in.ensures ∙ c.in_ok-civil.was, c.in-Some.ensures.some, search rules)
+pub returns : goal.returns
+returns c = (c.in_ok-civil_in.field-0, sym c.civil_in.ensures ∙ c.in_ok-civil_in.was, c.in_ok-time.ensures.some, search rules)
 
-pub returns-in-None : goal.returns-in-None
-returns-in-None c = no_hour c.args.hour c.args.text.now c.in_ok-civil.civil (sym c.civil_in.ensures ∙ c.in_ok-civil.was) c.in-None.ensures.none
+pub returns-in_err-time : goal.returns-in_err-time
+returns-in_err-time c = rw c.from_residual-in_err-time.ensures (no_hour c.args.hour c.args.text.now c.in_ok-civil_in.field-0 (sym c.civil_in.ensures ∙ c.in_ok-civil_in.was) c.in_err-time.ensures.none)
