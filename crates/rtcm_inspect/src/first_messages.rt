@@ -32,11 +32,8 @@ impl Stations {
     {
         match *self {
             Stations::Unknown => *self = Stations::One(station),
-            Stations::One(first) => {
-                if first != station {
-                    *self = Stations::Several(first, station);
-                }
-            }
+            Stations::One(first) if first != station => *self = Stations::Several(first, station),
+            Stations::One(_) => {}
             Stations::Several(_, _) => {}
         }
     }
@@ -117,10 +114,7 @@ fn point_of(wanted: Option<u16>, view: &View<'_>) -> Option<StationParts>
 pub fn is_of_other(forms: Forms, view: &View<'_>) -> bool
     ensures { result ≡ is_of_other forms (viewed_message view.now) }
 {
-    match view {
-        View::Msm(message) => !forms.have(message.form()),
-        _ => false,
-    }
+    matches!(view, View::Msm(message) if !forms.have(message.form()))
 }
 
 /// Returns the station of an MSM or a station message.

@@ -6,8 +6,8 @@ ghost use Rattle.rtcm_scan.specs.Scan.{most_bytes};
 ghost use Rattle.rtcm_msg.specs.Station.{InRange};
 ghost use Rattle.rtcm_msg.specs.Numbers.{message_number};
 ghost use Rattle.rtcm_inspect.specs.FrameLines.{frame_line, frame_lines, number_word};
-ghost use Rattle.rtcm_inspect.specs.Lines.{longest_number, longest_prefix, with_words};
-ghost use Rattle.rtcm_inspect.specs.ShowLines.{fault_words, height_words};
+ghost use Rattle.rtcm_inspect.specs.Lines.{longest_prefix, with_words};
+ghost use Rattle.rtcm_inspect.specs.ShowLines.{fault_words};
 ghost use Rattle.rtcm_msg.specs.Fields.{GivesViewed};
 ghost use Rattle.rtcm_msg.specs.Viewed.{viewed_message};
 ghost use Rattle.rtcm_inspect.specs.ShowLines.{read_for};
@@ -230,19 +230,10 @@ fn add_station(line: &mut OutputLine, offset: u64, station: StationParts)
     line.add_metres(b' ', station.x);
     line.add_metres(b' ', station.y);
     line.add_metres(b' ', station.z);
-    add_height(line, station.height);
-    line.finish();
-}
-
-/// Adds the height of a 1006 in metres.
-fn add_height(line: &mut OutputLine, height: Option<u16>)
-    requires { length line.old ≤ 229 }
-    ensures text { line.new ≡ with_words line.old (height_words height) }
-    ensures short { length line.new ≤ length line.old + longest_number + 7 }
-{
-    if let Some(height) = height {
+    if let Some(height) = station.height {
         line.add_metres(b' ', i64::from(height));
     }
+    line.finish();
 }
 
 /// Adds the line of an MSM: offset, number, station, epoch time, DF393, and the numbers of
@@ -282,10 +273,7 @@ fn add_fault(line: &mut OutputLine, fault: MsgFault)
     ensures short { length line.new ≤ length line.old + 40 }
 {
     match fault {
-        MsgFault::Short(bits) => {
-            line.add_word("Short");
-            line.add_number(bits as u64);
-        }
+        MsgFault::Short(bits) => line.add_count("Short", bits as u64),
         MsgFault::TooManyCells => line.add_word("TooManyCells"),
         MsgFault::BadTime => line.add_word("BadTime"),
     }

@@ -249,8 +249,7 @@ fn add_leap(line: &mut OutputLine, leap: Option<u8>)
     ensures short { length line.new ≤ length line.old + 16 + longest_number }
 {
     if let Some(leap) = leap {
-        line.add_word("--leap-seconds");
-        line.add_number(u64::from(leap));
+        line.add_count("--leap-seconds", u64::from(leap));
     }
 }
 

@@ -23,17 +23,12 @@ pub fn add_sent_channels(
         (option_to_list (channel_of_1020 message.now) ++ sent_of station (viewed_message view.now)) }
 {
     match view {
-        View::Msm(msm) => {
-            if let System::Glonass = msm.system() {
-                add_channels(known, station, msm);
-            }
-        }
-        View::Other { number, .. } => {
-            if *number == 1020 {
-                add_1020(known, message);
-            }
-        }
         View::Station(_) => {}
+        View::Msm(msm) if matches!(msm.system(), System::Glonass) => {
+            add_channels(known, station, msm);
+        }
+        View::Other { number, .. } if *number == 1020 => add_1020(known, message),
+        _ => {}
     }
 }
 
@@ -60,29 +55,23 @@ fn add_1020(known: &mut Channels, message: &[u8])
 }
 
 /// Returns the channels with those that are sent, each the first one of its slot.
-fn with_sent(known: Channels, sent: SentChannels<'_>) -> Channels
+fn with_sent(mut known: Channels, mut sent: SentChannels<'_>) -> Channels
     ensures { result ≡ with_sent known sent.entry }
 {
-    let mut channels = known;
-    let mut sent = sent;
     while let Some((slot, number)) = sent.next() {
-        channels = with_first(channels, slot, number);
+        known = with_first(known, slot, number);
     }
-    channels
+    known
 }
 
 /// Returns the channels with a number for a slot, if it is that of a channel, and the first one of a
 /// slot from 1 to 27.
-fn with_first(known: Channels, slot: u8, number: u8) -> Channels
+fn with_first(mut known: Channels, slot: u8, number: u8) -> Channels
     ensures { result ≡ with_first known (slot, number) }
 {
-    if slot < 1 || slot > GREATEST_SLOT {
-        return known;
+    let is_valid = 1 <= slot && slot <= GREATEST_SLOT && number <= GREATEST_CHANNEL_NUMBER;
+    if is_valid && known.number(slot).is_none() {
+        known.set(slot, number);
     }
-    if number > GREATEST_CHANNEL_NUMBER || known.number(slot).is_some() {
-        return known;
-    }
-    let mut channels = known;
-    channels.set(slot, number);
-    channels
+    known
 }
