@@ -1,8 +1,6 @@
 -- A command after an option or a command is added.
 use Rattle.std.proofs.lemmas.Bool.{and_parts, not-true}
-use Rattle.rtcm2rinex.specs.CommandLine.{rows_of}
-use Rattle.rtcm2rinex.proofs.Names.{◌≡◌, ◌+◌, ◌<◌, ◌&&◌, ◌∷◌, [], ℕ, Bool, Result, Ok, Err, IfErr, List, Some, true, false, not, is_some, length, map, take, get_or, inl, inr, refl, sym, subst, ap, ap₂, ◌∙◌, map_more, fold-append, Rule, Text, is_empty, rule_of, App, app_of, built, app_of_fields, is_simple, new_app, on_top, with_rule, with_subcommand, AddsArg, AddsSubcommand, is_free_app, is_simple_and_free, clap_on_literals, FailsBy, HasKind, Kinds, Error, Bor, CommandRow, OptionRow, Tables, FailsParsing, RefusesWords, command_set, more_of, option_set, program, with_commands, with_options, kind_of, Arg, Command, out-Command}
-use Rattle.rtcm2rinex.specs.declared.commands.Options.TheVariants as options
+use Rattle.rtcm2rinex.proofs.Names.{◌≡◌, ◌+◌, ◌<◌, ◌&&◌, ◌∷◌, [], ℕ, Bool, Result, Ok, Err, IfErr, List, Some, true, false, not, is_some, length, map, take, get_or, inl, inr, refl, sym, subst, ap, ap₂, ◌∙◌, map_more, fold-append, Rule, Text, is_empty, rule_of, App, app_of, built, app_of_fields, is_simple, new_app, on_top, with_rule, with_subcommand, AddsArg, AddsSubcommand, is_free_app, is_simple_and_free, clap_on_literals, FailsBy, HasKind, Kinds, Error, Bor, CommandRow, OptionRow, FailsParsing, RefusesWords, command_set, option_set, program, with_commands, with_options, kind_of, Arg, Command, out-Command}
 use Rattle.clap.specs.declared.builder.value_parser.ValueParser.TheVariants as value
 use Rattle.clap.specs.declared.error.kind.ErrorKind.TheVariants as kind
 use Rattle.clap.specs.declared.builder.action.ArgAction.TheVariants as action
@@ -47,10 +45,8 @@ plain a [] = refl
 plain a (r ∷ rs) = plain (with_rule a r) rs
 
 -- the command of a row has only a name
-pub plain_given : (tables : Tables) (row : CommandRow) → (command_set tables row).top.is_plain ≡ true
-plain_given tables row =
-    let first = with_options (new_app row.name.now) (map option_set (rows_of tables row.options)) in
-    plain first (map option_set (more_of tables row.options)) ∙ plain (new_app row.name.now) (map option_set (rows_of tables row.options))
+pub plain_given : (row : CommandRow) → (command_set row).top.is_plain ≡ true
+plain_given row = plain (new_app row.name.now) (map option_set row.options.now)
 
 -- one more command
 pub with_command : {old sub new : Command} {app below : App} → AddsSubcommand old sub new → app_of old ≡ app → app_of sub ≡ below → below.top.is_plain ≡ true
@@ -79,7 +75,7 @@ abbrev pub no_option : OptionRow
 no_option = record { name = nothing; value = nothing; required = false; defaults = record { ref_ptr = (0, 0); now = [] }; parser = value.String; action = action.Set; help = nothing }
 
 abbrev pub no_command : CommandRow
-no_command = record { name = nothing; about = nothing; examples = nothing; options = options.None }
+no_command = record { name = nothing; about = nothing; examples = nothing; options = record { ref_ptr = (0, 0); now = [] } }
 
 -- one more option of the rows
 pub one_option_more : (a : App) (rows : List OptionRow) (n : ℕ) (d : OptionRow) → n < length rows
@@ -88,11 +84,11 @@ one_option_more a rows n d lt =
     sym (ap (with_options a) (map_more option_set rows n d lt) ∙ fold-append with_rule a (map option_set (take n rows)) (option_set (get_or rows n d) ∷ []))
 
 -- one more command of the rows
-pub one_command_more : (tables : Tables) (a : App) (rows : List CommandRow) (n : ℕ) (d : CommandRow) → n < length rows
-    → with_subcommand (with_commands a (map (command_set tables) (take n rows))) (command_set tables (get_or rows n d)).top
-    ≡ with_commands a (map (command_set tables) (take (n + 1) rows))
-one_command_more tables a rows n d lt =
-    sym (ap (with_commands a) (map_more (command_set tables) rows n d lt) ∙ fold-append _ a (map (command_set tables) (take n rows)) (command_set tables (get_or rows n d) ∷ []))
+pub one_command_more : (a : App) (rows : List CommandRow) (n : ℕ) (d : CommandRow) → n < length rows
+    → with_subcommand (with_commands a (map command_set (take n rows))) (command_set (get_or rows n d)).top
+    ≡ with_commands a (map command_set (take (n + 1) rows))
+one_command_more a rows n d lt =
+    sym (ap (with_commands a) (map_more command_set rows n d lt) ∙ fold-append _ a (map command_set (take n rows)) (command_set (get_or rows n d) ∷ []))
 
 -- if the error is the version's text, the words ask for the version
 pub is_version : (words : List Text) (e : Error) → RefusesWords words e → kind_of e ≡ kind.DisplayVersion → FailsParsing words kind.DisplayVersion

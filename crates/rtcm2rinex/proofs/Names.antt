@@ -26,7 +26,7 @@ pub use Rattle.gnss_obs.specs.Channels.{ChannelsValue}
 pub use Rattle.gnss_obs.specs.Values.{no_values}
 pub use Rattle.gnss_obs.specs.declared.cell.StationValues.{StationValues}
 pub use Rattle.rtcm2rinex.specs.Asked.{EndsCheck, EndsCheckAsked, EndsOptionsAsked, RefusesDate, RefusesGaps, StopsCheckAsked, StopsOptionsAsked}
-pub use Rattle.rtcm2rinex.specs.CommandLine.{FailsParsing, IsCommand, IsFoundIn, IsProgram, Makes, RefusesWords, SelectsCommand, command_set, more_of, option_set, program, start_of, with_commands, with_options}
+pub use Rattle.rtcm2rinex.specs.CommandLine.{FailsParsing, IsCommand, IsFoundIn, IsProgram, Makes, RefusesWords, SelectsCommand, command_set, option_set, program, start_of, with_commands, with_options}
 pub use Rattle.rtcm2rinex.specs.Commands.{AreRefused, AreRefusedBy, EndsCommand, EndsFound, HasCommand, HasCompleted, HasDone, HasPrinted, HasStopped, HasStoppedEarly, HasStoppedPrinting, StopsPrinting, fault_status, status_of}
 pub use Rattle.rtcm2rinex.specs.Converting.{EndsConversion, EndsConverting, StopsConversion}
 pub use Rattle.rtcm_inspect.specs.ChannelTexts.{channels_of}
@@ -42,7 +42,6 @@ unfoldable pub use Rattle.rtcm2rinex.specs.SetupOptions.{plan_set}
 pub use Rattle.rtcm2rinex.specs.SetupOptions.{HasSetupFault, IsFirstFault, IsNearRefused, IsNearSet, IsNoonOf, IsNumberOf, IsNumberOr, IsSetupRefused, IsWeekSet, channels_by, channels_set, gaps_set, has_flag, interval_by, interval_in, options_of, text_set, values_by, values_in, values_set}
 pub use Rattle.rtcm2rinex.specs.declared.commands.CommandRow.{CommandRow}
 pub use Rattle.rtcm2rinex.specs.declared.commands.OptionRow.{OptionRow}
-pub use Rattle.rtcm2rinex.specs.declared.commands.Tables.{Tables}
 pub use Rattle.rtcm2rinex.specs.declared.fault.ToolFault.{ToolFault}
 pub use Rattle.rtcm2rinex.specs.declared.fault.ToolFault.TheVariants.{Convert}
 pub use Rattle.rtcm_bits.specs.Device.{Device, IsUntouched}

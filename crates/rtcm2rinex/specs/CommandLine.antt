@@ -23,9 +23,6 @@ use Rattle.gnss_system.specs.Systems.{systems}
 use Rattle.rtcm_scan.specs.Scan.{most_bytes}
 use Rattle.rtcm2rinex.specs.declared.commands.CommandRow.{CommandRow}
 use Rattle.rtcm2rinex.specs.declared.commands.OptionRow.{OptionRow}
-use Rattle.rtcm2rinex.specs.declared.commands.Options.{Options}
-use Rattle.rtcm2rinex.specs.declared.commands.Options.TheVariants as options
-use Rattle.rtcm2rinex.specs.declared.commands.Tables.{Tables}
 
 -- ---- options
 
@@ -146,25 +143,9 @@ option_set row = record (named row.name.now) {
 abbrev pub with_options : App → List Rule → App
 with_options a rules = fold with_rule a rules
 
--- the rows of the first options of a command, and those that follow
-abbrev pub rows_of : Tables → Options → List OptionRow
-rows_of tables options.None = []
-rows_of tables options.Station = tables.station.now
-rows_of tables options.Near = tables.station.now
-rows_of tables options.Convert = tables.convert.now
-rows_of tables options.All = tables.all.now
-rows_of tables options.Times = tables.times.now
-
-abbrev pub more_of : Tables → Options → List OptionRow
-more_of tables options.Near = tables.near.now
-more_of tables options.Convert = tables.texts.now
-more_of tables other = []
-
 -- the command of a row
-abbrev pub command_set : Tables → CommandRow → App
-command_set tables row =
-    with_options (with_options (new_app row.name.now) (map option_set (rows_of tables row.options)))
-    (map option_set (more_of tables row.options))
+abbrev pub command_set : CommandRow → App
+command_set row = with_options (new_app row.name.now) (map option_set row.options.now)
 
 abbrev pub with_commands : App → List App → App
 with_commands a commands = fold (λ (program : App) (command : App). with_subcommand program command.top) a commands
@@ -208,10 +189,9 @@ abbrev pub IsProgram : App → Type 0
 IsProgram a = (forms : Choices) × (rules : Choices) × AreChoices (codes "4,7" ∷ codes "all" ∷ []) forms
     × AreChoices (codes "bit" ∷ codes "time" ∷ []) rules × (a ≡ program forms rules)
 
--- the tables of the program's commands and options
-abbrev pub AreTables : Tables → Type 0
-AreTables tables =
-    IsProgram (with_commands (start_of tables.program.name.now) (map (command_set tables) tables.commands.now))
+-- the rows of the program and of its commands
+abbrev pub AreRows : CommandRow → List CommandRow → Type 0
+AreRows program commands = IsProgram (with_commands (start_of program.name.now) (map command_set commands))
 
 -- if the command was made, its definition is this one
 abbrev pub Makes : {E : Type 0} → Result Command E → App → Type 0

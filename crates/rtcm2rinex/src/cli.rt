@@ -1,11 +1,11 @@
 //! The command line.
 ghost use Rattle.std.specs.Prelude.{◌≡◌, IfOk, IfErr, map};
 ghost use Rattle.clap.specs.Walk.{rule_of, texts};
-ghost use Rattle.clap.specs.Simple.{App, app_of, new_app};
+ghost use Rattle.clap.specs.Simple.{app_of, new_app};
 ghost use Rattle.rtcm2rinex.specs.CommandLine.{IsFoundIn, RefusesWords, command_set, option_set};
 ghost use Rattle.rtcm2rinex.specs.CommandLine as line;
 
-use crate::commands::{CommandRow, OptionRow, Tables, program_tables};
+use crate::commands::{CommandRow, OptionRow, program_rows};
 use clap::{Arg, ArgMatches, Command, Error};
 use std::alloc::{AllocError, Global};
 
@@ -21,53 +21,28 @@ pub fn parse<'a>(alloc: Global, words: &'a [&'a str]) -> Result<ArgMatches<'a>, 
     ensures asked { IfOk result (IsFoundIn (texts words.now)) }
     ensures refused { IfErr result (RefusesWords (texts words.now)) }
 {
-    let tables = program_tables();
-    let start = described(alloc, &tables.program)
-        .version(tables.version)
+    let (program, rows) = program_rows();
+    let start = described(alloc, &program)
+        .version(VERSION)
         .subcommand_required(true);
-    match with_commands(alloc, Ok(start), &tables) {
-        Ok(program) => program.try_get_matches_from(words),
-        Err(error) => Err(Error::from(error)),
-    }
+    let program = with_commands(alloc, start, rows)?;
+    program.try_get_matches_from(words)
 }
 
-/// Returns the program with a command for each row.
-// It accepts and returns the result of an allocation, so that the loop has no early exit at which it
-// would have to drop the commands made before.
+/// Returns the program with a command for each of these rows.
 fn with_commands<'a>(
     alloc: Global,
-    program: Result<Command<'a>, AllocError>,
-    tables: &Tables<'a>,
+    program: Command<'a>,
+    rows: &[CommandRow<'a>],
 ) -> Result<Command<'a>, AllocError>
-    ensures { (a : App) → line.Makes program.entry a
-        → line.Makes result (line.with_commands a (map (command_set tables.now) tables.now.commands.now)) }
+    ensures { line.Makes result (line.with_commands (app_of program.entry) (map command_set rows.now)) }
 {
     let mut program = program;
-    for row in tables.commands {
-        program = match program {
-            Ok(program) => match command(alloc, tables, row) {
-                Ok(command) => program.subcommand(command),
-                Err(error) => {
-                    drop(program);
-                    Err(error)
-                }
-            },
-            Err(error) => Err(error),
-        };
+    for row in rows {
+        let command = with_options(alloc, described(alloc, row), row.options)?;
+        program = program.subcommand(command)?;
     }
-    program
-}
-
-/// Returns a command with its help and its options.
-fn command<'a>(
-    alloc: Global,
-    tables: &Tables<'a>,
-    row: &CommandRow<'a>,
-) -> Result<Command<'a>, AllocError>
-    ensures { line.Makes result (command_set tables.now row.now) }
-{
-    let command = with_options(alloc, described(alloc, row), tables.first(row.options))?;
-    with_options(alloc, command, tables.more(row.options))
+    Ok(program)
 }
 
 /// Returns the command with an option for each of these rows.

@@ -1,13 +1,11 @@
 //! The commands and their options, one row each, as listed in the manual page.
-ghost use Rattle.std.specs.Prelude.{◌≡◌};
-ghost use Rattle.rtcm2rinex.specs.CommandLine.{AreTables, more_of, rows_of};
+ghost use Rattle.rtcm2rinex.specs.CommandLine.{AreRows};
 
-use crate::cli::VERSION;
-use clap::ArgAction;
+use clap::ArgAction::{self, Set, SetTrue};
 use clap::builder::ValueParser;
 use rtcm_scan::MOST_BYTES;
 
-/// A command.
+/// A command, or the program itself.
 #[derive(Clone, Copy)]
 pub struct CommandRow<'a> {
     /// The word that selects it.
@@ -17,24 +15,7 @@ pub struct CommandRow<'a> {
     /// How it is called, and the meaning of the lines that it prints.
     pub examples: &'a str,
     /// The options that it has.
-    pub options: Options,
-}
-
-/// The options of a command.
-#[derive(Clone, Copy)]
-pub enum Options {
-    /// No options.
-    None,
-    /// The station.
-    Station,
-    /// The station, and then a date.
-    Near,
-    /// Those of a conversion, and then the texts of the header.
-    Convert,
-    /// Whether all messages are shown.
-    All,
-    /// Whether times are printed, and the interval of the epochs.
-    Times,
+    pub options: &'a [OptionRow<'a>],
 }
 
 /// An option of a command.
@@ -56,44 +37,31 @@ pub struct OptionRow<'a> {
     pub help: &'a str,
 }
 
-/// The commands of a program, and the options that they have. No table is in a row of another,
-/// which would make proofs slow.
-#[derive(Clone, Copy)]
-pub struct Tables<'a> {
-    /// The name and the help of the program itself.
-    pub program: CommandRow<'a>,
-    /// The text that `--version` prints.
-    pub version: &'a str,
-    /// The commands, in the order of the help text.
-    pub commands: &'a [CommandRow<'a>],
-    /// The option of the station.
-    pub station: &'a [OptionRow<'a>],
-    /// The option of a date near the first observations.
-    pub near: &'a [OptionRow<'a>],
-    /// The flag that shows all messages.
-    pub all: &'a [OptionRow<'a>],
-    /// The flag that prints times, and the option of an interval.
-    pub times: &'a [OptionRow<'a>],
-    /// The options of a conversion.
-    pub convert: &'a [OptionRow<'a>],
-    /// The options of the header's texts.
-    pub texts: &'a [OptionRow<'a>],
-}
-
-/// A table of options that have values: the other fields of each in their order.
+/// A table of options: the fields of each in their order. A flag has the value `""`,
+/// `ValueParser::Bool` and `SetTrue`.
 macro_rules! option_rows {
-    ($($name:expr, $value:expr, $required:expr, $defaults:expr, $parser:expr, $help:expr;)*) => {
+    ($($name:expr, $value:expr, $required:expr, $defaults:expr, $parser:expr, $action:expr,
+        $help:expr;)*) => {
         &[$(OptionRow {
             name: $name,
             value: $value,
             required: $required,
             defaults: $defaults,
             parser: $parser,
-            action: ArgAction::Set,
+            action: $action,
             help: $help,
         }),*]
     };
 }
+
+/// Any text.
+const TEXT: ValueParser<'static> = ValueParser::String;
+
+/// A reference station (DF003).
+const STATION: ValueParser<'static> = ValueParser::Signed(0, 4_095);
+
+/// The help text of the option of the only station that counts.
+const STATION_HELP: &str = "Reference station (DF003), 0 to 4095: no other counts";
 
 /// The program itself. The lines of all help texts have at most 80 columns.
 const PROGRAM: CommandRow<'static> = CommandRow {
@@ -103,7 +71,7 @@ const PROGRAM: CommandRow<'static> = CommandRow {
                plan=$(rtcm2rinex options --near 2024-02-04 < stream.rtcm3) &&\n  \
                rtcm2rinex convert --date \"20240204 000001 UTC\" $plan \\\n    \
                < stream.rtcm3 > station.obs",
-    options: Options::None,
+    options: &[],
 };
 
 /// The commands, in the order of the help text.
@@ -114,7 +82,7 @@ const COMMANDS: &[CommandRow<'static>] = &[
         examples: "Example: rtcm2rinex frames < stream.rtcm3\n\
                    A line as '0 19 1005' is a frame at byte 0 with a message of 19 bytes, which\n\
                    is message 1005.",
-        options: Options::None,
+        options: &[],
     },
     CommandRow {
         name: "show",
@@ -126,7 +94,9 @@ const COMMANDS: &[CommandRow<'static>] = &[
                    A line as '52 1077 2003 1000 0 1 1 1' is an MSM: place, number, station, time\n\
                    in milliseconds of the week, DF393, and how many satellites, signals and cells\n\
                    it has.",
-        options: Options::All,
+        options: option_rows! {
+            "all", "", false, &[], ValueParser::Bool, SetTrue, "Shows MSM4 to MSM7 of every system";
+        },
     },
     CommandRow {
         name: "signals",
@@ -134,7 +104,9 @@ const COMMANDS: &[CommandRow<'static>] = &[
         examples: "Example: rtcm2rinex signals < stream.rtcm3\n\
                    A line as 'G 1C 3042' is a signal: its system, its code, and the number of its\n\
                    cells with a pseudorange, a phase, a Doppler shift or a strength.",
-        options: Options::Station,
+        options: option_rows! {
+            "station", "NUMBER", false, &[], STATION, Set, STATION_HELP;
+        },
     },
     CommandRow {
         name: "options",
@@ -149,7 +121,12 @@ const COMMANDS: &[CommandRow<'static>] = &[
                    the week, as '--week 2300', and has the leap seconds for GLONASS; with\n\
                    --station it has the station. Without --station a stream of several stations\n\
                    is refused.",
-        options: Options::Near,
+        options: option_rows! {
+            "station", "NUMBER", false, &[], STATION, Set, STATION_HELP;
+            "near", "DATE", false, &[], TEXT, Set,
+                "GPS date within half a week of the first\n\
+                 observations, as 2024-02-04: prints --week too";
+        },
     },
     CommandRow {
         name: "convert",
@@ -160,7 +137,69 @@ const COMMANDS: &[CommandRow<'static>] = &[
                    The command options prints the week and the signals of a stream.\n\
                    At the end one line on standard error counts the bytes, frames, messages,\n\
                    cells and epochs.",
-        options: Options::Convert,
+        options: option_rows! {
+            "week", "WEEK", true, &[], TEXT, Set,
+                "GPS week of the first observations, 0 to 99999\n\
+                 without rollover, or a date in it: 2024-02-04";
+            "date", "TEXT", true, &[], TEXT, Set, "Date of the run: 'yyyymmdd hhmmss UTC'";
+            "gps", "SIGNALS", false, &["all"], TEXT, Set,
+                "GPS signals in the file's order: all, none,\n\
+                 or codes as 1C,2W";
+            "galileo", "SIGNALS", false, &["all"], TEXT, Set,
+                "Galileo signals in the file's order: all, none,\n\
+                 or codes as 1C,5Q";
+            "glonass", "SIGNALS", false, &["none"], TEXT, Set,
+                "GLONASS signals in the file's order: all, none,\n\
+                 or codes as 1C,2P";
+            "glonass-channels", "CHANNELS", false, &[""], TEXT, Set,
+                "Channels of GLONASS slots, as 1:1,2:-4: without\n\
+                 one a satellite has no phase and no Doppler\n\
+                 shift";
+            "leap-seconds", "SECONDS", false, &["18"], ValueParser::Unsigned(0, 255), Set,
+                "GPS time minus UTC, 0 to 255, for the times of\n\
+                 GLONASS";
+            "beidou", "SIGNALS", false, &["none"], TEXT, Set,
+                "BeiDou signals in the file's order: all, none,\n\
+                 or codes as 2I,6I";
+            "qzss", "SIGNALS", false, &["none"], TEXT, Set,
+                "QZSS signals in the file's order: all, none,\n\
+                 or codes as 1C,2X";
+            "sbas", "SIGNALS", false, &["none"], TEXT, Set,
+                "SBAS signals in the file's order: all, none,\n\
+                 or codes as 1C,5I";
+            "msm", "FORMS", false, &["4,7"], ValueParser::Names(&["4,7", "all"]), Set,
+                "Forms of MSM that are read: 4,7, or all, which\n\
+                 is MSM4 to MSM7";
+            "station", "NUMBER", false, &[], STATION, Set,
+                "Reference station (DF003), 0 to 4095; without\n\
+                 it the messages of every station count";
+            "position", "X,Y,Z", false, &["0,0,0"], TEXT, Set,
+                "Position in metres until a message 1005 or\n\
+                 1006; write --position=X,Y,Z if X is\n\
+                 negative";
+            "antenna-height", "HEIGHT", false, &["0"], TEXT, Set,
+                "Antenna height in metres until a message 1006,\n\
+                 0 to 6.5535";
+            "gather", "RULE", false, &["bit"], ValueParser::Names(&["bit", "time"]), Set,
+                "What closes an epoch: a later time (time), or\n\
+                 also the last message of a set by its DF393\n\
+                 bit";
+            "limit", "BYTES", false, &["281474976710656"],
+                ValueParser::Unsigned(0, MOST_BYTES), Set,
+                "Most bytes of the stream; a longer one is a\n\
+                 fault";
+            // The texts of the header, other than the date: printable ASCII.
+            "run-by", "TEXT", false, &[""], TEXT, Set, "Who runs the program, 20 columns";
+            "marker", "TEXT", false, &[""], TEXT, Set, "Name of the marker, 60 columns";
+            "marker-type", "TEXT", false, &["GEODETIC"], TEXT, Set, "Its type, 20 columns";
+            "observer", "TEXT", false, &[""], TEXT, Set, "Name of the observer, 20 columns";
+            "agency", "TEXT", false, &[""], TEXT, Set, "Observer's agency, 40 columns";
+            "rec-number", "TEXT", false, &[""], TEXT, Set, "Receiver's number, 20 columns";
+            "rec-type", "TEXT", false, &[""], TEXT, Set, "Type of the receiver, 20 columns";
+            "rec-version", "TEXT", false, &[""], TEXT, Set, "Receiver's version, 20 columns";
+            "ant-number", "TEXT", false, &[""], TEXT, Set, "Antenna's number, 20 columns";
+            "ant-type", "TEXT", false, &[""], TEXT, Set, "Type of the antenna, 20 columns";
+        },
     },
     CommandRow {
         name: "check",
@@ -170,174 +209,21 @@ const COMMANDS: &[CommandRow<'static>] = &[
                    satellites, and the events with other station values. Of any other file the\n\
                    first line that is wrong is given on standard error, as\n\
                    'rtcm2rinex: BadHeader 2'.",
-        options: Options::Times,
+        options: option_rows! {
+            "times", "", false, &[], ValueParser::Bool, SetTrue,
+                "Also prints the first and the last epoch and the\n\
+                 smallest step between epochs";
+            "gaps", "SECONDS", false, &[], TEXT, Set,
+                "Also prints consecutive epochs that are more than\n\
+                 this apart, 0.001 to 86400, and how many epochs\n\
+                 at this interval the file has";
+        },
     },
 ];
 
-/// A reference station (DF003).
-const STATIONS: ValueParser<'static> = ValueParser::Signed(0, 4_095);
-
-/// The option of the station.
-const STATION: &[OptionRow<'static>] = option_rows! {
-    "station", "NUMBER", false, &[], STATIONS,
-        "Reference station (DF003), 0 to 4095: no other counts";
-};
-
-/// Any text.
-const TEXT: ValueParser<'static> = ValueParser::String;
-
-/// The option of a date near the first observations.
-const NEAR: &[OptionRow<'static>] = option_rows! {
-    "near", "DATE", false, &[], TEXT,
-        "GPS date within half a week of the first\n\
-         observations, as 2024-02-04: prints --week too";
-};
-
-/// A flag: its name and its help text.
-macro_rules! flag {
-    ($name:expr, $help:expr) => {
-        OptionRow {
-            name: $name,
-            value: "",
-            required: false,
-            defaults: &[],
-            parser: ValueParser::Bool,
-            action: ArgAction::SetTrue,
-            help: $help,
-        }
-    };
-}
-
-/// The flag that shows all messages.
-const ALL: &[OptionRow<'static>] = &[flag!("all", "Shows MSM4 to MSM7 of every system")];
-
-/// The flag that prints times, and the option of an interval.
-const TIMES: &[OptionRow<'static>] = &[
-    flag!(
-        "times",
-        "Also prints the first and the last epoch and the\n\
-         smallest step between epochs"
-    ),
-    OptionRow {
-        name: "gaps",
-        value: "SECONDS",
-        required: false,
-        defaults: &[],
-        parser: TEXT,
-        action: ArgAction::Set,
-        help: "Also prints consecutive epochs that are more than\n\
-               this apart, 0.001 to 86400, and how many epochs\n\
-               at this interval the file has",
-    },
-];
-
-/// The options of a conversion.
-const CONVERT: &[OptionRow<'static>] = option_rows! {
-    "week", "WEEK", true, &[], TEXT,
-        "GPS week of the first observations, 0 to 99999\n\
-         without rollover, or a date in it: 2024-02-04";
-    "date", "TEXT", true, &[], TEXT, "Date of the run: 'yyyymmdd hhmmss UTC'";
-    "gps", "SIGNALS", false, &["all"], TEXT,
-        "GPS signals in the file's order: all, none,\n\
-         or codes as 1C,2W";
-    "galileo", "SIGNALS", false, &["all"], TEXT,
-        "Galileo signals in the file's order: all, none,\n\
-         or codes as 1C,5Q";
-    "glonass", "SIGNALS", false, &["none"], TEXT,
-        "GLONASS signals in the file's order: all, none,\n\
-         or codes as 1C,2P";
-    "glonass-channels", "CHANNELS", false, &[""], TEXT,
-        "Channels of GLONASS slots, as 1:1,2:-4: without\n\
-         one a satellite has no phase and no Doppler\n\
-         shift";
-    "leap-seconds", "SECONDS", false, &["18"], ValueParser::Unsigned(0, 255),
-        "GPS time minus UTC, 0 to 255, for the times of\n\
-         GLONASS";
-    "beidou", "SIGNALS", false, &["none"], TEXT,
-        "BeiDou signals in the file's order: all, none,\n\
-         or codes as 2I,6I";
-    "qzss", "SIGNALS", false, &["none"], TEXT,
-        "QZSS signals in the file's order: all, none,\n\
-         or codes as 1C,2X";
-    "sbas", "SIGNALS", false, &["none"], TEXT,
-        "SBAS signals in the file's order: all, none,\n\
-         or codes as 1C,5I";
-    "msm", "FORMS", false, &["4,7"], ValueParser::Names(&["4,7", "all"]),
-        "Forms of MSM that are read: 4,7, or all, which\n\
-         is MSM4 to MSM7";
-    "station", "NUMBER", false, &[], STATIONS,
-        "Reference station (DF003), 0 to 4095; without\n\
-         it the messages of every station count";
-    "position", "X,Y,Z", false, &["0,0,0"], TEXT,
-        "Position in metres until a message 1005 or\n\
-         1006; write --position=X,Y,Z if X is\n\
-         negative";
-    "antenna-height", "HEIGHT", false, &["0"], TEXT,
-        "Antenna height in metres until a message 1006,\n\
-         0 to 6.5535";
-    "gather", "RULE", false, &["bit"], ValueParser::Names(&["bit", "time"]),
-        "What closes an epoch: a later time (time), or\n\
-         also the last message of a set by its DF393\n\
-         bit";
-    "limit", "BYTES", false, &["281474976710656"],
-        ValueParser::Unsigned(0, MOST_BYTES),
-        "Most bytes of the stream; a longer one is a\n\
-         fault";
-};
-
-/// The texts of the header, other than the date: printable ASCII.
-const TEXTS: &[OptionRow<'static>] = option_rows! {
-    "run-by", "TEXT", false, &[""], TEXT, "Who runs the program, 20 columns";
-    "marker", "TEXT", false, &[""], TEXT, "Name of the marker, 60 columns";
-    "marker-type", "TEXT", false, &["GEODETIC"], TEXT, "Its type, 20 columns";
-    "observer", "TEXT", false, &[""], TEXT, "Name of the observer, 20 columns";
-    "agency", "TEXT", false, &[""], TEXT, "Observer's agency, 40 columns";
-    "rec-number", "TEXT", false, &[""], TEXT, "Receiver's number, 20 columns";
-    "rec-type", "TEXT", false, &[""], TEXT, "Type of the receiver, 20 columns";
-    "rec-version", "TEXT", false, &[""], TEXT, "Receiver's version, 20 columns";
-    "ant-number", "TEXT", false, &[""], TEXT, "Antenna's number, 20 columns";
-    "ant-type", "TEXT", false, &[""], TEXT, "Type of the antenna, 20 columns";
-};
-
-/// Returns the tables of the program.
-pub fn program_tables() -> Tables<'static>
-    ensures { AreTables result }
+/// Returns the row of the program, and those of its commands.
+pub fn program_rows() -> (CommandRow<'static>, &'static [CommandRow<'static>])
+    ensures { AreRows result.0 result.1.now }
 {
-    Tables {
-        program: PROGRAM,
-        version: VERSION,
-        commands: COMMANDS,
-        station: STATION,
-        near: NEAR,
-        all: ALL,
-        times: TIMES,
-        convert: CONVERT,
-        texts: TEXTS,
-    }
-}
-
-impl<'a> Tables<'a> {
-    /// Returns the first options of a command.
-    pub fn first(&self, options: Options) -> &'a [OptionRow<'a>]
-        ensures { result.now ≡ rows_of self.now options }
-    {
-        match options {
-            Options::None => &[],
-            Options::Station | Options::Near => self.station,
-            Options::Convert => self.convert,
-            Options::All => self.all,
-            Options::Times => self.times,
-        }
-    }
-
-    /// Returns the options of a command that follow those.
-    pub fn more(&self, options: Options) -> &'a [OptionRow<'a>]
-        ensures { result.now ≡ more_of self.now options }
-    {
-        match options {
-            Options::Near => self.near,
-            Options::Convert => self.texts,
-            _ => &[],
-        }
-    }
+    (PROGRAM, COMMANDS)
 }

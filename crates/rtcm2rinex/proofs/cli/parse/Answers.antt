@@ -1,14 +1,14 @@
 use Rattle.rtcm2rinex.proofs.CommandLineLemmas.{is_read, versioned, why}
 use Rattle.rtcm2rinex.proofs.AcceptedLemmas.{found_command}
-use Rattle.rtcm2rinex.proofs.Names.{◌≡◌, ◌∙◌, true, inl, inr, ap, subst, sym, IfErr-weaker, app_of, texts, is_simple_and_free, IsProgram, start_of}
+use Rattle.rtcm2rinex.proofs.Names.{◌≡◌, ◌∙◌, true, inl, inr, map, ap, subst, sym, IfErr-weaker, App, app_of, texts, is_simple_and_free, IsProgram, command_set, with_commands}
 use Rattle.rtcm2rinex.proofs.cli.parse.Goals as goal
 
-pub returns-in-Ok : goal.returns-in-Ok
-returns-in-Ok c =
-    let program = app_of c.in-Ok.program in
-    let same = c.in-Ok.ensures (start_of c.program_tables-tables.result.program.name.now)
+pub returns : goal.returns
+returns c =
+    let program = app_of c.in_ok-program.program in
+    let same = c.in_ok-program.ensures ∙ ap (λ (a : App). with_commands a (map command_set c.program_rows.result.1.now))
     (versioned _ _ _ c.version.ensures c.subcommand_required-start.ensures c.described.ensures) in
-    let is : IsProgram program = subst IsProgram (sym same) c.program_tables-tables.ensures in
+    let is : IsProgram program = subst IsProgram (sym same) c.program_rows.ensures in
     let parse = c.try_get_matches_from in
     let read : is_simple_and_free program ≡ true = ap is_simple_and_free is.4 ∙ is_read is.0 is.1 in
     record {

@@ -1,5 +1,5 @@
 use Rattle.std.proofs.Common.{refl}
-use Rattle.rtcm2rinex.proofs.commands.program_tables.Goals as goal
+use Rattle.rtcm2rinex.proofs.commands.program_rows.Goals as goal
 
 pub returns : goal.returns
 returns c = (_, _, refl, refl, refl)
