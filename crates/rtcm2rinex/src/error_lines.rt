@@ -27,33 +27,27 @@ fn add_error(line: &mut OutputLine, fault: ToolFault)
 {
     match fault {
         ToolFault::Memory => line.add_word("Memory"),
-        ToolFault::BadDate(DateOption::Week) => {
-            line.add_word("BadDate");
-            line.add_word("--week WEEK: a GPS week, 0 to 99999,");
-            line.add_word("or a date yyyy-mm-dd, 1980-01-06 to 3896-07-18");
-        }
-        ToolFault::BadDate(DateOption::Near) => {
-            line.add_word("BadDate");
-            line.add_word("--near DATE: a date yyyy-mm-dd, 1980-01-06 to 3896-07-18");
-        }
-        ToolFault::BadPosition => {
-            line.add_word("BadPosition");
-            line.add_word("--position X,Y,Z: metres, up to 8 digits and 4 decimals each,");
-            line.add_word("-13743895.3472 to 13743895.3471");
-        }
-        ToolFault::BadHeight => {
-            line.add_word("BadHeight");
-            line.add_word("--antenna-height HEIGHT: metres, up to 4 decimals, 0 to 6.5535");
-        }
-        ToolFault::BadChannels => {
-            line.add_word("BadChannels");
-            line.add_word("--glonass-channels SLOT:CHANNEL,..: slots 1 to 27, each once,");
-            line.add_word("channels -7 to 6");
-        }
-        ToolFault::BadGaps => {
-            line.add_word("BadGaps");
-            line.add_word("--gaps SECONDS: up to 3 decimals, 0.001 to 86400");
-        }
+        ToolFault::BadDate(DateOption::Week) => line.add_word(
+            "BadDate --week WEEK: a GPS week, 0 to 99999, \
+             or a date yyyy-mm-dd, 1980-01-06 to 3896-07-18",
+        ),
+        ToolFault::BadDate(DateOption::Near) => line.add_word(
+            "BadDate --near DATE: a date yyyy-mm-dd, 1980-01-06 to 3896-07-18",
+        ),
+        ToolFault::BadPosition => line.add_word(
+            "BadPosition --position X,Y,Z: metres, up to 8 digits and 4 decimals each, \
+             -13743895.3472 to 13743895.3471",
+        ),
+        ToolFault::BadHeight => line.add_word(
+            "BadHeight --antenna-height HEIGHT: metres, up to 4 decimals, 0 to 6.5535",
+        ),
+        ToolFault::BadChannels => line.add_word(
+            "BadChannels --glonass-channels SLOT:CHANNEL,..: slots 1 to 27, each once, \
+             channels -7 to 6",
+        ),
+        ToolFault::BadGaps => line.add_word(
+            "BadGaps --gaps SECONDS: up to 3 decimals, 0.001 to 86400",
+        ),
         ToolFault::Header(fault) => add_header_error(line, fault),
         ToolFault::Plan(fault) => add_plan_error(line, fault),
         ToolFault::Convert(fault) => line.add_word(conversion_name(fault)),
