@@ -17,19 +17,15 @@ mod tests;
 use crate::command::{command, refuse_words};
 use rtcm_bits::{Buffered, Counted};
 use std::alloc::Global;
-use std::io;
-use std::io::BufReader;
+use std::io::{self, BufReader};
 use std::process::ExitCode;
 
 /// Size of the buffer of standard input, in bytes: the capacity of a pipe.
 const INPUT_BYTES: usize = 65_536;
 
 fn main(rt: HostRuntime) -> ExitCode {
-    let status = match run(&rt) {
-        Ok(status) => status,
-        Err(error) => refuse_words(&error, &mut Counted::new(rt.stderr())),
-    };
-    ExitCode::from(status)
+    let refuse = |error| refuse_words(&error, &mut Counted::new(rt.stderr()));
+    ExitCode::from(run(&rt).unwrap_or_else(refuse))
 }
 
 /// Runs the command of the command line over the standard streams, and returns the exit status, or
