@@ -30,10 +30,8 @@ use std::alloc::Global;
 pub fn start_week_of(options: &ArgMatches) -> Result<u32, ToolFault>
     ensures { MatchResult result (IsWeekSet (options_of options.now)) (IsWeekRefused (options_of options.now)) }
 {
-    match week_of(text(options, "week")) {
-        Some(week) => Ok(week),
-        None => Err(ToolFault::BadDate(DateOption::Week)),
-    }
+    let week = week_of(text(options, "week"));
+    week.ok_or(ToolFault::BadDate(DateOption::Week))
 }
 
 /// Returns noon of the date near the first observations, or `None` if the option isn't given.
@@ -157,9 +155,7 @@ pub fn forms_of(options: &ArgMatches) -> Forms
 pub fn leap_seconds_of(options: &ArgMatches) -> u8
     ensures { IsNumberOr 8 default_leap (one_of (codes "leap-seconds") (options_of options.now)) result }
 {
-    options
-        .get_one::<u8>("leap-seconds")
-        .unwrap_or(LEAP_SECONDS)
+    options.get_one("leap-seconds").unwrap_or(LEAP_SECONDS)
 }
 
 /// Returns the value of an option that is required or has a default.
