@@ -1,6 +1,6 @@
 -- The meaning of the exit status.
 use Rattle.rtcm2rinex.proofs.CommandLineLemmas.{is_version}
-use Rattle.rtcm2rinex.proofs.Names.{◌≡◌, ◌∙◌, inl, inr, refl, sym, subst, codes, ap, ap₂, option_map, ℕ, List, Option, Some, None, Result, Ok, Err, arith, ⊤, ◌≢◌, ◌⊎◌, IsCommand, box_value, option_map_or, Box, found_of, subcommand_rows, subcommand_rows_of, Row, Text, one_of, rows_of, out-SubCommand, SubCommand, kind_of, Error, ArgMatches, Device, SelectsCommand, IsFoundIn, RefusesWords, EndsCheck, EndsCheckAsked, EndsOptionsAsked, RefusesDate, RefusesGaps, StopsCheckAsked, StopsOptionsAsked, gaps_set, has_flag, EndsOptions, AreRefused, AreRefusedBy, EndsCommand, EndsFound, HasCommand, HasCompleted, HasDone, HasPrinted, HasStopped, HasStoppedEarly, HasStoppedPrinting, StopsPrinting, fault_status, status_of, error_line, length, lit<, ◌<◌, PrintsLine, PrintsSome, PrintsFault, IsNearRefused, IsNearSet, IsNumberOf, IsUntouched, InspectFault, Ends, IsInspected, of_inspection, ToolFault}
+use Rattle.rtcm2rinex.proofs.Names.{◌≡◌, ◌∙◌, inl, inr, refl, sym, subst, codes, ap, ap₂, option_map, ℕ, List, Option, Some, None, Result, Ok, Err, arith, ⊤, ◌≢◌, IsCommand, box_value, option_map_or, Box, found_of, subcommand_rows, subcommand_rows_of, Row, Text, rows_of, out-SubCommand, SubCommand, kind_of, Error, ArgMatches, Device, SelectsCommand, IsFoundIn, RefusesWords, AreRefused, AreRefusedBy, EndsCommand, EndsFound, HasCommand, HasCompleted, HasDone, HasPrinted, HasStopped, HasStoppedEarly, HasStoppedPrinting, StopsPrinting, fault_status, status_of, error_line, length, lit<, ◌<◌, PrintsLine, PrintsSome, PrintsFault, IsUntouched, InspectFault, Ends, of_inspection, ToolFault}
 use Rattle.clap.specs.declared.error.kind.ErrorKind.TheVariants as kind
 use Rattle.rtcm_inspect.specs.Devices as devices
 use Rattle.rtcm2rinex.specs.declared.fault.ToolFault.TheVariants as faults
@@ -69,40 +69,6 @@ inspection_found {n = n} {o} d printed unsent e inspection same found by h = (
   subst (λ x. EndsCommand x d.left d.r d.r2 d.held d.waits d.w d.w2 printed unsent e e n o) (sym same)
       (ends_inspected inspection d (λ f. HasStopped d.left d.r d.r2 d.held d.waits d.w d.w2 n o f × (e ≡ e)) (λ x p. inr (by.0 x p, refl)) (λ f s. (inr (inl (f, refl, by.1 f s)), refl)) h),
 )
-
--- the command `options` was stopped
-pub options_stopped : {R W : Type 0} {n : Text} (d : Devices R W) (o : List Row) (fault : ToolFault) → n ≡ codes "options"
-    → IsInspected (StopsOptionsAsked o d.left d.r d.r2 d.held d.waits d.w d.w2) fault ⊎ RefusesDate o d.r d.r2 d.w d.w2 fault → HasStopped d.left d.r d.r2 d.held d.waits d.w d.w2 n o fault
-options_stopped d o fault is (inl (e, same, stops)) = inr (inl (e, same, inr (inr (inr (inl (is, stops))))))
-options_stopped d o fault is (inr refused) = inr (inr (inl (is, refused)))
-
--- the command `check` was stopped
-pub check_stopped : {R W : Type 0} {n : Text} (d : Devices R W) (o : List Row) (fault : ToolFault) → n ≡ codes "check"
-    → IsInspected (StopsCheckAsked o d.left d.r d.r2 d.held d.waits d.w d.w2) fault ⊎ RefusesGaps o d.r d.r2 d.w d.w2 fault → HasStopped d.left d.r d.r2 d.held d.waits d.w d.w2 n o fault
-check_stopped d o fault is (inl (e, same, stops)) = inr (inl (e, same, inr (inr (inr (inr (is, stops))))))
-check_stopped d o fault is (inr refused) = inr (inr (inr (is, refused)))
-
--- how it ended after a valid interval, or without one
-pub check_ended : {A R W : Type 0} {ended : Result A ToolFault} (d : Devices R W) (inspection : Result A InspectFault) (o : List Row) (interval : Option ℕ) → ended ≡ of_inspection inspection → gaps_set o ≡ Ok interval
-    → EndsCheck inspection (has_flag (codes "times") o) interval d.left d.r d.r2 d.held d.waits d.w d.w2 → EndsCheckAsked ended o d.left d.r d.r2 d.held d.waits d.w d.w2
-check_ended d inspection o interval same given h =
-    subst (λ x. EndsCheckAsked x o d.left d.r d.r2 d.held d.waits d.w d.w2) (sym same)
-    (ends_inspected inspection d (λ fault. IsInspected (StopsCheckAsked o d.left d.r d.r2 d.held d.waits d.w d.w2) fault ⊎ RefusesGaps o d.r d.r2 d.w d.w2 fault)
-    (λ x p. (interval, given, p)) (λ e s. inl (e, refl, (interval, given, s))) h)
-
--- how it ended after a valid date
-pub options_ended : {A R W : Type 0} {ended : Result A ToolFault} (d : Devices R W) (inspection : Result A InspectFault) (o : List Row) (near wanted : Option ℕ) → ended ≡ of_inspection inspection
-    → IsNearSet o near × IsNumberOf 16 (one_of (codes "station") o) wanted → EndsOptions inspection near wanted d.left d.r d.r2 d.held d.waits d.w d.w2 → EndsOptionsAsked ended o d.left d.r d.r2 d.held d.waits d.w d.w2
-options_ended d inspection o near wanted same given h =
-    subst (λ x. EndsOptionsAsked x o d.left d.r d.r2 d.held d.waits d.w d.w2) (sym same)
-    (ends_inspected inspection d (λ fault. IsInspected (StopsOptionsAsked o d.left d.r d.r2 d.held d.waits d.w d.w2) fault ⊎ RefusesDate o d.r d.r2 d.w d.w2 fault)
-    (λ x p. (wanted, given.1, (near, given.0, p))) (λ e s. inl (e, refl, (wanted, given.1, (near, given.0, s)))) h)
-
--- its date is invalid
-pub date_refused : {R W : Type 0} {fault : ToolFault} (left : R → Option (List ℕ)) (held : W → Option (List ℕ)) (waits : W → List ℕ) (r : Device R) (w : Device W) (o : List Row)
-    → IsNearRefused o fault → EndsOptionsAsked {A = ⊤} (Err fault) o left r r held waits w w
-date_refused left held waits r w o (is, none) =
-    subst (λ (f : ToolFault). EndsOptionsAsked {A = ⊤} (Err f) o left r r held waits w w) (sym is) ((refl, refl), inr ((refl, none), (refl, refl)))
 
 -- a command that was found twice is the same
 asked : {found : Option (Text × List Row)} {n n2 : Text} {o o2 : List Row} (words : List Text) → found ≡ Some (n, o) → found ≡ Some (n2, o2) → SelectsCommand words n o → SelectsCommand words n2 o2

@@ -25,13 +25,13 @@ pub use Rattle.gnss_obs.specs.GatheredEpochs.{AreStationValues}
 pub use Rattle.gnss_obs.specs.Channels.{ChannelsValue}
 pub use Rattle.gnss_obs.specs.Values.{no_values}
 pub use Rattle.gnss_obs.specs.declared.cell.StationValues.{StationValues}
-pub use Rattle.rtcm2rinex.specs.Asked.{EndsCheck, EndsCheckAsked, EndsOptionsAsked, RefusesDate, RefusesGaps, StopsCheckAsked, StopsOptionsAsked}
-pub use Rattle.rtcm2rinex.specs.CommandLine.{FailsParsing, IsCommand, IsFoundIn, IsProgram, Makes, RefusesWords, SelectsCommand, command_set, option_set, program, start_of, with_commands, with_options}
+pub use Rattle.rtcm2rinex.specs.Asked.{EndsCheck}
+pub use Rattle.rtcm2rinex.specs.CommandLine.{FailsParsing, IsCommand, IsFoundIn, IsProgram, RefusesWords, SelectsCommand, command_set, option_set, program, with_commands, with_options}
 pub use Rattle.rtcm2rinex.specs.Commands.{AreRefused, AreRefusedBy, EndsCommand, EndsFound, HasCommand, HasCompleted, HasDone, HasPrinted, HasStopped, HasStoppedEarly, HasStoppedPrinting, StopsPrinting, fault_status, status_of}
 pub use Rattle.rtcm2rinex.specs.Converting.{EndsConversion, EndsConverting, StopsConversion}
 pub use Rattle.rtcm_inspect.specs.ChannelTexts.{channels_of}
 pub use Rattle.rtcm_inspect.specs.Dates.{IsHourOf, IsWeekOf}
-pub use Rattle.rtcm2rinex.specs.Devices.{Ends, HaveFailedBy, IsInspected, of_inspection}
+pub use Rattle.rtcm2rinex.specs.Devices.{Ends, HaveFailedBy, of_inspection}
 unfoldable pub use Rattle.rtcm2rinex.specs.ErrorLines.{error_line}
 pub use Rattle.rtcm2rinex.specs.ErrorLines.{error_words}
 pub use Rattle.rtcm_inspect.specs.Lengths.{interval_of, length_below, position_of}
@@ -39,7 +39,7 @@ pub use Rattle.rtcm2rinex.specs.Printing.{PrintsFault}
 unfoldable pub use Rattle.rtcm2rinex.specs.Reports.{report_line}
 pub use Rattle.rtcm2rinex.specs.Reports.{counts_named}
 unfoldable pub use Rattle.rtcm2rinex.specs.SetupOptions.{plan_set}
-pub use Rattle.rtcm2rinex.specs.SetupOptions.{HasSetupFault, IsFirstFault, IsNearRefused, IsNearSet, IsNoonOf, IsNumberOf, IsNumberOr, IsSetupRefused, IsWeekSet, channels_by, channels_set, gaps_set, has_flag, interval_by, interval_in, options_of, text_set, values_by, values_in, values_set}
+pub use Rattle.rtcm2rinex.specs.SetupOptions.{HasSetupFault, IsFirstFault, IsNoonOf, IsNumberOf, IsNumberOr, IsSetupRefused, IsWeekSet, channels_by, channels_set, gaps_set, has_flag, interval_by, interval_in, options_of, text_set, values_by, values_in, values_set}
 pub use Rattle.rtcm2rinex.specs.declared.commands.CommandRow.{CommandRow}
 pub use Rattle.rtcm2rinex.specs.declared.commands.OptionRow.{OptionRow}
 pub use Rattle.rtcm2rinex.specs.declared.fault.ToolFault.{ToolFault}
@@ -57,12 +57,11 @@ pub use Rattle.rtcm_inspect.proofs.LineLemmas.{add_count, add_text, add_word, en
 pub use Rattle.rtcm_inspect.proofs.PrintingLemmas.{passed}
 pub use Rattle.rtcm_inspect.specs.Fitting.{height_text, position_text}
 pub use Rattle.rtcm_inspect.specs.Lines.{with_words}
-pub use Rattle.rtcm_inspect.specs.OptionOutput.{EndsOptions}
 pub use Rattle.rtcm_inspect.specs.Printing.{PrintsLine, PrintsSome}
 pub use Rattle.rtcm_inspect.specs.declared.fault.InspectFault.{InspectFault}
 pub use Rattle.std.proofs.lemmas.List.{map_more}
 pub use Rattle.std.proofs.lemmas.List.Sums.{fold-append}
-pub use Rattle.std.proofs.lemmas.Result.{IfErr-weaker, IfOk-weaker}
+pub use Rattle.std.proofs.lemmas.Result.{IfErr-weaker}
 pub use Rattle.std.proofs.lemmas.Slice.Eq.{bytes_eq-Decides}
 pub use Rattle.std.specs.Borrow.{Bor}
 pub use Rattle.std.specs.Box.{box_value}

@@ -1,7 +1,7 @@
 -- What the commands `signals`, `options` and `check` have read and written, as their options ask for it.
-use Rattle.std.specs.Prelude.{◌≡◌, ◌⊎◌, ℕ, Bool, true, false, List, Option, Some, None, Result, Ok, Err, codes}
+use Rattle.std.specs.Prelude.{◌≡◌, ℕ, Bool, true, false, List, Option, Some, None, Result, Ok, Err, codes}
 use Rattle.clap.specs.Walk.{Row, one_of}
-use Rattle.rtcm_bits.specs.Device.{Device, IsUntouched, Moves}
+use Rattle.rtcm_bits.specs.Device.{Device, IsUntouched}
 use Rattle.rtcm_inspect.specs.Checking.{ChecksFile, ChecksTimes, ChecksWhole, StopsChecking, StopsCheckingTimes}
 use Rattle.rtcm_inspect.specs.Devices as devices
 use Rattle.rtcm_inspect.specs.Gaps.{AreGapsOf, StopsGaps}
@@ -9,7 +9,6 @@ use Rattle.rtcm_inspect.specs.OptionOutput.{PrintsOptions, StopsOptions}
 use Rattle.rtcm_inspect.specs.SignalOutput.{PrintsSignals, StopsSignals}
 use Rattle.rtcm_inspect.specs.Signals.{signals_text}
 use Rattle.rtcm_inspect.specs.declared.fault.InspectFault.{InspectFault}
-use Rattle.rtcm2rinex.specs.Devices.{Ends, IsInspected}
 use Rattle.rtcm2rinex.specs.SetupOptions.{IsNearRefused, IsNearSet, IsNumberOf, gaps_set, has_flag}
 use Rattle.rtcm2rinex.specs.declared.fault.ToolFault.{ToolFault}
 
@@ -45,14 +44,6 @@ StopsOptionsAsked options left r r' held waits w w' fault =
 -- the date is invalid, and nothing was read or written
 abbrev pub RefusesDate : {R W : Type 0} → List Row → (r r' : Device R) → (w w' : Device W) → ToolFault → Type 0
 RefusesDate options r r' w w' fault = IsNearRefused options fault × IsUntouched r r' w w'
-
--- how the command ended
-abbrev pub EndsOptionsAsked : {A R W : Type 0} → Result A ToolFault → List Row → (R → Option (List ℕ))
-    → (r r' : Device R) → (W → Option (List ℕ)) → (W → List ℕ) → (w w' : Device W) → Type 0
-EndsOptionsAsked result options left r r' held waits w w' =
-    Ends result r r' waits w w' (λ _. Moves left r r' held w w' (PrintsOptionsAsked options))
-    (λ fault. IsInspected (StopsOptionsAsked options left r r' held waits w w') fault
-    ⊎ RefusesDate options r r' w w' fault)
 
 -- ---- the command `check`
 
@@ -93,11 +84,3 @@ StopsCheckAsked options left r r' held waits w w' fault =
 -- the interval is invalid, and nothing was read or written
 abbrev pub RefusesGaps : {R W : Type 0} → List Row → (r r' : Device R) → (w w' : Device W) → ToolFault → Type 0
 RefusesGaps options r r' w w' fault = (gaps_set options ≡ Err fault) × IsUntouched r r' w w'
-
--- how the command ended
-abbrev pub EndsCheckAsked : {A R W : Type 0} → Result A ToolFault → List Row → (R → Option (List ℕ))
-    → (r r' : Device R) → (W → Option (List ℕ)) → (W → List ℕ) → (w w' : Device W) → Type 0
-EndsCheckAsked result options left r r' held waits w w' =
-    Ends result r r' waits w w' (λ _. ChecksAsked options (left r.inner) (held w.inner) (held w'.inner))
-    (λ fault. IsInspected (StopsCheckAsked options left r r' held waits w w') fault
-    ⊎ RefusesGaps options r r' w w' fault)

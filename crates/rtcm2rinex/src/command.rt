@@ -7,7 +7,7 @@ ghost use Rattle.clap.specs.Walk.{texts};
 ghost use Rattle.rtcm_bits.specs.Device.{IsUntouched};
 ghost use Rattle.clap.specs.Values.{kind_of};
 ghost use Rattle.clap.specs.declared.error.kind.ErrorKind.TheVariants.{DisplayVersion, OutOfMemory};
-ghost use Rattle.rtcm2rinex.specs.Asked.{EndsCheck, EndsCheckAsked, EndsOptionsAsked};
+ghost use Rattle.rtcm2rinex.specs.Asked.{EndsCheck};
 ghost use Rattle.rtcm2rinex.specs.Commands.{AreRefused, EndsFound, HasCommand};
 ghost use Rattle.rtcm2rinex.specs.Commands.{HasStoppedEarly, HasCompleted, StopsPrinting, status_of};
 ghost use Rattle.rtcm2rinex.specs.Devices.{of_inspection};
@@ -36,8 +36,7 @@ use rtcm_inspect::{
     run_options, run_show, run_show_all, run_signals,
 };
 use std::alloc::Global;
-use std::io;
-use std::io::Read;
+use std::io::{self, Read};
 
 /// Runs the command that the words ask for, the first of which is the program's name, and returns
 /// the exit status: 0 after success, 1 after a fault, and 2 if the words aren't accepted, ask for
@@ -69,16 +68,8 @@ pub fn command<R: Read, W: Deliver, E: Deliver>(
         × IsUntouched reader.old reader.new writer.old writer.new }
 {
     match parse(alloc, words) {
-        Ok(matches) => {
-            let ended = run(alloc, &matches, reader, writer, faults);
-            drop(matches);
-            exit_status(ended, faults)
-        }
-        Err(error) => {
-            let status = answer(alloc, &error, writer, faults);
-            drop(error);
-            status
-        }
+        Ok(matches) => exit_status(run(alloc, &matches, reader, writer, faults), faults),
+        Err(error) => answer(alloc, &error, writer, faults),
     }
 }
 
@@ -102,9 +93,15 @@ fn run<R: Read, W: Deliver, E: Deliver>(
         "show" if has_flag(options, "all") => of_inspection(run_show_all(alloc, reader, writer)),
         "show" => of_inspection(run_show(alloc, reader, writer)),
         "signals" => of_inspection(run_signals(alloc, station_of(options), reader, writer)),
-        "options" => print_options(alloc, options, reader, writer),
+        "options" => {
+            let near = near_of(options)?;
+            of_inspection(run_options(alloc, station_of(options), near, reader, writer))
+        }
         "convert" => convert(alloc, options, reader, writer, faults),
-        _ => check(alloc, options, reader, writer),
+        _ => {
+            let interval = gaps_of(options)?;
+            of_inspection(check(alloc, interval, has_flag(options, "times"), reader, writer))
+        }
     }
 }
 
@@ -115,36 +112,8 @@ fn of_inspection(ended: Result<(), InspectFault>) -> Result<(), ToolFault>
     ended.map_err(ToolFault::Inspect)
 }
 
-/// Prints the options that fit the stream, for the station and near the date that are given.
-fn print_options<R: Read, W: Deliver>(
-    alloc: Global,
-    options: &ArgMatches,
-    reader: &mut Counted<R>,
-    writer: &mut Counted<W>,
-) -> Result<(), ToolFault>
-    ensures { EndsOptionsAsked result (options_of options.now) R.remaining reader.old reader.new
-        W.contents W.waiting writer.old writer.new }
-{
-    let near = near_of(options)?;
-    of_inspection(run_options(alloc, station_of(options), near, reader, writer))
-}
-
-/// Reads a file back, and prints the times and the gaps if they are asked for.
-fn check<R: Read, W: Deliver>(
-    alloc: Global,
-    options: &ArgMatches,
-    reader: &mut Counted<R>,
-    writer: &mut Counted<W>,
-) -> Result<(), ToolFault>
-    ensures { EndsCheckAsked result (options_of options.now) R.remaining reader.old reader.new
-        W.contents W.waiting writer.old writer.new }
-{
-    let interval = gaps_of(options)?;
-    of_inspection(check_by(alloc, interval, has_flag(options, "times"), reader, writer))
-}
-
 /// Reads a file back, and prints the times, and the gaps at an interval.
-fn check_by<R: Read, W: Deliver>(
+fn check<R: Read, W: Deliver>(
     alloc: Global,
     interval: Option<u64>,
     with_times: bool,
@@ -235,13 +204,11 @@ pub fn refuse_words<E: Deliver>(error: &io::Error, faults: &mut Counted<E>) -> u
     ensures words { error_kind error.now ≢ kinds.OutOfMemory
         → (result ≡ 2) × PrintsLine E.contents E.waiting faults.old faults.new not_text_line }
 {
-    match error.kind() {
-        io::ErrorKind::OutOfMemory => exit_status(Err(ToolFault::Memory), faults),
-        _ => {
-            print_line(b"error: a word of the command line isn't UTF-8\n", faults);
-            2
-        }
+    if error.kind() == io::ErrorKind::OutOfMemory {
+        return exit_status(Err(ToolFault::Memory), faults);
     }
+    print_line(b"error: a word of the command line isn't UTF-8\n", faults);
+    2
 }
 
 /// Prints the fault of a command, if any, on one line, and returns the exit status: 0 after

@@ -1,5 +1,5 @@
-use Rattle.rtcm2rinex.proofs.CommandLemmas.{Devices, check_stopped, ends_so, inspection_found, is_check, options_stopped, sub_found}
-use Rattle.rtcm2rinex.proofs.Names.{◌∙◌, Bool, inl, inr, refl, subst, sym, options_of}
+use Rattle.rtcm2rinex.proofs.CommandLemmas.{Devices, ends_so, inspection_found, is_check, sub_found}
+use Rattle.rtcm2rinex.proofs.Names.{◌∙◌, Bool, inl, inr, subst, sym, EndsCheck, options_of}
 use Rattle.rtcm_scan.specs.Scan.{most_bytes}
 use Rattle.rtcm_inspect.specs.Listing.{EndsListing}
 use Rattle.rtcm_inspect.specs.ShowLines.{show_lines}
@@ -31,16 +31,13 @@ returns-in-signals g c =
     inspection_found d g.E.Write.contents g.E.Deliver.waiting c.args.faults.now c.run_signals.result c.of_inspection-in-signals.ensures (sub_found _ c.in-Some.ensures.name c.in-Some.ensures.rows)
     (λ x h. inr (inr (inl (c.in-signals.is, (c.station_of.result, c.station_of.ensures, h)))), λ f h. inr (inr (inl (c.in-signals.is, (c.station_of.result, c.station_of.ensures, h))))) c.run_signals.ensures
 
-pub returns-in-options : goal.returns-in-options
-returns-in-options g c =
-    let d : Devices _ _ = record { left = g.R.Read.remaining; held = g.W.Write.contents; waits = g.W.Deliver.waiting; r = c.args.reader.now; r2 = c.print_options.new.reader; w = c.args.writer.now; w2 = c.print_options.new.writer } in (
-      c.in-Some.name.now,
-      options_of c.in-Some.options.now,
-      sub_found _ c.in-Some.ensures.name c.in-Some.ensures.rows,
-      ends_so c.print_options.result d (λ x h. inr (inr (inr (inr (inl (c.in-options.is, h)))), refl))
-          (λ f h. (options_stopped d (options_of c.in-Some.options.now) f c.in-options.is h, refl))
-          c.print_options.ensures,
-    )
+pub returns-in_ok-near-in-options : goal.returns-in_ok-near-in-options
+returns-in_ok-near-in-options g c =
+    let d : Devices _ _ = record { left = g.R.Read.remaining; held = g.W.Write.contents; waits = g.W.Deliver.waiting; r = c.args.reader.now; r2 = c.run_options.new.reader; w = c.args.writer.now; w2 = c.run_options.new.writer } in
+    inspection_found d g.E.Write.contents g.E.Deliver.waiting c.args.faults.now c.run_options.result c.of_inspection-in-options.ensures (sub_found _ c.in-Some.ensures.name c.in-Some.ensures.rows) (
+      λ x h. inr (inr (inr (inl (c.in-options.is, (c.station_of-in-options.result, c.station_of-in-options.ensures, (c.in_ok-near-in-options.near, c.in_ok-near-in-options.ensures, h)))))),
+      λ f h. inr (inr (inr (inl (c.in-options.is, (c.station_of-in-options.result, c.station_of-in-options.ensures, (c.in_ok-near-in-options.near, c.in_ok-near-in-options.ensures, h)))))),
+    ) c.run_options.ensures
 
 pub returns-in-convert : goal.returns-in-convert
 returns-in-convert g c =
@@ -51,15 +48,11 @@ returns-in-convert g c =
       ends_so c.convert.result d (λ x h. inl (c.in-convert.is, h)) (λ f h. (inl (c.in-convert.is, h.0), h.1)) c.convert.ensures,
     )
 
-pub returns-in_default-name : goal.returns-in_default-name
-returns-in_default-name g c =
+pub returns-in_ok-interval-in_default-name : goal.returns-in_ok-interval-in_default-name
+returns-in_ok-interval-in_default-name g c =
     let found = sub_found _ c.in-Some.ensures.name c.in-Some.ensures.rows in
     let n = is_check c.args.matches.now c.requires found c.in_default-name.not-frames c.in_default-name.not-show c.in_default-name.not-signals c.in_default-name.not-options c.in_default-name.not-convert in
-    let d : Devices _ _ = record { left = g.R.Read.remaining; held = g.W.Write.contents; waits = g.W.Deliver.waiting; r = c.args.reader.now; r2 = c.check.new.reader; w = c.args.writer.now; w2 = c.check.new.writer } in (
-      c.in-Some.name.now,
-      options_of c.in-Some.options.now,
-      found,
-      ends_so c.check.result d (λ x h. inr (inr (inr (inr (inr (n, h)))), refl))
-          (λ f h. (check_stopped d (options_of c.in-Some.options.now) f n h, refl))
-          c.check.ensures,
-    )
+    let d : Devices _ _ = record { left = g.R.Read.remaining; held = g.W.Write.contents; waits = g.W.Deliver.waiting; r = c.args.reader.now; r2 = c.check.new.reader; w = c.args.writer.now; w2 = c.check.new.writer } in
+    inspection_found d g.E.Write.contents g.E.Deliver.waiting c.args.faults.now c.check.result c.of_inspection-in_default-name.ensures found
+    (λ x h. inr (inr (inr (inr (n, (c.in_ok-interval-in_default-name.interval, sym c.in_ok-interval-in_default-name.ensures.value, h))))), λ f h. inr (inr (inr (inr (n, (c.in_ok-interval-in_default-name.interval, sym c.in_ok-interval-in_default-name.ensures.value, h))))))
+    (subst (λ (b : Bool). EndsCheck c.check.result b c.in_ok-interval-in_default-name.interval g.R.Read.remaining c.args.reader.now c.check.new.reader g.W.Write.contents g.W.Deliver.waiting c.args.writer.now c.check.new.writer) c.has_flag-in_default-name.ensures c.check.ensures)
