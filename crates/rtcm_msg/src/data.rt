@@ -58,6 +58,9 @@ pub struct Cell {
     pub rate: i16,
 }
 
+/// The value of DF397 for an invalid rough range.
+pub(crate) const INVALID_ROUGH_RANGE: u8 = 255;
+
 /// The value of DF399 for an invalid rough phase range rate, and of a form without it.
 pub const INVALID_ROUGH_RATE: i16 = -8192;
 
@@ -348,9 +351,6 @@ fn scaled(number: i32, invalid: i32, unit: u32) -> Option<i64>
     (number != invalid).then_some(number as i64 * unit as i64)
 }
 
-/// The value of DF397 for an invalid rough range.
-pub(crate) const INVALID_RANGE: u8 = 255;
-
 /// Returns the sum of the rough range and a fine part in 2^-31 ms: `whole` milliseconds (DF397) and
 /// `fraction` / 1024 ms (DF398). `None` if either is invalid.
 fn range_joined(whole: u8, fraction: u16, fine: Option<i64>) -> Option<i64>
@@ -359,7 +359,7 @@ fn range_joined(whole: u8, fraction: u16, fine: Option<i64>) -> Option<i64>
     ensures bound { fraction < 2 ^ 10 → ForSome fine (λ z. unsigned_abs z ≤ 2 ^ 26)
         → IfSome result (λ r. unsigned_abs r ≤ 2 ^ 40) }
 {
-    if whole == INVALID_RANGE {
+    if whole == INVALID_ROUGH_RANGE {
         return None;
     }
     Some((whole as u64 * (1 << 31) + fraction as u64 * (1 << 21)) as i64 + fine?)

@@ -12,7 +12,7 @@ ghost use Rattle.rtcm_msg.specs.declared.pairs.Pair.{Pair};
 ghost use Rattle.rtcm_msg.specs.ValueCounts.{has_listed_value, value_count, has_id};
 ghost use Rattle.rtcm_msg.specs.ValueCounts.{entries_left, AreCells, AreAtMost, AddsCounts};
 
-use crate::data::INVALID_RANGE;
+use crate::data::INVALID_ROUGH_RANGE;
 use crate::grid::{Grid, Grid4, Grid5, Grid6, Grid7};
 use crate::header::SIGNAL_MASK_BITS;
 use crate::pairs::{CellsLeft, Pair, split_first, split_signal, with_signals};
@@ -44,7 +44,7 @@ impl<'a> MsmView<'a> {
     }
 
     /// Returns whether cell `i`, which is of the satellite and the signal of `pair`, has a value
-    /// and its satellite is in a set. Most cells have a pseudorange, so that no other field is read.
+    /// and its satellite is in a set. Most cells have a pseudorange: no other field is read then.
     #[inline(always)]
     fn has_listed_value<G: Grid>(&self, listed: u64, pair: Pair, whole: u8, i: usize) -> bool
         requires form { G.form ≡ self.now.form }
@@ -56,7 +56,7 @@ impl<'a> MsmView<'a> {
             (entry_in self.now.form self.now.msm (pair, slice_index self.now.msm.cells i)) }
     {
         (listed >> (64 - pair.satellite)) % 2 == 1
-            && ((whole != INVALID_RANGE && G::form().has_fine_range(&self.cell(G::form(), i)))
+            && ((whole != INVALID_ROUGH_RANGE && G::form().has_fine_range(&self.cell(G::form(), i)))
                 || self.has_rest(pair.index, i))
     }
 
@@ -143,6 +143,7 @@ impl<'a> MsmView<'a> {
             if (mask >> (cells.left - 1)) % 2 == 1 {
                 cells = self.count_row::<G>(listed, cells, &mut counts);
             } else {
+                // The first pair has no cell.
                 cells.pairs = split_signal(cells.pairs).1;
                 cells.left -= 1;
             }

@@ -30,7 +30,7 @@ overflow_add-result-2 c =
 pub returns-clause-value : goal.returns-clause-value
 returns-clause-value c =
     let h = c.requires.fits c.in_ok-fine.field-0 c.in_ok-fine.was in
-    rw (c.in_ok-fine.was, not_255 c.args.whole c.if-whole-eq-INVALID_RANGE.false) (ap Some (sum_is c.args.whole c.args.fraction c.in_ok-fine.field-0 c.ranges.whole.fits c.ranges.fraction.fits h))
+    rw (c.in_ok-fine.was, not_255 c.args.whole c.if-whole-eq-INVALID_ROUGH_RANGE.false) (ap Some (sum_is c.args.whole c.args.fraction c.in_ok-fine.field-0 c.ranges.whole.fits c.ranges.fraction.fits h))
 
 pub returns-clause-bound : goal.returns-clause-bound
 returns-clause-bound c =
