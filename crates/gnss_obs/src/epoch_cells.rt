@@ -39,8 +39,6 @@ pub enum Added {
 pub struct EpochCells(BySystem<Box<Cells>>);
 
 impl Model for EpochCells {
-    ghost use Rattle.gnss_obs.specs.SignalLists.{indices, IsOf};
-    ghost use Rattle.gnss_system.specs.Satellites.{satellites};
     ghost use Rattle.gnss_system.specs.declared.system.System.{System};
     ghost use Rattle.gnss_system.specs.SystemValues.{value_of, map_by};
     ghost use Rattle.gnss_obs.specs.Arriving.{AreKept};

@@ -1,11 +1,9 @@
 -- A value for each satellite system.
-use Rattle.std.specs.Prelude.{List, map}
 use Rattle.std.specs.Borrow.{Lends, Fml, RattleType, MutBor}
 use Rattle.gnss_system.specs.declared.system.System.{System}
 use Rattle.gnss_system.specs.declared.system.System.TheVariants.{Gps, Galileo, Glonass, Beidou, Qzss, Sbas}
 use Rattle.gnss_system.specs.declared.by_system.BySystem.{BySystem}
 use Rattle.gnss_system.specs.contracts.by_system.BySystem.{the_row}
-use Rattle.gnss_system.specs.Systems.{systems}
 
 -- The value of a system.
 abbrev pub value_of : {A : Type 0} → System → BySystem A → A
@@ -37,10 +35,6 @@ of_two gps galileo other = record (tabulate (λ s. other)) { gps = gps; galileo 
 -- The values that a function makes of those of each system.
 abbrev pub map_by : {A B : Type 0} → (A → B) → BySystem A → BySystem B
 map_by f values = tabulate (λ s. f (value_of s values))
-
--- The values in the order of the systems.
-abbrev pub listed : {A : Type 0} → BySystem A → List A
-listed values = map (λ s. value_of s values) systems
 
 -- A change of what is lent is a change of the value of a system, and nothing else changes.
 abbrev pub lends_value_of : (T : RattleType) → System → MutBor (BySystem T.Denot) → MutBor T.Denot → Fml
