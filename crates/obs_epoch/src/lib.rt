@@ -18,7 +18,7 @@ mod tow;
 pub use gather::Gatherer;
 // The benchmark imports it from here.
 pub use gnss_obs::Plan;
-pub use set::msm_set;
+pub use set::{is_always_decoded, msm_set};
 pub use signal_counts::SignalCounts;
 pub use taken::{CellCounts, Gather, GatherOptions, Kind, LEAP_SECONDS, Taken};
 pub use tow::tow_of;

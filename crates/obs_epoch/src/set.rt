@@ -1,6 +1,6 @@
 //! The MSMs that a conversion decodes.
 ghost use Rattle.std.specs.Prelude.{◌≡◌};
-ghost use Rattle.obs_epoch.specs.Sets.{is_decoded, set_of};
+ghost use Rattle.obs_epoch.specs.Sets.{is_always_decoded, is_decoded, set_of};
 
 use gnss_obs::Plan;
 use gnss_system::{BySystem, System};
@@ -17,9 +17,16 @@ pub fn msm_set(plan: &Plan, forms: Forms) -> MsmSet
     }
 }
 
+/// Returns whether the MSMs of a system are decoded under every plan: those of GPS and Galileo.
+pub fn is_always_decoded(system: System) -> bool
+    ensures { result ≡ is_always_decoded system }
+{
+    matches!(system, System::Gps | System::Galileo)
+}
+
 /// Returns whether the MSMs of a system are decoded.
 fn is_decoded(plan: &Plan, system: System) -> bool
     ensures { result ≡ is_decoded plan.now system }
 {
-    matches!(system, System::Gps | System::Galileo) || plan.signals(system) > 0
+    is_always_decoded(system) || plan.signals(system) > 0
 }

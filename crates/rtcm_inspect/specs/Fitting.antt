@@ -1,16 +1,17 @@
 -- The options of `convert` that fit a stream.
-use Rattle.std.specs.Prelude.{ℕ, pos, List, [], ◌∷◌, ◌++◌, Option, Some, None, codes, decimal, flat_map, if◌then◌else◌, length, nat_lt, Bool, not, ◌||◌, ◌&&◌}
+use Rattle.std.specs.Prelude.{ℕ, pos, List, [], ◌∷◌, ◌++◌, Option, Some, None, codes, decimal, flat_map, if◌then◌else◌, length, nat_lt, not, ◌&&◌}
 use Rattle.std.specs.List.{join_with_byte}
 use Rattle.gnss_system.specs.declared.system.System.{System}
 use Rattle.gnss_system.specs.declared.system.System.TheVariants.{Gps, Galileo, Glonass}
 use Rattle.gnss_system.specs.Satellites.{name_of}
-use Rattle.gnss_system.specs.Systems.{systems, is_system}
+use Rattle.gnss_system.specs.Systems.{systems}
 use Rattle.rtcm_msg.specs.declared.station.StationParts.{StationParts}
 use Rattle.rtcm_msg.specs.declared.number.Forms.{Forms}
 use Rattle.rtcm_msg.specs.declared.number.Forms.TheVariants.{FourAndSeven, All}
 use Rattle.rtcm_scan.specs.Frames.{Framed}
 use Rattle.gnss_obs.specs.Values.{PlanValue, planned_of}
 use Rattle.gnss_obs.specs.Channels.{ChannelsValue}
+use Rattle.obs_epoch.specs.Sets.{is_always_decoded}
 use Rattle.rtcm_inspect.specs.ChannelTexts.{channels_text}
 use Rattle.rtcm_inspect.specs.FirstMessages.{first_station}
 use Rattle.rtcm_inspect.specs.Lines.{line, with_words}
@@ -56,12 +57,9 @@ further_words leap channels Glonass =
 further_words leap channels other = []
 
 -- the signals of another system than GPS and Galileo, if there are some
-abbrev pub is_other : System → Bool
-is_other s = not (is_system s Gps || is_system s Galileo)
-
 abbrev pub other_words : (leap : Option ℕ) → PlanValue → System → List (List ℕ)
 other_words leap p s =
-    if is_other s && nat_lt 0 (length (planned_of s p))
+    if not (is_always_decoded s) && nat_lt 0 (length (planned_of s p))
     then (codes "--" ++ name_of s) ∷ codes_word s (planned_of s p) ∷ further_words leap p.channels s
     else []
 

@@ -5,8 +5,7 @@ use Rattle.std.specs.Option.{option_map_or}
 use Rattle.std.specs.List.{join_with_byte, list_any}
 use Rattle.rtcm_scan.specs.Frames.{Framed}
 use Rattle.gnss_system.specs.declared.system.System.{System}
-use Rattle.gnss_system.specs.declared.system.System.TheVariants.{Gps, Galileo}
-use Rattle.gnss_system.specs.Systems.{is_system, systems}
+use Rattle.gnss_system.specs.Systems.{systems}
 use Rattle.gnss_system.specs.SystemValues.{tabulate}
 use Rattle.gnss_system.specs.Satellites.{letter}
 use Rattle.gnss_system.specs.Signals.{SignalAt, table, code_of}
@@ -19,7 +18,7 @@ use Rattle.rtcm_msg.specs.declared.number.Forms.TheVariants.{FourAndSeven, All}
 use Rattle.rtcm_msg.specs.declared.number.MsmSet.{MsmSet}
 use Rattle.rtcm_msg.specs.Numbers.{have_form}
 use Rattle.rtcm_msg.specs.Decoding.{message_at}
-use Rattle.obs_epoch.specs.Sets.{set_of}
+use Rattle.obs_epoch.specs.Sets.{is_always_decoded, set_of}
 use Rattle.obs_epoch.specs.SignalCounts.{SignalCountsValue, valued, count_of, counted, signal_in}
 use Rattle.gnss_obs.specs.Plans.{below, with_channels}
 use Rattle.gnss_obs.specs.Channels.{ChannelsValue}
@@ -91,7 +90,7 @@ abbrev pub has_counted : SignalCountsValue → System → Bool
 has_counted c s = list_any (λ i. nat_lt 0 (counted c s i)) (below (length (table s)))
 
 abbrev pub decodes : SignalCountsValue → System → Bool
-decodes c s = is_system s Gps || is_system s Galileo || has_counted c s
+decodes c s = is_always_decoded s || has_counted c s
 
 -- ---- the text
 

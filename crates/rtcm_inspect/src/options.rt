@@ -3,7 +3,6 @@ ghost use Rattle.std.specs.Prelude.{◌≡◌, ◌+◌, ◌*◌, ◌<◌, ◌≤
 ghost use Rattle.std.specs.Prelude.{IfSome, Some, length};
 ghost use Rattle.gnss_obs.specs.Channels.{slot_count};
 ghost use Rattle.gnss_obs.specs.HeardCells.{HeardCell};
-ghost use Rattle.gnss_system.specs.declared.system.System.TheVariants.{Gps, Galileo};
 ghost use Rattle.gnss_system.specs.Systems.{systems};
 ghost use Rattle.rtcm_msg.specs.Station.{InRange};
 ghost use Rattle.rtcm_scan.specs.Frames.{Framed};
@@ -11,7 +10,7 @@ ghost use Rattle.obs_epoch.specs.SignalCounts.{AreSignalCounts};
 ghost use Rattle.rtcm_inspect.specs.Counting.{AreSignals};
 ghost use Rattle.rtcm_inspect.specs.ChannelTexts.{channels_text};
 ghost use Rattle.rtcm_inspect.specs.Fitting.{channel_words, first_words, forms_words, further_words};
-ghost use Rattle.rtcm_inspect.specs.Fitting.{is_other, number_start, number_words, options_text};
+ghost use Rattle.rtcm_inspect.specs.Fitting.{number_start, number_words, options_text};
 ghost use Rattle.rtcm_inspect.specs.Fitting.{other_words, station_words};
 ghost use Rattle.rtcm_inspect.specs.Lines.{longest_line, longest_name, longest_option, longest_options};
 ghost use Rattle.rtcm_inspect.specs.Lines.{longest_codes, longest_number, longest_plan, with_words};
@@ -28,7 +27,7 @@ use crate::signals::code_at;
 use arrayvec::ArrayVec;
 use gnss_obs::{Channels, GpsTime, WEEK, WEEKS};
 use gnss_system::{BySystem, SYSTEMS, System};
-use obs_epoch::SignalCounts;
+use obs_epoch::{SignalCounts, is_always_decoded};
 use rtcm_bits::{Counted, Deliver};
 use rtcm_msg::{Forms, MsmSet, StationParts};
 use std::alloc::Global;
@@ -122,7 +121,7 @@ fn set_had(signals: &StreamSignals) -> MsmSet
 fn decodes(signal_counts: &SignalCounts, system: System) -> bool
     ensures { result ≡ decodes signal_counts.now system }
 {
-    matches!(system, System::Gps | System::Galileo) || has_signal(signal_counts, system)
+    is_always_decoded(system) || has_signal(signal_counts, system)
 }
 
 /// Returns whether a signal of a system has a cell with a value.
@@ -203,7 +202,7 @@ fn add_other(text: &mut OptionsText, signals: &StreamSignals, leap: Option<u8>, 
         ≡ with_words text.old.items (other_words leap (plan_had cells signals.now.channels) system) }
     ensures short { length text.new.items ≤ length text.old.items + longest_plan }
 {
-    if !is_other(system) {
+    if is_always_decoded(system) {
         return;
     }
     if !has_signal(&signals.signal_counts, system) {
@@ -251,13 +250,6 @@ fn add_leap(line: &mut OutputLine, leap: Option<u8>)
     if let Some(leap) = leap {
         line.add_count("--leap-seconds", u64::from(leap));
     }
-}
-
-/// Returns whether a system is another than GPS and Galileo.
-fn is_other(system: System) -> bool
-    ensures { result ≡ is_other system }
-{
-    !matches!(system, System::Gps | System::Galileo)
 }
 
 /// Appends a line.

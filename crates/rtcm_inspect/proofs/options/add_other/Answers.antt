@@ -1,11 +1,12 @@
 use Rattle.rtcm_inspect.proofs.SignalLemmas.{decodes_had}
 use Rattle.rtcm_inspect.proofs.OptionLemmas.{words_after}
-use Rattle.rtcm_inspect.proofs.Names.{◌≡◌, ◌∙◌, ◌&&◌, ◌++◌, ◌∷◌, [], ℕ, Bool, true, false, ChannelsValue, List, Option, append-nil, ap, ap₂, arith, codes, further_words, if◌then◌else◌, length, nat_lt, refl, sym, codes_word, had, plan_had, System, with_words, HeardCell}
+use Rattle.rtcm_inspect.proofs.Names.{◌≡◌, ◌∙◌, ◌&&◌, ◌++◌, ◌∷◌, [], ℕ, Bool, true, false, ChannelsValue, List, Option, append-nil, ap, ap₂, arith, codes, further_words, if◌then◌else◌, length, nat_lt, not, refl, sym, codes_word, had, plan_had, System, with_words, HeardCell}
 use Rattle.gnss_system.specs.declared.system.System.TheVariants as system
 use Rattle.gnss_system.specs.Satellites.{name_of}
 use Rattle.gnss_system.proofs.SystemLaws.{value_tabulated}
 use Rattle.gnss_obs.specs.Plans.{is_nil}
-use Rattle.rtcm_inspect.specs.Fitting.{is_other, other_words}
+use Rattle.obs_epoch.specs.Sets.{is_always_decoded}
+use Rattle.rtcm_inspect.specs.Fitting.{other_words}
 use Rattle.rtcm_inspect.proofs.options.add_other.Goals as goal
 
 some_signal : (is : List ℕ) → nat_lt 0 (length is) ≡ true → is_nil is ≡ false
@@ -19,25 +20,25 @@ own_channels leap cells channels system.Glonass some = rw (some_signal (had cell
 own_channels leap cells channels other some = refl
 
 -- no word, or the option of its signals and the further ones
-shown : (leap : Option ℕ) (cells : List HeardCell) (channels : ChannelsValue) (s : System) (b c : Bool) → is_other s ≡ b → nat_lt 0 (length (had cells s)) ≡ c
-    → other_words leap (plan_had cells channels) s ≡ (if b && c then (codes "--" ++ name_of s) ∷ codes_word s (had cells s) ∷ further_words leap channels s else [])
-shown leap cells channels s b true other some = rw (value_tabulated s (had cells), other, some, own_channels leap cells channels s some) refl
-shown leap cells channels s b false other some = rw (value_tabulated s (had cells), other, some) (none b) where
-  none : (b : Bool) → (if b && false then (codes "--" ++ name_of s) ∷ codes_word s (had cells s) ∷ further_words leap (plan_had cells channels).channels s else [])
-      ≡ (if b && false then (codes "--" ++ name_of s) ∷ codes_word s (had cells s) ∷ further_words leap channels s else [])
+shown : (leap : Option ℕ) (cells : List HeardCell) (channels : ChannelsValue) (s : System) (b c : Bool) → is_always_decoded s ≡ b → nat_lt 0 (length (had cells s)) ≡ c
+    → other_words leap (plan_had cells channels) s ≡ (if not b && c then (codes "--" ++ name_of s) ∷ codes_word s (had cells s) ∷ further_words leap channels s else [])
+shown leap cells channels s b true always some = rw (value_tabulated s (had cells), always, some, own_channels leap cells channels s some) refl
+shown leap cells channels s b false always some = rw (value_tabulated s (had cells), always, some) (none b) where
+  none : (b : Bool) → (if not b && false then (codes "--" ++ name_of s) ∷ codes_word s (had cells s) ∷ further_words leap (plan_had cells channels).channels s else [])
+      ≡ (if not b && false then (codes "--" ++ name_of s) ∷ codes_word s (had cells s) ∷ further_words leap channels s else [])
   none true = refl
   none false = refl
 
-pub returns-then-not-is_other-clause-text : goal.returns-then-not-is_other-clause-text
-returns-then-not-is_other-clause-text c = λ cells h.
+pub returns-then-is_always_decoded-clause-text : goal.returns-then-is_always_decoded-clause-text
+returns-then-is_always_decoded-clause-text c = λ cells h.
     let s = c.args.signals.now in
-    ap (with_words c.args.text.now.items) (sym (shown c.args.leap cells s.channels c.args.system false (nat_lt 0 (length (had cells c.args.system))) (sym c.is_other.ensures ∙ c.if-not-is_other.true) refl))
+    ap (with_words c.args.text.now.items) (sym (shown c.args.leap cells s.channels c.args.system true (nat_lt 0 (length (had cells c.args.system))) (sym c.is_always_decoded.ensures ∙ c.if-is_always_decoded.true) refl))
 
 pub returns-then-not-has_signal-clause-text : goal.returns-then-not-has_signal-clause-text
 returns-then-not-has_signal-clause-text c = λ cells h.
     let s = c.args.signals.now in
     let none = sym (decodes_had s.signal_counts cells h c.args.system) ∙ sym c.has_signal.ensures ∙ c.if-not-has_signal.true in
-    ap (with_words c.args.text.now.items) (sym (shown c.args.leap cells s.channels c.args.system true false (sym c.is_other.ensures ∙ c.if-not-is_other.false) none))
+    ap (with_words c.args.text.now.items) (sym (shown c.args.leap cells s.channels c.args.system false false (sym c.is_always_decoded.ensures ∙ c.if-is_always_decoded.false) none))
 
 pub returns-clause-text : goal.returns-clause-text
 returns-clause-text c = λ cells h.
@@ -50,4 +51,4 @@ returns-clause-text c = λ cells h.
     let start = c.put-2.ensures ∙ ap₂ (λ (a b : List ℕ). a ++ b) (c.put.ensures ∙ ap (λ (l : List ℕ). l ++ codes " --") c.new-line.ensures) (c.as_bytes.ensures.value ∙ c.name.ensures.text) in
     let line = c.add_further.ensures.text ∙ ap (λ (l : List ℕ). with_words l further) (c.add_codes.ensures.text cells h ∙ ap (λ (l : List ℕ). l ++ 0x20 ∷ codes_word s (had cells s)) start) in
     c.put_line.ensures ∙ ap (λ (l : List ℕ). old ++ l) line ∙ words_after old [] words ∙ ap (λ (l : List ℕ). with_words l words) (append-nil old)
-    ∙ ap (with_words old) (sym (shown c.args.leap cells signals.channels s true true (sym c.is_other.ensures ∙ c.if-not-is_other.false) some))
+    ∙ ap (with_words old) (sym (shown c.args.leap cells signals.channels s false true (sym c.is_always_decoded.ensures ∙ c.if-is_always_decoded.false) some))
