@@ -99,7 +99,15 @@ impl FileBuilder {
     {
         let head = parser_state.head;
         let lists = BySystem::each(|system| head.types.of(system).signals.as_slice());
-        let plan = Plan::from_lists(self.alloc, &lists).ok()?;
+        let plan = Plan::from_lists(self.alloc, &lists);
+        // Calls drop them with less proof than each exit.
+        drop(parser_state.last_read);
+        drop(head.types);
+        drop(self.rows);
+        let Ok(plan) = plan else {
+            drop(self.epochs);
+            return None;
+        };
         Some(ObsFile {
             texts: head.texts,
             plan: plan.with_channels(head.slots.channels),

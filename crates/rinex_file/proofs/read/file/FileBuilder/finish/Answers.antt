@@ -6,9 +6,7 @@ use Rattle.gnss_system.specs.declared.system.System.TheVariants.{Glonass}
 use Rattle.gnss_obs.specs.Plans.{with_channels}
 use Rattle.gnss_obs.specs.Values.{plan_with}
 use Rattle.rinex_file.specs.declared.read.types.TypesSoFar.{TypesSoFar}
-use Rattle.rinex_file.proofs.Names.{arith, common_steps, rules, same_Some, ◌≡◌, ◌∙◌, [], ap, indices, no_channels, planned_of, subst, sym, ChannelsValue, Known, List, PlanValue, SignalAt, Some, System, ℕ}
-use Rattle.std.specs.Prelude.{Ok, Err, MatchResult, Result}
-use Rattle.std.specs.Result.{result_ok}
+use Rattle.rinex_file.proofs.Names.{arith, common_steps, rules, ◌≡◌, ◌∙◌, [], ap, indices, no_channels, planned_of, subst, sym, ChannelsValue, Known, List, PlanValue, SignalAt, System, ℕ}
 use Rattle.rinex_file.proofs.read.file.FileBuilder.finish.Goals as goal
 
 abbrev made : BySystem (List ℕ) → ChannelsValue → PlanValue
@@ -25,19 +23,14 @@ plan_read : (types : BySystem TypesSoFar) (channels : ChannelsValue) {lists : By
 plan_read types channels {lists} {plan} is same none =
     with_own plan _ channels (ap (λ (p : PlanValue). p.signals) is ∙ tabulated_same _ _ (λ s. ap indices (value_mapped s (λ l. l.now) lists ∙ same s))) none
 
--- what holds of the value of a result
-of_ok : {A E : Type 0} (P : A → Type 0) (Q : E → Type 0) (r : Result A E) (x : A) → Some x ≡ result_ok r → MatchResult r P Q → P x
-of_ok P Q (Ok y) x e p = subst P (sym (same_Some _ _ e)) p
-of_ok P Q (Err e) x is p = cc
-
 pub invariant_of-result : goal.invariant_of-result
 invariant_of-result c =
     let none = subst (λ (k : Known). planned_of Glonass k.shown.plan ≡ [] → k.shown.plan.channels ≡ no_channels) (sym c.head.view_is) c.requires.value.plan.unplanned in
-    let plan = c.with_channels.ensures ∙ plan_read c.head.inside.types c.head.inside.slots.channels {lists = c.each-lists.result} (of_ok _ _ c.from_lists.result _ c.in_ok-plan.ensures.value c.from_lists.ensures.cases).value (λ s. let given = c.each-lists.ensures s in search rules) none in
+    let plan = c.with_channels.ensures ∙ plan_read c.head.inside.types c.head.inside.slots.channels {lists = c.each-lists.result} c.in-Ok.ensures.cases.value (λ s. let given = c.each-lists.ensures s in search rules) none in
     grind (arith, common_steps, plan)
 
 pub returns : goal.returns
 returns c =
     let none = subst (λ (k : Known). planned_of Glonass k.shown.plan ≡ [] → k.shown.plan.channels ≡ no_channels) (sym c.head.view_is) c.requires.value.plan.unplanned in
-    let plan = c.with_channels.ensures ∙ plan_read c.head.inside.types c.head.inside.slots.channels {lists = c.each-lists.result} (of_ok _ _ c.from_lists.result _ c.in_ok-plan.ensures.value c.from_lists.ensures.cases).value (λ s. let given = c.each-lists.ensures s in search rules) none in
+    let plan = c.with_channels.ensures ∙ plan_read c.head.inside.types c.head.inside.slots.channels {lists = c.each-lists.result} c.in-Ok.ensures.cases.value (λ s. let given = c.each-lists.ensures s in search rules) none in
     grind (arith, common_steps, plan)
