@@ -1,8 +1,9 @@
+use Rattle.rinex_file.proofs.Judged.{same_fault}
 use Rattle.rinex_file.proofs.FileLines.{lines_are_lines, lines_are_short}
 use Rattle.rinex_file.proofs.Reading.Accepted.{first_epochs, one_epoch, same_epochs}
 use Rattle.rinex_file.proofs.Reading.Lines.{added_more, both_said, leaves_all, leaves_more, only_faults, the_end}
 use Rattle.rinex_file.proofs.Reading.Summary.{has_times, only_with, summed, text_with}
-use Rattle.rinex_file.proofs.Names.{arith, ◌∙◌, ap, refl, is_some, Err, IsSummaryOf}
+use Rattle.rinex_file.proofs.Names.{arith, ◌∙◌, ap, refl, subst, is_some, Err, HasFailed, IsSummaryOf}
 use Rattle.rinex_file.proofs.read.epochs.next_epoch.Goals as goal
 
 pub loop-added-init : goal.loop-added-init
@@ -73,3 +74,9 @@ returns-in-Err-clause-epochs g c = λ es input before.
 
 pub returns-in-Err-clause-left : goal.returns-in-Err-clause-left
 returns-in-Err-clause-left g c = leaves_more _ _ _ c.loop-added.invariant.left c.in-Err.ensures.left
+
+pub returns-in-Err-clause-failed : goal.returns-in-Err-clause-failed
+returns-in-Err-clause-failed g c = λ e. subst (λ n. HasFailed n c.next.new.reader.failures) c.loop-added.invariant.same (c.in-Err.ensures.failed (same_fault e))
+
+pub returns-in-Err-clause-same : goal.returns-in-Err-clause-same
+returns-in-Err-clause-same g c = λ other. c.in-Err.ensures.same (λ e. other (same_fault e)) ∙ c.loop-added.invariant.same

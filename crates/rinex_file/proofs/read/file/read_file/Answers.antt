@@ -1,3 +1,4 @@
+use Rattle.rinex_file.proofs.Judged.{same_fault}
 use Rattle.rinex_file.specs.declared.read.fault.ReadFault.TheVariants.{Memory}
 use Rattle.rinex_file.proofs.FileLines.{lines_are_lines, lines_are_short}
 use Rattle.rinex_file.proofs.Reading.Lines.{only_faults, no_reason, file_found, file_only, stored_whole, explains_memory}
@@ -36,3 +37,9 @@ returns-in-Ok-clause-only g c = λ v is few.
 
 pub returns-in-Err-clause-only : goal.returns-in-Err-clause-only
 returns-in-Err-clause-only g c = λ v is few. only_faults lines_are_lines lines_are_short _ c.in-Err.fault v c.in-Err.ensures.fault is few
+
+pub returns-in-Err-clause-failed : goal.returns-in-Err-clause-failed
+returns-in-Err-clause-failed g c = λ e. c.in-Err.ensures.failed (same_fault e)
+
+pub returns-in-Err-clause-same : goal.returns-in-Err-clause-same
+returns-in-Err-clause-same g c = λ other. c.in-Err.ensures.same (λ e. other (same_fault e))

@@ -1,6 +1,7 @@
+use Rattle.rinex_file.proofs.Judged.{same_fault}
 use Rattle.rinex_file.proofs.Reading.Lines.{added_more, the_end, leaves_all, leaves_more}
 use Rattle.rinex_file.proofs.read.file.read_lines.Goals.{else-is_stored-via-then-is_stored+else-is_err, else-is_stored-via-else-is_stored}
-use Rattle.rinex_file.proofs.Names.{arith, ◌≡◌, ◌∙◌, sym, ap, true, false, is_some, Result, OnOk, is_err, history_of, with_line}
+use Rattle.rinex_file.proofs.Names.{arith, ◌≡◌, ◌∙◌, sym, ap, subst, HasFailed, true, false, is_some, Result, OnOk, is_err, history_of, with_line}
 use Rattle.rinex_file.proofs.read.file.read_lines.Goals as goal
 
 -- a fact that holds if there was no error
@@ -51,3 +52,9 @@ returns-in-Err-clause-left g c = leaves_more _ _ _ c.loop-added.invariant.left c
 
 pub next-requires : goal.next-requires
 next-requires g c = let (h, read, stores) = c.loop-added.invariant.read in (h, _, read)
+
+pub returns-in-Err-clause-failed : goal.returns-in-Err-clause-failed
+returns-in-Err-clause-failed g c = λ e. subst (λ n. HasFailed n c.next.new.reader.failures) c.loop-added.invariant.same (c.in-Err.ensures.failed (same_fault e))
+
+pub returns-in-Err-clause-same : goal.returns-in-Err-clause-same
+returns-in-Err-clause-same g c = λ other. c.in-Err.ensures.same (λ e. other (same_fault e)) ∙ c.loop-added.invariant.same
