@@ -346,7 +346,7 @@ plain_law {n} {r} {line} {old} {new} less at plain has read h is = (to, from) wh
   from a = let b = law.1 a in (b.0, rows_when h (row_at n) true (there b.0) ∙ ap (λ q. shown_line h q ∷ []) at ∙ ap (λ l. l ∷ []) b.1)
 
 before_last : (n : ℕ) (r : HeaderRow) → n < row_count → row_at n ≡ r → r ≢ End → n + 1 < row_count
-before_last n r less is other = grind (arith, less_or)
+before_last n r less is other = less_or (n + 1 < row_count) (n + 1) row_count (λ l. l) (λ m. let e : n ≡ row_place End = omega (arith, less, m) in absurd (other (sym is ∙ ap row_at e)))
 
 -- ---- the result of a line
 

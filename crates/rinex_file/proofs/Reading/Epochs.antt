@@ -113,7 +113,7 @@ NoEvent s line = (0 < length s.epochs) × (line ≡ event_line) → ⊥
 
 from_others : {s : Progress} {v : FileValue} {line : List ℕ} {left : List (List ℕ)} (others : List Stamped) → NoEvent s line → IsFileValue v → v ≡ file_with s (s.epochs ++ others)
     → StartsAt s.known.shown.first (s.epochs ++ others) → line ∷ left ≡ flat_map stamped_lines others → EpochNext s None v line left
-from_others [] never is value starts rest = cc
+from_others {left = left} [] never is value starts rest = let none : suc (length left) ≡ 0 = ap length rest in absurd (omega (arith, none))
 from_others {s} {v} {line} {left} (e ∷ es) never is value starts rest = by e.change refl where
   by : (c : Option StationValues) → e.change ≡ c → EpochNext s None v line left
   by None h = next_with e es is value starts h (rest ∙ ap (λ l. l ++ flat_map stamped_lines es) (lines_are e None h))
