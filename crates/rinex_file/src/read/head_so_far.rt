@@ -174,18 +174,18 @@ impl HeadSoFar {
     {
         match row {
             HeaderRow::Version => self.letter = read_version(line)?,
-            HeaderRow::Texts(row) => read_texts(&mut self.texts, row, line)?,
+            HeaderRow::Texts(row) => return read_texts(&mut self.texts, row, line),
             HeaderRow::Position => {
                 let height = self.values.height;
                 self.values = read_position(line)?;
                 self.values.height = height;
             }
             HeaderRow::Delta => self.values.height = read_delta(line)?,
-            HeaderRow::StrengthUnit => read_labelled(line, UNIT, STRENGTH_UNIT)?,
+            HeaderRow::StrengthUnit => return read_labelled(line, UNIT, STRENGTH_UNIT),
             HeaderRow::First => self.first = read_first(line)?,
-            HeaderRow::Shift(system) => read_labelled(line, &[system.letter()], SHIFT)?,
-            HeaderRow::Slots(row) => self.slots.take(row, line)?,
-            HeaderRow::Biases => read_labelled(line, b"", BIASES)?,
+            HeaderRow::Shift(system) => return read_labelled(line, &[system.letter()], SHIFT),
+            HeaderRow::Slots(row) => return self.slots.take(row, line),
+            HeaderRow::Biases => return read_labelled(line, b"", BIASES),
             HeaderRow::Types(_, _) | HeaderRow::End => return None,
         }
         Some(())

@@ -19,11 +19,8 @@ returns-in_err-self-inside-in-Version c = of_row c.args.line.now c.args.self.now
 pub returns-in_ok-self-inside-in-Version : goal.returns-in_ok-self-inside-in-Version
 returns-in_ok-self-inside-in-Version c = of_row c.args.line.now _ (Some tt) refl c.in-Version.is c.self.view_is (line_version _ _ c.args.line.now c.in_ok-self-inside-in-Version.ensures)
 
-pub returns-in_ok-read_texts-in-Texts : goal.returns-in_ok-read_texts-in-Texts
-returns-in_ok-read_texts-in-Texts c = of_row c.args.line.now _ (Some tt) refl c.in-Texts.is c.self.view_is (of_texts c.in-Texts.row c.args.line.now _ c.read_texts.new.texts true c.in_ok-read_texts-in-Texts.ensures)
-
-pub returns-in_err-read_texts-in-Texts : goal.returns-in_err-read_texts-in-Texts
-returns-in_err-read_texts-in-Texts c = of_row c.args.line.now _ _ (ap is_some c.from_residual-in_err-read_texts-in-Texts.ensures) c.in-Texts.is c.self.view_is (of_texts c.in-Texts.row c.args.line.now _ c.read_texts.new.texts false c.in_err-read_texts-in-Texts.ensures)
+pub returns-in-Texts : goal.returns-in-Texts
+returns-in-Texts c = of_row c.args.line.now _ _ refl c.in-Texts.is c.self.view_is (of_texts c.in-Texts.row c.args.line.now _ c.read_texts.new.texts _ c.read_texts.ensures)
 
 pub returns-in_ok-self-inside-in-Position : goal.returns-in_ok-self-inside-in-Position
 returns-in_ok-self-inside-in-Position c = of_row c.args.line.now _ (Some tt) refl c.in-Position.is c.self.view_is (line_position _ _ c.args.line.now c.in_ok-self-inside-in-Position.ensures)
@@ -37,11 +34,8 @@ returns-in_err-self-inside-in-Delta c = of_row c.args.line.now c.args.self.now _
 pub returns-in_ok-self-inside-in-Delta : goal.returns-in_ok-self-inside-in-Delta
 returns-in_ok-self-inside-in-Delta c = of_row c.args.line.now _ (Some tt) refl c.in-Delta.is c.self.view_is (line_delta _ _ c.args.line.now c.in_ok-self-inside-in-Delta.ensures)
 
-pub returns-in_ok-read_labelled-in-StrengthUnit : goal.returns-in_ok-read_labelled-in-StrengthUnit
-returns-in_ok-read_labelled-in-StrengthUnit c = of_row c.args.line.now c.args.self.now (Some tt) refl c.in-StrengthUnit.is refl (line_unit c.args.self.now c.args.line.now true c.in_ok-read_labelled-in-StrengthUnit.ensures)
-
-pub returns-in_err-read_labelled-in-StrengthUnit : goal.returns-in_err-read_labelled-in-StrengthUnit
-returns-in_err-read_labelled-in-StrengthUnit c = of_row c.args.line.now c.args.self.now _ (ap is_some c.from_residual-in_err-read_labelled-in-StrengthUnit.ensures) c.in-StrengthUnit.is refl (line_unit c.args.self.now c.args.line.now false c.in_err-read_labelled-in-StrengthUnit.ensures)
+pub returns-in-StrengthUnit : goal.returns-in-StrengthUnit
+returns-in-StrengthUnit c = of_row c.args.line.now c.args.self.now _ refl c.in-StrengthUnit.is refl (line_unit c.args.self.now c.args.line.now _ c.read_labelled.ensures)
 
 pub returns-in_err-self-inside-in-First : goal.returns-in_err-self-inside-in-First
 returns-in_err-self-inside-in-First c = of_row c.args.line.now c.args.self.now _ (ap is_some c.from_residual-in_err-self-inside-in-First.ensures) c.in-First.is refl (refuse_first c.args.self.now c.args.line.now c.in_err-self-inside-in-First.ensures)
@@ -49,23 +43,14 @@ returns-in_err-self-inside-in-First c = of_row c.args.line.now c.args.self.now _
 pub returns-in_ok-self-inside-in-First : goal.returns-in_ok-self-inside-in-First
 returns-in_ok-self-inside-in-First c = of_row c.args.line.now _ (Some tt) refl c.in-First.is c.self.view_is (line_first _ _ c.args.line.now c.in_ok-self-inside-in-First.ensures)
 
-pub returns-in_ok-read_labelled-in-Shift : goal.returns-in_ok-read_labelled-in-Shift
-returns-in_ok-read_labelled-in-Shift c = of_row c.args.line.now c.args.self.now (Some tt) refl c.in-Shift.is refl (line_shift c.in-Shift.system c.letter.result c.args.self.now c.args.line.now true c.letter.ensures c.in_ok-read_labelled-in-Shift.ensures)
+pub returns-in-Shift : goal.returns-in-Shift
+returns-in-Shift c = of_row c.args.line.now c.args.self.now _ refl c.in-Shift.is refl (line_shift c.in-Shift.system c.letter.result c.args.self.now c.args.line.now _ c.letter.ensures c.read_labelled-in-Shift.ensures)
 
-pub returns-in_err-read_labelled-in-Shift : goal.returns-in_err-read_labelled-in-Shift
-returns-in_err-read_labelled-in-Shift c = of_row c.args.line.now c.args.self.now _ (ap is_some c.from_residual-in_err-read_labelled-in-Shift.ensures) c.in-Shift.is refl (line_shift c.in-Shift.system c.letter.result c.args.self.now c.args.line.now false c.letter.ensures c.in_err-read_labelled-in-Shift.ensures)
+pub returns-in-Slots : goal.returns-in-Slots
+returns-in-Slots c = of_row c.args.line.now _ _ refl c.in-Slots.is c.self.view_is (line_slots c.in-Slots.row c.args.line.now _ (subst (λ (k : Known). AreSlotsBefore k (Slots c.in-Slots.row)) (sym c.self.view_is) (subst (AreSlotsBefore c.args.self.now) c.in-Slots.is c.requires.slots)) c.take.new.self.count c.take.new.self.channels _ c.take.ensures)
 
-pub returns-in_ok-take-in-Slots : goal.returns-in_ok-take-in-Slots
-returns-in_ok-take-in-Slots c = of_row c.args.line.now _ (Some tt) refl c.in-Slots.is c.self.view_is (line_slots c.in-Slots.row c.args.line.now _ (subst (λ (k : Known). AreSlotsBefore k (Slots c.in-Slots.row)) (sym c.self.view_is) (subst (AreSlotsBefore c.args.self.now) c.in-Slots.is c.requires.slots)) c.take.new.self.count c.take.new.self.channels true c.in_ok-take-in-Slots.ensures)
-
-pub returns-in_err-take-in-Slots : goal.returns-in_err-take-in-Slots
-returns-in_err-take-in-Slots c = of_row c.args.line.now _ _ (ap is_some c.from_residual-in_err-take-in-Slots.ensures) c.in-Slots.is c.self.view_is (line_slots c.in-Slots.row c.args.line.now _ (subst (λ (k : Known). AreSlotsBefore k (Slots c.in-Slots.row)) (sym c.self.view_is) (subst (AreSlotsBefore c.args.self.now) c.in-Slots.is c.requires.slots)) c.take.new.self.count c.take.new.self.channels false c.in_err-take-in-Slots.ensures)
-
-pub returns-in_ok-read_labelled-in-Biases : goal.returns-in_ok-read_labelled-in-Biases
-returns-in_ok-read_labelled-in-Biases c = of_row c.args.line.now c.args.self.now (Some tt) refl c.in-Biases.is refl (line_biases c.args.self.now c.args.line.now true c.in_ok-read_labelled-in-Biases.ensures)
-
-pub returns-in_err-read_labelled-in-Biases : goal.returns-in_err-read_labelled-in-Biases
-returns-in_err-read_labelled-in-Biases c = of_row c.args.line.now c.args.self.now _ (ap is_some c.from_residual-in_err-read_labelled-in-Biases.ensures) c.in-Biases.is refl (line_biases c.args.self.now c.args.line.now false c.in_err-read_labelled-in-Biases.ensures)
+pub returns-in-Biases : goal.returns-in-Biases
+returns-in-Biases c = of_row c.args.line.now c.args.self.now _ refl c.in-Biases.is refl (line_biases c.args.self.now c.args.line.now _ c.read_labelled-in-Biases.ensures)
 
 pub returns-in-Types : goal.returns-in-Types
 returns-in-Types c = elim c.in-Types.is [
