@@ -1,12 +1,13 @@
 -- What the next line is decides the end of the step: the end of the input, a line that is too long, or a line that
 -- the parser takes or refuses. The lines taken so far go on by one.
+use Rattle.rinex_file.specs.declared.read.lines.Found.TheVariants.{End}
 use Rattle.rinex_file.proofs.FileLines.{lines_are_lines}
 use Rattle.rinex_file.proofs.Judged.{refused as judged}
 use Rattle.rinex_file.proofs.Reading.Accepted.{epochs_read}
 use Rattle.rinex_file.proofs.Reading.Header.{unfinished, file_shown, only_file, file_read, sound_rows, begun, expected_at}
 use Rattle.rinex_file.proofs.Reading.Lines.{one_more, refused, over_long, cut, whole, both_said, too_long, line_some, is_empty, not_empty}
 use Rattle.rinex_file.proofs.read.epochs.Reading.next.Goals.{then-self-eq-MOST_LINES+else-not-is_empty, else-self-eq-MOST_LINES}
-use Rattle.rinex_file.proofs.Names.{refl, ◌≡◌, ◌∙◌, sym, ap, subst, ℕ, List, ◌^◌, ◌+◌, ◌<◌, ◌≤◌, length, Err, arith, Refusal, GoesOnWithLine, ShowsLine, RefusesLine, TakesLine, progress_at, with_line}
+use Rattle.rinex_file.proofs.Names.{refl, Option, Found, Line, Long, Failed, IsFound, ◌≡◌, ◌∙◌, sym, ap, subst, ℕ, List, ◌^◌, ◌+◌, ◌<◌, ◌≤◌, length, Err, arith, Refusal, GoesOnWithLine, ShowsLine, RefusesLine, TakesLine, progress_at, with_line}
 use Rattle.rinex_file.proofs.read.epochs.Reading.next.Goals as goal
 
 few_lines : (lines taken : List (List ℕ)) (n : ℕ) → lines ≡ taken → length taken ≡ n → n ≤ 2 ^ 32 → length lines ≤ 2 ^ 32
@@ -92,3 +93,13 @@ take-requires-clause-history g c = let (h, input, read) = c.requires in (h, read
 
 pub take-requires-clause-room : goal.take-requires-clause-room
 take-requires-clause-room g c = grind (arith, c.requires)
+
+-- no failure is counted unless the reader failed
+none_counted : (found : Found) (bytes : List ℕ) (left : Option (List ℕ)) {old new : ℕ} → IsFound found bytes left old new → (found ≡ Failed → ⊥) → new ≡ old
+none_counted Line bytes left is other = is.1
+none_counted End bytes left is other = is.2
+none_counted Long bytes left is other = is.2
+none_counted Failed bytes left is other = absurd (other refl)
+
+pub returns-in_default-clause-same : goal.returns-in_default-clause-same
+returns-in_default-clause-same g c = λ other. none_counted c.next.result _ _ c.next.ensures.found c.in_default.not-Failed
