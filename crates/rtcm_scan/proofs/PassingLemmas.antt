@@ -53,8 +53,8 @@ prefix_later {e} b piece n fs same going q =
     prefix_trans fs (known_frames e (b ++ take n piece)) (known_frames e (b ++ piece)) p later
 
 -- no further byte was accepted
-pub continues_same : (v v1 v2 : FramerValue) (n : ℕ) → Continues v v1 n → v2.has_ended ≡ v1.has_ended → IsSameStream v1 v2 → Continues v v2 n
-continues_same v v1 v2 n k ended same = grind arith
+pub continues_same : {v v1 v2 : FramerValue} {n m : ℕ} → Continues v v1 n → n ≤ m → v2.has_ended ≡ v1.has_ended → IsSameStream v1 v2 → Continues v v2 m
+continues_same {v} {v1} {v2} {n} k within ended same = grind arith
 
 -- a block was accepted
 pub continues_block : {v v1 v2 : FramerValue} {n m : ℕ} (xs : List ℕ) → length xs ≡ m → Continues v v1 n → v2 ≡ with_bytes v1 xs → v2.taken ≤ v2.limit

@@ -1,13 +1,27 @@
 -- The frames that the bytes so far decide were passed on before more bytes are pushed, up to the limit of the
 -- framer.
-use Rattle.rtcm_scan.proofs.Names.{◌≡◌, ◌+◌, ◌∙◌, ap, arith, length, slice_range, take, FramerValue}
-use Rattle.rtcm_scan.proofs.PassingLemmas.{at_limit, continues_same, continues_block, part_drained, part_pushed, part_breaks, failed}
+use Rattle.rtcm_scan.proofs.Names.{◌≡◌, ◌+◌, ◌∙◌, ap, sym, subst, refl, arith, ℕ, List, append-nil, length, slice_range, take, known_frames, FramerValue, HasPassed}
+use Rattle.rtcm_scan.proofs.PassingLemmas.{prefix_self, at_limit, continues_same, continues_block, part_drained, part_pushed, part_breaks, failed}
 use Rattle.rtcm_scan.proofs.framer.Framer.take_piece.Goals as goal
+
+pub loop-self-init : goal.loop-self-init
+loop-self-init g c = record {
+  passes = λ s o ps b x. (let fs = known_frames c.args.self.now.has_ended b in
+      (fs, prefix_self fs, subst (λ (l : List ℕ). HasPassed g.S.FrameSink.took c.args.self.now s o ps c.args.sink.now c.args.out.now l fs) (sym (append-nil b)) x.passed));
+  can = c.requires.can;
+  bound = omega arith;
+  taken = omega arith;
+  same = record { least = omega arith; most = omega arith; within = omega (arith, c.taken.ensures.value, c.taken.ensures.within); limit = refl; ended = refl; some = λ h. h };
+}
 
 pub returns-in_err-drain_into-clause-part : goal.returns-in_err-drain_into-clause-part
 returns-in_err-drain_into-clause-part g c =
     let i = c.loop-self.invariant in
     failed c.from_residual.result _ (part_breaks g.S.FrameSink.took g.S.FrameSink.broke c.args.piece.now c.loop-self.taken c.requires.going i.same.ended i.passes c.in_err-drain_into.ensures.part)
+
+pub returns-in_err-drain_into-clause-same : goal.returns-in_err-drain_into-clause-same
+returns-in_err-drain_into-clause-same g c =
+    continues_same c.loop-self.invariant.same c.loop-self.invariant.bound c.drain_into.ensures.ended c.drain_into.ensures.same
 
 pub returns-then-next-taken-clause-whole : goal.returns-then-next-taken-clause-whole
 returns-then-next-taken-clause-whole g c =
@@ -22,12 +36,16 @@ returns-then-next-taken-clause-whole g c =
       ready = d.ready;
     }
 
+pub returns-then-next-taken-clause-same : goal.returns-then-next-taken-clause-same
+returns-then-next-taken-clause-same g c =
+    continues_same c.loop-self.invariant.same c.loop-self.invariant.bound c.drain_into.ensures.ended c.drain_into.ensures.same
+
 pub loop-self-preserved : goal.loop-self-preserved
 loop-self-preserved g c =
     let i = c.loop-self.invariant in
     let d = c.in_ok-drain_into.ensures in
     let push = c.in-Ok.ensures in
-    let same = continues_same _ _ _ _ i.same c.drain_into.ensures.ended c.drain_into.ensures.same in
+    let same = continues_same i.same (omega arith) c.drain_into.ensures.ended c.drain_into.ensures.same in
     let size : length (slice_range c.args.piece.now c.loop-self.taken (c.loop-self.taken + c.min.result)) ≡ c.min.result = omega (arith, c.min.ensures, i.bound) in
     let taken : c.push_all.new.self.taken ≡ c.drain_into.new.self.taken + length (slice_range c.args.piece.now c.loop-self.taken (c.loop-self.taken + c.min.result)) = ap (λ (v : FramerValue). v.taken) push.ok in
     record {

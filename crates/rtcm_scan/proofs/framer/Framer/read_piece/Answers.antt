@@ -1,0 +1,9 @@
+use Rattle.std.proofs.lemmas.Grind.{common_steps}
+use Rattle.rtcm_scan.proofs.Names.{arith}
+use Rattle.rtcm_scan.proofs.framer.Framer.read_piece.Goals as goal
+
+pub returns-clause-piece : goal.returns-clause-piece
+returns-clause-piece g c = grind (arith, common_steps)
+
+pub returns-clause-failures : goal.returns-clause-failures
+returns-clause-failures g c = c.read.ensures.failures
