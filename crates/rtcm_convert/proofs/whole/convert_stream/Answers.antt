@@ -1,9 +1,32 @@
 use Rattle.gnss_obs.specs.declared.cell.StationValues.{StationValues}
-use Rattle.rtcm_convert.specs.Made.{IsMadeInPart}
-use Rattle.rtcm_convert.proofs.Names.{start_with, subst}
+use Rattle.rtcm_convert.specs.declared.setup.Setup.{Setup}
+use Rattle.rtcm_convert.specs.Made.{IsMadeInPart, IsMadeSoFar}
+use Rattle.rtcm_convert.proofs.Names.{◌≡◌, subst, BadSetup, Err, IfOk, IfSome, IsBadWith, IsErrOf, IsMadeEmpty, IsMadeToLimit, IsMadeWith, NoEpoch, Read, Start, TooLong, Write, rules, start_with}
 use Rattle.rtcm_convert.proofs.whole.convert_stream.Goals as goal
 
-pub returns-clause-write : goal.returns-clause-write
-returns-clause-write g c = λ e.
-    subst (λ (v : StationValues). IsMadeInPart (start_with c.args.setup v) (g.R.Read.remaining c.args.reader.now.inner) (g.R.Read.remaining c.convert_stream_with.new.reader.inner) (g.W.Write.contents c.args.writer.now.inner)
-    (g.W.Write.contents c.convert_stream_with.new.writer.inner)) c.zero.ensures (c.convert_stream_with.ensures.write e)
+-- what was made from the same values
+same : {v w : StationValues} (s : Setup) (P : Start → Type 0) → v ≡ w → P (start_with s v) → P (start_with s w)
+same s P e x = subst (λ (v : StationValues). P (start_with s v)) e x
+
+pub returns : goal.returns
+returns g c =
+    let s = c.args.setup in
+    let e = c.zero.ensures in
+    let n = c.convert_stream_with.ensures in
+    let r = c.convert_stream_with.result in
+    let from = g.R.Read.remaining c.args.reader.now.inner in
+    let rest = g.R.Read.remaining c.convert_stream_with.new.reader.inner in
+    let a = g.W.Write.contents c.args.writer.now.inner in
+    let b = g.W.Write.contents c.convert_stream_with.new.writer.inner in
+    record {
+      made = same s (λ x. IfOk r (λ report. IfSome from (IsMadeWith x report a b))) e n.made;
+      no_epoch = same s (λ x. IsErrOf r NoEpoch → IfSome from (IsMadeEmpty x a b)) e n.no_epoch;
+      long = same s (λ x. IsErrOf r TooLong → IsMadeToLimit x from rest a b) e n.long;
+      read = same s (λ x. IsErrOf r Read → IsMadeSoFar x from rest a b) e n.read;
+      write = same s (λ x. IsErrOf r Write → IsMadeInPart x from rest a b) e n.write;
+      sent = n.sent;
+      devices = n.devices;
+      bad_setup = let bad = same s (λ x. (r ≡ Err BadSetup → IsBadWith x) × (IsBadWith x → r ≡ Err BadSetup)) e n.bad_setup in search rules;
+      untouched = n.untouched;
+      only = n.only;
+    }

@@ -4,8 +4,18 @@ use Rattle.rtcm_convert.proofs.FaultLemmas.{writer_after}
 use Rattle.rtcm_convert.proofs.FeedLemmas.{with_flags, read_of, long_of, sink_of, fed_fit}
 use Rattle.rtcm_convert.proofs.RunLemmas.{going_on, ran_whole, ran_empty, run_finishing, rest_taken, rest_faulty, rest_long, rest_part, rest_device}
 use Rattle.rtcm_convert.proofs.StreamLemmas.{piece_fine}
-use Rattle.rtcm_convert.proofs.Names.{◌∙◌, IfOk, IfOk-weaker, subst, inl, inr, true, up_to_limit, CompletesEmptyFile, CompletesFile, Conversion, FailsFeeding, FailsFinishing, IfSome, RanToFault, RanToLimit}
+use Rattle.std.specs.Prelude.{max}
+use Rattle.rtcm_convert.specs.Faults.{FailsWithReader, IsFinishFault, ReaderFailures}
+use Rattle.rtcm_convert.proofs.Names.{◌∙◌, ◌≡◌, ◌≤◌, IfErr, Result, Ok, Err, Fault, Device, longest_frame, sym, IfOk, IfOk-weaker, subst, inl, inr, true, up_to_limit, CompletesEmptyFile, CompletesFile, Conversion, FailsFeeding, FailsFinishing, IfSome, RanToFault, RanToLimit}
 use Rattle.rtcm_convert.proofs.converter.Converter.run.Goals as goal
+
+-- the end, after the reads: it doesn't return `Read`
+reader_after : {T A : Type 0} (L : Fault → Type 0) (r : Result A Fault) (old new : Device T) → IfErr r (λ f. IsFinishFault f × L f) → new.failures ≡ old.failures → new.widest ≤ max old.widest longest_frame → FailsWithReader r old new
+reader_after L (Ok x) old new left same within = (tt, same, within)
+reader_after L (Err f) old new left same within = (kept left.0, tt, within) where
+  kept : IsFinishFault f → ReaderFailures f old.failures new.failures
+  kept (inl e) = subst (λ (x : Fault). ReaderFailures x old.failures new.failures) (sym e) same
+  kept (inr e) = subst (λ (x : Fault). ReaderFailures x old.failures new.failures) (sym e) same
 
 pub invariant_of-self : goal.invariant_of-self
 invariant_of-self g c =
@@ -36,11 +46,21 @@ returns-in-Ok-clause-writer g c =
     let d = piece_fine g.W.Write.contents c.in-Ok.ensures.whole.0 c.in-Ok.ensures.whole.2.0 (c.self.invariant.drained (going_on c.self.view_is c.in_ok-refuse.ensures.going)) in
     writer_after c.finish.result c.args.writer.now c.read_pieces.new.out c.finish.new.writer d.1 d.2 c.finish.ensures.device
 
+pub returns-in-Ok-clause-reader : goal.returns-in-Ok-clause-reader
+returns-in-Ok-clause-reader g c =
+    let go = going_on c.self.view_is c.in_ok-refuse.ensures.going in
+    let n = c.in-Ok.ensures.reader in
+    reader_after _ c.finish.result c.args.reader.now c.read_pieces.new.reader (c.finish.ensures.left.0.1 (record { fine = go.fine; more = go.more })) n.1 n.2
+
 pub returns-in-Err-Read-clause-read : goal.returns-in-Err-Read-clause-read
 returns-in-Err-Read-clause-read g c =
     let listening = c.self.invariant.listening (going_on c.self.view_is c.in_ok-refuse.ensures.going) in
     let k = read_of c.in-Err-Read.field-0 _ _ _ c.in-Err-Read.field-0-is c.in-Err-Read.ensures.fault in
     λ _. subst (λ (x : Conversion). RanToFault x (with_flags true c.self.inside.finished c.read_pieces.new.self c.read_pieces.new.sink) (g.R.Read.remaining c.args.reader.now.inner) (g.R.Read.remaining c.read_pieces.new.reader.inner) (g.W.Write.contents c.args.writer.now.inner) (g.W.Write.contents c.read_pieces.new.out.inner)) c.self.view_is (rest_faulty g.W.Write.contents (g.R.Read.remaining c.args.reader.now.inner) (g.R.Read.remaining c.read_pieces.new.reader.inner) listening (c.read_pieces.ensures.same.ended ∙ listening) k)
+
+pub returns-in-Err-Read-clause-reader : goal.returns-in-Err-Read-clause-reader
+returns-in-Err-Read-clause-reader g c =
+    let n = c.in-Err-Read.ensures.reader in (read_of c.in-Err-Read.field-0 _ _ _ c.in-Err-Read.field-0-is n.0, tt, n.2)
 
 pub returns-in-Err-Read-clause-writer : goal.returns-in-Err-Read-clause-writer
 returns-in-Err-Read-clause-writer g c =
@@ -54,6 +74,10 @@ returns-in-Err-TooLong-clause-long g c =
     let k = long_of c.in-Err-TooLong.field-0 _ _ _ c.in-Err-TooLong.field-0-is c.in-Err-TooLong.ensures.fault in
     λ _. subst (λ (x : Conversion). RanToLimit x (with_flags true c.self.inside.finished c.read_pieces.new.self c.read_pieces.new.sink) (g.R.Read.remaining c.args.reader.now.inner) (g.R.Read.remaining c.read_pieces.new.reader.inner) (g.W.Write.contents c.args.writer.now.inner) (g.W.Write.contents c.read_pieces.new.out.inner)) c.self.view_is (rest_long g.W.Write.contents (g.R.Read.remaining c.args.reader.now.inner) (g.R.Read.remaining c.read_pieces.new.reader.inner) listening (c.read_pieces.ensures.same.ended ∙ listening) k)
 
+pub returns-in-Err-TooLong-clause-reader : goal.returns-in-Err-TooLong-clause-reader
+returns-in-Err-TooLong-clause-reader g c =
+    let n = c.in-Err-TooLong.ensures.reader in (long_of c.in-Err-TooLong.field-0 _ _ _ c.in-Err-TooLong.field-0-is n.0, tt, n.2)
+
 pub returns-in-Err-TooLong-clause-writer : goal.returns-in-Err-TooLong-clause-writer
 returns-in-Err-TooLong-clause-writer g c =
     let k = long_of c.in-Err-TooLong.field-0 _ _ _ c.in-Err-TooLong.field-0-is c.in-Err-TooLong.ensures.fault in
@@ -64,6 +88,10 @@ pub returns-in-Err-Sink-clause-write : goal.returns-in-Err-Sink-clause-write
 returns-in-Err-Sink-clause-write g c =
     let k = sink_of c.in-Err-Sink.field-0 _ _ _ _ c.in-Err-Sink.field-0-is c.in-Err-Sink.ensures.fault in
     λ _. inl (subst (λ (x : Conversion). FailsFeeding x (with_flags true c.self.inside.finished c.read_pieces.new.self c.read_pieces.new.sink) (g.R.Read.remaining c.args.reader.now.inner) (g.R.Read.remaining c.read_pieces.new.reader.inner) (g.W.Write.contents c.args.writer.now.inner) (g.W.Write.contents c.read_pieces.new.out.inner)) c.self.view_is (rest_part g.W.Write.contents (g.R.Read.remaining c.args.reader.now.inner) (g.R.Read.remaining c.read_pieces.new.reader.inner) c.filed.ensures.grows c.prefix.ensures.decided (c.self.invariant.listening (going_on c.self.view_is c.in_ok-refuse.ensures.going)) k))
+
+pub returns-in-Err-Sink-clause-reader : goal.returns-in-Err-Sink-clause-reader
+returns-in-Err-Sink-clause-reader g c =
+    let n = c.in-Err-Sink.ensures.reader in (sink_of c.in-Err-Sink.field-0 _ _ _ _ c.in-Err-Sink.field-0-is n.0, tt, n.2)
 
 pub returns-in-Err-Sink-clause-writer : goal.returns-in-Err-Sink-clause-writer
 returns-in-Err-Sink-clause-writer g c =
