@@ -2,20 +2,11 @@
 -- what was made, for a value of the converter with its parts inside.
 use Rattle.rtcm_convert.proofs.FaultLemmas.{writer_after}
 use Rattle.rtcm_convert.proofs.FeedLemmas.{with_flags, read_of, long_of, sink_of, fed_fit}
+use Rattle.rtcm_convert.proofs.FinishLemmas.{left_after, not_of_finish, reader_after, sent_after}
 use Rattle.rtcm_convert.proofs.RunLemmas.{going_on, ran_whole, ran_empty, run_finishing, rest_taken, rest_faulty, rest_long, rest_part, rest_device}
 use Rattle.rtcm_convert.proofs.StreamLemmas.{piece_fine}
-use Rattle.std.specs.Prelude.{max}
-use Rattle.rtcm_convert.specs.Faults.{FailsWithReader, IsFinishFault, ReaderFailures}
-use Rattle.rtcm_convert.proofs.Names.{◌∙◌, ◌≡◌, ◌≤◌, IfErr, Result, Ok, Err, Fault, Device, longest_frame, sym, IfOk, IfOk-weaker, subst, inl, inr, true, up_to_limit, CompletesEmptyFile, CompletesFile, Conversion, FailsFeeding, FailsFinishing, IfSome, RanToFault, RanToLimit}
+use Rattle.rtcm_convert.proofs.Names.{◌∙◌, ap, refl, IfOk, IfOk-weaker, IsRunFault, Read, TooLong, subst, inl, inr, true, up_to_limit, CompletesEmptyFile, CompletesFile, Conversion, FailsFeeding, FailsFinishing, IfSome, RanToFault, RanToLimit}
 use Rattle.rtcm_convert.proofs.converter.Converter.run.Goals as goal
-
--- the end, after the reads: it doesn't return `Read`
-reader_after : {T A : Type 0} (L : Fault → Type 0) (r : Result A Fault) (old new : Device T) → IfErr r (λ f. IsFinishFault f × L f) → new.failures ≡ old.failures → new.widest ≤ max old.widest longest_frame → FailsWithReader r old new
-reader_after L (Ok x) old new left same within = (tt, same, within)
-reader_after L (Err f) old new left same within = (kept left.0, tt, within) where
-  kept : IsFinishFault f → ReaderFailures f old.failures new.failures
-  kept (inl e) = subst (λ (x : Fault). ReaderFailures x old.failures new.failures) (sym e) same
-  kept (inr e) = subst (λ (x : Fault). ReaderFailures x old.failures new.failures) (sym e) same
 
 pub invariant_of-self : goal.invariant_of-self
 invariant_of-self g c =
@@ -45,6 +36,28 @@ pub returns-in-Ok-clause-writer : goal.returns-in-Ok-clause-writer
 returns-in-Ok-clause-writer g c =
     let d = piece_fine g.W.Write.contents c.in-Ok.ensures.whole.0 c.in-Ok.ensures.whole.2.0 (c.self.invariant.drained (going_on c.self.view_is c.in_ok-refuse.ensures.going)) in
     writer_after c.finish.result c.args.writer.now c.read_pieces.new.out c.finish.new.writer d.1 d.2 c.finish.ensures.device
+
+pub returns-in-Ok-clause-long : goal.returns-in-Ok-clause-long
+returns-in-Ok-clause-long g c =
+    let go = going_on c.self.view_is c.in_ok-refuse.ensures.going in
+    λ e. absurd (not_of_finish _ c.finish.result (c.finish.ensures.left.0.1 (record { fine = go.fine; more = go.more })) TooLong refl e)
+
+pub returns-in-Ok-clause-read : goal.returns-in-Ok-clause-read
+returns-in-Ok-clause-read g c =
+    let go = going_on c.self.view_is c.in_ok-refuse.ensures.going in
+    λ e. absurd (not_of_finish _ c.finish.result (c.finish.ensures.left.0.1 (record { fine = go.fine; more = go.more })) Read refl e)
+
+pub returns-in-Ok-clause-sent : goal.returns-in-Ok-clause-sent
+returns-in-Ok-clause-sent g c =
+    let go = going_on c.self.view_is c.in_ok-refuse.ensures.going in
+    sent_after _ c.finish.result _ _ _ (c.finish.ensures.left.0.1 (record { fine = go.fine; more = go.more })) c.finish.ensures.sent
+
+pub returns-in-Ok-clause-left : goal.returns-in-Ok-clause-left
+returns-in-Ok-clause-left g c =
+    let go = going_on c.self.view_is c.in_ok-refuse.ensures.going in
+    let n = c.finish.ensures.left in
+    let limit = n.0.0 ∙ c.read_pieces.ensures.same.limit ∙ ap (λ (x : Conversion). x.scan.limit) c.self.view_is in
+    ((limit, λ _. left_after IsRunFault _ c.finish.result (λ f k. inr (inr k)) (n.0.1 (record { fine = go.fine; more = go.more }))), n.1)
 
 pub returns-in-Ok-clause-reader : goal.returns-in-Ok-clause-reader
 returns-in-Ok-clause-reader g c =

@@ -1,8 +1,10 @@
 -- Each piece that was fed keeps the record of what was made from the pieces so far; the loop ends at the first
 -- fault.
+use Rattle.rtcm_convert.proofs.FaultLemmas.{writer_after}
+use Rattle.rtcm_convert.proofs.FinishLemmas.{left_after, not_of_finish, sent_after}
 use Rattle.rtcm_convert.proofs.PartLemmas.{same_passed}
 use Rattle.rtcm_convert.proofs.PiecesLemmas.{taken_then, longer_by, pieces_more, pieces_all, pieces_rest, pieces_whole, pieces_empty, pieces_long, pieces_broke, pieces_broke_at_end}
-use Rattle.rtcm_convert.proofs.Names.{◌∙◌, ap, IfOk-weaker}
+use Rattle.rtcm_convert.proofs.Names.{◌∙◌, ap, inr, refl, IfOk-weaker, IsPiecesFault, TooLong}
 use Rattle.rtcm_convert.proofs.converter.Converter.take_pieces.Goals as goal
 
 pub loop-piece-preserved : goal.loop-piece-preserved
@@ -44,3 +46,18 @@ pub returns-clause-write : goal.returns-clause-write
 returns-clause-write g c =
     let all = pieces_all (λ piece. piece.items) c.args.pieces.now c.loop-piece.piece-index c.loop-piece.auto.piece-index-end c.loop-piece-test.false in
     λ e. pieces_broke_at_end _ c.loop-piece.invariant.came c.args.pieces.now all (c.finish.ensures.part e)
+
+pub returns-clause-long : goal.returns-clause-long
+returns-clause-long g c = λ e. absurd (not_of_finish _ c.finish.result (c.finish.ensures.left.0.1 c.loop-piece.invariant.going) TooLong refl e)
+
+pub returns-clause-sent : goal.returns-clause-sent
+returns-clause-sent g c = sent_after _ c.finish.result _ _ _ (c.finish.ensures.left.0.1 c.loop-piece.invariant.going) c.finish.ensures.sent
+
+pub returns-clause-device : goal.returns-clause-device
+returns-clause-device g c =
+    let i = c.loop-piece.invariant in writer_after c.finish.result c.args.writer.now c.loop-piece.writer c.finish.new.writer i.fine i.unread c.finish.ensures.device
+
+pub returns-clause-left : goal.returns-clause-left
+returns-clause-left g c =
+    let i = c.loop-piece.invariant in
+    let n = c.finish.ensures.left in ((n.0.0 ∙ i.limit, λ _. left_after IsPiecesFault _ c.finish.result (λ f k. inr k) (n.0.1 i.going)), n.1)
