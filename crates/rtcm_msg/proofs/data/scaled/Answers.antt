@@ -1,0 +1,52 @@
+use Rattle.std.proofs.Common.{ℕ, ℤ, pos, ◌≡◌, ◌==◌, ◌∙◌, sym, ap, ◌*◌, ◌*ℤ◌, ◌≤◌, ◌^◌, Bool, not, if◌then◌else◌, Option, Some, None, unsigned_abs, arith, w32, w64, to_z, of_z, FitsSigned, lit<, lit≤}
+use Rattle.std.specs.Prelude.{IfSome}
+use Rattle.std.specs.Bool.{then_some}
+use Rattle.std.specs.Ordering.{int_eq}
+use Rattle.std.proofs.lemmas.Bool.Decides.{same_from_decides, Decides-like, Decides-eqb, Decides-int_eq}
+use Rattle.std.proofs.lemmas.Int.{ints, to_z-of_z, fits_signed_mul, unsigned_abs-mul}
+use Rattle.rtcm_msg.proofs.SignedLaws.{wider}
+use Rattle.rtcm_msg.proofs.data.scaled.Goals as goal
+
+whole : (k : ℕ) → k ≤ 128 → to_z w64 k ≡ pos k
+whole k h = omega (arith, ints, h)
+
+product_fits : (z : ℤ) (k : ℕ) → FitsSigned w32 z → k ≤ 128 → FitsSigned w64 (z *ℤ pos k)
+product_fits z k f h = fits_signed_mul w64 z (pos k) (2 ^ 31) 128 (omega (arith, ints, f)) h (lit< tt)
+
+product_is : (z : ℤ) (k : ℕ) → FitsSigned w32 z → k ≤ 128
+    → to_z w64 (of_z w64 (to_z w64 (of_z w64 (to_z w32 (of_z w32 z))) *ℤ to_z w64 k)) ≡ z *ℤ pos k
+product_is z k f h = rw (wider w32 w64 z f (lit≤ tt), whole k h) (to_z-of_z w64 (z *ℤ pos k) (product_fits z k f h))
+
+within : (o : Option ℤ) (b : Bool) (z : ℤ) (k m : ℕ) {v : ℤ} → o ≡ then_some b v → v ≡ z *ℤ pos k
+    → unsigned_abs z * k ≤ m → IfSome o (λ z. unsigned_abs z ≤ m)
+within o b z k m e f h =
+    let size : unsigned_abs (z *ℤ pos k) ≤ m = rw (unsigned_abs-mul z (pos k)) h in grind (arith, e, f, size)
+
+pub overflow_mul-number : goal.overflow_mul-number
+overflow_mul-number c =
+    rw (wider w32 w64 c.args.number c.ranges.number (lit≤ tt), whole c.args.unit c.requires.few)
+    (product_fits c.args.number c.args.unit c.ranges.number c.requires.few)
+
+pub returns-clause-fits : goal.returns-clause-fits
+returns-clause-fits c =
+    within _ _ c.args.number c.args.unit _ c.then_some.ensures
+    (product_is c.args.number c.args.unit c.ranges.number c.requires.few)
+
+pub returns-clause-small : goal.returns-clause-small
+returns-clause-small c =
+    within _ _ c.args.number c.args.unit _ c.then_some.ensures
+    (product_is c.args.number c.args.unit c.ranges.number c.requires.few)
+
+picked : (o : Option ℤ) (b d : Bool) (v w : ℤ) → o ≡ then_some (not b) v → b ≡ d → v ≡ w
+    → o ≡ (if d then None else Some w)
+picked o b d v w e f g = grind (arith, e, f, g)
+
+same : (z y : ℤ) → FitsSigned w32 z → FitsSigned w32 y → (of_z w32 z == of_z w32 y) ≡ int_eq z y
+same z y f g =
+    let back : of_z w32 z ≡ of_z w32 y → z ≡ y = λ e. sym (to_z-of_z w32 z f) ∙ (ap (to_z w32) e ∙ to_z-of_z w32 y g) in
+    same_from_decides _ _ (Decides-like _ back (ap (of_z w32)) (Decides-eqb _ _)) (Decides-int_eq z y)
+
+pub returns-clause-value : goal.returns-clause-value
+returns-clause-value c =
+    picked _ _ _ _ _ c.then_some.ensures (same c.args.number c.args.invalid c.ranges.number c.ranges.invalid)
+    (product_is c.args.number c.args.unit c.ranges.number c.requires.few)
