@@ -8,7 +8,7 @@ use Rattle.rtcm_inspect.specs.declared.fault.InspectFault.TheVariants.{Check, Wr
 use Rattle.rtcm_inspect.proofs.CheckLemmas.{refused}
 use Rattle.rtcm_inspect.proofs.LineLemmas.{add_text, end_line}
 use Rattle.rtcm_inspect.proofs.PrintingLemmas.{longer_part, printed_after, printed_later}
-use Rattle.rtcm_inspect.proofs.Names.{lt-ltb, ⊤, AppendsPrefix, AreCounts, AreGapsOf, AreTimes, AreTimesOrNone, EpochTimes, FileValue, IfSome, IsCheckedOr, IsFileValue, ap₂, check_line, complete_line, IfSome_then, IsDelivered, ReadsGaps, append_assoc, file_lines, file_text, inr, length, most_lines, steps_of, times_if, ◌≡◌, ◌∙◌, ◌+◌, ◌<◌, ◌≤◌, ◌∷◌, ◌++◌, [], ap, arith, append-nil, codes, cond, refl, subst, sym, ℕ, List, Option, Some, None, Bool, Device, EndsPrinting, Err, FileSummary, IsSummaryOf, InspectFault, IsPrefix, LeavesRest, Ok, PrintsText, ReadsEpoch, Result, Stamped, gap_between, gap_line, gaps_of, map, moment_words, time_stamped, with_words, gaps_after, option_map, map-append}
+use Rattle.rtcm_inspect.proofs.Names.{HaveFailedBy, StopsGaps, inl, lt-ltb, ⊤, AppendsPrefix, AreCounts, AreGapsOf, AreTimes, AreTimesOrNone, EpochTimes, FileValue, IfSome, IsCheckedOr, IsFileValue, ap₂, check_line, complete_line, IfSome_then, IsDelivered, ReadsGaps, append_assoc, file_lines, file_text, inr, length, most_lines, steps_of, times_if, ◌≡◌, ◌∙◌, ◌+◌, ◌<◌, ◌≤◌, ◌∷◌, ◌++◌, [], ap, arith, append-nil, codes, cond, refl, subst, sym, ℕ, List, Option, Some, None, Bool, Device, EndsPrinting, Err, FileSummary, IsSummaryOf, InspectFault, IsPrefix, LeavesRest, Ok, PrintsText, ReadsEpoch, Result, Stamped, gap_between, gap_line, gaps_of, map, moment_words, time_stamped, with_words, gaps_after, option_map, map-append}
 
 -- the last of these times, or else that before them
 abbrev last_from : Option ℕ → List ℕ → Option ℕ
@@ -61,6 +61,10 @@ printed_more held waits w w1 w2 interval es e before {r = r} first are same end 
 pub next_is : (old new : EpochReader) (es : List Stamped) (input left : Option (List ℕ)) {n m : NextEpoch} → n ≡ m → ReadsEpoch old new es input left (Ok n) → ReadsEpoch old new es input left (Ok m)
 next_is old new es input left is reads = subst (λ (n : NextEpoch). ReadsEpoch old new es input left (Ok n)) is reads
 
+-- a value is no fault
+pub isnt_err : {A E : Type 0} {x : A} {e : E} → ◌≡◌ {A = Result A E} (Ok x) (Err e) → ⊥
+isnt_err h = cc
+
 -- ---- the end of the command
 
 -- nonempty times have a first, a last and a smallest step
@@ -103,3 +107,14 @@ gaps_refused held waits w1 interval with_times left r r2 w w2 Write v is few kep
     let later = printed_later {A = ⊤} {w = w} (Err Write) held waits w1 w2 kept refl (refl, part) in
     IfSome_then (left r.inner) first (λ input f same. first_gaps interval with_times _ _ v es is (f.only v is same) later.ends.1.1)
 gaps_refused held waits w1 interval with_times left r r2 w w2 other v is few kept h = absurd h
+
+-- the end of the command at such a fault
+pub gaps_stopped : {R W : Type 0} (held : W → Option (List ℕ)) (waits : W → List ℕ) (w1 : Device W) (interval : ℕ) (with_times : Bool) (left : R → Option (List ℕ)) (r r2 : Device R) (w w2 : Device W) (fault : InspectFault)
+    → (w1.failures ≡ w.failures) × IsDelivered held waits w w1 → ReadsGaps (Err fault) interval left r r2 held waits w1 w2 → HaveFailedBy fault r r2 w w2 × StopsGaps interval with_times left r r2 held waits w w2 fault
+gaps_stopped held waits w1 interval with_times left r r2 w w2 (Check e) kept (es, why, none, read, printed, failures) =
+    let later = printed_later {A = ⊤} {w = w} (Ok tt) held waits w1 w2 kept refl printed in
+    ((failures, later.ends.0), (es, why, read, later.ends.2, later.ends.1))
+gaps_stopped held waits w1 interval with_times left r r2 w w2 Write kept (es, n, first, part, fine) =
+    let later = printed_later {A = ⊤} {w = w} (Err Write) held waits w1 w2 kept refl (refl, part) in
+    ((fine, later.ends.1.0), inr (inl (es, n, first, later.ends.1.1)))
+gaps_stopped held waits w1 interval with_times left r r2 w w2 other kept h = absurd h

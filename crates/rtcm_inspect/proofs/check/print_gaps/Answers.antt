@@ -1,6 +1,6 @@
 use Rattle.rtcm_inspect.specs.declared.fault.InspectFault.TheVariants.{Check}
 use Rattle.rtcm_inspect.proofs.CheckLemmas.{read_failures}
-use Rattle.rtcm_inspect.proofs.GapLemmas.{leaves_all, leaves_more, next_is, printed_more}
+use Rattle.rtcm_inspect.proofs.GapLemmas.{isnt_err, leaves_all, leaves_more, next_is, printed_more}
 use Rattle.rtcm_inspect.proofs.PrintingLemmas.{passed}
 use Rattle.rtcm_inspect.proofs.Names.{◌∙◌, ◌++◌, ◌∷◌, [], ap, arith, refl, subst, sym, Appends-nil, Err, InspectFault, ReadFailures, ReadsGaps, ℕ}
 use Rattle.rtcm_inspect.proofs.check.print_gaps.Goals as goal
@@ -22,7 +22,7 @@ loop-before-preserved g c =
     record {
       read = (es ++ e ∷ [], next, printed_more g.W.Write.contents g.W.Deliver.waiting c.args.writer.now c.loop-before.writer c.print_gap.new.writer c.args.interval es e c.in-Ok-Epoch.before printed before time c.in_ok-print_gap-in-Ok-Epoch.was c.print_gap.ensures);
       left = leaves_more _ _ _ inv.left c.in-Ok-Epoch.ensures.left;
-      same = c.in-Ok-Epoch.ensures.same (λ e. cc) ∙ inv.same;
+      same = c.in-Ok-Epoch.ensures.same isnt_err ∙ inv.same;
     }
 
 pub returns-in_err-print_gap-in-Ok-Epoch-clause-gaps : goal.returns-in_err-print_gap-in-Ok-Epoch-clause-gaps
@@ -33,7 +33,7 @@ returns-in_err-print_gap-in-Ok-Epoch-clause-gaps g c =
     let (write, part) = printed_more g.W.Write.contents g.W.Deliver.waiting c.args.writer.now c.loop-before.writer c.print_gap.new.writer c.args.interval es e c.in-Ok-Epoch.before printed before time c.in_err-print_gap-in-Ok-Epoch.was c.print_gap.ensures in
     passed c.from_residual.result _ (λ r. ReadsGaps r c.args.interval g.R.Read.remaining c.args.reader.now c.next.new.reader g.W.Write.contents g.W.Deliver.waiting c.args.writer.now c.print_gap.new.writer) c.from_residual.ensures.1
     (subst (λ (f : InspectFault). ReadsGaps (Err f) c.args.interval g.R.Read.remaining c.args.reader.now c.next.new.reader g.W.Write.contents g.W.Deliver.waiting c.args.writer.now c.print_gap.new.writer) (sym write)
-    (es ++ e ∷ [], c.next.new.self.reading.count, first, part, c.in-Ok-Epoch.ensures.same (λ e. cc) ∙ inv.same))
+    (es ++ e ∷ [], c.next.new.self.reading.count, first, part, c.in-Ok-Epoch.ensures.same isnt_err ∙ inv.same))
 
 pub returns-in_err-print_gap-in-Ok-Epoch-clause-left : goal.returns-in_err-print_gap-in-Ok-Epoch-clause-left
 returns-in_err-print_gap-in-Ok-Epoch-clause-left g c = leaves_more _ _ _ c.loop-before.invariant.left c.in-Ok-Epoch.ensures.left
@@ -43,7 +43,7 @@ returns-in-Ok-End-clause-gaps g c =
     let inv = c.loop-before.invariant in
     let (es, read, printed) = inv.read in
     let (found, only) = next_is c.loop-before.file c.next.new.self es _ (g.R.Read.remaining c.next.new.reader.inner) c.in-Ok-End.field-0-is (c.in-Ok-End.ensures.epochs es _ read) in
-    (es, found, only, printed, c.in-Ok-End.ensures.same (λ e. cc) ∙ inv.same)
+    (es, found, only, printed, c.in-Ok-End.ensures.same isnt_err ∙ inv.same)
 
 pub returns-in-Ok-End-clause-left : goal.returns-in-Ok-End-clause-left
 returns-in-Ok-End-clause-left g c = leaves_more _ _ _ c.loop-before.invariant.left c.in-Ok-End.ensures.left

@@ -1,5 +1,5 @@
 use Rattle.rtcm_inspect.proofs.CheckLemmas.{checked, checked_or, kept_first, where_known}
-use Rattle.rtcm_inspect.proofs.GapLemmas.{gaps_refused, whole_output}
+use Rattle.rtcm_inspect.proofs.GapLemmas.{gaps_refused, gaps_stopped, leaves_all, whole_output}
 use Rattle.rtcm_inspect.proofs.PrintingLemmas.{printed_after, printed_later}
 use Rattle.rtcm_inspect.proofs.Names.{◌++◌, ap, inr, List, ℕ, AreGapsOf, IfSome_then, StopsGaps, gaps_of}
 use Rattle.rtcm_inspect.proofs.check.run_check_gaps.Goals as goal
@@ -28,3 +28,16 @@ returns-in-Ok-clause-only g c = λ v is few.
 pub returns-in-Err-clause-only : goal.returns-in-Err-clause-only
 returns-in-Err-clause-only g c = λ v is few.
     gaps_refused g.W.Write.contents g.W.Deliver.waiting c.deliver_waiting.new.writer c.args.interval c.args.with_times g.R.Read.remaining c.args.reader.now c.print_gaps-read.new.reader c.args.writer.now c.print_gaps-read.new.writer c.in-Err.fault v is few c.in_ok-deliver_waiting.ensures c.in-Err.ensures.gaps
+
+pub returns-in-Err-clause-ends : goal.returns-in-Err-clause-ends
+returns-in-Err-clause-ends g c =
+    gaps_stopped g.W.Write.contents g.W.Deliver.waiting c.deliver_waiting.new.writer c.args.interval c.args.with_times g.R.Read.remaining c.args.reader.now c.print_gaps-read.new.reader c.args.writer.now c.print_gaps-read.new.writer c.in-Err.fault c.in_ok-deliver_waiting.ensures c.in-Err.ensures.gaps
+
+pub returns-in-Err-clause-left : goal.returns-in-Err-clause-left
+returns-in-Err-clause-left g c = c.in-Err.ensures.left
+
+pub returns-in-Ok-clause-left : goal.returns-in-Ok-clause-left
+returns-in-Ok-clause-left g c = c.in-Ok.ensures.left
+
+pub returns-in_err-deliver_waiting-clause-left : goal.returns-in_err-deliver_waiting-clause-left
+returns-in_err-deliver_waiting-clause-left g c = leaves_all _
