@@ -1,6 +1,6 @@
 -- The meaning of the exit status.
 use Rattle.rtcm2rinex.proofs.CommandLineLemmas.{is_version}
-use Rattle.rtcm2rinex.proofs.Names.{◌≡◌, ◌∙◌, inl, inr, refl, sym, subst, codes, ap, ap₂, option_map, ℕ, List, Option, Some, None, Result, Ok, Err, arith, ⊤, ◌≢◌, IsCommand, box_value, option_map_or, Box, found_of, subcommand_rows, subcommand_rows_of, Row, Text, rows_of, out-SubCommand, SubCommand, kind_of, Error, ArgMatches, Device, SelectsCommand, IsFoundIn, RefusesWords, AreRefused, AreRefusedBy, EndsCommand, EndsFound, HasCommand, HasCompleted, HasDone, HasPrinted, HasStopped, HasStoppedEarly, HasStoppedPrinting, StopsPrinting, fault_status, status_of, error_line, length, lit<, ◌<◌, PrintsLine, PrintsSome, PrintsFault, IsUntouched, InspectFault, Ends, of_inspection, ToolFault}
+use Rattle.rtcm2rinex.proofs.Names.{◌≡◌, ◌∙◌, inl, inr, refl, sym, subst, codes, ap, ap₂, option_map, ℕ, List, Option, Some, None, Result, Ok, Err, arith, ⊤, ◌≢◌, IsCommand, box_value, option_map_or, Box, found_of, subcommand_rows, subcommand_rows_of, Row, Text, rows_of, out-SubCommand, SubCommand, kind_of, Error, ArgMatches, Device, SelectsCommand, IsFoundIn, RefusesWords, AreRefused, AreRefusedBy, EndsCommand, EndsFound, HasCommand, HasCompleted, HasDone, HasPrinted, HasStopped, HasStoppedEarly, HasStoppedPrinting, StopsPrinting, fault_status, status_of, error_line, length, lit<, ◌<◌, PrintsLine, PrintsSome, PrintsFault, IsUntouched, InspectFault, Ends, of_inspection, ToolFault, HaveFailedBy, IsErrAnd, interval_by, passed}
 use Rattle.clap.specs.declared.error.kind.ErrorKind.TheVariants as kind
 use Rattle.rtcm_inspect.specs.Devices as devices
 use Rattle.rtcm2rinex.specs.declared.fault.ToolFault.TheVariants as faults
@@ -69,6 +69,18 @@ inspection_found {n = n} {o} d printed unsent e inspection same found by h = (
   subst (λ x. EndsCommand x d.left d.r d.r2 d.held d.waits d.w d.w2 printed unsent e e n o) (sym same)
       (ends_inspected inspection d (λ f. HasStopped d.left d.r d.r2 d.held d.waits d.w d.w2 n o f × (e ≡ e)) (λ x p. inr (by.0 x p, refl)) (λ f s. (inr (inl (f, refl, by.1 f s)), refl)) h),
 )
+
+-- an option of a command is refused, and nothing is read or written
+pub option_refused : {R W E : Type 0} {rows : Option (Text × List Row)} {n : Text} {o : List Row} {fault known : ToolFault} (d : Devices R W) (printed : E → Option (List ℕ)) (unsent : E → List ℕ) (e : Device E) (ended : Result ⊤ ToolFault) → IsErrAnd ended (λ y. y ≡ fault) → rows ≡ Some (n, o)
+    → fault ≡ known → HaveFailedBy known d.r d.r d.w d.w → HasStopped d.left d.r d.r d.held d.waits d.w d.w n o fault → EndsFound ended rows d.left d.r d.r d.held d.waits d.w d.w printed unsent e e
+option_refused {n = n} {o} {fault} d printed unsent e ended is found same none stopped =
+    let failed = subst (λ (f : ToolFault). HaveFailedBy f d.r d.r d.w d.w) (sym same) none in
+    (n, o, found, passed ended fault (λ x. EndsCommand x d.left d.r d.r d.held d.waits d.w d.w printed unsent e e n o) is (failed, (stopped, refl)))
+
+pub bad_gaps : (text : Option (List ℕ)) (interval : Option ℕ) (fault : ToolFault) → interval_by text interval ≡ Err fault → fault ≡ faults.BadGaps
+bad_gaps None interval fault e = cc
+bad_gaps (Some text) None fault e = cc
+bad_gaps (Some text) (Some n) fault e = cc
 
 -- a command that was found twice is the same
 asked : {found : Option (Text × List Row)} {n n2 : Text} {o o2 : List Row} (words : List Text) → found ≡ Some (n, o) → found ≡ Some (n2, o2) → SelectsCommand words n o → SelectsCommand words n2 o2

@@ -1,5 +1,5 @@
-use Rattle.rtcm2rinex.proofs.CommandLemmas.{Devices, ends_so, inspection_found, is_check, sub_found}
-use Rattle.rtcm2rinex.proofs.Names.{◌∙◌, Bool, inl, inr, subst, sym, EndsCheck, options_of}
+use Rattle.rtcm2rinex.proofs.CommandLemmas.{Devices, bad_gaps, ends_so, inspection_found, is_check, option_refused, sub_found}
+use Rattle.rtcm2rinex.proofs.Names.{◌∙◌, Bool, inl, inr, refl, subst, sym, EndsCheck, options_of}
 use Rattle.rtcm_scan.specs.Scan.{most_bytes}
 use Rattle.rtcm_inspect.specs.Listing.{EndsListing}
 use Rattle.rtcm_inspect.specs.ShowLines.{show_lines}
@@ -56,3 +56,17 @@ returns-in_ok-interval-in_default-name g c =
     inspection_found d g.E.Write.contents g.E.Deliver.waiting c.args.faults.now c.check.result c.of_inspection-in_default-name.ensures found
     (λ x h. inr (inr (inr (inr (n, (c.in_ok-interval-in_default-name.interval, sym c.in_ok-interval-in_default-name.ensures.value, h))))), λ f h. inr (inr (inr (inr (n, (c.in_ok-interval-in_default-name.interval, sym c.in_ok-interval-in_default-name.ensures.value, h))))))
     (subst (λ (b : Bool). EndsCheck c.check.result b c.in_ok-interval-in_default-name.interval g.R.Read.remaining c.args.reader.now c.check.new.reader g.W.Write.contents g.W.Deliver.waiting c.args.writer.now c.check.new.writer) c.has_flag-in_default-name.ensures c.check.ensures)
+
+pub returns-in_err-near-in-options : goal.returns-in_err-near-in-options
+returns-in_err-near-in-options g c =
+    let d : Devices _ _ = record { left = g.R.Read.remaining; held = g.W.Write.contents; waits = g.W.Deliver.waiting; r = c.args.reader.now; r2 = c.args.reader.now; w = c.args.writer.now; w2 = c.args.writer.now } in
+    let refused = c.in_err-near-in-options.ensures in
+    option_refused d g.E.Write.contents g.E.Deliver.waiting c.args.faults.now c.from_residual.result c.from_residual.ensures.1 (sub_found _ c.in-Some.ensures.name c.in-Some.ensures.rows) refused.0 (refl, refl) (inr (inr (inl (c.in-options.is, (refused, (refl, refl))))))
+
+pub returns-in_err-interval-in_default-name : goal.returns-in_err-interval-in_default-name
+returns-in_err-interval-in_default-name g c =
+    let found = sub_found _ c.in-Some.ensures.name c.in-Some.ensures.rows in
+    let n = is_check c.args.matches.now c.requires found c.in_default-name.not-frames c.in_default-name.not-show c.in_default-name.not-signals c.in_default-name.not-options c.in_default-name.not-convert in
+    let d : Devices _ _ = record { left = g.R.Read.remaining; held = g.W.Write.contents; waits = g.W.Deliver.waiting; r = c.args.reader.now; r2 = c.args.reader.now; w = c.args.writer.now; w2 = c.args.writer.now } in
+    let set = sym c.in_err-interval-in_default-name.ensures.value in
+    option_refused d g.E.Write.contents g.E.Deliver.waiting c.args.faults.now c.from_residual-in_err-interval-in_default-name.result c.from_residual-in_err-interval-in_default-name.ensures.1 found (bad_gaps _ _ _ set) (refl, refl) (inr (inr (inr (n, (set, (refl, refl))))))
