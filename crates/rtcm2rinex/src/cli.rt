@@ -25,7 +25,7 @@ pub fn parse<'a>(alloc: Global, words: &'a [&'a str]) -> Result<ArgMatches<'a>, 
     let start = described(alloc, &program)
         .version(VERSION)
         .subcommand_required(true);
-    let program = with_commands(alloc, start, rows)?;
+    let program = with_commands(alloc, start, &rows)?;
     program.try_get_matches_from(words)
 }
 

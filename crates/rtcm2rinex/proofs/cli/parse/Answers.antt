@@ -6,7 +6,7 @@ use Rattle.rtcm2rinex.proofs.cli.parse.Goals as goal
 pub returns : goal.returns
 returns c =
     let program = app_of c.in_ok-program.program in
-    let same = c.in_ok-program.ensures ∙ ap (λ (a : App). with_commands a (map command_set c.program_rows.result.1.now))
+    let same = c.in_ok-program.ensures ∙ ap (λ (a : App). with_commands a (map command_set c.program_rows.result.1))
     (versioned _ _ _ c.version.ensures c.subcommand_required-start.ensures c.described.ensures) in
     let is : IsProgram program = subst IsProgram (sym same) c.program_rows.ensures in
     let parse = c.try_get_matches_from in
