@@ -1,5 +1,6 @@
 -- Each end of a feed: refused at once, fed, or stopped by TooLong or the file's writer, with the record of what was
 -- made, for a value of the converter with its parts inside.
+use Rattle.rtcm_convert.proofs.FaultLemmas.{not_err}
 use Rattle.rtcm_convert.proofs.FeedLemmas.{with_flags, long_of, sink_of, fed_whole, fed_fit, fed_long, fed_part}
 use Rattle.rtcm_convert.proofs.RunLemmas.{going_on}
 use Rattle.rtcm_convert.proofs.StreamLemmas.{piece_fine, piece_failed}
@@ -18,6 +19,9 @@ returns-in-Ok-clause-whole g c =
 pub returns-in-Ok-clause-device : goal.returns-in-Ok-clause-device
 returns-in-Ok-clause-device g c =
     let d = piece_fine g.W.Write.contents c.args.piece.now c.in-Ok.ensures.whole (c.self.invariant.drained (going_on c.self.view_is c.in_ok-refuse.ensures.going)) in (tt, d.1, d.2)
+
+pub returns-in-Ok-clause-part : goal.returns-in-Ok-clause-part
+returns-in-Ok-clause-part g c = λ e. absurd (not_err _ _ e)
 
 pub returns-in-Err-TooLong-clause-long : goal.returns-in-Err-TooLong-clause-long
 returns-in-Err-TooLong-clause-long g c =
