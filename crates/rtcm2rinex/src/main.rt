@@ -3,19 +3,8 @@
 //! command `check` reads such a file back and reports whether it is accepted.
 #![tactic(auto)]
 
-mod cli;
-mod command;
-mod commands;
-mod convert;
-mod error_lines;
-mod fault;
-pub mod laws;
-mod options;
-#[cfg(test)]
-mod tests;
-
-use crate::command::{command, refuse_words};
 use rtcm_bits::{Buffered, Counted};
+use rtcm_command::command::{command, refuse_words};
 use std::alloc::Global;
 use std::io::{self, BufReader};
 use std::process::ExitCode;

@@ -1,0 +1,73 @@
+//! The lines of errors, on standard error.
+ghost use Rattle.std.specs.Prelude.{◌≡◌, ◌+◌, ◌≤◌, length};
+ghost use Rattle.command_faults.specs.ErrorLines.{conversion_word, error_line, error_words};
+ghost use Rattle.rtcm_inspect.specs.Lines.{longest_error, longest_fault_name, longest_start, with_words};
+
+use crate::fault::{DateOption, ToolFault};
+use rtcm_convert::Fault;
+use rtcm_inspect::{OutputLine, add_header_error, add_inspection_error, add_plan_error};
+
+/// Returns the line of a fault: the program's name, the fault's name, and the values that it
+/// carries or the form that is accepted.
+pub fn error_line(fault: ToolFault) -> OutputLine
+    ensures { result ≡ error_line fault }
+{
+    let mut line = OutputLine::new();
+    line.put(b"rtcm2rinex:");
+    add_error(&mut line, fault);
+    line.finish();
+    line
+}
+
+/// Adds the name of a fault and what follows it.
+fn add_error(line: &mut OutputLine, fault: ToolFault)
+    requires { length line.old ≤ longest_start }
+    ensures text { line.new ≡ with_words line.old (error_words fault) }
+    ensures short { length line.new ≤ length line.old + longest_error }
+{
+    match fault {
+        ToolFault::Memory => line.add_word("Memory"),
+        ToolFault::BadDate(DateOption::Week) => line.add_word(
+            "BadDate --week WEEK: a GPS week, 0 to 99999, \
+             or a date yyyy-mm-dd, 1980-01-06 to 3896-07-18",
+        ),
+        ToolFault::BadDate(DateOption::Near) => line.add_word(
+            "BadDate --near DATE: a date yyyy-mm-dd, 1980-01-06 to 3896-07-18",
+        ),
+        ToolFault::BadPosition => line.add_word(
+            "BadPosition --position X,Y,Z: metres, up to 8 digits and 4 decimals each, \
+             -13743895.3472 to 13743895.3471",
+        ),
+        ToolFault::BadHeight => line.add_word(
+            "BadHeight --antenna-height HEIGHT: metres, up to 4 decimals, 0 to 6.5535",
+        ),
+        ToolFault::BadChannels => line.add_word(
+            "BadChannels --glonass-channels SLOT:CHANNEL,..: slots 1 to 27, each once, \
+             channels -7 to 6",
+        ),
+        ToolFault::BadGaps => line.add_word(
+            "BadGaps --gaps SECONDS: up to 3 decimals, 0.001 to 86400",
+        ),
+        ToolFault::Header(fault) => add_header_error(line, fault),
+        ToolFault::Plan(fault) => add_plan_error(line, fault),
+        ToolFault::Convert(fault) => line.add_word(conversion_name(fault)),
+        ToolFault::Inspect(fault) => add_inspection_error(line, fault),
+    }
+}
+
+/// Returns the name of a fault of a conversion.
+fn conversion_name(fault: Fault) -> &'static str
+    ensures name { result.now ≡ conversion_word fault }
+    ensures short { length result.now ≤ longest_fault_name }
+{
+    match fault {
+        Fault::Memory => "Memory",
+        Fault::BadSetup => "BadSetup",
+        Fault::TooLong => "TooLong",
+        Fault::Read => "Read",
+        Fault::Write => "Write",
+        Fault::Failed => "Failed",
+        Fault::Finished => "Finished",
+        Fault::NoEpoch => "NoEpoch",
+    }
+}

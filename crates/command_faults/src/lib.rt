@@ -1,0 +1,10 @@
+//! Why a command stopped: the line of the fault on standard error, and the exit status.
+#![tactic(auto)]
+
+mod error_lines;
+mod fault;
+mod status;
+
+pub use error_lines::error_line;
+pub use fault::{DateOption, ToolFault};
+pub use status::exit_status;

@@ -1,0 +1,29 @@
+//! The exit status.
+ghost use Rattle.std.specs.Prelude.{◌≡◌, ◌≤◌};
+ghost use Rattle.command_faults.specs.Printing.{PrintsFault};
+ghost use Rattle.command_faults.specs.Status.{status_of};
+
+use crate::error_lines::error_line;
+use crate::fault::ToolFault;
+use rtcm_bits::{Counted, Deliver};
+use rtcm_inspect::print_line;
+
+/// Prints the fault of a command, if any, on one line, and returns the exit status: 0 after
+/// success, 2 if a date, the position, the height, the list of channels or the interval is invalid,
+/// else 1. A failure of this writer is ignored.
+pub fn exit_status<E: Deliver>(ended: Result<(), ToolFault>, faults: &mut Counted<E>) -> u8
+    ensures value { result ≡ status_of ended }
+    ensures range { result ≤ 2 }
+    ensures line { PrintsFault ended E.contents E.waiting faults.old faults.new }
+{
+    let Err(fault) = ended else { return 0 };
+    print_line(error_line(fault).as_bytes(), faults);
+    match fault {
+        ToolFault::BadDate(_)
+        | ToolFault::BadPosition
+        | ToolFault::BadHeight
+        | ToolFault::BadChannels
+        | ToolFault::BadGaps => 2,
+        _ => 1,
+    }
+}

@@ -1,5 +1,0 @@
-use Rattle.std.proofs.Common.{refl}
-use Rattle.rtcm2rinex.proofs.commands.program_rows.Goals as goal
-
-pub returns : goal.returns
-returns c = (_, _, refl, refl, refl)

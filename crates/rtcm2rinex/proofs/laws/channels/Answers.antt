@@ -1,5 +1,0 @@
-use Rattle.rtcm2rinex.proofs.Names.{◌∙◌, ap, channels_by, channels_of}
-use Rattle.rtcm2rinex.proofs.laws.channels.Goals as goal
-
-pub returns : goal.returns
-returns c = λ options channels are text. ap (λ t. channels_by (channels_of t)) text ∙ ap channels_by (c.channels.ensures.read channels are)

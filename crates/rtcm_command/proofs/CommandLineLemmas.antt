@@ -1,0 +1,98 @@
+-- A command after an option or a command is added.
+use Rattle.std.proofs.lemmas.Bool.{and_parts, not-true}
+use Rattle.rtcm_command.proofs.Names.{◌≡◌, ◌+◌, ◌<◌, ◌&&◌, ◌∷◌, [], ℕ, Bool, Result, Ok, Err, IfErr, List, Some, true, false, not, is_some, length, map, take, get_or, inl, inr, refl, sym, subst, ap, ap₂, ◌∙◌, map_more, fold-append, Rule, Text, is_empty, rule_of, App, app_of, built, app_of_fields, is_simple, new_app, on_top, with_rule, with_subcommand, AddsArg, AddsSubcommand, is_free_app, is_simple_and_free, clap_on_literals, FailsBy, HasKind, Kinds, Error, Bor, CommandRow, OptionRow, FailsParsing, RefusesWords, command_set, option_set, program, with_commands, with_options, kind_of, Arg, Command, out-Command}
+use Rattle.clap.specs.declared.builder.value_parser.ValueParser.TheVariants as value
+use Rattle.clap.specs.declared.error.kind.ErrorKind.TheVariants as kind
+use Rattle.clap.specs.declared.builder.action.ArgAction.TheVariants as action
+
+pub second : (a b : Bool) → (a && b) ≡ true → b ≡ true
+second a b e = (and_parts a b e).1
+
+-- an option that clap's definitions read belongs to its command alone
+local : (a : Arg) (r : Rule) → rule_of a ≡ r → r.is_simple ≡ true → a.global ≡ false
+local a r is simple = not-true a.global (second (not a.last) _ (second (not a.require_equals) _
+    (second (not a.allow_negative_numbers) _ (second (not a.allow_hyphen_values) _
+    (second (not (is_some a.terminator)) _ (second (not (is_some a.val_delim)) _
+    (second (is_empty a.groups.items) _ (second (is_empty a.default_vals_ifs.items) _
+    (second (is_empty a.overrides.items) _ (ap (λ (x : Rule). x.is_simple) is ∙ simple))))))))))
+
+has_local : (c : Command) (a : App) → app_of c ≡ a → a.top.is_plain ≡ true → (out-Command c).has_globals ≡ false
+has_local c a is plain =
+    let f = out-Command c in
+    not-true f.has_globals (and_parts (not f.has_globals) _ (second (not f.allow_external_subcommands) _
+    (second (is_empty f.groups.items) _ (ap (λ (x : App). x.top.is_plain) is ∙ plain)))).0
+
+-- a command with a version that requires a subcommand
+pub versioned : (c d e : Command) {a : App} {t : Bor Text} → out-Command d ≡ record (out-Command c) { version = Some t }
+    → out-Command e ≡ record (out-Command d) { subcommand_required = true } → app_of c ≡ a
+    → app_of e ≡ on_top (λ s. record s { subcommand_required = true; has_version = true }) a
+versioned c d e version wants was =
+    ap app_of_fields wants ∙ ap (λ f. app_of_fields (record f { subcommand_required = true })) version
+    ∙ ap (on_top (λ s. record s { subcommand_required = true; has_version = true })) was
+
+-- one more option
+pub with_option : {old new : Command} {a : Arg} {app : App} {r : Rule} → AddsArg old a new → app_of old ≡ app → rule_of a ≡ r → r.is_simple ≡ true
+    → app_of new ≡ with_rule app r
+with_option {a} {r} added was is simple = added.shape (local a r is simple) ∙ ap₂ with_rule was is
+
+-- an option of a row is read by clap's definitions
+pub simple_given : (row : OptionRow) → (option_set row).is_simple ≡ true
+simple_given row = refl
+
+-- the options of a command don't change the command itself
+pub plain : (a : App) (rs : List Rule) → (with_options a rs).top.is_plain ≡ a.top.is_plain
+plain a [] = refl
+plain a (r ∷ rs) = plain (with_rule a r) rs
+
+-- the command of a row has only a name
+pub plain_given : (row : CommandRow) → (command_set row).top.is_plain ≡ true
+plain_given row = plain (new_app row.name.now) (map option_set row.options.now)
+
+-- one more command
+pub with_command : {old sub new : Command} {app below : App} → AddsSubcommand old sub new → app_of old ≡ app → app_of sub ≡ below → below.top.is_plain ≡ true
+    → app_of new ≡ with_subcommand app below.top
+with_command {sub} {below} added was is plain =
+    added.shape (has_local sub below is plain) ∙ ap₂ with_subcommand was (ap (λ (x : App). x.top) is)
+
+-- clap's definitions read the words by these commands and options
+pub is_read : (forms rules : Bor (List (Bor Text))) → is_simple_and_free (program forms rules) ≡ true
+unfolding clap_on_literals
+is_read forms rules = refl
+
+pub is_simple_read : (a : App) → is_simple_and_free a ≡ true → is_simple a ≡ true
+is_simple_read a read = (and_parts (is_simple a) (is_free_app (built a)) read).0
+
+-- the reason why a parse failed, if clap's definitions read the words
+pub why : {T : Type 0} (kinds : Kinds) (r : Result T Error) → FailsBy kinds r → IfErr r (HasKind kinds)
+why kinds (Ok x) h = tt
+why kinds (Err e) h = h
+
+abbrev nothing : Bor (List ℕ)
+nothing = record { ref_ptr = (0, 0); now = [] }
+
+-- the row after the last one
+abbrev pub no_option : OptionRow
+no_option = record { name = nothing; value = nothing; required = false; defaults = record { ref_ptr = (0, 0); now = [] }; parser = value.String; action = action.Set; help = nothing }
+
+abbrev pub no_command : CommandRow
+no_command = record { name = nothing; about = nothing; examples = nothing; options = record { ref_ptr = (0, 0); now = [] } }
+
+-- one more option of the rows
+pub one_option_more : (a : App) (rows : List OptionRow) (n : ℕ) (d : OptionRow) → n < length rows
+    → with_rule (with_options a (map option_set (take n rows))) (option_set (get_or rows n d)) ≡ with_options a (map option_set (take (n + 1) rows))
+one_option_more a rows n d lt =
+    sym (ap (with_options a) (map_more option_set rows n d lt) ∙ fold-append with_rule a (map option_set (take n rows)) (option_set (get_or rows n d) ∷ []))
+
+-- one more command of the rows
+pub one_command_more : (a : App) (rows : List CommandRow) (n : ℕ) (d : CommandRow) → n < length rows
+    → with_subcommand (with_commands a (map command_set (take n rows))) (command_set (get_or rows n d)).top
+    ≡ with_commands a (map command_set (take (n + 1) rows))
+one_command_more a rows n d lt =
+    sym (ap (with_commands a) (map_more command_set rows n d lt) ∙ fold-append _ a (map command_set (take n rows)) (command_set (get_or rows n d) ∷ []))
+
+-- if the error is the version's text, the words ask for the version
+pub is_version : (words : List Text) (e : Error) → RefusesWords words e → kind_of e ≡ kind.DisplayVersion → FailsParsing words kind.DisplayVersion
+is_version words e (inl memory) version =
+    let bad : kind.OutOfMemory ≡ kind.DisplayVersion = sym memory ∙ version in
+    cc
+is_version words e (inr answered) version = subst (FailsParsing words) version answered

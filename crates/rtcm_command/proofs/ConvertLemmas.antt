@@ -1,0 +1,72 @@
+-- A conversion that is stopped by a fault.
+use Rattle.rtcm_command.proofs.CommandLemmas.{Devices}
+use Rattle.rtcm_command.proofs.Names.{⊤, Device, EndsConverting, IsErrAnd, passed, ◌≡◌, ap, sym, subst, refl, rules, ℕ, ℤ, List, Option, Some, Result, Err, IsErrOf, IfSome, inl, inr, ◌≢◌, ◌↔◌, IsSentAfter, IsSetupFault, IsUntouched, IsMadeEmpty, IsMadeSoFar, IsMadeInPart, IsMadeToLimit, IsBad, IsBadWith, Start, start_zero, Setup, no_values, AreStationValues, Fault, Memory, BadSetup, TooLong, Read, Write, Failed, Finished, NoEpoch, Report, ToolFault, Row, StationValues, values_by, HasSetupFault, IsFirstFault, IsSetupRefused, IsWeekSet, values_set, StopsConversion, HaveFailedBy, ChannelsValue, channels_by, channels_set}
+use Rattle.command_faults.specs.declared.fault.ToolFault.TheVariants as faults
+
+abbrev Result-of : Fault → Result Report Fault
+Result-of fault = Err fault
+
+-- what a conversion that returned this fault did
+pub record Faulted {R W : Type 0} (x : Start) (d : Devices R W) (fault : Fault) : Type 0 where
+  pub sent : IsSentAfter (Result-of fault) (d.waits d.w.inner) (d.waits d.w2.inner)
+  pub no_epoch : IsErrOf (Result-of fault) NoEpoch → IfSome (d.left d.r.inner) (IsMadeEmpty x (d.held d.w.inner) (d.held d.w2.inner))
+  pub long : IsErrOf (Result-of fault) TooLong → IsMadeToLimit x (d.left d.r.inner) (d.left d.r2.inner) (d.held d.w.inner) (d.held d.w2.inner)
+  pub read : IsErrOf (Result-of fault) Read → IsMadeSoFar x (d.left d.r.inner) (d.left d.r2.inner) (d.held d.w.inner) (d.held d.w2.inner)
+  pub write : IsErrOf (Result-of fault) Write → IsMadeInPart x (d.left d.r.inner) (d.left d.r2.inner) (d.held d.w.inner) (d.held d.w2.inner)
+  pub bad : Result-of fault ≡ Err BadSetup ↔ IsBadWith x
+  pub untouched : IsSetupFault fault → IsUntouched d.r d.r2 d.w d.w2
+  pub only : (Result-of fault ≢ Err Failed) × (Result-of fault ≢ Err Finished)
+
+pub conversion_stopped : {R W : Type 0} {x : Start} {d : Devices R W} (fault : Fault) → Faulted x d fault → StopsConversion x d.left d.r d.r2 d.held d.waits d.w d.w2 fault
+conversion_stopped Memory s = s.untouched (inr refl)
+conversion_stopped BadSetup s = (s.bad.0 refl, s.untouched (inl refl))
+conversion_stopped TooLong s = (s.long refl, s.sent)
+conversion_stopped Read s = (s.read refl, s.sent)
+conversion_stopped Write s = s.write refl
+conversion_stopped Failed s = absurd (s.only.0 refl)
+conversion_stopped Finished s = absurd (s.only.1 refl)
+conversion_stopped NoEpoch s = (s.no_epoch refl, s.sent)
+
+-- a bad start is the fault of the conversion and of the command
+pub given_bad : (fault : Fault) (Bad : Type 0) → (◌≡◌ {A = Result Report Fault} (Err fault) (Err BadSetup) ↔ Bad)
+    → (◌≡◌ {A = Result Report ToolFault} (Err (faults.Convert fault)) (Err (faults.Convert BadSetup)) ↔ Bad)
+given_bad fault Bad bad = (
+  λ h. bad.0 (let e : fault ≡ BadSetup = cc in ap (λ (f : Fault). Err f) e),
+  λ b. (let h = bad.1 b in let e : fault ≡ BadSetup = cc in ap (λ (f : Fault). Err (faults.Convert f)) e),
+)
+
+-- ---- a fault of the options, before which nothing is read or written
+
+module _ {R W : Type 0} (left : R → Option (List ℕ)) (held : W → Option (List ℕ)) (waits : W → List ℕ) (r : Device R) (w : Device W) (options : List Row) where
+  abbrev HasNoneFailed : ToolFault → Type 0
+  HasNoneFailed e = HaveFailedBy e r r w w
+
+  none_failed : (e : ToolFault) → IsSetupRefused options e → HasNoneFailed e
+  none_failed e (inl (is, none)) = subst HasNoneFailed (sym is) (refl, refl)
+  none_failed e (inr (n, week, first)) = by _ _ _ first where
+    made : (e : ToolFault) → HasSetupFault options e → HasNoneFailed e
+    made (faults.Header f) h = (refl, refl)
+    made (faults.Plan f) h = (refl, refl)
+    made other h = absurd h
+
+    by : (p : Option (ℤ × ℤ × ℤ)) (h : Option ℕ) (c : Option ChannelsValue) → IsFirstFault (values_by p h) (channels_by c) options e → HasNoneFailed e
+    by (Some (x, y, z)) (Some h) (Some c) is = made e is
+    by p h c is = subst HasNoneFailed (sym is) (refl, refl)
+
+  pub ends_refused : {E : Type 0} (ended : Result ⊤ ToolFault) (fault : ToolFault) (printed : E → Option (List ℕ)) (unsent : E → List ℕ) (e : Device E) → IsErrAnd ended (λ y. y ≡ fault) → IsSetupRefused options fault
+      → EndsConverting ended options left r r held waits w w printed unsent e e
+  ends_refused ended fault printed unsent e is refused =
+      passed ended fault (λ x. EndsConverting x options left r r held waits w w printed unsent e e) is (none_failed fault refused, (inl (refused, (refl, refl)), refl))
+
+-- the first fault after a valid week, of results that are known
+pub first_fault : {values : Result StationValues ToolFault} {channels : Result ChannelsValue ToolFault} {fault : ToolFault} (options : List Row) (n : ℕ) → IsWeekSet options n → values_set options ≡ values → channels_set options ≡ channels
+    → IsFirstFault values channels options fault → IsSetupRefused options fault
+first_fault {values} {channels} {fault} options n week is are h = inr (n, week, subst (λ (c : Result ChannelsValue ToolFault). IsFirstFault (values_set options) c options fault) (sym are) (subst (λ (v : Result StationValues ToolFault). IsFirstFault v channels options fault) (sym is) h))
+
+-- 0 is a coordinate and a height
+zero_values : AreStationValues no_values
+zero_values = search rules
+
+pub zero_bad : (x : Setup) → IsBadWith (start_zero x) → IsBad x
+zero_bad x (inl not) = absurd (not zero_values)
+zero_bad x (inr bad) = bad

@@ -1,0 +1,5 @@
+use Rattle.std.proofs.Common.{refl}
+use Rattle.rtcm_command.proofs.commands.program_rows.Goals as goal
+
+pub returns : goal.returns
+returns c = (_, _, refl, refl, refl)

@@ -1,0 +1,225 @@
+-- The program's command line: its commands and their options, by which clap's definitions read words. They agree with
+-- the manual page.
+use Rattle.std.specs.Prelude.{◌≡◌, ◌⊎◌, pos, true, List, [], ◌∷◌, ◌++◌, map, flat_map, fold, codes, Some, Result, IfOk}
+use Rattle.std.specs.Borrow.{Bor}
+use Rattle.clap.specs.Walk.{Row, Rule, Text}
+use Rattle.clap.specs.Simple.{App, app_of, new_app, new_rule, on_top, subcommand_of, subcommand_rows_of, with_rule}
+use Rattle.clap.specs.Simple.{with_subcommand}
+use Rattle.clap.specs.Faults.{fault_of}
+use Rattle.clap.specs.Kinds.{IsAmong}
+use Rattle.clap.specs.Values.{kind_of}
+use Rattle.clap.specs.declared.error.Error.{Error}
+use Rattle.clap.specs.declared.error.kind.ErrorKind.{ErrorKind}
+use Rattle.clap.specs.declared.error.kind.ErrorKind.TheVariants as kind
+use Rattle.clap.specs.declared.parser.matches.ArgMatches.{ArgMatches}
+use Rattle.clap.specs.declared.builder.action.ArgAction.TheVariants as action
+use Rattle.clap.specs.declared.builder.command.Command.{Command}
+use Rattle.clap.specs.declared.builder.value_parser.ValueParser.{ValueParser}
+use Rattle.clap.specs.declared.builder.value_parser.ValueParser.TheVariants as value
+use Rattle.gnss_system.specs.declared.system.System.{System}
+use Rattle.gnss_system.specs.declared.system.System.TheVariants.{Gps, Galileo, Glonass}
+use Rattle.gnss_system.specs.Satellites.{name_of}
+use Rattle.gnss_system.specs.Systems.{systems}
+use Rattle.rtcm_scan.specs.Scan.{most_bytes}
+use Rattle.rtcm_command.specs.declared.commands.CommandRow.{CommandRow}
+use Rattle.rtcm_command.specs.declared.commands.OptionRow.{OptionRow}
+
+-- ---- options
+
+-- `--name VALUE` or `--name=VALUE`; it isn't given twice
+abbrev pub named : Text → Rule
+named name = record (new_rule name) { long = Some name; value_names = 1; action = Some action.Set }
+
+abbrev pub or_else : Text → Rule → Rule
+or_else default a = record a { defaults = default ∷ [] }
+
+abbrev pub read_by : ValueParser → Rule → Rule
+read_by parser a = record a { parser = Some parser }
+
+-- the value is any text
+abbrev pub option : Text → Rule
+option name = read_by value.String (named name)
+
+-- `--name`, which has the value `true` if it is given, and else `false`
+abbrev pub flag : Text → Rule
+flag name = record (read_by value.Bool (named name)) { action = Some action.SetTrue }
+
+abbrev pub required : Rule → Rule
+required a = record a { required = true }
+
+abbrev pub week : Rule
+week = required (option (codes "week"))
+
+abbrev pub date : Rule
+date = required (option (codes "date"))
+
+-- the option of the planned signals of a system: without it, all of GPS and Galileo, and none of another system
+abbrev pub signals_otherwise : System → Text
+signals_otherwise Gps = codes "all"
+signals_otherwise Galileo = codes "all"
+signals_otherwise other = codes "none"
+
+abbrev pub planned : System → Rule
+planned s = or_else (signals_otherwise s) (option (name_of s))
+
+-- the option of a system, followed by those of the channels and the leap seconds if it is GLONASS
+abbrev pub channels : Rule
+channels = or_else [] (option (codes "glonass-channels"))
+
+abbrev pub leap_seconds : Rule
+leap_seconds = read_by (value.Unsigned 0 255) (or_else (codes "18") (option (codes "leap-seconds")))
+
+abbrev pub planned_with : System → List Rule
+planned_with Glonass = planned Glonass ∷ channels ∷ leap_seconds ∷ []
+planned_with other = planned other ∷ []
+
+abbrev pub station : Rule
+station = read_by (value.Signed (pos 0) (pos 4095)) (option (codes "station"))
+
+-- a date near the first observations
+abbrev pub near : Rule
+near = option (codes "near")
+
+abbrev pub times : Rule
+times = flag (codes "times")
+
+-- an interval of epochs
+abbrev pub gaps : Rule
+gaps = option (codes "gaps")
+
+-- whether all messages are shown
+abbrev pub all : Rule
+all = flag (codes "all")
+
+-- the position that holds until a station message has another
+abbrev pub position : Rule
+position = or_else (codes "0,0,0") (option (codes "position"))
+
+abbrev pub height : Rule
+height = or_else (codes "0") (option (codes "antenna-height"))
+
+-- an option whose value is one of these names, the first if it isn't given; their addresses don't matter
+abbrev pub Choices : Type 0
+Choices = Bor (List (Bor Text))
+
+abbrev pub AreChoices : List Text → Choices → Type 0
+AreChoices texts names = map (λ s. s.now) names.now ≡ texts
+
+abbrev pub choice : Text → Text → Choices → Rule
+choice name first names = read_by (value.Names names) (or_else first (option name))
+
+-- the forms of MSM that are read, and the rule of gathering
+abbrev pub msm : Choices → Rule
+msm names = choice (codes "msm") (codes "4,7") names
+
+abbrev pub gather : Choices → Rule
+gather names = choice (codes "gather") (codes "bit") names
+
+-- at most the largest number of bytes of a stream
+abbrev pub limit : Rule
+limit = read_by (value.Unsigned 0 most_bytes) (or_else (codes "281474976710656") (option (codes "limit")))
+
+abbrev pub text : Text → Rule
+text name = or_else [] (option name)
+
+-- the optional texts of the header
+abbrev pub texts : List Rule
+texts =
+    text (codes "run-by") ∷ text (codes "marker") ∷ or_else (codes "GEODETIC") (option (codes "marker-type"))
+    ∷ text (codes "observer") ∷ text (codes "agency") ∷ text (codes "rec-number") ∷ text (codes "rec-type")
+    ∷ text (codes "rec-version") ∷ text (codes "ant-number") ∷ text (codes "ant-type") ∷ []
+
+-- the option of a row
+abbrev pub option_set : OptionRow → Rule
+option_set row = record (named row.name.now) {
+  required = row.required;
+  defaults = map (λ s. s.now) row.defaults.now;
+  parser = Some row.parser;
+  action = Some row.action;
+}
+
+-- ---- commands
+
+abbrev pub with_options : App → List Rule → App
+with_options a rules = fold with_rule a rules
+
+-- the command of a row
+abbrev pub command_set : CommandRow → App
+command_set row = with_options (new_app row.name.now) (map option_set row.options.now)
+
+abbrev pub with_commands : App → List App → App
+with_commands a commands = fold (λ (program : App) (command : App). with_subcommand program command.top) a commands
+
+abbrev pub of_station : Text → App
+of_station name = with_options (new_app name) (station ∷ [])
+
+abbrev pub fitting : App
+fitting = with_options (of_station (codes "options")) (near ∷ [])
+
+abbrev pub show : App
+show = with_options (new_app (codes "show")) (all ∷ [])
+
+abbrev pub check : App
+check = with_options (new_app (codes "check")) (times ∷ gaps ∷ [])
+
+abbrev pub convert : (forms rules : Choices) → App
+convert forms rules = with_options (with_options (new_app (codes "convert"))
+    (week ∷ date ∷ (flat_map planned_with systems ++ msm forms ∷ station ∷ position ∷ height ∷ gather rules ∷ limit ∷ [])))
+    texts
+
+-- a command is required, and `--version` is accepted
+abbrev pub start_of : Text → App
+start_of name = on_top (λ s. record s { subcommand_required = true; has_version = true }) (new_app name)
+
+abbrev pub start : App
+start = start_of (codes "rtcm2rinex")
+
+abbrev pub listings : App
+listings = with_subcommand (with_subcommand start (new_app (codes "frames")).top) show.top
+
+abbrev pub signal_commands : App
+signal_commands =
+    with_subcommand (with_subcommand listings (of_station (codes "signals")).top) fitting.top
+
+abbrev pub program : (forms rules : Choices) → App
+program forms rules = with_subcommand (with_subcommand signal_commands (convert forms rules).top) check.top
+
+-- the commands and options are those of the program
+abbrev pub IsProgram : App → Type 0
+IsProgram a = (forms : Choices) × (rules : Choices) × AreChoices (codes "4,7" ∷ codes "all" ∷ []) forms
+    × AreChoices (codes "bit" ∷ codes "time" ∷ []) rules × (a ≡ program forms rules)
+
+-- the rows of the program and of its commands
+abbrev pub AreRows : CommandRow → List CommandRow → Type 0
+AreRows program commands = IsProgram (with_commands (start_of program.name.now) (map command_set commands))
+
+-- if the command was made, its definition is this one
+abbrev pub Makes : {E : Type 0} → Result Command E → App → Type 0
+Makes command a = IfOk command (λ c. app_of c ≡ a)
+
+-- the names of the program's commands
+abbrev pub IsCommand : Text → Type 0
+IsCommand name =
+    (name ≡ codes "frames") ⊎ (name ≡ codes "show") ⊎ (name ≡ codes "signals") ⊎ (name ≡ codes "options")
+    ⊎ (name ≡ codes "convert")
+    ⊎ (name ≡ codes "check")
+
+-- ---- what words ask for, by clap's own definitions
+
+-- the words have no fault, and ask for the command of this name with these options
+abbrev pub SelectsCommand : List Text → Text → List Row → Type 0
+SelectsCommand words name options =
+    (a : App) × IsProgram a × (fault_of a words ≡ []) × (subcommand_of a words ≡ Some (name, options))
+
+-- the words have a fault or ask for a text, and this is the kind of the error
+abbrev pub FailsParsing : List Text → ErrorKind → Type 0
+FailsParsing words k = (a : App) × IsProgram a × IsAmong k (fault_of a words)
+
+-- a command of the program was found in the words, and they ask for it
+abbrev pub IsFoundIn : List Text → ArgMatches → Type 0
+IsFoundIn words m = (name : Text) × (options : List Row) × IsCommand name
+    × (subcommand_rows_of m ≡ Some (name, options)) × SelectsCommand words name options
+
+-- the reason why the words weren't accepted: memory ran out, or the words themselves
+abbrev pub RefusesWords : List Text → Error → Type 0
+RefusesWords words e = (kind_of e ≡ kind.OutOfMemory) ⊎ FailsParsing words (kind_of e)

@@ -1,0 +1,8 @@
+pub mod SetupOptions
+pub mod CommandLine
+pub mod Devices
+pub mod Converting
+pub mod Reports
+pub mod Asked
+pub mod Commands
+pub mod StationLaws

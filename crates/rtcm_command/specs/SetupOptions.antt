@@ -1,0 +1,170 @@
+-- The values that the options of the commands give.
+use Rattle.std.specs.Prelude.{◌≡◌, ◌<◌, ◌^◌, ℕ, ℤ, List, [], ◌∷◌, map, Option, Some, None, Result, Ok, Err, codes}
+use Rattle.std.specs.Prelude.{Bool, option_and_then, unwrap_or, not, ◌⊎◌, if◌then◌else◌}
+use Rattle.std.specs.Str.{bytes_eq}
+use Rattle.std.specs.Str.Parse.{IsNumeral, digits_value, without_leading_plus}
+use Rattle.clap.specs.Walk.{Row, first_of, one_of, rows_of}
+use Rattle.clap.specs.Matches.{found_of}
+use Rattle.clap.specs.declared.parser.matches.ArgMatches.{ArgMatches}
+use Rattle.rtcm_msg.specs.declared.number.Forms.{Forms}
+use Rattle.rtcm_msg.specs.declared.number.Forms.TheVariants.{FourAndSeven, All}
+use Rattle.rtcm_scan.specs.Scan.{most_bytes}
+use Rattle.obs_epoch.specs.Kinds.{default_leap, is_by_bit}
+use Rattle.gnss_system.specs.Satellites.{name_of}
+use Rattle.gnss_system.specs.SystemValues.{tabulate}
+use Rattle.gnss_obs.specs.Channels.{ChannelsValue}
+use Rattle.gnss_obs.specs.Plans.{plan_of, with_channels}
+use Rattle.gnss_obs.specs.Values.{PlanValue}
+use Rattle.gnss_obs.specs.declared.fault.PlanFault.{PlanFault}
+use Rattle.gnss_obs.specs.declared.fault.PlanFault.TheVariants as plans
+use Rattle.rinex_file.specs.Texts.{HeaderLists, trimmed_texts, first_fault, fields}
+use Rattle.gnss_obs.specs.declared.cell.StationValues.{StationValues}
+use Rattle.rtcm_convert.specs.SetupValues.{Start}
+use Rattle.rtcm_convert.specs.declared.setup.Setup.{Setup}
+use Rattle.rtcm_inspect.specs.ChannelTexts.{channels_of}
+use Rattle.rtcm_inspect.specs.Dates.{IsHourOf, IsWeekOf}
+use Rattle.rtcm_inspect.specs.Lengths.{interval_of, length_below, position_of}
+use Rattle.command_faults.specs.declared.fault.DateOption.TheVariants as dated
+use Rattle.command_faults.specs.declared.fault.ToolFault.{ToolFault}
+use Rattle.command_faults.specs.declared.fault.ToolFault.TheVariants as faults
+
+-- the options of the command line, as clap's definitions list them
+abbrev pub options_of : ArgMatches → List Row
+options_of m = rows_of (found_of m)
+
+-- the text of an option; empty if it has none
+abbrev pub text_set : List Row → List ℕ → List ℕ
+text_set options name = unwrap_or (first_of name options) []
+
+-- the texts of the header, each by the option of its name
+abbrev pub texts_set : List Row → HeaderLists
+texts_set options =
+    map (text_set options)
+    (codes "run-by" ∷ codes "date" ∷ codes "marker" ∷ codes "marker-type" ∷ codes "observer" ∷ codes "agency"
+    ∷ codes "rec-number" ∷ codes "rec-type" ∷ codes "rec-version" ∷ codes "ant-number" ∷ codes "ant-type" ∷ [])
+
+-- a text is the decimal form of a number of `bits` bits, with or without a leading plus sign
+abbrev pub IsDecimalForm : ℕ → List ℕ → Type 0
+IsDecimalForm bits text =
+    IsNumeral 10 (without_leading_plus text) × (digits_value 10 (without_leading_plus text) < 2 ^ bits)
+
+-- the number of `bits` bits in a text, if there is a text and it is the decimal form of one
+abbrev pub IsNumberOf : ℕ → Option (List ℕ) → Option ℕ → Type 0
+IsNumberOf bits None n = n ≡ None
+IsNumberOf bits (Some text) None = IsDecimalForm bits text → ⊥
+IsNumberOf bits (Some text) (Some n) = IsDecimalForm bits text × (n ≡ digits_value 10 (without_leading_plus text))
+
+-- the number of an option, or `otherwise` if it has none
+abbrev pub IsNumberOr : ℕ → ℕ → Option (List ℕ) → ℕ → Type 0
+IsNumberOr bits otherwise text n = (found : Option ℕ) × IsNumberOf bits text found × (n ≡ unwrap_or found otherwise)
+
+-- the week that `--week` gives
+abbrev pub IsWeekSet : List Row → ℕ → Type 0
+IsWeekSet options n = IsWeekOf (text_set options (codes "week")) n
+
+-- it gives none, which is this fault
+abbrev pub IsWeekRefused : List Row → ToolFault → Type 0
+IsWeekRefused options fault = (fault ≡ faults.BadDate dated.Week) × ((n : ℕ) → IsWeekSet options n → ⊥)
+
+-- noon of the date in a text, if there is a text
+abbrev pub IsNoonOf : Option (List ℕ) → Option ℕ → Type 0
+IsNoonOf None near = near ≡ None
+IsNoonOf (Some text) None = ⊥
+IsNoonOf (Some text) (Some t) = IsHourOf 12 text t
+
+-- noon of the date that `--near` gives, if it is given
+abbrev pub IsNearSet : List Row → Option ℕ → Type 0
+IsNearSet options near = IsNoonOf (first_of (codes "near") options) near
+
+-- its text isn't a date, which is this fault
+abbrev pub IsNearRefused : List Row → ToolFault → Type 0
+IsNearRefused options fault = (fault ≡ faults.BadDate dated.Near) × ((near : Option ℕ) → IsNearSet options near → ⊥)
+
+-- the flag of this name is given
+abbrev pub has_flag : List ℕ → List Row → Bool
+has_flag name options = bytes_eq (text_set options name) (codes "true")
+
+-- the forms of MSM that are read
+abbrev pub forms_set : List Row → Forms
+forms_set options = if bytes_eq (text_set options (codes "msm")) (codes "all") then All else FourAndSeven
+
+-- the interval in a text, if there is a text
+abbrev pub interval_by : Option (List ℕ) → Option ℕ → Result (Option ℕ) ToolFault
+interval_by None interval = Ok None
+interval_by (Some text) None = Err faults.BadGaps
+interval_by (Some text) (Some n) = Ok (Some n)
+
+abbrev pub interval_in : Option (List ℕ) → Result (Option ℕ) ToolFault
+interval_in text = interval_by text (option_and_then interval_of text)
+
+-- the interval that `--gaps` gives, if it is given, or its fault
+abbrev pub gaps_set : List Row → Result (Option ℕ) ToolFault
+gaps_set options = interval_in (first_of (codes "gaps") options)
+
+-- The plan of the options for it without channels, or its fault.
+unfoldable pub plan_set : List Row → Result PlanValue PlanFault
+plan_set options = plan_of (tabulate (λ s. text_set options (name_of s)))
+
+-- the channels that the options give, or the fault of their text
+abbrev pub channels_by : Option ChannelsValue → Result ChannelsValue ToolFault
+channels_by None = Err faults.BadChannels
+channels_by (Some channels) = Ok channels
+
+abbrev pub channels_set : List Row → Result ChannelsValue ToolFault
+channels_set options = channels_by (channels_of (text_set options (codes "glonass-channels")))
+
+-- the plan with the channels that the options give
+abbrev pub IsPlanSet : List Row → PlanValue → Type 0
+IsPlanSet options plan = (p : PlanValue) × (channels : ChannelsValue) × (plan_set options ≡ Ok p)
+    × (channels_set options ≡ Ok channels) × (plan ≡ with_channels p channels)
+
+-- The setup of a conversion has the value of each option, by its name.
+pub record IsSetupOf (options : List Row) (x : Setup) : Type 0 where
+  pub texts : x.texts ≡ trimmed_texts (texts_set options)
+  pub plan : IsPlanSet options x.plan
+  pub week : IsWeekSet options x.start_week
+  pub station : IsNumberOf 16 (one_of (codes "station") options) x.station
+  pub gather : is_by_bit x.gather ≡ not (bytes_eq (text_set options (codes "gather")) (codes "time"))
+  pub limit : IsNumberOr 64 most_bytes (one_of (codes "limit") options) x.limit
+
+-- the station values of a position and an antenna height, or the fault of the text that isn't one
+abbrev pub values_by : Option (ℤ × ℤ × ℤ) → Option ℕ → Result StationValues ToolFault
+values_by None height = Err faults.BadPosition
+values_by (Some p) None = Err faults.BadHeight
+values_by (Some (x, y, z)) (Some h) = Ok (record { x = x; y = y; z = z; height = h })
+
+abbrev pub values_in : (position height : List ℕ) → Result StationValues ToolFault
+values_in position height = values_by (position_of position) (length_below (2 ^ 16) height)
+
+-- the station values that the options give, or the fault of the option that is invalid
+abbrev pub values_set : List Row → Result StationValues ToolFault
+values_set options = values_in (text_set options (codes "position")) (text_set options (codes "antenna-height"))
+
+-- the start of a conversion that the options give
+pub record IsStartOf (options : List Row) (x : Start) : Type 0 where
+  pub setup : IsSetupOf options x.setup
+  pub initial : values_set options ≡ Ok x.options.initial
+  pub forms : x.options.forms ≡ forms_set options
+  pub leap : IsNumberOr 8 default_leap (one_of (codes "leap-seconds") options) x.options.leap_seconds
+
+-- Of these options a text of the header has this fault; or the texts are valid, and the plan has this fault, or memory
+-- ran out for it.
+abbrev pub HasSetupFault : List Row → ToolFault → Type 0
+HasSetupFault options (faults.Header e) = first_fault (texts_set options) None fields ≡ Some e
+HasSetupFault options (faults.Plan e) = (first_fault (texts_set options) None fields ≡ None)
+    × ((e ≡ plans.Memory) ⊎ (plan_set options ≡ Err e))
+HasSetupFault options other = ⊥
+
+-- the fault of the position or the height, and then that of the channels, comes before that of another option
+abbrev pub IsFirstFault : Result StationValues ToolFault → Result ChannelsValue ToolFault → List Row → ToolFault
+    → Type 0
+IsFirstFault (Err e) channels options fault = fault ≡ e
+IsFirstFault (Ok values) (Err e) options fault = fault ≡ e
+IsFirstFault (Ok values) (Ok channels) options fault = HasSetupFault options fault
+
+-- These options are refused with this fault: that of the week, else that of the position, else that of the height, else
+-- that of the channels, else that of a text of the header, else that of the plan.
+abbrev pub IsSetupRefused : List Row → ToolFault → Type 0
+IsSetupRefused options fault =
+    IsWeekRefused options fault
+    ⊎ ((n : ℕ) × IsWeekSet options n × IsFirstFault (values_set options) (channels_set options) options fault)

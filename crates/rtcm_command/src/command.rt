@@ -1,0 +1,210 @@
+//! The whole program, over a reader, a writer and a writer for faults.
+ghost use Rattle.std.specs.Prelude.{◌≡◌, ◌≢◌, ◌<◌, ◌≤◌, IfSome};
+ghost use Rattle.std.specs.IoError.{error_kind};
+ghost use Rattle.std.specs.declared.io.ErrorKind.TheVariants as kinds;
+ghost use Rattle.clap.specs.Simple.{subcommand_rows_of};
+ghost use Rattle.clap.specs.Walk.{texts};
+ghost use Rattle.rtcm_bits.specs.Device.{IsUntouched};
+ghost use Rattle.clap.specs.Values.{kind_of};
+ghost use Rattle.clap.specs.declared.error.kind.ErrorKind.TheVariants.{DisplayVersion, OutOfMemory};
+ghost use Rattle.rtcm_command.specs.Asked.{EndsCheck};
+ghost use Rattle.rtcm_command.specs.Commands.{AreRefused, EndsFound, HasCommand};
+ghost use Rattle.rtcm_command.specs.Commands.{HasStoppedEarly, HasCompleted, StopsPrinting};
+ghost use Rattle.rtcm_command.specs.Devices.{of_inspection};
+ghost use Rattle.command_faults.specs.ErrorLines.{error_line, not_text_line};
+ghost use Rattle.rtcm_inspect.specs.Lengths.{longest_interval};
+ghost use Rattle.rtcm_inspect.specs.Printing.{PrintsLine, PrintsSome, PrintsText};
+ghost use Rattle.rtcm_command.specs.declared.cli.TheConstants.{VERSION};
+ghost use Rattle.rtcm_command.specs.Converting.{EndsConverting};
+ghost use Rattle.rtcm_command.specs.SetupOptions.{options_of};
+
+use crate::cli::{VERSION, parse};
+use crate::convert::{report_line, run_convert_with};
+use crate::options::{
+    channels_of, forms_of, gaps_of, has_flag, leap_seconds_of, near_of, setup_of, start_week_of,
+    station_of, values_of,
+};
+use clap::ArgMatches;
+use clap::error::ErrorKind;
+use command_faults::{ToolFault, error_line, exit_status};
+use rtcm_bits::{Counted, Deliver};
+use rtcm_convert::ConvertOptions;
+use rtcm_inspect::{
+    InspectFault, print_line, print_text, run_check, run_check_gaps, run_check_times, run_frames,
+    run_options, run_show, run_show_all, run_signals,
+};
+use std::alloc::Global;
+use std::io::{self, Read};
+
+/// Runs the command that the words ask for, the first of which is the program's name, and returns
+/// the exit status: 0 after success, 1 after a fault, and 2 if the words aren't accepted, ask for
+/// help, or have an invalid date, position, height, list of channels or interval.
+pub fn command<R: Read, W: Deliver, E: Deliver>(
+    alloc: Global,
+    words: &[&str],
+    reader: &mut Counted<R>,
+    writer: &mut Counted<W>,
+    faults: &mut Counted<E>,
+) -> u8
+    ensures status { result ≤ 2 }
+
+    // By clap's definitions under the program's options, the words ask for a command, which
+    // completed with these options; or they ask for the version, which was written. Only the report
+    // of `convert` was written to `faults`.
+    ensures good { result ≡ 0 → HasCompleted R.remaining reader.old reader.new W.contents W.waiting writer.old
+        writer.new E.contents E.waiting faults.old faults.new (texts words.now) }
+
+    // They ask for a command that was stopped by a fault, whose line was written to `faults`; or
+    // memory ran out before anything was read or written.
+    ensures stopped { result ≡ 1 → HasStoppedEarly R.remaining reader.old reader.new W.contents W.waiting writer.old
+        writer.new E.contents E.waiting faults.old faults.new (texts words.now) }
+
+    // They aren't accepted, ask for help, or have an invalid date, position, height, list of
+    // channels or interval, and a text was written to `faults`. Nothing was read, and nothing was
+    // written to the output.
+    ensures refused { result ≡ 2 → AreRefused E.contents E.waiting faults.old faults.new (texts words.now)
+        × IsUntouched reader.old reader.new writer.old writer.new }
+{
+    match parse(alloc, words) {
+        Ok(matches) => exit_status(run(alloc, &matches, reader, writer, faults), faults),
+        Err(error) => answer(alloc, &error, writer, faults),
+    }
+}
+
+/// Runs the command that was found in the words.
+fn run<R: Read, W: Deliver, E: Deliver>(
+    alloc: Global,
+    matches: &ArgMatches,
+    reader: &mut Counted<R>,
+    writer: &mut Counted<W>,
+    faults: &mut Counted<E>,
+) -> Result<(), ToolFault>
+    requires { HasCommand matches.now }
+    ensures { EndsFound result (subcommand_rows_of matches.now) R.remaining reader.old reader.new
+        W.contents W.waiting writer.old writer.new E.contents E.waiting faults.old faults.new }
+{
+    let Some((name, options)) = matches.subcommand() else {
+        unreachable!()
+    };
+    match name {
+        "frames" => of_inspection(run_frames(alloc, reader, writer)),
+        "show" if has_flag(options, "all") => of_inspection(run_show_all(alloc, reader, writer)),
+        "show" => of_inspection(run_show(alloc, reader, writer)),
+        "signals" => of_inspection(run_signals(alloc, station_of(options), reader, writer)),
+        "options" => {
+            let near = near_of(options)?;
+            of_inspection(run_options(alloc, station_of(options), near, reader, writer))
+        }
+        "convert" => convert(alloc, options, reader, writer, faults),
+        _ => {
+            let interval = gaps_of(options)?;
+            of_inspection(check(alloc, interval, has_flag(options, "times"), reader, writer))
+        }
+    }
+}
+
+/// Returns the result of a command other than `convert`.
+fn of_inspection(ended: Result<(), InspectFault>) -> Result<(), ToolFault>
+    ensures { result ≡ of_inspection ended }
+{
+    ended.map_err(ToolFault::Inspect)
+}
+
+/// Reads a file back, and prints the times, and the gaps at an interval.
+fn check<R: Read, W: Deliver>(
+    alloc: Global,
+    interval: Option<u64>,
+    with_times: bool,
+    reader: &mut Counted<R>,
+    writer: &mut Counted<W>,
+) -> Result<(), InspectFault>
+    requires { IfSome interval (λ n. (0 < n) × (n ≤ longest_interval)) }
+    ensures { EndsCheck result with_times interval R.remaining reader.old reader.new
+        W.contents W.waiting writer.old writer.new }
+{
+    match interval {
+        Some(interval) => run_check_gaps(alloc, interval, with_times, reader, writer),
+        None if with_times => run_check_times(alloc, reader, writer),
+        None => run_check(alloc, reader, writer),
+    }
+}
+
+/// Converts the stream as the options ask, and prints the report. A failure of its writer is
+/// ignored, since the file is already written.
+fn convert<R: Read, W: Deliver, E: Deliver>(
+    alloc: Global,
+    options: &ArgMatches,
+    reader: &mut Counted<R>,
+    writer: &mut Counted<W>,
+    faults: &mut Counted<E>,
+) -> Result<(), ToolFault>
+    ensures { EndsConverting result (options_of options.now) R.remaining reader.old reader.new
+        W.contents W.waiting writer.old writer.new E.contents E.waiting faults.old faults.new }
+{
+    let start_week = start_week_of(options)?;
+    let initial = values_of(options)?;
+    let channels = channels_of(options)?;
+    let setup = setup_of(alloc, options, start_week, channels)?;
+    let given = ConvertOptions {
+        initial,
+        forms: forms_of(options),
+        leap_seconds: leap_seconds_of(options),
+    };
+    let report = run_convert_with(alloc, setup, given, reader, writer)?;
+    print_line(report_line(&report).as_bytes(), faults);
+    Ok(())
+}
+
+/// Prints the version if the words ask for it, else clap's error. Returns the exit status.
+fn answer<W: Deliver, E: Deliver>(
+    alloc: Global,
+    error: &clap::Error,
+    writer: &mut Counted<W>,
+    faults: &mut Counted<E>,
+) -> u8
+    ensures status { result ≤ 2 }
+    ensures good { result ≡ 0 → (kind_of error.now ≡ DisplayVersion)
+        × PrintsText W.contents W.waiting writer.old writer.new VERSION.now × (faults.new ≡ faults.old) }
+    ensures stopped { result ≡ 1 → StopsPrinting (kind_of error.now) W.contents writer.old writer.new
+        E.contents E.waiting faults.old faults.new }
+    ensures refused { result ≡ 2
+        → (kind_of error.now ≢ DisplayVersion) × (kind_of error.now ≢ OutOfMemory) × (writer.new ≡ writer.old)
+        × PrintsSome E.contents E.waiting faults.old faults.new }
+{
+    match error.kind() {
+        ErrorKind::DisplayVersion => {
+            let ended = print_text(VERSION.as_bytes(), writer);
+            exit_status(of_inspection(ended), faults)
+        }
+        ErrorKind::OutOfMemory => exit_status(Err(ToolFault::Memory), faults),
+        _ => {
+            print_refusal(alloc, error, faults);
+            2
+        }
+    }
+}
+
+/// Prints clap's text of an error, or the line of `Memory` if there is no memory for that text.
+fn print_refusal<E: Deliver>(alloc: Global, error: &clap::Error, faults: &mut Counted<E>)
+    ensures { PrintsSome E.contents E.waiting faults.old faults.new }
+{
+    match format!(in alloc; "{error}") {
+        Ok(text) if !text.is_empty() => print_line(text.as_bytes(), faults),
+        _ => print_line(error_line(ToolFault::Memory).as_bytes(), faults),
+    }
+}
+
+/// Prints why the words of the command line can't be read, and returns the exit status: memory ran
+/// out, or a word isn't UTF-8.
+pub fn refuse_words<E: Deliver>(error: &io::Error, faults: &mut Counted<E>) -> u8
+    ensures memory { error_kind error.now ≡ kinds.OutOfMemory
+        → (result ≡ 1) × PrintsLine E.contents E.waiting faults.old faults.new (error_line ToolFault.Memory) }
+    ensures words { error_kind error.now ≢ kinds.OutOfMemory
+        → (result ≡ 2) × PrintsLine E.contents E.waiting faults.old faults.new not_text_line }
+{
+    if error.kind() == io::ErrorKind::OutOfMemory {
+        return exit_status(Err(ToolFault::Memory), faults);
+    }
+    print_line(b"error: a word of the command line isn't UTF-8\n", faults);
+    2
+}

@@ -1,0 +1,82 @@
+//! The command `convert`: the observation file of a stream.
+ghost use Rattle.std.specs.Prelude.{◌≡◌, ◌≤◌, ◌↔◌, Err, max};
+ghost use Rattle.rtcm_bits.specs.FrameOf.{longest_frame};
+ghost use Rattle.rtcm_convert.specs.SetupValues.{IsBad, IsBadWith, start_by, start_zero};
+ghost use Rattle.rtcm_command.specs.Converting.{EndsConversion};
+ghost use Rattle.rtcm_command.specs.Reports.{report_line};
+
+use command_faults::ToolFault;
+use rtcm_bits::{Counted, Deliver};
+use rtcm_convert::{ConvertOptions, Fault, Report, Setup, convert_with_options};
+use rtcm_inspect::OutputLine;
+use std::alloc::Global;
+use std::io::Read;
+
+/// Writes the observation file of a stream that is read to its end. For every stream, regardless of
+/// the sizes of the reads, and for every starting week and plan, the file written is exactly the
+/// one defined from the stream's valid frames in order, and has an epoch.
+///
+/// # Errors
+///
+/// `Convert` with the faults of `convert_stream`, of which `NoEpoch` means that the file has no
+/// epoch.
+pub fn run_convert<R: Read, W: Deliver>(
+    alloc: Global,
+    setup: Setup,
+    reader: &mut Counted<R>,
+    writer: &mut Counted<W>,
+) -> Result<Report, ToolFault>
+    ensures ends { EndsConversion result (start_zero setup)
+        R.remaining reader.old reader.new W.contents W.waiting writer.old writer.new }
+    ensures bad_setup { result ≡ Err (ToolFault.Convert Fault.BadSetup) ↔ IsBad setup }
+    ensures widest { reader.new.widest ≤ max reader.old.widest longest_frame }
+{
+    run_convert_with(alloc, setup, ConvertOptions::default(), reader, writer)
+}
+
+/// Writes the observation file of a stream as `run_convert` does, with these options.
+///
+/// # Errors
+///
+/// Those of `run_convert`.
+pub fn run_convert_with<R: Read, W: Deliver>(
+    alloc: Global,
+    setup: Setup,
+    options: ConvertOptions,
+    reader: &mut Counted<R>,
+    writer: &mut Counted<W>,
+) -> Result<Report, ToolFault>
+    ensures ends { EndsConversion result (start_by setup options)
+        R.remaining reader.old reader.new W.contents W.waiting writer.old writer.new }
+    ensures bad_setup { result ≡ Err (ToolFault.Convert Fault.BadSetup) ↔ IsBadWith (start_by setup options) }
+    ensures widest { reader.new.widest ≤ max reader.old.widest longest_frame }
+{
+    match convert_with_options(alloc, setup, options, reader, writer) {
+        Ok(report) => Ok(report),
+        Err(fault) => Err(ToolFault::Convert(fault)),
+    }
+}
+
+/// Returns the line of a report: each count after its name.
+pub fn report_line(report: &Report) -> OutputLine
+    ensures { result ≡ report_line report.now }
+{
+    let mut line = OutputLine::new();
+    line.put(b"bytes");
+    line.add_number(report.bytes);
+    line.add_count("skipped_bytes", report.skipped_bytes);
+    line.add_count("frames", report.frames);
+    line.add_count("faulty", report.faulty);
+    line.add_count("station", report.station);
+    line.add_count("other", report.other);
+    line.add_count("ignored", report.ignored);
+    line.add_count("late", report.late);
+    line.add_count("past", report.past);
+    line.add_count("taken", report.taken);
+    line.add_count("skipped", report.skipped);
+    line.add_count("repeated", report.repeated);
+    line.add_count("crowded", report.crowded);
+    line.add_count("epochs", report.epochs);
+    line.finish();
+    line
+}

@@ -1,0 +1,200 @@
+//! The values of the options of the commands.
+ghost use Rattle.std.specs.Prelude.{◌≡◌, ◌<◌, ◌≤◌, IfOk, IfSome, MatchResult, Ok, codes, not};
+ghost use Rattle.clap.specs.Walk.{one_of};
+ghost use Rattle.std.specs.Str.{bytes_eq};
+ghost use Rattle.gnss_obs.specs.SignalLists.{IsDefined};
+ghost use Rattle.obs_epoch.specs.Kinds.{default_leap, is_by_bit};
+ghost use Rattle.rinex_file.specs.TextsOf.{lists_of};
+ghost use Rattle.rtcm_inspect.specs.Lengths.{longest_interval};
+ghost use Rattle.rtcm_command.specs.SetupOptions.{HasSetupFault, IsNearRefused, IsNearSet, IsNumberOf};
+ghost use Rattle.rtcm_command.specs.SetupOptions.{IsNumberOr, channels_set};
+ghost use Rattle.rtcm_command.specs.SetupOptions.{IsSetupOf, IsWeekRefused, IsWeekSet, gaps_set, has_flag};
+ghost use Rattle.rtcm_command.specs.SetupOptions.{forms_set, options_of, plan_set, text_set, texts_set, values_set};
+
+use clap::ArgMatches;
+use command_faults::{DateOption, ToolFault};
+use gnss_obs::{BySystem, Channels, GpsTime, Plan, PlanFault, StationValues};
+use obs_epoch::{Gather, LEAP_SECONDS};
+use rinex_file::{HeaderTexts, Texts};
+use rtcm_convert::Setup;
+use rtcm_inspect::{hour_of, interval_of, length_below, position_of, week_of};
+use rtcm_msg::Forms;
+use rtcm_scan::MOST_BYTES;
+use std::alloc::Global;
+
+/// Returns the week of the first observations.
+///
+/// # Errors
+///
+/// `BadDate` if the text isn't a week or a date.
+pub fn start_week_of(options: &ArgMatches) -> Result<u32, ToolFault>
+    ensures { MatchResult result (IsWeekSet (options_of options.now)) (IsWeekRefused (options_of options.now)) }
+{
+    let week = week_of(text(options, "week"));
+    week.ok_or(ToolFault::BadDate(DateOption::Week))
+}
+
+/// Returns noon of the date near the first observations, or `None` if the option isn't given.
+///
+/// # Errors
+///
+/// `BadDate` if the text isn't a date.
+pub fn near_of(options: &ArgMatches) -> Result<Option<GpsTime>, ToolFault>
+    ensures { MatchResult result (IsNearSet (options_of options.now)) (IsNearRefused (options_of options.now)) }
+{
+    match options.get_str("near") {
+        Some(text) => match hour_of(text, 12) {
+            Some(noon) => Ok(Some(noon)),
+            None => Err(ToolFault::BadDate(DateOption::Near)),
+        },
+        None => Ok(None),
+    }
+}
+
+/// Returns the interval of `--gaps` in milliseconds, or `None` if the option isn't given.
+///
+/// # Errors
+///
+/// `BadGaps` if the text isn't an interval.
+pub fn gaps_of(options: &ArgMatches) -> Result<Option<u64>, ToolFault>
+    ensures value { result ≡ gaps_set (options_of options.now) }
+    ensures fits { IfOk result (λ gap. IfSome gap (λ n. (0 < n) × (n ≤ longest_interval))) }
+{
+    match options.get_str("gaps") {
+        Some(text) => match interval_of(text) {
+            Some(interval) => Ok(Some(interval)),
+            None => Err(ToolFault::BadGaps),
+        },
+        None => Ok(None),
+    }
+}
+
+/// Returns whether the flag of this name is given.
+pub fn has_flag(options: &ArgMatches, name: &str) -> bool
+    ensures { result ≡ has_flag name.now (options_of options.now) }
+{
+    text(options, name) == "true"
+}
+
+/// Returns the settings of a conversion that begins in a week, with these channels. The texts of the
+/// header are checked before the plan.
+///
+/// # Errors
+///
+/// `Header` if a text of the header is refused, and `Plan` if the plan is.
+pub fn setup_of(
+    alloc: Global,
+    options: &ArgMatches,
+    start_week: u32,
+    channels: Channels,
+) -> Result<Setup, ToolFault>
+    requires week { IsWeekSet (options_of options.now) start_week }
+    requires channels { channels_set (options_of options.now) ≡ Ok channels }
+    ensures { MatchResult result (IsSetupOf (options_of options.now)) (HasSetupFault (options_of options.now)) }
+{
+    let texts = HeaderTexts::new(&texts_of(options)).map_err(ToolFault::Header)?;
+    let plan = plan_of(alloc, options).map_err(ToolFault::Plan)?;
+    Ok(Setup {
+        plan: plan.with_channels(channels),
+        texts,
+        start_week,
+        station: station_of(options),
+        gather: gather_of(text(options, "gather")),
+        limit: options.get_one::<u64>("limit").unwrap_or(MOST_BYTES),
+    })
+}
+
+/// Returns the plan of the options of each system, without channels.
+fn plan_of(alloc: Global, options: &ArgMatches) -> Result<Plan, PlanFault>
+    ensures { IsDefined (plan_set (options_of options.now)) result }
+{
+    let lists = BySystem::each(|system| text(options, system.name()));
+    Plan::parse_all(alloc, &lists)
+}
+
+/// Returns the texts of the header.
+fn texts_of<'a>(options: &ArgMatches<'a>) -> Texts<'a>
+    ensures { lists_of result ≡ texts_set (options_of options.now) }
+{
+    Texts {
+        run_by: text(options, "run-by"),
+        date: text(options, "date"),
+        marker: text(options, "marker"),
+        marker_type: text(options, "marker-type"),
+        observer: text(options, "observer"),
+        agency: text(options, "agency"),
+        rec_number: text(options, "rec-number"),
+        rec_type: text(options, "rec-type"),
+        rec_version: text(options, "rec-version"),
+        ant_number: text(options, "ant-number"),
+        ant_type: text(options, "ant-type"),
+    }
+}
+
+/// Returns the rule of gathering of this name.
+fn gather_of(name: &str) -> Gather
+    ensures { is_by_bit result ≡ not (bytes_eq name.now (codes "time")) }
+{
+    match name {
+        "time" => Gather::Time,
+        _ => Gather::Bit,
+    }
+}
+
+/// Returns the forms of MSM that are read.
+pub fn forms_of(options: &ArgMatches) -> Forms
+    ensures { result ≡ forms_set (options_of options.now) }
+{
+    match text(options, "msm") {
+        "all" => Forms::All,
+        _ => Forms::FourAndSeven,
+    }
+}
+
+/// Returns GPS time minus UTC in seconds.
+pub fn leap_seconds_of(options: &ArgMatches) -> u8
+    ensures { IsNumberOr 8 default_leap (one_of (codes "leap-seconds") (options_of options.now)) result }
+{
+    options.get_one("leap-seconds").unwrap_or(LEAP_SECONDS)
+}
+
+/// Returns the value of an option that is required or has a default.
+fn text<'a>(options: &ArgMatches<'a>, name: &str) -> &'a str
+    ensures { result.now ≡ text_set (options_of options.now) name.now }
+{
+    options.get_str(name).unwrap_or("")
+}
+
+/// Returns the station whose messages count, or `None` if the option isn't given.
+pub fn station_of(options: &ArgMatches) -> Option<u16>
+    ensures { IsNumberOf 16 (one_of (codes "station") (options_of options.now)) result }
+{
+    options.get_one::<u16>("station")
+}
+
+/// Returns the station values of the options.
+///
+/// # Errors
+///
+/// `BadPosition` or `BadHeight` if a text has another form, or a length that no message can have.
+pub fn values_of(options: &ArgMatches) -> Result<StationValues, ToolFault>
+    ensures { result ≡ values_set (options_of options.now) }
+{
+    let position = position_of(text(options, "position"));
+    let (x, y, z) = position.ok_or(ToolFault::BadPosition)?;
+    let height = length_below(text(options, "antenna-height"), 1 << 16);
+    let height = height.ok_or(ToolFault::BadHeight)? as u16;
+    Ok(StationValues { x, y, z, height })
+}
+
+/// Returns the channels of the options.
+///
+/// # Errors
+///
+/// `BadChannels` if the text has another form.
+pub fn channels_of(options: &ArgMatches) -> Result<Channels, ToolFault>
+    ensures { result ≡ channels_set (options_of options.now) }
+{
+    let channels = rtcm_inspect::channels_of(text(options, "glonass-channels"));
+    channels.ok_or(ToolFault::BadChannels)
+}
