@@ -1,4 +1,3 @@
--- Numbers as digits: read back, with blanks or zeros before them, and in lanes.
-pub mod Numbers
+-- Numbers as digits: with blanks or zeros before them, and in lanes.
 pub mod Padded
 pub mod Lanes

@@ -34,15 +34,16 @@ pub use Rattle.rinex_file.specs.File.{change_lines, change_text, closed_text, ev
 pub use Rattle.rinex_file.specs.File.{lines_of_systems}
 pub use Rattle.rinex_file.specs.FileValues.{AreChanges, AreSatelliteRows, AreSignalValues, AreTexts, AreValues, FitsColumns, HaveRoom, IsChange, IsFileValue, IsFirstSame, IsFrom, IsPlan, IsRow, IsSatelliteRow, IsStamped, IsText, IsTime, changed_by, has_some_value, most_rows, planned_in, rank_of, time_stamped, values_following}
 pub use Rattle.rinex_file.specs.Gathered.{AreSignals, HasSatellite}
-unfoldable pub use Rattle.rinex_file.specs.Header.{header_line, header_lines, row_line}
+unfoldable pub use Rattle.rinex_file.specs.Header.{header_lines, row_line}
+unfoldable pub use Rattle.rinex_fields.specs.HeaderLine.{header_line}
 pub use Rattle.rinex_file.specs.Header.{all_rows, codes_of, delta_line, biases_line, end_line, flagged_letter, first_line, first_types, has_line, height_line, is_planned, letter_of, lengths, lines_from, most_type_rows, position_line, row_at, row_count, row_lines, row_place, slots_line, slots_with, strength_line, systems_letter, text_columns, texts_line, type_columns, type_front, type_line, type_of, type_rows, types_of, version_fields, version_by, version_line}
-pub use Rattle.rinex_file.specs.Limits.{most_line}
+pub use Rattle.rinex_fields.specs.Limits.{most_line}
 unfoldable pub use Rattle.rinex_file.specs.Lines.{epoch_line, field, satellite_line, signal_text}
 pub use Rattle.rinex_file.specs.Lines.{epoch_fields, lli_byte, row_text, strength_byte}
-pub use Rattle.rinex_file.specs.Numbers.{fixed, joined, left, padded, right}
+pub use Rattle.rinex_fields.specs.Numbers.{fixed, joined, left, padded, right}
 pub use Rattle.rinex_file.specs.ParserState.{FollowsHistory, GoesOnWithLine, History, IsLast, IsNext, RefusesLine, ShowsLine, TakesLine, changes_of, events_in, nothing, progress_at, rows_in, stamped_at, with_line}
 pub use Rattle.rinex_file.specs.Read.EpochSteps.{HasReadTo, IsSummaryOf}
-pub use Rattle.rinex_file.specs.Read.Fields.{ReadsExactly, digits_from, digits_in, has, next_digit, number_in, some_if}
+pub use Rattle.rinex_fields.specs.Read.{ReadsExactly, digits_in, has, number_in, some_if}
 pub use Rattle.rinex_file.specs.Read.HeaderSteps.{AreSlotsBefore, EndsHeader, IsLineOfSlots, SlotsFollow, TakesOrRefusesSlots, TakesSlots, with_slots, GoesOn, GoesTo, HasSignalAt, IsHeaderLineRead, IsOnly, NoneGoesOn, ReadsOrRefuses, ReadsOrRefusesTexts, ReadsTexts, RefusesHeaderLine, RefusesTexts, RefusesTypes, SameFrom, StepsTo, Takes, TakesHeaderLine, TakesTypes, begins_with, expected_if, if_fine, known_line, texts_in, with_first, with_letter, with_texts, with_types, with_values}
 unfoldable pub use Rattle.rinex_file.specs.Read.Keeping.{stamped_text}
 pub use Rattle.rinex_file.specs.Read.Keeping.{HasReadWhole, HasRoom, HaveRowsRoom, Stores, history_of}
@@ -84,12 +85,12 @@ pub use Rattle.rinex_file.specs.declared.write.lanes.TheConstants.{PAIRS}
 pub use Rattle.rtcm_bits.specs.Device.{AppendsPrefix, HasFailed}
 pub use Rattle.std.proofs.Common.{Fits, List, None, OnErr, Option, [], add-one, ap, append-nil, append_assoc, ap₂, arith, decimal, drop, eqb, filter, get_or, inl, inr, length, length-append, lit<, lit≤, negsuc, of_z, refl, replicate, rules, slice_index_or, subst, suc, sym, take, to_z, unsigned_abs, w64, w8, zero, zero-add, ℕ, ℤ, ◌%◌, ◌*◌, ◌++◌, ◌+◌, ◌/◌, ◌<◌, ◌^◌, ◌∙◌, ◌∷◌, ◌≡◌}
 pub use Rattle.std.proofs.KnownBytes.{Appends-nil, Appends-trans, Consumes-nil, Consumes-trans}
-pub use Rattle.std.proofs.Math.Nat.{div-le_self, le-min, min-eq_left, min-eq_right, min-le_left, min-le_right, mod-le, mod-lt, pow-le-pow_right, pow-suc}
+pub use Rattle.std.proofs.Math.Nat.{div-le_self, le-min, min-eq_left, min-eq_right, min-le_left, min-le_right, mod-le, pow-suc}
 pub use Rattle.std.proofs.Math.Seq.{drop-append-add, drop-cons, take-add, take-append-add, take-append_seam}
 pub use Rattle.std.proofs.lemmas.Bool.{agree_below_at, and_from, and_parts, and_right, both_ways, cases_Bool, cases_lt, cond_both, eq-eqb, eqb-false, eqb-true, false_from_ne_true, le-ltb, leb-true, lt-ltb, ltb-false, ltb-true, ne_eqb, not-true, or_parts, or_right}
 pub use Rattle.std.proofs.lemmas.Bool.Decides.{Decides-int_eq, nat_tests}
 pub use Rattle.std.proofs.lemmas.Cmp.{nat_eq_equiv}
-pub use Rattle.std.proofs.lemmas.Fmt.{decimal_by_steps, decimal_digit, decimal_step, first_decimal, length-decimal-le}
+pub use Rattle.std.proofs.lemmas.Fmt.{decimal_digit, decimal_step, first_decimal, length-decimal-le}
 pub use Rattle.std.proofs.lemmas.Grind.{common_steps, replicate_next}
 pub use Rattle.std.proofs.lemmas.Int.{fits_signed_from_abs, ints, to_z-of_z}
 pub use Rattle.std.proofs.lemmas.List.{append_cancel_left, drop-append-le, drop-drop, drop-replicate, drop-take, drop_all, drop_at, drop_more, ext_get_or, get_or-append-add, get_or-drop, get_or-map, get_or-set_other, get_or-set_same, get_or-take, get_or_append_left, get_or_at, get_or_default, length-drop, length-map, length-replicate, length-set, length-take, length-take-le, length_push, map-append, map-set, nil_from_length, replicate-append-replicate, set_at, take-append-drop, take-append-le, take-map, take-replicate, take-take, take_all, take_at, take_min, take_more, take_more_set, take_rest}
@@ -101,7 +102,7 @@ pub use Rattle.std.proofs.lemmas.List.Quantifiers.{position-Some}
 pub use Rattle.std.proofs.lemmas.List.Sums.{fails_before_first, fold-append, prefix_len-le-length, sum_by-append}
 pub use Rattle.std.proofs.lemmas.Map.Keys.{IsDistinct-push, IsDistinct-tail, apart_from_distinct}
 pub use Rattle.std.proofs.lemmas.Map.Steps.{le-length_from_below}
-pub use Rattle.std.proofs.lemmas.Nat.{div-add-mod', pow-add}
+pub use Rattle.std.proofs.lemmas.Nat.{div-add-mod'}
 pub use Rattle.std.proofs.lemmas.Option.{none-some, same_Some}
 pub use Rattle.std.proofs.lemmas.Result.{err_from_is_err_and}
 pub use Rattle.std.proofs.lemmas.Simd.{bitmask_splat, first_set_mask_l, get_or-zip2, length-zip2, map-map, mask_l-mod, put_chunk_whole}

@@ -12,7 +12,7 @@ use Rattle.rinex_file.specs.Value.{written_satellites}
 use Rattle.gnss_obs.specs.declared.cell.Cell.{Cell}
 use Rattle.rinex_file.specs.Header.{header_lines, position_line, delta_line}
 use Rattle.rinex_file.specs.Lines.{epoch_line, satellite_line}
-use Rattle.rinex_file.specs.Numbers.{joined}
+use Rattle.rinex_fields.specs.Numbers.{joined}
 
 -- the header of a file whose first epoch is at this time
 unfoldable pub header_text : HeaderLists → PlanValue → StationValues → ℕ → List ℕ

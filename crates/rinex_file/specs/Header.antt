@@ -16,14 +16,11 @@ use Rattle.rinex_file.specs.declared.header.rows.HeaderRow.{HeaderRow}
 use Rattle.rinex_file.specs.declared.header.rows.TheConstants.{ROWS}
 use Rattle.rinex_file.specs.declared.header.rows.HeaderRow.TheVariants.{Version, Texts, Position, Delta, Types}
 use Rattle.rinex_file.specs.declared.header.rows.HeaderRow.TheVariants.{StrengthUnit, First, Shift, Slots, Biases, End}
-use Rattle.rinex_file.specs.Numbers.{joined, left, right, fixed}
+use Rattle.rinex_fields.specs.HeaderLine.{header_line}
+use Rattle.rinex_fields.specs.Numbers.{joined, left, right, fixed}
 use Rattle.rinex_file.specs.Slots.{SlotNumber, slots_of, slots_columns, slot_rows}
-use Rattle.rinex_file.specs.Limits.{content_columns, label_columns, types_in_line}
+use Rattle.rinex_file.specs.Limits.{types_in_line}
 use Rattle.rinex_file.specs.Texts.{HeaderLists, width_of, text_of, fields_of, text_row_index, front_of, label_of}
-
--- content, label and a line feed
-unfoldable pub header_line : List ℕ → List ℕ → List ℕ
-header_line content label = joined (left content_columns content ∷ left label_columns label ∷ (10 ∷ []) ∷ [])
 
 -- three lengths, given in 0.0001 m and written as F14.4
 abbrev pub lengths : ℤ → ℤ → ℤ → List ℕ

@@ -1,5 +1,4 @@
 pub mod Limits
-pub mod Numbers
 pub mod Words
 pub mod Blanks
 pub mod Texts

@@ -1,5 +1,4 @@
 -- The reading of a file, line by line.
-pub mod Fields
 pub mod Row
 pub mod HeaderSteps
 pub mod Progress

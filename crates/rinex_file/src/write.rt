@@ -16,10 +16,11 @@ pub(crate) mod satellite;
 use crate::header::fault::HeadFault;
 use crate::header::head::{Head, header_lines};
 use crate::header::lines::{delta_line, position_line};
-use crate::write::line::{Line, MOST_LINE, epoch_line, event_line};
+use crate::write::line::{epoch_line, event_line};
 use crate::write::satellite::put_satellite_line;
 use gnss_obs::{Epoch, Plan, StationValues, end_of, is_written};
 use gnss_system::{SYSTEMS, System};
+use rinex_fields::{Line, MOST_LINE};
 use rtcm_bits::{Counted, DeviceFailed};
 use std::io::Write;
 

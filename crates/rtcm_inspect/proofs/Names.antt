@@ -122,7 +122,7 @@ pub use Rattle.std.specs.Result.{IsErrAnd, result_ok}
 pub use Rattle.std.specs.Str.{bytes_eq}
 pub use Rattle.std.proofs.Common.{All, Bool, Err, FitsSigned, IfOk, IfSome, List, MatchResult, None, Ok, OnErr, OnOk, Option, Result, Some, [], ap, append-nil, append_assoc, ap₂, arith, count_ones, decimal, drop, false, filter, find, get_or, inl, inr, is_some, length, length-append, length-drop, length-take, map, nat_eq, negsuc, not, of_z, pos, refl, replicate, rules, subst, suc, sym, take, take-append-drop, to_z, true, w64, zero, ℕ, ℤ, ◌&&◌, ◌%◌, ◌*◌, ◌++◌, ◌+◌, ◌-◌, ◌/◌, ◌<◌, ◌==◌, ◌^◌, ◌||◌, ◌∙◌, ◌∷◌, ◌≡◌, ◌≤◌}
 pub use Rattle.gnss_obs.specs.declared.civil.Civil.{Civil}
-pub use Rattle.rinex_file.specs.Read.Fields.{digits_from, digits_in, next_digit}
+pub use Rattle.rinex_fields.specs.Read.{digits_from, digits_in, next_digit}
 pub use Rattle.rtcm_inspect.specs.Dates.{IsHourOf, IsWeekNumber, IsWeekOf, civil_in}
 pub use Rattle.rtcm_inspect.specs.Lengths.{after_byte, coordinate_by, coordinate_of, cut, decimals_of, fixed_by, fixed_point, is_digit, length_below, number_of, position_of}
 pub use Rattle.std.proofs.lemmas.Str.Parse.{IsNumeralModel, digits_value_short, numerals_by_fold, parse_plain}

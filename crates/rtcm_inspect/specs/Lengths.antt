@@ -4,7 +4,7 @@ use Rattle.std.specs.Prelude.{length, Option, Some, None, option_map, option_and
 use Rattle.std.specs.Prelude.{if◌then◌else◌}
 use Rattle.std.specs.List.{list_all}
 use Rattle.gnss_obs.specs.GatheredEpochs.{coordinate_bound}
-use Rattle.rinex_file.specs.Read.Fields.{digits_in}
+use Rattle.rinex_fields.specs.Read.{digits_in}
 
 abbrev pub is_digit : ℕ → Bool
 is_digit b = nat_le 48 b && nat_le b 57

@@ -9,14 +9,14 @@ ghost use Rattle.rinex_file.specs.Header.{row_line, has_line, row_at, row_count,
 ghost use Rattle.rinex_file.specs.Header.{systems_letter};
 
 use crate::header::lines::{
-    BIASES, END, SHIFT, STRENGTH_UNIT, UNIT, delta_line, first_line, flagged_letter, labelled,
-    position_line, texts_line, version_by,
+    BIASES, END, SHIFT, STRENGTH_UNIT, UNIT, delta_line, first_line, flagged_letter, position_line,
+    texts_line, version_by,
 };
 use crate::header::lists::{slot_rows, slots_in, slots_with, type_rows, types_with};
 use crate::header::rows::{HeaderRow, ROW_COUNT, row_at};
 use crate::header::texts::HeaderTexts;
-use crate::write::line::Line;
 use gnss_obs::{BySystem, GpsTime, Plan, StationValues, System};
+use rinex_fields::{Line, labelled};
 use std::marker::Model;
 
 /// The contents of a header.

@@ -1,22 +1,17 @@
 //! The lines of a header: RINEX 3.05, table A2.
-ghost use Rattle.std.specs.Prelude.{◌≡◌, ◌+◌, ◌≤◌, length};
+ghost use Rattle.std.specs.Prelude.{◌≡◌, ◌≤◌, length};
 ghost use Rattle.gnss_obs.specs.Dates.{civil_of};
 ghost use Rattle.gnss_system.specs.SystemValues.{value_of};
-ghost use Rattle.rinex_file.specs.Header.{header_line, lengths, texts_line, position_line, delta_line};
+ghost use Rattle.rinex_file.specs.Header.{lengths, texts_line, position_line, delta_line};
 ghost use Rattle.rinex_file.specs.Header.{first_line, flagged_letter, version_by};
-ghost use Rattle.rinex_file.specs.Limits.{label_columns};
+ghost use Rattle.rinex_fields.specs.HeaderLine.{header_line};
+ghost use Rattle.rinex_fields.specs.Limits.{label_columns};
 
 use crate::header::fields::TextRow;
 use crate::header::texts::HeaderTexts;
-use crate::write::line::{Line, put, put_fixed, put_left, put_seconds, put_whole};
 use gnss_obs::{GpsTime, StationValues};
 use gnss_system::{BySystem, SYSTEMS, System};
-
-/// Width of the content of a line, in columns.
-pub(crate) const CONTENT_COLUMNS: usize = 60;
-
-/// Width of the label after it, in columns.
-const LABEL_COLUMNS: usize = 20;
+use rinex_fields::{Line, labelled, put, put_fixed, put_left, put_seconds, put_whole};
 
 // The labels, in columns 61 to 80, of the rows that are read and written by `labelled`.
 
@@ -33,19 +28,6 @@ pub(crate) const END: &[u8] = b"END OF HEADER";
 
 /// The content of the line of that unit.
 pub(crate) const UNIT: &[u8] = b"DBHZ";
-
-/// Returns a line: content in columns 1 to 60, the label from column 61 on, and a line feed.
-#[tactic(auto, unfolding(crate::specs::Header::header_line))]
-pub(crate) fn labelled(content: &[u8], label: &[u8]) -> Line
-    requires { length content.now + length label.now ≤ 1000 }
-    ensures { result.items ≡ header_line content.now label.now }
-{
-    let mut line = Line::new();
-    put_left(&mut line, CONTENT_COLUMNS, content);
-    put_left(&mut line, LABEL_COLUMNS, label);
-    line.push(b'\n');
-    line
-}
 
 /// Returns a line with three lengths, which are given in 0.0001 m and written as F14.4.
 pub(crate) fn three_lengths(a: i64, b: i64, c: i64, label: &[u8]) -> Line

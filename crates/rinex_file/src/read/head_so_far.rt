@@ -12,13 +12,12 @@ use crate::header::lines::{BIASES, END, SHIFT, STRENGTH_UNIT, UNIT, flagged_lett
 use crate::header::lists::{slot_rows, type_rows};
 use crate::header::rows::{HeaderRow, first_types, row_at};
 use crate::header::texts::HeaderTexts;
-use crate::read::other_lines::{
-    read_delta, read_first, read_labelled, read_position, read_texts, read_version,
-};
+use crate::read::other_lines::{read_delta, read_first, read_position, read_texts, read_version};
 use crate::read::parser_state::{Expected, Refusal};
 use crate::read::slots::SlotsSoFar;
 use crate::read::types::TypesSoFar;
 use gnss_obs::{BySystem, GpsTime, StationValues, System};
+use rinex_fields::read_labelled;
 use std::alloc::Global;
 use std::marker::Model;
 

@@ -1,65 +1,24 @@
 //! Lines read back, other than those of satellites, observation types and slots: their fields are
-//! read without validation, written again and compared. And the numbers in the columns of a line.
-ghost use Rattle.std.specs.Prelude.{◌≡◌, ◌↔◌, ◌+◌, ◌≤◌, ◌<◌, ◌^◌, IsTrue, ⊤, ℕ, Some, is_some};
-ghost use Rattle.std.specs.Prelude.{length, take, drop, pos, neg_ℤ, if◌then◌else◌};
+//! read without validation, written again and compared.
+ghost use Rattle.std.specs.Prelude.{◌≡◌, ◌≤◌, ◌<◌, ◌^◌, ⊤, ℕ, Some, is_some, take, drop};
 ghost use Rattle.gnss_obs.specs.Dates.{civil_of};
 ghost use Rattle.gnss_obs.specs.GatheredEpochs.{IsCoordinate};
 ghost use Rattle.rinex_file.specs.FileValues.{IsTime};
-ghost use Rattle.rinex_file.specs.Header.{first_line, header_line, height_line, position_line, version_by};
+ghost use Rattle.rinex_file.specs.Header.{first_line, height_line, position_line, version_by};
 ghost use Rattle.rinex_file.specs.Lines.{epoch_line};
-ghost use Rattle.rinex_file.specs.Read.Fields.{digits_in, number_in, ReadsExactly};
+ghost use Rattle.rinex_fields.specs.Read.{number_in, ReadsExactly};
 ghost use Rattle.rinex_file.specs.Read.HeaderSteps.{ReadsOrRefusesTexts};
 ghost use Rattle.rinex_file.specs.Read.Progress.{IsPosition};
 
 use crate::header::fields::TextRow;
 use crate::header::lines::{
-    DELTA, first_line, labelled, position_line, texts_line, three_lengths, version_by,
+    DELTA, first_line, position_line, texts_line, three_lengths, version_by,
 };
 use crate::header::texts::HeaderTexts;
-use crate::write::line::{Line, epoch_line};
+use crate::write::line::epoch_line;
 use gnss_obs::laws::calendar;
 use gnss_obs::{Civil, GREATEST_COORDINATE, GpsTime, LEAST_COORDINATE, StationValues};
-
-/// Returns whether two texts are byte-identical.
-pub(crate) fn is_same(a: &[u8], b: &[u8]) -> bool
-    ensures { IsTrue result ↔ (a.now ≡ b.now) }
-{
-    a == b
-}
-
-/// Returns the digits of a text as one number; other bytes are skipped.
-pub(crate) fn digits_in(text: &[u8]) -> u64
-    requires { length text.now ≤ 18 }
-    ensures value { result ≡ digits_in text.now }
-    ensures bound { result < 10 ^ 18 }
-    ensures digits { result < 10 ^ length text.now }
-{
-    let mut number = 0;
-    for b in text {
-        if b.is_ascii_digit() {
-            number = number * 10 + (*b - b'0') as u64;
-        }
-    }
-    number
-}
-
-/// Returns a number with this size.
-pub(crate) fn signed(size: u64, has_minus: bool) -> i64
-    requires { size < 10 ^ 18 }
-    ensures { result ≡ (if has_minus then neg_ℤ (pos size) else pos size) }
-{
-    let number = size as i64;
-    if has_minus { -number } else { number }
-}
-
-/// Returns up to `width` columns of a line, from column `from` on, counted from 0.
-pub(crate) fn columns(line: &[u8], from: usize, width: usize) -> &[u8]
-    ensures value { result.now ≡ take width (drop from line.now) }
-    ensures bound { length result.now ≤ width }
-{
-    let rest = &line[from.min(line.len())..];
-    &rest[..width.min(rest.len())]
-}
+use rinex_fields::{Line, columns, digits_in, is_same, signed};
 
 /// Returns the byte in place of the letter of a file's systems, or None for a line that isn't the
 /// first.
@@ -104,14 +63,6 @@ pub(crate) fn read_delta(line: &[u8]) -> Option<u16>
     let height = digits_in(columns(line, 0, 14)).min(65_535) as u16;
     let again = three_lengths(height as i64, 0, 0, DELTA);
     is_same(line, again.as_slice()).then_some(height)
-}
-
-/// Reads the line of this content and this label, or returns None for any other line.
-pub(crate) fn read_labelled(line: &[u8], content: &[u8], label: &[u8]) -> Option<()>
-    requires { length content.now + length label.now ≤ 1000 }
-    ensures { IsTrue (is_some result) ↔ (line.now ≡ header_line content.now label.now) }
-{
-    is_same(line, labelled(content, label).as_slice()).then_some(())
 }
 
 /// Reads the texts of a row, or returns None if the line isn't that of these texts.

@@ -14,14 +14,15 @@ ghost use Rattle.rinex_file.specs.Read.Sound.{AreLinesOf, AreRead, MayBegin};
 
 use crate::read::file::Counts;
 use crate::read::head_so_far::HeadSoFar;
-use crate::read::other_lines::{is_same, read_delta, read_epoch_line, read_position};
+use crate::read::other_lines::{read_delta, read_epoch_line, read_position};
 use crate::read::row::read_row;
 use crate::read::times::{EpochTimes, with_later};
 use crate::values::SatelliteRow;
-use crate::write::line::{Line, event_line};
+use crate::write::line::event_line;
 use arrayvec::ArrayVec;
 use gnss_obs::{GpsTime, StationValues};
 use gnss_system::{BySystem, SYSTEMS, System};
+use rinex_fields::{Line, is_same};
 use std::alloc::Global;
 
 /// The kind of line that is expected next.

@@ -8,9 +8,9 @@ ghost use Rattle.rinex_file.specs.Read.Progress.{AreTypes, types_line, signals_b
 ghost use Rattle.rinex_file.specs.Read.HeaderSteps.{ReadsRow, RefusesRow, TakesTypes, RefusesTypes, HasSignalAt};
 
 use crate::header::lists::{TYPES_IN_LINE, type_rows, types_with};
-use crate::read::other_lines::{columns, digits_in, is_same};
 use crate::read::parser_state::Refusal;
 use gnss_obs::{Signal, Signals, System};
+use rinex_fields::{columns, digits_in, is_same};
 use std::alloc::Global;
 
 /// What was read of the types of a system.

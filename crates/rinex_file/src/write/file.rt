@@ -1,16 +1,17 @@
 //! The text of a file that was read.
 ghost use Rattle.std.specs.Prelude.{◌≡◌, ◌++◌, OnOk, IfOk};
-ghost use Rattle.rinex_file.specs.Numbers.{joined};
+ghost use Rattle.rinex_fields.specs.Numbers.{joined};
 ghost use Rattle.rinex_file.specs.File.{change_lines, file_text};
 ghost use Rattle.rinex_file.specs.Read.Keeping.{HaveRowsRoom, stamped_text};
 
 use crate::header::fault::HeadFault;
 use crate::header::head::Head;
 use crate::values::{ObsFile, StoredEpoch};
-use crate::write::line::{Line, MOST_LINE, epoch_line};
+use crate::write::line::epoch_line;
 use crate::write::satellite::put_values;
 use crate::write::{write_event, write_header};
 use gnss_obs::StationValues;
+use rinex_fields::{Line, MOST_LINE};
 use rtcm_bits::Counted;
 use std::alloc::{AllocError, Global};
 

@@ -1,6 +1,6 @@
-use Rattle.rinex_file.proofs.Digits.Numbers.{ten_pow}
-use Rattle.rinex_file.proofs.Names.{arith, common_steps}
-use Rattle.rinex_file.proofs.write.line.put_fixed.Goals as goal
+use Rattle.rinex_fields.proofs.NumberLemmas.{ten_pow}
+use Rattle.rinex_fields.proofs.Names.{arith, common_steps}
+use Rattle.rinex_fields.proofs.write.put_fixed.Goals as goal
 
 pub nonzero_div-size : goal.nonzero_div-size
 nonzero_div-size c = let h = ten_pow c.args.places in omega (arith, h, c.requires.scale)

@@ -1,5 +1,5 @@
-use Rattle.rinex_file.proofs.Names.{◌≡◌, ◌^◌, ◌<◌, drop, digits_from}
-use Rattle.rinex_file.proofs.read.other_lines.digits_in.Given as goal
+use Rattle.rinex_fields.proofs.Names.{◌≡◌, ◌^◌, ◌<◌, drop, digits_from}
+use Rattle.rinex_fields.proofs.read.digits_in.Given as goal
 
 -- the rest of the text continues the number so far, which has at most one digit for each byte
 abbrev pub invariant-loop-b : goal.invariant-loop-b

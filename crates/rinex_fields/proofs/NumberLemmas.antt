@@ -1,5 +1,5 @@
 -- A number that was written is read back, so its text determines it.
-use Rattle.rinex_file.proofs.Names.{rules, arith, ◌≡◌, ℕ, zero, suc, ◌+◌, ◌-◌, ◌*◌, ◌/◌, ◌%◌, ◌^◌, ◌<◌, ◌≤◌, List, [], ◌∷◌, ◌++◌, length, replicate, decimal, refl, sym, ap, ◌∙◌, Bool, false, append_assoc, length-append, ℤ, pos, unsigned_abs, ◌||◌, ◌==◌, is_negative, sign_text, pow-suc, div-le_self, mod-le, mod-lt, pow-add, div-add-mod', length-replicate, decimal_by_steps, length-decimal-le, right, padded, fixed, next_digit, digits_from, digits_in, has, number_in}
+use Rattle.rinex_fields.proofs.Names.{rules, arith, ◌≡◌, ℕ, zero, suc, ◌+◌, ◌-◌, ◌*◌, ◌/◌, ◌%◌, ◌^◌, ◌<◌, ◌≤◌, List, [], ◌∷◌, ◌++◌, length, replicate, decimal, refl, sym, ap, ◌∙◌, Bool, false, append_assoc, length-append, ℤ, pos, unsigned_abs, ◌||◌, ◌==◌, is_negative, sign_text, pow-suc, div-le_self, mod-le, mod-lt, pow-add, div-add-mod', length-replicate, decimal_by_steps, length-decimal-le, right, padded, fixed, next_digit, digits_from, digits_in, has, number_in}
 
 pub digits_from-append : (n : ℕ) (xs ys : List ℕ) → digits_from n (xs ++ ys) ≡ digits_from (digits_from n xs) ys
 digits_from-append n [] ys = refl

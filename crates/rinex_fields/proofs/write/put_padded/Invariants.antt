@@ -1,5 +1,5 @@
 use Rattle.std.proofs.Common.{◌≡◌, ◌++◌, replicate}
-use Rattle.rinex_file.proofs.write.line.put_padded.Given as goal
+use Rattle.rinex_fields.proofs.write.put_padded.Given as goal
 
 -- this number of zeros was appended
 abbrev pub invariant-loop : goal.invariant-loop

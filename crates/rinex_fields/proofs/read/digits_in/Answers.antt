@@ -1,5 +1,5 @@
-use Rattle.rinex_file.proofs.Names.{arith, ◌^◌, ◌≤◌, ◌<◌, ℕ, pow-le-pow_right, common_steps}
-use Rattle.rinex_file.proofs.read.other_lines.digits_in.Goals as goal
+use Rattle.rinex_fields.proofs.Names.{arith, ◌^◌, ◌≤◌, ◌<◌, ℕ, pow-le-pow_right, common_steps}
+use Rattle.rinex_fields.proofs.read.digits_in.Goals as goal
 
 below : (n i : ℕ) → n < 10 ^ i → i ≤ 18 → n < 10 ^ 18
 below n i small few = let ten : 0 < 10 = omega arith in omega (arith, small, pow-le-pow_right {n = 10} ten {i = i} {j = 18} few)

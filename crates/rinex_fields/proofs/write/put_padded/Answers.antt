@@ -1,5 +1,5 @@
-use Rattle.rinex_file.proofs.Names.{arith, common_steps}
-use Rattle.rinex_file.proofs.write.line.put_padded.Goals as goal
+use Rattle.rinex_fields.proofs.Names.{arith, common_steps}
+use Rattle.rinex_fields.proofs.write.put_padded.Goals as goal
 
 pub push-requires : goal.push-requires
 push-requires g c = grind (arith, common_steps)

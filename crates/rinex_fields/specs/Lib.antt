@@ -1,0 +1,4 @@
+pub mod Limits
+pub mod Numbers
+pub mod HeaderLine
+pub mod Read

@@ -1,0 +1,13 @@
+//! Texts and numbers in the fixed columns of a line of RINEX 3.05, written and read back.
+#![tactic(auto)]
+
+mod header_line;
+mod read;
+mod write;
+
+pub use header_line::{CONTENT_COLUMNS, labelled, read_labelled};
+pub use read::{columns, digits_in, is_same, signed};
+pub use write::{
+    Line, MOST_LINE, SIGNAL_COLUMNS, VALUE_COLUMNS, put, put_fixed, put_left, put_seconds, put_two,
+    put_whole,
+};
