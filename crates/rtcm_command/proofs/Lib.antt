@@ -1,6 +1,4 @@
 pub mod Names
 mod OptionLemmas
-mod CommandLineLemmas
 mod ConvertLemmas
-mod AcceptedLemmas
 mod CommandLemmas

@@ -14,7 +14,7 @@ use Rattle.rtcm_inspect.specs.Listing.{ListsAll, StopsListing}
 use Rattle.rtcm_command.specs.Converting.{IsConverted, StopsConverting}
 use Rattle.rtcm_command.specs.Asked.{ChecksAsked, PrintsOptionsAsked, PrintsSignalsAsked, RefusesDate, RefusesGaps}
 use Rattle.rtcm_command.specs.Asked.{StopsCheckAsked, StopsOptionsAsked, StopsSignalsAsked}
-use Rattle.rtcm_command.specs.CommandLine.{SelectsCommand, FailsParsing, IsCommand}
+use Rattle.command_line.specs.CommandLine.{SelectsCommand, FailsParsing, IsCommand}
 use Rattle.rtcm_inspect.specs.Devices.{AreFine}
 use Rattle.rtcm_inspect.specs.Printing.{PrintsLine, PrintsPart, PrintsSome, PrintsText}
 use Rattle.rtcm_command.specs.Devices.{Ends, HaveFailedBy, IsInspected}
@@ -25,7 +25,7 @@ use Rattle.rtcm_inspect.specs.declared.fault.InspectFault.{InspectFault}
 use Rattle.rtcm_inspect.specs.declared.fault.InspectFault.TheVariants as inspect
 use Rattle.command_faults.specs.declared.fault.ToolFault.{ToolFault}
 use Rattle.command_faults.specs.declared.fault.ToolFault.TheVariants as faults
-use Rattle.rtcm_command.specs.declared.cli.TheConstants.{VERSION}
+use Rattle.command_line.specs.declared.cli.TheConstants.{VERSION}
 
 -- A command other than `convert` completed with these options: the stream was read to its end and listed, its signals
 -- or options were printed, or a file was read back.

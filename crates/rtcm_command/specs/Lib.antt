@@ -1,5 +1,4 @@
 pub mod SetupOptions
-pub mod CommandLine
 pub mod Devices
 pub mod Converting
 pub mod Reports

@@ -14,11 +14,10 @@ ghost use Rattle.rtcm_command.specs.Devices.{of_inspection};
 ghost use Rattle.command_faults.specs.ErrorLines.{error_line, not_text_line};
 ghost use Rattle.rtcm_inspect.specs.Lengths.{longest_interval};
 ghost use Rattle.rtcm_inspect.specs.Printing.{PrintsLine, PrintsSome, PrintsText};
-ghost use Rattle.rtcm_command.specs.declared.cli.TheConstants.{VERSION};
+ghost use Rattle.command_line.specs.declared.cli.TheConstants.{VERSION};
 ghost use Rattle.rtcm_command.specs.Converting.{EndsConverting};
 ghost use Rattle.rtcm_command.specs.SetupOptions.{options_of};
 
-use crate::cli::{VERSION, parse};
 use crate::convert::{report_line, run_convert_with};
 use crate::options::{
     channels_of, forms_of, gaps_of, has_flag, leap_seconds_of, near_of, setup_of, start_week_of,
@@ -27,6 +26,7 @@ use crate::options::{
 use clap::ArgMatches;
 use clap::error::ErrorKind;
 use command_faults::{ToolFault, error_line, exit_status};
+use command_line::{VERSION, drop_matches, parse};
 use rtcm_bits::{Counted, Deliver};
 use rtcm_convert::ConvertOptions;
 use rtcm_inspect::{
@@ -66,7 +66,11 @@ pub fn command<R: Read, W: Deliver, E: Deliver>(
         × IsUntouched reader.old reader.new writer.old writer.new }
 {
     match parse(alloc, words) {
-        Ok(matches) => exit_status(run(alloc, &matches, reader, writer, faults), faults),
+        Ok(matches) => {
+            let status = exit_status(run(alloc, &matches, reader, writer, faults), faults);
+            drop_matches(matches);
+            status
+        }
         Err(error) => answer(alloc, &error, writer, faults),
     }
 }

@@ -1,5 +1,4 @@
-use Rattle.rtcm_command.proofs.CommandLineLemmas.{is_version}
-use Rattle.rtcm_command.proofs.CommandLemmas.{Devices, Served, answered_in_part, failed_to_serve, has_command, refused_at_two, refused_words, served}
+use Rattle.rtcm_command.proofs.CommandLemmas.{Devices, Served, answered_in_part, failed_to_serve, has_command, is_version, refused_at_two, refused_words, served}
 use Rattle.rtcm_command.proofs.Names.{inr, refl, texts}
 use Rattle.rtcm_command.proofs.command.command.Goals as goal
 
@@ -9,8 +8,8 @@ run-requires g c = has_command (texts c.args.words.now) c.in-Ok.matches c.in-Ok.
 pub returns-in-Ok : goal.returns-in-Ok
 returns-in-Ok g c =
     let d : Devices _ _ = record { left = g.R.Read.remaining; held = g.W.Write.contents; waits = g.W.Deliver.waiting; r = c.args.reader.now; r2 = c.run.new.reader; w = c.args.writer.now; w2 = c.run.new.writer } in
-    let s : Served d g.E.Write.contents g.E.Deliver.waiting c.args.faults.now c.run.new.faults c.exit_status.new.faults (texts c.args.words.now) c.in-Ok.matches c.run.result c.exit_status.result = record { is = c.exit_status.ensures.value; line = c.exit_status.ensures.line; found = c.in-Ok.ensures.asked; end = c.run.ensures } in
-    record { status = c.exit_status.ensures.range; good = served c.run.result s; stopped = failed_to_serve c.run.result s; refused = refused_at_two c.run.result s }
+    let s : Served d g.E.Write.contents g.E.Deliver.waiting c.args.faults.now c.run.new.faults c.exit_status-status.new.faults (texts c.args.words.now) c.in-Ok.matches c.run.result c.exit_status-status.result = record { is = c.exit_status-status.ensures.value; line = c.exit_status-status.ensures.line; found = c.in-Ok.ensures.asked; end = c.run.ensures } in
+    record { status = c.exit_status-status.ensures.range; good = served c.run.result s; stopped = failed_to_serve c.run.result s; refused = refused_at_two c.run.result s }
 
 pub returns-in-Err-clause-good : goal.returns-in-Err-clause-good
 returns-in-Err-clause-good g c = λ e. (let good = c.answer.ensures.good e in

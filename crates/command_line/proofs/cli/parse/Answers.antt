@@ -1,7 +1,7 @@
-use Rattle.rtcm_command.proofs.CommandLineLemmas.{is_read, versioned, why}
-use Rattle.rtcm_command.proofs.AcceptedLemmas.{found_command}
-use Rattle.rtcm_command.proofs.Names.{◌≡◌, ◌∙◌, true, inl, inr, map, ap, subst, sym, IfErr-weaker, App, app_of, texts, is_simple_and_free, IsProgram, command_set, with_commands}
-use Rattle.rtcm_command.proofs.cli.parse.Goals as goal
+use Rattle.command_line.proofs.CommandLineLemmas.{is_read, versioned, why}
+use Rattle.command_line.proofs.AcceptedLemmas.{found_command}
+use Rattle.command_line.proofs.Names.{◌≡◌, ◌∙◌, true, inl, inr, map, ap, subst, sym, IfErr-weaker, App, app_of, texts, is_simple_and_free, IsProgram, command_set, with_commands}
+use Rattle.command_line.proofs.cli.parse.Goals as goal
 
 pub returns : goal.returns
 returns c =

@@ -1,5 +1,5 @@
 use Rattle.std.proofs.Common.{refl}
-use Rattle.rtcm_command.proofs.commands.program_rows.Goals as goal
+use Rattle.command_line.proofs.commands.program_rows.Goals as goal
 
 pub returns : goal.returns
 returns c = (_, _, refl, refl, refl)

@@ -1,6 +1,6 @@
-use Rattle.rtcm_command.proofs.CommandLineLemmas.{no_option, one_option_more, simple_given, with_option}
-use Rattle.rtcm_command.proofs.Names.{◌∙◌, get_or, app_of}
-use Rattle.rtcm_command.proofs.cli.with_options.Goals as goal
+use Rattle.command_line.proofs.CommandLineLemmas.{no_option, one_option_more, simple_given, with_option}
+use Rattle.command_line.proofs.Names.{◌∙◌, get_or, app_of}
+use Rattle.command_line.proofs.cli.with_options.Goals as goal
 
 pub loop-row-preserved : goal.loop-row-preserved
 loop-row-preserved c =

@@ -2,8 +2,8 @@
 ghost use Rattle.std.specs.Prelude.{◌≡◌, IfOk, IfErr, map};
 ghost use Rattle.clap.specs.Walk.{rule_of, texts};
 ghost use Rattle.clap.specs.Simple.{app_of, new_app};
-ghost use Rattle.rtcm_command.specs.CommandLine.{IsFoundIn, RefusesWords, command_set, option_set};
-ghost use Rattle.rtcm_command.specs.CommandLine as line;
+ghost use Rattle.command_line.specs.CommandLine.{IsFoundIn, RefusesWords, command_set, option_set};
+ghost use Rattle.command_line.specs.CommandLine as line;
 
 use crate::commands::{CommandRow, OptionRow, program_rows};
 use clap::{Arg, ArgMatches, Command, Error};
@@ -27,6 +27,12 @@ pub fn parse<'a>(alloc: Global, words: &'a [&'a str]) -> Result<ArgMatches<'a>, 
         .subcommand_required(true);
     let program = with_commands(alloc, start, &rows)?;
     program.try_get_matches_from(words)
+}
+
+/// Drops what was found in the words.
+// Here, so that the drop is proved early, with this crate.
+pub fn drop_matches(matches: ArgMatches) {
+    drop(matches);
 }
 
 /// Returns the program with a command for each of these rows.

@@ -1,6 +1,6 @@
 -- Words in which clap's definitions find no fault name a command of the program.
-use Rattle.rtcm_command.proofs.CommandLineLemmas.{is_simple_read}
-use Rattle.rtcm_command.proofs.Names.{◌≡◌, ◌∙◌, ◌&&◌, ◌||◌, ◌++◌, ◌∷◌, [], ℕ, Bool, true, false, not, List, Option, Some, None, Result, Ok, Err, IfOk, is_some, find, fold, inl, inr, refl, sym, subst, ap, codes, if◌then◌else◌, option_map, ⊤, bytes_eq, bytes_eq-Decides, Bor, long_of, short_of, Held, Names, Row, Rule, Step, Text, Waiting, Walk, Outcome, next, trailing, subcommand, value, idle, done, waits, after_flag, after_step, arg_by_index, answers_to, bundle, long_met, arg_by_long, long_or_other, short_or_plain, nothing_held, plain_word, subcommand_met, subcommand_or_other, to_positional, word_met, settled, finished, walk, walk_from, walked, walked_from, Error, ArgMatches, App, HasMatchesOf, Shape, argument_words, built, entered, label_of, names_of, rows_at, subcommand_of, option_map_or, list_any, explicit_source, is_given, FailsBy, Kinds, check_kinds, or_else, settle_fault, defaults_fault, check_fault, entered_fault, is_simple_and_free, fault_of, level_fault, other_fault, step_fault, turn_fault, walk_fault, word_fault, IsCommand, IsFoundIn, IsProgram, program}
+use Rattle.command_line.proofs.CommandLineLemmas.{is_simple_read}
+use Rattle.command_line.proofs.Names.{◌≡◌, ◌∙◌, ◌&&◌, ◌||◌, ◌++◌, ◌∷◌, [], ℕ, Bool, true, false, not, List, Option, Some, None, Result, Ok, Err, IfOk, is_some, find, fold, inl, inr, refl, sym, subst, ap, codes, if◌then◌else◌, option_map, ⊤, bytes_eq, bytes_eq-Decides, Bor, long_of, short_of, Held, Names, Row, Rule, Step, Text, Waiting, Walk, Outcome, next, trailing, subcommand, value, idle, done, waits, after_flag, after_step, arg_by_index, answers_to, bundle, long_met, arg_by_long, long_or_other, short_or_plain, nothing_held, plain_word, subcommand_met, subcommand_or_other, to_positional, word_met, settled, finished, walk, walk_from, walked, walked_from, Error, ArgMatches, App, HasMatchesOf, Shape, argument_words, built, entered, label_of, names_of, rows_at, subcommand_of, option_map_or, list_any, explicit_source, is_given, FailsBy, Kinds, check_kinds, or_else, settle_fault, defaults_fault, check_fault, entered_fault, is_simple_and_free, fault_of, level_fault, other_fault, step_fault, turn_fault, walk_fault, word_fault, IsCommand, IsFoundIn, IsProgram, program}
 use Rattle.clap.specs.declared.error.kind.ErrorKind.TheVariants as kind
 
 -- ---- no kind of error of one step after another

@@ -1,5 +1,5 @@
-use Rattle.rtcm_command.proofs.Names.{◌≡◌, map, take, app_of, command_set, with_commands}
-use Rattle.rtcm_command.proofs.cli.with_commands.Given as goal
+use Rattle.command_line.proofs.Names.{◌≡◌, map, take, app_of, command_set, with_commands}
+use Rattle.command_line.proofs.cli.with_commands.Given as goal
 
 abbrev pub invariant-loop-row : goal.invariant-loop-row
 invariant-loop-row l = app_of l.program ≡ with_commands (app_of l.fn.program) (map command_set (take l.row-index l.fn.rows))

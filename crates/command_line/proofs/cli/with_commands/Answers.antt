@@ -1,6 +1,6 @@
-use Rattle.rtcm_command.proofs.CommandLineLemmas.{no_command, one_command_more, plain_given, with_command}
-use Rattle.rtcm_command.proofs.Names.{◌∙◌, ap, get_or, map, App, app_of, option_set, with_options}
-use Rattle.rtcm_command.proofs.cli.with_commands.Goals as goal
+use Rattle.command_line.proofs.CommandLineLemmas.{no_command, one_command_more, plain_given, with_command}
+use Rattle.command_line.proofs.Names.{◌∙◌, ap, get_or, map, App, app_of, option_set, with_options}
+use Rattle.command_line.proofs.cli.with_commands.Goals as goal
 
 pub loop-row-preserved : goal.loop-row-preserved
 loop-row-preserved c =

@@ -1,8 +1,7 @@
 -- A command after an option or a command is added.
 use Rattle.std.proofs.lemmas.Bool.{and_parts, not-true}
-use Rattle.rtcm_command.proofs.Names.{◌≡◌, ◌+◌, ◌<◌, ◌&&◌, ◌∷◌, [], ℕ, Bool, Result, Ok, Err, IfErr, List, Some, true, false, not, is_some, length, map, take, get_or, inl, inr, refl, sym, subst, ap, ap₂, ◌∙◌, map_more, fold-append, Rule, Text, is_empty, rule_of, App, app_of, built, app_of_fields, is_simple, new_app, on_top, with_rule, with_subcommand, AddsArg, AddsSubcommand, is_free_app, is_simple_and_free, clap_on_literals, FailsBy, HasKind, Kinds, Error, Bor, CommandRow, OptionRow, FailsParsing, RefusesWords, command_set, option_set, program, with_commands, with_options, kind_of, Arg, Command, out-Command}
+use Rattle.command_line.proofs.Names.{◌≡◌, ◌+◌, ◌<◌, ◌&&◌, ◌∷◌, [], ℕ, Bool, Result, Ok, Err, IfErr, List, Some, true, false, not, is_some, length, map, take, get_or, refl, sym, ap, ap₂, ◌∙◌, map_more, fold-append, Rule, Text, is_empty, rule_of, App, app_of, built, app_of_fields, is_simple, new_app, on_top, with_rule, with_subcommand, AddsArg, AddsSubcommand, is_free_app, is_simple_and_free, clap_on_literals, FailsBy, HasKind, Kinds, Error, Bor, CommandRow, OptionRow, command_set, option_set, program, with_commands, with_options, Arg, Command, out-Command}
 use Rattle.clap.specs.declared.builder.value_parser.ValueParser.TheVariants as value
-use Rattle.clap.specs.declared.error.kind.ErrorKind.TheVariants as kind
 use Rattle.clap.specs.declared.builder.action.ArgAction.TheVariants as action
 
 pub second : (a b : Bool) → (a && b) ≡ true → b ≡ true
@@ -89,10 +88,3 @@ pub one_command_more : (a : App) (rows : List CommandRow) (n : ℕ) (d : Command
     ≡ with_commands a (map command_set (take (n + 1) rows))
 one_command_more a rows n d lt =
     sym (ap (with_commands a) (map_more command_set rows n d lt) ∙ fold-append _ a (map command_set (take n rows)) (command_set (get_or rows n d) ∷ []))
-
--- if the error is the version's text, the words ask for the version
-pub is_version : (words : List Text) (e : Error) → RefusesWords words e → kind_of e ≡ kind.DisplayVersion → FailsParsing words kind.DisplayVersion
-is_version words e (inl memory) version =
-    let bad : kind.OutOfMemory ≡ kind.DisplayVersion = sym memory ∙ version in
-    cc
-is_version words e (inr answered) version = subst (FailsParsing words) version answered

@@ -21,8 +21,8 @@ use Rattle.gnss_system.specs.declared.system.System.TheVariants.{Gps, Galileo, G
 use Rattle.gnss_system.specs.Satellites.{name_of}
 use Rattle.gnss_system.specs.Systems.{systems}
 use Rattle.rtcm_scan.specs.Scan.{most_bytes}
-use Rattle.rtcm_command.specs.declared.commands.CommandRow.{CommandRow}
-use Rattle.rtcm_command.specs.declared.commands.OptionRow.{OptionRow}
+use Rattle.command_line.specs.declared.commands.CommandRow.{CommandRow}
+use Rattle.command_line.specs.declared.commands.OptionRow.{OptionRow}
 
 -- ---- options
 

@@ -1,0 +1,3 @@
+pub mod Names
+mod CommandLineLemmas
+mod AcceptedLemmas
