@@ -3,7 +3,7 @@ use Rattle.std.specs.Prelude.{ℕ, List, [], ◌∷◌, codes}
 use Rattle.rtcm_convert.specs.declared.fault.Fault.{Fault}
 use Rattle.rtcm_convert.specs.declared.fault.Fault.TheVariants as convert
 use Rattle.rtcm_inspect.specs.FaultWords.{header_words, inspection_words, plan_words}
-use Rattle.rtcm_inspect.specs.Lines.{line}
+use Rattle.option_texts.specs.Lines.{line}
 use Rattle.command_faults.specs.declared.fault.DateOption.{DateOption}
 use Rattle.command_faults.specs.declared.fault.DateOption.TheVariants as dated
 use Rattle.command_faults.specs.declared.fault.ToolFault.{ToolFault}

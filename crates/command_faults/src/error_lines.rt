@@ -1,7 +1,8 @@
 //! The lines of errors, on standard error.
 ghost use Rattle.std.specs.Prelude.{◌≡◌, ◌+◌, ◌≤◌, length};
 ghost use Rattle.command_faults.specs.ErrorLines.{conversion_word, error_line, error_words};
-ghost use Rattle.rtcm_inspect.specs.Lines.{longest_error, longest_fault_name, longest_start, with_words};
+ghost use Rattle.option_texts.specs.Lines.{with_words};
+ghost use Rattle.rtcm_inspect.specs.Lines.{longest_error, longest_fault_name, longest_start};
 
 use crate::fault::{DateOption, ToolFault};
 use rtcm_convert::Fault;

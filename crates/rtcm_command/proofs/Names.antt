@@ -17,11 +17,11 @@ pub use Rattle.rtcm_command.specs.Asked.{EndsCheck}
 pub use Rattle.command_line.specs.CommandLine.{FailsParsing, IsCommand, IsFoundIn, RefusesWords, SelectsCommand}
 pub use Rattle.rtcm_command.specs.Commands.{AreRefused, AreRefusedBy, EndsCommand, EndsFound, HasCommand, HasCompleted, HasDone, HasPrinted, HasStopped, HasStoppedEarly, HasStoppedPrinting, StopsPrinting}
 pub use Rattle.rtcm_command.specs.Converting.{EndsConversion, EndsConverting, StopsConversion}
-pub use Rattle.rtcm_inspect.specs.ChannelTexts.{channels_of}
-pub use Rattle.rtcm_inspect.specs.Dates.{IsHourOf, IsWeekOf}
+pub use Rattle.option_texts.specs.ChannelTexts.{channels_of}
+pub use Rattle.option_texts.specs.Dates.{IsHourOf, IsWeekOf}
 pub use Rattle.rtcm_command.specs.Devices.{Ends, HaveFailedBy, of_inspection}
 unfoldable pub use Rattle.command_faults.specs.ErrorLines.{error_line}
-pub use Rattle.rtcm_inspect.specs.Lengths.{interval_of, length_below, position_of}
+pub use Rattle.option_texts.specs.Lengths.{interval_of, length_below, position_of}
 pub use Rattle.command_faults.specs.Printing.{PrintsFault}
 pub use Rattle.command_faults.specs.Status.{fault_status, status_of}
 unfoldable pub use Rattle.rtcm_command.specs.Reports.{report_line}
@@ -39,7 +39,7 @@ pub use Rattle.rtcm_convert.specs.declared.fault.Fault.{Fault}
 pub use Rattle.rtcm_convert.specs.declared.fault.Fault.TheVariants.{BadSetup, Failed, Finished, Memory, NoEpoch, Read, TooLong, Write}
 pub use Rattle.rtcm_convert.specs.declared.report.Report.{Report}
 pub use Rattle.rtcm_convert.specs.declared.setup.Setup.{Setup}
-pub use Rattle.rtcm_inspect.proofs.LineLemmas.{add_count, add_text, add_word, end_line}
+pub use Rattle.option_texts.proofs.LineLemmas.{add_count, add_text, add_word, end_line}
 pub use Rattle.rtcm_inspect.proofs.PrintingLemmas.{passed}
 pub use Rattle.rtcm_inspect.specs.Fitting.{height_text, position_text}
 pub use Rattle.rtcm_inspect.specs.Printing.{PrintsLine, PrintsSome}

@@ -21,9 +21,9 @@ use Rattle.rinex_file.specs.Texts.{HeaderLists, trimmed_texts, first_fault, fiel
 use Rattle.gnss_obs.specs.declared.cell.StationValues.{StationValues}
 use Rattle.rtcm_convert.specs.SetupValues.{Start}
 use Rattle.rtcm_convert.specs.declared.setup.Setup.{Setup}
-use Rattle.rtcm_inspect.specs.ChannelTexts.{channels_of}
-use Rattle.rtcm_inspect.specs.Dates.{IsHourOf, IsWeekOf}
-use Rattle.rtcm_inspect.specs.Lengths.{interval_of, length_below, position_of}
+use Rattle.option_texts.specs.ChannelTexts.{channels_of}
+use Rattle.option_texts.specs.Dates.{IsHourOf, IsWeekOf}
+use Rattle.option_texts.specs.Lengths.{interval_of, length_below, position_of}
 use Rattle.command_faults.specs.declared.fault.DateOption.TheVariants as dated
 use Rattle.command_faults.specs.declared.fault.ToolFault.{ToolFault}
 use Rattle.command_faults.specs.declared.fault.ToolFault.TheVariants as faults

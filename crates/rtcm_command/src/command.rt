@@ -12,7 +12,7 @@ ghost use Rattle.rtcm_command.specs.Commands.{AreRefused, EndsFound, HasCommand}
 ghost use Rattle.rtcm_command.specs.Commands.{HasStoppedEarly, HasCompleted, StopsPrinting};
 ghost use Rattle.rtcm_command.specs.Devices.{of_inspection};
 ghost use Rattle.command_faults.specs.ErrorLines.{error_line, not_text_line};
-ghost use Rattle.rtcm_inspect.specs.Lengths.{longest_interval};
+ghost use Rattle.option_texts.specs.Lengths.{longest_interval};
 ghost use Rattle.rtcm_inspect.specs.Printing.{PrintsLine, PrintsSome, PrintsText};
 ghost use Rattle.command_line.specs.declared.cli.TheConstants.{VERSION};
 ghost use Rattle.rtcm_command.specs.Converting.{EndsConverting};

@@ -5,7 +5,7 @@ ghost use Rattle.std.specs.Str.{bytes_eq};
 ghost use Rattle.gnss_obs.specs.SignalLists.{IsDefined};
 ghost use Rattle.obs_epoch.specs.Kinds.{default_leap, is_by_bit};
 ghost use Rattle.rinex_file.specs.TextsOf.{lists_of};
-ghost use Rattle.rtcm_inspect.specs.Lengths.{longest_interval};
+ghost use Rattle.option_texts.specs.Lengths.{longest_interval};
 ghost use Rattle.rtcm_command.specs.SetupOptions.{HasSetupFault, IsNearRefused, IsNearSet, IsNumberOf};
 ghost use Rattle.rtcm_command.specs.SetupOptions.{IsNumberOr, channels_set};
 ghost use Rattle.rtcm_command.specs.SetupOptions.{IsSetupOf, IsWeekRefused, IsWeekSet, gaps_set, has_flag};

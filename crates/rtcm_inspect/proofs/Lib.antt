@@ -1,5 +1,4 @@
 pub mod Names
-pub mod LineLemmas
 mod StreamLemmas
 mod ListingLemmas
 mod ShowLemmas
@@ -18,5 +17,4 @@ mod SkipLemmas
 mod WeekLemmas
 mod OptionLemmas
 mod LengthLemmas
-mod ChannelLemmas
 mod StreamChannelLemmas

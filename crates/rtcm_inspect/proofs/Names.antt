@@ -1,8 +1,7 @@
 -- The names that proofs cite, passed on from one place. Declares nothing.
 pub use Rattle.gnss_obs.specs.GatheredEpochs.{coordinate_bound}
-pub use Rattle.gnss_obs.specs.Dates.{IsCivilOf}
 pub use Rattle.gnss_obs.specs.HeardCells.{HeardCell, IsKey}
-pub use Rattle.gnss_obs.specs.Plans.{below, between_commas, one_signal_more, onto_first, place_in, plan_of, signals_after, signals_of}
+pub use Rattle.gnss_obs.specs.Plans.{below, between_commas, one_signal_more, place_in, plan_of, signals_after, signals_of}
 pub use Rattle.gnss_system.specs.Satellites.{IsSatellite, Satellite, satellite_of_id, satellites}
 pub use Rattle.gnss_system.specs.Systems.{is_system}
 pub use Rattle.gnss_system.specs.Signals.{IsSignal, SignalAt, code_of, signal_of_code, signal_of_id, table}
@@ -52,9 +51,9 @@ unfoldable pub use Rattle.rtcm_inspect.specs.FrameLines.{frame_line, number_word
 unfoldable pub use Rattle.rtcm_inspect.specs.Gaps.{complete_line, gap_line}
 pub use Rattle.rtcm_inspect.specs.Gaps.{AreGapsOf, ReadsGaps, StopsGaps, gap_between, gaps_after, gaps_of, times_if}
 pub use Rattle.rtcm_inspect.specs.Inspected.{inspected, inspected_at, inspected_in, inspected_of}
-pub use Rattle.rtcm_inspect.specs.Lines.{line, with_words}
+pub use Rattle.option_texts.specs.Lines.{line, with_words}
 pub use Rattle.rtcm_inspect.specs.Listing.{EndsListing, Lists, ListsAll, ListsDecided, ListsPart, ListsToLimit, ListsUpTo, StopsListing, WritesLine, listing_line, listing_lines, piece_bytes}
-pub use Rattle.rtcm_inspect.specs.Metres.{four_digits, metres, size_text}
+pub use Rattle.option_texts.specs.Metres.{metres, size_text}
 pub use Rattle.rtcm_inspect.specs.NearWeek.{IsNearestWeek, IsWeekFor, IsWeekNear, half_week}
 pub use Rattle.rtcm_inspect.specs.OptionOutput.{AreOptionsOf, EndsOptions}
 pub use Rattle.rtcm_inspect.specs.Printing.{EndsPrinting, PrintsLine, PrintsText}
@@ -104,27 +103,21 @@ pub use Rattle.rtcm_scan.specs.Results.{framed, new_scan}
 pub use Rattle.rtcm_scan.specs.Scan.{FramerValue, most_bytes}
 pub use Rattle.rtcm_scan.specs.declared.feed.StreamFault.{StreamFault}
 pub use Rattle.std.proofs.KnownBytes.{Appends-kept, Appends-nil, Appends-trans}
-pub use Rattle.std.proofs.lemmas.Bool.{and_from, and_parts, false_from_ne_true, le-leb, le-ltb, lt-leb, lt-ltb, ltb-false, ltb-true, or_parts, or_right, true≢false}
+pub use Rattle.std.proofs.lemmas.Bool.{false_from_ne_true, le-leb, le-ltb, lt-leb, lt-ltb, ltb-false, ltb-true, or_right, true≢false}
 pub use Rattle.std.proofs.lemmas.Bool.Decides.{nat_tests}
-pub use Rattle.std.proofs.lemmas.Fmt.{decimal_digit, decimal_is_IsNumeral, decimal_nonempty, digits_decimal, digits_value-decimal, length-decimal-le}
 pub use Rattle.std.proofs.lemmas.Grind.{common_steps, flat_map-append}
 pub use Rattle.std.proofs.lemmas.Int.{to_z-of_z}
-pub use Rattle.std.proofs.lemmas.List.{drop_at, get_or_append_left, get_or_at, length_push, map-append, take_at}
+pub use Rattle.std.proofs.lemmas.List.{drop_at, map-append}
 pub use Rattle.std.proofs.lemmas.List.Elements.{All-append, All-cons, All-filter, All-head, All-nil, All-tail, filter-append, filter_map-append}
-pub use Rattle.std.proofs.lemmas.List.Folds.{find-append, list_all-append, list_any-append}
-pub use Rattle.std.proofs.lemmas.List.Sums.{AllPass-from_list_all, count_by-le-length, length-filter, position_or_len_is, sum_by-cons}
+pub use Rattle.std.proofs.lemmas.List.Folds.{find-append, list_any-append}
+pub use Rattle.std.proofs.lemmas.List.Sums.{AllPass-from_list_all, count_by-le-length, length-filter, sum_by-cons}
 pub use Rattle.std.proofs.lemmas.Option.{IfSome_then, slice_get-get_or}
 pub use Rattle.std.specs.Io.KnownBytes.{Appends, Keeps}
-pub use Rattle.std.specs.List.{after_first, before_first, cons_option, count_by, flat_map, join_with_byte, list_all, list_any, position_or_len, slice_get}
+pub use Rattle.std.specs.List.{cons_option, count_by, flat_map, join_with_byte, list_all, list_any, position_or_len, slice_get}
 pub use Rattle.std.specs.Option.{option_map, option_map_or, option_or}
-pub use Rattle.std.specs.Prelude.{MatchOption, codes, cond, filter_map, if◌then◌else◌, nat_le, nat_lt, option_and_then, option_to_list, position, unwrap_or, ⊤, ◌↔◌, ◌≢◌}
-pub use Rattle.std.specs.Result.{IsErrAnd, result_ok}
+pub use Rattle.std.specs.Prelude.{codes, cond, filter_map, if◌then◌else◌, nat_le, nat_lt, option_and_then, option_to_list, position, unwrap_or, ⊤, ◌≢◌}
+pub use Rattle.std.specs.Result.{IsErrAnd}
 pub use Rattle.std.specs.Str.{bytes_eq}
 pub use Rattle.std.proofs.Common.{All, Bool, Err, FitsSigned, IfOk, IfSome, List, MatchResult, None, Ok, OnErr, OnOk, Option, Result, Some, [], ap, append-nil, append_assoc, ap₂, arith, count_ones, decimal, drop, false, filter, find, get_or, inl, inr, is_some, length, length-append, length-drop, length-take, map, nat_eq, negsuc, not, of_z, pos, refl, replicate, rules, subst, suc, sym, take, take-append-drop, to_z, true, w64, zero, ℕ, ℤ, ◌&&◌, ◌%◌, ◌*◌, ◌++◌, ◌+◌, ◌-◌, ◌/◌, ◌<◌, ◌==◌, ◌^◌, ◌||◌, ◌∙◌, ◌∷◌, ◌≡◌, ◌≤◌}
 pub use Rattle.gnss_obs.specs.declared.civil.Civil.{Civil}
-pub use Rattle.rinex_fields.specs.Read.{digits_from, digits_in, next_digit}
-pub use Rattle.rtcm_inspect.specs.Dates.{IsHourOf, IsWeekNumber, IsWeekOf, civil_in}
-pub use Rattle.rtcm_inspect.specs.Lengths.{after_byte, coordinate_by, coordinate_of, cut, decimals_of, fixed_by, fixed_point, is_digit, length_below, number_of, position_of}
-pub use Rattle.std.proofs.lemmas.Str.Parse.{IsNumeralModel, digits_value_short, numerals_by_fold, parse_plain}
-pub use Rattle.std.proofs.lemmas.Str.Pattern.{starts_char, strip_prefix_char}
-pub use Rattle.std.specs.Str.Parse.{IsNumeral, ParsesUnsigned, digits_value, signed_digits_value, without_leading_sign}
+pub use Rattle.option_texts.specs.Lengths.{coordinate_by, coordinate_of, cut, length_below, position_of}

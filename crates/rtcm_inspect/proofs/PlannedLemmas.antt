@@ -1,7 +1,8 @@
 -- The plan of the signals of a stream has a column for each of its values, and their line is parsed as that plan.
+use Rattle.option_texts.proofs.LineLemmas.{first_code, is_comma, last_code}
 use Rattle.rtcm_inspect.proofs.SignalLemmas.{any_filter, own_signal}
 use Rattle.gnss_system.specs.declared.tables.ListedSignal as tables
-use Rattle.rtcm_inspect.proofs.Names.{None, if◌then◌else◌, or_parts, lt-ltb, ltb-true, ◌≡◌, ℕ, zero, suc, ◌+◌, ◌<◌, ◌≤◌, ◌==◌, ◌&&◌, ◌||◌, Bool, true, false, not, List, [], ◌∷◌, ◌++◌, length, refl, sym, ap, ap₂, ◌∙◌, subst, arith, filter, map, All, Some, Result, Ok, Err, nat_eq, get_or, append-nil, append_assoc, is_some, ◌≢◌, AllPass-from_list_all, common_steps, list_all, nat_tests, option_map_or, slice_get, slice_get-get_or, cond, nat_lt, position, list_any, position_or_len, bytes_eq, filter-append, list_any-append, System, SignalAt, IsSignal, table, code_of, signal_of_code, PlanFault, RepeatedCode, is_planned, has_listed_key, GatherSetup, HeardCell, IsKey, below, place_in, between_commas, onto_first, one_signal_more, signals_after, signals_of, plan_of, planned_of, is_of_signal, count_of, signal_in, had, plan_had, plan_with, ChannelsValue, code_list, codes_word}
+use Rattle.rtcm_inspect.proofs.Names.{None, if◌then◌else◌, lt-ltb, ltb-true, ◌≡◌, ℕ, zero, suc, ◌+◌, ◌<◌, ◌≤◌, ◌==◌, ◌&&◌, ◌||◌, Bool, true, false, not, List, [], ◌∷◌, ◌++◌, length, refl, sym, ap, ap₂, ◌∙◌, subst, arith, filter, map, All, Some, Result, Ok, Err, nat_eq, get_or, append-nil, append_assoc, is_some, ◌≢◌, AllPass-from_list_all, common_steps, list_all, nat_tests, option_map_or, slice_get, slice_get-get_or, cond, nat_lt, position, list_any, position_or_len, bytes_eq, filter-append, list_any-append, System, SignalAt, IsSignal, table, code_of, signal_of_code, PlanFault, RepeatedCode, is_planned, has_listed_key, GatherSetup, HeardCell, IsKey, below, place_in, between_commas, one_signal_more, signals_after, signals_of, plan_of, planned_of, is_of_signal, count_of, signal_in, had, plan_had, plan_with, ChannelsValue, code_list, codes_word}
 use Rattle.std.proofs.lemmas.List.Folds.{list_any_at}
 use Rattle.gnss_system.specs.Systems.{systems}
 use Rattle.gnss_system.specs.SystemValues.{tabulate, value_of}
@@ -33,9 +34,6 @@ filter-climbs p (suc n) = subst (Climbs 0 (suc n)) (sym (filter-append p (below 
 
 -- ---- codes between commas
 
-abbrev pub is_comma : ℕ → Bool
-is_comma b = b == 44
-
 -- the text begins with a digit or a smaller byte
 abbrev starts_low : List ℕ → Bool
 starts_low [] = false
@@ -61,14 +59,6 @@ no_comma system i within = let h = plain_at system i within in grind (arith, h)
 
 code_low : (system : System) (i : ℕ) → i < length (table system) → starts_low (code_at system i) ≡ true
 code_low system i within = let h = plain_at system i within in grind (arith, h)
-
-pub last_code : (code : List ℕ) → list_any is_comma code ≡ false → between_commas code ≡ code ∷ []
-last_code [] h = refl
-last_code (b ∷ bs) h = let n = or_parts (b == 44) _ h in rw n.0 (ap (onto_first b) (last_code bs n.1))
-
-pub first_code : (code rest : List ℕ) → list_any is_comma code ≡ false → between_commas (code ++ 44 ∷ rest) ≡ code ∷ between_commas rest
-first_code [] rest h = refl
-first_code (b ∷ bs) rest h = let n = or_parts (b == 44) _ h in rw n.0 (ap (onto_first b) (first_code bs rest n.1))
 
 codes_apart : (system : System) (low i : ℕ) (is : List ℕ) → Climbs low (length (table system)) (i ∷ is) → between_commas (code_list system (i ∷ is)) ≡ map (code_at system) (i ∷ is)
 codes_apart system low i [] h = last_code (code_at system i) (no_comma system i h.1)

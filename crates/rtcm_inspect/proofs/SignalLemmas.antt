@@ -3,6 +3,7 @@ use mathlib.Core.Bool.{or-false}
 use Rattle.rtcm_inspect.proofs.Names.{le-ltb, lt-ltb, ltb-false, ltb-true, ◌≡◌, ℕ, zero, suc, ◌+◌, ◌<◌, ◌≤◌, ◌==◌, ◌&&◌, ◌||◌, All, Result, Ok, OnOk, Bool, true, false, List, [], ◌∷◌, ◌++◌, length, get_or, refl, sym, ap, ap₂, ◌∙◌, subst, arith, filter, map, append-nil, append_assoc, map-append, flat_map-append, cond, nat_lt, codes, list_any, All-head, filter-append, length-filter, count_by-le-length, flat_map, join_with_byte, System, table, code_of, below, SignalCountsValue, AreSignalCounts, common_steps, counted, signal_counts, has_any, signal_in, count_of, is_of_signal, had_below, had, code_list, codes_word, count_line, lines_below, IsKey, HeardCell, list_any-append, has_counted}
 use Rattle.gnss_system.specs.Systems.{systems, index_of}
 use Rattle.gnss_system.proofs.SystemLaws.{none_any, some_system}
+use Rattle.option_texts.proofs.LineLemmas.{join-push}
 
 below-more : (i : ℕ) → below (i + 1) ≡ below i ++ i ∷ []
 below-more i = let e : i + 1 ≡ suc i = omega arith in rw e refl
@@ -33,10 +34,6 @@ had_none {cells = cells} {system} {i} {n} h none =
 abbrev pub IsPartly : (start text : List ℕ) (separator : ℕ) (system : System) → List ℕ → Type 0
 IsPartly start text separator system [] = (text ≡ start) × (separator ≡ 0x20)
 IsPartly start text separator system (i ∷ is) = (text ≡ start ++ 0x20 ∷ code_list system (i ∷ is)) × (separator ≡ 0x2C)
-
-pub join-push : (x : List ℕ) (xs : List (List ℕ)) (y : List ℕ) → join_with_byte 0x2C (x ∷ xs ++ y ∷ []) ≡ join_with_byte 0x2C (x ∷ xs) ++ 0x2C ∷ y
-join-push x [] y = refl
-join-push x (z ∷ xs) y = ap (λ (l : List ℕ). x ++ 0x2C ∷ l) (join-push z xs y) ∙ sym (append_assoc x (0x2C ∷ join_with_byte 0x2C (z ∷ xs)) (0x2C ∷ y))
 
 codes-push : (system : System) (i : ℕ) (is : List ℕ) (j : ℕ) → code_list system (i ∷ is ++ j ∷ []) ≡ code_list system (i ∷ is) ++ 0x2C ∷ code_of (signal_in system j)
 codes-push system i is j =

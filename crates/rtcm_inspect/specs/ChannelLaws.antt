@@ -2,7 +2,7 @@
 use Rattle.std.specs.Prelude.{◌≡◌, ℕ, List, Option, Some}
 use Rattle.gnss_obs.specs.Channels.{AreChannels, ChannelsValue}
 use Rattle.rtcm_scan.specs.Frames.{Framed}
-use Rattle.rtcm_inspect.specs.ChannelTexts.{channels_of, channels_text}
+use Rattle.option_texts.specs.ChannelTexts.{channels_of, channels_text}
 use Rattle.rtcm_inspect.specs.StreamChannels.{channels_in}
 
 -- the text of channels is read as these channels

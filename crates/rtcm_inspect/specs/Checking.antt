@@ -17,7 +17,7 @@ use Rattle.rtcm_inspect.specs.declared.fault.InspectFault.{InspectFault}
 use Rattle.rtcm_inspect.specs.declared.fault.InspectFault.TheVariants as faults
 use Rattle.rtcm_inspect.specs.Devices.{IsDelivered, IsUnread}
 use Rattle.rtcm_inspect.specs.DateTexts.{times_lines}
-use Rattle.rtcm_inspect.specs.Lines.{line}
+use Rattle.option_texts.specs.Lines.{line}
 
 -- the numbers of epochs, satellite lines and events of a file
 unfoldable pub check_line : FileValue → List ℕ

@@ -3,15 +3,8 @@ use Rattle.std.specs.Prelude.{ℕ, ◌+◌, ◌*◌, ◌/◌, List, [], ◌∷�
 use Rattle.gnss_obs.specs.Dates.{civil_of}
 use Rattle.gnss_obs.specs.declared.civil.Civil.{Civil}
 use Rattle.rinex_file.specs.declared.read.times.EpochTimes.{EpochTimes}
-use Rattle.rtcm_inspect.specs.Lines.{line}
-use Rattle.rtcm_inspect.specs.Metres.{digit, four_digits}
-
--- the last two or three digits of a number
-abbrev pub two_digits : ℕ → List ℕ
-two_digits n = digit (n / 10) ∷ digit n ∷ []
-
-abbrev pub three_digits : ℕ → List ℕ
-three_digits n = digit (n / 100) ∷ digit (n / 10) ∷ digit n ∷ []
+use Rattle.option_texts.specs.Digits.{four_digits, three_digits, two_digits}
+use Rattle.option_texts.specs.Lines.{line}
 
 -- year, month and day
 abbrev pub date_text : Civil → List ℕ

@@ -17,7 +17,7 @@ use Rattle.rinex_file.specs.declared.read.times.EpochTimes.{EpochTimes}
 use Rattle.rtcm_inspect.specs.Checking.{ChecksPart, check_line}
 use Rattle.rtcm_inspect.specs.DateTexts.{moment_words, times_lines}
 use Rattle.rtcm_inspect.specs.Devices.{IsUnread, ReadFailures}
-use Rattle.rtcm_inspect.specs.Lines.{line}
+use Rattle.option_texts.specs.Lines.{line}
 use Rattle.rtcm_inspect.specs.Printing.{PrintsPart, PrintsText}
 use Rattle.rtcm_inspect.specs.declared.fault.InspectFault.{InspectFault}
 use Rattle.rtcm_inspect.specs.declared.fault.InspectFault.TheVariants as faults

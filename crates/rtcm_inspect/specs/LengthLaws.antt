@@ -4,7 +4,7 @@ use Rattle.std.specs.Option.{option_map_or}
 use Rattle.rtcm_msg.specs.Station.{InRange}
 use Rattle.rtcm_msg.specs.declared.station.StationParts.{StationParts}
 use Rattle.rtcm_inspect.specs.Fitting.{height_text, position_text}
-use Rattle.rtcm_inspect.specs.Lengths.{length_below, position_of}
+use Rattle.option_texts.specs.Lengths.{length_below, position_of}
 
 -- of every station message in range
 abbrev pub ArePositionsRead : Type 0

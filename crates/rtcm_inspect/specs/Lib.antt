@@ -1,16 +1,11 @@
 pub mod Lines
 pub mod FaultWords
-pub mod Metres
 pub mod FrameLines
 pub mod ShowLines
 pub mod Devices
 pub mod Listing
 pub mod ReadBack
 pub mod DateTexts
-pub mod Lengths
-pub mod Dates
-pub mod ChannelTexts
-pub mod LeapSeconds
 pub mod Checking
 pub mod Inspected
 pub mod FirstTows

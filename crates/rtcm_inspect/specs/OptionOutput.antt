@@ -2,18 +2,24 @@
 -- and now has written w'. `near` is the noon of the given date.
 use Rattle.std.specs.Prelude.{◌≡◌, ◌⊎◌, ℕ, ◌<◌, List, [], length, option_map, Option, Some, None, Result}
 use Rattle.std.specs.Io.KnownBytes.{Appends, Consumes, IsAtEnd}
+use Rattle.std.specs.Option.{option_map_or}
 use Rattle.rtcm_bits.specs.Device.{AppendsPrefix, Device, Moves}
 use Rattle.rtcm_scan.specs.Frames.{Framed, frames_of}
+use Rattle.obs_epoch.specs.Kinds.{default_leap}
 use Rattle.rtcm_inspect.specs.Devices.{Ends, IsDelivered, IsUnread}
 use Rattle.rtcm_inspect.specs.FirstMessages.{mixed}
 use Rattle.rtcm_inspect.specs.FirstTows.{first_tow}
 use Rattle.rtcm_inspect.specs.Fitting.{options_text}
-use Rattle.rtcm_inspect.specs.LeapSeconds.{leap_at, leap_near}
+use Rattle.option_texts.specs.LeapSeconds.{leap_at}
 use Rattle.rtcm_inspect.specs.NearWeek.{IsWeekFor}
 use Rattle.rtcm_inspect.specs.SignalOutput.{StopsReading}
 use Rattle.rtcm_inspect.specs.Signals.{set_had, valued_in}
 use Rattle.rtcm_inspect.specs.declared.fault.InspectFault.{InspectFault}
 use Rattle.rtcm_inspect.specs.declared.fault.InspectFault.TheVariants as faults
+
+-- the leap seconds near the noon of a date, or those from 2017 on if none is given
+abbrev pub leap_near : Option ℕ → ℕ
+leap_near near = option_map_or leap_at near default_leap
 
 -- the text is the line of the options that fit these frames
 abbrev pub IsDatedLine : (near wanted : Option ℕ) → List Framed → List ℕ → Type 0

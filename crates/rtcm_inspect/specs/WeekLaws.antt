@@ -6,7 +6,7 @@ use Rattle.rtcm_scan.specs.Frames.{Framed}
 use Rattle.rtcm_msg.specs.declared.number.MsmSet.{MsmSet}
 use Rattle.obs_epoch.specs.Heard.{GatherSetup, heard_in}
 use Rattle.obs_epoch.specs.Times.{Timed, timed}
-use Rattle.rtcm_inspect.specs.Dates.{IsWeekOf}
+use Rattle.option_texts.specs.Dates.{IsWeekOf}
 use Rattle.rtcm_inspect.specs.FirstTows.{first_tow}
 use Rattle.rtcm_inspect.specs.NearWeek.{IsNearestWeek, IsWeekNear, half_week}
 

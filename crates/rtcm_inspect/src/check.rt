@@ -12,13 +12,14 @@ ghost use Rattle.rinex_file.specs.Read.EpochSteps.{HasReadEpochs};
 ghost use Rattle.rtcm_inspect.specs.DateTexts.{longest_times, moment_bytes, moment_words, step_line, time_line};
 ghost use Rattle.rtcm_inspect.specs.DateTexts.{times_lines};
 ghost use Rattle.rtcm_inspect.specs.Gaps.{AreGapsOf, ReadsGaps, StopsGaps, complete_line, gap_between, times_if};
-ghost use Rattle.rtcm_inspect.specs.Lengths.{longest_interval};
+ghost use Rattle.option_texts.specs.Lengths.{longest_interval};
 ghost use Rattle.rtcm_inspect.specs.Printing.{EndsPrinting};
-ghost use Rattle.rtcm_inspect.specs.Lines.{with_words};
+ghost use Rattle.option_texts.specs.Lines.{with_words};
 
 use crate::fault::InspectFault;
-use crate::line::{OutputLine, deliver_waiting, print_text};
+use crate::printing::{deliver_waiting, print_text};
 use gnss_obs::GpsTime;
+use option_texts::OutputLine;
 use rinex_file::{
     Counts, EpochReader, EpochTimes, FileSummary, NextEpoch, check_file, check_file_times,
 };

@@ -6,7 +6,8 @@ ghost use Rattle.rtcm_scan.specs.Scan.{most_bytes};
 ghost use Rattle.rtcm_msg.specs.Station.{InRange};
 ghost use Rattle.rtcm_msg.specs.Numbers.{message_number};
 ghost use Rattle.rtcm_inspect.specs.FrameLines.{frame_line, frame_lines, number_word};
-ghost use Rattle.rtcm_inspect.specs.Lines.{longest_prefix, with_words};
+ghost use Rattle.option_texts.specs.Lines.{with_words};
+ghost use Rattle.rtcm_inspect.specs.Lines.{longest_prefix};
 ghost use Rattle.rtcm_inspect.specs.ShowLines.{fault_words};
 ghost use Rattle.rtcm_msg.specs.Fields.{GivesViewed};
 ghost use Rattle.rtcm_msg.specs.Viewed.{viewed_message};
@@ -15,8 +16,8 @@ ghost use Rattle.rtcm_inspect.specs.ShowLines.{msm_line, show_line, show_lines, 
 ghost use Rattle.rtcm_inspect.specs.Listing.{EndsListing, listing_line, listing_lines};
 
 use crate::fault::InspectFault;
-use crate::line::OutputLine;
 use gnss_system::System;
+use option_texts::OutputLine;
 use rtcm_bits::{BitReader, Counted, Deliver, DeviceFailed};
 use rtcm_msg::{MsgFault, MsmSet, MsmView, StationParts, View, look, look_in};
 use rtcm_scan::{Frame, FrameSink, Framer, MOST_BYTES, ScanFault, laws};

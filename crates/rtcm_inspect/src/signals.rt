@@ -9,11 +9,12 @@ ghost use Rattle.rtcm_inspect.specs.Signals.{count_line, count_lines, signals_te
 
 use crate::counting::read_signals;
 use crate::fault::InspectFault;
-use crate::line::{OutputLine, deliver_waiting, print_text};
+use crate::printing::{deliver_waiting, print_text};
 use arrayvec::ArrayVec;
 use gnss_obs::Signal;
 use gnss_system::{SYSTEMS, System};
 use obs_epoch::SignalCounts;
+use option_texts::OutputLine;
 use rtcm_bits::{Counted, Deliver};
 use std::alloc::Global;
 use std::io::Read;

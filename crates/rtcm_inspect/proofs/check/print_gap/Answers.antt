@@ -1,5 +1,5 @@
 use Rattle.rtcm_inspect.proofs.GapLemmas.{one_gap}
-use Rattle.rtcm_inspect.proofs.LineLemmas.{add_text}
+use Rattle.option_texts.proofs.LineLemmas.{add_text}
 use Rattle.rtcm_inspect.proofs.Names.{◌≡◌, ◌∙◌, ap, arith, length, option_map, refl, subst, EndsPrinting}
 use Rattle.rtcm_inspect.proofs.check.print_gap.Goals as goal
 

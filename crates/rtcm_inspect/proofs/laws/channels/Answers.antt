@@ -1,4 +1,4 @@
-use Rattle.rtcm_inspect.proofs.ChannelLemmas.{channels_read}
+use Rattle.option_texts.proofs.ChannelLemmas.{channels_read}
 use Rattle.rtcm_inspect.proofs.StreamChannelLemmas.{stream_channels}
 use Rattle.rtcm_inspect.proofs.laws.channels.Goals as goal
 

@@ -1,4 +1,4 @@
-use Rattle.rtcm_inspect.proofs.LengthLemmas.{week_read}
+use Rattle.option_texts.proofs.LengthLemmas.{week_read}
 use Rattle.rtcm_inspect.proofs.WeekLemmas.{dated, nearest_printed, one_week}
 use Rattle.rtcm_inspect.proofs.laws.near.Goals as goal
 

@@ -1,0 +1,4 @@
+pub mod Names
+pub mod LineLemmas
+pub mod LengthLemmas
+pub mod ChannelLemmas

@@ -1,0 +1,21 @@
+-- Lines of text.
+use Rattle.std.specs.Prelude.{ℕ, ◌+◌, ◌*◌, List, [], ◌∷◌, ◌++◌}
+use Rattle.std.specs.List.{join_with_byte}
+
+-- the most digits of a number of 64 bits
+abbrev pub longest_number : ℕ
+longest_number = 20
+
+-- Room for a line. The longest is the report of a conversion: 14 names of 90 letters in all, 14 numbers, 27 blanks and
+-- a line feed. The last 2 are spare.
+abbrev pub longest_line : ℕ
+longest_line = 90 + 14 * longest_number + 27 + 1 + 2
+
+-- the words with single blanks between them and a line feed after the last
+abbrev pub line : List (List ℕ) → List ℕ
+line words = join_with_byte 0x20 words ++ 0x0A ∷ []
+
+-- a text followed by these words, each after a blank
+abbrev pub with_words : List ℕ → List (List ℕ) → List ℕ
+with_words text [] = text
+with_words text (w ∷ ws) = with_words (text ++ 0x20 ∷ w) ws

@@ -1,0 +1,13 @@
+//! Lines that are put together from words and numbers; weeks, dates, lengths, intervals and
+//! channels, read from texts of options and written; leap seconds of a date.
+#![tactic(auto)]
+
+mod channel_texts;
+mod leap_seconds;
+mod line;
+mod texts;
+
+pub use channel_texts::{channels_of, channels_text};
+pub use leap_seconds::leap_at;
+pub use line::OutputLine;
+pub use texts::{hour_of, interval_of, length_below, position_of, week_of};

@@ -1,9 +1,0 @@
-use Rattle.rtcm_inspect.specs.ChannelTexts.{channels_text}
-use Rattle.rtcm_inspect.proofs.Names.{◌≡◌, ◌*◌, ◌≤◌, length, take}
-use Rattle.rtcm_inspect.proofs.channel_texts.channels_text.Given as goal
-
-abbrev pub invariant-loop-i : goal.invariant-loop-i
-invariant-loop-i l = record {
-  text : l.line ≡ channels_text (take l.i l.channels);
-  short : length l.line ≤ 6 * l.i;
-}
