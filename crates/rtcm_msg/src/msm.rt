@@ -184,23 +184,38 @@ pub(crate) fn msm_of<G: Grid>(view: &MsmView<'_>) -> Msm<G>
     requires { G.form ≡ view.now.form }
     ensures { result ≡ view.now.msm }
 {
-    let form = view.form();
-    let mut satellites = ArrayVec::new();
-    for i in 0..view.satellites() {
-        satellites.push(form.satellite_number(&view.satellite(form, i)) as u128);
-    }
-    let mut cells = ArrayVec::new();
-    for i in 0..view.cells() {
-        cells.push(form.cell_number(&view.cell(form, i)));
-    }
     Msm {
         system: view.system,
         header: view.header(),
         masks: view.masks(),
-        satellites,
-        cells,
+        satellites: satellite_numbers(view),
+        cells: cell_numbers(view),
         grid: PhantomData,
     }
+}
+
+/// Returns the fields of each satellite of a view in one number.
+fn satellite_numbers(view: &MsmView<'_>) -> ArrayVec<u128, MOST_PAIRS>
+    ensures { result.items ≡ view.now.msm.satellites }
+{
+    let form = view.form();
+    let mut numbers = ArrayVec::new();
+    for i in 0..view.satellites() {
+        numbers.push(form.satellite_number(&view.satellite(form, i)) as u128);
+    }
+    numbers
+}
+
+/// Returns the fields of each cell of a view in one number.
+fn cell_numbers(view: &MsmView<'_>) -> ArrayVec<u128, MOST_PAIRS>
+    ensures { result.items ≡ view.now.msm.cells }
+{
+    let form = view.form();
+    let mut numbers = ArrayVec::new();
+    for i in 0..view.cells() {
+        numbers.push(form.cell_number(&view.cell(form, i)));
+    }
+    numbers
 }
 
 /// Writes an MSM with its message number, with reserved bits of zero.
