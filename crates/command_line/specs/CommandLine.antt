@@ -125,7 +125,8 @@ text name = or_else [] (option name)
 -- the optional texts of the header
 abbrev pub texts : List Rule
 texts =
-    text (codes "run-by") ∷ text (codes "marker") ∷ or_else (codes "GEODETIC") (option (codes "marker-type"))
+    text (codes "run-by") ∷ text (codes "comment") ∷ text (codes "marker") ∷ text (codes "marker-number")
+    ∷ or_else (codes "GEODETIC") (option (codes "marker-type"))
     ∷ text (codes "observer") ∷ text (codes "agency") ∷ text (codes "rec-number") ∷ text (codes "rec-type")
     ∷ text (codes "rec-version") ∷ text (codes "ant-number") ∷ text (codes "ant-type") ∷ []
 

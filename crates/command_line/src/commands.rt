@@ -197,7 +197,9 @@ const CONVERT: CommandRow<'static> = CommandRow {
              fault";
         // The texts of the header, other than the date: printable ASCII.
         "run-by", "TEXT", false, &[""], TEXT, Set, "Who runs the program, 20 columns";
+        "comment", "TEXT", false, &[""], TEXT, Set, "A comment, 60 columns";
         "marker", "TEXT", false, &[""], TEXT, Set, "Name of the marker, 60 columns";
+        "marker-number", "TEXT", false, &[""], TEXT, Set, "Its number, 20 columns";
         "marker-type", "TEXT", false, &["GEODETIC"], TEXT, Set, "Its type, 20 columns";
         "observer", "TEXT", false, &[""], TEXT, Set, "Name of the observer, 20 columns";
         "agency", "TEXT", false, &[""], TEXT, Set, "Observer's agency, 40 columns";

@@ -169,6 +169,8 @@ const TEXTS: Texts<'static> = Texts {
     run_by: "",
     date: "20240204 000001 UTC",
     marker: "",
+    marker_number: "",
+    comment: "",
     marker_type: "GEODETIC",
     observer: "",
     agency: "",

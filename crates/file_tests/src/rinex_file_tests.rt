@@ -7,6 +7,7 @@ mod events;
 mod faults;
 mod fields;
 mod long;
+mod optional;
 mod parts;
 mod pieces;
 mod reading;
@@ -34,6 +35,8 @@ const TEXTS: Texts<'static> = Texts {
     run_by: "",
     date: "20240204 000001 UTC",
     marker: "",
+    marker_number: "",
+    comment: "",
     marker_type: "GEODETIC",
     observer: "",
     agency: "",
@@ -146,6 +149,7 @@ fn is_header_under(plan: &Plan, first: GpsTime, lines: &[(usize, &str)]) -> bool
     match HeaderTexts::new(&OWN_TEXTS) {
         Ok(texts) => {
             let head = Head {
+                interval: None,
                 texts: &texts,
                 plan,
                 values: VALUES,

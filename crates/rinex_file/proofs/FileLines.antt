@@ -1,5 +1,4 @@
 -- The lines of a file value are lines, and none is longer than the largest line that is read.
-use Rattle.rinex_file.specs.File.{lines_of_parts as lines_of_file}
 use Rattle.rinex_file.proofs.Rows.Sizes.{small_value, length-value, strength_fits, few_numbers}
 use Rattle.rinex_file.proofs.Rows.Trimmed.{filled, length-trimmed}
 use Rattle.rinex_fields.proofs.NumberLemmas.{has-append, has-right, lacks-padded, length-right, length-padded}
@@ -7,7 +6,7 @@ use Rattle.rinex_file.proofs.FewRows.{few_most, few_rows}
 use Rattle.rinex_file.proofs.PlainTexts.{clean-fixed, IsPlain, plain-append, plain-padded, plain, plain-flat_map, plain-joined, also}
 use Rattle.rinex_file.proofs.Reading.Epochs.{few_signals_of}
 use Rattle.rinex_file.proofs.HeaderRows.Plain.{IsFileLine, as_line, of_80, whole_field, second_field, no_letter, IsShort, short_time, line_of_position, line_of_delta, lines_of_header}
-use Rattle.rinex_file.proofs.Names.{arith, lit≤, ◌≡◌, ◌∙◌, ap, refl, sym, subst, ℕ, ◌+◌, ◌*◌, ◌^◌, ◌<◌, ◌≤◌, ℤ, pos, false, Option, Some, None, IfSome, List, [], ◌∷◌, ◌++◌, length, replicate, decimal, get_or, append_assoc, ◌==◌, ◌||◌, map, flat_map, All, codes, AllByRecursion, or_parts, All-nil, All-head, All-tail, All-cons, All-append, All-map, satellites, System, StationValues, Civil, civil_of, PlanValue, trimmed, IsLine, event_line, stamped_lines, change_lines, file_lines, AreTexts, IsPlan, AreValues, FitsColumns, AreSignalValues, IsRow, IsSatelliteRow, IsStamped, IsChange, AreChanges, IsFileValue, changed_by, planned_in, header_lines, position_line, delta_line, epoch_line, field, lli_byte, strength_byte, signal_text, letter, row_text, satellite_line, joined, right, padded, fixed, has, HeaderLists, SignalValues, Row, SatelliteRow, Stamped, FileValue, most_line, most_signals, number_of}
+use Rattle.rinex_file.proofs.Names.{arith, lit≤, ◌≡◌, ◌∙◌, ap, refl, sym, subst, ℕ, ◌+◌, ◌*◌, ◌^◌, ◌<◌, ◌≤◌, ℤ, pos, false, Option, Some, None, IfSome, List, [], ◌∷◌, ◌++◌, length, replicate, decimal, get_or, append_assoc, ◌==◌, ◌||◌, map, flat_map, All, codes, AllByRecursion, or_parts, All-nil, All-head, All-tail, All-cons, All-append, All-map, satellites, System, StationValues, Civil, civil_of, trimmed, IsLine, event_line, stamped_lines, change_lines, file_lines, FitsColumns, AreSignalValues, IsRow, IsSatelliteRow, IsStamped, IsChange, AreChanges, IsFileValue, changed_by, planned_in, header_lines, position_line, delta_line, epoch_line, field, lli_byte, strength_byte, signal_text, letter, row_text, satellite_line, joined, right, padded, fixed, has, SignalValues, Row, SatelliteRow, Stamped, FileValue, most_line, most_signals, number_of, lines_of_parts, shown_of}
 
 -- ---- epochs
 
@@ -113,16 +112,16 @@ lines_of_epochs signals v (e ∷ es) are changes few =
     All-append IsFileLine (stamped_lines e) (flat_map stamped_lines es) (lines_of_stamped signals v e (All-head (IsStamped signals) e es are) changes.0 few)
     (lines_of_epochs signals (changed_by v e.change) es (All-tail (IsStamped signals) e es are) changes.1 few)
 
-file_lines_are : {x : HeaderLists} {p : PlanValue} {v : StationValues} (es : List Stamped) → AreTexts x → IsPlan p → AreValues v
-    → All (IsStamped (planned_in p)) es → AreChanges v es → All IsFileLine (lines_of_file x p v es)
-file_lines_are [] texts plan values are changes = All-nil IsFileLine
-file_lines_are {x} {p} {v} (e ∷ es) texts plan values are changes =
-    let first = All-head (IsStamped (planned_in p)) e es are in
-    All-append IsFileLine (header_lines x p v (civil_of e.time)) (flat_map stamped_lines (e ∷ es)) (lines_of_header x p v (civil_of e.time) texts plan values (short_time e.time first.time))
-    (lines_of_epochs (planned_in p) v (e ∷ es) are changes (few_signals_of p plan))
+file_lines_are : (v : FileValue) (es : List Stamped) → IsFileValue v → All (IsStamped (planned_in v.plan)) es → AreChanges v.values es → All IsFileLine (lines_of_parts (shown_of v 0) es)
+file_lines_are v [] is are changes = All-nil IsFileLine
+file_lines_are v (e ∷ es) is are changes =
+    let first = All-head (IsStamped (planned_in v.plan)) e es are in
+    let h = shown_of v e.time in
+    All-append IsFileLine (header_lines h) (flat_map stamped_lines (e ∷ es)) (lines_of_header h (record { texts = is.texts; interval = is.interval; plan = is.plan; values = is.values; first = first.time }))
+    (lines_of_epochs (planned_in v.plan) v.values (e ∷ es) are changes (few_signals_of v.plan is.plan))
 
 all_are : (v : FileValue) → IsFileValue v → All IsFileLine (file_lines v)
-all_are v is = file_lines_are v.epochs is.texts is.plan is.values is.epochs is.changes
+all_are v is = file_lines_are v v.epochs is is.epochs is.changes
 
 pub lines_are_lines : (v : FileValue) → IsFileValue v → All IsLine (file_lines v)
 lines_are_lines v is = λ k d h. (all_are v is k d h).line

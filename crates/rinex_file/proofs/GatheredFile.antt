@@ -215,6 +215,7 @@ gathered_file texts plan e es x p h some =
     let seen = all_seen plan e h.each.0 systems 0 (row_in_epoch plan e.epoch Gps 0) (subst (λ n. 0 < n) (sym (length-rows plan e.epoch)) some.0) in
     record {
       texts = x;
+      interval = tt;
       plan = record { listed = p.listed; apart = p.apart; some = (_, seen.planned); channels = p.channels; unplanned = p.unplanned };
       values = values_fit e.values h.each.0.values;
       some = omega arith;

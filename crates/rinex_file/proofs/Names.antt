@@ -23,20 +23,20 @@ pub use Rattle.gnss_system.specs.declared.system.System.TheVariants.{Gps}
 pub use Rattle.memchr.specs.Find.{IsFirstByte, is_byte}
 pub use Rattle.rtcm_bits.specs.Prefix.{IsPrefix}
 pub use Rattle.rinex_file.specs.Accepted.{AreBegunWith, AreEpochsRead, AreFirstEpochs}
-pub use Rattle.rinex_file.specs.Begun.{AreBegun, IsEventBegun, lines_of_header, part_lines, whole_lines}
+pub use Rattle.rinex_file.specs.Begun.{AreBegun, IsEventBegun, part_lines, whole_lines}
 unfoldable pub use Rattle.rinex_file.specs.Blanks.{trimmed}
 pub use Rattle.rinex_file.specs.Blanks.{IsEnded, before_cut, filled_to}
 pub use Rattle.rinex_file.specs.Blocks.{AreMoved, LeavesRest, LinesRead, MovesBytes, last_line}
 pub use Rattle.rinex_file.specs.Counting.{IsSummary, IsTextWith}
 pub use Rattle.rinex_file.specs.Exact.{AreBefore, ExplainsFault, IsCutShort, IsExpectedAt, IsFaulty, IsFound, IsLine, IsNoFault, IsReadOr, IsTextOf, IsTooLong, NoFileBegins, most_lines}
-unfoldable pub use Rattle.rinex_file.specs.File.{epoch_text, event_line, event_text, header_text, line_among, lines_up_to}
-pub use Rattle.rinex_file.specs.File.{change_lines, change_text, closed_text, event_lines, file_lines, file_text, gathered, line_or_none, lines_of_parts, stamped_lines}
+unfoldable pub use Rattle.rinex_file.specs.File.{epoch_text, event_line, event_text, line_among, shown_text, lines_up_to}
+pub use Rattle.rinex_file.specs.File.{shown_of, change_lines, change_text, header_text, closed_text, event_lines, file_lines, file_text, gathered, line_or_none, lines_of_parts, stamped_lines}
 pub use Rattle.rinex_file.specs.File.{lines_of_systems}
-pub use Rattle.rinex_file.specs.FileValues.{AreChanges, AreSatelliteRows, AreSignalValues, AreTexts, AreValues, FitsColumns, HaveRoom, IsChange, IsFileValue, IsFirstSame, IsFrom, IsPlan, IsRow, IsSatelliteRow, IsStamped, IsText, IsTime, changed_by, has_some_value, most_rows, planned_in, rank_of, time_stamped, values_following}
+pub use Rattle.rinex_file.specs.FileValues.{IsInterval, AreChanges, AreSatelliteRows, AreSignalValues, AreTexts, AreValues, FitsColumns, HaveRoom, IsChange, IsFileValue, IsFirstSame, IsFrom, IsPlan, IsRow, IsSatelliteRow, IsStamped, IsText, IsTime, changed_by, has_some_value, most_rows, planned_in, rank_of, time_stamped, values_following}
 pub use Rattle.rinex_file.specs.Gathered.{AreSignals, HasSatellite}
 unfoldable pub use Rattle.rinex_file.specs.Header.{header_lines, row_line}
 unfoldable pub use Rattle.rinex_fields.specs.HeaderLine.{header_line}
-pub use Rattle.rinex_file.specs.Header.{all_rows, codes_of, delta_line, biases_line, end_line, flagged_letter, first_line, first_types, has_line, height_line, is_planned, letter_of, lengths, lines_from, most_type_rows, position_line, row_at, row_count, row_lines, row_place, slots_line, slots_with, strength_line, systems_letter, text_columns, texts_line, type_columns, type_front, type_line, type_of, type_rows, types_of, version_fields, version_by, version_line}
+pub use Rattle.rinex_file.specs.Header.{interval_line, is_given, is_optional, Shown, all_rows, codes_of, delta_line, biases_line, end_line, flagged_letter, first_line, first_types, has_line, height_line, is_planned, letter_of, lengths, lines_after, lines_before, most_type_rows, position_line, row_at, row_count, row_lines, row_place, slots_line, slots_with, strength_line, systems_letter, text_columns, texts_line, type_columns, type_front, type_line, type_of, type_rows, types_of, version_fields, version_by, version_line}
 pub use Rattle.rinex_fields.specs.Limits.{most_line}
 unfoldable pub use Rattle.rinex_file.specs.Lines.{epoch_line, field, satellite_line, signal_text}
 pub use Rattle.rinex_file.specs.Lines.{epoch_fields, lli_byte, row_text, strength_byte}
@@ -44,17 +44,17 @@ pub use Rattle.rinex_fields.specs.Numbers.{fixed, joined, left, padded, right}
 pub use Rattle.rinex_file.specs.ParserState.{FollowsHistory, GoesOnWithLine, History, IsLast, IsNext, RefusesLine, ShowsLine, TakesLine, changes_of, events_in, nothing, progress_at, rows_in, stamped_at, with_line}
 pub use Rattle.rinex_file.specs.Read.EpochSteps.{HasReadTo, IsSummaryOf}
 pub use Rattle.rinex_fields.specs.Read.{ReadsExactly, digits_in, has, number_in, some_if}
-pub use Rattle.rinex_file.specs.Read.HeaderSteps.{AreSlotsBefore, EndsHeader, IsLineOfSlots, SlotsFollow, TakesOrRefusesSlots, TakesSlots, with_slots, GoesOn, GoesTo, HasSignalAt, IsHeaderLineRead, IsOnly, NoneGoesOn, ReadsOrRefuses, ReadsOrRefusesTexts, ReadsTexts, RefusesHeaderLine, RefusesTexts, RefusesTypes, SameFrom, StepsTo, Takes, TakesHeaderLine, TakesTypes, begins_with, expected_if, if_fine, known_line, texts_in, with_first, with_letter, with_texts, with_types, with_values}
+pub use Rattle.rinex_file.specs.Read.HeaderSteps.{AreSlotsBefore, EndsHeader, IsLineOfSlots, SlotsFollow, TakesOrRefusesSlots, TakesSlots, with_slots, GoesOn, GoesTo, HasSignalAt, IsHeaderLineRead, IsOnly, NoneGoesOn, ReadsOrRefuses, ReadsOrRefusesTexts, ReadsTexts, RefusesHeaderLine, RefusesTexts, RefusesTypes, SameFrom, StepsTo, Takes, TakesHeaderLine, TakesTypes, begins_with, has_label, row_label, with_interval, expected_if, if_fine, known_line, texts_in, with_first, with_letter, with_texts, with_types, with_values}
 unfoldable pub use Rattle.rinex_file.specs.Read.Keeping.{stamped_text}
 pub use Rattle.rinex_file.specs.Read.Keeping.{HasReadWhole, HasRoom, HaveRowsRoom, Stores, history_of}
 unfoldable pub use Rattle.rinex_file.specs.Read.Progress.{HasLinesLeft}
-pub use Rattle.rinex_file.specs.Read.Progress.{AreSameTexts, AreSized, AreTypes, AreTypesOf, AreValid, Has, HasRow, IsAt, IsAtEpoch, IsHeadAt, IsInEpoch, IsInEvent, IsInHeader, IsPosition, IsShown, Known, Progress, Shown, StartsAt, counted, fits, is_chosen, shown_of, types_before, begun_at, epoch_after, expected_next, file_with, lines_after, lines_before, position_of, shown_line, shown_rows, shown_with, signals_begun, stamped, types_line, with_epoch, with_row, AreSameSlots, AreSlotsAt, AreSlotsRead, known_slots, slots_before}
+pub use Rattle.rinex_file.specs.Read.Progress.{AreUnread, AreSameTexts, AreSized, AreTypes, AreTypesOf, AreValid, Has, HasRow, IsAt, IsAtEpoch, IsHeadAt, IsInEpoch, IsInEvent, IsInHeader, IsPosition, IsShown, Known, Progress, StartsAt, counted, fits, is_chosen, types_before, begun_at, epoch_after, expected_next, file_with, position_of, shown_with, signals_begun, stamped, types_line, with_epoch, with_row, AreSameSlots, AreSlotsAt, AreSlotsRead, known_slots, slots_before}
 pub use Rattle.rinex_file.specs.Read.Row.{AreEntries, IsRowOf}
 pub use Rattle.rinex_file.specs.Read.Sound.{AreLinesAt, AreLinesOf, AreRead, HasReadLines, IsBegun, IsEventExpected, IsSound, IsSoundAt, MayBegin, values_now}
 pub use Rattle.rinex_file.specs.Read.Steps.{HasRead, IsTaken, IsTextOfOnly, IsWhole, ReadsNextLine, file_at}
 pub use Rattle.rinex_file.specs.Slots.{AreSlots, SlotNumber, channel_text, last_slot, slot_rows, slot_text, slots_columns, slots_front, slots_in_line, slots_of}
 pub use Rattle.rinex_file.specs.Rows.{AreApart, HasColumns, IsBlankBut, values_at}
-pub use Rattle.rinex_file.specs.Texts.{HeaderLists, fault_of, fields, fields_of, first_fault, front_of, is_printable, label_of, place_of, text_count, text_of, text_row_index, text_rows, trimmed_texts, width_of}
+pub use Rattle.rinex_file.specs.Texts.{HeaderLists, fault_of, fields, fields_of, first_fault, front_of, has_row, has_text, is_required, is_printable, label_of, place_of, text_count, text_of, trimmed_texts, width_of}
 pub use Rattle.rinex_file.specs.TextsOf.{lists_of}
 pub use Rattle.rinex_file.specs.Times.{AreTimes, AreTimesOrNone, steps_of}
 pub use Rattle.rinex_file.specs.Value.{FileValue, Row, SatelliteRow, SignalValues, Stamped, all_stamped, change_from, entries_of, is_of_key, no_signal_values, numbers, row_among, row_in_epoch, row_of, rows_of, satellite_row, signal_values_at, signal_values_of, stamped_after, stamped_of, written_satellites}
@@ -62,9 +62,8 @@ pub use Rattle.rinex_file.specs.Words.{AreBelow, AreWithin, blanks, digit_column
 pub use Rattle.rinex_file.specs.declared.header.fault.HeadFault.{HeadFault}
 pub use Rattle.rinex_file.specs.declared.header.fields.HeaderField.{HeaderField}
 pub use Rattle.rinex_file.specs.declared.header.fields.HeaderField.TheVariants.{AntType}
-pub use Rattle.rinex_file.specs.declared.header.fields.TextRow.{TextRow}
 pub use Rattle.rinex_file.specs.declared.header.rows.HeaderRow.{HeaderRow}
-pub use Rattle.rinex_file.specs.declared.header.rows.HeaderRow.TheVariants.{Biases, Delta, End, First, Position, Shift, Slots, StrengthUnit, Texts, Types, Version}
+pub use Rattle.rinex_file.specs.declared.header.rows.HeaderRow.TheVariants.{Biases, Delta, End, First, Interval, Position, Shift, Slots, StrengthUnit, Texts, Types, Version}
 pub use Rattle.rinex_file.specs.declared.read.parser_state.AddedRow.{AddedRow}
 pub use Rattle.rinex_file.specs.declared.read.parser_state.AddedRow.TheVariants.{LastRow, NoRow, OneRow}
 pub use Rattle.rinex_file.specs.declared.read.parser_state.Expected.{Expected}

@@ -31,11 +31,8 @@ pub record IsPartOfNext (h : Shown) (es : List Stamped) (e : Stamped) : Type 0 w
   pub change : IsChange (values_following h.values es) e.change
   pub same : es ≡ [] → e.change ≡ None
 
-abbrev pub lines_of_header : Shown → List (List ℕ)
-lines_of_header h = header_lines h.texts h.plan h.values (civil_of h.first)
-
 abbrev pub whole_lines : Shown → List Stamped → List (List ℕ)
-whole_lines h es = lines_of_header h ++ flat_map stamped_lines es
+whole_lines h es = header_lines h ++ flat_map stamped_lines es
 
 -- the lines of an epoch of n satellites, up to those that it has
 abbrev pub part_lines : Stamped → ℕ → List (List ℕ)
@@ -47,7 +44,7 @@ pub record IsHeaderBegun (lines : List (List ℕ)) : Type 0 where
   pub left : List (List ℕ)
   pub is : IsShown h
   pub some : 0 < length left
-  pub are : lines_of_header h ≡ lines ++ left
+  pub are : header_lines h ≡ lines ++ left
 
 -- a header and whole epochs
 pub record IsBetweenEpochs (lines : List (List ℕ)) : Type 0 where

@@ -7,16 +7,21 @@ use Rattle.gnss_obs.specs.declared.cell.StationValues.{StationValues}
 use Rattle.gnss_obs.specs.Values.{EpochValue, PlanValue, Closed, same_values, cells_of, is_written}
 use Rattle.gnss_obs.specs.Dates.{civil_of}
 use Rattle.rinex_file.specs.Texts.{HeaderLists}
-use Rattle.rinex_file.specs.Value.{Stamped, FileValue, stamped_of, all_stamped, row_among, row_in_epoch}
+use Rattle.rinex_file.specs.Value.{Stamped, FileValue, file_with, stamped_of, all_stamped, row_among, row_in_epoch}
 use Rattle.rinex_file.specs.Value.{written_satellites}
 use Rattle.gnss_obs.specs.declared.cell.Cell.{Cell}
-use Rattle.rinex_file.specs.Header.{header_lines, position_line, delta_line}
+use Rattle.rinex_file.specs.Header.{Shown, header_lines, position_line, delta_line}
 use Rattle.rinex_file.specs.Lines.{epoch_line, satellite_line}
 use Rattle.rinex_fields.specs.Numbers.{joined}
 
--- the header of a file whose first epoch is at this time
-unfoldable pub header_text : HeaderLists → PlanValue → StationValues → ℕ → List ℕ
-header_text texts plan values first = joined (header_lines texts plan values (civil_of first))
+-- the text of a header
+unfoldable pub shown_text : Shown → List ℕ
+shown_text h = joined (header_lines h)
+
+-- the header without an interval of a file whose first epoch is at this time
+abbrev pub header_text : HeaderLists → PlanValue → StationValues → ℕ → List ℕ
+header_text texts plan values first =
+    shown_text (record { texts = texts; interval = None; plan = plan; values = values; first = first })
 
 -- the first line of an event: flag 4 without a time, and 2, the number of header lines that follow
 unfoldable pub event_line : List ℕ
@@ -58,14 +63,19 @@ lines_up_to plan epoch system most =
 abbrev pub lines_of_systems : PlanValue → EpochValue → List System → List ℕ
 lines_of_systems plan epoch ss = flat_map (λ s. lines_up_to plan epoch s (satellites s)) ss
 
--- header and epochs; nothing if there is no epoch
-abbrev pub lines_of_parts : HeaderLists → PlanValue → StationValues → List Stamped → List (List ℕ)
-lines_of_parts x p v [] = []
-lines_of_parts x p v (e ∷ es) = header_lines x p v (civil_of e.time) ++ flat_map stamped_lines (e ∷ es)
+-- the contents of the header of a file whose first epoch is at this time
+abbrev pub shown_of : FileValue → ℕ → Shown
+shown_of v first =
+    record { texts = v.texts; interval = v.interval; plan = v.plan; values = v.values; first = first }
+
+-- the header with the time of the first epoch, and the epochs; nothing if there is no epoch
+abbrev pub lines_of_parts : Shown → List Stamped → List (List ℕ)
+lines_of_parts h [] = []
+lines_of_parts h (e ∷ es) = header_lines (record h { first = e.time }) ++ flat_map stamped_lines (e ∷ es)
 
 -- the lines of a file value
 abbrev pub file_lines : FileValue → List (List ℕ)
-file_lines v = lines_of_parts v.texts v.plan v.values v.epochs
+file_lines v = lines_of_parts (shown_of v 0) v.epochs
 
 -- the text of a file value
 abbrev pub file_text : FileValue → List ℕ
@@ -86,7 +96,7 @@ closed_text plan before (c ∷ cs) =
 -- the file value of epochs that were closed, with these station values in the header
 abbrev pub gathered : HeaderLists → PlanValue → StationValues → List Closed → FileValue
 gathered texts plan values epochs =
-    record { texts = texts; plan = plan; values = values; epochs = all_stamped plan values epochs }
+    file_with texts None plan values (all_stamped plan values epochs)
 
 -- The header of the first epoch and the text of each epoch after it are the text of the file of these epochs.
 abbrev pub IsTextInParts : HeaderLists → PlanValue → StationValues → Closed → List Closed → Type 0

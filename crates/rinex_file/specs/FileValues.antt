@@ -50,6 +50,10 @@ pub record AreValues (v : StationValues) : Type 0 where
   pub z : IsCoordinate v.z
   pub height : v.height < 2 ^ 16
 
+-- an interval in milliseconds: at most a day
+abbrev pub IsInterval : ℕ → Type 0
+IsInterval interval = (1 ≤ interval) × (interval ≤ 86_400_000)
+
 abbrev pub IsTime : ℕ → Type 0
 IsTime t = t < weeks * week
 
@@ -149,6 +153,7 @@ IsFirstSame (e ∷ es) = e.change ≡ None
 
 pub record IsFileValue (v : FileValue) : Type 0 where
   pub texts : AreTexts v.texts
+  pub interval : IfSome v.interval IsInterval
   pub plan : IsPlan v.plan
   pub values : AreValues v.values
   pub some : 0 < length v.epochs

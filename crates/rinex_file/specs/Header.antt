@@ -1,6 +1,6 @@
 -- The lines of a header, RINEX 3.05, table A2: content in columns 1 to 60, the label from column 61 on.
-use Rattle.std.specs.Prelude.{ℕ, zero, suc, ℤ, pos, ◌+◌, ◌*◌, ◌/◌, ◌==◌, if◌then◌else◌, List, [], ◌∷◌, ◌++◌, length}
-use Rattle.std.specs.Prelude.{take, drop, map, flat_map, replicate, decimal, codes, get_or, Bool, true, false, nat_lt}
+use Rattle.std.specs.Prelude.{ℕ, zero, suc, ℤ, pos, ◌+◌, ◌*◌, ◌/◌, ◌==◌, if◌then◌else◌, List, [], ◌∷◌, ◌++◌}
+use Rattle.std.specs.Prelude.{Option, is_some, unwrap_or, length, not, take, drop, map, flat_map, replicate, decimal, codes, get_or, Bool, true, false, nat_lt}
 use Rattle.std.specs.List.{filter}
 use Rattle.gnss_system.specs.Satellites.{letter}
 use Rattle.gnss_system.specs.Systems.{systems, index_of}
@@ -9,18 +9,27 @@ use Rattle.gnss_system.specs.declared.system.System.{System}
 use Rattle.gnss_system.specs.declared.system.System.TheVariants.{Glonass}
 use Rattle.gnss_obs.specs.declared.cell.StationValues.{StationValues}
 use Rattle.gnss_obs.specs.declared.civil.Civil.{Civil}
+use Rattle.gnss_obs.specs.Dates.{civil_of}
 use Rattle.gnss_obs.specs.Values.{PlanValue, planned_of}
 use Rattle.rinex_file.specs.declared.header.fields.HeaderField.{HeaderField}
-use Rattle.rinex_file.specs.declared.header.fields.TextRow.{TextRow}
 use Rattle.rinex_file.specs.declared.header.rows.HeaderRow.{HeaderRow}
 use Rattle.rinex_file.specs.declared.header.rows.TheConstants.{ROWS}
 use Rattle.rinex_file.specs.declared.header.rows.HeaderRow.TheVariants.{Version, Texts, Position, Delta, Types}
-use Rattle.rinex_file.specs.declared.header.rows.HeaderRow.TheVariants.{StrengthUnit, First, Shift, Slots, Biases, End}
+use Rattle.rinex_file.specs.declared.header.rows.HeaderRow.TheVariants.{StrengthUnit, Interval, First, Shift, Slots, Biases, End}
 use Rattle.rinex_fields.specs.HeaderLine.{header_line}
 use Rattle.rinex_fields.specs.Numbers.{joined, left, right, fixed}
 use Rattle.rinex_file.specs.Slots.{SlotNumber, slots_of, slots_columns, slot_rows}
 use Rattle.rinex_file.specs.Limits.{types_in_line}
-use Rattle.rinex_file.specs.Texts.{HeaderLists, width_of, text_of, fields_of, text_row_index, front_of, label_of}
+use Rattle.rinex_file.specs.Texts.{HeaderLists, width_of, text_of, fields_of, place_of, front_of, label_of}
+use Rattle.rinex_file.specs.Texts.{has_row, has_text, is_required}
+
+-- the contents of a header
+pub record Shown : Type 0 where
+  pub texts : HeaderLists
+  pub interval : Option ℕ
+  pub plan : PlanValue
+  pub values : StationValues
+  pub first : ℕ
 
 -- three lengths, given in 0.0001 m and written as F14.4
 abbrev pub lengths : ℤ → ℤ → ℤ → List ℕ
@@ -62,7 +71,7 @@ version_line p = version_by (systems_letter p)
 abbrev pub text_columns : HeaderLists → HeaderField → List ℕ
 text_columns x field = left (width_of field) (text_of x field)
 
-abbrev pub texts_line : HeaderLists → TextRow → List ℕ
+abbrev pub texts_line : HeaderLists → HeaderField → List ℕ
 texts_line x row = header_line (front_of row ++ flat_map (text_columns x) (fields_of row)) (label_of row)
 
 -- ---- station
@@ -130,6 +139,10 @@ biases_line = header_line [] (codes "GLONASS COD/PHS/BIS")
 abbrev pub strength_line : List ℕ
 strength_line = header_line (codes "DBHZ") (codes "SIGNAL STRENGTH UNIT")
 
+-- the interval of the observations, given in milliseconds
+abbrev pub interval_line : ℕ → List ℕ
+interval_line interval = header_line (joined (right 10 (fixed 3 (pos interval)) ∷ [])) (codes "INTERVAL")
+
 -- year, month, day, hour and minute in six columns each, and the second with seven decimals
 abbrev pub first_line : Civil → List ℕ
 first_line t = header_line
@@ -145,42 +158,59 @@ end_line = header_line [] (codes "END OF HEADER")
 -- ---- the rows, each of one line or none
 
 -- the line of a row
-unfoldable pub row_line : HeaderLists → PlanValue → StationValues → Civil → HeaderRow → List ℕ
-row_line x p v t Version = version_line p
-row_line x p v t (Texts row) = texts_line x row
-row_line x p v t Position = position_line v
-row_line x p v t Delta = delta_line v
-row_line x p v t (Types system row) =
-    type_line (letter system) (types_of (codes_of system (planned_of system p))) row
-row_line x p v t StrengthUnit = strength_line
-row_line x p v t First = first_line t
-row_line x p v t (Shift system) = shift_line system
-row_line x p v t (Slots row) = slots_line (slots_of p.channels) row
-row_line x p v t Biases = biases_line
-row_line x p v t End = end_line
+unfoldable pub row_line : Shown → HeaderRow → List ℕ
+row_line h Version = version_line h.plan
+row_line h (Texts row) = texts_line h.texts row
+row_line h Position = position_line h.values
+row_line h Delta = delta_line h.values
+row_line h (Types system row) =
+    type_line (letter system) (types_of (codes_of system (planned_of system h.plan))) row
+row_line h StrengthUnit = strength_line
+row_line h Interval = interval_line (unwrap_or h.interval 0)
+row_line h First = first_line (civil_of h.first)
+row_line h (Shift system) = shift_line system
+row_line h (Slots row) = slots_line (slots_of h.plan.channels) row
+row_line h Biases = biases_line
+row_line h End = end_line
 
--- whether a row is in the header: types and phase shifts are those of a planned system, channels those of GLONASS
-abbrev pub has_line : PlanValue → HeaderRow → Bool
-has_line p (Types system row) = nat_lt row (type_rows (length (planned_of system p)))
-has_line p (Shift system) = is_planned p system
-has_line p (Slots zero) = is_planned p Glonass
-has_line p (Slots (suc row)) = nat_lt (suc row) (slot_rows (length (slots_of p.channels)))
-has_line p Biases = is_planned p Glonass
-has_line p other = true
+-- whether the header has a value for the line of an optional row
+abbrev pub is_given : HeaderLists → Option ℕ → HeaderRow → Bool
+is_given x interval (Texts row) = has_text x row
+is_given x interval Interval = is_some interval
+is_given x interval other = false
 
-abbrev pub row_lines : HeaderLists → PlanValue → StationValues → Civil → HeaderRow → List (List ℕ)
-row_lines x p v t row = if has_line p row then row_line x p v t row ∷ [] else []
+-- whether a row is in the header: types and phase shifts are those of a planned system, channels those of GLONASS, and
+-- an optional row is there if it has a value
+abbrev pub has_line : Shown → HeaderRow → Bool
+has_line h (Texts row) = has_row h.texts row
+has_line h Interval = is_some h.interval
+has_line h (Types system row) = nat_lt row (type_rows (length (planned_of system h.plan)))
+has_line h (Shift system) = is_planned h.plan system
+has_line h (Slots zero) = is_planned h.plan Glonass
+has_line h (Slots (suc row)) = nat_lt (suc row) (slot_rows (length (slots_of h.plan.channels)))
+has_line h Biases = is_planned h.plan Glonass
+has_line h other = true
+
+-- a row with a line only if the header has a value for it
+abbrev pub is_optional : HeaderRow → Bool
+is_optional (Texts row) = not (is_required row)
+is_optional Interval = true
+is_optional other = false
+
+-- the lines of a row: one, or none
+abbrev pub row_lines : Shown → HeaderRow → List (List ℕ)
+row_lines h row = if has_line h row then row_line h row ∷ [] else []
 
 -- the rows in order
 abbrev pub all_rows : List HeaderRow
-all_rows = ROWS
+all_rows = ROWS.now
 
 abbrev pub row_count : ℕ
 row_count = length all_rows
 
 -- the lines of a header, in order
-unfoldable pub header_lines : HeaderLists → PlanValue → StationValues → Civil → List (List ℕ)
-header_lines x p v t = flat_map (row_lines x p v t) all_rows
+unfoldable pub header_lines : Shown → List (List ℕ)
+header_lines h = flat_map (row_lines h) all_rows
 
 -- ---- line by line
 
@@ -197,13 +227,14 @@ abbrev pub index_where : (HeaderRow → Bool) → List HeaderRow → ℕ
 index_where test [] = 0
 index_where test (row ∷ rows) = if test row then 0 else 1 + index_where test rows
 
--- the rows of the same kind, but for those of a system
+-- the same row, but for those of a system and of slots
 abbrev pub is_alike : HeaderRow → HeaderRow → Bool
 is_alike Version Version = true
-is_alike (Texts a) (Texts b) = true
+is_alike (Texts a) (Texts b) = place_of a == place_of b
 is_alike Position Position = true
 is_alike Delta Delta = true
 is_alike StrengthUnit StrengthUnit = true
+is_alike Interval Interval = true
 is_alike First First = true
 is_alike Biases Biases = true
 is_alike End End = true
@@ -219,12 +250,15 @@ first_slots = index_where (is_alike First) all_rows + 1 + length systems
 
 -- the index of a row
 abbrev pub row_place : HeaderRow → ℕ
-row_place (Texts row) = index_where (is_alike (Texts row)) all_rows + text_row_index row
 row_place (Types system row) = first_types system + row
 row_place (Shift system) = index_where (is_alike First) all_rows + 1 + index_of system
 row_place (Slots row) = first_slots + row
 row_place other = index_where (is_alike other) all_rows
 
+-- the lines of the rows before an index
+abbrev pub lines_before : Shown → ℕ → List (List ℕ)
+lines_before h place = flat_map (row_lines h) (take place all_rows)
+
 -- the lines of the rows from an index on
-abbrev pub lines_from : HeaderLists → PlanValue → StationValues → Civil → ℕ → List (List ℕ)
-lines_from x p v t place = flat_map (row_lines x p v t) (drop place all_rows)
+abbrev pub lines_after : Shown → ℕ → List (List ℕ)
+lines_after h place = flat_map (row_lines h) (drop place all_rows)

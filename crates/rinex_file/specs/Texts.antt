@@ -1,13 +1,12 @@
 -- The texts of a header: their rows, columns and widths. RINEX 3.05, table A2.
-use Rattle.std.specs.Prelude.{ℕ, ◌&&◌, Bool, nat_le, nat_lt, List, [], ◌∷◌, length, get_or, map, flat_map}
-use Rattle.std.specs.Prelude.{codes, Option, Some, None, if◌then◌else◌}
-use Rattle.std.specs.List.{list_all}
+use Rattle.std.specs.Prelude.{ℕ, ◌&&◌, ◌||◌, Bool, nat_le, nat_lt, List, [], ◌∷◌, length, get_or, map}
+use Rattle.std.specs.Prelude.{true, false, codes, Option, Some, None, if◌then◌else◌}
+use Rattle.std.specs.List.{list_all, list_any}
 use Rattle.rinex_file.specs.declared.header.fields.HeaderField.{HeaderField}
-use Rattle.rinex_file.specs.declared.header.fields.HeaderField.TheVariants.{RunBy, Date, Marker, MarkerType, Observer}
-use Rattle.rinex_file.specs.declared.header.fields.HeaderField.TheVariants.{Agency, RecNumber, RecType, RecVersion}
+use Rattle.rinex_file.specs.declared.header.fields.HeaderField.TheVariants.{RunBy, Date, Comment, Marker, MarkerNumber}
+use Rattle.rinex_file.specs.declared.header.fields.HeaderField.TheVariants.{MarkerType, Observer, Agency, RecNumber, RecType, RecVersion}
 use Rattle.rinex_file.specs.declared.header.fields.HeaderField.TheVariants.{AntNumber, AntType}
-use Rattle.rinex_file.specs.declared.header.fields.TextRow.{TextRow}
-use Rattle.rinex_file.specs.declared.header.fields.TextRow.TheVariants as row
+use Rattle.rinex_file.specs.declared.header.fields.TheConstants.HeaderField.{ALL}
 use Rattle.rinex_file.specs.declared.header.fault.HeadFault.{HeadFault}
 use Rattle.rinex_file.specs.declared.header.fault.HeadFault.TheVariants.{TooLong, NotPrintable}
 use Rattle.rinex_file.specs.Blanks.{trimmed}
@@ -15,86 +14,78 @@ use Rattle.rinex_fields.specs.Numbers.{left}
 
 -- ---- the table of the texts
 
--- the texts of a row, in order
-abbrev pub fields_of : TextRow → List HeaderField
-fields_of row.Program = RunBy ∷ Date ∷ []
-fields_of row.Marker = Marker ∷ []
-fields_of row.MarkerType = MarkerType ∷ []
-fields_of row.Observer = Observer ∷ Agency ∷ []
-fields_of row.Receiver = RecNumber ∷ RecType ∷ RecVersion ∷ []
-fields_of row.Antenna = AntNumber ∷ AntType ∷ []
+-- A field: its index among all, its name, as that of its option with underscores, and its width in columns. And the row
+-- that begins with it: label, columns before the texts, the texts in order, which are none if there is no such row, and
+-- whether each header has the row. Another row is there if some text in it isn't empty.
+pub record Entry : Type 0 where
+  pub place : ℕ
+  pub name : List ℕ
+  pub width : ℕ
+  pub label : List ℕ
+  pub front : List ℕ
+  pub fields : List HeaderField
+  pub is_required : Bool
 
--- the index of a field among all, and its width in columns
-abbrev pub place_and_width : HeaderField → ℕ × ℕ
-place_and_width RunBy = (0, 20)
-place_and_width Date = (1, 20)
-place_and_width Marker = (2, 60)
-place_and_width MarkerType = (3, 20)
-place_and_width Observer = (4, 20)
-place_and_width Agency = (5, 40)
-place_and_width RecNumber = (6, 20)
-place_and_width RecType = (7, 20)
-place_and_width RecVersion = (8, 20)
-place_and_width AntNumber = (9, 20)
-place_and_width AntType = (10, 20)
+abbrev pub row : ℕ → List ℕ → ℕ → List ℕ → List ℕ → List HeaderField → Bool → Entry
+row place name width label front fields is_required = record {
+  place = place;
+  name = name;
+  width = width;
+  label = label;
+  front = front;
+  fields = fields;
+  is_required = is_required;
+}
 
--- its name, as that of its option with underscores
+-- a field with which no row begins
+abbrev pub text : ℕ → List ℕ → ℕ → Entry
+text place name width = row place name width [] [] [] true
+
+abbrev pub entry_of : HeaderField → Entry
+entry_of RunBy =
+    row 0 (codes "run_by") 20 (codes "PGM / RUN BY / DATE") (left 20 (codes "rtcm2rinex")) (RunBy ∷ Date ∷ []) true
+entry_of Date = text 1 (codes "date") 20
+entry_of Comment = row 2 (codes "comment") 60 (codes "COMMENT") [] (Comment ∷ []) false
+entry_of Marker = row 3 (codes "marker") 60 (codes "MARKER NAME") [] (Marker ∷ []) true
+entry_of MarkerNumber = row 4 (codes "marker_number") 20 (codes "MARKER NUMBER") [] (MarkerNumber ∷ []) false
+entry_of MarkerType = row 5 (codes "marker_type") 20 (codes "MARKER TYPE") [] (MarkerType ∷ []) true
+entry_of Observer = row 6 (codes "observer") 20 (codes "OBSERVER / AGENCY") [] (Observer ∷ Agency ∷ []) true
+entry_of Agency = text 7 (codes "agency") 40
+entry_of RecNumber = row 8 (codes "rec_number") 20 (codes "REC # / TYPE / VERS") [] (RecNumber ∷ RecType ∷ RecVersion ∷ []) true
+entry_of RecType = text 9 (codes "rec_type") 20
+entry_of RecVersion = text 10 (codes "rec_version") 20
+entry_of AntNumber = row 11 (codes "ant_number") 20 (codes "ANT # / TYPE") [] (AntNumber ∷ AntType ∷ []) true
+entry_of AntType = text 12 (codes "ant_type") 20
+
+abbrev pub place_of : HeaderField → ℕ
+place_of field = (entry_of field).place
+
 abbrev pub field_name : HeaderField → List ℕ
-field_name RunBy = codes "run_by"
-field_name Date = codes "date"
-field_name Marker = codes "marker"
-field_name MarkerType = codes "marker_type"
-field_name Observer = codes "observer"
-field_name Agency = codes "agency"
-field_name RecNumber = codes "rec_number"
-field_name RecType = codes "rec_type"
-field_name RecVersion = codes "rec_version"
-field_name AntNumber = codes "ant_number"
-field_name AntType = codes "ant_type"
+field_name field = (entry_of field).name
 
--- ---- their rows
+abbrev pub width_of : HeaderField → ℕ
+width_of field = (entry_of field).width
 
--- the rows of texts, in order
-abbrev pub text_rows : List TextRow
-text_rows = row.Program ∷ row.Marker ∷ row.MarkerType ∷ row.Observer ∷ row.Receiver ∷ row.Antenna ∷ []
+abbrev pub label_of : HeaderField → List ℕ
+label_of field = (entry_of field).label
 
--- the index of a row among those of texts
-abbrev pub text_row_index : TextRow → ℕ
-text_row_index row.Program = 0
-text_row_index row.Marker = 1
-text_row_index row.MarkerType = 2
-text_row_index row.Observer = 3
-text_row_index row.Receiver = 4
-text_row_index row.Antenna = 5
+abbrev pub front_of : HeaderField → List ℕ
+front_of field = (entry_of field).front
 
--- the label of a row
-abbrev pub label_of : TextRow → List ℕ
-label_of row.Program = codes "PGM / RUN BY / DATE"
-label_of row.Marker = codes "MARKER NAME"
-label_of row.MarkerType = codes "MARKER TYPE"
-label_of row.Observer = codes "OBSERVER / AGENCY"
-label_of row.Receiver = codes "REC # / TYPE / VERS"
-label_of row.Antenna = codes "ANT # / TYPE"
+abbrev pub fields_of : HeaderField → List HeaderField
+fields_of field = (entry_of field).fields
 
--- the columns before its texts: the name of the program, or nothing
-abbrev pub front_of : TextRow → List ℕ
-front_of row.Program = left 20 (codes "rtcm2rinex")
-front_of other = []
+abbrev pub is_required : HeaderField → Bool
+is_required field = (entry_of field).is_required
 
 -- ---- what follows from the table
 
 -- the fields in the order in which they are validated
 abbrev pub fields : List HeaderField
-fields = flat_map fields_of text_rows
+fields = ALL
 
 abbrev pub text_count : ℕ
 text_count = length fields
-
-abbrev pub place_of : HeaderField → ℕ
-place_of field = (place_and_width field).0
-
-abbrev pub width_of : HeaderField → ℕ
-width_of field = (place_and_width field).1
 
 -- the bytes of each text, in the order of the fields
 abbrev pub HeaderLists : Type 0
@@ -103,6 +94,14 @@ HeaderLists = List (List ℕ)
 -- the text of a field
 abbrev pub text_of : HeaderLists → HeaderField → List ℕ
 text_of t field = get_or t (place_of field) []
+
+-- whether some text of a row isn't empty
+abbrev pub has_text : HeaderLists → HeaderField → Bool
+has_text t row = list_any (λ field. nat_lt 0 (length (text_of t field))) (fields_of row)
+
+-- whether a row has a line
+abbrev pub has_row : HeaderLists → HeaderField → Bool
+has_row t row = is_required row || has_text t row
 
 abbrev pub is_printable : ℕ → Bool
 is_printable b = nat_le 32 b && nat_le b 126

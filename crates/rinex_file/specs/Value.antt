@@ -44,13 +44,15 @@ pub record Stamped : Type 0 where
 
 pub record FileValue : Type 0 where
   pub texts : HeaderLists
+  pub interval : Option ℕ
   pub plan : PlanValue
   pub values : StationValues
   pub epochs : List Stamped
 
 -- a file with this header and these epochs
-abbrev pub file_with : HeaderLists → PlanValue → StationValues → List Stamped → FileValue
-file_with texts plan values epochs = record { texts = texts; plan = plan; values = values; epochs = epochs }
+abbrev pub file_with : HeaderLists → Option ℕ → PlanValue → StationValues → List Stamped → FileValue
+file_with texts interval plan values epochs =
+    record { texts = texts; interval = interval; plan = plan; values = values; epochs = epochs }
 
 -- ---- the values of epochs that were gathered under a plan
 

@@ -96,6 +96,7 @@ impl Model for StoredEpoch {
 #[derive(Drop)]
 pub struct ObsFile {
     pub(crate) texts: HeaderTexts,
+    pub(crate) interval: Option<u32>,
     pub(crate) plan: Plan,
     pub(crate) values: StationValues,
     pub(crate) epochs: Vec<StoredEpoch>,
@@ -110,9 +111,9 @@ impl Model for ObsFile {
 
     ghost Value = { FileValue };
 
-    ghost view = { λ f. file_with f.texts f.plan f.values f.epochs.items };
+    ghost view = { λ f. file_with f.texts f.interval f.plan f.values f.epochs.items };
 
-    ghost invariant = { λ f. IsFileValue (file_with f.texts f.plan f.values f.epochs.items)
+    ghost invariant = { λ f. IsFileValue (file_with f.texts f.interval f.plan f.values f.epochs.items)
         × (f.counts.satellites ≡ rows_in f.epochs.items) × (f.counts.events ≡ events_in f.epochs.items) };
 }
 
@@ -122,6 +123,13 @@ impl ObsFile {
         ensures { result.now ≡ self.now.texts }
     {
         &self.texts
+    }
+
+    /// Returns the interval of the observations in milliseconds, if the header has one.
+    pub fn interval(&self) -> Option<u32>
+        ensures { result ≡ self.now.interval }
+    {
+        self.interval
     }
 
     /// Returns the signals whose observations the file has.

@@ -40,7 +40,8 @@ text_set options name = unwrap_or (first_of name options) []
 abbrev pub texts_set : List Row → HeaderLists
 texts_set options =
     map (text_set options)
-    (codes "run-by" ∷ codes "date" ∷ codes "marker" ∷ codes "marker-type" ∷ codes "observer" ∷ codes "agency"
+    (codes "run-by" ∷ codes "date" ∷ codes "comment" ∷ codes "marker" ∷ codes "marker-number" ∷ codes "marker-type"
+    ∷ codes "observer" ∷ codes "agency"
     ∷ codes "rec-number" ∷ codes "rec-type" ∷ codes "rec-version" ∷ codes "ant-number" ∷ codes "ant-type" ∷ [])
 
 -- a text is the decimal form of a number of `bits` bits, with or without a leading plus sign

@@ -119,7 +119,9 @@ fn texts_of<'a>(options: &ArgMatches<'a>) -> Texts<'a>
     Texts {
         run_by: text(options, "run-by"),
         date: text(options, "date"),
+        comment: text(options, "comment"),
         marker: text(options, "marker"),
+        marker_number: text(options, "marker-number"),
         marker_type: text(options, "marker-type"),
         observer: text(options, "observer"),
         agency: text(options, "agency"),

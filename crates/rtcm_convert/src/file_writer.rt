@@ -98,6 +98,7 @@ impl FileWriter {
         match self.values {
             None => {
                 let head = Head {
+                    interval: None,
                     texts: &self.texts,
                     plan: self.gatherer.plan(),
                     values,

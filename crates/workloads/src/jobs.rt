@@ -33,6 +33,8 @@ fn setup(alloc: Global, plan: [&str; 2], gather: Gather) -> Option<Setup> {
         run_by: "bench",
         date: "20240204 000001 UTC",
         marker: "MADE",
+        marker_number: "",
+        comment: "",
         marker_type: "GEODETIC",
         observer: "",
         agency: "",

@@ -22,10 +22,12 @@ static READ_FAULTS: [(ReadFault, &str); 8] = [
     (ReadFault::TooLong, "TooLong"),
 ];
 
-static FIELD_NAMES: [(HeaderField, &str); 11] = [
+static FIELD_NAMES: [(HeaderField, &str); 13] = [
     (HeaderField::RunBy, "run_by"),
     (HeaderField::Date, "date"),
+    (HeaderField::Comment, "comment"),
     (HeaderField::Marker, "marker"),
+    (HeaderField::MarkerNumber, "marker_number"),
     (HeaderField::MarkerType, "marker_type"),
     (HeaderField::Observer, "observer"),
     (HeaderField::Agency, "agency"),

@@ -166,6 +166,7 @@ fn send_header(gatherer: &Gatherer, first: GpsTime, writer: &mut Writer) -> Resu
     match HeaderTexts::new(&OWN_TEXTS) {
         Ok(texts) => {
             let head = Head {
+                interval: None,
                 texts: &texts,
                 plan: gatherer.plan(),
                 values: gatherer.station_values(),

@@ -3,7 +3,7 @@ use Rattle.std.proofs.lemmas.Grind.{flat_map-append}
 use Rattle.rinex_fields.proofs.NumberLemmas.{number_in-fixed, digits_in-right, digits_in-fixed, length-fixed, length-right, length-sign}
 use Rattle.rinex_file.proofs.Reading.Dates.{IsField, AreFields, field_at}
 use Rattle.rinex_file.proofs.HeaderRows.Types.{content_first}
-use Rattle.rinex_file.proofs.Names.{arith, ◌≡◌, ◌∙◌, refl, sym, ap, ℕ, ◌+◌, ◌/◌, ◌<◌, ◌≤◌, ◌^◌, List, [], ◌∷◌, ◌++◌, length, take, drop, append-nil, length-append, Bool, true, false, ℤ, pos, unsigned_abs, suc, lit<, ◌==◌, codes, if◌then◌else◌, flat_map, slice_get, unwrap_or, is_negative, digits, ints, take_more, take-append-drop, drop-cons, System, passes_at, is_equal, PlanValue, planned_of, StationValues, Civil, joined, right, fixed, digits_in, number_in, header_line, lengths, height_line, row_line, row_lines, has_line, header_lines, all_rows, row_count, row_at, row_place, lines_from, type_rows, version_by, Shown, shown_rows, lines_before, lines_after, IsShown, shown_line, AreTypes, types_line, IsCoordinate, End, Types, lines_of_header, HeaderLists, HeaderRow, drop-append-le, lt-ltb}
+use Rattle.rinex_file.proofs.Names.{arith, ◌≡◌, ◌∙◌, refl, sym, ap, ℕ, ◌+◌, ◌/◌, ◌<◌, ◌≤◌, ◌^◌, List, [], ◌∷◌, ◌++◌, length, take, drop, append-nil, length-append, Bool, true, false, ℤ, pos, unsigned_abs, suc, lit<, ◌==◌, codes, if◌then◌else◌, flat_map, slice_get, unwrap_or, is_negative, digits, ints, take_more, take-append-drop, drop-cons, System, passes_at, is_equal, planned_of, joined, right, fixed, digits_in, number_in, header_line, lengths, height_line, row_line, row_lines, has_line, header_lines, all_rows, row_count, row_at, row_place, lines_after, type_rows, version_by, Shown, lines_before, IsShown, AreTypes, types_line, IsCoordinate, End, Types, HeaderRow, drop-append-le, lt-ltb, interval_line}
 
 -- ---- version
 
@@ -58,6 +58,16 @@ height-back h small =
     let zero = is_height 0 (lit< tt) in
     ap (λ l. digits_in (take 14 (drop 0 l))) shape ∙ field_at digits_in (f ∷ none ∷ none ∷ []) ((14, h) ∷ (14, 0) ∷ (14, 0) ∷ []) 0 (0, 0) rest (is_height h small, (zero, (zero, tt))) (lit< tt)
 
+-- an interval is read back from its line
+pub interval-back : (n : ℕ) → n ≤ 86_400_000 → digits_in (take 10 (drop 0 (interval_line n))) ≡ n
+interval-back n is =
+    let f = right 10 (fixed 3 (pos n)) in
+    let (rest, shape) = content_first (joined (f ∷ [])) (codes "INTERVAL") in
+    let text = length-fixed 3 5 (pos n) (omega arith) (omega arith) (omega (arith, is)) (omega (arith, is)) in
+    let sign = length-sign (is_negative (pos n)) in
+    let own : IsField digits_in f (10, n) = (length-right 10 (fixed 3 (pos n)) (omega (arith, text, sign)), digits_in-right 10 (fixed 3 (pos n)) ∙ digits_in-fixed 3 (pos n) (omega arith) (omega (arith, is))) in
+    ap (λ l. digits_in (take 10 (drop 0 l))) shape ∙ field_at digits_in (f ∷ []) ((10, n) ∷ []) 0 (0, 0) rest (own, tt) (lit< tt)
+
 -- a coordinate fits its columns
 pub coordinate-fits : (z : ℤ) → IsCoordinate z → Fits14 z
 coordinate-fits z is = grind (arith, ints)
@@ -66,35 +76,35 @@ coordinate-fits z is = grind (arith, ints)
 pub placed : (n : ℕ) → n < row_count → row_place (row_at n) ≡ n
 placed n less = is_equal (row_place (row_at n)) n (passes_at (λ i. row_place (row_at i) == i) row_count n refl less)
 
-module _ (x : HeaderLists) (p : PlanValue) (v : StationValues) (t : Civil) (n : ℕ) (less : n < row_count) where
-  shape : lines_from x p v t n ≡ row_lines x p v t (row_at n) ++ lines_from x p v t (suc n)
-  shape = ap (flat_map (row_lines x p v t)) (drop-cons all_rows n End less)
+module _ (h : Shown) (n : ℕ) (less : n < row_count) where
+  shape : lines_after h n ≡ row_lines h (row_at n) ++ lines_after h (suc n)
+  shape = ap (flat_map (row_lines h)) (drop-cons all_rows n End less)
 
-  pub line_next : has_line p (row_at n) ≡ true → lines_from x p v t n ≡ row_line x p v t (row_at n) ∷ lines_from x p v t (suc n)
-  line_next has = shape ∙ ap (λ b. (if b then row_line x p v t (row_at n) ∷ [] else []) ++ lines_from x p v t (suc n)) has
+  pub line_next : has_line h (row_at n) ≡ true → lines_after h n ≡ row_line h (row_at n) ∷ lines_after h (suc n)
+  line_next has = shape ∙ ap (λ b. (if b then row_line h (row_at n) ∷ [] else []) ++ lines_after h (suc n)) has
 
-  pub line_none : has_line p (row_at n) ≡ false → lines_from x p v t n ≡ lines_from x p v t (suc n)
-  line_none lacks = shape ∙ ap (λ b. (if b then row_line x p v t (row_at n) ∷ [] else []) ++ lines_from x p v t (suc n)) lacks
+  pub line_none : has_line h (row_at n) ≡ false → lines_after h n ≡ lines_after h (suc n)
+  line_none lacks = shape ∙ ap (λ b. (if b then row_line h (row_at n) ∷ [] else []) ++ lines_after h (suc n)) lacks
 
 module _ (h : Shown) where
   -- the lines up to a row, and those from it on
-  pub before_next : (n : ℕ) → n < row_count → lines_before h (suc n) ≡ lines_before h n ++ shown_rows h (row_at n)
+  pub before_next : (n : ℕ) → n < row_count → lines_before h (suc n) ≡ lines_before h n ++ row_lines h (row_at n)
   before_next n less =
       let next : suc n ≡ n + 1 = omega arith in
-      ap (lines_before h) next ∙ ap (flat_map (shown_rows h)) (take_more all_rows n End less) ∙ flat_map-append (shown_rows h) (take n all_rows) (row_at n ∷ [])
-      ∙ ap (λ l. lines_before h n ++ l) (append-nil (shown_rows h (row_at n)))
+      ap (lines_before h) next ∙ ap (flat_map (row_lines h)) (take_more all_rows n End less) ∙ flat_map-append (row_lines h) (take n all_rows) (row_at n ∷ [])
+      ∙ ap (λ l. lines_before h n ++ l) (append-nil (row_lines h (row_at n)))
 
-  pub split_at : (n : ℕ) → lines_of_header h ≡ lines_before h n ++ lines_after h n
+  pub split_at : (n : ℕ) → header_lines h ≡ lines_before h n ++ lines_after h n
   unfolding header_lines
-  split_at n = sym (ap (flat_map (shown_rows h)) (take-append-drop n all_rows)) ∙ flat_map-append (shown_rows h) (take n all_rows) (drop n all_rows)
+  split_at n = sym (ap (flat_map (row_lines h)) (take-append-drop n all_rows)) ∙ flat_map-append (row_lines h) (take n all_rows) (drop n all_rows)
 
   -- the last row has a line
   pub some_after : (n : ℕ) → n < row_count → lines_after h n ≡ [] → ⊥
   some_after n less none =
       let front = take (row_place End) all_rows in
       let rows : drop n all_rows ≡ drop n front ++ End ∷ [] = drop-append-le n front (End ∷ []) (omega (arith, less)) in
-      let parts : lines_after h n ≡ flat_map (shown_rows h) (drop n front) ++ shown_rows h End = ap (flat_map (shown_rows h)) rows ∙ flat_map-append (shown_rows h) (drop n front) (End ∷ []) in
-      absurd (omega (arith, ap length (sym parts ∙ none), length-append (flat_map (shown_rows h) (drop n front)) (shown_rows h End)))
+      let parts : lines_after h n ≡ flat_map (row_lines h) (drop n front) ++ row_lines h End = ap (flat_map (row_lines h)) rows ∙ flat_map-append (row_lines h) (drop n front) (End ∷ []) in
+      absurd (omega (arith, ap length (sym parts ∙ none), length-append (flat_map (row_lines h) (drop n front)) (row_lines h End)))
 
 pub less_or : (P : Type 0) (i j : ℕ) → (i < j → P) → (j ≤ i → P) → P
 less_or P i j less more = grind arith
@@ -104,9 +114,9 @@ less_or P i j less more = grind arith
 pub types_shown : (s : System) (h : Shown) → IsShown h → 0 < length (planned_of s h.plan) → AreTypes s (planned_of s h.plan)
 types_shown s h is some = record { listed = is.plan.listed s; apart = is.plan.apart s; some = some }
 
-pub rows_when : (h : Shown) (r : HeaderRow) (b : Bool) → has_line h.plan r ≡ b → shown_rows h r ≡ (if b then shown_line h r ∷ [] else [])
-rows_when h r b e = ap (λ c. if c then shown_line h r ∷ [] else []) e
+pub rows_when : (h : Shown) (r : HeaderRow) (b : Bool) → has_line h r ≡ b → row_lines h r ≡ (if b then row_line h r ∷ [] else [])
+rows_when h r b e = ap (λ c. if c then row_line h r ∷ [] else []) e
 
-pub types_in : (h : Shown) (s : System) (r : ℕ) → r < type_rows (length (planned_of s h.plan)) → shown_rows h (Types s r) ≡ types_line s (planned_of s h.plan) r ∷ []
+pub types_in : (h : Shown) (s : System) (r : ℕ) → r < type_rows (length (planned_of s h.plan)) → row_lines h (Types s r) ≡ types_line s (planned_of s h.plan) r ∷ []
 unfolding row_line
 types_in h s r less = rows_when h (Types s r) true (lt-ltb r (type_rows (length (planned_of s h.plan))) less)

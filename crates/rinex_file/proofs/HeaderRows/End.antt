@@ -7,11 +7,12 @@ use Rattle.gnss_obs.proofs.PlanLemmas.{listed_by}
 use Rattle.rinex_file.proofs.HeaderRows.Letters.{same_flags}
 use Rattle.rinex_file.proofs.HeaderRows.Some.{SomeShown, none_before, some_shown}
 use Rattle.rinex_file.proofs.HeaderRows.Slots.{no_slots, same_channels, slots_are, slots_room}
-use Rattle.rinex_file.specs.declared.header.fields.TextRow.TheVariants as row
 use Rattle.rinex_file.proofs.HeaderRows.Places.{all_before}
-use Rattle.rinex_file.proofs.HeaderRows.Steps.{rest_next}
-use Rattle.rinex_file.proofs.HeaderRows.Texts.{place_back, same_at, same_rows}
-use Rattle.rinex_file.proofs.Names.{arith, ◌≡◌, ◌∙◌, sym, ap, ap₂, map, refl, subst, ℕ, pos, suc, lit<, lit≤, ◌<◌, true, List, [], ◌∷◌, ◌++◌, length, get_or, replicate, All, nat_eq, AllOfLen, IsDistinct, take_all, ext_get_or, SignalAt, table, System, indices, IsOf, planned_of, StationValues, TextRow, Texts, Position, Delta, First, End, trimmed, HeaderLists, text_count, text_of, width_of, fields, fields_of, text_rows, HeaderField, AntType, IsText, AreTexts, AreValues, IsTime, row_line, row_place, end_line, Known, Shown, IsShown, AreValid, IsHeadAt, shown_with, lines_before, RefusesHeaderLine, EndsHeader, none_of, row_at, AreSameTexts, Has, HasRow, fits, counted, StrengthUnit, SameFrom, position_of, PlanValue, Slots, AreChannels, AreSameSlots, known_slots, no_channels, slots_of}
+use Rattle.rinex_file.proofs.HeaderRows.Steps.{left_over, rest_next}
+use Rattle.rinex_file.proofs.HeaderRows.Texts.{each_field, field_back, place_back, same_at, same_rows}
+use Rattle.rinex_file.proofs.PlainTexts.{both}
+use Rattle.rinex_file.specs.Header.{is_alike}
+use Rattle.rinex_file.proofs.Names.{◌||◌, arith, ◌≡◌, ◌∙◌, sym, ap, ap₂, map, refl, subst, ℕ, pos, suc, lit<, lit≤, ◌<◌, true, List, [], ◌∷◌, ◌++◌, length, get_or, replicate, All, nat_eq, AllOfLen, IsDistinct, take_all, ext_get_or, SignalAt, table, System, indices, IsOf, planned_of, StationValues, HeaderField, Texts, Position, Delta, First, End, trimmed, HeaderLists, text_count, text_of, width_of, fields, fields_of, AntType, IsText, AreTexts, AreValues, IsTime, row_line, row_place, end_line, Known, Shown, IsShown, AreValid, IsHeadAt, shown_with, lines_before, RefusesHeaderLine, EndsHeader, none_of, row_at, AreSameTexts, Has, HasRow, fits, counted, StrengthUnit, SameFrom, position_of, PlanValue, Slots, AreChannels, AreSameSlots, known_slots, no_channels, slots_of, is_given, HeaderRow, false, is_equal, is_less, nat_lt, ◌==◌, ◌&&◌, place_of, nil_from_length, has_text, not, not-true, flat_map, AreUnread, Interval, IfSome, IsInterval, None}
 
 -- ---- a header with all that was read is the one that was read
 
@@ -21,28 +22,37 @@ all_same v w a b c d = grind arith
 same_plan : (p q : PlanValue) → p.signals ≡ q.signals → p.channels ≡ q.channels → p ≡ q
 same_plan p q a b = grind arith
 
-same_shown : (g h : Shown) → g.texts ≡ h.texts → g.plan ≡ h.plan → g.values ≡ h.values → g.first ≡ h.first → g ≡ h
-same_shown g h a b c d = grind arith
+same_shown : (g h : Shown) → g.texts ≡ h.texts → g.interval ≡ h.interval → g.plan ≡ h.plan → g.values ≡ h.values → g.first ≡ h.first → g ≡ h
+same_shown g h a i b c d = grind arith
 
-text_here : (r : TextRow) → row_at (row_place (Texts r)) ≡ Texts r
-text_here row.Program = refl
-text_here row.Marker = refl
-text_here row.MarkerType = refl
-text_here row.Observer = refl
-text_here row.Receiver = refl
-text_here row.Antenna = refl
+alike_texts : (f : HeaderField) (r : HeaderRow) → is_alike (Texts f) r ≡ true → r ≡ Texts f
+alike_texts f (Texts g) e = ap Texts (field_back g f (sym (is_equal (place_of f) (place_of g) e)))
+alike_texts f r e = cc
 
-text_far : (r : TextRow) → row_place (Texts r) < row_place End
-text_far r = grind arith
+-- the texts of a row are before the last one, if there are any
+text_here : (r : HeaderField) → (fields_of r ≡ [] → ⊥) → (row_at (row_place (Texts r)) ≡ Texts r) × (row_place (Texts r) < row_place End)
+text_here r some =
+    let alike = λ (r : HeaderField). is_alike (Texts r) (row_at (row_place (Texts r))) in
+    let far = λ (r : HeaderField). nat_lt (row_place (Texts r)) (row_place End) in
+    let test = each_field (λ r. (length (fields_of r) == 0) || (alike r && far r)) refl r in
+    let (a, b) = both (alike r) (far r) (left_over (length (fields_of r) == 0) (alike r && far r) test (λ e. some (nil_from_length (fields_of r) (is_equal (length (fields_of r)) 0 e)))) in
+    (alike_texts r (row_at (row_place (Texts r))) a, is_less (row_place (Texts r)) (row_place End) b)
+
+-- each text is in a row
+rows_whole : flat_map fields_of fields ≡ fields
+rows_whole = refl
 
 module _ (k : Known) (h : Shown) (is : IsShown h) (valid : AreValid k) (has : Has k (row_place End) h) where
   texts : h.texts ≡ k.shown.texts
   texts = ext_get_or [] h.texts k.shown.texts (is.texts.count ∙ sym valid.texts.count) (λ i less. at i (subst (λ n. i < n) is.texts.count less)) where
-    row_of : (r : TextRow) → AreSameTexts h.texts k.shown.texts (fields_of r)
-    row_of r = subst (HasRow k h) (text_here r) (has.rows (row_place (Texts r)) (text_far r))
+    row_of : (r : HeaderField) → AreSameTexts h.texts k.shown.texts (fields_of r)
+    row_of r = by (fields_of r) (λ some. let at = text_here r some in subst (HasRow k h) at.0 (has.rows (row_place (Texts r)) at.1)) where
+      by : (fs : List HeaderField) → ((fs ≡ [] → ⊥) → AreSameTexts h.texts k.shown.texts fs) → AreSameTexts h.texts k.shown.texts fs
+      by [] same = tt
+      by (f ∷ fs) same = same (λ e. cc)
 
     at : (i : ℕ) → i < text_count → get_or h.texts i [] ≡ get_or k.shown.texts i []
-    at i less = subst (λ j. get_or h.texts j [] ≡ get_or k.shown.texts j []) (place_back i less) (same_at h.texts k.shown.texts fields i AntType less (same_rows h.texts k.shown.texts row_of text_rows))
+    at i less = subst (λ j. get_or h.texts j [] ≡ get_or k.shown.texts j []) (place_back i less) (same_at h.texts k.shown.texts fields i AntType less (subst (AreSameTexts h.texts k.shown.texts) rows_whole (same_rows h.texts k.shown.texts row_of fields)))
 
   signals : (s : System) → planned_of s h.plan ≡ planned_of s k.shown.plan
   signals s = grind (arith, few_signals_of, all_before, lit<, take_all)
@@ -60,7 +70,7 @@ module _ (k : Known) (h : Shown) (is : IsShown h) (valid : AreValid k) (has : Ha
       same_channels h.plan.channels k.shown.plan.channels is.plan.channels valid.channels (sym (take_all 32 (slots_of h.plan.channels) (omega (arith, a))) ∙ slots.begun ∙ take_all 32 (known_slots k) (omega (arith, b)))
 
   pub same_header : h ≡ k.shown
-  same_header = same_shown h k.shown texts (same_plan h.plan k.shown.plan (equal_values h.plan.signals k.shown.plan.signals signals) channels) values (has.rows (row_place First) (lit< tt))
+  same_header = same_shown h k.shown texts (has.rows (row_place Interval) (lit< tt)) (same_plan h.plan k.shown.plan (equal_values h.plan.signals k.shown.plan.signals signals) channels) values (has.rows (row_place First) (lit< tt))
 
 -- ---- the last line
 
@@ -74,6 +84,7 @@ module _ (k : Known) (line : List ℕ) (from : ℕ) (at : IsHeadAt k from) (same
     valid = at.valid;
     sized = same.sized;
     slots = same.slots;
+    unread = same.unread;
     fitting = λ l. less_or (fits k (row_place End) ≡ true) (row_place StrengthUnit) from
         (λ far. still_fits k from far (at.fitting (omega (arith, far)))) (λ low. let e = same.none (row_place StrengthUnit) low (lit< tt) in cc);
     expected = lit< tt;
@@ -104,14 +115,15 @@ module _ (k : Known) (line : List ℕ) (from : ℕ) (at : IsHeadAt k from) (same
 
 pub no_end_line : (k : Known) (line : List ℕ) → (line ≡ end_line → ⊥) → RefusesHeaderLine k End line
 unfolding row_line
-no_end_line k line never h is has e = never (sym e)
+no_end_line k line never h is has there e = never (sym e)
 
 -- ---- the start
 
-pub valid_by : {k made : Known} (signals : System → List SignalAt) → made ≡ k → AreTexts made.shown.texts → AreChannels made.shown.plan.channels → AreValues made.shown.values → IsTime made.shown.first → ((s : System) → IsOf s (signals s))
+pub valid_by : {k made : Known} (signals : System → List SignalAt) → made ≡ k → AreTexts made.shown.texts → IfSome made.shown.interval IsInterval → AreChannels made.shown.plan.channels → AreValues made.shown.values → IsTime made.shown.first → ((s : System) → IsOf s (signals s))
     → made.shown.plan.signals ≡ tabulate (λ s. indices (signals s)) → AreValid k
-valid_by {made = made} signals e texts channels values first of plan = subst AreValid e (record {
+valid_by {made = made} signals e texts interval channels values first of plan = subst AreValid e (record {
   texts = texts;
+  interval = interval;
   listed = λ s. subst (All (λ i. i < length (table s))) (here s) (listed_by s (signals s) (of s).each);
   apart = λ s. subst (IsDistinct nat_eq) (here s) (of s).apart;
   channels = channels;
@@ -121,9 +133,19 @@ valid_by {made = made} signals e texts channels values first of plan = subst Are
   here : (s : System) → indices (signals s) ≡ planned_of s made.shown.plan
   here s = sym (ap (value_of s) plan ∙ value_tabulated s (λ t. indices (signals t)))
 
+no_text : (r : HeaderField) → has_text (replicate text_count []) r ≡ false
+no_text r = not-true (has_text (replicate text_count []) r) (each_field (λ r. not (has_text (replicate text_count []) r)) refl r)
+
+no_value : (r : HeaderRow) → is_given (replicate text_count []) None r ≡ false
+no_value (Texts r) = no_text r
+no_value r = refl
+
+blank_unread : (k : Known) → k.shown.texts ≡ replicate text_count [] → k.shown.interval ≡ None → AreUnread k 0
+blank_unread k blank none r far = ap₂ (λ x i. is_given x i r) blank none ∙ no_value r
+
 -- nothing was read
-pub begins : (k : Known) → AreValid k → ((s : System) → counted k s ≡ 0) → ((s : System) → planned_of s k.shown.plan ≡ []) → k.slots ≡ 0 → k.shown.plan.channels ≡ no_channels → IsHeadAt k 0
-begins k valid none_counted none_planned no_count none_known = grind (arith, no_slots, lit≤, none_before)
+pub begins : (k : Known) → AreValid k → k.shown.texts ≡ replicate text_count [] → k.shown.interval ≡ None → ((s : System) → counted k s ≡ 0) → ((s : System) → planned_of s k.shown.plan ≡ []) → k.slots ≡ 0 → k.shown.plan.channels ≡ no_channels → IsHeadAt k 0
+begins k valid blank none none_counted none_planned no_count none_known = grind (arith, no_slots, lit≤, none_before, (blank_unread k blank none))
 
 blank_text : (f : HeaderField) → IsText (width_of f) (text_of (replicate text_count []) f)
 unfolding trimmed

@@ -4,11 +4,11 @@ use Rattle.gnss_obs.specs.Weeks.{day as day_length}
 use Rattle.gnss_obs.proofs.WalkLemmas.{date_of_is}
 use Rattle.gnss_obs.specs.Dates.{IsCivil}
 use Rattle.rinex_file.proofs.Reading.Epochs.{few_signals_of}
-use Rattle.rinex_file.proofs.HeaderRows.Texts.{few_columns}
+use Rattle.rinex_file.proofs.HeaderRows.Texts.{at_most, each_field, few_columns}
 use Rattle.rinex_file.proofs.HeaderRows.Slots.{slots_are, slots_room}
 use Rattle.rinex_file.proofs.HeaderRows.Types.{length-system_types}
 use Rattle.rinex_file.proofs.PlainTexts.{both, IsPlain, plain-wider, plain-append, plain-left, plain-right, plain-decimal, plain-fixed, plain-padded, plain, plain-flat_map, plain-joined, also, plain-text}
-use Rattle.rinex_file.proofs.Names.{arith, lit≤, lit<, ◌≡◌, ap, refl, subst, ℕ, zero, suc, ◌+◌, ◌*◌, ◌/◌, ◌%◌, ◌^◌, ◌<◌, ◌≤◌, ℤ, pos, unsigned_abs, Bool, true, false, List, [], ◌∷◌, ◌++◌, length, take, drop, decimal, get_or, append_assoc, length-append, ◌==◌, ◌||◌, ◌&&◌, not, if◌then◌else◌, nat_le, flat_map, All, codes, slice_get, AllByRecursion, list_all, option_map_or, cond_both, ints, length-take, All-nil, All-head, All-tail, All-cons, All-append, All-map, All-take, All-drop, All-replicate, code_of, System, StationValues, Civil, civil_of, PlanValue, planned_of, HeaderField, TextRow, HeaderRow, Version, Texts, Position, Delta, Types, StrengthUnit, First, Shift, End, IsLine, AreTexts, IsPlan, AreValues, IsTime, IsCoordinate, header_line, version_fields, version_line, lengths, first_line, text_columns, texts_line, types_of, type_front, type_columns, type_line, codes_of, row_line, row_lines, has_line, all_rows, header_lines, position_line, delta_line, letter, joined, left, right, fixed, has, HeaderLists, width_of, text_of, fields_of, label_of, front_of, common_steps, most_line, most_signals, systems_letter, is_planned, letter_of, systems, filter, padded, most_number, slot_count, nat_tests, AreSlots, SlotNumber, channel_text, slot_text, slots_columns, slots_front, slots_line, slots_of, Slots, Biases}
+use Rattle.rinex_file.proofs.Names.{arith, lit≤, lit<, ◌≡◌, ap, refl, subst, ℕ, zero, suc, ◌+◌, ◌*◌, ◌/◌, ◌%◌, ◌^◌, ◌<◌, ◌≤◌, ℤ, pos, unsigned_abs, Bool, true, false, List, [], ◌∷◌, ◌++◌, length, take, drop, decimal, get_or, append_assoc, length-append, ◌==◌, ◌||◌, ◌&&◌, not, nat_le, flat_map, All, codes, slice_get, AllByRecursion, list_all, option_map_or, cond_both, ints, length-take, All-nil, All-head, All-tail, All-cons, All-append, All-map, All-take, All-drop, All-replicate, code_of, System, StationValues, Civil, civil_of, PlanValue, planned_of, HeaderField, HeaderRow, Version, Texts, Position, Delta, Types, StrengthUnit, First, Shift, End, IsLine, AreTexts, AreValues, IsTime, IsCoordinate, header_line, version_fields, version_line, lengths, first_line, text_columns, texts_line, types_of, type_front, type_columns, type_line, codes_of, row_line, row_lines, has_line, all_rows, header_lines, position_line, delta_line, letter, joined, left, right, fixed, has, HeaderLists, width_of, text_of, fields_of, label_of, front_of, common_steps, most_line, most_signals, systems_letter, is_planned, letter_of, systems, filter, padded, most_number, slot_count, nat_tests, AreSlots, SlotNumber, channel_text, slot_text, slots_columns, slots_front, slots_line, slots_of, Slots, Biases, Shown, IsShown, Interval, IsInterval, IfSome, Option, Some, None, unwrap_or, interval_line}
 
 -- ---- a line of a file
 
@@ -37,18 +37,38 @@ of_80 n text is h = plain-wider n 80 text h is
 
 -- ---- texts
 
+abbrev is_plain : ℕ → List ℕ → Bool
+is_plain n text = not (has 10 text) && nat_le (length text) n
+
+plain_text : (n : ℕ) (text : List ℕ) → is_plain n text ≡ true → IsPlain n text
+plain_text n text h = grind (arith, both)
+
 plain_texts : (x : HeaderLists) → AreTexts x → (fs : List HeaderField) → IsPlain (length fs * 120) (flat_map (text_columns x) fs)
 plain_texts x are fs = plain-flat_map 120 (text_columns x) fs (λ k d h.
     let f = get_or fs k d in
     let few = few_columns f in
     plain-wider (60 + width_of f) 120 (text_columns x f) (omega (arith, few)) (plain-left (width_of f) 60 (text_of x f) (plain-text (width_of f) (text_of x f) (are.each f) few)))
 
-line_of_texts : (x : HeaderLists) → AreTexts x → (r : TextRow) → IsFileLine (texts_line x r)
+-- what the table says of each row of texts
+record IsPlainRow (r : HeaderField) : Type 0 where
+  few : length (fields_of r) ≤ 3
+  front : IsPlain 20 (front_of r)
+  label : IsPlain 20 (label_of r)
+
+plain_row : (r : HeaderField) → IsPlainRow r
+plain_row r = record {
+  few = at_most (length (fields_of r)) 3 (each_field (λ r. nat_le (length (fields_of r)) 3) refl r);
+  front = plain_text 20 (front_of r) (each_field (λ r. is_plain 20 (front_of r)) refl r);
+  label = plain_text 20 (label_of r) (each_field (λ r. is_plain 20 (label_of r)) refl r);
+}
+
+line_of_texts : (x : HeaderLists) → AreTexts x → (r : HeaderField) → IsFileLine (texts_line x r)
 line_of_texts x are r =
-    let few : length (fields_of r) ≤ 3 = grind arith in
+    let row = plain_row r in
+    let few = row.few in
     header (20 + length (fields_of r) * 120) (front_of r ++ flat_map (text_columns x) (fields_of r)) (label_of r)
-    (plain-append 20 (length (fields_of r) * 120) (front_of r) (flat_map (text_columns x) (fields_of r)) (grind arith) (plain_texts x are (fields_of r)))
-    (grind arith) (omega (arith, few))
+    (plain-append 20 (length (fields_of r) * 120) (front_of r) (flat_map (text_columns x) (fields_of r)) row.front (plain_texts x are (fields_of r)))
+    row.label (omega (arith, few))
 
 -- ---- numbers
 
@@ -69,15 +89,12 @@ coordinate z is = grind (arith, ints)
 -- ---- types
 
 plain_code : TableEntry → Bool
-plain_code e = not (has 10 e.1) && nat_le (length e.1) 2
-
-code_is_plain : (text : List ℕ) → (not (has 10 text) && nat_le (length text) 2) ≡ true → IsPlain 2 text
-code_is_plain text h = grind (arith, both)
+plain_code e = is_plain 2 e.1
 
 code_at : (es : List TableEntry) → list_all plain_code es ≡ true → (i : ℕ) → IsPlain 2 (option_map_or (λ e. e.1) (slice_get es i) [])
 unfolding plain_code
 code_at [] h i = record { clean = refl; short = omega arith }
-code_at (e ∷ es) h zero = code_is_plain e.1 (both (plain_code e) (list_all plain_code es) h).0
+code_at (e ∷ es) h zero = plain_text 2 e.1 (both (plain_code e) (list_all plain_code es) h).0
 code_at (e ∷ es) h (suc i) = code_at es (both (plain_code e) (list_all plain_code es) h).1 i
 
 code_of_signal : (system : System) (i : ℕ) → IsPlain 2 (code_of (record { system = system; index = i }))
@@ -215,28 +232,37 @@ pub line_of_delta : (v : StationValues) → AreValues v → IsFileLine (delta_li
 line_of_delta v values = three_lengths (pos v.height) (pos 0) (pos 0) (codes "ANTENNA: DELTA H/E/N")
     (let height = values.height in omega (arith, height)) (lit< tt) (lit< tt) (plain 20 _ refl (lit≤ tt))
 
+interval_fits : (n : ℕ) → n < 2 ^ 32 → IsFileLine (interval_line n)
+interval_fits n fits = header_fields (right 10 (fixed 3 (pos n)) ∷ []) (codes "INTERVAL")
+    (of_80 (10 + 45) (right 10 (fixed 3 (pos n))) (plain-right 10 45 (fixed 3 (pos n)) (plain-fixed 3 (pos n) (omega (arith, fits)))) (lit≤ tt), tt) (lit≤ tt) (plain 20 _ refl (lit≤ tt))
+
+line_of_interval : (interval : Option ℕ) → IfSome interval IsInterval → IsFileLine (interval_line (unwrap_or interval 0))
+line_of_interval None is = interval_fits 0 (lit< tt)
+line_of_interval (Some n) is = interval_fits n (omega (arith, is))
+
 -- ---- rows
 
-line_in : {x : HeaderLists} {p : PlanValue} {v : StationValues} {t : Civil} → AreTexts x → IsPlan p → AreValues v → IsShort t → (r : HeaderRow) → IsFileLine (row_line x p v t r)
+line_in : (h : Shown) → IsShown h → (r : HeaderRow) → IsFileLine (row_line h r)
 unfolding row_line
-line_in {p} texts plan values time Version = version p
-line_in {x} texts plan values time (Texts r) = line_of_texts x texts r
-line_in {v} texts plan values time Position = line_of_position v values
-line_in {v} texts plan values time Delta = line_of_delta v values
-line_in {p} texts plan values time (Types s row) = one_of_types s (planned_of s p) row (few_signals_of p plan s)
-line_in texts plan values time StrengthUnit = header 4 (codes "DBHZ") (codes "SIGNAL STRENGTH UNIT") (record { clean = refl; short = lit≤ tt }) (plain 20 _ refl (lit≤ tt)) (lit≤ tt)
-line_in {t} texts plan values time First = line_of_first t time
-line_in texts plan values time (Shift s) = header 1 (letter s ∷ []) (codes "SYS / PHASE SHIFT") (plain 1 _ (ap (λ c. c || false) (no_letter s)) (lit≤ tt)) (plain 20 _ refl (lit≤ tt)) (lit≤ tt)
-line_in {p} texts plan values time (Slots row) = line_of_slots (slots_of p.channels) row (slots_are p.channels plan.channels)
-line_in texts plan values time Biases = header 0 [] (codes "GLONASS COD/PHS/BIS") (record { clean = refl; short = lit≤ tt }) (plain 20 _ refl (lit≤ tt)) (lit≤ tt)
-line_in texts plan values time End = header 0 [] (codes "END OF HEADER") (record { clean = refl; short = lit≤ tt }) (plain 20 _ refl (lit≤ tt)) (lit≤ tt)
+line_in h is Version = version h.plan
+line_in h is (Texts r) = line_of_texts h.texts is.texts r
+line_in h is Position = line_of_position h.values is.values
+line_in h is Delta = line_of_delta h.values is.values
+line_in h is (Types s row) = one_of_types s (planned_of s h.plan) row (few_signals_of h.plan is.plan s)
+line_in h is StrengthUnit = header 4 (codes "DBHZ") (codes "SIGNAL STRENGTH UNIT") (record { clean = refl; short = lit≤ tt }) (plain 20 _ refl (lit≤ tt)) (lit≤ tt)
+line_in h is Interval = line_of_interval h.interval is.interval
+line_in h is First = line_of_first (civil_of h.first) (short_time h.first is.first)
+line_in h is (Shift s) = header 1 (letter s ∷ []) (codes "SYS / PHASE SHIFT") (plain 1 _ (ap (λ c. c || false) (no_letter s)) (lit≤ tt)) (plain 20 _ refl (lit≤ tt)) (lit≤ tt)
+line_in h is (Slots row) = line_of_slots (slots_of h.plan.channels) row (slots_are h.plan.channels is.plan.channels)
+line_in h is Biases = header 0 [] (codes "GLONASS COD/PHS/BIS") (record { clean = refl; short = lit≤ tt }) (plain 20 _ refl (lit≤ tt)) (lit≤ tt)
+line_in h is End = header 0 [] (codes "END OF HEADER") (record { clean = refl; short = lit≤ tt }) (plain 20 _ refl (lit≤ tt)) (lit≤ tt)
 
-lines_of_rows : (x : HeaderLists) (p : PlanValue) (v : StationValues) (t : Civil) → ((r : HeaderRow) → IsFileLine (row_line x p v t r)) → (rows : List HeaderRow) → All IsFileLine (flat_map (row_lines x p v t) rows)
-lines_of_rows x p v t each [] = All-nil IsFileLine
-lines_of_rows x p v t each (r ∷ rows) =
-    All-append IsFileLine (if has_line p r then row_line x p v t r ∷ [] else []) (flat_map (row_lines x p v t) rows)
-    (cond_both (has_line p r) (row_line x p v t r ∷ []) [] (All IsFileLine) (λ has. All-replicate IsFileLine 1 (row_line x p v t r) (each r)) (λ none. All-nil IsFileLine)) (lines_of_rows x p v t each rows)
+lines_of_rows : (h : Shown) → ((r : HeaderRow) → IsFileLine (row_line h r)) → (rows : List HeaderRow) → All IsFileLine (flat_map (row_lines h) rows)
+lines_of_rows h each [] = All-nil IsFileLine
+lines_of_rows h each (r ∷ rows) =
+    All-append IsFileLine (row_lines h r) (flat_map (row_lines h) rows)
+    (cond_both (has_line h r) (row_line h r ∷ []) [] (All IsFileLine) (λ has. All-replicate IsFileLine 1 (row_line h r) (each r)) (λ none. All-nil IsFileLine)) (lines_of_rows h each rows)
 
-pub lines_of_header : (x : HeaderLists) (p : PlanValue) (v : StationValues) (t : Civil) → AreTexts x → IsPlan p → AreValues v → IsShort t → All IsFileLine (header_lines x p v t)
+pub lines_of_header : (h : Shown) → IsShown h → All IsFileLine (header_lines h)
 unfolding header_lines
-lines_of_header x p v t texts plan values time = lines_of_rows x p v t (line_in texts plan values time) all_rows
+lines_of_header h is = lines_of_rows h (line_in h is) all_rows

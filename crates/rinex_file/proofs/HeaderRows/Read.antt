@@ -1,13 +1,12 @@
 -- What is known after each line of a header.
 use Rattle.rinex_file.specs.Read.HeaderSteps.{AreBegun}
 use Rattle.gnss_system.proofs.SystemLaws.{value_after, value_of_other}
-use Rattle.rinex_file.proofs.HeaderRows.Agree.{types_in, types_shown, rows_when}
+use Rattle.rinex_file.proofs.HeaderRows.Agree.{interval-back, types_in, types_shown, rows_when}
 use Rattle.rinex_file.proofs.HeaderRows.Slots.{slots_are, slots_go_on, same_after, line_after_same, same_before}
 use Rattle.rinex_file.proofs.HeaderRows.Places.{either, none_of_slots, other_before, own_before, slots_here}
-use Rattle.rinex_file.proofs.HeaderRows.Steps.{Law, single, present, shows_next, begun_more}
-use Rattle.rinex_file.proofs.HeaderRows.Texts.{equal_or, same_here, same_line, kept_texts, same_texts, texts_back}
-use Rattle.rinex_file.proofs.PlainTexts.{both}
-use Rattle.rinex_file.proofs.Names.{common_steps, arith, ◌≡◌, ◌∙◌, sym, ap, refl, subst, ℕ, suc, ◌+◌, ◌<◌, ◌≤◌, Bool, true, false, List, [], ◌∷◌, length, take, min, ◌↔◌, ◌^◌, get_or, Option, Some, None, IsTrue, nat_lt, codes, nat_le, list_all, take-take, take-map, SignalAt, table, System, is_less, is_system, indices, planned_of, civil_of, StationValues, length_indices, Types, Version, Texts, Position, Delta, StrengthUnit, First, Shift, row_line, row_count, row_at, has_line, type_rows, position_line, row_place, header_line, height_line, first_line, strength_line, version_by, Known, Has, HasRow, AreSized, AreTypesOf, AreSameTexts, counted, types_before, systems_letter, shown_line, shown_rows, AreTypes, types_line, signals_begun, IsPosition, position_of, Shown, IsShown, known_line, NoneGoesOn, TakesTypes, RefusesTypes, with_types, IsHeaderLineRead, RefusesHeaderLine, ReadsOrRefuses, ReadsTexts, RefusesTexts, with_texts, with_values, with_first, with_letter, TextRow, HeaderRow, HeaderLists, text_row_index, fields_of, place_of, front_of, HeaderField, AntType, IsTime, letter, ReadsExactly, same_Some, ⊤, ◌*◌, Slots, Biases, biases_line, slots_line, slots_of, slots_in_line, known_slots, with_slots, AreSlotsAt, AreSlotsBefore, SlotsFollow, IsLineOfSlots, TakesSlots, TakesOrRefusesSlots, ChannelsValue, add-one}
+use Rattle.rinex_file.proofs.HeaderRows.Steps.{left_over, Law, single, present, shows_next, begun_more}
+use Rattle.rinex_file.proofs.HeaderRows.Texts.{each_field, equal_or, field_back, is_apart, same_here, same_line, same_some, kept_texts, same_texts, texts_back}
+use Rattle.rinex_file.proofs.Names.{common_steps, arith, ◌≡◌, ◌∙◌, sym, ap, refl, subst, ℕ, suc, ◌+◌, ◌<◌, ◌≤◌, Bool, true, false, List, [], ◌∷◌, length, take, min, ◌↔◌, ◌^◌, Option, Some, None, IsTrue, codes, list_all, take-take, take-map, SignalAt, table, System, is_less, is_system, indices, planned_of, civil_of, StationValues, length_indices, Types, Version, Texts, Position, Delta, StrengthUnit, First, Shift, row_line, row_count, row_at, has_line, type_rows, position_line, row_place, header_line, height_line, first_line, strength_line, version_by, Known, Has, HasRow, AreSized, AreTypesOf, AreSameTexts, counted, types_before, systems_letter, row_lines, AreTypes, types_line, signals_begun, IsPosition, position_of, Shown, IsShown, known_line, NoneGoesOn, TakesTypes, RefusesTypes, with_types, IsHeaderLineRead, RefusesHeaderLine, ReadsOrRefuses, ReadsTexts, RefusesTexts, with_texts, with_values, with_first, with_letter, HeaderField, HeaderRow, HeaderLists, fields_of, front_of, IsTime, letter, ReadsExactly, same_Some, ⊤, ◌*◌, Slots, Biases, biases_line, slots_line, slots_of, slots_in_line, known_slots, with_slots, AreSlotsAt, AreSlotsBefore, SlotsFollow, IsLineOfSlots, TakesSlots, TakesOrRefusesSlots, ChannelsValue, add-one, has_text, is_required, is_given, is_optional, AreUnread, not-true, fields, is_equal, place_of, ◌==◌, ◌||◌, Interval, IsInterval, IfSome, is_some, interval_line, unwrap_or, with_interval, lit≤, digits_in, drop}
 
 -- ---- numbers of signals
 
@@ -79,6 +78,9 @@ module _ (k : Known) (s : System) (row n : ℕ) (line : List ℕ) (less : n < ro
       let z = none_of_slots less s row at in
       record { none = λ e. r.none z.0; unplanned = λ e. r.none z.0; size = r.size ∙ ap (λ m. min (slots_in_line * m) k.slots) (z.0 ∙ sym z.1); room = r.room }
 
+  pub types_unread : AreUnread k n → AreUnread after (suc n)
+  types_unread unread q far = unread q (omega (arith, far))
+
   pub types_law : Law k n line after
   unfolding row_line
   types_law h is = (to, from) where
@@ -88,14 +90,14 @@ module _ (k : Known) (s : System) (row n : ℕ) (line : List ℕ) (less : n < ro
     before : Has k n h → AreTypesOf row (counted k s) (planned_of s k.shown.plan) all
     before a = subst (λ m. AreTypesOf m (counted k s) (planned_of s k.shown.plan) all) own.0 (a.types s)
 
-    to : Has k n h × (shown_rows h (row_at n) ≡ line ∷ []) → Has after (suc n) h
-    to (a, e) = by (has_line h.plan (Types s row)) refl where
-      by : (b : Bool) → has_line h.plan (Types s row) ≡ b → Has after (suc n) h
-      by false lacks = let none : ◌≡◌ {A = List (List ℕ)} [] (line ∷ []) = sym (ap (shown_rows h) at ∙ rows_when h (Types s row) false lacks) ∙ e in cc
+    to : Has k n h × (row_lines h (row_at n) ≡ line ∷ []) → Has after (suc n) h
+    to (a, e) = by (has_line h (Types s row)) refl where
+      by : (b : Bool) → has_line h (Types s row) ≡ b → Has after (suc n) h
+      by false lacks = let none : ◌≡◌ {A = List (List ℕ)} [] (line ∷ []) = sym (ap (row_lines h) at ∙ rows_when h (Types s row) false lacks) ∙ e in cc
       by true has =
           let few = is_less row (type_rows (length all)) has in
           let are : AreTypes s all = types_shown s h is (omega (arith, few)) in
-          let shows : line ≡ types_line s all row = single line (types_line s all row) (sym e ∙ ap (shown_rows h) at ∙ types_in h s row few) in
+          let shows : line ≡ types_line s all row = single line (types_line s all row) (sym e ∙ ap (row_lines h) at ∙ types_in h s row few) in
           let b = before a in
           let taken = (t.taken all are).0 ((t.counts all are b.number shows, b.begun), shows) in
           record {
@@ -104,7 +106,7 @@ module _ (k : Known) (s : System) (row n : ℕ) (line : List ℕ) (less : n < ro
                 (record { number = λ l. sym taken.0; begun = taken.1 ∙ ap (λ m. take (signals_begun m) all) (add-one row) }) a.types (λ u rows c xs b. b);
           }
 
-    from : Has after (suc n) h → Has k n h × (shown_rows h (row_at n) ≡ line ∷ [])
+    from : Has after (suc n) h → Has k n h × (row_lines h (row_at n) ≡ line ∷ [])
     from a = (record { rows = λ i l. (same_rows_known s k count signals h (row_at i)).1 (a.rows i (omega (arith, l))); types = types }, shows) where
       mine : AreTypesOf (suc row) count signals all
       mine = (own_made (λ c xs. AreTypesOf (suc row) c xs all) s k count signals).1
@@ -126,8 +128,8 @@ module _ (k : Known) (s : System) (row n : ℕ) (line : List ℕ) (less : n < ro
           (λ other. (other_made (λ c xs. AreTypesOf (types_before u n) c xs (planned_of u h.plan)) s u k count signals other).1
           (subst (λ m. AreTypesOf m (counted after u) (planned_of u after.shown.plan) (planned_of u h.plan)) (other_before less u s row at other) (a.types u)))
 
-      shows : shown_rows h (row_at n) ≡ line ∷ []
-      shows = ap (shown_rows h) at ∙ types_in h s row (subst (λ c. row < type_rows c) same t.rows) ∙ ap (λ l. l ∷ []) (sym taken.1)
+      shows : row_lines h (row_at n) ≡ line ∷ []
+      shows = ap (row_lines h) at ∙ types_in h s row (subst (λ c. row < type_rows c) same t.rows) ∙ ap (λ l. l ∷ []) (sym taken.1)
 
 -- ---- the line is refused
 
@@ -135,11 +137,11 @@ pub none_taken : (k : Known) (s : System) (row n : ℕ) (line : List ℕ) → n 
     → RefusesTypes s row line (counted k s) (planned_of s k.shown.plan) → NoneGoesOn k n line
 unfolding row_line
 none_taken k s row n line less at has refuses h others left on =
-    let there : has_line h.plan (Types s row) ≡ true = sym (ap (has_line h.plan) at) ∙ present less on ∙ has in
+    let there : has_line h (Types s row) ≡ true = sym (ap (has_line h) at) ∙ present less on ∙ has in
     let few = is_less row (type_rows (length (planned_of s h.plan))) there in
     let b : AreTypesOf row (counted k s) (planned_of s k.shown.plan) (planned_of s h.plan) = subst (λ m. AreTypesOf m (counted k s) (planned_of s k.shown.plan) (planned_of s h.plan)) (own_before less s row at).0 (on.has.types s) in
     refuses (planned_of s h.plan) (types_shown s h on.is (omega (arith, few))) b.number b.begun
-    (sym (shows_next less on (present less on ∙ has)) ∙ ap (shown_line h) at)
+    (sym (shows_next less on (present less on ∙ has)) ∙ ap (row_line h) at)
 
 -- ---- rows that are read exactly
 
@@ -148,33 +150,26 @@ exact {text = text} r w is = (λ e. r.2 w is (sym e), λ e. ap text e ∙ sym r.
 
 -- ---- texts
 
--- the index of a row's first text among all
-abbrev start_of : TextRow → ℕ
-start_of r = place_of (get_or (fields_of r) 0 AntType)
-
-abbrev ends_by : ℕ → TextRow → Bool
-ends_by n r = list_all (λ f. nat_lt (place_of f) n) (fields_of r)
-
-ends_before : (q r : TextRow) → text_row_index q < text_row_index r → ends_by (start_of r) q ≡ true
-ends_before q r less = grind arith
-
-own_texts : (r : TextRow) → list_all (λ f. nat_le (start_of r) (place_of f)) (fields_of r) ≡ true
-own_texts r = grind arith
-
-same_in : (x y : HeaderLists) (n : ℕ) → ((i : ℕ) → i < n → get_or x i [] ≡ get_or y i []) → (fs : List HeaderField) → list_all (λ f. nat_lt (place_of f) n) fs ≡ true → AreSameTexts x y fs
-same_in x y n same [] all = tt
-same_in x y n same (f ∷ fs) all = let parts = both (nat_lt (place_of f) n) (list_all (λ f. nat_lt (place_of f) n) fs) all in (same (place_of f) (is_less (place_of f) n parts.0), same_in x y n same fs parts.1)
+-- no text is in two rows
+rows_apart : (q r : HeaderField) → (q ≡ r → ⊥) → list_all (is_apart (fields_of r)) (fields_of q) ≡ true
+rows_apart q r other =
+    let test = λ (q r : HeaderField). (place_of q == place_of r) || list_all (is_apart (fields_of r)) (fields_of q) in
+    left_over (place_of q == place_of r) (list_all (is_apart (fields_of r)) (fields_of q)) (each_field (test q) (each_field (λ q. list_all (test q) fields) refl q) r) (λ e. other (field_back q r (is_equal (place_of q) (place_of r) e)))
 
 turned : (x y : HeaderLists) (fs : List HeaderField) → AreSameTexts x y fs → AreSameTexts y x fs
 turned x y fs a = same_texts x y x fs a (same_here x fs)
 
-pub line_texts : (r : TextRow) (line : List ℕ) (k : Known) (x : HeaderLists) → ReadsTexts r line k.shown.texts x → IsHeaderLineRead (Texts r) line k (with_texts k x)
+pub line_texts : (r : HeaderField) (line : List ℕ) (k : Known) (x : HeaderLists) → ReadsTexts r line k.shown.texts x → IsHeaderLineRead (Texts r) line k (with_texts k x)
 unfolding row_line
-line_texts r line k x read = record { signals = refl; counts = λ s. refl; slots = (refl, refl); own = own; kept = kept } where
-  same : (i : ℕ) → i < start_of r → get_or x i [] ≡ get_or k.shown.texts i []
-  same = kept_texts (start_of r) (fields_of r) (length (front_of r)) line k.shown.texts (own_texts r) read.read
+line_texts r line k x read = record { signals = refl; counts = λ s. refl; slots = (refl, refl); some = λ o. left_over (is_required r) (has_text x r) read.some (λ e. let f = not-true (is_required r) o in cc); later = later; own = own; kept = kept } where
+  stay : (q : HeaderField) → (q ≡ r → ⊥) → AreSameTexts x k.shown.texts (fields_of q)
+  stay q other = kept_texts (fields_of r) (length (front_of r)) line k.shown.texts read.read (fields_of q) (rows_apart q r other)
 
-  own : (h : Shown) → IsShown h → Has k (row_place (Texts r)) h → (shown_line h (Texts r) ≡ line) ↔ AreSameTexts h.texts x (fields_of r)
+  later : (q : HeaderRow) → row_place (Texts r) < row_place q → is_given x k.shown.interval q ≡ is_given k.shown.texts k.shown.interval q
+  later (Texts q) less = same_some x k.shown.texts (fields_of q) (stay q (λ e. omega (arith, less, ap (λ f. row_place (Texts f)) e)))
+  later q less = refl
+
+  own : (h : Shown) → IsShown h → Has k (row_place (Texts r)) h → (row_line h (Texts r) ≡ line) ↔ AreSameTexts h.texts x (fields_of r)
   own h is before = (
     λ e.
         let back = texts_back h.texts is.texts r line k.shown.texts read.size e in
@@ -184,15 +179,15 @@ line_texts r line k x read = record { signals = refl; counts = λ s. refl; slots
 
   kept : (h : Shown) (q : HeaderRow) → row_place q < row_place (Texts r) → HasRow k h q ↔ HasRow (with_texts k x) h q
   kept h (Texts q) less =
-      let stay = same_in x k.shown.texts (start_of r) same (fields_of q) (ends_before q r (omega (arith, less))) in (
-        λ a. turned x h.texts (fields_of q) (same_texts k.shown.texts x h.texts (fields_of q) (turned x k.shown.texts (fields_of q) stay) (turned h.texts k.shown.texts (fields_of q) a)),
-        λ a. turned k.shown.texts h.texts (fields_of q) (same_texts x k.shown.texts h.texts (fields_of q) stay (turned h.texts x (fields_of q) a)),
+      let same = stay q (λ e. omega (arith, less, ap (λ f. row_place (Texts f)) e)) in (
+        λ a. turned x h.texts (fields_of q) (same_texts k.shown.texts x h.texts (fields_of q) (turned x k.shown.texts (fields_of q) same) (turned h.texts k.shown.texts (fields_of q) a)),
+        λ a. turned k.shown.texts h.texts (fields_of q) (same_texts x k.shown.texts h.texts (fields_of q) same (turned h.texts x (fields_of q) a)),
       )
   kept h other less = (λ e. e, λ e. e)
 
-pub refuse_texts : (k : Known) (r : TextRow) (line : List ℕ) → RefusesTexts r line → RefusesHeaderLine k (Texts r) line
+pub refuse_texts : (k : Known) (r : HeaderField) (line : List ℕ) → RefusesTexts r line → RefusesHeaderLine k (Texts r) line
 unfolding row_line
-refuse_texts k r line refuses h is before e = refuses h.texts is.texts e
+refuse_texts k r line refuses h is before there e = refuses h.texts is.texts there e
 
 -- ---- station values
 
@@ -202,8 +197,8 @@ no_height v e = ap (λ (n : ℕ). record v { height = n }) e
 pub line_position : (k : Known) (v : StationValues) (line : List ℕ) → ReadsExactly IsPosition position_line line (Some v)
     → IsHeaderLineRead Position line k (with_values k (record v { height = k.shown.values.height }))
 unfolding row_line
-line_position k v line r = record { signals = refl; counts = λ s. refl; slots = (refl, refl); own = own; kept = kept } where
-  own : (h : Shown) → IsShown h → Has k (row_place Position) h → (shown_line h Position ≡ line) ↔ (position_of h.values ≡ position_of v)
+line_position k v line r = record { signals = refl; counts = λ s. refl; slots = (refl, refl); some = λ o. cc; later = λ q less. refl; own = own; kept = kept } where
+  own : (h : Shown) → IsShown h → Has k (row_place Position) h → (row_line h Position ≡ line) ↔ (position_of h.values ≡ position_of v)
   own h is before =
       let e = exact {Is = IsPosition} {text = position_line} r (position_of h.values) (is.values.x, is.values.y, is.values.z, refl) in
       (λ f. e.0 f ∙ no_height v r.0.3, λ f. e.1 (f ∙ sym (no_height v r.0.3)))
@@ -214,7 +209,7 @@ line_position k v line r = record { signals = refl; counts = λ s. refl; slots =
 
 pub refuse_position : (k : Known) (line : List ℕ) → ReadsExactly IsPosition position_line line None → RefusesHeaderLine k Position line
 unfolding row_line
-refuse_position k line r h is before e = r (position_of h.values) (is.values.x, is.values.y, is.values.z, refl) (sym e)
+refuse_position k line r h is before there e = r (position_of h.values) (is.values.x, is.values.y, is.values.z, refl) (sym e)
 
 abbrev Height : List ℕ → Option ℕ → Type 0
 Height line r = ReadsExactly (λ h. h < 2 ^ 16) height_line line r
@@ -226,7 +221,42 @@ line_delta k height line r = grind (arith, exact)
 
 pub refuse_delta : (k : Known) (line : List ℕ) → Height line None → RefusesHeaderLine k Delta line
 unfolding row_line
-refuse_delta k line r h is before e = r h.values.height is.values.height (sym e)
+refuse_delta k line r h is before there e = r h.values.height is.values.height (sym e)
+
+-- ---- the interval
+
+abbrev IntervalIn : List ℕ → Option ℕ → Type 0
+IntervalIn line r = ReadsExactly IsInterval interval_line line r
+
+same_interval : (i : Option ℕ) (n : ℕ) (line : List ℕ) → IfSome i IsInterval → IntervalIn line (Some n) → (interval_line (unwrap_or i 0) ≡ line) ↔ (i ≡ Some n)
+same_interval None n line is r = (
+  λ e.
+      let zero = sym (interval-back 0 (lit≤ tt)) ∙ ap (λ l. digits_in (take 10 (drop 0 l))) (e ∙ r.1) ∙ interval-back n r.0.1 in
+      let some = r.0.0 in absurd (omega (arith, zero, some)),
+  λ e. cc,
+)
+same_interval (Some m) n line is r = let e = exact {Is = IsInterval} {text = interval_line} r m is in (λ f. ap Some (e.0 f), λ f. e.1 (same_Some m n f))
+
+pub line_interval : (k : Known) (n : ℕ) (line : List ℕ) → IntervalIn line (Some n) → IsHeaderLineRead Interval line k (with_interval k n)
+unfolding row_line
+line_interval k n line r = record { signals = refl; counts = λ s. refl; slots = (refl, refl); some = λ o. refl; later = later; own = own; kept = kept } where
+  later : (q : HeaderRow) → row_place Interval < row_place q → is_given k.shown.texts (Some n) q ≡ is_given k.shown.texts k.shown.interval q
+  later Interval less = absurd (omega (arith, less))
+  later q less = refl
+
+  own : (h : Shown) → IsShown h → Has k (row_place Interval) h → (row_line h Interval ≡ line) ↔ (h.interval ≡ Some n)
+  own h is before = same_interval h.interval n line is.interval r
+
+  kept : (h : Shown) (q : HeaderRow) → row_place q < row_place Interval → HasRow k h q ↔ HasRow (with_interval k n) h q
+  kept h Interval less = absurd (omega (arith, less))
+  kept h other less = (λ e. e, λ e. e)
+
+pub refuse_interval : (k : Known) (line : List ℕ) → IntervalIn line None → RefusesHeaderLine k Interval line
+unfolding row_line
+refuse_interval k line r h is before there e = by h.interval is.interval there e where
+  by : (i : Option ℕ) → IfSome i IsInterval → is_some i ≡ true → interval_line (unwrap_or i 0) ≡ line → ⊥
+  by None is some e = cc
+  by (Some n) is some e = r n is (sym e)
 
 -- ---- the first epoch
 
@@ -235,25 +265,25 @@ FirstTime line r = ReadsExactly IsTime (λ t. first_line (civil_of t)) line r
 
 pub line_first : (k : Known) (t : ℕ) (line : List ℕ) → FirstTime line (Some t) → IsHeaderLineRead First line k (with_first k t)
 unfolding row_line
-line_first k t line r = record { signals = refl; counts = λ s. refl; slots = (refl, refl); own = λ h is before. exact {Is = IsTime} {text = λ t. first_line (civil_of t)} r h.first is.first; kept = kept } where
+line_first k t line r = record { signals = refl; counts = λ s. refl; slots = (refl, refl); some = λ o. cc; later = λ q less. refl; own = λ h is before. exact {Is = IsTime} {text = λ t. first_line (civil_of t)} r h.first is.first; kept = kept } where
   kept : (h : Shown) (q : HeaderRow) → row_place q < row_place First → HasRow k h q ↔ HasRow (with_first k t) h q
   kept h First less = absurd (omega (arith, less))
   kept h other less = (λ e. e, λ e. e)
 
 pub refuse_first : (k : Known) (line : List ℕ) → FirstTime line None → RefusesHeaderLine k First line
 unfolding row_line
-refuse_first k line r h is before e = r h.first is.first (sym e)
+refuse_first k line r h is before there e = r h.first is.first (sym e)
 
 -- ---- lines that are always the same
 
-line_fixed : (r : HeaderRow) {text line : List ℕ} (k : Known) (b : Bool) → SlotsFollow r line k k → ((h : Shown) → shown_line h r ≡ text) → ((h : Shown) → HasRow k h r)
+line_fixed : (r : HeaderRow) {text line : List ℕ} (k : Known) (b : Bool) → is_optional r ≡ false → SlotsFollow r line k k → ((h : Shown) → row_line h r ≡ text) → ((h : Shown) → HasRow k h r)
     → (IsTrue b ↔ (line ≡ text)) → ReadsOrRefuses r line k k b
-line_fixed r k true slots shows said is = record { signals = refl; counts = λ s. refl; slots = slots; own = λ h shown before. (λ e. said h, λ e. shows h ∙ sym (is.0 refl)); kept = λ h q less. (λ e. e, λ e. e) }
-line_fixed r k false slots shows said is = λ h shown before l. let e = is.1 (sym l ∙ shows h) in cc
+line_fixed r k true fixed slots shows said is = record { signals = refl; counts = λ s. refl; slots = slots; some = λ o. cc; later = λ q less. refl; own = λ h shown before. (λ e. said h, λ e. shows h ∙ sym (is.0 refl)); kept = λ h q less. (λ e. e, λ e. e) }
+line_fixed r k false fixed slots shows said is = λ h shown before there l. let e = is.1 (sym l ∙ shows h) in cc
 
 pub line_unit : (k : Known) (line : List ℕ) (b : Bool) → (IsTrue b ↔ (line ≡ strength_line)) → ReadsOrRefuses StrengthUnit line k k b
 unfolding row_line
-line_unit k line b is = line_fixed StrengthUnit k b (refl, refl) (λ h. refl) (λ h. tt) is
+line_unit k line b is = line_fixed StrengthUnit k b refl (refl, refl) (λ h. refl) (λ h. tt) is
 
 pub line_shift : (system : System) (byte : ℕ) (k : Known) (line : List ℕ) (b : Bool) → byte ≡ letter system
     → (IsTrue b ↔ (line ≡ header_line (byte ∷ []) (codes "SYS / PHASE SHIFT"))) → ReadsOrRefuses (Shift system) line k k b
@@ -262,7 +292,7 @@ line_shift system byte k line b e is = grind (arith, line_fixed)
 
 pub line_biases : (k : Known) (line : List ℕ) (b : Bool) → (IsTrue b ↔ (line ≡ biases_line)) → ReadsOrRefuses Biases line k k b
 unfolding row_line
-line_biases k line b is = line_fixed Biases k b (refl, refl) (λ h. refl) (λ h. tt) is
+line_biases k line b is = line_fixed Biases k b refl (refl, refl) (λ h. refl) (λ h. tt) is
 
 -- ---- slots
 
@@ -275,7 +305,7 @@ module _ (row : ℕ) (line : List ℕ) (k : Known) (before : AreSlotsBefore k (S
 
   slots_read : (count : ℕ) (channels : ChannelsValue) → TakesSlots row line k.slots (known_slots k) count (slots_of channels) → IsHeaderLineRead (Slots row) line k (with_slots k count channels)
   unfolding row_line
-  slots_read count channels t = record { signals = refl; counts = λ s. refl; slots = t; own = λ h is has. (λ e. same_after t (slots_line_of h is has e), λ a. line_after_same t a); kept = kept } where
+  slots_read count channels t = record { signals = refl; counts = λ s. refl; slots = t; some = λ o. cc; later = λ q less. refl; own = λ h is has. (λ e. same_after t (slots_line_of h is has e), λ a. line_after_same t a); kept = kept } where
     kept : (h : Shown) (q : HeaderRow) → row_place q < row_place (Slots row) → HasRow k h q ↔ HasRow (with_slots k count channels) h q
     kept h (Slots i) less = same_before t i (omega (arith, less))
     kept h other less = (λ e. e, λ e. e)
@@ -288,8 +318,8 @@ module _ (row : ℕ) (line : List ℕ) (k : Known) (before : AreSlotsBefore k (S
 
 pub line_version : (k : Known) (l : ℕ) (line : List ℕ) → ReadsExactly (λ byte. ⊤) version_by line (Some l) → IsHeaderLineRead Version line k (with_letter k l)
 unfolding row_line
-line_version k l line r = record { signals = refl; counts = λ s. refl; slots = (refl, refl); own = λ h is before. exact {Is = λ byte. ⊤} {text = version_by} r (systems_letter h.plan) tt; kept = λ h q less. absurd (omega (arith, less)) }
+line_version k l line r = record { signals = refl; counts = λ s. refl; slots = (refl, refl); some = λ o. cc; later = λ q less. refl; own = λ h is before. exact {Is = λ byte. ⊤} {text = version_by} r (systems_letter h.plan) tt; kept = λ h q less. absurd (omega (arith, less)) }
 
 pub refuse_version : (k : Known) (line : List ℕ) → ReadsExactly (λ byte. ⊤) version_by line None → RefusesHeaderLine k Version line
 unfolding row_line
-refuse_version k line r h is before e = r (systems_letter h.plan) tt (sym e)
+refuse_version k line r h is before there e = r (systems_letter h.plan) tt (sym e)

@@ -281,8 +281,8 @@ module _ {row before : ℕ} {line : List ℕ} {old all : List SlotNumber} (l : I
     there : (i : ℕ) → i < length (in_line row all) → get_or (in_line row all) i d ≡ get_or all (8 * row + i) d
     there i h = let size = length-take 8 (drop (8 * row) all) in get_or-take 8 (drop (8 * row) all) i d (omega (arith, h, size)) ∙ get_or-drop (8 * row) all i d
 
-    shown_line : ShowsSlot slot_here (drop (4 + 7 * q) line)
-    shown_line =
+    row_line : ShowsSlot slot_here (drop (4 + 7 * q) line)
+    row_line =
         let count = few_slots in
         let size : length (in_line row all) ≡ min 8 (length all - 8 * row) = length-take 8 (drop (8 * row) all) ∙ ap (min 8) (length-drop (8 * row) all) in
         let front = slots_front (length all) row in
@@ -298,10 +298,10 @@ module _ {row before : ℕ} {line : List ℕ} {old all : List SlotNumber} (l : I
     pub slot_read : digits_in (take 2 (drop (4 + 7 * q + 1) line)) ≡ slot_here.slot
     slot_read =
         let bound = bounds_here.0 in
-        ap (λ (t : List ℕ). digits_in (take 2 t)) (sym (drop-drop 1 (4 + 7 * q) line)) ∙ ap digits_in shown_line.0 ∙ digits_in-padded 2 slot_here.slot (omega arith) (omega (arith, bound)) (omega (arith, bound))
+        ap (λ (t : List ℕ). digits_in (take 2 t)) (sym (drop-drop 1 (4 + 7 * q) line)) ∙ ap digits_in row_line.0 ∙ digits_in-padded 2 slot_here.slot (omega arith) (omega (arith, bound)) (omega (arith, bound))
 
     pub channel_read : take 2 (drop (4 + 7 * q + 4) line) ≡ channel_text slot_here.number
-    channel_read = ap (take 2) (sym (drop-drop 4 (4 + 7 * q) line)) ∙ shown_line.1
+    channel_read = ap (take 2) (sym (drop-drop 4 (4 + 7 * q) line)) ∙ row_line.1
 
 -- what a line has in the columns of the slot at an index
 pub record HasSlot (line : List ℕ) (all : List SlotNumber) (q place : ℕ) (s : SlotNumber) : Type 0 where

@@ -7,7 +7,7 @@ use Rattle.gnss_system.specs.declared.system.System.TheVariants.{Glonass}
 use Rattle.rinex_file.proofs.HeaderRows.Slots.{More, more_slots, no_channels_are, same_channels}
 use Rattle.rinex_file.proofs.HeaderRows.Places.{own_slots, place_at}
 use Rattle.rinex_file.proofs.PlainTexts.{both}
-use Rattle.rinex_file.proofs.Names.{common_steps, All, All-cons, All-nil, All-push, AreSized, AreTypesOf, Bool, Delta, First, Has, HasRow, HeaderRow, IsDistinct, IsDistinct-push, IsHeadAt, IsShown, Known, List, PlanValue, Position, System, Texts, Version, ap, arith, counted, eqb, false, fields_of, flagged_letter, is_chosen, is_equal, is_less, is_planned, le-length_from_below, length, length-append, letter, list_any, min, nat_eq, nat_eq_equiv, nat_lt, nat_tests, nil_from_length, planned_of, refl, row_at, shown_with, signals_begun, subst, suc, sym, systems_letter, table, take, take-append_seam, take-take, take_all, take_min, true, types_before, zero, ◌&&◌, ◌++◌, ◌+◌, ◌-◌, ◌<◌, ◌==◌, ◌||◌, ◌∙◌, ◌∷◌, ◌≡◌, ◌≤◌, [], ℕ, lit<, ◌*◌, append-nil, take-append-le, row_count, Slots, SlotNumber, AreSlotsAt, known_slots, slots_before, slots_of, no_channels, lt-ltb, or_right}
+use Rattle.rinex_file.proofs.Names.{common_steps, All, All-cons, All-nil, All-push, AreSized, AreTypesOf, Bool, Delta, First, Has, HasRow, HeaderRow, IsDistinct, IsDistinct-push, IsHeadAt, IsShown, Known, List, PlanValue, Position, System, Texts, Version, ap, arith, counted, eqb, false, fields_of, flagged_letter, is_chosen, is_equal, is_less, is_planned, le-length_from_below, length, length-append, letter, list_any, min, nat_eq, nat_eq_equiv, nat_lt, nat_tests, nil_from_length, planned_of, refl, row_at, shown_with, signals_begun, subst, suc, sym, systems_letter, table, take, take-append_seam, take-take, take_all, take_min, true, types_before, zero, ◌&&◌, ◌++◌, ◌+◌, ◌-◌, ◌<◌, ◌==◌, ◌||◌, ◌∙◌, ◌∷◌, ◌≡◌, ◌≤◌, [], ℕ, lit<, ◌*◌, append-nil, take-append-le, row_count, Slots, SlotNumber, AreSlotsAt, known_slots, slots_before, slots_of, no_channels, lt-ltb, or_right, Interval}
 
 -- ---- signals of a system, with others up to a number
 
@@ -120,6 +120,7 @@ own_rows k n p more i less few at is size Version here e = e
 own_rows k n p more i less few at is size (Texts row) here e = same_here k.shown.texts (fields_of row)
 own_rows k n p more i less few at is size Position here e = refl
 own_rows k n p more i less few at is size Delta here e = refl
+own_rows k n p more i less few at is size Interval here e = refl
 own_rows k n p more i less few at is size First here e = refl
 own_rows k n p more i less few at is size (Slots row) here e =
     let place = place_at i (Slots row) (omega (arith, less, few)) here in
@@ -160,6 +161,7 @@ module _ (k : Known) (n : ℕ) (at : IsHeadAt k n) (flags : System → Bool) (sa
     p = p;
     is = record {
       texts = at.valid.texts;
+      interval = at.valid.interval;
       values = at.valid.values;
       first = at.valid.first;
       plan = record {

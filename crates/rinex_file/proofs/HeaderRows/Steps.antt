@@ -3,13 +3,16 @@ use Rattle.rinex_file.proofs.Reading.Epochs.{cons_parts}
 use Rattle.rinex_file.proofs.HeaderRows.Agree.{less_or, rows_when, placed, line_next, line_none, before_next}
 use Rattle.gnss_system.proofs.SystemLaws.{each_system}
 use Rattle.rinex_file.proofs.HeaderRows.Letters.{has_fits}
-use Rattle.rinex_file.proofs.HeaderRows.Texts.{equal_or}
+use Rattle.std.proofs.lemmas.Slice.Eq.{bytes_eq-Decides}
+use Rattle.std.specs.Str.{bytes_eq}
+use Rattle.rinex_fields.specs.Limits.{label_columns}
+use Rattle.rinex_file.proofs.HeaderRows.Texts.{at_most, each_field, equal_or, length-left, none_same, same_some}
 use Rattle.rinex_file.proofs.HeaderRows.Types.{content_first}
 use Rattle.gnss_system.specs.declared.system.System.TheVariants.{Glonass}
 use Rattle.rinex_file.proofs.HeaderRows.Slots.{no_slots}
 use Rattle.rinex_file.proofs.PlainTexts.{both}
 use Rattle.rinex_file.proofs.HeaderRows.Places.{all_before, either, flipped, is_types, other_before, other_slots, own_before, own_slots, place_at, plain_before, slots_here}
-use Rattle.rinex_file.proofs.Names.{common_steps, Result, Refusal, TakesHeaderLine, expected_if, drop, all_rows, arith, ◌≡◌, ◌∙◌, sym, ap, refl, subst, ℕ, zero, suc, ◌+◌, ◌<◌, ◌≤◌, Bool, true, false, List, [], ◌∷◌, ◌++◌, length, take, append-nil, not, take_all, ◌≢◌, ◌==◌, ◌&&◌, min, ◌↔◌, nat_lt, nat_tests, System, planned_of, civil_of, Known, IsShown, AreValid, Shown, IsHeadAt, shown_rows, shown_line, lines_before, lines_after, signals_begun, HeaderRow, Types, StrengthUnit, Shift, End, Expected, has_line, row_at, row_count, row_place, type_rows, known_line, RefusesHeaderLine, NoneGoesOn, SameFrom, AreSized, AreTypesOf, Has, HasRow, counted, fits, types_before, begins_with, IsHeaderLineRead, GoesOn, Takes, flat_map, row_line, header_line, letter, codes, is_less, lit<, ◌*◌, value_of, nil_from_length, Slots, Biases, SlotNumber, slots_of, slots_in_line, slot_rows, AreSlotsRead, AreSlotsAt, AreSameSlots, AreSlotsBefore, SlotsFollow, known_slots, not-true, ltb-false, add-one, eq-eqb}
+use Rattle.rinex_file.proofs.Names.{common_steps, Result, Refusal, TakesHeaderLine, expected_if, drop, all_rows, arith, ◌≡◌, ◌∙◌, sym, ap, refl, subst, ℕ, zero, suc, ◌+◌, ◌<◌, ◌≤◌, Bool, true, false, List, [], ◌∷◌, ◌++◌, length, take, append-nil, not, take_all, ◌≢◌, ◌==◌, ◌&&◌, min, ◌↔◌, nat_lt, nat_tests, System, planned_of, Known, IsShown, AreValid, Shown, IsHeadAt, row_lines, row_line, lines_before, lines_after, signals_begun, HeaderRow, Types, StrengthUnit, Shift, End, Expected, has_line, row_at, row_count, row_place, type_rows, known_line, RefusesHeaderLine, NoneGoesOn, SameFrom, AreSized, AreTypesOf, Has, HasRow, counted, fits, types_before, begins_with, IsHeaderLineRead, GoesOn, Takes, flat_map, header_line, letter, codes, is_less, lit<, ◌*◌, value_of, nil_from_length, Slots, Biases, SlotNumber, slots_of, slots_in_line, slot_rows, AreSlotsRead, AreSlotsAt, AreSameSlots, AreSlotsBefore, SlotsFollow, known_slots, not-true, ltb-false, add-one, eq-eqb, Texts, First, HeaderField, is_given, is_optional, is_required, has_text, label_of, left, AreUnread, append_assoc, ap₂, or_parts, or_right, has_label, fields_of, drop_at, length-append, ◌-◌, ◌||◌, nat_le, Interval, row_label, is_some, Option, lit≤, Version, Position, Delta}
 
 -- ---- the number of a system's signals
 
@@ -34,7 +37,7 @@ slots_expected less r k line at has s = grind (arith, own_slots, lit<, is_less)
 -- ---- a row apart from types
 
 module _ {n : ℕ} {r : HeaderRow} {line : List ℕ} {old new : Known} (less : n < row_count) (at : row_at n ≡ r) (plain : is_types r ≡ false) (read : IsHeaderLineRead r line old new) where
-  row_law : (h : Shown) → IsShown h → (Has old n h × (shown_line h r ≡ line)) ↔ Has new (suc n) h
+  row_law : (h : Shown) → IsShown h → (Has old n h × (row_line h r ≡ line)) ↔ Has new (suc n) h
   row_law h is = (to, from) where
     placed_at : Has old n h → Has old (row_place r) h
     placed_at a = subst (λ m. Has old m h) (place_at n r less at) a
@@ -42,7 +45,7 @@ module _ {n : ℕ} {r : HeaderRow} {line : List ℕ} {old new : Known} (less : n
     before : (i : ℕ) → i < n → row_place (row_at i) < row_place r
     before i l = subst (λ m. row_place (row_at i) < m) (place_at n r less at) (subst (λ m. m < n) (sym (placed i (omega (arith, l, less)))) l)
 
-    to : Has old n h × (shown_line h r ≡ line) → Has new (suc n) h
+    to : Has old n h × (row_line h r ≡ line) → Has new (suc n) h
     to (a, e) = record {
       rows = λ i l. equal_or (HasRow new h (row_at i)) i n
           (λ same. subst (HasRow new h) (sym at ∙ ap row_at (sym same)) ((read.own h is (placed_at a)).0 e))
@@ -50,7 +53,7 @@ module _ {n : ℕ} {r : HeaderRow} {line : List ℕ} {old new : Known} (less : n
       types = λ s. moved (λ rows c xs. AreTypesOf rows c xs (planned_of s h.plan)) (sym (plain_before less r s at plain)) (sym (read.counts s)) (ap (value_of s) (sym read.signals)) (a.types s);
     }
 
-    from : Has new (suc n) h → Has old n h × (shown_line h r ≡ line)
+    from : Has new (suc n) h → Has old n h × (row_line h r ≡ line)
     from a = (b, (read.own h is (placed_at b)).1 (subst (HasRow new h) at (a.rows n (omega arith)))) where
       b : Has old n h
       b = record {
@@ -74,6 +77,9 @@ module _ {n : ℕ} {r : HeaderRow} {line : List ℕ} {old new : Known} (less : n
         }
     by q at has t = slots_moved (other_slots less q at refl) (sym (read.counts Glonass)) (sym t.0) (sym t.1) s
 
+  pub row_unread : AreUnread old n → AreUnread new (suc n)
+  row_unread unread q far = let here = place_at n r less at in read.later q (omega (arith, far, here)) ∙ unread q (omega (arith, far))
+
 -- ---- which rows have a line
 
 -- after the types, the number of a system's signals is known
@@ -90,13 +96,61 @@ slots_known {n} less row k h at has =
     let e : n ≡ row_place (Slots (suc row)) = place_at n (Slots (suc row)) less at in
     subst (HasRow k h) (slots_here row (omega (arith, few))) (has.rows (row_place (Slots row)) (omega (arith, e)))
 
-pub plain_present : {n : ℕ} (less : n < row_count) (r : HeaderRow) → row_at n ≡ r → is_types r ≡ false → (k : Known) (line : List ℕ) (h : Shown) → Has k n h → has_line h.plan r ≡ known_line k line r
-plain_present less (Types s row) at plain k line h has = cc
-plain_present {n} less (Shift s) at plain k line h has = let e = place_at n (Shift s) less at in planned_known n (omega (arith, e)) s k h has
-plain_present {n} less (Slots zero) at plain k line h has = planned_known n (far_slots n 0 (place_at n (Slots 0) less at)) Glonass k h has
-plain_present less (Slots (suc row)) at plain k line h has = ap (λ m. nat_lt (suc row) (slot_rows m)) (sym (slots_known less row k h at has).number)
-plain_present {n} less Biases at plain k line h has = let e = place_at n Biases less at in planned_known n (omega (arith, e)) Glonass k h has
-plain_present less other at plain k line h has = refl
+not_false : (b : Bool) → not b ≡ false → b ≡ true
+not_false b e = grind arith
+
+-- apart from types and optional rows, what is known says it
+pub plain_present : {n : ℕ} (less : n < row_count) (r : HeaderRow) → row_at n ≡ r → is_types r ≡ false → is_optional r ≡ false → (k : Known) (line : List ℕ) (h : Shown) → Has k n h → has_line h r ≡ known_line k line r
+plain_present less (Texts row) at plain fixed k line h has = let must = not_false (is_required row) fixed in ap (λ b. b || has_text h.texts row) must ∙ sym (ap (λ b. b || has_label (label_of row) line) must)
+plain_present less Interval at plain fixed k line h has = cc
+plain_present less (Types s row) at plain fixed k line h has = cc
+plain_present {n} less (Shift s) at plain fixed k line h has = let e = place_at n (Shift s) less at in planned_known n (omega (arith, e)) s k h has
+plain_present {n} less (Slots zero) at plain fixed k line h has = planned_known n (far_slots n 0 (place_at n (Slots 0) less at)) Glonass k h has
+plain_present less (Slots (suc row)) at plain fixed k line h has = ap (λ m. nat_lt (suc row) (slot_rows m)) (sym (slots_known less row k h at has).number)
+plain_present {n} less Biases at plain fixed k line h has = let e = place_at n Biases less at in planned_known n (omega (arith, e)) Glonass k h has
+plain_present less other at plain fixed k line h has = refl
+
+-- ---- which line comes next
+
+-- a row that each header has
+abbrev is_always : HeaderRow → Bool
+is_always (Texts row) = is_required row
+is_always Version = true
+is_always Position = true
+is_always Delta = true
+is_always StrengthUnit = true
+is_always First = true
+is_always End = true
+is_always other = false
+
+always_there : (h : Shown) (r : HeaderRow) → is_always r ≡ true → has_line h r ≡ true
+always_there h (Texts row) e = ap (λ b. b || has_text h.texts row) e
+always_there h r e = grind arith
+
+-- up to the first that each header has, these rows pass a test
+abbrev all_up_to : (HeaderRow → Bool) → List HeaderRow → Bool
+all_up_to fails [] = false
+all_up_to fails (r ∷ rows) = fails r && (is_always r || all_up_to fails rows)
+
+one_fails : (h : Shown) (test : List ℕ → Bool) (r : HeaderRow) (rest left : List (List ℕ)) (line : List ℕ) → test (row_line h r) ≡ false → (has_line h r ≡ false → rest ≡ line ∷ left → test line ≡ false)
+    → (b : Bool) → has_line h r ≡ b → row_lines h r ++ rest ≡ line ∷ left → test line ≡ false
+one_fails h test r rest left line own more true has same = ap test (cons_parts line (row_line h r) left rest (sym same ∙ ap (λ l. l ++ rest) (rows_when h r true has))).0 ∙ own
+one_fails h test r rest left line own more false has same = more has (sym (ap (λ l. l ++ rest) (rows_when h r false has)) ∙ same)
+
+pub left_over : (b c : Bool) → (b || c) ≡ true → (b ≡ true → ⊥) → c ≡ true
+left_over b c e no_b = grind arith
+
+-- no line of those rows passes a test of lines, so the line that comes next doesn't
+next_fails : (h : Shown) (test : List ℕ → Bool) (fails : HeaderRow → Bool) → ((r : HeaderRow) → fails r ≡ true → test (row_line h r) ≡ false) → (rows : List HeaderRow) (others left : List (List ℕ)) (line : List ℕ)
+    → all_up_to fails rows ≡ true → flat_map (row_lines h) rows ++ others ≡ line ∷ left → test line ≡ false
+next_fails h test fails law [] others left line e same = cc
+next_fails h test fails law (r ∷ rows) others left line e same =
+    let two = both (fails r) (is_always r || all_up_to fails rows) e in
+    one_fails h test r (flat_map (row_lines h) rows ++ others) left line (law r two.0)
+    (λ lacks. next_fails h test fails law rows others left line (left_over (is_always r) (all_up_to fails rows) two.1 (λ e. let there = always_there h r e in cc)))
+    (has_line h r) refl (sym (append_assoc (row_lines h r) (flat_map (row_lines h) rows) others) ∙ same)
+
+-- ---- the first byte
 
 -- the first byte of a line of types, or of the unit's
 abbrev byte_of : HeaderRow → ℕ
@@ -104,73 +158,140 @@ byte_of (Types s zero) = letter s
 byte_of (Types s (suc row)) = 32
 byte_of other = 68
 
--- up to the unit's, no line of these rows begins with the byte
-abbrev apart_from : ℕ → List HeaderRow → Bool
-apart_from byte [] = false
-apart_from byte (Types s row ∷ rows) = not (byte_of (Types s row) == byte) && apart_from byte rows
-apart_from byte (StrengthUnit ∷ rows) = not (68 == byte)
-apart_from byte (r ∷ rows) = false
+abbrev other_byte : ℕ → HeaderRow → Bool
+other_byte byte (Types s row) = not (byte_of (Types s row) == byte)
+other_byte byte StrengthUnit = not (68 == byte)
+other_byte byte r = false
 
 first_byte : (content label : List ℕ) (b byte : ℕ) (rest : List ℕ) → content ≡ b ∷ rest → begins_with byte (header_line content label) ≡ (b == byte)
 first_byte content label b byte rest e = ap (begins_with byte) ((content_first content label).1 ∙ ap (λ c. c ++ (content_first content label).0) e)
 
-unit_byte : (h : Shown) (byte : ℕ) → begins_with byte (shown_line h StrengthUnit) ≡ (68 == byte)
+unit_byte : (h : Shown) (byte : ℕ) → begins_with byte (row_line h StrengthUnit) ≡ (68 == byte)
 unfolding row_line
 unit_byte h byte = first_byte (codes "DBHZ") (codes "SIGNAL STRENGTH UNIT") 68 byte _ refl
 
-pub types_byte : (h : Shown) (s : System) (row byte : ℕ) → begins_with byte (shown_line h (Types s row)) ≡ (byte_of (Types s row) == byte)
+pub types_byte : (h : Shown) (s : System) (row byte : ℕ) → begins_with byte (row_line h (Types s row)) ≡ (byte_of (Types s row) == byte)
 unfolding row_line
 types_byte h s zero byte = first_byte _ (codes "SYS / # / OBS TYPES") (letter s) byte _ refl
 types_byte h s (suc row) byte = first_byte _ (codes "SYS / # / OBS TYPES") 32 byte _ refl
 
-types_apart : (h : Shown) (byte : ℕ) (s : System) (row : ℕ) (rows : List HeaderRow) (others left : List (List ℕ)) (line : List ℕ) → not (byte_of (Types s row) == byte) ≡ true
-    → (flat_map (shown_rows h) rows ++ others ≡ line ∷ left → begins_with byte line ≡ false) → (b : Bool) → has_line h.plan (Types s row) ≡ b
-    → flat_map (shown_rows h) (Types s row ∷ rows) ++ others ≡ line ∷ left → begins_with byte line ≡ false
-types_apart h byte s row rows others left line other more true has same =
-    ap (begins_with byte) (cons_parts line (shown_line h (Types s row)) left (flat_map (shown_rows h) rows ++ others) (sym same ∙ ap (λ l. (l ++ flat_map (shown_rows h) rows) ++ others) (rows_when h (Types s row) true has))).0
-    ∙ types_byte h s row byte ∙ not-true (byte_of (Types s row) == byte) other
-types_apart h byte s row rows others left line other more false has same = more (sym (ap (λ l. (l ++ flat_map (shown_rows h) rows) ++ others) (rows_when h (Types s row) false has)) ∙ same)
-
--- the first line of these rows doesn't begin with the byte
-begins_apart : (h : Shown) (byte : ℕ) (rows : List HeaderRow) (others left : List (List ℕ)) (line : List ℕ) → apart_from byte rows ≡ true → flat_map (shown_rows h) rows ++ others ≡ line ∷ left → begins_with byte line ≡ false
-begins_apart h byte [] others left line e same = cc
-begins_apart h byte (Types s row ∷ rows) others left line e same =
-    let two = both (not (byte_of (Types s row) == byte)) (apart_from byte rows) e in
-    types_apart h byte s row rows others left line two.0 (begins_apart h byte rows others left line two.1) (has_line h.plan (Types s row)) refl same
-begins_apart h byte (StrengthUnit ∷ rows) others left line e same = ap (begins_with byte) (cons_parts line (shown_line h StrengthUnit) left (flat_map (shown_rows h) rows ++ others) (sym same)).0 ∙ unit_byte h byte ∙ not-true (68 == byte) e
-begins_apart h byte (r ∷ rows) others left line e same = cc
+byte_law : (h : Shown) (byte : ℕ) (r : HeaderRow) → other_byte byte r ≡ true → begins_with byte (row_line h r) ≡ false
+byte_law h byte (Types s row) e = types_byte h s row byte ∙ not-true (byte_of (Types s row) == byte) e
+byte_law h byte StrengthUnit e = unit_byte h byte ∙ not-true (68 == byte) e
+byte_law h byte r e = cc
 
 -- no line of the rows after a system's first line of types begins with its letter, up to the unit's
-after_types : (n : ℕ) (s : System) → n < row_count → row_at n ≡ Types s 0 → apart_from (letter s) (drop (suc n) all_rows) ≡ true
-after_types n s less at = let place = place_at n (Types s 0) less at in subst (λ m. apart_from (letter s) (drop (suc m) all_rows) ≡ true) (sym place)
-    (each_system (λ s. apart_from (letter s) (drop (suc (row_place (Types s 0))) all_rows)) s refl)
+after_types : (n : ℕ) (s : System) → n < row_count → row_at n ≡ Types s 0 → all_up_to (other_byte (letter s)) (drop (suc n) all_rows) ≡ true
+after_types n s less at = let place = place_at n (Types s 0) less at in subst (λ m. all_up_to (other_byte (letter s)) (drop (suc m) all_rows) ≡ true) (sym place)
+    (each_system (λ s. all_up_to (other_byte (letter s)) (drop (suc (row_place (Types s 0))) all_rows)) s refl)
+
+-- ---- the label
+
+abbrev label_end : List ℕ → List ℕ
+label_end label = left label_columns label ++ 10 ∷ []
+
+length-label_end : (label : List ℕ) → length label ≤ label_columns → length (label_end label) ≡ 21
+length-label_end label short = length-append (left label_columns label) (10 ∷ []) ∙ ap (λ n. n + 1) (length-left label_columns label short)
+
+label_shown : (a content label : List ℕ) → length a ≤ label_columns → length label ≤ label_columns → has_label a (header_line content label) ≡ bytes_eq (label_end a) (label_end label)
+unfolding header_line
+label_shown a content label short fits =
+    let front = left 60 content in
+    let own = length-label_end a short in
+    let size : length (front ++ label_end label) ≡ length front + 21 = length-append front (label_end label) ∙ ap (λ n. length front + n) (length-label_end label fits) in
+    ap (bytes_eq (label_end a)) (drop_at front (label_end label) (length (front ++ label_end label) - length (label_end a)) (omega (arith, own, size)))
+
+short_label : (row : HeaderField) → length (label_of row) ≤ label_columns
+short_label row = at_most (length (label_of row)) label_columns (each_field (λ r. nat_le (length (label_of r)) label_columns) refl row)
+
+short_row : (r : HeaderRow) → length (row_label r) ≤ label_columns
+short_row (Texts row) = short_label row
+short_row r = grind (arith, lit≤)
+
+-- what a row's line shows of a label
+row_shown : (h : Shown) (a : List ℕ) (r : HeaderRow) → length a ≤ label_columns → has_label a (row_line h r) ≡ bytes_eq (label_end a) (label_end (row_label r))
+unfolding row_line
+row_shown h a Version short = label_shown a _ (row_label Version) short (short_row Version)
+row_shown h a (Texts row) short = label_shown a _ (row_label (Texts row)) short (short_row (Texts row))
+row_shown h a Position short = label_shown a _ (row_label Position) short (short_row Position)
+row_shown h a Delta short = label_shown a _ (row_label Delta) short (short_row Delta)
+row_shown h a (Types s row) short = label_shown a _ (row_label (Types s row)) short (short_row (Types s row))
+row_shown h a StrengthUnit short = label_shown a _ (row_label StrengthUnit) short (short_row StrengthUnit)
+row_shown h a Interval short = label_shown a _ (row_label Interval) short (short_row Interval)
+row_shown h a First short = label_shown a _ (row_label First) short (short_row First)
+row_shown h a (Shift s) short = label_shown a _ (row_label (Shift s)) short (short_row (Shift s))
+row_shown h a (Slots row) short = label_shown a _ (row_label (Slots row)) short (short_row (Slots row))
+row_shown h a Biases short = label_shown a _ (row_label Biases) short (short_row Biases)
+row_shown h a End short = label_shown a _ (row_label End) short (short_row End)
+
+abbrev other_label : HeaderRow → HeaderRow → Bool
+other_label row r = not (bytes_eq (label_end (row_label row)) (label_end (row_label r)))
+
+label_law : (h : Shown) (row r : HeaderRow) → other_label row r ≡ true → has_label (row_label row) (row_line h r) ≡ false
+label_law h row r e = row_shown h (row_label row) r (short_row row) ∙ not-true (bytes_eq (label_end (row_label row)) (label_end (row_label r))) e
+
+-- no line of the rows after an optional row has its label, up to one that each header has
+abbrev after_ok : HeaderRow → Bool
+after_ok r = not (is_optional r) || all_up_to (other_label r) (drop (suc (row_place r)) all_rows)
+
+after_row : (r : HeaderRow) → after_ok r ≡ true
+after_row (Texts row) = each_field (λ f. after_ok (Texts f)) refl row
+after_row r = refl
+
+same_or : (b t l : Bool) → (not b ≡ true → (b || t) ≡ l) → (b || t) ≡ (b || l)
+same_or true t l same = refl
+same_or false t l same = same refl
+
+-- ---- values of optional rows
+
+same_value : (k : Known) (h : Shown) (r : HeaderRow) → HasRow k h r → is_given h.texts h.interval r ≡ is_given k.shown.texts k.shown.interval r
+same_value k h (Texts row) same = same_some h.texts k.shown.texts (fields_of row) same
+same_value k h Interval same = ap is_some same
+same_value k h r same = refl
+
+value_there : (h : Shown) (r : HeaderRow) → is_optional r ≡ true → is_given h.texts h.interval r ≡ true → has_line h r ≡ true
+value_there h (Texts row) optional some = or_right (is_required row) (has_text h.texts row) some
+value_there h Interval optional some = some
+value_there h r optional some = cc
 
 module _ {n : ℕ} (less : n < row_count) {k : Known} {line : List ℕ} {h : Shown} {others left : List (List ℕ)} (on : GoesOn k n h others (line ∷ left)) where
-  pub shows_next : has_line h.plan (row_at n) ≡ true → shown_line h (row_at n) ≡ line
-  shows_next has = let next = line_next h.texts h.plan h.values (civil_of h.first) n less has in
-      sym (cons_parts line (shown_line h (row_at n)) left (lines_after h (suc n) ++ others) (sym on.rest ∙ ap (λ l. l ++ others) next)).0
+  pub shows_next : has_line h (row_at n) ≡ true → row_line h (row_at n) ≡ line
+  shows_next has = let next = line_next h n less has in
+      sym (cons_parts line (row_line h (row_at n)) left (lines_after h (suc n) ++ others) (sym on.rest ∙ ap (λ l. l ++ others) next)).0
 
-  pub rest_next : has_line h.plan (row_at n) ≡ true → lines_after h (suc n) ++ others ≡ left
-  rest_next has = let next = line_next h.texts h.plan h.values (civil_of h.first) n less has in
-      sym (cons_parts line (shown_line h (row_at n)) left (lines_after h (suc n) ++ others) (sym on.rest ∙ ap (λ l. l ++ others) next)).1
+  pub rest_next : has_line h (row_at n) ≡ true → lines_after h (suc n) ++ others ≡ left
+  rest_next has = let next = line_next h n less has in
+      sym (cons_parts line (row_line h (row_at n)) left (lines_after h (suc n) ++ others) (sym on.rest ∙ ap (λ l. l ++ others) next)).1
 
-  rest_skipped : has_line h.plan (row_at n) ≡ false → lines_after h (suc n) ++ others ≡ line ∷ left
-  rest_skipped lacks = sym (ap (λ l. l ++ others) (line_none h.texts h.plan h.values (civil_of h.first) n less lacks)) ∙ on.rest
+  rest_skipped : has_line h (row_at n) ≡ false → lines_after h (suc n) ++ others ≡ line ∷ left
+  rest_skipped lacks = sym (ap (λ l. l ++ others) (line_none h n less lacks)) ∙ on.rest
 
-  -- a line is that of the next row exactly if its first byte says so, or what is known
-  pub present : has_line h.plan (row_at n) ≡ known_line k line (row_at n)
+  -- an optional row is there exactly if its label comes
+  optional_there : (r : HeaderRow) → row_at n ≡ r → is_optional r ≡ true → has_line h r ≡ has_label (row_label r) line
+  optional_there r at optional = by (has_line h r) refl where
+    apart : all_up_to (other_label r) (drop (suc n) all_rows) ≡ true
+    apart = subst (λ m. all_up_to (other_label r) (drop (suc m) all_rows) ≡ true) (sym (place_at n r less at)) (left_over (not (is_optional r)) _ (after_row r) (λ e. let f = not-true (is_optional r) e in cc))
+
+    by : (b : Bool) → has_line h r ≡ b → has_line h r ≡ has_label (row_label r) line
+    by true has = has ∙ sym (ap (has_label (row_label r)) (sym (sym (ap (row_line h) at) ∙ shows_next (ap (has_line h) at ∙ has))) ∙ row_shown h (row_label r) r (short_row r) ∙ (bytes_eq-Decides (label_end (row_label r)) (label_end (row_label r))).1 refl)
+    by false lacks = lacks ∙ sym (next_fails h (has_label (row_label r)) (other_label r) (label_law h r) (drop (suc n) all_rows) others left line apart (rest_skipped (ap (has_line h) at ∙ lacks)))
+
+  -- a line is that of the next row exactly if its first byte or its label says so, or what is known
+  pub present : has_line h (row_at n) ≡ known_line k line (row_at n)
   present = by (row_at n) refl where
-    by : (r : HeaderRow) → row_at n ≡ r → has_line h.plan (row_at n) ≡ known_line k line (row_at n)
-    by (Types s zero) at = ap (has_line h.plan) at ∙ first (has_line h.plan (Types s 0)) refl ∙ sym (ap (known_line k line) at) where
-      first : (b : Bool) → has_line h.plan (Types s 0) ≡ b → has_line h.plan (Types s 0) ≡ begins_with (letter s) line
-      first true has = has ∙ sym (sym (ap (begins_with (letter s)) (sym (ap (shown_line h) at) ∙ shows_next (ap (has_line h.plan) at ∙ has))) ∙ types_byte h s 0 (letter s) ∙ eq-eqb (letter s) (letter s) refl)
-      first false lacks = lacks ∙ sym (begins_apart h (letter s) (drop (suc n) all_rows) others left line (after_types n s less at) (rest_skipped (ap (has_line h.plan) at ∙ lacks)))
+    by : (r : HeaderRow) → row_at n ≡ r → has_line h (row_at n) ≡ known_line k line (row_at n)
+    by (Types s zero) at = ap (has_line h) at ∙ first (has_line h (Types s 0)) refl ∙ sym (ap (known_line k line) at) where
+      first : (b : Bool) → has_line h (Types s 0) ≡ b → has_line h (Types s 0) ≡ begins_with (letter s) line
+      first true has = has ∙ sym (sym (ap (begins_with (letter s)) (sym (ap (row_line h) at) ∙ shows_next (ap (has_line h) at ∙ has))) ∙ types_byte h s 0 (letter s) ∙ eq-eqb (letter s) (letter s) refl)
+      first false lacks = lacks ∙ sym (next_fails h (begins_with (letter s)) (other_byte (letter s)) (byte_law h (letter s)) (drop (suc n) all_rows) others left line (after_types n s less at) (rest_skipped (ap (has_line h) at ∙ lacks)))
     by (Types s (suc row)) at =
         let count = (on.has.types s).number (some_rows (own_before less s (suc row) at).0) in
-        ap (has_line h.plan) at ∙ ap (λ m. nat_lt (suc row) (type_rows m)) (sym count) ∙ sym (ap (known_line k line) at) where
+        ap (has_line h) at ∙ ap (λ m. nat_lt (suc row) (type_rows m)) (sym count) ∙ sym (ap (known_line k line) at) where
           some_rows : {m : ℕ} → m ≡ suc row → 0 < m
           some_rows e = omega (arith, e)
-    by r at = ap (has_line h.plan) at ∙ plain_present less r at refl k line h on.has ∙ sym (ap (known_line k line) at)
+    by (Texts row) at = ap (has_line h) at ∙ same_or (is_required row) (has_text h.texts row) (has_label (label_of row) line) (optional_there (Texts row) at) ∙ sym (ap (known_line k line) at)
+    by Interval at = ap (has_line h) at ∙ optional_there Interval at refl ∙ sym (ap (known_line k line) at)
+    by r at = ap (has_line h) at ∙ plain_present less r at refl refl k line h on.has ∙ sym (ap (known_line k line) at)
 
 -- ---- a row without a line
 
@@ -198,11 +319,14 @@ unskip_types s row count signals all sized lacks are = grind (arith, few_begun, 
 skip_sized : (s : System) (row count : ℕ) (signals : List ℕ) → AreSized s row count signals → (0 < row → nat_lt row (type_rows count) ≡ false) → AreSized s (suc row) count signals
 skip_sized s row count signals sized lacks = grind (arith, few_begun, begun_more)
 
+both_none : (a b : Option ℕ) → is_some a ≡ false → is_some b ≡ false → a ≡ b
+both_none a b p q = grind arith
+
 not_last : (n : ℕ) (k : Known) (line : List ℕ) → n < row_count → known_line k line (row_at n) ≡ false → suc n < row_count
 not_last n k line less lacks = grind (arith, less_or)
 
 module _ (k : Known) (line : List ℕ) {n : ℕ} (less : n < row_count) (lacks : known_line k line (row_at n) ≡ false)
-    (sized : (s : System) → AreSized s (types_before s n) (counted k s) (planned_of s k.shown.plan)) (slots : AreSlotsAt k n) where
+    (sized : (s : System) → AreSized s (types_before s n) (counted k s) (planned_of s k.shown.plan)) (slots : AreSlotsAt k n) (unread : AreUnread k n) where
   -- a line of types that isn't the first is known to be there or not
   known_rows : (s : System) (row : ℕ) → row_at n ≡ Types s row → 0 < row → nat_lt row (type_rows (counted k s)) ≡ false
   known_rows s row at some = grind arith
@@ -231,8 +355,15 @@ module _ (k : Known) (line : List ℕ) {n : ℕ} (less : n < row_count) (lacks :
       sym (take_all (8 * suc row) (slots_of h.plan.channels) (omega (arith, left, number))) ∙ s.begun ∙ take_all (8 * suc row) (known_slots k) (omega (arith, left, few)) in
       record { number = s.number; begun = ap (take (8 * suc (suc row))) same }
 
-  nothing_known : (r : HeaderRow) → row_at n ≡ r → (h : Shown) → IsShown h → Has k n h → HasRow k h r
-  nothing_known r at h is has = grind (arith, slots_same)
+  -- no value was read for this row
+  no_value : (r : HeaderRow) → row_at n ≡ r → is_given k.shown.texts k.shown.interval r ≡ false
+  no_value r at = let here = place_at n r less at in unread r (omega (arith, here))
+
+  nothing_known : (r : HeaderRow) → row_at n ≡ r → (h : Shown) → IsShown h → Has k n h → has_line h r ≡ false → HasRow k h r
+  nothing_known (Texts row) at h is has none = none_same h.texts k.shown.texts (fields_of row) (or_parts (is_required row) (has_text h.texts row) none).1 (no_value (Texts row) at)
+  nothing_known Interval at h is has none = both_none h.interval k.shown.interval none (no_value Interval at)
+  nothing_known (Slots row) at h is has none = slots_same row at h is has
+  nothing_known r at h is has none = grind arith
 
   slots_skipped : (r : HeaderRow) → row_at n ≡ r → AreSlotsAt k (suc n)
   slots_skipped r at = grind (arith, own_slots, none_left, slots_moved, other_slots)
@@ -255,14 +386,18 @@ module _ (k : Known) (line : List ℕ) {n : ℕ} (less : n < row_count) (lacks :
   back : (h : Shown) → Has k (suc n) h → Has k n h
   back h has = grind (arith, common_steps, beside, unskip_types, sized_at, known_rows)
 
-  none_there : (r : HeaderRow) → row_at n ≡ r → (h : Shown) → Has k (suc n) h → has_line h.plan (row_at n) ≡ false
+  none_there : (r : HeaderRow) → row_at n ≡ r → (h : Shown) → Has k (suc n) h → has_line h (row_at n) ≡ false
   none_there (Types s row) at h has =
       let own = own_before less s row at in
-      ap (has_line h.plan) at ∙ none row (planned_of s h.plan) ((subst (typed h s) own.1 (has.types s)).number (omega arith)) (sized_at s row own.0).none (known_rows s row at) where
+      ap (has_line h) at ∙ none row (planned_of s h.plan) ((subst (typed h s) own.1 (has.types s)).number (omega arith)) (sized_at s row own.0).none (known_rows s row at) where
         none : {count : ℕ} (row : ℕ) (all : List ℕ) → count ≡ length all → (row ≡ 0 → count ≡ 0) → (0 < row → nat_lt row (type_rows count) ≡ false) → nat_lt row (type_rows (length all)) ≡ false
         none zero all same zeros lacks = ap (λ m. nat_lt 0 (type_rows m)) (sym same ∙ zeros refl)
         none (suc row) all same zeros lacks = ap (λ m. nat_lt (suc row) (type_rows m)) (sym same) ∙ lacks (omega arith)
-  none_there r at h has = ap (has_line h.plan) at ∙ plain_present less r at refl k line h (back h has) ∙ sym (ap (known_line k line) at) ∙ lacks
+  none_there (Texts row) at h has =
+      let same = same_value k h (Texts row) (subst (HasRow k h) at (has.rows n (omega arith))) in
+      ap (has_line h) at ∙ ap₂ (λ a b. a || b) (or_parts (is_required row) (has_label (label_of row) line) (sym (ap (known_line k line) at) ∙ lacks)).0 (same ∙ no_value (Texts row) at)
+  none_there Interval at h has = ap (has_line h) at ∙ same_value k h Interval (subst (HasRow k h) at (has.rows n (omega arith))) ∙ no_value Interval at
+  none_there r at h has = ap (has_line h) at ∙ plain_present less r at refl refl k line h (back h has) ∙ sym (ap (known_line k line) at) ∙ lacks
 
   pub skipped : SameFrom k line n (suc n)
   skipped = record {
@@ -271,8 +406,8 @@ module _ (k : Known) (line : List ℕ) {n : ℕ} (less : n < row_count) (lacks :
         record {
           is = on.is;
           has = record {
-            rows = λ i l. equal_or (HasRow k h (row_at i)) i n (λ same. nothing_known (row_at i) (ap row_at (sym same)) h on.is on.has) (λ far. on.has.rows i (omega (arith, l, far)));
-            types = λ s. beside (λ m i. typed h s m → typed h s i) s (λ m a. a) (λ row at e. skip_types row (counted k s) (planned_of s k.shown.plan) (planned_of s h.plan) (sized_at s row e).none (sym (ap (has_line h.plan) at) ∙ none)) (on.has.types s);
+            rows = λ i l. equal_or (HasRow k h (row_at i)) i n (λ same. nothing_known (row_at i) (ap row_at (sym same)) h on.is on.has (ap (λ j. has_line h (row_at j)) same ∙ none)) (λ far. on.has.rows i (omega (arith, l, far)));
+            types = λ s. beside (λ m i. typed h s m → typed h s i) s (λ m a. a) (λ row at e. skip_types row (counted k s) (planned_of s k.shown.plan) (planned_of s h.plan) (sized_at s row e).none (sym (ap (has_line h) at) ∙ none)) (on.has.types s);
           };
           rest = rest_skipped less on none;
         };
@@ -280,6 +415,7 @@ module _ (k : Known) (line : List ℕ) {n : ℕ} (less : n < row_count) (lacks :
     lines = λ h is has. before_next h n less ∙ ap (λ l. lines_before h n ++ l) (rows_when h (row_at n) false (none_there (row_at n) refl h has)) ∙ append-nil (lines_before h n);
     none = λ i low high. let e : i ≡ n = omega (arith, low, high) in ap (λ j. known_line k line (row_at j)) e ∙ lacks;
     slots = slots_skipped (row_at n) refl;
+    unread = λ q far. unread q (omega (arith, far));
     sized = λ s. beside (λ m i. AreSized s m (counted k s) (planned_of s k.shown.plan) → AreSized s i (counted k s) (planned_of s k.shown.plan)) s (λ m a. a) (λ row at e z. skip_sized s row (counted k s) (planned_of s k.shown.plan) z (known_rows s row at)) (sized s);
     expected = not_last n k line less lacks;
   }
@@ -292,17 +428,18 @@ same_on k line a b c s t = record {
   none = λ i low high. less_or (known_line k line (row_at i) ≡ false) i b (λ l. s.none i low l) (λ m. t.none i m high);
   sized = t.sized;
   slots = t.slots;
+  unread = t.unread;
   expected = t.expected;
 }
 
 pub here : (k : Known) (line : List ℕ) (n : ℕ) → IsHeadAt k n → SameFrom k line n n
-here k line n at = record { goes = λ h others left on. on; back = λ h is has. has; lines = λ h is has. refl; none = λ i low high. absurd (omega (arith, low, high)); sized = at.sized; slots = at.slots; expected = at.expected }
+here k line n at = record { goes = λ h others left on. on; back = λ h is has. has; lines = λ h is has. refl; none = λ i low high. absurd (omega (arith, low, high)); sized = at.sized; slots = at.slots; unread = at.unread; expected = at.expected }
 
 -- ---- a row with a line
 
 -- a header has the line in a row exactly if it has what is known after it
 abbrev pub Law : Known → ℕ → List ℕ → Known → Type 0
-Law old n line new = (h : Shown) → IsShown h → (Has old n h × (shown_rows h (row_at n) ≡ line ∷ [])) ↔ Has new (suc n) h
+Law old n line new = (h : Shown) → IsShown h → (Has old n h × (row_lines h (row_at n) ≡ line ∷ [])) ↔ Has new (suc n) h
 
 pub takes_row : (old new : Known) (line : List ℕ) {n : ℕ} → n < row_count → known_line old line (row_at n) ≡ true → Law old n line new → Takes old n line new (n + 1)
 takes_row old new line {n} less has law = subst (λ m. Takes old n line new m) (sym (add-one n)) (record {
@@ -325,7 +462,7 @@ none_from s none h others left on = none h others left (s.goes h others left on)
 
 pub none_at : {k : Known} {line : List ℕ} {n : ℕ} (r : HeaderRow) → n < row_count → known_line k line (row_at n) ≡ true → row_at n ≡ r → RefusesHeaderLine k r line → NoneGoesOn k n line
 none_at {k} {line} {n} r less has at refuses h others left on =
-    refuses h on.is (subst (λ m. Has k m h) (place_at n r less at) on.has) (ap (shown_line h) (sym at) ∙ shows_next less on (present less on ∙ has))
+    refuses h on.is (subst (λ m. Has k m h) (place_at n r less at) on.has) (sym (ap (has_line h) at) ∙ present less on ∙ has) (ap (row_line h) (sym at) ∙ shows_next less on (present less on ∙ has))
 
 pub single : (x y : List ℕ) → ◌≡◌ {A = List (List ℕ)} (x ∷ []) (y ∷ []) → x ≡ y
 single x y e = cc
@@ -333,17 +470,23 @@ single x y e = cc
 -- a row apart from types
 pub plain_law : {n : ℕ} {r : HeaderRow} {line : List ℕ} {old new : Known} → n < row_count → row_at n ≡ r → is_types r ≡ false → known_line old line (row_at n) ≡ true → IsHeaderLineRead r line old new → Law old n line new
 plain_law {n} {r} {line} {old} {new} less at plain has read h is = (to, from) where
-  law : (Has old n h × (shown_line h r ≡ line)) ↔ Has new (suc n) h
+  law : (Has old n h × (row_line h r ≡ line)) ↔ Has new (suc n) h
   law = row_law less at plain read h is
 
-  there : Has old n h → has_line h.plan (row_at n) ≡ true
-  there a = ap (has_line h.plan) at ∙ plain_present less r at plain old line h a ∙ sym (ap (known_line old line) at) ∙ has
+  to : Has old n h × (row_lines h (row_at n) ≡ line ∷ []) → Has new (suc n) h
+  to (a, e) = law.0 (a, by (has_line h (row_at n)) refl) where
+    by : (b : Bool) → has_line h (row_at n) ≡ b → row_line h r ≡ line
+    by true there = single (row_line h r) line (ap (λ q. row_line h q ∷ []) (sym at) ∙ sym (rows_when h (row_at n) true there) ∙ e)
+    by false lacks = let none : ◌≡◌ {A = List (List ℕ)} [] (line ∷ []) = sym (rows_when h (row_at n) false lacks) ∙ e in cc
 
-  to : Has old n h × (shown_rows h (row_at n) ≡ line ∷ []) → Has new (suc n) h
-  to (a, e) = law.0 (a, single (shown_line h r) line (ap (λ q. shown_line h q ∷ []) (sym at) ∙ sym (rows_when h (row_at n) true (there a)) ∙ e))
+  there : Has old n h → Has new (suc n) h → has_line h (row_at n) ≡ true
+  there a b = ap (has_line h) at ∙ by (is_optional r) refl where
+    by : (o : Bool) → is_optional r ≡ o → has_line h r ≡ true
+    by true optional = value_there h r optional (same_value new h r (subst (HasRow new h) at (b.rows n (omega arith))) ∙ read.some optional)
+    by false fixed = plain_present less r at plain fixed old line h a ∙ sym (ap (known_line old line) at) ∙ has
 
-  from : Has new (suc n) h → Has old n h × (shown_rows h (row_at n) ≡ line ∷ [])
-  from a = let b = law.1 a in (b.0, rows_when h (row_at n) true (there b.0) ∙ ap (λ q. shown_line h q ∷ []) at ∙ ap (λ l. l ∷ []) b.1)
+  from : Has new (suc n) h → Has old n h × (row_lines h (row_at n) ≡ line ∷ [])
+  from a = let b = law.1 a in (b.0, rows_when h (row_at n) true (there b.0 a) ∙ ap (λ q. row_line h q ∷ []) at ∙ ap (λ l. l ∷ []) b.1)
 
 before_last : (n : ℕ) (r : HeaderRow) → n < row_count → row_at n ≡ r → r ≢ End → n + 1 < row_count
 before_last n r less is other = less_or (n + 1 < row_count) (n + 1) row_count (λ l. l) (λ m. let e : n ≡ row_place End = omega (arith, less, m) in absurd (other (sym is ∙ ap row_at e)))
@@ -352,8 +495,8 @@ before_last n r less is other = less_or (n + 1 < row_count) (n + 1) row_count (�
 
 -- the line was taken; the next row is expected if some plan fits, and else no header goes on with the line
 pub decided : {old new : Known} {from n : ℕ} {line : List ℕ} (r : HeaderRow) {result : Result Expected Refusal} → n < row_count → row_at n ≡ r → r ≢ End → Takes old from line new (n + 1) → AreValid new
-    → ((s : System) → AreSized s (types_before s (suc n)) (counted new s) (planned_of s new.shown.plan)) → AreSlotsAt new (suc n) → result ≡ expected_if (fits new (n + 1)) (n + 1) → TakesHeaderLine old from line new result
-decided {old} {new} {from} {n} {line} r less at other takes valid sized slots e = subst (TakesHeaderLine old from line new) (sym e) (by (fits new (n + 1)) refl) where
+    → ((s : System) → AreSized s (types_before s (suc n)) (counted new s) (planned_of s new.shown.plan)) → AreSlotsAt new (suc n) → AreUnread new (suc n) → result ≡ expected_if (fits new (n + 1)) (n + 1) → TakesHeaderLine old from line new result
+decided {old} {new} {from} {n} {line} r less at other takes valid sized slots unread e = subst (TakesHeaderLine old from line new) (sym e) (by (fits new (n + 1)) refl) where
   next : suc n ≡ n + 1
   next = sym (add-one n)
 
@@ -361,5 +504,5 @@ decided {old} {new} {from} {n} {line} r less at other takes valid sized slots e 
   all s = subst (λ m. AreSized s (types_before s m) (counted new s) (planned_of s new.shown.plan)) next (sized s)
 
   by : (b : Bool) → fits new (n + 1) ≡ b → TakesHeaderLine old from line new (expected_if b (n + 1))
-  by true fit = record { takes = takes; at = record { valid = valid; sized = all; slots = subst (AreSlotsAt new) next slots; fitting = λ l. fit; expected = before_last n r less at other } }
+  by true fit = record { takes = takes; at = record { valid = valid; sized = all; slots = subst (AreSlotsAt new) next slots; unread = subst (AreUnread new) next unread; fitting = λ l. fit; expected = before_last n r less at other } }
   by false lacks = λ h others left on. let b = takes.goes h others left on in let fit = has_fits new (n + 1) h (omega arith) all b.is b.has in cc

@@ -3,7 +3,7 @@ use Rattle.std.proofs.Math.ListN.{get_or-map, set, length-set}
 use Rattle.rinex_file.proofs.Rows.Trimmed.{filled, trimmed-blank}
 use Rattle.rinex_file.proofs.PlainTexts.{both}
 use Rattle.rinex_file.proofs.HeaderRows.Types.{content_first}
-use Rattle.rinex_file.proofs.Names.{AreSameTexts, arith, ◌≡◌, ◌∙◌, refl, sym, ap, ap₂, subst, ℕ, Option, suc, ◌+◌, ◌<◌, ◌≤◌, ◌≢◌, List, [], ◌∷◌, length, drop, get_or, add-one, true, Some, None, zero, ◌-◌, ◌++◌, take, replicate, append_assoc, append-nil, length-append, if◌then◌else◌, nat_le, ◌==◌, map, flat_map, list_all, drop-cons, length-map, length-replicate, take_at, drop_at, get_or-set_same, get_or-set_other, get_or_default, ext_get_or, list_all-append, passes_at, is_equal, HeaderField, HeadFault, AntType, trimmed, before_cut, HeaderLists, text_count, width_of, text_of, is_printable, fault_of, first_fault, fields, fields_of, trimmed_texts, place_of, front_of, label_of, IsText, AreTexts, TextRow, left, header_line, text_columns, texts_line, texts_in, if_fine, RefusesTexts, same_Some}
+use Rattle.rinex_file.proofs.Names.{AreSameTexts, arith, ◌≡◌, ◌∙◌, refl, sym, ap, ap₂, subst, ℕ, Option, suc, ◌+◌, ◌<◌, ◌≤◌, ◌≢◌, List, [], ◌∷◌, length, drop, get_or, add-one, true, Some, None, zero, ◌-◌, ◌++◌, take, replicate, append_assoc, append-nil, length-append, if◌then◌else◌, ◌==◌, map, flat_map, list_all, drop-cons, length-map, length-replicate, take_at, drop_at, get_or-set_same, get_or-set_other, get_or_default, ext_get_or, list_all-append, passes_at, is_equal, HeaderField, HeadFault, AntType, trimmed, before_cut, HeaderLists, text_count, width_of, text_of, is_printable, fault_of, first_fault, fields, fields_of, trimmed_texts, place_of, front_of, label_of, IsText, AreTexts, left, header_line, text_columns, texts_line, texts_in, if_fine, RefusesTexts, same_Some, not, list_any, nat_lt, or_parts, ◌||◌, nat_tests, false, Bool, has_row, is_required, both_ways, nil_from_length, nat_le}
 
 pub trimmed-blanks : (k : ℕ) (text : List ℕ) → trimmed (text ++ replicate k 32) ≡ trimmed text
 trimmed-blanks zero text = ap trimmed (append-nil text)
@@ -14,25 +14,37 @@ trimmed-blanks (suc k) text =
 pub trimmed-trimmed : (text : List ℕ) → trimmed (trimmed text) ≡ trimmed text
 trimmed-trimmed text = grind (arith, filled, trimmed-blanks, (filled text))
 
-length-left : (width : ℕ) (text : List ℕ) → length text ≤ width → length (left width text) ≡ width
+pub length-left : (width : ℕ) (text : List ℕ) → length text ≤ width → length (left width text) ≡ width
 length-left width text short = simp (length-append, length-replicate) (omega (arith, short))
 
 -- ---- a text of a field
 
-abbrev pub field_at : ℕ → HeaderField
-field_at i = get_or fields i AntType
-
-field_back : (f g : HeaderField) → place_of f ≡ place_of g → f ≡ g
-field_back f g e = grind arith
+pub at_most : (a b : ℕ) → nat_le a b ≡ true → a ≤ b
+at_most a b e = grind (arith, e)
 
 field_less : (field : HeaderField) → place_of field < text_count
 field_less field = grind arith
 
-pub place_back : (i : ℕ) → i < text_count → place_of (field_at i) ≡ i
-place_back i less = is_equal (place_of (field_at i)) i (passes_at (λ j. place_of (field_at j) == j) text_count i refl less)
+pub field_here : (field : HeaderField) (d : HeaderField) → get_or fields (place_of field) d ≡ field
+field_here field d = grind arith
+
+pub field_back : (f g : HeaderField) → place_of f ≡ place_of g → f ≡ g
+field_back f g e = sym (field_here f f) ∙ ap (λ i. get_or fields i f) e ∙ field_here g f
+
+all_at : {X : Type 0} (test : X → Bool) (xs : List X) (i : ℕ) (d : X) → list_all test xs ≡ true → i < length xs → test (get_or xs i d) ≡ true
+all_at test [] i d all less = absurd (omega (arith, less))
+all_at test (x ∷ xs) zero d all less = (both (test x) (list_all test xs) all).0
+all_at test (x ∷ xs) (suc i) d all less = all_at test xs i d (both (test x) (list_all test xs) all).1 (omega (arith, less))
+
+-- what the table says of each field
+pub each_field : (test : HeaderField → Bool) → list_all test fields ≡ true → (field : HeaderField) → test field ≡ true
+each_field test all field = sym (ap test (field_here field field)) ∙ all_at test fields (place_of field) field all (field_less field)
+
+pub place_back : (i : ℕ) → i < text_count → place_of (get_or fields i AntType) ≡ i
+place_back i less = is_equal (place_of (get_or fields i AntType)) i (passes_at (λ j. place_of (get_or fields j AntType) == j) text_count i refl less)
 
 pub few_columns : (f : HeaderField) → width_of f ≤ 60
-few_columns f = grind arith
+few_columns f = at_most (width_of f) 60 (each_field (λ f. nat_le (width_of f) 60) refl f)
 
 pub equal_or : (P : Type 0) (i j : ℕ) → (i ≡ j → P) → (i ≢ j → P) → P
 equal_or P i j same other = grind (arith, is_equal)
@@ -89,7 +101,7 @@ read_back {x} (f ∷ fs) {column} front rest {line} {old} are size at shape =
     }
 
 -- the texts of a header are read back from the line of a row
-pub texts_back : (x : HeaderLists) → AreTexts x → (r : TextRow) (line : List ℕ) (old : HeaderLists) → length old ≡ text_count → texts_line x r ≡ line → Back x (fields_of r) (length (front_of r)) line old
+pub texts_back : (x : HeaderLists) → AreTexts x → (r : HeaderField) (line : List ℕ) (old : HeaderLists) → length old ≡ text_count → texts_line x r ≡ line → Back x (fields_of r) (length (front_of r)) line old
 texts_back x are r line old size e =
     let texts = flat_map (text_columns x) (fields_of r) in
     let first = content_first (front_of r ++ texts) (label_of r) in
@@ -99,7 +111,7 @@ same_columns : (x y : HeaderLists) (fs : List HeaderField) → AreSameTexts x y 
 same_columns x y [] same = refl
 same_columns x y (f ∷ fs) same = ap₂ (λ t l. left (width_of f) t ++ l) same.0 (same_columns x y fs same.1)
 
-pub same_line : (x y : HeaderLists) (r : TextRow) → AreSameTexts x y (fields_of r) → texts_line x r ≡ texts_line y r
+pub same_line : (x y : HeaderLists) (r : HeaderField) → AreSameTexts x y (fields_of r) → texts_line x r ≡ texts_line y r
 same_line x y r same = ap (λ l. header_line (front_of r ++ l) (label_of r)) (same_columns x y (fields_of r) same)
 
 pub same_here : (x : HeaderLists) (fs : List HeaderField) → AreSameTexts x x fs
@@ -116,7 +128,7 @@ same_append x y [] gs a b = b
 same_append x y (f ∷ fs) gs a b = (a.0, same_append x y fs gs a.1 b)
 
 -- texts that are the same in each row
-pub same_rows : (x y : HeaderLists) → ((r : TextRow) → AreSameTexts x y (fields_of r)) → (rows : List TextRow) → AreSameTexts x y (flat_map fields_of rows)
+pub same_rows : (x y : HeaderLists) → ((r : HeaderField) → AreSameTexts x y (fields_of r)) → (rows : List HeaderField) → AreSameTexts x y (flat_map fields_of rows)
 same_rows x y each [] = tt
 same_rows x y each (r ∷ rows) = same_append x y (fields_of r) (flat_map fields_of rows) (each r) (same_rows x y each rows)
 
@@ -125,16 +137,38 @@ same_at x y [] i d less same = absurd (omega (arith, less))
 same_at x y (f ∷ fs) zero d less same = same.0
 same_at x y (f ∷ fs) (suc i) d less same = same_at x y fs i d (omega (arith, less)) same.1
 
+-- texts that are the same in a row are empty or not in both, and empty ones are the same
+pub same_some : (x y : HeaderLists) (fs : List HeaderField) → AreSameTexts x y fs → list_any (λ f. nat_lt 0 (length (text_of x f))) fs ≡ list_any (λ f. nat_lt 0 (length (text_of y f))) fs
+same_some x y [] same = refl
+same_some x y (f ∷ fs) same = ap₂ (λ t b. nat_lt 0 (length t) || b) same.0 (same_some x y fs same.1)
+
+empty_same : (a b : List ℕ) → nat_lt 0 (length a) ≡ false → nat_lt 0 (length b) ≡ false → a ≡ b
+empty_same a b p q = grind (arith, nat_tests, nil_from_length)
+
+pub none_same : (x y : HeaderLists) (fs : List HeaderField) → list_any (λ f. nat_lt 0 (length (text_of x f))) fs ≡ false → list_any (λ f. nat_lt 0 (length (text_of y f))) fs ≡ false → AreSameTexts x y fs
+none_same x y [] p q = tt
+none_same x y (f ∷ fs) p q =
+    let own = or_parts _ (list_any (λ f. nat_lt 0 (length (text_of x f))) fs) p in
+    let other = or_parts _ (list_any (λ f. nat_lt 0 (length (text_of y f))) fs) q in
+    (empty_same (text_of x f) (text_of y f) own.0 other.0, none_same x y fs own.1 other.1)
+
 -- ---- read
 
-pub not_printable : (r : TextRow) (line : List ℕ) (old : HeaderLists) → length old ≡ text_count → texts_in (fields_of r) (length (front_of r)) line old ≡ None → RefusesTexts r line
-not_printable r line old size none x are e = let back = texts_back x are r line old size e in let read = back.read in cc
+pub not_printable : (r : HeaderField) (line : List ℕ) (old : HeaderLists) → length old ≡ text_count → texts_in (fields_of r) (length (front_of r)) line old ≡ None → RefusesTexts r line
+not_printable r line old size none x are some e = let back = texts_back x are r line old size e in let read = back.read in cc
 
-pub not_same : (r : TextRow) (line : List ℕ) (old new : HeaderLists) → length old ≡ text_count → texts_in (fields_of r) (length (front_of r)) line old ≡ Some new
+pub not_same : (r : HeaderField) (line : List ℕ) (old new : HeaderLists) → length old ≡ text_count → texts_in (fields_of r) (length (front_of r)) line old ≡ Some new
     → (line ≡ texts_line new r → ⊥) → RefusesTexts r line
-not_same r line old new size read other x are e =
+not_same r line old new size read other x are some e =
     let back = texts_back x are r line old size e in
     other (sym e ∙ sym (same_line back.new x r back.same) ∙ ap (λ y. texts_line y r) (same_Some back.new new (sym back.read ∙ read)))
+
+-- a line of these texts has none
+pub no_line : (r : HeaderField) (line : List ℕ) (old new : HeaderLists) → length old ≡ text_count → texts_in (fields_of r) (length (front_of r)) line old ≡ Some new → has_row new r ≡ false → RefusesTexts r line
+no_line r line old new size read none x are some e =
+    let back = texts_back x are r line old size e in
+    let same = subst (λ y. AreSameTexts y x (fields_of r)) (same_Some back.new new (sym back.read ∙ read)) back.same in
+    absurd (both_ways (has_row new r) none (ap (λ b. is_required r || b) (same_some new x (fields_of r) same) ∙ some))
 
 not_fine : (fault : Option HeadFault) (r : Option HeaderLists) → (fault ≡ None → ⊥) → if_fine fault r ≡ None
 not_fine fault r some = grind arith
@@ -160,20 +194,24 @@ added_text column line x next w at is set_is = grind (arith, fine)
 fine_read : (fault : Option HeadFault) (r : Option HeaderLists) (new : HeaderLists) → if_fine fault r ≡ Some new → r ≡ Some new
 fine_read fault r new e = grind arith
 
-far_place : (i n place : ℕ) → i < n → nat_le n place ≡ true → i ≢ place
-far_place i n place less far = grind (arith, far)
+-- a text that isn't read is unchanged
+abbrev pub is_apart : List HeaderField → HeaderField → Bool
+is_apart fs g = list_all (λ f. not (place_of f == place_of g)) fs
 
--- the texts before those that are read are unchanged
-abbrev pub StayBefore : ℕ → HeaderLists → HeaderLists → Type 0
-StayBefore n old new = (i : ℕ) → i < n → get_or new i [] ≡ get_or old i []
+kept_text : (fs : List HeaderField) (column : ℕ) (line : List ℕ) (old : HeaderLists) {new : HeaderLists} (g : HeaderField) → is_apart fs g ≡ true → texts_in fs column line old ≡ Some new → text_of new g ≡ text_of old g
+kept_text [] column line old {new} g all read = ap (λ x. text_of x g) (sym (same_Some old new read))
+kept_text (f ∷ fs) column line old {new} g all read =
+    let parts = both (not (place_of f == place_of g)) (is_apart fs g) all in
+    kept_text fs (column + width_of f) line _ g parts.1 (fine_read _ _ new read)
+    ∙ get_or-set_other old (place_of f) (place_of g) (trimmed (take (width_of f) (drop column line))) [] (far_place (place_of g) (place_of f) parts.0) where
+      far_place : (i n : ℕ) → not (n == i) ≡ true → i ≢ n
+      far_place i n far = grind (arith, nat_tests, far)
 
-pub kept_texts : (n : ℕ) (fs : List HeaderField) (column : ℕ) (line : List ℕ) (old : HeaderLists) {new : HeaderLists} → list_all (λ f. nat_le n (place_of f)) fs ≡ true
-    → texts_in fs column line old ≡ Some new → StayBefore n old new
-kept_texts n [] column line old {new} all read = λ i less. ap (λ x. get_or x i []) (sym (same_Some old new read))
-kept_texts n (f ∷ fs) column line old {new} all read = λ i less.
-    let parts = both (nat_le n (place_of f)) (list_all (λ f. nat_le n (place_of f)) fs) all in
-    kept_texts n fs (column + width_of f) line _ parts.1 (fine_read _ _ new read) i less
-    ∙ get_or-set_other old (place_of f) i (trimmed (take (width_of f) (drop column line))) [] (far_place i n (place_of f) less parts.0)
+pub kept_texts : (fs : List HeaderField) (column : ℕ) (line : List ℕ) (old : HeaderLists) {new : HeaderLists} → texts_in fs column line old ≡ Some new → (gs : List HeaderField) → list_all (is_apart fs) gs ≡ true → AreSameTexts new old gs
+kept_texts fs column line old read [] all = tt
+kept_texts fs column line old read (g ∷ gs) all =
+    let parts = both (is_apart fs g) (list_all (is_apart fs) gs) all in
+    (kept_text fs column line old g parts.0 read, kept_texts fs column line old read gs parts.1)
 
 -- ---- texts are printable without trailing blanks
 

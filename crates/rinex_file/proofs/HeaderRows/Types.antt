@@ -297,9 +297,9 @@ taken_before {all} place s old are same less twice before = both_ways _ (any_ind
 -- ---- the whole line
 
 -- a line with the number of all types and with the types of the signals so far is that of all signals
-pub shown_line : (system : System) (all so_far : List ℕ) (row count : ℕ) → length all ≡ count → so_far ≡ take (signals_begun (row + 1)) all
+pub row_line : (system : System) (all so_far : List ℕ) (row count : ℕ) → length all ≡ count → so_far ≡ take (signals_begun (row + 1)) all
     → header_line (type_front (letter system) (4 * count) row ++ type_columns (types_of (codes_of system so_far)) row) (codes "SYS / # / OBS TYPES") ≡ types_line system all row
-shown_line system all so_far row count size is = grind (arith, length-system_types, row_shown)
+row_line system all so_far row count size is = grind (arith, length-system_types, row_shown)
 
 -- ---- the number of signals
 

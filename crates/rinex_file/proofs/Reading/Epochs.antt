@@ -3,7 +3,7 @@ use Rattle.gnss_obs.proofs.PlanLemmas.{few_below}
 use Rattle.rinex_file.proofs.FewRows.{few_most, few_rows}
 use Rattle.rinex_file.proofs.Entries.{few_signals}
 use Rattle.std.proofs.Common.{le_trans}
-use Rattle.rinex_file.proofs.Names.{arith, ◌≡◌, refl, ℕ, ◌<◌, List, [], ◌∷◌, ◌++◌, length, length-append, suc, ◌+◌, ◌≤◌, sym, ap, ap₂, subst, ◌∙◌, append_assoc, append-nil, zero-add, drop, get_or, Option, Some, None, Expected, IsStrictlyIncreasing, All, map, flat_map, Result, IsErrAnd, get_or_append_left, map-append, common_steps, All-head, All-tail, All-nil, All-push, flat_map-append, System, PlanValue, planned_of, civil_of, StationValues, Stamped, SatelliteRow, FileValue, time_stamped, IsFileValue, IsPlan, IsStamped, IsSatelliteRow, AreSatelliteRows, IsTime, IsChange, AreChanges, IsFirstSame, changed_by, values_following, rank_of, most_rows, planned_in, Epoch, Satellite, epoch_line, satellite_line, stamped_lines, change_lines, event_line, Progress, file_with, stamped, StartsAt, IsAt, IsAtEpoch, IsInEvent, IsInEpoch, HasLinesLeft, epoch_after, begun_at, with_row, with_epoch, AreRead, IsBegun, IsSoundAt, IsSound, MayBegin, values_now, AreLinesAt, lines_of_header, whole_lines, part_lines, AddedRow, Refusal, Bad, ParserState, History, FollowsHistory, GoesOnWithLine, ShowsLine, RefusesLine, TakesLine, progress_at, Known, NoRow, IsNext, most_signals, table}
+use Rattle.rinex_file.proofs.Names.{arith, ◌≡◌, refl, ℕ, ◌<◌, List, [], ◌∷◌, ◌++◌, length, length-append, suc, ◌+◌, ◌≤◌, sym, ap, ap₂, subst, ◌∙◌, append_assoc, append-nil, zero-add, drop, get_or, Option, Some, None, Expected, IsStrictlyIncreasing, All, map, flat_map, Result, IsErrAnd, get_or_append_left, map-append, common_steps, All-head, All-tail, All-nil, All-push, flat_map-append, System, PlanValue, planned_of, civil_of, StationValues, Stamped, SatelliteRow, FileValue, time_stamped, IsFileValue, IsPlan, IsStamped, IsSatelliteRow, AreSatelliteRows, IsTime, IsChange, AreChanges, IsFirstSame, changed_by, values_following, rank_of, most_rows, planned_in, Epoch, Satellite, epoch_line, satellite_line, stamped_lines, change_lines, event_line, Progress, file_with, stamped, StartsAt, IsAt, IsAtEpoch, IsInEvent, IsInEpoch, HasLinesLeft, epoch_after, begun_at, with_row, with_epoch, AreRead, IsBegun, IsSoundAt, IsSound, MayBegin, values_now, AreLinesAt, header_lines, whole_lines, part_lines, AddedRow, Refusal, Bad, ParserState, History, FollowsHistory, GoesOnWithLine, ShowsLine, RefusesLine, TakesLine, progress_at, Known, NoRow, IsNext, most_signals, table}
 
 -- a line was refused: memory ran out, or no file continues with it
 pub stopped : {Q : Refusal → Type 0} (old new : ParserState) (line : List ℕ) (r : Result AddedRow Refusal) → IsErrAnd r Q → ((e : Refusal) → Q e → e ≡ Bad → (h : History) → FollowsHistory old h → RefusesLine (progress_at old h) line)
@@ -292,9 +292,9 @@ module _ (s : Progress) (n : ℕ) (line : List ℕ) (expected : s.expected ≡ S
       )
 
 -- the lines with that of a satellite
-row_lines : (whole : List (List ℕ)) {taken : List (List ℕ)} {line : List ℕ} (c : Option StationValues) (t : ℕ) {k n : ℕ} (rows : List SatelliteRow) (row : SatelliteRow) → taken ≡ whole ++ part_lines (at_time c t rows) k
+satellite_lines : (whole : List (List ℕ)) {taken : List (List ℕ)} {line : List ℕ} (c : Option StationValues) (t : ℕ) {k n : ℕ} (rows : List SatelliteRow) (row : SatelliteRow) → taken ≡ whole ++ part_lines (at_time c t rows) k
     → line ≡ satellite_line row → k ≡ n → taken ++ line ∷ [] ≡ whole ++ part_lines (at_time c t (rows ++ row ∷ [])) n
-row_lines whole {line} c t {k} rows row e shown same =
+satellite_lines whole {line} c t {k} rows row e shown same =
     let front = change_lines c in
     let first = epoch_line (civil_of t) k in
     ap (λ l. l ++ line ∷ []) e ∙ append_assoc whole (front ++ first ∷ map satellite_line rows) (line ∷ [])
@@ -306,7 +306,7 @@ one_fewer rows row n = let size : length (rows ++ row ∷ []) ≡ length rows + 
 
 pub row_shows : (s : Progress) (n : ℕ) (line : List ℕ) → s.expected ≡ Satellite (suc n) → (row : SatelliteRow) → line ≡ satellite_line row → ShowsLine s (with_row s row n) line
 row_shows s n line expected row shown taken are =
-    row_lines (whole_lines s.known.shown s.epochs) s.change s.time s.rows row (subst (λ d. AreLinesAt s d taken) expected are) shown (one_fewer s.rows row n)
+    satellite_lines (whole_lines s.known.shown s.epochs) s.change s.time s.rows row (subst (λ d. AreLinesAt s d taken) expected are) shown (one_fewer s.rows row n)
 
 -- the last satellite makes the epoch whole
 pub last_shows : (s : Progress) (line : List ℕ) → s.expected ≡ Satellite 1 → (row : SatelliteRow) → line ≡ satellite_line row → ShowsLine s (with_epoch (with_row s row 0)) line
@@ -314,7 +314,7 @@ last_shows s line expected row shown taken are =
     let e = stamped s (s.rows ++ row ∷ []) in
     let all = row_shows s 0 line expected row shown taken are in
     let n : length (s.rows ++ row ∷ []) + 0 ≡ length (s.rows ++ row ∷ []) = omega arith in
-    let head = lines_of_header s.known.shown in
+    let head = header_lines s.known.shown in
     all ∙ ap (λ (m : ℕ). whole_lines s.known.shown s.epochs ++ part_lines e m) n ∙ append_assoc head (flat_map stamped_lines s.epochs) (stamped_lines e)
     ∙ ap (λ l. head ++ l) (ap (λ l. flat_map stamped_lines s.epochs ++ l) (sym (append-nil (stamped_lines e))) ∙ sym (flat_map-append stamped_lines s.epochs (e ∷ [])))
 

@@ -4,7 +4,7 @@ use Rattle.rinex_file.proofs.HeaderRows.Some.{none_before, some_shown}
 use Rattle.rinex_file.proofs.HeaderRows.End.{zero_values}
 use Rattle.rinex_file.proofs.Reading.Lines.{consumed}
 use Rattle.rinex_file.proofs.Reading.Epochs.{lines_with, lines_are, sound_open, sound_between, at_expected, file_value}
-use Rattle.rinex_file.proofs.Names.{common_steps, Has, GoesOn, shown_of, arith, ◌≡◌, ◌∙◌, sym, ap, refl, ℕ, zero, suc, ◌+◌, ◌<◌, pos, List, [], ◌∷◌, ◌++◌, length, Option, IfSome, lit<, subst, take, drop, append-nil, inl, inr, AreBegunWith, None, Some, ⊤, map, flat_map, All-head, All-nil, length-map, nil_from_length, StationValues, civil_of, ParserState, Expected, Header, Epoch, EventPosition, EventHeight, EventEpoch, Satellite, IsChange, IsFileValue, AreBegun, IsEventBegun, lines_of_header, whole_lines, AreBefore, IsExpectedAt, Progress, IsPosition, shown_with, lines_after, stamped, Known, Shown, IsShown, IsHeadAt, file_with, StartsAt, IsInHeader, IsAt, IsAtEpoch, IsInEvent, position_of, HasLinesLeft, RefusesLine, IsSound, IsSoundAt, IsEventExpected, AreLinesAt, values_now, AreRead, AreLinesOf, History, FollowsHistory, progress_at, GoesOnWithLine, ShowsLine, IsTaken, SatelliteRow, Stamped, FileValue, header_lines, satellite_line, event_lines, stamped_lines, file_lines, lines_of_parts, GoesTo, EndsHeader, NoneGoesOn}
+use Rattle.rinex_file.proofs.Names.{common_steps, Has, GoesOn, shown_of, arith, ◌≡◌, ◌∙◌, sym, ap, refl, ℕ, zero, suc, ◌+◌, ◌<◌, pos, List, [], ◌∷◌, ◌++◌, length, Option, IfSome, lit<, subst, take, drop, append-nil, inl, inr, AreBegunWith, None, Some, ⊤, map, flat_map, All-head, All-nil, length-map, nil_from_length, StationValues, ParserState, Expected, Header, Epoch, EventPosition, EventHeight, EventEpoch, Satellite, IsChange, IsFileValue, AreBegun, IsEventBegun, header_lines, whole_lines, AreBefore, IsExpectedAt, Progress, IsPosition, shown_with, lines_after, stamped, Known, Shown, IsShown, IsHeadAt, file_with, StartsAt, IsInHeader, IsAt, IsAtEpoch, IsInEvent, position_of, HasLinesLeft, RefusesLine, IsSound, IsSoundAt, IsEventExpected, AreLinesAt, values_now, AreRead, AreLinesOf, History, FollowsHistory, progress_at, GoesOnWithLine, ShowsLine, IsTaken, SatelliteRow, Stamped, FileValue, satellite_line, event_lines, stamped_lines, file_lines, lines_of_parts, GoesTo, EndsHeader, NoneGoesOn}
 
 some_lines : (xs : List (List ℕ)) → (xs ≡ [] → ⊥) → 0 < length xs
 some_lines xs some = grind (arith, common_steps)
@@ -104,13 +104,13 @@ record Begins (v : FileValue) : Type 0 where
   others : List Stamped
   epochs : v.epochs ≡ first ∷ others
   is : IsShown (shown_of v first.time)
-  lines : file_lines v ≡ lines_of_header (shown_of v first.time) ++ flat_map stamped_lines (first ∷ others)
+  lines : file_lines v ≡ header_lines (shown_of v first.time) ++ flat_map stamped_lines (first ∷ others)
 
 begins : (v : FileValue) → IsFileValue v → Begins v
 begins v is = by v.epochs refl where
   by : (es : List Stamped) → v.epochs ≡ es → Begins v
   by [] e = let size = ap length e in let some = is.some in absurd (omega (arith, size, some))
-  by (first ∷ others) e = record { first = first; others = others; epochs = e; is = shown_is v first others e is; lines = ap (lines_of_parts v.texts v.plan v.values) e }
+  by (first ∷ others) e = record { first = first; others = others; epochs = e; is = shown_is v first others e is; lines = ap (lines_of_parts (shown_of v 0)) e }
 
 -- a file with what was read is a header that goes on
 goes_on_with : {s : Progress} {place : ℕ} {v : FileValue} {left : List (List ℕ)} → IsFileValue v → (here : IsInHeader s place v left)
@@ -138,7 +138,7 @@ module _ (s : Progress) {place : ℕ} (line : List ℕ) (expected : s.expected �
         let (header, rest) = end.goes _ _ left (goes_on_with is here) in
         let all = here.first ∷ here.others in
         let epochs : all ≡ s.epochs ++ all = ap (λ x. x ++ all) (sym none) in
-        let file = λ (g : Shown) (es : List Stamped). record v { texts = g.texts; plan = g.plan; values = g.values; epochs = es } in
+        let file = λ (g : Shown) (es : List Stamped). record v { texts = g.texts; interval = g.interval; plan = g.plan; values = g.values; epochs = es } in
         let value : v ≡ file k.shown (s.epochs ++ all) = ap (λ g. file g v.epochs) header ∙ ap (file k.shown) (here.epochs ∙ epochs) in
         let first : k.shown.first ≡ here.first.time = sym (ap (λ g. g.first) header) in
         record { others = all; value = value; starts = subst (StartsAt k.shown.first) epochs first; rest = sym rest }
@@ -150,7 +150,7 @@ module _ (s : Progress) {place : ℕ} (line : List ℕ) (expected : s.expected �
     pub ended_shows : ShowsLine s (known_as s k Epoch) line
     ended_shows taken are =
         ap (λ l. l ++ line ∷ []) (subst (λ d. AreLinesAt s d taken) expected are k.shown end.is end.has) ∙ sym end.lines
-        ∙ sym (append-nil (lines_of_header k.shown)) ∙ ap (λ (es : List Stamped). whole_lines k.shown es) (sym none)
+        ∙ sym (append-nil (header_lines k.shown)) ∙ ap (λ (es : List Stamped). whole_lines k.shown es) (sym none)
 
 -- the header was read, and nothing more
 pub sound_start : (s : Progress) (k : Known) → IsShown k.shown → s.epochs ≡ [] → AreRead (known_as s k Epoch)
@@ -219,9 +219,9 @@ pub file_read : (s : Progress) → s.expected ≡ Epoch → IsSound s → 0 < le
 file_read s expected sound some = grind arith
 
 -- the lines of the file that was read whole
-pub lines_read : (h : Shown) (es : List Stamped) → 0 < length es → StartsAt h.first es → lines_of_parts h.texts h.plan h.values es ≡ whole_lines h es
+pub lines_read : (h : Shown) (es : List Stamped) → 0 < length es → StartsAt h.first es → lines_of_parts h es ≡ whole_lines h es
 lines_read h [] some starts = absurd (omega (arith, some))
-lines_read h (e ∷ es) some starts = ap (λ (t : ℕ). header_lines h.texts h.plan h.values (civil_of t) ++ flat_map stamped_lines (e ∷ es)) (sym starts)
+lines_read h (e ∷ es) some starts = ap (λ (t : ℕ). header_lines (record h { first = t }) ++ flat_map stamped_lines (e ∷ es)) (sym starts)
 
 pub file_shown : (s : Progress) (taken : List (List ℕ)) → s.expected ≡ Epoch → IsSound s → 0 < length s.epochs → AreLinesOf s taken → file_lines (file_with s s.epochs) ≡ taken
 file_shown s taken expected sound some are =

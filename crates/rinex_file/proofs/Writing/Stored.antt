@@ -2,7 +2,7 @@
 use Rattle.rinex_file.proofs.Reading.Epochs.{few_signals_of}
 use Rattle.rinex_file.proofs.Rows.Sizes.{few_numbers}
 use Rattle.rinex_file.proofs.Writing.Sent.{joined-append}
-use Rattle.rinex_file.proofs.Names.{common_steps, arith, ◌≡◌, ◌∙◌, sym, ap, ap₂, refl, ℕ, ◌+◌, ◌<◌, ◌≤◌, List, [], ◌∷◌, ◌++◌, length, take, get_or, append_assoc, append-nil, All, map, flat_map, take_all, take_more, flat_map-append, flat_map-map, System, civil_of, SatelliteRow, Stamped, FileValue, IsSatelliteRow, IsFileValue, header_lines, joined, epoch_line, satellite_line, header_text, change_lines, stamped_lines, file_text, lines_of_parts, HasRoom, HaveRowsRoom, stamped_text, most_signals}
+use Rattle.rinex_file.proofs.Names.{common_steps, arith, ◌≡◌, ◌∙◌, sym, ap, ap₂, refl, ℕ, ◌+◌, ◌<◌, ◌≤◌, List, [], ◌∷◌, ◌++◌, length, take, get_or, append_assoc, append-nil, All, map, flat_map, take_all, take_more, flat_map-append, flat_map-map, System, civil_of, SatelliteRow, Stamped, FileValue, IsSatelliteRow, IsFileValue, header_lines, joined, epoch_line, satellite_line, shown_text, change_lines, stamped_lines, file_text, lines_of_parts, HasRoom, HaveRowsRoom, stamped_text, most_signals, shown_of}
 
 has_room : (signals : System → ℕ) (s : SatelliteRow) → ((t : System) → signals t ≤ most_signals) → IsSatelliteRow signals s → HasRoom s
 has_room signals s few is = (few_numbers s.system s.row.satellite is.row.satellite.1, is.row.signal_values, let whole = is.row.whole in omega (arith, whole, few s.system))
@@ -36,14 +36,14 @@ epoch_whole {v} {rows} old {mid} is same changed begun more last =
     ∙ ap (λ (x : Stamped). old ++ joined (stamped_lines x)) is
 
 parts : (v : FileValue) (first : Stamped) (es : List Stamped) → 0 < length es → first ≡ get_or es 0 first
-    → header_text v.texts v.plan v.values first.time ++ flat_map stamped_text es ≡ joined (lines_of_parts v.texts v.plan v.values es)
-unfolding header_text
+    → shown_text (shown_of v first.time) ++ flat_map stamped_text es ≡ joined (lines_of_parts (shown_of v 0) es)
+unfolding shown_text
 parts v first [] some at = absurd (omega (arith, some))
 parts v first (e ∷ es) some at =
-    ap₂ (λ (f : Stamped) t. joined (header_lines v.texts v.plan v.values (civil_of f.time)) ++ t) at (sym (joined_parts (e ∷ es)))
-    ∙ sym (joined-append (header_lines v.texts v.plan v.values (civil_of e.time)) (flat_map stamped_lines (e ∷ es)))
+    ap₂ (λ (f : Stamped) t. joined (header_lines (shown_of v f.time)) ++ t) at (sym (joined_parts (e ∷ es)))
+    ∙ sym (joined-append (header_lines (shown_of v e.time)) (flat_map stamped_lines (e ∷ es)))
 
 -- header and epochs were written
 pub all_written : {v w : FileValue} {first : Stamped} {es : List Stamped} (old : List ℕ) {new : List ℕ} (n : ℕ) → v ≡ w → IsFileValue v → es ≡ v.epochs → first ≡ get_or es 0 first → length es ≤ n
-    → new ≡ (old ++ header_text w.texts w.plan w.values first.time) ++ flat_map stamped_text (take n es) → new ≡ old ++ file_text w
+    → new ≡ (old ++ shown_text (shown_of w first.time)) ++ flat_map stamped_text (take n es) → new ≡ old ++ file_text w
 all_written old n same is those at all written = grind (arith, parts, take_all, append_assoc)

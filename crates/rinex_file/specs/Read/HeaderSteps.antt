@@ -1,6 +1,6 @@
 -- From one line of a header to the next while its lines are read.
 use Rattle.std.specs.Prelude.{◌≡◌, ℕ, zero, suc, ◌+◌, ◌*◌, ◌<◌, ◌≤◌, ◌==◌, nat_lt, Bool, true, false, List, [], ◌∷◌, ◌++◌, length}
-use Rattle.std.specs.Prelude.{set, take, drop, min, Option, Some, None, Result, Ok, Err, ⊤, ◌↔◌}
+use Rattle.std.specs.Prelude.{codes, nat_eq, ◌||◌, set, take, drop, min, Option, Some, None, Result, Ok, Err, ⊤, ◌↔◌}
 use Rattle.gnss_obs.specs.declared.cell.StationValues.{StationValues}
 use Rattle.gnss_system.specs.Signals.{SignalAt, IsSignal, code_of, table}
 use Rattle.gnss_system.specs.declared.system.System.{System}
@@ -12,21 +12,25 @@ use Rattle.gnss_system.specs.Satellites.{letter}
 use Rattle.gnss_system.specs.SystemValues.{with_value_of}
 use Rattle.rinex_file.specs.declared.header.fault.HeadFault.{HeadFault}
 use Rattle.rinex_file.specs.declared.header.fields.HeaderField.{HeaderField}
-use Rattle.rinex_file.specs.declared.header.fields.TextRow.{TextRow}
 use Rattle.rinex_file.specs.declared.header.rows.HeaderRow.{HeaderRow}
-use Rattle.rinex_file.specs.declared.header.rows.HeaderRow.TheVariants.{Types, Shift, Slots, Biases, End}
+use Rattle.rinex_file.specs.declared.header.rows.HeaderRow.TheVariants.{Texts, Types, Interval, First, Shift, Slots, Biases, End}
+use Rattle.rinex_file.specs.declared.header.rows.HeaderRow.TheVariants.{Version, Position, Delta, StrengthUnit}
 use Rattle.rinex_file.specs.declared.read.parser_state.Expected.{Expected}
 use Rattle.rinex_file.specs.declared.read.parser_state.Expected.TheVariants.{Header, Epoch}
 use Rattle.rinex_file.specs.declared.read.parser_state.Refusal.{Refusal}
 use Rattle.rinex_file.specs.declared.read.parser_state.Refusal.TheVariants.{Memory, Bad}
-use Rattle.rinex_file.specs.Begun.{lines_of_header}
+use Rattle.std.specs.List.{ends_with}
+use Rattle.rinex_fields.specs.Limits.{label_columns}
+use Rattle.rinex_fields.specs.Numbers.{left}
 use Rattle.rinex_file.specs.Blanks.{trimmed}
 use Rattle.rinex_file.specs.Texts.{HeaderLists, place_of, width_of, fault_of, fields_of, front_of, text_count}
+use Rattle.rinex_file.specs.Texts.{has_row, is_required, label_of}
 use Rattle.rinex_file.specs.FileValues.{AreTexts}
-use Rattle.rinex_file.specs.Header.{row_at, row_place, row_count, texts_line, type_rows, slots_with, slots_line}
+use Rattle.rinex_file.specs.Header.{header_lines, row_line, row_at, row_place, row_count, texts_line, type_rows}
+use Rattle.rinex_file.specs.Header.{slots_with, slots_line, has_line, is_given, is_optional}
 use Rattle.rinex_file.specs.Slots.{SlotNumber, AreSlots, last_slot, slot_rows, slots_in_line}
 use Rattle.rinex_file.specs.Read.Progress.{Known, Shown, IsShown, IsHeadAt, Has, HasRow, AreSized, types_before, lines_after}
-use Rattle.rinex_file.specs.Read.Progress.{lines_before, counted, shown_line, AreSlotsAt, known_slots}
+use Rattle.rinex_file.specs.Read.Progress.{AreUnread, lines_before, counted, AreSlotsAt, known_slots}
 use Rattle.rinex_file.specs.Read.Progress.{AreTypes, types_line, signals_begun}
 
 -- a row other than those of types and the last
@@ -40,14 +44,35 @@ abbrev pub begins_with : ℕ → List ℕ → Bool
 begins_with byte [] = false
 begins_with byte (b ∷ bs) = b == byte
 
+-- a line has this label
+abbrev pub has_label : List ℕ → List ℕ → Bool
+has_label label line = ends_with nat_eq line (left label_columns label ++ 10 ∷ [])
+
+abbrev pub row_label : HeaderRow → List ℕ
+row_label Version = codes "RINEX VERSION / TYPE"
+row_label (Texts row) = label_of row
+row_label Position = codes "APPROX POSITION XYZ"
+row_label Delta = codes "ANTENNA: DELTA H/E/N"
+row_label (Types system row) = codes "SYS / # / OBS TYPES"
+row_label StrengthUnit = codes "SIGNAL STRENGTH UNIT"
+row_label Interval = codes "INTERVAL"
+row_label First = codes "TIME OF FIRST OBS"
+row_label (Shift system) = codes "SYS / PHASE SHIFT"
+row_label (Slots row) = codes "GLONASS SLOT / FRQ #"
+row_label Biases = codes "GLONASS COD/PHS/BIS"
+row_label End = codes "END OF HEADER"
+
 -- the slots in the lines before a line of slots were read, and there are more
 abbrev pub AreSlotsBefore : Known → HeaderRow → Type 0
 AreSlotsBefore k (Slots row) =
     (row < 4) × (length (known_slots k) ≡ slots_in_line * row) × (0 < row → slots_in_line * row < k.slots)
 AreSlotsBefore k other = ⊤
 
--- whether a row has a line, if this line comes next: a system is planned if its letter comes where its types begin
+-- whether a row has a line, if this line comes next: a system is planned if its letter comes where its types begin, and
+-- an optional row is there if its label comes
 abbrev pub known_line : Known → List ℕ → HeaderRow → Bool
+known_line k line (Texts row) = is_required row || has_label (label_of row) line
+known_line k line Interval = has_label (row_label Interval) line
 known_line k line (Types system zero) = begins_with (letter system) line
 known_line k line (Types system (suc row)) = nat_lt (suc row) (type_rows (counted k system))
 known_line k line (Shift system) = nat_lt 0 (counted k system)
@@ -91,12 +116,16 @@ pub record IsHeaderLineRead (row : HeaderRow) (line : List ℕ) (old new : Known
   pub signals : new.shown.plan.signals ≡ old.shown.plan.signals
   pub counts : (s : System) → counted new s ≡ counted old s
   pub slots : SlotsFollow row line old new
-  pub own : (h : Shown) → IsShown h → Has old (row_place row) h → (shown_line h row ≡ line) ↔ HasRow new h row
+  pub some : is_optional row ≡ true → is_given new.shown.texts new.shown.interval row ≡ true
+  pub later : (r : HeaderRow) → row_place row < row_place r
+      → is_given new.shown.texts new.shown.interval r ≡ is_given old.shown.texts old.shown.interval r
+  pub own : (h : Shown) → IsShown h → Has old (row_place row) h → (row_line h row ≡ line) ↔ HasRow new h row
   pub kept : (h : Shown) (r : HeaderRow) → row_place r < row_place row → HasRow old h r ↔ HasRow new h r
 
 -- no header with what was read has this line in a row
 abbrev pub RefusesHeaderLine : Known → HeaderRow → List ℕ → Type 0
-RefusesHeaderLine old row line = (h : Shown) → IsShown h → Has old (row_place row) h → shown_line h row ≡ line → ⊥
+RefusesHeaderLine old row line =
+    (h : Shown) → IsShown h → Has old (row_place row) h → has_line h row ≡ true → row_line h row ≡ line → ⊥
 
 -- the line was accepted, and this is known after it; or no header has it in this row
 abbrev pub ReadsOrRefuses : HeaderRow → List ℕ → Known → Known → Bool → Type 0
@@ -128,7 +157,7 @@ pub record EndsHeader (old : Known) (place : ℕ) (line : List ℕ) (new : Known
   pub goes : (h : Shown) (others left : List (List ℕ)) → GoesOn old place h others (line ∷ left)
       → (h ≡ new.shown) × (others ≡ left)
   pub has : Has old place new.shown
-  pub lines : lines_of_header new.shown ≡ lines_before new.shown place ++ line ∷ []
+  pub lines : header_lines new.shown ≡ lines_before new.shown place ++ line ∷ []
 
 abbrev pub StepsTo : Known → ℕ → List ℕ → Known → Expected → Type 0
 StepsTo old place line new (Header next) = GoesTo old place line new next
@@ -159,6 +188,7 @@ pub record SameFrom (k : Known) (line : List ℕ) (place next : ℕ) : Type 0 wh
   pub none : (i : ℕ) → place ≤ i → i < next → known_line k line (row_at i) ≡ false
   pub sized : (s : System) → AreSized s (types_before s next) (counted k s) (planned_of s k.shown.plan)
   pub slots : AreSlotsAt k next
+  pub unread : AreUnread k next
   pub expected : next < row_count
 
 -- ---- texts
@@ -175,17 +205,18 @@ texts_in (f ∷ fs) column line x = if_fine (fault_of f (take (width_of f) (drop
     (texts_in fs (column + width_of f) line (set x (place_of f) (trimmed (take (width_of f) (drop column line)))))
 
 -- no header has this line in a row of texts
-abbrev pub RefusesTexts : TextRow → List ℕ → Type 0
-RefusesTexts row line = (x : HeaderLists) → AreTexts x → texts_line x row ≡ line → ⊥
+abbrev pub RefusesTexts : HeaderField → List ℕ → Type 0
+RefusesTexts row line = (x : HeaderLists) → AreTexts x → has_row x row ≡ true → texts_line x row ≡ line → ⊥
 
 -- the texts of a row were read: the line is that of these texts
-pub record ReadsTexts (row : TextRow) (line : List ℕ) (old new : HeaderLists) : Type 0 where
+pub record ReadsTexts (row : HeaderField) (line : List ℕ) (old new : HeaderLists) : Type 0 where
   pub size : length old ≡ text_count
   pub read : texts_in (fields_of row) (length (front_of row)) line old ≡ Some new
+  pub some : has_row new row ≡ true
   pub shown : texts_line new row ≡ line
 
 -- the texts were read, or no header has them
-abbrev pub ReadsOrRefusesTexts : TextRow → List ℕ → HeaderLists → HeaderLists → Bool → Type 0
+abbrev pub ReadsOrRefusesTexts : HeaderField → List ℕ → HeaderLists → HeaderLists → Bool → Type 0
 ReadsOrRefusesTexts row line old new true = ReadsTexts row line old new
 ReadsOrRefusesTexts row line old new false = RefusesTexts row line
 
@@ -193,6 +224,9 @@ ReadsOrRefusesTexts row line old new false = RefusesTexts row line
 
 abbrev pub with_texts : Known → HeaderLists → Known
 with_texts k texts = record k { shown = record k.shown { texts = texts } }
+
+abbrev pub with_interval : Known → ℕ → Known
+with_interval k interval = record k { shown = record k.shown { interval = Some interval } }
 
 abbrev pub with_values : Known → StationValues → Known
 with_values k values = record k { shown = record k.shown { values = values } }

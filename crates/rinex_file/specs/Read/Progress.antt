@@ -1,24 +1,25 @@
 -- What is known of a file while it is read line by line, and which files are still possible.
-use Rattle.std.specs.Prelude.{◌≡◌, ℕ, suc, ◌+◌, ◌-◌, ◌*◌, ◌/◌, ◌<◌, ◌≤◌, ◌==◌, ◌||◌, ◌&&◌, true, min, Bool, nat_lt}
+use Rattle.std.specs.Prelude.{◌≡◌, ℕ, suc, ◌+◌, ◌-◌, ◌*◌, ◌/◌, ◌<◌, ◌≤◌, ◌==◌, ◌||◌, ◌&&◌, true, false, min, Bool, nat_lt}
 use Rattle.std.specs.Prelude.{List, [], ◌∷◌, ◌++◌, length, take, drop, map, All, nat_eq}
-use Rattle.std.specs.Prelude.{flat_map, Option, Some, None, ⊤}
+use Rattle.std.specs.Prelude.{flat_map, Option, Some, None, IfSome, ⊤}
 use Rattle.gnss_system.specs.declared.system.System.{System}
 use Rattle.gnss_system.specs.declared.system.System.TheVariants.{Glonass}
 use Rattle.gnss_obs.specs.declared.cell.StationValues.{StationValues}
 use Rattle.gnss_obs.specs.Channels.{AreChannels, slot_count}
 use Rattle.gnss_obs.specs.Values.{PlanValue, planned_of}
-use Rattle.gnss_obs.specs.Dates.{civil_of}
 use Rattle.rinex_file.specs.declared.header.rows.HeaderRow.{HeaderRow}
-use Rattle.rinex_file.specs.declared.header.rows.HeaderRow.TheVariants.{Version, Texts, Position, Delta, First, Slots}
+use Rattle.rinex_file.specs.declared.header.rows.HeaderRow.TheVariants.{Version, Texts, Position, Delta, Interval, First, Slots}
 use Rattle.rinex_file.specs.declared.read.parser_state.Expected.{Expected}
 use Rattle.rinex_file.specs.declared.read.parser_state.Expected.TheVariants.{Header, Epoch, EventPosition, EventHeight}
 use Rattle.rinex_file.specs.declared.read.parser_state.Expected.TheVariants.{EventEpoch, Satellite}
 use Rattle.rinex_file.specs.Texts.{HeaderLists, text_of, fields_of}
 use Rattle.rinex_file.specs.declared.header.fields.HeaderField.{HeaderField}
+use Rattle.rinex_file.specs.Value as file
 use Rattle.rinex_file.specs.Value.{SatelliteRow, Stamped, FileValue}
 use Rattle.gnss_obs.specs.GatheredEpochs.{IsCoordinate}
-use Rattle.rinex_file.specs.FileValues.{AreTexts, IsPlan, AreValues, IsTime, IsFileValue}
-use Rattle.rinex_file.specs.Header.{row_line, row_lines, lines_from, all_rows, row_at, row_count, first_types, flagged_letter}
+use Rattle.rinex_file.specs.FileValues.{IsInterval, AreTexts, IsPlan, AreValues, IsTime, IsFileValue}
+use Rattle.rinex_file.specs.Header.{row_at, row_place, row_count, is_given, first_types, flagged_letter}
+pub use Rattle.rinex_file.specs.Header.{Shown, lines_before, lines_after}
 use Rattle.rinex_file.specs.Header.{most_type_rows, first_slots}
 use Rattle.rinex_file.specs.Slots.{SlotNumber, slots_of, last_slot, slots_in_line}
 use Rattle.rinex_file.specs.Header.{systems_letter, type_line, types_of, codes_of}
@@ -29,38 +30,16 @@ use Rattle.gnss_system.specs.SystemValues.{value_of}
 use Rattle.gnss_system.specs.declared.by_system.BySystem.{BySystem}
 use Rattle.gnss_system.specs.Signals.{table}
 use Rattle.std.specs.List.{IsDistinct}
-use Rattle.rinex_file.specs.File.{stamped_lines}
+use Rattle.rinex_file.specs.File.{stamped_lines, shown_of}
 
 -- ---- the header
 
--- the contents of a header
-pub record Shown : Type 0 where
-  pub texts : HeaderLists
-  pub plan : PlanValue
-  pub values : StationValues
-  pub first : ℕ
-
 pub record IsShown (h : Shown) : Type 0 where
   pub texts : AreTexts h.texts
+  pub interval : IfSome h.interval IsInterval
   pub plan : IsPlan h.plan
   pub values : AreValues h.values
   pub first : IsTime h.first
-
--- the line of a row
-abbrev pub shown_line : Shown → HeaderRow → List ℕ
-shown_line h row = row_line h.texts h.plan h.values (civil_of h.first) row
-
--- the lines of a row: one, or none
-abbrev pub shown_rows : Shown → HeaderRow → List (List ℕ)
-shown_rows h row = row_lines h.texts h.plan h.values (civil_of h.first) row
-
--- the lines of the rows before an index
-abbrev pub lines_before : Shown → ℕ → List (List ℕ)
-lines_before h place = flat_map (shown_rows h) (take place all_rows)
-
--- the lines of the rows from an index on
-abbrev pub lines_after : Shown → ℕ → List (List ℕ)
-lines_after h place = lines_from h.texts h.plan h.values (civil_of h.first) place
 
 -- What was read of a header: its parts, each with its initial value until its line is read; the letter in the first
 -- line; the number of a system's signals, by its first line of types, or 0 without one; and the number of slots with a
@@ -95,6 +74,7 @@ signals_begun row = (types_in_line * row + 3) / 4
 -- each part that was read is one of a header
 pub record AreValid (k : Known) : Type 0 where
   pub texts : AreTexts k.shown.texts
+  pub interval : IfSome k.shown.interval IsInterval
   pub listed : (system : System) → All (λ i. i < length (table system)) (planned_of system k.shown.plan)
   pub apart : (system : System) → IsDistinct nat_eq (planned_of system k.shown.plan)
   pub channels : AreChannels k.shown.plan.channels
@@ -134,6 +114,7 @@ HasRow k h Version = systems_letter h.plan ≡ k.letter
 HasRow k h (Texts row) = AreSameTexts h.texts k.shown.texts (fields_of row)
 HasRow k h Position = position_of h.values ≡ position_of k.shown.values
 HasRow k h Delta = h.values.height ≡ k.shown.values.height
+HasRow k h Interval = h.interval ≡ k.shown.interval
 HasRow k h First = h.first ≡ k.shown.first
 HasRow k h (Slots row) = AreSameSlots row k.slots (known_slots k) (slots_of h.plan.channels)
 HasRow k h other = ⊤
@@ -169,6 +150,10 @@ pub record AreSlotsRead (rows planned count : ℕ) (slots : List SlotNumber) : T
 abbrev pub AreSlotsAt : Known → ℕ → Type 0
 AreSlotsAt k place = AreSlotsRead (slots_before place) (counted k Glonass) k.slots (known_slots k)
 
+-- no value was read for the rows from an index on
+abbrev pub AreUnread : Known → ℕ → Type 0
+AreUnread k place = (r : HeaderRow) → place ≤ row_place r → is_given k.shown.texts k.shown.interval r ≡ false
+
 -- signals of a system are planned, or may be by the first line if the row of its first types isn't before an index: `M`
 -- is the letter of two or more systems, another letter that of one
 abbrev pub is_chosen : Known → ℕ → System → Bool
@@ -184,6 +169,7 @@ pub record IsHeadAt (k : Known) (place : ℕ) : Type 0 where
   pub valid : AreValid k
   pub sized : (s : System) → AreSized s (types_before s place) (counted k s) (planned_of s k.shown.plan)
   pub slots : AreSlotsAt k place
+  pub unread : AreUnread k place
   pub fitting : 0 < place → fits k place ≡ true
   pub expected : place < row_count
 
@@ -206,7 +192,7 @@ pub record Progress : Type 0 where
 -- a file with the header that was read, and these epochs
 abbrev pub file_with : Progress → List Stamped → FileValue
 file_with s epochs =
-    record { texts = s.known.shown.texts; plan = s.known.shown.plan; values = s.known.shown.values; epochs = epochs }
+    file.file_with s.known.shown.texts s.known.shown.interval s.known.shown.plan s.known.shown.values epochs
 
 -- an epoch with the change and at the time that were read
 abbrev pub stamped : Progress → List SatelliteRow → Stamped
@@ -216,10 +202,6 @@ stamped s rows = record { change = s.change; time = s.time; rows = rows }
 abbrev pub StartsAt : ℕ → List Stamped → Type 0
 StartsAt first [] = ⊤
 StartsAt first (e ∷ es) = first ≡ e.time
-
--- the contents of the header of a file whose first epoch is at this time
-abbrev pub shown_of : FileValue → ℕ → Shown
-shown_of v first = record { texts = v.texts; plan = v.plan; values = v.values; first = first }
 
 -- a line of the header is expected: the file has what was read, and these lines after it
 pub record IsInHeader (s : Progress) (place : ℕ) (v : FileValue) (left : List (List ℕ)) : Type 0 where

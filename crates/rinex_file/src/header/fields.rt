@@ -1,8 +1,8 @@
 //! The texts of a header: their rows, widths and names. RINEX 3.05, table A2.
 ghost use Rattle.std.specs.Prelude.{◌≡◌, ◌<◌, ◌≤◌, length};
-ghost use Rattle.rinex_file.specs.Texts.{field_name, fields_of, front_of, label_of, place_of, text_count};
+ghost use Rattle.rinex_file.specs.Texts.{field_name, fields_of, front_of, is_required, label_of, place_of, text_count};
 ghost use Rattle.rinex_file.specs.Texts.{width_of};
-ghost use Rattle.rinex_fields.specs.Limits.{label_columns};
+ghost use Rattle.rinex_fields.specs.Limits.{content_columns, label_columns};
 
 use HeaderField::*;
 use std::fmt::{self, Debug, Formatter, Write};
@@ -14,8 +14,12 @@ pub enum HeaderField {
     RunBy,
     /// When it ran, 20 columns of `PGM / RUN BY / DATE`.
     Date,
+    /// A comment, 60 columns of `COMMENT`.
+    Comment,
     /// The marker's name, 60 columns of `MARKER NAME`.
     Marker,
+    /// The marker's number, 20 columns of `MARKER NUMBER`.
+    MarkerNumber,
     /// The marker's type, 20 columns of `MARKER TYPE`.
     MarkerType,
     /// The observer, 20 columns of `OBSERVER / AGENCY`.
@@ -34,79 +38,93 @@ pub enum HeaderField {
     AntType,
 }
 
-/// The widths of the fields, in columns, in their order.
-const WIDTHS: &[usize] = &[20, 20, 60, 20, 20, 40, 20, 20, 20, 20, 20];
-
-/// The names of the fields, in their order.
-const NAMES: &[&str] = &[
-    "run_by",
-    "date",
-    "marker",
-    "marker_type",
-    "observer",
-    "agency",
-    "rec_number",
-    "rec_type",
-    "rec_version",
-    "ant_number",
-    "ant_type",
-];
-
-/// The rows of texts, in their order: the label, the columns before the texts, and the texts.
-const ROWS: &[(&[u8], &[u8], &[HeaderField])] = &[
+/// The texts, in the order in which they are validated: the name in [`Texts`](crate::Texts) and the
+/// width in columns; and, if a row begins with the text, the row's label, the columns before its
+/// texts, its texts, and whether each header has it. Another row is there if some text in it isn't
+/// empty.
+const FIELDS: &[(&str, usize, &[u8], &[u8], &[HeaderField], bool)] = &[
     (
+        "run_by",
+        20,
         b"PGM / RUN BY / DATE",
         b"rtcm2rinex          ",
         &[RunBy, Date],
+        true,
     ),
-    (b"MARKER NAME", b"", &[Marker]),
-    (b"MARKER TYPE", b"", &[MarkerType]),
-    (b"OBSERVER / AGENCY", b"", &[Observer, Agency]),
+    ("date", 20, b"", b"", &[], true),
+    ("comment", 60, b"COMMENT", b"", &[Comment], false),
+    ("marker", 60, b"MARKER NAME", b"", &[Marker], true),
     (
+        "marker_number",
+        20,
+        b"MARKER NUMBER",
+        b"",
+        &[MarkerNumber],
+        false,
+    ),
+    ("marker_type", 20, b"MARKER TYPE", b"", &[MarkerType], true),
+    (
+        "observer",
+        20,
+        b"OBSERVER / AGENCY",
+        b"",
+        &[Observer, Agency],
+        true,
+    ),
+    ("agency", 40, b"", b"", &[], true),
+    (
+        "rec_number",
+        20,
         b"REC # / TYPE / VERS",
         b"",
         &[RecNumber, RecType, RecVersion],
+        true,
     ),
-    (b"ANT # / TYPE", b"", &[AntNumber, AntType]),
+    ("rec_type", 20, b"", b"", &[], true),
+    ("rec_version", 20, b"", b"", &[], true),
+    (
+        "ant_number",
+        20,
+        b"ANT # / TYPE",
+        b"",
+        &[AntNumber, AntType],
+        true,
+    ),
+    ("ant_type", 20, b"", b"", &[], true),
 ];
-
-/// A row of texts.
-#[derive(Clone, Copy)]
-pub enum TextRow {
-    /// `PGM / RUN BY / DATE`.
-    Program,
-    /// `MARKER NAME`.
-    Marker,
-    /// `MARKER TYPE`.
-    MarkerType,
-    /// `OBSERVER / AGENCY`.
-    Observer,
-    /// `REC # / TYPE / VERS`.
-    Receiver,
-    /// `ANT # / TYPE`.
-    Antenna,
-}
 
 impl HeaderField {
     /// All fields, in the order in which they are validated.
-    pub const ALL: [HeaderField; 11] = [
-        RunBy, Date, Marker, MarkerType, Observer, Agency, RecNumber, RecType, RecVersion,
-        AntNumber, AntType,
+    pub const ALL: [HeaderField; FIELDS.len()] = [
+        RunBy,
+        Date,
+        Comment,
+        Marker,
+        MarkerNumber,
+        MarkerType,
+        Observer,
+        Agency,
+        RecNumber,
+        RecType,
+        RecVersion,
+        AntNumber,
+        AntType,
     ];
 
     /// Returns the width of the text, in columns: 20, 40 or 60.
     pub fn width(self) -> usize
-        ensures { result ≡ width_of self }
+        ensures value { result ≡ width_of self }
+        ensures bound { result ≤ content_columns }
     {
-        WIDTHS[self.place()]
+        FIELDS[self.place()].1
     }
 
     /// Returns the name of the field in [`Texts`](crate::Texts).
     pub fn name(self) -> &'static str
         ensures value { result.now ≡ field_name self }
-        ensures short { length result.now ≤ 11 }
+        ensures short { length result.now ≤ 13 }
     {
-        NAMES[self.place()]
+        FIELDS[self.place()].0
     }
 
     /// Returns the index among all fields, counted from 0.
@@ -116,36 +134,41 @@ impl HeaderField {
     {
         self as usize
     }
+
+    /// Returns the label of the row that begins with this text, in columns 61 to 80.
+    pub(crate) fn label(self) -> &'static [u8]
+        ensures value { result.now ≡ label_of self }
+        ensures bound { length result.now ≤ label_columns }
+    {
+        FIELDS[self.place()].2
+    }
+
+    /// Returns the columns before the texts of that row.
+    pub(crate) fn front(self) -> &'static [u8]
+        ensures value { result.now ≡ front_of self }
+        ensures bound { length result.now ≤ 20 }
+    {
+        FIELDS[self.place()].3
+    }
+
+    /// Returns whether each header has that row.
+    pub(crate) fn is_required(self) -> bool
+        ensures { result ≡ is_required self }
+    {
+        FIELDS[self.place()].5
+    }
+
+    /// Returns the texts of that row, in order.
+    pub(crate) fn fields(self) -> &'static [HeaderField]
+        ensures value { result.now ≡ fields_of self }
+        ensures bound { length result.now ≤ 3 }
+    {
+        FIELDS[self.place()].4
+    }
 }
 
 impl Debug for HeaderField {
     fn fmt<W: Write>(&self, f: &mut Formatter<W>) -> fmt::Result {
         f.write_str(self.name())
-    }
-}
-
-impl TextRow {
-    /// Returns the label, in columns 61 to 80.
-    pub(crate) fn label(self) -> &'static [u8]
-        ensures value { result.now ≡ label_of self }
-        ensures bound { length result.now ≤ label_columns }
-    {
-        ROWS[self as usize].0
-    }
-
-    /// Returns the columns before the texts.
-    pub(crate) fn front(self) -> &'static [u8]
-        ensures value { result.now ≡ front_of self }
-        ensures bound { length result.now ≤ 20 }
-    {
-        ROWS[self as usize].1
-    }
-
-    /// Returns the texts, in order.
-    pub(crate) fn fields(self) -> &'static [HeaderField]
-        ensures value { result.now ≡ fields_of self }
-        ensures bound { length result.now ≤ 3 }
-    {
-        ROWS[self as usize].2
     }
 }

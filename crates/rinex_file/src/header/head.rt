@@ -1,16 +1,13 @@
 //! A header, line by line.
 ghost use Rattle.std.specs.Prelude.{◌≡◌, ◌<◌, [], true, IfNone, IfSome};
 ghost use Rattle.std.specs.Iterator.{YieldsFirstBy, item_count};
-ghost use Rattle.gnss_obs.specs.Dates.{civil_of};
-ghost use Rattle.gnss_obs.specs.declared.cell.StationValues.{StationValues};
-ghost use Rattle.gnss_obs.specs.declared.civil.Civil.{Civil};
-ghost use Rattle.rinex_file.specs.Texts.{HeaderLists};
-ghost use Rattle.rinex_file.specs.Header.{row_line, has_line, row_at, row_count, lines_from, header_lines};
+ghost use Rattle.rinex_file.specs.Header.{row_line, has_line, row_at, row_count, lines_after, header_lines};
 ghost use Rattle.rinex_file.specs.Header.{systems_letter};
+ghost use Rattle.rinex_file.specs.Heads.{shown_by};
 
 use crate::header::lines::{
-    BIASES, END, SHIFT, STRENGTH_UNIT, UNIT, delta_line, first_line, flagged_letter, position_line,
-    texts_line, version_by,
+    BIASES, END, SHIFT, STRENGTH_UNIT, UNIT, delta_line, first_line, flagged_letter, interval_line,
+    position_line, texts_line, version_by,
 };
 use crate::header::lists::{slot_rows, slots_in, slots_with, type_rows, types_with};
 use crate::header::rows::{HeaderRow, ROW_COUNT, row_at};
@@ -24,6 +21,9 @@ use std::marker::Model;
 pub struct Head<'a> {
     /// The texts.
     pub texts: &'a HeaderTexts,
+    /// The interval of the observations in milliseconds, 1 to 86,400,000. Without one the header has
+    /// no line for it.
+    pub interval: Option<u32>,
     /// The signals whose observations the file has.
     pub plan: &'a Plan,
     /// Position and height of the antenna, in 0.0001 m.
@@ -33,10 +33,13 @@ pub struct Head<'a> {
 }
 
 /// Returns whether a row has a line.
-fn has_line(plan: &Plan, row: HeaderRow) -> bool
-    ensures { result ≡ has_line plan.now row }
+fn has_line(head: &Head, row: HeaderRow) -> bool
+    ensures { result ≡ has_line (shown_by head.now) row }
 {
+    let plan = head.plan;
     match row {
+        HeaderRow::Texts(row) => head.texts.has_row(row),
+        HeaderRow::Interval => head.interval.is_some(),
         HeaderRow::Types(system, row) => row < type_rows(plan.signals(system)),
         HeaderRow::Shift(system) => plan.signals(system) > 0,
         HeaderRow::Slots(0) | HeaderRow::Biases => plan.signals(System::Glonass) > 0,
@@ -46,16 +49,14 @@ fn has_line(plan: &Plan, row: HeaderRow) -> bool
 }
 
 /// Returns the index of the first row with a line, at `from` or later.
-fn place_from(plan: &Plan, from: usize) -> Option<usize>
-    ensures none { IfNone result
-        ((x : HeaderLists) (v : StationValues) (t : Civil) → lines_from x plan.now v t from ≡ []) }
+fn place_from(head: &Head, from: usize) -> Option<usize>
+    ensures none { IfNone result (lines_after (shown_by head.now) from ≡ []) }
     ensures bound { IfSome result (λ place. place < row_count) }
-    ensures here { IfSome result (λ place. has_line plan.now (row_at place) ≡ true) }
-    ensures same { IfSome result (λ place. (x : HeaderLists) (v : StationValues) (t : Civil)
-        → lines_from x plan.now v t from ≡ lines_from x plan.now v t place) }
+    ensures here { IfSome result (λ place. has_line (shown_by head.now) (row_at place) ≡ true) }
+    ensures same { IfSome result (λ place. lines_after (shown_by head.now) from ≡ lines_after (shown_by head.now) place) }
 {
     for place in from..ROW_COUNT {
-        if has_line(plan, row_at(place)) {
+        if has_line(head, row_at(place)) {
             return Some(place);
         }
     }
@@ -72,9 +73,8 @@ fn systems_letter(plan: &Plan) -> u8
 /// Returns the line of a row.
 #[tactic(auto, unfolding(crate::specs::Header::row_line))]
 fn line_of(head: &Head, row: HeaderRow) -> Line
-    requires { has_line head.now.plan.now row ≡ true }
-    ensures { result.items
-        ≡ row_line head.now.texts.now head.now.plan.now head.now.values (civil_of head.now.first) row }
+    requires { has_line (shown_by head.now) row ≡ true }
+    ensures { result.items ≡ row_line (shown_by head.now) row }
 {
     match row {
         HeaderRow::Version => version_by(systems_letter(head.plan)),
@@ -86,6 +86,7 @@ fn line_of(head: &Head, row: HeaderRow) -> Line
             types_with(system, signals.len(), signals, row)
         }
         HeaderRow::StrengthUnit => labelled(UNIT, STRENGTH_UNIT),
+        HeaderRow::Interval => interval_line(head.interval.unwrap_or(0)),
         HeaderRow::First => first_line(head.first),
         HeaderRow::Shift(system) => labelled(&[system.letter()], SHIFT),
         HeaderRow::Slots(row) => {
@@ -106,12 +107,12 @@ pub struct HeaderLines<'a> {
 
 impl<'a> Model for HeaderLines<'a> {
     ghost use Rattle.std.specs.Prelude.{ℕ, List};
-    ghost use Rattle.gnss_obs.specs.Dates.{civil_of};
-    ghost use Rattle.rinex_file.specs.Header.{lines_from};
+    ghost use Rattle.rinex_file.specs.Header.{lines_after};
+    ghost use Rattle.rinex_file.specs.Heads.{shown_by};
 
     ghost Value = { List (List ℕ) };
 
-    ghost view = { λ s. lines_from s.head.texts.now s.head.plan.now s.head.values (civil_of s.head.first) s.place };
+    ghost view = { λ s. lines_after (shown_by s.head) s.place };
 }
 
 impl<'a> Iterator for HeaderLines<'a> {
@@ -122,7 +123,7 @@ impl<'a> Iterator for HeaderLines<'a> {
     ghost remaining = { item_count (λ lines. lines) };
 
     fn next(&mut self) -> Option<Line> {
-        let place = place_from(self.head.plan, self.place)?;
+        let place = place_from(&self.head, self.place)?;
         self.place = place + 1;
         Some(line_of(&self.head, row_at(place)))
     }
@@ -130,11 +131,12 @@ impl<'a> Iterator for HeaderLines<'a> {
 
 /// Returns the lines of a header in order, each with its line feed.
 pub fn header_lines<'a>(head: &Head<'a>) -> HeaderLines<'a>
-    ensures { result ≡ header_lines head.now.texts.now head.now.plan.now head.now.values (civil_of head.now.first) }
+    ensures { result ≡ header_lines (shown_by head.now) }
 {
     HeaderLines {
         head: Head {
             texts: head.texts,
+            interval: head.interval,
             plan: head.plan,
             values: head.values,
             first: head.first,

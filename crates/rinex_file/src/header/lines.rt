@@ -3,11 +3,11 @@ ghost use Rattle.std.specs.Prelude.{◌≡◌, ◌≤◌, length};
 ghost use Rattle.gnss_obs.specs.Dates.{civil_of};
 ghost use Rattle.gnss_system.specs.SystemValues.{value_of};
 ghost use Rattle.rinex_file.specs.Header.{lengths, texts_line, position_line, delta_line};
-ghost use Rattle.rinex_file.specs.Header.{first_line, flagged_letter, version_by};
+ghost use Rattle.rinex_file.specs.Header.{first_line, interval_line, flagged_letter, version_by};
 ghost use Rattle.rinex_fields.specs.HeaderLine.{header_line};
 ghost use Rattle.rinex_fields.specs.Limits.{label_columns};
 
-use crate::header::fields::TextRow;
+use crate::header::fields::HeaderField;
 use crate::header::texts::HeaderTexts;
 use gnss_obs::{GpsTime, StationValues};
 use gnss_system::{BySystem, SYSTEMS, System};
@@ -19,6 +19,8 @@ use rinex_fields::{Line, labelled, put, put_fixed, put_left, put_seconds, put_wh
 pub(crate) const DELTA: &[u8] = b"ANTENNA: DELTA H/E/N";
 /// The unit of the strengths.
 pub(crate) const STRENGTH_UNIT: &[u8] = b"SIGNAL STRENGTH UNIT";
+/// The interval of the observations.
+pub(crate) const INTERVAL: &[u8] = b"INTERVAL";
 /// The phase shifts of a system, of which there are none.
 pub(crate) const SHIFT: &[u8] = b"SYS / PHASE SHIFT";
 /// The code and phase biases of GLONASS, of which none is known.
@@ -66,7 +68,7 @@ pub(crate) fn version_by(letter: u8) -> Line
 }
 
 /// Returns the line of a row of texts.
-pub(crate) fn texts_line(texts: &HeaderTexts, row: TextRow) -> Line
+pub(crate) fn texts_line(texts: &HeaderTexts, row: HeaderField) -> Line
     ensures { result.items ≡ texts_line texts.now row }
 {
     let mut content = Line::new();
@@ -89,6 +91,15 @@ pub(crate) fn delta_line(values: &StationValues) -> Line
     ensures { result.items ≡ delta_line values.now }
 {
     three_lengths(values.height as i64, 0, 0, DELTA)
+}
+
+/// Returns the line with the interval, which is given in milliseconds.
+pub(crate) fn interval_line(interval: u32) -> Line
+    ensures { result.items ≡ interval_line interval }
+{
+    let mut content = Line::new();
+    put_fixed(&mut content, 10, 3, 1000, interval as i64);
+    labelled(content.as_slice(), INTERVAL)
 }
 
 /// Returns the line with the time of the first epoch.

@@ -2,7 +2,7 @@
 ghost use Rattle.std.specs.Prelude.{◌≡◌, ◌<◌};
 ghost use Rattle.rinex_file.specs.Header.{row_at, row_count, first_types};
 
-use crate::header::fields::TextRow::{self, *};
+use crate::header::fields::HeaderField::{self, *};
 use HeaderRow::*;
 use gnss_system::SYSTEMS;
 use gnss_system::System::{self, *};
@@ -12,8 +12,8 @@ use gnss_system::System::{self, *};
 pub enum HeaderRow {
     /// `RINEX VERSION / TYPE`.
     Version,
-    /// Texts, in 20 columns each or wider.
-    Texts(TextRow),
+    /// The row of texts that begins with this one.
+    Texts(HeaderField),
     /// `APPROX POSITION XYZ`.
     Position,
     /// `ANTENNA: DELTA H/E/N`.
@@ -22,6 +22,8 @@ pub enum HeaderRow {
     Types(System, usize),
     /// `SIGNAL STRENGTH UNIT`.
     StrengthUnit,
+    /// `INTERVAL`.
+    Interval,
     /// `TIME OF FIRST OBS`.
     First,
     /// `SYS / PHASE SHIFT`.
@@ -40,14 +42,14 @@ macro_rules! rows {
     ($($system:ident)*) => {
         [
             Version,
-            Texts(Program), Texts(Marker), Texts(MarkerType),
-            Texts(Observer), Texts(Receiver), Texts(Antenna),
+            Texts(RunBy), Texts(Comment), Texts(Marker), Texts(MarkerNumber), Texts(MarkerType),
+            Texts(Observer), Texts(RecNumber), Texts(AntNumber),
             Position, Delta,
             $(
                 Types($system, 0), Types($system, 1), Types($system, 2),
                 Types($system, 3), Types($system, 4), Types($system, 5),
             )*
-            StrengthUnit, First,
+            StrengthUnit, Interval, First,
             $(Shift($system),)*
             Slots(0), Slots(1), Slots(2), Slots(3),
             Biases, End,
@@ -55,20 +57,18 @@ macro_rules! rows {
     };
 }
 
-/// The number of rows before those of types.
-const FIRST_TYPES: usize = 9;
+/// The rows in order.
+pub(crate) const ROWS: &[HeaderRow] = &rows!(Gps Galileo Glonass Beidou Qzss Sbas);
+
+/// The number of rows.
+pub(crate) const ROW_COUNT: usize = ROWS.len();
 
 /// The number of rows of a system's types.
 const TYPE_ROWS: usize = 6;
 
-/// The number of rows of slots.
-const SLOT_ROWS: usize = 4;
-
-/// The number of rows: of each system also one of its phase shift, and four others.
-pub(crate) const ROW_COUNT: usize = FIRST_TYPES + (TYPE_ROWS + 1) * SYSTEMS.len() + SLOT_ROWS + 4;
-
-/// The rows in order.
-pub(crate) const ROWS: [HeaderRow; ROW_COUNT] = rows!(Gps Galileo Glonass Beidou Qzss Sbas);
+/// The number of rows before those of types: those from there on are of types and phase shifts of
+/// each system, four of slots, and five others.
+const FIRST_TYPES: usize = ROW_COUNT - (TYPE_ROWS + 1) * SYSTEMS.len() - 9;
 
 /// Returns the row at an index, counted from 0.
 pub(crate) fn row_at(place: usize) -> HeaderRow

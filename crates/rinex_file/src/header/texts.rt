@@ -4,7 +4,7 @@ ghost use Rattle.std.specs.Result.{result_err};
 ghost use Rattle.std.specs.List.{list_all};
 ghost use Rattle.rinex_file.specs.Blanks.{trimmed};
 ghost use Rattle.rinex_file.specs.Texts.{fields, text_of, text_count, place_of, fault_of, first_fault};
-ghost use Rattle.rinex_file.specs.Texts.{trimmed_texts, is_printable};
+ghost use Rattle.rinex_file.specs.Texts.{trimmed_texts, has_row, has_text, is_printable};
 ghost use Rattle.rinex_file.specs.TextsOf.{lists_of};
 ghost use Rattle.rinex_file.specs.FileValues.{AreTexts};
 ghost use Rattle.rinex_fields.specs.Limits.{content_columns};
@@ -23,8 +23,12 @@ pub struct Texts<'a> {
     pub run_by: &'a str,
     /// When it ran, at most 20 bytes; RINEX's form is `yyyymmdd hhmmss UTC`.
     pub date: &'a str,
+    /// A comment, at most 60 bytes. Without one the header has no line for it.
+    pub comment: &'a str,
     /// The marker's name, at most 60 bytes.
     pub marker: &'a str,
+    /// The marker's number, at most 20 bytes. Without one the header has no line for it.
+    pub marker_number: &'a str,
     /// The marker's type, at most 20 bytes, as `GEODETIC`.
     pub marker_type: &'a str,
     /// The observer's name, at most 20 bytes.
@@ -76,7 +80,9 @@ impl<'a> Texts<'a> {
         match field {
             HeaderField::RunBy => self.run_by,
             HeaderField::Date => self.date,
+            HeaderField::Comment => self.comment,
             HeaderField::Marker => self.marker,
+            HeaderField::MarkerNumber => self.marker_number,
             HeaderField::MarkerType => self.marker_type,
             HeaderField::Observer => self.observer,
             HeaderField::Agency => self.agency,
@@ -133,6 +139,20 @@ impl HeaderTexts {
         put(&mut taken, cut);
         self.texts[field.place()] = taken;
         Ok(())
+    }
+
+    /// Returns whether some text of a row isn't empty.
+    fn has_text(&self, row: HeaderField) -> bool
+        ensures { result ≡ has_text self.now row }
+    {
+        row.fields().iter().any(|field| self.text(*field).len() > 0)
+    }
+
+    /// Returns whether a row has a line.
+    pub(crate) fn has_row(&self, row: HeaderField) -> bool
+        ensures { result ≡ has_row self.now row }
+    {
+        row.is_required() || self.has_text(row)
     }
 
     /// Shows that each text is printable, within its columns, and has no trailing blank.

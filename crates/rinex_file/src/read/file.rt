@@ -110,6 +110,7 @@ impl FileBuilder {
         };
         Some(ObsFile {
             texts: head.texts,
+            interval: head.interval,
             plan: plan.with_channels(head.slots.channels),
             values: head.values,
             epochs: self.epochs,

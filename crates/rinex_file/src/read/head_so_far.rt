@@ -4,22 +4,28 @@ ghost use Rattle.gnss_system.specs.Signals.{table};
 ghost use Rattle.gnss_obs.specs.SignalLists.{indices};
 ghost use Rattle.gnss_obs.specs.Values.{planned_of};
 ghost use Rattle.rinex_file.specs.Header.{type_rows, row_at};
+ghost use Rattle.rinex_fields.specs.Limits.{label_columns};
 ghost use Rattle.rinex_file.specs.Read.Progress.{AreValid, IsHeadAt, counted, signals_begun, is_chosen, fits};
-ghost use Rattle.rinex_file.specs.Read.HeaderSteps.{begins_with, expected_if, known_line, SameFrom, TakesHeaderLine};
+ghost use Rattle.rinex_file.specs.Read.HeaderSteps.{begins_with, has_label, expected_if, known_line, SameFrom, TakesHeaderLine};
 ghost use Rattle.rinex_file.specs.Read.HeaderSteps.{TakesTypes, RefusesTypes, with_types, AreSlotsBefore, IsOnly, ReadsOrRefuses};
 
-use crate::header::lines::{BIASES, END, SHIFT, STRENGTH_UNIT, UNIT, flagged_letter};
+use crate::header::lines::{BIASES, END, INTERVAL, SHIFT, STRENGTH_UNIT, UNIT, flagged_letter};
 use crate::header::lists::{slot_rows, type_rows};
 use crate::header::rows::{HeaderRow, first_types, row_at};
 use crate::header::texts::HeaderTexts;
-use crate::read::other_lines::{read_delta, read_first, read_position, read_texts, read_version};
+use crate::read::other_lines::{
+    read_delta, read_first, read_interval, read_position, read_texts, read_version,
+};
 use crate::read::parser_state::{Expected, Refusal};
 use crate::read::slots::SlotsSoFar;
 use crate::read::types::TypesSoFar;
 use gnss_obs::{BySystem, GpsTime, StationValues, System};
-use rinex_fields::read_labelled;
+use rinex_fields::{Line, put_left, read_labelled};
 use std::alloc::Global;
 use std::marker::Model;
+
+/// Width of the label of a line, in columns.
+const LABEL_COLUMNS: usize = 20;
 
 /// What was read of a header.
 #[derive(Drop)]
@@ -27,6 +33,7 @@ pub(crate) struct HeadSoFar {
     /// The letter in the first line, or 0 before it is read.
     pub(crate) letter: u8,
     pub(crate) texts: HeaderTexts,
+    pub(crate) interval: Option<u32>,
     pub(crate) types: BySystem<TypesSoFar>,
     pub(crate) slots: SlotsSoFar,
     pub(crate) values: StationValues,
@@ -40,7 +47,8 @@ impl Model for HeadSoFar {
     ghost use Rattle.gnss_system.specs.declared.system.System.{System};
     ghost use Rattle.gnss_system.specs.SystemValues.{value_of, map_by};
     ghost use Rattle.rinex_file.specs.Read.Progress.{Known};
-    ghost use Rattle.rinex_file.specs.FileValues.{AreValues, IsTime};
+    ghost use Rattle.std.specs.Prelude.{IfSome};
+    ghost use Rattle.rinex_file.specs.FileValues.{AreValues, IsTime, IsInterval};
 
     ghost Value = { Known };
 
@@ -48,6 +56,7 @@ impl Model for HeadSoFar {
       shown =
           record {
             texts = h.texts;
+            interval = h.interval;
             plan = record { signals = map_by (λ t. indices t.signals) h.types; channels = h.slots.channels };
             values = h.values;
             first = h.first;
@@ -58,7 +67,8 @@ impl Model for HeadSoFar {
     } };
 
     ghost invariant = { λ h. AreValues h.values × IsTime h.first × ((s : System) →
-        IsOf s (value_of s h.types).signals × ((value_of s h.types).count ≤ length (table s))) };
+        IsOf s (value_of s h.types).signals × ((value_of s h.types).count ≤ length (table s)))
+        × IfSome h.interval IsInterval };
 }
 
 impl HeadSoFar {
@@ -69,6 +79,7 @@ impl HeadSoFar {
         let head = HeadSoFar {
             letter: 0,
             texts: HeaderTexts::blank(),
+            interval: None,
             types: BySystem::each(|_| TypesSoFar::new(alloc)),
             slots: SlotsSoFar::new(),
             values: StationValues::zero(),
@@ -109,6 +120,8 @@ impl HeadSoFar {
         ensures { result ≡ known_line self.now line.now row }
     {
         match row {
+            HeaderRow::Texts(row) => row.is_required() || has_label(line, row.label()),
+            HeaderRow::Interval => has_label(line, INTERVAL),
             HeaderRow::Types(system, 0) => begins_with(line, system.letter()),
             HeaderRow::Types(system, row) => row < type_rows(self.of(system).count),
             HeaderRow::Shift(system) => self.of(system).count > 0,
@@ -181,6 +194,7 @@ impl HeadSoFar {
             }
             HeaderRow::Delta => self.values.height = read_delta(line)?,
             HeaderRow::StrengthUnit => return read_labelled(line, UNIT, STRENGTH_UNIT),
+            HeaderRow::Interval => self.interval = Some(read_interval(line)?),
             HeaderRow::First => self.first = read_first(line)?,
             HeaderRow::Shift(system) => return read_labelled(line, &[system.letter()], SHIFT),
             HeaderRow::Slots(row) => return self.slots.take(row, line),
@@ -221,6 +235,17 @@ impl HeadSoFar {
             .then_some(Expected::Header(place))
             .ok_or(Refusal::Bad)
     }
+}
+
+/// Returns whether a line has this label.
+fn has_label(line: &[u8], label: &[u8]) -> bool
+    requires { length label.now ≤ label_columns }
+    ensures { result ≡ has_label label.now line.now }
+{
+    let mut end = Line::new();
+    put_left(&mut end, LABEL_COLUMNS, label);
+    end.push(b'\n');
+    line.ends_with(end.as_slice())
 }
 
 /// Returns whether a text begins with this byte.

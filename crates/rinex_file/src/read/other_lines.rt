@@ -3,22 +3,25 @@
 ghost use Rattle.std.specs.Prelude.{◌≡◌, ◌≤◌, ◌<◌, ◌^◌, ⊤, ℕ, Some, is_some, take, drop};
 ghost use Rattle.gnss_obs.specs.Dates.{civil_of};
 ghost use Rattle.gnss_obs.specs.GatheredEpochs.{IsCoordinate};
-ghost use Rattle.rinex_file.specs.FileValues.{IsTime};
-ghost use Rattle.rinex_file.specs.Header.{first_line, height_line, position_line, version_by};
+ghost use Rattle.rinex_file.specs.FileValues.{IsInterval, IsTime};
+ghost use Rattle.rinex_file.specs.Header.{first_line, height_line, interval_line, position_line, version_by};
 ghost use Rattle.rinex_file.specs.Lines.{epoch_line};
 ghost use Rattle.rinex_fields.specs.Read.{number_in, ReadsExactly};
 ghost use Rattle.rinex_file.specs.Read.HeaderSteps.{ReadsOrRefusesTexts};
 ghost use Rattle.rinex_file.specs.Read.Progress.{IsPosition};
 
-use crate::header::fields::TextRow;
+use crate::header::fields::HeaderField;
 use crate::header::lines::{
-    DELTA, first_line, position_line, texts_line, three_lengths, version_by,
+    DELTA, first_line, interval_line, position_line, texts_line, three_lengths, version_by,
 };
 use crate::header::texts::HeaderTexts;
 use crate::write::line::epoch_line;
 use gnss_obs::laws::calendar;
 use gnss_obs::{Civil, GREATEST_COORDINATE, GpsTime, LEAST_COORDINATE, StationValues};
 use rinex_fields::{Line, columns, digits_in, is_same, signed};
+
+/// The longest interval, in milliseconds: a day.
+const LONGEST_INTERVAL: u64 = 86_400_000;
 
 /// Returns the byte in place of the letter of a file's systems, or None for a line that isn't the
 /// first.
@@ -65,8 +68,17 @@ pub(crate) fn read_delta(line: &[u8]) -> Option<u16>
     is_same(line, again.as_slice()).then_some(height)
 }
 
+/// Returns the interval in milliseconds by its line, or None for any other line.
+pub(crate) fn read_interval(line: &[u8]) -> Option<u32>
+    ensures { ReadsExactly IsInterval interval_line line.now result }
+{
+    // A number that doesn't fit differs from the limit, which is written again.
+    let interval = digits_in(columns(line, 0, 10)).clamp(1, LONGEST_INTERVAL) as u32;
+    is_same(line, interval_line(interval).as_slice()).then_some(interval)
+}
+
 /// Reads the texts of a row, or returns None if the line isn't that of these texts.
-pub(crate) fn read_texts(texts: &mut HeaderTexts, row: TextRow, line: &[u8]) -> Option<()>
+pub(crate) fn read_texts(texts: &mut HeaderTexts, row: HeaderField, line: &[u8]) -> Option<()>
     ensures { ReadsOrRefusesTexts row line.now texts.old texts.new (is_some result) }
 {
     texts.are_texts();
@@ -77,6 +89,9 @@ pub(crate) fn read_texts(texts: &mut HeaderTexts, row: TextRow, line: &[u8]) -> 
             Ok(()) => column += width,
             Err(_) => return None,
         }
+    }
+    if !texts.has_row(row) {
+        return None;
     }
     is_same(line, texts_line(texts, row).as_slice()).then_some(())
 }

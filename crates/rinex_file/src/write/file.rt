@@ -63,6 +63,7 @@ fn write_file(file: &ObsFile, text: &mut Text) -> Result<(), HeadFault>
     let first = &epochs[0];
     let head = Head {
         texts: &file.texts,
+        interval: file.interval,
         plan: &file.plan,
         values: file.values,
         first: first.time,

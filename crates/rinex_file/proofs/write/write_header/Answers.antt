@@ -1,9 +1,9 @@
 use Rattle.rinex_file.proofs.Writing.Sent.{part_after, part_first, where_failed}
-use Rattle.rinex_file.proofs.Names.{arith, ◌∙◌, sym, ap, subst, refl, [], ◌++◌, append_assoc, append-nil, Appends, Appends-nil, Appends-trans, AppendsPrefix, joined, header_text}
+use Rattle.rinex_file.proofs.Names.{arith, ◌∙◌, sym, ap, subst, refl, [], ◌++◌, append_assoc, append-nil, Appends, Appends-nil, Appends-trans, AppendsPrefix, joined, shown_text}
 use Rattle.rinex_file.proofs.write.write_header.Goals as goal
 
 pub loop-line-init : goal.loop-line-init
-unfolding header_text
+unfolding shown_text
 loop-line-init g c =
     let same = c.into_iter-line-iterator.ensures.into_iter_gives in
     (tt, tt, ([], sym (ap joined (same ∙ c.header_lines-line-items.ensures)), Appends-nil (g.W.Write.contents c.args.writer.now.inner)), refl, refl)

@@ -1,4 +1,5 @@
-use Rattle.rinex_file.proofs.Names.{◌≡◌, ◌++◌, List, ℕ, Appends, joined, header_text}
+use Rattle.rinex_file.proofs.Names.{◌≡◌, ◌++◌, List, ℕ, Appends, joined, shown_text}
+use Rattle.rinex_file.specs.Heads.{shown_by}
 use Rattle.rinex_file.proofs.write.write_header.Given as goal
 
 -- what was written and what is left are the whole text
@@ -6,7 +7,7 @@ abbrev pub invariant-loop-line : goal.invariant-loop-line
 invariant-loop-line g l =
     (goal.iterator-loop-line g).can_next l.line-iterator × (goal.iterator-loop-line g).is_finite l.line-iterator
     × ((done : List ℕ)
-    × (header_text l.head.texts.now l.head.plan.now l.head.values l.head.first ≡ done ++ joined l.line-iterator)
+    × (shown_text (shown_by l.head) ≡ done ++ joined l.line-iterator)
     × Appends (g.W.Write.contents l.fn.writer.inner) (g.W.Write.contents l.writer.inner) done)
     × (l.writer.failures ≡ l.fn.writer.failures)
     × (l.writer.widest ≡ l.fn.writer.widest)

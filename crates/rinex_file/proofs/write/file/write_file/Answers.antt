@@ -1,5 +1,5 @@
 use Rattle.rinex_file.proofs.Writing.Stored.{lines_have_room, all_written, one_more}
-use Rattle.rinex_file.proofs.Names.{◌∙◌, sym, ap, ◌++◌, append-nil, subst, All, Stamped, FileValue, header_text, HaveRowsRoom, stamped_text}
+use Rattle.rinex_file.proofs.Names.{◌∙◌, sym, ap, ◌++◌, append-nil, subst, All, Stamped, FileValue, shown_text, HaveRowsRoom, stamped_text, shown_of}
 use Rattle.rinex_file.proofs.write.file.write_file.Goals as goal
 
 pub write_stored-requires : goal.write_stored-requires
@@ -16,8 +16,8 @@ returns c =
 pub loop-epoch-init : goal.loop-epoch-init
 loop-epoch-init c =
     let file = c.args.file.now in
-    let time = ap (λ (e : Stamped). header_text file.texts file.plan file.values e.time) c.first.view_is in
-    let head = ap (λ (v : FileValue). header_text v.texts v.plan v.values c.first.inside.time) c.file.view_is ∙ time in
+    let time = ap (λ (e : Stamped). shown_text (shown_of file e.time)) c.first.view_is in
+    let head = ap (λ (v : FileValue). shown_text (shown_of v c.first.inside.time)) c.file.view_is ∙ time in
     (c.index-epochs-0.result, c.index-epochs-0.is, c.in_ok-write_header.ensures.whole ∙ ap (λ t. c.args.text.now.inner.items ++ t) head ∙ sym (append-nil _))
 
 pub loop-epoch-preserved : goal.loop-epoch-preserved

@@ -1,4 +1,4 @@
-use Rattle.rinex_file.proofs.Names.{◌≡◌, ◌++◌, take, get_or, flat_map, Stamped, header_text, stamped_text}
+use Rattle.rinex_file.proofs.Names.{◌≡◌, ◌++◌, take, get_or, flat_map, Stamped, shown_text, stamped_text, shown_of}
 use Rattle.rinex_file.proofs.write.file.write_file.Given as goal
 
 -- the header and the epochs so far were written
@@ -6,4 +6,4 @@ abbrev pub invariant-loop-epoch : goal.invariant-loop-epoch
 invariant-loop-epoch l =
     (first : Stamped) × (first ≡ get_or l.epochs 0 first)
     × (l.text.inner.items
-    ≡ (l.fn.text.inner.items ++ header_text l.file.texts l.file.plan l.file.values first.time) ++ flat_map stamped_text (take l.epoch-index l.epochs))
+    ≡ (l.fn.text.inner.items ++ shown_text (shown_of l.file first.time)) ++ flat_map stamped_text (take l.epoch-index l.epochs))

@@ -11,7 +11,7 @@ invariant_of-self c =
     let text = c.args.text.now in
     let size : length (trimmed text) ≡ length (take c.trimmed_len.result text) = ap length (sym c.trimmed_len.ensures.text) in
     let cut = length-take c.trimmed_len.result text in
-    let wide = c.width.ensures in
+    let wide = c.width.ensures.value in
     let short : length (trimmed text) ≤ width_of c.args.field = omega (arith, size, cut, wide, c.if-cut-width.false) in
     let is = cut_text c.args.field text (sym c.is_printable.ensures ∙ c.if-not-is_printable.false) short in
     rw (map-set (λ text. text.items) c.self.inside.texts c.place.result c.put.new.line, c.place.ensures.place, kept ((goal.at.invariant_of-self c).After-put))

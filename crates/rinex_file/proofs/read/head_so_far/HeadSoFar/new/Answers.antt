@@ -2,12 +2,12 @@ use Rattle.gnss_system.proofs.SystemLaws.{value_mapped}
 use Rattle.gnss_system.specs.SystemValues.{value_of}
 use Rattle.rinex_file.proofs.Judged.{at_some}
 use Rattle.rinex_file.proofs.HeaderRows.End.{begins, none_read, zero_time, zero_values}
-use Rattle.rinex_file.proofs.Names.{arith, rules, ◌≡◌, ◌∙◌, [], ap, subst, sym, indices, AreValues}
+use Rattle.rinex_file.proofs.Names.{arith, rules, ◌≡◌, ◌∙◌, [], ap, subst, sym, indices, AreValues, refl}
 use Rattle.rinex_file.proofs.read.head_so_far.HeadSoFar.new.Goals as goal
 
 pub returns : goal.returns
 returns c =
-    begins _ c.are_valid.ensures (λ s. value_mapped s (λ t. t.count) c.each.result ∙ (let given = c.each.ensures s in search rules))
+    begins _ c.are_valid.ensures c.blank.ensures refl (λ s. value_mapped s (λ t. t.count) c.each.result ∙ (let given = c.each.ensures s in search rules))
     (λ s. value_mapped s (λ t. indices t.signals) c.each.result ∙ ap indices {y = []} (let given = c.each.ensures s in search rules))
     c.new.ensures.count c.new.ensures.channels
 
@@ -18,4 +18,5 @@ invariant_of-head c = (
   λ s.
       let none : (value_of s c.each.result).count ≡ 0 = let given = c.each.ensures s in search rules in
       (none_read s (value_of s c.each.result).signals (let given = c.each.ensures s in search rules), omega (arith, none)),
+  tt,
 )

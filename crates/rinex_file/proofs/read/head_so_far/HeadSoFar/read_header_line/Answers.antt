@@ -1,7 +1,7 @@
 -- Each kind of row is read by its own function: what it takes is kept, and a line that it refuses is no line of the
 -- row, so that the header so far is as it was.
-use Rattle.rinex_file.proofs.HeaderRows.Read.{line_version, refuse_version, line_texts, refuse_texts, line_position, refuse_position, line_delta, refuse_delta, line_unit, line_first, refuse_first, line_shift, line_slots, line_biases}
-use Rattle.rinex_file.proofs.Names.{ap, Option, Some, ◌≡◌, subst, refl, ℕ, List, Bool, true, false, inl, inr, is_some, ⊤, TextRow, HeaderRow, Texts, HeaderLists, Known, IsOnly, ReadsOrRefuses, ReadsOrRefusesTexts, with_texts, AreSlotsBefore, Slots, sym}
+use Rattle.rinex_file.proofs.HeaderRows.Read.{line_interval, refuse_interval, line_version, refuse_version, line_texts, refuse_texts, line_position, refuse_position, line_delta, refuse_delta, line_unit, line_first, refuse_first, line_shift, line_slots, line_biases}
+use Rattle.rinex_file.proofs.Names.{ap, Option, Some, ◌≡◌, subst, refl, ℕ, List, Bool, true, false, inl, inr, is_some, ⊤, HeaderField, HeaderRow, Texts, HeaderLists, Known, IsOnly, ReadsOrRefuses, ReadsOrRefusesTexts, with_texts, AreSlotsBefore, Slots, sym}
 use Rattle.rinex_file.proofs.read.head_so_far.HeadSoFar.read_header_line.Goals as goal
 
 -- the row, what was known before it and what was returned, by other names
@@ -9,7 +9,7 @@ of_row : {r t : HeaderRow} (line : List ℕ) {old k : Known} (new : Known) {take
     → ReadsOrRefuses r line old new (is_some result)
 of_row {t} line new {taken} result e is same l = rw (e, is) (subst (λ o. ReadsOrRefuses t line o new taken) same l)
 
-of_texts : (r : TextRow) (line : List ℕ) (k : Known) (x : HeaderLists) (b : Bool) → ReadsOrRefusesTexts r line k.shown.texts x b → ReadsOrRefuses (Texts r) line k (with_texts k x) b
+of_texts : (r : HeaderField) (line : List ℕ) (k : Known) (x : HeaderLists) (b : Bool) → ReadsOrRefusesTexts r line k.shown.texts x b → ReadsOrRefuses (Texts r) line k (with_texts k x) b
 of_texts r line k x true read = line_texts r line k x read
 of_texts r line k x false refuses = refuse_texts k r line refuses
 
@@ -42,6 +42,12 @@ returns-in_err-self-inside-in-First c = of_row c.args.line.now c.args.self.now _
 
 pub returns-in_ok-self-inside-in-First : goal.returns-in_ok-self-inside-in-First
 returns-in_ok-self-inside-in-First c = of_row c.args.line.now _ (Some tt) refl c.in-First.is c.self.view_is (line_first _ _ c.args.line.now c.in_ok-self-inside-in-First.ensures)
+
+pub returns-in_err-read_interval-in-Interval : goal.returns-in_err-read_interval-in-Interval
+returns-in_err-read_interval-in-Interval c = of_row c.args.line.now c.args.self.now _ (ap is_some c.from_residual-in_err-read_interval-in-Interval.ensures) c.in-Interval.is refl (refuse_interval c.args.self.now c.args.line.now c.in_err-read_interval-in-Interval.ensures)
+
+pub returns-in_ok-read_interval-in-Interval : goal.returns-in_ok-read_interval-in-Interval
+returns-in_ok-read_interval-in-Interval c = of_row c.args.line.now _ (Some tt) refl c.in-Interval.is c.self.view_is (line_interval _ _ c.args.line.now c.in_ok-read_interval-in-Interval.ensures)
 
 pub returns-in-Shift : goal.returns-in-Shift
 returns-in-Shift c = of_row c.args.line.now c.args.self.now _ refl c.in-Shift.is refl (line_shift c.in-Shift.system c.letter.result c.args.self.now c.args.line.now _ c.letter.ensures c.read_labelled-in-Shift.ensures)

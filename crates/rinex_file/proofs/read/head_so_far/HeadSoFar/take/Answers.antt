@@ -1,11 +1,11 @@
 -- A line is a row of types, the end of the header, or one of the other rows, each in its place; what is known goes
 -- on by it.
 use Rattle.rinex_file.proofs.HeaderRows.End.{ends, no_end_line}
-use Rattle.rinex_file.proofs.HeaderRows.Read.{begun_here, types_law, types_sized, types_slots, none_taken, rows_there}
-use Rattle.rinex_file.proofs.HeaderRows.Steps.{Law, takes_row, takes_from, none_at, none_from, plain_law, row_sized, row_slots, slots_expected, decided}
+use Rattle.rinex_file.proofs.HeaderRows.Read.{begun_here, types_law, types_sized, types_slots, types_unread, none_taken, rows_there}
+use Rattle.rinex_file.proofs.HeaderRows.Steps.{Law, takes_row, takes_from, none_at, none_from, plain_law, row_sized, row_slots, row_unread, slots_expected, decided}
 use Rattle.rinex_file.proofs.HeaderRows.Places.{is_types, own_before, place_at}
 use Rattle.rinex_file.proofs.Judged.{refused}
-use Rattle.rinex_file.proofs.Names.{Option, ⊤, is_some, ReadsOrRefuses, ◌≡◌, ◌∙◌, sym, ap, subst, refl, false, suc, ℕ, List, Result, Ok, Err, IsErrAnd, System, HeaderRow, Expected, Refusal, Memory, Bad, Types, End, planned_of, end_line, row_place, Known, IsHeadAt, SameFrom, AreSized, types_before, counted, IsOnly, known_line, EndsHeader, NoneGoesOn, TakesHeaderLine, AreSlotsAt, true}
+use Rattle.rinex_file.proofs.Names.{Option, ⊤, is_some, ReadsOrRefuses, ◌≡◌, ◌∙◌, sym, ap, subst, refl, false, suc, ℕ, List, Result, Ok, Err, IsErrAnd, System, HeaderRow, Expected, Refusal, Memory, Bad, Types, End, planned_of, end_line, row_place, Known, IsHeadAt, SameFrom, AreSized, types_before, counted, IsOnly, known_line, EndsHeader, NoneGoesOn, TakesHeaderLine, AreSlotsAt, true, AreUnread}
 use Rattle.rinex_file.proofs.read.head_so_far.HeadSoFar.take.Goals as goal
 
 -- a refusal that was passed on
@@ -52,6 +52,7 @@ returns-in_ok-take_types-in-Types c =
     c.are_valid.ensures
     (subst (λ (k : Known). (u : System) → AreSized u (types_before u (suc n)) (counted k u) (planned_of u k.shown.plan)) kept (types_sized old s row n line same.expected is count signals taken same.sized))
     (subst (λ (k : Known). AreSlotsAt k (suc n)) kept (types_slots old s row n line same.expected is count signals taken same.sized same.slots))
+    (subst (λ (k : Known). AreUnread k (suc n)) kept (types_unread old s row n line same.expected is count signals taken same.sized same.unread))
     c.expected_at.ensures
 
 pub returns-in_err-take_types-in-Types : goal.returns-in_err-take_types-in-Types
@@ -102,7 +103,7 @@ returns-in_ok-ok_or-in_default c =
     let read = subst (λ (r : Option ⊤). ReadsOrRefuses c.row_at.result c.args.line.now old new (is_some r)) c.in_ok-ok_or-in_default.ensures.ok_part c.read_header_line.ensures in
     decided c.row_at.result same.expected at c.in_default.not-End
     (takes_from same (takes_row old new c.args.line.now same.expected c.place_from-place.ensures.here (plain_law same.expected at apart c.place_from-place.ensures.here read)))
-    c.are_valid-in_default.ensures (row_sized same.expected at apart read same.sized) (row_slots same.expected at apart read (here_known c.args.self.now c.args.line.now c.row_at.ensures c.place_from-place.ensures.here) same.slots) c.expected_at-in_default.ensures
+    c.are_valid-in_default.ensures (row_sized same.expected at apart read same.sized) (row_slots same.expected at apart read (here_known c.args.self.now c.args.line.now c.row_at.ensures c.place_from-place.ensures.here) same.slots) (row_unread same.expected at apart read same.unread) c.expected_at-in_default.ensures
 
 sole : (r : HeaderRow) → ((s : System) (i : ℕ) → r ≡ Types s i → ⊥) → (r ≡ End → ⊥) → IsOnly r
 sole (Types s i) other far = other s i refl

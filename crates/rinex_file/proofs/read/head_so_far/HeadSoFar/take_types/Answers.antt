@@ -9,4 +9,5 @@ invariant_of-self c =
       held.1,
       each_after (λ s types. IsOf s types.signals × (types.count ≤ length (table s))) c.args.system c.self.inside.types c.take.new.self held.2
           (c.take.ensures.signals, c.take.ensures.few),
+      held.3,
     )

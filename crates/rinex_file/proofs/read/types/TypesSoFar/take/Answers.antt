@@ -1,6 +1,6 @@
 use Rattle.rinex_file.proofs.HeaderRows.Read.{row_taken}
 use Rattle.rinex_file.proofs.Judged.{at_some, refused}
-use Rattle.rinex_file.proofs.HeaderRows.Types.{shown_line}
+use Rattle.rinex_file.proofs.HeaderRows.Types.{row_line}
 use Rattle.rinex_file.proofs.Names.{◌≡◌, ◌∙◌, sym, ap, refl, Bool, true, false, Option, then_some, ok_or, ⊤, OnOk, Result, Ok, Err, Refusal, Bad, err_from_is_err_and, indices, none-some, same_Some}
 use Rattle.rinex_file.proofs.read.types.TypesSoFar.take.Goals as goal
 
@@ -28,7 +28,7 @@ on_right false {o} {r} P e f p = let is : r ≡ Err Bad = f ∙ ap (λ (x : Opti
 pub returns-clause-bad : goal.returns-clause-bad
 returns-clause-bad c = λ bad all are later begun is.
     let size = sym (same_Some _ _ (sym c.in_ok-count.ensures.ok_part ∙ c.read_count.ensures.count all are later is)) in
-    let again = c.as_slice-2.ensures.value ∙ c.types_with-again.ensures ∙ shown_line c.args.system all _ c.args.row c.in_ok-count.count size (ap indices c.as_slice.ensures ∙ c.in_ok-take_signals.ensures.taken all are (size, begun) is) in
+    let again = c.as_slice-2.ensures.value ∙ c.types_with-again.ensures ∙ row_line c.args.system all _ c.args.row c.in_ok-count.count size (ap indices c.as_slice.ensures ∙ c.in_ok-take_signals.ensures.taken all are (size, begun) is) in
     refused c.is_same.result _ c.is_same.ensures (if_bad c.is_same.result c.then_some.ensures c.ok_or-2.ensures.value bad) (is ∙ sym again)
 
 pub returns-clause-taken : goal.returns-clause-taken
@@ -40,5 +40,5 @@ returns-clause-taken c = on_right c.is_same.result _ c.then_some.ensures c.ok_or
     (λ all are later is. sym (same_Some _ _ (sym read ∙ c.read_count.ensures.count all are later is)))
     (λ all are begun. (
       λ is. c.in_ok-take_signals.ensures.taken all are begun is,
-      λ is. c.is_same.ensures.0 same ∙ c.as_slice-2.ensures.value ∙ c.types_with-again.ensures ∙ shown_line c.args.system all _ c.args.row count begun.0 (ap indices c.as_slice.ensures ∙ is),
+      λ is. c.is_same.ensures.0 same ∙ c.as_slice-2.ensures.value ∙ c.types_with-again.ensures ∙ row_line c.args.system all _ c.args.row count begun.0 (ap indices c.as_slice.ensures ∙ is),
     )))
