@@ -2,6 +2,7 @@ pub mod Rounding
 pub mod Observables
 pub mod LockTimes
 pub mod Weeks
+pub mod Intervals
 pub mod Dates
 pub mod Channels
 pub mod Values

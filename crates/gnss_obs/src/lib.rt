@@ -13,6 +13,7 @@ mod civil;
 mod epoch;
 mod epoch_cells;
 mod fault;
+mod interval;
 pub mod laws;
 mod lock;
 mod observables;
@@ -31,6 +32,7 @@ pub use epoch::{Epoch, MOST_CELLS, end_of, is_written};
 pub use epoch_cells::{Added, EpochCells};
 pub use fault::PlanFault;
 pub use gnss_system::{BySystem, GALILEO_SIGNAL_COUNT, GPS_SIGNAL_COUNT, System};
+pub use interval::Interval;
 pub use lock::{Lock, is_lost};
 pub use observables::{
     doppler, doppler_at, phase, phase_at, pseudorange, strength, strength_digit,
