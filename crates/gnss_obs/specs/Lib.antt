@@ -12,5 +12,6 @@ pub mod HeardCells
 pub mod Order
 pub mod PlanOrder
 pub mod Arriving
+pub mod Marked
 pub mod GatheredEpochs
 pub mod Names

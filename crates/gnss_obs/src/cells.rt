@@ -2,6 +2,7 @@
 ghost use Rattle.std.specs.Prelude.{◌≡◌, ◌<◌, ◌≤◌, ◌++◌, ◌∷◌, [], true, length, map, get_or, is_some, IfSome, IfOk};
 ghost use Rattle.gnss_obs.specs.declared.cell.Cell.{Cell};
 ghost use Rattle.gnss_obs.specs.Arriving.{has_slot, slot, most_slots};
+ghost use Rattle.gnss_obs.specs.Marked.{marked_at};
 ghost use Rattle.gnss_obs.specs.Order.{Rise};
 ghost use Rattle.gnss_obs.specs.Values.{most_cells};
 
@@ -118,6 +119,16 @@ impl Cells {
         let _ = x.c.is_some();
         self.list.push_reserved(x);
         self.least_next = least_next_after(self.least_next, entry);
+    }
+
+    /// Sets bit 0 of the loss of lock indicator of the cell at this index.
+    pub fn mark(&mut self, at: usize)
+        requires { at < length self.old }
+        ensures { self.new ≡ marked_at at self.old }
+    {
+        let mut x = self.list[at];
+        x.lli = x.lli / 2 * 2 + 1;
+        self.list[at] = x;
     }
 
     /// Returns `true` only if the cells are in the order of their satellites, and then of the

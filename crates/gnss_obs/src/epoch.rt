@@ -5,6 +5,7 @@ ghost use Rattle.std.specs.List.{list_any};
 ghost use Rattle.gnss_obs.specs.Values.{AreHeld, cells_of, has_value, satellites_written, is_written, written_among};
 ghost use Rattle.gnss_obs.specs.Values.{most_written, run, cleared, empty_epoch, no_cells, no_values};
 ghost use Rattle.gnss_obs.specs.Arriving.{sorted_lists};
+ghost use Rattle.gnss_obs.specs.Marked.{closed_marked_in};
 ghost use Rattle.gnss_obs.specs.Order.{AreSorted, AreSortedByPlan};
 ghost use Rattle.gnss_obs.specs.PlanOrder.{HasPlannedCells};
 ghost use Rattle.gnss_system.specs.declared.system.System.{System};
@@ -86,6 +87,14 @@ impl Epoch {
         ensures { self.new ≡ cleared self.old }
     {
         self.cells.clear();
+    }
+
+    /// Marks a cell of a system: sets bit 0 of its loss of lock indicator.
+    pub fn mark(&mut self, system: System, at: usize)
+        requires { at < length (cells_of system self.old.epoch) }
+        ensures { self.new ≡ closed_marked_in system at self.old }
+    {
+        self.cells.mark(system, at);
     }
 
     /// Returns the time of the epoch.

@@ -1,7 +1,8 @@
 //! The kept cells of an epoch.
-ghost use Rattle.std.specs.Prelude.{◌≡◌, ◌+◌, ◌*◌, ◌<◌, ◌≤◌, [], All, IfOk, true};
+ghost use Rattle.std.specs.Prelude.{◌≡◌, ◌+◌, ◌*◌, ◌<◌, ◌≤◌, [], All, IfOk, length, true};
 ghost use Rattle.gnss_obs.specs.HeardCells.{heard_cell, IsObserved};
 ghost use Rattle.gnss_obs.specs.Arriving.{IsAdded, AddsCell, AreBelow, AreKept, HasSatellites, sorted_cells, sorted_lists};
+ghost use Rattle.gnss_obs.specs.Marked.{marked_at};
 ghost use Rattle.gnss_obs.specs.PlanOrder.{IsPlanned, HasPlannedCells};
 ghost use Rattle.gnss_obs.specs.Order.{AreOrderedBy};
 ghost use Rattle.gnss_obs.specs.SignalLists.{indices, IsOf};
@@ -88,6 +89,14 @@ impl EpochCells {
         clear_all(&mut self.0);
     }
 
+    /// Sets bit 0 of the loss of lock indicator of a cell of a system.
+    pub(crate) fn mark(&mut self, system: System, at: usize)
+        requires { at < length (value_of system self.old) }
+        ensures { self.new ≡ with_value_of system self.old (marked_at at (value_of system self.old)) }
+    {
+        mark_in(&mut self.0, system, at);
+    }
+
     /// Moves the cells of each system to `sorted`, in the order of satellites and then of a plan.
     pub(crate) fn move_sorted(&mut self, plan: &Plan, sorted: &mut EpochCells)
         requires { HasPlannedCells plan.now self.old }
@@ -106,6 +115,15 @@ fn clear_all(cells: &mut BySystem<Box<Cells>>)
     for i in 0..SYSTEMS.len() {
         cells.of_mut(System::at(i)).clear();
     }
+}
+
+// Marks a cell of a system.
+fn mark_in(cells: &mut BySystem<Box<Cells>>, system: System, at: usize)
+    requires { at < length (value_of system cells.old).value }
+    ensures own { (value_of system cells.new).value ≡ marked_at at (value_of system cells.old).value }
+    ensures others { cells.new ≡ with_value_of system cells.old (value_of system cells.new) }
+{
+    cells.of_mut(system).mark(at);
 }
 
 // Moves the cells of each system, sorted.

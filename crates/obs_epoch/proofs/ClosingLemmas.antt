@@ -26,14 +26,14 @@ plain : (s : GatherSetup) (ys : List Timed) → closed_so_far s ys false ≡ clo
 plain s ys = append-nil (closed_times s ys)
 
 -- If a message is accepted, an epoch is closed first exactly if one is pending and its time is less.
-first_is : (s : GatherSetup) (xs : List Timed) (m : Heard) (u t : ℕ) → is_own s m ≡ true → taken_at s xs m ≡ Some u → greatest_time xs ≡ Some t
+pub first_is : (s : GatherSetup) (xs : List Timed) (m : Heard) (u t : ℕ) → is_own s m ≡ true → taken_at s xs m ≡ Some u → greatest_time xs ≡ Some t
     → closes_first s xs m ≡ (not (is_closed s t xs) && nat_lt t u)
 first_is s xs m u t own some e = grind (arith, common_steps)
 
 shut_text : (c shut l : Bool) (t : ℕ) (g : Option ℕ) → g ≡ Some t → l ≡ true → (not c && l) ≡ shut → when (not c) t ≡ (if shut then option_to_list g else [])
 shut_text c shut l t g e lt h = grind (arith, e, lt, h)
 
-not_less : (c shut : Bool) (u : ℕ) → (not c && nat_lt u u) ≡ shut → shut ≡ false
+pub not_less : (c shut : Bool) (u : ℕ) → (not c && nat_lt u u) ≡ shut → shut ≡ false
 not_less c shut u h = grind (arith, h)
 
 less : (t u : ℕ) → t < u → nat_lt t u ≡ true

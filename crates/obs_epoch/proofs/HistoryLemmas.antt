@@ -3,7 +3,7 @@ use Rattle.std.proofs.Common.{◌≡◌, ℕ, Bool, true, false, not, List, [], 
 use Rattle.std.proofs.lemmas.List.{map-append}
 use Rattle.obs_epoch.specs.Names.{GatherSetup, Heard, ends_epoch, Timed, max_known, greatest_time, is_closed, taken_at, timed, times, is_shut, closed_times, epoch_at, values_of, is_pending, EpochValue, option_map_or, list_any}
 use Rattle.rtcm_bits.specs.Prefix.{IsPrefix}
-use Rattle.obs_epoch.specs.GathererHistory.{open_after, before_closing, closed_at, closed_list_at, closed_epochs, all_epochs}
+use Rattle.obs_epoch.specs.GathererHistory.{open_after, before_closing, closed_at, closed_list, closed_list_at, whole_list}
 use Rattle.obs_epoch.proofs.TimesLemmas.{next, timed-push, greatest-push}
 use Rattle.obs_epoch.proofs.ClosedLemmas.{ends, no_times, closed_is, when, taken_follows, grows_by}
 use Rattle.obs_epoch.proofs.EpochLemmas.{AllLater, IsLater, epoch_at-push, times_before, all_later}
@@ -119,7 +119,7 @@ each-push : (s : GatherSetup) (ms : List Heard) (m : Heard) (ts : List ℕ) → 
 each-push s ms m [] h = tt
 each-push s ms m (t ∷ ts) h = (shut-push s t ms m h.0, each-push s ms m ts h.1)
 
-pub epochs-push : (s : GatherSetup) (ms : List Heard) (m : Heard) → IsPrefix (closed_epochs s ms) (closed_epochs s (ms ++ m ∷ []))
+pub epochs-push : (s : GatherSetup) (ms : List Heard) (m : Heard) → IsPrefix (closed_list s ms) (closed_list s (ms ++ m ∷ []))
 epochs-push s ms m =
     let xs = timed s ms in
     let grown = grows_by s ms m in (
@@ -135,10 +135,10 @@ prefix_trans a b c h k = (h.0 ++ k.0, k.1 ∙ ap (λ l. l ++ k.0) h.1 ∙ append
 pub prefix_self : {A : Type 0} (a : List A) → IsPrefix a a
 prefix_self a = ([], sym (append-nil a))
 
-pub epochs-more : (s : GatherSetup) (ms more : List Heard) → IsPrefix (closed_epochs s ms) (closed_epochs s (ms ++ more))
-epochs-more s ms [] = subst (λ l. IsPrefix (closed_epochs s ms) (closed_epochs s l)) (sym (append-nil ms)) (prefix_self (closed_epochs s ms))
+pub epochs-more : (s : GatherSetup) (ms more : List Heard) → IsPrefix (closed_list s ms) (closed_list s (ms ++ more))
+epochs-more s ms [] = subst (λ l. IsPrefix (closed_list s ms) (closed_list s l)) (sym (append-nil ms)) (prefix_self (closed_list s ms))
 epochs-more s ms (m ∷ more) =
-    prefix_trans _ _ _ (epochs-push s ms m) (subst (λ l. IsPrefix (closed_epochs s (ms ++ m ∷ [])) (closed_epochs s l)) (append_assoc ms (m ∷ []) more) (epochs-more s (ms ++ m ∷ []) more))
+    prefix_trans _ _ _ (epochs-push s ms m) (subst (λ l. IsPrefix (closed_list s (ms ++ m ∷ [])) (closed_list s l)) (append_assoc ms (m ∷ []) more) (epochs-more s (ms ++ m ∷ []) more))
 
 -- ---- with the pending epoch, these are all epochs
 
@@ -161,7 +161,7 @@ with_pending s xs = by (greatest_time xs) refl where
       ap₂ (λ l (o : Option ℕ). l ++ (if option_map_or (λ t. not (is_closed s t xs)) o false then option_to_list o else [])) (closed_is s xs g last.init e last.is last.below) e
       ∙ when_not (is_closed s g xs) g last.init ∙ sym last.is
 
-pub all-prefix : (s : GatherSetup) (ms : List Heard) → IsPrefix (closed_epochs s ms) (all_epochs s ms)
+pub all-prefix : (s : GatherSetup) (ms : List Heard) → IsPrefix (closed_list s ms) (whole_list s ms)
 all-prefix s ms =
     let xs = timed s ms in (
       closed_list_at s ms (pending_in s xs),

@@ -18,8 +18,12 @@ pub mod ReturnedLemmas
 pub mod KindLemmas
 mod OrderLemmas
 mod ValueLemmas
-mod ReachLemmas
+pub mod ReachLemmas
 mod SignalCountsLemmas
 pub mod SignalNumbers
 pub mod ViewLemmas
 mod PlaceLemmas
+pub mod ThinLemmas
+pub mod MarksLemmas
+pub mod ThinnedLemmas
+mod ChoiceLemmas

@@ -104,7 +104,7 @@ cells_in s xs t system = cells_with_lli s xs t (cells_at s t xs system)
 abbrev noting : GatherSetup → List Timed → ℕ → List (Option KnownLock) → List System → List (Option KnownLock)
 noting s xs t rs ss = fold (λ l system. note_all t l (cells_in s xs t system)) rs ss
 
-are_listed : (s : GatherSetup) (xs : List Timed) (t : ℕ) (system : System) → AllListed (seens (cells_in s xs t system))
+pub are_listed : (s : GatherSetup) (xs : List Timed) (t : ℕ) (system : System) → AllListed (seens (cells_in s xs t system))
 are_listed s xs t system = subst AllListed (sym (seens_with_lli s xs t (cells_at s t xs system))) (kept_listed s t xs system)
 
 found_over : (s : GatherSetup) (xs : List Timed) (t : ℕ) (key : HeardCell) (rs : List (Option KnownLock)) (ss : List System) → length rs ≡ most_locks

@@ -1,14 +1,14 @@
 -- A step of the gatherer adds one message to the list.
-use Rattle.std.proofs.Common.{◌≡◌, ℕ, ◌<◌, Bool, true, false, not, List, [], ◌∷◌, ◌++◌, filter, refl, sym, ap, ap₂, ◌∙◌, subst, arith, append-nil, Option, Some, None, nat_lt, if◌then◌else◌, filter_map, flat_map}
+use Rattle.std.proofs.Common.{◌≡◌, ℕ, ◌<◌, Bool, true, false, not, ◌&&◌, List, [], ◌∷◌, ◌++◌, filter, refl, sym, ap, ap₂, ◌∙◌, subst, arith, append-nil, Option, Some, None, nat_lt, if◌then◌else◌, filter_map, flat_map}
 use Rattle.std.proofs.lemmas.List.{length-replicate}
 use Rattle.std.proofs.lemmas.List.Elements.{filter-append}
-use Rattle.obs_epoch.specs.Names.{GatherSetup, Heard, ends_epoch, HeardCell, kept_cell, Timed, is_at, greatest_time, is_closed, taken_at, no_counts, offered, is_planned, locked_at, latest_in, previous, times, lli_with, cells_with_lli, epoch_at, closed_so_far, lookup, no_locks, State, closes_first, GathererValue, empty_epoch, load, epoch_begun, is_same, locked_in, held_at, Locked, KnownLock, option_map_or, list_any}
+use Rattle.obs_epoch.specs.Names.{GatherSetup, Heard, ends_epoch, HeardCell, kept_cell, Timed, is_at, greatest_time, is_closed, taken_at, no_counts, offered, is_planned, locked_at, latest_in, previous, times, lli_with, cells_with_lli, epoch_at, closed_so_far, lookup, no_locks, State, closes_first, is_pending, GathererValue, empty_epoch, load, epoch_begun, is_same, locked_in, held_at, Locked, KnownLock, option_map_or, list_any}
 use Rattle.gnss_system.proofs.SystemLaws.{equal_values, value_tabulated}
 use Rattle.obs_epoch.proofs.TimesLemmas.{next, greater-absent, none-absent}
 use Rattle.obs_epoch.proofs.ClockLemmas.{standing, same_time, Follows, first, greater, equal, new_time}
 use Rattle.obs_epoch.proofs.HeardLemmas.{same_itself}
 use Rattle.obs_epoch.proofs.ClosedLemmas.{Below, when, ends, closed_is, passes_all, one_fails, less_true, less_false, taken_follows, times-push_same}
-use Rattle.obs_epoch.proofs.ClosingLemmas.{taken_by, own_of}
+use Rattle.obs_epoch.proofs.ClosingLemmas.{first_is, not_less, own_of, taken_by}
 use Rattle.obs_epoch.proofs.EpochLemmas.{IsLater, AllLater, all_none, all_below, cells_at-push, times_before, epoch_at-push}
 use Rattle.obs_epoch.proofs.LockLemmas.{none_found, none_recorded}
 use Rattle.obs_epoch.proofs.LoadLemmas.{with_lli_by, epoch_of, load_is, counts_after}
@@ -90,7 +90,7 @@ not_known t u h = grind arith
 
 -- The epoch in which the cells of an accepted message are kept.
 begun_is : {g : GathererValue} {s : GatherSetup} {xs : List Timed} (m : Heard) {u : ℕ} {shut : Bool} → taken_at s xs m ≡ Some u → closes_first s xs m ≡ shut
-    → g.epoch ≡ held_at s xs → Locked g s xs (closed_so_far s xs shut) → g.clock.latest ≡ Some u
+    → ((is_pending s xs && not shut) ≡ true → g.epoch ≡ held_at s xs) → Locked g s xs (closed_so_far s xs shut) → g.clock.latest ≡ Some u
     → epoch_begun (greatest_time xs) g ≡ record g { epoch = epoch_of s.plan (lookup g.locks) u (offered s u xs) }
 begun_is {g} {s} {xs} m {u} {shut} some h held locks now = ap (λ o. begun_to (greatest_time xs) o) now ∙ by (taken_follows s xs m u some) where
   begun_to : Option ℕ → Option ℕ → GathererValue
@@ -110,14 +110,17 @@ begun_is {g} {s} {xs} m {u} {shut} some h held locks now = ap (λ o. begun_to (g
       ap (filter (λ v. nat_lt v u)) (sym (times-push_same xs (next s xs m) u some e)) ∙ (before_taken s xs m u shut some h).0 in
       let known : (key : HeardCell) → lookup g.locks key ≡ previous s xs u key =
       λ key. locks.found key ∙ ap (λ ts. latest_in s xs ts key) (sym at) in
+      let still : shut ≡ false = not_less (is_closed s u xs) shut u (sym (first_is s xs m u u (own_of s xs m u some) some e) ∙ h) in
+      let pending : is_pending s xs ≡ true = ap (λ o. option_map_or (λ t. not (is_closed s t xs)) o false) e ∙ ap not c in
+      let same_epoch = held (ap₂ (λ a b. a && not b) pending still) in
       ap (λ b. if b then g else record g { epoch = empty_epoch u }) same
-      ∙ ap (λ v. record g { epoch = v }) (held ∙ ap (λ o. option_map_or (epoch_at s xs) o (empty_epoch 0)) e ∙ sym (epoch_is s xs (lookup g.locks) u known))
+      ∙ ap (λ v. record g { epoch = v }) (same_epoch ∙ ap (λ o. option_map_or (epoch_at s xs) o (empty_epoch 0)) e ∙ sym (epoch_is s xs (lookup g.locks) u known))
 
 -- ---- the value after the step, before the closing
 
 -- An accepted message.
 pub loaded_taken : {g : GathererValue} {s : GatherSetup} {xs : List Timed} (m : Heard) {u : ℕ} {shut : Bool} → taken_at s xs m ≡ Some u → closes_first s xs m ≡ shut
-    → g.epoch ≡ held_at s xs → Locked g s xs (closed_so_far s xs shut) → g.clock ≡ standing s (xs ++ next s xs m ∷ []) false
+    → ((is_pending s xs && not shut) ≡ true → g.epoch ≡ held_at s xs) → Locked g s xs (closed_so_far s xs shut) → g.clock ≡ standing s (xs ++ next s xs m ∷ []) false
     → load (record { state = epoch_begun (greatest_time xs) g; counts = no_counts }) m.cells
     ≡ record { state = record g { epoch = epoch_at s (xs ++ next s xs m ∷ []) u }; counts = counts_after s (offered s u xs) no_counts m.cells }
 loaded_taken {g} {s} {xs} m {u} {shut} some h held locks clock =

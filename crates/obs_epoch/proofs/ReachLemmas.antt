@@ -9,15 +9,21 @@ use Rattle.obs_epoch.proofs.OrderLemmas.{all-sorted, distinct-sorted}
 use Rattle.obs_epoch.proofs.NotingLemmas.{kept_distinct}
 use Rattle.std.proofs.lemmas.Grind.{common_steps}
 use Rattle.gnss_system.proofs.SystemLaws.{value_tabulated}
-use Rattle.std.proofs.Common.{subst, sym}
+use Rattle.std.proofs.Common.{◌&&◌, ◌/◌, ◌∙◌, map, refl, subst, sym}
+use Rattle.gnss_obs.specs.Marked.{with_mark}
+use Rattle.obs_epoch.specs.declared.choice.Choice.{Choice}
+use Rattle.obs_epoch.specs.Choices.{is_chosen}
+use Rattle.obs_epoch.specs.GathererHistory.{whole_list}
+use Rattle.obs_epoch.specs.Names.{Cell, PlanValue}
+use Rattle.obs_epoch.specs.Thinning.{has_phase, lost_before, mark_if, marked_after, thin_after}
 
 -- ---- properties of each item
 
-all_append : {X : Type 0} (P : X → Type 0) (xs ys : List X) → AllByRecursion P xs → AllByRecursion P ys → AllByRecursion P (xs ++ ys)
+pub all_append : {X : Type 0} (P : X → Type 0) (xs ys : List X) → AllByRecursion P xs → AllByRecursion P ys → AllByRecursion P (xs ++ ys)
 all_append P [] ys h k = k
 all_append P (x ∷ xs) ys h k = (h.0, all_append P xs ys h.1 k)
 
-all_filter : {X : Type 0} (P : X → Type 0) (p : X → Bool) (xs : List X) → AllByRecursion P xs → AllByRecursion P (filter p xs)
+pub all_filter : {X : Type 0} (P : X → Type 0) (p : X → Bool) (xs : List X) → AllByRecursion P xs → AllByRecursion P (filter p xs)
 all_filter P p [] h = tt
 all_filter P p (x ∷ xs) h = grind (arith, common_steps, all_filter P p xs h.1)
 
@@ -82,7 +88,7 @@ message_heard z all points channels leap (Other n set) v h = record { cells = tt
 
 -- ---- times
 
-abbrev IsWithin : ℕ → Type 0
+abbrev pub IsWithin : ℕ → Type 0
 IsWithin t = t < weeks * week
 
 -- A decoded message, whose time is within the weeks if it was accepted.
@@ -90,7 +96,7 @@ record IsTimed (x : Timed) : Type 0 where
   heard : IsHeard x.message
   time : IfSome x.time IsWithin
 
-taken_within : (s : GatherSetup) (earlier : List Timed) (m : Heard) → IfSome (taken_at s earlier m) IsWithin
+pub taken_within : (s : GatherSetup) (earlier : List Timed) (m : Heard) → IfSome (taken_at s earlier m) IsWithin
 taken_within s earlier m = grind (arith, common_steps)
 
 timed_more : (s : GatherSetup) (earlier : List Timed) (ms : List Heard) → AllByRecursion IsTimed earlier → AllByRecursion IsHeard ms → AllByRecursion IsTimed (timed_after s earlier ms)
@@ -221,5 +227,88 @@ epochs_rise : (s : GatherSetup) (ms : List Heard) (ts : List ℕ) → Rise ts �
 epochs_rise s ms [] h = tt
 epochs_rise s ms (t ∷ ts) h = (all_later s ms t ts h.0, epochs_rise s ms ts h.1)
 
+whole_gathered : (s : GatherSetup) (ms : List Heard) → AreStationValues s.initial → AllByRecursion IsHeard ms → AreGatheredEpochs s.plan (whole_list s ms)
+whole_gathered s ms v h = grind (arith, common_steps, each_epoch, times_within, timed_all, epochs_rise, times_rise)
+
+-- ---- the chosen ones, marked
+
+low_mark : (n : ℕ) → n < 4 → n / 2 * 2 + 1 < 4
+low_mark n h = grind (arith, h)
+
+mark_gathered : (lost : Cell → Bool) (system : System) (signals : List ℕ) (x : Cell) → IsGathered system signals x → IsGathered system signals (mark_if lost x)
+mark_gathered lost system signals x h = by x.l refl (lost x) where
+  some_none : {l : ℤ} → Some l ≡ None → ⊥
+  some_none e = cc
+
+  by : (o : Option ℤ) → x.l ≡ o → (b : Bool) → IsGathered system signals (if is_some o && b then with_mark x else x)
+  by None e b = h
+  by (Some l) e false = h
+  by (Some l) e true = record {
+    number = h.number;
+    planned = h.planned;
+    c = h.c;
+    l = h.l;
+    d = h.d;
+    s = h.s;
+    lli = low_mark x.lli h.lli;
+    without_phase = λ none. absurd (some_none (sym e ∙ none));
+  }
+
+marks_gathered : (lost : Cell → Bool) (system : System) (signals : List ℕ) (xs : List Cell) → AllByRecursion (IsGathered system signals) xs → AllByRecursion (IsGathered system signals) (map (mark_if lost) xs)
+marks_gathered lost system signals [] h = tt
+marks_gathered lost system signals (x ∷ xs) h = (mark_gathered lost system signals x h.0, marks_gathered lost system signals xs h.1)
+
+marks_apart : (lost : Cell → Bool) (xs : List Cell) → IsDistinct same_place xs → IsDistinct same_place (map (mark_if lost) xs)
+unfolding IsDistinct
+marks_apart lost [] d = tt
+marks_apart lost (x ∷ xs) d = (others (has_phase x && lost x) xs d.0, marks_apart lost xs d.1) where
+  one : (a b : Bool) (y : Cell) → same_place x y ≡ false → same_place (if a then with_mark x else x) (if b then with_mark y else y) ≡ false
+  one true true y e = e
+  one true false y e = e
+  one false true y e = e
+  one false false y e = e
+
+  others : (a : Bool) (ys : List Cell) → AllByRecursion (λ y. same_place x y ≡ false) ys → AllByRecursion (λ y. same_place (if a then with_mark x else x) y ≡ false) (map (mark_if lost) ys)
+  others a [] h = tt
+  others a (y ∷ ys) h = (one a (has_phase y && lost y) y h.0, others a ys h.1)
+
+epoch_marked : (plan : PlanValue) (c : Choice) (earlier : List Closed) (e : Closed) → IsGatheredEpoch plan e → IsGatheredEpoch plan (marked_after c earlier e)
+epoch_marked plan c earlier e h = record {
+  time = h.time;
+  cells = λ system.
+      let lost = lost_before c earlier in
+      subst (AreGathered system (planned_of system plan)) (sym (value_tabulated system (λ s. map (mark_if lost) (cells_of s e.epoch)))) (record {
+        each = marks_gathered lost system (planned_of system plan) (cells_of system e.epoch) (h.cells system).each;
+        apart = marks_apart lost (cells_of system e.epoch) (h.cells system).apart;
+      });
+  values = h.values;
+}
+
+thin_each : (plan : PlanValue) (c : Choice) (earlier es : List Closed) → AllByRecursion (IsGatheredEpoch plan) es → AllByRecursion (IsGatheredEpoch plan) (thin_after c earlier es)
+thin_each plan c earlier [] h = tt
+thin_each plan c earlier (e ∷ es) h = by (is_chosen c e.epoch.time) (thin_each plan c (earlier ++ e ∷ []) es h.1) where
+  by : (b : Bool) → AllByRecursion (IsGatheredEpoch plan) (thin_after c (earlier ++ e ∷ []) es)
+      → AllByRecursion (IsGatheredEpoch plan) ((if b then marked_after c earlier e ∷ [] else []) ++ thin_after c (earlier ++ e ∷ []) es)
+  by true more = (epoch_marked plan c earlier e h.0, more)
+  by false more = more
+
+thin_later : (t : ℕ) (c : Choice) (earlier es : List Closed) → AllByRecursion (λ (f : Closed). t < f.epoch.time) es → AllByRecursion (λ (f : Closed). t < f.epoch.time) (thin_after c earlier es)
+thin_later t c earlier [] h = tt
+thin_later t c earlier (e ∷ es) h = by (is_chosen c e.epoch.time) (thin_later t c (earlier ++ e ∷ []) es h.1) where
+  by : (b : Bool) → AllByRecursion (λ (f : Closed). t < f.epoch.time) (thin_after c (earlier ++ e ∷ []) es)
+      → AllByRecursion (λ (f : Closed). t < f.epoch.time) ((if b then marked_after c earlier e ∷ [] else []) ++ thin_after c (earlier ++ e ∷ []) es)
+  by true more = (h.0, more)
+  by false more = more
+
+thin_rise : (c : Choice) (earlier es : List Closed) → TimesRise es → TimesRise (thin_after c earlier es)
+thin_rise c earlier [] h = tt
+thin_rise c earlier (e ∷ es) h = by (is_chosen c e.epoch.time) (thin_rise c (earlier ++ e ∷ []) es h.1) (thin_later e.epoch.time c (earlier ++ e ∷ []) es h.0) where
+  by : (b : Bool) → TimesRise (thin_after c (earlier ++ e ∷ []) es) → AllByRecursion (λ (f : Closed). e.epoch.time < f.epoch.time) (thin_after c (earlier ++ e ∷ []) es)
+      → TimesRise ((if b then marked_after c earlier e ∷ [] else []) ++ thin_after c (earlier ++ e ∷ []) es)
+  by true more later = (later, more)
+  by false more later = more
+
 pub epochs_gathered : (s : GatherSetup) (ms : List Heard) → AreStationValues s.initial → AllByRecursion IsHeard ms → AreGatheredEpochs s.plan (all_epochs s ms)
-epochs_gathered s ms v h = grind (arith, common_steps, each_epoch, times_within, timed_all, epochs_rise, times_rise)
+epochs_gathered s ms v h =
+    let w = whole_gathered s ms v h in
+    record { each = thin_each s.plan s.choice [] (whole_list s ms) w.each; rise = thin_rise s.choice [] (whole_list s ms) w.rise }

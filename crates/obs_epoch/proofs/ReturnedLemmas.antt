@@ -4,13 +4,17 @@ use Rattle.std.proofs.lemmas.List.{map-append}
 use Rattle.obs_epoch.specs.Names.{GatherSetup, Heard, Closed, EpochValue, Timed, is_at, greatest_time, is_closed, taken_at, timed, times, is_shut, closed_times, closed_so_far, epoch_at, values_of, is_pending, closes_first, GathererValue, empty_epoch, take_step, end_step, noted, HasTakenMessages, held_at, option_map_or, list_any}
 use Rattle.obs_epoch.specs.Step.{closed_time as closes}
 use Rattle.rtcm_bits.specs.Prefix.{IsPrefix}
-use Rattle.obs_epoch.specs.GathererHistory.{before_closing, closed_at, closed_list_at, known_epochs, closed_by, closed_in, returned_epoch, is_done, HasGatheredEpochs}
+use Rattle.obs_epoch.specs.GathererHistory.{before_closing, closed_at, closed_list, closed_list_at, closed_so_far_of, closed_by, returned_epoch, is_done, whole_list, HasGatheredEpochs}
+use Rattle.obs_epoch.specs.GathererSteps.{thinned_if}
+use Rattle.obs_epoch.specs.Marks.{AreMarks}
+use Rattle.obs_epoch.specs.Names.{State, step_by}
+use Rattle.obs_epoch.proofs.ThinnedLemmas.{Before, closed_one, thinned_gathers}
 use Rattle.obs_epoch.proofs.TimesLemmas.{next, timed-push, greater-absent, none-absent}
 use Rattle.obs_epoch.proofs.ClockLemmas.{Follows, first, greater, equal, new_time, same_time, standing as standing_at}
 use Rattle.obs_epoch.proofs.ClosedLemmas.{taken_follows}
 use Rattle.obs_epoch.proofs.ClosingLemmas.{closing}
 use Rattle.obs_epoch.proofs.OneStepLemmas.{closed_later}
-use Rattle.obs_epoch.proofs.TakeLemmas.{taken, closes_it, ended, Ended, times_taken, time_taken, pending_taken, IsSet, no_point_given, same_values, handed_is, ended_is}
+use Rattle.obs_epoch.proofs.TakeLemmas.{taken, closes_it, ended, Ended, times_taken, time_taken, pending_taken, IsSet, no_point_given, same_values, clock_stepped, counts_stepped, handed_is, ended_is, marks_stepped}
 use Rattle.obs_epoch.proofs.HistoryLemmas.{Each, each_filter, each_front, each_back, list-push, before_all, before-push, pending_open, with_pending, prefix_self}
 use Rattle.std.proofs.lemmas.Grind.{common_steps}
 
@@ -63,10 +67,10 @@ shut_new s ys before t grown =
     let all : closed_times s ys ≡ before ++ t ∷ [] = sym (append-nil (closed_times s ys)) ∙ grown in
     (each_back (is_shut s ys) before (t ∷ []) (subst (Each (is_shut s ys)) all (each_filter (is_shut s ys) (times ys)))).0
 
--- The epoch that a step closes, as it is returned.
+-- The epoch that a step closes.
 new_closed : {g : GathererValue} {s : GatherSetup} {ms : List Heard} (m : Heard) {shut : Bool} → HasTakenMessages g s ms shut → closes_first s (timed s ms) m ≡ shut → IsSet m
     → (o : Option ℕ) → closes g.clock m ≡ o → (take_step g m).state.just_closed ≡ is_some o
-    → returned_epoch (take_step g m).state ≡ closed_list_at s (ms ++ m ∷ []) (option_to_list o)
+    → closed_one (take_step g m).state ≡ closed_list_at s (ms ++ m ∷ []) (option_to_list o)
 new_closed {g} m h early given None e has = let v = (take_step g m).state in ap (λ b. closed_by (if b then Some (v.epoch) else None) v.values) has
 new_closed {g} {s} {ms} m {shut} h early given (Some t) e has =
     let v = (take_step g m).state in
@@ -76,15 +80,15 @@ new_closed {g} {s} {ms} m {shut} h early given (Some t) e has =
     let now = time_taken m h early t e in
     let open_still = new_open m h early t e in
     let closed_now = shut_new s ys (closed_so_far s (timed s ms) shut) t (times_taken g s ms m shut h early ∙ ap (λ o. closed_so_far s (timed s ms) shut ++ option_to_list o) e) in
-    let epoch : v.epoch ≡ epoch_at s ys t = t1.after.epoch ∙ ap (λ o. option_map_or (epoch_at s ys) o (empty_epoch 0)) now in
+    let epoch : v.epoch ≡ epoch_at s ys t = t1.closed (ap is_some e) ∙ ap (λ o. option_map_or (epoch_at s ys) o (empty_epoch 0)) now in
     let values : v.values ≡ values_of s (before_closing s t ns) =
     t1.after.values ∙ same_values s ms m (no_point_given g.clock m t given e) ∙ ap (values_of s) (sym (before-push s t ms m closed_now ∙ before_all s t ms open_still)) in
     ap (λ b. closed_by (if b then Some (v.epoch) else None) v.values) has
     ∙ ap₂ (λ (a : EpochValue) w. record { epoch = a; values = w } ∷ []) epoch values
 
--- The pending epoch, as it is returned.
+-- The pending epoch.
 pending_closed : (v : GathererValue) (s : GatherSetup) (ms : List Heard) {t : ℕ} → greatest_time (timed s ms) ≡ Some t → is_pending s (timed s ms) ≡ true
-    → v.epoch ≡ held_at s (timed s ms) → v.values ≡ values_of s ms → v.just_closed ≡ true → returned_epoch v ≡ closed_list_at s ms (option_to_list (greatest_time (timed s ms)))
+    → v.epoch ≡ held_at s (timed s ms) → v.values ≡ values_of s ms → v.just_closed ≡ true → closed_one v ≡ closed_list_at s ms (option_to_list (greatest_time (timed s ms)))
 pending_closed v s ms e p epoch values has = grind (arith, common_steps, before_all, pending_open)
 
 -- ---- the calls
@@ -92,35 +96,56 @@ pending_closed v s ms e p epoch values has = grind (arith, common_steps, before_
 pub not_done : (v : GathererValue) (s : GatherSetup) (ms : List Heard) (again : Option Heard) → v.has_ended ≡ false → is_done v s ms again ≡ is_some again
 not_done v s ms again going = grind (arith, common_steps, going)
 
+-- A message that closes an epoch has shut it.
+closed_shut : (g : State) (m : Heard) → is_some (closes g m) ≡ true → (step_by g m).pending ≡ false
+closed_shut g m closes = grind (arith, common_steps, closes)
+
+before_of : {g : GathererValue} {s : GatherSetup} {ms : List Heard} {es : List Closed} {again : Option Heard} (w : GathererValue) → HasGatheredEpochs g s ms es again → w.marks ≡ g.marks → w.counts ≡ g.counts
+    → Before w s (closed_so_far_of g s ms again) es
+before_of {g} {s} {ms} {es} {again} w h marks counts = record {
+  returned = h.returned;
+  marks = subst (λ l. AreMarks s.choice l (closed_so_far_of g s ms again)) (sym marks) h.marks;
+  counts = counts ∙ h.counts;
+}
+
 -- A message is processed.
 pub gathers_taken : {g : GathererValue} {s : GatherSetup} {ms : List Heard} {es : List Closed} {again : Option Heard} (m : Heard) → HasGatheredEpochs g s ms es again → g.has_ended ≡ false
-    → closes_first s (timed s ms) m ≡ is_some again → IsSet m → HasGatheredEpochs (take_step g m).state s (ms ++ m ∷ []) (es ++ returned_epoch (take_step g m).state) None
+    → closes_first s (timed s ms) m ≡ is_some again → IsSet m → (closed : Bool) → (take_step g m).state.just_closed ≡ closed
+    → HasGatheredEpochs (thinned_if closed (take_step g m).state) s (ms ++ m ∷ []) (es ++ returned_epoch (thinned_if closed (take_step g m).state)) None
 gathers_taken {g} {s} {ms} {es} {again} m h going early given =
     let v = (take_step g m).state in
     let ns = ms ++ m ∷ [] in
     let shut = is_some again in
+    let before = closed_so_far_of g s ms again in
     let standing = subst (HasTakenMessages g s ms) (not_done g s ms again going) h.standing in
-    let was : es ≡ closed_list_at s ms (closed_so_far s (timed s ms) shut) = subst (λ b. es ≡ closed_list_at s ms (closed_so_far s (timed s ms) b)) (not_done g s ms again going) h.returned in
+    let was : before ≡ closed_list_at s ms (closed_so_far s (timed s ms) shut) = ap (λ b. closed_list_at s ms (closed_so_far s (timed s ms) b)) (not_done g s ms again going) in
     let goes : v.has_ended ≡ false = ended_is g m ∙ going in
     let o = closes g.clock m in
     let grown = times_taken g s ms m shut standing early in
-    let returned : es ++ returned_epoch v ≡ closed_list_at s ns (closed_so_far s (timed s ns) false) =
-    ap₂ (λ a b. a ++ b) was (new_closed m standing early given o refl (handed_is g m)) ∙ sym (keeps s ms m shut o early grown) in
-    let epochs : es ++ returned_epoch v ≡ known_epochs v.has_ended s ns =
-    returned ∙ ap (closed_list_at s ns) (append-nil (closed_times s (timed s ns))) ∙ ap (λ b. known_epochs b s ns) (sym goes) in
-    record {
-      standing = subst (HasTakenMessages v s ns) (sym (not_done v s ns None goes)) (taken g s ms m shut standing early).after;
-      returned = returned ∙ ap (λ b. closed_list_at s ns (closed_so_far s (timed s ns) b)) (sym (not_done v s ns None goes));
-      epochs = λ _. epochs;
-      first = subst (λ l. IsPrefix (es ++ returned_epoch v) (known_epochs v.has_ended s l)) (sym (append-nil ns)) (subst (IsPrefix (es ++ returned_epoch v)) epochs (prefix_self (es ++ returned_epoch v)));
+    let t1 = taken g s ms m shut standing early in
+    let all : closed_so_far_of v s ns None ≡ closed_list_at s ns (closed_so_far s (timed s ns) false) = ap (λ b. closed_list_at s ns (closed_so_far s (timed s ns) b)) (not_done v s ns None goes) in
+    let list : closed_so_far_of v s ns None ≡ before ++ closed_one v =
+    all ∙ keeps s ms m shut o early grown ∙ ap₂ (λ a b. a ++ b) (sym was) (sym (new_closed m standing early given o refl (handed_is g m))) in
+    let known : closed_so_far_of v s ns None ≡ (if v.has_ended then whole_list s ns else closed_list s ns) =
+    all ∙ ap (closed_list_at s ns) (append-nil (closed_times s (timed s ns))) ∙ ap (λ b. if b then whole_list s ns else closed_list s ns) (sym goes) in
+    thinned_gathers v s ns before es None (record {
+      standing = subst (HasTakenMessages v s ns) (sym (not_done v s ns None goes)) t1.after;
+      list = list;
+      closed = λ has.
+          let some : is_some o ≡ true = sym (handed_is g m) ∙ has in (
+            ap (λ (c : State). c.pending) (clock_stepped g m) ∙ closed_shut g.clock m some,
+            t1.closed some,
+          );
+      known = λ _. known;
+      first = subst (λ l. IsPrefix (closed_so_far_of v s ns None) (if v.has_ended then whole_list s l else closed_list s l)) (sym (append-nil ns)) (subst (IsPrefix (closed_so_far_of v s ns None)) known (prefix_self (closed_so_far_of v s ns None)));
       fits = tt;
-      plan = ap (λ (u : GatherSetup). u.plan) (taken g s ms m shut standing early).after.clock.setup;
-    }
+    }) (before_of v h (marks_stepped g m) (counts_stepped g m))
 
 -- The pending epoch is closed first.
 pub gathers_first : {g : GathererValue} {s : GatherSetup} {ms : List Heard} {es : List Closed} (m : Heard) → HasGatheredEpochs g s ms es None → g.has_ended ≡ false
-    → closes_first s (timed s ms) m ≡ true → m.point ≡ None → HasGatheredEpochs (take_step g m).state s ms (es ++ returned_epoch (take_step g m).state) (Some m)
-gathers_first {g} {s} {ms} {es} m h going early point = by (greatest_time (timed s ms)) refl where
+    → closes_first s (timed s ms) m ≡ true → m.point ≡ None → (closed : Bool) → (take_step g m).state.just_closed ≡ closed
+    → HasGatheredEpochs (thinned_if closed (take_step g m).state) s ms (es ++ returned_epoch (thinned_if closed (take_step g m).state)) (Some m)
+gathers_first {g} {s} {ms} {es} m h going early point closed is = by (greatest_time (timed s ms)) refl where
   xs : List Timed
   xs = timed s ms
 
@@ -130,8 +155,8 @@ gathers_first {g} {s} {ms} {es} m h going early point = by (greatest_time (timed
   standing : HasTakenMessages g s ms false
   standing = subst (HasTakenMessages g s ms) (not_done g s ms None going) h.standing
 
-  was : es ≡ closed_list_at s ms (closed_so_far s xs false)
-  was = subst (λ b. es ≡ closed_list_at s ms (closed_so_far s xs b)) (not_done g s ms None going) h.returned
+  was : closed_so_far_of g s ms None ≡ closed_list_at s ms (closed_so_far s xs false)
+  was = ap (λ b. closed_list_at s ms (closed_so_far s xs b)) (not_done g s ms None going)
 
   goes : v.has_ended ≡ false
   goes = ended_is g m ∙ going
@@ -141,32 +166,30 @@ gathers_first {g} {s} {ms} {es} m h going early point = by (greatest_time (timed
     by_pending : (p : Bool) → is_pending s xs ≡ p → p ≡ true
     by_pending p e = grind (arith, common_steps, e)
 
-  by : (o : Option ℕ) → greatest_time xs ≡ o → HasGatheredEpochs v s ms (es ++ returned_epoch v) (Some m)
+  by : (o : Option ℕ) → greatest_time xs ≡ o → HasGatheredEpochs (thinned_if closed v) s ms (es ++ returned_epoch (thinned_if closed v)) (Some m)
   by None e = absurd (grind (arith, e, pending))
   by (Some t) e =
       let f = closes_it g s ms m standing early point in
       let has : v.just_closed ≡ true = handed_is g m ∙ f.has in
-      let returned : es ++ returned_epoch v ≡ closed_list_at s ms (closed_so_far s xs true) =
-      ap₂ (λ a b. a ++ b) (was ∙ ap (closed_list_at s ms) (append-nil (closed_times s xs))) (pending_closed v s ms e pending f.after.epoch f.after.values has)
-      ∙ sym (map-append (closed_at s ms) (closed_times s xs) (option_to_list (greatest_time xs))) in
+      let before = closed_so_far_of g s ms None in
+      let list : closed_list_at s ms (closed_so_far s xs true) ≡ before ++ closed_one v =
+      map-append (closed_at s ms) (closed_times s xs) (option_to_list (greatest_time xs))
+      ∙ ap₂ (λ a b. a ++ b) (ap (closed_list_at s ms) (sym (append-nil (closed_times s xs))) ∙ sym was) (sym (pending_closed v s ms e pending f.closed f.after.values has)) in
       let ns = ms ++ m ∷ [] in
       let o = closes (standing_at s xs true) m in
       let grown = ap (λ l. closed_so_far s l false) (timed-push s ms m) ∙ closing s xs m true early in
       let kept = keeps s ms m true o early grown in
-      record {
+      thinned_gathers v s ms before es (Some m) (record {
         standing = f.after;
-        returned = returned;
-        epochs = λ never. absurd (grind (arith, never));
-        first = subst (λ b. IsPrefix (es ++ returned_epoch v) (known_epochs b s ns)) (sym goes) (
+        list = list;
+        closed = λ _. (ap (λ (c : State). c.pending) (clock_stepped g m) ∙ closed_shut g.clock m f.has, f.closed);
+        known = λ never. absurd (grind (arith, never));
+        first = subst (λ b. IsPrefix (closed_list_at s ms (closed_so_far s xs true)) (if b then whole_list s ns else closed_list s ns)) (sym goes) (
           closed_list_at s ns (option_to_list o),
-          ap (closed_list_at s ns) (sym (append-nil (closed_times s (timed s ns)))) ∙ kept ∙ ap (λ l. l ++ closed_list_at s ns (option_to_list o)) (sym returned),
+          ap (closed_list_at s ns) (sym (append-nil (closed_times s (timed s ns)))) ∙ kept,
         );
         fits = early;
-        plan = ap (λ (u : GatherSetup). u.plan) f.after.clock.setup;
-      }
-
-pub has_closed : (v : GathererValue) → v.just_closed ≡ is_some (closed_in v)
-has_closed v = grind (arith, common_steps)
+      }) (before_of v h (marks_stepped g m) (counts_stepped g m)) closed is
 
 pub end_ended : (b : Bool) (h : GathererValue) → h.has_ended ≡ true → (if b then noted h else h).has_ended ≡ true
 end_ended b h e = grind (arith, common_steps, e)
@@ -174,33 +197,39 @@ end_ended b h e = grind (arith, common_steps, e)
 pub end_handed : (b : Bool) (h : GathererValue) → (if b then noted h else h).just_closed ≡ h.just_closed
 end_handed b h = grind (arith, common_steps)
 
+end_same : {A : Type 0} (f : GathererValue → A) → ((h : GathererValue) → f (noted h) ≡ f h) → (b : Bool) (h : GathererValue) → f (if b then noted h else h) ≡ f h
+end_same f same true h = same h
+end_same f same false h = refl
+
 -- No message follows.
 pub gathers_ended : (g : GathererValue) (s : GatherSetup) (ms : List Heard) (es : List Closed) → HasGatheredEpochs g s ms es None → g.has_ended ≡ false
-    → (g.clock.pending ≡ is_pending s (timed s ms)) × HasGatheredEpochs (end_step g) s ms (es ++ returned_epoch (end_step g)) None
-gathers_ended g s ms es h going = (
-  pending,
-  record {
-    standing = subst (HasTakenMessages v s ms) (sym done) (subst (HasTakenMessages v s ms) pending f.after);
-    returned = returned ∙ ap (λ b. closed_list_at s ms (closed_so_far s xs b)) (sym done);
-    epochs = λ _. epochs;
-    first = subst (λ l. IsPrefix (es ++ returned_epoch v) (known_epochs v.has_ended s l)) (sym (append-nil ms)) (subst (IsPrefix (es ++ returned_epoch v)) epochs (prefix_self (es ++ returned_epoch v)));
-    fits = tt;
-    plan = ap (λ (u : GatherSetup). u.plan) f.after.clock.setup;
-  },
-) where
+    → (closed : Bool) → g.clock.pending ≡ closed
+    → HasGatheredEpochs (thinned_if closed (end_step g)) s ms (es ++ returned_epoch (thinned_if closed (end_step g))) None
+gathers_ended g s ms es h going closed is = thinned_gathers v s ms before es None (record {
+  standing = subst (HasTakenMessages v s ms) (sym done) (subst (HasTakenMessages v s ms) pending f.after);
+  list = list;
+  closed = λ b. (
+    end_same (λ v. v.clock.pending) (λ h. refl) g.clock.pending _,
+    f.closed (sym (end_handed g.clock.pending _) ∙ b),
+  );
+  known = λ _. known;
+  first = subst (λ l. IsPrefix (closed_so_far_of v s ms None) (if v.has_ended then whole_list s l else closed_list s l)) (sym (append-nil ms)) (subst (IsPrefix (closed_so_far_of v s ms None)) known (prefix_self (closed_so_far_of v s ms None)));
+  fits = tt;
+}) (before_of v h (end_same (λ v. v.marks) (λ h. refl) g.clock.pending _) (end_same (λ v. v.counts) (λ h. refl) g.clock.pending _)) closed (end_handed g.clock.pending _ ∙ is) where
   xs : List Timed
   xs = timed s ms
 
   v : GathererValue
   v = end_step g
 
+  before : List Closed
+  before = closed_so_far_of g s ms None
+
   standing : HasTakenMessages g s ms false
   standing = subst (HasTakenMessages g s ms) (not_done g s ms None going) h.standing
 
-  was : es ≡ closed_list_at s ms (closed_times s xs)
-  was =
-      subst (λ b. es ≡ closed_list_at s ms (closed_so_far s xs b)) (not_done g s ms None going) h.returned
-      ∙ ap (closed_list_at s ms) (append-nil (closed_times s xs))
+  was : before ≡ closed_list_at s ms (closed_times s xs)
+  was = ap (λ b. closed_list_at s ms (closed_so_far s xs b)) (not_done g s ms None going) ∙ ap (closed_list_at s ms) (append-nil (closed_times s xs))
 
   f : Ended g s ms false
   f = ended g s ms false standing
@@ -217,17 +246,24 @@ gathers_ended g s ms es h going = (
   has : v.just_closed ≡ is_pending s xs
   has = end_handed g.clock.pending _ ∙ pending
 
-  last : (p : Bool) → is_pending s xs ≡ p → returned_epoch v ≡ closed_list_at s ms (if p then option_to_list (greatest_time xs) else [])
+  last : (p : Bool) → is_pending s xs ≡ p → closed_one v ≡ closed_list_at s ms (if p then option_to_list (greatest_time xs) else [])
   last false p = ap (λ b. closed_by (if b then Some (v.epoch) else None) v.values) (has ∙ p)
   last true p = by (greatest_time xs) refl where
-    by : (o : Option ℕ) → greatest_time xs ≡ o → returned_epoch v ≡ closed_list_at s ms (option_to_list (greatest_time xs))
+    by : (o : Option ℕ) → greatest_time xs ≡ o → closed_one v ≡ closed_list_at s ms (option_to_list (greatest_time xs))
     by None e = absurd (grind (arith, e, p))
-    by (Some t) e = pending_closed v s ms e p f.after.epoch f.after.values (has ∙ p)
+    by (Some t) e = pending_closed v s ms e p (f.closed (pending ∙ p)) f.after.values (has ∙ p)
 
-  returned : es ++ returned_epoch v ≡ closed_list_at s ms (closed_so_far s xs (is_pending s xs))
-  returned =
-      ap₂ (λ a b. a ++ b) was (last (is_pending s xs) refl)
-      ∙ sym (map-append (closed_at s ms) (closed_times s xs) (if is_pending s xs then option_to_list (greatest_time xs) else []))
+  all : closed_so_far_of v s ms None ≡ closed_list_at s ms (closed_so_far s xs (is_pending s xs))
+  all = ap (λ b. closed_list_at s ms (closed_so_far s xs b)) done
 
-  epochs : es ++ returned_epoch v ≡ known_epochs v.has_ended s ms
-  epochs = returned ∙ ap (closed_list_at s ms) (with_pending s xs) ∙ ap (λ b. known_epochs b s ms) (sym over)
+  list : closed_so_far_of v s ms None ≡ before ++ closed_one v
+  list =
+      all ∙ map-append (closed_at s ms) (closed_times s xs) (if is_pending s xs then option_to_list (greatest_time xs) else [])
+      ∙ ap₂ (λ a b. a ++ b) (sym was) (sym (last (is_pending s xs) refl))
+
+  known : closed_so_far_of v s ms None ≡ (if v.has_ended then whole_list s ms else closed_list s ms)
+  known = all ∙ ap (closed_list_at s ms) (with_pending s xs) ∙ ap (λ b. if b then whole_list s ms else closed_list s ms) (sym over)
+
+pub thinned_ended : (b : Bool) (w : GathererValue) → (thinned_if b w).has_ended ≡ w.has_ended
+thinned_ended true w = refl
+thinned_ended false w = refl

@@ -6,10 +6,11 @@ use Rattle.obs_epoch.specs.Names.{Gps, GatherSetup, Heard, HeardCell, timed, cou
 use Rattle.gnss_system.specs.SystemValues.{of_two}
 use Rattle.gnss_obs.specs.Values.{plan_with}
 use Rattle.rtcm_msg.specs.Msm.{week}
+use Rattle.obs_epoch.specs.Choices.{every_epoch}
 use Rattle.obs_epoch.specs.Epochs.{closed_times, epoch_at, epochs}
 
 abbrev setup : GatherSetup
-setup = record { plan = plan_with (of_two (2 ∷ []) (2 ∷ []) []); start_week = 2300; station = Some 7; by_bit = true; initial = no_values; leap = 18 }
+setup = record { plan = plan_with (of_two (2 ∷ []) (2 ∷ []) []); start_week = 2300; station = Some 7; by_bit = true; initial = no_values; leap = 18; choice = every_epoch }
 
 abbrev observed : ℕ → Bool → List HeardCell → Heard
 observed tow more cells = record { station = Some 7; tow = Some tow; more = Some more; cells = cells; unlisted = 0; point = None }

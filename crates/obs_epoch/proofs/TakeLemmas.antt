@@ -1,11 +1,12 @@
 -- The whole step: a property of the list before holds for the list after one more message.
-use Rattle.std.proofs.Common.{◌≡◌, ℕ, Bool, true, false, not, ◌||◌, ◌&&◌, List, [], ◌∷◌, ◌++◌, refl, sym, ap, ap₂, ◌∙◌, subst, arith, append-nil, Option, Some, None, is_some, ◌⊎◌, inl, inr, if◌then◌else◌, option_to_list}
+use Rattle.std.proofs.Common.{◌≡◌, ℕ, Bool, true, false, not, ◌||◌, ◌&&◌, List, [], ◌∷◌, ◌++◌, refl, sym, ap, ap₂, ◌∙◌, subst, arith, append-nil, Option, Some, None, is_some, length, true≢false, ◌⊎◌, inl, inr, if◌then◌else◌, option_to_list}
 use Rattle.std.proofs.lemmas.List.Sums.{fold-append}
-use Rattle.obs_epoch.specs.Names.{Message, Kind, CloseFirst, CellCounts, GatherSetup, Heard, heard_by, is_own, ends_epoch, HeardCell, Timed, greatest_time, taken_at, timed, no_counts, with_skipped, offered, counts_of, counts_of_message, epoch_at, closed_so_far, closed_times, values_of, values_after_message, State, HasHeardMessages, is_pending, closes_first, is_close_first, is_accepted, kind_after, with_unlisted, GathererValue, Loaded, empty_epoch, noted, load, loaded_if, loaded_where, outcome_in, load_one, with_time, begun_by, closed_if, closed_noted, epoch_begun, shut_where, ended_where, open_by, take_step, end_step, is_same, KnownLock, held_at, Locked, HasTakenMessages, EpochValue, option_map_or}
+use Rattle.obs_epoch.specs.Names.{Message, Kind, CloseFirst, CellCounts, GatherSetup, Heard, heard_by, is_own, ends_epoch, HeardCell, Timed, greatest_time, taken_at, timed, no_counts, with_skipped, offered, counts_of, counts_of_message, epoch_at, closed_so_far, closed_times, values_of, values_after_message, State, HasHeardMessages, is_pending, closes_first, is_close_first, is_accepted, kind_after, with_unlisted, GathererValue, Loaded, empty_epoch, noted, load, loaded_if, loaded_where, outcome_in, load_one, with_time, begun_by, closed_if, closed_noted, epoch_begun, shut_where, ended_where, open_by, take_step, end_step, is_same, KnownLock, held_at, Locked, HasTakenMessages, EpochValue, cells_of, option_map_or}
+use Rattle.obs_epoch.specs.GathererAfter.{HasAsManyCells}
 use Rattle.rtcm_msg.specs.declared.message.Message.TheVariants as message
 use Rattle.obs_epoch.specs.Step.{kind_by, step_by, closed_time, closed_of}
 use Rattle.gnss_system.proofs.Checked.{both_first}
-use Rattle.obs_epoch.proofs.TimesLemmas.{next, timed-push}
+use Rattle.obs_epoch.proofs.TimesLemmas.{next, or_false, timed-push}
 use Rattle.obs_epoch.proofs.ClockLemmas.{standing, same_state, takes, closes, new_time}
 use Rattle.obs_epoch.proofs.ClosedLemmas.{taken_follows}
 use Rattle.obs_epoch.proofs.ClosingLemmas.{accepted, closing, refused}
@@ -25,23 +26,39 @@ clock_has_heard g s ms xs shut same e = grind (arith, common_steps)
 values-push : (s : GatherSetup) (ms : List Heard) (m : Heard) → values_of s (ms ++ m ∷ []) ≡ values_after_message s (values_of s ms) m
 values-push s ms m = fold-append (values_after_message s) s.initial ms (m ∷ [])
 
--- Before the closing.
-pub record Mid (g : GathererValue) (s : GatherSetup) (ms : List Heard) (shut : Bool) (ts : List ℕ) : Type 0 where
+-- The epoch is this one while it is pending, and when it is closed; afterwards it has as many cells.
+pub record HasHeld (g : GathererValue) (held : EpochValue) (o : Option ℕ) : Type 0 where
+  pub pending : g.clock.pending ≡ true → g.epoch ≡ held
+  pub closing : is_some o ≡ true → g.epoch ≡ held
+  pub sizes : HasAsManyCells g.epoch held
+
+just_held : (g : GathererValue) (held : EpochValue) (o : Option ℕ) → g.epoch ≡ held → HasHeld g held o
+just_held g held o e = record { pending = λ _. e; closing = λ _. e; sizes = λ system. ap (λ (v : EpochValue). length (cells_of system v)) e }
+
+-- Before the closing of the epoch of time o.
+pub record Mid (g : GathererValue) (s : GatherSetup) (ms : List Heard) (shut : Bool) (ts : List ℕ) (o : Option ℕ) : Type 0 where
   pub clock : HasHeardMessages g.clock s ms shut
-  pub epoch : g.epoch ≡ held_at s (timed s ms)
+  pub held : HasHeld g (held_at s (timed s ms)) o
   pub locks : Locked g s (timed s ms) ts
   pub values : g.values ≡ values_of s ms
 
 -- After the closing.
-pub assemble : {g : GathererValue} {s : GatherSetup} {ms : List Heard} {shut : Bool} {ts : List ℕ} (o : Option ℕ) → Mid g s ms shut ts
+pub assemble : {g : GathererValue} {s : GatherSetup} {ms : List Heard} {shut : Bool} {ts : List ℕ} (o : Option ℕ) → Mid g s ms shut ts o
     → ((t : ℕ) → o ≡ Some t → greatest_time (timed s ms) ≡ Some t) → closed_so_far s (timed s ms) shut ≡ ts ++ option_to_list o
     → HasTakenMessages (if is_some o then noted g else g) s ms shut
-assemble None h at closed = grind (arith, common_steps, append-nil)
+assemble {g} {s} {ms} None h at closed = record {
+  clock = h.clock;
+  epoch = h.held.pending;
+  sizes = h.held.sizes;
+  locks = subst (Locked g s (timed s ms)) (sym (closed ∙ append-nil _)) h.locks;
+  values = h.values;
+}
 assemble {g} {s} {ms} {ts} (Some t) h at closed = record {
   clock = h.clock;
-  epoch = h.epoch;
+  epoch = h.held.pending;
+  sizes = h.held.sizes;
   locks = subst (Locked (noted g) s (timed s ms)) (sym closed)
-      (noted_locked g s (timed s ms) ts t (h.epoch ∙ ap (λ o. option_map_or (epoch_at s (timed s ms)) o (empty_epoch 0)) (at t refl)) h.locks);
+      (noted_locked g s (timed s ms) ts t (h.held.closing refl ∙ ap (λ o. option_map_or (epoch_at s (timed s ms)) o (empty_epoch 0)) (at t refl)) h.locks);
   values = h.values;
 }
 
@@ -53,12 +70,19 @@ pub not_first : (s : GatherSetup) (xs : List Timed) (n : CellCounts) (m : Heard)
 not_first s xs n m = grind (arith, common_steps)
 
 -- The value before the closing, and the counts.
-pub record Reached (l : Loaded) (s : GatherSetup) (ms : List Heard) (m : Heard) (shut : Bool) : Type 0 where
-  pub mid : Mid l.state s (ms ++ m ∷ []) false (closed_so_far s (timed s ms) shut)
+pub record Reached (l : Loaded) (s : GatherSetup) (ms : List Heard) (m : Heard) (shut : Bool) (o : Option ℕ) : Type 0 where
+  pub mid : Mid l.state s (ms ++ m ∷ []) false (closed_so_far s (timed s ms) shut) o
   pub counts : l.counts ≡ counts_of_message s (timed s ms) m
 
+-- An epoch that is pending after a message that isn't accepted was pending before, and so was one that it closes.
+stays_pending : (g : State) (m : Heard) → is_accepted (kind_by g no_counts m) ≡ false → (step_by g m).pending ≡ true → g.pending ≡ true
+stays_pending g m untaken p = grind (arith, common_steps, untaken, p)
+
+pending_before : (g : State) (m : Heard) → is_close_first (kind_by g no_counts m) ≡ false → is_accepted (kind_by g no_counts m) ≡ false → is_some (closed_time g m) ≡ true → g.pending ≡ true
+pending_before g m other untaken p = grind (arith, common_steps, other, untaken, p)
+
 reached : (g : GathererValue) (s : GatherSetup) (ms : List Heard) (m : Heard) (shut : Bool) → HasTakenMessages g s ms shut → closes_first s (timed s ms) m ≡ shut
-    → Reached (loaded_if (is_accepted (kind_by g.clock no_counts m)) g.clock.latest (with_time g m) m) s ms m shut
+    → Reached (loaded_if (is_accepted (kind_by g.clock no_counts m)) g.clock.latest (with_time g m) m) s ms m shut (closed_time g.clock m)
 reached g s ms m shut h early = by (taken_at s xs m) refl where
   xs : List Timed
   xs = timed s ms
@@ -86,30 +110,37 @@ reached g s ms m shut h early = by (taken_at s xs m) refl where
   before : Locked (with_time g m) s xs (closed_so_far s xs shut)
   before = record { found = h.locks.found; tracks = h.locks.tracks }
 
-  moved : (v : GathererValue) → v.clock ≡ standing s (xs ++ next s xs m ∷ []) false → v.epoch ≡ held_at s (xs ++ next s xs m ∷ [])
-      → Locked v s (xs ++ next s xs m ∷ []) (closed_so_far s xs shut) → v.values ≡ values_of s (ms ++ m ∷ []) → Mid v s (ms ++ m ∷ []) false (closed_so_far s xs shut)
+  moved : (v : GathererValue) → v.clock ≡ standing s (xs ++ next s xs m ∷ []) false → HasHeld v (held_at s (xs ++ next s xs m ∷ [])) (closed_time g.clock m)
+      → Locked v s (xs ++ next s xs m ∷ []) (closed_so_far s xs shut) → v.values ≡ values_of s (ms ++ m ∷ []) → Mid v s (ms ++ m ∷ []) false (closed_so_far s xs shut) (closed_time g.clock m)
   moved v a b c d = record {
     clock = clock_has_heard v.clock s (ms ++ m ∷ []) _ false same a;
-    epoch = b ∙ ap (held_at s) (sym same);
+    held = subst (λ l. HasHeld v (held_at s l) (closed_time g.clock m)) (sym same) b;
     locks = subst (λ l. Locked v s l (closed_so_far s xs shut)) (sym same) c;
     values = d;
   }
 
-  by : (o : Option ℕ) → taken_at s xs m ≡ o → Reached (loaded_if (is_accepted (kind_by g.clock no_counts m)) g.clock.latest (with_time g m) m) s ms m shut
+  by : (o : Option ℕ) → taken_at s xs m ≡ o → Reached (loaded_if (is_accepted (kind_by g.clock no_counts m)) g.clock.latest (with_time g m) m) s ms m shut (closed_time g.clock m)
   by None none =
+      let not_taken = ap is_accepted kind ∙ (refused s xs no_counts m none).1 in
+      let not_early = ap is_close_first kind ∙ (refused s xs no_counts m none).0 in
+      let still : HasHeld (with_time g m) (held_at s (xs ++ next s xs m ∷ [])) (closed_time g.clock m) = record {
+        pending = λ p. h.epoch (stays_pending g.clock m not_taken p) ∙ sym (held_same s xs m none);
+        closing = λ p. h.epoch (pending_before g.clock m not_early not_taken p) ∙ sym (held_same s xs m none);
+        sizes = λ system. h.sizes system ∙ ap (λ (v : EpochValue). length (cells_of system v)) (sym (held_same s xs m none));
+      } in
       let is = ap (λ b. loaded_if b g.clock.latest (with_time g m) m) (ap is_accepted kind ∙ (refused s xs no_counts m none).1) in
-      subst (λ l. Reached l s ms m shut) (sym is) (record {
-        mid = moved (with_time g m) now (h.epoch ∙ sym (held_same s xs m none)) locks values;
+      subst (λ l. Reached l s ms m shut (closed_time g.clock m)) (sym is) (record {
+        mid = moved (with_time g m) now still locks values;
         counts = ap (λ o. option_map_or (λ u. with_skipped m.unlisted (counts_of s (offered s u xs) m.cells)) o no_counts) (sym none);
       })
   by (Some u) some =
       let new = new_time s xs (next s xs m) u some (taken_follows s xs m u some) in
       let latest : g.clock.latest ≡ greatest_time xs = ap (λ (c : State). c.latest) was in
       let is = ap₂ (λ b o. loaded_if b o (with_time g m) m) (ap is_accepted kind ∙ (accepted s xs no_counts m u some).1) latest
-      ∙ ap (with_unlisted m.unlisted) (loaded_taken m some early h.epoch before now) in
-      subst (λ l. Reached l s ms m shut) (sym is) (record {
+      ∙ ap (with_unlisted m.unlisted) (loaded_taken m some early (λ p. h.epoch (h.clock.pending ∙ p)) before now) in
+      subst (λ l. Reached l s ms m shut (closed_time g.clock m)) (sym is) (record {
         mid = moved (record (with_time g m) { epoch = epoch_at s (xs ++ next s xs m ∷ []) u }) now
-            (ap (λ o. option_map_or (epoch_at s (xs ++ next s xs m ∷ [])) o (empty_epoch 0)) (sym new.0)) (record { found = locks.found; tracks = locks.tracks }) values;
+            (just_held _ _ (closed_time g.clock m) (ap (λ o. option_map_or (epoch_at s (xs ++ next s xs m ∷ [])) o (empty_epoch 0)) (sym new.0))) (record { found = locks.found; tracks = locks.tracks }) values;
         counts = ap (with_skipped m.unlisted) (counts_are s (offered s u xs) m.cells) ∙ ap (λ o. option_map_or (λ v. with_skipped m.unlisted (counts_of s (offered s v xs) m.cells)) o no_counts) (sym some);
       })
 
@@ -133,6 +164,12 @@ pub record Taken (g : GathererValue) (s : GatherSetup) (ms : List Heard) (m : He
   pub kind : (n : CellCounts) → kind_by g.clock n m ≡ kind_after s (timed s ms) n m
   pub counts : (take_step g m).counts ≡ counts_of_message s (timed s ms) m
   pub after : HasTakenMessages (take_step g m).state s (ms ++ m ∷ []) false
+  pub closed : is_some (closed_time g.clock m) ≡ true → (take_step g m).state.epoch ≡ held_at s (timed s (ms ++ m ∷ []))
+
+-- The closing doesn't change the epoch.
+closed_epoch : (b : Bool) (l : Loaded) → (closed_if b l).state.epoch ≡ l.state.epoch
+closed_epoch true l = refl
+closed_epoch false l = refl
 
 -- A message is processed.
 pub taken : (g : GathererValue) (s : GatherSetup) (ms : List Heard) (m : Heard) (shut : Bool) → HasTakenMessages g s ms shut → closes_first s (timed s ms) m ≡ shut → Taken g s ms m shut
@@ -145,6 +182,7 @@ taken g s ms m shut h early =
       kind = kind;
       counts = r.counts;
       after = assemble (closed_time g.clock m) r.mid (time_taken m h early) (times_taken g s ms m shut h early);
+      closed = λ has. closed_epoch _ (loaded_if (is_accepted (kind_by g.clock no_counts m)) g.clock.latest (with_time g m) m) ∙ r.mid.held.closing has;
     }
 
 -- An epoch that a message closes that isn't accepted was pending.
@@ -182,6 +220,7 @@ pub record First (g : GathererValue) (s : GatherSetup) (ms : List Heard) (m : He
   pub kind : (n : CellCounts) → kind_by g.clock n m ≡ CloseFirst
   pub has : is_some (closed_time g.clock m) ≡ true
   pub after : HasTakenMessages (take_step g m).state s ms true
+  pub closed : (take_step g m).state.epoch ≡ held_at s (timed s ms)
 
 -- A message that closes first isn't processed.
 pub closes_it : (g : GathererValue) (s : GatherSetup) (ms : List Heard) (m : Heard) → HasTakenMessages g s ms false → closes_first s (timed s ms) m ≡ true → m.point ≡ None → First g s ms m
@@ -209,15 +248,18 @@ closes_it g s ms m h early none = by (greatest_time (timed s ms)) refl where
   step : take_step g m ≡ closed_if (is_some (closed_time g.clock m)) (record { state = with_time g m; counts = no_counts })
   step = ap (λ k. closed_if (is_some (closed_time g.clock m)) (loaded_if (is_accepted k) g.clock.latest (with_time g m) m)) (kind no_counts)
 
+  held : g.epoch ≡ held_at s xs
+  held = h.epoch (grind (arith, common_steps, early, h.clock.pending))
+
   by : (o : Option ℕ) → greatest_time xs ≡ o → First g s ms m
   by None e = absurd (grind (arith, early, e))
   by (Some t) e =
       let is : closed_time g.clock m ≡ Some t = just_closed ∙ e in
       let to : take_step g m ≡ record { state = noted (with_time g m); counts = no_counts } =
       step ∙ ap (λ o. closed_if (is_some o) (record { state = with_time g m; counts = no_counts })) is in
-      let mid : Mid (with_time g m) s ms true (closed_so_far s xs false) = record {
+      let mid : Mid (with_time g m) s ms true (closed_so_far s xs false) (Some t) = record {
         clock = clock_has_heard (step_by g.clock m) s ms xs true refl now;
-        epoch = h.epoch;
+        held = just_held (with_time g m) (held_at s xs) (Some t) held;
         locks = record { found = h.locks.found; tracks = h.locks.tracks };
         values = unchanged;
       } in
@@ -228,23 +270,40 @@ closes_it g s ms m h early none = by (greatest_time (timed s ms)) refl where
         has = ap is_some is;
         after = subst (λ (l : Loaded). HasTakenMessages l.state s ms true) (sym to)
             (assemble (Some t) mid (λ u f. e ∙ f) more);
+        closed = ap (λ (l : Loaded). l.state.epoch) to ∙ held;
       }
 
 pub record Ended (g : GathererValue) (s : GatherSetup) (ms : List Heard) (shut : Bool) : Type 0 where
   pub was : g.clock.pending ≡ (is_pending s (timed s ms) && not shut)
   pub after : HasTakenMessages (end_step g) s ms (shut || g.clock.pending)
+  pub closed : g.clock.pending ≡ true → (end_step g).epoch ≡ held_at s (timed s ms)
 
 abbrev stopping : GathererValue → GathererValue
 stopping g = record g { clock = record g.clock { pending = false }; just_closed = g.clock.pending; has_ended = true }
 
 ended_by : (g : GathererValue) (s : GatherSetup) (ms : List Heard) (shut : Bool) (b : Bool) → g.clock.pending ≡ b → g.clock.pending ≡ (is_pending s (timed s ms) && not shut)
-    → HasTakenMessages (if b then noted (stopping g) else stopping g) s ms (shut || b)
+    → HasTakenMessages (if b then noted (stopping g) else stopping g) s ms (shut || b) → (g.clock.pending ≡ true → g.epoch ≡ held_at s (timed s ms))
     → Ended g s ms shut
-ended_by g s ms shut b is was after = grind (arith, common_steps)
+ended_by g s ms shut b is was after held = record {
+  was = was;
+  after = subst (λ c. HasTakenMessages (if c then noted (stopping g) else stopping g) s ms (shut || c)) (sym is) after;
+  closed = λ p. by g.clock.pending ∙ held p;
+} where
+  by : (c : Bool) → (if c then noted (stopping g) else stopping g).epoch ≡ g.epoch
+  by true = refl
+  by false = refl
 
 -- No epoch was pending.
 ended_none : (g : GathererValue) (s : GatherSetup) (ms : List Heard) (shut : Bool) → HasTakenMessages g s ms shut → g.clock.pending ≡ false → Ended g s ms shut
-ended_none g s ms shut h f = grind (arith, common_steps)
+ended_none g s ms shut h f = ended_by g s ms shut false f h.clock.pending same h.epoch where
+  same : HasTakenMessages (stopping g) s ms (shut || false)
+  same = record {
+    clock = record { setup = h.clock.setup; latest = h.clock.latest; pending = grind (arith, common_steps, f, h.clock.pending) };
+    epoch = λ p. h.epoch (absurd (true≢false (sym p)));
+    sizes = h.sizes;
+    locks = subst (λ b. Locked (stopping g) s (timed s ms) (closed_so_far s (timed s ms) b)) (sym (or_false shut)) (record { found = h.locks.found; tracks = h.locks.tracks });
+    values = h.values;
+  }
 
 -- The pending epoch is closed.
 ended_some : (g : GathererValue) (s : GatherSetup) (ms : List Heard) → HasTakenMessages g s ms false → g.clock.pending ≡ true → Ended g s ms false
@@ -255,16 +314,16 @@ ended_some g s ms h f = by (greatest_time (timed s ms)) refl where
   by : (o : Option ℕ) → greatest_time xs ≡ o → Ended g s ms false
   by None e = absurd (grind (arith, f, e, h.clock.pending))
   by (Some t) e =
-      let mid : Mid (stopping g) s ms true (closed_so_far s xs false) = record {
+      let mid : Mid (stopping g) s ms true (closed_so_far s xs false) (Some t) = record {
         clock = record { setup = h.clock.setup; latest = h.clock.latest; pending = grind (arith, common_steps) };
-        epoch = h.epoch;
+        held = just_held (stopping g) (held_at s xs) (Some t) (h.epoch f);
         locks = record { found = h.locks.found; tracks = h.locks.tracks };
         values = h.values;
       } in
       let more : closed_so_far s xs true ≡ closed_so_far s xs false ++ t ∷ [] =
       ap (λ o. closed_times s xs ++ option_to_list o) e ∙ ap (λ l. l ++ t ∷ []) (sym (append-nil (closed_times s xs))) in
       ended_by g s ms false true f h.clock.pending
-      (assemble (Some t) mid (λ u q. e ∙ q) more)
+      (assemble (Some t) mid (λ u q. e ∙ q) more) h.epoch
 
 -- No message follows.
 pub ended : (g : GathererValue) (s : GatherSetup) (ms : List Heard) (shut : Bool) → HasTakenMessages g s ms shut → Ended g s ms shut
@@ -303,7 +362,7 @@ loaded_clock false g m = refl
 closed_loaded : (accepted : Bool) (before : Option ℕ) (g : GathererValue) (m : Heard) → (loaded_if accepted before (with_time g m) m).state.just_closed ≡ is_some (closed_time g.clock m)
 closed_loaded accepted before g m = loaded_apart (λ v. v.just_closed) (λ v e locks. refl) accepted before (with_time g m) m
 
-step_apart : (f : GathererValue → Bool) → IsApart f → (g : GathererValue) (m : Heard) → f (take_step g m).state ≡ f (with_time g m)
+step_apart : {A : Type 0} (f : GathererValue → A) → IsApart f → (g : GathererValue) (m : Heard) → f (take_step g m).state ≡ f (with_time g m)
 step_apart f apart g m = closed (is_some (closed_time g.clock m)) (loaded_if accepted g.clock.latest (with_time g m) m) ∙ loaded_apart f apart accepted g.clock.latest (with_time g m) m where
   accepted : Bool
   accepted = is_accepted (kind_by g.clock no_counts m)
@@ -318,6 +377,15 @@ noted_is g m = let v = (loaded_if (is_accepted (kind_by g.clock no_counts m)) g.
 
 pub handed_is : (g : GathererValue) (m : Heard) → (take_step g m).state.just_closed ≡ is_some (closed_time g.clock m)
 handed_is g m = step_apart (λ v. v.just_closed) (λ v e locks. refl) g m
+
+pub clock_stepped : (g : GathererValue) (m : Heard) → (take_step g m).state.clock ≡ step_by g.clock m
+clock_stepped g m = step_apart (λ v. v.clock) (λ v e locks. refl) g m
+
+pub marks_stepped : (g : GathererValue) (m : Heard) → (take_step g m).state.marks ≡ g.marks
+marks_stepped g m = step_apart (λ v. v.marks) (λ v e locks. refl) g m
+
+pub counts_stepped : (g : GathererValue) (m : Heard) → (take_step g m).state.counts ≡ g.counts
+counts_stepped g m = step_apart (λ v. v.counts) (λ v e locks. refl) g m
 
 pub ended_is : (g : GathererValue) (m : Heard) → (take_step g m).state.has_ended ≡ g.has_ended
 ended_is g m = step_apart (λ v. v.has_ended) (λ v e locks. refl) g m

@@ -1,7 +1,13 @@
 -- The value of a gatherer: with one more cell, after a message, and when its epoch is closed.
-use Rattle.std.proofs.Common.{◌≡◌, ℕ, ◌+◌, Bool, true, false, List, [], ◌∷◌, ◌++◌, refl, sym, ap, ◌∙◌, subst, arith, length, Option, is_some, if◌then◌else◌, All}
+use Rattle.std.proofs.Common.{◌≡◌, ℕ, ◌+◌, ◌&&◌, Bool, true, false, List, [], ◌∷◌, ◌++◌, map, refl, sym, ap, ap₂, ◌∙◌, subst, arith, length, Option, is_some, if◌then◌else◌, All}
 use Rattle.std.proofs.lemmas.List.Elements.{All-nil, All-push}
 use Rattle.obs_epoch.specs.Names.{System, Cell, EpochValue, PlanValue, planned_of, cells_of, CellLists, Closed, KeepsEpoch, KnownLock, place_in, is_planned, GatherSetup, Heard, IsKey, HeardCell, kept_cell, lookup, outcome_of_added, values_after_message, StationValues, is_held, GathererValue, with_more_in, with_more, outcome_in, hold, hold_by, begun_by, HasPlannedCells, IsPlanned, empty_epoch, epoch_in, open_by, is_same, no_cells, time_in, Added, IsAdded, cells_after, epoch_with, outcome_by, sorted_cells, sorted_epoch, State, lli_with}
+use Rattle.obs_epoch.specs.declared.choice.EpochCounts.{EpochCounts}
+use Rattle.gnss_obs.specs.Marked.{with_mark}
+use Rattle.gnss_obs.specs.Order.{SortKeysRise}
+use Rattle.obs_epoch.specs.Names.{AreSortedByPlan, cell_sort_key}
+use Rattle.obs_epoch.specs.Marks.{carried_to, is_lost_in}
+use Rattle.obs_epoch.specs.Thinning.{has_phase, mark_if}
 use Rattle.gnss_system.specs.SystemValues.{value_of}
 use Rattle.gnss_system.proofs.SystemLaws.{each_after, value_tabulated, with_same as same_after}
 use Rattle.obs_epoch.specs.GathererSteps.{cleared_if}
@@ -92,9 +98,9 @@ pub never_both : (b : Bool) → b ≡ false → b ≡ true → ⊥
 never_both b e f = cc
 
 -- The value of a gatherer with these parts inside.
-abbrev pub gathered_of : State → CellLists → Closed → StationValues → List (Option KnownLock) → Bool → Bool → GathererValue
-gathered_of clock pending closed values locks just_closed has_ended =
-    record { clock = clock; epoch = epoch_in clock pending closed; locks = locks; values = values; just_closed = just_closed; has_ended = has_ended }
+abbrev pub gathered_of : State → CellLists → Closed → StationValues → List (Option KnownLock) → List Bool → EpochCounts → Bool → Bool → Bool → GathererValue
+gathered_of clock pending closed values locks marks counts chosen just_closed has_ended =
+    record { clock = clock; epoch = epoch_in clock pending closed; locks = locks; marks = marks; counts = counts; chosen = chosen; values = values; just_closed = just_closed; has_ended = has_ended }
 
 abbrev pub open_epoch : State → CellLists → EpochValue
 open_epoch clock pending = record { time = time_in clock; cells = pending }
@@ -123,6 +129,21 @@ count_held system clock pending closed none empty = by clock.pending refl where
       let n : length (value_of system pending) + length (cells_of system closed.epoch) ≡ length (cells_of system closed.epoch) = omega (arith, held) in
       n ∙ ap (λ (v : EpochValue). length (cells_of system v)) (sym (shut_is clock pending closed e))
 
+-- A marked epoch is in the same order.
+map_keys : (f : Cell → Bool) (planned : List ℕ) (xs : List Cell) → map (cell_sort_key planned) (map (mark_if f) xs) ≡ map (cell_sort_key planned) xs
+map_keys f planned [] = refl
+map_keys f planned (x ∷ xs) = ap₂ (λ k l. k ∷ l) (one (has_phase x && f x)) (map_keys f planned xs) where
+  one : (b : Bool) → cell_sort_key planned (if b then with_mark x else x) ≡ cell_sort_key planned x
+  one true = refl
+  one false = refl
+
+pub sorted_carried : (p : PlanValue) (has_interval on_grid : Bool) (marks : List Bool) (e : EpochValue) → AreSortedByPlan p e → AreSortedByPlan p (if has_interval then carried_to on_grid marks e else e)
+sorted_carried p false on_grid marks e h = h
+sorted_carried p true false marks e h = h
+sorted_carried p true true marks e h = λ s.
+    subst (λ cells. SortKeysRise (map (cell_sort_key (planned_of s p)) cells)) (sym (value_tabulated s (λ t. map (mark_if (is_lost_in marks)) (cells_of t e))))
+    (subst SortKeysRise (sym (map_keys (is_lost_in marks) (planned_of s p) (cells_of s e))) (h s))
+
 -- While an epoch is pending, the one closed last has no cells.
 pub begins_empty : (was is : Bool) (last : Closed) → (was ≡ true → last.epoch.cells ≡ no_cells) → is ≡ true → (cleared_if (not (beq is was)) last).epoch.cells ≡ no_cells
 begins_empty true is last empty e = rw e (empty refl)
@@ -139,7 +160,7 @@ begins : (old new : State) (pending : CellLists) (closed : Closed) → KeepsEpoc
 begins old new pending closed keeps setup none = grind (arith, common_steps)
 
 abbrev parts : GathererValue → State → EpochValue → StationValues → GathererValue
-parts g clock e values = record { clock = clock; epoch = e; locks = g.locks; values = values; just_closed = false; has_ended = g.has_ended }
+parts g clock e values = record { clock = clock; epoch = e; locks = g.locks; marks = g.marks; counts = g.counts; chosen = g.chosen; values = values; just_closed = false; has_ended = g.has_ended }
 
 -- The value after the time and the station values of a message.
 pub heard_is : (g : GathererValue) {clock : State} {pending : CellLists} (closed : Closed) {values : StationValues} (m : Heard) → g.epoch ≡ epoch_in g.clock pending closed → clock ≡ open_by g.clock m

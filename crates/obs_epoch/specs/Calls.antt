@@ -1,5 +1,5 @@
 -- The result of a call of a gatherer, for every setup and history.
-use Rattle.std.specs.Prelude.{ℕ, ◌≡◌, Bool, true, false, List, [], ◌∷◌, ◌++◌, length, Option, Some, None, is_some}
+use Rattle.std.specs.Prelude.{ℕ, ◌≡◌, true, false, List, [], ◌∷◌, ◌++◌, length, Option, Some, None, is_some}
 use Rattle.gnss_system.specs.declared.system.System.{System}
 use Rattle.obs_epoch.specs.declared.taken.Kind.{Kind}
 use Rattle.obs_epoch.specs.declared.taken.Taken.{Taken}
@@ -8,11 +8,15 @@ use Rattle.gnss_obs.specs.Values.{Closed, cells_of}
 use Rattle.obs_epoch.specs.Times.{timed}
 use Rattle.obs_epoch.specs.Cells.{firsts}
 use Rattle.obs_epoch.specs.Epochs.{closed_so_far}
-use Rattle.obs_epoch.specs.Clock.{is_pending, closes_first}
+use Rattle.obs_epoch.specs.Clock.{closes_first}
 use Rattle.obs_epoch.specs.GathererSteps.{GathererValue}
 use Rattle.obs_epoch.specs.GathererAfter.{held_at, locked_in}
 use Rattle.obs_epoch.specs.Kinds.{is_close_first, kind_of}
-use Rattle.obs_epoch.specs.GathererHistory.{HasGatheredEpochs, IsAwaited, returned_epoch, closed_in, is_done}
+use Rattle.obs_epoch.specs.GathererHistory.{HasGatheredEpochs, IsAwaited, closed_so_far_of, returned_epoch, closed_in}
+use Rattle.obs_epoch.specs.GathererHistory.{is_done}
+use Rattle.obs_epoch.specs.Marks.{capped_counts}
+use Rattle.obs_epoch.specs.Thinning.{counts_of_epochs}
+use Rattle.obs_epoch.specs.declared.choice.EpochCounts.{EpochCounts}
 
 -- The kind is `CloseFirst` exactly if an epoch is pending and the message's time is greater and within the weeks.
 abbrev pub IsCloseFirstExactly : GathererValue → Heard → Kind → Type 0
@@ -57,11 +61,11 @@ pub record TakesMessage (old new : GathererValue) (m : Heard) (answer : Taken) :
   pub closed : answer.closed ≡ is_some (closed_in new)
   pub going : new.has_ended ≡ false
 
--- `end` closes the pending epoch, and returns whether there was one.
-abbrev pub EndsPendingEpoch : GathererValue → GathererValue → Bool → Type 0
-EndsPendingEpoch old new was =
+-- `end` closes the pending epoch.
+abbrev pub EndsPendingEpoch : GathererValue → GathererValue → Type 0
+EndsPendingEpoch old new =
     (s : GatherSetup) (ms : List Heard) (es : List Closed) → HasGatheredEpochs old s ms es None → old.has_ended ≡ false
-    → (was ≡ is_pending s (timed s ms)) × HasGatheredEpochs new s ms (es ++ returned_epoch new) None
+    → HasGatheredEpochs new s ms (es ++ returned_epoch new) None
 
 -- A gatherer that has ended keeps its messages and epochs.
 abbrev pub StaysEnded : GathererValue → GathererValue → Type 0
@@ -74,6 +78,12 @@ abbrev pub HoldsCells : GathererValue → System → ℕ → Type 0
 HoldsCells now system count =
     (s : GatherSetup) (ms : List Heard) (es : List Closed) (again : Option Heard) → HasGatheredEpochs now s ms es again
     → count ≡ length (cells_of system (held_at s (timed s ms)))
+
+-- The numbers of the closed epochs in which a satellite has a value.
+abbrev pub CountsEpochs : GathererValue → EpochCounts → Type 0
+CountsEpochs now counts =
+    (s : GatherSetup) (ms : List Heard) (es : List Closed) (again : Option Heard) → HasGatheredEpochs now s ms es again
+    → counts ≡ capped_counts (counts_of_epochs s.choice (closed_so_far_of now s ms again))
 
 -- The number of keys of the locked cells of the closed epochs.
 abbrev pub HoldsLockedKeys : GathererValue → ℕ → Type 0

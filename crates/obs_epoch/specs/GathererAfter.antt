@@ -1,5 +1,5 @@
 -- The value of a gatherer after a list of messages.
-use Rattle.std.specs.Prelude.{ℕ, ◌≡◌, Bool, List, filter, flat_map}
+use Rattle.std.specs.Prelude.{ℕ, ◌≡◌, Bool, true, List, filter, flat_map, length}
 use Rattle.std.specs.Option.{option_map_or}
 use Rattle.gnss_system.specs.Systems.{systems}
 use Rattle.obs_epoch.specs.Heard.{GatherSetup, Heard}
@@ -11,7 +11,8 @@ use Rattle.obs_epoch.specs.Epochs.{epoch_at, closed_so_far, values_of}
 use Rattle.obs_epoch.specs.Held.{lookup, TracksLocks}
 use Rattle.obs_epoch.specs.Clock.{HasHeardMessages}
 use Rattle.obs_epoch.specs.GathererSteps.{GathererValue}
-use Rattle.gnss_obs.specs.Values.{EpochValue, empty_epoch}
+use Rattle.gnss_system.specs.declared.system.System.{System}
+use Rattle.gnss_obs.specs.Values.{EpochValue, cells_of, empty_epoch}
 
 -- The locked cells of the epochs of these times.
 abbrev pub locked_in : GatherSetup → List Timed → List ℕ → List HeardCell
@@ -26,9 +27,15 @@ pub record Locked (g : GathererValue) (s : GatherSetup) (xs : List Timed) (ts : 
   pub found : (key : HeardCell) → lookup g.locks key ≡ latest_in s xs ts key
   pub tracks : TracksLocks g.locks (locked_in s xs ts)
 
--- The gatherer has processed these messages; if `shut`, the pending epoch was closed after the last of them.
+-- The same number of cells of each system.
+abbrev pub HasAsManyCells : EpochValue → EpochValue → Type 0
+HasAsManyCells e f = (system : System) → length (cells_of system e) ≡ length (cells_of system f)
+
+-- The gatherer has processed these messages; if `shut`, the pending epoch was closed after the last of them. The cells of
+-- a closed epoch may have been marked.
 pub record HasTakenMessages (g : GathererValue) (s : GatherSetup) (ms : List Heard) (shut : Bool) : Type 0 where
   pub clock : HasHeardMessages g.clock s ms shut
-  pub epoch : g.epoch ≡ held_at s (timed s ms)
+  pub epoch : g.clock.pending ≡ true → g.epoch ≡ held_at s (timed s ms)
+  pub sizes : HasAsManyCells g.epoch (held_at s (timed s ms))
   pub locks : Locked g s (timed s ms) (closed_so_far s (timed s ms) shut)
   pub values : g.values ≡ values_of s ms

@@ -9,6 +9,8 @@ use Rattle.gnss_obs.specs.Values.{EpochValue, PlanValue, Closed}
 use Rattle.obs_epoch.specs.Times.{timed}
 use Rattle.obs_epoch.specs.Loss.{times}
 use Rattle.obs_epoch.specs.Epochs.{epoch_at, is_shut, closed_times, closed_so_far, values_of}
+use Rattle.obs_epoch.specs.Thinning.{counts_of_epochs, thin}
+use Rattle.obs_epoch.specs.Marks.{AreMarks, capped_counts}
 use Rattle.obs_epoch.specs.Clock.{is_pending, closes_first}
 use Rattle.obs_epoch.specs.GathererSteps.{GathererValue}
 use Rattle.obs_epoch.specs.GathererAfter.{HasTakenMessages}
@@ -32,13 +34,21 @@ closed_at s ms t = record { epoch = (epoch_at s (timed s ms) t); values = values
 abbrev pub closed_list_at : GatherSetup → List Heard → List ℕ → List Closed
 closed_list_at s ms ts = map (closed_at s ms) ts
 
--- The epochs that are closed within the list.
-abbrev pub closed_epochs : GatherSetup → List Heard → List Closed
-closed_epochs s ms = closed_list_at s ms (closed_times s (timed s ms))
+-- The epochs that are closed within the list, chosen or not.
+abbrev pub closed_list : GatherSetup → List Heard → List Closed
+closed_list s ms = closed_list_at s ms (closed_times s (timed s ms))
 
--- All epochs of a list, when its end closed the last one.
+-- All epochs of a list, chosen or not, when its end closed the last one.
+abbrev pub whole_list : GatherSetup → List Heard → List Closed
+whole_list s ms = closed_list_at s ms (times (timed s ms))
+
+-- The chosen ones of the epochs that are closed within the list.
+abbrev pub closed_epochs : GatherSetup → List Heard → List Closed
+closed_epochs s ms = thin s.choice (closed_list s ms)
+
+-- The chosen ones of all epochs of a list, when its end closed the last one.
 abbrev pub all_epochs : GatherSetup → List Heard → List Closed
-all_epochs s ms = closed_list_at s ms (times (timed s ms))
+all_epochs s ms = thin s.choice (whole_list s ms)
 
 abbrev pub known_epochs : Bool → GatherSetup → List Heard → List Closed
 known_epochs has_ended s ms = if has_ended then all_epochs s ms else closed_epochs s ms
@@ -49,9 +59,9 @@ known_epochs has_ended s ms = if has_ended then all_epochs s ms else closed_epoc
 abbrev pub plan_in : GathererValue → PlanValue
 plan_in v = v.clock.setup.plan
 
--- The epoch that the last call closed.
+-- The epoch that the last call closed, if it is chosen.
 abbrev pub closed_in : GathererValue → Option EpochValue
-closed_in v = if v.just_closed then Some (v.epoch) else None
+closed_in v = if v.just_closed && v.chosen then Some (v.epoch) else None
 
 -- The epoch with these station values, if there is one.
 abbrev pub closed_by : Option EpochValue → StationValues → List Closed
@@ -65,6 +75,10 @@ returned_epoch v = closed_by (closed_in v) v.values
 abbrev pub is_done : GathererValue → GatherSetup → List Heard → Option Heard → Bool
 is_done v s ms again = is_some again || (v.has_ended && is_pending s (timed s ms))
 
+-- The epochs that were closed so far, chosen or not.
+abbrev pub closed_so_far_of : GathererValue → GatherSetup → List Heard → Option Heard → List Closed
+closed_so_far_of v s ms again = closed_list_at s ms (closed_so_far s (timed s ms) (is_done v s ms again))
+
 -- The message is the one that is expected again, if there is one.
 abbrev pub IsAwaited : Option Heard → Heard → Type 0
 IsAwaited again m = IfSome again (λ awaited. m ≡ awaited)
@@ -73,8 +87,10 @@ IsAwaited again m = IfSome again (λ awaited. m ≡ awaited)
 pub record HasGatheredEpochs (v : GathererValue) (s : GatherSetup) (ms : List Heard) (es : List Closed)
     (again : Option Heard) : Type 0 where
   pub standing : HasTakenMessages v s ms (is_done v s ms again)
-  pub returned : es ≡ closed_list_at s ms (closed_so_far s (timed s ms) (is_done v s ms again))
+  pub returned : es ≡ thin s.choice (closed_so_far_of v s ms again)
   pub epochs : again ≡ None → es ≡ known_epochs v.has_ended s ms
   pub first : IsPrefix es (known_epochs v.has_ended s (ms ++ option_to_list again))
   pub fits : IfSome again (λ m. closes_first s (timed s ms) m ≡ true)
   pub plan : v.clock.setup.plan ≡ s.plan
+  pub marks : AreMarks s.choice v.marks (closed_so_far_of v s ms again)
+  pub counts : v.counts ≡ capped_counts (counts_of_epochs s.choice (closed_so_far_of v s ms again))

@@ -1,5 +1,5 @@
 -- The value of a gatherer, and its steps in parts.
-use Rattle.std.specs.Prelude.{ℕ, ◌≡◌, ◌==◌, Bool, true, false, List, [], ◌∷◌, if◌then◌else◌, Option, Some}
+use Rattle.std.specs.Prelude.{ℕ, ◌≡◌, ◌==◌, Bool, true, false, nat_lt, List, [], ◌∷◌, if◌then◌else◌, Option, Some}
 use Rattle.std.specs.Prelude.{None, is_some}
 use Rattle.std.specs.Option.{option_map_or}
 use Rattle.gnss_system.specs.declared.system.System.{System}
@@ -14,6 +14,10 @@ use Rattle.gnss_obs.specs.HeardCells.{HeardCell, kept_cell}
 use Rattle.obs_epoch.specs.Cells.{no_counts, with_skipped}
 use Rattle.obs_epoch.specs.Kinds.{is_accepted}
 use Rattle.gnss_obs.specs.Values.{PlanValue, planned_of, CellLists, Closed, EpochValue, cells_of, cleared, empty_epoch, no_cells}
+use Rattle.gnss_obs.specs.Values.{satellites_written}
+use Rattle.obs_epoch.specs.Choices.{in_window, is_chosen, on_grid}
+use Rattle.obs_epoch.specs.Marks.{carried_from, carried_to, counted_epoch}
+use Rattle.obs_epoch.specs.declared.choice.EpochCounts.{EpochCounts}
 use Rattle.gnss_obs.specs.PlanOrder.{HasPlannedCells}
 use Rattle.gnss_obs.specs.Arriving.{sorted_lists}
 use Rattle.gnss_system.specs.SystemValues.{with_value_of}
@@ -64,6 +68,9 @@ pub record GathererValue : Type 0 where
   pub clock : State
   pub epoch : EpochValue
   pub locks : List (Option KnownLock)
+  pub marks : List Bool
+  pub counts : EpochCounts
+  pub chosen : Bool
   pub values : StationValues
   pub just_closed : Bool
   pub has_ended : Bool
@@ -176,6 +183,31 @@ rested g = record g { just_closed = false }
 
 abbrev pub stopped : State → State
 stopped c = record c { pending = false }
+
+-- ---- the epoch closed last, which is marked, counted, and returned if it is chosen
+
+abbrev pub counts_with : GathererValue → EpochCounts
+counts_with g =
+    let c = g.clock.setup.choice in
+    if nat_lt 0 (satellites_written g.epoch) then counted_epoch (in_window c g.epoch.time) (on_grid c g.epoch.time) g.counts
+    else g.counts
+
+abbrev pub carries : GathererValue → Bool
+carries g = is_some g.clock.setup.choice.interval
+
+abbrev pub thinned : GathererValue → GathererValue
+thinned g =
+    let c = g.clock.setup.choice in
+    let at = on_grid c g.epoch.time in
+    record g {
+      epoch = if carries g then carried_to at g.marks g.epoch else g.epoch;
+      marks = if carries g then carried_from at g.marks g.epoch else g.marks;
+      counts = counts_with g;
+      chosen = is_chosen c g.epoch.time;
+    }
+
+abbrev pub thinned_if : Bool → GathererValue → GathererValue
+thinned_if closed g = if closed then thinned g else g
 
 -- The step of `end`: no message follows.
 abbrev pub end_step : GathererValue → GathererValue

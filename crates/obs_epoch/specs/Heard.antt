@@ -27,10 +27,11 @@ use Rattle.rtcm_msg.specs.Entries.{entries}
 use Rattle.gnss_obs.specs.Values.{PlanValue}
 use Rattle.gnss_obs.specs.declared.cell.StationValues.{StationValues}
 use Rattle.gnss_obs.specs.HeardCells.{HeardCell}
+use Rattle.obs_epoch.specs.declared.choice.Choice.{Choice}
 
 -- The setup of a gatherer: the planned signals, the week of the first time, the station (none: the messages of all
--- stations as if they were one), whether a message may close an epoch, the station values before any message, and GPS
--- time minus UTC in seconds.
+-- stations as if they were one), whether a message may close an epoch, the station values before any message, GPS time
+-- minus UTC in seconds, and the epochs that are returned.
 pub record GatherSetup : Type 0 where
   pub plan : PlanValue
   pub start_week : ℕ
@@ -38,6 +39,7 @@ pub record GatherSetup : Type 0 where
   pub by_bit : Bool
   pub initial : StationValues
   pub leap : ℕ
+  pub choice : Choice
 
 -- The parts of a message that a gatherer uses: the station, if the message has one; the time of week, if it has
 -- observations; whether more messages of the same time follow, if it contains DF393; its cells of listed satellites and

@@ -11,6 +11,7 @@ use Rattle.gnss_obs.specs.Values.{PlanValue}
 use Rattle.obs_epoch.specs.Heard.{GatherSetup, Heard, is_own}
 use Rattle.gnss_obs.specs.declared.cell.StationValues.{StationValues}
 use Rattle.gnss_obs.specs.Values.{no_values}
+use Rattle.obs_epoch.specs.Choices.{every_epoch}
 use Rattle.obs_epoch.specs.Times.{Timed, is_late, is_past, time_of, timed}
 use Rattle.obs_epoch.specs.Cells.{counts_of_message}
 use Rattle.obs_epoch.specs.declared.taken.CellCounts.{CellCounts}
@@ -59,16 +60,18 @@ setup_by plan start_week station gather options = record {
   by_bit = is_by_bit gather;
   initial = options.initial;
   leap = options.leap_seconds;
+  choice = options.choice;
 }
 
 -- GPS time minus UTC in seconds from 2017-01-01 on, which holds if no other number is given.
 abbrev pub default_leap : ℕ
 default_leap = 18
 
--- The same with the default of the leap seconds.
+-- The same with the default of the leap seconds and every epoch.
 abbrev pub setup_with : PlanValue → ℕ → Option ℕ → Gather → StationValues → GatherSetup
 setup_with plan start_week station gather initial =
-    setup_by plan start_week station gather (record { initial = initial; leap_seconds = default_leap })
+    setup_by plan start_week station gather
+    (record { initial = initial; leap_seconds = default_leap; choice = every_epoch })
 
 -- The same setup with station values of 0.
 abbrev pub setup_of : PlanValue → ℕ → Option ℕ → Gather → GatherSetup

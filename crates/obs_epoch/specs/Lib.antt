@@ -1,9 +1,12 @@
+pub mod Choices
 pub mod Heard
 pub mod Times
 pub mod Cells
 pub mod Loss
 pub mod Epochs
+pub mod Thinning
 pub mod Held
+pub mod Marks
 pub mod Kinds
 pub mod Clock
 pub mod Step

@@ -6,6 +6,7 @@ ghost use Rattle.obs_epoch.specs.Heard.{ends_epoch, heard_summary, is_own};
 ghost use Rattle.obs_epoch.specs.Kinds.{setup_by};
 ghost use Rattle.gnss_obs.specs.Weeks.{weeks};
 
+use crate::choice::Choice;
 use crate::taken::{CellCounts, Gather, GatherOptions, Kind};
 use gnss_obs::{GpsTime, Plan, WEEK, WEEKS};
 use rtcm_msg::Summary;
@@ -38,6 +39,7 @@ impl Model for Clock {
             by_bit = c.by_bit;
             initial = c.options.initial;
             leap = c.options.leap_seconds;
+            choice = c.options.choice;
           };
       latest = c.latest;
       pending = c.pending;
@@ -87,6 +89,13 @@ impl Clock {
         ensures { result ≡ self.now.setup.leap }
     {
         self.options.leap_seconds
+    }
+
+    /// Returns the epochs that are returned.
+    pub fn choice(&self) -> &Choice
+        ensures { result.now ≡ self.now.setup.choice }
+    {
+        &self.options.choice
     }
 
     /// Returns whether an epoch is pending.

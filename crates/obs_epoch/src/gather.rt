@@ -1,6 +1,6 @@
 //! Gathers messages into epochs, with loss of lock indicators.
 ghost use Rattle.std.specs.Prelude.{[], ◌≡◌, ◌↔◌, ◌⊎◌, ◌+◌, ◌<◌, ◌≤◌, true, false, length, None, Some, is_some, IfOk};
-ghost use Rattle.std.specs.Prelude.{IfErr, IfSome, IsOk, Err, option_map, option_to_list, List, Option};
+ghost use Rattle.std.specs.Prelude.{IfErr, IfSome, IsOk, Err, if◌then◌else◌, option_map, option_to_list, List, Option};
 ghost use Rattle.std.specs.Option.{ForSome};
 ghost use Rattle.rtcm_msg.specs.Msm.{codes_of, most_pairs, week};
 ghost use Rattle.rtcm_msg.specs.Entries.{IsEntry, entries};
@@ -18,15 +18,19 @@ ghost use Rattle.obs_epoch.specs.Step.{kind_by, closed_time, ended_where, step_b
 ghost use Rattle.gnss_obs.specs.Values.{Closed, cells_of, most_cells, planned_of};
 ghost use Rattle.obs_epoch.specs.Kinds.{is_no_station, setup_by, setup_with, setup_of, with_counts};
 ghost use Rattle.obs_epoch.specs.GathererHistory.{HasGatheredEpochs, closed_by, closed_in, plan_in};
-ghost use Rattle.obs_epoch.specs.Calls.{TakesMessage, EndsPendingEpoch, StaysEnded, HoldsCells, HoldsLockedKeys};
+ghost use Rattle.obs_epoch.specs.Calls.{TakesMessage, EndsPendingEpoch, StaysEnded, HoldsCells, HoldsLockedKeys, CountsEpochs};
 ghost use Rattle.gnss_obs.specs.declared.fault.PlanFault.{PlanFault};
 ghost use Rattle.obs_epoch.specs.GathererSteps.{closed_noted, loaded_where, load_entry, load_entries, begun_by};
-ghost use Rattle.obs_epoch.specs.GathererSteps.{cleared_if};
+ghost use Rattle.obs_epoch.specs.GathererSteps.{cleared_if, thinned, thinned_if};
+ghost use Rattle.obs_epoch.specs.Marks.{carried_from, carried_to};
 ghost use Rattle.obs_epoch.specs.GathererSteps.{load, system_as, rested, outcome_in, hold, shut_where};
 ghost use Rattle.obs_epoch.specs.Cells.{cells_counted, no_counts};
 
+use crate::choice::{Choice, EpochCounts};
 use crate::clock::Clock;
 use crate::locks::{Locks, lli, note_systems};
+use crate::marks;
+use crate::marks::Marks;
 use crate::observe::observe;
 use crate::start::new_parts;
 use crate::taken::{CellCounts, Gather, GatherOptions, Kind, LEAP_SECONDS, Taken};
@@ -49,6 +53,12 @@ pub struct Gatherer {
     closed: Epoch,
     values: StationValues,
     locks: Locks,
+    // The loss of lock in epochs off the grid.
+    marks: Marks,
+    // Numbers of the closed epochs.
+    counts: EpochCounts,
+    // Whether it is chosen.
+    chosen: bool,
     // Whether the last call closed it.
     just_closed: bool,
     has_ended: bool,
@@ -63,6 +73,9 @@ impl Model for Gatherer {
       clock = a.clock;
       epoch = epoch_in a.clock a.pending a.closed;
       locks = a.locks;
+      marks = a.marks;
+      counts = a.counts;
+      chosen = a.chosen;
       values = a.values;
       just_closed = a.just_closed;
       has_ended = a.has_ended;
@@ -129,6 +142,7 @@ impl Gatherer {
         let options = GatherOptions {
             initial,
             leap_seconds: LEAP_SECONDS,
+            choice: Choice::default(),
         };
         Gatherer::with_options(alloc, plan, start_week, station, gather, options)
     }
@@ -157,13 +171,17 @@ impl Gatherer {
         ensures only { IfErr result
             (λ e. (e ≡ PlanFault.BadWeek) ⊎ ((e ≡ PlanFault.BadStation) ⊎ (e ≡ PlanFault.Memory))) }
     {
+        let initial = options.initial;
         match new_parts(alloc, start_week, station) {
-            Ok((pending, closed, locks)) => Ok(Gatherer {
+            Ok((pending, closed, locks, marks)) => Ok(Gatherer {
                 clock: Clock::new(plan, start_week, station, gather, options),
                 pending,
                 closed,
-                values: options.initial,
+                values: initial,
                 locks,
+                marks,
+                counts: EpochCounts::default(),
+                chosen: false,
                 just_closed: false,
                 has_ended: false,
             }),
@@ -196,14 +214,14 @@ impl Gatherer {
         self.note_closed(closed);
         Taken {
             kind: kind.with_counts(counts),
-            closed: self.just_closed,
+            closed: self.has_closed(),
         }
     }
 
-    /// Closes the pending epoch after the last message, and returns whether there was one. After
-    /// the first call it returns `false`.
+    /// Closes the pending epoch after the last message, and returns whether there was one and it is
+    /// chosen. After the first call it returns `false`.
     pub fn end(&mut self) -> bool
-        ensures closes { EndsPendingEpoch self.old self.new result }
+        ensures closes { EndsPendingEpoch self.old self.new }
         ensures closed { result ≡ is_some (closed_in self.new) }
         ensures ended { self.new.has_ended ≡ true }
         ensures twice { self.old.has_ended ≡ true → (result ≡ false) × (self.new ≡ rested self.old) }
@@ -212,18 +230,41 @@ impl Gatherer {
         let closed = !self.has_ended && self.clock.is_pending();
         self.has_ended = true;
         self.note_closed(closed);
-        closed
+        self.has_closed()
     }
 
-    /// Returns the epoch that the last call of `take` or `end` closed. `None` if that call closed
-    /// no epoch, and before the first call.
+    /// Returns the epoch that the last call of `take` or `end` closed, if it is chosen. `None` if
+    /// that call closed no epoch, and before the first call.
     pub fn closed(&self) -> Option<&Epoch>
         ensures order { IfSome (option_map (λ e. e.now.epoch) result) (AreSortedByPlan (plan_in self.now)) }
         // The last epoch returned, with the station values that were known when it was closed.
         ensures closed { option_to_list (option_map (λ e. e.now) result)
             ≡ closed_by (closed_in self.now) self.now.values }
     {
-        self.just_closed.then_some(&self.closed)
+        self.has_closed().then_some(&self.closed)
+    }
+
+    // Returns whether the last call closed a chosen epoch.
+    #[inline(always)]
+    fn has_closed(&self) -> bool
+        ensures { result ≡ is_some (closed_in self.now) }
+    {
+        self.just_closed && self.chosen
+    }
+
+    /// Returns the numbers of the closed epochs in which a satellite has a value.
+    pub fn epoch_counts(&self) -> EpochCounts
+        ensures now { result ≡ self.now.counts }
+        ensures counts { CountsEpochs self.now result }
+    {
+        self.counts
+    }
+
+    /// Returns the epochs that are returned.
+    pub fn choice(&self) -> &Choice
+        ensures { result.now ≡ self.now.clock.setup.choice }
+    {
+        self.clock.choice()
     }
 
     /// Returns whether `end` was called.
@@ -297,7 +338,7 @@ impl Gatherer {
     // Closes the pending epoch if it is to be closed, and records the locks of its cells.
     fn note_closed(&mut self, closed: bool)
         requires { closed ≡ true → self.old.clock.pending ≡ true }
-        ensures { self.new ≡ closed_noted (shut_where closed self.old) }
+        ensures { self.new ≡ thinned_if closed (closed_noted (shut_where closed self.old)) }
     {
         self.just_closed = closed;
         if !closed {
@@ -308,6 +349,23 @@ impl Gatherer {
             .close(&mut self.pending, self.clock.plan(), at, self.values);
         self.clock.end();
         note_systems(&mut self.locks, at.milliseconds(), &self.closed);
+        self.thin();
+    }
+
+    // Counts the epoch closed last, marks its phases, and notes the loss of lock in it.
+    fn thin(&mut self)
+        requires { self.old.clock.pending ≡ false }
+        ensures { self.new ≡ thinned self.old }
+    {
+        let time = self.closed.time();
+        let choice = self.clock.choice();
+        let in_window = choice.window_includes(time);
+        let on_grid = choice.grid_includes(time);
+        let has_interval = choice.interval.is_some();
+        self.chosen = in_window & on_grid;
+        let has_value = self.closed.has_satellites();
+        self.counts.count(has_value, in_window, on_grid);
+        carry(has_interval, &mut self.marks, on_grid, &mut self.closed);
     }
 
     // Returns the station values after a message.
@@ -436,6 +494,23 @@ impl Gatherer {
             Some(x) => self.take_cell(system, x, n),
         }
     }
+}
+
+// If there is an interval, marks the phases of an epoch on the grid at which lock was lost before,
+// and notes the loss of lock in it.
+fn carry(has_interval: bool, lost: &mut Marks, on_grid: bool, epoch: &mut Epoch)
+    ensures epoch { epoch.new ≡ record epoch.old {
+      epoch = if has_interval then carried_to on_grid lost.old epoch.old.epoch else epoch.old.epoch;
+    } }
+    ensures marks { lost.new ≡ (if has_interval then carried_from on_grid lost.old epoch.old.epoch else lost.old) }
+{
+    if !has_interval {
+        return;
+    }
+    if on_grid {
+        marks::mark_systems(lost, epoch);
+    }
+    marks::note_systems(lost, on_grid, epoch);
 }
 
 // Returns a system that is `S`, as a constant if it is GPS or Galileo.

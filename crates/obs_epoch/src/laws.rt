@@ -1,6 +1,7 @@
 //! Laws of the definitions that the contracts cite.
 ghost use Rattle.gnss_obs.specs.Values.{no_values};
-ghost use Rattle.obs_epoch.specs.Laws.{ClosedStay, ClosedComeFirst, NoneClosed, NeverFirst};
+ghost use Rattle.obs_epoch.specs.Laws.{AllClosed, ClosedStay, ClosedComeFirst, NoneClosed, NeverFirst};
+ghost use Rattle.obs_epoch.specs.Laws.{IsThinnedByChoice, IsWholeByEvery, ReturnsEvery, WindowsAreApart, WindowsJoin};
 ghost use Rattle.obs_epoch.specs.Reach.{MessagesAreHeard, EpochsAreGathered};
 ghost use Rattle.gnss_obs.specs.GatheredEpochs.{AreStationValues};
 
@@ -8,6 +9,7 @@ ghost use Rattle.gnss_obs.specs.GatheredEpochs.{AreStationValues};
 pub fn closed_stay()
     ensures stay { ClosedStay }
     ensures first { ClosedComeFirst }
+    ensures all { AllClosed }
     ensures none { NoneClosed }
 {}
 
@@ -27,3 +29,14 @@ pub fn gathered()
     gnss_obs::laws::sizes();
     rtcm_msg::laws::measures();
 }
+
+/// The chosen epochs. Without an interval, a window that has all times leaves no epoch out and
+/// marks none. The epochs of two windows that meet are those of the whole window, and no time is in
+/// both. The epochs of a choice are the thinned list of those of every epoch.
+pub fn choices()
+    ensures every { ReturnsEvery }
+    ensures windows { WindowsJoin }
+    ensures apart { WindowsAreApart }
+    ensures whole { IsWholeByEvery }
+    ensures thinned { IsThinnedByChoice }
+{}

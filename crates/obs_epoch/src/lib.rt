@@ -4,10 +4,12 @@
 //! is closed. [`SignalCounts`] count cells by signal.
 #![tactic(auto)]
 
+mod choice;
 mod clock;
 mod gather;
 pub mod laws;
 mod locks;
+mod marks;
 mod observe;
 mod set;
 mod signal_counts;
@@ -15,6 +17,7 @@ mod start;
 mod taken;
 mod tow;
 
+pub use choice::{Choice, EpochCounts};
 pub use gather::Gatherer;
 // The benchmark imports it from here.
 pub use gnss_obs::Plan;

@@ -124,9 +124,9 @@ pub struct Keys {
     signals: usize,
 }
 
-// Returns the entries of the keys of a system.
+/// Returns the entries of the keys of a system.
 #[inline(always)]
-fn keys_of(system: System) -> Keys
+pub fn keys_of(system: System) -> Keys
     ensures { AreKeysOf system result }
 {
     let (first, signals) = match system {
@@ -151,9 +151,9 @@ pub fn note_systems(locks: &mut Locks, time: u64, epoch: &Epoch)
     }
 }
 
-// Returns the index of the entry of the key of a cell.
+/// Returns the index of the entry of the key of a cell.
 #[inline(always)]
-fn lock_place(keys: Keys, x: &Cell) -> usize
+pub fn lock_place(keys: Keys, x: &Cell) -> usize
     requires key { IsKey (heard_cell x.now) }
     requires system { AreKeysOf x.now.satellite.system keys }
     ensures entry { result ≡ lock_place (heard_cell x.now) }

@@ -5,13 +5,15 @@ ghost use Rattle.gnss_obs.specs.Weeks.{weeks};
 ghost use Rattle.gnss_obs.specs.declared.fault.PlanFault.{PlanFault};
 ghost use Rattle.obs_epoch.specs.Held.{no_locks};
 ghost use Rattle.obs_epoch.specs.Kinds.{is_no_station};
+ghost use Rattle.obs_epoch.specs.Marks.{no_marks};
 
 use crate::locks::Locks;
+use crate::marks::Marks;
 use gnss_obs::{Epoch, EpochCells, PlanFault, WEEKS};
-use std::alloc::Global;
+use std::alloc::{AllocError, Global};
 
-/// Returns no cells, an epoch without cells and empty lock records, if the start week and the
-/// station are valid.
+/// Returns no cells, an epoch without cells, empty lock records and no loss of lock, if the start
+/// week and the station are valid.
 ///
 /// # Errors
 ///
@@ -21,10 +23,11 @@ pub fn new_parts(
     alloc: Global,
     start_week: u32,
     station: Option<u16>,
-) -> Result<(EpochCells, Epoch, Locks), PlanFault>
+) -> Result<(EpochCells, Epoch, Locks, Marks), PlanFault>
     ensures pending { IfOk result (λ r. r.0 ≡ no_cells) }
     ensures closed { IfOk result (λ r. r.1 ≡ record { epoch = empty_epoch 0; values = no_values }) }
     ensures locks { IfOk result (λ r. r.2 ≡ no_locks) }
+    ensures marks { IfOk result (λ r. r.3 ≡ no_marks) }
     ensures accepted { IsOk result → (start_week < weeks) × (is_no_station station ≡ false) }
     ensures week { (result ≡ Err PlanFault.BadWeek) ↔ (weeks ≤ start_week) }
     ensures station { (result ≡ Err PlanFault.BadStation)
@@ -38,8 +41,19 @@ pub fn new_parts(
     if station.unwrap_or(0) > 4_095 {
         return Err(PlanFault::BadStation);
     }
-    let locks = Locks::new(alloc).map_err(|_| PlanFault::Memory)?;
-    let pending = EpochCells::new(alloc).map_err(|_| PlanFault::Memory)?;
-    let closed = Epoch::new(alloc).map_err(|_| PlanFault::Memory)?;
-    Ok((pending, closed, locks))
+    empty_parts(alloc).map_err(|_| PlanFault::Memory)
+}
+
+// Returns no cells, an epoch without cells, empty lock records and no loss of lock.
+fn empty_parts(alloc: Global) -> Result<(EpochCells, Epoch, Locks, Marks), AllocError>
+    ensures pending { IfOk result (λ r. r.0 ≡ no_cells) }
+    ensures closed { IfOk result (λ r. r.1 ≡ record { epoch = empty_epoch 0; values = no_values }) }
+    ensures locks { IfOk result (λ r. r.2 ≡ no_locks) }
+    ensures marks { IfOk result (λ r. r.3 ≡ no_marks) }
+{
+    let locks = Locks::new(alloc)?;
+    let marks = Marks::new(alloc)?;
+    let pending = EpochCells::new(alloc)?;
+    let closed = Epoch::new(alloc)?;
+    Ok((pending, closed, locks, marks))
 }

@@ -2,6 +2,7 @@
 ghost use Rattle.std.specs.Prelude.{◌≡◌};
 ghost use Rattle.obs_epoch.specs.Kinds.{is_accepted, is_close_first, with_counts};
 
+use crate::choice::Choice;
 use gnss_obs::StationValues;
 
 /// How the epochs of a station are closed.
@@ -24,6 +25,8 @@ pub struct GatherOptions {
     pub initial: StationValues,
     /// GPS time minus UTC, in seconds. GLONASS time is 3 h ahead of UTC.
     pub leap_seconds: u8,
+    /// The epochs that are returned.
+    pub choice: Choice,
 }
 
 /// The outcome of a message.

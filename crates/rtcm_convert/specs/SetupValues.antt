@@ -4,6 +4,7 @@ use Rattle.gnss_obs.specs.Weeks.{weeks}
 use Rattle.gnss_obs.specs.Values.{no_values}
 use Rattle.rtcm_scan.specs.Scan.{most_bytes}
 use Rattle.rtcm_msg.specs.declared.number.Forms.TheVariants.{FourAndSeven}
+use Rattle.obs_epoch.specs.Choices.{every_epoch}
 use Rattle.obs_epoch.specs.Kinds.{default_leap, setup_by, is_no_station}
 use Rattle.obs_epoch.specs.declared.taken.GatherOptions.{GatherOptions}
 use Rattle.obs_epoch.specs.Sets.{set_of}
@@ -15,7 +16,8 @@ use Rattle.rtcm_convert.specs.Converted.{SetupValue}
 
 -- the options of its gatherer
 abbrev pub gather_options : ConvertOptions → GatherOptions
-gather_options options = record { initial = options.initial; leap_seconds = options.leap_seconds }
+gather_options options =
+    record { initial = options.initial; leap_seconds = options.leap_seconds; choice = options.choice }
 
 -- the settings with these options
 abbrev pub setup_value_by : Setup → ConvertOptions → SetupValue
@@ -25,9 +27,14 @@ setup_value_by x options = record {
   set = set_of x.plan options.forms;
 }
 
--- the default forms and leap seconds, and the station values that hold until a station message has others
+-- the default forms and leap seconds, every epoch, and the station values that hold until a station message has others
 abbrev pub options_with : StationValues → ConvertOptions
-options_with initial = record { initial = initial; forms = FourAndSeven; leap_seconds = default_leap }
+options_with initial = record {
+  initial = initial;
+  forms = FourAndSeven;
+  leap_seconds = default_leap;
+  choice = every_epoch;
+}
 
 abbrev pub setup_value_with : Setup → StationValues → SetupValue
 setup_value_with x initial = setup_value_by x (options_with initial)

@@ -247,7 +247,7 @@ impl Converter {
     {
         let epochs = self.file_writer.epochs;
         if epochs == 0 {
-            return Err(Fault::NoEpoch);
+            return Err(self.fault_of_none());
         }
         Ok(Report {
             bytes: self.framer.taken(),
@@ -255,6 +255,18 @@ impl Converter {
             epochs,
             ..self.file_writer.tally
         })
+    }
+
+    /// Returns why the file of an ended stream has no epoch.
+    fn fault_of_none(&self) -> Fault
+        ensures { result ≡ fault_of_none self.now.file_writer.gatherer.counts }
+    {
+        let counts = self.file_writer.gatherer.epoch_counts();
+        if counts.epochs == 0 {
+            Fault::NoEpoch
+        } else {
+            Fault::NoneChosen(counts)
+        }
     }
 
     /// Accepts the pieces of the rest of the stream in order, ends it, and returns the report: a

@@ -56,6 +56,7 @@ impl FileWriter {
         let given = GatherOptions {
             initial: options.initial,
             leap_seconds: options.leap_seconds,
+            choice: options.choice,
         };
         match Gatherer::with_options(
             alloc,

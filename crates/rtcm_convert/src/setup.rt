@@ -4,7 +4,7 @@ ghost use Rattle.gnss_obs.specs.Values.{no_values};
 ghost use Rattle.rtcm_convert.specs.SetupValues.{options_with};
 
 use gnss_obs::{Plan, StationValues};
-use obs_epoch::{Gather, LEAP_SECONDS};
+use obs_epoch::{Choice, Gather, LEAP_SECONDS};
 use rinex_file::HeaderTexts;
 use rtcm_msg::Forms;
 
@@ -35,6 +35,8 @@ pub struct ConvertOptions {
     pub forms: Forms,
     /// GPS time minus UTC in seconds, which gives GLONASS times in GPS time: 18, that from 2017 on.
     pub leap_seconds: u8,
+    /// The epochs that are written: every epoch.
+    pub choice: Choice,
 }
 
 impl ConvertOptions {
@@ -46,6 +48,7 @@ impl ConvertOptions {
             initial,
             forms: Forms::FourAndSeven,
             leap_seconds: LEAP_SECONDS,
+            choice: Choice::default(),
         }
     }
 }

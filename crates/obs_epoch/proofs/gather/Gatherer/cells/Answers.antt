@@ -11,4 +11,4 @@ returns-clause-count c =
     ∙ ap (λ (g : GathererValue). length (cells_of c.args.system g.epoch)) c.self.view_is
 
 pub returns-clause-held : goal.returns-clause-held
-returns-clause-held c s ms es again h = returns-clause-count c ∙ ap (λ (e : EpochValue). length (cells_of c.args.system e)) h.standing.epoch
+returns-clause-held c s ms es again h = returns-clause-count c ∙ h.standing.sizes c.args.system

@@ -26,7 +26,7 @@ pub returns-clause-step : goal.returns-clause-step
 returns-clause-step c =
     let m = heard_summary c.args.said.now in
     let i = c.self.inside in
-    let g : GathererValue = gathered_of i.clock i.pending i.closed i.values i.locks i.just_closed i.has_ended in
+    let g : GathererValue = gathered_of i.clock i.pending i.closed i.values i.locks i.marks i.counts i.chosen i.just_closed i.has_ended in
     ap (λ e. record g { clock = c.step-step.new.self; epoch = e; values = c.values_after-self-inside.result; just_closed = false })
     (ap (λ l. epoch_in c.step-step.new.self i.pending l) (c.clear_if.ensures ∙ cleared_as c) ∙ clears_none i.pending i.closed c.step-step.ensures.keeps)
     ∙ heard_is g i.closed m refl c.step-step.ensures.step c.step-step.ensures.keeps c.self.invariant.none

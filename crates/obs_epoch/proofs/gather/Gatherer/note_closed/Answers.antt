@@ -3,6 +3,7 @@ use Rattle.std.proofs.lemmas.Grind.{common_steps}
 use Rattle.obs_epoch.specs.Names.{AreSortedByPlan, Closed, EpochValue, GathererValue, HasPlannedCells, State, closed_noted, shut_where, sorted_lists}
 use Rattle.obs_epoch.specs.Held.{note_systems}
 use Rattle.gnss_system.specs.Systems.{systems}
+use Rattle.obs_epoch.specs.GathererSteps.{thinned, thinned_if}
 use Rattle.obs_epoch.proofs.ValueLemmas.{gathered_of, never_both, none_planned, open_is, shut_is}
 use Rattle.obs_epoch.proofs.gather.Gatherer.note_closed.Goals as goal
 
@@ -26,15 +27,15 @@ invariant_of-self-2 c =
 pub returns : goal.returns
 returns c =
     let i = c.self.inside in
-    let g : GathererValue = gathered_of i.clock i.pending i.closed i.values i.locks i.just_closed i.has_ended in
+    let g : GathererValue = gathered_of i.clock i.pending i.closed i.values i.locks i.marks i.counts i.chosen i.just_closed i.has_ended in
     let shut : c.args.closed ≡ true = grind (arith, common_steps, c.if-not-closed.false) in
     let going : i.clock.pending ≡ true = ap (λ (v : GathererValue). v.clock.pending) c.self.view_is ∙ c.requires shut in
     let epoch : c.close.new.self.epoch ≡ g.epoch =
     ap (λ (k : Closed). k.epoch) c.close.ensures.closed
     ∙ ap₂ (λ t p. let e : EpochValue = record { time = t; cells = sorted_lists p i.pending } in e) c.time-at.ensures c.plan.ensures
     ∙ sym (open_is i.clock i.pending i.closed going) in
-    ap₂ (λ (b : Bool) (e : EpochValue). record g { clock = c.end.new.self; epoch = e; locks = c.note_systems.new.locks; just_closed = b }) shut
+    c.thin.ensures ∙ ap thinned (ap₂ (λ (b : Bool) (e : EpochValue). record g { clock = c.end.new.self; epoch = e; locks = c.note_systems.new.locks; just_closed = b }) shut
     (shut_is c.end.new.self c.close.new.pending c.close.new.self (ap (λ (k : State). k.pending) c.end.ensures) ∙ epoch)
     ∙ ap₂ (λ (k : State) locks. record g { clock = k; locks = locks; just_closed = true }) c.end.ensures
     (c.note_systems.ensures ∙ ap (λ (e : EpochValue). note_systems e i.locks systems) epoch)
-    ∙ ap₂ (λ b v. closed_noted (shut_where b v)) (sym shut) c.self.view_is
+    ∙ ap₂ (λ b v. closed_noted (shut_where b v)) (sym shut) c.self.view_is) ∙ ap (λ b. thinned_if b (closed_noted (shut_where c.args.closed c.args.self.now))) (sym shut)

@@ -19,7 +19,7 @@ pub returns-clause-step : goal.returns-clause-step
 returns-clause-step c =
     let x = heard_cell c.args.x in
     let i = c.self.inside in
-    let g : GathererValue = gathered_of i.clock i.pending i.closed i.values i.locks i.just_closed i.has_ended in
+    let g : GathererValue = gathered_of i.clock i.pending i.closed i.values i.locks i.marks i.counts i.chosen i.just_closed i.has_ended in
     let planned = subst (λ (v : GathererValue). is_some (place_in c.args.x.signal (planned_of c.args.x.satellite.system v.clock.setup.plan)) ≡ true) (sym c.self.view_is) c.requires.planned in
     let going : i.clock.pending ≡ true = ap (λ (v : GathererValue). v.clock.pending) c.self.view_is ∙ c.requires.pending in
     let now = open_is i.clock i.pending i.closed going in
@@ -31,7 +31,7 @@ pub returns-clause-counts : goal.returns-clause-counts
 returns-clause-counts c =
     let x = heard_cell c.args.x in
     let i = c.self.inside in
-    let g : GathererValue = gathered_of i.clock i.pending i.closed i.values i.locks i.just_closed i.has_ended in
+    let g : GathererValue = gathered_of i.clock i.pending i.closed i.values i.locks i.marks i.counts i.chosen i.just_closed i.has_ended in
     let planned = subst (λ (v : GathererValue). is_some (place_in c.args.x.signal (planned_of c.args.x.satellite.system v.clock.setup.plan)) ≡ true) (sym c.self.view_is) c.requires.planned in
     let going : i.clock.pending ≡ true = ap (λ (v : GathererValue). v.clock.pending) c.self.view_is ∙ c.requires.pending in
     c.count.ensures.counts

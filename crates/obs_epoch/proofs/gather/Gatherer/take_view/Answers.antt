@@ -2,33 +2,34 @@
 -- loaded if it is accepted.
 use Rattle.std.proofs.Common.{◌++◌, ◌∷◌, [], sym, ap, ◌∙◌, subst, Some, None, ◌≡◌, ℕ, Bool, ap₂, is_some}
 use Rattle.obs_epoch.specs.Names.{viewed_message, heard, heard_by, GatherSetup, Heard, heard_summary, without_cells, timed, GathererValue, State, take_step, Loaded, begun_by, ended_where, loaded_where, is_close_first, is_accepted, with_counts, IsCloseFirstExactly, HasGatheredEpochs, returned_epoch, no_counts}
-use Rattle.obs_epoch.proofs.TakeLemmas.{no_point, given_alone, closed_is, ended_is, loaded_by, loaded_clock, loads}
+use Rattle.obs_epoch.proofs.TakeLemmas.{no_point, given_alone, closed_is, ended_is, handed_is, loaded_by, loaded_clock, loads}
 use Rattle.obs_epoch.proofs.HeardLemmas.{opens, closes_open}
 use Rattle.obs_epoch.proofs.ValueLemmas.{heard_setup}
-use Rattle.obs_epoch.proofs.ReturnedLemmas.{gathers_first, gathers_taken, has_closed}
+use Rattle.obs_epoch.proofs.ReturnedLemmas.{gathers_first, gathers_taken, thinned_ended}
 use Rattle.obs_epoch.proofs.KindLemmas.{counted_kind, exactly_first, again_taken, fits_now, kind_taken}
+use Rattle.obs_epoch.specs.GathererSteps.{closed_noted, shut_where, thinned_if}
 use Rattle.obs_epoch.specs.Step.{kind_by, step_by, closed_time}
 use Rattle.obs_epoch.proofs.gather.Gatherer.take_view.Goals as goal
 
-abbrev message : goal.After-self-2 → Heard
+abbrev message : goal.After-has_closed → Heard
 message c = heard_by c.args.self.now.clock.setup (viewed_message c.args.view.now)
 
-said_is : (c : goal.After-self-2) → heard_summary c.summary_of-said.result ≡ without_cells (message c)
+said_is : (c : goal.After-has_closed) → heard_summary c.summary_of-said.result ≡ without_cells (message c)
 said_is c =
     let setup = c.args.self.now.clock.setup in
     c.summary_of-said.ensures.value setup.plan.channels
     ∙ ap (λ (leap : ℕ). without_cells (heard setup.plan.channels leap (viewed_message c.args.view.now))) (c.leap_seconds.ensures ∙ ap (λ (g : GathererValue). g.clock.setup.leap) c.self.view_is)
 
-kind_is : (c : goal.After-self-2) → c.hear-kind.result.0 ≡ kind_by c.args.self.now.clock no_counts (message c)
+kind_is : (c : goal.After-has_closed) → c.hear-kind.result.0 ≡ kind_by c.args.self.now.clock no_counts (message c)
 kind_is c = c.hear-kind.ensures.kind ∙ ap (kind_by c.args.self.now.clock no_counts) (said_is c)
 
-abbrev accepted : goal.After-self-2 → Bool
+abbrev accepted : goal.After-has_closed → Bool
 accepted c = is_accepted (kind_by c.args.self.now.clock no_counts (message c))
 
-begun_is : (c : goal.After-self-2) → c.hear-kind.new.self ≡ begun_by c.args.self.now (message c)
+begun_is : (c : goal.After-has_closed) → c.hear-kind.new.self ≡ begun_by c.args.self.now (message c)
 begun_is c = c.hear-kind.ensures.step ∙ ap (begun_by c.args.self.now) (said_is c)
 
-loaded_is : (c : goal.After-self-2)
+loaded_is : (c : goal.After-has_closed)
     → record { state = c.load-counts.new.self; counts = c.load-counts.result } ≡ loaded_where (accepted c) (begun_by c.args.self.now (message c)) (message c)
 loaded_is c =
     c.load-counts.ensures
@@ -36,15 +37,23 @@ loaded_is c =
     (ap (λ (g : GathererValue). g.clock.setup) c.hear-kind.ensures.step ∙ heard_setup c.args.self.now.clock (heard_summary c.summary_of-said.result))
     ∙ ap₂ (λ b g. loaded_where b g (message c)) (c.is_accepted.ensures ∙ ap is_accepted (kind_is c)) (begun_is c)
 
-counts_are : (c : goal.After-self-2) → c.load-counts.result ≡ (loads c.args.self.now (message c)).counts
+counts_are : (c : goal.After-has_closed) → c.load-counts.result ≡ (loads c.args.self.now (message c)).counts
 counts_are c = ap (λ (l : Loaded). l.counts) (loaded_is c ∙ loaded_by c.args.self.now (message c))
 
-step_is : (c : goal.After-self-2) → c.note_closed.new.self ≡ (take_step c.args.self.now (message c)).state
-step_is c =
-    c.note_closed.ensures
-    ∙ closed_is c.args.self.now (message c) (record { state = c.load-counts.new.self; counts = c.load-counts.result }) c.hear-kind.result.1 (loaded_is c)
+stepped_is : (c : goal.After-has_closed) → closed_noted (shut_where c.hear-kind.result.1 c.load-counts.new.self) ≡ (take_step c.args.self.now (message c)).state
+stepped_is c =
+    closed_is c.args.self.now (message c) (record { state = c.load-counts.new.self; counts = c.load-counts.result }) c.hear-kind.result.1 (loaded_is c)
     (c.hear-kind.ensures.closed ∙ ap (λ m. is_some (closed_time c.args.self.now.clock m)) (said_is c))
     (ap (ended_where c.hear-kind.result.1) (sym (ap (λ (g : GathererValue). g.clock) (begun_is c))) ∙ c.hear-kind.ensures.ended ∙ ap (step_by c.args.self.now.clock) (said_is c))
+
+abbrev closes_now : goal.After-has_closed → Bool
+closes_now c = c.hear-kind.result.1
+
+has_closed_is : (c : goal.After-has_closed) → (take_step c.args.self.now (message c)).state.just_closed ≡ closes_now c
+has_closed_is c = handed_is c.args.self.now (message c) ∙ sym (c.hear-kind.ensures.closed ∙ ap (λ m. is_some (closed_time c.args.self.now.clock m)) (said_is c))
+
+step_is : (c : goal.After-has_closed) → c.note_closed.new.self ≡ thinned_if (closes_now c) (take_step c.args.self.now (message c)).state
+step_is c = c.note_closed.ensures ∙ ap (thinned_if (closes_now c)) (stepped_is c)
 
 pub load-counts-requires : goal.load-counts-requires
 load-counts-requires c = λ e.
@@ -73,15 +82,15 @@ returns c =
       first = λ s ms es h early.
           let first = sym (exactly s ms es h) ∙ early in
           subst (λ (g : GathererValue). HasGatheredEpochs g s ms (es ++ returned_epoch g) (Some m)) (sym step)
-          (gathers_first m h c.requires first (no_point s now.clock.setup (timed s ms) read first));
+          (gathers_first m h c.requires first (no_point s now.clock.setup (timed s ms) read first) (closes_now c) (has_closed_is c));
       again = λ s ms es h. same ∙ again_taken (take_step now m).counts h c.requires;
       taken = λ s ms es again h fit other.
           let early = fits_now again m (take_step now m).counts h c.requires (no_point s now.clock.setup (timed s ms) read) fit (sym same ∙ other) in
           subst (λ (g : GathererValue). HasGatheredEpochs g s (ms ++ m ∷ []) (es ++ returned_epoch g) None) (sym step)
-          (gathers_taken m h c.requires early (given_alone now.clock.setup read));
+          (gathers_taken m h c.requires early (given_alone now.clock.setup read) (closes_now c) (has_closed_is c));
       kind = λ s ms es again h fit other.
           let early = fits_now again m (take_step now m).counts h c.requires (no_point s now.clock.setup (timed s ms) read) fit (sym same ∙ other) in
           kind ∙ kind_taken m h c.requires early;
-      closed = ap (λ (g : GathererValue). g.just_closed) c.self-2.view_is ∙ has_closed c.note_closed.new.self;
-      going = ap (λ (g : GathererValue). g.has_ended) step ∙ ended_is now m ∙ c.requires;
+      closed = c.has_closed.ensures;
+      going = ap (λ (g : GathererValue). g.has_ended) step ∙ thinned_ended (closes_now c) (take_step now m).state ∙ ended_is now m ∙ c.requires;
     }

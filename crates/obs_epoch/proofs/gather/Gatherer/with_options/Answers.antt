@@ -1,5 +1,6 @@
-use Rattle.std.proofs.Common.{[], refl, sym, ap, subst, rules, false, ◌∙◌}
-use Rattle.obs_epoch.specs.Names.{Closed, HasPlannedCells, HasHeardMessages, GatherSetup}
+use Rattle.std.proofs.Common.{[], length, refl, sym, ap, subst, rules, false, ◌∙◌}
+use Rattle.obs_epoch.specs.Names.{Closed, EpochValue, cells_of, HasPlannedCells, HasHeardMessages, GatherSetup}
+use Rattle.obs_epoch.proofs.MarksLemmas.{none_marked}
 use Rattle.obs_epoch.proofs.OneStepLemmas.{none_locked}
 use Rattle.obs_epoch.proofs.ValueLemmas.{none_planned, shut_is}
 use Rattle.obs_epoch.proofs.gather.Gatherer.with_options.Goals as goal
@@ -14,10 +15,12 @@ invariant_of-result c = record {
 
 pub returns-in-Ok-clause-history : goal.returns-in-Ok-clause-history
 returns-in-Ok-clause-history c =
+    let epoch = shut_is c.new.result c.in-Ok.pending c.in-Ok.closed c.new.ensures.history.pending ∙ ap (λ (e : Closed). e.epoch) c.in-Ok.ensures.closed in
     record {
       standing = record {
         clock = subst (λ (s : GatherSetup). HasHeardMessages c.new.result s [] false) c.new.ensures.setup c.new.ensures.history;
-        epoch = shut_is c.new.result c.in-Ok.pending c.in-Ok.closed c.new.ensures.history.pending ∙ ap (λ (e : Closed). e.epoch) c.in-Ok.ensures.closed;
+        epoch = λ _. epoch;
+        sizes = λ system. ap (λ (e : EpochValue). length (cells_of system e)) epoch;
         locks = none_locked _ _ c.in-Ok.ensures.locks;
         values = refl;
       };
@@ -26,4 +29,6 @@ returns-in-Ok-clause-history c =
       first = search rules;
       fits = tt;
       plan = ap (λ (s : GatherSetup). s.plan) c.new.ensures.setup;
+      marks = none_marked _ c.in-Ok.ensures.marks;
+      counts = λ i. record { epochs = c.default.ensures.0 i; window = c.default.ensures.1.0 i; grid = c.default.ensures.1.1 i };
     }

@@ -1,0 +1,262 @@
+-- The entries of lost lock after one more epoch.
+use Rattle.std.proofs.Common.{◌≡◌, ℕ, zero, suc, ◌+◌, ◌==◌, ◌%◌, ◌<◌, Bool, true, false, not, ◌&&◌, ◌||◌, List, [], ◌∷◌, ◌++◌, map, filter, flat_map, fold, length, get_or, set, replicate, refl, sym, ap, ap₂, ◌∙◌, subst, arith, Option, Some, None, is_some, if◌then◌else◌, length-set}
+use Rattle.std.specs.List.{list_any}
+use Rattle.std.proofs.lemmas.List.{length-replicate}
+use Rattle.std.proofs.lemmas.Grind.{common_steps}
+use Rattle.gnss_system.proofs.SystemLaws.{value_after, value_tabulated, with_same}
+use Rattle.gnss_system.specs.Systems.{systems}
+use Rattle.obs_epoch.specs.declared.choice.Choice.{Choice}
+use Rattle.obs_epoch.specs.Choices.{on_grid}
+use Rattle.obs_epoch.specs.Marks.{AreMarks, carried_from, carried_to, is_lost_in, mark_at, no_marks, note_losses, note_lost, note_systems_lost, with_mark_in}
+use Rattle.obs_epoch.specs.Names.{Cell, Closed, EpochValue, HeardCell, System, cells_of, has_listed_key, has_same_key, heard_cell, lock_place, most_locks}
+use Rattle.obs_epoch.specs.Thinning.{all_cells, ends_carrying, has_cell, has_phase, is_marked, lost_before, mark_if, marked_epoch}
+use Rattle.obs_epoch.proofs.PlaceLemmas.{listed_from, place_one, place_within, same_place}
+use Rattle.gnss_obs.specs.Marked.{marked_at, marked_in, with_mark}
+use Rattle.gnss_system.specs.SystemValues.{with_value_of}
+use Rattle.gnss_system.specs.declared.by_system.BySystem.{BySystem}
+use Rattle.obs_epoch.proofs.TimesLemmas.{or_false}
+use Rattle.obs_epoch.proofs.ThinLemmas.{AllListedCells, HasListedCells, any-append, lost-push, no_phase, none_lost}
+
+abbrev same_cell : Cell → Cell → Bool
+same_cell x y = has_same_key (heard_cell x) (heard_cell y)
+
+set_same : (xs : List Bool) (i : ℕ) (b : Bool) → i < length xs → get_or (set xs i b) i false ≡ b
+set_same [] i b h = absurd (grind (arith, h))
+set_same (x ∷ xs) zero b h = refl
+set_same (x ∷ xs) (suc i) b h = set_same xs i b (omega (arith, h))
+
+set_other : (xs : List Bool) (i j : ℕ) (b : Bool) → (j ≡ i → ⊥) → get_or (set xs i b) j false ≡ get_or xs j false
+set_other [] i j b h = refl
+set_other (x ∷ xs) zero zero b h = absurd (h refl)
+set_other (x ∷ xs) zero (suc j) b h = refl
+set_other (x ∷ xs) (suc i) zero b h = refl
+set_other (x ∷ xs) (suc i) (suc j) b h = set_other xs i j b (λ e. h (ap suc e))
+
+-- The entry of a cell's key after that of another cell is set.
+lost_set : (marks : List Bool) (x y : Cell) (b : Bool) → has_listed_key (heard_cell x) ≡ true → has_listed_key (heard_cell y) ≡ true → length marks ≡ most_locks
+    → is_lost_in (set marks (lock_place (heard_cell y)) b) x ≡ (if same_cell x y then b else is_lost_in marks x)
+lost_set marks x y b k l size = by (same_cell x y) refl where
+  within : lock_place (heard_cell y) < length marks
+  within = subst (λ n. lock_place (heard_cell y) < n) (sym size) (place_within (heard_cell y) (listed_from (heard_cell y) l))
+
+  by : (c : Bool) → same_cell x y ≡ c → is_lost_in (set marks (lock_place (heard_cell y)) b) x ≡ (if c then b else is_lost_in marks x)
+  by true e =
+      ap (λ i. get_or (set marks (lock_place (heard_cell y)) b) i false) (same_place (heard_cell x) (heard_cell y) e).0
+      ∙ set_same marks (lock_place (heard_cell y)) b within
+  by false e =
+      set_other marks (lock_place (heard_cell y)) (lock_place (heard_cell x)) b
+      (λ same. grind (arith, e, place_one (heard_cell x) (heard_cell y) (listed_from (heard_cell x) k) (listed_from (heard_cell y) l) same))
+
+-- A cell that changes the entry of its key.
+abbrev changes : Bool → Cell → Bool
+changes at y = has_phase y && (at || (y.lli % 2 == 1))
+
+abbrev any_changes : Bool → Cell → List Cell → Bool
+any_changes at x ys = list_any (λ y. same_cell x y && changes at y) ys
+
+lost_note : (at : Bool) (marks : List Bool) (x y : Cell) → has_listed_key (heard_cell x) ≡ true → has_listed_key (heard_cell y) ≡ true → length marks ≡ most_locks
+    → is_lost_in (note_lost at marks y) x ≡ (if same_cell x y && changes at y then not at else is_lost_in marks x)
+lost_note at marks x y k l size = by (changes at y) where
+  by : (c : Bool) → is_lost_in (if c then set marks (lock_place (heard_cell y)) (not at) else marks) x ≡ (if same_cell x y && c then not at else is_lost_in marks x)
+  by true = lost_set marks x y (not at) k l size ∙ both (same_cell x y) where
+    both : (s : Bool) → (if s then not at else is_lost_in marks x) ≡ (if s && true then not at else is_lost_in marks x)
+    both true = refl
+    both false = refl
+  by false = both (same_cell x y) where
+    both : (s : Bool) → is_lost_in marks x ≡ (if s && false then not at else is_lost_in marks x)
+    both true = refl
+    both false = refl
+
+note_size : (at : Bool) (marks : List Bool) (y : Cell) → length (note_lost at marks y) ≡ length marks
+note_size at marks y = by (changes at y) where
+  by : (c : Bool) → length (if c then set marks (lock_place (heard_cell y)) (not at) else marks) ≡ length marks
+  by true = length-set marks (lock_place (heard_cell y)) (not at)
+  by false = refl
+
+losses_size : (at : Bool) (marks : List Bool) (ys : List Cell) → length (note_losses at marks ys) ≡ length marks
+losses_size at marks [] = refl
+losses_size at marks (y ∷ ys) = losses_size at (note_lost at marks y) ys ∙ note_size at marks y
+
+lost_losses : (at : Bool) (marks : List Bool) (x : Cell) (ys : List Cell) → has_listed_key (heard_cell x) ≡ true → AllListedCells ys → length marks ≡ most_locks
+    → is_lost_in (note_losses at marks ys) x ≡ (if any_changes at x ys then not at else is_lost_in marks x)
+lost_losses at marks x [] k l size = refl
+lost_losses at marks x (y ∷ ys) k l size =
+    lost_losses at (note_lost at marks y) x ys k l.1 (note_size at marks y ∙ size)
+    ∙ ap (λ b. if any_changes at x ys then not at else b) (lost_note at marks x y k l.0 size)
+    ∙ by (same_cell x y && changes at y) (any_changes at x ys) where
+      by : (a b : Bool) → (if b then not at else (if a then not at else is_lost_in marks x)) ≡ (if (a || b) then not at else is_lost_in marks x)
+      by true true = refl
+      by true false = refl
+      by false b = refl
+
+-- ---- all cells of an epoch
+
+losses_append : (at : Bool) (marks : List Bool) (xs ys : List Cell) → note_losses at (note_losses at marks xs) ys ≡ note_losses at marks (xs ++ ys)
+losses_append at marks [] ys = refl
+losses_append at marks (x ∷ xs) ys = losses_append at (note_lost at marks x) xs ys
+
+systems_are : (at : Bool) (e : EpochValue) (marks : List Bool) (ss : List System) → note_systems_lost at e marks ss ≡ note_losses at marks (flat_map (λ s. cells_of s e) ss)
+systems_are at e marks [] = refl
+systems_are at e marks (s ∷ ss) = systems_are at e (note_losses at marks (cells_of s e)) ss ∙ losses_append at marks (cells_of s e) (flat_map (λ s. cells_of s e) ss)
+
+listed_append : (xs ys : List Cell) → AllListedCells xs → AllListedCells ys → AllListedCells (xs ++ ys)
+listed_append [] ys h k = k
+listed_append (x ∷ xs) ys h k = (h.0, listed_append xs ys h.1 k)
+
+all_listed : (e : EpochValue) (ss : List System) → HasListedCells e → AllListedCells (flat_map (λ s. cells_of s e) ss)
+all_listed e [] h = tt
+all_listed e (s ∷ ss) h = listed_append (cells_of s e) (flat_map (λ s. cells_of s e) ss) (h s) (all_listed e ss h)
+
+lost_systems : (at : Bool) (e : EpochValue) (marks : List Bool) (x : Cell) → has_listed_key (heard_cell x) ≡ true → HasListedCells e → length marks ≡ most_locks
+    → is_lost_in (note_systems_lost at e marks systems) x ≡ (if any_changes at x (all_cells e) then not at else is_lost_in marks x)
+lost_systems at e marks x k listed size =
+    ap (λ l. is_lost_in l x) (systems_are at e marks systems) ∙ lost_losses at marks x (all_cells e) k (all_listed e systems listed) size
+
+systems_size : (at : Bool) (e : EpochValue) (marks : List Bool) → length (note_systems_lost at e marks systems) ≡ length marks
+systems_size at e marks = ap (λ (l : List Bool). length l) (systems_are at e marks systems) ∙ losses_size at marks (all_cells e)
+
+-- ---- a marked epoch has the same phases
+
+marked_changes : (f : Cell → Bool) (x : Cell) (ys : List Cell) → any_changes true x (map (mark_if f) ys) ≡ any_changes true x ys
+marked_changes f x [] = refl
+marked_changes f x (y ∷ ys) = ap₂ (λ (a b : Bool). a || b) (one (has_phase y && f y)) (marked_changes f x ys) where
+  one : (b : Bool) → (same_cell x (if b then with_mark y else y) && changes true (if b then with_mark y else y)) ≡ (same_cell x y && changes true y)
+  one true = refl
+  one false = refl
+
+marked_all : (f : Cell → Bool) (x : Cell) (e : EpochValue) (ss : List System) → any_changes true x (flat_map (λ s. cells_of s (marked_epoch f e)) ss) ≡ any_changes true x (flat_map (λ s. cells_of s e) ss)
+marked_all f x e [] = refl
+marked_all f x e (s ∷ ss) =
+    any-append _ (cells_of s (marked_epoch f e)) (flat_map (λ s. cells_of s (marked_epoch f e)) ss)
+    ∙ ap₂ (λ (a b : Bool). a || b) (ap (any_changes true x) (value_tabulated s (λ t. map (mark_if f) (cells_of t e))) ∙ marked_changes f x (cells_of s e)) (marked_all f x e ss)
+    ∙ sym (any-append _ (cells_of s e) (flat_map (λ s. cells_of s e) ss))
+
+marked_listed : (f : Cell → Bool) (e : EpochValue) → HasListedCells e → HasListedCells (marked_epoch f e)
+marked_listed f e h = λ s. subst AllListedCells (sym (value_tabulated s (λ t. map (mark_if f) (cells_of t e)))) (by (cells_of s e) (h s)) where
+  one : (x : Cell) (b : Bool) → has_listed_key (heard_cell x) ≡ true → has_listed_key (heard_cell (if b then with_mark x else x)) ≡ true
+  one x true k = k
+  one x false k = k
+
+  by : (xs : List Cell) → AllListedCells xs → AllListedCells (map (mark_if f) xs)
+  by [] k = tt
+  by (x ∷ xs) k = (one x (has_phase x && f x) k.0, by xs k.1)
+
+phase_changes : (x : Cell) (ys : List Cell) → any_changes true x ys ≡ list_any (λ y. same_cell x y && has_phase y) ys
+phase_changes x [] = refl
+phase_changes x (y ∷ ys) = ap₂ (λ (a b : Bool). a || b) (one (same_cell x y) (has_phase y)) (phase_changes x ys) where
+  one : (a b : Bool) → (a && (b && true)) ≡ (a && b)
+  one a true = refl
+  one a false = refl
+
+-- ---- one more epoch
+
+-- The entries of the epochs with one more.
+pub marks_push : (c : Choice) (marks : List Bool) (es : List Closed) (e : Closed) → HasListedCells e.epoch → AreMarks c marks es
+    → AreMarks c (if is_some c.interval then carried_from (on_grid c e.epoch.time) marks e.epoch else marks) (es ++ e ∷ [])
+marks_push c marks es e listed h = by (is_some c.interval) refl where
+  whole : is_some c.interval ≡ false → AreMarks c marks (es ++ e ∷ [])
+  whole none = record { size = h.size; each = λ x k. h.each x k ∙ none_lost c es x none ∙ sym (none_lost c (es ++ e ∷ []) x none) }
+
+  on : (x : Cell) → has_listed_key (heard_cell x) ≡ true → on_grid c e.epoch.time ≡ true → is_lost_in (carried_from true marks e.epoch) x ≡ lost_before c (es ++ e ∷ []) x
+  on x k at =
+      lost_systems true (marked_epoch (is_lost_in marks) e.epoch) marks x k (marked_listed (is_lost_in marks) e.epoch listed) h.size
+      ∙ ap (λ b. if b then false else is_lost_in marks x) (marked_all (is_lost_in marks) x e.epoch systems ∙ phase_changes x (all_cells e.epoch))
+      ∙ ap (λ b. if has_cell has_phase x e then false else b) (h.each x k)
+      ∙ some (has_cell has_phase x e) refl
+      ∙ ap (λ a. if a && has_cell has_phase x e then false else lost_before c es x || has_cell is_marked x e) (sym at) ∙ sym (lost-push c es e x) where
+        some : (p : Bool) → has_cell has_phase x e ≡ p → (if p then false else lost_before c es x) ≡ (if p then false else lost_before c es x || has_cell is_marked x e)
+        some true q = refl
+        some false q = sym (or_false (lost_before c es x)) ∙ ap (λ b. lost_before c es x || b) (sym (no_phase x e q))
+
+  off : (x : Cell) → has_listed_key (heard_cell x) ≡ true → on_grid c e.epoch.time ≡ false → is_lost_in (carried_from false marks e.epoch) x ≡ lost_before c (es ++ e ∷ []) x
+  off x k at =
+      lost_systems false e.epoch marks x k listed h.size
+      ∙ ap (λ b. if has_cell is_marked x e then true else b) (h.each x k)
+      ∙ some (has_cell is_marked x e) (lost_before c es x)
+      ∙ ap (λ a. if a && has_cell has_phase x e then false else lost_before c es x || has_cell is_marked x e) (sym at) ∙ sym (lost-push c es e x) where
+        some : (a b : Bool) → (if a then true else b) ≡ (b || a)
+        some true true = refl
+        some true false = refl
+        some false true = refl
+        some false false = refl
+
+  carried : (at : Bool) → on_grid c e.epoch.time ≡ at → AreMarks c (carried_from at marks e.epoch) (es ++ e ∷ [])
+  carried true at = record { size = systems_size true (marked_epoch (is_lost_in marks) e.epoch) marks ∙ h.size; each = λ x k. on x k at }
+  carried false at = record { size = systems_size false e.epoch marks ∙ h.size; each = λ x k. off x k at }
+
+  by : (b : Bool) → is_some c.interval ≡ b → AreMarks c (if b then carried_from (on_grid c e.epoch.time) marks e.epoch else marks) (es ++ e ∷ [])
+  by true some = subst (λ at. AreMarks c (carried_from at marks e.epoch) (es ++ e ∷ [])) refl (carried (on_grid c e.epoch.time) refl)
+  by false none = whole none
+
+-- ---- no epochs
+
+no_entry : (n i : ℕ) → get_or (replicate n false) i false ≡ false
+no_entry zero i = refl
+no_entry (suc n) zero = refl
+no_entry (suc n) (suc i) = no_entry n i
+
+pub none_marked : (c : Choice) {marks : List Bool} → marks ≡ no_marks → AreMarks c marks []
+none_marked c e = record { size = ap (λ (l : List Bool). length l) e ∙ length-replicate most_locks false; each = λ x k. ap (λ l. is_lost_in l x) e ∙ no_entry most_locks (lock_place (heard_cell x)) }
+
+-- ---- the cells of a system, one by one
+
+-- The first of the cells are marked.
+abbrev pub mark_first : (Cell → Bool) → ℕ → List Cell → List Cell
+mark_first lost zero xs = xs
+mark_first lost (suc i) [] = []
+mark_first lost (suc i) (x ∷ xs) = mark_if lost x ∷ mark_first lost i xs
+
+pub first_length : (lost : Cell → Bool) (i : ℕ) (xs : List Cell) → length (mark_first lost i xs) ≡ length xs
+first_length lost zero xs = refl
+first_length lost (suc i) [] = refl
+first_length lost (suc i) (x ∷ xs) = ap suc (first_length lost i xs)
+
+pub first_step : (lost : Cell → Bool) (i : ℕ) (xs : List Cell) → mark_at lost i (mark_first lost i xs) ≡ mark_first lost (suc i) xs
+first_step lost zero [] = refl
+first_step lost zero (x ∷ xs) = refl
+first_step lost (suc i) [] = refl
+first_step lost (suc i) (x ∷ xs) = ap (λ l. mark_if lost x ∷ l) (first_step lost i xs)
+
+pub first_all : (lost : Cell → Bool) (i : ℕ) (xs : List Cell) → length xs ≡ i → mark_first lost i xs ≡ map (mark_if lost) xs
+first_all lost zero [] h = refl
+first_all lost zero (x ∷ xs) h = absurd (grind (arith, h))
+first_all lost (suc i) [] h = refl
+first_all lost (suc i) (x ∷ xs) h = ap (λ l. mark_if lost x ∷ l) (first_all lost i xs (omega (arith, h)))
+
+-- A cell is marked if it has a phase and lock was lost at it.
+pub mark_is : (lost : Cell → Bool) (at : ℕ) (xs : List Cell) (x : Cell) → at < length xs → x ≡ get_or xs at x → (b : Bool) → (has_phase x && lost x) ≡ b
+    → (if b then marked_at at xs else xs) ≡ mark_at lost at xs
+mark_is lost at [] x less is b e = absurd (grind (arith, less))
+mark_is lost zero (y ∷ xs) x less is b e = by b (ap (λ z. has_phase z && lost z) (sym is) ∙ e) where
+  by : (b : Bool) → (has_phase y && lost y) ≡ b → (if b then with_mark y ∷ xs else y ∷ xs) ≡ (if has_phase y && lost y then with_mark y else y) ∷ xs
+  by true e = ap (λ c. (if c then with_mark y else y) ∷ xs) (sym e)
+  by false e = ap (λ c. (if c then with_mark y else y) ∷ xs) (sym e)
+mark_is lost (suc at) (y ∷ xs) x less is b e = by b (mark_is lost at xs x (omega (arith, less)) is b e) where
+  by : (b : Bool) → (if b then marked_at at xs else xs) ≡ mark_at lost at xs → (if b then y ∷ marked_at at xs else y ∷ xs) ≡ y ∷ mark_at lost at xs
+  by true h = ap (λ l. y ∷ l) h
+  by false h = ap (λ l. y ∷ l) h
+
+pub marked_in_is : (marks : List Bool) (system : System) (at : ℕ) (e : EpochValue) (x : Cell) → at < length (cells_of system e) → x ≡ get_or (cells_of system e) at x
+    → (b : Bool) → (has_phase x && is_lost_in marks x) ≡ b → (if b then marked_in system at e else e) ≡ with_mark_in marks system at e
+marked_in_is marks system at e x less is true h = ap (λ l. record e { cells = with_value_of system e.cells l }) (mark_is (is_lost_in marks) at (cells_of system e) x less is true h)
+marked_in_is marks system at e x less is false h =
+    ap (λ cells. record e { cells = cells }) (sym (with_same system e.cells)) ∙ ap (λ l. record e { cells = with_value_of system e.cells l }) (mark_is (is_lost_in marks) at (cells_of system e) x less is false h)
+
+abbrev pub first_in : List Bool → System → ℕ → EpochValue → EpochValue
+first_in marks system i e = record e { cells = with_value_of system e.cells (mark_first (is_lost_in marks) i (cells_of system e)) }
+
+pub first_in_length : (marks : List Bool) (system : System) (i : ℕ) (e : EpochValue) → length (cells_of system (first_in marks system i e)) ≡ length (cells_of system e)
+first_in_length marks system i e =
+    ap (λ (l : List Cell). length l) (value_after system e.cells (mark_first (is_lost_in marks) i (cells_of system e))) ∙ first_length (is_lost_in marks) i (cells_of system e)
+
+with_twice : {A : Type 0} (s : System) (values : BySystem A) (x y : A) → with_value_of s (with_value_of s values x) y ≡ with_value_of s values y
+with_twice s values x y = grind (arith, common_steps)
+
+pub first_in_step : (marks : List Bool) (system : System) (i : ℕ) (e : EpochValue) → with_mark_in marks system i (first_in marks system i e) ≡ first_in marks system (i + 1) e
+first_in_step marks system i e =
+    let lost = is_lost_in marks in
+    let xs = cells_of system e in
+    let next : suc i ≡ i + 1 = omega arith in
+    ap (λ l. record e { cells = with_value_of system (with_value_of system e.cells (mark_first lost i xs)) (mark_at lost i l) }) (value_after system e.cells (mark_first lost i xs))
+    ∙ ap (λ cells. record e { cells = cells }) (with_twice system e.cells (mark_first lost i xs) (mark_at lost i (mark_first lost i xs)))
+    ∙ ap (λ l. record e { cells = with_value_of system e.cells l }) (first_step lost i xs ∙ ap (λ n. mark_first lost n xs) next)

@@ -1,0 +1,18 @@
+use Rattle.std.proofs.Common.{◌≡◌, ◌≤◌, ◌∙◌, ap, arith, length, map}
+use Rattle.gnss_system.specs.Systems.{systems}
+use Rattle.gnss_system.specs.SystemValues.{value_of}
+use Rattle.gnss_system.proofs.SystemLaws.{is_tabulated, passed_all}
+use Rattle.obs_epoch.specs.Marks.{is_lost_in}
+use Rattle.obs_epoch.specs.Names.{CellLists, cells_of}
+use Rattle.obs_epoch.specs.Thinning.{mark_if}
+use Rattle.obs_epoch.proofs.marks.mark_systems.Goals as goal
+
+pub returns : goal.returns
+returns c =
+    let e = c.args.epoch.now in
+    let f = mark_if (is_lost_in c.args.marks.now) in
+    let enough : length systems ≤ c.loop-i.i = omega (arith, c.loop-i-test.false) in
+    c.loop-i.invariant.rest
+    ∙ ap (λ (cells : CellLists). record e { epoch = record e.epoch { cells = cells } })
+    (is_tabulated c.loop-i.epoch.epoch.cells (λ s. map f (cells_of s e.epoch))
+    (passed_all (λ s cells. cells ≡ map f (value_of s e.epoch.cells)) (λ s cells. cells ≡ value_of s e.epoch.cells) c.loop-i.epoch.epoch.cells c.loop-i.i enough c.loop-i.invariant.cells))
