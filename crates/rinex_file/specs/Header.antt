@@ -12,8 +12,9 @@ use Rattle.gnss_obs.specs.declared.civil.Civil.{Civil}
 use Rattle.gnss_obs.specs.Dates.{civil_of}
 use Rattle.gnss_obs.specs.Values.{PlanValue, planned_of}
 use Rattle.rinex_file.specs.declared.header.fields.HeaderField.{HeaderField}
+use Rattle.rinex_file.specs.declared.header.fields.HeaderField.TheVariants.{RunBy, Comment, Marker, MarkerNumber, MarkerType}
+use Rattle.rinex_file.specs.declared.header.fields.HeaderField.TheVariants.{Observer, RecNumber, AntNumber}
 use Rattle.rinex_file.specs.declared.header.rows.HeaderRow.{HeaderRow}
-use Rattle.rinex_file.specs.declared.header.rows.TheConstants.{ROWS}
 use Rattle.rinex_file.specs.declared.header.rows.HeaderRow.TheVariants.{Version, Texts, Position, Delta, Types}
 use Rattle.rinex_file.specs.declared.header.rows.HeaderRow.TheVariants.{StrengthUnit, Interval, First, Shift, Slots, Biases, End}
 use Rattle.rinex_fields.specs.HeaderLine.{header_line}
@@ -201,9 +202,17 @@ is_optional other = false
 abbrev pub row_lines : Shown → HeaderRow → List (List ℕ)
 row_lines h row = if has_line h row then row_line h row ∷ [] else []
 
--- the rows in order
+-- the types of a system, in one to six lines
+abbrev pub rows_of_types : System → List HeaderRow
+rows_of_types s = Types s 0 ∷ Types s 1 ∷ Types s 2 ∷ Types s 3 ∷ Types s 4 ∷ Types s 5 ∷ []
+
+-- the rows in order: RINEX 3.05, table A2
 abbrev pub all_rows : List HeaderRow
-all_rows = ROWS.now
+all_rows =
+    Version ∷ Texts RunBy ∷ Texts Comment ∷ Texts Marker ∷ Texts MarkerNumber ∷ Texts MarkerType ∷ Texts Observer
+    ∷ Texts RecNumber ∷ Texts AntNumber ∷ Position ∷ Delta
+    ∷ (flat_map rows_of_types systems ++ (StrengthUnit ∷ Interval ∷ First
+    ∷ (map Shift systems ++ (Slots 0 ∷ Slots 1 ∷ Slots 2 ∷ Slots 3 ∷ Biases ∷ End ∷ []))))
 
 abbrev pub row_count : ℕ
 row_count = length all_rows
