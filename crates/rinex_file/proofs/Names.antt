@@ -6,6 +6,7 @@ pub use Rattle.gnss_obs.proofs.PlanLemmas.{any_index, few_signals, indices-push,
 pub use Rattle.gnss_obs.specs.Channels.{AreChannels, ChannelsValue, most_number, no_channels, slot_count, with_number}
 pub use Rattle.gnss_obs.specs.Dates.{IsCivilOf, civil_of}
 pub use Rattle.gnss_obs.specs.GatheredEpochs.{AreGathered, AreGatheredEpochs, AreStationValues, IsCoordinate, IsGathered, IsGatheredEpoch, TimesRise, same_place}
+pub use Rattle.gnss_obs.specs.Intervals.{IsInterval}
 pub use Rattle.gnss_obs.specs.Plans.{place_in}
 pub use Rattle.gnss_system.specs.Satellites.{letter, most_satellites, number_of, satellites}
 pub use Rattle.gnss_system.specs.Systems.{index_of, is_system, systems}
@@ -32,7 +33,7 @@ pub use Rattle.rinex_file.specs.Exact.{AreBefore, ExplainsFault, IsCutShort, IsE
 unfoldable pub use Rattle.rinex_file.specs.File.{epoch_text, event_line, event_text, line_among, shown_text, lines_up_to}
 pub use Rattle.rinex_file.specs.File.{shown_of, change_lines, change_text, header_text, closed_text, event_lines, file_lines, file_text, gathered, line_or_none, lines_of_parts, stamped_lines}
 pub use Rattle.rinex_file.specs.File.{lines_of_systems}
-pub use Rattle.rinex_file.specs.FileValues.{IsInterval, AreChanges, AreSatelliteRows, AreSignalValues, AreTexts, AreValues, FitsColumns, HaveRoom, IsChange, IsFileValue, IsFirstSame, IsFrom, IsPlan, IsRow, IsSatelliteRow, IsStamped, IsText, IsTime, changed_by, has_some_value, most_rows, planned_in, rank_of, time_stamped, values_following}
+pub use Rattle.rinex_file.specs.FileValues.{AreChanges, AreSatelliteRows, AreSignalValues, AreTexts, AreValues, FitsColumns, HaveRoom, IsChange, IsFileValue, IsFirstSame, IsFrom, IsPlan, IsRow, IsSatelliteRow, IsStamped, IsText, IsTime, changed_by, has_some_value, most_rows, planned_in, rank_of, time_stamped, values_following}
 pub use Rattle.rinex_file.specs.Gathered.{AreSignals, HasSatellite}
 unfoldable pub use Rattle.rinex_file.specs.Header.{header_lines, row_line}
 unfoldable pub use Rattle.rinex_fields.specs.HeaderLine.{header_line}

@@ -12,6 +12,7 @@ use Rattle.gnss_system.specs.Signals.{table}
 use Rattle.gnss_obs.specs.declared.cell.StationValues.{StationValues}
 use Rattle.gnss_obs.specs.GatheredEpochs.{IsCoordinate}
 use Rattle.gnss_obs.specs.Channels.{AreChannels, no_channels}
+use Rattle.gnss_obs.specs.Intervals.{IsInterval}
 use Rattle.gnss_obs.specs.Values.{PlanValue, planned_of}
 use Rattle.gnss_obs.specs.Weeks.{week, weeks}
 use Rattle.rinex_file.specs.declared.header.fields.HeaderField.{HeaderField}
@@ -49,10 +50,6 @@ pub record AreValues (v : StationValues) : Type 0 where
   pub y : IsCoordinate v.y
   pub z : IsCoordinate v.z
   pub height : v.height < 2 ^ 16
-
--- an interval in milliseconds: at most a day
-abbrev pub IsInterval : ℕ → Type 0
-IsInterval interval = (1 ≤ interval) × (interval ≤ 86_400_000)
 
 abbrev pub IsTime : ℕ → Type 0
 IsTime t = t < weeks * week

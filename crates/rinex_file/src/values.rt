@@ -7,7 +7,7 @@ ghost use Rattle.rinex_file.specs.ParserState.{events_in};
 use crate::header::texts::HeaderTexts;
 use crate::read::file::Counts;
 use arrayvec::ArrayVec;
-use gnss_obs::{GpsTime, Plan, StationValues, System, Thousandths};
+use gnss_obs::{GpsTime, Interval, Plan, StationValues, System, Thousandths};
 use gnss_system::MOST_SIGNALS;
 use std::marker::Model;
 
@@ -96,7 +96,7 @@ impl Model for StoredEpoch {
 #[derive(Drop)]
 pub struct ObsFile {
     pub(crate) texts: HeaderTexts,
-    pub(crate) interval: Option<u32>,
+    pub(crate) interval: Option<Interval>,
     pub(crate) plan: Plan,
     pub(crate) values: StationValues,
     pub(crate) epochs: Vec<StoredEpoch>,
@@ -125,8 +125,8 @@ impl ObsFile {
         &self.texts
     }
 
-    /// Returns the interval of the observations in milliseconds, if the header has one.
-    pub fn interval(&self) -> Option<u32>
+    /// Returns the interval of the observations, if the header has one.
+    pub fn interval(&self) -> Option<Interval>
         ensures { result ≡ self.now.interval }
     {
         self.interval

@@ -65,7 +65,7 @@ static ROWS: [(&str, &str, &str); 8] = [
 /// Intervals that are read.
 static INTERVALS: [&str; 4] = [
     "\
-\x20    0.001                                                  INTERVAL            \n",
+\x20    0.100                                                  INTERVAL            \n",
     "\
 \x20    0.500                                                  INTERVAL            \n",
     "\
@@ -75,7 +75,7 @@ static INTERVALS: [&str; 4] = [
 ];
 
 /// Rows that are refused, each with the number of the refused line.
-static REFUSED: [((&str, &str, &str), u64); 13] = [
+static REFUSED: [((&str, &str, &str), u64); 15] = [
     // a blank comment
     (
         (
@@ -164,6 +164,26 @@ a                                                           COMMENT             
             "",
             "\
 \x2086400.001                                                  INTERVAL            \n",
+        ),
+        12,
+    ),
+    // one shorter than 0.1 s
+    (
+        (
+            "",
+            "",
+            "\
+\x20    0.096                                                  INTERVAL            \n",
+        ),
+        12,
+    ),
+    // one that is no divisor of a day
+    (
+        (
+            "",
+            "",
+            "\
+\x20    7.000                                                  INTERVAL            \n",
         ),
         12,
     ),

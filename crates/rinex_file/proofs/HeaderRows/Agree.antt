@@ -3,7 +3,8 @@ use Rattle.std.proofs.lemmas.Grind.{flat_map-append}
 use Rattle.rinex_fields.proofs.NumberLemmas.{number_in-fixed, digits_in-right, digits_in-fixed, length-fixed, length-right, length-sign}
 use Rattle.rinex_file.proofs.Reading.Dates.{IsField, AreFields, field_at}
 use Rattle.rinex_file.proofs.HeaderRows.Types.{content_first}
-use Rattle.rinex_file.proofs.Names.{arith, ◌≡◌, ◌∙◌, refl, sym, ap, ℕ, ◌+◌, ◌/◌, ◌<◌, ◌≤◌, ◌^◌, List, [], ◌∷◌, ◌++◌, length, take, drop, append-nil, length-append, Bool, true, false, ℤ, pos, unsigned_abs, suc, lit<, ◌==◌, codes, if◌then◌else◌, flat_map, slice_get, unwrap_or, is_negative, digits, ints, take_more, take-append-drop, drop-cons, System, passes_at, is_equal, planned_of, joined, right, fixed, digits_in, number_in, header_line, lengths, height_line, row_line, row_lines, has_line, header_lines, all_rows, row_count, row_at, row_place, lines_after, type_rows, version_by, Shown, lines_before, IsShown, AreTypes, types_line, IsCoordinate, End, Types, HeaderRow, drop-append-le, lt-ltb, interval_line}
+use Rattle.std.proofs.Math.Nat.{mod-eq_of_lt}
+use Rattle.rinex_file.proofs.Names.{IsInterval, arith, ◌≡◌, ◌∙◌, refl, sym, ap, ℕ, ◌+◌, ◌/◌, ◌<◌, ◌≤◌, ◌^◌, List, [], ◌∷◌, ◌++◌, length, take, drop, append-nil, length-append, Bool, true, false, ℤ, pos, unsigned_abs, suc, lit<, ◌==◌, codes, if◌then◌else◌, flat_map, slice_get, unwrap_or, is_negative, digits, ints, take_more, take-append-drop, drop-cons, System, passes_at, is_equal, planned_of, joined, right, fixed, digits_in, number_in, header_line, lengths, height_line, row_line, row_lines, has_line, header_lines, all_rows, row_count, row_at, row_place, lines_after, type_rows, version_by, Shown, lines_before, IsShown, AreTypes, types_line, IsCoordinate, End, Types, HeaderRow, drop-append-le, lt-ltb, interval_line}
 
 -- ---- version
 
@@ -57,6 +58,9 @@ height-back h small =
     let (rest, shape) = content_first (joined (f ∷ none ∷ none ∷ [])) (codes "ANTENNA: DELTA H/E/N") in
     let zero = is_height 0 (lit< tt) in
     ap (λ l. digits_in (take 14 (drop 0 l))) shape ∙ field_at digits_in (f ∷ none ∷ none ∷ []) ((14, h) ∷ (14, 0) ∷ (14, 0) ∷ []) 0 (0, 0) rest (is_height h small, (zero, (zero, tt))) (lit< tt)
+
+pub at_most_a_day : (n : ℕ) → IsInterval n → n ≤ 86_400_000
+at_most_a_day n is = grind (arith, mod-eq_of_lt)
 
 -- an interval is read back from its line
 pub interval-back : (n : ℕ) → n ≤ 86_400_000 → digits_in (take 10 (drop 0 (interval_line n))) ≡ n

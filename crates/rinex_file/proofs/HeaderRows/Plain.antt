@@ -3,6 +3,7 @@ use Rattle.gnss_system.specs.declared.tables.ListedSignal.{ListedSignal as Table
 use Rattle.gnss_obs.specs.Weeks.{day as day_length}
 use Rattle.gnss_obs.proofs.WalkLemmas.{date_of_is}
 use Rattle.gnss_obs.specs.Dates.{IsCivil}
+use Rattle.rinex_file.proofs.HeaderRows.Agree.{at_most_a_day}
 use Rattle.rinex_file.proofs.Reading.Epochs.{few_signals_of}
 use Rattle.rinex_file.proofs.HeaderRows.Texts.{at_most, each_field, few_columns}
 use Rattle.rinex_file.proofs.HeaderRows.Slots.{slots_are, slots_room}
@@ -238,7 +239,7 @@ interval_fits n fits = header_fields (right 10 (fixed 3 (pos n)) ∷ []) (codes 
 
 line_of_interval : (interval : Option ℕ) → IfSome interval IsInterval → IsFileLine (interval_line (unwrap_or interval 0))
 line_of_interval None is = interval_fits 0 (lit< tt)
-line_of_interval (Some n) is = interval_fits n (omega (arith, is))
+line_of_interval (Some n) is = let less = at_most_a_day n is in interval_fits n (omega (arith, less))
 
 -- ---- rows
 

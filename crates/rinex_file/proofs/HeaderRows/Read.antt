@@ -1,7 +1,7 @@
 -- What is known after each line of a header.
 use Rattle.rinex_file.specs.Read.HeaderSteps.{AreBegun}
 use Rattle.gnss_system.proofs.SystemLaws.{value_after, value_of_other}
-use Rattle.rinex_file.proofs.HeaderRows.Agree.{interval-back, types_in, types_shown, rows_when}
+use Rattle.rinex_file.proofs.HeaderRows.Agree.{at_most_a_day, interval-back, types_in, types_shown, rows_when}
 use Rattle.rinex_file.proofs.HeaderRows.Slots.{slots_are, slots_go_on, same_after, line_after_same, same_before}
 use Rattle.rinex_file.proofs.HeaderRows.Places.{either, none_of_slots, other_before, own_before, slots_here}
 use Rattle.rinex_file.proofs.HeaderRows.Steps.{left_over, Law, single, present, shows_next, begun_more}
@@ -231,7 +231,7 @@ IntervalIn line r = ReadsExactly IsInterval interval_line line r
 same_interval : (i : Option ℕ) (n : ℕ) (line : List ℕ) → IfSome i IsInterval → IntervalIn line (Some n) → (interval_line (unwrap_or i 0) ≡ line) ↔ (i ≡ Some n)
 same_interval None n line is r = (
   λ e.
-      let zero = sym (interval-back 0 (lit≤ tt)) ∙ ap (λ l. digits_in (take 10 (drop 0 l))) (e ∙ r.1) ∙ interval-back n r.0.1 in
+      let zero = sym (interval-back 0 (lit≤ tt)) ∙ ap (λ l. digits_in (take 10 (drop 0 l))) (e ∙ r.1) ∙ interval-back n (at_most_a_day n r.0) in
       let some = r.0.0 in absurd (omega (arith, zero, some)),
   λ e. cc,
 )

@@ -6,6 +6,7 @@ use Rattle.gnss_system.specs.declared.system.System.{System}
 use Rattle.gnss_system.specs.declared.system.System.TheVariants.{Glonass}
 use Rattle.gnss_obs.specs.declared.cell.StationValues.{StationValues}
 use Rattle.gnss_obs.specs.Channels.{AreChannels, slot_count}
+use Rattle.gnss_obs.specs.Intervals.{IsInterval}
 use Rattle.gnss_obs.specs.Values.{PlanValue, planned_of}
 use Rattle.rinex_file.specs.declared.header.rows.HeaderRow.{HeaderRow}
 use Rattle.rinex_file.specs.declared.header.rows.HeaderRow.TheVariants.{Version, Texts, Position, Delta, Interval, First, Slots}
@@ -17,7 +18,7 @@ use Rattle.rinex_file.specs.declared.header.fields.HeaderField.{HeaderField}
 use Rattle.rinex_file.specs.Value as file
 use Rattle.rinex_file.specs.Value.{SatelliteRow, Stamped, FileValue}
 use Rattle.gnss_obs.specs.GatheredEpochs.{IsCoordinate}
-use Rattle.rinex_file.specs.FileValues.{IsInterval, AreTexts, IsPlan, AreValues, IsTime, IsFileValue}
+use Rattle.rinex_file.specs.FileValues.{AreTexts, IsPlan, AreValues, IsTime, IsFileValue}
 use Rattle.rinex_file.specs.Header.{row_at, row_place, row_count, is_given, first_types, flagged_letter}
 pub use Rattle.rinex_file.specs.Header.{Shown, lines_before, lines_after}
 use Rattle.rinex_file.specs.Header.{most_type_rows, first_slots}

@@ -12,7 +12,7 @@ use crate::header::lines::{
 use crate::header::lists::{slot_rows, slots_in, slots_with, type_rows, types_with};
 use crate::header::rows::{HeaderRow, ROW_COUNT, row_at};
 use crate::header::texts::HeaderTexts;
-use gnss_obs::{BySystem, GpsTime, Plan, StationValues, System};
+use gnss_obs::{BySystem, GpsTime, Interval, Plan, StationValues, System};
 use rinex_fields::{Line, labelled};
 use std::marker::Model;
 
@@ -21,9 +21,8 @@ use std::marker::Model;
 pub struct Head<'a> {
     /// The texts.
     pub texts: &'a HeaderTexts,
-    /// The interval of the observations in milliseconds, 1 to 86,400,000. Without one the header has
-    /// no line for it.
-    pub interval: Option<u32>,
+    /// The interval of the observations. Without one the header has no line for it.
+    pub interval: Option<Interval>,
     /// The signals whose observations the file has.
     pub plan: &'a Plan,
     /// Position and height of the antenna, in 0.0001 m.
@@ -86,7 +85,7 @@ fn line_of(head: &Head, row: HeaderRow) -> Line
             types_with(system, signals.len(), signals, row)
         }
         HeaderRow::StrengthUnit => labelled(UNIT, STRENGTH_UNIT),
-        HeaderRow::Interval => interval_line(head.interval.unwrap_or(0)),
+        HeaderRow::Interval => interval_line(head.interval.unwrap()),
         HeaderRow::First => first_line(head.first),
         HeaderRow::Shift(system) => labelled(&[system.letter()], SHIFT),
         HeaderRow::Slots(row) => {

@@ -9,7 +9,7 @@ ghost use Rattle.rinex_fields.specs.Limits.{label_columns};
 
 use crate::header::fields::HeaderField;
 use crate::header::texts::HeaderTexts;
-use gnss_obs::{GpsTime, StationValues};
+use gnss_obs::{GpsTime, Interval, StationValues};
 use gnss_system::{BySystem, SYSTEMS, System};
 use rinex_fields::{Line, labelled, put, put_fixed, put_left, put_seconds, put_whole};
 
@@ -93,12 +93,12 @@ pub(crate) fn delta_line(values: &StationValues) -> Line
     three_lengths(values.height as i64, 0, 0, DELTA)
 }
 
-/// Returns the line with the interval, which is given in milliseconds.
-pub(crate) fn interval_line(interval: u32) -> Line
+/// Returns the line with the interval.
+pub(crate) fn interval_line(interval: Interval) -> Line
     ensures { result.items ≡ interval_line interval }
 {
     let mut content = Line::new();
-    put_fixed(&mut content, 10, 3, 1000, interval as i64);
+    put_fixed(&mut content, 10, 3, 1000, interval.milliseconds() as i64);
     labelled(content.as_slice(), INTERVAL)
 }
 

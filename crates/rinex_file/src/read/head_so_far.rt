@@ -19,7 +19,7 @@ use crate::read::other_lines::{
 use crate::read::parser_state::{Expected, Refusal};
 use crate::read::slots::SlotsSoFar;
 use crate::read::types::TypesSoFar;
-use gnss_obs::{BySystem, GpsTime, StationValues, System};
+use gnss_obs::{BySystem, GpsTime, Interval, StationValues, System};
 use rinex_fields::{Line, put_left, read_labelled};
 use std::alloc::Global;
 use std::marker::Model;
@@ -33,7 +33,7 @@ pub(crate) struct HeadSoFar {
     /// The letter in the first line, or 0 before it is read.
     pub(crate) letter: u8,
     pub(crate) texts: HeaderTexts,
-    pub(crate) interval: Option<u32>,
+    pub(crate) interval: Option<Interval>,
     pub(crate) types: BySystem<TypesSoFar>,
     pub(crate) slots: SlotsSoFar,
     pub(crate) values: StationValues,
@@ -48,7 +48,8 @@ impl Model for HeadSoFar {
     ghost use Rattle.gnss_system.specs.SystemValues.{value_of, map_by};
     ghost use Rattle.rinex_file.specs.Read.Progress.{Known};
     ghost use Rattle.std.specs.Prelude.{IfSome};
-    ghost use Rattle.rinex_file.specs.FileValues.{AreValues, IsTime, IsInterval};
+    ghost use Rattle.rinex_file.specs.FileValues.{AreValues, IsTime};
+    ghost use Rattle.gnss_obs.specs.Intervals.{IsInterval};
 
     ghost Value = { Known };
 

@@ -2,8 +2,9 @@
 //! read without validation, written again and compared.
 ghost use Rattle.std.specs.Prelude.{◌≡◌, ◌≤◌, ◌<◌, ◌^◌, ⊤, ℕ, Some, is_some, take, drop};
 ghost use Rattle.gnss_obs.specs.Dates.{civil_of};
+ghost use Rattle.gnss_obs.specs.Intervals.{IsInterval};
 ghost use Rattle.gnss_obs.specs.GatheredEpochs.{IsCoordinate};
-ghost use Rattle.rinex_file.specs.FileValues.{IsInterval, IsTime};
+ghost use Rattle.rinex_file.specs.FileValues.{IsTime};
 ghost use Rattle.rinex_file.specs.Header.{first_line, height_line, interval_line, position_line, version_by};
 ghost use Rattle.rinex_file.specs.Lines.{epoch_line};
 ghost use Rattle.rinex_fields.specs.Read.{number_in, ReadsExactly};
@@ -17,11 +18,8 @@ use crate::header::lines::{
 use crate::header::texts::HeaderTexts;
 use crate::write::line::epoch_line;
 use gnss_obs::laws::calendar;
-use gnss_obs::{Civil, GREATEST_COORDINATE, GpsTime, LEAST_COORDINATE, StationValues};
+use gnss_obs::{Civil, GREATEST_COORDINATE, GpsTime, Interval, LEAST_COORDINATE, StationValues};
 use rinex_fields::{Line, columns, digits_in, is_same, signed};
-
-/// The longest interval, in milliseconds: a day.
-const LONGEST_INTERVAL: u64 = 86_400_000;
 
 /// Returns the byte in place of the letter of a file's systems, or None for a line that isn't the
 /// first.
@@ -68,12 +66,13 @@ pub(crate) fn read_delta(line: &[u8]) -> Option<u16>
     is_same(line, again.as_slice()).then_some(height)
 }
 
-/// Returns the interval in milliseconds by its line, or None for any other line.
-pub(crate) fn read_interval(line: &[u8]) -> Option<u32>
+/// Returns the interval by its line, or None for any other line.
+pub(crate) fn read_interval(line: &[u8]) -> Option<Interval>
     ensures { ReadsExactly IsInterval interval_line line.now result }
 {
-    // A number that doesn't fit differs from the limit, which is written again.
-    let interval = digits_in(columns(line, 0, 10)).clamp(1, LONGEST_INTERVAL) as u32;
+    // A number that doesn't fit is limited to one that is no interval.
+    let milliseconds = digits_in(columns(line, 0, 10)).min(4_294_967_295) as u32;
+    let interval = Interval::new(milliseconds)?;
     is_same(line, interval_line(interval).as_slice()).then_some(interval)
 }
 

@@ -1,6 +1,6 @@
 -- Each row's line is the one that the row's own function makes; a row that has no line for this plan has none here.
 use Rattle.rinex_file.proofs.HeaderRows.Types.{length-system_types}
-use Rattle.rinex_file.proofs.Names.{◌∙◌, sym, ap, ℕ, [], ◌∷◌, codes, row_line, header_line, version_by, ◌++◌, ◌*◌, indices, length_indices, few_signals, letter, type_front, type_columns, type_line, types_of, codes_of, arith, true, length, ◌≡◌, ◌≤◌, Shown, has_line, is_less, Slots, slot_count, slots_line, slots_of, slots_with, interval_line}
+use Rattle.rinex_file.proofs.Names.{unwrap_or, ◌∙◌, sym, ap, ℕ, [], ◌∷◌, codes, row_line, header_line, version_by, ◌++◌, ◌*◌, indices, length_indices, few_signals, letter, type_front, type_columns, type_line, types_of, codes_of, arith, true, length, ◌≡◌, ◌≤◌, Shown, has_line, is_less, Slots, slot_count, slots_line, slots_of, slots_with, interval_line}
 use Rattle.rinex_file.specs.Heads.{shown_by}
 use Rattle.rinex_file.proofs.header.head.line_of.Goals as goal
 
@@ -51,7 +51,7 @@ returns-in-First c = let h = shown_by c.args.head.now in c.first_line.ensures �
 
 pub returns-in-Interval : goal.returns-in-Interval
 unfolding row_line
-returns-in-Interval c = let h = shown_by c.args.head.now in c.interval_line.ensures ∙ ap interval_line c.unwrap_or.ensures ∙ ap (row_line h) (sym c.in-Interval.is)
+returns-in-Interval c = let h = shown_by c.args.head.now in c.interval_line.ensures ∙ ap (λ o. interval_line (unwrap_or o 0)) (sym c.unwrap.ensures) ∙ ap (row_line h) (sym c.in-Interval.is)
 
 pub returns-in-End : goal.returns-in-End
 unfolding row_line

@@ -1,22 +1,26 @@
 use Rattle.rinex_file.proofs.Judged.{exactly}
-use Rattle.rinex_file.proofs.HeaderRows.Agree.{interval-back}
-use Rattle.rinex_file.proofs.Names.{arith, ◌≡◌, ◌∙◌, ap, ℕ, List, take, drop, IsInterval, interval_line, digits_in, min}
-use Prim.Native.Nat.{max}
+use Rattle.rinex_file.proofs.HeaderRows.Agree.{at_most_a_day, interval-back}
+use Rattle.rinex_file.proofs.Names.{rules, arith, ◌≡◌, ◌∙◌, sym, ap, ℕ, List, take, drop, Option, IsInterval, interval_line, digits_in, min, none-some, same_Some}
+use Rattle.std.specs.Prelude.{IsSome, IfSome, ◌↔◌, Some}
 use Rattle.rinex_file.proofs.read.other_lines.read_interval.Goals as goal
 
 -- the first columns of the line of an interval contain the interval
 there : (line : List ℕ) (n : ℕ) → IsInterval n → line ≡ interval_line n → digits_in (take 10 (drop 0 line)) ≡ n
-there line n is e = ap (λ l. digits_in (take 10 (drop 0 l))) e ∙ interval-back n is.1
+there line n is e = ap (λ l. digits_in (take 10 (drop 0 l))) e ∙ interval-back n (at_most_a_day n is)
 
--- limited to an interval
-in_range : (n interval : ℕ) → interval ≡ max 1 (min n 86_400_000) → IsInterval interval
-in_range n interval is = grind (arith, is)
+-- an interval isn't limited
+same_min : (n limited m : ℕ) → limited ≡ min n 4_294_967_295 → n ≡ m → IsInterval m → limited ≡ m
+same_min n limited m is same fits = let less = at_most_a_day m fits in omega (arith, is, same, less)
 
-same_clamp : (n interval m : ℕ) → interval ≡ max 1 (min n 86_400_000) → n ≡ m → IsInterval m → m ≡ interval
-same_clamp n interval m is same fits = grind (arith, is)
+-- what is made of the number of an interval
+is_made : (r : Option ℕ) (n m : ℕ) → IsSome r ↔ IsInterval n → IfSome r (λ i. i ≡ n) → n ≡ m → IsInterval m → r ≡ Some m
+is_made r n m some value same fits = grind (arith, same)
+
+pub returns-in_err-interval : goal.returns-in_err-interval
+returns-in_err-interval c = rw c.from_residual.ensures (λ m fits e. none-some m (sym c.in_err-interval.was ∙ is_made _ _ m c.new.ensures.some c.new.ensures.value (same_min _ _ m c.min-milliseconds.ensures (c.digits_in.ensures.value ∙ ap digits_in c.columns.ensures.value ∙ there c.args.line.now m fits e) fits) fits))
 
 pub returns : goal.returns
 returns c =
-    exactly IsInterval interval_line c.clamp-interval.result c.then_some.ensures (in_range _ c.clamp-interval.result c.clamp-interval.ensures)
-    (λ m fits e. same_clamp _ _ m c.clamp-interval.ensures (c.digits_in.ensures.value ∙ ap digits_in c.columns.ensures.value ∙ there c.args.line.now m fits e) fits)
+    exactly IsInterval interval_line c.in_ok-interval.interval c.then_some.ensures (search rules)
+    (λ m fits e. same_Some m c.in_ok-interval.interval (sym (is_made _ _ m c.new.ensures.some c.new.ensures.value (same_min _ _ m c.min-milliseconds.ensures (c.digits_in.ensures.value ∙ ap digits_in c.columns.ensures.value ∙ there c.args.line.now m fits e) fits) fits) ∙ c.in_ok-interval.was))
     (c.as_slice.ensures.value ∙ c.interval_line.ensures) c.is_same.ensures
