@@ -1,5 +1,6 @@
 //! The choice of epochs by their times.
-ghost use Rattle.std.specs.Prelude.{◌≡◌, if◌then◌else◌};
+ghost use Rattle.std.specs.Prelude.{◌≡◌, IfSome, if◌then◌else◌};
+ghost use Rattle.gnss_obs.specs.Intervals.{IsInterval};
 ghost use Rattle.obs_epoch.specs.Choices.{every_epoch, in_window, is_chosen, on_grid};
 ghost use Rattle.obs_epoch.specs.Marks.{counted_epoch};
 
@@ -22,6 +23,17 @@ pub struct Choice {
 }
 
 impl Choice {
+    /// Returns the interval in milliseconds, if there is one.
+    pub fn milliseconds(&self) -> Option<u32>
+        ensures value { result ≡ self.now.interval }
+        ensures bound { IfSome result IsInterval }
+    {
+        match self.interval {
+            None => None,
+            Some(interval) => Some(interval.milliseconds()),
+        }
+    }
+
     /// Returns whether the epoch of this time is in the window.
     pub fn window_includes(&self, time: GpsTime) -> bool
         ensures { result ≡ in_window self.now time }

@@ -7,7 +7,7 @@ use Rattle.rinex_file.proofs.Rows.Sizes.{few_satellites, if_fits}
 use Rattle.rinex_file.proofs.Rows.Cells.{found_as}
 use Rattle.rinex_file.proofs.FewRows.{rise-tail}
 use Rattle.rinex_file.proofs.Writing.Sent.{length-rows}
-use Rattle.rinex_file.proofs.Names.{common_steps, ◌≡◌, ℕ, zero, suc, ◌+◌, ◌*◌, ◌<◌, ◌≤◌, ◌==◌, Bool, true, false, ◌||◌, ◌&&◌, List, [], ◌∷◌, ◌++◌, map, length, get_or, refl, sym, ap, ◌∙◌, subst, arith, Option, Some, None, is_some, inl, inr, if◌then◌else◌, find, IsTrue, Any, All, option_map_or, AllByRecursion, IsDistinct, IsStrictlyIncreasing, and_parts, eqb-true, cases_Bool, map-append, flat_map-append, append-nil, flat_map, take, get_or-map, length-map, All-from_recursion, All-nil, All-cons, All-head, All-tail, All-append, All-push, All-map, All-weaker, All-filter, All-replicate, filter_passes, IsStrictlyIncreasing-filter, map-map, position-Some, System, Gps, Cell, PlanValue, EpochValue, Closed, same_values, cells_of, planned_of, has_value, is_written, place_in, IsGathered, AreGathered, IsGatheredEpoch, AreGatheredEpochs, TimesRise, AreStationValues, same_place, Decides-int_eq, StationValues, HeaderLists, numbers, written_satellites, no_signal_values, signal_values_of, is_of_key, signal_values_at, row_of, row_among, row_in_epoch, rows_of, change_from, stamped_after, all_stamped, AreTexts, AreValues, has_some_value, AreSignalValues, IsRow, planned_in, rank_of, IsSatelliteRow, IsStamped, IsChange, AreChanges, changed_by, time_stamped, IsFileValue, gathered, AreSignals, HasSatellite}
+use Rattle.rinex_file.proofs.Names.{common_steps, ◌≡◌, ℕ, zero, suc, ◌+◌, ◌*◌, ◌<◌, ◌≤◌, ◌==◌, Bool, true, false, ◌||◌, ◌&&◌, List, [], ◌∷◌, ◌++◌, map, length, get_or, refl, sym, ap, ◌∙◌, subst, arith, Option, Some, None, is_some, inl, inr, if◌then◌else◌, find, IsTrue, Any, All, option_map_or, AllByRecursion, IsDistinct, IsStrictlyIncreasing, and_parts, eqb-true, cases_Bool, map-append, flat_map-append, append-nil, flat_map, take, get_or-map, length-map, All-from_recursion, All-nil, All-cons, All-head, All-tail, All-append, All-push, All-map, All-weaker, All-filter, All-replicate, filter_passes, IsStrictlyIncreasing-filter, map-map, position-Some, System, Gps, Cell, PlanValue, EpochValue, Closed, same_values, cells_of, planned_of, has_value, is_written, place_in, IsGathered, AreGathered, IsGatheredEpoch, AreGatheredEpochs, TimesRise, AreStationValues, same_place, Decides-int_eq, StationValues, HeaderLists, numbers, written_satellites, no_signal_values, signal_values_of, is_of_key, signal_values_at, row_of, row_among, row_in_epoch, rows_of, change_from, stamped_after, all_stamped, AreTexts, AreValues, has_some_value, AreSignalValues, IsRow, planned_in, rank_of, IsSatelliteRow, IsStamped, IsChange, AreChanges, changed_by, time_stamped, IsFileValue, gathered, AreSignals, HasSatellite, IsInterval, IfSome}
 
 -- ---- numbers in ascending order
 
@@ -209,13 +209,13 @@ changes_are : (plan : PlanValue) (v : StationValues) (es : List Closed) → AllB
 changes_are plan v [] h = tt
 changes_are plan v (e ∷ es) h = grind (arith, changes, (changes_are plan e.values es h.1))
 
-pub gathered_file : (texts : HeaderLists) (plan : PlanValue) (e : Closed) (es : List Closed) → AreTexts texts → AreSignals plan → AreGatheredEpochs plan (e ∷ es)
-    → AllByRecursion HasSatellite (e ∷ es) → IsFileValue (gathered texts plan e.values (e ∷ es))
-gathered_file texts plan e es x p h some =
+pub gathered_file : (texts : HeaderLists) (interval : Option ℕ) (plan : PlanValue) (e : Closed) (es : List Closed) → AreTexts texts → IfSome interval IsInterval → AreSignals plan → AreGatheredEpochs plan (e ∷ es)
+    → AllByRecursion HasSatellite (e ∷ es) → IsFileValue (gathered texts interval plan e.values (e ∷ es))
+gathered_file texts interval plan e es x i p h some =
     let seen = all_seen plan e h.each.0 systems 0 (row_in_epoch plan e.epoch Gps 0) (subst (λ n. 0 < n) (sym (length-rows plan e.epoch)) some.0) in
     record {
       texts = x;
-      interval = tt;
+      interval = i;
       plan = record { listed = p.listed; apart = p.apart; some = (_, seen.planned); channels = p.channels; unplanned = p.unplanned };
       values = values_fit e.values h.each.0.values;
       some = omega arith;

@@ -18,10 +18,10 @@ use Rattle.rinex_fields.specs.Numbers.{joined}
 unfoldable pub shown_text : Shown → List ℕ
 shown_text h = joined (header_lines h)
 
--- the header without an interval of a file whose first epoch is at this time
-abbrev pub header_text : HeaderLists → PlanValue → StationValues → ℕ → List ℕ
-header_text texts plan values first =
-    shown_text (record { texts = texts; interval = None; plan = plan; values = values; first = first })
+-- the header of a file whose first epoch is at this time, with an interval if there is one
+abbrev pub header_text : HeaderLists → Option ℕ → PlanValue → StationValues → ℕ → List ℕ
+header_text texts interval plan values first =
+    shown_text (record { texts = texts; interval = interval; plan = plan; values = values; first = first })
 
 -- the first line of an event: flag 4 without a time, and 2, the number of header lines that follow
 unfoldable pub event_line : List ℕ
@@ -94,12 +94,12 @@ closed_text plan before (c ∷ cs) =
     change_text before c.values ++ (epoch_text plan c.epoch ++ closed_text plan c.values cs)
 
 -- the file value of epochs that were closed, with these station values in the header
-abbrev pub gathered : HeaderLists → PlanValue → StationValues → List Closed → FileValue
-gathered texts plan values epochs =
-    file_with texts None plan values (all_stamped plan values epochs)
+abbrev pub gathered : HeaderLists → Option ℕ → PlanValue → StationValues → List Closed → FileValue
+gathered texts interval plan values epochs =
+    file_with texts interval plan values (all_stamped plan values epochs)
 
 -- The header of the first epoch and the text of each epoch after it are the text of the file of these epochs.
-abbrev pub IsTextInParts : HeaderLists → PlanValue → StationValues → Closed → List Closed → Type 0
-IsTextInParts texts plan values c cs =
-    header_text texts plan values c.epoch.time
-    ++ closed_text plan values (c ∷ cs) ≡ file_text (gathered texts plan values (c ∷ cs))
+abbrev pub IsTextInParts : HeaderLists → Option ℕ → PlanValue → StationValues → Closed → List Closed → Type 0
+IsTextInParts texts interval plan values c cs =
+    header_text texts interval plan values c.epoch.time
+    ++ closed_text plan values (c ∷ cs) ≡ file_text (gathered texts interval plan values (c ∷ cs))

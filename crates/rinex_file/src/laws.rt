@@ -1,5 +1,5 @@
 //! Laws of the text of a file.
-ghost use Rattle.std.specs.Prelude.{◌≡◌, ◌≢◌, ℕ, List, []};
+ghost use Rattle.std.specs.Prelude.{◌≡◌, ◌≢◌, ℕ, List, [], Option};
 ghost use Rattle.gnss_obs.specs.declared.cell.StationValues.{StationValues};
 ghost use Rattle.gnss_obs.specs.Values.{PlanValue, Closed};
 ghost use Rattle.rinex_file.specs.Texts.{HeaderLists};
@@ -14,14 +14,14 @@ use gnss_obs::Plan;
 /// each epoch in turn, after an event if its station values differ from those before.
 pub fn file()
     // The text of epochs that were gathered under a plan is the text of their file value.
-    ensures text { (texts : HeaderLists) (plan : PlanValue) (values : StationValues) (c : Closed) (cs : List Closed)
-        → IsTextInParts texts plan values c cs }
+    ensures text { (texts : HeaderLists) (interval : Option ℕ) (plan : PlanValue) (values : StationValues) (c : Closed)
+        (cs : List Closed) → IsTextInParts texts interval plan values c cs }
     // Without an epoch the file is empty.
-    ensures none { (texts : HeaderLists) (plan : PlanValue) (values : StationValues)
-        → file_text (gathered texts plan values []) ≡ [] }
+    ensures none { (texts : HeaderLists) (interval : Option ℕ) (plan : PlanValue) (values : StationValues)
+        → file_text (gathered texts interval plan values []) ≡ [] }
     // A header isn't empty.
-    ensures some { (texts : HeaderLists) (plan : PlanValue) (values : StationValues) (first : ℕ)
-        → header_text texts plan values first ≢ [] }
+    ensures some { (texts : HeaderLists) (interval : Option ℕ) (plan : PlanValue) (values : StationValues) (first : ℕ)
+        → header_text texts interval plan values first ≢ [] }
 {}
 
 /// Epochs that are gathered from messages that were read make a file value, so their text can be

@@ -1,5 +1,5 @@
 -- The end of a stream.
-use Rattle.rtcm_convert.proofs.ExactLemmas.{tally_whole, whole_epochs, epochs_few, outcomes_length}
+use Rattle.rtcm_convert.proofs.ExactLemmas.{counts_whole, tally_whole, whole_epochs, epochs_few, outcomes_length}
 use Rattle.rtcm_convert.proofs.PartLemmas.{goes_on-trans, breaks_off-after, breaks_off-before, up_to_whole}
 use Rattle.rtcm_convert.proofs.StreamLemmas.{files_self, so_far-front}
 use Rattle.rtcm_convert.proofs.Names.{◌≡◌, ℕ, List, ◌++◌, true, false, sym, ap, subst, ◌∙◌, Option, append-nil, [], arith, length, ◌*◌, ◌≤◌, most_bytes, Device, HasFailed, IsPrefix, Framed, frames_of, decided_frames, IsDrained, known_frames, PassesKnown, BreaksKnown, HasPassedAll, HasBroken, FramerValue, SetupValue, so_far, file, epochs_in, AppendsBetween, AppendsPrefixBetween, HasFiledFrames, FiledStays, FiledGrows, WrittenStays, WrittenGrows, outcomes, EndsFile, BreaksInRest, BreaksAtEndOf, EndsBytes, Drained, Files, BreaksFiling, AppendsPrefixOfRest, FileWriter}
@@ -41,12 +41,13 @@ module _ {W : Type 0} {c : W → Option (List ℕ)} {v v' : FramerValue} {w w' :
         over = after;
         out = goes_on-trans p.1 q.0;
         epochs = q.1 ∙ whole_epochs (epochs_in s (frames_of bytes)) (length (frames_of bytes)) (length bytes) (epochs_few s (frames_of bytes)) (few bytes) (within v w s bytes d);
+        counts = q.2 ∙ counts_whole s (frames_of bytes) (length bytes) (few bytes) (within v w s bytes d);
         tally = tally ∙ p.0.tally ∙ tally_whole (outcomes s (frames_of bytes)) (length bytes) p.0.few (subst (λ (k : ℕ). 6 * k ≤ length bytes) (sym n) (few bytes)) (within v w s bytes d);
         taken = taken ∙ t;
         within = omega (arith, t, l, limit);
         drained = subst (λ (l : List Framed). IsDrained v' bytes l) (ap (λ h. known_frames h bytes) after) a.drained;
         counted = a.counted;
-        gathered = q.2;
+        gathered = q.3;
       }
 
   -- a prefix of it was written

@@ -1,6 +1,13 @@
 -- No count of a stream reaches the greatest number that is counted: a frame has at least six bytes and at most 64
 -- cells.
 use Rattle.rtcm_msg.specs.declared.view.Form.TheVariants as forms
+use Rattle.obs_epoch.specs.declared.choice.Choice.{Choice}
+use Rattle.obs_epoch.specs.Choices.{in_window, is_chosen, on_grid}
+use Rattle.obs_epoch.specs.GathererHistory.{whole_list}
+use Rattle.obs_epoch.specs.Marks.{capped_counts}
+use Rattle.obs_epoch.specs.Thinning.{has_satellite, marked_after, thin, thin_after}
+use Rattle.rtcm_convert.specs.Converted.{epoch_counts}
+use Rattle.gnss_obs.specs.Values.{Closed}
 use Rattle.rtcm_convert.proofs.Names.{common_steps, ◌≡◌, ◌||◌, ℕ, ◌+◌, ◌*◌, ◌≤◌, most_bytes, List, [], ◌∷◌, ◌++◌, Bool, true, false, refl, sym, ap, subst, arith, rules, length, length-append, add-zero, suc, zero, nat_lt, Option, Some, None, is_some, LockField, Df402, Df407, count_by, filter, filter_map, if◌then◌else◌, zip, option_map_or, length-map, length-filter, count_by-le-length, System, uint, Framed, Message, Entry, MasksValue, MsmValue, AreMasks, IsMessage, chosen, cell_pairs, all_pairs, entries, entry_in, Kind, GatherSetup, Heard, heard, heard_by, ChannelsValue, heard_msm, is_own, unlisted_in, HeardCell, Timed, timed, timed_after, taken_at, is_late, is_past, time_of, times, counts_of, counts_of_message, no_counts, with_skipped, is_planned, offered, kind_of, kind_at, all_epochs, closed_at, satellites_written, SetupValue, messages_of, message_of, epochs_in, outcomes_after, capped, capped_tally, sum_of_counts, tally_of, tally_of_one, IsFew, AreFew, Report, CellCounts}
 use Rattle.rtcm_msg.specs.declared.message.Message.TheVariants as message
 use Rattle.obs_epoch.specs.declared.taken.Kind.TheVariants as kind
@@ -142,13 +149,41 @@ timed_length s earlier (m ∷ ms) =
     let b : length (earlier ++ x ∷ []) ≡ length earlier + 1 = length-append earlier (x ∷ []) in
     omega (arith, a, b)
 
-pub epochs_few : (s : SetupValue) (fs : List Framed) → epochs_in s fs ≤ length fs
-epochs_few s fs =
+-- no more epochs are returned than there are
+thin_few : (c : Choice) (earlier es : List Closed) → length (thin_after c earlier es) ≤ length es
+thin_few c earlier [] = omega arith
+thin_few c earlier (e ∷ es) = by (is_chosen c e.epoch.time) (thin_few c (earlier ++ e ∷ []) es) where
+  by : (b : Bool) → length (thin_after c (earlier ++ e ∷ []) es) ≤ length es → length ((if b then marked_after c earlier e ∷ [] else []) ++ thin_after c (earlier ++ e ∷ []) es) ≤ suc (length es)
+  by true h = omega (arith, h)
+  by false h = omega (arith, h)
+
+whole_few : (s : SetupValue) (fs : List Framed) → length (whole_list s.gather (messages_of s fs)) ≤ length fs
+whole_few s fs =
     let ms = messages_of s fs in
     let g = s.gather in
-    let all = all_epochs g ms in
-    let written = length-filter (λ e. nat_lt 0 (satellites_written e.epoch)) all in
-    omega (arith, written, count_by-le-length (λ e. nat_lt 0 (satellites_written e.epoch)) all, length-map (times (timed g ms)) (closed_at g ms), times_few (timed g ms), timed_length g [] ms, filter_map_few (message_of s) fs)
+    omega (arith, length-map (times (timed g ms)) (closed_at g ms), times_few (timed g ms), timed_length g [] ms, filter_map_few (message_of s) fs)
+
+some_few : {A : Type 0} (p : A → Bool) (xs : List A) → length (filter p xs) ≤ length xs
+some_few p xs = let a = length-filter p xs in omega (arith, a, count_by-le-length p xs)
+
+pub epochs_few : (s : SetupValue) (fs : List Framed) → epochs_in s fs ≤ length fs
+epochs_few s fs =
+    let es = whole_list s.gather (messages_of s fs) in
+    omega (arith, some_few (λ e. nat_lt 0 (satellites_written e.epoch)) (thin s.gather.choice es), thin_few s.gather.choice [] es, whole_few s fs)
 
 pub whole_epochs : (n k most : ℕ) → n ≤ k → 6 * k ≤ most → most ≤ most_bytes → capped n ≡ n
 whole_epochs n k most a b c = omega arith
+
+pub counts_whole : (s : SetupValue) (fs : List Framed) (most : ℕ) → 6 * length fs ≤ most → most ≤ most_bytes → capped_counts (epoch_counts s fs) ≡ epoch_counts s fs
+counts_whole s fs most short small =
+    let es = whole_list s.gather (messages_of s fs) in
+    let c = s.gather.choice in
+    let valued = filter has_satellite es in
+    let n : length valued ≤ length fs = omega (arith, some_few has_satellite es, whole_few s fs) in
+    let w : length (filter (λ e. in_window c e.epoch.time) valued) ≤ length fs = omega (arith, some_few (λ (e : Closed). in_window c e.epoch.time) valued, n) in
+    let g : length (filter (λ e. on_grid c e.epoch.time) valued) ≤ length fs = omega (arith, some_few (λ (e : Closed). on_grid c e.epoch.time) valued, n) in
+    λ i. record {
+      epochs = whole_epochs (length valued) (length fs) most n short small i;
+      window = whole_epochs (length (filter (λ e. in_window c e.epoch.time) valued)) (length fs) most w short small i;
+      grid = whole_epochs (length (filter (λ e. on_grid c e.epoch.time) valued)) (length fs) most g short small i;
+    }

@@ -1,9 +1,11 @@
 -- The faults of a call, by the results that it never has.
-use Rattle.rtcm_convert.proofs.Names.{arith, ◌≡◌, ℕ, Bool, true, false, sym, ap, subst, ◌∙◌, inl, inr, Result, Ok, Err, IfErr, false≢true, IsErrAnd, IsErrOf, OnErr, OnOk, Device, HasFailed, FailsToWrite, FailsWithWriter, IsSetupFault, IsPiecesFault, IsRunFault, Fault, BadSetup, Memory, Read, TooLong, Write, NoEpoch, ⊤}
+use Rattle.obs_epoch.specs.declared.choice.EpochCounts.{EpochCounts}
+use Rattle.rtcm_convert.proofs.Names.{arith, ◌≡◌, ℕ, Bool, true, false, sym, ap, subst, ◌∙◌, inl, inr, Result, Ok, Err, IfErr, false≢true, IsErrAnd, IsErrOf, OnErr, OnOk, Device, HasFailed, FailsToWrite, FailsWithWriter, IsSetupFault, IsPiecesFault, IsRunFault, Fault, BadSetup, Memory, Read, TooLong, Write, NoEpoch, NoneChosen, ⊤}
 use Rattle.std.proofs.lemmas.Grind.{common_steps}
 
 abbrev pub of_finish : Fault → Bool
 of_finish NoEpoch = true
+of_finish (NoneChosen counts) = true
 of_finish Write = true
 of_finish _ = false
 
@@ -18,13 +20,15 @@ of_run fault = of_pieces fault
 pub pieces_known : (f : Fault) → IsPiecesFault f → of_pieces f ≡ true
 pieces_known f (inl e) = ap of_pieces e
 pieces_known f (inr (inl e)) = ap of_pieces e
-pieces_known f (inr (inr e)) = ap of_pieces e
+pieces_known f (inr (inr (inl p))) = ap of_pieces p.1
+pieces_known f (inr (inr (inr e))) = ap of_pieces e
 
 pub run_known : (f : Fault) → IsRunFault f → of_run f ≡ true
 run_known f (inl e) = ap of_run e
 run_known f (inr (inl e)) = ap of_run e
 run_known f (inr (inr (inl e))) = ap of_run e
-run_known f (inr (inr (inr e))) = ap of_run e
+run_known f (inr (inr (inr (inl p)))) = ap of_run p.1
+run_known f (inr (inr (inr (inr e)))) = ap of_run e
 
 pub not_err : {A E : Type 0} (x : A) (e : E) → Ok x ≡ Err e → ⊥
 not_err x e h = absurd cc
@@ -58,3 +62,13 @@ writer_after r old mid new e w d = grind (arith, common_steps)
 
 pub fails_after : {T A : Type 0} (r : Result A Fault) (old mid new : Device T) → ⊤ × (mid.failures ≡ old.failures) × (mid.widest ≡ old.widest) → FailsToWrite r mid new → FailsToWrite r old new
 fails_after r old mid new e d = (d.0, (subst (λ (n : ℕ). OnErr r (HasFailed n new.failures)) e.1 d.1.0, subst (λ (n : ℕ). OnOk r (new.failures ≡ n)) e.1 d.1.1, d.1.2 ∙ e.2))
+
+-- what is known of the fault of a call holds for the one that it returned
+pub fault_given : {A : Type 0} (P : Fault → Type 0) (r : Result A Fault) (fault : Fault) → IsErrOf r fault → IfErr r P → P fault
+fault_given P (Ok x) fault is h = absurd (not_err x fault is)
+fault_given P (Err f) fault is h = let same : f ≡ fault = cc in subst P same h
+
+-- no file was made with a bad setup
+pub setup_never : (f : Fault) → IsSetupFault f → (counts : EpochCounts) → f ≡ NoneChosen counts → ⊥
+setup_never f (inl e) counts is = absurd cc
+setup_never f (inr e) counts is = absurd cc

@@ -1,6 +1,9 @@
 -- A piece that a converter accepts, and the end of its stream.
 use Rattle.rtcm_scan.specs.declared.feed.StreamFault.TheVariants.{Read, TooLong}
 use Rattle.rtcm_convert.proofs.StreamLemmas.{piece_whole, piece_part, piece_fine, to_limit}
+use Rattle.rtcm_convert.specs.Faults.{fault_of_none}
+use Rattle.rtcm_convert.specs.declared.fault.Fault.{Fault}
+use Rattle.std.proofs.Common.{ap}
 use Rattle.rtcm_convert.proofs.Names.{FinishesEmptyNow, sym, ◌≡◌, ◌≢◌, ℕ, ◌<◌, ◌++◌, List, length, Bool, true, false, subst, ◌∙◌, [], Option, suc, zero, arith, refl, Device, HasExaminedSome, Passes, Breaks, PassesToLimit, AtFault, up_to_limit, FramerValue, StreamFault, Sink, Conversion, kept_of, KeepsNow, IsGoing, IsFit, HasConverted, HasFinished, TakesPiece, CutsAtLimit, WritesPrefixOfAdded, FinishesNow, SetupValue, IsKeptAtEnd, IsWithinBounds, skipped_before, frames_of, known_place, report_with, Report, FiledGrows, Files, BreaksFiling, EndsBytes, AppendsDecided, FileWriter}
 
 pub read_of : {F : Type 0} (f : StreamFault F) (P Q R : Type 0) → f ≡ Read → AtFault f P Q R → P
@@ -67,12 +70,13 @@ module _ {failed over : Bool} {v v' : FramerValue} {w w' : FileWriter} {a b : Op
       let p = ends s bytes h.drained in
       record { ended = p.over; taken = p.taken; within = p.within; drained = p.drained; counted = p.counted; gathered = p.gathered }
 
-  pub finishes_empty : w'.epochs ≡ 0 → FinishesEmptyNow (with_flags failed over v w) (with_flags failed true v' w') n a b
+  pub finishes_empty : {fault : Fault} → (fault ≡ fault_of_none w'.gatherer.counts) × (w'.epochs ≡ 0) → FinishesEmptyNow (with_flags failed over v w) (with_flags failed true v' w') n a b fault
   finishes_empty none s bytes h =
       let p = ends s bytes h.drained in
       let f = finished s bytes h in
       record {
-        none = sym p.epochs ∙ none;
+        none = sym p.epochs ∙ none.1;
+        fault_is = none.0 ∙ ap fault_of_none p.counts;
         out = p.out;
         sent = empty;
         finished = f;

@@ -6,7 +6,8 @@ use Rattle.rtcm_convert.proofs.Names.{◌≡◌, ℕ, ◌≤◌, List, true, fal
 
 finish_known : (f : Fault) → IsFinishFault f → of_finish f ≡ true
 finish_known f (inl e) = ap of_finish e
-finish_known f (inr e) = ap of_finish e
+finish_known f (inr (inl p)) = ap of_finish p.1
+finish_known f (inr (inr e)) = ap of_finish e
 
 -- it returns no other fault
 pub not_of_finish : {A : Type 0} (L : Fault → Type 0) (r : Result A Fault) → IfErr r (λ f. IsFinishFault f × L f) → (g : Fault) → of_finish g ≡ false → IsErrOf r g → ⊥
@@ -21,11 +22,13 @@ sent_after L (Ok x) mid old new left h = h
 sent_after L (Err f) mid old new left h = by left.0 where
   by : IsFinishFault f → IsSentAtFault f old new
   by (inl e) = subst (λ (x : Fault). IsSentAtFault x old new) (sym e) (subst (λ (x : Fault). IsSentAtFault x mid new) e h)
-  by (inr e) = subst (λ (x : Fault). IsSentAtFault x old new) (sym e) tt
+  by (inr (inl p)) = subst (λ (x : Fault). IsSentAtFault x old new) (sym p.1) (subst (λ (x : Fault). IsSentAtFault x mid new) p.1 h)
+  by (inr (inr e)) = subst (λ (x : Fault). IsSentAtFault x old new) (sym e) tt
 
 pub reader_after : {T A : Type 0} (L : Fault → Type 0) (r : Result A Fault) (old new : Device T) → IfErr r (λ f. IsFinishFault f × L f) → new.failures ≡ old.failures → new.widest ≤ max old.widest longest_frame → FailsWithReader r old new
 reader_after L (Ok x) old new left same within = (tt, same, within)
 reader_after L (Err f) old new left same within = (kept left.0, tt, within) where
   kept : IsFinishFault f → ReaderFailures f old.failures new.failures
   kept (inl e) = subst (λ (x : Fault). ReaderFailures x old.failures new.failures) (sym e) same
-  kept (inr e) = subst (λ (x : Fault). ReaderFailures x old.failures new.failures) (sym e) same
+  kept (inr (inl p)) = subst (λ (x : Fault). ReaderFailures x old.failures new.failures) (sym p.1) same
+  kept (inr (inr e)) = subst (λ (x : Fault). ReaderFailures x old.failures new.failures) (sym e) same

@@ -43,7 +43,7 @@ pub use Rattle.rtcm_convert.specs.SetupValues.{IsBadWith, IsBadStart, Start, opt
 pub use Rattle.rtcm_convert.specs.Steps.{BreaksInFrame, BreaksInRest, EndsFile, TakesFrame}
 pub use Rattle.rtcm_convert.specs.Stream.{AppendsDecided, AppendsPrefixOfDecided, AppendsPrefixOfRest, BreaksAtEndOf, BreaksFiling, Drained, EndsBytes, Files, HasDrained, HasDrainedSome}
 pub use Rattle.rtcm_convert.specs.declared.fault.Fault.{Fault}
-pub use Rattle.rtcm_convert.specs.declared.fault.Fault.TheVariants.{BadSetup, Failed, Finished, Memory, NoEpoch, Read, TooLong, Write}
+pub use Rattle.rtcm_convert.specs.declared.fault.Fault.TheVariants.{BadSetup, Failed, Finished, Memory, NoEpoch, NoneChosen, Read, TooLong, Write}
 pub use Rattle.rtcm_convert.specs.declared.file_writer.FileWriter.{FileWriter}
 pub use Rattle.rtcm_convert.specs.declared.report.Report.{Report}
 pub use Rattle.rtcm_msg.specs.Decoding.{message_with}

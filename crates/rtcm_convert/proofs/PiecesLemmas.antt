@@ -1,4 +1,5 @@
 -- Pieces that a converter accepts up to the end of its stream.
+use Rattle.rtcm_convert.specs.declared.fault.Fault.{Fault}
 use Rattle.rtcm_convert.proofs.PartLemmas.{goes_on-trans}
 use Rattle.rtcm_convert.proofs.RunLemmas.{completed_after, empty_after}
 use Rattle.rtcm_convert.proofs.Names.{◌≡◌, ℕ, ◌+◌, ◌<◌, ◌≤◌, inl, inr, List, ◌++◌, sym, ap, subst, ◌∙◌, arith, Option, append_assoc, length, length-append, take, drop, get_or, flat_map, Vec, take-append-drop, take-append-le, flat_map-append, take-length, joined_pieces, SetupValue, AppendsDecided, AppendsPrefixOfDecided, Conversion, HasConverted, TakesPiece, CutsAtLimit, WritesPrefixOfAdded, StopsAtEnd, FinishesNow, FinishesEmptyNow, CompletesFile, CompletesEmptyFile, FailsAtEnd, StopsInPieces, Report}
@@ -37,8 +38,8 @@ module _ {v w : Conversion} {a b : Option (List ℕ)} (front : List ℕ) (came :
   pub pieces_whole : {x : Conversion} {c : Option (List ℕ)} {n all : List ℕ} {report : Report} → front ≡ all → FinishesNow w x n b c report → CompletesFile v x n a c report all
   pieces_whole {x} {c} {n} {report = report} e f = subst (CompletesFile v x n a c report) e (λ s bytes y. (let i = came s bytes y in completed_after i.1 (f s (bytes ++ front) i.0)))
 
-  pub pieces_empty : {x : Conversion} {c : Option (List ℕ)} {n all : List ℕ} → front ≡ all → FinishesEmptyNow w x n b c → CompletesEmptyFile v x n a c all
-  pieces_empty {x} {c} {n} e f = subst (CompletesEmptyFile v x n a c) e (λ s bytes y. (let i = came s bytes y in empty_after i.1 (f s (bytes ++ front) i.0)))
+  pub pieces_empty : {x : Conversion} {c : Option (List ℕ)} {n all : List ℕ} {fault : Fault} → front ≡ all → FinishesEmptyNow w x n b c fault → CompletesEmptyFile v x n a c fault all
+  pieces_empty {x} {c} {n} {fault = fault} e f = subst (CompletesEmptyFile v x n a c fault) e (λ s bytes y. (let i = came s bytes y in empty_after i.1 (f s (bytes ++ front) i.0)))
 
   pub pieces_broke_at_end : {Z : Type 0} {c : Option (List ℕ)} (pieces : List (Vec ℕ Z)) → front ≡ joined_pieces pieces → StopsAtEnd w b c → StopsInPieces v a c pieces
   pieces_broke_at_end {c = c} pieces e stop = inr (λ s bytes y.

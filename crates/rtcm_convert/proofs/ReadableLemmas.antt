@@ -1,5 +1,6 @@
 -- The bytes written are the text of a file value.
 use Rattle.rtcm_convert.proofs.Names.{◌≡◌, ℕ, ◌<◌, inl, inr, Bool, List, [], ◌∷◌, ◌++◌, length, filter, refl, sym, subst, arith, Option, Some, None, Result, Ok, Err, append-nil, IfSome, AllByRecursion, cons_option, Framed, Message, MsgFault, IsMessage, MsmSet, message_with, PlanValue, Closed, Heard, IsPrefix, all_epochs, closed_epochs, ClosedComeFirst, IsHeard, MessagesAreHeard, EpochsAreGathered, TimesRise, AreGatheredEpochs, HeaderLists, AreTexts, gathered, AreSignals, HasSatellite, IsGatheredFile, SetupValue, heard_of, message_of, messages_of, written_epochs, text_of_epochs, text_with, file, so_far, epochs_in, IsFileText, HasValue, IsReadable, AreSound, AreChannels}
+use Rattle.gnss_obs.specs.Intervals.{IsInterval}
 use Rattle.std.proofs.lemmas.Grind.{common_steps}
 
 -- the laws of the crates below on messages, epochs and files
@@ -54,23 +55,23 @@ front plan es all p h = grind (arith, common_steps, all_front, rise_front)
 
 -- ---- their text
 
-text_valued : Known → {texts : HeaderLists} {plan : PlanValue} (es : List Closed) → AreTexts texts → AreSignals plan → AreGatheredEpochs plan es → AllByRecursion HasSatellite es
-    → 0 < length es → HasValue (text_of_epochs texts plan es)
+text_valued : Known → {texts : HeaderLists} (interval : Option ℕ) {plan : PlanValue} (es : List Closed) → AreTexts texts → IfSome interval IsInterval → AreSignals plan → AreGatheredEpochs plan es → AllByRecursion HasSatellite es
+    → 0 < length es → HasValue (text_of_epochs texts interval plan es)
 unfolding text_of_epochs
-text_valued k [] x p h some none = absurd (omega (arith, none))
-text_valued k {texts} {plan} (e ∷ es) x p h some none =
-    (gathered texts plan e.values (e ∷ es), k.gathered texts plan e es x p h some, k.text texts plan e es)
+text_valued k interval [] x i p h some none = absurd (omega (arith, none))
+text_valued k {texts} interval {plan} (e ∷ es) x i p h some none =
+    (gathered texts interval plan e.values (e ∷ es), k.gathered texts interval plan e es x i p h some, k.text texts interval plan e es)
 
 with_valued : Known → (s : SetupValue) (es : List Closed) → AreSound s → AreGatheredEpochs s.gather.plan es → 0 < length (written_epochs es) → HasValue (text_with s es)
 with_valued k s es sound h = grind (arith, common_steps, text_valued, all_filter, rise_filter, written_some)
 
-no_text : (texts : HeaderLists) (plan : PlanValue) (es : List Closed) → (0 < length es → HasValue (text_of_epochs texts plan es)) → IsReadable (text_of_epochs texts plan es)
+no_text : (texts : HeaderLists) (interval : Option ℕ) (plan : PlanValue) (es : List Closed) → (0 < length es → HasValue (text_of_epochs texts interval plan es)) → IsReadable (text_of_epochs texts interval plan es)
 unfolding text_of_epochs
-no_text texts plan [] h = inl refl
-no_text texts plan (e ∷ es) h = inr (h (omega arith))
+no_text texts interval plan [] h = inl refl
+no_text texts interval plan (e ∷ es) h = inr (h (omega arith))
 
 with_readable : Known → (s : SetupValue) (es : List Closed) → AreSound s → AreGatheredEpochs s.gather.plan es → IsReadable (text_with s es)
-with_readable k s es sound h = no_text s.texts s.gather.plan (written_epochs es) (with_valued k s es sound h)
+with_readable k s es sound h = no_text s.texts s.gather.choice.interval s.gather.plan (written_epochs es) (with_valued k s es sound h)
 
 pub file_valued : Known → (s : SetupValue) (fs : List Framed) → AreSound s → 0 < epochs_in s fs → HasValue (file s fs)
 file_valued k s fs sound some = with_valued k s (all_epochs s.gather (messages_of s fs)) sound (k.epochs s.gather (messages_of s fs) sound.initial (messages_heard k s fs sound.plan.channels)) some

@@ -1,4 +1,5 @@
 -- A stream that is read to its end.
+use Rattle.rtcm_convert.specs.declared.fault.Fault.{Fault}
 use Rattle.rtcm_convert.proofs.FeedLemmas.{with_flags, fed_whole, fed_long}
 use Rattle.rtcm_convert.proofs.PartLemmas.{goes_on-trans, up_to_earlier, up_to_later}
 use Rattle.rtcm_convert.proofs.StreamLemmas.{passed_here, piece_whole, so_far-front}
@@ -17,8 +18,8 @@ going_on {v = v} same e = let p = flags v.has_ended v.has_failed e in subst (λ 
 pub completed_after : {w : Conversion} {n : List ℕ} {a b c : Option (List ℕ)} {s : SetupValue} {x y : List ℕ} {report : Report} → AppendsDecided a b s x y → Completed w n b c s y y report → Completed w n a c s x y report
 completed_after e f = record { out = goes_on-trans e f.out; sent = f.sent; some = f.some; report_is = f.report_is; finished = f.finished; kept = f.kept; bounds = f.bounds }
 
-pub empty_after : {w : Conversion} {n : List ℕ} {a b c : Option (List ℕ)} {s : SetupValue} {x y : List ℕ} → AppendsDecided a b s x y → CompletedEmpty w n b c s y y → CompletedEmpty w n a c s x y
-empty_after e f = record { none = f.none; out = goes_on-trans e f.out; sent = f.sent; finished = f.finished; kept = f.kept; bounds = f.bounds }
+pub empty_after : {w : Conversion} {n : List ℕ} {a b c : Option (List ℕ)} {fault : Fault} {s : SetupValue} {x y : List ℕ} → AppendsDecided a b s x y → CompletedEmpty w n b c fault s y y → CompletedEmpty w n a c fault s x y
+empty_after e f = record { none = f.none; fault_is = f.fault_is; out = goes_on-trans e f.out; sent = f.sent; finished = f.finished; kept = f.kept; bounds = f.bounds }
 
 pub ran_whole : {v w x : Conversion} {n : List ℕ} {a b c : Option (List ℕ)} {report : Report} (r r' : Option (List ℕ)) → TakesFromReader v w r r' a b → IsAtEnd r' → FinishesNow w x n b c report → IfSome r (CompletesFile v x n a c report)
 ran_whole {v} {x = x} {n} {a} {c = c} {report} r r' p e f =
@@ -30,9 +31,9 @@ pub run_finishing : {v w : Conversion} (x : Conversion) (r r' : Option (List ℕ
 run_finishing x r r' {b} p e same f =
     (p.0, p.1, e, same ∙ p.2, λ s bytes y. let i = p.3 s bytes y in record { mid = b; before = i.out; last = f s (bytes ++ p.0) i.converted })
 
-pub ran_empty : {v w x : Conversion} {n : List ℕ} (r r' : Option (List ℕ)) {a b c : Option (List ℕ)} → TakesFromReader v w r r' a b → IsAtEnd r' → FinishesEmptyNow w x n b c → IfSome r (CompletesEmptyFile v x n a c)
-ran_empty {v} {x} {n} r r' {a} {c} p e f =
-    Consumes-whole r r' p.0 (CompletesEmptyFile v x n a c) p.1 e
+pub ran_empty : {v w x : Conversion} {n : List ℕ} (r r' : Option (List ℕ)) {a b c : Option (List ℕ)} {fault : Fault} → TakesFromReader v w r r' a b → IsAtEnd r' → FinishesEmptyNow w x n b c fault → IfSome r (CompletesEmptyFile v x n a c fault)
+ran_empty {v} {x = x} {n} r r' {a} {c = c} {fault} p e f =
+    Consumes-whole r r' p.0 (CompletesEmptyFile v x n a c fault) p.1 e
     (λ s bytes y. let i = p.3 s bytes y in empty_after i.out (f s (bytes ++ p.0) i.converted))
 
 -- the bytes read go over the limit

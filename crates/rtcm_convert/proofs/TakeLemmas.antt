@@ -1,4 +1,10 @@
 -- A message and a frame that are processed whole.
+use Rattle.obs_epoch.specs.GathererHistory.{closed_list_at}
+use Rattle.obs_epoch.specs.Laws.{AllClosed}
+use Rattle.obs_epoch.specs.Marks.{capped_counts}
+use Rattle.obs_epoch.specs.Thinning.{counts_of_epochs}
+use Rattle.rtcm_convert.specs.Filed.{interval_in}
+use Rattle.rtcm_convert.proofs.KeptLemmas.{closed_all}
 use Rattle.rtcm_convert.proofs.PartLemmas.{goes_on-refl, goes_on-trans, breaks_off-after, breaks_off-by}
 use Rattle.rtcm_convert.proofs.TextLemmas.{count, last, text-closed}
 use Rattle.rtcm_convert.proofs.ExactLemmas.{few_more, message_few, refused_few}
@@ -107,10 +113,10 @@ files_part f {m} {a} {b} read t s fs x =
     subst (λ (ns : List Heard). Breaks a b s (messages_of s fs) ns) (sym (messages_more s fs f m (in_set x f read))) (t s (messages_of s fs) x.settled)
 
 -- the rest of the file
-pub file_whole : (v w : FileWriter) (g : GathererValue) (a b : Option (List ℕ)) → Wrote v w g a b → g.has_ended ≡ true
+pub file_whole : AllClosed → (v w : FileWriter) (g : GathererValue) (a b : Option (List ℕ)) → Wrote v w g a b → g.has_ended ≡ true
     → ((s : GatherSetup) (ms : List Heard) (es : List Closed) → HasGatheredEpochs v.gatherer s ms es None → HasGatheredEpochs g s ms (es ++ closed_by (closed_in g) g.values) None)
     → EndsFile v w a b
-file_whole v w g a b o over t s fs x =
+file_whole all_closed v w g a b o over t s fs x =
     let ms = messages_of s fs in
     let es = closed_epochs s.gather ms in
     let now = t s.gather ms es x.settled.gatherer in
@@ -118,6 +124,7 @@ file_whole v w g a b o over t s fs x =
     let e : p.0 ≡ all_epochs s.gather ms = p.1.gatherer.epochs refl ∙ ap (λ (h : GathererValue). known_epochs h.has_ended s.gather ms) o.gatherer ∙ ap (λ h. known_epochs h s.gather ms) over in (
       subst (λ (all : List Closed). AppendsBetween a b (so_far s fs) (text_with s all)) e p.2,
       p.1.epochs ∙ ap count e,
+      p.1.gatherer.counts ∙ ap (λ l. capped_counts (counts_of_epochs s.gather.choice (closed_list_at s.gather ms l))) (closed_all all_closed w.gatherer s.gather ms (ap (λ (h : GathererValue). h.has_ended) o.gatherer ∙ over)),
       record {
         ended = ap (λ (h : GathererValue). h.has_ended) o.gatherer ∙ over;
         epochs = es ++ closed_by (closed_in g) g.values;
@@ -125,7 +132,7 @@ file_whole v w g a b o over t s fs x =
       },
     )
 
-pub file_part : {v : FileWriter} {g : GathererValue} {a b : Option (List ℕ)} → AppendsPrefix a b (added v.texts (plan_in g) v.values (closed_in g) g.values) → g.has_ended ≡ true
+pub file_part : {v : FileWriter} {g : GathererValue} {a b : Option (List ℕ)} → AppendsPrefix a b (added v.texts (interval_in g) (plan_in g) v.values (closed_in g) g.values) → g.has_ended ≡ true
     → ((s : GatherSetup) (ms : List Heard) (es : List Closed) → HasGatheredEpochs v.gatherer s ms es None → HasGatheredEpochs g s ms (es ++ closed_by (closed_in g) g.values) None)
     → (s : SetupValue) (fs : List Framed) → HasFiledFrames v s fs → AppendsPrefixBetween a b (so_far s fs) (file s fs)
 file_part {g} {a} {b} p over t s fs x =
@@ -133,7 +140,7 @@ file_part {g} {a} {b} p over t s fs x =
     let es = closed_epochs s.gather ms in
     let now = t s.gather ms es x.settled.gatherer in
     let e : es ++ closed_by (closed_in g) g.values ≡ all_epochs s.gather ms = now.epochs refl ∙ ap (λ h. known_epochs h s.gather ms) over in
-    let out : AppendsPrefix a b (added s.texts s.gather.plan (last es) (closed_in g) g.values) = part_of g a b x.settled now.plan p in
+    let out : AppendsPrefix a b (added s.texts s.gather.choice.interval s.gather.plan (last es) (closed_in g) g.values) = part_of g a b x.settled now.standing.clock.setup p in
     subst (λ (all : List Closed). AppendsPrefixBetween a b (so_far s fs) (text_with s all)) e (breaks_off-by a b _ _ _ (text-closed s es (closed_in g) g.values) out)
 
 -- a message that is passed twice

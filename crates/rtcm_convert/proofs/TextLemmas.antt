@@ -22,27 +22,27 @@ closed_text-append p v [] ds = refl
 closed_text-append p v (c ∷ cs) ds = grind (arith, common_steps, closed_text-append p c.values cs ds)
 
 -- the text of some epochs is a prefix of the text of these and more
-pub text_of-append : (t : HeaderLists) (p : PlanValue) (es fs : List Closed) → IsPrefix (text_of_epochs t p es) (text_of_epochs t p (es ++ fs))
+pub text_of-append : (t : HeaderLists) (i : Option ℕ) (p : PlanValue) (es fs : List Closed) → IsPrefix (text_of_epochs t i p es) (text_of_epochs t i p (es ++ fs))
 unfolding text_of_epochs
-text_of-append t p [] fs = (text_of_epochs t p fs, refl)
-text_of-append t p (e ∷ es) fs = (
+text_of-append t i p [] fs = (text_of_epochs t i p fs, refl)
+text_of-append t i p (e ∷ es) fs = (
   closed_text p (values_following_closed e.values (e ∷ es)) fs,
-  ap (λ l. header_text t p e.values e.epoch.time ++ l) (closed_text-append p e.values (e ∷ es) fs)
-      ∙ sym (append_assoc (header_text t p e.values e.epoch.time) (closed_text p e.values (e ∷ es)) (closed_text p (values_following_closed e.values (e ∷ es)) fs)),
+  ap (λ l. header_text t i p e.values e.epoch.time ++ l) (closed_text-append p e.values (e ∷ es) fs)
+      ∙ sym (append_assoc (header_text t i p e.values e.epoch.time) (closed_text p e.values (e ∷ es)) (closed_text p (values_following_closed e.values (e ∷ es)) fs)),
 )
 
 -- one more epoch
-text_of-one : (t : HeaderLists) (p : PlanValue) (es : List Closed) (c : Closed)
-    → text_of_epochs t p (es ++ c ∷ []) ≡ text_of_epochs t p es ++ (opening t p (last_values es) c.epoch c.values ++ epoch_text p c.epoch)
+text_of-one : (t : HeaderLists) (i : Option ℕ) (p : PlanValue) (es : List Closed) (c : Closed)
+    → text_of_epochs t i p (es ++ c ∷ []) ≡ text_of_epochs t i p es ++ (opening t i p (last_values es) c.epoch c.values ++ epoch_text p c.epoch)
 unfolding text_of_epochs
-text_of-one t p [] c = grind (arith, common_steps, no_change, append-nil)
-text_of-one t p (e ∷ es) c = grind (arith, common_steps, closed_text-append, append-nil)
+text_of-one t i p [] c = grind (arith, common_steps, no_change, append-nil)
+text_of-one t i p (e ∷ es) c = grind (arith, common_steps, closed_text-append, append-nil)
 
 -- one more epoch, if it is written
-text_of-maybe : (t : HeaderLists) (p : PlanValue) (es : List Closed) (c : Closed) (b : Bool)
-    → text_of_epochs t p (es ++ (if b then c ∷ [] else [])) ≡ text_of_epochs t p es ++ (if b then opening t p (last_values es) c.epoch c.values ++ epoch_text p c.epoch else [])
-text_of-maybe t p es c true = text_of-one t p es c
-text_of-maybe t p es c false = ap (text_of_epochs t p) (append-nil es) ∙ sym (append-nil (text_of_epochs t p es))
+text_of-maybe : (t : HeaderLists) (i : Option ℕ) (p : PlanValue) (es : List Closed) (c : Closed) (b : Bool)
+    → text_of_epochs t i p (es ++ (if b then c ∷ [] else [])) ≡ text_of_epochs t i p es ++ (if b then opening t i p (last_values es) c.epoch c.values ++ epoch_text p c.epoch else [])
+text_of-maybe t i p es c true = text_of-one t i p es c
+text_of-maybe t i p es c false = ap (text_of_epochs t i p) (append-nil es) ∙ sym (append-nil (text_of_epochs t i p es))
 
 values_following-one : (v : StationValues) (es : List Closed) (c : Closed) → values_following_closed v (es ++ c ∷ []) ≡ c.values
 values_following-one v [] c = refl
@@ -74,9 +74,9 @@ last-closed es (Some e) v = rw filter-append (last_values-maybe (written_epochs 
 
 -- what the epoch that was closed last adds
 pub text-closed : (s : SetupValue) (es : List Closed) (o : Option EpochValue) (v : StationValues)
-    → text_with s (es ++ closed_by o v) ≡ text_with s es ++ added s.texts s.gather.plan (last es) o v
+    → text_with s (es ++ closed_by o v) ≡ text_with s es ++ added s.texts s.gather.choice.interval s.gather.plan (last es) o v
 text-closed s es None v = ap (text_with s) (append-nil es) ∙ sym (append-nil (text_with s es))
-text-closed s es (Some e) v = rw filter-append (text_of-maybe s.texts s.gather.plan (written_epochs es) (record { epoch = e; values = v }) (nat_lt 0 (satellites_written e)))
+text-closed s es (Some e) v = rw filter-append (text_of-maybe s.texts s.gather.choice.interval s.gather.plan (written_epochs es) (record { epoch = e; values = v }) (nat_lt 0 (satellites_written e)))
 
 pub count-closed : (es : List Closed) (o : Option EpochValue) (v : StationValues) → count (es ++ closed_by o v) ≡ epochs_after (count es) o
 count-closed es None v = ap count (append-nil es)
@@ -84,7 +84,7 @@ count-closed es (Some e) v = rw filter-append (count-maybe (written_epochs es) (
 
 -- more epochs leave the text as a prefix
 pub text-more : (s : SetupValue) (es fs : List Closed) → IsPrefix es fs → IsPrefix (text_with s es) (text_with s fs)
-text-more s es fs p = rw (p.1, filter-append) (text_of-append s.texts s.gather.plan (written_epochs es) (written_epochs p.0))
+text-more s es fs p = rw (p.1, filter-append) (text_of-append s.texts s.gather.choice.interval s.gather.plan (written_epochs es) (written_epochs p.0))
 
 -- the closed epochs are a prefix of those that more messages close, and of all epochs
 abbrev pub ClosedStay : Type 0
@@ -105,14 +105,14 @@ so_far-all stay s fs more =
     (rw filter_map-append (stay s.gather (messages_of s fs) (messages_of s more)))
 
 -- the same: an event, or nothing
-pub opening_later : {n : Option StationValues} {v before w : StationValues} {b : Bool} (P : List ℕ → Type 0) (t : HeaderLists) (p : PlanValue) (e : EpochValue)
-    → n ≡ Some before → w ≡ v → same_values before w ≡ b → P (if b then [] else event_text w) → P (opening t p n e v)
-opening_later {v = v} {before} {w} P t p e last values same x = grind (arith, common_steps)
+pub opening_later : {n : Option StationValues} {v before w : StationValues} {b : Bool} (P : List ℕ → Type 0) (t : HeaderLists) (i : Option ℕ) (p : PlanValue) (e : EpochValue)
+    → n ≡ Some before → w ≡ v → same_values before w ≡ b → P (if b then [] else event_text w) → P (opening t i p n e v)
+opening_later {v = v} {before} {w} P t i p e last values same x = grind (arith, common_steps)
 
 -- what the epoch that the gatherer returns adds
-pub added_lent : {p q : PlanValue} {e : Closed} (t : HeaderLists) (n : Option StationValues) (o : Option EpochValue) (v : StationValues) → q ≡ p → e ∷ [] ≡ closed_by o v → nat_lt 0 (satellites_written e.epoch) ≡ true
-    → added t p n o v ≡ opening t p n e.epoch e.values ++ epoch_text q e.epoch
-added_lent {p} {q} {e} t n o v same is some = grind (arith, common_steps)
+pub added_lent : {p q : PlanValue} {e : Closed} (t : HeaderLists) (i : Option ℕ) (n : Option StationValues) (o : Option EpochValue) (v : StationValues) → q ≡ p → e ∷ [] ≡ closed_by o v → nat_lt 0 (satellites_written e.epoch) ≡ true
+    → added t i p n o v ≡ opening t i p n e.epoch e.values ++ epoch_text q e.epoch
+added_lent {p} {q} {e} t i n o v same is some = grind (arith, common_steps)
 
 -- no frames have an empty text
 pub so_far-none : ((s : GatherSetup) → closed_epochs s [] ≡ []) → (s : SetupValue) → so_far s [] ≡ []
@@ -120,7 +120,7 @@ unfolding text_of_epochs
 so_far-none none s = ap (text_with s) (none s.gather)
 
 -- the text of one or more epochs is that of a file value
-pub text_of-file : ((t : HeaderLists) (p : PlanValue) (v : StationValues) (c : Closed) (cs : List Closed) → header_text t p v c.epoch.time ++ closed_text p v (c ∷ cs) ≡ file_text (gathered t p v (c ∷ cs)))
-    → (t : HeaderLists) (p : PlanValue) (c : Closed) (cs : List Closed) → text_of_epochs t p (c ∷ cs) ≡ file_text (gathered t p c.values (c ∷ cs))
+pub text_of-file : ((t : HeaderLists) (i : Option ℕ) (p : PlanValue) (v : StationValues) (c : Closed) (cs : List Closed) → header_text t i p v c.epoch.time ++ closed_text p v (c ∷ cs) ≡ file_text (gathered t i p v (c ∷ cs)))
+    → (t : HeaderLists) (i : Option ℕ) (p : PlanValue) (c : Closed) (cs : List Closed) → text_of_epochs t i p (c ∷ cs) ≡ file_text (gathered t i p c.values (c ∷ cs))
 unfolding text_of_epochs
-text_of-file law t p c cs = law t p c.values c cs
+text_of-file law t i p c cs = law t i p c.values c cs

@@ -1,4 +1,5 @@
 -- Whole streams.
+use Rattle.rtcm_convert.specs.declared.fault.Fault.{Fault}
 use Rattle.rtcm_convert.proofs.Names.{◌≡◌, ℕ, ◌+◌, ◌<◌, ◌≤◌, ◌⊎◌, inl, inr, List, [], subst, ◌∙◌, arith, Option, Result, Ok, Err, IfOk, length, take, IfSome, IfSome_then, Vec, Appends, Consumes, frames_of, decided_frames, SetupValue, so_far, file, epochs_in, AppendsBetween, AppendsPrefixBetween, NothingYet, AppendsDecided, Start, start_value, HasValue, IsMade, IsMadeEmpty, IsMadeWith, IsMadeToLimit, AreMadeToLimit, StopsInPieces, IsBetween, IsBroken, FailedWriting, FailedWritingAtEnd, BrokeInPieces, joined_pieces, Conversion, HasConverted, WritesAdded, CutsAtLimit, Completed, CompletedEmpty, CompletesFile, CompletesEmptyFile, FailsAtPiece, RanToLimit, FailsFeeding, FailsFinishing, Report}
 use Rattle.std.proofs.lemmas.Grind.{common_steps}
 
@@ -28,10 +29,11 @@ made {x = x} {bytes = bytes} new valued p = record {
   out = from_nothing new.nothing (start_value x) p.out;
 }
 
-made_empty : {v w : Conversion} {n : List ℕ} {x : Start} {a b : Option (List ℕ)} {bytes : List ℕ} → BeganNew v w x → CompletedEmpty w n a b (start_value x) [] bytes → IsMadeEmpty x a b bytes
+made_empty : {v w : Conversion} {n : List ℕ} {x : Start} {a b : Option (List ℕ)} {fault : Fault} {bytes : List ℕ} → BeganNew v w x → CompletedEmpty w n a b fault (start_value x) [] bytes → IsMadeEmpty x fault a b bytes
 made_empty {x = x} new p = record {
   within = same_limit new p.finished.within;
   none = p.none;
+  fault_is = p.fault_is;
   out = from_nothing new.nothing (start_value x) p.out;
 }
 
@@ -40,8 +42,8 @@ pub run_made : {E : Type 0} {v w : Conversion} {x : Start} (n : List ℕ) (r a b
 run_made {x = x} n r a b (Ok report) new valued h = IfSome_then r h (λ l f. let p = f (start_value x) [] new.history in (made new valued p, p.report_is))
 run_made n r a b (Err d) new valued h = tt
 
-pub run_empty : {v w : Conversion} {x : Start} (n : List ℕ) (r a b : Option (List ℕ)) → BeganNew v w x → IfSome r (CompletesEmptyFile v w n a b) → IfSome r (IsMadeEmpty x a b)
-run_empty {x = x} n r a b new h = IfSome_then r h (λ l f. made_empty new (f (start_value x) [] new.history))
+pub run_empty : {v w : Conversion} {x : Start} (fault : Fault) (n : List ℕ) (r a b : Option (List ℕ)) → BeganNew v w x → IfSome r (CompletesEmptyFile v w n a b fault) → IfSome r (IsMadeEmpty x fault a b)
+run_empty {x = x} fault n r a b new h = IfSome_then r h (λ l f. made_empty new (f (start_value x) [] new.history))
 
 pub run_read : {v w : Conversion} {x : Start} {a b : Option (List ℕ)} (r r' : Option (List ℕ)) → BeganNew v w x → ((front : List ℕ) × Consumes r r' front × (w.scan.taken ≡ v.scan.taken + length front) × WritesAdded v a b front)
     → (front : List ℕ) × Consumes r r' front × Appends a b (so_far (start_value x) (decided_frames front))

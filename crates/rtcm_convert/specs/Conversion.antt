@@ -7,7 +7,7 @@ use Rattle.rtcm_scan.specs.Frames.{frames_of}
 use Rattle.rtcm_scan.specs.Decided.{decided}
 use Rattle.rtcm_scan.specs.Scan.{FramerValue}
 use Rattle.rtcm_scan.specs.Drained.{IsDrained}
-use Rattle.rtcm_convert.specs.Converted.{SetupValue, epochs_in}
+use Rattle.rtcm_convert.specs.Converted.{SetupValue, epoch_counts, epochs_in}
 use Rattle.gnss_system.specs.SystemValues.{tabulate}
 use Rattle.gnss_obs.specs.Values.{cells_of}
 use Rattle.obs_epoch.specs.Held.{recorded}
@@ -21,7 +21,8 @@ use Rattle.rtcm_convert.specs.Stream.{AppendsPrefixOfRest}
 use Rattle.rtcm_convert.specs.declared.file_writer.FileWriter.{FileWriter}
 use Rattle.rtcm_convert.specs.declared.report.Report.{Report}
 use Rattle.rtcm_convert.specs.declared.fault.Fault.{Fault}
-use Rattle.rtcm_convert.specs.declared.fault.Fault.TheVariants.{Failed, Finished, NoEpoch}
+use Rattle.rtcm_convert.specs.declared.fault.Fault.TheVariants.{Failed, Finished, NoEpoch, NoneChosen}
+use Rattle.rtcm_convert.specs.Faults.{fault_of_none}
 
 -- scan: the state of its framer; file_writer: the state of the file writer; has_failed: an earlier call failed;
 -- has_ended: the stream was ended
@@ -198,11 +199,12 @@ pub record Completed (w : Conversion) (waiting : List ℕ) (a b : Option (List �
   pub kept : IsKeptAtEnd s all (kept_of w)
   pub bounds : IsWithinBounds (length all) (kept_of w)
 
--- The file of all these bytes has no epoch and is empty, and nothing waits in the writer; all bytes were decided and
--- examined.
-pub record CompletedEmpty (w : Conversion) (waiting : List ℕ) (a b : Option (List ℕ)) (s : SetupValue)
+-- The file of all these bytes has no epoch and is empty, `fault` is its fault, and nothing waits in the writer; all bytes
+-- were decided and examined.
+pub record CompletedEmpty (w : Conversion) (waiting : List ℕ) (a b : Option (List ℕ)) (fault : Fault) (s : SetupValue)
     (bytes all : List ℕ) : Type 0 where
   pub none : epochs_in s (frames_of all) ≡ 0
+  pub fault_is : fault ≡ fault_of_none (epoch_counts s (frames_of all))
   pub out : AppendsRest a b s bytes all
   pub sent : waiting ≡ []
   pub finished : HasFinished w s all
@@ -215,9 +217,9 @@ FinishesNow v w waiting a b report =
     (s : SetupValue) (bytes : List ℕ) → HasConverted v s bytes → Completed w waiting a b s bytes bytes report
 
 -- the stream ends here, and the file was completed and is empty
-abbrev pub FinishesEmptyNow : Conversion → Conversion → List ℕ → Option (List ℕ) → Option (List ℕ) → Type 0
-FinishesEmptyNow v w waiting a b =
-    (s : SetupValue) (bytes : List ℕ) → HasConverted v s bytes → CompletedEmpty w waiting a b s bytes bytes
+abbrev pub FinishesEmptyNow : Conversion → Conversion → List ℕ → Option (List ℕ) → Option (List ℕ) → Fault → Type 0
+FinishesEmptyNow v w waiting a b fault =
+    (s : SetupValue) (bytes : List ℕ) → HasConverted v s bytes → CompletedEmpty w waiting a b fault s bytes bytes
 
 -- with these further bytes, the file was completed
 abbrev pub CompletesFile : Conversion → Conversion → List ℕ → Option (List ℕ) → Option (List ℕ) → Report → List ℕ
@@ -227,9 +229,11 @@ CompletesFile v w waiting a b report rest =
     → Completed w waiting a b s bytes (bytes ++ rest) report
 
 -- with these further bytes, the file was completed and is empty
-abbrev pub CompletesEmptyFile : Conversion → Conversion → List ℕ → Option (List ℕ) → Option (List ℕ) → List ℕ → Type 0
-CompletesEmptyFile v w waiting a b rest =
-    (s : SetupValue) (bytes : List ℕ) → HasConverted v s bytes → CompletedEmpty w waiting a b s bytes (bytes ++ rest)
+abbrev pub CompletesEmptyFile : Conversion → Conversion → List ℕ → Option (List ℕ) → Option (List ℕ) → Fault → List ℕ
+    → Type 0
+CompletesEmptyFile v w waiting a b fault rest =
+    (s : SetupValue) (bytes : List ℕ) → HasConverted v s bytes
+    → CompletedEmpty w waiting a b fault s bytes (bytes ++ rest)
 
 -- with the rest of the stream, the file was completed
 abbrev pub CompletesFileOfAll : Conversion → Conversion → List ℕ → Report → Option (List ℕ) → Option (List ℕ)
@@ -237,14 +241,15 @@ abbrev pub CompletesFileOfAll : Conversion → Conversion → List ℕ → Repor
 CompletesFileOfAll v w waiting report r r' a b = IfSome r (CompletesFile v w waiting a b report)
 
 -- with the rest of the stream, the file was completed and is empty
-abbrev pub CompletesEmptyFileOfAll : Conversion → Conversion → List ℕ → Option (List ℕ) → Option (List ℕ)
+abbrev pub CompletesEmptyFileOfAll : Conversion → Conversion → List ℕ → Fault → Option (List ℕ) → Option (List ℕ)
     → Option (List ℕ) → Option (List ℕ) → Type 0
-CompletesEmptyFileOfAll v w waiting r r' a b = IfSome r (CompletesEmptyFile v w waiting a b)
+CompletesEmptyFileOfAll v w waiting fault r r' a b = IfSome r (CompletesEmptyFile v w waiting a b fault)
 
 -- the state of a converter after a fault of a call, if it had neither failed nor ended before: finished after
--- `NoEpoch`, else failed
+-- `NoEpoch` and `NoneChosen`, else failed
 abbrev pub LeftBy : Fault → Conversion → Type 0
 LeftBy NoEpoch v = v.has_ended ≡ true
+LeftBy (NoneChosen counts) v = v.has_ended ≡ true
 LeftBy _ v = (v.has_failed ≡ true) × (v.has_ended ≡ false)
 
 -- the state of a converter after a call: the limit is unchanged; if it had neither failed nor ended before, a fault is

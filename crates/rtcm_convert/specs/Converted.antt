@@ -5,7 +5,9 @@ use Rattle.rtcm_scan.specs.Frames.{Framed}
 use Rattle.gnss_obs.specs.Values.{PlanValue, Closed, satellites_written}
 use Rattle.rtcm_msg.specs.declared.number.MsmSet.{MsmSet}
 use Rattle.obs_epoch.specs.Heard.{GatherSetup, Heard, heard_in}
-use Rattle.obs_epoch.specs.GathererHistory.{all_epochs, closed_epochs}
+use Rattle.obs_epoch.specs.GathererHistory.{all_epochs, closed_epochs, whole_list}
+use Rattle.obs_epoch.specs.Thinning.{counts_of_epochs}
+use Rattle.obs_epoch.specs.declared.choice.EpochCounts.{EpochCounts}
 use Rattle.rinex_file.specs.Texts.{HeaderLists}
 use Rattle.rinex_file.specs.File.{header_text, closed_text}
 
@@ -27,16 +29,17 @@ messages_of s fs = filter_map (message_of s) fs
 abbrev pub written_epochs : List Closed → List Closed
 written_epochs es = filter (λ e. nat_lt 0 (satellites_written e.epoch)) es
 
--- a header with the time of the first epoch and the station values known when it was closed, then the epochs, each
+-- a header with the interval, if there is one, the time of the first epoch and the station values known when it was closed, then the epochs, each
 -- after an event if the station values known when it was closed differ from those of the epoch before; empty if there
 -- is no epoch
-unfoldable pub text_of_epochs : HeaderLists → PlanValue → List Closed → List ℕ
-text_of_epochs texts plan [] = []
-text_of_epochs texts plan (e ∷ es) = header_text texts plan e.values e.epoch.time ++ closed_text plan e.values (e ∷ es)
+unfoldable pub text_of_epochs : HeaderLists → Option ℕ → PlanValue → List Closed → List ℕ
+text_of_epochs texts interval plan [] = []
+text_of_epochs texts interval plan (e ∷ es) =
+    header_text texts interval plan e.values e.epoch.time ++ closed_text plan e.values (e ∷ es)
 
 -- the text of those of these epochs in which a satellite has a value
 abbrev pub text_with : SetupValue → List Closed → List ℕ
-text_with s es = text_of_epochs s.texts s.gather.plan (written_epochs es)
+text_with s es = text_of_epochs s.texts s.gather.choice.interval s.gather.plan (written_epochs es)
 
 -- the file that these frames make
 abbrev pub file : SetupValue → List Framed → List ℕ
@@ -45,6 +48,10 @@ file s fs = text_with s (all_epochs s.gather (messages_of s fs))
 -- the file of the epochs that these frames close
 abbrev pub so_far : SetupValue → List Framed → List ℕ
 so_far s fs = text_with s (closed_epochs s.gather (messages_of s fs))
+
+-- the numbers of all epochs of these frames in which a satellite has a value
+abbrev pub epoch_counts : SetupValue → List Framed → EpochCounts
+epoch_counts s fs = counts_of_epochs s.gather.choice (whole_list s.gather (messages_of s fs))
 
 -- the number of epochs in the file
 abbrev pub epochs_in : SetupValue → List Framed → ℕ

@@ -1,9 +1,10 @@
 -- The state of the devices that a call reads and writes, by its result.
-use Rattle.std.specs.Prelude.{◌≡◌, ◌≤◌, ◌⊎◌, ℕ, max, ⊤, List, [], Result, Ok, Err, OnOk, IfErr}
+use Rattle.std.specs.Prelude.{◌≡◌, ◌≤◌, ◌⊎◌, ◌==◌, if◌then◌else◌, ℕ, max, ⊤, List, [], Result, Ok, Err, OnOk, IfErr}
 use Rattle.rtcm_bits.specs.Device.{Device, HasFailed, FailsWith}
 use Rattle.rtcm_bits.specs.FrameOf.{longest_frame}
 use Rattle.rtcm_convert.specs.declared.fault.Fault.{Fault}
-use Rattle.rtcm_convert.specs.declared.fault.Fault.TheVariants.{BadSetup, Memory, Read, TooLong, NoEpoch, Write}
+use Rattle.rtcm_convert.specs.declared.fault.Fault.TheVariants.{BadSetup, Memory, Read, TooLong, NoEpoch, NoneChosen, Write}
+use Rattle.obs_epoch.specs.declared.choice.EpochCounts.{EpochCounts}
 
 -- The bytes that wait in a writer before and after a call: after it none, unless the writer failed; after a call that
 -- was refused those that waited before.
@@ -12,6 +13,7 @@ IsSentAtFault Write before after = ⊤
 IsSentAtFault Read before after = after ≡ []
 IsSentAtFault TooLong before after = after ≡ []
 IsSentAtFault NoEpoch before after = after ≡ []
+IsSentAtFault (NoneChosen counts) before after = after ≡ []
 IsSentAtFault refusal before after = after ≡ before
 
 abbrev pub IsSentAfter : {A : Type 0} → Result A Fault → (before after : List ℕ) → Type 0
@@ -50,6 +52,10 @@ FailsWithReader result old new =
 abbrev pub FailsWithDevices : {R W A : Type 0} → Result A Fault → (r r' : Device R) → (w w' : Device W) → Type 0
 FailsWithDevices result r r' w w' = FailsWithReader result r r' × FailsWithWriter result w w'
 
+-- the fault of a file without an epoch, by the numbers of the epochs of the stream in which a satellite has a value
+abbrev pub fault_of_none : EpochCounts → Fault
+fault_of_none counts = if counts.epochs == 0 then NoEpoch else NoneChosen counts
+
 -- the faults of a setup
 abbrev pub IsSetupFault : Fault → Type 0
 IsSetupFault fault = (fault ≡ BadSetup) ⊎ (fault ≡ Memory)
@@ -59,7 +65,8 @@ abbrev pub IsFeedFault : Fault → Type 0
 IsFeedFault fault = (fault ≡ TooLong) ⊎ (fault ≡ Write)
 
 abbrev pub IsFinishFault : Fault → Type 0
-IsFinishFault fault = (fault ≡ NoEpoch) ⊎ (fault ≡ Write)
+IsFinishFault fault =
+    (fault ≡ NoEpoch) ⊎ (((counts : EpochCounts) × (fault ≡ NoneChosen counts)) ⊎ (fault ≡ Write))
 
 abbrev pub IsPiecesFault : Fault → Type 0
 IsPiecesFault fault = (fault ≡ TooLong) ⊎ IsFinishFault fault

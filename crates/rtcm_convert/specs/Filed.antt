@@ -4,6 +4,7 @@ use Rattle.rtcm_scan.specs.Frames.{Framed}
 use Rattle.gnss_obs.specs.Values.{PlanValue, EpochValue, Closed, satellites_written}
 use Rattle.gnss_obs.specs.declared.cell.StationValues.{StationValues}
 use Rattle.obs_epoch.specs.Heard.{Heard}
+use Rattle.obs_epoch.specs.GathererSteps.{GathererValue}
 use Rattle.obs_epoch.specs.GathererHistory.{HasGatheredEpochs, closed_epochs, closed_in, plan_in}
 use Rattle.rinex_file.specs.Texts.{HeaderLists}
 use Rattle.rinex_file.specs.File.{header_text, epoch_text, change_text}
@@ -13,15 +14,15 @@ use Rattle.rtcm_convert.specs.declared.file_writer.FileWriter.{FileWriter}
 
 -- the text before an epoch if these station values were written last: an event if they have changed, and the header if
 -- none were written
-abbrev pub opening : HeaderLists → PlanValue → Option StationValues → EpochValue → StationValues → List ℕ
-opening texts plan None e values = header_text texts plan values e.time
-opening texts plan (Some before) e values = change_text before values
+abbrev pub opening : HeaderLists → Option ℕ → PlanValue → Option StationValues → EpochValue → StationValues → List ℕ
+opening texts interval plan None e values = header_text texts interval plan values e.time
+opening texts interval plan (Some before) e values = change_text before values
 
 -- what a closed epoch adds to a file
-abbrev pub added : HeaderLists → PlanValue → Option StationValues → Option EpochValue → StationValues → List ℕ
-added texts plan before None values = []
-added texts plan before (Some e) values =
-    (if nat_lt 0 (satellites_written e) then opening texts plan before e values ++ epoch_text plan e else [])
+abbrev pub added : HeaderLists → Option ℕ → PlanValue → Option StationValues → Option EpochValue → StationValues → List ℕ
+added texts interval plan before None values = []
+added texts interval plan before (Some e) values =
+    (if nat_lt 0 (satellites_written e) then opening texts interval plan before e values ++ epoch_text plan e else [])
 
 -- the station values that are then written last
 abbrev pub values_after : Option StationValues → Option EpochValue → StationValues → Option StationValues
@@ -33,13 +34,18 @@ abbrev pub epochs_after : ℕ → Option EpochValue → ℕ
 epochs_after n None = n
 epochs_after n (Some e) = (if nat_lt 0 (satellites_written e) then capped (n + 1) else n)
 
+-- the interval of the epochs that a gatherer returns, if there is one
+abbrev pub interval_in : GathererValue → Option ℕ
+interval_in v = v.clock.setup.choice.interval
+
 -- what the file writer writes before an epoch
 abbrev pub opening_of : FileWriter → Closed → List ℕ
-opening_of v c = opening v.texts (plan_in v.gatherer) v.values c.epoch c.values
+opening_of v c = opening v.texts (interval_in v.gatherer) (plan_in v.gatherer) v.values c.epoch c.values
 
 -- what the file writer adds to its file for the epoch that its gatherer closed last
 abbrev pub added_by : FileWriter → List ℕ
-added_by v = added v.texts (plan_in v.gatherer) v.values (closed_in v.gatherer) v.gatherer.values
+added_by v =
+    added v.texts (interval_in v.gatherer) (plan_in v.gatherer) v.values (closed_in v.gatherer) v.gatherer.values
 
 -- the file writer has counted the epoch that its gatherer closed last, and stores the station values that were written
 -- last

@@ -1,12 +1,14 @@
 -- Laws of the files that frames make.
-use Rattle.std.specs.Prelude.{◌≡◌, ◌+◌, ℕ, List, [], ◌∷◌, ◌++◌, length}
+use Rattle.std.specs.Prelude.{◌≡◌, ◌+◌, ℕ, List, [], ◌∷◌, ◌++◌, length, Option}
 use Rattle.rtcm_scan.specs.Frames.{Framed, frames_of}
 use Rattle.rtcm_scan.specs.Decided.{decided_frames}
 use Rattle.rtcm_bits.specs.Prefix.{IsPrefix}
 use Rattle.gnss_obs.specs.Values.{PlanValue, Closed}
+use Rattle.obs_epoch.specs.Choices.{every_epoch}
+use Rattle.obs_epoch.specs.GathererHistory.{whole_list}
 use Rattle.rinex_file.specs.Texts.{HeaderLists}
 use Rattle.rinex_file.specs.File.{file_text, gathered}
-use Rattle.rtcm_convert.specs.Converted.{SetupValue, text_of_epochs, so_far, file}
+use Rattle.rtcm_convert.specs.Converted.{SetupValue, messages_of, text_of_epochs, text_with, so_far, file}
 use Rattle.rtcm_convert.specs.Outcomes.{report_of}
 use Rattle.rtcm_convert.specs.declared.report.Report.{Report}
 
@@ -46,5 +48,10 @@ CountedOnce = (s : SetupValue) (b : List ℕ) → IsCountedOnce (report_of s b) 
 -- epochs in which a satellite has a value make the text of a file value, with the station values known when the first
 -- was closed, and an event before each epoch whose station values differ from those before
 abbrev pub IsFileText : Type 0
-IsFileText = (texts : HeaderLists) (plan : PlanValue) (e : Closed) (es : List Closed)
-    → text_of_epochs texts plan (e ∷ es) ≡ file_text (gathered texts plan e.values (e ∷ es))
+IsFileText = (texts : HeaderLists) (interval : Option ℕ) (plan : PlanValue) (e : Closed) (es : List Closed)
+    → text_of_epochs texts interval plan (e ∷ es) ≡ file_text (gathered texts interval plan e.values (e ∷ es))
+
+-- with the choice of every epoch, the file is that of all epochs
+abbrev pub IsFileOfEvery : Type 0
+IsFileOfEvery = (s : SetupValue) (fs : List Framed) → s.gather.choice ≡ every_epoch
+    → file s fs ≡ text_with s (whole_list s.gather (messages_of s fs))

@@ -3,7 +3,9 @@ use Rattle.std.specs.Prelude.{◌≡◌, ℕ, ◌<◌, ◌≤◌, List, length, 
 use Rattle.std.specs.Io.KnownBytes.{Appends}
 use Rattle.rtcm_scan.specs.Frames.{frames_of}
 use Rattle.rtcm_convert.specs.Broken.{WroteSoFar, WroteToLimit, BrokeReading, WrotePieces, joined_pieces}
-use Rattle.rtcm_convert.specs.Converted.{file, epochs_in}
+use Rattle.rtcm_convert.specs.Converted.{file, epoch_counts, epochs_in}
+use Rattle.rtcm_convert.specs.Faults.{fault_of_none}
+use Rattle.rtcm_convert.specs.declared.fault.Fault.{Fault}
 use Rattle.rtcm_convert.specs.Outcomes.{report_of}
 use Rattle.rtcm_convert.specs.Readable.{HasValue}
 use Rattle.rtcm_convert.specs.SetupValues.{Start, start_value}
@@ -17,10 +19,12 @@ pub record IsMade (x : Start) (a b : Option (List ℕ)) (bytes : List ℕ) : Typ
   pub value : HasValue (file (start_value x) (frames_of bytes))
   pub out : Appends a b (file (start_value x) (frames_of bytes))
 
--- These bytes are no more than the limit, and the file of their frames has no epoch; it is empty.
-pub record IsMadeEmpty (x : Start) (a b : Option (List ℕ)) (bytes : List ℕ) : Type 0 where
+-- These bytes are no more than the limit, and the file of their frames has no epoch; it is empty, and `fault` is its
+-- fault.
+pub record IsMadeEmpty (x : Start) (fault : Fault) (a b : Option (List ℕ)) (bytes : List ℕ) : Type 0 where
   pub within : length bytes ≤ x.setup.limit
   pub none : epochs_in (start_value x) (frames_of bytes) ≡ 0
+  pub fault_is : fault ≡ fault_of_none (epoch_counts (start_value x) (frames_of bytes))
   pub out : Appends a b (file (start_value x) (frames_of bytes))
 
 -- The stream is longer than the limit; the bytes written are the file of the epochs that the bytes read up to the limit

@@ -1,6 +1,7 @@
 -- The file written can be read back: it is the text of a file value, which `rinex_file::read_file` accepts.
-use Rattle.std.specs.Prelude.{◌≡◌, ℕ, ◌<◌, ◌⊎◌, List, []}
+use Rattle.std.specs.Prelude.{◌≡◌, ℕ, ◌<◌, ◌⊎◌, List, [], IfSome}
 use Rattle.rtcm_scan.specs.Frames.{Framed}
+use Rattle.gnss_obs.specs.Intervals.{IsInterval}
 use Rattle.gnss_obs.specs.GatheredEpochs.{AreStationValues}
 use Rattle.rinex_file.specs.Value.{FileValue}
 use Rattle.rinex_file.specs.FileValues.{AreTexts, IsFileValue}
@@ -16,11 +17,13 @@ HasValue text = (v : FileValue) × IsFileValue v × (text ≡ file_text v)
 abbrev pub IsReadable : List ℕ → Type 0
 IsReadable text = (text ≡ []) ⊎ HasValue text
 
--- the texts fit their columns, the signals are listed, and a message can have the station values, as in every setup
+-- the texts fit their columns, the signals are listed, a message can have the station values, and the interval is one of
+-- epochs, as in every setup
 pub record AreSound (s : SetupValue) : Type 0 where
   pub texts : AreTexts s.texts
   pub plan : AreSignals s.gather.plan
   pub initial : AreStationValues s.gather.initial
+  pub interval : IfSome s.gather.choice.interval IsInterval
 
 -- the file that frames make is readable
 abbrev pub FilesAreReadable : Type 0

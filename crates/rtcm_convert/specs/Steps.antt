@@ -7,7 +7,8 @@ use Rattle.obs_epoch.specs.Heard.{Heard, heard_by}
 use Rattle.obs_epoch.specs.Kinds.{is_close_first, kind_of}
 use Rattle.obs_epoch.specs.declared.taken.Kind.{Kind}
 use Rattle.obs_epoch.specs.GathererHistory.{IsAwaited, closed_epochs}
-use Rattle.rtcm_convert.specs.Converted.{SetupValue, text_with, so_far, file, epochs_in}
+use Rattle.rtcm_convert.specs.Converted.{SetupValue, text_with, so_far, file, epoch_counts, epochs_in}
+use Rattle.obs_epoch.specs.Marks.{capped_counts}
 use Rattle.rtcm_convert.specs.Outcomes.{capped}
 use Rattle.rtcm_convert.specs.Fed.{AppendsBetween, AppendsPrefixBetween}
 use Rattle.rtcm_convert.specs.Filed.{HasFiledEpochs, Settled, HasFiledFrames, HasGathered}
@@ -88,7 +89,8 @@ BreaksInFrame v f a b = (s : SetupValue) (fs : List Framed) → HasFiledFrames v
 -- the rest of the file was written, its epochs were counted, and all messages of its frames were gathered
 abbrev pub EndsFile : FileWriter → FileWriter → Option (List ℕ) → Option (List ℕ) → Type 0
 EndsFile v w a b = (s : SetupValue) (fs : List Framed) → HasFiledFrames v s fs
-    → AppendsBetween a b (so_far s fs) (file s fs) × (w.epochs ≡ capped (epochs_in s fs)) × HasGathered w s fs
+    → AppendsBetween a b (so_far s fs) (file s fs) × (w.epochs ≡ capped (epochs_in s fs))
+    × (w.gatherer.counts ≡ capped_counts (epoch_counts s fs)) × HasGathered w s fs
 
 -- a prefix of the rest of the file was written
 abbrev pub BreaksInRest : FileWriter → Option (List ℕ) → Option (List ℕ) → Type 0

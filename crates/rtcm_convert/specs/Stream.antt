@@ -7,7 +7,7 @@ use Rattle.rtcm_scan.specs.Known.{known_frames}
 use Rattle.rtcm_scan.specs.Scan.{FramerValue}
 use Rattle.rtcm_scan.specs.Examined.{HasExamined, IsCountedExactly}
 use Rattle.rtcm_scan.specs.Drained.{IsDrained}
-use Rattle.rtcm_convert.specs.Converted.{SetupValue, so_far, file, epochs_in}
+use Rattle.rtcm_convert.specs.Converted.{SetupValue, so_far, file, epoch_counts, epochs_in}
 use Rattle.rtcm_convert.specs.Fed.{AppendsBetween, AppendsPrefixBetween, AppendsUpTo}
 use Rattle.rtcm_convert.specs.Filed.{HasFiledFrames, HasGathered}
 use Rattle.rtcm_convert.specs.Outcomes.{outcomes, tally_of}
@@ -75,6 +75,7 @@ pub record IsEnded (v : FramerValue) (w : FileWriter) (a b : Option (List ℕ)) 
   pub over : v.has_ended ≡ true
   pub out : AppendsRest a b s bytes bytes
   pub epochs : w.epochs ≡ epochs_in s (frames_of bytes)
+  pub counts : w.gatherer.counts ≡ epoch_counts s (frames_of bytes)
   pub tally : w.tally ≡ tally_of (outcomes s (frames_of bytes))
   pub taken : v.taken ≡ length bytes
   pub within : length bytes ≤ v.limit

@@ -13,6 +13,8 @@ ghost use Rattle.rtcm_convert.specs.Kept.{cells_kept, locks_kept, locks_in_all, 
 ghost use Rattle.rtcm_bits.specs.Device.{IsUntouched, Moves};
 ghost use Rattle.rtcm_convert.specs.Outcomes.{report_with};
 ghost use Rattle.rtcm_convert.specs.Faults.{FailsWithReader, FailsWithWriter, IsSentAfter, IsSetupFault};
+ghost use Rattle.rtcm_convert.specs.Faults.{fault_of_none};
+ghost use Rattle.obs_epoch.specs.declared.choice.EpochCounts.{EpochCounts};
 ghost use Rattle.rtcm_convert.specs.Faults.{IsFeedFault, IsFinishFault, IsPiecesFault, IsRunFault};
 ghost use Rattle.rtcm_convert.specs.SetupValues.{setup_value, setup_value_by, setup_value_with, start_by};
 ghost use Rattle.rtcm_convert.specs.SetupValues.{start_with, IsBad, IsBadWith};
@@ -203,8 +205,8 @@ impl Converter {
     ///
     /// # Errors
     ///
-    /// `NoEpoch` if the file has no epoch, so that nothing was written; the converter is then
-    /// finished, as after `Ok`. `Write` if the writer failed; and, without any effect, `Finished`
+    /// If the file has no epoch, so that nothing was written, `NoEpoch` if no epoch of the stream
+    /// has a value, else `NoneChosen`; the converter is then finished, as after `Ok`. `Write` if the writer failed; and, without any effect, `Finished`
     /// if the stream was ended before, and `Failed` if an earlier call failed.
     pub fn finish<W: Deliver>(&mut self, writer: &mut Counted<W>) -> Result<Report, Fault>
         ensures refused { IfSome (refusal self.old)
@@ -213,10 +215,14 @@ impl Converter {
         ensures whole { IfOk result
             (FinishesNow self.old self.new (W.waiting writer.new.inner) (W.contents writer.old.inner)
             (W.contents writer.new.inner)) }
-        // No epoch of the whole stream was written, so nothing was.
+        // No epoch of the whole stream has a value, so nothing was written.
         ensures no_epoch { IsErrOf result Fault.NoEpoch
             → FinishesEmptyNow self.old self.new (W.waiting writer.new.inner) (W.contents writer.old.inner)
-            (W.contents writer.new.inner) }
+            (W.contents writer.new.inner) Fault.NoEpoch }
+        // None that has a value is chosen, and these are their numbers.
+        ensures none_chosen { (counts : EpochCounts) → IsErrOf result (Fault.NoneChosen counts)
+            → FinishesEmptyNow self.old self.new (W.waiting writer.new.inner) (W.contents writer.old.inner)
+            (W.contents writer.new.inner) (Fault.NoneChosen counts) }
         // A prefix of the rest of the file was written.
         ensures part { IsErrOf result Fault.Write
             → StopsAtEnd self.old (W.contents writer.old.inner) (W.contents writer.new.inner) }
@@ -237,13 +243,14 @@ impl Converter {
         self.ended_report()
     }
 
-    /// Returns the report of an ended stream, or `NoEpoch` if its file has no epoch.
+    /// Returns the report of an ended stream, or why its file has no epoch.
     fn ended_report(&self) -> Result<Report, Fault>
         ensures some { IfOk result (λ report. (self.now.file_writer.epochs ≢ 0)
             × (report
             ≡ report_with self.now.scan.taken self.now.scan.skipped self.now.file_writer.tally
             self.now.file_writer.epochs)) }
-        ensures none { IfErr result (λ fault. (fault ≡ Fault.NoEpoch) × (self.now.file_writer.epochs ≡ 0)) }
+        ensures none { IfErr result (λ fault. (fault ≡ fault_of_none self.now.file_writer.gatherer.counts)
+            × (self.now.file_writer.epochs ≡ 0)) }
     {
         let epochs = self.file_writer.epochs;
         if epochs == 0 {
@@ -289,10 +296,14 @@ impl Converter {
             (λ report.
             CompletesFile self.old self.new (W.waiting writer.new.inner) (W.contents writer.old.inner)
             (W.contents writer.new.inner) report (joined_pieces pieces.now)) }
-        // No epoch of the whole stream was written, so nothing was.
+        // No epoch of the whole stream has a value, so nothing was written.
         ensures no_epoch { IsErrOf result Fault.NoEpoch
             → CompletesEmptyFile self.old self.new (W.waiting writer.new.inner) (W.contents writer.old.inner)
-            (W.contents writer.new.inner) (joined_pieces pieces.now) }
+            (W.contents writer.new.inner) Fault.NoEpoch (joined_pieces pieces.now) }
+        // None that has a value is chosen, and these are their numbers.
+        ensures none_chosen { (counts : EpochCounts) → IsErrOf result (Fault.NoneChosen counts)
+            → CompletesEmptyFile self.old self.new (W.waiting writer.new.inner) (W.contents writer.old.inner)
+            (W.contents writer.new.inner) (Fault.NoneChosen counts) (joined_pieces pieces.now) }
         // The bytes up to the limit were accepted, and what they add was written.
         ensures long { IsErrOf result Fault.TooLong
             → CutsAtLimit self.old self.new (W.contents writer.old.inner) (W.contents writer.new.inner)
@@ -341,10 +352,14 @@ impl Converter {
         // The rest of the file of all the bytes was written, and that is the report.
         ensures whole { IfOk result (λ report. Moves R.remaining reader.old reader.new W.contents writer.old writer.new
             (CompletesFileOfAll self.old self.new (W.waiting writer.new.inner) report)) }
-        // No epoch of the whole stream was written, so nothing was.
+        // No epoch of the whole stream has a value, so nothing was written.
         ensures no_epoch { IsErrOf result Fault.NoEpoch
             → Moves R.remaining reader.old reader.new W.contents writer.old writer.new
-            (CompletesEmptyFileOfAll self.old self.new (W.waiting writer.new.inner)) }
+            (CompletesEmptyFileOfAll self.old self.new (W.waiting writer.new.inner) Fault.NoEpoch) }
+        // None that has a value is chosen, and these are their numbers.
+        ensures none_chosen { (counts : EpochCounts) → IsErrOf result (Fault.NoneChosen counts)
+            → Moves R.remaining reader.old reader.new W.contents writer.old writer.new
+            (CompletesEmptyFileOfAll self.old self.new (W.waiting writer.new.inner) (Fault.NoneChosen counts)) }
         // The stream is longer than the limit; the bytes up to it were accepted, and what they add
         // was written.
         ensures long { IsErrOf result Fault.TooLong
@@ -445,6 +460,7 @@ impl Converter {
         ensures all { (s : SetupValue) (b : List ℕ) → HasFinished self.now s b → result ≡ locks_in_all s (frames_of b) }
         ensures bound { result ≤ most_locks }
     {
+        obs_epoch::laws::closed_stay();
         self.file_writer.gatherer.locks()
     }
 

@@ -99,7 +99,7 @@ impl FileWriter {
         match self.values {
             None => {
                 let head = Head {
-                    interval: None,
+                    interval: self.gatherer.choice().interval,
                     texts: &self.texts,
                     plan: self.gatherer.plan(),
                     values,
@@ -203,6 +203,7 @@ impl FileWriter {
         ensures sent { OnOk result (W.waiting writer.new.inner ≡ []) }
         ensures ended { self.new.gatherer.has_ended ≡ true }
     {
+        obs_epoch::laws::closed_stay();
         self.gatherer.end();
         if let Err(_) = self.write_closed(writer) {
             return Err(Fault::Write);

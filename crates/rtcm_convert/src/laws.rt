@@ -1,12 +1,13 @@
 //! Laws of the definitions that the contracts cite.
 ghost use Rattle.rtcm_convert.specs.Laws.{WrittenStays, WrittenGrows, NothingYet, FiledStays, FiledGrows, NothingFiled};
-ghost use Rattle.rtcm_convert.specs.Laws.{CountedOnce, IsFileText};
-ghost use Rattle.std.specs.Prelude.{ℕ, ◌<◌, List};
+ghost use Rattle.rtcm_convert.specs.Laws.{CountedOnce, IsFileOfEvery, IsFileText};
+ghost use Rattle.std.specs.Prelude.{ℕ, ◌<◌, List, IfSome};
 ghost use Rattle.rtcm_scan.specs.Frames.{frames_of};
 ghost use Rattle.rtcm_scan.specs.Decided.{decided_frames};
 ghost use Rattle.rtcm_convert.specs.Converted.{so_far, file, epochs_in};
 ghost use Rattle.rtcm_convert.specs.SetupValues.{setup_value_by};
 ghost use Rattle.gnss_obs.specs.Values.{no_values};
+ghost use Rattle.gnss_obs.specs.Intervals.{IsInterval};
 ghost use Rattle.gnss_obs.specs.GatheredEpochs.{AreStationValues};
 ghost use Rattle.rtcm_convert.specs.declared.setup.ConvertOptions.{ConvertOptions};
 ghost use Rattle.rtcm_convert.specs.Readable.{FilesAreReadable, FilesHaveValues, SoFarIsReadable, IsReadable, HasValue};
@@ -47,6 +48,13 @@ pub fn text()
     rinex_file::laws::file();
 }
 
+/// The choice of every epoch leaves none out of the file.
+pub fn every_epoch()
+    ensures { IsFileOfEvery }
+{
+    obs_epoch::laws::choices();
+}
+
 /// The file that frames make is empty or the text of a file value, and so is what is written of it
 /// so far.
 pub fn readable()
@@ -65,12 +73,15 @@ pub fn readable()
 /// For every setup, options and stream: what is written is empty or the text of a
 /// file value, which [`read_file`](rinex_file::read_file) reads as that value.
 pub fn read_back(setup: &Setup)
-    ensures file { (o : ConvertOptions) → AreStationValues o.initial → (b : List ℕ)
+    ensures file { (o : ConvertOptions) → AreStationValues o.initial
+        → IfSome o.choice.interval IsInterval → (b : List ℕ)
         → IsReadable (file (setup_value_by setup.now o) (frames_of b)) }
-    ensures some { (o : ConvertOptions) → AreStationValues o.initial → (b : List ℕ)
+    ensures some { (o : ConvertOptions) → AreStationValues o.initial
+        → IfSome o.choice.interval IsInterval → (b : List ℕ)
         → 0 < epochs_in (setup_value_by setup.now o) (frames_of b)
         → HasValue (file (setup_value_by setup.now o) (frames_of b)) }
-    ensures so_far { (o : ConvertOptions) → AreStationValues o.initial → (b : List ℕ)
+    ensures so_far { (o : ConvertOptions) → AreStationValues o.initial
+        → IfSome o.choice.interval IsInterval → (b : List ℕ)
         → IsReadable (so_far (setup_value_by setup.now o) (decided_frames b)) }
     ensures zero { AreStationValues no_values }
 {

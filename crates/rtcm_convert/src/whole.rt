@@ -5,6 +5,7 @@ ghost use Rattle.rtcm_convert.specs.Faults.{FailsWithDevices, FailsWithWriter, I
 ghost use Rattle.rtcm_convert.specs.Broken.{BrokeInPieces, joined_pieces};
 ghost use Rattle.rtcm_convert.specs.Made.{IsMadeWith, IsMadeEmpty, IsMadeToLimit, AreMadeToLimit, IsMadeSoFar};
 ghost use Rattle.rtcm_convert.specs.Made.{IsMadeInPart};
+ghost use Rattle.obs_epoch.specs.declared.choice.EpochCounts.{EpochCounts};
 ghost use Rattle.rtcm_convert.specs.SetupValues.{setup_value, start_by, start_with, start_zero, IsBad, IsBadWith};
 
 use crate::converter::Converter;
@@ -23,7 +24,7 @@ use std::io::Read;
 /// # Errors
 ///
 /// `BadSetup` and `Memory` of [`Converter::new`], before anything is read or written; `Read`,
-/// `Write`, `TooLong` and `NoEpoch` of [`Converter::run`].
+/// `Write`, `TooLong`, `NoEpoch` and `NoneChosen` of [`Converter::run`].
 pub fn convert_stream<R: Read, W: Deliver>(
     alloc: Global,
     setup: Setup,
@@ -35,10 +36,15 @@ pub fn convert_stream<R: Read, W: Deliver>(
     ensures made { IfOk result (λ report.
         IfSome (R.remaining reader.old.inner)
         (IsMadeWith (start_zero setup) report (W.contents writer.old.inner) (W.contents writer.new.inner))) }
-    // The file has no epoch, and is empty.
+    // The file has no epoch and is empty, as no epoch of the stream has a value.
     ensures no_epoch { IsErrOf result Fault.NoEpoch
         → IfSome (R.remaining reader.old.inner)
-        (IsMadeEmpty (start_zero setup) (W.contents writer.old.inner) (W.contents writer.new.inner)) }
+        (IsMadeEmpty (start_zero setup) Fault.NoEpoch (W.contents writer.old.inner) (W.contents writer.new.inner)) }
+    // It is empty, as none that has a value is chosen, and these are their numbers.
+    ensures none_chosen { (counts : EpochCounts) → IsErrOf result (Fault.NoneChosen counts)
+        → IfSome (R.remaining reader.old.inner)
+        (IsMadeEmpty (start_zero setup) (Fault.NoneChosen counts) (W.contents writer.old.inner)
+        (W.contents writer.new.inner)) }
     // The stream is longer than the limit; the bytes up to it were accepted, and the file of the
     // epochs that they close was written.
     ensures long { IsErrOf result Fault.TooLong
@@ -81,10 +87,15 @@ pub fn convert_stream_with<R: Read, W: Deliver>(
     ensures made { IfOk result (λ report.
         IfSome (R.remaining reader.old.inner)
         (IsMadeWith (start_with setup initial) report (W.contents writer.old.inner) (W.contents writer.new.inner))) }
-    // The file has no epoch, and is empty.
+    // The file has no epoch and is empty, as no epoch of the stream has a value.
     ensures no_epoch { IsErrOf result Fault.NoEpoch
         → IfSome (R.remaining reader.old.inner)
-        (IsMadeEmpty (start_with setup initial) (W.contents writer.old.inner) (W.contents writer.new.inner)) }
+        (IsMadeEmpty (start_with setup initial) Fault.NoEpoch (W.contents writer.old.inner) (W.contents writer.new.inner)) }
+    // It is empty, as none that has a value is chosen, and these are their numbers.
+    ensures none_chosen { (counts : EpochCounts) → IsErrOf result (Fault.NoneChosen counts)
+        → IfSome (R.remaining reader.old.inner)
+        (IsMadeEmpty (start_with setup initial) (Fault.NoneChosen counts) (W.contents writer.old.inner)
+        (W.contents writer.new.inner)) }
     // The stream is longer than the limit; the bytes up to it were accepted, and the file of the
     // epochs that they close was written.
     ensures long { IsErrOf result Fault.TooLong
@@ -128,10 +139,15 @@ pub fn convert_with_options<R: Read, W: Deliver>(
     ensures made { IfOk result (λ report.
         IfSome (R.remaining reader.old.inner)
         (IsMadeWith (start_by setup options) report (W.contents writer.old.inner) (W.contents writer.new.inner))) }
-    // The file has no epoch, and is empty.
+    // The file has no epoch and is empty, as no epoch of the stream has a value.
     ensures no_epoch { IsErrOf result Fault.NoEpoch
         → IfSome (R.remaining reader.old.inner)
-        (IsMadeEmpty (start_by setup options) (W.contents writer.old.inner) (W.contents writer.new.inner)) }
+        (IsMadeEmpty (start_by setup options) Fault.NoEpoch (W.contents writer.old.inner) (W.contents writer.new.inner)) }
+    // It is empty, as none that has a value is chosen, and these are their numbers.
+    ensures none_chosen { (counts : EpochCounts) → IsErrOf result (Fault.NoneChosen counts)
+        → IfSome (R.remaining reader.old.inner)
+        (IsMadeEmpty (start_by setup options) (Fault.NoneChosen counts) (W.contents writer.old.inner)
+        (W.contents writer.new.inner)) }
     // The stream is longer than the limit; the bytes up to it were accepted, and the file of the
     // epochs that they close was written.
     ensures long { IsErrOf result Fault.TooLong
@@ -152,6 +168,8 @@ pub fn convert_with_options<R: Read, W: Deliver>(
         → IsUntouched reader.old reader.new writer.old writer.new) }
     ensures only { (result ≢ Err Fault.Failed) × (result ≢ Err Fault.Finished) }
 {
+    // Brings the range of the interval into the proof.
+    let _ = options.choice.milliseconds();
     laws::prefix();
     laws::read_back(&setup);
     let mut converter = Converter::with_options(alloc, setup, options)?;
@@ -165,8 +183,8 @@ pub fn convert_with_options<R: Read, W: Deliver>(
 ///
 /// # Errors
 ///
-/// `BadSetup` and `Memory` of [`Converter::new`], before anything is written; `Write`, `TooLong`
-/// and `NoEpoch` of [`Converter::take_pieces`].
+/// `BadSetup` and `Memory` of [`Converter::new`], before anything is written; `Write`, `TooLong`,
+/// `NoEpoch` and `NoneChosen` of [`Converter::take_pieces`].
 pub fn convert_pieces<W: Deliver>(
     alloc: Global,
     setup: Setup,
@@ -178,10 +196,14 @@ pub fn convert_pieces<W: Deliver>(
     ensures made { IfOk result (λ report.
         IsMadeWith (start_zero setup) report (W.contents writer.old.inner) (W.contents writer.new.inner)
         (joined_pieces pieces.now)) }
-    // The file has no epoch, and is empty.
+    // The file has no epoch and is empty, as no epoch of the stream has a value.
     ensures no_epoch { IsErrOf result Fault.NoEpoch
-        → IsMadeEmpty (start_zero setup) (W.contents writer.old.inner) (W.contents writer.new.inner)
+        → IsMadeEmpty (start_zero setup) Fault.NoEpoch (W.contents writer.old.inner) (W.contents writer.new.inner)
         (joined_pieces pieces.now) }
+    // It is empty, as none that has a value is chosen, and these are their numbers.
+    ensures none_chosen { (counts : EpochCounts) → IsErrOf result (Fault.NoneChosen counts)
+        → IsMadeEmpty (start_zero setup) (Fault.NoneChosen counts) (W.contents writer.old.inner)
+        (W.contents writer.new.inner) (joined_pieces pieces.now) }
     // The pieces go over the limit; the file of the epochs that the bytes up to it close was
     // written.
     ensures long { IsErrOf result Fault.TooLong

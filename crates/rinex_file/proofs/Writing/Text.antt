@@ -1,6 +1,6 @@
 -- The text of a file is that of its header and its epochs, one after the other.
 use Rattle.rinex_file.proofs.Writing.Sent.{joined-append}
-use Rattle.rinex_file.proofs.Names.{◌≡◌, ◌≢◌, ◌∙◌, sym, ap, ap₂, refl, append_assoc, Bool, true, false, Some, None, ℕ, List, [], ◌∷◌, ◌++◌, drop, flat_map, if◌then◌else◌, StationValues, PlanValue, Closed, same_values, joined, left, HeaderLists, stamped_of, stamped_after, all_stamped, header_line, header_lines, row_line, version_line, header_text, shown_text, epoch_text, event_text, event_lines, change_lines, change_text, closed_text, stamped_lines, file_text, gathered, Shown}
+use Rattle.rinex_file.proofs.Names.{◌≡◌, ◌≢◌, ◌∙◌, sym, ap, ap₂, refl, append_assoc, Bool, true, false, Option, Some, None, ℕ, List, [], ◌∷◌, ◌++◌, drop, flat_map, if◌then◌else◌, StationValues, PlanValue, Closed, same_values, joined, left, HeaderLists, stamped_of, stamped_after, all_stamped, header_line, header_lines, row_line, version_line, header_text, shown_text, epoch_text, event_text, event_lines, change_lines, change_text, closed_text, stamped_lines, file_text, gathered, Shown}
 
 -- the lines of an epoch that was closed after others
 stamped_text : (p : PlanValue) (v : StationValues) (c : Closed) → joined (stamped_lines (stamped_after p v c)) ≡ change_text v c.values ++ epoch_text p c.epoch
@@ -17,15 +17,15 @@ epochs_text p v (c ∷ cs) =
     ∙ ap₂ (λ (a b : List ℕ). a ++ b) (stamped_text p v c) (epochs_text p c.values cs)
     ∙ append_assoc (change_text v c.values) (epoch_text p c.epoch) (closed_text p c.values cs)
 
-abbrev shown : HeaderLists → PlanValue → StationValues → ℕ → Shown
-shown x p v first = record { texts = x; interval = None; plan = p; values = v; first = first }
+abbrev shown : HeaderLists → Option ℕ → PlanValue → StationValues → ℕ → Shown
+shown x i p v first = record { texts = x; interval = i; plan = p; values = v; first = first }
 
-pub file_text-gathered : (x : HeaderLists) (p : PlanValue) (v : StationValues) (c : Closed) (cs : List Closed)
-    → header_text x p v c.epoch.time ++ closed_text p v (c ∷ cs) ≡ file_text (gathered x p v (c ∷ cs))
+pub file_text-gathered : (x : HeaderLists) (i : Option ℕ) (p : PlanValue) (v : StationValues) (c : Closed) (cs : List Closed)
+    → header_text x i p v c.epoch.time ++ closed_text p v (c ∷ cs) ≡ file_text (gathered x i p v (c ∷ cs))
 unfolding shown_text
-file_text-gathered x p v c cs =
-    ap (λ l. joined (header_lines (shown x p v c.epoch.time)) ++ l) (sym (epochs_text p v (c ∷ cs)))
-    ∙ sym (joined-append (header_lines (shown x p v c.epoch.time)) (flat_map stamped_lines (all_stamped p v (c ∷ cs))))
+file_text-gathered x i p v c cs =
+    ap (λ l. joined (header_lines (shown x i p v c.epoch.time)) ++ l) (sym (epochs_text p v (c ∷ cs)))
+    ∙ sym (joined-append (header_lines (shown x i p v c.epoch.time)) (flat_map stamped_lines (all_stamped p v (c ∷ cs))))
 
 -- a line ends in a line feed
 some_line : (a b rest : List ℕ) → (a ++ (b ++ (10 ∷ []))) ++ rest ≢ []
@@ -37,8 +37,8 @@ header_line-some : (content label rest : List ℕ) → header_line content label
 unfolding header_line
 header_line-some content label rest e = some_line (left 60 content) (left 20 label) rest e
 
-pub header_text-some : (x : HeaderLists) (p : PlanValue) (v : StationValues) (first : ℕ) → header_text x p v first ≢ []
+pub header_text-some : (x : HeaderLists) (i : Option ℕ) (p : PlanValue) (v : StationValues) (first : ℕ) → header_text x i p v first ≢ []
 unfolding shown_text header_lines row_line
-header_text-some x p v first e =
-    let shape : header_text x p v first ≡ version_line p ++ joined (drop 1 (header_lines (shown x p v first))) = refl in
-    header_line-some _ _ (joined (drop 1 (header_lines (shown x p v first)))) (sym shape ∙ e)
+header_text-some x i p v first e =
+    let shape : header_text x i p v first ≡ version_line p ++ joined (drop 1 (header_lines (shown x i p v first))) = refl in
+    header_line-some _ _ (joined (drop 1 (header_lines (shown x i p v first)))) (sym shape ∙ e)

@@ -1,6 +1,6 @@
-use Rattle.rtcm_convert.proofs.FaultLemmas.{pieces_known, never, not_of_setup, not_err}
+use Rattle.rtcm_convert.proofs.FaultLemmas.{passed, setup_never, pieces_known, never, not_of_setup, not_err}
 use Rattle.rtcm_convert.proofs.WholeLemmas.{BeganNew, run_made, run_empty, pieces_cut, pieces_failed}
-use Rattle.rtcm_convert.proofs.Names.{Some, refl, no_values, options_with, LeftBy, BadSetup, Read, Failed, Finished, joined_pieces, start_zero}
+use Rattle.rtcm_convert.proofs.Names.{◌≡◌, IsErrOf, NoneChosen, Some, refl, no_values, options_with, LeftBy, BadSetup, Read, Failed, Finished, joined_pieces, start_zero}
 use Rattle.rtcm_convert.proofs.whole.convert_pieces.Goals as goal
 
 pub returns : goal.returns
@@ -15,8 +15,9 @@ returns g c =
     let left = n.left.0.1 h.history.going in
     let no = never (λ f. LeftBy f w) pieces_known r left in
     record {
-      made = run_made _ (Some (joined_pieces c.args.pieces.now)) _ _ r new (c.read_back.ensures.some (options_with no_values) c.read_back.ensures.zero) n.whole;
-      no_epoch = λ e. run_empty _ (Some (joined_pieces c.args.pieces.now)) _ _ new (n.no_epoch e);
+      made = run_made _ (Some (joined_pieces c.args.pieces.now)) _ _ r new (c.read_back.ensures.some (options_with no_values) c.read_back.ensures.zero tt) n.whole;
+      no_epoch = λ e. run_empty _ _ (Some (joined_pieces c.args.pieces.now)) _ _ new (n.no_epoch e);
+      none_chosen = λ counts e. run_empty _ _ (Some (joined_pieces c.args.pieces.now)) _ _ new (n.none_chosen counts e);
       long = λ e. pieces_cut c.args.pieces.now new h.fresh.1 (n.long e);
       write = λ e. pieces_failed c.args.pieces.now new (n.write e);
       sent = n.sent;
@@ -25,3 +26,7 @@ returns g c =
       untouched = not_of_setup (λ f. LeftBy f w) pieces_known _ r left refl refl;
       only = (no Failed refl, no Finished refl, no Read refl);
     }
+
+pub returns-in_err-converter-clause-none_chosen : goal.returns-in_err-converter-clause-none_chosen
+returns-in_err-converter-clause-none_chosen g c = λ counts e.
+    absurd (setup_never c.in_err-converter.field-0.0 c.in_err-converter.ensures.only counts (passed c.from_residual.result _ (λ q. IsErrOf q (NoneChosen counts) → c.in_err-converter.field-0.0 ≡ NoneChosen counts) c.from_residual.ensures.1 (λ k. cc) e))

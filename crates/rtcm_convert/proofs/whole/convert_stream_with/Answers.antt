@@ -1,7 +1,7 @@
 use Rattle.rtcm_convert.specs.declared.setup.ConvertOptions.{ConvertOptions}
 use Rattle.rtcm_convert.specs.declared.setup.Setup.{Setup}
 use Rattle.rtcm_convert.specs.Made.{IsMadeInPart, IsMadeSoFar}
-use Rattle.rtcm_convert.proofs.Names.{◌≡◌, subst, BadSetup, Err, IfOk, IfSome, IsBadWith, IsErrOf, IsMadeEmpty, IsMadeToLimit, IsMadeWith, NoEpoch, Read, Start, TooLong, Write, start_by}
+use Rattle.rtcm_convert.proofs.Names.{◌≡◌, subst, BadSetup, Err, IfOk, IfSome, IsBadWith, IsErrOf, IsMadeEmpty, IsMadeToLimit, IsMadeWith, NoEpoch, NoneChosen, Read, Start, TooLong, Write, start_by}
 use Rattle.rtcm_convert.proofs.whole.convert_stream_with.Goals as goal
 
 -- what was made from the same options
@@ -20,7 +20,8 @@ returns g c =
     let b = g.W.Write.contents c.convert_with_options.new.writer.inner in
     record {
       made = same s (λ x. IfOk r (λ report. IfSome from (IsMadeWith x report a b))) e n.made;
-      no_epoch = same s (λ x. IsErrOf r NoEpoch → IfSome from (IsMadeEmpty x a b)) e n.no_epoch;
+      no_epoch = same s (λ x. IsErrOf r NoEpoch → IfSome from (IsMadeEmpty x NoEpoch a b)) e n.no_epoch;
+      none_chosen = λ counts. same s (λ x. IsErrOf r (NoneChosen counts) → IfSome from (IsMadeEmpty x (NoneChosen counts) a b)) e (n.none_chosen counts);
       long = same s (λ x. IsErrOf r TooLong → IsMadeToLimit x from rest a b) e n.long;
       read = same s (λ x. IsErrOf r Read → IsMadeSoFar x from rest a b) e n.read;
       write = same s (λ x. IsErrOf r Write → IsMadeInPart x from rest a b) e n.write;

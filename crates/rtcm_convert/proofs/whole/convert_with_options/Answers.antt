@@ -1,3 +1,5 @@
+use Rattle.std.proofs.Common.{ℕ, Option, IfSome, subst}
+use Rattle.gnss_obs.specs.Intervals.{IsInterval}
 use Rattle.rtcm_convert.proofs.FaultLemmas.{passed, run_known, never, not_of_setup, not_err}
 use Rattle.rtcm_convert.proofs.PartLemmas.{same_fault}
 use Rattle.rtcm_convert.proofs.WholeLemmas.{BeganNew, run_made, run_empty, run_read, run_long, run_write}
@@ -13,12 +15,14 @@ returns g c =
     let r = c.run-answer.result in
     let n = c.run-answer.ensures in
     let from = g.R.Read.remaining c.args.reader.now.inner in
+    let interval : IfSome c.args.options.choice.interval IsInterval = subst (λ (o : Option ℕ). IfSome o IsInterval) c.milliseconds.ensures.value c.milliseconds.ensures.bound in
     let new : BeganNew v w x = record { nothing = c.prefix.ensures.nothing; history = h.history; same = n.left.0.0; limit = h.fresh.0 } in
     let left = n.left.0.1 h.history.going in
     let no = never (λ f. LeftBy f w) run_known r left in
     record {
-      made = run_made _ from _ _ r new (c.read_back.ensures.some c.args.options h.fits) n.whole;
-      no_epoch = λ e. run_empty _ from _ _ new (n.no_epoch e);
+      made = run_made _ from _ _ r new (c.read_back.ensures.some c.args.options h.fits interval) n.whole;
+      no_epoch = λ e. run_empty _ _ from _ _ new (n.no_epoch e);
+      none_chosen = λ counts e. run_empty _ _ from _ _ new (n.none_chosen counts e);
       long = λ e. run_long new (n.long e);
       read = λ e. run_read from _ new (n.read e);
       write = λ e. run_write from _ new (n.write e);

@@ -5,7 +5,7 @@ use Rattle.rtcm_convert.proofs.FeedLemmas.{with_flags, read_of, long_of, sink_of
 use Rattle.rtcm_convert.proofs.FinishLemmas.{left_after, not_of_finish, reader_after, sent_after}
 use Rattle.rtcm_convert.proofs.RunLemmas.{going_on, ran_whole, ran_empty, run_finishing, rest_taken, rest_faulty, rest_long, rest_part, rest_device}
 use Rattle.rtcm_convert.proofs.StreamLemmas.{piece_fine}
-use Rattle.rtcm_convert.proofs.Names.{◌∙◌, ap, refl, IfOk, IfOk-weaker, IsRunFault, Read, TooLong, subst, inl, inr, true, up_to_limit, CompletesEmptyFile, CompletesFile, Conversion, FailsFeeding, FailsFinishing, IfSome, RanToFault, RanToLimit}
+use Rattle.rtcm_convert.proofs.Names.{◌∙◌, ap, refl, IfOk, IfOk-weaker, IsRunFault, Read, TooLong, subst, inl, inr, true, up_to_limit, CompletesEmptyFile, CompletesFile, Conversion, FailsFeeding, FailsFinishing, IfSome, NoEpoch, NoneChosen, RanToFault, RanToLimit}
 use Rattle.rtcm_convert.proofs.converter.Converter.run.Goals as goal
 
 pub invariant_of-self : goal.invariant_of-self
@@ -23,7 +23,13 @@ pub returns-in-Ok-clause-no_epoch : goal.returns-in-Ok-clause-no_epoch
 returns-in-Ok-clause-no_epoch g c =
     let listening = c.self.invariant.listening (going_on c.self.view_is c.in_ok-refuse.ensures.going) in
     let p = rest_taken g.W.Write.contents (g.R.Read.remaining c.args.reader.now.inner) (g.R.Read.remaining c.read_pieces.new.reader.inner) (record { bounds = c.kept.ensures.bounds; values = c.kept.ensures.now }) listening (c.read_pieces.ensures.same.ended ∙ listening) c.in-Ok.ensures.whole in
-    λ h. subst (λ (x : Conversion). IfSome (g.R.Read.remaining c.args.reader.now.inner) (CompletesEmptyFile x c.finish.new.self (g.W.Deliver.waiting c.finish.new.writer.inner) (g.W.Write.contents c.args.writer.now.inner) (g.W.Write.contents c.finish.new.writer.inner))) c.self.view_is (ran_empty _ _ p c.in-Ok.ensures.end.0 (c.finish.ensures.no_epoch h))
+    λ h. subst (λ (x : Conversion). IfSome (g.R.Read.remaining c.args.reader.now.inner) (CompletesEmptyFile x c.finish.new.self (g.W.Deliver.waiting c.finish.new.writer.inner) (g.W.Write.contents c.args.writer.now.inner) (g.W.Write.contents c.finish.new.writer.inner) NoEpoch)) c.self.view_is (ran_empty _ _ p c.in-Ok.ensures.end.0 (c.finish.ensures.no_epoch h))
+
+pub returns-in-Ok-clause-none_chosen : goal.returns-in-Ok-clause-none_chosen
+returns-in-Ok-clause-none_chosen g c =
+    let listening = c.self.invariant.listening (going_on c.self.view_is c.in_ok-refuse.ensures.going) in
+    let p = rest_taken g.W.Write.contents (g.R.Read.remaining c.args.reader.now.inner) (g.R.Read.remaining c.read_pieces.new.reader.inner) (record { bounds = c.kept.ensures.bounds; values = c.kept.ensures.now }) listening (c.read_pieces.ensures.same.ended ∙ listening) c.in-Ok.ensures.whole in
+    λ counts h. subst (λ (x : Conversion). IfSome (g.R.Read.remaining c.args.reader.now.inner) (CompletesEmptyFile x c.finish.new.self (g.W.Deliver.waiting c.finish.new.writer.inner) (g.W.Write.contents c.args.writer.now.inner) (g.W.Write.contents c.finish.new.writer.inner) (NoneChosen counts))) c.self.view_is (ran_empty _ _ p c.in-Ok.ensures.end.0 (c.finish.ensures.none_chosen counts h))
 
 pub returns-in-Ok-clause-write : goal.returns-in-Ok-clause-write
 returns-in-Ok-clause-write g c =

@@ -42,6 +42,11 @@ returns-clause-no_epoch g c =
     let all = pieces_all (λ piece. piece.items) c.args.pieces.now c.loop-piece.piece-index c.loop-piece.auto.piece-index-end c.loop-piece-test.false in
     λ e. pieces_empty _ c.loop-piece.invariant.came all (c.finish.ensures.no_epoch e)
 
+pub returns-clause-none_chosen : goal.returns-clause-none_chosen
+returns-clause-none_chosen g c =
+    let all = pieces_all (λ piece. piece.items) c.args.pieces.now c.loop-piece.piece-index c.loop-piece.auto.piece-index-end c.loop-piece-test.false in
+    λ counts e. pieces_empty _ c.loop-piece.invariant.came all (c.finish.ensures.none_chosen counts e)
+
 pub returns-clause-write : goal.returns-clause-write
 returns-clause-write g c =
     let all = pieces_all (λ piece. piece.items) c.args.pieces.now c.loop-piece.piece-index c.loop-piece.auto.piece-index-end c.loop-piece-test.false in

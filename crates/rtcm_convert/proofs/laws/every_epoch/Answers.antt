@@ -1,0 +1,11 @@
+use Rattle.std.proofs.Common.{◌∙◌, ap}
+use Rattle.obs_epoch.specs.GathererHistory.{all_epochs}
+use Rattle.obs_epoch.specs.Heard.{GatherSetup}
+use Rattle.obs_epoch.specs.declared.choice.Choice.{Choice}
+use Rattle.rtcm_convert.specs.Converted.{messages_of, text_with}
+use Rattle.rtcm_convert.proofs.laws.every_epoch.Goals as goal
+
+pub returns : goal.returns
+returns c = λ s fs e.
+    let ms = messages_of s fs in
+    ap (text_with s) (ap (λ (k : Choice). all_epochs (record s.gather { choice = k }) ms) e ∙ (c.choices.ensures.whole s.gather ms).all)
