@@ -1,6 +1,6 @@
 -- Numbers, dates and lengths that are read from text, and lengths that were written.
 use Rattle.std.proofs.Common.{◌≡◌, ◌≢◌, ◌∙◌, ◌≤◌, ◌<◌, ◌+◌, ◌-◌, ◌*◌, ◌/◌, ◌%◌, ◌^◌, ◌&&◌, ◌==◌, ◌++◌, ℕ, pos, Bool, true, false, not, List, [], ◌∷◌, Option, Some, None, Result, Ok, Err, IfSome, Bor, option_map, unwrap_or, length, length-append, get_or, drop, decimal, codes, append_assoc, arith, rules, refl, sym, ap, subst, lit≤}
-use Rattle.option_texts.proofs.Names.{and_from, and_parts, le-leb, le-ltb, lt-ltb, inl, inr, ◌↔◌, IsNumeral, digits_value, signed_digits_value, without_leading_sign, decimal_is_IsNumeral, ParsesUnsigned, IsCivilOf, week, weeks, Civil, IsHourOf, IsWeekNumber, IsWeekOf, civil_in, if◌then◌else◌, option_and_then, nat_le, nat_lt, nat_tests, common_steps, list_all, result_ok, is_digit, digits_from, digits_in, next_digit, number_of as digits_number, number_of, MatchOption, IsNumeralModel, numerals_by_fold, parse_plain, digits_value_short, position_or_len, position_or_len_is, get_or_append_left, get_or_at, take_at, drop_at, length_push, decimal_nonempty, digits_decimal, digits_value-decimal, length-decimal-le, list_all-append, AllPass-from_list_all, after_byte, cut, decimals_of, fixed_by, fixed_point, length_below, four_digits, size_text}
+use Rattle.option_texts.proofs.Names.{and_from, and_parts, le-leb, le-ltb, lt-ltb, inl, inr, ◌↔◌, IsNumeral, digits_value, signed_digits_value, without_leading_sign, decimal_is_IsNumeral, ParsesUnsigned, IsCivilOf, week, weeks, Civil, IsHourOf, IsTimeAt, IsWeekNumber, IsWeekOf, civil_in, if◌then◌else◌, option_and_then, nat_le, nat_lt, nat_tests, common_steps, list_all, result_ok, is_digit, digits_from, digits_in, next_digit, number_of as digits_number, number_of, MatchOption, IsNumeralModel, numerals_by_fold, parse_plain, digits_value_short, position_or_len, position_or_len_is, get_or_append_left, get_or_at, take_at, drop_at, length_push, decimal_nonempty, digits_decimal, digits_value-decimal, length-decimal-le, list_all-append, AllPass-from_list_all, after_byte, cut, decimals_of, fixed_by, fixed_point, length_below, four_digits, size_text}
 
 -- ---- numbers of digits alone
 
@@ -43,9 +43,9 @@ no_sign (b ∷ bs) None h is = by (b == 45) refl where
 
 -- ---- dates
 
--- no hour of the day in a text
-pub no_hour : (hour : ℕ) (text : List ℕ) (c : Civil) → civil_in hour text ≡ Some c → ((t : ℕ) → t < weeks * week → IsCivilOf t c → ⊥) → (t : ℕ) → IsHourOf hour text t → ⊥
-no_hour hour text c is none t h =
+-- a date and time of day without a time
+pub no_time : {at : Option Civil} (c : Civil) → at ≡ Some c → ((t : ℕ) → t < weeks * week → IsCivilOf t c → ⊥) → (t : ℕ) → IsTimeAt at t → ⊥
+no_time c is none t h =
     let same : h.0 ≡ c = ap (λ (o : Option Civil). unwrap_or o c) (sym h.1 ∙ is) in
     none t h.3 (subst (IsCivilOf t) same h.2)
 

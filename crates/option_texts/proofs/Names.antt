@@ -20,7 +20,7 @@ pub use Rattle.std.specs.Result.{result_ok}
 pub use Rattle.std.proofs.Common.{All, Bool, IfSome, List, None, Option, Some, [], ap, append-nil, append_assoc, ap₂, arith, decimal, false, get_or, inl, inr, length, length-append, refl, replicate, rules, subst, sym, take, true, ℕ, ◌*◌, ◌++◌, ◌+◌, ◌-◌, ◌<◌, ◌==◌, ◌^◌, ◌||◌, ◌∙◌, ◌∷◌, ◌≡◌, ◌≤◌}
 pub use Rattle.gnss_obs.specs.declared.civil.Civil.{Civil}
 pub use Rattle.rinex_fields.specs.Read.{digits_from, digits_in, next_digit}
-pub use Rattle.option_texts.specs.Dates.{IsHourOf, IsWeekNumber, IsWeekOf, civil_in}
+pub use Rattle.option_texts.specs.Dates.{IsHourOf, IsTimeAt, IsWeekNumber, IsWeekOf, civil_in}
 pub use Rattle.option_texts.specs.Lengths.{after_byte, cut, decimals_of, fixed_by, fixed_point, is_digit, length_below, number_of}
 pub use Rattle.std.proofs.lemmas.Str.Parse.{IsNumeralModel, digits_value_short, numerals_by_fold, parse_plain}
 pub use Rattle.std.proofs.lemmas.Str.Pattern.{starts_char, strip_prefix_char}

@@ -1,9 +1,11 @@
--- Lengths in metres, read from text in units of 0.0001 m, and intervals in seconds, in milliseconds.
-use Rattle.std.specs.Prelude.{ℕ, ℤ, pos, neg_ℤ, nat_le, nat_lt, ◌+◌, ◌-◌, ◌*◌, ◌^◌, ◌==◌, ◌&&◌, Bool, List, [], ◌∷◌, take, drop}
+-- Lengths in metres, read from text in units of 0.0001 m, and intervals and tolerances in seconds, in milliseconds.
+use Rattle.std.specs.Prelude.{ℕ, ℤ, pos, neg_ℤ, nat_le, nat_lt, ◌+◌, ◌-◌, ◌*◌, ◌^◌, ◌%◌, ◌==◌, ◌&&◌, Bool, List, [], ◌∷◌}
+use Rattle.std.specs.Prelude.{take, drop}
 use Rattle.std.specs.Prelude.{length, Option, Some, None, option_map, option_and_then, position}
 use Rattle.std.specs.Prelude.{if◌then◌else◌}
 use Rattle.std.specs.List.{list_all}
 use Rattle.gnss_obs.specs.GatheredEpochs.{coordinate_bound}
+use Rattle.gnss_obs.specs.Weeks.{day}
 use Rattle.rinex_fields.specs.Read.{digits_in}
 
 abbrev pub is_digit : ℕ → Bool
@@ -46,6 +48,20 @@ longest_interval = 86400000
 abbrev pub interval_of : List ℕ → Option ℕ
 interval_of text =
     option_and_then (λ n. if nat_lt 0 n && nat_le n longest_interval then Some n else None) (fixed_point 3 text)
+
+-- an interval of epochs: at least 0.1 s, and a divisor of a day
+abbrev pub epoch_interval_of : List ℕ → Option ℕ
+epoch_interval_of text =
+    option_and_then (λ n. if nat_le 100 n && (day % n == 0) then Some n else None) (interval_of text)
+
+-- a tolerance: at most half a second, and at most half of the interval if there is one
+abbrev pub is_tolerance : Option ℕ → ℕ → Bool
+is_tolerance None n = nat_le n 500
+is_tolerance (Some interval) n = nat_le n 500 && nat_le (2 * n) interval
+
+abbrev pub tolerance_of : Option ℕ → List ℕ → Option ℕ
+tolerance_of interval text =
+    option_and_then (λ n. if is_tolerance interval n then Some n else None) (fixed_point 3 text)
 
 -- the bytes after a first one, if the text begins with it
 abbrev pub after_byte : ℕ → List ℕ → Option (List ℕ)

@@ -1,4 +1,4 @@
-//! Lines that are put together from words and numbers; weeks, dates, lengths, intervals and
+//! Lines that are put together from words and numbers; weeks, dates, times, lengths, intervals and
 //! channels, read from texts of options and written; leap seconds of a date.
 #![tactic(auto)]
 
@@ -10,4 +10,7 @@ mod texts;
 pub use channel_texts::{channels_of, channels_text};
 pub use leap_seconds::leap_at;
 pub use line::OutputLine;
-pub use texts::{hour_of, interval_of, length_below, position_of, week_of};
+pub use texts::{
+    epoch_interval_of, hour_of, interval_of, length_below, position_of, time_of, tolerance_of,
+    week_of,
+};

@@ -1,10 +1,12 @@
-//! Weeks, dates, lengths and intervals, read from text.
+//! Weeks, dates, times, lengths and intervals, read from text.
 ghost use Rattle.std.specs.Prelude.{◌≡◌, ◌≤◌, ◌<◌, ◌^◌, ℕ, IfSome, MatchOption, None, Some};
-ghost use Rattle.option_texts.specs.Dates.{IsHourOf, IsWeekNumber, IsWeekOf, civil_in, fixed_number};
-ghost use Rattle.option_texts.specs.Lengths.{coordinate_of, cut, decimals_of, fixed_point, interval_of};
-ghost use Rattle.option_texts.specs.Lengths.{length_below, longest_interval, number_of, position_of};
+ghost use Rattle.option_texts.specs.Dates.{IsHourOf, IsTimeOf, IsWeekNumber, IsWeekOf, civil_in, clock_in};
+ghost use Rattle.option_texts.specs.Dates.{fixed_number, moment_in, two_below};
+ghost use Rattle.option_texts.specs.Lengths.{coordinate_of, cut, decimals_of, epoch_interval_of, fixed_point};
+ghost use Rattle.option_texts.specs.Lengths.{interval_of, length_below, longest_interval, number_of, position_of};
+ghost use Rattle.option_texts.specs.Lengths.{tolerance_of};
 
-use gnss_obs::{Civil, GREATEST_COORDINATE, GpsTime, LEAST_COORDINATE, WEEK, WEEKS};
+use gnss_obs::{Civil, GREATEST_COORDINATE, GpsTime, Interval, LEAST_COORDINATE, WEEK, WEEKS};
 
 /// Returns the GPS week of a text: a number from 0 to 99,999, with or without a sign, or a GPS date
 /// `yyyy-mm-dd` in it. `None` for any other text.
@@ -33,6 +35,56 @@ pub fn hour_of(text: &str, hour: u8) -> Option<GpsTime>
     // The question mark gives the proof the range of the time.
     let time = GpsTime::from_civil(&civil_in(text, hour)?)?;
     Some(time)
+}
+
+/// Returns the time in a text of the form `yyyy-mm-dd`, which is 0 h of this GPS date, or
+/// `yyyy-mm-ddThh:mm:ss`, from 1980-01-06 on and before week 100,000. `None` for any other text.
+pub fn time_of(text: &str) -> Option<GpsTime>
+    ensures { MatchOption result ((t : ℕ) → ¬ IsTimeOf text.now t) (IsTimeOf text.now) }
+{
+    // The question mark gives the proof the range of the time.
+    let time = GpsTime::from_civil(&moment_in(text)?)?;
+    Some(time)
+}
+
+/// Parses a date at 0 h, or followed by a `T` and a time of day.
+fn moment_in(text: &str) -> Option<Civil>
+    ensures { result ≡ moment_in text.now }
+{
+    let Some((date, clock)) = cut(text, 'T') else {
+        return civil_in(text, 0);
+    };
+    let midnight = civil_in(date, 0)?;
+    let (hour, minute, second) = clock_in(clock)?;
+    Some(Civil {
+        hour,
+        minute,
+        millisecond: 1_000 * u16::from(second),
+        ..midnight
+    })
+}
+
+/// Parses an hour, a minute and a second of two digits each, separated by colons.
+fn clock_in(text: &str) -> Option<(u8, u8, u8)>
+    ensures value { result ≡ clock_in text.now }
+    ensures small { IfSome result (λ t. t.2 < 60) }
+{
+    let (hour, rest) = cut(text, ':')?;
+    let (minute, second) = cut(rest, ':')?;
+    Some((
+        two_below(hour, 24)?,
+        two_below(minute, 60)?,
+        two_below(second, 60)?,
+    ))
+}
+
+/// Parses a number of two digits that is below a bound.
+fn two_below(text: &str, bound: u64) -> Option<u8>
+    ensures value { result ≡ two_below bound text.now }
+    ensures below { IfSome result (λ n. n < bound) }
+{
+    let number = fixed_number(text, 2)?;
+    (number < bound).then_some(number as u8)
 }
 
 /// Parses numbers of four, two and two digits, separated by hyphens.
@@ -102,6 +154,26 @@ pub fn interval_of(text: &str) -> Option<u64>
     ensures fits { IfSome result (λ n. (0 < n) × (n ≤ longest_interval)) }
 {
     fixed_point(text, 3).filter(|interval| 0 < *interval && *interval <= 86_400_000)
+}
+
+/// Returns the interval of epochs in a text, given in seconds with up to three decimals. `None` for
+/// any other text, below 0.1 s, above a day, and if it isn't a divisor of a day.
+pub fn epoch_interval_of(text: &str) -> Option<Interval>
+    ensures { result ≡ epoch_interval_of text.now }
+{
+    Interval::new(interval_of(text)? as u32)
+}
+
+/// Returns the tolerance in a text in milliseconds, given in seconds with up to three decimals.
+/// `None` for any other text, above 0.5 s, and above half of the interval.
+pub fn tolerance_of(text: &str, interval: Option<Interval>) -> Option<u16>
+    ensures { result ≡ tolerance_of interval text.now }
+{
+    let tolerance = fixed_point(text, 3).filter(|tolerance| *tolerance <= 500)? as u16;
+    match interval {
+        Some(interval) if 2 * u32::from(tolerance) > interval.milliseconds() => None,
+        _ => Some(tolerance),
+    }
 }
 
 /// Parses at most eight digits, a point and `most` decimals, in units of the last decimal.
