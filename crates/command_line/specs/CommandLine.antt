@@ -53,6 +53,21 @@ week = required (option (codes "week"))
 abbrev pub date : Rule
 date = required (option (codes "date"))
 
+-- the times from which on and before which epochs are written
+abbrev pub from : Rule
+from = option (codes "from")
+
+abbrev pub until : Rule
+until = option (codes "until")
+
+-- the interval of the epochs that are written
+abbrev pub interval : Rule
+interval = option (codes "interval")
+
+-- how far an epoch may be from its nominal time
+abbrev pub tolerance : Rule
+tolerance = or_else (codes "0.005") (option (codes "tolerance"))
+
 -- the option of the planned signals of a system: without it, all of GPS and Galileo, and none of another system
 abbrev pub signals_otherwise : System → Text
 signals_otherwise Gps = codes "all"
@@ -165,7 +180,8 @@ check = with_options (new_app (codes "check")) (times ∷ gaps ∷ [])
 
 abbrev pub convert : (forms rules : Choices) → App
 convert forms rules = with_options (with_options (new_app (codes "convert"))
-    (week ∷ date ∷ (flat_map planned_with systems ++ msm forms ∷ station ∷ position ∷ height ∷ gather rules ∷ limit ∷ [])))
+    (week ∷ date ∷ from ∷ until ∷ interval ∷ tolerance
+    ∷ (flat_map planned_with systems ++ msm forms ∷ station ∷ position ∷ height ∷ gather rules ∷ limit ∷ [])))
     texts
 
 -- a command is required, and `--version` is accepted

@@ -149,6 +149,17 @@ const CONVERT: CommandRow<'static> = CommandRow {
             "GPS week of the first observations, 0 to 99999\n\
              without rollover, or a date in it: 2024-02-04";
         "date", "TEXT", true, &[], TEXT, Set, "Date of the run: 'yyyymmdd hhmmss UTC'";
+        // The epochs that are written.
+        "from", "TIME", false, &[], TEXT, Set,
+            "Writes epochs from this GPS time on, as\n\
+             2024-02-04 or 2024-02-04T13:30:00";
+        "until", "TIME", false, &[], TEXT, Set, "Writes epochs before this GPS time";
+        "interval", "SECONDS", false, &[], TEXT, Set,
+            "Writes epochs at multiples of this, 0.1 to\n\
+             86400, a divisor of a day: 30";
+        "tolerance", "SECONDS", false, &["0.005"], TEXT, Set,
+            "How far from its nominal time an epoch may be,\n\
+             0 to 0.5";
         "gps", "SIGNALS", false, &["all"], TEXT, Set,
             "GPS signals in the file's order: all, none,\n\
              or codes as 1C,2W";
