@@ -5,7 +5,7 @@ _rtcm2rinex() {
     local words=$("$1" $command --help 2>&1 | awk -v last="$last" '
         /^[A-Z]/ { part = $1 }
         /^  [a-z]/ && part == "Commands:" { print $1 }
-        /^  (    )?-/ && part == "Options:" {
+        /^  (    )?-/ {
             option = $1 ~ /,$/ ? $2 : $1
             options = options " " option
             value = $0 ~ /</

@@ -1,6 +1,6 @@
 -- A command after an option or a command is added.
 use Rattle.std.proofs.lemmas.Bool.{and_parts, not-true}
-use Rattle.command_line.proofs.Names.{◌≡◌, ◌+◌, ◌<◌, ◌&&◌, ◌∷◌, [], ℕ, Bool, Result, Ok, Err, IfErr, List, Some, true, false, not, is_some, length, map, take, get_or, refl, sym, ap, ap₂, ◌∙◌, map_more, fold-append, Rule, Text, is_empty, rule_of, App, app_of, built, app_of_fields, is_simple, new_app, on_top, with_rule, with_subcommand, AddsArg, AddsSubcommand, is_free_app, is_simple_and_free, clap_on_literals, FailsBy, HasKind, Kinds, Error, Bor, CommandRow, OptionRow, command_set, option_set, program, with_commands, with_options, Arg, Command, out-Command}
+use Rattle.command_line.proofs.Names.{◌≡◌, ◌+◌, ◌<◌, ◌&&◌, ◌∷◌, [], ℕ, Bool, Result, Ok, Err, IfErr, List, None, Some, true, false, not, is_some, length, map, take, get_or, refl, sym, ap, ap₂, ◌∙◌, map_more, fold-append, Rule, Text, is_empty, rule_of, App, app_of, built, app_of_fields, is_simple, new_app, on_top, with_rule, with_subcommand, AddsArg, AddsSubcommand, is_free_app, is_simple_and_free, clap_on_literals, FailsBy, HasKind, Kinds, Error, Bor, CommandRow, OptionRow, command_set, option_set, program, with_commands, with_options, Arg, Command, out-Command}
 use Rattle.clap.specs.declared.builder.value_parser.ValueParser.TheVariants as value
 use Rattle.clap.specs.declared.builder.action.ArgAction.TheVariants as action
 
@@ -71,7 +71,7 @@ nothing = record { ref_ptr = (0, 0); now = [] }
 
 -- the row after the last one
 abbrev pub no_option : OptionRow
-no_option = record { name = nothing; value = nothing; required = false; defaults = record { ref_ptr = (0, 0); now = [] }; parser = value.String; action = action.Set; help = nothing }
+no_option = record { name = nothing; value = nothing; required = false; defaults = record { ref_ptr = (0, 0); now = [] }; parser = value.String; action = action.Set; help = nothing; heading = None }
 
 abbrev pub no_command : CommandRow
 no_command = record { name = nothing; about = nothing; examples = nothing; options = record { ref_ptr = (0, 0); now = [] } }

@@ -75,16 +75,21 @@ fn described<'a>(alloc: Global, row: &CommandRow<'a>) -> Command<'a>
         .after_help(row.examples)
 }
 
-/// Returns an option with its help, its default and the parser of its value, or a flag.
+/// Returns an option with its help and its heading, its default and the parser of its value, or a
+/// flag.
 fn option<'a>(alloc: Global, row: &OptionRow<'a>) -> Arg<'a>
     ensures { rule_of result ≡ option_set row.now }
 {
-    Arg::new(alloc, row.name)
+    let arg = Arg::new(alloc, row.name)
         .long(row.name)
         .help(row.help)
         .value_name(row.value)
         .required(row.required)
         .default_values(row.defaults)
         .value_parser(row.parser)
-        .action(row.action)
+        .action(row.action);
+    match row.heading {
+        Some(heading) => arg.help_heading(heading),
+        None => arg,
+    }
 }

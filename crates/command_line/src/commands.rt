@@ -35,14 +35,16 @@ pub struct OptionRow<'a> {
     pub action: ArgAction,
     /// Its help text.
     pub help: &'a str,
+    /// The heading of the options among which it is listed, or `None` for the first ones.
+    pub heading: Option<&'a str>,
 }
 
-/// A table of options: the fields of each in their order. A flag has the value `""`,
-/// `ValueParser::Bool` and `SetTrue`.
+/// A table of options: their heading, and the fields of each in their order. A flag has the value
+/// `""`, `ValueParser::Bool` and `SetTrue`.
 macro_rules! option_rows {
-    ($($name:expr, $value:expr, $required:expr, $defaults:expr, $parser:expr, $action:expr,
-        $help:expr;)*) => {
-        &[$(OptionRow {
+    ($($heading:expr => { $($name:expr, $value:expr, $required:expr, $defaults:expr, $parser:expr,
+        $action:expr, $help:expr;)* })*) => {
+        &[$($(OptionRow {
             name: $name,
             value: $value,
             required: $required,
@@ -50,7 +52,8 @@ macro_rules! option_rows {
             parser: $parser,
             action: $action,
             help: $help,
-        }),*]
+            heading: $heading,
+        }),*),*]
     };
 }
 
@@ -96,7 +99,9 @@ const SHOW: CommandRow<'static> = CommandRow {
                in milliseconds of the week, DF393, and how many satellites, signals and cells\n\
                it has.",
     options: option_rows! {
-        "all", "", false, &[], ValueParser::Bool, SetTrue, "Shows MSM4 to MSM7 of every system";
+        None => {
+            "all", "", false, &[], ValueParser::Bool, SetTrue, "Shows MSM4 to MSM7 of every system";
+        }
     },
 };
 
@@ -108,7 +113,9 @@ const SIGNALS: CommandRow<'static> = CommandRow {
                A line as 'G 1C 3042' is a signal: its system, its code, and the number of its\n\
                cells with a pseudorange, a phase, a Doppler shift or a strength.",
     options: option_rows! {
-        "station", "NUMBER", false, &[], STATION, Set, STATION_HELP;
+        None => {
+            "station", "NUMBER", false, &[], STATION, Set, STATION_HELP;
+        }
     },
 };
 
@@ -127,10 +134,12 @@ const OPTIONS: CommandRow<'static> = CommandRow {
                --station it has the station. Without --station a stream of several stations\n\
                is refused.",
     options: option_rows! {
-        "station", "NUMBER", false, &[], STATION, Set, STATION_HELP;
-        "near", "DATE", false, &[], TEXT, Set,
-            "GPS date within half a week of the first\n\
-             observations, as 2024-02-04: prints --week too";
+        None => {
+            "station", "NUMBER", false, &[], STATION, Set, STATION_HELP;
+            "near", "DATE", false, &[], TEXT, Set,
+                "GPS date within half a week of the first\n\
+                 observations, as 2024-02-04: prints --week too";
+        }
     },
 };
 
@@ -145,80 +154,91 @@ const CONVERT: CommandRow<'static> = CommandRow {
                At the end one line on standard error counts the bytes, frames, messages,\n\
                cells and epochs.",
     options: option_rows! {
-        "week", "WEEK", true, &[], TEXT, Set,
-            "GPS week of the first observations, 0 to 99999\n\
-             without rollover, or a date in it: 2024-02-04";
-        "date", "TEXT", true, &[], TEXT, Set, "Date of the run: 'yyyymmdd hhmmss UTC'";
-        // The epochs that are written.
-        "from", "TIME", false, &[], TEXT, Set,
-            "Writes epochs from this GPS time on, as\n\
-             2024-02-04 or 2024-02-04T13:30:00";
-        "until", "TIME", false, &[], TEXT, Set, "Writes epochs before this GPS time";
-        "interval", "SECONDS", false, &[], TEXT, Set,
-            "Writes epochs at multiples of this, 0.1 to\n\
-             86400, a divisor of a day: 30";
-        "tolerance", "SECONDS", false, &["0.005"], TEXT, Set,
-            "How far from its nominal time an epoch may be,\n\
-             0 to 0.5";
-        "gps", "SIGNALS", false, &["all"], TEXT, Set,
-            "GPS signals in the file's order: all, none,\n\
-             or codes as 1C,2W";
-        "galileo", "SIGNALS", false, &["all"], TEXT, Set,
-            "Galileo signals in the file's order: all, none,\n\
-             or codes as 1C,5Q";
-        "glonass", "SIGNALS", false, &["none"], TEXT, Set,
-            "GLONASS signals in the file's order: all, none,\n\
-             or codes as 1C,2P";
-        "glonass-channels", "CHANNELS", false, &[""], TEXT, Set,
-            "Channels of GLONASS slots, as 1:1,2:-4: without\n\
-             one a satellite has no phase and no Doppler\n\
-             shift";
-        "leap-seconds", "SECONDS", false, &["18"], ValueParser::Unsigned(0, 255), Set,
-            "GPS time minus UTC, 0 to 255, for the times of\n\
-             GLONASS";
-        "beidou", "SIGNALS", false, &["none"], TEXT, Set,
-            "BeiDou signals in the file's order: all, none,\n\
-             or codes as 2I,6I";
-        "qzss", "SIGNALS", false, &["none"], TEXT, Set,
-            "QZSS signals in the file's order: all, none,\n\
-             or codes as 1C,2X";
-        "sbas", "SIGNALS", false, &["none"], TEXT, Set,
-            "SBAS signals in the file's order: all, none,\n\
-             or codes as 1C,5I";
-        "msm", "FORMS", false, &["4,7"], ValueParser::Names(&["4,7", "all"]), Set,
-            "Forms of MSM that are read: 4,7, or all, which\n\
-             is MSM4 to MSM7";
-        "station", "NUMBER", false, &[], STATION, Set,
-            "Reference station (DF003), 0 to 4095; without\n\
-             it the messages of every station count";
-        "position", "X,Y,Z", false, &["0,0,0"], TEXT, Set,
-            "Position in metres until a message 1005 or\n\
-             1006; write --position=X,Y,Z if X is\n\
-             negative";
-        "antenna-height", "HEIGHT", false, &["0"], TEXT, Set,
-            "Antenna height in metres until a message 1006,\n\
-             0 to 6.5535";
-        "gather", "RULE", false, &["bit"], ValueParser::Names(&["bit", "time"]), Set,
-            "What closes an epoch: a later time (time), or\n\
-             also the last message of a set by its DF393\n\
-             bit";
-        "limit", "BYTES", false, &["281474976710656"],
-            ValueParser::Unsigned(0, MOST_BYTES), Set,
-            "Most bytes of the stream; a longer one is a\n\
-             fault";
-        // The texts of the header, other than the date: printable ASCII.
-        "run-by", "TEXT", false, &[""], TEXT, Set, "Who runs the program, 20 columns";
-        "comment", "TEXT", false, &[""], TEXT, Set, "A comment, 60 columns";
-        "marker", "TEXT", false, &[""], TEXT, Set, "Name of the marker, 60 columns";
-        "marker-number", "TEXT", false, &[""], TEXT, Set, "Its number, 20 columns";
-        "marker-type", "TEXT", false, &["GEODETIC"], TEXT, Set, "Its type, 20 columns";
-        "observer", "TEXT", false, &[""], TEXT, Set, "Name of the observer, 20 columns";
-        "agency", "TEXT", false, &[""], TEXT, Set, "Observer's agency, 40 columns";
-        "rec-number", "TEXT", false, &[""], TEXT, Set, "Receiver's number, 20 columns";
-        "rec-type", "TEXT", false, &[""], TEXT, Set, "Type of the receiver, 20 columns";
-        "rec-version", "TEXT", false, &[""], TEXT, Set, "Receiver's version, 20 columns";
-        "ant-number", "TEXT", false, &[""], TEXT, Set, "Antenna's number, 20 columns";
-        "ant-type", "TEXT", false, &[""], TEXT, Set, "Type of the antenna, 20 columns";
+        None => {
+            "week", "WEEK", true, &[], TEXT, Set,
+                "GPS week of the first observations, 0 to 99999\n\
+                 without rollover, or a date in it: 2024-02-04";
+            "date", "TEXT", true, &[], TEXT, Set, "Date of the run: 'yyyymmdd hhmmss UTC'";
+        }
+        Some("Epochs") => {
+            "from", "TIME", false, &[], TEXT, Set,
+                "Writes epochs from this GPS time on, as\n\
+                 2024-02-04 or 2024-02-04T13:30:00";
+            "until", "TIME", false, &[], TEXT, Set, "Writes epochs before this GPS time";
+            "interval", "SECONDS", false, &[], TEXT, Set,
+                "Writes epochs at multiples of this, 0.1 to\n\
+                 86400, a divisor of a day: 30";
+            "tolerance", "SECONDS", false, &["0.005"], TEXT, Set,
+                "How far from its nominal time an epoch may be,\n\
+                 0 to 0.5";
+        }
+        Some("Signals") => {
+            "gps", "SIGNALS", false, &["all"], TEXT, Set,
+                "GPS signals in the file's order: all, none,\n\
+                 or codes as 1C,2W";
+            "galileo", "SIGNALS", false, &["all"], TEXT, Set,
+                "Galileo signals in the file's order: all, none,\n\
+                 or codes as 1C,5Q";
+            "glonass", "SIGNALS", false, &["none"], TEXT, Set,
+                "GLONASS signals in the file's order: all, none,\n\
+                 or codes as 1C,2P";
+            "glonass-channels", "CHANNELS", false, &[""], TEXT, Set,
+                "Channels of GLONASS slots, as 1:1,2:-4: without\n\
+                 one a satellite has no phase and no Doppler\n\
+                 shift";
+            "leap-seconds", "SECONDS", false, &["18"], ValueParser::Unsigned(0, 255), Set,
+                "GPS time minus UTC, 0 to 255, for the times of\n\
+                 GLONASS";
+            "beidou", "SIGNALS", false, &["none"], TEXT, Set,
+                "BeiDou signals in the file's order: all, none,\n\
+                 or codes as 2I,6I";
+            "qzss", "SIGNALS", false, &["none"], TEXT, Set,
+                "QZSS signals in the file's order: all, none,\n\
+                 or codes as 1C,2X";
+            "sbas", "SIGNALS", false, &["none"], TEXT, Set,
+                "SBAS signals in the file's order: all, none,\n\
+                 or codes as 1C,5I";
+            "msm", "FORMS", false, &["4,7"], ValueParser::Names(&["4,7", "all"]), Set,
+                "Forms of MSM that are read: 4,7, or all, which\n\
+                 is MSM4 to MSM7";
+        }
+        Some("Station") => {
+            "station", "NUMBER", false, &[], STATION, Set,
+                "Reference station (DF003), 0 to 4095; without\n\
+                 it the messages of every station count";
+            "position", "X,Y,Z", false, &["0,0,0"], TEXT, Set,
+                "Position in metres until a message 1005 or\n\
+                 1006; write --position=X,Y,Z if X is\n\
+                 negative";
+            "antenna-height", "HEIGHT", false, &["0"], TEXT, Set,
+                "Antenna height in metres until a message 1006,\n\
+                 0 to 6.5535";
+        }
+        Some("Stream") => {
+            "gather", "RULE", false, &["bit"], ValueParser::Names(&["bit", "time"]), Set,
+                "What closes an epoch: a later time (time), or\n\
+                 also the last message of a set by its DF393\n\
+                 bit";
+            "limit", "BYTES", false, &["281474976710656"],
+                ValueParser::Unsigned(0, MOST_BYTES), Set,
+                "Most bytes of the stream; a longer one is a\n\
+                 fault";
+        }
+        Some("Header") => {
+            // The texts of the header, other than the date: printable ASCII.
+            "run-by", "TEXT", false, &[""], TEXT, Set, "Who runs the program, 20 columns";
+            "comment", "TEXT", false, &[""], TEXT, Set, "A comment, 60 columns";
+            "marker", "TEXT", false, &[""], TEXT, Set, "Name of the marker, 60 columns";
+            "marker-number", "TEXT", false, &[""], TEXT, Set, "Its number, 20 columns";
+            "marker-type", "TEXT", false, &["GEODETIC"], TEXT, Set, "Its type, 20 columns";
+            "observer", "TEXT", false, &[""], TEXT, Set, "Name of the observer, 20 columns";
+            "agency", "TEXT", false, &[""], TEXT, Set, "Observer's agency, 40 columns";
+            "rec-number", "TEXT", false, &[""], TEXT, Set, "Receiver's number, 20 columns";
+            "rec-type", "TEXT", false, &[""], TEXT, Set, "Type of the receiver, 20 columns";
+            "rec-version", "TEXT", false, &[""], TEXT, Set, "Receiver's version, 20 columns";
+            "ant-number", "TEXT", false, &[""], TEXT, Set, "Antenna's number, 20 columns";
+            "ant-type", "TEXT", false, &[""], TEXT, Set, "Type of the antenna, 20 columns";
+        }
     },
 };
 
@@ -232,13 +252,15 @@ const CHECK: CommandRow<'static> = CommandRow {
                first line that is wrong is given on standard error, as\n\
                'rtcm2rinex: BadHeader 2'.",
     options: option_rows! {
-        "times", "", false, &[], ValueParser::Bool, SetTrue,
-            "Also prints the first and the last epoch and the\n\
-             smallest step between epochs";
-        "gaps", "SECONDS", false, &[], TEXT, Set,
-            "Also prints consecutive epochs that are more than\n\
-             this apart, 0.001 to 86400, and how many epochs\n\
-             at this interval the file has";
+        None => {
+            "times", "", false, &[], ValueParser::Bool, SetTrue,
+                "Also prints the first and the last epoch and the\n\
+                 smallest step between epochs";
+            "gaps", "SECONDS", false, &[], TEXT, Set,
+                "Also prints consecutive epochs that are more than\n\
+                 this apart, 0.001 to 86400, and how many epochs\n\
+                 at this interval the file has";
+        }
     },
 };
 
