@@ -3,12 +3,15 @@ use Rattle.std.specs.Prelude.{ℕ, Result, Ok, Err}
 use Rattle.command_faults.specs.declared.fault.ToolFault.{ToolFault}
 use Rattle.command_faults.specs.declared.fault.ToolFault.TheVariants as faults
 
--- the exit status of a fault: 2 for an invalid date, position, height, list of channels or interval
+-- the exit status of a fault: 2 for an invalid date, position, height, list of channels, window, interval or tolerance
 abbrev pub fault_status : ToolFault → ℕ
 fault_status (faults.BadDate option) = 2
 fault_status faults.BadPosition = 2
 fault_status faults.BadHeight = 2
 fault_status faults.BadChannels = 2
+fault_status faults.BadWindow = 2
+fault_status faults.BadInterval = 2
+fault_status faults.BadTolerance = 2
 fault_status faults.BadGaps = 2
 fault_status other = 1
 

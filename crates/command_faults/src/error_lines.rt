@@ -1,6 +1,6 @@
 //! The lines of errors, on standard error.
-ghost use Rattle.std.specs.Prelude.{◌≡◌, ◌+◌, ◌≤◌, length};
-ghost use Rattle.command_faults.specs.ErrorLines.{conversion_word, error_line, error_words};
+ghost use Rattle.std.specs.Prelude.{◌≡◌, ◌+◌, ◌≤◌, ◌∷◌, length};
+ghost use Rattle.command_faults.specs.ErrorLines.{conversion_counts, conversion_word, error_line, error_words};
 ghost use Rattle.option_texts.specs.Lines.{with_words};
 ghost use Rattle.rtcm_inspect.specs.Lines.{longest_error, longest_fault_name, longest_start};
 
@@ -35,6 +35,14 @@ fn add_error(line: &mut OutputLine, fault: ToolFault)
         ToolFault::BadDate(DateOption::Near) => line.add_word(
             "BadDate --near DATE: a date yyyy-mm-dd, 1980-01-06 to 3896-07-18",
         ),
+        ToolFault::BadDate(DateOption::From) => line.add_word(
+            "BadDate --from TIME: a date yyyy-mm-dd or a time yyyy-mm-ddThh:mm:ss, \
+             1980-01-06 to 3896-07-18",
+        ),
+        ToolFault::BadDate(DateOption::Until) => line.add_word(
+            "BadDate --until TIME: a date yyyy-mm-dd or a time yyyy-mm-ddThh:mm:ss, \
+             1980-01-06 to 3896-07-18",
+        ),
         ToolFault::BadPosition => line.add_word(
             "BadPosition --position X,Y,Z: metres, up to 8 digits and 4 decimals each, \
              -13743895.3472 to 13743895.3471",
@@ -46,13 +54,35 @@ fn add_error(line: &mut OutputLine, fault: ToolFault)
             "BadChannels --glonass-channels SLOT:CHANNEL,..: slots 1 to 27, each once, \
              channels -7 to 6",
         ),
+        ToolFault::BadWindow => line.add_word("BadWindow --until TIME: later than --from"),
+        ToolFault::BadInterval => line.add_word(
+            "BadInterval --interval SECONDS: up to 3 decimals, 0.1 to 86400, a divisor of a day",
+        ),
+        ToolFault::BadTolerance => line.add_word(
+            "BadTolerance --tolerance SECONDS: up to 3 decimals, 0 to 0.5, \
+             at most half of --interval",
+        ),
         ToolFault::BadGaps => line.add_word(
             "BadGaps --gaps SECONDS: up to 3 decimals, 0.001 to 86400",
         ),
         ToolFault::Header(fault) => add_header_error(line, fault),
         ToolFault::Plan(fault) => add_plan_error(line, fault),
-        ToolFault::Convert(fault) => line.add_word(conversion_name(fault)),
+        ToolFault::Convert(fault) => add_conversion_error(line, fault),
         ToolFault::Inspect(fault) => add_inspection_error(line, fault),
+    }
+}
+
+/// Adds the name of a fault of a conversion, and its numbers, each after its name.
+fn add_conversion_error(line: &mut OutputLine, fault: Fault)
+    requires { length line.old ≤ longest_start }
+    ensures text { line.new ≡ with_words line.old (conversion_word fault ∷ conversion_counts fault) }
+    ensures short { length line.new ≤ length line.old + longest_error }
+{
+    line.add_word(conversion_name(fault));
+    if let Fault::NoneChosen(counts) = fault {
+        line.add_count("epochs", counts.epochs);
+        line.add_count("window", counts.window);
+        line.add_count("grid", counts.grid);
     }
 }
 
@@ -70,5 +100,6 @@ fn conversion_name(fault: Fault) -> &'static str
         Fault::Failed => "Failed",
         Fault::Finished => "Finished",
         Fault::NoEpoch => "NoEpoch",
+        Fault::NoneChosen(_) => "NoneChosen",
     }
 }

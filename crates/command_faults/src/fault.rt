@@ -10,7 +10,7 @@ use rtcm_inspect::InspectFault;
 pub enum ToolFault {
     /// Out of memory while reading the words.
     Memory,
-    /// The text of this option isn't a date, nor a week where one is accepted.
+    /// The text of this option isn't a date, nor a week or a time where one is accepted.
     BadDate(DateOption),
     /// The text of `--position` isn't a position.
     BadPosition,
@@ -18,6 +18,12 @@ pub enum ToolFault {
     BadHeight,
     /// The text of `--glonass-channels` isn't a list of channels.
     BadChannels,
+    /// The time of `--until` isn't later than that of `--from`.
+    BadWindow,
+    /// The text of `--interval` isn't an interval of epochs.
+    BadInterval,
+    /// The text of `--tolerance` isn't a tolerance at this interval.
+    BadTolerance,
     /// The text of `--gaps` isn't an interval.
     BadGaps,
     /// A text of the header was refused.
@@ -37,4 +43,8 @@ pub enum DateOption {
     Week,
     /// `--near`.
     Near,
+    /// `--from`, whose value may also have a time of day.
+    From,
+    /// `--until`, whose value may also have a time of day.
+    Until,
 }

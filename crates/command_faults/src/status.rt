@@ -9,8 +9,8 @@ use rtcm_bits::{Counted, Deliver};
 use rtcm_inspect::print_line;
 
 /// Prints the fault of a command, if any, on one line, and returns the exit status: 0 after
-/// success, 2 if a date, the position, the height, the list of channels or the interval is invalid,
-/// else 1. A failure of this writer is ignored.
+/// success, 2 if a date, the position, the height, the list of channels, the window, an interval or
+/// the tolerance is invalid, else 1. A failure of this writer is ignored.
 pub fn exit_status<E: Deliver>(ended: Result<(), ToolFault>, faults: &mut Counted<E>) -> u8
     ensures value { result ≡ status_of ended }
     ensures range { result ≤ 2 }
@@ -23,6 +23,9 @@ pub fn exit_status<E: Deliver>(ended: Result<(), ToolFault>, faults: &mut Counte
         | ToolFault::BadPosition
         | ToolFault::BadHeight
         | ToolFault::BadChannels
+        | ToolFault::BadWindow
+        | ToolFault::BadInterval
+        | ToolFault::BadTolerance
         | ToolFault::BadGaps => 2,
         _ => 1,
     }

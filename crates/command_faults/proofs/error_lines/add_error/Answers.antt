@@ -20,6 +20,12 @@ returns-in-BadDate-Week-clause-text c = c.add_word-in-BadDate-Week.ensures.text 
 pub returns-in-BadDate-Near-clause-text : goal.returns-in-BadDate-Near-clause-text
 returns-in-BadDate-Near-clause-text c = c.add_word-in-BadDate-Near.ensures.text ∙ has_words c.args.line.now c.args.fault (faults.BadDate dated.Near) (c.in-BadDate-Near.is ∙ ap faults.BadDate (rw c.in-BadDate-Near.is at c.in-BadDate-Near.field-0-is))
 
+pub returns-in-BadDate-From-clause-text : goal.returns-in-BadDate-From-clause-text
+returns-in-BadDate-From-clause-text c = c.add_word-in-BadDate-From.ensures.text ∙ has_words c.args.line.now c.args.fault (faults.BadDate dated.From) (c.in-BadDate-From.is ∙ ap faults.BadDate (rw c.in-BadDate-From.is at c.in-BadDate-From.field-0-is))
+
+pub returns-in-BadDate-Until-clause-text : goal.returns-in-BadDate-Until-clause-text
+returns-in-BadDate-Until-clause-text c = c.add_word-in-BadDate-Until.ensures.text ∙ has_words c.args.line.now c.args.fault (faults.BadDate dated.Until) (c.in-BadDate-Until.is ∙ ap faults.BadDate (rw c.in-BadDate-Until.is at c.in-BadDate-Until.field-0-is))
+
 pub returns-in-BadPosition-clause-text : goal.returns-in-BadPosition-clause-text
 returns-in-BadPosition-clause-text c = c.add_word-in-BadPosition.ensures.text ∙ has_words c.args.line.now c.args.fault faults.BadPosition c.in-BadPosition.is
 
@@ -31,3 +37,12 @@ returns-in-BadChannels-clause-text c = c.add_word-in-BadChannels.ensures.text �
 
 pub returns-in-BadGaps-clause-text : goal.returns-in-BadGaps-clause-text
 returns-in-BadGaps-clause-text c = c.add_word-in-BadGaps.ensures.text ∙ has_words c.args.line.now c.args.fault faults.BadGaps c.in-BadGaps.is
+
+pub returns-in-BadWindow-clause-text : goal.returns-in-BadWindow-clause-text
+returns-in-BadWindow-clause-text c = c.add_word-in-BadWindow.ensures.text ∙ has_words c.args.line.now c.args.fault faults.BadWindow c.in-BadWindow.is
+
+pub returns-in-BadInterval-clause-text : goal.returns-in-BadInterval-clause-text
+returns-in-BadInterval-clause-text c = c.add_word-in-BadInterval.ensures.text ∙ has_words c.args.line.now c.args.fault faults.BadInterval c.in-BadInterval.is
+
+pub returns-in-BadTolerance-clause-text : goal.returns-in-BadTolerance-clause-text
+returns-in-BadTolerance-clause-text c = c.add_word-in-BadTolerance.ensures.text ∙ has_words c.args.line.now c.args.fault faults.BadTolerance c.in-BadTolerance.is
