@@ -1,5 +1,5 @@
 -- The meaning of the exit status.
-use Rattle.rtcm_command.proofs.Names.{◌≡◌, ◌∙◌, inl, inr, refl, sym, subst, codes, ap, ap₂, option_map, ℕ, List, Option, Some, None, Result, Ok, Err, arith, ⊤, ◌≢◌, IsCommand, box_value, option_map_or, Box, found_of, subcommand_rows, subcommand_rows_of, Row, Text, rows_of, out-SubCommand, SubCommand, kind_of, Error, ArgMatches, Device, SelectsCommand, IsFoundIn, RefusesWords, FailsParsing, AreRefused, AreRefusedBy, EndsCommand, EndsFound, HasCommand, HasCompleted, HasDone, HasPrinted, HasStopped, HasStoppedEarly, HasStoppedPrinting, StopsPrinting, fault_status, status_of, error_line, length, lit<, ◌<◌, PrintsLine, PrintsSome, PrintsFault, IsUntouched, InspectFault, Ends, of_inspection, ToolFault, HaveFailedBy, IsErrAnd, interval_by, passed}
+use Rattle.rtcm_command.proofs.Names.{◌≡◌, ◌∙◌, inl, inr, refl, sym, subst, codes, ap, ap₂, option_map, ℕ, List, Option, Some, None, Result, Ok, Err, arith, ⊤, ◌≢◌, IsCommand, box_value, option_map_or, Box, found_of, subcommand_rows, subcommand_rows_of, Row, Text, rows_of, out-SubCommand, SubCommand, kind_of, Error, ArgMatches, Device, SelectsCommand, IsFoundIn, RefusesWords, FailsParsing, AreRefused, AreRefusedBy, EndsCommand, EndsFound, HasCommand, HasCompleted, HasDone, HasPrinted, HasStopped, HasStoppedEarly, HasStoppedPrinting, StopsPrinting, fault_status, status_of, error_line, length, lit<, ◌<◌, PrintsLine, PrintsSome, PrintsFault, IsUntouched, InspectFault, Ends, of_inspection, ToolFault, HaveFailedBy, IsErrAnd, passed}
 use Rattle.clap.specs.declared.error.kind.ErrorKind.TheVariants as kind
 use Rattle.rtcm_inspect.specs.Devices as devices
 use Rattle.command_faults.specs.declared.fault.ToolFault.TheVariants as faults
@@ -82,11 +82,6 @@ pub option_refused : {R W E : Type 0} {rows : Option (Text × List Row)} {n : Te
 option_refused {n = n} {o} {fault} d printed unsent e ended is found same none stopped =
     let failed = subst (λ (f : ToolFault). HaveFailedBy f d.r d.r d.w d.w) (sym same) none in
     (n, o, found, passed ended fault (λ x. EndsCommand x d.left d.r d.r d.held d.waits d.w d.w printed unsent e e n o) is (failed, (stopped, refl)))
-
-pub bad_gaps : (text : Option (List ℕ)) (interval : Option ℕ) (fault : ToolFault) → interval_by text interval ≡ Err fault → fault ≡ faults.BadGaps
-bad_gaps None interval fault e = cc
-bad_gaps (Some text) None fault e = cc
-bad_gaps (Some text) (Some n) fault e = cc
 
 -- a command that was found twice is the same
 asked : {found : Option (Text × List Row)} {n n2 : Text} {o o2 : List Row} (words : List Text) → found ≡ Some (n, o) → found ≡ Some (n2, o2) → SelectsCommand words n o → SelectsCommand words n2 o2

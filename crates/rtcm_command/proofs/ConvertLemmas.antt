@@ -1,6 +1,7 @@
 -- A conversion that is stopped by a fault.
 use Rattle.rtcm_command.proofs.CommandLemmas.{Devices}
-use Rattle.rtcm_command.proofs.Names.{⊤, Device, EndsConverting, IsErrAnd, passed, ◌≡◌, ap, sym, subst, refl, rules, ℕ, ℤ, List, Option, Some, Result, Err, IsErrOf, IfSome, inl, inr, ◌≢◌, ◌↔◌, IsSentAfter, IsSetupFault, IsUntouched, IsMadeEmpty, IsMadeSoFar, IsMadeInPart, IsMadeToLimit, IsBad, IsBadWith, Start, start_zero, Setup, no_values, AreStationValues, Fault, Memory, BadSetup, TooLong, Read, Write, Failed, Finished, NoEpoch, Report, ToolFault, Row, StationValues, values_by, HasSetupFault, IsFirstFault, IsSetupRefused, IsWeekSet, values_set, StopsConversion, HaveFailedBy, ChannelsValue, channels_by, channels_set}
+use Rattle.rtcm_command.proofs.OptionLemmas.{bad_choice}
+use Rattle.rtcm_command.proofs.Names.{⊤, Device, EndsConverting, IsErrAnd, passed, ◌≡◌, ap, sym, subst, refl, rules, ℕ, ℤ, List, Option, Some, Result, Err, IsErrOf, IfSome, inl, inr, ◌≢◌, ◌↔◌, IsSentAfter, IsSetupFault, IsUntouched, IsMadeEmpty, IsMadeSoFar, IsMadeInPart, IsMadeToLimit, IsBad, IsBadWith, Start, start_zero, Setup, no_values, AreStationValues, Fault, Memory, BadSetup, TooLong, Read, Write, Failed, Finished, NoEpoch, NoneChosen, EpochCounts, Report, ToolFault, Row, StationValues, values_by, HasSetupFault, IsFirstFault, IsLastFault, IsSetupRefused, IsWeekSet, values_set, StopsConversion, HaveFailedBy, ChannelsValue, channels_by, channels_set}
 use Rattle.command_faults.specs.declared.fault.ToolFault.TheVariants as faults
 
 abbrev Result-of : Fault → Result Report Fault
@@ -9,7 +10,8 @@ Result-of fault = Err fault
 -- what a conversion that returned this fault did
 pub record Faulted {R W : Type 0} (x : Start) (d : Devices R W) (fault : Fault) : Type 0 where
   pub sent : IsSentAfter (Result-of fault) (d.waits d.w.inner) (d.waits d.w2.inner)
-  pub no_epoch : IsErrOf (Result-of fault) NoEpoch → IfSome (d.left d.r.inner) (IsMadeEmpty x (d.held d.w.inner) (d.held d.w2.inner))
+  pub no_epoch : IsErrOf (Result-of fault) NoEpoch → IfSome (d.left d.r.inner) (IsMadeEmpty x NoEpoch (d.held d.w.inner) (d.held d.w2.inner))
+  pub none_chosen : (counts : EpochCounts) → IsErrOf (Result-of fault) (NoneChosen counts) → IfSome (d.left d.r.inner) (IsMadeEmpty x (NoneChosen counts) (d.held d.w.inner) (d.held d.w2.inner))
   pub long : IsErrOf (Result-of fault) TooLong → IsMadeToLimit x (d.left d.r.inner) (d.left d.r2.inner) (d.held d.w.inner) (d.held d.w2.inner)
   pub read : IsErrOf (Result-of fault) Read → IsMadeSoFar x (d.left d.r.inner) (d.left d.r2.inner) (d.held d.w.inner) (d.held d.w2.inner)
   pub write : IsErrOf (Result-of fault) Write → IsMadeInPart x (d.left d.r.inner) (d.left d.r2.inner) (d.held d.w.inner) (d.held d.w2.inner)
@@ -26,6 +28,7 @@ conversion_stopped Write s = s.write refl
 conversion_stopped Failed s = absurd (s.only.0 refl)
 conversion_stopped Finished s = absurd (s.only.1 refl)
 conversion_stopped NoEpoch s = (s.no_epoch refl, s.sent)
+conversion_stopped (NoneChosen counts) s = (s.none_chosen counts refl, s.sent)
 
 -- a bad start is the fault of the conversion and of the command
 pub given_bad : (fault : Fault) (Bad : Type 0) → (◌≡◌ {A = Result Report Fault} (Err fault) (Err BadSetup) ↔ Bad)
@@ -49,8 +52,12 @@ module _ {R W : Type 0} (left : R → Option (List ℕ)) (held : W → Option (L
     made (faults.Plan f) h = (refl, refl)
     made other h = absurd h
 
+    last : IsLastFault options e → HasNoneFailed e
+    last (inl choice) = bad_choice HasNoneFailed (λ o. (refl, refl)) (refl, refl) (refl, refl) (refl, refl) options e choice
+    last (inr (choice, is, fault)) = made e fault
+
     by : (p : Option (ℤ × ℤ × ℤ)) (h : Option ℕ) (c : Option ChannelsValue) → IsFirstFault (values_by p h) (channels_by c) options e → HasNoneFailed e
-    by (Some (x, y, z)) (Some h) (Some c) is = made e is
+    by (Some (x, y, z)) (Some h) (Some c) is = last is
     by p h c is = subst HasNoneFailed (sym is) (refl, refl)
 
   pub ends_refused : {E : Type 0} (ended : Result ⊤ ToolFault) (fault : ToolFault) (printed : E → Option (List ℕ)) (unsent : E → List ℕ) (e : Device E) → IsErrAnd ended (λ y. y ≡ fault) → IsSetupRefused options fault

@@ -18,16 +18,19 @@ pub use Rattle.command_line.specs.CommandLine.{FailsParsing, IsCommand, IsFoundI
 pub use Rattle.rtcm_command.specs.Commands.{AreRefused, AreRefusedBy, EndsCommand, EndsFound, HasCommand, HasCompleted, HasDone, HasPrinted, HasStopped, HasStoppedEarly, HasStoppedPrinting, StopsPrinting}
 pub use Rattle.rtcm_command.specs.Converting.{EndsConversion, EndsConverting, StopsConversion}
 pub use Rattle.option_texts.specs.ChannelTexts.{channels_of}
-pub use Rattle.option_texts.specs.Dates.{IsHourOf, IsWeekOf}
+pub use Rattle.option_texts.specs.Dates.{IsHourOf, IsTimeOf, IsWeekOf}
 pub use Rattle.rtcm_command.specs.Devices.{Ends, HaveFailedBy, of_inspection}
 unfoldable pub use Rattle.command_faults.specs.ErrorLines.{error_line}
-pub use Rattle.option_texts.specs.Lengths.{interval_of, length_below, position_of}
+pub use Rattle.option_texts.specs.Lengths.{epoch_interval_of, interval_of, length_below, position_of}
+pub use Rattle.obs_epoch.specs.declared.choice.Choice.{Choice}
+pub use Rattle.obs_epoch.specs.declared.choice.EpochCounts.{EpochCounts}
 pub use Rattle.command_faults.specs.Printing.{PrintsFault}
 pub use Rattle.command_faults.specs.Status.{fault_status, status_of}
 unfoldable pub use Rattle.rtcm_command.specs.Reports.{report_line}
 pub use Rattle.rtcm_command.specs.Reports.{counts_named}
 unfoldable pub use Rattle.rtcm_command.specs.SetupOptions.{plan_set}
-pub use Rattle.rtcm_command.specs.SetupOptions.{HasSetupFault, IsFirstFault, IsNoonOf, IsNumberOf, IsNumberOr, IsSetupRefused, IsWeekSet, channels_by, channels_set, gaps_set, interval_by, interval_in, options_of, text_set, values_by, values_in, values_set}
+pub use Rattle.rtcm_command.specs.SetupOptions.{HasSetupFault, IsChoiceSet, IsFirstFault, IsFromSet, IsLastFault, IsNoonOf, IsNumberOf, IsNumberOr, IsSetupRefused, IsTimeIn, IsUntilSet, IsWeekSet, channels_by, channels_set, choice_by, choice_with, gaps_set, interval_by, interval_in, interval_set, options_of, text_set, tolerance_set, values_by, values_in, values_set, window_by}
+pub use Rattle.command_faults.specs.declared.fault.DateOption.{DateOption}
 pub use Rattle.command_faults.specs.declared.fault.ToolFault.{ToolFault}
 pub use Rattle.command_faults.specs.declared.fault.ToolFault.TheVariants.{Convert}
 pub use Rattle.rtcm_bits.specs.Device.{Device, IsUntouched}
@@ -36,7 +39,7 @@ pub use Rattle.rtcm_convert.specs.Made.{IsMadeEmpty, IsMadeInPart, IsMadeSoFar, 
 pub use Rattle.rtcm_convert.specs.SetupValues.{IsBad, IsBadWith, Start, start_by, start_zero}
 pub use Rattle.rtcm_convert.specs.declared.setup.ConvertOptions.{ConvertOptions}
 pub use Rattle.rtcm_convert.specs.declared.fault.Fault.{Fault}
-pub use Rattle.rtcm_convert.specs.declared.fault.Fault.TheVariants.{BadSetup, Failed, Finished, Memory, NoEpoch, Read, TooLong, Write}
+pub use Rattle.rtcm_convert.specs.declared.fault.Fault.TheVariants.{BadSetup, Failed, Finished, Memory, NoEpoch, NoneChosen, Read, TooLong, Write}
 pub use Rattle.rtcm_convert.specs.declared.report.Report.{Report}
 pub use Rattle.rtcm_convert.specs.declared.setup.Setup.{Setup}
 pub use Rattle.option_texts.proofs.LineLemmas.{add_count, add_text, add_word, end_line}
@@ -47,7 +50,7 @@ pub use Rattle.rtcm_inspect.specs.declared.fault.InspectFault.{InspectFault}
 pub use Rattle.std.specs.Borrow.{Bor}
 pub use Rattle.std.specs.Box.{box_value}
 pub use Rattle.std.specs.Option.{option_map_or}
-pub use Rattle.std.specs.Prelude.{Box, Err, not, ⊤, ◌<◌, ◌↔◌, ◌≡◌, ◌≢◌}
+pub use Rattle.std.specs.Prelude.{Box, Err, false, if◌then◌else◌, nat_lt, not, ok_or, option_and_then, true, ⊤, ◌<◌, ◌↔◌, ◌≡◌, ◌≢◌}
 pub use Rattle.std.specs.Str.{bytes_eq}
 pub use Rattle.std.specs.Str.Parse.{ExplainsUnsignedError, HasUnsignedDigitsIfOk, ParsesUnsigned}
 pub use Rattle.std.proofs.Common.{Bool, IfOk, IfSome, IsErrAnd, IsErrOf, List, MatchResult, None, Ok, Option, Result, Some, [], ap, ap₂, arith, codes, decimal, inl, inr, length, lit<, option_map, refl, rules, subst, sym, unwrap_or, ℕ, ℤ, ◌^◌, ◌∙◌}

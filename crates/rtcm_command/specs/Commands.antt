@@ -125,8 +125,8 @@ AreRefusedBy name options fault =
     ⊎ ((name ≡ codes "check") × (gaps_set options ≡ Err fault))
 
 -- The words lead to an error other than the version's text, and a text was printed; or they ask for a command with an
--- option whose date, position, antenna height, list of channels or interval is invalid, and the line of that fault was
--- printed.
+-- option whose date, time, position, antenna height, list of channels, window, interval or tolerance is invalid, and the
+-- line of that fault was printed.
 abbrev pub AreRefused : {E : Type 0} → (E → Option (List ℕ)) → (E → List ℕ) → (e e' : Device E) → List Text → Type 0
 AreRefused printed unsent e e' words =
     ((k : ErrorKind) × FailsParsing words k × (k ≡ DisplayVersion → ⊥) × PrintsSome printed unsent e e')

@@ -21,9 +21,9 @@ IsConverted options r w w' printed unsent e e' =
     (x : Start) × (report : Report) × IsStartOf options x × (IsBadWith x → ⊥) × IfSome r (IsMadeWith x report w w')
     × PrintsLine printed unsent e e' (report_line report)
 
--- the file of the bytes that the reader had left has no epoch and is empty
-abbrev pub MakesNoEpoch : Start → (r r' w w' : Option (List ℕ)) → Type 0
-MakesNoEpoch x r r' w w' = IfSome r (IsMadeEmpty x w w')
+-- the file of the bytes that the reader had left has no epoch and is empty, for this reason
+abbrev pub MakesNoEpoch : Start → Fault → (r r' w w' : Option (List ℕ)) → Type 0
+MakesNoEpoch x fault r r' w w' = IfSome r (IsMadeEmpty x fault w w')
 
 -- What a conversion with this start has read and written at a fault: at `Read` the file of the epochs that the bytes
 -- before close, at `Write` a part of the file, and at `TooLong` the file of the epochs that the bytes up to the limit
@@ -36,7 +36,9 @@ StopsConversion x left r r' held waits w w' convert.Write = Moves left r r' held
 StopsConversion x left r r' held waits w w' convert.TooLong =
     Moves left r r' held w w' (IsMadeToLimit x) × (waits w'.inner ≡ [])
 StopsConversion x left r r' held waits w w' convert.NoEpoch =
-    Moves left r r' held w w' (MakesNoEpoch x) × (waits w'.inner ≡ [])
+    Moves left r r' held w w' (MakesNoEpoch x convert.NoEpoch) × (waits w'.inner ≡ [])
+StopsConversion x left r r' held waits w w' (convert.NoneChosen counts) =
+    Moves left r r' held w w' (MakesNoEpoch x (convert.NoneChosen counts)) × (waits w'.inner ≡ [])
 StopsConversion x left r r' held waits w w' convert.BadSetup = IsBadWith x × IsUntouched r r' w w'
 StopsConversion x left r r' held waits w w' convert.Memory = IsUntouched r r' w w'
 StopsConversion x left r r' held waits w w' other = ⊥

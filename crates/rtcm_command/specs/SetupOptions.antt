@@ -1,6 +1,6 @@
 -- The values that the options of the commands give.
-use Rattle.std.specs.Prelude.{◌≡◌, ◌<◌, ◌^◌, ℕ, ℤ, List, [], ◌∷◌, map, Option, Some, None, Result, Ok, Err, codes}
-use Rattle.std.specs.Prelude.{Bool, option_and_then, unwrap_or, not, ◌⊎◌, if◌then◌else◌}
+use Rattle.std.specs.Prelude.{◌≡◌, ◌<◌, ◌^◌, nat_lt, ℕ, ℤ, List, [], ◌∷◌, map, Option, Some, None, Result, Ok, Err, codes}
+use Rattle.std.specs.Prelude.{Bool, option_and_then, ok_or, unwrap_or, not, ◌⊎◌, if◌then◌else◌}
 use Rattle.std.specs.Str.{bytes_eq}
 use Rattle.std.specs.Str.Parse.{IsNumeral, digits_value, without_leading_plus}
 use Rattle.clap.specs.Walk.{Row, first_of, one_of, rows_of}
@@ -9,7 +9,9 @@ use Rattle.clap.specs.declared.parser.matches.ArgMatches.{ArgMatches}
 use Rattle.rtcm_msg.specs.declared.number.Forms.{Forms}
 use Rattle.rtcm_msg.specs.declared.number.Forms.TheVariants.{FourAndSeven, All}
 use Rattle.rtcm_scan.specs.Scan.{most_bytes}
+use Rattle.obs_epoch.specs.Choices.{every_epoch}
 use Rattle.obs_epoch.specs.Kinds.{default_leap, is_by_bit}
+use Rattle.obs_epoch.specs.declared.choice.Choice.{Choice}
 use Rattle.gnss_system.specs.Satellites.{name_of}
 use Rattle.gnss_system.specs.SystemValues.{tabulate}
 use Rattle.gnss_obs.specs.Channels.{ChannelsValue}
@@ -22,8 +24,9 @@ use Rattle.gnss_obs.specs.declared.cell.StationValues.{StationValues}
 use Rattle.rtcm_convert.specs.SetupValues.{Start}
 use Rattle.rtcm_convert.specs.declared.setup.Setup.{Setup}
 use Rattle.option_texts.specs.ChannelTexts.{channels_of}
-use Rattle.option_texts.specs.Dates.{IsHourOf, IsWeekOf}
-use Rattle.option_texts.specs.Lengths.{interval_of, length_below, position_of}
+use Rattle.option_texts.specs.Dates.{IsHourOf, IsTimeOf, IsWeekOf}
+use Rattle.option_texts.specs.Lengths.{epoch_interval_of, interval_of, length_below, position_of, tolerance_of}
+use Rattle.command_faults.specs.declared.fault.DateOption.{DateOption}
 use Rattle.command_faults.specs.declared.fault.DateOption.TheVariants as dated
 use Rattle.command_faults.specs.declared.fault.ToolFault.{ToolFault}
 use Rattle.command_faults.specs.declared.fault.ToolFault.TheVariants as faults
@@ -89,18 +92,72 @@ has_flag name options = bytes_eq (text_set options name) (codes "true")
 abbrev pub forms_set : List Row → Forms
 forms_set options = if bytes_eq (text_set options (codes "msm")) (codes "all") then All else FourAndSeven
 
--- the interval in a text, if there is a text
-abbrev pub interval_by : Option (List ℕ) → Option ℕ → Result (Option ℕ) ToolFault
-interval_by None interval = Ok None
-interval_by (Some text) None = Err faults.BadGaps
-interval_by (Some text) (Some n) = Ok (Some n)
+-- the interval that was read from a text, if there is a text, or this fault
+abbrev pub interval_by : ToolFault → Option (List ℕ) → Option ℕ → Result (Option ℕ) ToolFault
+interval_by fault None interval = Ok None
+interval_by fault (Some text) None = Err fault
+interval_by fault (Some text) (Some n) = Ok (Some n)
 
-abbrev pub interval_in : Option (List ℕ) → Result (Option ℕ) ToolFault
-interval_in text = interval_by text (option_and_then interval_of text)
+abbrev pub interval_in : ToolFault → (List ℕ → Option ℕ) → Option (List ℕ) → Result (Option ℕ) ToolFault
+interval_in fault read text = interval_by fault text (option_and_then read text)
 
 -- the interval that `--gaps` gives, if it is given, or its fault
 abbrev pub gaps_set : List Row → Result (Option ℕ) ToolFault
-gaps_set options = interval_in (first_of (codes "gaps") options)
+gaps_set options = interval_in faults.BadGaps interval_of (first_of (codes "gaps") options)
+
+-- ---- the choice of epochs
+
+-- the time in a text, or this fault; without a text it is `otherwise`
+abbrev pub IsTimeIn : DateOption → (otherwise : ℕ) → Option (List ℕ) → Result ℕ ToolFault → Type 0
+IsTimeIn option otherwise None time = time ≡ Ok otherwise
+IsTimeIn option otherwise (Some text) (Ok t) = IsTimeOf text t
+IsTimeIn option otherwise (Some text) (Err fault) =
+    (fault ≡ faults.BadDate option) × ((t : ℕ) → IsTimeOf text t → ⊥)
+
+-- the times that `--from` and `--until` give; without them the window is that of every epoch
+abbrev pub IsFromSet : List Row → Result ℕ ToolFault → Type 0
+IsFromSet options = IsTimeIn dated.From every_epoch.from (first_of (codes "from") options)
+
+abbrev pub IsUntilSet : List Row → Result ℕ ToolFault → Type 0
+IsUntilSet options = IsTimeIn dated.Until every_epoch.until (first_of (codes "until") options)
+
+-- the window from a time until a later one, or the fault of a time
+abbrev pub window_by : (from until : Result ℕ ToolFault) → Result (ℕ × ℕ) ToolFault
+window_by (Err e) until = Err e
+window_by (Ok from) (Err e) = Err e
+window_by (Ok from) (Ok until) = if nat_lt from until then Ok (from, until) else Err faults.BadWindow
+
+abbrev pub IsWindowSet : List Row → Result (ℕ × ℕ) ToolFault → Type 0
+IsWindowSet options window = (from : Result ℕ ToolFault) × (until : Result ℕ ToolFault) × IsFromSet options from
+    × IsUntilSet options until × (window ≡ window_by from until)
+
+-- the interval that `--interval` gives, if it is given, or its fault
+abbrev pub interval_set : List Row → Result (Option ℕ) ToolFault
+interval_set options = interval_in faults.BadInterval epoch_interval_of (first_of (codes "interval") options)
+
+-- the tolerance that `--tolerance` gives at an interval, or its fault
+abbrev pub tolerance_set : List Row → Option ℕ → Result ℕ ToolFault
+tolerance_set options interval =
+    ok_or (tolerance_of interval (text_set options (codes "tolerance"))) faults.BadTolerance
+
+-- the choice of these settings, or the first fault: that of the window, of the interval, or of the tolerance at it
+abbrev pub choice_with : ℕ × ℕ → Option ℕ → Result ℕ ToolFault → Result Choice ToolFault
+choice_with window interval (Err e) = Err e
+choice_with window interval (Ok tolerance) =
+    Ok (record { from = window.0; until = window.1; interval = interval; tolerance = tolerance })
+
+abbrev pub choice_by : Result (ℕ × ℕ) ToolFault → Result (Option ℕ) ToolFault → (Option ℕ → Result ℕ ToolFault)
+    → Result Choice ToolFault
+choice_by (Err e) interval tolerance = Err e
+choice_by (Ok window) (Err e) tolerance = Err e
+choice_by (Ok window) (Ok interval) tolerance = choice_with window interval (tolerance interval)
+
+-- the choice of epochs that the options give, or the fault of the first option that is invalid
+abbrev pub IsChoiceSet : List Row → Result Choice ToolFault → Type 0
+IsChoiceSet options choice = (window : Result (ℕ × ℕ) ToolFault) × IsWindowSet options window
+    × (choice ≡ choice_by window (interval_set options) (tolerance_set options))
+
+-- ---- the setup
 
 -- The plan of the options for it without channels, or its fault.
 unfoldable pub plan_set : List Row → Result PlanValue PlanFault
@@ -147,6 +204,7 @@ pub record IsStartOf (options : List Row) (x : Start) : Type 0 where
   pub initial : values_set options ≡ Ok x.options.initial
   pub forms : x.options.forms ≡ forms_set options
   pub leap : IsNumberOr 8 default_leap (one_of (codes "leap-seconds") options) x.options.leap_seconds
+  pub choice : IsChoiceSet options (Ok x.options.choice)
 
 -- Of these options a text of the header has this fault; or the texts are valid, and the plan has this fault, or memory
 -- ran out for it.
@@ -156,15 +214,20 @@ HasSetupFault options (faults.Plan e) = (first_fault (texts_set options) None fi
     × ((e ≡ plans.Memory) ⊎ (plan_set options ≡ Err e))
 HasSetupFault options other = ⊥
 
--- the fault of the position or the height, and then that of the channels, comes before that of another option
+-- the fault of the choice of epochs comes before that of the setup
+abbrev pub IsLastFault : List Row → ToolFault → Type 0
+IsLastFault options fault =
+    IsChoiceSet options (Err fault) ⊎ ((choice : Choice) × IsChoiceSet options (Ok choice) × HasSetupFault options fault)
+
+-- the fault of the position or the height, and then that of the channels, comes before these
 abbrev pub IsFirstFault : Result StationValues ToolFault → Result ChannelsValue ToolFault → List Row → ToolFault
     → Type 0
 IsFirstFault (Err e) channels options fault = fault ≡ e
 IsFirstFault (Ok values) (Err e) options fault = fault ≡ e
-IsFirstFault (Ok values) (Ok channels) options fault = HasSetupFault options fault
+IsFirstFault (Ok values) (Ok channels) options fault = IsLastFault options fault
 
 -- These options are refused with this fault: that of the week, else that of the position, else that of the height, else
--- that of the channels, else that of a text of the header, else that of the plan.
+-- that of the channels, else that of the choice of epochs, else that of a text of the header, else that of the plan.
 abbrev pub IsSetupRefused : List Row → ToolFault → Type 0
 IsSetupRefused options fault =
     IsWeekRefused options fault

@@ -20,8 +20,8 @@ ghost use Rattle.rtcm_command.specs.SetupOptions.{options_of};
 
 use crate::convert::{report_line, run_convert_with};
 use crate::options::{
-    channels_of, forms_of, gaps_of, has_flag, leap_seconds_of, near_of, setup_of, start_week_of,
-    station_of, values_of,
+    channels_of, choice_of, forms_of, gaps_of, has_flag, leap_seconds_of, near_of, setup_of,
+    start_week_of, station_of, values_of,
 };
 use clap::ArgMatches;
 use clap::error::ErrorKind;
@@ -38,7 +38,8 @@ use std::io::{self, Read};
 
 /// Runs the command that the words ask for, the first of which is the program's name, and returns
 /// the exit status: 0 after success, 1 after a fault, and 2 if the words aren't accepted, ask for
-/// help, or have an invalid date, position, height, list of channels or interval.
+/// help, or have an invalid date, time, position, height, list of channels, window, interval or
+/// tolerance.
 pub fn command<R: Read, W: Deliver, E: Deliver>(
     alloc: Global,
     words: &[&str],
@@ -59,9 +60,9 @@ pub fn command<R: Read, W: Deliver, E: Deliver>(
     ensures stopped { result ≡ 1 → HasStoppedEarly R.remaining reader.old reader.new W.contents W.waiting writer.old
         writer.new E.contents E.waiting faults.old faults.new (texts words.now) }
 
-    // They aren't accepted, ask for help, or have an invalid date, position, height, list of
-    // channels or interval, and a text was written to `faults`. Nothing was read, and nothing was
-    // written to the output.
+    // They aren't accepted, ask for help, or have an invalid date, time, position, height, list of
+    // channels, window, interval or tolerance, and a text was written to `faults`. Nothing was
+    // read, and nothing was written to the output.
     ensures refused { result ≡ 2 → AreRefused E.contents E.waiting faults.old faults.new (texts words.now)
         × IsUntouched reader.old reader.new writer.old writer.new }
 {
@@ -148,11 +149,13 @@ fn convert<R: Read, W: Deliver, E: Deliver>(
     let start_week = start_week_of(options)?;
     let initial = values_of(options)?;
     let channels = channels_of(options)?;
+    let choice = choice_of(options)?;
     let setup = setup_of(alloc, options, start_week, channels)?;
     let given = ConvertOptions {
         initial,
         forms: forms_of(options),
         leap_seconds: leap_seconds_of(options),
+        choice,
     };
     let report = run_convert_with(alloc, setup, given, reader, writer)?;
     print_line(report_line(&report).as_bytes(), faults);

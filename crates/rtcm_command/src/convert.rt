@@ -18,7 +18,7 @@ use std::io::Read;
 ///
 /// # Errors
 ///
-/// `Convert` with the faults of `convert_stream`, of which `NoEpoch` means that the file has no
+/// `Convert` with the faults of `convert_stream`: at `NoEpoch` and `NoneChosen` the file has no
 /// epoch.
 pub fn run_convert<R: Read, W: Deliver>(
     alloc: Global,

@@ -1,20 +1,22 @@
 //! The values of the options of the commands.
 ghost use Rattle.std.specs.Prelude.{◌≡◌, ◌<◌, ◌≤◌, IfOk, IfSome, MatchResult, Ok, codes, not};
-ghost use Rattle.clap.specs.Walk.{one_of};
+ghost use Rattle.clap.specs.Walk.{first_of, one_of};
 ghost use Rattle.std.specs.Str.{bytes_eq};
 ghost use Rattle.gnss_obs.specs.SignalLists.{IsDefined};
 ghost use Rattle.obs_epoch.specs.Kinds.{default_leap, is_by_bit};
 ghost use Rattle.rinex_file.specs.TextsOf.{lists_of};
 ghost use Rattle.option_texts.specs.Lengths.{longest_interval};
-ghost use Rattle.rtcm_command.specs.SetupOptions.{HasSetupFault, IsNearRefused, IsNearSet, IsNumberOf};
-ghost use Rattle.rtcm_command.specs.SetupOptions.{IsNumberOr, channels_set};
+ghost use Rattle.rtcm_command.specs.SetupOptions.{HasSetupFault, IsChoiceSet, IsNearRefused, IsNearSet, IsNumberOf};
+ghost use Rattle.rtcm_command.specs.SetupOptions.{IsNumberOr, IsTimeIn, IsWindowSet, channels_set, interval_set};
+ghost use Rattle.rtcm_command.specs.SetupOptions.{tolerance_set};
 ghost use Rattle.rtcm_command.specs.SetupOptions.{IsSetupOf, IsWeekRefused, IsWeekSet, gaps_set, has_flag};
 ghost use Rattle.rtcm_command.specs.SetupOptions.{forms_set, options_of, plan_set, text_set, texts_set, values_set};
 
 use clap::ArgMatches;
 use command_faults::{DateOption, ToolFault};
-use gnss_obs::{BySystem, Channels, GpsTime, Plan, PlanFault, StationValues};
-use obs_epoch::{Gather, LEAP_SECONDS};
+use gnss_obs::{BySystem, Channels, GpsTime, Interval, Plan, PlanFault, StationValues};
+use obs_epoch::{Choice, Gather, LEAP_SECONDS};
+use option_texts::epoch_interval_of;
 use rinex_file::{HeaderTexts, Texts};
 use rtcm_convert::Setup;
 use rtcm_inspect::{hour_of, interval_of, length_below, position_of, week_of};
@@ -67,6 +69,78 @@ pub fn gaps_of(options: &ArgMatches) -> Result<Option<u64>, ToolFault>
         },
         None => Ok(None),
     }
+}
+
+/// Returns the choice of the epochs that are written.
+///
+/// # Errors
+///
+/// `BadDate`, `BadWindow`, `BadInterval` or `BadTolerance` of the first option that isn't valid.
+pub fn choice_of(options: &ArgMatches) -> Result<Choice, ToolFault>
+    ensures { IsChoiceSet (options_of options.now) result }
+{
+    let (from, until) = window_of(options)?;
+    let interval = epochs_of(options)?;
+    let tolerance = tolerance_of(options, &interval)?;
+    Ok(Choice {
+        from,
+        until,
+        interval,
+        tolerance,
+    })
+}
+
+/// Returns the times from which on and before which epochs are written.
+fn window_of(options: &ArgMatches) -> Result<(u64, u64), ToolFault>
+    ensures { IsWindowSet (options_of options.now) result }
+{
+    let from = time_of(options, "from", DateOption::From, 0);
+    let until = time_of(options, "until", DateOption::Until, u64::MAX);
+    let (from, until) = (from?, until?);
+    if from < until {
+        Ok((from, until))
+    } else {
+        Err(ToolFault::BadWindow)
+    }
+}
+
+/// Returns the time of the option of this name in milliseconds, or `otherwise` if it isn't given.
+fn time_of(
+    options: &ArgMatches,
+    name: &str,
+    option: DateOption,
+    otherwise: u64,
+) -> Result<u64, ToolFault>
+    ensures { IsTimeIn option otherwise (first_of name.now (options_of options.now)) result }
+{
+    match options.get_str(name) {
+        Some(text) => match option_texts::time_of(text) {
+            Some(time) => Ok(time.milliseconds()),
+            None => Err(ToolFault::BadDate(option)),
+        },
+        None => Ok(otherwise),
+    }
+}
+
+/// Returns the interval of the epochs that are written, or `None` if the option isn't given.
+fn epochs_of(options: &ArgMatches) -> Result<Option<Interval>, ToolFault>
+    ensures { result ≡ interval_set (options_of options.now) }
+{
+    match options.get_str("interval") {
+        Some(text) => match epoch_interval_of(text) {
+            Some(interval) => Ok(Some(interval)),
+            None => Err(ToolFault::BadInterval),
+        },
+        None => Ok(None),
+    }
+}
+
+/// Returns the tolerance of the times of epochs in milliseconds, at this interval.
+fn tolerance_of(options: &ArgMatches, interval: &Option<Interval>) -> Result<u16, ToolFault>
+    ensures { result ≡ tolerance_set (options_of options.now) interval.now }
+{
+    let tolerance = option_texts::tolerance_of(text(options, "tolerance"), *interval);
+    tolerance.ok_or(ToolFault::BadTolerance)
 }
 
 /// Returns whether the flag of this name is given.

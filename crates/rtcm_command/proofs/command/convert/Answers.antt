@@ -17,27 +17,32 @@ returns-in_err-channels g c =
     ends_refused g.R.Read.remaining g.W.Write.contents g.W.Deliver.waiting c.args.reader.now c.args.writer.now (options_of c.args.options.now) c.from_residual-in_err-channels.result c.in_err-channels.field-0.0 g.E.Write.contents g.E.Deliver.waiting c.args.faults.now c.from_residual-in_err-channels.ensures.1
     (first_fault (options_of c.args.options.now) c.in_ok-start_week.start_week c.in_ok-start_week.ensures (sym c.values_of.ensures ∙ c.in_ok-initial.was) (sym c.channels_of.ensures ∙ c.in_err-channels.was) refl)
 
+pub returns-in_err-choice : goal.returns-in_err-choice
+returns-in_err-choice g c =
+    ends_refused g.R.Read.remaining g.W.Write.contents g.W.Deliver.waiting c.args.reader.now c.args.writer.now (options_of c.args.options.now) c.from_residual-in_err-choice.result c.in_err-choice.field-0.0 g.E.Write.contents g.E.Deliver.waiting c.args.faults.now c.from_residual-in_err-choice.ensures.1
+    (first_fault (options_of c.args.options.now) c.in_ok-start_week.start_week c.in_ok-start_week.ensures (sym c.values_of.ensures ∙ c.in_ok-initial.was) (sym c.channels_of.ensures ∙ c.in_ok-channels.was) (inl c.in_err-choice.ensures))
+
 pub returns-in_err-setup : goal.returns-in_err-setup
 returns-in_err-setup g c =
     ends_refused g.R.Read.remaining g.W.Write.contents g.W.Deliver.waiting c.args.reader.now c.args.writer.now (options_of c.args.options.now) c.from_residual-in_err-setup.result c.in_err-setup.field-0.0 g.E.Write.contents g.E.Deliver.waiting c.args.faults.now c.from_residual-in_err-setup.ensures.1
-    (first_fault (options_of c.args.options.now) c.in_ok-start_week.start_week c.in_ok-start_week.ensures (sym c.values_of.ensures ∙ c.in_ok-initial.was) (sym c.channels_of.ensures ∙ c.in_ok-channels.was) c.in_err-setup.ensures)
+    (first_fault (options_of c.args.options.now) c.in_ok-start_week.start_week c.in_ok-start_week.ensures (sym c.values_of.ensures ∙ c.in_ok-initial.was) (sym c.channels_of.ensures ∙ c.in_ok-channels.was) (inr (c.in_ok-choice.choice, c.in_ok-choice.ensures, c.in_err-setup.ensures)))
 
 pub returns-in_err-report : goal.returns-in_err-report
 returns-in_err-report g c =
     let end = c.in_err-report.ensures.ends in
-    let x = start_by c.in_ok-setup.setup (record { initial = c.in_ok-initial.initial; forms = c.forms_of.result; leap_seconds = c.leap_seconds_of.result }) in
+    let x = start_by c.in_ok-setup.setup (record { initial = c.in_ok-initial.initial; forms = c.forms_of.result; leap_seconds = c.leap_seconds_of.result; choice = c.in_ok-choice.choice }) in
     passed c.from_residual-in_err-report.result _ (λ r. EndsConverting r (options_of c.args.options.now) g.R.Read.remaining c.args.reader.now c.run_convert_with.new.reader g.W.Write.contents g.W.Deliver.waiting c.args.writer.now c.run_convert_with.new.writer g.E.Write.contents g.E.Deliver.waiting c.args.faults.now c.args.faults.now) c.from_residual-in_err-report.ensures.1
-    (end.0, (inr (x, record { setup = c.in_ok-setup.ensures; initial = sym c.values_of.ensures ∙ c.in_ok-initial.was; forms = c.forms_of.ensures; leap = c.leap_seconds_of.ensures }, end.1), refl {a = c.args.faults.now}))
+    (end.0, (inr (x, record { setup = c.in_ok-setup.ensures; initial = sym c.values_of.ensures ∙ c.in_ok-initial.was; forms = c.forms_of.ensures; leap = c.leap_seconds_of.ensures; choice = c.in_ok-choice.ensures }, end.1), refl {a = c.args.faults.now}))
 
 pub returns : goal.returns
 returns g c =
     let end = c.in_ok-report.ensures in
-    let x = start_by c.in_ok-setup.setup (record { initial = c.in_ok-initial.initial; forms = c.forms_of.result; leap_seconds = c.leap_seconds_of.result }) in (
+    let x = start_by c.in_ok-setup.setup (record { initial = c.in_ok-initial.initial; forms = c.forms_of.result; leap_seconds = c.leap_seconds_of.result; choice = c.in_ok-choice.choice }) in (
       end.ends.0,
       (
         x,
         c.in_ok-report.report,
-        record { setup = c.in_ok-setup.ensures; initial = sym c.values_of.ensures ∙ c.in_ok-initial.was; forms = c.forms_of.ensures; leap = c.leap_seconds_of.ensures },
+        record { setup = c.in_ok-setup.ensures; initial = sym c.values_of.ensures ∙ c.in_ok-initial.was; forms = c.forms_of.ensures; leap = c.leap_seconds_of.ensures; choice = c.in_ok-choice.ensures },
         (λ bad. let no : ◌≡◌ {A = Result Report ToolFault} (Ok c.in_ok-report.report) (Err (faults.Convert BadSetup)) = end.bad_setup.1 bad in cc),
         end.ends.1,
         subst (λ (t : List ℕ). PrintsLine g.E.Write.contents g.E.Deliver.waiting c.args.faults.now c.print_line.new.faults t) (c.as_bytes.ensures.text ∙ c.report_line.ensures) c.print_line.ensures,

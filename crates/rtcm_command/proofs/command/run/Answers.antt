@@ -1,4 +1,5 @@
-use Rattle.rtcm_command.proofs.CommandLemmas.{Devices, bad_gaps, ends_so, inspection_found, is_check, option_refused, sub_found}
+use Rattle.rtcm_command.proofs.CommandLemmas.{Devices, ends_so, inspection_found, is_check, option_refused, sub_found}
+use Rattle.rtcm_command.proofs.OptionLemmas.{bad_interval}
 use Rattle.rtcm_command.proofs.Names.{◌∙◌, Bool, inl, inr, refl, subst, sym, EndsCheck, options_of}
 use Rattle.rtcm_scan.specs.Scan.{most_bytes}
 use Rattle.rtcm_inspect.specs.Listing.{EndsListing}
@@ -69,4 +70,4 @@ returns-in_err-interval-in_default-name g c =
     let n = is_check c.args.matches.now c.requires found c.in_default-name.not-frames c.in_default-name.not-show c.in_default-name.not-signals c.in_default-name.not-options c.in_default-name.not-convert in
     let d : Devices _ _ = record { left = g.R.Read.remaining; held = g.W.Write.contents; waits = g.W.Deliver.waiting; r = c.args.reader.now; r2 = c.args.reader.now; w = c.args.writer.now; w2 = c.args.writer.now } in
     let set = sym c.in_err-interval-in_default-name.ensures.value in
-    option_refused d g.E.Write.contents g.E.Deliver.waiting c.args.faults.now c.from_residual-in_err-interval-in_default-name.result c.from_residual-in_err-interval-in_default-name.ensures.1 found (bad_gaps _ _ _ set) (refl, refl) (inr (inr (inr (n, (set, (refl, refl))))))
+    option_refused d g.E.Write.contents g.E.Deliver.waiting c.args.faults.now c.from_residual-in_err-interval-in_default-name.result c.from_residual-in_err-interval-in_default-name.ensures.1 found (bad_interval _ _ set) (refl, refl) (inr (inr (inr (n, (set, (refl, refl))))))
