@@ -11,6 +11,8 @@ mod channels;
 #[cfg(test)]
 mod check;
 #[cfg(test)]
+mod chosen;
+#[cfg(test)]
 mod convert;
 #[cfg(test)]
 mod faults;

@@ -62,6 +62,8 @@ pub enum Expected<'a> {
     Unread(&'a str),
     /// The words are refused with some text: nothing is read, and nothing written.
     Refused,
+    /// The same with this fault.
+    Invalid(&'a str),
 }
 
 /// The outcome of a command.
@@ -92,7 +94,7 @@ impl<'a> Expected<'a> {
     pub fn output(&self) -> Text<'a> {
         match self {
             Expected::Good(output, _) | Expected::Fault(output, _) => *output,
-            Expected::Unread(_) | Expected::Refused => Text::Lines(""),
+            Expected::Unread(_) | Expected::Refused | Expected::Invalid(_) => Text::Lines(""),
         }
     }
 
@@ -102,6 +104,7 @@ impl<'a> Expected<'a> {
             Expected::Good(_, given) => outcome.is(0, output, given.as_bytes()),
             Expected::Fault(_, given) => outcome.is(1, output, given.as_bytes()),
             Expected::Unread(given) => outcome.is(1, &[], given.as_bytes()) && !outcome.has_read,
+            Expected::Invalid(given) => outcome.is(2, &[], given.as_bytes()) && !outcome.has_read,
             Expected::Refused => {
                 outcome.status == 2
                     && !outcome.has_read
