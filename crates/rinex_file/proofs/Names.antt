@@ -24,12 +24,12 @@ pub use Rattle.gnss_system.specs.declared.system.System.TheVariants.{Gps}
 pub use Rattle.memchr.specs.Find.{IsFirstByte, is_byte}
 pub use Rattle.rtcm_bits.specs.Prefix.{IsPrefix}
 pub use Rattle.rinex_file.specs.Accepted.{AreBegunWith, AreEpochsRead, AreFirstEpochs}
-pub use Rattle.rinex_file.specs.Begun.{AreBegun, IsEventBegun, part_lines, whole_lines}
+pub use Rattle.rinex_file.specs.Begun.{AreBegun, IsHeaderBegun, IsEventBegun, part_lines, whole_lines}
 unfoldable pub use Rattle.rinex_file.specs.Blanks.{trimmed}
 pub use Rattle.rinex_file.specs.Blanks.{IsEnded, before_cut, filled_to}
 pub use Rattle.rinex_file.specs.Blocks.{AreMoved, LeavesRest, LinesRead, MovesBytes, last_line}
 pub use Rattle.rinex_file.specs.Counting.{IsSummary, IsTextWith}
-pub use Rattle.rinex_file.specs.Exact.{AreBefore, ExplainsFault, IsCutShort, IsExpectedAt, IsFaulty, IsFound, IsLine, IsNoFault, IsReadOr, IsTextOf, IsTooLong, NoFileBegins, most_lines}
+pub use Rattle.rinex_file.specs.Exact.{AreBefore, ExplainsFault, ExplainsStored, HasHeader, IsAtTypes, IsCutShort, IsExpectedAt, IsFaulty, IsFound, IsLine, IsNoFault, IsReadOr, IsTextOf, IsTooLong, NoFileBegins, most_lines}
 unfoldable pub use Rattle.rinex_file.specs.File.{epoch_text, event_line, event_text, line_among, shown_text, lines_up_to}
 pub use Rattle.rinex_file.specs.File.{shown_of, change_lines, change_text, header_text, closed_text, event_lines, file_lines, file_text, gathered, line_or_none, lines_of_parts, stamped_lines}
 pub use Rattle.rinex_file.specs.File.{lines_of_systems}
@@ -37,17 +37,17 @@ pub use Rattle.rinex_file.specs.FileValues.{AreChanges, AreSatelliteRows, AreSig
 pub use Rattle.rinex_file.specs.Gathered.{AreSignals, HasSatellite}
 unfoldable pub use Rattle.rinex_file.specs.Header.{header_lines, row_line}
 unfoldable pub use Rattle.rinex_fields.specs.HeaderLine.{header_line}
-pub use Rattle.rinex_file.specs.Header.{interval_line, is_given, is_optional, Shown, all_rows, codes_of, delta_line, biases_line, end_line, flagged_letter, first_line, first_types, has_line, height_line, is_planned, letter_of, lengths, lines_after, lines_before, most_type_rows, position_line, row_at, row_count, row_lines, row_place, slots_line, slots_with, strength_line, systems_letter, text_columns, texts_line, type_columns, type_front, type_line, type_of, type_rows, types_of, version_fields, version_by, version_line}
+pub use Rattle.rinex_file.specs.Header.{has_label, is_of_types, interval_line, is_given, is_optional, Shown, all_rows, codes_of, delta_line, biases_line, end_line, flagged_letter, first_line, first_types, has_line, height_line, is_planned, letter_of, lengths, lines_after, lines_before, most_type_rows, position_line, row_at, row_count, row_lines, row_place, slots_line, slots_with, strength_line, systems_letter, text_columns, texts_line, type_columns, type_front, type_line, type_of, type_rows, types_of, version_fields, version_by, version_line}
 pub use Rattle.rinex_fields.specs.Limits.{most_line}
 unfoldable pub use Rattle.rinex_file.specs.Lines.{epoch_line, field, satellite_line, signal_text}
 pub use Rattle.rinex_file.specs.Lines.{epoch_fields, lli_byte, row_text, strength_byte}
 pub use Rattle.rinex_fields.specs.Numbers.{fixed, joined, left, padded, right}
-pub use Rattle.rinex_file.specs.ParserState.{FollowsHistory, GoesOnWithLine, History, IsLast, IsNext, RefusesLine, ShowsLine, TakesLine, changes_of, events_in, nothing, progress_at, rows_in, stamped_at, with_line}
+pub use Rattle.rinex_file.specs.ParserState.{FollowsHistory, MayRunOut, GoesOnWithLine, History, IsLast, IsNext, RefusesLine, ShowsLine, TakesLine, changes_of, events_in, nothing, progress_at, rows_in, stamped_at, with_line}
 pub use Rattle.rinex_file.specs.Read.EpochSteps.{HasReadTo, IsSummaryOf}
 pub use Rattle.rinex_fields.specs.Read.{ReadsExactly, digits_in, has, number_in, some_if}
-pub use Rattle.rinex_file.specs.Read.HeaderSteps.{AreSlotsBefore, EndsHeader, IsLineOfSlots, SlotsFollow, TakesOrRefusesSlots, TakesSlots, with_slots, GoesOn, GoesTo, HasSignalAt, IsHeaderLineRead, IsOnly, NoneGoesOn, ReadsOrRefuses, ReadsOrRefusesTexts, ReadsTexts, RefusesHeaderLine, RefusesTexts, RefusesTypes, SameFrom, StepsTo, Takes, TakesHeaderLine, TakesTypes, begins_with, has_label, row_label, with_interval, expected_if, if_fine, known_line, texts_in, with_first, with_letter, with_texts, with_types, with_values}
+pub use Rattle.rinex_file.specs.Read.HeaderSteps.{AreSlotsBefore, EndsHeader, IsLineOfSlots, SlotsFollow, TakesOrRefusesSlots, TakesSlots, with_slots, GoesOn, GoesTo, HasSignalAt, IsHeaderLineRead, IsOnly, NoneGoesOn, ReadsOrRefuses, ReadsOrRefusesTexts, ReadsTexts, RefusesHeaderLine, RefusesTexts, RefusesTypes, SameFrom, StepsTo, Takes, TakesHeaderLine, TakesTypes, begins_with, row_label, with_interval, expected_if, if_fine, known_line, texts_in, with_first, with_letter, with_texts, with_types, with_values}
 unfoldable pub use Rattle.rinex_file.specs.Read.Keeping.{stamped_text}
-pub use Rattle.rinex_file.specs.Read.Keeping.{HasReadWhole, HasRoom, HaveRowsRoom, Stores, history_of}
+pub use Rattle.rinex_file.specs.Read.Keeping.{ExplainsAny, HasReadWhole, HasRoom, HaveRowsRoom, Stores, history_of}
 unfoldable pub use Rattle.rinex_file.specs.Read.Progress.{HasLinesLeft}
 pub use Rattle.rinex_file.specs.Read.Progress.{AreUnread, AreSameTexts, AreSized, AreTypes, AreTypesOf, AreValid, Has, HasRow, IsAt, IsAtEpoch, IsHeadAt, IsInEpoch, IsInEvent, IsInHeader, IsPosition, IsShown, Known, Progress, StartsAt, counted, fits, is_chosen, types_before, begun_at, epoch_after, expected_next, file_with, position_of, shown_with, signals_begun, stamped, types_line, with_epoch, with_row, AreSameSlots, AreSlotsAt, AreSlotsRead, known_slots, slots_before}
 pub use Rattle.rinex_file.specs.Read.Row.{AreEntries, IsRowOf}

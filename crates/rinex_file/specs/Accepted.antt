@@ -49,6 +49,6 @@ IsFaultAfter (BadSatellite k) n = k ≡ n + 1
 IsFaultAfter (CutShort k) n = k ≡ n + 1
 IsFaultAfter TooLong n = n ≡ most_lines
 
--- the epochs in the lines before the fault
+-- the epochs in the lines before the fault; none if memory runs out
 abbrev pub AreEpochsBefore : List Stamped → ReadFault → List ℕ → Type 0
-AreEpochsBefore es fault input = (n : ℕ) × IsFaultAfter fault n × AreFirstEpochs es n input
+AreEpochsBefore es fault input = (n : ℕ) × IsFaultAfter fault n × AreFirstEpochs es n input × (fault ≡ Memory → es ≡ [])

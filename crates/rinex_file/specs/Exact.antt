@@ -1,5 +1,5 @@
 -- What is read from an input line by line.
-use Rattle.std.specs.Prelude.{◌≡◌, ℕ, ◌+◌, ◌^◌, ◌<◌, ◌≤◌, ◌⊎◌, false, List, [], ◌∷◌, ◌++◌, length, All, Option, Result}
+use Rattle.std.specs.Prelude.{◌≡◌, ℕ, ◌+◌, ◌^◌, ◌<◌, ◌≤◌, ◌⊎◌, true, false, List, [], ◌∷◌, ◌++◌, length, All, Option, Result}
 use Rattle.std.specs.Prelude.{Ok, Err, ⊤, IfSome}
 use Rattle.std.specs.Io.KnownBytes.{IsAtEnd}
 use Rattle.rtcm_bits.specs.Device.{HasFailed}
@@ -15,7 +15,9 @@ use Rattle.rinex_fields.specs.Read.{has}
 use Rattle.rinex_fields.specs.Numbers.{joined}
 use Rattle.rinex_file.specs.Value.{FileValue}
 use Rattle.rinex_file.specs.FileValues.{IsFileValue}
-use Rattle.rinex_file.specs.File.{file_text, file_lines}
+use Rattle.rinex_file.specs.File.{file_text, file_lines, shown_text}
+use Rattle.rinex_file.specs.Header.{Shown, is_of_types}
+use Rattle.rinex_file.specs.Read.Progress.{IsShown}
 use Rattle.rinex_file.specs.Begun.{IsHeaderBegun, IsBetweenEpochs, IsEventBegun, IsEpochBegun, AreBegun}
 use Rattle.rinex_fields.specs.Limits.{most_line}
 
@@ -109,9 +111,18 @@ pub record IsTooLong (input : List ℕ) : Type 0 where
   pub count : length lines ≡ most_lines
   pub more : 0 < length rest
 
+-- a line of types in a header: the only line at which memory may run out
+pub record IsAtTypes (input : List ℕ) : Type 0 where
+  pub lines : List (List ℕ)
+  pub line : List ℕ
+  pub rest : List ℕ
+  pub first : AreFirstLines input (lines ++ line ∷ []) rest
+  pub begun : IsHeaderBegun lines
+  pub types : is_of_types line ≡ true
+
 -- what each fault means for the input
 abbrev pub ExplainsFault : List ℕ → ReadFault → Type 0
-ExplainsFault input Memory = ⊤
+ExplainsFault input Memory = IsAtTypes input
 ExplainsFault input Read = ⊤
 ExplainsFault input (BadHeader k) = IsFaulty input k × IsAfter IsHeaderBegun input k
 ExplainsFault input (BadEpoch k) =
@@ -121,6 +132,18 @@ ExplainsFault input (BadEvent k) =
 ExplainsFault input (BadSatellite k) = IsFaulty input k × IsAfter IsEpochBegun input k
 ExplainsFault input (CutShort k) = IsCutShort input k
 ExplainsFault input TooLong = IsTooLong input
+
+-- the input begins with a header
+pub record HasHeader (input : List ℕ) : Type 0 where
+  pub h : Shown
+  pub rest : List ℕ
+  pub is : IsShown h
+  pub begins : input ≡ shown_text h ++ rest
+
+-- what each fault means for the input if its epochs are stored: memory for them may also run out after the header
+abbrev pub ExplainsStored : List ℕ → ReadFault → Type 0
+ExplainsStored input Memory = IsAtTypes input ⊎ HasHeader input
+ExplainsStored input fault = ExplainsFault input fault
 
 -- an allocation failure, or a failed reader
 abbrev pub IsNoFault : ReadFault → Type 0

@@ -1,7 +1,7 @@
 -- The lines of a header, RINEX 3.05, table A2: content in columns 1 to 60, the label from column 61 on.
 use Rattle.std.specs.Prelude.{ℕ, zero, suc, ℤ, pos, ◌+◌, ◌*◌, ◌/◌, ◌==◌, if◌then◌else◌, List, [], ◌∷◌, ◌++◌}
-use Rattle.std.specs.Prelude.{Option, is_some, unwrap_or, length, not, take, drop, map, flat_map, replicate, decimal, codes, get_or, Bool, true, false, nat_lt}
-use Rattle.std.specs.List.{filter}
+use Rattle.std.specs.Prelude.{Option, is_some, unwrap_or, length, not, take, drop, map, flat_map, replicate, decimal, codes, get_or, Bool, true, false, nat_eq, nat_lt}
+use Rattle.std.specs.List.{ends_with, filter}
 use Rattle.gnss_system.specs.Satellites.{letter}
 use Rattle.gnss_system.specs.Systems.{systems, index_of}
 use Rattle.gnss_system.specs.Signals.{code_of}
@@ -18,6 +18,7 @@ use Rattle.rinex_file.specs.declared.header.rows.HeaderRow.{HeaderRow}
 use Rattle.rinex_file.specs.declared.header.rows.HeaderRow.TheVariants.{Version, Texts, Position, Delta, Types}
 use Rattle.rinex_file.specs.declared.header.rows.HeaderRow.TheVariants.{StrengthUnit, Interval, First, Shift, Slots, Biases, End}
 use Rattle.rinex_fields.specs.HeaderLine.{header_line}
+use Rattle.rinex_fields.specs.Limits.{label_columns}
 use Rattle.rinex_fields.specs.Numbers.{joined, left, right, fixed}
 use Rattle.rinex_file.specs.Slots.{SlotNumber, slots_of, slots_columns, slot_rows}
 use Rattle.rinex_file.specs.Limits.{types_in_line}
@@ -226,6 +227,14 @@ header_lines h = flat_map (row_lines h) all_rows
 -- the row at an index
 abbrev pub row_at : ℕ → HeaderRow
 row_at place = get_or all_rows place End
+
+-- a line, with its line feed, has this label
+abbrev pub has_label : List ℕ → List ℕ → Bool
+has_label label line = ends_with nat_eq line (left label_columns label ++ 10 ∷ [])
+
+-- a line has the label of observation types
+abbrev pub is_of_types : List ℕ → Bool
+is_of_types line = has_label (codes "SYS / # / OBS TYPES") line
 
 -- the number of rows of a system's types
 abbrev pub most_type_rows : ℕ

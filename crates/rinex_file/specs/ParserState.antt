@@ -1,6 +1,6 @@
 -- The parser state while a file is read, and what it means for all that was read.
 use Rattle.std.specs.Prelude.{◌≡◌, ℕ, ◌+◌, ◌≤◌, List, [], ◌∷◌, ◌++◌, length, map, Option, Some, None, Result, Ok, Err}
-use Rattle.std.specs.Prelude.{⊤, ◌<◌, ◌↔◌}
+use Rattle.std.specs.Prelude.{true, ◌<◌, ◌↔◌}
 use Rattle.std.specs.List.{sum_by}
 use Rattle.std.specs.List.Sorted.{IsStrictlyIncreasing}
 use Rattle.rinex_file.specs.declared.read.parser_state.ParserState.{ParserState}
@@ -9,11 +9,14 @@ use Rattle.rinex_file.specs.declared.read.times.EpochTimes.{EpochTimes}
 use Rattle.rinex_file.specs.Times.{AreTimesOrNone}
 use Rattle.rinex_file.specs.declared.read.parser_state.AddedRow.{AddedRow}
 use Rattle.rinex_file.specs.declared.read.parser_state.AddedRow.TheVariants.{NoRow, OneRow, LastRow}
+use Rattle.rinex_file.specs.declared.read.parser_state.Expected.{Expected}
+use Rattle.rinex_file.specs.declared.read.parser_state.Expected.TheVariants.{Header}
 use Rattle.rinex_file.specs.declared.read.parser_state.Refusal.{Refusal}
 use Rattle.rinex_file.specs.declared.read.parser_state.Refusal.TheVariants.{Memory, Bad}
 use Rattle.rinex_file.specs.Value.{SatelliteRow, Stamped, FileValue}
 use Rattle.gnss_obs.specs.declared.cell.StationValues.{StationValues}
 use Rattle.rinex_file.specs.FileValues.{time_stamped, rank_of, changed_by, values_following}
+use Rattle.rinex_file.specs.Header.{is_of_types}
 use Rattle.rinex_file.specs.Read.Progress.{Progress, HasLinesLeft}
 use Rattle.rinex_file.specs.Read.Sound.{IsSound, AreLinesOf}
 
@@ -104,8 +107,13 @@ pub record IsNext (old new : ParserState) (added : AddedRow) (line : List ℕ) (
   pub shows : ShowsLine (progress_at old h) (progress_at new (with_line added new h)) line
   pub room : (n : ℕ) → HasRoom old n → HasRoom new (n + 1)
 
+-- memory may run out where this is expected and this line is read: only at a line of types
+abbrev pub MayRunOut : Expected → List ℕ → Type 0
+MayRunOut (Header place) line = is_of_types line ≡ true
+MayRunOut other line = ⊥
+
 -- the result of a line
 abbrev pub TakesLine : ParserState → ParserState → List ℕ → Result AddedRow Refusal → Type 0
 TakesLine old new line (Ok added) = (h : History) → FollowsHistory old h → IsNext old new added line h
 TakesLine old new line (Err Bad) = (h : History) → FollowsHistory old h → RefusesLine (progress_at old h) line
-TakesLine old new line (Err Memory) = ⊤
+TakesLine old new line (Err Memory) = MayRunOut old.expected line

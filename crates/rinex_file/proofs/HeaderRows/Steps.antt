@@ -12,7 +12,7 @@ use Rattle.gnss_system.specs.declared.system.System.TheVariants.{Glonass}
 use Rattle.rinex_file.proofs.HeaderRows.Slots.{no_slots}
 use Rattle.rinex_file.proofs.PlainTexts.{both}
 use Rattle.rinex_file.proofs.HeaderRows.Places.{all_before, either, flipped, is_types, other_before, other_slots, own_before, own_slots, place_at, plain_before, slots_here}
-use Rattle.rinex_file.proofs.Names.{common_steps, Result, Refusal, TakesHeaderLine, expected_if, drop, all_rows, arith, ◌≡◌, ◌∙◌, sym, ap, refl, subst, ℕ, zero, suc, ◌+◌, ◌<◌, ◌≤◌, Bool, true, false, List, [], ◌∷◌, ◌++◌, length, take, append-nil, not, take_all, ◌≢◌, ◌==◌, ◌&&◌, min, ◌↔◌, nat_lt, nat_tests, System, planned_of, Known, IsShown, AreValid, Shown, IsHeadAt, row_lines, row_line, lines_before, lines_after, signals_begun, HeaderRow, Types, StrengthUnit, Shift, End, Expected, has_line, row_at, row_count, row_place, type_rows, known_line, RefusesHeaderLine, NoneGoesOn, SameFrom, AreSized, AreTypesOf, Has, HasRow, counted, fits, types_before, begins_with, IsHeaderLineRead, GoesOn, Takes, flat_map, header_line, letter, codes, is_less, lit<, ◌*◌, value_of, nil_from_length, Slots, Biases, SlotNumber, slots_of, slots_in_line, slot_rows, AreSlotsRead, AreSlotsAt, AreSameSlots, AreSlotsBefore, SlotsFollow, known_slots, not-true, ltb-false, add-one, eq-eqb, Texts, First, HeaderField, is_given, is_optional, is_required, has_text, label_of, left, AreUnread, append_assoc, ap₂, or_parts, or_right, has_label, fields_of, drop_at, length-append, ◌-◌, ◌||◌, nat_le, Interval, row_label, is_some, Option, lit≤, Version, Position, Delta}
+use Rattle.rinex_file.proofs.Names.{types_line, is_of_types, common_steps, Result, Refusal, TakesHeaderLine, expected_if, drop, all_rows, arith, ◌≡◌, ◌∙◌, sym, ap, refl, subst, ℕ, zero, suc, ◌+◌, ◌<◌, ◌≤◌, Bool, true, false, List, [], ◌∷◌, ◌++◌, length, take, append-nil, not, take_all, ◌≢◌, ◌==◌, ◌&&◌, min, ◌↔◌, nat_lt, nat_tests, System, planned_of, Known, IsShown, AreValid, Shown, IsHeadAt, row_lines, row_line, lines_before, lines_after, signals_begun, HeaderRow, Types, StrengthUnit, Shift, End, Expected, has_line, row_at, row_count, row_place, type_rows, known_line, RefusesHeaderLine, NoneGoesOn, SameFrom, AreSized, AreTypesOf, Has, HasRow, counted, fits, types_before, begins_with, IsHeaderLineRead, GoesOn, Takes, flat_map, header_line, letter, codes, is_less, lit<, ◌*◌, value_of, nil_from_length, Slots, Biases, SlotNumber, slots_of, slots_in_line, slot_rows, AreSlotsRead, AreSlotsAt, AreSameSlots, AreSlotsBefore, SlotsFollow, known_slots, not-true, ltb-false, add-one, eq-eqb, Texts, First, HeaderField, is_given, is_optional, is_required, has_text, label_of, left, AreUnread, append_assoc, ap₂, or_parts, or_right, has_label, fields_of, drop_at, length-append, ◌-◌, ◌||◌, nat_le, Interval, row_label, is_some, Option, lit≤, Version, Position, Delta}
 
 -- ---- the number of a system's signals
 
@@ -200,6 +200,10 @@ label_shown a content label short fits =
     let own = length-label_end a short in
     let size : length (front ++ label_end label) ≡ length front + 21 = length-append front (label_end label) ∙ ap (λ n. length front + n) (length-label_end label fits) in
     ap (bytes_eq (label_end a)) (drop_at front (label_end label) (length (front ++ label_end label) - length (label_end a)) (omega (arith, own, size)))
+
+-- a line of types has their label
+pub types_labelled : (system : System) (all : List ℕ) (row : ℕ) → is_of_types (types_line system all row) ≡ true
+types_labelled system all row = label_shown (codes "SYS / # / OBS TYPES") _ (codes "SYS / # / OBS TYPES") (lit≤ tt) (lit≤ tt)
 
 short_label : (row : HeaderField) → length (label_of row) ≤ label_columns
 short_label row = at_most (length (label_of row)) label_columns (each_field (λ r. nat_le (length (label_of r)) label_columns) refl row)

@@ -1,8 +1,10 @@
 -- The epochs in the lines that were accepted.
+use Rattle.rinex_file.proofs.Writing.Sent.{joined-append}
+use Rattle.rinex_file.specs.declared.read.fault.ReadFault.TheVariants.{Memory}
 use Rattle.rinex_file.proofs.FileLines.{lines_are_lines}
-use Rattle.rinex_file.proofs.Reading.Header.{begun_with}
-use Rattle.rinex_file.proofs.Reading.Lines.{consumed, none_ahead, splits}
-use Rattle.rinex_file.proofs.Names.{◌≡◌, sym, ap, refl, subst, ℕ, List, [], ◌∷◌, ◌++◌, Option, IfSome, AddedRow, NoRow, OneRow, LastRow, Expected, Header, Epoch, EventPosition, EventHeight, EventEpoch, Satellite, ParserState, Reading, Progress, History, HasRead, HasReadTo, stamped_at, IsSoundAt, IsAt, IsSound, HasLinesLeft, progress_at, with_line, SatelliteRow, Stamped, FileValue, stamped, joined, file_lines, AreEpochsRead, AreFirstEpochs, Consumes, Consumes-trans, IsPrefix, false, has, prepend_known}
+use Rattle.rinex_file.proofs.Reading.Header.{text_header, begin_whole, begun_with}
+use Rattle.rinex_file.proofs.Reading.Lines.{said_of, consumed, none_ahead, splits}
+use Rattle.rinex_file.proofs.Names.{append_assoc, inr, ◌∙◌, header_lines, Memory, ExplainsStored, HasHeader, IsWhole, shown_text, ◌≡◌, sym, ap, refl, subst, ℕ, List, [], ◌∷◌, ◌++◌, Option, IfSome, AddedRow, NoRow, OneRow, LastRow, Expected, Header, Epoch, EventPosition, EventHeight, EventEpoch, Satellite, ParserState, Reading, Progress, History, HasRead, HasReadTo, stamped_at, IsSoundAt, IsAt, IsSound, HasLinesLeft, progress_at, with_line, SatelliteRow, Stamped, FileValue, stamped, joined, file_lines, AreEpochsRead, AreFirstEpochs, Consumes, Consumes-trans, IsPrefix, false, has, prepend_known}
 
 -- a file that continues after what was read begins with the epochs that were read
 at_left : (s : Progress) (expected : Expected) (v : FileValue) (left : List (List ℕ)) → IsSoundAt s expected → IsAt s expected v left → IsPrefix s.epochs v.epochs
@@ -64,3 +66,32 @@ one_epoch {r} es rows {input} {left} is read =
     let c = r.parser_state in
     let whole : HasRead r (with_line LastRow c (record { epochs = es; rows = rows })) input left = subst (λ (a : AddedRow). HasRead r (with_line a c (record { epochs = es; rows = rows })) input left) is read in
     (stamped_at c.change c.time (rows ++ c.last_read ∷ []), refl, whole, first_epochs whole)
+
+-- the input begins with a header if a satellite was read
+pub whole_header : {r : Reading} {h : History} {input left : Option (List ℕ)} → HasRead r h input left → (h.epochs ≡ [] → h.rows ≡ [] → ⊥) → IfSome input HasHeader
+unfolding shown_text
+whole_header {r} {h} {input} read some =
+    let s = progress_at r.parser_state h in
+    let t = read.taken in
+    let (others, is, are) = begin_whole s s.expected t.lines read.history.sound t.history.are some in
+    let front = header_lines s.known.shown in
+    consumed input _ (joined t.lines) HasHeader t.taken (λ rest. record {
+      h = s.known.shown;
+      rest = joined others ++ rest;
+      is = is;
+      begins = ap (λ (l : List ℕ). l ++ rest) (ap joined are ∙ joined-append front others) ∙ append_assoc (joined front) (joined others) rest;
+    })
+
+not_pushed : {A : Type 0} (xs : List A) (x : A) → xs ++ x ∷ [] ≡ [] → ⊥
+not_pushed [] x e = cc
+not_pushed (y ∷ ys) x e = cc
+
+-- a line that adds a satellite
+pub some_read : (added : AddedRow) (c : ParserState) (h : History) → (added ≡ NoRow → ⊥) → (with_line added c h).epochs ≡ [] → (with_line added c h).rows ≡ [] → ⊥
+some_read NoRow c h other none rows = other refl
+some_read OneRow c h other none rows = not_pushed h.rows c.last_read rows
+some_read LastRow c h other none rows = not_pushed h.epochs (stamped_at c.change c.time (h.rows ++ c.last_read ∷ [])) none
+
+-- memory for the epochs that were read may run out
+pub stored_memory : {c : ParserState} {h : History} {input : Option (List ℕ)} → IsWhole c h input → IfSome input (λ bytes. ExplainsStored bytes Memory)
+stored_memory {input = input} whole = said_of input _ _ (λ bytes text. inr (subst HasHeader (sym text.same) (text_header _ whole.is))) whole.text

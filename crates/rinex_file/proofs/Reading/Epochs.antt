@@ -3,12 +3,23 @@ use Rattle.gnss_obs.proofs.PlanLemmas.{few_below}
 use Rattle.rinex_file.proofs.FewRows.{few_most, few_rows}
 use Rattle.rinex_file.proofs.Entries.{few_signals}
 use Rattle.std.proofs.Common.{le_trans}
-use Rattle.rinex_file.proofs.Names.{arith, ◌≡◌, refl, ℕ, ◌<◌, List, [], ◌∷◌, ◌++◌, length, length-append, suc, ◌+◌, ◌≤◌, sym, ap, ap₂, subst, ◌∙◌, append_assoc, append-nil, zero-add, drop, get_or, Option, Some, None, Expected, IsStrictlyIncreasing, All, map, flat_map, Result, IsErrAnd, get_or_append_left, map-append, common_steps, All-head, All-tail, All-nil, All-push, flat_map-append, System, PlanValue, planned_of, civil_of, StationValues, Stamped, SatelliteRow, FileValue, time_stamped, IsFileValue, IsPlan, IsStamped, IsSatelliteRow, AreSatelliteRows, IsTime, IsChange, AreChanges, IsFirstSame, changed_by, values_following, rank_of, most_rows, planned_in, Epoch, Satellite, epoch_line, satellite_line, stamped_lines, change_lines, event_line, Progress, file_with, stamped, StartsAt, IsAt, IsAtEpoch, IsInEvent, IsInEpoch, HasLinesLeft, epoch_after, begun_at, with_row, with_epoch, AreRead, IsBegun, IsSoundAt, IsSound, MayBegin, values_now, AreLinesAt, header_lines, whole_lines, part_lines, AddedRow, Refusal, Bad, ParserState, History, FollowsHistory, GoesOnWithLine, ShowsLine, RefusesLine, TakesLine, progress_at, Known, NoRow, IsNext, most_signals, table}
+use Rattle.rinex_file.proofs.Names.{Ok, ok_or, MayRunOut, Err, Memory, arith, ◌≡◌, refl, ℕ, ◌<◌, List, [], ◌∷◌, ◌++◌, length, length-append, suc, ◌+◌, ◌≤◌, sym, ap, ap₂, subst, ◌∙◌, append_assoc, append-nil, zero-add, drop, get_or, Option, Some, None, Expected, IsStrictlyIncreasing, All, map, flat_map, Result, IsErrAnd, get_or_append_left, map-append, common_steps, All-head, All-tail, All-nil, All-push, flat_map-append, System, PlanValue, planned_of, civil_of, StationValues, Stamped, SatelliteRow, FileValue, time_stamped, IsFileValue, IsPlan, IsStamped, IsSatelliteRow, AreSatelliteRows, IsTime, IsChange, AreChanges, IsFirstSame, changed_by, values_following, rank_of, most_rows, planned_in, Epoch, Satellite, epoch_line, satellite_line, stamped_lines, change_lines, event_line, Progress, file_with, stamped, StartsAt, IsAt, IsAtEpoch, IsInEvent, IsInEpoch, HasLinesLeft, epoch_after, begun_at, with_row, with_epoch, AreRead, IsBegun, IsSoundAt, IsSound, MayBegin, values_now, AreLinesAt, header_lines, whole_lines, part_lines, AddedRow, Refusal, Bad, ParserState, History, FollowsHistory, GoesOnWithLine, ShowsLine, RefusesLine, TakesLine, progress_at, Known, NoRow, IsNext, most_signals, table}
 
 -- a line was refused: memory ran out, or no file continues with it
-pub stopped : {Q : Refusal → Type 0} (old new : ParserState) (line : List ℕ) (r : Result AddedRow Refusal) → IsErrAnd r Q → ((e : Refusal) → Q e → e ≡ Bad → (h : History) → FollowsHistory old h → RefusesLine (progress_at old h) line)
-    → TakesLine old new line r
-stopped old new line r is bad = grind arith
+pub passed : {Q : Refusal → Type 0} (old new : ParserState) (line : List ℕ) (r : Result AddedRow Refusal) → IsErrAnd r Q → ((e : Refusal) → Q e → e ≡ Bad → (h : History) → FollowsHistory old h → RefusesLine (progress_at old h) line)
+    → ((e : Refusal) → Q e → e ≡ Memory → MayRunOut old.expected line) → TakesLine old new line r
+passed old new line (Ok added) is bad run = absurd is
+passed old new line (Err Bad) is bad run = bad Bad is refl
+passed old new line (Err Memory) is bad run = run Memory is refl
+
+-- a line was refused since nothing was read in it
+pub stopped : {Q : Refusal → Type 0} (old new : ParserState) (line : List ℕ) (r : Result AddedRow Refusal) → IsErrAnd r Q → ((e : Refusal) → Q e → e ≡ Bad)
+    → ((h : History) → FollowsHistory old h → RefusesLine (progress_at old h) line) → TakesLine old new line r
+stopped old new line r is bad refuses = passed old new line r is (λ e q same. refuses) (λ e q same. let other : Bad ≡ Memory = sym (bad e q) ∙ same in cc)
+
+-- the refusal in place of a value that is absent
+pub bad_of : {A : Type 0} {o : Option A} {e : Refusal} → ◌≡◌ {A = Result A Refusal} (Err e) (ok_or o Bad) → o ≡ None → e ≡ Bad
+bad_of {A} {o} {e} is none = let same : ◌≡◌ {A = Result A Refusal} (Err e) (Err Bad) = is ∙ ap (λ (x : Option A). ok_or x Bad) none in cc
 
 -- the first of ascending numbers are ascending
 pub rise_front : (xs ys : List ℕ) → IsStrictlyIncreasing (xs ++ ys) → IsStrictlyIncreasing xs

@@ -1,10 +1,11 @@
 -- The steps of a reading from the header to the epochs, and its end.
+use Rattle.rinex_file.proofs.Writing.Sent.{joined-append}
 use Rattle.rinex_file.proofs.HeaderRows.Agree.{some_after, split_at}
 use Rattle.rinex_file.proofs.HeaderRows.Some.{none_before, some_shown}
 use Rattle.rinex_file.proofs.HeaderRows.End.{zero_values}
 use Rattle.rinex_file.proofs.Reading.Lines.{consumed}
 use Rattle.rinex_file.proofs.Reading.Epochs.{lines_with, lines_are, sound_open, sound_between, at_expected, file_value}
-use Rattle.rinex_file.proofs.Names.{common_steps, Has, GoesOn, shown_of, arith, ◌≡◌, ◌∙◌, sym, ap, refl, ℕ, zero, suc, ◌+◌, ◌<◌, pos, List, [], ◌∷◌, ◌++◌, length, Option, IfSome, lit<, subst, take, drop, append-nil, inl, inr, AreBegunWith, None, Some, ⊤, map, flat_map, All-head, All-nil, length-map, nil_from_length, StationValues, ParserState, Expected, Header, Epoch, EventPosition, EventHeight, EventEpoch, Satellite, IsChange, IsFileValue, AreBegun, IsEventBegun, header_lines, whole_lines, AreBefore, IsExpectedAt, Progress, IsPosition, shown_with, lines_after, stamped, Known, Shown, IsShown, IsHeadAt, file_with, StartsAt, IsInHeader, IsAt, IsAtEpoch, IsInEvent, position_of, HasLinesLeft, RefusesLine, IsSound, IsSoundAt, IsEventExpected, AreLinesAt, values_now, AreRead, AreLinesOf, History, FollowsHistory, progress_at, GoesOnWithLine, ShowsLine, IsTaken, SatelliteRow, Stamped, FileValue, satellite_line, event_lines, stamped_lines, file_lines, lines_of_parts, GoesTo, EndsHeader, NoneGoesOn}
+use Rattle.rinex_file.proofs.Names.{joined, true, file_text, is_of_types, HasHeader, IsHeaderBegun, shown_text, append_assoc, MayRunOut, common_steps, Has, GoesOn, shown_of, arith, ◌≡◌, ◌∙◌, sym, ap, refl, ℕ, zero, suc, ◌+◌, ◌<◌, pos, List, [], ◌∷◌, ◌++◌, length, Option, IfSome, lit<, subst, take, drop, append-nil, inl, inr, AreBegunWith, None, Some, ⊤, map, flat_map, All-head, All-nil, length-map, nil_from_length, StationValues, ParserState, Expected, Header, Epoch, EventPosition, EventHeight, EventEpoch, Satellite, IsChange, IsFileValue, AreBegun, IsEventBegun, header_lines, whole_lines, AreBefore, IsExpectedAt, Progress, IsPosition, shown_with, lines_after, stamped, Known, Shown, IsShown, IsHeadAt, file_with, StartsAt, IsInHeader, IsAt, IsAtEpoch, IsInEvent, position_of, HasLinesLeft, RefusesLine, IsSound, IsSoundAt, IsEventExpected, AreLinesAt, values_now, AreRead, AreLinesOf, History, FollowsHistory, progress_at, GoesOnWithLine, ShowsLine, IsTaken, SatelliteRow, Stamped, FileValue, satellite_line, event_lines, stamped_lines, file_lines, lines_of_parts, GoesTo, EndsHeader, NoneGoesOn}
 
 some_lines : (xs : List (List ℕ)) → (xs ≡ [] → ⊥) → 0 < length xs
 some_lines xs some = grind (arith, common_steps)
@@ -84,6 +85,27 @@ begun s n a b t sound = are_begun s.expected t.lines (are_before s s.expected t.
 pub expected_at : {c : ParserState} {h : History} {expected : Expected} {n : ℕ} {a b : Option (List ℕ)} → IsTaken (progress_at c h) n a b → expected ≡ c.expected → FollowsHistory c h → IfSome a (λ input. IsExpectedAt expected input (n + 1))
 expected_at t same history = grind (arith, consumed, are_before)
 
+-- memory runs out only at a line of types in a header
+pub run_out : (s : Progress) (expected : Expected) (lines : List (List ℕ)) (line : List ℕ) → IsSoundAt s expected → AreLinesAt s expected lines → MayRunOut expected line
+    → IsHeaderBegun lines × (is_of_types line ≡ true)
+unfolding are_before
+run_out s (Header place) lines line sound are run = (are_before s (Header place) lines sound are, run)
+run_out s other lines line sound are run = absurd run
+
+pub no_epochs_yet : (s : Progress) (expected : Expected) (line : List ℕ) → IsSoundAt s expected → MayRunOut expected line → s.epochs ≡ []
+no_epochs_yet s (Header place) line sound run = sound.0
+no_epochs_yet s other line sound run = absurd run
+
+-- the lines that were read begin with the header if a satellite was read
+pub begin_whole : (s : Progress) (expected : Expected) (lines : List (List ℕ)) → IsSoundAt s expected → AreLinesAt s expected lines → (s.epochs ≡ [] → s.rows ≡ [] → ⊥)
+    → (others : List (List ℕ)) × IsShown s.known.shown × (lines ≡ header_lines s.known.shown ++ others)
+begin_whole s (Header place) lines sound are some = absurd (some sound.0 sound.1)
+begin_whole s Epoch lines sound are some = (_, sound.0.shown, are)
+begin_whole s EventPosition lines sound are some = (_, sound.0.shown, are ∙ append_assoc (header_lines s.known.shown) _ _)
+begin_whole s (EventHeight p) lines sound are some = (_, sound.0.0.shown, are ∙ append_assoc (header_lines s.known.shown) _ _)
+begin_whole s (EventEpoch w) lines sound are some = (_, sound.0.0.shown, are ∙ append_assoc (header_lines s.known.shown) _ _)
+begin_whole s (Satellite n) lines sound are some = (_, sound.0.shown, are ∙ append_assoc (header_lines s.known.shown) _ _)
+
 -- the header of a file value is a header
 pub shown_is : (v : FileValue) (e : Stamped) (es : List Stamped) → v.epochs ≡ e ∷ es → IsFileValue v → IsShown (shown_of v e.time)
 shown_is v e es same is = grind (arith, All-head)
@@ -111,6 +133,14 @@ begins v is = by v.epochs refl where
   by : (es : List Stamped) → v.epochs ≡ es → Begins v
   by [] e = let size = ap length e in let some = is.some in absurd (omega (arith, size, some))
   by (first ∷ others) e = record { first = first; others = others; epochs = e; is = shown_is v first others e is; lines = ap (lines_of_parts (shown_of v 0)) e }
+
+-- the text of a file value begins with a header
+pub text_header : (v : FileValue) → IsFileValue v → HasHeader (file_text v)
+unfolding shown_text
+text_header v is =
+    let b = begins v is in
+    let others = flat_map stamped_lines (b.first ∷ b.others) in
+    record { h = shown_of v b.first.time; rest = joined others; is = b.is; begins = ap joined b.lines ∙ joined-append (header_lines (shown_of v b.first.time)) others }
 
 -- a file with what was read is a header that goes on
 goes_on_with : {s : Progress} {place : ℕ} {v : FileValue} {left : List (List ℕ)} → IsFileValue v → (here : IsInHeader s place v left)

@@ -2,7 +2,7 @@
 use Rattle.rinex_file.specs.declared.read.fault.ReadFault.TheVariants.{Memory}
 use Rattle.rinex_fields.proofs.NumberLemmas.{has-append, lacks-append}
 use Rattle.rinex_file.proofs.Writing.Sent.{joined-append}
-use Rattle.rinex_file.proofs.Names.{common_steps, arith, ◌≡◌, ◌∙◌, sym, ap, subst, refl, ℕ, zero, suc, ◌+◌, ◌-◌, ◌<◌, ◌≤◌, true, false, List, [], ◌∷◌, ◌++◌, length, take, drop, get_or, length-append, take-add, append_assoc, append-nil, Option, Some, IfSome, inl, is_some, ◌||◌, ◌==◌, nat_eq, nat_lt, min, All, ⊤, Bool, Ok, Consumes, IsAtEnd, prepend_known, min-eq_left, min-eq_right, min-le_left, min-le_right, le-min, false_from_ne_true, or_parts, or_right, append_cancel_left, length-take-le, take-append-drop, length_push, drop-take, drop-drop, take-take, Consumes-nil, Consumes-trans, All-head, All-tail, All-push, has, LeavesRest, AreMoved, MovesBytes, IsLine, IsTextOf, NoFileBegins, IsCutShort, IsTooLong, IsFaulty, ExplainsFault, IsNoFault, most_lines, ParserState, AddedRow, Reading, FileValue, IsFileValue, file_text, file_lines, History, with_line, GoesOnWithLine, ShowsLine, RefusesLine, ReadsNextLine, HasRead, IsWhole, IsTextOfOnly, file_at, IsTaken, FileBuilder, history_of, HasReadWhole, joined, ReadFault, Read, CutShort, TooLong, AreBegun, Progress, HasLinesLeft, AreLinesOf, HasReadLines, most_line}
+use Rattle.rinex_file.proofs.Names.{inr, common_steps, arith, ◌≡◌, ◌∙◌, sym, ap, subst, refl, ℕ, zero, suc, ◌+◌, ◌-◌, ◌<◌, ◌≤◌, true, false, List, [], ◌∷◌, ◌++◌, length, take, drop, get_or, length-append, take-add, append_assoc, append-nil, Option, Some, IfSome, inl, is_some, ◌||◌, ◌==◌, nat_eq, nat_lt, min, All, ⊤, Bool, Ok, Consumes, IsAtEnd, prepend_known, min-eq_left, min-eq_right, min-le_left, min-le_right, le-min, false_from_ne_true, or_parts, or_right, append_cancel_left, length-take-le, take-append-drop, length_push, drop-take, drop-drop, take-take, Consumes-nil, Consumes-trans, All-head, All-tail, All-push, IsHeaderBegun, IsAtTypes, is_of_types, ExplainsStored, ExplainsAny, HasHeader, has, LeavesRest, AreMoved, MovesBytes, IsLine, IsTextOf, NoFileBegins, IsCutShort, IsTooLong, IsFaulty, ExplainsFault, IsNoFault, most_lines, ParserState, AddedRow, Reading, FileValue, IsFileValue, file_text, file_lines, History, with_line, GoesOnWithLine, ShowsLine, RefusesLine, ReadsNextLine, HasRead, IsWhole, IsTextOfOnly, file_at, IsTaken, FileBuilder, history_of, HasReadWhole, joined, ReadFault, Read, CutShort, TooLong, AreBegun, Progress, HasLinesLeft, AreLinesOf, HasReadLines, most_line}
 
 -- ---- bytes that are moved to a line
 
@@ -201,6 +201,18 @@ too_long {a} {b} c bytes t most some next =
       more = simp length-append (omega (arith, some));
     })
 
+-- the next line is one of types in a header
+pub at_types : {s : Progress} {n : ℕ} {a b : Option (List ℕ)} (c : Option (List ℕ)) (line : List ℕ) (t : IsTaken s n a b) → IsLine line → Consumes b c line → IsHeaderBegun t.lines → is_of_types line ≡ true → IfSome a IsAtTypes
+at_types {s} {n} {a} {b} c line t is next begun types =
+    consumed a c (joined (t.lines ++ line ∷ [])) IsAtTypes (taken_more a b c t.lines line t.taken next) (λ rest. record {
+      lines = t.lines;
+      line = line;
+      rest = rest;
+      first = record { are = are_more t.lines line t.are is; first = refl };
+      begun = begun;
+      types = types;
+    })
+
 module _ (are_lines : (v : FileValue) → IsFileValue v → All IsLine (file_lines v)) where
   refuted : (s : Progress) (taken : List (List ℕ)) (line : List ℕ) → All IsLine (taken ++ line ∷ []) → HasReadLines s taken → RefusesLine s line → NoFileBegins (joined (taken ++ line ∷ []))
   refuted s taken line are history bad v rest is e =
@@ -283,6 +295,14 @@ module _ (are_lines : (v : FileValue) → IsFileValue v → All IsLine (file_lin
         → IfSome a (λ input. input ≡ file_text v → IsNoFault fault)
     only_faults v0 fault v why is few = grind (arith, not_explained)
 
+    stored_not : (v : FileValue) (input : List ℕ) (fault : ReadFault) → IsFileValue v → length (file_lines v) ≤ most_lines → ExplainsStored input fault → input ≡ file_text v → IsNoFault fault
+    stored_not v input Memory is few why e = tt
+    stored_not v input other is few why e = not_explained v input other is few why e
+
+    pub only_stored : (a : Option (List ℕ)) (fault : ReadFault) (v : FileValue) → IfSome a (λ input. ExplainsStored input fault) → IsFileValue v → length (file_lines v) ≤ most_lines
+        → IfSome a (λ input. input ≡ file_text v → IsNoFault fault)
+    only_stored v0 fault v why is few = grind (arith, stored_not)
+
 -- a property of the input that follows from two others
 pub both_said : (a : Option (List ℕ)) (P Q R : List ℕ → Type 0) → ((input : List ℕ) → P input → Q input → R input) → IfSome a P → IfSome a Q → IfSome a R
 both_said a P Q R h p q = grind arith
@@ -291,8 +311,19 @@ both_said a P Q R h p q = grind arith
 pub said_of : (a : Option (List ℕ)) (P Q : List ℕ → Type 0) → ((input : List ℕ) → P input → Q input) → IfSome a P → IfSome a Q
 said_of a P Q h p = grind arith
 
-pub explains_memory : (a : Option (List ℕ)) → IfSome a (λ input. ExplainsFault input Memory)
-explains_memory a = grind arith
+-- what explains a fault explains it if epochs are stored
+stored_of : (input : List ℕ) (fault : ReadFault) → ExplainsFault input fault → ExplainsStored input fault
+stored_of input Memory why = inl why
+stored_of input other why = why
+
+pub explained : (b : Bool) (a : Option (List ℕ)) (fault : ReadFault) → IfSome a (λ input. ExplainsFault input fault) → IfSome a (λ input. ExplainsAny b input fault)
+explained false a fault why = why
+explained true a fault why = said_of a _ _ (λ input e. stored_of input fault e) why
+
+-- memory for an epoch ran out
+pub out_of_memory : (b : Bool) (a : Option (List ℕ)) → b ≡ true → IfSome a HasHeader → IfSome a (λ input. ExplainsAny b input Memory)
+out_of_memory true a is has = said_of a _ _ (λ input header. inr header) has
+out_of_memory false a is has = cc
 
 -- a memory fault has nothing to explain
 pub no_reason : (a : Option (List ℕ)) (v : FileValue) → IfSome a (λ input. input ≡ file_text v → ⊤)

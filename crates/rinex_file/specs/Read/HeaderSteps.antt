@@ -1,6 +1,6 @@
 -- From one line of a header to the next while its lines are read.
 use Rattle.std.specs.Prelude.{◌≡◌, ℕ, zero, suc, ◌+◌, ◌*◌, ◌<◌, ◌≤◌, ◌==◌, nat_lt, Bool, true, false, List, [], ◌∷◌, ◌++◌, length}
-use Rattle.std.specs.Prelude.{codes, nat_eq, ◌||◌, set, take, drop, min, Option, Some, None, Result, Ok, Err, ⊤, ◌↔◌}
+use Rattle.std.specs.Prelude.{codes, ◌||◌, set, take, drop, min, Option, Some, None, Result, Ok, Err, ⊤, ◌↔◌}
 use Rattle.gnss_obs.specs.declared.cell.StationValues.{StationValues}
 use Rattle.gnss_system.specs.Signals.{SignalAt, IsSignal, code_of, table}
 use Rattle.gnss_system.specs.declared.system.System.{System}
@@ -19,15 +19,12 @@ use Rattle.rinex_file.specs.declared.read.parser_state.Expected.{Expected}
 use Rattle.rinex_file.specs.declared.read.parser_state.Expected.TheVariants.{Header, Epoch}
 use Rattle.rinex_file.specs.declared.read.parser_state.Refusal.{Refusal}
 use Rattle.rinex_file.specs.declared.read.parser_state.Refusal.TheVariants.{Memory, Bad}
-use Rattle.std.specs.List.{ends_with}
-use Rattle.rinex_fields.specs.Limits.{label_columns}
-use Rattle.rinex_fields.specs.Numbers.{left}
 use Rattle.rinex_file.specs.Blanks.{trimmed}
 use Rattle.rinex_file.specs.Texts.{HeaderLists, place_of, width_of, fault_of, fields_of, front_of, text_count}
 use Rattle.rinex_file.specs.Texts.{has_row, is_required, label_of}
 use Rattle.rinex_file.specs.FileValues.{AreTexts}
 use Rattle.rinex_file.specs.Header.{header_lines, row_line, row_at, row_place, row_count, texts_line, type_rows}
-use Rattle.rinex_file.specs.Header.{slots_with, slots_line, has_line, is_given, is_optional}
+use Rattle.rinex_file.specs.Header.{slots_with, slots_line, has_line, has_label, is_given, is_of_types, is_optional}
 use Rattle.rinex_file.specs.Slots.{SlotNumber, AreSlots, last_slot, slot_rows, slots_in_line}
 use Rattle.rinex_file.specs.Read.Progress.{Known, Shown, IsShown, IsHeadAt, Has, HasRow, AreSized, types_before, lines_after}
 use Rattle.rinex_file.specs.Read.Progress.{AreUnread, lines_before, counted, AreSlotsAt, known_slots}
@@ -43,10 +40,6 @@ IsOnly other = ⊤
 abbrev pub begins_with : ℕ → List ℕ → Bool
 begins_with byte [] = false
 begins_with byte (b ∷ bs) = b == byte
-
--- a line has this label
-abbrev pub has_label : List ℕ → List ℕ → Bool
-has_label label line = ends_with nat_eq line (left label_columns label ++ 10 ∷ [])
 
 abbrev pub row_label : HeaderRow → List ℕ
 row_label Version = codes "RINEX VERSION / TYPE"
@@ -168,11 +161,11 @@ StepsTo old place line new other = ⊥
 abbrev pub NoneGoesOn : Known → ℕ → List ℕ → Type 0
 NoneGoesOn k place line = (h : Shown) (others left : List (List ℕ)) → GoesOn k place h others (line ∷ left) → ⊥
 
--- the result of a line: what is expected after it, or no header continues with it
+-- the result of a line: what is expected after it, or no header continues with it; memory runs out at types alone
 abbrev pub TakesHeaderLine : Known → ℕ → List ℕ → Known → Result Expected Refusal → Type 0
 TakesHeaderLine old place line new (Ok next) = StepsTo old place line new next
 TakesHeaderLine old place line new (Err Bad) = NoneGoesOn old place line
-TakesHeaderLine old place line new (Err Memory) = ⊤
+TakesHeaderLine old place line new (Err Memory) = is_of_types line ≡ true
 
 -- the row at an index is expected, if some plan fits
 abbrev pub expected_if : Bool → ℕ → Result Expected Refusal

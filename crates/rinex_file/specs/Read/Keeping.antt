@@ -1,6 +1,8 @@
 -- The epochs of a file that are stored while it is read.
-use Rattle.std.specs.Prelude.{◌≡◌, ℕ, ◌<◌, ◌≤◌, Bool, true, List, length, All, Option}
+use Rattle.std.specs.Prelude.{◌≡◌, ℕ, ◌<◌, ◌≤◌, Bool, true, false, List, length, All, Option}
 use Rattle.rinex_file.specs.declared.read.file.FileBuilder.{FileBuilder}
+use Rattle.rinex_file.specs.declared.read.fault.ReadFault.{ReadFault}
+use Rattle.rinex_file.specs.Exact.{ExplainsFault, ExplainsStored}
 use Rattle.rinex_file.specs.Value.{SatelliteRow, Stamped}
 use Rattle.rinex_file.specs.FileValues.{AreSignalValues}
 use Rattle.rinex_file.specs.declared.read.parser_state.ParserState.{ParserState}
@@ -22,6 +24,11 @@ Stores is_stored k h = is_stored ≡ true → history_of k ≡ h
 -- a file was read whole, and its history is stored, if one is
 abbrev pub HasReadWhole : Bool → ParserState → FileBuilder → Option (List ℕ) → Type 0
 HasReadWhole is_stored c k input = (h : History) × IsWhole c h input × Stores is_stored k h
+
+-- what a fault means for the input if epochs are stored, or else
+abbrev pub ExplainsAny : Bool → List ℕ → ReadFault → Type 0
+ExplainsAny true input fault = ExplainsStored input fault
+ExplainsAny false input fault = ExplainsFault input fault
 
 -- a line has room for a satellite
 abbrev pub HasRoom : SatelliteRow → Type 0

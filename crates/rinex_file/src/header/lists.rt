@@ -18,6 +18,9 @@ use rinex_fields::{Line, labelled, put, put_whole};
 /// Largest number of types in a line.
 pub(crate) const TYPES_IN_LINE: usize = 13;
 
+/// The label of a line of types.
+pub(crate) const TYPES: &[u8] = b"SYS / # / OBS TYPES";
+
 /// Returns the number of lines that the types of this number of signals need.
 pub(crate) fn type_rows(signals: usize) -> usize
     requires { signals ≤ 1000 }
@@ -87,7 +90,7 @@ pub(crate) fn types_with(system: System, count: usize, signals: &[Signal], row: 
     let mut content = Line::new();
     put_types_front(&mut content, system.letter(), 4 * count, row);
     put_types(&mut content, system, signals, row);
-    labelled(content.as_slice(), b"SYS / # / OBS TYPES")
+    labelled(content.as_slice(), TYPES)
 }
 
 /// Largest number of slots in a line.

@@ -4,7 +4,7 @@ ghost use Rattle.rtcm_bits.specs.Device.{HasFailed};
 ghost use Rattle.rinex_file.specs.Accepted.{AreEpochsRead, IsFaultAfter};
 ghost use Rattle.rinex_file.specs.Exact.{ExplainsFault, IsFaulty, IsExpectedAt};
 ghost use Rattle.rinex_file.specs.Blocks.{LeavesRest};
-ghost use Rattle.rinex_file.specs.ParserState.{History, nothing};
+ghost use Rattle.rinex_file.specs.ParserState.{FollowsHistory, History, nothing};
 ghost use Rattle.rinex_file.specs.Value.{Stamped};
 ghost use Rattle.rinex_file.specs.Read.Steps.{GoesOnReading, HasRead};
 ghost use Rattle.rinex_file.specs.Read.EpochSteps.{HasReadEpochs, HasReadTo, ReadsEpoch, ReadsNextEpoch};
@@ -37,6 +37,7 @@ fn fault_at(expected: Expected, number: u64) -> ReadFault
     ensures faulty { (input : List ℕ) → IsFaulty input number → IsExpectedAt expected input number
         → ExplainsFault input result }
     ensures other { result ≡ ReadFault.Read → ⊥ }
+    ensures memory { result ≡ ReadFault.Memory → ⊥ }
     ensures number { (n : ℕ) → number ≡ n + 1 → IsFaultAfter result n }
 {
     match expected {
@@ -74,6 +75,8 @@ impl Reading {
             → HasRead self.old h input (R.remaining reader.old.inner)
             → AreEpochsRead h.epochs input (R.remaining reader.new.inner) }
         ensures number { IfErr result (λ e. IsFaultAfter e self.old.count) }
+        ensures memory { result ≡ Err ReadFault.Memory → (h : History) → FollowsHistory self.old.parser_state h
+            → h.epochs ≡ [] }
         ensures left { LeavesRest (R.remaining reader.old.inner) (R.remaining reader.new.inner) }
         ensures failed { result ≡ Err ReadFault.Read → HasFailed reader.old.failures reader.new.failures }
         ensures same { (result ≡ Err ReadFault.Read → ⊥) → reader.new.failures ≡ reader.old.failures }

@@ -1,13 +1,13 @@
 //! Reading a file whole, and storing its epochs while it is read.
-ghost use Rattle.std.specs.Prelude.{◌≡◌, Err, IfOk, IfErr, IfSome, OnOk, []};
+ghost use Rattle.std.specs.Prelude.{◌≡◌, Err, IsOk, IfOk, IfErr, IfSome, OnOk, []};
 ghost use Rattle.rtcm_bits.specs.Device.{HasFailed};
-ghost use Rattle.rinex_file.specs.Exact.{ExplainsFault, IfTextOfFile, IsReadOr, IsTextOf};
+ghost use Rattle.rinex_file.specs.Exact.{ExplainsFault, ExplainsStored, IfTextOfFile, IsReadOr, IsTextOf};
 ghost use Rattle.rinex_file.specs.Blocks.{LeavesRest};
 ghost use Rattle.rinex_file.specs.Counting.{AreCounts, IsSummary, IsTextWith, HoldsOr};
 ghost use Rattle.rinex_file.specs.FileValues.{IsFileValue};
 ghost use Rattle.rinex_file.specs.ParserState.{FollowsHistory, nothing, with_line};
 ghost use Rattle.rinex_file.specs.Read.Steps.{file_at, HasRead};
-ghost use Rattle.rinex_file.specs.Read.Keeping.{history_of, HasReadWhole};
+ghost use Rattle.rinex_file.specs.Read.Keeping.{ExplainsAny, history_of, HasReadWhole};
 
 use crate::read::epochs::Reading;
 use crate::read::fault::ReadFault;
@@ -67,7 +67,8 @@ impl FileBuilder {
         added: AddedRow,
         parser_state: &ParserState,
     ) -> Result<(), AllocError>
-        ensures { OnOk result (history_of self.new ≡ with_line added parser_state.now (history_of self.old)) }
+        ensures kept { OnOk result (history_of self.new ≡ with_line added parser_state.now (history_of self.old)) }
+        ensures some { added ≡ AddedRow.NoRow → IsOk result }
     {
         if let AddedRow::NoRow = added {
             return Ok(());
@@ -130,7 +131,8 @@ fn read_lines<R: Read>(
     requires none { history_of builder.old ≡ nothing }
     ensures found { OnOk result
         (HasReadWhole is_stored reading.new.parser_state builder.new (R.remaining reader.old.inner)) }
-    ensures fault { IfErr result (λ e. IfSome (R.remaining reader.old.inner) (λ input. ExplainsFault input e)) }
+    ensures fault { IfErr result
+        (λ e. IfSome (R.remaining reader.old.inner) (λ input. ExplainsAny is_stored input e)) }
     ensures failed { result ≡ Err ReadFault.Read → HasFailed reader.old.failures reader.new.failures }
     ensures same { (result ≡ Err ReadFault.Read → ⊥) → reader.new.failures ≡ reader.old.failures }
     ensures left { LeavesRest (R.remaining reader.old.inner) (R.remaining reader.new.inner) }
@@ -228,7 +230,7 @@ pub fn read_file<R: Read>(alloc: Global, reader: &mut Counted<R>) -> Result<ObsF
     // The result is the file whose text is the whole input.
     ensures found { IfOk result (λ f. IsTextOf f (R.remaining reader.old.inner)) }
     // The fault explains why no file was read.
-    ensures fault { IfErr result (λ e. IfSome (R.remaining reader.old.inner) (λ input. ExplainsFault input e)) }
+    ensures fault { IfErr result (λ e. IfSome (R.remaining reader.old.inner) (λ input. ExplainsStored input e)) }
     // The text of each file value is read.
     ensures only { IfTextOfFile (R.remaining reader.old.inner) (λ v. IsReadOr v result) }
     // It fails with its reader: nothing is read again after a failed read.

@@ -3,14 +3,14 @@ ghost use Rattle.std.specs.Prelude.{◌≡◌, ◌<◌, ◌≤◌, ◌+◌, true
 ghost use Rattle.gnss_system.specs.Signals.{table};
 ghost use Rattle.gnss_obs.specs.SignalLists.{indices};
 ghost use Rattle.gnss_obs.specs.Values.{planned_of};
-ghost use Rattle.rinex_file.specs.Header.{type_rows, row_at};
+ghost use Rattle.rinex_file.specs.Header.{has_label, is_of_types, type_rows, row_at};
 ghost use Rattle.rinex_fields.specs.Limits.{label_columns};
 ghost use Rattle.rinex_file.specs.Read.Progress.{AreValid, IsHeadAt, counted, signals_begun, is_chosen, fits};
-ghost use Rattle.rinex_file.specs.Read.HeaderSteps.{begins_with, has_label, expected_if, known_line, SameFrom, TakesHeaderLine};
+ghost use Rattle.rinex_file.specs.Read.HeaderSteps.{begins_with, expected_if, known_line, SameFrom, TakesHeaderLine};
 ghost use Rattle.rinex_file.specs.Read.HeaderSteps.{TakesTypes, RefusesTypes, with_types, AreSlotsBefore, IsOnly, ReadsOrRefuses};
 
 use crate::header::lines::{BIASES, END, INTERVAL, SHIFT, STRENGTH_UNIT, UNIT, flagged_letter};
-use crate::header::lists::{slot_rows, type_rows};
+use crate::header::lists::{TYPES, slot_rows, type_rows};
 use crate::header::rows::{HeaderRow, first_types, row_at};
 use crate::header::texts::HeaderTexts;
 use crate::read::other_lines::{
@@ -175,7 +175,12 @@ impl HeadSoFar {
             (counted self.new system) (planned_of system self.new.shown.plan)) }
         ensures bad { result ≡ Err Refusal.Bad → RefusesTypes system row line.now (counted self.old system)
             (planned_of system self.old.shown.plan) }
+        ensures memory { result ≡ Err Refusal.Memory → is_of_types line.now ≡ true }
     {
+        // Memory is allocated only for a line with this label.
+        if !has_label(line, TYPES) {
+            return Err(Refusal::Bad);
+        }
         self.types.of_mut(system).take(system, row, line)
     }
 

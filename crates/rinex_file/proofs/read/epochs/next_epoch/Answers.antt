@@ -67,7 +67,7 @@ pub returns-in-Err-clause-epochs : goal.returns-in-Err-clause-epochs
 returns-in-Err-clause-epochs g c = λ es input before.
     let (rows, read, least) = c.loop-added.invariant.read es input before in
     let why = c.in-Err.ensures.goes _ _ read in (
-      both_said input _ _ _ (λ bytes why first. (why, (c.loop-added.reading.count, c.in-Err.ensures.number, first))) why (first_epochs read),
+      both_said input _ _ _ (λ bytes why first. (why, (c.loop-added.reading.count, c.in-Err.ensures.number, first, λ memory. c.in-Err.ensures.memory (ap Err memory) _ read.history))) why (first_epochs read),
       λ v is few. only_faults lines_are_lines lines_are_short input c.in-Err.fault v why is few,
       λ failed. c.in-Err.ensures.decided (ap Err failed) _ _ read,
     )

@@ -1,8 +1,9 @@
 use Rattle.rinex_file.proofs.Judged.{same_fault}
 use Rattle.rinex_file.specs.declared.read.fault.ReadFault.TheVariants.{Memory}
 use Rattle.rinex_file.proofs.FileLines.{lines_are_lines, lines_are_short}
-use Rattle.rinex_file.proofs.Reading.Lines.{only_faults, no_reason, file_found, file_only, stored_whole, explains_memory}
-use Rattle.rinex_file.proofs.Names.{◌≡◌, Option, Some, None, IfSome, IfOk, IfErr, Result, Ok, Err, ok_or, ReadFault, ExplainsFault, IsReadOr, IsTextOf, file_text, FileValue}
+use Rattle.rinex_file.proofs.Reading.Lines.{only_stored, no_reason, file_found, file_only, stored_whole}
+use Rattle.rinex_file.proofs.Reading.Accepted.{stored_memory}
+use Rattle.rinex_file.proofs.Names.{◌≡◌, Option, Some, None, IfSome, IfOk, IfErr, Result, Ok, Err, ok_or, ReadFault, ExplainsStored, IsReadOr, IsTextOf, file_text, FileValue}
 use Rattle.rinex_file.proofs.read.file.read_file.Goals as goal
 
 pub read_lines-requires-clause-read : goal.read_lines-requires-clause-read
@@ -26,8 +27,9 @@ returns-in-Ok-clause-found g c =
 
 pub returns-in-Ok-clause-fault : goal.returns-in-Ok-clause-fault
 returns-in-Ok-clause-fault g c =
-    rw c.ok_or.ensures.value (or_memory c.finish.result _ (λ r. IfErr r (λ e. IfSome (g.R.Read.remaining c.args.reader.now.inner) (λ input. ExplainsFault input e))) c.finish.ensures
-    (λ f same. tt) (explains_memory _))
+    let whole = stored_whole c.read_lines.new.reading.parser_state c.read_lines.new.builder _ c.in-Ok.ensures.found in
+    rw c.ok_or.ensures.value (or_memory c.finish.result _ (λ r. IfErr r (λ e. IfSome (g.R.Read.remaining c.args.reader.now.inner) (λ input. ExplainsStored input e))) c.finish.ensures
+    (λ f same. tt) (stored_memory whole))
 
 pub returns-in-Ok-clause-only : goal.returns-in-Ok-clause-only
 returns-in-Ok-clause-only g c = λ v is few.
@@ -36,7 +38,7 @@ returns-in-Ok-clause-only g c = λ v is few.
     (λ f same. file_only c.read_lines.new.reading.parser_state _ _ f v whole same is) (no_reason _ v))
 
 pub returns-in-Err-clause-only : goal.returns-in-Err-clause-only
-returns-in-Err-clause-only g c = λ v is few. only_faults lines_are_lines lines_are_short _ c.in-Err.fault v c.in-Err.ensures.fault is few
+returns-in-Err-clause-only g c = λ v is few. only_stored lines_are_lines lines_are_short _ c.in-Err.fault v c.in-Err.ensures.fault is few
 
 pub returns-in-Err-clause-failed : goal.returns-in-Err-clause-failed
 returns-in-Err-clause-failed g c = λ e. c.in-Err.ensures.failed (same_fault e)

@@ -5,15 +5,16 @@ use Rattle.rinex_file.proofs.HeaderRows.Read.{begun_here, types_law, types_sized
 use Rattle.rinex_file.proofs.HeaderRows.Steps.{Law, takes_row, takes_from, none_at, none_from, plain_law, row_sized, row_slots, row_unread, slots_expected, decided}
 use Rattle.rinex_file.proofs.HeaderRows.Places.{is_types, own_before, place_at}
 use Rattle.rinex_file.proofs.Judged.{refused}
-use Rattle.rinex_file.proofs.Names.{Option, ⊤, is_some, ReadsOrRefuses, ◌≡◌, ◌∙◌, sym, ap, subst, refl, false, suc, ℕ, List, Result, Ok, Err, IsErrAnd, System, HeaderRow, Expected, Refusal, Memory, Bad, Types, End, planned_of, end_line, row_place, Known, IsHeadAt, SameFrom, AreSized, types_before, counted, IsOnly, known_line, EndsHeader, NoneGoesOn, TakesHeaderLine, AreSlotsAt, true, AreUnread}
+use Rattle.rinex_file.proofs.Reading.Epochs.{bad_of}
+use Rattle.rinex_file.proofs.Names.{is_of_types, Option, ⊤, is_some, ReadsOrRefuses, ◌≡◌, ◌∙◌, sym, ap, subst, refl, false, suc, ℕ, List, Result, Ok, Err, IsErrAnd, System, HeaderRow, Expected, Refusal, Memory, Bad, Types, End, planned_of, end_line, row_place, Known, IsHeadAt, SameFrom, AreSized, types_before, counted, IsOnly, known_line, EndsHeader, NoneGoesOn, TakesHeaderLine, AreSlotsAt, true, AreUnread}
 use Rattle.rinex_file.proofs.read.head_so_far.HeadSoFar.take.Goals as goal
 
 -- a refusal that was passed on
 stopped : {Q : Refusal → Type 0} (old new : Known) (from : ℕ) (line : List ℕ) (r : Result Expected Refusal) → IsErrAnd r Q → ((e : Refusal) → Q e → e ≡ Bad → NoneGoesOn old from line)
-    → TakesHeaderLine old from line new r
-stopped {Q} old new from line (Ok next) is bad = absurd is
-stopped {Q} old new from line (Err Bad) is bad = bad Bad is refl
-stopped {Q} old new from line (Err Memory) is bad = tt
+    → ((e : Refusal) → Q e → e ≡ Memory → is_of_types line ≡ true) → TakesHeaderLine old from line new r
+stopped {Q} old new from line (Ok next) is bad run = absurd is
+stopped {Q} old new from line (Err Bad) is bad run = bad Bad is refl
+stopped {Q} old new from line (Err Memory) is bad run = run Memory is refl
 
 pub take_types-requires-clause-rows : goal.take_types-requires-clause-rows
 take_types-requires-clause-rows c =
@@ -63,7 +64,7 @@ returns-in_err-take_types-in-Types c = stopped c.args.self.now _ c.args.from c.a
     let k = c.args.self.now in
     let same = c.place_from-place.ensures.same in
     none_from same (none_taken k s row c.place_from-place.result c.args.line.now same.expected is c.place_from-place.ensures.here
-    (c.in_err-take_types-in-Types.ensures.bad (ap Err (sym said ∙ bad)))))
+    (c.in_err-take_types-in-Types.ensures.bad (ap Err (sym said ∙ bad))))) (λ e said run. c.in_err-take_types-in-Types.ensures.memory (ap Err (sym said ∙ run)))
 
 pub returns-in-End-2 : goal.returns-in-End-2
 returns-in-End-2 c =
@@ -85,6 +86,7 @@ returns-in_err-ok_or-in_default c = stopped c.args.self.now _ c.args.from c.args
     let same = c.place_from-place.ensures.same in
     none_from same (none_at c.row_at.result same.expected c.place_from-place.ensures.here (sym c.row_at.ensures)
     (subst (λ (r : Option ⊤). ReadsOrRefuses c.row_at.result c.args.line.now c.args.self.now c.read_header_line.new.self (is_some r)) c.in_err-ok_or-in_default.ensures.ok_part c.read_header_line.ensures)))
+    (λ e said run. let other : Bad ≡ Memory = sym (said ∙ bad_of c.in_err-ok_or-in_default.ensures.value c.in_err-ok_or-in_default.ensures.ok_part) ∙ run in cc)
 
 here_known : (k : Known) (line : List ℕ) {r q : HeaderRow} → r ≡ q → known_line k line q ≡ true → known_line k line r ≡ true
 here_known k line e known = ap (known_line k line) e ∙ known

@@ -1,5 +1,6 @@
 use Rattle.gnss_system.proofs.SystemLaws.{each_after}
-use Rattle.rinex_file.proofs.Names.{◌≤◌, length, table, IsOf}
+use Rattle.rinex_file.proofs.HeaderRows.Steps.{types_labelled}
+use Rattle.rinex_file.proofs.Names.{◌≡◌, ◌∙◌, sym, ap, true, false, is_of_types, ◌≤◌, length, table, IsOf}
 use Rattle.rinex_file.proofs.read.head_so_far.HeadSoFar.take_types.Goals as goal
 
 pub invariant_of-self : goal.invariant_of-self
@@ -11,3 +12,6 @@ invariant_of-self c =
           (c.take.ensures.signals, c.take.ensures.few),
       held.3,
     )
+
+pub returns-then-not-has_label-clause-bad : goal.returns-then-not-has_label-clause-bad
+returns-then-not-has_label-clause-bad c = λ bad all are later begun is. let e : true ≡ false = sym (types_labelled c.args.system all c.args.row) ∙ ap is_of_types (sym is) ∙ sym c.has_label.ensures ∙ c.if-not-has_label.true in cc

@@ -1,13 +1,15 @@
-use Rattle.rinex_file.proofs.Reading.Epochs.{goes_on, stopped}
+use Rattle.rinex_file.proofs.Reading.Epochs.{bad_of, goes_on, passed, stopped}
 use Rattle.rinex_file.proofs.Reading.Events.{event_taken, event_shows, sound_event, position_taken, position_shows, no_position, sound_position}
 use Rattle.rinex_file.proofs.Reading.Header.{no_header, header_taken, header_shows, header_ended, ended_shows, sound_start, sound_header}
-use Rattle.rinex_file.proofs.Names.{IsPosition, Option, ReadsExactly, StationValues, position_line, ◌≡◌, ◌<◌, ℕ, List, subst, sym, ◌∙◌, Err, ParserState, NoRow, Expected, Header, Epoch, EventPosition, EventHeight, Refusal, History, FollowsHistory, IsNext, progress_at, Known, StepsTo, TakesHeaderLine}
+use Rattle.rinex_file.proofs.Names.{MayRunOut, IsPosition, Option, ReadsExactly, StationValues, position_line, ◌≡◌, ◌<◌, ℕ, List, subst, sym, ◌∙◌, Err, ParserState, NoRow, Expected, Header, Epoch, EventPosition, EventHeight, Refusal, History, FollowsHistory, IsNext, progress_at, Known, StepsTo, TakesHeaderLine}
 use Rattle.rinex_file.proofs.read.parser_state.ParserState.take.Goals as goal
 
 pub returns-in_err-self-in-Header : goal.returns-in_err-self-in-Header
-returns-in_err-self-in-Header c = stopped c.args.self.now _ c.args.line.now _ c.from_residual.ensures.1 (λ e same bad h history.
+returns-in_err-self-in-Header c = passed c.args.self.now _ c.args.line.now _ c.from_residual.ensures.1 (λ e same bad h history.
     let s = progress_at c.args.self.now h in
     no_header s c.args.line.now c.in-Header.is (subst (λ (r : Refusal). TakesHeaderLine c.args.self.now.head c.in-Header.place c.args.line.now c.take.new.self (Err r)) (sym same ∙ bad) c.in_err-self-in-Header.ensures))
+    (λ e same run. subst (λ (d : Expected). MayRunOut d c.args.line.now) (sym c.in-Header.is)
+    (subst (λ (r : Refusal). TakesHeaderLine c.args.self.now.head c.in-Header.place c.args.line.now c.take.new.self (Err r)) (sym same ∙ run) c.in_err-self-in-Header.ensures))
 
 abbrev at_head : ParserState → Known → Expected → ParserState
 at_head c k expected = record c { expected = expected; head = k }
@@ -41,7 +43,7 @@ abbrev Reads : List ℕ → Option StationValues → Type 0
 Reads line r = ReadsExactly IsPosition position_line line r
 
 pub returns-in_err-position-in-EventPosition : goal.returns-in_err-position-in-EventPosition
-returns-in_err-position-in-EventPosition c = stopped c.args.self.now _ c.args.line.now _ c.from_residual-in_err-position-in-EventPosition.ensures.1 (λ e same bad h history.
+returns-in_err-position-in-EventPosition c = stopped c.args.self.now _ c.args.line.now _ c.from_residual-in_err-position-in-EventPosition.ensures.1 (λ e same. same ∙ bad_of c.in_err-position-in-EventPosition.ensures.value c.in_err-position-in-EventPosition.ensures.ok_part) (λ h history.
     no_position (progress_at c.args.self.now h) c.args.line.now c.in-EventPosition.is (subst (Reads c.args.line.now) c.in_err-position-in-EventPosition.ensures.ok_part c.read_position.ensures))
 
 pub returns-in_ok-position-in-EventPosition : goal.returns-in_ok-position-in-EventPosition

@@ -1,6 +1,6 @@
-use Rattle.rinex_file.proofs.Reading.Epochs.{Begins, goes_on, stopped, epoch_taken, epoch_shows, few_satellites, no_epoch, sound_begun, sound_epoch}
+use Rattle.rinex_file.proofs.Reading.Epochs.{Begins, bad_of, goes_on, stopped, epoch_taken, epoch_shows, few_satellites, no_epoch, sound_begun, sound_epoch}
 use Rattle.rinex_file.proofs.Judged.{refused}
-use Rattle.rinex_file.proofs.Names.{planned_in, civil_of, epoch_line, List, Option, ReadsExactly, ◌<◌, ◌≤◌, ℕ, subst, sym, IsTime, progress_at, Progress, MayBegin, Satellite}
+use Rattle.rinex_file.proofs.Names.{◌∙◌, planned_in, civil_of, epoch_line, List, Option, ReadsExactly, ◌<◌, ◌≤◌, ℕ, subst, sym, IsTime, progress_at, Progress, MayBegin, Satellite}
 use Rattle.rinex_file.proofs.read.parser_state.ParserState.take_epoch.Goals as goal
 
 pub may_begin-requires : goal.may_begin-requires
@@ -15,7 +15,7 @@ abbrev Reads : List ℕ → Option (ℕ × ℕ) → Type 0
 Reads line r = ReadsExactly (λ (e : ℕ × ℕ). IsTime e.0 × e.1 ≤ 999) (λ (e : ℕ × ℕ). epoch_line (civil_of e.0) e.1) line r
 
 pub returns-in_err-time : goal.returns-in_err-time
-returns-in_err-time c = stopped c.args.self.now _ c.args.line.now _ c.from_residual.ensures.1 (λ e same bad h history.
+returns-in_err-time c = stopped c.args.self.now _ c.args.line.now _ c.from_residual.ensures.1 (λ e same. same ∙ bad_of c.in_err-time.ensures.value c.in_err-time.ensures.ok_part) (λ h history.
     let s = progress_at c.args.self.now h in
     no_epoch s c.args.change c.args.line.now c.requires.expected (λ none both. c.requires.event none (subst (λ (n : ℕ). 0 < n) (sym history.counted.epochs) both.0, both.1))
     (λ w is. (subst (Reads c.args.line.now) c.in_err-time.ensures.ok_part c.read_epoch_line.ensures) w (fits s w is)))

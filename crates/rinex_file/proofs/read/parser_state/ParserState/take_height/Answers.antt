@@ -1,5 +1,5 @@
 use Rattle.rinex_file.proofs.Judged.{refused}
-use Rattle.rinex_file.proofs.Reading.Epochs.{goes_on, stopped}
+use Rattle.rinex_file.proofs.Reading.Epochs.{bad_of, goes_on, stopped}
 use Rattle.rinex_file.proofs.Reading.Events.{height_taken, height_shows, no_height, same_height, sound_height}
 use Rattle.rinex_file.proofs.Names.{◌≡◌, ◌∙◌, ◌<◌, ◌^◌, ReadsExactly, height_line, sym, ap, subst, refl, ℕ, List, Option, Some, None, unwrap_or, StationValues, changed_by, ParserState, NoRow, Expected, EventEpoch, History, IsNext, progress_at}
 use Rattle.rinex_file.proofs.read.parser_state.ParserState.take_height.Goals as goal
@@ -23,7 +23,7 @@ abbrev Reads : List ℕ → Option ℕ → Type 0
 Reads line r = ReadsExactly (λ n. n < 2 ^ 16) height_line line r
 
 pub returns-in_err-height : goal.returns-in_err-height
-returns-in_err-height c = stopped c.args.self.now _ c.args.line.now _ c.from_residual.ensures.1 (λ e same bad h history.
+returns-in_err-height c = stopped c.args.self.now _ c.args.line.now _ c.from_residual.ensures.1 (λ e same. same ∙ bad_of c.in_err-height.ensures.value c.in_err-height.ensures.ok_part) (λ h history.
     no_height (progress_at c.args.self.now h) c.args.position c.args.line.now c.requires.expected (subst (Reads c.args.line.now) c.in_err-height.ensures.ok_part c.read_delta.ensures))
 
 pub returns-then-is_same : goal.returns-then-is_same

@@ -1,7 +1,7 @@
 -- The line is refused unless it is the text of a row whose rank rises. One row more keeps the history of the file;
 -- with the last one expected, the epoch is complete, and its counts, times and station values go on.
 use Rattle.std.specs.Option.{is_some}
-use Rattle.rinex_file.proofs.Reading.Epochs.{stopped, rise_after, rise_last, values_more, row_taken, row_shows, last_shows, no_row, bad_row, last_taken, sound_open, few_at, sound_row, sound_closed}
+use Rattle.rinex_file.proofs.Reading.Epochs.{bad_of, stopped, rise_after, rise_last, values_more, row_taken, row_shows, last_shows, no_row, bad_row, last_taken, sound_open, few_at, sound_row, sound_closed}
 use Rattle.rinex_file.proofs.FewRows.{some_rank}
 use Rattle.rinex_file.proofs.Names.{arith, ◌≡◌, ◌∙◌, ◌+◌, ◌-◌, ◌<◌, ◌∷◌, ◌++◌, [], ℕ, suc, List, sym, ap, subst, refl, length, length-append, Bool, Option, Some, None, IfSome, option_or, map, ◌≤◌, ◌↔◌, IsStrictlyIncreasing, map-append, sum_by-append, System, Satellite, SatelliteRow, Stamped, StationValues, IsSatelliteRow, changed_by, rank_of, time_stamped, satellite_line, Progress, ReadsExactly, some_if, EpochTimes, AreTimes, AreTimesOrNone, IsLast, changes_of, stamped_at, events_in, progress_at, rows_in}
 use mir.Val.{bool_byte}
@@ -37,7 +37,7 @@ last_rank rows seen n same rise m some =
     (rise_after _ _ n m ends all, rise_last _ _ n m ends)
 
 pub returns-in_err-ok_or : goal.returns-in_err-ok_or
-returns-in_err-ok_or c = stopped c.args.self.now _ c.args.line.now _ c.from_residual.ensures.1 (λ e same bad h history.
+returns-in_err-ok_or c = stopped c.args.self.now _ c.args.line.now _ c.from_residual.ensures.1 (λ e same. same ∙ bad_of c.in_err-ok_or.ensures.value c.in_err-ok_or.ensures.ok_part) (λ h history.
     let s = progress_at c.args.self.now h in
     let (read, begun, some, room) = sound_open s c.args.left c.requires.expected history.sound in
     no_row s (c.args.left - 1) c.args.line.now (one_expected c.args.left s c.requires.expected some)
