@@ -1,14 +1,20 @@
 -- Signals that fit a plan, and those that don't.
-use Rattle.std.proofs.Common.{◌≡◌, ℕ, suc, ◌<◌, ◌==◌, ◌||◌, false, List, [], ◌∷◌, ◌++◌, length, take, drop, get_or, All, nat_eq, refl, sym, true≢false, ap, ap₂, ◌∙◌, subst, arith, ◌⊎◌, inl, inr}
+use Rattle.std.proofs.Common.{◌≡◌, ℕ, zero, suc, ◌<◌, ◌==◌, ◌||◌, false, List, [], ◌∷◌, ◌++◌, length, take, drop, get_or, All, nat_eq, refl, sym, true≢false, ap, ap₂, ◌∙◌, subst, arith, inl, inr}
 use Rattle.std.proofs.Math.Seq.{split_at}
 use Rattle.std.proofs.lemmas.Map.Keys.{apart_from_distinct, IsDistinct-tail}
 use Rattle.std.proofs.lemmas.List.Elements.{All-head, All-tail}
-use Rattle.gnss_obs.specs.Names.{System, SignalAt, IsSignal, PlanFault, UnknownCode, RepeatedCode, Memory, indices, IsOf, IsUnfitAfter, IsUnfit, list_any, IsDistinct}
+use Rattle.gnss_obs.specs.Names.{System, SignalAt, IsSignal, PlanFault, UnknownCode, RepeatedCode, indices, IsOf, IsUnfitAfter, IsUnfit, IsMemoryFaultOr, MayAdd, BeginsWithOwn, list_any, IsDistinct}
+
+-- The first signal is of the system if those before one are, and this one.
+begin_own : (system : System) (ss : List SignalAt) (k : ℕ) (s : SignalAt) → k < length ss → s ≡ get_or ss k s → IsOf system (take k ss) → s.system ≡ system → BeginsWithOwn system ss
+begin_own system [] k s less is fits own = absurd (omega (arith, less))
+begin_own system (x ∷ ss) zero s less is fits own = sym (ap (λ (r : SignalAt). r.system) is) ∙ own
+begin_own system (x ∷ ss) (suc k) s less is fits own = (All-head (λ (r : SignalAt). (r.system ≡ system) × IsSignal r) x (take k ss) fits.each).0
 
 -- The first signal that doesn't fit.
 pub unfit_at : {system : System} (ss : List SignalAt) {before : List SignalAt} (k : ℕ) {s : SignalAt} {fault : PlanFault} → k < length ss → s ≡ get_or ss k s → before ≡ take k ss
-    → IsOf system (take k ss) → (fault ≡ Memory) ⊎ IsUnfitAfter system before s fault → (fault ≡ Memory) ⊎ IsUnfit system ss fault
-unfit_at ss k less is taken fits (inl e) = inl e
+    → IsOf system (take k ss) → IsMemoryFaultOr (MayAdd system before s) (IsUnfitAfter system before s) fault → IsMemoryFaultOr (BeginsWithOwn system ss) (IsUnfit system ss) fault
+unfit_at {system} ss k {s} less is taken fits (inl e) = inl (e.0, begin_own system ss k s less is fits e.1.0)
 unfit_at {system} ss {before} k {s} {fault} less is taken fits (inr u) = inr (record {
   before = take k ss;
   signal = s;

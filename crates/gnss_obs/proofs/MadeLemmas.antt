@@ -4,10 +4,10 @@ use Rattle.std.specs.List.{sum_by}
 use Rattle.gnss_system.specs.Systems.{systems, index_of}
 use Rattle.gnss_system.specs.SystemValues.{value_of, map_by, of_two}
 use Rattle.gnss_system.specs.declared.by_system.BySystem.{BySystem}
-use Rattle.gnss_obs.specs.Plans.{plan_by, signals_in, is_none_planned}
+use Rattle.gnss_obs.specs.Plans.{has_signal, HasSignal, plan_by, signals_in, is_none_planned}
 use Rattle.gnss_obs.specs.SignalLists.{AreRead, AreAdded}
 use Rattle.gnss_obs.specs.Values.{plan_with}
-use Rattle.gnss_obs.specs.Names.{System, Gps, Galileo, PlanFault, UnknownCode, RepeatedCode, NothingPlanned, Memory, SignalAt, PlanValue, plan_of, indices, IsOf, DoneOr, IsDefined, IsMade, IsMemoryFaultOr, IsPlanResult, IsUnplanned}
+use Rattle.gnss_obs.specs.Names.{System, Gps, Galileo, PlanFault, UnknownCode, RepeatedCode, NothingPlanned, Memory, SignalAt, PlanValue, plan_of, indices, IsOf, DoneOr, IsDefined, IsMade, IsMemoryFaultOr, IsPlanResult, IsUnplanned, HasOwn}
 use Rattle.gnss_system.proofs.SystemLaws.{each_of_two, Below, value_mapped, sum_none}
 use Rattle.gnss_obs.proofs.FitLemmas.{unfit_not_of}
 use Rattle.gnss_obs.proofs.PlanLemmas.{none_of}
@@ -17,16 +17,16 @@ abbrev fault_of : {A : Type 0} → Result A PlanFault → PlanFault
 fault_of (Ok u) = Memory
 fault_of (Err e) = e
 
-made : {A : Type 0} (P : PlanFault → Type 0) (Done : Type 0) (added : Result A PlanFault) (lists : BySystem (List SignalAt)) (result : Result PlanValue PlanFault) → DoneOr P Done added
+made : {A : Type 0} (May : Type 0) (P : PlanFault → Type 0) (Done : Type 0) (added : Result A PlanFault) (lists : BySystem (List SignalAt)) (result : Result PlanValue PlanFault) → DoneOr May P Done added
     → IsMade added lists result
     → MatchResult result (λ p. Done × (is_none_planned lists ≡ false) × (p ≡ plan_with (map_by indices lists)))
-    (λ e. IsMemoryFaultOr P e ⊎ (Done × (is_none_planned lists ≡ true) × (e ≡ NothingPlanned)))
-made P Done (Ok u) lists (Ok p) is m = (is, m.1, m.2)
-made P Done (Ok u) lists (Err e) is (inl bad) = absurd (true≢false (ap is_ok bad))
-made P Done (Ok u) lists (Err e) is (inr none) = inr (is, none.1, none.2)
-made P Done (Err d) lists (Ok p) is m = absurd (true≢false (sym m.0))
-made P Done (Err d) lists (Err e) is (inl same) = inl (subst (IsMemoryFaultOr P) (ap fault_of same) is)
-made P Done (Err d) lists (Err e) is (inr none) = absurd (true≢false (sym none.0))
+    (λ e. IsMemoryFaultOr May P e ⊎ (Done × (is_none_planned lists ≡ true) × (e ≡ NothingPlanned)))
+made May P Done (Ok u) lists (Ok p) is m = (is, m.1, m.2)
+made May P Done (Ok u) lists (Err e) is (inl bad) = absurd (true≢false (ap is_ok bad))
+made May P Done (Ok u) lists (Err e) is (inr none) = inr (is, none.1, none.2)
+made May P Done (Err d) lists (Ok p) is m = absurd (true≢false (sym m.0))
+made May P Done (Err d) lists (Err e) is (inl same) = inl (subst (IsMemoryFaultOr May P) (ap fault_of same) is)
+made May P Done (Err d) lists (Err e) is (inr none) = absurd (true≢false (sym none.0))
 
 -- ---- the first fault
 
@@ -35,8 +35,8 @@ fault_at f s e below is = grind (arith, common_steps)
 
 -- The text of the system at an index is refused, and those of the systems before are not.
 pub refused_at : (texts : BySystem (List ℕ)) (n : ℕ) (s : System) (e : PlanFault) → index_of s ≡ n → Below (λ t. is_ok (signals_in texts t) ≡ true) n
-    → IsMemoryFaultOr (λ e. signals_in texts s ≡ Err e) e → IsMemoryFaultOr (λ e. plan_of texts ≡ Err e) e
-refused_at texts n s e at below (inl m) = inl m
+    → IsMemoryFaultOr (has_signal s (value_of s texts) ≡ true) (λ e. signals_in texts s ≡ Err e) e → IsMemoryFaultOr (HasSignal texts) (λ e. plan_of texts ≡ Err e) e
+refused_at texts n s e at below (inl m) = inl (m.0, (s, subst (Below (λ t. is_ok (signals_in texts t) ≡ true)) (sym at) below, m.1))
 refused_at texts n s e at below (inr is) = inr (fault_at (signals_in texts) s e (subst (Below (λ t. is_ok (signals_in texts t) ≡ true)) (sym at) below) is)
 
 -- ---- of texts
@@ -48,15 +48,15 @@ read_plan : (f : System → Result (List ℕ) PlanFault) (lists : BySystem (List
 read_plan f lists each = grind (arith, common_steps)
 
 pub plan_read : {A : Type 0} (added : Result A PlanFault) (texts : BySystem (List ℕ)) (lists : BySystem (List SignalAt)) (result : Result PlanValue PlanFault)
-    → DoneOr (λ e. plan_of texts ≡ Err e) (AreRead texts lists) added → IsMade added lists result → IsDefined (plan_of texts) result
-plan_read added texts lists result is m = by result (made (λ e. plan_of texts ≡ Err e) (AreRead texts lists) added lists result is m) where
+    → DoneOr (HasSignal texts) (λ e. plan_of texts ≡ Err e) (AreRead texts lists) added → IsMade added lists result → IsDefined (HasSignal texts) (plan_of texts) result
+plan_read added texts lists result is m = by result (made (HasSignal texts) (λ e. plan_of texts ≡ Err e) (AreRead texts lists) added lists result is m) where
   plan : AreRead texts lists → plan_of texts ≡ (if is_none_planned lists then Err NothingPlanned else Ok (plan_with (map_by indices lists)))
   plan read = read_plan (signals_in texts) (map_by indices lists) (λ s. (read s).0 ∙ ap Ok (sym (value_mapped s indices lists))) ∙ ap (λ b. if b then Err NothingPlanned else Ok (plan_with (map_by indices lists))) (none_alike lists)
 
   by : (result : Result PlanValue PlanFault)
       → MatchResult result (λ p. AreRead texts lists × (is_none_planned lists ≡ false) × (p ≡ plan_with (map_by indices lists)))
-      (λ e. IsMemoryFaultOr (λ e. plan_of texts ≡ Err e) e ⊎ (AreRead texts lists × (is_none_planned lists ≡ true) × (e ≡ NothingPlanned)))
-      → IsDefined (plan_of texts) result
+      (λ e. IsMemoryFaultOr (HasSignal texts) (λ e. plan_of texts ≡ Err e) e ⊎ (AreRead texts lists × (is_none_planned lists ≡ true) × (e ≡ NothingPlanned)))
+      → IsDefined (HasSignal texts) (plan_of texts) result
   by (Ok p) h = plan h.0 ∙ rw (h.1, h.2) refl
   by (Err e) (inl bad) = bad
   by (Err e) (inr none) = inr (plan none.0 ∙ rw (none.1, none.2) refl)
@@ -68,14 +68,14 @@ pub two_of : (gps galileo none : Bor (List SignalAt)) → IsOf Gps gps.now → I
 two_of gps galileo none g e empty = each_of_two (λ s (l : Bor (List SignalAt)). IsOf s l.now) g e (λ s. subst (IsOf s) (sym empty) (none_of s))
 
 pub plan_added : {A : Type 0} (added : Result A PlanFault) (signals lists : BySystem (List SignalAt)) (result : Result PlanValue PlanFault)
-    → DoneOr (IsUnplanned signals) (AreAdded signals lists) added → IsMade added lists result → IsPlanResult signals result
+    → DoneOr (HasOwn signals) (IsUnplanned signals) (AreAdded signals lists) added → IsMade added lists result → IsPlanResult signals result
 plan_added added signals lists result is m = grind (arith, common_steps)
 
 -- If signals are those of their systems, and there is one, the only fault is `Memory`.
 pub memory_alone : (lists : BySystem (List SignalAt)) (result : Result PlanValue PlanFault) → IsPlanResult lists result → ((s : System) → IsOf s (value_of s lists))
     → 0 < sum_by (λ s. length (value_of s lists)) systems → IfErr result (λ e. e ≡ Memory)
 memory_alone lists (Ok p) is each some = tt
-memory_alone lists (Err e) (inl m) each some = m
+memory_alone lists (Err e) (inl m) each some = m.0
 memory_alone lists (Err e) (inr bad) each some = absurd (by e bad) where
   by : (e : PlanFault) → IsUnplanned lists e → ⊥
   by (UnknownCode s place) u = unfit_not_of s (value_of s lists) _ u.1 (each s)

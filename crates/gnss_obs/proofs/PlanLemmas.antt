@@ -1,17 +1,18 @@
 -- Codes separated by commas, and the signals of a plan.
-use Rattle.std.proofs.Common.{◌≡◌, ℕ, suc, zero, ◌+◌, ◌<◌, ◌≤◌, ◌==◌, ◌||◌, Bool, true, false, List, [], ◌∷◌, ◌++◌, length, All, nat_eq, refl, sym, ap, ap₂, ◌∙◌, subst, arith, Option, Some, None, Result, Ok, Err, inl, inr, rules, true≢false, if◌then◌else◌, codes, is_err}
+use Rattle.std.proofs.lemmas.Slice.Eq.{bytes_eq-Decides}
+use Rattle.std.proofs.Common.{Decides, bytes_eq, is_some, ◌⊎◌, ◌≡◌, ℕ, suc, zero, ◌+◌, ◌<◌, ◌≤◌, ◌==◌, ◌||◌, Bool, true, false, List, [], ◌∷◌, ◌++◌, length, All, nat_eq, refl, sym, ap, ap₂, ◌∙◌, subst, arith, Option, Some, None, Result, Ok, Err, inl, inr, rules, true≢false, if◌then◌else◌, codes, is_err}
 use Rattle.std.proofs.Common.{Bor}
 use Rattle.std.proofs.lemmas.Cmp.{nat_eq_equiv}
 use Rattle.std.proofs.lemmas.Map.Keys.{IsDistinct-push}
 use Rattle.std.proofs.lemmas.Map.Steps.{length-le_from_distinct_below}
 use Rattle.std.proofs.lemmas.List.Elements.{All-push, All-head, All-map, All-tail, All-weaker}
 use Rattle.std.proofs.lemmas.Str.Pattern.{IsSplitOnceResult, split_once_first}
-use Rattle.gnss_obs.specs.Names.{ListedSignal, RepeatedCode, System, SignalAt, IsSignal, table, signal_of_code, signal_where, signal_at, PlanFault, between_commas, one_signal_more, below, signals_of, signals_after, IsTaken, indices, IsMemoryFaultOr, IsOf, ArePlanned, DoneOr, RefusesCode, TakesCode}
+use Rattle.gnss_obs.specs.Names.{MayTakeCode, ListedSignal, RepeatedCode, System, SignalAt, IsSignal, table, signal_of_code, signal_where, signal_at, PlanFault, between_commas, one_signal_more, below, signals_of, signals_after, IsTaken, indices, IsMemoryFaultOr, IsOf, ArePlanned, DoneOr, RefusesCode, TakesCode}
 use Rattle.std.specs.List.{list_any, position_or_len, before_first, after_first, IsDistinct}
 use Rattle.std.proofs.lemmas.Grind.{common_steps}
 use Rattle.gnss_system.specs.declared.system.System.TheVariants.{Glonass}
 use Rattle.gnss_obs.specs.Channels.{ChannelsValue, no_channels}
-use Rattle.gnss_obs.specs.Plans.{is_nil, with_channels}
+use Rattle.gnss_obs.specs.Plans.{has_signal, signals_coded, is_first_listed, is_nil, with_channels}
 use Rattle.gnss_obs.specs.Names.{PlanValue, planned_of}
 
 abbrev comma : ℕ → Bool
@@ -113,17 +114,34 @@ pub next_code : (system : System) (before after : List SignalAt) (text code rest
     → signals_after system (indices after) (between_commas rest) ≡ signals_after system (indices before) (between_commas text)
 next_code system before after text code rest split taken = grind (arith, common_steps)
 
-pub code_fault : (system : System) (before : List SignalAt) (text : List ℕ) {code : List ℕ} {codes : List (List ℕ)} {all : Result (List ℕ) PlanFault} (fault : PlanFault)
-    → between_commas text ≡ code ∷ codes → signals_after system (indices before) (between_commas text) ≡ all → IsMemoryFaultOr (RefusesCode system code before) fault
-    → IsMemoryFaultOr (λ e. all ≡ Err e) fault
-code_fault system before text fault split same (inl m) = inl m
-code_fault system before text {codes} fault split same (inr bad) = grind (arith, common_steps)
+-- A code whose signal may be added is in the table.
+pub listed_code : (system : System) (before : List SignalAt) (code : List ℕ) → MayTakeCode system code before → is_some (signal_of_code system code) ≡ true
+listed_code system before code (now, taken) = by (signal_of_code system code) taken where
+  by : (o : Option SignalAt) → IsTaken system (indices before) o now → is_some o ≡ true
+  by (Some s) taken = refl
+  by None taken = let e = taken (λ signals. Ok signals) in cc
 
-pub last_code : {A : Type 0} (system : System) (before after : List SignalAt) (text : List ℕ) {all : Result (List ℕ) PlanFault} (result : Result A PlanFault)
+-- The first of all codes is in the table, or none of them was read.
+abbrev pub IsFirstRead : System → List (List ℕ) → List (List ℕ) → Type 0
+IsFirstRead system all rest = (rest ≡ all) ⊎ (is_first_listed system all ≡ true)
+
+pub first_read : (system : System) (all codes : List (List ℕ)) {rest : List (List ℕ)} (code : List ℕ) → rest ≡ code ∷ codes → IsFirstRead system all rest → is_some (signal_of_code system code) ≡ true
+    → is_first_listed system all ≡ true
+first_read system all codes code split (inl same) listed = sym (ap (is_first_listed system) (sym split ∙ same)) ∙ listed
+first_read system all codes code split (inr first) listed = first
+
+pub code_fault : (Q : Type 0) (system : System) (before : List SignalAt) (text : List ℕ) {code : List ℕ} {codes : List (List ℕ)} {all : Result (List ℕ) PlanFault} (fault : PlanFault)
+    → between_commas text ≡ code ∷ codes → signals_after system (indices before) (between_commas text) ≡ all → (MayTakeCode system code before → Q)
+    → IsMemoryFaultOr (MayTakeCode system code before) (RefusesCode system code before) fault → IsMemoryFaultOr Q (λ e. all ≡ Err e) fault
+code_fault Q system before text fault split same may (inl m) = inl (m.0, may m.1)
+code_fault Q system before text {codes} fault split same may (inr bad) = grind (arith, common_steps)
+
+pub last_code : {A : Type 0} (Q : Type 0) (system : System) (before after : List SignalAt) (text : List ℕ) {all : Result (List ℕ) PlanFault} (result : Result A PlanFault)
     → between_commas text ≡ text ∷ [] → signals_after system (indices before) (between_commas text) ≡ all
-    → DoneOr (RefusesCode system text before) (TakesCode system text before after) result → DoneOr (λ e. all ≡ Err e) (ArePlanned system all after) result
-last_code system before after text (Ok u) split same h = grind (arith, common_steps)
-last_code system before after text (Err e) split same h = code_fault system before text e split same h
+    → (MayTakeCode system text before → Q) → DoneOr (MayTakeCode system text before) (RefusesCode system text before) (TakesCode system text before after) result
+    → DoneOr Q (λ e. all ≡ Err e) (ArePlanned system all after) result
+last_code Q system before after text (Ok u) split same may h = grind (arith, common_steps)
+last_code Q system before after text (Err e) split same may h = code_fault Q system before text e split same may h
 
 -- The signal of a code is one of the system's table.
 pub of_where : (system : System) (test : ListedSignal → Bool) (s : SignalAt) → signal_where system test ≡ Some s → (s.system ≡ system) × IsSignal s
@@ -168,3 +186,25 @@ index_added i (Err e) is so of at added there = absurd (true≢false is)
 pub when_none : (system : System) (text : List ℕ) (r : List SignalAt) → text ≡ codes "none" → r ≡ []
     → (signals_of system text ≡ Ok (indices r)) × IsOf system r
 when_none system text r is e = rw (is, e) (refl, none_of system)
+
+unlike : (xs ys : List ℕ) → (xs ≡ ys → ⊥) → bytes_eq xs ys ≡ false
+unlike xs ys other = by (bytes_eq xs ys) (bytes_eq-Decides xs ys) where
+  by : (b : Bool) → Decides b (xs ≡ ys) → b ≡ false
+  by false d = refl
+  by true d = absurd (other (d.0 refl))
+
+-- The signals of a text other than `all` and `none` are those of its codes.
+pub when_codes : {A : Type 0} (system : System) (text : List ℕ) (after : List SignalAt) (result : Result A PlanFault) → (text ≡ codes "all" → ⊥) → (text ≡ codes "none" → ⊥)
+    → DoneOr (is_first_listed system (between_commas text) ≡ true) (λ e. signals_coded system text ≡ Err e) (ArePlanned system (signals_coded system text) after) result
+    → DoneOr (has_signal system text ≡ true) (λ e. signals_of system text ≡ Err e) (ArePlanned system (signals_of system text) after) result
+when_codes system text after result every none h =
+    let all = unlike text (codes "all") every in
+    let nothing = unlike text (codes "none") none in
+    let same : signals_of system text ≡ signals_coded system text =
+    ap (λ b. if b then Ok (below (length (table system))) else (if bytes_eq text (codes "none") then Ok [] else signals_coded system text)) all
+    ∙ ap (λ b. if b then Ok [] else signals_coded system text) nothing in
+    let has : has_signal system text ≡ is_first_listed system (between_commas text) =
+    ap (λ b. if b then true else (if bytes_eq text (codes "none") then false else is_first_listed system (between_commas text))) all
+    ∙ ap (λ b. if b then false else is_first_listed system (between_commas text)) nothing in
+    subst (λ (b : Bool). DoneOr (b ≡ true) (λ e. signals_of system text ≡ Err e) (ArePlanned system (signals_of system text) after) result) (sym has)
+    (subst (λ (all : Result (List ℕ) PlanFault). DoneOr (is_first_listed system (between_commas text) ≡ true) (λ e. all ≡ Err e) (ArePlanned system all after) result) (sym same) h)

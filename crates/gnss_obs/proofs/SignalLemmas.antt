@@ -53,6 +53,17 @@ module _ {eq : SignalAt → SignalAt → Bool} (same : (a b : SignalAt) → a.sy
       let there : list_any (eq s) ss ≡ true = not_false (list_any (eq s) ss) added in
       (keys ∙ ap (λ b. if b then ss else ss ++ s ∷ []) there, sym (any_same ss of.each) ∙ there)
 
+any_alike : (s : SignalAt) (test : SignalAt → Bool) (ss : List SignalAt) → All (λ (r : SignalAt). (r.system ≡ s.system) × IsSignal r) ss
+    → ((r : SignalAt) → s.system ≡ r.system → test r ≡ (s.index == r.index)) → list_any test ss ≡ list_any (λ (r : SignalAt). s.index == r.index) ss
+any_alike s test [] h same = refl
+any_alike s test (r ∷ ss) h same =
+    let here = All-head (λ (r : SignalAt). (r.system ≡ s.system) × IsSignal r) r ss h in
+    ap₂ (λ a b. a || b) (same r (sym here.0)) (any_alike s test ss (All-tail (λ (r : SignalAt). (r.system ≡ s.system) × IsSignal r) r ss h) same)
+
+pub is_absent : (s : SignalAt) {test : SignalAt → Bool} {ss : List SignalAt} → list_any test ss ≡ false → IsOf s.system ss
+    → ((r : SignalAt) → s.system ≡ r.system → test r ≡ (s.index == r.index)) → list_any (λ (r : SignalAt). s.index == r.index) ss ≡ false
+is_absent s {test} {ss} none of same = sym (any_alike s test ss of.each same) ∙ none
+
 -- ---- one more number
 
 first_skip : (p : ℕ → Bool) (xs : List ℕ) (x : ℕ) → p x ≡ false → position p (xs ++ x ∷ []) ≡ position p xs

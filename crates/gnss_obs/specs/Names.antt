@@ -11,7 +11,7 @@ pub use Rattle.gnss_obs.specs.Order.{AreOrderedBy, AreSorted, AreSortedByPlan, S
 pub use Rattle.gnss_obs.specs.Plans.{CodesNameSignals, IsTaken, below, between_commas, one_signal_more, onto_first, place_in, plan_of, signals_after, signals_of}
 pub use Rattle.gnss_obs.specs.Rounding.{IsNearest, nearest}
 pub use Rattle.gnss_system.specs.Satellites.{Satellite, satellites}
-pub use Rattle.gnss_obs.specs.SignalLists.{ArePlanned, DoneOr, IsDefined, IsMade, IsMemoryFaultOr, IsOf, IsPlanResult, IsUnfit, IsUnfitAfter, IsUnplanned, RefusesCode, TakesCode, indices}
+pub use Rattle.gnss_obs.specs.SignalLists.{ArePlanned, DoneOr, IsDefined, IsMade, IsMemoryFaultOr, MayAdd, MayTakeCode, BeginsWithOwn, HasOwn, IsOf, IsPlanResult, IsUnfit, IsUnfitAfter, IsUnplanned, RefusesCode, TakesCode, indices}
 pub use Rattle.gnss_system.specs.SignalTables.{band_of, carrier_of}
 pub use Rattle.gnss_system.specs.Signals.{IsSignal, SignalAt, after, carriers, code_of, greatest_signal_id, hertz_of, id_of, rows, signal_at, signal_of_code, signal_of_id, signal_where, table}
 pub use Rattle.gnss_obs.specs.Values.{AreHeld, CellLists, Closed, EpochValue, IsHeld, PlanValue, cells_of, no_cells, planned_of}

@@ -1,10 +1,10 @@
 -- The plan of a text for each system.
-use Rattle.std.specs.Prelude.{◌≡◌, ℕ, zero, suc, ◌==◌, List, [], ◌∷◌, ◌++◌, length, codes, nat_eq, if◌then◌else◌}
+use Rattle.std.specs.Prelude.{◌≡◌, ◌<◌, is_ok, ℕ, zero, suc, ◌==◌, List, [], ◌∷◌, ◌++◌, length, codes, nat_eq, if◌then◌else◌}
 use Rattle.std.specs.Prelude.{Option, Some, None, Result, Ok, Err, position, is_some, option_and_then, Bool, true, false}
 use Rattle.std.specs.List.{list_any, list_all, IsDistinct}
 use Rattle.std.specs.Str.{bytes_eq}
 use Rattle.gnss_system.specs.declared.system.System.{System}
-use Rattle.gnss_system.specs.Systems.{systems}
+use Rattle.gnss_system.specs.Systems.{systems, index_of}
 use Rattle.gnss_system.specs.SystemValues.{value_of, tabulate}
 use Rattle.gnss_system.specs.declared.by_system.BySystem.{BySystem}
 use Rattle.gnss_system.specs.Signals.{SignalAt, table, signal_of_code, signal_of_id}
@@ -112,6 +112,24 @@ plan_by f = plan_unless (first_fault f systems) (tabulate (λ s. signals_or_none
 -- The signals of the text of a system.
 abbrev pub signals_in : BySystem (List ℕ) → System → Result (List ℕ) PlanFault
 signals_in texts s = signals_of s (value_of s texts)
+
+-- The first of these codes is in the table of a system.
+abbrev pub is_first_listed : System → List (List ℕ) → Bool
+is_first_listed system [] = false
+is_first_listed system (code ∷ codes) = is_some (signal_of_code system code)
+
+-- A text has a signal before its first fault: it is `all`, or its first code is in the table.
+abbrev pub has_signal : System → List ℕ → Bool
+has_signal system text =
+    if bytes_eq text (codes "all") then true
+    else (if bytes_eq text (codes "none") then false
+    else is_first_listed system (between_commas text))
+
+-- Some text has a signal before the first fault: there is no fault in the texts of the systems before.
+abbrev pub HasSignal : BySystem (List ℕ) → Type 0
+HasSignal texts = (s : System)
+    × ((t : System) → index_of t < index_of s → is_ok (signals_in texts t) ≡ true)
+    × (has_signal s (value_of s texts) ≡ true)
 
 -- The plan of a text for each system, or their first fault.
 abbrev pub plan_of : BySystem (List ℕ) → Result PlanValue PlanFault

@@ -50,9 +50,28 @@ TakesCode system code before after =
 abbrev pub RefusesCode : System → List ℕ → List SignalAt → PlanFault → Type 0
 RefusesCode system code before fault = IsRefused system (indices before) (signal_of_code system code) fault
 
--- The fault is `Memory`, or one of these.
-abbrev pub IsMemoryFaultOr : (PlanFault → Type 0) → PlanFault → Type 0
-IsMemoryFaultOr P fault = (fault ≡ Memory) ⊎ P fault
+-- A code's signal may be added after signals of its system.
+abbrev pub MayTakeCode : System → List ℕ → List SignalAt → Type 0
+MayTakeCode system code before =
+    (now : List ℕ) × IsTaken system (indices before) (signal_of_code system code) now
+
+-- A signal may be added after signals of a system: it is of the system, and not among them.
+abbrev pub MayAdd : System → List SignalAt → SignalAt → Type 0
+MayAdd system before s = (s.system ≡ system) × (list_any (λ r. s.index == r.index) before ≡ false)
+
+-- The first signal of a list is of a system.
+abbrev pub BeginsWithOwn : System → List SignalAt → Type 0
+BeginsWithOwn system [] = ⊥
+BeginsWithOwn system (s ∷ ss) = s.system ≡ system
+
+-- Some list has a signal before the first fault: there is no fault in the lists of the systems before.
+abbrev pub HasOwn : BySystem (List SignalAt) → Type 0
+HasOwn lists = (s : System) × ((t : System) → index_of t < index_of s → IsOf t (value_of t lists))
+    × BeginsWithOwn s (value_of s lists)
+
+-- The fault is `Memory`, if it may be, or one of these. Memory is allocated only to add a signal.
+abbrev pub IsMemoryFaultOr : Type 0 → (PlanFault → Type 0) → PlanFault → Type 0
+IsMemoryFaultOr May P fault = ((fault ≡ Memory) × May) ⊎ P fault
 
 -- The list after one more signal is of that system.
 abbrev pub IsPushed : System → List SignalAt → SignalAt → List SignalAt → Type 0
@@ -63,13 +82,13 @@ abbrev pub HasEvery : {A : Type 0} → System → List SignalAt → Result A Pla
 HasEvery system ss result =
     MatchResult result (λ _. (below (length (table system)) ≡ indices ss) × IsOf system ss) (λ e. e ≡ Memory)
 
--- The result is the defined one, or `Memory`.
-abbrev pub IsDefined : {A : Type 0} → Result A PlanFault → Result A PlanFault → Type 0
-IsDefined defined result = MatchResult result (λ x. defined ≡ Ok x) (IsMemoryFaultOr (λ e. defined ≡ Err e))
+-- The result is the defined one, or `Memory`, if it may be.
+abbrev pub IsDefined : {A : Type 0} → Type 0 → Result A PlanFault → Result A PlanFault → Type 0
+IsDefined may defined result = MatchResult result (λ x. defined ≡ Ok x) (IsMemoryFaultOr may (λ e. defined ≡ Err e))
 
--- After Ok this holds; a fault is `Memory` or one of these.
-abbrev pub DoneOr : {A : Type 0} → (PlanFault → Type 0) → Type 0 → Result A PlanFault → Type 0
-DoneOr refused done result = MatchResult result (λ _. done) (IsMemoryFaultOr refused)
+-- After Ok this holds; a fault is `Memory`, if it may be, or one of these.
+abbrev pub DoneOr : {A : Type 0} → Type 0 → (PlanFault → Type 0) → Type 0 → Result A PlanFault → Type 0
+DoneOr may refused done result = MatchResult result (λ _. done) (IsMemoryFaultOr may refused)
 
 -- A signal of another system, or a repeated one, after signals of a system.
 abbrev pub IsUnfitAfter : System → List SignalAt → SignalAt → PlanFault → Type 0
@@ -109,7 +128,7 @@ pub record IsPlanOf (lists : BySystem (List SignalAt)) (p : PlanValue) : Type 0 
 
 -- The result for these signals is their plan, or a fault.
 abbrev pub IsPlanResult : BySystem (List SignalAt) → Result PlanValue PlanFault → Type 0
-IsPlanResult lists result = MatchResult result (IsPlanOf lists) (IsMemoryFaultOr (IsUnplanned lists))
+IsPlanResult lists result = MatchResult result (IsPlanOf lists) (IsMemoryFaultOr (HasOwn lists) (IsUnplanned lists))
 
 -- The plan of these signals, if they were added without a fault and there is one.
 abbrev pub IsMade : {A : Type 0} → Result A PlanFault → BySystem (List SignalAt) → Result PlanValue PlanFault → Type 0

@@ -10,8 +10,10 @@ ghost use Rattle.gnss_obs.specs.Channels.{AreChannels, no_channels};
 ghost use Rattle.gnss_obs.specs.Order.{Rise};
 ghost use Rattle.gnss_obs.specs.Values.{planned_of};
 ghost use Rattle.gnss_obs.specs.Plans.{plan_of, planned_signal, signals_of, signals_coded, place_in};
-ghost use Rattle.gnss_obs.specs.Plans.{is_none_planned, with_channels};
+ghost use Rattle.gnss_obs.specs.Plans.{between_commas, has_signal, HasSignal, is_first_listed, is_none_planned};
+ghost use Rattle.gnss_obs.specs.Plans.{with_channels};
 ghost use Rattle.gnss_obs.specs.SignalLists.{indices, IsOf, ArePlanned, HasEvery, IsPushed};
+ghost use Rattle.gnss_obs.specs.SignalLists.{BeginsWithOwn, HasOwn, MayAdd, MayTakeCode};
 ghost use Rattle.gnss_obs.specs.SignalLists.{TakesCode, RefusesCode, IsDefined, DoneOr, IsUnfitAfter, IsUnfit};
 ghost use Rattle.gnss_obs.specs.SignalLists.{IsMade, IsPlanResult, IsUnplanned, AreRead, AreAdded};
 
@@ -55,7 +57,8 @@ impl Plan {
     ///
     /// As of `parse_all`.
     pub fn parse(alloc: Global, gps: &str, galileo: &str) -> Result<Plan, PlanFault>
-        ensures { IsDefined (plan_of (of_two gps.now galileo.now (codes "none"))) result }
+        ensures { IsDefined (HasSignal (of_two gps.now galileo.now (codes "none")))
+            (plan_of (of_two gps.now galileo.now (codes "none"))) result }
     {
         Plan::parse_all(alloc, &BySystem::of_two(gps, galileo, "none"))
     }
@@ -68,10 +71,10 @@ impl Plan {
     /// # Errors
     ///
     /// The first fault: `UnknownCode` for a code that isn't in the system's table, `RepeatedCode`
-    /// for a repeated code, `NothingPlanned` if all texts are `none`, `Memory` if an allocation
-    /// failed.
+    /// for a repeated code, `NothingPlanned` if all texts are `none`. Or `Memory` if an allocation
+    /// failed, which there is only for a signal before the first fault.
     pub fn parse_all(alloc: Global, texts: &BySystem<&str>) -> Result<Plan, PlanFault>
-        ensures { IsDefined (plan_of (map_by (λ t. t.now) texts.now)) result }
+        ensures { IsDefined (HasSignal (map_by (λ t. t.now) texts.now)) (plan_of (map_by (λ t. t.now) texts.now)) result }
     {
         let mut lists = no_signals(alloc);
         let read = read_all(&mut lists, texts);
@@ -101,7 +104,8 @@ impl Plan {
     ///
     /// `NothingPlanned` if there is no signal, else the first fault, in the order of the systems
     /// and from the left: `UnknownCode` for a signal of another system, `RepeatedCode` for a
-    /// repeated signal, `Memory` if an allocation failed.
+    /// repeated signal. Or `Memory` if an allocation failed, which there is only for a signal
+    /// before the first fault.
     pub fn from_lists(alloc: Global, signals: &BySystem<&[Signal]>) -> Result<Plan, PlanFault>
         ensures cases { IsPlanResult (map_by (λ l. l.now) signals.now) result }
         ensures planned { ((s : System) → IsOf s (value_of s signals.now).now)
@@ -248,7 +252,7 @@ fn is_none_planned(lists: &BySystem<Signals>) -> bool
 // Appends the signals of the text of each system.
 fn read_all(lists: &mut BySystem<Signals>, texts: &BySystem<&str>) -> Added
     requires { lists.old ≡ tabulate (λ s. []) }
-    ensures { DoneOr (λ e. plan_of (map_by (λ t. t.now) texts.now) ≡ Err e)
+    ensures { DoneOr (HasSignal (map_by (λ t. t.now) texts.now)) (λ e. plan_of (map_by (λ t. t.now) texts.now) ≡ Err e)
         (AreRead (map_by (λ t. t.now) texts.now) lists.new) result }
 {
     for i in 0..SYSTEMS.len() {
@@ -261,7 +265,7 @@ fn read_all(lists: &mut BySystem<Signals>, texts: &BySystem<&str>) -> Added
 // Appends the signals of each system.
 fn add_all(lists: &mut BySystem<Signals>, signals: &BySystem<&[Signal]>) -> Added
     requires { lists.old ≡ tabulate (λ s. []) }
-    ensures { DoneOr (IsUnplanned (map_by (λ l. l.now) signals.now))
+    ensures { DoneOr (HasOwn (map_by (λ l. l.now) signals.now)) (IsUnplanned (map_by (λ l. l.now) signals.now))
         (AreAdded (map_by (λ l. l.now) signals.now) lists.new) result }
 {
     for i in 0..SYSTEMS.len() {
@@ -274,7 +278,8 @@ fn add_all(lists: &mut BySystem<Signals>, signals: &BySystem<&[Signal]>) -> Adde
 // Appends these signals of a system: none of another system, none twice.
 fn add_signals(added: &mut Signals, system: System, signals: &[Signal]) -> Added
     requires { added.old ≡ [] }
-    ensures { DoneOr (IsUnfit system signals.now) ((added.new ≡ signals.now) × IsOf system signals.now) result }
+    ensures { DoneOr (BeginsWithOwn system signals.now) (IsUnfit system signals.now)
+        ((added.new ≡ signals.now) × IsOf system signals.now) result }
 {
     for i in 0..signals.len() {
         add_signal(added, system, signals[i])?;
@@ -285,7 +290,8 @@ fn add_signals(added: &mut Signals, system: System, signals: &[Signal]) -> Added
 // Appends a signal.
 fn add_signal(signals: &mut Signals, system: System, signal: Signal) -> Added
     requires { IsOf system signals.old }
-    ensures { DoneOr (IsUnfitAfter system signals.old signal) (IsPushed system signals.old signal signals.new) result }
+    ensures { DoneOr (MayAdd system signals.old signal) (IsUnfitAfter system signals.old signal)
+        (IsPushed system signals.old signal signals.new) result }
 {
     let place = signals.len();
     if signal.system() != system {
@@ -301,7 +307,7 @@ fn add_signal(signals: &mut Signals, system: System, signal: Signal) -> Added
 // Appends the signals of a text.
 fn read_signals(signals: &mut Signals, system: System, text: &str) -> Added
     requires { signals.old ≡ [] }
-    ensures { DoneOr (λ e. signals_of system text.now ≡ Err e)
+    ensures { DoneOr (has_signal system text.now ≡ true) (λ e. signals_of system text.now ≡ Err e)
         (ArePlanned system (signals_of system text.now) signals.new) result }
 {
     match text {
@@ -326,7 +332,8 @@ fn add_every(signals: &mut Signals, system: System) -> Added
 // Appends the signals of codes separated by commas.
 fn read_codes(signals: &mut Signals, system: System, text: &str) -> Added
     requires { signals.old ≡ [] }
-    ensures { DoneOr (λ e. signals_coded system text.now ≡ Err e)
+    ensures { DoneOr (is_first_listed system (between_commas text.now) ≡ true)
+        (λ e. signals_coded system text.now ≡ Err e)
         (ArePlanned system (signals_coded system text.now) signals.new) result }
 {
     let mut rest = text;
@@ -340,8 +347,8 @@ fn read_codes(signals: &mut Signals, system: System, text: &str) -> Added
 // Appends the signal of a code.
 fn add_code(signals: &mut Signals, system: System, code: &str) -> Added
     requires { IsOf system signals.old }
-    ensures { DoneOr (RefusesCode system code.now signals.old) (TakesCode system code.now signals.old signals.new)
-        result }
+    ensures { DoneOr (MayTakeCode system code.now signals.old) (RefusesCode system code.now signals.old)
+        (TakesCode system code.now signals.old signals.new) result }
 {
     match Signal::from_code(system, code) {
         Some(signal) => add_signal(signals, system, signal),

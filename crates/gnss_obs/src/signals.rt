@@ -59,13 +59,14 @@ impl Signals {
     ///
     /// # Errors
     ///
-    /// `AllocError` if an allocation failed.
+    /// `AllocError` if an allocation failed, which there is only for a new signal.
     pub fn add(&mut self, signal: Signal) -> Result<bool, AllocError>
         requires { IsOf signal.system self.old }
         ensures new { result ≡ Ok true → IsAdded self.old signal self.new }
         ensures old { result ≡ Ok false
             → (self.new ≡ self.old) × (list_any (λ s. signal.index == s.index) self.old ≡ true) }
         ensures failed { OnErr result (self.new ≡ self.old) }
+        ensures absent { OnErr result (list_any (λ s. signal.index == s.index) self.old ≡ false) }
     {
         let index = signal.index();
         let Ok((place, is_new)) = self.order.insert_full(signal) else {

@@ -1,5 +1,5 @@
 use Rattle.std.proofs.Common.{◌≡◌, ◌++◌, ◌∷◌, [], ℕ, List, inl, inr, sym, ◌∙◌, Result, Ok, Err, Some, MatchResult}
-use Rattle.gnss_obs.specs.Names.{System, SignalAt, signal_of_code, PlanFault, UnknownCode, RepeatedCode, IsOf, TakesCode, RefusesCode, IsMemoryFaultOr, IsUnfitAfter}
+use Rattle.gnss_obs.specs.Names.{System, SignalAt, signal_of_code, PlanFault, UnknownCode, RepeatedCode, IsOf, TakesCode, RefusesCode, IsMemoryFaultOr, IsUnfitAfter, MayAdd, MayTakeCode, indices}
 use Rattle.gnss_obs.proofs.FitLemmas.{not_before}
 use Rattle.gnss_obs.proofs.PlanLemmas.{repeated, accepted, of_where}
 use Rattle.gnss_obs.proofs.plan.add_code.Goals as goal
@@ -14,10 +14,10 @@ refused system code ss s (UnknownCode named place) is u = absurd (u.2 (of_where 
 refused system code ss s _ is u = absurd u
 
 added : {A : Type 0} (system : System) (code : List ℕ) (ss new : List SignalAt) {s : SignalAt} (r : Result A PlanFault) → signal_of_code system code ≡ Some s
-    → MatchResult r (λ _. (new ≡ ss ++ s ∷ []) × IsOf system new) (IsMemoryFaultOr (IsUnfitAfter system ss s))
-    → MatchResult r (λ _. TakesCode system code ss new) (IsMemoryFaultOr (RefusesCode system code ss))
+    → MatchResult r (λ _. (new ≡ ss ++ s ∷ []) × IsOf system new) (IsMemoryFaultOr (MayAdd system ss s) (IsUnfitAfter system ss s))
+    → MatchResult r (λ _. TakesCode system code ss new) (IsMemoryFaultOr (MayTakeCode system code ss) (RefusesCode system code ss))
 added system code ss new (Ok u) is h = grind (arith, common_steps, accepted, not_before)
-added system code ss new (Err e) is (inl m) = inl m
+added system code ss new {s} (Err e) is (inl m) = inl (m.0, (indices (ss ++ s ∷ []), λ rest. accepted system ss (signal_of_code system code) s rest is m.1.1))
 added system code ss new {s} (Err e) is (inr u) = inr (refused system code ss s e is u)
 
 pub returns-in-Some : goal.returns-in-Some

@@ -1,7 +1,7 @@
-use Rattle.std.proofs.Common.{ℕ, List, Bor, ◌≡◌, ◌∙◌, Err, is_ok, sym, ap, subst}
+use Rattle.std.proofs.Common.{ℕ, List, Bor, ◌≡◌, ◌∙◌, Err, true, is_ok, sym, ap, subst}
 use Rattle.std.proofs.lemmas.Result.{err_from_is_err_and}
 use Rattle.gnss_system.specs.SystemValues.{map_by}
-use Rattle.gnss_obs.specs.Plans.{signals_of}
+use Rattle.gnss_obs.specs.Plans.{has_signal, signals_of}
 use Rattle.gnss_obs.specs.SignalLists.{IsMemoryFaultOr}
 use Rattle.gnss_system.proofs.SystemLaws.{value_mapped}
 use Rattle.gnss_obs.proofs.MadeLemmas.{refused_at}
@@ -12,4 +12,4 @@ returns-in_err-read_signals c =
     let error = err_from_is_err_and c.from_residual.result c.from_residual.ensures.1 in
     rw (error.1, error.2)
     (refused_at (map_by (λ t. t.now) c.args.texts.now) c.loop-i.i c.at-system.result _ c.at-system.ensures (λ t less. ap is_ok (c.loop-i.invariant.0 t less).0)
-    (subst (λ (text : List ℕ). IsMemoryFaultOr (λ e. signals_of c.at-system.result text ≡ Err e) c.in_err-read_signals.field-0.0) (ap (λ (b : Bor (List ℕ)). b.now) c.of.ensures ∙ sym (value_mapped c.at-system.result (λ t. t.now) c.args.texts.now)) (c.in_err-read_signals.ensures)))
+    (subst (λ (text : List ℕ). IsMemoryFaultOr (has_signal c.at-system.result text ≡ true) (λ e. signals_of c.at-system.result text ≡ Err e) c.in_err-read_signals.field-0.0) (ap (λ (b : Bor (List ℕ)). b.now) c.of.ensures ∙ sym (value_mapped c.at-system.result (λ t. t.now) c.args.texts.now)) (c.in_err-read_signals.ensures)))

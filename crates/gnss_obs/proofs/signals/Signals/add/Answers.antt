@@ -1,10 +1,10 @@
-use Rattle.std.proofs.Common.{◌≡◌, ℕ, nat_eq, ◌==◌, ◌++◌, ◌∷◌, [], ◌≤◌, true, false, List, length, sym, ap, ◌∙◌, subst, arith, rules}
+use Rattle.std.proofs.Common.{refl, Err, OnErr, Ok, Result, ◌≡◌, ℕ, nat_eq, ◌==◌, ◌++◌, ◌∷◌, [], ◌≤◌, true, false, List, length, sym, ap, ◌∙◌, subst, arith, rules}
 use Rattle.gnss_obs.specs.Order.{IsLeastNext}
 use Rattle.gnss_obs.specs.SignalLists.{AreFound, AreRows}
 use Rattle.gnss_system.specs.Signals.{most_signals}
 use Rattle.gnss_obs.specs.Names.{SignalAt, indices, IsOf, list_any}
 use Rattle.gnss_obs.proofs.PlanLemmas.{any_index, indices-push, length_indices}
-use Rattle.gnss_obs.proofs.SignalLemmas.{was_new, was_there, found_more, rows_more}
+use Rattle.gnss_obs.proofs.SignalLemmas.{is_absent, was_new, was_there, found_more, rows_more}
 use Rattle.gnss_obs.proofs.signals.Signals.add.Goals as goal
 
 pub invariant_of-self-then-is_new : goal.invariant_of-self-then-is_new
@@ -47,3 +47,16 @@ returns-else-is_new-clause-old c = λ e.
     let of = subst (IsOf s.system) (sym c.self.view_is) c.requires in
     subst (λ (l : List SignalAt). (c.insert_full.new.self.keys ≡ l) × (list_any (λ (r : SignalAt). s.index == r.index) l ≡ true)) c.self.view_is
     (was_there (λ a b e. grind arith) s c.in-Ok.ensures.unique of c.in-Ok.ensures.keys (sym c.in-Ok.ensures.added ∙ c.if-is_new.false))
+
+-- what holds after an error
+lost : {A E : Type 0} (r : Result A E) {P : Type 0} → ((x : A) → r ≡ Ok x → ⊥) → OnErr r P → P
+lost (Ok x) other h = absurd (other x refl)
+lost (Err e) other h = h
+
+pub returns-in_default-clause-absent : goal.returns-in_default-clause-absent
+returns-in_default-clause-absent c =
+    let s = c.args.signal in
+    let of = subst (IsOf s.system) (sym c.self.view_is) c.requires in
+    let none = lost c.insert_full.result c.in_default.not-Ok c.insert_full.ensures.absent in
+    subst (λ (l : List SignalAt). list_any (λ (r : SignalAt). s.index == r.index) l ≡ false) c.self.view_is
+    (is_absent s none of (λ r e. grind arith))
