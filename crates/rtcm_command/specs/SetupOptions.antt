@@ -14,8 +14,9 @@ use Rattle.obs_epoch.specs.Kinds.{default_leap, is_by_bit}
 use Rattle.obs_epoch.specs.declared.choice.Choice.{Choice}
 use Rattle.gnss_system.specs.Satellites.{name_of}
 use Rattle.gnss_system.specs.SystemValues.{tabulate}
+use Rattle.gnss_system.specs.declared.by_system.BySystem.{BySystem}
 use Rattle.gnss_obs.specs.Channels.{ChannelsValue}
-use Rattle.gnss_obs.specs.Plans.{plan_of, with_channels}
+use Rattle.gnss_obs.specs.Plans.{HasSignal, plan_of, with_channels}
 use Rattle.gnss_obs.specs.Values.{PlanValue}
 use Rattle.gnss_obs.specs.declared.fault.PlanFault.{PlanFault}
 use Rattle.gnss_obs.specs.declared.fault.PlanFault.TheVariants as plans
@@ -159,9 +160,13 @@ IsChoiceSet options choice = (window : Result (ℕ × ℕ) ToolFault) × IsWindo
 
 -- ---- the setup
 
+-- the texts of the options for the signals of each system
+abbrev pub plan_texts : List Row → BySystem (List ℕ)
+plan_texts options = tabulate (λ s. text_set options (name_of s))
+
 -- The plan of the options for it without channels, or its fault.
 unfoldable pub plan_set : List Row → Result PlanValue PlanFault
-plan_set options = plan_of (tabulate (λ s. text_set options (name_of s)))
+plan_set options = plan_of (plan_texts options)
 
 -- the channels that the options give, or the fault of their text
 abbrev pub channels_by : Option ChannelsValue → Result ChannelsValue ToolFault
@@ -207,11 +212,11 @@ pub record IsStartOf (options : List Row) (x : Start) : Type 0 where
   pub choice : IsChoiceSet options (Ok x.options.choice)
 
 -- Of these options a text of the header has this fault; or the texts are valid, and the plan has this fault, or memory
--- ran out for it.
+-- ran out for a signal before its fault.
 abbrev pub HasSetupFault : List Row → ToolFault → Type 0
 HasSetupFault options (faults.Header e) = first_fault (texts_set options) None fields ≡ Some e
 HasSetupFault options (faults.Plan e) = (first_fault (texts_set options) None fields ≡ None)
-    × ((e ≡ plans.Memory) ⊎ (plan_set options ≡ Err e))
+    × (((e ≡ plans.Memory) × HasSignal (plan_texts options)) ⊎ (plan_set options ≡ Err e))
 HasSetupFault options other = ⊥
 
 -- the fault of the choice of epochs comes before that of the setup

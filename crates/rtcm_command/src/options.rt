@@ -2,13 +2,14 @@
 ghost use Rattle.std.specs.Prelude.{◌≡◌, ◌<◌, ◌≤◌, IfOk, IfSome, MatchResult, Ok, codes, not};
 ghost use Rattle.clap.specs.Walk.{first_of, one_of};
 ghost use Rattle.std.specs.Str.{bytes_eq};
+ghost use Rattle.gnss_obs.specs.Plans.{HasSignal};
 ghost use Rattle.gnss_obs.specs.SignalLists.{IsDefined};
 ghost use Rattle.obs_epoch.specs.Kinds.{default_leap, is_by_bit};
 ghost use Rattle.rinex_file.specs.TextsOf.{lists_of};
 ghost use Rattle.option_texts.specs.Lengths.{longest_interval};
 ghost use Rattle.rtcm_command.specs.SetupOptions.{HasSetupFault, IsChoiceSet, IsNearRefused, IsNearSet, IsNumberOf};
 ghost use Rattle.rtcm_command.specs.SetupOptions.{IsNumberOr, IsTimeIn, IsWindowSet, channels_set, interval_set};
-ghost use Rattle.rtcm_command.specs.SetupOptions.{tolerance_set};
+ghost use Rattle.rtcm_command.specs.SetupOptions.{plan_texts, tolerance_set};
 ghost use Rattle.rtcm_command.specs.SetupOptions.{IsSetupOf, IsWeekRefused, IsWeekSet, gaps_set, has_flag};
 ghost use Rattle.rtcm_command.specs.SetupOptions.{forms_set, options_of, plan_set, text_set, texts_set, values_set};
 
@@ -180,7 +181,7 @@ pub fn setup_of(
 
 /// Returns the plan of the options of each system, without channels.
 fn plan_of(alloc: Global, options: &ArgMatches) -> Result<Plan, PlanFault>
-    ensures { IsDefined (plan_set (options_of options.now)) result }
+    ensures { IsDefined (HasSignal (plan_texts (options_of options.now))) (plan_set (options_of options.now)) result }
 {
     let lists = BySystem::each(|system| text(options, system.name()));
     Plan::parse_all(alloc, &lists)

@@ -11,9 +11,9 @@ wrapped Q P (Ok x) s t given is ok = subst P (let same : x ≡ t = cc in same) g
 wrapped Q P (Err e) s t given is ok = absurd (rw ok at is)
 
 -- a value that is the defined one, if there is one
-so : {A : Type 0} (d r : Result A PlanFault) → IsDefined d r → IfOk r (λ x. d ≡ Ok x)
-so d (Ok x) h = h
-so d (Err e) h = tt
+so : {A : Type 0} (May : Type 0) (d r : Result A PlanFault) → IsDefined May d r → IfOk r (λ x. d ≡ Ok x)
+so May d (Ok x) h = h
+so May d (Err e) h = tt
 
 pub returns : goal.returns
 returns c =
@@ -23,7 +23,7 @@ returns c =
       plan = (
         c.in_ok-plan.plan,
         c.args.channels,
-        wrapped _ _ c.plan_of.result _ _ (so _ c.plan_of.result c.plan_of.ensures) c.map_err-2.ensures.cases c.in_ok-plan.was,
+        wrapped _ _ c.plan_of.result _ _ (so _ _ c.plan_of.result c.plan_of.ensures) c.map_err-2.ensures.cases c.in_ok-plan.was,
         c.requires.channels,
         c.with_channels.ensures,
       );
