@@ -1,5 +1,5 @@
 //! Devices that fail after each byte.
-ghost use Rattle.std.specs.Prelude.{None, refl};
+ghost use Rattle.std.specs.Prelude.{refl};
 
 use super::scenario::{FAULTLESS, READ, Room, Setting, WRITE, ends, run};
 use super::texts::{Text, front};
@@ -8,7 +8,7 @@ use rtcm_bits::{Buffered, Counted, Deliver};
 use rtcm_command::command::command;
 use std::alloc::Global;
 use std::io;
-use std::io::{ErrorKind, Read, Write};
+use std::io::{ErrorKind, Read, Sink, Write};
 use std::process::Abort;
 
 /// What fails while a command runs, and what is reported.
@@ -141,6 +141,7 @@ fn ends_buffered(
 #[derive(Drop)]
 struct Unflushed {
     bytes: Vec<u8>,
+    device: Sink,
 }
 
 impl Write for Unflushed {
@@ -154,11 +155,17 @@ impl Write for Unflushed {
 }
 
 impl Deliver for Unflushed {
-    ghost passed = { λ _. None };
+    type Target = Sink;
+
+    ghost target = { λ w. w.device };
 
     ghost waiting = { λ w. w.bytes.items };
 
     ghost parts = { λ _. refl };
+
+    fn target(&self) -> &Sink {
+        &self.device
+    }
 
     fn deliver(&mut self) -> io::Result<()> {
         if self.bytes.is_empty() {
@@ -173,6 +180,7 @@ fn ends_unflushed(alloc: Global, words: &[&str], input: &[u8], output: &[u8]) ->
     let mut reader = Counted::new(PieceReader::new(input, &[], ReadEnd::Ends));
     let mut writer = Counted::new(Unflushed {
         bytes: Vec::new(alloc),
+        device: io::sink(),
     });
     let mut faults = Counted::new(Vec::new(alloc));
     let status = command(alloc, words, &mut reader, &mut writer, &mut faults);

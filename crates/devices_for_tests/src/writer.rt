@@ -94,11 +94,17 @@ impl<W: Deliver> Write for ShortWriter<W> {
 }
 
 impl<W: Deliver> Deliver for ShortWriter<W> {
-    ghost passed = { W.passed };
+    type Target = W::Target;
+
+    ghost target = { W.target };
 
     ghost waiting = { W.waiting };
 
     ghost parts = { W.parts };
+
+    fn target(&self) -> &W::Target {
+        self.inner.target()
+    }
 
     fn deliver(&mut self) -> io::Result<()> {
         self.flush()

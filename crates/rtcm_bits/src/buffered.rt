@@ -130,11 +130,17 @@ impl<W: Deliver> Write for Buffered<W> {
 }
 
 impl<W: Deliver> Deliver for Buffered<W> {
-    ghost passed = { λ b. W.passed b.device };
+    type Target = W::Target;
+
+    ghost target = { λ b. W.target b.device };
 
     ghost waiting = { waiting_of W.waiting };
 
     ghost parts = { λ b. more_waits _ _ _ b.waiting (W.parts b.device) };
+
+    fn target(&self) -> &W::Target {
+        self.device.target()
+    }
 
     fn deliver(&mut self) -> io::Result<()>
         ensures bytes { Keeps (contents_of W.contents self.old) (contents_of W.contents self.new) }

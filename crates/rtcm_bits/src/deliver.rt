@@ -1,5 +1,5 @@
-//! Writers of which it is known which bytes wait in them.
-ghost use Rattle.std.specs.Prelude.{◌≡◌, ℕ, List, [], ◌++◌, Option, None, OnOk, refl};
+//! Writers of which it is known which bytes wait in them, and where they end.
+ghost use Rattle.std.specs.Prelude.{◌≡◌, ℕ, List, [], ◌++◌, OnOk};
 ghost use Rattle.std.specs.Io.Buffered.{writer_buffer, writer_inner};
 ghost use Rattle.std.specs.Io.KnownBytes.{Keeps, append_known};
 ghost use Rattle.rtcm_bits.specs.Delivering.{more_waits, none_waits};
@@ -8,16 +8,23 @@ use arrayvec::ArrayVec;
 use std::fs::File;
 use std::io::{self, BufWriter, Cursor, Sink, Stderr, StderrLock, Stdout, StdoutLock, Write};
 
-/// A writer that says which bytes wait in it, accepted and not passed on, and that can pass all of
-/// them on.
+/// A writer in which no byte waits: it passes on each byte in `write`, or is itself where the bytes
+/// end, as a `Vec`.
 ///
-/// A writer that passes on each byte in `write`, or that is itself the destination, as a `Vec`,
-/// has no waiting bytes. One with a buffer lists the bytes that wait in its device, followed by
-/// those in its buffer. What the operating system does with a byte is not part of it.
+/// An implementor answers for that, and for nothing else in this module. A writer with a buffer of
+/// its own doesn't implement it. What the operating system does with a byte is not part of it.
+pub trait Destination: Write {}
+
+/// A writer that says which bytes wait in it, accepted and not yet at its destination, and that can
+/// pass all of them on.
 ///
-/// An implementor answers for `passed`, the bytes that left the writer: of a buffer those that its
-/// device passed on, of the destination its contents. By `parts` known contents are these bytes,
-/// followed by those that wait, so that a buffer can't say that nothing waits in it.
+/// A `Destination` has no waiting bytes. Any other writer has another `Deliver` as its device: its
+/// destination is that of the device, and the bytes that wait are those that wait in the device,
+/// followed by its own.
+///
+/// By `parts` the contents of a writer are those of its destination, followed by the bytes that
+/// wait. So a writer over any device `P: Deliver` can't leave out a byte that waits, in it or in the
+/// device. A writer over one device of unknown contents, such as a `File`, could: make it generic.
 ///
 /// # Example
 ///
@@ -25,27 +32,42 @@ use std::io::{self, BufWriter, Cursor, Sink, Stderr, StderrLock, Stdout, StdoutL
 /// the port, followed by the line:
 ///
 /// ```
-/// impl<P: Write> Deliver for LineBuffer<P> {
-///     ghost passed = { λ b. P.contents b.port };
+/// impl<P: Deliver> Deliver for LineBuffer<P> {
+///     type Target = P::Target;
 ///
-///     ghost waiting = { λ b. b.line.items };
+///     ghost target = { λ b. P.target b.port };
 ///
-///     ghost parts = { λ _. refl };
+///     ghost waiting = { λ b. P.waiting b.port ++ b.line.items };
+///
+///     ghost parts = { λ b. more_waits _ _ _ b.line.items (P.parts b.port) };
+///
+///     fn target(&self) -> &P::Target {
+///         self.port.target()
+///     }
 ///
 ///     fn deliver(&mut self) -> io::Result<()> {
-///         self.flush()
+///         self.flush()?;
+///         self.port.deliver()
 ///     }
 /// }
 /// ```
 ///
-/// `flush` of this writer ensures `OnOk result (self.new.line.items ≡ [])`. For a writer without a
-/// buffer, of unknown contents, the first two items are `λ _. None` and `λ _. []`.
+/// `flush` of this writer ensures `OnOk result (self.new.line.items ≡ [])`, and `more_waits` is of
+/// `rtcm_bits/specs/Delivering`. For a destination the target is the writer itself, `waiting` is
+/// `λ _. []` and `parts` is `λ w. none_waits (Self.contents w)`.
 pub trait Deliver: Write {
-    // The bytes that left the writer, if they are known.
-    ghost passed: { Self → Option (List ℕ) };
+    /// Where the bytes end.
+    type Target: Destination;
 
-    // The bytes that the writer accepted and didn't pass on: of known contents the last ones.
+    // The destination of this writer.
+    ghost target: { Self → Self.Target };
+
+    // The bytes that the writer accepted and that are not yet at the destination.
     ghost waiting: { Self → List ℕ };
+
+    /// Returns the destination.
+    fn target(&self) -> &Self::Target
+        ensures { result.now ≡ target self.now };
 
     /// Passes on all waiting bytes.
     ///
@@ -56,16 +78,22 @@ pub trait Deliver: Write {
         ensures bytes { Keeps (Self.contents self.old) (Self.contents self.new) }
         ensures all { OnOk result (waiting self.new ≡ []) };
 
-    // The contents are the bytes that left the writer, followed by those that wait.
-    ghost parts: { (w : Self) → Self.contents w ≡ append_known (passed w) (waiting w) };
+    // The contents are those of the destination, followed by the bytes that wait.
+    ghost parts: { (w : Self) → Self.contents w ≡ append_known (Self.Target.contents (target w)) (waiting w) };
 }
 
 impl<W: Deliver> Deliver for &mut W {
-    ghost passed = { λ w. W.passed w.now };
+    type Target = W::Target;
+
+    ghost target = { λ w. W.target w.now };
 
     ghost waiting = { λ w. W.waiting w.now };
 
     ghost parts = { λ w. W.parts w.now };
+
+    fn target(&self) -> &W::Target {
+        (**self).target()
+    }
 
     fn deliver(&mut self) -> io::Result<()> {
         Deliver::deliver(&mut **self)
@@ -73,11 +101,17 @@ impl<W: Deliver> Deliver for &mut W {
 }
 
 impl<W: Deliver> Deliver for Box<W> {
-    ghost passed = { λ w. W.passed w.value };
+    type Target = W::Target;
+
+    ghost target = { λ w. W.target w.value };
 
     ghost waiting = { λ w. W.waiting w.value };
 
     ghost parts = { λ w. W.parts w.value };
+
+    fn target(&self) -> &W::Target {
+        self.as_ref().target()
+    }
 
     fn deliver(&mut self) -> io::Result<()> {
         self.as_mut().deliver()
@@ -85,11 +119,17 @@ impl<W: Deliver> Deliver for Box<W> {
 }
 
 impl<W: Deliver + Drop> Deliver for BufWriter<W> {
-    ghost passed = { λ w. W.passed (writer_inner w) };
+    type Target = W::Target;
+
+    ghost target = { λ w. W.target (writer_inner w) };
 
     ghost waiting = { λ w. W.waiting (writer_inner w) ++ writer_buffer w };
 
     ghost parts = { λ w. more_waits _ _ _ (writer_buffer w) (W.parts (writer_inner w)) };
+
+    fn target(&self) -> &W::Target {
+        self.get_ref().target()
+    }
 
     fn deliver(&mut self) -> io::Result<()> {
         self.flush()?;
@@ -97,24 +137,40 @@ impl<W: Deliver + Drop> Deliver for BufWriter<W> {
     }
 }
 
+impl Destination for Vec<u8> {}
+
 impl Deliver for Vec<u8> {
-    ghost passed = { Self.contents };
+    type Target = Vec<u8>;
+
+    ghost target = { λ w. w };
 
     ghost waiting = { λ _. [] };
 
     ghost parts = { λ w. none_waits (Self.contents w) };
+
+    fn target(&self) -> &Vec<u8> {
+        self
+    }
 
     fn deliver(&mut self) -> io::Result<()> {
         self.flush()
     }
 }
 
+impl<const CAP: usize> Destination for ArrayVec<u8, CAP> {}
+
 impl<const CAP: usize> Deliver for ArrayVec<u8, CAP> {
-    ghost passed = { Self.contents };
+    type Target = ArrayVec<u8, CAP>;
+
+    ghost target = { λ w. w };
 
     ghost waiting = { λ _. [] };
 
     ghost parts = { λ w. none_waits (Self.contents w) };
+
+    fn target(&self) -> &ArrayVec<u8, CAP> {
+        self
+    }
 
     fn deliver(&mut self) -> io::Result<()> {
         self.flush()
@@ -123,84 +179,140 @@ impl<const CAP: usize> Deliver for ArrayVec<u8, CAP> {
 
 // The contents of those that follow are not known.
 
+impl Destination for File {}
+
 impl Deliver for File {
-    ghost passed = { λ _. None };
+    type Target = File;
+
+    ghost target = { λ w. w };
 
     ghost waiting = { λ _. [] };
 
-    ghost parts = { λ _. refl };
+    ghost parts = { λ w. none_waits (Self.contents w) };
+
+    fn target(&self) -> &File {
+        self
+    }
 
     fn deliver(&mut self) -> io::Result<()> {
         self.flush()
     }
 }
+
+impl Destination for Stdout {}
 
 impl Deliver for Stdout {
-    ghost passed = { λ _. None };
+    type Target = Stdout;
+
+    ghost target = { λ w. w };
 
     ghost waiting = { λ _. [] };
 
-    ghost parts = { λ _. refl };
+    ghost parts = { λ w. none_waits (Self.contents w) };
+
+    fn target(&self) -> &Stdout {
+        self
+    }
 
     fn deliver(&mut self) -> io::Result<()> {
         self.flush()
     }
 }
 
-impl Deliver for StdoutLock<'_> {
-    ghost passed = { λ _. None };
+impl Destination for StdoutLock<'_> {}
+
+impl<'a> Deliver for StdoutLock<'a> {
+    type Target = StdoutLock<'a>;
+
+    ghost target = { λ w. w };
 
     ghost waiting = { λ _. [] };
 
-    ghost parts = { λ _. refl };
+    ghost parts = { λ w. none_waits (Self.contents w) };
+
+    fn target(&self) -> &StdoutLock<'a> {
+        self
+    }
 
     fn deliver(&mut self) -> io::Result<()> {
         self.flush()
     }
 }
+
+impl Destination for Stderr {}
 
 impl Deliver for Stderr {
-    ghost passed = { λ _. None };
+    type Target = Stderr;
+
+    ghost target = { λ w. w };
 
     ghost waiting = { λ _. [] };
 
-    ghost parts = { λ _. refl };
+    ghost parts = { λ w. none_waits (Self.contents w) };
+
+    fn target(&self) -> &Stderr {
+        self
+    }
 
     fn deliver(&mut self) -> io::Result<()> {
         self.flush()
     }
 }
 
-impl Deliver for StderrLock<'_> {
-    ghost passed = { λ _. None };
+impl Destination for StderrLock<'_> {}
+
+impl<'a> Deliver for StderrLock<'a> {
+    type Target = StderrLock<'a>;
+
+    ghost target = { λ w. w };
 
     ghost waiting = { λ _. [] };
 
-    ghost parts = { λ _. refl };
+    ghost parts = { λ w. none_waits (Self.contents w) };
+
+    fn target(&self) -> &StderrLock<'a> {
+        self
+    }
 
     fn deliver(&mut self) -> io::Result<()> {
         self.flush()
     }
 }
+
+impl Destination for Sink {}
 
 impl Deliver for Sink {
-    ghost passed = { λ _. None };
+    type Target = Sink;
+
+    ghost target = { λ w. w };
 
     ghost waiting = { λ _. [] };
 
-    ghost parts = { λ _. refl };
+    ghost parts = { λ w. none_waits (Self.contents w) };
+
+    fn target(&self) -> &Sink {
+        self
+    }
 
     fn deliver(&mut self) -> io::Result<()> {
         self.flush()
     }
 }
 
+impl Destination for Cursor<Vec<u8>> {}
+
 impl Deliver for Cursor<Vec<u8>> {
-    ghost passed = { λ _. None };
+    type Target = Cursor<Vec<u8>>;
+
+    ghost target = { λ w. w };
 
     ghost waiting = { λ _. [] };
 
-    ghost parts = { λ _. refl };
+    ghost parts = { λ w. none_waits (Self.contents w) };
+
+    fn target(&self) -> &Cursor<Vec<u8>> {
+        self
+    }
 
     fn deliver(&mut self) -> io::Result<()> {
         self.flush()

@@ -20,7 +20,7 @@ pub use buffered::Buffered;
 pub use complement::{raw_of, signed_of};
 pub use counted::{Counted, DeviceFailed};
 pub use crc::{CheckRegister, crc24q};
-pub use deliver::Deliver;
+pub use deliver::{Deliver, Destination};
 pub use framing::{LONGEST_FRAME, LONGEST_MESSAGE, PREAMBLE, frame_of};
 pub use reader::{BitReader, bits_in_word, number_at, word_at};
 pub use window::Window;

@@ -1,7 +1,7 @@
 //! A digest of all that a job computes.
-ghost use Rattle.std.specs.Prelude.{[], None, refl};
+ghost use Rattle.std.specs.Prelude.{[], refl};
 
-use rtcm_bits::Deliver;
+use rtcm_bits::{Deliver, Destination};
 use std::io;
 use std::io::Write;
 
@@ -64,12 +64,20 @@ impl Write for Digest {
     }
 }
 
+impl Destination for Digest {}
+
 impl Deliver for Digest {
-    ghost passed = { λ _. None };
+    type Target = Digest;
+
+    ghost target = { λ d. d };
 
     ghost waiting = { λ _. [] };
 
     ghost parts = { λ _. refl };
+
+    fn target(&self) -> &Digest {
+        self
+    }
 
     fn deliver(&mut self) -> io::Result<()> {
         self.flush()

@@ -1,6 +1,6 @@
 //! A writer that keeps the bytes of its writes until they are delivered: what it has passed on when
 //! a read fails, and when a delivery fails.
-ghost use Rattle.std.specs.Prelude.{◌≡◌, [], None, OnOk, refl};
+ghost use Rattle.std.specs.Prelude.{◌≡◌, [], OnOk, refl};
 
 use super::by_definition::Text;
 use super::script::{OPTIONS, convert, stream_of};
@@ -10,22 +10,22 @@ use rtcm_bits::{Counted, Deliver};
 use rtcm_convert::{Fault, Report};
 use std::alloc::Global;
 use std::io;
-use std::io::{ErrorKind, Write};
+use std::io::{Cursor, ErrorKind, Write};
 
 /// A writer that fails in one of its deliveries, counted from 1, and in no other.
 #[derive(Drop)]
 struct Holding {
     kept: Text,
-    delivered: Text,
+    delivered: Cursor<Vec<u8>>,
     fails_at: usize,
     deliveries: usize,
 }
 
 impl Holding {
-    fn new(fails_at: usize) -> Holding {
+    fn new(alloc: Global, fails_at: usize) -> Holding {
         Holding {
             kept: Text::new(),
-            delivered: Text::new(),
+            delivered: Cursor::new(Vec::new(alloc)),
             fails_at,
             deliveries: 0,
         }
@@ -51,11 +51,17 @@ impl Write for Holding {
 }
 
 impl Deliver for Holding {
-    ghost passed = { λ _. None };
+    type Target = Cursor<Vec<u8>>;
+
+    ghost target = { λ h. h.delivered };
 
     ghost waiting = { λ h. h.kept.items };
 
     ghost parts = { λ _. refl };
+
+    fn target(&self) -> &Cursor<Vec<u8>> {
+        &self.delivered
+    }
 
     fn deliver(&mut self) -> io::Result<()> {
         self.flush()
@@ -149,11 +155,11 @@ fn run(alloc: Global, outcome: &Outcome, writer: &mut Counted<Holding>) -> bool 
 }
 
 fn holds(alloc: Global, outcome: &Outcome) -> bool {
-    let mut writer = Counted::new(Holding::new(outcome.fails_at));
+    let mut writer = Counted::new(Holding::new(alloc, outcome.fails_at));
     let has_ended = run(alloc, outcome, &mut writer);
     let has_failed = writer.failures() == outcome.failures;
     let device = writer.into_inner();
-    let is_delivered = file().get(..outcome.delivered) == Some(device.delivered.as_slice());
+    let is_delivered = file().get(..outcome.delivered) == Some(device.target().get_ref().as_slice());
     let is_kept = device.kept.len() == outcome.kept;
     drop(device);
     has_ended && has_failed && is_delivered && is_kept
