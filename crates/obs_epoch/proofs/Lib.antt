@@ -27,3 +27,5 @@ pub mod ThinLemmas
 pub mod MarksLemmas
 pub mod ThinnedLemmas
 mod ChoiceLemmas
+pub mod TwoSystemsLemmas
+pub mod TimeLawLemmas

@@ -19,3 +19,5 @@ pub mod Reach
 pub mod SignalCounts
 pub mod Names
 pub mod Sets
+pub mod TwoSystems
+pub mod TimeLaws

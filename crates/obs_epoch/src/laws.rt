@@ -3,6 +3,8 @@ ghost use Rattle.gnss_obs.specs.Values.{no_values};
 ghost use Rattle.obs_epoch.specs.Laws.{AllClosed, ClosedStay, ClosedComeFirst, NoneClosed, NeverFirst};
 ghost use Rattle.obs_epoch.specs.Laws.{IsThinnedByChoice, IsWholeByEvery, ReturnsEvery, WindowsAreApart, WindowsJoin};
 ghost use Rattle.obs_epoch.specs.Reach.{MessagesAreHeard, EpochsAreGathered};
+ghost use Rattle.obs_epoch.specs.TimeLaws.{IsGlonassTime};
+ghost use Rattle.obs_epoch.specs.TwoSystems.{AreReadPlainly};
 ghost use Rattle.gnss_obs.specs.GatheredEpochs.{AreStationValues};
 
 /// Later messages don't change the epochs that are closed.
@@ -39,4 +41,20 @@ pub fn choices()
     ensures apart { WindowsAreApart }
     ensures whole { IsWholeByEvery }
     ensures thinned { IsThinnedByChoice }
+{}
+
+/// With a plan of GPS and Galileo alone and MSM4 and MSM7, exactly the messages 1005, 1006, 1074,
+/// 1077, 1094 and 1097 are decoded, regardless of channels and leap seconds. The time of an MSM is
+/// its epoch time, and its phases and rates are those at the carriers of the signals.
+pub fn two_systems()
+    ensures { AreReadPlainly }
+{
+    rtcm_msg::laws::message_sets();
+    rtcm_msg::laws::default_messages();
+}
+
+/// GLONASS time is UTC plus 3 h, and GPS time is UTC plus the leap seconds.
+#[tactic(auto, using(crate::proofs::TimeLawLemmas::glonass_time))]
+pub fn glonass_time()
+    ensures { IsGlonassTime }
 {}

@@ -1,0 +1,151 @@
+-- A conversion of GPS and Galileo alone.
+use Rattle.std.proofs.Common.{◌≡◌, ◌∙◌, ◌⊎◌, inl, inr, refl, sym, subst, ap, ℕ, ◌+◌, List, [], ◌∷◌, Bool, true, false, Option, Some, None, option_map, option_and_then, filter_map, is_some, nat_le, ◌&&◌, Result, Ok, Err, if◌then◌else◌, arith}
+use Rattle.std.specs.List.{cons_option}
+use Rattle.gnss_system.specs.declared.system.System.{System}
+use Rattle.gnss_system.specs.declared.system.System.TheVariants.{Gps, Galileo, Glonass, Beidou, Qzss, Sbas}
+use Rattle.gnss_system.specs.Satellites.{Satellite, satellites}
+use Rattle.gnss_system.specs.Signals.{signal_of_id}
+use Rattle.gnss_system.specs.SystemValues.{of_two, value_of}
+use Rattle.gnss_obs.specs.Channels.{ChannelsValue}
+use Rattle.gnss_obs.specs.HeardCells.{HeardCell}
+use Rattle.gnss_obs.specs.Values.{PlanValue}
+use Rattle.rtcm_bits.specs.Bits.{bits_of}
+use Rattle.rtcm_msg.specs.Decoding.{message_at, message_with}
+use Rattle.rtcm_msg.specs.Encoding.{other_of}
+use Rattle.rtcm_msg.specs.Entries.{entries}
+use Rattle.rtcm_msg.specs.Msm.{MsmValue}
+use Rattle.rtcm_msg.specs.Numbers.{default_set}
+use Rattle.rtcm_msg.specs.Sets.{is_in_set, message_by_table}
+use Rattle.rtcm_msg.specs.declared.entry.Entry.{Entry}
+use Rattle.rtcm_msg.specs.declared.entry.LockField.{LockField}
+use Rattle.rtcm_msg.specs.declared.entry.LockField.TheVariants.{Df402, Df407}
+use Rattle.rtcm_msg.specs.declared.fault.MsgFault.{MsgFault}
+use Rattle.rtcm_msg.specs.declared.message.Message.{Message}
+use Rattle.rtcm_msg.specs.declared.message.Message.TheVariants as message
+use Rattle.rtcm_msg.specs.declared.number.Forms.TheVariants.{FourAndSeven}
+use Rattle.rtcm_msg.specs.declared.number.MsmSet.{MsmSet}
+use Rattle.obs_epoch.specs.Heard.{Heard, heard, heard_in, heard_msm, heard_of, lock_by, observed, seen_in, tow_of, unlisted_in}
+use Rattle.obs_epoch.specs.Sets.{set_of}
+use Rattle.obs_epoch.specs.TwoSystems.{AreReadPlainly, PlansTwo, plain_cell, plain_cell_of, plain_heard, plain_in, plain_msm, plain_of, plain_unlisted}
+
+-- What is decoded is the default set.
+pub default_decoded : (plan : PlanValue) → PlansTwo plan → set_of plan FourAndSeven ≡ default_set
+default_decoded plan two =
+    rw (two Glonass (λ e. cc e) (λ e. cc e), two Beidou (λ e. cc e) (λ e. cc e), two Qzss (λ e. cc e) (λ e. cc e), two Sbas (λ e. cc e) (λ e. cc e)) refl
+
+-- GPS or Galileo.
+abbrev IsOfTwo : System → Type 0
+IsOfTwo s = (s ≡ Gps) ⊎ (s ≡ Galileo)
+
+of_default : (s : System) → value_of s (of_two true true false) ≡ true → IsOfTwo s
+of_default Gps e = inl refl
+of_default Galileo e = inr refl
+of_default Glonass e = absurd (cc e)
+of_default Beidou e = absurd (cc e)
+of_default Qzss e = absurd (cc e)
+of_default Sbas e = absurd (cc e)
+
+-- ---- cells
+
+by_test : (b : Bool) (x : Satellite) (f g : Satellite → Option HeardCell) → f x ≡ g x
+    → option_and_then f (if b then Some x else None) ≡ option_and_then g (if b then Some x else None)
+by_test true x f g same = same
+by_test false x f g same = refl
+
+cell_same : (channels : ChannelsValue) (field : LockField) (s : System) (e : Entry) → IsOfTwo s → seen_in channels field s e ≡ plain_cell_of field s e
+cell_same channels field Gps e of =
+    by_test (nat_le 1 e.satellite && nat_le e.satellite (satellites Gps)) (record { system = Gps; id = e.satellite })
+    (λ satellite. option_map (observed channels (lock_by field e.lock) e satellite) (signal_of_id Gps e.signal))
+    (λ satellite. option_map (plain_cell (lock_by field e.lock) e satellite) (signal_of_id Gps e.signal)) refl
+cell_same channels field Galileo e of =
+    by_test (nat_le 1 e.satellite && nat_le e.satellite (satellites Galileo)) (record { system = Galileo; id = e.satellite })
+    (λ satellite. option_map (observed channels (lock_by field e.lock) e satellite) (signal_of_id Galileo e.signal))
+    (λ satellite. option_map (plain_cell (lock_by field e.lock) e satellite) (signal_of_id Galileo e.signal)) refl
+cell_same channels field Glonass e (inl is) = absurd (cc is)
+cell_same channels field Glonass e (inr is) = absurd (cc is)
+cell_same channels field Beidou e (inl is) = absurd (cc is)
+cell_same channels field Beidou e (inr is) = absurd (cc is)
+cell_same channels field Qzss e (inl is) = absurd (cc is)
+cell_same channels field Qzss e (inr is) = absurd (cc is)
+cell_same channels field Sbas e (inl is) = absurd (cc is)
+cell_same channels field Sbas e (inr is) = absurd (cc is)
+
+cells_same : (channels : ChannelsValue) (field : LockField) (s : System) (es : List Entry) → IsOfTwo s
+    → filter_map (seen_in channels field s) es ≡ filter_map (plain_cell_of field s) es
+cells_same channels field s [] of = refl
+cells_same channels field s (e ∷ es) of =
+    ap (λ (o : Option HeardCell). cons_option o (filter_map (seen_in channels field s) es)) (cell_same channels field s e of)
+    ∙ ap (cons_option (plain_cell_of field s e)) (cells_same channels field s es of)
+
+unlisted_same : (channels : ChannelsValue) (field : LockField) (s : System) (es : List Entry) → IsOfTwo s
+    → unlisted_in channels field s es ≡ plain_unlisted field s es
+unlisted_same channels field s [] of = refl
+unlisted_same channels field s (e ∷ es) of =
+    ap (λ (o : Option HeardCell). (if is_some o then 0 else 1) + unlisted_in channels field s es) (cell_same channels field s e of)
+    ∙ ap (λ (n : ℕ). (if is_some (plain_cell_of field s e) then 0 else 1) + n) (unlisted_same channels field s es of)
+
+-- ---- messages
+
+-- an MSM with these cells and this time of week
+abbrev msm_with : MsmValue → (cells : List HeardCell) (unlisted tow : ℕ) → Heard
+msm_with m cells unlisted tow =
+    record { station = Some m.header.station; tow = Some tow; more = Some m.header.more; cells = cells; unlisted = unlisted; point = None }
+
+tow_same : (leap : ℕ) (s : System) (time : ℕ) → IsOfTwo s → tow_of s leap time ≡ time
+tow_same leap s time (inl is) = rw is refl
+tow_same leap s time (inr is) = rw is refl
+
+msm_same : (channels : ChannelsValue) (leap : ℕ) (field : LockField) (m : MsmValue) (es : List Entry) → IsOfTwo m.system
+    → heard_msm channels leap field m es ≡ plain_msm field m es
+msm_same channels leap field m es of =
+    ap (λ (cells : List HeardCell). msm_with m cells (unlisted_in channels field m.system es) (tow_of m.system leap m.header.time)) (cells_same channels field m.system es of)
+    ∙ (ap (λ (n : ℕ). msm_with m (filter_map (plain_cell_of field m.system) es) n (tow_of m.system leap m.header.time)) (unlisted_same channels field m.system es of)
+    ∙ ap (msm_with m (filter_map (plain_cell_of field m.system) es) (plain_unlisted field m.system es)) (tow_same leap m.system m.header.time of))
+
+both : (b c : Bool) → (b && c) ≡ true → b ≡ true
+both true c e = refl
+both false c e = absurd (cc e)
+
+message_same : (channels : ChannelsValue) (leap : ℕ) (m : Message) → is_in_set default_set m ≡ true → heard channels leap m ≡ plain_heard m
+message_same channels leap (message.Station p) within = refl
+message_same channels leap (message.Msm4 m) within = msm_same channels leap Df402 m (entries (message.Msm4 m)) (of_default m.system (both (value_of m.system (of_two true true false)) true within))
+message_same channels leap (message.Msm5 m) within = msm_same channels leap Df402 m (entries (message.Msm5 m)) (of_default m.system (both (value_of m.system (of_two true true false)) false within))
+message_same channels leap (message.Msm6 m) within = msm_same channels leap Df407 m (entries (message.Msm6 m)) (of_default m.system (both (value_of m.system (of_two true true false)) false within))
+message_same channels leap (message.Msm7 m) within = msm_same channels leap Df407 m (entries (message.Msm7 m)) (of_default m.system (both (value_of m.system (of_two true true false)) true within))
+message_same channels leap (message.Other n set) within = refl
+
+-- ---- what is decoded
+
+-- the laws of message sets
+pub record MessageSets : Type 0 where
+  pub inside : (set : MsmSet) (bytes : List ℕ) (m : Message) → message_at bytes ≡ Ok m → is_in_set set m ≡ true → message_with set bytes ≡ Ok m
+  pub outside : (set : MsmSet) (bytes : List ℕ) (m : Message) → message_at bytes ≡ Ok m → is_in_set set m ≡ false → message_with set bytes ≡ Ok (other_of (bits_of bytes))
+  pub refused : (set : MsmSet) (bytes : List ℕ) (e : MsgFault) → message_at bytes ≡ Err e → (message_with set bytes ≡ Err e) ⊎ (message_with set bytes ≡ Ok (other_of (bits_of bytes)))
+
+same_heard : (channels : ChannelsValue) (leap : ℕ) (r : Result Message MsgFault) (m : Message) → r ≡ Ok m → is_in_set default_set m ≡ true
+    → heard_of channels leap r ≡ plain_of r
+same_heard channels leap r m is within = rw is (ap Some (message_same channels leap m within))
+
+same_refused : (channels : ChannelsValue) (leap : ℕ) (r : Result Message MsgFault) (e : MsgFault) → r ≡ Err e → heard_of channels leap r ≡ plain_of r
+same_refused channels leap r e is = rw is refl
+
+pub default_heard : MessageSets → (channels : ChannelsValue) (leap : ℕ) (bytes : List ℕ)
+    → heard_of channels leap (message_with default_set bytes) ≡ plain_of (message_with default_set bytes)
+default_heard laws channels leap bytes = by (message_at bytes) refl where
+  within : (m : Message) → message_at bytes ≡ Ok m → (b : Bool) → is_in_set default_set m ≡ b
+      → heard_of channels leap (message_with default_set bytes) ≡ plain_of (message_with default_set bytes)
+  within m read true is = same_heard channels leap _ m (laws.inside default_set bytes m read is) is
+  within m read false is = same_heard channels leap _ (other_of (bits_of bytes)) (laws.outside default_set bytes m read is) refl
+
+  by : (r : Result Message MsgFault) → message_at bytes ≡ r
+      → heard_of channels leap (message_with default_set bytes) ≡ plain_of (message_with default_set bytes)
+  by (Ok m) read = within m read (is_in_set default_set m) refl
+  by (Err e) read = elim (laws.refused default_set bytes e read) [
+    | inl err ↦ same_refused channels leap _ e err
+    | inr other ↦ same_heard channels leap _ (other_of (bits_of bytes)) other refl
+  ]
+
+pub read_plainly : MessageSets → ((bytes : List ℕ) → message_with default_set bytes ≡ message_by_table bytes) → AreReadPlainly
+read_plainly laws table plan two channels leap bytes =
+    ap (λ (set : MsmSet). heard_in channels leap set bytes) (default_decoded plan two)
+    ∙ (default_heard laws channels leap bytes ∙ ap plain_of (table bytes))
