@@ -15,15 +15,15 @@ channels_within channels satellite s h = grind (arith, common_steps)
 
 -- ---- values
 
-pub cycles_small : (hertz : ℕ) (p : ℤ) → hertz ≤ most_hertz → unsigned_abs p ≤ 2 ^ 40 → unsigned_abs (nearest_phase hertz p) < 10 ^ 12
+pub cycles_small : (hertz : ℕ) (p : ℤ) → hertz ≤ most_hertz → unsigned_abs p ≤ 2 ^ 39 → unsigned_abs (nearest_phase hertz p) < 10 ^ 12
 cycles_small hertz p within h = grind (arith, common_steps)
 
 -- A range is rounded as a phase range at the speed of light.
-pub metres_small : (r : ℤ) → unsigned_abs r ≤ 2 ^ 40 → unsigned_abs (nearest_pseudorange r) < 10 ^ 12
+pub metres_small : (r : ℤ) → unsigned_abs r ≤ 2 ^ 39 → unsigned_abs (nearest_pseudorange r) < 10 ^ 12
 metres_small r h = cycles_small light r (lit≤ tt) h
 
 -- ---- the arguments of a rounding
 
 -- A range or a phase range is unchanged by a cast.
-pub kept : (x : ℤ) → unsigned_abs x ≤ 2 ^ 40 → to_z w64 (of_z w64 x) ≡ x
+pub kept : (x : ℤ) → unsigned_abs x ≤ 2 ^ 39 → to_z w64 (of_z w64 x) ≡ x
 kept x h = omega (arith, ints, h)

@@ -13,9 +13,9 @@ use crate::{Signal, Thousandths};
 const LIGHT: u32 = 299_792_458;
 
 /// Returns the pseudorange in metres from a range in units of 2^-31 ms, the sum of DF397, DF398 and
-/// DF400 or DF405 of RTCM 10403.3, at most 2^40 in size. `None` if there is no range.
+/// DF400 or DF405 of RTCM 10403.3, at most 2^39 in size. `None` if there is no range.
 pub fn pseudorange(range: Option<i64>) -> Option<Thousandths>
-    requires { ForSome range (λ r. unsigned_abs r ≤ 2 ^ 40) }
+    requires { ForSome range (λ r. unsigned_abs r ≤ 2 ^ 39) }
     ensures rounded { IsRounded (λ r. r *ℤ pos light) (2 ^ 31) range result }
     ensures value { result ≡ option_map nearest_pseudorange range }
     ensures bound { IfSome result (λ t. unsigned_abs t < 10 ^ 12) }
@@ -27,10 +27,10 @@ pub fn pseudorange(range: Option<i64>) -> Option<Thousandths>
 }
 
 /// Returns the carrier phase in cycles from a phase range in units of 2^-31 ms, the sum of DF397,
-/// DF398 and DF401 or DF406 of RTCM 10403.3, at most 2^40 in size. `None` if there is no phase
+/// DF398 and DF401 or DF406 of RTCM 10403.3, at most 2^39 in size. `None` if there is no phase
 /// range.
 pub fn phase(phase: Option<i64>, signal: Signal) -> Option<Thousandths>
-    requires { ForSome phase (λ p. unsigned_abs p ≤ 2 ^ 40) }
+    requires { ForSome phase (λ p. unsigned_abs p ≤ 2 ^ 39) }
     ensures rounded { IsRounded (λ p. p *ℤ pos (hertz_of signal)) (2 ^ 31) phase result }
     ensures value { result ≡ option_map (nearest_phase (hertz_of signal)) phase }
     ensures bound { IfSome result (λ t. unsigned_abs t < 10 ^ 12) }
@@ -42,7 +42,7 @@ pub fn phase(phase: Option<i64>, signal: Signal) -> Option<Thousandths>
 /// 1,605,375,000. `None` also if there is no carrier.
 #[inline(always)]
 pub fn phase_at(phase: Option<i64>, hertz: Option<u32>) -> Option<Thousandths>
-    requires range { ForSome phase (λ p. unsigned_abs p ≤ 2 ^ 40) }
+    requires range { ForSome phase (λ p. unsigned_abs p ≤ 2 ^ 39) }
     requires carrier { IfSome hertz (λ h. (0 < h) × (h ≤ most_hertz)) }
     ensures value { result ≡ phase_by hertz phase }
     ensures bound { IfSome result (λ t. unsigned_abs t < 10 ^ 12) }

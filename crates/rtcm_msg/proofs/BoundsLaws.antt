@@ -14,7 +14,7 @@ abbrev Small : ℤ → Type 0
 Small z = unsigned_abs z ≤ 2 ^ 26
 
 abbrev Far : ℤ → Type 0
-Far r = unsigned_abs r ≤ 2 ^ 40
+Far r = unsigned_abs r ≤ 2 ^ 39
 
 -- ---- fractions
 

@@ -9,8 +9,8 @@ use Rattle.rtcm_msg.specs.Entries.{entries}
 
 -- Bounds of the values of a cell. A carrier to noise ratio of 0 is not computed, so it is absent.
 pub record IsMeasured (e : Entry) : Type 0 where
-  pub range : IfSome e.range (λ r. unsigned_abs r ≤ 2 ^ 40)
-  pub phase : IfSome e.phase (λ r. unsigned_abs r ≤ 2 ^ 40)
+  pub range : IfSome e.range (λ r. unsigned_abs r ≤ 2 ^ 39)
+  pub phase : IfSome e.phase (λ r. unsigned_abs r ≤ 2 ^ 39)
   pub rate : IfSome e.rate (λ v. unsigned_abs v ≤ 10 ^ 8)
   pub strength : IfSome e.strength (λ s. (0 < s) × (s < 2 ^ 10))
 

@@ -48,8 +48,8 @@ cell_pairs s = chosen (uint (pair_count s.satellites s.signals) s.cells) (all_pa
 
 -- Bounds of the values of a cell, with `codes` lock time indicators.
 pub record IsEntry (codes : ℕ) (e : Entry) : Type 0 where
-  pub range : IfSome e.range (λ r. unsigned_abs r ≤ 2 ^ 40)
-  pub phase : IfSome e.phase (λ r. unsigned_abs r ≤ 2 ^ 40)
+  pub range : IfSome e.range (λ r. unsigned_abs r ≤ 2 ^ 39)
+  pub phase : IfSome e.phase (λ r. unsigned_abs r ≤ 2 ^ 39)
   pub rate : IfSome e.rate (λ v. unsigned_abs v ≤ 10 ^ 8)
   pub strength : IfSome e.strength (λ s. s < 2 ^ 10)
   pub lock : e.lock < codes

@@ -293,7 +293,7 @@ impl Form {
     pub(crate) fn range(self, satellite: &Satellite, cell: &Cell) -> Option<i64>
         ensures value { result ≡ forms.range_of self satellite.now cell.now }
         ensures bound { IsSatelliteData self satellite.now → IsCellData self cell.now
-            → IfSome result (λ r. unsigned_abs r ≤ 2 ^ 40) }
+            → IfSome result (λ r. unsigned_abs r ≤ 2 ^ 39) }
     {
         range_joined(satellite.whole, satellite.fraction, self.fine_range(cell))
     }
@@ -304,7 +304,7 @@ impl Form {
     pub(crate) fn phase(self, satellite: &Satellite, cell: &Cell) -> Option<i64>
         ensures value { result ≡ forms.phase_of self satellite.now cell.now }
         ensures bound { IsSatelliteData self satellite.now → IsCellData self cell.now
-            → IfSome result (λ r. unsigned_abs r ≤ 2 ^ 40) }
+            → IfSome result (λ r. unsigned_abs r ≤ 2 ^ 39) }
     {
         range_joined(satellite.whole, satellite.fraction, self.fine_phase(cell))
     }
@@ -357,7 +357,7 @@ fn range_joined(whole: u8, fraction: u16, fine: Option<i64>) -> Option<i64>
     requires fits { ForSome fine (λ z. unsigned_abs z ≤ 2 ^ 38) }
     ensures value { result ≡ range_joined whole fraction fine }
     ensures bound { fraction < 2 ^ 10 → ForSome fine (λ z. unsigned_abs z ≤ 2 ^ 26)
-        → IfSome result (λ r. unsigned_abs r ≤ 2 ^ 40) }
+        → IfSome result (λ r. unsigned_abs r ≤ 2 ^ 39) }
 {
     if whole == INVALID_ROUGH_RANGE {
         return None;

@@ -7,10 +7,10 @@ pub struct Entry {
     pub satellite: u8,
     /// Signal ID, 1 to 32: the index of its bit in DF395, counted from 1.
     pub signal: u8,
-    /// Pseudorange in 2^-31 ms, at most 2^40 in absolute value: DF397 and DF398 with DF400 or
+    /// Pseudorange in 2^-31 ms, at most 2^39 in absolute value: DF397 and DF398 with DF400 or
     /// DF405. `None` if invalid.
     pub range: Option<i64>,
-    /// Phase range in 2^-31 ms, at most 2^40 in absolute value: DF397 and DF398 with DF401 or
+    /// Phase range in 2^-31 ms, at most 2^39 in absolute value: DF397 and DF398 with DF401 or
     /// DF406. `None` if invalid.
     pub phase: Option<i64>,
     /// Phase range rate in 0.0001 m/s, at most 10^8 in absolute value: DF399 with DF404. `None` if

@@ -24,7 +24,7 @@ pub trait Grid {
     fn range(satellite: &Satellite, cell: &Cell) -> Option<i64>
         ensures value { result ≡ forms.range_of form satellite.now cell.now }
         ensures bound { IsSatelliteData form satellite.now → IsCellData form cell.now
-            → IfSome result (λ r. unsigned_abs r ≤ 2 ^ 40) }
+            → IfSome result (λ r. unsigned_abs r ≤ 2 ^ 39) }
     {
         Self::form().range(satellite, cell)
     }
@@ -34,7 +34,7 @@ pub trait Grid {
     fn phase(satellite: &Satellite, cell: &Cell) -> Option<i64>
         ensures value { result ≡ forms.phase_of form satellite.now cell.now }
         ensures bound { IsSatelliteData form satellite.now → IsCellData form cell.now
-            → IfSome result (λ r. unsigned_abs r ≤ 2 ^ 40) }
+            → IfSome result (λ r. unsigned_abs r ≤ 2 ^ 39) }
     {
         Self::form().phase(satellite, cell)
     }

@@ -200,8 +200,8 @@ static RATES_AND_STRENGTHS: [(Observed, i64); 12] = [
 
 fn rounded(observed: &Observed) -> Option<Thousandths> {
     match observed {
-        Observed::Range(range) if range.unsigned_abs() <= 1 << 40 => pseudorange(Some(*range)),
-        Observed::Phase(range) if range.unsigned_abs() <= 1 << 40 => {
+        Observed::Range(range) if range.unsigned_abs() <= 1 << 39 => pseudorange(Some(*range)),
+        Observed::Phase(range) if range.unsigned_abs() <= 1 << 39 => {
             phase(Some(*range), Signal::from_code(System::Gps, "1C")?)
         }
         Observed::Rate(rate, code) if rate.unsigned_abs() <= 100_000_000 => {
