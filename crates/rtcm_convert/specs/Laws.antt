@@ -1,5 +1,6 @@
 -- Laws of the files that frames make.
 use Rattle.std.specs.Prelude.{◌≡◌, ◌+◌, ℕ, List, [], ◌∷◌, ◌++◌, length, Option}
+use Rattle.std.specs.List.{filter_map}
 use Rattle.rtcm_scan.specs.Frames.{Framed, frames_of}
 use Rattle.rtcm_scan.specs.Decided.{decided_frames}
 use Rattle.rtcm_bits.specs.Prefix.{IsPrefix}
@@ -8,8 +9,11 @@ use Rattle.obs_epoch.specs.Choices.{every_epoch}
 use Rattle.obs_epoch.specs.GathererHistory.{whole_list}
 use Rattle.rinex_file.specs.Texts.{HeaderLists}
 use Rattle.rinex_file.specs.File.{file_text, gathered}
+use Rattle.rtcm_msg.specs.declared.number.Forms.TheVariants.{FourAndSeven}
+use Rattle.obs_epoch.specs.TwoSystems.{PlansTwo, plain_in}
 use Rattle.rtcm_convert.specs.Converted.{SetupValue, messages_of, text_of_epochs, text_with, so_far, file}
 use Rattle.rtcm_convert.specs.Outcomes.{report_of}
+use Rattle.rtcm_convert.specs.SetupValues.{Start, start_value}
 use Rattle.rtcm_convert.specs.declared.report.Report.{Report}
 
 -- what is written of some bytes is a prefix of the file, for every rest of the stream
@@ -55,3 +59,9 @@ IsFileText = (texts : HeaderLists) (interval : Option ℕ) (plan : PlanValue) (e
 abbrev pub IsFileOfEvery : Type 0
 IsFileOfEvery = (s : SetupValue) (fs : List Framed) → s.gather.choice ≡ every_epoch
     → file s fs ≡ text_with s (whole_list s.gather (messages_of s fs))
+
+-- A conversion whose plan has signals of GPS and Galileo alone, in MSM4 and MSM7, decodes exactly the messages 1005,
+-- 1006, 1074, 1077, 1094 and 1097, and reads them without its channels and leap seconds.
+abbrev pub AreMessagesPlain : Type 0
+AreMessagesPlain = (x : Start) (fs : List Framed) → PlansTwo x.setup.plan → x.options.forms ≡ FourAndSeven
+    → messages_of (start_value x) fs ≡ filter_map (λ f. plain_in f.message) fs

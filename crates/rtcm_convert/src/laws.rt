@@ -1,6 +1,6 @@
 //! Laws of the definitions that the contracts cite.
 ghost use Rattle.rtcm_convert.specs.Laws.{WrittenStays, WrittenGrows, NothingYet, FiledStays, FiledGrows, NothingFiled};
-ghost use Rattle.rtcm_convert.specs.Laws.{CountedOnce, IsFileOfEvery, IsFileText};
+ghost use Rattle.rtcm_convert.specs.Laws.{AreMessagesPlain, CountedOnce, IsFileOfEvery, IsFileText};
 ghost use Rattle.std.specs.Prelude.{ℕ, ◌<◌, List, IfSome};
 ghost use Rattle.rtcm_scan.specs.Frames.{frames_of};
 ghost use Rattle.rtcm_scan.specs.Decided.{decided_frames};
@@ -87,4 +87,12 @@ pub fn read_back(setup: &Setup)
 {
     readable();
     rinex_file::laws::head(&setup.texts, &setup.plan);
+}
+
+/// A conversion of GPS and Galileo alone, in MSM4 and MSM7, reads exactly the messages 1005, 1006,
+/// 1074, 1077, 1094 and 1097, regardless of channels and leap seconds.
+pub fn two_systems()
+    ensures { AreMessagesPlain }
+{
+    obs_epoch::laws::two_systems();
 }

@@ -1,0 +1,25 @@
+-- A conversion of GPS and Galileo alone.
+use Rattle.std.proofs.Common.{◌≡◌, ◌∙◌, ap, refl, ℕ, List, [], ◌∷◌, Option, sym, subst}
+use Rattle.std.specs.List.{cons_option, filter_map}
+use Rattle.rtcm_scan.specs.Frames.{Framed}
+use Rattle.gnss_obs.specs.Channels.{ChannelsValue}
+use Rattle.rtcm_msg.specs.declared.number.Forms.{Forms}
+use Rattle.rtcm_msg.specs.declared.number.Forms.TheVariants.{FourAndSeven}
+use Rattle.obs_epoch.specs.Heard.{Heard, heard_in}
+use Rattle.obs_epoch.specs.Sets.{set_of}
+use Rattle.obs_epoch.specs.TwoSystems.{AreReadPlainly, PlansTwo, plain_in}
+use Rattle.rtcm_convert.specs.Converted.{SetupValue, message_of, messages_of}
+use Rattle.rtcm_convert.specs.SetupValues.{Start, start_value}
+use Rattle.rtcm_convert.specs.Laws.{AreMessagesPlain}
+
+-- the same of each frame, so of all
+same_messages : (s : SetupValue) → ((bytes : List ℕ) → heard_in s.gather.plan.channels s.gather.leap s.set bytes ≡ plain_in bytes) → (fs : List Framed)
+    → messages_of s fs ≡ filter_map (λ f. plain_in f.message) fs
+same_messages s same [] = refl
+same_messages s same (f ∷ fs) =
+    ap (λ (o : Option Heard). cons_option o (messages_of s fs)) (same f.message) ∙ ap (cons_option (plain_in f.message)) (same_messages s same fs)
+
+pub messages_plain : AreReadPlainly → AreMessagesPlain
+messages_plain read x fs two forms =
+    same_messages (start_value x) (λ bytes. ap (λ (f : Forms). heard_in x.setup.plan.channels x.options.leap_seconds (set_of x.setup.plan f) bytes) forms
+    ∙ read x.setup.plan two x.setup.plan.channels x.options.leap_seconds bytes) fs
