@@ -18,3 +18,5 @@ mod WeekLemmas
 mod OptionLemmas
 mod LengthLemmas
 mod StreamChannelLemmas
+pub mod CarrierLemmas
+pub mod LeapLemmas

@@ -1,8 +1,13 @@
--- The plan of the signals printed for a stream loses no value.
-use Rattle.std.specs.Prelude.{◌≡◌, ℕ, ◌+◌, ◌<◌, ◌≤◌, true, not, List, [], length, Option, Ok}
+-- The plan of the signals printed for a stream has a column for each value. Of a GLONASS satellite without a channel a
+-- conversion with it has no phase and no Doppler shift, and it loses no other value.
+use Rattle.std.specs.Prelude.{◌≡◌, ℕ, ◌+◌, ◌<◌, ◌≤◌, ◌&&◌, Bool, true, not, List, [], length, map, Option, is_some, Ok}
 use Rattle.std.specs.Option.{option_map_or}
 use Rattle.std.specs.List.{All, count_by}
+use Rattle.gnss_system.specs.Satellites.{Satellite}
+use Rattle.gnss_system.specs.Signals.{SignalAt}
 use Rattle.gnss_system.specs.SystemValues.{tabulate}
+use Rattle.gnss_obs.specs.Channels.{ChannelsValue, hertz_in}
+use Rattle.gnss_obs.specs.HeardCells.{HeardCell}
 use Rattle.rtcm_scan.specs.Frames.{Framed}
 use Rattle.obs_epoch.specs.Cells.{counts_of_message, is_planned}
 use Rattle.obs_epoch.specs.SignalCounts.{brings_value, valued}
@@ -50,3 +55,40 @@ LosesNone = (s : GatherSetup) (fs : List Framed) → s.plan ≡ plan_in s.statio
 abbrev pub SkipsNoValue : Type 0
 SkipsNoValue = (s : GatherSetup) (fs : List Framed) → s.plan ≡ plan_in s.station fs
     → (set : MsmSet) (earlier : List Timed) → All (SkipsOnly set s earlier) fs
+
+-- ---- the values of a cell: with a carrier the phase and the Doppler shift are those of the message
+
+-- the satellite and the signal of a cell, and which values it has
+pub record CellValues : Type 0 where
+  pub satellite : Satellite
+  pub signal : SignalAt
+  pub has_pseudorange : Bool
+  pub has_phase : Bool
+  pub has_shift : Bool
+  pub has_strength : Bool
+
+abbrev pub values_of : HeardCell → CellValues
+values_of x = record {
+  satellite = x.satellite;
+  signal = x.signal;
+  has_pseudorange = is_some x.c;
+  has_phase = is_some x.l;
+  has_shift = is_some x.d;
+  has_strength = is_some x.s;
+}
+
+-- those of an inspected cell, but a phase and a Doppler shift only if its carrier is known by these channels
+abbrev pub values_by : ChannelsValue → HeardCell → CellValues
+values_by channels x = record {
+  satellite = x.satellite;
+  signal = x.signal;
+  has_pseudorange = is_some x.c;
+  has_phase = is_some x.l && is_some (hertz_in channels x.satellite x.signal);
+  has_shift = is_some x.d && is_some (hertz_in channels x.satellite x.signal);
+  has_strength = is_some x.s;
+}
+
+-- a conversion reads these values of the cells of a message
+abbrev pub LosesUnknownCarriers : Type 0
+LosesUnknownCarriers = (s : GatherSetup) (m : Message)
+    → map values_of (heard_by s m).cells ≡ map (values_by s.plan.channels) (inspected m).cells

@@ -1,7 +1,9 @@
 -- The week that `options` prints dates the first MSM of a conversion.
-use Rattle.std.specs.Prelude.{◌≡◌, ◌↔◌, ℕ, ◌+◌, ◌*◌, ◌<◌, ◌≤◌, List, [], ◌∷◌, Option, Some, None, decimal, filter_map}
+use Rattle.std.specs.Prelude.{◌≡◌, ◌↔◌, ℕ, ◌+◌, ◌*◌, ◌<◌, ◌≤◌, false, List, [], ◌∷◌, Option, Some, None, decimal, filter_map}
 use Rattle.std.specs.Option.{option_or}
 use Rattle.gnss_obs.specs.Weeks.{week, weeks}
+use Rattle.gnss_system.specs.declared.system.System.TheVariants.{Glonass}
+use Rattle.gnss_system.specs.SystemValues.{value_of}
 use Rattle.rtcm_scan.specs.Frames.{Framed}
 use Rattle.rtcm_msg.specs.declared.number.MsmSet.{MsmSet}
 use Rattle.obs_epoch.specs.Heard.{GatherSetup, heard_in}
@@ -34,3 +36,8 @@ abbrev pub IsDatedByWeek : Type 0
 IsDatedByWeek = (set : MsmSet) (s : GatherSetup) (fs : List Framed) (tow : ℕ) → s.start_week < weeks → tow < week
     → first_tow s.leap set s.station fs ≡ Some tow
     → first_time (timed s (filter_map (λ f. heard_in s.plan.channels s.leap set f.message) fs)) ≡ Some (s.start_week * week + tow)
+
+-- the time of week of the first MSM of a set without GLONASS doesn't depend on the leap seconds
+abbrev pub IsLeapFree : Type 0
+IsLeapFree = (set : MsmSet) (a b : ℕ) (wanted : Option ℕ) (fs : List Framed) → value_of Glonass set.systems ≡ false
+    → first_tow a set wanted fs ≡ first_tow b set wanted fs

@@ -2,8 +2,9 @@
 ghost use Rattle.std.specs.Prelude.{List, ℕ};
 ghost use Rattle.rtcm_msg.specs.declared.message.Message.{Message};
 ghost use Rattle.rtcm_inspect.specs.ReadBack.{AreKnown, AreEncoded, ReadsBack};
-ghost use Rattle.rtcm_inspect.specs.SignalLaws.{LeavesNoneOut, LosesNone, AreReadAsPlan, SkipsNoValue};
-ghost use Rattle.rtcm_inspect.specs.WeekLaws.{AreWeeksRead, HasOneWeek, IsDatedByWeek, IsNearestPrinted};
+ghost use Rattle.rtcm_inspect.specs.SignalLaws.{AreReadAsPlan, LeavesNoneOut, LosesNone, LosesUnknownCarriers};
+ghost use Rattle.rtcm_inspect.specs.SignalLaws.{SkipsNoValue};
+ghost use Rattle.rtcm_inspect.specs.WeekLaws.{AreWeeksRead, HasOneWeek, IsDatedByWeek, IsLeapFree, IsNearestPrinted};
 ghost use Rattle.rtcm_inspect.specs.ChannelLaws.{AreChannelsRead, HasChannels};
 ghost use Rattle.rtcm_inspect.specs.LengthLaws.{AreHeightsRead, ArePositionsRead};
 
@@ -24,12 +25,14 @@ pub fn read_back()
 /// The lists that `run_options` prints are read as the plan of the signals that they name. A
 /// conversion with this plan has a column for each value of a listed satellite and signal, and
 /// counts as `skipped` only unlisted cells and cells without a value, in any forms. In the printed
-/// forms it reads every cell with a value.
+/// forms it reads every cell with a value: pseudorange and strength always, phase and Doppler shift
+/// if the carrier of the satellite is known, which of GLONASS needs its channel.
 pub fn signals()
     ensures columns { LeavesNoneOut }
     ensures read { AreReadAsPlan }
     ensures skips { SkipsNoValue }
     ensures all { LosesNone }
+    ensures carriers { LosesUnknownCarriers }
 {
     gnss_obs::laws::signal_tables();
     rtcm_msg::laws::message_sets();
@@ -39,12 +42,16 @@ pub fn signals()
 /// of week at most half a week before noon, or less than half a week after it, and it is printed if
 /// it is one from 0 to 99,999. The printed number is read as this week, and a conversion with a
 /// start week gives the first MSM that it decodes, of the station or of any, its time in that week.
+/// Its time of week depends on the leap seconds only if GLONASS is decoded.
 pub fn near()
     ensures one { HasOneWeek }
     ensures printed { IsNearestPrinted }
     ensures read { AreWeeksRead }
     ensures dated { IsDatedByWeek }
-{}
+    ensures leap { IsLeapFree }
+{
+    rtcm_msg::laws::message_sets();
+}
 
 /// The position and the antenna height that `run_options` prints for a station message are read as
 /// those of the message, for every message in range.

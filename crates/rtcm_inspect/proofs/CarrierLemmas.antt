@@ -1,0 +1,79 @@
+-- The values of a cell with and without its carrier.
+use Rattle.std.specs.Prelude.{map}
+use Rattle.std.proofs.lemmas.List.{get_or-replicate}
+use Rattle.gnss_system.specs.declared.system.System.TheVariants.{Glonass, Beidou, Qzss, Sbas}
+use Rattle.gnss_system.specs.Satellites.{satellites}
+use Rattle.gnss_system.specs.Signals.{band_of, code_of}
+use Rattle.gnss_obs.specs.Channels.{channel_hertz, hertz_in}
+use Rattle.gnss_obs.specs.LockTimes.{LockTime}
+use Rattle.gnss_obs.specs.Observables.{nearest_doppler, nearest_phase, nearest_pseudorange, nearest_strength}
+use Rattle.rtcm_inspect.specs.SignalLaws.{CellValues, LosesUnknownCarriers, values_by, values_of}
+use Rattle.rtcm_inspect.proofs.Names.{get_or, ◌≡◌, ◌∙◌, ◌+◌, ◌-◌, ◌≤◌, ◌<◌, ◌==◌, ap, ap₂, sym, cons_option, every_channel, filter_map, heard_by, heard_msm, if◌then◌else◌, inspected, is_some, lock_by, observed, option_and_then, option_map, satellite_of_id, seen_in, signal_of_id, ChannelsValue, Df402, Df407, Entry, LockField, MsmValue, Satellite, SignalAt, System, Gps, Galileo, entries, Msm4, Msm5, Msm6, Msm7, Message, Bool, true, false, ◌&&◌, nat_le, nat_tests, ℕ, ℤ, List, [], ◌∷◌, Option, Some, None, refl, subst, arith, GatherSetup, HeardCell, slot_count}
+
+-- ---- with a channel for each slot each carrier is known
+
+bounded : (id : ℕ) → (nat_le 1 id && nat_le id 27) ≡ true → id - 1 < 27
+bounded id h = grind (arith, nat_tests, h)
+
+known_always : (system : System) (id : ℕ) (g : SignalAt) → (nat_le 1 id && nat_le id (satellites system)) ≡ true
+    → is_some (hertz_in every_channel (record { system = system; id = id }) g) ≡ true
+known_always Glonass id g h =
+    ap (λ (o : Option ℕ). is_some (option_map (channel_hertz (band_of (code_of g))) o)) (get_or-replicate slot_count (id - 1) (Some 7) None (bounded id h))
+known_always Gps id g h = refl
+known_always Galileo id g h = refl
+known_always Beidou id g h = refl
+known_always Qzss id g h = refl
+known_always Sbas id g h = refl
+
+-- ---- a value at a carrier
+
+present : (f : ℕ → ℤ → ℤ) (o p : Option ℕ) (x : Option ℤ) → is_some p ≡ true
+    → is_some (option_and_then (λ h. option_map (f h) x) o) ≡ (is_some (option_and_then (λ h. option_map (f h) x) p) && is_some o)
+present f o None x e = absurd (cc e)
+present f None (Some h) None e = refl
+present f None (Some h) (Some x) e = refl
+present f (Some k) (Some h) None e = refl
+present f (Some k) (Some h) (Some x) e = refl
+
+-- the values of an entry, with or without a phase and a shift
+abbrev values_with : Entry → Satellite → SignalAt → (phase shift : Bool) → CellValues
+values_with e u g phase shift = record {
+  satellite = u;
+  signal = g;
+  has_pseudorange = is_some (option_map nearest_pseudorange e.range);
+  has_phase = phase;
+  has_shift = shift;
+  has_strength = is_some (option_map nearest_strength e.strength);
+}
+
+cell_values : (channels : ChannelsValue) (lock : LockTime) (e : Entry) (u : Satellite) (g : SignalAt) → is_some (hertz_in every_channel u g) ≡ true
+    → values_of (observed channels lock e u g) ≡ values_by channels (observed every_channel lock e u g)
+cell_values channels lock e u g known =
+    ap₂ (values_with e u g) (present nearest_phase (hertz_in channels u g) (hertz_in every_channel u g) e.phase known)
+    (present nearest_doppler (hertz_in channels u g) (hertz_in every_channel u g) e.rate known)
+
+module _ (channels : ChannelsValue) (field : LockField) (system : System) where
+  abbrev with_channels : Entry → ChannelsValue → Option SignalAt → Option Satellite → Option HeardCell
+  with_channels e c g u = option_and_then (λ u. option_map (observed c (lock_by field e.lock) e u) g) u
+
+  one_cell : (e : Entry) (xs ys : List HeardCell) → map values_of xs ≡ map (values_by channels) ys
+      → map values_of (cons_option (seen_in channels field system e) xs) ≡ map (values_by channels) (cons_option (seen_in every_channel field system e) ys)
+  one_cell e xs ys same = by (nat_le 1 e.satellite && nat_le e.satellite (satellites system)) refl (signal_of_id system e.signal) where
+    by : (b : Bool) → (nat_le 1 e.satellite && nat_le e.satellite (satellites system)) ≡ b → (g : Option SignalAt)
+        → map values_of (cons_option (with_channels e channels g (if b then Some (record { system = system; id = e.satellite }) else None)) xs)
+        ≡ map (values_by channels) (cons_option (with_channels e every_channel g (if b then Some (record { system = system; id = e.satellite }) else None)) ys)
+    by true h (Some g) =
+        ap₂ (λ (v : CellValues) (vs : List CellValues). v ∷ vs) (cell_values channels (lock_by field e.lock) e (record { system = system; id = e.satellite }) g (known_always system e.satellite g h)) same
+    by true h None = same
+    by false h g = same
+
+  all_cells : (es : List Entry) → map values_of (filter_map (seen_in channels field system) es) ≡ map (values_by channels) (filter_map (seen_in every_channel field system) es)
+  all_cells [] = refl
+  all_cells (e ∷ es) = one_cell e (filter_map (seen_in channels field system) es) (filter_map (seen_in every_channel field system) es) (all_cells es)
+
+pub unknown_carriers : LosesUnknownCarriers
+unknown_carriers s (Msm4 v) = all_cells s.plan.channels Df402 v.system (entries (Msm4 v))
+unknown_carriers s (Msm5 v) = all_cells s.plan.channels Df402 v.system (entries (Msm5 v))
+unknown_carriers s (Msm6 v) = all_cells s.plan.channels Df407 v.system (entries (Msm6 v))
+unknown_carriers s (Msm7 v) = all_cells s.plan.channels Df407 v.system (entries (Msm7 v))
+unknown_carriers s other = refl
