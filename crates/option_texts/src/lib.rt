@@ -9,7 +9,7 @@ mod texts;
 
 pub use channel_texts::{channels_of, channels_text};
 pub use leap_seconds::leap_at;
-pub use line::OutputLine;
+pub use line::{LINE_BYTES, OutputLine};
 pub use texts::{
     epoch_interval_of, hour_of, interval_of, length_below, position_of, time_of, tolerance_of,
     week_of,

@@ -10,7 +10,7 @@ use std::marker::Model;
 
 /// Room for a line. The longest is the report of a conversion: 14 names of 90 letters in all, 14
 /// numbers of at most 20 digits, 27 blanks and a line feed. The last 2 are spare.
-const LINE_BYTES: usize = 90 + 14 * 20 + 27 + 1 + 2;
+pub const LINE_BYTES: usize = 90 + 14 * 20 + 27 + 1 + 2;
 
 /// A line of output, built word by word with single blanks between the words.
 #[derive(Drop)]

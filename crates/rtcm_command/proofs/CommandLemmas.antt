@@ -1,4 +1,7 @@
 -- The meaning of the exit status.
+use Rattle.std.specs.Prelude.{IfSome, string_bytes}
+use Rattle.std.proofs.Common.{Global, String}
+use Rattle.rtcm_command.specs.Commands.{refusal_line}
 use Rattle.rtcm_command.proofs.Names.{◌≡◌, ◌∙◌, inl, inr, refl, sym, subst, codes, ap, ap₂, option_map, ℕ, List, Option, Some, None, Result, Ok, Err, arith, ⊤, ◌≢◌, IsCommand, box_value, option_map_or, Box, found_of, subcommand_rows, subcommand_rows_of, Row, Text, rows_of, out-SubCommand, SubCommand, kind_of, Error, ArgMatches, Device, SelectsCommand, IsFoundIn, RefusesWords, FailsParsing, AreRefused, AreRefusedBy, EndsCommand, EndsFound, HasCommand, HasCompleted, HasDone, HasPrinted, HasStopped, HasStoppedEarly, HasStoppedPrinting, StopsPrinting, fault_status, status_of, error_line, length, lit<, ◌<◌, PrintsLine, PrintsSome, PrintsFault, IsUntouched, InspectFault, Ends, of_inspection, ToolFault, HaveFailedBy, IsErrAnd, passed}
 use Rattle.clap.specs.declared.error.kind.ErrorKind.TheVariants as kind
 use Rattle.rtcm_inspect.specs.Devices as devices
@@ -123,6 +126,15 @@ answered_in_part d printed unsent e e2 words error refused (inr part) = inr (inl
 pub memory_line : 0 < length (error_line faults.Memory)
 unfolding error_line
 memory_line = lit< tt
+
+-- what is printed of a refusal isn't empty
+refusal_some : (text : Option (String Global)) → IfSome text (λ t. 0 < length (string_bytes t)) → 0 < length (refusal_line (option_map string_bytes text))
+refusal_some None some = memory_line
+refusal_some (Some t) some = some
+
+pub refusal_printed : {E : Type 0} (printed : E → Option (List ℕ)) (unsent : E → List ℕ) (e e2 : Device E) (text : Option (String Global)) → IfSome text (λ t. 0 < length (string_bytes t))
+    → PrintsLine printed unsent e e2 (refusal_line (option_map string_bytes text)) → PrintsSome printed unsent e e2
+refusal_printed printed unsent e e2 text some line = (refusal_line (option_map string_bytes text), refusal_some text some, line)
 
 -- a command with status 2 is refused before anything is read
 abbrev IsRefusedBy : {R W : Type 0} → (r r2 : Device R) → (w w2 : Device W) → Text → List Row → ToolFault → Type 0

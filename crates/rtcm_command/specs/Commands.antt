@@ -1,6 +1,6 @@
 -- What the program has read and written when it ends: the reader was r and is r', the writer was w and is w', and the
 -- writer for faults was e and is e'.
-use Rattle.std.specs.Prelude.{◌≡◌, ◌⊎◌, ℕ, List, Option, Some, Result, Err, codes}
+use Rattle.std.specs.Prelude.{◌≡◌, ◌⊎◌, ℕ, List, Option, Some, None, Result, Err, codes}
 use Rattle.clap.specs.Simple.{subcommand_rows_of}
 use Rattle.clap.specs.Walk.{Row, Text}
 use Rattle.clap.specs.declared.error.kind.ErrorKind.TheVariants.{DisplayVersion, OutOfMemory}
@@ -116,6 +116,11 @@ StopsPrinting k held w w' printed unsent e e' =
     ((k ≡ OutOfMemory) × (w' ≡ w) × PrintsLine printed unsent e e' (error_line faults.Memory))
     ⊎ ((k ≡ DisplayVersion) × PrintsPart held w w' VERSION.now
     × PrintsLine printed unsent e e' (error_line (faults.Inspect inspect.Write)))
+
+-- what is printed of words that are refused: this text, or the line of `Memory` without one
+abbrev pub refusal_line : Option (List ℕ) → List ℕ
+refusal_line None = error_line faults.Memory
+refusal_line (Some text) = text
 
 -- these options of a command are refused with this fault
 abbrev pub AreRefusedBy : Text → List Row → ToolFault → Type 0

@@ -5,3 +5,4 @@ pub mod Reports
 pub mod Asked
 pub mod Commands
 pub mod StationLaws
+pub mod PrintedPlan

@@ -1,5 +1,5 @@
 //! The whole program, over a reader, a writer and a writer for faults.
-ghost use Rattle.std.specs.Prelude.{◌≡◌, ◌≢◌, ◌<◌, ◌≤◌, IfSome};
+ghost use Rattle.std.specs.Prelude.{◌≡◌, ◌≢◌, ◌<◌, ◌≤◌, IfSome, length, option_map, string_bytes};
 ghost use Rattle.std.specs.IoError.{error_kind};
 ghost use Rattle.std.specs.declared.io.ErrorKind.TheVariants as kinds;
 ghost use Rattle.clap.specs.Simple.{subcommand_rows_of};
@@ -9,7 +9,7 @@ ghost use Rattle.clap.specs.Values.{kind_of};
 ghost use Rattle.clap.specs.declared.error.kind.ErrorKind.TheVariants.{DisplayVersion, OutOfMemory};
 ghost use Rattle.rtcm_command.specs.Asked.{EndsCheck};
 ghost use Rattle.rtcm_command.specs.Commands.{AreRefused, EndsFound, HasCommand};
-ghost use Rattle.rtcm_command.specs.Commands.{HasStoppedEarly, HasCompleted, StopsPrinting};
+ghost use Rattle.rtcm_command.specs.Commands.{HasStoppedEarly, HasCompleted, StopsPrinting, refusal_line};
 ghost use Rattle.rtcm_command.specs.Devices.{of_inspection};
 ghost use Rattle.command_faults.specs.ErrorLines.{error_line, not_text_line};
 ghost use Rattle.option_texts.specs.Lengths.{longest_interval};
@@ -185,19 +185,29 @@ fn answer<W: Deliver, E: Deliver>(
         }
         ErrorKind::OutOfMemory => exit_status(Err(ToolFault::Memory), faults),
         _ => {
-            print_refusal(alloc, error, faults);
+            print_refusal(refusal_text(alloc, error), faults);
             2
         }
     }
 }
 
-/// Prints clap's text of an error, or the line of `Memory` if there is no memory for that text.
-fn print_refusal<E: Deliver>(alloc: Global, error: &clap::Error, faults: &mut Counted<E>)
-    ensures { PrintsSome E.contents E.waiting faults.old faults.new }
+/// Returns clap's text of an error; `None` if there is no memory for it, or if it is empty.
+fn refusal_text(alloc: Global, error: &clap::Error) -> Option<String>
+    ensures { IfSome result (λ text. 0 < length (string_bytes text)) }
 {
     match format!(in alloc; "{error}") {
-        Ok(text) if !text.is_empty() => print_line(text.as_bytes(), faults),
-        _ => print_line(error_line(ToolFault::Memory).as_bytes(), faults),
+        Ok(text) if !text.is_empty() => Some(text),
+        _ => None,
+    }
+}
+
+/// Prints the text of a refusal, or the line of `Memory` if there is no text.
+fn print_refusal<E: Deliver>(text: Option<String>, faults: &mut Counted<E>)
+    ensures { PrintsLine E.contents E.waiting faults.old faults.new (refusal_line (option_map string_bytes text)) }
+{
+    match &text {
+        Some(text) => print_line(text.as_bytes(), faults),
+        None => print_line(error_line(ToolFault::Memory).as_bytes(), faults),
     }
 }
 

@@ -1,4 +1,5 @@
 //! Laws over the options that `options` prints.
+ghost use Rattle.rtcm_command.specs.PrintedPlan.{ArePrintedWords, IsDatedAsPrinted, IsStartedAsFound};
 ghost use Rattle.rtcm_command.specs.StationLaws.{AreChannelsSet, AreLeapSecondsRead, AreReadAsStation};
 ghost use Rattle.rtcm_command.specs.StationLaws.{AreZeroByDefault, IsStationRead, IsWeekRead};
 
@@ -25,5 +26,24 @@ pub fn numbers()
 pub fn channels()
     ensures { AreChannelsSet }
 {
+    rtcm_inspect::laws::channels();
+}
+
+/// For every stream: if options have the value of each word that `options` prints, and else their
+/// defaults, a conversion starts with what was found in the stream: plan, channels, forms, station,
+/// week, leap seconds and the values of the first station message. Near a date its first accepted
+/// message is in the week that is nearest to the noon of the date, also before 2017, when a
+/// conversion without GLONASS has other leap seconds than the date.
+pub fn printed_plan()
+    ensures words { ArePrintedWords }
+    ensures found { IsStartedAsFound }
+    ensures dated { IsDatedAsPrinted }
+{
+    numbers();
+    station();
+    channels();
+    rtcm_inspect::laws::signals();
+    rtcm_inspect::laws::near();
+    rtcm_inspect::laws::lengths();
     rtcm_inspect::laws::channels();
 }

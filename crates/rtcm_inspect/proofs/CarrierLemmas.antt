@@ -8,7 +8,7 @@ use Rattle.gnss_obs.specs.Channels.{channel_hertz, hertz_in}
 use Rattle.gnss_obs.specs.LockTimes.{LockTime}
 use Rattle.gnss_obs.specs.Observables.{nearest_doppler, nearest_phase, nearest_pseudorange, nearest_strength}
 use Rattle.rtcm_inspect.specs.SignalLaws.{CellValues, LosesUnknownCarriers, values_by, values_of}
-use Rattle.rtcm_inspect.proofs.Names.{get_or, ◌≡◌, ◌∙◌, ◌+◌, ◌-◌, ◌≤◌, ◌<◌, ◌==◌, ap, ap₂, sym, cons_option, every_channel, filter_map, heard_by, heard_msm, if◌then◌else◌, inspected, is_some, lock_by, observed, option_and_then, option_map, satellite_of_id, seen_in, signal_of_id, ChannelsValue, Df402, Df407, Entry, LockField, MsmValue, Satellite, SignalAt, System, Gps, Galileo, entries, Msm4, Msm5, Msm6, Msm7, Message, Bool, true, false, ◌&&◌, nat_le, nat_tests, ℕ, ℤ, List, [], ◌∷◌, Option, Some, None, refl, subst, arith, GatherSetup, HeardCell, slot_count}
+use Rattle.rtcm_inspect.proofs.Names.{◌≡◌, ◌-◌, ◌<◌, ap, ap₂, cons_option, every_channel, filter_map, if◌then◌else◌, is_some, lock_by, observed, option_and_then, option_map, seen_in, signal_of_id, ChannelsValue, Df402, Df407, Entry, LockField, Satellite, SignalAt, System, Gps, Galileo, entries, Msm4, Msm5, Msm6, Msm7, Bool, true, false, ◌&&◌, nat_le, nat_tests, ℕ, ℤ, List, [], ◌∷◌, Option, Some, None, refl, arith, HeardCell, slot_count}
 
 -- ---- with a channel for each slot each carrier is known
 

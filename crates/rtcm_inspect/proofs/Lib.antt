@@ -20,3 +20,5 @@ mod LengthLemmas
 mod StreamChannelLemmas
 pub mod CarrierLemmas
 pub mod LeapLemmas
+pub mod RangeLemmas
+pub mod FirstChannelLemmas

@@ -11,7 +11,7 @@ use Rattle.gnss_system.proofs.SystemLaws.{value_tabulated}
 use Rattle.obs_epoch.specs.Sets.{is_always_decoded, is_decoded}
 use Rattle.rtcm_inspect.specs.SignalLaws.{ReadsAll}
 use Rattle.rtcm_inspect.proofs.ValuedLemmas.{valued_system}
-use Rattle.rtcm_inspect.proofs.Names.{false_from_ne_true, or_right, true≢false, get_or, All-head, All-tail, Df402, Df407, GatherSetup, SignalAt, entries, has_listed_key, is_planned, is_some, is_system, place_in, planned_of, ◌≡◌, ◌∙◌, ◌++◌, ◌||◌, ℕ, Bool, true, false, not, List, [], ◌∷◌, Option, Some, None, Result, Ok, Err, All, All-cons, All-nil, ⊤, ◌&&◌, ap, arith, bits_of, inl, inr, length, list_any, list_any-append, nat_lt, option_and_then, option_map_or, refl, subst, sym, if◌then◌else◌, Framed, MsgFault, Message, Station, Msm4, Msm5, Msm6, Msm7, Form, Forms, MsmSet, MsmValue, message_at, message_with, message_in, have_form, System, Gps, Galileo, Heard, HeardCell, every_channel, heard, heard_of, inspected, inspected_in, inspected_of, is_of_station, set_of, valued, forms_had, has_other_value, is_of_other, needs_all, tow_of, valued_in, valued_of, with_forms}
+use Rattle.rtcm_inspect.proofs.Names.{false_from_ne_true, or_right, true≢false, get_or, All-head, All-tail, Df402, Df407, GatherSetup, SignalAt, entries, has_listed_key, is_planned, is_some, place_in, planned_of, ◌≡◌, ◌∙◌, ◌++◌, ◌||◌, ℕ, Bool, true, false, not, List, [], ◌∷◌, Option, Some, None, Result, Ok, Err, All, All-cons, All-nil, ⊤, ◌&&◌, ap, arith, bits_of, inl, inr, length, list_any, list_any-append, nat_lt, option_and_then, option_map_or, refl, subst, sym, if◌then◌else◌, Framed, MsgFault, Message, Station, Msm4, Msm5, Msm6, Msm7, Form, Forms, MsmSet, MsmValue, message_at, message_with, message_in, have_form, System, Heard, HeardCell, every_channel, heard, heard_of, inspected, inspected_in, inspected_of, is_of_station, set_of, valued, forms_had, has_other_value, is_of_other, needs_all, tow_of, valued_in, valued_of, with_forms}
 
 -- the laws of the messages of a set
 pub record SetLaws : Type 0 where

@@ -79,15 +79,18 @@ first_words week station p =
     with_words ((number_start (codes "--week") week ++ number_start (codes "--station") station) ++ codes "--gps")
     (codes_word Gps p.signals.gps ∷ codes "--galileo" ∷ codes_word Galileo p.signals.galileo ∷ [])
 
--- the line of the options with this week, these leap seconds and this station that plan these signals in these forms,
+-- the words of the options with this week, these leap seconds and this station that plan these signals in these forms,
 -- and of those with the values of this station message
-unfoldable pub options_line : (week leap station : Option ℕ) → PlanValue → Forms → Option StationParts → List ℕ
-options_line week leap station p forms first =
-    line
-    (number_words (codes "--week") week
+abbrev pub option_words : (week leap station : Option ℕ) → PlanValue → Forms → Option StationParts → List (List ℕ)
+option_words week leap station p forms first =
+    number_words (codes "--week") week
     ++ (number_words (codes "--station") station
     ++ codes "--gps" ∷ codes_word Gps p.signals.gps ∷ codes "--galileo" ∷ codes_word Galileo p.signals.galileo
-    ∷ (flat_map (other_words leap p) systems ++ (forms_words forms ++ station_words first))))
+    ∷ (flat_map (other_words leap p) systems ++ (forms_words forms ++ station_words first)))
+
+-- their line
+unfoldable pub options_line : (week leap station : Option ℕ) → PlanValue → Forms → Option StationParts → List ℕ
+options_line week leap station p forms first = line (option_words week leap station p forms first)
 
 -- the output of `options` for these frames, with this week and these leap seconds
 abbrev pub options_text : (week leap wanted : Option ℕ) → List Framed → List ℕ

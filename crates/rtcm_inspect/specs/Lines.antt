@@ -1,6 +1,8 @@
 -- The most bytes of parts of lines.
-use Rattle.std.specs.Prelude.{ℕ, ◌+◌}
-use Rattle.option_texts.specs.Lines.{longest_number}
+use Rattle.std.specs.Prelude.{ℕ, ◌+◌, ◌*◌, length}
+use Rattle.gnss_system.specs.Signals.{most_signals}
+use Rattle.gnss_system.specs.Systems.{systems}
+use Rattle.option_texts.specs.Lines.{longest_line, longest_number}
 
 -- the most bytes before the line of a frame or a message
 abbrev pub longest_prefix : ℕ
@@ -34,6 +36,13 @@ longest_codes = 72
 abbrev pub longest_plan : ℕ
 longest_plan = 300
 
--- room for the line of the options of a conversion
+-- room for the line of the options of a conversion: the first words and the last ones, and those of each system
 abbrev pub longest_options : ℕ
-longest_options = 2_816
+longest_options = 2 * longest_line + longest_plan * length systems
+
+-- the most bytes of the line of a signal, and room for the lines of as many signals of each system as any has
+abbrev pub longest_signal : ℕ
+longest_signal = 26
+
+abbrev pub longest_signals : ℕ
+longest_signals = longest_signal * most_signals * length systems

@@ -41,3 +41,8 @@ IsDatedByWeek = (set : MsmSet) (s : GatherSetup) (fs : List Framed) (tow : ℕ) 
 abbrev pub IsLeapFree : Type 0
 IsLeapFree = (set : MsmSet) (a b : ℕ) (wanted : Option ℕ) (fs : List Framed) → value_of Glonass set.systems ≡ false
     → first_tow a set wanted fs ≡ first_tow b set wanted fs
+
+-- that time of week is below a week
+abbrev pub IsBelowWeek : Type 0
+IsBelowWeek = (leap : ℕ) (set : MsmSet) (wanted : Option ℕ) (fs : List Framed) (tow : ℕ)
+    → first_tow leap set wanted fs ≡ Some tow → tow < week

@@ -4,9 +4,10 @@ ghost use Rattle.rtcm_msg.specs.declared.message.Message.{Message};
 ghost use Rattle.rtcm_inspect.specs.ReadBack.{AreKnown, AreEncoded, ReadsBack};
 ghost use Rattle.rtcm_inspect.specs.SignalLaws.{AreReadAsPlan, LeavesNoneOut, LosesNone, LosesUnknownCarriers};
 ghost use Rattle.rtcm_inspect.specs.SignalLaws.{SkipsNoValue};
-ghost use Rattle.rtcm_inspect.specs.WeekLaws.{AreWeeksRead, HasOneWeek, IsDatedByWeek, IsLeapFree, IsNearestPrinted};
-ghost use Rattle.rtcm_inspect.specs.ChannelLaws.{AreChannelsRead, HasChannels};
-ghost use Rattle.rtcm_inspect.specs.LengthLaws.{AreHeightsRead, ArePositionsRead};
+ghost use Rattle.rtcm_inspect.specs.WeekLaws.{AreWeeksRead, HasOneWeek, IsBelowWeek, IsDatedByWeek, IsLeapFree};
+ghost use Rattle.rtcm_inspect.specs.WeekLaws.{IsNearestPrinted};
+ghost use Rattle.rtcm_inspect.specs.ChannelLaws.{AreChannelsRead, AreFirstChannels, HasChannels};
+ghost use Rattle.rtcm_inspect.specs.LengthLaws.{AreHeightsRead, ArePositionsRead, IsFirstInRange};
 
 /// Every list of messages of known layouts has encodings. For every choice of these, their frames,
 /// joined, are a stream with exactly these frames, which is read back as that list.
@@ -42,26 +43,32 @@ pub fn signals()
 /// of week at most half a week before noon, or less than half a week after it, and it is printed if
 /// it is one from 0 to 99,999. The printed number is read as this week, and a conversion with a
 /// start week gives the first MSM that it decodes, of the station or of any, its time in that week.
-/// Its time of week depends on the leap seconds only if GLONASS is decoded.
+/// Its time of week is below a week, and depends on the leap seconds only if GLONASS is decoded.
 pub fn near()
     ensures one { HasOneWeek }
     ensures printed { IsNearestPrinted }
     ensures read { AreWeeksRead }
     ensures dated { IsDatedByWeek }
     ensures leap { IsLeapFree }
+    ensures small { IsBelowWeek }
 {
     rtcm_msg::laws::message_sets();
 }
 
 /// The position and the antenna height that `run_options` prints for a station message are read as
-/// those of the message, for every message in range.
+/// those of the message, for every message in range, as is the first one of every stream.
 pub fn lengths()
     ensures positions { ArePositionsRead }
     ensures heights { AreHeightsRead }
-{}
+    ensures first { IsFirstInRange }
+{
+    rtcm_msg::laws::measures();
+}
 
-/// The channels that `run_options` prints for a stream are read as these, for every stream.
+/// The channels that `run_options` prints for a stream are read as these, for every stream. That of
+/// a slot is the first valid one in the stream.
 pub fn channels()
     ensures read { AreChannelsRead }
     ensures some { HasChannels }
+    ensures first { AreFirstChannels }
 {}

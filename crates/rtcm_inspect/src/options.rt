@@ -27,14 +27,18 @@ use arrayvec::ArrayVec;
 use gnss_obs::{Channels, GpsTime, WEEK, WEEKS};
 use gnss_system::{BySystem, SYSTEMS, System};
 use obs_epoch::{SignalCounts, is_always_decoded};
-use option_texts::{OutputLine, channels_text, leap_at};
+use option_texts::{LINE_BYTES, OutputLine, channels_text, leap_at};
 use rtcm_bits::{Counted, Deliver};
 use rtcm_msg::{Forms, MsmSet, StationParts};
 use std::alloc::Global;
 use std::io::Read;
 
-/// Room for the line of the options.
-const OPTIONS_BYTES: usize = 2_816;
+/// The most bytes of the options of a system, after a blank.
+const PLAN_BYTES: usize = 300;
+
+/// Room for the line of the options: a line of first words, a line of last ones, and the options of
+/// each system.
+const OPTIONS_BYTES: usize = 2 * LINE_BYTES + PLAN_BYTES * SYSTEMS.len();
 
 /// The line of the options, which is longer than others.
 type OptionsText = ArrayVec<u8, OPTIONS_BYTES>;

@@ -4,6 +4,7 @@ ghost use Rattle.gnss_obs.specs.HeardCells.{HeardCell};
 ghost use Rattle.gnss_system.specs.Signals.{table, code_of};
 ghost use Rattle.gnss_system.specs.Systems.{systems};
 ghost use Rattle.obs_epoch.specs.SignalCounts.{AreSignalCounts, signal_in};
+ghost use Rattle.rtcm_inspect.specs.Lines.{longest_signal, longest_signals};
 ghost use Rattle.rtcm_inspect.specs.SignalOutput.{EndsSignals};
 ghost use Rattle.rtcm_inspect.specs.Signals.{count_line, count_lines, signals_text};
 
@@ -12,15 +13,18 @@ use crate::fault::InspectFault;
 use crate::printing::{deliver_waiting, print_text};
 use arrayvec::ArrayVec;
 use gnss_obs::Signal;
-use gnss_system::{SYSTEMS, System};
+use gnss_system::{MOST_SIGNALS, SYSTEMS, System};
 use obs_epoch::SignalCounts;
 use option_texts::OutputLine;
 use rtcm_bits::{Counted, Deliver};
 use std::alloc::Global;
 use std::io::Read;
 
-/// Room for a line of each signal, of at most 26 bytes.
-const TEXT_BYTES: usize = 2_048;
+/// The most bytes of the line of a signal.
+const SIGNAL_BYTES: usize = 26;
+
+/// Room for the lines of as many signals of each system as any has.
+const TEXT_BYTES: usize = SIGNAL_BYTES * MOST_SIGNALS * SYSTEMS.len();
 
 /// Delivers what waits in the writer, reads a stream, and writes the table of its signals that have
 /// a cell with a value, of one station or of all.
@@ -60,10 +64,10 @@ fn add_systems(text: &mut ArrayVec<u8, TEXT_BYTES>, signal_counts: &SignalCounts
 
 /// Adds a line for each signal of a system that has a cell.
 fn add_lines(text: &mut ArrayVec<u8, TEXT_BYTES>, signal_counts: &SignalCounts, system: System)
-    requires { length text.old.items + 26 * length (table system) ≤ 2_048 }
+    requires { length text.old.items + longest_signal * length (table system) ≤ longest_signals }
     ensures text { (cells : List HeardCell) → AreSignalCounts signal_counts.now cells
         → text.new.items ≡ text.old.items ++ count_lines cells system }
-    ensures short { length text.new.items ≤ length text.old.items + 26 * length (table system) }
+    ensures short { length text.new.items ≤ length text.old.items + longest_signal * length (table system) }
 {
     for index in 0..system.signals() {
         let count = signal_counts.count(system, index);
@@ -78,7 +82,7 @@ fn add_lines(text: &mut ArrayVec<u8, TEXT_BYTES>, signal_counts: &SignalCounts, 
 fn count_line(system: System, index: usize, count: u64) -> OutputLine
     requires { index < length (table system) }
     ensures text { result ≡ count_line (signal_in system index) count }
-    ensures short { length result ≤ 26 }
+    ensures short { length result ≤ longest_signal }
 {
     let mut line = OutputLine::new();
     line.put(&[system.letter()]);

@@ -6,14 +6,15 @@ use Rattle.std.proofs.lemmas.List.{take_all}
 use Rattle.std.proofs.lemmas.List.Sums.{sum_by-append}
 use Rattle.gnss_system.specs.Systems.{systems, before}
 use Rattle.gnss_system.proofs.SystemLaws.{each_system, systems_taken}
+use Rattle.rtcm_inspect.specs.Lines.{longest_signals}
 use Rattle.rtcm_inspect.proofs.signals.add_systems.Goals as goal
 
 -- the bytes of the lines of systems
 abbrev room : List System → ℕ
 room ss = 26 * sum_by (λ s. length (table s)) ss
 
-fits : (s : System) → room (before s) + 26 * length (table s) ≤ 2_048
-fits s = at_most _ _ (each_system (λ s. nat_le (room (before s) + 26 * length (table s)) 2_048) s refl) where
+fits : (s : System) → room (before s) + 26 * length (table s) ≤ longest_signals
+fits s = at_most _ _ (each_system (λ s. nat_le (room (before s) + 26 * length (table s)) longest_signals) s refl) where
   at_most : (a b : ℕ) → nat_le a b ≡ true → a ≤ b
   at_most a b h = grind (arith, h)
 

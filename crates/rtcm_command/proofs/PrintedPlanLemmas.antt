@@ -1,0 +1,201 @@
+-- A conversion with the options that `options` prints for a stream.
+use Rattle.std.specs.Prelude.{◌∷◌, nat_le, false, option_and_then, if◌then◌else◌, nat_lt, true, ◌||◌}
+use Rattle.std.proofs.Common.{suc}
+use Rattle.std.proofs.lemmas.Bool.{lt-ltb}
+use Rattle.std.proofs.lemmas.List.Sums.{count_by-le-length}
+use Rattle.clap.specs.Walk.{one_of}
+use Rattle.gnss_system.specs.declared.system.System.{System}
+use Rattle.gnss_system.specs.declared.system.System.TheVariants.{Glonass}
+use Rattle.gnss_system.specs.Satellites.{name_of}
+use Rattle.gnss_system.specs.SystemValues.{tabulate}
+use Rattle.gnss_obs.specs.Channels.{no_channels}
+use Rattle.gnss_obs.specs.Plans.{is_nil, plan_of, with_channels}
+use Rattle.gnss_obs.specs.Values.{PlanValue, plan_with, planned_of}
+use Rattle.gnss_obs.specs.Weeks.{week, weeks}
+use Rattle.rtcm_msg.specs.Station.{InRange}
+use Rattle.rtcm_msg.specs.declared.number.Forms.{Forms}
+use Rattle.rtcm_msg.specs.declared.number.Forms.TheVariants as forms
+use Rattle.rtcm_msg.specs.declared.number.MsmSet.{MsmSet}
+use Rattle.rtcm_msg.specs.declared.station.StationParts.{StationParts}
+use Rattle.rtcm_scan.specs.Frames.{Framed}
+use Rattle.obs_epoch.specs.Epochs.{values_from}
+use Rattle.obs_epoch.specs.Kinds.{default_leap}
+use Rattle.obs_epoch.specs.Sets.{is_always_decoded, is_decoded, set_of}
+use Rattle.option_texts.specs.ChannelTexts.{channels_text}
+use Rattle.option_texts.specs.LeapSeconds.{leap_at, leap_months, month_number}
+use Rattle.gnss_obs.specs.Dates.{civil_of}
+use Rattle.rtcm_inspect.specs.ChannelLaws.{HasChannels}
+use Rattle.rtcm_inspect.specs.FirstMessages.{first_station}
+use Rattle.rtcm_inspect.specs.FirstTows.{first_tow}
+use Rattle.rtcm_inspect.specs.Fitting.{options_line}
+use Rattle.rtcm_inspect.specs.NearWeek.{IsWeekFor, IsWeekNear}
+use Rattle.rtcm_inspect.specs.OptionOutput.{leap_near}
+use Rattle.rtcm_inspect.specs.SignalLaws.{AreReadAsPlan}
+use Rattle.rtcm_inspect.specs.Signals.{codes_word, forms_had, had, plan_in, set_had, valued_in}
+use Rattle.rtcm_inspect.specs.StreamChannels.{channels_in}
+use Rattle.rtcm_inspect.specs.WeekLaws.{IsDatedByWeek, IsLeapFree}
+use Rattle.rtcm_convert.specs.SetupValues.{start_value}
+use Rattle.rtcm_command.specs.PrintedPlan.{AreOptionsNear, ArePrintedWords, IsDatedAsPrinted, IsDatedNear, IsStartedAsFound, StartsAsFound, leap_option}
+use Rattle.rtcm_command.proofs.PrintedWordsLemmas.{AreAsPrinted, as_printed, channels_option, forms_text, signals_text}
+use Rattle.rtcm_command.specs.SetupOptions.{IsPlanSet}
+use Rattle.rtcm_command.specs.StationLaws.{AreChannelsSet, AreLeapSecondsRead, AreReadAsStation, AreZeroByDefault, IsStationRead, IsWeekRead}
+use Rattle.rtcm_command.proofs.Names.{ChannelsValue, IsNumberOf, IsWeekSet, Row, Start, StationValues, bytes_eq, channels_set, height_text, no_values, plan_set, position_text, text_set, values_set, option_map_or, ◌<◌, ◌≡◌, Bool, IfSome, List, None, Ok, Option, Result, Some, [], ap, ap₂, arith, codes, decimal, inl, inr, length, lit<, option_map, refl, subst, sym, unwrap_or, ℕ, ◌^◌, ◌∙◌}
+
+-- ---- the signals
+
+some_length : (n : ℕ) → nat_lt 0 (suc n) ≡ true
+some_length n = lt-ltb 0 (suc n) (omega arith)
+
+text_of : (b : Bool) (s : System) (l : List ℕ) → (if b || nat_lt 0 (length l) then codes_word s l else codes "none") ≡ codes_word s l
+text_of true s l = refl
+text_of false s [] = refl
+text_of false s (i ∷ is) = ap (λ (b : Bool). if b then codes_word s (i ∷ is) else codes "none") (some_length (length is))
+
+plan_read : (options : List Row) (wanted : Option ℕ) (fs : List Framed) → AreReadAsPlan → 0 < length (valued_in wanted fs)
+    → ((s : System) → text_set options (name_of s) ≡ signals_text (plan_in wanted fs) s)
+    → plan_set options ≡ Ok (plan_with (tabulate (had (valued_in wanted fs))))
+unfolding plan_set
+plan_read options wanted fs read some printed =
+    ap plan_of (λ k. tabulate (λ s. (printed s ∙ text_of (is_always_decoded s) s (planned_of s (plan_in wanted fs))) k)) ∙ read wanted fs some
+
+-- ---- the channels
+
+same_ok : {A E : Type 0} (r : Result A E) (x y : A) → r ≡ Ok x → r ≡ Ok y → x ≡ y
+same_ok r x y e f = cc
+
+channels_printed : (l : List ℕ) (known : ChannelsValue) → is_nil l ≡ false
+    → (if nat_lt 0 (length l) then channels_text (if is_nil l then no_channels else known) else []) ≡ channels_text known
+channels_printed [] known h = absurd (cc h)
+channels_printed (i ∷ is) known h = ap (λ (b : Bool). if b then channels_text known else []) (some_length (length is))
+
+chosen : (l : List ℕ) (channels known : ChannelsValue) → (is_nil l ≡ false → channels ≡ known)
+    → (if is_nil l then no_channels else channels) ≡ (if is_nil l then no_channels else known)
+chosen [] channels known h = refl
+chosen (i ∷ is) channels known h = h refl
+
+-- ---- the forms
+
+forms_read : (f : Forms) (text : List ℕ) → text ≡ forms_text f → (if bytes_eq text (codes "all") then forms.All else forms.FourAndSeven) ≡ f
+forms_read forms.All text e = ap (λ (t : List ℕ). if bytes_eq t (codes "all") then forms.All else forms.FourAndSeven) e
+forms_read forms.FourAndSeven text e = ap (λ (t : List ℕ). if bytes_eq t (codes "all") then forms.All else forms.FourAndSeven) e
+
+-- ---- the station, the week and the leap seconds
+
+station_read : (options : List Row) (wanted found : Option ℕ) → IsStationRead → IfSome wanted (λ n. n < 2 ^ 16)
+    → one_of (codes "station") options ≡ option_map decimal wanted → IsNumberOf 16 (one_of (codes "station") options) found → found ≡ wanted
+station_read options None found read small is h = subst (λ (t : Option (List ℕ)). IsNumberOf 16 t found) is h
+station_read options (Some n) found read small is h = read options n found small is h
+
+near_small : (noon tow n : ℕ) → IsWeekNear noon tow n → n < weeks
+near_small noon tow n (inl (small, near)) = small
+near_small noon tow n (inr (inl (zero, late))) = omega (arith, zero)
+near_small noon tow n (inr (inr (last, early))) = omega (arith, last)
+
+week_small : (near tow : Option ℕ) (n : ℕ) → IsWeekFor near tow (Some n) → n < weeks
+week_small None tow n h = cc
+week_small (Some noon) None n h = cc
+week_small (Some noon) (Some tow) n (m, is, near) = let same : n ≡ m = cc in subst (λ (k : ℕ). k < weeks) (sym same) (near_small noon tow m near)
+
+week_read : (options : List Row) (near tow w : Option ℕ) (m : ℕ) → IsWeekRead → IsWeekFor near tow w → IfSome w (λ n. text_set options (codes "week") ≡ decimal n)
+    → IsWeekSet options m → IfSome w (λ n. m ≡ n)
+week_read options near tow None m read is text set = tt
+week_read options near tow (Some n) m read is text set = (read options n m (week_small near tow n is) text).0 set
+
+leap_small : (t : ℕ) → leap_at t < 256
+leap_small t = omega (arith, count_by-le-length (λ m. nat_le m (month_number (civil_of t).year (civil_of t).month)) leap_months)
+
+leap_fits : (b : Bool) (near : Option ℕ) → (if b then unwrap_or (option_map leap_at near) default_leap else default_leap) < 2 ^ 8
+leap_fits true (Some t) = leap_small t
+leap_fits true None = lit< tt
+leap_fits false near = lit< tt
+
+-- ---- the station values
+
+values_read : (options : List Row) (first : Option StationParts) (found : StationValues) → AreReadAsStation → AreZeroByDefault → IfSome first InRange
+    → text_set options (codes "position") ≡ option_map_or position_text first (codes "0,0,0")
+    → text_set options (codes "antenna-height") ≡ height_text (option_and_then (λ s. s.height) first)
+    → values_set options ≡ Ok found → found ≡ option_map_or (λ s. values_from s 0) first no_values
+values_read options None found read zero range position height is = same_ok (values_set options) found no_values is (zero options position height)
+values_read options (Some s) found read zero range position height is = same_ok (values_set options) found (values_from s 0) is (read options s range position height)
+
+-- ---- the setup
+
+-- the laws of what is read
+pub record ReadLaws : Type 0 where
+  pub plan : AreReadAsPlan
+  pub channels : AreChannelsSet
+  pub some_channels : HasChannels
+  pub station : IsStationRead
+  pub week : IsWeekRead
+  pub leap : AreLeapSecondsRead
+  pub position : AreReadAsStation
+  pub zero : AreZeroByDefault
+  pub range : (wanted : Option ℕ) (fs : List Framed) → IfSome (first_station wanted fs) InRange
+
+plan_found : ReadLaws → (options : List Row) (plan : PlanValue) (wanted : Option ℕ) (fs : List Framed) → 0 < length (valued_in wanted fs)
+    → ((s : System) → text_set options (name_of s) ≡ signals_text (plan_in wanted fs) s)
+    → text_set options (codes "glonass-channels") ≡ channels_option (plan_in wanted fs) → IsPlanSet options plan → plan ≡ plan_in wanted fs
+plan_found laws options plan wanted fs some signals channels (p, set, plan_is, set_is, is) =
+    let found : PlanValue = plan_with (tabulate (had (valued_in wanted fs))) in
+    let same : p ≡ found = same_ok (plan_set options) p found plan_is (plan_read options wanted fs laws.plan some signals) in
+    let known : is_nil (had (valued_in wanted fs) Glonass) ≡ false → set ≡ channels_in wanted fs =
+    λ some. same_ok (channels_set options) set (channels_in wanted fs) set_is
+    (laws.channels options (channels_in wanted fs) (laws.some_channels wanted fs) (channels ∙ channels_printed (had (valued_in wanted fs) Glonass) (channels_in wanted fs) some)) in
+    is ∙ ap (λ (q : PlanValue). with_channels q set) same
+    ∙ ap (λ (c : ChannelsValue). record (plan_with (tabulate (had (valued_in wanted fs)))) { channels = c }) (chosen (had (valued_in wanted fs) Glonass) set (channels_in wanted fs) known)
+
+pub started_as_found : ReadLaws → IsStartedAsFound
+started_as_found laws options near w wanted fs x are start =
+    let printed : AreAsPrinted options w (option_map leap_at near) wanted fs = as_printed options w (option_map leap_at near) wanted fs are.printed in
+    record {
+  plan = plan_found laws options x.setup.plan wanted fs are.some printed.signals printed.channels start.setup.plan;
+  forms = start.forms ∙ forms_read (forms_had wanted fs) (text_set options (codes "msm")) printed.forms;
+  station = station_read options wanted x.setup.station laws.station are.station printed.station start.setup.station;
+  week = week_read options near (first_tow (leap_near near) (set_had wanted fs) wanted fs) w x.setup.start_week laws.week are.week printed.week start.setup.week;
+  leap_seconds = laws.leap options (leap_option (option_map leap_at near) (plan_in wanted fs)) x.options.leap_seconds (leap_fits (is_decoded (plan_in wanted fs) Glonass) near) printed.leap_seconds start.leap;
+  initial = values_read options (first_station wanted fs) x.options.initial laws.position laws.zero (laws.range wanted fs) printed.position printed.height start.initial;
+}
+
+-- ---- the first time
+
+-- the laws of the week
+pub record DateLaws : Type 0 where
+  pub free : IsLeapFree
+  pub dated : IsDatedByWeek
+  pub small : (leap : ℕ) (set : MsmSet) (wanted : Option ℕ) (fs : List Framed) (tow : ℕ) → first_tow leap set wanted fs ≡ Some tow → tow < week
+
+-- without GLONASS the leap seconds don't matter
+same_first : IsLeapFree → (noon leap : ℕ) (wanted : Option ℕ) (fs : List Framed) → leap ≡ leap_option (Some (leap_at noon)) (plan_in wanted fs)
+    → first_tow leap (set_had wanted fs) wanted fs ≡ first_tow (leap_at noon) (set_had wanted fs) wanted fs
+same_first free noon leap wanted fs is = by (is_decoded (plan_in wanted fs) Glonass) refl where
+  by : (b : Bool) → is_decoded (plan_in wanted fs) Glonass ≡ b → first_tow leap (set_had wanted fs) wanted fs ≡ first_tow (leap_at noon) (set_had wanted fs) wanted fs
+  by true decoded = ap (λ (n : ℕ). first_tow n (set_had wanted fs) wanted fs) (is ∙ ap (λ (b : Bool). if b then leap_at noon else default_leap) decoded)
+  by false decoded = free (set_had wanted fs) leap (leap_at noon) wanted fs decoded
+
+week_of_start : (noon tow start : ℕ) (w : Option ℕ) → IsWeekFor (Some noon) (Some tow) w → IfSome w (λ n. start ≡ n) → IsWeekNear noon tow start
+week_of_start noon tow start None (n, is, near) found = cc
+week_of_start noon tow start (Some m) (n, is, near) found = let same : start ≡ n = cc in subst (λ (k : ℕ). IsWeekNear noon tow k) (sym same) near
+
+-- the first time of a conversion that starts as found
+first_dated : DateLaws → (noon : ℕ) (w wanted : Option ℕ) (fs : List Framed) (x : Start) → StartsAsFound x w (Some (leap_at noon)) wanted fs
+    → IsWeekFor (Some noon) (first_tow (leap_at noon) (set_had wanted fs) wanted fs) w → IsDatedNear noon x wanted fs
+first_dated laws noon w wanted fs x found is tow first =
+    let near : IsWeekNear noon tow x.setup.start_week = week_of_start noon tow x.setup.start_week w (subst (λ (t : Option ℕ). IsWeekFor (Some noon) t w) first is) found.week in
+    let set : set_of x.setup.plan x.options.forms ≡ set_had wanted fs = ap₂ set_of found.plan found.forms in
+    let tow_is : first_tow x.options.leap_seconds (set_of x.setup.plan x.options.forms) x.setup.station fs ≡ Some tow =
+    ap₂ (λ (m : MsmSet) (o : Option ℕ). first_tow x.options.leap_seconds m o fs) set found.station ∙ same_first laws.free noon x.options.leap_seconds wanted fs found.leap_seconds ∙ first in (
+      x.setup.start_week,
+      near,
+      laws.dated (start_value x).set (start_value x).gather fs tow (near_small noon tow x.setup.start_week near)
+          (laws.small (leap_at noon) (set_had wanted fs) wanted fs tow first) tow_is,
+    )
+
+pub dated_as_printed : ReadLaws → DateLaws → IsDatedAsPrinted
+dated_as_printed read laws options noon w wanted fs x are start =
+    first_dated laws noon w wanted fs x (started_as_found read options (Some noon) w wanted fs x are start) are.week
+
+-- ---- the line
+
+pub words_printed : ArePrintedWords
+unfolding options_line
+words_printed w leap wanted fs = refl

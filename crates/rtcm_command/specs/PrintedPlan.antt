@@ -1,0 +1,116 @@
+-- A conversion with the options that `options` prints for a stream.
+use Rattle.std.specs.Prelude.{◌≡◌, ◌+◌, ◌*◌, ◌<◌, ◌^◌, ◌==◌, Bool, ℕ, List, [], ◌∷◌, ◌++◌, codes, length, option_map}
+use Rattle.std.specs.Prelude.{Option, Some, None, IfSome, unwrap_or, if◌then◌else◌}
+use Rattle.std.specs.List.{list_any}
+use Rattle.std.specs.Option.{option_map_or, option_or}
+use Rattle.std.specs.Str.{bytes_eq}
+use Rattle.clap.specs.Walk.{Row, one_of}
+use Rattle.gnss_system.specs.declared.system.System.{System}
+use Rattle.gnss_system.specs.declared.system.System.TheVariants.{Gps, Galileo, Glonass}
+use Rattle.gnss_system.specs.Satellites.{name_of}
+use Rattle.gnss_obs.specs.Values.{PlanValue, no_values}
+use Rattle.gnss_obs.specs.Weeks.{week}
+use Rattle.rtcm_scan.specs.Frames.{Framed}
+use Rattle.obs_epoch.specs.Epochs.{values_from}
+use Rattle.obs_epoch.specs.Kinds.{default_leap}
+use Rattle.obs_epoch.specs.Sets.{is_decoded}
+use Rattle.obs_epoch.specs.Times.{timed}
+use Rattle.option_texts.specs.LeapSeconds.{leap_at}
+use Rattle.option_texts.specs.Lines.{line}
+use Rattle.rtcm_inspect.specs.FirstMessages.{first_station}
+use Rattle.rtcm_inspect.specs.FirstTows.{first_tow}
+use Rattle.rtcm_inspect.specs.Fitting.{option_words, options_text}
+use Rattle.rtcm_inspect.specs.NearWeek.{IsWeekFor, IsWeekNear}
+use Rattle.rtcm_inspect.specs.OptionOutput.{leap_near}
+use Rattle.rtcm_inspect.specs.Signals.{forms_had, plan_in, set_had, valued_in}
+use Rattle.rtcm_inspect.specs.WeekLaws.{first_time}
+use Rattle.rtcm_convert.specs.Converted.{messages_of}
+use Rattle.rtcm_convert.specs.SetupValues.{Start, start_value}
+use Rattle.rtcm_command.specs.SetupOptions.{IsStartOf, text_set}
+
+-- ---- the options that words give
+
+-- a word has a `=`
+abbrev pub has_equals : List ℕ → Bool
+has_equals w = list_any (λ b. b == 0x3D) w
+
+-- what follows a prefix of a text
+abbrev pub after_prefix : (prefix text : List ℕ) → Option (List ℕ)
+after_prefix [] text = Some text
+after_prefix (a ∷ prefix) [] = None
+after_prefix (a ∷ prefix) (b ∷ text) = if a == b then after_prefix prefix text else None
+
+-- The value of an option in words. The value of each option is in its word after a `=`, or else it is the next word.
+abbrev pub given : (name : List ℕ) → List (List ℕ) → Option (List ℕ)
+given name [] = None
+given name (w ∷ []) = after_prefix (codes "--" ++ (name ++ codes "=")) w
+given name (w ∷ v ∷ ws) =
+    if has_equals w then option_or (after_prefix (codes "--" ++ (name ++ codes "=")) w) (given name (v ∷ ws))
+    else (if bytes_eq w (codes "--" ++ name) then Some v else given name ws)
+
+-- the default of the signals of a system
+abbrev pub default_signals : System → List ℕ
+default_signals Gps = codes "all"
+default_signals Galileo = codes "all"
+default_signals other = codes "none"
+
+-- The options of a conversion have the values that words give to them, and else their defaults.
+pub record HaveValues (options : List Row) (words : List (List ℕ)) : Type 0 where
+  pub week : IfSome (given (codes "week") words) (λ t. text_set options (codes "week") ≡ t)
+  pub station : one_of (codes "station") options ≡ given (codes "station") words
+  pub signals : (s : System) → text_set options (name_of s) ≡ unwrap_or (given (name_of s) words) (default_signals s)
+  pub channels : text_set options (codes "glonass-channels") ≡ unwrap_or (given (codes "glonass-channels") words) []
+  pub leap_seconds : one_of (codes "leap-seconds") options ≡ Some (unwrap_or (given (codes "leap-seconds") words) (codes "18"))
+  pub forms : text_set options (codes "msm") ≡ unwrap_or (given (codes "msm") words) (codes "4,7")
+  pub position : text_set options (codes "position") ≡ unwrap_or (given (codes "position") words) (codes "0,0,0")
+  pub height : text_set options (codes "antenna-height") ≡ unwrap_or (given (codes "antenna-height") words) (codes "0")
+
+-- the words that `options` prints for these frames with this week, these leap seconds and this station
+abbrev pub printed_words : (w leap wanted : Option ℕ) → List Framed → List (List ℕ)
+printed_words w leap wanted fs =
+    option_words w leap wanted (plan_in wanted fs) (forms_had wanted fs) (first_station wanted fs)
+
+-- ---- the conversion
+
+-- the leap seconds, which are printed with signals of GLONASS if they are known; else the default
+abbrev pub leap_option : (leap : Option ℕ) → PlanValue → ℕ
+leap_option leap p = if is_decoded p Glonass then unwrap_or leap default_leap else default_leap
+
+-- A conversion starts with what `options` found in these frames: the plan with its channels, the forms, the station,
+-- the week, the leap seconds, and the values of the first station message, which are 0 without one.
+pub record StartsAsFound (x : Start) (w leap wanted : Option ℕ) (fs : List Framed) : Type 0 where
+  pub plan : x.setup.plan ≡ plan_in wanted fs
+  pub forms : x.options.forms ≡ forms_had wanted fs
+  pub station : x.setup.station ≡ wanted
+  pub week : IfSome w (λ n. x.setup.start_week ≡ n)
+  pub leap_seconds : x.options.leap_seconds ≡ leap_option leap (plan_in wanted fs)
+  pub initial : x.options.initial ≡ option_map_or (λ s. values_from s 0) (first_station wanted fs) no_values
+
+-- its first accepted message is the first MSM that it decodes, in the week nearest to the noon of the date
+abbrev pub IsDatedNear : (noon : ℕ) → Start → (wanted : Option ℕ) → List Framed → Type 0
+IsDatedNear noon x wanted fs = (tow : ℕ) → first_tow (leap_near (Some noon)) (set_had wanted fs) wanted fs ≡ Some tow
+    → (n : ℕ) × IsWeekNear noon tow n
+    × (first_time (timed (start_value x).gather (messages_of (start_value x) fs)) ≡ Some (n * week + tow))
+
+-- The week is the one that `options` prints near a date, and the options are as printed.
+pub record AreOptionsNear (options : List Row) (near w wanted : Option ℕ) (fs : List Framed) : Type 0 where
+  pub station : IfSome wanted (λ n. n < 2 ^ 16)
+  pub some : 0 < length (valued_in wanted fs)
+  pub week : IsWeekFor near (first_tow (leap_near near) (set_had wanted fs) wanted fs) w
+  pub printed : HaveValues options (printed_words w (option_map leap_at near) wanted fs)
+
+-- ---- laws
+
+-- the line that `options` prints has these words
+abbrev pub ArePrintedWords : Type 0
+ArePrintedWords = (w leap wanted : Option ℕ) (fs : List Framed)
+    → options_text w leap wanted fs ≡ line (printed_words w leap wanted fs)
+
+abbrev pub IsStartedAsFound : Type 0
+IsStartedAsFound = (options : List Row) (near w wanted : Option ℕ) (fs : List Framed) (x : Start)
+    → AreOptionsNear options near w wanted fs → IsStartOf options x
+    → StartsAsFound x w (option_map leap_at near) wanted fs
+
+abbrev pub IsDatedAsPrinted : Type 0
+IsDatedAsPrinted = (options : List Row) (noon : ℕ) (w wanted : Option ℕ) (fs : List Framed) (x : Start)
+    → AreOptionsNear options (Some noon) w wanted fs → IsStartOf options x → IsDatedNear noon x wanted fs
