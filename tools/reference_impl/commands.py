@@ -163,17 +163,26 @@ def option_line(data: bytes, station: int | None, noon: int | None = None, numbe
 
 
 def convert(data: bytes, setup: Setup, texts: dict[str, str], has_ended: bool = True) -> tuple[list[str], Report]:
-    """Returns the lines of the file and the report, or, of a stream that goes on, those of its closed epochs."""
+    """Returns the lines of the file and the report, or, of a stream that goes on, those of its closed epochs.
+
+    Raises the fault of a stream that has ended and has no epoch to be written.
+    """
     frames = frames_of(data)
     messages = messages_of(frames, setup.numbers())
     gathered = Gathered(setup, messages)
     lines: list[str] = []
     closed = [time for time in gathered.times if has_ended or gathered.closing(time) < len(messages)]
-    written = [(time, epoch) for time in closed if (epoch := epoch_lines(gathered, time))]
+    valued = [time for time in closed if epoch_lines(gathered, time)]
+    chosen = [time for time in valued if setup.choice.includes(time)]
+    if has_ended and not chosen:
+        window = sum(map(setup.choice.in_window, valued))
+        grid = sum(map(setup.choice.on_grid, valued))
+        raise Fault(f"NoneChosen epochs {len(valued)} window {window} grid {grid}" if valued else "NoEpoch")
+    written = [(time, epoch_lines(gathered, time)) for time in chosen]
     values = [gathered.station_values(time) for time, _ in written]
     for place, (time, epoch) in enumerate(written):
         if place == 0:
-            lines += header(texts, setup.plan, values[0], time, setup.channels)
+            lines += header(texts, setup.plan, values[0], time, setup.channels, setup.choice.interval)
         elif values[place] != values[place - 1]:
             lines += event_lines(values[place])
         lines += epoch

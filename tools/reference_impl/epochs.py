@@ -14,6 +14,25 @@ StationValues = tuple[tuple[int, int, int], int]
 NO_VALUES: StationValues = ((0, 0, 0), 0)
 
 
+@dataclass(frozen=True)
+class Choice:
+    """The epochs that are written: times in ms from 1980-01-06, an interval, if there is one, and a tolerance in ms."""
+
+    start: int = 0
+    until: int = LAST_WEEK * WEEK + 1000
+    interval: int | None = None
+    tolerance: int = 5
+
+    def in_window(self, time: int) -> bool:
+        return self.start <= time + self.tolerance < self.until
+
+    def on_grid(self, time: int) -> bool:
+        return self.interval is None or (time + self.tolerance) % self.interval <= 2 * self.tolerance
+
+    def includes(self, time: int) -> bool:
+        return self.in_window(time) and self.on_grid(time)
+
+
 @dataclass
 class Setup:
     week: int
@@ -27,6 +46,7 @@ class Setup:
     # GPS time less UTC, and the channels, of GLONASS
     leap_seconds: int = 18
     channels: Channels = field(default_factory=dict)
+    choice: Choice = Choice()
 
     def numbers(self) -> set[int]:
         """Returns the numbers of the MSMs that are decoded: of GPS and Galileo in any case."""
@@ -119,19 +139,36 @@ class Gathered:
         return self.kept_cells[time]
 
     def lli(self, time: int, cell: Cell) -> int:
-        """Returns the loss-of-lock indicator of a kept cell.
+        """Returns the loss-of-lock indicator of a kept cell of an epoch that is written."""
+        if cell.phase is None:
+            return 0
+        return int(self.is_lost(time, cell) or self.was_lost(time, cell.key)) + 2 * cell.half_cycle
+
+    def was_lost(self, time: int, key: Key) -> bool:
+        """Returns whether lock was lost at a cell of the key since the latest earlier epoch on the grid in which it has
+        a phase."""
+        for then in reversed([then for then in self.times if then < time]):
+            cell = self.kept(then).get(key)
+            if cell is None or cell.phase is None:
+                continue
+            if self.setup.choice.on_grid(then):
+                return False
+            if self.is_lost(then, cell):
+                return True
+        return False
+
+    def is_lost(self, time: int, cell: Cell) -> bool:
+        """Returns whether lock was lost at a kept cell with a phase.
 
         Its reference is the latest earlier kept cell of the same satellite and signal with a phase and a known lock.
         """
-        if cell.phase is None:
-            return 0
         is_lost = False
         before = [then for then in self.times if then < time and has_lock(self.kept(then).get(cell.key))]
         if cell.least is not None and before:
             then = max(before)
             is_less = cell.least < self.kept(then)[cell.key].least
             is_lost = is_less or cell.upper is not None and cell.upper <= time - then
-        return int(is_lost) + 2 * cell.half_cycle
+        return is_lost
 
     def station_values(self, time: int) -> StationValues:
         """Returns the coordinates and the antenna height known when the epoch is closed."""

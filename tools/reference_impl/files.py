@@ -5,20 +5,22 @@ from datetime import datetime, timedelta
 
 from .lines import fixed, header_line, slot_line, station_lines, type_lines
 from .messages import CHANNELS, NUMBER_OFFSETS, SATELLITES, SIGNALS
-from .options import MOST, Fault
+from .options import MOST, Fault, is_interval
 
 MOST_BYTES = 1220
 LAST_TIME = 100_000 * 604_800_000
 EPOCH = re.compile(r"> (\d{4}(?: \d\d){4})([ \d]{2}\d\.\d{7})  0([ \d]{3})", re.ASCII)
 EVENT = f">{'':30}4  2"
-# The texts of the header lines 2 to 7, each with the blanks up to its label.
+# The lines of texts of the header, each with the blanks up to its label, and whether each header has it.
 TEXT_LINES = [
-    ("rtcm2rinex          [ -~]{40}", "PGM / RUN BY / DATE"),
-    ("[ -~]{60}", "MARKER NAME"),
-    ("[ -~]{20} {40}", "MARKER TYPE"),
-    ("[ -~]{60}", "OBSERVER / AGENCY"),
-    ("[ -~]{60}", "REC # / TYPE / VERS"),
-    ("[ -~]{40} {20}", "ANT # / TYPE"),
+    ("rtcm2rinex          [ -~]{40}", "PGM / RUN BY / DATE", True),
+    ("(?! {60})[ -~]{60}", "COMMENT", False),
+    ("[ -~]{60}", "MARKER NAME", True),
+    ("(?! {60})[ -~]{20} {40}", "MARKER NUMBER", False),
+    ("[ -~]{20} {40}", "MARKER TYPE", True),
+    ("[ -~]{60}", "OBSERVER / AGENCY", True),
+    ("[ -~]{60}", "REC # / TYPE / VERS", True),
+    ("[ -~]{40} {20}", "ANT # / TYPE", True),
 ]
 
 
@@ -61,6 +63,10 @@ class File:
             raise ValueError
         line, self.place = self.data[self.place : end], end + 1
         return line
+
+    def has_next(self, label: str) -> bool:
+        """Returns whether the next line ends with a label of the header."""
+        return self.data[self.place : self.place + 81].endswith(f"{label:<20}\n")
 
     def expect(self, is_right: bool) -> None:
         if not is_right:
@@ -132,7 +138,9 @@ class File:
         front = f"{'3.05':>9}{'':11}{'OBSERVATION DATA':<20}"
         kinds = [letter for letter in [*SIGNALS, "M"] if kind == header_line(front + letter, "RINEX VERSION / TYPE")]
         self.expect(kinds != [])
-        for text, label in TEXT_LINES:
+        for text, label, is_always_there in TEXT_LINES:
+            if not is_always_there and not self.has_next(label):
+                continue
             self.expect(re.fullmatch(text + re.escape(label.ljust(20)), self.take()) is not None)
         self.values = self.station_line(0)
         self.values += self.station_line(1)
@@ -141,6 +149,10 @@ class File:
         else:
             self.types(kinds[0])
         self.expect(self.take() == header_line("DBHZ", "SIGNAL STRENGTH UNIT"))
+        if self.has_next("INTERVAL"):
+            line = self.take()
+            interval = units(line[:10], 3)
+            self.expect(is_interval(interval) and line == header_line(line[:10], "INTERVAL"))
         first = self.take()
         date = [int(first[n : n + 6]) for n in range(0, 30, 6)]
         self.first = time_of(date, first[30:43])

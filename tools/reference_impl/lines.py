@@ -112,8 +112,18 @@ def glonass_lines(channels: Channels) -> list[str]:
     return [*lines, header_line("", "GLONASS COD/PHS/BIS")]
 
 
+def optional_line(text: str, label: str) -> list[str]:
+    """Returns the line of a text of a header, if it isn't blank."""
+    return [header_line(text, label)] if text.rstrip(" ") else []
+
+
 def header(
-    texts: dict[str, str], plan: Plan, values: StationValues, first: int, channels: Channels | None = None
+    texts: dict[str, str],
+    plan: Plan,
+    values: StationValues,
+    first: int,
+    channels: Channels | None = None,
+    interval: int | None = None,
 ) -> list[str]:
     systems = [system for system in plan if plan[system]]
     kind = systems[0] if len(systems) == 1 else "M"
@@ -123,7 +133,9 @@ def header(
     return [
         header_line(f"{'3.05':>9}{'':11}{'OBSERVATION DATA':<20}{kind}", "RINEX VERSION / TYPE"),
         header_line(f"{'rtcm2rinex':<20}{cells['run_by']}{cells['date']}", "PGM / RUN BY / DATE"),
+        *optional_line(cells["comment"], "COMMENT"),
         header_line(cells["marker"], "MARKER NAME"),
+        *optional_line(cells["marker_number"], "MARKER NUMBER"),
         header_line(cells["marker_type"], "MARKER TYPE"),
         header_line(cells["observer"] + cells["agency"], "OBSERVER / AGENCY"),
         header_line(cells["rec_number"] + cells["rec_type"] + cells["rec_version"], "REC # / TYPE / VERS"),
@@ -131,6 +143,7 @@ def header(
         *station_lines(values),
         *type_lines(plan),
         header_line("DBHZ", "SIGNAL STRENGTH UNIT"),
+        *([] if interval is None else [header_line(fixed(interval, 3).rjust(10), "INTERVAL")]),
         header_line(f"{day}{seconds:>13}     GPS", "TIME OF FIRST OBS"),
         *(header_line(system, "SYS / PHASE SHIFT") for system in systems),
         *(glonass_lines(channels or {}) if "R" in systems else []),

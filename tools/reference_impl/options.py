@@ -2,11 +2,12 @@
 import re
 from datetime import date
 
-from .epochs import LAST_WEEK, Plan, StationValues
+from .epochs import LAST_WEEK, Choice, Plan, StationValues
 from .messages import CHANNELS, DAY, SATELLITES, SIGNALS, Channels
 
 # The texts of the header in the order in which they are judged, with their columns.
-COLUMNS = {"run_by": 20, "date": 20, "marker": 60, "marker_type": 20, "observer": 20, "agency": 40}
+COLUMNS = {"run_by": 20, "date": 20, "comment": 60, "marker": 60, "marker_number": 20, "marker_type": 20}
+COLUMNS |= {"observer": 20, "agency": 40}
 COLUMNS |= dict.fromkeys("rec_number rec_type rec_version ant_number ant_type".split(), 20)
 MOST = 1 << 37
 # The options of the systems' signals, in the order of a file.
@@ -14,6 +15,7 @@ OPTION_NAMES = {"G": "gps", "E": "galileo", "R": "glonass", "C": "beidou", "J": 
 # The forms of MSM by the text of the option `--msm`.
 FORMS_OF = {"4,7": (4, 7), "all": (4, 5, 6, 7)}
 DATES = "a date yyyy-mm-dd, 1980-01-06 to 3896-07-18"
+TIMES = "TIME: a date yyyy-mm-dd or a time yyyy-mm-ddThh:mm:ss, 1980-01-06 to 3896-07-18"
 WEEK = "WEEK: a GPS week, 0 to 99999, or " + DATES
 POSITION = "X,Y,Z: metres, up to 8 digits and 4 decimals each, -13743895.3472 to 13743895.3471"
 SLOTS = "SLOT:CHANNEL,..: slots 1 to 27, each once, channels -7 to 6"
@@ -78,13 +80,51 @@ def length_of(text: str) -> int:
     return -size if sign else size
 
 
+def milliseconds_of(text: str) -> int | None:
+    """Returns the number of ms of a text in seconds with up to three decimals."""
+    found = re.fullmatch(r"(\d{1,8})(?:\.(\d{1,3}))?", text, re.ASCII)
+    return int(found[1]) * 1000 + int((found[2] or "").ljust(3, "0")) if found else None
+
+
 def interval_of(text: str) -> int:
     """Returns the interval of the option `--gaps`, in ms."""
-    found = re.fullmatch(r"(\d{1,8})(?:\.(\d{1,3}))?", text, re.ASCII)
-    interval = int(found[1]) * 1000 + int((found[2] or "").ljust(3, "0")) if found else 0
+    interval = milliseconds_of(text) or 0
     if not 0 < interval <= DAY:
         raise Fault("BadGaps --gaps SECONDS: up to 3 decimals, 0.001 to 86400")
     return interval
+
+
+def is_interval(interval: int) -> bool:
+    """Returns whether epochs may have this interval in ms: a divisor of a day of 0.1 s or more."""
+    return 100 <= interval <= DAY and DAY % interval == 0
+
+
+def time_of(text: str, option: str) -> int:
+    """Returns the time of the option `--from` or `--until`, in ms from 1980-01-06."""
+    found = re.fullmatch(r"([0-9-]{10})(?:T(\d\d):(\d\d):(\d\d))?", text, re.ASCII)
+    try:
+        hour, minute, second = map(int, found.groups("0")[1:]) if found else (24, 0, 0)
+        if hour > 23 or minute > 59 or second > 59:
+            raise ValueError(text)
+        return days_of(found[1]) * DAY + ((hour * 60 + minute) * 60 + second) * 1000
+    except ValueError:
+        raise Fault(f"BadDate {option} {TIMES}") from None
+
+
+def choice_of(start: str | None, until: str | None, interval: str | None, tolerance: str | None) -> Choice:
+    """Returns the choice of epochs of the options `--from`, `--until`, `--interval` and `--tolerance`."""
+    choice = Choice()
+    first = choice.start if start is None else time_of(start, "--from")
+    end = choice.until if until is None else time_of(until, "--until")
+    if end <= first:
+        raise Fault("BadWindow --until TIME: later than --from")
+    step = None if interval is None else milliseconds_of(interval) or 0
+    if step is not None and not is_interval(step):
+        raise Fault("BadInterval --interval SECONDS: up to 3 decimals, 0.1 to 86400, a divisor of a day")
+    around = choice.tolerance if tolerance is None else milliseconds_of(tolerance)
+    if around is None or around > 500 or step is not None and 2 * around > step:
+        raise Fault("BadTolerance --tolerance SECONDS: up to 3 decimals, 0 to 0.5, at most half of --interval")
+    return Choice(first, end, step, around)
 
 
 def station_values(position: str, height: str) -> StationValues:
