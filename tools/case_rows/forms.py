@@ -9,7 +9,7 @@ from reference_impl.recode import recoded
 from .common import CONVERT, file_row, inverted, limits, msm, prefixes, row, stream
 
 TOP = Path(__file__).resolve().parent.parent.parent
-GR30 = "cases/input/gr30-2025-02-28.rtcm3"
+GR30 = "cases/input/gr30-2025-04-11.rtcm3"
 STFU = "cases/input/stfu-2016-04-06.rtcm3"
 RECODED_EPOCHS = 3
 ALL = [*CONVERT, "--msm", "all"]
@@ -169,10 +169,10 @@ USAGE = (
 def recording_rows() -> list[dict]:
     """Returns the cases of a recording of MSM5."""
     plan = ["--gps", "1C,2W,2S,5Q", "--galileo", "1C,7Q,8Q,5Q", "--position=4472544.6659,601634.1000,4492545.0279"]
-    with_options = ["convert", "--week", "2355", "--date", "20240204 000001 UTC", *plan, "--antenna-height", "0.0790"]
+    with_options = ["convert", "--week", "2361", "--date", "20240204 000001 UTC", *plan, "--antenna-height", "0.0790"]
     return [
         file_row("gr30-signals", ["signals"], GR30),
-        file_row("gr30-options", ["options", "--near", "2025-03-01"], GR30),
+        file_row("gr30-options", ["options", "--near", "2025-04-12"], GR30),
         file_row("gr30-show", ["show"], GR30),
         file_row("gr30-show-all", ["show", "--all"], GR30, "txt"),
         file_row("gr30-convert-default", with_options, GR30),

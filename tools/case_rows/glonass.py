@@ -56,7 +56,7 @@ def recording_rows() -> list[dict]:
 
     return [
         file_row("zed-f9t-glonass", words(2075, "1C,2C", CHANNELS_2019), SAMPLE, "obs"),
-        file_row("gr30-glonass", words(2355, "1C,2C,2P", CHANNELS_2025, "--msm", "all"), GR30, "obs"),
+        file_row("gr30-glonass", words(2361, "1C,2C,2P", CHANNELS_2025, "--msm", "all"), GR30, "obs"),
         file_row("stfu-glonass", words(1891, "2P", CHANNELS_2016, "--leap-seconds", "17"), STFU, "obs"),
         file_row("stfu-options-near", ["options", "--near", "2016-04-06"], STFU),
         file_row("gmsd7-glonass", words(1709, "1P,1C,2P", CHANNELS_2012, "--leap-seconds", "16"), GMSD7, "obs"),

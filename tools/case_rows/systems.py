@@ -33,7 +33,7 @@ def recording_rows() -> list[dict]:
         "J": [file_row("gmsd7-qzss", ["convert", *of_qzss], GMSD7)],
         "C": [
             file_row("zed-f9t-beidou", ["convert", "--week", "2075", *DATE, *of_beidou, "2I"], SAMPLE),
-            file_row("gr30-beidou", ["convert", "--week", "2355", *DATE, *of_2025], GR30, "obs"),
+            file_row("gr30-beidou", ["convert", "--week", "2361", *DATE, *of_2025], GR30, "obs"),
         ],
         "S": [file_row("stfu-sbas", ["convert", "--week", "1891", *DATE, *NEITHER, "--sbas", "1C,5I"], STFU)],
         "CJ": [
