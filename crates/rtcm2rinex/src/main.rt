@@ -34,9 +34,8 @@ fn run(rt: &HostRuntime) -> io::Result<u8> {
 // be longer.
 fn run_words(rt: &HostRuntime, words: &[&str]) -> io::Result<u8> {
     let alloc: Global = rt.alloc();
-    // Files are read line by line, streams in small pieces, and lines are written one by one. The
-    // buffers avoid a system call for each. The commands deliver what they wrote before they read
-    // more.
+    // `convert` reads a stream in small pieces, and lines are written one by one. The buffers avoid
+    // a system call for each. The commands deliver what they wrote before they read more.
     let input = BufReader::with_capacity(alloc, INPUT_BYTES, rt.stdin())?;
     let mut reader = Counted::new(input);
     let mut writer = Counted::new(Buffered::new(alloc, rt.stdout())?);
