@@ -3,14 +3,15 @@
 from collections.abc import Iterator
 
 from .commands import convert, frame_lines, show_lines
-from .epochs import Setup
+from .epochs import Choice, Setup
 from .files import check_lines
 from .frames import decided_length
-from .options import Fault, plan_of
+from .options import COLUMNS, Fault, plan_of
 
 CONVERT = "convert --week 2075 --date x --gps 1C,2L --galileo 1C,7Q".split()
+EVERY_2 = [*CONVERT, "--interval", "2"]
+CHOICES = {tuple(CONVERT): Choice(), tuple(EVERY_2): Choice(interval=2000)}
 GAPS = "check --gaps 0.5".split()
-TEXTS = "run_by marker observer agency rec_number rec_type rec_version ant_number ant_type".split()
 
 
 def gaps(data: bytes) -> Iterator[str]:
@@ -22,13 +23,14 @@ def gaps(data: bytes) -> Iterator[str]:
 
 
 def decided_output(words: list[str], data: bytes) -> bytes:
-    """Returns what these bytes decide: of CONVERT the file of the closed epochs, of GAPS those of the whole epochs."""
+    """Returns what these bytes decide: of CONVERT and EVERY_2 the file of the closed epochs, of GAPS those of the whole
+    epochs."""
     decided = data[: decided_length(data)]
     if words == GAPS:
         lines = gaps(data)
-    elif words == CONVERT:
-        setup = Setup(2075, None, True, plan_of("1C,2L", "1C,7Q"))
-        texts = dict.fromkeys(TEXTS, "") | {"date": "x", "marker_type": "GEODETIC"}
+    elif choice := CHOICES.get(tuple(words)):
+        setup = Setup(2075, None, True, plan_of("1C,2L", "1C,7Q"), choice=choice)
+        texts = dict.fromkeys(COLUMNS, "") | {"date": "x", "marker_type": "GEODETIC"}
         lines, _ = convert(decided, setup, texts, has_ended=False)
     else:
         lines = {"frames": frame_lines, "show": show_lines}.get(words[0], lambda _: [])(decided)
