@@ -24,7 +24,9 @@ impl Model for Sat {
 
 impl Default for Sat {
     /// Returns satellite 1 of GPS.
-    fn default() -> Sat {
+    fn default() -> Sat
+        ensures { (result.system ≡ System.Gps) × (result.id ≡ 1) }
+    {
         Sat {
             system: System::Gps,
             id: 1,

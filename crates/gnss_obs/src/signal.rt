@@ -1,7 +1,7 @@
 //! Signals of a system, found by signal ID, by RINEX code or by index.
 ghost use Rattle.std.specs.Prelude.{◌≡◌, ◌<◌, ◌≤◌};
 ghost use Rattle.gnss_system.specs.Signals.{SignalAt, IsSignal, signal_at, signal_of_id, signal_of_code, code_of};
-ghost use Rattle.gnss_system.specs.Signals.{hertz_of, most_hertz, id_of, greatest_signal_id};
+ghost use Rattle.gnss_system.specs.Signals.{hertz_of, id_of, greatest_signal_id};
 
 use gnss_system::{NO_ROW, System};
 use std::marker::Model;
@@ -25,7 +25,9 @@ impl Model for Signal {
 
 impl Default for Signal {
     /// Returns the first signal of GPS.
-    fn default() -> Signal {
+    fn default() -> Signal
+        ensures { (result.system ≡ System.Gps) × (result.index ≡ 0) }
+    {
         Signal {
             system: System::Gps,
             index: 0,
@@ -101,7 +103,7 @@ impl Signal {
     pub fn hertz(self) -> u32
         ensures value { result ≡ hertz_of self }
         ensures positive { 0 < result }
-        ensures bound { result ≤ most_hertz }
+        ensures bound { result ≤ 1_602_000_000 }
     {
         self.system.row().signals[self.index as usize].2
     }

@@ -155,9 +155,9 @@ fn read_lines<R: Read>(
 ///
 /// # Errors
 ///
-/// [`ReadFault::Memory`] if memory runs out, and [`ReadFault::Read`] if the reader fails. Otherwise
-/// the fault of the file, with the number of the first line that can't follow;
-/// [`ReadFault::TooLong`] has no number.
+/// [`ReadFault::Memory`] if memory runs out, which it may only at a line of observation types in the
+/// header, and [`ReadFault::Read`] if the reader fails. Otherwise the fault of the file, with the
+/// number of the first line that can't follow; [`ReadFault::TooLong`] has no number.
 pub fn check_file<R: Read>(alloc: Global, reader: &mut Counted<R>) -> Result<Counts, ReadFault>
     // The counts are those of the file whose text is the whole input.
     ensures found { IfOk result (λ n. IsTextWith (AreCounts n) (R.remaining reader.old.inner)) }
