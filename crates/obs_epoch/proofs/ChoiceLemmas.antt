@@ -1,13 +1,13 @@
 -- Laws of the choice of epochs.
-use Rattle.std.proofs.Common.{◌≡◌, ℕ, ◌+◌, ◌<◌, ◌≤◌, ◌*◌, ◌%◌, Bool, true, false, true≢false, ◌&&◌, List, [], ◌∷◌, ◌++◌, filter, map, refl, sym, ap, ap₂, ◌∙◌, subst, arith, Option, Some, None, is_some, IfSome, append-nil, append_assoc, nat_le, nat_lt, if◌then◌else◌, cond}
+use Rattle.std.proofs.Common.{◌≡◌, ℕ, ◌+◌, ◌<◌, ◌≤◌, ◌*◌, ◌%◌, Bool, true, false, true≢false, ◌&&◌, List, [], ◌∷◌, ◌++◌, filter, refl, sym, ap, ap₂, ◌∙◌, arith, Option, Some, None, is_some, IfSome, append_assoc, nat_le, nat_lt, if◌then◌else◌}
 use Rattle.std.specs.List.{AllByRecursion}
 use Rattle.std.specs.Option.{option_map_or}
 use Rattle.std.proofs.lemmas.Grind.{common_steps}
 use Rattle.rtcm_msg.specs.Msm.{week}
 use Rattle.gnss_obs.specs.GatheredEpochs.{TimesRise}
 use Rattle.obs_epoch.specs.declared.choice.Choice.{Choice}
-use Rattle.obs_epoch.specs.Choices.{every_epoch, in_window, is_chosen, nominal, on_grid}
-use Rattle.obs_epoch.specs.GathererHistory.{closed_at, closed_list, closed_list_at, whole_list}
+use Rattle.obs_epoch.specs.Choices.{every_epoch, in_window, is_chosen, on_grid}
+use Rattle.obs_epoch.specs.GathererHistory.{closed_list, closed_list_at, whole_list}
 use Rattle.obs_epoch.specs.Laws.{IsThinnedByChoice, IsWholeByEvery, ReturnsEvery, WindowsAreApart, WindowsJoin, with_every_epoch, with_window}
 use Rattle.obs_epoch.specs.Names.{Closed, GatherSetup, Heard, Timed, closed_times, is_shut, taken_at, timed, timed_after, times, weeks}
 use Rattle.obs_epoch.specs.Thinning.{lost_before, marked_after, thin, thin_after}

@@ -1,5 +1,5 @@
 -- The entries of lost lock after one more epoch.
-use Rattle.std.proofs.Common.{◌≡◌, ℕ, zero, suc, ◌+◌, ◌==◌, ◌%◌, ◌<◌, Bool, true, false, not, ◌&&◌, ◌||◌, List, [], ◌∷◌, ◌++◌, map, filter, flat_map, fold, length, get_or, set, replicate, refl, sym, ap, ap₂, ◌∙◌, subst, arith, Option, Some, None, is_some, if◌then◌else◌, length-set}
+use Rattle.std.proofs.Common.{◌≡◌, ℕ, zero, suc, ◌+◌, ◌==◌, ◌%◌, ◌<◌, Bool, true, false, not, ◌&&◌, ◌||◌, List, [], ◌∷◌, ◌++◌, map, flat_map, length, get_or, set, replicate, refl, sym, ap, ap₂, ◌∙◌, subst, arith, is_some, if◌then◌else◌, length-set}
 use Rattle.std.specs.List.{list_any}
 use Rattle.std.proofs.lemmas.List.{length-replicate}
 use Rattle.std.proofs.lemmas.Grind.{common_steps}
@@ -7,9 +7,9 @@ use Rattle.gnss_system.proofs.SystemLaws.{value_after, value_tabulated, with_sam
 use Rattle.gnss_system.specs.Systems.{systems}
 use Rattle.obs_epoch.specs.declared.choice.Choice.{Choice}
 use Rattle.obs_epoch.specs.Choices.{on_grid}
-use Rattle.obs_epoch.specs.Marks.{AreMarks, carried_from, carried_to, is_lost_in, mark_at, no_marks, note_losses, note_lost, note_systems_lost, with_mark_in}
-use Rattle.obs_epoch.specs.Names.{Cell, Closed, EpochValue, HeardCell, System, cells_of, has_listed_key, has_same_key, heard_cell, lock_place, most_locks}
-use Rattle.obs_epoch.specs.Thinning.{all_cells, ends_carrying, has_cell, has_phase, is_marked, lost_before, mark_if, marked_epoch}
+use Rattle.obs_epoch.specs.Marks.{AreMarks, carried_from, is_lost_in, mark_at, no_marks, note_losses, note_lost, note_systems_lost, with_mark_in}
+use Rattle.obs_epoch.specs.Names.{Cell, Closed, EpochValue, System, cells_of, has_listed_key, has_same_key, heard_cell, lock_place, most_locks}
+use Rattle.obs_epoch.specs.Thinning.{all_cells, has_cell, has_phase, is_marked, lost_before, mark_if, marked_epoch}
 use Rattle.obs_epoch.proofs.PlaceLemmas.{listed_from, place_one, place_within, same_place}
 use Rattle.gnss_obs.specs.Marked.{marked_at, marked_in, with_mark}
 use Rattle.gnss_system.specs.SystemValues.{with_value_of}

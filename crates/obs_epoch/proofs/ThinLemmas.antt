@@ -1,11 +1,10 @@
 -- The epochs that are returned, of all closed ones.
-use Rattle.std.proofs.Common.{◌≡◌, ℕ, suc, ◌+◌, ◌*◌, ◌/◌, ◌<◌, ◌<◌, ◌==◌, ◌%◌, min, Bool, true, false, not, ◌&&◌, ◌||◌, List, [], ◌∷◌, ◌++◌, map, filter, length, refl, sym, ap, ap₂, ◌∙◌, subst, arith, append_assoc, append-nil, length-append, Option, Some, None, is_some, nat_le, nat_lt, if◌then◌else◌, cond}
+use Rattle.std.proofs.Common.{◌≡◌, ℕ, suc, ◌+◌, ◌==◌, ◌%◌, Bool, true, false, ◌&&◌, ◌||◌, List, [], ◌∷◌, ◌++◌, map, filter, length, refl, sym, ap, ap₂, ◌∙◌, arith, append_assoc, append-nil, length-append, is_some, if◌then◌else◌, cond}
 use Rattle.std.specs.List.{AllByRecursion, list_any}
 use Rattle.std.proofs.lemmas.List.Elements.{filter-append}
 use Rattle.std.proofs.lemmas.Grind.{common_steps}
 use Rattle.rtcm_bits.specs.Prefix.{IsPrefix}
 use Rattle.gnss_system.proofs.SystemLaws.{equal_values, tabulated_same, value_tabulated}
-use Rattle.gnss_system.specs.SystemValues.{tabulate, value_of}
 use Rattle.obs_epoch.specs.declared.choice.Choice.{Choice}
 use Rattle.obs_epoch.specs.declared.choice.EpochCounts.{EpochCounts}
 use Rattle.obs_epoch.specs.Choices.{in_window, is_chosen, on_grid}
@@ -13,7 +12,7 @@ use Rattle.obs_epoch.specs.Marks.{capped_counts, counted_epoch}
 use Rattle.obs_epoch.specs.Names.{Cell, Closed, EpochValue, System, cells_of, has_listed_key, has_same_key, heard_cell}
 use Rattle.gnss_obs.specs.Marked.{with_mark}
 use Rattle.obs_epoch.specs.Thinning.{after_latest, all_cells, counts_of_epochs, ends_carrying, has_cell, has_phase, has_satellite, is_marked, lost_before, mark_if, marked_after, marked_epoch, thin, thin_after, up_to_most}
-use Rattle.obs_epoch.proofs.TimesLemmas.{list_any-push, or_false}
+use Rattle.obs_epoch.proofs.TimesLemmas.{list_any-push}
 
 -- ---- more epochs
 

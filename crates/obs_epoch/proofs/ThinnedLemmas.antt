@@ -1,6 +1,5 @@
 -- The epoch closed last, as it is returned.
-use Rattle.std.proofs.Common.{◌≡◌, ℕ, Bool, true, false, true≢false, ◌||◌, ◌&&◌, List, [], ◌∷◌, ◌++◌, refl, sym, ap, ap₂, ◌∙◌, subst, arith, length, Option, Some, None, is_some, IfSome, nat_lt, append-nil, if◌then◌else◌, option_to_list}
-use Rattle.std.proofs.lemmas.Grind.{common_steps}
+use Rattle.std.proofs.Common.{◌≡◌, ℕ, Bool, true, false, true≢false, ◌||◌, ◌&&◌, List, [], ◌∷◌, ◌++◌, refl, sym, ap, ap₂, ◌∙◌, subst, Option, Some, None, is_some, IfSome, nat_lt, append-nil, if◌then◌else◌, option_to_list}
 use Rattle.gnss_system.proofs.SystemLaws.{value_tabulated}
 use Rattle.rtcm_bits.specs.Prefix.{IsPrefix}
 use Rattle.gnss_obs.specs.Values.{satellites_written}
@@ -11,7 +10,7 @@ use Rattle.obs_epoch.specs.GathererAfter.{HasAsManyCells}
 use Rattle.obs_epoch.specs.GathererHistory.{closed_by, closed_list, closed_list_at, closed_so_far_of, is_done, known_epochs, returned_epoch, whole_list, HasGatheredEpochs}
 use Rattle.obs_epoch.specs.GathererSteps.{carries, thinned, thinned_if}
 use Rattle.obs_epoch.specs.Marks.{AreMarks, capped_counts, carried_from, carried_to, counted_epoch, is_lost_in}
-use Rattle.obs_epoch.specs.Names.{Cell, Closed, EpochValue, GatherSetup, GathererValue, HasTakenMessages, Heard, HeardCell, Locked, System, Timed, cells_at, cells_of, cells_with_lli, closed_so_far, empty_epoch, epoch_at, greatest_time, held_at, timed, option_map_or}
+use Rattle.obs_epoch.specs.Names.{Cell, Closed, EpochValue, GatherSetup, GathererValue, HasTakenMessages, Heard, Timed, cells_at, cells_with_lli, closed_so_far, empty_epoch, epoch_at, greatest_time, held_at, timed, option_map_or}
 use Rattle.obs_epoch.specs.Thinning.{counts_of_epochs, lost_before, marked_after, marked_epoch, thin, thin_after}
 use Rattle.obs_epoch.proofs.LockLemmas.{AllListed, seens}
 use Rattle.obs_epoch.proofs.MarksLemmas.{marks_push}

@@ -1,5 +1,5 @@
 -- The choice of epochs by their times.
-use Rattle.std.specs.Prelude.{ℕ, ◌+◌, ◌-◌, ◌*◌, ◌%◌, ◌^◌, ◌&&◌, Bool, true, nat_le, nat_lt, Option, Some, None}
+use Rattle.std.specs.Prelude.{ℕ, ◌+◌, ◌-◌, ◌*◌, ◌%◌, ◌^◌, ◌&&◌, Bool, true, nat_le, nat_lt, None}
 use Rattle.std.specs.Option.{option_map_or}
 use Rattle.obs_epoch.specs.declared.choice.Choice.{Choice}
 

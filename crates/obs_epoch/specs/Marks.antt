@@ -1,6 +1,6 @@
 -- The loss of lock that is carried to the next epoch on the grid, and one step of it.
-use Rattle.std.specs.Prelude.{ℕ, zero, suc, ◌≡◌, ◌+◌, ◌==◌, ◌%◌, ◌&&◌, ◌||◌, ◌^◌, ◌-◌, Bool, true, false, not, min, List, [], ◌∷◌}
-use Rattle.std.specs.Prelude.{get_or, set, length, replicate, fold, is_some, if◌then◌else◌}
+use Rattle.std.specs.Prelude.{ℕ, zero, suc, ◌≡◌, ◌+◌, ◌==◌, ◌%◌, ◌&&◌, ◌||◌, Bool, true, false, not, List, [], ◌∷◌}
+use Rattle.std.specs.Prelude.{get_or, set, length, replicate, fold, if◌then◌else◌}
 use Rattle.gnss_system.specs.declared.system.System.{System}
 use Rattle.gnss_system.specs.Systems.{systems}
 use Rattle.gnss_system.specs.SystemValues.{with_value_of}
@@ -12,7 +12,7 @@ use Rattle.obs_epoch.specs.declared.choice.Choice.{Choice}
 use Rattle.obs_epoch.specs.declared.choice.EpochCounts.{EpochCounts}
 use Rattle.obs_epoch.specs.Cells.{has_listed_key}
 use Rattle.obs_epoch.specs.Held.{lock_place, most_locks}
-use Rattle.obs_epoch.specs.Thinning.{counts_of_epochs, has_phase, lost_before, mark_if, marked_epoch, up_to_most}
+use Rattle.obs_epoch.specs.Thinning.{has_phase, lost_before, mark_if, marked_epoch, up_to_most}
 
 -- ---- an entry for each satellite and signal: whether lock was lost
 

@@ -8,7 +8,7 @@ use Rattle.obs_epoch.specs.Marks.{capped_counts}
 use Rattle.obs_epoch.specs.Thinning.{has_satellite, marked_after, thin, thin_after}
 use Rattle.rtcm_convert.specs.Converted.{epoch_counts}
 use Rattle.gnss_obs.specs.Values.{Closed}
-use Rattle.rtcm_convert.proofs.Names.{common_steps, ◌≡◌, ◌||◌, ℕ, ◌+◌, ◌*◌, ◌≤◌, most_bytes, List, [], ◌∷◌, ◌++◌, Bool, true, false, refl, sym, ap, subst, arith, rules, length, length-append, add-zero, suc, zero, nat_lt, Option, Some, None, is_some, LockField, Df402, Df407, count_by, filter, filter_map, if◌then◌else◌, zip, option_map_or, length-map, length-filter, count_by-le-length, System, uint, Framed, Message, Entry, MasksValue, MsmValue, AreMasks, IsMessage, chosen, cell_pairs, all_pairs, entries, entry_in, Kind, GatherSetup, Heard, heard, heard_by, ChannelsValue, heard_msm, is_own, unlisted_in, HeardCell, Timed, timed, timed_after, taken_at, is_late, is_past, time_of, times, counts_of, counts_of_message, no_counts, with_skipped, is_planned, offered, kind_of, kind_at, all_epochs, closed_at, satellites_written, SetupValue, messages_of, message_of, epochs_in, outcomes_after, capped, capped_tally, sum_of_counts, tally_of, tally_of_one, IsFew, AreFew, Report, CellCounts}
+use Rattle.rtcm_convert.proofs.Names.{common_steps, ◌≡◌, ◌||◌, ℕ, ◌+◌, ◌*◌, ◌≤◌, most_bytes, List, [], ◌∷◌, ◌++◌, Bool, true, false, refl, sym, ap, subst, arith, rules, length, length-append, add-zero, suc, zero, nat_lt, Option, Some, None, is_some, LockField, Df402, Df407, count_by, filter, filter_map, if◌then◌else◌, zip, option_map_or, length-map, length-filter, count_by-le-length, System, uint, Framed, Message, Entry, MasksValue, MsmValue, AreMasks, IsMessage, chosen, cell_pairs, all_pairs, entries, entry_in, Kind, GatherSetup, Heard, heard, heard_by, ChannelsValue, heard_msm, is_own, unlisted_in, HeardCell, Timed, timed, timed_after, taken_at, is_late, is_past, time_of, times, counts_of, counts_of_message, no_counts, with_skipped, is_planned, offered, kind_of, kind_at, closed_at, satellites_written, SetupValue, messages_of, message_of, epochs_in, outcomes_after, capped, capped_tally, sum_of_counts, tally_of, tally_of_one, IsFew, AreFew, Report, CellCounts}
 use Rattle.rtcm_msg.specs.declared.message.Message.TheVariants as message
 use Rattle.obs_epoch.specs.declared.taken.Kind.TheVariants as kind
 

@@ -1,5 +1,5 @@
 -- What a converter holds.
-use Rattle.rtcm_convert.proofs.Names.{arith, ◌≡◌, ℕ, List, [], ◌∷◌, true, refl, sym, ap, ◌∙◌, Option, None, map, length, frames_of, Closed, GatherSetup, Heard, timed, times, closed_so_far, GathererValue, locked_in, firsts, HasGatheredEpochs, is_done, closed_list_at, SetupValue, messages_of, locks_at, locks_in_all, Conversion, HasFinished}
+use Rattle.rtcm_convert.proofs.Names.{◌≡◌, ℕ, List, true, ap, ◌∙◌, Option, None, length, frames_of, Closed, GatherSetup, Heard, timed, times, closed_so_far, GathererValue, locked_in, firsts, HasGatheredEpochs, is_done, SetupValue, messages_of, locks_at, locks_in_all, Conversion, HasFinished}
 use Rattle.std.specs.Prelude.{◌&&◌}
 use Rattle.obs_epoch.specs.Clock.{is_pending}
 use Rattle.obs_epoch.specs.Laws.{AllClosed}

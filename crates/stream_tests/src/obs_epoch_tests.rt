@@ -3,6 +3,7 @@
 //! A test of a gatherer is a list of steps, each a call and its expected outcome. Only one function
 //! owns a gatherer and runs the steps, since owners of one take long to prove.
 mod cells;
+mod choices;
 mod dates;
 mod faults;
 mod locks;
@@ -12,7 +13,9 @@ mod signal_counts;
 
 use gnss_obs::{Cell, Epoch, Plan, PlanFault, StationValues, System};
 use messages::{Heard, message};
-use obs_epoch::{CellCounts, Gather, Gatherer, Kind, Taken};
+use obs_epoch::{
+    CellCounts, Choice, EpochCounts, Gather, GatherOptions, Gatherer, Kind, LEAP_SECONDS, Taken,
+};
 use std::alloc::Global;
 use std::test::*;
 
@@ -61,10 +64,12 @@ enum Step {
     Lli(u8),
     /// The satellite and the indicator of its last Galileo cell.
     LastLli(u8, u8),
+    /// The numbers of closed epochs with a value: all, those in the window, those on the grid.
+    Counts(u64, u64, u64),
 }
 
 use Step::{
-    Closed, ClosedNone, Ends, Falls, HasEnded, HasNoDoppler, Holds, Keeps, LastLli, Lli, Locks, Of,
+    Closed, ClosedNone, Counts, Ends, Falls, HasEnded, HasNoDoppler, Holds, Keeps, LastLli, Lli, Locks, Of,
     Plans, Repeats, Takes, Values,
 };
 
@@ -139,6 +144,14 @@ fn shows(g: &Gatherer, step: &Step) -> bool {
             None => false,
         },
         ClosedNone => g.closed().is_none(),
+        Counts(epochs, window, grid) => {
+            g.epoch_counts()
+                == EpochCounts {
+                    epochs: *epochs,
+                    window: *window,
+                    grid: *grid,
+                }
+        }
         Closed(time, satellites, cells) => match g.closed() {
             Some(e) => {
                 e.time().milliseconds() == *time
@@ -174,17 +187,23 @@ fn go_through(g: &mut Gatherer, steps: &[Step]) -> bool {
     true
 }
 
-/// Whether the steps of a gatherer with this plan have their expected outcomes.
+/// Whether the steps of a gatherer with this plan and choice have their expected outcomes.
 fn run(
     alloc: Global,
     plan: (&str, &str),
     week: u32,
     station: Option<u16>,
     gather: Gather,
+    choice: Choice,
     steps: &[Step],
 ) -> Result<bool, PlanFault> {
     let plan = Plan::parse(alloc, plan.0, plan.1)?;
-    let mut g = Gatherer::new(alloc, plan, week, station, gather)?;
+    let options = GatherOptions {
+        initial: StationValues::zero(),
+        leap_seconds: LEAP_SECONDS,
+        choice,
+    };
+    let mut g = Gatherer::with_options(alloc, plan, week, station, gather, options)?;
     let goes = go_through(&mut g, steps);
     drop(g);
     Ok(goes)
@@ -198,10 +217,17 @@ fn goes_as_given(
     gather: Gather,
     steps: &[Step],
 ) -> bool {
-    run(alloc, plan, week, Some(7), gather, steps) == Ok(true)
+    let choice = Choice::default();
+    run(alloc, plan, week, Some(7), gather, choice, steps) == Ok(true)
 }
 
-/// The same with every signal planned, from week 2,300 on and by the bit.
+/// Whether all steps of a gatherer of station 7 with this choice, with every signal planned, from
+/// week 2,300 on and by the bit, have their expected outcomes.
+fn goes_with(alloc: Global, choice: Choice, steps: &[Step]) -> bool {
+    run(alloc, ALL, 2_300, Some(7), Gather::Bit, choice, steps) == Ok(true)
+}
+
+/// The same as `goes_as_given` with every signal planned, from week 2,300 on and by the bit.
 fn goes_by_bit(alloc: Global, steps: &[Step]) -> bool {
     goes_as_given(alloc, ALL, 2_300, Gather::Bit, steps)
 }
@@ -371,7 +397,9 @@ fn set_up(
     station: Option<u16>,
     gather: Gather,
 ) -> Result<bool, PlanFault> {
-    run(alloc, ("1C", "none"), week, station, gather, &[Plans(1)])
+    let choice = Choice::default();
+    let steps = &[Plans(1)];
+    run(alloc, ("1C", "none"), week, station, gather, choice, steps)
 }
 
 fn are_refused_in_order(alloc: Global) -> bool {

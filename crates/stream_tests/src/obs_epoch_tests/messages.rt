@@ -13,6 +13,9 @@ pub enum Heard {
     Galileo(u32, bool, u16),
     /// The short form of GPS 5, with or without a phase, and the lock time indicator.
     Short(u32, bool, bool, u16),
+    /// The short form of GPS 5 with a phase that may be off by half a cycle, and the lock time
+    /// indicator.
+    Half(u32, bool, u16),
     /// The long form of several GPS satellites and signals, by their masks, at 1,000.
     Wide(bool, u64, u32),
     /// The long form of all listed satellites of GPS or of Galileo, with the signals of a mask, a
@@ -35,7 +38,10 @@ pub fn message(heard: Heard) -> Message {
         Heard::Galileo(time, more, lock) => {
             long(System::Galileo, header(time, more), 1 << 59, 1 << 30, lock)
         }
-        Heard::Short(time, more, has_phase, lock) => short(header(time, more), has_phase, lock),
+        Heard::Short(time, more, has_phase, lock) => {
+            short(header(time, more), has_phase, lock, false)
+        }
+        Heard::Half(time, more, lock) => short(header(time, more), true, lock, true),
         Heard::Wide(more, satellites, signals) => {
             long(System::Gps, header(1_000, more), satellites, signals, 64)
         }
@@ -111,12 +117,12 @@ static SATELLITES: [Satellite; 36] = [Satellite {
 }; 36];
 
 /// A message of the short form: GPS 5 with the signal 1C.
-fn short(header: MsmHeader, has_phase: bool, lock: u16) -> Message {
+fn short(header: MsmHeader, has_phase: bool, lock: u16, half_cycle: bool) -> Message {
     let cell = Cell {
         range: 0,
         phase: if has_phase { 0 } else { -2_097_152 },
         lock,
-        half_cycle: false,
+        half_cycle,
         strength: 45,
         rate: INVALID_FINE_RATE,
     };

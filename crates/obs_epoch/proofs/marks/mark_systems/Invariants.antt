@@ -1,4 +1,4 @@
-use Rattle.std.proofs.Common.{◌≡◌, ◌<◌, ◌≤◌, map}
+use Rattle.std.proofs.Common.{◌≡◌, map}
 use Rattle.gnss_system.specs.SystemValues.{value_of}
 use Rattle.gnss_system.proofs.SystemLaws.{Passed}
 use Rattle.obs_epoch.specs.Marks.{is_lost_in}

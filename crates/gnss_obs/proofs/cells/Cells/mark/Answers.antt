@@ -1,4 +1,4 @@
-use Rattle.std.proofs.Common.{◌≡◌, ◌≤◌, ◌<◌, ◌∙◌, List, sym, ap, subst, map, length, arith, slice_set}
+use Rattle.std.proofs.Common.{◌≡◌, ◌≤◌, ◌<◌, ◌∙◌, List, sym, ap, subst, map, length, slice_set}
 use Rattle.std.specs.List.{AllByRecursion}
 use Rattle.gnss_obs.specs.declared.cell.Cell.{Cell}
 use Rattle.gnss_obs.specs.Arriving.{AreFound, IsFound, slot}

@@ -1,4 +1,4 @@
-use Rattle.std.proofs.Common.{◌≡◌, ◌∙◌, ap, subst, sym}
+use Rattle.std.proofs.Common.{subst, sym}
 use Rattle.gnss_obs.specs.Marked.{marked_at}
 use Rattle.gnss_obs.specs.Names.{AreSorted, CellLists}
 use Rattle.gnss_system.specs.SystemValues.{value_of}

@@ -2,7 +2,7 @@
 -- write failed; each is one of the ways that the contract lists.
 use Rattle.rtcm_convert.proofs.FaultLemmas.{fault_given}
 use Rattle.rtcm_convert.proofs.FeedLemmas.{with_flags, finishes, finishes_empty}
-use Rattle.rtcm_convert.proofs.Names.{IfOk, IfOk-weaker, rules, subst, true, Conversion, FinishesEmptyNow, FinishesNow, NoEpoch, NoneChosen}
+use Rattle.rtcm_convert.proofs.Names.{IfOk, IfOk-weaker, subst, true, Conversion, FinishesEmptyNow, FinishesNow, NoEpoch, NoneChosen}
 use Rattle.rtcm_convert.proofs.converter.Converter.finish.Goals as goal
 
 pub returns-clause-whole : goal.returns-clause-whole
