@@ -177,27 +177,27 @@ const CONVERT: CommandRow<'static> = CommandRow {
                 "GPS signals in the file's order: all, none,\n\
                  or codes as 1C,2W";
             "galileo", "SIGNALS", false, &["all"], TEXT, Set,
-                "Galileo signals in the file's order: all, none,\n\
-                 or codes as 1C,5Q";
+                "Galileo signals in the file's order: all,\n\
+                 none, or codes as 1C,5Q";
             "glonass", "SIGNALS", false, &["none"], TEXT, Set,
-                "GLONASS signals in the file's order: all, none,\n\
-                 or codes as 1C,2P";
+                "GLONASS signals in the file's order: all,\n\
+                 none, or codes as 1C,2P";
             "glonass-channels", "CHANNELS", false, &[""], TEXT, Set,
-                "Channels of GLONASS slots, as 1:1,2:-4: without\n\
-                 one a satellite has no phase and no Doppler\n\
-                 shift";
+                "Channels of GLONASS slots, as 1:1,2:-4:\n\
+                 without one a satellite has no phase and\n\
+                 no Doppler shift";
             "leap-seconds", "SECONDS", false, &["18"], ValueParser::Unsigned(0, 255), Set,
-                "GPS time minus UTC, 0 to 255, for the times of\n\
-                 GLONASS";
+                "GPS time minus UTC, 0 to 255, for the\n\
+                 times of GLONASS";
             "beidou", "SIGNALS", false, &["none"], TEXT, Set,
-                "BeiDou signals in the file's order: all, none,\n\
-                 or codes as 2I,6I";
+                "BeiDou signals in the file's order: all,\n\
+                 none, or codes as 2I,6I";
             "qzss", "SIGNALS", false, &["none"], TEXT, Set,
-                "QZSS signals in the file's order: all, none,\n\
-                 or codes as 1C,2X";
+                "QZSS signals in the file's order: all,\n\
+                 none, or codes as 1C,2X";
             "sbas", "SIGNALS", false, &["none"], TEXT, Set,
-                "SBAS signals in the file's order: all, none,\n\
-                 or codes as 1C,5I";
+                "SBAS signals in the file's order: all,\n\
+                 none, or codes as 1C,5I";
             "msm", "FORMS", false, &["4,7"], ValueParser::Names(&["4,7", "all"]), Set,
                 "Forms of MSM that are read: 4,7, or all, which\n\
                  is MSM4 to MSM7";

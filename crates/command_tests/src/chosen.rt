@@ -5,7 +5,7 @@ use super::scenario::{Case, Expected, FAULTLESS, Setting, assert_come};
 use super::texts::ExpectedLine::{NextTime, NextValues, Time, Valid, Values};
 use super::texts::Piece::Fine;
 use super::texts::Text::{File, Lines, Stream};
-use super::texts::{FINE_FILE, REPORT, Text};
+use super::texts::{ExpectedLine, FINE_FILE, REPORT, Text};
 
 /// A conversion whose other options follow.
 static CHOOSING: Setting = Setting {
@@ -45,8 +45,8 @@ const BAD_TOLERANCE: Expected = Invalid(
      at most half of --interval\n",
 );
 
-/// No time: an hour of 24, a second and a minute of 60, hours of one and minutes of three digits, no
-/// seconds, a blank, a zone, no date, a date that isn't in the calendar, and those before and after
+/// No time: an hour of 24, a second and a minute of 60, an hour of one digit, a minute of three, no
+/// seconds, a blank, a zone, no date, a date that isn't in the calendar, and dates before and after
 /// all weeks.
 static NO_TIMES: [Case; 14] = [
     (&["--from", "2024-02-04T24:00:00"], ONE, BAD_FROM),
@@ -134,11 +134,7 @@ static IN_ORDER: [Case; 6] = [
         BAD_WINDOW,
     ),
     (&["--tolerance", "1", "--interval", "7"], ONE, BAD_INTERVAL),
-    (
-        &["--gps", "none", "--run-by", "\t", "--tolerance", "1"],
-        ONE,
-        BAD_TOLERANCE,
-    ),
+    (&["--run-by", "\t", "--tolerance", "1"], ONE, BAD_TOLERANCE),
 ];
 
 #[test]
@@ -198,14 +194,17 @@ fn epochs_of_a_window_are_written(rt: HostRuntime) {
     assert_come(&rt, rt.alloc(), &CHOOSING, &IN_WINDOWS);
 }
 
+/// The header line before that of the interval.
+const STRENGTH: ExpectedLine = Valid(
+    "DBHZ                                                        SIGNAL STRENGTH UNIT",
+);
+
 /// The file of `TWO` at an interval of a second, of 0.1 s, and of two seconds.
 const EACH_SECOND: Text = File(
     &[(
         10,
         &[
-            Valid(
-                "DBHZ                                                        SIGNAL STRENGTH UNIT",
-            ),
+            STRENGTH,
             Valid("     1.000                                                  INTERVAL"),
         ],
     )],
@@ -216,9 +215,7 @@ const EACH_TENTH: Text = File(
     &[(
         10,
         &[
-            Valid(
-                "DBHZ                                                        SIGNAL STRENGTH UNIT",
-            ),
+            STRENGTH,
             Valid("     0.100                                                  INTERVAL"),
         ],
     )],
@@ -230,20 +227,17 @@ const EACH_OTHER: Text = File(
         (
             10,
             &[
-                Valid(
-                    "DBHZ                                                        SIGNAL STRENGTH UNIT",
-                ),
+                STRENGTH,
                 Valid("     2.000                                                  INTERVAL"),
             ],
         ),
-        (
-            11,
-            &[Valid(
-                "  2024     2     4     0     0    2.0000000     GPS         TIME OF FIRST OBS",
-            )],
-        ),
+        (11, &[SECOND]),
     ],
     &[NextTime, NextValues],
+);
+
+const SECOND: ExpectedLine = Valid(
+    "  2024     2     4     0     0    2.0000000     GPS         TIME OF FIRST OBS",
 );
 
 /// Intervals, and the largest tolerance of one.

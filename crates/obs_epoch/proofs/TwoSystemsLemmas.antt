@@ -1,5 +1,5 @@
 -- A conversion of GPS and Galileo alone.
-use Rattle.std.proofs.Common.{◌≡◌, ◌∙◌, ◌⊎◌, inl, inr, refl, sym, subst, ap, ℕ, ◌+◌, List, [], ◌∷◌, Bool, true, false, Option, Some, None, option_map, option_and_then, filter_map, is_some, nat_le, ◌&&◌, Result, Ok, Err, if◌then◌else◌, arith}
+use Rattle.std.proofs.Common.{◌≡◌, ◌∙◌, ◌⊎◌, inl, inr, refl, sym, subst, ap, ℕ, ◌+◌, List, [], ◌∷◌, Bool, true, false, Option, Some, None, option_map, option_and_then, filter_map, is_some, nat_le, ◌&&◌, Result, Ok, Err, if◌then◌else◌}
 use Rattle.std.specs.List.{cons_option}
 use Rattle.gnss_system.specs.declared.system.System.{System}
 use Rattle.gnss_system.specs.declared.system.System.TheVariants.{Gps, Galileo, Glonass, Beidou, Qzss, Sbas}
@@ -26,7 +26,7 @@ use Rattle.rtcm_msg.specs.declared.number.Forms.TheVariants.{FourAndSeven}
 use Rattle.rtcm_msg.specs.declared.number.MsmSet.{MsmSet}
 use Rattle.obs_epoch.specs.Heard.{Heard, heard, heard_in, heard_msm, heard_of, lock_by, observed, seen_in, tow_of, unlisted_in}
 use Rattle.obs_epoch.specs.Sets.{set_of}
-use Rattle.obs_epoch.specs.TwoSystems.{AreReadPlainly, PlansTwo, plain_cell, plain_cell_of, plain_heard, plain_in, plain_msm, plain_of, plain_unlisted}
+use Rattle.obs_epoch.specs.TwoSystems.{AreReadPlainly, PlansTwo, plain_cell, plain_cell_of, plain_heard, plain_msm, plain_of, plain_unlisted}
 
 -- What is decoded is the default set.
 pub default_decoded : (plan : PlanValue) → PlansTwo plan → set_of plan FourAndSeven ≡ default_set
@@ -40,10 +40,7 @@ IsOfTwo s = (s ≡ Gps) ⊎ (s ≡ Galileo)
 of_default : (s : System) → value_of s (of_two true true false) ≡ true → IsOfTwo s
 of_default Gps e = inl refl
 of_default Galileo e = inr refl
-of_default Glonass e = absurd (cc e)
-of_default Beidou e = absurd (cc e)
-of_default Qzss e = absurd (cc e)
-of_default Sbas e = absurd (cc e)
+of_default other e = absurd (cc e)
 
 -- ---- cells
 
@@ -52,23 +49,21 @@ by_test : (b : Bool) (x : Satellite) (f g : Satellite → Option HeardCell) → 
 by_test true x f g same = same
 by_test false x f g same = refl
 
-cell_same : (channels : ChannelsValue) (field : LockField) (s : System) (e : Entry) → IsOfTwo s → seen_in channels field s e ≡ plain_cell_of field s e
-cell_same channels field Gps e of =
+gps_cell : (channels : ChannelsValue) (field : LockField) (e : Entry) → seen_in channels field Gps e ≡ plain_cell_of field Gps e
+gps_cell channels field e =
     by_test (nat_le 1 e.satellite && nat_le e.satellite (satellites Gps)) (record { system = Gps; id = e.satellite })
     (λ satellite. option_map (observed channels (lock_by field e.lock) e satellite) (signal_of_id Gps e.signal))
     (λ satellite. option_map (plain_cell (lock_by field e.lock) e satellite) (signal_of_id Gps e.signal)) refl
-cell_same channels field Galileo e of =
+
+galileo_cell : (channels : ChannelsValue) (field : LockField) (e : Entry) → seen_in channels field Galileo e ≡ plain_cell_of field Galileo e
+galileo_cell channels field e =
     by_test (nat_le 1 e.satellite && nat_le e.satellite (satellites Galileo)) (record { system = Galileo; id = e.satellite })
     (λ satellite. option_map (observed channels (lock_by field e.lock) e satellite) (signal_of_id Galileo e.signal))
     (λ satellite. option_map (plain_cell (lock_by field e.lock) e satellite) (signal_of_id Galileo e.signal)) refl
-cell_same channels field Glonass e (inl is) = absurd (cc is)
-cell_same channels field Glonass e (inr is) = absurd (cc is)
-cell_same channels field Beidou e (inl is) = absurd (cc is)
-cell_same channels field Beidou e (inr is) = absurd (cc is)
-cell_same channels field Qzss e (inl is) = absurd (cc is)
-cell_same channels field Qzss e (inr is) = absurd (cc is)
-cell_same channels field Sbas e (inl is) = absurd (cc is)
-cell_same channels field Sbas e (inr is) = absurd (cc is)
+
+cell_same : (channels : ChannelsValue) (field : LockField) (s : System) (e : Entry) → IsOfTwo s → seen_in channels field s e ≡ plain_cell_of field s e
+cell_same channels field s e (inl is) = subst (λ (t : System). seen_in channels field t e ≡ plain_cell_of field t e) (sym is) (gps_cell channels field e)
+cell_same channels field s e (inr is) = subst (λ (t : System). seen_in channels field t e ≡ plain_cell_of field t e) (sym is) (galileo_cell channels field e)
 
 cells_same : (channels : ChannelsValue) (field : LockField) (s : System) (es : List Entry) → IsOfTwo s
     → filter_map (seen_in channels field s) es ≡ filter_map (plain_cell_of field s) es

@@ -23,8 +23,9 @@ pub trait Destination: Write {}
 /// followed by its own.
 ///
 /// By `parts` the contents of a writer are those of its destination, followed by the bytes that
-/// wait. So a writer over any device `P: Deliver` can't leave out a byte that waits, in it or in the
-/// device. A writer over one device of unknown contents, such as a `File`, could: make it generic.
+/// wait. So a writer over any `P: Deliver`, with the destination of `P`, can't leave out a byte that
+/// waits in it or in `P`. A writer over one device of unknown contents, such as a `File`, could: make
+/// it generic.
 ///
 /// # Example
 ///

@@ -35,7 +35,7 @@ use Rattle.rtcm_inspect.specs.Signals.{codes_word, forms_had, had, plan_in, set_
 use Rattle.rtcm_inspect.specs.StreamChannels.{channels_in}
 use Rattle.rtcm_inspect.specs.WeekLaws.{IsDatedByWeek, IsLeapFree}
 use Rattle.rtcm_convert.specs.SetupValues.{start_value}
-use Rattle.rtcm_command.specs.PrintedPlan.{AreOptionsNear, ArePrintedWords, IsDatedAsPrinted, IsDatedNear, IsStartedAsFound, StartsAsFound, leap_option}
+use Rattle.rtcm_command.specs.PrintedPlan.{ArePrintedWords, IsDatedAsPrinted, IsDatedNear, IsStartedAsFound, StartsAsFound, leap_option}
 use Rattle.rtcm_command.proofs.PrintedWordsLemmas.{AreAsPrinted, as_printed, channels_option, forms_text, signals_text}
 use Rattle.rtcm_command.specs.SetupOptions.{IsPlanSet}
 use Rattle.rtcm_command.specs.StationLaws.{AreChannelsSet, AreLeapSecondsRead, AreReadAsStation, AreZeroByDefault, IsStationRead, IsWeekRead}
@@ -148,13 +148,13 @@ pub started_as_found : ReadLaws → IsStartedAsFound
 started_as_found laws options near w wanted fs x are start =
     let printed : AreAsPrinted options w (option_map leap_at near) wanted fs = as_printed options w (option_map leap_at near) wanted fs are.printed in
     record {
-  plan = plan_found laws options x.setup.plan wanted fs are.some printed.signals printed.channels start.setup.plan;
-  forms = start.forms ∙ forms_read (forms_had wanted fs) (text_set options (codes "msm")) printed.forms;
-  station = station_read options wanted x.setup.station laws.station are.station printed.station start.setup.station;
-  week = week_read options near (first_tow (leap_near near) (set_had wanted fs) wanted fs) w x.setup.start_week laws.week are.week printed.week start.setup.week;
-  leap_seconds = laws.leap options (leap_option (option_map leap_at near) (plan_in wanted fs)) x.options.leap_seconds (leap_fits (is_decoded (plan_in wanted fs) Glonass) near) printed.leap_seconds start.leap;
-  initial = values_read options (first_station wanted fs) x.options.initial laws.position laws.zero (laws.range wanted fs) printed.position printed.height start.initial;
-}
+      plan = plan_found laws options x.setup.plan wanted fs are.some printed.signals printed.channels start.setup.plan;
+      forms = start.forms ∙ forms_read (forms_had wanted fs) (text_set options (codes "msm")) printed.forms;
+      station = station_read options wanted x.setup.station laws.station are.station printed.station start.setup.station;
+      week = week_read options near (first_tow (leap_near near) (set_had wanted fs) wanted fs) w x.setup.start_week laws.week are.week printed.week start.setup.week;
+      leap_seconds = laws.leap options (leap_option (option_map leap_at near) (plan_in wanted fs)) x.options.leap_seconds (leap_fits (is_decoded (plan_in wanted fs) Glonass) near) printed.leap_seconds start.leap;
+      initial = values_read options (first_station wanted fs) x.options.initial laws.position laws.zero (laws.range wanted fs) printed.position printed.height start.initial;
+    }
 
 -- ---- the first time
 

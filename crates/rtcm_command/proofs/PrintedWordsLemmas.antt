@@ -1,6 +1,6 @@
 -- The values that the words of the printed options give.
 use Rattle.std.specs.Fmt.{digits}
-use Rattle.std.specs.Prelude.{◌&&◌, ◌==◌, ◌||◌, ◌∷◌, ◌++◌, false, flat_map, if◌then◌else◌, nat_lt, option_and_then, true}
+use Rattle.std.specs.Prelude.{◌&&◌, ◌∷◌, ◌++◌, false, flat_map, if◌then◌else◌, nat_lt, option_and_then, true}
 use Rattle.std.specs.Option.{option_or}
 use Rattle.std.proofs.Common.{append_assoc, append-nil}
 use Rattle.gnss_system.specs.declared.system.System.{System}
@@ -250,24 +250,24 @@ module _ (w leap st : Option ℕ) (p : PlanValue) (f : Forms) (first : Option St
       (other_none name Glonass refl (further_none name Glonass refl refl) k) (other_none name Beidou refl refl k) (other_none name Qzss refl refl k) (other_none name Sbas refl refl k)
       (forms_none name refl k) (station_none name (λ s. refl) refl k))
       ∙ by st where
-    by : (o : Option ℕ) → in_turn None (number_value (codes "--station") (codes "station") o) None None None None None None None None ≡ option_map decimal o
-    by None = refl
-    by (Some n) = refl
+        by : (o : Option ℕ) → in_turn None (number_value (codes "--station") (codes "station") o) None None None None None None None None ≡ option_map decimal o
+        by None = refl
+        by (Some n) = refl
 
   gps_given : unwrap_or (given (codes "gps") words) (codes "all") ≡ codes_word Gps p.signals.gps
   gps_given =
       let name = codes "gps" in
       let e : given name words ≡ Some (codes_word Gps p.signals.gps) = words_give name
-          ∙ (λ k. in_turn (number_none (codes "--week") name w refl k) (number_none (codes "--station") name st refl k) (Some (codes_word Gps p.signals.gps)) None
-          (other name Glonass) (other name Beidou) (other name Qzss) (other name Sbas) (forms_value name f) (station_value name first)) in
+      ∙ (λ k. in_turn (number_none (codes "--week") name w refl k) (number_none (codes "--station") name st refl k) (Some (codes_word Gps p.signals.gps)) None
+      (other name Glonass) (other name Beidou) (other name Qzss) (other name Sbas) (forms_value name f) (station_value name first)) in
       ap (λ (o : Option (List ℕ)). unwrap_or o (codes "all")) e
 
   galileo_given : unwrap_or (given (codes "galileo") words) (codes "all") ≡ codes_word Galileo p.signals.galileo
   galileo_given =
       let name = codes "galileo" in
       let e : given name words ≡ Some (codes_word Galileo p.signals.galileo) = words_give name
-          ∙ (λ k. in_turn (number_none (codes "--week") name w refl k) (number_none (codes "--station") name st refl k) None (Some (codes_word Galileo p.signals.galileo))
-          (other name Glonass) (other name Beidou) (other name Qzss) (other name Sbas) (forms_value name f) (station_value name first)) in
+      ∙ (λ k. in_turn (number_none (codes "--week") name w refl k) (number_none (codes "--station") name st refl k) None (Some (codes_word Galileo p.signals.galileo))
+      (other name Glonass) (other name Beidou) (other name Qzss) (other name Sbas) (forms_value name f) (station_value name first)) in
       ap (λ (o : Option (List ℕ)). unwrap_or o (codes "all")) e
 
   -- an option of another system
@@ -330,26 +330,26 @@ module _ (w leap st : Option ℕ) (p : PlanValue) (f : Forms) (first : Option St
   channels_given =
       ap (λ (o : Option (List ℕ)). unwrap_or o []) (further_given (codes "glonass-channels") refl refl refl refl refl refl refl refl (λ s. refl) refl)
       ∙ by (nat_lt 0 (length p.signals.glonass)) (channels_text p.channels) where
-    leap_none : number_value (codes "--leap-seconds") (codes "glonass-channels") leap ≡ None
-    leap_none = number_none (codes "--leap-seconds") (codes "glonass-channels") leap refl
+        leap_none : number_value (codes "--leap-seconds") (codes "glonass-channels") leap ≡ None
+        leap_none = number_none (codes "--leap-seconds") (codes "glonass-channels") leap refl
 
-    by : (b : Bool) (text : List ℕ) → unwrap_or (if b then option_or None (option_or (channel_value (codes "glonass-channels") text) (number_value (codes "--leap-seconds") (codes "glonass-channels") leap)) else None) [] ≡ (if b then text else [])
-    by true [] = ap (λ (o : Option (List ℕ)). unwrap_or o []) leap_none
-    by true (b ∷ bs) = refl
-    by false text = refl
+        by : (b : Bool) (text : List ℕ) → unwrap_or (if b then option_or None (option_or (channel_value (codes "glonass-channels") text) (number_value (codes "--leap-seconds") (codes "glonass-channels") leap)) else None) [] ≡ (if b then text else [])
+        by true [] = ap (λ (o : Option (List ℕ)). unwrap_or o []) leap_none
+        by true (b ∷ bs) = refl
+        by false text = refl
 
   pub leap_given : unwrap_or (given (codes "leap-seconds") words) (codes "18") ≡ decimal (leap_option leap p)
   unfolding digits
   leap_given =
       ap (λ (o : Option (List ℕ)). unwrap_or o (codes "18")) (further_given (codes "leap-seconds") refl refl refl refl refl refl refl refl (λ s. refl) refl)
       ∙ by (nat_lt 0 (length p.signals.glonass)) (channels_text p.channels) leap where
-    by : (b : Bool) (text : List ℕ) (l : Option ℕ) → unwrap_or (if b then option_or None (option_or (channel_value (codes "leap-seconds") text) (number_value (codes "--leap-seconds") (codes "leap-seconds") l)) else None) (codes "18")
-        ≡ decimal (if b then unwrap_or l default_leap else default_leap)
-    by false text l = refl
-    by true [] None = refl
-    by true [] (Some n) = refl
-    by true (b ∷ bs) None = refl
-    by true (b ∷ bs) (Some n) = refl
+        by : (b : Bool) (text : List ℕ) (l : Option ℕ) → unwrap_or (if b then option_or None (option_or (channel_value (codes "leap-seconds") text) (number_value (codes "--leap-seconds") (codes "leap-seconds") l)) else None) (codes "18")
+            ≡ decimal (if b then unwrap_or l default_leap else default_leap)
+        by false text l = refl
+        by true [] None = refl
+        by true [] (Some n) = refl
+        by true (b ∷ bs) None = refl
+        by true (b ∷ bs) (Some n) = refl
 
   -- an option after the signals
   none_before : (name : List ℕ) → ((s : System) → bytes_eq (codes "--" ++ name_of s) (codes "--" ++ name) ≡ false) → bytes_eq (codes "--week") (codes "--" ++ name) ≡ false → bytes_eq (codes "--station") (codes "--" ++ name) ≡ false
@@ -365,53 +365,53 @@ module _ (w leap st : Option ℕ) (p : PlanValue) (f : Forms) (first : Option St
   forms_given =
       ap (λ (o : Option (List ℕ)). unwrap_or o (codes "4,7")) (none_before (codes "msm") other_names refl refl refl refl
       ∙ ap (option_or (forms_value (codes "msm") f)) (station_none (codes "msm") (λ s. refl) refl)) ∙ by f where
-    other_names : (s : System) → bytes_eq (codes "--" ++ name_of s) (codes "--" ++ codes "msm") ≡ false
-    other_names Gps = refl
-    other_names Galileo = refl
-    other_names Glonass = refl
-    other_names Beidou = refl
-    other_names Qzss = refl
-    other_names Sbas = refl
+        other_names : (s : System) → bytes_eq (codes "--" ++ name_of s) (codes "--" ++ codes "msm") ≡ false
+        other_names Gps = refl
+        other_names Galileo = refl
+        other_names Glonass = refl
+        other_names Beidou = refl
+        other_names Qzss = refl
+        other_names Sbas = refl
 
-    by : (f : Forms) → unwrap_or (option_or (forms_value (codes "msm") f) None) (codes "4,7") ≡ forms_text f
-    by forms.FourAndSeven = refl
-    by forms.All = refl
+        by : (f : Forms) → unwrap_or (option_or (forms_value (codes "msm") f) None) (codes "4,7") ≡ forms_text f
+        by forms.FourAndSeven = refl
+        by forms.All = refl
 
   pub position_given : unwrap_or (given (codes "position") words) (codes "0,0,0") ≡ option_map_or position_text first (codes "0,0,0")
   position_given =
       ap (λ (o : Option (List ℕ)). unwrap_or o (codes "0,0,0")) (none_before (codes "position") other_names refl refl refl refl
       ∙ ap (λ (o : Option (List ℕ)). option_or o (station_value (codes "position") first)) (forms_none (codes "position") refl)) ∙ by first where
-    other_names : (s : System) → bytes_eq (codes "--" ++ name_of s) (codes "--" ++ codes "position") ≡ false
-    other_names Gps = refl
-    other_names Galileo = refl
-    other_names Glonass = refl
-    other_names Beidou = refl
-    other_names Qzss = refl
-    other_names Sbas = refl
+        other_names : (s : System) → bytes_eq (codes "--" ++ name_of s) (codes "--" ++ codes "position") ≡ false
+        other_names Gps = refl
+        other_names Galileo = refl
+        other_names Glonass = refl
+        other_names Beidou = refl
+        other_names Qzss = refl
+        other_names Sbas = refl
 
-    by : (first : Option StationParts) → unwrap_or (station_value (codes "position") first) (codes "0,0,0") ≡ option_map_or position_text first (codes "0,0,0")
-    by None = refl
-    by (Some s) = refl
+        by : (first : Option StationParts) → unwrap_or (station_value (codes "position") first) (codes "0,0,0") ≡ option_map_or position_text first (codes "0,0,0")
+        by None = refl
+        by (Some s) = refl
 
   pub height_given : unwrap_or (given (codes "antenna-height") words) (codes "0") ≡ height_text (option_and_then (λ s. s.height) first)
   height_given =
       ap (λ (o : Option (List ℕ)). unwrap_or o (codes "0")) (none_before (codes "antenna-height") other_names refl refl refl refl
       ∙ ap (λ (o : Option (List ℕ)). option_or o (station_value (codes "antenna-height") first)) (forms_none (codes "antenna-height") refl)) ∙ by first where
-    other_names : (s : System) → bytes_eq (codes "--" ++ name_of s) (codes "--" ++ codes "antenna-height") ≡ false
-    other_names Gps = refl
-    other_names Galileo = refl
-    other_names Glonass = refl
-    other_names Beidou = refl
-    other_names Qzss = refl
-    other_names Sbas = refl
+        other_names : (s : System) → bytes_eq (codes "--" ++ name_of s) (codes "--" ++ codes "antenna-height") ≡ false
+        other_names Gps = refl
+        other_names Galileo = refl
+        other_names Glonass = refl
+        other_names Beidou = refl
+        other_names Qzss = refl
+        other_names Sbas = refl
 
-    by_height : (h : Option ℕ) → unwrap_or (antenna_value (codes "antenna-height") h) (codes "0") ≡ height_text h
-    by_height None = refl
-    by_height (Some h) = refl
+        by_height : (h : Option ℕ) → unwrap_or (antenna_value (codes "antenna-height") h) (codes "0") ≡ height_text h
+        by_height None = refl
+        by_height (Some h) = refl
 
-    by : (first : Option StationParts) → unwrap_or (station_value (codes "antenna-height") first) (codes "0") ≡ height_text (option_and_then (λ s. s.height) first)
-    by None = refl
-    by (Some s) = by_height s.height
+        by : (first : Option StationParts) → unwrap_or (station_value (codes "antenna-height") first) (codes "0") ≡ height_text (option_and_then (λ s. s.height) first)
+        by None = refl
+        by (Some s) = by_height s.height
 
 -- ---- the options of a conversion
 

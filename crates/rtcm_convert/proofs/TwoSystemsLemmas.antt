@@ -1,15 +1,13 @@
 -- A conversion of GPS and Galileo alone.
-use Rattle.std.proofs.Common.{◌≡◌, ◌∙◌, ap, refl, ℕ, List, [], ◌∷◌, Option, sym, subst}
+use Rattle.std.proofs.Common.{◌≡◌, ◌∙◌, ap, refl, ℕ, List, [], ◌∷◌, Option}
 use Rattle.std.specs.List.{cons_option, filter_map}
 use Rattle.rtcm_scan.specs.Frames.{Framed}
-use Rattle.gnss_obs.specs.Channels.{ChannelsValue}
 use Rattle.rtcm_msg.specs.declared.number.Forms.{Forms}
-use Rattle.rtcm_msg.specs.declared.number.Forms.TheVariants.{FourAndSeven}
 use Rattle.obs_epoch.specs.Heard.{Heard, heard_in}
 use Rattle.obs_epoch.specs.Sets.{set_of}
-use Rattle.obs_epoch.specs.TwoSystems.{AreReadPlainly, PlansTwo, plain_in}
-use Rattle.rtcm_convert.specs.Converted.{SetupValue, message_of, messages_of}
-use Rattle.rtcm_convert.specs.SetupValues.{Start, start_value}
+use Rattle.obs_epoch.specs.TwoSystems.{AreReadPlainly, plain_in}
+use Rattle.rtcm_convert.specs.Converted.{SetupValue, messages_of}
+use Rattle.rtcm_convert.specs.SetupValues.{start_value}
 use Rattle.rtcm_convert.specs.Laws.{AreMessagesPlain}
 
 -- the same of each frame, so of all

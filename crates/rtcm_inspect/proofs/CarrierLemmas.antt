@@ -1,14 +1,14 @@
 -- The values of a cell with and without its carrier.
 use Rattle.std.specs.Prelude.{map}
 use Rattle.std.proofs.lemmas.List.{get_or-replicate}
-use Rattle.gnss_system.specs.declared.system.System.TheVariants.{Glonass, Beidou, Qzss, Sbas}
+use Rattle.gnss_system.specs.declared.system.System.TheVariants.{Glonass}
 use Rattle.gnss_system.specs.Satellites.{satellites}
 use Rattle.gnss_system.specs.Signals.{band_of, code_of}
 use Rattle.gnss_obs.specs.Channels.{channel_hertz, hertz_in}
 use Rattle.gnss_obs.specs.LockTimes.{LockTime}
 use Rattle.gnss_obs.specs.Observables.{nearest_doppler, nearest_phase, nearest_pseudorange, nearest_strength}
 use Rattle.rtcm_inspect.specs.SignalLaws.{CellValues, LosesUnknownCarriers, values_by, values_of}
-use Rattle.rtcm_inspect.proofs.Names.{◌≡◌, ◌-◌, ◌<◌, ap, ap₂, cons_option, every_channel, filter_map, if◌then◌else◌, is_some, lock_by, observed, option_and_then, option_map, seen_in, signal_of_id, ChannelsValue, Df402, Df407, Entry, LockField, Satellite, SignalAt, System, Gps, Galileo, entries, Msm4, Msm5, Msm6, Msm7, Bool, true, false, ◌&&◌, nat_le, nat_tests, ℕ, ℤ, List, [], ◌∷◌, Option, Some, None, refl, arith, HeardCell, slot_count}
+use Rattle.rtcm_inspect.proofs.Names.{◌≡◌, ◌-◌, ◌<◌, ap, ap₂, cons_option, every_channel, filter_map, if◌then◌else◌, is_some, lock_by, observed, option_and_then, option_map, seen_in, signal_of_id, ChannelsValue, Df402, Df407, Entry, LockField, Satellite, SignalAt, System, entries, Msm4, Msm5, Msm6, Msm7, Bool, true, false, ◌&&◌, nat_le, nat_tests, ℕ, ℤ, List, [], ◌∷◌, Option, Some, None, refl, arith, HeardCell, slot_count}
 
 -- ---- with a channel for each slot each carrier is known
 
@@ -19,11 +19,7 @@ known_always : (system : System) (id : ℕ) (g : SignalAt) → (nat_le 1 id && n
     → is_some (hertz_in every_channel (record { system = system; id = id }) g) ≡ true
 known_always Glonass id g h =
     ap (λ (o : Option ℕ). is_some (option_map (channel_hertz (band_of (code_of g))) o)) (get_or-replicate slot_count (id - 1) (Some 7) None (bounded id h))
-known_always Gps id g h = refl
-known_always Galileo id g h = refl
-known_always Beidou id g h = refl
-known_always Qzss id g h = refl
-known_always Sbas id g h = refl
+known_always other id g h = refl
 
 -- ---- a value at a carrier
 

@@ -69,8 +69,8 @@ enum Step {
 }
 
 use Step::{
-    Closed, ClosedNone, Counts, Ends, Falls, HasEnded, HasNoDoppler, Holds, Keeps, LastLli, Lli, Locks, Of,
-    Plans, Repeats, Takes, Values,
+    Closed, ClosedNone, Counts, Ends, Falls, HasEnded, HasNoDoppler, Holds, Keeps, LastLli, Lli,
+    Locks, Of, Plans, Repeats, Takes, Values,
 };
 
 /// Whether a message has this outcome.

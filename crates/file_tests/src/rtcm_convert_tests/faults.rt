@@ -3,6 +3,7 @@ use super::Frame;
 use super::script::{Call, IDLE, OPTIONS, Options, Script, Way, all_hold};
 use crate::texts::have_texts;
 use devices_for_tests::{ReadEnd, WriteEnd};
+use obs_epoch::EpochCounts;
 use rtcm_convert::Fault;
 use rtcm_scan::MOST_BYTES;
 use std::io::ErrorKind;
@@ -206,7 +207,14 @@ fn devices_that_fail(rt: HostRuntime) {
     assert!(rt; all_hold(rt.alloc(), &DEVICES));
 }
 
-static TEXTS: [(Fault, &str); 8] = [
+/// The numbers of no epochs.
+const NONE: EpochCounts = EpochCounts {
+    epochs: 0,
+    window: 0,
+    grid: 0,
+};
+
+static TEXTS: [(Fault, &str); 9] = [
     (Fault::Memory, "Memory"),
     (Fault::BadSetup, "BadSetup"),
     (Fault::TooLong, "TooLong"),
@@ -215,6 +223,7 @@ static TEXTS: [(Fault, &str); 8] = [
     (Fault::Failed, "Failed"),
     (Fault::Finished, "Finished"),
     (Fault::NoEpoch, "NoEpoch"),
+    (Fault::NoneChosen(NONE), "NoneChosen"),
 ];
 
 #[test]

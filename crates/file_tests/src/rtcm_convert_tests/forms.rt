@@ -1,6 +1,8 @@
-//! The forms of MSM that are converted.
+//! The forms of MSM that are converted, and the epochs that are written.
 use super::ONE;
 use super::script::report_of;
+use gnss_obs::Interval;
+use obs_epoch::{Choice, EpochCounts};
 use rtcm_convert::{Fault, Report};
 use rtcm_msg::Forms;
 
@@ -17,6 +19,47 @@ const TAKEN: Report = Report { bytes: 40, ..ONE };
 #[test]
 fn msm5_is_converted_only_if_all_forms_are(rt: HostRuntime) {
     let alloc = rt.alloc();
-    assert!(rt; report_of(alloc, MSM5, Forms::FourAndSeven) == Err(Fault::NoEpoch));
-    assert!(rt; report_of(alloc, MSM5, Forms::All) == Ok(TAKEN));
+    let every = Choice::default();
+    assert!(rt; report_of(alloc, MSM5, Forms::FourAndSeven, every) == Err(Fault::NoEpoch));
+    assert!(rt; report_of(alloc, MSM5, Forms::All, every) == Ok(TAKEN));
+}
+
+/// The beginning of week 2,300, 1 s before the message.
+const BEGIN: u64 = 2_300 * 604_800_000;
+
+#[test]
+fn an_epoch_that_is_not_chosen_is_counted(rt: HostRuntime) {
+    let alloc = rt.alloc();
+    let before = Choice {
+        until: BEGIN + 1_000,
+        ..Choice::default()
+    };
+    let off = Choice {
+        interval: Interval::new(2_000),
+        ..Choice::default()
+    };
+    let out = EpochCounts {
+        epochs: 1,
+        window: 0,
+        grid: 1,
+    };
+    let none = EpochCounts {
+        window: 1,
+        grid: 0,
+        ..out
+    };
+    assert!(rt; report_of(alloc, MSM5, Forms::All, before) == Err(Fault::NoneChosen(out)));
+    assert!(rt; report_of(alloc, MSM5, Forms::All, off) == Err(Fault::NoneChosen(none)));
+    assert!(rt; report_of(alloc, MSM5, Forms::FourAndSeven, off) == Err(Fault::NoEpoch));
+}
+
+#[test]
+fn an_epoch_on_the_grid_is_written(rt: HostRuntime) {
+    let on = Choice {
+        from: BEGIN + 1_000,
+        until: BEGIN + 1_100,
+        interval: Interval::new(1_000),
+        ..Choice::default()
+    };
+    assert!(rt; report_of(rt.alloc(), MSM5, Forms::All, on) == Ok(TAKEN));
 }

@@ -6,7 +6,7 @@ use super::by_definition::Text;
 use super::{Frame, bytes_of, file};
 use devices_for_tests::{PieceReader, ReadEnd, ShortWriter, WriteEnd};
 use gnss_obs::{Plan, StationValues, System};
-use obs_epoch::Gather;
+use obs_epoch::{Choice, Gather};
 use rinex_file::{HeaderTexts, Texts};
 use rtcm_bits::{Counted, Deliver};
 use rtcm_convert::{
@@ -273,8 +273,13 @@ pub fn convert<R: Read, W: Deliver>(
     convert_stream(alloc, setup(alloc, options)?, reader, writer)
 }
 
-/// The report of these bytes, of which MSMs in these forms are converted.
-pub fn report_of(alloc: Global, bytes: &[u8], forms: Forms) -> Result<Report, Fault> {
+/// The report of these bytes, of which MSMs in these forms are converted and these epochs written.
+pub fn report_of(
+    alloc: Global,
+    bytes: &[u8],
+    forms: Forms,
+    choice: Choice,
+) -> Result<Report, Fault> {
     let initial = StationValues::zero();
     let mut reader = Counted::new(PieceReader::new(bytes, &[1], ReadEnd::Ends));
     let mut writer = writer(7, 1_500, WriteEnd::TakesNone);
@@ -284,6 +289,7 @@ pub fn report_of(alloc: Global, bytes: &[u8], forms: Forms) -> Result<Report, Fa
                 initial,
                 forms,
                 leap_seconds: 18,
+                choice,
             };
             convert_with_options(alloc, setup, options, &mut reader, &mut writer)
         }

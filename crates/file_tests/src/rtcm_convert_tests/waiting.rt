@@ -159,7 +159,8 @@ fn holds(alloc: Global, outcome: &Outcome) -> bool {
     let has_ended = run(alloc, outcome, &mut writer);
     let has_failed = writer.failures() == outcome.failures;
     let device = writer.into_inner();
-    let is_delivered = file().get(..outcome.delivered) == Some(device.target().get_ref().as_slice());
+    let is_delivered = file().get(..outcome.delivered)
+        == Some(device.target().get_ref().as_slice());
     let is_kept = device.kept.len() == outcome.kept;
     drop(device);
     has_ended && has_failed && is_delivered && is_kept

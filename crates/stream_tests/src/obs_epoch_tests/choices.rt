@@ -1,6 +1,8 @@
 //! Windows of time, the grid of an interval, and marks of lost lock in epochs off the grid.
 use super::messages::Heard;
-use super::{Closed, ClosedNone, Counts, Ends, KEPT, Lli, Step, Takes, WEEK, goes_by_bit, goes_with};
+use super::{
+    Closed, ClosedNone, Counts, Ends, KEPT, Lli, Step, Takes, WEEK, goes_by_bit, goes_with,
+};
 use gnss_obs::Interval;
 use obs_epoch::Choice;
 use std::test::*;
