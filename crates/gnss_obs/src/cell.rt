@@ -22,8 +22,9 @@ pub struct Cell {
     /// The signal, of the satellite's system.
     pub signal: Signal,
     /// The loss of lock indicator (LLI) of RINEX. Bit 0: lock was lost since the latest earlier
-    /// cell of this satellite and signal with a phase and a known lock time. Bit 1: the phase may
-    /// be off by half a cycle (DF420). 0 without a phase.
+    /// cell of this satellite and signal with a phase and a known lock time, or before, in an epoch
+    /// that was left out of a file of an interval. Bit 1: the phase may be off by half a cycle
+    /// (DF420). 0 without a phase.
     pub lli: u8,
     /// Whether the phase may be off by half a cycle (DF420).
     pub half_cycle: bool,

@@ -1,6 +1,6 @@
 -- Laws of the choice of epochs.
-use Rattle.std.proofs.Common.{◌≡◌, ℕ, ◌+◌, ◌<◌, ◌≤◌, ◌*◌, ◌%◌, Bool, true, false, true≢false, ◌&&◌, List, [], ◌∷◌, ◌++◌, filter, refl, sym, ap, ap₂, ◌∙◌, arith, Option, Some, None, is_some, IfSome, append_assoc, nat_le, nat_lt, if◌then◌else◌}
-use Rattle.std.specs.List.{AllByRecursion}
+use Rattle.std.proofs.Common.{◌≡◌, ℕ, zero, suc, ◌+◌, ◌==◌, ◌||◌, length, map, ◌<◌, ◌≤◌, ◌*◌, ◌%◌, Bool, true, false, true≢false, ◌&&◌, List, [], ◌∷◌, ◌++◌, filter, refl, sym, ap, ap₂, ◌∙◌, arith, Option, Some, None, is_some, IfSome, append_assoc, nat_le, nat_lt, not, cond, subst, if◌then◌else◌}
+use Rattle.std.specs.List.{AllByRecursion, sum_by}
 use Rattle.std.specs.Option.{option_map_or}
 use Rattle.std.proofs.lemmas.Grind.{common_steps}
 use Rattle.rtcm_msg.specs.Msm.{week}
@@ -8,10 +8,15 @@ use Rattle.gnss_obs.specs.GatheredEpochs.{TimesRise}
 use Rattle.obs_epoch.specs.declared.choice.Choice.{Choice}
 use Rattle.obs_epoch.specs.Choices.{every_epoch, in_window, is_chosen, on_grid}
 use Rattle.obs_epoch.specs.GathererHistory.{closed_list, closed_list_at, whole_list}
-use Rattle.obs_epoch.specs.Laws.{IsThinnedByChoice, IsWholeByEvery, ReturnsEvery, WindowsAreApart, WindowsJoin, with_every_epoch, with_window}
-use Rattle.obs_epoch.specs.Names.{Closed, GatherSetup, Heard, Timed, closed_times, is_shut, taken_at, timed, timed_after, times, weeks}
-use Rattle.obs_epoch.specs.Thinning.{lost_before, marked_after, thin, thin_after}
+use Rattle.obs_epoch.specs.Laws.{IsThinnedByChoice, IsWholeByEvery, NoneReturned, ReturnsEvery, WindowsAreApart, WindowsJoin, with_every_epoch, with_window}
+use Rattle.obs_epoch.specs.Names.{Cell, Closed, EpochValue, System, cells_of, GatherSetup, Heard, Timed, closed_times, is_shut, taken_at, timed, timed_after, times, weeks}
+use Rattle.obs_epoch.specs.Thinning.{counts_among, has_phase, has_satellite, is_left_out, lost_before, mark_if, marked_after, marked_epoch, thin, thin_after}
 use Rattle.obs_epoch.proofs.ReachLemmas.{IsWithin, all_append, all_filter, taken_within}
+use Rattle.gnss_obs.specs.Marked.{with_mark}
+use Rattle.gnss_obs.specs.Values.{has_value, is_written, satellites_written, written_among}
+use Rattle.gnss_system.specs.Systems.{systems}
+use Rattle.gnss_system.specs.Satellites.{satellites as satellites_in}
+use Rattle.gnss_system.proofs.SystemLaws.{value_tabulated}
 use Rattle.obs_epoch.proofs.ThinLemmas.{marks_none, none_lost}
 
 -- ---- every epoch
@@ -130,3 +135,57 @@ whole s ms =
 
 pub thinned : IsThinnedByChoice
 thinned s ms = record { all = ap (thin s.choice) (sym (whole s ms).all); closed = ap (thin s.choice) (sym (whole s ms).closed) }
+
+-- ---- no epoch with a value is returned
+
+-- A mark leaves the values of a satellite.
+marks_written : (lost : Cell → Bool) (xs : List Cell) (id : ℕ) → is_written (map (mark_if lost) xs) id ≡ is_written xs id
+marks_written lost [] id = refl
+marks_written lost (x ∷ xs) id = ap₂ (λ (a b : Bool). a || b) (by (has_phase x && lost x)) (marks_written lost xs id) where
+  by : (b : Bool) → (((if b then with_mark x else x).satellite.id == id) && has_value (if b then with_mark x else x)) ≡ ((x.satellite.id == id) && has_value x)
+  by true = refl
+  by false = refl
+
+marks_among : (lost : Cell → Bool) (xs : List Cell) (n : ℕ) → written_among (map (mark_if lost) xs) n ≡ written_among xs n
+unfolding written_among
+marks_among lost xs zero = refl
+marks_among lost xs (suc n) = ap₂ (λ (a : ℕ) (b : Bool). a + (if b then 1 else 0)) (marks_among lost xs n) (marks_written lost xs (suc n))
+
+marks_satellites : (lost : Cell → Bool) (e : EpochValue) → satellites_written (marked_epoch lost e) ≡ satellites_written e
+marks_satellites lost e = λ i. sum_by (λ s. each s i) systems where
+  each : (s : System) → written_among (cells_of s (marked_epoch lost e)) (satellites_in s) ≡ written_among (cells_of s e) (satellites_in s)
+  each s =
+      ap (λ (l : List Cell). written_among l (satellites_in s)) (value_tabulated s (λ t. map (mark_if lost) (cells_of t e)))
+      ∙ marks_among lost (cells_of s e) (satellites_in s)
+
+-- One more epoch, by whether it is chosen, whether it has a value, and whether it has one when it is marked.
+one_more : (chosen valued marked : Bool) (e m : Closed) (kept left all : List Closed) → marked ≡ valued → (length kept ≡ 0 → left ≡ all)
+    → length ((if chosen then cond marked (m ∷ []) [] else []) ++ kept) ≡ 0 → cond (not chosen && valued) (e ∷ left) left ≡ cond valued (e ∷ all) all
+one_more true true marked e m kept left all same more h = absurd (some (subst (λ (b : Bool). length (cond b (m ∷ []) [] ++ kept) ≡ 0) same h)) where
+  some : suc (length kept) ≡ 0 → ⊥
+  some is = omega (arith, is)
+one_more true false marked e m kept left all same more h = more (subst (λ (b : Bool). length (cond b (m ∷ []) [] ++ kept) ≡ 0) same h)
+one_more false true marked e m kept left all same more h = ap (λ l. e ∷ l) (more h)
+one_more false false marked e m kept left all same more h = more h
+
+none_after : (c : Choice) (earlier es : List Closed) → length (filter has_satellite (thin_after c earlier es)) ≡ 0 → filter (is_left_out c) es ≡ filter has_satellite es
+none_after c earlier [] h = refl
+none_after c earlier (e ∷ es) h =
+    one_more (is_chosen c e.epoch.time) (has_satellite e) (has_satellite m) e m (filter has_satellite rest) _ _ (ap (λ n. nat_lt 0 n) (marks_satellites (lost_before c earlier) e.epoch)) (none_after c (earlier ++ e ∷ []) es)
+    (ap length (sym (parts (is_chosen c e.epoch.time))) ∙ h) where
+      m : Closed
+      m = marked_after c earlier e
+
+      rest : List Closed
+      rest = thin_after c (earlier ++ e ∷ []) es
+
+      first : (b : Bool) → cond b (m ∷ filter has_satellite rest) (filter has_satellite rest) ≡ cond b (m ∷ []) [] ++ filter has_satellite rest
+      first true = refl
+      first false = refl
+
+      parts : (b : Bool) → filter has_satellite ((if b then m ∷ [] else []) ++ rest) ≡ (if b then cond (has_satellite m) (m ∷ []) [] else []) ++ filter has_satellite rest
+      parts true = first (has_satellite m)
+      parts false = refl
+
+pub none : NoneReturned
+none c es h = ap (counts_among c) (none_after c [] es h)

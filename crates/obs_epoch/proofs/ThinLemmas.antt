@@ -11,7 +11,7 @@ use Rattle.obs_epoch.specs.Choices.{in_window, is_chosen, on_grid}
 use Rattle.obs_epoch.specs.Marks.{capped_counts, counted_epoch}
 use Rattle.obs_epoch.specs.Names.{Cell, Closed, EpochValue, System, cells_of, has_listed_key, has_same_key, heard_cell}
 use Rattle.gnss_obs.specs.Marked.{with_mark}
-use Rattle.obs_epoch.specs.Thinning.{after_latest, all_cells, counts_of_epochs, ends_carrying, has_cell, has_phase, has_satellite, is_marked, lost_before, mark_if, marked_after, marked_epoch, thin, thin_after, up_to_most}
+use Rattle.obs_epoch.specs.Thinning.{after_latest, all_cells, counts_among, counts_left_out, ends_carrying, has_cell, has_phase, is_left_out, is_marked, lost_before, mark_if, marked_after, marked_epoch, thin, thin_after, up_to_most}
 use Rattle.obs_epoch.proofs.TimesLemmas.{list_any-push}
 
 -- ---- more epochs
@@ -144,17 +144,13 @@ cap_step : (n k : ℕ) → up_to_most (n + k) ≡ up_to_most (up_to_most n + k)
 cap_step n k = grind arith
 
 abbrev counts_with : Choice → List Closed → EpochCounts
-counts_with c valued = capped_counts (record {
-  epochs = length valued;
-  window = length (filter (λ e. in_window c e.epoch.time) valued);
-  grid = length (filter (λ e. on_grid c e.epoch.time) valued);
-})
+counts_with c counted = capped_counts (counts_among c counted)
 
 pub counts_push : (c : Choice) (es : List Closed) (e : Closed)
-    → capped_counts (counts_of_epochs c (es ++ e ∷ [])) ≡ (if has_satellite e then counted_epoch (in_window c e.epoch.time) (on_grid c e.epoch.time) (capped_counts (counts_of_epochs c es)) else capped_counts (counts_of_epochs c es))
-counts_push c es e = ap (counts_with c) (filter-append has_satellite es (e ∷ [])) ∙ by (has_satellite e) where
+    → capped_counts (counts_left_out c (es ++ e ∷ [])) ≡ (if is_left_out c e then counted_epoch (in_window c e.epoch.time) (on_grid c e.epoch.time) (capped_counts (counts_left_out c es)) else capped_counts (counts_left_out c es))
+counts_push c es e = ap (counts_with c) (filter-append (is_left_out c) es (e ∷ [])) ∙ by (is_left_out c e) where
   valued : List Closed
-  valued = filter has_satellite es
+  valued = filter (is_left_out c) es
 
   by : (b : Bool) → counts_with c (valued ++ cond b (e ∷ []) []) ≡ (if b then counted_epoch (in_window c e.epoch.time) (on_grid c e.epoch.time) (counts_with c valued) else counts_with c valued)
   by true = λ i. record {

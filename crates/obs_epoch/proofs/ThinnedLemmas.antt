@@ -1,5 +1,5 @@
 -- The epoch closed last, as it is returned.
-use Rattle.std.proofs.Common.{◌≡◌, ℕ, Bool, true, false, true≢false, ◌||◌, ◌&&◌, List, [], ◌∷◌, ◌++◌, refl, sym, ap, ap₂, ◌∙◌, subst, Option, Some, None, is_some, IfSome, nat_lt, append-nil, if◌then◌else◌, option_to_list}
+use Rattle.std.proofs.Common.{◌≡◌, ℕ, Bool, true, false, true≢false, ◌||◌, ◌&&◌, List, [], ◌∷◌, ◌++◌, refl, sym, ap, ap₂, ◌∙◌, subst, Option, Some, None, is_some, IfSome, nat_lt, not, append-nil, if◌then◌else◌, option_to_list}
 use Rattle.gnss_system.proofs.SystemLaws.{value_tabulated}
 use Rattle.rtcm_bits.specs.Prefix.{IsPrefix}
 use Rattle.gnss_obs.specs.Values.{satellites_written}
@@ -11,7 +11,7 @@ use Rattle.obs_epoch.specs.GathererHistory.{closed_by, closed_list, closed_list_
 use Rattle.obs_epoch.specs.GathererSteps.{carries, thinned, thinned_if}
 use Rattle.obs_epoch.specs.Marks.{AreMarks, capped_counts, carried_from, carried_to, counted_epoch, is_lost_in}
 use Rattle.obs_epoch.specs.Names.{Cell, Closed, EpochValue, GatherSetup, GathererValue, HasTakenMessages, Heard, Timed, cells_at, cells_with_lli, closed_so_far, empty_epoch, epoch_at, greatest_time, held_at, timed, option_map_or}
-use Rattle.obs_epoch.specs.Thinning.{counts_of_epochs, lost_before, marked_after, marked_epoch, thin, thin_after}
+use Rattle.obs_epoch.specs.Thinning.{counts_left_out, lost_before, marked_after, marked_epoch, thin, thin_after}
 use Rattle.obs_epoch.proofs.LockLemmas.{AllListed, seens}
 use Rattle.obs_epoch.proofs.MarksLemmas.{marks_push}
 use Rattle.obs_epoch.proofs.NotingLemmas.{are_listed}
@@ -94,7 +94,7 @@ pub record Step (w : GathererValue) (s : GatherSetup) (ms : List Heard) (before 
 pub record Before (w : GathererValue) (s : GatherSetup) (before es : List Closed) : Type 0 where
   pub returned : es ≡ thin s.choice before
   pub marks : AreMarks s.choice w.marks before
-  pub counts : w.counts ≡ capped_counts (counts_of_epochs s.choice before)
+  pub counts : w.counts ≡ capped_counts (counts_left_out s.choice before)
 
 thin_known : (s : GatherSetup) (ms : List Heard) (b : Bool) → thin s.choice (if b then whole_list s ms else closed_list s ms) ≡ known_epochs b s ms
 thin_known s ms true = refl
@@ -116,7 +116,7 @@ gathered v w s ms before es again h clock ended standing b =
       fits = h.fits;
       plan = ap (λ (u : GatherSetup). u.plan) standing.clock.setup;
       marks = subst (AreMarks s.choice v.marks) (sym (list ∙ h.list)) b.marks;
-      counts = b.counts ∙ ap (λ l. capped_counts (counts_of_epochs s.choice l)) (sym (list ∙ h.list));
+      counts = b.counts ∙ ap (λ l. capped_counts (counts_left_out s.choice l)) (sym (list ∙ h.list));
     }
 
 -- The epoch that the step closed is marked, counted and, if it is chosen, returned.
@@ -129,7 +129,7 @@ thinned_gathers w s ms before es again h b false has =
     gathered w w s ms before (es ++ returned_epoch w) again h refl refl h.standing (record {
       returned = out ∙ b.returned ∙ ap (thin s.choice) same;
       marks = subst (AreMarks s.choice w.marks) same b.marks;
-      counts = b.counts ∙ ap (λ l. capped_counts (counts_of_epochs s.choice l)) same;
+      counts = b.counts ∙ ap (λ l. capped_counts (counts_left_out s.choice l)) same;
     })
 thinned_gathers w s ms before es again h b true has =
     let v = thinned w in
@@ -144,9 +144,9 @@ thinned_gathers w s ms before es again h b true has =
       marks = subst (AreMarks c v.marks) more (
           subst (λ (d : Choice). AreMarks c (if is_some d.interval then carried_from (on_grid d w.epoch.time) w.marks w.epoch else w.marks) (before ++ last_of w ∷ [])) (sym choice) (marks_push c w.marks before (last_of w) listed b.marks)
           );
-      counts = counted c choice ∙ sym (counts_push c before (last_of w)) ∙ ap (λ l. capped_counts (counts_of_epochs c l)) more;
+      counts = counted c choice ∙ sym (counts_push c before (last_of w)) ∙ ap (λ l. capped_counts (counts_left_out c l)) more;
     }) where
       counted : (c : Choice) → w.clock.setup.choice ≡ c
-          → (thinned w).counts ≡ (if nat_lt 0 (satellites_written w.epoch) then counted_epoch (in_window c w.epoch.time) (on_grid c w.epoch.time) (capped_counts (counts_of_epochs s.choice before)) else capped_counts (counts_of_epochs s.choice before))
+          → (thinned w).counts ≡ (if not (is_chosen c w.epoch.time) && nat_lt 0 (satellites_written w.epoch) then counted_epoch (in_window c w.epoch.time) (on_grid c w.epoch.time) (capped_counts (counts_left_out s.choice before)) else capped_counts (counts_left_out s.choice before))
       counted c same =
-          ap₂ (λ (d : Choice) n. if nat_lt 0 (satellites_written w.epoch) then counted_epoch (in_window d w.epoch.time) (on_grid d w.epoch.time) n else n) same b.counts
+          ap₂ (λ (d : Choice) n. if not (is_chosen d w.epoch.time) && nat_lt 0 (satellites_written w.epoch) then counted_epoch (in_window d w.epoch.time) (on_grid d w.epoch.time) n else n) same b.counts

@@ -15,7 +15,7 @@ use Rattle.obs_epoch.specs.Kinds.{is_close_first, kind_of}
 use Rattle.obs_epoch.specs.GathererHistory.{HasGatheredEpochs, IsAwaited, closed_so_far_of, returned_epoch, closed_in}
 use Rattle.obs_epoch.specs.GathererHistory.{is_done}
 use Rattle.obs_epoch.specs.Marks.{capped_counts}
-use Rattle.obs_epoch.specs.Thinning.{counts_of_epochs}
+use Rattle.obs_epoch.specs.Thinning.{counts_left_out}
 use Rattle.obs_epoch.specs.declared.choice.EpochCounts.{EpochCounts}
 
 -- The kind is `CloseFirst` exactly if an epoch is pending and the message's time is greater and within the weeks.
@@ -79,11 +79,11 @@ HoldsCells now system count =
     (s : GatherSetup) (ms : List Heard) (es : List Closed) (again : Option Heard) → HasGatheredEpochs now s ms es again
     → count ≡ length (cells_of system (held_at s (timed s ms)))
 
--- The numbers of the closed epochs in which a satellite has a value.
+-- The numbers of the closed epochs that are not chosen and in which a satellite has a value.
 abbrev pub CountsEpochs : GathererValue → EpochCounts → Type 0
 CountsEpochs now counts =
     (s : GatherSetup) (ms : List Heard) (es : List Closed) (again : Option Heard) → HasGatheredEpochs now s ms es again
-    → counts ≡ capped_counts (counts_of_epochs s.choice (closed_so_far_of now s ms again))
+    → counts ≡ capped_counts (counts_left_out s.choice (closed_so_far_of now s ms again))
 
 -- The number of keys of the locked cells of the closed epochs.
 abbrev pub HoldsLockedKeys : GathererValue → ℕ → Type 0

@@ -9,7 +9,7 @@ use Rattle.gnss_obs.specs.Values.{EpochValue, PlanValue, Closed}
 use Rattle.obs_epoch.specs.Times.{timed}
 use Rattle.obs_epoch.specs.Loss.{times}
 use Rattle.obs_epoch.specs.Epochs.{epoch_at, is_shut, closed_times, closed_so_far, values_of}
-use Rattle.obs_epoch.specs.Thinning.{counts_of_epochs, thin}
+use Rattle.obs_epoch.specs.Thinning.{counts_left_out, thin}
 use Rattle.obs_epoch.specs.Marks.{AreMarks, capped_counts}
 use Rattle.obs_epoch.specs.Clock.{is_pending, closes_first}
 use Rattle.obs_epoch.specs.GathererSteps.{GathererValue}
@@ -93,4 +93,4 @@ pub record HasGatheredEpochs (v : GathererValue) (s : GatherSetup) (ms : List He
   pub fits : IfSome again (λ m. closes_first s (timed s ms) m ≡ true)
   pub plan : v.clock.setup.plan ≡ s.plan
   pub marks : AreMarks s.choice v.marks (closed_so_far_of v s ms again)
-  pub counts : v.counts ≡ capped_counts (counts_of_epochs s.choice (closed_so_far_of v s ms again))
+  pub counts : v.counts ≡ capped_counts (counts_left_out s.choice (closed_so_far_of v s ms again))

@@ -1,5 +1,5 @@
 -- The value of a gatherer, and its steps in parts.
-use Rattle.std.specs.Prelude.{ℕ, ◌≡◌, ◌==◌, Bool, true, false, nat_lt, List, [], ◌∷◌, if◌then◌else◌, Option, Some}
+use Rattle.std.specs.Prelude.{ℕ, ◌≡◌, ◌==◌, Bool, true, false, nat_lt, List, [], ◌∷◌, if◌then◌else◌, Option, Some, not, ◌&&◌}
 use Rattle.std.specs.Prelude.{None, is_some}
 use Rattle.std.specs.Option.{option_map_or}
 use Rattle.gnss_system.specs.declared.system.System.{System}
@@ -189,8 +189,8 @@ stopped c = record c { pending = false }
 abbrev pub counts_with : GathererValue → EpochCounts
 counts_with g =
     let c = g.clock.setup.choice in
-    if nat_lt 0 (satellites_written g.epoch) then counted_epoch (in_window c g.epoch.time) (on_grid c g.epoch.time) g.counts
-    else g.counts
+    if not (is_chosen c g.epoch.time) && nat_lt 0 (satellites_written g.epoch)
+    then counted_epoch (in_window c g.epoch.time) (on_grid c g.epoch.time) g.counts else g.counts
 
 abbrev pub carries : GathererValue → Bool
 carries g = is_some g.clock.setup.choice.interval

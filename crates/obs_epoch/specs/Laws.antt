@@ -1,5 +1,5 @@
 -- Laws of the epochs of a list.
-use Rattle.std.specs.Prelude.{ℕ, ◌≡◌, ◌≤◌, true, false, List, [], ◌++◌, None}
+use Rattle.std.specs.Prelude.{ℕ, ◌≡◌, ◌≤◌, true, false, List, [], ◌++◌, filter, length, None}
 use Rattle.std.specs.List.{AllByRecursion}
 use Rattle.obs_epoch.specs.Heard.{GatherSetup, Heard}
 use Rattle.obs_epoch.specs.Kinds.{is_close_first, kind_of}
@@ -12,7 +12,7 @@ use Rattle.obs_epoch.specs.Clock.{is_pending}
 use Rattle.obs_epoch.specs.Epochs.{closed_so_far}
 use Rattle.obs_epoch.specs.Loss.{times}
 use Rattle.obs_epoch.specs.Times.{Timed}
-use Rattle.obs_epoch.specs.Thinning.{thin}
+use Rattle.obs_epoch.specs.Thinning.{counts_left_out, counts_of_epochs, has_satellite, thin}
 use Rattle.obs_epoch.specs.GathererHistory.{closed_epochs, all_epochs, closed_list, whole_list}
 
 -- For every list of later messages, the closed epochs don't change and stay the first ones.
@@ -73,3 +73,8 @@ pub record IsThinned (s : GatherSetup) (ms : List Heard) : Type 0 where
 
 abbrev pub IsThinnedByChoice : Type 0
 IsThinnedByChoice = (s : GatherSetup) (ms : List Heard) → IsThinned s ms
+
+-- If no satellite has a value in a returned epoch, the epochs with a value are those that are left out.
+abbrev pub NoneReturned : Type 0
+NoneReturned = (c : Choice) (es : List Closed) → length (filter has_satellite (thin c es)) ≡ 0
+    → counts_left_out c es ≡ counts_of_epochs c es

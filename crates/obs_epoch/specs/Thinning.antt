@@ -1,6 +1,6 @@
 -- The epochs that are returned of all closed epochs.
 use Rattle.std.specs.Prelude.{ℕ, ◌%◌, ◌==◌, ◌&&◌, ◌^◌, ◌-◌, Bool, nat_lt, min, List, [], ◌∷◌, ◌++◌, map, filter, flat_map}
-use Rattle.std.specs.Prelude.{length, is_some, if◌then◌else◌}
+use Rattle.std.specs.Prelude.{length, is_some, not, if◌then◌else◌}
 use Rattle.std.specs.List.{list_any}
 use Rattle.gnss_system.specs.Systems.{systems}
 use Rattle.gnss_system.specs.SystemValues.{tabulate}
@@ -74,12 +74,22 @@ has_satellite e = nat_lt 0 (satellites_written e.epoch)
 abbrev pub up_to_most : ℕ → ℕ
 up_to_most n = min n (2 ^ 64 - 1)
 
--- The epochs in which a satellite has a value, and of these those in the window and those on the grid.
+-- The numbers of these epochs: of all of them, of those in the window, and of those on the grid.
+abbrev pub counts_among : Choice → List Closed → EpochCounts
+counts_among c es = record {
+  epochs = length es;
+  window = length (filter (λ e. in_window c e.epoch.time) es);
+  grid = length (filter (λ e. on_grid c e.epoch.time) es);
+}
+
+-- The numbers of the epochs in which a satellite has a value.
 abbrev pub counts_of_epochs : Choice → List Closed → EpochCounts
-counts_of_epochs c es =
-    let valued = filter has_satellite es in
-    record {
-      epochs = length valued;
-      window = length (filter (λ e. in_window c e.epoch.time) valued);
-      grid = length (filter (λ e. on_grid c e.epoch.time) valued);
-    }
+counts_of_epochs c es = counts_among c (filter has_satellite es)
+
+-- A satellite has a value in an epoch that is not chosen.
+abbrev pub is_left_out : Choice → Closed → Bool
+is_left_out c e = not (is_chosen c e.epoch.time) && has_satellite e
+
+-- The numbers of these.
+abbrev pub counts_left_out : Choice → List Closed → EpochCounts
+counts_left_out c es = counts_among c (filter (is_left_out c) es)

@@ -78,7 +78,7 @@ impl Default for Choice {
     }
 }
 
-/// The number of closed epochs in which a satellite has a value.
+/// Numbers of epochs in which a satellite has a value.
 #[derive(Clone, Copy, Debug, Default, PartialEq, Eq)]
 pub struct EpochCounts {
     /// All of them.
@@ -90,11 +90,11 @@ pub struct EpochCounts {
 }
 
 impl EpochCounts {
-    /// Counts an epoch, if a satellite has a value in it.
-    pub(crate) fn count(&mut self, has_value: bool, in_window: bool, on_grid: bool)
-        ensures { self.new ≡ (if has_value then counted_epoch in_window on_grid self.old else self.old) }
+    /// Counts an epoch, if it is one of those that are counted.
+    pub(crate) fn count(&mut self, is_counted: bool, in_window: bool, on_grid: bool)
+        ensures { self.new ≡ (if is_counted then counted_epoch in_window on_grid self.old else self.old) }
     {
-        if !has_value {
+        if !is_counted {
             return;
         }
         self.epochs = self.epochs.saturating_add(1);

@@ -252,7 +252,8 @@ impl Gatherer {
         self.just_closed && self.chosen
     }
 
-    /// Returns the numbers of the closed epochs in which a satellite has a value.
+    /// Returns the numbers of the closed epochs that are not chosen and in which a satellite has a
+    /// value. If none of those that are chosen has one, they are the numbers of all that have one.
     pub fn epoch_counts(&self) -> EpochCounts
         ensures now { result ≡ self.now.counts }
         ensures counts { CountsEpochs self.now result }
@@ -352,7 +353,8 @@ impl Gatherer {
         self.thin();
     }
 
-    // Counts the epoch closed last, marks its phases, and notes the loss of lock in it.
+    // Counts the epoch closed last if it is left out, marks its phases, and notes the loss of lock in
+    // it.
     fn thin(&mut self)
         requires { self.old.clock.pending ≡ false }
         ensures { self.new ≡ thinned self.old }
@@ -363,8 +365,8 @@ impl Gatherer {
         let on_grid = choice.grid_includes(time);
         let has_interval = choice.interval.is_some();
         self.chosen = in_window & on_grid;
-        let has_value = self.closed.has_satellites();
-        self.counts.count(has_value, in_window, on_grid);
+        let left_out = !self.chosen && self.closed.has_satellites();
+        self.counts.count(left_out, in_window, on_grid);
         carry(has_interval, &mut self.marks, on_grid, &mut self.closed);
     }
 

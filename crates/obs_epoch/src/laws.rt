@@ -1,7 +1,8 @@
 //! Laws of the definitions that the contracts cite.
 ghost use Rattle.gnss_obs.specs.Values.{no_values};
 ghost use Rattle.obs_epoch.specs.Laws.{AllClosed, ClosedStay, ClosedComeFirst, NoneClosed, NeverFirst};
-ghost use Rattle.obs_epoch.specs.Laws.{IsThinnedByChoice, IsWholeByEvery, ReturnsEvery, WindowsAreApart, WindowsJoin};
+ghost use Rattle.obs_epoch.specs.Laws.{IsThinnedByChoice, IsWholeByEvery, NoneReturned, ReturnsEvery, WindowsAreApart};
+ghost use Rattle.obs_epoch.specs.Laws.{WindowsJoin};
 ghost use Rattle.obs_epoch.specs.Reach.{MessagesAreHeard, EpochsAreGathered};
 ghost use Rattle.obs_epoch.specs.TimeLaws.{IsGlonassTime};
 ghost use Rattle.obs_epoch.specs.TwoSystems.{AreReadPlainly};
@@ -34,13 +35,15 @@ pub fn gathered()
 
 /// The chosen epochs. Without an interval, a window that has all times leaves no epoch out and
 /// marks none. The epochs of two windows that meet are those of the whole window, and no time is in
-/// both. The epochs of a choice are the thinned list of those of every epoch.
+/// both. The epochs of a choice are the thinned list of those of every epoch. If none of them has
+/// a value, the epochs with a value are those that are left out.
 pub fn choices()
     ensures every { ReturnsEvery }
     ensures windows { WindowsJoin }
     ensures apart { WindowsAreApart }
     ensures whole { IsWholeByEvery }
     ensures thinned { IsThinnedByChoice }
+    ensures none { NoneReturned }
 {}
 
 /// With a plan of GPS and Galileo alone and MSM4 and MSM7, exactly the messages 1005, 1006, 1074,

@@ -41,7 +41,7 @@ module _ {W : Type 0} {c : W → Option (List ℕ)} {v v' : FramerValue} {w w' :
         over = after;
         out = goes_on-trans p.1 q.0;
         epochs = q.1 ∙ whole_epochs (epochs_in s (frames_of bytes)) (length (frames_of bytes)) (length bytes) (epochs_few s (frames_of bytes)) (few bytes) (within v w s bytes d);
-        counts = q.2 ∙ counts_whole s (frames_of bytes) (length bytes) (few bytes) (within v w s bytes d);
+        counts = λ empty. q.2 empty ∙ counts_whole s (frames_of bytes) (length bytes) (few bytes) (within v w s bytes d);
         tally = tally ∙ p.0.tally ∙ tally_whole (outcomes s (frames_of bytes)) (length bytes) p.0.few (subst (λ (k : ℕ). 6 * k ≤ length bytes) (sym n) (few bytes)) (within v w s bytes d);
         taken = taken ∙ t;
         within = omega (arith, t, l, limit);

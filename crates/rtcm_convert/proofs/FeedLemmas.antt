@@ -76,7 +76,7 @@ module _ {failed over : Bool} {v v' : FramerValue} {w w' : FileWriter} {a b : Op
       let f = finished s bytes h in
       record {
         none = sym p.epochs ∙ none.1;
-        fault_is = none.0 ∙ ap fault_of_none p.counts;
+        fault_is = none.0 ∙ ap fault_of_none (p.counts (sym p.epochs ∙ none.1));
         out = p.out;
         sent = empty;
         finished = f;

@@ -1,8 +1,8 @@
 -- A message and a frame that are processed whole.
-use Rattle.obs_epoch.specs.GathererHistory.{closed_list_at}
-use Rattle.obs_epoch.specs.Laws.{AllClosed}
+use Rattle.obs_epoch.specs.GathererHistory.{closed_list_at, whole_list}
+use Rattle.obs_epoch.specs.Laws.{AllClosed, NoneReturned}
 use Rattle.obs_epoch.specs.Marks.{capped_counts}
-use Rattle.obs_epoch.specs.Thinning.{counts_of_epochs}
+use Rattle.obs_epoch.specs.Thinning.{counts_left_out}
 use Rattle.rtcm_convert.specs.Filed.{interval_in}
 use Rattle.rtcm_convert.proofs.KeptLemmas.{closed_all}
 use Rattle.rtcm_convert.proofs.PartLemmas.{goes_on-refl, goes_on-trans, breaks_off-after, breaks_off-by}
@@ -113,10 +113,10 @@ files_part f {m} {a} {b} read t s fs x =
     subst (λ (ns : List Heard). Breaks a b s (messages_of s fs) ns) (sym (messages_more s fs f m (in_set x f read))) (t s (messages_of s fs) x.settled)
 
 -- the rest of the file
-pub file_whole : AllClosed → (v w : FileWriter) (g : GathererValue) (a b : Option (List ℕ)) → Wrote v w g a b → g.has_ended ≡ true
+pub file_whole : AllClosed → NoneReturned → (v w : FileWriter) (g : GathererValue) (a b : Option (List ℕ)) → Wrote v w g a b → g.has_ended ≡ true
     → ((s : GatherSetup) (ms : List Heard) (es : List Closed) → HasGatheredEpochs v.gatherer s ms es None → HasGatheredEpochs g s ms (es ++ closed_by (closed_in g) g.values) None)
     → EndsFile v w a b
-file_whole all_closed v w g a b o over t s fs x =
+file_whole all_closed none v w g a b o over t s fs x =
     let ms = messages_of s fs in
     let es = closed_epochs s.gather ms in
     let now = t s.gather ms es x.settled.gatherer in
@@ -124,7 +124,8 @@ file_whole all_closed v w g a b o over t s fs x =
     let e : p.0 ≡ all_epochs s.gather ms = p.1.gatherer.epochs refl ∙ ap (λ (h : GathererValue). known_epochs h.has_ended s.gather ms) o.gatherer ∙ ap (λ h. known_epochs h s.gather ms) over in (
       subst (λ (all : List Closed). AppendsBetween a b (so_far s fs) (text_with s all)) e p.2,
       p.1.epochs ∙ ap count e,
-      p.1.gatherer.counts ∙ ap (λ l. capped_counts (counts_of_epochs s.gather.choice (closed_list_at s.gather ms l))) (closed_all all_closed w.gatherer s.gather ms (ap (λ (h : GathererValue). h.has_ended) o.gatherer ∙ over)),
+      λ empty. p.1.gatherer.counts ∙ ap (λ l. capped_counts (counts_left_out s.gather.choice (closed_list_at s.gather ms l))) (closed_all all_closed w.gatherer s.gather ms (ap (λ (h : GathererValue). h.has_ended) o.gatherer ∙ over))
+          ∙ ap capped_counts (none s.gather.choice (whole_list s.gather ms) empty),
       record {
         ended = ap (λ (h : GathererValue). h.has_ended) o.gatherer ∙ over;
         epochs = es ++ closed_by (closed_in g) g.values;

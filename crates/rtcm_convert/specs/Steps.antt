@@ -86,11 +86,12 @@ abbrev pub BreaksInFrame : FileWriter → Framed → Option (List ℕ) → Optio
 BreaksInFrame v f a b = (s : SetupValue) (fs : List Framed) → HasFiledFrames v s fs
     → AppendsPrefixBetween a b (so_far s fs) (so_far s (fs ++ f ∷ []))
 
--- the rest of the file was written, its epochs were counted, and all messages of its frames were gathered
+-- the rest of the file was written, its epochs were counted, those of the stream if there are none, and all messages of
+-- its frames were gathered
 abbrev pub EndsFile : FileWriter → FileWriter → Option (List ℕ) → Option (List ℕ) → Type 0
 EndsFile v w a b = (s : SetupValue) (fs : List Framed) → HasFiledFrames v s fs
     → AppendsBetween a b (so_far s fs) (file s fs) × (w.epochs ≡ capped (epochs_in s fs))
-    × (w.gatherer.counts ≡ capped_counts (epoch_counts s fs)) × HasGathered w s fs
+    × (epochs_in s fs ≡ 0 → w.gatherer.counts ≡ capped_counts (epoch_counts s fs)) × HasGathered w s fs
 
 -- a prefix of the rest of the file was written
 abbrev pub BreaksInRest : FileWriter → Option (List ℕ) → Option (List ℕ) → Type 0

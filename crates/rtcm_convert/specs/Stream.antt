@@ -75,7 +75,7 @@ pub record IsEnded (v : FramerValue) (w : FileWriter) (a b : Option (List ℕ)) 
   pub over : v.has_ended ≡ true
   pub out : AppendsRest a b s bytes bytes
   pub epochs : w.epochs ≡ epochs_in s (frames_of bytes)
-  pub counts : w.gatherer.counts ≡ epoch_counts s (frames_of bytes)
+  pub counts : epochs_in s (frames_of bytes) ≡ 0 → w.gatherer.counts ≡ epoch_counts s (frames_of bytes)
   pub tally : w.tally ≡ tally_of (outcomes s (frames_of bytes))
   pub taken : v.taken ≡ length bytes
   pub within : length bytes ≤ v.limit

@@ -204,6 +204,7 @@ impl FileWriter {
         ensures ended { self.new.gatherer.has_ended ≡ true }
     {
         obs_epoch::laws::closed_stay();
+        obs_epoch::laws::choices();
         self.gatherer.end();
         if let Err(_) = self.write_closed(writer) {
             return Err(Fault::Write);

@@ -31,7 +31,7 @@ fn a_window_has_its_begin_and_not_its_end(rt: HostRuntime) {
         Takes(Heard::Long(4_000, true, 704), KEPT, false),
         Ends(false),
         ClosedNone,
-        Counts(5, 2, 5),
+        Counts(3, 0, 3),
     ];
     let choice = Choice {
         from: BEGIN + 1_000,
@@ -50,7 +50,7 @@ fn the_grid_has_a_tolerance_on_both_sides(rt: HostRuntime) {
         Closed(BEGIN + 1_995, 1, 1),
         Takes(Heard::Long(2_005, false, 704), KEPT, true),
         Takes(Heard::Long(2_006, false, 704), KEPT, false),
-        Counts(5, 5, 2),
+        Counts(3, 3, 0),
         Ends(false),
     ];
     static EXACT: [Step; 3] = [
@@ -76,7 +76,7 @@ fn a_loss_of_lock_off_the_grid_is_marked_once(rt: HostRuntime) {
         Lli(1),
         Takes(Heard::Long(6_000, false, 704), KEPT, true),
         Lli(0),
-        Counts(4, 4, 3),
+        Counts(1, 1, 0),
     ];
     static WHOLE: [Step; 5] = [
         Takes(Heard::Long(2_000, false, 704), KEPT, true),
@@ -138,7 +138,7 @@ fn marks_are_carried_regardless_of_the_window(rt: HostRuntime) {
         Takes(Heard::Long(6_000, false, 704), KEPT, true),
         Lli(0),
         Takes(Heard::Long(7_000, false, 704), KEPT, false),
-        Counts(5, 2, 3),
+        Counts(4, 1, 2),
     ];
     static LATER: [Step; 4] = [
         Takes(Heard::Long(4_000, false, 704), KEPT, false),

@@ -1,4 +1,4 @@
-use Rattle.obs_epoch.proofs.ChoiceLemmas.{apart, every, join, thinned, whole}
+use Rattle.obs_epoch.proofs.ChoiceLemmas.{apart, every, join, none, thinned, whole}
 use Rattle.obs_epoch.proofs.laws.choices.Goals as goal
 
 pub returns-clause-every : goal.returns-clause-every
@@ -15,3 +15,6 @@ returns-clause-whole c = whole
 
 pub returns-clause-thinned : goal.returns-clause-thinned
 returns-clause-thinned c = thinned
+
+pub returns-clause-none : goal.returns-clause-none
+returns-clause-none c = none
