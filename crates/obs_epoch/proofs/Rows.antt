@@ -1,4 +1,5 @@
 -- The definitions computed on small lists.
+use Rattle.obs_epoch.specs.declared.setup.Gather.TheVariants as gathers
 use Rattle.gnss_system.specs.declared.system.System.TheVariants.{Glonass}
 use Rattle.obs_epoch.specs.Heard.{tow_of}
 use Rattle.std.proofs.Common.{◌≡◌, ℕ, ◌+◌, ◌*◌, ◌^◌, Bool, true, false, List, [], ◌∷◌, map, refl, Option, Some, None, pos, ℤ}
@@ -10,7 +11,7 @@ use Rattle.obs_epoch.specs.Choices.{every_epoch}
 use Rattle.obs_epoch.specs.Epochs.{closed_times, epoch_at, epochs}
 
 abbrev setup : GatherSetup
-setup = record { plan = plan_with (of_two (2 ∷ []) (2 ∷ []) []); start_week = 2300; station = Some 7; by_bit = true; initial = no_values; leap = 18; choice = every_epoch }
+setup = record { plan = plan_with (of_two (2 ∷ []) (2 ∷ []) []); start_week = 2300; station = Some 7; gather = gathers.Bit; initial = no_values; leap_seconds = 18; choice = every_epoch }
 
 abbrev observed : ℕ → Bool → List HeardCell → Heard
 observed tow more cells = record { station = Some 7; tow = Some tow; more = Some more; cells = cells; unlisted = 0; point = None }
@@ -39,7 +40,7 @@ closing = observed 5 true [] ∷ observed 5 true [] ∷ other false ∷ observed
 pub closing_times : map (λ x. x.time) (timed setup closing) ≡ Some (2300 * week + 5) ∷ Some (2300 * week + 5) ∷ None ∷ None ∷ []
 closing_times = refl
 
-pub not_by_bit : map (λ x. x.time) (timed (record setup { by_bit = false }) closing)
+pub not_by_bit : map (λ x. x.time) (timed (record setup { gather = gathers.Time }) closing)
     ≡ Some (2300 * week + 5) ∷ Some (2300 * week + 5) ∷ None ∷ Some (2300 * week + 5) ∷ []
 not_by_bit = refl
 

@@ -16,4 +16,4 @@ pub loaded_view : (m : FormedMsm) (is_accepted : Bool) (g : GathererValue) → i
     → load_entries (lock_field m.form) m.msm.system (record { state = g; counts = no_counts }) (entries (formed m)) ≡ loaded_where is_accepted g (heard_by g.clock.setup (formed m))
 loaded_view m is_accepted g is =
     load_entries_is g.clock.setup.plan.channels (lock_field m.form) m.msm.system (record { state = g; counts = no_counts }) (entries (formed m)) refl
-    ∙ rw (is, heard_formed g.clock.setup.plan.channels g.clock.setup.leap m) refl
+    ∙ rw (is, heard_formed g.clock.setup.plan.channels g.clock.setup.leap_seconds m) refl

@@ -1,4 +1,4 @@
--- The setup of a gatherer, and the parts of a message that it uses.
+-- The parts of a message that it uses.
 use Rattle.std.specs.Prelude.{ℕ, ◌==◌, ◌&&◌, Bool, true, false, not, List, [], ◌∷◌, if◌then◌else◌}
 use Rattle.std.specs.Prelude.{Option, Some, None, option_map, option_and_then, filter_map, ◌+◌, ◌-◌, ◌*◌, ◌/◌, ◌%◌, ◌^◌}
 use Rattle.std.specs.Prelude.{is_some}
@@ -24,22 +24,15 @@ use Rattle.rtcm_msg.specs.declared.fault.MsgFault.{MsgFault}
 use Rattle.rtcm_msg.specs.Decoding.{message_at, message_with}
 use Rattle.rtcm_msg.specs.declared.number.MsmSet.{MsmSet}
 use Rattle.rtcm_msg.specs.Entries.{entries}
-use Rattle.gnss_obs.specs.Values.{PlanValue}
-use Rattle.gnss_obs.specs.declared.cell.StationValues.{StationValues}
 use Rattle.gnss_obs.specs.HeardCells.{HeardCell}
-use Rattle.obs_epoch.specs.declared.choice.Choice.{Choice}
+pub use Rattle.obs_epoch.specs.declared.setup.GatherSetup.{GatherSetup}
+use Rattle.obs_epoch.specs.declared.setup.Gather.{Gather}
+use Rattle.obs_epoch.specs.declared.setup.Gather.TheVariants as gathers
 
--- The setup of a gatherer: the planned signals, the week of the first time, the station (none: the messages of all
--- stations as if they were one), whether a message may close an epoch, the station values before any message, GPS time
--- minus UTC in seconds, and the epochs that are returned.
-pub record GatherSetup : Type 0 where
-  pub plan : PlanValue
-  pub start_week : ℕ
-  pub station : Option ℕ
-  pub by_bit : Bool
-  pub initial : StationValues
-  pub leap : ℕ
-  pub choice : Choice
+-- The multiple message bit may close an epoch.
+abbrev pub is_by_bit : Gather → Bool
+is_by_bit gathers.Bit = true
+is_by_bit gathers.Time = false
 
 -- The parts of a message that a gatherer uses: the station, if the message has one; the time of week, if it has
 -- observations; whether more messages of the same time follow, if it contains DF393; its cells of listed satellites and
@@ -124,7 +117,7 @@ heard channels leap (message.Other number set) =
 
 -- The same with those of a setup.
 abbrev pub heard_by : GatherSetup → Message → Heard
-heard_by s m = heard s.plan.channels s.leap m
+heard_by s m = heard s.plan.channels s.leap_seconds m
 
 -- A message without its cells.
 abbrev pub without_cells : Heard → Heard
@@ -140,7 +133,7 @@ is_own s m = option_map_or (λ from. option_map_or (λ wanted. from == wanted) s
 
 -- An own message after which no more messages of its time follow, if the multiple message bit is used.
 abbrev pub ends_epoch : GatherSetup → Heard → Bool
-ends_epoch s m = s.by_bit && is_own s m && option_map_or not m.more false
+ends_epoch s m = is_by_bit s.gather && is_own s m && option_map_or not m.more false
 
 -- The parts of a message, or `None` if it was refused.
 abbrev pub heard_of : ChannelsValue → ℕ → Result Message MsgFault → Option Heard

@@ -1,15 +1,12 @@
 -- The outcome of a message.
-use Rattle.std.specs.Prelude.{ℕ, ◌||◌, Bool, true, false, List, Option, is_some, if◌then◌else◌}
+use Rattle.std.specs.Prelude.{ℕ, ◌||◌, Bool, true, false, List, Option, None, is_some, if◌then◌else◌}
 use Rattle.obs_epoch.specs.declared.taken.Kind.{Kind}
 use Rattle.obs_epoch.specs.declared.taken.Kind.TheVariants as kinds
 use Rattle.std.specs.Prelude.{nat_lt}
 use Rattle.std.specs.Option.{option_map_or}
-use Rattle.obs_epoch.specs.declared.taken.Gather.{Gather}
-use Rattle.obs_epoch.specs.declared.taken.GatherOptions.{GatherOptions}
-use Rattle.obs_epoch.specs.declared.taken.Gather.TheVariants as gathers
+use Rattle.obs_epoch.specs.declared.setup.Gather.TheVariants as gathers
 use Rattle.gnss_obs.specs.Values.{PlanValue}
 use Rattle.obs_epoch.specs.Heard.{GatherSetup, Heard, is_own}
-use Rattle.gnss_obs.specs.declared.cell.StationValues.{StationValues}
 use Rattle.gnss_obs.specs.Values.{no_values}
 use Rattle.obs_epoch.specs.Choices.{every_epoch}
 use Rattle.obs_epoch.specs.Times.{Timed, is_late, is_past, time_of, timed}
@@ -46,36 +43,21 @@ kind_after s xs n m =
 abbrev pub kind_of : GatherSetup → List Heard → Heard → Kind
 kind_of s ms m = kind_after s (timed s ms) (counts_of_message s (timed s ms) m) m
 
--- The multiple message bit may close an epoch.
-abbrev pub is_by_bit : Gather → Bool
-is_by_bit gathers.Bit = true
-is_by_bit gathers.Time = false
-
--- The setup of a gatherer with these arguments.
-abbrev pub setup_by : PlanValue → ℕ → Option ℕ → Gather → GatherOptions → GatherSetup
-setup_by plan start_week station gather options = record {
-  plan = plan;
-  start_week = start_week;
-  station = station;
-  by_bit = is_by_bit gather;
-  initial = options.initial;
-  leap = options.leap_seconds;
-  choice = options.choice;
-}
-
 -- GPS time minus UTC in seconds from 2017-01-01 on, which holds if no other number is given.
 abbrev pub default_leap : ℕ
 default_leap = 18
 
--- The same with the default of the leap seconds and every epoch.
-abbrev pub setup_with : PlanValue → ℕ → Option ℕ → Gather → StationValues → GatherSetup
-setup_with plan start_week station gather initial =
-    setup_by plan start_week station gather
-    (record { initial = initial; leap_seconds = default_leap; choice = every_epoch })
-
--- The same setup with station values of 0.
-abbrev pub setup_of : PlanValue → ℕ → Option ℕ → Gather → GatherSetup
-setup_of plan start_week station gather = setup_with plan start_week station gather no_values
+-- The default settings with this plan and start week.
+abbrev pub default_setup : PlanValue → ℕ → GatherSetup
+default_setup plan start_week = record {
+  plan = plan;
+  start_week = start_week;
+  station = None;
+  gather = gathers.Bit;
+  initial = no_values;
+  leap_seconds = default_leap;
+  choice = every_epoch;
+}
 
 -- The number of the station does not fit the 12 bits of DF003.
 abbrev pub is_no_station : Option ℕ → Bool

@@ -3,11 +3,11 @@ ghost use Rattle.std.specs.Prelude.{◌==◌, ◌≡◌, ◌<◌, ◌*◌, [], t
 ghost use Rattle.std.specs.Option.{ForSome};
 ghost use Rattle.rtcm_msg.specs.Msm.{week};
 ghost use Rattle.obs_epoch.specs.Heard.{ends_epoch, heard_summary, is_own};
-ghost use Rattle.obs_epoch.specs.Kinds.{setup_by};
 ghost use Rattle.gnss_obs.specs.Weeks.{weeks};
 
 use crate::choice::Choice;
-use crate::taken::{CellCounts, Gather, GatherOptions, Kind};
+use crate::setup::{Gather, GatherSetup};
+use crate::taken::{CellCounts, Kind};
 use gnss_obs::{GpsTime, Plan, WEEK, WEEKS};
 use rtcm_msg::Summary;
 use std::marker::Model;
@@ -15,11 +15,7 @@ use std::marker::Model;
 /// The times of a station's messages: the greatest so far, and whether its epoch is pending.
 #[derive(Drop)]
 pub struct Clock {
-    plan: Plan,
-    start_week: u32,
-    station: Option<u16>,
-    by_bit: bool,
-    options: GatherOptions,
+    setup: GatherSetup,
     latest: Option<u64>,
     pending: bool,
 }
@@ -31,21 +27,12 @@ impl Model for Clock {
     ghost Value = { State };
 
     ghost view = { λ c. record {
-      setup =
-          record {
-            plan = c.plan;
-            start_week = c.start_week;
-            station = c.station;
-            by_bit = c.by_bit;
-            initial = c.options.initial;
-            leap = c.options.leap_seconds;
-            choice = c.options.choice;
-          };
+      setup = c.setup;
       latest = c.latest;
       pending = c.pending;
     } };
 
-    ghost invariant = { λ c. IsWithinWeeks c.start_week c.latest c.pending };
+    ghost invariant = { λ c. IsWithinWeeks c.setup.start_week c.latest c.pending };
 }
 
 impl Clock {
@@ -55,23 +42,12 @@ impl Clock {
     ghost use Rattle.obs_epoch.specs.Step.{open_at, open_by, time_in};
 
     /// Returns the clock before the first message.
-    pub fn new(
-        plan: Plan,
-        start_week: u32,
-        station: Option<u16>,
-        gather: Gather,
-        options: GatherOptions,
-    ) -> Clock
-        requires { start_week < weeks }
-        ensures setup { result.setup ≡ setup_by plan start_week station gather options }
-        ensures history { HasHeardMessages result result.setup [] false }
+    pub fn new(setup: GatherSetup) -> Clock
+        requires { setup.start_week < weeks }
+        ensures { HasHeardMessages result setup [] false }
     {
         Clock {
-            plan,
-            start_week,
-            station,
-            by_bit: matches!(gather, Gather::Bit),
-            options,
+            setup,
             latest: None,
             pending: false,
         }
@@ -81,21 +57,21 @@ impl Clock {
     pub fn plan(&self) -> &Plan
         ensures { result.now ≡ self.now.setup.plan }
     {
-        &self.plan
+        &self.setup.plan
     }
 
     /// Returns GPS time minus UTC, in seconds.
     pub fn leap_seconds(&self) -> u8
-        ensures { result ≡ self.now.setup.leap }
+        ensures { result ≡ self.now.setup.leap_seconds }
     {
-        self.options.leap_seconds
+        self.setup.leap_seconds
     }
 
     /// Returns the epochs that are returned.
     pub fn choice(&self) -> &Choice
         ensures { result.now ≡ self.now.setup.choice }
     {
-        &self.options.choice
+        &self.setup.choice
     }
 
     /// Returns whether an epoch is pending.
@@ -139,7 +115,8 @@ impl Clock {
     pub fn is_own(&self, said: &Summary) -> bool
         ensures { result ≡ is_own self.now.setup (heard_summary said.now) }
     {
-        said.station.is_some() && (self.station.is_none() || said.station == self.station)
+        said.station.is_some()
+            && (self.setup.station.is_none() || said.station == self.setup.station)
     }
 
     // Returns whether a message ends its epoch. A pending epoch has a time.
@@ -147,7 +124,7 @@ impl Clock {
         ensures value { result ≡ ends_epoch self.now.setup (heard_summary said.now) }
         ensures known { self.now.pending ≡ true → is_some self.now.latest ≡ true }
     {
-        self.by_bit && self.is_own(said) && said.more == Some(false)
+        matches!(self.setup.gather, Gather::Bit) && self.is_own(said) && said.more == Some(false)
     }
 
     // Processes the time of a message, and returns its outcome.
@@ -170,7 +147,7 @@ impl Clock {
         ensures kind { result ≡ kind_now self.old no_counts tow }
         ensures step { self.new ≡ open_at self.old tow }
     {
-        let mut time = self.start_week as u64 * WEEK + tow as u64;
+        let mut time = self.setup.start_week as u64 * WEEK + tow as u64;
         if let Some(latest) = self.latest {
             let ahead = (tow as u64 + (WEEK - latest % WEEK)) % WEEK;
             if ahead > WEEK / 2 || ahead == 0 && !self.pending {

@@ -8,7 +8,8 @@ ghost use Rattle.rtcm_msg.specs.Viewed.{viewed_message};
 ghost use Rattle.rtcm_msg.specs.Forms.{lock_field};
 ghost use Rattle.rtcm_msg.specs.Views.{formed};
 ghost use Rattle.gnss_obs.specs.Weeks.{weeks};
-ghost use Rattle.obs_epoch.specs.Heard.{GatherSetup, Heard, heard_by, heard_summary};
+ghost use Rattle.obs_epoch.specs.Heard.{Heard, heard_by, heard_summary};
+ghost use Rattle.obs_epoch.specs.declared.setup.GatherSetup.{GatherSetup};
 ghost use Rattle.gnss_obs.specs.Order.{AreSortedByPlan};
 ghost use Rattle.gnss_obs.specs.Plans.{place_in};
 ghost use Rattle.gnss_obs.specs.HeardCells.{heard_cell, IsObserved};
@@ -16,7 +17,7 @@ ghost use Rattle.obs_epoch.specs.Epochs.{values_after_message, values_of};
 ghost use Rattle.obs_epoch.specs.Held.{count_in, most_locks, outcome_of_added, recorded};
 ghost use Rattle.obs_epoch.specs.Step.{kind_by, closed_time, ended_where, step_by};
 ghost use Rattle.gnss_obs.specs.Values.{Closed, cells_of, most_cells, planned_of};
-ghost use Rattle.obs_epoch.specs.Kinds.{is_no_station, setup_by, setup_with, setup_of, with_counts};
+ghost use Rattle.obs_epoch.specs.Kinds.{is_no_station, with_counts};
 ghost use Rattle.obs_epoch.specs.GathererHistory.{HasGatheredEpochs, closed_by, closed_in, plan_in};
 ghost use Rattle.obs_epoch.specs.Calls.{TakesMessage, EndsPendingEpoch, StaysEnded, HoldsCells, HoldsLockedKeys, CountsEpochs};
 ghost use Rattle.gnss_obs.specs.declared.fault.PlanFault.{PlanFault};
@@ -32,8 +33,9 @@ use crate::locks::{Locks, lli, note_systems};
 use crate::marks;
 use crate::marks::Marks;
 use crate::observe::observe;
+use crate::setup::GatherSetup;
 use crate::start::new_parts;
-use crate::taken::{CellCounts, Gather, GatherOptions, Kind, LEAP_SECONDS, Taken};
+use crate::taken::{CellCounts, Kind, Taken};
 use crate::tow::summary_of;
 use gnss_obs::{Added, Cell, Epoch, EpochCells, Plan, PlanFault, StationValues, System};
 use rtcm_msg::{
@@ -85,96 +87,28 @@ impl Model for Gatherer {
 }
 
 impl Gatherer {
-    /// Returns a gatherer of the messages of one station; with `None`, of all stations as if they
-    /// were one. The first time is in the start week. Only this call, `with_values` and
-    /// `with_options` allocate.
+    /// Returns a gatherer of the messages of one station, or of all stations as if they were one.
+    /// The first time is in the start week. Only this call allocates.
     ///
     /// # Errors
     ///
     /// `BadWeek` for a week greater than 99,999, else `BadStation` for a station greater than
     /// 4,095, else `Memory` if an allocation failed.
-    pub fn new(
-        alloc: Global,
-        plan: Plan,
-        start_week: u32,
-        station: Option<u16>,
-        gather: Gather,
-    ) -> Result<Gatherer, PlanFault>
-        ensures history { IfOk result (λ g. HasGatheredEpochs g (setup_of plan start_week station gather) [] [] None) }
+    pub fn new(alloc: Global, setup: GatherSetup) -> Result<Gatherer, PlanFault>
+        ensures history { IfOk result (λ g. HasGatheredEpochs g setup [] [] None) }
         ensures going { IfOk result (λ g. g.has_ended ≡ false) }
         ensures none { IfOk result (λ g. closed_in g ≡ None) }
-        ensures accepted { IsOk result → (start_week < weeks) × (is_no_station station ≡ false) }
-        ensures week { (result ≡ Err PlanFault.BadWeek) ↔ (weeks ≤ start_week) }
+        ensures accepted { IsOk result → (setup.start_week < weeks) × (is_no_station setup.station ≡ false) }
+        ensures week { (result ≡ Err PlanFault.BadWeek) ↔ (weeks ≤ setup.start_week) }
         ensures station { (result ≡ Err PlanFault.BadStation)
-            ↔ ((start_week < weeks) × (is_no_station station ≡ true)) }
+            ↔ ((setup.start_week < weeks) × (is_no_station setup.station ≡ true)) }
         ensures only { IfErr result
             (λ e. (e ≡ PlanFault.BadWeek) ⊎ ((e ≡ PlanFault.BadStation) ⊎ (e ≡ PlanFault.Memory))) }
     {
-        let zero = StationValues::zero();
-        Gatherer::with_values(alloc, plan, start_week, station, gather, zero)
-    }
-
-    /// Returns a gatherer as `new` does, with `initial` as the station values until a station
-    /// message contains others.
-    ///
-    /// # Errors
-    ///
-    /// Those of `new`.
-    pub fn with_values(
-        alloc: Global,
-        plan: Plan,
-        start_week: u32,
-        station: Option<u16>,
-        gather: Gather,
-        initial: StationValues,
-    ) -> Result<Gatherer, PlanFault>
-        ensures history { IfOk result
-            (λ g. HasGatheredEpochs g (setup_with plan start_week station gather initial) [] [] None) }
-        ensures going { IfOk result (λ g. g.has_ended ≡ false) }
-        ensures none { IfOk result (λ g. closed_in g ≡ None) }
-        ensures accepted { IsOk result → (start_week < weeks) × (is_no_station station ≡ false) }
-        ensures week { (result ≡ Err PlanFault.BadWeek) ↔ (weeks ≤ start_week) }
-        ensures station { (result ≡ Err PlanFault.BadStation)
-            ↔ ((start_week < weeks) × (is_no_station station ≡ true)) }
-        ensures only { IfErr result
-            (λ e. (e ≡ PlanFault.BadWeek) ⊎ ((e ≡ PlanFault.BadStation) ⊎ (e ≡ PlanFault.Memory))) }
-    {
-        let options = GatherOptions {
-            initial,
-            leap_seconds: LEAP_SECONDS,
-            choice: Choice::default(),
-        };
-        Gatherer::with_options(alloc, plan, start_week, station, gather, options)
-    }
-
-    /// Returns a gatherer as `new` does, with these options.
-    ///
-    /// # Errors
-    ///
-    /// Those of `new`.
-    pub fn with_options(
-        alloc: Global,
-        plan: Plan,
-        start_week: u32,
-        station: Option<u16>,
-        gather: Gather,
-        options: GatherOptions,
-    ) -> Result<Gatherer, PlanFault>
-        ensures history { IfOk result
-            (λ g. HasGatheredEpochs g (setup_by plan start_week station gather options) [] [] None) }
-        ensures going { IfOk result (λ g. g.has_ended ≡ false) }
-        ensures none { IfOk result (λ g. closed_in g ≡ None) }
-        ensures accepted { IsOk result → (start_week < weeks) × (is_no_station station ≡ false) }
-        ensures week { (result ≡ Err PlanFault.BadWeek) ↔ (weeks ≤ start_week) }
-        ensures station { (result ≡ Err PlanFault.BadStation)
-            ↔ ((start_week < weeks) × (is_no_station station ≡ true)) }
-        ensures only { IfErr result
-            (λ e. (e ≡ PlanFault.BadWeek) ⊎ ((e ≡ PlanFault.BadStation) ⊎ (e ≡ PlanFault.Memory))) }
-    {
-        let initial = options.initial;
-        match new_parts(alloc, start_week, station) {
+        let initial = setup.initial;
+        match new_parts(alloc, setup.start_week, setup.station) {
             Ok((pending, closed, locks, marks)) => Ok(Gatherer {
-                clock: Clock::new(plan, start_week, station, gather, options),
+                clock: Clock::new(setup),
                 pending,
                 closed,
                 values: initial,
@@ -187,7 +121,7 @@ impl Gatherer {
             }),
             Err(fault) => {
                 // A call drops it with less proof than the end of its scope.
-                drop(plan);
+                drop(setup);
                 Err(fault)
             }
         }
@@ -307,7 +241,7 @@ impl Gatherer {
 
     /// Returns GPS time minus UTC, in seconds.
     pub fn leap_seconds(&self) -> u8
-        ensures { result ≡ self.now.clock.setup.leap }
+        ensures { result ≡ self.now.clock.setup.leap_seconds }
     {
         self.clock.leap_seconds()
     }

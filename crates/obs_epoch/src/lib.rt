@@ -12,6 +12,7 @@ mod locks;
 mod marks;
 mod observe;
 mod set;
+mod setup;
 mod signal_counts;
 mod start;
 mod taken;
@@ -22,6 +23,7 @@ pub use gather::Gatherer;
 // The benchmark imports it from here.
 pub use gnss_obs::Plan;
 pub use set::{is_always_decoded, msm_set};
+pub use setup::{Gather, GatherSetup, LEAP_SECONDS};
 pub use signal_counts::SignalCounts;
-pub use taken::{CellCounts, Gather, GatherOptions, Kind, LEAP_SECONDS, Taken};
+pub use taken::{CellCounts, Kind, Taken};
 pub use tow::tow_of;

@@ -2,33 +2,6 @@
 ghost use Rattle.std.specs.Prelude.{◌≡◌};
 ghost use Rattle.obs_epoch.specs.Kinds.{is_accepted, is_close_first, with_counts};
 
-use crate::choice::Choice;
-use gnss_obs::StationValues;
-
-/// How the epochs of a station are closed.
-#[derive(Clone, Copy)]
-pub enum Gather {
-    /// By observations of a later time, and by the multiple message bit: a message of the station
-    /// with DF393 = 0.
-    Bit,
-    /// By observations of a later time alone.
-    Time,
-}
-
-/// GPS time minus UTC from 2017-01-01 on, in seconds.
-pub const LEAP_SECONDS: u8 = 18;
-
-/// Further options of a gatherer.
-#[derive(Clone, Copy)]
-pub struct GatherOptions {
-    /// The station values until a station message contains others.
-    pub initial: StationValues,
-    /// GPS time minus UTC, in seconds. GLONASS time is 3 h ahead of UTC.
-    pub leap_seconds: u8,
-    /// The epochs that are returned.
-    pub choice: Choice,
-}
-
 /// The outcome of a message.
 #[derive(Clone, Copy, PartialEq)]
 pub enum Kind {

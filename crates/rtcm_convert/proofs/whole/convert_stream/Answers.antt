@@ -1,33 +1,40 @@
-use Rattle.gnss_obs.specs.declared.cell.StationValues.{StationValues}
-use Rattle.rtcm_convert.specs.declared.setup.Setup.{Setup}
-use Rattle.rtcm_convert.specs.Made.{IsMadeInPart, IsMadeSoFar}
-use Rattle.rtcm_convert.proofs.Names.{◌≡◌, subst, BadSetup, Err, IfOk, IfSome, IsBadWith, IsErrOf, IsMadeEmpty, IsMadeToLimit, IsMadeWith, NoEpoch, NoneChosen, Read, Start, TooLong, Write, rules, start_with}
-use Rattle.rtcm_convert.proofs.whole.convert_stream.Goals as goal
-
--- what was made from the same values
-same : {v w : StationValues} (s : Setup) (P : Start → Type 0) → v ≡ w → P (start_with s v) → P (start_with s w)
-same s P e x = subst (λ (v : StationValues). P (start_with s v)) e x
+use Rattle.std.proofs.Common.{ℕ, Option, IfSome, subst}
+use Rattle.gnss_obs.specs.Intervals.{IsInterval}
+use Rattle.rtcm_convert.proofs.FaultLemmas.{passed, run_known, never, not_of_setup, not_err}
+use Rattle.rtcm_convert.proofs.PartLemmas.{same_fault}
+use Rattle.rtcm_convert.proofs.WholeLemmas.{BeganNew, run_made, run_empty, run_read, run_long, run_write}
+use Rattle.rtcm_convert.proofs.Names.{◌≡◌, refl, Err, IsBadWith, LeftBy, BadSetup, Failed, Finished, start_by}
+use Rattle.rtcm_convert.proofs.whole.convert_with_options.Goals as goal
 
 pub returns : goal.returns
 returns g c =
-    let s = c.args.setup in
-    let e = c.zero.ensures in
-    let n = c.convert_stream_with.ensures in
-    let r = c.convert_stream_with.result in
+    let x = start_by c.args.setup c.args.options in
+    let v = c.in_ok-converter.converter in
+    let h = c.in_ok-converter.ensures in
+    let w = c.run-answer.new.self in
+    let r = c.run-answer.result in
+    let n = c.run-answer.ensures in
     let from = g.R.Read.remaining c.args.reader.now.inner in
-    let rest = g.R.Read.remaining c.convert_stream_with.new.reader.inner in
-    let a = g.W.Write.contents c.args.writer.now.inner in
-    let b = g.W.Write.contents c.convert_stream_with.new.writer.inner in
+    let interval : IfSome c.args.options.choice.interval IsInterval = subst (λ (o : Option ℕ). IfSome o IsInterval) c.milliseconds.ensures.value c.milliseconds.ensures.bound in
+    let new : BeganNew v w x = record { nothing = c.prefix.ensures.nothing; history = h.history; same = n.left.0.0; limit = h.fresh.0 } in
+    let left = n.left.0.1 h.history.going in
+    let no = never (λ f. LeftBy f w) run_known r left in
     record {
-      made = same s (λ x. IfOk r (λ report. IfSome from (IsMadeWith x report a b))) e n.made;
-      no_epoch = same s (λ x. IsErrOf r NoEpoch → IfSome from (IsMadeEmpty x NoEpoch a b)) e n.no_epoch;
-      none_chosen = λ counts. same s (λ x. IsErrOf r (NoneChosen counts) → IfSome from (IsMadeEmpty x (NoneChosen counts) a b)) e (n.none_chosen counts);
-      long = same s (λ x. IsErrOf r TooLong → IsMadeToLimit x from rest a b) e n.long;
-      read = same s (λ x. IsErrOf r Read → IsMadeSoFar x from rest a b) e n.read;
-      write = same s (λ x. IsErrOf r Write → IsMadeInPart x from rest a b) e n.write;
+      made = run_made _ from _ _ r new (c.read_back.ensures.some c.args.options h.fits interval) n.whole;
+      no_epoch = λ e. run_empty _ _ from _ _ new (n.no_epoch e);
+      none_chosen = λ counts e. run_empty _ _ from _ _ new (n.none_chosen counts e);
+      long = λ e. run_long new (n.long e);
+      read = λ e. run_read from _ new (n.read e);
+      write = λ e. run_write from _ new (n.write e);
       sent = n.sent;
-      devices = n.devices;
-      bad_setup = let bad = same s (λ x. (r ≡ Err BadSetup → IsBadWith x) × (IsBadWith x → r ≡ Err BadSetup)) e n.bad_setup in search rules;
-      untouched = n.untouched;
-      only = n.only;
+      devices = (n.reader, n.writer);
+      bad_setup = (λ e. absurd (no BadSetup refl e), λ b. absurd (not_err v BadSetup (h.bad.1 b)));
+      untouched = not_of_setup (λ f. LeftBy f w) run_known _ r left refl refl;
+      only = (no Failed refl, no Finished refl);
     }
+
+pub returns-in_err-converter-clause-bad_setup : goal.returns-in_err-converter-clause-bad_setup
+returns-in_err-converter-clause-bad_setup g c =
+    let bad = c.in_err-converter.ensures.bad in
+    passed c.from_residual.result _ (λ q. (q ≡ Err BadSetup → IsBadWith (start_by c.args.setup c.args.options)) × (IsBadWith (start_by c.args.setup c.args.options) → q ≡ Err BadSetup)) c.from_residual.ensures.1
+    (λ e. bad.0 (same_fault _ BadSetup e), λ b. same_fault _ BadSetup (bad.1 b))

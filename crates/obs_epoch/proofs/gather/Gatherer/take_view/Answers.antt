@@ -18,7 +18,7 @@ said_is : (c : goal.After-has_closed) → heard_summary c.summary_of-said.result
 said_is c =
     let setup = c.args.self.now.clock.setup in
     c.summary_of-said.ensures.value setup.plan.channels
-    ∙ ap (λ (leap : ℕ). without_cells (heard setup.plan.channels leap (viewed_message c.args.view.now))) (c.leap_seconds.ensures ∙ ap (λ (g : GathererValue). g.clock.setup.leap) c.self.view_is)
+    ∙ ap (λ (leap : ℕ). without_cells (heard setup.plan.channels leap (viewed_message c.args.view.now))) (c.leap_seconds.ensures ∙ ap (λ (g : GathererValue). g.clock.setup.leap_seconds) c.self.view_is)
 
 kind_is : (c : goal.After-has_closed) → c.hear-kind.result.0 ≡ kind_by c.args.self.now.clock no_counts (message c)
 kind_is c = c.hear-kind.ensures.kind ∙ ap (kind_by c.args.self.now.clock no_counts) (said_is c)

@@ -1,9 +1,9 @@
-use Rattle.std.proofs.Common.{[], length, refl, sym, ap, subst, rules, false, ◌∙◌}
-use Rattle.obs_epoch.specs.Names.{Closed, EpochValue, cells_of, HasPlannedCells, HasHeardMessages, GatherSetup}
+use Rattle.std.proofs.Common.{length, refl, sym, ap, subst, rules, ◌∙◌}
+use Rattle.obs_epoch.specs.Names.{Closed, EpochValue, cells_of, HasPlannedCells, GatherSetup}
 use Rattle.obs_epoch.proofs.MarksLemmas.{none_marked}
 use Rattle.obs_epoch.proofs.OneStepLemmas.{none_locked}
 use Rattle.obs_epoch.proofs.ValueLemmas.{none_planned, shut_is}
-use Rattle.obs_epoch.proofs.gather.Gatherer.with_options.Goals as goal
+use Rattle.obs_epoch.proofs.gather.Gatherer.new.Goals as goal
 
 pub invariant_of-result : goal.invariant_of-result
 invariant_of-result c = record {
@@ -15,10 +15,10 @@ invariant_of-result c = record {
 
 pub returns-in-Ok-clause-history : goal.returns-in-Ok-clause-history
 returns-in-Ok-clause-history c =
-    let epoch = shut_is c.new.result c.in-Ok.pending c.in-Ok.closed c.new.ensures.history.pending ∙ ap (λ (e : Closed). e.epoch) c.in-Ok.ensures.closed in
+    let epoch = shut_is c.new.result c.in-Ok.pending c.in-Ok.closed c.new.ensures.pending ∙ ap (λ (e : Closed). e.epoch) c.in-Ok.ensures.closed in
     record {
       standing = record {
-        clock = subst (λ (s : GatherSetup). HasHeardMessages c.new.result s [] false) c.new.ensures.setup c.new.ensures.history;
+        clock = c.new.ensures;
         epoch = λ _. epoch;
         sizes = λ system. ap (λ (e : EpochValue). length (cells_of system e)) epoch;
         locks = none_locked _ _ c.in-Ok.ensures.locks;
