@@ -109,7 +109,7 @@ heard_kind_few s ms m h =
     kind_few (is_some m.tow || is_some m.point) (is_own s m) _ (own_few s xs (counts_of_message s xs m) m.tow (counts_few_at s xs m (taken_at s xs m) h))
 
 pub message_few : (s : GatherSetup) (ms : List Heard) (m : Message) → IsMessage m → IsFew (tally_of_one (Some (kind_of s ms (heard_by s m))))
-message_few s ms m h = heard_kind_few s ms (heard_by s m) (heard_few s.plan.channels s.leap m h)
+message_few s ms m h = heard_kind_few s ms (heard_by s m) (heard_few s.plan.channels s.leap_seconds m h)
 
 pub few_more : (os : List (Option Kind)) (o : Option Kind) → AreFew os → IsFew (tally_of_one o) → AreFew (os ++ o ∷ [])
 few_more [] o h k = (k, tt)

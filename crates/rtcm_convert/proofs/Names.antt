@@ -10,7 +10,8 @@ pub use Rattle.obs_epoch.specs.Epochs.{closed_so_far, closed_times}
 pub use Rattle.obs_epoch.specs.GathererSteps.{GathererValue}
 pub use Rattle.obs_epoch.specs.GathererAfter.{locked_in}
 pub use Rattle.obs_epoch.specs.GathererHistory.{HasGatheredEpochs, IsAwaited, all_epochs, closed_at, closed_by, closed_epochs, closed_in, closed_list_at, is_done, known_epochs, plan_in}
-pub use Rattle.obs_epoch.specs.Heard.{GatherSetup, Heard, heard, heard_by, heard_msm, heard_of, is_own, seen_in, unlisted_in}
+pub use Rattle.obs_epoch.specs.Heard.{Heard, heard, heard_by, heard_msm, heard_of, is_own, seen_in, unlisted_in}
+pub use Rattle.obs_epoch.specs.declared.setup.GatherSetup.{GatherSetup}
 pub use Rattle.obs_epoch.specs.Kinds.{is_close_first, kind_at, kind_of}
 pub use Rattle.obs_epoch.specs.Laws.{ClosedComeFirst}
 pub use Rattle.obs_epoch.specs.Loss.{times}
@@ -39,7 +40,8 @@ pub use Rattle.rtcm_convert.specs.Made.{AreMadeToLimit, IsMade, IsMadeEmpty, IsM
 pub use Rattle.rtcm_convert.specs.Outcomes.{AreFew, IsFew, capped, capped_tally, outcome, outcomes, outcomes_after, report_of, report_with, sum_of_counts, tallies_added, tally_of, tally_of_one}
 pub use Rattle.rtcm_convert.specs.Pieces.{StopsInPieces}
 pub use Rattle.rtcm_convert.specs.Readable.{AreSound, HasValue, IsReadable}
-pub use Rattle.rtcm_convert.specs.SetupValues.{IsBadWith, IsBadStart, Start, options_with, setup_value_by, start_by, start_with, start_value, start_zero}
+pub use Rattle.rtcm_convert.specs.SetupValues.{IsBad, IsBadStart, setup_value}
+pub use Rattle.rtcm_convert.specs.declared.setup.Setup.{Setup}
 pub use Rattle.rtcm_convert.specs.Steps.{BreaksInFrame, BreaksInRest, EndsFile, TakesFrame}
 pub use Rattle.rtcm_convert.specs.Stream.{AppendsDecided, AppendsPrefixOfDecided, AppendsPrefixOfRest, BreaksAtEndOf, BreaksFiling, Drained, EndsBytes, Files, HasDrained, HasDrainedSome}
 pub use Rattle.rtcm_convert.specs.declared.fault.Fault.{Fault}

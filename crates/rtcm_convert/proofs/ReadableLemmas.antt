@@ -17,8 +17,8 @@ known value heard epochs first gathered text = record { value = value; heard = h
 
 -- ---- messages
 
-message_heard : Known → (s : SetupValue) (bytes : List ℕ) (r : Result Message MsgFault) → AreChannels s.gather.plan.channels → message_with s.set bytes ≡ r → IfSome (heard_of s.gather.plan.channels s.gather.leap r) IsHeard
-message_heard k s bytes (Ok m) are e = k.heard s.gather.plan.channels s.gather.leap m are (k.value s.set bytes m e)
+message_heard : Known → (s : SetupValue) (bytes : List ℕ) (r : Result Message MsgFault) → AreChannels s.gather.plan.channels → message_with s.set bytes ≡ r → IfSome (heard_of s.gather.plan.channels s.gather.leap_seconds r) IsHeard
+message_heard k s bytes (Ok m) are e = k.heard s.gather.plan.channels s.gather.leap_seconds m are (k.value s.set bytes m e)
 message_heard k s bytes (Err fault) are e = tt
 
 messages_heard : Known → (s : SetupValue) (fs : List Framed) → AreChannels s.gather.plan.channels → AllByRecursion IsHeard (messages_of s fs)

@@ -7,11 +7,11 @@ use Rattle.obs_epoch.specs.Heard.{Heard, heard_in}
 use Rattle.obs_epoch.specs.Sets.{set_of}
 use Rattle.obs_epoch.specs.TwoSystems.{AreReadPlainly, plain_in}
 use Rattle.rtcm_convert.specs.Converted.{SetupValue, messages_of}
-use Rattle.rtcm_convert.specs.SetupValues.{start_value}
+use Rattle.rtcm_convert.specs.SetupValues.{setup_value}
 use Rattle.rtcm_convert.specs.Laws.{AreMessagesPlain}
 
 -- the same of each frame, so of all
-same_messages : (s : SetupValue) → ((bytes : List ℕ) → heard_in s.gather.plan.channels s.gather.leap s.set bytes ≡ plain_in bytes) → (fs : List Framed)
+same_messages : (s : SetupValue) → ((bytes : List ℕ) → heard_in s.gather.plan.channels s.gather.leap_seconds s.set bytes ≡ plain_in bytes) → (fs : List Framed)
     → messages_of s fs ≡ filter_map (λ f. plain_in f.message) fs
 same_messages s same [] = refl
 same_messages s same (f ∷ fs) =
@@ -19,5 +19,5 @@ same_messages s same (f ∷ fs) =
 
 pub messages_plain : AreReadPlainly → AreMessagesPlain
 messages_plain read x fs two forms =
-    same_messages (start_value x) (λ bytes. ap (λ (f : Forms). heard_in x.setup.plan.channels x.options.leap_seconds (set_of x.setup.plan f) bytes) forms
-    ∙ read x.setup.plan two x.setup.plan.channels x.options.leap_seconds bytes) fs
+    same_messages (setup_value x) (λ bytes. ap (λ (f : Forms). heard_in x.gatherer.plan.channels x.gatherer.leap_seconds (set_of x.gatherer.plan f) bytes) forms
+    ∙ read x.gatherer.plan two x.gatherer.plan.channels x.gatherer.leap_seconds bytes) fs

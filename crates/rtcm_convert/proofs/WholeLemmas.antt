@@ -1,61 +1,61 @@
 -- Whole streams.
 use Rattle.rtcm_convert.specs.declared.fault.Fault.{Fault}
-use Rattle.rtcm_convert.proofs.Names.{◌≡◌, ℕ, ◌+◌, ◌<◌, ◌≤◌, ◌⊎◌, inl, inr, List, [], subst, ◌∙◌, arith, Option, Result, Ok, Err, IfOk, length, take, IfSome, IfSome_then, Vec, Appends, Consumes, frames_of, decided_frames, SetupValue, so_far, file, epochs_in, AppendsBetween, AppendsPrefixBetween, NothingYet, AppendsDecided, Start, start_value, HasValue, IsMade, IsMadeEmpty, IsMadeWith, IsMadeToLimit, AreMadeToLimit, StopsInPieces, IsBetween, IsBroken, FailedWriting, FailedWritingAtEnd, BrokeInPieces, joined_pieces, Conversion, HasConverted, WritesAdded, CutsAtLimit, Completed, CompletedEmpty, CompletesFile, CompletesEmptyFile, FailsAtPiece, RanToLimit, FailsFeeding, FailsFinishing, Report}
+use Rattle.rtcm_convert.proofs.Names.{◌≡◌, ℕ, ◌+◌, ◌<◌, ◌≤◌, ◌⊎◌, inl, inr, List, [], subst, ◌∙◌, arith, Option, Result, Ok, Err, IfOk, length, take, IfSome, IfSome_then, Vec, Appends, Consumes, frames_of, decided_frames, SetupValue, so_far, file, epochs_in, AppendsBetween, AppendsPrefixBetween, NothingYet, AppendsDecided, Setup, setup_value, HasValue, IsMade, IsMadeEmpty, IsMadeWith, IsMadeToLimit, AreMadeToLimit, StopsInPieces, IsBetween, IsBroken, FailedWriting, FailedWritingAtEnd, BrokeInPieces, joined_pieces, Conversion, HasConverted, WritesAdded, CutsAtLimit, Completed, CompletedEmpty, CompletesFile, CompletesEmptyFile, FailsAtPiece, RanToLimit, FailsFeeding, FailsFinishing, Report}
 use Rattle.std.proofs.lemmas.Grind.{common_steps}
 
 pub from_nothing : {a b : Option (List ℕ)} {y : List ℕ} → NothingYet → (s : SetupValue) → AppendsBetween a b (so_far s (decided_frames [])) y → Appends a b y
 from_nothing {a} {b} {y} nothing s g = grind (arith, common_steps)
 
 -- a call began with a new converter of that setup, and has the same limit at its end
-pub record BeganNew (v w : Conversion) (x : Start) : Type 0 where
+pub record BeganNew (v w : Conversion) (x : Setup) : Type 0 where
   pub nothing : NothingYet
-  pub history : HasConverted v (start_value x) []
+  pub history : HasConverted v (setup_value x) []
   pub same : w.scan.limit ≡ v.scan.limit
-  pub limit : v.scan.limit ≡ x.setup.limit
+  pub limit : v.scan.limit ≡ x.limit
 
 -- the bytes accepted are within the limit of the setup
-same_limit : {v w : Conversion} {x : Start} {n : ℕ} → BeganNew v w x → n ≤ w.scan.limit → n ≤ x.setup.limit
+same_limit : {v w : Conversion} {x : Setup} {n : ℕ} → BeganNew v w x → n ≤ w.scan.limit → n ≤ x.limit
 same_limit {n = n} new le = subst (λ (k : ℕ). n ≤ k) (new.same ∙ new.limit) le
 
 -- a file with an epoch is the text of a file value
-abbrev pub IsValued : Start → Type 0
-IsValued x = (b : List ℕ) → 0 < epochs_in (start_value x) (frames_of b) → HasValue (file (start_value x) (frames_of b))
+abbrev pub IsValued : Setup → Type 0
+IsValued x = (b : List ℕ) → 0 < epochs_in (setup_value x) (frames_of b) → HasValue (file (setup_value x) (frames_of b))
 
-made : {v w : Conversion} {n : List ℕ} {x : Start} {a b : Option (List ℕ)} {bytes : List ℕ} {report : Report} → BeganNew v w x → IsValued x → Completed w n a b (start_value x) [] bytes report → IsMade x a b bytes
+made : {v w : Conversion} {n : List ℕ} {x : Setup} {a b : Option (List ℕ)} {bytes : List ℕ} {report : Report} → BeganNew v w x → IsValued x → Completed w n a b (setup_value x) [] bytes report → IsMade x a b bytes
 made {x = x} {bytes = bytes} new valued p = record {
   within = same_limit new p.finished.within;
   some = p.some;
   value = valued bytes p.some;
-  out = from_nothing new.nothing (start_value x) p.out;
+  out = from_nothing new.nothing (setup_value x) p.out;
 }
 
-made_empty : {v w : Conversion} {n : List ℕ} {x : Start} {a b : Option (List ℕ)} {fault : Fault} {bytes : List ℕ} → BeganNew v w x → CompletedEmpty w n a b fault (start_value x) [] bytes → IsMadeEmpty x fault a b bytes
+made_empty : {v w : Conversion} {n : List ℕ} {x : Setup} {a b : Option (List ℕ)} {fault : Fault} {bytes : List ℕ} → BeganNew v w x → CompletedEmpty w n a b fault (setup_value x) [] bytes → IsMadeEmpty x fault a b bytes
 made_empty {x = x} new p = record {
   within = same_limit new p.finished.within;
   none = p.none;
   fault_is = p.fault_is;
-  out = from_nothing new.nothing (start_value x) p.out;
+  out = from_nothing new.nothing (setup_value x) p.out;
 }
 
-pub run_made : {E : Type 0} {v w : Conversion} {x : Start} (n : List ℕ) (r a b : Option (List ℕ)) (result : Result Report E) → BeganNew v w x → IsValued x
+pub run_made : {E : Type 0} {v w : Conversion} {x : Setup} (n : List ℕ) (r a b : Option (List ℕ)) (result : Result Report E) → BeganNew v w x → IsValued x
     → IfOk result (λ report. IfSome r (CompletesFile v w n a b report)) → IfOk result (λ report. IfSome r (IsMadeWith x report a b))
-run_made {x = x} n r a b (Ok report) new valued h = IfSome_then r h (λ l f. let p = f (start_value x) [] new.history in (made new valued p, p.report_is))
+run_made {x = x} n r a b (Ok report) new valued h = IfSome_then r h (λ l f. let p = f (setup_value x) [] new.history in (made new valued p, p.report_is))
 run_made n r a b (Err d) new valued h = tt
 
-pub run_empty : {v w : Conversion} {x : Start} (fault : Fault) (n : List ℕ) (r a b : Option (List ℕ)) → BeganNew v w x → IfSome r (CompletesEmptyFile v w n a b fault) → IfSome r (IsMadeEmpty x fault a b)
-run_empty {x = x} fault n r a b new h = IfSome_then r h (λ l f. made_empty new (f (start_value x) [] new.history))
+pub run_empty : {v w : Conversion} {x : Setup} (fault : Fault) (n : List ℕ) (r a b : Option (List ℕ)) → BeganNew v w x → IfSome r (CompletesEmptyFile v w n a b fault) → IfSome r (IsMadeEmpty x fault a b)
+run_empty {x = x} fault n r a b new h = IfSome_then r h (λ l f. made_empty new (f (setup_value x) [] new.history))
 
-pub run_read : {v w : Conversion} {x : Start} {a b : Option (List ℕ)} (r r' : Option (List ℕ)) → BeganNew v w x → ((front : List ℕ) × Consumes r r' front × (w.scan.taken ≡ v.scan.taken + length front) × WritesAdded v a b front)
-    → (front : List ℕ) × Consumes r r' front × Appends a b (so_far (start_value x) (decided_frames front))
-run_read {x = x} r r' new p = (p.0, p.1, from_nothing new.nothing (start_value x) (p.3 (start_value x) [] new.history))
+pub run_read : {v w : Conversion} {x : Setup} {a b : Option (List ℕ)} (r r' : Option (List ℕ)) → BeganNew v w x → ((front : List ℕ) × Consumes r r' front × (w.scan.taken ≡ v.scan.taken + length front) × WritesAdded v a b front)
+    → (front : List ℕ) × Consumes r r' front × Appends a b (so_far (setup_value x) (decided_frames front))
+run_read {x = x} r r' new p = (p.0, p.1, from_nothing new.nothing (setup_value x) (p.3 (setup_value x) [] new.history))
 
-pub run_long : {v w : Conversion} {x : Start} {r r' a b : Option (List ℕ)} → BeganNew v w x → RanToLimit v w r r' a b → IsMadeToLimit x r r' a b
+pub run_long : {v w : Conversion} {x : Setup} {r r' a b : Option (List ℕ)} → BeganNew v w x → RanToLimit v w r r' a b → IsMadeToLimit x r r' a b
 run_long {x = x} {r} {a = a} {b} new p = record {
-  over = IfSome_then r p.over (λ l f. subst (λ (n : ℕ). n < length l) new.limit (f (start_value x) [] new.history));
+  over = IfSome_then r p.over (λ l f. subst (λ (n : ℕ). n < length l) new.limit (f (setup_value x) [] new.history));
   out = (
     p.front,
     p.consumes,
-    subst (λ (n : ℕ). Appends a b (so_far (start_value x) (decided_frames (take n p.front)))) new.limit (from_nothing new.nothing (start_value x) (p.adds (start_value x) [] new.history)),
+    subst (λ (n : ℕ). Appends a b (so_far (setup_value x) (decided_frames (take n p.front)))) new.limit (from_nothing new.nothing (setup_value x) (p.adds (setup_value x) [] new.history)),
   );
 }
 
@@ -67,15 +67,15 @@ between {a} {b} {c} s front nothing before last = grind (arith, common_steps)
 broken : {a b : Option (List ℕ)} {s : SetupValue} {front piece : List ℕ} → NothingYet → FailsAtPiece a b s [] piece front → IsBroken a b s front piece
 broken {s = s} {front} nothing p = record { between = between s front nothing p.before p.last; near = p.near }
 
-pub run_write : {v w : Conversion} {x : Start} {a b : Option (List ℕ)} (r r' : Option (List ℕ)) → BeganNew v w x → (FailsFeeding v w r r' a b ⊎ FailsFinishing v w r r' a b)
-    → FailedWriting r r' a b (start_value x) ⊎ FailedWritingAtEnd r r' a b (start_value x)
-run_write {x = x} r r' new (inl p) = inl (p.0, p.1, p.2, broken new.nothing (p.4 (start_value x) [] new.history))
-run_write {x = x} r r' new (inr p) = inr (p.0, p.1, p.2, (let f = p.4 (start_value x) [] new.history in between (start_value x) p.0 new.nothing f.before f.last))
+pub run_write : {v w : Conversion} {x : Setup} {a b : Option (List ℕ)} (r r' : Option (List ℕ)) → BeganNew v w x → (FailsFeeding v w r r' a b ⊎ FailsFinishing v w r r' a b)
+    → FailedWriting r r' a b (setup_value x) ⊎ FailedWritingAtEnd r r' a b (setup_value x)
+run_write {x = x} r r' new (inl p) = inl (p.0, p.1, p.2, broken new.nothing (p.4 (setup_value x) [] new.history))
+run_write {x = x} r r' new (inr p) = inr (p.0, p.1, p.2, (let f = p.4 (setup_value x) [] new.history in between (setup_value x) p.0 new.nothing f.before f.last))
 
 -- pieces that go over the limit, and pieces at which the writer failed
-pub pieces_cut : {Z : Type 0} {v w : Conversion} {x : Start} {a b : Option (List ℕ)} (pieces : List (Vec ℕ Z)) → BeganNew v w x → v.scan.taken ≡ 0 → CutsAtLimit v w a b (joined_pieces pieces) → AreMadeToLimit x a b pieces
+pub pieces_cut : {Z : Type 0} {v w : Conversion} {x : Setup} {a b : Option (List ℕ)} (pieces : List (Vec ℕ Z)) → BeganNew v w x → v.scan.taken ≡ 0 → CutsAtLimit v w a b (joined_pieces pieces) → AreMadeToLimit x a b pieces
 pieces_cut {v = v} {x = x} {a} {b} pieces new none p = grind (arith, common_steps)
 
-pub pieces_failed : {Z : Type 0} {v w : Conversion} {x : Start} {a b : Option (List ℕ)} (pieces : List (Vec ℕ Z)) → BeganNew v w x → StopsInPieces v a b pieces → BrokeInPieces a b (start_value x) pieces
-pieces_failed {x = x} pieces new (inl p) = let f = p.2 (start_value x) [] new.history in inl (p.0, p.1, between (start_value x) (joined_pieces (take p.0 pieces)) new.nothing f.before f.last)
-pieces_failed {x = x} pieces new (inr p) = let f = p (start_value x) [] new.history in inr (between (start_value x) (joined_pieces pieces) new.nothing f.before f.last)
+pub pieces_failed : {Z : Type 0} {v w : Conversion} {x : Setup} {a b : Option (List ℕ)} (pieces : List (Vec ℕ Z)) → BeganNew v w x → StopsInPieces v a b pieces → BrokeInPieces a b (setup_value x) pieces
+pieces_failed {x = x} pieces new (inl p) = let f = p.2 (setup_value x) [] new.history in inl (p.0, p.1, between (setup_value x) (joined_pieces (take p.0 pieces)) new.nothing f.before f.last)
+pieces_failed {x = x} pieces new (inr p) = let f = p (setup_value x) [] new.history in inr (between (setup_value x) (joined_pieces pieces) new.nothing f.before f.last)

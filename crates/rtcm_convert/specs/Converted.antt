@@ -4,7 +4,8 @@ use Rattle.std.specs.List.{filter_map}
 use Rattle.rtcm_scan.specs.Frames.{Framed}
 use Rattle.gnss_obs.specs.Values.{PlanValue, Closed, satellites_written}
 use Rattle.rtcm_msg.specs.declared.number.MsmSet.{MsmSet}
-use Rattle.obs_epoch.specs.Heard.{GatherSetup, Heard, heard_in}
+use Rattle.obs_epoch.specs.Heard.{Heard, heard_in}
+use Rattle.obs_epoch.specs.declared.setup.GatherSetup.{GatherSetup}
 use Rattle.obs_epoch.specs.GathererHistory.{all_epochs, closed_epochs, whole_list}
 use Rattle.obs_epoch.specs.Thinning.{counts_of_epochs}
 use Rattle.obs_epoch.specs.declared.choice.EpochCounts.{EpochCounts}
@@ -19,7 +20,7 @@ pub record SetupValue : Type 0 where
 
 -- the message of a frame, unless it is refused
 abbrev pub message_of : SetupValue → Framed → Option Heard
-message_of s f = heard_in s.gather.plan.channels s.gather.leap s.set f.message
+message_of s f = heard_in s.gather.plan.channels s.gather.leap_seconds s.set f.message
 
 -- the messages of these frames in order, without refused ones
 abbrev pub messages_of : SetupValue → List Framed → List Heard

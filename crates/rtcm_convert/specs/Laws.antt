@@ -13,7 +13,8 @@ use Rattle.rtcm_msg.specs.declared.number.Forms.TheVariants.{FourAndSeven}
 use Rattle.obs_epoch.specs.TwoSystems.{PlansTwo, plain_in}
 use Rattle.rtcm_convert.specs.Converted.{SetupValue, messages_of, text_of_epochs, text_with, so_far, file}
 use Rattle.rtcm_convert.specs.Outcomes.{report_of}
-use Rattle.rtcm_convert.specs.SetupValues.{Start, start_value}
+use Rattle.rtcm_convert.specs.SetupValues.{setup_value}
+use Rattle.rtcm_convert.specs.declared.setup.Setup.{Setup}
 use Rattle.rtcm_convert.specs.declared.report.Report.{Report}
 
 -- what is written of some bytes is a prefix of the file, for every rest of the stream
@@ -63,5 +64,5 @@ IsFileOfEvery = (s : SetupValue) (fs : List Framed) → s.gather.choice ≡ ever
 -- A conversion whose plan has signals of GPS and Galileo alone, in MSM4 and MSM7, decodes exactly the messages 1005,
 -- 1006, 1074, 1077, 1094 and 1097, and reads them without its channels and leap seconds.
 abbrev pub AreMessagesPlain : Type 0
-AreMessagesPlain = (x : Start) (fs : List Framed) → PlansTwo x.setup.plan → x.options.forms ≡ FourAndSeven
-    → messages_of (start_value x) fs ≡ filter_map (λ f. plain_in f.message) fs
+AreMessagesPlain = (x : Setup) (fs : List Framed) → PlansTwo x.gatherer.plan → x.forms ≡ FourAndSeven
+    → messages_of (setup_value x) fs ≡ filter_map (λ f. plain_in f.message) fs

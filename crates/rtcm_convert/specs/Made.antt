@@ -8,48 +8,49 @@ use Rattle.rtcm_convert.specs.Faults.{fault_of_none}
 use Rattle.rtcm_convert.specs.declared.fault.Fault.{Fault}
 use Rattle.rtcm_convert.specs.Outcomes.{report_of}
 use Rattle.rtcm_convert.specs.Readable.{HasValue}
-use Rattle.rtcm_convert.specs.SetupValues.{Start, start_value}
+use Rattle.rtcm_convert.specs.SetupValues.{setup_value}
+use Rattle.rtcm_convert.specs.declared.setup.Setup.{Setup}
 use Rattle.rtcm_convert.specs.declared.report.Report.{Report}
 
 -- These bytes are no more than the limit, and the file of their frames, which has an epoch, was written: the text of a
 -- file value.
-pub record IsMade (x : Start) (a b : Option (List ℕ)) (bytes : List ℕ) : Type 0 where
-  pub within : length bytes ≤ x.setup.limit
-  pub some : 0 < epochs_in (start_value x) (frames_of bytes)
-  pub value : HasValue (file (start_value x) (frames_of bytes))
-  pub out : Appends a b (file (start_value x) (frames_of bytes))
+pub record IsMade (x : Setup) (a b : Option (List ℕ)) (bytes : List ℕ) : Type 0 where
+  pub within : length bytes ≤ x.limit
+  pub some : 0 < epochs_in (setup_value x) (frames_of bytes)
+  pub value : HasValue (file (setup_value x) (frames_of bytes))
+  pub out : Appends a b (file (setup_value x) (frames_of bytes))
 
 -- These bytes are no more than the limit, and the file of their frames has no epoch; it is empty, and `fault` is its
 -- fault.
-pub record IsMadeEmpty (x : Start) (fault : Fault) (a b : Option (List ℕ)) (bytes : List ℕ) : Type 0 where
-  pub within : length bytes ≤ x.setup.limit
-  pub none : epochs_in (start_value x) (frames_of bytes) ≡ 0
-  pub fault_is : fault ≡ fault_of_none (epoch_counts (start_value x) (frames_of bytes))
-  pub out : Appends a b (file (start_value x) (frames_of bytes))
+pub record IsMadeEmpty (x : Setup) (fault : Fault) (a b : Option (List ℕ)) (bytes : List ℕ) : Type 0 where
+  pub within : length bytes ≤ x.limit
+  pub none : epochs_in (setup_value x) (frames_of bytes) ≡ 0
+  pub fault_is : fault ≡ fault_of_none (epoch_counts (setup_value x) (frames_of bytes))
+  pub out : Appends a b (file (setup_value x) (frames_of bytes))
 
 -- The stream is longer than the limit; the bytes written are the file of the epochs that the bytes read up to the limit
 -- close.
-pub record IsMadeToLimit (x : Start) (r r' a b : Option (List ℕ)) : Type 0 where
-  pub over : IfSome r (λ bytes. x.setup.limit < length bytes)
-  pub out : WroteToLimit r r' a b (start_value x) x.setup.limit
+pub record IsMadeToLimit (x : Setup) (r r' a b : Option (List ℕ)) : Type 0 where
+  pub over : IfSome r (λ bytes. x.limit < length bytes)
+  pub out : WroteToLimit r r' a b (setup_value x) x.limit
 
 -- The same for pieces.
-pub record AreMadeToLimit {Z : Type 0} (x : Start) (a b : Option (List ℕ)) (pieces : List (Vec ℕ Z)) : Type 0 where
-  pub over : x.setup.limit < length (joined_pieces pieces)
-  pub out : WrotePieces a b (start_value x) x.setup.limit pieces
+pub record AreMadeToLimit {Z : Type 0} (x : Setup) (a b : Option (List ℕ)) (pieces : List (Vec ℕ Z)) : Type 0 where
+  pub over : x.limit < length (joined_pieces pieces)
+  pub out : WrotePieces a b (setup_value x) x.limit pieces
 
 -- the bytes written are the file of the epochs that the bytes read close
-abbrev pub IsMadeSoFar : Start → Option (List ℕ) → Option (List ℕ) → Option (List ℕ) → Option (List ℕ) → Type 0
-IsMadeSoFar x r r' a b = WroteSoFar r r' a b (start_value x)
+abbrev pub IsMadeSoFar : Setup → Option (List ℕ) → Option (List ℕ) → Option (List ℕ) → Option (List ℕ) → Type 0
+IsMadeSoFar x r r' a b = WroteSoFar r r' a b (setup_value x)
 
 -- the writer failed at one of the pieces read or after all was read, and a part of the file was written
-abbrev pub IsMadeInPart : Start → Option (List ℕ) → Option (List ℕ) → Option (List ℕ) → Option (List ℕ) → Type 0
-IsMadeInPart x r r' a b = BrokeReading r r' a b (start_value x)
+abbrev pub IsMadeInPart : Setup → Option (List ℕ) → Option (List ℕ) → Option (List ℕ) → Option (List ℕ) → Type 0
+IsMadeInPart x r r' a b = BrokeReading r r' a b (setup_value x)
 
 -- `report` is the report of these bytes
-abbrev pub IsReportOf : Start → Report → List ℕ → Type 0
-IsReportOf x report bytes = report ≡ report_of (start_value x) bytes
+abbrev pub IsReportOf : Setup → Report → List ℕ → Type 0
+IsReportOf x report bytes = report ≡ report_of (setup_value x) bytes
 
 -- the file of these bytes was written, and `report` is its report
-abbrev pub IsMadeWith : Start → Report → Option (List ℕ) → Option (List ℕ) → List ℕ → Type 0
+abbrev pub IsMadeWith : Setup → Report → Option (List ℕ) → Option (List ℕ) → List ℕ → Type 0
 IsMadeWith x report a b bytes = IsMade x a b bytes × IsReportOf x report bytes

@@ -16,8 +16,7 @@ ghost use Rattle.rtcm_convert.specs.Faults.{FailsWithReader, FailsWithWriter, Is
 ghost use Rattle.rtcm_convert.specs.Faults.{fault_of_none};
 ghost use Rattle.obs_epoch.specs.declared.choice.EpochCounts.{EpochCounts};
 ghost use Rattle.rtcm_convert.specs.Faults.{IsFeedFault, IsFinishFault, IsPiecesFault, IsRunFault};
-ghost use Rattle.rtcm_convert.specs.SetupValues.{setup_value, setup_value_by, setup_value_with, start_by};
-ghost use Rattle.rtcm_convert.specs.SetupValues.{start_with, IsBad, IsBadWith};
+ghost use Rattle.rtcm_convert.specs.SetupValues.{setup_value, IsBad};
 ghost use Rattle.rtcm_convert.specs.Converted.{SetupValue};
 ghost use Rattle.rtcm_convert.specs.Conversion.{kept_of, KeepsNow, HasConverted, HasFinished, IsGoing, GoesOnBy};
 ghost use Rattle.rtcm_convert.specs.Conversion.{TakesPiece, CutsAtLimit, WritesPrefixOfAdded, StopsAtEnd, IsLeft};
@@ -32,8 +31,7 @@ use crate::fault::Fault;
 use crate::file_writer::{FileWriter, end_stream};
 use crate::laws;
 use crate::report::Report;
-use crate::setup::{ConvertOptions, Setup};
-use gnss_obs::StationValues;
+use crate::setup::Setup;
 use gnss_system::{BySystem, System};
 use rtcm_bits::{Counted, Deliver, LONGEST_FRAME};
 use rtcm_scan::{Frame, Framer, MOST_BYTES, StreamFault};
@@ -84,55 +82,25 @@ impl Model for Converter {
 }
 
 impl Converter {
-    /// Returns a converter that has accepted no byte. Only this call, `with_values` and
-    /// `with_options` allocate.
+    /// Returns a converter that has accepted no byte. Only this call allocates.
     ///
     /// # Errors
     ///
-    /// `BadSetup` for a limit, week or station out of range, and `Memory`.
+    /// `BadSetup` for a limit, week or station out of range, and for coordinates that don't fit 38
+    /// bits (DF025 to DF027); and `Memory`.
     pub fn new(alloc: Global, setup: Setup) -> Result<Self, Fault>
         ensures history { IfOk result (λ c. HasConverted c (setup_value setup) []) }
         ensures fresh { IfOk result (λ c. (c.scan.limit ≡ setup.limit) × (c.scan.taken ≡ 0)) }
         ensures bad { result ≡ Err Fault.BadSetup ↔ IsBad setup }
+        ensures fits { IfOk result (λ c. AreStationValues setup.gatherer.initial) }
         ensures only { IfErr result IsSetupFault }
     {
-        Converter::with_values(alloc, setup, StationValues::zero())
-    }
-
-    /// Returns a converter as `new` does, whose station values are `initial` until a station
-    /// message has others.
-    ///
-    /// # Errors
-    ///
-    /// Those of `new`, and `BadSetup` for coordinates that don't fit 38 bits (DF025 to DF027).
-    pub fn with_values(alloc: Global, setup: Setup, initial: StationValues) -> Result<Self, Fault>
-        ensures history { IfOk result (λ c. HasConverted c (setup_value_with setup initial) []) }
-        ensures fresh { IfOk result (λ c. (c.scan.limit ≡ setup.limit) × (c.scan.taken ≡ 0)) }
-        ensures bad { result ≡ Err Fault.BadSetup ↔ IsBadWith (start_with setup initial) }
-        ensures fits { IfOk result (λ c. AreStationValues initial) }
-        ensures only { IfErr result IsSetupFault }
-    {
-        Converter::with_options(alloc, setup, ConvertOptions::with_values(initial))
-    }
-
-    /// Returns a converter as `new` does, with these options.
-    ///
-    /// # Errors
-    ///
-    /// Those of `with_values`.
-    pub fn with_options(alloc: Global, setup: Setup, options: ConvertOptions) -> Result<Self, Fault>
-        ensures history { IfOk result (λ c. HasConverted c (setup_value_by setup options) []) }
-        ensures fresh { IfOk result (λ c. (c.scan.limit ≡ setup.limit) × (c.scan.taken ≡ 0)) }
-        ensures bad { result ≡ Err Fault.BadSetup ↔ IsBadWith (start_by setup options) }
-        ensures fits { IfOk result (λ c. AreStationValues options.initial) }
-        ensures only { IfErr result IsSetupFault }
-    {
-        if setup.limit > MOST_BYTES || !options.initial.fits_message() {
+        if setup.limit > MOST_BYTES || !setup.gatherer.initial.fits_message() {
             drop(setup);
             return Err(Fault::BadSetup);
         }
         let limit = setup.limit;
-        let file_writer = FileWriter::new(alloc, setup, options)?;
+        let file_writer = FileWriter::new(alloc, setup)?;
         let Ok(framer) = Framer::new(alloc, limit) else {
             drop(file_writer);
             return Err(Fault::Memory);

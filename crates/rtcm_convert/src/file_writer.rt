@@ -4,7 +4,7 @@ ghost use Rattle.std.specs.Io.KnownBytes.{Appends};
 ghost use Rattle.rtcm_bits.specs.Device.{AppendsPrefix, FailsWith};
 ghost use Rattle.rtcm_msg.specs.Viewed.{viewed_message};
 ghost use Rattle.rtcm_convert.specs.Faults.{FailsToWrite, IsSetupFault};
-ghost use Rattle.rtcm_convert.specs.SetupValues.{setup_value_by, IsBadStart};
+ghost use Rattle.rtcm_convert.specs.SetupValues.{setup_value, IsBadStart};
 ghost use Rattle.rtcm_convert.specs.Filed.{HasFiledFrames, opening_of, added_by, HasCountedClosed};
 ghost use Rattle.rtcm_convert.specs.Steps.{IsCloseFirst, IsFinalKind, WritesFirst, TakesMessage, IsTakenAgain};
 ghost use Rattle.rtcm_convert.specs.Steps.{IsKindOf, BreaksInMessage, TakesNext, IsKindOfNext, BreaksInNext};
@@ -15,9 +15,9 @@ ghost use Rattle.rtcm_convert.specs.Stream.{Files, BreaksFiling, HasDrainedSome,
 use crate::fault::Fault;
 use crate::laws;
 use crate::report::Report;
-use crate::setup::{ConvertOptions, Setup};
+use crate::setup::Setup;
 use gnss_obs::{Epoch, PlanFault, StationValues};
-use obs_epoch::{GatherOptions, Gatherer, Kind, msm_set};
+use obs_epoch::{Gatherer, Kind, msm_set};
 use rinex_file::{Head, HeadFault, HeaderTexts, write_epoch, write_event, write_header};
 use rtcm_bits::{Counted, Deliver};
 use rtcm_msg::{MsmSet, View, look_in};
@@ -45,27 +45,15 @@ pub(crate) struct FileWriter {
 impl FileWriter {
     /// Returns a file writer that has processed no frame. A week or a station out of range is
     /// `BadSetup`.
-    pub(crate) fn new(alloc: Global, setup: Setup, options: ConvertOptions) -> Result<Self, Fault>
-        ensures history { IfOk result (λ file_writer. HasFiledFrames file_writer (setup_value_by setup options) []) }
+    pub(crate) fn new(alloc: Global, setup: Setup) -> Result<Self, Fault>
+        ensures history { IfOk result (λ file_writer. HasFiledFrames file_writer (setup_value setup) []) }
         ensures going { IfOk result (λ file_writer. file_writer.gatherer.has_ended ≡ false) }
         ensures bad { result ≡ Err Fault.BadSetup ↔ IsBadStart setup }
         ensures only { IfErr result IsSetupFault }
     {
-        let set = msm_set(&setup.plan, options.forms);
+        let set = msm_set(&setup.gatherer.plan, setup.forms);
         let texts = setup.texts;
-        let given = GatherOptions {
-            initial: options.initial,
-            leap_seconds: options.leap_seconds,
-            choice: options.choice,
-        };
-        match Gatherer::with_options(
-            alloc,
-            setup.plan,
-            setup.start_week,
-            setup.station,
-            setup.gather,
-            given,
-        ) {
+        match Gatherer::new(alloc, setup.gatherer) {
             Ok(gatherer) => Ok(FileWriter {
                 gatherer,
                 set,

@@ -1,15 +1,13 @@
 //! Laws of the definitions that the contracts cite.
 ghost use Rattle.rtcm_convert.specs.Laws.{WrittenStays, WrittenGrows, NothingYet, FiledStays, FiledGrows, NothingFiled};
 ghost use Rattle.rtcm_convert.specs.Laws.{AreMessagesPlain, CountedOnce, IsFileOfEvery, IsFileText};
-ghost use Rattle.std.specs.Prelude.{ℕ, ◌<◌, List, IfSome};
+ghost use Rattle.std.specs.Prelude.{ℕ, ◌<◌, List};
 ghost use Rattle.rtcm_scan.specs.Frames.{frames_of};
 ghost use Rattle.rtcm_scan.specs.Decided.{decided_frames};
 ghost use Rattle.rtcm_convert.specs.Converted.{so_far, file, epochs_in};
-ghost use Rattle.rtcm_convert.specs.SetupValues.{setup_value_by};
+ghost use Rattle.rtcm_convert.specs.SetupValues.{setup_value};
 ghost use Rattle.gnss_obs.specs.Values.{no_values};
-ghost use Rattle.gnss_obs.specs.Intervals.{IsInterval};
 ghost use Rattle.gnss_obs.specs.GatheredEpochs.{AreStationValues};
-ghost use Rattle.rtcm_convert.specs.declared.setup.ConvertOptions.{ConvertOptions};
 ghost use Rattle.rtcm_convert.specs.Readable.{FilesAreReadable, FilesHaveValues, SoFarIsReadable, IsReadable, HasValue};
 
 use crate::setup::Setup;
@@ -70,23 +68,22 @@ pub fn readable()
     text();
 }
 
-/// For every setup, options and stream: what is written is empty or the text of a
-/// file value, which [`read_file`](rinex_file::read_file) reads as that value.
+/// For every setup and stream: what is written is empty or the text of a file value, which
+/// [`read_file`](rinex_file::read_file) reads as that value.
 pub fn read_back(setup: &Setup)
-    ensures file { (o : ConvertOptions) → AreStationValues o.initial
-        → IfSome o.choice.interval IsInterval → (b : List ℕ)
-        → IsReadable (file (setup_value_by setup.now o) (frames_of b)) }
-    ensures some { (o : ConvertOptions) → AreStationValues o.initial
-        → IfSome o.choice.interval IsInterval → (b : List ℕ)
-        → 0 < epochs_in (setup_value_by setup.now o) (frames_of b)
-        → HasValue (file (setup_value_by setup.now o) (frames_of b)) }
-    ensures so_far { (o : ConvertOptions) → AreStationValues o.initial
-        → IfSome o.choice.interval IsInterval → (b : List ℕ)
-        → IsReadable (so_far (setup_value_by setup.now o) (decided_frames b)) }
+    ensures file { AreStationValues setup.now.gatherer.initial → (b : List ℕ)
+        → IsReadable (file (setup_value setup.now) (frames_of b)) }
+    ensures some { AreStationValues setup.now.gatherer.initial → (b : List ℕ)
+        → 0 < epochs_in (setup_value setup.now) (frames_of b)
+        → HasValue (file (setup_value setup.now) (frames_of b)) }
+    ensures so_far { AreStationValues setup.now.gatherer.initial → (b : List ℕ)
+        → IsReadable (so_far (setup_value setup.now) (decided_frames b)) }
     ensures zero { AreStationValues no_values }
 {
     readable();
-    rinex_file::laws::head(&setup.texts, &setup.plan);
+    rinex_file::laws::head(&setup.texts, &setup.gatherer.plan);
+    // Brings the range of the interval into the proof.
+    let _ = setup.gatherer.choice.milliseconds();
 }
 
 /// A conversion of GPS and Galileo alone, in MSM4 and MSM7, reads exactly the messages 1005, 1006,

@@ -13,5 +13,5 @@ mod whole;
 pub use converter::{Converter, Kept};
 pub use fault::Fault;
 pub use report::Report;
-pub use setup::{ConvertOptions, Setup};
-pub use whole::{convert_pieces, convert_stream, convert_stream_with, convert_with_options};
+pub use setup::Setup;
+pub use whole::{convert_pieces, convert_stream};

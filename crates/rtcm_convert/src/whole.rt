@@ -6,14 +6,13 @@ ghost use Rattle.rtcm_convert.specs.Broken.{BrokeInPieces, joined_pieces};
 ghost use Rattle.rtcm_convert.specs.Made.{IsMadeWith, IsMadeEmpty, IsMadeToLimit, AreMadeToLimit, IsMadeSoFar};
 ghost use Rattle.rtcm_convert.specs.Made.{IsMadeInPart};
 ghost use Rattle.obs_epoch.specs.declared.choice.EpochCounts.{EpochCounts};
-ghost use Rattle.rtcm_convert.specs.SetupValues.{setup_value, start_by, start_with, start_zero, IsBad, IsBadWith};
+ghost use Rattle.rtcm_convert.specs.SetupValues.{setup_value, IsBad};
 
 use crate::converter::Converter;
 use crate::fault::Fault;
 use crate::laws;
 use crate::report::Report;
-use crate::setup::{ConvertOptions, Setup};
-use gnss_obs::StationValues;
+use crate::setup::Setup;
 use rtcm_bits::{Counted, Deliver};
 use std::alloc::Global;
 use std::io::Read;
@@ -25,6 +24,8 @@ use std::io::Read;
 ///
 /// `BadSetup` and `Memory` of [`Converter::new`], before anything is read or written; `Read`,
 /// `Write`, `TooLong`, `NoEpoch` and `NoneChosen` of [`Converter::run`].
+// Not inlined, so that the converter isn't in the stack frame of every command.
+#[inline(never)]
 pub fn convert_stream<R: Read, W: Deliver>(
     alloc: Global,
     setup: Setup,
@@ -35,28 +36,28 @@ pub fn convert_stream<R: Read, W: Deliver>(
     // the text of a file value; and that is its report.
     ensures made { IfOk result (λ report.
         IfSome (R.remaining reader.old.inner)
-        (IsMadeWith (start_zero setup) report (W.contents writer.old.inner) (W.contents writer.new.inner))) }
+        (IsMadeWith setup report (W.contents writer.old.inner) (W.contents writer.new.inner))) }
     // The file has no epoch and is empty, as no epoch of the stream has a value.
     ensures no_epoch { IsErrOf result Fault.NoEpoch
         → IfSome (R.remaining reader.old.inner)
-        (IsMadeEmpty (start_zero setup) Fault.NoEpoch (W.contents writer.old.inner) (W.contents writer.new.inner)) }
+        (IsMadeEmpty setup Fault.NoEpoch (W.contents writer.old.inner) (W.contents writer.new.inner)) }
     // It is empty, as none that has a value is chosen, and these are their numbers.
     ensures none_chosen { (counts : EpochCounts) → IsErrOf result (Fault.NoneChosen counts)
         → IfSome (R.remaining reader.old.inner)
-        (IsMadeEmpty (start_zero setup) (Fault.NoneChosen counts) (W.contents writer.old.inner)
+        (IsMadeEmpty setup (Fault.NoneChosen counts) (W.contents writer.old.inner)
         (W.contents writer.new.inner)) }
     // The stream is longer than the limit; the bytes up to it were accepted, and the file of the
     // epochs that they close was written.
     ensures long { IsErrOf result Fault.TooLong
         → Moves R.remaining reader.old reader.new W.contents writer.old writer.new
-        (IsMadeToLimit (start_zero setup)) }
+        (IsMadeToLimit setup) }
     // The file of the epochs that the bytes read close was written.
     ensures read { IsErrOf result Fault.Read → Moves R.remaining reader.old reader.new W.contents writer.old writer.new
-        (IsMadeSoFar (start_zero setup)) }
+        (IsMadeSoFar setup) }
     // The writer failed at one of the pieces read, or when all was read.
     ensures write { IsErrOf result Fault.Write
         → Moves R.remaining reader.old reader.new W.contents writer.old writer.new
-        (IsMadeInPart (start_zero setup)) }
+        (IsMadeInPart setup) }
     // Nothing waits in the writer, unless it failed.
     ensures sent { IsSentAfter result (W.waiting writer.old.inner) (W.waiting writer.new.inner) }
     ensures devices { FailsWithDevices result reader.old reader.new writer.old writer.new }
@@ -65,114 +66,9 @@ pub fn convert_stream<R: Read, W: Deliver>(
         → IsUntouched reader.old reader.new writer.old writer.new) }
     ensures only { (result ≢ Err Fault.Failed) × (result ≢ Err Fault.Finished) }
 {
-    convert_stream_with(alloc, setup, StationValues::zero(), reader, writer)
-}
-
-/// Writes the observation file of a stream as [`convert_stream`] does. The station values are
-/// `initial` until a station message has others.
-///
-/// # Errors
-///
-/// Those of [`convert_stream`], and `BadSetup` for coordinates that don't fit 38 bits (DF025 to
-/// DF027).
-pub fn convert_stream_with<R: Read, W: Deliver>(
-    alloc: Global,
-    setup: Setup,
-    initial: StationValues,
-    reader: &mut Counted<R>,
-    writer: &mut Counted<W>,
-) -> Result<Report, Fault>
-    // The file that was written is the one of the stream's frames in order, has an epoch, and is
-    // the text of a file value; and that is its report.
-    ensures made { IfOk result (λ report.
-        IfSome (R.remaining reader.old.inner)
-        (IsMadeWith (start_with setup initial) report (W.contents writer.old.inner) (W.contents writer.new.inner))) }
-    // The file has no epoch and is empty, as no epoch of the stream has a value.
-    ensures no_epoch { IsErrOf result Fault.NoEpoch
-        → IfSome (R.remaining reader.old.inner)
-        (IsMadeEmpty (start_with setup initial) Fault.NoEpoch (W.contents writer.old.inner) (W.contents writer.new.inner)) }
-    // It is empty, as none that has a value is chosen, and these are their numbers.
-    ensures none_chosen { (counts : EpochCounts) → IsErrOf result (Fault.NoneChosen counts)
-        → IfSome (R.remaining reader.old.inner)
-        (IsMadeEmpty (start_with setup initial) (Fault.NoneChosen counts) (W.contents writer.old.inner)
-        (W.contents writer.new.inner)) }
-    // The stream is longer than the limit; the bytes up to it were accepted, and the file of the
-    // epochs that they close was written.
-    ensures long { IsErrOf result Fault.TooLong
-        → Moves R.remaining reader.old reader.new W.contents writer.old writer.new
-        (IsMadeToLimit (start_with setup initial)) }
-    // The file of the epochs that the bytes read close was written.
-    ensures read { IsErrOf result Fault.Read → Moves R.remaining reader.old reader.new W.contents writer.old writer.new
-        (IsMadeSoFar (start_with setup initial)) }
-    // The writer failed at one of the pieces read, or when all was read.
-    ensures write { IsErrOf result Fault.Write
-        → Moves R.remaining reader.old reader.new W.contents writer.old writer.new
-        (IsMadeInPart (start_with setup initial)) }
-    // Nothing waits in the writer, unless it failed.
-    ensures sent { IsSentAfter result (W.waiting writer.old.inner) (W.waiting writer.new.inner) }
-    ensures devices { FailsWithDevices result reader.old reader.new writer.old writer.new }
-    ensures bad_setup { result ≡ Err Fault.BadSetup ↔ IsBadWith (start_with setup initial) }
-    ensures untouched { IfErr result (λ fault. IsSetupFault fault
-        → IsUntouched reader.old reader.new writer.old writer.new) }
-    ensures only { (result ≢ Err Fault.Failed) × (result ≢ Err Fault.Finished) }
-{
-    let options = ConvertOptions::with_values(initial);
-    convert_with_options(alloc, setup, options, reader, writer)
-}
-
-/// Writes the observation file of a stream as [`convert_stream`] does, with these options.
-///
-/// # Errors
-///
-/// Those of [`convert_stream_with`].
-// Not inlined, so that the converter isn't in the stack frame of every command.
-#[inline(never)]
-pub fn convert_with_options<R: Read, W: Deliver>(
-    alloc: Global,
-    setup: Setup,
-    options: ConvertOptions,
-    reader: &mut Counted<R>,
-    writer: &mut Counted<W>,
-) -> Result<Report, Fault>
-    // The file that was written is the one of the stream's frames in order, has an epoch, and is
-    // the text of a file value; and that is its report.
-    ensures made { IfOk result (λ report.
-        IfSome (R.remaining reader.old.inner)
-        (IsMadeWith (start_by setup options) report (W.contents writer.old.inner) (W.contents writer.new.inner))) }
-    // The file has no epoch and is empty, as no epoch of the stream has a value.
-    ensures no_epoch { IsErrOf result Fault.NoEpoch
-        → IfSome (R.remaining reader.old.inner)
-        (IsMadeEmpty (start_by setup options) Fault.NoEpoch (W.contents writer.old.inner) (W.contents writer.new.inner)) }
-    // It is empty, as none that has a value is chosen, and these are their numbers.
-    ensures none_chosen { (counts : EpochCounts) → IsErrOf result (Fault.NoneChosen counts)
-        → IfSome (R.remaining reader.old.inner)
-        (IsMadeEmpty (start_by setup options) (Fault.NoneChosen counts) (W.contents writer.old.inner)
-        (W.contents writer.new.inner)) }
-    // The stream is longer than the limit; the bytes up to it were accepted, and the file of the
-    // epochs that they close was written.
-    ensures long { IsErrOf result Fault.TooLong
-        → Moves R.remaining reader.old reader.new W.contents writer.old writer.new
-        (IsMadeToLimit (start_by setup options)) }
-    // The file of the epochs that the bytes read close was written.
-    ensures read { IsErrOf result Fault.Read → Moves R.remaining reader.old reader.new W.contents writer.old writer.new
-        (IsMadeSoFar (start_by setup options)) }
-    // The writer failed at one of the pieces read, or when all was read.
-    ensures write { IsErrOf result Fault.Write
-        → Moves R.remaining reader.old reader.new W.contents writer.old writer.new
-        (IsMadeInPart (start_by setup options)) }
-    // Nothing waits in the writer, unless it failed.
-    ensures sent { IsSentAfter result (W.waiting writer.old.inner) (W.waiting writer.new.inner) }
-    ensures devices { FailsWithDevices result reader.old reader.new writer.old writer.new }
-    ensures bad_setup { result ≡ Err Fault.BadSetup ↔ IsBadWith (start_by setup options) }
-    ensures untouched { IfErr result (λ fault. IsSetupFault fault
-        → IsUntouched reader.old reader.new writer.old writer.new) }
-    ensures only { (result ≢ Err Fault.Failed) × (result ≢ Err Fault.Finished) }
-{
-    // Brings the range of the interval into the proof.
-    let _ = options.choice.milliseconds();
     laws::prefix();
     laws::read_back(&setup);
-    let mut converter = Converter::with_options(alloc, setup, options)?;
+    let mut converter = Converter::new(alloc, setup)?;
     let answer = converter.run(reader, writer);
     drop(converter);
     answer
@@ -194,20 +90,20 @@ pub fn convert_pieces<W: Deliver>(
     // For every way to cut the stream into pieces, the file that was written is the one of its
     // frames in order, has an epoch, and is the text of a file value; and that is its report.
     ensures made { IfOk result (λ report.
-        IsMadeWith (start_zero setup) report (W.contents writer.old.inner) (W.contents writer.new.inner)
+        IsMadeWith setup report (W.contents writer.old.inner) (W.contents writer.new.inner)
         (joined_pieces pieces.now)) }
     // The file has no epoch and is empty, as no epoch of the stream has a value.
     ensures no_epoch { IsErrOf result Fault.NoEpoch
-        → IsMadeEmpty (start_zero setup) Fault.NoEpoch (W.contents writer.old.inner) (W.contents writer.new.inner)
+        → IsMadeEmpty setup Fault.NoEpoch (W.contents writer.old.inner) (W.contents writer.new.inner)
         (joined_pieces pieces.now) }
     // It is empty, as none that has a value is chosen, and these are their numbers.
     ensures none_chosen { (counts : EpochCounts) → IsErrOf result (Fault.NoneChosen counts)
-        → IsMadeEmpty (start_zero setup) (Fault.NoneChosen counts) (W.contents writer.old.inner)
+        → IsMadeEmpty setup (Fault.NoneChosen counts) (W.contents writer.old.inner)
         (W.contents writer.new.inner) (joined_pieces pieces.now) }
     // The pieces go over the limit; the file of the epochs that the bytes up to it close was
     // written.
     ensures long { IsErrOf result Fault.TooLong
-        → AreMadeToLimit (start_zero setup) (W.contents writer.old.inner) (W.contents writer.new.inner) pieces.now }
+        → AreMadeToLimit setup (W.contents writer.old.inner) (W.contents writer.new.inner) pieces.now }
     // The writer failed at one of the pieces, or at the end.
     ensures write { IsErrOf result Fault.Write
         → BrokeInPieces (W.contents writer.old.inner) (W.contents writer.new.inner) (setup_value setup) pieces.now }

@@ -1,13 +1,19 @@
-use Rattle.rtcm_command.proofs.ConvertLemmas.{zero_bad}
-use Rattle.rtcm_command.proofs.Names.{inr, subst, ◌≡◌, ◌↔◌, Err, ConvertOptions, IsBadWith, start_by, BadSetup, EndsConversion, Convert}
-use Rattle.rtcm_command.proofs.convert.run_convert.Goals as goal
+use Rattle.rtcm_command.proofs.CommandLemmas.{Devices}
+use Rattle.rtcm_command.proofs.ConvertLemmas.{Faulted, conversion_stopped, given_bad}
+use Rattle.rtcm_command.proofs.Names.{refl, IsBadWith, start_by}
+use Rattle.rtcm_command.proofs.convert.run_convert_with.Goals as goal
 
-pub returns-clause-ends : goal.returns-clause-ends
-returns-clause-ends g c =
-    subst (λ (o : ConvertOptions). EndsConversion c.run_convert_with.result (start_by c.args.setup o) g.R.Read.remaining c.args.reader.now c.run_convert_with.new.reader
-    g.W.Write.contents g.W.Deliver.waiting c.args.writer.now c.run_convert_with.new.writer) c.default.ensures c.run_convert_with.ensures.ends
+pub returns-in-Ok-clause-ends : goal.returns-in-Ok-clause-ends
+returns-in-Ok-clause-ends g c =
+    let end = c.in-Ok.ensures in
+    ((end.devices.0.1, end.devices.1.1, end.sent), end.made)
 
-pub returns-clause-bad_setup : goal.returns-clause-bad_setup
-returns-clause-bad_setup g c =
-    let bad = subst (λ (o : ConvertOptions). c.run_convert_with.result ≡ Err (Convert BadSetup) ↔ IsBadWith (start_by c.args.setup o)) c.default.ensures c.run_convert_with.ensures.bad_setup in
-    (λ e. zero_bad c.args.setup (bad.0 e), λ b. bad.1 (inr b))
+pub returns-in-Err-clause-ends : goal.returns-in-Err-clause-ends
+returns-in-Err-clause-ends g c =
+    let end = c.in-Err.ensures in
+    let d : Devices _ _ = record { left = g.R.Read.remaining; held = g.W.Write.contents; waits = g.W.Deliver.waiting; r = c.args.reader.now; r2 = c.convert_with_options.new.reader; w = c.args.writer.now; w2 = c.convert_with_options.new.writer } in
+    let s : Faulted (start_by c.args.setup c.args.options) d c.in-Err.fault = record { sent = end.sent; no_epoch = end.no_epoch; none_chosen = end.none_chosen; long = end.long; read = end.read; write = end.write; bad = end.bad_setup; untouched = end.untouched; only = end.only } in
+    ((end.devices.0.0, end.devices.1.0), (c.in-Err.fault, refl, conversion_stopped c.in-Err.fault s))
+
+pub returns-in-Err-clause-bad_setup : goal.returns-in-Err-clause-bad_setup
+returns-in-Err-clause-bad_setup g c = given_bad c.in-Err.fault (IsBadWith (start_by c.args.setup c.args.options)) c.in-Err.ensures.bad_setup

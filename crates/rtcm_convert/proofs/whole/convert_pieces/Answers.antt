@@ -1,21 +1,21 @@
 use Rattle.rtcm_convert.proofs.FaultLemmas.{passed, setup_never, pieces_known, never, not_of_setup, not_err}
+use Rattle.rtcm_convert.proofs.PartLemmas.{same_fault}
 use Rattle.rtcm_convert.proofs.WholeLemmas.{BeganNew, run_made, run_empty, pieces_cut, pieces_failed}
-use Rattle.rtcm_convert.proofs.Names.{◌≡◌, IsErrOf, NoneChosen, Some, refl, no_values, options_with, LeftBy, BadSetup, Read, Failed, Finished, joined_pieces, start_zero}
+use Rattle.rtcm_convert.proofs.Names.{◌≡◌, Err, IsBad, IsErrOf, NoneChosen, Some, refl, LeftBy, BadSetup, Read, Failed, Finished, joined_pieces}
 use Rattle.rtcm_convert.proofs.whole.convert_pieces.Goals as goal
 
 pub returns : goal.returns
 returns g c =
-    let x = start_zero c.args.setup in
     let v = c.in_ok-converter.converter in
     let h = c.in_ok-converter.ensures in
     let w = c.take_pieces-answer.new.self in
     let r = c.take_pieces-answer.result in
     let n = c.take_pieces-answer.ensures in
-    let new : BeganNew v w x = record { nothing = c.prefix.ensures.nothing; history = h.history; same = n.left.0.0; limit = h.fresh.0 } in
+    let new : BeganNew v w c.args.setup = record { nothing = c.prefix.ensures.nothing; history = h.history; same = n.left.0.0; limit = h.fresh.0 } in
     let left = n.left.0.1 h.history.going in
     let no = never (λ f. LeftBy f w) pieces_known r left in
     record {
-      made = run_made _ (Some (joined_pieces c.args.pieces.now)) _ _ r new (c.read_back.ensures.some (options_with no_values) c.read_back.ensures.zero tt) n.whole;
+      made = run_made _ (Some (joined_pieces c.args.pieces.now)) _ _ r new (c.read_back.ensures.some h.fits) n.whole;
       no_epoch = λ e. run_empty _ _ (Some (joined_pieces c.args.pieces.now)) _ _ new (n.no_epoch e);
       none_chosen = λ counts e. run_empty _ _ (Some (joined_pieces c.args.pieces.now)) _ _ new (n.none_chosen counts e);
       long = λ e. pieces_cut c.args.pieces.now new h.fresh.1 (n.long e);
@@ -30,3 +30,9 @@ returns g c =
 pub returns-in_err-converter-clause-none_chosen : goal.returns-in_err-converter-clause-none_chosen
 returns-in_err-converter-clause-none_chosen g c = λ counts e.
     absurd (setup_never c.in_err-converter.field-0.0 c.in_err-converter.ensures.only counts (passed c.from_residual.result _ (λ q. IsErrOf q (NoneChosen counts) → c.in_err-converter.field-0.0 ≡ NoneChosen counts) c.from_residual.ensures.1 (λ k. cc) e))
+
+pub returns-in_err-converter-clause-bad_setup : goal.returns-in_err-converter-clause-bad_setup
+returns-in_err-converter-clause-bad_setup g c =
+    let bad = c.in_err-converter.ensures.bad in
+    passed c.from_residual.result _ (λ q. (q ≡ Err BadSetup → IsBad c.args.setup) × (IsBad c.args.setup → q ≡ Err BadSetup)) c.from_residual.ensures.1
+    (λ e. bad.0 (same_fault _ BadSetup e), λ b. same_fault _ BadSetup (bad.1 b))

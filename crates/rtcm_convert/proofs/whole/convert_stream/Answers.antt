@@ -1,26 +1,22 @@
-use Rattle.std.proofs.Common.{ℕ, Option, IfSome, subst}
-use Rattle.gnss_obs.specs.Intervals.{IsInterval}
 use Rattle.rtcm_convert.proofs.FaultLemmas.{passed, run_known, never, not_of_setup, not_err}
 use Rattle.rtcm_convert.proofs.PartLemmas.{same_fault}
 use Rattle.rtcm_convert.proofs.WholeLemmas.{BeganNew, run_made, run_empty, run_read, run_long, run_write}
-use Rattle.rtcm_convert.proofs.Names.{◌≡◌, refl, Err, IsBadWith, LeftBy, BadSetup, Failed, Finished, start_by}
-use Rattle.rtcm_convert.proofs.whole.convert_with_options.Goals as goal
+use Rattle.rtcm_convert.proofs.Names.{◌≡◌, refl, Err, IsBad, LeftBy, BadSetup, Failed, Finished}
+use Rattle.rtcm_convert.proofs.whole.convert_stream.Goals as goal
 
 pub returns : goal.returns
 returns g c =
-    let x = start_by c.args.setup c.args.options in
     let v = c.in_ok-converter.converter in
     let h = c.in_ok-converter.ensures in
     let w = c.run-answer.new.self in
     let r = c.run-answer.result in
     let n = c.run-answer.ensures in
     let from = g.R.Read.remaining c.args.reader.now.inner in
-    let interval : IfSome c.args.options.choice.interval IsInterval = subst (λ (o : Option ℕ). IfSome o IsInterval) c.milliseconds.ensures.value c.milliseconds.ensures.bound in
-    let new : BeganNew v w x = record { nothing = c.prefix.ensures.nothing; history = h.history; same = n.left.0.0; limit = h.fresh.0 } in
+    let new : BeganNew v w c.args.setup = record { nothing = c.prefix.ensures.nothing; history = h.history; same = n.left.0.0; limit = h.fresh.0 } in
     let left = n.left.0.1 h.history.going in
     let no = never (λ f. LeftBy f w) run_known r left in
     record {
-      made = run_made _ from _ _ r new (c.read_back.ensures.some c.args.options h.fits interval) n.whole;
+      made = run_made _ from _ _ r new (c.read_back.ensures.some h.fits) n.whole;
       no_epoch = λ e. run_empty _ _ from _ _ new (n.no_epoch e);
       none_chosen = λ counts e. run_empty _ _ from _ _ new (n.none_chosen counts e);
       long = λ e. run_long new (n.long e);
@@ -36,5 +32,5 @@ returns g c =
 pub returns-in_err-converter-clause-bad_setup : goal.returns-in_err-converter-clause-bad_setup
 returns-in_err-converter-clause-bad_setup g c =
     let bad = c.in_err-converter.ensures.bad in
-    passed c.from_residual.result _ (λ q. (q ≡ Err BadSetup → IsBadWith (start_by c.args.setup c.args.options)) × (IsBadWith (start_by c.args.setup c.args.options) → q ≡ Err BadSetup)) c.from_residual.ensures.1
+    passed c.from_residual.result _ (λ q. (q ≡ Err BadSetup → IsBad c.args.setup) × (IsBad c.args.setup → q ≡ Err BadSetup)) c.from_residual.ensures.1
     (λ e. bad.0 (same_fault _ BadSetup e), λ b. same_fault _ BadSetup (bad.1 b))

@@ -1,11 +1,11 @@
 -- A new converter has examined, counted and written nothing.
 use Rattle.rtcm_convert.proofs.FaultLemmas.{not_err, passed}
 use Rattle.rtcm_convert.proofs.PartLemmas.{same_fault}
-use Rattle.rtcm_convert.proofs.converter.Converter.with_options.Goals.{then-setup-gt-MOST_BYTES-via-then-setup-gt-MOST_BYTES, then-setup-gt-MOST_BYTES-via-else-setup-gt-MOST_BYTES+then-not-fits_message}
-use Rattle.rtcm_convert.proofs.Names.{true≢false, Err, BadSetup, ◌≡◌, ◌≤◌, most_bytes, ℕ, List, [], subst, refl, sym, inl, inr, arith, ap, AreStationValues, Start, start_by, start_value, IsBadWith, IsBadStart, decided_frames, frames_before, IsDrained, HasExamined, IsCountedExactly, Framed, frames_of, frames_from, known_frames, new_scan, FramerValue, HasFiledFrames, HasDrained}
-use Rattle.rtcm_convert.proofs.converter.Converter.with_options.Goals as goal
+use Rattle.rtcm_convert.proofs.converter.Converter.new.Goals.{then-setup-gt-MOST_BYTES-via-then-setup-gt-MOST_BYTES, then-setup-gt-MOST_BYTES-via-else-setup-gt-MOST_BYTES+then-not-fits_message}
+use Rattle.rtcm_convert.proofs.Names.{true≢false, Err, BadSetup, ◌≡◌, ◌≤◌, most_bytes, ℕ, List, [], subst, refl, sym, inl, inr, arith, ap, AreStationValues, Setup, setup_value, IsBad, IsBadStart, decided_frames, frames_before, IsDrained, HasExamined, IsCountedExactly, Framed, frames_of, frames_from, known_frames, new_scan, FramerValue, HasFiledFrames, HasDrained}
+use Rattle.rtcm_convert.proofs.converter.Converter.new.Goals as goal
 
-bad_start : (x : Start) → AreStationValues x.options.initial → x.setup.limit ≤ most_bytes → IsBadWith x → IsBadStart x.setup
+bad_start : (x : Setup) → AreStationValues x.gatherer.initial → x.limit ≤ most_bytes → IsBad x → IsBadStart x
 bad_start x fits within (inl unfit) = absurd (unfit fits)
 bad_start x fits within (inr (inl over)) = absurd (omega (arith, within, over))
 bad_start x fits within (inr (inr start)) = start
@@ -33,19 +33,19 @@ returns-then-setup-gt-MOST_BYTES-clause-bad c = (
 pub returns-in_err-file_writer-clause-bad : goal.returns-in_err-file_writer-clause-bad
 returns-in_err-file_writer-clause-bad c =
     let bad = c.in_err-file_writer.ensures.bad in
-    let x = start_by c.args.setup c.args.options in
-    passed c.from_residual.result _ (λ q. (q ≡ Err BadSetup → IsBadWith x) × (IsBadWith x → q ≡ Err BadSetup)) c.from_residual.ensures.1 (
+    let x = c.args.setup in
+    passed c.from_residual.result _ (λ q. (q ≡ Err BadSetup → IsBad x) × (IsBad x → q ≡ Err BadSetup)) c.from_residual.ensures.1 (
       λ e. inr (inr (bad.0 (same_fault _ _ e))),
       λ b. same_fault _ _ (bad.1 (bad_start x (c.if-not-fits_message.ensures.0 refl) c.if-setup-gt-MOST_BYTES.false b)),
     )
 
 pub returns-in_default-clause-bad : goal.returns-in_default-clause-bad
 returns-in_default-clause-bad c =
-    (λ e. cc, λ b. absurd (not_err _ _ (c.in_ok-file_writer.ensures.bad.1 (bad_start (start_by c.args.setup c.args.options) (c.if-not-fits_message.ensures.0 refl) c.if-setup-gt-MOST_BYTES.false b))))
+    (λ e. cc, λ b. absurd (not_err _ _ (c.in_ok-file_writer.ensures.bad.1 (bad_start c.args.setup (c.if-not-fits_message.ensures.0 refl) c.if-setup-gt-MOST_BYTES.false b))))
 
 pub returns-clause-history : goal.returns-clause-history
 returns-clause-history c =
-    let x = start_by c.args.setup c.args.options in
+    let x = c.args.setup in
     let n = c.in-Ok.ensures in
     let d = new_drained c.in-Ok.framer _ n.new n.counts n.drained n.counted in
     record {
@@ -54,7 +54,7 @@ returns-clause-history c =
         framer = d.framer;
         drained = d.drained;
         counted = d.counted;
-        file_writer = subst (λ (l : List Framed). HasFiledFrames c.in_ok-file_writer.file_writer (start_value x) l) (none_known _ _ n.new) c.in_ok-file_writer.ensures.history;
+        file_writer = subst (λ (l : List Framed). HasFiledFrames c.in_ok-file_writer.file_writer (setup_value x) l) (none_known _ _ n.new) c.in_ok-file_writer.ensures.history;
       };
     }
 
