@@ -1,25 +1,25 @@
 -- A conversion that is stopped by a fault.
 use Rattle.rtcm_command.proofs.CommandLemmas.{Devices}
 use Rattle.rtcm_command.proofs.OptionLemmas.{bad_choice}
-use Rattle.rtcm_command.proofs.Names.{⊤, Device, EndsConverting, IsErrAnd, passed, ◌≡◌, ap, sym, subst, refl, rules, ℕ, ℤ, List, Option, Some, Result, Err, IsErrOf, IfSome, inl, inr, ◌≢◌, ◌↔◌, IsSentAfter, IsSetupFault, IsUntouched, IsMadeEmpty, IsMadeSoFar, IsMadeInPart, IsMadeToLimit, IsBad, IsBadWith, Start, start_zero, Setup, no_values, AreStationValues, Fault, Memory, BadSetup, TooLong, Read, Write, Failed, Finished, NoEpoch, NoneChosen, EpochCounts, Report, ToolFault, Row, StationValues, values_by, HasSetupFault, IsFirstFault, IsLastFault, IsSetupRefused, IsWeekSet, values_set, StopsConversion, HaveFailedBy, ChannelsValue, channels_by, channels_set}
+use Rattle.rtcm_command.proofs.Names.{⊤, Device, EndsConverting, IsErrAnd, passed, ◌≡◌, ap, sym, subst, refl, rules, ℕ, ℤ, List, Option, Some, Result, Err, IsErrOf, IfSome, inl, inr, ◌≢◌, ◌↔◌, IsSentAfter, IsSetupFault, IsUntouched, IsMadeEmpty, IsMadeSoFar, IsMadeInPart, IsMadeToLimit, IsBad, Setup, Fault, Memory, BadSetup, TooLong, Read, Write, Failed, Finished, NoEpoch, NoneChosen, EpochCounts, Report, ToolFault, Row, StationValues, values_by, HasSetupFault, IsFirstFault, IsLastFault, IsSetupRefused, IsWeekSet, values_set, StopsConversion, HaveFailedBy, ChannelsValue, channels_by, channels_set}
 use Rattle.command_faults.specs.declared.fault.ToolFault.TheVariants as faults
 
 abbrev Result-of : Fault → Result Report Fault
 Result-of fault = Err fault
 
 -- what a conversion that returned this fault did
-pub record Faulted {R W : Type 0} (x : Start) (d : Devices R W) (fault : Fault) : Type 0 where
+pub record Faulted {R W : Type 0} (x : Setup) (d : Devices R W) (fault : Fault) : Type 0 where
   pub sent : IsSentAfter (Result-of fault) (d.waits d.w.inner) (d.waits d.w2.inner)
   pub no_epoch : IsErrOf (Result-of fault) NoEpoch → IfSome (d.left d.r.inner) (IsMadeEmpty x NoEpoch (d.held d.w.inner) (d.held d.w2.inner))
   pub none_chosen : (counts : EpochCounts) → IsErrOf (Result-of fault) (NoneChosen counts) → IfSome (d.left d.r.inner) (IsMadeEmpty x (NoneChosen counts) (d.held d.w.inner) (d.held d.w2.inner))
   pub long : IsErrOf (Result-of fault) TooLong → IsMadeToLimit x (d.left d.r.inner) (d.left d.r2.inner) (d.held d.w.inner) (d.held d.w2.inner)
   pub read : IsErrOf (Result-of fault) Read → IsMadeSoFar x (d.left d.r.inner) (d.left d.r2.inner) (d.held d.w.inner) (d.held d.w2.inner)
   pub write : IsErrOf (Result-of fault) Write → IsMadeInPart x (d.left d.r.inner) (d.left d.r2.inner) (d.held d.w.inner) (d.held d.w2.inner)
-  pub bad : Result-of fault ≡ Err BadSetup ↔ IsBadWith x
+  pub bad : Result-of fault ≡ Err BadSetup ↔ IsBad x
   pub untouched : IsSetupFault fault → IsUntouched d.r d.r2 d.w d.w2
   pub only : (Result-of fault ≢ Err Failed) × (Result-of fault ≢ Err Finished)
 
-pub conversion_stopped : {R W : Type 0} {x : Start} {d : Devices R W} (fault : Fault) → Faulted x d fault → StopsConversion x d.left d.r d.r2 d.held d.waits d.w d.w2 fault
+pub conversion_stopped : {R W : Type 0} {x : Setup} {d : Devices R W} (fault : Fault) → Faulted x d fault → StopsConversion x d.left d.r d.r2 d.held d.waits d.w d.w2 fault
 conversion_stopped Memory s = s.untouched (inr refl)
 conversion_stopped BadSetup s = (s.bad.0 refl, s.untouched (inl refl))
 conversion_stopped TooLong s = (s.long refl, s.sent)
@@ -30,7 +30,7 @@ conversion_stopped Finished s = absurd (s.only.1 refl)
 conversion_stopped NoEpoch s = (s.no_epoch refl, s.sent)
 conversion_stopped (NoneChosen counts) s = (s.none_chosen counts refl, s.sent)
 
--- a bad start is the fault of the conversion and of the command
+-- a bad setup is the fault of the conversion and of the command
 pub given_bad : (fault : Fault) (Bad : Type 0) → (◌≡◌ {A = Result Report Fault} (Err fault) (Err BadSetup) ↔ Bad)
     → (◌≡◌ {A = Result Report ToolFault} (Err (faults.Convert fault)) (Err (faults.Convert BadSetup)) ↔ Bad)
 given_bad fault Bad bad = (
@@ -69,11 +69,3 @@ module _ {R W : Type 0} (left : R → Option (List ℕ)) (held : W → Option (L
 pub first_fault : {values : Result StationValues ToolFault} {channels : Result ChannelsValue ToolFault} {fault : ToolFault} (options : List Row) (n : ℕ) → IsWeekSet options n → values_set options ≡ values → channels_set options ≡ channels
     → IsFirstFault values channels options fault → IsSetupRefused options fault
 first_fault {values} {channels} {fault} options n week is are h = inr (n, week, subst (λ (c : Result ChannelsValue ToolFault). IsFirstFault (values_set options) c options fault) (sym are) (subst (λ (v : Result StationValues ToolFault). IsFirstFault v channels options fault) (sym is) h))
-
--- 0 is a coordinate and a height
-zero_values : AreStationValues no_values
-zero_values = search rules
-
-pub zero_bad : (x : Setup) → IsBadWith (start_zero x) → IsBad x
-zero_bad x (inl not) = absurd (not zero_values)
-zero_bad x (inr bad) = bad

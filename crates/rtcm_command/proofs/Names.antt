@@ -36,8 +36,7 @@ pub use Rattle.command_faults.specs.declared.fault.ToolFault.TheVariants.{Conver
 pub use Rattle.rtcm_bits.specs.Device.{Device, IsUntouched}
 pub use Rattle.rtcm_convert.specs.Faults.{IsSentAfter, IsSetupFault}
 pub use Rattle.rtcm_convert.specs.Made.{IsMadeEmpty, IsMadeInPart, IsMadeSoFar, IsMadeToLimit}
-pub use Rattle.rtcm_convert.specs.SetupValues.{IsBad, IsBadWith, Start, start_by, start_zero}
-pub use Rattle.rtcm_convert.specs.declared.setup.ConvertOptions.{ConvertOptions}
+pub use Rattle.rtcm_convert.specs.SetupValues.{IsBad}
 pub use Rattle.rtcm_convert.specs.declared.fault.Fault.{Fault}
 pub use Rattle.rtcm_convert.specs.declared.fault.Fault.TheVariants.{BadSetup, Failed, Finished, Memory, NoEpoch, NoneChosen, Read, TooLong, Write}
 pub use Rattle.rtcm_convert.specs.declared.report.Report.{Report}

@@ -34,12 +34,12 @@ use Rattle.rtcm_inspect.specs.SignalLaws.{AreReadAsPlan}
 use Rattle.rtcm_inspect.specs.Signals.{codes_word, forms_had, had, plan_in, set_had, valued_in}
 use Rattle.rtcm_inspect.specs.StreamChannels.{channels_in}
 use Rattle.rtcm_inspect.specs.WeekLaws.{IsDatedByWeek, IsLeapFree}
-use Rattle.rtcm_convert.specs.SetupValues.{start_value}
+use Rattle.rtcm_convert.specs.SetupValues.{setup_value}
 use Rattle.rtcm_command.specs.PrintedPlan.{ArePrintedWords, IsDatedAsPrinted, IsDatedNear, IsStartedAsFound, StartsAsFound, leap_option}
 use Rattle.rtcm_command.proofs.PrintedWordsLemmas.{AreAsPrinted, as_printed, channels_option, forms_text, signals_text}
 use Rattle.rtcm_command.specs.SetupOptions.{IsPlanSet}
 use Rattle.rtcm_command.specs.StationLaws.{AreChannelsSet, AreLeapSecondsRead, AreReadAsStation, AreZeroByDefault, IsStationRead, IsWeekRead}
-use Rattle.rtcm_command.proofs.Names.{ChannelsValue, IsNumberOf, IsWeekSet, Row, Start, StationValues, bytes_eq, channels_set, height_text, no_values, plan_set, position_text, text_set, values_set, option_map_or, ◌<◌, ◌≡◌, Bool, IfSome, List, None, Ok, Option, Result, Some, [], ap, ap₂, arith, codes, decimal, inl, inr, length, lit<, option_map, refl, subst, sym, unwrap_or, ℕ, ◌^◌, ◌∙◌}
+use Rattle.rtcm_command.proofs.Names.{ChannelsValue, IsNumberOf, IsWeekSet, Row, Setup, StationValues, bytes_eq, channels_set, height_text, no_values, plan_set, position_text, text_set, values_set, option_map_or, ◌<◌, ◌≡◌, Bool, IfSome, List, None, Ok, Option, Result, Some, [], ap, ap₂, arith, codes, decimal, inl, inr, length, lit<, option_map, refl, subst, sym, unwrap_or, ℕ, ◌^◌, ◌∙◌}
 
 -- ---- the signals
 
@@ -148,12 +148,12 @@ pub started_as_found : ReadLaws → IsStartedAsFound
 started_as_found laws options near w wanted fs x are start =
     let printed : AreAsPrinted options w (option_map leap_at near) wanted fs = as_printed options w (option_map leap_at near) wanted fs are.printed in
     record {
-      plan = plan_found laws options x.setup.plan wanted fs are.some printed.signals printed.channels start.setup.plan;
+      plan = plan_found laws options x.gatherer.plan wanted fs are.some printed.signals printed.channels start.plan;
       forms = start.forms ∙ forms_read (forms_had wanted fs) (text_set options (codes "msm")) printed.forms;
-      station = station_read options wanted x.setup.station laws.station are.station printed.station start.setup.station;
-      week = week_read options near (first_tow (leap_near near) (set_had wanted fs) wanted fs) w x.setup.start_week laws.week are.week printed.week start.setup.week;
-      leap_seconds = laws.leap options (leap_option (option_map leap_at near) (plan_in wanted fs)) x.options.leap_seconds (leap_fits (is_decoded (plan_in wanted fs) Glonass) near) printed.leap_seconds start.leap;
-      initial = values_read options (first_station wanted fs) x.options.initial laws.position laws.zero (laws.range wanted fs) printed.position printed.height start.initial;
+      station = station_read options wanted x.gatherer.station laws.station are.station printed.station start.station;
+      week = week_read options near (first_tow (leap_near near) (set_had wanted fs) wanted fs) w x.gatherer.start_week laws.week are.week printed.week start.week;
+      leap_seconds = laws.leap options (leap_option (option_map leap_at near) (plan_in wanted fs)) x.gatherer.leap_seconds (leap_fits (is_decoded (plan_in wanted fs) Glonass) near) printed.leap_seconds start.leap;
+      initial = values_read options (first_station wanted fs) x.gatherer.initial laws.position laws.zero (laws.range wanted fs) printed.position printed.height start.initial;
     }
 
 -- ---- the first time
@@ -177,16 +177,16 @@ week_of_start noon tow start None (n, is, near) found = cc
 week_of_start noon tow start (Some m) (n, is, near) found = let same : start ≡ n = cc in subst (λ (k : ℕ). IsWeekNear noon tow k) (sym same) near
 
 -- the first time of a conversion that starts as found
-first_dated : DateLaws → (noon : ℕ) (w wanted : Option ℕ) (fs : List Framed) (x : Start) → StartsAsFound x w (Some (leap_at noon)) wanted fs
+first_dated : DateLaws → (noon : ℕ) (w wanted : Option ℕ) (fs : List Framed) (x : Setup) → StartsAsFound x w (Some (leap_at noon)) wanted fs
     → IsWeekFor (Some noon) (first_tow (leap_at noon) (set_had wanted fs) wanted fs) w → IsDatedNear noon x wanted fs
 first_dated laws noon w wanted fs x found is tow first =
-    let near : IsWeekNear noon tow x.setup.start_week = week_of_start noon tow x.setup.start_week w (subst (λ (t : Option ℕ). IsWeekFor (Some noon) t w) first is) found.week in
-    let set : set_of x.setup.plan x.options.forms ≡ set_had wanted fs = ap₂ set_of found.plan found.forms in
-    let tow_is : first_tow x.options.leap_seconds (set_of x.setup.plan x.options.forms) x.setup.station fs ≡ Some tow =
-    ap₂ (λ (m : MsmSet) (o : Option ℕ). first_tow x.options.leap_seconds m o fs) set found.station ∙ same_first laws.free noon x.options.leap_seconds wanted fs found.leap_seconds ∙ first in (
-      x.setup.start_week,
+    let near : IsWeekNear noon tow x.gatherer.start_week = week_of_start noon tow x.gatherer.start_week w (subst (λ (t : Option ℕ). IsWeekFor (Some noon) t w) first is) found.week in
+    let set : set_of x.gatherer.plan x.forms ≡ set_had wanted fs = ap₂ set_of found.plan found.forms in
+    let tow_is : first_tow x.gatherer.leap_seconds (set_of x.gatherer.plan x.forms) x.gatherer.station fs ≡ Some tow =
+    ap₂ (λ (m : MsmSet) (o : Option ℕ). first_tow x.gatherer.leap_seconds m o fs) set found.station ∙ same_first laws.free noon x.gatherer.leap_seconds wanted fs found.leap_seconds ∙ first in (
+      x.gatherer.start_week,
       near,
-      laws.dated (start_value x).set (start_value x).gather fs tow (near_small noon tow x.setup.start_week near)
+      laws.dated (setup_value x).set (setup_value x).gather fs tow (near_small noon tow x.gatherer.start_week near)
           (laws.small (leap_at noon) (set_had wanted fs) wanted fs tow first) tow_is,
     )
 

@@ -25,8 +25,9 @@ use Rattle.rtcm_inspect.specs.OptionOutput.{leap_near}
 use Rattle.rtcm_inspect.specs.Signals.{forms_had, plan_in, set_had, valued_in}
 use Rattle.rtcm_inspect.specs.WeekLaws.{first_time}
 use Rattle.rtcm_convert.specs.Converted.{messages_of}
-use Rattle.rtcm_convert.specs.SetupValues.{Start, start_value}
-use Rattle.rtcm_command.specs.SetupOptions.{IsStartOf, text_set}
+use Rattle.rtcm_convert.specs.SetupValues.{setup_value}
+use Rattle.rtcm_convert.specs.declared.setup.Setup.{Setup}
+use Rattle.rtcm_command.specs.SetupOptions.{IsSetupOf, text_set}
 
 -- ---- the options that words give
 
@@ -78,19 +79,19 @@ leap_option leap p = if is_decoded p Glonass then unwrap_or leap default_leap el
 
 -- A conversion starts with what `options` found in these frames: the plan with its channels, the forms, the station,
 -- the week, the leap seconds, and the values of the first station message, which are 0 without one.
-pub record StartsAsFound (x : Start) (w leap wanted : Option ℕ) (fs : List Framed) : Type 0 where
-  pub plan : x.setup.plan ≡ plan_in wanted fs
-  pub forms : x.options.forms ≡ forms_had wanted fs
-  pub station : x.setup.station ≡ wanted
-  pub week : IfSome w (λ n. x.setup.start_week ≡ n)
-  pub leap_seconds : x.options.leap_seconds ≡ leap_option leap (plan_in wanted fs)
-  pub initial : x.options.initial ≡ option_map_or (λ s. values_from s 0) (first_station wanted fs) no_values
+pub record StartsAsFound (x : Setup) (w leap wanted : Option ℕ) (fs : List Framed) : Type 0 where
+  pub plan : x.gatherer.plan ≡ plan_in wanted fs
+  pub forms : x.forms ≡ forms_had wanted fs
+  pub station : x.gatherer.station ≡ wanted
+  pub week : IfSome w (λ n. x.gatherer.start_week ≡ n)
+  pub leap_seconds : x.gatherer.leap_seconds ≡ leap_option leap (plan_in wanted fs)
+  pub initial : x.gatherer.initial ≡ option_map_or (λ s. values_from s 0) (first_station wanted fs) no_values
 
 -- its first accepted message is the first MSM that it decodes, in the week nearest to the noon of the date
-abbrev pub IsDatedNear : (noon : ℕ) → Start → (wanted : Option ℕ) → List Framed → Type 0
+abbrev pub IsDatedNear : (noon : ℕ) → Setup → (wanted : Option ℕ) → List Framed → Type 0
 IsDatedNear noon x wanted fs = (tow : ℕ) → first_tow (leap_near (Some noon)) (set_had wanted fs) wanted fs ≡ Some tow
     → (n : ℕ) × IsWeekNear noon tow n
-    × (first_time (timed (start_value x).gather (messages_of (start_value x) fs)) ≡ Some (n * week + tow))
+    × (first_time (timed (setup_value x).gather (messages_of (setup_value x) fs)) ≡ Some (n * week + tow))
 
 -- The week is the one that `options` prints near a date, and the options are as printed.
 pub record AreOptionsNear (options : List Row) (near w wanted : Option ℕ) (fs : List Framed) : Type 0 where
@@ -107,10 +108,10 @@ ArePrintedWords = (w leap wanted : Option ℕ) (fs : List Framed)
     → options_text w leap wanted fs ≡ line (printed_words w leap wanted fs)
 
 abbrev pub IsStartedAsFound : Type 0
-IsStartedAsFound = (options : List Row) (near w wanted : Option ℕ) (fs : List Framed) (x : Start)
-    → AreOptionsNear options near w wanted fs → IsStartOf options x
+IsStartedAsFound = (options : List Row) (near w wanted : Option ℕ) (fs : List Framed) (x : Setup)
+    → AreOptionsNear options near w wanted fs → IsSetupOf options x
     → StartsAsFound x w (option_map leap_at near) wanted fs
 
 abbrev pub IsDatedAsPrinted : Type 0
-IsDatedAsPrinted = (options : List Row) (noon : ℕ) (w wanted : Option ℕ) (fs : List Framed) (x : Start)
-    → AreOptionsNear options (Some noon) w wanted fs → IsStartOf options x → IsDatedNear noon x wanted fs
+IsDatedAsPrinted = (options : List Row) (noon : ℕ) (w wanted : Option ℕ) (fs : List Framed) (x : Setup)
+    → AreOptionsNear options (Some noon) w wanted fs → IsSetupOf options x → IsDatedNear noon x wanted fs

@@ -10,7 +10,8 @@ use Rattle.rtcm_msg.specs.declared.number.Forms.{Forms}
 use Rattle.rtcm_msg.specs.declared.number.Forms.TheVariants.{FourAndSeven, All}
 use Rattle.rtcm_scan.specs.Scan.{most_bytes}
 use Rattle.obs_epoch.specs.Choices.{every_epoch}
-use Rattle.obs_epoch.specs.Kinds.{default_leap, is_by_bit}
+use Rattle.obs_epoch.specs.Heard.{is_by_bit}
+use Rattle.obs_epoch.specs.Kinds.{default_leap}
 use Rattle.obs_epoch.specs.declared.choice.Choice.{Choice}
 use Rattle.gnss_system.specs.Satellites.{name_of}
 use Rattle.gnss_system.specs.SystemValues.{tabulate}
@@ -22,7 +23,6 @@ use Rattle.gnss_obs.specs.declared.fault.PlanFault.{PlanFault}
 use Rattle.gnss_obs.specs.declared.fault.PlanFault.TheVariants as plans
 use Rattle.rinex_file.specs.Texts.{HeaderLists, trimmed_texts, first_fault, fields}
 use Rattle.gnss_obs.specs.declared.cell.StationValues.{StationValues}
-use Rattle.rtcm_convert.specs.SetupValues.{Start}
 use Rattle.rtcm_convert.specs.declared.setup.Setup.{Setup}
 use Rattle.option_texts.specs.ChannelTexts.{channels_of}
 use Rattle.option_texts.specs.Dates.{IsHourOf, IsTimeOf, IsWeekOf}
@@ -181,15 +181,6 @@ abbrev pub IsPlanSet : List Row → PlanValue → Type 0
 IsPlanSet options plan = (p : PlanValue) × (channels : ChannelsValue) × (plan_set options ≡ Ok p)
     × (channels_set options ≡ Ok channels) × (plan ≡ with_channels p channels)
 
--- The setup of a conversion has the value of each option, by its name.
-pub record IsSetupOf (options : List Row) (x : Setup) : Type 0 where
-  pub texts : x.texts ≡ trimmed_texts (texts_set options)
-  pub plan : IsPlanSet options x.plan
-  pub week : IsWeekSet options x.start_week
-  pub station : IsNumberOf 16 (one_of (codes "station") options) x.station
-  pub gather : is_by_bit x.gather ≡ not (bytes_eq (text_set options (codes "gather")) (codes "time"))
-  pub limit : IsNumberOr 64 most_bytes (one_of (codes "limit") options) x.limit
-
 -- the station values of a position and an antenna height, or the fault of the text that isn't one
 abbrev pub values_by : Option (ℤ × ℤ × ℤ) → Option ℕ → Result StationValues ToolFault
 values_by None height = Err faults.BadPosition
@@ -203,13 +194,18 @@ values_in position height = values_by (position_of position) (length_below (2 ^ 
 abbrev pub values_set : List Row → Result StationValues ToolFault
 values_set options = values_in (text_set options (codes "position")) (text_set options (codes "antenna-height"))
 
--- the start of a conversion that the options give
-pub record IsStartOf (options : List Row) (x : Start) : Type 0 where
-  pub setup : IsSetupOf options x.setup
-  pub initial : values_set options ≡ Ok x.options.initial
-  pub forms : x.options.forms ≡ forms_set options
-  pub leap : IsNumberOr 8 default_leap (one_of (codes "leap-seconds") options) x.options.leap_seconds
-  pub choice : IsChoiceSet options (Ok x.options.choice)
+-- The setup of a conversion has the value of each option, by its name.
+pub record IsSetupOf (options : List Row) (x : Setup) : Type 0 where
+  pub texts : x.texts ≡ trimmed_texts (texts_set options)
+  pub plan : IsPlanSet options x.gatherer.plan
+  pub week : IsWeekSet options x.gatherer.start_week
+  pub station : IsNumberOf 16 (one_of (codes "station") options) x.gatherer.station
+  pub gather : is_by_bit x.gatherer.gather ≡ not (bytes_eq (text_set options (codes "gather")) (codes "time"))
+  pub initial : values_set options ≡ Ok x.gatherer.initial
+  pub leap : IsNumberOr 8 default_leap (one_of (codes "leap-seconds") options) x.gatherer.leap_seconds
+  pub choice : IsChoiceSet options (Ok x.gatherer.choice)
+  pub forms : x.forms ≡ forms_set options
+  pub limit : IsNumberOr 64 most_bytes (one_of (codes "limit") options) x.limit
 
 -- Of these options a text of the header has this fault; or the texts are valid, and the plan has this fault, or memory
 -- ran out for a signal before its fault.

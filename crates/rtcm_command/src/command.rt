@@ -18,17 +18,16 @@ ghost use Rattle.command_line.specs.declared.cli.TheConstants.{VERSION};
 ghost use Rattle.rtcm_command.specs.Converting.{EndsConverting};
 ghost use Rattle.rtcm_command.specs.SetupOptions.{options_of};
 
-use crate::convert::{report_line, run_convert_with};
+use crate::convert::{report_line, run_convert};
 use crate::options::{
-    channels_of, choice_of, forms_of, gaps_of, has_flag, leap_seconds_of, near_of, setup_of,
-    start_week_of, station_of, values_of,
+    channels_of, choice_of, gaps_of, has_flag, near_of, setup_of, start_week_of, station_of,
+    values_of,
 };
 use clap::ArgMatches;
 use clap::error::ErrorKind;
 use command_faults::{ToolFault, error_line, exit_status};
 use command_line::{VERSION, drop_matches, parse};
 use rtcm_bits::{Counted, Deliver};
-use rtcm_convert::ConvertOptions;
 use rtcm_inspect::{
     InspectFault, print_line, print_text, run_check, run_check_gaps, run_check_times, run_frames,
     run_options, run_show, run_show_all, run_signals,
@@ -150,14 +149,8 @@ fn convert<R: Read, W: Deliver, E: Deliver>(
     let initial = values_of(options)?;
     let channels = channels_of(options)?;
     let choice = choice_of(options)?;
-    let setup = setup_of(alloc, options, start_week, channels)?;
-    let given = ConvertOptions {
-        initial,
-        forms: forms_of(options),
-        leap_seconds: leap_seconds_of(options),
-        choice,
-    };
-    let report = run_convert_with(alloc, setup, given, reader, writer)?;
+    let setup = setup_of(alloc, options, start_week, initial, channels, choice)?;
+    let report = run_convert(alloc, setup, reader, writer)?;
     print_line(report_line(&report).as_bytes(), faults);
     Ok(())
 }

@@ -1,13 +1,13 @@
 //! The command `convert`: the observation file of a stream.
 ghost use Rattle.std.specs.Prelude.{◌≡◌, ◌≤◌, ◌↔◌, Err, max};
 ghost use Rattle.rtcm_bits.specs.FrameOf.{longest_frame};
-ghost use Rattle.rtcm_convert.specs.SetupValues.{IsBad, IsBadWith, start_by, start_zero};
+ghost use Rattle.rtcm_convert.specs.SetupValues.{IsBad};
 ghost use Rattle.rtcm_command.specs.Converting.{EndsConversion};
 ghost use Rattle.rtcm_command.specs.Reports.{report_line};
 
 use command_faults::ToolFault;
 use rtcm_bits::{Counted, Deliver};
-use rtcm_convert::{ConvertOptions, Fault, Report, Setup, convert_with_options};
+use rtcm_convert::{Fault, Report, Setup, convert_stream};
 use rtcm_inspect::OutputLine;
 use std::alloc::Global;
 use std::io::Read;
@@ -26,32 +26,12 @@ pub fn run_convert<R: Read, W: Deliver>(
     reader: &mut Counted<R>,
     writer: &mut Counted<W>,
 ) -> Result<Report, ToolFault>
-    ensures ends { EndsConversion result (start_zero setup)
+    ensures ends { EndsConversion result setup
         R.remaining reader.old reader.new W.contents W.waiting writer.old writer.new }
     ensures bad_setup { result ≡ Err (ToolFault.Convert Fault.BadSetup) ↔ IsBad setup }
     ensures widest { reader.new.widest ≤ max reader.old.widest longest_frame }
 {
-    run_convert_with(alloc, setup, ConvertOptions::default(), reader, writer)
-}
-
-/// Writes the observation file of a stream as `run_convert` does, with these options.
-///
-/// # Errors
-///
-/// Those of `run_convert`.
-pub fn run_convert_with<R: Read, W: Deliver>(
-    alloc: Global,
-    setup: Setup,
-    options: ConvertOptions,
-    reader: &mut Counted<R>,
-    writer: &mut Counted<W>,
-) -> Result<Report, ToolFault>
-    ensures ends { EndsConversion result (start_by setup options)
-        R.remaining reader.old reader.new W.contents W.waiting writer.old writer.new }
-    ensures bad_setup { result ≡ Err (ToolFault.Convert Fault.BadSetup) ↔ IsBadWith (start_by setup options) }
-    ensures widest { reader.new.widest ≤ max reader.old.widest longest_frame }
-{
-    match convert_with_options(alloc, setup, options, reader, writer) {
+    match convert_stream(alloc, setup, reader, writer) {
         Ok(report) => Ok(report),
         Err(fault) => Err(ToolFault::Convert(fault)),
     }

@@ -7,4 +7,4 @@ mod convert;
 pub mod laws;
 mod options;
 
-pub use convert::{report_line, run_convert, run_convert_with};
+pub use convert::{report_line, run_convert};

@@ -4,7 +4,8 @@ ghost use Rattle.clap.specs.Walk.{first_of, one_of};
 ghost use Rattle.std.specs.Str.{bytes_eq};
 ghost use Rattle.gnss_obs.specs.Plans.{HasSignal};
 ghost use Rattle.gnss_obs.specs.SignalLists.{IsDefined};
-ghost use Rattle.obs_epoch.specs.Kinds.{default_leap, is_by_bit};
+ghost use Rattle.obs_epoch.specs.Heard.{is_by_bit};
+ghost use Rattle.obs_epoch.specs.Kinds.{default_leap};
 ghost use Rattle.rinex_file.specs.TextsOf.{lists_of};
 ghost use Rattle.option_texts.specs.Lengths.{longest_interval};
 ghost use Rattle.rtcm_command.specs.SetupOptions.{HasSetupFault, IsChoiceSet, IsNearRefused, IsNearSet, IsNumberOf};
@@ -16,7 +17,7 @@ ghost use Rattle.rtcm_command.specs.SetupOptions.{forms_set, options_of, plan_se
 use clap::ArgMatches;
 use command_faults::{DateOption, ToolFault};
 use gnss_obs::{BySystem, Channels, GpsTime, Interval, Plan, PlanFault, StationValues};
-use obs_epoch::{Choice, Gather, LEAP_SECONDS};
+use obs_epoch::{Choice, Gather, GatherSetup, LEAP_SECONDS};
 use option_texts::epoch_interval_of;
 use rinex_file::{HeaderTexts, Texts};
 use rtcm_convert::Setup;
@@ -151,8 +152,8 @@ pub fn has_flag(options: &ArgMatches, name: &str) -> bool
     text(options, name) == "true"
 }
 
-/// Returns the settings of a conversion that begins in a week, with these channels. The texts of the
-/// header are checked before the plan.
+/// Returns the settings of a conversion that begins in a week, with these station values, channels
+/// and epochs. The texts of the header are checked before the plan.
 ///
 /// # Errors
 ///
@@ -161,20 +162,31 @@ pub fn setup_of(
     alloc: Global,
     options: &ArgMatches,
     start_week: u32,
+    initial: StationValues,
     channels: Channels,
+    choice: Choice,
 ) -> Result<Setup, ToolFault>
     requires week { IsWeekSet (options_of options.now) start_week }
+    requires values { values_set (options_of options.now) ≡ Ok initial }
     requires channels { channels_set (options_of options.now) ≡ Ok channels }
+    requires choice { IsChoiceSet (options_of options.now) (Ok choice) }
     ensures { MatchResult result (IsSetupOf (options_of options.now)) (HasSetupFault (options_of options.now)) }
 {
     let texts = HeaderTexts::new(&texts_of(options)).map_err(ToolFault::Header)?;
     let plan = plan_of(alloc, options).map_err(ToolFault::Plan)?;
-    Ok(Setup {
+    let gatherer = GatherSetup {
         plan: plan.with_channels(channels),
-        texts,
         start_week,
         station: station_of(options),
         gather: gather_of(text(options, "gather")),
+        initial,
+        leap_seconds: leap_seconds_of(options),
+        choice,
+    };
+    Ok(Setup {
+        gatherer,
+        texts,
+        forms: forms_of(options),
         limit: options.get_one::<u64>("limit").unwrap_or(MOST_BYTES),
     })
 }
@@ -188,7 +200,7 @@ fn plan_of(alloc: Global, options: &ArgMatches) -> Result<Plan, PlanFault>
 }
 
 /// Returns the texts of the header.
-fn texts_of<'a>(options: &ArgMatches<'a>) -> Texts<'a>
+pub fn texts_of<'a>(options: &ArgMatches<'a>) -> Texts<'a>
     ensures { lists_of result ≡ texts_set (options_of options.now) }
 {
     Texts {
@@ -219,7 +231,7 @@ fn gather_of(name: &str) -> Gather
 }
 
 /// Returns the forms of MSM that are read.
-pub fn forms_of(options: &ArgMatches) -> Forms
+fn forms_of(options: &ArgMatches) -> Forms
     ensures { result ≡ forms_set (options_of options.now) }
 {
     match text(options, "msm") {
@@ -229,7 +241,7 @@ pub fn forms_of(options: &ArgMatches) -> Forms
 }
 
 /// Returns GPS time minus UTC in seconds.
-pub fn leap_seconds_of(options: &ArgMatches) -> u8
+fn leap_seconds_of(options: &ArgMatches) -> u8
     ensures { IsNumberOr 8 default_leap (one_of (codes "leap-seconds") (options_of options.now)) result }
 {
     options.get_one("leap-seconds").unwrap_or(LEAP_SECONDS)

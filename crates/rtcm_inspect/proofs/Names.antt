@@ -13,7 +13,8 @@ pub use Rattle.gnss_obs.specs.declared.fault.PlanFault.TheVariants.{RepeatedCode
 pub use Rattle.gnss_system.specs.declared.system.System.{System}
 pub use Rattle.gnss_system.specs.declared.system.System.TheVariants.{Galileo, Gps}
 pub use Rattle.obs_epoch.specs.Cells.{counts_of, counts_of_message, has_listed_key, is_planned, no_counts, offered, with_skipped}
-pub use Rattle.obs_epoch.specs.Heard.{GatherSetup, Heard, heard, heard_by, heard_in, heard_msm, heard_of, is_own, lock_by, observed, seen_in, unlisted_in}
+pub use Rattle.obs_epoch.specs.Heard.{Heard, heard, heard_by, heard_in, heard_msm, heard_of, is_own, lock_by, observed, seen_in, unlisted_in}
+pub use Rattle.obs_epoch.specs.declared.setup.GatherSetup.{GatherSetup}
 pub use Rattle.obs_epoch.specs.SignalCounts.{AreSignalCounts, CountsMessage, SignalCountsValue, brings_value, count_of, counted, every_channel, has_any, is_of_signal, is_of_station, signal_counts, signal_in, valued}
 pub use Rattle.obs_epoch.specs.Sets.{set_of}
 pub use Rattle.obs_epoch.specs.Times.{Timed, ahead, greatest_time, is_closed, is_past, max_known, taken_at, timed_after}

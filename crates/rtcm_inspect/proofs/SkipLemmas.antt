@@ -62,7 +62,7 @@ record SameKeys (s : GatherSetup) (x y : Heard) : Type 0 where
   unlisted : x.unlisted ≡ y.unlisted
   skipped : count_by (λ z. not (is_planned s z)) x.cells ≡ count_by (λ z. not (is_planned s z)) y.cells
 
-msm_keys : (s : GatherSetup) (field : LockField) (v : MsmValue) (es : List Entry) → SameKeys s (heard_msm s.plan.channels s.leap field v es) (heard_msm every_channel 0 field v es)
+msm_keys : (s : GatherSetup) (field : LockField) (v : MsmValue) (es : List Entry) → SameKeys s (heard_msm s.plan.channels s.leap_seconds field v es) (heard_msm every_channel 0 field v es)
 msm_keys s field v es = record { station = refl; unlisted = unlisted_same s s.plan.channels every_channel field v.system es; skipped = skipped_same s s.plan.channels every_channel field v.system es }
 
 same_keys : (s : GatherSetup) (m : Message) → SameKeys s (heard_by s m) (inspected m)

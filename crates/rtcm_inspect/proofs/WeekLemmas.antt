@@ -154,14 +154,14 @@ same_tow wanted c d leap other = refl
 
 -- the messages of frames by a setup
 abbrev heard_all : MsmSet → GatherSetup → List Framed → List Heard
-heard_all set s fs = filter_map (λ f. heard_in s.plan.channels s.leap set f.message) fs
+heard_all set s fs = filter_map (λ f. heard_in s.plan.channels s.leap_seconds set f.message) fs
 
-dated_after : (set : MsmSet) (s : GatherSetup) (tow : ℕ) (fs : List Framed) → is_past (s.start_week * week + tow) ≡ false → Dated s tow (first_tow s.leap set s.station fs) (heard_all set s fs)
+dated_after : (set : MsmSet) (s : GatherSetup) (tow : ℕ) (fs : List Framed) → is_past (s.start_week * week + tow) ≡ false → Dated s tow (first_tow s.leap_seconds set s.station fs) (heard_all set s fs)
 dated_after set s tow [] now = λ earlier none first. absurd (no_tow first)
 dated_after set s tow (f ∷ fs) now = λ earlier none first.
-    dated_step s (heard_in s.plan.channels s.leap set f.message) (heard_all set s fs) now (dated_after set s tow fs now)
-    (λ m t is h. has_station s.plan.channels s.leap (message_with set f.message) m t is h) earlier none
-    (ap (λ (o : Option ℕ). option_or o (first_tow s.leap set s.station fs)) (same_tow s.station s.plan.channels every_channel s.leap (message_with set f.message)) ∙ first)
+    dated_step s (heard_in s.plan.channels s.leap_seconds set f.message) (heard_all set s fs) now (dated_after set s tow fs now)
+    (λ m t is h. has_station s.plan.channels s.leap_seconds (message_with set f.message) m t is h) earlier none
+    (ap (λ (o : Option ℕ). option_or o (first_tow s.leap_seconds set s.station fs)) (same_tow s.station s.plan.channels every_channel s.leap_seconds (message_with set f.message)) ∙ first)
 
-pub dated : (set : MsmSet) (s : GatherSetup) (fs : List Framed) (tow : ℕ) → s.start_week < weeks → tow < week → first_tow s.leap set s.station fs ≡ Some tow → first_time (timed_after s [] (heard_all set s fs)) ≡ Some (s.start_week * week + tow)
+pub dated : (set : MsmSet) (s : GatherSetup) (fs : List Framed) (tow : ℕ) → s.start_week < weeks → tow < week → first_tow s.leap_seconds set s.station fs ≡ Some tow → first_time (timed_after s [] (heard_all set s fs)) ≡ Some (s.start_week * week + tow)
 dated set s fs tow within small first = dated_after set s tow fs (not_past s.start_week tow within small) [] refl first

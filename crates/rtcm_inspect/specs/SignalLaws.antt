@@ -12,7 +12,8 @@ use Rattle.rtcm_scan.specs.Frames.{Framed}
 use Rattle.obs_epoch.specs.Cells.{counts_of_message, is_planned}
 use Rattle.obs_epoch.specs.SignalCounts.{brings_value, valued}
 use Rattle.rtcm_msg.specs.declared.number.MsmSet.{MsmSet}
-use Rattle.obs_epoch.specs.Heard.{GatherSetup, heard_by}
+use Rattle.obs_epoch.specs.Heard.{heard_by}
+use Rattle.obs_epoch.specs.declared.setup.GatherSetup.{GatherSetup}
 use Rattle.obs_epoch.specs.Sets.{set_of}
 use Rattle.obs_epoch.specs.Times.{Timed}
 use Rattle.gnss_obs.specs.Plans.{plan_of}

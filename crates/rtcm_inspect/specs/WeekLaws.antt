@@ -6,7 +6,8 @@ use Rattle.gnss_system.specs.declared.system.System.TheVariants.{Glonass}
 use Rattle.gnss_system.specs.SystemValues.{value_of}
 use Rattle.rtcm_scan.specs.Frames.{Framed}
 use Rattle.rtcm_msg.specs.declared.number.MsmSet.{MsmSet}
-use Rattle.obs_epoch.specs.Heard.{GatherSetup, heard_in}
+use Rattle.obs_epoch.specs.Heard.{heard_in}
+use Rattle.obs_epoch.specs.declared.setup.GatherSetup.{GatherSetup}
 use Rattle.obs_epoch.specs.Times.{Timed, timed}
 use Rattle.option_texts.specs.Dates.{IsWeekOf}
 use Rattle.rtcm_inspect.specs.FirstTows.{first_tow}
@@ -34,8 +35,8 @@ first_time (x ∷ xs) = option_or x.time (first_time xs)
 -- start week
 abbrev pub IsDatedByWeek : Type 0
 IsDatedByWeek = (set : MsmSet) (s : GatherSetup) (fs : List Framed) (tow : ℕ) → s.start_week < weeks → tow < week
-    → first_tow s.leap set s.station fs ≡ Some tow
-    → first_time (timed s (filter_map (λ f. heard_in s.plan.channels s.leap set f.message) fs)) ≡ Some (s.start_week * week + tow)
+    → first_tow s.leap_seconds set s.station fs ≡ Some tow
+    → first_time (timed s (filter_map (λ f. heard_in s.plan.channels s.leap_seconds set f.message) fs)) ≡ Some (s.start_week * week + tow)
 
 -- the time of week of the first MSM of a set without GLONASS doesn't depend on the leap seconds
 abbrev pub IsLeapFree : Type 0

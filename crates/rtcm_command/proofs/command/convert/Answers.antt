@@ -1,5 +1,5 @@
 use Rattle.rtcm_command.proofs.ConvertLemmas.{ends_refused, first_fault}
-use Rattle.rtcm_command.proofs.Names.{◌≡◌, ◌∙◌, inl, inr, refl, subst, sym, ℕ, List, Result, Ok, Err, start_by, BadSetup, Report, EndsConverting, PrintsLine, options_of, ToolFault, passed}
+use Rattle.rtcm_command.proofs.Names.{◌≡◌, ◌∙◌, inl, inr, refl, subst, sym, ℕ, List, Result, Ok, Err, BadSetup, Report, EndsConverting, PrintsLine, options_of, ToolFault, passed}
 use Rattle.command_faults.specs.declared.fault.ToolFault.TheVariants as faults
 use Rattle.rtcm_command.proofs.command.convert.Goals as goal
 
@@ -30,19 +30,17 @@ returns-in_err-setup g c =
 pub returns-in_err-report : goal.returns-in_err-report
 returns-in_err-report g c =
     let end = c.in_err-report.ensures.ends in
-    let x = start_by c.in_ok-setup.setup (record { initial = c.in_ok-initial.initial; forms = c.forms_of.result; leap_seconds = c.leap_seconds_of.result; choice = c.in_ok-choice.choice }) in
-    passed c.from_residual-in_err-report.result _ (λ r. EndsConverting r (options_of c.args.options.now) g.R.Read.remaining c.args.reader.now c.run_convert_with.new.reader g.W.Write.contents g.W.Deliver.waiting c.args.writer.now c.run_convert_with.new.writer g.E.Write.contents g.E.Deliver.waiting c.args.faults.now c.args.faults.now) c.from_residual-in_err-report.ensures.1
-    (end.0, (inr (x, record { setup = c.in_ok-setup.ensures; initial = sym c.values_of.ensures ∙ c.in_ok-initial.was; forms = c.forms_of.ensures; leap = c.leap_seconds_of.ensures; choice = c.in_ok-choice.ensures }, end.1), refl {a = c.args.faults.now}))
+    passed c.from_residual-in_err-report.result _ (λ r. EndsConverting r (options_of c.args.options.now) g.R.Read.remaining c.args.reader.now c.run_convert.new.reader g.W.Write.contents g.W.Deliver.waiting c.args.writer.now c.run_convert.new.writer g.E.Write.contents g.E.Deliver.waiting c.args.faults.now c.args.faults.now) c.from_residual-in_err-report.ensures.1
+    (end.0, (inr (c.in_ok-setup.setup, c.in_ok-setup.ensures, end.1), refl {a = c.args.faults.now}))
 
 pub returns : goal.returns
 returns g c =
-    let end = c.in_ok-report.ensures in
-    let x = start_by c.in_ok-setup.setup (record { initial = c.in_ok-initial.initial; forms = c.forms_of.result; leap_seconds = c.leap_seconds_of.result; choice = c.in_ok-choice.choice }) in (
+    let end = c.in_ok-report.ensures in (
       end.ends.0,
       (
-        x,
+        c.in_ok-setup.setup,
         c.in_ok-report.report,
-        record { setup = c.in_ok-setup.ensures; initial = sym c.values_of.ensures ∙ c.in_ok-initial.was; forms = c.forms_of.ensures; leap = c.leap_seconds_of.ensures; choice = c.in_ok-choice.ensures },
+        c.in_ok-setup.ensures,
         (λ bad. let no : ◌≡◌ {A = Result Report ToolFault} (Ok c.in_ok-report.report) (Err (faults.Convert BadSetup)) = end.bad_setup.1 bad in cc),
         end.ends.1,
         subst (λ (t : List ℕ). PrintsLine g.E.Write.contents g.E.Deliver.waiting c.args.faults.now c.print_line.new.faults t) (c.as_bytes.ensures.text ∙ c.report_line.ensures) c.print_line.ensures,

@@ -1,7 +1,7 @@
 use Rattle.rtcm_command.proofs.CommandLemmas.{Devices}
 use Rattle.rtcm_command.proofs.ConvertLemmas.{Faulted, conversion_stopped, given_bad}
-use Rattle.rtcm_command.proofs.Names.{refl, IsBadWith, start_by}
-use Rattle.rtcm_command.proofs.convert.run_convert_with.Goals as goal
+use Rattle.rtcm_command.proofs.Names.{refl, IsBad}
+use Rattle.rtcm_command.proofs.convert.run_convert.Goals as goal
 
 pub returns-in-Ok-clause-ends : goal.returns-in-Ok-clause-ends
 returns-in-Ok-clause-ends g c =
@@ -11,9 +11,9 @@ returns-in-Ok-clause-ends g c =
 pub returns-in-Err-clause-ends : goal.returns-in-Err-clause-ends
 returns-in-Err-clause-ends g c =
     let end = c.in-Err.ensures in
-    let d : Devices _ _ = record { left = g.R.Read.remaining; held = g.W.Write.contents; waits = g.W.Deliver.waiting; r = c.args.reader.now; r2 = c.convert_with_options.new.reader; w = c.args.writer.now; w2 = c.convert_with_options.new.writer } in
-    let s : Faulted (start_by c.args.setup c.args.options) d c.in-Err.fault = record { sent = end.sent; no_epoch = end.no_epoch; none_chosen = end.none_chosen; long = end.long; read = end.read; write = end.write; bad = end.bad_setup; untouched = end.untouched; only = end.only } in
+    let d : Devices _ _ = record { left = g.R.Read.remaining; held = g.W.Write.contents; waits = g.W.Deliver.waiting; r = c.args.reader.now; r2 = c.convert_stream.new.reader; w = c.args.writer.now; w2 = c.convert_stream.new.writer } in
+    let s : Faulted c.args.setup d c.in-Err.fault = record { sent = end.sent; no_epoch = end.no_epoch; none_chosen = end.none_chosen; long = end.long; read = end.read; write = end.write; bad = end.bad_setup; untouched = end.untouched; only = end.only } in
     ((end.devices.0.0, end.devices.1.0), (c.in-Err.fault, refl, conversion_stopped c.in-Err.fault s))
 
 pub returns-in-Err-clause-bad_setup : goal.returns-in-Err-clause-bad_setup
-returns-in-Err-clause-bad_setup g c = given_bad c.in-Err.fault (IsBadWith (start_by c.args.setup c.args.options)) c.in-Err.ensures.bad_setup
+returns-in-Err-clause-bad_setup g c = given_bad c.in-Err.fault (IsBad c.args.setup) c.in-Err.ensures.bad_setup

@@ -30,6 +30,10 @@ returns c =
       week = c.requires.week;
       station = c.station_of.ensures;
       gather = c.gather_of.ensures ∙ ap (λ (t : List ℕ). not (bytes_eq t (codes "time"))) c.text.ensures;
+      initial = c.requires.values;
+      leap = c.leap_seconds_of.ensures;
+      choice = c.requires.choice;
+      forms = c.forms_of.ensures;
       limit = (
         c.get_one.result,
         number_given (ExplainsUnsignedError 10) HasUnsignedDigitsIfOk 64 f (codes "limit") _ c.get_one.ensures.none c.get_one.ensures.value,
