@@ -49,14 +49,9 @@ fn setup(alloc: Global, plan: [&str; 2], gather: Gather) -> Option<Setup> {
         drop(texts);
         return None;
     };
-    Some(Setup {
-        plan,
-        texts,
-        start_week: WEEK,
-        station: None,
-        gather,
-        limit: MOST_BYTES,
-    })
+    let mut setup = Setup::new(plan, texts, WEEK);
+    setup.gatherer.gather = gather;
+    Some(setup)
 }
 
 fn add_report(digest: &mut Digest, report: &Report, kept: Kept) {
