@@ -7,12 +7,10 @@ use super::texts::Piece::{Fine, Framed};
 use super::texts::Text::{File, Stream};
 use super::texts::{FINE_FILE, REPORT, Text};
 use gnss_obs::Plan;
-use obs_epoch::Gather;
 use rinex_file::{HeaderTexts, Texts};
 use rtcm_bits::Counted;
 use rtcm_command::{report_line, run_convert};
 use rtcm_convert::Setup;
-use rtcm_scan::MOST_BYTES;
 use std::alloc::Global;
 
 pub const OPTIONS: [&str; 10] = [
@@ -185,14 +183,7 @@ const TEXTS: Texts<'static> = Texts {
 fn setup(alloc: Global) -> Option<Setup> {
     let texts = HeaderTexts::new(&TEXTS).ok()?;
     let plan = Plan::parse(alloc, "1C", "none").ok()?;
-    Some(Setup {
-        plan,
-        texts,
-        start_week: 2300,
-        station: None,
-        gather: Gather::Bit,
-        limit: MOST_BYTES,
-    })
+    Some(Setup::new(plan, texts, 2300))
 }
 
 /// Whether `run_convert` writes this file of a stream, and returns this report.

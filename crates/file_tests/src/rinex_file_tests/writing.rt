@@ -3,7 +3,7 @@ use super::parts::Part;
 use super::{ALL, OWN_TEXTS, Takes, Writer, has_written, is_outcome, length, writer};
 use devices_for_tests::WriteEnd;
 use gnss_obs::{Epoch, GpsTime, Plan, Sat, System};
-use obs_epoch::{Gather, Gatherer};
+use obs_epoch::{GatherSetup, Gatherer};
 use rinex_file::{
     Head, HeadFault, HeaderTexts, Line, epoch_line, satellite_line, write_epoch, write_header,
 };
@@ -236,7 +236,7 @@ fn is_sent(gatherer: &Gatherer, row: &Row) -> bool {
 }
 
 fn is_sent_under(alloc: Global, plan: Plan, message: &Message, row: &Row) -> bool {
-    match Gatherer::new(alloc, plan, 2300, None, Gather::Bit) {
+    match Gatherer::new(alloc, GatherSetup::new(plan, 2300)) {
         Ok(mut gatherer) => {
             if !gatherer.ended() {
                 gatherer.take(message);

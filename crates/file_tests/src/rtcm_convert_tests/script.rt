@@ -5,14 +5,11 @@
 use super::by_definition::Text;
 use super::{Frame, bytes_of, file};
 use devices_for_tests::{PieceReader, ReadEnd, ShortWriter, WriteEnd};
-use gnss_obs::{Plan, StationValues, System};
-use obs_epoch::{Choice, Gather};
+use gnss_obs::{Plan, System};
+use obs_epoch::Choice;
 use rinex_file::{HeaderTexts, Texts};
 use rtcm_bits::{Counted, Deliver};
-use rtcm_convert::{
-    ConvertOptions, Converter, Fault, Report, Setup, convert_pieces, convert_stream,
-    convert_with_options,
-};
+use rtcm_convert::{Converter, Fault, Report, Setup, convert_pieces, convert_stream};
 use rtcm_msg::Forms;
 use rtcm_scan::MOST_BYTES;
 use std::alloc::{AllocError, Global};
@@ -280,18 +277,13 @@ pub fn report_of(
     forms: Forms,
     choice: Choice,
 ) -> Result<Report, Fault> {
-    let initial = StationValues::zero();
     let mut reader = Counted::new(PieceReader::new(bytes, &[1], ReadEnd::Ends));
     let mut writer = writer(7, 1_500, WriteEnd::TakesNone);
     let report = match setup(alloc, &OPTIONS) {
-        Ok(setup) => {
-            let options = ConvertOptions {
-                initial,
-                forms,
-                leap_seconds: 18,
-                choice,
-            };
-            convert_with_options(alloc, setup, options, &mut reader, &mut writer)
+        Ok(mut setup) => {
+            setup.forms = forms;
+            setup.gatherer.choice = choice;
+            convert_stream(alloc, setup, &mut reader, &mut writer)
         }
         Err(fault) => Err(fault),
     };
@@ -338,14 +330,12 @@ fn setup(alloc: Global, options: &Options) -> Result<Setup, Fault> {
         return Err(Fault::Memory);
     };
     match Plan::parse(alloc, "1C", "none") {
-        Ok(plan) => Ok(Setup {
-            plan,
-            texts,
-            start_week: options.week,
-            station: options.station,
-            gather: Gather::Bit,
-            limit: options.limit,
-        }),
+        Ok(plan) => {
+            let mut setup = Setup::new(plan, texts, options.week);
+            setup.gatherer.station = options.station;
+            setup.limit = options.limit;
+            Ok(setup)
+        }
         Err(_) => Err(Fault::Memory),
     }
 }
