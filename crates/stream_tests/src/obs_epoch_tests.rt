@@ -13,9 +13,7 @@ mod signal_counts;
 
 use gnss_obs::{Cell, Epoch, Plan, PlanFault, StationValues, System};
 use messages::{Heard, message};
-use obs_epoch::{
-    CellCounts, Choice, EpochCounts, Gather, GatherOptions, Gatherer, Kind, LEAP_SECONDS, Taken,
-};
+use obs_epoch::{CellCounts, Choice, EpochCounts, Gather, GatherSetup, Gatherer, Kind, Taken};
 use std::alloc::Global;
 use std::test::*;
 
@@ -198,12 +196,11 @@ fn run(
     steps: &[Step],
 ) -> Result<bool, PlanFault> {
     let plan = Plan::parse(alloc, plan.0, plan.1)?;
-    let options = GatherOptions {
-        initial: StationValues::zero(),
-        leap_seconds: LEAP_SECONDS,
-        choice,
-    };
-    let mut g = Gatherer::with_options(alloc, plan, week, station, gather, options)?;
+    let mut setup = GatherSetup::new(plan, week);
+    setup.station = station;
+    setup.gather = gather;
+    setup.choice = choice;
+    let mut g = Gatherer::new(alloc, setup)?;
     let goes = go_through(&mut g, steps);
     drop(g);
     Ok(goes)

@@ -1,7 +1,7 @@
 //! The calls that a buffer makes of its device.
-ghost use Rattle.std.specs.Prelude.{[], None, refl};
+ghost use Rattle.std.specs.Prelude.{[], refl};
 
-use rtcm_bits::{Buffered, Deliver};
+use rtcm_bits::{Buffered, Deliver, Destination};
 use std::alloc::Global;
 use std::io;
 use std::io::{ErrorKind, Write};
@@ -49,12 +49,20 @@ impl Write for Stumbles {
     }
 }
 
+impl Destination for Stumbles {}
+
 impl Deliver for Stumbles {
-    ghost passed = { λ _. None };
+    type Target = Stumbles;
+
+    ghost target = { λ w. w };
 
     ghost waiting = { λ _. [] };
 
     ghost parts = { λ _. refl };
+
+    fn target(&self) -> &Stumbles {
+        self
+    }
 
     fn deliver(&mut self) -> io::Result<()> {
         self.flush()
