@@ -169,8 +169,8 @@ const CONVERT: CommandRow<'static> = CommandRow {
                 "Writes epochs at multiples of this, 0.1 to\n\
                  86400, a divisor of a day: 30";
             "tolerance", "SECONDS", false, &["0.005"], TEXT, Set,
-                "How far from its nominal time an epoch may be,\n\
-                 0 to 0.5";
+                "How far an epoch may be from these times, 0 to\n\
+                 0.5, at most half of the interval";
         }
         Some("Signals") => {
             "gps", "SIGNALS", false, &["all"], TEXT, Set,

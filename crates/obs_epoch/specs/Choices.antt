@@ -10,7 +10,8 @@ nominal c t = t + c.tolerance
 abbrev pub in_window : Choice → ℕ → Bool
 in_window c t = nat_le c.from (nominal c t) && nat_lt (nominal c t) c.until
 
--- A multiple of the interval is at most the tolerance before or after the time; without an interval for every time.
+-- A multiple of the interval is at most the tolerance before or after the time. Without an interval every time is on the
+-- grid.
 abbrev pub on_grid : Choice → ℕ → Bool
 on_grid c t = option_map_or (λ interval. nat_le (nominal c t % interval) (2 * c.tolerance)) c.interval true
 

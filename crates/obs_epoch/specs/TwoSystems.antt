@@ -91,7 +91,7 @@ plain_of (Err e) = None
 abbrev pub plain_in : List ℕ → Option Heard
 plain_in bytes = plain_of (message_by_table bytes)
 
--- With such a plan and MSM4 and MSM7 a conversion reads that, whatever channels and leap seconds it knows.
+-- With such a plan and MSM4 and MSM7 a conversion reads that, regardless of its channels and leap seconds.
 abbrev pub AreReadPlainly : Type 0
 AreReadPlainly = (plan : PlanValue) → PlansTwo plan → (channels : ChannelsValue) (leap : ℕ) (bytes : List ℕ)
     → heard_in channels leap (set_of plan FourAndSeven) bytes ≡ plain_in bytes

@@ -67,7 +67,7 @@ impl Clock {
         self.setup.leap_seconds
     }
 
-    /// Returns the epochs that are returned.
+    /// Returns the choice of the epochs that are returned.
     pub fn choice(&self) -> &Choice
         ensures { result.now ≡ self.now.setup.choice }
     {

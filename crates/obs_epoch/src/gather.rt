@@ -57,9 +57,9 @@ pub struct Gatherer {
     locks: Locks,
     // The loss of lock in epochs off the grid.
     marks: Marks,
-    // Numbers of the closed epochs.
+    // Numbers of the epochs with a value that are left out.
     counts: EpochCounts,
-    // Whether it is chosen.
+    // Whether the epoch closed last is chosen.
     chosen: bool,
     // Whether the last call closed it.
     just_closed: bool,
@@ -195,7 +195,7 @@ impl Gatherer {
         self.counts
     }
 
-    /// Returns the epochs that are returned.
+    /// Returns the choice of the epochs that are returned.
     pub fn choice(&self) -> &Choice
         ensures { result.now ≡ self.now.clock.setup.choice }
     {

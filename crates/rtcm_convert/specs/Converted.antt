@@ -30,9 +30,9 @@ messages_of s fs = filter_map (message_of s) fs
 abbrev pub written_epochs : List Closed → List Closed
 written_epochs es = filter (λ e. nat_lt 0 (satellites_written e.epoch)) es
 
--- a header with the interval, if there is one, the time of the first epoch and the station values known when it was closed, then the epochs, each
--- after an event if the station values known when it was closed differ from those of the epoch before; empty if there
--- is no epoch
+-- a header with the interval, if there is one, the time of the first epoch and the station values known when it was
+-- closed, then the epochs, each after an event if the station values known when it was closed differ from those of the
+-- epoch before; empty if there is no epoch
 unfoldable pub text_of_epochs : HeaderLists → Option ℕ → PlanValue → List Closed → List ℕ
 text_of_epochs texts interval plan [] = []
 text_of_epochs texts interval plan (e ∷ es) =

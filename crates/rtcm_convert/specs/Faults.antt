@@ -52,7 +52,8 @@ FailsWithReader result old new =
 abbrev pub FailsWithDevices : {R W A : Type 0} → Result A Fault → (r r' : Device R) → (w w' : Device W) → Type 0
 FailsWithDevices result r r' w w' = FailsWithReader result r r' × FailsWithWriter result w w'
 
--- the fault of a file without an epoch, by the numbers of the epochs of the stream in which a satellite has a value
+-- the fault of a file without an epoch, by the numbers of the epochs of the stream in which a satellite has a value: all
+-- of them are left out
 abbrev pub fault_of_none : EpochCounts → Fault
 fault_of_none counts = if counts.epochs == 0 then NoEpoch else NoneChosen counts
 

@@ -174,8 +174,9 @@ impl Converter {
     /// # Errors
     ///
     /// If the file has no epoch, so that nothing was written, `NoEpoch` if no epoch of the stream
-    /// has a value, else `NoneChosen`; the converter is then finished, as after `Ok`. `Write` if the writer failed; and, without any effect, `Finished`
-    /// if the stream was ended before, and `Failed` if an earlier call failed.
+    /// has a value, else `NoneChosen`; the converter is then finished, as after `Ok`. `Write` if
+    /// the writer failed; and, without any effect, `Finished` if the stream was ended before, and
+    /// `Failed` if an earlier call failed.
     pub fn finish<W: Deliver>(&mut self, writer: &mut Counted<W>) -> Result<Report, Fault>
         ensures refused { IfSome (refusal self.old)
             (λ fault. (result ≡ Err fault) × (self.new ≡ self.old) × (writer.new ≡ writer.old)) }
