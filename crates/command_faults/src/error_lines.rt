@@ -1,6 +1,7 @@
 //! The lines of errors, on standard error.
-ghost use Rattle.std.specs.Prelude.{◌≡◌, ◌+◌, ◌≤◌, ◌∷◌, length};
-ghost use Rattle.command_faults.specs.ErrorLines.{conversion_counts, conversion_word, error_line, error_words};
+ghost use Rattle.std.specs.Prelude.{◌≡◌, ◌+◌, ◌≤◌, ◌∷◌, codes, length};
+ghost use Rattle.command_faults.specs.ErrorLines.{conversion_counts, conversion_word, date_words, error_line};
+ghost use Rattle.command_faults.specs.ErrorLines.{error_words};
 ghost use Rattle.option_texts.specs.Lines.{with_words};
 ghost use Rattle.rtcm_inspect.specs.Lines.{longest_error, longest_fault_name, longest_start};
 
@@ -28,21 +29,7 @@ fn add_error(line: &mut OutputLine, fault: ToolFault)
 {
     match fault {
         ToolFault::Memory => line.add_word("Memory"),
-        ToolFault::BadDate(DateOption::Week) => line.add_word(
-            "BadDate --week WEEK: a GPS week, 0 to 99999, \
-             or a date yyyy-mm-dd, 1980-01-06 to 3896-07-18",
-        ),
-        ToolFault::BadDate(DateOption::Near) => line.add_word(
-            "BadDate --near DATE: a date yyyy-mm-dd, 1980-01-06 to 3896-07-18",
-        ),
-        ToolFault::BadDate(DateOption::From) => line.add_word(
-            "BadDate --from TIME: a date yyyy-mm-dd or a time yyyy-mm-ddThh:mm:ss, \
-             1980-01-06 to 3896-07-18",
-        ),
-        ToolFault::BadDate(DateOption::Until) => line.add_word(
-            "BadDate --until TIME: a date yyyy-mm-dd or a time yyyy-mm-ddThh:mm:ss, \
-             1980-01-06 to 3896-07-18",
-        ),
+        ToolFault::BadDate(option) => add_date_error(line, option),
         ToolFault::BadPosition => line.add_word(
             "BadPosition --position X,Y,Z: metres, up to 8 digits and 4 decimals each, \
              -13743895.3472 to 13743895.3471",
@@ -69,6 +56,31 @@ fn add_error(line: &mut OutputLine, fault: ToolFault)
         ToolFault::Plan(fault) => add_plan_error(line, fault),
         ToolFault::Convert(fault) => add_conversion_error(line, fault),
         ToolFault::Inspect(fault) => add_inspection_error(line, fault),
+    }
+}
+
+/// Adds the name of the fault of a date, its option, and the form that this accepts.
+fn add_date_error(line: &mut OutputLine, option: DateOption)
+    requires { length line.old ≤ longest_start }
+    ensures text { line.new ≡ with_words line.old (codes "BadDate" ∷ date_words option) }
+    ensures short { length line.new ≤ length line.old + longest_error }
+{
+    match option {
+        DateOption::Week => line.add_word(
+            "BadDate --week WEEK: a GPS week, 0 to 99999, \
+             or a date yyyy-mm-dd, 1980-01-06 to 3896-07-18",
+        ),
+        DateOption::Near => line.add_word(
+            "BadDate --near DATE: a date yyyy-mm-dd, 1980-01-06 to 3896-07-18",
+        ),
+        DateOption::From => line.add_word(
+            "BadDate --from TIME: a date yyyy-mm-dd or a time yyyy-mm-ddThh:mm:ss, \
+             1980-01-06 to 3896-07-18",
+        ),
+        DateOption::Until => line.add_word(
+            "BadDate --until TIME: a date yyyy-mm-dd or a time yyyy-mm-ddThh:mm:ss, \
+             1980-01-06 to 3896-07-18",
+        ),
     }
 }
 

@@ -1,7 +1,7 @@
 -- A conversion that is stopped by a fault.
 use Rattle.rtcm_command.proofs.CommandLemmas.{Devices}
 use Rattle.rtcm_command.proofs.OptionLemmas.{bad_choice}
-use Rattle.rtcm_command.proofs.Names.{⊤, Device, EndsConverting, IsErrAnd, passed, ◌≡◌, ap, sym, subst, refl, rules, ℕ, ℤ, List, Option, Some, Result, Err, IsErrOf, IfSome, inl, inr, ◌≢◌, ◌↔◌, IsSentAfter, IsSetupFault, IsUntouched, IsMadeEmpty, IsMadeSoFar, IsMadeInPart, IsMadeToLimit, IsBad, Setup, Fault, Memory, BadSetup, TooLong, Read, Write, Failed, Finished, NoEpoch, NoneChosen, EpochCounts, Report, ToolFault, Row, StationValues, values_by, HasSetupFault, IsFirstFault, IsLastFault, IsSetupRefused, IsWeekSet, values_set, StopsConversion, HaveFailedBy, ChannelsValue, channels_by, channels_set}
+use Rattle.rtcm_command.proofs.Names.{⊤, Device, EndsConverting, IsErrAnd, passed, ◌≡◌, ap, sym, subst, refl, ℕ, ℤ, List, Option, Some, Result, Err, IsErrOf, IfSome, inl, inr, ◌≢◌, ◌↔◌, IsSentAfter, IsSetupFault, IsUntouched, IsMadeEmpty, IsMadeSoFar, IsMadeInPart, IsMadeToLimit, IsBad, Setup, Fault, Memory, BadSetup, TooLong, Read, Write, Failed, Finished, NoEpoch, NoneChosen, EpochCounts, Report, ToolFault, Row, StationValues, values_by, HasSetupFault, IsFirstFault, IsLastFault, IsSetupRefused, IsWeekSet, values_set, StopsConversion, HaveFailedBy, ChannelsValue, channels_by, channels_set}
 use Rattle.command_faults.specs.declared.fault.ToolFault.TheVariants as faults
 
 abbrev Result-of : Fault → Result Report Fault

@@ -20,7 +20,8 @@ use Rattle.clap.specs.Walk.{one_of}
 use Rattle.rtcm_inspect.specs.FirstMessages.{first_station}
 use Rattle.rtcm_inspect.specs.Signals.{forms_had, plan_in}
 use Rattle.rtcm_scan.specs.Frames.{Framed}
-use Rattle.rtcm_command.specs.PrintedPlan.{HaveValues, after_prefix, default_signals, given, has_equals, leap_option, printed_words}
+use Rattle.command_line.specs.CommandLine as rules
+use Rattle.rtcm_command.specs.PrintedPlan.{HaveValues, after_prefix, default_of, given, has_equals, leap_option, printed_words}
 use Rattle.rtcm_command.proofs.Names.{ChannelsValue, IfSome, Row, text_set, subst, bytes_eq, height_text, not, position_text, option_map_or, ◌≡◌, Bool, List, None, Option, Some, [], ap, codes, decimal, length, option_map, refl, sym, unwrap_or, ℕ, ◌∙◌}
 
 -- the signals of a system: those printed, which are of GPS, of Galileo and of a system with a signal; else the default
@@ -306,7 +307,7 @@ module _ (w leap st : Option ℕ) (p : PlanValue) (f : Forms) (first : Option St
   if_some true v x = refl
   if_some false v x = refl
 
-  pub signals_given : (s : System) → unwrap_or (given (name_of s) words) (default_signals s) ≡ signals_text p s
+  pub signals_given : (s : System) → unwrap_or (given (name_of s) words) (default_of (rules.planned s)) ≡ signals_text p s
   signals_given Gps = gps_given
   signals_given Galileo = galileo_given
   signals_given Glonass = ap (λ (o : Option (List ℕ)). unwrap_or o (codes "none")) glonass_found ∙ if_some (nat_lt 0 (length p.signals.glonass)) (codes_word Glonass p.signals.glonass) (codes "none")

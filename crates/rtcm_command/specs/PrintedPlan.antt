@@ -1,12 +1,12 @@
 -- A conversion with the options that `options` prints for a stream.
-use Rattle.std.specs.Prelude.{◌≡◌, ◌+◌, ◌*◌, ◌<◌, ◌^◌, ◌==◌, Bool, ℕ, List, [], ◌∷◌, ◌++◌, codes, length, option_map}
+use Rattle.std.specs.Prelude.{◌≡◌, ◌+◌, ◌*◌, ◌<◌, ◌^◌, ◌==◌, Bool, ℕ, List, [], ◌∷◌, ◌++◌, codes, get_or, length, option_map}
 use Rattle.std.specs.Prelude.{Option, Some, None, IfSome, unwrap_or, if◌then◌else◌}
 use Rattle.std.specs.List.{list_any}
 use Rattle.std.specs.Option.{option_map_or, option_or}
 use Rattle.std.specs.Str.{bytes_eq}
-use Rattle.clap.specs.Walk.{Row, one_of}
+use Rattle.clap.specs.Walk.{Row, Rule, one_of}
 use Rattle.gnss_system.specs.declared.system.System.{System}
-use Rattle.gnss_system.specs.declared.system.System.TheVariants.{Gps, Galileo, Glonass}
+use Rattle.gnss_system.specs.declared.system.System.TheVariants.{Glonass}
 use Rattle.gnss_system.specs.Satellites.{name_of}
 use Rattle.gnss_obs.specs.Values.{PlanValue, no_values}
 use Rattle.gnss_obs.specs.Weeks.{week}
@@ -15,6 +15,7 @@ use Rattle.obs_epoch.specs.Epochs.{values_from}
 use Rattle.obs_epoch.specs.Kinds.{default_leap}
 use Rattle.obs_epoch.specs.Sets.{is_decoded}
 use Rattle.obs_epoch.specs.Times.{timed}
+use Rattle.command_line.specs.CommandLine as rules
 use Rattle.option_texts.specs.LeapSeconds.{leap_at}
 use Rattle.option_texts.specs.Lines.{line}
 use Rattle.rtcm_inspect.specs.FirstMessages.{first_station}
@@ -49,22 +50,20 @@ given name (w ∷ v ∷ ws) =
     if has_equals w then option_or (after_prefix (codes "--" ++ (name ++ codes "=")) w) (given name (v ∷ ws))
     else (if bytes_eq w (codes "--" ++ name) then Some v else given name ws)
 
--- the default of the signals of a system
-abbrev pub default_signals : System → List ℕ
-default_signals Gps = codes "all"
-default_signals Galileo = codes "all"
-default_signals other = codes "none"
+-- the default that the command line gives to an option
+abbrev pub default_of : Rule → List ℕ
+default_of rule = get_or rule.defaults 0 []
 
 -- The options of a conversion have the values that words give to them, and else their defaults.
 pub record HaveValues (options : List Row) (words : List (List ℕ)) : Type 0 where
   pub week : IfSome (given (codes "week") words) (λ t. text_set options (codes "week") ≡ t)
   pub station : one_of (codes "station") options ≡ given (codes "station") words
-  pub signals : (s : System) → text_set options (name_of s) ≡ unwrap_or (given (name_of s) words) (default_signals s)
-  pub channels : text_set options (codes "glonass-channels") ≡ unwrap_or (given (codes "glonass-channels") words) []
-  pub leap_seconds : one_of (codes "leap-seconds") options ≡ Some (unwrap_or (given (codes "leap-seconds") words) (codes "18"))
+  pub signals : (s : System) → text_set options (name_of s) ≡ unwrap_or (given (name_of s) words) (default_of (rules.planned s))
+  pub channels : text_set options (codes "glonass-channels") ≡ unwrap_or (given (codes "glonass-channels") words) (default_of rules.channels)
+  pub leap_seconds : one_of (codes "leap-seconds") options ≡ Some (unwrap_or (given (codes "leap-seconds") words) (default_of rules.leap_seconds))
   pub forms : text_set options (codes "msm") ≡ unwrap_or (given (codes "msm") words) (codes "4,7")
-  pub position : text_set options (codes "position") ≡ unwrap_or (given (codes "position") words) (codes "0,0,0")
-  pub height : text_set options (codes "antenna-height") ≡ unwrap_or (given (codes "antenna-height") words) (codes "0")
+  pub position : text_set options (codes "position") ≡ unwrap_or (given (codes "position") words) (default_of rules.position)
+  pub height : text_set options (codes "antenna-height") ≡ unwrap_or (given (codes "antenna-height") words) (default_of rules.height)
 
 -- the words that `options` prints for these frames with this week, these leap seconds and this station
 abbrev pub printed_words : (w leap wanted : Option ℕ) → List Framed → List (List ℕ)

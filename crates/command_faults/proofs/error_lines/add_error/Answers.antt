@@ -1,30 +1,14 @@
-use Rattle.command_faults.specs.declared.fault.DateOption.TheVariants as dated
 use Rattle.command_faults.specs.declared.fault.ToolFault.TheVariants as faults
-use Rattle.std.proofs.Common.{append-nil, append_assoc}
-use Rattle.command_faults.proofs.Names.{◌≡◌, ◌∙◌, [], ◌∷◌, ◌++◌, ℕ, List, ap, refl, sym, ToolFault, error_words, with_words}
+use Rattle.std.proofs.Common.{append-nil}
+use Rattle.command_faults.proofs.WordLemmas.{joined}
+use Rattle.command_faults.proofs.Names.{◌≡◌, ◌∙◌, [], ◌++◌, ℕ, List, ap, sym, ToolFault, error_words, with_words}
 use Rattle.command_faults.proofs.error_lines.add_error.Goals as goal
-
-joined : (text start : List ℕ) (words : List (List ℕ)) → text ++ with_words start words ≡ with_words (text ++ start) words
-joined text start [] = refl
-joined text start (w ∷ ws) = joined text (start ++ 0x20 ∷ w) ws ∙ ap (λ (t : List ℕ). with_words t ws) (sym (append_assoc text start (0x20 ∷ w)))
 
 -- the words of a fault that is known, in one text
 has_words : (text : List ℕ) (fault known : ToolFault) → fault ≡ known → text ++ with_words [] (error_words known) ≡ with_words text (error_words fault)
 has_words text fault known is =
     joined text [] (error_words known) ∙ ap (λ (t : List ℕ). with_words t (error_words known)) (append-nil text)
     ∙ ap (λ (f : ToolFault). with_words text (error_words f)) (sym is)
-
-pub returns-in-BadDate-Week-clause-text : goal.returns-in-BadDate-Week-clause-text
-returns-in-BadDate-Week-clause-text c = c.add_word-in-BadDate-Week.ensures.text ∙ has_words c.args.line.now c.args.fault (faults.BadDate dated.Week) (c.in-BadDate-Week.is ∙ ap faults.BadDate (rw c.in-BadDate-Week.is at c.in-BadDate-Week.field-0-is))
-
-pub returns-in-BadDate-Near-clause-text : goal.returns-in-BadDate-Near-clause-text
-returns-in-BadDate-Near-clause-text c = c.add_word-in-BadDate-Near.ensures.text ∙ has_words c.args.line.now c.args.fault (faults.BadDate dated.Near) (c.in-BadDate-Near.is ∙ ap faults.BadDate (rw c.in-BadDate-Near.is at c.in-BadDate-Near.field-0-is))
-
-pub returns-in-BadDate-From-clause-text : goal.returns-in-BadDate-From-clause-text
-returns-in-BadDate-From-clause-text c = c.add_word-in-BadDate-From.ensures.text ∙ has_words c.args.line.now c.args.fault (faults.BadDate dated.From) (c.in-BadDate-From.is ∙ ap faults.BadDate (rw c.in-BadDate-From.is at c.in-BadDate-From.field-0-is))
-
-pub returns-in-BadDate-Until-clause-text : goal.returns-in-BadDate-Until-clause-text
-returns-in-BadDate-Until-clause-text c = c.add_word-in-BadDate-Until.ensures.text ∙ has_words c.args.line.now c.args.fault (faults.BadDate dated.Until) (c.in-BadDate-Until.is ∙ ap faults.BadDate (rw c.in-BadDate-Until.is at c.in-BadDate-Until.field-0-is))
 
 pub returns-in-BadPosition-clause-text : goal.returns-in-BadPosition-clause-text
 returns-in-BadPosition-clause-text c = c.add_word-in-BadPosition.ensures.text ∙ has_words c.args.line.now c.args.fault faults.BadPosition c.in-BadPosition.is
