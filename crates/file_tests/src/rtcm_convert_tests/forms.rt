@@ -19,23 +19,27 @@ const TAKEN: Report = Report { bytes: 40, ..ONE };
 #[test]
 fn msm5_is_converted_only_if_all_forms_are(rt: HostRuntime) {
     let alloc = rt.alloc();
-    let every = Choice::default();
-    assert!(rt; report_of(alloc, MSM5, Forms::FourAndSeven, every) == Err(Fault::NoEpoch));
-    assert!(rt; report_of(alloc, MSM5, Forms::All, every) == Ok(TAKEN));
+    let four_and_seven = report_of(alloc, MSM5, Forms::FourAndSeven, Choice::default());
+    assert!(rt; four_and_seven == Err(Fault::NoEpoch));
+    assert!(rt; report_of(alloc, MSM5, Forms::All, Choice::default()) == Ok(TAKEN));
 }
 
 /// The beginning of week 2,300, 1 s before the message.
 const BEGIN: u64 = 2_300 * 604_800_000;
+
+/// The grid of 2 s, which the message is not on.
+fn every_2_s() -> Choice {
+    Choice {
+        interval: Interval::new(2_000),
+        ..Choice::default()
+    }
+}
 
 #[test]
 fn an_epoch_that_is_not_chosen_is_counted(rt: HostRuntime) {
     let alloc = rt.alloc();
     let before = Choice {
         until: BEGIN + 1_000,
-        ..Choice::default()
-    };
-    let off = Choice {
-        interval: Interval::new(2_000),
         ..Choice::default()
     };
     let out = EpochCounts {
@@ -49,8 +53,9 @@ fn an_epoch_that_is_not_chosen_is_counted(rt: HostRuntime) {
         ..out
     };
     assert!(rt; report_of(alloc, MSM5, Forms::All, before) == Err(Fault::NoneChosen(out)));
-    assert!(rt; report_of(alloc, MSM5, Forms::All, off) == Err(Fault::NoneChosen(none)));
-    assert!(rt; report_of(alloc, MSM5, Forms::FourAndSeven, off) == Err(Fault::NoEpoch));
+    assert!(rt; report_of(alloc, MSM5, Forms::All, every_2_s()) == Err(Fault::NoneChosen(none)));
+    let four_and_seven = report_of(alloc, MSM5, Forms::FourAndSeven, every_2_s());
+    assert!(rt; four_and_seven == Err(Fault::NoEpoch));
 }
 
 #[test]
