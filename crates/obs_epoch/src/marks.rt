@@ -70,6 +70,8 @@ impl Marks {
 }
 
 /// Marks the phases of an epoch on the grid at which lock was lost before.
+// Not inlined, as nothing of it is done without an interval.
+#[inline(never)]
 pub fn mark_systems(marks: &Marks, epoch: &mut Epoch)
     ensures { epoch.new ≡ record epoch.old { epoch = marked_epoch (is_lost_in marks.now) epoch.old.epoch } }
 {
@@ -103,6 +105,8 @@ fn mark_cell(marks: &Marks, keys: Keys, epoch: &mut Epoch, system: System, at: u
 }
 
 /// Notes the loss of lock in an epoch, one system after the other.
+// Not inlined, as nothing of it is done without an interval.
+#[inline(never)]
 pub fn note_systems(marks: &mut Marks, on_grid: bool, epoch: &Epoch)
     ensures { marks.new ≡ note_systems_lost on_grid epoch.now.epoch marks.old systems }
 {

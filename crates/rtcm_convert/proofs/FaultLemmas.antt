@@ -1,6 +1,6 @@
 -- The faults of a call, by the results that it never has.
 use Rattle.obs_epoch.specs.declared.choice.EpochCounts.{EpochCounts}
-use Rattle.rtcm_convert.proofs.Names.{arith, ◌≡◌, ℕ, Bool, true, false, sym, ap, subst, ◌∙◌, inl, inr, Result, Ok, Err, IfErr, false≢true, IsErrAnd, IsErrOf, OnErr, OnOk, Device, HasFailed, FailsToWrite, FailsWithWriter, IsSetupFault, IsPiecesFault, IsRunFault, Fault, BadSetup, Memory, Read, TooLong, Write, NoEpoch, NoneChosen, ⊤}
+use Rattle.rtcm_convert.proofs.Names.{arith, ◌≡◌, ℕ, Bool, true, false, sym, ap, subst, ◌∙◌, inl, inr, Result, Ok, Err, IfErr, false≢true, IsErrAnd, IsErrOf, OnErr, OnOk, Device, HasFailed, FailsWith, FailsWithWriter, IsSetupFault, IsPiecesFault, IsRunFault, Fault, BadSetup, Memory, Read, TooLong, Write, NoEpoch, NoneChosen, ⊤}
 use Rattle.std.proofs.lemmas.Grind.{common_steps}
 
 abbrev pub of_finish : Fault → Bool
@@ -60,8 +60,8 @@ passed (Err y) e P is h = subst (λ z. P (Err z)) (sym is) h
 pub writer_after : {T A : Type 0} (r : Result A Fault) (old mid new : Device T) → mid.failures ≡ old.failures → mid.widest ≡ old.widest → FailsWithWriter r mid new → FailsWithWriter r old new
 writer_after r old mid new e w d = grind (arith, common_steps)
 
-pub fails_after : {T A : Type 0} (r : Result A Fault) (old mid new : Device T) → ⊤ × (mid.failures ≡ old.failures) × (mid.widest ≡ old.widest) → FailsToWrite r mid new → FailsToWrite r old new
-fails_after r old mid new e d = (d.0, (subst (λ (n : ℕ). OnErr r (HasFailed n new.failures)) e.1 d.1.0, subst (λ (n : ℕ). OnOk r (new.failures ≡ n)) e.1 d.1.1, d.1.2 ∙ e.2))
+pub fails_after : {T A E : Type 0} (r : Result A E) (old mid new : Device T) → ⊤ × (mid.failures ≡ old.failures) × (mid.widest ≡ old.widest) → FailsWith r mid new → FailsWith r old new
+fails_after r old mid new e d = (subst (λ (n : ℕ). OnErr r (HasFailed n new.failures)) e.1 d.0, subst (λ (n : ℕ). OnOk r (new.failures ≡ n)) e.1 d.1, d.2 ∙ e.2)
 
 -- what is known of the fault of a call holds for the one that it returned
 pub fault_given : {A : Type 0} (P : Fault → Type 0) (r : Result A Fault) (fault : Fault) → IsErrOf r fault → IfErr r P → P fault

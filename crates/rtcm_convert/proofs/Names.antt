@@ -24,14 +24,14 @@ pub use Rattle.rinex_file.specs.FileValues.{AreTexts}
 pub use Rattle.rinex_file.specs.Gathered.{AreSignals, HasSatellite, IsGatheredFile}
 pub use Rattle.rinex_file.specs.Texts.{HeaderLists}
 unfoldable pub use Rattle.rtcm_bits.specs.Bits.{uint}
-pub use Rattle.rtcm_bits.specs.Device.{AppendsPrefix, Device, HasFailed, IsBetween}
+pub use Rattle.rtcm_bits.specs.Device.{AppendsPrefix, Device, FailsWith, HasFailed, IsBetween}
 pub use Rattle.rtcm_bits.specs.FrameOf.{longest_frame}
 pub use Rattle.rtcm_bits.specs.Prefix.{IsPrefix}
 pub use Rattle.rtcm_convert.specs.Broken.{BrokeInPieces, FailedWriting, FailedWritingAtEnd, IsBroken, joined_pieces}
 pub use Rattle.rtcm_convert.specs.Conversion.{Completed, CompletedEmpty, CompletesEmptyFile, CompletesFile, Conversion, CutsAtLimit, FailsAtEnd, FailsAtPiece, FailsFeeding, FailsFinishing, FinishesEmptyNow, FinishesNow, HasConverted, HasFinished, IsFit, IsGoing, IsPastLimit, KeepsNow, LeftBy, RanToFault, RanToLimit, StopsAtEnd, TakesFromReader, TakesPiece, WritesAdded, WritesPrefixOfAdded, kept_of, refusal}
 unfoldable pub use Rattle.rtcm_convert.specs.Converted.{text_of_epochs}
 pub use Rattle.rtcm_convert.specs.Converted.{SetupValue, epochs_in, file, message_of, messages_of, so_far, text_with, written_epochs}
-pub use Rattle.rtcm_convert.specs.Faults.{FailsToWrite, FailsWithWriter, IsPiecesFault, IsRunFault, IsSetupFault, WriterFailures}
+pub use Rattle.rtcm_convert.specs.Faults.{FailsWithWriter, IsPiecesFault, IsRunFault, IsSetupFault, WriterFailures}
 pub use Rattle.rtcm_convert.specs.Fed.{AppendsBetween, AppendsPrefixBetween, AppendsUpTo}
 pub use Rattle.rtcm_convert.specs.Filed.{HasFiledEpochs, HasFiledFrames, Settled, added, epochs_after, last_values, opening, values_after, values_following_closed}
 pub use Rattle.rtcm_convert.specs.Kept.{IsKeptAtEnd, IsWithinBounds, locks_at, locks_in_all}

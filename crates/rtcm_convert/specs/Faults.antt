@@ -1,6 +1,6 @@
 -- The state of the devices that a call reads and writes, by its result.
 use Rattle.std.specs.Prelude.{◌≡◌, ◌≤◌, ◌⊎◌, ◌==◌, if◌then◌else◌, ℕ, max, ⊤, List, [], Result, Ok, Err, OnOk, IfErr}
-use Rattle.rtcm_bits.specs.Device.{Device, HasFailed, FailsWith}
+use Rattle.rtcm_bits.specs.Device.{Device, HasFailed}
 use Rattle.rtcm_bits.specs.FrameOf.{longest_frame}
 use Rattle.rtcm_convert.specs.declared.fault.Fault.{Fault}
 use Rattle.rtcm_convert.specs.declared.fault.Fault.TheVariants.{BadSetup, Memory, Read, TooLong, NoEpoch, NoneChosen, Write}
@@ -19,10 +19,6 @@ IsSentAtFault refusal before after = after ≡ before
 abbrev pub IsSentAfter : {A : Type 0} → Result A Fault → (before after : List ℕ) → Type 0
 IsSentAfter (Ok x) before after = after ≡ []
 IsSentAfter (Err fault) before after = IsSentAtFault fault before after
-
--- `Write` is the only fault of the call, and is returned exactly if a failure of the writer was counted
-abbrev pub FailsToWrite : {T A : Type 0} → Result A Fault → Device T → Device T → Type 0
-FailsToWrite result old new = IfErr result (λ fault. fault ≡ Write) × FailsWith result old new
 
 -- the failures of a writer before and after a fault: one was counted at `Write`, and none at any other
 abbrev pub WriterFailures : Fault → ℕ → ℕ → Type 0

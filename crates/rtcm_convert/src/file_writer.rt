@@ -3,7 +3,7 @@ ghost use Rattle.std.specs.Prelude.{◌≡◌, ◌↔◌, [], false, true, Err, 
 ghost use Rattle.std.specs.Io.KnownBytes.{Appends};
 ghost use Rattle.rtcm_bits.specs.Device.{AppendsPrefix, FailsWith};
 ghost use Rattle.rtcm_msg.specs.Viewed.{viewed_message};
-ghost use Rattle.rtcm_convert.specs.Faults.{FailsToWrite, IsSetupFault};
+ghost use Rattle.rtcm_convert.specs.Faults.{IsSetupFault};
 ghost use Rattle.rtcm_convert.specs.SetupValues.{setup_value, IsBadStart};
 ghost use Rattle.rtcm_convert.specs.Filed.{HasFiledFrames, opening_of, added_by, HasCountedClosed};
 ghost use Rattle.rtcm_convert.specs.Steps.{IsCloseFirst, IsFinalKind, WritesFirst, TakesMessage, IsTakenAgain};
@@ -12,7 +12,7 @@ ghost use Rattle.rtcm_convert.specs.Steps.{EndsFile, BreaksInRest};
 ghost use Rattle.rtcm_scan.specs.Examined.{HasExaminedSome};
 ghost use Rattle.rtcm_convert.specs.Stream.{Files, BreaksFiling, HasDrainedSome, EndsBytes, BreaksAtEndOf};
 
-use crate::fault::Fault;
+use crate::fault::{Fault, WriteFault};
 use crate::laws;
 use crate::report::Report;
 use crate::setup::Setup;
@@ -127,7 +127,11 @@ impl FileWriter {
     }
 
     /// Passes a message to the gatherer, and writes the epoch that this closes.
-    fn step<W: Write>(&mut self, message: &View<'_>, writer: &mut Counted<W>) -> Result<Kind, Fault>
+    fn step<W: Write>(
+        &mut self,
+        message: &View<'_>,
+        writer: &mut Counted<W>,
+    ) -> Result<Kind, WriteFault>
         requires { self.old.gatherer.has_ended ≡ false }
         // The message is to be passed again.
         ensures first { IfOk result
@@ -144,13 +148,13 @@ impl FileWriter {
         ensures part { OnErr result
             (BreaksInMessage self.old (viewed_message message.now) (W.contents writer.old.inner)
             (W.contents writer.new.inner)) }
-        ensures device { FailsToWrite result writer.old writer.new }
+        ensures device { FailsWith result writer.old writer.new }
         ensures ended { self.new.gatherer.has_ended ≡ false }
     {
         let taken = self.gatherer.take_view(message);
         match self.write_closed(writer) {
             Ok(()) => Ok(taken.kind),
-            Err(_) => Err(Fault::Write),
+            Err(_) => Err(WriteFault),
         }
     }
 
@@ -159,7 +163,7 @@ impl FileWriter {
         &mut self,
         message: &View<'_>,
         writer: &mut Counted<W>,
-    ) -> Result<Kind, Fault>
+    ) -> Result<Kind, WriteFault>
         requires { self.old.gatherer.has_ended ≡ false }
         ensures whole { OnOk result
             (TakesNext self.old self.new (viewed_message message.now) (W.contents writer.old.inner)
@@ -169,7 +173,7 @@ impl FileWriter {
         ensures part { OnErr result
             (BreaksInNext self.old (viewed_message message.now) (W.contents writer.old.inner)
             (W.contents writer.new.inner)) }
-        ensures device { FailsToWrite result writer.old writer.new }
+        ensures device { FailsWith result writer.old writer.new }
         ensures ended { self.new.gatherer.has_ended ≡ false }
     {
         let kind = self.step(message, writer)?;
@@ -180,14 +184,14 @@ impl FileWriter {
     }
 
     /// Writes the rest of the file, and delivers it.
-    pub(crate) fn end<W: Deliver>(&mut self, writer: &mut Counted<W>) -> Result<(), Fault>
+    pub(crate) fn end<W: Deliver>(&mut self, writer: &mut Counted<W>) -> Result<(), WriteFault>
         requires { self.old.gatherer.has_ended ≡ false }
         ensures whole { OnOk result
             (EndsFile self.old self.new (W.contents writer.old.inner) (W.contents writer.new.inner)) }
         ensures same { self.new.tally ≡ self.old.tally }
         ensures part { OnErr result
             (BreaksInRest self.old (W.contents writer.old.inner) (W.contents writer.new.inner)) }
-        ensures device { FailsToWrite result writer.old writer.new }
+        ensures device { FailsWith result writer.old writer.new }
         ensures sent { OnOk result (W.waiting writer.new.inner ≡ []) }
         ensures ended { self.new.gatherer.has_ended ≡ true }
     {
@@ -195,17 +199,17 @@ impl FileWriter {
         obs_epoch::laws::choices();
         self.gatherer.end();
         if let Err(_) = self.write_closed(writer) {
-            return Err(Fault::Write);
+            return Err(WriteFault);
         }
         if let Err(_) = writer.flush_whole() {
-            return Err(Fault::Write);
+            return Err(WriteFault);
         }
         Ok(())
     }
 }
 
 impl<W: Deliver> FrameSink<Counted<W>> for FileWriter {
-    type Fault = Fault;
+    type Fault = WriteFault;
 
     ghost can_take = { λ v. v.gatherer.has_ended ≡ false };
 
@@ -215,7 +219,7 @@ impl<W: Deliver> FrameSink<Counted<W>> for FileWriter {
 
     ghost broke = { BreaksFiling W.contents };
 
-    fn take(&mut self, frame: &Frame, out: &mut Counted<W>) -> Result<(), Fault> {
+    fn take(&mut self, frame: &Frame, out: &mut Counted<W>) -> Result<(), WriteFault> {
         match look_in(&self.set, &frame.message) {
             Err(_) => {
                 self.tally.count(None);
@@ -231,10 +235,10 @@ impl<W: Deliver> FrameSink<Counted<W>> for FileWriter {
         }
     }
 
-    fn send(&self, out: &mut Counted<W>) -> Result<(), Fault> {
+    fn send(&self, out: &mut Counted<W>) -> Result<(), WriteFault> {
         match out.flush_whole() {
             Ok(()) => Ok(()),
-            Err(_) => Err(Fault::Write),
+            Err(_) => Err(WriteFault),
         }
     }
 }
@@ -244,7 +248,7 @@ pub(crate) fn end_stream<W: Deliver>(
     framer: &mut Framer,
     file_writer: &mut FileWriter,
     writer: &mut Counted<W>,
-) -> Result<(), Fault>
+) -> Result<(), WriteFault>
     requires going { file_writer.old.gatherer.has_ended ≡ false }
     requires listening { framer.old.has_ended ≡ false }
     requires some { HasDrainedSome framer.old }
@@ -253,7 +257,7 @@ pub(crate) fn end_stream<W: Deliver>(
         (W.contents writer.new.inner)) }
     ensures part { OnErr result
         (BreaksAtEndOf framer.old file_writer.old (W.contents writer.old.inner) (W.contents writer.new.inner)) }
-    ensures device { FailsToWrite result writer.old writer.new }
+    ensures device { FailsWith result writer.old writer.new }
     ensures sent { OnOk result (W.waiting writer.new.inner ≡ []) }
     ensures some { HasExaminedSome framer.new }
     ensures same { (framer.new.limit ≡ framer.old.limit) × (framer.new.taken ≡ framer.old.taken) }
@@ -262,6 +266,6 @@ pub(crate) fn end_stream<W: Deliver>(
     rtcm_scan::laws::prefix();
     match framer.finish(file_writer, writer) {
         Ok(()) => file_writer.end(writer),
-        Err(_) => Err(Fault::Write),
+        Err(_) => Err(WriteFault),
     }
 }

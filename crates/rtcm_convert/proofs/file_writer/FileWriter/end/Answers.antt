@@ -1,12 +1,12 @@
 use Rattle.rtcm_convert.proofs.PartLemmas.{goes_on-kept, goes_on-front}
 use Rattle.rtcm_convert.proofs.TakeLemmas.{file_whole, file_part}
-use Rattle.rtcm_convert.proofs.Names.{◌∙◌, ap, refl, GathererValue}
+use Rattle.rtcm_convert.proofs.Names.{◌∙◌, ap, GathererValue}
 use Rattle.rtcm_convert.proofs.file_writer.FileWriter.end.Goals as goal
 
 pub returns-in-Err : goal.returns-in-Err
 returns-in-Err g c =
     let e = c.in-Err.ensures in
-    record { whole = tt; same = e.same.3; part = file_part e.part c.end.ensures.ended (λ s ms es x. c.end.ensures.closes s ms es x c.requires); device = (refl, e.device); sent = tt; ended = ap (λ (v : GathererValue). v.has_ended) e.same.0 ∙ c.end.ensures.ended }
+    record { whole = tt; same = e.same.3; part = file_part e.part c.end.ensures.ended (λ s ms es x. c.end.ensures.closes s ms es x c.requires); device = e.device; sent = tt; ended = ap (λ (v : GathererValue). v.has_ended) e.same.0 ∙ c.end.ensures.ended }
 
 pub returns-in-Err-flush_whole-clause-part : goal.returns-in-Err-flush_whole-clause-part
 returns-in-Err-flush_whole-clause-part g c =

@@ -25,6 +25,6 @@ returns-in-Ok g c =
       kind = λ stays s ms es again f x. (heard_so c.args.self.now c.take_view-taken.new.self (viewed_message c.args.message.now) c.take_view-taken.result c.take_view-taken.ensures x).kind s.gather ms es again x.gatherer f stays;
       same = e.same.3;
       part = tt;
-      device = (tt, e.device);
+      device = e.device;
       ended = ap (λ (v : GathererValue). v.has_ended) e.same.0 ∙ c.take_view-taken.ensures.going;
     }

@@ -28,6 +28,6 @@ returns g c =
       kind = kind_again m c.step-2.result first n.kind n.again;
       same = n.same ∙ c.step.ensures.same;
       part = on_err_weaker c.step-2.result (λ p s ms x. part_again m (first s ms (closed_epochs s.gather ms) x) p) n.part;
-      device = fails_after c.step-2.result c.args.writer.now c.step.new.writer c.step-2.new.writer c.in_ok-kind.ensures.device.1 n.device;
+      device = fails_after c.step-2.result c.args.writer.now c.step.new.writer c.step-2.new.writer c.in_ok-kind.ensures.device n.device;
       ended = n.ended;
     }

@@ -15,11 +15,11 @@ returns-in-Ok-take_message-clause-whole g c =
     sink.files_more (framed c.args.frame.now)
     (λ s fs x. writer.files_more (framed c.args.frame.now)
     (ap (message_with c.args.self.now.set) (sym c.deref.ensures.0) ∙ c.in-Ok.ensures.exact) c.in-Ok.ensures.message e.whole e.kind e.same (ap (λ r. record c.take_message.new.self { tally = r }) c.count-in-Ok-take_message.ensures) x)
-    (e.device.1.1, e.device.1.2)
+    (e.device.1, e.device.2)
 
 pub returns-in-Err-take_message-clause-part : goal.returns-in-Err-take_message-clause-part
 returns-in-Err-take_message-clause-part g c =
     let e = c.in-Err-take_message.ensures in
     sink.files_part (framed c.args.frame.now)
     (writer.files_part (framed c.args.frame.now) (ap (message_with c.args.self.now.set) (sym c.deref.ensures.0) ∙ c.in-Ok.ensures.exact) e.part)
-    (e.device.1.0, e.device.1.2)
+    (e.device.0, e.device.2)
