@@ -1,7 +1,7 @@
 //! The choice of epochs by their times.
 ghost use Rattle.std.specs.Prelude.{◌≡◌, IfSome, if◌then◌else◌};
 ghost use Rattle.gnss_obs.specs.Intervals.{IsInterval};
-ghost use Rattle.obs_epoch.specs.Choices.{every_epoch, in_window, is_chosen, on_grid};
+ghost use Rattle.obs_epoch.specs.Choices.{every_epoch, in_window, on_grid};
 ghost use Rattle.obs_epoch.specs.Marks.{counted_epoch};
 
 use gnss_obs::{GpsTime, Interval};
@@ -24,7 +24,7 @@ pub struct Choice {
 
 impl Choice {
     /// Returns the interval in milliseconds, if there is one.
-    pub fn milliseconds(&self) -> Option<u32>
+    pub fn interval_milliseconds(&self) -> Option<u32>
         ensures value { result ≡ self.now.interval }
         ensures bound { IfSome result IsInterval }
     {
@@ -54,13 +54,6 @@ impl Choice {
                 nominal % interval.milliseconds() as u64 <= 2 * tolerance
             }
         }
-    }
-
-    /// Returns whether the epoch of this time is chosen: in the window and on the grid.
-    pub fn includes(&self, time: GpsTime) -> bool
-        ensures { result ≡ is_chosen self.now time }
-    {
-        self.window_includes(time) && self.grid_includes(time)
     }
 }
 

@@ -83,7 +83,7 @@ pub fn read_back(setup: &Setup)
     readable();
     rinex_file::laws::head(&setup.texts, &setup.gatherer.plan);
     // Brings the range of the interval into the proof.
-    let _ = setup.gatherer.choice.milliseconds();
+    let _ = setup.gatherer.choice.interval_milliseconds();
 }
 
 /// A conversion of GPS and Galileo alone, in MSM4 and MSM7, reads exactly the messages 1005, 1006,
