@@ -1,7 +1,7 @@
 -- A conversion that is stopped by a fault.
 use Rattle.rtcm_command.proofs.CommandLemmas.{Devices}
 use Rattle.rtcm_command.proofs.OptionLemmas.{bad_choice}
-use Rattle.rtcm_command.proofs.Names.{⊤, Device, EndsConverting, IsErrAnd, passed, ◌≡◌, ap, sym, subst, refl, ℕ, ℤ, List, Option, Some, Result, Err, IsErrOf, IfSome, inl, inr, ◌≢◌, ◌↔◌, IsSentAfter, IsSetupFault, IsUntouched, IsMadeEmpty, IsMadeSoFar, IsMadeInPart, IsMadeToLimit, IsBad, Setup, Fault, Memory, BadSetup, TooLong, Read, Write, Failed, Finished, NoEpoch, NoneChosen, EpochCounts, Report, ToolFault, Row, StationValues, values_by, HasSetupFault, IsFirstFault, IsLastFault, IsSetupRefused, IsWeekSet, values_set, StopsConversion, HaveFailedBy, ChannelsValue, channels_by, channels_set}
+use Rattle.rtcm_command.proofs.Names.{⊤, Device, EndsConverting, IsErrAnd, passed, ◌≡◌, ap, sym, subst, refl, ℕ, ℤ, List, Option, Some, Result, Err, IsErrOf, IfSome, inl, inr, ◌≢◌, ◌↔◌, IsSentAfter, IsSetupFault, IsUntouched, IsMadeEmpty, IsMadeSoFar, IsMadeInPart, IsMadeToLimit, IsBad, Setup, Fault, Memory, BadSetup, TooLong, Read, Write, Failed, Finished, NoEpoch, NoneChosen, EpochCounts, Report, ToolFault, Row, StationValues, values_by, HasSetupFault, IsRefusedAfterWeek, IsRefusedAfterChannels, IsSetupRefused, IsWeekSet, values_set, StopsConversion, HaveFailedBy, ChannelsValue, channels_by, channels_set}
 use Rattle.command_faults.specs.declared.fault.ToolFault.TheVariants as faults
 
 abbrev Result-of : Fault → Result Report Fault
@@ -52,11 +52,11 @@ module _ {R W : Type 0} (left : R → Option (List ℕ)) (held : W → Option (L
     made (faults.Plan f) h = (refl, refl)
     made other h = absurd h
 
-    last : IsLastFault options e → HasNoneFailed e
+    last : IsRefusedAfterChannels options e → HasNoneFailed e
     last (inl choice) = bad_choice HasNoneFailed (λ o. (refl, refl)) (refl, refl) (refl, refl) (refl, refl) options e choice
     last (inr (choice, is, fault)) = made e fault
 
-    by : (p : Option (ℤ × ℤ × ℤ)) (h : Option ℕ) (c : Option ChannelsValue) → IsFirstFault (values_by p h) (channels_by c) options e → HasNoneFailed e
+    by : (p : Option (ℤ × ℤ × ℤ)) (h : Option ℕ) (c : Option ChannelsValue) → IsRefusedAfterWeek (values_by p h) (channels_by c) options e → HasNoneFailed e
     by (Some (x, y, z)) (Some h) (Some c) is = last is
     by p h c is = subst HasNoneFailed (sym is) (refl, refl)
 
@@ -67,5 +67,5 @@ module _ {R W : Type 0} (left : R → Option (List ℕ)) (held : W → Option (L
 
 -- the first fault after a valid week, of results that are known
 pub first_fault : {values : Result StationValues ToolFault} {channels : Result ChannelsValue ToolFault} {fault : ToolFault} (options : List Row) (n : ℕ) → IsWeekSet options n → values_set options ≡ values → channels_set options ≡ channels
-    → IsFirstFault values channels options fault → IsSetupRefused options fault
-first_fault {values} {channels} {fault} options n week is are h = inr (n, week, subst (λ (c : Result ChannelsValue ToolFault). IsFirstFault (values_set options) c options fault) (sym are) (subst (λ (v : Result StationValues ToolFault). IsFirstFault v channels options fault) (sym is) h))
+    → IsRefusedAfterWeek values channels options fault → IsSetupRefused options fault
+first_fault {values} {channels} {fault} options n week is are h = inr (n, week, subst (λ (c : Result ChannelsValue ToolFault). IsRefusedAfterWeek (values_set options) c options fault) (sym are) (subst (λ (v : Result StationValues ToolFault). IsRefusedAfterWeek v channels options fault) (sym is) h))

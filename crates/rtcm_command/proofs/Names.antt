@@ -29,7 +29,7 @@ pub use Rattle.command_faults.specs.Status.{fault_status, status_of}
 unfoldable pub use Rattle.rtcm_command.specs.Reports.{report_line}
 pub use Rattle.rtcm_command.specs.Reports.{counts_named}
 unfoldable pub use Rattle.rtcm_command.specs.SetupOptions.{plan_set}
-pub use Rattle.rtcm_command.specs.SetupOptions.{HasSetupFault, IsChoiceSet, IsFirstFault, IsFromSet, IsLastFault, IsNoonOf, IsNumberOf, IsNumberOr, IsSetupRefused, IsTimeIn, IsUntilSet, IsWeekSet, channels_by, channels_set, choice_by, choice_with, gaps_set, interval_by, interval_in, interval_set, options_of, text_set, tolerance_set, values_by, values_in, values_set, window_by}
+pub use Rattle.rtcm_command.specs.SetupOptions.{HasSetupFault, IsChoiceSet, IsRefusedAfterWeek, IsFromSet, IsRefusedAfterChannels, IsNoonOf, IsNumberOf, IsNumberOr, IsSetupRefused, IsTimeIn, IsUntilSet, IsWeekSet, channels_by, channels_set, choice_by, choice_with, gaps_set, interval_by, interval_in, interval_set, options_of, text_set, tolerance_set, values_by, values_in, values_set, window_by}
 pub use Rattle.command_faults.specs.declared.fault.DateOption.{DateOption}
 pub use Rattle.command_faults.specs.declared.fault.ToolFault.{ToolFault}
 pub use Rattle.command_faults.specs.declared.fault.ToolFault.TheVariants.{Convert}

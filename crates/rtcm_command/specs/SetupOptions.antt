@@ -216,20 +216,20 @@ HasSetupFault options (faults.Plan e) = (first_fault (texts_set options) None fi
 HasSetupFault options other = ⊥
 
 -- the fault of the choice of epochs comes before that of the setup
-abbrev pub IsLastFault : List Row → ToolFault → Type 0
-IsLastFault options fault =
+abbrev pub IsRefusedAfterChannels : List Row → ToolFault → Type 0
+IsRefusedAfterChannels options fault =
     IsChoiceSet options (Err fault) ⊎ ((choice : Choice) × IsChoiceSet options (Ok choice) × HasSetupFault options fault)
 
 -- the fault of the position or the height, and then that of the channels, comes before these
-abbrev pub IsFirstFault : Result StationValues ToolFault → Result ChannelsValue ToolFault → List Row → ToolFault
+abbrev pub IsRefusedAfterWeek : Result StationValues ToolFault → Result ChannelsValue ToolFault → List Row → ToolFault
     → Type 0
-IsFirstFault (Err e) channels options fault = fault ≡ e
-IsFirstFault (Ok values) (Err e) options fault = fault ≡ e
-IsFirstFault (Ok values) (Ok channels) options fault = IsLastFault options fault
+IsRefusedAfterWeek (Err e) channels options fault = fault ≡ e
+IsRefusedAfterWeek (Ok values) (Err e) options fault = fault ≡ e
+IsRefusedAfterWeek (Ok values) (Ok channels) options fault = IsRefusedAfterChannels options fault
 
 -- These options are refused with this fault: that of the week, else that of the position, else that of the height, else
 -- that of the channels, else that of the choice of epochs, else that of a text of the header, else that of the plan.
 abbrev pub IsSetupRefused : List Row → ToolFault → Type 0
 IsSetupRefused options fault =
     IsWeekRefused options fault
-    ⊎ ((n : ℕ) × IsWeekSet options n × IsFirstFault (values_set options) (channels_set options) options fault)
+    ⊎ ((n : ℕ) × IsWeekSet options n × IsRefusedAfterWeek (values_set options) (channels_set options) options fault)
