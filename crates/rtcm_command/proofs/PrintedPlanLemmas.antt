@@ -186,7 +186,7 @@ first_dated laws noon w wanted fs x found is tow first =
     ap₂ (λ (m : MsmSet) (o : Option ℕ). first_tow x.gatherer.leap_seconds m o fs) set found.station ∙ same_first laws.free noon x.gatherer.leap_seconds wanted fs found.leap_seconds ∙ first in (
       x.gatherer.start_week,
       near,
-      laws.dated (setup_value x).set (setup_value x).gather fs tow (near_small noon tow x.gatherer.start_week near)
+      laws.dated (setup_value x).set (setup_value x).gatherer fs tow (near_small noon tow x.gatherer.start_week near)
           (laws.small (leap_at noon) (set_had wanted fs) wanted fs tow first) tow_is,
     )
 

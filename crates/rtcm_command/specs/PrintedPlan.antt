@@ -90,7 +90,7 @@ pub record StartsAsFound (x : Setup) (w leap wanted : Option ℕ) (fs : List Fra
 abbrev pub IsDatedNear : (noon : ℕ) → Setup → (wanted : Option ℕ) → List Framed → Type 0
 IsDatedNear noon x wanted fs = (tow : ℕ) → first_tow (leap_near (Some noon)) (set_had wanted fs) wanted fs ≡ Some tow
     → (n : ℕ) × IsWeekNear noon tow n
-    × (first_time (timed (setup_value x).gather (messages_of (setup_value x) fs)) ≡ Some (n * week + tow))
+    × (first_time (timed (setup_value x).gatherer (messages_of (setup_value x) fs)) ≡ Some (n * week + tow))
 
 -- The week is the one that `options` prints near a date, and the options are as printed.
 pub record AreOptionsNear (options : List Row) (near w wanted : Option ℕ) (fs : List Framed) : Type 0 where

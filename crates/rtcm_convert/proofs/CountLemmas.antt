@@ -22,7 +22,7 @@ heard_done kinds s ms (Some m) = kinds s ms m
 
 outcomes_done : Kinds → (s : SetupValue) (before fs : List Framed) → AreDone (outcomes_after s before fs)
 outcomes_done kinds s before [] = tt
-outcomes_done kinds s before (f ∷ fs) = (heard_done kinds s.gather (messages_of s before) (message_of s f), outcomes_done kinds s (before ++ f ∷ []) fs)
+outcomes_done kinds s before (f ∷ fs) = (heard_done kinds s.gatherer (messages_of s before) (message_of s f), outcomes_done kinds s (before ++ f ∷ []) fs)
 
 -- what a frame adds to the seven kinds
 abbrev seven : Report → ℕ

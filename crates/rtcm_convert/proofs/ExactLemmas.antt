@@ -157,10 +157,10 @@ thin_few c earlier (e ∷ es) = by (is_chosen c e.epoch.time) (thin_few c (earli
   by true h = omega (arith, h)
   by false h = omega (arith, h)
 
-whole_few : (s : SetupValue) (fs : List Framed) → length (whole_list s.gather (messages_of s fs)) ≤ length fs
+whole_few : (s : SetupValue) (fs : List Framed) → length (whole_list s.gatherer (messages_of s fs)) ≤ length fs
 whole_few s fs =
     let ms = messages_of s fs in
-    let g = s.gather in
+    let g = s.gatherer in
     omega (arith, length-map (times (timed g ms)) (closed_at g ms), times_few (timed g ms), timed_length g [] ms, filter_map_few (message_of s) fs)
 
 some_few : {A : Type 0} (p : A → Bool) (xs : List A) → length (filter p xs) ≤ length xs
@@ -168,16 +168,16 @@ some_few p xs = let a = length-filter p xs in omega (arith, a, count_by-le-lengt
 
 pub epochs_few : (s : SetupValue) (fs : List Framed) → epochs_in s fs ≤ length fs
 epochs_few s fs =
-    let es = whole_list s.gather (messages_of s fs) in
-    omega (arith, some_few (λ e. nat_lt 0 (satellites_written e.epoch)) (thin s.gather.choice es), thin_few s.gather.choice [] es, whole_few s fs)
+    let es = whole_list s.gatherer (messages_of s fs) in
+    omega (arith, some_few (λ e. nat_lt 0 (satellites_written e.epoch)) (thin s.gatherer.choice es), thin_few s.gatherer.choice [] es, whole_few s fs)
 
 pub whole_epochs : (n k most : ℕ) → n ≤ k → 6 * k ≤ most → most ≤ most_bytes → capped n ≡ n
 whole_epochs n k most a b c = omega arith
 
 pub counts_whole : (s : SetupValue) (fs : List Framed) (most : ℕ) → 6 * length fs ≤ most → most ≤ most_bytes → capped_counts (epoch_counts s fs) ≡ epoch_counts s fs
 counts_whole s fs most short small =
-    let es = whole_list s.gather (messages_of s fs) in
-    let c = s.gather.choice in
+    let es = whole_list s.gatherer (messages_of s fs) in
+    let c = s.gatherer.choice in
     let valued = filter has_satellite es in
     let n : length valued ≤ length fs = omega (arith, some_few has_satellite es, whole_few s fs) in
     let w : length (filter (λ e. in_window c e.epoch.time) valued) ≤ length fs = omega (arith, some_few (λ (e : Closed). in_window c e.epoch.time) valued, n) in

@@ -16,5 +16,5 @@ HasKeys v n = (s : GatherSetup) (ms : List Heard) (es : List Closed) (again : Op
 pub locks_all : AllClosed → (v : Conversion) (n : ℕ) → HasKeys v.file_writer.gatherer n → (s : SetupValue) (b : List ℕ) → HasFinished v s b → n ≡ locks_in_all s (frames_of b)
 locks_all all v n keys s b x =
     let g = x.gathered in
-    keys s.gather (messages_of s (frames_of b)) g.epochs None g.gathers
-    ∙ ap (locks_at s (frames_of b)) (closed_all all v.file_writer.gatherer s.gather (messages_of s (frames_of b)) g.ended)
+    keys s.gatherer (messages_of s (frames_of b)) g.epochs None g.gathers
+    ∙ ap (locks_at s (frames_of b)) (closed_all all v.file_writer.gatherer s.gatherer (messages_of s (frames_of b)) g.ended)

@@ -17,11 +17,11 @@ known value heard epochs first gathered text = record { value = value; heard = h
 
 -- ---- messages
 
-message_heard : Known → (s : SetupValue) (bytes : List ℕ) (r : Result Message MsgFault) → AreChannels s.gather.plan.channels → message_with s.set bytes ≡ r → IfSome (heard_of s.gather.plan.channels s.gather.leap_seconds r) IsHeard
-message_heard k s bytes (Ok m) are e = k.heard s.gather.plan.channels s.gather.leap_seconds m are (k.value s.set bytes m e)
+message_heard : Known → (s : SetupValue) (bytes : List ℕ) (r : Result Message MsgFault) → AreChannels s.gatherer.plan.channels → message_with s.set bytes ≡ r → IfSome (heard_of s.gatherer.plan.channels s.gatherer.leap_seconds r) IsHeard
+message_heard k s bytes (Ok m) are e = k.heard s.gatherer.plan.channels s.gatherer.leap_seconds m are (k.value s.set bytes m e)
 message_heard k s bytes (Err fault) are e = tt
 
-messages_heard : Known → (s : SetupValue) (fs : List Framed) → AreChannels s.gather.plan.channels → AllByRecursion IsHeard (messages_of s fs)
+messages_heard : Known → (s : SetupValue) (fs : List Framed) → AreChannels s.gatherer.plan.channels → AllByRecursion IsHeard (messages_of s fs)
 messages_heard k s [] are = tt
 messages_heard k s (f ∷ fs) are = by (message_of s f) (message_heard k s f.message (message_with s.set f.message) are refl) (messages_heard k s fs are) where
   by : (o : Option Heard) → IfSome o IsHeard → AllByRecursion IsHeard (messages_of s fs) → AllByRecursion IsHeard (cons_option o (messages_of s fs))
@@ -62,7 +62,7 @@ text_valued k interval [] x i p h some none = absurd (omega (arith, none))
 text_valued k {texts} interval {plan} (e ∷ es) x i p h some none =
     (gathered texts interval plan e.values (e ∷ es), k.gathered texts interval plan e es x i p h some, k.text texts interval plan e es)
 
-with_valued : Known → (s : SetupValue) (es : List Closed) → AreSound s → AreGatheredEpochs s.gather.plan es → 0 < length (written_epochs es) → HasValue (text_with s es)
+with_valued : Known → (s : SetupValue) (es : List Closed) → AreSound s → AreGatheredEpochs s.gatherer.plan es → 0 < length (written_epochs es) → HasValue (text_with s es)
 with_valued k s es sound h = grind (arith, common_steps, text_valued, all_filter, rise_filter, written_some)
 
 no_text : (texts : HeaderLists) (interval : Option ℕ) (plan : PlanValue) (es : List Closed) → (0 < length es → HasValue (text_of_epochs texts interval plan es)) → IsReadable (text_of_epochs texts interval plan es)
@@ -70,17 +70,17 @@ unfolding text_of_epochs
 no_text texts interval plan [] h = inl refl
 no_text texts interval plan (e ∷ es) h = inr (h (omega arith))
 
-with_readable : Known → (s : SetupValue) (es : List Closed) → AreSound s → AreGatheredEpochs s.gather.plan es → IsReadable (text_with s es)
-with_readable k s es sound h = no_text s.texts s.gather.choice.interval s.gather.plan (written_epochs es) (with_valued k s es sound h)
+with_readable : Known → (s : SetupValue) (es : List Closed) → AreSound s → AreGatheredEpochs s.gatherer.plan es → IsReadable (text_with s es)
+with_readable k s es sound h = no_text s.texts s.gatherer.choice.interval s.gatherer.plan (written_epochs es) (with_valued k s es sound h)
 
 pub file_valued : Known → (s : SetupValue) (fs : List Framed) → AreSound s → 0 < epochs_in s fs → HasValue (file s fs)
-file_valued k s fs sound some = with_valued k s (all_epochs s.gather (messages_of s fs)) sound (k.epochs s.gather (messages_of s fs) sound.initial (messages_heard k s fs sound.plan.channels)) some
+file_valued k s fs sound some = with_valued k s (all_epochs s.gatherer (messages_of s fs)) sound (k.epochs s.gatherer (messages_of s fs) sound.initial (messages_heard k s fs sound.plan.channels)) some
 
 pub file_readable : Known → (s : SetupValue) (fs : List Framed) → AreSound s → IsReadable (file s fs)
-file_readable k s fs sound = with_readable k s (all_epochs s.gather (messages_of s fs)) sound (k.epochs s.gather (messages_of s fs) sound.initial (messages_heard k s fs sound.plan.channels))
+file_readable k s fs sound = with_readable k s (all_epochs s.gatherer (messages_of s fs)) sound (k.epochs s.gatherer (messages_of s fs) sound.initial (messages_heard k s fs sound.plan.channels))
 
 pub so_far_readable : Known → (s : SetupValue) (fs : List Framed) → AreSound s → IsReadable (so_far s fs)
 so_far_readable k s fs sound =
     let ms = messages_of s fs in
-    let all = subst (λ l. AreGatheredEpochs s.gather.plan (all_epochs s.gather l)) (sym (append-nil ms)) (k.epochs s.gather ms sound.initial (messages_heard k s fs sound.plan.channels)) in
-    with_readable k s (closed_epochs s.gather ms) sound (front s.gather.plan (closed_epochs s.gather ms) (all_epochs s.gather (ms ++ [])) (k.first s.gather ms []) all)
+    let all = subst (λ l. AreGatheredEpochs s.gatherer.plan (all_epochs s.gatherer l)) (sym (append-nil ms)) (k.epochs s.gatherer ms sound.initial (messages_heard k s fs sound.plan.channels)) in
+    with_readable k s (closed_epochs s.gatherer ms) sound (front s.gatherer.plan (closed_epochs s.gatherer ms) (all_epochs s.gatherer (ms ++ [])) (k.first s.gatherer ms []) all)

@@ -23,10 +23,10 @@ pub record Wrote (old new : FileWriter) (now : GathererValue) (a b : Option (Lis
   pub out : Appends a b (added old.texts (interval_in now) (plan_in now) old.values (closed_in now) now.values)
 
 pub wrote_all : {v w : FileWriter} {g : GathererValue} {a b : Option (List ℕ)} {s : SetupValue} {ms ms' : List Heard} {es : List Closed} {again again' : Option Heard}
-    → Wrote v w g a b → HasFiledEpochs v s ms es again → HasGatheredEpochs g s.gather ms' (es ++ closed_by (closed_in g) g.values) again'
+    → Wrote v w g a b → HasFiledEpochs v s ms es again → HasGatheredEpochs g s.gatherer ms' (es ++ closed_by (closed_in g) g.values) again'
     → (all : List Closed) × HasFiledEpochs w s ms' all again' × AppendsBetween a b (text_with s es) (text_with s all)
 wrote_all {w} {g} {a} {b} {s} {es} o x y =
-    let out : Appends a b (added s.texts s.gather.choice.interval s.gather.plan (last es) (closed_in g) g.values) = let setup = y.standing.clock.setup in rw (← x.texts, ← ap (λ (u : GatherSetup). u.choice.interval) setup, ← y.plan, ← x.values) o.out in (
+    let out : Appends a b (added s.texts s.gatherer.choice.interval s.gatherer.plan (last es) (closed_in g) g.values) = let setup = y.standing.clock.setup in rw (← x.texts, ← ap (λ (u : GatherSetup). u.choice.interval) setup, ← y.plan, ← x.values) o.out in (
       es ++ closed_by (closed_in g) g.values,
       record {
         texts = o.texts ∙ x.texts;
@@ -60,16 +60,16 @@ closed_front {v} {g} {m} {s} {ms} {es} (Some n) t f x =
     front_none g s (ms ++ m ∷ []) _ t.ended (t.taken s ms es (Some n) x f (t.again s ms es y))
 
 -- the part added, in the terms of the definitions
-pub part_of : {v : FileWriter} (g : GathererValue) (a b : Option (List ℕ)) {s : SetupValue} {ms : List Heard} {es : List Closed} {again : Option Heard} → HasFiledEpochs v s ms es again → g.clock.setup ≡ s.gather
-    → AppendsPrefix a b (added v.texts (interval_in g) (plan_in g) v.values (closed_in g) g.values) → AppendsPrefix a b (added s.texts s.gather.choice.interval s.gather.plan (last es) (closed_in g) g.values)
+pub part_of : {v : FileWriter} (g : GathererValue) (a b : Option (List ℕ)) {s : SetupValue} {ms : List Heard} {es : List Closed} {again : Option Heard} → HasFiledEpochs v s ms es again → g.clock.setup ≡ s.gatherer
+    → AppendsPrefix a b (added v.texts (interval_in g) (plan_in g) v.values (closed_in g) g.values) → AppendsPrefix a b (added s.texts s.gatherer.choice.interval s.gatherer.plan (last es) (closed_in g) g.values)
 part_of g a b x setup p = rw (← x.texts, ← ap (λ (u : GatherSetup). u.choice.interval) setup, ← ap (λ (u : GatherSetup). u.plan) setup, ← x.values) p
 
 pub wrote_part : {v : FileWriter} {g : GathererValue} {k : Kind} {m : Heard} {a b : Option (List ℕ)}
     → Took v.gatherer g k m → AppendsPrefix a b (added v.texts (interval_in g) (plan_in g) v.values (closed_in g) g.values)
     → (s : SetupValue) (ms : List Heard) (es : List Closed) (again : Option Heard) → IsAwaited again m → HasFiledEpochs v s ms es again
-    → AppendsPrefixBetween a b (text_with s es) (text_with s (closed_epochs s.gather (ms ++ m ∷ [])))
+    → AppendsPrefixBetween a b (text_with s es) (text_with s (closed_epochs s.gatherer (ms ++ m ∷ [])))
 wrote_part {g} {a} {b} t p s ms es again f x =
     let c = closed_front again t f x.gatherer in
-    let out : AppendsPrefix a b (added s.texts s.gather.choice.interval s.gather.plan (last es) (closed_in g) g.values) = part_of g a b x c.0 p in
+    let out : AppendsPrefix a b (added s.texts s.gatherer.choice.interval s.gatherer.plan (last es) (closed_in g) g.values) = part_of g a b x c.0 p in
     breaks_off-before (breaks_off-by a b _ _ _ (text-closed s es (closed_in g) g.values) out)
     (text-more s _ _ c.1)

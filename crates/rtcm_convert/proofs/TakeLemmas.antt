@@ -16,38 +16,38 @@ abbrev pub Written : FileWriter → SetupValue → List Heard → Option Heard �
 Written w s ms again a b es = (all : List Closed) × HasFiledEpochs w s ms all again × AppendsBetween a b (text_with s es) (text_with s all)
 
 abbrev pub IsPart : FileWriter → Message → Option (List ℕ) → Option (List ℕ) → Type 0
-IsPart v m a b = (s : SetupValue) (ms : List Heard) (es : List Closed) (again : Option Heard) → IsAwaited again (heard_by s.gather m) → HasFiledEpochs v s ms es again
-    → AppendsPrefixBetween a b (text_with s es) (text_with s (closed_epochs s.gather (ms ++ heard_by s.gather m ∷ [])))
+IsPart v m a b = (s : SetupValue) (ms : List Heard) (es : List Closed) (again : Option Heard) → IsAwaited again (heard_by s.gatherer m) → HasFiledEpochs v s ms es again
+    → AppendsPrefixBetween a b (text_with s es) (text_with s (closed_epochs s.gatherer (ms ++ heard_by s.gatherer m ∷ [])))
 
 abbrev pub Goes : Option (List ℕ) → Option (List ℕ) → SetupValue → List Heard → List Heard → Type 0
-Goes a b s ms ns = AppendsBetween a b (text_with s (closed_epochs s.gather ms)) (text_with s (closed_epochs s.gather ns))
+Goes a b s ms ns = AppendsBetween a b (text_with s (closed_epochs s.gatherer ms)) (text_with s (closed_epochs s.gatherer ns))
 
 abbrev pub Breaks : Option (List ℕ) → Option (List ℕ) → SetupValue → List Heard → List Heard → Type 0
-Breaks a b s ms ns = AppendsPrefixBetween a b (text_with s (closed_epochs s.gather ms)) (text_with s (closed_epochs s.gather ns))
+Breaks a b s ms ns = AppendsPrefixBetween a b (text_with s (closed_epochs s.gatherer ms)) (text_with s (closed_epochs s.gatherer ns))
 
 pub settle : {w : FileWriter} {s : SetupValue} {ms : List Heard} {a b : Option (List ℕ)} (es : List Closed) → w.gatherer.has_ended ≡ false
-    → Written w s ms None a b es → Settled w s ms × AppendsBetween a b (text_with s es) (text_with s (closed_epochs s.gather ms))
+    → Written w s ms None a b es → Settled w s ms × AppendsBetween a b (text_with s es) (text_with s (closed_epochs s.gatherer ms))
 settle {w} {s} {ms} {a} {b} es going p = grind (arith, common_steps)
 
 pub settle_again : {w x : FileWriter} {s : SetupValue} {ms ns : List Heard} {m : Heard} {a b c : Option (List ℕ)} → x.gatherer.has_ended ≡ false
-    → (first : Written w s ms (Some m) a b (closed_epochs s.gather ms)) → Written x s ns None b c first.0 → Settled x s ns × Goes a c s ms ns
+    → (first : Written w s ms (Some m) a b (closed_epochs s.gatherer ms)) → Written x s ns None b c first.0 → Settled x s ns × Goes a c s ms ns
 settle_again going first p =
     let q = settle first.0 going p in
     (q.0, goes_on-trans first.2 q.1)
 
-pub part_alone : {v : FileWriter} {a b : Option (List ℕ)} (m : Message) → IsPart v m a b → (s : SetupValue) (ms : List Heard) → Settled v s ms → Breaks a b s ms (ms ++ heard_by s.gather m ∷ [])
-part_alone m p s ms x = p s ms (closed_epochs s.gather ms) None tt x
+pub part_alone : {v : FileWriter} {a b : Option (List ℕ)} (m : Message) → IsPart v m a b → (s : SetupValue) (ms : List Heard) → Settled v s ms → Breaks a b s ms (ms ++ heard_by s.gatherer m ∷ [])
+part_alone m p s ms x = p s ms (closed_epochs s.gatherer ms) None tt x
 
 pub part_again : {w : FileWriter} {a b c : Option (List ℕ)} {s : SetupValue} {ms : List Heard} (m : Message)
-    → Written w s ms (Some (heard_by s.gather m)) a b (closed_epochs s.gather ms) → IsPart w m b c → Breaks a c s ms (ms ++ heard_by s.gather m ∷ [])
-part_again {s = s} {ms} m first p = breaks_off-after first.2 (p s ms first.0 (Some (heard_by s.gather m)) refl first.1)
+    → Written w s ms (Some (heard_by s.gatherer m)) a b (closed_epochs s.gatherer ms) → IsPart w m b c → Breaks a c s ms (ms ++ heard_by s.gatherer m ∷ [])
+part_again {s = s} {ms} m first p = breaks_off-after first.2 (p s ms first.0 (Some (heard_by s.gatherer m)) refl first.1)
 
 -- what is read of a frame with the file writer's set is read with that of the settings
 in_set : {v : FileWriter} {s : SetupValue} {fs : List Framed} {r : Result Message MsgFault} → HasFiledFrames v s fs → (f : Framed) → message_with v.set f.message ≡ r → message_with s.set f.message ≡ r
 in_set y f read = ap (λ (set : MsmSet). message_with set f.message) (sym y.settled.set) ∙ read
 
 -- the messages of one more frame
-messages_more : (s : SetupValue) (fs : List Framed) (f : Framed) (m : Message) → message_with s.set f.message ≡ Ok m → messages_of s (fs ++ f ∷ []) ≡ messages_of s fs ++ heard_by s.gather m ∷ []
+messages_more : (s : SetupValue) (fs : List Framed) (f : Framed) (m : Message) → message_with s.set f.message ≡ Ok m → messages_of s (fs ++ f ∷ []) ≡ messages_of s fs ++ heard_by s.gatherer m ∷ []
 messages_more s fs f m e = grind (arith, common_steps, filter_map-append)
 
 messages_same : (s : SetupValue) (fs : List Framed) (f : Framed) (d : MsgFault) → message_with s.set f.message ≡ Err d → messages_of s (fs ++ f ∷ []) ≡ messages_of s fs
@@ -68,15 +68,15 @@ tally_one s fs f {o} is old new = grind (arith, common_steps, tallies_added, tal
 few_one : (s : SetupValue) (fs : List Framed) (f : Framed) (o : Option Kind) → o ≡ outcome s fs f → AreFew (outcomes s fs) → IsFew (tally_of_one o) → AreFew (outcomes s (fs ++ f ∷ []))
 few_one s fs f o is few one = grind (arith, common_steps, outcomes_after-one, few_more)
 
-outcome_ok : (s : SetupValue) (fs : List Framed) (f : Framed) (m : Message) (k : Kind) → message_with s.set f.message ≡ Ok m → k ≡ kind_of s.gather (messages_of s fs) (heard_by s.gather m) → Some k ≡ outcome s fs f
+outcome_ok : (s : SetupValue) (fs : List Framed) (f : Framed) (m : Message) (k : Kind) → message_with s.set f.message ≡ Ok m → k ≡ kind_of s.gatherer (messages_of s fs) (heard_by s.gatherer m) → Some k ≡ outcome s fs f
 outcome_ok s fs f m k e is = rw e (ap Some is)
 
 outcome_err : (s : SetupValue) (fs : List Framed) (f : Framed) (d : MsgFault) → message_with s.set f.message ≡ Err d → None ≡ outcome s fs f
 outcome_err s fs f d e = rw e refl
 
 pub files_more : {v w x : FileWriter} {s : SetupValue} {fs : List Framed} (f : Framed) {m : Message} {k : Kind} {a b : Option (List ℕ)} → message_with v.set f.message ≡ Ok m → IsMessage m
-    → ((s : SetupValue) (ms : List Heard) → Settled v s ms → Settled w s (ms ++ heard_by s.gather m ∷ []) × Goes a b s ms (ms ++ heard_by s.gather m ∷ []))
-    → ((s : SetupValue) (ms : List Heard) → Settled v s ms → k ≡ kind_of s.gather ms (heard_by s.gather m))
+    → ((s : SetupValue) (ms : List Heard) → Settled v s ms → Settled w s (ms ++ heard_by s.gatherer m ∷ []) × Goes a b s ms (ms ++ heard_by s.gatherer m ∷ []))
+    → ((s : SetupValue) (ms : List Heard) → Settled v s ms → k ≡ kind_of s.gatherer ms (heard_by s.gatherer m))
     → w.tally ≡ v.tally → x ≡ record w { tally = tallies_added w.tally (tally_of_one (Some k)) }
     → HasFiledFrames v s fs → HasFiledFrames x s (fs ++ f ∷ []) × AppendsBetween a b (so_far s fs) (so_far s (fs ++ f ∷ []))
 files_more {w} {s} {fs} f {m} {k} {a} {b} read valid t kind same now y =
@@ -87,7 +87,7 @@ files_more {w} {s} {fs} f {m} {k} {a} {b} read valid t kind same now y =
       rw now record {
         settled = record { texts = z.texts; set = z.set; gatherer = z.gatherer; epochs = z.epochs; values = z.values };
         tally = tally_one s fs f (outcome_ok s fs f m k e (kind s (messages_of s fs) y.settled)) (same ∙ y.tally) refl;
-        few = few_one s fs f (Some (kind_of s.gather (messages_of s fs) (heard_by s.gather m))) (outcome_ok s fs f m _ e refl) y.few (message_few s.gather (messages_of s fs) m valid);
+        few = few_one s fs f (Some (kind_of s.gatherer (messages_of s fs) (heard_by s.gatherer m))) (outcome_ok s fs f m _ e refl) y.few (message_few s.gatherer (messages_of s fs) m valid);
       },
       subst (λ (ns : List Heard). Goes a b s (messages_of s fs) ns) ms p.1,
     )
@@ -107,7 +107,7 @@ files_same {v} {s} {fs} f {d} {a} read now y =
     )
 
 pub files_part : {v : FileWriter} (f : Framed) {m : Message} {a b : Option (List ℕ)} → message_with v.set f.message ≡ Ok m
-    → ((s : SetupValue) (ms : List Heard) → Settled v s ms → Breaks a b s ms (ms ++ heard_by s.gather m ∷ []))
+    → ((s : SetupValue) (ms : List Heard) → Settled v s ms → Breaks a b s ms (ms ++ heard_by s.gatherer m ∷ []))
     → (s : SetupValue) (fs : List Framed) → HasFiledFrames v s fs → AppendsPrefixBetween a b (so_far s fs) (so_far s (fs ++ f ∷ []))
 files_part f {m} {a} {b} read t s fs x =
     subst (λ (ns : List Heard). Breaks a b s (messages_of s fs) ns) (sym (messages_more s fs f m (in_set x f read))) (t s (messages_of s fs) x.settled)
@@ -118,18 +118,18 @@ pub file_whole : AllClosed → NoneReturned → (v w : FileWriter) (g : Gatherer
     → EndsFile v w a b
 file_whole all_closed none v w g a b o over t s fs x =
     let ms = messages_of s fs in
-    let es = closed_epochs s.gather ms in
-    let now = t s.gather ms es x.settled.gatherer in
+    let es = closed_epochs s.gatherer ms in
+    let now = t s.gatherer ms es x.settled.gatherer in
     let p = wrote_all o x.settled now in
-    let e : p.0 ≡ all_epochs s.gather ms = p.1.gatherer.epochs refl ∙ ap (λ (h : GathererValue). known_epochs h.has_ended s.gather ms) o.gatherer ∙ ap (λ h. known_epochs h s.gather ms) over in (
+    let e : p.0 ≡ all_epochs s.gatherer ms = p.1.gatherer.epochs refl ∙ ap (λ (h : GathererValue). known_epochs h.has_ended s.gatherer ms) o.gatherer ∙ ap (λ h. known_epochs h s.gatherer ms) over in (
       subst (λ (all : List Closed). AppendsBetween a b (so_far s fs) (text_with s all)) e p.2,
       p.1.epochs ∙ ap count e,
-      λ empty. p.1.gatherer.counts ∙ ap (λ l. capped_counts (counts_left_out s.gather.choice (closed_list_at s.gather ms l))) (closed_all all_closed w.gatherer s.gather ms (ap (λ (h : GathererValue). h.has_ended) o.gatherer ∙ over))
-          ∙ ap capped_counts (none s.gather.choice (whole_list s.gather ms) empty),
+      λ empty. p.1.gatherer.counts ∙ ap (λ l. capped_counts (counts_left_out s.gatherer.choice (closed_list_at s.gatherer ms l))) (closed_all all_closed w.gatherer s.gatherer ms (ap (λ (h : GathererValue). h.has_ended) o.gatherer ∙ over))
+          ∙ ap capped_counts (none s.gatherer.choice (whole_list s.gatherer ms) empty),
       record {
         ended = ap (λ (h : GathererValue). h.has_ended) o.gatherer ∙ over;
         epochs = es ++ closed_by (closed_in g) g.values;
-        gathers = subst (λ (h : GathererValue). HasGatheredEpochs h s.gather ms (es ++ closed_by (closed_in g) g.values) None) (sym o.gatherer) now;
+        gathers = subst (λ (h : GathererValue). HasGatheredEpochs h s.gatherer ms (es ++ closed_by (closed_in g) g.values) None) (sym o.gatherer) now;
       },
     )
 
@@ -138,29 +138,29 @@ pub file_part : {v : FileWriter} {g : GathererValue} {a b : Option (List ℕ)} �
     → (s : SetupValue) (fs : List Framed) → HasFiledFrames v s fs → AppendsPrefixBetween a b (so_far s fs) (file s fs)
 file_part {g} {a} {b} p over t s fs x =
     let ms = messages_of s fs in
-    let es = closed_epochs s.gather ms in
-    let now = t s.gather ms es x.settled.gatherer in
-    let e : es ++ closed_by (closed_in g) g.values ≡ all_epochs s.gather ms = now.epochs refl ∙ ap (λ h. known_epochs h s.gather ms) over in
-    let out : AppendsPrefix a b (added s.texts s.gather.choice.interval s.gather.plan (last es) (closed_in g) g.values) = part_of g a b x.settled now.standing.clock.setup p in
+    let es = closed_epochs s.gatherer ms in
+    let now = t s.gatherer ms es x.settled.gatherer in
+    let e : es ++ closed_by (closed_in g) g.values ≡ all_epochs s.gatherer ms = now.epochs refl ∙ ap (λ h. known_epochs h s.gatherer ms) over in
+    let out : AppendsPrefix a b (added s.texts s.gatherer.choice.interval s.gatherer.plan (last es) (closed_in g) g.values) = part_of g a b x.settled now.standing.clock.setup p in
     subst (λ (all : List Closed). AppendsPrefixBetween a b (so_far s fs) (text_with s all)) e (breaks_off-by a b _ _ _ (text-closed s es (closed_in g) g.values) out)
 
 -- a message that is passed twice
 pub taken_again : {E : Type 0} {v w : FileWriter} (x : FileWriter) (m : Message) {a b : Option (List ℕ)} (c : Option (List ℕ)) (r : Result Kind E) → x.gatherer.has_ended ≡ false
-    → ((s : SetupValue) (ms : List Heard) (es : List Closed) → HasFiledEpochs v s ms es None → Written w s ms (Some (heard_by s.gather m)) a b es)
-    → IfOk r (λ k. is_close_first k ≡ false → (s : SetupValue) (ms : List Heard) (es : List Closed) (again : Option Heard) → IsAwaited again (heard_by s.gather m) → HasFiledEpochs w s ms es again → Written x s (ms ++ heard_by s.gather m ∷ []) None b c es)
-    → IfOk r (λ k. (s : SetupValue) (ms : List Heard) (es : List Closed) → HasFiledEpochs w s ms es (Some (heard_by s.gather m)) → is_close_first k ≡ false)
-    → OnOk r ((s : SetupValue) (ms : List Heard) → Settled v s ms → Settled x s (ms ++ heard_by s.gather m ∷ []) × Goes a c s ms (ms ++ heard_by s.gather m ∷ []))
+    → ((s : SetupValue) (ms : List Heard) (es : List Closed) → HasFiledEpochs v s ms es None → Written w s ms (Some (heard_by s.gatherer m)) a b es)
+    → IfOk r (λ k. is_close_first k ≡ false → (s : SetupValue) (ms : List Heard) (es : List Closed) (again : Option Heard) → IsAwaited again (heard_by s.gatherer m) → HasFiledEpochs w s ms es again → Written x s (ms ++ heard_by s.gatherer m ∷ []) None b c es)
+    → IfOk r (λ k. (s : SetupValue) (ms : List Heard) (es : List Closed) → HasFiledEpochs w s ms es (Some (heard_by s.gatherer m)) → is_close_first k ≡ false)
+    → OnOk r ((s : SetupValue) (ms : List Heard) → Settled v s ms → Settled x s (ms ++ heard_by s.gatherer m ∷ []) × Goes a c s ms (ms ++ heard_by s.gatherer m ∷ []))
 taken_again {v} {w} x m {a} {b} c (Ok k) going first taken again = λ s ms y.
-    let one : Written w s ms (Some (heard_by s.gather m)) a b (closed_epochs s.gather ms) = first s ms (closed_epochs s.gather ms) y in
-    settle_again going one (taken (again s ms one.0 one.1) s ms one.0 (Some (heard_by s.gather m)) refl one.1)
+    let one : Written w s ms (Some (heard_by s.gatherer m)) a b (closed_epochs s.gatherer ms) = first s ms (closed_epochs s.gatherer ms) y in
+    settle_again going one (taken (again s ms one.0 one.1) s ms one.0 (Some (heard_by s.gatherer m)) refl one.1)
 taken_again x m c (Err e) going first taken again = tt
 
 pub kind_again : {E : Type 0} {v w : FileWriter} {a b : Option (List ℕ)} (m : Message) (r : Result Kind E)
-    → ((s : SetupValue) (ms : List Heard) (es : List Closed) → HasFiledEpochs v s ms es None → Written w s ms (Some (heard_by s.gather m)) a b es)
-    → IfOk r (λ k. is_close_first k ≡ false → (s : SetupValue) (ms : List Heard) (es : List Closed) (again : Option Heard) → IsAwaited again (heard_by s.gather m) → HasFiledEpochs w s ms es again → k ≡ kind_of s.gather ms (heard_by s.gather m))
-    → IfOk r (λ k. (s : SetupValue) (ms : List Heard) (es : List Closed) → HasFiledEpochs w s ms es (Some (heard_by s.gather m)) → is_close_first k ≡ false)
-    → IfOk r (λ k. (s : SetupValue) (ms : List Heard) → Settled v s ms → k ≡ kind_of s.gather ms (heard_by s.gather m))
+    → ((s : SetupValue) (ms : List Heard) (es : List Closed) → HasFiledEpochs v s ms es None → Written w s ms (Some (heard_by s.gatherer m)) a b es)
+    → IfOk r (λ k. is_close_first k ≡ false → (s : SetupValue) (ms : List Heard) (es : List Closed) (again : Option Heard) → IsAwaited again (heard_by s.gatherer m) → HasFiledEpochs w s ms es again → k ≡ kind_of s.gatherer ms (heard_by s.gatherer m))
+    → IfOk r (λ k. (s : SetupValue) (ms : List Heard) (es : List Closed) → HasFiledEpochs w s ms es (Some (heard_by s.gatherer m)) → is_close_first k ≡ false)
+    → IfOk r (λ k. (s : SetupValue) (ms : List Heard) → Settled v s ms → k ≡ kind_of s.gatherer ms (heard_by s.gatherer m))
 kind_again {w = w} {a} {b} m (Ok k) first kind again = λ s ms y.
-    let one : Written w s ms (Some (heard_by s.gather m)) a b (closed_epochs s.gather ms) = first s ms (closed_epochs s.gather ms) y in
-    kind (again s ms one.0 one.1) s ms one.0 (Some (heard_by s.gather m)) refl one.1
+    let one : Written w s ms (Some (heard_by s.gatherer m)) a b (closed_epochs s.gatherer ms) = first s ms (closed_epochs s.gatherer ms) y in
+    kind (again s ms one.0 one.1) s ms one.0 (Some (heard_by s.gatherer m)) refl one.1
 kind_again m (Err e) first kind again = tt

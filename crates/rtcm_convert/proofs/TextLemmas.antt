@@ -74,9 +74,9 @@ last-closed es (Some e) v = rw filter-append (last_values-maybe (written_epochs 
 
 -- what the epoch that was closed last adds
 pub text-closed : (s : SetupValue) (es : List Closed) (o : Option EpochValue) (v : StationValues)
-    → text_with s (es ++ closed_by o v) ≡ text_with s es ++ added s.texts s.gather.choice.interval s.gather.plan (last es) o v
+    → text_with s (es ++ closed_by o v) ≡ text_with s es ++ added s.texts s.gatherer.choice.interval s.gatherer.plan (last es) o v
 text-closed s es None v = ap (text_with s) (append-nil es) ∙ sym (append-nil (text_with s es))
-text-closed s es (Some e) v = rw filter-append (text_of-maybe s.texts s.gather.choice.interval s.gather.plan (written_epochs es) (record { epoch = e; values = v }) (nat_lt 0 (satellites_written e)))
+text-closed s es (Some e) v = rw filter-append (text_of-maybe s.texts s.gatherer.choice.interval s.gatherer.plan (written_epochs es) (record { epoch = e; values = v }) (nat_lt 0 (satellites_written e)))
 
 pub count-closed : (es : List Closed) (o : Option EpochValue) (v : StationValues) → count (es ++ closed_by o v) ≡ epochs_after (count es) o
 count-closed es None v = ap count (append-nil es)
@@ -84,7 +84,7 @@ count-closed es (Some e) v = rw filter-append (count-maybe (written_epochs es) (
 
 -- more epochs leave the text as a prefix
 pub text-more : (s : SetupValue) (es fs : List Closed) → IsPrefix es fs → IsPrefix (text_with s es) (text_with s fs)
-text-more s es fs p = rw (p.1, filter-append) (text_of-append s.texts s.gather.choice.interval s.gather.plan (written_epochs es) (written_epochs p.0))
+text-more s es fs p = rw (p.1, filter-append) (text_of-append s.texts s.gatherer.choice.interval s.gatherer.plan (written_epochs es) (written_epochs p.0))
 
 -- the closed epochs are a prefix of those that more messages close, and of all epochs
 abbrev pub ClosedStay : Type 0
@@ -96,13 +96,13 @@ ClosedInAll = (s : GatherSetup) (ms more : List Heard) → IsPrefix (closed_epoc
 -- more frames leave the text as a prefix
 pub so_far-more : ClosedStay → (s : SetupValue) (fs more : List Framed) → IsPrefix (so_far s fs) (so_far s (fs ++ more))
 so_far-more stay s fs more =
-    text-more s (closed_epochs s.gather (messages_of s fs)) (closed_epochs s.gather (messages_of s (fs ++ more)))
-    (rw filter_map-append (stay s.gather (messages_of s fs) (messages_of s more)))
+    text-more s (closed_epochs s.gatherer (messages_of s fs)) (closed_epochs s.gatherer (messages_of s (fs ++ more)))
+    (rw filter_map-append (stay s.gatherer (messages_of s fs) (messages_of s more)))
 
 pub so_far-all : ClosedInAll → (s : SetupValue) (fs more : List Framed) → IsPrefix (so_far s fs) (file s (fs ++ more))
 so_far-all stay s fs more =
-    text-more s (closed_epochs s.gather (messages_of s fs)) (all_epochs s.gather (messages_of s (fs ++ more)))
-    (rw filter_map-append (stay s.gather (messages_of s fs) (messages_of s more)))
+    text-more s (closed_epochs s.gatherer (messages_of s fs)) (all_epochs s.gatherer (messages_of s (fs ++ more)))
+    (rw filter_map-append (stay s.gatherer (messages_of s fs) (messages_of s more)))
 
 -- the same: an event, or nothing
 pub opening_later : {n : Option StationValues} {v before w : StationValues} {b : Bool} (P : List ℕ → Type 0) (t : HeaderLists) (i : Option ℕ) (p : PlanValue) (e : EpochValue)
@@ -117,7 +117,7 @@ added_lent {p} {q} {e} t i n o v same is some = grind (arith, common_steps)
 -- no frames have an empty text
 pub so_far-none : ((s : GatherSetup) → closed_epochs s [] ≡ []) → (s : SetupValue) → so_far s [] ≡ []
 unfolding text_of_epochs
-so_far-none none s = ap (text_with s) (none s.gather)
+so_far-none none s = ap (text_with s) (none s.gatherer)
 
 -- the text of one or more epochs is that of a file value
 pub text_of-file : ((t : HeaderLists) (i : Option ℕ) (p : PlanValue) (v : StationValues) (c : Closed) (cs : List Closed) → header_text t i p v c.epoch.time ++ closed_text p v (c ∷ cs) ≡ file_text (gathered t i p v (c ∷ cs)))

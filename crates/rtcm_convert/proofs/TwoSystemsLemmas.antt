@@ -11,7 +11,7 @@ use Rattle.rtcm_convert.specs.SetupValues.{setup_value}
 use Rattle.rtcm_convert.specs.Laws.{AreMessagesPlain}
 
 -- the same of each frame, so of all
-same_messages : (s : SetupValue) → ((bytes : List ℕ) → heard_in s.gather.plan.channels s.gather.leap_seconds s.set bytes ≡ plain_in bytes) → (fs : List Framed)
+same_messages : (s : SetupValue) → ((bytes : List ℕ) → heard_in s.gatherer.plan.channels s.gatherer.leap_seconds s.set bytes ≡ plain_in bytes) → (fs : List Framed)
     → messages_of s fs ≡ filter_map (λ f. plain_in f.message) fs
 same_messages s same [] = refl
 same_messages s same (f ∷ fs) =

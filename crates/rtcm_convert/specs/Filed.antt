@@ -68,19 +68,19 @@ pub record HasFiledEpochs (v : FileWriter) (s : SetupValue) (ms : List Heard) (e
     (again : Option Heard) : Type 0 where
   pub texts : v.texts ≡ s.texts
   pub set : v.set ≡ s.set
-  pub gatherer : HasGatheredEpochs v.gatherer s.gather ms es again
+  pub gatherer : HasGatheredEpochs v.gatherer s.gatherer ms es again
   pub epochs : v.epochs ≡ capped (length (written_epochs es))
   pub values : v.values ≡ last_values (written_epochs es)
 
 -- the file writer processed these messages and wrote the epochs that they close
 abbrev pub Settled : FileWriter → SetupValue → List Heard → Type 0
-Settled v s ms = HasFiledEpochs v s ms (closed_epochs s.gather ms) None
+Settled v s ms = HasFiledEpochs v s ms (closed_epochs s.gatherer ms) None
 
 -- the file writer processed the messages of these frames, and was ended
 pub record HasGathered (v : FileWriter) (s : SetupValue) (fs : List Framed) : Type 0 where
   pub ended : v.gatherer.has_ended ≡ true
   pub epochs : List Closed
-  pub gathers : HasGatheredEpochs v.gatherer s.gather (messages_of s fs) epochs None
+  pub gathers : HasGatheredEpochs v.gatherer s.gatherer (messages_of s fs) epochs None
 
 -- the file writer processed the messages of these frames and wrote the epochs that they close
 pub record HasFiledFrames (v : FileWriter) (s : SetupValue) (fs : List Framed) : Type 0 where

@@ -19,20 +19,20 @@ use Rattle.gnss_obs.specs.Values.{cells_of}
 
 -- the messages of these frames with their times
 abbrev pub timed_of : SetupValue → List Framed → List Timed
-timed_of s fs = timed s.gather (messages_of s fs)
+timed_of s fs = timed s.gatherer (messages_of s fs)
 
 -- the cells of a system of the epoch of the greatest time: the pending one or, if none is pending, the one closed last
 abbrev pub cells_kept : SetupValue → System → List Framed → ℕ
-cells_kept s system fs = length (cells_of system (held_at s.gather (timed_of s fs)))
+cells_kept s system fs = length (cells_of system (held_at s.gatherer (timed_of s fs)))
 
 -- the number of satellites and signals of which an epoch of these times has a kept cell with a valid phase and a known
 -- lock
 abbrev pub locks_at : SetupValue → List Framed → List ℕ → ℕ
-locks_at s fs ts = length (firsts (locked_in s.gather (timed_of s fs) ts))
+locks_at s fs ts = length (firsts (locked_in s.gatherer (timed_of s fs) ts))
 
 -- the number of lock records after the epochs that these frames close
 abbrev pub locks_kept : SetupValue → List Framed → ℕ
-locks_kept s fs = locks_at s fs (closed_times s.gather (timed_of s fs))
+locks_kept s fs = locks_at s fs (closed_times s.gatherer (timed_of s fs))
 
 -- the number of lock records after all epochs, when the stream has ended
 abbrev pub locks_in_all : SetupValue → List Framed → ℕ

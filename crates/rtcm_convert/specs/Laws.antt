@@ -58,8 +58,8 @@ IsFileText = (texts : HeaderLists) (interval : Option ℕ) (plan : PlanValue) (e
 
 -- with the choice of every epoch, the file is that of all epochs
 abbrev pub IsFileOfEvery : Type 0
-IsFileOfEvery = (s : SetupValue) (fs : List Framed) → s.gather.choice ≡ every_epoch
-    → file s fs ≡ text_with s (whole_list s.gather (messages_of s fs))
+IsFileOfEvery = (s : SetupValue) (fs : List Framed) → s.gatherer.choice ≡ every_epoch
+    → file s fs ≡ text_with s (whole_list s.gatherer (messages_of s fs))
 
 -- A conversion whose plan has signals of GPS and Galileo alone, in MSM4 and MSM7, decodes exactly the messages 1005,
 -- 1006, 1074, 1077, 1094 and 1097, and reads them without its channels and leap seconds.

@@ -11,7 +11,7 @@ use Rattle.rtcm_convert.specs.declared.report.Report.{Report}
 
 -- the outcome of a frame after these: `None` if its message is refused, else that of the message
 abbrev pub outcome : SetupValue → List Framed → Framed → Option Kind
-outcome s before f = option_map (λ m. kind_of s.gather (messages_of s before) m) (message_of s f)
+outcome s before f = option_map (λ m. kind_of s.gatherer (messages_of s before) m) (message_of s f)
 
 abbrev pub outcomes_after : SetupValue → List Framed → List Framed → List (Option Kind)
 outcomes_after s before [] = []

@@ -21,9 +21,9 @@ IsReadable text = (text ≡ []) ⊎ HasValue text
 -- epochs, as in every setup
 pub record AreSound (s : SetupValue) : Type 0 where
   pub texts : AreTexts s.texts
-  pub plan : AreSignals s.gather.plan
-  pub initial : AreStationValues s.gather.initial
-  pub interval : IfSome s.gather.choice.interval IsInterval
+  pub plan : AreSignals s.gatherer.plan
+  pub initial : AreStationValues s.gatherer.initial
+  pub interval : IfSome s.gatherer.choice.interval IsInterval
 
 -- the file that frames make is readable
 abbrev pub FilesAreReadable : Type 0

@@ -23,7 +23,7 @@ default_setup plan texts start_week = record {
 
 -- the settings with the MSMs that are decoded
 abbrev pub setup_value : Setup → SetupValue
-setup_value x = record { gather = x.gatherer; texts = x.texts; set = set_of x.gatherer.plan x.forms }
+setup_value x = record { gatherer = x.gatherer; texts = x.texts; set = set_of x.gatherer.plan x.forms }
 
 -- a week or a station out of range
 abbrev pub IsBadStart : Setup → Type 0

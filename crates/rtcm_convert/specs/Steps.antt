@@ -27,52 +27,52 @@ IsFinalKind kind = is_close_first kind ≡ false
 -- the epoch that was closed first was written, and the message must be passed again
 abbrev pub WritesFirst : FileWriter → FileWriter → Message → Option (List ℕ) → Option (List ℕ) → Type 0
 WritesFirst v w m a b = (s : SetupValue) (ms : List Heard) (es : List Closed) → HasFiledEpochs v s ms es None
-    → (all : List Closed) × HasFiledEpochs w s ms all (Some (heard_by s.gather m))
+    → (all : List Closed) × HasFiledEpochs w s ms all (Some (heard_by s.gatherer m))
     × AppendsBetween a b (text_with s es) (text_with s all)
 
 -- the message was processed, and the epoch that it closed was written
 abbrev pub TakesMessage : FileWriter → FileWriter → Message → Option (List ℕ) → Option (List ℕ) → Type 0
 TakesMessage v w m a b = (s : SetupValue) (ms : List Heard) (es : List Closed) (again : Option Heard)
-    → IsAwaited again (heard_by s.gather m) → HasFiledEpochs v s ms es again
-    → (all : List Closed) × HasFiledEpochs w s (ms ++ heard_by s.gather m ∷ []) all None
+    → IsAwaited again (heard_by s.gatherer m) → HasFiledEpochs v s ms es again
+    → (all : List Closed) × HasFiledEpochs w s (ms ++ heard_by s.gatherer m ∷ []) all None
     × AppendsBetween a b (text_with s es) (text_with s all)
 
 -- a message that is passed again is processed
 abbrev pub IsTakenAgain : FileWriter → Message → Kind → Type 0
 IsTakenAgain v m kind =
-    (s : SetupValue) (ms : List Heard) (es : List Closed) → HasFiledEpochs v s ms es (Some (heard_by s.gather m))
+    (s : SetupValue) (ms : List Heard) (es : List Closed) → HasFiledEpochs v s ms es (Some (heard_by s.gatherer m))
     → IsFinalKind kind
 
 -- the outcome of the message
 abbrev pub IsKindOf : FileWriter → Message → Kind → Type 0
 IsKindOf v m kind = (s : SetupValue) (ms : List Heard) (es : List Closed) (again : Option Heard)
-    → IsAwaited again (heard_by s.gather m) → HasFiledEpochs v s ms es again
-    → kind ≡ kind_of s.gather ms (heard_by s.gather m)
+    → IsAwaited again (heard_by s.gatherer m) → HasFiledEpochs v s ms es again
+    → kind ≡ kind_of s.gatherer ms (heard_by s.gatherer m)
 
 -- a prefix of what it closes was written
 abbrev pub BreaksInMessage : FileWriter → Message → Option (List ℕ) → Option (List ℕ) → Type 0
 BreaksInMessage v m a b = (s : SetupValue) (ms : List Heard) (es : List Closed) (again : Option Heard)
-    → IsAwaited again (heard_by s.gather m) → HasFiledEpochs v s ms es again
-    → AppendsPrefixBetween a b (text_with s es) (text_with s (closed_epochs s.gather (ms ++ heard_by s.gather m ∷ [])))
+    → IsAwaited again (heard_by s.gatherer m) → HasFiledEpochs v s ms es again
+    → AppendsPrefixBetween a b (text_with s es) (text_with s (closed_epochs s.gatherer (ms ++ heard_by s.gatherer m ∷ [])))
 
 -- ---- the next message
 
 -- it was processed, and the epochs that it closes were written
 abbrev pub TakesNext : FileWriter → FileWriter → Message → Option (List ℕ) → Option (List ℕ) → Type 0
-TakesNext v w m a b = (s : SetupValue) (ms : List Heard) → Settled v s ms → Settled w s (ms ++ heard_by s.gather m ∷ [])
-    × AppendsBetween a b (text_with s (closed_epochs s.gather ms))
-    (text_with s (closed_epochs s.gather (ms ++ heard_by s.gather m ∷ [])))
+TakesNext v w m a b = (s : SetupValue) (ms : List Heard) → Settled v s ms → Settled w s (ms ++ heard_by s.gatherer m ∷ [])
+    × AppendsBetween a b (text_with s (closed_epochs s.gatherer ms))
+    (text_with s (closed_epochs s.gatherer (ms ++ heard_by s.gatherer m ∷ [])))
 
 -- the outcome of the message
 abbrev pub IsKindOfNext : FileWriter → Message → Kind → Type 0
 IsKindOfNext v m kind =
-    (s : SetupValue) (ms : List Heard) → Settled v s ms → kind ≡ kind_of s.gather ms (heard_by s.gather m)
+    (s : SetupValue) (ms : List Heard) → Settled v s ms → kind ≡ kind_of s.gatherer ms (heard_by s.gatherer m)
 
 -- a prefix of what it closes was written
 abbrev pub BreaksInNext : FileWriter → Message → Option (List ℕ) → Option (List ℕ) → Type 0
 BreaksInNext v m a b = (s : SetupValue) (ms : List Heard) → Settled v s ms
-    → AppendsPrefixBetween a b (text_with s (closed_epochs s.gather ms))
-    (text_with s (closed_epochs s.gather (ms ++ heard_by s.gather m ∷ [])))
+    → AppendsPrefixBetween a b (text_with s (closed_epochs s.gatherer ms))
+    (text_with s (closed_epochs s.gatherer (ms ++ heard_by s.gatherer m ∷ [])))
 
 -- ---- the next frame, and the end
 

@@ -11,12 +11,12 @@ pub returns-then-not-is_close_first-clause-whole : goal.returns-then-not-is_clos
 returns-then-not-is_close_first-clause-whole g c =
     let n = c.in_ok-kind.ensures in
     let stays = sym c.if-not-is_close_first.ensures in
-    λ s ms x. settle (closed_epochs s.gather ms) n.ended (n.taken stays s ms (closed_epochs s.gather ms) None tt x)
+    λ s ms x. settle (closed_epochs s.gatherer ms) n.ended (n.taken stays s ms (closed_epochs s.gatherer ms) None tt x)
 
 pub returns-then-not-is_close_first-clause-kind : goal.returns-then-not-is_close_first-clause-kind
 returns-then-not-is_close_first-clause-kind g c =
     let stays = sym c.if-not-is_close_first.ensures in
-    λ s ms x. c.in_ok-kind.ensures.kind stays s ms (closed_epochs s.gather ms) None tt x
+    λ s ms x. c.in_ok-kind.ensures.kind stays s ms (closed_epochs s.gatherer ms) None tt x
 
 pub returns : goal.returns
 returns g c =
@@ -27,7 +27,7 @@ returns g c =
       whole = taken_again c.step-2.new.self m _ c.step-2.result n.ended first n.taken n.again;
       kind = kind_again m c.step-2.result first n.kind n.again;
       same = n.same ∙ c.step.ensures.same;
-      part = on_err_weaker c.step-2.result (λ p s ms x. part_again m (first s ms (closed_epochs s.gather ms) x) p) n.part;
+      part = on_err_weaker c.step-2.result (λ p s ms x. part_again m (first s ms (closed_epochs s.gatherer ms) x) p) n.part;
       device = fails_after c.step-2.result c.args.writer.now c.step.new.writer c.step-2.new.writer c.in_ok-kind.ensures.device n.device;
       ended = n.ended;
     }
