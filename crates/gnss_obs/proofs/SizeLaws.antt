@@ -1,11 +1,11 @@
 -- The range of the values of a message.
-use Rattle.std.proofs.Common.{ℕ, ℤ, ◌≡◌, ◌^◌, ◌<◌, ◌≤◌, unsigned_abs, arith, lit≤, w64, to_z, of_z}
+use Rattle.std.proofs.Common.{ℕ, ℤ, ◌≡◌, ◌^◌, ◌<◌, ◌≤◌, unsigned_abs, arith, w64, to_z, of_z}
 use Rattle.std.proofs.lemmas.Int.{ints}
 use Rattle.gnss_system.specs.Signals.{most_hertz}
 use Rattle.std.specs.Prelude.{IfSome}
 use Rattle.gnss_system.specs.Satellites.{Satellite}
 use Rattle.gnss_obs.specs.Channels.{AreChannels, ChannelsValue, hertz_in}
-use Rattle.gnss_obs.specs.Names.{SignalAt, light, nearest_pseudorange, nearest_phase}
+use Rattle.gnss_obs.specs.Names.{SignalAt, nearest_pseudorange, nearest_phase}
 use Rattle.std.proofs.lemmas.Grind.{common_steps}
 
 -- ---- carriers
@@ -18,9 +18,8 @@ channels_within channels satellite s h = grind (arith, common_steps)
 pub cycles_small : (hertz : ℕ) (p : ℤ) → hertz ≤ most_hertz → unsigned_abs p ≤ 2 ^ 39 → unsigned_abs (nearest_phase hertz p) < 10 ^ 12
 cycles_small hertz p within h = grind (arith, common_steps)
 
--- A range is rounded as a phase range at the speed of light.
-pub metres_small : (r : ℤ) → unsigned_abs r ≤ 2 ^ 39 → unsigned_abs (nearest_pseudorange r) < 10 ^ 12
-metres_small r h = cycles_small light r (lit≤ tt) h
+pub metres_small : (r : ℤ) → unsigned_abs r ≤ 2 ^ 40 → unsigned_abs (nearest_pseudorange r) < 10 ^ 12
+metres_small r h = grind (arith, common_steps)
 
 -- ---- the arguments of a rounding
 

@@ -39,7 +39,7 @@ pub fn lock_times()
 /// The range of the values of a message: below 10^12 thousandths in size, and a strength from 1 to
 /// 99,999 thousandths.
 pub fn sizes()
-    ensures metres { (r : ℤ) → unsigned_abs r ≤ 2 ^ 39 → unsigned_abs (nearest_pseudorange r) < 10 ^ 12 }
+    ensures metres { (r : ℤ) → unsigned_abs r ≤ 2 ^ 40 → unsigned_abs (nearest_pseudorange r) < 10 ^ 12 }
     ensures carriers { (channels : ChannelsValue) (satellite : Satellite) (s : SignalAt) → AreChannels channels
         → IfSome (hertz_in channels satellite s) (λ h. h ≤ most_hertz) }
     ensures cycles { (h : ℕ) (p : ℤ) → h ≤ most_hertz → unsigned_abs p ≤ 2 ^ 39

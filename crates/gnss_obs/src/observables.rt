@@ -13,9 +13,9 @@ use crate::{Signal, Thousandths};
 const LIGHT: u32 = 299_792_458;
 
 /// Returns the pseudorange in metres from a range in units of 2^-31 ms, the sum of DF397, DF398 and
-/// DF400 or DF405 of RTCM 10403.3, at most 2^39 in size. `None` if there is no range.
+/// DF400 or DF405 of RTCM 10403.3, at most 2^40 in size. `None` if there is no range.
 pub fn pseudorange(range: Option<i64>) -> Option<Thousandths>
-    requires { ForSome range (λ r. unsigned_abs r ≤ 2 ^ 39) }
+    requires { ForSome range (λ r. unsigned_abs r ≤ 2 ^ 40) }
     ensures rounded { IsRounded (λ r. r *ℤ pos light) (2 ^ 31) range result }
     ensures value { result ≡ option_map nearest_pseudorange range }
     ensures bound { IfSome result (λ t. unsigned_abs t < 10 ^ 12) }

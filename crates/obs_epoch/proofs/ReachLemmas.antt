@@ -41,7 +41,7 @@ all_take P (suc n) (x ∷ xs) h = (h.0, all_take P n xs h.1)
 
 -- The values of measured cells are within their bounds.
 pub record AreSizes : Type 0 where
-  pub metres : (r : ℤ) → unsigned_abs r ≤ 2 ^ 39 → unsigned_abs (nearest_pseudorange r) < 10 ^ 12
+  pub metres : (r : ℤ) → unsigned_abs r ≤ 2 ^ 40 → unsigned_abs (nearest_pseudorange r) < 10 ^ 12
   pub carriers : (channels : ChannelsValue) (satellite : Satellite) (s : SignalAt) → AreChannels channels → IfSome (hertz_in channels satellite s) (λ h. h ≤ most_hertz)
   pub cycles : (h : ℕ) (p : ℤ) → h ≤ most_hertz → unsigned_abs p ≤ 2 ^ 39 → unsigned_abs (nearest_phase h p) < 10 ^ 12
   pub shift : (h : ℕ) (v : ℤ) → h ≤ most_hertz → unsigned_abs v ≤ 10 ^ 8 → unsigned_abs (nearest_doppler h v) < 10 ^ 12

@@ -200,7 +200,7 @@ static RATES_AND_STRENGTHS: [(Observed, i64); 12] = [
 
 fn rounded(observed: &Observed) -> Option<Thousandths> {
     match observed {
-        Observed::Range(range) if range.unsigned_abs() <= 1 << 39 => pseudorange(Some(*range)),
+        Observed::Range(range) if range.unsigned_abs() <= 1 << 40 => pseudorange(Some(*range)),
         Observed::Phase(range) if range.unsigned_abs() <= 1 << 39 => {
             phase(Some(*range), Signal::from_code(System::Gps, "1C")?)
         }
