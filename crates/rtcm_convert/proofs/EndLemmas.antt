@@ -46,7 +46,6 @@ module _ {W : Type 0} {c : W → Option (List ℕ)} {v v' : FramerValue} {w w' :
         taken = taken ∙ t;
         within = omega (arith, t, l, limit);
         drained = subst (λ (l : List Framed). IsDrained v' bytes l) (ap (λ h. known_frames h bytes) after) a.drained;
-        counted = a.counted;
         gathered = q.3;
       }
 

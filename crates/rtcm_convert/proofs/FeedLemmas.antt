@@ -68,7 +68,7 @@ module _ {failed over : Bool} {v v' : FramerValue} {w w' : FileWriter} {a b : Op
   finished : (s : SetupValue) (bytes : List ℕ) → HasConverted (with_flags failed over v w) s bytes → HasFinished (with_flags failed true v' w') s bytes
   finished s bytes h =
       let p = ends s bytes h.drained in
-      record { ended = p.over; taken = p.taken; within = p.within; drained = p.drained; counted = p.counted; gathered = p.gathered }
+      record { ended = p.over; taken = p.taken; within = p.within; drained = p.drained; gathered = p.gathered }
 
   pub finishes_empty : {fault : Fault} → (fault ≡ fault_of_none w'.gatherer.counts) × (w'.epochs ≡ 0) → FinishesEmptyNow (with_flags failed over v w) (with_flags failed true v' w') n a b fault
   finishes_empty none s bytes h =

@@ -63,7 +63,7 @@ pub use Rattle.rtcm_msg.specs.declared.number.MsmSet.{MsmSet}
 unfoldable pub use Rattle.rtcm_scan.specs.Decided.{decided_frames, frames_before}
 pub use Rattle.rtcm_scan.specs.Decided.{skipped_before}
 pub use Rattle.rtcm_scan.specs.Drained.{IsDrained}
-pub use Rattle.rtcm_scan.specs.Examined.{HasExamined, HasExaminedSome, IsCountedExactly}
+pub use Rattle.rtcm_scan.specs.Examined.{HasExamined, HasExaminedSome}
 unfoldable pub use Rattle.rtcm_scan.specs.Frames.{frames_from, frames_of}
 pub use Rattle.rtcm_scan.specs.Frames.{Framed}
 pub use Rattle.rtcm_scan.specs.Known.{known_frames, known_place}

@@ -40,11 +40,10 @@ module _ {W : Type 0} (c : W → Option (List ℕ)) where
   passed_here v w o b d = record {
     passed = record { framer = d.framer; taken = files_self w o (known_frames v.has_ended b) };
     drained = d.drained;
-    counted = d.counted;
   }
 
   scan_of : (v : FramerValue) (w : FileWriter) (s : SetupValue) (b : List ℕ) → Drained v w s b → HasDrained v b
-  scan_of v w s b d = record { framer = d.framer; drained = d.drained; counted = d.counted }
+  scan_of v w s b d = record { framer = d.framer; drained = d.drained }
 
   -- a piece was accepted
   pub piece_whole : {v v' : FramerValue} {w w' : FileWriter} {o o' : Device W} (piece : List ℕ) → v.has_ended ≡ false → v'.has_ended ≡ false → Passes (Files c) v w o v' w' o' piece
@@ -52,7 +51,7 @@ module _ {W : Type 0} (c : W → Option (List ℕ)) where
   piece_whole {v} {v'} {w} {o = o} {o'} piece before after k s bytes d =
       let p = k w o (known_frames v.has_ended bytes) bytes (passed_here v w o bytes (scan_of v w s bytes d)) in
       let q = p.passed.taken.files s d.file_writer in (
-        record { framer = p.passed.framer; drained = p.drained; counted = p.counted; file_writer = q.0 },
+        record { framer = p.passed.framer; drained = p.drained; file_writer = q.0 },
         subst (λ (e : Bool). AppendsBetween (c o.inner) (c o'.inner) (so_far s (decided_frames bytes)) (so_far s (known_frames e (bytes ++ piece)))) after
             (subst (λ (e : Bool). AppendsBetween (c o.inner) (c o'.inner) (so_far s (known_frames e bytes)) (so_far s (known_frames v'.has_ended (bytes ++ piece)))) before q.1),
       )
@@ -70,7 +69,7 @@ module _ {W : Type 0} (c : W → Option (List ℕ)) where
       → HasDrainedSome v' × (o'.failures ≡ o.failures) × (o'.widest ≡ o.widest)
   piece_fine {v} {w = w} {o = o} piece k d =
       let p = k w o (known_frames v.has_ended d.0) d.0 (passed_here v w o d.0 d.1) in
-      ((d.0 ++ piece, record { framer = p.passed.framer; drained = p.drained; counted = p.counted }), p.passed.taken.fine, p.passed.taken.widest)
+      ((d.0 ++ piece, record { framer = p.passed.framer; drained = p.drained }), p.passed.taken.fine, p.passed.taken.widest)
 
   pub piece_failed : {v : FramerValue} {w w' : FileWriter} {o o' : Device W} (piece : List ℕ) → Breaks (Files c) (BreaksFiling c) v w o w' o' piece → HasDrainedSome v
       → HasFailed o.failures o'.failures × (o'.widest ≡ o.widest)

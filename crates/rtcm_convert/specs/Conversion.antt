@@ -15,7 +15,7 @@ use Rattle.rtcm_convert.specs.Kept.{IsWithinBounds, IsKeptNow, IsKeptAtEnd}
 use Rattle.rtcm_convert.specs.declared.converter.Kept.{Kept}
 use Rattle.rtcm_convert.specs.Filed.{HasGathered}
 use Rattle.rtcm_convert.specs.Outcomes.{report_of}
-use Rattle.rtcm_scan.specs.Examined.{HasExaminedSome, IsCountedExactly}
+use Rattle.rtcm_scan.specs.Examined.{HasExaminedSome}
 use Rattle.rtcm_convert.specs.Stream.{Drained, HasDrainedSome, AppendsDecided, AppendsPrefixOfDecided, AppendsRest}
 use Rattle.rtcm_convert.specs.Stream.{AppendsPrefixOfRest}
 use Rattle.rtcm_convert.specs.declared.file_writer.FileWriter.{FileWriter}
@@ -63,7 +63,6 @@ pub record HasFinished (v : Conversion) (s : SetupValue) (b : List ℕ) : Type 0
   pub taken : v.scan.taken ≡ length b
   pub within : length b ≤ v.scan.limit
   pub drained : IsDrained v.scan b (frames_of b)
-  pub counted : IsCountedExactly v.scan b
   pub gathered : HasGathered v.file_writer s (frames_of b)
 
 -- what a converter holds and has examined

@@ -5,7 +5,7 @@ use Rattle.rtcm_scan.specs.Frames.{Framed, frames_of}
 use Rattle.rtcm_scan.specs.Decided.{decided_frames}
 use Rattle.rtcm_scan.specs.Known.{known_frames}
 use Rattle.rtcm_scan.specs.Scan.{FramerValue}
-use Rattle.rtcm_scan.specs.Examined.{HasExamined, IsCountedExactly}
+use Rattle.rtcm_scan.specs.Examined.{HasExamined}
 use Rattle.rtcm_scan.specs.Drained.{IsDrained}
 use Rattle.rtcm_convert.specs.Converted.{SetupValue, so_far, file, epoch_counts, epochs_in}
 use Rattle.rtcm_convert.specs.Fed.{AppendsBetween, AppendsPrefixBetween, AppendsUpTo}
@@ -17,14 +17,12 @@ use Rattle.rtcm_convert.specs.declared.file_writer.FileWriter.{FileWriter}
 pub record Drained (v : FramerValue) (w : FileWriter) (s : SetupValue) (b : List ℕ) : Type 0 where
   pub framer : HasExamined v b (known_frames v.has_ended b)
   pub drained : IsDrained v b (known_frames v.has_ended b)
-  pub counted : IsCountedExactly v b
   pub file_writer : HasFiledFrames w s (known_frames v.has_ended b)
 
 -- b was accepted and examined, and all known frames were passed on
 pub record HasDrained (v : FramerValue) (b : List ℕ) : Type 0 where
   pub framer : HasExamined v b (known_frames v.has_ended b)
   pub drained : IsDrained v b (known_frames v.has_ended b)
-  pub counted : IsCountedExactly v b
 
 -- the same for some bytes
 abbrev pub HasDrainedSome : FramerValue → Type 0
@@ -80,7 +78,6 @@ pub record IsEnded (v : FramerValue) (w : FileWriter) (a b : Option (List ℕ)) 
   pub taken : v.taken ≡ length bytes
   pub within : length bytes ≤ v.limit
   pub drained : IsDrained v bytes (frames_of bytes)
-  pub counted : IsCountedExactly v bytes
   pub gathered : HasGathered w s (frames_of bytes)
 
 -- the same for all bytes accepted before

@@ -95,7 +95,7 @@ pub use Rattle.rtcm_msg.specs.declared.number.MsmSet.{MsmSet}
 pub use Rattle.rtcm_msg.specs.declared.view.Form.{Form}
 pub use Rattle.rtcm_scan.specs.Decided.{decided_frames}
 pub use Rattle.rtcm_scan.specs.Drained.{IsDrained}
-pub use Rattle.rtcm_scan.specs.Examined.{HasExamined, IsCountedExactly}
+pub use Rattle.rtcm_scan.specs.Examined.{HasExamined}
 pub use Rattle.rtcm_scan.specs.Frames.{AreFrames, Framed, frames_of}
 pub use Rattle.rtcm_scan.specs.Known.{known_frames}
 pub use Rattle.rtcm_scan.specs.Local.{placed}

@@ -3,10 +3,11 @@ use Rattle.rtcm_scan.proofs.Names.{ℕ, ◌≡◌, ◌+◌, ◌<◌, true, false
 use Rattle.rtcm_scan.proofs.ScanLemmas.{scanned_all}
 use Rattle.rtcm_scan.proofs.DecidedLemmas.{decided_is, decided_frames_are}
 use Rattle.rtcm_scan.proofs.SkippedLemmas.{given_up_is}
+use Rattle.rtcm_scan.proofs.KnownLemmas.{AreKnownCounts}
 
 -- everything is decided if nothing is held, or if the held bytes are open
-pub drained_ended : (v : FramerValue) (b : List ℕ) (fs : List Framed) → v.has_ended ≡ true → v.held ≡ [] → HasFramed v b fs → IsDrained v b fs
-drained_ended v b fs e h s =
+pub drained_ended : (v : FramerValue) (b : List ℕ) (fs : List Framed) → v.has_ended ≡ true → v.held ≡ [] → HasFramed v b fs → AreKnownCounts v b → IsDrained v b fs
+drained_ended v b fs e h s n =
     let l : length v.held ≡ 0 = ap length h in
     let p : first_held v ≡ length b = omega arith in
     let c : Scanned v.has_ended b 0 (length b) fs = (let k = s.scanned in rw p at k) in
@@ -15,7 +16,9 @@ drained_ended v b fs e h s =
       frames = rw e (sym (scanned_all v.has_ended b fs c));
       held = rw (e, h) (sym (drop_all (length b) b (omega arith)));
       skipped = rw e (let g = given_up_is v.has_ended b (length b) fs (omega arith) c in omega (arith, g, k, p));
+      examined = n.0;
+      most = n.1;
     }
 
-pub drained_waiting : (v : FramerValue) (b : List ℕ) (fs : List Framed) → v.has_ended ≡ false → (0 < length v.held → is_open v.held ≡ true) → HasFramed v b fs → IsDrained v b fs
-drained_waiting v b fs e h s = grind (arith, decided_is, decided_frames_are, given_up_is)
+pub drained_waiting : (v : FramerValue) (b : List ℕ) (fs : List Framed) → v.has_ended ≡ false → (0 < length v.held → is_open v.held ≡ true) → HasFramed v b fs → AreKnownCounts v b → IsDrained v b fs
+drained_waiting v b fs e h s n = grind (arith, decided_is, decided_frames_are, given_up_is)

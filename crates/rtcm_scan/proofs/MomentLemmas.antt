@@ -1,5 +1,5 @@
 -- What holds at every moment.
-use Rattle.rtcm_scan.proofs.Names.{ℕ, ◌≡◌, ◌*◌, ◌≤◌, true, false, List, [], length, refl, arith, Framed, frames_of, frames_from, WindowValue, nothing_held, FramerValue, scan_of, HasFramed, first_held, new_scan, places, tried, decided, decided_frames, frames_before, IsDrained, greatest_below, spans_now, looks_at, spans_at, tried_before, HasExamined, IsCountedExactly, longest_frame, most_looks, most_bytes}
+use Rattle.rtcm_scan.proofs.Names.{ℕ, ◌≡◌, ◌*◌, ◌≤◌, true, false, List, [], length, refl, arith, Framed, frames_of, frames_from, WindowValue, nothing_held, FramerValue, scan_of, HasFramed, first_held, new_scan, places, tried, decided, decided_frames, frames_before, IsDrained, greatest_below, spans_now, looks_at, spans_at, tried_before, HasExamined, longest_frame, most_looks, most_bytes}
 use Rattle.rtcm_scan.proofs.BoundLemmas.{looks_bound, all_bound, greatest_bound}
 use Rattle.rtcm_scan.proofs.HistoryLemmas.{history_end, history_from}
 use Rattle.rtcm_scan.proofs.ScanLemmas.{scanned_none}
@@ -28,9 +28,5 @@ pub counts_new : (limit tried : ℕ) (w : WindowValue) → limit ≤ most_bytes 
 counts_new limit tried w h e z = rw (e, z) (counts_empty limit h (history_new limit))
 
 pub drained_new : (limit tried : ℕ) (w : WindowValue) → w ≡ nothing_held → IsDrained (scan_of limit 0 w false true 0 tried) [] []
-unfolding decided decided_frames frames_of frames_before frames_from places
-drained_new limit tried w e = rw e (record { frames = refl; held = refl; skipped = refl })
-
-pub counted_new : (limit tried : ℕ) (w : WindowValue) → w ≡ nothing_held → IsCountedExactly (scan_of limit 0 w false true 0 tried) []
 unfolding spans_now tried decided decided_frames frames_of frames_before frames_from places greatest_below
-counted_new limit tried w e = rw e (record { examined = refl; most = refl })
+drained_new limit tried w e = rw e (record { frames = refl; held = refl; skipped = refl; examined = refl; most = refl })

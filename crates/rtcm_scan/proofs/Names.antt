@@ -7,8 +7,8 @@ pub use Rattle.rtcm_bits.specs.Window.{WindowValue, looked, looked_through, noth
 pub use Rattle.rtcm_scan.specs.Candidate.{HasTaken, wanted_by}
 unfoldable pub use Rattle.rtcm_scan.specs.Decided.{decided, decided_frames, frames_before, is_tried, places, tried}
 pub use Rattle.rtcm_scan.specs.Decided.{cost, is_inside, is_within, most_undecided, skipped_before}
-pub use Rattle.rtcm_scan.specs.Drained.{IsDrained}
-pub use Rattle.rtcm_scan.specs.Examined.{HasExamined, HasExaminedSome, IsCountedExactly, IsCountedTo}
+pub use Rattle.rtcm_scan.specs.Drained.{IsDrained, known_examined, known_most}
+pub use Rattle.rtcm_scan.specs.Examined.{AcceptsBytes, HasExamined, HasExaminedSome, IsCountedTo, KeepsHistory}
 unfoldable pub use Rattle.rtcm_scan.specs.Frame.{begins_frame, is_open}
 pub use Rattle.rtcm_scan.specs.Frame.{frame_length, framed_message, has_preamble, message_length, sent_check}
 unfoldable pub use Rattle.rtcm_scan.specs.Frames.{frames_from, frames_of}

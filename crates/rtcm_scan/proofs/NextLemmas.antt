@@ -1,27 +1,18 @@
 -- The state after the steps of `next`.
-use Rattle.rtcm_scan.proofs.Names.{ℕ, ◌≡◌, ◌+◌, ◌-◌, ◌<◌, ◌≤◌, true, false, List, [], ◌∷◌, ◌++◌, length, drop, refl, sym, ap, ◌∙◌, arith, subst, length-drop, nil_from_length, begins_frame, is_open, frame_length, framed_message, Framed, WindowValue, looked_through, without_front, FramerValue, HasFramed, first_held, IsPassed, window_of, with_window, with_looks, asked, with_candidate_examined, passed, HasExamined, IsCountedExactly, IsCountedTo, message_length, IsDrained}
+use Rattle.rtcm_scan.proofs.Names.{ℕ, ◌≡◌, ◌+◌, ◌-◌, ◌<◌, ◌≤◌, true, false, List, [], ◌∷◌, ◌++◌, length, refl, sym, ap, ◌∙◌, arith, subst, length-drop, nil_from_length, begins_frame, is_open, frame_length, framed_message, Framed, looked_through, without_front, FramerValue, HasFramed, first_held, IsPassed, window_of, with_window, asked, with_candidate_examined, passed, HasExamined, IsCountedTo, message_length, IsDrained}
 use Rattle.rtcm_bits.proofs.WindowLemmas.{looked_bytes}
 use Rattle.rtcm_scan.proofs.StepLemmas.{step_examined, step_give_up, step_take}
-use Rattle.rtcm_scan.proofs.KnownLemmas.{counted_empty, counted_open, counted_frame}
+use Rattle.rtcm_scan.proofs.KnownLemmas.{AreKnownCounts, counted_empty, counted_open, counted_frame}
 use Rattle.rtcm_scan.proofs.FrameLemmas.{length-message, begins_parts}
 use Rattle.rtcm_scan.proofs.DecidedLemmas.{none_past}
-use Rattle.rtcm_scan.proofs.HistoryLemmas.{history_give_up, history_take, history_ready}
+use Rattle.rtcm_scan.proofs.HistoryLemmas.{history_ready}
 use Rattle.rtcm_scan.proofs.DrainedLemmas.{drained_ended, drained_waiting}
-
--- other counts don't change what a framer has accepted
-pub history_looks : (v : FramerValue) (w : WindowValue) (t : ℕ) (b : List ℕ) (fs : List Framed) → HasFramed v b fs → HasFramed (with_looks v w t) b fs
-history_looks v w t b fs s = record { taken = s.taken; held = s.held; fits = s.fits; scanned = s.scanned; first = s.first; skipped = s.skipped }
 
 -- the state after take_frame
 abbrev frame_taken : FramerValue → ℕ → FramerValue
 frame_taken u size = with_window u (without_front (looked_through (window_of u) 3 (size - 6)) size) 0
 
-pub step_passed : {u w : FramerValue} {b : List ℕ} {fs : List Framed} (v : FramerValue) → u ≡ with_candidate_examined v → w ≡ passed u → 0 < length v.held → IsPassed v.has_ended v.held
-    → HasFramed v b fs → HasFramed w b fs
-step_passed {b} {fs} v e f h p s =
-    let r = history_give_up v b fs h p s in
-    rw (f, e) (record { taken = r.taken; held = r.held; fits = r.fits; scanned = r.scanned; first = r.first; skipped = r.skipped })
-
+-- the byte at the front is in no frame
 pub counts_passed : {u w : FramerValue} {b : List ℕ} {fs : List Framed} (v : FramerValue) → u ≡ with_candidate_examined v → w ≡ passed u → 0 < length v.held → IsPassed v.has_ended v.held → v.tried ≤ asked v.held
     → HasExamined v b fs → HasExamined w b fs
 counts_passed {b} {fs} v e f h p t x = rw (f, e) (step_give_up (with_candidate_examined v) b fs h refl p (step_examined v b fs t x))
@@ -37,16 +28,6 @@ found_counts v u b fs e t x = rw e (step_examined v b fs t x)
 abbrev pub found : FramerValue → Framed
 found v = record { offset = first_held v; message = framed_message v.held }
 
--- the frame at the front is returned
-pub step_found : {w : FramerValue} {b : List ℕ} {fs : List Framed} {size : ℕ} {f : Framed} (v : FramerValue) → w ≡ frame_taken v size → size ≡ frame_length v.held → begins_frame v.held ≡ true
-    → f ≡ found v → HasFramed v b fs → HasFramed w b (fs ++ f ∷ [])
-step_found {w} {b} {fs} v g z h x s =
-    let n = history_take v b fs h s in
-    let d : drop (frame_length v.held) (looked_through (window_of v) 3 (frame_length v.held - 6)).bytes ≡ drop (frame_length v.held) v.held =
-    ap (drop (frame_length v.held)) (looked_bytes (window_of v) 3 (frame_length v.held - 6)) in
-    rw (g, z, x) (subst (λ (r : List ℕ). HasFramed (record (frame_taken v (frame_length v.held)) { held = r }) b (fs ++ found v ∷ [])) (sym d)
-    (record { taken = n.taken; held = n.held; fits = n.fits; scanned = n.scanned; first = n.first; skipped = n.skipped }))
-
 pub left_found : (v w : FramerValue) (size : ℕ) → w ≡ frame_taken v size → length w.held ≡ length v.held - size
 left_found v w size g = ap (λ (y : FramerValue). length y.held) g ∙ length-drop size _ ∙ ap (λ q. length q - size) (looked_bytes (window_of v) 3 (size - 6))
 
@@ -56,6 +37,7 @@ less_found v w size g z h =
     let l : length w.held ≡ length v.held - size = left_found v w size g in
     omega arith
 
+-- the frame at the front is returned
 pub counts_found : {w : FramerValue} {b : List ℕ} {fs : List Framed} {size : ℕ} {f : Framed} (v : FramerValue) → w ≡ frame_taken v size → size ≡ frame_length v.held → begins_frame v.held ≡ true
     → f ≡ found v → v.tried ≡ asked v.held → HasExamined v b fs → HasExamined w b (fs ++ f ∷ []) × IsCountedTo w b f.offset (fs ++ f ∷ [])
 counts_found {w} {b} {fs} v g z h y t x =
@@ -75,22 +57,22 @@ counts_found {w} {b} {fs} v g z h y t x =
     let tr : w.tried ≡ 0 = ap (λ (y : FramerValue). y.tried) (sym k) in
     rw y (r', counted_frame w b fs (found v) i tr (none_past v.has_ended b 0 (first_held v) fs s.scanned) r')
 
-finish : (d w : FramerValue) (b : List ℕ) (fs : List Framed) → w ≡ record d { is_ready = true } → HasFramed d b fs → IsDrained d b fs → HasFramed w b fs × IsDrained w b fs
-finish d w b fs f s r = rw f (history_ready d b fs true s, record { frames = r.frames; held = r.held; skipped = r.skipped })
+-- marked as drained
+finish : (d w : FramerValue) (b : List ℕ) (fs : List Framed) → w ≡ record d { is_ready = true } → HasExamined d b fs → IsDrained d b fs → HasExamined w b fs × IsDrained w b fs
+finish d w b fs f x r = rw f (
+  record { history = history_ready d b fs true x.history; limit = x.limit; within = x.within; each = x.each; tried = x.tried; counts = x.counts },
+  record { frames = r.frames; held = r.held; skipped = r.skipped; examined = r.examined; most = r.most },
+)
 
-counts_finish : (d w : FramerValue) (b : List ℕ) (fs : List Framed) → w ≡ record d { is_ready = true } → HasExamined d b fs → IsCountedExactly d b → HasExamined w b fs × IsCountedExactly w b
-counts_finish d w b fs f x r = rw f (record { history = history_ready d b fs true x.history; limit = x.limit; within = x.within; each = x.each; tried = x.tried; counts = x.counts }, record { examined = r.examined; most = r.most })
+pub finish_empty : {v d w : FramerValue} {b : List ℕ} {fs : List Framed} → d ≡ v → w ≡ record d { is_ready = true } → length v.held ≡ 0 → HasExamined v b fs → HasExamined w b fs × IsDrained w b fs
+finish_empty {v} {d} {w} {b} {fs} e f h x =
+    let x' : HasExamined d b fs = rw e x in
+    let l : length d.held ≡ 0 = ap (λ (y : FramerValue). length y.held) e ∙ h in
+    finish d w b fs f x' (drained_empty d b fs l x'.history (counted_empty d b fs l x'))
+  where
+    drained_empty : (d : FramerValue) (b : List ℕ) (fs : List Framed) → length d.held ≡ 0 → HasFramed d b fs → AreKnownCounts d b → IsDrained d b fs
+    drained_empty d b fs l s n = grind (arith, nil_from_length, drained_ended, drained_waiting)
 
-pub finish_empty : {v d w : FramerValue} {b : List ℕ} {fs : List Framed} → d ≡ v → w ≡ record d { is_ready = true } → length v.held ≡ 0 → HasFramed v b fs → HasFramed w b fs × IsDrained w b fs
-finish_empty {d} {w} {b} {fs} e f h s = grind (arith, nil_from_length, drained_ended, drained_waiting)
-
-pub counts_empty : {v d w : FramerValue} {b : List ℕ} {fs : List Framed} → d ≡ v → w ≡ record d { is_ready = true } → length v.held ≡ 0 → HasExamined v b fs → HasExamined w b fs × IsCountedExactly w b
-counts_empty {d} {w} {b} {fs} e f h x = let x' : HasExamined d b fs = rw e x in counts_finish d w b fs f x' (counted_empty d b fs (ap (λ (y : FramerValue). length y.held) e ∙ h) x')
-
-pub finish_open : {v u d w : FramerValue} {b : List ℕ} {fs : List Framed} → u ≡ with_candidate_examined v → d ≡ u → w ≡ record d { is_ready = true } → v.has_ended ≡ false → is_open v.held ≡ true
-    → HasFramed v b fs → HasFramed w b fs × IsDrained w b fs
-finish_open {v} {d} {w} {b} {fs} e g f t o s = grind (arith, drained_waiting)
-
-pub counts_open : {v u d w : FramerValue} {b : List ℕ} {fs : List Framed} → u ≡ with_candidate_examined v → d ≡ u → w ≡ record d { is_ready = true } → v.has_ended ≡ false → 0 < length v.held → is_open v.held ≡ true → v.tried ≤ asked v.held
-    → HasExamined v b fs → HasExamined w b fs × IsCountedExactly w b
-counts_open {v} {d} {w} {b} {fs} e g f t l o k x = grind (arith, step_examined, counted_open)
+pub finish_open : {v u d w : FramerValue} {b : List ℕ} {fs : List Framed} → u ≡ with_candidate_examined v → d ≡ u → w ≡ record d { is_ready = true } → v.has_ended ≡ false → 0 < length v.held → is_open v.held ≡ true → v.tried ≤ asked v.held
+    → HasExamined v b fs → HasExamined w b fs × IsDrained w b fs
+finish_open {v} {d} {w} {b} {fs} e g f t l o k x = grind (arith, step_examined, counted_open, drained_waiting)

@@ -1,8 +1,8 @@
 -- Bytes that begin no frame are dropped together, as if one by one.
-use Rattle.rtcm_scan.proofs.Names.{ℕ, ◌≡◌, ◌≢◌, ◌+◌, ◌-◌, ◌<◌, ◌≤◌, min, Bool, false, List, [], ◌∷◌, length, take, drop, get_or, refl, sym, ap, ◌∙◌, arith, suc, zero, slice_index, subst, drop-drop, length-drop, get_or-drop, ne_eqb, WindowValue, looked_through, without_front, has_preamble, Candidate, HasTaken, Framed, FramerValue, HasFramed, IsPassed, scan_of, window_of, with_window, with_looks, with_candidate_examined, passed, HasExamined, preamble}
+use Rattle.rtcm_scan.proofs.Names.{ℕ, ◌≡◌, ◌≢◌, ◌+◌, ◌-◌, ◌<◌, ◌≤◌, min, Bool, false, List, [], ◌∷◌, length, take, drop, get_or, refl, sym, ap, ◌∙◌, arith, suc, zero, slice_index, subst, drop-drop, length-drop, get_or-drop, ne_eqb, WindowValue, looked_through, without_front, has_preamble, Candidate, HasTaken, Framed, FramerValue, IsPassed, scan_of, window_of, with_window, with_looks, with_candidate_examined, passed, HasExamined, preamble}
 use Rattle.rtcm_scan.proofs.FrameLemmas.{none_without}
 use Rattle.rtcm_scan.proofs.CandidateLemmas.{taken_more}
-use Rattle.rtcm_scan.proofs.NextLemmas.{step_passed, counts_passed, history_looks}
+use Rattle.rtcm_scan.proofs.NextLemmas.{counts_passed}
 use Rattle.rtcm_scan.proofs.HistoryLemmas.{view_dropped}
 use Rattle.rtcm_bits.proofs.WindowLemmas.{looked_bytes, looked_left, looked_on, looked_past, looked_to}
 use Rattle.rtcm_scan.proofs.StepLemmas.{step_examined_to}
@@ -33,28 +33,17 @@ one_more v n e h k = grind (arith, front_once)
 all_passed : (s : List ℕ) (e : Bool) → has_preamble s ≡ false → IsPassed e s
 all_passed s e h = let n = none_without s h in record { none = n.0; closed = λ r. n.1 }
 
-over_each : (P : FramerValue → Type 0)
-    → ((v : FramerValue) → v.tried ≡ 0 → 0 < length v.held → IsPassed v.has_ended v.held → P v → P (passed (with_candidate_examined v)))
-    → (n : ℕ) {v : FramerValue} → v.tried ≡ 0 → n ≤ length v.held → ((i : ℕ) → i < n → slice_index v.held i ≢ preamble) → P v → P (passed_over v n)
-over_each P one zero {v} e l o s = rw (none_over v e) s
-over_each P one (suc n) {v} e l o s =
+pub over_counts : (v : FramerValue) (n : ℕ) (b : List ℕ) (fs : List Framed) → v.tried ≡ 0 → n ≤ length v.held → ((i : ℕ) → i < n → slice_index v.held i ≢ preamble) → HasExamined v b fs → HasExamined (passed_over v n) b fs
+over_counts v zero b fs e l o s = rw (none_over v e) s
+over_counts v (suc n) b fs e l o s =
     let h : has_preamble v.held ≡ false = ne_eqb (slice_index v.held 0) preamble (o 0 (omega arith)) in
     let k : 0 < length v.held = omega (arith, l) in
-    rw (one_more v n e h k) (over_each P one n refl (omega (arith, l, length-drop 1 v.held))
-    (λ i j q. o (1 + i) (omega (arith, j)) (sym (get_or-drop 1 v.held i 0) ∙ q)) (one v e k (all_passed v.held v.has_ended h) s))
-
-pub over_history : (v : FramerValue) (n : ℕ) (b : List ℕ) (fs : List Framed) → v.tried ≡ 0 → n ≤ length v.held → ((i : ℕ) → i < n → slice_index v.held i ≢ preamble) → HasFramed v b fs → HasFramed (passed_over v n) b fs
-over_history v n b fs = over_each (λ v. HasFramed v b fs) (λ v e k p s. step_passed v refl refl k p s) n
-
-pub over_counts : (v : FramerValue) (n : ℕ) (b : List ℕ) (fs : List Framed) → v.tried ≡ 0 → n ≤ length v.held → ((i : ℕ) → i < n → slice_index v.held i ≢ preamble) → HasExamined v b fs → HasExamined (passed_over v n) b fs
-over_counts v n b fs = over_each (λ v. HasExamined v b fs) (λ v e k p s. counts_passed v refl refl k p (omega (arith, e)) s) n
+    rw (one_more v n e h k) (over_counts (passed (with_candidate_examined v)) n b fs refl (omega (arith, l, length-drop 1 v.held))
+    (λ i j q. o (1 + i) (omega (arith, j)) (sym (get_or-drop 1 v.held i 0) ∙ q)) (counts_passed v refl refl k (all_passed v.held v.has_ended h) (omega (arith, e)) s))
 
 -- a framer that passed over n bytes, and whose next candidate was examined up to k bytes
 abbrev pub passed_to : FramerValue → ℕ → ℕ → FramerValue
 passed_to v n k = with_looks (passed_over v n) (looked_through (window_of (passed_over v n)) 0 k) k
-
-pub to_history : {n : ℕ} {b : List ℕ} {fs : List Framed} (v : FramerValue) (k : ℕ) → v.tried ≡ 0 → n ≤ length v.held → ((i : ℕ) → i < n → slice_index v.held i ≢ preamble) → HasFramed v b fs → HasFramed (passed_to v n k) b fs
-to_history {n} {b} {fs} v k e l o s = history_looks (passed_over v n) (looked_through (window_of (passed_over v n)) 0 k) k b fs (over_history v n b fs e l o s)
 
 pub to_counts : {n : ℕ} {b : List ℕ} {fs : List Framed} (v : FramerValue) (k : ℕ) → v.tried ≡ 0 → n ≤ length v.held → ((i : ℕ) → i < n → slice_index v.held i ≢ preamble) → k ≡ min 1 (length v.held - n)
     → HasExamined v b fs → HasExamined (passed_to v n k) b fs

@@ -1,5 +1,5 @@
 -- Frames that are passed to a sink, piece by piece.
-use Rattle.rtcm_scan.proofs.Names.{◌≡◌, ℕ, ◌+◌, ◌-◌, ◌<◌, ◌≤◌, Bool, true, false, List, [], ◌∷◌, ◌++◌, ◌∙◌, ap, sym, refl, arith, length, take, drop, append_assoc, append-nil, subst, take-append-drop, length-drop, slice_range, length-take, ⊎_elim, cases_lt, take-add, IsPrefix, Framed, frames_of, known_frames, FramerValue, with_bytes, HasExamined, Coming, Breaking, HasPassed, HasPassedAll, PassesKnown, BreaksKnown, Passes, Breaks, Continues, IsSameStream}
+use Rattle.rtcm_scan.proofs.Names.{◌≡◌, ℕ, ◌+◌, ◌-◌, ◌<◌, ◌≤◌, Bool, true, false, List, [], ◌∷◌, ◌++◌, ◌∙◌, ap, sym, refl, arith, length, take, drop, append_assoc, append-nil, subst, take-append-drop, length-drop, slice_range, length-take, ⊎_elim, cases_lt, take-add, IsPrefix, Framed, frames_of, known_frames, FramerValue, with_bytes, AcceptsBytes, HasExamined, Coming, Breaking, HasPassed, HasPassedAll, PassesKnown, BreaksKnown, Passes, Breaks, Continues, IsSameStream}
 use Rattle.std.specs.Prelude.{Result, Ok, Err, IfOk, OnErr, MatchResult}
 use Rattle.std.specs.Result.{IsErrAnd}
 use Rattle.rtcm_scan.proofs.PrefixLemmas.{stays_decided}
@@ -58,7 +58,7 @@ continues_same {v} {v1} {v2} {n} k within ended same = grind arith
 
 -- a block was accepted
 pub continues_block : {v v1 v2 : FramerValue} {n m : ℕ} (xs : List ℕ) → length xs ≡ m → Continues v v1 n → v2 ≡ with_bytes v1 xs → v2.taken ≤ v2.limit
-    → ((b : List ℕ) (fs : List Framed) → HasExamined v1 b fs → HasExamined v2 (b ++ xs) fs) → Continues v v2 (n + m)
+    → AcceptsBytes v1 v2 xs → Continues v v2 (n + m)
 continues_block {v} {v1} {v2} {n} xs size k push within counts = grind arith
 
 module _ {S O : Type 0} (took : Coming S O) where
@@ -74,7 +74,7 @@ module _ {S O : Type 0} (took : Coming S O) where
 
   -- a block after the first n bytes of a piece was accepted
   pub part_pushed : {v v1 v2 : FramerValue} {s s1 : S} {o o1 : O} (piece : List ℕ) (n m : ℕ) → (v.has_ended ≡ true → length piece ≡ 0) → v1.has_ended ≡ v.has_ended
-      → Passes took v s o v1 s1 o1 (take n piece) → ((b : List ℕ) (fs : List Framed) → HasExamined v1 b fs → HasExamined v2 (b ++ slice_range piece n (n + m)) fs)
+      → Passes took v s o v1 s1 o1 (take n piece) → AcceptsBytes v1 v2 (slice_range piece n (n + m))
       → PassesPart v s o v2 s1 o1 (take (n + m) piece)
   part_pushed {v} {v1} {v2} piece n m going same p counts s0 o0 ps b x =
       let e : Bool = v.has_ended in

@@ -6,7 +6,7 @@ use Rattle.std.specs.Io.KnownBytes.{Consumes, IsAtEnd}
 use Rattle.rtcm_bits.specs.Prefix.{IsPrefix}
 use Rattle.rtcm_scan.specs.Frames.{Framed}
 use Rattle.rtcm_scan.specs.Drained.{IsDrained}
-use Rattle.rtcm_scan.specs.Examined.{HasExamined, HasExaminedSome, IsCountedExactly}
+use Rattle.rtcm_scan.specs.Examined.{HasExamined, HasExaminedSome}
 use Rattle.rtcm_bits.specs.FrameOf.{longest_frame}
 use Rattle.rtcm_scan.specs.Decided.{decided}
 use Rattle.rtcm_scan.specs.Known.{known_frames}
@@ -33,7 +33,6 @@ pub record HasPassedAll {S O : Type 0} (took : Coming S O) (v : FramerValue) (s0
     (s : S) (o : O) (b : List ℕ) : Type 0 where
   pub passed : HasPassed took v s0 o0 ps s o b (known_frames v.has_ended b)
   pub drained : IsDrained v b (known_frames v.has_ended b)
-  pub counted : IsCountedExactly v b
 
 -- The sink failed: it processed at least the frames `least`, and at most the known frames of b.
 pub record HasBroken {S O : Type 0} (broke : Breaking S O) (ended : Bool) (s0 : S) (o0 : O) (ps : List Framed) (s : S)

@@ -99,10 +99,6 @@ pub record HasFramed (v : FramerValue) (b : List ℕ) (fs : List Framed) : Type 
   pub first : IsPrefix fs (known_frames v.has_ended b)
   pub skipped : v.skipped + sum_by (λ f. length f.message + 6) fs ≡ first_held v
 
--- for all bytes accepted and frames returned before, it has returned this frame after them
-abbrev pub ReturnsFrame : FramerValue → FramerValue → Framed → Type 0
-ReturnsFrame old new f = (b : List ℕ) (fs : List Framed) → HasFramed old b fs → HasFramed new b (fs ++ f ∷ [])
-
 -- no byte was accepted, and no more are held than before
 pub record IsScannedOn (v v' : FramerValue) : Type 0 where
   pub held : length v'.held ≤ length v.held

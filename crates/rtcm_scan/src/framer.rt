@@ -8,16 +8,16 @@ ghost use Rattle.std.specs.Prelude.{◌≡◌, ◌+◌, ◌-◌, ◌*◌, ◌<�
 ghost use Rattle.std.specs.Prelude.{true, false, IsTrue, IfOk, OnOk, OnErr, IfErr, IfSome, IfNone, OnSome, ◌↔◌};
 ghost use Rattle.rtcm_scan.specs.Frame.{begins_frame, frame_length, framed_message};
 ghost use Rattle.rtcm_scan.specs.Frames.{Framed};
-ghost use Rattle.rtcm_scan.specs.Scan.{HasFramed, ReturnsFrame, IsScannedOn, most_bytes, first_held, window_of};
+ghost use Rattle.rtcm_scan.specs.Scan.{IsScannedOn, most_bytes, first_held, window_of};
 ghost use Rattle.rtcm_scan.specs.Scan.{with_window, with_byte, with_bytes};
 ghost use Rattle.rtcm_scan.specs.Candidate.{HasTaken};
-ghost use Rattle.rtcm_scan.specs.Examined.{HasExamined, IsCountedExactly, CountsFrame, CountsKnown};
+ghost use Rattle.rtcm_scan.specs.Examined.{HasExamined, KeepsHistory, AcceptsBytes, ReturnsFrame};
 ghost use Rattle.rtcm_scan.specs.Pending.{asked, HasFrame, with_candidate_examined, passed};
 ghost use Rattle.rtcm_bits.specs.FrameOf.{longest_frame};
 ghost use Rattle.rtcm_bits.specs.Window.{looked_through, without_front};
 ghost use Rattle.rtcm_scan.specs.Decided.{most_undecided};
 ghost use Rattle.rtcm_scan.specs.Looks.{most_looks};
-ghost use Rattle.rtcm_scan.specs.Drained.{IsDrained};
+ghost use Rattle.rtcm_scan.specs.Drained.{IsDrained, DecidesAll};
 ghost use Rattle.rtcm_scan.specs.Results.{framed, frame_at, push_result, push_all_result, decision, new_scan};
 
 use crate::candidate::Candidate;
@@ -114,10 +114,8 @@ impl Framer {
     /// be allocated.
     pub fn new(alloc: Global, limit: u64) -> Result<Framer, ScanFault>
         ensures new { IfOk result (λ f. f ≡ new_scan limit) }
-        ensures history { IfOk result (λ f. HasFramed f [] []) }
-        ensures counts { IfOk result (λ f. HasExamined f [] []) }
+        ensures history { IfOk result (λ f. HasExamined f [] []) }
         ensures drained { IfOk result (λ f. IsDrained f [] []) }
-        ensures counted { IfOk result (λ f. IsCountedExactly f []) }
         ensures bad_limit { result ≡ Err ScanFault.BadLimit ↔ most_bytes < limit }
         ensures only { IfErr result (λ fault. (fault ≡ ScanFault.BadLimit) ⊎ (fault ≡ ScanFault.Memory)) }
     {
@@ -153,10 +151,7 @@ impl Framer {
     pub fn push(&mut self, byte: u8) -> Result<(), ScanFault>
         requires { IsTrue self.old.is_ready }
         ensures answer { result ≡ push_result self.old }
-        ensures history { OnOk result
-            ((b : List ℕ) (fs : List Framed) → HasFramed self.old b fs → HasFramed self.new (b ++ byte ∷ []) fs) }
-        ensures counts { OnOk result
-            ((b : List ℕ) (fs : List Framed) → HasExamined self.old b fs → HasExamined self.new (b ++ byte ∷ []) fs) }
+        ensures history { OnOk result (AcceptsBytes self.old self.new (byte ∷ [])) }
         ensures ok { OnOk result (self.new ≡ with_byte self.old byte) }
         ensures full { OnErr result (self.old.has_ended ≡ false → self.old.taken ≡ self.old.limit) }
         ensures err { OnErr result (self.new ≡ self.old) }
@@ -185,10 +180,7 @@ impl Framer {
         requires ready { IsTrue self.old.is_ready }
         requires room { length self.old.held + length bytes.now ≤ longest_frame }
         ensures answer { result ≡ push_all_result self.old (length bytes.now) }
-        ensures history { OnOk result
-            ((b : List ℕ) (fs : List Framed) → HasFramed self.old b fs → HasFramed self.new (b ++ bytes.now) fs) }
-        ensures counts { OnOk result
-            ((b : List ℕ) (fs : List Framed) → HasExamined self.old b fs → HasExamined self.new (b ++ bytes.now) fs) }
+        ensures history { OnOk result (AcceptsBytes self.old self.new bytes.now) }
         ensures ok { OnOk result (self.new ≡ with_bytes self.old bytes.now) }
         ensures long { OnErr result (self.old.has_ended ≡ false → self.old.limit < self.old.taken + length bytes.now) }
         ensures err { OnErr result (self.new ≡ self.old) }
@@ -209,8 +201,7 @@ impl Framer {
     /// Ends the stream: `next` then decides all held bytes.
     pub fn end(&mut self)
         ensures ended { self.new ≡ record self.old { has_ended = true } }
-        ensures history { (b : List ℕ) (fs : List Framed) → HasFramed self.old b fs → HasFramed self.new b fs }
-        ensures counts { (b : List ℕ) (fs : List Framed) → HasExamined self.old b fs → HasExamined self.new b fs }
+        ensures history { KeepsHistory self.old self.new }
     {
         self.ended = true;
     }
@@ -271,11 +262,7 @@ impl Framer {
     /// Returns the next frame that the accepted bytes decide, or `None` if they decide no more.
     pub fn next(&mut self) -> Option<Frame>
         ensures some { IfSome result (λ f. ReturnsFrame self.old self.new (framed f)) }
-        ensures none { IfNone result
-            ((b : List ℕ) (fs : List Framed) → HasFramed self.old b fs
-            → HasFramed self.new b fs × IsDrained self.new b fs) }
-        ensures some_counts { IfSome result (λ f. CountsFrame self.old self.new (framed f)) }
-        ensures none_counts { IfNone result (CountsKnown self.old self.new) }
+        ensures none { IfNone result (DecidesAll self.old self.new) }
         ensures ready { IfNone result (self.new.is_ready ≡ true) }
         ensures room { IfNone result (length self.new.held < longest_frame) }
         ensures waits { OnSome result (self.new.is_ready ≡ self.old.is_ready) }
@@ -291,12 +278,7 @@ impl Framer {
     /// buffer's content by its message. If there is no frame, the buffer is unchanged.
     pub fn next_into(&mut self, message: &mut ArrayVec<u8, LONGEST_MESSAGE>) -> Option<u64>
         ensures some { IfSome result (λ offset. ReturnsFrame self.old self.new (frame_at offset message.new.items)) }
-        ensures none { IfNone result
-            ((b : List ℕ) (fs : List Framed) → HasFramed self.old b fs
-            → HasFramed self.new b fs × IsDrained self.new b fs) }
-        ensures some_counts { IfSome result
-            (λ offset. CountsFrame self.old self.new (frame_at offset message.new.items)) }
-        ensures none_counts { IfNone result (CountsKnown self.old self.new) }
+        ensures none { IfNone result (DecidesAll self.old self.new) }
         ensures ready { IfNone result (self.new.is_ready ≡ true) }
         ensures room { IfNone result (length self.new.held < longest_frame) }
         ensures waits { OnSome result (self.new.is_ready ≡ self.old.is_ready) }
@@ -312,12 +294,8 @@ impl Framer {
     /// decide one.
     fn seek(&mut self) -> Option<usize>
         ensures begins { IfSome result (HasFrame self.new) }
-        ensures history { (b : List ℕ) (fs : List Framed) → HasFramed self.old b fs → HasFramed self.new b fs }
-        ensures counts { (b : List ℕ) (fs : List Framed) → HasExamined self.old b fs → HasExamined self.new b fs }
-        ensures none { IfNone result
-            ((b : List ℕ) (fs : List Framed) → HasFramed self.old b fs → IsDrained self.new b fs) }
-        ensures none_counts { IfNone result
-            ((b : List ℕ) (fs : List Framed) → HasExamined self.old b fs → IsCountedExactly self.new b) }
+        ensures history { OnSome result (KeepsHistory self.old self.new) }
+        ensures none { IfNone result (DecidesAll self.old self.new) }
         ensures ready { IfNone result (self.new.is_ready ≡ true) }
         ensures room { IfNone result (length self.new.held < longest_frame) }
         ensures waits { OnSome result (self.new.is_ready ≡ self.old.is_ready) }
@@ -348,8 +326,7 @@ impl Framer {
     /// Drops the byte at the front, which is in no frame, and those before the next preamble.
     fn pass_over(&mut self)
         requires { 0 < length self.old.held }
-        ensures history { (b : List ℕ) (fs : List Framed) → HasFramed (passed self.old) b fs → HasFramed self.new b fs }
-        ensures counts { (b : List ℕ) (fs : List Framed) → HasExamined (passed self.old) b fs → HasExamined self.new b fs }
+        ensures history { KeepsHistory (passed self.old) self.new }
         ensures ready { self.new.is_ready ≡ self.old.is_ready }
         ensures same { IsScannedOn (passed self.old) self.new }
     {

@@ -6,7 +6,7 @@ use Rattle.rtcm_inspect.proofs.listing.list.Goals as goal
 pub returns-in-Ok-read : goal.returns-in-Ok-read
 returns-in-Ok-read g c =
     let contents = g.W.Write.contents in
-    let began = started (Lists contents) c.in-Ok.ensures.new c.prefix.ensures.empty c.in-Ok.ensures.counts c.in-Ok.ensures.drained c.in-Ok.ensures.counted
+    let began = started (Lists contents) c.in-Ok.ensures.new c.prefix.ensures.empty c.in-Ok.ensures.history c.in-Ok.ensures.drained
     (new_listing contents c.args.listing c.args.writer.now) in
     let end = c.in-Ok-read.ensures in
     let all = listed_all c.read_frames-read.new.self c.read_frames-read.new.sink c.read_frames-read.new.out _ _ began end.ended end.whole in
@@ -17,7 +17,7 @@ returns-in-Err g c =
     let contents = g.W.Write.contents in
     let remaining = g.R.Read.remaining in
     let waiting = g.W.Deliver.waiting in
-    let began = started (Lists contents) c.in-Ok.ensures.new c.prefix.ensures.empty c.in-Ok.ensures.counts c.in-Ok.ensures.drained c.in-Ok.ensures.counted
+    let began = started (Lists contents) c.in-Ok.ensures.new c.prefix.ensures.empty c.in-Ok.ensures.history c.in-Ok.ensures.drained
     (new_listing contents c.args.listing c.args.writer.now) in
     let end = c.in-Err.ensures in
     let stopped : Stopped remaining contents waiting c.in-Ok.framer c.read_frames-read.new.self c.args.listing c.read_frames-read.new.sink c.args.writer.now c.read_frames-read.new.out c.args.reader.now c.read_frames-read.new.reader c.in-Err.fault = record { passed = end.fault; still = end.going; sent = end.sent; failed = end.reader.0 } in

@@ -2,7 +2,7 @@
 use Rattle.rtcm_convert.proofs.FaultLemmas.{not_err, passed}
 use Rattle.rtcm_convert.proofs.PartLemmas.{same_fault}
 use Rattle.rtcm_convert.proofs.converter.Converter.new.Goals.{then-setup-gt-MOST_BYTES-via-then-setup-gt-MOST_BYTES, then-setup-gt-MOST_BYTES-via-else-setup-gt-MOST_BYTES+then-not-fits_message}
-use Rattle.rtcm_convert.proofs.Names.{true≢false, Err, BadSetup, ◌≡◌, ◌≤◌, most_bytes, ℕ, List, [], subst, refl, sym, inl, inr, arith, ap, AreStationValues, Setup, setup_value, IsBad, IsBadStart, decided_frames, frames_before, IsDrained, HasExamined, IsCountedExactly, Framed, frames_of, frames_from, known_frames, new_scan, FramerValue, HasFiledFrames, HasDrained}
+use Rattle.rtcm_convert.proofs.Names.{true≢false, Err, BadSetup, ◌≡◌, ◌≤◌, most_bytes, ℕ, List, [], subst, refl, sym, inl, inr, arith, ap, AreStationValues, Setup, setup_value, IsBad, IsBadStart, decided_frames, frames_before, IsDrained, HasExamined, Framed, frames_of, frames_from, known_frames, new_scan, FramerValue, HasFiledFrames, HasDrained}
 use Rattle.rtcm_convert.proofs.converter.Converter.new.Goals as goal
 
 bad_start : (x : Setup) → AreStationValues x.gatherer.initial → x.limit ≤ most_bytes → IsBad x → IsBadStart x
@@ -14,11 +14,10 @@ none_known : (v : FramerValue) (limit : ℕ) → v ≡ new_scan limit → [] ≡
 unfolding decided_frames frames_before frames_of frames_from
 none_known v limit e = sym (ap (λ (x : FramerValue). known_frames x.has_ended []) e)
 
-new_drained : (v : FramerValue) (limit : ℕ) → v ≡ new_scan limit → HasExamined v [] [] → IsDrained v [] [] → IsCountedExactly v [] → HasDrained v []
-new_drained v limit e framer drained counted = record {
+new_drained : (v : FramerValue) (limit : ℕ) → v ≡ new_scan limit → HasExamined v [] [] → IsDrained v [] [] → HasDrained v []
+new_drained v limit e framer drained = record {
   framer = subst (λ (l : List Framed). HasExamined v [] l) (none_known v limit e) framer;
   drained = subst (λ (l : List Framed). IsDrained v [] l) (none_known v limit e) drained;
-  counted = counted;
 }
 
 pub returns-then-setup-gt-MOST_BYTES-clause-bad : goal.returns-then-setup-gt-MOST_BYTES-clause-bad
@@ -47,13 +46,12 @@ pub returns-clause-history : goal.returns-clause-history
 returns-clause-history c =
     let x = c.args.setup in
     let n = c.in-Ok.ensures in
-    let d = new_drained c.in-Ok.framer _ n.new n.counts n.drained n.counted in
+    let d = new_drained c.in-Ok.framer _ n.new n.history n.drained in
     record {
       going = record { fine = refl; more = refl };
       drained = record {
         framer = d.framer;
         drained = d.drained;
-        counted = d.counted;
         file_writer = subst (λ (l : List Framed). HasFiledFrames c.in_ok-file_writer.file_writer (setup_value x) l) (none_known _ _ n.new) c.in_ok-file_writer.ensures.history;
       };
     }
@@ -65,6 +63,6 @@ invariant_of-result c =
       going = λ _. c.in_ok-file_writer.ensures.going;
       listening = λ _. ap (λ (v : FramerValue). v.has_ended) n.new;
       ready = λ _. ap (λ (v : FramerValue). v.is_ready) n.new;
-      drained = λ _. ([], new_drained c.in-Ok.framer _ n.new n.counts n.drained n.counted);
-      examined = ([], [], n.counts);
+      drained = λ _. ([], new_drained c.in-Ok.framer _ n.new n.history n.drained);
+      examined = ([], [], n.history);
     }

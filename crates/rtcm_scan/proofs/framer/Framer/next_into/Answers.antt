@@ -1,5 +1,5 @@
 use Rattle.rtcm_scan.proofs.Names.{ap, ◌∙◌, arith, frame_at, FramerValue}
-use Rattle.rtcm_scan.proofs.NextLemmas.{found, step_found, counts_found, less_found}
+use Rattle.rtcm_scan.proofs.NextLemmas.{found, counts_found, less_found}
 use Rattle.rtcm_scan.proofs.ScanLemmas.{same_framed}
 use Rattle.rtcm_scan.proofs.framer.Framer.next_into.Goals as goal
 
@@ -7,13 +7,7 @@ pub returns-clause-some : goal.returns-clause-some
 returns-clause-some c =
     let f = c.in_ok-size.ensures.begins in
     let is = same_framed (frame_at c.take_frame.result c.take_frame.new.message.items) (found c.seek.new.self) c.take_frame.ensures.offset c.take_frame.ensures.message in
-    λ b fs s. step_found c.seek.new.self c.take_frame.ensures.taken f.1 f.0 is (c.in_ok-size.ensures.history b fs s)
-
-pub returns-clause-some_counts : goal.returns-clause-some_counts
-returns-clause-some_counts c =
-    let f = c.in_ok-size.ensures.begins in
-    let is = same_framed (frame_at c.take_frame.result c.take_frame.new.message.items) (found c.seek.new.self) c.take_frame.ensures.offset c.take_frame.ensures.message in
-    λ b fs s. counts_found c.seek.new.self c.take_frame.ensures.taken f.1 f.0 is f.2 (c.in_ok-size.ensures.counts b fs s)
+    λ b fs s. counts_found c.seek.new.self c.take_frame.ensures.taken f.1 f.0 is f.2 (c.in_ok-size.ensures.history b fs s)
 
 pub returns-clause-less : goal.returns-clause-less
 returns-clause-less c =

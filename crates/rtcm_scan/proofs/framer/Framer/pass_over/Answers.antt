@@ -1,16 +1,10 @@
 use Rattle.rtcm_scan.proofs.Names.{◌≡◌, ◌+◌, ◌-◌, ◌≤◌, ◌<◌, ap, ◌∙◌, length, drop, refl, arith, length-drop, FramerValue, passed, longest_frame}
 use Rattle.rtcm_bits.proofs.WindowLemmas.{looked_left}
-use Rattle.rtcm_scan.proofs.PassOverLemmas.{to_history, to_counts, passed_on}
+use Rattle.rtcm_scan.proofs.PassOverLemmas.{to_counts, passed_on}
 use Rattle.rtcm_scan.proofs.framer.Framer.pass_over.Goals as goal
 
 pub returns-clause-history : goal.returns-clause-history
 returns-clause-history c = λ b fs s.
-    let o = c.pass_others.ensures in
-    let p = passed_on c.self.inside.place c.pass_others.new.candidate.count c.self.view_is c.requires c.drop_front.ensures o.window o.within o.others in
-    rw p.0 (to_history (passed c.args.self.now) c.pass_others.new.candidate.count refl p.1 p.2 s)
-
-pub returns-clause-counts : goal.returns-clause-counts
-returns-clause-counts c = λ b fs s.
     let o = c.pass_others.ensures in
     let p = passed_on c.self.inside.place c.pass_others.new.candidate.count c.self.view_is c.requires c.drop_front.ensures o.window o.within o.others in
     let k : length c.drop_front.new.self.bytes ≡ length (passed c.args.self.now).held =

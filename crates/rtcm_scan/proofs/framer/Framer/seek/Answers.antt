@@ -1,8 +1,8 @@
--- Dropping a byte that begins no frame keeps the history and the counts. When the loop is left without a frame, none
+-- Dropping a byte that begins no frame keeps the history. When the loop is left without a frame, none
 -- of the held bytes is decided, fewer than the longest frame are held, and the framer is marked as drained.
-use Rattle.rtcm_scan.proofs.Names.{List, ℕ, true, ◌≡◌, ◌-◌, ◌<◌, ap, ◌∙◌, length, refl, arith, length-drop, FramerValue, passed, Framed, HasFramed, HasExamined, IsDrained, IsCountedExactly, longest_frame}
+use Rattle.rtcm_scan.proofs.Names.{true, ◌≡◌, ◌-◌, ◌<◌, ap, ◌∙◌, length, refl, arith, length-drop, FramerValue, passed, longest_frame}
 use Rattle.rtcm_scan.proofs.DecisionLemmas.{from_found, from_passed, from_open, open_bound}
-use Rattle.rtcm_scan.proofs.NextLemmas.{step_passed, counts_passed, found_begins, found_counts, finish_empty, finish_open, counts_empty, counts_open}
+use Rattle.rtcm_scan.proofs.NextLemmas.{counts_passed, found_begins, found_counts, finish_empty, finish_open}
 use Rattle.rtcm_scan.proofs.framer.Framer.seek.Goals.{else-loop-self-test, then-loop-self-test+in-Open}
 use Rattle.rtcm_scan.proofs.framer.Framer.seek.Goals as goal
 
@@ -11,10 +11,8 @@ loop-self-preserved c =
     let h : 0 < length c.loop-self.self.held = omega (arith, c.held.ensures.value, c.loop-self-test.true) in
     let o = c.pass_over.ensures in
     record {
-      history = λ b fs s. o.history b fs (step_passed c.loop-self.self c.in-Passed.ensures.examined refl h
-          (from_passed c.loop-self.self.has_ended c.loop-self.self.held c.in-Passed.ensures.decision) (c.loop-self.invariant.history b fs s));
-      counts = λ b fs s. o.counts b fs (counts_passed c.loop-self.self c.in-Passed.ensures.examined refl h
-          (from_passed c.loop-self.self.has_ended c.loop-self.self.held c.in-Passed.ensures.decision) c.in-Passed.ensures.tried (c.loop-self.invariant.counts b fs s));
+      history = λ b fs s. o.history b fs (counts_passed c.loop-self.self c.in-Passed.ensures.examined refl h
+          (from_passed c.loop-self.self.has_ended c.loop-self.self.held c.in-Passed.ensures.decision) c.in-Passed.ensures.tried (c.loop-self.invariant.history b fs s));
       same = record {
         held = (let d : length (passed c.decide.new.self).held ≡ length c.loop-self.self.held - 1 = length-drop 1 c.decide.new.self.held ∙ ap (λ (y : FramerValue). length y.held - 1) c.in-Passed.ensures.examined in omega (arith, d, o.same.held, c.loop-self.invariant.same.held));
         limit = o.same.limit ∙ ap (λ (y : FramerValue). y.limit) c.in-Passed.ensures.examined ∙ c.loop-self.invariant.same.limit;
@@ -28,8 +26,8 @@ pub returns-in-Found-clause-begins : goal.returns-in-Found-clause-begins
 returns-in-Found-clause-begins c =
     found_begins c.loop-self.self c.decide.new.self c.in-Found.size c.in-Found.ensures.examined (from_found c.loop-self.self.has_ended c.loop-self.self.held c.in-Found.size c.in-Found.ensures.decision)
 
-pub returns-in-Found-clause-counts : goal.returns-in-Found-clause-counts
-returns-in-Found-clause-counts c = λ b fs s. found_counts c.loop-self.self c.decide.new.self b fs c.in-Found.ensures.examined c.in-Found.ensures.tried (c.loop-self.invariant.counts b fs s)
+pub returns-in-Found-clause-history : goal.returns-in-Found-clause-history
+returns-in-Found-clause-history c = λ b fs s. found_counts c.loop-self.self c.decide.new.self b fs c.in-Found.ensures.examined c.in-Found.ensures.tried (c.loop-self.invariant.history b fs s)
 
 -- a framer that is marked as drained
 abbrev with_ready : FramerValue → FramerValue
@@ -55,29 +53,9 @@ pub returns-clause-room : goal.returns-clause-room
 returns-clause-room c =
     omega (arith, ap (λ (y : FramerValue). length y.held) c.self-2.view_is, room c)
 
--- what is known when the loop is left
-finished : (c : goal.After-self-1) (w : FramerValue) (b : List ℕ) (fs : List Framed) → w ≡ with_ready c.loop-self-test.self → HasFramed c.args.self.now b fs → HasFramed w b fs × IsDrained w b fs
-finished c v b fs e s = elim c.loop-self-test.branch [
-  | else-loop-self-test w ↦ finish_empty w.self-is e (omega (arith, c.held.ensures.value, w.loop-self-test.false)) (c.loop-self.invariant.history b fs s)
-  | then-loop-self-test+in-Open w ↦ (let o = from_open c.loop-self.self.has_ended c.loop-self.self.held w.in-Open.ensures.decision in
-      finish_open w.in-Open.ensures.examined w.self-is e o.2 o.1 (c.loop-self.invariant.history b fs s))
-]
-
-finished_counts : (c : goal.After-self-1) (w : FramerValue) (b : List ℕ) (fs : List Framed) → w ≡ with_ready c.loop-self-test.self → HasExamined c.args.self.now b fs → HasExamined w b fs × IsCountedExactly w b
-finished_counts c v b fs e s = elim c.loop-self-test.branch [
-  | else-loop-self-test w ↦ counts_empty w.self-is e (omega (arith, c.held.ensures.value, w.loop-self-test.false)) (c.loop-self.invariant.counts b fs s)
-  | then-loop-self-test+in-Open w ↦ (let o = from_open c.loop-self.self.has_ended c.loop-self.self.held w.in-Open.ensures.decision in
-      counts_open w.in-Open.ensures.examined w.self-is e o.2 (omega (arith, c.held.ensures.value, w.loop-self-test.true)) o.1 w.in-Open.ensures.tried (c.loop-self.invariant.counts b fs s))
-]
-
-pub returns-clause-history : goal.returns-clause-history
-returns-clause-history c = λ b fs s. (finished c _ b fs (ap with_ready c.self-2.view_is) s).0
-
 pub returns-clause-none : goal.returns-clause-none
-returns-clause-none c = λ b fs s. (finished c _ b fs (ap with_ready c.self-2.view_is) s).1
-
-pub returns-clause-counts : goal.returns-clause-counts
-returns-clause-counts c = λ b fs s. (finished_counts c _ b fs (ap with_ready c.self-2.view_is) s).0
-
-pub returns-clause-none_counts : goal.returns-clause-none_counts
-returns-clause-none_counts c = λ b fs s. (finished_counts c _ b fs (ap with_ready c.self-2.view_is) s).1
+returns-clause-none c = λ b fs s. elim c.loop-self-test.branch [
+  | else-loop-self-test w ↦ finish_empty w.self-is (ap with_ready c.self-2.view_is) (omega (arith, c.held.ensures.value, w.loop-self-test.false)) (c.loop-self.invariant.history b fs s)
+  | then-loop-self-test+in-Open w ↦ (let o = from_open c.loop-self.self.has_ended c.loop-self.self.held w.in-Open.ensures.decision in
+      finish_open w.in-Open.ensures.examined w.self-is (ap with_ready c.self-2.view_is) o.2 (omega (arith, c.held.ensures.value, w.loop-self-test.true)) o.1 w.in-Open.ensures.tried (c.loop-self.invariant.history b fs s))
+]

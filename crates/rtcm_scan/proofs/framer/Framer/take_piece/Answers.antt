@@ -50,9 +50,9 @@ loop-self-preserved g c =
     let taken : c.push_all.new.self.taken ≡ c.drain_into.new.self.taken + length (slice_range c.args.piece.now c.loop-self.taken (c.loop-self.taken + c.min.result)) = ap (λ (v : FramerValue). v.taken) push.ok in
     record {
       passes = part_pushed g.S.FrameSink.took c.args.piece.now c.loop-self.taken c.min.result c.requires.going same.ended
-          (part_drained g.S.FrameSink.took (take c.loop-self.taken c.args.piece.now) i.passes d.whole) push.counts;
+          (part_drained g.S.FrameSink.took (take c.loop-self.taken c.args.piece.now) i.passes d.whole) push.history;
       can = c.drain_into.ensures.goes;
       bound = omega (arith, c.min.ensures, i.bound);
       taken = omega (arith, taken, size, c.drain_into.ensures.same.taken, i.taken);
-      same = continues_block _ size same push.ok push.within push.counts;
+      same = continues_block _ size same push.ok push.within push.history;
     }
