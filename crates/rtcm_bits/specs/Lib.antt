@@ -1,6 +1,7 @@
 pub mod Bits
 pub mod BitLaws
 pub mod Prefix
+pub mod SmallLaws
 pub mod Cursors
 pub mod Crc
 pub mod Register

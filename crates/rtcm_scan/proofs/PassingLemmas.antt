@@ -1,27 +1,12 @@
 -- Frames that are passed to a sink, piece by piece.
-use Rattle.rtcm_scan.proofs.Names.{◌≡◌, ℕ, ◌+◌, ◌-◌, ◌<◌, ◌≤◌, Bool, true, false, List, [], ◌∷◌, ◌++◌, ◌∙◌, ap, sym, refl, arith, length, take, drop, append_assoc, append-nil, subst, take-append-drop, length-drop, slice_range, length-take, ⊎_elim, cases_lt, take-add, IsPrefix, Framed, frames_of, known_frames, FramerValue, with_bytes, AcceptsBytes, HasExamined, Coming, Breaking, HasPassed, HasPassedAll, PassesKnown, BreaksKnown, Passes, Breaks, Continues, IsSameStream}
-use Rattle.std.specs.Prelude.{Result, Ok, Err, IfOk, OnErr, MatchResult}
+use Rattle.rtcm_scan.proofs.Names.{◌≡◌, ℕ, ◌+◌, ◌-◌, ◌<◌, ◌≤◌, Bool, true, false, List, [], ◌∷◌, ◌++◌, ◌∙◌, ap, sym, refl, arith, length, take, drop, append_assoc, append-nil, subst, take-append-drop, length-drop, slice_range, length-take, ⊎_elim, cases_lt, take-add, IsPrefix, Framed, frames_of, known_frames, FramerValue, with_bytes, AcceptsBytes, HasExamined, Coming, Breaking, HasPassed, HasPassedAll, PassesKnown, BreaksKnown, Passes, Breaks, Continues, IsSameStream, prefix_self, prefix_trans}
+use Rattle.std.specs.Prelude.{Result, Ok, Err, OnErr, MatchResult}
 use Rattle.std.specs.Result.{IsErrAnd}
 use Rattle.rtcm_scan.proofs.PrefixLemmas.{stays_decided}
-
--- a promise about a result that is an error
-pub failed : {A E : Type 0} (r : Result A E) (P : Type 0) → P → OnErr r P
-failed r P p = grind arith
-
--- what a call promised whose fault `map_err` wraps
-pub wrapped : {T D E : Type 0} (Q : D → E → Type 0) (P : T → Type 0) (r : Result T D) (s : Result T E) (t : T) → IfOk r P → MatchResult r (λ x. s ≡ Ok x) (λ e. IsErrAnd s (Q e)) → s ≡ Ok t → P t
-wrapped Q P (Ok x) s t given is ok = subst P (let same : x ≡ t = cc in same) given
-wrapped Q P (Err e) s t given is ok = absurd (rw ok at is)
 
 pub unwrapped : {T D E P : Type 0} (Q : D → E → Type 0) (r : Result T D) (s : Result T E) (e : E) → OnErr r P → MatchResult r (λ x. s ≡ Ok x) (λ e. IsErrAnd s (Q e)) → s ≡ Err e → P
 unwrapped Q (Ok x) s e given is fault = absurd (cc (is, fault))
 unwrapped Q (Err d) s e given is fault = given
-
-pub prefix_self : {A : Type 0} (xs : List A) → IsPrefix xs xs
-prefix_self xs = ([], sym (append-nil xs))
-
-pub prefix_trans : {A : Type 0} (xs ys zs : List A) → IsPrefix xs ys → IsPrefix ys zs → IsPrefix xs zs
-prefix_trans xs ys zs p q = (p.0 ++ q.0, q.1 ∙ ap (λ l. l ++ q.0) p.1 ∙ append_assoc xs p.0 q.0)
 
 pub prefix_one_more : {A : Type 0} (xs ys : List A) (z : A) → IsPrefix xs ys → IsPrefix xs (ys ++ z ∷ [])
 prefix_one_more xs ys z p = prefix_trans xs ys (ys ++ z ∷ []) p (z ∷ [], refl)

@@ -1,6 +1,6 @@
 -- A stream that is read piece by piece.
-use Rattle.rtcm_scan.proofs.Names.{◌≡◌, ℕ, ◌+◌, ◌-◌, ◌<◌, ◌≤◌, Bool, true, false, List, [], ◌++◌, ◌∙◌, ap, sym, arith, length, take, max, append_assoc, append-nil, subst, length-append, Option, add-zero, Consumes, IsAtEnd, Consumes-trans, Consumes-nil, Framed, length-drop, take-append-add, length-take-le, longest_frame, decided, IsDrained, known_frames, FramerValue, HasReadPiece, Coming, Breaking, HasPassedAll, HasBroken, Passes, Breaks, Continues, BreaksKnown, PassesKnown, PassesToLimit, PassesAll, BreaksAfter, BreaksReading, Reads, ReadsOn, IsReadingOn, AtFault, StreamFault, most_undecided}
-use Rattle.rtcm_scan.proofs.PassingLemmas.{prefix_self, passes_sent}
+use Rattle.rtcm_scan.proofs.Names.{◌≡◌, ℕ, ◌+◌, ◌-◌, ◌<◌, ◌≤◌, Bool, true, false, List, [], ◌++◌, ◌∙◌, ap, sym, arith, length, take, max, append_assoc, append-nil, subst, length-append, Option, add-zero, Consumes, IsAtEnd, Consumes-trans, Consumes-nil, Framed, length-drop, take-append-add, length-take-le, longest_frame, decided, IsDrained, known_frames, FramerValue, HasReadPiece, Coming, Breaking, HasPassedAll, HasBroken, Passes, Breaks, Continues, BreaksKnown, PassesKnown, PassesToLimit, PassesAll, BreaksAfter, BreaksReading, Reads, ReadsOn, IsReadingOn, AtFault, StreamFault, most_undecided, prefix_self}
+use Rattle.rtcm_scan.proofs.PassingLemmas.{passes_sent}
 use Rattle.rtcm_scan.proofs.PrefixLemmas.{decided_near}
 
 -- at each fault, one proposition implies another

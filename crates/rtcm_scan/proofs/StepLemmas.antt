@@ -5,7 +5,7 @@ use Rattle.rtcm_bits.proofs.WindowLemmas.{looked_bytes, looked_length}
 use Rattle.rtcm_scan.proofs.LooksLemmas.{one_if, looks_push, all_push, counts_look, counts_push, none_cover, greatest_same}
 use Rattle.rtcm_scan.proofs.TriedLemmas.{sum_empty, counts_skip, counts_frame, looks_frame, all_frame, empty_covers}
 use Rattle.rtcm_scan.proofs.CostLemmas.{spans_longer}
-use Rattle.rtcm_scan.proofs.BoundLemmas.{looks_bound, all_bound}
+use Rattle.rtcm_scan.proofs.BoundLemmas.{looks_bound, all_bound, no_more}
 use Rattle.rtcm_scan.proofs.CandidateLemmas.{wanted_bound}
 use Rattle.rtcm_scan.proofs.DecidedLemmas.{none_past}
 use Rattle.rtcm_scan.proofs.ScanLemmas.{scanned_le, scanned_frame}
@@ -30,15 +30,12 @@ record Fit (xs : List Span) : Type 0 where
 
 fit_less : (xs : List Span) (q k n : ℕ) → k ≤ n → Fit (xs ++ span q n ∷ []) → Fit (xs ++ span q k ∷ [])
 fit_less xs q k n h f = record {
-  looks = λ i. (let a : looks_at (xs ++ span q k ∷ []) i ≤ looks_at (xs ++ span q n ∷ []) i = looks_more xs q k n i h in le_trans _ _ _ a (f.looks i));
+  looks = λ i. (let a : looks_at (xs ++ span q k ∷ []) i ≤ looks_at (xs ++ span q n ∷ []) i = looks_more xs q k n i h in no_more a (f.looks i));
   all = (let a : all_looks (xs ++ span q k ∷ []) ≡ all_looks xs + k = all_push xs (span q k) in
       let b : all_looks (xs ++ span q n ∷ []) ≡ all_looks xs + n = all_push xs (span q n) in
       let c : all_looks (xs ++ span q n ∷ []) ≤ 18446744073709551615 = f.all in le_sum _ _ _ a b c);
 }
   where
-    le_trans : (a c d : ℕ) → a ≤ c → c ≤ d → a ≤ d
-    le_trans a c d h k = omega arith
-
     le_sum : (u v x : ℕ) → u ≡ x + k → v ≡ x + n → v ≤ 18446744073709551615 → u ≤ 18446744073709551615
     le_sum u v x a b c = omega arith
 

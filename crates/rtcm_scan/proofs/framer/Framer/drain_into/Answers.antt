@@ -1,5 +1,5 @@
-use Rattle.rtcm_scan.proofs.Names.{Bool, List, [], ◌∷◌, ◌++◌, ◌∙◌, refl, subst, frame_at, Framed, IsPrefix, IsDrained, known_frames, HasPassed}
-use Rattle.rtcm_scan.proofs.PassingLemmas.{prefix_self, prefix_one_more, failed}
+use Rattle.rtcm_scan.proofs.Names.{Bool, List, [], ◌∷◌, ◌++◌, ◌∙◌, refl, subst, frame_at, Framed, IsPrefix, IsDrained, known_frames, HasPassed, prefix_self, on_failure}
+use Rattle.rtcm_scan.proofs.PassingLemmas.{prefix_one_more}
 use Rattle.rtcm_scan.proofs.framer.Framer.drain_into.Goals as goal
 
 pub loop-offset-init : goal.loop-offset-init
@@ -25,7 +25,7 @@ returns-in_err-take-clause-part g c =
     let i = c.loop-offset.invariant in
     let n = c.in-Some.ensures in
     let f : Framed = frame_at c.in-Some.offset c.next_into.new.message.items in
-    failed c.from_residual.result _ (λ s o ps b fs x. (let k = i.passed s o ps b fs x in
+    on_failure c.from_residual.result _ (λ s o ps b fs x. (let k = i.passed s o ps b fs x in
     record {
       taken = k.0;
       reached = k.0 ++ f ∷ [];

@@ -1,5 +1,5 @@
-use Rattle.rtcm_scan.proofs.Names.{subst, take_all, List, ℕ, take, Passes, arith}
-use Rattle.rtcm_scan.proofs.PassingLemmas.{passes_sent, breaks_sent, wrapped, unwrapped}
+use Rattle.rtcm_scan.proofs.Names.{subst, take_all, List, ℕ, take, Passes, arith, wrapped}
+use Rattle.rtcm_scan.proofs.PassingLemmas.{passes_sent, breaks_sent, unwrapped}
 use Rattle.rtcm_scan.proofs.framer.Framer.feed.Goals as goal
 
 pub returns-in_err-taken-clause-fault : goal.returns-in_err-taken-clause-fault

@@ -1,5 +1,4 @@
-use Rattle.rtcm_scan.proofs.Names.{◌∙◌, ap, sym, subst, Bool, List, on_ok_weaker, on_err_weaker, IsPrefix, Framed, known_frames, FramerValue}
-use Rattle.rtcm_scan.proofs.PassingLemmas.{prefix_self}
+use Rattle.rtcm_scan.proofs.Names.{◌∙◌, ap, sym, subst, Bool, List, on_ok_weaker, on_err_weaker, IsPrefix, Framed, known_frames, FramerValue, prefix_self}
 use Rattle.rtcm_scan.proofs.framer.Framer.finish.Goals as goal
 
 pub returns-clause-whole : goal.returns-clause-whole

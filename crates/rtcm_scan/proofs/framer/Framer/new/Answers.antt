@@ -1,5 +1,5 @@
 use Rattle.rtcm_scan.proofs.MomentLemmas.{counts_new, drained_new}
-use Rattle.rtcm_scan.proofs.PassingLemmas.{wrapped}
+use Rattle.rtcm_scan.proofs.Names.{wrapped}
 use Rattle.rtcm_scan.proofs.framer.Framer.new.Goals as goal
 
 pub returns-clause-history : goal.returns-clause-history

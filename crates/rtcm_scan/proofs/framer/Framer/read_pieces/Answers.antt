@@ -1,7 +1,7 @@
 -- What was read so far was fed, so the framer, the sink and its output are those of these bytes; the loop ends at a
 -- fault, or when the reader has no byte.
-use Rattle.rtcm_scan.proofs.Names.{◌∙◌, arith, refl, take, length, BreaksAfter}
-use Rattle.rtcm_scan.proofs.PassingLemmas.{wrapped, unwrapped}
+use Rattle.rtcm_scan.proofs.Names.{◌∙◌, arith, refl, take, length, BreaksAfter, wrapped}
+use Rattle.rtcm_scan.proofs.PassingLemmas.{unwrapped}
 use Rattle.rtcm_scan.proofs.ReadLemmas.{reading_more, at_each, reads_none, reads_more, limit_more, breaks_more, breaks_first}
 use Rattle.rtcm_scan.proofs.framer.Framer.read_pieces.Goals as goal
 

@@ -1,7 +1,7 @@
 -- The frames that the bytes so far decide were passed on before more bytes are pushed, up to the limit of the
 -- framer.
-use Rattle.rtcm_scan.proofs.Names.{◌≡◌, ◌+◌, ◌∙◌, ap, sym, subst, refl, arith, ℕ, List, append-nil, length, slice_range, take, known_frames, FramerValue, HasPassed}
-use Rattle.rtcm_scan.proofs.PassingLemmas.{prefix_self, at_limit, continues_same, continues_block, part_drained, part_pushed, part_breaks, failed}
+use Rattle.rtcm_scan.proofs.Names.{◌≡◌, ◌+◌, ◌∙◌, ap, sym, subst, refl, arith, ℕ, List, append-nil, length, slice_range, take, known_frames, FramerValue, HasPassed, prefix_self, on_failure}
+use Rattle.rtcm_scan.proofs.PassingLemmas.{at_limit, continues_same, continues_block, part_drained, part_pushed, part_breaks}
 use Rattle.rtcm_scan.proofs.framer.Framer.take_piece.Goals as goal
 
 pub loop-self-init : goal.loop-self-init
@@ -17,7 +17,7 @@ loop-self-init g c = record {
 pub returns-in_err-drain_into-clause-part : goal.returns-in_err-drain_into-clause-part
 returns-in_err-drain_into-clause-part g c =
     let i = c.loop-self.invariant in
-    failed c.from_residual.result _ (part_breaks g.S.FrameSink.took g.S.FrameSink.broke c.args.piece.now c.loop-self.taken c.requires.going i.same.ended i.passes c.in_err-drain_into.ensures.part)
+    on_failure c.from_residual.result _ (part_breaks g.S.FrameSink.took g.S.FrameSink.broke c.args.piece.now c.loop-self.taken c.requires.going i.same.ended i.passes c.in_err-drain_into.ensures.part)
 
 pub returns-in_err-drain_into-clause-same : goal.returns-in_err-drain_into-clause-same
 returns-in_err-drain_into-clause-same g c =
