@@ -1,5 +1,5 @@
 -- Facts of numbers below a bound, computed one by one.
-use Rattle.std.proofs.Common.{ℕ, zero, suc, ◌≡◌, ◌<◌, ◌≤◌, Bool, true, false, ◌==◌, ◌&&◌, ◌||◌, nat_lt, arith}
+use Rattle.std.proofs.Common.{ℕ, zero, suc, ◌≡◌, ◌<◌, ◌≤◌, Bool, true, false, ◌==◌, ◌&&◌, ◌||◌, nat_lt, nat_eq, arith}
 use Rattle.std.proofs.lemmas.Grind.{common_steps}
 
 -- a test passes at each number below n
@@ -26,3 +26,6 @@ is_equal a b h = grind (arith, h)
 
 pub unless_less : (a b : ℕ) (other : Bool) → (nat_lt a b || other) ≡ true → b ≤ a → other ≡ true
 unless_less a b other h above = let no : nat_lt a b ≡ false = grind (arith, above) in rw no at h
+
+pub flip_false : (a b : ℕ) → nat_eq a b ≡ false → nat_eq b a ≡ false
+flip_false a b h = grind (arith, h)

@@ -12,6 +12,7 @@ use Rattle.gnss_system.specs.declared.by_system.BySystem.{BySystem}
 use Rattle.gnss_system.specs.Satellites.{letter, system_of_letter}
 use Rattle.gnss_system.specs.Systems.{systems, index_of, is_system, before, after}
 use Rattle.gnss_system.specs.SystemValues.{value_of, with_value_of, tabulate, map_by, of_two}
+use Rattle.gnss_system.specs.Signals.{SignalAt, IsSignal, most_signals, signal_of_id, table}
 
 -- ---- indices
 
@@ -181,3 +182,11 @@ sum_less f g s each = grind (arith, common_steps)
 
 pub any_system : (s : System) → list_any (is_system s) systems ≡ true
 any_system s = grind (arith, common_steps)
+
+-- ---- tables of signals
+
+pub short_table : (system : System) → length (table system) ≤ most_signals
+short_table system = grind (arith, common_steps)
+
+pub listed_of : (system : System) (id : ℕ) (g : SignalAt) → signal_of_id system id ≡ Some g → (g.system ≡ system) × IsSignal g
+listed_of system id g h = grind (arith, common_steps)
