@@ -4,6 +4,7 @@ use Rattle.std.proofs.Math.Seq.{split_at}
 use Rattle.std.proofs.lemmas.Map.Keys.{apart_from_distinct, IsDistinct-tail}
 use Rattle.std.proofs.lemmas.List.Elements.{All-head, All-tail}
 use Rattle.gnss_obs.specs.Names.{System, SignalAt, IsSignal, PlanFault, UnknownCode, RepeatedCode, indices, IsOf, IsUnfitAfter, IsUnfit, IsMemoryFaultOr, MayAdd, BeginsWithOwn, list_any, IsDistinct}
+use Rattle.gnss_system.proofs.Checked.{flip_false}
 
 -- The first signal is of the system if those before one are, and this one.
 begin_own : (system : System) (ss : List SignalAt) (k : ℕ) (s : SignalAt) → k < length ss → s ≡ get_or ss k s → IsOf system (take k ss) → s.system ≡ system → BeginsWithOwn system ss
@@ -31,9 +32,6 @@ middle (x ∷ before) rest s = middle before rest s
 within : (before rest : List SignalAt) (s : SignalAt) → length before < length (indices (before ++ s ∷ rest))
 within [] rest s = omega arith
 within (x ∷ before) rest s = let h = within before rest s in omega (arith, h)
-
-flip_false : (a b : ℕ) → nat_eq a b ≡ false → nat_eq b a ≡ false
-flip_false a b h = grind (arith, h)
 
 unlike_first : (x : ℕ) (before rest : List SignalAt) (s : SignalAt) → IsDistinct nat_eq (x ∷ indices (before ++ s ∷ rest)) → nat_eq s.index x ≡ false
 unlike_first x before rest s h =

@@ -5,6 +5,7 @@ use Rattle.gnss_obs.specs.Names.{System, Cell, is_before, SortKeysRise, cell_sor
 use Rattle.gnss_system.specs.Satellites.{satellites as satellites_in}
 use Rattle.gnss_obs.specs.Values.{AreHeld, has_value, is_written, written_among, is_of_satellite}
 use Rattle.std.proofs.lemmas.Grind.{common_steps}
+use Rattle.std.proofs.lemmas.Bool.{eqb-true}
 
 -- ---- cells in the order of satellites
 
@@ -30,7 +31,7 @@ sorted_climbs cells h = rise_climbs h.0 cells h.1
 abbrev pub Above : ℕ → List Cell → Type 0
 Above n cells = AllByRecursion (λ (c : Cell). n < c.satellite.id) cells
 
-all_above : (n m : ℕ) (cells : List Cell) → n < m → AllByRecursion (λ (d : Cell). m ≤ d.satellite.id) cells → Above n cells
+pub all_above : (n m : ℕ) (cells : List Cell) → n < m → AllByRecursion (λ (d : Cell). m ≤ d.satellite.id) cells → Above n cells
 all_above n m [] lt h = tt
 all_above n m (c ∷ cells) lt h = (omega (arith, lt, h.0), all_above n m cells lt h.1)
 
@@ -118,11 +119,8 @@ counted_is n last (c ∷ cells) up within above from = by (has_value c) (c.satel
   by false true e f more = no_value c cells n e ∙ more last from.1
   by false false e f more = no_value c cells n e ∙ more last from.1
   by true true e f more =
-      one_more c cells n above.0 within.0 e ∙ ap₂ (λ k m. k + one_if (not (is_written cells m))) (more last from.1) (same c.satellite.id last f)
+      one_more c cells n above.0 within.0 e ∙ ap₂ (λ k m. k + one_if (not (is_written cells m))) (more last from.1) (eqb-true c.satellite.id last f)
       ∙ sum (counted_after last cells) (is_written cells last) where
-        same : (a b : ℕ) → (a == b) ≡ true → a ≡ b
-        same a b h = grind (arith, h)
-
         sum : (k : ℕ) (a : Bool) → k + one_if a + one_if (not a) ≡ k + 1
         sum k a = grind (arith, common_steps)
   by true false e f more =

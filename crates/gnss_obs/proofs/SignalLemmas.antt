@@ -16,17 +16,11 @@ use Rattle.gnss_system.proofs.SystemLaws.{each_system}
 use Rattle.gnss_obs.specs.Names.{System, ListedSignal, table, id_of, indices, signal_at, signal_of_id, option_map_or}
 use Rattle.gnss_obs.specs.Plans.{if_planned, planned_signal}
 use Rattle.gnss_obs.proofs.TableLaws.{id_back}
-use Rattle.gnss_system.proofs.Checked.{is_equal}
+use Rattle.std.proofs.lemmas.Bool.{eqb-true, not-true, not-false}
 
 pub none_before : {X : Type 0} (p : X → Bool) (xs : List X) → list_any p xs ≡ false → position_or_len p xs ≡ length xs
 none_before p [] h = refl
 none_before p (x ∷ xs) h = grind (arith, common_steps, none_before p xs)
-
-not_true : (b : Bool) → not b ≡ true → b ≡ false
-not_true b e = grind (arith, common_steps, e)
-
-not_false : (b : Bool) → not b ≡ false → b ≡ true
-not_false b e = grind (arith, common_steps, e)
 
 -- ---- signals of one system are the same if their indices in its table are
 
@@ -42,7 +36,7 @@ module _ {eq : SignalAt → SignalAt → Bool} (same : (a b : SignalAt) → a.sy
       → not (list_any (eq s) ss) ≡ true → place ≡ position_or_len (eq s) ss
       → (new ≡ ss ++ s ∷ []) × (list_any (λ (r : SignalAt). s.index == r.index) ss ≡ false) × IsOf s.system new × (place ≡ length ss)
   was_new {ss} unique of listed keys added at =
-      let none : list_any (eq s) ss ≡ false = not_true (list_any (eq s) ss) added in
+      let none : list_any (eq s) ss ≡ false = not-true (list_any (eq s) ss) added in
       let apart = sym (any_same ss of.each) ∙ none in
       let all = keys ∙ ap (λ b. if b then ss else ss ++ s ∷ []) none in
       (all, apart, subst (IsOf s.system) (sym all) (is_of-push s.system ss s of refl listed apart), at ∙ none_before (eq s) ss none)
@@ -50,7 +44,7 @@ module _ {eq : SignalAt → SignalAt → Bool} (same : (a b : SignalAt) → a.sy
   pub was_there : {ss new : List SignalAt} → IsDistinct eq new → IsOf s.system ss → new ≡ (if list_any (eq s) ss then ss else ss ++ s ∷ [])
       → not (list_any (eq s) ss) ≡ false → (new ≡ ss) × (list_any (λ (r : SignalAt). s.index == r.index) ss ≡ true)
   was_there {ss} unique of keys added =
-      let there : list_any (eq s) ss ≡ true = not_false (list_any (eq s) ss) added in
+      let there : list_any (eq s) ss ≡ true = not-false (list_any (eq s) ss) added in
       (keys ∙ ap (λ b. if b then ss else ss ++ s ∷ []) there, sym (any_same ss of.each) ∙ there)
 
 any_alike : (s : SignalAt) (test : SignalAt → Bool) (ss : List SignalAt) → All (λ (r : SignalAt). (r.system ≡ s.system) × IsSignal r) ss
@@ -104,7 +98,7 @@ id_found system id s e = by (position (λ e. e.0 == id) (table system)) refl e w
   by (Some i) at e =
       let first : ListedSignal = record { 0 = 0; 1 = []; 2 = 0 } in
       let (within, here, others) = position-Some (λ (e : ListedSignal). e.0 == id) (table system) i first at in
-      let own = ap (λ o. option_map_or (λ (e : ListedSignal). e.0) o 0) (slice_get-get_or (table system) i first within) ∙ is_equal _ id here in
+      let own = ap (λ o. option_map_or (λ (e : ListedSignal). e.0) o 0) (slice_get-get_or (table system) i first within) ∙ eqb-true _ id here in
       let is : record { system = system; index = i } ≡ s = cc in
       subst (λ (t : SignalAt). (t.system ≡ system) × IsSignal t × (id_of t ≡ id)) is (refl, within, own)
 

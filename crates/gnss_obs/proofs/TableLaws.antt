@@ -8,7 +8,8 @@ use Rattle.gnss_system.proofs.SystemLaws.{each_system}
 use Rattle.gnss_obs.specs.Names.{System, SignalAt, IsSignal, after, greatest_signal_id, id_of, signal_of_id, table, rows}
 use Rattle.std.proofs.lemmas.Grind.{common_steps}
 use Rattle.gnss_obs.proofs.SortLemmas.{table_few}
-use Rattle.gnss_system.proofs.Checked.{passes_at, passes_below, is_less, is_equal, both_first, both_second}
+use Rattle.gnss_system.proofs.Checked.{passes_at, passes_below}
+use Rattle.std.proofs.lemmas.Bool.{and_parts, ltb-true, eqb-true}
 
 -- the ID of a row is below the next one
 abbrev rises_at : System → ℕ → Bool
@@ -22,7 +23,7 @@ below_each : (test : System → ℕ → Bool) (bound : System → ℕ) → passe
 below_each test bound all system i below = passes_at (test system) (bound system) i (each_system (λ system. passes_below (test system) (bound system)) system all) below
 
 pub ids_rise : (s : SignalAt) → IsSignal (after s) → id_of s < id_of (after s)
-ids_rise s listed = is_less _ _ (below_each rises_at (λ system. length (table system) - 1) refl s.system s.index (omega (arith, listed)))
+ids_rise s listed = ltb-true _ _ (below_each rises_at (λ system. length (table system) - 1) refl s.system s.index (omega (arith, listed)))
 
 -- a test passes at each row
 at_each : (test : System → ℕ → Bool) → passes test (λ system. length (table system)) ≡ true → (system : System) (i : ℕ) → i < length (table system) → test system i ≡ true
@@ -42,7 +43,7 @@ is_at (Some j) i = j == i
 from_at : (o : Option ℕ) (i : ℕ) → is_at o i ≡ true → o ≡ Some i
 unfolding is_at
 from_at None i h = absurd (true≢false (sym h))
-from_at (Some j) i h = ap Some (is_equal j i h)
+from_at (Some j) i h = ap Some (eqb-true j i h)
 
 abbrev has_first_id : System → ℕ → Bool
 has_first_id system i = is_at (position (λ e. e.0 == id_of (signal system i)) (table system)) i
@@ -66,7 +67,7 @@ rows_fit system id below = below_each row_at (λ system. 256) refl system id bel
 same_row : (n : ℕ) (o : Option ℕ) (row : ℕ) → is_row n o row ≡ true → (row == 255) ≡ false → (Some row ≡ o) × (row < n)
 unfolding is_row
 same_row n None row h other = absurd (grind (arith, h, other))
-same_row n (Some i) row h other = (ap Some (is_equal row i (both_second (nat_lt i n) (row == i) h)), rw (is_equal row i (both_second (nat_lt i n) (row == i) h)) (is_less i n (both_first (nat_lt i n) (row == i) h)))
+same_row n (Some i) row h other = (ap Some (eqb-true row i (and_parts (nat_lt i n) (row == i) h).1), rw (eqb-true row i (and_parts (nat_lt i n) (row == i) h).1) (ltb-true i n (and_parts (nat_lt i n) (row == i) h).0))
 
 no_row : (n : ℕ) (o : Option ℕ) (row : ℕ) → is_row n o row ≡ true → row ≡ 255 → n ≤ 64 → o ≡ None
 unfolding is_row
@@ -77,7 +78,7 @@ no_row n (Some i) row h none few = absurd (grind (arith, common_steps, h, none, 
 read_at : (xs : List ℕ) (id : ℕ) (o : Option (Bor ℕ)) → is_some o ≡ nat_lt id (length xs) → IfSome o (λ x. x.now ≡ slice_index_or xs id x.now)
     → unwrap_or (option_copied o) 255 ≡ unwrap_or (slice_get xs id) 255
 read_at xs id None some h = ap (λ o. unwrap_or o 255) (sym (slice_get_past xs id (grind (arith, some))))
-read_at xs id (Some x) some h = ap (λ o. unwrap_or o 255) (sym (slice_get_read xs (length xs) id x.now refl (is_less id (length xs) (sym some)) h))
+read_at xs id (Some x) some h = ap (λ o. unwrap_or o 255) (sym (slice_get_read xs (length xs) id x.now refl (ltb-true id (length xs) (sym some)) h))
 
 pub row_is : (system : System) (id : ℕ) (o : Option (Bor ℕ)) → id < 256 → is_some o ≡ nat_lt id (length (rows system)) → IfSome o (λ x. x.now ≡ slice_index_or (rows system) id x.now)
     → (row : ℕ) → row ≡ unwrap_or (option_copied o) 255

@@ -8,6 +8,7 @@ use Rattle.jiff_core.proofs.CalendarLemmas.{days_from_civil-day_count, day_count
 use Rattle.gnss_obs.specs.Names.{Civil, weeks, YearMonthDay, month_on, year_on, month_length, year_length, date_of, civil_of, IsCivil, IsCivilOf, clock_of}
 use Rattle.gnss_obs.specs.Weeks.{week}
 use Rattle.std.proofs.lemmas.Grind.{common_steps}
+use Rattle.std.proofs.lemmas.Bool.{ltb-true, ltb-false}
 
 -- A date of the calendar, a number of days after 1 January of the year -10000.
 record IsOn (d : YearMonthDay) (count : ℕ) : Type 0 where
@@ -17,12 +18,6 @@ record IsOn (d : YearMonthDay) (count : ℕ) : Type 0 where
 here_in : (y m days : ℕ) {count : ℕ} → y ≤ 9999 → 1 ≤ m → m ≤ 12 → day_count (pos y) m 1 + days ≡ count → days < month_length y m
     → IsOn (record { year = y; month = m; day = days + 1 }) count
 here_in y m days year low high e lt = grind (arith, common_steps, signed_arith, day_count-day)
-
-below : (a b : ℕ) → nat_lt a b ≡ true → a < b
-below a b e = grind (arith, e)
-
-above : (a b : ℕ) → nat_lt a b ≡ false → b ≤ a
-above a b e = grind (arith, e)
 
 -- December has 31 days
 last_month : (y m days count : ℕ) → m ≡ 12 → day_count (pos y) m 1 + days ≡ count
@@ -44,8 +39,8 @@ month_on_is (suc months) y k days {count} year whole e bound =
   where
     by : (b : Bool) → nat_lt days (month_length y (k + 1)) ≡ b → (month_length y (k + 1) ≤ days → IsOn (month_on months y (k + 1 + 1) (days - month_length y (k + 1))) count)
         → IsOn (if b then record { year = y; month = k + 1; day = days + 1 } else month_on months y (k + 1 + 1) (days - month_length y (k + 1))) count
-    by true test later = here_in y (k + 1) days year (omega arith) (omega (arith, whole)) e (below days (month_length y (k + 1)) test)
-    by false test later = later (above days (month_length y (k + 1)) test)
+    by true test later = here_in y (k + 1) days year (omega arith) (omega (arith, whole)) e (ltb-true days (month_length y (k + 1)) test)
+    by false test later = later (ltb-false days (month_length y (k + 1)) test)
 
 year_long : (y : ℕ) → 365 ≤ year_length y
 year_long y = grind arith
@@ -63,9 +58,9 @@ year_on_is (suc years) y days count year lt e =
     by : (b : Bool) → nat_lt days (year_length y) ≡ b → (year_length y ≤ days → IsOn (year_on years (y + 1) (days - year_length y)) count)
         → IsOn (if b then month_on 11 y 1 days else year_on years (y + 1) (days - year_length y)) count
     by true test later =
-        let lt : days < year_length y = below days (year_length y) test in
+        let lt : days < year_length y = ltb-true days (year_length y) test in
         month_on_is 11 y 0 days (omega (arith, year)) refl e (omega (arith, e, lt))
-    by false test later = later (above days (year_length y) test)
+    by false test later = later (ltb-false days (year_length y) test)
 
 abbrev date : (y : ℤ) (m d : ℕ) → IsCivilDate y m d → Date
 date y m d v = record { year = y; month = m; day = d; year_in = v.0; month_in = v.1; day_in = v.2 }
@@ -89,7 +84,13 @@ date_of_is days lt =
         → here ≡ january + (days + 5) → january + 6 ≡ sixth + 1 → z -ℤ w ≡ pos days
     since_first z w january days a b e f = omega (arith, signed_arith, a, b, e, f)
 
-same_civil : (c d : Civil) → c.year ≡ d.year → c.month ≡ d.month → c.day ≡ d.day → c.hour ≡ d.hour → c.minute ≡ d.minute → c.millisecond ≡ d.millisecond → c ≡ d
+pub same_number : (a b : ℕ) → pos a ≡ pos b → a ≡ b
+same_number a b e = omega (arith, signed_arith, e)
+
+pub hours : (c : ℕ) → c < 86_400_000 → c / 3_600_000 < 24
+hours c h = omega (arith, h)
+
+pub same_civil : (c d : Civil) → c.year ≡ d.year → c.month ≡ d.month → c.day ≡ d.day → c.hour ≡ d.hour → c.minute ≡ d.minute → c.millisecond ≡ d.millisecond → c ≡ d
 same_civil c d year month day hour minute millisecond = rw (year, month, day, hour, minute, millisecond)
 
 -- The date and time of day of the calendar are those of the walk.
@@ -98,14 +99,11 @@ walk_is t c lt is =
     let there = date_of_is (t / 86_400_000) (omega (arith, lt)) in
     let same = epoch_day_injective (date (pos c.year) c.month c.day is.valid.date) (date (pos (date_of (t / 86_400_000)).year) (date_of (t / 86_400_000)).month (date_of (t / 86_400_000)).day there.0)
     (same_days _ _ _ _ is.days there.1) in
-    same_civil c (civil_of t) (plain _ _ same.0) same.1 same.2
+    same_civil c (civil_of t) (same_number _ _ same.0) same.1 same.2
     (hour_of c (t % 86_400_000) is.valid is.clock) (minute_of c (t % 86_400_000) is.valid is.clock) (millisecond_of c (t % 86_400_000) is.valid is.clock)
   where
     same_days : (a b first : ℤ) (n : ℕ) → a -ℤ first ≡ pos n → b -ℤ first ≡ pos n → a ≡ b
     same_days a b first n e f = omega (arith, signed_arith, e, f)
-
-    plain : (a b : ℕ) → pos a ≡ pos b → a ≡ b
-    plain a b e = omega (arith, signed_arith, e)
 
     hour_of : (c : Civil) (clock : ℕ) → IsCivil c → clock_of c ≡ clock → c.hour ≡ clock / 3_600_000
     hour_of c clock valid e = omega (arith, e, valid.minute, valid.millisecond)

@@ -1,15 +1,12 @@
-use Rattle.std.proofs.Common.{arith, ◌≡◌, ℕ, ◌+◌, ◌*◌, ◌/◌, ◌%◌, ◌<◌, ◌≤◌, pos}
+use Rattle.std.proofs.Common.{arith, ◌≡◌, ℕ, ◌+◌, ◌*◌, ◌/◌, ◌%◌, ◌≤◌, pos}
 use Rattle.jiff_core.specs.Calendar.{IsCivilDate}
 use Rattle.gnss_obs.specs.Dates.{date_of}
-use Rattle.gnss_obs.proofs.WalkLemmas.{date_of_is}
+use Rattle.gnss_obs.proofs.WalkLemmas.{date_of_is, hours}
 use Rattle.gnss_obs.proofs.laws.calendar.Goals as goal
 use Rattle.std.proofs.lemmas.Grind.{common_steps}
 
 clock_is : (c : ℕ) → c / 3_600_000 * 3_600_000 + c / 60_000 % 60 * 60_000 + c % 60_000 ≡ c
 clock_is c = omega arith
-
-hours : (c : ℕ) → c < 86_400_000 → c / 3_600_000 < 24
-hours c h = omega (arith, h)
 
 small : (y m d : ℕ) → IsCivilDate (pos y) m d → (y ≤ 9999) × (m ≤ 12) × (d ≤ 31)
 small y m d is = grind (arith, common_steps)

@@ -2,10 +2,9 @@ use Rattle.std.proofs.Common.{◌≡◌, ◌-ℤ◌, ◌<◌, ◌*◌, ◌↔◌
 use Rattle.std.proofs.lemmas.Option.{IfSome_then}
 use Rattle.jiff_core.specs.Calendar.{days_from_civil}
 use Rattle.jiff_core.specs.DateTime.{civil_nanos}
-use Rattle.jiff_core.proofs.SignedLemmas.{signed_arith}
 use Rattle.gnss_obs.specs.Weeks.{week}
 use Rattle.gnss_obs.specs.Names.{weeks, civil_of, clock_of, IsCivilOf, Civil}
-use Rattle.gnss_obs.proofs.WalkLemmas.{walk_is}
+use Rattle.gnss_obs.proofs.WalkLemmas.{walk_is, same_number}
 use Rattle.gnss_obs.proofs.CivilLemmas.{since_of, since_range, is_of, only_one, not_below, below_none, cast_fits, cast_is}
 use Rattle.gnss_obs.proofs.time.GpsTime.from_civil.Goals as goal
 
@@ -17,9 +16,6 @@ none_of None ms civil iff same = λ t lt is. let e = same t is in let some = iff
 within_weeks : (r : Option ℕ) (ms : ℕ) (civil : Civil) → (IsSome r ↔ (ms < weeks * week)) → IfSome r (λ t. t ≡ ms) → IfSome r (λ t. IsCivilOf t civil) → IfSome r (λ t. civil ≡ civil_of t)
 within_weeks None ms civil some value is = tt
 within_weeks (Some t) ms civil some value is = walk_is t civil (rw value (some.0 (search rules))) is
-
-same_number : (t n : ℕ) → pos t ≡ pos n → t ≡ n
-same_number t n e = omega (arith, signed_arith, e)
 
 pub returns-then-since-lt0-clause-none : goal.returns-then-since-lt0-clause-none
 returns-then-since-lt0-clause-none c = λ t small is.
