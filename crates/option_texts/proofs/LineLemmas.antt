@@ -1,5 +1,5 @@
 -- Lines that are built word by word, and texts between commas.
-use Rattle.option_texts.proofs.Names.{◌≡◌, ◌==◌, ℕ, Bool, false, List, [], ◌∷◌, ◌++◌, ◌∙◌, ap, refl, sym, append_assoc, between_commas, join_with_byte, line, list_any, onto_first, or_parts, with_words}
+use Rattle.option_texts.proofs.Names.{◌≡◌, ◌==◌, ℕ, Bool, false, List, [], ◌∷◌, ◌++◌, ◌∙◌, ap, refl, sym, append_assoc, between_commas, join_with_byte, line, list_any, onto_first, or_parts, with_words, append-nil}
 
 joined : (x w : List ℕ) (ws : List (List ℕ)) → join_with_byte 0x20 ((x ++ 0x20 ∷ w) ∷ ws) ≡ join_with_byte 0x20 (x ∷ w ∷ ws)
 joined x w [] = refl
@@ -12,6 +12,16 @@ joined_after x w (v ∷ vs) = append_assoc x w (0x20 ∷ join_with_byte 0x20 (v 
 words_joined : (x : List ℕ) (ws : List (List ℕ)) → with_words x ws ≡ join_with_byte 0x20 (x ∷ ws)
 words_joined x [] = refl
 words_joined x (w ∷ ws) = words_joined (x ++ 0x20 ∷ w) ws ∙ joined x w ws
+
+-- a text before the words
+pub words_after : (text start : List ℕ) (words : List (List ℕ)) → text ++ with_words start words ≡ with_words (text ++ start) words
+words_after text start [] = refl
+words_after text start (w ∷ ws) = words_after text (start ++ 0x20 ∷ w) ws ∙ ap (λ (t : List ℕ). with_words t ws) (sym (append_assoc text start (0x20 ∷ w)))
+
+-- known words, added in one text
+pub words_in_one : {A : Type 0} (words : A → List (List ℕ)) (text : List ℕ) (x known : A) → x ≡ known → text ++ with_words [] (words known) ≡ with_words text (words x)
+words_in_one {A} words text x known is =
+    words_after text [] (words known) ∙ ap (λ (t : List ℕ). with_words t (words known)) (append-nil text) ∙ ap (λ (y : A). with_words text (words y)) (sym is)
 
 -- one more word
 pub add_word : {old new text word same : List ℕ} → new ≡ old ++ 0x20 ∷ word → old ≡ text → word ≡ same → new ≡ text ++ 0x20 ∷ same
