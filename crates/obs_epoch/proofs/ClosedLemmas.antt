@@ -1,7 +1,7 @@
 -- The closed epochs of a list after one more message.
 use Rattle.std.proofs.Common.{◌≡◌, ℕ, ◌<◌, ◌≤◌, ◌⊎◌, inl, inr, Bool, true, false, not, ◌||◌, ◌&&◌, List, [], ◌∷◌, ◌++◌, filter, refl, sym, ap, ap₂, ◌∙◌, subst, arith, Option, Some, None, nat_lt, append_assoc, append-nil, if◌then◌else◌, cond}
 use Rattle.std.proofs.lemmas.List.Elements.{filter-append}
-use Rattle.std.proofs.lemmas.Bool.{cases_Bool}
+use Rattle.std.proofs.lemmas.Bool.{cases_Bool, lt-ltb, le-ltb}
 use Rattle.obs_epoch.specs.Names.{GatherSetup, Heard, ends_epoch, Timed, max_known, greatest_time, is_closed, taken_at, timed, time_of, is_late, times, is_shut, closed_times, option_map_or}
 use Rattle.obs_epoch.proofs.TimesLemmas.{or_true, some_eq, greatest-push, max_known-none, greatest-present, greater-absent, none-absent, closed-push, closed-new, next, timed-push}
 use Rattle.obs_epoch.proofs.ClockLemmas.{at_self, Follows, follows, first, greater, equal}
@@ -40,12 +40,6 @@ pub record Ends (ts : List ℕ) (g : ℕ) : Type 0 where
   pub is : ts ≡ init ++ g ∷ []
   pub below : Below g init
 
-pub less_true : (t u : ℕ) → t < u → nat_lt t u ≡ true
-less_true t u h = grind arith
-
-pub less_false : (t u : ℕ) → u ≤ t → nat_lt t u ≡ false
-less_false t u h = grind arith
-
 by_less : (t u : ℕ) → (t < u) ⊎ (u ≤ t)
 by_less t u = elim (cases_Bool (nat_lt t u)) [ inl e ↦ inl (grind arith) | inr e ↦ inr (grind arith) ]
 
@@ -68,13 +62,13 @@ ends_step (Some t) (Some h) ts g e some none = by (by_less t h) where
       let same : h ≡ g = omega (arith, some_eq _ _ e, lt) in
       subst (λ v. Ends (t ∷ filter (λ u. nat_lt t u) ts) v) same (record {
         init = t ∷ filter (λ u. nat_lt t u) last.init;
-        is = ap (λ l. t ∷ l) (cut ∙ ap (λ l. filter (λ u. nat_lt t u) last.init ++ l) (one_passes (λ u. nat_lt t u) h (less_true t h lt)));
+        is = ap (λ l. t ∷ l) (cut ∙ ap (λ l. filter (λ u. nat_lt t u) last.init ++ l) (one_passes (λ u. nat_lt t u) h (lt-ltb t h lt)));
         below = (lt, Below-filter h (λ u. nat_lt t u) last.init last.below);
       })
   by (inr le) =
       let same : t ≡ g = omega (arith, some_eq _ _ e, le) in
       let nothing : filter (λ u. nat_lt t u) ts ≡ [] =
-      cut ∙ ap₂ (λ a b. a ++ b) (passes_none (λ u. nat_lt t u) h last.init (λ u lt. less_false t u (omega arith)) last.below) (one_fails (λ u. nat_lt t u) h (less_false t h le)) in
+      cut ∙ ap₂ (λ a b. a ++ b) (passes_none (λ u. nat_lt t u) h last.init (λ u lt. le-ltb t u (omega arith)) last.below) (one_fails (λ u. nat_lt t u) h (le-ltb t h le)) in
       record { init = []; is = ap₂ (λ a l. a ∷ l) same nothing; below = tt }
 
 no_times_step : (time rest : Option ℕ) (ts : List ℕ) → max_known time rest ≡ None → (rest ≡ None → ts ≡ []) → front time ts ≡ []
@@ -102,8 +96,8 @@ IsLess u (Some g) = g < u
 
 push_step : (time rest : Option ℕ) (u : ℕ) (ts new : List ℕ) → IsLess u (max_known time rest) → (IsLess u rest → new ≡ ts ++ u ∷ []) → front time new ≡ front time ts ++ u ∷ []
 push_step None rest u ts new h r = r h
-push_step (Some t) None u ts new h r = grind (arith, common_steps, filter-append, one_passes, less_true)
-push_step (Some t) (Some g) u ts new h r = grind (arith, common_steps, filter-append, one_passes, less_true)
+push_step (Some t) None u ts new h r = grind (arith, common_steps, filter-append, one_passes, lt-ltb)
+push_step (Some t) (Some g) u ts new h r = grind (arith, common_steps, filter-append, one_passes, lt-ltb)
 
 pub times-push_new : (xs : List Timed) (x : Timed) (u : ℕ) → x.time ≡ Some u → IsLess u (greatest_time xs) → times (xs ++ x ∷ []) ≡ times xs ++ u ∷ []
 times-push_new [] x u e h = ap (λ t. front t []) e
@@ -112,7 +106,7 @@ times-push_new (y ∷ ys) x u e h = push_step y.time (greatest_time ys) u (times
 same_step : (time rest : Option ℕ) (u : ℕ) (ts new : List ℕ) → max_known time rest ≡ Some u → (rest ≡ Some u → new ≡ ts) → (IsLess u rest → new ≡ ts ++ u ∷ [])
     → front time new ≡ front time ts
 same_step None rest u ts new e same more = same e
-same_step (Some t) rest u ts new e same more = grind (arith, common_steps, filter-append, one_fails, less_false, append-nil, some_eq)
+same_step (Some t) rest u ts new e same more = grind (arith, common_steps, filter-append, one_fails, le-ltb, append-nil, some_eq)
 
 pub times-push_same : (xs : List Timed) (x : Timed) (u : ℕ) → x.time ≡ Some u → greatest_time xs ≡ Some u → times (xs ++ x ∷ []) ≡ times xs
 times-push_same [] x u e h = absurd (grind arith)
@@ -125,10 +119,10 @@ or_false : (a b : Bool) → b ≡ false → (a || b) ≡ a
 or_false a b h = grind (arith, common_steps, h)
 
 shut_below : (s : GatherSetup) (ys : List Timed) (g t : ℕ) → greatest_time ys ≡ Some g → t < g → is_shut s ys t ≡ true
-shut_below s ys g t e lt = or_true (is_closed s t ys) _ (ap (λ o. option_map_or (λ u. nat_lt t u) o false) e ∙ less_true t g lt)
+shut_below s ys g t e lt = or_true (is_closed s t ys) _ (ap (λ o. option_map_or (λ u. nat_lt t u) o false) e ∙ lt-ltb t g lt)
 
 shut_at : (s : GatherSetup) (ys : List Timed) (g : ℕ) → greatest_time ys ≡ Some g → is_shut s ys g ≡ is_closed s g ys
-shut_at s ys g e = or_false (is_closed s g ys) _ (ap (λ o. option_map_or (λ u. nat_lt g u) o false) e ∙ less_false g g (omega arith))
+shut_at s ys g e = or_false (is_closed s g ys) _ (ap (λ o. option_map_or (λ u. nat_lt g u) o false) e ∙ le-ltb g g (omega arith))
 
 abbrev pub when : Bool → ℕ → List ℕ
 when b g = if b then g ∷ [] else []

@@ -1,11 +1,12 @@
 -- The epoch that a step closes is the one that the longer list closes.
-use Rattle.std.proofs.Common.{◌≡◌, ℕ, ◌<◌, Bool, true, false, not, ◌&&◌, List, [], ◌∷◌, ◌++◌, refl, sym, ap, ap₂, ◌∙◌, arith, Option, Some, None, nat_lt, append-nil, if◌then◌else◌, option_to_list}
+use Rattle.std.proofs.Common.{◌≡◌, ℕ, Bool, true, false, not, ◌&&◌, List, [], ◌∷◌, ◌++◌, refl, sym, ap, ap₂, ◌∙◌, arith, Option, Some, None, nat_lt, append-nil, if◌then◌else◌, option_to_list}
 use Rattle.obs_epoch.specs.Names.{Kind, CellCounts, GatherSetup, Heard, ends_epoch, is_own, Timed, greatest_time, is_closed, taken_at, State, is_pending, closes_first, no_counts, is_close_first, is_accepted, kind_after, closed_times, closed_so_far, option_map_or}
 use Rattle.obs_epoch.specs.Step.{closed_of, closed_time}
 use Rattle.obs_epoch.proofs.TimesLemmas.{next}
 use Rattle.obs_epoch.proofs.ClockLemmas.{standing, takes, same_time, Follows, first, greater, equal, new_time}
 use Rattle.obs_epoch.proofs.ClosedLemmas.{when, no_greatest, taken_follows, closed-push_none, closed-push_greater, closed-push_same, closed-push_first}
 use Rattle.std.proofs.lemmas.Grind.{common_steps}
+use Rattle.std.proofs.lemmas.Bool.{lt-ltb}
 
 either : (m c : Bool) (g : ℕ) → when (not c && m) g ≡ option_to_list (if m && not c then Some g else None)
 either m c g = grind (arith, common_steps)
@@ -36,9 +37,6 @@ shut_text c shut l t g e lt h = grind (arith, e, lt, h)
 pub not_less : (c shut : Bool) (u : ℕ) → (not c && nat_lt u u) ≡ shut → shut ≡ false
 not_less c shut u h = grind (arith, h)
 
-less : (t u : ℕ) → t < u → nat_lt t u ≡ true
-less t u h = grind arith
-
 pub own_of : (s : GatherSetup) (xs : List Timed) (m : Heard) (u : ℕ) → taken_at s xs m ≡ Some u → is_own s m ≡ true
 own_of s xs m u some = grind (arith, common_steps)
 
@@ -54,7 +52,7 @@ taken_by {s} {xs} m {u} own some (equal e c) shut h =
     closed-push_same s xs (next s xs m) u some e c ∙ ap (λ l. l ++ when (ends_epoch s m) u) (sym (plain s xs) ∙ ap (closed_so_far s xs) (sym open_still))
 taken_by {s} {xs} m {u} own some (greater t e lt) shut h =
     let same : when (not (is_closed s t xs)) t ≡ (if shut then option_to_list (greatest_time xs) else []) =
-    shut_text (is_closed s t xs) shut (nat_lt t u) t (greatest_time xs) e (less t u lt) (sym (first_is s xs m u t own some e) ∙ h) in
+    shut_text (is_closed s t xs) shut (nat_lt t u) t (greatest_time xs) e (lt-ltb t u lt) (sym (first_is s xs m u t own some e) ∙ h) in
     closed-push_greater s xs (next s xs m) t u some e lt ∙ ap (λ l. (closed_times s xs ++ l) ++ when (ends_epoch s m) u) same
 
 -- The epoch that a step closes, defined by the list.

@@ -10,9 +10,7 @@ use Rattle.obs_epoch.proofs.CellsLemmas.{kept-add, mine, mine-among, among-push,
 use Rattle.obs_epoch.proofs.NotingLemmas.{kept_apart}
 use Rattle.obs_epoch.proofs.LoadLemmas.{counts_after, outcome_after, planned_one}
 use Rattle.std.proofs.lemmas.Grind.{common_steps}
-
-or_false : (a : Bool) → (a || false) ≡ a
-or_false a = grind (arith, common_steps)
+use Rattle.std.proofs.Math.Bool.{or-false}
 
 -- A key is among the kept cells of all systems exactly if it is among those of its system.
 among_over : (ss : List System) (xs : List HeardCell) (p : HeardCell) → is_among (flat_map (λ s. kept s xs) ss) p ≡ (list_any (is_system p.satellite.system) ss && is_among (kept p.satellite.system xs) p)
@@ -42,7 +40,7 @@ all_kept system xs h = take_all most_cells (mine system xs) (fits most_cells (le
 
 -- For every next cell, an earlier cell is kept as before.
 known-push : (system : System) (xs : List HeardCell) (y p : HeardCell) → is_of_system system p ≡ true → is_among xs p ≡ true → is_among (kept system (xs ++ y ∷ [])) p ≡ is_among (kept system xs) p
-known-push system xs y p o there = grind (arith, common_steps, kept-add, or_false, all_kept, mine-among, key_system)
+known-push system xs y p o there = grind (arith, common_steps, kept-add, or-false, all_kept, mine-among, key_system)
 
 known-more : (system : System) (xs ys : List HeardCell) (p : HeardCell) → is_of_system system p ≡ true → is_among xs p ≡ true → is_among (kept system (xs ++ ys)) p ≡ is_among (kept system xs) p
 known-more system xs [] p o there = ap (λ l. is_among (kept system l) p) (append-nil xs)

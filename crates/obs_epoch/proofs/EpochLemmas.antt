@@ -3,8 +3,9 @@ use Rattle.std.proofs.Common.{◌≡◌, ℕ, ◌<◌, Bool, true, false, List, 
 use Rattle.std.proofs.lemmas.List.Elements.{filter-append}
 use Rattle.obs_epoch.specs.Names.{System, GatherSetup, HeardCell, Timed, greatest_time, offered, kept, cells_at, sorted, planned_of, times, locked_at, previous, lli_of, cells_with_lli, epoch_at, closed_times, is_closed, is_shut}
 use Rattle.obs_epoch.proofs.ClockLemmas.{Follows, first, greater, equal}
-use Rattle.obs_epoch.proofs.ClosedLemmas.{Below, IsLess, when, one_fails, less_false, times-push_new, times-push_same, times-push_none, no_times, ends, closed_is}
+use Rattle.obs_epoch.proofs.ClosedLemmas.{Below, IsLess, when, one_fails, times-push_new, times-push_same, times-push_none, no_times, ends, closed_is}
 use Rattle.std.proofs.lemmas.Grind.{common_steps}
+use Rattle.std.proofs.lemmas.Bool.{le-ltb}
 
 -- The message isn't accepted, or has a later time.
 abbrev pub IsLater : ℕ → Option ℕ → Type 0
@@ -64,7 +65,7 @@ times_before s xs x t follow h = by x.time refl where
   added u some less =
       let later : t < u = subst (IsLater t) some h in
       ap (filter (λ v. nat_lt v t)) (times-push_new xs x u some less) ∙ filter-append (λ v. nat_lt v t) (times xs) (u ∷ [])
-      ∙ ap (λ l. filter (λ v. nat_lt v t) (times xs) ++ l) (one_fails (λ v. nat_lt v t) u (less_false u t (omega (arith, later)))) ∙ append-nil _
+      ∙ ap (λ l. filter (λ v. nat_lt v t) (times xs) ++ l) (one_fails (λ v. nat_lt v t) u (le-ltb u t (omega (arith, later)))) ∙ append-nil _
 
   by_follows : (u : ℕ) → x.time ≡ Some u → Follows s xs u → filter (λ v. nat_lt v t) (times (xs ++ x ∷ [])) ≡ filter (λ v. nat_lt v t) (times xs)
   by_follows u some (first e) = added u some (subst (IsLess u) (sym e) tt)

@@ -8,6 +8,7 @@ use Rattle.obs_epoch.proofs.TimesLemmas.{next, timed-push, greatest-push}
 use Rattle.obs_epoch.proofs.ClosedLemmas.{ends, no_times, closed_is, when, taken_follows, grows_by}
 use Rattle.obs_epoch.proofs.EpochLemmas.{AllLater, IsLater, epoch_at-push, times_before, all_later}
 use Rattle.std.proofs.lemmas.Grind.{common_steps}
+use Rattle.rtcm_bits.specs.SmallLaws.{prefix_self, prefix_trans}
 
 -- ---- a closed epoch stays closed
 
@@ -128,12 +129,6 @@ epochs-push s ms m =
           ∙ ap (λ l. l ++ closed_list_at s (ms ++ m ∷ []) grown.0)
           (list-push s ms m (closed_times s xs) (all_later s xs (next s xs m) (taken_follows s xs m)) (each-push s ms m (closed_times s xs) (each_filter (is_shut s xs) (times xs)))),
     )
-
-pub prefix_trans : {A : Type 0} (a b c : List A) → IsPrefix a b → IsPrefix b c → IsPrefix a c
-prefix_trans a b c h k = (h.0 ++ k.0, k.1 ∙ ap (λ l. l ++ k.0) h.1 ∙ append_assoc a h.0 k.0)
-
-pub prefix_self : {A : Type 0} (a : List A) → IsPrefix a a
-prefix_self a = ([], sym (append-nil a))
 
 pub epochs-more : (s : GatherSetup) (ms more : List Heard) → IsPrefix (closed_list s ms) (closed_list s (ms ++ more))
 epochs-more s ms [] = subst (λ l. IsPrefix (closed_list s ms) (closed_list s l)) (sym (append-nil ms)) (prefix_self (closed_list s ms))

@@ -14,8 +14,8 @@ use Rattle.obs_epoch.proofs.PlaceLemmas.{listed_from, place_one, place_within, s
 use Rattle.gnss_obs.specs.Marked.{marked_at, marked_in, with_mark}
 use Rattle.gnss_system.specs.SystemValues.{with_value_of}
 use Rattle.gnss_system.specs.declared.by_system.BySystem.{BySystem}
-use Rattle.obs_epoch.proofs.TimesLemmas.{or_false}
 use Rattle.obs_epoch.proofs.ThinLemmas.{AllListedCells, HasListedCells, any-append, lost-push, no_phase, none_lost}
+use Rattle.std.proofs.Math.Bool.{or-false}
 
 abbrev same_cell : Cell → Cell → Bool
 same_cell x y = has_same_key (heard_cell x) (heard_cell y)
@@ -166,7 +166,7 @@ marks_push c marks es e listed h = by (is_some c.interval) refl where
       ∙ ap (λ a. if a && has_cell has_phase x e then false else lost_before c es x || has_cell is_marked x e) (sym at) ∙ sym (lost-push c es e x) where
         some : (p : Bool) → has_cell has_phase x e ≡ p → (if p then false else lost_before c es x) ≡ (if p then false else lost_before c es x || has_cell is_marked x e)
         some true q = refl
-        some false q = sym (or_false (lost_before c es x)) ∙ ap (λ b. lost_before c es x || b) (sym (no_phase x e q))
+        some false q = sym (or-false (lost_before c es x)) ∙ ap (λ b. lost_before c es x || b) (sym (no_phase x e q))
 
   off : (x : Cell) → has_listed_key (heard_cell x) ≡ true → on_grid c e.epoch.time ≡ false → is_lost_in (carried_from false marks e.epoch) x ≡ lost_before c (es ++ e ∷ []) x
   off x k at =

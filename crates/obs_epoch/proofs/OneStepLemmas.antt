@@ -7,12 +7,13 @@ use Rattle.gnss_system.proofs.SystemLaws.{equal_values, value_tabulated}
 use Rattle.obs_epoch.proofs.TimesLemmas.{next, greater-absent, none-absent}
 use Rattle.obs_epoch.proofs.ClockLemmas.{standing, same_time, Follows, first, greater, equal, new_time}
 use Rattle.obs_epoch.proofs.HeardLemmas.{same_itself}
-use Rattle.obs_epoch.proofs.ClosedLemmas.{Below, when, ends, closed_is, passes_all, one_fails, less_true, less_false, taken_follows, times-push_same}
+use Rattle.obs_epoch.proofs.ClosedLemmas.{Below, when, ends, closed_is, passes_all, one_fails, taken_follows, times-push_same}
 use Rattle.obs_epoch.proofs.ClosingLemmas.{first_is, not_less, own_of, taken_by}
 use Rattle.obs_epoch.proofs.EpochLemmas.{IsLater, AllLater, all_none, all_below, cells_at-push, times_before, epoch_at-push}
 use Rattle.obs_epoch.proofs.LockLemmas.{none_found, none_recorded}
 use Rattle.obs_epoch.proofs.LoadLemmas.{with_lli_by, epoch_of, load_is, counts_after}
 use Rattle.std.proofs.lemmas.Grind.{common_steps}
+use Rattle.std.proofs.lemmas.Bool.{lt-ltb, le-ltb}
 
 -- ---- after every message, a closed epoch is the same
 
@@ -54,7 +55,7 @@ before_taken s xs m u shut some h =
     ap (λ b. last.init ++ when b u) (sym closed) ∙ sym (closed_is s ys u last.init new.0 last.is last.below) ∙ taken_by m own some follow shut h in
     let same = cancel_when last.init (closed_so_far s xs shut) (ends_epoch s m) u two in (
       ap (filter (λ v. nat_lt v u)) last.is ∙ filter-append (λ v. nat_lt v u) last.init (u ∷ [])
-          ∙ ap₂ (λ a b. a ++ b) (passes_all (λ v. nat_lt v u) u last.init (λ t lt. less_true t u lt) last.below) (one_fails (λ v. nat_lt v u) u (less_false u u (omega arith)))
+          ∙ ap₂ (λ a b. a ++ b) (passes_all (λ v. nat_lt v u) u last.init (λ t lt. lt-ltb t u lt) last.below) (one_fails (λ v. nat_lt v u) u (le-ltb u u (omega arith)))
           ∙ append-nil last.init ∙ same,
       subst (Below u) same last.below,
     )

@@ -1,18 +1,16 @@
 -- The places of the lock records: within the total, and different for different keys.
-use Rattle.std.proofs.Common.{ℕ, ◌≡◌, ◌+◌, ◌<◌, ◌≤◌, true, nat_le, length, refl, arith}
+use Rattle.std.proofs.Common.{◌≡◌, ◌+◌, ◌<◌, ◌≤◌, true, nat_le, length, refl, arith}
 use Rattle.std.proofs.lemmas.Grind.{common_steps}
 use Rattle.gnss_system.specs.Satellites.{satellites}
 use Rattle.gnss_system.proofs.SystemLaws.{each_system}
 use Rattle.obs_epoch.specs.Held.{keys_of, base_of}
 use Rattle.obs_epoch.specs.Names.{System, table, has_listed_key, has_same_key, lock_place, most_locks, HeardCell}
+use Rattle.std.proofs.lemmas.Bool.{leb-true}
 
 -- ---- the range of a system
 
-at_most : (a b : ℕ) → nat_le a b ≡ true → a ≤ b
-at_most a b h = grind (arith, h)
-
 base_end : (s : System) → base_of s + keys_of s ≤ most_locks
-base_end s = at_most _ _ (each_system (λ s. nat_le (base_of s + keys_of s) most_locks) s refl)
+base_end s = leb-true _ _ (each_system (λ s. nat_le (base_of s + keys_of s) most_locks) s refl)
 
 -- ---- rows of width w
 

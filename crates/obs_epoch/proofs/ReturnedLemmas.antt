@@ -9,14 +9,15 @@ use Rattle.obs_epoch.specs.GathererSteps.{thinned_if}
 use Rattle.obs_epoch.specs.Marks.{AreMarks}
 use Rattle.obs_epoch.specs.Names.{State, step_by}
 use Rattle.obs_epoch.proofs.ThinnedLemmas.{Before, closed_one, thinned_gathers}
-use Rattle.obs_epoch.proofs.TimesLemmas.{next, timed-push, greater-absent, none-absent}
+use Rattle.obs_epoch.proofs.TimesLemmas.{next, timed-push, greater-absent, none-absent, some_eq}
 use Rattle.obs_epoch.proofs.ClockLemmas.{Follows, first, greater, equal, new_time, same_time, standing as standing_at}
 use Rattle.obs_epoch.proofs.ClosedLemmas.{taken_follows}
 use Rattle.obs_epoch.proofs.ClosingLemmas.{closing}
 use Rattle.obs_epoch.proofs.OneStepLemmas.{closed_later}
 use Rattle.obs_epoch.proofs.TakeLemmas.{taken, closes_it, ended, Ended, times_taken, time_taken, pending_taken, IsSet, no_point_given, same_values, clock_stepped, counts_stepped, handed_is, ended_is, marks_stepped}
-use Rattle.obs_epoch.proofs.HistoryLemmas.{Each, each_filter, each_front, each_back, list-push, before_all, before-push, pending_open, with_pending, prefix_self}
+use Rattle.obs_epoch.proofs.HistoryLemmas.{Each, each_filter, each_front, each_back, list-push, before_all, before-push, pending_open, with_pending}
 use Rattle.std.proofs.lemmas.Grind.{common_steps}
+use Rattle.rtcm_bits.specs.SmallLaws.{prefix_self}
 
 -- ---- which epoch is new
 
@@ -31,9 +32,6 @@ open_follows : (s : GatherSetup) (xs : List Timed) (u : ℕ) → Follows s xs u 
 open_follows s xs u (first e) = open_by s xs u (closed_absent s u xs (none-absent xs u e)) (ap (λ o. option_map_or (λ v. nat_lt u v) o false) e)
 open_follows s xs u (greater g e lt) = grind (arith, common_steps, open_by, closed_absent, greater-absent)
 open_follows s xs u (equal e c) = grind (arith, common_steps, open_by)
-
-some_is : (a b : ℕ) → Some a ≡ Some b → a ≡ b
-some_is a b e = grind (arith, e)
 
 -- An epoch that a step closes wasn't closed before.
 new_open : {g : GathererValue} {s : GatherSetup} {ms : List Heard} (m : Heard) {shut : Bool} → HasTakenMessages g s ms shut → closes_first s (timed s ms) m ≡ shut
@@ -51,7 +49,7 @@ new_open {g} {s} {ms} m {shut} h early t e = by (taken_at s xs m) refl where
       pending_open s xs t same (pending_taken m h early none t e)
   by (Some u) some =
       let follow = taken_follows s xs m u some in
-      let is : u ≡ t = some_is u t (sym (new_time s xs (next s xs m) u some follow).0 ∙ ap greatest_time (sym (timed-push s ms m)) ∙ now) in
+      let is : u ≡ t = some_eq u t (sym (new_time s xs (next s xs m) u some follow).0 ∙ ap greatest_time (sym (timed-push s ms m)) ∙ now) in
       subst (λ v. is_shut s xs v ≡ false) is (open_follows s xs u follow)
 
 -- ---- the list that was returned

@@ -1,5 +1,5 @@
 -- The counts of the cells with a value, and of those of a message.
-use Rattle.obs_epoch.specs.Names.{LockField, System, Satellite, SignalAt, IsSignal, signal_of_id, LockTime, Entry, Heard, seen_in, observed, HeardCell, SignalCountsValue, brings_value, valued, is_of_signal, count_of, AreSignalCounts, cons_option}
+use Rattle.obs_epoch.specs.Names.{LockField, System, Satellite, SignalAt, LockTime, Entry, Heard, seen_in, observed, HeardCell, SignalCountsValue, brings_value, valued, is_of_signal, count_of, AreSignalCounts, cons_option}
 use Rattle.obs_epoch.specs.Names.{satellite_of_id}
 use Rattle.obs_epoch.specs.SignalCounts.{every_channel}
 use Rattle.gnss_obs.specs.Channels.{hertz_by, hertz_in, number_at, slot_count}
@@ -10,28 +10,16 @@ use Rattle.rtcm_msg.specs.Presences.{has_value}
 use Rattle.std.proofs.lemmas.List.{get_or-replicate, length-replicate}
 use Rattle.gnss_system.specs.Signals.{most_signals}
 use Rattle.gnss_system.specs.SystemValues.{value_of}
-use Rattle.std.proofs.Common.{◌≡◌, ◌∙◌, ap, get_or, replicate, ℕ, ◌≤◌, Bool, List, [], ◌∷◌, ◌++◌, length, sym, subst, arith, Option, Some, filter, is_some, filter_map, unwrap_or}
-use Rattle.std.proofs.lemmas.List.Sums.{length-filter, count_by-le-length}
+use Rattle.std.proofs.Common.{◌≡◌, ◌∙◌, ap, get_or, replicate, ℕ, ◌≤◌, List, [], ◌++◌, length, sym, subst, arith, Option, Some, filter, is_some, filter_map, unwrap_or}
 use Rattle.std.proofs.lemmas.Grind.{common_steps}
-
--- ---- a filtered list is not longer
-
-few_passed : {X : Type 0} (p : X → Bool) (xs : List X) → length (filter p xs) ≤ length xs
-few_passed p xs = omega (arith, length-filter p xs, count_by-le-length p xs)
-
-length-filter_map : {X Y : Type 0} (f : X → Option Y) (xs : List X) → length (filter_map f xs) ≤ length xs
-length-filter_map f [] = omega arith
-length-filter_map f (x ∷ xs) = grind (arith, common_steps, length-filter_map f xs)
+use Rattle.rtcm_bits.specs.SmallLaws.{length-filter-le, length-filter_map-le}
 
 -- ---- the cells of a signal
 
 pub few_of : (g : SignalAt) (cells : List HeardCell) → count_of g cells ≤ length cells
-few_of g cells = few_passed (is_of_signal g) cells
+few_of g cells = length-filter-le (is_of_signal g) cells
 
 -- ---- the cell of an entry
-
-pub listed_of : (system : System) (id : ℕ) (g : SignalAt) → signal_of_id system id ≡ Some g → (g.system ≡ system) × IsSignal g
-listed_of system id g h = grind (arith, common_steps)
 
 -- Each satellite has a carrier if each slot has a channel.
 pub every_hertz : (system : System) (id : ℕ) (s : Satellite) (g : SignalAt) → satellite_of_id system id ≡ Some s → is_some (hertz_in every_channel s g) ≡ true
@@ -63,7 +51,7 @@ pub message_counted : (after : SignalCountsValue) (cells front : List HeardCell)
 message_counted after cells front wanted m same h = subst (λ (l : List HeardCell). AreSignalCounts after (cells ++ l)) (sym same) h
 
 pub few_valued : (field : LockField) (system : System) (es : List Entry) (cells : List HeardCell) → cells ≡ filter brings_value (filter_map (seen_in every_channel field system) es) → length es ≤ 64 → length cells ≤ 64
-few_valued field system es cells is few = grind (arith, common_steps, few_passed, length-filter_map)
+few_valued field system es cells is few = grind (arith, common_steps, length-filter-le, length-filter_map-le)
 
 -- Counts that are all 0.
 abbrev no_cells : List ℕ

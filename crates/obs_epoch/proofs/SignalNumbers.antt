@@ -1,14 +1,14 @@
 -- Cells are counted signal by signal.
 use Rattle.std.proofs.Common.{◌≡◌, ℕ, zero, suc, ◌+◌, ◌-◌, ◌<◌, ◌≤◌, ◌^◌, ◌==◌, ◌&&◌, ◌||◌, not, nat_le, List, [], ◌∷◌, ◌++◌, length, get_or, filter, Bool, true, false, Option, Some, None, refl, sym, ap, ◌∙◌, subst, arith, is_some, inl, inr, position, if◌then◌else◌, cond, filter_map, option_map, option_and_then, slice_get}
-use Rattle.std.proofs.lemmas.Bool.{cases_lt}
+use Rattle.std.proofs.lemmas.Bool.{cases_lt, not-true, eqb-true}
 use Rattle.std.proofs.lemmas.Grind.{common_steps}
 use Rattle.std.proofs.lemmas.List.Quantifiers.{position-Some}
 use Rattle.obs_epoch.specs.Names.{System, ListedSignal, Satellite, is_system, satellite_of_id, SignalAt, IsSignal, id_of, table, signal_of_id, HeardCell, Entry, LockField, has_id, is_in, has_listed_value, value_count, seen_in, lock_by, observed, SignalCountsValue, signal_counts, counted, signal_in, counted_more, satellite_set, brings_value, is_of_signal, count_of, CountsEntries, cons_option, option_map_or}
-use Rattle.gnss_system.proofs.Checked.{passes_at, passes_below, is_equal}
+use Rattle.gnss_system.proofs.Checked.{passes_at, passes_below}
 use Rattle.gnss_obs.proofs.TableLaws.{id_back, ids_within}
 use Rattle.rtcm_msg.proofs.ValueLaws.{count_first}
-use Rattle.obs_epoch.proofs.SignalCountsLemmas.{every_hertz, listed_of, value_same, one_first, few_of}
-use Rattle.gnss_system.proofs.SystemLaws.{system_self, each_system, system_same}
+use Rattle.obs_epoch.proofs.SignalCountsLemmas.{every_hertz, value_same, one_first, few_of}
+use Rattle.gnss_system.proofs.SystemLaws.{system_self, each_system, system_same, short_table, listed_of}
 use Rattle.rtcm_bits.specs.Bits.{odd}
 use Rattle.std.proofs.Common.{◌/◌}
 use Rattle.gnss_system.specs.Signals.{most_signals}
@@ -59,7 +59,7 @@ the_signal system id g s listed some = one_way _ _ there back where
   there : (is_system system g.system && (id == id_of g)) ≡ true → (is_system g.system s.system && (s.index == g.index)) ≡ true
   there h =
       let both = both_of (is_system system g.system) (id == id_of g) h in
-      let is : signal_of_id system id ≡ Some g = rw (system_same system g.system both.0, is_equal id (id_of g) both.1) (id_back g listed) in
+      let is : signal_of_id system id ≡ Some g = rw (system_same system g.system both.0, eqb-true id (id_of g) both.1) (id_back g listed) in
       let e : s ≡ g = some_same s g (signal_of_id system id) some is in
       rw (system_self g.system s.system (ap (λ (x : SignalAt). x.system) (sym e)), equal_self s.index g.index (ap (λ (x : SignalAt). x.index) e)) refl
 
@@ -68,7 +68,7 @@ the_signal system id g s listed some = one_way _ _ there back where
       let both = both_of (is_system g.system s.system) (s.index == g.index) h in
       let of : s.system ≡ system = (listed_of system id s some).0 in
       let e : g.system ≡ s.system = system_same g.system s.system both.0 in
-      let i : s.index ≡ g.index = is_equal s.index g.index both.1 in
+      let i : s.index ≡ g.index = eqb-true s.index g.index both.1 in
       let same : id_of s ≡ id_of g = alike s g (sym e) i in
       rw (system_self system g.system (sym of ∙ sym e), equal_self id (id_of g) (sym (id_forth system id s some) ∙ same)) refl
     where
@@ -90,10 +90,6 @@ from_same false false h = refl
 abbrev is_right : System → ℕ → Bool
 is_right system id = same (is_in (satellite_set system) id) (is_some (satellite_of_id system id))
 
-untrue : (b : Bool) → not b ≡ true → b ≡ false
-untrue true h = sym h
-untrue false h = refl
-
 in_set : (system : System) (id : ℕ) → is_in (satellite_set system) id ≡ is_some (satellite_of_id system id)
 unfolding same
 in_set system id = elim (cases_lt id 65) [
@@ -105,7 +101,7 @@ in_set system id = elim (cases_lt id 65) [
       let few = each_system (λ s. nat_le (satellites s) 63) system refl in
       let f : nat_le id (satellites system) ≡ false = grind (arith, above, few) in
       let g : nat_le 1 id ≡ true = grind (arith, above) in
-      rw (e, f, g) (untrue _ (each_system (λ s. not (odd (satellite_set s / 2 ^ 0))) system refl))
+      rw (e, f, g) (not-true _ (each_system (λ s. not (odd (satellite_set s / 2 ^ 0))) system refl))
 
 -- ---- the entries of a signal
 
@@ -175,9 +171,6 @@ number_none false h m n f = omega arith
 
 -- ---- one number more
 
-table_below : (s : System) → length (table s) ≤ most_signals
-table_below s = grind (arith, common_steps)
-
 more_at : (g : SignalAt) (n : ℕ) (c : SignalCountsValue) (s : System) (i : ℕ) → i < length (signal_counts s c) → counted c s i + n ≤ 2 ^ 64 - 1
     → counted (counted_more g n c) s i ≡ counted c s i + (if is_system s g.system && (g.index == i) then n else 0)
 more_at g n c s i within few = grind (arith, common_steps)
@@ -211,7 +204,7 @@ adds_some {c} {c'} {system} {left} {counts} {x} {n} {g} a split some is few once
   each = λ s i listed len small.
       let r = signal_in s i in
       let before : counted c' s i ≡ counted c s i + number system (x ∷ left) counts r = subst (λ (l : List ℕ). counted c' s i ≡ counted c s i + number system l counts r) split (a.each s i listed len small) in
-      let within : i < length (signal_counts s c') = omega (arith, listed, len, table_below s, a.size s) in
+      let within : i < length (signal_counts s c') = omega (arith, listed, len, short_table s, a.size s) in
       let same = the_signal system x r g listed some in
       let step : number system left counts r ≡ number system (x ∷ left) counts r + (if is_system s g.system && (g.index == i) then n else 0) = first_number system left counts x n r is once ∙ rw same refl in
       join _ _ _ (more_at g n c' s i within (room _ _ _ n before small (number_few _ _ (few (id_of r - 1))) (omega (arith, is, few (x - 1))))) before step;

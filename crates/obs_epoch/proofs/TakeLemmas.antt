@@ -5,8 +5,7 @@ use Rattle.obs_epoch.specs.Names.{Message, Kind, CloseFirst, CellCounts, GatherS
 use Rattle.obs_epoch.specs.GathererAfter.{HasAsManyCells}
 use Rattle.rtcm_msg.specs.declared.message.Message.TheVariants as message
 use Rattle.obs_epoch.specs.Step.{kind_by, step_by, closed_time, closed_of}
-use Rattle.gnss_system.proofs.Checked.{both_first}
-use Rattle.obs_epoch.proofs.TimesLemmas.{next, or_false, timed-push}
+use Rattle.obs_epoch.proofs.TimesLemmas.{next, timed-push}
 use Rattle.obs_epoch.proofs.ClockLemmas.{standing, same_state, takes, closes, new_time}
 use Rattle.obs_epoch.proofs.ClosedLemmas.{taken_follows}
 use Rattle.obs_epoch.proofs.ClosingLemmas.{accepted, closing, refused}
@@ -16,6 +15,8 @@ use Rattle.obs_epoch.proofs.LoadLemmas.{hold_is}
 use Rattle.obs_epoch.proofs.NotingLemmas.{noted_locked}
 use Rattle.obs_epoch.proofs.OneStepLemmas.{locked-push, closed_later, loaded_taken, held_same}
 use Rattle.std.proofs.lemmas.Grind.{common_steps}
+use Rattle.std.proofs.Math.Bool.{or-false}
+use Rattle.std.proofs.lemmas.Bool.{and_parts}
 
 pub clock_is : (g : State) (s : GatherSetup) (ms : List Heard) (shut : Bool) → HasHeardMessages g s ms shut → g ≡ standing s (timed s ms) shut
 clock_is g s ms shut h = same_state g s _ _ h.setup h.latest h.pending
@@ -191,7 +192,7 @@ was_pending k b before after other untaken e = grind (arith, common_steps)
 
 pub pending_taken : {g : GathererValue} {s : GatherSetup} {ms : List Heard} (m : Heard) {shut : Bool} → HasTakenMessages g s ms shut → closes_first s (timed s ms) m ≡ shut
     → taken_at s (timed s ms) m ≡ None → (t : ℕ) → closed_time g.clock m ≡ Some t → is_pending s (timed s ms) ≡ true
-pending_taken {g} {s} {ms} m {shut} h early none t e = grind (arith, common_steps, clock_is, takes, was_pending, refused, both_first)
+pending_taken {g} {s} {ms} m {shut} h early none t e = grind (arith, common_steps, clock_is, takes, was_pending, refused, and_parts)
 
 -- A message with a point has neither a time nor a multiple message bit.
 abbrev pub IsSet : Heard → Type 0
@@ -301,7 +302,7 @@ ended_none g s ms shut h f = ended_by g s ms shut false f h.clock.pending same h
     clock = record { setup = h.clock.setup; latest = h.clock.latest; pending = grind (arith, common_steps, f, h.clock.pending) };
     epoch = λ p. h.epoch (absurd (true≢false (sym p)));
     sizes = h.sizes;
-    locks = subst (λ b. Locked (stopping g) s (timed s ms) (closed_so_far s (timed s ms) b)) (sym (or_false shut)) (record { found = h.locks.found; tracks = h.locks.tracks });
+    locks = subst (λ b. Locked (stopping g) s (timed s ms) (closed_so_far s (timed s ms) b)) (sym (or-false shut)) (record { found = h.locks.found; tracks = h.locks.tracks });
     values = h.values;
   }
 

@@ -16,6 +16,7 @@ use Rattle.obs_epoch.proofs.LockLemmas.{AllListed, seens}
 use Rattle.obs_epoch.proofs.MarksLemmas.{marks_push}
 use Rattle.obs_epoch.proofs.NotingLemmas.{are_listed}
 use Rattle.obs_epoch.proofs.ThinLemmas.{AllListedCells, HasListedCells, counts_push, marked_length, marks_none, marks_same, none_lost, thin_append, thin_prefix}
+use Rattle.std.proofs.lemmas.Bool.{and_parts}
 
 -- ---- the cells of an epoch are listed
 
@@ -48,10 +49,7 @@ marked_is w c before same listed h at =
       by false none = sym (marks_none (lost_before c before) (λ x. none_lost c before x none) w.epoch)
 
 chosen_at : (c : Choice) (t : ℕ) → is_chosen c t ≡ true → on_grid c t ≡ true
-chosen_at c t h = by (in_window c t) (on_grid c t) h where
-  by : (a b : Bool) → (a && b) ≡ true → b ≡ true
-  by true b e = e
-  by false b e = absurd (true≢false (sym e))
+chosen_at c t h = (and_parts (in_window c t) (on_grid c t) h).1
 
 returned_is : (w : GathererValue) (c : Choice) (before : List Closed) → w.just_closed ≡ true → w.clock.setup.choice ≡ c → HasListedCells w.epoch → AreMarks c w.marks before
     → returned_epoch (thinned w) ≡ thin_after c before (last_of w ∷ [])

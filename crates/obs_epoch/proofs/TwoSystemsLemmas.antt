@@ -27,6 +27,7 @@ use Rattle.rtcm_msg.specs.declared.number.MsmSet.{MsmSet}
 use Rattle.obs_epoch.specs.Heard.{Heard, heard, heard_in, heard_msm, heard_of, lock_by, observed, seen_in, tow_of, unlisted_in}
 use Rattle.obs_epoch.specs.Sets.{set_of}
 use Rattle.obs_epoch.specs.TwoSystems.{AreReadPlainly, PlansTwo, plain_cell, plain_cell_of, plain_heard, plain_msm, plain_of, plain_unlisted}
+use Rattle.std.proofs.lemmas.Bool.{and_parts}
 
 -- What is decoded is the default set.
 pub default_decoded : (plan : PlanValue) → PlansTwo plan → set_of plan FourAndSeven ≡ default_set
@@ -97,16 +98,12 @@ msm_same channels leap field m es of =
     ∙ (ap (λ (n : ℕ). msm_with m (filter_map (plain_cell_of field m.system) es) n (tow_of m.system leap m.header.time)) (unlisted_same channels field m.system es of)
     ∙ ap (msm_with m (filter_map (plain_cell_of field m.system) es) (plain_unlisted field m.system es)) (tow_same leap m.system m.header.time of))
 
-both : (b c : Bool) → (b && c) ≡ true → b ≡ true
-both true c e = refl
-both false c e = absurd (cc e)
-
 message_same : (channels : ChannelsValue) (leap : ℕ) (m : Message) → is_in_set default_set m ≡ true → heard channels leap m ≡ plain_heard m
 message_same channels leap (message.Station p) within = refl
-message_same channels leap (message.Msm4 m) within = msm_same channels leap Df402 m (entries (message.Msm4 m)) (of_default m.system (both (value_of m.system (of_two true true false)) true within))
-message_same channels leap (message.Msm5 m) within = msm_same channels leap Df402 m (entries (message.Msm5 m)) (of_default m.system (both (value_of m.system (of_two true true false)) false within))
-message_same channels leap (message.Msm6 m) within = msm_same channels leap Df407 m (entries (message.Msm6 m)) (of_default m.system (both (value_of m.system (of_two true true false)) false within))
-message_same channels leap (message.Msm7 m) within = msm_same channels leap Df407 m (entries (message.Msm7 m)) (of_default m.system (both (value_of m.system (of_two true true false)) true within))
+message_same channels leap (message.Msm4 m) within = msm_same channels leap Df402 m (entries (message.Msm4 m)) (of_default m.system (and_parts (value_of m.system (of_two true true false)) true within).0)
+message_same channels leap (message.Msm5 m) within = msm_same channels leap Df402 m (entries (message.Msm5 m)) (of_default m.system (and_parts (value_of m.system (of_two true true false)) false within).0)
+message_same channels leap (message.Msm6 m) within = msm_same channels leap Df407 m (entries (message.Msm6 m)) (of_default m.system (and_parts (value_of m.system (of_two true true false)) false within).0)
+message_same channels leap (message.Msm7 m) within = msm_same channels leap Df407 m (entries (message.Msm7 m)) (of_default m.system (and_parts (value_of m.system (of_two true true false)) true within).0)
 message_same channels leap (message.Other n set) within = refl
 
 -- ---- what is decoded
