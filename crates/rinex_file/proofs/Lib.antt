@@ -3,7 +3,6 @@ mod Digits
 mod Fields
 mod Rows
 mod Writing
-mod Entries
 mod HeaderRows
 mod Reading
 mod Judged

@@ -6,13 +6,14 @@ use Rattle.rinex_file.proofs.HeaderRows.Letters.{has_fits}
 use Rattle.std.proofs.lemmas.Slice.Eq.{bytes_eq-Decides}
 use Rattle.std.specs.Str.{bytes_eq}
 use Rattle.rinex_fields.specs.Limits.{label_columns}
-use Rattle.rinex_file.proofs.HeaderRows.Texts.{at_most, each_field, equal_or, length-left, none_same, same_some}
+use Rattle.rinex_file.proofs.HeaderRows.Texts.{each_field, equal_or, length-left, none_same, same_some}
 use Rattle.rinex_file.proofs.HeaderRows.Types.{content_first}
 use Rattle.gnss_system.specs.declared.system.System.TheVariants.{Glonass}
 use Rattle.rinex_file.proofs.HeaderRows.Slots.{no_slots}
 use Rattle.rinex_file.proofs.PlainTexts.{both}
 use Rattle.rinex_file.proofs.HeaderRows.Places.{all_before, either, flipped, is_types, other_before, other_slots, own_before, own_slots, place_at, plain_before, slots_here}
-use Rattle.rinex_file.proofs.Names.{types_line, is_of_types, common_steps, Result, Refusal, TakesHeaderLine, expected_if, drop, all_rows, arith, ◌≡◌, ◌∙◌, sym, ap, refl, subst, ℕ, zero, suc, ◌+◌, ◌<◌, ◌≤◌, Bool, true, false, List, [], ◌∷◌, ◌++◌, length, take, append-nil, not, take_all, ◌≢◌, ◌==◌, ◌&&◌, min, ◌↔◌, nat_lt, nat_tests, System, planned_of, Known, IsShown, AreValid, Shown, IsHeadAt, row_lines, row_line, lines_before, lines_after, signals_begun, HeaderRow, Types, StrengthUnit, Shift, End, Expected, has_line, row_at, row_count, row_place, type_rows, known_line, RefusesHeaderLine, NoneGoesOn, SameFrom, AreSized, AreTypesOf, Has, HasRow, counted, fits, types_before, begins_with, IsHeaderLineRead, GoesOn, Takes, flat_map, header_line, letter, codes, is_less, lit<, ◌*◌, value_of, nil_from_length, Slots, Biases, SlotNumber, slots_of, slots_in_line, slot_rows, AreSlotsRead, AreSlotsAt, AreSameSlots, AreSlotsBefore, SlotsFollow, known_slots, not-true, ltb-false, add-one, eq-eqb, Texts, First, HeaderField, is_given, is_optional, is_required, has_text, label_of, left, AreUnread, append_assoc, ap₂, or_parts, or_right, has_label, fields_of, drop_at, length-append, ◌-◌, ◌||◌, nat_le, Interval, row_label, is_some, Option, lit≤, Version, Position, Delta}
+use Rattle.rinex_file.proofs.Names.{types_line, is_of_types, common_steps, Result, Refusal, TakesHeaderLine, expected_if, drop, all_rows, arith, ◌≡◌, ◌∙◌, sym, ap, refl, subst, ℕ, zero, suc, ◌+◌, ◌<◌, ◌≤◌, Bool, true, false, List, [], ◌∷◌, ◌++◌, length, take, append-nil, not, take_all, ◌≢◌, ◌==◌, ◌&&◌, min, ◌↔◌, nat_lt, nat_tests, System, planned_of, Known, IsShown, AreValid, Shown, IsHeadAt, row_lines, row_line, lines_before, lines_after, signals_begun, HeaderRow, Types, StrengthUnit, Shift, End, Expected, has_line, row_at, row_count, row_place, type_rows, known_line, RefusesHeaderLine, NoneGoesOn, SameFrom, AreSized, AreTypesOf, Has, HasRow, counted, fits, types_before, begins_with, IsHeaderLineRead, GoesOn, Takes, flat_map, header_line, letter, codes, is_less, lit<, ◌*◌, value_of, nil_from_length, Slots, Biases, SlotNumber, slots_of, slots_in_line, slot_rows, AreSlotsRead, AreSlotsAt, AreSameSlots, AreSlotsBefore, SlotsFollow, known_slots, not-true, ltb-false, add-one, eq-eqb, Texts, First, HeaderField, is_given, is_optional, is_required, has_text, label_of, left, AreUnread, append_assoc, ap₂, or_parts, or_right, has_label, fields_of, drop_at, length-append, ◌-◌, ◌||◌, nat_le, Interval, row_label, is_some, Option, lit≤, Version, Position, Delta, at_most}
+use Rattle.std.proofs.lemmas.Bool.{not-false}
 
 -- ---- the number of a system's signals
 
@@ -96,12 +97,9 @@ slots_known {n} less row k h at has =
     let e : n ≡ row_place (Slots (suc row)) = place_at n (Slots (suc row)) less at in
     subst (HasRow k h) (slots_here row (omega (arith, few))) (has.rows (row_place (Slots row)) (omega (arith, e)))
 
-not_false : (b : Bool) → not b ≡ false → b ≡ true
-not_false b e = grind arith
-
 -- apart from types and optional rows, what is known says it
 pub plain_present : {n : ℕ} (less : n < row_count) (r : HeaderRow) → row_at n ≡ r → is_types r ≡ false → is_optional r ≡ false → (k : Known) (line : List ℕ) (h : Shown) → Has k n h → has_line h r ≡ known_line k line r
-plain_present less (Texts row) at plain fixed k line h has = let must = not_false (is_required row) fixed in ap (λ b. b || has_text h.texts row) must ∙ sym (ap (λ b. b || has_label (label_of row) line) must)
+plain_present less (Texts row) at plain fixed k line h has = let must = not-false (is_required row) fixed in ap (λ b. b || has_text h.texts row) must ∙ sym (ap (λ b. b || has_label (label_of row) line) must)
 plain_present less Interval at plain fixed k line h has = cc
 plain_present less (Types s row) at plain fixed k line h has = cc
 plain_present {n} less (Shift s) at plain fixed k line h has = let e = place_at n (Shift s) less at in planned_known n (omega (arith, e)) s k h has

@@ -6,9 +6,9 @@ use Rattle.gnss_obs.proofs.PlanLemmas.{few_below}
 use Rattle.std.proofs.lemmas.List.Sums.{AllPass-from_list_all}
 use Rattle.std.proofs.lemmas.List.Concat.{get_or-flat_map}
 use Rattle.std.proofs.lemmas.List.{get_or-map}
-use Rattle.rinex_file.proofs.Entries.{flat_map-append}
+use Rattle.std.proofs.lemmas.Grind.{flat_map-append}
 use Rattle.rinex_fields.proofs.NumberLemmas.{length-right, digits_in-whole}
-use Rattle.rinex_file.proofs.Names.{min, ◌-◌, length-take, length-drop, arith, rules, ◌≡◌, ◌∙◌, ap, refl, ℕ, zero, suc, ◌+◌, ◌<◌, ◌≤◌, ◌==◌, Bool, true, false, List, [], ◌∷◌, length, take, drop, Some, Option, nat_lt, sym, ◌*◌, ◌/◌, ◌%◌, ◌++◌, get_or, append_assoc, append-nil, ap₂, subst, ◌^◌, ◌||◌, replicate, decimal, nat_eq, IsAscii, IsUtf8, flat_map, slice_index, codes, list_any, IsDistinct, IsUtf8-from_ascii, cases_lt, length-map, take_more, get_or-drop, take_all, take_at, take-take, take-map, drop_at, drop-drop, drop-take, get_or-take, All-get_or, apart_from_distinct, IsDistinct-tail, length-decimal-le, System, SignalAt, IsSignal, table, code_of, signal_of_code, passes_at, is_less, is_equal, indices, IsOf, any_index, indices-push, type_of, types_of, codes_of, type_columns, header_line, type_front, joined, left, right, letter, digits_in, AreTypes, types_line, signals_begun, HasSignalAt, same_Some, list_all, All-weaker, most_signals, both_ways}
+use Rattle.rinex_file.proofs.Names.{min, ◌-◌, length-take, length-drop, arith, rules, ◌≡◌, ◌∙◌, ap, refl, ℕ, zero, suc, ◌+◌, ◌<◌, ◌≤◌, ◌==◌, Bool, true, false, List, [], ◌∷◌, length, take, drop, Some, Option, nat_lt, sym, ◌*◌, ◌/◌, ◌%◌, ◌++◌, get_or, append_assoc, append-nil, ap₂, subst, ◌^◌, ◌||◌, replicate, decimal, nat_eq, IsAscii, IsUtf8, flat_map, slice_index, codes, list_any, IsDistinct, IsUtf8-from_ascii, cases_lt, length-map, take_more, get_or-drop, take_all, take_at, take-take, take-map, drop_at, drop-drop, drop-take, get_or-take, All-get_or, apart_from_distinct, IsDistinct-tail, length-decimal-le, System, SignalAt, IsSignal, table, code_of, signal_of_code, passes_at, is_less, is_equal, indices, IsOf, any_index, indices-push, type_of, types_of, codes_of, type_columns, header_line, type_front, joined, left, right, letter, digits_in, AreTypes, types_line, signals_begun, HasSignalAt, same_Some, list_all, All-weaker, most_signals, both_ways, flip_false}
 
 abbrev signal : System → ℕ → SignalAt
 signal system index = record { system = system; index = index }
@@ -243,9 +243,6 @@ row_shown system all row =
       enough row = omega arith
 
 -- ---- none comes twice
-
-flip_false : (a b : ℕ) → nat_eq a b ≡ false → nat_eq b a ≡ false
-flip_false a b h = grind (arith, h)
 
 pub not_before : (all : List ℕ) (k : ℕ) → IsDistinct nat_eq all → k < length all → list_any (nat_eq (slice_index all k)) (take k all) ≡ false
 not_before [] k apart less = absurd (omega (arith, less))

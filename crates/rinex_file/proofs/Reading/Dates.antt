@@ -4,6 +4,7 @@ use Rattle.rinex_fields.proofs.NumberLemmas.{length-right, length-padded, length
 use Rattle.rinex_file.proofs.HeaderRows.Types.{content_first}
 use Rattle.rinex_file.proofs.Names.{arith, ◌≡◌, ℕ, zero, suc, ◌+◌, ◌*◌, ◌/◌, ◌%◌, ◌^◌, ◌<◌, ◌≤◌, List, [], ◌∷◌, ◌++◌, refl, sym, ap, ◌∙◌, length, get_or, take, drop, append_assoc, decimal, pos, subst, lit<, codes, min, ⊤, is_negative, sign_text, length-decimal-le, take_at, drop_at, drop-drop, div-add-mod', Civil, IsCivilOf, civil_of, joined, right, padded, fixed, digits_in, epoch_line, first_line}
 pub use Rattle.std.proofs.lemmas.Option.{none-some as none_some, same_Some}
+pub use Rattle.gnss_obs.proofs.WalkLemmas.{same_civil}
 
 -- ---- fields of fixed widths, one after the other
 
@@ -154,9 +155,6 @@ kept_second {digits = digits} {value} e f small = let d : digits / 10_000 ≡ va
 
 abbrev pub of_numbers : ℕ → ℕ → ℕ → ℕ → ℕ → ℕ → Civil
 of_numbers a b c d e f = record { year = a; month = b; day = c; hour = d; minute = e; millisecond = f }
-
-pub same_civil : (t u : Civil) → t.year ≡ u.year → t.month ≡ u.month → t.day ≡ u.day → t.hour ≡ u.hour → t.minute ≡ u.minute → t.millisecond ≡ u.millisecond → t ≡ u
-same_civil t u p q r s v w = grind arith
 
 -- the date and time of day that was read is that of a time whose line this is
 pub found : (civil : Civil) (v : ℕ) → civil ≡ civil_of v → IsCivilOf v (civil_of v) → IsCivilOf v civil

@@ -1,9 +1,8 @@
 -- The steps of a reading from one line of an epoch to the next.
 use Rattle.gnss_obs.proofs.PlanLemmas.{few_below}
 use Rattle.rinex_file.proofs.FewRows.{few_most, few_rows}
-use Rattle.rinex_file.proofs.Entries.{few_signals}
 use Rattle.std.proofs.Common.{le_trans}
-use Rattle.rinex_file.proofs.Names.{Ok, ok_or, MayRunOut, Err, Memory, arith, ◌≡◌, refl, ℕ, ◌<◌, List, [], ◌∷◌, ◌++◌, length, length-append, suc, ◌+◌, ◌≤◌, sym, ap, ap₂, subst, ◌∙◌, append_assoc, append-nil, zero-add, drop, get_or, Option, Some, None, Expected, IsStrictlyIncreasing, All, map, flat_map, Result, IsErrAnd, get_or_append_left, map-append, common_steps, All-head, All-tail, All-nil, All-push, flat_map-append, System, PlanValue, planned_of, civil_of, StationValues, Stamped, SatelliteRow, FileValue, time_stamped, IsFileValue, IsPlan, IsStamped, IsSatelliteRow, AreSatelliteRows, IsTime, IsChange, AreChanges, IsFirstSame, changed_by, values_following, rank_of, most_rows, planned_in, Epoch, Satellite, epoch_line, satellite_line, stamped_lines, change_lines, event_line, Progress, file_with, stamped, StartsAt, IsAt, IsAtEpoch, IsInEvent, IsInEpoch, HasLinesLeft, epoch_after, begun_at, with_row, with_epoch, AreRead, IsBegun, IsSoundAt, IsSound, MayBegin, values_now, AreLinesAt, header_lines, whole_lines, part_lines, AddedRow, Refusal, Bad, ParserState, History, FollowsHistory, GoesOnWithLine, ShowsLine, RefusesLine, TakesLine, progress_at, Known, NoRow, IsNext, most_signals, table}
+use Rattle.rinex_file.proofs.Names.{Ok, ok_or, MayRunOut, Err, Memory, arith, ◌≡◌, refl, ℕ, ◌<◌, List, [], ◌∷◌, ◌++◌, length, length-append, suc, ◌+◌, ◌≤◌, sym, ap, ap₂, subst, ◌∙◌, append_assoc, append-nil, zero-add, drop, get_or, Option, Some, None, Expected, IsStrictlyIncreasing, All, map, flat_map, Result, IsErrAnd, get_or_append_left, map-append, common_steps, All-head, All-tail, All-nil, All-push, flat_map-append, System, PlanValue, planned_of, civil_of, StationValues, Stamped, SatelliteRow, FileValue, time_stamped, IsFileValue, IsPlan, IsStamped, IsSatelliteRow, AreSatelliteRows, IsTime, IsChange, AreChanges, IsFirstSame, changed_by, values_following, rank_of, most_rows, planned_in, Epoch, Satellite, epoch_line, satellite_line, stamped_lines, change_lines, event_line, Progress, file_with, stamped, StartsAt, IsAt, IsAtEpoch, IsInEvent, IsInEpoch, HasLinesLeft, epoch_after, begun_at, with_row, with_epoch, AreRead, IsBegun, IsSoundAt, IsSound, MayBegin, values_now, AreLinesAt, header_lines, whole_lines, part_lines, AddedRow, Refusal, Bad, ParserState, History, FollowsHistory, GoesOnWithLine, ShowsLine, RefusesLine, TakesLine, progress_at, Known, NoRow, IsNext, most_signals, table, short_table}
 
 -- a line was refused: memory ran out, or no file continues with it
 pub passed : {Q : Refusal → Type 0} (old new : ParserState) (line : List ℕ) (r : Result AddedRow Refusal) → IsErrAnd r Q → ((e : Refusal) → Q e → e ≡ Bad → (h : History) → FollowsHistory old h → RefusesLine (progress_at old h) line)
@@ -340,7 +339,7 @@ pub sound_open : (s : Progress) (n : ℕ) → s.expected ≡ Satellite n → IsS
 sound_open s n expected sound = subst (λ d. IsSoundAt s d) expected sound
 
 pub few_signals_of : (p : PlanValue) → IsPlan p → (system : System) → length (planned_of system p) ≤ most_signals
-few_signals_of p is system = let few = few_below (length (table system)) (planned_of system p) (is.listed system) (is.apart system) in let most = few_signals system in omega (arith, few, most)
+few_signals_of p is system = let few = few_below (length (table system)) (planned_of system p) (is.listed system) (is.apart system) in let most = short_table system in omega (arith, few, most)
 
 pub few_at : (s : Progress) (n : ℕ) → s.expected ≡ Satellite n → IsSound s → ((t : System) → planned_in s.known.shown.plan t ≤ most_signals)
 few_at s n expected sound = few_signals_of s.known.shown.plan (sound_open s n expected sound).0.shown.plan

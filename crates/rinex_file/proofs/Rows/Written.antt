@@ -2,7 +2,8 @@
 use Rattle.rinex_file.proofs.Rows.Trimmed.{uncut, cut_last, length-trimmed}
 use Rattle.rinex_file.proofs.Digits.Padded.{two_digits}
 use Rattle.rinex_file.proofs.HeaderRows.Texts.{trimmed-blanks}
-use Rattle.rinex_file.proofs.Names.{arith, ◌≡◌, ◌≢◌, ◌∙◌, sym, ap, ap₂, refl, ℕ, ◌+◌, ◌-◌, ◌*◌, ◌≤◌, ◌<◌, List, [], ◌∷◌, ◌++◌, length, take, drop, replicate, get_or, append-nil, take-append-drop, Bool, false, flat_map, ◌||◌, IsTrue, ◌↔◌, not, nat_eq, list_any, take-add, drop-drop, take_all, take_more, length-drop, length-take-le, length_push, get_or-take, get_or_append_left, ne_eqb, flat_map-append, list_any-append, SignalValues, SatelliteRow, has_some_value, trimmed, IsEnded, padded, field, signal_text, lli_byte, strength_byte, row_text, satellite_line, letter, number_of}
+use Rattle.rinex_file.proofs.Names.{arith, ◌≡◌, ◌≢◌, ◌∙◌, sym, ap, ap₂, refl, ℕ, ◌+◌, ◌-◌, ◌*◌, ◌≤◌, ◌<◌, List, [], ◌∷◌, ◌++◌, length, take, drop, replicate, get_or, append-nil, take-append-drop, Bool, flat_map, ◌||◌, IsTrue, ◌↔◌, not, nat_eq, list_any, take-add, drop-drop, take_all, take_more, length-drop, length-take-le, length_push, get_or-take, get_or_append_left, ne_eqb, flat_map-append, list_any-append, SignalValues, SatelliteRow, has_some_value, trimmed, IsEnded, padded, field, signal_text, lli_byte, strength_byte, row_text, satellite_line, letter, number_of}
+use Rattle.std.proofs.Math.Bool.{or-false}
 
 -- ---- the columns of a signal
 
@@ -30,12 +31,9 @@ signals_more text i es e pushed before here =
     ap (flat_map signal_text) pushed ∙ flat_map-append signal_text es (e ∷ []) ∙ ap₂ (λ a b. a ++ b) before (append-nil (signal_text e) ∙ sym here)
     ∙ sym (take-add (64 * i) 64 text) ∙ ap (λ n. take n text) next
 
-or_none : (b : Bool) → (b || false) ≡ b
-or_none b = grind arith
-
 pub some_more : (es new : List SignalValues) (e : SignalValues) (a b : Bool) → new ≡ es ++ e ∷ [] → a ≡ list_any has_some_value es → b ≡ has_some_value e
     → (a || b) ≡ list_any has_some_value new
-some_more es new e a b pushed is here = ap₂ (λ s t. s || t) is here ∙ sym (ap (list_any has_some_value) pushed ∙ list_any-append has_some_value es (e ∷ []) ∙ ap (λ t. list_any has_some_value es || t) (or_none (has_some_value e)))
+some_more es new e a b pushed is here = ap₂ (λ s t. s || t) is here ∙ sym (ap (list_any has_some_value) pushed ∙ list_any-append has_some_value es (e ∷ []) ∙ ap (λ t. list_any has_some_value es || t) (or-false (has_some_value e)))
 
 -- ---- the number of a satellite
 

@@ -1,5 +1,5 @@
 -- The cells of one satellite, in a list in the order of satellites.
-use Rattle.rinex_file.proofs.Names.{◌≡◌, ℕ, zero, suc, ◌+◌, ◌-◌, ◌<◌, ◌≤◌, Bool, List, [], ◌∷◌, filter, take, drop, refl, arith, length, AllByRecursion, drop-drop, Cell, is_written, is_of_satellite, run, Above, Climb, Left}
+use Rattle.rinex_file.proofs.Names.{◌≡◌, ℕ, zero, suc, ◌+◌, ◌-◌, ◌<◌, ◌≤◌, Bool, List, [], ◌∷◌, filter, take, drop, refl, arith, length, AllByRecursion, drop-drop, Cell, is_written, is_of_satellite, run, Above, Climb, Left, all_above}
 
 pub climb-drop : (n : ℕ) (cells : List Cell) → Climb cells → Climb (drop n cells)
 climb-drop zero cells h = h
@@ -10,10 +10,6 @@ pub record Parted (id : ℕ) (cells : List Cell) : Type 0 where
   pub group : filter (is_of_satellite id) cells ≡ take (run id cells) cells
   pub above : Above id (drop (run id cells) cells)
   pub rest : (later : ℕ) → id < later → filter (is_of_satellite later) cells ≡ filter (is_of_satellite later) (drop (run id cells) cells)
-
-pub all_above : (n m : ℕ) (cells : List Cell) → n < m → AllByRecursion (λ (d : Cell). m ≤ d.satellite.id) cells → Above n cells
-all_above n m [] lt h = tt
-all_above n m (c ∷ cells) lt h = (omega (arith, lt, h.0), all_above n m cells lt h.1)
 
 pub none_above : (n : ℕ) (cells : List Cell) → Above n cells → filter (is_of_satellite n) cells ≡ []
 none_above n [] h = refl

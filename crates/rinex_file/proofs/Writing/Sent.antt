@@ -5,8 +5,9 @@ use Rattle.std.proofs.lemmas.List.Sums.{sum_by-cons}
 use Rattle.gnss_system.specs.Systems.{systems, index_of, before, after}
 use Rattle.gnss_system.specs.Satellites.{satellites as satellites_in}
 use Rattle.gnss_system.proofs.SystemLaws.{systems_split, systems_taken}
-use Rattle.rinex_file.proofs.Entries.{flat_map-append}
+use Rattle.std.proofs.lemmas.Grind.{flat_map-append}
 use Rattle.rinex_file.proofs.Names.{common_steps, arith, ◌≡◌, ◌∙◌, sym, ap, refl, subst, ℕ, zero, suc, ◌+◌, ◌-◌, ◌≤◌, List, [], ◌∷◌, ◌++◌, length, append_assoc, append-nil, length-append, Option, Bool, true, false, Result, OnOk, OnErr, map, if◌then◌else◌, IfErr, Appends, Appends-trans, map-append, length-map, filter-append, AppendsPrefix, HasFailed, System, Cell, cells_of, flat_map, take, take_all, civil_of, PlanValue, EpochValue, is_written, written_among, satellites_written, joined, written_satellites, row_among, row_in_epoch, rows_of, satellite_line, epoch_line, StationValues, position_line, delta_line, event_line, event_text, line_among, line_or_none, lines_up_to, lines_of_systems, epoch_text}
+pub use Rattle.rtcm_bits.specs.SmallLaws.{on_failure as where_failed}
 
 -- a part of the first is a part of both
 pub part_first : (a c : Option (List ℕ)) {text : List ℕ} (next rest : List ℕ) → text ≡ next ++ rest → AppendsPrefix a c next → AppendsPrefix a c text
@@ -138,9 +139,6 @@ module _ (p : PlanValue) (e : EpochValue) where
   epoch_whole a b c {line} is first last = subst (λ l. Appends a c l) (sym (parts is)) (Appends-trans a b c line (lines_of_systems p e systems) first last)
 
 -- ---- what holds of a call that failed
-
-pub where_failed : {A E : Type 0} (r : Result A E) (P : Type 0) → P → OnErr r P
-where_failed r P p = grind arith
 
 -- nothing is promised of it
 pub failed : {A E : Type 0} (Q : E → Type 0) (r : Result A E) (P : Type 0) → IsErrAnd r Q → OnOk r P

@@ -80,7 +80,7 @@ impl TypesSoFar {
 
 /// Appends the signals of the codes in a line of types that follow a `C`, the letter of a signal's
 /// first type.
-#[tactic(auto, using(crate::proofs::Entries::few_signals))]
+#[tactic(auto, using(crate::proofs::Names::short_table))]
 fn take_signals(
     signals: &mut Signals,
     system: System,

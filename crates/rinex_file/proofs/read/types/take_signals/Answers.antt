@@ -1,13 +1,12 @@
-use Rattle.rinex_file.proofs.Entries.{few_signals}
 use Rattle.rinex_file.proofs.Judged.{at_some}
 use Rattle.rinex_file.proofs.HeaderRows.Types.{IsInLine, still_grows, read_here, index_read, taken_more, taken_before}
-use Rattle.rinex_file.proofs.Names.{arith, ◌≡◌, ◌∙◌, sym, ap, refl, subst, none-some, ℕ, List, [], ◌∷◌, length, take, min, ◌+◌, ◌<◌, ◌≤◌, Ok, take_at, take_min, common_steps, System, SignalAt, IsSignal, AreTypes, types_line, signals_begun, table, indices, IsAdded, IsOf, length_push}
+use Rattle.rinex_file.proofs.Names.{arith, ◌≡◌, ◌∙◌, sym, ap, refl, subst, none-some, ℕ, List, [], ◌∷◌, length, take, min, ◌+◌, ◌<◌, ◌≤◌, Ok, take_at, take_min, common_steps, System, SignalAt, IsSignal, AreTypes, types_line, signals_begun, table, indices, IsAdded, IsOf, length_push, short_table}
 use Rattle.rinex_file.proofs.read.types.take_signals.Goals as goal
 
 -- the index of the signal is below that of the first one of the next line, and there are that many
 there : {system : System} {all line : List ℕ} {row place end a count : ℕ} → AreTypes system all → line ≡ types_line system all row → signals_begun row ≤ place → place < end → end ≡ min a count → a ≡ signals_begun (row + 1)
     → length all ≡ count → count ≤ length (table system) → IsInLine system all line row place
-there {system} are is low less least next size bound = grind (arith, few_signals)
+there {system} are is low less least next size bound = grind (arith, short_table)
 
 pub returns-in_err-signal-clause-bad : goal.returns-in_err-signal-clause-bad
 returns-in_err-signal-clause-bad c = λ refused all are begun is.

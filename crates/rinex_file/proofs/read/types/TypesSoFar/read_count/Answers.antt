@@ -1,7 +1,6 @@
-use Rattle.rinex_file.proofs.Entries.{few_signals}
 use Rattle.rinex_file.proofs.HeaderRows.Types.{few_types, count_read}
 use Rattle.rinex_file.proofs.read.types.TypesSoFar.read_count.Goals.{then-count-eq0-via-then-count-eq0, then-count-eq0-via-else-count-eq0+then-count-signals}
-use Rattle.rinex_file.proofs.Names.{arith, ◌≡◌, ◌∙◌, ap, ℕ, List, ◌/◌, ◌≤◌, Some, System, digits_in, types_line}
+use Rattle.rinex_file.proofs.Names.{arith, ◌≡◌, ◌∙◌, ap, ℕ, List, ◌/◌, ◌≤◌, Some, System, digits_in, types_line, short_table}
 use Rattle.rinex_file.proofs.read.types.TypesSoFar.read_count.Goals as goal
 
 first_row : (system : System) (all line : List ℕ) (row : ℕ) → row ≤ 0 → line ≡ types_line system all row → line ≡ types_line system all 0
@@ -9,7 +8,7 @@ first_row system all line row none is = let e : row ≡ 0 = omega (arith, none) 
 
 pub returns-then-count-eq0-clause-count : goal.returns-then-count-eq0-clause-count
 returns-then-count-eq0-clause-count c = λ all are later is.
-    let read = ap (λ n. n / 4) (c.digits_in-types.ensures.value ∙ ap digits_in c.columns.ensures.value) ∙ count_read c.args.system all c.args.line.now are (few_signals c.args.system) (first_row c.args.system all c.args.line.now c.args.row c.if-row-gt0.false is) in
+    let read = ap (λ n. n / 4) (c.digits_in-types.ensures.value ∙ ap digits_in c.columns.ensures.value) ∙ count_read c.args.system all c.args.line.now are (short_table c.args.system) (first_row c.args.system all c.args.line.now c.args.row c.if-row-gt0.false is) in
     let few = few_types c.args.system all are in
     elim c.then-count-eq0.branch [
       | then-count-eq0-via-then-count-eq0 w ↦ absurd (omega (arith, w.if-count-eq0.true, read, are.some))
@@ -19,4 +18,4 @@ returns-then-count-eq0-clause-count c = λ all are later is.
 pub returns-clause-count : goal.returns-clause-count
 returns-clause-count c = λ all are later is.
     ap (λ n. Some (n / 4)) (c.digits_in-types.ensures.value ∙ ap digits_in c.columns.ensures.value)
-    ∙ ap Some (count_read c.args.system all c.args.line.now are (few_signals c.args.system) (first_row c.args.system all c.args.line.now c.args.row c.if-row-gt0.false is))
+    ∙ ap Some (count_read c.args.system all c.args.line.now are (short_table c.args.system) (first_row c.args.system all c.args.line.now c.args.row c.if-row-gt0.false is))
