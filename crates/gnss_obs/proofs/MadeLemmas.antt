@@ -1,16 +1,15 @@
 -- The plan of lists of signals, or its fault.
-use Rattle.std.proofs.Common.{◌≡◌, ℕ, ◌<◌, true≢false, true, false, List, [], length, refl, sym, ap, ◌∙◌, subst, arith, ◌⊎◌, inl, inr, Result, Ok, Err, IfErr, MatchResult, if◌then◌else◌, is_ok, Bor, nat_lt}
+use Rattle.std.proofs.Common.{◌≡◌, ℕ, ◌<◌, true≢false, true, false, List, length, refl, sym, ap, ◌∙◌, subst, arith, ◌⊎◌, inl, inr, Result, Ok, Err, IfErr, MatchResult, if◌then◌else◌, is_ok, nat_lt}
 use Rattle.std.specs.List.{sum_by}
 use Rattle.gnss_system.specs.Systems.{systems, index_of}
-use Rattle.gnss_system.specs.SystemValues.{value_of, map_by, of_two}
+use Rattle.gnss_system.specs.SystemValues.{value_of, map_by}
 use Rattle.gnss_system.specs.declared.by_system.BySystem.{BySystem}
 use Rattle.gnss_obs.specs.Plans.{has_signal, HasSignal, plan_by, signals_in, is_none_planned}
 use Rattle.gnss_obs.specs.SignalLists.{AreRead, AreAdded}
 use Rattle.gnss_obs.specs.Values.{plan_with}
-use Rattle.gnss_obs.specs.Names.{System, Gps, Galileo, PlanFault, UnknownCode, RepeatedCode, NothingPlanned, Memory, SignalAt, PlanValue, plan_of, indices, IsOf, DoneOr, IsDefined, IsMade, IsMemoryFaultOr, IsPlanResult, IsUnplanned, HasOwn}
-use Rattle.gnss_system.proofs.SystemLaws.{each_of_two, Below, value_mapped, sum_none}
+use Rattle.gnss_obs.specs.Names.{System, PlanFault, UnknownCode, RepeatedCode, NothingPlanned, Memory, SignalAt, PlanValue, plan_of, indices, IsOf, DoneOr, IsDefined, IsMade, IsMemoryFaultOr, IsPlanResult, IsUnplanned, HasOwn}
+use Rattle.gnss_system.proofs.SystemLaws.{Below, value_mapped, sum_none}
 use Rattle.gnss_obs.proofs.FitLemmas.{unfit_not_of}
-use Rattle.gnss_obs.proofs.PlanLemmas.{none_of}
 use Rattle.std.proofs.lemmas.Grind.{common_steps}
 
 abbrev fault_of : {A : Type 0} → Result A PlanFault → PlanFault
@@ -62,10 +61,6 @@ plan_read added texts lists result is m = by result (made (HasSignal texts) (λ 
   by (Err e) (inr none) = inr (plan none.0 ∙ rw (none.1, none.2) refl)
 
 -- ---- of lists
-
--- The signals of two systems, and none of the others.
-pub two_of : (gps galileo none : Bor (List SignalAt)) → IsOf Gps gps.now → IsOf Galileo galileo.now → none.now ≡ [] → (s : System) → IsOf s (value_of s (of_two gps galileo none)).now
-two_of gps galileo none g e empty = each_of_two (λ s (l : Bor (List SignalAt)). IsOf s l.now) g e (λ s. subst (IsOf s) (sym empty) (none_of s))
 
 pub plan_added : {A : Type 0} (added : Result A PlanFault) (signals lists : BySystem (List SignalAt)) (result : Result PlanValue PlanFault)
     → DoneOr (HasOwn signals) (IsUnplanned signals) (AreAdded signals lists) added → IsMade added lists result → IsPlanResult signals result

@@ -1,7 +1,7 @@
 //! Plans: the wanted signals of each system.
-ghost use Rattle.std.specs.Prelude.{◌≡◌, ◌<◌, ◌≤◌, ◌+◌, [], true, length, slice_index, codes, nat_eq, All, IfErr, IsOk, Err};
+ghost use Rattle.std.specs.Prelude.{◌≡◌, ◌<◌, ◌≤◌, [], true, length, slice_index, codes, nat_eq, All, IfErr, IsOk, Err};
 ghost use Rattle.gnss_system.specs.declared.system.System.{System};
-ghost use Rattle.gnss_system.specs.declared.system.System.TheVariants.{Gps, Galileo, Glonass};
+ghost use Rattle.gnss_system.specs.declared.system.System.TheVariants.{Glonass};
 ghost use Rattle.gnss_system.specs.Systems.{systems};
 ghost use Rattle.gnss_system.specs.SystemValues.{value_of, tabulate, map_by, of_two};
 ghost use Rattle.std.specs.List.{sum_by, IsDistinct};
@@ -79,23 +79,6 @@ impl Plan {
         let mut lists = no_signals(alloc);
         let read = read_all(&mut lists, texts);
         Plan::with(read, lists)
-    }
-
-    /// Returns the plan of these signals of GPS and Galileo in this order, as `from_lists` does.
-    ///
-    /// # Errors
-    ///
-    /// As of `from_lists`.
-    pub fn from_signals(
-        alloc: Global,
-        gps: &[Signal],
-        galileo: &[Signal],
-    ) -> Result<Plan, PlanFault>
-        ensures cases { IsPlanResult (of_two gps.now galileo.now []) result }
-        ensures planned { IsOf Gps gps.now → IsOf Galileo galileo.now → 0 < length gps.now + length galileo.now
-            → IfErr result (λ e. e ≡ PlanFault.Memory) }
-    {
-        Plan::from_lists(alloc, &BySystem::of_two(gps, galileo, &[]))
     }
 
     /// Returns the plan of these signals of each system in this order.

@@ -12,7 +12,7 @@ ghost use Rattle.rtcm_msg.specs.Views as views;
 
 use gnss_obs::Signal;
 use gnss_system::{BySystem, MOST_SIGNALS, SYSTEMS, System};
-use rtcm_msg::{Message, MsmView, View};
+use rtcm_msg::{MsmView, View};
 use std::marker::Model;
 
 /// The number of cells with a value, for each signal of the tables.
@@ -60,13 +60,6 @@ impl SignalCounts {
     }
 
     /// Counts the cells of a message of this station; with `None`, of any station.
-    pub fn count_message(&mut self, station: Option<u16>, message: &Message)
-        ensures { CountsMessage self.old self.new station (heard every_channel 0 message.now) }
-    {
-        self.count_view(station, &message.view());
-    }
-
-    /// Counts as `count_message` does, but reads the cells from the bytes of the message.
     pub fn count_view(&mut self, station: Option<u16>, view: &View<'_>)
         ensures { CountsMessage self.old self.new station (heard every_channel 0 (viewed_message view.now)) }
     {

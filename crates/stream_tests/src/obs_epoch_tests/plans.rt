@@ -1,5 +1,5 @@
 //! Plans of texts and of signals.
-use gnss_obs::{Plan, PlanFault, Signal, System};
+use gnss_obs::{BySystem, Plan, PlanFault, Signal, System};
 use std::alloc::Global;
 use std::test::*;
 
@@ -91,7 +91,7 @@ fn are_made(alloc: Global) -> bool {
         };
         let gps = &signals[..(*gps).min(2)];
         let galileo = &signals[..(*galileo).min(2)];
-        if planned(Plan::from_signals(alloc, gps, galileo)) != *want {
+        if planned(Plan::from_lists(alloc, &BySystem::of_two(gps, galileo, &[]))) != *want {
             return false;
         }
     }

@@ -8,7 +8,7 @@ use std::test::*;
 /// this station is wanted.
 fn is_counted(wanted: Option<u16>, count: u64) -> bool {
     let mut signal_counts = SignalCounts::new();
-    signal_counts.count_message(wanted, &message(Heard::Long(1_000, false, 64)));
+    signal_counts.count_view(wanted, &message(Heard::Long(1_000, false, 64)).view());
     signal_counts.count(System::Gps, 0) == count && signal_counts.has_any() == (count == 1)
 }
 
