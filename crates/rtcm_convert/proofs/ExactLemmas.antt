@@ -8,9 +8,11 @@ use Rattle.obs_epoch.specs.Marks.{capped_counts}
 use Rattle.obs_epoch.specs.Thinning.{has_satellite, marked_after, thin, thin_after}
 use Rattle.rtcm_convert.specs.Converted.{epoch_counts}
 use Rattle.gnss_obs.specs.Values.{Closed}
-use Rattle.rtcm_convert.proofs.Names.{common_steps, ◌≡◌, ◌||◌, ℕ, ◌+◌, ◌*◌, ◌≤◌, most_bytes, List, [], ◌∷◌, ◌++◌, Bool, true, false, refl, sym, ap, subst, arith, rules, length, length-append, add-zero, suc, zero, nat_lt, Option, Some, None, is_some, LockField, Df402, Df407, count_by, filter, filter_map, if◌then◌else◌, zip, option_map_or, length-map, length-filter, count_by-le-length, System, uint, Framed, Message, Entry, MasksValue, MsmValue, AreMasks, IsMessage, chosen, cell_pairs, all_pairs, entries, entry_in, Kind, GatherSetup, Heard, heard, heard_by, ChannelsValue, heard_msm, is_own, unlisted_in, HeardCell, Timed, timed, timed_after, taken_at, is_late, is_past, time_of, times, counts_of, counts_of_message, no_counts, with_skipped, is_planned, offered, kind_of, kind_at, closed_at, satellites_written, SetupValue, messages_of, message_of, epochs_in, outcomes_after, capped, capped_tally, sum_of_counts, tally_of, tally_of_one, IsFew, AreFew, Report, CellCounts}
+use Rattle.rtcm_convert.proofs.Names.{common_steps, ◌≡◌, ◌||◌, ℕ, ◌+◌, ◌*◌, ◌≤◌, most_bytes, List, [], ◌∷◌, ◌++◌, Bool, true, false, refl, sym, ap, subst, arith, rules, length, length-append, add-zero, suc, nat_lt, Option, Some, None, is_some, LockField, Df402, Df407, count_by, filter, if◌then◌else◌, zip, option_map_or, length-map, length-filter, count_by-le-length, System, Framed, Message, Entry, MasksValue, MsmValue, AreMasks, IsMessage, chosen, cell_pairs, all_pairs, entries, entry_in, Kind, GatherSetup, Heard, heard, heard_by, ChannelsValue, heard_msm, is_own, unlisted_in, HeardCell, Timed, timed, timed_after, taken_at, is_late, is_past, time_of, times, counts_of, counts_of_message, no_counts, with_skipped, is_planned, offered, kind_of, kind_at, closed_at, satellites_written, SetupValue, messages_of, message_of, epochs_in, outcomes_after, capped, capped_tally, sum_of_counts, tally_of, tally_of_one, IsFew, AreFew, Report, CellCounts}
 use Rattle.rtcm_msg.specs.declared.message.Message.TheVariants as message
 use Rattle.obs_epoch.specs.declared.taken.Kind.TheVariants as kind
+use Rattle.rtcm_bits.specs.SmallLaws.{length-filter-le, length-filter_map-le}
+use Rattle.rtcm_bits.specs.BitLaws.{length-uint}
 
 -- ---- the cells of a message
 
@@ -20,11 +22,6 @@ chosen_few [] xs = omega arith
 chosen_few (b ∷ bits) [] = omega arith
 chosen_few (true ∷ bits) (x ∷ xs) = let i = chosen_few bits xs in omega arith
 chosen_few (false ∷ bits) (x ∷ xs) = let i = chosen_few bits xs in omega arith
-
-length-uint : (w n : ℕ) → length (uint w n) ≡ w
-unfolding uint
-length-uint zero n = refl
-length-uint (suc w) n = ap suc (length-uint w n)
 
 zip_few : {A B : Type 0} (xs : List A) (ys : List B) → length (zip xs ys) ≤ length xs
 zip_few [] ys = omega arith
@@ -42,10 +39,6 @@ entries_few (message.Msm6 v) h = subst (λ (n : ℕ). n ≤ 64) (sym (length-map
 entries_few (message.Msm7 v) h = subst (λ (n : ℕ). n ≤ 64) (sym (length-map (zip (cell_pairs v.sets) v.cells) (entry_in forms.Msm7 v))) (cell_pairs_few v.sets v.cells h.sets)
 entries_few (message.Other n set) h = omega arith
 
-filter_map_few : {X Y : Type 0} (h : X → Option Y) (xs : List X) → length (filter_map h xs) ≤ length xs
-filter_map_few h [] = omega arith
-filter_map_few h (x ∷ xs) = grind (arith, common_steps, filter_map_few h xs)
-
 unlisted_few : (channels : ChannelsValue) (field : LockField) (system : System) (es : List Entry) → unlisted_in channels field system es ≤ length es
 unlisted_few channels field system [] = omega arith
 unlisted_few channels field system (e ∷ es) = grind (arith, common_steps, unlisted_few channels field system es)
@@ -56,7 +49,7 @@ record HasFew (m : Heard) : Type 0 where
   unlisted : m.unlisted ≤ 64
 
 heard_msm_few : (channels : ChannelsValue) (leap : ℕ) (field : LockField) (v : MsmValue) (es : List Entry) → length es ≤ 64 → HasFew (heard_msm channels leap field v es)
-heard_msm_few channels leap field v es le = grind (arith, common_steps, filter_map_few, unlisted_few)
+heard_msm_few channels leap field v es le = grind (arith, common_steps, length-filter_map-le, unlisted_few)
 
 heard_few : (channels : ChannelsValue) (leap : ℕ) (m : Message) → IsMessage m → HasFew (heard channels leap m)
 heard_few channels leap (message.Station s) h = record { cells = omega arith; unlisted = omega arith }
@@ -161,15 +154,12 @@ whole_few : (s : SetupValue) (fs : List Framed) → length (whole_list s.gathere
 whole_few s fs =
     let ms = messages_of s fs in
     let g = s.gatherer in
-    omega (arith, length-map (times (timed g ms)) (closed_at g ms), times_few (timed g ms), timed_length g [] ms, filter_map_few (message_of s) fs)
-
-some_few : {A : Type 0} (p : A → Bool) (xs : List A) → length (filter p xs) ≤ length xs
-some_few p xs = let a = length-filter p xs in omega (arith, a, count_by-le-length p xs)
+    omega (arith, length-map (times (timed g ms)) (closed_at g ms), times_few (timed g ms), timed_length g [] ms, length-filter_map-le (message_of s) fs)
 
 pub epochs_few : (s : SetupValue) (fs : List Framed) → epochs_in s fs ≤ length fs
 epochs_few s fs =
     let es = whole_list s.gatherer (messages_of s fs) in
-    omega (arith, some_few (λ e. nat_lt 0 (satellites_written e.epoch)) (thin s.gatherer.choice es), thin_few s.gatherer.choice [] es, whole_few s fs)
+    omega (arith, length-filter-le (λ e. nat_lt 0 (satellites_written e.epoch)) (thin s.gatherer.choice es), thin_few s.gatherer.choice [] es, whole_few s fs)
 
 pub whole_epochs : (n k most : ℕ) → n ≤ k → 6 * k ≤ most → most ≤ most_bytes → capped n ≡ n
 whole_epochs n k most a b c = omega arith
@@ -179,9 +169,9 @@ counts_whole s fs most short small =
     let es = whole_list s.gatherer (messages_of s fs) in
     let c = s.gatherer.choice in
     let valued = filter has_satellite es in
-    let n : length valued ≤ length fs = omega (arith, some_few has_satellite es, whole_few s fs) in
-    let w : length (filter (λ e. in_window c e.epoch.time) valued) ≤ length fs = omega (arith, some_few (λ (e : Closed). in_window c e.epoch.time) valued, n) in
-    let g : length (filter (λ e. on_grid c e.epoch.time) valued) ≤ length fs = omega (arith, some_few (λ (e : Closed). on_grid c e.epoch.time) valued, n) in
+    let n : length valued ≤ length fs = omega (arith, length-filter-le has_satellite es, whole_few s fs) in
+    let w : length (filter (λ e. in_window c e.epoch.time) valued) ≤ length fs = omega (arith, length-filter-le (λ (e : Closed). in_window c e.epoch.time) valued, n) in
+    let g : length (filter (λ e. on_grid c e.epoch.time) valued) ≤ length fs = omega (arith, length-filter-le (λ (e : Closed). on_grid c e.epoch.time) valued, n) in
     λ i. record {
       epochs = whole_epochs (length valued) (length fs) most n short small i;
       window = whole_epochs (length (filter (λ e. in_window c e.epoch.time) valued)) (length fs) most w short small i;
