@@ -6,7 +6,7 @@ use Rattle.rtcm_convert.proofs.Names.{◌≡◌, ℕ, List, ◌++◌, true, fals
 
 -- no more bytes were accepted than a stream may have
 within : (v : FramerValue) (w : FileWriter) (s : SetupValue) (bytes : List ℕ) → Drained v w s bytes → length bytes ≤ most_bytes
-within v w s bytes d = let t = d.framer.history.taken in let a = d.framer.within in let b = d.framer.limit in omega arith
+within v w s bytes d = let t = d.scan.framer.history.taken in let a = d.scan.framer.within in let b = d.scan.framer.limit in omega arith
 
 abbrev pub Few : Type 0
 Few = (b : List ℕ) → 6 * length (frames_of b) ≤ length b
@@ -14,7 +14,7 @@ Few = (b : List ℕ) → 6 * length (frames_of b) ≤ length b
 module _ {W : Type 0} {c : W → Option (List ℕ)} {v v' : FramerValue} {w w' : FileWriter} {o o' : Device W} where
   -- the remaining frames were passed on
   passed_all : PassesKnown (Files c) v w o v' w' o' → (s : SetupValue) (bytes : List ℕ) → Drained v w s bytes → HasPassedAll (Files c) v' w o (known_frames v.has_ended bytes) w' o' bytes
-  passed_all k s bytes d = k w o (known_frames v.has_ended bytes) bytes (known_frames v.has_ended bytes) (record { framer = d.framer; taken = files_self c w o (known_frames v.has_ended bytes) })
+  passed_all k s bytes d = k w o (known_frames v.has_ended bytes) bytes (known_frames v.has_ended bytes) (record { framer = d.scan.framer; taken = files_self c w o (known_frames v.has_ended bytes) })
 
   filed_all : v.has_ended ≡ false → v'.has_ended ≡ true → PassesKnown (Files c) v w o v' w' o' → (s : SetupValue) (bytes : List ℕ) → Drained v w s bytes
       → HasFiledFrames w' s (frames_of bytes) × AppendsBetween (c o.inner) (c o'.inner) (so_far s (decided_frames bytes)) (so_far s (frames_of bytes))
@@ -35,8 +35,8 @@ module _ {W : Type 0} {c : W → Option (List ℕ)} {v v' : FramerValue} {w w' :
       let q = rest s (frames_of bytes) p.0 in
       let a = passed_all k s bytes d in
       let n : length (outcomes s (frames_of bytes)) ≡ length (frames_of bytes) = outcomes_length s [] (frames_of bytes) in
-      let t : v.taken ≡ length bytes = d.framer.history.taken in
-      let l : v.taken ≤ v.limit = d.framer.within in
+      let t : v.taken ≡ length bytes = d.scan.framer.history.taken in
+      let l : v.taken ≤ v.limit = d.scan.framer.within in
       record {
         over = after;
         out = goes_on-trans p.1 q.0;
@@ -67,7 +67,7 @@ pub drain_part : {W : Type 0} {c : W → Option (List ℕ)} {v : FramerValue} {w
     → (s : SetupValue) (bytes : List ℕ) → Drained v w s bytes → AppendsPrefixOfRest (c o.inner) (c o'.inner) s bytes bytes
 drain_part {c = c} {v} {w} {w'} {o} {o'} stays grows before k s bytes d =
     let p : HasBroken (BreaksFiling c) true w o (known_frames v.has_ended bytes) w' o' (known_frames v.has_ended bytes) bytes =
-    k w o (known_frames v.has_ended bytes) bytes (known_frames v.has_ended bytes) (record { framer = d.framer; taken = files_self c w o (known_frames v.has_ended bytes) }) in
+    k w o (known_frames v.has_ended bytes) bytes (known_frames v.has_ended bytes) (record { framer = d.scan.framer; taken = files_self c w o (known_frames v.has_ended bytes) }) in
     let j : known_frames v.has_ended bytes ≡ decided_frames bytes = ap (λ h. known_frames h bytes) before in
     let out : AppendsPrefixBetween (c o.inner) (c o'.inner) (so_far s (decided_frames bytes)) (so_far s p.reached) =
     subst (λ (l : List Framed). AppendsPrefixBetween (c o.inner) (c o'.inner) (so_far s l) (so_far s p.reached)) j (up_to_whole (p.broken.part s d.file_writer)) in

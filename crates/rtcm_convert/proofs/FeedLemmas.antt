@@ -27,7 +27,7 @@ module _ {W : Type 0} {failed over : Bool} {v v' : FramerValue} {w w' : FileWrit
         converted = now;
         out = p.1;
         kept = keeps.values s (bytes ++ piece) now;
-        bounds = subst (λ (n : ℕ). IsWithinBounds n (kept_of (with_flags failed over v' w'))) p.0.framer.history.taken keeps.bounds;
+        bounds = subst (λ (n : ℕ). IsWithinBounds n (kept_of (with_flags failed over v' w'))) p.0.scan.framer.history.taken keeps.bounds;
       }
 
   pub fed_fit : IsFit (with_flags failed over v w) → IsGoing (with_flags failed over v w) → w'.gatherer.has_ended ≡ false → v'.is_ready ≡ true → v'.has_ended ≡ v.has_ended → (HasExaminedSome v → HasExaminedSome v')
@@ -42,7 +42,7 @@ module _ {W : Type 0} {failed over : Bool} {v v' : FramerValue} {w w' : FileWrit
 
   pub fed_long : v.has_ended ≡ false → v'.has_ended ≡ false → PassesToLimit (Files c) v w o v' w' o' piece → CutsAtLimit (with_flags failed over v w) (with_flags true over v' w') (c o.inner) (c o'.inner) piece
   fed_long before after k = record {
-    adds = λ s bytes h. (subst (λ (l : List ℕ). AppendsDecided (c o.inner) (c o'.inner) s bytes l) (to_limit v bytes piece h.drained.framer.history.taken h.drained.framer.within)
+    adds = λ s bytes h. (subst (λ (l : List ℕ). AppendsDecided (c o.inner) (c o'.inner) s bytes l) (to_limit v bytes piece h.drained.scan.framer.history.taken h.drained.scan.framer.within)
         (piece_whole c (up_to_limit v piece) before after k.passes s bytes h.drained).1);
     full = k.full;
     over = k.over;

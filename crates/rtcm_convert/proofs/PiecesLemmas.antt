@@ -57,7 +57,7 @@ module _ {v w : Conversion} {a b : Option (List ℕ)} (front : List ℕ) (came :
         let out = goes_on-trans i.1 (q.adds s (bytes ++ front) i.0) in
         let whole : bytes ++ all ≡ ((bytes ++ front) ++ piece) ++ rest =
         ap (λ l. bytes ++ l) e ∙ sym (append_assoc bytes (front ++ piece) rest) ∙ ap (λ l. l ++ rest) (sym (append_assoc bytes front piece)) in
-        let had : w.scan.taken ≡ length (bytes ++ front) = i.0.drained.framer.history.taken in
+        let had : w.scan.taken ≡ length (bytes ++ front) = i.0.drained.scan.framer.history.taken in
         let size : length ((bytes ++ front) ++ piece) ≡ length (bytes ++ front) + length piece = length-append (bytes ++ front) piece in
         let over : w.scan.limit < w.scan.taken + length piece = q.over in
         let room : w.scan.limit ≤ length ((bytes ++ front) ++ piece) = omega (arith, over, had, size) in

@@ -67,7 +67,7 @@ module _ {W : Type 0} {failed over : Bool} {v v' : FramerValue} {w w' : FileWrit
     record { least = p.least; most = p.greatest },
     λ s bytes h.
         let ps : List Framed = known_frames v.has_ended bytes in
-        let here = passed_here c v w o bytes (record { framer = h.drained.framer; drained = h.drained.drained }) in
+        let here = passed_here c v w o bytes h.drained.scan in
         let k = p.breaks w o ps bytes here in
         let f = up_to_later (so_far-front grows s k.reached (known_frames v.has_ended (bytes ++ (p.front ++ p.piece))) k.known) (k.broken.part s h.drained.file_writer) in
         let g = failing_at s bytes p.front p.piece before (so_far-front grows s (decided_frames bytes) (decided_frames (bytes ++ p.front)) (frames bytes p.front)) (so_far-front grows s (known_frames v.has_ended (bytes ++ p.front)) k.taken k.first) f in

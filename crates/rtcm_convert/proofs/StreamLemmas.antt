@@ -42,16 +42,13 @@ module _ {W : Type 0} (c : W → Option (List ℕ)) where
     drained = d.drained;
   }
 
-  scan_of : (v : FramerValue) (w : FileWriter) (s : SetupValue) (b : List ℕ) → Drained v w s b → HasDrained v b
-  scan_of v w s b d = record { framer = d.framer; drained = d.drained }
-
   -- a piece was accepted
   pub piece_whole : {v v' : FramerValue} {w w' : FileWriter} {o o' : Device W} (piece : List ℕ) → v.has_ended ≡ false → v'.has_ended ≡ false → Passes (Files c) v w o v' w' o' piece
       → (s : SetupValue) (bytes : List ℕ) → Drained v w s bytes → Drained v' w' s (bytes ++ piece) × AppendsDecided (c o.inner) (c o'.inner) s bytes (bytes ++ piece)
   piece_whole {v} {v'} {w} {o = o} {o'} piece before after k s bytes d =
-      let p = k w o (known_frames v.has_ended bytes) bytes (passed_here v w o bytes (scan_of v w s bytes d)) in
+      let p = k w o (known_frames v.has_ended bytes) bytes (passed_here v w o bytes d.scan) in
       let q = p.passed.taken.files s d.file_writer in (
-        record { framer = p.passed.framer; drained = p.drained; file_writer = q.0 },
+        record { scan = record { framer = p.passed.framer; drained = p.drained }; file_writer = q.0 },
         subst (λ (e : Bool). AppendsBetween (c o.inner) (c o'.inner) (so_far s (decided_frames bytes)) (so_far s (known_frames e (bytes ++ piece)))) after
             (subst (λ (e : Bool). AppendsBetween (c o.inner) (c o'.inner) (so_far s (known_frames e bytes)) (so_far s (known_frames v'.has_ended (bytes ++ piece)))) before q.1),
       )
@@ -60,7 +57,7 @@ module _ {W : Type 0} (c : W → Option (List ℕ)) where
   pub piece_part : {v : FramerValue} {w w' : FileWriter} {o o' : Device W} → FiledGrows → (piece : List ℕ) → v.has_ended ≡ false → Breaks (Files c) (BreaksFiling c) v w o w' o' piece
       → (s : SetupValue) (bytes : List ℕ) → Drained v w s bytes → AppendsPrefixOfDecided (c o.inner) (c o'.inner) s bytes (bytes ++ piece)
   piece_part {v} {w} {o = o} {o'} grows piece before k s bytes d =
-      let p = k w o (known_frames v.has_ended bytes) bytes (passed_here v w o bytes (scan_of v w s bytes d)) in
+      let p = k w o (known_frames v.has_ended bytes) bytes (passed_here v w o bytes d.scan) in
       let q = breaks_off-before (up_to_whole (p.broken.part s d.file_writer)) (so_far-front grows s p.reached (known_frames v.has_ended (bytes ++ piece)) p.known) in
       subst (λ (e : Bool). AppendsPrefixBetween (c o.inner) (c o'.inner) (so_far s (known_frames e bytes)) (so_far s (known_frames e (bytes ++ piece)))) before q
 

@@ -13,12 +13,6 @@ use Rattle.rtcm_convert.specs.Filed.{HasFiledFrames, HasGathered}
 use Rattle.rtcm_convert.specs.Outcomes.{outcomes, tally_of}
 use Rattle.rtcm_convert.specs.declared.file_writer.FileWriter.{FileWriter}
 
--- b was accepted and examined, all known frames were passed on, and the epochs that these close were written
-pub record Drained (v : FramerValue) (w : FileWriter) (s : SetupValue) (b : List ℕ) : Type 0 where
-  pub framer : HasExamined v b (known_frames v.has_ended b)
-  pub drained : IsDrained v b (known_frames v.has_ended b)
-  pub file_writer : HasFiledFrames w s (known_frames v.has_ended b)
-
 -- b was accepted and examined, and all known frames were passed on
 pub record HasDrained (v : FramerValue) (b : List ℕ) : Type 0 where
   pub framer : HasExamined v b (known_frames v.has_ended b)
@@ -27,6 +21,11 @@ pub record HasDrained (v : FramerValue) (b : List ℕ) : Type 0 where
 -- the same for some bytes
 abbrev pub HasDrainedSome : FramerValue → Type 0
 HasDrainedSome v = (b : List ℕ) × HasDrained v b
+
+-- and the epochs that these frames close were written
+pub record Drained (v : FramerValue) (w : FileWriter) (s : SetupValue) (b : List ℕ) : Type 0 where
+  pub scan : HasDrained v b
+  pub file_writer : HasFiledFrames w s (known_frames v.has_ended b)
 
 -- the known bytes grow by what the decided frames of the later bytes add to those of the earlier ones
 abbrev pub AppendsDecided : Option (List ℕ) → Option (List ℕ) → SetupValue → List ℕ → List ℕ → Type 0

@@ -50,8 +50,7 @@ returns-clause-history c =
     record {
       going = record { fine = refl; more = refl };
       drained = record {
-        framer = d.framer;
-        drained = d.drained;
+        scan = d;
         file_writer = subst (λ (l : List Framed). HasFiledFrames c.in_ok-file_writer.file_writer (setup_value x) l) (none_known _ _ n.new) c.in_ok-file_writer.ensures.history;
       };
     }
