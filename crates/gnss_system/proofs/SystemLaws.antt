@@ -4,14 +4,15 @@ use Rattle.std.specs.List.{list_all, list_any, sum_by}
 use Rattle.std.specs.Option.{option_map_or}
 use Rattle.std.specs.Prelude.{suc, ◌≤◌, find, Option, None, Some, take, nat_lt, if◌then◌else◌}
 use Rattle.std.proofs.lemmas.List.Sums.{sum_by-cons}
-use Rattle.gnss_system.proofs.Checked.{passes_at, is_equal}
+use Rattle.gnss_system.proofs.Checked.{passes_at}
 use Rattle.std.proofs.lemmas.Grind.{common_steps}
 use Rattle.gnss_system.specs.declared.system.System.{System}
 use Rattle.gnss_system.specs.declared.system.System.TheVariants.{Gps, Galileo, Glonass, Beidou, Qzss, Sbas}
 use Rattle.gnss_system.specs.declared.by_system.BySystem.{BySystem}
 use Rattle.gnss_system.specs.Satellites.{letter, system_of_letter}
 use Rattle.gnss_system.specs.Systems.{systems, index_of, is_system, before, after}
-use Rattle.gnss_system.specs.SystemValues.{value_of, with_value_of, tabulate, map_by, of_two}
+use Rattle.gnss_system.specs.SystemValues.{value_of, with_value_of, tabulate, map_by}
+use Rattle.std.proofs.lemmas.Bool.{eqb-true}
 use Rattle.gnss_system.specs.Signals.{SignalAt, IsSignal, most_signals, signal_of_id, table}
 
 -- ---- indices
@@ -51,7 +52,7 @@ found_passes p [] s h = cc
 found_passes p (t ∷ ss) s h = grind (arith, common_steps, found_passes p ss s)
 
 pub letter_found : (byte : ℕ) (s : System) → system_of_letter byte ≡ Some s → letter s ≡ byte
-letter_found byte s h = is_equal _ _ (found_passes (λ s. letter s == byte) systems s h)
+letter_found byte s h = eqb-true _ _ (found_passes (λ s. letter s == byte) systems s h)
 
 -- ---- what is true of all
 
@@ -93,11 +94,6 @@ tabulated_same f g same = is_tabulated (tabulate f) g (λ s. value_tabulated s f
 pub value_mapped : {A B : Type 0} (s : System) (f : A → B) (values : BySystem A) → value_of s (map_by f values) ≡ f (value_of s values)
 value_mapped s f values = value_tabulated s (λ t. f (value_of t values))
 
--- Values made of each value, after a change.
-pub tabulated_after : {A B : Type 0} (F : System → A → B) (s : System) (values : BySystem A) (x : A)
-    → tabulate (λ t. F t (value_of t (with_value_of s values x))) ≡ with_value_of s (tabulate (λ t. F t (value_of t values))) (F s x)
-tabulated_after F s values x = grind (arith, common_steps)
-
 -- The values mapped after a change.
 pub mapped_after : {A B : Type 0} (f : A → B) (s : System) (values : BySystem A) (x : A) → map_by f (with_value_of s values x) ≡ with_value_of s (map_by f values) (f x)
 mapped_after f s values x = grind (arith, common_steps)
@@ -122,12 +118,6 @@ each_after {A} P s values x each own t = by (is_system s t) refl where
   by true e = subst (λ (r : System). P r (value_of r (with_value_of s values x))) (system_same s t e) (subst (P s) (sym (value_after s values x)) own)
   by false e = subst (P t) (sym (value_of_other s t values x e)) (each t)
 
--- What is true of the values of GPS and Galileo, and of the same one for each other system.
-pub each_of_two : {A : Type 0} (P : System → A → Type 0) {gps galileo other : A} → P Gps gps → P Galileo galileo → ((s : System) → P s other) → (s : System) → P s (value_of s (of_two gps galileo other))
-each_of_two P {gps} {galileo} {other} g e others =
-    each_after P Gps (with_value_of Galileo (tabulate (λ s. other)) galileo) gps
-    (each_after P Galileo (tabulate (λ s. other)) galileo (λ s. subst (P s) (sym (value_tabulated s (λ s. other))) (others s)) e) g
-
 -- ---- what is true of the systems below an index
 
 abbrev pub Below : (System → Type 0) → ℕ → Type 0
@@ -140,7 +130,7 @@ pub below_all : (P : System → Type 0) (n : ℕ) → length systems ≤ n → B
 below_all P n enough below t = let less = index_less t in below t (omega (arith, less, enough))
 
 pub index_back : (n : ℕ) → n < length systems → index_of (system_at n) ≡ n
-index_back n less = is_equal _ _ (passes_at (λ n. index_of (system_at n) == n) (length systems) n refl less)
+index_back n less = eqb-true _ _ (passes_at (λ n. index_of (system_at n) == n) (length systems) n refl less)
 
 pub not_all : (p : System → Bool) (s : System) → p s ≡ false → list_all p systems ≡ false
 not_all p s not_own = grind (arith, common_steps)

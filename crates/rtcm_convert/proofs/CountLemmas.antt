@@ -24,20 +24,6 @@ outcomes_done : Kinds → (s : SetupValue) (before fs : List Framed) → AreDone
 outcomes_done kinds s before [] = tt
 outcomes_done kinds s before (f ∷ fs) = (heard_done kinds s.gatherer (messages_of s before) (message_of s f), outcomes_done kinds s (before ++ f ∷ []) fs)
 
--- what a frame adds to the seven kinds
-abbrev seven : Report → ℕ
-seven t = t.faulty + (t.station + (t.other + (t.ignored + (t.late + (t.past + t.taken)))))
-
-one_each : (o : Option Kind) → is_first o ≡ false → seven (tally_of_one o) ≡ 1
-one_each None e = refl
-one_each (Some kind.Ignored) e = refl
-one_each (Some kind.Station) e = refl
-one_each (Some kind.OtherStation) e = refl
-one_each (Some kind.Late) e = refl
-one_each (Some kind.PastWeeks) e = refl
-one_each (Some (kind.Kept n)) e = refl
-one_each (Some kind.CloseFirst) e = absurd (grind (arith, e))
-
 abbrev sum : (Report → ℕ) → List (Option Kind) → ℕ
 sum count os = sum_by (λ o. count (tally_of_one o)) os
 

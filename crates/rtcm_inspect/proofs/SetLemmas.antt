@@ -11,7 +11,7 @@ use Rattle.gnss_system.proofs.SystemLaws.{value_tabulated}
 use Rattle.obs_epoch.specs.Sets.{is_always_decoded, is_decoded}
 use Rattle.rtcm_inspect.specs.SignalLaws.{ReadsAll}
 use Rattle.rtcm_inspect.proofs.ValuedLemmas.{valued_system}
-use Rattle.rtcm_inspect.proofs.Names.{false_from_ne_true, or_right, true≢false, get_or, All-head, All-tail, Df402, Df407, GatherSetup, SignalAt, entries, has_listed_key, is_planned, is_some, place_in, planned_of, ◌≡◌, ◌∙◌, ◌++◌, ◌||◌, ℕ, Bool, true, false, not, List, [], ◌∷◌, Option, Some, None, Result, Ok, Err, All, All-cons, All-nil, ⊤, ◌&&◌, ap, arith, bits_of, inl, inr, length, list_any, list_any-append, nat_lt, option_and_then, option_map_or, refl, subst, sym, if◌then◌else◌, Framed, MsgFault, Message, Station, Msm4, Msm5, Msm6, Msm7, Form, Forms, MsmSet, MsmValue, message_at, message_with, message_in, have_form, System, Heard, HeardCell, every_channel, heard, heard_of, inspected, inspected_in, inspected_of, is_of_station, set_of, valued, forms_had, has_other_value, is_of_other, needs_all, tow_of, valued_in, valued_of, with_forms}
+use Rattle.rtcm_inspect.proofs.Names.{false_from_ne_true, or_right, true≢false, get_or, All-head, All-tail, Df402, Df407, GatherSetup, SignalAt, entries, has_listed_key, is_planned, is_some, place_in, planned_of, ◌≡◌, ◌∙◌, ◌++◌, ◌||◌, ℕ, Bool, true, false, not, List, [], ◌∷◌, Option, Some, None, Result, Ok, Err, All, All-cons, All-nil, ⊤, ◌&&◌, ap, arith, bits_of, inl, inr, length, list_any, list_any-append, nat_lt, option_and_then, option_map_or, refl, subst, sym, if◌then◌else◌, Framed, MsgFault, Message, Station, Msm4, Msm5, Msm6, Msm7, Form, Forms, MsmSet, message_at, message_with, have_form, System, Heard, HeardCell, every_channel, heard, heard_of, inspected, inspected_in, inspected_of, is_of_station, set_of, valued, forms_had, has_other_value, is_of_other, needs_all, tow_of, valued_in, valued_of, with_forms}
 
 -- the laws of the messages of a set
 pub record SetLaws : Type 0 where
@@ -188,12 +188,3 @@ forms_read wanted fs f m read new old =
 pub forms_refused : {before : Forms} (wanted : Option ℕ) (fs : List Framed) (f : Framed) (e : MsgFault) → message_at f.message ≡ Err e → before ≡ forms_had wanted fs → before ≡ forms_had wanted (fs ++ f ∷ [])
 forms_refused wanted fs f e read old =
     old ∙ sym (forms_more wanted fs f (Err e) read ∙ ap (λ (b : Bool). if b then forms.All else forms.FourAndSeven) (or-false (list_any (needs wanted) fs)))
-
--- the form and the system of a view
-pub in_set : (f : Form) (v : MsmValue) (set : MsmSet) → is_in_set set (message_in f v) ≡ has_msm set f v.system
-in_set form.Msm4 v set = refl
-in_set other v set = refl
-
-pub view_other : (fs : Forms) (f : Form) (v : MsmValue) → is_of_other fs (message_in f v) ≡ not (have_form fs f)
-view_other fs form.Msm4 v = refl
-view_other fs other v = refl

@@ -9,14 +9,13 @@ use Rattle.gnss_system.proofs.SystemLaws.{any_system, each_after, index_less, sy
 use Rattle.rtcm_msg.specs.Sets.{is_in_set}
 use Rattle.gnss_system.specs.declared.system.System.TheVariants as listed
 use Rattle.rtcm_msg.specs.declared.view.Form.TheVariants as shape
-use Rattle.obs_epoch.specs.Heard.{tow_of as gps_tow}
 use Rattle.rtcm_inspect.proofs.FirstLemmas.{first_more, or_none}
 use Rattle.rtcm_inspect.proofs.SetLemmas.{SetLaws, same_none, tow_read, tow_refused}
 use Rattle.rtcm_inspect.specs.FirstTows.{AreTows, IsMsmOf, IsWith, earlier, earliest, entry, later_by, placed_by, tow_in}
 use Rattle.rtcm_inspect.specs.declared.first_tows.FirstTows.{FirstTows}
 use Rattle.rtcm_inspect.specs.declared.first_tows.PlacedTow.{PlacedTow}
 use Rattle.rtcm_inspect.specs.declared.first_tows.SystemTows.{SystemTows}
-use Rattle.rtcm_inspect.proofs.Names.{option_or, le-ltb, lt-ltb, Framed, Message, MsgFault, Ok, Err, ◌++◌, ◌≤◌, first_tow, every_channel, heard, inspected_in, FormedMsm, MsmValue, drop, drop_at, formed, length, length-append, message_at, message_in, nat_tests, option_map_or, take, tow_of, unwrap_or, week, ◌*◌, ◌%◌, ◌==◌, ◌≡◌, ◌∙◌, ◌+◌, ◌<◌, ◌&&◌, ◌||◌, ℕ, Bool, true, false, List, [], ◌∷◌, Option, Some, None, IfSome, ap, ap₂, arith, list_any, nat_lt, option_map, refl, subst, sym, if◌then◌else◌, have_form, Form, Forms, MsmSet, System}
+use Rattle.rtcm_inspect.proofs.Names.{option_or, le-ltb, lt-ltb, Framed, Message, MsgFault, Ok, Err, ◌++◌, ◌≤◌, first_tow, every_channel, heard, inspected_in, MsmValue, drop, drop_at, length, length-append, message_at, option_map_or, take, tow_of, week, ◌*◌, ◌%◌, ◌==◌, ◌≡◌, ◌∙◌, ◌+◌, ◌<◌, ◌&&◌, ◌||◌, ℕ, Bool, true, false, List, [], ◌∷◌, Option, Some, None, IfSome, ap, ap₂, arith, list_any, nat_lt, option_map, refl, subst, sym, if◌then◌else◌, have_form, Form, Forms, MsmSet, System}
 
 -- a time of week before a place
 abbrev pub IsBefore : ℕ → Option PlacedTow → Type 0
@@ -212,32 +211,6 @@ no_tows wanted tows is = record {
 leap_later : (a leap : ℕ) → (a + 1000 * leap) % week ≡ ((a + 1000 * 0) % week + 1000 * leap) % week
 leap_later a leap = omega arith
 
-later_tow : (system : System) (leap time : ℕ) → gps_tow system leap time ≡ later_by system leap (gps_tow system 0 time)
-later_tow listed.Glonass leap time = leap_later _ leap
-later_tow other leap time = refl
-
 -- the time of week of a message of the wanted station
 abbrev if_own : Option ℕ → MsmValue → Option ℕ → Option ℕ
 if_own wanted v tow = if option_map_or (λ n. v.header.station == n) wanted true then tow else None
-
-msm_tow : (wanted : Option ℕ) (leap : ℕ) (f : Form) (v : MsmValue) → tow_of wanted (heard every_channel leap (message_in f v)) ≡ if_own wanted v (Some (gps_tow v.system leap v.header.time))
-msm_tow wanted leap shape.Msm4 v = refl
-msm_tow wanted leap other v = refl
-
-own_station : (wanted : Option ℕ) (n : ℕ) → unwrap_or wanted n ≡ n → option_map_or (λ w. n == w) wanted true ≡ true
-own_station None n e = refl
-own_station (Some w) n e = grind (arith, nat_tests, e)
-
-other_station : (wanted : Option ℕ) (n : ℕ) → (unwrap_or wanted n ≡ n → ⊥) → option_map_or (λ w. n == w) wanted true ≡ false
-other_station None n other = absurd (other refl)
-other_station (Some w) n other = grind (arith, nat_tests, other)
-
-pub own_tow : {tow : ℕ} (wanted : Option ℕ) (m : FormedMsm) → unwrap_or wanted m.msm.header.station ≡ m.msm.header.station → tow ≡ gps_tow m.msm.system 0 m.msm.header.time → (leap : ℕ)
-    → tow_of wanted (heard every_channel leap (formed m)) ≡ Some (later_by m.msm.system leap tow)
-own_tow wanted m own is leap =
-    msm_tow wanted leap m.form m.msm ∙ ap (λ (b : Bool). if b then Some (gps_tow m.msm.system leap m.msm.header.time) else None) (own_station wanted m.msm.header.station own)
-    ∙ ap (λ (n : ℕ). Some n) (later_tow m.msm.system leap m.msm.header.time ∙ ap (later_by m.msm.system leap) (sym is))
-
-pub other_tow : (wanted : Option ℕ) (m : FormedMsm) → (unwrap_or wanted m.msm.header.station ≡ m.msm.header.station → ⊥) → (leap : ℕ) → tow_of wanted (heard every_channel leap (formed m)) ≡ None
-other_tow wanted m other leap =
-    msm_tow wanted leap m.form m.msm ∙ ap (λ (b : Bool). if b then Some (gps_tow m.msm.system leap m.msm.header.time) else None) (other_station wanted m.msm.header.station other)

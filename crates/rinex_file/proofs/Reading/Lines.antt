@@ -49,9 +49,6 @@ line_whole old new line line' endless m =
 pub still_endless : (old new line line' : List ℕ) → has 10 line ≡ false → MovesBytes false old new line line' → has 10 line' ≡ false
 still_endless old new line line' endless m = ap (has 10) m.to ∙ lacks-append 10 line m.bytes endless m.are
 
-pub longer : (old new line line' : List ℕ) → MovesBytes false old new line line' → 0 < length old → length line < most_line → length line < length line'
-longer old new line line' m some less = grind (arith, length-append)
-
 pub leaves_more : (a b c : Option (List ℕ)) → LeavesRest a b → LeavesRest b c → LeavesRest a c
 leaves_more a b c (xs, first) (ys, next) = (xs ++ ys, Consumes-trans a b c xs ys first next)
 
@@ -61,10 +58,6 @@ leaves_all a = ([], Consumes-nil a)
 -- nothing was read ahead
 pub none_ahead : (r : Option (List ℕ)) (block : List ℕ) → block ≡ [] → prepend_known block r ≡ r
 none_ahead r block e = grind arith
-
--- no byte is left ahead, nor of the reader
-pub at_end : (ahead : List ℕ) (r : Option (List ℕ)) → ahead ≡ [] → IsAtEnd r → IsAtEnd (prepend_known ahead r)
-at_end ahead v1 none end = grind arith
 
 -- ---- the bytes of a line if no more is read
 
