@@ -2,6 +2,7 @@
 use Rattle.rtcm_inspect.proofs.StreamLemmas.{Began}
 use Rattle.rtcm_inspect.proofs.Names.{Err, Ok, OnErr, OnOk, Result, DeviceFailed, WritesLine, ◌≡◌, ◌∙◌, ◌-◌, ◌<◌, ap, sym, subst, refl, arith, Bool, true, false, ℕ, List, [], ◌∷◌, ◌++◌, Option, append_assoc, append-nil, length, take, Appends, Keeps, flat_map-append, Appends-nil, Appends-trans, Appends-kept, AppendsPrefix, Device, HasFailed, IsPrefix, Framed, decided_frames, known_frames, ⊤, StreamFault, HaveFailedBy, stream_fault, AtFault, BreaksReading, Passes, PassesAll, PassesToLimit, Reads, FramerValue, Listing, Lists, ListsAll, ListsDecided, StopsListing, ListsPart, ListsToLimit, ListsUpTo, listing_line, listing_lines, piece_bytes}
 use Rattle.rtcm_scan.specs.declared.feed.StreamFault.TheVariants as stream
+use Rattle.rtcm_bits.specs.SmallLaws.{prefix_self, prefix_trans}
 
 -- the lines of one more frame
 lines_more : (k : Listing) (fs : List Framed) (f : Framed) → listing_lines k (fs ++ f ∷ []) ≡ listing_lines k fs ++ listing_line k f
@@ -10,12 +11,6 @@ lines_more k fs f = flat_map-append (listing_line k) fs (f ∷ []) ∙ ap (λ (l
 -- the lines of a prefix of the frames are a prefix of the lines
 first_lines : (k : Listing) (fs gs : List Framed) → IsPrefix fs gs → IsPrefix (listing_lines k fs) (listing_lines k gs)
 first_lines k fs gs p = (listing_lines k p.0, ap (listing_lines k) p.1 ∙ flat_map-append (listing_line k) fs p.0)
-
-longer_prefix : (a b c : List ℕ) → IsPrefix a b → IsPrefix b c → IsPrefix a c
-longer_prefix a b c p q = (p.0 ++ q.0, q.1 ∙ ap (λ (l : List ℕ). l ++ q.0) p.1 ∙ append_assoc a p.0 q.0)
-
-whole_prefix : (a : List ℕ) → IsPrefix a a
-whole_prefix a = ([], sym (append-nil a))
 
 module _ {W : Type 0} {held : W → Option (List ℕ)} {k0 k : Listing} {o0 o o2 : Device W} {ps fs : List Framed} where
   -- a frame's line was written
@@ -54,8 +49,8 @@ module _ {W : Type 0} {held : W → Option (List ℕ)} {k0 k : Listing} {o0 o o2
     out = λ w a. record {
       out = listing_lines k0 fs;
       went = Appends-kept w (held o.inner) (held o2.inner) (listing_lines k0 fs) (s.out w a) kept;
-      least = whole_prefix (listing_lines k0 fs);
-      most = whole_prefix (listing_lines k0 fs);
+      least = prefix_self (listing_lines k0 fs);
+      most = prefix_self (listing_lines k0 fs);
     };
     failed = subst (λ (n : ℕ). HasFailed n o2.failures) s.fine failed;
   }
@@ -124,8 +119,8 @@ module _ {W : Type 0} {held : W → Option (List ℕ)} {v : FramerValue} {k : Li
           between = record {
             out = between.out;
             went = between.went;
-            least = longer_prefix _ _ between.out least between.least;
-            most = longer_prefix between.out _ _ between.most (first_lines k broke.reached (known_frames p.ended (p.front ++ p.piece)) broke.known);
+            least = prefix_trans _ _ between.out least between.least;
+            most = prefix_trans between.out _ _ between.most (first_lines k broke.reached (known_frames p.ended (p.front ++ p.piece)) broke.known);
           };
         },
         broke.broken.failed,

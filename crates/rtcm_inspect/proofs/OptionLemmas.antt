@@ -1,5 +1,5 @@
 -- The line of the options, of its parts.
-use Rattle.option_texts.proofs.LineLemmas.{end_line}
+use Rattle.option_texts.proofs.LineLemmas.{end_line, words_after}
 use Rattle.rtcm_inspect.proofs.Names.{◌≡◌, ◌∙◌, [], ◌∷◌, ◌++◌, ℕ, List, Option, Some, None, ap, sym, append_assoc, append-nil, codes, refl, flat_map, flat_map-append, PlanValue, Gps, Galileo, System, StationParts, codes_word, Forms, forms_words, number_start, number_words, options_line, station_words, line, with_words}
 use Rattle.gnss_system.specs.Systems.{systems}
 use Rattle.rtcm_inspect.specs.Fitting.{first_words, other_words}
@@ -19,11 +19,6 @@ two_options first second (Some n) (Some m) w ws = simp append_assoc
 pub words_more : (text : List ℕ) (first more : List (List ℕ)) → with_words (with_words text first) more ≡ with_words text (first ++ more)
 words_more text [] more = refl
 words_more text (w ∷ ws) more = words_more (text ++ 0x20 ∷ w) ws more
-
--- a text before the words
-pub words_after : (t u : List ℕ) (ws : List (List ℕ)) → t ++ with_words u ws ≡ with_words (t ++ u) ws
-words_after t u [] = refl
-words_after t u (w ∷ ws) = words_after t (u ++ 0x20 ∷ w) ws ∙ ap (λ (l : List ℕ). with_words l ws) (sym (append_assoc t u (0x20 ∷ w)))
 
 -- the words of one more system
 pub others_more : (leap : Option ℕ) (p : PlanValue) (t : List ℕ) (ss : List System) (s : System)

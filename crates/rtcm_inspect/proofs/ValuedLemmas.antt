@@ -1,18 +1,8 @@
 -- The cells with a value are of listed satellites and signals.
 use Rattle.std.proofs.lemmas.Option.{cond_some, same_Some}
-use Rattle.rtcm_inspect.proofs.Names.{option_and_then, ltb-true, MsmValue, heard_msm, ◌≡◌, ℕ, ◌≤◌, ◌==◌, ◌&&◌, Bool, true, false, List, [], ◌∷◌, length, refl, sym, ◌∙◌, subst, arith, filter, All, Option, Some, None, Result, Ok, Err, LockField, Df402, Df407, filter_map, cond, nat_lt, nat_le, option_map, option_map_or, cons_option, position_or_len, All-nil, All-cons, All-append, All-filter, System, Satellite, IsSatellite, satellites, satellite_of_id, SignalAt, IsSignal, table, signal_of_id, Entry, Message, Msm4, Msm5, Msm6, Msm7, entries, MsgFault, message_at, Framed, Heard, inspected, every_channel, seen_in, lock_by, observed, HeardCell, IsKey, inspected_of, brings_value, is_of_station, valued, signal_in, valued_of, valued_in}
+use Rattle.rtcm_inspect.proofs.Names.{option_and_then, MsmValue, heard_msm, ◌≡◌, ℕ, ◌≤◌, ◌&&◌, Bool, true, false, List, [], ◌∷◌, refl, sym, ◌∙◌, subst, arith, filter, All, Option, Some, None, Result, Ok, Err, LockField, Df402, Df407, filter_map, cond, nat_le, option_map, option_map_or, cons_option, All-nil, All-cons, All-append, All-filter, System, Satellite, IsSatellite, satellites, satellite_of_id, SignalAt, IsSignal, signal_of_id, Entry, Message, Msm4, Msm5, Msm6, Msm7, entries, MsgFault, message_at, Framed, Heard, inspected, every_channel, seen_in, lock_by, observed, HeardCell, IsKey, inspected_of, brings_value, is_of_station, valued, valued_of, valued_in}
 use Rattle.gnss_system.specs.declared.tables.ListedSignal as tables
-
-listed_of : (system : System) (id : ℕ) (g : SignalAt) → signal_of_id system id ≡ Some g → (g.system ≡ system) × IsSignal g
-listed_of system id g h = by (nat_lt (place system id) (length (table system))) refl h where
-  place : System → ℕ → ℕ
-  place system id = position_or_len (λ (e : tables.ListedSignal). e.0 == id) (table system)
-
-  by : (b : Bool) → nat_lt (place system id) (length (table system)) ≡ b → option_map (λ i. signal_in system i) (cond b (Some (place system id)) None) ≡ Some g → (g.system ≡ system) × IsSignal g
-  by true lt e =
-      let is : signal_in system (place system id) ≡ g = same_Some (signal_in system (place system id)) g e in
-      (subst (λ (v : SignalAt). v.system ≡ system) is refl, subst IsSignal is (ltb-true (place system id) (length (table system)) lt))
-  by false lt e = absurd (grind (arith, e))
+use Rattle.gnss_system.proofs.SystemLaws.{listed_of}
 
 satellite_listed : (system : System) (id : ℕ) (s : Satellite) → satellite_of_id system id ≡ Some s → (s.system ≡ system) × IsSatellite s
 satellite_listed system id s h =

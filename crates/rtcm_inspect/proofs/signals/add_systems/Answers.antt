@@ -1,4 +1,4 @@
-use Rattle.std.proofs.Common.{◌≡◌, ◌∙◌, ◌+◌, ◌*◌, ◌≤◌, ◌++◌, ◌∷◌, [], ℕ, true, List, length, ap, ap₂, sym, subst, refl, arith, flat_map, append-nil}
+use Rattle.std.proofs.Common.{◌≡◌, ◌∙◌, ◌+◌, ◌*◌, ◌≤◌, ◌++◌, ◌∷◌, [], ℕ, List, length, ap, ap₂, sym, subst, refl, arith, flat_map, append-nil}
 use Rattle.rtcm_inspect.proofs.Names.{flat_map-append, System, table, HeardCell, count_lines}
 use Rattle.std.specs.Prelude.{take, nat_le}
 use Rattle.std.specs.List.{sum_by}
@@ -7,6 +7,7 @@ use Rattle.std.proofs.lemmas.List.Sums.{sum_by-append}
 use Rattle.gnss_system.specs.Systems.{systems, before}
 use Rattle.gnss_system.proofs.SystemLaws.{each_system, systems_taken}
 use Rattle.rtcm_inspect.specs.Lines.{longest_signals}
+use Rattle.std.proofs.lemmas.Bool.{leb-true}
 use Rattle.rtcm_inspect.proofs.signals.add_systems.Goals as goal
 
 -- the bytes of the lines of systems
@@ -14,9 +15,7 @@ abbrev room : List System → ℕ
 room ss = 26 * sum_by (λ s. length (table s)) ss
 
 fits : (s : System) → room (before s) + 26 * length (table s) ≤ longest_signals
-fits s = at_most _ _ (each_system (λ s. nat_le (room (before s) + 26 * length (table s)) longest_signals) s refl) where
-  at_most : (a b : ℕ) → nat_le a b ≡ true → a ≤ b
-  at_most a b h = grind (arith, h)
+fits s = leb-true _ _ (each_system (λ s. nat_le (room (before s) + 26 * length (table s)) longest_signals) s refl)
 
 grown : (ss : List System) (s : System) → room (ss ++ s ∷ []) ≡ room ss + 26 * length (table s)
 grown ss s = let e = sum_by-append (λ s. length (table s)) ss (s ∷ []) in omega (arith, e)
