@@ -2,13 +2,9 @@ use Rattle.gnss_obs.specs.SignalLists.{IsDefined}
 use Rattle.gnss_obs.specs.declared.fault.PlanFault.{PlanFault}
 use Rattle.rinex_file.specs.Texts.{trimmed_texts}
 use Rattle.rtcm_command.proofs.OptionLemmas.{number_given}
-use Rattle.rtcm_command.proofs.Names.{◌≡◌, ◌∙◌, ℕ, List, Result, Ok, Err, IfOk, MatchResult, IsErrAnd, ap, codes, subst, not, bytes_eq, HasUnsignedDigitsIfOk, ExplainsUnsignedError, found_of}
+use Rattle.rtcm_command.proofs.Names.{◌≡◌, ◌∙◌, ℕ, List, Result, Ok, Err, IfOk, ap, codes, not, bytes_eq, HasUnsignedDigitsIfOk, ExplainsUnsignedError, found_of}
+use Rattle.rtcm_bits.specs.SmallLaws.{wrapped}
 use Rattle.rtcm_command.proofs.options.setup_of.Goals as goal
-
--- a value whose fault was wrapped
-wrapped : {T D E : Type 0} (Q : D → E → Type 0) (P : T → Type 0) (r : Result T D) (s : Result T E) (t : T) → IfOk r P → MatchResult r (λ x. s ≡ Ok x) (λ e. IsErrAnd s (Q e)) → s ≡ Ok t → P t
-wrapped Q P (Ok x) s t given is ok = subst P (let same : x ≡ t = cc in same) given
-wrapped Q P (Err e) s t given is ok = absurd (rw ok at is)
 
 -- a value that is the defined one, if there is one
 so : {A : Type 0} (May : Type 0) (d r : Result A PlanFault) → IsDefined May d r → IfOk r (λ x. d ≡ Ok x)
