@@ -1,8 +1,12 @@
 -- What holds at every moment.
-use Rattle.rtcm_scan.proofs.Names.{ℕ, ◌≡◌, ◌*◌, ◌≤◌, true, false, List, [], length, refl, arith, Framed, frames_of, frames_from, WindowValue, nothing_held, FramerValue, scan_of, HasFramed, first_held, new_scan, places, tried, decided, decided_frames, frames_before, IsDrained, greatest_below, spans_now, looks_at, spans_at, tried_before, HasExamined, longest_frame, most_looks, most_bytes}
+use Rattle.rtcm_scan.proofs.Names.{ℕ, ◌≡◌, ◌*◌, ◌≤◌, true, false, List, [], length, refl, arith, Framed, frames_of, frames_from, WindowValue, nothing_held, FramerValue, scan_of, HasFramed, first_held, new_scan, places, tried, decided, decided_frames, frames_before, IsDrained, greatest_below, spans_now, looks_at, spans_at, tried_before, HasExamined, longest_frame, most_looks, most_bytes, Bool}
 use Rattle.rtcm_scan.proofs.BoundLemmas.{looks_bound, all_bound, greatest_bound}
 use Rattle.rtcm_scan.proofs.HistoryLemmas.{history_end, history_from}
 use Rattle.rtcm_scan.proofs.ScanLemmas.{scanned_none}
+
+-- the bound on the bytes of the window is one of the held bytes
+pub held_within : {v : FramerValue} {limit skipped tried : ℕ} {w : WindowValue} {ended ready : Bool} (place : ℕ) → scan_of limit place w ended ready skipped tried ≡ v → length w.bytes ≤ longest_frame → length v.held ≤ longest_frame
+held_within place e h = rw (← e) h
 
 pub most_moment : (v : FramerValue) (b : List ℕ) (fs : List Framed) → length v.held ≤ longest_frame → HasExamined v b fs → v.most ≤ most_looks
 most_moment v b fs h x =
