@@ -1,6 +1,6 @@
 -- The faults of a call, by the results that it never has.
 use Rattle.obs_epoch.specs.declared.choice.EpochCounts.{EpochCounts}
-use Rattle.rtcm_convert.proofs.Names.{arith, ◌≡◌, ℕ, Bool, true, false, sym, ap, subst, ◌∙◌, inl, inr, Result, Ok, Err, IfErr, false≢true, IsErrAnd, IsErrOf, OnErr, OnOk, Device, HasFailed, FailsWith, FailsWithWriter, IsSetupFault, IsPiecesFault, IsRunFault, Fault, BadSetup, Memory, Read, TooLong, Write, NoEpoch, NoneChosen, ⊤}
+use Rattle.rtcm_convert.proofs.Names.{arith, ◌≡◌, ℕ, Bool, true, false, sym, ap, subst, ◌∙◌, inl, inr, Result, Ok, Err, IfErr, false≢true, IsErrOf, OnErr, OnOk, Device, HasFailed, FailsWith, FailsWithWriter, IsSetupFault, IsPiecesFault, IsRunFault, Fault, BadSetup, Memory, Read, TooLong, Write, NoEpoch, NoneChosen, ⊤}
 use Rattle.std.proofs.lemmas.Grind.{common_steps}
 
 abbrev pub of_finish : Fault → Bool
@@ -51,11 +51,6 @@ module _ {K : Fault → Type 0} {test : Fault → Bool} (L : Fault → Type 0) (
   not_of_setup P (Err f) left bad memory = λ kind. absurd (not_setup f (known f left.0) bad memory kind)
 
 -- ---- a call after others that did not fail
-
--- a fault that `?` returns
-pub passed : {A : Type 0} (r : Result A Fault) (e : Fault) (P : Result A Fault → Type 0) → IsErrAnd r (λ y. y ≡ e) → P (Err e) → P r
-passed (Ok x) e P is h = absurd is
-passed (Err y) e P is h = subst (λ z. P (Err z)) (sym is) h
 
 pub writer_after : {T A : Type 0} (r : Result A Fault) (old mid new : Device T) → mid.failures ≡ old.failures → mid.widest ≡ old.widest → FailsWithWriter r mid new → FailsWithWriter r old new
 writer_after r old mid new e w d = grind (arith, common_steps)

@@ -27,6 +27,7 @@ unfoldable pub use Rattle.rtcm_bits.specs.Bits.{uint}
 pub use Rattle.rtcm_bits.specs.Device.{AppendsPrefix, Device, FailsWith, HasFailed, IsBetween}
 pub use Rattle.rtcm_bits.specs.FrameOf.{longest_frame}
 pub use Rattle.rtcm_bits.specs.Prefix.{IsPrefix}
+pub use Rattle.rtcm_bits.specs.SmallLaws.{on_failure, passed}
 pub use Rattle.rtcm_convert.specs.Broken.{BrokeInPieces, FailedWriting, FailedWritingAtEnd, IsBroken, joined_pieces}
 pub use Rattle.rtcm_convert.specs.Conversion.{Completed, CompletedEmpty, CompletesEmptyFile, CompletesFile, Conversion, CutsAtLimit, FailsAtEnd, FailsAtPiece, FailsFeeding, FailsFinishing, FinishesEmptyNow, FinishesNow, HasConverted, HasFinished, IsFit, IsGoing, IsPastLimit, KeepsNow, LeftBy, RanToFault, RanToLimit, StopsAtEnd, TakesFromReader, TakesPiece, WritesAdded, WritesPrefixOfAdded, kept_of, refusal}
 unfoldable pub use Rattle.rtcm_convert.specs.Converted.{text_of_epochs}

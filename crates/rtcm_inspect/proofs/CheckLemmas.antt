@@ -1,6 +1,6 @@
 -- The end of a check of a file.
-use Rattle.rtcm_inspect.proofs.PrintingLemmas.{passed, Printed}
-use Rattle.rtcm_inspect.proofs.Names.{◌≡◌, inl, inr, refl, sym, subst, ℕ, List, Option, Some, None, Result, Ok, Err, IfSome, Device, HasFailed, IsNoFault, FileValue, file_text, IsFileValue, ReadFault, Memory, Read, ⊤, IsErrAnd, Keeps, InspectFault, Ends, ReadFailures, ChecksPart, ChecksWhole, IsCheckedOr}
+use Rattle.rtcm_inspect.proofs.PrintingLemmas.{Printed}
+use Rattle.rtcm_inspect.proofs.Names.{◌≡◌, inl, inr, refl, sym, subst, ℕ, List, Option, Some, None, Result, Ok, Err, IfSome, Device, HasFailed, IsNoFault, FileValue, file_text, IsFileValue, ReadFault, Memory, Read, ⊤, IsErrAnd, Keeps, InspectFault, Ends, ReadFailures, ChecksPart, ChecksWhole, IsCheckedOr, passed}
 use Rattle.rtcm_inspect.specs.declared.fault.InspectFault.TheVariants as faults
 
 -- what holds for all bytes holds for known ones

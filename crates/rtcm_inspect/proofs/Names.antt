@@ -38,6 +38,7 @@ pub use Rattle.rtcm_bits.specs.Device.{AppendsPrefix, Device, FailsWith, HasFail
 pub use Rattle.rtcm_bits.specs.FrameOf.{frame_bytes, longest_message, longest_message_bits}
 pub use Rattle.rtcm_bits.specs.Prefix.{IsPrefix}
 pub use Rattle.rtcm_bits.specs.declared.counted.DeviceFailed.{DeviceFailed}
+pub use Rattle.rtcm_bits.specs.SmallLaws.{of_ok, passed}
 unfoldable pub use Rattle.rtcm_inspect.specs.Checking.{check_line}
 pub use Rattle.rtcm_inspect.specs.Checking.{AreLinesOf, ChecksPart, ChecksWhole, IsCheckedOr, IsLineOf, StopsAnyCheck}
 pub use Rattle.rtcm_inspect.specs.Counting.{AreSignals, Counts, HasCounted, IsCounted, NeverFails, StopsCounting}

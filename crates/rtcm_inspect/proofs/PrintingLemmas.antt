@@ -1,9 +1,5 @@
 -- Texts written in one call, and failed calls.
-use Rattle.rtcm_inspect.proofs.Names.{◌≡◌, ◌∙◌, ◌++◌, ap, inl, inr, refl, sym, subst, append-nil, append_assoc, ℕ, List, [], Option, Result, Ok, Err, OnErr, Appends, Keeps, Appends-kept, Appends-nil, Appends-trans, Device, HasFailed, EndsDelivery, IsDelivered, IsErrAnd, MatchResult, EndsPrinting, PrintsLine, PrintsText, AppendsPrefix, IsPrefix, InspectFault}
-
-pub on_err : {A E : Type 0} (r : Result A E) (P Q : Type 0) → (P → Q) → OnErr r P → OnErr r Q
-on_err (Ok x) P Q f p = p
-on_err (Err e) P Q f p = f p
+use Rattle.rtcm_inspect.proofs.Names.{◌≡◌, ◌∙◌, ◌++◌, ap, inl, inr, refl, sym, subst, append-nil, append_assoc, ℕ, List, [], Option, Result, Ok, Err, Appends, Keeps, Appends-kept, Appends-nil, Appends-trans, Device, HasFailed, EndsDelivery, IsDelivered, IsErrAnd, MatchResult, EndsPrinting, PrintsLine, PrintsText, AppendsPrefix, IsPrefix, InspectFault}
 
 -- a text that was written, and then delivered or not
 pub then_delivered : {A W : Type 0} (r : Result A InspectFault) (held : W → Option (List ℕ)) (waits : W → List ℕ) (w w1 w2 : Device W) (text : List ℕ) → w1.failures ≡ w.failures
@@ -46,11 +42,6 @@ unmapped Q (Err e) s t is ok = absurd (rw ok at is)
 pub unmapped_err : {T D E : Type 0} (Q : D → E → Type 0) (r : Result T D) (s : Result T E) (f : E) → MatchResult r (λ x. s ≡ Ok x) (λ e. IsErrAnd s (Q e)) → s ≡ Err f → (e : D) × (r ≡ Err e) × Q e f
 unmapped_err Q (Ok x) s f is err = absurd cc
 unmapped_err Q (Err e) s f is err = (e, refl, rw err at is)
-
--- an error that `?` returns
-pub passed : {A E : Type 0} (r : Result A E) (e : E) (P : Result A E → Type 0) → IsErrAnd r (λ y. y ≡ e) → P (Err e) → P r
-passed (Ok x) e P is h = absurd is
-passed (Err y) e P is h = subst (λ z. P (Err z)) (sym is) h
 
 part_after : (a b c : Option (List ℕ)) (x y : List ℕ) → Appends a b x → AppendsPrefix b c y → AppendsPrefix a c (x ++ y)
 part_after a b c x y first (rest, (sent, split, went)) = (rest, (x ++ sent, ap (λ l. x ++ l) split ∙ sym (append_assoc x sent rest), Appends-trans a b c x sent first went))

@@ -1,6 +1,6 @@
 -- The text of the signals of a stream, signal by signal.
 use mathlib.Core.Bool.{or-false}
-use Rattle.rtcm_inspect.proofs.Names.{le-ltb, lt-ltb, ltb-false, ltb-true, ◌≡◌, ℕ, zero, suc, ◌+◌, ◌<◌, ◌≤◌, ◌==◌, ◌&&◌, ◌||◌, All, Result, Ok, OnOk, Bool, true, false, List, [], ◌∷◌, ◌++◌, length, get_or, refl, sym, ap, ap₂, ◌∙◌, subst, arith, filter, map, append-nil, append_assoc, map-append, flat_map-append, cond, nat_lt, codes, list_any, All-head, filter-append, length-filter, count_by-le-length, flat_map, join_with_byte, System, table, code_of, below, SignalCountsValue, AreSignalCounts, common_steps, counted, signal_counts, has_any, signal_in, count_of, is_of_signal, had_below, had, code_list, codes_word, count_line, lines_below, IsKey, HeardCell, list_any-append, has_counted}
+use Rattle.rtcm_inspect.proofs.Names.{le-ltb, lt-ltb, ltb-false, ltb-true, ◌≡◌, ℕ, zero, suc, ◌+◌, ◌<◌, ◌≤◌, ◌==◌, ◌&&◌, ◌||◌, All, Bool, true, false, List, [], ◌∷◌, ◌++◌, length, get_or, refl, sym, ap, ap₂, ◌∙◌, subst, arith, filter, map, append-nil, append_assoc, map-append, flat_map-append, cond, nat_lt, codes, list_any, All-head, filter-append, length-filter, count_by-le-length, flat_map, join_with_byte, System, table, code_of, below, SignalCountsValue, AreSignalCounts, common_steps, counted, signal_counts, has_any, signal_in, count_of, is_of_signal, had_below, had, code_list, codes_word, count_line, lines_below, IsKey, HeardCell, list_any-append, has_counted}
 use Rattle.gnss_system.specs.Systems.{systems, index_of}
 use Rattle.gnss_system.proofs.SystemLaws.{none_any, some_system}
 use Rattle.option_texts.proofs.LineLemmas.{join-push}
@@ -78,9 +78,6 @@ lines_none {cells = cells} {system} start h none before =
 -- at the end of the table, all its signals were processed
 pub at_end : (system : System) (cells : List HeardCell) (i n : ℕ) → n ≡ length (table system) → i ≤ n → n ≤ i → had_below cells system i ≡ had cells system
 at_end system cells i n is within end = let e : i ≡ length (table system) = omega (arith, is, within, end) in ap (had_below cells system) e
-
-pub of_ok : {A E : Type 0} (r : Result A E) (u : A) (P : Type 0) → r ≡ Ok u → OnOk r P → P
-of_ok r u P e h = subst (λ q. OnOk q P) e h
 
 -- ---- whether there is a cell of any signal
 

@@ -1,7 +1,7 @@
-use Rattle.rtcm_convert.proofs.FaultLemmas.{passed, setup_never, pieces_known, never, not_of_setup, not_err}
+use Rattle.rtcm_convert.proofs.FaultLemmas.{setup_never, pieces_known, never, not_of_setup, not_err}
 use Rattle.rtcm_convert.proofs.PartLemmas.{same_fault}
 use Rattle.rtcm_convert.proofs.WholeLemmas.{BeganNew, run_made, run_empty, pieces_cut, pieces_failed}
-use Rattle.rtcm_convert.proofs.Names.{◌≡◌, Err, IsBad, IsErrOf, NoneChosen, Some, refl, LeftBy, BadSetup, Read, Failed, Finished, joined_pieces}
+use Rattle.rtcm_convert.proofs.Names.{◌≡◌, Err, IsBad, IsErrOf, NoneChosen, Some, refl, LeftBy, BadSetup, Read, Failed, Finished, joined_pieces, passed}
 use Rattle.rtcm_convert.proofs.whole.convert_pieces.Goals as goal
 
 pub returns : goal.returns

@@ -1,7 +1,7 @@
-use Rattle.rtcm_convert.proofs.FaultLemmas.{passed, run_known, never, not_of_setup, not_err}
+use Rattle.rtcm_convert.proofs.FaultLemmas.{run_known, never, not_of_setup, not_err}
 use Rattle.rtcm_convert.proofs.PartLemmas.{same_fault}
 use Rattle.rtcm_convert.proofs.WholeLemmas.{BeganNew, run_made, run_empty, run_read, run_long, run_write}
-use Rattle.rtcm_convert.proofs.Names.{◌≡◌, refl, Err, IsBad, LeftBy, BadSetup, Failed, Finished}
+use Rattle.rtcm_convert.proofs.Names.{◌≡◌, refl, Err, IsBad, LeftBy, BadSetup, Failed, Finished, passed}
 use Rattle.rtcm_convert.proofs.whole.convert_stream.Goals as goal
 
 pub returns : goal.returns

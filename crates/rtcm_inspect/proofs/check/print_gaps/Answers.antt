@@ -1,8 +1,7 @@
 use Rattle.rtcm_inspect.specs.declared.fault.InspectFault.TheVariants.{Check}
 use Rattle.rtcm_inspect.proofs.CheckLemmas.{read_failures}
 use Rattle.rtcm_inspect.proofs.GapLemmas.{isnt_err, leaves_all, leaves_more, next_is, printed_more}
-use Rattle.rtcm_inspect.proofs.PrintingLemmas.{passed}
-use Rattle.rtcm_inspect.proofs.Names.{◌∙◌, ◌++◌, ◌∷◌, [], ap, arith, refl, subst, sym, Appends-nil, Err, InspectFault, ReadFailures, ReadsGaps, ℕ}
+use Rattle.rtcm_inspect.proofs.Names.{◌∙◌, ◌++◌, ◌∷◌, [], ap, arith, refl, subst, sym, Appends-nil, Err, InspectFault, ReadFailures, ReadsGaps, ℕ, passed}
 use Rattle.rtcm_inspect.proofs.check.print_gaps.Goals as goal
 
 pub loop-before-init : goal.loop-before-init

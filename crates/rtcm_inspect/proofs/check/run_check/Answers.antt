@@ -1,6 +1,6 @@
 use Rattle.rtcm_inspect.proofs.CheckLemmas.{checked, checked_or, kept_first, refused, where_known}
-use Rattle.rtcm_inspect.proofs.PrintingLemmas.{passed, printed_later, unmapped, unmapped_err}
-use Rattle.rtcm_inspect.proofs.Names.{inr, subst, sym, Result, Err, IfOk, IfSome_then, IfTextOfFile, HoldsOr, InspectFault, ReadFault, AreCounts, IsCheckedOr, IsLineOf, IsTextWith, StopsAnyCheck}
+use Rattle.rtcm_inspect.proofs.PrintingLemmas.{printed_later, unmapped, unmapped_err}
+use Rattle.rtcm_inspect.proofs.Names.{inr, subst, sym, Result, Err, IfOk, IfSome_then, IfTextOfFile, HoldsOr, InspectFault, ReadFault, AreCounts, IsCheckedOr, IsLineOf, IsTextWith, StopsAnyCheck, passed}
 use Rattle.rtcm_inspect.proofs.check.run_check.Goals as goal
 
 pub returns-clause-ends : goal.returns-clause-ends

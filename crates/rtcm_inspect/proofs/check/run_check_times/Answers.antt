@@ -1,6 +1,6 @@
 use Rattle.rtcm_inspect.proofs.CheckLemmas.{checked, checked_or, kept_first, refused, where_known}
-use Rattle.rtcm_inspect.proofs.PrintingLemmas.{passed, printed_later, unmapped, unmapped_err}
-use Rattle.rtcm_inspect.proofs.Names.{◌≡◌, ◌∙◌, ◌++◌, List, ℕ, ap, inr, subst, sym, Result, Err, IfOk, IfSome_then, IfTextOfFile, HoldsOr, InspectFault, ReadFault, StopsAnyCheck, AreCounts, IsCheckedOr, IsSummary, IsTextWith, FileValue, AreLinesOf, check_line, times_lines, FileSummary}
+use Rattle.rtcm_inspect.proofs.PrintingLemmas.{printed_later, unmapped, unmapped_err}
+use Rattle.rtcm_inspect.proofs.Names.{◌≡◌, ◌∙◌, ◌++◌, List, ℕ, ap, inr, subst, sym, Result, Err, IfOk, IfSome_then, IfTextOfFile, HoldsOr, InspectFault, ReadFault, StopsAnyCheck, AreCounts, IsCheckedOr, IsSummary, IsTextWith, FileValue, AreLinesOf, check_line, times_lines, FileSummary, passed}
 use Rattle.rtcm_inspect.proofs.check.run_check_times.Goals as goal
 
 -- the lines of the counts and of the times

@@ -1,6 +1,6 @@
-use Rattle.rtcm_inspect.proofs.SignalLemmas.{IsCount, lines_one, lines_none, of_ok}
+use Rattle.rtcm_inspect.proofs.SignalLemmas.{IsCount, lines_one, lines_none}
 use Rattle.rtcm_inspect.proofs.signals.add_lines.Goals.{then-count-gt0, else-count-gt0}
-use Rattle.rtcm_inspect.proofs.Names.{◌∙◌, ◌<◌, ap, arith, ℕ, List, length, table}
+use Rattle.rtcm_inspect.proofs.Names.{◌∙◌, ◌<◌, ap, arith, ℕ, List, length, table, of_ok}
 use Rattle.rtcm_inspect.proofs.signals.add_lines.Goals as goal
 
 pub loop-index-preserved : goal.loop-index-preserved
@@ -11,14 +11,14 @@ loop-index-preserved c =
     let there : i < length (table system) = omega (arith, c.loop-index-test.true, c.signals-index-end.ensures.value) in
     record {
       text = λ cells h. (let count : IsCount c.args.signal_counts.now cells system i c.count-count.result = record { counts = h; within = there; is = c.count-count.ensures } in elim c.if-count-gt0.branch [
-        | then-count-gt0 w ↦ rw w.text-is (lines_one start count w.if-count-gt0.true (c.loop-index.invariant.text cells h) (of_ok w.try_extend_from_slice.result w.unwrap.result _ w.unwrap.ensures w.try_extend_from_slice.ensures.ok)
+        | then-count-gt0 w ↦ rw w.text-is (lines_one start count w.if-count-gt0.true (c.loop-index.invariant.text cells h) (of_ok w.unwrap.ensures w.try_extend_from_slice.ensures.ok)
             (w.as_bytes.ensures.text ∙ w.count_line-line.ensures.text))
         | else-count-gt0 w ↦ rw w.text-is (lines_none start count w.if-count-gt0.false (c.loop-index.invariant.text cells h))
       ]);
       short = elim c.if-count-gt0.branch [
         | then-count-gt0 w ↦ rw w.text-is (omega (
           arith,
-          of_ok w.try_extend_from_slice.result w.unwrap.result _ w.unwrap.ensures w.try_extend_from_slice.ensures.len,
+          of_ok w.unwrap.ensures w.try_extend_from_slice.ensures.len,
           ap length w.as_bytes.ensures.text,
           w.count_line-line.ensures.short,
           c.loop-index.invariant.short,

@@ -1,8 +1,8 @@
 -- A new converter has examined, counted and written nothing.
-use Rattle.rtcm_convert.proofs.FaultLemmas.{not_err, passed}
+use Rattle.rtcm_convert.proofs.FaultLemmas.{not_err}
 use Rattle.rtcm_convert.proofs.PartLemmas.{same_fault}
 use Rattle.rtcm_convert.proofs.converter.Converter.new.Goals.{then-setup-gt-MOST_BYTES-via-then-setup-gt-MOST_BYTES, then-setup-gt-MOST_BYTES-via-else-setup-gt-MOST_BYTES+then-not-fits_message}
-use Rattle.rtcm_convert.proofs.Names.{true≢false, Err, BadSetup, ◌≡◌, ◌≤◌, most_bytes, ℕ, List, [], subst, refl, sym, inl, inr, arith, ap, AreStationValues, Setup, setup_value, IsBad, IsBadStart, decided_frames, frames_before, IsDrained, HasExamined, Framed, frames_of, frames_from, known_frames, new_scan, FramerValue, HasFiledFrames, HasDrained}
+use Rattle.rtcm_convert.proofs.Names.{true≢false, Err, BadSetup, ◌≡◌, ◌≤◌, most_bytes, ℕ, List, [], subst, refl, sym, inl, inr, arith, ap, AreStationValues, Setup, setup_value, IsBad, IsBadStart, decided_frames, frames_before, IsDrained, HasExamined, Framed, frames_of, frames_from, known_frames, new_scan, FramerValue, HasFiledFrames, HasDrained, passed}
 use Rattle.rtcm_convert.proofs.converter.Converter.new.Goals as goal
 
 bad_start : (x : Setup) → AreStationValues x.gatherer.initial → x.limit ≤ most_bytes → IsBad x → IsBadStart x

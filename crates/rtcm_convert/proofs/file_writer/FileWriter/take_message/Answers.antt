@@ -1,11 +1,10 @@
 use Rattle.rtcm_convert.proofs.FaultLemmas.{fails_after}
-use Rattle.rtcm_convert.proofs.PartLemmas.{on_err_of}
 use Rattle.rtcm_convert.proofs.TakeLemmas.{settle, taken_again, kind_again, part_alone, part_again}
-use Rattle.rtcm_convert.proofs.Names.{◌∙◌, sym, None, on_err_weaker, viewed_message, closed_epochs}
+use Rattle.rtcm_convert.proofs.Names.{◌∙◌, sym, None, on_err_weaker, viewed_message, closed_epochs, on_failure}
 use Rattle.rtcm_convert.proofs.file_writer.FileWriter.take_message.Goals as goal
 
 pub returns-in_err-kind-clause-part : goal.returns-in_err-kind-clause-part
-returns-in_err-kind-clause-part g c = on_err_of _ (part_alone (viewed_message c.args.message.now) c.in_err-kind.ensures.part)
+returns-in_err-kind-clause-part g c = on_failure _ _ (part_alone (viewed_message c.args.message.now) c.in_err-kind.ensures.part)
 
 pub returns-then-not-is_close_first-clause-whole : goal.returns-then-not-is_close_first-clause-whole
 returns-then-not-is_close_first-clause-whole g c =
