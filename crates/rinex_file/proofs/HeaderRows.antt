@@ -1,6 +1,7 @@
 -- The lines of a header: their texts and types, headers with the same lines, and what is known after each line.
 pub mod Texts
 pub mod Types
+pub mod Lists
 pub mod Slots
 pub mod Agree
 pub mod Letters

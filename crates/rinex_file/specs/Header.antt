@@ -107,16 +107,22 @@ type_front byte types (suc line) = replicate 6 32
 abbrev pub type_columns : List (List ℕ) → ℕ → List ℕ
 type_columns types line = flat_map (λ t. 32 ∷ t) (take types_in_line (drop (types_in_line * line) types))
 
-abbrev pub type_line : ℕ → List (List ℕ) → ℕ → List ℕ
-type_line byte types line =
-    header_line (type_front byte (length types) line ++ type_columns types line) (codes "SYS / # / OBS TYPES")
-
 -- the number of lines that the types of a number of signals need; the last may not be full
 abbrev pub type_rows : ℕ → ℕ
 type_rows signals = (4 * signals + 12) / types_in_line
 
 abbrev pub codes_of : System → List ℕ → List (List ℕ)
 codes_of system signals = map (λ index. code_of (record { system = system; index = index })) signals
+
+-- a line of types of a system with `count` signals, of which these are the first
+abbrev pub types_with : System → ℕ → List ℕ → ℕ → List ℕ
+types_with system count signals row = header_line
+    (type_front (letter system) (4 * count) row ++ type_columns (types_of (codes_of system signals)) row)
+    (codes "SYS / # / OBS TYPES")
+
+-- a line of types of these signals of a system, all of them
+abbrev pub types_line : System → List ℕ → ℕ → List ℕ
+types_line system signals row = types_with system (length signals) signals row
 
 -- the line of a system without phase shifts
 abbrev pub shift_line : System → List ℕ
@@ -165,8 +171,7 @@ row_line h Version = version_line h.plan
 row_line h (Texts row) = texts_line h.texts row
 row_line h Position = position_line h.values
 row_line h Delta = delta_line h.values
-row_line h (Types system row) =
-    type_line (letter system) (types_of (codes_of system (planned_of system h.plan))) row
+row_line h (Types system row) = types_line system (planned_of system h.plan) row
 row_line h StrengthUnit = strength_line
 row_line h Interval = interval_line (unwrap_or h.interval 0)
 row_line h First = first_line (civil_of h.first)

@@ -4,7 +4,7 @@ use Rattle.rinex_fields.proofs.NumberLemmas.{number_in-fixed, digits_in-right, d
 use Rattle.rinex_file.proofs.Reading.Dates.{IsField, AreFields, field_at}
 use Rattle.rinex_file.proofs.HeaderRows.Types.{content_first}
 use Rattle.std.proofs.Math.Nat.{mod-eq_of_lt}
-use Rattle.rinex_file.proofs.Names.{IsInterval, arith, ◌≡◌, ◌∙◌, refl, sym, ap, ℕ, ◌+◌, ◌/◌, ◌<◌, ◌≤◌, ◌^◌, List, [], ◌∷◌, ◌++◌, length, take, drop, append-nil, length-append, Bool, true, false, ℤ, pos, unsigned_abs, suc, lit<, ◌==◌, codes, if◌then◌else◌, flat_map, slice_get, unwrap_or, is_negative, digits, ints, take_more, take-append-drop, drop-cons, System, passes_at, is_equal, planned_of, joined, right, fixed, digits_in, number_in, header_line, lengths, height_line, row_line, row_lines, has_line, header_lines, all_rows, row_count, row_at, row_place, lines_after, type_rows, version_by, Shown, lines_before, IsShown, AreTypes, types_line, IsCoordinate, End, Types, HeaderRow, drop-append-le, lt-ltb, interval_line}
+use Rattle.rinex_file.proofs.Names.{IsInterval, arith, ◌≡◌, ◌∙◌, refl, sym, ap, ℕ, ◌+◌, ◌/◌, ◌<◌, ◌≤◌, ◌^◌, List, [], ◌∷◌, ◌++◌, length, take, drop, append-nil, length-append, Bool, true, false, ℤ, pos, unsigned_abs, suc, lit<, ◌==◌, codes, if◌then◌else◌, flat_map, slice_get, unwrap_or, is_negative, digits, ints, take_more, take-append-drop, drop-cons, System, passes_at, is_equal, planned_of, joined, right, fixed, digits_in, number_in, header_line, lengths, height_line, row_line, row_lines, has_line, header_lines, all_rows, row_count, row_at, row_place, lines_after, version_by, Shown, lines_before, IsShown, AreTypes, IsCoordinate, End, HeaderRow, drop-append-le, interval_line}
 
 -- ---- version
 
@@ -120,7 +120,3 @@ types_shown s h is some = record { listed = is.plan.listed s; apart = is.plan.ap
 
 pub rows_when : (h : Shown) (r : HeaderRow) (b : Bool) → has_line h r ≡ b → row_lines h r ≡ (if b then row_line h r ∷ [] else [])
 rows_when h r b e = ap (λ c. if c then row_line h r ∷ [] else []) e
-
-pub types_in : (h : Shown) (s : System) (r : ℕ) → r < type_rows (length (planned_of s h.plan)) → row_lines h (Types s r) ≡ types_line s (planned_of s h.plan) r ∷ []
-unfolding row_line
-types_in h s r less = rows_when h (Types s r) true (lt-ltb r (type_rows (length (planned_of s h.plan))) less)

@@ -3,16 +3,17 @@ use Rattle.rinex_file.proofs.Reading.Epochs.{few_signals_of}
 use Rattle.rinex_file.proofs.HeaderRows.Agree.{split_at, less_or}
 use Rattle.gnss_system.proofs.SystemLaws.{equal_values, value_tabulated}
 use Rattle.gnss_system.specs.SystemValues.{tabulate, value_of}
-use Rattle.gnss_obs.proofs.PlanLemmas.{listed_by}
+use Rattle.gnss_obs.proofs.PlanLemmas.{few_below, listed_by}
+use Rattle.gnss_system.proofs.SystemLaws.{short_table}
 use Rattle.rinex_file.proofs.HeaderRows.Letters.{same_flags}
-use Rattle.rinex_file.proofs.HeaderRows.Some.{SomeShown, none_before, some_shown}
+use Rattle.rinex_file.proofs.HeaderRows.Some.{SomeShown, some_shown}
 use Rattle.rinex_file.proofs.HeaderRows.Slots.{no_slots, same_channels, slots_are, slots_room}
-use Rattle.rinex_file.proofs.HeaderRows.Places.{all_before}
+use Rattle.rinex_file.proofs.HeaderRows.Places.{known_at, types_early, types_here}
 use Rattle.rinex_file.proofs.HeaderRows.Steps.{left_over, rest_next}
 use Rattle.rinex_file.proofs.HeaderRows.Texts.{each_field, field_back, place_back, same_at, same_rows}
 use Rattle.rinex_file.proofs.PlainTexts.{both}
 use Rattle.rinex_file.specs.Header.{is_alike}
-use Rattle.rinex_file.proofs.Names.{◌||◌, arith, ◌≡◌, ◌∙◌, sym, ap, ap₂, map, refl, subst, ℕ, pos, suc, lit<, lit≤, ◌<◌, true, List, [], ◌∷◌, ◌++◌, length, get_or, replicate, All, nat_eq, AllOfLen, IsDistinct, take_all, ext_get_or, SignalAt, table, System, indices, IsOf, planned_of, StationValues, HeaderField, Texts, Position, Delta, First, End, trimmed, HeaderLists, text_count, text_of, width_of, fields, fields_of, AntType, IsText, AreTexts, AreValues, IsTime, row_line, row_place, end_line, Known, Shown, IsShown, AreValid, IsHeadAt, shown_with, lines_before, RefusesHeaderLine, EndsHeader, none_of, row_at, AreSameTexts, Has, HasRow, fits, counted, StrengthUnit, SameFrom, position_of, PlanValue, Slots, AreChannels, AreSameSlots, known_slots, no_channels, slots_of, is_given, HeaderRow, false, is_equal, is_less, nat_lt, ◌==◌, ◌&&◌, place_of, nil_from_length, has_text, not, not-true, flat_map, AreUnread, Interval, IfSome, IsInterval, None}
+use Rattle.rinex_file.proofs.Names.{AreListsAt, first_types, nat_le, letter, is_chosen, last_slot, slot_count, ◌+◌, ◌≤◌, ◌||◌, arith, ◌≡◌, ◌∙◌, sym, ap, ap₂, map, refl, subst, ℕ, pos, suc, lit<, lit≤, ◌<◌, true, List, [], ◌∷◌, ◌++◌, length, get_or, replicate, All, nat_eq, AllOfLen, IsDistinct, take_all, ext_get_or, SignalAt, table, System, indices, IsOf, planned_of, StationValues, HeaderField, Texts, Position, Delta, First, End, trimmed, HeaderLists, text_count, text_of, width_of, fields, fields_of, AntType, IsText, AreTexts, AreValues, IsTime, row_line, row_place, end_line, Known, Shown, IsShown, AreValid, IsHeadAt, shown_with, lines_before, RefusesHeaderLine, EndsHeader, none_of, row_at, AreSameTexts, Has, HasRow, fits, counted, StrengthUnit, SameFrom, position_of, PlanValue, Slots, Types, AreChannels, known_slots, no_channels, slots_of, is_given, HeaderRow, false, is_equal, is_less, nat_lt, ◌==◌, ◌&&◌, place_of, nil_from_length, has_text, not, not-true, flat_map, AreUnread, Interval, IfSome, IsInterval, None}
 
 -- ---- a header with all that was read is the one that was read
 
@@ -55,7 +56,13 @@ module _ (k : Known) (h : Shown) (is : IsShown h) (valid : AreValid k) (has : Ha
     at i less = subst (λ j. get_or h.texts j [] ≡ get_or k.shown.texts j []) (place_back i less) (same_at h.texts k.shown.texts fields i AntType less (subst (AreSameTexts h.texts k.shown.texts) rows_whole (same_rows h.texts k.shown.texts row_of fields)))
 
   signals : (s : System) → planned_of s h.plan ≡ planned_of s k.shown.plan
-  signals s = grind (arith, few_signals_of, all_before, lit<, take_all)
+  signals s =
+      let early = types_early s in
+      let row = known_at has (Types s 5) (types_here s 5 (lit< tt)) (omega (arith, early)) in
+      let few = few_signals_of h.plan is.plan s in
+      let read = few_below (length (table s)) (planned_of s k.shown.plan) (valid.listed s) (valid.apart s) in
+      let most = short_table s in
+      sym (take_all 20 (planned_of s h.plan) (omega (arith, few))) ∙ row.same ∙ take_all 20 (planned_of s k.shown.plan) (omega (arith, read, most))
 
   values : h.values ≡ k.shown.values
   values =
@@ -64,26 +71,31 @@ module _ (k : Known) (h : Shown) (is : IsShown h) (valid : AreValid k) (has : Ha
 
   channels : h.plan.channels ≡ k.shown.plan.channels
   channels =
-      let slots : AreSameSlots 3 k.slots (known_slots k) (slots_of h.plan.channels) = has.rows (row_place (Slots 3)) (lit< tt) in
+      let slots : HasRow k h (Slots 3) = has.rows (row_place (Slots 3)) (lit< tt) in
       let a = slots_room 0 (slots_of h.plan.channels) (slots_are h.plan.channels is.plan.channels) in
       let b = slots_room 0 (known_slots k) (slots_are k.shown.plan.channels valid.channels) in
-      same_channels h.plan.channels k.shown.plan.channels is.plan.channels valid.channels (sym (take_all 32 (slots_of h.plan.channels) (omega (arith, a))) ∙ slots.begun ∙ take_all 32 (known_slots k) (omega (arith, b)))
+      same_channels h.plan.channels k.shown.plan.channels is.plan.channels valid.channels (sym (take_all 32 (slots_of h.plan.channels) (omega (arith, a))) ∙ slots.same ∙ take_all 32 (known_slots k) (omega (arith, b)))
 
   pub same_header : h ≡ k.shown
   same_header = same_shown h k.shown texts (has.rows (row_place Interval) (lit< tt)) (same_plan h.plan k.shown.plan (equal_values h.plan.signals k.shown.plan.signals signals) channels) values (has.rows (row_place First) (lit< tt))
 
 -- ---- the last line
 
+both_after : (a b n : ℕ) → n < a → n < b → nat_le a n ≡ nat_le b n
+both_after a b n low high = grind arith
+
 -- what fits at a row after the types fits at the last
 still_fits : (k : Known) (from : ℕ) → row_place StrengthUnit < from → fits k from ≡ true → fits k (row_place End) ≡ true
-still_fits k from far e = grind (arith, same_flags, all_before, lit<)
+still_fits k from far e = ap (λ m. (m == k.letter) && nat_lt 0 k.letter) (same_flags (is_chosen k (row_place End)) (is_chosen k from) (λ s. ap (λ b. nat_lt 0 (counted k s) || (b && (k.letter == 77 || k.letter == letter s))) (late s))) ∙ e where
+  late : (s : System) → nat_le (row_place End) (first_types s) ≡ nat_le from (first_types s)
+  late s = let early = types_early s in both_after (row_place End) from (first_types s) (omega (arith, early)) (omega (arith, early, far))
 
 module _ (k : Known) (line : List ℕ) (from : ℕ) (at : IsHeadAt k from) (same : SameFrom k line from (row_place End)) where
   at_end : IsHeadAt k (row_place End)
   at_end = record {
     valid = at.valid;
-    sized = same.sized;
-    slots = same.slots;
+    lists = at.lists;
+    read = same.read;
     unread = same.unread;
     fitting = λ l. less_or (fits k (row_place End) ≡ true) (row_place StrengthUnit) from
         (λ far. still_fits k from far (at.fitting (omega (arith, far)))) (λ low. let e = same.none (row_place StrengthUnit) low (lit< tt) in cc);
@@ -140,12 +152,28 @@ no_value : (r : HeaderRow) → is_given (replicate text_count []) None r ≡ fal
 no_value (Texts r) = no_text r
 no_value r = refl
 
-blank_unread : (k : Known) → k.shown.texts ≡ replicate text_count [] → k.shown.interval ≡ None → AreUnread k 0
-blank_unread k blank none r far = ap₂ (λ x i. is_given x i r) blank none ∙ no_value r
-
 -- nothing was read
-pub begins : (k : Known) → AreValid k → k.shown.texts ≡ replicate text_count [] → k.shown.interval ≡ None → ((s : System) → counted k s ≡ 0) → ((s : System) → planned_of s k.shown.plan ≡ []) → k.slots ≡ 0 → k.shown.plan.channels ≡ no_channels → IsHeadAt k 0
-begins k valid blank none none_counted none_planned no_count none_known = grind (arith, no_slots, lit≤, none_before, (blank_unread k blank none))
+module _ (k : Known) (valid : AreValid k) (blank : k.shown.texts ≡ replicate text_count []) (none : k.shown.interval ≡ None) (counts : (s : System) → counted k s ≡ 0) (planned : (s : System) → planned_of s k.shown.plan ≡ []) (no_count : k.slots ≡ 0)
+    (no_channel : k.shown.plan.channels ≡ no_channels) where
+  no_known : known_slots k ≡ []
+  no_known = ap slots_of no_channel ∙ no_slots
+
+  unread : AreUnread k 0
+  unread (Types s row) far = (let none = ap length (planned s) in omega (arith, none), λ e. counts s)
+  unread (Slots row) far = (let none = ap length no_known in omega (arith, none), λ e. no_count)
+  unread r far = ap₂ (λ x i. is_given x i r) blank none ∙ no_value r
+
+  lists : AreListsAt k
+  lists = record {
+    read = λ s. let none = ap length (planned s) in omega (arith, none);
+    few = λ s. let none = counts s in omega (arith, none);
+    slots_read = let none = ap length no_known in omega (arith, none);
+    room = subst (λ ss. k.slots + last_slot 0 ss ≤ length ss + slot_count) (sym no_known) (omega (arith, no_count));
+    unplanned = λ e. no_count;
+  }
+
+  pub begins : IsHeadAt k 0
+  begins = record { valid = valid; lists = lists; read = λ i less. absurd (omega (arith, less)); unread = unread; fitting = λ less. absurd (omega (arith, less)); expected = lit< tt }
 
 blank_text : (f : HeaderField) → IsText (width_of f) (text_of (replicate text_count []) f)
 unfolding trimmed

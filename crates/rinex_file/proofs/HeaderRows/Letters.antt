@@ -5,8 +5,11 @@ use Rattle.std.specs.List.{list_any}
 use Rattle.gnss_system.specs.Systems.{is_system}
 use Rattle.gnss_system.proofs.SystemLaws.{any_system, equal_indices, letter_back, system_same, systems_taken}
 use Rattle.gnss_system.specs.Satellites.{system_of_letter}
+use Rattle.std.proofs.lemmas.Bool.{le-leb}
+use Rattle.rinex_file.proofs.HeaderRows.Places.{number_known}
+use Rattle.rinex_file.proofs.HeaderRows.Agree.{less_or}
 use Rattle.rinex_file.proofs.HeaderRows.Texts.{equal_or}
-use Rattle.rinex_file.proofs.Names.{arith, refl, sym, ap, ap₂, subst, ◌≡◌, ◌∙◌, ℕ, ◌+◌, ◌<◌, ◌≤◌, ◌==◌, ◌&&◌, ◌||◌, cond, Bool, true, false, List, [], ◌∷◌, length, nat_lt, nat_tests, lit<, filter, System, letter, PlanValue, planned_of, systems, is_planned, letter_of, flagged_letter, systems_letter, Known, IsShown, Shown, Has, counted, types_before, is_chosen, fits, same_Some, if◌then◌else◌, index_of, take, filter-append, append-nil, ◌++◌, All, All-head, filter_passes, eq-eqb, lt-ltb, or_right, AreSized}
+use Rattle.rinex_file.proofs.Names.{AreUnread, Types, first_types, nat_le, arith, refl, sym, ap, ap₂, subst, ◌≡◌, ◌∙◌, ℕ, ◌+◌, ◌<◌, ◌≤◌, ◌==◌, ◌&&◌, ◌||◌, cond, Bool, true, false, List, [], ◌∷◌, length, nat_lt, nat_tests, lit<, filter, System, letter, PlanValue, planned_of, systems, is_planned, letter_of, flagged_letter, systems_letter, Known, IsShown, Shown, Has, counted, is_chosen, fits, same_Some, if◌then◌else◌, index_of, take, filter-append, append-nil, ◌++◌, All, All-head, filter_passes, eq-eqb, lt-ltb, or_right}
 
 -- ---- letters
 
@@ -105,20 +108,20 @@ chosen_letter f some may m is positive sub sup = equal_or (flagged_letter (chose
 
 -- ---- a header with what was read has a plan that fits
 
-counted_flag : (rows count : ℕ) (all : List ℕ) → (rows ≡ 0 → count ≡ 0) → (0 < rows → count ≡ length all) → nat_lt 0 count ≡ true → nat_lt 0 (length all) ≡ true
-counted_flag rows count all none are some = grind arith
+counted_flag : (n first count : ℕ) (all : List ℕ) → (n ≤ first → count ≡ 0) → (first < n → count ≡ length all) → nat_lt 0 count ≡ true → nat_lt 0 (length all) ≡ true
+counted_flag n first count all none are some = less_or (nat_lt 0 (length all) ≡ true) first n (λ l. ap (nat_lt 0) (sym (are l)) ∙ some) (λ m. let no = sym (ap (nat_lt 0) (none m)) ∙ some in cc)
 
-planned_flag : (rows count : ℕ) (all : List ℕ) → (0 < rows → count ≡ length all) → nat_lt 0 (length all) ≡ true → (rows == 0 || nat_lt 0 count) ≡ true
-planned_flag rows count all are some = grind (arith, or_right)
+planned_flag : (n first count : ℕ) (all : List ℕ) → (first < n → count ≡ length all) → nat_lt 0 (length all) ≡ true → (nat_le n first || nat_lt 0 count) ≡ true
+planned_flag n first count all are some = less_or ((nat_le n first || nat_lt 0 count) ≡ true) first n (λ l. or_right (nat_le n first) (nat_lt 0 count) (ap (nat_lt 0) (are l) ∙ some)) (λ m. ap (λ b. b || nat_lt 0 count) (le-leb n first m))
 
 some_planned : (p : PlanValue) (s : System) → 0 < length (planned_of s p) → 0 < systems_letter p
 some_planned p s some = grind (arith, has_flag, lt-ltb, lit<)
 
-pub has_fits : (k : Known) (n : ℕ) (h : Shown) → 0 < n → ((s : System) → AreSized s (types_before s n) (counted k s) (planned_of s k.shown.plan)) → IsShown h → Has k n h → fits k n ≡ true
-has_fits k n h first sized is has =
+pub has_fits : (k : Known) (n : ℕ) (h : Shown) → 0 < n → AreUnread k n → IsShown h → Has k n h → fits k n ≡ true
+has_fits k n h first unread is has =
     let letter : systems_letter h.plan ≡ k.letter = has.rows 0 first in
     let positive = subst (λ m. 0 < m) letter (some_planned h.plan is.plan.some.0 is.plan.some.1) in
-    let chosen = chosen_letter (is_planned h.plan) (λ s. nat_lt 0 (counted k s)) (λ s. types_before s n == 0) k.letter letter positive
-    (λ s e. counted_flag (types_before s n) (counted k s) (planned_of s h.plan) (sized s).none (has.types s).number e)
-    (λ s e. planned_flag (types_before s n) (counted k s) (planned_of s h.plan) (has.types s).number e) in
+    let chosen = chosen_letter (is_planned h.plan) (λ s. nat_lt 0 (counted k s)) (λ s. nat_le n (first_types s)) k.letter letter positive
+    (λ s e. counted_flag n (first_types s) (counted k s) (planned_of s h.plan) (λ m. (unread (Types s 0) (omega (arith, m))).1 refl) (number_known has s) e)
+    (λ s e. planned_flag n (first_types s) (counted k s) (planned_of s h.plan) (number_known has s) e) in
     ap₂ (λ a b. a && b) (eq-eqb (flagged_letter (is_chosen k n)) k.letter chosen) (lt-ltb 0 k.letter positive)

@@ -1,68 +1,18 @@
--- The rows of types and of slots before an index.
+-- The rows of types and of slots, and where they are.
 use Rattle.gnss_system.proofs.Checked.{passes_below}
-use Rattle.gnss_system.proofs.SystemLaws.{each_system, system_same, system_self}
+use Rattle.gnss_system.proofs.SystemLaws.{each_system, system_same}
 use Rattle.rinex_file.proofs.HeaderRows.Agree.{placed}
 use Rattle.rinex_file.proofs.PlainTexts.{both}
-use Rattle.rinex_file.proofs.Names.{if◌then◌else◌, arith, ◌≡◌, ◌∙◌, sym, ap, refl, ℕ, zero, suc, ◌<◌, Bool, true, false, ◌==◌, ◌&&◌, nat_lt, nat_tests, System, passes_at, HeaderRow, Types, StrengthUnit, row_at, row_count, row_place, most_type_rows, types_before, is_system, is_equal, is_less, Slots, slots_before}
+use Rattle.rinex_file.proofs.Names.{first_types, Has, HasRow, Known, Shown, ap₂, counted, length, lit<, planned_of, subst, arith, ◌≡◌, ◌∙◌, sym, ap, refl, ℕ, zero, suc, ◌<◌, Bool, true, false, ◌==◌, ◌&&◌, nat_lt, System, passes_at, HeaderRow, Types, StrengthUnit, row_at, row_count, row_place, most_type_rows, is_system, is_equal, is_less, Slots}
 
--- ---- the rows of types before an index
+-- a line of a list is one of the first six, or four
+abbrev few_lines : HeaderRow → Bool
+few_lines (Types s row) = nat_lt row most_type_rows
+few_lines (Slots row) = nat_lt row 4
+few_lines other = true
 
-abbrev pub is_types : HeaderRow → Bool
-is_types (Types s row) = true
-is_types other = false
-
--- the number of lines of a system's types before a row and before the next
-abbrev step_ok : System → ℕ → HeaderRow → Bool
-step_ok s n (Types t row) = if is_system t s then (types_before s n == row) && (types_before s (suc n) == suc row) else types_before s (suc n) == types_before s n
-step_ok s n other = types_before s (suc n) == types_before s n
-
-module _ {n : ℕ} (less : n < row_count) where
-  step_is : {r : HeaderRow} (s : System) → row_at n ≡ r → step_ok s n r ≡ true
-  step_is s at = sym (ap (step_ok s n) at) ∙ passes_at (λ i. step_ok s i (row_at i)) row_count n (each_system (λ s. passes_below (λ i. step_ok s i (row_at i)) row_count) s refl) less
-
-  pub plain_before : (r : HeaderRow) (s : System) → row_at n ≡ r → is_types r ≡ false → types_before s (suc n) ≡ types_before s n
-  plain_before (Types t row) s at plain = cc
-  plain_before other s at plain = is_equal (types_before s (suc n)) (types_before s n) (step_is s at)
-
-  pub own_before : (s : System) (row : ℕ) → row_at n ≡ Types s row → (types_before s n ≡ row) × (types_before s (suc n) ≡ suc row)
-  own_before s row at = let two = both (types_before s n == row) (types_before s (suc n) == suc row) (sym (ap (λ b. if b then (types_before s n == row) && (types_before s (suc n) == suc row) else types_before s (suc n) == types_before s n) (system_self s s refl)) ∙ step_is s at) in (is_equal (types_before s n) row two.0, is_equal (types_before s (suc n)) (suc row) two.1)
-
-  pub other_before : (s t : System) (row : ℕ) → row_at n ≡ Types t row → is_system t s ≡ false → types_before s (suc n) ≡ types_before s n
-  other_before s t row at other = is_equal (types_before s (suc n)) (types_before s n) (sym (ap (λ b. if b then (types_before s n == row) && (types_before s (suc n) == suc row) else types_before s (suc n) == types_before s n) other) ∙ step_is s at)
-
--- all types are before the rows after the unit's
-pub all_before : (s : System) (n : ℕ) → row_place StrengthUnit < n → types_before s n ≡ most_type_rows
-all_before s n far = grind (arith, is_less, each_system)
-
--- ---- the rows of slots before an index
-
-abbrev pub is_slots : HeaderRow → Bool
-is_slots (Slots row) = true
-is_slots other = false
-
--- the number of lines of slots before a row and before the next
-abbrev slot_ok : ℕ → HeaderRow → Bool
-slot_ok n (Slots row) = (slots_before n == row) && (slots_before (suc n) == suc row) && nat_lt row 4
-slot_ok n (Types s row) = (slots_before n == 0) && (slots_before (suc n) == 0)
-slot_ok n other = slots_before (suc n) == slots_before n
-
-module _ {n : ℕ} (less : n < row_count) where
-  slot_is : {r : HeaderRow} → row_at n ≡ r → slot_ok n r ≡ true
-  slot_is at = sym (ap (slot_ok n) at) ∙ passes_at (λ i. slot_ok i (row_at i)) row_count n refl less
-
-  pub own_slots : (row : ℕ) → row_at n ≡ Slots row → (slots_before n ≡ row) × (slots_before (suc n) ≡ suc row) × (row < 4)
-  own_slots row at =
-      let a = both ((slots_before n == row) && (slots_before (suc n) == suc row)) (nat_lt row 4) (slot_is at) in
-      let b = both (slots_before n == row) (slots_before (suc n) == suc row) a.0 in
-      (is_equal (slots_before n) row b.0, is_equal (slots_before (suc n)) (suc row) b.1, is_less row 4 a.1)
-
-  pub none_of_slots : (s : System) (row : ℕ) → row_at n ≡ Types s row → (slots_before n ≡ 0) × (slots_before (suc n) ≡ 0)
-  none_of_slots s row at = let b = both (slots_before n == 0) (slots_before (suc n) == 0) (slot_is at) in (is_equal (slots_before n) 0 b.0, is_equal (slots_before (suc n)) 0 b.1)
-
-  pub other_slots : (r : HeaderRow) → row_at n ≡ r → is_slots r ≡ false → slots_before n ≡ slots_before (suc n)
-  other_slots (Types s row) at other = let b = none_of_slots s row at in b.0 ∙ sym b.1
-  other_slots (Slots row) at other = cc
-  other_slots r at other = sym (is_equal (slots_before (suc n)) (slots_before n) (slot_is at))
+pub few_rows : {n : ℕ} → n < row_count → (r : HeaderRow) → row_at n ≡ r → few_lines r ≡ true
+few_rows {n} less r at = sym (ap few_lines at) ∙ passes_at (λ i. few_lines (row_at i)) row_count n refl less
 
 pub slots_here : (row : ℕ) → row < 4 → row_at (row_place (Slots row)) ≡ Slots row
 slots_here zero few = refl
@@ -71,12 +21,49 @@ slots_here (suc (suc zero)) few = refl
 slots_here (suc (suc (suc zero))) few = refl
 slots_here (suc (suc (suc (suc row)))) few = absurd (omega (arith, few))
 
--- the same system, or another
-pub either : (P : Type 0) (s t : System) → (t ≡ s → P) → (is_system s t ≡ false → P) → P
-either P s t same other = grind (arith, system_same)
+-- a row is this one of a system's types
+abbrev is_row_of : System → ℕ → HeaderRow → Bool
+is_row_of s row (Types t i) = is_system t s && (i == row)
+is_row_of s row other = false
 
-pub flipped : (s t : System) → is_system s t ≡ false → is_system t s ≡ false
-flipped s t e = grind (arith, nat_tests)
+row_of : (s : System) (row : ℕ) (r : HeaderRow) → is_row_of s row r ≡ true → r ≡ Types s row
+row_of s row (Types t i) e = let two = both (is_system t s) (i == row) e in ap₂ Types (system_same t s two.0) (is_equal i row two.1)
+row_of s row r e = cc
+
+abbrev types_at : System → ℕ → Bool
+types_at s row = is_row_of s row (row_at (row_place (Types s row)))
+
+pub types_here : (s : System) (row : ℕ) → row < most_type_rows → row_at (row_place (Types s row)) ≡ Types s row
+types_here s row few = row_of s row (row_at (row_place (Types s row))) (passes_at (types_at s) most_type_rows row (each_system (λ s. passes_below (types_at s) most_type_rows) s refl) few)
+
+-- the types of a system are before the rows after them
+pub types_early : (s : System) → row_place (Types s 5) < row_place StrengthUnit
+types_early s = is_less (row_place (Types s 5)) (row_place StrengthUnit) (each_system (λ s. nat_lt (row_place (Types s 5)) (row_place StrengthUnit)) s refl)
+
+-- what the rows before an index said of one of them
+pub known_at : {k : Known} {n : ℕ} {h : Shown} → Has k n h → (r : HeaderRow) → row_at (row_place r) ≡ r → row_place r < n → HasRow k h r
+known_at {k} {n} {h} has r at less = subst (HasRow k h) at (has.rows (row_place r) less)
+
+-- after a system's first row of types, the number of its signals is known
+pub number_known : {k : Known} {n : ℕ} {h : Shown} → Has k n h → (s : System) → first_types s < n → counted k s ≡ length (planned_of s h.plan)
+number_known has s less = (known_at has (Types s 0) (types_here s 0 (lit< tt)) (omega (arith, less))).number
 
 pub place_at : (n : ℕ) (r : HeaderRow) → n < row_count → row_at n ≡ r → n ≡ row_place r
 place_at n r less at = sym (placed n less) ∙ ap row_place at
+
+-- the line of a list before this one
+pub earlier_types : {n : ℕ} → n < row_count → (s : System) (row : ℕ) → row_at n ≡ Types s (suc row) → (row_at (row_place (Types s row)) ≡ Types s row) × (row_place (Types s row) < n)
+earlier_types {n} less s row at =
+    let few = is_less (suc row) most_type_rows (few_rows less (Types s (suc row)) at) in
+    let e = place_at n (Types s (suc row)) less at in
+    (types_here s row (omega (arith, few)), omega (arith, e))
+
+pub earlier_slots : {n : ℕ} → n < row_count → (row : ℕ) → row_at n ≡ Slots (suc row) → (row_at (row_place (Slots row)) ≡ Slots row) × (row_place (Slots row) < n)
+earlier_slots {n} less row at =
+    let few = is_less (suc row) 4 (few_rows less (Slots (suc row)) at) in
+    let e = place_at n (Slots (suc row)) less at in
+    (slots_here row (omega (arith, few)), omega (arith, e))
+
+-- the same system, or another
+pub either : (P : Type 0) (s t : System) → (t ≡ s → P) → (is_system s t ≡ false → P) → P
+either P s t same other = grind (arith, system_same)

@@ -7,9 +7,8 @@ use Rattle.rinex_file.proofs.HeaderRows.Agree.{at_most_a_day}
 use Rattle.rinex_file.proofs.Reading.Epochs.{few_signals_of}
 use Rattle.rinex_file.proofs.HeaderRows.Texts.{each_field, few_columns}
 use Rattle.rinex_file.proofs.HeaderRows.Slots.{slots_are, slots_room}
-use Rattle.rinex_file.proofs.HeaderRows.Types.{length-system_types}
 use Rattle.rinex_file.proofs.PlainTexts.{both, IsPlain, plain-wider, plain-append, plain-left, plain-right, plain-decimal, plain-fixed, plain-padded, plain, plain-flat_map, plain-joined, also, plain-text}
-use Rattle.rinex_file.proofs.Names.{arith, lit≤, lit<, ◌≡◌, ap, refl, subst, ℕ, zero, suc, ◌+◌, ◌*◌, ◌/◌, ◌%◌, ◌^◌, ◌<◌, ◌≤◌, ℤ, pos, unsigned_abs, Bool, true, false, List, [], ◌∷◌, ◌++◌, length, take, drop, decimal, get_or, append_assoc, length-append, ◌==◌, ◌||◌, ◌&&◌, not, nat_le, flat_map, All, codes, slice_get, AllByRecursion, list_all, option_map_or, cond_both, ints, length-take, All-nil, All-head, All-tail, All-cons, All-append, All-map, All-take, All-drop, All-replicate, code_of, System, StationValues, Civil, civil_of, PlanValue, planned_of, HeaderField, HeaderRow, Version, Texts, Position, Delta, Types, StrengthUnit, First, Shift, End, IsLine, AreTexts, AreValues, IsTime, IsCoordinate, header_line, version_fields, version_line, lengths, first_line, text_columns, texts_line, types_of, type_front, type_columns, type_line, codes_of, row_line, row_lines, has_line, all_rows, header_lines, position_line, delta_line, letter, joined, left, right, fixed, has, HeaderLists, width_of, text_of, fields_of, label_of, front_of, common_steps, most_line, most_signals, systems_letter, is_planned, letter_of, systems, filter, padded, most_number, slot_count, nat_tests, AreSlots, SlotNumber, channel_text, slot_text, slots_columns, slots_front, slots_line, slots_of, Slots, Biases, Shown, IsShown, Interval, IsInterval, IfSome, Option, Some, None, unwrap_or, interval_line, at_most}
+use Rattle.rinex_file.proofs.Names.{arith, lit≤, lit<, ◌≡◌, ap, refl, subst, ℕ, zero, suc, ◌+◌, ◌*◌, ◌/◌, ◌%◌, ◌^◌, ◌<◌, ◌≤◌, ℤ, pos, unsigned_abs, Bool, true, false, List, [], ◌∷◌, ◌++◌, length, take, drop, decimal, get_or, append_assoc, length-append, ◌==◌, ◌||◌, ◌&&◌, not, nat_le, flat_map, All, codes, slice_get, AllByRecursion, list_all, option_map_or, cond_both, ints, length-take, All-nil, All-head, All-tail, All-cons, All-append, All-map, All-take, All-drop, All-replicate, code_of, System, StationValues, Civil, civil_of, PlanValue, planned_of, HeaderField, HeaderRow, Version, Texts, Position, Delta, Types, StrengthUnit, First, Shift, End, IsLine, AreTexts, AreValues, IsTime, IsCoordinate, header_line, version_fields, version_line, lengths, first_line, text_columns, texts_line, types_of, type_front, type_columns, codes_of, row_line, row_lines, has_line, all_rows, header_lines, position_line, delta_line, letter, joined, left, right, fixed, has, HeaderLists, width_of, text_of, fields_of, label_of, front_of, common_steps, most_line, most_signals, systems_letter, is_planned, letter_of, systems, filter, padded, most_number, slot_count, nat_tests, AreSlots, SlotNumber, channel_text, slot_text, slots_columns, slots_front, slots_line, slots_of, Slots, Biases, Shown, IsShown, Interval, IsInterval, IfSome, Option, Some, None, unwrap_or, interval_line, at_most, types_line}
 
 -- ---- a line of a file
 
@@ -120,21 +119,19 @@ plain_columns types are =
     plain-wider (length (take 13 types) * 4) 52 (flat_map (λ t. 32 ∷ t) (take 13 types)) (omega (arith, length-take 13 types))
     (plain-flat_map 4 (λ t. 32 ∷ t) (take 13 types) (λ k d h. plain-append 1 3 (32 ∷ []) (get_or (take 13 types) k d) (plain 1 (32 ∷ []) refl (lit≤ tt)) (All-take (IsPlain 3) 13 types are k d h)))
 
-line_of_types : (letter : ℕ) (types : List (List ℕ)) (line : ℕ) → (letter == 10) ≡ false → length types < 2 ^ 64 → All (IsPlain 3) types → IsFileLine (type_line letter types line)
-line_of_types letter types line other few are =
-    header (26 + 52) (type_front letter (length types) line ++ type_columns types line) (codes "SYS / # / OBS TYPES")
-    (plain-append 26 52 (type_front letter (length types) line) (type_columns types line) (front_of_types letter (length types) line other few)
+line_of_types : (letter n : ℕ) (types : List (List ℕ)) (line : ℕ) → (letter == 10) ≡ false → n < 2 ^ 64 → All (IsPlain 3) types → IsFileLine (header_line (type_front letter n line ++ type_columns types line) (codes "SYS / # / OBS TYPES"))
+line_of_types letter n types line other few are =
+    header (26 + 52) (type_front letter n line ++ type_columns types line) (codes "SYS / # / OBS TYPES")
+    (plain-append 26 52 (type_front letter n line) (type_columns types line) (front_of_types letter n line other few)
     (plain_columns (drop (13 * line) types) (All-drop (IsPlain 3) (13 * line) types are)))
     (plain 20 (codes "SYS / # / OBS TYPES") refl (lit≤ tt)) (lit≤ tt)
 
 pub no_letter : (system : System) → (letter system == 10) ≡ false
 no_letter system = grind arith
 
-one_of_types : (system : System) (signals : List ℕ) (row : ℕ) → length signals ≤ most_signals → IsFileLine (type_line (letter system) (types_of (codes_of system signals)) row)
+one_of_types : (system : System) (signals : List ℕ) (row : ℕ) → length signals ≤ most_signals → IsFileLine (types_line system signals row)
 one_of_types system signals row few =
-    let types = types_of (codes_of system signals) in
-    let count : length types ≡ 4 * length signals = length-system_types system signals in
-    line_of_types (letter system) types row (no_letter system) (omega (arith, count, few)) (types_are_plain (codes_of system signals)
+    line_of_types (letter system) (4 * length signals) (types_of (codes_of system signals)) row (no_letter system) (omega (arith, few)) (types_are_plain (codes_of system signals)
     (All-map (IsPlain 2) (λ index. code_of (record { system = system; index = index })) signals (λ k d h. code_of_signal system (get_or signals k d))))
 
 -- ---- slots

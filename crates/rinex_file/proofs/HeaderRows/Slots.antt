@@ -6,13 +6,13 @@ use Rattle.rinex_file.proofs.HeaderRows.Agree.{less_or}
 use Rattle.gnss_obs.specs.Channels.{AreChannels, ChannelsValue, most_number, no_channels, number_at, slot_count, with_number}
 use Rattle.rinex_file.specs.Slots.{AreSlots, SlotNumber, channel_text, last_slot, slot_text, slots_columns, slots_from, slots_front, slots_in_line, slots_of}
 use Rattle.rinex_file.specs.Header.{slots_line, slots_with}
-use Rattle.rinex_file.specs.Read.Progress.{AreSameSlots}
+use Rattle.rinex_file.proofs.HeaderRows.Lists.{item_in_line, up_to}
 use Rattle.rinex_file.proofs.Judged.{refused}
-use Rattle.rinex_file.specs.Read.HeaderSteps.{IsLineOfSlots, TakesOrRefusesSlots, TakesSlots}
+use Rattle.rinex_file.specs.Read.HeaderSteps.{IsLineOfSlots, TakesOrRefusesSlots}
 use Rattle.rinex_fields.proofs.NumberLemmas.{digits_in-padded, digits_in-whole, length-right}
 use Rattle.rinex_file.proofs.Digits.Padded.{two_digits}
 use Rattle.rinex_file.proofs.HeaderRows.Types.{content_first}
-use Rattle.rinex_file.proofs.Names.{common_steps, All, All-head, All-replicate, All-tail, IfSome, List, None, Option, Some, [], ap, append-nil, append_assoc, arith, codes, decimal, digits_in, drop, drop-append-le, drop-cons, drop-drop, drop-take, header_line, IsTrue, ◌↔◌, nil_from_length, drop_all, drop_at, flat_map, flat_map-append, get_or, get_or-drop, get_or-take, length, length-append, length-decimal-le, length-drop, length-set, length-take, min, padded, refl, right, set, suc, sym, take, take-append-le, take_all, take_at, take-take, take_more, filter, is_some, zero, ◌*◌, ◌++◌, ◌+◌, ◌-◌, ◌/◌, ◌%◌, ◌<◌, ◌∙◌, ◌∷◌, ◌≡◌, ◌≤◌, ℕ, Bool, if◌then◌else◌, subst, lt-ltb, le-ltb}
+use Rattle.rinex_file.proofs.Names.{true, false, common_steps, All, All-head, All-replicate, All-tail, IfSome, List, None, Option, Some, [], ap, append-nil, append_assoc, arith, codes, decimal, digits_in, drop, drop-append-le, drop-cons, drop-drop, drop-take, header_line, IsTrue, ◌↔◌, drop_all, flat_map, flat_map-append, get_or, length, length-append, length-decimal-le, length-drop, length-set, min, padded, refl, right, set, suc, sym, take, take-append-le, take_all, take_at, take_more, filter, is_some, zero, ◌*◌, ◌++◌, ◌+◌, ◌-◌, ◌/◌, ◌%◌, ◌<◌, ◌∙◌, ◌∷◌, ◌≡◌, ◌≤◌, ℕ, Bool, if◌then◌else◌, subst, lt-ltb, le-ltb}
 
 -- ---- slots that follow others
 
@@ -232,15 +232,6 @@ each_slot last [] i d are less = absurd (omega (arith, less))
 each_slot last (s ∷ ss) zero d are less = let room = slots_room s.slot ss are.2 in (omega (arith, room), are.1)
 each_slot last (s ∷ ss) (suc i) d are less = each_slot s.slot ss i d are.2 (omega (arith, less))
 
-shown_at : (ss : List SlotNumber) (q : ℕ) (d : SlotNumber) (rest : List ℕ) → ((i : ℕ) → i < length ss → (get_or ss i d).slot < 100) → q < length ss → ShowsSlot (get_or ss q d) (drop (7 * q) (flat_map slot_text ss ++ rest))
-shown_at [] q d rest few less = absurd (omega (arith, less))
-shown_at (s ∷ ss) zero d rest few less = subst (ShowsSlot s) (sym (append_assoc (slot_text s) (flat_map slot_text ss) rest)) (slot_shown s (flat_map slot_text ss ++ rest) (few 0 less))
-shown_at (s ∷ ss) (suc q) d rest few less =
-    let steps : 7 * suc q ≡ 7 + 7 * q = omega arith in
-    let after = ap (drop 7) (append_assoc (slot_text s) (flat_map slot_text ss) rest) ∙ drop_at (slot_text s) (flat_map slot_text ss ++ rest) 7 (length-slot s (few 0 (omega arith))) in
-    subst (ShowsSlot (get_or ss q d)) (sym (ap (λ (n : ℕ). drop n (flat_map slot_text (s ∷ ss) ++ rest)) steps ∙ sym (drop-drop (7 * q) 7 (flat_map slot_text (s ∷ ss) ++ rest)) ∙ ap (drop (7 * q)) after))
-    (shown_at ss q d rest (λ i h. few (suc i) (omega (arith, h))) (omega (arith, less)))
-
 length-front : (count row : ℕ) → count < 1000 → length (slots_front count row) ≡ 4
 length-front count zero few =
     let size = length-right 3 (decimal count) (length-decimal-le 3 count (omega arith) (omega (arith, few)) (omega (arith, few))) in
@@ -278,22 +269,15 @@ module _ {row before : ℕ} {line : List ℕ} {old all : List SlotNumber} (l : I
     pub later_here : last_slot 0 (take (8 * row + q) all) < slot_here.slot
     later_here = (subst (AreSlots (last_slot 0 (take (8 * row + q) all))) (drop-cons all (8 * row + q) d less) (rest_are 0 (8 * row + q) all l.are)).0
 
-    there : (i : ℕ) → i < length (in_line row all) → get_or (in_line row all) i d ≡ get_or all (8 * row + i) d
-    there i h = let size = length-take 8 (drop (8 * row) all) in get_or-take 8 (drop (8 * row) all) i d (omega (arith, h, size)) ∙ get_or-drop (8 * row) all i d
-
     row_line : ShowsSlot slot_here (drop (4 + 7 * q) line)
     row_line =
         let count = few_slots in
-        let size : length (in_line row all) ≡ min 8 (length all - 8 * row) = length-take 8 (drop (8 * row) all) ∙ ap (min 8) (length-drop (8 * row) all) in
-        let front = slots_front (length all) row in
-        let slots = flat_map slot_text (in_line row all) in
-        let content = content_first (slots_columns (length all) all row) (codes "GLONASS SLOT / FRQ #") in
-        let shape : line ≡ front ++ (slots ++ content.0) = l.is ∙ content.1 ∙ append_assoc front slots content.0 in
-        let at : drop (4 + 7 * q) line ≡ drop (7 * q) (slots ++ content.0) =
-        sym (drop-drop (7 * q) 4 line) ∙ ap (λ (t : List ℕ). drop (7 * q) (drop 4 t)) shape ∙ ap (drop (7 * q)) (drop_at front (slots ++ content.0) 4 (length-front (length all) row (omega (arith, count)))) in
-        let inside : q < length (in_line row all) = omega (arith, size, few, less) in
-        subst (ShowsSlot slot_here) (sym at) (subst (λ (s : SlotNumber). ShowsSlot s (drop (7 * q) (slots ++ content.0))) (there q inside)
-        (shown_at (in_line row all) q d content.0 (λ i h. let bound = (each_slot 0 all (8 * row + i) d l.are (omega (arith, h, size))).0 in subst (λ (s : SlotNumber). s.slot < 100) (sym (there i h)) (omega (arith, bound))) inside))
+        let low = λ (i : ℕ) (h : i < length all). let bound = (each_slot 0 all i d l.are h).0 in lower (get_or all i d).slot bound in
+        let item = item_in_line slot_text 7 4 8 (λ q. 7 * q) refl (λ q. omega arith) (slots_front (length all) row) (codes "GLONASS SLOT / FRQ #") all (8 * row) q d (length-front (length all) row (omega (arith, count)))
+        (λ i h. length-slot (get_or all i d) (low i h)) few less in
+        subst (ShowsSlot slot_here) (sym (ap (drop (4 + 7 * q)) l.is ∙ item.1)) (slot_shown slot_here item.0 (low (8 * row + q) less)) where
+          lower : (slot : ℕ) → slot ≤ slot_count → slot < 100
+          lower slot few = omega (arith, few)
 
     pub slot_read : digits_in (take 2 (drop (4 + 7 * q + 1) line)) ≡ slot_here.slot
     slot_read =
@@ -347,31 +331,10 @@ no_room {end = end} l size few is at more =
     let same = at ∙ ap (last_slot 0) is in
     omega (arith, room, same, size, more)
 
--- the slots in the lines up to a row
-up_to : (row : ℕ) (new all : List SlotNumber) → new ≡ take (8 * suc row) all → take (8 * suc row) all ≡ take (8 * suc row) new
-up_to row new all e = sym (take-take (8 * suc row) (8 * suc row) all (omega arith)) ∙ ap (take (8 * suc row)) (sym e)
-
 pub line_judged : {row before count : ℕ} {line again : List ℕ} {old new : List SlotNumber} (b : Bool) → (IsTrue b ↔ (line ≡ again)) → again ≡ slots_with count new row → (0 < row → before ≡ count)
     → length new ≡ min (8 * suc row) count → count + last_slot 0 new ≤ length new + slot_count → take (8 * row) new ≡ old
     → ((all : List SlotNumber) → IsLineOfSlots row line before old all → (length all ≡ count) × (new ≡ take (8 * suc row) all)) → TakesOrRefusesSlots row line before old count new b
-line_judged b compared shown later size room grows taken = grind (arith, refused, same_slots_line, up_to)
-
--- ---- what is known after a line of slots
-
--- a header's slots go on after those in the lines before
-pub slots_go_on : {row count : ℕ} {line : List ℕ} {old all : List SlotNumber} → AreSlots 0 all → length old ≡ 8 * row → ((i : ℕ) → row ≡ suc i → AreSameSlots i count old all) → slots_line all row ≡ line → IsLineOfSlots row line count old all
-slots_go_on {row = zero} {old = old} are size same e = record { are = are; later = λ l. absurd (omega (arith, l)); begun = nil_from_length old (omega (arith, size)); is = sym e }
-slots_go_on {row = suc i} {old = old} {all} are size same e =
-    let s = same i refl in
-    record { are = are; later = λ l. s.number; begun = sym (take_all (8 * suc i) old (omega (arith, size))) ∙ sym s.begun; is = sym e }
-
-module _ {row before count : ℕ} {line : List ℕ} {old new : List SlotNumber} (t : TakesSlots row line before old count new) {all : List SlotNumber} where
-  pub same_after : IsLineOfSlots row line before old all → AreSameSlots row count new all
-  same_after l = let both = t.taken all l in record { number = sym both.0; begun = up_to row new all both.1 }
-
-  pub line_after_same : AreSameSlots row count new all → slots_line all row ≡ line
-  line_after_same s = ap (λ (n : ℕ). slots_with n all row) (sym s.number) ∙ same_slots_line row count all new s.begun ∙ sym t.shown
-
-  -- what the lines before said
-  pub same_before : (i : ℕ) → i < row → AreSameSlots i before old all ↔ AreSameSlots i count new all
-  same_before i less = grind (arith, take-take)
+line_judged true compared shown later size room grows taken = record { items = record { later = later; size = size; grows = grows; is = compared.0 refl ∙ shown; taken = taken }; room = room }
+line_judged {row} {line = line} {new = new} false compared shown later size room grows taken = λ all l.
+    let both = taken all l in
+    refused false _ compared refl (l.is ∙ ap (λ (n : ℕ). slots_with n all row) both.0 ∙ same_slots_line row _ all new (up_to (8 * suc row) new all both.1) ∙ sym shown)

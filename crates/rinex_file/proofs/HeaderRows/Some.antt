@@ -5,9 +5,10 @@ use Rattle.rinex_file.proofs.HeaderRows.Letters.{flagged, same_flags}
 use Rattle.rinex_file.proofs.HeaderRows.Texts.{equal_or, same_here}
 use Rattle.gnss_system.specs.declared.system.System.TheVariants.{Glonass}
 use Rattle.rinex_file.proofs.HeaderRows.Slots.{More, more_slots, no_channels_are, same_channels}
-use Rattle.rinex_file.proofs.HeaderRows.Places.{own_slots, place_at}
+use Rattle.rinex_file.proofs.HeaderRows.Agree.{less_or}
+use Rattle.rinex_file.proofs.HeaderRows.Places.{place_at}
 use Rattle.rinex_file.proofs.PlainTexts.{both}
-use Rattle.rinex_file.proofs.Names.{common_steps, All, All-cons, All-nil, All-push, AreSized, AreTypesOf, Bool, Delta, First, Has, HasRow, HeaderRow, IsDistinct, IsDistinct-push, IsHeadAt, IsShown, Known, List, PlanValue, Position, System, Texts, Version, ap, arith, counted, eqb, false, fields_of, flagged_letter, is_chosen, is_equal, is_less, is_planned, le-length_from_below, length, length-append, letter, list_any, min, nat_eq, nat_eq_equiv, nat_lt, nat_tests, nil_from_length, planned_of, refl, row_at, shown_with, signals_begun, subst, suc, sym, systems_letter, table, take, take-append_seam, take-take, take_all, take_min, true, types_before, zero, ◌&&◌, ◌++◌, ◌+◌, ◌-◌, ◌<◌, ◌==◌, ◌||◌, ◌∙◌, ◌∷◌, ◌≡◌, ◌≤◌, [], ℕ, lit<, ◌*◌, append-nil, take-append-le, row_count, Slots, SlotNumber, AreSlotsAt, known_slots, slots_before, slots_of, no_channels, lt-ltb, or_right, Interval}
+use Rattle.rinex_file.proofs.Names.{not, nat_le, first_types, slots_begun, IsRowRead, take_at, Types, All, All-cons, All-nil, All-push, Bool, Delta, First, Has, HasRow, HeaderRow, IsDistinct, IsDistinct-push, IsHeadAt, IsShown, Known, List, PlanValue, Position, System, Texts, Version, ap, arith, counted, eqb, false, fields_of, flagged_letter, is_chosen, is_equal, is_less, is_planned, le-length_from_below, length, length-append, letter, list_any, min, nat_eq, nat_eq_equiv, nat_lt, nat_tests, nil_from_length, planned_of, refl, row_at, shown_with, signals_begun, subst, suc, sym, systems_letter, table, take, take-append_seam, take-take, take_all, true, zero, ◌&&◌, ◌++◌, ◌+◌, ◌-◌, ◌<◌, ◌==◌, ◌||◌, ◌∙◌, ◌∷◌, ◌≡◌, ◌≤◌, [], ℕ, lit<, Slots, SlotNumber, known_slots, slots_of, no_channels, lt-ltb, or_right, Interval}
 
 -- ---- signals of a system, with others up to a number
 
@@ -52,96 +53,106 @@ complete (suc d) n c xs below apart whole room =
     let rest = complete d n c (xs ++ one.i ∷ []) (All-push (λ i. i < n) xs one.i below one.below) (IsDistinct-push nat_eq_equiv xs one.i apart one.isnt) (omega (arith, whole, longer)) room in
     record { all = rest.all; size = rest.size; below = rest.below; apart = rest.apart; begins = in_front xs rest.all one.i rest.begins }
 
--- ---- some header has what was read
-
--- signals of a system, with others up to their number
-record Choice (s : System) (rows count : ℕ) (signals : List ℕ) (chosen : Bool) : Type 0 where
+-- signals of a system, with others up to their number, if that is known
+record Choice (s : System) (known : Bool) (count : ℕ) (signals : List ℕ) (chosen : Bool) : Type 0 where
   all : List ℕ
   below : AreBelow (length (table s)) all
   apart : IsDistinct nat_eq all
   some : nat_lt 0 (length all) ≡ chosen
-  types : AreTypesOf rows count signals all
-
-no_signals : (signals : List ℕ) (m count : ℕ) → length signals ≡ min m count → count ≡ 0 → signals ≡ []
-no_signals signals m count size none = nil_from_length signals (omega (arith, size, none))
+  number : known ≡ true → count ≡ length all
+  begins : signals ≡ take (length signals) all
 
 table_some : (s : System) → 0 < length (table s)
 table_some s = grind arith
 
-choose : (s : System) (chosen : Bool) (rows count : ℕ) (signals : List ℕ) → AreBelow (length (table s)) signals → IsDistinct nat_eq signals → AreSized s rows count signals
-    → (chosen ≡ true → (rows == 0 || nat_lt 0 count) ≡ true) → (count == 0 || chosen) ≡ true → Choice s rows count signals chosen
+choose : (s : System) (chosen known : Bool) (count : ℕ) (signals : List ℕ) → AreBelow (length (table s)) signals → IsDistinct nat_eq signals → length signals ≤ count → count ≤ length (table s)
+    → (known ≡ false → count ≡ 0) → (chosen ≡ true → (not known || nat_lt 0 count) ≡ true) → (count == 0 || chosen) ≡ true → Choice s known count signals chosen
 unfolding IsDistinct
-choose s false rows count signals below apart sized may none = record {
+choose s false known count signals below apart read few unread may none = record {
   all = [];
   below = All-nil (λ i. i < length (table s));
   apart = tt;
   some = refl;
-  types = record { number = λ l. zero_count; begun = no_signals signals (signals_begun rows) count sized.size zero_count ∙ sym (take_all (signals_begun rows) [] (omega arith)) };
+  number = λ l. zero_count;
+  begins = nil_from_length signals (omega (arith, read, zero_count)) ∙ sym (take_all (length signals) [] (omega arith));
 } where
   zero_count : count ≡ 0
   zero_count = zero_from count none where
     zero_from : (n : ℕ) → (n == 0 || false) ≡ true → n ≡ 0
     zero_from n e = grind (arith, nat_tests, e)
-choose s true zero count signals below apart sized may none = record {
+choose s true false count signals below apart read few unread may none = record {
   all = 0 ∷ [];
   below = All-cons (λ i. i < length (table s)) 0 [] (table_some s) (All-nil (λ i. i < length (table s)));
   apart = (tt, tt);
   some = refl;
-  types = record { number = λ l. absurd (omega (arith, l)); begun = no_signals signals (signals_begun 0) count sized.size (sized.none refl) };
+  number = λ l. cc;
+  begins = let empty : signals ≡ [] = let zero_count = unread refl in nil_from_length signals (omega (arith, read, zero_count)) in empty ∙ sym (ap (λ n. take n (0 ∷ [])) (ap length empty));
 }
-choose s true (suc rows) count signals below apart sized may none =
-    let some : 0 < count = positive rows count (may refl) in
-    let size = sized.size in
-    let few = sized.few in
-    let made = complete (count - length signals) (length (table s)) count signals below apart (omega (arith, size)) few in
+choose s true true count signals below apart read few unread may none =
+    let some : 0 < count = is_less 0 count (may refl) in
+    let made = complete (count - length signals) (length (table s)) count signals below apart (omega (arith, read)) few in
     let made_size = made.size in
     record {
       all = made.all;
       below = made.below;
       apart = made.apart;
       some = lt-ltb 0 (length made.all) (omega (arith, made_size, some));
-      types = record { number = λ l. sym made_size; begun = made.begins ∙ ap (λ m. take m made.all) (size ∙ ap (min (signals_begun (suc rows))) (sym made_size)) ∙ take_min (signals_begun (suc rows)) made.all };
-    } where
-      positive : (rows count : ℕ) → (suc rows == 0 || nat_lt 0 count) ≡ true → 0 < count
-      positive rows count e = grind (arith, nat_tests, e)
+      number = λ l. sym made_size;
+      begins = made.begins;
+    }
+
+-- the first items are those that were read, if these are all or enough
+same_begun : {X : Type 0} (n : ℕ) (read all : List X) → read ≡ take (length read) all → min n (length all) ≤ length read → take n all ≡ take n read
+same_begun n read all begins enough = less_or (take n all ≡ take n read) (length read) n
+    (λ few. let whole : read ≡ all = begins ∙ take_all (length read) all (omega (arith, few, enough)) in ap (take n) (sym whole))
+    (λ more. sym (take-take n (length read) all more) ∙ ap (take n) (sym begins))
+
+-- ---- some header has what was read
 
 pub record SomeShown (k : Known) (n : ℕ) : Type 0 where
   pub p : PlanValue
   pub is : IsShown (shown_with k p)
   pub has : Has k n (shown_with k p)
 
--- slots that begin with those that were read, if there are no more or those are the lines up to a row
-begun_slots : (row rows count : ℕ) (read more : List SlotNumber) → row < rows → length read ≡ min (8 * rows) count → length more ≡ count - length read → take (8 * suc row) (read ++ more) ≡ take (8 * suc row) read
-begun_slots row rows count read more less size rest = grind (arith, common_steps, append-nil, take-append-le)
+module _ (k : Known) (n : ℕ) (at : IsHeadAt k n) (p : PlanValue) (letter_is : 0 < n → systems_letter p ≡ k.letter) (more : List SlotNumber) (slots : slots_of p.channels ≡ known_slots k ++ more) (size : length more ≡ k.slots - length (known_slots k))
+    (number : (s : System) → first_types s < n → counted k s ≡ length (planned_of s p)) (begins : (s : System) → planned_of s k.shown.plan ≡ take (length (planned_of s k.shown.plan)) (planned_of s p)) where
+  slots_number : k.slots ≡ length (slots_of p.channels)
+  slots_number = let read = at.lists.slots_read in omega (arith, size, read, ap length slots, length-append (known_slots k) more)
 
-own_rows : (k : Known) (n : ℕ) (p : PlanValue) (more : List SlotNumber) (i : ℕ) → i < n → n < row_count → AreSlotsAt k n → slots_of p.channels ≡ known_slots k ++ more → length more ≡ k.slots - length (known_slots k) → (r : HeaderRow) → row_at i ≡ r
-    → (systems_letter p ≡ k.letter) → HasRow k (shown_with k p) r
-own_rows k n p more i less few at is size Version here e = e
-own_rows k n p more i less few at is size (Texts row) here e = same_here k.shown.texts (fields_of row)
-own_rows k n p more i less few at is size Position here e = refl
-own_rows k n p more i less few at is size Delta here e = refl
-own_rows k n p more i less few at is size Interval here e = refl
-own_rows k n p more i less few at is size First here e = refl
-own_rows k n p more i less few at is size (Slots row) here e =
-    let place = place_at i (Slots row) (omega (arith, less, few)) here in
-    let four = (own_slots {n = i} (omega (arith, less, few)) row here).2 in
-    let read = at.size in
-    record {
-      number = omega (arith, read, size, ap length is, length-append (known_slots k) more);
-      begun = ap (take (8 * suc row)) is ∙ begun_slots row (slots_before n) k.slots (known_slots k) more (omega (arith, place, four, less)) read size;
-    }
-own_rows k n p more i less few at is size other here e = tt
+  own_row : (i : ℕ) → i < n → (r : HeaderRow) → row_at i ≡ r → HasRow k (shown_with k p) r
+  own_row i less Version here = letter_is (omega (arith, less))
+  own_row i less (Texts row) here = same_here k.shown.texts (fields_of row)
+  own_row i less Position here = refl
+  own_row i less Delta here = refl
+  own_row i less Interval here = refl
+  own_row i less First here = refl
+  own_row i less (Slots row) here =
+      let read : IsRowRead k (Slots row) = subst (IsRowRead k) here (at.read i less) in
+      record { number = slots_number; same = same_begun (slots_begun (suc row)) (known_slots k) (slots_of p.channels) (sym (take_at (known_slots k) more (length (known_slots k)) refl) ∙ ap (take (length (known_slots k))) (sym slots)) (subst (λ c. min (slots_begun (suc row)) c ≤ length (known_slots k)) slots_number read) }
+  own_row i less (Types s row) here =
+      let read : IsRowRead k (Types s row) = subst (IsRowRead k) here (at.read i less) in
+      let place = place_at i (Types s row) (let few = at.expected in omega (arith, less, few)) here in
+      let same = number s (omega (arith, place, less)) in
+      record { number = same; same = same_begun (signals_begun (suc row)) (planned_of s k.shown.plan) (planned_of s p) (begins s) (subst (λ c. min (signals_begun (suc row)) c ≤ length (planned_of s k.shown.plan)) same read) }
+  own_row i less other here = tt
 
 module _ (k : Known) (n : ℕ) (at : IsHeadAt k n) (flags : System → Bool) (same : 0 < n → flagged_letter flags ≡ k.letter) (some : 0 < flagged_letter flags)
-    (may : (s : System) → flags s ≡ true → (types_before s n == 0 || nat_lt 0 (counted k s)) ≡ true) (none : (s : System) → (counted k s == 0 || flags s) ≡ true) where
-  choice : (s : System) → Choice s (types_before s n) (counted k s) (planned_of s k.shown.plan) (flags s)
-  choice s = choose s (flags s) (types_before s n) (counted k s) (planned_of s k.shown.plan) (at.valid.listed s) (at.valid.apart s) (at.sized s) (may s) (none s)
+    (may : (s : System) → flags s ≡ true → (nat_le n (first_types s) || nat_lt 0 (counted k s)) ≡ true) (none : (s : System) → (counted k s == 0 || flags s) ≡ true) where
+  choice : (s : System) → Choice s (not (nat_le n (first_types s))) (counted k s) (planned_of s k.shown.plan) (flags s)
+  choice s = choose s (flags s) (not (nat_le n (first_types s))) (counted k s) (planned_of s k.shown.plan) (at.valid.listed s) (at.valid.apart s) (at.lists.read s) (at.lists.few s)
+      (λ e. let low = is_early n (first_types s) e in (at.unread (Types s 0) (omega (arith, low))).1 refl)
+      (λ e. twice (nat_le n (first_types s)) (nat_lt 0 (counted k s)) (may s e)) (none s) where
+        is_early : (a b : ℕ) → not (nat_le a b) ≡ false → a ≤ b
+        is_early a b e = grind (arith, e)
+
+        twice : (a b : Bool) → (a || b) ≡ true → (not (not a) || b) ≡ true
+        twice a b e = grind arith
 
   abbrev all : System → List ℕ
   all s = (choice s).all
 
   more : More k.shown.plan.channels (k.slots - length (known_slots k))
-  more = let room = at.slots.room in let size = at.slots.size in more_slots (k.slots - length (known_slots k)) k.shown.plan.channels at.valid.channels (omega (arith, room, size))
+  more = let room = at.lists.room in let read = at.lists.slots_read in more_slots (k.slots - length (known_slots k)) k.shown.plan.channels at.valid.channels (omega (arith, room, read))
 
   abbrev p : PlanValue
   p = record { signals = tabulate all; channels = more.channels }
@@ -173,22 +184,23 @@ module _ (k : Known) (n : ℕ) (at : IsHeadAt k n) (flags : System → Bool) (sa
       };
     };
     has = record {
-      rows = λ i l. own_rows k n p more.more i l at.expected at.slots more.is more.size (row_at i) refl (letter_is ∙ same (omega (arith, l)));
-      types = λ s. subst (AreTypesOf (types_before s n) (counted k s) (planned_of s k.shown.plan)) (sym (value_tabulated s all)) (choice s).types;
+      rows = λ i l. own_row k n at p (λ l. letter_is ∙ same l) more.more more.is more.size (λ s less. (choice s).number (is_late n (first_types s) less) ∙ ap length (sym (value_tabulated s all)))
+          (λ s. (choice s).begins ∙ ap (take (length (planned_of s k.shown.plan))) (sym (value_tabulated s all))) i l (row_at i) refl;
     };
-  }
+  } where
+    is_late : (a b : ℕ) → b < a → not (nat_le a b) ≡ true
+    is_late a b e = grind (arith, e)
 
--- no row of types is before the first row
-pub none_before : (s : System) → types_before s 0 ≡ 0
-none_before s = omega arith
+from_zero : (a : ℕ) (b : Bool) → (nat_le 0 a || b) ≡ true
+from_zero a b = grind arith
 
 pub some_shown : (k : Known) (n : ℕ) → IsHeadAt k n → SomeShown k n
-some_shown k zero at = made k 0 at (λ s. true) (λ l. absurd (omega (arith, l))) (lit< tt) (λ s e. ap (λ m. m == 0 || nat_lt 0 (counted k s)) (none_before s)) (λ s. or_right (counted k s == 0) true refl)
+some_shown k zero at = made k 0 at (λ s. true) (λ l. absurd (omega (arith, l))) (lit< tt) (λ s e. from_zero (first_types s) (nat_lt 0 (counted k s))) (λ s. or_right (counted k s == 0) true refl)
 some_shown k (suc n) at =
     let fit = both (flagged_letter (is_chosen k (suc n)) == k.letter) (nat_lt 0 k.letter) (at.fitting (omega arith)) in
     let same = is_equal (flagged_letter (is_chosen k (suc n))) k.letter fit.0 in
     made k (suc n) at (is_chosen k (suc n)) (λ l. same) (subst (λ m. 0 < m) (sym same) (is_less 0 k.letter fit.1))
-    (λ s e. may (nat_lt 0 (counted k s)) (types_before s (suc n) == 0) (k.letter == 77 || k.letter == letter s) e) (λ s. counts (counted k s) (types_before s (suc n) == 0 && (k.letter == 77 || k.letter == letter s))) where
+    (λ s e. may (nat_lt 0 (counted k s)) (nat_le (suc n) (first_types s)) (k.letter == 77 || k.letter == letter s) e) (λ s. counts (counted k s) (nat_le (suc n) (first_types s) && (k.letter == 77 || k.letter == letter s))) where
       may : (a b c : Bool) → (a || (b && c)) ≡ true → (b || a) ≡ true
       may a b c e = grind (arith, e)
 

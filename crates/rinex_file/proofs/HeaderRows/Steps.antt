@@ -11,97 +11,121 @@ use Rattle.rinex_file.proofs.HeaderRows.Types.{content_first}
 use Rattle.gnss_system.specs.declared.system.System.TheVariants.{Glonass}
 use Rattle.rinex_file.proofs.HeaderRows.Slots.{no_slots}
 use Rattle.rinex_file.proofs.PlainTexts.{both}
-use Rattle.rinex_file.proofs.HeaderRows.Places.{all_before, either, flipped, is_types, other_before, other_slots, own_before, own_slots, place_at, plain_before, slots_here}
-use Rattle.rinex_file.proofs.Names.{types_line, is_of_types, common_steps, Result, Refusal, TakesHeaderLine, expected_if, drop, all_rows, arith, ◌≡◌, ◌∙◌, sym, ap, refl, subst, ℕ, zero, suc, ◌+◌, ◌<◌, ◌≤◌, Bool, true, false, List, [], ◌∷◌, ◌++◌, length, take, append-nil, not, take_all, ◌≢◌, ◌==◌, ◌&&◌, min, ◌↔◌, nat_lt, nat_tests, System, planned_of, Known, IsShown, AreValid, Shown, IsHeadAt, row_lines, row_line, lines_before, lines_after, signals_begun, HeaderRow, Types, StrengthUnit, Shift, End, Expected, has_line, row_at, row_count, row_place, type_rows, known_line, RefusesHeaderLine, NoneGoesOn, SameFrom, AreSized, AreTypesOf, Has, HasRow, counted, fits, types_before, begins_with, IsHeaderLineRead, GoesOn, Takes, flat_map, header_line, letter, codes, is_less, lit<, ◌*◌, value_of, nil_from_length, Slots, Biases, SlotNumber, slots_of, slots_in_line, slot_rows, AreSlotsRead, AreSlotsAt, AreSameSlots, AreSlotsBefore, SlotsFollow, known_slots, not-true, ltb-false, add-one, eq-eqb, Texts, First, HeaderField, is_given, is_optional, is_required, has_text, label_of, left, AreUnread, append_assoc, ap₂, or_parts, or_right, has_label, fields_of, drop_at, length-append, ◌-◌, ◌||◌, nat_le, Interval, row_label, is_some, Option, lit≤, Version, Position, Delta, at_most}
+use Rattle.rinex_file.proofs.HeaderRows.Places.{place_at, earlier_slots, earlier_types, few_rows, known_at, number_known, types_early}
+use Rattle.rinex_file.proofs.Names.{types_line, is_of_types, Result, Refusal, TakesHeaderLine, expected_if, drop, all_rows, arith, ◌≡◌, ◌∙◌, sym, ap, refl, subst, ℕ, zero, suc, ◌+◌, ◌<◌, ◌≤◌, Bool, true, false, List, [], ◌∷◌, ◌++◌, length, append-nil, not, ◌≢◌, ◌==◌, ◌&&◌, ◌↔◌, nat_lt, nat_tests, System, planned_of, Known, IsShown, AreValid, Shown, IsHeadAt, row_lines, row_line, lines_before, lines_after, signals_begun, HeaderRow, Types, StrengthUnit, Shift, End, Expected, has_line, row_at, row_count, row_place, type_rows, known_line, RefusesHeaderLine, NoneGoesOn, SameFrom, Has, HasRow, counted, fits, begins_with, IsHeaderLineRead, GoesOn, Takes, flat_map, header_line, letter, codes, is_less, nil_from_length, Slots, Biases, slots_of, slot_rows, known_slots, not-true, ltb-false, add-one, eq-eqb, Texts, First, HeaderField, is_given, is_optional, is_required, has_text, label_of, left, AreUnread, append_assoc, ap₂, or_parts, or_right, has_label, fields_of, drop_at, length-append, ◌-◌, ◌||◌, nat_le, Interval, row_label, is_some, Option, lit≤, Version, Position, Delta, at_most, most_type_rows, AreListsAt, AreReadAt, IsRowRead, IsRowUnread, slots_begun, lt-ltb, AreItemsBefore}
 use Rattle.std.proofs.lemmas.Bool.{not-false}
+use Rattle.rinex_file.proofs.HeaderRows.Lists.{still_same}
 
--- ---- the number of a system's signals
-
--- what holds of a number of lines, a number of signals and signals holds of equal ones
-moved : (P : ℕ → ℕ → List ℕ → Type 0) {a b c d : ℕ} {xs ys : List ℕ} → a ≡ b → c ≡ d → xs ≡ ys → P a c xs → P b d ys
-moved P {a} {b} {c} {d} {xs} {ys} e f g p = subst (λ n. P n d ys) e (subst (λ n. P a n ys) f (subst (P a c) g p))
-
-slots_moved : {a b p q c d : ℕ} {xs ys : List SlotNumber} → a ≡ b → p ≡ q → c ≡ d → xs ≡ ys → AreSlotsRead a p c xs → AreSlotsRead b q d ys
-slots_moved e f g same s = grind arith
+-- ---- the items before an expected line
 
 is_none : (n : ℕ) → nat_lt 0 n ≡ false → n ≡ 0
 is_none n e = grind (arith, e, nat_tests)
 
--- a line of slots is expected only if signals of GLONASS are planned
-none_expected : (row : ℕ) (k : Known) (line : List ℕ) → known_line k line (Slots row) ≡ true → counted k Glonass ≡ 0 → (counted k Glonass ≡ 0 → k.slots ≡ 0) → ⊥
-none_expected row k line has none unplanned = grind (arith, is_less)
+-- the lines of a list before this one were read
+before_types : {n : ℕ} (less : n < row_count) (k : Known) (s : System) (row : ℕ) → row_at n ≡ Types s (suc row) → AreReadAt k n → IsRowRead k (Types s row)
+before_types less k s row at read = let (here, early) = earlier_types less s row at in subst (IsRowRead k) here (read (row_place (Types s row)) early)
 
--- the slots before an expected line
-pub slots_expected : {n : ℕ} (less : n < row_count) (r : HeaderRow) (k : Known) (line : List ℕ) → row_at n ≡ r → known_line k line r ≡ true → AreSlotsAt k n → AreSlotsBefore k r
-slots_expected less r k line at has s = grind (arith, own_slots, lit<, is_less)
+before_slots : {n : ℕ} (less : n < row_count) (k : Known) (row : ℕ) → row_at n ≡ Slots (suc row) → AreReadAt k n → IsRowRead k (Slots row)
+before_slots less k row at read = let (here, early) = earlier_slots less row at in subst (IsRowRead k) here (read (row_place (Slots row)) early)
 
--- ---- a row apart from types
+-- a line of types that isn't the first is expected by the number of signals
+rows_there : (k : Known) (line : List ℕ) (s : System) (row : ℕ) → known_line k line (Types s row) ≡ true → 0 < row → row < type_rows (counted k s)
+rows_there k line s row has far = grind (arith, is_less)
 
-module _ {n : ℕ} {r : HeaderRow} {line : List ℕ} {old new : Known} (less : n < row_count) (at : row_at n ≡ r) (plain : is_types r ≡ false) (read : IsHeaderLineRead r line old new) where
-  row_law : (h : Shown) → IsShown h → (Has old n h × (row_line h r ≡ line)) ↔ Has new (suc n) h
-  row_law h is = (to, from) where
-    placed_at : Has old n h → Has old (row_place r) h
-    placed_at a = subst (λ m. Has old m h) (place_at n r less at) a
+begun_types : (row count : ℕ) → row < type_rows count → signals_begun row ≤ count
+begun_types row count less = omega (arith, less)
 
-    before : (i : ℕ) → i < n → row_place (row_at i) < row_place r
-    before i l = subst (λ m. row_place (row_at i) < m) (place_at n r less at) (subst (λ m. m < n) (sym (placed i (omega (arith, l, less)))) l)
+begun_slots : (row count : ℕ) → row < slot_rows count → slots_begun row < count
+begun_slots row count less = omega (arith, less)
 
-    to : Has old n h × (row_line h r ≡ line) → Has new (suc n) h
-    to (a, e) = record {
-      rows = λ i l. equal_or (HasRow new h (row_at i)) i n
-          (λ same. subst (HasRow new h) (sym at ∙ ap row_at (sym same)) ((read.own h is (placed_at a)).0 e))
-          (λ far. let l' : i < n = omega (arith, l, far) in (read.kept h (row_at i) (before i l')).0 (a.rows i l'));
-      types = λ s. moved (λ rows c xs. AreTypesOf rows c xs (planned_of s h.plan)) (sym (plain_before less r s at plain)) (sym (read.counts s)) (ap (value_of s) (sym read.signals)) (a.types s);
-    }
+module _ {n : ℕ} (less : n < row_count) (k : Known) (line : List ℕ) (lists : AreListsAt k) (read : AreReadAt k n) (unread : AreUnread k n) where
+  -- no item of the row that is expected was read
+  unread_at : (r : HeaderRow) → row_at n ≡ r → IsRowUnread k r
+  unread_at r at = let here = place_at n r less at in unread r (omega (arith, here))
 
-    from : Has new (suc n) h → Has old n h × (row_line h r ≡ line)
-    from a = (b, (read.own h is (placed_at b)).1 (subst (HasRow new h) at (a.rows n (omega arith)))) where
-      b : Has old n h
-      b = record {
-        rows = λ i l. (read.kept h (row_at i) (before i l)).1 (a.rows i (omega (arith, l)));
-        types = λ s. moved (λ rows c xs. AreTypesOf rows c xs (planned_of s h.plan)) (plain_before less r s at plain) (read.counts s) (ap (value_of s) read.signals) (a.types s);
-      }
+  size_types : (s : System) (row : ℕ) → row_at n ≡ Types s row → known_line k line (Types s row) ≡ true → length (planned_of s k.shown.plan) ≡ signals_begun row
+  size_types s zero at has = let none = (unread_at (Types s 0) at).0 in omega (arith, none)
+  size_types s (suc row) at has =
+      let few = (unread_at (Types s (suc row)) at).0 in
+      let before = before_types less k s row at read in
+      let some = begun_types (suc row) (counted k s) (rows_there k line s (suc row) has (omega arith)) in
+      omega (arith, few, before, some)
 
-  pub row_sized : ((s : System) → AreSized s (types_before s n) (counted old s) (planned_of s old.shown.plan)) → (s : System) → AreSized s (types_before s (suc n)) (counted new s) (planned_of s new.shown.plan)
-  row_sized sized s = moved (AreSized s) (sym (plain_before less r s at plain)) (sym (read.counts s)) (ap (value_of s) (sym read.signals)) (sized s)
+  size_slots : (row : ℕ) → row_at n ≡ Slots row → known_line k line (Slots row) ≡ true → length (known_slots k) ≡ slots_begun row
+  size_slots zero at has = let none = (unread_at (Slots 0) at).0 in omega (arith, none)
+  size_slots (suc row) at has =
+      let few = (unread_at (Slots (suc row)) at).0 in
+      let before = before_slots less k row at read in
+      let some = begun_slots (suc row) k.slots (is_less (suc row) (slot_rows k.slots) has) in
+      omega (arith, few, before, some)
 
-  pub row_slots : known_line old line r ≡ true → AreSlotsAt old n → AreSlotsAt new (suc n)
-  row_slots has s = by r at has read.slots where
-    by : (q : HeaderRow) → row_at n ≡ q → known_line old line q ≡ true → SlotsFollow q line old new → AreSlotsAt new (suc n)
-    by (Slots row) at has t =
-        let next = (own_slots less row at).1 in
-        record {
-          none = λ e. absurd (omega (arith, next, e));
-          unplanned = λ e. absurd (none_expected row old line has (sym (read.counts Glonass) ∙ e) s.unplanned);
-          size = t.size ∙ ap (λ m. min (slots_in_line * m) new.slots) (sym next);
-          room = t.room;
-        }
-    by q at has t = slots_moved (other_slots less q at refl) (sym (read.counts Glonass)) (sym t.0) (sym t.1) s
+  -- a line of slots is expected only if signals of GLONASS are planned
+  some_planned : (row : ℕ) → known_line k line (Slots row) ≡ true → 0 < counted k Glonass
+  some_planned zero has = is_less 0 (counted k Glonass) has
+  some_planned (suc row) has =
+      let some = begun_slots (suc row) k.slots (is_less (suc row) (slot_rows k.slots) has) in
+      less_or (0 < counted k Glonass) 0 (counted k Glonass) (λ l. l) (λ m. let none = lists.unplanned (omega (arith, m)) in absurd (omega (arith, none, some)))
 
-  pub row_unread : AreUnread old n → AreUnread new (suc n)
-  row_unread unread q far = let here = place_at n r less at in read.later q (omega (arith, far, here)) ∙ unread q (omega (arith, far))
+  pub items_expected : (r : HeaderRow) → row_at n ≡ r → known_line k line r ≡ true → AreItemsBefore k r
+  items_expected (Types s row) at has = (is_less row most_type_rows (few_rows less (Types s row) at), size_types s row at has, rows_there k line s row has)
+  items_expected (Slots row) at has = (is_less row 4 (few_rows less (Slots row) at), size_slots row at has, more row has, some_planned row has) where
+    more : (row : ℕ) → known_line k line (Slots row) ≡ true → 0 < row → slots_begun row < k.slots
+    more zero has far = absurd (omega (arith, far))
+    more (suc row) has far = begun_slots (suc row) k.slots (is_less (suc row) (slot_rows k.slots) has)
+  items_expected r at has = grind arith
+
+-- ---- a row whose line was read
+
+module _ {n : ℕ} {r : HeaderRow} {line : List ℕ} {old new : Known} (less : n < row_count) (at : row_at n ≡ r) (row_read : IsHeaderLineRead r line old new) where
+  placed_at : (h : Shown) → Has old n h → Has old (row_place r) h
+  placed_at h a = subst (λ m. Has old m h) (place_at n r less at) a
+
+  before : (i : ℕ) → i < n → row_place (row_at i) < row_place r
+  before i l = subst (λ m. row_place (row_at i) < m) (place_at n r less at) (subst (λ m. m < n) (sym (placed i (omega (arith, l, less)))) l)
+
+  -- what holds of this row and of those before it
+  up_to_next : (P : HeaderRow → Type 0) → P r → ((i : ℕ) → i < n → P (row_at i)) → (i : ℕ) → i < suc n → P (row_at i)
+  up_to_next P own early i l = equal_or (P (row_at i)) i n (λ same. subst P (sym at ∙ ap row_at (sym same)) own) (λ far. early i (omega (arith, l, far)))
+
+  has_before : (h : Shown) → Has new (suc n) h → Has old n h
+  has_before h a = record { rows = λ i l. (row_read.kept h (row_at i) (before i l)).1 (a.rows i (omega (arith, l))) }
+
+  has_after : (h : Shown) → Has old n h → HasRow new h r → Has new (suc n) h
+  has_after h a own = record { rows = up_to_next (HasRow new h) own (λ i l. (row_read.kept h (row_at i) (before i l)).0 (a.rows i l)) }
+
+  pub read_next : AreReadAt old n → AreReadAt new (suc n)
+  read_next read = up_to_next (IsRowRead new) row_read.read (λ i l. row_read.early (row_at i) (before i l) (read i l))
+
+  pub unread_next : AreUnread old n → AreUnread new (suc n)
+  unread_next unread q far = let here = place_at n r less at in row_read.later q (omega (arith, far, here)) (unread q (omega (arith, far)))
 
 -- ---- which rows have a line
 
 -- after the types, the number of a system's signals is known
 planned_known : (n : ℕ) → row_place StrengthUnit < n → (s : System) (k : Known) (h : Shown) → Has k n h → nat_lt 0 (length (planned_of s h.plan)) ≡ nat_lt 0 (counted k s)
-planned_known n far s k h has = grind (arith, all_before)
+planned_known n far s k h has = let early = types_early s in ap (nat_lt 0) (sym (number_known has s (omega (arith, far, early))))
 
 far_slots : (n row : ℕ) → n ≡ row_place (Slots row) → row_place StrengthUnit < n
 far_slots n row e = omega (arith, e)
 
--- after a line of slots, the number of slots is known, and the first of them
-slots_known : {n : ℕ} (less : n < row_count) (row : ℕ) (k : Known) (h : Shown) → row_at n ≡ Slots (suc row) → Has k n h → AreSameSlots row k.slots (known_slots k) (slots_of h.plan.channels)
-slots_known {n} less row k h at has =
-    let few = (own_slots less (suc row) at).2 in
-    let e : n ≡ row_place (Slots (suc row)) = place_at n (Slots (suc row)) less at in
-    subst (HasRow k h) (slots_here row (omega (arith, few))) (has.rows (row_place (Slots row)) (omega (arith, e)))
+-- after a line of a list, the number of its items is known, and the first of them
+slots_known : {n : ℕ} (less : n < row_count) (row : ℕ) (k : Known) (h : Shown) → row_at n ≡ Slots (suc row) → Has k n h → HasRow k h (Slots row)
+slots_known less row k h at has = let (here, early) = earlier_slots less row at in known_at has (Slots row) here early
 
--- apart from types and optional rows, what is known says it
-pub plain_present : {n : ℕ} (less : n < row_count) (r : HeaderRow) → row_at n ≡ r → is_types r ≡ false → is_optional r ≡ false → (k : Known) (line : List ℕ) (h : Shown) → Has k n h → has_line h r ≡ known_line k line r
+types_known : {n : ℕ} (less : n < row_count) (s : System) (row : ℕ) (k : Known) (h : Shown) → row_at n ≡ Types s (suc row) → Has k n h → HasRow k h (Types s row)
+types_known less s row k h at has = let (here, early) = earlier_types less s row at in known_at has (Types s row) here early
+
+-- a system's first line of types
+abbrev pub is_first : HeaderRow → Bool
+is_first (Types s zero) = true
+is_first other = false
+
+-- apart from first lines of types and optional rows, what is known says it
+pub plain_present : {n : ℕ} (less : n < row_count) (r : HeaderRow) → row_at n ≡ r → is_first r ≡ false → is_optional r ≡ false → (k : Known) (line : List ℕ) (h : Shown) → Has k n h → has_line h r ≡ known_line k line r
 plain_present less (Texts row) at plain fixed k line h has = let must = not-false (is_required row) fixed in ap (λ b. b || has_text h.texts row) must ∙ sym (ap (λ b. b || has_label (label_of row) line) must)
 plain_present less Interval at plain fixed k line h has = cc
-plain_present less (Types s row) at plain fixed k line h has = cc
+plain_present less (Types s zero) at plain fixed k line h has = cc
+plain_present less (Types s (suc row)) at plain fixed k line h has = ap (λ m. nat_lt (suc row) (type_rows m)) (sym (types_known less s row k h at has).number)
 plain_present {n} less (Shift s) at plain fixed k line h has = let e = place_at n (Shift s) less at in planned_known n (omega (arith, e)) s k h has
 plain_present {n} less (Slots zero) at plain fixed k line h has = planned_known n (far_slots n 0 (place_at n (Slots 0) less at)) Glonass k h has
 plain_present less (Slots (suc row)) at plain fixed k line h has = ap (λ m. nat_lt (suc row) (slot_rows m)) (sym (slots_known less row k h at has).number)
@@ -286,40 +310,15 @@ module _ {n : ℕ} (less : n < row_count) {k : Known} {line : List ℕ} {h : Sho
       first : (b : Bool) → has_line h (Types s 0) ≡ b → has_line h (Types s 0) ≡ begins_with (letter s) line
       first true has = has ∙ sym (sym (ap (begins_with (letter s)) (sym (ap (row_line h) at) ∙ shows_next (ap (has_line h) at ∙ has))) ∙ types_byte h s 0 (letter s) ∙ eq-eqb (letter s) (letter s) refl)
       first false lacks = lacks ∙ sym (next_fails h (begins_with (letter s)) (other_byte (letter s)) (byte_law h (letter s)) (drop (suc n) all_rows) others left line (after_types n s less at) (rest_skipped (ap (has_line h) at ∙ lacks)))
-    by (Types s (suc row)) at =
-        let count = (on.has.types s).number (some_rows (own_before less s (suc row) at).0) in
-        ap (has_line h) at ∙ ap (λ m. nat_lt (suc row) (type_rows m)) (sym count) ∙ sym (ap (known_line k line) at) where
-          some_rows : {m : ℕ} → m ≡ suc row → 0 < m
-          some_rows e = omega (arith, e)
     by (Texts row) at = ap (has_line h) at ∙ same_or (is_required row) (has_text h.texts row) (has_label (label_of row) line) (optional_there (Texts row) at) ∙ sym (ap (known_line k line) at)
     by Interval at = ap (has_line h) at ∙ optional_there Interval at refl ∙ sym (ap (known_line k line) at)
     by r at = ap (has_line h) at ∙ plain_present less r at refl refl k line h on.has ∙ sym (ap (known_line k line) at)
 
 -- ---- a row without a line
 
-pub begun_more : (row : ℕ) → signals_begun row ≤ signals_begun (row + 1)
-begun_more row = omega arith
-
 -- all signals begin before a line of types that isn't there
 all_begun : (row : ℕ) (count : ℕ) → nat_lt row (type_rows count) ≡ false → count ≤ signals_begun row
 all_begun row count lacks = let more : type_rows count ≤ row = grind (arith, lacks, nat_tests) in omega (arith, more)
-
-take_whole : (row : ℕ) (all : List ℕ) → length all ≤ signals_begun row → take (signals_begun row) all ≡ take (signals_begun (suc row)) all
-take_whole row all few = let more = begun_more row in take_all (signals_begun row) all few ∙ sym (take_all (signals_begun (suc row)) all (omega (arith, few, more)))
-
--- so do all signals of a system whose line of types isn't there
-few_begun : (row count : ℕ) → (row ≡ 0 → count ≡ 0) → (0 < row → nat_lt row (type_rows count) ≡ false) → count ≤ signals_begun row
-few_begun row count none lacks = grind (arith, all_begun)
-
--- the types that are known before a row of types without a line, and after it
-skip_types : (row count : ℕ) (signals all : List ℕ) → (row ≡ 0 → count ≡ 0) → nat_lt row (type_rows (length all)) ≡ false → AreTypesOf row count signals all → AreTypesOf (suc row) count signals all
-skip_types row count signals all none lacks are = grind (arith, all_begun, take_whole)
-
-unskip_types : (s : System) (row count : ℕ) (signals all : List ℕ) → AreSized s row count signals → (0 < row → nat_lt row (type_rows count) ≡ false) → AreTypesOf (suc row) count signals all → AreTypesOf row count signals all
-unskip_types s row count signals all sized lacks are = grind (arith, few_begun, take_whole)
-
-skip_sized : (s : System) (row count : ℕ) (signals : List ℕ) → AreSized s row count signals → (0 < row → nat_lt row (type_rows count) ≡ false) → AreSized s (suc row) count signals
-skip_sized s row count signals sized lacks = grind (arith, few_begun, begun_more)
 
 both_none : (a b : Option ℕ) → is_some a ≡ false → is_some b ≡ false → a ≡ b
 both_none a b p q = grind arith
@@ -327,78 +326,60 @@ both_none a b p q = grind arith
 not_last : (n : ℕ) (k : Known) (line : List ℕ) → n < row_count → known_line k line (row_at n) ≡ false → suc n < row_count
 not_last n k line less lacks = grind (arith, less_or)
 
-module _ (k : Known) (line : List ℕ) {n : ℕ} (less : n < row_count) (lacks : known_line k line (row_at n) ≡ false)
-    (sized : (s : System) → AreSized s (types_before s n) (counted k s) (planned_of s k.shown.plan)) (slots : AreSlotsAt k n) (unread : AreUnread k n) where
-  -- a line of types that isn't the first is known to be there or not
-  known_rows : (s : System) (row : ℕ) → row_at n ≡ Types s row → 0 < row → nat_lt row (type_rows (counted k s)) ≡ false
-  known_rows s row at some = grind arith
+module _ (k : Known) (line : List ℕ) {n : ℕ} (less : n < row_count) (lacks : known_line k line (row_at n) ≡ false) (lists : AreListsAt k) (read : AreReadAt k n) (unread : AreUnread k n) where
+  here_lacks : (r : HeaderRow) → row_at n ≡ r → known_line k line r ≡ false
+  here_lacks r at = sym (ap (known_line k line) at) ∙ lacks
 
-  -- no slots are left for a line of slots that isn't there
-  none_left : (row : ℕ) → row_at n ≡ Slots row → k.slots ≤ slots_in_line * row
-  none_left row at = grind (arith, is_none, ltb-false)
+  blank_at : (r : HeaderRow) → row_at n ≡ r → IsRowUnread k r
+  blank_at r at = let here = place_at n r less at in unread r (omega (arith, here))
 
-  few_read : length (known_slots k) ≤ k.slots
-  few_read = let size = slots.size in omega (arith, size)
+  -- no items are left for a line of a list that isn't there
+  no_types : (s : System) (row : ℕ) → row_at n ≡ Types s row → counted k s ≤ signals_begun row
+  no_types s zero at = let none = (blank_at (Types s 0) at).1 refl in omega (arith, none)
+  no_types s (suc row) at = all_begun (suc row) (counted k s) (here_lacks (Types s (suc row)) at)
 
-  slots_same : (row : ℕ) → row_at n ≡ Slots row → (h : Shown) → IsShown h → Has k n h → AreSameSlots row k.slots (known_slots k) (slots_of h.plan.channels)
+  no_slots_left : (row : ℕ) → row_at n ≡ Slots row → k.slots ≤ slots_begun row
+  no_slots_left zero at = let none = (blank_at (Slots 0) at).1 refl in omega (arith, none)
+  no_slots_left (suc row) at = let more : slot_rows k.slots ≤ suc row = ltb-false (suc row) (slot_rows k.slots) (here_lacks (Slots (suc row)) at) in omega (arith, more)
+
+  slots_same : (row : ℕ) → row_at n ≡ Slots row → (h : Shown) → IsShown h → Has k n h → HasRow k h (Slots row)
   slots_same zero at h is has =
-      let unplanned = planned_known n (far_slots n 0 (place_at n (Slots 0) less at)) Glonass k h has ∙ sym (ap (known_line k line) at) ∙ lacks in
+      let unplanned = planned_known n (far_slots n 0 (place_at n (Slots 0) less at)) Glonass k h has ∙ here_lacks (Slots 0) at in
       let none : slots_of h.plan.channels ≡ [] = ap slots_of (is.plan.unplanned (nil_from_length (planned_of Glonass h.plan) (is_none (length (planned_of Glonass h.plan)) unplanned))) ∙ no_slots in
-      let left = none_left 0 at in
-      let few = few_read in
-      let read : known_slots k ≡ [] = nil_from_length (known_slots k) (omega (arith, left, few)) in
-      record { number = omega (arith, left, ap length none); begun = ap (take 8) (none ∙ sym read) }
-  slots_same (suc row) at h is has =
-      let s = slots_known less row k h at has in
-      let left = none_left (suc row) at in
-      let few = few_read in
-      let number = s.number in
-      let same : slots_of h.plan.channels ≡ known_slots k =
-      sym (take_all (8 * suc row) (slots_of h.plan.channels) (omega (arith, left, number))) ∙ s.begun ∙ take_all (8 * suc row) (known_slots k) (omega (arith, left, few)) in
-      record { number = s.number; begun = ap (take (8 * suc (suc row))) same }
+      still_same slots_begun 0 (known_slots k) (slots_of h.plan.channels) (let left = no_slots_left 0 at in omega (arith, left, ap length none)) lists.slots_read (no_slots_left 0 at) refl
+  slots_same (suc row) at h is has = let s = slots_known less row k h at has in still_same slots_begun (suc row) (known_slots k) (slots_of h.plan.channels) s.number lists.slots_read (no_slots_left (suc row) at) s.same
 
-  -- no value was read for this row
-  no_value : (r : HeaderRow) → row_at n ≡ r → is_given k.shown.texts k.shown.interval r ≡ false
-  no_value r at = let here = place_at n r less at in unread r (omega (arith, here))
+  types_same : (s : System) (row : ℕ) → row_at n ≡ Types s row → (h : Shown) → Has k n h → has_line h (Types s row) ≡ false → HasRow k h (Types s row)
+  types_same s zero at h has none =
+      let few = all_begun 0 (length (planned_of s h.plan)) none in
+      let zero_count = (blank_at (Types s 0) at).1 refl in
+      still_same signals_begun 0 (planned_of s k.shown.plan) (planned_of s h.plan) (omega (arith, few, zero_count)) (lists.read s) (no_types s 0 at) refl
+  types_same s (suc row) at h has none = let t = types_known less s row k h at has in still_same signals_begun (suc row) (planned_of s k.shown.plan) (planned_of s h.plan) t.number (lists.read s) (no_types s (suc row) at) t.same
+
+  -- so the items up to it were read
+  row_skipped : (r : HeaderRow) → row_at n ≡ r → IsRowRead k r
+  row_skipped (Types s zero) at = let left = no_types s 0 at in omega (arith, left)
+  row_skipped (Types s (suc row)) at = let left = no_types s (suc row) at in let before = before_types less k s row at read in omega (arith, left, before)
+  row_skipped (Slots zero) at = let left = no_slots_left 0 at in omega (arith, left)
+  row_skipped (Slots (suc row)) at = let left = no_slots_left (suc row) at in let before = before_slots less k row at read in omega (arith, left, before)
+  row_skipped r at = grind arith
 
   nothing_known : (r : HeaderRow) → row_at n ≡ r → (h : Shown) → IsShown h → Has k n h → has_line h r ≡ false → HasRow k h r
-  nothing_known (Texts row) at h is has none = none_same h.texts k.shown.texts (fields_of row) (or_parts (is_required row) (has_text h.texts row) none).1 (no_value (Texts row) at)
-  nothing_known Interval at h is has none = both_none h.interval k.shown.interval none (no_value Interval at)
+  nothing_known (Texts row) at h is has none = none_same h.texts k.shown.texts (fields_of row) (or_parts (is_required row) (has_text h.texts row) none).1 (blank_at (Texts row) at)
+  nothing_known Interval at h is has none = both_none h.interval k.shown.interval none (blank_at Interval at)
   nothing_known (Slots row) at h is has none = slots_same row at h is has
+  nothing_known (Types s row) at h is has none = types_same s row at h has none
   nothing_known r at h is has none = grind arith
 
-  slots_skipped : (r : HeaderRow) → row_at n ≡ r → AreSlotsAt k (suc n)
-  slots_skipped r at = grind (arith, own_slots, none_left, slots_moved, other_slots)
-
-  -- what holds of equal numbers of rows of types, and of those before and after a row, holds of those before this row and the next
-  beside : (R : ℕ → ℕ → Type 0) (s : System) → ((m : ℕ) → R m m) → ((row : ℕ) → row_at n ≡ Types s row → types_before s n ≡ row → R row (suc row)) → R (types_before s n) (types_before s (suc n))
-  beside R s same step = by (row_at n) refl where
-    by : (r : HeaderRow) → row_at n ≡ r → R (types_before s n) (types_before s (suc n))
-    by (Types t row) at = either (R (types_before s n) (types_before s (suc n))) s t
-        (λ e. let at' = at ∙ ap (λ u. Types u row) e in let own = own_before less s row at' in subst (λ m. R m (types_before s (suc n))) (sym own.0) (subst (R row) (sym own.1) (step row at' own.0)))
-        (λ other. subst (R (types_before s n)) (sym (other_before less s t row at (flipped s t other))) (same (types_before s n)))
-    by r at = subst (R (types_before s n)) (sym (plain_before less r s at refl)) (same (types_before s n))
-
-  abbrev typed : Shown → System → ℕ → Type 0
-  typed h s rows = AreTypesOf rows (counted k s) (planned_of s k.shown.plan) (planned_of s h.plan)
-
-  sized_at : (s : System) (row : ℕ) → types_before s n ≡ row → AreSized s row (counted k s) (planned_of s k.shown.plan)
-  sized_at s row e = subst (λ m. AreSized s m (counted k s) (planned_of s k.shown.plan)) e (sized s)
-
   back : (h : Shown) → Has k (suc n) h → Has k n h
-  back h has = grind (arith, common_steps, beside, unskip_types, sized_at, known_rows)
+  back h has = record { rows = λ i l. has.rows i (omega (arith, l)) }
 
   none_there : (r : HeaderRow) → row_at n ≡ r → (h : Shown) → Has k (suc n) h → has_line h (row_at n) ≡ false
-  none_there (Types s row) at h has =
-      let own = own_before less s row at in
-      ap (has_line h) at ∙ none row (planned_of s h.plan) ((subst (typed h s) own.1 (has.types s)).number (omega arith)) (sized_at s row own.0).none (known_rows s row at) where
-        none : {count : ℕ} (row : ℕ) (all : List ℕ) → count ≡ length all → (row ≡ 0 → count ≡ 0) → (0 < row → nat_lt row (type_rows count) ≡ false) → nat_lt row (type_rows (length all)) ≡ false
-        none zero all same zeros lacks = ap (λ m. nat_lt 0 (type_rows m)) (sym same ∙ zeros refl)
-        none (suc row) all same zeros lacks = ap (λ m. nat_lt (suc row) (type_rows m)) (sym same) ∙ lacks (omega arith)
+  none_there (Types s zero) at h has = ap (has_line h) at ∙ ap (λ m. nat_lt 0 (type_rows m)) (sym (subst (HasRow k h) at (has.rows n (omega arith))).number ∙ (blank_at (Types s 0) at).1 refl)
   none_there (Texts row) at h has =
       let same = same_value k h (Texts row) (subst (HasRow k h) at (has.rows n (omega arith))) in
-      ap (has_line h) at ∙ ap₂ (λ a b. a || b) (or_parts (is_required row) (has_label (label_of row) line) (sym (ap (known_line k line) at) ∙ lacks)).0 (same ∙ no_value (Texts row) at)
-  none_there Interval at h has = ap (has_line h) at ∙ same_value k h Interval (subst (HasRow k h) at (has.rows n (omega arith))) ∙ no_value Interval at
+      ap (has_line h) at ∙ ap₂ (λ a b. a || b) (or_parts (is_required row) (has_label (label_of row) line) (sym (ap (known_line k line) at) ∙ lacks)).0 (same ∙ blank_at (Texts row) at)
+  none_there Interval at h has = ap (has_line h) at ∙ same_value k h Interval (subst (HasRow k h) at (has.rows n (omega arith))) ∙ blank_at Interval at
   none_there r at h has = ap (has_line h) at ∙ plain_present less r at refl refl k line h (back h has) ∙ sym (ap (known_line k line) at) ∙ lacks
 
   pub skipped : SameFrom k line n (suc n)
@@ -407,18 +388,14 @@ module _ (k : Known) (line : List ℕ) {n : ℕ} (less : n < row_count) (lacks :
         let none = present less on ∙ lacks in
         record {
           is = on.is;
-          has = record {
-            rows = λ i l. equal_or (HasRow k h (row_at i)) i n (λ same. nothing_known (row_at i) (ap row_at (sym same)) h on.is on.has (ap (λ j. has_line h (row_at j)) same ∙ none)) (λ far. on.has.rows i (omega (arith, l, far)));
-            types = λ s. beside (λ m i. typed h s m → typed h s i) s (λ m a. a) (λ row at e. skip_types row (counted k s) (planned_of s k.shown.plan) (planned_of s h.plan) (sized_at s row e).none (sym (ap (has_line h) at) ∙ none)) (on.has.types s);
-          };
+          has = record { rows = λ i l. equal_or (HasRow k h (row_at i)) i n (λ same. nothing_known (row_at i) (ap row_at (sym same)) h on.is on.has (ap (λ j. has_line h (row_at j)) same ∙ none)) (λ far. on.has.rows i (omega (arith, l, far))) };
           rest = rest_skipped less on none;
         };
     back = λ h is has. back h has;
     lines = λ h is has. before_next h n less ∙ ap (λ l. lines_before h n ++ l) (rows_when h (row_at n) false (none_there (row_at n) refl h has)) ∙ append-nil (lines_before h n);
     none = λ i low high. let e : i ≡ n = omega (arith, low, high) in ap (λ j. known_line k line (row_at j)) e ∙ lacks;
-    slots = slots_skipped (row_at n) refl;
+    read = λ i l. equal_or (IsRowRead k (row_at i)) i n (λ same. row_skipped (row_at i) (ap row_at (sym same))) (λ far. read i (omega (arith, l, far)));
     unread = λ q far. unread q (omega (arith, far));
-    sized = λ s. beside (λ m i. AreSized s m (counted k s) (planned_of s k.shown.plan) → AreSized s i (counted k s) (planned_of s k.shown.plan)) s (λ m a. a) (λ row at e z. skip_sized s row (counted k s) (planned_of s k.shown.plan) z (known_rows s row at)) (sized s);
     expected = not_last n k line less lacks;
   }
 
@@ -428,14 +405,13 @@ same_on k line a b c s t = record {
   back = λ h is has. s.back h is (t.back h is has);
   lines = λ h is has. t.lines h is has ∙ s.lines h is (t.back h is has);
   none = λ i low high. less_or (known_line k line (row_at i) ≡ false) i b (λ l. s.none i low l) (λ m. t.none i m high);
-  sized = t.sized;
-  slots = t.slots;
+  read = t.read;
   unread = t.unread;
   expected = t.expected;
 }
 
 pub here : (k : Known) (line : List ℕ) (n : ℕ) → IsHeadAt k n → SameFrom k line n n
-here k line n at = record { goes = λ h others left on. on; back = λ h is has. has; lines = λ h is has. refl; none = λ i low high. absurd (omega (arith, low, high)); sized = at.sized; slots = at.slots; unread = at.unread; expected = at.expected }
+here k line n at = record { goes = λ h others left on. on; back = λ h is has. has; lines = λ h is has. refl; none = λ i low high. absurd (omega (arith, low, high)); read = at.read; unread = at.unread; expected = at.expected }
 
 -- ---- a row with a line
 
@@ -469,26 +445,28 @@ none_at {k} {line} {n} r less has at refuses h others left on =
 pub single : (x y : List ℕ) → ◌≡◌ {A = List (List ℕ)} (x ∷ []) (y ∷ []) → x ≡ y
 single x y e = cc
 
--- a row apart from types
-pub plain_law : {n : ℕ} {r : HeaderRow} {line : List ℕ} {old new : Known} → n < row_count → row_at n ≡ r → is_types r ≡ false → known_line old line (row_at n) ≡ true → IsHeaderLineRead r line old new → Law old n line new
-plain_law {n} {r} {line} {old} {new} less at plain has read h is = (to, from) where
-  law : (Has old n h × (row_line h r ≡ line)) ↔ Has new (suc n) h
-  law = row_law less at plain read h is
+-- a row with what was read of its line has a line
+line_there : {n : ℕ} (less : n < row_count) (r : HeaderRow) {line : List ℕ} {old new : Known} → row_at n ≡ r → known_line old line r ≡ true → IsHeaderLineRead r line old new → (h : Shown) → Has old n h → HasRow new h r → has_line h r ≡ true
+line_there less (Types s row) at has row_read h a own = lt-ltb row (type_rows (length (planned_of s h.plan))) (subst (λ m. row < type_rows m) own.number row_read.there)
+line_there less r {line} {old} {new} at has row_read h a own = by (is_optional r) refl where
+  by : (o : Bool) → is_optional r ≡ o → has_line h r ≡ true
+  by true optional = value_there h r optional (same_value new h r own ∙ row_read.there optional)
+  by false fixed = plain_present less r at refl fixed old line h a ∙ has
 
+pub row_law : {n : ℕ} {r : HeaderRow} {line : List ℕ} {old new : Known} → n < row_count → row_at n ≡ r → known_line old line (row_at n) ≡ true → IsHeaderLineRead r line old new → Law old n line new
+row_law {n} {r} {line} {old} {new} less at has row_read h is = (to, from) where
   to : Has old n h × (row_lines h (row_at n) ≡ line ∷ []) → Has new (suc n) h
-  to (a, e) = law.0 (a, by (has_line h (row_at n)) refl) where
-    by : (b : Bool) → has_line h (row_at n) ≡ b → row_line h r ≡ line
-    by true there = single (row_line h r) line (ap (λ q. row_line h q ∷ []) (sym at) ∙ sym (rows_when h (row_at n) true there) ∙ e)
-    by false lacks = let none : ◌≡◌ {A = List (List ℕ)} [] (line ∷ []) = sym (rows_when h (row_at n) false lacks) ∙ e in cc
-
-  there : Has old n h → Has new (suc n) h → has_line h (row_at n) ≡ true
-  there a b = ap (has_line h) at ∙ by (is_optional r) refl where
-    by : (o : Bool) → is_optional r ≡ o → has_line h r ≡ true
-    by true optional = value_there h r optional (same_value new h r (subst (HasRow new h) at (b.rows n (omega arith))) ∙ read.some optional)
-    by false fixed = plain_present less r at plain fixed old line h a ∙ sym (ap (known_line old line) at) ∙ has
+  to (a, e) = has_after less at row_read h a (by (has_line h r) refl) where
+    by : (b : Bool) → has_line h r ≡ b → HasRow new h r
+    by true there = (row_read.own h is (placed_at less at row_read h a) there).0 (single (row_line h r) line (ap (λ q. row_line h q ∷ []) (sym at) ∙ sym (rows_when h (row_at n) true (ap (has_line h) at ∙ there)) ∙ e))
+    by false lacks = let none : ◌≡◌ {A = List (List ℕ)} [] (line ∷ []) = sym (rows_when h (row_at n) false (ap (has_line h) at ∙ lacks)) ∙ e in cc
 
   from : Has new (suc n) h → Has old n h × (row_lines h (row_at n) ≡ line ∷ [])
-  from a = let b = law.1 a in (b.0, rows_when h (row_at n) true (there b.0 a) ∙ ap (λ q. row_line h q ∷ []) at ∙ ap (λ l. l ∷ []) b.1)
+  from a =
+      let b = has_before less at row_read h a in
+      let own : HasRow new h r = subst (HasRow new h) at (a.rows n (omega arith)) in
+      let there = line_there less r at (sym (ap (known_line old line) at) ∙ has) row_read h b own in
+      (b, rows_when h (row_at n) true (ap (has_line h) at ∙ there) ∙ ap (λ q. row_line h q ∷ []) at ∙ ap (λ l. l ∷ []) ((row_read.own h is (placed_at less at row_read h b) there).1 own))
 
 before_last : (n : ℕ) (r : HeaderRow) → n < row_count → row_at n ≡ r → r ≢ End → n + 1 < row_count
 before_last n r less is other = less_or (n + 1 < row_count) (n + 1) row_count (λ l. l) (λ m. let e : n ≡ row_place End = omega (arith, less, m) in absurd (other (sym is ∙ ap row_at e)))
@@ -497,14 +475,14 @@ before_last n r less is other = less_or (n + 1 < row_count) (n + 1) row_count (�
 
 -- the line was taken; the next row is expected if some plan fits, and else no header goes on with the line
 pub decided : {old new : Known} {from n : ℕ} {line : List ℕ} (r : HeaderRow) {result : Result Expected Refusal} → n < row_count → row_at n ≡ r → r ≢ End → Takes old from line new (n + 1) → AreValid new
-    → ((s : System) → AreSized s (types_before s (suc n)) (counted new s) (planned_of s new.shown.plan)) → AreSlotsAt new (suc n) → AreUnread new (suc n) → result ≡ expected_if (fits new (n + 1)) (n + 1) → TakesHeaderLine old from line new result
-decided {old} {new} {from} {n} {line} r less at other takes valid sized slots unread e = subst (TakesHeaderLine old from line new) (sym e) (by (fits new (n + 1)) refl) where
+    → AreListsAt new → AreReadAt new (suc n) → AreUnread new (suc n) → result ≡ expected_if (fits new (n + 1)) (n + 1) → TakesHeaderLine old from line new result
+decided {old} {new} {from} {n} {line} r less at other takes valid lists read unread e = subst (TakesHeaderLine old from line new) (sym e) (by (fits new (n + 1)) refl) where
   next : suc n ≡ n + 1
   next = sym (add-one n)
 
-  all : (s : System) → AreSized s (types_before s (n + 1)) (counted new s) (planned_of s new.shown.plan)
-  all s = subst (λ m. AreSized s (types_before s m) (counted new s) (planned_of s new.shown.plan)) next (sized s)
+  after : AreUnread new (n + 1)
+  after = subst (AreUnread new) next unread
 
   by : (b : Bool) → fits new (n + 1) ≡ b → TakesHeaderLine old from line new (expected_if b (n + 1))
-  by true fit = record { takes = takes; at = record { valid = valid; sized = all; slots = subst (AreSlotsAt new) next slots; unread = subst (AreUnread new) next unread; fitting = λ l. fit; expected = before_last n r less at other } }
-  by false lacks = λ h others left on. let b = takes.goes h others left on in let fit = has_fits new (n + 1) h (omega arith) all b.is b.has in cc
+  by true fit = record { takes = takes; at = record { valid = valid; lists = lists; read = subst (AreReadAt new) next read; unread = after; fitting = λ l. fit; expected = before_last n r less at other } }
+  by false lacks = λ h others left on. let b = takes.goes h others left on in let fit = has_fits new (n + 1) h (omega arith) after b.is b.has in cc

@@ -8,7 +8,9 @@ use Rattle.std.proofs.lemmas.List.Concat.{get_or-flat_map}
 use Rattle.std.proofs.lemmas.List.{get_or-map}
 use Rattle.std.proofs.lemmas.Grind.{flat_map-append}
 use Rattle.rinex_fields.proofs.NumberLemmas.{length-right, digits_in-whole}
-use Rattle.rinex_file.proofs.Names.{min, ◌-◌, length-take, length-drop, arith, rules, ◌≡◌, ◌∙◌, ap, refl, ℕ, zero, suc, ◌+◌, ◌<◌, ◌≤◌, ◌==◌, Bool, true, false, List, [], ◌∷◌, length, take, drop, Some, Option, nat_lt, sym, ◌*◌, ◌/◌, ◌%◌, ◌++◌, get_or, append_assoc, append-nil, ap₂, subst, ◌^◌, ◌||◌, replicate, decimal, nat_eq, IsAscii, IsUtf8, flat_map, slice_index, codes, list_any, IsDistinct, IsUtf8-from_ascii, cases_lt, length-map, take_more, get_or-drop, take_all, take_at, take-take, take-map, drop_at, drop-drop, drop-take, get_or-take, All-get_or, apart_from_distinct, IsDistinct-tail, length-decimal-le, System, SignalAt, IsSignal, table, code_of, signal_of_code, passes_at, is_less, is_equal, indices, IsOf, any_index, indices-push, type_of, types_of, codes_of, type_columns, header_line, type_front, joined, left, right, letter, digits_in, AreTypes, types_line, signals_begun, HasSignalAt, same_Some, list_all, All-weaker, most_signals, both_ways, flip_false}
+use Rattle.rinex_file.proofs.Names.{◌-◌, length-take, length-drop, arith, rules, ◌≡◌, ◌∙◌, ap, refl, ℕ, zero, suc, ◌+◌, ◌<◌, ◌≤◌, ◌==◌, Bool, true, false, List, [], ◌∷◌, length, take, drop, Some, Option, nat_lt, sym, ◌*◌, ◌/◌, ◌%◌, ◌++◌, get_or, append_assoc, append-nil, ap₂, subst, ◌^◌, ◌||◌, decimal, nat_eq, IsAscii, IsUtf8, flat_map, slice_index, codes, list_any, IsDistinct, IsUtf8-from_ascii, cases_lt, length-map, take_more, get_or-drop, take_all, take_at, take-take, take-map, drop-drop, drop-take, All-get_or, apart_from_distinct, IsDistinct-tail, length-decimal-le, System, SignalAt, IsSignal, table, code_of, signal_of_code, passes_at, is_less, is_equal, indices, IsOf, any_index, indices-push, type_of, types_of, codes_of, type_columns, header_line, type_front, right, letter, digits_in, AreTypes, types_line, signals_begun, HasSignalAt, same_Some, list_all, All-weaker, most_signals, both_ways, flip_false, types_with, add-one}
+pub use Rattle.rinex_file.proofs.HeaderRows.Lists.{content_first}
+use Rattle.rinex_file.proofs.HeaderRows.Lists.{item_in_line}
 
 abbrev signal : System → ℕ → SignalAt
 signal system index = record { system = system; index = index }
@@ -128,93 +130,39 @@ index_here (x ∷ ss) (suc k) s less is = index_here ss k s (omega (arith, less)
 pub system_here : (system : System) (ss : List SignalAt) (k : ℕ) (s : SignalAt) → IsOf system ss → k < length ss → s ≡ get_or ss k s → s.system ≡ system
 system_here system ss k s of less is = grind (arith, All-get_or)
 
--- ---- a line begins with its content
-
-abbrev After : List ℕ → List ℕ → Type 0
-After content line = (rest : List ℕ) × (line ≡ content ++ rest)
-
-pub content_first : (content label : List ℕ) → After content (header_line content label)
-unfolding header_line
-content_first content label = (
-  replicate (60 - length content) 32 ++ joined (left 20 label ∷ (10 ∷ []) ∷ []),
-  append_assoc content (replicate (60 - length content) 32) (joined (left 20 label ∷ (10 ∷ []) ∷ [])),
-)
+-- ---- the columns of a line
 
 pub length-front : (letter types row : ℕ) → types < 1000 → length (type_front letter types row) ≡ 6
 length-front letter types zero few = grind (arith, length-decimal-le, length-right)
 length-front letter types (suc row) few = refl
 
--- ---- columns of types of three bytes
-
-abbrev Column : List ℕ → List ℕ → Type 0
-Column text t = (rest : List ℕ) × (text ≡ 32 ∷ (t ++ rest))
-
-pub column_at : (ts : List (List ℕ)) (q : ℕ) (rest : List ℕ) → ((i : ℕ) → i < length ts → length (get_or ts i []) ≡ 3) → q < length ts
-    → Column (drop (4 * q) (columns ts ++ rest)) (get_or ts q [])
-column_at [] q rest three less = absurd (omega (arith, less))
-column_at (t ∷ ts) zero rest three less = (columns ts ++ rest, append_assoc (32 ∷ t) (columns ts) rest)
-column_at (t ∷ ts) (suc q) rest three less =
-    let wide : length t ≡ 3 = three 0 (omega arith) in
-    let one : length (32 ∷ t) ≡ 4 = omega (arith, wide) in
-    let steps : 4 * suc q ≡ 4 + 4 * q = omega arith in
-    let after : drop 4 (columns (t ∷ ts) ++ rest) ≡ columns ts ++ rest = ap (drop 4) (append_assoc (32 ∷ t) (columns ts) rest) ∙ drop_at (32 ∷ t) (columns ts ++ rest) 4 one in
-    let more = column_at ts q rest (λ i h. three (suc i) (omega (arith, h))) (omega (arith, less)) in
-    (more.0, ap (λ n. drop n (columns (t ∷ ts) ++ rest)) steps ∙ sym (drop-drop (4 * q) 4 (columns (t ∷ ts) ++ rest)) ∙ ap (drop (4 * q)) after ∙ more.1)
-
--- ---- the types of a line
-
-abbrev here : System → List ℕ → ℕ → List (List ℕ)
-here system all row = take 13 (drop (13 * row) (types_of (codes_of system all)))
-
 abbrev pub signal_at : System → List ℕ → ℕ → SignalAt
 signal_at system all k = record { system = system; index = slice_index all k }
-
-length-here : (system : System) (all : List ℕ) (row : ℕ) → length (here system all row) ≡ min 13 (4 * length all - 13 * row)
-length-here system all row = length-take 13 (drop (13 * row) (types_of (codes_of system all))) ∙ ap (min 13) (length-drop (13 * row) (types_of (codes_of system all)))
-    ∙ ap (λ n. min 13 (n - 13 * row)) (length-system_types system all)
-
-pub type_in : (system : System) (all : List ℕ) (row q : ℕ) → q < 13 → 13 * row + q < 4 * length all
-    → get_or (here system all row) q [] ≡ type_of ((13 * row + q) % 4) (code_of (signal_at system all ((13 * row + q) / 4)))
-type_in system all row q few less =
-    let types = types_of (codes_of system all) in
-    get_or-take 13 (drop (13 * row) types) q [] few ∙ get_or-drop (13 * row) types q []
-    ∙ sym (signal_type system all (signal_at system all ((13 * row + q) / 4)) (13 * row + q) less refl refl)
 
 pub listed_at : (system : System) (all : List ℕ) (k : ℕ) → AreTypes system all → k < length all → slice_index all k < length (table system)
 listed_at system all k are less = All-get_or (λ i. i < length (table system)) all k 0 less are.listed
 
-within_here : (q a b : ℕ) → q < min 13 (a - b) → (q < 13) × (b + q < a)
-within_here q a b h = (omega (arith, h), omega (arith, h))
+type_at : (system : System) (all : List ℕ) (i : ℕ) → i < 4 * length all → get_or (types_of (codes_of system all)) i [] ≡ type_of (i % 4) (code_of (signal_at system all (i / 4)))
+type_at system all i less = sym (signal_type system all (signal_at system all (i / 4)) i less refl refl)
 
-three_bytes : (system : System) (all : List ℕ) (row : ℕ) → AreTypes system all → (i : ℕ) → i < length (here system all row) → length (get_or (here system all row) i []) ≡ 3
-three_bytes system all row are i less =
-    let size = length-here system all row in
-    let w = within_here i (4 * length all) (13 * row) (subst (λ (n : ℕ). i < n) size less) in
-    let k = (13 * row + i) / 4 in
-    let listed = listed_at system all k are (quarter (13 * row + i) (length all) w.1) in
-    ap length (type_in system all row i w.0 w.1) ∙ ap suc (length-code system (slice_index all k) listed)
+-- a blank and three bytes
+four_columns : (system : System) (all : List ℕ) → AreTypes system all → (i : ℕ) → i < length (types_of (codes_of system all)) → length (32 ∷ get_or (types_of (codes_of system all)) i []) ≡ 4
+four_columns system all are i less =
+    let few : i < 4 * length all = subst (λ (n : ℕ). i < n) (length-system_types system all) less in
+    ap (λ t. length (32 ∷ t)) (type_at system all i few) ∙ ap (λ n. suc (suc n)) (length-code system (slice_index all (i / 4)) (listed_at system all (i / 4) are (quarter i (length all) few)))
 
 -- the code of a signal is in the line in which its types begin
 code_in_line : {system : System} {all : List ℕ} (row q k : ℕ) → AreTypes system all → 4 * length all < 1000 → q < 13 → 13 * row + q ≡ 4 * k → k < length all
     → take 2 (drop (6 + 4 * q + 2) (types_line system all row)) ≡ code_of (signal_at system all k)
 code_in_line {system} {all} row q k are few within place less =
     let line = types_line system all row in
-    let types = types_of (codes_of system all) in
-    let front = type_front (letter system) (length types) row in
-    let ts = here system all row in
     let s = signal_at system all k in
-    let size : length types < 1000 = rw (length-system_types system all) few in
-    let first = content_first (front ++ columns ts) (codes "SYS / # / OBS TYPES") in
-    let shape : line ≡ front ++ (columns ts ++ first.0) = first.1 ∙ append_assoc front (columns ts) first.0 in
-    let many : q < length ts = rw (length-here system all row) (omega (arith, within, place, less)) in
-    let column = column_at ts q first.0 (three_bytes system all row are) many in
-    let at : drop (6 + 4 * q) line ≡ 32 ∷ (get_or ts q [] ++ column.0) =
-    sym (drop-drop (4 * q) 6 line) ∙ ap (λ l. drop (4 * q) (drop 6 l)) shape
-    ∙ ap (drop (4 * q)) (drop_at front (columns ts ++ first.0) 6 (length-front (letter system) (length types) row size)) ∙ column.1 in
-    let letter : get_or ts q [] ≡ 67 ∷ code_of s = type_in system all row q within (omega (arith, place, less)) ∙ ap (λ (n : ℕ). type_of (n % 4) (code_of (signal_at system all (n / 4)))) place
+    let inside : 13 * row + q < 4 * length all = omega (arith, place, less) in
+    let item = item_in_line (λ t. 32 ∷ t) 4 6 13 (λ q. 4 * q) refl (λ q. omega arith) (type_front (letter system) (4 * length all) row) (codes "SYS / # / OBS TYPES") (types_of (codes_of system all)) (13 * row) q []
+    (length-front (letter system) (4 * length all) row few) (four_columns system all are) within (subst (λ (n : ℕ). 13 * row + q < n) (sym (length-system_types system all)) inside) in
+    let letter : get_or (types_of (codes_of system all)) (13 * row + q) [] ≡ 67 ∷ code_of s = type_at system all (13 * row + q) inside ∙ ap (λ (n : ℕ). type_of (n % 4) (code_of (signal_at system all (n / 4)))) place
     ∙ ap₂ (λ (m n : ℕ). type_of m (code_of (signal_at system all n))) (none_left k) (fourth k) in
-    let wide : length (code_of s) ≡ 2 = length-code system (slice_index all k) (listed_at system all k are less) in
-    sym (ap (take 2) (drop-drop 2 (6 + 4 * q) line)) ∙ ap (λ l. take 2 (drop 2 l)) (at ∙ ap (λ t. 32 ∷ (t ++ column.0)) letter) ∙ take_at (code_of s) column.0 2 wide where
+    sym (ap (take 2) (drop-drop 2 (6 + 4 * q) line)) ∙ ap (λ l. take 2 (drop 2 l)) (item.1 ∙ ap (λ t. 32 ∷ (t ++ item.0)) letter) ∙ take_at (code_of s) item.0 2 (length-code system (slice_index all k) (listed_at system all k are less)) where
       none_left : (k : ℕ) → 4 * k % 4 ≡ 0
       none_left k = omega arith
 
@@ -293,10 +241,11 @@ taken_before {all} place s old are same less twice before = both_ways _ (any_ind
 
 -- ---- the whole line
 
--- a line with the number of all types and with the types of the signals so far is that of all signals
-pub row_line : (system : System) (all so_far : List ℕ) (row count : ℕ) → length all ≡ count → so_far ≡ take (signals_begun (row + 1)) all
-    → header_line (type_front (letter system) (4 * count) row ++ type_columns (types_of (codes_of system so_far)) row) (codes "SYS / # / OBS TYPES") ≡ types_line system all row
-row_line system all so_far row count size is = grind (arith, length-system_types, row_shown)
+-- the line depends on the signals whose types begin in the lines up to it alone
+pub same_types_line : (system : System) (row count : ℕ) (a b : List ℕ) → take (signals_begun (suc row)) a ≡ take (signals_begun (suc row)) b → types_with system count a row ≡ types_with system count b row
+same_types_line system row count a b e = ap (λ l. header_line (type_front (letter system) (4 * count) row ++ l) (codes "SYS / # / OBS TYPES")) (cut a ∙ ap (λ l. type_columns (types_of (codes_of system l)) row) e ∙ sym (cut b)) where
+  cut : (all : List ℕ) → type_columns (types_of (codes_of system all)) row ≡ type_columns (types_of (codes_of system (take (signals_begun (suc row)) all))) row
+  cut all = sym (row_shown system all row) ∙ ap (λ n. type_columns (types_of (codes_of system (take (signals_begun n) all))) row) (add-one row)
 
 -- ---- the number of signals
 
@@ -308,14 +257,13 @@ pub count_shown : (system : System) (all line : List ℕ) → AreTypes system al
     → take 3 (drop 3 line) ≡ right 3 (decimal (4 * length all))
 count_shown system all line are bound is =
     let types = types_of (codes_of system all) in
-    let number = right 3 (decimal (length types)) in
+    let n = 4 * length all in
+    let number = right 3 (decimal n) in
     let few = few_types system all are in
-    let size : length types < 1000 = rw (length-system_types system all) (omega (arith, few, bound)) in
-    let digits : length (decimal (length types)) ≤ 3 = length-decimal-le 3 (length types) (omega arith) (omega (arith, size)) (omega (arith, size)) in
-    let first = content_first (type_front (letter system) (length types) 0 ++ type_columns types 0) (codes "SYS / # / OBS TYPES") in
+    let digits : length (decimal n) ≤ 3 = length-decimal-le 3 n (omega arith) (omega (arith, few, bound)) (omega (arith, few, bound)) in
+    let first = content_first (type_front (letter system) n 0 ++ type_columns types 0) (codes "SYS / # / OBS TYPES") in
     ap (λ l. take 3 (drop 3 l)) (is ∙ first.1 ∙ append_assoc (letter system ∷ 32 ∷ 32 ∷ number) (type_columns types 0) first.0)
-    ∙ take_at number (type_columns types 0 ++ first.0) 3 (length-right 3 (decimal (length types)) digits)
-    ∙ ap (λ (n : ℕ). right 3 (decimal n)) (length-system_types system all)
+    ∙ take_at number (type_columns types 0 ++ first.0) 3 (length-right 3 (decimal n) digits)
 
 pub count_read : (system : System) (all line : List ℕ) → AreTypes system all → length (table system) ≤ most_signals → line ≡ types_line system all 0
     → digits_in (take 3 (drop 3 line)) / 4 ≡ length all

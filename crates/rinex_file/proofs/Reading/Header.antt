@@ -1,7 +1,7 @@
 -- The steps of a reading from the header to the epochs, and its end.
 use Rattle.rinex_file.proofs.Writing.Sent.{joined-append}
 use Rattle.rinex_file.proofs.HeaderRows.Agree.{some_after, split_at}
-use Rattle.rinex_file.proofs.HeaderRows.Some.{none_before, some_shown}
+use Rattle.rinex_file.proofs.HeaderRows.Some.{some_shown}
 use Rattle.rinex_file.proofs.HeaderRows.End.{zero_values}
 use Rattle.rinex_file.proofs.Reading.Lines.{consumed}
 use Rattle.rinex_file.proofs.Reading.Epochs.{lines_with, lines_are, sound_open, sound_between, at_expected, file_value}
@@ -193,7 +193,7 @@ sound_header s place expected sound = subst (λ d. IsSoundAt s d) expected sound
 
 -- every header has what is known before the first line
 has_nothing : (k : Known) (h : Shown) → IsHeadAt k 0 → Has k 0 h
-has_nothing k h at = grind (arith, none_before, begun, nil_from_length)
+has_nothing k h at = record { rows = λ i less. absurd (omega (arith, less)) }
 
 pub header_starts : (s : Progress) → s.expected ≡ Header 0 → IsHeadAt s.known 0 → (v : FileValue) → IsFileValue v → HasLinesLeft s v (file_lines v)
 unfolding HasLinesLeft header_lines

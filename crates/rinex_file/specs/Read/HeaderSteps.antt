@@ -1,5 +1,6 @@
 -- From one line of a header to the next while its lines are read.
-use Rattle.std.specs.Prelude.{◌≡◌, ℕ, zero, suc, ◌+◌, ◌*◌, ◌<◌, ◌≤◌, ◌==◌, nat_lt, Bool, true, false, List, [], ◌∷◌, ◌++◌, length}
+use Rattle.std.specs.Prelude.{◌≡◌, ℕ, zero, suc, ◌+◌, ◌<◌, ◌≤◌, ◌==◌, nat_lt, Bool, true, false, List, [], ◌∷◌, ◌++◌}
+use Rattle.std.specs.Prelude.{length}
 use Rattle.std.specs.Prelude.{codes, ◌||◌, set, take, drop, min, Option, Some, None, Result, Ok, Err, ⊤, ◌↔◌}
 use Rattle.gnss_obs.specs.declared.cell.StationValues.{StationValues}
 use Rattle.gnss_system.specs.Signals.{SignalAt, IsSignal, code_of, table}
@@ -13,7 +14,8 @@ use Rattle.gnss_system.specs.SystemValues.{with_value_of}
 use Rattle.rinex_file.specs.declared.header.fault.HeadFault.{HeadFault}
 use Rattle.rinex_file.specs.declared.header.fields.HeaderField.{HeaderField}
 use Rattle.rinex_file.specs.declared.header.rows.HeaderRow.{HeaderRow}
-use Rattle.rinex_file.specs.declared.header.rows.HeaderRow.TheVariants.{Texts, Types, Interval, First, Shift, Slots, Biases, End}
+use Rattle.rinex_file.specs.declared.header.rows.HeaderRow.TheVariants.{Texts, Types, Interval, First, Shift, Slots}
+use Rattle.rinex_file.specs.declared.header.rows.HeaderRow.TheVariants.{Biases, End}
 use Rattle.rinex_file.specs.declared.header.rows.HeaderRow.TheVariants.{Version, Position, Delta, StrengthUnit}
 use Rattle.rinex_file.specs.declared.read.parser_state.Expected.{Expected}
 use Rattle.rinex_file.specs.declared.read.parser_state.Expected.TheVariants.{Header, Epoch}
@@ -24,11 +26,13 @@ use Rattle.rinex_file.specs.Texts.{HeaderLists, place_of, width_of, fault_of, fi
 use Rattle.rinex_file.specs.Texts.{has_row, is_required, label_of}
 use Rattle.rinex_file.specs.FileValues.{AreTexts}
 use Rattle.rinex_file.specs.Header.{header_lines, row_line, row_at, row_place, row_count, texts_line, type_rows}
-use Rattle.rinex_file.specs.Header.{slots_with, slots_line, has_line, has_label, is_given, is_of_types, is_optional}
-use Rattle.rinex_file.specs.Slots.{SlotNumber, AreSlots, last_slot, slot_rows, slots_in_line}
-use Rattle.rinex_file.specs.Read.Progress.{Known, Shown, IsShown, IsHeadAt, Has, HasRow, AreSized, types_before, lines_after}
-use Rattle.rinex_file.specs.Read.Progress.{AreUnread, lines_before, counted, AreSlotsAt, known_slots}
-use Rattle.rinex_file.specs.Read.Progress.{AreTypes, types_line, signals_begun}
+use Rattle.rinex_file.specs.Header.{types_with, most_type_rows}
+use Rattle.rinex_file.specs.Header.{slots_with, has_line, has_label, is_given, is_of_types, is_optional}
+use Rattle.rinex_file.specs.Slots.{SlotNumber, AreSlots, last_slot, slot_rows}
+use Rattle.rinex_file.specs.Read.Progress.{Known, Shown, IsShown, IsHeadAt, Has, HasRow, IsRowRead, IsRowUnread}
+use Rattle.rinex_file.specs.Read.Progress.{lines_after}
+use Rattle.rinex_file.specs.Read.Progress.{AreUnread, lines_before, AreListsAt, AreReadAt, counted, known_slots}
+use Rattle.rinex_file.specs.Read.Progress.{AreTypes, signals_begun, slots_begun}
 
 -- a row other than those of types and the last
 abbrev pub IsOnly : HeaderRow → Type 0
@@ -55,11 +59,15 @@ row_label (Slots row) = codes "GLONASS SLOT / FRQ #"
 row_label Biases = codes "GLONASS COD/PHS/BIS"
 row_label End = codes "END OF HEADER"
 
--- the slots in the lines before a line of slots were read, and there are more
-abbrev pub AreSlotsBefore : Known → HeaderRow → Type 0
-AreSlotsBefore k (Slots row) =
-    (row < 4) × (length (known_slots k) ≡ slots_in_line * row) × (0 < row → slots_in_line * row < k.slots)
-AreSlotsBefore k other = ⊤
+-- the items in the lines before a line of a list were read, and there are more
+abbrev pub AreItemsBefore : Known → HeaderRow → Type 0
+AreItemsBefore k (Types s row) =
+    (row < most_type_rows) × (length (planned_of s k.shown.plan) ≡ signals_begun row)
+    × (0 < row → row < type_rows (counted k s))
+AreItemsBefore k (Slots row) =
+    (row < 4) × (length (known_slots k) ≡ slots_begun row) × (0 < row → slots_begun row < k.slots)
+    × (0 < counted k Glonass)
+AreItemsBefore k other = ⊤
 
 -- whether a row has a line, if this line comes next: a system is planned if its letter comes where its types begin, and
 -- an optional row is there if its label comes
@@ -74,45 +82,71 @@ known_line k line (Slots (suc row)) = nat_lt (suc row) (slot_rows k.slots)
 known_line k line Biases = nat_lt 0 (counted k Glonass)
 known_line k line other = true
 
--- the line is one of these slots, of which there are `count` if it isn't the first, and `old` are in the lines before it
-pub record IsLineOfSlots (row : ℕ) (line : List ℕ) (count : ℕ) (old all : List SlotNumber) : Type 0 where
-  pub are : AreSlots 0 all
-  pub later : 0 < row → count ≡ length all
-  pub begun : old ≡ take (slots_in_line * row) all
-  pub is : line ≡ slots_line all row
+-- ---- a list in lines
 
--- A line of slots was read, after lines with the number `before` and the slots `old`: the number of slots, and those in
--- the lines up to this one.
+-- The line is one of these items, which `Are` describes and `shown` writes. If it isn't the first, `count` is their
+-- number; `old` are those that begin in the lines before it.
+pub record IsLineOf {X : Type 0} (Are : List X → Type 0) (begun : ℕ → ℕ) (shown : ℕ → List X → ℕ → List ℕ) (row : ℕ)
+    (line : List ℕ) (count : ℕ) (old all : List X) : Type 0 where
+  pub are : Are all
+  pub later : 0 < row → count ≡ length all
+  pub before : old ≡ take (begun row) all
+  pub is : line ≡ shown (length all) all row
+
+-- A line of items was read, after lines with the number `before` and the items `old`: their number, and those that
+-- begin in the lines up to this one.
+pub record TakesItems {X : Type 0} (Are : List X → Type 0) (begun : ℕ → ℕ) (shown : ℕ → List X → ℕ → List ℕ) (row : ℕ)
+    (line : List ℕ) (before : ℕ) (old : List X) (count : ℕ) (new : List X) : Type 0 where
+  pub later : 0 < row → before ≡ count
+  pub size : length new ≡ min (begun (suc row)) count
+  pub grows : take (begun row) new ≡ old
+  pub is : line ≡ shown count new row
+  pub taken : (all : List X) → IsLineOf Are begun shown row line before old all
+      → (length all ≡ count) × (new ≡ take (begun (suc row)) all)
+
+abbrev pub IsLineOfSlots : ℕ → List ℕ → ℕ → List SlotNumber → List SlotNumber → Type 0
+IsLineOfSlots = IsLineOf (AreSlots 0) slots_begun slots_with
+
+-- a line of slots was read, and the slots that are left have numbers after the last
 pub record TakesSlots (row : ℕ) (line : List ℕ) (before : ℕ) (old : List SlotNumber) (count : ℕ)
     (new : List SlotNumber) : Type 0 where
-  pub later : 0 < row → before ≡ count
-  pub size : length new ≡ min (slots_in_line * suc row) count
+  pub items : TakesItems (AreSlots 0) slots_begun slots_with row line before old count new
   pub room : count + last_slot 0 new ≤ length new + slot_count
-  pub grows : take (slots_in_line * row) new ≡ old
-  pub shown : line ≡ slots_with count new row
-  pub taken : (all : List SlotNumber) → IsLineOfSlots row line before old all
-      → (length all ≡ count) × (new ≡ take (slots_in_line * suc row) all)
 
 -- the line was taken, or it is no line of slots after these
 abbrev pub TakesOrRefusesSlots : ℕ → List ℕ → ℕ → List SlotNumber → ℕ → List SlotNumber → Bool → Type 0
 TakesOrRefusesSlots row line before old count new true = TakesSlots row line before old count new
 TakesOrRefusesSlots row line before old count new false = (all : List SlotNumber) → IsLineOfSlots row line before old all → ⊥
 
--- the number of slots and the slots after the line of a row
-abbrev pub SlotsFollow : HeaderRow → List ℕ → Known → Known → Type 0
-SlotsFollow (Slots row) line old new = TakesSlots row line old.slots (known_slots old) new.slots (known_slots new)
-SlotsFollow other line old new = (new.slots ≡ old.slots) × (known_slots new ≡ known_slots old)
+abbrev pub IsLineOfTypes : System → ℕ → List ℕ → ℕ → List ℕ → List ℕ → Type 0
+IsLineOfTypes system = IsLineOf (AreTypes system) signals_begun (types_with system)
 
--- The line of a row, apart from types, was read: a header has the line if it has what is known after it; what the rows
+-- a line of the types of a system was read, which has as many signals as the table or fewer
+pub record TakesTypes (system : System) (row : ℕ) (line : List ℕ) (before : ℕ) (old : List ℕ) (count : ℕ)
+    (new : List ℕ) : Type 0 where
+  pub items : TakesItems (AreTypes system) signals_begun (types_with system) row line before old count new
+  pub few : count ≤ length (table system)
+  pub rows : row < type_rows count
+
+-- no signals of a system with this number, of which `old` were read, have this line of types
+abbrev pub RefusesTypes : System → ℕ → List ℕ → ℕ → List ℕ → Type 0
+RefusesTypes system row line count old = (all : List ℕ) → IsLineOfTypes system row line count old all → ⊥
+
+-- a line of types is there by the number of signals that was read, and that of an optional row by its value
+abbrev pub IsThere : Known → HeaderRow → Type 0
+IsThere k (Types s row) = row < type_rows (counted k s)
+IsThere k r = is_optional r ≡ true → is_given k.shown.texts k.shown.interval r ≡ true
+
+-- The line of a row was read: a header with this row has the line if it has what is known after it; what the rows
 -- before said is unchanged.
 pub record IsHeaderLineRead (row : HeaderRow) (line : List ℕ) (old new : Known) : Type 0 where
-  pub signals : new.shown.plan.signals ≡ old.shown.plan.signals
-  pub counts : (s : System) → counted new s ≡ counted old s
-  pub slots : SlotsFollow row line old new
-  pub some : is_optional row ≡ true → is_given new.shown.texts new.shown.interval row ≡ true
-  pub later : (r : HeaderRow) → row_place row < row_place r
-      → is_given new.shown.texts new.shown.interval r ≡ is_given old.shown.texts old.shown.interval r
-  pub own : (h : Shown) → IsShown h → Has old (row_place row) h → (row_line h row ≡ line) ↔ HasRow new h row
+  pub lists : AreListsAt old → AreListsAt new
+  pub read : IsRowRead new row
+  pub early : (r : HeaderRow) → row_place r < row_place row → IsRowRead old r → IsRowRead new r
+  pub later : (r : HeaderRow) → row_place row < row_place r → IsRowUnread old r → IsRowUnread new r
+  pub there : IsThere new row
+  pub own : (h : Shown) → IsShown h → Has old (row_place row) h → has_line h row ≡ true
+      → (row_line h row ≡ line) ↔ HasRow new h row
   pub kept : (h : Shown) (r : HeaderRow) → row_place r < row_place row → HasRow old h r ↔ HasRow new h r
 
 -- no header with what was read has this line in a row
@@ -179,8 +213,7 @@ pub record SameFrom (k : Known) (line : List ℕ) (place next : ℕ) : Type 0 wh
   pub back : (h : Shown) → IsShown h → Has k next h → Has k place h
   pub lines : (h : Shown) → IsShown h → Has k next h → lines_before h next ≡ lines_before h place
   pub none : (i : ℕ) → place ≤ i → i < next → known_line k line (row_at i) ≡ false
-  pub sized : (s : System) → AreSized s (types_before s next) (counted k s) (planned_of s k.shown.plan)
-  pub slots : AreSlotsAt k next
+  pub read : AreReadAt k next
   pub unread : AreUnread k next
   pub expected : next < row_count
 
@@ -248,40 +281,6 @@ with_types system k count signals = record k {
 
 -- ---- lines of types
 
--- `all` are `count` signals, and `signals` are those of them that begin in the lines before `row`
-abbrev pub AreBegun : ℕ → ℕ → List ℕ → List ℕ → Type 0
-AreBegun count row signals all = (length all ≡ count) × (signals ≡ take (signals_begun row) all)
-
--- A line of the types of a system was read, after lines with the number `before` and the signals `old`: the number of
--- the system's signals, and those that begin in the lines up to this one.
-pub record TakesTypes (system : System) (row : ℕ) (line : List ℕ) (before : ℕ) (old : List ℕ) (count : ℕ)
-    (new : List ℕ) : Type 0 where
-  pub few : count ≤ length (table system)
-  pub rows : row < type_rows count
-  pub later : 0 < row → before ≡ count
-  pub counts : (all : List ℕ) → AreTypes system all → (0 < row → before ≡ length all)
-      → line ≡ types_line system all row → length all ≡ count
-  pub taken : (all : List ℕ) → AreTypes system all → (AreBegun count row old all × (line ≡ types_line system all row))
-      ↔ AreBegun count (row + 1) new all
-  pub size : length new ≡ min (signals_begun (row + 1)) count
-
--- no signals of a system with this number, of which `old` were read, have this line of types
-abbrev pub RefusesTypes : System → ℕ → List ℕ → ℕ → List ℕ → Type 0
-RefusesTypes system row line count old =
-    (all : List ℕ) → AreTypes system all → (0 < row → count ≡ length all) → old ≡ take (signals_begun row) all
-    → line ≡ types_line system all row → ⊥
-
--- if the line is that of these types, the signals that begin in it were appended to those of the lines before
-abbrev pub ReadsRow : System → ℕ → ℕ → List ℕ → List ℕ → List ℕ → Type 0
-ReadsRow system count row line old new =
-    (all : List ℕ) → AreTypes system all → AreBegun count row old all → line ≡ types_line system all row
-    → new ≡ take (signals_begun (row + 1)) all
-
 -- the code of this signal of a system is at a column of a line, counted from 0
 abbrev pub HasSignalAt : System → List ℕ → ℕ → SignalAt → Type 0
 HasSignalAt system line column s = IsSignal s × (s.system ≡ system) × (take 2 (drop column line) ≡ code_of s)
-
--- the line is no line of types after these signals
-abbrev pub RefusesRow : System → ℕ → ℕ → List ℕ → List ℕ → Type 0
-RefusesRow system count row line old =
-    (all : List ℕ) → AreTypes system all → AreBegun count row old all → line ≡ types_line system all row → ⊥

@@ -1,5 +1,6 @@
 -- What is known of a file while it is read line by line, and which files are still possible.
-use Rattle.std.specs.Prelude.{◌≡◌, ℕ, suc, ◌+◌, ◌-◌, ◌*◌, ◌/◌, ◌<◌, ◌≤◌, ◌==◌, ◌||◌, ◌&&◌, true, false, min, Bool, nat_lt}
+use Rattle.std.specs.Prelude.{◌≡◌, ℕ, suc, ◌+◌, ◌*◌, ◌/◌, ◌<◌, ◌≤◌, ◌==◌, ◌||◌, ◌&&◌, true, false, min, Bool, nat_lt}
+use Rattle.std.specs.Prelude.{nat_le}
 use Rattle.std.specs.Prelude.{List, [], ◌∷◌, ◌++◌, length, take, drop, map, All, nat_eq}
 use Rattle.std.specs.Prelude.{flat_map, Option, Some, None, IfSome, ⊤}
 use Rattle.gnss_system.specs.declared.system.System.{System}
@@ -9,7 +10,8 @@ use Rattle.gnss_obs.specs.Channels.{AreChannels, slot_count}
 use Rattle.gnss_obs.specs.Intervals.{IsInterval}
 use Rattle.gnss_obs.specs.Values.{PlanValue, planned_of}
 use Rattle.rinex_file.specs.declared.header.rows.HeaderRow.{HeaderRow}
-use Rattle.rinex_file.specs.declared.header.rows.HeaderRow.TheVariants.{Version, Texts, Position, Delta, Interval, First, Slots}
+use Rattle.rinex_file.specs.declared.header.rows.HeaderRow.TheVariants.{Version, Texts, Position, Delta, Types}
+use Rattle.rinex_file.specs.declared.header.rows.HeaderRow.TheVariants.{Interval, First, Slots}
 use Rattle.rinex_file.specs.declared.read.parser_state.Expected.{Expected}
 use Rattle.rinex_file.specs.declared.read.parser_state.Expected.TheVariants.{Header, Epoch, EventPosition, EventHeight}
 use Rattle.rinex_file.specs.declared.read.parser_state.Expected.TheVariants.{EventEpoch, Satellite}
@@ -21,9 +23,8 @@ use Rattle.gnss_obs.specs.GatheredEpochs.{IsCoordinate}
 use Rattle.rinex_file.specs.FileValues.{AreTexts, IsPlan, AreValues, IsTime, IsFileValue}
 use Rattle.rinex_file.specs.Header.{row_at, row_place, row_count, is_given, first_types, flagged_letter}
 pub use Rattle.rinex_file.specs.Header.{Shown, lines_before, lines_after}
-use Rattle.rinex_file.specs.Header.{most_type_rows, first_slots}
 use Rattle.rinex_file.specs.Slots.{SlotNumber, slots_of, last_slot, slots_in_line}
-use Rattle.rinex_file.specs.Header.{systems_letter, type_line, types_of, codes_of}
+use Rattle.rinex_file.specs.Header.{systems_letter}
 use Rattle.rinex_file.specs.Limits.{types_in_line}
 use Rattle.rinex_file.specs.Lines.{satellite_line}
 use Rattle.gnss_system.specs.Satellites.{letter}
@@ -62,13 +63,19 @@ pub record AreTypes (system : System) (all : List ℕ) : Type 0 where
   pub apart : IsDistinct nat_eq all
   pub some : 0 < length all
 
--- a line of the types of these signals of a system
-abbrev pub types_line : System → List ℕ → ℕ → List ℕ
-types_line system all row = type_line (letter system) (types_of (codes_of system all)) row
-
--- the number of signals that begin in the lines before a line of types
+-- the number of signals whose types begin in this number of lines
 abbrev pub signals_begun : ℕ → ℕ
-signals_begun row = (types_in_line * row + 3) / 4
+signals_begun rows = (types_in_line * rows + 3) / 4
+
+-- the number of slots in this number of lines
+abbrev pub slots_begun : ℕ → ℕ
+slots_begun rows = slots_in_line * rows
+
+-- A list of items in lines, of which `begun rows` begin in this number of lines: in the lines up to a row, it is the
+-- same as one of `count` items, of which these were read.
+pub record AreSameItems {X : Type 0} (begun : ℕ → ℕ) (row count : ℕ) (read all : List X) : Type 0 where
+  pub number : count ≡ length all
+  pub same : take (begun (suc row)) all ≡ take (begun (suc row)) read
 
 -- ---- one row after the other
 
@@ -82,16 +89,6 @@ pub record AreValid (k : Known) : Type 0 where
   pub values : AreValues k.shown.values
   pub first : IsTime k.shown.first
 
--- the number of lines of a system's types, present or not, whose rows are before an index
-abbrev pub types_before : System → ℕ → ℕ
-types_before s place = min most_type_rows (place - first_types s)
-
--- of the types of these signals of a system, this number of lines was read, present or not; the first of them has the
--- number of the signals
-pub record AreTypesOf (rows count : ℕ) (signals all : List ℕ) : Type 0 where
-  pub number : 0 < rows → count ≡ length all
-  pub begun : signals ≡ take (signals_begun rows) all
-
 -- these texts are the same in these fields
 abbrev pub AreSameTexts : HeaderLists → HeaderLists → List HeaderField → Type 0
 AreSameTexts x y [] = ⊤
@@ -104,12 +101,7 @@ position_of v = record v { height = 0 }
 abbrev pub known_slots : Known → List SlotNumber
 known_slots k = slots_of k.shown.plan.channels
 
--- the lines of slots up to a row are those of `count` slots, of which these were read
-pub record AreSameSlots (row count : ℕ) (slots all : List SlotNumber) : Type 0 where
-  pub number : count ≡ length all
-  pub begun : take (slots_in_line * suc row) all ≡ take (slots_in_line * suc row) slots
-
--- a header has what the line of a row said, apart from types
+-- a header has what the line of a row said
 abbrev pub HasRow : Known → Shown → HeaderRow → Type 0
 HasRow k h Version = systems_letter h.plan ≡ k.letter
 HasRow k h (Texts row) = AreSameTexts h.texts k.shown.texts (fields_of row)
@@ -117,49 +109,64 @@ HasRow k h Position = position_of h.values ≡ position_of k.shown.values
 HasRow k h Delta = h.values.height ≡ k.shown.values.height
 HasRow k h Interval = h.interval ≡ k.shown.interval
 HasRow k h First = h.first ≡ k.shown.first
-HasRow k h (Slots row) = AreSameSlots row k.slots (known_slots k) (slots_of h.plan.channels)
+HasRow k h (Types s row) =
+    AreSameItems signals_begun row (counted k s) (planned_of s k.shown.plan) (planned_of s h.plan)
+HasRow k h (Slots row) = AreSameItems slots_begun row k.slots (known_slots k) (slots_of h.plan.channels)
 HasRow k h other = ⊤
 
 -- a header has what the rows before an index said
 pub record Has (k : Known) (place : ℕ) (h : Shown) : Type 0 where
   pub rows : (i : ℕ) → i < place → HasRow k h (row_at i)
-  pub types : (s : System)
-      → AreTypesOf (types_before s place) (counted k s) (planned_of s k.shown.plan) (planned_of s h.plan)
 
 -- the header that was read, with this plan
 abbrev pub shown_with : Known → PlanValue → Shown
 shown_with k p = record k.shown { plan = p }
 
--- the signals that begin in a number of lines of types, present or not, were read
-pub record AreSized (s : System) (rows count : ℕ) (signals : List ℕ) : Type 0 where
-  pub few : count ≤ length (table s)
-  pub none : rows ≡ 0 → count ≡ 0
-  pub size : length signals ≡ min (signals_begun rows) count
+-- no more items of a list were read than there are, and no more signals than the table has; the slots that are left
+-- follow the last one, and there are none if no signals of GLONASS are planned
+pub record AreWithin (counts : BySystem ℕ) (plan : PlanValue) (slots : ℕ) : Type 0 where
+  pub read : (s : System) → length (planned_of s plan) ≤ value_of s counts
+  pub few : (s : System) → value_of s counts ≤ length (table s)
+  pub slots_read : length (slots_of plan.channels) ≤ slots
+  pub room : slots + last_slot 0 (slots_of plan.channels) ≤ length (slots_of plan.channels) + slot_count
+  pub unplanned : value_of Glonass counts ≡ 0 → slots ≡ 0
 
--- the number of lines of slots, present or not, whose rows are before an index
-abbrev pub slots_before : ℕ → ℕ
-slots_before place = min 4 (place - first_slots)
+abbrev pub AreListsAt : Known → Type 0
+AreListsAt k = AreWithin k.counts k.shown.plan k.slots
 
--- the slots in a number of lines of slots, present or not, were read, if this number of signals of GLONASS is planned:
--- the others follow the last of them
-pub record AreSlotsRead (rows planned count : ℕ) (slots : List SlotNumber) : Type 0 where
-  pub none : rows ≡ 0 → count ≡ 0
-  pub unplanned : planned ≡ 0 → count ≡ 0
-  pub size : length slots ≡ min (slots_in_line * rows) count
-  pub room : count + last_slot 0 slots ≤ length slots + slot_count
+-- the items that begin in the lines up to a row were read
+abbrev pub IsReadTo : BySystem ℕ → PlanValue → ℕ → HeaderRow → Type 0
+IsReadTo counts plan slots (Types s row) =
+    min (signals_begun (suc row)) (value_of s counts) ≤ length (planned_of s plan)
+IsReadTo counts plan slots (Slots row) = min (slots_begun (suc row)) slots ≤ length (slots_of plan.channels)
+IsReadTo counts plan slots other = ⊤
 
-abbrev pub AreSlotsAt : Known → ℕ → Type 0
-AreSlotsAt k place = AreSlotsRead (slots_before place) (counted k Glonass) k.slots (known_slots k)
+abbrev pub IsRowRead : Known → HeaderRow → Type 0
+IsRowRead k r = IsReadTo k.counts k.shown.plan k.slots r
 
--- no value was read for the rows from an index on
+-- nothing was read of the line of a row
+abbrev pub IsBlank : HeaderLists → Option ℕ → BySystem ℕ → PlanValue → ℕ → HeaderRow → Type 0
+IsBlank x interval counts plan slots (Types s row) =
+    (length (planned_of s plan) ≤ signals_begun row) × (row ≡ 0 → value_of s counts ≡ 0)
+IsBlank x interval counts plan slots (Slots row) =
+    (length (slots_of plan.channels) ≤ slots_begun row) × (row ≡ 0 → slots ≡ 0)
+IsBlank x interval counts plan slots r = is_given x interval r ≡ false
+
+abbrev pub IsRowUnread : Known → HeaderRow → Type 0
+IsRowUnread k r = IsBlank k.shown.texts k.shown.interval k.counts k.shown.plan k.slots r
+
+-- the lines of the rows before an index were read, and none of the others
+abbrev pub AreReadAt : Known → ℕ → Type 0
+AreReadAt k place = (i : ℕ) → i < place → IsRowRead k (row_at i)
+
 abbrev pub AreUnread : Known → ℕ → Type 0
-AreUnread k place = (r : HeaderRow) → place ≤ row_place r → is_given k.shown.texts k.shown.interval r ≡ false
+AreUnread k place = (r : HeaderRow) → place ≤ row_place r → IsRowUnread k r
 
 -- signals of a system are planned, or may be by the first line if the row of its first types isn't before an index: `M`
 -- is the letter of two or more systems, another letter that of one
 abbrev pub is_chosen : Known → ℕ → System → Bool
 is_chosen k place s =
-    nat_lt 0 (counted k s) || (types_before s place == 0 && (k.letter == 77 || k.letter == letter s))
+    nat_lt 0 (counted k s) || (nat_le place (first_types s) && (k.letter == 77 || k.letter == letter s))
 
 -- those systems have the letter of the first line, so that some plan has it and what the rows before an index said
 abbrev pub fits : Known → ℕ → Bool
@@ -168,8 +175,8 @@ fits k place = (flagged_letter (is_chosen k place) == k.letter) && nat_lt 0 k.le
 -- a line of a header is expected, that of the row at an index or of a later one
 pub record IsHeadAt (k : Known) (place : ℕ) : Type 0 where
   pub valid : AreValid k
-  pub sized : (s : System) → AreSized s (types_before s place) (counted k s) (planned_of s k.shown.plan)
-  pub slots : AreSlotsAt k place
+  pub lists : AreListsAt k
+  pub read : AreReadAt k place
   pub unread : AreUnread k place
   pub fitting : 0 < place → fits k place ≡ true
   pub expected : place < row_count

@@ -7,7 +7,7 @@ ghost use Rattle.gnss_system.specs.Signals.{table, code_of};
 ghost use Rattle.gnss_obs.specs.Channels.{most_number, slot_count};
 ghost use Rattle.gnss_obs.specs.SignalLists.{indices, IsOf};
 ghost use Rattle.rinex_file.specs.Header.{type_front, type_columns, type_rows, types_of};
-ghost use Rattle.rinex_file.specs.Header.{codes_of, most_type_rows, slots_with, type_of};
+ghost use Rattle.rinex_file.specs.Header.{codes_of, most_type_rows, slots_with, type_of, types_with};
 ghost use Rattle.rinex_fields.specs.HeaderLine.{header_line};
 ghost use Rattle.rinex_fields.specs.Limits.{most_line};
 ghost use Rattle.rinex_file.specs.Slots.{slot_text, slot_rows, slots_front, slots_in_line, slots_of};
@@ -82,10 +82,7 @@ pub(crate) fn types_with(system: System, count: usize, signals: &[Signal], row: 
     requires of { IsOf system signals.now }
     requires count { count ≤ length (table system) }
     requires row { row < type_rows count }
-    ensures { result.items ≡ header_line
-        (type_front (letter system) (4 * count) row
-        ++ type_columns (types_of (codes_of system (indices signals.now))) row)
-        (codes "SYS / # / OBS TYPES") }
+    ensures { result.items ≡ types_with system count (indices signals.now) row }
 {
     let mut content = Line::new();
     put_types_front(&mut content, system.letter(), 4 * count, row);

@@ -7,7 +7,9 @@ ghost use Rattle.rinex_file.specs.Header.{has_label, is_of_types, type_rows, row
 ghost use Rattle.rinex_fields.specs.Limits.{label_columns};
 ghost use Rattle.rinex_file.specs.Read.Progress.{AreValid, IsHeadAt, counted, signals_begun, is_chosen, fits};
 ghost use Rattle.rinex_file.specs.Read.HeaderSteps.{begins_with, expected_if, known_line, SameFrom, TakesHeaderLine};
-ghost use Rattle.rinex_file.specs.Read.HeaderSteps.{TakesTypes, RefusesTypes, with_types, AreSlotsBefore, IsOnly, ReadsOrRefuses};
+ghost use Rattle.rinex_file.specs.Read.HeaderSteps.{TakesTypes, RefusesTypes, with_types, AreItemsBefore};
+ghost use Rattle.rinex_file.specs.Read.HeaderSteps.{IsHeaderLineRead};
+ghost use Rattle.rinex_file.specs.Read.HeaderSteps.{IsOnly, ReadsOrRefuses, RefusesHeaderLine};
 
 use crate::header::lines::{BIASES, END, INTERVAL, SHIFT, STRENGTH_UNIT, UNIT, flagged_letter};
 use crate::header::lists::{TYPES, slot_rows, type_rows};
@@ -184,10 +186,24 @@ impl HeadSoFar {
         self.types.of_mut(system).take(system, row, line)
     }
 
-    /// Reads the line of a row, or returns None if no header has it.
+    /// Reads the line of a row other than the last.
+    fn read_row(&mut self, row: HeaderRow, line: &[u8]) -> Result<(), Refusal>
+        requires other { row ≡ HeaderRow.End → ⊥ }
+        requires before { AreItemsBefore self.old row }
+        ensures read { OnOk result (IsHeaderLineRead row line.now self.old self.new) }
+        ensures bad { result ≡ Err Refusal.Bad → RefusesHeaderLine self.old row line.now }
+        ensures memory { result ≡ Err Refusal.Memory → is_of_types line.now ≡ true }
+    {
+        match row {
+            HeaderRow::Types(system, row) => self.take_types(system, row, line),
+            row => self.read_header_line(row, line).ok_or(Refusal::Bad),
+        }
+    }
+
+    /// Reads the line of a row other than types, or returns None if no header has it.
     fn read_header_line(&mut self, row: HeaderRow, line: &[u8]) -> Option<()>
         requires only { IsOnly row }
-        requires slots { AreSlotsBefore self.old row }
+        requires before { AreItemsBefore self.old row }
         ensures { ReadsOrRefuses row line.now self.old self.new (is_some result) }
     {
         match row {
@@ -218,15 +234,10 @@ impl HeadSoFar {
     {
         let place = self.place_from(from, line);
         match row_at(place) {
-            HeaderRow::Types(system, row) => {
-                self.take_types(system, row, line)?;
-                self.are_valid();
-                self.expected_at(place + 1)
-            }
             HeaderRow::End if read_labelled(line, b"", END).is_some() => Ok(Expected::Epoch),
             HeaderRow::End => Err(Refusal::Bad),
             row => {
-                self.read_header_line(row, line).ok_or(Refusal::Bad)?;
+                self.read_row(row, line)?;
                 self.are_valid();
                 self.expected_at(place + 1)
             }

@@ -4,8 +4,8 @@ ghost use Rattle.std.specs.Prelude.{OnOk, Err, Some};
 ghost use Rattle.gnss_system.specs.Signals.{SignalAt, IsSignal, table};
 ghost use Rattle.gnss_obs.specs.SignalLists.{indices, IsOf};
 ghost use Rattle.rinex_file.specs.Header.{most_type_rows, type_rows};
-ghost use Rattle.rinex_file.specs.Read.Progress.{AreTypes, types_line, signals_begun};
-ghost use Rattle.rinex_file.specs.Read.HeaderSteps.{ReadsRow, RefusesRow, TakesTypes, RefusesTypes, HasSignalAt};
+ghost use Rattle.rinex_file.specs.Read.Progress.{signals_begun};
+ghost use Rattle.rinex_file.specs.Read.HeaderSteps.{HasSignalAt, IsLineOfTypes, RefusesTypes, TakesTypes};
 
 use crate::header::lists::{TYPES_IN_LINE, type_rows, types_with};
 use crate::read::parser_state::Refusal;
@@ -41,8 +41,8 @@ impl TypesSoFar {
         ensures few { IfSome result (λ n. n ≤ length (table system)) }
         ensures rows { IfSome result (λ n. row < type_rows n) }
         ensures later { IfSome result (λ n. 0 < row → self.now.count ≡ n) }
-        ensures count { (all : List ℕ) → AreTypes system all → (0 < row → self.now.count ≡ length all)
-            → line.now ≡ types_line system all row → result ≡ Some (length all) }
+        ensures count { (old all : List ℕ) → IsLineOfTypes system row line.now self.now.count old all
+            → result ≡ Some (length all) }
     {
         if row > 0 {
             return Some(self.count);
@@ -95,9 +95,11 @@ fn take_signals(
     ensures signals { IsOf system signals.new }
     ensures grows { OnOk result (take (length signals.old) signals.new ≡ signals.old) }
     ensures size { OnOk result (length signals.new ≡ min (signals_begun (row + 1)) count) }
-    ensures taken { OnOk result
-        (ReadsRow system count row line.now (indices signals.old) (indices signals.new)) }
-    ensures bad { result ≡ Err Refusal.Bad → RefusesRow system count row line.now (indices signals.old) }
+    ensures taken { OnOk result ((before : ℕ) (all : List ℕ)
+        → IsLineOfTypes system row line.now before (indices signals.old) all → length all ≡ count
+        → indices signals.new ≡ take (signals_begun (row + 1)) all) }
+    ensures bad { result ≡ Err Refusal.Bad → (before : ℕ) (all : List ℕ)
+        → IsLineOfTypes system row line.now before (indices signals.old) all → length all ≡ count → ⊥ }
 {
     let end = signals_begun(row + 1).min(count);
     for place in signals_begun(row)..end {

@@ -1,6 +1,5 @@
 -- Each row's line is the one that the row's own function makes; a row that has no line for this plan has none here.
-use Rattle.rinex_file.proofs.HeaderRows.Types.{length-system_types}
-use Rattle.rinex_file.proofs.Names.{unwrap_or, ◌∙◌, sym, ap, ℕ, [], ◌∷◌, codes, row_line, header_line, version_by, ◌++◌, ◌*◌, indices, length_indices, few_signals, letter, type_front, type_columns, type_line, types_of, codes_of, arith, true, length, ◌≡◌, ◌≤◌, Shown, has_line, is_less, Slots, slot_count, slots_line, slots_of, slots_with, interval_line}
+use Rattle.rinex_file.proofs.Names.{types_line, types_with, unwrap_or, ◌∙◌, sym, ap, ℕ, [], ◌∷◌, codes, row_line, header_line, version_by, indices, length_indices, few_signals, arith, true, length, ◌≡◌, ◌≤◌, Shown, has_line, is_less, Slots, slot_count, slots_line, slots_of, slots_with, interval_line}
 use Rattle.rinex_file.specs.Heads.{shown_by}
 use Rattle.rinex_file.proofs.header.head.line_of.Goals as goal
 
@@ -35,10 +34,8 @@ returns-in-Types c =
     let system = c.in-Types.system in
     let row = c.in-Types.row in
     let signals = c.of-signals.result.now in
-    let types = types_of (codes_of system (indices signals)) in
-    let count = ap (λ (n : ℕ). 4 * n) (sym (length_indices signals)) ∙ sym (length-system_types system (indices signals)) in
-    c.types_with.ensures ∙ ap (λ (n : ℕ). header_line (type_front (letter system) n row ++ type_columns types row) (codes "SYS / # / OBS TYPES")) count
-    ∙ ap (λ l. type_line (letter system) (types_of (codes_of system l)) row) c.of-signals.ensures.indices
+    c.types_with.ensures ∙ ap (λ (n : ℕ). types_with system n (indices signals) row) (sym (length_indices signals))
+    ∙ ap (λ l. types_line system l row) c.of-signals.ensures.indices
     ∙ ap (row_line h) (sym c.in-Types.is)
 
 pub returns-in-StrengthUnit : goal.returns-in-StrengthUnit

@@ -9,15 +9,15 @@ there : {system : System} {all line : List ℕ} {row place end a count : ℕ} �
 there {system} are is low less least next size bound = grind (arith, short_table)
 
 pub returns-in_err-signal-clause-bad : goal.returns-in_err-signal-clause-bad
-returns-in_err-signal-clause-bad c = λ refused all are begun is.
-    let here = there are is c.loop-place.invariant.from c.loop-place-test.true c.min-end.ensures c.signals_begun.ensures begun.0 c.requires.count in
+returns-in_err-signal-clause-bad c = λ refused before all l size.
+    let here = there l.are l.is c.loop-place.invariant.from c.loop-place-test.true c.min-end.ensures c.signals_begun.ensures size c.requires.count in
     none-some _ (sym c.in_err-signal.ensures.ok_part ∙ read_here here c.signal_in.ensures.read)
 
 pub returns-in-Ok-false-clause-bad : goal.returns-in-Ok-false-clause-bad
-returns-in-Ok-false-clause-bad c = λ refused all are begun is.
-    let here = there are is c.loop-place.invariant.from c.loop-place-test.true c.min-end.ensures c.signals_begun.ensures begun.0 c.requires.count in
-    taken_before c.loop-place.place c.in_ok-signal.signal c.loop-place.signals are (index_read (read_here here c.signal_in.ensures.read) c.in_ok-signal.ensures.ok_part) here.less
-    (c.add.ensures.old (c.in-Ok-false.is ∙ ap Ok c.in-Ok-false.field-0-test)).1 (c.loop-place.invariant.read all are begun is)
+returns-in-Ok-false-clause-bad c = λ refused before all l size.
+    let here = there l.are l.is c.loop-place.invariant.from c.loop-place-test.true c.min-end.ensures c.signals_begun.ensures size c.requires.count in
+    taken_before c.loop-place.place c.in_ok-signal.signal c.loop-place.signals l.are (index_read (read_here here c.signal_in.ensures.read) c.in_ok-signal.ensures.ok_part) here.less
+    (c.add.ensures.old (c.in-Ok-false.is ∙ ap Ok c.in-Ok-false.field-0-test)).1 (c.loop-place.invariant.read before all l size)
 
 pub loop-place-preserved : goal.loop-place-preserved
 loop-place-preserved c =
@@ -30,16 +30,19 @@ loop-place-preserved c =
       size = ap length added.0 ∙ length_push c.loop-place.signals s ∙ ap (λ n. n + 1) inv.size;
       from = omega (arith, inv.from);
       to = omega arith;
-      read = λ all are begun is.
-          let here = there are is inv.from c.loop-place-test.true c.min-end.ensures c.signals_begun.ensures begun.0 c.requires.count in
-          ap indices added.0 ∙ taken_more all c.loop-place.place s c.loop-place.signals (index_read (read_here here c.signal_in.ensures.read) c.in_ok-signal.ensures.ok_part) here.less (inv.read all are begun is);
+      read = λ before all l size.
+          let here = there l.are l.is inv.from c.loop-place-test.true c.min-end.ensures c.signals_begun.ensures size c.requires.count in
+          ap indices added.0 ∙ taken_more all c.loop-place.place s c.loop-place.signals (index_read (read_here here c.signal_in.ensures.read) c.in_ok-signal.ensures.ok_part) here.less (inv.read before all l size);
     }
 
 whole : (all : List ℕ) (place : ℕ) {end a next count : ℕ} → place ≤ end → end ≤ place → end ≡ min a count → a ≡ next → length all ≡ count → take place all ≡ take next all
 whole all place low high is same size = grind (arith, take_min)
 
 pub returns-clause-taken : goal.returns-clause-taken
-returns-clause-taken c = grind (arith, whole)
+returns-clause-taken c = λ before all l size.
+    let inv = c.loop-place.invariant in
+    let to = inv.to in
+    inv.read before all l size ∙ whole all c.loop-place.place to c.loop-place-test.false c.min-end.ensures c.signals_begun.ensures size
 
 pub loop-place-init : goal.loop-place-init
 loop-place-init c = grind (arith, common_steps)

@@ -1,5 +1,5 @@
-use Rattle.rinex_file.specs.Read.HeaderSteps.{AreBegun}
-use Rattle.rinex_file.proofs.Names.{ℕ, List, ◌≡◌, ◌≤◌, length, take, indices, IsOf, AreTypes, types_line, signals_begun}
+use Rattle.rinex_file.specs.Read.HeaderSteps.{IsLineOfTypes}
+use Rattle.rinex_file.proofs.Names.{ℕ, List, ◌≡◌, ◌≤◌, length, take, indices, IsOf, signals_begun}
 use Rattle.rinex_file.proofs.read.types.take_signals.Given as goal
 
 -- if the line is that of these signals, those so far were appended
@@ -10,6 +10,5 @@ invariant-loop-place l = record {
   size : length l.signals ≡ l.place;
   from : signals_begun l.row ≤ l.place;
   to : l.place ≤ l.end;
-  read : (all : List ℕ) → AreTypes l.fn.system all → AreBegun l.fn.count l.row (indices l.fn.signals) all → l.line ≡ types_line l.fn.system all l.row
-      → indices l.signals ≡ take l.place all;
+  read : (before : ℕ) (all : List ℕ) → IsLineOfTypes l.fn.system l.row l.line before (indices l.fn.signals) all → length all ≡ l.fn.count → indices l.signals ≡ take l.place all;
 }

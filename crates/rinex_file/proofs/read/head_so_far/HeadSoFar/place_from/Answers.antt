@@ -12,4 +12,4 @@ loop-place-preserved c =
     let at = c.loop-place.place in
     let next : suc at ≡ at + 1 = omega arith in
     let lacks : known_line k line (row_at at) ≡ false = ap (known_line k line) (sym c.row_at.ensures) ∙ sym c.has_line.ensures ∙ c.loop-place-test.true in
-    same_on k line c.args.from at (at + 1) c.loop-place.invariant (subst (λ n. SameFrom k line at n) next (skipped k line c.loop-place.invariant.expected lacks c.loop-place.invariant.sized c.loop-place.invariant.slots c.loop-place.invariant.unread))
+    same_on k line c.args.from at (at + 1) c.loop-place.invariant (subst (λ n. SameFrom k line at n) next (skipped k line c.loop-place.invariant.expected lacks c.requires.lists c.loop-place.invariant.read c.loop-place.invariant.unread))

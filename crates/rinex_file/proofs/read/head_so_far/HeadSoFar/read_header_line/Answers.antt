@@ -1,7 +1,7 @@
 -- Each kind of row is read by its own function: what it takes is kept, and a line that it refuses is no line of the
 -- row, so that the header so far is as it was.
 use Rattle.rinex_file.proofs.HeaderRows.Read.{line_interval, refuse_interval, line_version, refuse_version, line_texts, refuse_texts, line_position, refuse_position, line_delta, refuse_delta, line_unit, line_first, refuse_first, line_shift, line_slots, line_biases}
-use Rattle.rinex_file.proofs.Names.{ap, Option, Some, ◌≡◌, subst, refl, ℕ, List, Bool, true, false, inl, inr, is_some, ⊤, HeaderField, HeaderRow, Texts, HeaderLists, Known, IsOnly, ReadsOrRefuses, ReadsOrRefusesTexts, with_texts, AreSlotsBefore, Slots, sym}
+use Rattle.rinex_file.proofs.Names.{ap, Option, Some, ◌≡◌, subst, refl, ℕ, List, Bool, true, false, inl, inr, is_some, ⊤, HeaderField, HeaderRow, Texts, HeaderLists, Known, IsOnly, ReadsOrRefuses, ReadsOrRefusesTexts, with_texts, AreItemsBefore, Slots, sym}
 use Rattle.rinex_file.proofs.read.head_so_far.HeadSoFar.read_header_line.Goals as goal
 
 -- the row, what was known before it and what was returned, by other names
@@ -53,7 +53,7 @@ pub returns-in-Shift : goal.returns-in-Shift
 returns-in-Shift c = of_row c.args.line.now c.args.self.now _ refl c.in-Shift.is refl (line_shift c.in-Shift.system c.letter.result c.args.self.now c.args.line.now _ c.letter.ensures c.read_labelled-in-Shift.ensures)
 
 pub returns-in-Slots : goal.returns-in-Slots
-returns-in-Slots c = of_row c.args.line.now _ _ refl c.in-Slots.is c.self.view_is (line_slots c.in-Slots.row c.args.line.now _ (subst (λ (k : Known). AreSlotsBefore k (Slots c.in-Slots.row)) (sym c.self.view_is) (subst (AreSlotsBefore c.args.self.now) c.in-Slots.is c.requires.slots)) c.take.new.self.count c.take.new.self.channels _ c.take.ensures)
+returns-in-Slots c = of_row c.args.line.now _ _ refl c.in-Slots.is c.self.view_is (line_slots c.in-Slots.row c.args.line.now _ (subst (λ (k : Known). AreItemsBefore k (Slots c.in-Slots.row)) (sym c.self.view_is) (subst (AreItemsBefore c.args.self.now) c.in-Slots.is c.requires.before)) c.take.new.self.count c.take.new.self.channels _ c.take.ensures)
 
 pub returns-in-Biases : goal.returns-in-Biases
 returns-in-Biases c = of_row c.args.line.now c.args.self.now _ refl c.in-Biases.is refl (line_biases c.args.self.now c.args.line.now _ c.read_labelled-in-Biases.ensures)

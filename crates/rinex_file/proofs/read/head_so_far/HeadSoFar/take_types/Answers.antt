@@ -14,4 +14,4 @@ invariant_of-self c =
     )
 
 pub returns-then-not-has_label-clause-bad : goal.returns-then-not-has_label-clause-bad
-returns-then-not-has_label-clause-bad c = λ bad all are later begun is. let e : true ≡ false = sym (types_labelled c.args.system all c.args.row) ∙ ap is_of_types (sym is) ∙ sym c.has_label.ensures ∙ c.if-not-has_label.true in cc
+returns-then-not-has_label-clause-bad c = λ bad all l. let e : true ≡ false = sym (types_labelled c.args.system all c.args.row) ∙ ap is_of_types (sym l.is) ∙ sym c.has_label.ensures ∙ c.if-not-has_label.true in cc

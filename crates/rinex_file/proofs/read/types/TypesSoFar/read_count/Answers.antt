@@ -7,15 +7,15 @@ first_row : (system : System) (all line : List ℕ) (row : ℕ) → row ≤ 0 �
 first_row system all line row none is = let e : row ≡ 0 = omega (arith, none) in is ∙ ap (types_line system all) e
 
 pub returns-then-count-eq0-clause-count : goal.returns-then-count-eq0-clause-count
-returns-then-count-eq0-clause-count c = λ all are later is.
-    let read = ap (λ n. n / 4) (c.digits_in-types.ensures.value ∙ ap digits_in c.columns.ensures.value) ∙ count_read c.args.system all c.args.line.now are (short_table c.args.system) (first_row c.args.system all c.args.line.now c.args.row c.if-row-gt0.false is) in
-    let few = few_types c.args.system all are in
+returns-then-count-eq0-clause-count c = λ old all l.
+    let read = ap (λ n. n / 4) (c.digits_in-types.ensures.value ∙ ap digits_in c.columns.ensures.value) ∙ count_read c.args.system all c.args.line.now l.are (short_table c.args.system) (first_row c.args.system all c.args.line.now c.args.row c.if-row-gt0.false l.is) in
+    let few = few_types c.args.system all l.are in let are = l.are in
     elim c.then-count-eq0.branch [
       | then-count-eq0-via-then-count-eq0 w ↦ absurd (omega (arith, w.if-count-eq0.true, read, are.some))
       | then-count-eq0-via-else-count-eq0+then-count-signals w ↦ absurd (omega (arith, w.if-count-signals.true, w.signals.ensures.value, read, few))
     ]
 
 pub returns-clause-count : goal.returns-clause-count
-returns-clause-count c = λ all are later is.
+returns-clause-count c = λ old all l.
     ap (λ n. Some (n / 4)) (c.digits_in-types.ensures.value ∙ ap digits_in c.columns.ensures.value)
-    ∙ ap Some (count_read c.args.system all c.args.line.now are (short_table c.args.system) (first_row c.args.system all c.args.line.now c.args.row c.if-row-gt0.false is))
+    ∙ ap Some (count_read c.args.system all c.args.line.now l.are (short_table c.args.system) (first_row c.args.system all c.args.line.now c.args.row c.if-row-gt0.false l.is))
