@@ -66,6 +66,7 @@ fn take_slots(channels: &mut Channels, row: usize, end: usize, line: &[u8]) -> O
     let first = SLOTS_IN_LINE * row;
     let mut last = last_slot(channels);
     for index in first..end {
+        // After four columns, each slot has seven, as `R01 -7 `.
         let column = 4 + 7 * (index - first);
         let slot = digits_in(columns(line, column + 1, 2));
         let number = number_in(columns(line, column + 4, 2))?;

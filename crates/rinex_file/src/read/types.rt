@@ -103,6 +103,8 @@ fn take_signals(
 {
     let end = signals_begun(row + 1).min(count);
     for place in signals_begun(row)..end {
+        // After six columns, each type has four: a blank, its letter and the signal's code. The
+        // first of a signal's four types is the one at `4 * place` among all types.
         let column = 6 + 4 * (4 * place - TYPES_IN_LINE * row) + 2;
         let signal = signal_in(line, system, column).ok_or(Refusal::Bad)?;
         match signals.add(signal) {

@@ -51,6 +51,8 @@ fn fours(low: u32, high: u32) -> u16x8
     let eights = u64x2::from_array([low as u64, high as u64]);
     // 3,518,437,209 is 2^45 / 10,000, rounded up.
     let upper = (eights * u64x2::splat(3_518_437_209)) >> u64x2::splat(45);
+    // 0xFFFF_D8F0 is 2^32 - 10,000, which moves the upper four digits by 32 bits: of 12,345,678,
+    // 12,345,678 + 1234 * (2^32 - 10,000) = 5678 + 1234 * 2^32.
     u16x8::from_le_bytes((eights + upper * u64x2::splat(0xFFFF_D8F0)).to_le_bytes())
 }
 
@@ -80,6 +82,7 @@ fn ones(low: u32, high: u32) -> u8x16
 {
     let twos = twos(low, high);
     let tens = twos / u16x8::splat(10);
+    // 246 is 2^8 - 10, which moves the tens by 8 bits: of 78, 78 + 7 * 246 = 8 + 7 * 256.
     (twos + tens * u16x8::splat(246)).to_le_bytes()
 }
 
