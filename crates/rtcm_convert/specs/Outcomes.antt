@@ -1,5 +1,5 @@
 -- The outcome of each frame, and the counts of the outcomes.
-use Rattle.std.specs.Prelude.{ℕ, ◌≤◌, ◌+◌, ◌-◌, ◌^◌, min, List, [], ◌∷◌, ◌++◌, length, sum_by, Option, Some, None}
+use Rattle.std.specs.Prelude.{◌≡◌, ℕ, ◌+◌, ◌-◌, ◌^◌, min, List, [], ◌∷◌, ◌++◌, length, sum_by, Option, Some, None}
 use Rattle.std.specs.Prelude.{option_map}
 use Rattle.rtcm_scan.specs.Frames.{Framed, frames_of}
 use Rattle.rtcm_scan.specs.Decided.{skipped_before}
@@ -64,51 +64,33 @@ tally_of_one (Some k) = tally_by k
 abbrev pub capped : ℕ → ℕ
 capped n = min n (2 ^ 64 - 1)
 
+-- the counts that a frame adds to, each by this function of it, and the others as they are here
+abbrev pub counts_by : Report → ((Report → ℕ) → ℕ) → Report
+counts_by others by = record others {
+  frames = by (λ t. t.frames);
+  faulty = by (λ t. t.faulty);
+  station = by (λ t. t.station);
+  other = by (λ t. t.other);
+  ignored = by (λ t. t.ignored);
+  late = by (λ t. t.late);
+  past = by (λ t. t.past);
+  taken = by (λ t. t.taken);
+  skipped = by (λ t. t.skipped);
+  repeated = by (λ t. t.repeated);
+  crowded = by (λ t. t.crowded);
+}
+
 -- both counts together
 abbrev pub tallies_added : Report → Report → Report
-tallies_added a b = record a {
-  frames = capped (a.frames + b.frames);
-  faulty = capped (a.faulty + b.faulty);
-  station = capped (a.station + b.station);
-  other = capped (a.other + b.other);
-  ignored = capped (a.ignored + b.ignored);
-  late = capped (a.late + b.late);
-  past = capped (a.past + b.past);
-  taken = capped (a.taken + b.taken);
-  skipped = capped (a.skipped + b.skipped);
-  repeated = capped (a.repeated + b.repeated);
-  crowded = capped (a.crowded + b.crowded);
-}
+tallies_added a b = counts_by a (λ count. capped (count a + count b))
 
 -- each count up to the greatest number that is counted; no stream that a converter accepts reaches it
 abbrev pub capped_tally : Report → Report
-capped_tally t = record t {
-  frames = capped t.frames;
-  faulty = capped t.faulty;
-  station = capped t.station;
-  other = capped t.other;
-  ignored = capped t.ignored;
-  late = capped t.late;
-  past = capped t.past;
-  taken = capped t.taken;
-  skipped = capped t.skipped;
-  repeated = capped t.repeated;
-  crowded = capped t.crowded;
-}
+capped_tally t = counts_by t (λ count. capped (count t))
 
 -- one frame adds at most 128 to each count
-pub record IsFew (t : Report) : Type 0 where
-  pub frames : t.frames ≤ 128
-  pub faulty : t.faulty ≤ 128
-  pub station : t.station ≤ 128
-  pub other : t.other ≤ 128
-  pub ignored : t.ignored ≤ 128
-  pub late : t.late ≤ 128
-  pub past : t.past ≤ 128
-  pub taken : t.taken ≤ 128
-  pub skipped : t.skipped ≤ 128
-  pub repeated : t.repeated ≤ 128
-  pub crowded : t.crowded ≤ 128
+abbrev pub IsFew : Report → Type 0
+IsFew t = t ≡ counts_by t (λ count. min (count t) 128)
 
 abbrev pub AreFew : List (Option Kind) → Type 0
 AreFew [] = Unit {0}
@@ -120,19 +102,7 @@ sum_of_counts count os = sum_by (λ o. count (tally_of_one o)) os
 
 -- the counts of these outcomes
 abbrev pub tally_of : List (Option Kind) → Report
-tally_of os = record no_tally {
-  frames = sum_of_counts (λ t. t.frames) os;
-  faulty = sum_of_counts (λ t. t.faulty) os;
-  station = sum_of_counts (λ t. t.station) os;
-  other = sum_of_counts (λ t. t.other) os;
-  ignored = sum_of_counts (λ t. t.ignored) os;
-  late = sum_of_counts (λ t. t.late) os;
-  past = sum_of_counts (λ t. t.past) os;
-  taken = sum_of_counts (λ t. t.taken) os;
-  skipped = sum_of_counts (λ t. t.skipped) os;
-  repeated = sum_of_counts (λ t. t.repeated) os;
-  crowded = sum_of_counts (λ t. t.crowded) os;
-}
+tally_of os = counts_by no_tally (λ count. sum_of_counts count os)
 
 -- the report with these counts, and those of all bytes, of the bytes in no frame, and of the epochs
 abbrev pub report_with : ℕ → ℕ → Report → ℕ → Report
