@@ -1,8 +1,11 @@
 -- The signals of each system.
-use Rattle.std.specs.Prelude.{ℕ, List, [], ◌+◌, Bool, ◌==◌, ◌<◌, nat_lt, if◌then◌else◌, Option, Some, None, option_map}
+use Rattle.std.specs.Prelude.{ℕ, List, [], ◌+◌, Bool, ◌*◌, ◌==◌, ◌<◌, nat_lt, if◌then◌else◌, Option, Some, None, option_map}
 use Rattle.std.specs.Prelude.{length, position, slice_get, zero, suc, ◌∷◌, ◌++◌, unwrap_or}
 use Rattle.std.specs.Option.{option_map_or}
+use Rattle.std.specs.List.{sum_by}
 use Rattle.std.specs.Str.{bytes_eq}
+use Rattle.gnss_system.specs.Satellites.{satellites}
+use Rattle.gnss_system.specs.Systems.{systems, before}
 use Rattle.gnss_system.specs.declared.tables.ListedSignal.{ListedSignal}
 use Rattle.gnss_system.specs.declared.system.System.{System}
 pub use Rattle.gnss_system.specs.SignalTables.{table, carriers, band_of, carrier_of}
@@ -74,3 +77,14 @@ most_hertz = 1605375000
 -- the carrier frequency of a signal, in hertz, of GLONASS that of channel 0
 abbrev pub hertz_of : SignalAt → ℕ
 hertz_of s = carrier_of (carriers s.system) (band_of (code_of s))
+
+-- the number of keys of a system: one for each of its satellites with each signal of its table
+abbrev pub keys_of : System → ℕ
+keys_of system = satellites system * length (table system)
+
+-- the number of keys of all systems, and of those before a system
+abbrev pub key_count : ℕ
+key_count = sum_by keys_of systems
+
+abbrev pub first_key : System → ℕ
+first_key system = sum_by keys_of (before system)

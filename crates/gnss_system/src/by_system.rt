@@ -22,6 +22,34 @@ pub struct BySystem<T> {
     pub sbas: T,
 }
 
+/// What a function returns for each system, with `?` unless it returned an error.
+macro_rules! values {
+    ($f:ident $($try:tt)?) => {
+        BySystem {
+            gps: $f(System::Gps)$($try)?,
+            galileo: $f(System::Galileo)$($try)?,
+            glonass: $f(System::Glonass)$($try)?,
+            beidou: $f(System::Beidou)$($try)?,
+            qzss: $f(System::Qzss)$($try)?,
+            sbas: $f(System::Sbas)$($try)?,
+        }
+    };
+}
+
+/// The value of a system, lent by these values.
+macro_rules! value {
+    ($system:expr, $($values:tt)+) => {
+        match $system {
+            System::Gps => $($values)+.gps,
+            System::Galileo => $($values)+.galileo,
+            System::Glonass => $($values)+.glonass,
+            System::Beidou => $($values)+.beidou,
+            System::Qzss => $($values)+.qzss,
+            System::Sbas => $($values)+.sbas,
+        }
+    };
+}
+
 impl<T> BySystem<T> {
     ghost use Rattle.std.specs.Borrow.{sem};
     ghost use Rattle.gnss_system.specs.declared.system.System.{System};
@@ -31,14 +59,7 @@ impl<T> BySystem<T> {
         requires { F.IsAlwaysCallable f }
         ensures { (s : System) → F.post f s (value_of s result) }
     {
-        BySystem {
-            gps: f(System::Gps),
-            galileo: f(System::Galileo),
-            glonass: f(System::Glonass),
-            beidou: f(System::Beidou),
-            qzss: f(System::Qzss),
-            sbas: f(System::Sbas),
-        }
+        values!(f)
     }
 
     /// Returns what a function returns for each system.
@@ -52,14 +73,7 @@ impl<T> BySystem<T> {
         requires { F.IsAlwaysCallable f }
         ensures { IfOk result (λ values. (s : System) → F.post f s (Ok (value_of s values))) }
     {
-        Ok(BySystem {
-            gps: f(System::Gps)?,
-            galileo: f(System::Galileo)?,
-            glonass: f(System::Glonass)?,
-            beidou: f(System::Beidou)?,
-            qzss: f(System::Qzss)?,
-            sbas: f(System::Sbas)?,
-        })
+        Ok(values!(f?))
     }
 
     /// Returns the values of GPS and Galileo, and the same one for each other system.
@@ -79,14 +93,7 @@ impl<T> BySystem<T> {
     pub fn of(&self, system: System) -> &T
         ensures { result.now ≡ value_of system self.now }
     {
-        match system {
-            System::Gps => &self.gps,
-            System::Galileo => &self.galileo,
-            System::Glonass => &self.glonass,
-            System::Beidou => &self.beidou,
-            System::Qzss => &self.qzss,
-            System::Sbas => &self.sbas,
-        }
+        value!(system, &self)
     }
 
     /// Returns the value of a system, to change it.
@@ -94,13 +101,6 @@ impl<T> BySystem<T> {
         ensures* lends { sem 𝓛 (lends_value_of T.row system self.entry result) }
         ensures value { result.now ≡ value_of system self.old }
     {
-        match system {
-            System::Gps => &mut self.gps,
-            System::Galileo => &mut self.galileo,
-            System::Glonass => &mut self.glonass,
-            System::Beidou => &mut self.beidou,
-            System::Qzss => &mut self.qzss,
-            System::Sbas => &mut self.sbas,
-        }
+        value!(system, &mut self)
     }
 }

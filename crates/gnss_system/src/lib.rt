@@ -8,6 +8,6 @@ mod tables;
 pub use by_system::BySystem;
 pub use system::{SYSTEMS, System};
 pub use tables::{
-    GALILEO_SIGNAL_COUNT, GPS_SIGNAL_COUNT, ID_COUNT, ListedSignal, MOST_SATELLITES, MOST_SIGNALS,
-    NO_ROW, SystemRow,
+    GALILEO_SIGNAL_COUNT, GPS_SIGNAL_COUNT, ID_COUNT, KEY_COUNT, ListedSignal, MOST_SATELLITES,
+    MOST_SIGNALS, NO_ROW, SystemRow, TimeScale,
 };

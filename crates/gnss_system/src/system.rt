@@ -1,7 +1,10 @@
 //! The satellite systems.
 ghost use Rattle.std.specs.Prelude.{ℕ, ◌≡◌, ◌<◌, ◌≤◌, length, IfSome, IfNone};
 
-use crate::tables::{BEIDOU, GALILEO, GLONASS, GPS, QZSS, SBAS, SystemRow};
+use crate::tables::{
+    BEIDOU, BEIDOU_FIRST, GALILEO, GALILEO_FIRST, GLONASS, GLONASS_FIRST, GPS, QZSS, QZSS_FIRST,
+    SBAS, SBAS_FIRST, SystemRow, TimeScale,
+};
 
 /// A satellite system.
 #[derive(Clone, Copy, PartialEq, Eq, Hash)]
@@ -30,6 +33,21 @@ pub const SYSTEMS: [System; 6] = [
     System::Sbas,
 ];
 
+/// Returns the row of a system, or a field of it. A field by a match of its own costs less than one
+/// of the result of `row`, by 3 % of the instructions of `convert` for `satellites`.
+macro_rules! of_row {
+    ($system:expr $(, $($field:tt)+)?) => {
+        match $system {
+            System::Gps => GPS $($($field)+)?,
+            System::Galileo => GALILEO $($($field)+)?,
+            System::Glonass => GLONASS $($($field)+)?,
+            System::Beidou => BEIDOU $($($field)+)?,
+            System::Qzss => QZSS $($($field)+)?,
+            System::Sbas => SBAS $($($field)+)?,
+        }
+    };
+}
+
 impl System {
     ghost use Rattle.gnss_system.specs.Systems.{systems, index_of};
 
@@ -44,7 +62,8 @@ impl System {
     ghost use Rattle.gnss_system.specs.Satellites.{satellites, most_satellites, first_number, number_of, satellite_set};
     ghost use Rattle.gnss_system.specs.Satellites.{Satellite, IsSatellite};
     ghost use Rattle.gnss_system.specs.Satellites.{name_of, letter, system_of_letter};
-    ghost use Rattle.gnss_system.specs.Signals.{table, most_signals, rows};
+    ghost use Rattle.gnss_system.specs.Satellites.{msm_tens, system_of_tens, time_scale};
+    ghost use Rattle.gnss_system.specs.Signals.{table, most_signals, rows, first_key};
 
     /// Returns the row of the system.
     #[inline(always)]
@@ -57,14 +76,7 @@ impl System {
         ensures bound { length result.signals.now ≤ most_signals }
         ensures rows { result.rows_by_id.now ≡ rows self }
     {
-        match self {
-            System::Gps => GPS,
-            System::Galileo => GALILEO,
-            System::Glonass => GLONASS,
-            System::Beidou => BEIDOU,
-            System::Qzss => QZSS,
-            System::Sbas => SBAS,
-        }
+        of_row!(self)
     }
 
     /// Returns the name of the system in small letters.
@@ -86,14 +98,52 @@ impl System {
     pub fn from_letter(letter: u8) -> Option<System>
         ensures { result ≡ system_of_letter letter }
     {
-        match letter {
-            b'G' => Some(System::Gps),
-            b'E' => Some(System::Galileo),
-            b'R' => Some(System::Glonass),
-            b'C' => Some(System::Beidou),
-            b'J' => Some(System::Qzss),
-            b'S' => Some(System::Sbas),
-            _ => None,
+        // Unrolled and compiled to a switch on the letter, as a match on it is.
+        SYSTEMS
+            .iter()
+            .copied()
+            .find(|system| system.letter() == letter)
+    }
+
+    /// Returns the system whose MSMs have these numbers without their last digit, or `None` if there
+    /// is none.
+    pub fn from_msm_tens(tens: u16) -> Option<System>
+        ensures { result ≡ system_of_tens tens }
+    {
+        // As in `from_letter`, no more instructions than a match.
+        SYSTEMS
+            .iter()
+            .copied()
+            .find(|system| system.msm_tens() == tens)
+    }
+
+    /// Returns the numbers of the system's MSMs, DF002, without their last digit.
+    pub fn msm_tens(self) -> u16
+        ensures value { result ≡ msm_tens self }
+        ensures bound { result < 400 }
+    {
+        of_row!(self, .msm_tens)
+    }
+
+    /// Returns the time scale of the epoch times of the system's MSMs.
+    pub fn time_scale(self) -> TimeScale
+        ensures { result ≡ time_scale self }
+    {
+        of_row!(self, .time_scale)
+    }
+
+    /// Returns the number of keys of the systems before this one. A system has a key for each of
+    /// its satellites with each of its signals.
+    pub fn first_key(self) -> usize
+        ensures { result ≡ first_key self }
+    {
+        match self {
+            System::Gps => 0,
+            System::Galileo => GALILEO_FIRST,
+            System::Glonass => GLONASS_FIRST,
+            System::Beidou => BEIDOU_FIRST,
+            System::Qzss => QZSS_FIRST,
+            System::Sbas => SBAS_FIRST,
         }
     }
 
@@ -102,15 +152,7 @@ impl System {
         ensures value { result ≡ satellites self }
         ensures bound { result ≤ most_satellites }
     {
-        // A match of its own: through `row`, `convert` executes 3 % more instructions.
-        match self {
-            System::Gps => GPS.satellites,
-            System::Galileo => GALILEO.satellites,
-            System::Glonass => GLONASS.satellites,
-            System::Beidou => BEIDOU.satellites,
-            System::Qzss => QZSS.satellites,
-            System::Sbas => SBAS.satellites,
-        }
+        of_row!(self, .satellites)
     }
 
     /// Returns the number of the first satellite of the system in RINEX.

@@ -9,6 +9,17 @@
 #[derive(Clone, Copy)]
 pub struct ListedSignal(pub u8, pub [u8; 2], pub u32);
 
+/// The time scale of the epoch times of a system's MSMs, in milliseconds.
+#[derive(Clone, Copy)]
+pub enum TimeScale {
+    /// The time of week in GPS time.
+    Gps,
+    /// The time of week in BeiDou time, which is 14 s less than GPS time.
+    Beidou,
+    /// The day of the week, DF416, and the time of day, DF034, of UTC plus 3 h.
+    Glonass,
+}
+
 /// What differs between the systems.
 #[derive(Clone, Copy)]
 pub struct SystemRow {
@@ -22,10 +33,21 @@ pub struct SystemRow {
     pub(crate) first_number: u8,
     /// The satellites as a satellite mask, DF394, whose most significant bit is ID 1.
     pub(crate) satellite_mask: u64,
+    /// The message numbers of the MSMs, DF002, without their last digit.
+    pub(crate) msm_tens: u16,
+    /// The time scale of their epoch times.
+    pub(crate) time_scale: TimeScale,
     /// The signals, by rising signal ID.
     pub signals: &'static [ListedSignal],
     /// For each signal ID from 0 to 32, its index in `signals`, or `NO_ROW`.
     pub rows_by_id: &'static [u8],
+}
+
+/// Returns the number of keys of a system.
+macro_rules! keys {
+    ($row:ident) => {
+        $row.satellites as usize * $row.signals.len()
+    };
 }
 
 /// Largest number of satellites of a system.
@@ -39,6 +61,20 @@ pub const GALILEO_SIGNAL_COUNT: usize = GALILEO.signals.len();
 
 /// Largest number of signals of a system.
 pub const MOST_SIGNALS: usize = GALILEO_SIGNAL_COUNT;
+
+// The number of keys of the systems before each but GPS.
+pub(crate) const GALILEO_FIRST: usize = keys!(GPS);
+
+pub(crate) const GLONASS_FIRST: usize = GALILEO_FIRST + keys!(GALILEO);
+
+pub(crate) const BEIDOU_FIRST: usize = GLONASS_FIRST + keys!(GLONASS);
+
+pub(crate) const QZSS_FIRST: usize = BEIDOU_FIRST + keys!(BEIDOU);
+
+pub(crate) const SBAS_FIRST: usize = QZSS_FIRST + keys!(QZSS);
+
+/// Number of keys of all systems: one for each satellite of a system with each of its signals.
+pub const KEY_COUNT: usize = SBAS_FIRST + keys!(SBAS);
 
 /// The index of a signal ID that no signal has.
 pub const NO_ROW: u8 = 255;
@@ -101,6 +137,8 @@ pub(crate) const GPS: SystemRow = SystemRow {
     satellites: 32,
     first_number: 1,
     satellite_mask: 0xFFFF_FFFF_0000_0000,
+    msm_tens: 107,
+    time_scale: TimeScale::Gps,
     signals: signals! {
         L1 => 2 b"1C", 3 b"1P", 4 b"1W";
         L2 => 8 b"2C", 9 b"2P", 10 b"2W", 15 b"2S", 16 b"2L", 17 b"2X";
@@ -116,6 +154,8 @@ pub(crate) const GALILEO: SystemRow = SystemRow {
     satellites: 36,
     first_number: 1,
     satellite_mask: 0xFFFF_FFFF_F000_0000,
+    msm_tens: 109,
+    time_scale: TimeScale::Gps,
     signals: signals! {
         E1 => 2 b"1C", 3 b"1A", 4 b"1B", 5 b"1X", 6 b"1Z";
         E6 => 8 b"6C", 9 b"6A", 10 b"6B", 11 b"6X", 12 b"6Z";
@@ -132,6 +172,8 @@ pub(crate) const GLONASS: SystemRow = SystemRow {
     satellites: 27,
     first_number: 1,
     satellite_mask: 0xFFFF_FFE0_0000_0000,
+    msm_tens: 108,
+    time_scale: TimeScale::Glonass,
     signals: signals! {
         G1 => 2 b"1C", 3 b"1P";
         G2 => 8 b"2C", 9 b"2P";
@@ -145,6 +187,8 @@ pub(crate) const BEIDOU: SystemRow = SystemRow {
     satellites: 63,
     first_number: 1,
     satellite_mask: 0xFFFF_FFFF_FFFF_FFFE,
+    msm_tens: 112,
+    time_scale: TimeScale::Beidou,
     signals: signals! {
         B1 => 2 b"2I", 3 b"2Q", 4 b"2X";
         B3 => 8 b"6I", 9 b"6Q", 10 b"6X";
@@ -162,6 +206,8 @@ pub(crate) const QZSS: SystemRow = SystemRow {
     satellites: 10,
     first_number: 1,
     satellite_mask: 0xFFC0_0000_0000_0000,
+    msm_tens: 111,
+    time_scale: TimeScale::Gps,
     signals: signals! {
         L1 => 2 b"1C";
         E6 => 9 b"6S", 10 b"6L", 11 b"6X";
@@ -178,6 +224,8 @@ pub(crate) const SBAS: SystemRow = SystemRow {
     satellites: 39,
     first_number: 20,
     satellite_mask: 0xFFFF_FFFF_FE00_0000,
+    msm_tens: 110,
+    time_scale: TimeScale::Gps,
     signals: signals! {
         L1 => 2 b"1C";
         L5 => 22 b"5I", 23 b"5Q", 24 b"5X";

@@ -1,11 +1,12 @@
 -- The times of GLONASS in GPS time.
 use Rattle.std.proofs.Common.{◌≡◌, ℕ, ◌+◌, ◌-◌, ◌*◌, ◌%◌, ◌<◌, arith}
-use Rattle.rtcm_msg.specs.Msm.{week}
-use Rattle.obs_epoch.specs.TimeLaws.{IsGlonassTime, glonass_of_week}
+use Rattle.rtcm_msg.specs.Msm.{time_of_week, week}
+use Rattle.obs_epoch.specs.TimeLaws.{IsGlonassTime}
+use Rattle.gnss_system.specs.declared.system.System.TheVariants.{Glonass}
 
 three_hours_later : (n leap : ℕ) → ((n + (week - 10_800_000) + 1000 * leap) % week < week)
     × (((n + (week - 10_800_000) + 1000 * leap) % week + 10_800_000) % week ≡ (n + 1000 * leap) % week)
 three_hours_later n leap = (omega arith, omega arith)
 
 pub glonass_time : IsGlonassTime
-glonass_time leap time = three_hours_later (glonass_of_week time) leap
+glonass_time leap time = three_hours_later (time_of_week Glonass time) leap

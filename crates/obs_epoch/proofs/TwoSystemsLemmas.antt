@@ -2,7 +2,9 @@
 use Rattle.std.proofs.Common.{◌≡◌, ◌∙◌, ◌⊎◌, inl, inr, refl, sym, subst, ap, ℕ, ◌+◌, List, [], ◌∷◌, Bool, true, false, Option, Some, None, option_map, option_and_then, filter_map, is_some, nat_le, ◌&&◌, Result, Ok, Err, if◌then◌else◌}
 use Rattle.std.specs.List.{cons_option}
 use Rattle.gnss_system.specs.declared.system.System.{System}
-use Rattle.gnss_system.specs.declared.system.System.TheVariants.{Gps, Galileo, Glonass, Beidou, Qzss, Sbas}
+use Rattle.gnss_system.proofs.SystemLaws.{tabulated_same}
+use Rattle.gnss_system.specs.declared.by_system.BySystem.{BySystem}
+use Rattle.gnss_system.specs.declared.system.System.TheVariants.{Gps, Galileo}
 use Rattle.gnss_system.specs.Satellites.{Satellite, satellites}
 use Rattle.gnss_system.specs.Signals.{signal_of_id}
 use Rattle.gnss_system.specs.SystemValues.{of_two, value_of}
@@ -25,14 +27,18 @@ use Rattle.rtcm_msg.specs.declared.message.Message.TheVariants as message
 use Rattle.rtcm_msg.specs.declared.number.Forms.TheVariants.{FourAndSeven}
 use Rattle.rtcm_msg.specs.declared.number.MsmSet.{MsmSet}
 use Rattle.obs_epoch.specs.Heard.{Heard, heard, heard_in, heard_msm, heard_of, lock_by, observed, seen_in, tow_of, unlisted_in}
-use Rattle.obs_epoch.specs.Sets.{set_of}
+use Rattle.obs_epoch.specs.Sets.{is_always_decoded, is_decoded, set_of}
 use Rattle.obs_epoch.specs.TwoSystems.{AreReadPlainly, PlansTwo, plain_cell, plain_cell_of, plain_heard, plain_msm, plain_of, plain_unlisted}
 use Rattle.std.proofs.lemmas.Bool.{and_parts}
 
 -- What is decoded is the default set.
 pub default_decoded : (plan : PlanValue) → PlansTwo plan → set_of plan FourAndSeven ≡ default_set
 default_decoded plan two =
-    rw (two Glonass (λ e. cc e) (λ e. cc e), two Beidou (λ e. cc e) (λ e. cc e), two Qzss (λ e. cc e) (λ e. cc e), two Sbas (λ e. cc e) (λ e. cc e)) refl
+    ap (λ (systems : BySystem Bool). record { systems = systems; forms = FourAndSeven }) (tabulated_same (is_decoded plan) is_always_decoded same) where
+  same : (s : System) → is_decoded plan s ≡ is_always_decoded s
+  same Gps = refl
+  same Galileo = refl
+  same other = rw (two other (λ e. cc e) (λ e. cc e)) refl
 
 -- GPS or Galileo.
 abbrev IsOfTwo : System → Type 0

@@ -5,18 +5,18 @@ use Rattle.std.specs.Prelude.{is_some}
 use Rattle.std.specs.Prelude.{Result, Ok, Err}
 use Rattle.std.specs.Option.{option_map_or}
 use Rattle.gnss_system.specs.declared.system.System.{System}
-use Rattle.gnss_system.specs.declared.system.System.TheVariants.{Beidou, Glonass}
-use Rattle.gnss_system.specs.Satellites.{Satellite, satellite_of_id}
+use Rattle.gnss_system.specs.declared.tables.TimeScale.{TimeScale}
+use Rattle.gnss_system.specs.declared.tables.TimeScale.TheVariants.{Gps, Beidou, Glonass}
+use Rattle.gnss_system.specs.Satellites.{Satellite, satellite_of_id, time_scale}
 use Rattle.gnss_system.specs.Signals.{SignalAt, signal_of_id}
 use Rattle.gnss_obs.specs.Channels.{ChannelsValue, hertz_in}
 use Rattle.gnss_obs.specs.Observables.{nearest_pseudorange, phase_by, doppler_by, nearest_strength}
-use Rattle.gnss_obs.specs.Weeks.{day}
 use Rattle.gnss_obs.specs.LockTimes.{LockTime, times4, times7}
 use Rattle.rtcm_msg.specs.declared.station.StationParts.{StationParts}
 use Rattle.rtcm_msg.specs.declared.entry.Entry.{Entry}
 use Rattle.rtcm_msg.specs.declared.message.Message.{Message}
 use Rattle.rtcm_msg.specs.declared.message.Message.TheVariants as message
-use Rattle.rtcm_msg.specs.Msm.{MsmValue, week}
+use Rattle.rtcm_msg.specs.Msm.{MsmValue, time_of_week, week}
 use Rattle.rtcm_msg.specs.declared.entry.LockField.{LockField}
 use Rattle.rtcm_msg.specs.declared.entry.LockField.TheVariants.{Df402, Df407}
 use Rattle.rtcm_msg.specs.declared.summary.Summary.{Summary}
@@ -79,13 +79,16 @@ unlisted_in channels field system [] = 0
 unlisted_in channels field system (e ∷ es) =
     (if is_some (seen_in channels field system e) then 0 else 1) + unlisted_in channels field system es
 
--- The time of week in GPS time of an epoch time, both in milliseconds, with GPS time minus UTC in seconds: BeiDou time
--- is 14 s less than GPS time; GLONASS time is UTC plus 3 h, a day of the week in 3 bits (DF416) and a time of day in 27
--- (DF034).
+-- The time of week in GPS time of one in a time scale, both in milliseconds, with GPS time minus UTC in seconds: BeiDou
+-- time is 14 s less than GPS time, and GLONASS time is UTC plus 3 h.
+abbrev pub tow_in : TimeScale → ℕ → ℕ → ℕ
+tow_in Gps leap time = time
+tow_in Beidou leap time = (time + 14_000) % week
+tow_in Glonass leap time = (time + (week - 10_800_000) + 1000 * leap) % week
+
+-- That of an epoch time of a system.
 abbrev pub tow_of : System → ℕ → ℕ → ℕ
-tow_of Beidou leap time = (time + 14_000) % week
-tow_of Glonass leap time = (day * (time / 2 ^ 27) + time % 2 ^ 27 + (week - 10_800_000) + 1000 * leap) % week
-tow_of system leap time = time
+tow_of system leap time = tow_in (time_scale system) leap (time_of_week system time)
 
 abbrev pub heard_msm : ChannelsValue → ℕ → LockField → MsmValue → List Entry → Heard
 heard_msm channels leap field m es = record {

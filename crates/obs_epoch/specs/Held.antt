@@ -3,11 +3,8 @@ use Rattle.std.specs.Prelude.{[], ℕ, ◌+◌, ◌-◌, ◌*◌, ◌≡◌, Lis
 use Rattle.std.specs.Prelude.{count_by, fold, if◌then◌else◌, Option, Some, None, is_some}
 use Rattle.std.specs.Option.{option_map_or}
 use Rattle.gnss_system.specs.declared.system.System.{System}
-use Rattle.gnss_system.specs.Systems.{systems, before}
 use Rattle.gnss_obs.specs.Values.{EpochValue, cells_of}
-use Rattle.std.specs.List.{sum_by}
-use Rattle.gnss_system.specs.Satellites.{satellites}
-use Rattle.gnss_system.specs.Signals.{table}
+use Rattle.gnss_system.specs.Signals.{table, first_key, key_count}
 use Rattle.gnss_obs.specs.declared.cell.Cell.{Cell}
 use Rattle.obs_epoch.specs.Heard.{GatherSetup}
 use Rattle.gnss_obs.specs.HeardCells.{HeardCell, heard_cell}
@@ -23,16 +20,8 @@ use Rattle.gnss_obs.specs.declared.epoch_cells.Added.TheVariants as added
 
 -- ---- lock records: an entry for each key, system after system
 
--- The number of keys of a system: one for each of its satellites with each signal of its table.
-abbrev pub keys_of : System → ℕ
-keys_of system = satellites system * length (table system)
-
 abbrev pub most_locks : ℕ
-most_locks = sum_by keys_of systems
-
--- The number of keys of the systems before a system.
-abbrev pub base_of : System → ℕ
-base_of system = sum_by keys_of (before system)
+most_locks = key_count
 
 -- No key has a record.
 abbrev pub no_locks : List (Option KnownLock)
@@ -40,7 +29,7 @@ no_locks = replicate most_locks None
 
 -- The index of the entry of a key.
 abbrev pub lock_place_in : System → ℕ → ℕ → ℕ
-lock_place_in system id index = base_of system + (length (table system) * (id - 1) + index)
+lock_place_in system id index = first_key system + (length (table system) * (id - 1) + index)
 
 abbrev pub lock_place : HeardCell → ℕ
 lock_place x = lock_place_in x.satellite.system x.satellite.id x.signal.index

@@ -1,16 +1,11 @@
 -- The times of GLONASS in GPS time.
-use Rattle.std.specs.Prelude.{◌≡◌, ℕ, ◌+◌, ◌*◌, ◌/◌, ◌%◌, ◌^◌, ◌<◌}
+use Rattle.std.specs.Prelude.{◌≡◌, ℕ, ◌+◌, ◌*◌, ◌%◌, ◌<◌}
 use Rattle.gnss_system.specs.declared.system.System.TheVariants.{Glonass}
-use Rattle.gnss_obs.specs.Weeks.{day}
-use Rattle.rtcm_msg.specs.Msm.{week}
+use Rattle.rtcm_msg.specs.Msm.{time_of_week, week}
 use Rattle.obs_epoch.specs.Heard.{tow_of}
-
--- The milliseconds of the week in GLONASS time, of an epoch time.
-abbrev pub glonass_of_week : ℕ → ℕ
-glonass_of_week time = day * (time / 2 ^ 27) + time % 2 ^ 27
 
 -- The time of week in GPS time is below a week, and 3 h more is the time of the week in GLONASS time and the leap
 -- seconds, but for whole weeks.
 abbrev pub IsGlonassTime : Type 0
 IsGlonassTime = (leap time : ℕ) → (tow_of Glonass leap time < week)
-    × ((tow_of Glonass leap time + 10_800_000) % week ≡ (glonass_of_week time + 1000 * leap) % week)
+    × ((tow_of Glonass leap time + 10_800_000) % week ≡ (time_of_week Glonass time + 1000 * leap) % week)

@@ -9,23 +9,9 @@ ghost use Rattle.gnss_obs.specs.Values.{AreHeld};
 ghost use Rattle.gnss_system.specs.Systems.{systems};
 
 use gnss_obs::{Cell, Epoch, Lock, is_lost};
-use gnss_system::{SYSTEMS, System};
+use gnss_system::{KEY_COUNT, SYSTEMS, System};
 use std::alloc::{AllocError, Global};
 use std::marker::Model;
-
-// The first entry of each system but GPS. A system has one for each satellite and signal.
-const GALILEO_FIRST: usize = 32 * 15;
-
-const GLONASS_FIRST: usize = GALILEO_FIRST + 36 * 19;
-
-const BEIDOU_FIRST: usize = GLONASS_FIRST + 27 * 4;
-
-const QZSS_FIRST: usize = BEIDOU_FIRST + 63 * 16;
-
-const SBAS_FIRST: usize = QZSS_FIRST + 10 * 13;
-
-/// Largest number of lock records: one for each key of all systems.
-pub const MOST_LOCKS: usize = SBAS_FIRST + 39 * 4;
 
 /// A known lock, and the time of its epoch in milliseconds since 1980-01-06 00:00:00.
 #[derive(Clone, Copy)]
@@ -64,7 +50,7 @@ impl Locks {
     pub fn new(alloc: Global) -> Result<Locks, AllocError>
         ensures { IfOk result (λ l. l ≡ no_locks) }
     {
-        let records = vec![in alloc; None; MOST_LOCKS]?;
+        let records = vec![in alloc; None; KEY_COUNT]?;
         Ok(Locks { records, count: 0 })
     }
 
@@ -129,15 +115,10 @@ pub struct Keys {
 pub fn keys_of(system: System) -> Keys
     ensures { AreKeysOf system result }
 {
-    let (first, signals) = match system {
-        System::Gps => (0, 15),
-        System::Galileo => (GALILEO_FIRST, 19),
-        System::Glonass => (GLONASS_FIRST, 4),
-        System::Beidou => (BEIDOU_FIRST, 16),
-        System::Qzss => (QZSS_FIRST, 13),
-        System::Sbas => (SBAS_FIRST, 4),
-    };
-    Keys { first, signals }
+    Keys {
+        first: system.first_key(),
+        signals: system.signals(),
+    }
 }
 
 /// Records the locks of the cells of an epoch, one system after the other.

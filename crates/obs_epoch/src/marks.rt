@@ -9,9 +9,9 @@ ghost use Rattle.gnss_obs.specs.HeardCells.{IsKey, heard_cell};
 ghost use Rattle.gnss_obs.specs.Values.{AreHeld, cells_of};
 ghost use Rattle.gnss_system.specs.Systems.{systems};
 
-use crate::locks::{Keys, MOST_LOCKS, keys_of, lock_place};
+use crate::locks::{Keys, keys_of, lock_place};
 use gnss_obs::{Cell, Epoch};
-use gnss_system::{SYSTEMS, System};
+use gnss_system::{KEY_COUNT, SYSTEMS, System};
 use std::alloc::{AllocError, Global};
 use std::marker::Model;
 
@@ -42,7 +42,7 @@ impl Marks {
     pub fn new(alloc: Global) -> Result<Marks, AllocError>
         ensures { IfOk result (λ l. l ≡ no_marks) }
     {
-        let lost = vec![in alloc; false; MOST_LOCKS]?;
+        let lost = vec![in alloc; false; KEY_COUNT]?;
         Ok(Marks { lost })
     }
 

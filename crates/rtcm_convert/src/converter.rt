@@ -40,7 +40,8 @@ use std::io::Read;
 use std::marker::Model;
 
 /// Converts a stream to an observation file. It holds at most 1,029 bytes of the stream, 256 cells
-/// per system and 2,566 lock records; [`kept`](Converter::kept) returns their numbers.
+/// per system and `gnss_system::KEY_COUNT` lock records; [`kept`](Converter::kept) returns their
+/// numbers.
 #[derive(Drop)]
 pub struct Converter {
     framer: Framer,
@@ -59,7 +60,7 @@ pub struct Kept {
     /// Number of cells of each system of the pending epoch or, if none is pending, of the one closed
     /// last; at most 256.
     pub cells: BySystem<usize>,
-    /// Number of lock records, at most 2,566.
+    /// Number of lock records, at most `gnss_system::KEY_COUNT`.
     pub locks: usize,
     /// Number of reads of bytes in all.
     pub examined: u64,
@@ -420,8 +421,9 @@ impl Converter {
         self.file_writer.gatherer.cells(system)
     }
 
-    /// Returns the number of lock records held, from 0 to 2,566: one for each satellite and signal
-    /// of which a closed epoch has a kept cell with a valid phase and a known lock.
+    /// Returns the number of lock records held, at most `gnss_system::KEY_COUNT`: one for each
+    /// satellite and signal of which a closed epoch has a kept cell with a valid phase and a known
+    /// lock.
     pub fn locks(&self) -> usize
         ensures value { result ≡ recorded self.now.file_writer.gatherer.locks }
         ensures now { (s : SetupValue) (b : List ℕ) → HasConverted self.now s b

@@ -2,14 +2,15 @@
 use Rattle.std.proofs.lemmas.List.{length-set}
 use Rattle.std.proofs.lemmas.List.Elements.{All-replicate, All-set}
 use Rattle.std.proofs.lemmas.List.Sums.{fold-append}
-use Rattle.gnss_system.specs.declared.system.System.TheVariants.{Glonass, Beidou, Qzss, Sbas}
+use Rattle.gnss_system.specs.declared.system.System.TheVariants.{Glonass}
+use Rattle.gnss_system.proofs.SystemLaws.{system_same}
 use Rattle.rtcm_msg.specs.declared.view.Form.TheVariants as form
 use Rattle.rtcm_msg.specs.Decoding.{body_by, message_by}
 use Rattle.rtcm_msg.specs.Encoding.{number_of}
 use Rattle.rtcm_msg.specs.Fields.{cursor_at}
 use Rattle.rtcm_msg.specs.Numbers.{kind_of}
 use Rattle.rtcm_msg.proofs.MessageLaws.{message_there}
-use Rattle.rtcm_inspect.proofs.Names.{AreChannels, Bool, ChannelsValue, Err, Form, Framed, Galileo, Gps, IfSome, List, Message, MsgFault, MsmValue, None, Ok, Option, Other, Result, Some, System, [], ap, append-nil, arith, bits_of, channel_of_1020, channels_in, false, flat_map, flat_map-append, if◌then◌else◌, inspected, is_of_station, is_some, is_system, length, message_at, message_in, most_number, nat_le, nat_tests, no_channels, not, number_at, option_to_list, refl, sent_by, sent_channels, sent_in, sent_of, slot_count, sym, true, with_first, with_number, with_sent, ℕ, ◌&&◌, ◌++◌, ◌-◌, ◌==◌, ◌∙◌, ◌∷◌, ◌≡◌, ◌≤◌}
+use Rattle.rtcm_inspect.proofs.Names.{AreChannels, Bool, ChannelsValue, Err, Form, Framed, IfSome, List, Message, MsgFault, MsmValue, None, Ok, Option, Other, Result, Some, System, [], ap, append-nil, arith, bits_of, channel_of_1020, channels_in, false, flat_map, flat_map-append, if◌then◌else◌, inspected, is_of_station, is_some, is_system, length, message_at, message_in, most_number, nat_le, nat_tests, no_channels, not, number_at, option_to_list, refl, sent_by, sent_channels, sent_in, sent_of, slot_count, sym, true, with_first, with_number, with_sent, ℕ, ◌&&◌, ◌++◌, ◌-◌, ◌==◌, ◌∙◌, ◌∷◌, ◌≡◌, ◌≤◌}
 
 -- ---- only a message 1020 has the channel of one
 
@@ -45,12 +46,10 @@ msm_isnt_1020 form.Msm6 v = refl
 msm_isnt_1020 form.Msm7 v = refl
 
 another_system : (s : System) → (s ≡ Glonass → ⊥) → is_system s Glonass ≡ false
-another_system Glonass other = absurd (other refl)
-another_system Gps other = refl
-another_system Galileo other = refl
-another_system Beidou other = refl
-another_system Qzss other = refl
-another_system Sbas other = refl
+another_system s other = by (is_system s Glonass) refl where
+  by : (b : Bool) → is_system s Glonass ≡ b → b ≡ false
+  by true e = absurd (other (system_same s Glonass e))
+  by false e = refl
 
 pub none_of_another : (f : Form) (v : MsmValue) → (v.system ≡ Glonass → ⊥) → sent_channels (message_in f v) ≡ []
 none_of_another form.Msm4 v other = refl

@@ -2,8 +2,6 @@
 use Rattle.std.specs.Prelude.{ℕ, Bool, true, false, pos, List, [], ◌∷◌, Option, Some, None, Result, Ok, Err, is_some, count_ones, codes}
 use Rattle.std.specs.Prelude.{decimal, if◌then◌else◌, ◌+◌, ◌*◌, ◌/◌, ◌%◌, ◌^◌}
 use Rattle.std.specs.List.{flat_map}
-use Rattle.gnss_system.specs.declared.system.System.{System}
-use Rattle.gnss_system.specs.declared.system.System.TheVariants.{Glonass}
 use Rattle.rtcm_bits.specs.Bits.{bit}
 use Rattle.rtcm_scan.specs.Frames.{Framed}
 use Rattle.rtcm_msg.specs.declared.fault.MsgFault.{MsgFault}
@@ -11,7 +9,7 @@ use Rattle.rtcm_msg.specs.declared.fault.MsgFault.TheVariants.{Short, TooManyCel
 use Rattle.rtcm_msg.specs.declared.message.Message.{Message}
 use Rattle.rtcm_msg.specs.declared.message.Message.TheVariants.{Station, Msm4, Msm5, Msm6, Msm7, Other}
 use Rattle.rtcm_msg.specs.declared.station.StationParts.{StationParts}
-use Rattle.rtcm_msg.specs.Msm.{MsmValue}
+use Rattle.rtcm_msg.specs.Msm.{MsmValue, time_of_week}
 use Rattle.rtcm_msg.specs.Decoding.{message_at, message_with}
 use Rattle.rtcm_msg.specs.Numbers.{default_set, message_number}
 use Rattle.rtcm_msg.specs.declared.view.Form.TheVariants as forms
@@ -30,11 +28,6 @@ station_line offset s =
     line
     (decimal offset ∷ decimal (if is_some s.height then 1006 else 1005) ∷ decimal s.station ∷ metres s.x
     ∷ metres s.y ∷ metres s.z ∷ height_words s.height)
-
--- an epoch time of a system in ms of its week: of GLONASS a day of the week (DF416) and a time of day (DF034) in 27 bits
-abbrev pub time_of_week : System → ℕ → ℕ
-time_of_week Glonass time = 86_400_000 * (time / 2 ^ 27) + time % 2 ^ 27
-time_of_week system time = time
 
 -- an MSM: offset, number, station (DF003), time (ms of the week), DF393, and the numbers of satellites, signals and
 -- cells

@@ -12,14 +12,13 @@ ghost use Rattle.rtcm_inspect.specs.ShowLines.{fault_words};
 ghost use Rattle.rtcm_msg.specs.Fields.{GivesViewed};
 ghost use Rattle.rtcm_msg.specs.Viewed.{viewed_message};
 ghost use Rattle.rtcm_inspect.specs.ShowLines.{read_for};
-ghost use Rattle.rtcm_inspect.specs.ShowLines.{msm_line, show_line, show_lines, station_line, time_of_week};
+ghost use Rattle.rtcm_inspect.specs.ShowLines.{msm_line, show_line, show_lines, station_line};
 ghost use Rattle.rtcm_inspect.specs.Listing.{EndsListing, listing_line, listing_lines};
 
 use crate::fault::InspectFault;
-use gnss_system::System;
 use option_texts::OutputLine;
 use rtcm_bits::{BitReader, Counted, Deliver, DeviceFailed};
-use rtcm_msg::{MsgFault, MsmSet, MsmView, StationParts, View, look, look_in};
+use rtcm_msg::{MsgFault, MsmSet, MsmView, StationParts, View, look, look_in, time_of_week};
 use rtcm_scan::{Frame, FrameSink, Framer, MOST_BYTES, ScanFault, laws};
 use std::alloc::Global;
 use std::io::Read;
@@ -248,23 +247,12 @@ fn add_msm(line: &mut OutputLine, offset: u64, msm: &MsmView<'_>)
     line.put_number(offset);
     line.add_number(msm.number() as u64);
     line.add_number(header.station as u64);
-    line.add_number(time_of_week(msm.system(), header.time));
+    line.add_number(time_of_week(msm.system(), header.time) as u64);
     line.add_number(u64::from(header.more));
     line.add_number(msm.satellites() as u64);
     line.add_number(msm.masks().signals().count_ones() as u64);
     line.add_number(msm.cells() as u64);
     line.finish();
-}
-
-/// Returns an epoch time of a system in milliseconds of its week: of GLONASS the day of the week
-/// (DF416) and the time of day (DF034) are apart.
-fn time_of_week(system: System, time: u32) -> u64
-    ensures { result ≡ time_of_week system time }
-{
-    match system {
-        System::Glonass => 86_400_000 * u64::from(time / (1 << 27)) + u64::from(time % (1 << 27)),
-        _ => u64::from(time),
-    }
 }
 
 /// Adds the name of a fault and, for `Short`, the index of the first bit of the field.

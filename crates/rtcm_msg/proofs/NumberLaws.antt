@@ -5,7 +5,8 @@ use Rattle.std.specs.List.{find}
 use Rattle.gnss_system.specs.declared.system.System.{System}
 use Rattle.gnss_system.specs.Systems.{systems}
 use Rattle.rtcm_msg.specs.Names.{Kind, kind_of, station_number, message_number, Form}
-use Rattle.rtcm_msg.specs.Numbers.{digit_of, tens_of, form_of_digit, system_of_tens, msm_kind}
+use Rattle.gnss_system.specs.Satellites.{msm_tens, system_of_tens}
+use Rattle.rtcm_msg.specs.Numbers.{digit_of, form_of_digit, msm_kind}
 use Rattle.rtcm_msg.specs.declared.view.Form.TheVariants as forms
 use Rattle.rtcm_msg.specs.declared.number.Kind.TheVariants as kinds
 
@@ -26,11 +27,11 @@ found_passes : {A : Type 0} (p : A → Bool) (xs : List A) → IfSome (find p xs
 found_passes p [] = tt
 found_passes p (x ∷ xs) = first_passes p x (find p xs) (p x) refl (found_passes p xs)
 
-msm_number : (n : ℕ) (f : Option Form) (g : Option System) → IfSome f (λ f. (digit_of f == n % 10) ≡ true) → IfSome g (λ g. (tens_of g == n / 10) ≡ true) → IsNumber (msm_kind f g) n
+msm_number : (n : ℕ) (f : Option Form) (g : Option System) → IfSome f (λ f. (digit_of f == n % 10) ≡ true) → IfSome g (λ g. (msm_tens g == n / 10) ≡ true) → IsNumber (msm_kind f g) n
 msm_number n f g h k = grind arith
 
 pub number_is : (n : ℕ) (k : Kind) → kind_of n ≡ k → IsNumber k n
-number_is n k e = subst (λ (k : Kind). IsNumber k n) e (row_is (n == 1005) n 1005 _ _ refl refl (row_is (n == 1006) n 1006 _ _ refl refl (msm_number n (form_of_digit (n % 10)) (system_of_tens (n / 10)) (found_passes (λ f. digit_of f == n % 10) (forms.Msm4 ∷ forms.Msm5 ∷ forms.Msm6 ∷ forms.Msm7 ∷ [])) (found_passes (λ g. tens_of g == n / 10) systems))))
+number_is n k e = subst (λ (k : Kind). IsNumber k n) e (row_is (n == 1005) n 1005 _ _ refl refl (row_is (n == 1006) n 1006 _ _ refl refl (msm_number n (form_of_digit (n % 10)) (system_of_tens (n / 10)) (found_passes (λ f. digit_of f == n % 10) (forms.Msm4 ∷ forms.Msm5 ∷ forms.Msm6 ∷ forms.Msm7 ∷ [])) (found_passes (λ g. msm_tens g == n / 10) systems))))
 
 pub of_station : (has : Bool) → (kind_of (station_number has) ≡ kinds.Station has) × (station_number has < 2 ^ 12)
 of_station has = grind arith
@@ -38,7 +39,7 @@ of_station has = grind arith
 digit_known : (form : Form) → (form_of_digit (digit_of form) ≡ Some form) × (digit_of form < 10)
 digit_known form = grind arith
 
-tens_known : (g : System) → (system_of_tens (tens_of g) ≡ Some g) × (100 < tens_of g) × (tens_of g < 400)
+tens_known : (g : System) → (system_of_tens (msm_tens g) ≡ Some g) × (100 < msm_tens g) × (msm_tens g < 400)
 tens_known g = grind arith
 
 pub of_msm : (form : Form) (g : System) → (kind_of (message_number form g) ≡ kinds.Msm form g) × (message_number form g < 2 ^ 12)
@@ -48,8 +49,8 @@ of_msm form g =
     let n = message_number form g in
     let a : (n == 1005) ≡ false = other n 1005 (omega (arith, t.1)) in
     let b : (n == 1006) ≡ false = other n 1006 (omega (arith, t.1)) in
-    let low : n % 10 ≡ digit_of form = low_ten (tens_of g) (digit_of form) d.1 in
-    let high : n / 10 ≡ tens_of g = shr_ten (tens_of g) (digit_of form) d.1 in
+    let low : n % 10 ≡ digit_of form = low_ten (msm_tens g) (digit_of form) d.1 in
+    let high : n / 10 ≡ msm_tens g = shr_ten (msm_tens g) (digit_of form) d.1 in
     (rw (a, b, low, high, d.0, t.0) refl, omega (arith, d.1, t.2))
   where
     other : (n m : ℕ) → m < n → (n == m) ≡ false

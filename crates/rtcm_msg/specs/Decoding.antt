@@ -1,6 +1,7 @@
 -- The message that bits are decoded to.
-use Rattle.std.specs.Prelude.{ℕ, ◌%◌, ◌==◌, ◌&&◌, nat_lt, nat_le, if◌then◌else◌, Bool, List, length}
-use Rattle.std.specs.Prelude.{Option, Some, None, Result, Ok}
+use Rattle.std.specs.Prelude.{ℕ, ◌/◌, ◌%◌, ◌==◌, ◌&&◌, nat_lt, nat_le, if◌then◌else◌, Bool, List, length}
+use Rattle.std.specs.Prelude.{Option, Some, None, is_some, Result, Ok}
+use Rattle.gnss_system.specs.Satellites.{system_of_tens}
 use Rattle.rtcm_bits.specs.Bits.{bits_of}
 use Rattle.rtcm_bits.specs.Cursors.{Cursor, advanced, unsigned_at}
 use Rattle.rtcm_msg.specs.declared.fault.MsgFault.{MsgFault}
@@ -14,9 +15,9 @@ use Rattle.rtcm_msg.specs.declared.number.MsmSet.{MsmSet}
 use Rattle.rtcm_msg.specs.Numbers.{kind_of, kind_with}
 use Rattle.rtcm_msg.specs.Views.{formed_at}
 
--- The message numbers of the MSMs of GPS, GLONASS, Galileo, SBAS, QZSS and BeiDou.
+-- The message numbers of the MSMs of the systems.
 abbrev pub is_any_msm : ℕ → Bool
-is_any_msm n = nat_le 1071 n && nat_le n 1127 && nat_le 1 (n % 10) && nat_le (n % 10) 7
+is_any_msm n = is_some (system_of_tens (n / 10)) && nat_le 1 (n % 10) && nat_le (n % 10) 7
 
 -- The station and DF393 of an MSM, after its message number.
 abbrev pub set_at : Cursor → Option (ℕ × Bool)

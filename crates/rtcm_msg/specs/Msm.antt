@@ -1,7 +1,9 @@
 -- The values of multiple signal messages.
 use Rattle.gnss_system.specs.declared.system.System.{System}
-use Rattle.gnss_system.specs.declared.system.System.TheVariants.{Glonass}
-use Rattle.std.specs.Prelude.{[], ◌≡◌, ℕ, ◌==◌, ◌*◌, ◌/◌, ◌%◌, ◌^◌, ◌<◌, ◌≤◌, ◌&&◌, nat_lt, if◌then◌else◌, Bool, List, ◌∷◌}
+use Rattle.gnss_system.specs.declared.tables.TimeScale.{TimeScale}
+use Rattle.gnss_system.specs.declared.tables.TimeScale.TheVariants.{Glonass}
+use Rattle.gnss_system.specs.Satellites.{time_scale}
+use Rattle.std.specs.Prelude.{[], ◌≡◌, ℕ, ◌+◌, ◌==◌, ◌*◌, ◌/◌, ◌%◌, ◌^◌, ◌<◌, ◌≤◌, ◌&&◌, nat_lt, if◌then◌else◌, Bool, List, ◌∷◌}
 use Rattle.std.specs.Prelude.{◌++◌, length, Result, Ok, Err, replicate, count_ones, IsTrue}
 use Rattle.rtcm_bits.specs.Cursors.{Cursor}
 use Rattle.rtcm_msg.specs.declared.fault.MsgFault.{MsgFault}
@@ -24,9 +26,20 @@ longest_day = 86401000
 
 -- An epoch time of a system: milliseconds of the week. Of GLONASS the day of the week, DF416, and in the low 27 bits
 -- the milliseconds of the day, DF034; day 7 is an unknown one.
+abbrev pub is_time_in : TimeScale → ℕ → Bool
+is_time_in Glonass time = nat_lt (time / 2 ^ 27) 7 && nat_lt (time % 2 ^ 27) longest_day
+is_time_in scale time = nat_lt time week
+
 abbrev pub is_time : System → ℕ → Bool
-is_time Glonass time = nat_lt (time / 2 ^ 27) 7 && nat_lt (time % 2 ^ 27) longest_day
-is_time system time = nat_lt time week
+is_time system time = is_time_in (time_scale system) time
+
+-- The same as milliseconds of the week in the time scale of the system.
+abbrev pub time_of_week_in : TimeScale → ℕ → ℕ
+time_of_week_in Glonass time = 86400000 * (time / 2 ^ 27) + time % 2 ^ 27
+time_of_week_in scale time = time
+
+abbrev pub time_of_week : System → ℕ → ℕ
+time_of_week system time = time_of_week_in (time_scale system) time
 
 -- The width of the satellite mask: one bit for each satellite ID, from 1 on.
 abbrev pub satellite_mask_bits : ℕ

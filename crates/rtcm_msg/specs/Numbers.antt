@@ -3,8 +3,7 @@ use Rattle.std.specs.Prelude.{ℕ, ◌+◌, ◌*◌, ◌/◌, ◌%◌, ◌==◌,
 use Rattle.std.specs.Prelude.{Option, Some, None}
 use Rattle.std.specs.List.{find}
 use Rattle.gnss_system.specs.declared.system.System.{System}
-use Rattle.gnss_system.specs.declared.system.System.TheVariants.{Gps, Galileo, Glonass, Beidou, Qzss, Sbas}
-use Rattle.gnss_system.specs.Systems.{systems}
+use Rattle.gnss_system.specs.Satellites.{msm_tens, system_of_tens}
 use Rattle.gnss_system.specs.SystemValues.{value_of, of_two}
 use Rattle.rtcm_msg.specs.declared.view.Form.{Form}
 use Rattle.rtcm_msg.specs.declared.view.Form.TheVariants as forms
@@ -17,15 +16,6 @@ use Rattle.rtcm_msg.specs.declared.number.MsmSet.{MsmSet}
 abbrev pub station_number : Bool → ℕ
 station_number has_height = if has_height then 1006 else 1005
 
--- The numbers of a system's MSMs, without their last digit.
-abbrev pub tens_of : System → ℕ
-tens_of Gps = 107
-tens_of Galileo = 109
-tens_of Glonass = 108
-tens_of Beidou = 112
-tens_of Qzss = 111
-tens_of Sbas = 110
-
 -- The last digit of the numbers of a form.
 abbrev pub digit_of : Form → ℕ
 digit_of forms.Msm4 = 4
@@ -34,13 +24,10 @@ digit_of forms.Msm6 = 6
 digit_of forms.Msm7 = 7
 
 abbrev pub message_number : Form → System → ℕ
-message_number form system = tens_of system * 10 + digit_of form
+message_number form system = msm_tens system * 10 + digit_of form
 
 abbrev pub form_of_digit : ℕ → Option Form
 form_of_digit d = find (λ f. digit_of f == d) (forms.Msm4 ∷ forms.Msm5 ∷ forms.Msm6 ∷ forms.Msm7 ∷ [])
-
-abbrev pub system_of_tens : ℕ → Option System
-system_of_tens t = find (λ s. tens_of s == t) systems
 
 abbrev pub msm_kind : Option Form → Option System → Kind
 msm_kind None system = kinds.Other

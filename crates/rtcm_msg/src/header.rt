@@ -1,17 +1,17 @@
 //! The header of an MSM and its masks: its satellites, its signals and its cells.
-ghost use Rattle.std.specs.Prelude.{◌≡◌, ◌*◌, ◌≤◌, Ok, Err, IfOk, IfErr, IfNone, IsTrue, length};
+ghost use Rattle.std.specs.Prelude.{◌≡◌, ◌*◌, ◌<◌, ◌≤◌, Ok, Err, IfOk, IfErr, IfNone, IsTrue, length};
 ghost use Rattle.gnss_system.specs.declared.system.System.{System};
 ghost use Rattle.rtcm_bits.specs.Bits.{bits_of};
 ghost use Rattle.rtcm_bits.specs.FrameOf.{longest_message};
 ghost use Rattle.rtcm_msg.specs.Fields.{cursor_at};
-ghost use Rattle.rtcm_msg.specs.Msm.{header_at, header_in, masks_at, AreMasks, is_time, IsHeader};
+ghost use Rattle.rtcm_msg.specs.Msm.{header_at, header_in, masks_at, AreMasks, is_time, time_of_week, IsHeader};
 ghost use Rattle.rtcm_msg.specs.Views.{formed_at};
 ghost use Rattle.rtcm_msg.specs.declared.view.Form.{Form};
 ghost use Rattle.rtcm_msg.specs.Refusals.{header_fault, masks_of};
 
 use crate::fault::{Field, MsgFault, ValueFault, first_of};
 use crate::field::{byte_at, end_of_fields, flag_at};
-use gnss_system::System;
+use gnss_system::{System, TimeScale};
 use rtcm_bits::number_at;
 use std::marker::Model;
 
@@ -53,9 +53,22 @@ const LONGEST_DAY: u32 = 86_401_000;
 pub(crate) fn is_time(system: System, time: u32) -> bool
     ensures { result ≡ is_time system time }
 {
-    match system {
-        System::Glonass => time >> DAY_BITS < 7 && time % (1 << DAY_BITS) < LONGEST_DAY,
+    match system.time_scale() {
+        TimeScale::Glonass => time >> DAY_BITS < 7 && time % (1 << DAY_BITS) < LONGEST_DAY,
         _ => time < WEEK,
+    }
+}
+
+/// Returns an epoch time of a system in milliseconds of the week in its time scale: of GLONASS the
+/// day of the week, DF416, and the time of day, DF034, are apart.
+#[inline(always)]
+pub fn time_of_week(system: System, time: u32) -> u32
+    ensures value { result ≡ time_of_week system time }
+    ensures bound { IsTrue (is_time system time) → result < 604801000 }
+{
+    match system.time_scale() {
+        TimeScale::Glonass => 86_400_000 * (time >> DAY_BITS) + time % (1 << DAY_BITS),
+        _ => time,
     }
 }
 

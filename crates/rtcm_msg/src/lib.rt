@@ -33,7 +33,7 @@ pub use entry::{Entry, LockField};
 pub use fault::{Field, MsgFault, ValueFault};
 pub use gnss_system::System;
 pub use grid::{Grid, Grid4, Grid5, Grid6, Grid7};
-pub use header::{Masks, MsmHeader, WEEK};
+pub use header::{Masks, MsmHeader, WEEK, time_of_week};
 pub use message::{Message, decode, encode};
 pub use msm::Msm;
 pub use number::{Forms, MsmSet};

@@ -18,6 +18,7 @@ use crate::station::Station;
 use crate::view::{View, look};
 use crate::writing::write_station;
 use arrayvec::ArrayVec;
+use gnss_system::System;
 use rtcm_bits::{BitWriter, LONGEST_MESSAGE, number_at};
 
 /// A message of RTCM 10403.3.
@@ -33,7 +34,7 @@ pub enum Message {
     Msm6(Msm<Grid6>),
     /// MSM7, as 1077.
     Msm7(Msm<Grid7>),
-    /// A message of any other number, DF002. For an MSM of any type, 1071 to 1127, `set` is its
+    /// A message of any other number, DF002. For an MSM of any type, MSM1 to MSM7, `set` is its
     /// station, DF003, and its multiple message bit, DF393, if the message contains them.
     Other {
         number: u16,
@@ -41,15 +42,15 @@ pub enum Message {
     },
 }
 
-/// Reads the station, DF003, and the multiple message bit, DF393, of an MSM of any type, 1071 to
-/// 1127, after its message number. `None` for another number, or if the message does not contain
+/// Reads the station, DF003, and the multiple message bit, DF393, of an MSM of any type, MSM1
+/// to MSM7, after its message number. `None` for another number, or if the message does not contain
 /// them.
 pub(crate) fn read_set(number: u16, bytes: &[u8]) -> Option<(u16, bool)>
     requires number { 12 ≤ 8 * length bytes.now }
     requires small { length bytes.now ≤ longest_message }
     ensures { result ≡ set_in number (cursor_at (bits_of bytes.now) 12) }
 {
-    if number < 1071 || number > 1127 || number % 10 < 1 || number % 10 > 7 {
+    if System::from_msm_tens(number / 10).is_none() || number % 10 < 1 || number % 10 > 7 {
         return None;
     }
     if bytes.len() < 7 {

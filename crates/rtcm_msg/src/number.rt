@@ -21,15 +21,7 @@ pub(crate) fn message_number(form: Form, system: System) -> u16
     ensures value { result ≡ numbers.message_number form system }
     ensures bound { result < 2 ^ 12 }
 {
-    let tens = match system {
-        System::Gps => 107,
-        System::Galileo => 109,
-        System::Glonass => 108,
-        System::Beidou => 112,
-        System::Qzss => 111,
-        System::Sbas => 110,
-    };
-    tens * 10 + form as u16
+    system.msm_tens() * 10 + form as u16
 }
 
 /// Returns the form whose message numbers end with a digit.
@@ -41,21 +33,6 @@ fn form_of_digit(digit: u16) -> Option<Form>
         5 => Some(Form::Msm5),
         6 => Some(Form::Msm6),
         7 => Some(Form::Msm7),
-        _ => None,
-    }
-}
-
-/// Returns the system of the MSMs whose numbers, without the last digit, are `tens`.
-fn system_of_tens(tens: u16) -> Option<System>
-    ensures { result ≡ numbers.system_of_tens tens }
-{
-    match tens {
-        107 => Some(System::Gps),
-        109 => Some(System::Galileo),
-        108 => Some(System::Glonass),
-        112 => Some(System::Beidou),
-        111 => Some(System::Qzss),
-        110 => Some(System::Sbas),
         _ => None,
     }
 }
@@ -118,7 +95,10 @@ impl MsmSet {
         if number == 1005 || number == 1006 {
             return Kind::Station(number == 1006);
         }
-        match (form_of_digit(number % 10), system_of_tens(number / 10)) {
+        match (
+            form_of_digit(number % 10),
+            System::from_msm_tens(number / 10),
+        ) {
             (Some(form), Some(system)) if *self.systems.of(system) && self.forms.have(form) => {
                 Kind::Msm(form, system)
             }

@@ -1,4 +1,6 @@
-use Rattle.std.proofs.Common.{ℕ, ◌%◌, true, false, nat_le, ◌≡◌, ◌*◌, ◌<◌, ◌≤◌, ◌==◌, length, List, arith, refl, ◌∙◌, sym, Some, None}
+use Rattle.std.proofs.Common.{ℕ, ◌/◌, ◌%◌, true, false, nat_le, ◌≡◌, ◌*◌, ◌<◌, ◌≤◌, ◌==◌, length, List, arith, refl, ◌∙◌, sym, Some, None, Option, is_some}
+use Rattle.gnss_system.specs.declared.system.System.{System}
+use Rattle.gnss_system.specs.Satellites.{system_of_tens}
 use Rattle.rtcm_msg.specs.Names.{bits_of, Cursor, cursor_at, field_at, set_at, set_in, is_any_msm}
 use Rattle.rtcm_bits.specs.BitLaws.{length-bits_of}
 use Rattle.rtcm_msg.proofs.MessageLaws.{other_set}
@@ -14,14 +16,14 @@ set_there bytes h many =
     let more : nat_le 55 (length (bits_of bytes)) ≡ true = grind (arith, length-bits_of bytes, many) in
     other_set (bits_of bytes) (rw (length-bits_of bytes) h) ∙ rw more refl
 
-is_set : (n : ℕ) (c : Cursor) → 1071 ≤ n → n ≤ 1127 → 1 ≤ n % 10 → n % 10 ≤ 7 → set_at c ≡ set_in n c
-is_set n c a b d e = let any : is_any_msm n ≡ true = grind (arith, a, b, d, e) in rw any refl
+is_set : (n : ℕ) (c : Cursor) (found : Option System) → found ≡ system_of_tens (n / 10) → is_some found ≡ true → 1 ≤ n % 10 → n % 10 ≤ 7 → set_at c ≡ set_in n c
+is_set n c found e some d f = let any : is_any_msm n ≡ true = grind (arith, e, some, d, f) in rw any refl
 
 pub returns-then-bytes-lt7 : goal.returns-then-bytes-lt7
 returns-then-bytes-lt7 c =
-    sym (set_short c.args.bytes.now c.requires.number c.if-bytes-lt7.true) ∙ is_set c.args.number (cursor_at (bits_of c.args.bytes.now) 12) c.if-number-lt1071.false c.if-number-gt1127.false c.if-number-lt1.false c.if-number-gt7.false
+    sym (set_short c.args.bytes.now c.requires.number c.if-bytes-lt7.true) ∙ is_set c.args.number (cursor_at (bits_of c.args.bytes.now) 12) _ c.from_msm_tens.ensures (grind (arith, c.is_none.ensures, c.if-is_none.false)) c.if-number-lt1.false c.if-number-gt7.false
 
 pub returns : goal.returns
 returns c =
     rw (c.number_at.ensures.value, c.flag_at.ensures)
-    (sym (set_there c.args.bytes.now c.requires.number c.if-bytes-lt7.false) ∙ is_set c.args.number (cursor_at (bits_of c.args.bytes.now) 12) c.if-number-lt1071.false c.if-number-gt1127.false c.if-number-lt1.false c.if-number-gt7.false)
+    (sym (set_there c.args.bytes.now c.requires.number c.if-bytes-lt7.false) ∙ is_set c.args.number (cursor_at (bits_of c.args.bytes.now) 12) _ c.from_msm_tens.ensures (grind (arith, c.is_none.ensures, c.if-is_none.false)) c.if-number-lt1.false c.if-number-gt7.false)
