@@ -5,7 +5,7 @@ ghost use Rattle.std.specs.Option.{ForSome};
 ghost use Rattle.rtcm_msg.specs.Msm.{codes_of, most_pairs, week};
 ghost use Rattle.rtcm_msg.specs.Entries.{IsEntry, entries};
 ghost use Rattle.rtcm_msg.specs.Viewed.{viewed_message};
-ghost use Rattle.rtcm_msg.specs.Forms.{lock_field};
+ghost use Rattle.rtcm_msg.specs.Forms.{form_as, lock_field};
 ghost use Rattle.rtcm_msg.specs.Views.{formed};
 ghost use Rattle.gnss_obs.specs.Weeks.{weeks};
 ghost use Rattle.obs_epoch.specs.Heard.{Heard, heard_by, heard_summary};
@@ -39,8 +39,7 @@ use crate::taken::{CellCounts, Kind, Taken};
 use crate::tow::summary_of;
 use gnss_obs::{Added, Cell, Epoch, EpochCells, Plan, PlanFault, StationValues, System};
 use rtcm_msg::{
-    Entries, Entry, Form, Grid, Grid4, Grid5, Grid6, Grid7, LockField, Message, MsmView, Summary,
-    View,
+    Entries, Entry, Form, LockField, Message, MsmView, Summary, View, form_as,
 };
 use std::alloc::Global;
 use std::marker::Model;
@@ -350,25 +349,25 @@ impl Gatherer {
             (entries (formed m.now)) }
     {
         match m.form() {
-            Form::Msm4 => self.load_as::<S, Grid4>(m),
-            Form::Msm5 => self.load_as::<S, Grid5>(m),
-            Form::Msm6 => self.load_as::<S, Grid6>(m),
-            Form::Msm7 => self.load_as::<S, Grid7>(m),
+            Form::Msm4 => self.load_as::<S, 4>(m),
+            Form::Msm5 => self.load_as::<S, 5>(m),
+            Form::Msm6 => self.load_as::<S, 6>(m),
+            Form::Msm7 => self.load_as::<S, 7>(m),
         }
     }
 
-    // Processes the cells of a message of system `S` and form `G`. It isn't inlined, so that the
-    // loop over them is compiled by itself for each `S` and `G`.
+    // Processes the cells of a message of system `S` and form `F`. It isn't inlined, so that the
+    // loop over them is compiled by itself for each `S` and `F`.
     #[inline(never)]
-    fn load_as<const S: usize, G: Grid>(&mut self, m: &MsmView<'_>) -> CellCounts
-        requires form { G.form ≡ m.now.form }
+    fn load_as<const S: usize, const F: usize>(&mut self, m: &MsmView<'_>) -> CellCounts
+        requires form { form_as F ≡ m.now.form }
         requires system { system_as S m.now.msm.system ≡ m.now.msm.system }
         requires pending { self.old.clock.pending ≡ true }
         ensures { record { state = self.new; counts = result }
             ≡ load_entries (lock_field m.now.form) m.now.msm.system (record { state = self.old; counts = no_counts })
             (entries (formed m.now)) }
     {
-        self.take_all::<S, G>(m.system(), &mut m.entries())
+        self.take_all::<S, F>(m.system(), &mut m.entries())
     }
 
     // Keeps a cell of a planned signal, unless a cell of its key is kept or there is no room, and
@@ -391,14 +390,14 @@ impl Gatherer {
         count(self.pending.add(x), n);
     }
 
-    // Processes the cells of a message of this system, which is `S`, and form `G`, and returns their
+    // Processes the cells of a message of this system, which is `S`, and form `F`, and returns their
     // outcomes.
-    fn take_all<const S: usize, G: Grid>(
+    fn take_all<const S: usize, const F: usize>(
         &mut self,
         system: System,
         cells: &mut Entries<'_>,
     ) -> CellCounts
-        requires form { G.form ≡ cells.old.form }
+        requires form { form_as F ≡ cells.old.form }
         requires system { system_as S system ≡ system }
         requires pending { self.old.clock.pending ≡ true }
         requires few { length cells.old.left ≤ most_pairs }
@@ -406,9 +405,9 @@ impl Gatherer {
             ≡ load_entries (lock_field cells.old.form) system (record { state = self.old; counts = no_counts })
             cells.old.left }
     {
-        let (field, system) = (G::form().lock_field(), system_as::<S>(system));
+        let (field, system) = (form_as::<F>().lock_field(), system_as::<S>(system));
         let mut counts = CellCounts::default();
-        while let Some(entry) = cells.next_in::<G>() {
+        while let Some(entry) = cells.next_in::<F>() {
             self.take_entry(field, system, &entry, &mut counts);
         }
         counts

@@ -1,5 +1,5 @@
 -- The forms of multiple signal messages: the fields of a satellite and of a cell, and their meaning.
-use Rattle.std.specs.Prelude.{◌≡◌, ℕ, ℤ, negsuc, ◌^◌, ◌-◌, ◌<◌, List, [], ◌∷◌, Bool, true, false, not, nat_le, Option}
+use Rattle.std.specs.Prelude.{◌≡◌, ◌==◌, ℕ, ℤ, negsuc, ◌^◌, ◌-◌, ◌<◌, List, [], ◌∷◌, Bool, true, false, not, nat_le, Option}
 use Rattle.std.specs.Prelude.{if◌then◌else◌}
 use Rattle.std.specs.Ordering.{int_eq}
 use Rattle.std.specs.List.{find, list_any}
@@ -19,6 +19,11 @@ use Rattle.rtcm_msg.specs.declared.data.Cell.{Cell}
 use Rattle.rtcm_msg.specs.declared.fault.Field.TheVariants as fields
 use Rattle.rtcm_msg.specs.declared.view.Form.TheVariants as forms
 use Rattle.rtcm_msg.specs.Fractions as fractions
+
+-- The form whose message numbers end with this digit, MSM7 for any other.
+abbrev pub form_as : ℕ → Form
+form_as digit =
+    if digit == 4 then forms.Msm4 else (if digit == 5 then forms.Msm5 else (if digit == 6 then forms.Msm6 else forms.Msm7))
 
 -- ---- what differs between the forms
 

@@ -7,10 +7,10 @@ ghost use Rattle.rtcm_msg.specs.Forms.{IsSatelliteData, IsCellData, precision};
 ghost use Rattle.rtcm_msg.specs.declared.view.Form.{Form};
 
 use crate::data::{Cell, Satellite, rate};
-use crate::view::Form;
+use crate::view::{Form, form_as};
 
-/// A form of MSMs as a type, so that messages of two forms have two types, and a loop over cells is
-/// compiled for one form. The functions are those of the form.
+/// A form of MSMs as a type, so that messages of two forms have two types. The functions are those
+/// of the form.
 pub trait Grid {
     /// The form.
     ghost form: { Form };
@@ -106,58 +106,28 @@ pub trait Grid {
     }
 }
 
-/// The form of MSM4.
-pub struct Grid4;
+/// The form of this number, see `form_as`.
+pub struct GridOf<const F: usize>;
 
-impl Grid for Grid4 {
-    ghost use Rattle.rtcm_msg.specs.declared.view.Form.TheVariants.{Msm4};
+impl<const F: usize> Grid for GridOf<F> {
+    ghost use Rattle.rtcm_msg.specs.Forms.{form_as};
 
-    ghost form = { Msm4 };
+    ghost form = { form_as F };
 
     #[inline(always)]
     fn form() -> Form {
-        Form::Msm4
+        form_as::<F>()
     }
 }
+
+/// The form of MSM4.
+pub type Grid4 = GridOf<4>;
 
 /// The form of MSM5.
-pub struct Grid5;
-
-impl Grid for Grid5 {
-    ghost use Rattle.rtcm_msg.specs.declared.view.Form.TheVariants.{Msm5};
-
-    ghost form = { Msm5 };
-
-    #[inline(always)]
-    fn form() -> Form {
-        Form::Msm5
-    }
-}
+pub type Grid5 = GridOf<5>;
 
 /// The form of MSM6.
-pub struct Grid6;
-
-impl Grid for Grid6 {
-    ghost use Rattle.rtcm_msg.specs.declared.view.Form.TheVariants.{Msm6};
-
-    ghost form = { Msm6 };
-
-    #[inline(always)]
-    fn form() -> Form {
-        Form::Msm6
-    }
-}
+pub type Grid6 = GridOf<6>;
 
 /// The form of MSM7.
-pub struct Grid7;
-
-impl Grid for Grid7 {
-    ghost use Rattle.rtcm_msg.specs.declared.view.Form.TheVariants.{Msm7};
-
-    ghost form = { Msm7 };
-
-    #[inline(always)]
-    fn form() -> Form {
-        Form::Msm7
-    }
-}
+pub type Grid7 = GridOf<7>;

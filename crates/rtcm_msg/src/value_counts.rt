@@ -6,17 +6,16 @@ ghost use Rattle.rtcm_msg.specs.Msm.{satellite_mask_bits, signal_mask_bits, most
 ghost use Rattle.rtcm_msg.specs.Entries.{entries, entry_in, ids};
 ghost use Rattle.rtcm_msg.specs.Pairs.{HasFirst};
 ghost use Rattle.rtcm_msg.specs.Views as views;
-ghost use Rattle.rtcm_msg.specs.Forms.{satellite_data};
+ghost use Rattle.rtcm_msg.specs.Forms.{form_as, satellite_data};
 ghost use Rattle.rtcm_msg.specs.Presences.{has_rest};
 ghost use Rattle.rtcm_msg.specs.declared.pairs.Pair.{Pair};
 ghost use Rattle.rtcm_msg.specs.ValueCounts.{has_listed_value, value_count, has_id};
 ghost use Rattle.rtcm_msg.specs.ValueCounts.{entries_left, AreCells, AreAtMost, AddsCounts};
 
 use crate::data::INVALID_ROUGH_RANGE;
-use crate::grid::{Grid, Grid4, Grid5, Grid6, Grid7};
 use crate::header::SIGNAL_MASK_BITS;
 use crate::pairs::{CellsLeft, Pair, split_first, split_signal, with_signals};
-use crate::view::{Form, MsmView};
+use crate::view::{Form, MsmView, form_as};
 use std::marker::Model;
 
 /// Number of signal IDs, one for each bit of the signal mask, as the length of an array.
@@ -46,8 +45,8 @@ impl<'a> MsmView<'a> {
     /// Returns whether cell `i`, which is of the satellite and the signal of `pair`, has a value
     /// and its satellite is in a set. Most cells have a pseudorange: no other field is read then.
     #[inline(always)]
-    fn has_listed_value<G: Grid>(&self, listed: u64, pair: Pair, whole: u8, i: usize) -> bool
-        requires form { G.form ≡ self.now.form }
+    fn has_listed_value<const F: usize>(&self, listed: u64, pair: Pair, whole: u8, i: usize) -> bool
+        requires form { form_as F ≡ self.now.form }
         requires satellite { pair.index < length self.now.msm.satellites }
         requires whole { whole ≡ (satellite_data self.now.form (slice_index self.now.msm.satellites pair.index)).whole }
         requires cell { i < length self.now.msm.cells }
@@ -56,20 +55,21 @@ impl<'a> MsmView<'a> {
             (entry_in self.now.form self.now.msm (pair, slice_index self.now.msm.cells i)) }
     {
         (listed >> (64 - pair.satellite)) % 2 == 1
-            && ((whole != INVALID_ROUGH_RANGE && G::form().has_fine_range(&self.cell(G::form(), i)))
+            && ((whole != INVALID_ROUGH_RANGE
+                && form_as::<F>().has_fine_range(&self.cell(form_as::<F>(), i)))
                 || self.has_rest(pair.index, i))
     }
 
     /// Counts the cell of the first pair, if it has one, and returns the cells that are left.
     #[inline(always)]
-    fn count_pair<G: Grid>(
+    fn count_pair<const F: usize>(
         &self,
         listed: u64,
         whole: u8,
         cells: CellsLeft,
         counts: &mut [u8; SIGNALS],
     ) -> CellsLeft
-        requires form { G.form ≡ self.now.form }
+        requires form { form_as F ≡ self.now.form }
         requires cells { AreCells self.now cells }
         requires first { HasFirst cells.pairs }
         requires whole { whole ≡ (satellite_data self.now.form (slice_index self.now.msm.satellites cells.pairs.index)).whole }
@@ -87,7 +87,7 @@ impl<'a> MsmView<'a> {
         // Brings the numbers of satellites and cells into the proof.
         let _ = (self.satellites(), self.cells());
         if (self.masks().cells() >> left) % 2 == 1 {
-            if self.has_listed_value::<G>(listed, pair, whole, next) {
+            if self.has_listed_value::<F>(listed, pair, whole, next) {
                 counts[pair.signal as usize - 1] += 1;
             }
             next += 1;
@@ -97,13 +97,13 @@ impl<'a> MsmView<'a> {
 
     /// Counts the cells of the first satellite, and returns the cells that are left.
     #[inline(always)]
-    fn count_row<G: Grid>(
+    fn count_row<const F: usize>(
         &self,
         listed: u64,
         mut cells: CellsLeft,
         counts: &mut [u8; SIGNALS],
     ) -> CellsLeft
-        requires form { G.form ≡ self.now.form }
+        requires form { form_as F ≡ self.now.form }
         requires cells { AreCells self.now cells }
         requires first { HasFirst cells.pairs }
         requires small { AreAtMost cells.next counts.old }
@@ -115,18 +115,18 @@ impl<'a> MsmView<'a> {
     {
         // Brings the number of satellites into the proof.
         let _ = self.satellites();
-        let whole = self.satellite(G::form(), cells.pairs.index).whole;
-        cells = self.count_pair::<G>(listed, whole, cells, counts);
+        let whole = self.satellite(form_as::<F>(), cells.pairs.index).whole;
+        cells = self.count_pair::<F>(listed, whole, cells, counts);
         while cells.pairs.signals > 0 {
-            cells = self.count_pair::<G>(listed, whole, cells, counts);
+            cells = self.count_pair::<F>(listed, whole, cells, counts);
         }
         cells
     }
 
     /// Returns what `value_counts` does, by the loop that is compiled for the form.
     #[inline(always)]
-    fn count_all<G: Grid>(&self, listed: u64) -> ValueCounts
-        requires form { G.form ≡ self.now.form }
+    fn count_all<const F: usize>(&self, listed: u64) -> ValueCounts
+        requires form { form_as F ≡ self.now.form }
         ensures signals { result.left ≡ ids signal_mask_bits self.now.msm.sets.signals }
         ensures counts { (i : ℕ) → i < signal_mask_bits
             → slice_index result.counts i ≡ value_count listed (i + 1) (entries (views.formed self.now)) }
@@ -141,7 +141,7 @@ impl<'a> MsmView<'a> {
         while cells.left > 0 {
             cells.pairs = with_signals(cells.pairs);
             if (mask >> (cells.left - 1)) % 2 == 1 {
-                cells = self.count_row::<G>(listed, cells, &mut counts);
+                cells = self.count_row::<F>(listed, cells, &mut counts);
             } else {
                 // The first pair has no cell.
                 cells.pairs = split_signal(cells.pairs).1;
@@ -170,10 +170,10 @@ impl<'a> MsmView<'a> {
         // Brings the number of cells into the proof.
         let _ = self.cells();
         match self.form() {
-            Form::Msm4 => self.count_all::<Grid4>(listed),
-            Form::Msm5 => self.count_all::<Grid5>(listed),
-            Form::Msm6 => self.count_all::<Grid6>(listed),
-            Form::Msm7 => self.count_all::<Grid7>(listed),
+            Form::Msm4 => self.count_all::<4>(listed),
+            Form::Msm5 => self.count_all::<5>(listed),
+            Form::Msm6 => self.count_all::<6>(listed),
+            Form::Msm7 => self.count_all::<7>(listed),
         }
     }
 }

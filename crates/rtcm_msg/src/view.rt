@@ -19,7 +19,6 @@ use crate::data::{Cell, LastBits, Satellite};
 use crate::entry::{Entry, LockField};
 use crate::fault::MsgFault;
 use crate::field::end_of_fields;
-use crate::grid::{Grid, Grid4, Grid5, Grid6, Grid7};
 use crate::header::{Masks, MsmHeader, read_head};
 use crate::message::{Message, read_set};
 use crate::msm::msm_of;
@@ -83,6 +82,20 @@ impl Form {
             Form::Msm6 => (&[8, 10], &[20, 24, 10, 1, 10]),
             Form::Msm7 => (&[8, 4, 10, 14], &[20, 24, 10, 1, 10, 15]),
         }
+    }
+}
+
+/// Returns the form whose message numbers end with `F`, MSM7 for any other number. A function with
+/// the form as a const parameter is compiled for it.
+#[inline(always)]
+pub fn form_as<const F: usize>() -> Form
+    ensures { result ≡ forms.form_as F }
+{
+    match F {
+        4 => Form::Msm4,
+        5 => Form::Msm5,
+        6 => Form::Msm6,
+        _ => Form::Msm7,
     }
 }
 
@@ -304,18 +317,18 @@ impl<'a> Entries<'a> {
         ensures same { self.new.form ≡ self.old.form }
     {
         match self.view.form() {
-            Form::Msm4 => self.next_in::<Grid4>(),
-            Form::Msm5 => self.next_in::<Grid5>(),
-            Form::Msm6 => self.next_in::<Grid6>(),
-            Form::Msm7 => self.next_in::<Grid7>(),
+            Form::Msm4 => self.next_in::<4>(),
+            Form::Msm5 => self.next_in::<5>(),
+            Form::Msm6 => self.next_in::<6>(),
+            Form::Msm7 => self.next_in::<7>(),
         }
     }
 
-    /// Returns the next cell of a message in the form `G`, as `next` does. A loop over the cells is
+    /// Returns the next cell of a message in the form `F`, as `next` does. A loop over the cells is
     /// faster if it is compiled for a form.
     #[inline(always)]
-    pub fn next_in<G: Grid>(&mut self) -> Option<Entry>
-        requires form { G.form ≡ self.old.form }
+    pub fn next_in<const F: usize>(&mut self) -> Option<Entry>
+        requires form { forms.form_as F ≡ self.old.form }
         ensures some { IfSome result (λ e. (self.old.left ≡ e ∷ self.new.left)
             × IsEntry (codes_of (lock_field self.old.form)) e) }
         ensures none { IfNone result ((self.old.left ≡ []) × (self.new.left ≡ [])) }
@@ -330,7 +343,7 @@ impl<'a> Entries<'a> {
         } else {
             view.read_satellite(pair.index)
         };
-        let entry = view.entry(G::form(), pair, &satellite, cells.next);
+        let entry = view.entry(form_as::<F>(), pair, &satellite, cells.next);
         self.cells.pairs = pairs;
         self.cells.left = left;
         self.cells.next += 1;
@@ -372,13 +385,12 @@ impl<'a> View<'a> {
     }
 }
 
-/// Reads the header and masks of an MSM of the form `G` after its message number.
-fn view_msm<G: Grid>(bytes: &[u8], system: System) -> Result<View<'_>, MsgFault>
+/// Reads the header and masks of an MSM after its message number.
+fn view_msm(bytes: &[u8], form: Form, system: System) -> Result<View<'_>, MsgFault>
     requires small { length bytes.now ≤ longest_message }
     requires number { 12 ≤ 8 * length bytes.now }
-    ensures { GivesViewed viewed_message result (views.formed_at G.form system (cursor_at (bits_of bytes.now) 12)) }
+    ensures { GivesViewed viewed_message result (views.formed_at form system (cursor_at (bits_of bytes.now) 12)) }
 {
-    let form = G::form();
     let (header, masks, satellites_at) = read_head(system, bytes)?;
     let satellites = masks.satellites().count_ones() as usize;
     let cells = masks.cells().count_ones() as usize;
@@ -404,12 +416,7 @@ fn view_body(kind: Kind, number: u16, bytes: &[u8]) -> Result<View<'_>, MsgFault
 {
     match kind {
         Kind::Station(has_height) => view_station(bytes, has_height),
-        Kind::Msm(form, system) => match form {
-            Form::Msm4 => view_msm::<Grid4>(bytes, system),
-            Form::Msm5 => view_msm::<Grid5>(bytes, system),
-            Form::Msm6 => view_msm::<Grid6>(bytes, system),
-            Form::Msm7 => view_msm::<Grid7>(bytes, system),
-        },
+        Kind::Msm(form, system) => view_msm(bytes, form, system),
         Kind::Other => Ok(View::Other {
             number,
             set: read_set(number, bytes),

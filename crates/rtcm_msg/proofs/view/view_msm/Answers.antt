@@ -11,20 +11,20 @@ abbrev placed : {form : Form} {g : System} {bits : List Bool} {c : Cursor} {h : 
 placed {form} {g} {bits} {c} {h} {s} {n} {place} {m} e f = subst (λ (x : ℕ). Found form g bits c h s n place m x) (sym e) f
 
 pub returns-in_err-cells_at : goal.returns-in_err-cells_at
-returns-in_err-cells_at g c =
+returns-in_err-cells_at c =
     let p = err_from_is_err_and c.from_residual-in_err-cells_at.result c.from_residual-in_err-cells_at.ensures.1 in
     let head : AfterMasks c.args.system c.args.bytes.now c.in_ok-header.header c.in_ok-header.masks c.in_ok-header.satellites_at = record { header = c.in_ok-header.ensures.read.0; masks = c.in_ok-header.ensures.read.1; there = c.in_ok-header.ensures.within.1 } in
-    rw (p.1, p.2, ← c.form-form.ensures) (first_short c.form-form.result c.args.system head c.widths.ensures.satellites c.satellites.ensures c.in_err-cells_at.ensures.exact)
+    rw (p.1, p.2) (first_short c.args.form c.args.system head c.widths.ensures.satellites c.satellites.ensures c.in_err-cells_at.ensures.exact)
 
 pub returns-in_err-end_of_fields : goal.returns-in_err-end_of_fields
-returns-in_err-end_of_fields g c =
+returns-in_err-end_of_fields c =
     let p = err_from_is_err_and c.from_residual-in_err-end_of_fields.result c.from_residual-in_err-end_of_fields.ensures.1 in
     let head : AfterMasks c.args.system c.args.bytes.now c.in_ok-header.header c.in_ok-header.masks c.in_ok-header.satellites_at = record { header = c.in_ok-header.ensures.read.0; masks = c.in_ok-header.ensures.read.1; there = c.in_ok-header.ensures.within.1 } in
-    rw (p.1, p.2, ← c.form-form.ensures) (second_short c.args.system head (record { satellite_fields = c.widths.ensures.satellites; cell_fields = c.widths.ensures.cells; satellites = c.satellites.ensures; cells = c.cells.ensures.value })
+    rw (p.1, p.2) (second_short c.args.system head (record { satellite_fields = c.widths.ensures.satellites; cell_fields = c.widths.ensures.cells; satellites = c.satellites.ensures; cells = c.cells.ensures.value })
     c.in_ok-cells_at.ensures.exact c.in_ok-cells_at.ensures.within c.in_err-end_of_fields.ensures.exact)
 
 pub invariant_of-result : goal.invariant_of-result
-invariant_of-result g c =
+invariant_of-result c =
     let head : AfterMasks c.args.system c.args.bytes.now c.in_ok-header.header c.in_ok-header.masks c.in_ok-header.satellites_at = record { header = c.in_ok-header.ensures.read.0; masks = c.in_ok-header.ensures.read.1; there = c.in_ok-header.ensures.within.1 } in
     let here = placed c.last_bits.ensures.place
     (whole head (record { satellite_fields = c.widths.ensures.satellites; cell_fields = c.widths.ensures.cells; satellites = c.satellites.ensures; cells = c.cells.ensures.value })
@@ -38,8 +38,8 @@ invariant_of-result g c =
     )
 
 pub returns : goal.returns
-returns g c =
+returns c =
     let head : AfterMasks c.args.system c.args.bytes.now c.in_ok-header.header c.in_ok-header.masks c.in_ok-header.satellites_at = record { header = c.in_ok-header.ensures.read.0; masks = c.in_ok-header.ensures.read.1; there = c.in_ok-header.ensures.within.1 } in
-    rw (← c.form-form.ensures) (placed c.last_bits.ensures.place
+    (placed c.last_bits.ensures.place
     (whole head (record { satellite_fields = c.widths.ensures.satellites; cell_fields = c.widths.ensures.cells; satellites = c.satellites.ensures; cells = c.cells.ensures.value })
     c.in_ok-cells_at.ensures.exact c.in_ok-cells_at.ensures.within c.in_ok-end_of_fields.ensures.exact c.in_ok-end_of_fields.ensures.within c.in_ok-header.ensures.is_header c.cells.ensures.sets)).read
