@@ -39,7 +39,7 @@ use crate::taken::{CellCounts, Kind, Taken};
 use crate::tow::summary_of;
 use gnss_obs::{Added, Cell, Epoch, EpochCells, Plan, PlanFault, StationValues, System};
 use rtcm_msg::{
-    Entries, Entry, Form, LockField, Message, MsmView, Summary, View, form_as,
+    Entry, Form, LockField, Message, MsmView, Summary, View, form_as,
 };
 use std::alloc::Global;
 use std::marker::Model;
@@ -367,7 +367,13 @@ impl Gatherer {
             ≡ load_entries (lock_field m.now.form) m.now.msm.system (record { state = self.old; counts = no_counts })
             (entries (formed m.now)) }
     {
-        self.take_all::<S, F>(m.system(), &mut m.entries())
+        let (field, system) = (form_as::<F>().lock_field(), system_as::<S>(m.system()));
+        let mut cells = m.entries();
+        let mut counts = CellCounts::default();
+        while let Some(entry) = cells.next_in::<F>() {
+            self.take_entry(field, system, &entry, &mut counts);
+        }
+        counts
     }
 
     // Keeps a cell of a planned signal, unless a cell of its key is kept or there is no room, and
@@ -388,29 +394,6 @@ impl Gatherer {
         let time = self.clock.time().milliseconds();
         x.lli = lli(&x, time, self.locks.latest(system, &x));
         count(self.pending.add(x), n);
-    }
-
-    // Processes the cells of a message of this system, which is `S`, and form `F`, and returns their
-    // outcomes.
-    fn take_all<const S: usize, const F: usize>(
-        &mut self,
-        system: System,
-        cells: &mut Entries<'_>,
-    ) -> CellCounts
-        requires form { form_as F ≡ cells.old.form }
-        requires system { system_as S system ≡ system }
-        requires pending { self.old.clock.pending ≡ true }
-        requires few { length cells.old.left ≤ most_pairs }
-        ensures { record { state = self.new; counts = result }
-            ≡ load_entries (lock_field cells.old.form) system (record { state = self.old; counts = no_counts })
-            cells.old.left }
-    {
-        let (field, system) = (form_as::<F>().lock_field(), system_as::<S>(system));
-        let mut counts = CellCounts::default();
-        while let Some(entry) = cells.next_in::<F>() {
-            self.take_entry(field, system, &entry, &mut counts);
-        }
-        counts
     }
 
     // Processes a cell of a message, and counts its outcome.
