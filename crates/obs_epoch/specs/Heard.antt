@@ -15,7 +15,6 @@ use Rattle.gnss_obs.specs.LockTimes.{LockTime, times4, times7}
 use Rattle.rtcm_msg.specs.declared.station.StationParts.{StationParts}
 use Rattle.rtcm_msg.specs.declared.entry.Entry.{Entry}
 use Rattle.rtcm_msg.specs.declared.message.Message.{Message}
-use Rattle.rtcm_msg.specs.declared.message.Message.TheVariants as message
 use Rattle.rtcm_msg.specs.Msm.{MsmValue, time_of_week, week}
 use Rattle.rtcm_msg.specs.declared.entry.LockField.{LockField}
 use Rattle.rtcm_msg.specs.declared.entry.LockField.TheVariants.{Df402, Df407}
@@ -23,7 +22,9 @@ use Rattle.rtcm_msg.specs.declared.summary.Summary.{Summary}
 use Rattle.rtcm_msg.specs.declared.fault.MsgFault.{MsgFault}
 use Rattle.rtcm_msg.specs.Decoding.{message_at, message_with}
 use Rattle.rtcm_msg.specs.declared.number.MsmSet.{MsmSet}
-use Rattle.rtcm_msg.specs.Entries.{entries}
+use Rattle.rtcm_msg.specs.Entries.{entries_in}
+use Rattle.rtcm_msg.specs.Forms.{lock_field}
+use Rattle.rtcm_msg.specs.Messages.{by_message}
 use Rattle.gnss_obs.specs.HeardCells.{HeardCell}
 pub use Rattle.obs_epoch.specs.declared.setup.GatherSetup.{GatherSetup}
 use Rattle.obs_epoch.specs.declared.setup.Gather.{Gather}
@@ -100,23 +101,24 @@ heard_msm channels leap field m es = record {
   point = None;
 }
 
+abbrev pub heard_station : StationParts → Heard
+heard_station p =
+    record { station = Some p.station; tow = None; more = None; cells = []; unlisted = 0; point = Some p }
+
+abbrev pub heard_other : ℕ → Option (ℕ × Bool) → Heard
+heard_other number set = record {
+  station = option_map (λ p. p.0) set;
+  tow = None;
+  more = option_map (λ p. p.1) set;
+  cells = [];
+  unlisted = 0;
+  point = None;
+}
+
 -- The parts of a message, with these channels of GLONASS satellites and leap seconds.
 abbrev pub heard : ChannelsValue → ℕ → Message → Heard
-heard channels leap (message.Station p) =
-    record { station = Some p.station; tow = None; more = None; cells = []; unlisted = 0; point = Some p }
-heard channels leap (message.Msm4 m) = heard_msm channels leap Df402 m (entries (message.Msm4 m))
-heard channels leap (message.Msm5 m) = heard_msm channels leap Df402 m (entries (message.Msm5 m))
-heard channels leap (message.Msm6 m) = heard_msm channels leap Df407 m (entries (message.Msm6 m))
-heard channels leap (message.Msm7 m) = heard_msm channels leap Df407 m (entries (message.Msm7 m))
-heard channels leap (message.Other number set) =
-    record {
-      station = option_map (λ p. p.0) set;
-      tow = None;
-      more = option_map (λ p. p.1) set;
-      cells = [];
-      unlisted = 0;
-      point = None;
-    }
+heard channels leap v =
+    by_message heard_station (λ form m. heard_msm channels leap (lock_field form) m (entries_in form m)) heard_other v
 
 -- The same with those of a setup.
 abbrev pub heard_by : GatherSetup → Message → Heard

@@ -10,17 +10,17 @@ use Rattle.gnss_obs.specs.HeardCells.{HeardCell}
 use Rattle.gnss_obs.specs.LockTimes.{LockTime}
 use Rattle.gnss_obs.specs.Observables.{nearest_doppler, nearest_phase, nearest_pseudorange, nearest_strength}
 use Rattle.gnss_obs.specs.Values.{PlanValue, planned_of}
-use Rattle.rtcm_msg.specs.Entries.{entries}
+use Rattle.rtcm_msg.specs.Entries.{entries_in}
+use Rattle.rtcm_msg.specs.Forms.{lock_field}
+use Rattle.rtcm_msg.specs.Messages.{by_message}
 use Rattle.rtcm_msg.specs.Msm.{MsmValue}
 use Rattle.rtcm_msg.specs.Sets.{message_by_table}
 use Rattle.rtcm_msg.specs.declared.entry.Entry.{Entry}
 use Rattle.rtcm_msg.specs.declared.entry.LockField.{LockField}
-use Rattle.rtcm_msg.specs.declared.entry.LockField.TheVariants.{Df402, Df407}
 use Rattle.rtcm_msg.specs.declared.fault.MsgFault.{MsgFault}
 use Rattle.rtcm_msg.specs.declared.message.Message.{Message}
-use Rattle.rtcm_msg.specs.declared.message.Message.TheVariants as message
 use Rattle.rtcm_msg.specs.declared.number.Forms.TheVariants.{FourAndSeven}
-use Rattle.obs_epoch.specs.Heard.{Heard, heard_in, lock_by}
+use Rattle.obs_epoch.specs.Heard.{Heard, heard_in, heard_other, heard_station, lock_by}
 use Rattle.obs_epoch.specs.Sets.{set_of}
 
 -- No signal of another system is planned.
@@ -66,21 +66,8 @@ plain_msm field m es = record {
 
 -- The parts of a message.
 abbrev pub plain_heard : Message → Heard
-plain_heard (message.Station p) =
-    record { station = Some p.station; tow = None; more = None; cells = []; unlisted = 0; point = Some p }
-plain_heard (message.Msm4 m) = plain_msm Df402 m (entries (message.Msm4 m))
-plain_heard (message.Msm5 m) = plain_msm Df402 m (entries (message.Msm5 m))
-plain_heard (message.Msm6 m) = plain_msm Df407 m (entries (message.Msm6 m))
-plain_heard (message.Msm7 m) = plain_msm Df407 m (entries (message.Msm7 m))
-plain_heard (message.Other number set) =
-    record {
-      station = option_map (λ p. p.0) set;
-      tow = None;
-      more = option_map (λ p. p.1) set;
-      cells = [];
-      unlisted = 0;
-      point = None;
-    }
+plain_heard v =
+    by_message heard_station (λ form m. plain_msm (lock_field form) m (entries_in form m)) heard_other v
 
 -- The parts of a message, or `None` if it was refused.
 abbrev pub plain_of : Result Message MsgFault → Option Heard

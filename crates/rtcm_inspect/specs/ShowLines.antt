@@ -1,18 +1,17 @@
 -- The lines of `show`.
 use Rattle.std.specs.Prelude.{ℕ, Bool, true, false, pos, List, [], ◌∷◌, Option, Some, None, Result, Ok, Err, is_some, count_ones, codes}
-use Rattle.std.specs.Prelude.{decimal, if◌then◌else◌, ◌+◌, ◌*◌, ◌/◌, ◌%◌, ◌^◌}
+use Rattle.std.specs.Prelude.{decimal, if◌then◌else◌}
 use Rattle.std.specs.List.{flat_map}
 use Rattle.rtcm_bits.specs.Bits.{bit}
 use Rattle.rtcm_scan.specs.Frames.{Framed}
 use Rattle.rtcm_msg.specs.declared.fault.MsgFault.{MsgFault}
 use Rattle.rtcm_msg.specs.declared.fault.MsgFault.TheVariants.{Short, TooManyCells, BadTime}
 use Rattle.rtcm_msg.specs.declared.message.Message.{Message}
-use Rattle.rtcm_msg.specs.declared.message.Message.TheVariants.{Station, Msm4, Msm5, Msm6, Msm7, Other}
+use Rattle.rtcm_msg.specs.Messages.{by_message}
 use Rattle.rtcm_msg.specs.declared.station.StationParts.{StationParts}
 use Rattle.rtcm_msg.specs.Msm.{MsmValue, time_of_week}
 use Rattle.rtcm_msg.specs.Decoding.{message_at, message_with}
 use Rattle.rtcm_msg.specs.Numbers.{default_set, message_number}
-use Rattle.rtcm_msg.specs.declared.view.Form.TheVariants as forms
 use Rattle.rtcm_inspect.specs.FrameLines.{number_word}
 use Rattle.option_texts.specs.Lines.{line}
 use Rattle.option_texts.specs.Metres.{metres}
@@ -51,12 +50,8 @@ fault_line offset message fault = line (decimal offset ∷ number_word message �
 
 -- a message that isn't read has no line
 abbrev pub read_line : Framed → Result Message MsgFault → List ℕ
-read_line f (Ok (Station s)) = station_line f.offset s
-read_line f (Ok (Msm4 m)) = msm_line f.offset (message_number forms.Msm4 m.system) m
-read_line f (Ok (Msm5 m)) = msm_line f.offset (message_number forms.Msm5 m.system) m
-read_line f (Ok (Msm6 m)) = msm_line f.offset (message_number forms.Msm6 m.system) m
-read_line f (Ok (Msm7 m)) = msm_line f.offset (message_number forms.Msm7 m.system) m
-read_line f (Ok (Other n set)) = []
+read_line f (Ok v) =
+    by_message (station_line f.offset) (λ form m. msm_line f.offset (message_number form m.system) m) (λ n set. []) v
 read_line f (Err fault) = fault_line f.offset f.message fault
 
 -- a message as it is read: of all messages, or of those that `convert` reads by default

@@ -11,8 +11,7 @@ use Rattle.gnss_system.specs.Satellites.{letter}
 use Rattle.gnss_system.specs.Signals.{SignalAt, table, code_of}
 use Rattle.rtcm_msg.specs.declared.fault.MsgFault.{MsgFault}
 use Rattle.rtcm_msg.specs.declared.message.Message.{Message}
-use Rattle.rtcm_msg.specs.declared.message.Message.TheVariants.{Msm4, Msm5, Msm6, Msm7}
-use Rattle.rtcm_msg.specs.declared.view.Form.TheVariants as form
+use Rattle.rtcm_msg.specs.Messages.{by_message}
 use Rattle.rtcm_msg.specs.declared.number.Forms.{Forms}
 use Rattle.rtcm_msg.specs.declared.number.Forms.TheVariants.{FourAndSeven, All}
 use Rattle.rtcm_msg.specs.declared.number.MsmSet.{MsmSet}
@@ -59,11 +58,7 @@ plan_in wanted fs = plan_had (valued_in wanted fs) (channels_in wanted fs)
 
 -- an MSM of another form than these
 abbrev pub is_of_other : Forms → Message → Bool
-is_of_other forms (Msm4 m) = not (have_form forms form.Msm4)
-is_of_other forms (Msm5 m) = not (have_form forms form.Msm5)
-is_of_other forms (Msm6 m) = not (have_form forms form.Msm6)
-is_of_other forms (Msm7 m) = not (have_form forms form.Msm7)
-is_of_other forms other = false
+is_of_other forms v = by_message (λ s. false) (λ f m. not (have_form forms f)) (λ n set. false) v
 
 -- it has a cell that counts
 abbrev pub has_other_value : Forms → Option ℕ → Message → Bool

@@ -6,9 +6,8 @@ use Rattle.gnss_system.specs.declared.system.System.TheVariants.{Glonass}
 use Rattle.gnss_system.specs.Systems.{is_system}
 use Rattle.rtcm_bits.specs.Bits.{bits_of}
 use Rattle.rtcm_msg.specs.declared.message.Message.{Message}
-use Rattle.rtcm_msg.specs.declared.message.Message.TheVariants.{Station, Msm4, Msm5, Msm6, Msm7, Other}
+use Rattle.rtcm_msg.specs.Messages.{by_message}
 use Rattle.rtcm_msg.specs.declared.view.Form.{Form}
-use Rattle.rtcm_msg.specs.declared.view.Form.TheVariants as forms
 use Rattle.rtcm_msg.specs.Fields.{field_at}
 use Rattle.rtcm_msg.specs.Forms.{has_rates, satellite_data}
 use Rattle.rtcm_msg.specs.Msm.{MsmValue, satellite_mask_bits}
@@ -28,12 +27,7 @@ channels_of form m =
     then channels_by form (ids satellite_mask_bits m.sets.satellites) m.satellites else []
 
 abbrev pub sent_channels : Message → List (ℕ × ℕ)
-sent_channels (Station s) = []
-sent_channels (Msm4 m) = channels_of forms.Msm4 m
-sent_channels (Msm5 m) = channels_of forms.Msm5 m
-sent_channels (Msm6 m) = channels_of forms.Msm6 m
-sent_channels (Msm7 m) = channels_of forms.Msm7 m
-sent_channels (Other number set) = []
+sent_channels v = by_message (λ s. []) channels_of (λ n set. []) v
 
 -- The slot, DF038, and the number, DF040, of a message 1020 that contains them.
 abbrev pub channel_of_1020 : List ℕ → Option (ℕ × ℕ)

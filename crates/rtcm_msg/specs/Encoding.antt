@@ -6,6 +6,7 @@ use Rattle.rtcm_msg.specs.declared.fault.MsgFault.{MsgFault}
 use Rattle.rtcm_msg.specs.declared.fault.MsgFault.TheVariants.{Short, TooManyCells, BadTime}
 use Rattle.rtcm_msg.specs.declared.message.Message.{Message}
 use Rattle.rtcm_msg.specs.declared.message.Message.TheVariants.{Station, Msm4, Msm5, Msm6, Msm7, Other}
+use Rattle.rtcm_msg.specs.Messages.{by_message}
 use Rattle.rtcm_msg.specs.Fields.{field_bits, first_past, field_at}
 use Rattle.rtcm_msg.specs.Station.{station_fields, InRange, station_table, height_table}
 use Rattle.rtcm_msg.specs.Msm.{MsmValue, msm_bits, IsValue, is_time, time_table, header_table, mask_table}
@@ -20,12 +21,7 @@ use Rattle.rtcm_msg.specs.declared.number.Kind.TheVariants as kinds
 use Rattle.rtcm_msg.specs.Numbers.{kind_of, message_number}
 
 abbrev pub is_other : Message → Bool
-is_other (Station s) = false
-is_other (Msm4 m) = false
-is_other (Msm5 m) = false
-is_other (Msm6 m) = false
-is_other (Msm7 m) = false
-is_other (Other n set) = true
+is_other v = by_message (λ s. false) (λ f m. false) (λ n set. true) v
 
 -- A value of this form, and its bits.
 abbrev pub IsMsm : Form → MsmValue → Type 0
@@ -45,21 +41,12 @@ IsMessage (Other n set) = Unit {0}
 
 -- The number of reserved bits.
 abbrev pub reserved_width : Message → ℕ
-reserved_width (Station s) = 1
-reserved_width (Msm4 m) = 7
-reserved_width (Msm5 m) = 7
-reserved_width (Msm6 m) = 7
-reserved_width (Msm7 m) = 7
-reserved_width (Other n set) = 0
+reserved_width v = by_message (λ s. 1) (λ f m. 7) (λ n set. 0) v
 
 -- The bits of a message with the given reserved bits.
 abbrev pub message_bits : Message → ℕ → List Bool
-message_bits (Station s) reserved = field_bits (station_fields s reserved)
-message_bits (Msm4 m) reserved = form_bits forms.Msm4 m reserved
-message_bits (Msm5 m) reserved = form_bits forms.Msm5 m reserved
-message_bits (Msm6 m) reserved = form_bits forms.Msm6 m reserved
-message_bits (Msm7 m) reserved = form_bits forms.Msm7 m reserved
-message_bits (Other n set) reserved = []
+message_bits v reserved =
+    by_message (λ s. field_bits (station_fields s reserved)) (λ f m. form_bits f m reserved) (λ n set. []) v
 
 -- The bytes encode the message with reserved bits of 0, padded with zero bits to a byte.
 abbrev pub IsEncoding : List ℕ → Message → Type 0

@@ -4,12 +4,11 @@ use Rattle.std.specs.Prelude.{slice_index}
 use Rattle.std.specs.List.{flat_map, zip, enumerate_from}
 use Rattle.rtcm_bits.specs.Bits.{uint}
 use Rattle.rtcm_msg.specs.declared.message.Message.{Message}
-use Rattle.rtcm_msg.specs.declared.message.Message.TheVariants.{Station, Msm4, Msm5, Msm6, Msm7, Other}
+use Rattle.rtcm_msg.specs.Messages.{by_message}
 use Rattle.rtcm_msg.specs.declared.pairs.Pair.{Pair}
 use Rattle.rtcm_msg.specs.declared.entry.Entry.{Entry}
 use Rattle.rtcm_msg.specs.Msm.{MsmValue, MasksValue, pair_count, satellite_mask_bits, signal_mask_bits}
 use Rattle.rtcm_msg.specs.declared.view.Form.{Form}
-use Rattle.rtcm_msg.specs.declared.view.Form.TheVariants as forms
 use Rattle.rtcm_msg.specs.Forms.{entry, satellite_data, cell_data}
 
 -- The items whose bit is set.
@@ -63,9 +62,4 @@ entries_in f v = map (entry_in f v) (zip (cell_pairs v.sets) v.cells)
 
 -- The cells of a message in order.
 abbrev pub entries : Message → List Entry
-entries (Station s) = []
-entries (Msm4 v) = entries_in forms.Msm4 v
-entries (Msm5 v) = entries_in forms.Msm5 v
-entries (Msm6 v) = entries_in forms.Msm6 v
-entries (Msm7 v) = entries_in forms.Msm7 v
-entries (Other n set) = []
+entries v = by_message (λ s. []) entries_in (λ n set. []) v

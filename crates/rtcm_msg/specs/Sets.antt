@@ -11,7 +11,7 @@ use Rattle.rtcm_msg.specs.declared.number.Kind.TheVariants as kinds
 use Rattle.rtcm_msg.specs.declared.number.MsmSet.{MsmSet}
 use Rattle.rtcm_msg.specs.declared.fault.MsgFault.{MsgFault}
 use Rattle.rtcm_msg.specs.declared.message.Message.{Message}
-use Rattle.rtcm_msg.specs.declared.message.Message.TheVariants as messages
+use Rattle.rtcm_msg.specs.Messages.{by_message}
 use Rattle.rtcm_msg.specs.Numbers.{have_form}
 use Rattle.rtcm_msg.specs.Decoding.{message_by}
 
@@ -20,12 +20,7 @@ has_msm set form system = value_of system set.systems && have_form set.forms for
 
 -- The message isn't an MSM outside the set.
 abbrev pub is_in_set : MsmSet → Message → Bool
-is_in_set set (messages.Station s) = true
-is_in_set set (messages.Msm4 v) = has_msm set forms.Msm4 v.system
-is_in_set set (messages.Msm5 v) = has_msm set forms.Msm5 v.system
-is_in_set set (messages.Msm6 v) = has_msm set forms.Msm6 v.system
-is_in_set set (messages.Msm7 v) = has_msm set forms.Msm7 v.system
-is_in_set set (messages.Other n other) = true
+is_in_set set v = by_message (λ s. true) (λ form m. has_msm set form m.system) (λ n other. true) v
 
 -- ---- the default set
 
