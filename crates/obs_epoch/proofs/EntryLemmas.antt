@@ -2,7 +2,7 @@
 use Rattle.gnss_obs.specs.Channels.{ChannelsValue}
 use Rattle.obs_epoch.specs.Clock.{State}
 use Rattle.obs_epoch.specs.GathererSteps.{GathererValue}
-use Rattle.obs_epoch.specs.Names.{LockField, System, Entry, CellOutcome, count_in, seen_in, unlisted_in, HeardCell, with_skipped, Loaded, load, load_one, load_entries, with_unlisted, outcome_in, hold, hold_by, CellCounts, option_map_or, cons_option}
+use Rattle.obs_epoch.specs.Names.{System, Entry, CellOutcome, count_in, seen_in, unlisted_in, HeardCell, with_skipped, Loaded, load, load_one, load_entries, with_unlisted, outcome_in, hold, hold_by, CellCounts, option_map_or, cons_option, Form}
 use Rattle.std.proofs.Common.{◌≡◌, ℕ, ◌+◌, List, [], ◌∷◌, refl, ap, ◌∙◌, arith, Option, Some, None, is_some, filter_map, cond}
 use Rattle.std.proofs.lemmas.Grind.{common_steps}
 
@@ -19,11 +19,11 @@ later n l (x ∷ xs) = ap (λ v. load v xs) (later_one n l x) ∙ later n (load_
 twice : (n m : ℕ) (l : Loaded) → with_unlisted n (with_unlisted m l) ≡ with_unlisted (m + n) l
 twice n m l = grind (arith, common_steps)
 
-abbrev listed : ChannelsValue → LockField → System → List Entry → List HeardCell
-listed channels field system es = filter_map (seen_in channels field system) es
+abbrev listed : ChannelsValue → Form → System → List Entry → List HeardCell
+listed channels form system es = filter_map (seen_in channels form system) es
 
-abbrev others : ChannelsValue → LockField → System → List Entry → ℕ
-others channels field system es = unlisted_in channels field system es
+abbrev others : ChannelsValue → Form → System → List Entry → ℕ
+others channels form system es = unlisted_in channels form system es
 
 kept_setup : (k : CellOutcome) (g : GathererValue) (x : HeardCell) → (hold_by k g x).clock ≡ g.clock
 kept_setup k g x = grind (arith, common_steps)
@@ -31,20 +31,20 @@ kept_setup k g x = grind (arith, common_steps)
 none_more : (l : Loaded) → l ≡ with_unlisted 0 l
 none_more l = grind (arith, common_steps)
 
-pub load_entries_is : (channels : ChannelsValue) (field : LockField) (system : System) (l : Loaded) (es : List Entry) → l.state.clock.setup.plan.channels ≡ channels
-    → load_entries field system l es ≡ with_unlisted (others channels field system es) (load l (listed channels field system es))
-load_entries_is channels field system l [] same = none_more l
-load_entries_is channels field system l (e ∷ es) same =
-    ap (λ (c : ChannelsValue). load_entries field system (option_map_or (load_one l) (seen_in c field system e) (with_unlisted 1 l)) es) same
-    ∙ by (seen_in channels field system e) (λ v kept. load_entries_is channels field system v es kept) where
-      by : (o : Option HeardCell) → ((v : Loaded) → v.state.clock.setup.plan.channels ≡ channels → load_entries field system v es ≡ with_unlisted (others channels field system es) (load v (listed channels field system es)))
-          → load_entries field system (option_map_or (load_one l) o (with_unlisted 1 l)) es
-          ≡ with_unlisted (cond (is_some o) 0 1 + others channels field system es) (load l (cons_option o (listed channels field system es)))
+pub load_entries_is : (channels : ChannelsValue) (form : Form) (system : System) (l : Loaded) (es : List Entry) → l.state.clock.setup.plan.channels ≡ channels
+    → load_entries form system l es ≡ with_unlisted (others channels form system es) (load l (listed channels form system es))
+load_entries_is channels form system l [] same = none_more l
+load_entries_is channels form system l (e ∷ es) same =
+    ap (λ (c : ChannelsValue). load_entries form system (option_map_or (load_one l) (seen_in c form system e) (with_unlisted 1 l)) es) same
+    ∙ by (seen_in channels form system e) (λ v kept. load_entries_is channels form system v es kept) where
+      by : (o : Option HeardCell) → ((v : Loaded) → v.state.clock.setup.plan.channels ≡ channels → load_entries form system v es ≡ with_unlisted (others channels form system es) (load v (listed channels form system es)))
+          → load_entries form system (option_map_or (load_one l) o (with_unlisted 1 l)) es
+          ≡ with_unlisted (cond (is_some o) 0 1 + others channels form system es) (load l (cons_option o (listed channels form system es)))
       by None more =
-          more (with_unlisted 1 l) same ∙ ap (with_unlisted (others channels field system es)) (later 1 l (listed channels field system es))
-          ∙ twice (others channels field system es) 1 (load l (listed channels field system es))
+          more (with_unlisted 1 l) same ∙ ap (with_unlisted (others channels form system es)) (later 1 l (listed channels form system es))
+          ∙ twice (others channels form system es) 1 (load l (listed channels form system es))
       by (Some x) more =
           more (load_one l x) (ap (λ (c : State). c.setup.plan.channels) (kept_setup (outcome_in l.state x) l.state x) ∙ same)
-          ∙ ap (λ n. with_unlisted n (load (load_one l x) (listed channels field system es))) (zero-plus (others channels field system es)) where
+          ∙ ap (λ n. with_unlisted n (load (load_one l x) (listed channels form system es))) (zero-plus (others channels form system es)) where
             zero-plus : (n : ℕ) → n ≡ 0 + n
             zero-plus n = omega arith

@@ -1,5 +1,6 @@
 -- Bounds of the values of epochs.
-use Rattle.obs_epoch.specs.Names.{LockField, Df402, Df407, System, Satellite, satellite_of_id, SignalAt, signal_of_id, nearest_pseudorange, nearest_phase, nearest_doppler, nearest_strength, LockTime, Entry, Message, Station, Msm4, Msm5, Msm6, Msm7, Other, IsMessage, IsMeasured, EntriesAreMeasured, PointsAreInRange, entries, StationValues, weeks, Closed, HasTwelveDigits, cells_of, planned_of, most_cells, GatherSetup, Heard, heard, observed, seen_in, lock_by, HeardCell, kept_cell, Timed, is_at, timed, timed_after, taken_at, is_of_system, is_planned, offered, firsts_after, firsts, kept, cells_at, has_same_key, times, lli_with, lli_of, has_lost, cells_with_lli, epoch_at, values_after_message, is_shut, open_after, before_closing, closed_list_at, all_epochs, IsHeardCell, IsHeard, IsGathered, same_place, AreGathered, AreStationValues, IsGatheredEpoch, TimesRise, AreGatheredEpochs, KnownLock}
+use Rattle.rtcm_msg.specs.declared.view.Form.TheVariants as forms
+use Rattle.obs_epoch.specs.Names.{System, Satellite, satellite_of_id, SignalAt, signal_of_id, nearest_pseudorange, nearest_phase, nearest_doppler, nearest_strength, LockTime, Entry, Message, Station, Msm4, Msm5, Msm6, Msm7, Other, IsMessage, IsMeasured, EntriesAreMeasured, PointsAreInRange, entries, StationValues, weeks, Closed, HasTwelveDigits, cells_of, planned_of, most_cells, GatherSetup, Heard, heard, observed, seen_in, lock_by, HeardCell, kept_cell, Timed, is_at, timed, timed_after, taken_at, is_of_system, is_planned, offered, firsts_after, firsts, kept, cells_at, has_same_key, times, lli_with, lli_of, has_lost, cells_with_lli, epoch_at, values_after_message, is_shut, open_after, before_closing, closed_list_at, all_epochs, IsHeardCell, IsHeard, IsGathered, same_place, AreGathered, AreStationValues, IsGatheredEpoch, TimesRise, AreGatheredEpochs, KnownLock, Form}
 use Rattle.std.proofs.Common.{◌≡◌, ℕ, zero, suc, ℤ, pos, ◌+◌, ◌*◌, ◌^◌, ◌<◌, ◌≤◌, ◌≤ℤ◌, Bool, true, false, List, [], ◌∷◌, ◌++◌, filter, take, ap, arith, Option, Some, None, nat_lt, is_some, unsigned_abs, if◌then◌else◌, flat_map, filter_map, option_map, option_and_then, IfSome, fold}
 use Rattle.std.specs.List.{AllByRecursion, IsDistinct, cons_option}
 use Rattle.rtcm_msg.specs.Msm.{week}
@@ -61,29 +62,29 @@ observed_given : AreSizes → (channels : ChannelsValue) (lock : LockTime) (e : 
     → IsHeardCell (observed channels lock e satellite signal)
 observed_given z channels lock e satellite signal valid h = grind (arith, common_steps, mapped, at_carrier)
 
-seen_given : AreSizes → (channels : ChannelsValue) (field : LockField) (system : System) (e : Entry) → AreChannels channels → IsMeasured e → IfSome (seen_in channels field system e) IsHeardCell
-seen_given z channels field system e valid h = by (satellite_of_id system e.satellite) (signal_of_id system e.signal) where
-  by : (a : Option Satellite) (b : Option SignalAt) → IfSome (option_and_then (λ satellite. option_map (observed channels (lock_by field e.lock) e satellite) b) a) IsHeardCell
+seen_given : AreSizes → (channels : ChannelsValue) (form : Form) (system : System) (e : Entry) → AreChannels channels → IsMeasured e → IfSome (seen_in channels form system e) IsHeardCell
+seen_given z channels form system e valid h = by (satellite_of_id system e.satellite) (signal_of_id system e.signal) where
+  by : (a : Option Satellite) (b : Option SignalAt) → IfSome (option_and_then (λ satellite. option_map (observed channels (lock_by form e.lock) e satellite) b) a) IsHeardCell
   by None b = tt
   by (Some satellite) None = tt
-  by (Some satellite) (Some signal) = observed_given z channels (lock_by field e.lock) e satellite signal valid h
+  by (Some satellite) (Some signal) = observed_given z channels (lock_by form e.lock) e satellite signal valid h
 
-cells_given : AreSizes → (channels : ChannelsValue) (field : LockField) (system : System) (es : List Entry) → AreChannels channels → AllByRecursion IsMeasured es
-    → AllByRecursion IsHeardCell (filter_map (seen_in channels field system) es)
-cells_given z channels field system [] valid h = tt
-cells_given z channels field system (e ∷ es) valid h =
-    by (seen_in channels field system e) (seen_given z channels field system e valid h.0) (cells_given z channels field system es valid h.1) where
-      by : (o : Option HeardCell) → IfSome o IsHeardCell → AllByRecursion IsHeardCell (filter_map (seen_in channels field system) es)
-          → AllByRecursion IsHeardCell (cons_option o (filter_map (seen_in channels field system) es))
+cells_given : AreSizes → (channels : ChannelsValue) (form : Form) (system : System) (es : List Entry) → AreChannels channels → AllByRecursion IsMeasured es
+    → AllByRecursion IsHeardCell (filter_map (seen_in channels form system) es)
+cells_given z channels form system [] valid h = tt
+cells_given z channels form system (e ∷ es) valid h =
+    by (seen_in channels form system e) (seen_given z channels form system e valid h.0) (cells_given z channels form system es valid h.1) where
+      by : (o : Option HeardCell) → IfSome o IsHeardCell → AllByRecursion IsHeardCell (filter_map (seen_in channels form system) es)
+          → AllByRecursion IsHeardCell (cons_option o (filter_map (seen_in channels form system) es))
       by None k l = l
       by (Some x) k l = (k, l)
 
 pub message_heard : AreSizes → EntriesAreMeasured → PointsAreInRange → (channels : ChannelsValue) (leap : ℕ) (m : Message) → AreChannels channels → IsMessage m → IsHeard (heard channels leap m)
 message_heard z all points channels leap (Station p) v h = record { cells = tt; point = points p h }
-message_heard z all points channels leap (Msm4 m) v h = record { cells = cells_given z channels Df402 _ (entries (Msm4 m)) v (all (Msm4 m)); point = tt }
-message_heard z all points channels leap (Msm5 m) v h = record { cells = cells_given z channels Df402 _ (entries (Msm5 m)) v (all (Msm5 m)); point = tt }
-message_heard z all points channels leap (Msm6 m) v h = record { cells = cells_given z channels Df407 _ (entries (Msm6 m)) v (all (Msm6 m)); point = tt }
-message_heard z all points channels leap (Msm7 m) v h = record { cells = cells_given z channels Df407 _ (entries (Msm7 m)) v (all (Msm7 m)); point = tt }
+message_heard z all points channels leap (Msm4 m) v h = record { cells = cells_given z channels forms.Msm4 _ (entries (Msm4 m)) v (all (Msm4 m)); point = tt }
+message_heard z all points channels leap (Msm5 m) v h = record { cells = cells_given z channels forms.Msm5 _ (entries (Msm5 m)) v (all (Msm5 m)); point = tt }
+message_heard z all points channels leap (Msm6 m) v h = record { cells = cells_given z channels forms.Msm6 _ (entries (Msm6 m)) v (all (Msm6 m)); point = tt }
+message_heard z all points channels leap (Msm7 m) v h = record { cells = cells_given z channels forms.Msm7 _ (entries (Msm7 m)) v (all (Msm7 m)); point = tt }
 message_heard z all points channels leap (Other n set) v h = record { cells = tt; point = tt }
 
 -- ---- times

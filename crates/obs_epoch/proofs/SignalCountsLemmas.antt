@@ -1,5 +1,5 @@
 -- The counts of the cells with a value, and of those of a message.
-use Rattle.obs_epoch.specs.Names.{LockField, System, Satellite, SignalAt, LockTime, Entry, Heard, seen_in, observed, HeardCell, SignalCountsValue, brings_value, valued, is_of_signal, count_of, AreSignalCounts, cons_option}
+use Rattle.obs_epoch.specs.Names.{System, Satellite, SignalAt, LockTime, Entry, Heard, seen_in, observed, HeardCell, SignalCountsValue, brings_value, valued, is_of_signal, count_of, AreSignalCounts, cons_option, Form}
 use Rattle.obs_epoch.specs.Names.{satellite_of_id}
 use Rattle.obs_epoch.specs.SignalCounts.{every_channel}
 use Rattle.gnss_obs.specs.Channels.{hertz_by, hertz_in, number_at, slot_count}
@@ -50,8 +50,8 @@ wanted_cells wanted station m at is = grind (arith, common_steps)
 pub message_counted : (after : SignalCountsValue) (cells front : List HeardCell) (wanted : Option ℕ) (m : Heard) → valued wanted m ≡ front → AreSignalCounts after (cells ++ front) → AreSignalCounts after (cells ++ valued wanted m)
 message_counted after cells front wanted m same h = subst (λ (l : List HeardCell). AreSignalCounts after (cells ++ l)) (sym same) h
 
-pub few_valued : (field : LockField) (system : System) (es : List Entry) (cells : List HeardCell) → cells ≡ filter brings_value (filter_map (seen_in every_channel field system) es) → length es ≤ 64 → length cells ≤ 64
-few_valued field system es cells is few = grind (arith, common_steps, length-filter-le, length-filter_map-le)
+pub few_valued : (form : Form) (system : System) (es : List Entry) (cells : List HeardCell) → cells ≡ filter brings_value (filter_map (seen_in every_channel form system) es) → length es ≤ 64 → length cells ≤ 64
+few_valued form system es cells is few = grind (arith, common_steps, length-filter-le, length-filter_map-le)
 
 -- Counts that are all 0.
 abbrev no_cells : List ℕ

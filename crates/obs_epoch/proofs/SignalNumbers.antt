@@ -3,7 +3,7 @@ use Rattle.std.proofs.Common.{◌≡◌, ℕ, zero, suc, ◌+◌, ◌-◌, ◌<�
 use Rattle.std.proofs.lemmas.Bool.{cases_lt, not-true, eqb-true}
 use Rattle.std.proofs.lemmas.Grind.{common_steps}
 use Rattle.std.proofs.lemmas.List.Quantifiers.{position-Some}
-use Rattle.obs_epoch.specs.Names.{System, ListedSignal, Satellite, is_system, satellite_of_id, SignalAt, IsSignal, id_of, table, signal_of_id, HeardCell, Entry, LockField, has_id, is_in, has_listed_value, value_count, seen_in, lock_by, observed, SignalCountsValue, signal_counts, counted, signal_in, counted_more, satellite_set, brings_value, is_of_signal, count_of, CountsEntries, cons_option, option_map_or}
+use Rattle.obs_epoch.specs.Names.{System, ListedSignal, Satellite, is_system, satellite_of_id, SignalAt, IsSignal, id_of, table, signal_of_id, HeardCell, Entry, has_id, is_in, has_listed_value, value_count, seen_in, lock_by, observed, SignalCountsValue, signal_counts, counted, signal_in, counted_more, satellite_set, brings_value, is_of_signal, count_of, CountsEntries, cons_option, option_map_or, Form}
 use Rattle.gnss_system.proofs.Checked.{passes_at, passes_below}
 use Rattle.gnss_obs.proofs.TableLaws.{id_back, ids_within}
 use Rattle.rtcm_msg.proofs.ValueLaws.{count_first}
@@ -117,33 +117,33 @@ zero_case b c h = grind (arith, common_steps, h)
 one_cell : (p q : HeardCell → Bool) (y : HeardCell) → length (filter p (filter q (y ∷ []))) ≡ cond (q y && p y) 1 0
 one_cell p q y = grind (arith, common_steps)
 
-one_entry : (field : LockField) (system : System) (e : Entry) (g : SignalAt) → IsSignal g → count_of g (filter brings_value (cons_option (seen_in every_channel field system e) [])) ≡ cond (is_for system g e) 1 0
-one_entry field system e g listed =
+one_entry : (form : Form) (system : System) (e : Entry) (g : SignalAt) → IsSignal g → count_of g (filter brings_value (cons_option (seen_in every_channel form system e) [])) ≡ cond (is_for system g e) 1 0
+one_entry form system e g listed =
     rw (in_set system e.satellite)
     (by (satellite_of_id system e.satellite) (signal_of_id system e.signal) (λ s x. every_hertz system e.satellite s x) (no_signal system e.signal g listed) (λ s. the_signal system e.signal g s listed))
   where
     by : (s : Option Satellite) (o : Option SignalAt) → ((t : Satellite) (x : SignalAt) → s ≡ Some t → is_some (hertz_in every_channel t x) ≡ true) → (o ≡ None → (is_system system g.system && (e.signal == id_of g)) ≡ false)
         → ((x : SignalAt) → o ≡ Some x → (is_system system g.system && (e.signal == id_of g)) ≡ (is_system g.system x.system && (x.index == g.index)))
-        → count_of g (filter brings_value (cons_option (option_and_then (λ s. option_map (observed every_channel (lock_by field e.lock) e s) o) s) [])) ≡ cond (is_system system g.system && ((is_some s && (is_some e.range || (is_some e.phase || is_some e.rate || is_some e.strength))) && (e.signal == id_of g))) 1 0
+        → count_of g (filter brings_value (cons_option (option_and_then (λ s. option_map (observed every_channel (lock_by form e.lock) e s) o) s) [])) ≡ cond (is_system system g.system && ((is_some s && (is_some e.range || (is_some e.phase || is_some e.rate || is_some e.strength))) && (e.signal == id_of g))) 1 0
     by None o at none some = zero_case (is_system system g.system) false refl
     by (Some s) None at none some =
         rw (in_middle (is_system system g.system) (is_some e.range || (is_some e.phase || is_some e.rate || is_some e.strength)) (e.signal == id_of g)) (zero_case (is_some e.range || (is_some e.phase || is_some e.rate || is_some e.strength)) _ (none refl))
     by (Some s) (Some x) at none some =
-        one_cell (is_of_signal g) brings_value (observed every_channel (lock_by field e.lock) e s x)
-        ∙ rw (value_same (lock_by field e.lock) e s x (at s x refl), in_middle (is_system system g.system) (is_some e.range || (is_some e.phase || is_some e.rate || is_some e.strength)) (e.signal == id_of g), some x refl) refl
+        one_cell (is_of_signal g) brings_value (observed every_channel (lock_by form e.lock) e s x)
+        ∙ rw (value_same (lock_by form e.lock) e s x (at s x refl), in_middle (is_system system g.system) (is_some e.range || (is_some e.phase || is_some e.rate || is_some e.strength)) (e.signal == id_of g), some x refl) refl
 
 count_append : (g : SignalAt) (xs ys : List HeardCell) → count_of g (xs ++ ys) ≡ count_of g xs + count_of g ys
 count_append g xs ys = grind (arith, common_steps)
 
-pub all_entries : (field : LockField) (system : System) (es : List Entry) (g : SignalAt) → IsSignal g
-    → count_of g (filter brings_value (filter_map (seen_in every_channel field system) es)) ≡ (if is_system system g.system then value_count (satellite_set system) (id_of g) es else 0)
-all_entries field system [] g listed = none (is_system system g.system) where
+pub all_entries : (form : Form) (system : System) (es : List Entry) (g : SignalAt) → IsSignal g
+    → count_of g (filter brings_value (filter_map (seen_in every_channel form system) es)) ≡ (if is_system system g.system then value_count (satellite_set system) (id_of g) es else 0)
+all_entries form system [] g listed = none (is_system system g.system) where
   none : (b : Bool) → zero ≡ (if b then zero else zero)
   none b = grind (arith, common_steps)
-all_entries field system (e ∷ es) g listed =
-    ap (count_of g) (sym (one_first (seen_in every_channel field system e) (filter_map (seen_in every_channel field system) es)))
-    ∙ (count_append g (filter brings_value (cons_option (seen_in every_channel field system e) [])) (filter brings_value (filter_map (seen_in every_channel field system) es))
-    ∙ rw (one_entry field system e g listed, all_entries field system es g listed)
+all_entries form system (e ∷ es) g listed =
+    ap (count_of g) (sym (one_first (seen_in every_channel form system e) (filter_map (seen_in every_channel form system) es)))
+    ∙ (count_append g (filter brings_value (cons_option (seen_in every_channel form system e) [])) (filter brings_value (filter_map (seen_in every_channel form system) es))
+    ∙ rw (one_entry form system e g listed, all_entries form system es g listed)
     (joined (is_system system g.system) (has_listed_value (satellite_set system) e && (e.signal == id_of g)) (value_count (satellite_set system) (id_of g) es) (value_count (satellite_set system) (id_of g) (e ∷ es))
     (count_first (λ e. has_listed_value (satellite_set system) e && (e.signal == id_of g)) e es)))
   where
@@ -224,16 +224,16 @@ adds_none {c} {c'} {system} {left} {counts} {x} {n} a split none is once = recor
 -- ---- all numbers
 
 pub finished : {c c' : SignalCountsValue} {system : System} {left counts : List ℕ} (es : List Entry) → Adds c c' system left counts → left ≡ [] → ((i : ℕ) → i < 32 → get_or counts i 0 ≡ value_count (satellite_set system) (i + 1) es) → CountsEntries c c' system es
-finished {c} {c'} {system} {counts} es a none numbers = λ field cells few h. record {
+finished {c} {c'} {system} {counts} es a none numbers = λ form cells few h. record {
   size = λ s. a.size s ∙ h.size s;
   past = λ s i out. a.past s i out ∙ h.past s i out;
   each = λ s i listed.
       let r = signal_in s i in
-      let more : List HeardCell = filter brings_value (filter_map (seen_in every_channel field system) es) in
+      let more : List HeardCell = filter brings_value (filter_map (seen_in every_channel form system) es) in
       let start : counted c s i ≡ count_of r cells = h.each s i listed in
       let small : counted c s i < 2 ^ 63 = below _ _ _ (length es) start (few_of r cells) few in
       let before : counted c' s i ≡ counted c s i + number system [] counts r = subst (λ (l : List ℕ). counted c' s i ≡ counted c s i + number system l counts r) none (a.each s i listed (h.size s) small) in
-      let total : count_of r more ≡ number system [] counts r = all_entries field system es r listed ∙ sym (last r listed (is_system system s)) in
+      let total : count_of r more ≡ number system [] counts r = all_entries form system es r listed ∙ sym (last r listed (is_system system s)) in
       ended before start (count_append r cells more) total;
 } where
   below : (a b l n : ℕ) → a ≡ b → b ≤ l → l + n < 2 ^ 63 → a < 2 ^ 63

@@ -1,4 +1,5 @@
 -- A conversion of GPS and Galileo alone.
+use Rattle.rtcm_msg.specs.declared.view.Form.TheVariants as forms
 use Rattle.std.proofs.Common.{◌≡◌, ◌∙◌, ◌⊎◌, inl, inr, refl, sym, subst, ap, ℕ, ◌+◌, List, [], ◌∷◌, Bool, true, false, Option, Some, None, option_map, option_and_then, filter_map, is_some, nat_le, ◌&&◌, Result, Ok, Err, if◌then◌else◌}
 use Rattle.std.specs.List.{cons_option}
 use Rattle.gnss_system.specs.declared.system.System.{System}
@@ -19,8 +20,7 @@ use Rattle.rtcm_msg.specs.Msm.{MsmValue}
 use Rattle.rtcm_msg.specs.Numbers.{default_set}
 use Rattle.rtcm_msg.specs.Sets.{is_in_set, message_by_table}
 use Rattle.rtcm_msg.specs.declared.entry.Entry.{Entry}
-use Rattle.rtcm_msg.specs.declared.entry.LockField.{LockField}
-use Rattle.rtcm_msg.specs.declared.entry.LockField.TheVariants.{Df402, Df407}
+use Rattle.rtcm_msg.specs.declared.view.Form.{Form}
 use Rattle.rtcm_msg.specs.declared.fault.MsgFault.{MsgFault}
 use Rattle.rtcm_msg.specs.declared.message.Message.{Message}
 use Rattle.rtcm_msg.specs.declared.message.Message.TheVariants as message
@@ -35,10 +35,10 @@ use Rattle.std.proofs.lemmas.Bool.{and_parts}
 pub default_decoded : (plan : PlanValue) → PlansTwo plan → set_of plan FourAndSeven ≡ default_set
 default_decoded plan two =
     ap (λ (systems : BySystem Bool). record { systems = systems; forms = FourAndSeven }) (tabulated_same (is_decoded plan) is_always_decoded same) where
-  same : (s : System) → is_decoded plan s ≡ is_always_decoded s
-  same Gps = refl
-  same Galileo = refl
-  same other = rw (two other (λ e. cc e) (λ e. cc e)) refl
+      same : (s : System) → is_decoded plan s ≡ is_always_decoded s
+      same Gps = refl
+      same Galileo = refl
+      same other = rw (two other (λ e. cc e) (λ e. cc e)) refl
 
 -- GPS or Galileo.
 abbrev IsOfTwo : System → Type 0
@@ -56,35 +56,35 @@ by_test : (b : Bool) (x : Satellite) (f g : Satellite → Option HeardCell) → 
 by_test true x f g same = same
 by_test false x f g same = refl
 
-gps_cell : (channels : ChannelsValue) (field : LockField) (e : Entry) → seen_in channels field Gps e ≡ plain_cell_of field Gps e
-gps_cell channels field e =
+gps_cell : (channels : ChannelsValue) (form : Form) (e : Entry) → seen_in channels form Gps e ≡ plain_cell_of form Gps e
+gps_cell channels form e =
     by_test (nat_le 1 e.satellite && nat_le e.satellite (satellites Gps)) (record { system = Gps; id = e.satellite })
-    (λ satellite. option_map (observed channels (lock_by field e.lock) e satellite) (signal_of_id Gps e.signal))
-    (λ satellite. option_map (plain_cell (lock_by field e.lock) e satellite) (signal_of_id Gps e.signal)) refl
+    (λ satellite. option_map (observed channels (lock_by form e.lock) e satellite) (signal_of_id Gps e.signal))
+    (λ satellite. option_map (plain_cell (lock_by form e.lock) e satellite) (signal_of_id Gps e.signal)) refl
 
-galileo_cell : (channels : ChannelsValue) (field : LockField) (e : Entry) → seen_in channels field Galileo e ≡ plain_cell_of field Galileo e
-galileo_cell channels field e =
+galileo_cell : (channels : ChannelsValue) (form : Form) (e : Entry) → seen_in channels form Galileo e ≡ plain_cell_of form Galileo e
+galileo_cell channels form e =
     by_test (nat_le 1 e.satellite && nat_le e.satellite (satellites Galileo)) (record { system = Galileo; id = e.satellite })
-    (λ satellite. option_map (observed channels (lock_by field e.lock) e satellite) (signal_of_id Galileo e.signal))
-    (λ satellite. option_map (plain_cell (lock_by field e.lock) e satellite) (signal_of_id Galileo e.signal)) refl
+    (λ satellite. option_map (observed channels (lock_by form e.lock) e satellite) (signal_of_id Galileo e.signal))
+    (λ satellite. option_map (plain_cell (lock_by form e.lock) e satellite) (signal_of_id Galileo e.signal)) refl
 
-cell_same : (channels : ChannelsValue) (field : LockField) (s : System) (e : Entry) → IsOfTwo s → seen_in channels field s e ≡ plain_cell_of field s e
-cell_same channels field s e (inl is) = subst (λ (t : System). seen_in channels field t e ≡ plain_cell_of field t e) (sym is) (gps_cell channels field e)
-cell_same channels field s e (inr is) = subst (λ (t : System). seen_in channels field t e ≡ plain_cell_of field t e) (sym is) (galileo_cell channels field e)
+cell_same : (channels : ChannelsValue) (form : Form) (s : System) (e : Entry) → IsOfTwo s → seen_in channels form s e ≡ plain_cell_of form s e
+cell_same channels form s e (inl is) = subst (λ (t : System). seen_in channels form t e ≡ plain_cell_of form t e) (sym is) (gps_cell channels form e)
+cell_same channels form s e (inr is) = subst (λ (t : System). seen_in channels form t e ≡ plain_cell_of form t e) (sym is) (galileo_cell channels form e)
 
-cells_same : (channels : ChannelsValue) (field : LockField) (s : System) (es : List Entry) → IsOfTwo s
-    → filter_map (seen_in channels field s) es ≡ filter_map (plain_cell_of field s) es
-cells_same channels field s [] of = refl
-cells_same channels field s (e ∷ es) of =
-    ap (λ (o : Option HeardCell). cons_option o (filter_map (seen_in channels field s) es)) (cell_same channels field s e of)
-    ∙ ap (cons_option (plain_cell_of field s e)) (cells_same channels field s es of)
+cells_same : (channels : ChannelsValue) (form : Form) (s : System) (es : List Entry) → IsOfTwo s
+    → filter_map (seen_in channels form s) es ≡ filter_map (plain_cell_of form s) es
+cells_same channels form s [] of = refl
+cells_same channels form s (e ∷ es) of =
+    ap (λ (o : Option HeardCell). cons_option o (filter_map (seen_in channels form s) es)) (cell_same channels form s e of)
+    ∙ ap (cons_option (plain_cell_of form s e)) (cells_same channels form s es of)
 
-unlisted_same : (channels : ChannelsValue) (field : LockField) (s : System) (es : List Entry) → IsOfTwo s
-    → unlisted_in channels field s es ≡ plain_unlisted field s es
-unlisted_same channels field s [] of = refl
-unlisted_same channels field s (e ∷ es) of =
-    ap (λ (o : Option HeardCell). (if is_some o then 0 else 1) + unlisted_in channels field s es) (cell_same channels field s e of)
-    ∙ ap (λ (n : ℕ). (if is_some (plain_cell_of field s e) then 0 else 1) + n) (unlisted_same channels field s es of)
+unlisted_same : (channels : ChannelsValue) (form : Form) (s : System) (es : List Entry) → IsOfTwo s
+    → unlisted_in channels form s es ≡ plain_unlisted form s es
+unlisted_same channels form s [] of = refl
+unlisted_same channels form s (e ∷ es) of =
+    ap (λ (o : Option HeardCell). (if is_some o then 0 else 1) + unlisted_in channels form s es) (cell_same channels form s e of)
+    ∙ ap (λ (n : ℕ). (if is_some (plain_cell_of form s e) then 0 else 1) + n) (unlisted_same channels form s es of)
 
 -- ---- messages
 
@@ -97,19 +97,19 @@ tow_same : (leap : ℕ) (s : System) (time : ℕ) → IsOfTwo s → tow_of s lea
 tow_same leap s time (inl is) = rw is refl
 tow_same leap s time (inr is) = rw is refl
 
-msm_same : (channels : ChannelsValue) (leap : ℕ) (field : LockField) (m : MsmValue) (es : List Entry) → IsOfTwo m.system
-    → heard_msm channels leap field m es ≡ plain_msm field m es
-msm_same channels leap field m es of =
-    ap (λ (cells : List HeardCell). msm_with m cells (unlisted_in channels field m.system es) (tow_of m.system leap m.header.time)) (cells_same channels field m.system es of)
-    ∙ (ap (λ (n : ℕ). msm_with m (filter_map (plain_cell_of field m.system) es) n (tow_of m.system leap m.header.time)) (unlisted_same channels field m.system es of)
-    ∙ ap (msm_with m (filter_map (plain_cell_of field m.system) es) (plain_unlisted field m.system es)) (tow_same leap m.system m.header.time of))
+msm_same : (channels : ChannelsValue) (leap : ℕ) (form : Form) (m : MsmValue) (es : List Entry) → IsOfTwo m.system
+    → heard_msm channels leap form m es ≡ plain_msm form m es
+msm_same channels leap form m es of =
+    ap (λ (cells : List HeardCell). msm_with m cells (unlisted_in channels form m.system es) (tow_of m.system leap m.header.time)) (cells_same channels form m.system es of)
+    ∙ (ap (λ (n : ℕ). msm_with m (filter_map (plain_cell_of form m.system) es) n (tow_of m.system leap m.header.time)) (unlisted_same channels form m.system es of)
+    ∙ ap (msm_with m (filter_map (plain_cell_of form m.system) es) (plain_unlisted form m.system es)) (tow_same leap m.system m.header.time of))
 
 message_same : (channels : ChannelsValue) (leap : ℕ) (m : Message) → is_in_set default_set m ≡ true → heard channels leap m ≡ plain_heard m
 message_same channels leap (message.Station p) within = refl
-message_same channels leap (message.Msm4 m) within = msm_same channels leap Df402 m (entries (message.Msm4 m)) (of_default m.system (and_parts (value_of m.system (of_two true true false)) true within).0)
-message_same channels leap (message.Msm5 m) within = msm_same channels leap Df402 m (entries (message.Msm5 m)) (of_default m.system (and_parts (value_of m.system (of_two true true false)) false within).0)
-message_same channels leap (message.Msm6 m) within = msm_same channels leap Df407 m (entries (message.Msm6 m)) (of_default m.system (and_parts (value_of m.system (of_two true true false)) false within).0)
-message_same channels leap (message.Msm7 m) within = msm_same channels leap Df407 m (entries (message.Msm7 m)) (of_default m.system (and_parts (value_of m.system (of_two true true false)) true within).0)
+message_same channels leap (message.Msm4 m) within = msm_same channels leap forms.Msm4 m (entries (message.Msm4 m)) (of_default m.system (and_parts (value_of m.system (of_two true true false)) true within).0)
+message_same channels leap (message.Msm5 m) within = msm_same channels leap forms.Msm5 m (entries (message.Msm5 m)) (of_default m.system (and_parts (value_of m.system (of_two true true false)) false within).0)
+message_same channels leap (message.Msm6 m) within = msm_same channels leap forms.Msm6 m (entries (message.Msm6 m)) (of_default m.system (and_parts (value_of m.system (of_two true true false)) false within).0)
+message_same channels leap (message.Msm7 m) within = msm_same channels leap forms.Msm7 m (entries (message.Msm7 m)) (of_default m.system (and_parts (value_of m.system (of_two true true false)) true within).0)
 message_same channels leap (message.Other n set) within = refl
 
 -- ---- what is decoded

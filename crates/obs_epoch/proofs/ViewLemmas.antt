@@ -2,18 +2,15 @@
 use Rattle.std.proofs.Common.{arith, ◌≡◌, ◌∙◌, refl, Bool, true, ℕ}
 use Rattle.gnss_obs.specs.Channels.{ChannelsValue}
 use Rattle.obs_epoch.proofs.EntryLemmas.{load_entries_is}
-use Rattle.obs_epoch.specs.Names.{Form, FormedMsm, formed, message_in, lock_field, MsmValue, entries, heard, heard_by, heard_msm, GathererValue, load_entries, loaded_where, no_counts}
+use Rattle.obs_epoch.specs.Names.{FormedMsm, formed, entries, heard, heard_by, heard_msm, GathererValue, load_entries, loaded_where, no_counts}
 use Rattle.std.proofs.lemmas.Grind.{common_steps}
 
-by_form : (channels : ChannelsValue) (leap : ℕ) (f : Form) (v : MsmValue) → heard channels leap (message_in f v) ≡ heard_msm channels leap (lock_field f) v (entries (message_in f v))
-by_form channels leap f v = grind (arith, common_steps)
-
-pub heard_formed : (channels : ChannelsValue) (leap : ℕ) (m : FormedMsm) → heard channels leap (formed m) ≡ heard_msm channels leap (lock_field m.form) m.msm (entries (formed m))
-heard_formed channels leap m = by_form channels leap m.form m.msm
+pub heard_formed : (channels : ChannelsValue) (leap : ℕ) (m : FormedMsm) → heard channels leap (formed m) ≡ heard_msm channels leap m.form m.msm (entries (formed m))
+heard_formed channels leap m = grind (arith, common_steps)
 
 -- The entries of a view, if the message is accepted.
 pub loaded_view : (m : FormedMsm) (is_accepted : Bool) (g : GathererValue) → is_accepted ≡ true
-    → load_entries (lock_field m.form) m.msm.system (record { state = g; counts = no_counts }) (entries (formed m)) ≡ loaded_where is_accepted g (heard_by g.clock.setup (formed m))
+    → load_entries m.form m.msm.system (record { state = g; counts = no_counts }) (entries (formed m)) ≡ loaded_where is_accepted g (heard_by g.clock.setup (formed m))
 loaded_view m is_accepted g is =
-    load_entries_is g.clock.setup.plan.channels (lock_field m.form) m.msm.system (record { state = g; counts = no_counts }) (entries (formed m)) refl
+    load_entries_is g.clock.setup.plan.channels m.form m.msm.system (record { state = g; counts = no_counts }) (entries (formed m)) refl
     ∙ rw (is, heard_formed g.clock.setup.plan.channels g.clock.setup.leap_seconds m) refl

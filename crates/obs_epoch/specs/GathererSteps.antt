@@ -8,7 +8,7 @@ use Rattle.gnss_system.specs.Systems.{systems}
 use Rattle.gnss_obs.specs.declared.cell.StationValues.{StationValues}
 use Rattle.obs_epoch.specs.Held.{CellOutcome, Kept, count_in, lookup, note_systems, outcome_of}
 use Rattle.rtcm_msg.specs.declared.entry.Entry.{Entry}
-use Rattle.rtcm_msg.specs.declared.entry.LockField.{LockField}
+use Rattle.rtcm_msg.specs.declared.view.Form.{Form}
 use Rattle.obs_epoch.specs.Heard.{Heard, seen_in}
 use Rattle.gnss_obs.specs.HeardCells.{HeardCell, kept_cell}
 use Rattle.obs_epoch.specs.Cells.{no_counts, with_skipped}
@@ -107,18 +107,18 @@ load l (x ∷ xs) = load (load_one l x) xs
 abbrev pub with_unlisted : ℕ → Loaded → Loaded
 with_unlisted n l = record { state = l.state; counts = with_skipped n l.counts }
 
-abbrev pub load_entry : LockField → System → Loaded → Entry → Loaded
-load_entry field system l e =
-    option_map_or (load_one l) (seen_in l.state.clock.setup.plan.channels field system e) (with_unlisted 1 l)
+abbrev pub load_entry : Form → System → Loaded → Entry → Loaded
+load_entry form system l e =
+    option_map_or (load_one l) (seen_in l.state.clock.setup.plan.channels form system e) (with_unlisted 1 l)
 
 -- A system by number: 0 is GPS, 1 Galileo, and any other number a given system.
 abbrev pub system_as : ℕ → System → System
 system_as number system = if number == 0 then Gps else (if number == 1 then Galileo else system)
 
 -- The entries of a message, one by one.
-abbrev pub load_entries : LockField → System → Loaded → List Entry → Loaded
-load_entries field system l [] = l
-load_entries field system l (e ∷ es) = load_entries field system (load_entry field system l e) es
+abbrev pub load_entries : Form → System → Loaded → List Entry → Loaded
+load_entries form system l [] = l
+load_entries form system l (e ∷ es) = load_entries form system (load_entry form system l e) es
 
 -- The cells of a message.
 abbrev pub load_heard : Loaded → Heard → Loaded

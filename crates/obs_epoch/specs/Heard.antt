@@ -1,6 +1,6 @@
 -- The parts of a message that it uses.
 use Rattle.std.specs.Prelude.{ℕ, ◌==◌, ◌&&◌, Bool, true, false, not, List, [], ◌∷◌, if◌then◌else◌}
-use Rattle.std.specs.Prelude.{Option, Some, None, option_map, option_and_then, filter_map, ◌+◌, ◌-◌, ◌*◌, ◌/◌, ◌%◌, ◌^◌}
+use Rattle.std.specs.Prelude.{Option, Some, None, option_map, option_and_then, filter_map, ◌+◌, ◌-◌, ◌*◌, ◌%◌}
 use Rattle.std.specs.Prelude.{is_some}
 use Rattle.std.specs.Prelude.{Result, Ok, Err}
 use Rattle.std.specs.Option.{option_map_or}
@@ -16,14 +16,13 @@ use Rattle.rtcm_msg.specs.declared.station.StationParts.{StationParts}
 use Rattle.rtcm_msg.specs.declared.entry.Entry.{Entry}
 use Rattle.rtcm_msg.specs.declared.message.Message.{Message}
 use Rattle.rtcm_msg.specs.Msm.{MsmValue, time_of_week, week}
-use Rattle.rtcm_msg.specs.declared.entry.LockField.{LockField}
-use Rattle.rtcm_msg.specs.declared.entry.LockField.TheVariants.{Df402, Df407}
+use Rattle.rtcm_msg.specs.declared.view.Form.{Form}
 use Rattle.rtcm_msg.specs.declared.summary.Summary.{Summary}
 use Rattle.rtcm_msg.specs.declared.fault.MsgFault.{MsgFault}
 use Rattle.rtcm_msg.specs.Decoding.{message_at, message_with}
 use Rattle.rtcm_msg.specs.declared.number.MsmSet.{MsmSet}
 use Rattle.rtcm_msg.specs.Entries.{entries_in}
-use Rattle.rtcm_msg.specs.Forms.{lock_field}
+use Rattle.rtcm_msg.specs.Forms.{is_fine}
 use Rattle.rtcm_msg.specs.Messages.{by_message}
 use Rattle.gnss_obs.specs.HeardCells.{HeardCell}
 pub use Rattle.obs_epoch.specs.declared.setup.GatherSetup.{GatherSetup}
@@ -65,20 +64,19 @@ seen_by channels lock system e =
     option_and_then (λ satellite. option_map (observed channels lock e satellite) (signal_of_id system e.signal))
     (satellite_of_id system e.satellite)
 
--- The lock of a lock time indicator of this field.
-abbrev pub lock_by : LockField → ℕ → LockTime
-lock_by Df402 code = times4 code
-lock_by Df407 code = times7 code
+-- The lock of a lock time indicator, DF402 or DF407.
+abbrev pub lock_by : Form → ℕ → LockTime
+lock_by form code = if is_fine form then times7 code else times4 code
 
--- A cell of a message of this lock field and system.
-abbrev pub seen_in : ChannelsValue → LockField → System → Entry → Option HeardCell
-seen_in channels field system e = seen_by channels (lock_by field e.lock) system e
+-- A cell of a message of this lock form and system.
+abbrev pub seen_in : ChannelsValue → Form → System → Entry → Option HeardCell
+seen_in channels form system e = seen_by channels (lock_by form e.lock) system e
 
 -- The number of cells of an unlisted satellite or signal.
-abbrev pub unlisted_in : ChannelsValue → LockField → System → List Entry → ℕ
-unlisted_in channels field system [] = 0
-unlisted_in channels field system (e ∷ es) =
-    (if is_some (seen_in channels field system e) then 0 else 1) + unlisted_in channels field system es
+abbrev pub unlisted_in : ChannelsValue → Form → System → List Entry → ℕ
+unlisted_in channels form system [] = 0
+unlisted_in channels form system (e ∷ es) =
+    (if is_some (seen_in channels form system e) then 0 else 1) + unlisted_in channels form system es
 
 -- The time of week in GPS time of one in a time scale, both in milliseconds, with GPS time minus UTC in seconds: BeiDou
 -- time is 14 s less than GPS time, and GLONASS time is UTC plus 3 h.
@@ -91,13 +89,13 @@ tow_in Glonass leap time = (time + (week - 10_800_000) + 1000 * leap) % week
 abbrev pub tow_of : System → ℕ → ℕ → ℕ
 tow_of system leap time = tow_in (time_scale system) leap (time_of_week system time)
 
-abbrev pub heard_msm : ChannelsValue → ℕ → LockField → MsmValue → List Entry → Heard
-heard_msm channels leap field m es = record {
+abbrev pub heard_msm : ChannelsValue → ℕ → Form → MsmValue → List Entry → Heard
+heard_msm channels leap form m es = record {
   station = Some m.header.station;
   tow = Some (tow_of m.system leap m.header.time);
   more = Some m.header.more;
-  cells = filter_map (seen_in channels field m.system) es;
-  unlisted = unlisted_in channels field m.system es;
+  cells = filter_map (seen_in channels form m.system) es;
+  unlisted = unlisted_in channels form m.system es;
   point = None;
 }
 
@@ -118,7 +116,7 @@ heard_other number set = record {
 -- The parts of a message, with these channels of GLONASS satellites and leap seconds.
 abbrev pub heard : ChannelsValue → ℕ → Message → Heard
 heard channels leap v =
-    by_message heard_station (λ form m. heard_msm channels leap (lock_field form) m (entries_in form m)) heard_other v
+    by_message heard_station (λ form m. heard_msm channels leap form m (entries_in form m)) heard_other v
 
 -- The same with those of a setup.
 abbrev pub heard_by : GatherSetup → Message → Heard

@@ -40,11 +40,8 @@ pub use Rattle.rtcm_msg.specs.Entries.{entries}
 pub use Rattle.rtcm_msg.specs.Msm.{MsmValue}
 pub use Rattle.rtcm_msg.specs.ValueCounts.{has_id, has_listed_value, is_in, value_count}
 pub use Rattle.rtcm_msg.specs.Viewed.{viewed_message}
-pub use Rattle.rtcm_msg.specs.Forms.{lock_field}
 pub use Rattle.rtcm_msg.specs.Views.{FormedMsm, formed, message_in}
 pub use Rattle.rtcm_msg.specs.declared.entry.Entry.{Entry}
-pub use Rattle.rtcm_msg.specs.declared.entry.LockField.TheVariants.{Df402, Df407}
-pub use Rattle.rtcm_msg.specs.declared.entry.LockField.{LockField}
 pub use Rattle.rtcm_msg.specs.declared.header.MsmHeader.{MsmHeader}
 pub use Rattle.rtcm_msg.specs.declared.message.Message.TheVariants.{Msm4, Msm5, Msm6, Msm7, Other, Station}
 pub use Rattle.rtcm_msg.specs.declared.message.Message.{Message}

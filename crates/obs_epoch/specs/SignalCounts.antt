@@ -11,7 +11,7 @@ use Rattle.gnss_system.specs.declared.by_system.BySystem.{BySystem}
 use Rattle.gnss_system.specs.Signals.{SignalAt, table, most_signals}
 use Rattle.rtcm_msg.specs.Msm.{most_pairs}
 use Rattle.rtcm_msg.specs.declared.entry.Entry.{Entry}
-use Rattle.rtcm_msg.specs.declared.entry.LockField.{LockField}
+use Rattle.rtcm_msg.specs.declared.view.Form.{Form}
 use Rattle.obs_epoch.specs.Heard.{Heard, seen_in}
 use Rattle.gnss_obs.specs.Channels.{ChannelsValue, slot_count}
 use Rattle.gnss_obs.specs.HeardCells.{HeardCell}
@@ -84,11 +84,11 @@ pub record AreSignalCounts (c : SignalCountsValue) (cells : List HeardCell) : Ty
   pub past : (system : System) (i : ℕ) → length (table system) ≤ i → counted c system i ≡ 0
 
 -- From c to c' the cells of these entries that have a value were counted, regardless of the earlier cells and for every
--- lock field.
+-- lock form.
 abbrev pub CountsEntries : (c c' : SignalCountsValue) → System → List Entry → Type 0
 CountsEntries c c' system entries =
-    (field : LockField) (cells : List HeardCell) → length cells + length entries < 2 ^ 63 → AreSignalCounts c cells
-    → AreSignalCounts c' (cells ++ filter brings_value (filter_map (seen_in every_channel field system) entries))
+    (form : Form) (cells : List HeardCell) → length cells + length entries < 2 ^ 63 → AreSignalCounts c cells
+    → AreSignalCounts c' (cells ++ filter brings_value (filter_map (seen_in every_channel form system) entries))
 
 -- From c to c' the cells of a message that have a value were counted.
 pub record CountsMessage (c c' : SignalCountsValue) (wanted : Option ℕ) (m : Heard) : Type 0 where

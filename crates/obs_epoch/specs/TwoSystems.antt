@@ -11,12 +11,11 @@ use Rattle.gnss_obs.specs.LockTimes.{LockTime}
 use Rattle.gnss_obs.specs.Observables.{nearest_doppler, nearest_phase, nearest_pseudorange, nearest_strength}
 use Rattle.gnss_obs.specs.Values.{PlanValue, planned_of}
 use Rattle.rtcm_msg.specs.Entries.{entries_in}
-use Rattle.rtcm_msg.specs.Forms.{lock_field}
 use Rattle.rtcm_msg.specs.Messages.{by_message}
 use Rattle.rtcm_msg.specs.Msm.{MsmValue}
 use Rattle.rtcm_msg.specs.Sets.{message_by_table}
 use Rattle.rtcm_msg.specs.declared.entry.Entry.{Entry}
-use Rattle.rtcm_msg.specs.declared.entry.LockField.{LockField}
+use Rattle.rtcm_msg.specs.declared.view.Form.{Form}
 use Rattle.rtcm_msg.specs.declared.fault.MsgFault.{MsgFault}
 use Rattle.rtcm_msg.specs.declared.message.Message.{Message}
 use Rattle.rtcm_msg.specs.declared.number.Forms.TheVariants.{FourAndSeven}
@@ -41,33 +40,33 @@ plain_cell lock e satellite signal = record {
 }
 
 -- A cell of a message, if its satellite and its signal are listed.
-abbrev pub plain_cell_of : LockField → System → Entry → Option HeardCell
-plain_cell_of field system e =
+abbrev pub plain_cell_of : Form → System → Entry → Option HeardCell
+plain_cell_of form system e =
     option_and_then
-    (λ satellite. option_map (plain_cell (lock_by field e.lock) e satellite) (signal_of_id system e.signal))
+    (λ satellite. option_map (plain_cell (lock_by form e.lock) e satellite) (signal_of_id system e.signal))
     (satellite_of_id system e.satellite)
 
 -- The number of cells of an unlisted satellite or signal.
-abbrev pub plain_unlisted : LockField → System → List Entry → ℕ
-plain_unlisted field system [] = 0
-plain_unlisted field system (e ∷ es) =
-    (if is_some (plain_cell_of field system e) then 0 else 1) + plain_unlisted field system es
+abbrev pub plain_unlisted : Form → System → List Entry → ℕ
+plain_unlisted form system [] = 0
+plain_unlisted form system (e ∷ es) =
+    (if is_some (plain_cell_of form system e) then 0 else 1) + plain_unlisted form system es
 
 -- The time of week is the epoch time of the message.
-abbrev pub plain_msm : LockField → MsmValue → List Entry → Heard
-plain_msm field m es = record {
+abbrev pub plain_msm : Form → MsmValue → List Entry → Heard
+plain_msm form m es = record {
   station = Some m.header.station;
   tow = Some m.header.time;
   more = Some m.header.more;
-  cells = filter_map (plain_cell_of field m.system) es;
-  unlisted = plain_unlisted field m.system es;
+  cells = filter_map (plain_cell_of form m.system) es;
+  unlisted = plain_unlisted form m.system es;
   point = None;
 }
 
 -- The parts of a message.
 abbrev pub plain_heard : Message → Heard
 plain_heard v =
-    by_message heard_station (λ form m. plain_msm (lock_field form) m (entries_in form m)) heard_other v
+    by_message heard_station (λ form m. plain_msm form m (entries_in form m)) heard_other v
 
 -- The parts of a message, or `None` if it was refused.
 abbrev pub plain_of : Result Message MsgFault → Option Heard

@@ -2,10 +2,10 @@
 ghost use Rattle.std.specs.Prelude.{[], ◌≡◌, ◌↔◌, ◌⊎◌, ◌+◌, ◌<◌, ◌≤◌, true, false, length, None, Some, is_some, IfOk};
 ghost use Rattle.std.specs.Prelude.{IfErr, IfSome, IsOk, Err, if◌then◌else◌, option_map, option_to_list, List, Option};
 ghost use Rattle.std.specs.Option.{ForSome};
-ghost use Rattle.rtcm_msg.specs.Msm.{codes_of, most_pairs, week};
+ghost use Rattle.rtcm_msg.specs.Msm.{most_pairs, week};
 ghost use Rattle.rtcm_msg.specs.Entries.{IsEntry, entries};
 ghost use Rattle.rtcm_msg.specs.Viewed.{viewed_message};
-ghost use Rattle.rtcm_msg.specs.Forms.{form_as, lock_field};
+ghost use Rattle.rtcm_msg.specs.Forms.{form_as, lock_codes};
 ghost use Rattle.rtcm_msg.specs.Views.{formed};
 ghost use Rattle.gnss_obs.specs.Weeks.{weeks};
 ghost use Rattle.obs_epoch.specs.Heard.{Heard, heard_by, heard_summary};
@@ -38,9 +38,7 @@ use crate::start::new_parts;
 use crate::taken::{CellCounts, Kind, Taken};
 use crate::tow::summary_of;
 use gnss_obs::{Added, Cell, Epoch, EpochCells, Plan, PlanFault, StationValues, System};
-use rtcm_msg::{
-    Entry, Form, LockField, Message, MsmView, Summary, View, form_as,
-};
+use rtcm_msg::{Entry, Form, Message, MsmView, Summary, View, form_as};
 use std::alloc::Global;
 use std::marker::Model;
 
@@ -345,7 +343,7 @@ impl Gatherer {
         requires system { system_as S m.now.msm.system ≡ m.now.msm.system }
         requires pending { self.old.clock.pending ≡ true }
         ensures { record { state = self.new; counts = result }
-            ≡ load_entries (lock_field m.now.form) m.now.msm.system (record { state = self.old; counts = no_counts })
+            ≡ load_entries m.now.form m.now.msm.system (record { state = self.old; counts = no_counts })
             (entries (formed m.now)) }
     {
         match m.form() {
@@ -364,14 +362,14 @@ impl Gatherer {
         requires system { system_as S m.now.msm.system ≡ m.now.msm.system }
         requires pending { self.old.clock.pending ≡ true }
         ensures { record { state = self.new; counts = result }
-            ≡ load_entries (lock_field m.now.form) m.now.msm.system (record { state = self.old; counts = no_counts })
+            ≡ load_entries m.now.form m.now.msm.system (record { state = self.old; counts = no_counts })
             (entries (formed m.now)) }
     {
-        let (field, system) = (form_as::<F>().lock_field(), system_as::<S>(m.system()));
+        let (form, system) = (form_as::<F>(), system_as::<S>(m.system()));
         let mut cells = m.entries();
         let mut counts = CellCounts::default();
         while let Some(entry) = cells.next_in::<F>() {
-            self.take_entry(field, system, &entry, &mut counts);
+            self.take_entry(form, system, &entry, &mut counts);
         }
         counts
     }
@@ -398,16 +396,16 @@ impl Gatherer {
 
     // Processes a cell of a message, and counts its outcome.
     #[inline(always)]
-    fn take_entry(&mut self, field: LockField, system: System, entry: &Entry, n: &mut CellCounts)
-        requires entry { IsEntry (codes_of field) entry.now }
+    fn take_entry(&mut self, form: Form, system: System, entry: &Entry, n: &mut CellCounts)
+        requires entry { IsEntry (lock_codes form) entry.now }
         requires pending { self.old.clock.pending ≡ true }
         requires few { cells_counted n.old < usize.MAX }
         ensures step { record { state = self.new; counts = n.new }
-            ≡ load_entry field system (record { state = self.old; counts = n.old }) entry.now }
+            ≡ load_entry form system (record { state = self.old; counts = n.old }) entry.now }
         ensures pending { self.new.clock.pending ≡ true }
         ensures one { cells_counted n.new ≡ cells_counted n.old + 1 }
     {
-        match observe(self.clock.plan(), field, system, entry) {
+        match observe(self.clock.plan(), form, system, entry) {
             None => n.skipped += 1,
             Some(x) => self.take_cell(system, x, n),
         }

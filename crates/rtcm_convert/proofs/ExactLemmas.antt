@@ -1,5 +1,7 @@
 -- No count of a stream reaches the greatest number that is counted: a frame has at least six bytes and at most 64
 -- cells.
+use Rattle.rtcm_msg.specs.Entries.{entries_in}
+use Rattle.rtcm_msg.specs.declared.view.Form.{Form}
 use Rattle.rtcm_msg.specs.declared.view.Form.TheVariants as forms
 use Rattle.obs_epoch.specs.declared.choice.Choice.{Choice}
 use Rattle.obs_epoch.specs.Choices.{in_window, is_chosen, on_grid}
@@ -8,7 +10,7 @@ use Rattle.obs_epoch.specs.Marks.{capped_counts}
 use Rattle.obs_epoch.specs.Thinning.{has_satellite, marked_after, thin, thin_after}
 use Rattle.rtcm_convert.specs.Converted.{epoch_counts}
 use Rattle.gnss_obs.specs.Values.{Closed}
-use Rattle.rtcm_convert.proofs.Names.{common_steps, ◌≡◌, ◌||◌, ℕ, ◌+◌, ◌*◌, ◌≤◌, most_bytes, List, [], ◌∷◌, ◌++◌, Bool, true, false, refl, sym, ap, subst, arith, rules, length, length-append, add-zero, suc, nat_lt, Option, Some, None, is_some, LockField, Df402, Df407, count_by, filter, if◌then◌else◌, zip, option_map_or, length-map, length-filter, count_by-le-length, System, Framed, Message, Entry, MasksValue, MsmValue, AreMasks, IsMessage, chosen, cell_pairs, all_pairs, entries, entry_in, Kind, GatherSetup, Heard, heard, heard_by, ChannelsValue, heard_msm, is_own, unlisted_in, HeardCell, Timed, timed, timed_after, taken_at, is_late, is_past, time_of, times, counts_of, counts_of_message, no_counts, with_skipped, is_planned, offered, kind_of, kind_at, closed_at, satellites_written, SetupValue, messages_of, message_of, epochs_in, outcomes_after, capped, capped_tally, sum_of_counts, tally_of, tally_of_one, IsFew, AreFew, Report, CellCounts}
+use Rattle.rtcm_convert.proofs.Names.{common_steps, ◌≡◌, ◌||◌, ℕ, ◌+◌, ◌*◌, ◌≤◌, most_bytes, List, [], ◌∷◌, ◌++◌, Bool, true, false, refl, sym, ap, subst, arith, rules, length, length-append, add-zero, suc, nat_lt, Option, Some, None, is_some, count_by, filter, if◌then◌else◌, zip, option_map_or, length-map, length-filter, count_by-le-length, System, Framed, Message, Entry, MasksValue, MsmValue, AreMasks, IsMessage, chosen, cell_pairs, all_pairs, entry_in, Kind, GatherSetup, Heard, heard, heard_by, ChannelsValue, heard_msm, is_own, unlisted_in, HeardCell, Timed, timed, timed_after, taken_at, is_late, is_past, time_of, times, counts_of, counts_of_message, no_counts, with_skipped, is_planned, offered, kind_of, kind_at, closed_at, satellites_written, SetupValue, messages_of, message_of, epochs_in, outcomes_after, capped, capped_tally, sum_of_counts, tally_of, tally_of_one, IsFew, AreFew, Report, CellCounts}
 use Rattle.rtcm_msg.specs.declared.message.Message.TheVariants as message
 use Rattle.obs_epoch.specs.declared.taken.Kind.TheVariants as kind
 use Rattle.rtcm_bits.specs.SmallLaws.{length-filter-le, length-filter_map-le}
@@ -31,32 +33,27 @@ zip_few (x ∷ xs) (y ∷ ys) = let i = zip_few xs ys in omega arith
 cell_pairs_few : {B : Type 0} (s : MasksValue) (ys : List B) → AreMasks s → length (zip (cell_pairs s) ys) ≤ 64
 cell_pairs_few s ys h = grind (arith, common_steps, zip_few, chosen_few, all_pairs, length-uint)
 
-entries_few : (m : Message) → IsMessage m → length (entries m) ≤ 64
-entries_few (message.Station s) h = omega arith
-entries_few (message.Msm4 v) h = subst (λ (n : ℕ). n ≤ 64) (sym (length-map (zip (cell_pairs v.sets) v.cells) (entry_in forms.Msm4 v))) (cell_pairs_few v.sets v.cells h.sets)
-entries_few (message.Msm5 v) h = subst (λ (n : ℕ). n ≤ 64) (sym (length-map (zip (cell_pairs v.sets) v.cells) (entry_in forms.Msm5 v))) (cell_pairs_few v.sets v.cells h.sets)
-entries_few (message.Msm6 v) h = subst (λ (n : ℕ). n ≤ 64) (sym (length-map (zip (cell_pairs v.sets) v.cells) (entry_in forms.Msm6 v))) (cell_pairs_few v.sets v.cells h.sets)
-entries_few (message.Msm7 v) h = subst (λ (n : ℕ). n ≤ 64) (sym (length-map (zip (cell_pairs v.sets) v.cells) (entry_in forms.Msm7 v))) (cell_pairs_few v.sets v.cells h.sets)
-entries_few (message.Other n set) h = omega arith
+entries_few : (form : Form) (v : MsmValue) → AreMasks v.sets → length (entries_in form v) ≤ 64
+entries_few form v h = subst (λ (n : ℕ). n ≤ 64) (sym (length-map (zip (cell_pairs v.sets) v.cells) (entry_in form v))) (cell_pairs_few v.sets v.cells h)
 
-unlisted_few : (channels : ChannelsValue) (field : LockField) (system : System) (es : List Entry) → unlisted_in channels field system es ≤ length es
-unlisted_few channels field system [] = omega arith
-unlisted_few channels field system (e ∷ es) = grind (arith, common_steps, unlisted_few channels field system es)
+unlisted_few : (channels : ChannelsValue) (form : Form) (system : System) (es : List Entry) → unlisted_in channels form system es ≤ length es
+unlisted_few channels form system [] = omega arith
+unlisted_few channels form system (e ∷ es) = grind (arith, common_steps, unlisted_few channels form system es)
 
 -- the content of a message has at most 64 cells, and at most 64 unlisted ones
 record HasFew (m : Heard) : Type 0 where
   cells : length m.cells ≤ 64
   unlisted : m.unlisted ≤ 64
 
-heard_msm_few : (channels : ChannelsValue) (leap : ℕ) (field : LockField) (v : MsmValue) (es : List Entry) → length es ≤ 64 → HasFew (heard_msm channels leap field v es)
-heard_msm_few channels leap field v es le = grind (arith, common_steps, length-filter_map-le, unlisted_few)
+heard_msm_few : (channels : ChannelsValue) (leap : ℕ) (form : Form) (v : MsmValue) (es : List Entry) → length es ≤ 64 → HasFew (heard_msm channels leap form v es)
+heard_msm_few channels leap form v es le = grind (arith, common_steps, length-filter_map-le, unlisted_few)
 
 heard_few : (channels : ChannelsValue) (leap : ℕ) (m : Message) → IsMessage m → HasFew (heard channels leap m)
 heard_few channels leap (message.Station s) h = record { cells = omega arith; unlisted = omega arith }
-heard_few channels leap (message.Msm4 v) h = heard_msm_few channels leap Df402 v (entries (message.Msm4 v)) (entries_few (message.Msm4 v) h)
-heard_few channels leap (message.Msm5 v) h = heard_msm_few channels leap Df402 v (entries (message.Msm5 v)) (entries_few (message.Msm5 v) h)
-heard_few channels leap (message.Msm6 v) h = heard_msm_few channels leap Df407 v (entries (message.Msm6 v)) (entries_few (message.Msm6 v) h)
-heard_few channels leap (message.Msm7 v) h = heard_msm_few channels leap Df407 v (entries (message.Msm7 v)) (entries_few (message.Msm7 v) h)
+heard_few channels leap (message.Msm4 v) h = heard_msm_few channels leap forms.Msm4 v (entries_in forms.Msm4 v) (entries_few forms.Msm4 v h.sets)
+heard_few channels leap (message.Msm5 v) h = heard_msm_few channels leap forms.Msm5 v (entries_in forms.Msm5 v) (entries_few forms.Msm5 v h.sets)
+heard_few channels leap (message.Msm6 v) h = heard_msm_few channels leap forms.Msm6 v (entries_in forms.Msm6 v) (entries_few forms.Msm6 v h.sets)
+heard_few channels leap (message.Msm7 v) h = heard_msm_few channels leap forms.Msm7 v (entries_in forms.Msm7 v) (entries_few forms.Msm7 v h.sets)
 heard_few channels leap (message.Other n set) h = record { cells = omega arith; unlisted = omega arith }
 
 -- ---- the counts of a message

@@ -56,8 +56,6 @@ pub use Rattle.rtcm_msg.specs.Entries.{all_pairs, cell_pairs, entries, entry_in}
 pub use Rattle.rtcm_msg.specs.Msm.{AreMasks, MasksValue, MsmValue, pair_count}
 pub use Rattle.rtcm_msg.specs.Viewed.{viewed_message}
 pub use Rattle.rtcm_msg.specs.declared.entry.Entry.{Entry}
-pub use Rattle.rtcm_msg.specs.declared.entry.LockField.{LockField}
-pub use Rattle.rtcm_msg.specs.declared.entry.LockField.TheVariants.{Df402, Df407}
 pub use Rattle.rtcm_msg.specs.declared.fault.MsgFault.{MsgFault}
 pub use Rattle.rtcm_msg.specs.declared.message.Message.{Message}
 pub use Rattle.rtcm_msg.specs.declared.number.MsmSet.{MsmSet}

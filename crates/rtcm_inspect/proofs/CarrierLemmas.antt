@@ -1,4 +1,5 @@
 -- The values of a cell with and without its carrier.
+use Rattle.rtcm_msg.specs.declared.view.Form.TheVariants as forms
 use Rattle.std.specs.Prelude.{map}
 use Rattle.std.proofs.lemmas.List.{get_or-replicate}
 use Rattle.gnss_system.specs.declared.system.System.TheVariants.{Glonass}
@@ -8,7 +9,7 @@ use Rattle.gnss_obs.specs.Channels.{channel_hertz, hertz_in}
 use Rattle.gnss_obs.specs.LockTimes.{LockTime}
 use Rattle.gnss_obs.specs.Observables.{nearest_doppler, nearest_phase, nearest_pseudorange, nearest_strength}
 use Rattle.rtcm_inspect.specs.SignalLaws.{CellValues, LosesUnknownCarriers, values_by, values_of}
-use Rattle.rtcm_inspect.proofs.Names.{◌≡◌, ◌-◌, ◌<◌, ap, ap₂, cons_option, every_channel, filter_map, if◌then◌else◌, is_some, lock_by, observed, option_and_then, option_map, seen_in, signal_of_id, ChannelsValue, Df402, Df407, Entry, LockField, Satellite, SignalAt, System, entries, Msm4, Msm5, Msm6, Msm7, Bool, true, false, ◌&&◌, nat_le, nat_tests, ℕ, ℤ, List, [], ◌∷◌, Option, Some, None, refl, arith, HeardCell, slot_count}
+use Rattle.rtcm_inspect.proofs.Names.{◌≡◌, ◌-◌, ◌<◌, ap, ap₂, cons_option, every_channel, filter_map, if◌then◌else◌, is_some, lock_by, observed, option_and_then, option_map, seen_in, signal_of_id, ChannelsValue, Entry, Satellite, SignalAt, System, entries, Msm4, Msm5, Msm6, Msm7, Bool, true, false, ◌&&◌, nat_le, nat_tests, ℕ, ℤ, List, [], ◌∷◌, Option, Some, None, refl, arith, HeardCell, slot_count, Form}
 
 -- ---- with a channel for each slot each carrier is known
 
@@ -48,28 +49,28 @@ cell_values channels lock e u g known =
     ap₂ (values_with e u g) (present nearest_phase (hertz_in channels u g) (hertz_in every_channel u g) e.phase known)
     (present nearest_doppler (hertz_in channels u g) (hertz_in every_channel u g) e.rate known)
 
-module _ (channels : ChannelsValue) (field : LockField) (system : System) where
+module _ (channels : ChannelsValue) (form : Form) (system : System) where
   abbrev with_channels : Entry → ChannelsValue → Option SignalAt → Option Satellite → Option HeardCell
-  with_channels e c g u = option_and_then (λ u. option_map (observed c (lock_by field e.lock) e u) g) u
+  with_channels e c g u = option_and_then (λ u. option_map (observed c (lock_by form e.lock) e u) g) u
 
   one_cell : (e : Entry) (xs ys : List HeardCell) → map values_of xs ≡ map (values_by channels) ys
-      → map values_of (cons_option (seen_in channels field system e) xs) ≡ map (values_by channels) (cons_option (seen_in every_channel field system e) ys)
+      → map values_of (cons_option (seen_in channels form system e) xs) ≡ map (values_by channels) (cons_option (seen_in every_channel form system e) ys)
   one_cell e xs ys same = by (nat_le 1 e.satellite && nat_le e.satellite (satellites system)) refl (signal_of_id system e.signal) where
     by : (b : Bool) → (nat_le 1 e.satellite && nat_le e.satellite (satellites system)) ≡ b → (g : Option SignalAt)
         → map values_of (cons_option (with_channels e channels g (if b then Some (record { system = system; id = e.satellite }) else None)) xs)
         ≡ map (values_by channels) (cons_option (with_channels e every_channel g (if b then Some (record { system = system; id = e.satellite }) else None)) ys)
     by true h (Some g) =
-        ap₂ (λ (v : CellValues) (vs : List CellValues). v ∷ vs) (cell_values channels (lock_by field e.lock) e (record { system = system; id = e.satellite }) g (known_always system e.satellite g h)) same
+        ap₂ (λ (v : CellValues) (vs : List CellValues). v ∷ vs) (cell_values channels (lock_by form e.lock) e (record { system = system; id = e.satellite }) g (known_always system e.satellite g h)) same
     by true h None = same
     by false h g = same
 
-  all_cells : (es : List Entry) → map values_of (filter_map (seen_in channels field system) es) ≡ map (values_by channels) (filter_map (seen_in every_channel field system) es)
+  all_cells : (es : List Entry) → map values_of (filter_map (seen_in channels form system) es) ≡ map (values_by channels) (filter_map (seen_in every_channel form system) es)
   all_cells [] = refl
-  all_cells (e ∷ es) = one_cell e (filter_map (seen_in channels field system) es) (filter_map (seen_in every_channel field system) es) (all_cells es)
+  all_cells (e ∷ es) = one_cell e (filter_map (seen_in channels form system) es) (filter_map (seen_in every_channel form system) es) (all_cells es)
 
 pub unknown_carriers : LosesUnknownCarriers
-unknown_carriers s (Msm4 v) = all_cells s.plan.channels Df402 v.system (entries (Msm4 v))
-unknown_carriers s (Msm5 v) = all_cells s.plan.channels Df402 v.system (entries (Msm5 v))
-unknown_carriers s (Msm6 v) = all_cells s.plan.channels Df407 v.system (entries (Msm6 v))
-unknown_carriers s (Msm7 v) = all_cells s.plan.channels Df407 v.system (entries (Msm7 v))
+unknown_carriers s (Msm4 v) = all_cells s.plan.channels forms.Msm4 v.system (entries (Msm4 v))
+unknown_carriers s (Msm5 v) = all_cells s.plan.channels forms.Msm5 v.system (entries (Msm5 v))
+unknown_carriers s (Msm6 v) = all_cells s.plan.channels forms.Msm6 v.system (entries (Msm6 v))
+unknown_carriers s (Msm7 v) = all_cells s.plan.channels forms.Msm7 v.system (entries (Msm7 v))
 unknown_carriers s other = refl

@@ -84,8 +84,6 @@ pub use Rattle.rtcm_msg.specs.Viewed.{viewed_message}
 pub use Rattle.rtcm_msg.specs.Views.{FormedMsm, formed, message_in}
 pub use Rattle.rtcm_msg.specs.Numbers.{have_form, message_number}
 pub use Rattle.rtcm_msg.specs.declared.entry.Entry.{Entry}
-pub use Rattle.rtcm_msg.specs.declared.entry.LockField.{LockField}
-pub use Rattle.rtcm_msg.specs.declared.entry.LockField.TheVariants.{Df402, Df407}
 pub use Rattle.rtcm_msg.specs.declared.fault.MsgFault.{MsgFault}
 pub use Rattle.rtcm_msg.specs.declared.header.MsmHeader.{MsmHeader}
 pub use Rattle.rtcm_msg.specs.declared.message.Message.{Message}

@@ -11,7 +11,7 @@ use Rattle.gnss_system.proofs.SystemLaws.{value_tabulated}
 use Rattle.obs_epoch.specs.Sets.{is_always_decoded, is_decoded}
 use Rattle.rtcm_inspect.specs.SignalLaws.{ReadsAll}
 use Rattle.rtcm_inspect.proofs.ValuedLemmas.{valued_system}
-use Rattle.rtcm_inspect.proofs.Names.{false_from_ne_true, or_right, true≢false, get_or, All-head, All-tail, Df402, Df407, GatherSetup, SignalAt, entries, has_listed_key, is_planned, is_some, place_in, planned_of, ◌≡◌, ◌∙◌, ◌++◌, ◌||◌, ℕ, Bool, true, false, not, List, [], ◌∷◌, Option, Some, None, Result, Ok, Err, All, All-cons, All-nil, ⊤, ◌&&◌, ap, arith, bits_of, inl, inr, length, list_any, list_any-append, nat_lt, option_and_then, option_map_or, refl, subst, sym, if◌then◌else◌, Framed, MsgFault, Message, Station, Msm4, Msm5, Msm6, Msm7, Form, Forms, MsmSet, message_at, message_with, have_form, System, Heard, HeardCell, every_channel, heard, heard_of, inspected, inspected_in, inspected_of, is_of_station, set_of, valued, forms_had, has_other_value, is_of_other, needs_all, tow_of, valued_in, valued_of, with_forms}
+use Rattle.rtcm_inspect.proofs.Names.{false_from_ne_true, or_right, true≢false, get_or, All-head, All-tail, GatherSetup, SignalAt, entries, has_listed_key, is_planned, is_some, place_in, planned_of, ◌≡◌, ◌∙◌, ◌++◌, ◌||◌, ℕ, Bool, true, false, not, List, [], ◌∷◌, Option, Some, None, Result, Ok, Err, All, All-cons, All-nil, ⊤, ◌&&◌, ap, arith, bits_of, inl, inr, length, list_any, list_any-append, nat_lt, option_and_then, option_map_or, refl, subst, sym, if◌then◌else◌, Framed, MsgFault, Message, Station, Msm4, Msm5, Msm6, Msm7, Form, Forms, MsmSet, message_at, message_with, have_form, System, Heard, HeardCell, every_channel, heard, heard_of, inspected, inspected_in, inspected_of, is_of_station, set_of, valued, forms_had, has_other_value, is_of_other, needs_all, tow_of, valued_in, valued_of, with_forms}
 
 -- the laws of the messages of a set
 pub record SetLaws : Type 0 where
@@ -121,10 +121,10 @@ kept_frame laws s fs f planned had = by (message_at f.message) refl had where
   cells m read = ap (λ (r : Result Message MsgFault). option_map_or (valued s.station) (inspected_of r) []) read
 
   none : (m : Message) → is_in_set (set_of s.plan fs) m ≡ false → has_other_value fs s.station m ≡ false → ArePlanned s (valued s.station (inspected m)) → valued s.station (inspected m) ≡ []
-  none (Msm4 v) out had h = no_cell s fs form.Msm4 v.system (valued s.station (inspected (Msm4 v))) (valued_system s.station Df402 v (entries (Msm4 v))) h out had
-  none (Msm5 v) out had h = no_cell s fs form.Msm5 v.system (valued s.station (inspected (Msm5 v))) (valued_system s.station Df402 v (entries (Msm5 v))) h out had
-  none (Msm6 v) out had h = no_cell s fs form.Msm6 v.system (valued s.station (inspected (Msm6 v))) (valued_system s.station Df407 v (entries (Msm6 v))) h out had
-  none (Msm7 v) out had h = no_cell s fs form.Msm7 v.system (valued s.station (inspected (Msm7 v))) (valued_system s.station Df407 v (entries (Msm7 v))) h out had
+  none (Msm4 v) out had h = no_cell s fs form.Msm4 v.system (valued s.station (inspected (Msm4 v))) (valued_system s.station form.Msm4 v (entries (Msm4 v))) h out had
+  none (Msm5 v) out had h = no_cell s fs form.Msm5 v.system (valued s.station (inspected (Msm5 v))) (valued_system s.station form.Msm5 v (entries (Msm5 v))) h out had
+  none (Msm6 v) out had h = no_cell s fs form.Msm6 v.system (valued s.station (inspected (Msm6 v))) (valued_system s.station form.Msm6 v (entries (Msm6 v))) h out had
+  none (Msm7 v) out had h = no_cell s fs form.Msm7 v.system (valued s.station (inspected (Msm7 v))) (valued_system s.station form.Msm7 v (entries (Msm7 v))) h out had
   none other out had h = cc
 
   by_set : (m : Message) → message_at f.message ≡ Ok m → has_other_value fs s.station m ≡ false → (b : Bool) → is_in_set (set_of s.plan fs) m ≡ b → ReadsAll (set_of s.plan fs) s f

@@ -1,9 +1,10 @@
 -- The cells that a conversion skips with the plan of a stream's signals.
+use Rattle.rtcm_msg.specs.declared.view.Form.TheVariants as forms
 use Rattle.rtcm_msg.specs.Encoding.{other_of}
 use Rattle.rtcm_msg.specs.Sets.{is_in_set}
 use Rattle.rtcm_inspect.proofs.SetLemmas.{ArePlanned, SetLaws, planned_each, found_inside, found_outside, found_refused, none_valued}
 use Rattle.rtcm_inspect.proofs.WeekLemmas.{own_counts}
-use Rattle.rtcm_inspect.proofs.Names.{get_or, ◌≡◌, ◌∙◌, ◌+◌, ◌≤◌, ◌==◌, ap, ap₂, sym, bits_of, cons_option, every_channel, filter_map, heard_by, heard_msm, if◌then◌else◌, inspected, inspected_in, inspected_of, is_some, lock_by, observed, option_and_then, option_map, satellite_of_id, seen_in, signal_of_id, unlisted_in, ChannelsValue, Df402, Df407, Entry, LockField, MsmValue, Satellite, SignalAt, System, entries, Msm4, Msm5, Msm6, Msm7, message_at, Message, MsgFault, MsmSet, Result, Ok, Err, Bool, true, false, not, ℕ, List, [], ◌∷◌, filter, Option, Some, None, All, refl, subst, arith, cond, count_by, option_map_or, All-nil, All-head, All-tail, sum_by-cons, Framed, counts_of, counts_of_message, is_planned, no_counts, offered, with_skipped, brings_value, is_of_station, valued, GatherSetup, Heard, is_own, HeardCell, Timed, SkipsOnly, valued_in, valued_of}
+use Rattle.rtcm_inspect.proofs.Names.{get_or, ◌≡◌, ◌∙◌, ◌+◌, ◌≤◌, ◌==◌, ap, ap₂, sym, bits_of, cons_option, every_channel, filter_map, heard_by, heard_msm, if◌then◌else◌, inspected, inspected_in, inspected_of, is_some, lock_by, observed, option_and_then, option_map, satellite_of_id, seen_in, signal_of_id, unlisted_in, ChannelsValue, Entry, MsmValue, Satellite, SignalAt, System, entries, Msm4, Msm5, Msm6, Msm7, message_at, Message, MsgFault, MsmSet, Result, Ok, Err, Bool, true, false, not, ℕ, List, [], ◌∷◌, filter, Option, Some, None, All, refl, subst, arith, cond, count_by, option_map_or, All-nil, All-head, All-tail, sum_by-cons, Framed, counts_of, counts_of_message, is_planned, no_counts, offered, with_skipped, brings_value, is_of_station, valued, GatherSetup, Heard, is_own, HeardCell, Timed, SkipsOnly, valued_in, valued_of, Form}
 
 abbrev one_unless : Bool → ℕ
 one_unless b = cond (not b) 1 0
@@ -32,27 +33,27 @@ few_skipped s (x ∷ xs) h = rw (counted (is_planned s) x xs, counted brings_val
 
 -- ---- a message is heard with the channels of a setup, and inspected with others
 
-module _ (s : GatherSetup) (c d : ChannelsValue) (field : LockField) (system : System) where
+module _ (s : GatherSetup) (c d : ChannelsValue) (form : Form) (system : System) where
   abbrev skipped_among : List HeardCell → ℕ
   skipped_among xs = count_by (λ x. not (is_planned s x)) xs
 
   -- the key of a cell doesn't depend on the channels
-  one_skipped : (e : Entry) (xs ys : List HeardCell) → skipped_among xs ≡ skipped_among ys → skipped_among (cons_option (seen_in c field system e) xs) ≡ skipped_among (cons_option (seen_in d field system e) ys)
+  one_skipped : (e : Entry) (xs ys : List HeardCell) → skipped_among xs ≡ skipped_among ys → skipped_among (cons_option (seen_in c form system e) xs) ≡ skipped_among (cons_option (seen_in d form system e) ys)
   one_skipped e xs ys same = by (satellite_of_id system e.satellite) (signal_of_id system e.signal) where
     by : (u : Option Satellite) (g : Option SignalAt)
-        → skipped_among (cons_option (option_and_then (λ u. option_map (observed c (lock_by field e.lock) e u) g) u) xs) ≡ skipped_among (cons_option (option_and_then (λ u. option_map (observed d (lock_by field e.lock) e u) g) u) ys)
+        → skipped_among (cons_option (option_and_then (λ u. option_map (observed c (lock_by form e.lock) e u) g) u) xs) ≡ skipped_among (cons_option (option_and_then (λ u. option_map (observed d (lock_by form e.lock) e u) g) u) ys)
     by (Some u) (Some g) =
-        counted (is_planned s) (observed c (lock_by field e.lock) e u g) xs ∙ ap (λ (n : ℕ). one_unless (is_planned s (observed d (lock_by field e.lock) e u g)) + n) same ∙ sym (counted (is_planned s) (observed d (lock_by field e.lock) e u g) ys)
+        counted (is_planned s) (observed c (lock_by form e.lock) e u g) xs ∙ ap (λ (n : ℕ). one_unless (is_planned s (observed d (lock_by form e.lock) e u g)) + n) same ∙ sym (counted (is_planned s) (observed d (lock_by form e.lock) e u g) ys)
     by u g = same
 
-  skipped_same : (es : List Entry) → skipped_among (filter_map (seen_in c field system) es) ≡ skipped_among (filter_map (seen_in d field system) es)
+  skipped_same : (es : List Entry) → skipped_among (filter_map (seen_in c form system) es) ≡ skipped_among (filter_map (seen_in d form system) es)
   skipped_same [] = refl
-  skipped_same (e ∷ es) = one_skipped e (filter_map (seen_in c field system) es) (filter_map (seen_in d field system) es) (skipped_same es)
+  skipped_same (e ∷ es) = one_skipped e (filter_map (seen_in c form system) es) (filter_map (seen_in d form system) es) (skipped_same es)
 
-  unlisted_same : (es : List Entry) → unlisted_in c field system es ≡ unlisted_in d field system es
+  unlisted_same : (es : List Entry) → unlisted_in c form system es ≡ unlisted_in d form system es
   unlisted_same [] = refl
   unlisted_same (e ∷ es) = ap₂ (λ (b : Bool) (n : ℕ). (if b then 0 else 1) + n) (by (satellite_of_id system e.satellite) (signal_of_id system e.signal)) (unlisted_same es) where
-    by : (u : Option Satellite) (g : Option SignalAt) → is_some (option_and_then (λ u. option_map (observed c (lock_by field e.lock) e u) g) u) ≡ is_some (option_and_then (λ u. option_map (observed d (lock_by field e.lock) e u) g) u)
+    by : (u : Option Satellite) (g : Option SignalAt) → is_some (option_and_then (λ u. option_map (observed c (lock_by form e.lock) e u) g) u) ≡ is_some (option_and_then (λ u. option_map (observed d (lock_by form e.lock) e u) g) u)
     by (Some u) None = refl
     by u g = refl
 
@@ -62,14 +63,14 @@ record SameKeys (s : GatherSetup) (x y : Heard) : Type 0 where
   unlisted : x.unlisted ≡ y.unlisted
   skipped : count_by (λ z. not (is_planned s z)) x.cells ≡ count_by (λ z. not (is_planned s z)) y.cells
 
-msm_keys : (s : GatherSetup) (field : LockField) (v : MsmValue) (es : List Entry) → SameKeys s (heard_msm s.plan.channels s.leap_seconds field v es) (heard_msm every_channel 0 field v es)
-msm_keys s field v es = record { station = refl; unlisted = unlisted_same s s.plan.channels every_channel field v.system es; skipped = skipped_same s s.plan.channels every_channel field v.system es }
+msm_keys : (s : GatherSetup) (form : Form) (v : MsmValue) (es : List Entry) → SameKeys s (heard_msm s.plan.channels s.leap_seconds form v es) (heard_msm every_channel 0 form v es)
+msm_keys s form v es = record { station = refl; unlisted = unlisted_same s s.plan.channels every_channel form v.system es; skipped = skipped_same s s.plan.channels every_channel form v.system es }
 
 same_keys : (s : GatherSetup) (m : Message) → SameKeys s (heard_by s m) (inspected m)
-same_keys s (Msm4 v) = msm_keys s Df402 v (entries (Msm4 v))
-same_keys s (Msm5 v) = msm_keys s Df402 v (entries (Msm5 v))
-same_keys s (Msm6 v) = msm_keys s Df407 v (entries (Msm6 v))
-same_keys s (Msm7 v) = msm_keys s Df407 v (entries (Msm7 v))
+same_keys s (Msm4 v) = msm_keys s forms.Msm4 v (entries (Msm4 v))
+same_keys s (Msm5 v) = msm_keys s forms.Msm5 v (entries (Msm5 v))
+same_keys s (Msm6 v) = msm_keys s forms.Msm6 v (entries (Msm6 v))
+same_keys s (Msm7 v) = msm_keys s forms.Msm7 v (entries (Msm7 v))
 same_keys s other = record { station = refl; unlisted = refl; skipped = refl }
 
 message_skips : (s : GatherSetup) (earlier : List Timed) (x y : Heard) → SameKeys s x y → ArePlanned s (valued s.station y)

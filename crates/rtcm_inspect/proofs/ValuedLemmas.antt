@@ -1,6 +1,7 @@
 -- The cells with a value are of listed satellites and signals.
+use Rattle.rtcm_msg.specs.declared.view.Form.TheVariants as forms
 use Rattle.std.proofs.lemmas.Option.{cond_some, same_Some}
-use Rattle.rtcm_inspect.proofs.Names.{option_and_then, MsmValue, heard_msm, ◌≡◌, ℕ, ◌≤◌, ◌&&◌, Bool, true, false, List, [], ◌∷◌, refl, sym, ◌∙◌, subst, arith, filter, All, Option, Some, None, Result, Ok, Err, LockField, Df402, Df407, filter_map, cond, nat_le, option_map, option_map_or, cons_option, All-nil, All-cons, All-append, All-filter, System, Satellite, IsSatellite, satellites, satellite_of_id, SignalAt, IsSignal, signal_of_id, Entry, Message, Msm4, Msm5, Msm6, Msm7, entries, MsgFault, message_at, Framed, Heard, inspected, every_channel, seen_in, lock_by, observed, HeardCell, IsKey, inspected_of, brings_value, is_of_station, valued, valued_of, valued_in}
+use Rattle.rtcm_inspect.proofs.Names.{option_and_then, MsmValue, heard_msm, ◌≡◌, ℕ, ◌≤◌, ◌&&◌, Bool, true, false, List, [], ◌∷◌, refl, sym, ◌∙◌, subst, arith, filter, All, Option, Some, None, Result, Ok, Err, filter_map, cond, nat_le, option_map, option_map_or, cons_option, All-nil, All-cons, All-append, All-filter, System, Satellite, IsSatellite, satellites, satellite_of_id, SignalAt, IsSignal, signal_of_id, Entry, Message, Msm4, Msm5, Msm6, Msm7, entries, MsgFault, message_at, Framed, Heard, inspected, every_channel, seen_in, lock_by, observed, HeardCell, IsKey, inspected_of, brings_value, is_of_station, valued, valued_of, valued_in, Form}
 use Rattle.gnss_system.specs.declared.tables.ListedSignal as tables
 use Rattle.gnss_system.proofs.SystemLaws.{listed_of}
 
@@ -14,10 +15,10 @@ satellite_listed system id s h =
     both a b e = (grind (arith, e), grind (arith, e))
 
 -- a cell that is seen, and its system
-seen_key : (field : LockField) (system : System) (e : Entry) (x : HeardCell) → seen_in every_channel field system e ≡ Some x → IsKey x × (x.satellite.system ≡ system)
-seen_key field system e x h = by (satellite_of_id system e.satellite) (signal_of_id system e.signal) (satellite_listed system e.satellite) (listed_of system e.signal) h where
+seen_key : (form : Form) (system : System) (e : Entry) (x : HeardCell) → seen_in every_channel form system e ≡ Some x → IsKey x × (x.satellite.system ≡ system)
+seen_key form system e x h = by (satellite_of_id system e.satellite) (signal_of_id system e.signal) (satellite_listed system e.satellite) (listed_of system e.signal) h where
   seen : Satellite → SignalAt → HeardCell
-  seen s g = observed every_channel (lock_by field e.lock) e s g
+  seen s g = observed every_channel (lock_by form e.lock) e s g
 
   by : (s : Option Satellite) (g : Option SignalAt) → ((v : Satellite) → s ≡ Some v → (v.system ≡ system) × IsSatellite v) → ((v : SignalAt) → g ≡ Some v → (v.system ≡ system) × IsSignal v)
       → option_and_then (λ s. option_map (seen s) g) s ≡ Some x → IsKey x × (x.satellite.system ≡ system)
@@ -28,13 +29,13 @@ seen_key field system e x h = by (satellite_of_id system e.satellite) (signal_of
   by s g a b h = absurd (grind (arith, h))
 
 -- what holds for each cell that is seen, holds for those of entries and for those of them that count
-all_seen : (P : HeardCell → Type 0) (field : LockField) (system : System) → ((x : HeardCell) → IsKey x × (x.satellite.system ≡ system) → P x) → (es : List Entry) → All P (filter_map (seen_in every_channel field system) es)
-all_seen P field system each [] = All-nil P
-all_seen P field system each (e ∷ es) = by (seen_in every_channel field system e) (seen_key field system e) (all_seen P field system each es) where
-  by : (o : Option HeardCell) → ((x : HeardCell) → o ≡ Some x → IsKey x × (x.satellite.system ≡ system)) → All P (filter_map (seen_in every_channel field system) es)
-      → All P (cons_option o (filter_map (seen_in every_channel field system) es))
+all_seen : (P : HeardCell → Type 0) (form : Form) (system : System) → ((x : HeardCell) → IsKey x × (x.satellite.system ≡ system) → P x) → (es : List Entry) → All P (filter_map (seen_in every_channel form system) es)
+all_seen P form system each [] = All-nil P
+all_seen P form system each (e ∷ es) = by (seen_in every_channel form system e) (seen_key form system e) (all_seen P form system each es) where
+  by : (o : Option HeardCell) → ((x : HeardCell) → o ≡ Some x → IsKey x × (x.satellite.system ≡ system)) → All P (filter_map (seen_in every_channel form system) es)
+      → All P (cons_option o (filter_map (seen_in every_channel form system) es))
   by None h rest = rest
-  by (Some x) h rest = All-cons P x (filter_map (seen_in every_channel field system) es) (each x (h x refl)) rest
+  by (Some x) h rest = All-cons P x (filter_map (seen_in every_channel form system) es) (each x (h x refl)) rest
 
 all_valued : (P : HeardCell → Type 0) (wanted : Option ℕ) (m : Heard) → All P m.cells → All P (valued wanted m)
 all_valued P wanted m h = by (is_of_station wanted m) where
@@ -43,10 +44,10 @@ all_valued P wanted m h = by (is_of_station wanted m) where
   by false = All-nil P
 
 all_heard : (m : Message) → All IsKey (inspected m).cells
-all_heard (Msm4 m) = all_seen IsKey Df402 m.system (λ x h. h.0) (entries (Msm4 m))
-all_heard (Msm5 m) = all_seen IsKey Df402 m.system (λ x h. h.0) (entries (Msm5 m))
-all_heard (Msm6 m) = all_seen IsKey Df407 m.system (λ x h. h.0) (entries (Msm6 m))
-all_heard (Msm7 m) = all_seen IsKey Df407 m.system (λ x h. h.0) (entries (Msm7 m))
+all_heard (Msm4 m) = all_seen IsKey forms.Msm4 m.system (λ x h. h.0) (entries (Msm4 m))
+all_heard (Msm5 m) = all_seen IsKey forms.Msm5 m.system (λ x h. h.0) (entries (Msm5 m))
+all_heard (Msm6 m) = all_seen IsKey forms.Msm6 m.system (λ x h. h.0) (entries (Msm6 m))
+all_heard (Msm7 m) = all_seen IsKey forms.Msm7 m.system (λ x h. h.0) (entries (Msm7 m))
 all_heard other = All-nil IsKey
 
 -- the cells of a message
@@ -60,9 +61,9 @@ frame_keys wanted f = by (message_at f.message) where
   by (Err e) = All-nil IsKey
 
 -- the system of the cells of an MSM
-pub valued_system : (wanted : Option ℕ) (field : LockField) (v : MsmValue) (es : List Entry) → All (λ x. x.satellite.system ≡ v.system) (valued wanted (heard_msm every_channel 0 field v es))
-valued_system wanted field v es =
-    all_valued (λ x. x.satellite.system ≡ v.system) wanted (heard_msm every_channel 0 field v es) (all_seen (λ x. x.satellite.system ≡ v.system) field v.system (λ x h. h.1) es)
+pub valued_system : (wanted : Option ℕ) (form : Form) (v : MsmValue) (es : List Entry) → All (λ x. x.satellite.system ≡ v.system) (valued wanted (heard_msm every_channel 0 form v es))
+valued_system wanted form v es =
+    all_valued (λ x. x.satellite.system ≡ v.system) wanted (heard_msm every_channel 0 form v es) (all_seen (λ x. x.satellite.system ≡ v.system) form v.system (λ x h. h.1) es)
 
 -- the cells of frames
 pub valued_keys : (wanted : Option ℕ) (fs : List Framed) → All IsKey (valued_in wanted fs)

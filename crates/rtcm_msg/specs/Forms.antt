@@ -12,8 +12,6 @@ use Rattle.rtcm_msg.specs.declared.fault.Field.{Field}
 use Rattle.rtcm_msg.specs.declared.view.Form.{Form}
 use Rattle.rtcm_msg.specs.declared.entry.Entry.{Entry}
 use Rattle.rtcm_msg.specs.declared.pairs.Pair.{Pair}
-use Rattle.rtcm_msg.specs.declared.entry.LockField.{LockField}
-use Rattle.rtcm_msg.specs.declared.entry.LockField.TheVariants.{Df402, Df407}
 use Rattle.rtcm_msg.specs.declared.data.Satellite.{Satellite}
 use Rattle.rtcm_msg.specs.declared.data.Cell.{Cell}
 use Rattle.rtcm_msg.specs.declared.fault.Field.TheVariants as fields
@@ -262,6 +260,6 @@ entry f pair s c = record {
   half_cycle = c.half_cycle;
 }
 
--- The field of the lock time indicators.
-abbrev pub lock_field : Form → LockField
-lock_field f = if is_fine f then Df407 else Df402
+-- The number of lock time indicators, DF402 or DF407.
+abbrev pub lock_codes : Form → ℕ
+lock_codes f = 2 ^ (precision (is_fine f)).lock

@@ -9,8 +9,6 @@ use Rattle.rtcm_bits.specs.Cursors.{Cursor}
 use Rattle.rtcm_msg.specs.declared.fault.MsgFault.{MsgFault}
 use Rattle.rtcm_msg.specs.declared.fault.MsgFault.TheVariants.{TooManyCells, BadTime}
 use Rattle.rtcm_msg.specs.declared.header.MsmHeader.{MsmHeader}
-use Rattle.rtcm_msg.specs.declared.entry.LockField.{LockField}
-use Rattle.rtcm_msg.specs.declared.entry.LockField.TheVariants.{Df402, Df407}
 use Rattle.rtcm_msg.specs.Fields.{field_at, field_bits, reading, ◌>>=◌}
 use Rattle.rtcm_msg.specs.Layout.{Table, Uint, Flag, Reserved, Contents, fields_of, ◌▸◌, number_table}
 use Rattle.rtcm_msg.specs.Packed.{total_width, columns}
@@ -52,11 +50,6 @@ signal_mask_bits = 32
 -- The largest number of pairs of a satellite and a signal, and so of bits of the cell mask and of cells.
 abbrev pub most_pairs : ℕ
 most_pairs = 64
-
--- The number of lock time indicators.
-abbrev pub codes_of : LockField → ℕ
-codes_of Df402 = 16
-codes_of Df407 = 1024
 
 -- The satellites, the signals, and the pairs of both that have a cell. The highest bit of the first two is ID 1, and
 -- the highest bit of the last is the first pair.

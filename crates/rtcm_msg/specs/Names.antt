@@ -21,7 +21,7 @@ pub use Rattle.rtcm_msg.specs.LayoutLaws.{FitAll, content-number, content_fits, 
 pub use Rattle.rtcm_msg.specs.LayoutLaws.{number_fits, sign_first, sign_others, unpacked_fit}
 pub use Rattle.rtcm_msg.specs.Meaning.{Each, IsIn, IsMeaning, Meaning, cell_ids, data_of, ids_of, keys, meaning}
 pub use Rattle.rtcm_msg.specs.Meaning.{pair_number}
-pub use Rattle.rtcm_msg.specs.Msm.{AreMasks, IsHeader, IsValue, MasksValue, MsmValue, checked_time, codes_of}
+pub use Rattle.rtcm_msg.specs.Msm.{AreMasks, IsHeader, IsValue, MasksValue, MsmValue, checked_time}
 pub use Rattle.rtcm_msg.specs.Msm.{header_contents, header_fields, header_in, header_of, header_table, mask_fields}
 pub use Rattle.rtcm_msg.specs.Msm.{is_time, mask_table, masks_after, msm_bits, pair_count, time_contents, time_table}
 unfoldable pub use Rattle.rtcm_msg.specs.Msm.{header_at, masks_at, msm_at}
@@ -41,7 +41,7 @@ pub use Rattle.rtcm_msg.specs.ValueCounts.{has_listed_value, value_count}
 pub use Rattle.rtcm_msg.specs.Viewed.{Unread}
 pub use Rattle.rtcm_msg.specs.Views.{AreDataOf, AreWithin, FormedMsm, cell_rows, formed, formed_at}
 pub use Rattle.rtcm_msg.specs.Views.{message_in, satellite_rows}
-pub use Rattle.rtcm_msg.specs.Forms.{cell_widths, lock_field, satellite_widths}
+pub use Rattle.rtcm_msg.specs.Forms.{cell_widths, satellite_widths}
 pub use Rattle.rtcm_msg.specs.Numbers.{kind_of, kind_with, kind_within, message_number, station_number}
 pub use Rattle.rtcm_msg.specs.declared.number.Kind.{Kind}
 pub use Rattle.rtcm_msg.specs.declared.number.MsmSet.{MsmSet}

@@ -5,7 +5,7 @@ ghost use Rattle.std.specs.Prelude.{All, IfNone, IfSome, unsigned_abs};
 ghost use Rattle.std.specs.List.{list_any};
 ghost use Rattle.rtcm_bits.specs.Bits.{bits_of};
 ghost use Rattle.rtcm_bits.specs.FrameOf.{longest_message};
-ghost use Rattle.rtcm_msg.specs.Msm.{satellite_mask_bits, most_pairs, codes_of};
+ghost use Rattle.rtcm_msg.specs.Msm.{satellite_mask_bits, most_pairs};
 ghost use Rattle.rtcm_msg.specs.Rows.{row_at};
 ghost use Rattle.rtcm_msg.specs.LastBits.{AreLast};
 ghost use Rattle.rtcm_msg.specs.Packed.{total_width};
@@ -326,7 +326,7 @@ impl Form {
         requires satellite { IsSatelliteData self satellite.now }
         requires cell { IsCellData self cell.now }
         ensures value { result ≡ forms.entry self pair satellite.now cell.now }
-        ensures bounds { IsEntry (codes_of (forms.lock_field self)) result }
+        ensures bounds { IsEntry (forms.lock_codes self) result }
     {
         Entry {
             satellite: pair.satellite,

@@ -18,17 +18,8 @@ pub struct Entry {
     pub rate: Option<i32>,
     /// Carrier to noise ratio in 1/16 dB-Hz, 1 to 1023: DF403 or DF408. `None` if not computed.
     pub strength: Option<u16>,
-    /// Lock time indicator: DF402, 4 bits, or DF407, 10 bits, see `Form::lock_field`.
+    /// Lock time indicator: DF402, 4 bits, or in MSM6 and MSM7 DF407, 10 bits.
     pub lock: u16,
     /// Half-cycle ambiguity indicator, DF420: whether one is possible.
     pub half_cycle: bool,
-}
-
-/// The field of the lock time indicators of an MSM.
-#[derive(Clone, Copy)]
-pub enum LockField {
-    /// DF402, lock time indicator: 4 bits.
-    Df402,
-    /// DF407, lock time indicator with extended range and resolution: 10 bits.
-    Df407,
 }

@@ -1,6 +1,5 @@
 //! The forms of MSMs as types.
 ghost use Rattle.std.specs.Prelude.{◌≡◌, ◌*◌, ◌^◌, ◌<◌, ◌≤◌, IfSome, unsigned_abs};
-ghost use Rattle.rtcm_msg.specs.Msm.{codes_of};
 ghost use Rattle.rtcm_msg.specs.Packed.{total_width};
 ghost use Rattle.rtcm_msg.specs.Forms as forms;
 ghost use Rattle.rtcm_msg.specs.Forms.{IsSatelliteData, IsCellData, precision};
@@ -61,7 +60,7 @@ pub trait Grid {
     /// Returns the lock time indicator, DF402 or DF407.
     fn lock_code(cell: &Cell) -> u16
         ensures value { result ≡ cell.now.lock }
-        ensures bound { IsCellData form cell.now → result < codes_of (forms.lock_field form) }
+        ensures bound { IsCellData form cell.now → result < forms.lock_codes form }
     {
         cell.lock
     }

@@ -29,7 +29,7 @@ mod writing;
 
 pub use channels::{SentChannels, channel_of_1020};
 pub use data::{Cell, INVALID_FINE_RATE, INVALID_ROUGH_RATE, Satellite};
-pub use entry::{Entry, LockField};
+pub use entry::Entry;
 pub use fault::{Field, MsgFault, ValueFault};
 pub use gnss_system::System;
 pub use grid::{Grid, Grid4, Grid5, Grid6, Grid7, GridOf};

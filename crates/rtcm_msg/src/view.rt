@@ -4,11 +4,11 @@ ghost use Rattle.std.specs.Prelude.{IfOk, IfSome, IfNone};
 ghost use Rattle.rtcm_bits.specs.Bits.{bits_of};
 ghost use Rattle.rtcm_bits.specs.FrameOf.{longest_message};
 ghost use Rattle.rtcm_msg.specs.Fields.{GivesViewed, cursor_at};
-ghost use Rattle.rtcm_msg.specs.Msm.{codes_of, IsHeader, IsValue, satellite_mask_bits, most_pairs};
+ghost use Rattle.rtcm_msg.specs.Msm.{IsHeader, IsValue, satellite_mask_bits, most_pairs};
 ghost use Rattle.rtcm_msg.specs.Decoding.{body_by, message_at, message_with};
 ghost use Rattle.rtcm_msg.specs.Viewed.{viewed_message};
 ghost use Rattle.rtcm_msg.specs.Forms as forms;
-ghost use Rattle.rtcm_msg.specs.Forms.{lock_field, satellite_data, satellite_number, cell_data, cell_number};
+ghost use Rattle.rtcm_msg.specs.Forms.{lock_codes, satellite_data, satellite_number, cell_data, cell_number};
 ghost use Rattle.rtcm_msg.specs.Forms.{IsSatelliteData, IsCellData};
 ghost use Rattle.rtcm_msg.specs.Numbers.{message_number};
 ghost use Rattle.rtcm_msg.specs.Entries.{IsEntry, entries, entry_in};
@@ -16,7 +16,7 @@ ghost use Rattle.rtcm_msg.specs.Encoding.{IsMessage};
 ghost use Rattle.rtcm_msg.specs.Views as views;
 
 use crate::data::{Cell, LastBits, Satellite};
-use crate::entry::{Entry, LockField};
+use crate::entry::Entry;
 use crate::fault::MsgFault;
 use crate::field::end_of_fields;
 use crate::header::{Masks, MsmHeader, read_head};
@@ -57,17 +57,6 @@ impl Form {
         ensures { result ≡ forms.has_rates self }
     {
         matches!(self, Form::Msm5 | Form::Msm7)
-    }
-
-    /// Returns the field of the lock time indicators.
-    pub fn lock_field(self) -> LockField
-        ensures { result ≡ forms.lock_field self }
-    {
-        if self.is_fine() {
-            LockField::Df407
-        } else {
-            LockField::Df402
-        }
     }
 
     /// Returns the widths in bits of the fields of a satellite and of a cell, in the order of the
@@ -262,7 +251,7 @@ impl<'a> MsmView<'a> {
         requires satellite { satellite.now ≡ satellite_data self.now.form (slice_index self.now.msm.satellites pair.index) }
         requires cell { i < length self.now.msm.cells }
         ensures value { result ≡ entry_in self.now.form self.now.msm (pair, slice_index self.now.msm.cells i) }
-        ensures bounds { IsEntry (codes_of (lock_field self.now.form)) result }
+        ensures bounds { IsEntry (lock_codes self.now.form) result }
     {
         form.entry_of(pair, satellite, &self.cell(form, i))
     }
@@ -312,7 +301,7 @@ impl<'a> Entries<'a> {
     /// Returns the next cell, or `None` after the last one.
     pub fn next(&mut self) -> Option<Entry>
         ensures some { IfSome result (λ e. (self.old.left ≡ e ∷ self.new.left)
-            × IsEntry (codes_of (lock_field self.old.form)) e) }
+            × IsEntry (lock_codes self.old.form) e) }
         ensures none { IfNone result ((self.old.left ≡ []) × (self.new.left ≡ [])) }
         ensures same { self.new.form ≡ self.old.form }
     {
@@ -330,7 +319,7 @@ impl<'a> Entries<'a> {
     pub fn next_in<const F: usize>(&mut self) -> Option<Entry>
         requires form { forms.form_as F ≡ self.old.form }
         ensures some { IfSome result (λ e. (self.old.left ≡ e ∷ self.new.left)
-            × IsEntry (codes_of (lock_field self.old.form)) e) }
+            × IsEntry (lock_codes self.old.form) e) }
         ensures none { IfNone result ((self.old.left ≡ []) × (self.new.left ≡ [])) }
         ensures same { self.new.form ≡ self.old.form }
     {
