@@ -1,5 +1,6 @@
 //! The exit status.
 ghost use Rattle.std.specs.Prelude.{◌≡◌, ◌≤◌};
+ghost use Rattle.rtcm_bits.specs.Devices.{Writes};
 ghost use Rattle.command_faults.specs.Printing.{PrintsFault};
 ghost use Rattle.command_faults.specs.Status.{status_of};
 
@@ -14,7 +15,7 @@ use rtcm_inspect::print_line;
 pub fn exit_status<E: Deliver>(ended: Result<(), ToolFault>, faults: &mut Counted<E>) -> u8
     ensures value { result ≡ status_of ended }
     ensures range { result ≤ 2 }
-    ensures line { PrintsFault ended E.contents E.waiting faults.old faults.new }
+    ensures line { Writes E.contents E.waiting faults.old faults.new (PrintsFault ended) }
 {
     let Err(fault) = ended else { return 0 };
     print_line(error_line(fault).as_bytes(), faults);

@@ -2,9 +2,9 @@
 use Rattle.std.specs.Prelude.{IfSome, string_bytes}
 use Rattle.std.proofs.Common.{Global, String}
 use Rattle.rtcm_command.specs.Commands.{refusal_line}
-use Rattle.rtcm_command.proofs.Names.{◌≡◌, ◌∙◌, inl, inr, refl, sym, subst, codes, ap, ap₂, option_map, ℕ, List, Option, Some, None, Result, Ok, Err, arith, ⊤, ◌≢◌, IsCommand, box_value, option_map_or, Box, found_of, subcommand_rows, subcommand_rows_of, Row, Text, rows_of, out-SubCommand, SubCommand, kind_of, Error, ArgMatches, Device, SelectsCommand, IsFoundIn, RefusesWords, FailsParsing, AreRefused, AreRefusedBy, EndsCommand, EndsFound, HasCommand, HasCompleted, HasDone, HasPrinted, HasStopped, HasStoppedEarly, HasStoppedPrinting, StopsPrinting, fault_status, status_of, error_line, length, lit<, ◌<◌, PrintsLine, PrintsSome, PrintsFault, IsUntouched, InspectFault, Ends, of_inspection, ToolFault, HaveFailedBy, IsErrAnd, passed}
+use Rattle.rtcm_command.proofs.Names.{◌≡◌, ◌∙◌, inl, inr, refl, sym, subst, codes, ap, ap₂, option_map, ℕ, List, Option, Some, None, Result, Ok, Err, arith, ⊤, ◌≢◌, IsCommand, box_value, option_map_or, Box, found_of, subcommand_rows, subcommand_rows_of, Row, Text, rows_of, out-SubCommand, SubCommand, kind_of, Error, ArgMatches, AreFine, AreUntouched, Devices, EndsInspection, Reader, Writer, culprit, SelectsCommand, IsFoundIn, RefusesWords, FailsParsing, AreRefused, AreRefusedBy, EndsCommand, EndsFound, HasCommand, HasCompleted, HasDone, HasStopped, HasStoppedEarly, StopsPrinting, fault_status, status_of, error_line, length, lit<, ◌<◌, PrintsLine, PrintsSome, PrintsFault, InspectFault, Ends, of_inspection, ToolFault, HaveFailedBy, IsErrAnd, passed}
 use Rattle.clap.specs.declared.error.kind.ErrorKind.TheVariants as kind
-use Rattle.rtcm_inspect.specs.Devices as devices
+use Rattle.rtcm_inspect.specs.Devices as inspection
 use Rattle.command_faults.specs.declared.fault.ToolFault.TheVariants as faults
 
 -- if the error is the version's text, the words ask for the version
@@ -21,26 +21,30 @@ never_zero : (fault : ToolFault) → fault_status fault ≡ 0 → ⊥
 never_zero (faults.BadDate o) e = omega (arith, e)
 never_zero other e = omega (arith, e)
 
--- the devices of a command: what is known of them, and the reader and the writer before and after it
-pub record Devices (R W : Type 0) : Type 0 where
-  pub left : R → Option (List ℕ)
-  pub held : W → Option (List ℕ)
-  pub waits : W → List ℕ
-  pub r : Device R
-  pub r2 : Device R
-  pub w : Device W
-  pub w2 : Device W
-
 -- the end of a command in other terms
-pub ends_so : {A R W : Type 0} {P Q : A → Type 0} {S T : ToolFault → Type 0} (ended : Result A ToolFault) (d : Devices R W) → ((x : A) → P x → Q x) → ((fault : ToolFault) → S fault → T fault)
-    → Ends ended d.r d.r2 d.waits d.w d.w2 P S → Ends ended d.r d.r2 d.waits d.w d.w2 Q T
-ends_so (Ok x) d done stopped h = (h.0, done x h.1)
-ends_so (Err fault) d done stopped h = (h.0, stopped fault h.1)
+pub ends_so : {A R W : Type 0} {P Q : A → Type 0} {S T : ToolFault → Type 0} (ended : Result A ToolFault) (d d2 : Devices R W) → ((x : A) → P x → Q x) → ((fault : ToolFault) → S fault → T fault)
+    → Ends culprit ended d d2 P S → Ends culprit ended d d2 Q T
+ends_so (Ok x) d d2 done stopped h = (h.0, done x h.1)
+ends_so (Err fault) d d2 done stopped h = (h.0, stopped fault h.1)
 
-ends_inspected : {A R W : Type 0} {P Q : A → Type 0} {S : InspectFault → Type 0} (ended : Result A InspectFault) (d : Devices R W) (T : ToolFault → Type 0) → ((x : A) → P x → Q x) → ((e : InspectFault) → S e → T (faults.Inspect e))
-    → devices.Ends ended d.r d.r2 d.waits d.w d.w2 P S → Ends (of_inspection ended) d.r d.r2 d.waits d.w d.w2 Q T
-ends_inspected (Ok x) d T done stopped h = (h.0, done x h.1)
-ends_inspected (Err e) d T done stopped h = (h.0, stopped e h.1)
+module _ {R W : Type 0} (n : Text) (o : List Row) (d d2 : Devices R W) where
+  inspection_fine : EndsInspection (Ok tt) n o d d2 → AreFine d d2
+  inspection_fine (inl h) = h.1.0
+  inspection_fine (inr (inl h)) = h.1.0
+  inspection_fine (inr (inr (inl h))) = h.1.2.0
+  inspection_fine (inr (inr (inr (inl h)))) = h.1.2.2.0
+  inspection_fine (inr (inr (inr (inr h)))) = h.1.2.0
+
+  inspection_failed : (e : InspectFault) → EndsInspection (Err e) n o d d2 → HaveFailedBy (inspection.culprit e) d d2
+  inspection_failed e (inl h) = h.1.0
+  inspection_failed e (inr (inl h)) = h.1.0
+  inspection_failed e (inr (inr (inl h))) = h.1.2.0
+  inspection_failed e (inr (inr (inr (inl h)))) = h.1.2.2.0
+  inspection_failed e (inr (inr (inr (inr h)))) = h.1.2.0
+
+  ends_inspected : {E : Type 0} (ended : Result ⊤ InspectFault) (e : Writer E) → EndsInspection ended n o d d2 → EndsCommand (of_inspection ended) n o e e d d2
+  ends_inspected (Ok u) e h = (inspection_fine h, inr (h, refl))
+  ends_inspected (Err f) e h = (inspection_failed f h, (inr (inl (f, refl, h)), refl))
 
 pub has_command : (words : List Text) (m : ArgMatches) → IsFoundIn words m → HasCommand m
 has_command words m found = (found.0, found.1, found.2, found.3)
@@ -68,59 +72,53 @@ pub is_check : {n : Text} {o : List Row} (m : ArgMatches) → HasCommand m → s
 is_check {n} m (name, options, one, found) rows = only_check n (subst IsCommand (ap (λ (x : Option (Text × List Row)). option_map_or (λ p. p.0) x n) (sym found ∙ rows)) one)
 
 -- how a command other than `convert` ended
-pub inspection_found : {A R W E : Type 0} {ended : Result A ToolFault} {rows : Option (Text × List Row)} {n : Text} {o : List Row} {P : A → Type 0} {S : InspectFault → Type 0} (d : Devices R W) (printed : E → Option (List ℕ)) (unsent : E → List ℕ) (e : Device E) (inspection : Result A InspectFault) → ended ≡ of_inspection inspection → rows ≡ Some (n, o)
-    → ((x : A) → P x → HasPrinted d.left d.r d.r2 d.held d.w d.w2 n o) × ((f : InspectFault) → S f → HasStoppedPrinting d.left d.r d.r2 d.held d.waits d.w d.w2 n o f) → devices.Ends inspection d.r d.r2 d.waits d.w d.w2 P S
-    → EndsFound ended rows d.left d.r d.r2 d.held d.waits d.w d.w2 printed unsent e e
-inspection_found {n = n} {o} d printed unsent e inspection same found by h = (
-  n,
-  o,
-  found,
-  subst (λ x. EndsCommand x d.left d.r d.r2 d.held d.waits d.w d.w2 printed unsent e e n o) (sym same)
-      (ends_inspected inspection d (λ f. HasStopped d.left d.r d.r2 d.held d.waits d.w d.w2 n o f × (e ≡ e)) (λ x p. inr (by.0 x p, refl)) (λ f s. (inr (inl (f, refl, by.1 f s)), refl)) h),
-)
+pub inspection_found : {R W E : Type 0} {ended : Result ⊤ ToolFault} {rows : Option (Text × List Row)} {n : Text} {o : List Row} (d d2 : Devices R W) (e : Writer E) (inspection : Result ⊤ InspectFault) → ended ≡ of_inspection inspection → rows ≡ Some (n, o)
+    → EndsInspection inspection n o d d2 → EndsFound ended rows e e d d2
+inspection_found {n = n} {o} d d2 e inspection same found h =
+    (n, o, found, subst (λ x. EndsCommand x n o e e d d2) (sym same) (ends_inspected n o d d2 inspection e h))
 
 -- an option of a command is refused, and nothing is read or written
-pub option_refused : {R W E : Type 0} {rows : Option (Text × List Row)} {n : Text} {o : List Row} {fault known : ToolFault} (d : Devices R W) (printed : E → Option (List ℕ)) (unsent : E → List ℕ) (e : Device E) (ended : Result ⊤ ToolFault) → IsErrAnd ended (λ y. y ≡ fault) → rows ≡ Some (n, o)
-    → fault ≡ known → HaveFailedBy known d.r d.r d.w d.w → HasStopped d.left d.r d.r d.held d.waits d.w d.w n o fault → EndsFound ended rows d.left d.r d.r d.held d.waits d.w d.w printed unsent e e
-option_refused {n = n} {o} {fault} d printed unsent e ended is found same none stopped =
-    let failed = subst (λ (f : ToolFault). HaveFailedBy f d.r d.r d.w d.w) (sym same) none in
-    (n, o, found, passed ended fault (λ x. EndsCommand x d.left d.r d.r d.held d.waits d.w d.w printed unsent e e n o) is (failed, (stopped, refl)))
+pub option_refused : {R W E : Type 0} {rows : Option (Text × List Row)} {n : Text} {o : List Row} {fault known : ToolFault} (d : Devices R W) (e : Writer E) (ended : Result ⊤ ToolFault) → IsErrAnd ended (λ y. y ≡ fault) → rows ≡ Some (n, o)
+    → fault ≡ known → HaveFailedBy (culprit known) d d → HasStopped n o d d fault → EndsFound ended rows e e d d
+option_refused {n = n} {o} {fault} d e ended is found same none stopped =
+    let failed = subst (λ (f : ToolFault). HaveFailedBy (culprit f) d d) (sym same) none in
+    (n, o, found, passed ended fault (λ x. EndsCommand x n o e e d d) is (failed, (stopped, refl)))
 
 -- a command that was found twice is the same
 asked : {found : Option (Text × List Row)} {n n2 : Text} {o o2 : List Row} (words : List Text) → found ≡ Some (n, o) → found ≡ Some (n2, o2) → SelectsCommand words n o → SelectsCommand words n2 o2
 asked words p q a = (a.0, a.1, a.2, a.3 ∙ sym p ∙ q)
 
 -- a fault that was printed after the command, which prints none
-printed_after : {E : Type 0} (printed : E → Option (List ℕ)) (unsent : E → List ℕ) (e e1 e2 : Device E) (text : List ℕ) → e1 ≡ e → PrintsLine printed unsent e1 e2 text → PrintsLine printed unsent e e2 text
-printed_after {E = E} printed unsent e e1 e2 text same h = subst (λ (d : Device E). PrintsLine printed unsent d e2 text) same h
+printed_after : {E : Type 0} (e e1 e2 : Writer E) (text : List ℕ) → e1 ≡ e → PrintsLine text e1 e2 → PrintsLine text e e2
+printed_after {E = E} e e1 e2 text same h = subst (λ (x : Writer E). PrintsLine text x e2) same h
 
 -- a command that the words ask for: the writer for faults was e, was e1 when the command ended, and is e2 at the end
-pub record Served {R W E : Type 0} (d : Devices R W) (printed : E → Option (List ℕ)) (unsent : E → List ℕ) (e e1 e2 : Device E) (words : List Text) (m : ArgMatches) (ended : Result ⊤ ToolFault) (status : ℕ) : Type 0 where
+pub record Served {R W E : Type 0} (d d2 : Devices R W) (e e1 e2 : Writer E) (words : List Text) (m : ArgMatches) (ended : Result ⊤ ToolFault) (status : ℕ) : Type 0 where
   pub is : status ≡ status_of ended
-  pub line : PrintsFault ended printed unsent e1 e2
+  pub line : PrintsFault ended e1 e2
   pub found : IsFoundIn words m
-  pub end : EndsFound ended (subcommand_rows_of m) d.left d.r d.r2 d.held d.waits d.w d.w2 printed unsent e e1
+  pub end : EndsFound ended (subcommand_rows_of m) e e1 d d2
 
-module _ {R W E : Type 0} {d : Devices R W} {printed : E → Option (List ℕ)} {unsent : E → List ℕ} {e e1 e2 : Device E} {words : List Text} {m : ArgMatches} {status : ℕ} where
-  asks : (ended : Result ⊤ ToolFault) (s : Served d printed unsent e e1 e2 words m ended status) → SelectsCommand words s.end.0 s.end.1
+module _ {R W E : Type 0} {d d2 : Devices R W} {e e1 e2 : Writer E} {words : List Text} {m : ArgMatches} {status : ℕ} where
+  asks : (ended : Result ⊤ ToolFault) (s : Served d d2 e e1 e2 words m ended status) → SelectsCommand words s.end.0 s.end.1
   asks ended s = asked words s.found.3 s.end.2 s.found.4
 
-  pub served : (ended : Result ⊤ ToolFault) → Served d printed unsent e e1 e2 words m ended status → status ≡ 0 → HasCompleted d.left d.r d.r2 d.held d.waits d.w d.w2 printed unsent e e2 words
+  pub served : (ended : Result ⊤ ToolFault) → Served d d2 e e1 e2 words m ended status → status ≡ 0 → HasCompleted words e e2 d d2
   served (Ok u) s zero =
       let end = s.end in
-      inl (end.0, end.1, asks (Ok u) s, end.3.0, subst (λ (x : Device E). HasDone d.left d.r d.r2 d.held d.w d.w2 printed unsent e x end.0 end.1) (sym s.line) end.3.1)
+      inl (end.0, end.1, asks (Ok u) s, end.3.0, subst (λ (x : Writer E). HasDone end.0 end.1 e x d d2) (sym s.line) end.3.1)
   served (Err fault) s zero = absurd (never_zero fault (sym s.is ∙ zero))
 
-  pub failed_to_serve : (ended : Result ⊤ ToolFault) → Served d printed unsent e e1 e2 words m ended status → status ≡ 1 → HasStoppedEarly d.left d.r d.r2 d.held d.waits d.w d.w2 printed unsent e e2 words
+  pub failed_to_serve : (ended : Result ⊤ ToolFault) → Served d d2 e e1 e2 words m ended status → status ≡ 1 → HasStoppedEarly words e e2 d d2
   failed_to_serve (Ok u) s one = absurd (let bad : 0 ≡ 1 = sym s.is ∙ one in omega (arith, bad))
   failed_to_serve (Err fault) s one =
       let end = s.end in
-      inl (end.0, end.1, fault, asks (Err fault) s, sym s.is ∙ one, end.3.0, end.3.1.0, printed_after printed unsent e e1 e2 (error_line fault) end.3.1.1 s.line)
+      inl (end.0, end.1, fault, asks (Err fault) s, sym s.is ∙ one, end.3.0, end.3.1.0, printed_after e e1 e2 (error_line fault) end.3.1.1 s.line)
 
-pub answered_in_part : {R W E : Type 0} (d : Devices R W) (printed : E → Option (List ℕ)) (unsent : E → List ℕ) (e e2 : Device E) (words : List Text) (error : Error) → RefusesWords words error → StopsPrinting (kind_of error) d.held d.w d.w2 printed unsent e e2
-    → HasStoppedEarly d.left d.r d.r d.held d.waits d.w d.w2 printed unsent e e2 words
-answered_in_part d printed unsent e e2 words error refused (inl memory) = inr (inr ((refl {a = d.r}, memory.1), memory.2))
-answered_in_part d printed unsent e e2 words error refused (inr part) = inr (inl (is_version words error refused part.0, refl {a = d.r}, part.1, part.2))
+pub answered_in_part : {R W E : Type 0} (d d2 : Devices R W) (e e2 : Writer E) (words : List Text) (error : Error) → RefusesWords words error → d2.reader ≡ d.reader → StopsPrinting (kind_of error) e e2 d.writer d2.writer
+    → HasStoppedEarly words e e2 d d2
+answered_in_part d d2 e e2 words error refused same (inl memory) = inr (inr ((ap (λ (r : Reader _). r.device) same, memory.1), memory.2))
+answered_in_part d d2 e e2 words error refused same (inr part) = inr (inl (is_version words error refused part.0, same, part.1, part.2))
 
 -- the line of `Memory` isn't empty
 pub memory_line : 0 < length (error_line faults.Memory)
@@ -132,31 +130,28 @@ refusal_some : (text : Option (String Global)) → IfSome text (λ t. 0 < length
 refusal_some None some = memory_line
 refusal_some (Some t) some = some
 
-pub refusal_printed : {E : Type 0} (printed : E → Option (List ℕ)) (unsent : E → List ℕ) (e e2 : Device E) (text : Option (String Global)) → IfSome text (λ t. 0 < length (string_bytes t))
-    → PrintsLine printed unsent e e2 (refusal_line (option_map string_bytes text)) → PrintsSome printed unsent e e2
-refusal_printed printed unsent e e2 text some line = (refusal_line (option_map string_bytes text), refusal_some text some, line)
+pub refusal_printed : {E : Type 0} (e e2 : Writer E) (text : Option (String Global)) → IfSome text (λ t. 0 < length (string_bytes t))
+    → PrintsLine (refusal_line (option_map string_bytes text)) e e2 → PrintsSome e e2
+refusal_printed e e2 text some line = (refusal_line (option_map string_bytes text), refusal_some text some, line)
 
 -- a command with status 2 is refused before anything is read
-abbrev IsRefusedBy : {R W : Type 0} → (r r2 : Device R) → (w w2 : Device W) → Text → List Row → ToolFault → Type 0
-IsRefusedBy r r2 w w2 name options fault = AreRefusedBy name options fault × IsUntouched r r2 w w2
+refused_by : {R W : Type 0} (d d2 : Devices R W) (name : Text) (options : List Row) (fault : ToolFault) → fault_status fault ≡ 2 → HasStopped name options d d2 fault → AreRefusedBy name options fault × AreUntouched d d2
+refused_by d d2 name options fault two (inl (n, inl (refused, untouched))) = (inl (n, refused), untouched)
+refused_by d d2 name options fault two (inl (n, inr (x, start, (e, same, stops)))) = absurd (one_two (sym (ap fault_status same) ∙ two))
+refused_by d d2 name options fault two (inr (inl (e, same, stops))) = absurd (one_two (sym (ap fault_status same) ∙ two))
+refused_by d d2 name options fault two (inr (inr (inl (n, refused, untouched)))) = (inr (inl (n, refused)), untouched)
+refused_by d d2 name options fault two (inr (inr (inr (n, refused, untouched)))) = (inr (inr (n, refused)), untouched)
 
-refused_by : {R W : Type 0} (d : Devices R W) (name : Text) (options : List Row) (fault : ToolFault) → fault_status fault ≡ 2 → HasStopped d.left d.r d.r2 d.held d.waits d.w d.w2 name options fault → IsRefusedBy d.r d.r2 d.w d.w2 name options fault
-refused_by d name options fault two (inl (n, inl (refused, untouched))) = (inl (n, refused), untouched)
-refused_by d name options fault two (inl (n, inr (x, start, (e, same, stops)))) = absurd (one_two (sym (ap fault_status same) ∙ two))
-refused_by d name options fault two (inr (inl (e, same, stops))) = absurd (one_two (sym (ap fault_status same) ∙ two))
-refused_by d name options fault two (inr (inr (inl (n, refused)))) = (inr (inl (n, refused.0)), refused.1)
-refused_by d name options fault two (inr (inr (inr (n, refused)))) = (inr (inr (n, refused.0)), refused.1)
-
-pub refused_at_two : {R W E : Type 0} {d : Devices R W} {printed : E → Option (List ℕ)} {unsent : E → List ℕ} {e e1 e2 : Device E} {words : List Text} {m : ArgMatches} {status : ℕ} (ended : Result ⊤ ToolFault) → Served d printed unsent e e1 e2 words m ended status → status ≡ 2
-    → AreRefused printed unsent e e2 words × IsUntouched d.r d.r2 d.w d.w2
+pub refused_at_two : {R W E : Type 0} {d d2 : Devices R W} {e e1 e2 : Writer E} {words : List Text} {m : ArgMatches} {status : ℕ} (ended : Result ⊤ ToolFault) → Served d d2 e e1 e2 words m ended status → status ≡ 2
+    → AreRefused words e e2 × AreUntouched d d2
 refused_at_two (Ok u) s two = absurd (let bad : 0 ≡ 2 = sym s.is ∙ two in omega (arith, bad))
-refused_at_two {d = d} {printed} {unsent} {e} {e1} {e2} (Err fault) s two =
+refused_at_two {d = d} {d2} {e} {e1} {e2} (Err fault) s two =
     let end = s.end in
     let same : fault_status fault ≡ 2 = sym s.is ∙ two in
-    let refused = refused_by d end.0 end.1 fault same end.3.1.0 in
-    (inr (end.0, end.1, fault, asks (Err fault) s, refused.0, same, printed_after printed unsent e e1 e2 (error_line fault) end.3.1.1 s.line), refused.1)
+    let refused = refused_by d d2 end.0 end.1 fault same end.3.1.0 in
+    (inr (end.0, end.1, fault, asks (Err fault) s, refused.0, same, printed_after e e1 e2 (error_line fault) end.3.1.1 s.line), refused.1)
 
-pub refused_words : {E : Type 0} (printed : E → Option (List ℕ)) (unsent : E → List ℕ) (e e2 : Device E) (words : List Text) (error : Error) → RefusesWords words error → (kind_of error ≢ kind.DisplayVersion) → (kind_of error ≢ kind.OutOfMemory)
-    → PrintsSome printed unsent e e2 → AreRefused printed unsent e e2 words
-refused_words printed unsent e e2 words error (inl memory) version some text = absurd (some memory)
-refused_words printed unsent e e2 words error (inr answered) version some text = inl (kind_of error, answered, version, text)
+pub refused_words : {E : Type 0} (e e2 : Writer E) (words : List Text) (error : Error) → RefusesWords words error → (kind_of error ≢ kind.DisplayVersion) → (kind_of error ≢ kind.OutOfMemory)
+    → PrintsSome e e2 → AreRefused words e e2
+refused_words e e2 words error (inl memory) version some text = absurd (some memory)
+refused_words e e2 words error (inr answered) version some text = inl (kind_of error, answered, version, text)

@@ -1,25 +1,24 @@
 -- A conversion that is stopped by a fault.
-use Rattle.rtcm_command.proofs.CommandLemmas.{Devices}
 use Rattle.rtcm_command.proofs.OptionLemmas.{bad_choice}
-use Rattle.rtcm_command.proofs.Names.{⊤, Device, EndsConverting, IsErrAnd, passed, ◌≡◌, ap, sym, subst, refl, ℕ, ℤ, List, Option, Some, Result, Err, IsErrOf, IfSome, inl, inr, ◌≢◌, ◌↔◌, IsSentAfter, IsSetupFault, IsUntouched, IsMadeEmpty, IsMadeSoFar, IsMadeInPart, IsMadeToLimit, IsBad, Setup, Fault, Memory, BadSetup, TooLong, Read, Write, Failed, Finished, NoEpoch, NoneChosen, EpochCounts, Report, ToolFault, Row, StationValues, values_by, HasSetupFault, IsRefusedAfterWeek, IsRefusedAfterChannels, IsSetupRefused, IsWeekSet, values_set, StopsConversion, HaveFailedBy, ChannelsValue, channels_by, channels_set}
+use Rattle.rtcm_command.proofs.Names.{⊤, AreUntouched, Devices, Writer, EndsConverting, culprit, IsErrAnd, passed, ◌≡◌, ap, sym, subst, refl, ℕ, ℤ, List, Option, Some, Result, Err, IsErrOf, IfSome, inl, inr, ◌≢◌, ◌↔◌, IsSentAfter, IsSetupFault, IsMadeEmpty, IsMadeSoFar, IsMadeInPart, IsMadeToLimit, IsBad, Setup, Fault, Memory, BadSetup, TooLong, Read, Write, Failed, Finished, NoEpoch, NoneChosen, EpochCounts, Report, ToolFault, Row, StationValues, values_by, HasSetupFault, IsRefusedAfterWeek, IsRefusedAfterChannels, IsSetupRefused, IsWeekSet, values_set, StopsConversion, HaveFailedBy, ChannelsValue, channels_by, channels_set}
 use Rattle.command_faults.specs.declared.fault.ToolFault.TheVariants as faults
 
 abbrev Result-of : Fault → Result Report Fault
 Result-of fault = Err fault
 
 -- what a conversion that returned this fault did
-pub record Faulted {R W : Type 0} (x : Setup) (d : Devices R W) (fault : Fault) : Type 0 where
-  pub sent : IsSentAfter (Result-of fault) (d.waits d.w.inner) (d.waits d.w2.inner)
-  pub no_epoch : IsErrOf (Result-of fault) NoEpoch → IfSome (d.left d.r.inner) (IsMadeEmpty x NoEpoch (d.held d.w.inner) (d.held d.w2.inner))
-  pub none_chosen : (counts : EpochCounts) → IsErrOf (Result-of fault) (NoneChosen counts) → IfSome (d.left d.r.inner) (IsMadeEmpty x (NoneChosen counts) (d.held d.w.inner) (d.held d.w2.inner))
-  pub long : IsErrOf (Result-of fault) TooLong → IsMadeToLimit x (d.left d.r.inner) (d.left d.r2.inner) (d.held d.w.inner) (d.held d.w2.inner)
-  pub read : IsErrOf (Result-of fault) Read → IsMadeSoFar x (d.left d.r.inner) (d.left d.r2.inner) (d.held d.w.inner) (d.held d.w2.inner)
-  pub write : IsErrOf (Result-of fault) Write → IsMadeInPart x (d.left d.r.inner) (d.left d.r2.inner) (d.held d.w.inner) (d.held d.w2.inner)
+pub record Faulted {R W : Type 0} (x : Setup) (d d2 : Devices R W) (fault : Fault) : Type 0 where
+  pub sent : IsSentAfter (Result-of fault) d.writer.waiting d2.writer.waiting
+  pub no_epoch : IsErrOf (Result-of fault) NoEpoch → IfSome d.reader.unread (IsMadeEmpty x NoEpoch d.writer.written d2.writer.written)
+  pub none_chosen : (counts : EpochCounts) → IsErrOf (Result-of fault) (NoneChosen counts) → IfSome d.reader.unread (IsMadeEmpty x (NoneChosen counts) d.writer.written d2.writer.written)
+  pub long : IsErrOf (Result-of fault) TooLong → IsMadeToLimit x d.reader.unread d2.reader.unread d.writer.written d2.writer.written
+  pub read : IsErrOf (Result-of fault) Read → IsMadeSoFar x d.reader.unread d2.reader.unread d.writer.written d2.writer.written
+  pub write : IsErrOf (Result-of fault) Write → IsMadeInPart x d.reader.unread d2.reader.unread d.writer.written d2.writer.written
   pub bad : Result-of fault ≡ Err BadSetup ↔ IsBad x
-  pub untouched : IsSetupFault fault → IsUntouched d.r d.r2 d.w d.w2
+  pub untouched : IsSetupFault fault → AreUntouched d d2
   pub only : (Result-of fault ≢ Err Failed) × (Result-of fault ≢ Err Finished)
 
-pub conversion_stopped : {R W : Type 0} {x : Setup} {d : Devices R W} (fault : Fault) → Faulted x d fault → StopsConversion x d.left d.r d.r2 d.held d.waits d.w d.w2 fault
+pub conversion_stopped : {R W : Type 0} {x : Setup} {d d2 : Devices R W} (fault : Fault) → Faulted x d d2 fault → StopsConversion x d d2 fault
 conversion_stopped Memory s = s.untouched (inr refl)
 conversion_stopped BadSetup s = (s.bad.0 refl, s.untouched (inl refl))
 conversion_stopped TooLong s = (s.long refl, s.sent)
@@ -40,9 +39,9 @@ given_bad fault Bad bad = (
 
 -- ---- a fault of the options, before which nothing is read or written
 
-module _ {R W : Type 0} (left : R → Option (List ℕ)) (held : W → Option (List ℕ)) (waits : W → List ℕ) (r : Device R) (w : Device W) (options : List Row) where
+module _ {R W : Type 0} (d : Devices R W) (options : List Row) where
   abbrev HasNoneFailed : ToolFault → Type 0
-  HasNoneFailed e = HaveFailedBy e r r w w
+  HasNoneFailed e = HaveFailedBy (culprit e) d d
 
   none_failed : (e : ToolFault) → IsSetupRefused options e → HasNoneFailed e
   none_failed e (inl (is, none)) = subst HasNoneFailed (sym is) (refl, refl)
@@ -60,10 +59,9 @@ module _ {R W : Type 0} (left : R → Option (List ℕ)) (held : W → Option (L
     by (Some (x, y, z)) (Some h) (Some c) is = last is
     by p h c is = subst HasNoneFailed (sym is) (refl, refl)
 
-  pub ends_refused : {E : Type 0} (ended : Result ⊤ ToolFault) (fault : ToolFault) (printed : E → Option (List ℕ)) (unsent : E → List ℕ) (e : Device E) → IsErrAnd ended (λ y. y ≡ fault) → IsSetupRefused options fault
-      → EndsConverting ended options left r r held waits w w printed unsent e e
-  ends_refused ended fault printed unsent e is refused =
-      passed ended fault (λ x. EndsConverting x options left r r held waits w w printed unsent e e) is (none_failed fault refused, (inl (refused, (refl, refl)), refl))
+  pub ends_refused : {E : Type 0} (ended : Result ⊤ ToolFault) (fault : ToolFault) (e : Writer E) → IsErrAnd ended (λ y. y ≡ fault) → IsSetupRefused options fault → EndsConverting ended options e e d d
+  ends_refused ended fault e is refused =
+      passed ended fault (λ x. EndsConverting x options e e d d) is (none_failed fault refused, (inl (refused, (refl, refl)), refl))
 
 -- the first fault after a valid week, of results that are known
 pub first_fault : {values : Result StationValues ToolFault} {channels : Result ChannelsValue ToolFault} {fault : ToolFault} (options : List Row) (n : ℕ) → IsWeekSet options n → values_set options ≡ values → channels_set options ≡ channels

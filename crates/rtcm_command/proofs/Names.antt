@@ -13,13 +13,13 @@ pub use Rattle.gnss_obs.specs.GatheredEpochs.{AreStationValues}
 pub use Rattle.gnss_obs.specs.Channels.{ChannelsValue}
 pub use Rattle.gnss_obs.specs.Values.{no_values}
 pub use Rattle.gnss_obs.specs.declared.cell.StationValues.{StationValues}
-pub use Rattle.rtcm_command.specs.Asked.{EndsCheck}
 pub use Rattle.command_line.specs.CommandLine.{FailsParsing, IsCommand, IsFoundIn, RefusesWords, SelectsCommand}
-pub use Rattle.rtcm_command.specs.Commands.{AreRefused, AreRefusedBy, EndsCommand, EndsFound, HasCommand, HasCompleted, HasDone, HasPrinted, HasStopped, HasStoppedEarly, HasStoppedPrinting, StopsPrinting}
-pub use Rattle.rtcm_command.specs.Converting.{EndsConversion, EndsConverting, StopsConversion}
+pub use Rattle.rtcm_command.specs.Commands.{AreRefused, AreRefusedBy, EndsCommand, EndsFound, HasCommand, EndsInspection, HasCompleted, HasDone, HasStopped, HasStoppedEarly, StopsPrinting}
+pub use Rattle.rtcm_command.specs.Converting.{EndsConversion, EndsConverting, MakesFile, StopsConversion}
 pub use Rattle.option_texts.specs.ChannelTexts.{channels_of}
 pub use Rattle.option_texts.specs.Dates.{IsHourOf, IsTimeOf, IsWeekOf}
-pub use Rattle.rtcm_command.specs.Devices.{Ends, HaveFailedBy, of_inspection}
+pub use Rattle.rtcm_command.specs.Devices.{culprit, of_inspection}
+pub use Rattle.rtcm_bits.specs.Devices.{AreFine, AreUntouched, Devices, Ends, HaveFailedBy, Reader, Writer, devices_of, writer_of}
 unfoldable pub use Rattle.command_faults.specs.ErrorLines.{error_line}
 pub use Rattle.option_texts.specs.Lengths.{epoch_interval_of, interval_of, length_below, position_of}
 pub use Rattle.obs_epoch.specs.declared.choice.Choice.{Choice}

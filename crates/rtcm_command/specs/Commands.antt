@@ -1,121 +1,119 @@
--- What the program has read and written when it ends: the reader was r and is r', the writer was w and is w', and the
--- writer for faults was e and is e'.
-use Rattle.std.specs.Prelude.{◌≡◌, ◌⊎◌, ℕ, List, Option, Some, None, Result, Err, codes}
+-- What the program has read and written when it ends: the devices were d and are d', and the writer for faults was e and
+-- is e'.
+use Rattle.std.specs.Prelude.{◌≡◌, ◌⊎◌, ℕ, List, Option, Some, None, Result, Ok, Err, ⊤, codes}
 use Rattle.clap.specs.Simple.{subcommand_rows_of}
-use Rattle.clap.specs.Walk.{Row, Text}
+use Rattle.clap.specs.Walk.{Row, Text, one_of}
 use Rattle.clap.specs.declared.error.kind.ErrorKind.TheVariants.{DisplayVersion, OutOfMemory}
 use Rattle.clap.specs.declared.error.kind.ErrorKind.{ErrorKind}
 use Rattle.clap.specs.declared.parser.matches.ArgMatches.{ArgMatches}
-use Rattle.rtcm_bits.specs.Device.{Device, IsUntouched, Moves}
+use Rattle.rtcm_bits.specs.Devices.{AreFine, AreUntouched, Devices, Ends, HaveFailedBy, Writer}
 use Rattle.rtcm_scan.specs.Scan.{most_bytes}
+use Rattle.rtcm_inspect.specs.Checking.{EndsCheck}
 use Rattle.rtcm_inspect.specs.FrameLines.{frame_lines}
-use Rattle.rtcm_inspect.specs.ShowLines.{show_lines}
-use Rattle.rtcm_inspect.specs.Listing.{ListsAll, StopsListing}
-use Rattle.rtcm_command.specs.Converting.{IsConverted, StopsConverting}
-use Rattle.rtcm_command.specs.Asked.{ChecksAsked, PrintsOptionsAsked, PrintsSignalsAsked, RefusesDate, RefusesGaps}
-use Rattle.rtcm_command.specs.Asked.{StopsCheckAsked, StopsOptionsAsked, StopsSignalsAsked}
-use Rattle.command_line.specs.CommandLine.{SelectsCommand, FailsParsing, IsCommand}
-use Rattle.rtcm_inspect.specs.Devices.{AreFine}
+use Rattle.rtcm_inspect.specs.Listing.{EndsListing}
+use Rattle.rtcm_inspect.specs.OptionOutput.{AreOptionsOf, AreOptionsRefused}
 use Rattle.rtcm_inspect.specs.Printing.{PrintsLine, PrintsPart, PrintsSome, PrintsText}
-use Rattle.rtcm_command.specs.Devices.{Ends, HaveFailedBy, IsInspected}
+use Rattle.rtcm_inspect.specs.ShowLines.{show_lines}
+use Rattle.rtcm_inspect.specs.Signals.{AreSignalsOf, AreSignalsRefused}
+use Rattle.rtcm_inspect.specs.StreamOutput.{EndsStream}
+use Rattle.rtcm_command.specs.Converting.{IsConverted, StopsConverting}
+use Rattle.command_line.specs.CommandLine.{SelectsCommand, FailsParsing, IsCommand}
+use Rattle.rtcm_command.specs.Devices.{IsInspected, culprit}
 use Rattle.command_faults.specs.ErrorLines.{error_line}
 use Rattle.command_faults.specs.Status.{fault_status}
-use Rattle.rtcm_command.specs.SetupOptions.{IsNearRefused, IsSetupRefused, gaps_set, has_flag}
+use Rattle.rtcm_command.specs.SetupOptions.{IsNearRefused, IsNearSet, IsNumberOf, IsSetupRefused, gaps_set, has_flag}
 use Rattle.rtcm_inspect.specs.declared.fault.InspectFault.{InspectFault}
 use Rattle.rtcm_inspect.specs.declared.fault.InspectFault.TheVariants as inspect
 use Rattle.command_faults.specs.declared.fault.ToolFault.{ToolFault}
 use Rattle.command_faults.specs.declared.fault.ToolFault.TheVariants as faults
 use Rattle.command_line.specs.declared.cli.TheConstants.{VERSION}
 
--- A command other than `convert` completed with these options: the stream was read to its end and listed, its signals
--- or options were printed, or a file was read back.
-abbrev pub HasPrinted : {R W : Type 0} → (R → Option (List ℕ)) → (r r' : Device R) → (W → Option (List ℕ))
-    → (w w' : Device W) → Text → List Row → Type 0
-HasPrinted left r r' held w w' name options =
-    ((name ≡ codes "frames") × Moves left r r' held w w' (ListsAll frame_lines))
-    ⊎ ((name ≡ codes "show") × Moves left r r' held w w' (ListsAll (show_lines (has_flag (codes "all") options))))
-    ⊎ ((name ≡ codes "signals") × Moves left r r' held w w' (PrintsSignalsAsked options))
-    ⊎ ((name ≡ codes "options") × Moves left r r' held w w' (PrintsOptionsAsked options))
-    ⊎ ((name ≡ codes "check") × ChecksAsked options (left r.inner) (held w.inner) (held w'.inner))
+-- for the station that these options give, or for all stations
+abbrev pub OfStation : List Row → (Option ℕ → Type 0) → Type 0
+OfStation options Does = (wanted : Option ℕ) × IsNumberOf 16 (one_of (codes "station") options) wanted × Does wanted
+
+-- for the station and the noon of the date
+abbrev pub OfNear : List Row → ((near wanted : Option ℕ) → Type 0) → Type 0
+OfNear options Does = OfStation options (λ wanted. (near : Option ℕ) × IsNearSet options near × Does near wanted)
+
+-- for the interval
+abbrev pub OfGaps : List Row → (Option ℕ → Type 0) → Type 0
+OfGaps options Does = (interval : Option ℕ) × (gaps_set options ≡ Ok interval) × Does interval
+
+-- How a command other than `convert` ended with these options: a stream was listed, its signals or the options that fit
+-- it were printed, or a file was read back.
+abbrev pub EndsInspection : {R W : Type 0} → Result ⊤ InspectFault → Text → List Row → (d d' : Devices R W) → Type 0
+EndsInspection result name options d d' =
+    ((name ≡ codes "frames") × EndsListing result most_bytes frame_lines d d')
+    ⊎ ((name ≡ codes "show") × EndsListing result most_bytes (show_lines (has_flag (codes "all") options)) d d')
+    ⊎ ((name ≡ codes "signals")
+    × OfStation options (λ wanted. EndsStream result (AreSignalsOf wanted) (AreSignalsRefused wanted) d d'))
+    ⊎ ((name ≡ codes "options")
+    × OfNear options (λ near wanted. EndsStream result (AreOptionsOf near wanted) (AreOptionsRefused wanted) d d'))
+    ⊎ ((name ≡ codes "check") × OfGaps options (λ interval.
+    EndsCheck (record { interval = interval; times = has_flag (codes "times") options }) result d d'))
 
 -- The command of this name completed: the file of the stream was written, which has an epoch, and its report was
 -- printed; or any other command, and nothing was written to standard error.
-abbrev pub HasDone : {R W E : Type 0} → (R → Option (List ℕ)) → (r r' : Device R) → (W → Option (List ℕ))
-    → (w w' : Device W) → (E → Option (List ℕ)) → (E → List ℕ) → (e e' : Device E) → Text → List Row → Type 0
-HasDone left r r' held w w' printed unsent e e' name options =
-    ((name ≡ codes "convert") × IsConverted options (left r.inner) (held w.inner) (held w'.inner) printed unsent e e')
-    ⊎ (HasPrinted left r r' held w w' name options × (e' ≡ e))
+abbrev pub HasDone : {R W E : Type 0} → Text → List Row → (e e' : Writer E) → (d d' : Devices R W) → Type 0
+HasDone name options e e' d d' =
+    ((name ≡ codes "convert") × IsConverted options d d' e e') ⊎ (EndsInspection (Ok tt) name options d d' × (e' ≡ e))
 
--- a command other than `convert` was stopped by a fault
-abbrev pub HasStoppedPrinting : {R W : Type 0} → (R → Option (List ℕ)) → (r r' : Device R) → (W → Option (List ℕ))
-    → (W → List ℕ) → (w w' : Device W) → Text → List Row → InspectFault → Type 0
-HasStoppedPrinting left r r' held waits w w' name options fault =
-    ((name ≡ codes "frames") × StopsListing most_bytes frame_lines left r r' held waits w w' fault)
-    ⊎ ((name ≡ codes "show") × StopsListing most_bytes (show_lines (has_flag (codes "all") options)) left r r' held waits w w' fault)
-    ⊎ ((name ≡ codes "signals") × StopsSignalsAsked options left r r' held waits w w' fault)
-    ⊎ ((name ≡ codes "options") × StopsOptionsAsked options left r r' held waits w w' fault)
-    ⊎ ((name ≡ codes "check") × StopsCheckAsked options left r r' held waits w w' fault)
-
--- the command was stopped by a fault
-abbrev pub HasStopped : {R W : Type 0} → (R → Option (List ℕ)) → (r r' : Device R) → (W → Option (List ℕ))
-    → (W → List ℕ) → (w w' : Device W) → Text → List Row → ToolFault → Type 0
-HasStopped left r r' held waits w w' name options fault =
-    ((name ≡ codes "convert") × StopsConverting options left r r' held waits w w' fault)
-    ⊎ IsInspected (HasStoppedPrinting left r r' held waits w w' name options) fault
-    ⊎ ((name ≡ codes "options") × RefusesDate options r r' w w' fault)
-    ⊎ ((name ≡ codes "check") × RefusesGaps options r r' w w' fault)
+-- The command was stopped by a fault, or it was refused for the date or the interval of its options, and nothing was
+-- read or written.
+abbrev pub HasStopped : {R W : Type 0} → Text → List Row → (d d' : Devices R W) → ToolFault → Type 0
+HasStopped name options d d' fault =
+    ((name ≡ codes "convert") × StopsConverting options d d' fault)
+    ⊎ IsInspected (λ e. EndsInspection (Err e) name options d d') fault
+    ⊎ ((name ≡ codes "options") × IsNearRefused options fault × AreUntouched d d')
+    ⊎ ((name ≡ codes "check") × (gaps_set options ≡ Err fault) × AreUntouched d d')
 
 -- how the command ended; it prints no fault
-abbrev pub EndsCommand : {A R W E : Type 0} → Result A ToolFault → (R → Option (List ℕ)) → (r r' : Device R)
-    → (W → Option (List ℕ)) → (W → List ℕ) → (w w' : Device W) → (E → Option (List ℕ)) → (E → List ℕ) → (e e' : Device E) → Text
-    → List Row → Type 0
-EndsCommand result left r r' held waits w w' printed unsent e e' name options =
-    Ends result r r' waits w w' (λ _. HasDone left r r' held w w' printed unsent e e' name options)
-    (λ fault. HasStopped left r r' held waits w w' name options fault × (e' ≡ e))
+abbrev pub EndsCommand : {A R W E : Type 0} → Result A ToolFault → Text → List Row → (e e' : Writer E)
+    → (d d' : Devices R W) → Type 0
+EndsCommand result name options e e' d d' =
+    Ends culprit result d d' (λ _. HasDone name options e e' d d')
+    (λ fault. HasStopped name options d d' fault × (e' ≡ e))
 
 -- a command of the program was found in words
 abbrev pub HasCommand : ArgMatches → Type 0
 HasCommand m = (name : Text) × (options : List Row) × IsCommand name × (subcommand_rows_of m ≡ Some (name, options))
 
 -- how the command that was found ended
-abbrev pub EndsFound : {A R W E : Type 0} → Result A ToolFault → Option (Text × List Row) → (R → Option (List ℕ))
-    → (r r' : Device R) → (W → Option (List ℕ)) → (W → List ℕ) → (w w' : Device W) → (E → Option (List ℕ)) → (E → List ℕ)
-    → (e e' : Device E) → Type 0
-EndsFound result found left r r' held waits w w' printed unsent e e' =
-    (name : Text) × (options : List Row) × (found ≡ Some (name, options))
-    × EndsCommand result left r r' held waits w w' printed unsent e e' name options
+abbrev pub EndsFound : {A R W E : Type 0} → Result A ToolFault → Option (Text × List Row) → (e e' : Writer E)
+    → (d d' : Devices R W) → Type 0
+EndsFound result found e e' d d' = (name : Text) × (options : List Row) × (found ≡ Some (name, options))
+    × EndsCommand result name options e e' d d'
 
 -- ---- the exit status
 
 -- The command that the words ask for completed with the options that they give; or they ask for the version, which was
 -- written, and nothing was written to standard error.
-abbrev pub HasCompleted : {R W E : Type 0} → (R → Option (List ℕ)) → (r r' : Device R) → (W → Option (List ℕ))
-    → (W → List ℕ) → (w w' : Device W) → (E → Option (List ℕ)) → (E → List ℕ) → (e e' : Device E) → List Text → Type 0
-HasCompleted left r r' held waits w w' printed unsent e e' words =
-    ((name : Text) × (options : List Row) × SelectsCommand words name options × AreFine r r' waits w w'
-    × HasDone left r r' held w w' printed unsent e e' name options)
-    ⊎ (FailsParsing words DisplayVersion × (r' ≡ r) × PrintsText held waits w w' VERSION.now × (e' ≡ e))
+abbrev pub HasCompleted : {R W E : Type 0} → List Text → (e e' : Writer E) → (d d' : Devices R W) → Type 0
+HasCompleted words e e' d d' =
+    ((name : Text) × (options : List Row) × SelectsCommand words name options × AreFine d d'
+    × HasDone name options e e' d d')
+    ⊎ (FailsParsing words DisplayVersion × (d'.reader ≡ d.reader) × PrintsText VERSION.now d.writer d'.writer
+    × (e' ≡ e))
 
 -- The command that the words ask for was stopped by a fault, or the writer failed in the output of the version, and the
 -- line of that fault was printed; or memory ran out before anything was read or written, and the line of `Memory` was
 -- printed.
-abbrev pub HasStoppedEarly : {R W E : Type 0} → (R → Option (List ℕ)) → (r r' : Device R) → (W → Option (List ℕ))
-    → (W → List ℕ) → (w w' : Device W) → (E → Option (List ℕ)) → (E → List ℕ) → (e e' : Device E) → List Text → Type 0
-HasStoppedEarly left r r' held waits w w' printed unsent e e' words =
+abbrev pub HasStoppedEarly : {R W E : Type 0} → List Text → (e e' : Writer E) → (d d' : Devices R W) → Type 0
+HasStoppedEarly words e e' d d' =
     ((name : Text) × (options : List Row) × (fault : ToolFault) × SelectsCommand words name options
-    × (fault_status fault ≡ 1) × HaveFailedBy fault r r' w w'
-    × HasStopped left r r' held waits w w' name options fault × PrintsLine printed unsent e e' (error_line fault))
-    ⊎ (FailsParsing words DisplayVersion × (r' ≡ r) × PrintsPart held w w' VERSION.now
-    × PrintsLine printed unsent e e' (error_line (faults.Inspect inspect.Write)))
-    ⊎ (IsUntouched r r' w w' × PrintsLine printed unsent e e' (error_line faults.Memory))
+    × (fault_status fault ≡ 1) × HaveFailedBy (culprit fault) d d'
+    × HasStopped name options d d' fault × PrintsLine (error_line fault) e e')
+    ⊎ (FailsParsing words DisplayVersion × (d'.reader ≡ d.reader) × PrintsPart VERSION.now d.writer d'.writer
+    × PrintsLine (error_line (faults.Inspect inspect.Write)) e e')
+    ⊎ (AreUntouched d d' × PrintsLine (error_line faults.Memory) e e')
 
 -- Memory ran out and nothing was written, or the version's text was written in part. The line of that fault was printed.
-abbrev pub StopsPrinting : {W E : Type 0} → ErrorKind → (W → Option (List ℕ)) → (w w' : Device W)
-    → (E → Option (List ℕ)) → (E → List ℕ) → (e e' : Device E) → Type 0
-StopsPrinting k held w w' printed unsent e e' =
-    ((k ≡ OutOfMemory) × (w' ≡ w) × PrintsLine printed unsent e e' (error_line faults.Memory))
-    ⊎ ((k ≡ DisplayVersion) × PrintsPart held w w' VERSION.now
-    × PrintsLine printed unsent e e' (error_line (faults.Inspect inspect.Write)))
+abbrev pub StopsPrinting : {W E : Type 0} → ErrorKind → (e e' : Writer E) → (w w' : Writer W) → Type 0
+StopsPrinting k e e' w w' =
+    ((k ≡ OutOfMemory) × (w'.device ≡ w.device) × PrintsLine (error_line faults.Memory) e e')
+    ⊎ ((k ≡ DisplayVersion) × PrintsPart VERSION.now w w'
+    × PrintsLine (error_line (faults.Inspect inspect.Write)) e e')
 
 -- what is printed of words that are refused: this text, or the line of `Memory` without one
 abbrev pub refusal_line : Option (List ℕ) → List ℕ
@@ -132,8 +130,8 @@ AreRefusedBy name options fault =
 -- The words lead to an error other than the version's text, and a text was printed; or they ask for a command with an
 -- option whose date, time, position, antenna height, list of channels, window, interval or tolerance is invalid, and the
 -- line of that fault was printed.
-abbrev pub AreRefused : {E : Type 0} → (E → Option (List ℕ)) → (E → List ℕ) → (e e' : Device E) → List Text → Type 0
-AreRefused printed unsent e e' words =
-    ((k : ErrorKind) × FailsParsing words k × (k ≡ DisplayVersion → ⊥) × PrintsSome printed unsent e e')
+abbrev pub AreRefused : {E : Type 0} → List Text → (e e' : Writer E) → Type 0
+AreRefused words e e' =
+    ((k : ErrorKind) × FailsParsing words k × (k ≡ DisplayVersion → ⊥) × PrintsSome e e')
     ⊎ ((name : Text) × (options : List Row) × (fault : ToolFault) × SelectsCommand words name options
-    × AreRefusedBy name options fault × (fault_status fault ≡ 2) × PrintsLine printed unsent e e' (error_line fault))
+    × AreRefusedBy name options fault × (fault_status fault ≡ 2) × PrintsLine (error_line fault) e e')

@@ -2,7 +2,6 @@ pub mod SetupOptions
 pub mod Devices
 pub mod Converting
 pub mod Reports
-pub mod Asked
 pub mod Commands
 pub mod StationLaws
 pub mod PrintedPlan

@@ -5,14 +5,13 @@ ghost use Rattle.std.specs.declared.io.ErrorKind.TheVariants as kinds;
 ghost use Rattle.clap.specs.Simple.{subcommand_rows_of};
 ghost use Rattle.clap.specs.Walk.{texts};
 ghost use Rattle.rtcm_bits.specs.Device.{IsUntouched};
+ghost use Rattle.rtcm_bits.specs.Devices.{Writes};
 ghost use Rattle.clap.specs.Values.{kind_of};
 ghost use Rattle.clap.specs.declared.error.kind.ErrorKind.TheVariants.{DisplayVersion, OutOfMemory};
-ghost use Rattle.rtcm_command.specs.Asked.{EndsCheck};
 ghost use Rattle.rtcm_command.specs.Commands.{AreRefused, EndsFound, HasCommand};
 ghost use Rattle.rtcm_command.specs.Commands.{HasStoppedEarly, HasCompleted, StopsPrinting, refusal_line};
-ghost use Rattle.rtcm_command.specs.Devices.{of_inspection};
+ghost use Rattle.rtcm_command.specs.Devices.{Runs, of_inspection};
 ghost use Rattle.command_faults.specs.ErrorLines.{error_line, not_text_line};
-ghost use Rattle.option_texts.specs.Lengths.{longest_interval};
 ghost use Rattle.rtcm_inspect.specs.Printing.{PrintsLine, PrintsSome, PrintsText};
 ghost use Rattle.command_line.specs.declared.cli.TheConstants.{VERSION};
 ghost use Rattle.rtcm_command.specs.Converting.{EndsConverting};
@@ -29,9 +28,10 @@ use command_faults::{ToolFault, error_line, exit_status};
 use command_line::{VERSION, drop_matches, parse};
 use rtcm_bits::{Counted, Deliver};
 use rtcm_inspect::{
-    InspectFault, print_line, print_text, run_check, run_check_gaps, run_check_times, run_frames,
-    run_options, run_show, run_show_all, run_signals,
+    CheckOptions, InspectFault, Listing, list, print_line, print_text, run_check_with, run_frames,
+    run_options, run_show, run_signals,
 };
+use rtcm_scan::MOST_BYTES;
 use std::alloc::Global;
 use std::io::{self, Read};
 
@@ -51,18 +51,18 @@ pub fn command<R: Read, W: Deliver, E: Deliver>(
     // By clap's definitions under the program's options, the words ask for a command, which
     // completed with these options; or they ask for the version, which was written. Only the report
     // of `convert` was written to `faults`.
-    ensures good { result ≡ 0 → HasCompleted R.remaining reader.old reader.new W.contents W.waiting writer.old
-        writer.new E.contents E.waiting faults.old faults.new (texts words.now) }
+    ensures good { result ≡ 0 → Runs R.remaining reader.old reader.new W.contents W.waiting writer.old writer.new
+        E.contents E.waiting faults.old faults.new (HasCompleted (texts words.now)) }
 
     // They ask for a command that was stopped by a fault, whose line was written to `faults`; or
     // memory ran out before anything was read or written.
-    ensures stopped { result ≡ 1 → HasStoppedEarly R.remaining reader.old reader.new W.contents W.waiting writer.old
-        writer.new E.contents E.waiting faults.old faults.new (texts words.now) }
+    ensures stopped { result ≡ 1 → Runs R.remaining reader.old reader.new W.contents W.waiting writer.old writer.new
+        E.contents E.waiting faults.old faults.new (HasStoppedEarly (texts words.now)) }
 
     // They aren't accepted, ask for help, or have an invalid date, time, position, height, list of
     // channels, window, interval or tolerance, and a text was written to `faults`. Nothing was
     // read, and nothing was written to the output.
-    ensures refused { result ≡ 2 → AreRefused E.contents E.waiting faults.old faults.new (texts words.now)
+    ensures refused { result ≡ 2 → Writes E.contents E.waiting faults.old faults.new (AreRefused (texts words.now))
         × IsUntouched reader.old reader.new writer.old writer.new }
 {
     match parse(alloc, words) {
@@ -84,15 +84,18 @@ fn run<R: Read, W: Deliver, E: Deliver>(
     faults: &mut Counted<E>,
 ) -> Result<(), ToolFault>
     requires { HasCommand matches.now }
-    ensures { EndsFound result (subcommand_rows_of matches.now) R.remaining reader.old reader.new
-        W.contents W.waiting writer.old writer.new E.contents E.waiting faults.old faults.new }
+    ensures { Runs R.remaining reader.old reader.new W.contents W.waiting writer.old writer.new
+        E.contents E.waiting faults.old faults.new (EndsFound result (subcommand_rows_of matches.now)) }
 {
     let Some((name, options)) = matches.subcommand() else {
         unreachable!()
     };
     match name {
         "frames" => of_inspection(run_frames(alloc, reader, writer)),
-        "show" if has_flag(options, "all") => of_inspection(run_show_all(alloc, reader, writer)),
+        "show" if has_flag(options, "all") => {
+            let listed = list(alloc, Listing::AllMessages, MOST_BYTES, reader, writer);
+            of_inspection(listed)
+        }
         "show" => of_inspection(run_show(alloc, reader, writer)),
         "signals" => of_inspection(run_signals(alloc, station_of(options), reader, writer)),
         "options" => {
@@ -102,7 +105,9 @@ fn run<R: Read, W: Deliver, E: Deliver>(
         "convert" => convert(alloc, options, reader, writer, faults),
         _ => {
             let interval = gaps_of(options)?;
-            of_inspection(check(alloc, interval, has_flag(options, "times"), reader, writer))
+            let times = has_flag(options, "times");
+            let asked = CheckOptions { interval, times };
+            of_inspection(run_check_with(alloc, asked, reader, writer))
         }
     }
 }
@@ -114,25 +119,6 @@ fn of_inspection(ended: Result<(), InspectFault>) -> Result<(), ToolFault>
     ended.map_err(ToolFault::Inspect)
 }
 
-/// Reads a file back, and prints the times, and the gaps at an interval.
-fn check<R: Read, W: Deliver>(
-    alloc: Global,
-    interval: Option<u64>,
-    with_times: bool,
-    reader: &mut Counted<R>,
-    writer: &mut Counted<W>,
-) -> Result<(), InspectFault>
-    requires { IfSome interval (λ n. (0 < n) × (n ≤ longest_interval)) }
-    ensures { EndsCheck result with_times interval R.remaining reader.old reader.new
-        W.contents W.waiting writer.old writer.new }
-{
-    match interval {
-        Some(interval) => run_check_gaps(alloc, interval, with_times, reader, writer),
-        None if with_times => run_check_times(alloc, reader, writer),
-        None => run_check(alloc, reader, writer),
-    }
-}
-
 /// Converts the stream as the options ask, and prints the report. A failure of its writer is
 /// ignored, since the file is already written.
 fn convert<R: Read, W: Deliver, E: Deliver>(
@@ -142,8 +128,8 @@ fn convert<R: Read, W: Deliver, E: Deliver>(
     writer: &mut Counted<W>,
     faults: &mut Counted<E>,
 ) -> Result<(), ToolFault>
-    ensures { EndsConverting result (options_of options.now) R.remaining reader.old reader.new
-        W.contents W.waiting writer.old writer.new E.contents E.waiting faults.old faults.new }
+    ensures { Runs R.remaining reader.old reader.new W.contents W.waiting writer.old writer.new
+        E.contents E.waiting faults.old faults.new (EndsConverting result (options_of options.now)) }
 {
     let start_week = start_week_of(options)?;
     let initial = values_of(options)?;
@@ -164,12 +150,12 @@ fn answer<W: Deliver, E: Deliver>(
 ) -> u8
     ensures status { result ≤ 2 }
     ensures good { result ≡ 0 → (kind_of error.now ≡ DisplayVersion)
-        × PrintsText W.contents W.waiting writer.old writer.new VERSION.now × (faults.new ≡ faults.old) }
-    ensures stopped { result ≡ 1 → StopsPrinting (kind_of error.now) W.contents writer.old writer.new
-        E.contents E.waiting faults.old faults.new }
+        × Writes W.contents W.waiting writer.old writer.new (PrintsText VERSION.now) × (faults.new ≡ faults.old) }
+    ensures stopped { result ≡ 1 → Writes E.contents E.waiting faults.old faults.new (λ e e'.
+        Writes W.contents W.waiting writer.old writer.new (StopsPrinting (kind_of error.now) e e')) }
     ensures refused { result ≡ 2
         → (kind_of error.now ≢ DisplayVersion) × (kind_of error.now ≢ OutOfMemory) × (writer.new ≡ writer.old)
-        × PrintsSome E.contents E.waiting faults.old faults.new }
+        × Writes E.contents E.waiting faults.old faults.new PrintsSome }
 {
     match error.kind() {
         ErrorKind::DisplayVersion => {
@@ -196,7 +182,8 @@ fn refusal_text(alloc: Global, error: &clap::Error) -> Option<String>
 
 /// Prints the text of a refusal, or the line of `Memory` if there is no text.
 fn print_refusal<E: Deliver>(text: Option<String>, faults: &mut Counted<E>)
-    ensures { PrintsLine E.contents E.waiting faults.old faults.new (refusal_line (option_map string_bytes text)) }
+    ensures { Writes E.contents E.waiting faults.old faults.new
+        (PrintsLine (refusal_line (option_map string_bytes text))) }
 {
     match &text {
         Some(text) => print_line(text.as_bytes(), faults),
@@ -208,9 +195,9 @@ fn print_refusal<E: Deliver>(text: Option<String>, faults: &mut Counted<E>)
 /// out, or a word isn't UTF-8.
 pub fn refuse_words<E: Deliver>(error: &io::Error, faults: &mut Counted<E>) -> u8
     ensures memory { error_kind error.now ≡ kinds.OutOfMemory
-        → (result ≡ 1) × PrintsLine E.contents E.waiting faults.old faults.new (error_line ToolFault.Memory) }
+        → (result ≡ 1) × Writes E.contents E.waiting faults.old faults.new (PrintsLine (error_line ToolFault.Memory)) }
     ensures words { error_kind error.now ≢ kinds.OutOfMemory
-        → (result ≡ 2) × PrintsLine E.contents E.waiting faults.old faults.new not_text_line }
+        → (result ≡ 2) × Writes E.contents E.waiting faults.old faults.new (PrintsLine not_text_line) }
 {
     if error.kind() == io::ErrorKind::OutOfMemory {
         return exit_status(Err(ToolFault::Memory), faults);

@@ -1,5 +1,6 @@
 //! The command `convert`: the observation file of a stream.
 ghost use Rattle.std.specs.Prelude.{◌≡◌, ◌≤◌, ◌↔◌, Err, max};
+ghost use Rattle.rtcm_bits.specs.Devices.{Changes};
 ghost use Rattle.rtcm_bits.specs.FrameOf.{longest_frame};
 ghost use Rattle.rtcm_convert.specs.SetupValues.{IsBad};
 ghost use Rattle.rtcm_command.specs.Converting.{EndsConversion};
@@ -26,8 +27,8 @@ pub fn run_convert<R: Read, W: Deliver>(
     reader: &mut Counted<R>,
     writer: &mut Counted<W>,
 ) -> Result<Report, ToolFault>
-    ensures ends { EndsConversion result setup
-        R.remaining reader.old reader.new W.contents W.waiting writer.old writer.new }
+    ensures ends { Changes R.remaining reader.old reader.new W.contents W.waiting writer.old writer.new
+        (EndsConversion result setup) }
     ensures bad_setup { result ≡ Err (ToolFault.Convert Fault.BadSetup) ↔ IsBad setup }
     ensures widest { reader.new.widest ≤ max reader.old.widest longest_frame }
 {

@@ -1,6 +1,7 @@
 -- The end of the stream, after calls that did not fail.
 use Rattle.std.specs.Prelude.{max}
-use Rattle.rtcm_convert.specs.Faults.{FailsWithReader, IsFinishFault, IsSentAfter, IsSentAtFault, ReaderFailures}
+use Rattle.rtcm_convert.specs.Faults.{FailsWithReader, IsFinishFault, IsSentAfter, IsSentAtFault, culprit}
+use Rattle.rtcm_bits.specs.Devices.{ReaderFailures}
 use Rattle.rtcm_convert.proofs.FaultLemmas.{never, of_finish}
 use Rattle.rtcm_convert.proofs.Names.{◌≡◌, ℕ, ◌≤◌, List, true, false, sym, ap, subst, inl, inr, Result, Ok, Err, IfErr, IsErrOf, Device, Fault, longest_frame}
 
@@ -28,7 +29,7 @@ sent_after L (Err f) mid old new left h = by left.0 where
 pub reader_after : {T A : Type 0} (L : Fault → Type 0) (r : Result A Fault) (old new : Device T) → IfErr r (λ f. IsFinishFault f × L f) → new.failures ≡ old.failures → new.widest ≤ max old.widest longest_frame → FailsWithReader r old new
 reader_after L (Ok x) old new left same within = (tt, same, within)
 reader_after L (Err f) old new left same within = (kept left.0, tt, within) where
-  kept : IsFinishFault f → ReaderFailures f old.failures new.failures
-  kept (inl e) = subst (λ (x : Fault). ReaderFailures x old.failures new.failures) (sym e) same
-  kept (inr (inl p)) = subst (λ (x : Fault). ReaderFailures x old.failures new.failures) (sym p.1) same
-  kept (inr (inr e)) = subst (λ (x : Fault). ReaderFailures x old.failures new.failures) (sym e) same
+  kept : IsFinishFault f → ReaderFailures (culprit f) old.failures new.failures
+  kept (inl e) = subst (λ (x : Fault). ReaderFailures (culprit x) old.failures new.failures) (sym e) same
+  kept (inr (inl p)) = subst (λ (x : Fault). ReaderFailures (culprit x) old.failures new.failures) (sym p.1) same
+  kept (inr (inr e)) = subst (λ (x : Fault). ReaderFailures (culprit x) old.failures new.failures) (sym e) same

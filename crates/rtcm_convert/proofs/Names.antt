@@ -32,7 +32,7 @@ pub use Rattle.rtcm_convert.specs.Broken.{BrokeInPieces, FailedWriting, FailedWr
 pub use Rattle.rtcm_convert.specs.Conversion.{Completed, CompletedEmpty, CompletesEmptyFile, CompletesFile, Conversion, CutsAtLimit, FailsAtEnd, FailsAtPiece, FailsFeeding, FailsFinishing, FinishesEmptyNow, FinishesNow, HasConverted, HasFinished, IsFit, IsGoing, IsPastLimit, KeepsNow, LeftBy, RanToFault, RanToLimit, StopsAtEnd, TakesFromReader, TakesPiece, WritesAdded, WritesPrefixOfAdded, kept_of, refusal}
 unfoldable pub use Rattle.rtcm_convert.specs.Converted.{text_of_epochs}
 pub use Rattle.rtcm_convert.specs.Converted.{SetupValue, epochs_in, file, message_of, messages_of, so_far, text_with, written_epochs}
-pub use Rattle.rtcm_convert.specs.Faults.{FailsWithWriter, IsPiecesFault, IsRunFault, IsSetupFault, WriterFailures}
+pub use Rattle.rtcm_convert.specs.Faults.{FailsWithWriter, IsPiecesFault, IsRunFault, IsSetupFault}
 pub use Rattle.rtcm_convert.specs.Fed.{AppendsBetween, AppendsPrefixBetween, AppendsUpTo}
 pub use Rattle.rtcm_convert.specs.Filed.{HasFiledEpochs, HasFiledFrames, Settled, added, epochs_after, last_values, opening, values_after, values_following_closed}
 pub use Rattle.rtcm_convert.specs.Kept.{IsKeptAtEnd, IsWithinBounds, locks_at, locks_in_all}

@@ -1,6 +1,7 @@
 -- The state of the devices that a call reads and writes, by its result.
 use Rattle.std.specs.Prelude.{◌≡◌, ◌≤◌, ◌⊎◌, ◌==◌, if◌then◌else◌, ℕ, max, ⊤, List, [], Result, Ok, Err, OnOk, IfErr}
-use Rattle.rtcm_bits.specs.Device.{Device, HasFailed}
+use Rattle.rtcm_bits.specs.Device.{Device}
+use Rattle.rtcm_bits.specs.Devices.{Culprit, TheReader, TheWriter, NoDevice, ReaderFailures, WriterFailures}
 use Rattle.rtcm_bits.specs.FrameOf.{longest_frame}
 use Rattle.rtcm_convert.specs.declared.fault.Fault.{Fault}
 use Rattle.rtcm_convert.specs.declared.fault.Fault.TheVariants.{BadSetup, Memory, Read, TooLong, NoEpoch, NoneChosen, Write}
@@ -20,28 +21,24 @@ abbrev pub IsSentAfter : {A : Type 0} → Result A Fault → (before after : Lis
 IsSentAfter (Ok x) before after = after ≡ []
 IsSentAfter (Err fault) before after = IsSentAtFault fault before after
 
--- the failures of a writer before and after a fault: one was counted at `Write`, and none at any other
-abbrev pub WriterFailures : Fault → ℕ → ℕ → Type 0
-WriterFailures Write before after = HasFailed before after
-WriterFailures _ before after = after ≡ before
-
--- the failures of a reader before and after a fault: one was counted at `Read`, and none at any other
-abbrev pub ReaderFailures : Fault → ℕ → ℕ → Type 0
-ReaderFailures Read before after = HasFailed before after
-ReaderFailures _ before after = after ≡ before
+-- the device that failed at a fault
+abbrev pub culprit : Fault → Culprit
+culprit Read = TheReader
+culprit Write = TheWriter
+culprit other = NoDevice
 
 -- `Write` is returned exactly if one failure of the writer was counted, any other result only if none was; nothing was
 -- read from it
 abbrev pub FailsWithWriter : {T A : Type 0} → Result A Fault → Device T → Device T → Type 0
 FailsWithWriter result old new =
-    IfErr result (λ fault. WriterFailures fault old.failures new.failures) × OnOk result (new.failures ≡ old.failures)
+    IfErr result (λ fault. WriterFailures (culprit fault) old.failures new.failures) × OnOk result (new.failures ≡ old.failures)
     × (new.widest ≡ old.widest)
 
 -- `Read` is returned exactly if one failure of the reader was counted, any other result only if none was; no read asked
 -- for more than 1,029 bytes
 abbrev pub FailsWithReader : {T A : Type 0} → Result A Fault → Device T → Device T → Type 0
 FailsWithReader result old new =
-    IfErr result (λ fault. ReaderFailures fault old.failures new.failures) × OnOk result (new.failures ≡ old.failures)
+    IfErr result (λ fault. ReaderFailures (culprit fault) old.failures new.failures) × OnOk result (new.failures ≡ old.failures)
     × (new.widest ≤ max old.widest longest_frame)
 
 -- the same for both devices

@@ -1,7 +1,7 @@
 -- Signal counts as a consumer of frames.
 use Rattle.rtcm_inspect.proofs.PrintingLemmas.{Printed}
 use Rattle.rtcm_inspect.proofs.StreamLemmas.{Began}
-use Rattle.rtcm_inspect.proofs.Names.{◌≡◌, ◌∙◌, ap, inr, ◌*◌, ◌<◌, ◌≤◌, ◌^◌, sym, subst, arith, Bool, true, ℕ, List, [], ◌∷◌, ◌++◌, Option, Result, Ok, Err, length, length-append, append-nil, refl, Framed, frames_of, known_frames, Device, HasFailed, StreamFault, ⊤, InspectFault, ReadFailures, stream_fault, AtFault, Passes, BreaksReading, PassesAll, PassesToLimit, Reads, FramerValue, most_bytes, AreSignalCounts, CountsMessage, SignalCountsValue, valued, inspected, HeardCell, inspected_of, message_at, MsgFault, Message, valued_in, valued_of, flat_map-append, AreFirst, AreOptionsOf, EndsOptions, EndsSignals, ReadsTooMuch, signals_text, Counts, StopsCounting, HasCounted, IsCounted, AreSignals, NeverFails, option_map_or, StreamSignals, piece_bytes, forms_had, channels_in}
+use Rattle.rtcm_inspect.proofs.Names.{◌≡◌, ◌∙◌, ap, inr, ◌*◌, ◌<◌, ◌≤◌, ◌^◌, sym, subst, arith, Bool, true, ℕ, List, [], ◌∷◌, ◌++◌, Option, Result, Ok, Err, length, length-append, append-nil, refl, Framed, frames_of, known_frames, Device, Devices, HasFailed, StreamFault, ⊤, InspectFault, ReaderFailures, culprit, stream_fault, AtFault, Passes, BreaksReading, PassesAll, PassesToLimit, Reads, FramerValue, most_bytes, AreSignalCounts, CountsMessage, SignalCountsValue, valued, inspected, HeardCell, inspected_of, message_at, MsgFault, Message, valued_in, valued_of, flat_map-append, AreFirst, EndsStream, ReadsTooMuch, Counts, StopsCounting, HasCounted, IsCounted, AreSignals, NeverFails, option_map_or, StreamSignals, piece_bytes, forms_had, channels_in}
 use Rattle.rtcm_scan.specs.declared.feed.StreamFault.TheVariants as stream
 
 valued_more : (wanted : Option ℕ) (fs : List Framed) (f : Framed) (cells : List HeardCell) → valued_of wanted f ≡ cells → valued_in wanted (fs ++ f ∷ []) ≡ valued_in wanted fs ++ cells
@@ -85,23 +85,15 @@ counting_stopped left v2 c2 rd rd2 stream.Read began passed = tt
 counting_stopped left v2 c2 rd rd2 stream.TooLong began passed = counted_too_much v2 (left rd.inner) (left rd2.inner) began passed
 counting_stopped left v2 c2 rd rd2 (stream.Sink fault) began broke = absurd (counter_fails v2 (left rd.inner) (left rd2.inner) began broke)
 
-pub counted_reads : {F : Type 0} (fault : StreamFault F) (before after : ℕ) → AtFault fault (HasFailed before after) (after ≡ before) (after ≡ before) → ReadFailures (stream_fault fault) before after
+pub counted_reads : {F : Type 0} (fault : StreamFault F) (before after : ℕ) → AtFault fault (HasFailed before after) (after ≡ before) (after ≡ before) → ReaderFailures (culprit (stream_fault fault)) before after
 counted_reads stream.Read before after h = h
 counted_reads stream.TooLong before after h = h
 counted_reads (stream.Sink fault) before after h = h
 
--- the signals of a stream were printed, or a part of their text
-pub signals_printed : {R W : Type 0} {held : W → Option (List ℕ)} {waits : W → List ℕ} {wanted : Option ℕ} {w w2 : Device W} {s : StreamSignals} (left : R → Option (List ℕ)) (r r2 : Device R) (ended : Result ⊤ InspectFault)
-    (h : HasCounted s wanted (left r.inner) (left r2.inner)) → 0 < length (valued_in wanted (frames_of h.0)) → r2.failures ≡ r.failures → Printed ended held waits w w2 (signals_text wanted (frames_of h.0))
-    → EndsSignals ended signals_text wanted left r r2 held waits w w2
-signals_printed left r r2 (Ok u) h some same p = ((same, p.ends.0, p.ends.1), (h.0, h.1, h.2, some, p.ends.2))
-signals_printed {held = held} {waits} {wanted} {w} {w2} left r r2 (Err fault) h some same p =
-    subst (λ (f : InspectFault). EndsSignals {A = ⊤} (Err f) signals_text wanted left r r2 held waits w w2) (sym p.ends.0) ((same, p.ends.1.0), inr (h.0, h.1, h.2, some, p.ends.1.1))
-
--- the options of a stream were printed, or a part of their text
-pub options_printed : {R W : Type 0} {held : W → Option (List ℕ)} {waits : W → List ℕ} {wanted : Option ℕ} {w w2 : Device W} {text : List ℕ} (left : R → Option (List ℕ)) (near : Option ℕ) (r r2 : Device R) (ended : Result ⊤ InspectFault)
-    → ((s : StreamSignals) × (h : HasCounted s wanted (left r.inner) (left r2.inner)) × AreOptionsOf near wanted (frames_of h.0) text) → r2.failures ≡ r.failures → Printed ended held waits w w2 text
-    → EndsOptions ended near wanted left r r2 held waits w w2
-options_printed {text = text} left near r r2 (Ok u) x same p = ((same, p.ends.0, p.ends.1), (x.1.0, x.1.1, x.1.2, (text, x.2, p.ends.2)))
-options_printed {held = held} {waits} {wanted} {w} {w2} {text} left near r r2 (Err fault) x same p =
-    subst (λ (f : InspectFault). EndsOptions {A = ⊤} (Err f) near wanted left r r2 held waits w w2) (sym p.ends.0) ((same, p.ends.1.0), inr (x.1.0, x.1.1, x.1.2, (text, x.2, p.ends.1.1)))
+-- the text of a stream was printed, or a part of it
+pub stream_printed : {R W : Type 0} {text : List ℕ} (IsText : List Framed → List ℕ → Type 0) (IsRefused : List Framed → InspectFault → Type 0) (d d2 : Devices R W) (ended : Result ⊤ InspectFault) {s : StreamSignals} {wanted : Option ℕ}
+    (h : HasCounted s wanted d.reader.unread d2.reader.unread) → IsText (frames_of h.0) text → d2.reader.device.failures ≡ d.reader.device.failures → Printed ended d.writer d2.writer text
+    → EndsStream ended IsText IsRefused d d2
+stream_printed {text = text} IsText IsRefused d d2 (Ok u) h is same p = ((same, p.ends.0, p.ends.1), (h.0, h.1, h.2, (text, is, p.ends.2)))
+stream_printed {text = text} IsText IsRefused d d2 (Err fault) h is same p =
+    subst (λ (f : InspectFault). EndsStream {A = ⊤} (Err f) IsText IsRefused d d2) (sym p.ends.0) ((same, p.ends.1.0), inr (h.0, h.1, h.2, (text, is, p.ends.1.1)))

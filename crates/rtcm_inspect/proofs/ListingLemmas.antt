@@ -1,6 +1,6 @@
 -- A listing as a consumer of frames.
 use Rattle.rtcm_inspect.proofs.StreamLemmas.{Began}
-use Rattle.rtcm_inspect.proofs.Names.{Err, Ok, OnErr, OnOk, Result, DeviceFailed, WritesLine, ◌≡◌, ◌∙◌, ◌-◌, ◌<◌, ap, sym, subst, refl, arith, Bool, true, false, ℕ, List, [], ◌∷◌, ◌++◌, Option, append_assoc, append-nil, length, take, Appends, Keeps, flat_map-append, Appends-nil, Appends-trans, Appends-kept, AppendsPrefix, Device, HasFailed, IsPrefix, Framed, decided_frames, known_frames, ⊤, StreamFault, HaveFailedBy, stream_fault, AtFault, BreaksReading, Passes, PassesAll, PassesToLimit, Reads, FramerValue, Listing, Lists, ListsAll, ListsDecided, StopsListing, ListsPart, ListsToLimit, ListsUpTo, listing_line, listing_lines, piece_bytes}
+use Rattle.rtcm_inspect.proofs.Names.{Err, Ok, OnErr, OnOk, Result, DeviceFailed, WritesLine, ◌≡◌, ◌∙◌, ◌-◌, ◌<◌, ap, sym, subst, refl, arith, Bool, true, false, ℕ, List, [], ◌∷◌, ◌++◌, Option, append_assoc, append-nil, length, take, Appends, Keeps, flat_map-append, Appends-nil, Appends-trans, Appends-kept, AppendsPrefix, Device, HasFailed, IsPrefix, Framed, decided_frames, known_frames, ⊤, StreamFault, Devices, EndsListing, devices_of, stream_fault, AtFault, BreaksReading, Passes, PassesAll, PassesToLimit, Reads, FramerValue, Listing, Lists, ListsAll, ListsDecided, ListsPart, ListsToLimit, ListsUpTo, listing_line, listing_lines, piece_bytes}
 use Rattle.rtcm_scan.specs.declared.feed.StreamFault.TheVariants as stream
 use Rattle.rtcm_bits.specs.SmallLaws.{prefix_self, prefix_trans}
 
@@ -71,26 +71,29 @@ part_line held k o o2 f (Err e) is w = λ k0 o0 ps fs. stopped_at_line f (subst 
 pub new_listing : {W : Type 0} (held : W → Option (List ℕ)) (k : Listing) (o : Device W) → Lists held k o [] k o []
 new_listing held k o = record { same = refl; out = λ w a. a; fine = refl }
 
-module _ {W : Type 0} {held : W → Option (List ℕ)} {v : FramerValue} {k : Listing} {o : Device W} {limit : ℕ} (v2 : FramerValue) (k2 : Listing) (o2 : Device W) (r r2 : Option (List ℕ)) (began : Began (Lists held) v k o limit) where
+module _ {R W : Type 0} (left : R → Option (List ℕ)) (held : W → Option (List ℕ)) (waits : W → List ℕ) {v : FramerValue} {k : Listing} {o : Device W} {limit : ℕ} (v2 : FramerValue) (k2 : Listing) (o2 : Device W) (r r2 : Device R) (began : Began (Lists held) v k o limit) where
+  abbrev at : Device R → Device W → Devices R W
+  at x y = devices_of left held waits x y
+
   written : (b : List ℕ) → Passes (Lists held) v k o v2 k2 o2 b → Appends (held o.inner) (held o2.inner) (listing_lines k (known_frames v2.has_ended b))
   written b passes = (passes k o [] [] began.new).passed.taken.out (held o.inner) (Appends-nil (held o.inner))
 
   -- to its end
-  pub listed_all : v2.has_ended ≡ true → PassesAll (Lists held) v k o v2 k2 o2 r r2 → ListsAll (listing_lines k) r r2 (held o.inner) (held o2.inner) × (o2.failures ≡ o.failures)
+  pub listed_all : v2.has_ended ≡ true → PassesAll (Lists held) v k o v2 k2 o2 (left r.inner) (left r2.inner) → ListsAll (listing_lines k) (at r o) (at r2 o2) × (o2.failures ≡ o.failures)
   listed_all ended p =
       let b : List ℕ = p.0.0 in
       let out = subst (λ (e : Bool). Appends (held o.inner) (held o2.inner) (listing_lines k (known_frames e b))) ended (written b p.0.2) in
       ((b, p.0.1, p.1, out), (p.0.2 k o [] [] began.new).passed.taken.fine)
 
   -- up to a failed read
-  pub listed_some : v2.has_ended ≡ false → Reads r r2 (Passes (Lists held) v k o v2 k2 o2) → ListsDecided (listing_lines k) r r2 (held o.inner) (held o2.inner) × (o2.failures ≡ o.failures)
+  pub listed_some : v2.has_ended ≡ false → Reads (left r.inner) (left r2.inner) (Passes (Lists held) v k o v2 k2 o2) → ListsDecided (listing_lines k) (at r o) (at r2 o2) × (o2.failures ≡ o.failures)
   listed_some going p =
       let out = subst (λ (e : Bool). Appends (held o.inner) (held o2.inner) (listing_lines k (known_frames e p.0))) going (written p.0 p.2) in
       ((p.0, p.1, out), (p.2 k o [] [] began.new).passed.taken.fine)
 
   -- up to the limit
-  pub listed_to_limit : v2.has_ended ≡ false → Reads r r2 (PassesToLimit (Lists held) v k o v2 k2 o2)
-      → ListsToLimit limit (listing_lines k) r r2 (held o.inner) (held o2.inner) × (o2.failures ≡ o.failures)
+  pub listed_to_limit : v2.has_ended ≡ false → Reads (left r.inner) (left r2.inner) (PassesToLimit (Lists held) v k o v2 k2 o2)
+      → ListsToLimit limit (listing_lines k) (at r o) (at r2 o2) × (o2.failures ≡ o.failures)
   listed_to_limit going p =
       let is : v.limit ≡ limit = began.limit_is in
       let none : v.taken ≡ 0 = began.none in
@@ -103,8 +106,8 @@ module _ {W : Type 0} {held : W → Option (List ℕ)} {v : FramerValue} {k : Li
       )
 
   -- up to a piece at which the writer failed
-  pub listed_part : BreaksReading (Lists held) (ListsUpTo held) v k o k2 o2 piece_bytes r r2
-      → ListsPart (listing_lines k) r r2 (held o.inner) (held o2.inner) × HasFailed o.failures o2.failures
+  pub listed_part : BreaksReading (Lists held) (ListsUpTo held) v k o k2 o2 piece_bytes (left r.inner) (left r2.inner)
+      → ListsPart (listing_lines k) (at r o) (at r2 o2) × HasFailed o.failures o2.failures
   listed_part p =
       let broke = p.breaks k o [] [] began.new in
       let between = broke.broken.out (held o.inner) (Appends-nil (held o.inner)) in
@@ -135,7 +138,7 @@ pub record Stopped {R W F : Type 0} (left : R → Option (List ℕ)) (held : W �
   pub failed : AtFault fault (HasFailed r.failures r2.failures) (r2.failures ≡ r.failures) (r2.failures ≡ r.failures)
 
 pub listing_stopped : {R W F : Type 0} {left : R → Option (List ℕ)} {held : W → Option (List ℕ)} {waits : W → List ℕ} {v v2 : FramerValue} {k k2 : Listing} {o o2 : Device W} {r r2 : Device R} {limit : ℕ} (fault : StreamFault F)
-    → Began (Lists held) v k o limit → Stopped left held waits v v2 k k2 o o2 r r2 fault → HaveFailedBy (stream_fault fault) r r2 o o2 × StopsListing limit (listing_lines k) left r r2 held waits o o2 (stream_fault fault)
-listing_stopped {left = left} {v2 = v2} {k2 = k2} {o2 = o2} {r} {r2} stream.Read began s = let listed = listed_some v2 k2 o2 (left r.inner) (left r2.inner) began s.still s.passed in ((s.failed, listed.1), (listed.0, s.sent))
-listing_stopped {left = left} {v2 = v2} {k2 = k2} {o2 = o2} {r} {r2} stream.TooLong began s = let listed = listed_to_limit v2 k2 o2 (left r.inner) (left r2.inner) began s.still s.passed in ((s.failed, listed.1), (listed.0, s.sent))
-listing_stopped {left = left} {v2 = v2} {k2 = k2} {o2 = o2} {r} {r2} (stream.Sink fault) began s = let listed = listed_part v2 k2 o2 (left r.inner) (left r2.inner) began s.passed in ((s.failed, listed.1), listed.0)
+    → Began (Lists held) v k o limit → Stopped left held waits v v2 k k2 o o2 r r2 fault → EndsListing {A = ⊤} (Err (stream_fault fault)) limit (listing_lines k) (devices_of left held waits r o) (devices_of left held waits r2 o2)
+listing_stopped {left = left} {held} {waits} {v2 = v2} {k2 = k2} {o2 = o2} {r} {r2} stream.Read began s = let listed = listed_some left held waits v2 k2 o2 r r2 began s.still s.passed in ((s.failed, listed.1), (listed.0, s.sent))
+listing_stopped {left = left} {held} {waits} {v2 = v2} {k2 = k2} {o2 = o2} {r} {r2} stream.TooLong began s = let listed = listed_to_limit left held waits v2 k2 o2 r r2 began s.still s.passed in ((s.failed, listed.1), (listed.0, s.sent))
+listing_stopped {left = left} {held} {waits} {v2 = v2} {k2 = k2} {o2 = o2} {r} {r2} (stream.Sink fault) began s = let listed = listed_part left held waits v2 k2 o2 r r2 began s.passed in ((s.failed, listed.1), listed.0)

@@ -35,39 +35,40 @@ unfoldable pub use Rattle.rtcm_bits.specs.Bits.{bits_of}
 pub use Rattle.rtcm_bits.specs.Bits.{FitsInt, bit, filled, missing, number, uint}
 pub use Rattle.rtcm_bits.specs.Cursors.{Cursor}
 pub use Rattle.rtcm_bits.specs.Device.{AppendsPrefix, Device, FailsWith, HasFailed}
+pub use Rattle.rtcm_bits.specs.Devices.{Devices, Ends, HaveFailedBy, ReaderFailures, Writer, WriterFailures, devices_of, writer_of}
 pub use Rattle.rtcm_bits.specs.FrameOf.{frame_bytes, longest_message, longest_message_bits}
 pub use Rattle.rtcm_bits.specs.Prefix.{IsPrefix}
 pub use Rattle.rtcm_bits.specs.declared.counted.DeviceFailed.{DeviceFailed}
 pub use Rattle.rtcm_bits.specs.SmallLaws.{of_ok, passed}
-unfoldable pub use Rattle.rtcm_inspect.specs.Checking.{check_line}
-pub use Rattle.rtcm_inspect.specs.Checking.{AreLinesOf, ChecksPart, ChecksWhole, IsCheckedOr, IsLineOf, StopsAnyCheck}
+pub use Rattle.rtcm_inspect.specs.Checking.{IsCheckedOr, ChecksFile, EndsCheck, IsFileWith, ReadsGaps, StopsCheck}
+unfoldable pub use Rattle.rtcm_inspect.specs.CheckOutput.{check_line, complete_line, gap_line}
+pub use Rattle.rtcm_inspect.specs.CheckOutput.{IsOutput, complete_if, gap_between, gaps_after, gaps_of, times_if}
 pub use Rattle.rtcm_inspect.specs.Counting.{AreSignals, Counts, HasCounted, IsCounted, NeverFails, StopsCounting}
 unfoldable pub use Rattle.rtcm_inspect.specs.DateTexts.{time_line}
 pub use Rattle.rtcm_inspect.specs.DateTexts.{clock_text, date_text, moment_words, times_lines}
-pub use Rattle.rtcm_inspect.specs.Devices.{Ends, EndsDelivery, HaveFailedBy, IsDelivered, ReadFailures, stream_fault}
+pub use Rattle.rtcm_inspect.specs.Devices.{EndsDelivery, IsDelivered, culprit, stream_fault}
 pub use Rattle.rtcm_inspect.specs.FirstMessages.{AreFirst, first_station, mixed_of, point_of, sender, stations_in, stations_of, with_other}
 pub use Rattle.rtcm_inspect.specs.FirstTows.{AreTows, first_in, first_tow, tow_of}
 unfoldable pub use Rattle.rtcm_inspect.specs.Fitting.{options_line}
 pub use Rattle.rtcm_inspect.specs.Fitting.{antenna_words, forms_words, further_words, height_text, number_start, number_words, options_text, position_text, position_word, station_words}
 unfoldable pub use Rattle.rtcm_inspect.specs.FrameLines.{frame_line, number_word}
-unfoldable pub use Rattle.rtcm_inspect.specs.Gaps.{complete_line, gap_line}
-pub use Rattle.rtcm_inspect.specs.Gaps.{AreGapsOf, ReadsGaps, StopsGaps, gap_between, gaps_after, gaps_of, times_if}
 pub use Rattle.rtcm_inspect.specs.Inspected.{inspected, inspected_at, inspected_in, inspected_of}
 pub use Rattle.option_texts.specs.Lines.{line, with_words}
 pub use Rattle.rtcm_inspect.specs.Listing.{EndsListing, Lists, ListsAll, ListsDecided, ListsPart, ListsToLimit, ListsUpTo, StopsListing, WritesLine, listing_line, listing_lines, piece_bytes}
 pub use Rattle.option_texts.specs.Metres.{metres, size_text}
 pub use Rattle.rtcm_inspect.specs.NearWeek.{IsNearestWeek, IsWeekFor, IsWeekNear, half_week}
-pub use Rattle.rtcm_inspect.specs.OptionOutput.{AreOptionsOf, EndsOptions}
+pub use Rattle.rtcm_inspect.specs.OptionOutput.{AreOptionsOf, AreOptionsRefused}
 pub use Rattle.rtcm_inspect.specs.Printing.{EndsPrinting, PrintsLine, PrintsText}
 pub use Rattle.rtcm_inspect.specs.ReadBack.{AreEncoded, AreKnown, AreReadAs, ReadsBack}
 unfoldable pub use Rattle.rtcm_inspect.specs.ShowLines.{fault_line, msm_line, show_line, station_line}
 pub use Rattle.rtcm_inspect.specs.ShowLines.{fault_words, height_words, read_for, read_line}
 pub use Rattle.rtcm_inspect.specs.SignalLaws.{SkipsOnly}
-pub use Rattle.rtcm_inspect.specs.SignalOutput.{EndsSignals, ReadsTooMuch}
 unfoldable pub use Rattle.rtcm_inspect.specs.Signals.{count_line}
-pub use Rattle.rtcm_inspect.specs.Signals.{code_list, codes_word, count_lines, decodes, forms_had, had, had_below, has_counted, has_other_value, is_of_other, lines_below, needs_all, plan_had, plan_in, set_had, signals_text, valued_in, valued_of, with_forms}
+pub use Rattle.rtcm_inspect.specs.Signals.{AreSignalsOf, AreSignalsRefused, code_list, codes_word, count_lines, decodes, forms_had, had, had_below, has_counted, has_other_value, is_of_other, lines_below, needs_all, plan_had, plan_in, set_had, signals_text, valued_in, valued_of, with_forms}
+pub use Rattle.rtcm_inspect.specs.StreamOutput.{EndsStream, ReadsTooMuch}
 pub use Rattle.rtcm_inspect.specs.StreamChannels.{channels_in, sent_by, sent_in, sent_of, with_first, with_sent}
 pub use Rattle.rtcm_inspect.specs.WeekLaws.{first_time}
+pub use Rattle.rtcm_inspect.specs.declared.check.CheckOptions.{CheckOptions}
 pub use Rattle.rtcm_inspect.specs.declared.counting.StreamSignals.{StreamSignals}
 pub use Rattle.rtcm_inspect.specs.declared.fault.InspectFault.{InspectFault}
 pub use Rattle.rtcm_inspect.specs.declared.first_messages.FirstMessages.{FirstMessages}

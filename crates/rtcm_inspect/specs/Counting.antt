@@ -10,7 +10,7 @@ use Rattle.obs_epoch.specs.SignalCounts.{SignalCountsValue, AreSignalCounts}
 use Rattle.rtcm_inspect.specs.FirstMessages.{AreFirst}
 use Rattle.rtcm_inspect.specs.Signals.{forms_had, valued_in}
 use Rattle.rtcm_inspect.specs.StreamChannels.{channels_in}
-use Rattle.rtcm_inspect.specs.SignalOutput.{ReadsTooMuch}
+use Rattle.rtcm_inspect.specs.StreamOutput.{ReadsTooMuch}
 use Rattle.rtcm_inspect.specs.declared.fault.InspectFault.{InspectFault}
 use Rattle.rtcm_inspect.specs.declared.fault.InspectFault.TheVariants as faults
 use Rattle.rtcm_inspect.specs.declared.counting.StreamSignals.{StreamSignals}

@@ -1,7 +1,9 @@
--- The state of the devices of a command by its result: they were r and w before, and are r' and w' after it.
-use Rattle.std.specs.Prelude.{◌≡◌, ℕ, Result, Ok, Err, [], List, Option}
-use Rattle.std.specs.Io.KnownBytes.{Keeps}
+-- The devices of a command before and after it: which of them failed at a fault, and what was read and delivered.
+use Rattle.std.specs.Prelude.{◌≡◌, Result, Ok, Err, [], List, ℕ}
+use Rattle.std.specs.Io.KnownBytes.{Consumes, IsAtEnd, Keeps}
 use Rattle.rtcm_bits.specs.Device.{Device, HasFailed}
+use Rattle.rtcm_bits.specs.Devices.{Culprit, Devices, NoDevice, ReaderFailures, TheReader, TheWriter, Writer}
+use Rattle.rtcm_scan.specs.Frames.{Framed, frames_of}
 use Rattle.rtcm_scan.specs.declared.feed.StreamFault.{StreamFault}
 use Rattle.rtcm_scan.specs.declared.feed.StreamFault.TheVariants as stream
 use Rattle.rtcm_scan.specs.declared.framer.ScanFault.TheVariants as scan
@@ -15,49 +17,33 @@ stream_fault stream.Read = faults.Read
 stream_fault stream.TooLong = faults.Scan scan.TooLong
 stream_fault (stream.Sink failed) = faults.Write
 
--- the failures of a reader before and after a fault: one more at `Read`, the same number at any other
-abbrev pub ReadFailures : InspectFault → ℕ → ℕ → Type 0
-ReadFailures faults.Read before after = HasFailed before after
-ReadFailures (faults.Check reading.Read) before after = HasFailed before after
-ReadFailures _ before after = after ≡ before
+-- the device that failed at a fault
+abbrev pub culprit : InspectFault → Culprit
+culprit faults.Read = TheReader
+culprit (faults.Check reading.Read) = TheReader
+culprit faults.Write = TheWriter
+culprit other = NoDevice
 
 -- a reader before and after
 abbrev pub CountsReader : {T A : Type 0} → Result A InspectFault → Device T → Device T → Type 0
 CountsReader (Ok x) r r' = r'.failures ≡ r.failures
-CountsReader (Err fault) r r' = ReadFailures fault r.failures r'.failures
+CountsReader (Err fault) r r' = ReaderFailures (culprit fault) r.failures r'.failures
 
--- the failures of a writer before and after a fault: one more at `Write`, the same number at any other
-abbrev pub WriteFailures : InspectFault → ℕ → ℕ → Type 0
-WriteFailures faults.Write before after = HasFailed before after
-WriteFailures _ before after = after ≡ before
-
--- no device failed, and nothing waits in the writer
-abbrev pub AreFine : {R W : Type 0} → (r r' : Device R) → (W → List ℕ) → (w w' : Device W) → Type 0
-AreFine r r' waits w w' = (r'.failures ≡ r.failures) × (w'.failures ≡ w.failures) × (waits w'.inner ≡ [])
-
--- the device that the fault names failed, and no other
-abbrev pub HaveFailedBy : {R W : Type 0} → InspectFault → (r r' : Device R) → (w w' : Device W) → Type 0
-HaveFailedBy fault r r' w w' = ReadFailures fault r.failures r'.failures × WriteFailures fault w.failures w'.failures
-
--- the bytes written are the same, and none of them waits in the writer
-abbrev pub IsDelivered : {W : Type 0} → (W → Option (List ℕ)) → (W → List ℕ) → (w w' : Device W) → Type 0
-IsDelivered held waits w w' = Keeps (held w.inner) (held w'.inner) × (waits w'.inner ≡ [])
+-- the stream was read to its end, and P holds for its frames
+abbrev pub ReadsStream : {R W : Type 0} → (d d' : Devices R W) → (List Framed → Type 0) → Type 0
+ReadsStream d d' P =
+    (b : List ℕ) × Consumes d.reader.unread d'.reader.unread b × IsAtEnd d'.reader.unread × P (frames_of b)
 
 -- nothing was read, and the bytes written are the same
-abbrev pub IsUnread : {R W : Type 0} → (r r' : Device R) → (W → Option (List ℕ)) → (w w' : Device W) → Type 0
-IsUnread r r' held w w' = (r' ≡ r) × Keeps (held w.inner) (held w'.inner)
+abbrev pub IsUnread : {R W : Type 0} → (d d' : Devices R W) → Type 0
+IsUnread d d' = (d'.reader.device ≡ d.reader.device) × Keeps d.writer.written d'.writer.written
+
+-- the bytes written are the same, and none of them waits in the writer
+abbrev pub IsDelivered : {W : Type 0} → (w w' : Writer W) → Type 0
+IsDelivered w w' = Keeps w.written w'.written × (w'.waiting ≡ [])
 
 -- The bytes that waited in the writer were delivered; or it failed once.
-abbrev pub EndsDelivery : {A W : Type 0} → Result A InspectFault → (W → Option (List ℕ)) → (W → List ℕ)
-    → (w w' : Device W) → Type 0
-EndsDelivery (Ok x) held waits w w' = (w'.failures ≡ w.failures) × IsDelivered held waits w w'
-EndsDelivery (Err fault) held waits w w' =
-    (fault ≡ faults.Write) × HasFailed w.failures w'.failures × Keeps (held w.inner) (held w'.inner)
-
--- How a command ended: no device failed, nothing waits in the writer, and Done holds for its value; or Stopped holds
--- for its fault.
-abbrev pub Ends : {A R W : Type 0} → Result A InspectFault → (r r' : Device R) → (W → List ℕ) → (w w' : Device W)
-    → (A → Type 0)
-    → (InspectFault → Type 0) → Type 0
-Ends (Ok x) r r' waits w w' Done Stopped = AreFine r r' waits w w' × Done x
-Ends (Err fault) r r' waits w w' Done Stopped = HaveFailedBy fault r r' w w' × Stopped fault
+abbrev pub EndsDelivery : {A W : Type 0} → Result A InspectFault → (w w' : Writer W) → Type 0
+EndsDelivery (Ok x) w w' = (w'.device.failures ≡ w.device.failures) × IsDelivered w w'
+EndsDelivery (Err fault) w w' =
+    (fault ≡ faults.Write) × HasFailed w.device.failures w'.device.failures × Keeps w.written w'.written

@@ -9,14 +9,14 @@ pub mod DateTexts
 pub mod Checking
 pub mod Inspected
 pub mod FirstTows
-pub mod Gaps
+pub mod CheckOutput
 pub mod FirstMessages
 pub mod StreamChannels
 pub mod NearWeek
 pub mod Signals
 pub mod Fitting
 pub mod Counting
-pub mod SignalOutput
+pub mod StreamOutput
 pub mod OptionOutput
 pub mod Printing
 pub mod SignalLaws

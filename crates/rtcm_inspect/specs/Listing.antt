@@ -3,13 +3,14 @@ use Rattle.std.specs.Prelude.{◌≡◌, ◌<◌, ◌≤◌, ℕ, Bool, true, fa
 use Rattle.std.specs.Prelude.{[]}
 use Rattle.std.specs.List.{flat_map}
 use Rattle.std.specs.Io.KnownBytes.{Appends, Consumes, IsAtEnd}
-use Rattle.rtcm_bits.specs.Device.{AppendsPrefix, Device, FailsWith, HasFailed, IsBetween, IsUntouched, Moves}
+use Rattle.rtcm_bits.specs.Device.{AppendsPrefix, Device, FailsWith, HasFailed, IsBetween}
 use Rattle.rtcm_bits.specs.declared.counted.DeviceFailed.{DeviceFailed}
-use Rattle.rtcm_scan.specs.Frames.{Framed, frames_of}
+use Rattle.rtcm_scan.specs.Frames.{Framed}
 use Rattle.rtcm_scan.specs.Decided.{decided_frames}
 use Rattle.rtcm_scan.specs.Known.{known_frames}
 use Rattle.rtcm_scan.specs.declared.framer.ScanFault.TheVariants as scan
-use Rattle.rtcm_inspect.specs.Devices.{Ends}
+use Rattle.rtcm_bits.specs.Devices.{AreUntouched, Devices, Ends}
+use Rattle.rtcm_inspect.specs.Devices.{ReadsStream, culprit}
 use Rattle.rtcm_inspect.specs.declared.fault.InspectFault.{InspectFault}
 use Rattle.rtcm_inspect.specs.declared.fault.InspectFault.TheVariants as faults
 use Rattle.rtcm_inspect.specs.declared.listing.Listing.{Listing}
@@ -27,21 +28,21 @@ listing_line AllMessages f = show_line true f
 abbrev pub listing_lines : Listing → List Framed → List ℕ
 listing_lines listing fs = flat_map (listing_line listing) fs
 
--- The reader had r left and now has r', and the writer had written w and now has written w'. `lines` gives the lines of
--- a list of frames.
+-- The devices were d and are d'. `lines` gives the lines of a list of frames.
 
 -- the stream was read to its end, and the lines of its frames were written
-abbrev pub ListsAll : (List Framed → List ℕ) → (r r' w w' : Option (List ℕ)) → Type 0
-ListsAll lines r r' w w' = (b : List ℕ) × Consumes r r' b × IsAtEnd r' × Appends w w' (lines (frames_of b))
+abbrev pub ListsAll : {R W : Type 0} → (List Framed → List ℕ) → (d d' : Devices R W) → Type 0
+ListsAll lines d d' = ReadsStream d d' (λ fs. Appends d.writer.written d'.writer.written (lines fs))
 
 -- some bytes were read, and the lines of the frames that they decide were written
-abbrev pub ListsDecided : (List Framed → List ℕ) → (r r' w w' : Option (List ℕ)) → Type 0
-ListsDecided lines r r' w w' = (b : List ℕ) × Consumes r r' b × Appends w w' (lines (decided_frames b))
+abbrev pub ListsDecided : {R W : Type 0} → (List Framed → List ℕ) → (d d' : Devices R W) → Type 0
+ListsDecided lines d d' = (b : List ℕ) × Consumes d.reader.unread d'.reader.unread b
+    × Appends d.writer.written d'.writer.written (lines (decided_frames b))
 
 -- more bytes were read than the limit allows, and the lines of the frames that those up to it decide were written
-abbrev pub ListsToLimit : ℕ → (List Framed → List ℕ) → (r r' w w' : Option (List ℕ)) → Type 0
-ListsToLimit limit lines r r' w w' =
-    (b : List ℕ) × Consumes r r' b × (limit < length b) × Appends w w' (lines (decided_frames (take limit b)))
+abbrev pub ListsToLimit : {R W : Type 0} → ℕ → (List Framed → List ℕ) → (d d' : Devices R W) → Type 0
+ListsToLimit limit lines d d' = (b : List ℕ) × Consumes d.reader.unread d'.reader.unread b × (limit < length b)
+    × Appends d.writer.written d'.writer.written (lines (decided_frames (take limit b)))
 
 -- the largest number of bytes read at a time
 abbrev pub piece_bytes : ℕ
@@ -49,33 +50,29 @@ piece_bytes = 65536
 
 -- The bytes read end in one such piece. At least the lines of the frames that the bytes before it decide
 -- were written, and at most those of the frames that all bytes read decide or, at the end of the stream, have.
-pub record ListsPart (lines : List Framed → List ℕ) (r r' w w' : Option (List ℕ)) : Type 0 where
+pub record ListsPart {R W : Type 0} (lines : List Framed → List ℕ) (d d' : Devices R W) : Type 0 where
   pub front : List ℕ
   pub piece : List ℕ
   pub ended : Bool
-  pub consumes : Consumes r r' (front ++ piece)
+  pub consumes : Consumes d.reader.unread d'.reader.unread (front ++ piece)
   pub few : length piece ≤ piece_bytes
-  pub at_end : ended ≡ true → IsAtEnd r'
-  pub between : IsBetween w w' (lines (decided_frames front)) (lines (known_frames ended (front ++ piece)))
+  pub at_end : ended ≡ true → IsAtEnd d'.reader.unread
+  pub between : IsBetween d.writer.written d'.writer.written (lines (decided_frames front)) (lines (known_frames ended (front ++ piece)))
 
 -- What a listing of at most `limit` bytes has read and written when it was stopped by a fault. Nothing waits in the
 -- writer except at `Write`.
-abbrev pub StopsListing : {R W : Type 0} → ℕ → (List Framed → List ℕ) → (R → Option (List ℕ)) → (r r' : Device R)
-    → (W → Option (List ℕ)) → (W → List ℕ) → (w w' : Device W) → InspectFault → Type 0
-StopsListing limit lines left r r' held waits w w' faults.Read =
-    Moves left r r' held w w' (ListsDecided lines) × (waits w'.inner ≡ [])
-StopsListing limit lines left r r' held waits w w' faults.Write = Moves left r r' held w w' (ListsPart lines)
-StopsListing limit lines left r r' held waits w w' (faults.Scan scan.TooLong) =
-    Moves left r r' held w w' (ListsToLimit limit lines) × (waits w'.inner ≡ [])
-StopsListing limit lines left r r' held waits w w' (faults.Scan scan.Memory) = IsUntouched r r' w w'
-StopsListing limit lines left r r' held waits w w' other = ⊥
+abbrev pub StopsListing : {R W : Type 0} → ℕ → (List Framed → List ℕ) → (d d' : Devices R W) → InspectFault → Type 0
+StopsListing limit lines d d' faults.Read = ListsDecided lines d d' × (d'.writer.waiting ≡ [])
+StopsListing limit lines d d' faults.Write = ListsPart lines d d'
+StopsListing limit lines d d' (faults.Scan scan.TooLong) = ListsToLimit limit lines d d' × (d'.writer.waiting ≡ [])
+StopsListing limit lines d d' (faults.Scan scan.Memory) = AreUntouched d d'
+StopsListing limit lines d d' other = ⊥
 
 -- how such a listing ended
-abbrev pub EndsListing : {A R W : Type 0} → Result A InspectFault → ℕ → (List Framed → List ℕ) → (R → Option (List ℕ))
-    → (r r' : Device R) → (W → Option (List ℕ)) → (W → List ℕ) → (w w' : Device W) → Type 0
-EndsListing result limit lines left r r' held waits w w' =
-    Ends result r r' waits w w' (λ _. Moves left r r' held w w' (ListsAll lines))
-    (StopsListing limit lines left r r' held waits w w')
+abbrev pub EndsListing : {A R W : Type 0} → Result A InspectFault → ℕ → (List Framed → List ℕ) → (d d' : Devices R W)
+    → Type 0
+EndsListing result limit lines d d' =
+    Ends culprit result d d' (λ _. ListsAll lines d d') (StopsListing limit lines d d')
 
 -- ---- a listing as a consumer of frames
 

@@ -1,5 +1,5 @@
 -- The signals of a stream, and their texts.
-use Rattle.std.specs.Prelude.{ℕ, nat_lt, List, [], ◌∷◌, map, filter, flat_map, length, codes, decimal, Option}
+use Rattle.std.specs.Prelude.{◌≡◌, ◌<◌, ℕ, nat_lt, List, [], ◌∷◌, map, filter, flat_map, length, codes, decimal, Option}
 use Rattle.std.specs.Prelude.{Bool, false, not, ◌&&◌, ◌||◌, Result, Ok, Err, if◌then◌else◌}
 use Rattle.std.specs.Option.{option_map_or}
 use Rattle.std.specs.List.{join_with_byte, list_any}
@@ -26,6 +26,8 @@ use Rattle.rtcm_inspect.specs.Inspected.{inspected, inspected_at}
 use Rattle.option_texts.specs.Lines.{line}
 use Rattle.rtcm_inspect.specs.StreamChannels.{channels_in}
 use Rattle.gnss_obs.specs.HeardCells.{HeardCell}
+use Rattle.rtcm_inspect.specs.declared.fault.InspectFault.{InspectFault}
+use Rattle.rtcm_inspect.specs.declared.fault.InspectFault.TheVariants as faults
 
 -- ---- the cells that count
 
@@ -112,3 +114,12 @@ count_lines cells system = lines_below cells system (length (table system))
 -- the output of `signals` for these frames
 abbrev pub signals_text : Option ℕ → List Framed → List ℕ
 signals_text wanted fs = flat_map (count_lines (valued_in wanted fs)) systems
+
+-- One of their cells has a value, and the text is that output.
+abbrev pub AreSignalsOf : Option ℕ → List Framed → List ℕ → Type 0
+AreSignalsOf wanted fs text = (0 < length (valued_in wanted fs)) × (text ≡ signals_text wanted fs)
+
+-- No cell has a value.
+abbrev pub AreSignalsRefused : Option ℕ → List Framed → InspectFault → Type 0
+AreSignalsRefused wanted fs faults.NoSignal = valued_in wanted fs ≡ []
+AreSignalsRefused wanted fs other = ⊥

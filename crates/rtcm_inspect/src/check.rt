@@ -1,17 +1,15 @@
 //! The command `check`: whether the input is a file as `convert` writes it, its counts, the times
 //! of its epochs, and the gaps between them.
-ghost use Rattle.std.specs.Prelude.{◌≡◌, ◌+◌, ◌<◌, ◌≤◌, ◌++◌, [], List, Option, ℕ, length, option_map};
+ghost use Rattle.std.specs.Prelude.{◌≡◌, ◌+◌, ◌<◌, ◌≤◌, ◌++◌, [], List, Option, ℕ, IfSome, length, option_map};
 ghost use Rattle.rinex_file.specs.Blocks.{LeavesRest};
 ghost use Rattle.rinex_file.specs.Counting.{AreCounts};
 ghost use Rattle.rinex_file.specs.Value.{FileValue};
-ghost use Rattle.rtcm_inspect.specs.Devices.{Ends};
-ghost use Rattle.rtcm_bits.specs.Device.{Moves};
-ghost use Rattle.rtcm_inspect.specs.Checking.{AcceptsFiles, AreLinesOf, ChecksFile, ChecksTimes, IsLineOf};
-ghost use Rattle.rtcm_inspect.specs.Checking.{StopsChecking, StopsCheckingTimes, check_line, ChecksWhole};
+ghost use Rattle.rtcm_bits.specs.Devices.{Changes, Writes};
+ghost use Rattle.rtcm_inspect.specs.CheckOutput.{check_line, complete_if, counts_alone, gap_between, times_if};
+ghost use Rattle.rtcm_inspect.specs.Checking.{AcceptsFiles, EndsCheck, ReadsGaps};
 ghost use Rattle.rinex_file.specs.Read.EpochSteps.{HasReadEpochs};
 ghost use Rattle.rtcm_inspect.specs.DateTexts.{longest_times, moment_bytes, moment_words, step_line, time_line};
 ghost use Rattle.rtcm_inspect.specs.DateTexts.{times_lines};
-ghost use Rattle.rtcm_inspect.specs.Gaps.{AreGapsOf, ReadsGaps, StopsGaps, complete_line, gap_between, times_if};
 ghost use Rattle.option_texts.specs.Lengths.{longest_interval};
 ghost use Rattle.rtcm_inspect.specs.Printing.{EndsPrinting};
 ghost use Rattle.option_texts.specs.Lines.{with_words};
@@ -20,129 +18,105 @@ use crate::fault::InspectFault;
 use crate::printing::{deliver_waiting, print_text};
 use gnss_obs::GpsTime;
 use option_texts::OutputLine;
-use rinex_file::{
-    Counts, EpochReader, EpochTimes, FileSummary, NextEpoch, check_file, check_file_times,
-};
+use rinex_file::{Counts, EpochReader, EpochTimes, FileSummary, NextEpoch};
 use rtcm_bits::{Counted, Deliver};
 use std::alloc::Global;
 use std::io::Read;
 
-/// Delivers what waits in the writer, reads a file to its end and writes its numbers of epochs,
-/// satellite lines and events. It is accepted exactly if it is encoded as `convert` encodes files.
+/// What `check` writes besides the counts.
+#[derive(Clone, Copy)]
+pub struct CheckOptions {
+    /// The interval of the epochs of a complete file in milliseconds: the gaps and the number of
+    /// its epochs are written.
+    pub interval: Option<u64>,
+    /// Whether the times are written.
+    pub times: bool,
+}
+
+/// Reads a file as [`run_check_with`] does, and writes its counts alone.
 ///
 /// # Errors
 ///
-/// `Check` with the fault of `check_file`, and `Write` if the writer failed.
-// Not inlined, so that the parser's block of bytes isn't in the stack frame of every command.
-#[inline(never)]
+/// Those of [`run_check_with`].
 pub fn run_check<R: Read, W: Deliver>(
     alloc: Global,
     reader: &mut Counted<R>,
     writer: &mut Counted<W>,
 ) -> Result<(), InspectFault>
-    ensures ends { Ends result reader.old reader.new W.waiting writer.old writer.new
-        (λ _. ChecksFile (R.remaining reader.old.inner) (W.contents writer.old.inner) (W.contents writer.new.inner))
-        (StopsChecking R.remaining reader.old reader.new W.contents W.waiting writer.old writer.new) }
+    ensures ends { Changes R.remaining reader.old reader.new W.contents W.waiting writer.old writer.new
+        (EndsCheck counts_alone result) }
 
     // Some prefix of the input was read.
     ensures left { LeavesRest (R.remaining reader.old.inner) (R.remaining reader.new.inner) }
 
     // The text of each file value is accepted.
-    ensures only { Moves R.remaining reader.old reader.new W.contents writer.old writer.new
-        (AcceptsFiles IsLineOf result) }
+    ensures only { Changes R.remaining reader.old reader.new W.contents W.waiting writer.old writer.new
+        (AcceptsFiles counts_alone result) }
 {
-    deliver_waiting(writer)?;
-    let counts = check_file(alloc, reader).map_err(InspectFault::Check)?;
-    print_text(counts_line(&counts).as_bytes(), writer)
+    let counts_alone = CheckOptions {
+        interval: None,
+        times: false,
+    };
+    run_check_with(alloc, counts_alone, reader, writer)
 }
 
-/// Reads a file as `run_check` does, and also writes the times of its first and its last epoch and
-/// the smallest step between two epochs, if it has two.
+/// Delivers what waits in the writer, reads a file to its end and writes its numbers of epochs,
+/// satellite lines and events. It is accepted exactly if it is encoded as `convert` encodes files.
+///
+/// With an interval it also writes, while the file is read, a line for each two consecutive epochs
+/// that are more than the interval apart, and at the end the number of epochs with that of a
+/// complete file: those at this interval from the first to the last. With times it also writes
+/// those of the first and the last epoch, and the smallest step between two epochs, if it has two.
 ///
 /// # Errors
 ///
-/// Those of `run_check`.
+/// `Check` with the fault of [`EpochReader::next`], and `Write` if the writer failed.
+// Not inlined, so that the parser's block of bytes isn't in the stack frame of every command.
 #[inline(never)]
-pub fn run_check_times<R: Read, W: Deliver>(
+pub fn run_check_with<R: Read, W: Deliver>(
     alloc: Global,
+    options: CheckOptions,
     reader: &mut Counted<R>,
     writer: &mut Counted<W>,
 ) -> Result<(), InspectFault>
-    ensures ends { Ends result reader.old reader.new W.waiting writer.old writer.new
-        (λ _. ChecksTimes (R.remaining reader.old.inner) (W.contents writer.old.inner) (W.contents writer.new.inner))
-        (StopsCheckingTimes R.remaining reader.old reader.new W.contents W.waiting writer.old writer.new) }
+    requires { IfSome options.interval (λ n. (0 < n) × (n ≤ longest_interval)) }
+    ensures ends { Changes R.remaining reader.old reader.new W.contents W.waiting writer.old writer.new
+        (EndsCheck options result) }
 
     // Some prefix of the input was read.
     ensures left { LeavesRest (R.remaining reader.old.inner) (R.remaining reader.new.inner) }
 
     // The text of each file value is accepted.
-    ensures only { Moves R.remaining reader.old reader.new W.contents writer.old writer.new
-        (AcceptsFiles AreLinesOf result) }
-{
-    deliver_waiting(writer)?;
-    let summary = check_file_times(alloc, reader).map_err(InspectFault::Check)?;
-    let mut text = counts_line(&summary.counts);
-    add_times(&mut text, &summary.times);
-    print_text(text.as_bytes(), writer)
-}
-
-/// Reads a file as `run_check` does. While it is read, writes a line for each two consecutive
-/// epochs that are more than `interval` milliseconds apart; at the end the counts, the times if
-/// they are asked for, and the number of epochs with that of a complete file: those at this
-/// interval from the first to the last.
-///
-/// # Errors
-///
-/// Those of `run_check`.
-#[inline(never)]
-pub fn run_check_gaps<R: Read, W: Deliver>(
-    alloc: Global,
-    interval: u64,
-    with_times: bool,
-    reader: &mut Counted<R>,
-    writer: &mut Counted<W>,
-) -> Result<(), InspectFault>
-    requires { (0 < interval) × (interval ≤ longest_interval) }
-    ensures ends { Ends result reader.old reader.new W.waiting writer.old writer.new
-        (λ _. ChecksWhole (AreGapsOf interval with_times)
-        (R.remaining reader.old.inner) (W.contents writer.old.inner) (W.contents writer.new.inner))
-        (StopsGaps interval with_times
-        R.remaining reader.old reader.new W.contents W.waiting writer.old writer.new) }
-
-    // Some prefix of the input was read.
-    ensures left { LeavesRest (R.remaining reader.old.inner) (R.remaining reader.new.inner) }
-
-    // The text of each file value is accepted.
-    ensures only { Moves R.remaining reader.old reader.new W.contents writer.old writer.new
-        (AcceptsFiles (AreGapsOf interval with_times) result) }
+    ensures only { Changes R.remaining reader.old reader.new W.contents W.waiting writer.old writer.new
+        (AcceptsFiles options result) }
 {
     deliver_waiting(writer)?;
     let mut file = EpochReader::new(alloc);
-    let read = print_gaps(interval, &mut file, reader, writer);
+    let read = print_gaps(options.interval, &mut file, reader, writer);
     drop(file);
     match read {
         Ok(summary) => {
             let mut text = counts_line(&summary.counts);
-            add_asked_times(&mut text, with_times, &summary.times);
-            add_complete(&mut text, interval, &summary);
+            add_asked_times(&mut text, options.times, &summary.times);
+            add_complete(&mut text, options.interval, &summary);
             print_text(text.as_bytes(), writer)
         }
         Err(fault) => Err(fault),
     }
 }
 
-/// Reads a file to its end, and writes a line for each gap.
+/// Reads a file to its end, and writes a line for each gap, if an interval is given.
 fn print_gaps<R: Read, W: Deliver>(
-    interval: u64,
+    interval: Option<u64>,
     file: &mut EpochReader,
     reader: &mut Counted<R>,
     writer: &mut Counted<W>,
 ) -> Result<FileSummary, InspectFault>
-    requires small { interval ≤ longest_interval }
+    requires small { IfSome interval (λ n. n ≤ longest_interval) }
     requires start { (input : Option (List ℕ)) → HasReadEpochs file.old [] input input }
     requires sent { W.waiting writer.old.inner ≡ [] }
-    ensures gaps { ReadsGaps result interval
-        R.remaining reader.old reader.new W.contents W.waiting writer.old writer.new }
+    ensures gaps { Changes R.remaining reader.old reader.new W.contents W.waiting writer.old writer.new
+        (ReadsGaps result interval) }
     ensures left { LeavesRest (R.remaining reader.old.inner) (R.remaining reader.new.inner) }
 {
     loop {
@@ -154,19 +128,22 @@ fn print_gaps<R: Read, W: Deliver>(
     }
 }
 
-/// Writes the line of a gap, if the last of the times before this one is more than `interval`
-/// milliseconds earlier.
+/// Writes the line of a gap, if the last of the times before this one is earlier by more than an
+/// interval, if one is given.
 fn print_gap<W: Deliver>(
-    interval: u64,
+    interval: Option<u64>,
     before: Option<EpochTimes>,
     time: GpsTime,
     writer: &mut Counted<W>,
 ) -> Result<(), InspectFault>
-    requires small { interval ≤ longest_interval }
+    requires small { IfSome interval (λ n. n ≤ longest_interval) }
     requires sent { W.waiting writer.old.inner ≡ [] }
-    ensures { EndsPrinting result W.contents W.waiting writer.old writer.new
-        (gap_between interval (option_map (λ t. t.last) before) time) }
+    ensures { Writes W.contents W.waiting writer.old writer.new
+        (EndsPrinting result (gap_between interval (option_map (λ t. t.last) before) time)) }
 {
+    let Some(interval) = interval else {
+        return Ok(());
+    };
     let Some(times) = before else {
         return Ok(());
     };
@@ -193,18 +170,20 @@ fn add_asked_times(text: &mut OutputLine, with_times: bool, times: &EpochTimes)
     }
 }
 
-/// Adds the line of the number of epochs and that of a complete file.
-fn add_complete(text: &mut OutputLine, interval: u64, summary: &FileSummary)
+/// Adds the line of the number of epochs and that of a complete file, if an interval is given.
+fn add_complete(text: &mut OutputLine, interval: Option<u64>, summary: &FileSummary)
     requires room { length text.old ≤ 300 }
-    requires some { 0 < interval }
-    ensures { text.new ≡ text.old ++ complete_line interval summary.now.counts.epochs summary.now.times }
+    requires some { IfSome interval (λ n. (0 < n) × (n ≤ longest_interval)) }
+    ensures { text.new ≡ text.old ++ complete_if interval summary.now.counts.epochs summary.now.times }
 {
-    let first = summary.times.first.milliseconds();
-    let span = summary.times.last.milliseconds().saturating_sub(first);
-    text.put(b"complete");
-    text.add_number(summary.counts.epochs);
-    text.add_count("of", span / interval + 1);
-    text.finish();
+    if let Some(interval) = interval {
+        let first = summary.times.first.milliseconds();
+        let span = summary.times.last.milliseconds().saturating_sub(first);
+        text.put(b"complete");
+        text.add_number(summary.counts.epochs);
+        text.add_count("of", span / interval + 1);
+        text.finish();
+    }
 }
 
 /// Returns the line of the counts of a file.

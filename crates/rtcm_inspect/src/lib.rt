@@ -15,9 +15,9 @@ mod printing;
 mod signals;
 mod stream_channels;
 
-pub use check::{run_check, run_check_gaps, run_check_times};
+pub use check::{CheckOptions, run_check, run_check_with};
 pub use fault::{InspectFault, add_header_error, add_inspection_error, add_plan_error};
-pub use listing::{Listing, list, run_frames, run_show, run_show_all};
+pub use listing::{Listing, list, run_frames, run_show};
 pub use option_texts::{
     OutputLine, channels_of, hour_of, interval_of, leap_at, length_below, position_of, week_of,
 };

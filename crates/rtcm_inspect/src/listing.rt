@@ -1,5 +1,6 @@
 //! The commands `frames` and `show`: a line for each frame, or for each message, of a stream.
 ghost use Rattle.std.specs.Prelude.{◌≡◌, ◌+◌, ◌≤◌, ◌∷◌, ◌++◌, true, false, length};
+ghost use Rattle.rtcm_bits.specs.Devices.{Changes};
 ghost use Rattle.rtcm_bits.specs.FrameOf.{longest_message};
 ghost use Rattle.rtcm_scan.specs.Results.{framed};
 ghost use Rattle.rtcm_scan.specs.Scan.{most_bytes};
@@ -86,8 +87,8 @@ pub fn run_frames<R: Read, W: Deliver>(
     reader: &mut Counted<R>,
     writer: &mut Counted<W>,
 ) -> Result<(), InspectFault>
-    ensures { EndsListing result most_bytes frame_lines
-        R.remaining reader.old reader.new W.contents W.waiting writer.old writer.new }
+    ensures { Changes R.remaining reader.old reader.new W.contents W.waiting writer.old writer.new
+        (EndsListing result most_bytes frame_lines) }
 {
     list(alloc, Listing::Frames, MOST_BYTES, reader, writer)
 }
@@ -103,26 +104,10 @@ pub fn run_show<R: Read, W: Deliver>(
     reader: &mut Counted<R>,
     writer: &mut Counted<W>,
 ) -> Result<(), InspectFault>
-    ensures { EndsListing result most_bytes (show_lines false)
-        R.remaining reader.old reader.new W.contents W.waiting writer.old writer.new }
+    ensures { Changes R.remaining reader.old reader.new W.contents W.waiting writer.old writer.new
+        (EndsListing result most_bytes (show_lines false)) }
 {
     list(alloc, Listing::Messages, MOST_BYTES, reader, writer)
-}
-
-/// Writes the lines of `run_show`, and those of MSMs of all systems and forms that are read.
-///
-/// # Errors
-///
-/// Those of `list`.
-pub fn run_show_all<R: Read, W: Deliver>(
-    alloc: Global,
-    reader: &mut Counted<R>,
-    writer: &mut Counted<W>,
-) -> Result<(), InspectFault>
-    ensures { EndsListing result most_bytes (show_lines true)
-        R.remaining reader.old reader.new W.contents W.waiting writer.old writer.new }
-{
-    list(alloc, Listing::AllMessages, MOST_BYTES, reader, writer)
 }
 
 /// Writes the lines of a stream of at most `limit` bytes, and delivers them after each piece that
@@ -140,8 +125,8 @@ pub fn list<R: Read, W: Deliver>(
     writer: &mut Counted<W>,
 ) -> Result<(), InspectFault>
     requires { limit ≤ most_bytes }
-    ensures { EndsListing result limit (listing_lines listing)
-        R.remaining reader.old reader.new W.contents W.waiting writer.old writer.new }
+    ensures { Changes R.remaining reader.old reader.new W.contents W.waiting writer.old writer.new
+        (EndsListing result limit (listing_lines listing)) }
 {
     // The limit is valid, so a framer is refused only when out of memory.
     let Ok(mut framer) = Framer::new(alloc, limit) else {

@@ -4,6 +4,7 @@ ghost use Rattle.std.specs.Prelude.{IfSome, Some, length};
 ghost use Rattle.gnss_obs.specs.Channels.{slot_count};
 ghost use Rattle.gnss_obs.specs.HeardCells.{HeardCell};
 ghost use Rattle.gnss_system.specs.Systems.{systems};
+ghost use Rattle.rtcm_bits.specs.Devices.{Changes};
 ghost use Rattle.rtcm_msg.specs.Station.{InRange};
 ghost use Rattle.rtcm_scan.specs.Frames.{Framed};
 ghost use Rattle.obs_epoch.specs.SignalCounts.{AreSignalCounts};
@@ -16,7 +17,8 @@ ghost use Rattle.rtcm_inspect.specs.Fitting.{other_words, station_words};
 ghost use Rattle.rtcm_inspect.specs.Lines.{longest_codes, longest_name, longest_option, longest_options};
 ghost use Rattle.rtcm_inspect.specs.Lines.{longest_plan};
 ghost use Rattle.rtcm_inspect.specs.NearWeek.{IsWeekFor};
-ghost use Rattle.rtcm_inspect.specs.OptionOutput.{AreOptionsOf, AreOptionsRefused, EndsOptions, IsDatedLine};
+ghost use Rattle.rtcm_inspect.specs.OptionOutput.{AreOptionsOf, AreOptionsRefused, IsDatedLine};
+ghost use Rattle.rtcm_inspect.specs.StreamOutput.{EndsStream};
 ghost use Rattle.rtcm_inspect.specs.Signals.{codes_word, decodes, had, has_counted, plan_had, plan_in, set_had};
 
 use crate::counting::{StreamSignals, read_signals};
@@ -65,8 +67,8 @@ pub fn run_options<R: Read, W: Deliver>(
     reader: &mut Counted<R>,
     writer: &mut Counted<W>,
 ) -> Result<(), InspectFault>
-    ensures { EndsOptions result near station
-        R.remaining reader.old reader.new W.contents W.waiting writer.old writer.new }
+    ensures { Changes R.remaining reader.old reader.new W.contents W.waiting writer.old writer.new
+        (EndsStream result (AreOptionsOf near station) (AreOptionsRefused station)) }
 {
     deliver_waiting(writer)?;
     let signals = read_signals(alloc, station, reader)?;

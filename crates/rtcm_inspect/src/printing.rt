@@ -1,4 +1,5 @@
 //! Texts and lines that are printed.
+ghost use Rattle.rtcm_bits.specs.Devices.{Writes};
 ghost use Rattle.rtcm_inspect.specs.Devices.{EndsDelivery};
 ghost use Rattle.rtcm_inspect.specs.Printing.{EndsPrinting, PrintsLine};
 
@@ -12,7 +13,7 @@ use rtcm_bits::{Counted, Deliver};
 ///
 /// `Write` if the writer failed.
 pub fn deliver_waiting<W: Deliver>(writer: &mut Counted<W>) -> Result<(), InspectFault>
-    ensures { EndsDelivery result W.contents W.waiting writer.old writer.new }
+    ensures { Writes W.contents W.waiting writer.old writer.new (EndsDelivery result) }
 {
     writer.flush_whole().map_err(|_| InspectFault::Write)
 }
@@ -23,7 +24,7 @@ pub fn deliver_waiting<W: Deliver>(writer: &mut Counted<W>) -> Result<(), Inspec
 ///
 /// `Write` if the writer failed.
 pub fn print_text<W: Deliver>(text: &[u8], writer: &mut Counted<W>) -> Result<(), InspectFault>
-    ensures { EndsPrinting result W.contents W.waiting writer.old writer.new text.now }
+    ensures { Writes W.contents W.waiting writer.old writer.new (EndsPrinting result text.now) }
 {
     writer.write_whole(text).map_err(|_| InspectFault::Write)?;
     deliver_waiting(writer)
@@ -31,7 +32,7 @@ pub fn print_text<W: Deliver>(text: &[u8], writer: &mut Counted<W>) -> Result<()
 
 /// Writes a line to standard error, and delivers it. A failure of the writer is ignored.
 pub fn print_line<E: Deliver>(text: &[u8], faults: &mut Counted<E>)
-    ensures { PrintsLine E.contents E.waiting faults.old faults.new text.now }
+    ensures { Writes E.contents E.waiting faults.old faults.new (PrintsLine text.now) }
 {
     let _ = print_text(text, faults);
 }

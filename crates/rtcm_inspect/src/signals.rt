@@ -4,9 +4,10 @@ ghost use Rattle.gnss_obs.specs.HeardCells.{HeardCell};
 ghost use Rattle.gnss_system.specs.Signals.{table, code_of};
 ghost use Rattle.gnss_system.specs.Systems.{systems};
 ghost use Rattle.obs_epoch.specs.SignalCounts.{AreSignalCounts, signal_in};
+ghost use Rattle.rtcm_bits.specs.Devices.{Changes};
 ghost use Rattle.rtcm_inspect.specs.Lines.{longest_signal, longest_signals};
-ghost use Rattle.rtcm_inspect.specs.SignalOutput.{EndsSignals};
-ghost use Rattle.rtcm_inspect.specs.Signals.{count_line, count_lines, signals_text};
+ghost use Rattle.rtcm_inspect.specs.StreamOutput.{EndsStream};
+ghost use Rattle.rtcm_inspect.specs.Signals.{AreSignalsOf, AreSignalsRefused, count_line, count_lines};
 
 use crate::counting::read_signals;
 use crate::fault::InspectFault;
@@ -38,8 +39,8 @@ pub fn run_signals<R: Read, W: Deliver>(
     reader: &mut Counted<R>,
     writer: &mut Counted<W>,
 ) -> Result<(), InspectFault>
-    ensures { EndsSignals result signals_text station
-        R.remaining reader.old reader.new W.contents W.waiting writer.old writer.new }
+    ensures { Changes R.remaining reader.old reader.new W.contents W.waiting writer.old writer.new
+        (EndsStream result (AreSignalsOf station) (AreSignalsRefused station)) }
 {
     deliver_waiting(writer)?;
     let signals = read_signals(alloc, station, reader)?;

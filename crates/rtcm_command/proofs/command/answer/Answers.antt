@@ -1,8 +1,10 @@
 use Rattle.std.proofs.Common.{rules}
 use Rattle.rtcm_command.proofs.CommandLemmas.{refusal_printed}
+use Rattle.rtcm_command.proofs.Names.{writer_of}
 use Rattle.rtcm_command.proofs.command.answer.Goals as goal
 
 pub returns-in_default : goal.returns-in_default
 returns-in_default g c =
-    let some = refusal_printed g.E.Write.contents g.E.Deliver.waiting c.args.faults.now c.print_refusal.new.faults c.refusal_text.result c.refusal_text.ensures c.print_refusal.ensures in
+    let at = writer_of g.E.Write.contents g.E.Deliver.waiting in
+    let some = refusal_printed (at c.args.faults.now) (at c.print_refusal.new.faults) c.refusal_text.result c.refusal_text.ensures c.print_refusal.ensures in
     search rules

@@ -1,5 +1,5 @@
-use Rattle.rtcm_command.proofs.CommandLemmas.{Devices, Served, answered_in_part, failed_to_serve, has_command, is_version, refused_at_two, refused_words, served}
-use Rattle.rtcm_command.proofs.Names.{inr, refl, texts}
+use Rattle.rtcm_command.proofs.CommandLemmas.{Served, answered_in_part, failed_to_serve, has_command, is_version, refused_at_two, refused_words, served}
+use Rattle.rtcm_command.proofs.Names.{ap, devices_of, inr, refl, texts, writer_of}
 use Rattle.rtcm_command.proofs.command.command.Goals as goal
 
 pub run-requires : goal.run-requires
@@ -7,19 +7,24 @@ run-requires g c = has_command (texts c.args.words.now) c.in-Ok.matches c.in-Ok.
 
 pub returns-in-Ok : goal.returns-in-Ok
 returns-in-Ok g c =
-    let d : Devices _ _ = record { left = g.R.Read.remaining; held = g.W.Write.contents; waits = g.W.Deliver.waiting; r = c.args.reader.now; r2 = c.run.new.reader; w = c.args.writer.now; w2 = c.run.new.writer } in
-    let s : Served d g.E.Write.contents g.E.Deliver.waiting c.args.faults.now c.run.new.faults c.exit_status-status.new.faults (texts c.args.words.now) c.in-Ok.matches c.run.result c.exit_status-status.result = record { is = c.exit_status-status.ensures.value; line = c.exit_status-status.ensures.line; found = c.in-Ok.ensures.asked; end = c.run.ensures } in
+    let at = devices_of g.R.Read.remaining g.W.Write.contents g.W.Deliver.waiting in
+    let e = writer_of g.E.Write.contents g.E.Deliver.waiting in
+    let s : Served (at c.args.reader.now c.args.writer.now) (at c.run.new.reader c.run.new.writer) (e c.args.faults.now) (e c.run.new.faults) (e c.exit_status-status.new.faults) (texts c.args.words.now) c.in-Ok.matches c.run.result c.exit_status-status.result = record { is = c.exit_status-status.ensures.value; line = c.exit_status-status.ensures.line; found = c.in-Ok.ensures.asked; end = c.run.ensures } in
     record { status = c.exit_status-status.ensures.range; good = served c.run.result s; stopped = failed_to_serve c.run.result s; refused = refused_at_two c.run.result s }
 
 pub returns-in-Err-clause-good : goal.returns-in-Err-clause-good
 returns-in-Err-clause-good g c = λ e. (let good = c.answer.ensures.good e in
-    inr (is_version (texts c.args.words.now) c.in-Err.error c.in-Err.ensures.refused good.0, refl {a = c.args.reader.now}, good.1, good.2))
+    let at = writer_of g.E.Write.contents g.E.Deliver.waiting in
+    inr (is_version (texts c.args.words.now) c.in-Err.error c.in-Err.ensures.refused good.0, refl, good.1, ap at good.2))
 
 pub returns-in-Err-clause-stopped : goal.returns-in-Err-clause-stopped
 returns-in-Err-clause-stopped g c = λ e.
-    let d : Devices _ _ = record { left = g.R.Read.remaining; held = g.W.Write.contents; waits = g.W.Deliver.waiting; r = c.args.reader.now; r2 = c.args.reader.now; w = c.args.writer.now; w2 = c.answer.new.writer } in
-    answered_in_part d g.E.Write.contents g.E.Deliver.waiting c.args.faults.now c.answer.new.faults (texts c.args.words.now) c.in-Err.error c.in-Err.ensures.refused (c.answer.ensures.stopped e)
+    let at = devices_of g.R.Read.remaining g.W.Write.contents g.W.Deliver.waiting in
+    let w = writer_of g.E.Write.contents g.E.Deliver.waiting in
+    answered_in_part (at c.args.reader.now c.args.writer.now) (at c.args.reader.now c.answer.new.writer) (w c.args.faults.now) (w c.answer.new.faults) (texts c.args.words.now) c.in-Err.error c.in-Err.ensures.refused refl (c.answer.ensures.stopped e)
 
 pub returns-in-Err-clause-refused : goal.returns-in-Err-clause-refused
-returns-in-Err-clause-refused g c = λ e. (let refused = c.answer.ensures.refused e in
-    (refused_words g.E.Write.contents g.E.Deliver.waiting c.args.faults.now c.answer.new.faults (texts c.args.words.now) c.in-Err.error c.in-Err.ensures.refused refused.0 refused.1 refused.3, (refl {a = c.args.reader.now}, refused.2)))
+returns-in-Err-clause-refused g c = λ e.
+    let refused = c.answer.ensures.refused e in
+    let at = writer_of g.E.Write.contents g.E.Deliver.waiting in
+    (refused_words (at c.args.faults.now) (at c.answer.new.faults) (texts c.args.words.now) c.in-Err.error c.in-Err.ensures.refused refused.0 refused.1 refused.3, (refl {a = c.args.reader.now}, refused.2))

@@ -1,73 +1,82 @@
-use Rattle.rtcm_command.proofs.CommandLemmas.{Devices, ends_so, inspection_found, is_check, option_refused, sub_found}
+use Rattle.rtcm_command.proofs.CommandLemmas.{ends_so, inspection_found, is_check, option_refused, sub_found}
 use Rattle.rtcm_command.proofs.OptionLemmas.{bad_interval}
-use Rattle.rtcm_command.proofs.Names.{◌∙◌, Bool, inl, inr, refl, subst, sym, EndsCheck, options_of}
+use Rattle.rtcm_command.proofs.Names.{◌∙◌, Bool, inl, inr, refl, subst, sym, EndsInspection, devices_of, options_of, writer_of}
 use Rattle.rtcm_scan.specs.Scan.{most_bytes}
+use Rattle.rtcm_inspect.specs.Checking.{EndsCheck}
 use Rattle.rtcm_inspect.specs.Listing.{EndsListing}
 use Rattle.rtcm_inspect.specs.ShowLines.{show_lines}
 use Rattle.rtcm_command.proofs.command.run.Goals as goal
 
 pub returns-in-frames : goal.returns-in-frames
 returns-in-frames g c =
-    let d : Devices _ _ = record { left = g.R.Read.remaining; held = g.W.Write.contents; waits = g.W.Deliver.waiting; r = c.args.reader.now; r2 = c.run_frames.new.reader; w = c.args.writer.now; w2 = c.run_frames.new.writer } in
-    inspection_found d g.E.Write.contents g.E.Deliver.waiting c.args.faults.now c.run_frames.result c.of_inspection.ensures (sub_found _ c.in-Some.ensures.name c.in-Some.ensures.rows)
-    (λ x h. inl (c.in-frames.is, h), λ f h. inl (c.in-frames.is, h)) c.run_frames.ensures
+    let at = devices_of g.R.Read.remaining g.W.Write.contents g.W.Deliver.waiting in
+    let d = at c.args.reader.now c.args.writer.now in
+    let d2 = at c.run_frames.new.reader c.run_frames.new.writer in
+    inspection_found d d2 (writer_of g.E.Write.contents g.E.Deliver.waiting c.args.faults.now) c.run_frames.result c.of_inspection.ensures (sub_found _ c.in-Some.ensures.name c.in-Some.ensures.rows) (inl (c.in-frames.is, c.run_frames.ensures))
 
 pub returns-in-show : goal.returns-in-show
 returns-in-show g c =
-    let d : Devices _ _ = record { left = g.R.Read.remaining; held = g.W.Write.contents; waits = g.W.Deliver.waiting; r = c.args.reader.now; r2 = c.run_show_all.new.reader; w = c.args.writer.now; w2 = c.run_show_all.new.writer } in
-    inspection_found d g.E.Write.contents g.E.Deliver.waiting c.args.faults.now c.run_show_all.result c.of_inspection-in-show.ensures (sub_found _ c.in-Some.ensures.name c.in-Some.ensures.rows)
-    (λ x h. inr (inl (c.in-show.is, h)), λ f h. inr (inl (c.in-show.is, h)))
-    (subst (λ (b : Bool). EndsListing c.run_show_all.result most_bytes (show_lines b) g.R.Read.remaining c.args.reader.now c.run_show_all.new.reader g.W.Write.contents g.W.Deliver.waiting c.args.writer.now c.run_show_all.new.writer) (sym c.if-has_flag.true ∙ c.has_flag.ensures) c.run_show_all.ensures)
+    let at = devices_of g.R.Read.remaining g.W.Write.contents g.W.Deliver.waiting in
+    let d = at c.args.reader.now c.args.writer.now in
+    let d2 = at c.list-listed.new.reader c.list-listed.new.writer in
+    let h = subst (λ (b : Bool). EndsListing c.list-listed.result most_bytes (show_lines b) d d2) (sym c.if-has_flag.true ∙ c.has_flag.ensures) c.list-listed.ensures in
+    inspection_found d d2 (writer_of g.E.Write.contents g.E.Deliver.waiting c.args.faults.now) c.list-listed.result c.of_inspection-in-show.ensures (sub_found _ c.in-Some.ensures.name c.in-Some.ensures.rows) (inr (inl (c.in-show.is, h)))
 
 pub returns-in-show-2 : goal.returns-in-show-2
 returns-in-show-2 g c =
-    let d : Devices _ _ = record { left = g.R.Read.remaining; held = g.W.Write.contents; waits = g.W.Deliver.waiting; r = c.args.reader.now; r2 = c.run_show.new.reader; w = c.args.writer.now; w2 = c.run_show.new.writer } in
-    inspection_found d g.E.Write.contents g.E.Deliver.waiting c.args.faults.now c.run_show.result c.of_inspection-in-show-2.ensures (sub_found _ c.in-Some.ensures.name c.in-Some.ensures.rows)
-    (λ x h. inr (inl (c.in-show.is, h)), λ f h. inr (inl (c.in-show.is, h)))
-    (subst (λ (b : Bool). EndsListing c.run_show.result most_bytes (show_lines b) g.R.Read.remaining c.args.reader.now c.run_show.new.reader g.W.Write.contents g.W.Deliver.waiting c.args.writer.now c.run_show.new.writer) (sym c.if-has_flag.false ∙ c.has_flag.ensures) c.run_show.ensures)
+    let at = devices_of g.R.Read.remaining g.W.Write.contents g.W.Deliver.waiting in
+    let d = at c.args.reader.now c.args.writer.now in
+    let d2 = at c.run_show.new.reader c.run_show.new.writer in
+    let h = subst (λ (b : Bool). EndsListing c.run_show.result most_bytes (show_lines b) d d2) (sym c.if-has_flag.false ∙ c.has_flag.ensures) c.run_show.ensures in
+    inspection_found d d2 (writer_of g.E.Write.contents g.E.Deliver.waiting c.args.faults.now) c.run_show.result c.of_inspection-in-show-2.ensures (sub_found _ c.in-Some.ensures.name c.in-Some.ensures.rows) (inr (inl (c.in-show.is, h)))
 
 pub returns-in-signals : goal.returns-in-signals
 returns-in-signals g c =
-    let d : Devices _ _ = record { left = g.R.Read.remaining; held = g.W.Write.contents; waits = g.W.Deliver.waiting; r = c.args.reader.now; r2 = c.run_signals.new.reader; w = c.args.writer.now; w2 = c.run_signals.new.writer } in
-    inspection_found d g.E.Write.contents g.E.Deliver.waiting c.args.faults.now c.run_signals.result c.of_inspection-in-signals.ensures (sub_found _ c.in-Some.ensures.name c.in-Some.ensures.rows)
-    (λ x h. inr (inr (inl (c.in-signals.is, (c.station_of.result, c.station_of.ensures, h)))), λ f h. inr (inr (inl (c.in-signals.is, (c.station_of.result, c.station_of.ensures, h))))) c.run_signals.ensures
+    let at = devices_of g.R.Read.remaining g.W.Write.contents g.W.Deliver.waiting in
+    let d = at c.args.reader.now c.args.writer.now in
+    let d2 = at c.run_signals.new.reader c.run_signals.new.writer in
+    inspection_found d d2 (writer_of g.E.Write.contents g.E.Deliver.waiting c.args.faults.now) c.run_signals.result c.of_inspection-in-signals.ensures (sub_found _ c.in-Some.ensures.name c.in-Some.ensures.rows) (inr (inr (inl (c.in-signals.is, (c.station_of.result, c.station_of.ensures, c.run_signals.ensures)))))
 
 pub returns-in_ok-near-in-options : goal.returns-in_ok-near-in-options
 returns-in_ok-near-in-options g c =
-    let d : Devices _ _ = record { left = g.R.Read.remaining; held = g.W.Write.contents; waits = g.W.Deliver.waiting; r = c.args.reader.now; r2 = c.run_options.new.reader; w = c.args.writer.now; w2 = c.run_options.new.writer } in
-    inspection_found d g.E.Write.contents g.E.Deliver.waiting c.args.faults.now c.run_options.result c.of_inspection-in-options.ensures (sub_found _ c.in-Some.ensures.name c.in-Some.ensures.rows) (
-      λ x h. inr (inr (inr (inl (c.in-options.is, (c.station_of-in-options.result, c.station_of-in-options.ensures, (c.in_ok-near-in-options.near, c.in_ok-near-in-options.ensures, h)))))),
-      λ f h. inr (inr (inr (inl (c.in-options.is, (c.station_of-in-options.result, c.station_of-in-options.ensures, (c.in_ok-near-in-options.near, c.in_ok-near-in-options.ensures, h)))))),
-    ) c.run_options.ensures
+    let at = devices_of g.R.Read.remaining g.W.Write.contents g.W.Deliver.waiting in
+    let d = at c.args.reader.now c.args.writer.now in
+    let d2 = at c.run_options.new.reader c.run_options.new.writer in
+    inspection_found d d2 (writer_of g.E.Write.contents g.E.Deliver.waiting c.args.faults.now) c.run_options.result c.of_inspection-in-options.ensures (sub_found _ c.in-Some.ensures.name c.in-Some.ensures.rows)
+    (inr (inr (inr (inl (c.in-options.is, (c.station_of-in-options.result, c.station_of-in-options.ensures, (c.in_ok-near-in-options.near, c.in_ok-near-in-options.ensures, c.run_options.ensures)))))))
 
 pub returns-in-convert : goal.returns-in-convert
 returns-in-convert g c =
-    let d : Devices _ _ = record { left = g.R.Read.remaining; held = g.W.Write.contents; waits = g.W.Deliver.waiting; r = c.args.reader.now; r2 = c.convert.new.reader; w = c.args.writer.now; w2 = c.convert.new.writer } in (
+    let at = devices_of g.R.Read.remaining g.W.Write.contents g.W.Deliver.waiting in
+    let d = at c.args.reader.now c.args.writer.now in
+    let d2 = at c.convert.new.reader c.convert.new.writer in (
       c.in-Some.name.now,
       options_of c.in-Some.options.now,
       sub_found _ c.in-Some.ensures.name c.in-Some.ensures.rows,
-      ends_so c.convert.result d (λ x h. inl (c.in-convert.is, h)) (λ f h. (inl (c.in-convert.is, h.0), h.1)) c.convert.ensures,
+      ends_so c.convert.result d d2 (λ x h. inl (c.in-convert.is, h)) (λ f h. (inl (c.in-convert.is, h.0), h.1)) c.convert.ensures,
     )
 
 pub returns-in_ok-interval-in_default-name : goal.returns-in_ok-interval-in_default-name
 returns-in_ok-interval-in_default-name g c =
+    let at = devices_of g.R.Read.remaining g.W.Write.contents g.W.Deliver.waiting in
+    let d = at c.args.reader.now c.args.writer.now in
+    let d2 = at c.run_check_with.new.reader c.run_check_with.new.writer in
     let found = sub_found _ c.in-Some.ensures.name c.in-Some.ensures.rows in
     let n = is_check c.args.matches.now c.requires found c.in_default-name.not-frames c.in_default-name.not-show c.in_default-name.not-signals c.in_default-name.not-options c.in_default-name.not-convert in
-    let d : Devices _ _ = record { left = g.R.Read.remaining; held = g.W.Write.contents; waits = g.W.Deliver.waiting; r = c.args.reader.now; r2 = c.check.new.reader; w = c.args.writer.now; w2 = c.check.new.writer } in
-    inspection_found d g.E.Write.contents g.E.Deliver.waiting c.args.faults.now c.check.result c.of_inspection-in_default-name.ensures found
-    (λ x h. inr (inr (inr (inr (n, (c.in_ok-interval-in_default-name.interval, sym c.in_ok-interval-in_default-name.ensures.value, h))))), λ f h. inr (inr (inr (inr (n, (c.in_ok-interval-in_default-name.interval, sym c.in_ok-interval-in_default-name.ensures.value, h))))))
-    (subst (λ (b : Bool). EndsCheck c.check.result b c.in_ok-interval-in_default-name.interval g.R.Read.remaining c.args.reader.now c.check.new.reader g.W.Write.contents g.W.Deliver.waiting c.args.writer.now c.check.new.writer) c.has_flag-in_default-name.ensures c.check.ensures)
+    let h = subst (λ (b : Bool). EndsCheck (record { interval = c.in_ok-interval-in_default-name.interval; times = b }) c.run_check_with.result d d2) c.has_flag-times.ensures c.run_check_with.ensures.ends in
+    inspection_found d d2 (writer_of g.E.Write.contents g.E.Deliver.waiting c.args.faults.now) c.run_check_with.result c.of_inspection-in_default-name.ensures found
+    (inr (inr (inr (inr (n, (c.in_ok-interval-in_default-name.interval, sym c.in_ok-interval-in_default-name.ensures.value, h))))))
 
 pub returns-in_err-near-in-options : goal.returns-in_err-near-in-options
 returns-in_err-near-in-options g c =
-    let d : Devices _ _ = record { left = g.R.Read.remaining; held = g.W.Write.contents; waits = g.W.Deliver.waiting; r = c.args.reader.now; r2 = c.args.reader.now; w = c.args.writer.now; w2 = c.args.writer.now } in
+    let d = devices_of g.R.Read.remaining g.W.Write.contents g.W.Deliver.waiting c.args.reader.now c.args.writer.now in
     let refused = c.in_err-near-in-options.ensures in
-    option_refused d g.E.Write.contents g.E.Deliver.waiting c.args.faults.now c.from_residual.result c.from_residual.ensures.1 (sub_found _ c.in-Some.ensures.name c.in-Some.ensures.rows) refused.0 (refl, refl) (inr (inr (inl (c.in-options.is, (refused, (refl, refl))))))
+    option_refused d (writer_of g.E.Write.contents g.E.Deliver.waiting c.args.faults.now) c.from_residual.result c.from_residual.ensures.1 (sub_found _ c.in-Some.ensures.name c.in-Some.ensures.rows) refused.0 (refl, refl) (inr (inr (inl (c.in-options.is, refused, (refl, refl)))))
 
 pub returns-in_err-interval-in_default-name : goal.returns-in_err-interval-in_default-name
 returns-in_err-interval-in_default-name g c =
     let found = sub_found _ c.in-Some.ensures.name c.in-Some.ensures.rows in
     let n = is_check c.args.matches.now c.requires found c.in_default-name.not-frames c.in_default-name.not-show c.in_default-name.not-signals c.in_default-name.not-options c.in_default-name.not-convert in
-    let d : Devices _ _ = record { left = g.R.Read.remaining; held = g.W.Write.contents; waits = g.W.Deliver.waiting; r = c.args.reader.now; r2 = c.args.reader.now; w = c.args.writer.now; w2 = c.args.writer.now } in
+    let d = devices_of g.R.Read.remaining g.W.Write.contents g.W.Deliver.waiting c.args.reader.now c.args.writer.now in
     let set = sym c.in_err-interval-in_default-name.ensures.value in
-    option_refused d g.E.Write.contents g.E.Deliver.waiting c.args.faults.now c.from_residual-in_err-interval-in_default-name.result c.from_residual-in_err-interval-in_default-name.ensures.1 found (bad_interval _ _ set) (refl, refl) (inr (inr (inr (n, (set, (refl, refl))))))
+    option_refused d (writer_of g.E.Write.contents g.E.Deliver.waiting c.args.faults.now) c.from_residual-in_err-interval-in_default-name.result c.from_residual-in_err-interval-in_default-name.ensures.1 found (bad_interval _ _ set) (refl, refl) (inr (inr (inr (n, set, (refl, refl)))))

@@ -1,6 +1,5 @@
-use Rattle.rtcm_command.proofs.CommandLemmas.{Devices}
 use Rattle.rtcm_command.proofs.ConvertLemmas.{Faulted, conversion_stopped, given_bad}
-use Rattle.rtcm_command.proofs.Names.{refl, IsBad}
+use Rattle.rtcm_command.proofs.Names.{refl, IsBad, devices_of}
 use Rattle.rtcm_command.proofs.convert.run_convert.Goals as goal
 
 pub returns-in-Ok-clause-ends : goal.returns-in-Ok-clause-ends
@@ -11,8 +10,8 @@ returns-in-Ok-clause-ends g c =
 pub returns-in-Err-clause-ends : goal.returns-in-Err-clause-ends
 returns-in-Err-clause-ends g c =
     let end = c.in-Err.ensures in
-    let d : Devices _ _ = record { left = g.R.Read.remaining; held = g.W.Write.contents; waits = g.W.Deliver.waiting; r = c.args.reader.now; r2 = c.convert_stream.new.reader; w = c.args.writer.now; w2 = c.convert_stream.new.writer } in
-    let s : Faulted c.args.setup d c.in-Err.fault = record { sent = end.sent; no_epoch = end.no_epoch; none_chosen = end.none_chosen; long = end.long; read = end.read; write = end.write; bad = end.bad_setup; untouched = end.untouched; only = end.only } in
+    let at = devices_of g.R.Read.remaining g.W.Write.contents g.W.Deliver.waiting in
+    let s : Faulted c.args.setup (at c.args.reader.now c.args.writer.now) (at c.convert_stream.new.reader c.convert_stream.new.writer) c.in-Err.fault = record { sent = end.sent; no_epoch = end.no_epoch; none_chosen = end.none_chosen; long = end.long; read = end.read; write = end.write; bad = end.bad_setup; untouched = end.untouched; only = end.only } in
     ((end.devices.0.0, end.devices.1.0), (c.in-Err.fault, refl, conversion_stopped c.in-Err.fault s))
 
 pub returns-in-Err-clause-bad_setup : goal.returns-in-Err-clause-bad_setup

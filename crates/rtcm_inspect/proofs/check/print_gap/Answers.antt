@@ -1,6 +1,6 @@
 use Rattle.rtcm_inspect.proofs.GapLemmas.{one_gap}
 use Rattle.option_texts.proofs.LineLemmas.{add_text}
-use Rattle.rtcm_inspect.proofs.Names.{◌≡◌, ◌∙◌, ap, arith, length, option_map, refl, subst, EndsPrinting}
+use Rattle.rtcm_inspect.proofs.Names.{◌≡◌, ◌∙◌, ap, arith, length, option_map, refl, subst, EndsPrinting, List, ℕ, writer_of}
 use Rattle.rtcm_inspect.proofs.check.print_gap.Goals as goal
 
 pub add_moment-requires-2 : goal.add_moment-requires-2
@@ -15,6 +15,7 @@ finish-requires g c =
 
 pub returns : goal.returns
 returns g c =
-    subst (EndsPrinting c.print_text.result g.W.Write.contents g.W.Deliver.waiting c.args.writer.now c.print_text.new.writer)
-    (c.as_bytes.ensures.text ∙ one_gap c.args.interval (ap (option_map (λ t. t.last)) c.in-Some.is) (omega (arith, c.if-milliseconds-interval.false, c.milliseconds.ensures.value, c.milliseconds-2.ensures.value)) c.new-line.ensures c.put.ensures c.add_moment.ensures.text c.add_moment-2.ensures.text c.finish.ensures)
+    let at = writer_of g.W.Write.contents g.W.Deliver.waiting in
+    subst (λ (t : List ℕ). EndsPrinting c.print_text.result t (at c.args.writer.now) (at c.print_text.new.writer))
+    (c.as_bytes.ensures.text ∙ one_gap c.in-Some.interval c.in-Some.is (ap (option_map (λ t. t.last)) c.in-Some-before.is) (omega (arith, c.if-milliseconds-interval.false, c.milliseconds.ensures.value, c.milliseconds-2.ensures.value)) c.new-line.ensures c.put.ensures c.add_moment.ensures.text c.add_moment-2.ensures.text c.finish.ensures)
     c.print_text.ensures

@@ -1,13 +1,14 @@
-use Rattle.rtcm_inspect.proofs.Names.{◌≡◌, ◌+◌, ◌-◌, List, gaps_of, PrintsText, Stamped, LeavesRest, HasReadEpochs, most_lines}
+use Rattle.rtcm_inspect.proofs.Names.{◌≡◌, ◌+◌, ◌-◌, List, gaps_of, PrintsText, Stamped, LeavesRest, HasReadEpochs, most_lines, writer_of}
 use Rattle.rtcm_inspect.proofs.check.print_gaps.Given as goal
 
 -- the gaps of the epochs that were read were written
 abbrev pub invariant-loop-before : goal.invariant-loop-before
 invariant-loop-before g l =
     let remaining = g.R.Read.remaining in
+    let at = writer_of g.W.Write.contents g.W.Deliver.waiting in
     record {
       read : (es : List Stamped) × HasReadEpochs l.file es (remaining l.fn.reader.inner) (remaining l.reader.inner)
-          × PrintsText g.W.Write.contents g.W.Deliver.waiting l.fn.writer l.writer (gaps_of l.interval es);
+          × PrintsText (gaps_of l.interval es) (at l.fn.writer) (at l.writer);
       left : LeavesRest (remaining l.fn.reader.inner) (remaining l.reader.inner);
       same : l.reader.failures ≡ l.fn.reader.failures;
     }

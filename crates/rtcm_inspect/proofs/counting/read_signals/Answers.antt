@@ -1,7 +1,7 @@
 use Rattle.rtcm_msg.specs.declared.number.Forms.TheVariants.{FourAndSeven}
 use Rattle.rtcm_inspect.proofs.StreamLemmas.{started}
 use Rattle.rtcm_inspect.proofs.CountingLemmas.{counted_all, counted_reads, counting_stopped, new_counts, none_counted}
-use Rattle.rtcm_inspect.proofs.Names.{refl, sym, subst, Counts, StopsCounting, ReadFailures, StreamSignals, InspectFault}
+use Rattle.rtcm_inspect.proofs.Names.{refl, sym, subst, Counts, StopsCounting, ReaderFailures, culprit, StreamSignals, InspectFault}
 use Rattle.rtcm_inspect.proofs.counting.read_signals.Goals as goal
 
 pub returns-in-Ok-read-clause-whole : goal.returns-in-Ok-read-clause-whole
@@ -19,5 +19,5 @@ returns-in-Err-clause-fault g c =
 
 pub returns-in-Err-clause-reader : goal.returns-in-Err-clause-reader
 returns-in-Err-clause-reader g c =
-    subst (λ (f : InspectFault). ReadFailures f c.args.reader.now.failures c.read_frames-read.new.reader.failures) (sym c.from.ensures)
+    subst (λ (f : InspectFault). ReaderFailures (culprit f) c.args.reader.now.failures c.read_frames-read.new.reader.failures) (sym c.from.ensures)
     (counted_reads c.in-Err.fault _ _ c.in-Err.ensures.reader.0)

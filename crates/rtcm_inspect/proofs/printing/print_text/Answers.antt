@@ -1,5 +1,5 @@
 use Rattle.rtcm_inspect.proofs.PrintingLemmas.{then_delivered, unmapped}
-use Rattle.rtcm_inspect.proofs.Names.{subst, ⊤, Result, OnOk, Appends, DeviceFailed, FailsWith}
+use Rattle.rtcm_inspect.proofs.Names.{subst, ⊤, Result, OnOk, Appends, DeviceFailed, FailsWith, writer_of}
 use Rattle.rtcm_inspect.proofs.printing.print_text.Goals as goal
 
 pub returns : goal.returns
@@ -7,4 +7,5 @@ returns g c =
     let ok = unmapped _ c.write_whole.result _ _ c.map_err.ensures.cases c.in_ok-map_err.was in
     let device = subst (λ (r : Result ⊤ DeviceFailed). FailsWith r c.args.writer.now c.write_whole.new.self) ok c.write_whole.ensures.device in
     let whole = subst (λ (r : Result ⊤ DeviceFailed). OnOk r (Appends (g.W.Write.contents c.args.writer.now.inner) (g.W.Write.contents c.write_whole.new.self.inner) c.args.text.now)) ok c.write_whole.ensures.whole in
-    then_delivered c.deliver_waiting.result g.W.Write.contents g.W.Deliver.waiting c.args.writer.now c.write_whole.new.self c.deliver_waiting.new.writer c.args.text.now device.1 whole c.deliver_waiting.ensures
+    let at = writer_of g.W.Write.contents g.W.Deliver.waiting in
+    then_delivered c.deliver_waiting.result (at c.args.writer.now) (at c.write_whole.new.self) (at c.deliver_waiting.new.writer) c.args.text.now device.1 whole c.deliver_waiting.ensures

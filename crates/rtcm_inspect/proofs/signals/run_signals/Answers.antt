@@ -1,8 +1,8 @@
-use Rattle.rtcm_inspect.proofs.CountingLemmas.{signals_printed}
+use Rattle.rtcm_inspect.proofs.CountingLemmas.{stream_printed}
 use Rattle.rtcm_inspect.proofs.PrintingLemmas.{printed_later}
 use Rattle.rtcm_inspect.proofs.SignalLemmas.{no_cells, some_cells}
 use Rattle.rtcm_inspect.proofs.ValuedLemmas.{valued_keys}
-use Rattle.rtcm_inspect.proofs.Names.{◌∙◌, sym, valued_in, frames_of}
+use Rattle.rtcm_inspect.proofs.Names.{◌∙◌, refl, sym, AreSignalsOf, AreSignalsRefused, devices_of, frames_of, valued_in, writer_of}
 use Rattle.rtcm_inspect.proofs.signals.run_signals.Goals as goal
 
 pub returns-then-not-has_any : goal.returns-then-not-has_any
@@ -18,4 +18,7 @@ returns g c =
     let counts = s.4.counted.signal_counts in
     let cells = valued_in c.args.station (frames_of s.0) in
     let some = some_cells _ cells counts (sym c.has_any.ensures ∙ c.if-not-has_any.false) in
-    signals_printed g.R.Read.remaining c.args.reader.now c.read_signals.new.reader c.print_text.result s some c.in_ok-signals.ensures.reader (printed_later c.print_text.result g.W.Write.contents g.W.Deliver.waiting c.deliver_waiting.new.writer c.print_text.new.writer c.in_ok-deliver_waiting.ensures (c.as_slice.ensures.value ∙ c.add_systems.ensures cells counts) c.print_text.ensures)
+    let at = devices_of g.R.Read.remaining g.W.Write.contents g.W.Deliver.waiting in
+    let w = writer_of g.W.Write.contents g.W.Deliver.waiting in
+    stream_printed (AreSignalsOf c.args.station) (AreSignalsRefused c.args.station) (at c.args.reader.now c.args.writer.now) (at c.read_signals.new.reader c.print_text.new.writer) c.print_text.result s (some, refl) c.in_ok-signals.ensures.reader
+    (printed_later c.print_text.result (w c.deliver_waiting.new.writer) (w c.print_text.new.writer) c.in_ok-deliver_waiting.ensures (c.as_slice.ensures.value ∙ c.add_systems.ensures cells counts) c.print_text.ensures)
