@@ -3,11 +3,11 @@ use Rattle.std.specs.Prelude.{ℕ, List, [], ◌∷◌, codes, decimal}
 use Rattle.rtcm_convert.specs.declared.fault.Fault.{Fault}
 use Rattle.rtcm_convert.specs.declared.fault.Fault.TheVariants as convert
 use Rattle.rtcm_inspect.specs.FaultWords.{header_words, inspection_words, plan_words}
-use Rattle.option_texts.specs.Lines.{line}
+use Rattle.line_texts.specs.Lines.{line}
 use Rattle.command_faults.specs.declared.fault.DateOption.{DateOption}
 use Rattle.command_faults.specs.declared.fault.DateOption.TheVariants as dated
-use Rattle.command_faults.specs.declared.fault.ToolFault.{ToolFault}
-use Rattle.command_faults.specs.declared.fault.ToolFault.TheVariants as faults
+use Rattle.command_faults.specs.declared.fault.CommandFault.{CommandFault}
+use Rattle.command_faults.specs.declared.fault.CommandFault.TheVariants as faults
 
 abbrev pub conversion_word : Fault → List ℕ
 conversion_word convert.Memory = codes "Memory"
@@ -40,7 +40,7 @@ date_words dated.From = codes "--from TIME:" ∷ time_form
 date_words dated.Until = codes "--until TIME:" ∷ time_form
 
 -- the name of an error, and its parameters or the accepted form
-abbrev pub error_words : ToolFault → List (List ℕ)
+abbrev pub error_words : CommandFault → List (List ℕ)
 error_words faults.Memory = codes "Memory" ∷ []
 error_words (faults.BadDate option) = codes "BadDate" ∷ date_words option
 error_words faults.BadPosition =
@@ -64,7 +64,7 @@ error_words (faults.Convert e) = conversion_word e ∷ conversion_counts e
 error_words (faults.Inspect e) = inspection_words e
 
 -- the line of an error
-unfoldable pub error_line : ToolFault → List ℕ
+unfoldable pub error_line : CommandFault → List ℕ
 error_line fault = line (codes "rtcm2rinex:" ∷ error_words fault)
 
 -- the line of a command line that is not UTF-8

@@ -3,9 +3,9 @@ use Rattle.std.specs.Prelude.{◌≡◌, Result, Ok, Err}
 use Rattle.rtcm_bits.specs.Devices.{Writer}
 use Rattle.rtcm_inspect.specs.Printing.{PrintsLine}
 use Rattle.command_faults.specs.ErrorLines.{error_line}
-use Rattle.command_faults.specs.declared.fault.ToolFault.{ToolFault}
+use Rattle.command_faults.specs.declared.fault.CommandFault.{CommandFault}
 
 -- nothing was written after success, and the line of the fault at a fault
-abbrev pub PrintsFault : {A E : Type 0} → Result A ToolFault → (e e' : Writer E) → Type 0
+abbrev pub PrintsFault : {A E : Type 0} → Result A CommandFault → (e e' : Writer E) → Type 0
 PrintsFault (Ok x) e e' = e' ≡ e
 PrintsFault (Err fault) e e' = PrintsLine (error_line fault) e e'

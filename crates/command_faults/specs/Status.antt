@@ -1,10 +1,10 @@
 -- The exit status.
 use Rattle.std.specs.Prelude.{ℕ, Result, Ok, Err}
-use Rattle.command_faults.specs.declared.fault.ToolFault.{ToolFault}
-use Rattle.command_faults.specs.declared.fault.ToolFault.TheVariants as faults
+use Rattle.command_faults.specs.declared.fault.CommandFault.{CommandFault}
+use Rattle.command_faults.specs.declared.fault.CommandFault.TheVariants as faults
 
 -- the exit status of a fault: 2 for an invalid date, position, height, list of channels, window, interval or tolerance
-abbrev pub fault_status : ToolFault → ℕ
+abbrev pub fault_status : CommandFault → ℕ
 fault_status (faults.BadDate option) = 2
 fault_status faults.BadPosition = 2
 fault_status faults.BadHeight = 2
@@ -16,6 +16,6 @@ fault_status faults.BadGaps = 2
 fault_status other = 1
 
 -- the exit status of a command with this result
-abbrev pub status_of : {A : Type 0} → Result A ToolFault → ℕ
+abbrev pub status_of : {A : Type 0} → Result A CommandFault → ℕ
 status_of (Ok x) = 0
 status_of (Err fault) = fault_status fault

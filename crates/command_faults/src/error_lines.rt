@@ -2,16 +2,16 @@
 ghost use Rattle.std.specs.Prelude.{◌≡◌, ◌+◌, ◌≤◌, ◌∷◌, codes, length};
 ghost use Rattle.command_faults.specs.ErrorLines.{conversion_counts, conversion_word, date_words, error_line};
 ghost use Rattle.command_faults.specs.ErrorLines.{error_words};
-ghost use Rattle.option_texts.specs.Lines.{with_words};
+ghost use Rattle.line_texts.specs.Lines.{with_words};
 ghost use Rattle.rtcm_inspect.specs.Lines.{longest_error, longest_fault_name, longest_start};
 
-use crate::fault::{DateOption, ToolFault};
+use crate::fault::{DateOption, CommandFault};
 use rtcm_convert::Fault;
 use rtcm_inspect::{OutputLine, add_header_error, add_inspection_error, add_plan_error};
 
 /// Returns the line of a fault: the program's name, the fault's name, and the values that it
 /// carries or the form that is accepted.
-pub fn error_line(fault: ToolFault) -> OutputLine
+pub fn error_line(fault: CommandFault) -> OutputLine
     ensures { result ≡ error_line fault }
 {
     let mut line = OutputLine::new();
@@ -22,40 +22,40 @@ pub fn error_line(fault: ToolFault) -> OutputLine
 }
 
 /// Adds the name of a fault and what follows it.
-fn add_error(line: &mut OutputLine, fault: ToolFault)
+fn add_error(line: &mut OutputLine, fault: CommandFault)
     requires { length line.old ≤ longest_start }
     ensures text { line.new ≡ with_words line.old (error_words fault) }
     ensures short { length line.new ≤ length line.old + longest_error }
 {
     match fault {
-        ToolFault::Memory => line.add_word("Memory"),
-        ToolFault::BadDate(option) => add_date_error(line, option),
-        ToolFault::BadPosition => line.add_word(
+        CommandFault::Memory => line.add_word("Memory"),
+        CommandFault::BadDate(option) => add_date_error(line, option),
+        CommandFault::BadPosition => line.add_word(
             "BadPosition --position X,Y,Z: metres, up to 8 digits and 4 decimals each, \
              -13743895.3472 to 13743895.3471",
         ),
-        ToolFault::BadHeight => line.add_word(
+        CommandFault::BadHeight => line.add_word(
             "BadHeight --antenna-height HEIGHT: metres, up to 4 decimals, 0 to 6.5535",
         ),
-        ToolFault::BadChannels => line.add_word(
+        CommandFault::BadChannels => line.add_word(
             "BadChannels --glonass-channels SLOT:CHANNEL,..: slots 1 to 27, each once, \
              channels -7 to 6",
         ),
-        ToolFault::BadWindow => line.add_word("BadWindow --until TIME: later than --from"),
-        ToolFault::BadInterval => line.add_word(
+        CommandFault::BadWindow => line.add_word("BadWindow --until TIME: later than --from"),
+        CommandFault::BadInterval => line.add_word(
             "BadInterval --interval SECONDS: up to 3 decimals, 0.1 to 86400, a divisor of a day",
         ),
-        ToolFault::BadTolerance => line.add_word(
+        CommandFault::BadTolerance => line.add_word(
             "BadTolerance --tolerance SECONDS: up to 3 decimals, 0 to 0.5, \
              at most half of --interval",
         ),
-        ToolFault::BadGaps => line.add_word(
+        CommandFault::BadGaps => line.add_word(
             "BadGaps --gaps SECONDS: up to 3 decimals, 0.001 to 86400",
         ),
-        ToolFault::Header(fault) => add_header_error(line, fault),
-        ToolFault::Plan(fault) => add_plan_error(line, fault),
-        ToolFault::Convert(fault) => add_conversion_error(line, fault),
-        ToolFault::Inspect(fault) => add_inspection_error(line, fault),
+        CommandFault::Header(fault) => add_header_error(line, fault),
+        CommandFault::Plan(fault) => add_plan_error(line, fault),
+        CommandFault::Convert(fault) => add_conversion_error(line, fault),
+        CommandFault::Inspect(fault) => add_inspection_error(line, fault),
     }
 }
 

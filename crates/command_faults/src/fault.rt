@@ -7,7 +7,7 @@ use rtcm_inspect::InspectFault;
 
 /// Why a command stopped.
 #[derive(Clone, Copy)]
-pub enum ToolFault {
+pub enum CommandFault {
     /// Out of memory while reading the words.
     Memory,
     /// The text of this option isn't a date, nor a week or a time where one is accepted.

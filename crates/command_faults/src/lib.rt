@@ -6,5 +6,5 @@ mod fault;
 mod status;
 
 pub use error_lines::error_line;
-pub use fault::{DateOption, ToolFault};
+pub use fault::{DateOption, CommandFault};
 pub use status::exit_status;

@@ -5,14 +5,14 @@ ghost use Rattle.command_faults.specs.Printing.{PrintsFault};
 ghost use Rattle.command_faults.specs.Status.{status_of};
 
 use crate::error_lines::error_line;
-use crate::fault::ToolFault;
+use crate::fault::CommandFault;
 use rtcm_bits::{Counted, Deliver};
 use rtcm_inspect::print_line;
 
 /// Prints the fault of a command, if any, on one line, and returns the exit status: 0 after
 /// success, 2 if a date, the position, the height, the list of channels, the window, an interval or
 /// the tolerance is invalid, else 1. A failure of this writer is ignored.
-pub fn exit_status<E: Deliver>(ended: Result<(), ToolFault>, faults: &mut Counted<E>) -> u8
+pub fn exit_status<E: Deliver>(ended: Result<(), CommandFault>, faults: &mut Counted<E>) -> u8
     ensures value { result ≡ status_of ended }
     ensures range { result ≤ 2 }
     ensures line { Writes E.contents E.waiting faults.old faults.new (PrintsFault ended) }
@@ -20,14 +20,14 @@ pub fn exit_status<E: Deliver>(ended: Result<(), ToolFault>, faults: &mut Counte
     let Err(fault) = ended else { return 0 };
     print_line(error_line(fault).as_bytes(), faults);
     match fault {
-        ToolFault::BadDate(_)
-        | ToolFault::BadPosition
-        | ToolFault::BadHeight
-        | ToolFault::BadChannels
-        | ToolFault::BadWindow
-        | ToolFault::BadInterval
-        | ToolFault::BadTolerance
-        | ToolFault::BadGaps => 2,
+        CommandFault::BadDate(_)
+        | CommandFault::BadPosition
+        | CommandFault::BadHeight
+        | CommandFault::BadChannels
+        | CommandFault::BadWindow
+        | CommandFault::BadInterval
+        | CommandFault::BadTolerance
+        | CommandFault::BadGaps => 2,
         _ => 1,
     }
 }

@@ -38,15 +38,15 @@ pub use Rattle.rinex_file.specs.File.{lines_of_systems}
 pub use Rattle.rinex_file.specs.FileValues.{AreChanges, AreSatelliteRows, AreSignalValues, AreTexts, AreValues, FitsColumns, HaveRoom, IsChange, IsFileValue, IsFirstSame, IsFrom, IsPlan, IsRow, IsSatelliteRow, IsStamped, IsText, IsTime, changed_by, has_some_value, most_rows, planned_in, rank_of, time_stamped, values_following}
 pub use Rattle.rinex_file.specs.Gathered.{AreSignals, HasSatellite}
 unfoldable pub use Rattle.rinex_file.specs.Header.{header_lines, row_line}
-unfoldable pub use Rattle.rinex_fields.specs.HeaderLine.{header_line}
+unfoldable pub use Rattle.rinex_columns.specs.HeaderLine.{header_line}
 pub use Rattle.rinex_file.specs.Header.{types_line, types_with, has_label, is_of_types, interval_line, is_given, is_optional, Shown, all_rows, codes_of, delta_line, biases_line, end_line, flagged_letter, first_line, first_types, has_line, height_line, is_planned, letter_of, lengths, lines_after, lines_before, most_type_rows, position_line, row_at, row_count, row_lines, row_place, slots_line, slots_with, strength_line, systems_letter, text_columns, texts_line, type_columns, type_front, type_of, type_rows, types_of, version_fields, version_by, version_line}
-pub use Rattle.rinex_fields.specs.Limits.{most_line}
+pub use Rattle.rinex_columns.specs.Limits.{most_line}
 unfoldable pub use Rattle.rinex_file.specs.Lines.{epoch_line, field, satellite_line, signal_text}
 pub use Rattle.rinex_file.specs.Lines.{epoch_fields, lli_byte, row_text, strength_byte}
-pub use Rattle.rinex_fields.specs.Numbers.{fixed, joined, left, padded, right}
+pub use Rattle.rinex_columns.specs.Numbers.{fixed, joined, left, padded, right}
 pub use Rattle.rinex_file.specs.ParserState.{FollowsHistory, MayRunOut, GoesOnWithLine, History, IsLast, IsNext, RefusesLine, ShowsLine, TakesLine, changes_of, events_in, nothing, progress_at, rows_in, stamped_at, with_line}
 pub use Rattle.rinex_file.specs.Read.EpochSteps.{HasReadTo, IsSummaryOf}
-pub use Rattle.rinex_fields.specs.Read.{ReadsExactly, digits_in, has, number_in, some_if}
+pub use Rattle.rinex_columns.specs.Read.{ReadsExactly, digits_in, has, number_in, some_if}
 pub use Rattle.rinex_file.specs.Read.HeaderSteps.{AreItemsBefore, EndsHeader, IsLineOfSlots, TakesOrRefusesSlots, TakesSlots, with_slots, GoesOn, GoesTo, HasSignalAt, IsHeaderLineRead, IsOnly, NoneGoesOn, ReadsOrRefuses, ReadsOrRefusesTexts, ReadsTexts, RefusesHeaderLine, RefusesTexts, RefusesTypes, SameFrom, StepsTo, Takes, TakesHeaderLine, TakesTypes, begins_with, row_label, with_interval, expected_if, if_fine, known_line, texts_in, with_first, with_letter, with_texts, with_types, with_values}
 unfoldable pub use Rattle.rinex_file.specs.Read.Keeping.{stamped_text}
 pub use Rattle.rinex_file.specs.Read.Keeping.{ExplainsAny, HasReadWhole, HasRoom, HaveRowsRoom, Stores, history_of}

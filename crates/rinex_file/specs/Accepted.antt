@@ -6,8 +6,8 @@ use Rattle.rinex_file.specs.Begun.{IsHeaderBegun, IsBetweenEpochs, IsEventBegun,
 use Rattle.rinex_file.specs.Exact.{AreFirstLines, IsLine, most_lines}
 use Rattle.rinex_file.specs.File.{file_text}
 use Rattle.rinex_file.specs.FileValues.{IsFileValue}
-use Rattle.rinex_fields.specs.Numbers.{joined}
-use Rattle.rinex_fields.specs.Read.{has}
+use Rattle.rinex_columns.specs.Numbers.{joined}
+use Rattle.rinex_columns.specs.Read.{has}
 use Rattle.rinex_file.specs.Value.{FileValue, Stamped}
 use Rattle.rinex_file.specs.declared.read.fault.ReadFault.{ReadFault}
 use Rattle.rinex_file.specs.declared.read.fault.ReadFault.TheVariants.{Memory, Read, BadHeader, BadEpoch, BadEvent}

@@ -1,8 +1,8 @@
 -- Bytes that were read ahead.
 use Rattle.std.specs.Prelude.{◌≡◌, ℕ, zero, suc, ◌<◌, ◌≤◌, Bool, true, false, List, [], ◌∷◌, ◌++◌, length, take, Option}
 use Rattle.std.specs.Io.KnownBytes.{Consumes}
-use Rattle.rinex_fields.specs.Read.{has}
-use Rattle.rinex_fields.specs.Limits.{most_line}
+use Rattle.rinex_columns.specs.Read.{has}
+use Rattle.rinex_columns.specs.Limits.{most_line}
 
 -- the remaining bytes follow some of the bytes that were there
 abbrev pub LeavesRest : Option (List ℕ) → Option (List ℕ) → Type 0

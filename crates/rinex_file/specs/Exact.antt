@@ -11,15 +11,15 @@ use Rattle.rinex_file.specs.declared.read.fault.ReadFault.TheVariants.{BadSatell
 use Rattle.rinex_file.specs.declared.read.parser_state.Expected.{Expected}
 use Rattle.rinex_file.specs.declared.read.parser_state.Expected.TheVariants.{Header, Epoch, EventPosition, EventHeight}
 use Rattle.rinex_file.specs.declared.read.parser_state.Expected.TheVariants.{EventEpoch, Satellite}
-use Rattle.rinex_fields.specs.Read.{has}
-use Rattle.rinex_fields.specs.Numbers.{joined}
+use Rattle.rinex_columns.specs.Read.{has}
+use Rattle.rinex_columns.specs.Numbers.{joined}
 use Rattle.rinex_file.specs.Value.{FileValue}
 use Rattle.rinex_file.specs.FileValues.{IsFileValue}
 use Rattle.rinex_file.specs.File.{file_text, file_lines, shown_text}
 use Rattle.rinex_file.specs.Header.{Shown, is_of_types}
 use Rattle.rinex_file.specs.Read.Progress.{IsShown}
 use Rattle.rinex_file.specs.Begun.{IsHeaderBegun, IsBetweenEpochs, IsEventBegun, IsEpochBegun, AreBegun}
-use Rattle.rinex_fields.specs.Limits.{most_line}
+use Rattle.rinex_columns.specs.Limits.{most_line}
 
 -- a line: bytes that end in their only line feed
 abbrev pub IsLine : List ℕ → Type 0

@@ -12,7 +12,7 @@ use Rattle.rinex_file.specs.Value.{written_satellites}
 use Rattle.gnss_obs.specs.declared.cell.Cell.{Cell}
 use Rattle.rinex_file.specs.Header.{Shown, header_lines, position_line, delta_line}
 use Rattle.rinex_file.specs.Lines.{epoch_line, satellite_line}
-use Rattle.rinex_fields.specs.Numbers.{joined}
+use Rattle.rinex_columns.specs.Numbers.{joined}
 
 -- the text of a header
 unfoldable pub shown_text : Shown → List ℕ

@@ -17,9 +17,9 @@ use Rattle.rinex_file.specs.declared.header.fields.HeaderField.TheVariants.{Obse
 use Rattle.rinex_file.specs.declared.header.rows.HeaderRow.{HeaderRow}
 use Rattle.rinex_file.specs.declared.header.rows.HeaderRow.TheVariants.{Version, Texts, Position, Delta, Types}
 use Rattle.rinex_file.specs.declared.header.rows.HeaderRow.TheVariants.{StrengthUnit, Interval, First, Shift, Slots, Biases, End}
-use Rattle.rinex_fields.specs.HeaderLine.{header_line}
-use Rattle.rinex_fields.specs.Limits.{label_columns}
-use Rattle.rinex_fields.specs.Numbers.{joined, left, right, fixed}
+use Rattle.rinex_columns.specs.HeaderLine.{header_line}
+use Rattle.rinex_columns.specs.Limits.{label_columns}
+use Rattle.rinex_columns.specs.Numbers.{joined, left, right, fixed}
 use Rattle.rinex_file.specs.Slots.{SlotNumber, slots_of, slots_columns, slot_rows}
 use Rattle.rinex_file.specs.Limits.{types_in_line}
 use Rattle.rinex_file.specs.Texts.{HeaderLists, width_of, text_of, fields_of, place_of, front_of, label_of}

@@ -5,10 +5,10 @@ use Rattle.std.specs.Option.{option_map_or}
 use Rattle.gnss_obs.specs.Observables.{strength_digit}
 use Rattle.gnss_system.specs.Satellites.{letter, number_of}
 use Rattle.gnss_obs.specs.declared.civil.Civil.{Civil}
-use Rattle.rinex_fields.specs.Numbers.{joined, right, fixed, padded}
+use Rattle.rinex_columns.specs.Numbers.{joined, right, fixed, padded}
 use Rattle.rinex_file.specs.Blanks.{trimmed}
 use Rattle.rinex_file.specs.Value.{SignalValues, SatelliteRow}
-use Rattle.rinex_fields.specs.Limits.{value_columns}
+use Rattle.rinex_columns.specs.Limits.{value_columns}
 
 -- the fields of the first line of an epoch with this number of satellites
 abbrev pub epoch_fields : Civil → ℕ → List (List ℕ)

@@ -2,7 +2,7 @@
 use Rattle.std.specs.Prelude.{ℕ, zero, suc, ◌+◌, ◌-◌, ◌*◌, ◌/◌, ◌<◌, ◌≤◌, List, [], ◌∷◌, ◌++◌, take, drop, flat_map}
 use Rattle.std.specs.Prelude.{replicate, decimal, nat_lt, if◌then◌else◌, Some, None}
 use Rattle.gnss_obs.specs.Channels.{ChannelsValue, slot_count, most_number}
-use Rattle.rinex_fields.specs.Numbers.{padded, right}
+use Rattle.rinex_columns.specs.Numbers.{padded, right}
 
 -- a slot, and the number of its channel: the channel plus 7
 pub record SlotNumber : Type 0 where

@@ -10,7 +10,7 @@ use Rattle.rinex_file.specs.declared.header.fields.TheConstants.HeaderField.{ALL
 use Rattle.rinex_file.specs.declared.header.fault.HeadFault.{HeadFault}
 use Rattle.rinex_file.specs.declared.header.fault.HeadFault.TheVariants.{TooLong, NotPrintable}
 use Rattle.rinex_file.specs.Blanks.{trimmed}
-use Rattle.rinex_fields.specs.Numbers.{left}
+use Rattle.rinex_columns.specs.Numbers.{left}
 
 -- ---- the table of the texts
 

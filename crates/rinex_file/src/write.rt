@@ -20,7 +20,7 @@ use crate::write::line::{epoch_line, event_line};
 use crate::write::satellite::put_satellite_line;
 use gnss_obs::{Epoch, Plan, StationValues, end_of, is_written};
 use gnss_system::{SYSTEMS, System};
-use rinex_fields::{Line, MOST_LINE};
+use rinex_columns::{Line, MOST_LINE};
 use rtcm_bits::{Counted, DeviceFailed};
 use std::io::Write;
 

@@ -2,10 +2,10 @@
 use Rattle.std.specs.Prelude.{IfSome, string_bytes}
 use Rattle.std.proofs.Common.{Global, String}
 use Rattle.rtcm_command.specs.Commands.{refusal_line}
-use Rattle.rtcm_command.proofs.Names.{◌≡◌, ◌∙◌, inl, inr, refl, sym, subst, codes, ap, ap₂, option_map, ℕ, List, Option, Some, None, Result, Ok, Err, arith, ⊤, ◌≢◌, IsCommand, box_value, option_map_or, Box, found_of, subcommand_rows, subcommand_rows_of, Row, Text, rows_of, out-SubCommand, SubCommand, kind_of, Error, ArgMatches, AreFine, AreUntouched, Devices, EndsInspection, Reader, Writer, culprit, SelectsCommand, IsFoundIn, RefusesWords, FailsParsing, AreRefused, AreRefusedBy, EndsCommand, EndsFound, HasCommand, HasCompleted, HasDone, HasStopped, HasStoppedEarly, StopsPrinting, fault_status, status_of, error_line, length, lit<, ◌<◌, PrintsLine, PrintsSome, PrintsFault, InspectFault, Ends, of_inspection, ToolFault, HaveFailedBy, IsErrAnd, passed}
+use Rattle.rtcm_command.proofs.Names.{◌≡◌, ◌∙◌, inl, inr, refl, sym, subst, codes, ap, ap₂, option_map, ℕ, List, Option, Some, None, Result, Ok, Err, arith, ⊤, ◌≢◌, IsCommand, box_value, option_map_or, Box, found_of, subcommand_rows, subcommand_rows_of, Row, Text, rows_of, out-SubCommand, SubCommand, kind_of, Error, ArgMatches, AreFine, AreUntouched, Devices, EndsInspection, Reader, Writer, culprit, SelectsCommand, IsFoundIn, RefusesWords, FailsParsing, AreRefused, AreRefusedBy, EndsCommand, EndsFound, HasCommand, HasCompleted, HasDone, HasStopped, HasStoppedEarly, StopsPrinting, fault_status, status_of, error_line, length, lit<, ◌<◌, PrintsLine, PrintsSome, PrintsFault, InspectFault, Ends, of_inspection, CommandFault, HaveFailedBy, IsErrAnd, passed}
 use Rattle.clap.specs.declared.error.kind.ErrorKind.TheVariants as kind
 use Rattle.rtcm_inspect.specs.Devices as inspection
-use Rattle.command_faults.specs.declared.fault.ToolFault.TheVariants as faults
+use Rattle.command_faults.specs.declared.fault.CommandFault.TheVariants as faults
 
 -- if the error is the version's text, the words ask for the version
 pub is_version : (words : List Text) (e : Error) → RefusesWords words e → kind_of e ≡ kind.DisplayVersion → FailsParsing words kind.DisplayVersion
@@ -17,12 +17,12 @@ is_version words e (inr answered) version = subst (FailsParsing words) version a
 one_two : ◌≡◌ {A = ℕ} 1 2 → ⊥
 one_two e = omega (arith, e)
 
-never_zero : (fault : ToolFault) → fault_status fault ≡ 0 → ⊥
+never_zero : (fault : CommandFault) → fault_status fault ≡ 0 → ⊥
 never_zero (faults.BadDate o) e = omega (arith, e)
 never_zero other e = omega (arith, e)
 
 -- the end of a command in other terms
-pub ends_so : {A R W : Type 0} {P Q : A → Type 0} {S T : ToolFault → Type 0} (ended : Result A ToolFault) (d d2 : Devices R W) → ((x : A) → P x → Q x) → ((fault : ToolFault) → S fault → T fault)
+pub ends_so : {A R W : Type 0} {P Q : A → Type 0} {S T : CommandFault → Type 0} (ended : Result A CommandFault) (d d2 : Devices R W) → ((x : A) → P x → Q x) → ((fault : CommandFault) → S fault → T fault)
     → Ends culprit ended d d2 P S → Ends culprit ended d d2 Q T
 ends_so (Ok x) d d2 done stopped h = (h.0, done x h.1)
 ends_so (Err fault) d d2 done stopped h = (h.0, stopped fault h.1)
@@ -72,16 +72,16 @@ pub is_check : {n : Text} {o : List Row} (m : ArgMatches) → HasCommand m → s
 is_check {n} m (name, options, one, found) rows = only_check n (subst IsCommand (ap (λ (x : Option (Text × List Row)). option_map_or (λ p. p.0) x n) (sym found ∙ rows)) one)
 
 -- how a command other than `convert` ended
-pub inspection_found : {R W E : Type 0} {ended : Result ⊤ ToolFault} {rows : Option (Text × List Row)} {n : Text} {o : List Row} (d d2 : Devices R W) (e : Writer E) (inspection : Result ⊤ InspectFault) → ended ≡ of_inspection inspection → rows ≡ Some (n, o)
+pub inspection_found : {R W E : Type 0} {ended : Result ⊤ CommandFault} {rows : Option (Text × List Row)} {n : Text} {o : List Row} (d d2 : Devices R W) (e : Writer E) (inspection : Result ⊤ InspectFault) → ended ≡ of_inspection inspection → rows ≡ Some (n, o)
     → EndsInspection inspection n o d d2 → EndsFound ended rows e e d d2
 inspection_found {n = n} {o} d d2 e inspection same found h =
     (n, o, found, subst (λ x. EndsCommand x n o e e d d2) (sym same) (ends_inspected n o d d2 inspection e h))
 
 -- an option of a command is refused, and nothing is read or written
-pub option_refused : {R W E : Type 0} {rows : Option (Text × List Row)} {n : Text} {o : List Row} {fault known : ToolFault} (d : Devices R W) (e : Writer E) (ended : Result ⊤ ToolFault) → IsErrAnd ended (λ y. y ≡ fault) → rows ≡ Some (n, o)
+pub option_refused : {R W E : Type 0} {rows : Option (Text × List Row)} {n : Text} {o : List Row} {fault known : CommandFault} (d : Devices R W) (e : Writer E) (ended : Result ⊤ CommandFault) → IsErrAnd ended (λ y. y ≡ fault) → rows ≡ Some (n, o)
     → fault ≡ known → HaveFailedBy (culprit known) d d → HasStopped n o d d fault → EndsFound ended rows e e d d
 option_refused {n = n} {o} {fault} d e ended is found same none stopped =
-    let failed = subst (λ (f : ToolFault). HaveFailedBy (culprit f) d d) (sym same) none in
+    let failed = subst (λ (f : CommandFault). HaveFailedBy (culprit f) d d) (sym same) none in
     (n, o, found, passed ended fault (λ x. EndsCommand x n o e e d d) is (failed, (stopped, refl)))
 
 -- a command that was found twice is the same
@@ -93,23 +93,23 @@ printed_after : {E : Type 0} (e e1 e2 : Writer E) (text : List ℕ) → e1 ≡ e
 printed_after {E = E} e e1 e2 text same h = subst (λ (x : Writer E). PrintsLine text x e2) same h
 
 -- a command that the words ask for: the writer for faults was e, was e1 when the command ended, and is e2 at the end
-pub record Served {R W E : Type 0} (d d2 : Devices R W) (e e1 e2 : Writer E) (words : List Text) (m : ArgMatches) (ended : Result ⊤ ToolFault) (status : ℕ) : Type 0 where
+pub record Served {R W E : Type 0} (d d2 : Devices R W) (e e1 e2 : Writer E) (words : List Text) (m : ArgMatches) (ended : Result ⊤ CommandFault) (status : ℕ) : Type 0 where
   pub is : status ≡ status_of ended
   pub line : PrintsFault ended e1 e2
   pub found : IsFoundIn words m
   pub end : EndsFound ended (subcommand_rows_of m) e e1 d d2
 
 module _ {R W E : Type 0} {d d2 : Devices R W} {e e1 e2 : Writer E} {words : List Text} {m : ArgMatches} {status : ℕ} where
-  asks : (ended : Result ⊤ ToolFault) (s : Served d d2 e e1 e2 words m ended status) → SelectsCommand words s.end.0 s.end.1
+  asks : (ended : Result ⊤ CommandFault) (s : Served d d2 e e1 e2 words m ended status) → SelectsCommand words s.end.0 s.end.1
   asks ended s = asked words s.found.3 s.end.2 s.found.4
 
-  pub served : (ended : Result ⊤ ToolFault) → Served d d2 e e1 e2 words m ended status → status ≡ 0 → HasCompleted words e e2 d d2
+  pub served : (ended : Result ⊤ CommandFault) → Served d d2 e e1 e2 words m ended status → status ≡ 0 → HasCompleted words e e2 d d2
   served (Ok u) s zero =
       let end = s.end in
       inl (end.0, end.1, asks (Ok u) s, end.3.0, subst (λ (x : Writer E). HasDone end.0 end.1 e x d d2) (sym s.line) end.3.1)
   served (Err fault) s zero = absurd (never_zero fault (sym s.is ∙ zero))
 
-  pub failed_to_serve : (ended : Result ⊤ ToolFault) → Served d d2 e e1 e2 words m ended status → status ≡ 1 → HasStoppedEarly words e e2 d d2
+  pub failed_to_serve : (ended : Result ⊤ CommandFault) → Served d d2 e e1 e2 words m ended status → status ≡ 1 → HasStoppedEarly words e e2 d d2
   failed_to_serve (Ok u) s one = absurd (let bad : 0 ≡ 1 = sym s.is ∙ one in omega (arith, bad))
   failed_to_serve (Err fault) s one =
       let end = s.end in
@@ -135,14 +135,14 @@ pub refusal_printed : {E : Type 0} (e e2 : Writer E) (text : Option (String Glob
 refusal_printed e e2 text some line = (refusal_line (option_map string_bytes text), refusal_some text some, line)
 
 -- a command with status 2 is refused before anything is read
-refused_by : {R W : Type 0} (d d2 : Devices R W) (name : Text) (options : List Row) (fault : ToolFault) → fault_status fault ≡ 2 → HasStopped name options d d2 fault → AreRefusedBy name options fault × AreUntouched d d2
+refused_by : {R W : Type 0} (d d2 : Devices R W) (name : Text) (options : List Row) (fault : CommandFault) → fault_status fault ≡ 2 → HasStopped name options d d2 fault → AreRefusedBy name options fault × AreUntouched d d2
 refused_by d d2 name options fault two (inl (n, inl (refused, untouched))) = (inl (n, refused), untouched)
 refused_by d d2 name options fault two (inl (n, inr (x, start, (e, same, stops)))) = absurd (one_two (sym (ap fault_status same) ∙ two))
 refused_by d d2 name options fault two (inr (inl (e, same, stops))) = absurd (one_two (sym (ap fault_status same) ∙ two))
 refused_by d d2 name options fault two (inr (inr (inl (n, refused, untouched)))) = (inr (inl (n, refused)), untouched)
 refused_by d d2 name options fault two (inr (inr (inr (n, refused, untouched)))) = (inr (inr (n, refused)), untouched)
 
-pub refused_at_two : {R W E : Type 0} {d d2 : Devices R W} {e e1 e2 : Writer E} {words : List Text} {m : ArgMatches} {status : ℕ} (ended : Result ⊤ ToolFault) → Served d d2 e e1 e2 words m ended status → status ≡ 2
+pub refused_at_two : {R W E : Type 0} {d d2 : Devices R W} {e e1 e2 : Writer E} {words : List Text} {m : ArgMatches} {status : ℕ} (ended : Result ⊤ CommandFault) → Served d d2 e e1 e2 words m ended status → status ≡ 2
     → AreRefused words e e2 × AreUntouched d d2
 refused_at_two (Ok u) s two = absurd (let bad : 0 ≡ 2 = sym s.is ∙ two in omega (arith, bad))
 refused_at_two {d = d} {d2} {e} {e1} {e2} (Err fault) s two =

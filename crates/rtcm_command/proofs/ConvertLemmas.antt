@@ -1,7 +1,7 @@
 -- A conversion that is stopped by a fault.
 use Rattle.rtcm_command.proofs.OptionLemmas.{bad_choice}
-use Rattle.rtcm_command.proofs.Names.{⊤, AreUntouched, Devices, Writer, EndsConverting, culprit, IsErrAnd, passed, ◌≡◌, ap, sym, subst, refl, ℕ, ℤ, List, Option, Some, Result, Err, IsErrOf, IfSome, inl, inr, ◌≢◌, ◌↔◌, IsSentAfter, IsSetupFault, IsMadeEmpty, IsMadeSoFar, IsMadeInPart, IsMadeToLimit, IsBad, Setup, Fault, Memory, BadSetup, TooLong, Read, Write, Failed, Finished, NoEpoch, NoneChosen, EpochCounts, Report, ToolFault, Row, StationValues, values_by, HasSetupFault, IsRefusedAfterWeek, IsRefusedAfterChannels, IsSetupRefused, IsWeekSet, values_set, StopsConversion, HaveFailedBy, ChannelsValue, channels_by, channels_set}
-use Rattle.command_faults.specs.declared.fault.ToolFault.TheVariants as faults
+use Rattle.rtcm_command.proofs.Names.{⊤, AreUntouched, Devices, Writer, EndsConverting, culprit, IsErrAnd, passed, ◌≡◌, ap, sym, subst, refl, ℕ, ℤ, List, Option, Some, Result, Err, IsErrOf, IfSome, inl, inr, ◌≢◌, ◌↔◌, IsSentAfter, IsSetupFault, IsMadeEmpty, IsMadeSoFar, IsMadeInPart, IsMadeToLimit, IsBad, Setup, Fault, Memory, BadSetup, TooLong, Read, Write, Failed, Finished, NoEpoch, NoneChosen, EpochCounts, Report, CommandFault, Row, StationValues, values_by, HasSetupFault, IsRefusedAfterWeek, IsRefusedAfterChannels, IsSetupRefused, IsWeekSet, values_set, StopsConversion, HaveFailedBy, ChannelsValue, channels_by, channels_set}
+use Rattle.command_faults.specs.declared.fault.CommandFault.TheVariants as faults
 
 abbrev Result-of : Fault → Result Report Fault
 Result-of fault = Err fault
@@ -31,7 +31,7 @@ conversion_stopped (NoneChosen counts) s = (s.none_chosen counts refl, s.sent)
 
 -- a bad setup is the fault of the conversion and of the command
 pub given_bad : (fault : Fault) (Bad : Type 0) → (◌≡◌ {A = Result Report Fault} (Err fault) (Err BadSetup) ↔ Bad)
-    → (◌≡◌ {A = Result Report ToolFault} (Err (faults.Convert fault)) (Err (faults.Convert BadSetup)) ↔ Bad)
+    → (◌≡◌ {A = Result Report CommandFault} (Err (faults.Convert fault)) (Err (faults.Convert BadSetup)) ↔ Bad)
 given_bad fault Bad bad = (
   λ h. bad.0 (let e : fault ≡ BadSetup = cc in ap (λ (f : Fault). Err f) e),
   λ b. (let h = bad.1 b in let e : fault ≡ BadSetup = cc in ap (λ (f : Fault). Err (faults.Convert f)) e),
@@ -40,13 +40,13 @@ given_bad fault Bad bad = (
 -- ---- a fault of the options, before which nothing is read or written
 
 module _ {R W : Type 0} (d : Devices R W) (options : List Row) where
-  abbrev HasNoneFailed : ToolFault → Type 0
+  abbrev HasNoneFailed : CommandFault → Type 0
   HasNoneFailed e = HaveFailedBy (culprit e) d d
 
-  none_failed : (e : ToolFault) → IsSetupRefused options e → HasNoneFailed e
+  none_failed : (e : CommandFault) → IsSetupRefused options e → HasNoneFailed e
   none_failed e (inl (is, none)) = subst HasNoneFailed (sym is) (refl, refl)
   none_failed e (inr (n, week, first)) = by _ _ _ first where
-    made : (e : ToolFault) → HasSetupFault options e → HasNoneFailed e
+    made : (e : CommandFault) → HasSetupFault options e → HasNoneFailed e
     made (faults.Header f) h = (refl, refl)
     made (faults.Plan f) h = (refl, refl)
     made other h = absurd h
@@ -59,11 +59,11 @@ module _ {R W : Type 0} (d : Devices R W) (options : List Row) where
     by (Some (x, y, z)) (Some h) (Some c) is = last is
     by p h c is = subst HasNoneFailed (sym is) (refl, refl)
 
-  pub ends_refused : {E : Type 0} (ended : Result ⊤ ToolFault) (fault : ToolFault) (e : Writer E) → IsErrAnd ended (λ y. y ≡ fault) → IsSetupRefused options fault → EndsConverting ended options e e d d
+  pub ends_refused : {E : Type 0} (ended : Result ⊤ CommandFault) (fault : CommandFault) (e : Writer E) → IsErrAnd ended (λ y. y ≡ fault) → IsSetupRefused options fault → EndsConverting ended options e e d d
   ends_refused ended fault e is refused =
       passed ended fault (λ x. EndsConverting x options e e d d) is (none_failed fault refused, (inl (refused, (refl, refl)), refl))
 
 -- the first fault after a valid week, of results that are known
-pub first_fault : {values : Result StationValues ToolFault} {channels : Result ChannelsValue ToolFault} {fault : ToolFault} (options : List Row) (n : ℕ) → IsWeekSet options n → values_set options ≡ values → channels_set options ≡ channels
+pub first_fault : {values : Result StationValues CommandFault} {channels : Result ChannelsValue CommandFault} {fault : CommandFault} (options : List Row) (n : ℕ) → IsWeekSet options n → values_set options ≡ values → channels_set options ≡ channels
     → IsRefusedAfterWeek values channels options fault → IsSetupRefused options fault
-first_fault {values} {channels} {fault} options n week is are h = inr (n, week, subst (λ (c : Result ChannelsValue ToolFault). IsRefusedAfterWeek (values_set options) c options fault) (sym are) (subst (λ (v : Result StationValues ToolFault). IsRefusedAfterWeek v channels options fault) (sym is) h))
+first_fault {values} {channels} {fault} options n week is are h = inr (n, week, subst (λ (c : Result ChannelsValue CommandFault). IsRefusedAfterWeek (values_set options) c options fault) (sym are) (subst (λ (v : Result StationValues CommandFault). IsRefusedAfterWeek v channels options fault) (sym is) h))

@@ -16,12 +16,12 @@ pub use Rattle.gnss_obs.specs.declared.cell.StationValues.{StationValues}
 pub use Rattle.command_line.specs.CommandLine.{FailsParsing, IsCommand, IsFoundIn, RefusesWords, SelectsCommand}
 pub use Rattle.rtcm_command.specs.Commands.{AreRefused, AreRefusedBy, EndsCommand, EndsFound, HasCommand, EndsInspection, HasCompleted, HasDone, HasStopped, HasStoppedEarly, StopsPrinting}
 pub use Rattle.rtcm_command.specs.Converting.{EndsConversion, EndsConverting, MakesFile, StopsConversion}
-pub use Rattle.option_texts.specs.ChannelTexts.{channels_of}
-pub use Rattle.option_texts.specs.Dates.{IsHourOf, IsTimeOf, IsWeekOf}
+pub use Rattle.line_texts.specs.ChannelTexts.{channels_of}
+pub use Rattle.line_texts.specs.Dates.{IsHourOf, IsTimeOf, IsWeekOf}
 pub use Rattle.rtcm_command.specs.Devices.{culprit, of_inspection}
 pub use Rattle.rtcm_bits.specs.Devices.{AreFine, AreUntouched, Devices, Ends, HaveFailedBy, Reader, Writer, devices_of, writer_of}
 unfoldable pub use Rattle.command_faults.specs.ErrorLines.{error_line}
-pub use Rattle.option_texts.specs.Lengths.{epoch_interval_of, interval_of, length_below, position_of}
+pub use Rattle.line_texts.specs.Lengths.{epoch_interval_of, interval_of, length_below, position_of}
 pub use Rattle.obs_epoch.specs.declared.choice.Choice.{Choice}
 pub use Rattle.obs_epoch.specs.declared.choice.EpochCounts.{EpochCounts}
 pub use Rattle.command_faults.specs.Printing.{PrintsFault}
@@ -31,8 +31,8 @@ pub use Rattle.rtcm_command.specs.Reports.{counts_named}
 unfoldable pub use Rattle.rtcm_command.specs.SetupOptions.{plan_set}
 pub use Rattle.rtcm_command.specs.SetupOptions.{HasSetupFault, IsChoiceSet, IsRefusedAfterWeek, IsFromSet, IsRefusedAfterChannels, IsNoonOf, IsNumberOf, IsNumberOr, IsSetupRefused, IsTimeIn, IsUntilSet, IsWeekSet, channels_by, channels_set, choice_by, choice_with, gaps_set, interval_by, interval_in, interval_set, options_of, text_set, tolerance_set, values_by, values_in, values_set, window_by}
 pub use Rattle.command_faults.specs.declared.fault.DateOption.{DateOption}
-pub use Rattle.command_faults.specs.declared.fault.ToolFault.{ToolFault}
-pub use Rattle.command_faults.specs.declared.fault.ToolFault.TheVariants.{Convert}
+pub use Rattle.command_faults.specs.declared.fault.CommandFault.{CommandFault}
+pub use Rattle.command_faults.specs.declared.fault.CommandFault.TheVariants.{Convert}
 pub use Rattle.rtcm_bits.specs.Device.{Device, IsUntouched}
 pub use Rattle.rtcm_convert.specs.Faults.{IsSentAfter, IsSetupFault}
 pub use Rattle.rtcm_convert.specs.Made.{IsMadeEmpty, IsMadeInPart, IsMadeSoFar, IsMadeToLimit}
@@ -41,7 +41,7 @@ pub use Rattle.rtcm_convert.specs.declared.fault.Fault.{Fault}
 pub use Rattle.rtcm_convert.specs.declared.fault.Fault.TheVariants.{BadSetup, Failed, Finished, Memory, NoEpoch, NoneChosen, Read, TooLong, Write}
 pub use Rattle.rtcm_convert.specs.declared.report.Report.{Report}
 pub use Rattle.rtcm_convert.specs.declared.setup.Setup.{Setup}
-pub use Rattle.option_texts.proofs.LineLemmas.{add_count, add_text, add_word, end_line}
+pub use Rattle.line_texts.proofs.LineLemmas.{add_count, add_text, add_word, end_line}
 pub use Rattle.rtcm_bits.specs.SmallLaws.{passed, wrapped}
 pub use Rattle.rtcm_inspect.specs.Fitting.{height_text, position_text}
 pub use Rattle.rtcm_inspect.specs.Printing.{PrintsLine, PrintsSome}

@@ -1,7 +1,7 @@
 -- The values of options.
 use Rattle.command_faults.specs.declared.fault.DateOption.TheVariants as dated
-use Rattle.command_faults.specs.declared.fault.ToolFault.TheVariants as faults
-use Rattle.rtcm_command.proofs.Names.{◌≡◌, ◌∙◌, ℕ, Bool, true, false, nat_lt, ok_or, if◌then◌else◌, codes, IsChoiceSet, IsFromSet, IsUntilSet, Row, choice_by, choice_with, interval_set, tolerance_set, window_by, List, [], Option, Some, None, Result, Ok, Bor, option_map, unwrap_or, refl, sym, ap, subst, ◌↔◌, ParsesUnsigned, ReadsOne, first_value, one_text, first_of, one_of, rows_of, Found, first_value-rows, one_text-rows, IsHourOf, IsNoonOf, IsNumberOf, IsTimeIn, DateOption, ToolFault, interval_by, interval_in, option_and_then, Err, text_set}
+use Rattle.command_faults.specs.declared.fault.CommandFault.TheVariants as faults
+use Rattle.rtcm_command.proofs.Names.{◌≡◌, ◌∙◌, ℕ, Bool, true, false, nat_lt, ok_or, if◌then◌else◌, codes, IsChoiceSet, IsFromSet, IsUntilSet, Row, choice_by, choice_with, interval_set, tolerance_set, window_by, List, [], Option, Some, None, Result, Ok, Bor, option_map, unwrap_or, refl, sym, ap, subst, ◌↔◌, ParsesUnsigned, ReadsOne, first_value, one_text, first_of, one_of, rows_of, Found, first_value-rows, one_text-rows, IsHourOf, IsNoonOf, IsNumberOf, IsTimeIn, DateOption, CommandFault, interval_by, interval_in, option_and_then, Err, text_set}
 
 -- a typed getter returns the number whose decimal form the text is; P and Q are further properties of the parse
 number_of : {E : Type 0} (P Q : List ℕ → Result ℕ E → Type 0) (bits : ℕ) (text : Option (List ℕ)) (n : Option ℕ) → (text ≡ None → n ≡ None)
@@ -28,14 +28,14 @@ text_is f id r o is found =
 -- ---- intervals
 
 -- an interval by the first value found of an option, and by the options as clap's definitions list them
-pub interval_given : (fault : ToolFault) (read : List ℕ → Option ℕ) (f : Found) (id : List ℕ) (r o : Option (Bor (List ℕ))) (interval : Option ℕ) → option_map (λ s. s.now) r ≡ first_value f id → r ≡ o → option_and_then read (option_map (λ s. s.now) o) ≡ interval
+pub interval_given : (fault : CommandFault) (read : List ℕ → Option ℕ) (f : Found) (id : List ℕ) (r o : Option (Bor (List ℕ))) (interval : Option ℕ) → option_map (λ s. s.now) r ≡ first_value f id → r ≡ o → option_and_then read (option_map (λ s. s.now) o) ≡ interval
     → interval_by fault (option_map (λ s. s.now) o) interval ≡ interval_in fault read (first_of id (rows_of f))
 interval_given fault read f id r o interval is found same =
     ap (interval_by fault (option_map (λ s. s.now) o)) (sym same)
     ∙ ap (interval_in fault read) (ap (option_map (λ (s : Bor (List ℕ)). s.now)) (sym found) ∙ is ∙ first_value-rows f id)
 
 -- the fault of a text that isn't an interval
-pub bad_interval : {known fault : ToolFault} (text : Option (List ℕ)) (interval : Option ℕ) → interval_by known text interval ≡ Err fault → fault ≡ known
+pub bad_interval : {known fault : CommandFault} (text : Option (List ℕ)) (interval : Option ℕ) → interval_by known text interval ≡ Err fault → fault ≡ known
 bad_interval None interval e = cc
 bad_interval (Some text) None e = cc
 bad_interval (Some text) (Some n) e = cc
@@ -43,7 +43,7 @@ bad_interval (Some text) (Some n) e = cc
 -- ---- dates and times
 
 -- the same of a time
-pub time_given : (option : DateOption) (otherwise : ℕ) (f : Found) (id : List ℕ) (r o : Option (Bor (List ℕ))) (time : Result ℕ ToolFault) → option_map (λ s. s.now) r ≡ first_value f id → r ≡ o → IsTimeIn option otherwise (option_map (λ s. s.now) o) time
+pub time_given : (option : DateOption) (otherwise : ℕ) (f : Found) (id : List ℕ) (r o : Option (Bor (List ℕ))) (time : Result ℕ CommandFault) → option_map (λ s. s.now) r ≡ first_value f id → r ≡ o → IsTimeIn option otherwise (option_map (λ s. s.now) o) time
     → IsTimeIn option otherwise (first_of id (rows_of f)) time
 time_given option otherwise f id r o time is found h =
     subst (λ (t : Option (List ℕ)). IsTimeIn option otherwise t time) (ap (option_map (λ (s : Bor (List ℕ)). s.now)) (sym found) ∙ is ∙ first_value-rows f id) h
@@ -62,33 +62,33 @@ no_noon text none (Some t) h = none t h
 
 -- ---- the fault of the choice of epochs
 
-bad_tolerance : {fault : ToolFault} (tolerance : Option ℕ) → ok_or tolerance faults.BadTolerance ≡ Err fault → fault ≡ faults.BadTolerance
+bad_tolerance : {fault : CommandFault} (tolerance : Option ℕ) → ok_or tolerance faults.BadTolerance ≡ Err fault → fault ≡ faults.BadTolerance
 bad_tolerance None e = cc
 bad_tolerance (Some n) e = cc
 
 -- what holds of the faults of its options holds of its fault
-module _ (P : ToolFault → Type 0) (each_time : (option : DateOption) → P (faults.BadDate option)) (each_window : P faults.BadWindow) (each_interval : P faults.BadInterval) (each_tolerance : P faults.BadTolerance) where
-  bad_time : (option : DateOption) (otherwise : ℕ) (text : Option (List ℕ)) (e : ToolFault) → IsTimeIn option otherwise text (Err e) → P e
-  bad_time option otherwise None e h = absurd (let bad : ◌≡◌ {A = Result ℕ ToolFault} (Err e) (Ok otherwise) = h in cc)
+module _ (P : CommandFault → Type 0) (each_time : (option : DateOption) → P (faults.BadDate option)) (each_window : P faults.BadWindow) (each_interval : P faults.BadInterval) (each_tolerance : P faults.BadTolerance) where
+  bad_time : (option : DateOption) (otherwise : ℕ) (text : Option (List ℕ)) (e : CommandFault) → IsTimeIn option otherwise text (Err e) → P e
+  bad_time option otherwise None e h = absurd (let bad : ◌≡◌ {A = Result ℕ CommandFault} (Err e) (Ok otherwise) = h in cc)
   bad_time option otherwise (Some text) e h = subst P (sym h.0) (each_time option)
 
-  bad_window : (options : List Row) (from until : Result ℕ ToolFault) (fault : ToolFault) → IsFromSet options from → IsUntilSet options until → window_by from until ≡ Err fault → P fault
+  bad_window : (options : List Row) (from until : Result ℕ CommandFault) (fault : CommandFault) → IsFromSet options from → IsUntilSet options until → window_by from until ≡ Err fault → P fault
   bad_window options (Err e) until fault f u h = subst P (let same : e ≡ fault = cc in same) (bad_time dated.From _ (first_of (codes "from") options) e f)
   bad_window options (Ok a) (Err e) fault f u h = subst P (let same : e ≡ fault = cc in same) (bad_time dated.Until _ (first_of (codes "until") options) e u)
   bad_window options (Ok a) (Ok b) fault f u h = by (nat_lt a b) h where
-    by : (t : Bool) → if◌then◌else◌ {A = Result (ℕ × ℕ) ToolFault} t (Ok (a, b)) (Err faults.BadWindow) ≡ Err fault → P fault
+    by : (t : Bool) → if◌then◌else◌ {A = Result (ℕ × ℕ) CommandFault} t (Ok (a, b)) (Err faults.BadWindow) ≡ Err fault → P fault
     by true e = absurd cc
     by false e = subst P (let same : faults.BadWindow ≡ fault = cc in same) each_window
 
-  bad_grid : (window : Result (ℕ × ℕ) ToolFault) (interval : Result (Option ℕ) ToolFault) (tolerance : Option ℕ → Result ℕ ToolFault) (fault : ToolFault) → (window ≡ Err fault → P fault) → (interval ≡ Err fault → fault ≡ faults.BadInterval) → ((i : Option ℕ) → tolerance i ≡ Err fault → fault ≡ faults.BadTolerance)
+  bad_grid : (window : Result (ℕ × ℕ) CommandFault) (interval : Result (Option ℕ) CommandFault) (tolerance : Option ℕ → Result ℕ CommandFault) (fault : CommandFault) → (window ≡ Err fault → P fault) → (interval ≡ Err fault → fault ≡ faults.BadInterval) → ((i : Option ℕ) → tolerance i ≡ Err fault → fault ≡ faults.BadTolerance)
       → choice_by window interval tolerance ≡ Err fault → P fault
-  bad_grid (Err e) interval tolerance fault w i v h = w (let same : e ≡ fault = cc in ap (λ (x : ToolFault). Err x) same)
-  bad_grid (Ok p) (Err e) tolerance fault w i v h = subst P (sym (i (let same : e ≡ fault = cc in ap (λ (x : ToolFault). Err x) same))) each_interval
+  bad_grid (Err e) interval tolerance fault w i v h = w (let same : e ≡ fault = cc in ap (λ (x : CommandFault). Err x) same)
+  bad_grid (Ok p) (Err e) tolerance fault w i v h = subst P (sym (i (let same : e ≡ fault = cc in ap (λ (x : CommandFault). Err x) same))) each_interval
   bad_grid (Ok p) (Ok interval) tolerance fault w i v h = by (tolerance interval) refl h where
-    by : (r : Result ℕ ToolFault) → tolerance interval ≡ r → choice_with p interval r ≡ Err fault → P fault
-    by (Err e) is h = subst P (sym (v interval (is ∙ (let same : e ≡ fault = cc in ap (λ (x : ToolFault). Err x) same)))) each_tolerance
+    by : (r : Result ℕ CommandFault) → tolerance interval ≡ r → choice_with p interval r ≡ Err fault → P fault
+    by (Err e) is h = subst P (sym (v interval (is ∙ (let same : e ≡ fault = cc in ap (λ (x : CommandFault). Err x) same)))) each_tolerance
     by (Ok n) is h = absurd cc
 
-  pub bad_choice : (options : List Row) (fault : ToolFault) → IsChoiceSet options (Err fault) → P fault
+  pub bad_choice : (options : List Row) (fault : CommandFault) → IsChoiceSet options (Err fault) → P fault
   bad_choice options fault (window, (from, until, f, u, is), h) =
       bad_grid window (interval_set options) (tolerance_set options) fault (λ e. bad_window options from until fault f u (sym is ∙ e)) (bad_interval (first_of (codes "interval") options) _) (λ i. bad_tolerance _) (sym h)

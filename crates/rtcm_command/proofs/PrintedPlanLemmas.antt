@@ -21,8 +21,8 @@ use Rattle.rtcm_scan.specs.Frames.{Framed}
 use Rattle.obs_epoch.specs.Epochs.{values_from}
 use Rattle.obs_epoch.specs.Kinds.{default_leap}
 use Rattle.obs_epoch.specs.Sets.{is_always_decoded, is_decoded, set_of}
-use Rattle.option_texts.specs.ChannelTexts.{channels_text}
-use Rattle.option_texts.specs.LeapSeconds.{leap_at, leap_months, month_number}
+use Rattle.line_texts.specs.ChannelTexts.{channels_text}
+use Rattle.line_texts.specs.LeapSeconds.{leap_at, leap_months, month_number}
 use Rattle.gnss_obs.specs.Dates.{civil_of}
 use Rattle.rtcm_inspect.specs.ChannelLaws.{HasChannels}
 use Rattle.rtcm_inspect.specs.FirstMessages.{first_station}

@@ -13,7 +13,7 @@ use Rattle.rtcm_msg.specs.declared.number.Forms.TheVariants as forms
 use Rattle.rtcm_msg.specs.declared.station.StationParts.{StationParts}
 use Rattle.obs_epoch.specs.Kinds.{default_leap}
 use Rattle.obs_epoch.specs.Sets.{is_always_decoded, is_decoded}
-use Rattle.option_texts.specs.ChannelTexts.{channels_text}
+use Rattle.line_texts.specs.ChannelTexts.{channels_text}
 use Rattle.rtcm_inspect.specs.Fitting.{antenna_words, channel_words, forms_words, further_words, number_words, option_words, other_words, position_word, station_words}
 use Rattle.rtcm_inspect.specs.Signals.{codes_word}
 use Rattle.clap.specs.Walk.{one_of}

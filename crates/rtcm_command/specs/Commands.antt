@@ -24,8 +24,8 @@ use Rattle.command_faults.specs.Status.{fault_status}
 use Rattle.rtcm_command.specs.SetupOptions.{IsNearRefused, IsNearSet, IsNumberOf, IsSetupRefused, gaps_set, has_flag}
 use Rattle.rtcm_inspect.specs.declared.fault.InspectFault.{InspectFault}
 use Rattle.rtcm_inspect.specs.declared.fault.InspectFault.TheVariants as inspect
-use Rattle.command_faults.specs.declared.fault.ToolFault.{ToolFault}
-use Rattle.command_faults.specs.declared.fault.ToolFault.TheVariants as faults
+use Rattle.command_faults.specs.declared.fault.CommandFault.{CommandFault}
+use Rattle.command_faults.specs.declared.fault.CommandFault.TheVariants as faults
 use Rattle.command_line.specs.declared.cli.TheConstants.{VERSION}
 
 -- for the station that these options give, or for all stations
@@ -61,7 +61,7 @@ HasDone name options e e' d d' =
 
 -- The command was stopped by a fault, or it was refused for the date or the interval of its options, and nothing was
 -- read or written.
-abbrev pub HasStopped : {R W : Type 0} → Text → List Row → (d d' : Devices R W) → ToolFault → Type 0
+abbrev pub HasStopped : {R W : Type 0} → Text → List Row → (d d' : Devices R W) → CommandFault → Type 0
 HasStopped name options d d' fault =
     ((name ≡ codes "convert") × StopsConverting options d d' fault)
     ⊎ IsInspected (λ e. EndsInspection (Err e) name options d d') fault
@@ -69,7 +69,7 @@ HasStopped name options d d' fault =
     ⊎ ((name ≡ codes "check") × (gaps_set options ≡ Err fault) × AreUntouched d d')
 
 -- how the command ended; it prints no fault
-abbrev pub EndsCommand : {A R W E : Type 0} → Result A ToolFault → Text → List Row → (e e' : Writer E)
+abbrev pub EndsCommand : {A R W E : Type 0} → Result A CommandFault → Text → List Row → (e e' : Writer E)
     → (d d' : Devices R W) → Type 0
 EndsCommand result name options e e' d d' =
     Ends culprit result d d' (λ _. HasDone name options e e' d d')
@@ -80,7 +80,7 @@ abbrev pub HasCommand : ArgMatches → Type 0
 HasCommand m = (name : Text) × (options : List Row) × IsCommand name × (subcommand_rows_of m ≡ Some (name, options))
 
 -- how the command that was found ended
-abbrev pub EndsFound : {A R W E : Type 0} → Result A ToolFault → Option (Text × List Row) → (e e' : Writer E)
+abbrev pub EndsFound : {A R W E : Type 0} → Result A CommandFault → Option (Text × List Row) → (e e' : Writer E)
     → (d d' : Devices R W) → Type 0
 EndsFound result found e e' d d' = (name : Text) × (options : List Row) × (found ≡ Some (name, options))
     × EndsCommand result name options e e' d d'
@@ -101,7 +101,7 @@ HasCompleted words e e' d d' =
 -- printed.
 abbrev pub HasStoppedEarly : {R W E : Type 0} → List Text → (e e' : Writer E) → (d d' : Devices R W) → Type 0
 HasStoppedEarly words e e' d d' =
-    ((name : Text) × (options : List Row) × (fault : ToolFault) × SelectsCommand words name options
+    ((name : Text) × (options : List Row) × (fault : CommandFault) × SelectsCommand words name options
     × (fault_status fault ≡ 1) × HaveFailedBy (culprit fault) d d'
     × HasStopped name options d d' fault × PrintsLine (error_line fault) e e')
     ⊎ (FailsParsing words DisplayVersion × (d'.reader ≡ d.reader) × PrintsPart VERSION.now d.writer d'.writer
@@ -121,7 +121,7 @@ refusal_line None = error_line faults.Memory
 refusal_line (Some text) = text
 
 -- these options of a command are refused with this fault
-abbrev pub AreRefusedBy : Text → List Row → ToolFault → Type 0
+abbrev pub AreRefusedBy : Text → List Row → CommandFault → Type 0
 AreRefusedBy name options fault =
     ((name ≡ codes "convert") × IsSetupRefused options fault)
     ⊎ ((name ≡ codes "options") × IsNearRefused options fault)
@@ -133,5 +133,5 @@ AreRefusedBy name options fault =
 abbrev pub AreRefused : {E : Type 0} → List Text → (e e' : Writer E) → Type 0
 AreRefused words e e' =
     ((k : ErrorKind) × FailsParsing words k × (k ≡ DisplayVersion → ⊥) × PrintsSome e e')
-    ⊎ ((name : Text) × (options : List Row) × (fault : ToolFault) × SelectsCommand words name options
+    ⊎ ((name : Text) × (options : List Row) × (fault : CommandFault) × SelectsCommand words name options
     × AreRefusedBy name options fault × (fault_status fault ≡ 2) × PrintsLine (error_line fault) e e')

@@ -12,7 +12,7 @@ use Rattle.rtcm_command.specs.Devices.{IsOfConversion, culprit}
 use Rattle.rtcm_inspect.specs.Printing.{PrintsLine}
 use Rattle.rtcm_command.specs.Reports.{report_line}
 use Rattle.clap.specs.Walk.{Row}
-use Rattle.command_faults.specs.declared.fault.ToolFault.{ToolFault}
+use Rattle.command_faults.specs.declared.fault.CommandFault.{CommandFault}
 use Rattle.rtcm_command.specs.SetupOptions.{IsSetupOf, IsSetupRefused}
 
 -- the file of the bytes that the reader had was written, which has an epoch, and this is its report
@@ -49,19 +49,19 @@ StopsConversion x d d' convert.Memory = AreUntouched d d'
 StopsConversion x d d' other = ⊥
 
 -- how a conversion with this setup ended
-abbrev pub EndsConversion : {R W : Type 0} → Result Report ToolFault → Setup → (d d' : Devices R W) → Type 0
+abbrev pub EndsConversion : {R W : Type 0} → Result Report CommandFault → Setup → (d d' : Devices R W) → Type 0
 EndsConversion result x d d' =
     Ends culprit result d d' (λ report. MakesFile x report d d') (IsOfConversion (StopsConversion x d d'))
 
 -- The setup of these options is refused, and nothing was read or written; or the conversion that they ask for was
 -- stopped.
-abbrev pub StopsConverting : {R W : Type 0} → List Row → (d d' : Devices R W) → ToolFault → Type 0
+abbrev pub StopsConverting : {R W : Type 0} → List Row → (d d' : Devices R W) → CommandFault → Type 0
 StopsConverting options d d' fault =
     (IsSetupRefused options fault × AreUntouched d d')
     ⊎ ((x : Setup) × IsSetupOf options x × IsOfConversion (StopsConversion x d d') fault)
 
 -- how such a command ended; it prints no fault
-abbrev pub EndsConverting : {A R W E : Type 0} → Result A ToolFault → List Row → (e e' : Writer E) → (d d' : Devices R W)
+abbrev pub EndsConverting : {A R W E : Type 0} → Result A CommandFault → List Row → (e e' : Writer E) → (d d' : Devices R W)
     → Type 0
 EndsConverting result options e e' d d' =
     Ends culprit result d d' (λ _. IsConverted options d d' e e') (λ fault. StopsConverting options d d' fault × (e' ≡ e))

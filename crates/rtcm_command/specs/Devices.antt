@@ -6,24 +6,24 @@ use Rattle.rtcm_convert.specs.Faults as conversion
 use Rattle.rtcm_convert.specs.declared.fault.Fault.{Fault}
 use Rattle.rtcm_inspect.specs.Devices as inspection
 use Rattle.rtcm_inspect.specs.declared.fault.InspectFault.{InspectFault}
-use Rattle.command_faults.specs.declared.fault.ToolFault.{ToolFault}
-use Rattle.command_faults.specs.declared.fault.ToolFault.TheVariants as faults
+use Rattle.command_faults.specs.declared.fault.CommandFault.{CommandFault}
+use Rattle.command_faults.specs.declared.fault.CommandFault.TheVariants as faults
 
 -- the result of a command other than `convert`
-abbrev pub of_inspection : {A : Type 0} → Result A InspectFault → Result A ToolFault
+abbrev pub of_inspection : {A : Type 0} → Result A InspectFault → Result A CommandFault
 of_inspection (Ok x) = Ok x
 of_inspection (Err e) = Err (faults.Inspect e)
 
 -- such a command was stopped by this fault
-abbrev pub IsInspected : (InspectFault → Type 0) → ToolFault → Type 0
+abbrev pub IsInspected : (InspectFault → Type 0) → CommandFault → Type 0
 IsInspected Stops fault = (e : InspectFault) × (fault ≡ faults.Inspect e) × Stops e
 
 -- a conversion was stopped by this fault
-abbrev pub IsOfConversion : (Fault → Type 0) → ToolFault → Type 0
+abbrev pub IsOfConversion : (Fault → Type 0) → CommandFault → Type 0
 IsOfConversion Stops fault = (e : Fault) × (fault ≡ faults.Convert e) × Stops e
 
 -- the device that failed at a fault
-abbrev pub culprit : ToolFault → Culprit
+abbrev pub culprit : CommandFault → Culprit
 culprit (faults.Convert e) = conversion.culprit e
 culprit (faults.Inspect e) = inspection.culprit e
 culprit other = NoDevice

@@ -16,8 +16,8 @@ use Rattle.obs_epoch.specs.Kinds.{default_leap}
 use Rattle.obs_epoch.specs.Sets.{is_decoded}
 use Rattle.obs_epoch.specs.Times.{timed}
 use Rattle.command_line.specs.CommandLine as rules
-use Rattle.option_texts.specs.LeapSeconds.{leap_at}
-use Rattle.option_texts.specs.Lines.{line}
+use Rattle.line_texts.specs.LeapSeconds.{leap_at}
+use Rattle.line_texts.specs.Lines.{line}
 use Rattle.rtcm_inspect.specs.FirstMessages.{first_station}
 use Rattle.rtcm_inspect.specs.FirstTows.{first_tow}
 use Rattle.rtcm_inspect.specs.Fitting.{option_words, options_text}

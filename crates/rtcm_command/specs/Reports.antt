@@ -1,7 +1,7 @@
 -- The line of a conversion's report, on standard error.
 use Rattle.std.specs.Prelude.{List, ℕ, [], ◌∷◌, codes, decimal}
 use Rattle.rtcm_convert.specs.declared.report.Report.{Report}
-use Rattle.option_texts.specs.Lines.{line}
+use Rattle.line_texts.specs.Lines.{line}
 
 -- each count after its name
 abbrev pub counts_named : Report → List (List ℕ)

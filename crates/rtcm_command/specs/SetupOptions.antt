@@ -24,13 +24,13 @@ use Rattle.gnss_obs.specs.declared.fault.PlanFault.TheVariants as plans
 use Rattle.rinex_file.specs.Texts.{HeaderLists, trimmed_texts, first_fault, fields}
 use Rattle.gnss_obs.specs.declared.cell.StationValues.{StationValues}
 use Rattle.rtcm_convert.specs.declared.setup.Setup.{Setup}
-use Rattle.option_texts.specs.ChannelTexts.{channels_of}
-use Rattle.option_texts.specs.Dates.{IsHourOf, IsTimeOf, IsWeekOf}
-use Rattle.option_texts.specs.Lengths.{epoch_interval_of, interval_of, length_below, position_of, tolerance_of}
+use Rattle.line_texts.specs.ChannelTexts.{channels_of}
+use Rattle.line_texts.specs.Dates.{IsHourOf, IsTimeOf, IsWeekOf}
+use Rattle.line_texts.specs.Lengths.{epoch_interval_of, interval_of, length_below, position_of, tolerance_of}
 use Rattle.command_faults.specs.declared.fault.DateOption.{DateOption}
 use Rattle.command_faults.specs.declared.fault.DateOption.TheVariants as dated
-use Rattle.command_faults.specs.declared.fault.ToolFault.{ToolFault}
-use Rattle.command_faults.specs.declared.fault.ToolFault.TheVariants as faults
+use Rattle.command_faults.specs.declared.fault.CommandFault.{CommandFault}
+use Rattle.command_faults.specs.declared.fault.CommandFault.TheVariants as faults
 
 -- the options of the command line, as clap's definitions list them
 abbrev pub options_of : ArgMatches → List Row
@@ -68,7 +68,7 @@ abbrev pub IsWeekSet : List Row → ℕ → Type 0
 IsWeekSet options n = IsWeekOf (text_set options (codes "week")) n
 
 -- it gives none, which is this fault
-abbrev pub IsWeekRefused : List Row → ToolFault → Type 0
+abbrev pub IsWeekRefused : List Row → CommandFault → Type 0
 IsWeekRefused options fault = (fault ≡ faults.BadDate dated.Week) × ((n : ℕ) → IsWeekSet options n → ⊥)
 
 -- noon of the date in a text, if there is a text
@@ -82,7 +82,7 @@ abbrev pub IsNearSet : List Row → Option ℕ → Type 0
 IsNearSet options near = IsNoonOf (first_of (codes "near") options) near
 
 -- its text isn't a date, which is this fault
-abbrev pub IsNearRefused : List Row → ToolFault → Type 0
+abbrev pub IsNearRefused : List Row → CommandFault → Type 0
 IsNearRefused options fault = (fault ≡ faults.BadDate dated.Near) × ((near : Option ℕ) → IsNearSet options near → ⊥)
 
 -- the flag of this name is given
@@ -94,68 +94,68 @@ abbrev pub forms_set : List Row → Forms
 forms_set options = if bytes_eq (text_set options (codes "msm")) (codes "all") then All else FourAndSeven
 
 -- the interval that was read from a text, if there is a text, or this fault
-abbrev pub interval_by : ToolFault → Option (List ℕ) → Option ℕ → Result (Option ℕ) ToolFault
+abbrev pub interval_by : CommandFault → Option (List ℕ) → Option ℕ → Result (Option ℕ) CommandFault
 interval_by fault None interval = Ok None
 interval_by fault (Some text) None = Err fault
 interval_by fault (Some text) (Some n) = Ok (Some n)
 
-abbrev pub interval_in : ToolFault → (List ℕ → Option ℕ) → Option (List ℕ) → Result (Option ℕ) ToolFault
+abbrev pub interval_in : CommandFault → (List ℕ → Option ℕ) → Option (List ℕ) → Result (Option ℕ) CommandFault
 interval_in fault read text = interval_by fault text (option_and_then read text)
 
 -- the interval that `--gaps` gives, if it is given, or its fault
-abbrev pub gaps_set : List Row → Result (Option ℕ) ToolFault
+abbrev pub gaps_set : List Row → Result (Option ℕ) CommandFault
 gaps_set options = interval_in faults.BadGaps interval_of (first_of (codes "gaps") options)
 
 -- ---- the choice of epochs
 
 -- the time in a text, or this fault; without a text it is `otherwise`
-abbrev pub IsTimeIn : DateOption → (otherwise : ℕ) → Option (List ℕ) → Result ℕ ToolFault → Type 0
+abbrev pub IsTimeIn : DateOption → (otherwise : ℕ) → Option (List ℕ) → Result ℕ CommandFault → Type 0
 IsTimeIn option otherwise None time = time ≡ Ok otherwise
 IsTimeIn option otherwise (Some text) (Ok t) = IsTimeOf text t
 IsTimeIn option otherwise (Some text) (Err fault) =
     (fault ≡ faults.BadDate option) × ((t : ℕ) → IsTimeOf text t → ⊥)
 
 -- the times that `--from` and `--until` give; without them the window is that of every epoch
-abbrev pub IsFromSet : List Row → Result ℕ ToolFault → Type 0
+abbrev pub IsFromSet : List Row → Result ℕ CommandFault → Type 0
 IsFromSet options = IsTimeIn dated.From every_epoch.from (first_of (codes "from") options)
 
-abbrev pub IsUntilSet : List Row → Result ℕ ToolFault → Type 0
+abbrev pub IsUntilSet : List Row → Result ℕ CommandFault → Type 0
 IsUntilSet options = IsTimeIn dated.Until every_epoch.until (first_of (codes "until") options)
 
 -- the window from a time until a later one, or the fault of a time
-abbrev pub window_by : (from until : Result ℕ ToolFault) → Result (ℕ × ℕ) ToolFault
+abbrev pub window_by : (from until : Result ℕ CommandFault) → Result (ℕ × ℕ) CommandFault
 window_by (Err e) until = Err e
 window_by (Ok from) (Err e) = Err e
 window_by (Ok from) (Ok until) = if nat_lt from until then Ok (from, until) else Err faults.BadWindow
 
-abbrev pub IsWindowSet : List Row → Result (ℕ × ℕ) ToolFault → Type 0
-IsWindowSet options window = (from : Result ℕ ToolFault) × (until : Result ℕ ToolFault) × IsFromSet options from
+abbrev pub IsWindowSet : List Row → Result (ℕ × ℕ) CommandFault → Type 0
+IsWindowSet options window = (from : Result ℕ CommandFault) × (until : Result ℕ CommandFault) × IsFromSet options from
     × IsUntilSet options until × (window ≡ window_by from until)
 
 -- the interval that `--interval` gives, if it is given, or its fault
-abbrev pub interval_set : List Row → Result (Option ℕ) ToolFault
+abbrev pub interval_set : List Row → Result (Option ℕ) CommandFault
 interval_set options = interval_in faults.BadInterval epoch_interval_of (first_of (codes "interval") options)
 
 -- the tolerance that `--tolerance` gives at an interval, or its fault
-abbrev pub tolerance_set : List Row → Option ℕ → Result ℕ ToolFault
+abbrev pub tolerance_set : List Row → Option ℕ → Result ℕ CommandFault
 tolerance_set options interval =
     ok_or (tolerance_of interval (text_set options (codes "tolerance"))) faults.BadTolerance
 
 -- the choice of these settings, or the first fault: that of the window, of the interval, or of the tolerance at it
-abbrev pub choice_with : ℕ × ℕ → Option ℕ → Result ℕ ToolFault → Result Choice ToolFault
+abbrev pub choice_with : ℕ × ℕ → Option ℕ → Result ℕ CommandFault → Result Choice CommandFault
 choice_with window interval (Err e) = Err e
 choice_with window interval (Ok tolerance) =
     Ok (record { from = window.0; until = window.1; interval = interval; tolerance = tolerance })
 
-abbrev pub choice_by : Result (ℕ × ℕ) ToolFault → Result (Option ℕ) ToolFault → (Option ℕ → Result ℕ ToolFault)
-    → Result Choice ToolFault
+abbrev pub choice_by : Result (ℕ × ℕ) CommandFault → Result (Option ℕ) CommandFault → (Option ℕ → Result ℕ CommandFault)
+    → Result Choice CommandFault
 choice_by (Err e) interval tolerance = Err e
 choice_by (Ok window) (Err e) tolerance = Err e
 choice_by (Ok window) (Ok interval) tolerance = choice_with window interval (tolerance interval)
 
 -- the choice of epochs that the options give, or the fault of the first option that is invalid
-abbrev pub IsChoiceSet : List Row → Result Choice ToolFault → Type 0
-IsChoiceSet options choice = (window : Result (ℕ × ℕ) ToolFault) × IsWindowSet options window
+abbrev pub IsChoiceSet : List Row → Result Choice CommandFault → Type 0
+IsChoiceSet options choice = (window : Result (ℕ × ℕ) CommandFault) × IsWindowSet options window
     × (choice ≡ choice_by window (interval_set options) (tolerance_set options))
 
 -- ---- the setup
@@ -169,11 +169,11 @@ unfoldable pub plan_set : List Row → Result PlanValue PlanFault
 plan_set options = plan_of (plan_texts options)
 
 -- the channels that the options give, or the fault of their text
-abbrev pub channels_by : Option ChannelsValue → Result ChannelsValue ToolFault
+abbrev pub channels_by : Option ChannelsValue → Result ChannelsValue CommandFault
 channels_by None = Err faults.BadChannels
 channels_by (Some channels) = Ok channels
 
-abbrev pub channels_set : List Row → Result ChannelsValue ToolFault
+abbrev pub channels_set : List Row → Result ChannelsValue CommandFault
 channels_set options = channels_by (channels_of (text_set options (codes "glonass-channels")))
 
 -- the plan with the channels that the options give
@@ -182,16 +182,16 @@ IsPlanSet options plan = (p : PlanValue) × (channels : ChannelsValue) × (plan_
     × (channels_set options ≡ Ok channels) × (plan ≡ with_channels p channels)
 
 -- the station values of a position and an antenna height, or the fault of the text that isn't one
-abbrev pub values_by : Option (ℤ × ℤ × ℤ) → Option ℕ → Result StationValues ToolFault
+abbrev pub values_by : Option (ℤ × ℤ × ℤ) → Option ℕ → Result StationValues CommandFault
 values_by None height = Err faults.BadPosition
 values_by (Some p) None = Err faults.BadHeight
 values_by (Some (x, y, z)) (Some h) = Ok (record { x = x; y = y; z = z; height = h })
 
-abbrev pub values_in : (position height : List ℕ) → Result StationValues ToolFault
+abbrev pub values_in : (position height : List ℕ) → Result StationValues CommandFault
 values_in position height = values_by (position_of position) (length_below (2 ^ 16) height)
 
 -- the station values that the options give, or the fault of the option that is invalid
-abbrev pub values_set : List Row → Result StationValues ToolFault
+abbrev pub values_set : List Row → Result StationValues CommandFault
 values_set options = values_in (text_set options (codes "position")) (text_set options (codes "antenna-height"))
 
 -- The setup of a conversion has the value of each option, by its name.
@@ -209,19 +209,19 @@ pub record IsSetupOf (options : List Row) (x : Setup) : Type 0 where
 
 -- Of these options a text of the header has this fault; or the texts are valid, and the plan has this fault, or memory
 -- ran out for a signal before its fault.
-abbrev pub HasSetupFault : List Row → ToolFault → Type 0
+abbrev pub HasSetupFault : List Row → CommandFault → Type 0
 HasSetupFault options (faults.Header e) = first_fault (texts_set options) None fields ≡ Some e
 HasSetupFault options (faults.Plan e) = (first_fault (texts_set options) None fields ≡ None)
     × (((e ≡ plans.Memory) × HasSignal (plan_texts options)) ⊎ (plan_set options ≡ Err e))
 HasSetupFault options other = ⊥
 
 -- the fault of the choice of epochs comes before that of the setup
-abbrev pub IsRefusedAfterChannels : List Row → ToolFault → Type 0
+abbrev pub IsRefusedAfterChannels : List Row → CommandFault → Type 0
 IsRefusedAfterChannels options fault =
     IsChoiceSet options (Err fault) ⊎ ((choice : Choice) × IsChoiceSet options (Ok choice) × HasSetupFault options fault)
 
 -- the fault of the position or the height, and then that of the channels, comes before these
-abbrev pub IsRefusedAfterWeek : Result StationValues ToolFault → Result ChannelsValue ToolFault → List Row → ToolFault
+abbrev pub IsRefusedAfterWeek : Result StationValues CommandFault → Result ChannelsValue CommandFault → List Row → CommandFault
     → Type 0
 IsRefusedAfterWeek (Err e) channels options fault = fault ≡ e
 IsRefusedAfterWeek (Ok values) (Err e) options fault = fault ≡ e
@@ -229,7 +229,7 @@ IsRefusedAfterWeek (Ok values) (Ok channels) options fault = IsRefusedAfterChann
 
 -- These options are refused with this fault: that of the week, else that of the position, else that of the height, else
 -- that of the channels, else that of the choice of epochs, else that of a text of the header, else that of the plan.
-abbrev pub IsSetupRefused : List Row → ToolFault → Type 0
+abbrev pub IsSetupRefused : List Row → CommandFault → Type 0
 IsSetupRefused options fault =
     IsWeekRefused options fault
     ⊎ ((n : ℕ) × IsWeekSet options n × IsRefusedAfterWeek (values_set options) (channels_set options) options fault)

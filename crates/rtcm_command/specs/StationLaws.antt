@@ -8,7 +8,7 @@ use Rattle.gnss_obs.specs.Values.{no_values}
 use Rattle.gnss_obs.specs.Weeks.{weeks}
 use Rattle.obs_epoch.specs.Epochs.{values_from}
 use Rattle.obs_epoch.specs.Kinds.{default_leap}
-use Rattle.option_texts.specs.ChannelTexts.{channels_text}
+use Rattle.line_texts.specs.ChannelTexts.{channels_text}
 use Rattle.rtcm_inspect.specs.Fitting.{height_text, position_text}
 use Rattle.rtcm_command.specs.SetupOptions.{IsNumberOf, IsNumberOr, IsWeekSet, channels_set, text_set, values_set}
 

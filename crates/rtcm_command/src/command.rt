@@ -24,7 +24,7 @@ use crate::options::{
 };
 use clap::ArgMatches;
 use clap::error::ErrorKind;
-use command_faults::{ToolFault, error_line, exit_status};
+use command_faults::{CommandFault, error_line, exit_status};
 use command_line::{VERSION, drop_matches, parse};
 use rtcm_bits::{Counted, Deliver};
 use rtcm_inspect::{
@@ -82,7 +82,7 @@ fn run<R: Read, W: Deliver, E: Deliver>(
     reader: &mut Counted<R>,
     writer: &mut Counted<W>,
     faults: &mut Counted<E>,
-) -> Result<(), ToolFault>
+) -> Result<(), CommandFault>
     requires { HasCommand matches.now }
     ensures { Runs R.remaining reader.old reader.new W.contents W.waiting writer.old writer.new
         E.contents E.waiting faults.old faults.new (EndsFound result (subcommand_rows_of matches.now)) }
@@ -113,10 +113,10 @@ fn run<R: Read, W: Deliver, E: Deliver>(
 }
 
 /// Returns the result of a command other than `convert`.
-fn of_inspection(ended: Result<(), InspectFault>) -> Result<(), ToolFault>
+fn of_inspection(ended: Result<(), InspectFault>) -> Result<(), CommandFault>
     ensures { result ≡ of_inspection ended }
 {
-    ended.map_err(ToolFault::Inspect)
+    ended.map_err(CommandFault::Inspect)
 }
 
 /// Converts the stream as the options ask, and prints the report. A failure of its writer is
@@ -127,7 +127,7 @@ fn convert<R: Read, W: Deliver, E: Deliver>(
     reader: &mut Counted<R>,
     writer: &mut Counted<W>,
     faults: &mut Counted<E>,
-) -> Result<(), ToolFault>
+) -> Result<(), CommandFault>
     ensures { Runs R.remaining reader.old reader.new W.contents W.waiting writer.old writer.new
         E.contents E.waiting faults.old faults.new (EndsConverting result (options_of options.now)) }
 {
@@ -162,7 +162,7 @@ fn answer<W: Deliver, E: Deliver>(
             let ended = print_text(VERSION.as_bytes(), writer);
             exit_status(of_inspection(ended), faults)
         }
-        ErrorKind::OutOfMemory => exit_status(Err(ToolFault::Memory), faults),
+        ErrorKind::OutOfMemory => exit_status(Err(CommandFault::Memory), faults),
         _ => {
             print_refusal(refusal_text(alloc, error), faults);
             2
@@ -187,7 +187,7 @@ fn print_refusal<E: Deliver>(text: Option<String>, faults: &mut Counted<E>)
 {
     match &text {
         Some(text) => print_line(text.as_bytes(), faults),
-        None => print_line(error_line(ToolFault::Memory).as_bytes(), faults),
+        None => print_line(error_line(CommandFault::Memory).as_bytes(), faults),
     }
 }
 
@@ -195,12 +195,12 @@ fn print_refusal<E: Deliver>(text: Option<String>, faults: &mut Counted<E>)
 /// out, or a word isn't UTF-8.
 pub fn refuse_words<E: Deliver>(error: &io::Error, faults: &mut Counted<E>) -> u8
     ensures memory { error_kind error.now ≡ kinds.OutOfMemory
-        → (result ≡ 1) × Writes E.contents E.waiting faults.old faults.new (PrintsLine (error_line ToolFault.Memory)) }
+        → (result ≡ 1) × Writes E.contents E.waiting faults.old faults.new (PrintsLine (error_line CommandFault.Memory)) }
     ensures words { error_kind error.now ≢ kinds.OutOfMemory
         → (result ≡ 2) × Writes E.contents E.waiting faults.old faults.new (PrintsLine not_text_line) }
 {
     if error.kind() == io::ErrorKind::OutOfMemory {
-        return exit_status(Err(ToolFault::Memory), faults);
+        return exit_status(Err(CommandFault::Memory), faults);
     }
     print_line(b"error: a word of the command line isn't UTF-8\n", faults);
     2

@@ -6,7 +6,7 @@ ghost use Rattle.rtcm_convert.specs.SetupValues.{IsBad};
 ghost use Rattle.rtcm_command.specs.Converting.{EndsConversion};
 ghost use Rattle.rtcm_command.specs.Reports.{report_line};
 
-use command_faults::ToolFault;
+use command_faults::CommandFault;
 use rtcm_bits::{Counted, Deliver};
 use rtcm_convert::{Fault, Report, Setup, convert_stream};
 use rtcm_inspect::OutputLine;
@@ -26,15 +26,15 @@ pub fn run_convert<R: Read, W: Deliver>(
     setup: Setup,
     reader: &mut Counted<R>,
     writer: &mut Counted<W>,
-) -> Result<Report, ToolFault>
+) -> Result<Report, CommandFault>
     ensures ends { Changes R.remaining reader.old reader.new W.contents W.waiting writer.old writer.new
         (EndsConversion result setup) }
-    ensures bad_setup { result ≡ Err (ToolFault.Convert Fault.BadSetup) ↔ IsBad setup }
+    ensures bad_setup { result ≡ Err (CommandFault.Convert Fault.BadSetup) ↔ IsBad setup }
     ensures widest { reader.new.widest ≤ max reader.old.widest longest_frame }
 {
     match convert_stream(alloc, setup, reader, writer) {
         Ok(report) => Ok(report),
-        Err(fault) => Err(ToolFault::Convert(fault)),
+        Err(fault) => Err(CommandFault::Convert(fault)),
     }
 }
 

@@ -7,7 +7,7 @@ ghost use Rattle.gnss_obs.specs.SignalLists.{IsDefined};
 ghost use Rattle.obs_epoch.specs.Heard.{is_by_bit};
 ghost use Rattle.obs_epoch.specs.Kinds.{default_leap};
 ghost use Rattle.rinex_file.specs.TextsOf.{lists_of};
-ghost use Rattle.option_texts.specs.Lengths.{longest_interval};
+ghost use Rattle.line_texts.specs.Lengths.{longest_interval};
 ghost use Rattle.rtcm_command.specs.SetupOptions.{HasSetupFault, IsChoiceSet, IsNearRefused, IsNearSet, IsNumberOf};
 ghost use Rattle.rtcm_command.specs.SetupOptions.{IsNumberOr, IsTimeIn, IsWindowSet, channels_set, interval_set};
 ghost use Rattle.rtcm_command.specs.SetupOptions.{plan_texts, tolerance_set};
@@ -15,10 +15,10 @@ ghost use Rattle.rtcm_command.specs.SetupOptions.{IsSetupOf, IsWeekRefused, IsWe
 ghost use Rattle.rtcm_command.specs.SetupOptions.{forms_set, options_of, plan_set, text_set, texts_set, values_set};
 
 use clap::ArgMatches;
-use command_faults::{DateOption, ToolFault};
+use command_faults::{DateOption, CommandFault};
 use gnss_obs::{BySystem, Channels, GpsTime, Interval, Plan, PlanFault, StationValues};
 use obs_epoch::{Choice, Gather, GatherSetup, LEAP_SECONDS};
-use option_texts::epoch_interval_of;
+use line_texts::epoch_interval_of;
 use rinex_file::{HeaderTexts, Texts};
 use rtcm_convert::Setup;
 use rtcm_inspect::{hour_of, interval_of, length_below, position_of, week_of};
@@ -31,11 +31,11 @@ use std::alloc::Global;
 /// # Errors
 ///
 /// `BadDate` if the text isn't a week or a date.
-pub fn start_week_of(options: &ArgMatches) -> Result<u32, ToolFault>
+pub fn start_week_of(options: &ArgMatches) -> Result<u32, CommandFault>
     ensures { MatchResult result (IsWeekSet (options_of options.now)) (IsWeekRefused (options_of options.now)) }
 {
     let week = week_of(text(options, "week"));
-    week.ok_or(ToolFault::BadDate(DateOption::Week))
+    week.ok_or(CommandFault::BadDate(DateOption::Week))
 }
 
 /// Returns noon of the date near the first observations, or `None` if the option isn't given.
@@ -43,13 +43,13 @@ pub fn start_week_of(options: &ArgMatches) -> Result<u32, ToolFault>
 /// # Errors
 ///
 /// `BadDate` if the text isn't a date.
-pub fn near_of(options: &ArgMatches) -> Result<Option<GpsTime>, ToolFault>
+pub fn near_of(options: &ArgMatches) -> Result<Option<GpsTime>, CommandFault>
     ensures { MatchResult result (IsNearSet (options_of options.now)) (IsNearRefused (options_of options.now)) }
 {
     match options.get_str("near") {
         Some(text) => match hour_of(text, 12) {
             Some(noon) => Ok(Some(noon)),
-            None => Err(ToolFault::BadDate(DateOption::Near)),
+            None => Err(CommandFault::BadDate(DateOption::Near)),
         },
         None => Ok(None),
     }
@@ -60,14 +60,14 @@ pub fn near_of(options: &ArgMatches) -> Result<Option<GpsTime>, ToolFault>
 /// # Errors
 ///
 /// `BadGaps` if the text isn't an interval.
-pub fn gaps_of(options: &ArgMatches) -> Result<Option<u64>, ToolFault>
+pub fn gaps_of(options: &ArgMatches) -> Result<Option<u64>, CommandFault>
     ensures value { result ≡ gaps_set (options_of options.now) }
     ensures fits { IfOk result (λ gap. IfSome gap (λ n. (0 < n) × (n ≤ longest_interval))) }
 {
     match options.get_str("gaps") {
         Some(text) => match interval_of(text) {
             Some(interval) => Ok(Some(interval)),
-            None => Err(ToolFault::BadGaps),
+            None => Err(CommandFault::BadGaps),
         },
         None => Ok(None),
     }
@@ -78,7 +78,7 @@ pub fn gaps_of(options: &ArgMatches) -> Result<Option<u64>, ToolFault>
 /// # Errors
 ///
 /// `BadDate`, `BadWindow`, `BadInterval` or `BadTolerance` of the first option that isn't valid.
-pub fn choice_of(options: &ArgMatches) -> Result<Choice, ToolFault>
+pub fn choice_of(options: &ArgMatches) -> Result<Choice, CommandFault>
     ensures { IsChoiceSet (options_of options.now) result }
 {
     let (from, until) = window_of(options)?;
@@ -93,7 +93,7 @@ pub fn choice_of(options: &ArgMatches) -> Result<Choice, ToolFault>
 }
 
 /// Returns the times from which on and before which epochs are written.
-fn window_of(options: &ArgMatches) -> Result<(u64, u64), ToolFault>
+fn window_of(options: &ArgMatches) -> Result<(u64, u64), CommandFault>
     ensures { IsWindowSet (options_of options.now) result }
 {
     let from = time_of(options, "from", DateOption::From, 0);
@@ -102,7 +102,7 @@ fn window_of(options: &ArgMatches) -> Result<(u64, u64), ToolFault>
     if from < until {
         Ok((from, until))
     } else {
-        Err(ToolFault::BadWindow)
+        Err(CommandFault::BadWindow)
     }
 }
 
@@ -112,37 +112,37 @@ fn time_of(
     name: &str,
     option: DateOption,
     otherwise: u64,
-) -> Result<u64, ToolFault>
+) -> Result<u64, CommandFault>
     ensures { IsTimeIn option otherwise (first_of name.now (options_of options.now)) result }
 {
     match options.get_str(name) {
-        Some(text) => match option_texts::time_of(text) {
+        Some(text) => match line_texts::time_of(text) {
             Some(time) => Ok(time.milliseconds()),
-            None => Err(ToolFault::BadDate(option)),
+            None => Err(CommandFault::BadDate(option)),
         },
         None => Ok(otherwise),
     }
 }
 
 /// Returns the interval of the epochs that are written, or `None` if the option isn't given.
-fn epochs_of(options: &ArgMatches) -> Result<Option<Interval>, ToolFault>
+fn epochs_of(options: &ArgMatches) -> Result<Option<Interval>, CommandFault>
     ensures { result ≡ interval_set (options_of options.now) }
 {
     match options.get_str("interval") {
         Some(text) => match epoch_interval_of(text) {
             Some(interval) => Ok(Some(interval)),
-            None => Err(ToolFault::BadInterval),
+            None => Err(CommandFault::BadInterval),
         },
         None => Ok(None),
     }
 }
 
 /// Returns the tolerance of the times of epochs in milliseconds, at this interval.
-fn tolerance_of(options: &ArgMatches, interval: &Option<Interval>) -> Result<u16, ToolFault>
+fn tolerance_of(options: &ArgMatches, interval: &Option<Interval>) -> Result<u16, CommandFault>
     ensures { result ≡ tolerance_set (options_of options.now) interval.now }
 {
-    let tolerance = option_texts::tolerance_of(text(options, "tolerance"), *interval);
-    tolerance.ok_or(ToolFault::BadTolerance)
+    let tolerance = line_texts::tolerance_of(text(options, "tolerance"), *interval);
+    tolerance.ok_or(CommandFault::BadTolerance)
 }
 
 /// Returns whether the flag of this name is given.
@@ -165,15 +165,15 @@ pub fn setup_of(
     initial: StationValues,
     channels: Channels,
     choice: Choice,
-) -> Result<Setup, ToolFault>
+) -> Result<Setup, CommandFault>
     requires week { IsWeekSet (options_of options.now) start_week }
     requires values { values_set (options_of options.now) ≡ Ok initial }
     requires channels { channels_set (options_of options.now) ≡ Ok channels }
     requires choice { IsChoiceSet (options_of options.now) (Ok choice) }
     ensures { MatchResult result (IsSetupOf (options_of options.now)) (HasSetupFault (options_of options.now)) }
 {
-    let texts = HeaderTexts::new(&texts_of(options)).map_err(ToolFault::Header)?;
-    let plan = plan_of(alloc, options).map_err(ToolFault::Plan)?;
+    let texts = HeaderTexts::new(&texts_of(options)).map_err(CommandFault::Header)?;
+    let plan = plan_of(alloc, options).map_err(CommandFault::Plan)?;
     let gatherer = GatherSetup {
         plan: plan.with_channels(channels),
         start_week,
@@ -266,13 +266,13 @@ pub fn station_of(options: &ArgMatches) -> Option<u16>
 /// # Errors
 ///
 /// `BadPosition` or `BadHeight` if a text has another form, or a length that no message can have.
-pub fn values_of(options: &ArgMatches) -> Result<StationValues, ToolFault>
+pub fn values_of(options: &ArgMatches) -> Result<StationValues, CommandFault>
     ensures { result ≡ values_set (options_of options.now) }
 {
     let position = position_of(text(options, "position"));
-    let (x, y, z) = position.ok_or(ToolFault::BadPosition)?;
+    let (x, y, z) = position.ok_or(CommandFault::BadPosition)?;
     let height = length_below(text(options, "antenna-height"), 1 << 16);
-    let height = height.ok_or(ToolFault::BadHeight)? as u16;
+    let height = height.ok_or(CommandFault::BadHeight)? as u16;
     Ok(StationValues { x, y, z, height })
 }
 
@@ -281,9 +281,9 @@ pub fn values_of(options: &ArgMatches) -> Result<StationValues, ToolFault>
 /// # Errors
 ///
 /// `BadChannels` if the text has another form.
-pub fn channels_of(options: &ArgMatches) -> Result<Channels, ToolFault>
+pub fn channels_of(options: &ArgMatches) -> Result<Channels, CommandFault>
     ensures { result ≡ channels_set (options_of options.now) }
 {
     let channels = rtcm_inspect::channels_of(text(options, "glonass-channels"));
-    channels.ok_or(ToolFault::BadChannels)
+    channels.ok_or(CommandFault::BadChannels)
 }

@@ -53,9 +53,9 @@ unfoldable pub use Rattle.rtcm_inspect.specs.Fitting.{options_line}
 pub use Rattle.rtcm_inspect.specs.Fitting.{antenna_words, forms_words, further_words, height_text, number_start, number_words, options_text, position_text, position_word, station_words}
 unfoldable pub use Rattle.rtcm_inspect.specs.FrameLines.{frame_line, number_word}
 pub use Rattle.rtcm_inspect.specs.Inspected.{inspected, inspected_at, inspected_in, inspected_of}
-pub use Rattle.option_texts.specs.Lines.{line, with_words}
+pub use Rattle.line_texts.specs.Lines.{line, with_words}
 pub use Rattle.rtcm_inspect.specs.Listing.{EndsListing, Lists, ListsAll, ListsDecided, ListsPart, ListsToLimit, ListsUpTo, StopsListing, WritesLine, listing_line, listing_lines, piece_bytes}
-pub use Rattle.option_texts.specs.Metres.{metres, size_text}
+pub use Rattle.line_texts.specs.Metres.{metres, size_text}
 pub use Rattle.rtcm_inspect.specs.NearWeek.{IsNearestWeek, IsWeekFor, IsWeekNear, half_week}
 pub use Rattle.rtcm_inspect.specs.OptionOutput.{AreOptionsOf, AreOptionsRefused}
 pub use Rattle.rtcm_inspect.specs.Printing.{EndsPrinting, PrintsLine, PrintsText}
@@ -121,4 +121,4 @@ pub use Rattle.std.specs.Result.{IsErrAnd}
 pub use Rattle.std.specs.Str.{bytes_eq}
 pub use Rattle.std.proofs.Common.{All, Bool, Err, FitsSigned, IfOk, IfSome, List, MatchResult, None, Ok, OnErr, OnOk, Option, Result, Some, [], ap, append-nil, append_assoc, ap₂, arith, count_ones, decimal, drop, false, filter, find, get_or, inl, inr, is_some, length, length-append, length-drop, length-take, map, nat_eq, negsuc, not, of_z, pos, refl, replicate, rules, subst, suc, sym, take, take-append-drop, to_z, true, w64, zero, ℕ, ℤ, ◌&&◌, ◌%◌, ◌*◌, ◌++◌, ◌+◌, ◌-◌, ◌/◌, ◌<◌, ◌==◌, ◌^◌, ◌||◌, ◌∙◌, ◌∷◌, ◌≡◌, ◌≤◌}
 pub use Rattle.gnss_obs.specs.declared.civil.Civil.{Civil}
-pub use Rattle.option_texts.specs.Lengths.{coordinate_by, coordinate_of, cut, length_below, position_of}
+pub use Rattle.line_texts.specs.Lengths.{coordinate_by, coordinate_of, cut, length_below, position_of}

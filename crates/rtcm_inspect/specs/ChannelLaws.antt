@@ -2,7 +2,7 @@
 use Rattle.std.specs.Prelude.{◌≡◌, ◌≤◌, ◌==◌, ◌&&◌, ℕ, List, find, flat_map, nat_le, Option, Some, option_map}
 use Rattle.gnss_obs.specs.Channels.{AreChannels, ChannelsValue, most_number, number_at, slot_count}
 use Rattle.rtcm_scan.specs.Frames.{Framed}
-use Rattle.option_texts.specs.ChannelTexts.{channels_of, channels_text}
+use Rattle.line_texts.specs.ChannelTexts.{channels_of, channels_text}
 use Rattle.rtcm_inspect.specs.StreamChannels.{channels_in, sent_in}
 
 -- the text of channels is read as these channels

@@ -8,7 +8,7 @@ use Rattle.rinex_file.specs.Times.{AreTimes}
 use Rattle.rinex_file.specs.Value.{FileValue, Stamped}
 use Rattle.rinex_file.specs.declared.read.times.EpochTimes.{EpochTimes}
 use Rattle.rtcm_inspect.specs.DateTexts.{moment_words, times_lines}
-use Rattle.option_texts.specs.Lines.{line}
+use Rattle.line_texts.specs.Lines.{line}
 use Rattle.rtcm_inspect.specs.declared.check.CheckOptions.{CheckOptions}
 
 -- the numbers of epochs, satellite lines and events of a file

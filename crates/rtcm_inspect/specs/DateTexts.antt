@@ -3,8 +3,8 @@ use Rattle.std.specs.Prelude.{ℕ, ◌+◌, ◌*◌, ◌/◌, List, [], ◌∷�
 use Rattle.gnss_obs.specs.Dates.{civil_of}
 use Rattle.gnss_obs.specs.declared.civil.Civil.{Civil}
 use Rattle.rinex_file.specs.declared.read.times.EpochTimes.{EpochTimes}
-use Rattle.option_texts.specs.Digits.{four_digits, three_digits, two_digits}
-use Rattle.option_texts.specs.Lines.{line}
+use Rattle.line_texts.specs.Digits.{four_digits, three_digits, two_digits}
+use Rattle.line_texts.specs.Lines.{line}
 
 -- year, month and day
 abbrev pub date_text : Civil → List ℕ

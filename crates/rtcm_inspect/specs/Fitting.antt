@@ -12,10 +12,10 @@ use Rattle.rtcm_scan.specs.Frames.{Framed}
 use Rattle.gnss_obs.specs.Values.{PlanValue, planned_of}
 use Rattle.gnss_obs.specs.Channels.{ChannelsValue}
 use Rattle.obs_epoch.specs.Sets.{is_always_decoded}
-use Rattle.option_texts.specs.ChannelTexts.{channels_text}
+use Rattle.line_texts.specs.ChannelTexts.{channels_text}
 use Rattle.rtcm_inspect.specs.FirstMessages.{first_station}
-use Rattle.option_texts.specs.Lines.{line, with_words}
-use Rattle.option_texts.specs.Metres.{metres}
+use Rattle.line_texts.specs.Lines.{line, with_words}
+use Rattle.line_texts.specs.Metres.{metres}
 use Rattle.rtcm_inspect.specs.Signals.{codes_word, forms_had, plan_in}
 
 -- X, Y and Z in metres

@@ -3,7 +3,7 @@ use Rattle.std.specs.Prelude.{ℕ, nat_le, List, [], ◌∷◌, length, take, co
 use Rattle.std.specs.List.{flat_map}
 use Rattle.rtcm_bits.specs.Bits.{bits_of, number}
 use Rattle.rtcm_scan.specs.Frames.{Framed}
-use Rattle.option_texts.specs.Lines.{line}
+use Rattle.line_texts.specs.Lines.{line}
 
 -- the message number (DF002), which is the first 12 bits, or a dash if there are fewer
 unfoldable pub number_word : List ℕ → List ℕ

@@ -6,7 +6,7 @@ use Rattle.rtcm_msg.specs.declared.station.StationParts.{StationParts}
 use Rattle.rtcm_scan.specs.Frames.{Framed}
 use Rattle.rtcm_inspect.specs.FirstMessages.{first_station}
 use Rattle.rtcm_inspect.specs.Fitting.{height_text, position_text}
-use Rattle.option_texts.specs.Lengths.{length_below, position_of}
+use Rattle.line_texts.specs.Lengths.{length_below, position_of}
 
 -- of every station message in range
 abbrev pub ArePositionsRead : Type 0

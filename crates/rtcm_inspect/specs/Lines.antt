@@ -2,7 +2,7 @@
 use Rattle.std.specs.Prelude.{ℕ, ◌+◌, ◌*◌, length}
 use Rattle.gnss_system.specs.Signals.{most_signals}
 use Rattle.gnss_system.specs.Systems.{systems}
-use Rattle.option_texts.specs.Lines.{longest_line, longest_number}
+use Rattle.line_texts.specs.Lines.{longest_line, longest_number}
 
 -- the most bytes before the line of a frame or a message
 abbrev pub longest_prefix : ℕ

@@ -6,7 +6,7 @@ use Rattle.obs_epoch.specs.Kinds.{default_leap}
 use Rattle.rtcm_inspect.specs.FirstMessages.{mixed}
 use Rattle.rtcm_inspect.specs.FirstTows.{first_tow}
 use Rattle.rtcm_inspect.specs.Fitting.{options_text}
-use Rattle.option_texts.specs.LeapSeconds.{leap_at}
+use Rattle.line_texts.specs.LeapSeconds.{leap_at}
 use Rattle.rtcm_inspect.specs.NearWeek.{IsWeekFor}
 use Rattle.rtcm_inspect.specs.Signals.{set_had, valued_in}
 use Rattle.rtcm_inspect.specs.declared.fault.InspectFault.{InspectFault}

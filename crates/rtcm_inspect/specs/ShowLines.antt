@@ -13,8 +13,8 @@ use Rattle.rtcm_msg.specs.Msm.{MsmValue, time_of_week}
 use Rattle.rtcm_msg.specs.Decoding.{message_at, message_with}
 use Rattle.rtcm_msg.specs.Numbers.{default_set, message_number}
 use Rattle.rtcm_inspect.specs.FrameLines.{number_word}
-use Rattle.option_texts.specs.Lines.{line}
-use Rattle.option_texts.specs.Metres.{metres}
+use Rattle.line_texts.specs.Lines.{line}
+use Rattle.line_texts.specs.Metres.{metres}
 
 -- the antenna height (DF028), which message 1006 has
 abbrev pub height_words : Option ℕ → List (List ℕ)

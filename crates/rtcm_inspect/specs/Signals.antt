@@ -23,7 +23,7 @@ use Rattle.gnss_obs.specs.Plans.{below, with_channels}
 use Rattle.gnss_obs.specs.Channels.{ChannelsValue}
 use Rattle.gnss_obs.specs.Values.{PlanValue, plan_with}
 use Rattle.rtcm_inspect.specs.Inspected.{inspected, inspected_at}
-use Rattle.option_texts.specs.Lines.{line}
+use Rattle.line_texts.specs.Lines.{line}
 use Rattle.rtcm_inspect.specs.StreamChannels.{channels_in}
 use Rattle.gnss_obs.specs.HeardCells.{HeardCell}
 use Rattle.rtcm_inspect.specs.declared.fault.InspectFault.{InspectFault}

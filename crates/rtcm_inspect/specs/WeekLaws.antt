@@ -9,7 +9,7 @@ use Rattle.rtcm_msg.specs.declared.number.MsmSet.{MsmSet}
 use Rattle.obs_epoch.specs.Heard.{heard_in}
 use Rattle.obs_epoch.specs.declared.setup.GatherSetup.{GatherSetup}
 use Rattle.obs_epoch.specs.Times.{Timed, timed}
-use Rattle.option_texts.specs.Dates.{IsWeekOf}
+use Rattle.line_texts.specs.Dates.{IsWeekOf}
 use Rattle.rtcm_inspect.specs.FirstTows.{first_tow}
 use Rattle.rtcm_inspect.specs.NearWeek.{IsNearestWeek, IsWeekNear, half_week}
 

@@ -10,14 +10,14 @@ ghost use Rattle.rtcm_inspect.specs.Checking.{AcceptsFiles, EndsCheck, ReadsGaps
 ghost use Rattle.rinex_file.specs.Read.EpochSteps.{HasReadEpochs};
 ghost use Rattle.rtcm_inspect.specs.DateTexts.{longest_times, moment_bytes, moment_words, step_line, time_line};
 ghost use Rattle.rtcm_inspect.specs.DateTexts.{times_lines};
-ghost use Rattle.option_texts.specs.Lengths.{longest_interval};
+ghost use Rattle.line_texts.specs.Lengths.{longest_interval};
 ghost use Rattle.rtcm_inspect.specs.Printing.{EndsPrinting};
-ghost use Rattle.option_texts.specs.Lines.{with_words};
+ghost use Rattle.line_texts.specs.Lines.{with_words};
 
 use crate::fault::InspectFault;
 use crate::printing::{deliver_waiting, print_text};
 use gnss_obs::GpsTime;
-use option_texts::OutputLine;
+use line_texts::OutputLine;
 use rinex_file::{Counts, EpochReader, EpochTimes, FileSummary, NextEpoch};
 use rtcm_bits::{Counted, Deliver};
 use std::alloc::Global;

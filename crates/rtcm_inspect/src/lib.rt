@@ -1,6 +1,6 @@
 //! What is in a stream or a file, as text: the frames, messages and signals of an RTCM 3 stream,
 //! the options of a conversion that fit it, and the counts of an observation file. Lines, weeks,
-//! dates, lengths and GLONASS channels of texts, and leap seconds are those of `option_texts`.
+//! dates, lengths and GLONASS channels of texts, and leap seconds are those of `line_texts`.
 #![tactic(auto)]
 
 mod check;
@@ -18,7 +18,7 @@ mod stream_channels;
 pub use check::{CheckOptions, run_check, run_check_with};
 pub use fault::{InspectFault, add_header_error, add_inspection_error, add_plan_error};
 pub use listing::{Listing, list, run_frames, run_show};
-pub use option_texts::{
+pub use line_texts::{
     OutputLine, channels_of, hour_of, interval_of, leap_at, length_below, position_of, week_of,
 };
 pub use options::run_options;

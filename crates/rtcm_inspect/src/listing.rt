@@ -7,7 +7,7 @@ ghost use Rattle.rtcm_scan.specs.Scan.{most_bytes};
 ghost use Rattle.rtcm_msg.specs.Station.{InRange};
 ghost use Rattle.rtcm_msg.specs.Numbers.{message_number};
 ghost use Rattle.rtcm_inspect.specs.FrameLines.{frame_line, frame_lines, number_word};
-ghost use Rattle.option_texts.specs.Lines.{with_words};
+ghost use Rattle.line_texts.specs.Lines.{with_words};
 ghost use Rattle.rtcm_inspect.specs.Lines.{longest_prefix};
 ghost use Rattle.rtcm_inspect.specs.ShowLines.{fault_words};
 ghost use Rattle.rtcm_msg.specs.Fields.{GivesViewed};
@@ -17,7 +17,7 @@ ghost use Rattle.rtcm_inspect.specs.ShowLines.{msm_line, show_line, show_lines, 
 ghost use Rattle.rtcm_inspect.specs.Listing.{EndsListing, listing_line, listing_lines};
 
 use crate::fault::InspectFault;
-use option_texts::OutputLine;
+use line_texts::OutputLine;
 use rtcm_bits::{BitReader, Counted, Deliver, DeviceFailed};
 use rtcm_msg::{MsgFault, MsmSet, MsmView, StationParts, View, look, look_in, time_of_week};
 use rtcm_scan::{Frame, FrameSink, Framer, MOST_BYTES, ScanFault, laws};

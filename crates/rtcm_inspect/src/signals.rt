@@ -16,7 +16,7 @@ use arrayvec::ArrayVec;
 use gnss_obs::Signal;
 use gnss_system::{MOST_SIGNALS, SYSTEMS, System};
 use obs_epoch::SignalCounts;
-use option_texts::OutputLine;
+use line_texts::OutputLine;
 use rtcm_bits::{Counted, Deliver};
 use std::alloc::Global;
 use std::io::Read;

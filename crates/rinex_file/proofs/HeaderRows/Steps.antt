@@ -5,7 +5,7 @@ use Rattle.gnss_system.proofs.SystemLaws.{each_system}
 use Rattle.rinex_file.proofs.HeaderRows.Letters.{has_fits}
 use Rattle.std.proofs.lemmas.Slice.Eq.{bytes_eq-Decides}
 use Rattle.std.specs.Str.{bytes_eq}
-use Rattle.rinex_fields.specs.Limits.{label_columns}
+use Rattle.rinex_columns.specs.Limits.{label_columns}
 use Rattle.rinex_file.proofs.HeaderRows.Texts.{each_field, equal_or, length-left, none_same, same_some}
 use Rattle.rinex_file.proofs.HeaderRows.Types.{content_first}
 use Rattle.gnss_system.specs.declared.system.System.TheVariants.{Glonass}

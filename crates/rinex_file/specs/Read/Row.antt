@@ -5,7 +5,7 @@ use Rattle.gnss_system.specs.Satellites.{satellites}
 use Rattle.rinex_file.specs.Value.{SignalValues, SatelliteRow}
 use Rattle.rinex_file.specs.FileValues.{AreSignalValues, IsRow, has_some_value}
 use Rattle.rinex_file.specs.Blanks.{filled_to}
-use Rattle.rinex_fields.specs.Limits.{signal_columns}
+use Rattle.rinex_columns.specs.Limits.{signal_columns}
 
 -- a satellite of this system, if this number of signals is planned
 abbrev pub IsRowOf : System → ℕ → SatelliteRow → Type 0

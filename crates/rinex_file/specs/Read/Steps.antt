@@ -5,7 +5,7 @@ use Rattle.rinex_file.specs.declared.read.parser_state.AddedRow.{AddedRow}
 use Rattle.rinex_file.specs.declared.read.fault.ReadFault.{ReadFault}
 use Rattle.rinex_file.specs.declared.read.epochs.Reading.{Reading}
 use Rattle.rinex_file.specs.declared.read.parser_state.ParserState.{ParserState}
-use Rattle.rinex_fields.specs.Numbers.{joined}
+use Rattle.rinex_columns.specs.Numbers.{joined}
 use Rattle.rinex_file.specs.Value.{FileValue}
 use Rattle.rinex_file.specs.FileValues.{IsFileValue}
 use Rattle.rinex_file.specs.File.{file_text, file_lines}

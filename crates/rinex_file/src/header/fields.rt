@@ -2,7 +2,7 @@
 ghost use Rattle.std.specs.Prelude.{◌≡◌, ◌<◌, ◌≤◌, length};
 ghost use Rattle.rinex_file.specs.Texts.{field_name, fields_of, front_of, is_required, label_of, place_of, text_count};
 ghost use Rattle.rinex_file.specs.Texts.{width_of};
-ghost use Rattle.rinex_fields.specs.Limits.{content_columns, label_columns};
+ghost use Rattle.rinex_columns.specs.Limits.{content_columns, label_columns};
 
 use HeaderField::*;
 use std::fmt::{self, Debug, Formatter, Write};

@@ -13,7 +13,7 @@ use crate::header::lists::{slot_rows, slots_in, slots_with, type_rows, types_wit
 use crate::header::rows::{HeaderRow, ROW_COUNT, row_at};
 use crate::header::texts::HeaderTexts;
 use gnss_obs::{BySystem, GpsTime, Interval, Plan, StationValues, System};
-use rinex_fields::{Line, labelled};
+use rinex_columns::{Line, labelled};
 use std::marker::Model;
 
 /// The contents of a header.

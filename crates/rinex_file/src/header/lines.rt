@@ -4,14 +4,14 @@ ghost use Rattle.gnss_obs.specs.Dates.{civil_of};
 ghost use Rattle.gnss_system.specs.SystemValues.{value_of};
 ghost use Rattle.rinex_file.specs.Header.{lengths, texts_line, position_line, delta_line};
 ghost use Rattle.rinex_file.specs.Header.{first_line, interval_line, flagged_letter, version_by};
-ghost use Rattle.rinex_fields.specs.HeaderLine.{header_line};
-ghost use Rattle.rinex_fields.specs.Limits.{label_columns};
+ghost use Rattle.rinex_columns.specs.HeaderLine.{header_line};
+ghost use Rattle.rinex_columns.specs.Limits.{label_columns};
 
 use crate::header::fields::HeaderField;
 use crate::header::texts::HeaderTexts;
 use gnss_obs::{GpsTime, Interval, StationValues};
 use gnss_system::{BySystem, SYSTEMS, System};
-use rinex_fields::{Line, labelled, put, put_fixed, put_left, put_seconds, put_whole};
+use rinex_columns::{Line, labelled, put, put_fixed, put_left, put_seconds, put_whole};
 
 // The labels, in columns 61 to 80, of the rows that are read and written by `labelled`.
 

@@ -8,12 +8,12 @@ ghost use Rattle.gnss_obs.specs.Channels.{most_number, slot_count};
 ghost use Rattle.gnss_obs.specs.SignalLists.{indices, IsOf};
 ghost use Rattle.rinex_file.specs.Header.{type_front, type_columns, type_rows, types_of};
 ghost use Rattle.rinex_file.specs.Header.{codes_of, most_type_rows, slots_with, type_of, types_with};
-ghost use Rattle.rinex_fields.specs.HeaderLine.{header_line};
-ghost use Rattle.rinex_fields.specs.Limits.{most_line};
+ghost use Rattle.rinex_columns.specs.HeaderLine.{header_line};
+ghost use Rattle.rinex_columns.specs.Limits.{most_line};
 ghost use Rattle.rinex_file.specs.Slots.{slot_text, slot_rows, slots_front, slots_in_line, slots_of};
 
 use gnss_obs::{Channels, GREATEST_SLOT, Signal, System};
-use rinex_fields::{Line, labelled, put, put_whole};
+use rinex_columns::{Line, labelled, put, put_whole};
 
 /// Largest number of types in a line.
 pub(crate) const TYPES_IN_LINE: usize = 13;

@@ -7,13 +7,13 @@ ghost use Rattle.rinex_file.specs.Texts.{fields, text_of, text_count, place_of, 
 ghost use Rattle.rinex_file.specs.Texts.{trimmed_texts, has_row, has_text, is_printable};
 ghost use Rattle.rinex_file.specs.TextsOf.{lists_of};
 ghost use Rattle.rinex_file.specs.FileValues.{AreTexts};
-ghost use Rattle.rinex_fields.specs.Limits.{content_columns};
+ghost use Rattle.rinex_columns.specs.Limits.{content_columns};
 
 use crate::header::fault::HeadFault;
 use crate::header::fields::HeaderField;
 use crate::write::satellite::trimmed_len;
 use arrayvec::ArrayVec;
-use rinex_fields::{CONTENT_COLUMNS, put};
+use rinex_columns::{CONTENT_COLUMNS, put};
 use std::marker::Model;
 
 /// The texts of a header, as the caller passes them. Trailing blanks are ignored.

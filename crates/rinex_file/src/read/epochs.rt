@@ -15,7 +15,7 @@ use crate::read::lines::{Found, Lines};
 use crate::read::parser_state::{AddedRow, Expected, ParserState, Refusal};
 use crate::read::times::EpochTimes;
 use gnss_obs::GpsTime;
-use rinex_fields::Line;
+use rinex_columns::Line;
 use rtcm_bits::Counted;
 use std::alloc::Global;
 use std::io::Read;

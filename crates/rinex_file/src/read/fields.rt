@@ -4,13 +4,13 @@ ghost use Rattle.std.specs.Prelude.{◌≡◌, ◌↔◌, ◌+◌, ◌^◌, ◌�
 ghost use Rattle.std.specs.Prelude.{length, take, drop, replicate, slice_index, IfSome, IsTrue, Some};
 ghost use Rattle.rinex_file.specs.FileValues.{FitsColumns};
 ghost use Rattle.rinex_file.specs.Lines.{field};
-ghost use Rattle.rinex_fields.specs.Read.{ReadsExactly};
+ghost use Rattle.rinex_columns.specs.Read.{ReadsExactly};
 ghost use Rattle.rinex_file.specs.Words.{AreBelow, AreWithin, digit_columns};
 ghost use Rattle.rinex_file.specs.Words.{blanks, has_minus, twos_of};
 
 use crate::write::lanes::template;
 use gnss_obs::Thousandths;
-use rinex_fields::signed;
+use rinex_columns::signed;
 use std::simd::prelude::*;
 
 /// The largest digit in each column of a value. The last two columns have none.

@@ -4,7 +4,7 @@ ghost use Rattle.gnss_system.specs.Signals.{table};
 ghost use Rattle.gnss_obs.specs.SignalLists.{indices};
 ghost use Rattle.gnss_obs.specs.Values.{planned_of};
 ghost use Rattle.rinex_file.specs.Header.{has_label, is_of_types, type_rows, row_at};
-ghost use Rattle.rinex_fields.specs.Limits.{label_columns};
+ghost use Rattle.rinex_columns.specs.Limits.{label_columns};
 ghost use Rattle.rinex_file.specs.Read.Progress.{AreValid, IsHeadAt, counted, signals_begun, is_chosen, fits};
 ghost use Rattle.rinex_file.specs.Read.HeaderSteps.{begins_with, expected_if, known_line, SameFrom, TakesHeaderLine};
 ghost use Rattle.rinex_file.specs.Read.HeaderSteps.{TakesTypes, RefusesTypes, with_types, AreItemsBefore};
@@ -22,7 +22,7 @@ use crate::read::parser_state::{Expected, Refusal};
 use crate::read::slots::SlotsSoFar;
 use crate::read::types::TypesSoFar;
 use gnss_obs::{BySystem, GpsTime, Interval, StationValues, System};
-use rinex_fields::{Line, put_left, read_labelled};
+use rinex_columns::{Line, put_left, read_labelled};
 use std::alloc::Global;
 use std::marker::Model;
 

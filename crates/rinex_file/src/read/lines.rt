@@ -4,10 +4,10 @@ ghost use Rattle.std.specs.Io.KnownBytes.{Consumes, prepend_known};
 ghost use Rattle.arrayvec.specs.ArrayVec.{array_vec_len};
 ghost use Rattle.rinex_file.specs.Blocks.{MovesBytes, LeavesRest};
 ghost use Rattle.rinex_file.specs.Exact.{IsFound, IsLine};
-ghost use Rattle.rinex_fields.specs.Limits.{most_line};
+ghost use Rattle.rinex_columns.specs.Limits.{most_line};
 
 use memchr::memchr;
-use rinex_fields::{Line, MOST_LINE, put};
+use rinex_columns::{Line, MOST_LINE, put};
 use rtcm_bits::Counted;
 use std::io::Read;
 use std::marker::Model;
@@ -151,7 +151,7 @@ pub(crate) struct Lines {
 impl Model for Lines {
     ghost use Rattle.std.specs.Prelude.{◌≤◌, drop, length};
     ghost use Rattle.rinex_file.specs.Blocks.{LinesRead, last_line};
-    ghost use Rattle.rinex_fields.specs.Limits.{most_line};
+    ghost use Rattle.rinex_columns.specs.Limits.{most_line};
 
     ghost Value = { LinesRead };
 

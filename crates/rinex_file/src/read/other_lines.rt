@@ -7,7 +7,7 @@ ghost use Rattle.gnss_obs.specs.GatheredEpochs.{IsCoordinate};
 ghost use Rattle.rinex_file.specs.FileValues.{IsTime};
 ghost use Rattle.rinex_file.specs.Header.{first_line, height_line, interval_line, position_line, version_by};
 ghost use Rattle.rinex_file.specs.Lines.{epoch_line};
-ghost use Rattle.rinex_fields.specs.Read.{number_in, ReadsExactly};
+ghost use Rattle.rinex_columns.specs.Read.{number_in, ReadsExactly};
 ghost use Rattle.rinex_file.specs.Read.HeaderSteps.{ReadsOrRefusesTexts};
 ghost use Rattle.rinex_file.specs.Read.Progress.{IsPosition};
 
@@ -19,7 +19,7 @@ use crate::header::texts::HeaderTexts;
 use crate::write::line::epoch_line;
 use gnss_obs::laws::calendar;
 use gnss_obs::{Civil, GREATEST_COORDINATE, GpsTime, Interval, LEAST_COORDINATE, StationValues};
-use rinex_fields::{Line, columns, digits_in, is_same, signed};
+use rinex_columns::{Line, columns, digits_in, is_same, signed};
 
 /// Returns the byte in place of the letter of a file's systems, or None for a line that isn't the
 /// first.

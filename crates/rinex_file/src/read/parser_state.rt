@@ -22,7 +22,7 @@ use crate::write::line::event_line;
 use arrayvec::ArrayVec;
 use gnss_obs::{GpsTime, StationValues};
 use gnss_system::{BySystem, SYSTEMS, System};
-use rinex_fields::{Line, is_same};
+use rinex_columns::{Line, is_same};
 use std::alloc::Global;
 
 /// The kind of line that is expected next.

@@ -9,18 +9,18 @@ ghost use Rattle.gnss_system.specs.SystemValues.{value_of};
 ghost use Rattle.rinex_file.specs.FileValues.{IsFrom, AreSignalValues, IsSatelliteRow};
 ghost use Rattle.rinex_file.specs.Blanks.{IsEnded, filled_to};
 ghost use Rattle.rinex_file.specs.Lines.{satellite_line, signal_text, lli_byte};
-ghost use Rattle.rinex_fields.specs.Numbers.{padded};
+ghost use Rattle.rinex_columns.specs.Numbers.{padded};
 ghost use Rattle.rinex_file.specs.Value.{no_signal_values};
-ghost use Rattle.rinex_fields.specs.Read.{ReadsExactly, some_if};
+ghost use Rattle.rinex_columns.specs.Read.{ReadsExactly, some_if};
 ghost use Rattle.rinex_file.specs.Read.Row.{AreEntries, IsRowOf, signal_from, last_signal};
-ghost use Rattle.rinex_fields.specs.Limits.{signal_columns};
+ghost use Rattle.rinex_columns.specs.Limits.{signal_columns};
 
 use crate::read::fields::{field_in, is_blank_at};
 use crate::values::{SatelliteRow, SignalValues};
 use crate::write::satellite::strength_column;
 use arrayvec::ArrayVec;
 use gnss_system::{BySystem, MOST_SIGNALS, System};
-use rinex_fields::SIGNAL_COLUMNS;
+use rinex_columns::SIGNAL_COLUMNS;
 
 /// Returns the loss-of-lock indicator in the LLI column of a phase, or None if it is no such
 /// column.

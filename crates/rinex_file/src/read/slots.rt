@@ -1,13 +1,13 @@
 //! The channels of GLONASS in a header, read back.
 ghost use Rattle.std.specs.Prelude.{◌≡◌, ◌≤◌, ◌<◌, ◌+◌, ◌*◌, ℕ, List, None, Some, IfSome, drop, is_some, length, take};
 ghost use Rattle.gnss_obs.specs.Channels.{most_number, no_channels, slot_count};
-ghost use Rattle.rinex_fields.specs.Read.{digits_in};
+ghost use Rattle.rinex_columns.specs.Read.{digits_in};
 ghost use Rattle.rinex_file.specs.Read.HeaderSteps.{IsLineOfSlots, TakesOrRefusesSlots};
 ghost use Rattle.rinex_file.specs.Slots.{SlotNumber, channel_text, last_slot, slots_in_line, slots_of};
 
 use crate::header::lists::{SLOTS_IN_LINE, slots_with};
 use gnss_obs::{Channels, GREATEST_CHANNEL_NUMBER, GREATEST_SLOT};
-use rinex_fields::{columns, digits_in, is_same};
+use rinex_columns::{columns, digits_in, is_same};
 
 /// What was read of the channels.
 #[derive(Drop)]

@@ -10,7 +10,7 @@ ghost use Rattle.rinex_file.specs.Read.HeaderSteps.{HasSignalAt, IsLineOfTypes, 
 use crate::header::lists::{TYPES_IN_LINE, type_rows, types_with};
 use crate::read::parser_state::Refusal;
 use gnss_obs::{Signal, Signals, System};
-use rinex_fields::{columns, digits_in, is_same};
+use rinex_columns::{columns, digits_in, is_same};
 use std::alloc::Global;
 
 /// What was read of the types of a system.

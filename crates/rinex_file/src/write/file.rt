@@ -1,6 +1,6 @@
 //! The text of a file that was read.
 ghost use Rattle.std.specs.Prelude.{◌≡◌, ◌++◌, OnOk, IfOk};
-ghost use Rattle.rinex_fields.specs.Numbers.{joined};
+ghost use Rattle.rinex_columns.specs.Numbers.{joined};
 ghost use Rattle.rinex_file.specs.File.{change_lines, file_text};
 ghost use Rattle.rinex_file.specs.Read.Keeping.{HaveRowsRoom, stamped_text};
 
@@ -11,7 +11,7 @@ use crate::write::line::epoch_line;
 use crate::write::satellite::put_values;
 use crate::write::{write_event, write_header};
 use gnss_obs::StationValues;
-use rinex_fields::{Line, MOST_LINE};
+use rinex_columns::{Line, MOST_LINE};
 use rtcm_bits::Counted;
 use std::alloc::{AllocError, Global};
 

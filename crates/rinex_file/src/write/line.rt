@@ -6,7 +6,7 @@ ghost use Rattle.rinex_file.specs.File.{event_line};
 ghost use Rattle.rinex_file.specs.Lines.{epoch_line};
 
 use gnss_obs::GpsTime;
-use rinex_fields::{Line, put, put_seconds, put_two, put_whole};
+use rinex_columns::{Line, put, put_seconds, put_two, put_whole};
 
 /// Writes the first line of an epoch, replacing the contents of the buffer: date and time of day,
 /// the flag 0 and the number of its satellites, which fits its three columns up to 999.

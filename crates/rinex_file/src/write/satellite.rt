@@ -7,16 +7,16 @@ ghost use Rattle.gnss_system.specs.Signals.{most_signals};
 ghost use Rattle.gnss_obs.specs.Values.{AreHeld};
 ghost use Rattle.rinex_file.specs.FileValues.{FitsColumns, HaveRoom};
 ghost use Rattle.rinex_file.specs.Value.{entries_of, satellite_row, row_among, row_in_epoch};
-ghost use Rattle.rinex_fields.specs.Numbers.{padded};
+ghost use Rattle.rinex_columns.specs.Numbers.{padded};
 ghost use Rattle.rinex_file.specs.Blanks.{trimmed};
 ghost use Rattle.rinex_file.specs.Lines.{field, strength_byte, signal_text, satellite_line};
 ghost use Rattle.rinex_file.specs.Rows.{AreApart, IsBlankBut, HasColumns};
-ghost use Rattle.rinex_fields.specs.Limits.{most_line, signal_columns, value_columns};
+ghost use Rattle.rinex_columns.specs.Limits.{most_line, signal_columns, value_columns};
 
 use crate::values::SignalValues;
 use crate::write::lanes::{columns_in, columns_in_two, columns_of, columns_of_range};
 use gnss_obs::{Cell, Epoch, Plan, Sat, System, Thousandths, strength_digit};
-use rinex_fields::{Line, MOST_LINE, SIGNAL_COLUMNS, VALUE_COLUMNS, put};
+use rinex_columns::{Line, MOST_LINE, SIGNAL_COLUMNS, VALUE_COLUMNS, put};
 use std::marker::Model;
 use std::simd::prelude::*;
 

@@ -1,4 +1,4 @@
-use Rattle.command_faults.specs.declared.fault.ToolFault.TheVariants as faults
+use Rattle.command_faults.specs.declared.fault.CommandFault.TheVariants as faults
 use Rattle.command_faults.proofs.Names.{◌∙◌, error_words, words_in_one}
 use Rattle.command_faults.proofs.error_lines.add_error.Goals as goal
 

@@ -1,6 +1,6 @@
 use Rattle.rtcm_command.proofs.ConvertLemmas.{ends_refused, first_fault}
-use Rattle.rtcm_command.proofs.Names.{◌≡◌, ◌∙◌, inl, inr, refl, subst, sym, ℕ, List, Result, Ok, Err, BadSetup, Report, EndsConverting, PrintsLine, options_of, ToolFault, devices_of, passed, writer_of}
-use Rattle.command_faults.specs.declared.fault.ToolFault.TheVariants as faults
+use Rattle.rtcm_command.proofs.Names.{◌≡◌, ◌∙◌, inl, inr, refl, subst, sym, ℕ, List, Result, Ok, Err, BadSetup, Report, EndsConverting, PrintsLine, options_of, CommandFault, devices_of, passed, writer_of}
+use Rattle.command_faults.specs.declared.fault.CommandFault.TheVariants as faults
 use Rattle.rtcm_command.proofs.command.convert.Goals as goal
 
 pub returns-in_err-start_week : goal.returns-in_err-start_week
@@ -44,7 +44,7 @@ returns g c =
         c.in_ok-setup.setup,
         c.in_ok-report.report,
         c.in_ok-setup.ensures,
-        (λ bad. let no : ◌≡◌ {A = Result Report ToolFault} (Ok c.in_ok-report.report) (Err (faults.Convert BadSetup)) = end.bad_setup.1 bad in cc),
+        (λ bad. let no : ◌≡◌ {A = Result Report CommandFault} (Ok c.in_ok-report.report) (Err (faults.Convert BadSetup)) = end.bad_setup.1 bad in cc),
         end.ends.1,
         subst (λ (t : List ℕ). PrintsLine t (at c.args.faults.now) (at c.print_line.new.faults)) (c.as_bytes.ensures.text ∙ c.report_line.ensures) c.print_line.ensures,
       ),

@@ -1,4 +1,4 @@
-use Rattle.command_faults.specs.declared.fault.ToolFault.TheVariants as faults
+use Rattle.command_faults.specs.declared.fault.CommandFault.TheVariants as faults
 use Rattle.rtcm_command.proofs.OptionLemmas.{interval_given}
 use Rattle.rtcm_command.proofs.Names.{◌∙◌, codes, refl, sym, None, Some, epoch_interval_of, found_of}
 use Rattle.rtcm_command.proofs.options.epochs_of.Goals as goal

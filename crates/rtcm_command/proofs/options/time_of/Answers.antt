@@ -1,6 +1,6 @@
 use Rattle.rtcm_command.proofs.OptionLemmas.{time_given}
 use Rattle.rtcm_command.proofs.Names.{refl, subst, sym, None, Some, Ok, Err, IsTimeOf, found_of}
-use Rattle.command_faults.specs.declared.fault.ToolFault.TheVariants as faults
+use Rattle.command_faults.specs.declared.fault.CommandFault.TheVariants as faults
 use Rattle.rtcm_command.proofs.options.time_of.Goals as goal
 
 pub returns-in-Some-time_of : goal.returns-in-Some-time_of

@@ -1,7 +1,7 @@
 use Rattle.rtcm_inspect.proofs.Names.{◌≡◌, ◌+◌, ◌*◌, ◌≤◌, List, length, flat_map, take, HeardCell, AreSignalCounts, plan_had, with_words}
 use Rattle.gnss_system.specs.Systems.{systems}
 use Rattle.rtcm_inspect.specs.Fitting.{other_words}
-use Rattle.option_texts.specs.Lines.{longest_line}
+use Rattle.line_texts.specs.Lines.{longest_line}
 use Rattle.rtcm_inspect.specs.Lines.{longest_plan}
 use Rattle.rtcm_inspect.proofs.options.add_others.Given as goal
 

@@ -1,4 +1,4 @@
-use Rattle.option_texts.specs.LeapSeconds.{leap_at}
+use Rattle.line_texts.specs.LeapSeconds.{leap_at}
 use Rattle.rtcm_inspect.specs.OptionOutput.{IsDatedLine}
 use Rattle.rtcm_inspect.proofs.Names.{◌≡◌, ◌∙◌, ap, sym, subst, refl, ℕ, List, None, Option, Some, Framed, IsWeekFor, MsmSet, first_tow, options_text, set_had}
 use Rattle.rtcm_inspect.proofs.options.dated_line.Goals as goal

@@ -1,9 +1,0 @@
-use Rattle.option_texts.specs.ChannelTexts.{channels_text}
-use Rattle.option_texts.proofs.Names.{◌≡◌, ◌*◌, ◌≤◌, length, take}
-use Rattle.option_texts.proofs.channel_texts.channels_text.Given as goal
-
-abbrev pub invariant-loop-i : goal.invariant-loop-i
-invariant-loop-i l = record {
-  text : l.line ≡ channels_text (take l.i l.channels);
-  short : length l.line ≤ 6 * l.i;
-}

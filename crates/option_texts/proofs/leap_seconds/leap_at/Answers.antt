@@ -1,6 +1,0 @@
-use Rattle.option_texts.specs.LeapSeconds.{leap_in}
-use Rattle.option_texts.proofs.Names.{◌∙◌, ap}
-use Rattle.option_texts.proofs.leap_seconds.leap_at.Goals as goal
-
-pub returns-clause-value : goal.returns-clause-value
-returns-clause-value c = c.leap_in.ensures.value ∙ ap leap_in c.civil.ensures.walk

@@ -1,0 +1,21 @@
+use Rattle.rinex_columns.proofs.NumberLemmas.{ten_pow}
+use Rattle.rinex_columns.proofs.Names.{arith, common_steps}
+use Rattle.rinex_columns.proofs.write.put_fixed.Goals as goal
+
+pub nonzero_div-size : goal.nonzero_div-size
+nonzero_div-size c = let h = ten_pow c.args.places in omega (arith, h, c.requires.scale)
+
+pub nonzero_rem-size : goal.nonzero_rem-size
+nonzero_rem-size c = let h = ten_pow c.args.places in omega (arith, h, c.requires.scale)
+
+pub put-requires : goal.put-requires
+put-requires c = grind (arith, common_steps)
+
+pub push-requires-2 : goal.push-requires-2
+push-requires-2 c = grind (arith, common_steps)
+
+pub put_padded-requires : goal.put_padded-requires
+put_padded-requires c = grind (arith, common_steps)
+
+pub returns-clause-text : goal.returns-clause-text
+returns-clause-text c = grind (arith, common_steps)

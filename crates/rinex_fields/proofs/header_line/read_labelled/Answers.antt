@@ -1,5 +1,0 @@
-use Rattle.rinex_fields.proofs.Names.{arith, take_all}
-use Rattle.rinex_fields.proofs.header_line.read_labelled.Goals as goal
-
-pub returns : goal.returns
-returns c = grind (arith, take_all)

@@ -1,8 +1,0 @@
--- A line of a header, RINEX 3.05, table A2: content in columns 1 to 60, the label from column 61 on.
-use Rattle.std.specs.Prelude.{ℕ, List, [], ◌∷◌}
-use Rattle.rinex_fields.specs.Numbers.{joined, left}
-use Rattle.rinex_fields.specs.Limits.{content_columns, label_columns}
-
--- content, label and a line feed
-unfoldable pub header_line : List ℕ → List ℕ → List ℕ
-header_line content label = joined (left content_columns content ∷ left label_columns label ∷ (10 ∷ []) ∷ [])
