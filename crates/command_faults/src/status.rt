@@ -1,12 +1,12 @@
 //! The exit status.
 ghost use Rattle.std.specs.Prelude.{◌≡◌, ◌≤◌};
-ghost use Rattle.rtcm_bits.specs.Devices.{Writes};
+ghost use Rattle.devices.specs.Devices.{Writes};
 ghost use Rattle.command_faults.specs.Printing.{PrintsFault};
 ghost use Rattle.command_faults.specs.Status.{status_of};
 
 use crate::error_lines::error_line;
 use crate::fault::CommandFault;
-use rtcm_bits::{Counted, Deliver};
+use devices::{Counted, Deliver};
 use rtcm_inspect::print_line;
 
 /// Prints the fault of a command, if any, on one line, and returns the exit status: 0 after

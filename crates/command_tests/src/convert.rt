@@ -8,7 +8,7 @@ use super::texts::Text::{File, Stream};
 use super::texts::{FINE_FILE, REPORT, Text};
 use gnss_obs::Plan;
 use rinex_file::{HeaderTexts, Texts};
-use rtcm_bits::Counted;
+use devices::Counted;
 use rtcm_command::{report_line, run_convert};
 use rtcm_convert::Setup;
 use std::alloc::Global;

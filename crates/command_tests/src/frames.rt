@@ -5,7 +5,7 @@ use super::scenario::{Case, FAULTLESS, Setting, assert_come};
 use super::texts::Piece::{Framed, Front, Repeated};
 use super::texts::Text;
 use super::texts::Text::{Bytes, Lines, Stream};
-use rtcm_bits::Counted;
+use devices::Counted;
 use rtcm_inspect::{InspectFault, Listing, list};
 use rtcm_scan::ScanFault;
 use std::alloc::Global;

@@ -4,7 +4,7 @@
 //! them, and a test is a setting and a list of cases.
 use super::texts::Text;
 use devices_for_tests::{PieceReader, ReadEnd, ShortWriter, WriteEnd};
-use rtcm_bits::Counted;
+use devices::Counted;
 use rtcm_command::command::command;
 use std::alloc::{AllocError, Global};
 use std::process::Abort;

@@ -3,7 +3,7 @@ use super::messages::FRAMED_STATION;
 use super::scenario::Expected::Refused;
 use super::scenario::{Case, FAULTLESS, Setting, assert_come};
 use super::texts::Text::Bytes;
-use rtcm_bits::Counted;
+use devices::Counted;
 use rtcm_command::command::refuse_words;
 use std::alloc::Global;
 use std::io;

@@ -2,7 +2,7 @@
 ghost use Rattle.std.specs.Prelude.{◌≡◌, [], IfOk, OnOk};
 ghost use Rattle.std.specs.Io.KnownBytes.{Keeps};
 
-use rtcm_bits::Deliver;
+use devices::Deliver;
 use std::io;
 use std::io::{ErrorKind, Write};
 use std::marker::Model;

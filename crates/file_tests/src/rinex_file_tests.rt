@@ -20,7 +20,7 @@ use devices_for_tests::{ShortWriter, WriteEnd};
 use gnss_obs::{GpsTime, Plan, StationValues};
 use parts::{Part, text_of};
 use rinex_file::{Head, HeadFault, HeaderField, HeaderTexts, Texts, header_lines};
-use rtcm_bits::Counted;
+use devices::Counted;
 use std::alloc::Global;
 
 /// The values of a station.

@@ -2,7 +2,7 @@
 use Rattle.std.specs.Prelude.{◌≡◌, ℕ, ◌+◌, ◌^◌, ◌<◌, ◌≤◌, ◌⊎◌, true, false, List, [], ◌∷◌, ◌++◌, length, All, Option, Result}
 use Rattle.std.specs.Prelude.{Ok, Err, ⊤, IfSome}
 use Rattle.std.specs.Io.KnownBytes.{IsAtEnd}
-use Rattle.rtcm_bits.specs.Device.{HasFailed}
+use Rattle.devices.specs.Device.{HasFailed}
 use Rattle.rinex_file.specs.declared.read.lines.Found.{Found}
 use Rattle.rinex_file.specs.declared.read.lines.Found.TheVariants.{Line, End, Long, Failed}
 use Rattle.rinex_file.specs.declared.read.fault.ReadFault.{ReadFault}

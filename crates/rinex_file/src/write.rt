@@ -1,7 +1,7 @@
 //! Writing a file, one line at a time.
 ghost use Rattle.std.specs.Prelude.{◌≡◌, ◌<◌, OnOk, OnErr, IfErr};
 ghost use Rattle.std.specs.Io.KnownBytes.{Appends};
-ghost use Rattle.rtcm_bits.specs.Device.{AppendsPrefix, FailsWith};
+ghost use Rattle.devices.specs.Device.{AppendsPrefix, FailsWith};
 ghost use Rattle.gnss_system.specs.Satellites.{satellites};
 ghost use Rattle.gnss_system.specs.Systems.{systems};
 ghost use Rattle.rinex_file.specs.File.{event_text, epoch_text, lines_of_systems, lines_up_to};
@@ -21,7 +21,7 @@ use crate::write::satellite::put_satellite_line;
 use gnss_obs::{Epoch, Plan, StationValues, end_of, is_written};
 use gnss_system::{SYSTEMS, System};
 use rinex_columns::{Line, MOST_LINE};
-use rtcm_bits::{Counted, DeviceFailed};
+use devices::{Counted, DeviceFailed};
 use std::io::Write;
 
 /// Writes a header, line by line.

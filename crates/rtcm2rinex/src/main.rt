@@ -3,7 +3,7 @@
 //! command `check` reads such a file back and reports whether it is accepted.
 #![tactic(auto)]
 
-use rtcm_bits::{Buffered, Counted};
+use devices::{Buffered, Counted};
 use rtcm_command::command::{command, refuse_words};
 use std::alloc::Global;
 use std::io::{self, BufReader};

@@ -14,8 +14,6 @@ pub mod EntryLemmas
 pub mod WordLemmas
 pub mod WindowLemmas
 pub mod LookLemmas
-pub mod DeviceLemmas
-pub mod BufferLemmas
 pub mod Examples
 pub mod FoldLemmas
 pub mod LongLemmas

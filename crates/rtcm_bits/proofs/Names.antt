@@ -3,10 +3,8 @@ pub use Rattle.circular_buffer.specs.Buffer.{Buffer, buffer}
 pub use Rattle.rtcm_bits.specs.BitLaws.{bit-small, bits_of-append, cons2, half, length-bits_of, length-uint, number-fits, number-split, number-take-fits, number-uint, number_of-uint, odd_bit, pow-double, pow_mono, raw-signed, raw_fits, signed-fits, signed-raw, signed_high, signed_low, uint-number}
 unfoldable pub use Rattle.rtcm_bits.specs.Bits.{bits_of, number_from, uint}
 pub use Rattle.rtcm_bits.specs.Bits.{FitsInt, bit, filled, missing, number, odd, raw, signed}
-pub use Rattle.rtcm_bits.specs.Buffering.{buffer_bytes, contents_of}
 unfoldable pub use Rattle.rtcm_bits.specs.Crc.{add_front, bits_remainder, crc, generator, remainder}
 pub use Rattle.rtcm_bits.specs.Crc.{plus}
-pub use Rattle.rtcm_bits.specs.Device.{SendsBytes, failures_after_write}
 unfoldable pub use Rattle.rtcm_bits.specs.Folding.{add_bytes, fold_into}
 pub use Rattle.rtcm_bits.specs.Folding.{Sixes}
 pub use Rattle.rtcm_bits.specs.FrameOf.{frame_bytes}

@@ -7,8 +7,4 @@ pub mod Crc
 pub mod Register
 pub mod FrameOf
 pub mod Window
-pub mod Device
-pub mod Devices
-pub mod Buffering
 pub mod Folding
-pub mod Delivering

@@ -3,14 +3,6 @@
 ghost use Rattle.std.specs.Prelude.{◌≡◌, ◌+◌, ◌*◌, ◌%◌, ◌^◌, ◌<◌, ◌↔◌, ℕ, ℤ, Bool, List, [], ◌∷◌, ◌++◌, length, Some};
 ghost use Rattle.rtcm_bits.specs.Bits.{uint, number, bits_of, signed, raw, FitsInt};
 ghost use Rattle.rtcm_bits.specs.Crc.{crc};
-ghost use Rattle.std.specs.Io.Buffered.{writer_inner};
-ghost use Rattle.std.specs.Io.KnownBytes.{append_known};
-ghost use Rattle.rtcm_bits.specs.Buffering.{Buffering};
-
-use crate::buffered::Buffered;
-use crate::deliver::Deliver;
-use std::alloc::Global;
-use std::io::{BufWriter, Write};
 
 /// Bits, most significant first, and the number that they encode determine each other.
 pub fn numbers()
@@ -40,15 +32,4 @@ pub fn complement()
 pub fn residue()
     ensures { (bytes : List ℕ) (x y z : ℕ) → x < 256 → y < 256 → z < 256
         → ((crc (bytes ++ x ∷ y ∷ z ∷ []) ≡ 0) ↔ (x * 65536 + y * 256 + z ≡ crc bytes)) }
-{}
-
-/// The contents of a writer are those of its destination, followed by the bytes that wait. Of a
-/// buffer, of this crate or of std, these are those of its device, followed by its own.
-pub fn waiting<W: Deliver + Drop>()
-    ensures each { (w : W) → W.contents w ≡ append_known (W.Target.contents (W.target w)) (W.waiting w) }
-    ensures buffer { (b : Buffering W) (passed : List ℕ) → W.contents b.device ≡ Some (passed ++ W.waiting b.device)
-        → ⟦<Buffered<W> as Write>⟧.contents b ≡ Some (passed ++ ⟦<Buffered<W> as Deliver>⟧.waiting b) }
-    ensures std { (b : BufWriter W Global) (passed : List ℕ)
-        → W.contents (writer_inner b) ≡ Some (passed ++ W.waiting (writer_inner b))
-        → ⟦<BufWriter<W> as Write>⟧.contents b ≡ Some (passed ++ ⟦<BufWriter<W> as Deliver>⟧.waiting b) }
 {}

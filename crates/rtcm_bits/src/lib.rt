@@ -1,12 +1,8 @@
-//! The CRC, the bit fields and the window of undecided bytes of RTCM 3 frames, and counted and
-//! buffered devices.
+//! The CRC, the bit fields, the frame of a message and the window of undecided bytes of RTCM 3.
 #![tactic(auto)]
 
-mod buffered;
 mod complement;
-mod counted;
 mod crc;
-mod deliver;
 mod folding;
 mod framing;
 pub mod laws;
@@ -16,11 +12,8 @@ mod tables;
 mod window;
 mod writer;
 
-pub use buffered::Buffered;
 pub use complement::{raw_of, signed_of};
-pub use counted::{Counted, DeviceFailed};
 pub use crc::{CheckRegister, crc24q};
-pub use deliver::{Deliver, Destination};
 pub use framing::{LONGEST_FRAME, LONGEST_MESSAGE, PREAMBLE, frame_of};
 pub use reader::{BitReader, bits_in_word, number_at, word_at};
 pub use window::Window;

@@ -19,7 +19,7 @@ pub use Rattle.rtcm_command.specs.Converting.{EndsConversion, EndsConverting, Ma
 pub use Rattle.line_texts.specs.ChannelTexts.{channels_of}
 pub use Rattle.line_texts.specs.Dates.{IsHourOf, IsTimeOf, IsWeekOf}
 pub use Rattle.rtcm_command.specs.Devices.{culprit, of_inspection}
-pub use Rattle.rtcm_bits.specs.Devices.{AreFine, AreUntouched, Devices, Ends, HaveFailedBy, Reader, Writer, devices_of, writer_of}
+pub use Rattle.devices.specs.Devices.{AreFine, AreUntouched, Devices, Ends, HaveFailedBy, Reader, Writer, devices_of, writer_of}
 unfoldable pub use Rattle.command_faults.specs.ErrorLines.{error_line}
 pub use Rattle.line_texts.specs.Lengths.{epoch_interval_of, interval_of, length_below, position_of}
 pub use Rattle.obs_epoch.specs.declared.choice.Choice.{Choice}
@@ -33,7 +33,7 @@ pub use Rattle.rtcm_command.specs.SetupOptions.{HasSetupFault, IsChoiceSet, IsRe
 pub use Rattle.command_faults.specs.declared.fault.DateOption.{DateOption}
 pub use Rattle.command_faults.specs.declared.fault.CommandFault.{CommandFault}
 pub use Rattle.command_faults.specs.declared.fault.CommandFault.TheVariants.{Convert}
-pub use Rattle.rtcm_bits.specs.Device.{Device, IsUntouched}
+pub use Rattle.devices.specs.Device.{Device, IsUntouched}
 pub use Rattle.rtcm_convert.specs.Faults.{IsSentAfter, IsSetupFault}
 pub use Rattle.rtcm_convert.specs.Made.{IsMadeEmpty, IsMadeInPart, IsMadeSoFar, IsMadeToLimit}
 pub use Rattle.rtcm_convert.specs.SetupValues.{IsBad}

@@ -6,7 +6,7 @@ use Rattle.clap.specs.Walk.{Row, Text, one_of}
 use Rattle.clap.specs.declared.error.kind.ErrorKind.TheVariants.{DisplayVersion, OutOfMemory}
 use Rattle.clap.specs.declared.error.kind.ErrorKind.{ErrorKind}
 use Rattle.clap.specs.declared.parser.matches.ArgMatches.{ArgMatches}
-use Rattle.rtcm_bits.specs.Devices.{AreFine, AreUntouched, Devices, Ends, HaveFailedBy, Writer}
+use Rattle.devices.specs.Devices.{AreFine, AreUntouched, Devices, Ends, HaveFailedBy, Writer}
 use Rattle.rtcm_scan.specs.Scan.{most_bytes}
 use Rattle.rtcm_inspect.specs.Checking.{EndsCheck}
 use Rattle.rtcm_inspect.specs.FrameLines.{frame_lines}

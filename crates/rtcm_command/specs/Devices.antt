@@ -1,7 +1,7 @@
 -- The faults of a command: of what they are, and which device failed.
 use Rattle.std.specs.Prelude.{◌≡◌, ℕ, List, Option, Result, Ok, Err}
-use Rattle.rtcm_bits.specs.Device.{Device}
-use Rattle.rtcm_bits.specs.Devices.{Changes, Culprit, Devices, NoDevice, Writer, Writes}
+use Rattle.devices.specs.Device.{Device}
+use Rattle.devices.specs.Devices.{Changes, Culprit, Devices, NoDevice, Writer, Writes}
 use Rattle.rtcm_convert.specs.Faults as conversion
 use Rattle.rtcm_convert.specs.declared.fault.Fault.{Fault}
 use Rattle.rtcm_inspect.specs.Devices as inspection

@@ -4,8 +4,8 @@ ghost use Rattle.std.specs.IoError.{error_kind};
 ghost use Rattle.std.specs.declared.io.ErrorKind.TheVariants as kinds;
 ghost use Rattle.clap.specs.Simple.{subcommand_rows_of};
 ghost use Rattle.clap.specs.Walk.{texts};
-ghost use Rattle.rtcm_bits.specs.Device.{IsUntouched};
-ghost use Rattle.rtcm_bits.specs.Devices.{Writes};
+ghost use Rattle.devices.specs.Device.{IsUntouched};
+ghost use Rattle.devices.specs.Devices.{Writes};
 ghost use Rattle.clap.specs.Values.{kind_of};
 ghost use Rattle.clap.specs.declared.error.kind.ErrorKind.TheVariants.{DisplayVersion, OutOfMemory};
 ghost use Rattle.rtcm_command.specs.Commands.{AreRefused, EndsFound, HasCommand};
@@ -26,7 +26,7 @@ use clap::ArgMatches;
 use clap::error::ErrorKind;
 use command_faults::{CommandFault, error_line, exit_status};
 use command_line::{VERSION, drop_matches, parse};
-use rtcm_bits::{Counted, Deliver};
+use devices::{Counted, Deliver};
 use rtcm_inspect::{
     CheckOptions, InspectFault, Listing, list, print_line, print_text, run_check_with, run_frames,
     run_options, run_show, run_signals,

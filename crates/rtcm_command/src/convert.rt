@@ -1,13 +1,13 @@
 //! The command `convert`: the observation file of a stream.
 ghost use Rattle.std.specs.Prelude.{◌≡◌, ◌≤◌, ◌↔◌, Err, max};
-ghost use Rattle.rtcm_bits.specs.Devices.{Changes};
+ghost use Rattle.devices.specs.Devices.{Changes};
 ghost use Rattle.rtcm_bits.specs.FrameOf.{longest_frame};
 ghost use Rattle.rtcm_convert.specs.SetupValues.{IsBad};
 ghost use Rattle.rtcm_command.specs.Converting.{EndsConversion};
 ghost use Rattle.rtcm_command.specs.Reports.{report_line};
 
 use command_faults::CommandFault;
-use rtcm_bits::{Counted, Deliver};
+use devices::{Counted, Deliver};
 use rtcm_convert::{Fault, Report, Setup, convert_stream};
 use rtcm_inspect::OutputLine;
 use std::alloc::Global;

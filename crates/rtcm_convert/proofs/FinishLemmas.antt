@@ -1,7 +1,7 @@
 -- The end of the stream, after calls that did not fail.
 use Rattle.std.specs.Prelude.{max}
 use Rattle.rtcm_convert.specs.Faults.{FailsWithReader, IsFinishFault, IsSentAfter, IsSentAtFault, culprit}
-use Rattle.rtcm_bits.specs.Devices.{ReaderFailures}
+use Rattle.devices.specs.Devices.{ReaderFailures}
 use Rattle.rtcm_convert.proofs.FaultLemmas.{never, of_finish}
 use Rattle.rtcm_convert.proofs.Names.{◌≡◌, ℕ, ◌≤◌, List, true, false, sym, ap, subst, inl, inr, Result, Ok, Err, IfErr, IsErrOf, Device, Fault, longest_frame}
 

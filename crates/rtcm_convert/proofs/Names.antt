@@ -24,7 +24,7 @@ pub use Rattle.rinex_file.specs.FileValues.{AreTexts}
 pub use Rattle.rinex_file.specs.Gathered.{AreSignals, HasSatellite, IsGatheredFile}
 pub use Rattle.rinex_file.specs.Texts.{HeaderLists}
 unfoldable pub use Rattle.rtcm_bits.specs.Bits.{uint}
-pub use Rattle.rtcm_bits.specs.Device.{AppendsPrefix, Device, FailsWith, HasFailed, IsBetween}
+pub use Rattle.devices.specs.Device.{AppendsPrefix, Device, FailsWith, HasFailed, IsBetween}
 pub use Rattle.rtcm_bits.specs.FrameOf.{longest_frame}
 pub use Rattle.rtcm_bits.specs.Prefix.{IsPrefix}
 pub use Rattle.rtcm_bits.specs.SmallLaws.{on_failure, passed}

@@ -4,7 +4,7 @@ use Rattle.std.specs.Io.KnownBytes.{Appends, Consumes, IsAtEnd}
 use Rattle.rtcm_bits.specs.FrameOf.{longest_frame}
 use Rattle.rtcm_scan.specs.Frames.{frames_of}
 use Rattle.rtcm_scan.specs.Decided.{decided, decided_frames}
-use Rattle.rtcm_bits.specs.Device.{IsBetween}
+use Rattle.devices.specs.Device.{IsBetween}
 use Rattle.rtcm_convert.specs.Converted.{SetupValue, so_far, file}
 
 -- they are at least the file of the epochs that the decided frames of these bytes close, and at most the whole file

@@ -1,7 +1,7 @@
 -- The state of the devices that a call reads and writes, by its result.
 use Rattle.std.specs.Prelude.{◌≡◌, ◌≤◌, ◌⊎◌, ◌==◌, if◌then◌else◌, ℕ, max, ⊤, List, [], Result, Ok, Err, OnOk, IfErr}
-use Rattle.rtcm_bits.specs.Device.{Device}
-use Rattle.rtcm_bits.specs.Devices.{Culprit, TheReader, TheWriter, NoDevice, ReaderFailures, WriterFailures}
+use Rattle.devices.specs.Device.{Device}
+use Rattle.devices.specs.Devices.{Culprit, TheReader, TheWriter, NoDevice, ReaderFailures, WriterFailures}
 use Rattle.rtcm_bits.specs.FrameOf.{longest_frame}
 use Rattle.rtcm_convert.specs.declared.fault.Fault.{Fault}
 use Rattle.rtcm_convert.specs.declared.fault.Fault.TheVariants.{BadSetup, Memory, Read, TooLong, NoEpoch, NoneChosen, Write}

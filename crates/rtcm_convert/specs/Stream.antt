@@ -1,6 +1,6 @@
 -- The framer and the file writer of a stream.
 use Rattle.std.specs.Prelude.{◌≡◌, ◌≤◌, ℕ, true, List, length, Option}
-use Rattle.rtcm_bits.specs.Device.{Device, HasFailed}
+use Rattle.devices.specs.Device.{Device, HasFailed}
 use Rattle.rtcm_scan.specs.Frames.{Framed, frames_of}
 use Rattle.rtcm_scan.specs.Decided.{decided_frames}
 use Rattle.rtcm_scan.specs.Known.{known_frames}

@@ -1,7 +1,7 @@
 //! From frames to the bytes of a file, and the end of a stream.
 ghost use Rattle.std.specs.Prelude.{◌≡◌, ◌↔◌, [], false, true, Err, OnOk, OnErr, IfOk, IfErr};
 ghost use Rattle.std.specs.Io.KnownBytes.{Appends};
-ghost use Rattle.rtcm_bits.specs.Device.{AppendsPrefix, FailsWith};
+ghost use Rattle.devices.specs.Device.{AppendsPrefix, FailsWith};
 ghost use Rattle.rtcm_msg.specs.Viewed.{viewed_message};
 ghost use Rattle.rtcm_convert.specs.Faults.{IsSetupFault};
 ghost use Rattle.rtcm_convert.specs.SetupValues.{setup_value, IsBadStart};
@@ -19,7 +19,7 @@ use crate::setup::Setup;
 use gnss_obs::{Epoch, PlanFault, StationValues};
 use obs_epoch::{Gatherer, Kind, msm_set};
 use rinex_file::{Head, HeadFault, HeaderTexts, write_epoch, write_event, write_header};
-use rtcm_bits::{Counted, Deliver};
+use devices::{Counted, Deliver};
 use rtcm_msg::{MsmSet, View, look_in};
 use rtcm_scan::{Frame, FrameSink, Framer};
 use std::alloc::Global;

@@ -1,6 +1,6 @@
 //! Whole streams.
 ghost use Rattle.std.specs.Prelude.{◌≡◌, ◌≢◌, ◌↔◌, Err, IsErrOf, IfOk, IfErr, IfSome};
-ghost use Rattle.rtcm_bits.specs.Device.{IsUntouched, Moves};
+ghost use Rattle.devices.specs.Device.{IsUntouched, Moves};
 ghost use Rattle.rtcm_convert.specs.Faults.{FailsWithDevices, FailsWithWriter, IsSentAfter, IsSetupFault};
 ghost use Rattle.rtcm_convert.specs.Broken.{BrokeInPieces, joined_pieces};
 ghost use Rattle.rtcm_convert.specs.Made.{IsMadeWith, IsMadeEmpty, IsMadeToLimit, AreMadeToLimit, IsMadeSoFar};
@@ -13,7 +13,7 @@ use crate::fault::Fault;
 use crate::laws;
 use crate::report::Report;
 use crate::setup::Setup;
-use rtcm_bits::{Counted, Deliver};
+use devices::{Counted, Deliver};
 use std::alloc::Global;
 use std::io::Read;
 

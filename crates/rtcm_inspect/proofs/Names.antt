@@ -34,11 +34,11 @@ pub use Rattle.rinex_file.specs.declared.read.file.FileSummary.{FileSummary}
 unfoldable pub use Rattle.rtcm_bits.specs.Bits.{bits_of}
 pub use Rattle.rtcm_bits.specs.Bits.{FitsInt, bit, filled, missing, number, uint}
 pub use Rattle.rtcm_bits.specs.Cursors.{Cursor}
-pub use Rattle.rtcm_bits.specs.Device.{AppendsPrefix, Device, FailsWith, HasFailed}
-pub use Rattle.rtcm_bits.specs.Devices.{Devices, Ends, HaveFailedBy, ReaderFailures, Writer, WriterFailures, devices_of, writer_of}
+pub use Rattle.devices.specs.Device.{AppendsPrefix, Device, FailsWith, HasFailed}
+pub use Rattle.devices.specs.Devices.{Devices, Ends, HaveFailedBy, ReaderFailures, Writer, WriterFailures, devices_of, writer_of}
 pub use Rattle.rtcm_bits.specs.FrameOf.{frame_bytes, longest_message, longest_message_bits}
 pub use Rattle.rtcm_bits.specs.Prefix.{IsPrefix}
-pub use Rattle.rtcm_bits.specs.declared.counted.DeviceFailed.{DeviceFailed}
+pub use Rattle.devices.specs.declared.counted.DeviceFailed.{DeviceFailed}
 pub use Rattle.rtcm_bits.specs.SmallLaws.{of_ok, passed}
 pub use Rattle.rtcm_inspect.specs.Checking.{IsCheckedOr, ChecksFile, EndsCheck, IsFileWith, ReadsGaps, StopsCheck}
 unfoldable pub use Rattle.rtcm_inspect.specs.CheckOutput.{check_line, complete_line, gap_line}

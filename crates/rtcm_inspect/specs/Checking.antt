@@ -2,8 +2,8 @@
 use Rattle.std.specs.Prelude.{◌≡◌, ◌⊎◌, ◌≤◌, ℕ, List, [], length, Option, Result}
 use Rattle.std.specs.Prelude.{Ok, Err, IfSome, ⊤}
 use Rattle.std.specs.Io.KnownBytes.{Appends, Keeps}
-use Rattle.rtcm_bits.specs.Device.{AppendsPrefix}
-use Rattle.rtcm_bits.specs.Devices.{Devices, Ends, ReaderFailures}
+use Rattle.devices.specs.Device.{AppendsPrefix}
+use Rattle.devices.specs.Devices.{Devices, Ends, ReaderFailures}
 use Rattle.rinex_file.specs.Accepted.{AreEpochsBefore, AreEpochsRead, AreFirstEpochs}
 use Rattle.rinex_file.specs.Counting.{IsTextWith}
 use Rattle.rinex_file.specs.Exact.{ExplainsFault, IfTextOfFile, IsNoFault, most_lines}

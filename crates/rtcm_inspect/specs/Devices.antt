@@ -1,8 +1,8 @@
 -- The devices of a command before and after it: which of them failed at a fault, and what was read and delivered.
 use Rattle.std.specs.Prelude.{◌≡◌, Result, Ok, Err, [], List, ℕ}
 use Rattle.std.specs.Io.KnownBytes.{Consumes, IsAtEnd, Keeps}
-use Rattle.rtcm_bits.specs.Device.{Device, HasFailed}
-use Rattle.rtcm_bits.specs.Devices.{Culprit, Devices, NoDevice, ReaderFailures, TheReader, TheWriter, Writer}
+use Rattle.devices.specs.Device.{Device, HasFailed}
+use Rattle.devices.specs.Devices.{Culprit, Devices, NoDevice, ReaderFailures, TheReader, TheWriter, Writer}
 use Rattle.rtcm_scan.specs.Frames.{Framed, frames_of}
 use Rattle.rtcm_scan.specs.declared.feed.StreamFault.{StreamFault}
 use Rattle.rtcm_scan.specs.declared.feed.StreamFault.TheVariants as stream

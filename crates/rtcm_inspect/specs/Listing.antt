@@ -3,13 +3,13 @@ use Rattle.std.specs.Prelude.{◌≡◌, ◌<◌, ◌≤◌, ℕ, Bool, true, fa
 use Rattle.std.specs.Prelude.{[]}
 use Rattle.std.specs.List.{flat_map}
 use Rattle.std.specs.Io.KnownBytes.{Appends, Consumes, IsAtEnd}
-use Rattle.rtcm_bits.specs.Device.{AppendsPrefix, Device, FailsWith, HasFailed, IsBetween}
-use Rattle.rtcm_bits.specs.declared.counted.DeviceFailed.{DeviceFailed}
+use Rattle.devices.specs.Device.{AppendsPrefix, Device, FailsWith, HasFailed, IsBetween}
+use Rattle.devices.specs.declared.counted.DeviceFailed.{DeviceFailed}
 use Rattle.rtcm_scan.specs.Frames.{Framed}
 use Rattle.rtcm_scan.specs.Decided.{decided_frames}
 use Rattle.rtcm_scan.specs.Known.{known_frames}
 use Rattle.rtcm_scan.specs.declared.framer.ScanFault.TheVariants as scan
-use Rattle.rtcm_bits.specs.Devices.{AreUntouched, Devices, Ends}
+use Rattle.devices.specs.Devices.{AreUntouched, Devices, Ends}
 use Rattle.rtcm_inspect.specs.Devices.{ReadsStream, culprit}
 use Rattle.rtcm_inspect.specs.declared.fault.InspectFault.{InspectFault}
 use Rattle.rtcm_inspect.specs.declared.fault.InspectFault.TheVariants as faults

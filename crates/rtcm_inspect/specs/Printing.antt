@@ -1,8 +1,8 @@
 -- Texts written in one call: the writer was w, and is w'.
 use Rattle.std.specs.Prelude.{◌≡◌, ◌⊎◌, ◌<◌, ℕ, List, Result, Ok, Err, [], length}
 use Rattle.std.specs.Io.KnownBytes.{Appends}
-use Rattle.rtcm_bits.specs.Device.{HasFailed, AppendsPrefix}
-use Rattle.rtcm_bits.specs.Devices.{Writer}
+use Rattle.devices.specs.Device.{HasFailed, AppendsPrefix}
+use Rattle.devices.specs.Devices.{Writer}
 use Rattle.rtcm_inspect.specs.declared.fault.InspectFault.{InspectFault}
 use Rattle.rtcm_inspect.specs.declared.fault.InspectFault.TheVariants.{Write}
 

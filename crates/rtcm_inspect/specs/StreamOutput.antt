@@ -2,8 +2,8 @@
 -- text, and `IsRefused` to the fault by which they are refused. The devices were d and are d'.
 use Rattle.std.specs.Prelude.{◌≡◌, ◌⊎◌, ℕ, ◌<◌, List, length, Option, Result}
 use Rattle.std.specs.Io.KnownBytes.{Appends, Consumes}
-use Rattle.rtcm_bits.specs.Device.{AppendsPrefix}
-use Rattle.rtcm_bits.specs.Devices.{Devices, Ends}
+use Rattle.devices.specs.Device.{AppendsPrefix}
+use Rattle.devices.specs.Devices.{Devices, Ends}
 use Rattle.rtcm_scan.specs.Frames.{Framed}
 use Rattle.rtcm_scan.specs.Scan.{most_bytes}
 use Rattle.rtcm_scan.specs.declared.framer.ScanFault.TheVariants as scan

@@ -4,7 +4,7 @@ ghost use Rattle.std.specs.Prelude.{◌≡◌, ◌+◌, ◌<◌, ◌≤◌, ◌+
 ghost use Rattle.rinex_file.specs.Blocks.{LeavesRest};
 ghost use Rattle.rinex_file.specs.Counting.{AreCounts};
 ghost use Rattle.rinex_file.specs.Value.{FileValue};
-ghost use Rattle.rtcm_bits.specs.Devices.{Changes, Writes};
+ghost use Rattle.devices.specs.Devices.{Changes, Writes};
 ghost use Rattle.rtcm_inspect.specs.CheckOutput.{check_line, complete_if, counts_alone, gap_between, times_if};
 ghost use Rattle.rtcm_inspect.specs.Checking.{AcceptsFiles, EndsCheck, ReadsGaps};
 ghost use Rattle.rinex_file.specs.Read.EpochSteps.{HasReadEpochs};
@@ -19,7 +19,7 @@ use crate::printing::{deliver_waiting, print_text};
 use gnss_obs::GpsTime;
 use line_texts::OutputLine;
 use rinex_file::{Counts, EpochReader, EpochTimes, FileSummary, NextEpoch};
-use rtcm_bits::{Counted, Deliver};
+use devices::{Counted, Deliver};
 use std::alloc::Global;
 use std::io::Read;
 

@@ -13,7 +13,7 @@ use crate::listing::PIECE_BYTES;
 use crate::stream_channels::add_sent_channels;
 use gnss_obs::Channels;
 use obs_epoch::SignalCounts;
-use rtcm_bits::{Counted, DeviceFailed};
+use devices::{Counted, DeviceFailed};
 use rtcm_msg::laws::message_sets;
 use rtcm_msg::{Forms, MsmSet, View, look_in};
 use rtcm_scan::{Frame, FrameSink, Framer, MOST_BYTES, ScanFault, laws};

@@ -10,7 +10,7 @@ ghost use Rattle.rtcm_inspect.specs.Lines.{longest_error, longest_fault, longest
 use gnss_obs::{PlanFault, System};
 use line_texts::OutputLine;
 use rinex_file::{HeadFault, HeaderField, ReadFault};
-use rtcm_bits::DeviceFailed;
+use devices::DeviceFailed;
 use rtcm_scan::{ScanFault, StreamFault};
 use std::fmt;
 use thiserror::Error;

@@ -1,6 +1,6 @@
 //! The commands `frames` and `show`: a line for each frame, or for each message, of a stream.
 ghost use Rattle.std.specs.Prelude.{◌≡◌, ◌+◌, ◌≤◌, ◌∷◌, ◌++◌, true, false, length};
-ghost use Rattle.rtcm_bits.specs.Devices.{Changes};
+ghost use Rattle.devices.specs.Devices.{Changes};
 ghost use Rattle.rtcm_bits.specs.FrameOf.{longest_message};
 ghost use Rattle.rtcm_scan.specs.Results.{framed};
 ghost use Rattle.rtcm_scan.specs.Scan.{most_bytes};
@@ -18,7 +18,8 @@ ghost use Rattle.rtcm_inspect.specs.Listing.{EndsListing, listing_line, listing_
 
 use crate::fault::InspectFault;
 use line_texts::OutputLine;
-use rtcm_bits::{BitReader, Counted, Deliver, DeviceFailed};
+use devices::{Counted, Deliver, DeviceFailed};
+use rtcm_bits::BitReader;
 use rtcm_msg::{MsgFault, MsmSet, MsmView, StationParts, View, look, look_in, time_of_week};
 use rtcm_scan::{Frame, FrameSink, Framer, MOST_BYTES, ScanFault, laws};
 use std::alloc::Global;

@@ -1,10 +1,10 @@
 //! Texts and lines that are printed.
-ghost use Rattle.rtcm_bits.specs.Devices.{Writes};
+ghost use Rattle.devices.specs.Devices.{Writes};
 ghost use Rattle.rtcm_inspect.specs.Devices.{EndsDelivery};
 ghost use Rattle.rtcm_inspect.specs.Printing.{EndsPrinting, PrintsLine};
 
 use crate::fault::InspectFault;
-use rtcm_bits::{Counted, Deliver};
+use devices::{Counted, Deliver};
 
 /// Delivers the bytes that wait in the writer, if any. A command that writes only at its end does
 /// so before it reads, so that none of them waits if the reader fails.

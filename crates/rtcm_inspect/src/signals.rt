@@ -4,7 +4,7 @@ ghost use Rattle.gnss_obs.specs.HeardCells.{HeardCell};
 ghost use Rattle.gnss_system.specs.Signals.{table, code_of};
 ghost use Rattle.gnss_system.specs.Systems.{systems};
 ghost use Rattle.obs_epoch.specs.SignalCounts.{AreSignalCounts, signal_in};
-ghost use Rattle.rtcm_bits.specs.Devices.{Changes};
+ghost use Rattle.devices.specs.Devices.{Changes};
 ghost use Rattle.rtcm_inspect.specs.Lines.{longest_signal, longest_signals};
 ghost use Rattle.rtcm_inspect.specs.StreamOutput.{EndsStream};
 ghost use Rattle.rtcm_inspect.specs.Signals.{AreSignalsOf, AreSignalsRefused, count_line, count_lines};
@@ -17,7 +17,7 @@ use gnss_obs::Signal;
 use gnss_system::{MOST_SIGNALS, SYSTEMS, System};
 use obs_epoch::SignalCounts;
 use line_texts::OutputLine;
-use rtcm_bits::{Counted, Deliver};
+use devices::{Counted, Deliver};
 use std::alloc::Global;
 use std::io::Read;
 

@@ -1,7 +1,7 @@
 -- The frames that a framer passes to a sink, for every history.
 use Rattle.std.specs.Prelude.{◌≡◌, ℕ, ◌+◌, ◌-◌, ◌<◌, ◌≤◌, max, ⊤, Bool, true, List, ◌++◌, take, length, Option, Result}
 use Rattle.std.specs.Prelude.{Ok, Err, OnOk, IfErr}
-use Rattle.rtcm_bits.specs.Device.{Device, HasFailed}
+use Rattle.devices.specs.Device.{Device, HasFailed}
 use Rattle.std.specs.Io.KnownBytes.{Consumes, IsAtEnd}
 use Rattle.rtcm_bits.specs.Prefix.{IsPrefix}
 use Rattle.rtcm_scan.specs.Frames.{Framed}

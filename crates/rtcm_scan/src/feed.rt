@@ -1,14 +1,14 @@
 //! Passing the frames of a stream, given in pieces or by a reader, to a consumer.
 ghost use Rattle.std.specs.Prelude.{◌≡◌, ◌+◌, ◌≤◌, ◌<◌, ⊤, true, false, max, length, OnOk, OnErr, IfOk, IfErr, MatchResult};
 ghost use Rattle.std.specs.Io.KnownBytes.{Keeps, IsAtEnd};
-ghost use Rattle.rtcm_bits.specs.Device.{failures_after_read, moved};
+ghost use Rattle.devices.specs.Device.{failures_after_read, moved};
 ghost use Rattle.rtcm_scan.specs.Passing.{PassesKnown, BreaksKnown, Passes, Breaks, PassesToLimit, PassesAll};
 ghost use Rattle.rtcm_scan.specs.Passing.{BreaksAfter, BreaksReading, HasReadPiece, Reads, ReadsOn, CountsReads};
 ghost use Rattle.rtcm_scan.specs.Passing.{TakesPiece, Continues, IsSameStream, IsReadingOn, AtFault, UnlessBroken};
 
 use crate::framer::{Frame, Framer};
 use crate::sink::FrameSink;
-use rtcm_bits::Counted;
+use devices::Counted;
 use std::io::{self, Read};
 
 /// Why a stream was not processed to its end.

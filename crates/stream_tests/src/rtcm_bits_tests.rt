@@ -10,7 +10,8 @@ mod windows;
 use arrayvec::ArrayVec;
 use buffered::Stumbles;
 use devices_for_tests::{PieceReader, ReadEnd, ShortWriter, WriteEnd};
-use rtcm_bits::{BitReader, BitWriter, CheckRegister, Counted, LONGEST_MESSAGE, crc24q, frame_of};
+use devices::Counted;
+use rtcm_bits::{BitReader, BitWriter, CheckRegister, LONGEST_MESSAGE, crc24q, frame_of};
 use std::io;
 use std::io::{ErrorKind, Read, Write};
 

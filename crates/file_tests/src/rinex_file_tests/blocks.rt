@@ -3,7 +3,7 @@
 use super::long::long_text;
 use devices_for_tests::{PieceReader, ReadEnd};
 use rinex_file::{Counts, ReadFault, check_file, file_bytes, read_file};
-use rtcm_bits::Counted;
+use devices::Counted;
 use std::alloc::Global;
 use std::io;
 use std::io::Read;

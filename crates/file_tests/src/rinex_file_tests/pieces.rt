@@ -4,7 +4,7 @@ use super::joined;
 use super::parts::Part;
 use devices_for_tests::{PieceReader, ReadEnd};
 use rinex_file::{Counts, ReadFault, check_file, read_file};
-use rtcm_bits::Counted;
+use devices::Counted;
 use std::alloc::Global;
 use std::io::ErrorKind;
 

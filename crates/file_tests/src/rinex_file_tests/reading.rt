@@ -4,7 +4,7 @@ use super::{Text, VALUES, joined, put};
 use devices_for_tests::{PieceReader, ReadEnd};
 use gnss_obs::{StationValues, System};
 use rinex_file::{Counts, HeaderField, ObsFile, ReadFault, check_file, file_bytes, read_file};
-use rtcm_bits::Counted;
+use devices::Counted;
 use std::alloc::Global;
 use std::io::ErrorKind;
 

@@ -3,7 +3,7 @@ use super::joined;
 use super::parts::Part;
 use devices_for_tests::{PieceReader, ReadEnd};
 use rinex_file::{EpochTimes, FileSummary, ReadFault, check_file_times};
-use rtcm_bits::Counted;
+use devices::Counted;
 use std::alloc::Global;
 
 /// The GPS time 2024-02-04 00:00:00, the begin of week 2300, in milliseconds.

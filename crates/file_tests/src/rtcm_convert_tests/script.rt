@@ -8,7 +8,7 @@ use devices_for_tests::{PieceReader, ReadEnd, ShortWriter, WriteEnd};
 use gnss_obs::{Plan, System};
 use obs_epoch::Choice;
 use rinex_file::{HeaderTexts, Texts};
-use rtcm_bits::{Counted, Deliver};
+use devices::{Counted, Deliver};
 use rtcm_convert::{Converter, Fault, Report, Setup, convert_pieces, convert_stream};
 use rtcm_msg::Forms;
 use rtcm_scan::MOST_BYTES;

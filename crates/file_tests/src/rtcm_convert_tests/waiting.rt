@@ -6,7 +6,7 @@ use super::by_definition::Text;
 use super::script::{OPTIONS, convert, stream_of};
 use super::{Frame, TWO, file};
 use devices_for_tests::{PieceReader, ReadEnd};
-use rtcm_bits::{Counted, Deliver};
+use devices::{Counted, Deliver};
 use rtcm_convert::{Fault, Report};
 use std::alloc::Global;
 use std::io;

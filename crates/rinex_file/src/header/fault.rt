@@ -3,7 +3,7 @@ ghost use Rattle.std.specs.Prelude.{◌≡◌};
 ghost use Rattle.rinex_file.specs.declared.header.fault.HeadFault.TheVariants as faults;
 
 use crate::header::fields::HeaderField;
-use rtcm_bits::DeviceFailed;
+use devices::DeviceFailed;
 use std::fmt::{self, Debug, Display, Formatter, Write};
 use thiserror::Error;
 

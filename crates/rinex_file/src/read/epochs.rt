@@ -1,6 +1,6 @@
 //! Reading a file line by line, and epoch by epoch.
 ghost use Rattle.std.specs.Prelude.{◌≡◌, ◌==◌, ◌+◌, [], List, Option, ℕ, Err, IfErr};
-ghost use Rattle.rtcm_bits.specs.Device.{HasFailed};
+ghost use Rattle.devices.specs.Device.{HasFailed};
 ghost use Rattle.rinex_file.specs.Accepted.{AreEpochsRead, IsFaultAfter};
 ghost use Rattle.rinex_file.specs.Exact.{ExplainsFault, IsFaulty, IsExpectedAt};
 ghost use Rattle.rinex_file.specs.Blocks.{LeavesRest};
@@ -16,7 +16,7 @@ use crate::read::parser_state::{AddedRow, Expected, ParserState, Refusal};
 use crate::read::times::EpochTimes;
 use gnss_obs::GpsTime;
 use rinex_columns::Line;
-use rtcm_bits::Counted;
+use devices::Counted;
 use std::alloc::Global;
 use std::io::Read;
 

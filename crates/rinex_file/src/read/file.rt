@@ -1,6 +1,6 @@
 //! Reading a file whole, and storing its epochs while it is read.
 ghost use Rattle.std.specs.Prelude.{◌≡◌, Err, IsOk, IfOk, IfErr, IfSome, OnOk, []};
-ghost use Rattle.rtcm_bits.specs.Device.{HasFailed};
+ghost use Rattle.devices.specs.Device.{HasFailed};
 ghost use Rattle.rinex_file.specs.Exact.{ExplainsFault, ExplainsStored, IfTextOfFile, IsReadOr, IsTextOf};
 ghost use Rattle.rinex_file.specs.Blocks.{LeavesRest};
 ghost use Rattle.rinex_file.specs.Counting.{AreCounts, IsSummary, IsTextWith, HoldsOr};
@@ -16,7 +16,7 @@ use crate::read::parser_state::{AddedRow, ParserState};
 use crate::read::times::EpochTimes;
 use crate::values::{ObsFile, StoredEpoch, StoredRow};
 use gnss_obs::{BySystem, Plan};
-use rtcm_bits::Counted;
+use devices::Counted;
 use std::alloc::{AllocError, Global};
 use std::io::Read;
 use std::mem;

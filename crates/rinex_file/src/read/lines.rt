@@ -8,7 +8,7 @@ ghost use Rattle.rinex_columns.specs.Limits.{most_line};
 
 use memchr::memchr;
 use rinex_columns::{Line, MOST_LINE, put};
-use rtcm_bits::Counted;
+use devices::Counted;
 use std::io::Read;
 use std::marker::Model;
 

@@ -12,7 +12,7 @@ use crate::write::satellite::put_values;
 use crate::write::{write_event, write_header};
 use gnss_obs::StationValues;
 use rinex_columns::{Line, MOST_LINE};
-use rtcm_bits::Counted;
+use devices::Counted;
 use std::alloc::{AllocError, Global};
 
 /// A file in memory; a write fails if memory runs out.

@@ -1,7 +1,7 @@
 //! The calls that a buffer makes of its device.
 ghost use Rattle.std.specs.Prelude.{[], refl};
 
-use rtcm_bits::{Buffered, Deliver, Destination};
+use devices::{Buffered, Deliver, Destination};
 use std::alloc::Global;
 use std::io;
 use std::io::{ErrorKind, Write};

@@ -1,6 +1,6 @@
 -- A reader and a writer at one time, what a call makes of them, and which of them failed at a fault.
 use Rattle.std.specs.Prelude.{◌≡◌, ℕ, List, [], Option, Result, Ok, Err}
-use Rattle.rtcm_bits.specs.Device.{Device, HasFailed, IsUntouched}
+use Rattle.devices.specs.Device.{Device, HasFailed, IsUntouched}
 
 -- a reader, and the bytes that it has left, if they are known
 pub record Reader (R : Type 0) : Type 0 where

@@ -1,5 +1,5 @@
 -- The content of a buffer before and after it is written.
-use Rattle.rtcm_bits.proofs.Names.{◌≡◌, ℕ, ◌+◌, ◌-◌, ◌≤◌, List, [], ◌++◌, length, take, drop, sym, take-append-drop, take_rest, drop-drop, drop_all}
+use Rattle.devices.proofs.Names.{◌≡◌, ℕ, ◌+◌, ◌-◌, ◌≤◌, List, [], ◌++◌, length, take, drop, sym, take-append-drop, take_rest, drop-drop, drop_all}
 
 -- n more bytes were written
 pub more_out : (items slice : List ℕ) (sent n : ℕ) → slice ≡ items → drop sent items ≡ take n (take (length slice - sent) (drop sent slice)) ++ drop (sent + n) items

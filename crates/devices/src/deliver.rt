@@ -2,7 +2,7 @@
 ghost use Rattle.std.specs.Prelude.{◌≡◌, ℕ, List, [], ◌++◌, OnOk};
 ghost use Rattle.std.specs.Io.Buffered.{writer_buffer, writer_inner};
 ghost use Rattle.std.specs.Io.KnownBytes.{Keeps, append_known};
-ghost use Rattle.rtcm_bits.specs.Delivering.{more_waits, none_waits};
+ghost use Rattle.devices.specs.Delivering.{more_waits, none_waits};
 
 use arrayvec::ArrayVec;
 use std::fs::File;
@@ -54,7 +54,7 @@ pub trait Destination: Write {}
 /// ```
 ///
 /// `flush` of this writer ensures `OnOk result (self.new.line.items ≡ [])`, and `more_waits` is of
-/// `rtcm_bits/specs/Delivering`. For a destination the target is the writer itself, `waiting` is
+/// `devices/specs/Delivering`. For a destination the target is the writer itself, `waiting` is
 /// `λ _. []` and `parts` is `λ w. none_waits (Self.contents w)`.
 pub trait Deliver: Write {
     /// Where the bytes end.

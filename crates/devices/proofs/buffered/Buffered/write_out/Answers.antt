@@ -1,6 +1,6 @@
-use Rattle.rtcm_bits.proofs.Names.{◌-◌, length, drop, arith, length-take, append_known-moved, Keeps-trans}
-use Rattle.rtcm_bits.proofs.BufferLemmas.{more_out, all_out}
-use Rattle.rtcm_bits.proofs.buffered.Buffered.write_out.Goals as goal
+use Rattle.devices.proofs.Names.{◌-◌, length, drop, arith, length-take, append_known-moved, Keeps-trans}
+use Rattle.devices.proofs.BufferLemmas.{more_out, all_out}
+use Rattle.devices.proofs.buffered.Buffered.write_out.Goals as goal
 
 pub loop-self-preserved : goal.loop-self-preserved
 loop-self-preserved g c =

@@ -3,8 +3,8 @@ ghost use Rattle.std.specs.Prelude.{◌≡◌, ◌+◌, ◌-◌, ◌<◌, ◌≤
 ghost use Rattle.std.specs.Prelude.{IfOk, IsErr, vec_len, vec_capacity};
 ghost use Rattle.std.specs.Io.{WritesAtMost};
 ghost use Rattle.std.specs.Io.KnownBytes.{Keeps, Appends, WriteAppends};
-ghost use Rattle.rtcm_bits.specs.Buffering.{buffer_bytes, contents_of, waiting_of};
-ghost use Rattle.rtcm_bits.specs.Delivering.{more_waits};
+ghost use Rattle.devices.specs.Buffering.{buffer_bytes, contents_of, waiting_of};
+ghost use Rattle.devices.specs.Delivering.{more_waits};
 
 use crate::deliver::Deliver;
 use std::alloc::{AllocError, Global};
@@ -29,7 +29,7 @@ pub struct Buffered<W> {
 
 impl<W> Model for Buffered<W> {
     ghost use Rattle.std.specs.Prelude.{◌≡◌, ◌≤◌, false, drop, length, vec_capacity};
-    ghost use Rattle.rtcm_bits.specs.Buffering.{Buffering, buffer_bytes};
+    ghost use Rattle.devices.specs.Buffering.{Buffering, buffer_bytes};
 
     ghost Value = { Buffering W };
 

@@ -1,5 +1,5 @@
-use Rattle.rtcm_bits.proofs.Names.{◌≡◌, ◌≤◌, ◌-◌, length, drop, true, vec_capacity, Keeps, append_known, buffer_bytes, contents_of}
-use Rattle.rtcm_bits.proofs.buffered.Buffered.write_out.Given as goal
+use Rattle.devices.proofs.Names.{◌≡◌, ◌≤◌, ◌-◌, length, drop, true, vec_capacity, Keeps, append_known, buffer_bytes, contents_of}
+use Rattle.devices.proofs.buffered.Buffered.write_out.Given as goal
 
 abbrev pub invariant-loop-self : goal.invariant-loop-self
 invariant-loop-self g l = record {
