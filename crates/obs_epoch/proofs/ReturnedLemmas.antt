@@ -6,7 +6,7 @@ use Rattle.obs_epoch.specs.Step.{closed_time as closes}
 use Rattle.rtcm_bits.specs.Prefix.{IsPrefix}
 use Rattle.obs_epoch.specs.GathererHistory.{before_closing, closed_at, closed_list, closed_list_at, closed_so_far_of, closed_by, returned_epoch, is_done, whole_list, HasGatheredEpochs}
 use Rattle.obs_epoch.specs.GathererSteps.{thinned_if}
-use Rattle.obs_epoch.specs.Marks.{AreMarks}
+use Rattle.obs_epoch.specs.GathererHistory.{AreMarks}
 use Rattle.obs_epoch.specs.Names.{State, step_by}
 use Rattle.obs_epoch.proofs.ThinnedLemmas.{Before, closed_one, thinned_gathers}
 use Rattle.obs_epoch.proofs.TimesLemmas.{next, timed-push, greater-absent, none-absent, some_eq}

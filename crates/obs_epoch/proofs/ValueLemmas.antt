@@ -6,7 +6,8 @@ use Rattle.obs_epoch.specs.declared.choice.EpochCounts.{EpochCounts}
 use Rattle.gnss_obs.specs.Marked.{with_mark}
 use Rattle.gnss_obs.specs.Order.{SortKeysRise}
 use Rattle.obs_epoch.specs.Names.{AreSortedByPlan, cell_sort_key}
-use Rattle.obs_epoch.specs.Marks.{carried_to, is_lost_in}
+use Rattle.obs_epoch.specs.Marks.{carried_to}
+use Rattle.obs_epoch.specs.GathererHistory.{is_lost_in}
 use Rattle.obs_epoch.specs.Thinning.{has_phase, mark_if}
 use Rattle.gnss_system.specs.SystemValues.{value_of}
 use Rattle.gnss_system.proofs.SystemLaws.{each_after, value_tabulated, with_same as same_after}

@@ -8,11 +8,75 @@ use Rattle.obs_epoch.specs.Times.{Timed, greatest_time, timed}
 use Rattle.obs_epoch.specs.Cells.{cells_at}
 use Rattle.obs_epoch.specs.Loss.{is_locked, latest_in}
 use Rattle.obs_epoch.specs.Epochs.{epoch_at, closed_so_far, values_of}
-use Rattle.obs_epoch.specs.Held.{lookup, TracksLocks}
 use Rattle.obs_epoch.specs.Clock.{HasHeardMessages}
-use Rattle.obs_epoch.specs.GathererSteps.{GathererValue}
 use Rattle.gnss_system.specs.declared.system.System.{System}
 use Rattle.gnss_obs.specs.Values.{EpochValue, cells_of, empty_epoch}
+use Rattle.std.specs.Prelude.{if◌then◌else◌}
+use Rattle.std.specs.Prelude.{Option}
+use Rattle.gnss_obs.specs.declared.cell.StationValues.{StationValues}
+use Rattle.gnss_obs.specs.Values.{CellLists}
+use Rattle.gnss_obs.specs.Values.{Closed}
+use Rattle.obs_epoch.specs.declared.choice.EpochCounts.{EpochCounts}
+use Rattle.gnss_obs.specs.Arriving.{sorted_lists}
+use Rattle.obs_epoch.specs.Clock.{State}
+use Rattle.obs_epoch.specs.declared.locks.KnownLock.{KnownLock}
+use Rattle.std.specs.Prelude.{◌+◌}
+use Rattle.std.specs.Prelude.{◌-◌}
+use Rattle.std.specs.Prelude.{◌*◌}
+use Rattle.std.specs.Prelude.{get_or}
+use Rattle.std.specs.Prelude.{count_by}
+use Rattle.std.specs.Prelude.{None}
+use Rattle.std.specs.Prelude.{is_some}
+use Rattle.gnss_system.specs.Signals.{table}
+use Rattle.gnss_system.specs.Signals.{first_key}
+use Rattle.gnss_system.specs.Signals.{key_count}
+use Rattle.obs_epoch.specs.Cells.{is_among}
+use Rattle.obs_epoch.specs.Cells.{firsts}
+use Rattle.obs_epoch.specs.Cells.{has_listed_key}
+
+-- The greatest time, 0 before the first.
+abbrev pub time_in : State → ℕ
+time_in g = option_map_or (λ t. t) g.latest 0
+
+abbrev pub most_locks : ℕ
+most_locks = key_count
+
+-- The index of the entry of a key.
+abbrev pub lock_place_in : System → ℕ → ℕ → ℕ
+lock_place_in system id index = first_key system + (length (table system) * (id - 1) + index)
+
+abbrev pub lock_place : HeardCell → ℕ
+lock_place x = lock_place_in x.satellite.system x.satellite.id x.signal.index
+
+-- The record of a key.
+abbrev pub lookup : List (Option KnownLock) → HeardCell → Option KnownLock
+lookup locks key = if has_listed_key key then get_or locks (lock_place key) None else None
+
+-- The number of keys that have a record.
+abbrev pub recorded : List (Option KnownLock) → ℕ
+recorded locks = count_by is_some locks
+
+-- Exactly the keys of these cells have records.
+pub record TracksLocks (locks : List (Option KnownLock)) (noted : List HeardCell) : Type 0 where
+  pub has : (key : HeardCell) → is_some (lookup locks key) ≡ is_among noted key
+  pub count : recorded locks ≡ length (firsts noted)
+  pub size : length locks ≡ most_locks
+
+-- The pending epoch, its cells sorted; if none is pending, the one closed last.
+abbrev pub epoch_in : State → CellLists → Closed → EpochValue
+epoch_in clock pending last =
+    if clock.pending then record { time = time_in clock; cells = sorted_lists clock.setup.plan pending } else last.epoch
+
+pub record GathererValue : Type 0 where
+  pub clock : State
+  pub epoch : EpochValue
+  pub locks : List (Option KnownLock)
+  pub marks : List Bool
+  pub counts : EpochCounts
+  pub chosen : Bool
+  pub values : StationValues
+  pub just_closed : Bool
+  pub has_ended : Bool
 
 -- The locked cells of the epochs of these times.
 abbrev pub locked_in : GatherSetup → List Timed → List ℕ → List HeardCell

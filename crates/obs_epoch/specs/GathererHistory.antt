@@ -10,10 +10,34 @@ use Rattle.obs_epoch.specs.Times.{timed}
 use Rattle.obs_epoch.specs.Loss.{times}
 use Rattle.obs_epoch.specs.Epochs.{epoch_at, is_shut, closed_times, closed_so_far, values_of}
 use Rattle.obs_epoch.specs.Thinning.{counts_left_out, thin}
-use Rattle.obs_epoch.specs.Marks.{AreMarks, capped_counts}
 use Rattle.obs_epoch.specs.Clock.{is_pending, closes_first}
-use Rattle.obs_epoch.specs.GathererSteps.{GathererValue}
+use Rattle.obs_epoch.specs.GathererAfter.{GathererValue}
 use Rattle.obs_epoch.specs.GathererAfter.{HasTakenMessages}
+use Rattle.std.specs.Prelude.{false}
+use Rattle.std.specs.Prelude.{get_or}
+use Rattle.std.specs.Prelude.{length}
+use Rattle.gnss_obs.specs.declared.cell.Cell.{Cell}
+use Rattle.gnss_obs.specs.HeardCells.{heard_cell}
+use Rattle.obs_epoch.specs.declared.choice.Choice.{Choice}
+use Rattle.obs_epoch.specs.declared.choice.EpochCounts.{EpochCounts}
+use Rattle.obs_epoch.specs.Cells.{has_listed_key}
+use Rattle.obs_epoch.specs.GathererAfter.{lock_place}
+use Rattle.obs_epoch.specs.GathererAfter.{most_locks}
+use Rattle.obs_epoch.specs.Thinning.{lost_before}
+use Rattle.obs_epoch.specs.Thinning.{up_to_most}
+
+abbrev pub is_lost_in : List Bool → Cell → Bool
+is_lost_in marks x = get_or marks (lock_place (heard_cell x)) false
+
+-- The entries are those of these epochs.
+pub record AreMarks (c : Choice) (marks : List Bool) (es : List Closed) : Type 0 where
+  pub size : length marks ≡ most_locks
+  pub each : (x : Cell) → has_listed_key (heard_cell x) ≡ true → is_lost_in marks x ≡ lost_before c es x
+
+-- The counts are those of these epochs.
+abbrev pub capped_counts : EpochCounts → EpochCounts
+capped_counts n =
+    record { epochs = up_to_most n.epochs; window = up_to_most n.window; grid = up_to_most n.grid }
 
 -- ---- the epochs of a list of messages
 

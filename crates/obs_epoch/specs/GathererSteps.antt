@@ -6,7 +6,8 @@ use Rattle.gnss_system.specs.declared.system.System.{System}
 use Rattle.gnss_system.specs.declared.system.System.TheVariants.{Gps, Galileo}
 use Rattle.gnss_system.specs.Systems.{systems}
 use Rattle.gnss_obs.specs.declared.cell.StationValues.{StationValues}
-use Rattle.obs_epoch.specs.Held.{CellOutcome, Kept, count_in, lookup, note_systems, outcome_of}
+use Rattle.obs_epoch.specs.Held.{CellOutcome, Kept, count_in, note_systems, outcome_of}
+use Rattle.obs_epoch.specs.GathererAfter.{lookup}
 use Rattle.rtcm_msg.specs.declared.entry.Entry.{Entry}
 use Rattle.rtcm_msg.specs.declared.view.Form.{Form}
 use Rattle.obs_epoch.specs.Heard.{Heard, seen_in}
@@ -26,17 +27,14 @@ use Rattle.gnss_obs.specs.Order.{AreSortedByPlan, insert_by, cell_sort_key}
 use Rattle.obs_epoch.specs.Loss.{lli_with}
 use Rattle.obs_epoch.specs.Epochs.{values_after_message}
 use Rattle.obs_epoch.specs.Clock.{State}
-use Rattle.obs_epoch.specs.Step.{kind_by, step_by, open_by, ended_where, is_same, time_in, closed_time}
+use Rattle.obs_epoch.specs.Step.{kind_by, step_by, open_by, ended_where, is_same, closed_time}
+use Rattle.obs_epoch.specs.GathererAfter.{time_in}
 use Rattle.gnss_obs.specs.declared.cell.Cell.{Cell}
 use Rattle.obs_epoch.specs.declared.locks.KnownLock.{KnownLock}
 use Rattle.obs_epoch.specs.declared.taken.CellCounts.{CellCounts}
+use Rattle.obs_epoch.specs.GathererAfter.{GathererValue}
 
 -- ---- the pending epoch, and the one closed last
-
--- The pending epoch, its cells sorted; if none is pending, the one closed last.
-abbrev pub epoch_in : State → CellLists → Closed → EpochValue
-epoch_in clock pending last =
-    if clock.pending then record { time = time_in clock; cells = sorted_lists clock.setup.plan pending } else last.epoch
 
 -- The epoch closed last, whose cells are removed when another one begins.
 abbrev pub cleared_if : Bool → Closed → Closed
@@ -63,17 +61,6 @@ abbrev pub with_more : PlanValue → EpochValue → Cell → EpochValue
 with_more p e m = with_more_in m.satellite.system p e m
 
 -- ---- the gatherer
-
-pub record GathererValue : Type 0 where
-  pub clock : State
-  pub epoch : EpochValue
-  pub locks : List (Option KnownLock)
-  pub marks : List Bool
-  pub counts : EpochCounts
-  pub chosen : Bool
-  pub values : StationValues
-  pub just_closed : Bool
-  pub has_ended : Bool
 
 -- A cell of a planned signal, before it is kept.
 abbrev pub planned_cell : PlanValue → HeardCell → Option Cell

@@ -17,34 +17,17 @@ use Rattle.gnss_obs.specs.PlanOrder.{is_held}
 use Rattle.gnss_obs.specs.Arriving.{outcome_by}
 use Rattle.gnss_obs.specs.declared.epoch_cells.Added.{Added}
 use Rattle.gnss_obs.specs.declared.epoch_cells.Added.TheVariants as added
+use Rattle.obs_epoch.specs.GathererAfter.{most_locks, lock_place_in, lock_place}
 
 -- ---- lock records: an entry for each key, system after system
-
-abbrev pub most_locks : ℕ
-most_locks = key_count
 
 -- No key has a record.
 abbrev pub no_locks : List (Option KnownLock)
 no_locks = replicate most_locks None
 
--- The index of the entry of a key.
-abbrev pub lock_place_in : System → ℕ → ℕ → ℕ
-lock_place_in system id index = first_key system + (length (table system) * (id - 1) + index)
-
-abbrev pub lock_place : HeardCell → ℕ
-lock_place x = lock_place_in x.satellite.system x.satellite.id x.signal.index
-
 -- These are the entries of the keys of a system: they begin at the first one, and each satellite has that many.
 abbrev pub AreKeysOf : System → Keys → Type 0
 AreKeysOf system keys = (keys.first ≡ lock_place_in system 1 0) × (keys.signals ≡ length (table system))
-
--- The record of a key.
-abbrev pub lookup : List (Option KnownLock) → HeardCell → Option KnownLock
-lookup locks key = if has_listed_key key then get_or locks (lock_place key) None else None
-
--- The number of keys that have a record.
-abbrev pub recorded : List (Option KnownLock) → ℕ
-recorded locks = count_by is_some locks
 
 abbrev pub put : List (Option KnownLock) → HeardCell → KnownLock → List (Option KnownLock)
 put locks x l = set locks (lock_place x) (Some l)
@@ -60,12 +43,6 @@ note_all t locks (m ∷ ms) = note_all t (note t locks (heard_cell m)) ms
 -- Records the locks of the cells of an epoch, one system after the other.
 abbrev pub note_systems : EpochValue → List (Option KnownLock) → List System → List (Option KnownLock)
 note_systems e locks systems = fold (λ l s. note_all e.time l (cells_of s e)) locks systems
-
--- Exactly the keys of these cells have records.
-pub record TracksLocks (locks : List (Option KnownLock)) (noted : List HeardCell) : Type 0 where
-  pub has : (key : HeardCell) → is_some (lookup locks key) ≡ is_among noted key
-  pub count : recorded locks ≡ length (firsts noted)
-  pub size : length locks ≡ most_locks
 
 -- ---- cells: the first of each key, up to the largest number of kept cells
 

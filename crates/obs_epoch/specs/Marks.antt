@@ -11,21 +11,14 @@ use Rattle.gnss_obs.specs.Values.{Closed, EpochValue, cells_of}
 use Rattle.obs_epoch.specs.declared.choice.Choice.{Choice}
 use Rattle.obs_epoch.specs.declared.choice.EpochCounts.{EpochCounts}
 use Rattle.obs_epoch.specs.Cells.{has_listed_key}
-use Rattle.obs_epoch.specs.Held.{lock_place, most_locks}
+use Rattle.obs_epoch.specs.GathererAfter.{lock_place, most_locks}
 use Rattle.obs_epoch.specs.Thinning.{has_phase, lost_before, mark_if, marked_epoch, up_to_most}
+use Rattle.obs_epoch.specs.GathererHistory.{is_lost_in}
 
 -- ---- an entry for each satellite and signal: whether lock was lost
 
 abbrev pub no_marks : List Bool
 no_marks = replicate most_locks false
-
-abbrev pub is_lost_in : List Bool → Cell → Bool
-is_lost_in marks x = get_or marks (lock_place (heard_cell x)) false
-
--- The entries are those of these epochs.
-pub record AreMarks (c : Choice) (marks : List Bool) (es : List Closed) : Type 0 where
-  pub size : length marks ≡ most_locks
-  pub each : (x : Cell) → has_listed_key (heard_cell x) ≡ true → is_lost_in marks x ≡ lost_before c es x
 
 -- ---- one more epoch
 
@@ -76,7 +69,3 @@ counted_epoch in_window on_grid n = record {
   grid = up_to_most (n.grid + one_if on_grid);
 }
 
--- The counts are those of these epochs.
-abbrev pub capped_counts : EpochCounts → EpochCounts
-capped_counts n =
-    record { epochs = up_to_most n.epochs; window = up_to_most n.window; grid = up_to_most n.grid }

@@ -19,16 +19,24 @@ pub use Rattle.obs_epoch.specs.Calls.{IsCloseFirstExactly}
 pub use Rattle.obs_epoch.specs.Cells.{add, cells_at, cells_counted, counts_of, counts_of_message, firsts, firsts_after, has_listed_key, is_among, is_of_system, is_planned, kept, kept_of_all, no_counts, offered, with_skipped}
 pub use Rattle.obs_epoch.specs.Clock.{HasHeardMessages, State, closes_first, is_pending}
 pub use Rattle.obs_epoch.specs.Epochs.{cells_with_lli, closed_so_far, closed_times, epoch_at, is_shut, values_after_message, values_of}
-pub use Rattle.obs_epoch.specs.GathererSteps.{GathererValue, Loaded, begun_by, closed_if, closed_noted, end_step, epoch_begun, epoch_in, epoch_with, hold, hold_by, load, load_entries, load_one, loaded_if, loaded_where, noted, outcome_in, planned_cell, shut_where, take_step, with_more, with_more_in, with_time, with_unlisted}
+pub use Rattle.obs_epoch.specs.GathererSteps.{Loaded, begun_by, closed_if, closed_noted, end_step, epoch_begun}
+pub use Rattle.obs_epoch.specs.GathererSteps.{epoch_with, hold, hold_by, load, load_entries, load_one, loaded_if}
+pub use Rattle.obs_epoch.specs.GathererSteps.{loaded_where, noted, outcome_in, planned_cell, shut_where, take_step}
+pub use Rattle.obs_epoch.specs.GathererSteps.{with_more, with_more_in, with_time, with_unlisted}
+pub use Rattle.obs_epoch.specs.GathererAfter.{GathererValue, epoch_in}
 pub use Rattle.obs_epoch.specs.GathererAfter.{HasTakenMessages, Locked, held_at, locked_in}
 pub use Rattle.obs_epoch.specs.GathererHistory.{HasGatheredEpochs, IsAwaited, all_epochs, before_closing, closed_list_at, open_after, returned_epoch}
 pub use Rattle.obs_epoch.specs.Heard.{GatherSetup, Heard, ends_epoch, heard, heard_by, heard_msm, heard_summary, is_own, lock_by, observed, seen_in, unlisted_in, without_cells}
-pub use Rattle.obs_epoch.specs.Held.{CellOutcome, Crowded, Kept, Repeated, Skipped, TracksLocks, count_in, lock_place, lookup, most_locks, no_locks, note, note_all, outcome_of, outcome_of_added, put, recorded}
+pub use Rattle.obs_epoch.specs.Held.{CellOutcome, Crowded, Kept, Repeated, Skipped, count_in, no_locks, note, note_all}
+pub use Rattle.obs_epoch.specs.Held.{outcome_of, outcome_of_added, put}
+pub use Rattle.obs_epoch.specs.GathererAfter.{TracksLocks, lock_place, lookup, most_locks, recorded}
 pub use Rattle.obs_epoch.specs.Kinds.{is_accepted, is_close_first, kind_after, kind_of, with_counts}
 pub use Rattle.obs_epoch.specs.Loss.{has_lost, is_locked, last_of, latest_in, lli_of, lli_with, lock_of, locked_at, previous, times}
 pub use Rattle.obs_epoch.specs.Reach.{IsHeard, IsHeardCell}
 pub use Rattle.obs_epoch.specs.SignalCounts.{AreSignalCounts, CountsEntries, SignalCountsValue, brings_value, count_of, counted, counted_more, is_of_signal, signal_counts, signal_in, up_by, valued}
-pub use Rattle.obs_epoch.specs.Step.{KeepsEpoch, ended_where, open_by, is_first_at, is_late_at, is_same, kind_by, step_by, time_in}
+pub use Rattle.obs_epoch.specs.Step.{KeepsEpoch, ended_where, open_by, is_first_at, is_late_at, is_same, kind_by}
+pub use Rattle.obs_epoch.specs.Step.{step_by}
+pub use Rattle.obs_epoch.specs.GathererAfter.{time_in}
 pub use Rattle.obs_epoch.specs.Times.{Timed, ahead, from_first, greatest_time, is_at, is_closed, is_late, is_past, max_known, taken_at, time_of, timed, timed_after}
 pub use Rattle.obs_epoch.specs.declared.locks.KnownLock.{KnownLock}
 pub use Rattle.obs_epoch.specs.declared.taken.CellCounts.{CellCounts}
@@ -40,7 +48,8 @@ pub use Rattle.rtcm_msg.specs.Entries.{entries}
 pub use Rattle.rtcm_msg.specs.Msm.{MsmValue}
 pub use Rattle.rtcm_msg.specs.ValueCounts.{has_id, has_listed_value, is_in, value_count}
 pub use Rattle.rtcm_msg.specs.Viewed.{viewed_message}
-pub use Rattle.rtcm_msg.specs.Views.{FormedMsm, formed, message_in}
+pub use Rattle.rtcm_msg.specs.Views.{FormedMsm, formed}
+pub use Rattle.rtcm_msg.specs.Decoding.{message_in}
 pub use Rattle.rtcm_msg.specs.declared.entry.Entry.{Entry}
 pub use Rattle.rtcm_msg.specs.declared.header.MsmHeader.{MsmHeader}
 pub use Rattle.rtcm_msg.specs.declared.message.Message.TheVariants.{Msm4, Msm5, Msm6, Msm7, Other, Station}

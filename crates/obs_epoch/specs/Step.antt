@@ -54,10 +54,6 @@ step_by g m = ended_where (ends_epoch g.setup m) (timed_by g m)
 
 -- ---- a step whose epoch is still to be closed
 
--- The greatest time, 0 before the first.
-abbrev pub time_in : State → ℕ
-time_in g = option_map_or (λ t. t) g.latest 0
-
 abbrev pub open_at : State → ℕ → State
 open_at g tow =
     if is_accepted (kind_now g no_counts tow) then record g { latest = Some (time_at g tow); pending = true } else g

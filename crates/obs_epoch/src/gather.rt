@@ -14,7 +14,8 @@ ghost use Rattle.gnss_obs.specs.Order.{AreSortedByPlan};
 ghost use Rattle.gnss_obs.specs.Plans.{place_in};
 ghost use Rattle.gnss_obs.specs.HeardCells.{heard_cell, IsObserved};
 ghost use Rattle.obs_epoch.specs.Epochs.{values_after_message, values_of};
-ghost use Rattle.obs_epoch.specs.Held.{count_in, most_locks, outcome_of_added, recorded};
+ghost use Rattle.obs_epoch.specs.Held.{count_in, outcome_of_added};
+ghost use Rattle.obs_epoch.specs.GathererAfter.{most_locks, recorded};
 ghost use Rattle.obs_epoch.specs.Step.{kind_by, closed_time, ended_where, step_by};
 ghost use Rattle.gnss_obs.specs.Values.{Closed, cells_of, most_cells, planned_of};
 ghost use Rattle.obs_epoch.specs.Kinds.{is_no_station, with_counts};
@@ -64,7 +65,8 @@ pub struct Gatherer {
 }
 
 impl Model for Gatherer {
-    ghost use Rattle.obs_epoch.specs.GathererSteps.{GathererValue, IsGathering, epoch_in};
+    ghost use Rattle.obs_epoch.specs.GathererSteps.{IsGathering};
+    ghost use Rattle.obs_epoch.specs.GathererAfter.{GathererValue, epoch_in};
 
     ghost Value = { GathererValue };
 

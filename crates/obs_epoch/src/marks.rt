@@ -2,7 +2,8 @@
 //! epoch on the grid is to be marked.
 ghost use Rattle.std.specs.Prelude.{◌≡◌, ◌<◌, ◌≤◌, length, IfOk};
 ghost use Rattle.obs_epoch.specs.Held.{AreKeysOf};
-ghost use Rattle.obs_epoch.specs.Marks.{is_lost_in, no_marks, note_lost, note_losses};
+ghost use Rattle.obs_epoch.specs.Marks.{no_marks, note_lost, note_losses};
+ghost use Rattle.obs_epoch.specs.GathererHistory.{is_lost_in};
 ghost use Rattle.obs_epoch.specs.Marks.{note_systems_lost, with_mark_in, with_marks_of};
 ghost use Rattle.obs_epoch.specs.Thinning.{marked_epoch};
 ghost use Rattle.gnss_obs.specs.HeardCells.{IsKey, heard_cell};
@@ -24,7 +25,7 @@ pub struct Marks {
 
 impl Model for Marks {
     ghost use Rattle.std.specs.Prelude.{Bool, List, ◌≡◌, length};
-    ghost use Rattle.obs_epoch.specs.Held.{most_locks};
+    ghost use Rattle.obs_epoch.specs.GathererAfter.{most_locks};
 
     ghost Value = { List Bool };
 

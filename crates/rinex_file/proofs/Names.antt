@@ -44,14 +44,16 @@ pub use Rattle.rinex_columns.specs.Limits.{most_line}
 unfoldable pub use Rattle.rinex_file.specs.Lines.{epoch_line, field, satellite_line, signal_text}
 pub use Rattle.rinex_file.specs.Lines.{epoch_fields, lli_byte, row_text, strength_byte}
 pub use Rattle.rinex_columns.specs.Numbers.{fixed, joined, left, padded, right}
-pub use Rattle.rinex_file.specs.ParserState.{FollowsHistory, MayRunOut, GoesOnWithLine, History, IsLast, IsNext, RefusesLine, ShowsLine, TakesLine, changes_of, events_in, nothing, progress_at, rows_in, stamped_at, with_line}
+pub use Rattle.rinex_file.specs.ParserState.{FollowsHistory, MayRunOut, GoesOnWithLine, IsLast, IsNext, RefusesLine, ShowsLine, TakesLine, progress_at, stamped_at, with_line}
+pub use Rattle.rinex_file.specs.Counting.{History, changes_of, events_in, nothing, rows_in}
 pub use Rattle.rinex_file.specs.Read.EpochSteps.{HasReadTo, IsSummaryOf}
 pub use Rattle.rinex_columns.specs.Read.{ReadsExactly, digits_in, has, number_in, some_if}
 pub use Rattle.rinex_file.specs.Read.HeaderSteps.{AreItemsBefore, EndsHeader, IsLineOfSlots, TakesOrRefusesSlots, TakesSlots, with_slots, GoesOn, GoesTo, HasSignalAt, IsHeaderLineRead, IsOnly, NoneGoesOn, ReadsOrRefuses, ReadsOrRefusesTexts, ReadsTexts, RefusesHeaderLine, RefusesTexts, RefusesTypes, SameFrom, StepsTo, Takes, TakesHeaderLine, TakesTypes, begins_with, row_label, with_interval, expected_if, if_fine, known_line, texts_in, with_first, with_letter, with_texts, with_types, with_values}
 unfoldable pub use Rattle.rinex_file.specs.Read.Keeping.{stamped_text}
 pub use Rattle.rinex_file.specs.Read.Keeping.{ExplainsAny, HasReadWhole, HasRoom, HaveRowsRoom, Stores, history_of}
 unfoldable pub use Rattle.rinex_file.specs.Read.Progress.{HasLinesLeft}
-pub use Rattle.rinex_file.specs.Read.Progress.{AreListsAt, AreReadAt, IsRowRead, IsRowUnread, AreUnread, AreSameTexts, AreTypes, AreSameItems, slots_begun, AreValid, Has, HasRow, IsAt, IsAtEpoch, IsHeadAt, IsInEpoch, IsInEvent, IsInHeader, IsPosition, IsShown, Known, Progress, StartsAt, counted, fits, is_chosen, begun_at, epoch_after, expected_next, file_with, position_of, shown_with, signals_begun, stamped, with_epoch, with_row, known_slots}
+pub use Rattle.rinex_file.specs.Read.Progress.{AreListsAt, AreReadAt, IsRowRead, IsRowUnread, AreUnread, AreSameTexts, AreTypes, AreSameItems, slots_begun, AreValid, Has, HasRow, IsAt, IsAtEpoch, IsHeadAt, IsInEpoch, IsInEvent, IsInHeader, IsPosition, Known, Progress, counted, fits, is_chosen, begun_at, epoch_after, expected_next, file_with, position_of, shown_with, signals_begun, stamped, with_epoch, with_row, known_slots}
+pub use Rattle.rinex_file.specs.Begun.{IsShown, StartsAt}
 pub use Rattle.rinex_file.specs.Read.Row.{AreEntries, IsRowOf}
 pub use Rattle.rinex_file.specs.Read.Sound.{AreLinesAt, AreLinesOf, AreRead, HasReadLines, IsBegun, IsEventExpected, IsSound, IsSoundAt, MayBegin, values_now}
 pub use Rattle.rinex_file.specs.Read.Steps.{HasRead, IsTaken, IsTextOfOnly, IsWhole, ReadsNextLine, file_at}

@@ -11,7 +11,25 @@ use Rattle.rinex_file.specs.FileValues.{values_following, time_stamped, most_row
 use Rattle.rinex_file.specs.Header.{header_lines}
 use Rattle.rinex_file.specs.Lines.{epoch_line, satellite_line}
 use Rattle.rinex_file.specs.File.{stamped_lines, change_lines, event_lines}
-use Rattle.rinex_file.specs.Read.Progress.{Shown, IsShown, StartsAt}
+use Rattle.rinex_file.specs.Header.{Shown}
+use Rattle.std.specs.Prelude.{IfSome}
+use Rattle.std.specs.Prelude.{⊤}
+use Rattle.gnss_obs.specs.Intervals.{IsInterval}
+use Rattle.rinex_file.specs.FileValues.{AreTexts}
+use Rattle.rinex_file.specs.FileValues.{IsPlan}
+use Rattle.rinex_file.specs.FileValues.{AreValues}
+
+pub record IsShown (h : Shown) : Type 0 where
+  pub texts : AreTexts h.texts
+  pub interval : IfSome h.interval IsInterval
+  pub plan : IsPlan h.plan
+  pub values : AreValues h.values
+  pub first : IsTime h.first
+
+-- the first epoch, if there is one, is at this time
+abbrev pub StartsAt : ℕ → List Stamped → Type 0
+StartsAt first [] = ⊤
+StartsAt first (e ∷ es) = first ≡ e.time
 
 -- a header, and whole epochs that may follow it
 pub record AreWhole (h : Shown) (es : List Stamped) : Type 0 where

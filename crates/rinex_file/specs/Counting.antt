@@ -7,8 +7,34 @@ use Rattle.rinex_file.specs.Value.{FileValue}
 use Rattle.rinex_file.specs.FileValues.{IsFileValue, time_stamped}
 use Rattle.rinex_file.specs.File.{file_text, file_lines}
 use Rattle.rinex_file.specs.Exact.{IsNoFault, most_lines}
-use Rattle.rinex_file.specs.ParserState.{rows_in, events_in}
 use Rattle.rinex_file.specs.Times.{AreTimes}
+use Rattle.std.specs.Prelude.{[]}
+use Rattle.std.specs.Prelude.{Some}
+use Rattle.std.specs.Prelude.{None}
+use Rattle.std.specs.List.{sum_by}
+use Rattle.rinex_file.specs.Value.{SatelliteRow}
+use Rattle.rinex_file.specs.Value.{Stamped}
+use Rattle.gnss_obs.specs.declared.cell.StationValues.{StationValues}
+
+-- what was read of a file after its header: epochs, and the satellites of an epoch that was begun
+pub record History : Type 0 where
+  pub epochs : List Stamped
+  pub rows : List SatelliteRow
+
+abbrev pub nothing : History
+nothing = record { epochs = []; rows = [] }
+
+-- the number of lines of satellites
+abbrev pub rows_in : List Stamped → ℕ
+rows_in epochs = sum_by (λ e. length e.rows) epochs
+
+-- the number of events of a change of station values
+abbrev pub changes_of : Option StationValues → ℕ
+changes_of None = 0
+changes_of (Some v) = 1
+
+abbrev pub events_in : List Stamped → ℕ
+events_in epochs = sum_by (λ e. changes_of e.change) epochs
 
 -- the numbers of the file's epochs, of its lines of satellites, and of its events
 pub record AreCounts (n : Counts) (v : FileValue) : Type 0 where

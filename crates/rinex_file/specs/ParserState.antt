@@ -19,14 +19,7 @@ use Rattle.rinex_file.specs.FileValues.{time_stamped, rank_of, changed_by, value
 use Rattle.rinex_file.specs.Header.{is_of_types}
 use Rattle.rinex_file.specs.Read.Progress.{Progress, HasLinesLeft}
 use Rattle.rinex_file.specs.Read.Sound.{IsSound, AreLinesOf}
-
--- what was read of a file after its header: epochs, and the satellites of an epoch that was begun
-pub record History : Type 0 where
-  pub epochs : List Stamped
-  pub rows : List SatelliteRow
-
-abbrev pub nothing : History
-nothing = record { epochs = []; rows = [] }
+use Rattle.rinex_file.specs.Counting.{History, rows_in, events_in}
 
 -- what was read if a parser state has this history
 abbrev pub progress_at : ParserState → History → Progress
@@ -36,18 +29,6 @@ progress_at c h =
 -- exactly the numbers above this one continue the increasing numbers
 abbrev pub IsLast : List ℕ → ℕ → Type 0
 IsLast xs last = (n : ℕ) → 0 < n → (last < n) ↔ IsStrictlyIncreasing (xs ++ n ∷ [])
-
--- the number of lines of satellites
-abbrev pub rows_in : List Stamped → ℕ
-rows_in epochs = sum_by (λ e. length e.rows) epochs
-
--- the number of events of a change of station values
-abbrev pub changes_of : Option StationValues → ℕ
-changes_of None = 0
-changes_of (Some v) = 1
-
-abbrev pub events_in : List Stamped → ℕ
-events_in epochs = sum_by (λ e. changes_of e.change) epochs
 
 -- the times, the last rank, the last change of station values, and the counts are those of a history
 pub record AreCounted (h : History) (t : Option EpochTimes) (last_rank : ℕ) (changed : Option StationValues)

@@ -2,7 +2,7 @@
 ghost use Rattle.std.specs.Prelude.{◌≡◌, length};
 ghost use Rattle.std.specs.List.{sum_by};
 ghost use Rattle.rinex_file.specs.FileValues.{has_some_value};
-ghost use Rattle.rinex_file.specs.ParserState.{events_in};
+ghost use Rattle.rinex_file.specs.Counting.{events_in};
 
 use crate::header::texts::HeaderTexts;
 use crate::read::file::Counts;
@@ -107,7 +107,7 @@ impl Model for ObsFile {
     ghost use Rattle.std.specs.Prelude.{◌≡◌};
     ghost use Rattle.rinex_file.specs.Value.{FileValue, file_with};
     ghost use Rattle.rinex_file.specs.FileValues.{IsFileValue};
-    ghost use Rattle.rinex_file.specs.ParserState.{rows_in, events_in};
+    ghost use Rattle.rinex_file.specs.Counting.{rows_in, events_in};
 
     ghost Value = { FileValue };
 

@@ -26,7 +26,7 @@ use Rattle.line_texts.specs.LeapSeconds.{leap_at, leap_months, month_number}
 use Rattle.gnss_obs.specs.Dates.{civil_of}
 use Rattle.rtcm_inspect.specs.ChannelLaws.{HasChannels}
 use Rattle.rtcm_inspect.specs.FirstMessages.{first_station}
-use Rattle.rtcm_inspect.specs.FirstTows.{first_tow}
+use Rattle.rtcm_inspect.specs.WeekLaws.{first_tow}
 use Rattle.rtcm_inspect.specs.Fitting.{options_line}
 use Rattle.rtcm_inspect.specs.NearWeek.{IsWeekFor, IsWeekNear}
 use Rattle.rtcm_inspect.specs.OptionOutput.{leap_near}

@@ -19,7 +19,7 @@ use Rattle.command_line.specs.CommandLine as rules
 use Rattle.line_texts.specs.LeapSeconds.{leap_at}
 use Rattle.line_texts.specs.Lines.{line}
 use Rattle.rtcm_inspect.specs.FirstMessages.{first_station}
-use Rattle.rtcm_inspect.specs.FirstTows.{first_tow}
+use Rattle.rtcm_inspect.specs.WeekLaws.{first_tow}
 use Rattle.rtcm_inspect.specs.Fitting.{option_words, options_text}
 use Rattle.rtcm_inspect.specs.NearWeek.{IsWeekFor, IsWeekNear}
 use Rattle.rtcm_inspect.specs.OptionOutput.{leap_near}

@@ -6,7 +6,7 @@ use Rattle.rtcm_msg.specs.declared.view.Form.TheVariants as forms
 use Rattle.obs_epoch.specs.declared.choice.Choice.{Choice}
 use Rattle.obs_epoch.specs.Choices.{in_window, is_chosen, on_grid}
 use Rattle.obs_epoch.specs.GathererHistory.{whole_list}
-use Rattle.obs_epoch.specs.Marks.{capped_counts}
+use Rattle.obs_epoch.specs.GathererHistory.{capped_counts}
 use Rattle.obs_epoch.specs.Thinning.{has_satellite, marked_after, thin, thin_after}
 use Rattle.rtcm_convert.specs.Converted.{epoch_counts}
 use Rattle.gnss_obs.specs.Values.{Closed}

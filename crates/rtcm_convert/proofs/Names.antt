@@ -7,7 +7,7 @@ pub use Rattle.gnss_obs.specs.declared.cell.StationValues.{StationValues}
 pub use Rattle.gnss_system.specs.declared.system.System.{System}
 pub use Rattle.obs_epoch.specs.Cells.{counts_of, counts_of_message, firsts, is_among, is_planned, no_counts, offered, with_skipped}
 pub use Rattle.obs_epoch.specs.Epochs.{closed_so_far, closed_times}
-pub use Rattle.obs_epoch.specs.GathererSteps.{GathererValue}
+pub use Rattle.obs_epoch.specs.GathererAfter.{GathererValue}
 pub use Rattle.obs_epoch.specs.GathererAfter.{locked_in}
 pub use Rattle.obs_epoch.specs.GathererHistory.{HasGatheredEpochs, IsAwaited, all_epochs, closed_at, closed_by, closed_epochs, closed_in, closed_list_at, is_done, known_epochs, plan_in}
 pub use Rattle.obs_epoch.specs.Heard.{Heard, heard, heard_by, heard_msm, heard_of, is_own, seen_in, unlisted_in}

@@ -1,7 +1,7 @@
 -- A message and a frame that are processed whole.
 use Rattle.obs_epoch.specs.GathererHistory.{closed_list_at, whole_list}
 use Rattle.obs_epoch.specs.Laws.{AllClosed, NoneReturned}
-use Rattle.obs_epoch.specs.Marks.{capped_counts}
+use Rattle.obs_epoch.specs.GathererHistory.{capped_counts}
 use Rattle.obs_epoch.specs.Thinning.{counts_left_out}
 use Rattle.rtcm_convert.specs.Filed.{interval_in}
 use Rattle.rtcm_convert.proofs.KeptLemmas.{closed_all}

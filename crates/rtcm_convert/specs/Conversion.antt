@@ -10,7 +10,7 @@ use Rattle.rtcm_scan.specs.Drained.{IsDrained}
 use Rattle.rtcm_convert.specs.Converted.{SetupValue, epoch_counts, epochs_in}
 use Rattle.gnss_system.specs.SystemValues.{tabulate}
 use Rattle.gnss_obs.specs.Values.{cells_of}
-use Rattle.obs_epoch.specs.Held.{recorded}
+use Rattle.obs_epoch.specs.GathererAfter.{recorded}
 use Rattle.rtcm_convert.specs.Kept.{IsWithinBounds, IsKeptNow, IsKeptAtEnd}
 use Rattle.rtcm_convert.specs.declared.converter.Kept.{Kept}
 use Rattle.rtcm_convert.specs.Filed.{HasGathered}

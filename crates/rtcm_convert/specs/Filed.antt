@@ -4,7 +4,7 @@ use Rattle.rtcm_scan.specs.Frames.{Framed}
 use Rattle.gnss_obs.specs.Values.{PlanValue, EpochValue, Closed, satellites_written}
 use Rattle.gnss_obs.specs.declared.cell.StationValues.{StationValues}
 use Rattle.obs_epoch.specs.Heard.{Heard}
-use Rattle.obs_epoch.specs.GathererSteps.{GathererValue}
+use Rattle.obs_epoch.specs.GathererAfter.{GathererValue}
 use Rattle.obs_epoch.specs.GathererHistory.{HasGatheredEpochs, closed_epochs, closed_in, plan_in}
 use Rattle.rinex_file.specs.Texts.{HeaderLists}
 use Rattle.rinex_file.specs.File.{header_text, epoch_text, change_text}

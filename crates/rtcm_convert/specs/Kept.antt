@@ -12,7 +12,7 @@ use Rattle.obs_epoch.specs.Times.{Timed, timed}
 use Rattle.obs_epoch.specs.Cells.{firsts}
 use Rattle.obs_epoch.specs.Loss.{times}
 use Rattle.obs_epoch.specs.Epochs.{closed_times}
-use Rattle.obs_epoch.specs.Held.{most_locks}
+use Rattle.obs_epoch.specs.GathererAfter.{most_locks}
 use Rattle.obs_epoch.specs.GathererAfter.{locked_in, held_at}
 use Rattle.rtcm_convert.specs.Converted.{SetupValue, messages_of}
 use Rattle.gnss_obs.specs.Values.{cells_of}

@@ -8,7 +8,7 @@ use Rattle.obs_epoch.specs.Kinds.{is_close_first, kind_of}
 use Rattle.obs_epoch.specs.declared.taken.Kind.{Kind}
 use Rattle.obs_epoch.specs.GathererHistory.{IsAwaited, closed_epochs}
 use Rattle.rtcm_convert.specs.Converted.{SetupValue, text_with, so_far, file, epoch_counts, epochs_in}
-use Rattle.obs_epoch.specs.Marks.{capped_counts}
+use Rattle.obs_epoch.specs.GathererHistory.{capped_counts}
 use Rattle.rtcm_convert.specs.Outcomes.{capped}
 use Rattle.rtcm_convert.specs.Fed.{AppendsBetween, AppendsPrefixBetween}
 use Rattle.rtcm_convert.specs.Filed.{HasFiledEpochs, Settled, HasFiledFrames, HasGathered}

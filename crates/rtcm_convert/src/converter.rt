@@ -7,7 +7,7 @@ ghost use Rattle.rtcm_scan.specs.Decided.{decided, decided_frames, most_undecide
 ghost use Rattle.rtcm_bits.specs.FrameOf.{longest_frame};
 ghost use Rattle.rtcm_scan.specs.Looks.{examined, examined_now, most, most_looks, most_now};
 ghost use Rattle.gnss_obs.specs.Values.{cells_of};
-ghost use Rattle.obs_epoch.specs.Held.{most_locks, recorded};
+ghost use Rattle.obs_epoch.specs.GathererAfter.{most_locks, recorded};
 ghost use Rattle.gnss_obs.specs.Values.{most_cells};
 ghost use Rattle.rtcm_convert.specs.Kept.{cells_kept, locks_kept, locks_in_all, IsWithinBounds, IsKeptNow, IsKeptAtEnd};
 ghost use Rattle.devices.specs.Device.{IsUntouched, Moves};

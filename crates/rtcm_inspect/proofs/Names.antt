@@ -23,7 +23,7 @@ pub use Rattle.rinex_file.specs.Counting.{AreCounts, HoldsOr, IsSummary, IsTextW
 pub use Rattle.rinex_file.specs.Exact.{IfTextOfFile, IsNoFault, most_lines}
 pub use Rattle.rinex_file.specs.File.{file_lines, file_text}
 pub use Rattle.rinex_file.specs.FileValues.{IsFileValue, time_stamped}
-pub use Rattle.rinex_file.specs.ParserState.{rows_in}
+pub use Rattle.rinex_file.specs.Counting.{rows_in}
 pub use Rattle.rinex_file.specs.Read.EpochSteps.{HasReadEpochs, IsSummaryOf, ReadsEpoch}
 pub use Rattle.rinex_file.specs.Times.{AreTimes, AreTimesOrNone, steps_of}
 pub use Rattle.rinex_file.specs.declared.read.times.EpochTimes.{EpochTimes}
@@ -48,7 +48,8 @@ unfoldable pub use Rattle.rtcm_inspect.specs.DateTexts.{time_line}
 pub use Rattle.rtcm_inspect.specs.DateTexts.{clock_text, date_text, moment_words, times_lines}
 pub use Rattle.rtcm_inspect.specs.Devices.{EndsDelivery, IsDelivered, culprit, stream_fault}
 pub use Rattle.rtcm_inspect.specs.FirstMessages.{AreFirst, first_station, mixed_of, point_of, sender, stations_in, stations_of, with_other}
-pub use Rattle.rtcm_inspect.specs.FirstTows.{AreTows, first_in, first_tow, tow_of}
+pub use Rattle.rtcm_inspect.specs.FirstTows.{AreTows}
+pub use Rattle.rtcm_inspect.specs.WeekLaws.{first_in, first_tow, tow_of}
 unfoldable pub use Rattle.rtcm_inspect.specs.Fitting.{options_line}
 pub use Rattle.rtcm_inspect.specs.Fitting.{antenna_words, forms_words, further_words, height_text, number_start, number_words, options_text, position_text, position_word, station_words}
 unfoldable pub use Rattle.rtcm_inspect.specs.FrameLines.{frame_line, number_word}
@@ -82,7 +83,8 @@ pub use Rattle.rtcm_msg.specs.Entries.{entries}
 pub use Rattle.rtcm_msg.specs.Msm.{MasksValue, MsmValue}
 pub use Rattle.rtcm_msg.specs.Station.{InRange}
 pub use Rattle.rtcm_msg.specs.Viewed.{viewed_message}
-pub use Rattle.rtcm_msg.specs.Views.{FormedMsm, formed, message_in}
+pub use Rattle.rtcm_msg.specs.Views.{FormedMsm, formed}
+pub use Rattle.rtcm_msg.specs.Decoding.{message_in}
 pub use Rattle.rtcm_msg.specs.Numbers.{have_form, message_number}
 pub use Rattle.rtcm_msg.specs.declared.entry.Entry.{Entry}
 pub use Rattle.rtcm_msg.specs.declared.fault.MsgFault.{MsgFault}

@@ -3,7 +3,7 @@ use Rattle.std.specs.Prelude.{◌≡◌, ℕ, ◌+◌, ◌-◌, ◌/◌, nat_lt,
 use Rattle.std.specs.Prelude.{if◌then◌else◌, codes, decimal, Option, Some, None}
 use Rattle.std.specs.List.{sum_by}
 use Rattle.rinex_file.specs.FileValues.{time_stamped}
-use Rattle.rinex_file.specs.ParserState.{events_in}
+use Rattle.rinex_file.specs.Counting.{events_in}
 use Rattle.rinex_file.specs.Times.{AreTimes}
 use Rattle.rinex_file.specs.Value.{FileValue, Stamped}
 use Rattle.rinex_file.specs.declared.read.times.EpochTimes.{EpochTimes}

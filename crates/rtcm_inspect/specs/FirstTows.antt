@@ -22,19 +22,7 @@ use Rattle.rtcm_inspect.specs.Inspected.{inspected_in}
 use Rattle.rtcm_inspect.specs.declared.first_tows.PlacedTow.{PlacedTow}
 use Rattle.rtcm_inspect.specs.declared.first_tows.SystemTows.{SystemTows}
 use Rattle.rtcm_inspect.specs.declared.first_tows.FirstTows.{FirstTows}
-
--- what the first message contains that has it, of messages that are read in this way
-abbrev pub first_in : {A : Type 0} → (List ℕ → Option Heard) → (Heard → Option A) → List Framed → Option A
-first_in read has [] = None
-first_in read has (f ∷ fs) = option_or (option_and_then has (read f.message)) (first_in read has fs)
-
--- the time of week of an MSM of the wanted station; if none is given, of any station
-abbrev pub tow_of : Option ℕ → Heard → Option ℕ
-tow_of wanted m = if is_of_station wanted m then m.tow else None
-
--- the time of week of the first MSM of a set in these frames, by these leap seconds
-abbrev pub first_tow : (leap : ℕ) → MsmSet → Option ℕ → List Framed → Option ℕ
-first_tow leap set wanted fs = first_in (inspected_in leap set) (tow_of wanted) fs
+use Rattle.rtcm_inspect.specs.WeekLaws.{first_tow}
 
 -- a time of week of a system by these leap seconds, if it is this one by none: only that of GLONASS depends on them
 abbrev pub later_by : System → (leap : ℕ) → ℕ → ℕ

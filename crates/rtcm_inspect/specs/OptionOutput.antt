@@ -4,7 +4,7 @@ use Rattle.std.specs.Option.{option_map_or}
 use Rattle.rtcm_scan.specs.Frames.{Framed}
 use Rattle.obs_epoch.specs.Kinds.{default_leap}
 use Rattle.rtcm_inspect.specs.FirstMessages.{mixed}
-use Rattle.rtcm_inspect.specs.FirstTows.{first_tow}
+use Rattle.rtcm_inspect.specs.WeekLaws.{first_tow}
 use Rattle.rtcm_inspect.specs.Fitting.{options_text}
 use Rattle.line_texts.specs.LeapSeconds.{leap_at}
 use Rattle.rtcm_inspect.specs.NearWeek.{IsWeekFor}

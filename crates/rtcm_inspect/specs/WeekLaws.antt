@@ -10,8 +10,25 @@ use Rattle.obs_epoch.specs.Heard.{heard_in}
 use Rattle.obs_epoch.specs.declared.setup.GatherSetup.{GatherSetup}
 use Rattle.obs_epoch.specs.Times.{Timed, timed}
 use Rattle.line_texts.specs.Dates.{IsWeekOf}
-use Rattle.rtcm_inspect.specs.FirstTows.{first_tow}
 use Rattle.rtcm_inspect.specs.NearWeek.{IsNearestWeek, IsWeekNear, half_week}
+use Rattle.std.specs.Prelude.{option_and_then}
+use Rattle.std.specs.Prelude.{if◌then◌else◌}
+use Rattle.obs_epoch.specs.Heard.{Heard}
+use Rattle.obs_epoch.specs.SignalCounts.{is_of_station}
+use Rattle.rtcm_inspect.specs.Inspected.{inspected_in}
+
+-- what the first message contains that has it, of messages that are read in this way
+abbrev pub first_in : {A : Type 0} → (List ℕ → Option Heard) → (Heard → Option A) → List Framed → Option A
+first_in read has [] = None
+first_in read has (f ∷ fs) = option_or (option_and_then has (read f.message)) (first_in read has fs)
+
+-- the time of week of an MSM of the wanted station; if none is given, of any station
+abbrev pub tow_of : Option ℕ → Heard → Option ℕ
+tow_of wanted m = if is_of_station wanted m then m.tow else None
+
+-- the time of week of the first MSM of a set in these frames, by these leap seconds
+abbrev pub first_tow : (leap : ℕ) → MsmSet → Option ℕ → List Framed → Option ℕ
+first_tow leap set wanted fs = first_in (inspected_in leap set) (tow_of wanted) fs
 
 -- from 1980-01-09 12:00 on exactly one week is the nearest
 abbrev pub HasOneWeek : Type 0

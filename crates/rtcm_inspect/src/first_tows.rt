@@ -8,7 +8,8 @@ ghost use Rattle.rtcm_scan.specs.Frames.{Framed};
 ghost use Rattle.obs_epoch.specs.Heard.{heard};
 ghost use Rattle.obs_epoch.specs.SignalCounts.{every_channel};
 ghost use Rattle.rtcm_inspect.specs.FirstTows.{AreTows, IsMsmOf, IsWith, earlier, earliest, entry};
-ghost use Rattle.rtcm_inspect.specs.FirstTows.{later_by, placed_by, tow_in, tow_of};
+ghost use Rattle.rtcm_inspect.specs.FirstTows.{later_by, placed_by, tow_in};
+ghost use Rattle.rtcm_inspect.specs.WeekLaws.{tow_of};
 
 use gnss_obs::WEEK;
 use gnss_system::{BySystem, SYSTEMS, System};

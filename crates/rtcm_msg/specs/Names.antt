@@ -39,8 +39,10 @@ unfoldable pub use Rattle.rtcm_msg.specs.Station.{station_at}
 pub use Rattle.rtcm_msg.specs.ValueCounts.{AddsCounts, AreAtMost, AreCells, SignalCounts, entries_left, has_id}
 pub use Rattle.rtcm_msg.specs.ValueCounts.{has_listed_value, value_count}
 pub use Rattle.rtcm_msg.specs.Viewed.{Unread}
-pub use Rattle.rtcm_msg.specs.Views.{AreDataOf, AreWithin, FormedMsm, cell_rows, formed, formed_at}
-pub use Rattle.rtcm_msg.specs.Views.{message_in, satellite_rows}
+pub use Rattle.rtcm_msg.specs.Views.{AreDataOf, AreWithin, FormedMsm, cell_rows, formed}
+pub use Rattle.rtcm_msg.specs.Decoding.{formed_at}
+pub use Rattle.rtcm_msg.specs.Views.{satellite_rows}
+pub use Rattle.rtcm_msg.specs.Decoding.{message_in}
 pub use Rattle.rtcm_msg.specs.Forms.{cell_widths, satellite_widths}
 pub use Rattle.rtcm_msg.specs.Numbers.{kind_of, kind_with, kind_within, message_number, station_number}
 pub use Rattle.rtcm_msg.specs.declared.number.Kind.{Kind}

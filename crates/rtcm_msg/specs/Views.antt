@@ -18,14 +18,9 @@ use Rattle.rtcm_msg.specs.Fields.{◌>>=◌}
 use Rattle.rtcm_msg.specs.Msm.{MsmValue, msm_at, satellite_mask_bits, most_pairs}
 use Rattle.rtcm_msg.specs.Packed.{total_width}
 use Rattle.rtcm_msg.specs.Forms.{satellite_widths, cell_widths}
+use Rattle.rtcm_msg.specs.Decoding.{message_in}
 
 -- ---- a multiple signal message of a form
-
-abbrev pub message_in : Form → MsmValue → Message
-message_in forms.Msm4 v = messages.Msm4 v
-message_in forms.Msm5 v = messages.Msm5 v
-message_in forms.Msm6 v = messages.Msm6 v
-message_in forms.Msm7 v = messages.Msm7 v
 
 pub record FormedMsm : Type 0 where
   pub form : Form
@@ -33,11 +28,6 @@ pub record FormedMsm : Type 0 where
 
 abbrev pub formed : FormedMsm → Message
 formed m = message_in m.form m.msm
-
--- The result of reading after the message number.
-abbrev pub formed_at : Form → System → Cursor → Result Message MsgFault
-formed_at form system c =
-    msm_at (satellite_widths form) (cell_widths form) system c >>= λ m. Ok (message_in form m.0)
 
 -- The data of n satellites or cells, the fields of each packed in one number.
 abbrev pub satellite_rows : Form → ℕ → Data → List ℕ

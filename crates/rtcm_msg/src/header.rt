@@ -5,7 +5,7 @@ ghost use Rattle.rtcm_bits.specs.Bits.{bits_of};
 ghost use Rattle.rtcm_bits.specs.FrameOf.{longest_message};
 ghost use Rattle.rtcm_msg.specs.Fields.{cursor_at};
 ghost use Rattle.rtcm_msg.specs.Msm.{header_at, header_in, masks_at, AreMasks, is_time, time_of_week, IsHeader};
-ghost use Rattle.rtcm_msg.specs.Views.{formed_at};
+ghost use Rattle.rtcm_msg.specs.Decoding.{formed_at};
 ghost use Rattle.rtcm_msg.specs.declared.view.Form.{Form};
 ghost use Rattle.rtcm_msg.specs.Refusals.{header_fault, masks_of};
 

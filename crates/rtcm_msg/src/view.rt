@@ -13,6 +13,7 @@ ghost use Rattle.rtcm_msg.specs.Forms.{IsSatelliteData, IsCellData};
 ghost use Rattle.rtcm_msg.specs.Numbers.{message_number};
 ghost use Rattle.rtcm_msg.specs.Entries.{IsEntry, entries, entry_in};
 ghost use Rattle.rtcm_msg.specs.Encoding.{IsMessage};
+ghost use Rattle.rtcm_msg.specs.Decoding as decoding;
 ghost use Rattle.rtcm_msg.specs.Views as views;
 
 use crate::data::{Cell, LastBits, Satellite};
@@ -378,7 +379,7 @@ impl<'a> View<'a> {
 fn view_msm(bytes: &[u8], form: Form, system: System) -> Result<View<'_>, MsgFault>
     requires small { length bytes.now ≤ longest_message }
     requires number { 12 ≤ 8 * length bytes.now }
-    ensures { GivesViewed viewed_message result (views.formed_at form system (cursor_at (bits_of bytes.now) 12)) }
+    ensures { GivesViewed viewed_message result (decoding.formed_at form system (cursor_at (bits_of bytes.now) 12)) }
 {
     let (header, masks, satellites_at) = read_head(system, bytes)?;
     let satellites = masks.satellites().count_ones() as usize;

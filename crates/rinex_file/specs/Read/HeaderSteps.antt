@@ -29,7 +29,8 @@ use Rattle.rinex_file.specs.Header.{header_lines, row_line, row_at, row_place, r
 use Rattle.rinex_file.specs.Header.{types_with, most_type_rows}
 use Rattle.rinex_file.specs.Header.{slots_with, has_line, has_label, is_given, is_of_types, is_optional}
 use Rattle.rinex_file.specs.Slots.{SlotNumber, AreSlots, last_slot, slot_rows}
-use Rattle.rinex_file.specs.Read.Progress.{Known, Shown, IsShown, IsHeadAt, Has, HasRow, IsRowRead, IsRowUnread}
+use Rattle.rinex_file.specs.Read.Progress.{Known, Shown, IsHeadAt, Has, HasRow, IsRowRead, IsRowUnread}
+use Rattle.rinex_file.specs.Begun.{IsShown}
 use Rattle.rinex_file.specs.Read.Progress.{lines_after}
 use Rattle.rinex_file.specs.Read.Progress.{AreUnread, lines_before, AreListsAt, AreReadAt, counted, known_slots}
 use Rattle.rinex_file.specs.Read.Progress.{AreTypes, signals_begun, slots_begun}

@@ -6,7 +6,7 @@ use Rattle.rinex_file.specs.Exact.{ExplainsFault, ExplainsStored}
 use Rattle.rinex_file.specs.Value.{SatelliteRow, Stamped}
 use Rattle.rinex_file.specs.FileValues.{AreSignalValues}
 use Rattle.rinex_file.specs.declared.read.parser_state.ParserState.{ParserState}
-use Rattle.rinex_file.specs.ParserState.{History}
+use Rattle.rinex_file.specs.Counting.{History}
 use Rattle.rinex_columns.specs.Numbers.{joined}
 use Rattle.rinex_file.specs.File.{stamped_lines}
 use Rattle.gnss_system.specs.Satellites.{number_of}

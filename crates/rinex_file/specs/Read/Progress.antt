@@ -33,15 +33,9 @@ use Rattle.gnss_system.specs.declared.by_system.BySystem.{BySystem}
 use Rattle.gnss_system.specs.Signals.{table}
 use Rattle.std.specs.List.{IsDistinct}
 use Rattle.rinex_file.specs.File.{stamped_lines, shown_of}
+use Rattle.rinex_file.specs.Begun.{IsShown, StartsAt}
 
 -- ---- the header
-
-pub record IsShown (h : Shown) : Type 0 where
-  pub texts : AreTexts h.texts
-  pub interval : IfSome h.interval IsInterval
-  pub plan : IsPlan h.plan
-  pub values : AreValues h.values
-  pub first : IsTime h.first
 
 -- What was read of a header: its parts, each with its initial value until its line is read; the letter in the first
 -- line; the number of a system's signals, by its first line of types, or 0 without one; and the number of slots with a
@@ -205,11 +199,6 @@ file_with s epochs =
 -- an epoch with the change and at the time that were read
 abbrev pub stamped : Progress → List SatelliteRow → Stamped
 stamped s rows = record { change = s.change; time = s.time; rows = rows }
-
--- the first epoch, if there is one, is at this time
-abbrev pub StartsAt : ℕ → List Stamped → Type 0
-StartsAt first [] = ⊤
-StartsAt first (e ∷ es) = first ≡ e.time
 
 -- a line of the header is expected: the file has what was read, and these lines after it
 pub record IsInHeader (s : Progress) (place : ℕ) (v : FileValue) (left : List (List ℕ)) : Type 0 where

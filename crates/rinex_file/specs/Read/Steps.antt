@@ -12,7 +12,8 @@ use Rattle.rinex_file.specs.File.{file_text, file_lines}
 use Rattle.rinex_file.specs.Exact.{IsLine, ExplainsFault, most_lines}
 use Rattle.rinex_file.specs.Read.Progress.{Progress, file_with}
 use Rattle.rinex_file.specs.Read.Sound.{HasReadLines}
-use Rattle.rinex_file.specs.ParserState.{History, FollowsHistory, HasRoom, progress_at, with_line}
+use Rattle.rinex_file.specs.ParserState.{FollowsHistory, HasRoom, progress_at, with_line}
+use Rattle.rinex_file.specs.Counting.{History}
 
 -- `count` lines were accepted, and what was read describes them
 pub record IsTaken (s : Progress) (count : ℕ) (input left : Option (List ℕ)) : Type 0 where

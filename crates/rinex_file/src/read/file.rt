@@ -5,7 +5,8 @@ ghost use Rattle.rinex_file.specs.Exact.{ExplainsFault, ExplainsStored, IfTextOf
 ghost use Rattle.rinex_file.specs.Blocks.{LeavesRest};
 ghost use Rattle.rinex_file.specs.Counting.{AreCounts, IsSummary, IsTextWith, HoldsOr};
 ghost use Rattle.rinex_file.specs.FileValues.{IsFileValue};
-ghost use Rattle.rinex_file.specs.ParserState.{FollowsHistory, nothing, with_line};
+ghost use Rattle.rinex_file.specs.ParserState.{FollowsHistory, with_line};
+ghost use Rattle.rinex_file.specs.Counting.{nothing};
 ghost use Rattle.rinex_file.specs.Read.Steps.{file_at, HasRead};
 ghost use Rattle.rinex_file.specs.Read.Keeping.{ExplainsAny, history_of, HasReadWhole};
 
