@@ -1,3 +1,3 @@
 pub mod ErrorLines
-pub mod Printing
 pub mod Status
+pub mod inner

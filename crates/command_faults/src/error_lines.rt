@@ -3,7 +3,7 @@ ghost use Rattle.std.specs.Prelude.{◌≡◌, ◌+◌, ◌≤◌, ◌∷◌, co
 ghost use Rattle.command_faults.specs.ErrorLines.{conversion_counts, conversion_word, date_words, error_line};
 ghost use Rattle.command_faults.specs.ErrorLines.{error_words};
 ghost use Rattle.line_texts.specs.Lines.{with_words};
-ghost use Rattle.rtcm_inspect.specs.Lines.{longest_error, longest_fault_name, longest_start};
+ghost use Rattle.rtcm_inspect.specs.inner.Lines.{longest_error, longest_fault_name, longest_start};
 
 use crate::fault::{DateOption, CommandFault};
 use rtcm_convert::Fault;

@@ -1,7 +1,7 @@
 //! The exit status.
 ghost use Rattle.std.specs.Prelude.{◌≡◌, ◌≤◌};
 ghost use Rattle.devices.specs.Devices.{Writes};
-ghost use Rattle.command_faults.specs.Printing.{PrintsFault};
+ghost use Rattle.command_faults.specs.inner.Printing.{PrintsFault};
 ghost use Rattle.command_faults.specs.Status.{status_of};
 
 use crate::error_lines::error_line;

@@ -15,7 +15,8 @@ pub use Rattle.clap.specs.declared.builder.command.Command.{Command}
 pub use Rattle.clap.specs.declared.builder.command.Command.TheViews.{out-Command}
 pub use Rattle.clap.specs.declared.error.Error.{Error}
 pub use Rattle.clap.specs.declared.parser.matches.ArgMatches.{ArgMatches}
-pub use Rattle.command_line.specs.CommandLine.{IsCommand, IsFoundIn, IsProgram, command_set, option_set, program, with_commands, with_options}
+pub use Rattle.command_line.specs.CommandLine.{IsProgram, program, with_options}
+pub use Rattle.command_line.specs.inner.CommandLine.{IsCommand, IsFoundIn, command_set, option_set, with_commands}
 pub use Rattle.command_line.specs.declared.commands.CommandRow.{CommandRow}
 pub use Rattle.command_line.specs.declared.commands.OptionRow.{OptionRow}
 pub use Rattle.std.proofs.lemmas.List.{map_more}

@@ -1,19 +1,14 @@
 -- The program's command line: its commands and their options, by which clap's definitions read words. They agree with
 -- the manual page.
-use Rattle.std.specs.Prelude.{◌≡◌, ◌⊎◌, pos, true, List, [], ◌∷◌, ◌++◌, map, flat_map, fold, codes, Some, Result, IfOk}
+use Rattle.std.specs.Prelude.{◌≡◌, pos, true, List, [], ◌∷◌, ◌++◌, map, flat_map, fold, codes, Some}
 use Rattle.std.specs.Borrow.{Bor}
 use Rattle.clap.specs.Walk.{Row, Rule, Text}
-use Rattle.clap.specs.Simple.{App, app_of, new_app, new_rule, on_top, subcommand_of, subcommand_rows_of, with_rule}
+use Rattle.clap.specs.Simple.{App, new_app, new_rule, on_top, subcommand_of, with_rule}
 use Rattle.clap.specs.Simple.{with_subcommand}
 use Rattle.clap.specs.Faults.{fault_of}
 use Rattle.clap.specs.Kinds.{IsAmong}
-use Rattle.clap.specs.Values.{kind_of}
-use Rattle.clap.specs.declared.error.Error.{Error}
 use Rattle.clap.specs.declared.error.kind.ErrorKind.{ErrorKind}
-use Rattle.clap.specs.declared.error.kind.ErrorKind.TheVariants as kind
-use Rattle.clap.specs.declared.parser.matches.ArgMatches.{ArgMatches}
 use Rattle.clap.specs.declared.builder.action.ArgAction.TheVariants as action
-use Rattle.clap.specs.declared.builder.command.Command.{Command}
 use Rattle.clap.specs.declared.builder.value_parser.ValueParser.{ValueParser}
 use Rattle.clap.specs.declared.builder.value_parser.ValueParser.TheVariants as value
 use Rattle.gnss_system.specs.declared.system.System.{System}
@@ -21,8 +16,6 @@ use Rattle.gnss_system.specs.declared.system.System.TheVariants.{Gps, Galileo, G
 use Rattle.gnss_system.specs.Satellites.{name_of}
 use Rattle.gnss_system.specs.Systems.{systems}
 use Rattle.rtcm_scan.specs.Scan.{most_bytes}
-use Rattle.command_line.specs.declared.commands.CommandRow.{CommandRow}
-use Rattle.command_line.specs.declared.commands.OptionRow.{OptionRow}
 
 -- ---- options
 
@@ -145,26 +138,10 @@ texts =
     ∷ text (codes "observer") ∷ text (codes "agency") ∷ text (codes "rec-number") ∷ text (codes "rec-type")
     ∷ text (codes "rec-version") ∷ text (codes "ant-number") ∷ text (codes "ant-type") ∷ []
 
--- the option of a row
-abbrev pub option_set : OptionRow → Rule
-option_set row = record (named row.name.now) {
-  required = row.required;
-  defaults = map (λ s. s.now) row.defaults.now;
-  parser = Some row.parser;
-  action = Some row.action;
-}
-
 -- ---- commands
 
 abbrev pub with_options : App → List Rule → App
 with_options a rules = fold with_rule a rules
-
--- the command of a row
-abbrev pub command_set : CommandRow → App
-command_set row = with_options (new_app row.name.now) (map option_set row.options.now)
-
-abbrev pub with_commands : App → List App → App
-with_commands a commands = fold (λ (program : App) (command : App). with_subcommand program command.top) a commands
 
 abbrev pub of_station : Text → App
 of_station name = with_options (new_app name) (station ∷ [])
@@ -206,21 +183,6 @@ abbrev pub IsProgram : App → Type 0
 IsProgram a = (forms : Choices) × (rules : Choices) × AreChoices (codes "4,7" ∷ codes "all" ∷ []) forms
     × AreChoices (codes "bit" ∷ codes "time" ∷ []) rules × (a ≡ program forms rules)
 
--- the rows of the program and of its commands
-abbrev pub AreRows : CommandRow → List CommandRow → Type 0
-AreRows program commands = IsProgram (with_commands (start_of program.name.now) (map command_set commands))
-
--- if the command was made, its definition is this one
-abbrev pub Makes : {E : Type 0} → Result Command E → App → Type 0
-Makes command a = IfOk command (λ c. app_of c ≡ a)
-
--- the names of the program's commands
-abbrev pub IsCommand : Text → Type 0
-IsCommand name =
-    (name ≡ codes "frames") ⊎ (name ≡ codes "show") ⊎ (name ≡ codes "signals") ⊎ (name ≡ codes "options")
-    ⊎ (name ≡ codes "convert")
-    ⊎ (name ≡ codes "check")
-
 -- ---- what words ask for, by clap's own definitions
 
 -- the words have no fault, and ask for the command of this name with these options
@@ -231,12 +193,3 @@ SelectsCommand words name options =
 -- the words have a fault or ask for a text, and this is the kind of the error
 abbrev pub FailsParsing : List Text → ErrorKind → Type 0
 FailsParsing words k = (a : App) × IsProgram a × IsAmong k (fault_of a words)
-
--- a command of the program was found in the words, and they ask for it
-abbrev pub IsFoundIn : List Text → ArgMatches → Type 0
-IsFoundIn words m = (name : Text) × (options : List Row) × IsCommand name
-    × (subcommand_rows_of m ≡ Some (name, options)) × SelectsCommand words name options
-
--- the reason why the words weren't accepted: memory ran out, or the words themselves
-abbrev pub RefusesWords : List Text → Error → Type 0
-RefusesWords words e = (kind_of e ≡ kind.OutOfMemory) ⊎ FailsParsing words (kind_of e)

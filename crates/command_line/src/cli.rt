@@ -2,8 +2,9 @@
 ghost use Rattle.std.specs.Prelude.{◌≡◌, IfOk, IfErr, map};
 ghost use Rattle.clap.specs.Walk.{rule_of, texts};
 ghost use Rattle.clap.specs.Simple.{app_of, new_app};
-ghost use Rattle.command_line.specs.CommandLine.{IsFoundIn, RefusesWords, command_set, option_set};
+ghost use Rattle.command_line.specs.inner.CommandLine.{IsFoundIn, RefusesWords, command_set, option_set};
 ghost use Rattle.command_line.specs.CommandLine as line;
+ghost use Rattle.command_line.specs.inner.CommandLine as inner_line;
 
 use crate::commands::{CommandRow, OptionRow, program_rows};
 use clap::{Arg, ArgMatches, Command, Error};
@@ -41,7 +42,7 @@ fn with_commands<'a>(
     program: Command<'a>,
     rows: &[CommandRow<'a>],
 ) -> Result<Command<'a>, AllocError>
-    ensures { line.Makes result (line.with_commands (app_of program.entry) (map command_set rows.now)) }
+    ensures { inner_line.Makes result (inner_line.with_commands (app_of program.entry) (map command_set rows.now)) }
 {
     let mut program = program;
     for row in rows {
@@ -57,7 +58,7 @@ fn with_options<'a>(
     command: Command<'a>,
     rows: &[OptionRow<'a>],
 ) -> Result<Command<'a>, AllocError>
-    ensures { line.Makes result (line.with_options (app_of command.entry) (map option_set rows.now)) }
+    ensures { inner_line.Makes result (line.with_options (app_of command.entry) (map option_set rows.now)) }
 {
     let mut command = command;
     for row in rows {

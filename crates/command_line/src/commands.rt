@@ -1,5 +1,5 @@
 //! The commands and their options, one row each, as listed in the manual page.
-ghost use Rattle.command_line.specs.CommandLine.{AreRows};
+ghost use Rattle.command_line.specs.inner.CommandLine.{AreRows};
 
 use clap::ArgAction::{self, Set, SetTrue};
 use clap::builder::ValueParser;

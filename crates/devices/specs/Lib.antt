@@ -1,4 +1,4 @@
 pub mod Device
 pub mod Devices
 pub mod Buffering
-pub mod Delivering
+pub mod inner

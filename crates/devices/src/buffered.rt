@@ -4,7 +4,7 @@ ghost use Rattle.std.specs.Prelude.{IfOk, IsErr, vec_len, vec_capacity};
 ghost use Rattle.std.specs.Io.{WritesAtMost};
 ghost use Rattle.std.specs.Io.KnownBytes.{Keeps, Appends, WriteAppends};
 ghost use Rattle.devices.specs.Buffering.{buffer_bytes, contents_of, waiting_of};
-ghost use Rattle.devices.specs.Delivering.{more_waits};
+ghost use Rattle.devices.specs.inner.Delivering.{more_waits};
 
 use crate::deliver::Deliver;
 use std::alloc::{AllocError, Global};

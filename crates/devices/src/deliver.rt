@@ -2,7 +2,7 @@
 ghost use Rattle.std.specs.Prelude.{◌≡◌, ℕ, List, [], ◌++◌, OnOk};
 ghost use Rattle.std.specs.Io.Buffered.{writer_buffer, writer_inner};
 ghost use Rattle.std.specs.Io.KnownBytes.{Keeps, append_known};
-ghost use Rattle.devices.specs.Delivering.{more_waits, none_waits};
+ghost use Rattle.devices.specs.inner.Delivering.{more_waits, none_waits};
 
 use arrayvec::ArrayVec;
 use std::fs::File;

@@ -1,1 +1,1 @@
-pub mod PieceReading
+pub mod inner

@@ -27,7 +27,7 @@ pub struct PieceReader<'a> {
 }
 
 impl<'a> Model for PieceReader<'a> {
-    ghost use Rattle.devices_for_tests.specs.PieceReading.{PieceReading};
+    ghost use Rattle.devices_for_tests.specs.inner.PieceReading.{PieceReading};
 
     ghost Value = { PieceReading };
 

@@ -11,7 +11,7 @@ use Rattle.jiff_core.specs.DateTime.{civil_nanos}
 use Rattle.jiff_core.specs.Time.{time_nanos, IsHms, IsTime}
 use Rattle.jiff_core.proofs.SignedLemmas.{signed_arith}
 use Rattle.jiff_core.proofs.DateLemmas.{civil as valid_date, epoch_day_range}
-use Rattle.gnss_obs.specs.Names.{IsCivil, IsCivilOf, clock_of, Civil}
+use Rattle.gnss_obs.specs.inner.Names.{IsCivil, IsCivilOf, clock_of, Civil}
 use Rattle.gnss_obs.proofs.Days.{first_day}
 use Rattle.std.proofs.lemmas.Grind.{common_steps}
 use Rattle.std.specs.Result.{result_ok}

@@ -3,7 +3,7 @@ use Rattle.std.proofs.Common.{◌≡◌, ℕ, suc, zero, ◌+◌, ◌<◌, ◌�
 use Rattle.std.specs.List.{AllByRecursion}
 use Rattle.std.proofs.lemmas.List.{get_or-set_same, get_or-set_other, get_or_append_left, get_or-append-add, get_or-map, length-map, length-append, map-append}
 use Rattle.gnss_obs.specs.declared.cell.Cell.{Cell}
-use Rattle.gnss_obs.specs.Arriving.{slot, has_slot, IsFound, AreFound}
+use Rattle.gnss_obs.specs.inner.Arriving.{slot, has_slot, IsFound, AreFound}
 use Rattle.std.proofs.lemmas.Grind.{common_steps}
 
 -- ---- whether a key is kept

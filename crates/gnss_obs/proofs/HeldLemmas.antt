@@ -15,7 +15,7 @@ use Rattle.gnss_system.specs.Signals.{table}
 use Rattle.gnss_system.specs.SystemValues.{value_of, with_value_of, map_by}
 use Rattle.gnss_system.specs.declared.by_system.BySystem.{BySystem}
 use Rattle.gnss_obs.specs.declared.cells.Cells.{Cells}
-use Rattle.gnss_obs.specs.Names.{System, Cell, Added, Satellite, SignalAt, IsSignal, AreHeld, AreKept, CellLists, IsHeld, list_any, no_cells, IsObserved, heard_cell, same_key, cell_sort_key, is_held, AddsCell, IsAdded, slot, has_slot, sorted_cells, outcome_by, cells_after}
+use Rattle.gnss_obs.specs.inner.Names.{System, Cell, Added, Satellite, SignalAt, IsSignal, AreHeld, AreKept, CellLists, IsHeld, list_any, no_cells, IsObserved, heard_cell, same_key, cell_sort_key, is_held, AddsCell, IsAdded, slot, has_slot, sorted_cells, outcome_by, cells_after}
 use Rattle.std.proofs.lemmas.Grind.{common_steps}
 
 -- ---- sorted cells

@@ -5,9 +5,9 @@ use Rattle.gnss_system.specs.Systems.{systems, index_of}
 use Rattle.gnss_system.specs.SystemValues.{value_of, map_by}
 use Rattle.gnss_system.specs.declared.by_system.BySystem.{BySystem}
 use Rattle.gnss_obs.specs.Plans.{has_signal, HasSignal, plan_by, signals_in, is_none_planned}
-use Rattle.gnss_obs.specs.SignalLists.{AreRead, AreAdded}
+use Rattle.gnss_obs.specs.inner.SignalLists.{AreRead, AreAdded}
 use Rattle.gnss_obs.specs.Values.{plan_with}
-use Rattle.gnss_obs.specs.Names.{System, PlanFault, UnknownCode, RepeatedCode, NothingPlanned, Memory, SignalAt, PlanValue, plan_of, indices, IsOf, DoneOr, IsDefined, IsMade, IsMemoryFaultOr, IsPlanResult, IsUnplanned, HasOwn}
+use Rattle.gnss_obs.specs.inner.Names.{System, PlanFault, UnknownCode, RepeatedCode, NothingPlanned, Memory, SignalAt, PlanValue, plan_of, indices, IsOf, DoneOr, IsDefined, IsMade, IsMemoryFaultOr, IsPlanResult, IsUnplanned, HasOwn}
 use Rattle.gnss_system.proofs.SystemLaws.{Below, value_mapped, sum_none}
 use Rattle.gnss_obs.proofs.FitLemmas.{unfit_not_of}
 use Rattle.std.proofs.lemmas.Grind.{common_steps}

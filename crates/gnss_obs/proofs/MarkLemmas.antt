@@ -3,7 +3,7 @@ use Rattle.std.proofs.Common.{◌≡◌, ℕ, zero, suc, ◌+◌, ◌*◌, ◌/�
 use Rattle.std.proofs.lemmas.List.Elements.{All-head, All-cons, All-tail}
 use Rattle.std.specs.List.{IsDistinct}
 use Rattle.gnss_obs.specs.Marked.{marked_at, with_mark}
-use Rattle.gnss_obs.specs.Names.{System, Cell, AreHeld, AreKept, AreSorted, IsHeld, SortKeysRise, cell_sort_key, slot}
+use Rattle.gnss_obs.specs.inner.Names.{System, Cell, AreHeld, AreKept, AreSorted, IsHeld, SortKeysRise, cell_sort_key, slot}
 
 pub mark_set : (xs : List Cell) (at : ℕ) (d : Cell) → at < length xs → set xs at (with_mark (get_or xs at d)) ≡ marked_at at xs
 mark_set [] at d h = refl

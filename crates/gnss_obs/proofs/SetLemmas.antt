@@ -7,8 +7,8 @@ use Rattle.std.specs.Int.RustNames.{bit_and, bit_or}
 use Rattle.std.specs.Int.Count.{trailing_of_zero}
 use Rattle.std.proofs.lemmas.List.Elements.{All-push, All-weaker}
 use Rattle.std.proofs.lemmas.Nat.Bits.{bit_at_and, bit_at_or, bit_at-lt, bit_at-zero, bit_at_set_same, bit_at_set_other, bit_at_clear_same, bit_at_clear_other, bit_at-trailing_zeros}
-use Rattle.gnss_obs.specs.Arriving.{HasSatellites}
-use Rattle.gnss_obs.specs.Names.{AreBelow, AreHeld, Cell, IsHeld, System, cell_number, place_in, satellites, sorted_cells}
+use Rattle.gnss_obs.specs.inner.Arriving.{HasSatellites}
+use Rattle.gnss_obs.specs.inner.Names.{AreBelow, AreHeld, Cell, IsHeld, System, cell_number, place_in, satellites, sorted_cells}
 use Rattle.std.proofs.lemmas.Grind.{common_steps}
 use Rattle.gnss_obs.proofs.SortLemmas.{Gap, IsFrom, below_all, below_first, below_skip, place_less}
 

@@ -6,14 +6,14 @@ use Rattle.std.proofs.lemmas.Grind.{get_or-set_at}
 use Rattle.std.proofs.lemmas.List.Elements.{All-head, All-tail}
 use Rattle.std.specs.List.{list_any, position_or_len, IsDistinct}
 use Rattle.gnss_system.specs.Signals.{SignalAt, IsSignal, most_signals}
-use Rattle.gnss_obs.specs.SignalLists.{AreFound, AreRows, IsOf}
+use Rattle.gnss_obs.specs.inner.SignalLists.{AreFound, AreRows, IsOf}
 use Rattle.gnss_obs.proofs.PlanLemmas.{indices-push, is_of-push}
 use Rattle.std.proofs.lemmas.Grind.{common_steps}
 use Rattle.std.proofs.lemmas.List.Quantifiers.{position-Some}
 use Rattle.std.proofs.lemmas.Option.{slice_get-get_or}
 use Rattle.std.specs.Prelude.{nat_le}
 use Rattle.gnss_system.proofs.SystemLaws.{each_system}
-use Rattle.gnss_obs.specs.Names.{System, ListedSignal, table, id_of, indices, signal_at, signal_of_id, option_map_or}
+use Rattle.gnss_obs.specs.inner.Names.{System, ListedSignal, table, id_of, indices, signal_at, signal_of_id, option_map_or}
 use Rattle.gnss_obs.specs.Plans.{if_planned, planned_signal}
 use Rattle.gnss_obs.proofs.TableLaws.{id_back}
 use Rattle.std.proofs.lemmas.Bool.{eqb-true, not-true, not-false}

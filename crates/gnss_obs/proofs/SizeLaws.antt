@@ -5,7 +5,7 @@ use Rattle.gnss_system.specs.Signals.{most_hertz}
 use Rattle.std.specs.Prelude.{IfSome}
 use Rattle.gnss_system.specs.Satellites.{Satellite}
 use Rattle.gnss_obs.specs.Channels.{AreChannels, ChannelsValue, hertz_in}
-use Rattle.gnss_obs.specs.Names.{SignalAt, nearest_pseudorange, nearest_phase}
+use Rattle.gnss_obs.specs.inner.Names.{SignalAt, nearest_pseudorange, nearest_phase}
 use Rattle.std.proofs.lemmas.Grind.{common_steps}
 
 -- ---- carriers

@@ -5,7 +5,7 @@ use Rattle.std.proofs.lemmas.Option.{slice_get_past, slice_get_read}
 use Rattle.std.specs.List.{list_all}
 use Rattle.gnss_system.specs.Systems.{systems}
 use Rattle.gnss_system.proofs.SystemLaws.{each_system}
-use Rattle.gnss_obs.specs.Names.{System, SignalAt, IsSignal, after, greatest_signal_id, id_of, signal_of_id, table, rows}
+use Rattle.gnss_obs.specs.inner.Names.{System, SignalAt, IsSignal, after, greatest_signal_id, id_of, signal_of_id, table, rows}
 use Rattle.std.proofs.lemmas.Grind.{common_steps}
 use Rattle.gnss_obs.proofs.SortLemmas.{table_few}
 use Rattle.gnss_system.proofs.Checked.{passes_at, passes_below}

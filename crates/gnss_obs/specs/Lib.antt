@@ -10,8 +10,7 @@ pub mod Plans
 pub mod SignalLists
 pub mod HeardCells
 pub mod Order
-pub mod PlanOrder
 pub mod Arriving
 pub mod Marked
 pub mod GatheredEpochs
-pub mod Names
+pub mod inner

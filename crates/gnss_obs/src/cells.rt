@@ -1,7 +1,7 @@
 //! The cells of one system of an epoch.
 ghost use Rattle.std.specs.Prelude.{◌≡◌, ◌<◌, ◌≤◌, ◌++◌, ◌∷◌, [], true, length, map, get_or, is_some, IfSome, IfOk};
 ghost use Rattle.gnss_obs.specs.declared.cell.Cell.{Cell};
-ghost use Rattle.gnss_obs.specs.Arriving.{has_slot, slot, most_slots};
+ghost use Rattle.gnss_obs.specs.inner.Arriving.{has_slot, slot, most_slots};
 ghost use Rattle.gnss_obs.specs.Marked.{marked_at};
 ghost use Rattle.gnss_obs.specs.Order.{Rise};
 ghost use Rattle.gnss_obs.specs.Values.{most_cells};
@@ -37,7 +37,7 @@ pub struct Cells {
 impl Model for Cells {
     ghost use Rattle.std.specs.Prelude.{List, ◌≡◌, ◌≤◌, length, map, vec_capacity};
     ghost use Rattle.gnss_obs.specs.Values.{most_cells};
-    ghost use Rattle.gnss_obs.specs.Arriving.{AreFound, most_slots, slot};
+    ghost use Rattle.gnss_obs.specs.inner.Arriving.{AreFound, most_slots, slot};
     ghost use Rattle.gnss_obs.specs.Order.{IsLeastNext};
     ghost use Rattle.gnss_obs.specs.declared.cell.Cell.{Cell};
 

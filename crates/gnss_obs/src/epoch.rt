@@ -7,7 +7,7 @@ ghost use Rattle.gnss_obs.specs.Values.{most_written, run, cleared, empty_epoch,
 ghost use Rattle.gnss_obs.specs.Arriving.{sorted_lists};
 ghost use Rattle.gnss_obs.specs.Marked.{closed_marked_in};
 ghost use Rattle.gnss_obs.specs.Order.{AreSorted, AreSortedByPlan};
-ghost use Rattle.gnss_obs.specs.PlanOrder.{HasPlannedCells};
+ghost use Rattle.gnss_obs.specs.inner.PlanOrder.{HasPlannedCells};
 ghost use Rattle.gnss_system.specs.declared.system.System.{System};
 ghost use Rattle.gnss_system.specs.Satellites.{satellites as satellites_in};
 

@@ -1,11 +1,13 @@
 //! The kept cells of an epoch.
 ghost use Rattle.std.specs.Prelude.{◌≡◌, ◌+◌, ◌*◌, ◌<◌, ◌≤◌, [], All, IfOk, length, true};
 ghost use Rattle.gnss_obs.specs.HeardCells.{heard_cell, IsObserved};
-ghost use Rattle.gnss_obs.specs.Arriving.{IsAdded, AddsCell, AreBelow, AreKept, HasSatellites, sorted_cells, sorted_lists};
+ghost use Rattle.gnss_obs.specs.Arriving.{sorted_cells, sorted_lists};
+ghost use Rattle.gnss_obs.specs.inner.Arriving.{IsAdded, AddsCell, AreBelow, AreKept, HasSatellites};
 ghost use Rattle.gnss_obs.specs.Marked.{marked_at};
-ghost use Rattle.gnss_obs.specs.PlanOrder.{IsPlanned, HasPlannedCells};
+ghost use Rattle.gnss_obs.specs.inner.PlanOrder.{IsPlanned, HasPlannedCells};
 ghost use Rattle.gnss_obs.specs.Order.{AreOrderedBy};
-ghost use Rattle.gnss_obs.specs.SignalLists.{indices, IsOf};
+ghost use Rattle.gnss_obs.specs.SignalLists.{indices};
+ghost use Rattle.gnss_obs.specs.inner.SignalLists.{IsOf};
 ghost use Rattle.gnss_system.specs.Satellites.{satellites};
 ghost use Rattle.gnss_system.specs.declared.system.System.{System};
 ghost use Rattle.gnss_system.specs.SystemValues.{value_of, with_value_of};
@@ -42,7 +44,7 @@ pub struct EpochCells(BySystem<Box<Cells>>);
 impl Model for EpochCells {
     ghost use Rattle.gnss_system.specs.declared.system.System.{System};
     ghost use Rattle.gnss_system.specs.SystemValues.{value_of, map_by};
-    ghost use Rattle.gnss_obs.specs.Arriving.{AreKept};
+    ghost use Rattle.gnss_obs.specs.inner.Arriving.{AreKept};
     ghost use Rattle.gnss_obs.specs.Values.{CellLists};
 
     ghost Value = { CellLists };

@@ -12,10 +12,11 @@ ghost use Rattle.gnss_obs.specs.Values.{planned_of};
 ghost use Rattle.gnss_obs.specs.Plans.{plan_of, planned_signal, signals_of, signals_coded, place_in};
 ghost use Rattle.gnss_obs.specs.Plans.{between_commas, has_signal, HasSignal, is_first_listed, is_none_planned};
 ghost use Rattle.gnss_obs.specs.Plans.{with_channels};
-ghost use Rattle.gnss_obs.specs.SignalLists.{indices, IsOf, ArePlanned, HasEvery, IsPushed};
-ghost use Rattle.gnss_obs.specs.SignalLists.{BeginsWithOwn, HasOwn, MayAdd, MayTakeCode};
-ghost use Rattle.gnss_obs.specs.SignalLists.{TakesCode, RefusesCode, IsDefined, DoneOr, IsUnfitAfter, IsUnfit};
-ghost use Rattle.gnss_obs.specs.SignalLists.{IsMade, IsPlanResult, IsUnplanned, AreRead, AreAdded};
+ghost use Rattle.gnss_obs.specs.SignalLists.{indices};
+ghost use Rattle.gnss_obs.specs.inner.SignalLists.{IsOf, ArePlanned, HasEvery, IsPushed};
+ghost use Rattle.gnss_obs.specs.inner.SignalLists.{BeginsWithOwn, HasOwn, MayAdd, MayTakeCode};
+ghost use Rattle.gnss_obs.specs.inner.SignalLists.{TakesCode, RefusesCode, IsDefined, DoneOr, IsUnfitAfter, IsUnfit};
+ghost use Rattle.gnss_obs.specs.inner.SignalLists.{IsMade, IsPlanResult, IsUnplanned, AreRead, AreAdded};
 
 use crate::channels::Channels;
 use crate::fault::PlanFault;
@@ -40,7 +41,8 @@ impl Model for Plan {
     ghost use Rattle.std.specs.Prelude.{◌≡◌, []};
     ghost use Rattle.gnss_system.specs.declared.system.System.TheVariants.{Glonass};
     ghost use Rattle.gnss_obs.specs.Channels.{no_channels};
-    ghost use Rattle.gnss_obs.specs.SignalLists.{indices, IsOf};
+    ghost use Rattle.gnss_obs.specs.SignalLists.{indices};
+    ghost use Rattle.gnss_obs.specs.inner.SignalLists.{IsOf};
 
     ghost Value = { PlanValue };
 

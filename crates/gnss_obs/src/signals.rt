@@ -5,7 +5,8 @@ ghost use Rattle.gnss_system.specs.declared.system.System.{System};
 ghost use Rattle.gnss_system.specs.Signals.{SignalAt, signal_at};
 ghost use Rattle.gnss_obs.specs.Order.{Rise};
 ghost use Rattle.gnss_obs.specs.Plans.{place_in, planned_signal};
-ghost use Rattle.gnss_obs.specs.SignalLists.{indices, IsAdded, IsOf};
+ghost use Rattle.gnss_obs.specs.SignalLists.{indices};
+ghost use Rattle.gnss_obs.specs.inner.SignalLists.{IsAdded, IsOf};
 
 use crate::order::{UNSORTED, least_next_after};
 use crate::signal::Signal;
@@ -31,7 +32,8 @@ impl Model for Signals {
     ghost use Rattle.std.specs.Prelude.{List, ◌≡◌, ◌+◌, length};
     ghost use Rattle.gnss_system.specs.Signals.{SignalAt, greatest_signal_id};
     ghost use Rattle.gnss_obs.specs.Order.{IsLeastNext};
-    ghost use Rattle.gnss_obs.specs.SignalLists.{indices, AreFound, AreRows};
+    ghost use Rattle.gnss_obs.specs.SignalLists.{indices};
+    ghost use Rattle.gnss_obs.specs.inner.SignalLists.{AreFound, AreRows};
 
     ghost Value = { List SignalAt };
 

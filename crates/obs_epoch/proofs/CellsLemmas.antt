@@ -3,7 +3,7 @@ use Rattle.std.proofs.Common.{[], ◌≡◌, ℕ, Bool, true, false, not, ◌||�
 use Rattle.std.specs.Cmp.{IsEquivalence}
 use Rattle.std.proofs.lemmas.Map.Views.{any-filter_same}
 use Rattle.std.proofs.lemmas.List.Elements.{filter-append}
-use Rattle.obs_epoch.specs.Names.{System, firsts, firsts_after, is_among, is_of_system, kept, add, has_same_key, most_cells, HeardCell}
+use Rattle.obs_epoch.specs.inner.Names.{System, firsts, firsts_after, is_among, is_of_system, kept, add, has_same_key, most_cells, HeardCell}
 use Rattle.std.proofs.lemmas.Grind.{common_steps}
 
 abbrev pub new_key : List HeardCell → HeardCell → List HeardCell

@@ -9,7 +9,7 @@ use Rattle.obs_epoch.specs.declared.choice.Choice.{Choice}
 use Rattle.obs_epoch.specs.Choices.{every_epoch, in_window, is_chosen, on_grid}
 use Rattle.obs_epoch.specs.GathererHistory.{closed_list, closed_list_at, whole_list}
 use Rattle.obs_epoch.specs.Laws.{IsThinnedByChoice, IsWholeByEvery, NoneReturned, ReturnsEvery, WindowsAreApart, WindowsJoin, with_every_epoch, with_window}
-use Rattle.obs_epoch.specs.Names.{Cell, Closed, EpochValue, System, cells_of, GatherSetup, Heard, Timed, closed_times, is_shut, taken_at, timed, timed_after, times, weeks}
+use Rattle.obs_epoch.specs.inner.Names.{Cell, Closed, EpochValue, System, cells_of, GatherSetup, Heard, Timed, closed_times, is_shut, taken_at, timed, timed_after, times, weeks}
 use Rattle.obs_epoch.specs.Thinning.{counts_among, has_phase, has_satellite, is_left_out, lost_before, mark_if, marked_after, marked_epoch, thin, thin_after}
 use Rattle.obs_epoch.proofs.ReachLemmas.{IsWithin, all_append, all_filter, taken_within}
 use Rattle.gnss_obs.specs.Marked.{with_mark}

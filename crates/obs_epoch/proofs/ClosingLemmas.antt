@@ -1,7 +1,7 @@
 -- The epoch that a step closes is the one that the longer list closes.
 use Rattle.std.proofs.Common.{◌≡◌, ℕ, Bool, true, false, not, ◌&&◌, List, [], ◌∷◌, ◌++◌, refl, sym, ap, ap₂, ◌∙◌, arith, Option, Some, None, nat_lt, append-nil, if◌then◌else◌, option_to_list}
-use Rattle.obs_epoch.specs.Names.{Kind, CellCounts, GatherSetup, Heard, ends_epoch, is_own, Timed, greatest_time, is_closed, taken_at, State, is_pending, closes_first, no_counts, is_close_first, is_accepted, kind_after, closed_times, closed_so_far, option_map_or}
-use Rattle.obs_epoch.specs.Step.{closed_of, closed_time}
+use Rattle.obs_epoch.specs.inner.Names.{Kind, CellCounts, GatherSetup, Heard, ends_epoch, is_own, Timed, greatest_time, is_closed, taken_at, State, is_pending, closes_first, no_counts, is_close_first, is_accepted, kind_after, closed_times, closed_so_far, option_map_or}
+use Rattle.obs_epoch.specs.inner.Step.{closed_of, closed_time}
 use Rattle.obs_epoch.proofs.TimesLemmas.{next}
 use Rattle.obs_epoch.proofs.ClockLemmas.{standing, takes, same_time, Follows, first, greater, equal, new_time}
 use Rattle.obs_epoch.proofs.ClosedLemmas.{when, no_greatest, taken_follows, closed-push_none, closed-push_greater, closed-push_same, closed-push_first}

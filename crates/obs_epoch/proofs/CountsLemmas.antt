@@ -5,7 +5,7 @@ use Rattle.gnss_system.specs.Systems.{systems}
 use Rattle.gnss_system.proofs.SystemLaws.{system_same, any_system, sum_grown}
 use Rattle.std.proofs.lemmas.List.Sums.{sum_by-cons}
 use Rattle.std.proofs.lemmas.List.Folds.{list_any-append}
-use Rattle.obs_epoch.specs.Names.{System, is_system, list_any, Crowded, Kept, Repeated, Skipped, count_in, GatherSetup, HeardCell, no_counts, counts_of, is_of_system, is_among, kept, kept_of_all, is_planned, has_same_key, most_cells, CellCounts}
+use Rattle.obs_epoch.specs.inner.Names.{System, is_system, list_any, Crowded, Kept, Repeated, Skipped, count_in, GatherSetup, HeardCell, no_counts, counts_of, is_of_system, is_among, kept, kept_of_all, is_planned, has_same_key, most_cells, CellCounts}
 use Rattle.obs_epoch.proofs.CellsLemmas.{kept-add, mine, mine-among, among-push, same_key_laws, key_system}
 use Rattle.obs_epoch.proofs.NotingLemmas.{kept_apart}
 use Rattle.obs_epoch.proofs.LoadLemmas.{counts_after, outcome_after, planned_one}

@@ -2,7 +2,7 @@
 use Rattle.gnss_obs.specs.Channels.{ChannelsValue}
 use Rattle.obs_epoch.specs.Clock.{State}
 use Rattle.obs_epoch.specs.GathererAfter.{GathererValue}
-use Rattle.obs_epoch.specs.Names.{System, Entry, CellOutcome, count_in, seen_in, unlisted_in, HeardCell, with_skipped, Loaded, load, load_one, load_entries, with_unlisted, outcome_in, hold, hold_by, CellCounts, option_map_or, cons_option, Form}
+use Rattle.obs_epoch.specs.inner.Names.{System, Entry, CellOutcome, count_in, seen_in, unlisted_in, HeardCell, with_skipped, Loaded, load, load_one, load_entries, with_unlisted, outcome_in, hold, hold_by, CellCounts, option_map_or, cons_option, Form}
 use Rattle.std.proofs.Common.{◌≡◌, ℕ, ◌+◌, List, [], ◌∷◌, refl, ap, ◌∙◌, arith, Option, Some, None, is_some, filter_map, cond}
 use Rattle.std.proofs.lemmas.Grind.{common_steps}
 

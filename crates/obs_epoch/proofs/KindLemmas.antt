@@ -1,6 +1,6 @@
 -- The outcome of a message: whether it is expected again.
 use Rattle.std.proofs.Common.{◌≡◌, Bool, true, false, List, refl, sym, ap, ◌∙◌, subst, arith, Option, Some, None, is_some}
-use Rattle.obs_epoch.specs.Names.{GatherSetup, Heard, Closed, timed, State, closes_first, kind_by, is_close_first, kind_after, kind_of, with_counts, no_counts, GathererValue, take_step, HasTakenMessages, HasGatheredEpochs, IsAwaited, CellCounts}
+use Rattle.obs_epoch.specs.inner.Names.{GatherSetup, Heard, Closed, timed, State, closes_first, kind_by, is_close_first, kind_after, kind_of, with_counts, no_counts, GathererValue, take_step, HasTakenMessages, HasGatheredEpochs, IsAwaited, CellCounts}
 use Rattle.obs_epoch.proofs.TakeLemmas.{taken, closes_it, not_first}
 use Rattle.obs_epoch.proofs.ReturnedLemmas.{not_done}
 use Rattle.std.proofs.lemmas.Grind.{common_steps}

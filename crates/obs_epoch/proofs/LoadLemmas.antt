@@ -1,6 +1,6 @@
 -- The cells of one more message, kept one by one, are the kept cells of the longer list.
 use Rattle.std.proofs.Common.{[], ◌≡◌, ℕ, suc, Bool, true, false, not, ◌||◌, ◌&&◌, List, ◌∷◌, ◌++◌, filter, refl, sym, ap, ap₂, ◌∙◌, subst, arith, length, append_assoc, append-nil, Option, nat_le, if◌then◌else◌, cond}
-use Rattle.obs_epoch.specs.Names.{System, is_system, CellOutcome, Crowded, Kept, Repeated, Skipped, count_in, lookup, outcome_by, outcome_of, outcome_of_added, is_held, GatherSetup, HeardCell, kept_cell, is_of_system, is_among, kept, add, is_planned, has_same_key, lli_with, GathererValue, with_more, outcome_in, hold, hold_by, load, PlanValue, planned_of, most_cells, EpochValue, cells_of, insert_by, sort_key_of, sorted, cell_sort_key, Cell, KnownLock, CellCounts}
+use Rattle.obs_epoch.specs.inner.Names.{System, is_system, CellOutcome, Crowded, Kept, Repeated, Skipped, count_in, lookup, outcome_by, outcome_of, outcome_of_added, is_held, GatherSetup, HeardCell, kept_cell, is_of_system, is_among, kept, add, is_planned, has_same_key, lli_with, GathererValue, with_more, outcome_in, hold, hold_by, load, PlanValue, planned_of, most_cells, EpochValue, cells_of, insert_by, sort_key_of, sorted, cell_sort_key, Cell, KnownLock, CellCounts}
 use Rattle.gnss_obs.specs.declared.epoch_cells.Added.TheVariants as added
 use Rattle.gnss_system.specs.SystemValues.{value_of, with_value_of, tabulate}
 use Rattle.gnss_system.specs.declared.by_system.BySystem.{BySystem}

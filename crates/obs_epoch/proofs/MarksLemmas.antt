@@ -7,9 +7,9 @@ use Rattle.gnss_system.proofs.SystemLaws.{value_after, value_tabulated, with_sam
 use Rattle.gnss_system.specs.Systems.{systems}
 use Rattle.obs_epoch.specs.declared.choice.Choice.{Choice}
 use Rattle.obs_epoch.specs.Choices.{on_grid}
-use Rattle.obs_epoch.specs.Marks.{carried_from, mark_at, no_marks, note_losses, note_lost, note_systems_lost, with_mark_in}
+use Rattle.obs_epoch.specs.inner.Marks.{carried_from, mark_at, no_marks, note_losses, note_lost, note_systems_lost, with_mark_in}
 use Rattle.obs_epoch.specs.GathererHistory.{AreMarks, is_lost_in}
-use Rattle.obs_epoch.specs.Names.{Cell, Closed, EpochValue, System, cells_of, has_listed_key, has_same_key, heard_cell, lock_place, most_locks}
+use Rattle.obs_epoch.specs.inner.Names.{Cell, Closed, EpochValue, System, cells_of, has_listed_key, has_same_key, heard_cell, lock_place, most_locks}
 use Rattle.obs_epoch.specs.Thinning.{all_cells, has_cell, has_phase, is_marked, lost_before, mark_if, marked_epoch}
 use Rattle.obs_epoch.proofs.PlaceLemmas.{listed_from, place_one, place_within, same_place}
 use Rattle.gnss_obs.specs.Marked.{marked_at, marked_in, with_mark}

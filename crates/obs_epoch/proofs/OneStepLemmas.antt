@@ -2,7 +2,7 @@
 use Rattle.std.proofs.Common.{◌≡◌, ℕ, ◌<◌, Bool, true, false, not, ◌&&◌, List, [], ◌∷◌, ◌++◌, filter, refl, sym, ap, ap₂, ◌∙◌, subst, arith, append-nil, Option, Some, None, nat_lt, if◌then◌else◌, filter_map, flat_map}
 use Rattle.std.proofs.lemmas.List.{length-replicate}
 use Rattle.std.proofs.lemmas.List.Elements.{filter-append}
-use Rattle.obs_epoch.specs.Names.{GatherSetup, Heard, ends_epoch, HeardCell, kept_cell, Timed, is_at, greatest_time, is_closed, taken_at, no_counts, offered, is_planned, locked_at, latest_in, previous, times, lli_with, cells_with_lli, epoch_at, closed_so_far, lookup, no_locks, State, closes_first, is_pending, GathererValue, empty_epoch, load, epoch_begun, is_same, locked_in, held_at, Locked, KnownLock, option_map_or, list_any}
+use Rattle.obs_epoch.specs.inner.Names.{GatherSetup, Heard, ends_epoch, HeardCell, kept_cell, Timed, is_at, greatest_time, is_closed, taken_at, no_counts, offered, is_planned, locked_at, latest_in, previous, times, lli_with, cells_with_lli, epoch_at, closed_so_far, lookup, no_locks, State, closes_first, is_pending, GathererValue, empty_epoch, load, epoch_begun, is_same, locked_in, held_at, Locked, KnownLock, option_map_or, list_any}
 use Rattle.gnss_system.proofs.SystemLaws.{equal_values, value_tabulated}
 use Rattle.obs_epoch.proofs.TimesLemmas.{next, greater-absent, none-absent}
 use Rattle.obs_epoch.proofs.ClockLemmas.{standing, same_time, Follows, first, greater, equal, new_time}

@@ -4,7 +4,7 @@ use Rattle.std.proofs.lemmas.Grind.{common_steps}
 use Rattle.gnss_system.specs.Satellites.{satellites}
 use Rattle.gnss_system.proofs.SystemLaws.{each_system}
 use Rattle.gnss_system.specs.Signals.{first_key, keys_of}
-use Rattle.obs_epoch.specs.Names.{System, table, has_listed_key, has_same_key, lock_place, most_locks, HeardCell}
+use Rattle.obs_epoch.specs.inner.Names.{System, table, has_listed_key, has_same_key, lock_place, most_locks, HeardCell}
 use Rattle.std.proofs.lemmas.Bool.{leb-true}
 
 -- ---- the range of a system

@@ -3,7 +3,7 @@ use Rattle.obs_epoch.specs.declared.setup.Gather.TheVariants as gathers
 use Rattle.gnss_system.specs.declared.system.System.TheVariants.{Glonass}
 use Rattle.obs_epoch.specs.Heard.{tow_of}
 use Rattle.std.proofs.Common.{◌≡◌, ℕ, ◌+◌, ◌*◌, ◌^◌, Bool, true, false, List, [], ◌∷◌, map, refl, Option, Some, None, pos, ℤ}
-use Rattle.obs_epoch.specs.Names.{Gps, GatherSetup, Heard, HeardCell, timed, counts_of, no_values, EpochValue, Cell}
+use Rattle.obs_epoch.specs.inner.Names.{Gps, GatherSetup, Heard, HeardCell, timed, counts_of, no_values, EpochValue, Cell}
 use Rattle.gnss_system.specs.SystemValues.{of_two}
 use Rattle.gnss_obs.specs.Values.{plan_with}
 use Rattle.rtcm_msg.specs.Msm.{week}

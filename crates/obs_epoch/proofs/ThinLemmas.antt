@@ -8,9 +8,9 @@ use Rattle.gnss_system.proofs.SystemLaws.{equal_values, tabulated_same, value_ta
 use Rattle.obs_epoch.specs.declared.choice.Choice.{Choice}
 use Rattle.obs_epoch.specs.declared.choice.EpochCounts.{EpochCounts}
 use Rattle.obs_epoch.specs.Choices.{in_window, is_chosen, on_grid}
-use Rattle.obs_epoch.specs.Marks.{counted_epoch}
+use Rattle.obs_epoch.specs.inner.Marks.{counted_epoch}
 use Rattle.obs_epoch.specs.GathererHistory.{capped_counts}
-use Rattle.obs_epoch.specs.Names.{Cell, Closed, EpochValue, System, cells_of, has_listed_key, has_same_key, heard_cell}
+use Rattle.obs_epoch.specs.inner.Names.{Cell, Closed, EpochValue, System, cells_of, has_listed_key, has_same_key, heard_cell}
 use Rattle.gnss_obs.specs.Marked.{with_mark}
 use Rattle.obs_epoch.specs.Thinning.{after_latest, all_cells, counts_among, counts_left_out, ends_carrying, has_cell, has_phase, is_left_out, is_marked, lost_before, mark_if, marked_after, marked_epoch, thin, thin_after, up_to_most}
 use Rattle.obs_epoch.proofs.TimesLemmas.{list_any-push}

@@ -8,10 +8,10 @@ use Rattle.obs_epoch.specs.Choices.{in_window, is_chosen, on_grid}
 use Rattle.obs_epoch.specs.Clock.{closes_first, is_pending}
 use Rattle.obs_epoch.specs.GathererAfter.{HasAsManyCells}
 use Rattle.obs_epoch.specs.GathererHistory.{closed_by, closed_list, closed_list_at, closed_so_far_of, is_done, known_epochs, returned_epoch, whole_list, HasGatheredEpochs}
-use Rattle.obs_epoch.specs.GathererSteps.{carries, thinned, thinned_if}
-use Rattle.obs_epoch.specs.Marks.{carried_from, carried_to, counted_epoch}
+use Rattle.obs_epoch.specs.inner.GathererSteps.{carries, thinned, thinned_if}
+use Rattle.obs_epoch.specs.inner.Marks.{carried_from, carried_to, counted_epoch}
 use Rattle.obs_epoch.specs.GathererHistory.{AreMarks, capped_counts, is_lost_in}
-use Rattle.obs_epoch.specs.Names.{Cell, Closed, EpochValue, GatherSetup, GathererValue, HasTakenMessages, Heard, Timed, cells_at, cells_with_lli, closed_so_far, empty_epoch, epoch_at, greatest_time, held_at, timed, option_map_or}
+use Rattle.obs_epoch.specs.inner.Names.{Cell, Closed, EpochValue, GatherSetup, GathererValue, HasTakenMessages, Heard, Timed, cells_at, cells_with_lli, closed_so_far, empty_epoch, epoch_at, greatest_time, held_at, timed, option_map_or}
 use Rattle.obs_epoch.specs.Thinning.{counts_left_out, lost_before, marked_after, marked_epoch, thin, thin_after}
 use Rattle.obs_epoch.proofs.LockLemmas.{AllListed, seens}
 use Rattle.obs_epoch.proofs.MarksLemmas.{marks_push}

@@ -2,7 +2,7 @@
 use Rattle.std.proofs.Common.{arith, ◌≡◌, ◌∙◌, refl, Bool, true, ℕ}
 use Rattle.gnss_obs.specs.Channels.{ChannelsValue}
 use Rattle.obs_epoch.proofs.EntryLemmas.{load_entries_is}
-use Rattle.obs_epoch.specs.Names.{FormedMsm, formed, entries, heard, heard_by, heard_msm, GathererValue, load_entries, loaded_where, no_counts}
+use Rattle.obs_epoch.specs.inner.Names.{FormedMsm, formed, entries, heard, heard_by, heard_msm, GathererValue, load_entries, loaded_where, no_counts}
 use Rattle.std.proofs.lemmas.Grind.{common_steps}
 
 pub heard_formed : (channels : ChannelsValue) (leap : ℕ) (m : FormedMsm) → heard channels leap (formed m) ≡ heard_msm channels leap m.form m.msm (entries (formed m))

@@ -1,18 +1,11 @@
 -- The number of cells with a value in messages, by signal.
-use Rattle.std.specs.Prelude.{◌≡◌, ℕ, ◌+◌, ◌-◌, ◌<◌, ◌≤◌, ◌^◌, ◌==◌, ◌&&◌, ◌||◌, Bool, true, false, min, nat_lt, List}
-use Rattle.std.specs.Prelude.{[], ◌++◌, length, get_or, set, filter, filter_map, Option, is_some, if◌then◌else◌}
+use Rattle.std.specs.Prelude.{ℕ, ◌==◌, ◌&&◌, ◌||◌, Bool, true, false, List}
+use Rattle.std.specs.Prelude.{[], length, filter, Option, is_some, if◌then◌else◌}
 use Rattle.std.specs.Prelude.{Some, replicate}
 use Rattle.std.specs.Option.{option_map_or}
-use Rattle.std.specs.List.{list_any}
 use Rattle.gnss_system.specs.declared.system.System.{System}
-use Rattle.gnss_system.specs.Systems.{systems}
-use Rattle.gnss_system.specs.SystemValues.{value_of, with_value_of}
-use Rattle.gnss_system.specs.declared.by_system.BySystem.{BySystem}
-use Rattle.gnss_system.specs.Signals.{SignalAt, table, most_signals}
-use Rattle.rtcm_msg.specs.Msm.{most_pairs}
-use Rattle.rtcm_msg.specs.declared.entry.Entry.{Entry}
-use Rattle.rtcm_msg.specs.declared.view.Form.{Form}
-use Rattle.obs_epoch.specs.Heard.{Heard, seen_in}
+use Rattle.gnss_system.specs.Signals.{SignalAt}
+use Rattle.obs_epoch.specs.Heard.{Heard}
 use Rattle.gnss_obs.specs.Channels.{ChannelsValue, slot_count}
 use Rattle.gnss_obs.specs.HeardCells.{HeardCell}
 use Rattle.gnss_system.specs.Systems.{is_system}
@@ -46,52 +39,3 @@ count_of g cells = length (filter (is_of_signal g) cells)
 
 abbrev pub signal_in : System → ℕ → SignalAt
 signal_in system i = record { system = system; index = i }
-
--- ---- the counts by signal: the number of counted cells of each signal, by its index in its system's table
-
-abbrev pub SignalCountsValue : Type 0
-SignalCountsValue = BySystem (List ℕ)
-
-abbrev pub signal_counts : System → SignalCountsValue → List ℕ
-signal_counts s c = value_of s c
-
-abbrev pub counted : SignalCountsValue → System → ℕ → ℕ
-counted c system i = get_or (signal_counts system c) i 0
-
--- A cell of any signal was counted.
-abbrev pub has_any : SignalCountsValue → Bool
-has_any c = list_any (λ s. list_any (λ n. nat_lt 0 n) (signal_counts s c)) systems
-
--- ---- more cells of a signal
-
--- A count saturates at the largest 64-bit number, which no stream comes near.
-abbrev pub up_by : ℕ → List ℕ → ℕ → List ℕ
-up_by n counts i = set counts i (min (get_or counts i 0 + n) (2 ^ 64 - 1))
-
-abbrev pub counted_more_in : System → ℕ → ℕ → SignalCountsValue → SignalCountsValue
-counted_more_in s i n c = with_value_of s c (up_by n (signal_counts s c) i)
-
-abbrev pub counted_more : SignalAt → ℕ → SignalCountsValue → SignalCountsValue
-counted_more g n c = counted_more_in g.system g.index n c
-
--- ---- all cells so far
-
--- The counts are those of these cells.
-pub record AreSignalCounts (c : SignalCountsValue) (cells : List HeardCell) : Type 0 where
-  pub size : (system : System) → length (signal_counts system c) ≡ most_signals
-  pub each : (system : System) (i : ℕ) → i < length (table system)
-      → counted c system i ≡ count_of (signal_in system i) cells
-  pub past : (system : System) (i : ℕ) → length (table system) ≤ i → counted c system i ≡ 0
-
--- From c to c' the cells of these entries that have a value were counted, regardless of the earlier cells and for every
--- lock form.
-abbrev pub CountsEntries : (c c' : SignalCountsValue) → System → List Entry → Type 0
-CountsEntries c c' system entries =
-    (form : Form) (cells : List HeardCell) → length cells + length entries < 2 ^ 63 → AreSignalCounts c cells
-    → AreSignalCounts c' (cells ++ filter brings_value (filter_map (seen_in every_channel form system) entries))
-
--- From c to c' the cells of a message that have a value were counted.
-pub record CountsMessage (c c' : SignalCountsValue) (wanted : Option ℕ) (m : Heard) : Type 0 where
-  pub counts : (cells : List HeardCell) → length cells < 2 ^ 62 → AreSignalCounts c cells
-      → AreSignalCounts c' (cells ++ valued wanted m)
-  pub few : length (valued wanted m) ≤ most_pairs

@@ -2,7 +2,7 @@
 ghost use Rattle.std.specs.Prelude.{◌≡◌, IfSome, if◌then◌else◌};
 ghost use Rattle.gnss_obs.specs.Intervals.{IsInterval};
 ghost use Rattle.obs_epoch.specs.Choices.{every_epoch, in_window, on_grid};
-ghost use Rattle.obs_epoch.specs.Marks.{counted_epoch};
+ghost use Rattle.obs_epoch.specs.inner.Marks.{counted_epoch};
 
 use gnss_obs::{GpsTime, Interval};
 

@@ -38,8 +38,8 @@ impl Model for Clock {
 impl Clock {
     ghost use Rattle.obs_epoch.specs.Clock.{HasHeardMessages};
     ghost use Rattle.obs_epoch.specs.Cells.{no_counts};
-    ghost use Rattle.obs_epoch.specs.Step.{KeepsEpoch, kind_by, step_by, kind_now, ended_where, closed_time};
-    ghost use Rattle.obs_epoch.specs.Step.{open_at, open_by};
+    ghost use Rattle.obs_epoch.specs.inner.Step.{KeepsEpoch, kind_by, step_by, kind_now, ended_where, closed_time};
+    ghost use Rattle.obs_epoch.specs.inner.Step.{open_at, open_by};
     ghost use Rattle.obs_epoch.specs.GathererAfter.{time_in};
 
     /// Returns the clock before the first message.

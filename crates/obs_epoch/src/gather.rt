@@ -4,9 +4,10 @@ ghost use Rattle.std.specs.Prelude.{IfErr, IfSome, IsOk, Err, if◌then◌else�
 ghost use Rattle.std.specs.Option.{ForSome};
 ghost use Rattle.rtcm_msg.specs.Msm.{most_pairs, week};
 ghost use Rattle.rtcm_msg.specs.Entries.{IsEntry, entries};
-ghost use Rattle.rtcm_msg.specs.Viewed.{viewed_message};
-ghost use Rattle.rtcm_msg.specs.Forms.{form_as, lock_codes};
-ghost use Rattle.rtcm_msg.specs.Views.{formed};
+ghost use Rattle.rtcm_msg.specs.inner.Viewed.{viewed_message};
+ghost use Rattle.rtcm_msg.specs.Forms.{lock_codes};
+ghost use Rattle.rtcm_msg.specs.inner.Forms.{form_as};
+ghost use Rattle.rtcm_msg.specs.inner.Views.{formed};
 ghost use Rattle.gnss_obs.specs.Weeks.{weeks};
 ghost use Rattle.obs_epoch.specs.Heard.{Heard, heard_by, heard_summary};
 ghost use Rattle.obs_epoch.specs.declared.setup.GatherSetup.{GatherSetup};
@@ -14,18 +15,19 @@ ghost use Rattle.gnss_obs.specs.Order.{AreSortedByPlan};
 ghost use Rattle.gnss_obs.specs.Plans.{place_in};
 ghost use Rattle.gnss_obs.specs.HeardCells.{heard_cell, IsObserved};
 ghost use Rattle.obs_epoch.specs.Epochs.{values_after_message, values_of};
-ghost use Rattle.obs_epoch.specs.Held.{count_in, outcome_of_added};
+ghost use Rattle.obs_epoch.specs.inner.Held.{count_in, outcome_of_added};
 ghost use Rattle.obs_epoch.specs.GathererAfter.{most_locks, recorded};
-ghost use Rattle.obs_epoch.specs.Step.{kind_by, closed_time, ended_where, step_by};
+ghost use Rattle.obs_epoch.specs.inner.Step.{kind_by, closed_time, ended_where, step_by};
 ghost use Rattle.gnss_obs.specs.Values.{Closed, cells_of, most_cells, planned_of};
 ghost use Rattle.obs_epoch.specs.Kinds.{is_no_station, with_counts};
 ghost use Rattle.obs_epoch.specs.GathererHistory.{HasGatheredEpochs, closed_by, closed_in, plan_in};
-ghost use Rattle.obs_epoch.specs.Calls.{TakesMessage, EndsPendingEpoch, StaysEnded, HoldsCells, HoldsLockedKeys, CountsEpochs};
+ghost use Rattle.obs_epoch.specs.inner.Calls.{TakesMessage, EndsPendingEpoch, StaysEnded, HoldsCells, HoldsLockedKeys};
+ghost use Rattle.obs_epoch.specs.inner.Calls.{CountsEpochs};
 ghost use Rattle.gnss_obs.specs.declared.fault.PlanFault.{PlanFault};
-ghost use Rattle.obs_epoch.specs.GathererSteps.{closed_noted, loaded_where, load_entry, load_entries, begun_by};
-ghost use Rattle.obs_epoch.specs.GathererSteps.{cleared_if, thinned, thinned_if};
-ghost use Rattle.obs_epoch.specs.Marks.{carried_from, carried_to};
-ghost use Rattle.obs_epoch.specs.GathererSteps.{load, system_as, rested, outcome_in, hold, shut_where};
+ghost use Rattle.obs_epoch.specs.inner.GathererSteps.{closed_noted, loaded_where, load_entry, load_entries, begun_by};
+ghost use Rattle.obs_epoch.specs.inner.GathererSteps.{cleared_if, thinned, thinned_if};
+ghost use Rattle.obs_epoch.specs.inner.Marks.{carried_from, carried_to};
+ghost use Rattle.obs_epoch.specs.inner.GathererSteps.{load, system_as, rested, outcome_in, hold, shut_where};
 ghost use Rattle.obs_epoch.specs.Cells.{cells_counted, no_counts};
 
 use crate::choice::{Choice, EpochCounts};
@@ -65,7 +67,7 @@ pub struct Gatherer {
 }
 
 impl Model for Gatherer {
-    ghost use Rattle.obs_epoch.specs.GathererSteps.{IsGathering};
+    ghost use Rattle.obs_epoch.specs.inner.GathererSteps.{IsGathering};
     ghost use Rattle.obs_epoch.specs.GathererAfter.{GathererValue, epoch_in};
 
     ghost Value = { GathererValue };

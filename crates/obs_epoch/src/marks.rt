@@ -1,10 +1,10 @@
 //! Loss of lock in epochs off the grid: for each satellite and signal, whether its phase in the next
 //! epoch on the grid is to be marked.
 ghost use Rattle.std.specs.Prelude.{◌≡◌, ◌<◌, ◌≤◌, length, IfOk};
-ghost use Rattle.obs_epoch.specs.Held.{AreKeysOf};
-ghost use Rattle.obs_epoch.specs.Marks.{no_marks, note_lost, note_losses};
+ghost use Rattle.obs_epoch.specs.inner.Held.{AreKeysOf};
+ghost use Rattle.obs_epoch.specs.inner.Marks.{no_marks, note_lost, note_losses};
 ghost use Rattle.obs_epoch.specs.GathererHistory.{is_lost_in};
-ghost use Rattle.obs_epoch.specs.Marks.{note_systems_lost, with_mark_in, with_marks_of};
+ghost use Rattle.obs_epoch.specs.inner.Marks.{note_systems_lost, with_mark_in, with_marks_of};
 ghost use Rattle.obs_epoch.specs.Thinning.{marked_epoch};
 ghost use Rattle.gnss_obs.specs.HeardCells.{IsKey, heard_cell};
 ghost use Rattle.gnss_obs.specs.Values.{AreHeld, cells_of};

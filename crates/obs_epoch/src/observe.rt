@@ -4,7 +4,7 @@ ghost use Rattle.rtcm_msg.specs.Entries.{IsEntry};
 ghost use Rattle.rtcm_msg.specs.Forms.{lock_codes};
 ghost use Rattle.obs_epoch.specs.Heard.{seen_in};
 ghost use Rattle.gnss_obs.specs.HeardCells.{heard_cell, IsObserved};
-ghost use Rattle.obs_epoch.specs.GathererSteps.{planned_cell};
+ghost use Rattle.obs_epoch.specs.inner.GathererSteps.{planned_cell};
 
 use gnss_obs::{Cell, Lock, Plan, Sat, System, doppler_at, phase_at, pseudorange, strength};
 use rtcm_msg::{Entry, Form};

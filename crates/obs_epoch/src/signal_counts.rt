@@ -3,12 +3,13 @@ ghost use Rattle.std.specs.Prelude.{◌≡◌, ◌<◌, ◌≤◌, [], length, n
 ghost use Rattle.std.specs.List.{list_any};
 ghost use Rattle.gnss_system.specs.Signals.{table, most_signals};
 ghost use Rattle.obs_epoch.specs.Heard.{heard};
-ghost use Rattle.obs_epoch.specs.SignalCounts.{counted, every_channel, has_any, counted_more, up_by, CountsEntries};
-ghost use Rattle.obs_epoch.specs.SignalCounts.{CountsMessage, AreSignalCounts};
+ghost use Rattle.obs_epoch.specs.SignalCounts.{every_channel};
+ghost use Rattle.obs_epoch.specs.inner.SignalCounts.{counted, has_any, counted_more, up_by, CountsEntries};
+ghost use Rattle.obs_epoch.specs.inner.SignalCounts.{CountsMessage, AreSignalCounts};
 ghost use Rattle.rtcm_msg.specs.Entries.{entries};
 ghost use Rattle.rtcm_msg.specs.Msm.{most_pairs};
-ghost use Rattle.rtcm_msg.specs.Viewed.{viewed_message};
-ghost use Rattle.rtcm_msg.specs.Views as views;
+ghost use Rattle.rtcm_msg.specs.inner.Viewed.{viewed_message};
+ghost use Rattle.rtcm_msg.specs.inner.Views as views;
 
 use gnss_obs::Signal;
 use gnss_system::{BySystem, MOST_SIGNALS, SYSTEMS, System};
@@ -20,7 +21,7 @@ use std::marker::Model;
 pub struct SignalCounts(BySystem<[u64; MOST_SIGNALS]>);
 
 impl Model for SignalCounts {
-    ghost use Rattle.obs_epoch.specs.SignalCounts.{SignalCountsValue};
+    ghost use Rattle.obs_epoch.specs.inner.SignalCounts.{SignalCountsValue};
 
     ghost Value = { SignalCountsValue };
 

@@ -3,9 +3,9 @@ ghost use Rattle.std.specs.Prelude.{◌≡◌, ◌↔◌, ◌⊎◌, ◌<◌, �
 ghost use Rattle.gnss_obs.specs.Values.{empty_epoch, no_cells, no_values};
 ghost use Rattle.gnss_obs.specs.Weeks.{weeks};
 ghost use Rattle.gnss_obs.specs.declared.fault.PlanFault.{PlanFault};
-ghost use Rattle.obs_epoch.specs.Held.{no_locks};
+ghost use Rattle.obs_epoch.specs.inner.Held.{no_locks};
 ghost use Rattle.obs_epoch.specs.Kinds.{is_no_station};
-ghost use Rattle.obs_epoch.specs.Marks.{no_marks};
+ghost use Rattle.obs_epoch.specs.inner.Marks.{no_marks};
 
 use crate::locks::Locks;
 use crate::marks::Marks;

@@ -3,7 +3,7 @@ ghost use Rattle.std.specs.Prelude.{◌≡◌, ◌<◌, ◌+◌, ◌-◌, ◌*�
 ghost use Rattle.std.specs.Option.{ForSome};
 ghost use Rattle.rtcm_msg.specs.Msm.{is_time, week};
 ghost use Rattle.gnss_obs.specs.Channels.{ChannelsValue};
-ghost use Rattle.rtcm_msg.specs.Viewed.{viewed_message};
+ghost use Rattle.rtcm_msg.specs.inner.Viewed.{viewed_message};
 ghost use Rattle.obs_epoch.specs.Heard.{heard, heard_summary, tow_of, without_cells};
 
 use gnss_system::{System, TimeScale};

@@ -12,7 +12,8 @@ pub use Rattle.gnss_obs.specs.Intervals.{IsInterval}
 pub use Rattle.gnss_obs.specs.Plans.{place_in}
 pub use Rattle.gnss_system.specs.Satellites.{letter, most_satellites, number_of, satellites}
 pub use Rattle.gnss_system.specs.Systems.{index_of, is_system, systems}
-pub use Rattle.gnss_obs.specs.SignalLists.{IsAdded, IsOf, indices}
+pub use Rattle.gnss_obs.specs.SignalLists.{indices}
+pub use Rattle.gnss_obs.specs.inner.SignalLists.{IsAdded, IsOf}
 pub use Rattle.gnss_system.specs.Signals.{IsSignal, SignalAt, code_of, most_signals, signal_of_code, table}
 pub use Rattle.gnss_system.specs.SystemValues.{value_of}
 unfoldable pub use Rattle.gnss_obs.specs.Values.{written_among}
@@ -39,31 +40,32 @@ pub use Rattle.rinex_file.specs.FileValues.{AreChanges, AreSatelliteRows, AreSig
 pub use Rattle.rinex_file.specs.Gathered.{AreSignals, HasSatellite}
 unfoldable pub use Rattle.rinex_file.specs.Header.{header_lines, row_line}
 unfoldable pub use Rattle.rinex_columns.specs.HeaderLine.{header_line}
-pub use Rattle.rinex_file.specs.Header.{types_line, types_with, has_label, is_of_types, interval_line, is_given, is_optional, Shown, all_rows, codes_of, delta_line, biases_line, end_line, flagged_letter, first_line, first_types, has_line, height_line, is_planned, letter_of, lengths, lines_after, lines_before, most_type_rows, position_line, row_at, row_count, row_lines, row_place, slots_line, slots_with, strength_line, systems_letter, text_columns, texts_line, type_columns, type_front, type_of, type_rows, types_of, version_fields, version_by, version_line}
+pub use Rattle.rinex_file.specs.Header.{types_line, types_with, has_label, is_of_types, interval_line, Shown, all_rows, codes_of, delta_line, biases_line, end_line, flagged_letter, first_line, has_line, height_line, is_planned, letter_of, lengths, position_line, row_lines, slots_line, slots_with, strength_line, systems_letter, text_columns, texts_line, type_columns, type_front, type_of, type_rows, types_of, version_fields, version_by, version_line}
+pub use Rattle.rinex_file.specs.inner.Header.{is_given, is_optional, first_types, lines_after, lines_before, most_type_rows, row_at, row_count, row_place}
 pub use Rattle.rinex_columns.specs.Limits.{most_line}
 unfoldable pub use Rattle.rinex_file.specs.Lines.{epoch_line, field, satellite_line, signal_text}
 pub use Rattle.rinex_file.specs.Lines.{epoch_fields, lli_byte, row_text, strength_byte}
 pub use Rattle.rinex_columns.specs.Numbers.{fixed, joined, left, padded, right}
-pub use Rattle.rinex_file.specs.ParserState.{FollowsHistory, MayRunOut, GoesOnWithLine, IsLast, IsNext, RefusesLine, ShowsLine, TakesLine, progress_at, stamped_at, with_line}
+pub use Rattle.rinex_file.specs.inner.ParserState.{FollowsHistory, MayRunOut, GoesOnWithLine, IsLast, IsNext, RefusesLine, ShowsLine, TakesLine, progress_at, stamped_at, with_line}
 pub use Rattle.rinex_file.specs.Counting.{History, changes_of, events_in, nothing, rows_in}
-pub use Rattle.rinex_file.specs.Read.EpochSteps.{HasReadTo, IsSummaryOf}
+pub use Rattle.rinex_file.specs.inner.Read.EpochSteps.{HasReadTo, IsSummaryOf}
 pub use Rattle.rinex_columns.specs.Read.{ReadsExactly, digits_in, has, number_in, some_if}
-pub use Rattle.rinex_file.specs.Read.HeaderSteps.{AreItemsBefore, EndsHeader, IsLineOfSlots, TakesOrRefusesSlots, TakesSlots, with_slots, GoesOn, GoesTo, HasSignalAt, IsHeaderLineRead, IsOnly, NoneGoesOn, ReadsOrRefuses, ReadsOrRefusesTexts, ReadsTexts, RefusesHeaderLine, RefusesTexts, RefusesTypes, SameFrom, StepsTo, Takes, TakesHeaderLine, TakesTypes, begins_with, row_label, with_interval, expected_if, if_fine, known_line, texts_in, with_first, with_letter, with_texts, with_types, with_values}
-unfoldable pub use Rattle.rinex_file.specs.Read.Keeping.{stamped_text}
-pub use Rattle.rinex_file.specs.Read.Keeping.{ExplainsAny, HasReadWhole, HasRoom, HaveRowsRoom, Stores, history_of}
-unfoldable pub use Rattle.rinex_file.specs.Read.Progress.{HasLinesLeft}
-pub use Rattle.rinex_file.specs.Read.Progress.{AreListsAt, AreReadAt, IsRowRead, IsRowUnread, AreUnread, AreSameTexts, AreTypes, AreSameItems, slots_begun, AreValid, Has, HasRow, IsAt, IsAtEpoch, IsHeadAt, IsInEpoch, IsInEvent, IsInHeader, IsPosition, Known, Progress, counted, fits, is_chosen, begun_at, epoch_after, expected_next, file_with, position_of, shown_with, signals_begun, stamped, with_epoch, with_row, known_slots}
+pub use Rattle.rinex_file.specs.inner.Read.HeaderSteps.{AreItemsBefore, EndsHeader, IsLineOfSlots, TakesOrRefusesSlots, TakesSlots, with_slots, GoesOn, GoesTo, HasSignalAt, IsHeaderLineRead, IsOnly, NoneGoesOn, ReadsOrRefuses, ReadsOrRefusesTexts, ReadsTexts, RefusesHeaderLine, RefusesTexts, RefusesTypes, SameFrom, StepsTo, Takes, TakesHeaderLine, TakesTypes, begins_with, row_label, with_interval, expected_if, if_fine, known_line, texts_in, with_first, with_letter, with_texts, with_types, with_values}
+unfoldable pub use Rattle.rinex_file.specs.inner.Read.Keeping.{stamped_text}
+pub use Rattle.rinex_file.specs.inner.Read.Keeping.{ExplainsAny, HasReadWhole, HasRoom, HaveRowsRoom, Stores, history_of}
+unfoldable pub use Rattle.rinex_file.specs.inner.Read.Progress.{HasLinesLeft}
+pub use Rattle.rinex_file.specs.inner.Read.Progress.{AreListsAt, AreReadAt, IsRowRead, IsRowUnread, AreUnread, AreSameTexts, AreTypes, AreSameItems, slots_begun, AreValid, Has, HasRow, IsAt, IsAtEpoch, IsHeadAt, IsInEpoch, IsInEvent, IsInHeader, IsPosition, Known, Progress, counted, fits, is_chosen, begun_at, epoch_after, expected_next, file_with, position_of, shown_with, signals_begun, stamped, with_epoch, with_row, known_slots}
 pub use Rattle.rinex_file.specs.Begun.{IsShown, StartsAt}
-pub use Rattle.rinex_file.specs.Read.Row.{AreEntries, IsRowOf}
-pub use Rattle.rinex_file.specs.Read.Sound.{AreLinesAt, AreLinesOf, AreRead, HasReadLines, IsBegun, IsEventExpected, IsSound, IsSoundAt, MayBegin, values_now}
-pub use Rattle.rinex_file.specs.Read.Steps.{HasRead, IsTaken, IsTextOfOnly, IsWhole, ReadsNextLine, file_at}
+pub use Rattle.rinex_file.specs.inner.Read.Row.{AreEntries, IsRowOf}
+pub use Rattle.rinex_file.specs.inner.Read.Sound.{AreLinesAt, AreLinesOf, AreRead, HasReadLines, IsBegun, IsEventExpected, IsSound, IsSoundAt, MayBegin, values_now}
+pub use Rattle.rinex_file.specs.inner.Read.Steps.{HasRead, IsTaken, IsTextOfOnly, IsWhole, ReadsNextLine, file_at}
 pub use Rattle.rinex_file.specs.Slots.{AreSlots, SlotNumber, channel_text, last_slot, slot_rows, slot_text, slots_columns, slots_front, slots_in_line, slots_of}
-pub use Rattle.rinex_file.specs.Rows.{AreApart, HasColumns, IsBlankBut, values_at}
+pub use Rattle.rinex_file.specs.inner.Rows.{AreApart, HasColumns, IsBlankBut, values_at}
 pub use Rattle.rinex_file.specs.Texts.{HeaderLists, fault_of, fields, fields_of, first_fault, front_of, has_row, has_text, is_required, is_printable, label_of, place_of, text_count, text_of, trimmed_texts, width_of}
-pub use Rattle.rinex_file.specs.TextsOf.{lists_of}
+pub use Rattle.rinex_file.specs.inner.TextsOf.{lists_of}
 pub use Rattle.rinex_file.specs.Times.{AreTimes, AreTimesOrNone, steps_of}
 pub use Rattle.rinex_file.specs.Value.{FileValue, Row, SatelliteRow, SignalValues, Stamped, all_stamped, change_from, entries_of, is_of_key, no_signal_values, numbers, row_among, row_in_epoch, row_of, rows_of, satellite_row, signal_values_at, signal_values_of, stamped_after, stamped_of, written_satellites}
-pub use Rattle.rinex_file.specs.Words.{AreBelow, AreWithin, blanks, digit_columns, digits_onto, empty_column, has_minus, leading, template, twos_of}
+pub use Rattle.rinex_file.specs.inner.Words.{AreBelow, AreWithin, blanks, digit_columns, digits_onto, empty_column, has_minus, leading, template, twos_of}
 pub use Rattle.rinex_file.specs.declared.header.fault.HeadFault.{HeadFault}
 pub use Rattle.rinex_file.specs.declared.header.fields.HeaderField.{HeaderField}
 pub use Rattle.rinex_file.specs.declared.header.fields.HeaderField.TheVariants.{AntType}

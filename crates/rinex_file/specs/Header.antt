@@ -1,9 +1,9 @@
 -- The lines of a header, RINEX 3.05, table A2: content in columns 1 to 60, the label from column 61 on.
 use Rattle.std.specs.Prelude.{ℕ, zero, suc, ℤ, pos, ◌+◌, ◌*◌, ◌/◌, ◌==◌, if◌then◌else◌, List, [], ◌∷◌, ◌++◌}
-use Rattle.std.specs.Prelude.{Option, is_some, unwrap_or, length, not, take, drop, map, flat_map, replicate, decimal, codes, get_or, Bool, true, false, nat_eq, nat_lt}
+use Rattle.std.specs.Prelude.{Option, is_some, unwrap_or, length, take, drop, map, flat_map, replicate, decimal, codes, Bool, true, nat_eq, nat_lt}
 use Rattle.std.specs.List.{ends_with, filter}
 use Rattle.gnss_system.specs.Satellites.{letter}
-use Rattle.gnss_system.specs.Systems.{systems, index_of}
+use Rattle.gnss_system.specs.Systems.{systems}
 use Rattle.gnss_system.specs.Signals.{code_of}
 use Rattle.gnss_system.specs.declared.system.System.{System}
 use Rattle.gnss_system.specs.declared.system.System.TheVariants.{Glonass}
@@ -22,8 +22,8 @@ use Rattle.rinex_columns.specs.Limits.{label_columns}
 use Rattle.rinex_columns.specs.Numbers.{joined, left, right, fixed}
 use Rattle.rinex_file.specs.Slots.{SlotNumber, slots_of, slots_columns, slot_rows}
 use Rattle.rinex_file.specs.Limits.{types_in_line}
-use Rattle.rinex_file.specs.Texts.{HeaderLists, width_of, text_of, fields_of, place_of, front_of, label_of}
-use Rattle.rinex_file.specs.Texts.{has_row, has_text, is_required}
+use Rattle.rinex_file.specs.Texts.{HeaderLists, width_of, text_of, fields_of, front_of, label_of}
+use Rattle.rinex_file.specs.Texts.{has_row}
 
 -- the contents of a header
 pub record Shown : Type 0 where
@@ -180,12 +180,6 @@ row_line h (Slots row) = slots_line (slots_of h.plan.channels) row
 row_line h Biases = biases_line
 row_line h End = end_line
 
--- whether the header has a value for the line of an optional row
-abbrev pub is_given : HeaderLists → Option ℕ → HeaderRow → Bool
-is_given x interval (Texts row) = has_text x row
-is_given x interval Interval = is_some interval
-is_given x interval other = false
-
 -- whether a row is in the header: types and phase shifts are those of a planned system, channels those of GLONASS, and
 -- an optional row is there if it has a value
 abbrev pub has_line : Shown → HeaderRow → Bool
@@ -197,12 +191,6 @@ has_line h (Slots zero) = is_planned h.plan Glonass
 has_line h (Slots (suc row)) = nat_lt (suc row) (slot_rows (length (slots_of h.plan.channels)))
 has_line h Biases = is_planned h.plan Glonass
 has_line h other = true
-
--- a row with a line only if the header has a value for it
-abbrev pub is_optional : HeaderRow → Bool
-is_optional (Texts row) = not (is_required row)
-is_optional Interval = true
-is_optional other = false
 
 -- the lines of a row: one, or none
 abbrev pub row_lines : Shown → HeaderRow → List (List ℕ)
@@ -220,18 +208,11 @@ all_rows =
     ∷ (flat_map rows_of_types systems ++ (StrengthUnit ∷ Interval ∷ First
     ∷ (map Shift systems ++ (Slots 0 ∷ Slots 1 ∷ Slots 2 ∷ Slots 3 ∷ Biases ∷ End ∷ []))))
 
-abbrev pub row_count : ℕ
-row_count = length all_rows
-
 -- the lines of a header, in order
 unfoldable pub header_lines : Shown → List (List ℕ)
 header_lines h = flat_map (row_lines h) all_rows
 
 -- ---- line by line
-
--- the row at an index
-abbrev pub row_at : ℕ → HeaderRow
-row_at place = get_or all_rows place End
 
 -- a line, with its line feed, has this label
 abbrev pub has_label : List ℕ → List ℕ → Bool
@@ -240,48 +221,3 @@ has_label label line = ends_with nat_eq line (left label_columns label ++ 10 ∷
 -- a line has the label of observation types
 abbrev pub is_of_types : List ℕ → Bool
 is_of_types line = has_label (codes "SYS / # / OBS TYPES") line
-
--- the number of rows of a system's types
-abbrev pub most_type_rows : ℕ
-most_type_rows = 6
-
--- the index of the first row that passes a test
-abbrev pub index_where : (HeaderRow → Bool) → List HeaderRow → ℕ
-index_where test [] = 0
-index_where test (row ∷ rows) = if test row then 0 else 1 + index_where test rows
-
--- the same row, but for those of a system and of slots
-abbrev pub is_alike : HeaderRow → HeaderRow → Bool
-is_alike Version Version = true
-is_alike (Texts a) (Texts b) = place_of a == place_of b
-is_alike Position Position = true
-is_alike Delta Delta = true
-is_alike StrengthUnit StrengthUnit = true
-is_alike Interval Interval = true
-is_alike First First = true
-is_alike Biases Biases = true
-is_alike End End = true
-is_alike other row = false
-
--- the index of the first row of a system's types: after the height's, in the order of the systems
-abbrev pub first_types : System → ℕ
-first_types system = index_where (is_alike Delta) all_rows + 1 + most_type_rows * index_of system
-
--- the index of the first row of slots: after the phase shifts
-abbrev pub first_slots : ℕ
-first_slots = index_where (is_alike First) all_rows + 1 + length systems
-
--- the index of a row
-abbrev pub row_place : HeaderRow → ℕ
-row_place (Types system row) = first_types system + row
-row_place (Shift system) = index_where (is_alike First) all_rows + 1 + index_of system
-row_place (Slots row) = first_slots + row
-row_place other = index_where (is_alike other) all_rows
-
--- the lines of the rows before an index
-abbrev pub lines_before : Shown → ℕ → List (List ℕ)
-lines_before h place = flat_map (row_lines h) (take place all_rows)
-
--- the lines of the rows from an index on
-abbrev pub lines_after : Shown → ℕ → List (List ℕ)
-lines_after h place = flat_map (row_lines h) (drop place all_rows)

@@ -5,8 +5,8 @@ ghost use Rattle.devices.specs.Device.{AppendsPrefix, FailsWith};
 ghost use Rattle.gnss_system.specs.Satellites.{satellites};
 ghost use Rattle.gnss_system.specs.Systems.{systems};
 ghost use Rattle.rinex_file.specs.File.{event_text, epoch_text, lines_of_systems, lines_up_to};
-ghost use Rattle.rinex_file.specs.Heads.{head_text};
-ghost use Rattle.rinex_file.specs.Rows.{IsBlankBut};
+ghost use Rattle.rinex_file.specs.inner.Heads.{head_text};
+ghost use Rattle.rinex_file.specs.inner.Rows.{IsBlankBut};
 
 pub(crate) mod file;
 pub(crate) mod lanes;

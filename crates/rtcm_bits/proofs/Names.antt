@@ -1,14 +1,14 @@
 -- The names that proofs cite, passed on from one place. Declares nothing.
 pub use Rattle.circular_buffer.specs.Buffer.{Buffer, buffer}
-pub use Rattle.rtcm_bits.specs.BitLaws.{bit-small, bits_of-append, cons2, half, length-bits_of, length-uint, number-fits, number-split, number-take-fits, number-uint, number_of-uint, odd_bit, pow-double, pow_mono, raw-signed, raw_fits, signed-fits, signed-raw, signed_high, signed_low, uint-number}
+pub use Rattle.rtcm_bits.specs.inner.BitLaws.{bit-small, bits_of-append, cons2, half, length-bits_of, length-uint, number-fits, number-split, number-take-fits, number-uint, number_of-uint, odd_bit, pow-double, pow_mono, raw-signed, raw_fits, signed-fits, signed-raw, signed_high, signed_low, uint-number}
 unfoldable pub use Rattle.rtcm_bits.specs.Bits.{bits_of, number_from, uint}
 pub use Rattle.rtcm_bits.specs.Bits.{FitsInt, bit, filled, missing, number, odd, raw, signed}
 unfoldable pub use Rattle.rtcm_bits.specs.Crc.{add_front, bits_remainder, crc, generator, remainder}
 pub use Rattle.rtcm_bits.specs.Crc.{plus}
-unfoldable pub use Rattle.rtcm_bits.specs.Folding.{add_bytes, fold_into}
-pub use Rattle.rtcm_bits.specs.Folding.{Sixes}
+unfoldable pub use Rattle.rtcm_bits.specs.inner.Folding.{add_bytes, fold_into}
+pub use Rattle.rtcm_bits.specs.inner.Folding.{Sixes}
 pub use Rattle.rtcm_bits.specs.FrameOf.{frame_bytes}
-unfoldable pub use Rattle.rtcm_bits.specs.Register.{after_bit, after_bits}
+unfoldable pub use Rattle.rtcm_bits.specs.inner.Register.{after_bit, after_bits}
 pub use Rattle.rtcm_bits.specs.Window.{WindowValue, counts_alone, filled_up, held_of, looked, looked_through, nothing_held, pushed, pushed_all, without_front}
 pub use Rattle.rtcm_bits.specs.declared.tables.TheConstants.{TABLES}
 pub use Rattle.std.proofs.Common.{Bool, List, Option, Some, [], add-zero, ap, arith, bit_and, bit_xor, drop, eqb, false, get_or, inl, inr, length, length-append, length-take, lit<, lit≤, map, max, min, negsuc, of_z, pos, refl, replicate, rules, slice_index, slice_range, slice_set, subst, suc, sym, take, to_z, true, vec_capacity, zero, ℕ, ℤ, ⊎_elim, ◌%◌, ◌*◌, ◌++◌, ◌+◌, ◌-◌, ◌/◌, ◌<◌, ◌^◌, ◌∙◌, ◌∷◌, ◌≡◌, ◌≢◌, ◌≤◌}

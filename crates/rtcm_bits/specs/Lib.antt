@@ -1,10 +1,7 @@
 pub mod Bits
-pub mod BitLaws
 pub mod Prefix
-pub mod SmallLaws
 pub mod Cursors
 pub mod Crc
-pub mod Register
 pub mod FrameOf
 pub mod Window
-pub mod Folding
+pub mod inner

@@ -3,8 +3,8 @@
 ghost use Rattle.std.specs.Prelude.{◌≡◌, ◌+◌, ◌*◌, ◌^◌, ◌<◌, ◌≤◌, List, ℕ, [], ◌∷◌, ◌++◌, length, drop};
 ghost use Rattle.rtcm_bits.specs.Bits.{uint, bits_of};
 ghost use Rattle.rtcm_bits.specs.Crc.{crc};
-ghost use Rattle.rtcm_bits.specs.Folding.{fold_into};
-ghost use Rattle.rtcm_bits.specs.Register.{after_bits};
+ghost use Rattle.rtcm_bits.specs.inner.Folding.{fold_into};
+ghost use Rattle.rtcm_bits.specs.inner.Register.{after_bits};
 
 use crate::folding::Folded;
 use crate::tables::entry;

@@ -13,7 +13,8 @@ pub use Rattle.gnss_obs.specs.GatheredEpochs.{AreStationValues}
 pub use Rattle.gnss_obs.specs.Channels.{ChannelsValue}
 pub use Rattle.gnss_obs.specs.Values.{no_values}
 pub use Rattle.gnss_obs.specs.declared.cell.StationValues.{StationValues}
-pub use Rattle.command_line.specs.CommandLine.{FailsParsing, IsCommand, IsFoundIn, RefusesWords, SelectsCommand}
+pub use Rattle.command_line.specs.CommandLine.{FailsParsing, SelectsCommand}
+pub use Rattle.command_line.specs.inner.CommandLine.{IsCommand, IsFoundIn, RefusesWords}
 pub use Rattle.rtcm_command.specs.Commands.{AreRefused, AreRefusedBy, EndsCommand, EndsFound, HasCommand, EndsInspection, HasCompleted, HasDone, HasStopped, HasStoppedEarly, StopsPrinting}
 pub use Rattle.rtcm_command.specs.Converting.{EndsConversion, EndsConverting, MakesFile, StopsConversion}
 pub use Rattle.line_texts.specs.ChannelTexts.{channels_of}
@@ -24,7 +25,7 @@ unfoldable pub use Rattle.command_faults.specs.ErrorLines.{error_line}
 pub use Rattle.line_texts.specs.Lengths.{epoch_interval_of, interval_of, length_below, position_of}
 pub use Rattle.obs_epoch.specs.declared.choice.Choice.{Choice}
 pub use Rattle.obs_epoch.specs.declared.choice.EpochCounts.{EpochCounts}
-pub use Rattle.command_faults.specs.Printing.{PrintsFault}
+pub use Rattle.command_faults.specs.inner.Printing.{PrintsFault}
 pub use Rattle.command_faults.specs.Status.{fault_status, status_of}
 unfoldable pub use Rattle.rtcm_command.specs.Reports.{report_line}
 pub use Rattle.rtcm_command.specs.Reports.{counts_named}
@@ -42,7 +43,7 @@ pub use Rattle.rtcm_convert.specs.declared.fault.Fault.TheVariants.{BadSetup, Fa
 pub use Rattle.rtcm_convert.specs.declared.report.Report.{Report}
 pub use Rattle.rtcm_convert.specs.declared.setup.Setup.{Setup}
 pub use Rattle.line_texts.proofs.LineLemmas.{add_count, add_text, add_word, end_line}
-pub use Rattle.rtcm_bits.specs.SmallLaws.{passed, wrapped}
+pub use Rattle.rtcm_bits.specs.inner.SmallLaws.{passed, wrapped}
 pub use Rattle.rtcm_inspect.specs.Fitting.{height_text, position_text}
 pub use Rattle.rtcm_inspect.specs.Printing.{PrintsLine, PrintsSome}
 pub use Rattle.rtcm_inspect.specs.declared.fault.InspectFault.{InspectFault}

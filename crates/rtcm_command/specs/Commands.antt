@@ -17,7 +17,8 @@ use Rattle.rtcm_inspect.specs.ShowLines.{show_lines}
 use Rattle.rtcm_inspect.specs.Signals.{AreSignalsOf, AreSignalsRefused}
 use Rattle.rtcm_inspect.specs.StreamOutput.{EndsStream}
 use Rattle.rtcm_command.specs.Converting.{IsConverted, StopsConverting}
-use Rattle.command_line.specs.CommandLine.{SelectsCommand, FailsParsing, IsCommand}
+use Rattle.command_line.specs.CommandLine.{SelectsCommand, FailsParsing}
+use Rattle.command_line.specs.inner.CommandLine.{IsCommand}
 use Rattle.rtcm_command.specs.Devices.{IsInspected, culprit}
 use Rattle.command_faults.specs.ErrorLines.{error_line}
 use Rattle.command_faults.specs.Status.{fault_status}

@@ -3,10 +3,10 @@ ghost use Rattle.std.specs.Prelude.{◌≡◌, ◌<◌, ◌≤◌, IfOk, IfSome,
 ghost use Rattle.clap.specs.Walk.{first_of, one_of};
 ghost use Rattle.std.specs.Str.{bytes_eq};
 ghost use Rattle.gnss_obs.specs.Plans.{HasSignal};
-ghost use Rattle.gnss_obs.specs.SignalLists.{IsDefined};
+ghost use Rattle.gnss_obs.specs.inner.SignalLists.{IsDefined};
 ghost use Rattle.obs_epoch.specs.Heard.{is_by_bit};
 ghost use Rattle.obs_epoch.specs.Kinds.{default_leap};
-ghost use Rattle.rinex_file.specs.TextsOf.{lists_of};
+ghost use Rattle.rinex_file.specs.inner.TextsOf.{lists_of};
 ghost use Rattle.line_texts.specs.Lengths.{longest_interval};
 ghost use Rattle.rtcm_command.specs.SetupOptions.{HasSetupFault, IsChoiceSet, IsNearRefused, IsNearSet, IsNumberOf};
 ghost use Rattle.rtcm_command.specs.SetupOptions.{IsNumberOr, IsTimeIn, IsWindowSet, channels_set, interval_set};

@@ -27,9 +27,10 @@ unfoldable pub use Rattle.rtcm_bits.specs.Bits.{uint}
 pub use Rattle.devices.specs.Device.{AppendsPrefix, Device, FailsWith, HasFailed, IsBetween}
 pub use Rattle.rtcm_bits.specs.FrameOf.{longest_frame}
 pub use Rattle.rtcm_bits.specs.Prefix.{IsPrefix}
-pub use Rattle.rtcm_bits.specs.SmallLaws.{on_failure, passed}
+pub use Rattle.rtcm_bits.specs.inner.SmallLaws.{on_failure, passed}
 pub use Rattle.rtcm_convert.specs.Broken.{BrokeInPieces, FailedWriting, FailedWritingAtEnd, IsBroken, joined_pieces}
-pub use Rattle.rtcm_convert.specs.Conversion.{Completed, CompletedEmpty, CompletesEmptyFile, CompletesFile, Conversion, CutsAtLimit, FailsAtEnd, FailsAtPiece, FailsFeeding, FailsFinishing, FinishesEmptyNow, FinishesNow, HasConverted, HasFinished, IsFit, IsGoing, IsPastLimit, KeepsNow, LeftBy, RanToFault, RanToLimit, StopsAtEnd, TakesFromReader, TakesPiece, WritesAdded, WritesPrefixOfAdded, kept_of, refusal}
+pub use Rattle.rtcm_convert.specs.Conversion.{Completed, CompletedEmpty, CompletesEmptyFile, CompletesFile, Conversion, CutsAtLimit, FailsAtEnd, FailsAtPiece, FailsFeeding, FailsFinishing, HasConverted, HasFinished, IsGoing, IsPastLimit, LeftBy, RanToFault, RanToLimit, WritesAdded, kept_of, refusal}
+pub use Rattle.rtcm_convert.specs.inner.Conversion.{FinishesEmptyNow, FinishesNow, IsFit, KeepsNow, StopsAtEnd, TakesFromReader, TakesPiece, WritesPrefixOfAdded}
 unfoldable pub use Rattle.rtcm_convert.specs.Converted.{text_of_epochs}
 pub use Rattle.rtcm_convert.specs.Converted.{SetupValue, epochs_in, file, message_of, messages_of, so_far, text_with, written_epochs}
 pub use Rattle.rtcm_convert.specs.Faults.{FailsWithWriter, IsPiecesFault, IsRunFault, IsSetupFault}
@@ -43,8 +44,9 @@ pub use Rattle.rtcm_convert.specs.Pieces.{StopsInPieces}
 pub use Rattle.rtcm_convert.specs.Readable.{AreSound, HasValue, IsReadable}
 pub use Rattle.rtcm_convert.specs.SetupValues.{IsBad, IsBadStart, setup_value}
 pub use Rattle.rtcm_convert.specs.declared.setup.Setup.{Setup}
-pub use Rattle.rtcm_convert.specs.Steps.{BreaksInFrame, BreaksInRest, EndsFile, TakesFrame}
-pub use Rattle.rtcm_convert.specs.Stream.{AppendsDecided, AppendsPrefixOfDecided, AppendsPrefixOfRest, BreaksAtEndOf, BreaksFiling, Drained, EndsBytes, Files, HasDrained, HasDrainedSome}
+pub use Rattle.rtcm_convert.specs.inner.Steps.{BreaksInFrame, BreaksInRest, EndsFile, TakesFrame}
+pub use Rattle.rtcm_convert.specs.Stream.{AppendsDecided, AppendsPrefixOfDecided, AppendsPrefixOfRest, Drained, HasDrained}
+pub use Rattle.rtcm_convert.specs.inner.Stream.{BreaksAtEndOf, BreaksFiling, EndsBytes, Files, HasDrainedSome}
 pub use Rattle.rtcm_convert.specs.declared.fault.Fault.{Fault}
 pub use Rattle.rtcm_convert.specs.declared.fault.Fault.TheVariants.{BadSetup, Failed, Finished, Memory, NoEpoch, NoneChosen, Read, TooLong, Write}
 pub use Rattle.rtcm_convert.specs.declared.file_writer.FileWriter.{FileWriter}
@@ -54,7 +56,7 @@ pub use Rattle.rtcm_msg.specs.Encoding.{IsMessage}
 unfoldable pub use Rattle.rtcm_msg.specs.Entries.{chosen}
 pub use Rattle.rtcm_msg.specs.Entries.{all_pairs, cell_pairs, entries, entry_in}
 pub use Rattle.rtcm_msg.specs.Msm.{AreMasks, MasksValue, MsmValue, pair_count}
-pub use Rattle.rtcm_msg.specs.Viewed.{viewed_message}
+pub use Rattle.rtcm_msg.specs.inner.Viewed.{viewed_message}
 pub use Rattle.rtcm_msg.specs.declared.entry.Entry.{Entry}
 pub use Rattle.rtcm_msg.specs.declared.fault.MsgFault.{MsgFault}
 pub use Rattle.rtcm_msg.specs.declared.message.Message.{Message}
@@ -66,8 +68,8 @@ pub use Rattle.rtcm_scan.specs.Examined.{HasExamined, HasExaminedSome}
 unfoldable pub use Rattle.rtcm_scan.specs.Frames.{frames_from, frames_of}
 pub use Rattle.rtcm_scan.specs.Frames.{Framed}
 pub use Rattle.rtcm_scan.specs.Known.{known_frames, known_place}
-pub use Rattle.rtcm_scan.specs.Passing.{AtFault, Breaks, BreaksAfter, BreaksKnown, HasBroken, HasPassedAll, Passes, PassesKnown, PassesToLimit, Reads, ReadsOn, up_to_limit}
-pub use Rattle.rtcm_scan.specs.Results.{framed, new_scan}
+pub use Rattle.rtcm_scan.specs.inner.Passing.{AtFault, Breaks, BreaksAfter, BreaksKnown, HasBroken, HasPassedAll, Passes, PassesKnown, PassesToLimit, Reads, ReadsOn, up_to_limit}
+pub use Rattle.rtcm_scan.specs.inner.Results.{framed, new_scan}
 pub use Rattle.rtcm_scan.specs.Scan.{FramerValue, most_bytes}
 pub use Rattle.rtcm_scan.specs.declared.feed.StreamFault.{StreamFault}
 pub use Rattle.rtcm_scan.specs.declared.feed.StreamFault.TheVariants.{Sink}

@@ -11,12 +11,11 @@ use Rattle.rtcm_convert.specs.Converted.{SetupValue, epoch_counts, epochs_in}
 use Rattle.gnss_system.specs.SystemValues.{tabulate}
 use Rattle.gnss_obs.specs.Values.{cells_of}
 use Rattle.obs_epoch.specs.GathererAfter.{recorded}
-use Rattle.rtcm_convert.specs.Kept.{IsWithinBounds, IsKeptNow, IsKeptAtEnd}
+use Rattle.rtcm_convert.specs.Kept.{IsWithinBounds, IsKeptAtEnd}
 use Rattle.rtcm_convert.specs.declared.converter.Kept.{Kept}
 use Rattle.rtcm_convert.specs.Filed.{HasGathered}
 use Rattle.rtcm_convert.specs.Outcomes.{report_of}
-use Rattle.rtcm_scan.specs.Examined.{HasExaminedSome}
-use Rattle.rtcm_convert.specs.Stream.{Drained, HasDrainedSome, AppendsDecided, AppendsPrefixOfDecided, AppendsRest}
+use Rattle.rtcm_convert.specs.Stream.{Drained, AppendsDecided, AppendsPrefixOfDecided, AppendsRest}
 use Rattle.rtcm_convert.specs.Stream.{AppendsPrefixOfRest}
 use Rattle.rtcm_convert.specs.declared.file_writer.FileWriter.{FileWriter}
 use Rattle.rtcm_convert.specs.declared.report.Report.{Report}
@@ -36,15 +35,6 @@ pub record Conversion : Type 0 where
 pub record IsGoing (v : Conversion) : Type 0 where
   pub fine : v.has_failed ≡ false
   pub more : v.has_ended ≡ false
-
--- a converter that has neither failed nor ended can accept bytes; at every moment the framer has examined some list of
--- bytes
-pub record IsFit (v : Conversion) : Type 0 where
-  pub going : IsGoing v → v.file_writer.gatherer.has_ended ≡ false
-  pub listening : IsGoing v → v.scan.has_ended ≡ false
-  pub ready : IsGoing v → v.scan.is_ready ≡ true
-  pub drained : IsGoing v → HasDrainedSome v.scan
-  pub examined : HasExaminedSome v.scan
 
 -- the fault of every later call
 abbrev pub refusal : Conversion → Option Fault
@@ -75,29 +65,6 @@ kept_of v = record {
   most = v.scan.most;
 }
 
--- they are the values for the bytes that it accepted, within the bounds
-pub record KeepsNow (v : Conversion) : Type 0 where
-  pub bounds : IsWithinBounds v.scan.taken (kept_of v)
-  pub values : (s : SetupValue) (b : List ℕ) → HasConverted v s b → IsKeptNow s b (kept_of v)
-
--- it accepted n more bytes, within the same limit, and neither failed nor ended
-abbrev pub GoesOnBy : Conversion → Conversion → ℕ → Type 0
-GoesOnBy v w n = IsGoing w × (w.scan.limit ≡ v.scan.limit) × (w.scan.taken ≡ v.scan.taken + n)
-    × (0 < n → w.scan.taken ≤ w.scan.limit)
-
--- The converter accepted the bytes up to `all`: what they add was written, and what it holds and has examined are the
--- values for all of them, within the bounds.
-pub record Continued (w : Conversion) (a b : Option (List ℕ)) (s : SetupValue) (bytes all : List ℕ) : Type 0 where
-  pub converted : HasConverted w s all
-  pub out : AppendsDecided a b s bytes all
-  pub kept : IsKeptNow s all (kept_of w)
-  pub bounds : IsWithinBounds (length all) (kept_of w)
-
--- it accepted these further bytes
-abbrev pub TakesPiece : Conversion → Conversion → Option (List ℕ) → Option (List ℕ) → List ℕ → Type 0
-TakesPiece v w a b piece =
-    (s : SetupValue) (bytes : List ℕ) → HasConverted v s bytes → Continued w a b s bytes (bytes ++ piece)
-
 -- it accepted these bytes up to its limit, and what they add was written
 abbrev pub TakesToLimit : Conversion → Option (List ℕ) → Option (List ℕ) → List ℕ → Type 0
 TakesToLimit v a b piece = (s : SetupValue) (bytes : List ℕ) → HasConverted v s bytes
@@ -109,24 +76,9 @@ pub record CutsAtLimit (v w : Conversion) (a b : Option (List ℕ)) (piece : Lis
   pub full : w.scan.taken ≡ v.scan.limit
   pub over : v.scan.limit < v.scan.taken + length piece
 
--- a prefix of what these bytes add was written
-abbrev pub WritesPrefixOfAdded : Conversion → Option (List ℕ) → Option (List ℕ) → List ℕ → Type 0
-WritesPrefixOfAdded v a b piece =
-    (s : SetupValue) (bytes : List ℕ) → HasConverted v s bytes → AppendsPrefixOfDecided a b s bytes (bytes ++ piece)
-
--- the stream ends here, and a prefix of the rest of its file was written
-abbrev pub StopsAtEnd : Conversion → Option (List ℕ) → Option (List ℕ) → Type 0
-StopsAtEnd v a b = (s : SetupValue) (bytes : List ℕ) → HasConverted v s bytes → AppendsPrefixOfRest a b s bytes bytes
-
 -- with these further bytes, the stream is longer than the limit
 abbrev pub IsPastLimit : Conversion → List ℕ → Type 0
 IsPastLimit v rest = (s : SetupValue) (bytes : List ℕ) → HasConverted v s bytes → v.scan.limit < length (bytes ++ rest)
-
--- some further bytes were read and accepted, and what they add was written
-abbrev pub TakesFromReader : Conversion → Conversion → Option (List ℕ) → Option (List ℕ) → Option (List ℕ)
-    → Option (List ℕ) → Type 0
-TakesFromReader v w r r' a b =
-    (front : List ℕ) × Consumes r r' front × (w.scan.taken ≡ v.scan.taken + length front) × TakesPiece v w a b front
 
 -- what these bytes add was written
 abbrev pub WritesAdded : Conversion → Option (List ℕ) → Option (List ℕ) → List ℕ → Type 0
@@ -209,16 +161,6 @@ pub record CompletedEmpty (w : Conversion) (waiting : List ℕ) (a b : Option (L
   pub finished : HasFinished w s all
   pub kept : IsKeptAtEnd s all (kept_of w)
   pub bounds : IsWithinBounds (length all) (kept_of w)
-
--- the stream ends here, and the file was completed
-abbrev pub FinishesNow : Conversion → Conversion → List ℕ → Option (List ℕ) → Option (List ℕ) → Report → Type 0
-FinishesNow v w waiting a b report =
-    (s : SetupValue) (bytes : List ℕ) → HasConverted v s bytes → Completed w waiting a b s bytes bytes report
-
--- the stream ends here, and the file was completed and is empty
-abbrev pub FinishesEmptyNow : Conversion → Conversion → List ℕ → Option (List ℕ) → Option (List ℕ) → Fault → Type 0
-FinishesEmptyNow v w waiting a b fault =
-    (s : SetupValue) (bytes : List ℕ) → HasConverted v s bytes → CompletedEmpty w waiting a b fault s bytes bytes
 
 -- with these further bytes, the file was completed
 abbrev pub CompletesFile : Conversion → Conversion → List ℕ → Option (List ℕ) → Option (List ℕ) → Report → List ℕ

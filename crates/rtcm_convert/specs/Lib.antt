@@ -3,7 +3,6 @@ pub mod Outcomes
 pub mod Faults
 pub mod Fed
 pub mod Filed
-pub mod Steps
 pub mod Stream
 pub mod Conversion
 pub mod Pieces
@@ -13,3 +12,4 @@ pub mod Kept
 pub mod Laws
 pub mod Broken
 pub mod Readable
+pub mod inner

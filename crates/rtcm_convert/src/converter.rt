@@ -18,10 +18,13 @@ ghost use Rattle.obs_epoch.specs.declared.choice.EpochCounts.{EpochCounts};
 ghost use Rattle.rtcm_convert.specs.Faults.{IsFeedFault, IsFinishFault, IsPiecesFault, IsRunFault};
 ghost use Rattle.rtcm_convert.specs.SetupValues.{setup_value, IsBad};
 ghost use Rattle.rtcm_convert.specs.Converted.{SetupValue};
-ghost use Rattle.rtcm_convert.specs.Conversion.{kept_of, KeepsNow, HasConverted, HasFinished, IsGoing, GoesOnBy};
-ghost use Rattle.rtcm_convert.specs.Conversion.{TakesPiece, CutsAtLimit, WritesPrefixOfAdded, StopsAtEnd, IsLeft};
+ghost use Rattle.rtcm_convert.specs.Conversion.{kept_of, HasConverted, HasFinished, IsGoing};
+ghost use Rattle.rtcm_convert.specs.inner.Conversion.{KeepsNow, GoesOnBy};
+ghost use Rattle.rtcm_convert.specs.Conversion.{CutsAtLimit, IsLeft};
+ghost use Rattle.rtcm_convert.specs.inner.Conversion.{TakesPiece, WritesPrefixOfAdded, StopsAtEnd};
 ghost use Rattle.rtcm_convert.specs.Conversion.{refusal};
-ghost use Rattle.rtcm_convert.specs.Conversion.{FinishesNow, FinishesEmptyNow, CompletesFile, CompletesEmptyFile};
+ghost use Rattle.rtcm_convert.specs.Conversion.{CompletesFile, CompletesEmptyFile};
+ghost use Rattle.rtcm_convert.specs.inner.Conversion.{FinishesNow, FinishesEmptyNow};
 ghost use Rattle.rtcm_convert.specs.Conversion.{CompletesFileOfAll, CompletesEmptyFileOfAll};
 ghost use Rattle.rtcm_convert.specs.Broken.{joined_pieces};
 ghost use Rattle.rtcm_convert.specs.Pieces.{StopsInPieces};
@@ -71,7 +74,8 @@ pub struct Kept {
 
 impl Model for Converter {
     ghost use Rattle.std.specs.Prelude.{◌≡◌, true, false};
-    ghost use Rattle.rtcm_convert.specs.Conversion.{Conversion, IsFit};
+    ghost use Rattle.rtcm_convert.specs.Conversion.{Conversion};
+    ghost use Rattle.rtcm_convert.specs.inner.Conversion.{IsFit};
 
     ghost Value = { Conversion };
 

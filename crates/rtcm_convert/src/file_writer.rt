@@ -2,15 +2,15 @@
 ghost use Rattle.std.specs.Prelude.{◌≡◌, ◌↔◌, [], false, true, Err, OnOk, OnErr, IfOk, IfErr};
 ghost use Rattle.std.specs.Io.KnownBytes.{Appends};
 ghost use Rattle.devices.specs.Device.{AppendsPrefix, FailsWith};
-ghost use Rattle.rtcm_msg.specs.Viewed.{viewed_message};
+ghost use Rattle.rtcm_msg.specs.inner.Viewed.{viewed_message};
 ghost use Rattle.rtcm_convert.specs.Faults.{IsSetupFault};
 ghost use Rattle.rtcm_convert.specs.SetupValues.{setup_value, IsBadStart};
 ghost use Rattle.rtcm_convert.specs.Filed.{HasFiledFrames, opening_of, added_by, HasCountedClosed};
-ghost use Rattle.rtcm_convert.specs.Steps.{IsCloseFirst, IsFinalKind, WritesFirst, TakesMessage, IsTakenAgain};
-ghost use Rattle.rtcm_convert.specs.Steps.{IsKindOf, BreaksInMessage, TakesNext, IsKindOfNext, BreaksInNext};
-ghost use Rattle.rtcm_convert.specs.Steps.{EndsFile, BreaksInRest};
+ghost use Rattle.rtcm_convert.specs.inner.Steps.{IsCloseFirst, IsFinalKind, WritesFirst, TakesMessage, IsTakenAgain};
+ghost use Rattle.rtcm_convert.specs.inner.Steps.{IsKindOf, BreaksInMessage, TakesNext, IsKindOfNext, BreaksInNext};
+ghost use Rattle.rtcm_convert.specs.inner.Steps.{EndsFile, BreaksInRest};
 ghost use Rattle.rtcm_scan.specs.Examined.{HasExaminedSome};
-ghost use Rattle.rtcm_convert.specs.Stream.{Files, BreaksFiling, HasDrainedSome, EndsBytes, BreaksAtEndOf};
+ghost use Rattle.rtcm_convert.specs.inner.Stream.{Files, BreaksFiling, HasDrainedSome, EndsBytes, BreaksAtEndOf};
 
 use crate::fault::{Fault, WriteFault};
 use crate::laws;

@@ -15,7 +15,8 @@ pub use Rattle.gnss_system.specs.declared.system.System.TheVariants.{Galileo, Gp
 pub use Rattle.obs_epoch.specs.Cells.{counts_of, counts_of_message, has_listed_key, is_planned, no_counts, offered, with_skipped}
 pub use Rattle.obs_epoch.specs.Heard.{Heard, heard, heard_by, heard_in, heard_msm, heard_of, is_own, lock_by, observed, seen_in, unlisted_in}
 pub use Rattle.obs_epoch.specs.declared.setup.GatherSetup.{GatherSetup}
-pub use Rattle.obs_epoch.specs.SignalCounts.{AreSignalCounts, CountsMessage, SignalCountsValue, brings_value, count_of, counted, every_channel, has_any, is_of_signal, is_of_station, signal_counts, signal_in, valued}
+pub use Rattle.obs_epoch.specs.SignalCounts.{brings_value, count_of, every_channel, is_of_signal, is_of_station, signal_in, valued}
+pub use Rattle.obs_epoch.specs.inner.SignalCounts.{AreSignalCounts, CountsMessage, SignalCountsValue, counted, has_any, signal_counts}
 pub use Rattle.obs_epoch.specs.Sets.{set_of}
 pub use Rattle.obs_epoch.specs.Times.{Timed, ahead, greatest_time, is_closed, is_past, max_known, taken_at, timed_after}
 pub use Rattle.rinex_file.specs.Blocks.{LeavesRest}
@@ -24,7 +25,7 @@ pub use Rattle.rinex_file.specs.Exact.{IfTextOfFile, IsNoFault, most_lines}
 pub use Rattle.rinex_file.specs.File.{file_lines, file_text}
 pub use Rattle.rinex_file.specs.FileValues.{IsFileValue, time_stamped}
 pub use Rattle.rinex_file.specs.Counting.{rows_in}
-pub use Rattle.rinex_file.specs.Read.EpochSteps.{HasReadEpochs, IsSummaryOf, ReadsEpoch}
+pub use Rattle.rinex_file.specs.inner.Read.EpochSteps.{HasReadEpochs, IsSummaryOf, ReadsEpoch}
 pub use Rattle.rinex_file.specs.Times.{AreTimes, AreTimesOrNone, steps_of}
 pub use Rattle.rinex_file.specs.declared.read.times.EpochTimes.{EpochTimes}
 pub use Rattle.rinex_file.specs.Value.{FileValue, Stamped}
@@ -39,16 +40,16 @@ pub use Rattle.devices.specs.Devices.{Devices, Ends, HaveFailedBy, ReaderFailure
 pub use Rattle.rtcm_bits.specs.FrameOf.{frame_bytes, longest_message, longest_message_bits}
 pub use Rattle.rtcm_bits.specs.Prefix.{IsPrefix}
 pub use Rattle.devices.specs.declared.counted.DeviceFailed.{DeviceFailed}
-pub use Rattle.rtcm_bits.specs.SmallLaws.{of_ok, passed}
+pub use Rattle.rtcm_bits.specs.inner.SmallLaws.{of_ok, passed}
 pub use Rattle.rtcm_inspect.specs.Checking.{IsCheckedOr, ChecksFile, EndsCheck, IsFileWith, ReadsGaps, StopsCheck}
 unfoldable pub use Rattle.rtcm_inspect.specs.CheckOutput.{check_line, complete_line, gap_line}
 pub use Rattle.rtcm_inspect.specs.CheckOutput.{IsOutput, complete_if, gap_between, gaps_after, gaps_of, times_if}
-pub use Rattle.rtcm_inspect.specs.Counting.{AreSignals, Counts, HasCounted, IsCounted, NeverFails, StopsCounting}
+pub use Rattle.rtcm_inspect.specs.inner.Counting.{AreSignals, Counts, HasCounted, IsCounted, NeverFails, StopsCounting}
 unfoldable pub use Rattle.rtcm_inspect.specs.DateTexts.{time_line}
 pub use Rattle.rtcm_inspect.specs.DateTexts.{clock_text, date_text, moment_words, times_lines}
 pub use Rattle.rtcm_inspect.specs.Devices.{EndsDelivery, IsDelivered, culprit, stream_fault}
 pub use Rattle.rtcm_inspect.specs.FirstMessages.{AreFirst, first_station, mixed_of, point_of, sender, stations_in, stations_of, with_other}
-pub use Rattle.rtcm_inspect.specs.FirstTows.{AreTows}
+pub use Rattle.rtcm_inspect.specs.inner.FirstTows.{AreTows}
 pub use Rattle.rtcm_inspect.specs.WeekLaws.{first_in, first_tow, tow_of}
 unfoldable pub use Rattle.rtcm_inspect.specs.Fitting.{options_line}
 pub use Rattle.rtcm_inspect.specs.Fitting.{antenna_words, forms_words, further_words, height_text, number_start, number_words, options_text, position_text, position_word, station_words}
@@ -82,8 +83,8 @@ pub use Rattle.rtcm_msg.specs.Encoding.{IsEncoding, IsMessage, ReadsMessage, is_
 pub use Rattle.rtcm_msg.specs.Entries.{entries}
 pub use Rattle.rtcm_msg.specs.Msm.{MasksValue, MsmValue}
 pub use Rattle.rtcm_msg.specs.Station.{InRange}
-pub use Rattle.rtcm_msg.specs.Viewed.{viewed_message}
-pub use Rattle.rtcm_msg.specs.Views.{FormedMsm, formed}
+pub use Rattle.rtcm_msg.specs.inner.Viewed.{viewed_message}
+pub use Rattle.rtcm_msg.specs.inner.Views.{FormedMsm, formed}
 pub use Rattle.rtcm_msg.specs.Decoding.{message_in}
 pub use Rattle.rtcm_msg.specs.Numbers.{have_form, message_number}
 pub use Rattle.rtcm_msg.specs.declared.entry.Entry.{Entry}
@@ -101,8 +102,8 @@ pub use Rattle.rtcm_scan.specs.Examined.{HasExamined}
 pub use Rattle.rtcm_scan.specs.Frames.{AreFrames, Framed, frames_of}
 pub use Rattle.rtcm_scan.specs.Known.{known_frames}
 pub use Rattle.rtcm_scan.specs.Local.{placed}
-pub use Rattle.rtcm_scan.specs.Passing.{AtFault, BreaksReading, Coming, HasPassedAll, Passes, PassesAll, PassesToLimit, Reads}
-pub use Rattle.rtcm_scan.specs.Results.{framed, new_scan}
+pub use Rattle.rtcm_scan.specs.inner.Passing.{AtFault, BreaksReading, Coming, HasPassedAll, Passes, PassesAll, PassesToLimit, Reads}
+pub use Rattle.rtcm_scan.specs.inner.Results.{framed, new_scan}
 pub use Rattle.rtcm_scan.specs.Scan.{FramerValue, most_bytes}
 pub use Rattle.rtcm_scan.specs.declared.feed.StreamFault.{StreamFault}
 pub use Rattle.std.proofs.KnownBytes.{Appends-kept, Appends-nil, Appends-trans}

@@ -11,7 +11,7 @@ use Rattle.gnss_system.specs.declared.system.System.TheVariants as listed
 use Rattle.rtcm_msg.specs.declared.view.Form.TheVariants as shape
 use Rattle.rtcm_inspect.proofs.FirstLemmas.{first_more, or_none}
 use Rattle.rtcm_inspect.proofs.SetLemmas.{SetLaws, same_none, tow_read, tow_refused}
-use Rattle.rtcm_inspect.specs.FirstTows.{AreTows, IsMsmOf, IsWith, earlier, earliest, entry, later_by, placed_by, tow_in}
+use Rattle.rtcm_inspect.specs.inner.FirstTows.{AreTows, IsMsmOf, IsWith, earlier, earliest, entry, later_by, placed_by, tow_in}
 use Rattle.rtcm_inspect.specs.declared.first_tows.FirstTows.{FirstTows}
 use Rattle.rtcm_inspect.specs.declared.first_tows.PlacedTow.{PlacedTow}
 use Rattle.rtcm_inspect.specs.declared.first_tows.SystemTows.{SystemTows}

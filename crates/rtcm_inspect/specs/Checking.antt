@@ -9,7 +9,7 @@ use Rattle.rinex_file.specs.Counting.{IsTextWith}
 use Rattle.rinex_file.specs.Exact.{ExplainsFault, IfTextOfFile, IsNoFault, most_lines}
 use Rattle.rinex_file.specs.File.{file_text, file_lines}
 use Rattle.rinex_file.specs.FileValues.{IsFileValue}
-use Rattle.rinex_file.specs.Read.EpochSteps.{IsSummaryOf}
+use Rattle.rinex_file.specs.inner.Read.EpochSteps.{IsSummaryOf}
 use Rattle.rinex_file.specs.Value.{FileValue, Stamped}
 use Rattle.rinex_file.specs.declared.read.fault.ReadFault.TheVariants as reading
 use Rattle.rinex_file.specs.declared.read.file.FileSummary.{FileSummary}

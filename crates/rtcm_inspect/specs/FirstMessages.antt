@@ -6,7 +6,7 @@ use Rattle.rtcm_msg.specs.Station.{InRange}
 use Rattle.rtcm_msg.specs.declared.station.StationParts.{StationParts}
 use Rattle.obs_epoch.specs.Heard.{Heard}
 use Rattle.obs_epoch.specs.SignalCounts.{is_of_station}
-use Rattle.rtcm_inspect.specs.FirstTows.{AreTows}
+use Rattle.rtcm_inspect.specs.inner.FirstTows.{AreTows}
 use Rattle.rtcm_inspect.specs.WeekLaws.{first_in}
 use Rattle.rtcm_inspect.specs.Inspected.{inspected_at}
 use Rattle.rtcm_inspect.specs.declared.first_messages.FirstMessages.{FirstMessages}

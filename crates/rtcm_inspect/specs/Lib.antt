@@ -1,4 +1,3 @@
-pub mod Lines
 pub mod FaultWords
 pub mod FrameLines
 pub mod ShowLines
@@ -8,14 +7,12 @@ pub mod ReadBack
 pub mod DateTexts
 pub mod Checking
 pub mod Inspected
-pub mod FirstTows
 pub mod CheckOutput
 pub mod FirstMessages
 pub mod StreamChannels
 pub mod NearWeek
 pub mod Signals
 pub mod Fitting
-pub mod Counting
 pub mod StreamOutput
 pub mod OptionOutput
 pub mod Printing
@@ -23,3 +20,4 @@ pub mod SignalLaws
 pub mod WeekLaws
 pub mod LengthLaws
 pub mod ChannelLaws
+pub mod inner

@@ -18,7 +18,8 @@ use Rattle.rtcm_msg.specs.declared.number.MsmSet.{MsmSet}
 use Rattle.rtcm_msg.specs.Numbers.{have_form}
 use Rattle.rtcm_msg.specs.Decoding.{message_at}
 use Rattle.obs_epoch.specs.Sets.{is_always_decoded, set_of}
-use Rattle.obs_epoch.specs.SignalCounts.{SignalCountsValue, valued, count_of, counted, signal_in}
+use Rattle.obs_epoch.specs.SignalCounts.{valued, count_of, signal_in}
+use Rattle.obs_epoch.specs.inner.SignalCounts.{SignalCountsValue, counted}
 use Rattle.gnss_obs.specs.Plans.{below, with_channels}
 use Rattle.gnss_obs.specs.Channels.{ChannelsValue}
 use Rattle.gnss_obs.specs.Values.{PlanValue, plan_with}

@@ -7,7 +7,7 @@ ghost use Rattle.rinex_file.specs.Value.{FileValue};
 ghost use Rattle.devices.specs.Devices.{Changes, Writes};
 ghost use Rattle.rtcm_inspect.specs.CheckOutput.{check_line, complete_if, counts_alone, gap_between, times_if};
 ghost use Rattle.rtcm_inspect.specs.Checking.{AcceptsFiles, EndsCheck, ReadsGaps};
-ghost use Rattle.rinex_file.specs.Read.EpochSteps.{HasReadEpochs};
+ghost use Rattle.rinex_file.specs.inner.Read.EpochSteps.{HasReadEpochs};
 ghost use Rattle.rtcm_inspect.specs.DateTexts.{longest_times, moment_bytes, moment_words, step_line, time_line};
 ghost use Rattle.rtcm_inspect.specs.DateTexts.{times_lines};
 ghost use Rattle.line_texts.specs.Lengths.{longest_interval};

@@ -1,10 +1,10 @@
 //! The signals of a stream, counted while it is read.
 ghost use Rattle.std.specs.Prelude.{◌≡◌, IfOk, IfErr, length, nat_lt};
-ghost use Rattle.rtcm_msg.specs.Viewed.{viewed_message};
+ghost use Rattle.rtcm_msg.specs.inner.Viewed.{viewed_message};
 ghost use Rattle.obs_epoch.specs.SignalCounts.{valued};
 ghost use Rattle.rtcm_inspect.specs.Inspected.{inspected};
 ghost use Rattle.rtcm_inspect.specs.Signals.{with_forms};
-ghost use Rattle.rtcm_inspect.specs.Counting.{HasCounted, StopsCounting};
+ghost use Rattle.rtcm_inspect.specs.inner.Counting.{HasCounted, StopsCounting};
 ghost use Rattle.rtcm_inspect.specs.Devices.{CountsReader};
 
 use crate::fault::InspectFault;
@@ -36,7 +36,7 @@ pub struct StreamSignals {
 }
 
 impl FrameSink<()> for StreamSignals {
-    ghost use Rattle.rtcm_inspect.specs.Counting.{Counts, NeverFails};
+    ghost use Rattle.rtcm_inspect.specs.inner.Counting.{Counts, NeverFails};
 
     type Fault = DeviceFailed;
 

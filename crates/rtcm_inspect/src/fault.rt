@@ -5,7 +5,7 @@ ghost use Rattle.rinex_file.specs.Texts.{field_name};
 ghost use Rattle.rtcm_inspect.specs.Devices.{stream_fault};
 ghost use Rattle.rtcm_inspect.specs.FaultWords.{file_words, header_words, inspection_words, plan_words};
 ghost use Rattle.line_texts.specs.Lines.{with_words};
-ghost use Rattle.rtcm_inspect.specs.Lines.{longest_error, longest_fault, longest_fault_name, longest_start};
+ghost use Rattle.rtcm_inspect.specs.inner.Lines.{longest_error, longest_fault, longest_fault_name, longest_start};
 
 use gnss_obs::{PlanFault, System};
 use line_texts::OutputLine;

@@ -2,13 +2,13 @@
 ghost use Rattle.std.specs.Prelude.{◌≡◌, ◌<◌, ◌^◌, ◌∷◌, ◌++◌, [], ℕ, List, Option, Some, None, Ok, IfNone, IfSome, length, option_map};
 ghost use Rattle.gnss_system.specs.Systems.{systems};
 ghost use Rattle.rtcm_msg.specs.Decoding.{message_at};
-ghost use Rattle.rtcm_msg.specs.Viewed.{viewed_message};
+ghost use Rattle.rtcm_msg.specs.inner.Viewed.{viewed_message};
 ghost use Rattle.rtcm_msg.specs.declared.number.Forms.{Forms};
 ghost use Rattle.rtcm_scan.specs.Frames.{Framed};
 ghost use Rattle.obs_epoch.specs.Heard.{heard};
 ghost use Rattle.obs_epoch.specs.SignalCounts.{every_channel};
-ghost use Rattle.rtcm_inspect.specs.FirstTows.{AreTows, IsMsmOf, IsWith, earlier, earliest, entry};
-ghost use Rattle.rtcm_inspect.specs.FirstTows.{later_by, placed_by, tow_in};
+ghost use Rattle.rtcm_inspect.specs.inner.FirstTows.{AreTows, IsMsmOf, IsWith, earlier, earliest, entry};
+ghost use Rattle.rtcm_inspect.specs.inner.FirstTows.{later_by, placed_by, tow_in};
 ghost use Rattle.rtcm_inspect.specs.WeekLaws.{tow_of};
 
 use gnss_obs::WEEK;

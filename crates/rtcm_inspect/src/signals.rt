@@ -3,9 +3,10 @@ ghost use Rattle.std.specs.Prelude.{◌≡◌, ◌+◌, ◌*◌, ◌<◌, ◌≤
 ghost use Rattle.gnss_obs.specs.HeardCells.{HeardCell};
 ghost use Rattle.gnss_system.specs.Signals.{table, code_of};
 ghost use Rattle.gnss_system.specs.Systems.{systems};
-ghost use Rattle.obs_epoch.specs.SignalCounts.{AreSignalCounts, signal_in};
+ghost use Rattle.obs_epoch.specs.SignalCounts.{signal_in};
+ghost use Rattle.obs_epoch.specs.inner.SignalCounts.{AreSignalCounts};
 ghost use Rattle.devices.specs.Devices.{Changes};
-ghost use Rattle.rtcm_inspect.specs.Lines.{longest_signal, longest_signals};
+ghost use Rattle.rtcm_inspect.specs.inner.Lines.{longest_signal, longest_signals};
 ghost use Rattle.rtcm_inspect.specs.StreamOutput.{EndsStream};
 ghost use Rattle.rtcm_inspect.specs.Signals.{AreSignalsOf, AreSignalsRefused, count_line, count_lines};
 

@@ -2,7 +2,7 @@
 ghost use Rattle.std.specs.Prelude.{◌≡◌, ◌++◌, Ok, option_to_list};
 ghost use Rattle.rtcm_msg.specs.Channels.{channel_of_1020};
 ghost use Rattle.rtcm_msg.specs.Decoding.{message_at};
-ghost use Rattle.rtcm_msg.specs.Viewed.{viewed_message};
+ghost use Rattle.rtcm_msg.specs.inner.Viewed.{viewed_message};
 ghost use Rattle.rtcm_inspect.specs.StreamChannels.{sent_of, with_first, with_sent};
 
 use gnss_obs::{Channels, GREATEST_CHANNEL_NUMBER, GREATEST_SLOT};

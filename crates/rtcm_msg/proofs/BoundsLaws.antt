@@ -3,12 +3,12 @@ use Rattle.std.proofs.Common.{ℕ, ℤ, pos, ◌^◌, ◌<◌, ◌≤◌, ◌+�
 use Rattle.std.specs.Prelude.{IfSome}
 use Rattle.std.specs.List.{AllByRecursion}
 use Rattle.std.proofs.lemmas.Int.{ints}
-use Rattle.rtcm_msg.specs.Names.{FitsInt, Message, Station, Msm4, Msm5, Msm6, Msm7, Other, Pair, Form, scaled, range_joined, invalid_rough_rate, invalid_fine_rate, rate_joined, strength_of, MsmValue, entry_in, entries, IsMeasured}
+use Rattle.rtcm_msg.specs.inner.Names.{FitsInt, Message, Station, Msm4, Msm5, Msm6, Msm7, Other, Pair, Form, scaled, range_joined, invalid_rough_rate, invalid_fine_rate, rate_joined, strength_of, MsmValue, entry_in, entries, IsMeasured}
 use Rattle.rtcm_msg.specs.declared.view.Form.TheVariants as forms
 use Rattle.rtcm_msg.specs.declared.data.Satellite.{Satellite}
 use Rattle.rtcm_msg.specs.declared.data.Cell.{Cell}
 use Rattle.rtcm_msg.specs.Forms.{precision, least, entry, IsSatelliteData, IsCellData, FitsIf}
-use Rattle.rtcm_msg.specs.FormLaws.{satellite_in_range, cell_in_range}
+use Rattle.rtcm_msg.specs.inner.FormLaws.{satellite_in_range, cell_in_range}
 
 abbrev Small : ℤ → Type 0
 Small z = unsigned_abs z ≤ 2 ^ 26

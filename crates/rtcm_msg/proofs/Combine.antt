@@ -1,8 +1,8 @@
 -- Chains of fields: the bits that were read, reading encoded fields, and the fault.
 use Rattle.std.proofs.Common.{ℕ, ◌≡◌, ◌+◌, ◌^◌, ◌<◌, ◌≤◌, Bool, List, ◌∷◌, ◌++◌, length, Result, Ok, Some, refl, ◌∙◌, arith, length-append}
 use Rattle.std.proofs.lemmas.List.{take_at, drop_at}
-use Rattle.rtcm_msg.specs.Names.{uint, Cursor, MsgFault, number_at, ◌>>=◌, first_past}
-use Rattle.rtcm_bits.specs.BitLaws.{length-uint, number_of-uint}
+use Rattle.rtcm_msg.specs.inner.Names.{uint, Cursor, MsgFault, number_at, ◌>>=◌, first_past}
+use Rattle.rtcm_bits.specs.inner.BitLaws.{length-uint, number_of-uint}
 use Rattle.rtcm_msg.proofs.Binds.{number_there}
 
 -- ---- the fault

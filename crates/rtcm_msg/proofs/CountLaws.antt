@@ -6,8 +6,8 @@ use Rattle.std.proofs.Math.Nat.{mod-eq_of_lt}
 use Rattle.std.proofs.lemmas.List.{length-map}
 use Rattle.std.proofs.lemmas.List.FromFn.{length-enumerate_from}
 use Rattle.std.specs.List.{flat_map, enumerate_from}
-use Rattle.rtcm_msg.specs.Names.{Pair, MasksValue, AreMasks, pair_count, uint, up_from, ids, chosen, pair, all_pairs, cell_pairs}
-use Rattle.rtcm_bits.specs.BitLaws.{length-uint, mod-suc}
+use Rattle.rtcm_msg.specs.inner.Names.{Pair, MasksValue, AreMasks, pair_count, uint, up_from, ids, chosen, pair, all_pairs, cell_pairs}
+use Rattle.rtcm_bits.specs.inner.BitLaws.{length-uint, mod-suc}
 
 -- ---- the number of IDs
 

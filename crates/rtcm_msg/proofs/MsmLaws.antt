@@ -3,7 +3,7 @@ use Rattle.std.proofs.Common.{ℕ, ◌≡◌, ◌+◌, ◌*◌, ◌^◌, ◌<◌
 use Rattle.std.proofs.lemmas.Bool.{cases_lt, cases_Bool}
 use Rattle.std.proofs.lemmas.List.{length-map, length-replicate}
 use Rattle.gnss_system.specs.declared.system.System.{System}
-use Rattle.rtcm_msg.specs.Names.{uint, Cursor, MsgFault, BadTime, TooManyCells, MsmHeader, number_at, reading, ◌>>=◌, field_bits, total_width, columns, columns_at, EachBelow, masks_after, header_at, masks_at, msm_at, checked_time, is_time, IsHeader, AreMasks, IsValue, MasksValue, MsmValue, pair_count, mask_fields, time_table, header_table, mask_table, time_contents, header_contents, header_of, widths, Contents, fields_of}
+use Rattle.rtcm_msg.specs.inner.Names.{uint, Cursor, MsgFault, BadTime, TooManyCells, MsmHeader, number_at, reading, ◌>>=◌, field_bits, total_width, columns, columns_at, EachBelow, masks_after, header_at, masks_at, msm_at, checked_time, is_time, IsHeader, AreMasks, IsValue, MasksValue, MsmValue, pair_count, mask_fields, time_table, header_table, mask_table, time_contents, header_contents, header_of, widths, Contents, fields_of}
 use Rattle.rtcm_msg.proofs.Binds.{of_read, bind_ok, number_consumed, ok_err}
 use Rattle.rtcm_msg.proofs.Combine.{cursor, number_again}
 use Rattle.rtcm_msg.proofs.WritingSteps.{field_bits-append}

@@ -4,7 +4,7 @@ use Rattle.std.specs.Prelude.{IfSome}
 use Rattle.std.specs.List.{find}
 use Rattle.gnss_system.specs.declared.system.System.{System}
 use Rattle.gnss_system.specs.Systems.{systems}
-use Rattle.rtcm_msg.specs.Names.{Kind, kind_of, station_number, message_number, Form}
+use Rattle.rtcm_msg.specs.inner.Names.{Kind, kind_of, station_number, message_number, Form}
 use Rattle.gnss_system.specs.Satellites.{msm_tens, system_of_tens}
 use Rattle.rtcm_msg.specs.Numbers.{digit_of, form_of_digit, msm_kind}
 use Rattle.rtcm_msg.specs.declared.view.Form.TheVariants as forms

@@ -5,7 +5,7 @@ use Rattle.std.specs.List.{zip, flat_map, list_any}
 use Rattle.std.proofs.lemmas.Bool.{cases_eq, and_right}
 use Rattle.std.proofs.lemmas.List.Folds.{list_any-append}
 use Rattle.std.proofs.lemmas.Grind.{common_steps}
-use Rattle.rtcm_msg.specs.Names.{uint, Entry, Pair, Pairs, CellsLeft, Form, MasksValue, MsmValue, ids, chosen, Rising, entries, pair, all_pairs, cell_pairs, pairs_from, pairs_left, cell_pairs_left, ArePairs, AreAll, HasFirst, IndicesAreBelow, entry_in, FormedMsm, formed, has_listed_value, value_count, has_id, entries_left, AreCells}
+use Rattle.rtcm_msg.specs.inner.Names.{uint, Entry, Pair, Pairs, CellsLeft, Form, MasksValue, MsmValue, ids, chosen, Rising, entries, pair, all_pairs, cell_pairs, pairs_from, pairs_left, cell_pairs_left, ArePairs, AreAll, HasFirst, IndicesAreBelow, entry_in, FormedMsm, formed, has_listed_value, value_count, has_id, entries_left, AreCells}
 use Rattle.rtcm_msg.proofs.NextLaws.{no_more}
 use Rattle.rtcm_msg.proofs.IdLaws.{ids_rising}
 use Rattle.rtcm_msg.proofs.PairLaws.{found, passed, top_of, ids_split}

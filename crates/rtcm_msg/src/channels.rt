@@ -1,7 +1,7 @@
 //! The frequency channels of GLONASS satellites in messages.
 ghost use Rattle.std.specs.Prelude.{[], ◌≡◌, ◌∷◌, ◌<◌, ◌≤◌, ◌^◌, length, IfSome, IfNone};
 ghost use Rattle.rtcm_msg.specs.Msm.{satellite_mask_bits};
-ghost use Rattle.rtcm_msg.specs.Views.{formed};
+ghost use Rattle.rtcm_msg.specs.inner.Views.{formed};
 ghost use Rattle.rtcm_msg.specs.Channels as channels;
 
 use crate::field::byte_at;

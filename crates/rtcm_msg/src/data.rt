@@ -6,13 +6,15 @@ ghost use Rattle.std.specs.List.{list_any};
 ghost use Rattle.rtcm_bits.specs.Bits.{bits_of};
 ghost use Rattle.rtcm_bits.specs.FrameOf.{longest_message};
 ghost use Rattle.rtcm_msg.specs.Msm.{satellite_mask_bits, most_pairs};
-ghost use Rattle.rtcm_msg.specs.Rows.{row_at};
-ghost use Rattle.rtcm_msg.specs.LastBits.{AreLast};
+ghost use Rattle.rtcm_msg.specs.inner.Rows.{row_at};
+ghost use Rattle.rtcm_msg.specs.inner.LastBits.{AreLast};
 ghost use Rattle.rtcm_msg.specs.Packed.{total_width};
 ghost use Rattle.rtcm_msg.specs.Forms as forms;
+ghost use Rattle.rtcm_msg.specs.inner.Forms as inner_forms;
 ghost use Rattle.rtcm_msg.specs.Forms.{IsSatelliteData, IsCellData, satellite_number, satellite_data};
-ghost use Rattle.rtcm_msg.specs.Forms.{cell_number, cell_data, fine_range, fine_phase, has_range, precision};
-ghost use Rattle.rtcm_msg.specs.FormLaws as laws;
+ghost use Rattle.rtcm_msg.specs.Forms.{cell_number, cell_data, fine_range, fine_phase, precision};
+ghost use Rattle.rtcm_msg.specs.inner.Forms.{has_range};
+ghost use Rattle.rtcm_msg.specs.inner.FormLaws as laws;
 ghost use Rattle.rtcm_msg.specs.Entries.{IsEntry};
 ghost use Rattle.rtcm_msg.specs.Fractions.{range_joined, scaled};
 ghost use Rattle.rtcm_msg.specs.declared.fault.Field.{Field};
@@ -222,7 +224,7 @@ impl Form {
     /// Returns the first field, in the order of the layout, that does not fit its bits in some
     /// satellite.
     pub(crate) fn satellite_fault(self, satellites: &[Satellite]) -> Option<Field>
-        ensures first { result ≡ forms.satellite_fault self satellites.now }
+        ensures first { result ≡ inner_forms.satellite_fault self satellites.now }
         ensures none { IfNone result (All (IsSatelliteData self) satellites.now) }
     {
         first_of(&[
@@ -236,7 +238,7 @@ impl Form {
     /// Returns the first field, in the order of the layout, that does not fit its bits in some
     /// cell.
     pub(crate) fn cell_fault(self, cells: &[Cell]) -> Option<Field>
-        ensures first { result ≡ forms.cell_fault self cells.now }
+        ensures first { result ≡ inner_forms.cell_fault self cells.now }
         ensures none { IfNone result (All (IsCellData self) cells.now) }
     {
         first_of(&[
@@ -405,7 +407,7 @@ pub(crate) trait HasFields {
 }
 
 impl HasFields for Satellite {
-    ghost is_bad = { forms.is_bad_satellite };
+    ghost is_bad = { inner_forms.is_bad_satellite };
 
     ghost fit = { IsSatelliteData };
 
@@ -433,7 +435,7 @@ impl HasFields for Satellite {
 }
 
 impl HasFields for Cell {
-    ghost is_bad = { forms.is_bad_cell };
+    ghost is_bad = { inner_forms.is_bad_cell };
 
     ghost fit = { IsCellData };
 

@@ -4,7 +4,7 @@ ghost use Rattle.rtcm_bits.specs.Bits.{bits_of, signed, FitsInt};
 ghost use Rattle.rtcm_bits.specs.FrameOf.{longest_message};
 ghost use Rattle.rtcm_msg.specs.Fields.{field_at};
 ghost use Rattle.rtcm_msg.specs.Packed.{total_width};
-ghost use Rattle.rtcm_msg.specs.Rows as rows;
+ghost use Rattle.rtcm_msg.specs.inner.Rows as rows;
 
 use crate::fault::MsgFault;
 use rtcm_bits::{bits_in_word, number_at, signed_of, word_at};

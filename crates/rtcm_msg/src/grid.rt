@@ -109,7 +109,7 @@ pub trait Grid {
 pub struct GridOf<const F: usize>;
 
 impl<const F: usize> Grid for GridOf<F> {
-    ghost use Rattle.rtcm_msg.specs.Forms.{form_as};
+    ghost use Rattle.rtcm_msg.specs.inner.Forms.{form_as};
 
     ghost form = { form_as F };
 

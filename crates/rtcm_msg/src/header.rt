@@ -7,7 +7,7 @@ ghost use Rattle.rtcm_msg.specs.Fields.{cursor_at};
 ghost use Rattle.rtcm_msg.specs.Msm.{header_at, header_in, masks_at, AreMasks, is_time, time_of_week, IsHeader};
 ghost use Rattle.rtcm_msg.specs.Decoding.{formed_at};
 ghost use Rattle.rtcm_msg.specs.declared.view.Form.{Form};
-ghost use Rattle.rtcm_msg.specs.Refusals.{header_fault, masks_of};
+ghost use Rattle.rtcm_msg.specs.inner.Refusals.{header_fault, masks_of};
 
 use crate::fault::{Field, MsgFault, ValueFault, first_of};
 use crate::field::{byte_at, end_of_fields, flag_at};

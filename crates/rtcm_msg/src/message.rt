@@ -6,7 +6,7 @@ ghost use Rattle.rtcm_bits.specs.FrameOf.{longest_message};
 ghost use Rattle.rtcm_msg.specs.Encoding.{is_other, ReadsMessage, IsFault, IsMessage, IsEncoding};
 ghost use Rattle.rtcm_msg.specs.declared.message.Message.{Message};
 ghost use Rattle.rtcm_msg.specs.declared.fault.MsgFault.{MsgFault};
-ghost use Rattle.rtcm_msg.specs.Viewed.{viewed_message};
+ghost use Rattle.rtcm_msg.specs.inner.Viewed.{viewed_message};
 ghost use Rattle.rtcm_msg.specs.Decoding.{message_at, set_in};
 ghost use Rattle.rtcm_msg.specs.declared.message.Message.TheVariants as messages;
 

@@ -3,11 +3,11 @@ ghost use Rattle.std.specs.Prelude.{◌≡◌, ◌<◌, ◌^◌, ◌++◌, ◌�
 ghost use Rattle.std.specs.Prelude.{Some, None, IfOk, IfErr};
 ghost use Rattle.rtcm_msg.specs.Msm.{IsHeader, msm_bits, msm_of_parts, IsValue, satellite_mask_bits, most_pairs};
 ghost use Rattle.rtcm_msg.specs.Packed.{total_width};
-ghost use Rattle.rtcm_msg.specs.Refusals.{data_refusal};
+ghost use Rattle.rtcm_msg.specs.inner.Refusals.{data_refusal};
 ghost use Rattle.rtcm_msg.specs.Columns.{EachBelow};
 ghost use Rattle.rtcm_msg.specs.Forms.{satellite_widths, cell_widths, IsSatelliteData, IsCellData};
 ghost use Rattle.rtcm_msg.specs.Forms.{satellite_number, satellite_data, cell_number, cell_data};
-ghost use Rattle.rtcm_msg.specs.Forms.{satellite_fault, cell_fault};
+ghost use Rattle.rtcm_msg.specs.inner.Forms.{satellite_fault, cell_fault};
 ghost use Rattle.rtcm_msg.specs.Numbers.{message_number};
 
 use crate::data::{Cell, HasFields, Satellite};
@@ -144,7 +144,7 @@ impl<G: Grid> Msm<G> {
     }
 
     /// Returns the data of satellite `i`, counted from 0 in rising order of the IDs.
-    #[tactic(auto, using(crate::specs::FormLaws::satellite_in_range))]
+    #[tactic(auto, using(crate::specs::inner::FormLaws::satellite_in_range))]
     pub fn satellite(&self, i: usize) -> Satellite
         requires { i < length self.now.satellites }
         ensures value { result ≡ satellite_data G.form (slice_index self.now.satellites i) }
@@ -154,7 +154,7 @@ impl<G: Grid> Msm<G> {
     }
 
     /// Returns the data of cell `i`, counted from 0 in the order of the cell mask.
-    #[tactic(auto, using(crate::specs::FormLaws::cell_in_range))]
+    #[tactic(auto, using(crate::specs::inner::FormLaws::cell_in_range))]
     pub fn cell(&self, i: usize) -> Cell
         requires { i < length self.now.cells }
         ensures value { result ≡ cell_data G.form (slice_index self.now.cells i) }

@@ -3,7 +3,8 @@ ghost use Rattle.std.specs.Prelude.{◌≡◌, ◌^◌, ◌<◌};
 ghost use Rattle.rtcm_msg.specs.Packed.{total_width};
 ghost use Rattle.rtcm_msg.specs.Forms as forms;
 ghost use Rattle.rtcm_msg.specs.Forms.{IsSatelliteData, IsCellData, satellite_number, satellite_data};
-ghost use Rattle.rtcm_msg.specs.Forms.{cell_number, cell_data, rateless, rateless_number};
+ghost use Rattle.rtcm_msg.specs.Forms.{cell_number, cell_data};
+ghost use Rattle.rtcm_msg.specs.inner.Forms.{rateless, rateless_number};
 
 use crate::data::{Cell, INVALID_FINE_RATE, INVALID_ROUGH_RATE, Satellite};
 use crate::view::Form;

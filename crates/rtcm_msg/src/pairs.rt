@@ -3,7 +3,7 @@ ghost use Rattle.std.specs.Prelude.{[], ◌≡◌, ◌<◌, ◌≤◌, ◌^◌, 
 ghost use Rattle.rtcm_bits.specs.Bits.{uint};
 ghost use Rattle.rtcm_msg.specs.Msm.{most_pairs, satellite_mask_bits, signal_mask_bits};
 ghost use Rattle.rtcm_msg.specs.Entries.{ids, chosen};
-ghost use Rattle.rtcm_msg.specs.Pairs.{pairs_left, ArePairs, AreAll, HasFirst, IndicesAreBelow, SplitsCells};
+ghost use Rattle.rtcm_msg.specs.inner.Pairs.{pairs_left, ArePairs, AreAll, HasFirst, IndicesAreBelow, SplitsCells};
 
 use crate::header::{Masks, SATELLITE_MASK_BITS, SIGNAL_MASK_BITS};
 

@@ -2,12 +2,12 @@
 ghost use Rattle.std.specs.Prelude.{◌≡◌, ◌+◌, ◌*◌, ◌≤◌, IfNone, Ok, length};
 ghost use Rattle.rtcm_bits.specs.Bits.{bits_of, signed, FitsInt};
 ghost use Rattle.rtcm_bits.specs.FrameOf.{longest_message};
-ghost use Rattle.rtcm_msg.specs.Ranges.{fits_int};
+ghost use Rattle.rtcm_msg.specs.inner.Ranges.{fits_int};
 ghost use Rattle.rtcm_msg.specs.Fields.{GivesViewed, cursor_at, field_at};
 ghost use Rattle.rtcm_msg.specs.Packed.{total_width};
 ghost use Rattle.rtcm_msg.specs.Station.{InRange, parts_in, field_widths};
-ghost use Rattle.rtcm_msg.specs.Refusals.{station_made, station_fault};
-ghost use Rattle.rtcm_msg.specs.Viewed.{viewed_message};
+ghost use Rattle.rtcm_msg.specs.inner.Refusals.{station_made, station_fault};
+ghost use Rattle.rtcm_msg.specs.inner.Viewed.{viewed_message};
 ghost use Rattle.rtcm_msg.specs.Decoding.{station_message_at};
 
 use crate::fault::{Field, MsgFault, ValueFault, first_of};

@@ -2,8 +2,8 @@
 ghost use Rattle.std.specs.Prelude.{◌≡◌, IsTrue};
 ghost use Rattle.std.specs.Option.{ForSome};
 ghost use Rattle.rtcm_msg.specs.Msm.{is_time};
-ghost use Rattle.rtcm_msg.specs.Summaries.{summary, system_of};
-ghost use Rattle.rtcm_msg.specs.Viewed.{viewed_message};
+ghost use Rattle.rtcm_msg.specs.inner.Summaries.{summary, system_of};
+ghost use Rattle.rtcm_msg.specs.inner.Viewed.{viewed_message};
 
 use crate::station::StationParts;
 use crate::view::View;

@@ -4,13 +4,14 @@ ghost use Rattle.std.specs.Prelude.{◌<◌, ◌≤◌, false, length, slice_ind
 ghost use Rattle.std.specs.Prelude.{IfSome, IfNone};
 ghost use Rattle.rtcm_msg.specs.Msm.{satellite_mask_bits, signal_mask_bits, most_pairs};
 ghost use Rattle.rtcm_msg.specs.Entries.{entries, entry_in, ids};
-ghost use Rattle.rtcm_msg.specs.Pairs.{HasFirst};
-ghost use Rattle.rtcm_msg.specs.Views as views;
-ghost use Rattle.rtcm_msg.specs.Forms.{form_as, satellite_data};
-ghost use Rattle.rtcm_msg.specs.Presences.{has_rest};
+ghost use Rattle.rtcm_msg.specs.inner.Pairs.{HasFirst};
+ghost use Rattle.rtcm_msg.specs.inner.Views as views;
+ghost use Rattle.rtcm_msg.specs.Forms.{satellite_data};
+ghost use Rattle.rtcm_msg.specs.inner.Forms.{form_as};
+ghost use Rattle.rtcm_msg.specs.inner.Presences.{has_rest};
 ghost use Rattle.rtcm_msg.specs.declared.pairs.Pair.{Pair};
-ghost use Rattle.rtcm_msg.specs.ValueCounts.{has_listed_value, value_count, has_id};
-ghost use Rattle.rtcm_msg.specs.ValueCounts.{entries_left, AreCells, AreAtMost, AddsCounts};
+ghost use Rattle.rtcm_msg.specs.inner.ValueCounts.{has_listed_value, value_count, has_id};
+ghost use Rattle.rtcm_msg.specs.inner.ValueCounts.{entries_left, AreCells, AreAtMost, AddsCounts};
 
 use crate::data::INVALID_ROUGH_RANGE;
 use crate::header::SIGNAL_MASK_BITS;
@@ -191,7 +192,7 @@ impl Model for ValueCounts {
     ghost use Rattle.std.specs.Prelude.{◌<◌, ◌^◌};
     ghost use Rattle.rtcm_msg.specs.Msm.{signal_mask_bits};
     ghost use Rattle.rtcm_msg.specs.Entries.{ids};
-    ghost use Rattle.rtcm_msg.specs.ValueCounts.{SignalCounts};
+    ghost use Rattle.rtcm_msg.specs.inner.ValueCounts.{SignalCounts};
 
     ghost Value = { SignalCounts };
 

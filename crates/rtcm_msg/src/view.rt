@@ -6,15 +6,16 @@ ghost use Rattle.rtcm_bits.specs.FrameOf.{longest_message};
 ghost use Rattle.rtcm_msg.specs.Fields.{GivesViewed, cursor_at};
 ghost use Rattle.rtcm_msg.specs.Msm.{IsHeader, IsValue, satellite_mask_bits, most_pairs};
 ghost use Rattle.rtcm_msg.specs.Decoding.{body_by, message_at, message_with};
-ghost use Rattle.rtcm_msg.specs.Viewed.{viewed_message};
+ghost use Rattle.rtcm_msg.specs.inner.Viewed.{viewed_message};
 ghost use Rattle.rtcm_msg.specs.Forms as forms;
+ghost use Rattle.rtcm_msg.specs.inner.Forms as inner_forms;
 ghost use Rattle.rtcm_msg.specs.Forms.{lock_codes, satellite_data, satellite_number, cell_data, cell_number};
 ghost use Rattle.rtcm_msg.specs.Forms.{IsSatelliteData, IsCellData};
 ghost use Rattle.rtcm_msg.specs.Numbers.{message_number};
 ghost use Rattle.rtcm_msg.specs.Entries.{IsEntry, entries, entry_in};
 ghost use Rattle.rtcm_msg.specs.Encoding.{IsMessage};
 ghost use Rattle.rtcm_msg.specs.Decoding as decoding;
-ghost use Rattle.rtcm_msg.specs.Views as views;
+ghost use Rattle.rtcm_msg.specs.inner.Views as views;
 
 use crate::data::{Cell, LastBits, Satellite};
 use crate::entry::Entry;
@@ -79,7 +80,7 @@ impl Form {
 /// the form as a const parameter is compiled for it.
 #[inline(always)]
 pub fn form_as<const F: usize>() -> Form
-    ensures { result ≡ forms.form_as F }
+    ensures { result ≡ inner_forms.form_as F }
 {
     match F {
         4 => Form::Msm4,
@@ -119,7 +120,7 @@ pub struct MsmView<'a> {
 }
 
 impl<'a> Model for MsmView<'a> {
-    ghost use Rattle.rtcm_msg.specs.Views.{FormedMsm, AreDataOf, satellite_rows, cell_rows};
+    ghost use Rattle.rtcm_msg.specs.inner.Views.{FormedMsm, AreDataOf, satellite_rows, cell_rows};
     ghost use Rattle.rtcm_msg.specs.Forms.{satellite_widths, cell_widths};
     ghost use Rattle.rtcm_msg.specs.Msm.{IsValue};
 
@@ -246,7 +247,7 @@ impl<'a> MsmView<'a> {
 
     /// Returns the entry of cell `i`, which is of the satellite and the signal of `pair`.
     #[inline(always)]
-    #[tactic(auto, using(crate::specs::FormLaws::satellite_in_range))]
+    #[tactic(auto, using(crate::specs::inner::FormLaws::satellite_in_range))]
     pub(crate) fn entry(&self, form: Form, pair: Pair, satellite: &Satellite, i: usize) -> Entry
         requires form { form ≡ self.now.form }
         requires satellite { satellite.now ≡ satellite_data self.now.form (slice_index self.now.msm.satellites pair.index) }
@@ -287,8 +288,8 @@ pub struct Entries<'a> {
 }
 
 impl<'a> Model for Entries<'a> {
-    ghost use Rattle.rtcm_msg.specs.ValueCounts.{AreCells, entries_left};
-    ghost use Rattle.rtcm_msg.specs.Viewed.{Unread, IsCached};
+    ghost use Rattle.rtcm_msg.specs.inner.ValueCounts.{AreCells, entries_left};
+    ghost use Rattle.rtcm_msg.specs.inner.Viewed.{Unread, IsCached};
 
     ghost Value = { Unread };
 
@@ -318,7 +319,7 @@ impl<'a> Entries<'a> {
     /// faster if it is compiled for a form.
     #[inline(always)]
     pub fn next_in<const F: usize>(&mut self) -> Option<Entry>
-        requires form { forms.form_as F ≡ self.old.form }
+        requires form { inner_forms.form_as F ≡ self.old.form }
         ensures some { IfSome result (λ e. (self.old.left ≡ e ∷ self.new.left)
             × IsEntry (lock_codes self.old.form) e) }
         ensures none { IfNone result ((self.old.left ≡ []) × (self.new.left ≡ [])) }

@@ -3,9 +3,9 @@ unfoldable pub use Rattle.rtcm_bits.specs.Bits.{bits_of, number_from, uint}
 unfoldable pub use Rattle.rtcm_bits.specs.Crc.{add_front, bits_remainder, crc, generator, remainder}
 pub use Rattle.rtcm_bits.specs.FrameOf.{frame_bytes, frame_header, longest_frame, longest_message, preamble, three_bytes}
 pub use Rattle.rtcm_bits.specs.Prefix.{IsPrefix}
-pub use Rattle.rtcm_bits.specs.SmallLaws.{on_failure, prefix_self, prefix_trans, wrapped}
+pub use Rattle.rtcm_bits.specs.inner.SmallLaws.{on_failure, prefix_self, prefix_trans, wrapped}
 pub use Rattle.rtcm_bits.specs.Window.{WindowValue, looked, looked_through, nothing_held, pushed, pushed_all, without_front}
-pub use Rattle.rtcm_scan.specs.Candidate.{HasTaken, wanted_by}
+pub use Rattle.rtcm_scan.specs.inner.Candidate.{HasTaken, wanted_by}
 unfoldable pub use Rattle.rtcm_scan.specs.Decided.{decided, decided_frames, frames_before, is_tried, places, tried}
 pub use Rattle.rtcm_scan.specs.Decided.{cost, is_inside, is_within, most_undecided, skipped_before}
 pub use Rattle.rtcm_scan.specs.Drained.{IsDrained, known_examined, known_most}
@@ -18,10 +18,10 @@ pub use Rattle.rtcm_scan.specs.Known.{known_frames}
 pub use Rattle.rtcm_scan.specs.Local.{HasNoOtherFrame, StaysLocal, frame_place, placed, stream_after}
 unfoldable pub use Rattle.rtcm_scan.specs.Looks.{greatest_below, spans_now, spans_of, tried_before}
 pub use Rattle.rtcm_scan.specs.Looks.{CountsLooks, Span, all_looks, covers, examined, examined_now, examined_spans, looks_at, most, most_looks, most_now, span, spans_at}
-pub use Rattle.rtcm_scan.specs.Passing.{AtFault, Breaking, Breaks, BreaksAfter, BreaksKnown, BreaksReading, Coming, Continues, HasBroken, HasPassed, HasPassedAll, HasReadPiece, IsReadingOn, IsSameStream, Passes, PassesAll, PassesKnown, PassesToLimit, Reads, ReadsOn}
-pub use Rattle.rtcm_scan.specs.Pending.{asked, passed, with_candidate_examined}
-unfoldable pub use Rattle.rtcm_scan.specs.Results.{decision}
-pub use Rattle.rtcm_scan.specs.Results.{frame_at, if_missing, new_scan}
+pub use Rattle.rtcm_scan.specs.inner.Passing.{AtFault, Breaking, Breaks, BreaksAfter, BreaksKnown, BreaksReading, Coming, Continues, HasBroken, HasPassed, HasPassedAll, HasReadPiece, IsReadingOn, IsSameStream, Passes, PassesAll, PassesKnown, PassesToLimit, Reads, ReadsOn}
+pub use Rattle.rtcm_scan.specs.inner.Pending.{asked, passed, with_candidate_examined}
+unfoldable pub use Rattle.rtcm_scan.specs.inner.Results.{decision}
+pub use Rattle.rtcm_scan.specs.inner.Results.{frame_at, if_missing, new_scan}
 pub use Rattle.rtcm_scan.specs.Scan.{AllPassed, FramerValue, HasFramed, IsPassed, IsScannedOn, Scanned, first_held, most_bytes, scan_of, window_of, with_byte, with_bytes, with_looks, with_window}
 pub use Rattle.rtcm_scan.specs.declared.candidate.Candidate.{Candidate}
 pub use Rattle.rtcm_scan.specs.declared.feed.StreamFault.{StreamFault}

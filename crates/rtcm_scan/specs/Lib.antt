@@ -4,11 +4,7 @@ pub mod Decided
 pub mod Known
 pub mod Scan
 pub mod Drained
-pub mod Results
 pub mod Looks
-pub mod Candidate
-pub mod Pending
 pub mod Examined
 pub mod Local
-pub mod View
-pub mod Passing
+pub mod inner

@@ -2,9 +2,10 @@
 ghost use Rattle.std.specs.Prelude.{◌≡◌, ◌+◌, ◌≤◌, ◌<◌, ⊤, true, false, max, length, OnOk, OnErr, IfOk, IfErr, MatchResult};
 ghost use Rattle.std.specs.Io.KnownBytes.{Keeps, IsAtEnd};
 ghost use Rattle.devices.specs.Device.{failures_after_read, moved};
-ghost use Rattle.rtcm_scan.specs.Passing.{PassesKnown, BreaksKnown, Passes, Breaks, PassesToLimit, PassesAll};
-ghost use Rattle.rtcm_scan.specs.Passing.{BreaksAfter, BreaksReading, HasReadPiece, Reads, ReadsOn, CountsReads};
-ghost use Rattle.rtcm_scan.specs.Passing.{TakesPiece, Continues, IsSameStream, IsReadingOn, AtFault, UnlessBroken};
+ghost use Rattle.rtcm_scan.specs.inner.Passing.{PassesKnown, BreaksKnown, Passes, Breaks, PassesToLimit, PassesAll};
+ghost use Rattle.rtcm_scan.specs.inner.Passing.{BreaksAfter, BreaksReading, HasReadPiece, Reads, ReadsOn, CountsReads};
+ghost use Rattle.rtcm_scan.specs.inner.Passing.{TakesPiece, Continues, IsSameStream, IsReadingOn, AtFault};
+ghost use Rattle.rtcm_scan.specs.inner.Passing.{UnlessBroken};
 
 use crate::framer::{Frame, Framer};
 use crate::sink::FrameSink;

@@ -10,15 +10,15 @@ ghost use Rattle.rtcm_scan.specs.Frame.{begins_frame, frame_length, framed_messa
 ghost use Rattle.rtcm_scan.specs.Frames.{Framed};
 ghost use Rattle.rtcm_scan.specs.Scan.{IsScannedOn, most_bytes, first_held, window_of};
 ghost use Rattle.rtcm_scan.specs.Scan.{with_window, with_byte, with_bytes};
-ghost use Rattle.rtcm_scan.specs.Candidate.{HasTaken};
+ghost use Rattle.rtcm_scan.specs.inner.Candidate.{HasTaken};
 ghost use Rattle.rtcm_scan.specs.Examined.{HasExamined, KeepsHistory, AcceptsBytes, ReturnsFrame};
-ghost use Rattle.rtcm_scan.specs.Pending.{asked, HasFrame, with_candidate_examined, passed};
+ghost use Rattle.rtcm_scan.specs.inner.Pending.{asked, HasFrame, with_candidate_examined, passed};
 ghost use Rattle.rtcm_bits.specs.FrameOf.{longest_frame};
 ghost use Rattle.rtcm_bits.specs.Window.{looked_through, without_front};
 ghost use Rattle.rtcm_scan.specs.Decided.{most_undecided};
 ghost use Rattle.rtcm_scan.specs.Looks.{most_looks};
 ghost use Rattle.rtcm_scan.specs.Drained.{IsDrained, DecidesAll};
-ghost use Rattle.rtcm_scan.specs.Results.{framed, frame_at, push_result, push_all_result, decision, new_scan};
+ghost use Rattle.rtcm_scan.specs.inner.Results.{framed, frame_at, push_result, push_all_result, decision, new_scan};
 
 use crate::candidate::Candidate;
 use crate::front::{Decision, examine, judge, pass_others};
@@ -93,7 +93,7 @@ impl Model for Framer {
     ghost use Rattle.std.specs.Prelude.{◌≡◌, ◌+◌, ◌<◌, ◌≤◌, length, take, true};
     ghost use Rattle.rtcm_bits.specs.FrameOf.{longest_frame};
     ghost use Rattle.rtcm_scan.specs.Scan.{FramerValue, most_bytes, scan_of};
-    ghost use Rattle.rtcm_scan.specs.Candidate.{HasTaken};
+    ghost use Rattle.rtcm_scan.specs.inner.Candidate.{HasTaken};
 
     ghost Value = { FramerValue };
 

@@ -1,9 +1,9 @@
 //! The candidate at the front of the held bytes: its held bytes are read, and then it is decided.
 ghost use Rattle.std.specs.Prelude.{◌≡◌, ◌≢◌, ◌+◌, ◌-◌, ◌<◌, ◌≤◌, ℕ, [], min, length, slice_index, take};
-ghost use Rattle.rtcm_scan.specs.Candidate.{HasTaken, wanted_by};
+ghost use Rattle.rtcm_scan.specs.inner.Candidate.{HasTaken, wanted_by};
 ghost use Rattle.rtcm_bits.specs.FrameOf.{preamble};
 ghost use Rattle.rtcm_bits.specs.Window.{looked_through, without_front};
-ghost use Rattle.rtcm_scan.specs.Results.{ComesTo};
+ghost use Rattle.rtcm_scan.specs.inner.Results.{ComesTo};
 
 use crate::candidate::Candidate;
 use rtcm_bits::{PREAMBLE, Window, laws};

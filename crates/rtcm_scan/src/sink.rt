@@ -1,7 +1,7 @@
 //! Consumers of frames.
 ghost use Rattle.std.specs.Prelude.{◌++◌, ◌∷◌, [], List, ⊤, OnOk, OnErr};
 ghost use Rattle.rtcm_scan.specs.Frames.{Framed};
-ghost use Rattle.rtcm_scan.specs.Results.{framed};
+ghost use Rattle.rtcm_scan.specs.inner.Results.{framed};
 
 use crate::framer::Frame;
 

@@ -1,5 +1,5 @@
 -- What is known after each line of a header.
-use Rattle.rinex_file.specs.Read.HeaderSteps.{IsLineOfTypes, IsThere}
+use Rattle.rinex_file.specs.inner.Read.HeaderSteps.{IsLineOfTypes, IsThere}
 use Rattle.gnss_system.specs.declared.system.System.TheVariants.{Glonass}
 use Rattle.rinex_file.specs.Slots.{AreSlots}
 use Rattle.gnss_system.proofs.SystemLaws.{value_after, value_of_other}

@@ -8,7 +8,7 @@ use Rattle.rinex_file.specs.Slots.{AreSlots, SlotNumber, channel_text, last_slot
 use Rattle.rinex_file.specs.Header.{slots_line, slots_with}
 use Rattle.rinex_file.proofs.HeaderRows.Lists.{item_in_line, up_to}
 use Rattle.rinex_file.proofs.Judged.{refused}
-use Rattle.rinex_file.specs.Read.HeaderSteps.{IsLineOfSlots, TakesOrRefusesSlots}
+use Rattle.rinex_file.specs.inner.Read.HeaderSteps.{IsLineOfSlots, TakesOrRefusesSlots}
 use Rattle.rinex_columns.proofs.NumberLemmas.{digits_in-padded, digits_in-whole, length-right}
 use Rattle.rinex_file.proofs.Digits.Padded.{two_digits}
 use Rattle.rinex_file.proofs.HeaderRows.Types.{content_first}

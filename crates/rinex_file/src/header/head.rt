@@ -1,9 +1,10 @@
 //! A header, line by line.
 ghost use Rattle.std.specs.Prelude.{◌≡◌, ◌<◌, [], true, IfNone, IfSome};
 ghost use Rattle.std.specs.Iterator.{YieldsFirstBy, item_count};
-ghost use Rattle.rinex_file.specs.Header.{row_line, has_line, row_at, row_count, lines_after, header_lines};
+ghost use Rattle.rinex_file.specs.Header.{row_line, has_line, header_lines};
+ghost use Rattle.rinex_file.specs.inner.Header.{row_at, row_count, lines_after};
 ghost use Rattle.rinex_file.specs.Header.{systems_letter};
-ghost use Rattle.rinex_file.specs.Heads.{shown_by};
+ghost use Rattle.rinex_file.specs.inner.Heads.{shown_by};
 
 use crate::header::lines::{
     BIASES, END, SHIFT, STRENGTH_UNIT, UNIT, delta_line, first_line, flagged_letter, interval_line,
@@ -106,8 +107,8 @@ pub struct HeaderLines<'a> {
 
 impl<'a> Model for HeaderLines<'a> {
     ghost use Rattle.std.specs.Prelude.{ℕ, List};
-    ghost use Rattle.rinex_file.specs.Header.{lines_after};
-    ghost use Rattle.rinex_file.specs.Heads.{shown_by};
+    ghost use Rattle.rinex_file.specs.inner.Header.{lines_after};
+    ghost use Rattle.rinex_file.specs.inner.Heads.{shown_by};
 
     ghost Value = { List (List ℕ) };
 

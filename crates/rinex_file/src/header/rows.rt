@@ -1,6 +1,6 @@
 //! The rows of a header in their order, each of one line or none: RINEX 3.05, table A2.
 ghost use Rattle.std.specs.Prelude.{◌≡◌, ◌<◌};
-ghost use Rattle.rinex_file.specs.Header.{row_at, row_count, first_types};
+ghost use Rattle.rinex_file.specs.inner.Header.{row_at, row_count, first_types};
 
 use crate::header::fields::HeaderField::{self, *};
 use HeaderRow::*;

@@ -5,7 +5,7 @@ ghost use Rattle.std.specs.List.{list_all};
 ghost use Rattle.rinex_file.specs.Blanks.{trimmed};
 ghost use Rattle.rinex_file.specs.Texts.{fields, text_of, text_count, place_of, fault_of, first_fault};
 ghost use Rattle.rinex_file.specs.Texts.{trimmed_texts, has_row, has_text, is_printable};
-ghost use Rattle.rinex_file.specs.TextsOf.{lists_of};
+ghost use Rattle.rinex_file.specs.inner.TextsOf.{lists_of};
 ghost use Rattle.rinex_file.specs.FileValues.{AreTexts};
 ghost use Rattle.rinex_columns.specs.Limits.{content_columns};
 

@@ -4,11 +4,11 @@ ghost use Rattle.devices.specs.Device.{HasFailed};
 ghost use Rattle.rinex_file.specs.Accepted.{AreEpochsRead, IsFaultAfter};
 ghost use Rattle.rinex_file.specs.Exact.{ExplainsFault, IsFaulty, IsExpectedAt};
 ghost use Rattle.rinex_file.specs.Blocks.{LeavesRest};
-ghost use Rattle.rinex_file.specs.ParserState.{FollowsHistory};
+ghost use Rattle.rinex_file.specs.inner.ParserState.{FollowsHistory};
 ghost use Rattle.rinex_file.specs.Counting.{History, nothing};
 ghost use Rattle.rinex_file.specs.Value.{Stamped};
-ghost use Rattle.rinex_file.specs.Read.Steps.{GoesOnReading, HasRead};
-ghost use Rattle.rinex_file.specs.Read.EpochSteps.{HasReadEpochs, HasReadTo, ReadsEpoch, ReadsNextEpoch};
+ghost use Rattle.rinex_file.specs.inner.Read.Steps.{GoesOnReading, HasRead};
+ghost use Rattle.rinex_file.specs.inner.Read.EpochSteps.{HasReadEpochs, HasReadTo, ReadsEpoch, ReadsNextEpoch};
 
 use crate::read::fault::ReadFault;
 use crate::read::file::FileSummary;

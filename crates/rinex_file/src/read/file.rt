@@ -5,10 +5,10 @@ ghost use Rattle.rinex_file.specs.Exact.{ExplainsFault, ExplainsStored, IfTextOf
 ghost use Rattle.rinex_file.specs.Blocks.{LeavesRest};
 ghost use Rattle.rinex_file.specs.Counting.{AreCounts, IsSummary, IsTextWith, HoldsOr};
 ghost use Rattle.rinex_file.specs.FileValues.{IsFileValue};
-ghost use Rattle.rinex_file.specs.ParserState.{FollowsHistory, with_line};
+ghost use Rattle.rinex_file.specs.inner.ParserState.{FollowsHistory, with_line};
 ghost use Rattle.rinex_file.specs.Counting.{nothing};
-ghost use Rattle.rinex_file.specs.Read.Steps.{file_at, HasRead};
-ghost use Rattle.rinex_file.specs.Read.Keeping.{ExplainsAny, history_of, HasReadWhole};
+ghost use Rattle.rinex_file.specs.inner.Read.Steps.{file_at, HasRead};
+ghost use Rattle.rinex_file.specs.inner.Read.Keeping.{ExplainsAny, history_of, HasReadWhole};
 
 use crate::read::epochs::Reading;
 use crate::read::fault::ReadFault;

@@ -3,13 +3,15 @@ ghost use Rattle.std.specs.Prelude.{◌≡◌, ◌<◌, ◌≤◌, ◌+◌, true
 ghost use Rattle.gnss_system.specs.Signals.{table};
 ghost use Rattle.gnss_obs.specs.SignalLists.{indices};
 ghost use Rattle.gnss_obs.specs.Values.{planned_of};
-ghost use Rattle.rinex_file.specs.Header.{has_label, is_of_types, type_rows, row_at};
+ghost use Rattle.rinex_file.specs.Header.{has_label, is_of_types, type_rows};
+ghost use Rattle.rinex_file.specs.inner.Header.{row_at};
 ghost use Rattle.rinex_columns.specs.Limits.{label_columns};
-ghost use Rattle.rinex_file.specs.Read.Progress.{AreValid, IsHeadAt, counted, signals_begun, is_chosen, fits};
-ghost use Rattle.rinex_file.specs.Read.HeaderSteps.{begins_with, expected_if, known_line, SameFrom, TakesHeaderLine};
-ghost use Rattle.rinex_file.specs.Read.HeaderSteps.{TakesTypes, RefusesTypes, with_types, AreItemsBefore};
-ghost use Rattle.rinex_file.specs.Read.HeaderSteps.{IsHeaderLineRead};
-ghost use Rattle.rinex_file.specs.Read.HeaderSteps.{IsOnly, ReadsOrRefuses, RefusesHeaderLine};
+ghost use Rattle.rinex_file.specs.inner.Read.Progress.{AreValid, IsHeadAt, counted, signals_begun, is_chosen, fits};
+ghost use Rattle.rinex_file.specs.inner.Read.HeaderSteps.{begins_with, expected_if, known_line, SameFrom};
+ghost use Rattle.rinex_file.specs.inner.Read.HeaderSteps.{TakesHeaderLine};
+ghost use Rattle.rinex_file.specs.inner.Read.HeaderSteps.{TakesTypes, RefusesTypes, with_types, AreItemsBefore};
+ghost use Rattle.rinex_file.specs.inner.Read.HeaderSteps.{IsHeaderLineRead};
+ghost use Rattle.rinex_file.specs.inner.Read.HeaderSteps.{IsOnly, ReadsOrRefuses, RefusesHeaderLine};
 
 use crate::header::lines::{BIASES, END, INTERVAL, SHIFT, STRENGTH_UNIT, UNIT, flagged_letter};
 use crate::header::lists::{TYPES, slot_rows, type_rows};
@@ -45,10 +47,11 @@ pub(crate) struct HeadSoFar {
 impl Model for HeadSoFar {
     ghost use Rattle.std.specs.Prelude.{◌≤◌, length};
     ghost use Rattle.gnss_system.specs.Signals.{table};
-    ghost use Rattle.gnss_obs.specs.SignalLists.{indices, IsOf};
+    ghost use Rattle.gnss_obs.specs.SignalLists.{indices};
+    ghost use Rattle.gnss_obs.specs.inner.SignalLists.{IsOf};
     ghost use Rattle.gnss_system.specs.declared.system.System.{System};
     ghost use Rattle.gnss_system.specs.SystemValues.{value_of, map_by};
-    ghost use Rattle.rinex_file.specs.Read.Progress.{Known};
+    ghost use Rattle.rinex_file.specs.inner.Read.Progress.{Known};
     ghost use Rattle.std.specs.Prelude.{IfSome};
     ghost use Rattle.rinex_file.specs.FileValues.{AreValues, IsTime};
     ghost use Rattle.gnss_obs.specs.Intervals.{IsInterval};

@@ -8,8 +8,8 @@ ghost use Rattle.rinex_file.specs.FileValues.{IsTime};
 ghost use Rattle.rinex_file.specs.Header.{first_line, height_line, interval_line, position_line, version_by};
 ghost use Rattle.rinex_file.specs.Lines.{epoch_line};
 ghost use Rattle.rinex_columns.specs.Read.{number_in, ReadsExactly};
-ghost use Rattle.rinex_file.specs.Read.HeaderSteps.{ReadsOrRefusesTexts};
-ghost use Rattle.rinex_file.specs.Read.Progress.{IsPosition};
+ghost use Rattle.rinex_file.specs.inner.Read.HeaderSteps.{ReadsOrRefusesTexts};
+ghost use Rattle.rinex_file.specs.inner.Read.Progress.{IsPosition};
 
 use crate::header::fields::HeaderField;
 use crate::header::lines::{

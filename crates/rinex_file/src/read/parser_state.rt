@@ -7,12 +7,12 @@ ghost use Rattle.rinex_file.specs.Value.{FileValue};
 ghost use Rattle.gnss_obs.specs.declared.cell.StationValues.{StationValues};
 ghost use Rattle.rinex_file.specs.FileValues.{IsFileValue, most_rows, planned_in, rank_of};
 ghost use Rattle.rinex_file.specs.File.{event_line, file_lines};
-ghost use Rattle.rinex_file.specs.Read.Progress.{HasLinesLeft, epoch_after};
-ghost use Rattle.rinex_file.specs.ParserState.{HasRoom, FollowsHistory, TakesLine};
+ghost use Rattle.rinex_file.specs.inner.Read.Progress.{HasLinesLeft, epoch_after};
+ghost use Rattle.rinex_file.specs.inner.ParserState.{HasRoom, FollowsHistory, TakesLine};
 ghost use Rattle.rinex_file.specs.Counting.{History};
-ghost use Rattle.rinex_file.specs.ParserState.{progress_at};
+ghost use Rattle.rinex_file.specs.inner.ParserState.{progress_at};
 ghost use Rattle.rinex_file.specs.Counting.{nothing};
-ghost use Rattle.rinex_file.specs.Read.Sound.{AreLinesOf, AreRead, MayBegin};
+ghost use Rattle.rinex_file.specs.inner.Read.Sound.{AreLinesOf, AreRead, MayBegin};
 
 use crate::read::file::Counts;
 use crate::read::head_so_far::HeadSoFar;

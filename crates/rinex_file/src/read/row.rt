@@ -12,7 +12,7 @@ ghost use Rattle.rinex_file.specs.Lines.{satellite_line, signal_text, lli_byte};
 ghost use Rattle.rinex_columns.specs.Numbers.{padded};
 ghost use Rattle.rinex_file.specs.Value.{no_signal_values};
 ghost use Rattle.rinex_columns.specs.Read.{ReadsExactly, some_if};
-ghost use Rattle.rinex_file.specs.Read.Row.{AreEntries, IsRowOf, signal_from, last_signal};
+ghost use Rattle.rinex_file.specs.inner.Read.Row.{AreEntries, IsRowOf, signal_from, last_signal};
 ghost use Rattle.rinex_columns.specs.Limits.{signal_columns};
 
 use crate::read::fields::{field_in, is_blank_at};

@@ -2,7 +2,7 @@
 ghost use Rattle.std.specs.Prelude.{◌≡◌, ◌≤◌, ◌<◌, ◌+◌, ◌*◌, ℕ, List, None, Some, IfSome, drop, is_some, length, take};
 ghost use Rattle.gnss_obs.specs.Channels.{most_number, no_channels, slot_count};
 ghost use Rattle.rinex_columns.specs.Read.{digits_in};
-ghost use Rattle.rinex_file.specs.Read.HeaderSteps.{IsLineOfSlots, TakesOrRefusesSlots};
+ghost use Rattle.rinex_file.specs.inner.Read.HeaderSteps.{IsLineOfSlots, TakesOrRefusesSlots};
 ghost use Rattle.rinex_file.specs.Slots.{SlotNumber, channel_text, last_slot, slots_in_line, slots_of};
 
 use crate::header::lists::{SLOTS_IN_LINE, slots_with};

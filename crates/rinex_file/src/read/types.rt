@@ -2,10 +2,12 @@
 ghost use Rattle.std.specs.Prelude.{◌≡◌, ◌≤◌, ◌<◌, ◌+◌, [], ◌==◌, ℕ, List, take, length, min, true, false, IfSome};
 ghost use Rattle.std.specs.Prelude.{OnOk, Err, Some};
 ghost use Rattle.gnss_system.specs.Signals.{SignalAt, IsSignal, table};
-ghost use Rattle.gnss_obs.specs.SignalLists.{indices, IsOf};
-ghost use Rattle.rinex_file.specs.Header.{most_type_rows, type_rows};
-ghost use Rattle.rinex_file.specs.Read.Progress.{signals_begun};
-ghost use Rattle.rinex_file.specs.Read.HeaderSteps.{HasSignalAt, IsLineOfTypes, RefusesTypes, TakesTypes};
+ghost use Rattle.gnss_obs.specs.SignalLists.{indices};
+ghost use Rattle.gnss_obs.specs.inner.SignalLists.{IsOf};
+ghost use Rattle.rinex_file.specs.Header.{type_rows};
+ghost use Rattle.rinex_file.specs.inner.Header.{most_type_rows};
+ghost use Rattle.rinex_file.specs.inner.Read.Progress.{signals_begun};
+ghost use Rattle.rinex_file.specs.inner.Read.HeaderSteps.{HasSignalAt, IsLineOfTypes, RefusesTypes, TakesTypes};
 
 use crate::header::lists::{TYPES_IN_LINE, type_rows, types_with};
 use crate::read::parser_state::Refusal;

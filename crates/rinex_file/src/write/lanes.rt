@@ -5,7 +5,7 @@ ghost use Rattle.std.specs.Prelude.{slice_index, true, false, unsigned_abs, Some
 ghost use Rattle.std.specs.Int.{is_negative};
 ghost use Rattle.rinex_file.specs.FileValues.{FitsColumns};
 ghost use Rattle.rinex_file.specs.Lines.{field};
-ghost use Rattle.rinex_file.specs.Words.{digit_columns, leading, template};
+ghost use Rattle.rinex_file.specs.inner.Words.{digit_columns, leading, template};
 
 use std::simd::prelude::*;
 

@@ -10,7 +10,7 @@ ghost use Rattle.rinex_file.specs.Value.{entries_of, satellite_row, row_among, r
 ghost use Rattle.rinex_columns.specs.Numbers.{padded};
 ghost use Rattle.rinex_file.specs.Blanks.{trimmed};
 ghost use Rattle.rinex_file.specs.Lines.{field, strength_byte, signal_text, satellite_line};
-ghost use Rattle.rinex_file.specs.Rows.{AreApart, IsBlankBut, HasColumns};
+ghost use Rattle.rinex_file.specs.inner.Rows.{AreApart, IsBlankBut, HasColumns};
 ghost use Rattle.rinex_columns.specs.Limits.{most_line, signal_columns, value_columns};
 
 use crate::values::SignalValues;

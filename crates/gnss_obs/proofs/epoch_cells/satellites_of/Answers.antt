@@ -1,5 +1,5 @@
 use Rattle.std.proofs.Common.{◌∙◌, ap, sym}
-use Rattle.gnss_obs.specs.Names.{Cell}
+use Rattle.gnss_obs.specs.inner.Names.{Cell}
 use Rattle.gnss_obs.proofs.SetLemmas.{one_satellite_more}
 use Rattle.gnss_obs.proofs.epoch_cells.satellites_of.Goals as goal
 

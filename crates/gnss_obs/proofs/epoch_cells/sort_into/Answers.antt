@@ -1,6 +1,6 @@
 use Rattle.std.proofs.Common.{◌≡◌, ◌≤◌, ◌<◌, ◌+◌, ◌*◌, sym, arith, subst, length}
-use Rattle.gnss_obs.specs.Names.{AreBelow, planned_of, satellites}
-use Rattle.gnss_obs.specs.Arriving.{HasSatellites}
+use Rattle.gnss_obs.specs.inner.Names.{AreBelow, planned_of, satellites}
+use Rattle.gnss_obs.specs.inner.Arriving.{HasSatellites}
 use Rattle.gnss_obs.proofs.SetLemmas.{AreSortedTo, all_sorted, few_satellites, lowest, lowest_bit, lowest_rises, lowest_sorted, none_sorted}
 use Rattle.gnss_obs.proofs.SortLemmas.{few_planned}
 use Rattle.gnss_obs.proofs.epoch_cells.sort_into.Goals as goal

@@ -1,7 +1,7 @@
 use Rattle.std.proofs.Common.{◌≡◌, ◌^◌, ◌*ℤ◌, ◌∙◌, ap, pos, sym, subst, lit<}
 use Rattle.gnss_obs.specs.Rounding.{IsRounded}
 use Rattle.gnss_obs.specs.Observables.{phase_by}
-use Rattle.gnss_obs.specs.Names.{hertz_of}
+use Rattle.gnss_obs.specs.inner.Names.{hertz_of}
 use Rattle.gnss_obs.proofs.NearestLaws.{rounded}
 use Rattle.gnss_obs.proofs.observables.phase.Goals as goal
 use Rattle.std.proofs.Common.{Some}

@@ -1,6 +1,6 @@
 use Rattle.std.proofs.Common.{◌≡◌, ◌^◌, ◌*ℤ◌, ◌<◌, pos, unsigned_abs, arith, ◌∙◌, sym, ap, subst, w64, to_z, of_z}
 use Rattle.std.proofs.lemmas.Int.{ints}
-use Rattle.gnss_obs.specs.Names.{nearest, nearest_phase}
+use Rattle.gnss_obs.specs.inner.Names.{nearest, nearest_phase}
 use Rattle.gnss_obs.proofs.SizeLaws.{cycles_small, kept}
 use Rattle.gnss_obs.proofs.observables.phase_at.Goals as goal
 

@@ -1,6 +1,6 @@
 use Rattle.std.proofs.Common.{◌≡◌, ◌∙◌, [], sym, subst, arith}
 use Rattle.gnss_system.specs.SystemValues.{value_of}
-use Rattle.gnss_obs.specs.SignalLists.{IsOf}
+use Rattle.gnss_obs.specs.inner.SignalLists.{IsOf}
 use Rattle.gnss_system.proofs.SystemLaws.{equal_values, value_mapped, passed_all}
 use Rattle.gnss_obs.proofs.plan.add_all.Goals as goal
 

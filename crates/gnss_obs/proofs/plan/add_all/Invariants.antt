@@ -1,6 +1,6 @@
 use Rattle.std.proofs.Common.{◌≡◌, []}
 use Rattle.gnss_system.specs.SystemValues.{value_of}
-use Rattle.gnss_obs.specs.SignalLists.{IsOf}
+use Rattle.gnss_obs.specs.inner.SignalLists.{IsOf}
 use Rattle.gnss_system.proofs.SystemLaws.{Passed}
 use Rattle.gnss_obs.proofs.plan.add_all.Given as goal
 

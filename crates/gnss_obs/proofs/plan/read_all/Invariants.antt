@@ -1,7 +1,7 @@
 use Rattle.std.proofs.Common.{◌≡◌, []}
 use Rattle.gnss_system.specs.SystemValues.{map_by}
 use Rattle.gnss_obs.specs.Plans.{signals_in}
-use Rattle.gnss_obs.specs.SignalLists.{ArePlanned}
+use Rattle.gnss_obs.specs.inner.SignalLists.{ArePlanned}
 use Rattle.gnss_system.proofs.SystemLaws.{Passed}
 use Rattle.gnss_obs.proofs.plan.read_all.Given as goal
 

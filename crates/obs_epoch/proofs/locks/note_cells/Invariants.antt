@@ -1,5 +1,5 @@
 use Rattle.std.proofs.Common.{◌≡◌, All, drop}
-use Rattle.obs_epoch.specs.Names.{note_all, IsHeld}
+use Rattle.obs_epoch.specs.inner.Names.{note_all, IsHeld}
 use Rattle.obs_epoch.proofs.locks.note_cells.Given as goal
 
 abbrev pub invariant-loop-i : goal.invariant-loop-i

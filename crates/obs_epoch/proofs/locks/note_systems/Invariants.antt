@@ -1,6 +1,6 @@
 use Rattle.std.proofs.Common.{◌≡◌, take}
 use Rattle.gnss_system.specs.Systems.{systems}
-use Rattle.obs_epoch.specs.Held.{note_systems}
+use Rattle.obs_epoch.specs.inner.Held.{note_systems}
 use Rattle.obs_epoch.proofs.locks.note_systems.Given as goal
 
 abbrev pub invariant-loop-i : goal.invariant-loop-i

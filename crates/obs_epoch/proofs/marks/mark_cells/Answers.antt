@@ -1,8 +1,8 @@
 use Rattle.std.proofs.Common.{◌≡◌, ◌<◌, ◌∙◌, List, sym, ap, subst, length, arith}
 use Rattle.gnss_system.specs.SystemValues.{with_value_of}
-use Rattle.obs_epoch.specs.Marks.{with_mark_in}
+use Rattle.obs_epoch.specs.inner.Marks.{with_mark_in}
 use Rattle.obs_epoch.specs.GathererHistory.{is_lost_in}
-use Rattle.obs_epoch.specs.Names.{Cell, Closed, EpochValue, cells_of}
+use Rattle.obs_epoch.specs.inner.Names.{Cell, Closed, EpochValue, cells_of}
 use Rattle.obs_epoch.proofs.MarksLemmas.{first_all, first_in_length, first_in_step}
 use Rattle.obs_epoch.proofs.marks.mark_cells.Goals as goal
 

@@ -3,7 +3,7 @@ use Rattle.gnss_system.specs.Systems.{systems}
 use Rattle.gnss_system.specs.SystemValues.{value_of}
 use Rattle.gnss_system.proofs.SystemLaws.{is_tabulated, passed_all}
 use Rattle.obs_epoch.specs.GathererHistory.{is_lost_in}
-use Rattle.obs_epoch.specs.Names.{CellLists, cells_of}
+use Rattle.obs_epoch.specs.inner.Names.{CellLists, cells_of}
 use Rattle.obs_epoch.specs.Thinning.{mark_if}
 use Rattle.obs_epoch.proofs.marks.mark_systems.Goals as goal
 

@@ -1,4 +1,4 @@
-use Rattle.gnss_obs.specs.SignalLists.{IsDefined}
+use Rattle.gnss_obs.specs.inner.SignalLists.{IsDefined}
 use Rattle.gnss_obs.specs.declared.fault.PlanFault.{PlanFault}
 use Rattle.rinex_file.specs.Texts.{trimmed_texts}
 use Rattle.rtcm_command.proofs.OptionLemmas.{number_given}

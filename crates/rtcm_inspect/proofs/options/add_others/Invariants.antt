@@ -2,7 +2,7 @@ use Rattle.rtcm_inspect.proofs.Names.{◌≡◌, ◌+◌, ◌*◌, ◌≤◌, Li
 use Rattle.gnss_system.specs.Systems.{systems}
 use Rattle.rtcm_inspect.specs.Fitting.{other_words}
 use Rattle.line_texts.specs.Lines.{longest_line}
-use Rattle.rtcm_inspect.specs.Lines.{longest_plan}
+use Rattle.rtcm_inspect.specs.inner.Lines.{longest_plan}
 use Rattle.rtcm_inspect.proofs.options.add_others.Given as goal
 
 abbrev pub invariant-loop-i : goal.invariant-loop-i

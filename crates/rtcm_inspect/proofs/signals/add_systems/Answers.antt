@@ -6,7 +6,7 @@ use Rattle.std.proofs.lemmas.List.{take_all}
 use Rattle.std.proofs.lemmas.List.Sums.{sum_by-append}
 use Rattle.gnss_system.specs.Systems.{systems, before}
 use Rattle.gnss_system.proofs.SystemLaws.{each_system, systems_taken}
-use Rattle.rtcm_inspect.specs.Lines.{longest_signals}
+use Rattle.rtcm_inspect.specs.inner.Lines.{longest_signals}
 use Rattle.std.proofs.lemmas.Bool.{leb-true}
 use Rattle.rtcm_inspect.proofs.signals.add_systems.Goals as goal
 

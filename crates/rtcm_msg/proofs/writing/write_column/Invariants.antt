@@ -1,6 +1,6 @@
 use Rattle.std.proofs.Common.{◌≡◌, ◌++◌, ◌+◌, ◌*◌, ◌/◌, ◌^◌, drop, length}
 use Rattle.std.specs.List.{flat_map}
-use Rattle.rtcm_msg.specs.Names.{uint}
+use Rattle.rtcm_msg.specs.inner.Names.{uint}
 use Rattle.rtcm_msg.proofs.writing.write_column.Given as goal
 
 abbrev pub invariant-loop-number : goal.invariant-loop-number

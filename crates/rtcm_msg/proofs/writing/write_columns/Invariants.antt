@@ -1,5 +1,5 @@
 use Rattle.std.proofs.Common.{◌≡◌, ◌++◌, ◌+◌, ◌*◌, ◌<◌, drop, length}
-use Rattle.rtcm_msg.specs.Names.{columns, total_width}
+use Rattle.rtcm_msg.specs.inner.Names.{columns, total_width}
 use Rattle.rtcm_msg.proofs.writing.write_columns.Given as goal
 
 abbrev pub invariant-loop-width : goal.invariant-loop-width

@@ -1,7 +1,7 @@
 use Rattle.std.proofs.Common.{◌≡◌, ◌∙◌, ap, arith, map, nat_eq, Bool, true, false, refl, ℕ}
 use Rattle.std.specs.Bool.{then_some}
 use Rattle.std.specs.Option.{is_some}
-use Rattle.gnss_obs.specs.Arriving.{slot, has_slot}
+use Rattle.gnss_obs.specs.inner.Arriving.{slot, has_slot}
 use Rattle.gnss_obs.proofs.FoundLemmas.{found_here, found_none}
 use Rattle.gnss_obs.proofs.cells.Cells.find.Goals as goal
 

@@ -1,7 +1,7 @@
 use Rattle.std.proofs.Common.{◌≡◌, ◌≤◌, ◌<◌, ◌∙◌, List, sym, ap, subst, map, length, slice_set}
 use Rattle.std.specs.List.{AllByRecursion}
 use Rattle.gnss_obs.specs.declared.cell.Cell.{Cell}
-use Rattle.gnss_obs.specs.Arriving.{AreFound, IsFound, slot}
+use Rattle.gnss_obs.specs.inner.Arriving.{AreFound, IsFound, slot}
 use Rattle.gnss_obs.specs.Marked.{marked_at, with_mark}
 use Rattle.gnss_obs.specs.Order.{IsLeastNext}
 use Rattle.gnss_obs.specs.Values.{most_cells}

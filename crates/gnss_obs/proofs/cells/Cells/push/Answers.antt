@@ -1,6 +1,6 @@
 use Rattle.std.proofs.Common.{◌≡◌, ◌<◌, ◌++◌, ◌∷◌, ◌∙◌, List, [], ap, arith, length, length-append, length-set, map, set, subst, sym}
 use Rattle.gnss_obs.specs.declared.cell.Cell.{Cell}
-use Rattle.gnss_obs.specs.Arriving.{slot, AreFound}
+use Rattle.gnss_obs.specs.inner.Arriving.{slot, AreFound}
 use Rattle.gnss_obs.specs.Order.{IsLeastNext}
 use Rattle.gnss_obs.specs.Values.{most_cells}
 use Rattle.gnss_obs.proofs.FoundLemmas.{found_push, slots_push}

@@ -1,5 +1,5 @@
 use Rattle.std.proofs.Common.{ℕ, ◌≡◌, ◌∙◌, false, nat_lt, sym, arith}
-use Rattle.gnss_obs.specs.Names.{cells_of}
+use Rattle.gnss_obs.specs.inner.Names.{cells_of}
 use Rattle.gnss_obs.specs.Values.{written_among}
 use Rattle.gnss_system.specs.Satellites.{satellites as satellites_in}
 use Rattle.gnss_obs.proofs.GroupLemmas.{some_counted}

@@ -1,6 +1,6 @@
 use Rattle.std.proofs.Common.{subst, sym}
 use Rattle.gnss_obs.specs.Marked.{marked_at}
-use Rattle.gnss_obs.specs.Names.{AreSorted, CellLists}
+use Rattle.gnss_obs.specs.inner.Names.{AreSorted, CellLists}
 use Rattle.gnss_system.specs.SystemValues.{value_of}
 use Rattle.gnss_obs.proofs.MarkLemmas.{mark_sorted}
 use Rattle.gnss_system.proofs.SystemLaws.{each_after}

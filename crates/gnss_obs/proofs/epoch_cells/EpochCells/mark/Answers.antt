@@ -3,7 +3,7 @@ use Rattle.gnss_obs.specs.declared.cells.Cells.{Cells}
 use Rattle.std.proofs.Common.{Box, Global, ◌<◌, ◌∙◌, List, length, sym, ap, subst}
 use Rattle.gnss_system.specs.SystemValues.{value_of, with_value_of, map_by}
 use Rattle.gnss_obs.specs.Marked.{marked_at}
-use Rattle.gnss_obs.specs.Names.{AreKept, Cell, CellLists}
+use Rattle.gnss_obs.specs.inner.Names.{AreKept, Cell, CellLists}
 use Rattle.gnss_obs.proofs.MarkLemmas.{mark_kept}
 use Rattle.gnss_system.proofs.SystemLaws.{each_after, value_mapped, mapped_after}
 use Rattle.gnss_obs.proofs.epoch_cells.EpochCells.mark.Goals as goal

@@ -1,6 +1,6 @@
 use Rattle.std.proofs.Common.{Box, Global, ◌≡◌, ◌∙◌, All, sym, ap, subst}
 use Rattle.gnss_system.specs.declared.by_system.BySystem.{BySystem}
-use Rattle.gnss_obs.specs.Names.{System, AreKept, AreOrderedBy, CellLists, IsPlanned, planned_of, sorted_cells}
+use Rattle.gnss_obs.specs.inner.Names.{System, AreKept, AreOrderedBy, CellLists, IsPlanned, planned_of, sorted_cells}
 use Rattle.gnss_obs.proofs.HeldLemmas.{all_empty, kept_sorted, none_mapped}
 use Rattle.gnss_obs.proofs.SortLemmas.{cells_rise}
 use Rattle.gnss_system.proofs.SystemLaws.{equal_values, value_tabulated, value_mapped}

@@ -2,7 +2,7 @@ use Rattle.std.proofs.Common.{◌<◌, ◌≡◌, ◌∙◌, All, ap, length, na
 use Rattle.std.specs.List.{IsDistinct}
 use Rattle.gnss_system.specs.SystemValues.{value_of}
 use Rattle.gnss_system.proofs.SystemLaws.{value_mapped}
-use Rattle.gnss_obs.specs.Names.{System, PlanValue, indices, planned_of, table}
+use Rattle.gnss_obs.specs.inner.Names.{System, PlanValue, indices, planned_of, table}
 use Rattle.gnss_system.specs.declared.system.System.TheVariants.{Glonass}
 use Rattle.gnss_obs.proofs.PlanLemmas.{listed_by, none_planned}
 use Rattle.gnss_obs.proofs.plan.Plan.are_listed.Goals as goal

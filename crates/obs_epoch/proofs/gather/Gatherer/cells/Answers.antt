@@ -1,5 +1,5 @@
 use Rattle.std.proofs.Common.{◌+◌, ◌∙◌, List, ap, ap₂, length}
-use Rattle.obs_epoch.specs.Names.{Cell, GathererValue, cells_of}
+use Rattle.obs_epoch.specs.inner.Names.{Cell, GathererValue, cells_of}
 use Rattle.obs_epoch.proofs.ValueLemmas.{count_held}
 use Rattle.obs_epoch.proofs.gather.Gatherer.cells.Goals as goal
 

@@ -1,5 +1,5 @@
 use Rattle.std.proofs.Common.{◌≡◌, ◌+◌, ◌≤◌, true, length}
-use Rattle.obs_epoch.specs.Names.{cells_counted, entries, formed, no_counts, load_entries}
+use Rattle.obs_epoch.specs.inner.Names.{cells_counted, entries, formed, no_counts, load_entries}
 use Rattle.obs_epoch.proofs.gather.Gatherer.load_as.Given as goal
 
 abbrev pub invariant-loop-entry : goal.invariant-loop-entry

@@ -1,9 +1,9 @@
 use Rattle.std.proofs.Common.{◌≡◌, ◌∙◌, Bool, true, sym, ap, ap₂, arith, subst}
 use Rattle.std.proofs.lemmas.Grind.{common_steps}
-use Rattle.obs_epoch.specs.Names.{AreSortedByPlan, Closed, EpochValue, GathererValue, HasPlannedCells, State, closed_noted, shut_where, sorted_lists}
-use Rattle.obs_epoch.specs.Held.{note_systems}
+use Rattle.obs_epoch.specs.inner.Names.{AreSortedByPlan, Closed, EpochValue, GathererValue, HasPlannedCells, State, closed_noted, shut_where, sorted_lists}
+use Rattle.obs_epoch.specs.inner.Held.{note_systems}
 use Rattle.gnss_system.specs.Systems.{systems}
-use Rattle.obs_epoch.specs.GathererSteps.{thinned, thinned_if}
+use Rattle.obs_epoch.specs.inner.GathererSteps.{thinned, thinned_if}
 use Rattle.obs_epoch.proofs.ValueLemmas.{gathered_of, never_both, none_planned, open_is, shut_is}
 use Rattle.obs_epoch.proofs.gather.Gatherer.note_closed.Goals as goal
 

@@ -1,5 +1,5 @@
 use Rattle.std.proofs.Common.{◌≡◌, ◌∙◌, sym, ap, ap₂, subst, true, is_some}
-use Rattle.obs_epoch.specs.Names.{Cell, planned_of, heard_cell, kept_cell, place_in, GathererValue, hold, outcome_in, count_in, lli_with}
+use Rattle.obs_epoch.specs.inner.Names.{Cell, planned_of, heard_cell, kept_cell, place_in, GathererValue, hold, outcome_in, count_in, lli_with}
 use Rattle.obs_epoch.proofs.ValueLemmas.{gathered_of, held_is, never_both, open_is, outcome_is, planned_added, planned_is}
 use Rattle.obs_epoch.proofs.gather.Gatherer.take_cell.Goals as goal
 

@@ -1,5 +1,5 @@
 use Rattle.std.proofs.Common.{◌≡◌, ◌∙◌, ap, subst, sym, false}
-use Rattle.obs_epoch.specs.Names.{AreSortedByPlan, Closed, GathererValue}
+use Rattle.obs_epoch.specs.inner.Names.{AreSortedByPlan, Closed, GathererValue}
 use Rattle.obs_epoch.proofs.ValueLemmas.{never_both, sorted_carried}
 use Rattle.obs_epoch.proofs.gather.Gatherer.thin.Goals as goal
 

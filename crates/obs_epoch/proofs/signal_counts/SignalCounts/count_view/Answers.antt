@@ -1,5 +1,5 @@
 use Rattle.std.proofs.Common.{◌∙◌, ◌≡◌, ◌≤◌, ◌<◌, ◌+◌, ◌^◌, ap, sym, refl, subst, ℕ, List, length, arith, filter, filter_map, unwrap_or}
-use Rattle.obs_epoch.specs.Names.{Entry, MsmHeader, entries, FormedMsm, formed, System, viewed_message, heard, heard_msm, seen_in, brings_value, valued}
+use Rattle.obs_epoch.specs.inner.Names.{Entry, MsmHeader, entries, FormedMsm, formed, System, viewed_message, heard, heard_msm, seen_in, brings_value, valued}
 use Rattle.obs_epoch.proofs.SignalCountsLemmas.{wanted_cells, message_counted, few_valued}
 use Rattle.obs_epoch.specs.SignalCounts.{every_channel}
 use Rattle.obs_epoch.proofs.ViewLemmas.{heard_formed}

@@ -1,7 +1,7 @@
 use Rattle.std.proofs.Common.{ℕ, ◌≡◌, ◌∙◌, false, List, nat_lt, sym, ap, arith}
 use Rattle.gnss_system.specs.Systems.{systems}
 use Rattle.gnss_system.proofs.SystemLaws.{any_none, below_all, below_next, one_any}
-use Rattle.obs_epoch.specs.Names.{list_any, signal_counts, SignalCountsValue}
+use Rattle.obs_epoch.specs.inner.Names.{list_any, signal_counts, SignalCountsValue}
 use Rattle.gnss_system.specs.SystemValues.{value_of}
 use Rattle.obs_epoch.proofs.signal_counts.SignalCounts.has_any.Goals as goal
 

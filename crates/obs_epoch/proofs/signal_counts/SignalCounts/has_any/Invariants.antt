@@ -1,5 +1,5 @@
 use Rattle.std.proofs.Common.{◌≡◌, false, nat_lt}
-use Rattle.obs_epoch.specs.Names.{signal_counts, list_any}
+use Rattle.obs_epoch.specs.inner.Names.{signal_counts, list_any}
 use Rattle.gnss_system.proofs.SystemLaws.{Below}
 use Rattle.obs_epoch.proofs.signal_counts.SignalCounts.has_any.Given as goal
 

@@ -1,4 +1,4 @@
-use Rattle.rinex_file.specs.Read.HeaderSteps.{IsLineOfTypes}
+use Rattle.rinex_file.specs.inner.Read.HeaderSteps.{IsLineOfTypes}
 use Rattle.rinex_file.proofs.Names.{ℕ, List, ◌≡◌, ◌≤◌, length, take, indices, IsOf, signals_begun}
 use Rattle.rinex_file.proofs.read.types.take_signals.Given as goal
 

@@ -1,5 +1,5 @@
 use Rattle.rtcm_inspect.proofs.TowLemmas.{tows_more, tows_same}
-use Rattle.rtcm_inspect.specs.FirstTows.{IsWith}
+use Rattle.rtcm_inspect.specs.inner.FirstTows.{IsWith}
 use Rattle.rtcm_inspect.specs.declared.first_tows.SystemTows.{SystemTows}
 use Rattle.rtcm_inspect.proofs.Names.{arith, refl, subst}
 use Rattle.rtcm_inspect.proofs.first_tows.FirstTows.add.Goals as goal

@@ -1,7 +1,7 @@
 use Rattle.rtcm_inspect.proofs.TowLemmas.{one_more}
 use Rattle.gnss_system.specs.Systems.{systems}
 use Rattle.gnss_system.specs.declared.by_system.BySystem.{BySystem}
-use Rattle.rtcm_inspect.specs.FirstTows.{earliest, placed_by}
+use Rattle.rtcm_inspect.specs.inner.FirstTows.{earliest, placed_by}
 use Rattle.rtcm_inspect.specs.declared.first_tows.PlacedTow.{PlacedTow}
 use Rattle.rtcm_inspect.specs.declared.first_tows.SystemTows.{SystemTows}
 use Rattle.rtcm_inspect.proofs.Names.{◌≡◌, ◌∙◌, ◌≤◌, ℕ, Option, Some, ap, arith, drop, option_map, sym, MsmSet}

@@ -1,5 +1,5 @@
 use Rattle.gnss_system.specs.Systems.{systems}
-use Rattle.rtcm_inspect.specs.FirstTows.{earliest}
+use Rattle.rtcm_inspect.specs.inner.FirstTows.{earliest}
 use Rattle.rtcm_inspect.proofs.Names.{◌≡◌, ◌≤◌, drop, length}
 use Rattle.rtcm_inspect.proofs.first_tows.FirstTows.first.Given as goal
 

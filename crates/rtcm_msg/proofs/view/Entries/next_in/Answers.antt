@@ -2,8 +2,8 @@
 use Rattle.std.proofs.Common.{ℕ, ◌≡◌, ◌<◌, ◌∙◌, List, count_ones, length, ap, sym, subst}
 use Rattle.std.specs.Prelude.{slice_index}
 use Rattle.rtcm_msg.specs.Forms.{satellite_data}
-use Rattle.rtcm_msg.specs.Names.{Form, MasksValue}
-use Rattle.rtcm_msg.specs.Viewed.{IsCached}
+use Rattle.rtcm_msg.specs.inner.Names.{Form, MasksValue}
+use Rattle.rtcm_msg.specs.inner.Viewed.{IsCached}
 use Rattle.rtcm_msg.specs.declared.data.Satellite.{Satellite}
 use Rattle.rtcm_msg.proofs.NextLaws.{index_below, one_less}
 use Rattle.rtcm_msg.proofs.view.Entries.next_in.Goals as goal

@@ -1,5 +1,5 @@
 use Rattle.std.proofs.Common.{◌∙◌, ap, sym, length, count_ones}
-use Rattle.rtcm_msg.specs.Names.{FormedMsm}
+use Rattle.rtcm_msg.specs.inner.Names.{FormedMsm}
 use Rattle.rtcm_msg.proofs.ViewLaws.{satellites_counted}
 use Rattle.rtcm_msg.proofs.view.MsmView.satellites.Goals as goal
 

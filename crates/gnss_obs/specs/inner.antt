@@ -1,0 +1,5 @@
+-- Definitions that no promise to a user reaches: the vocabulary of private contracts and of proofs.
+pub mod SignalLists
+pub mod PlanOrder
+pub mod Arriving
+pub mod Names

@@ -1,0 +1,100 @@
+-- The parser state while a file is read, and what it means for all that was read.
+use Rattle.std.specs.Prelude.{◌≡◌, ℕ, ◌+◌, ◌≤◌, List, [], ◌∷◌, ◌++◌, length, map, Option, Some, None, Result, Ok, Err}
+use Rattle.std.specs.Prelude.{true, ◌<◌, ◌↔◌}
+use Rattle.std.specs.List.{sum_by}
+use Rattle.std.specs.List.Sorted.{IsStrictlyIncreasing}
+use Rattle.rinex_file.specs.declared.read.parser_state.ParserState.{ParserState}
+use Rattle.rinex_file.specs.declared.read.file.Counts.{Counts}
+use Rattle.rinex_file.specs.declared.read.times.EpochTimes.{EpochTimes}
+use Rattle.rinex_file.specs.Times.{AreTimesOrNone}
+use Rattle.rinex_file.specs.declared.read.parser_state.AddedRow.{AddedRow}
+use Rattle.rinex_file.specs.declared.read.parser_state.AddedRow.TheVariants.{NoRow, OneRow, LastRow}
+use Rattle.rinex_file.specs.declared.read.parser_state.Expected.{Expected}
+use Rattle.rinex_file.specs.declared.read.parser_state.Expected.TheVariants.{Header}
+use Rattle.rinex_file.specs.declared.read.parser_state.Refusal.{Refusal}
+use Rattle.rinex_file.specs.declared.read.parser_state.Refusal.TheVariants.{Memory, Bad}
+use Rattle.rinex_file.specs.Value.{SatelliteRow, Stamped, FileValue}
+use Rattle.gnss_obs.specs.declared.cell.StationValues.{StationValues}
+use Rattle.rinex_file.specs.FileValues.{time_stamped, rank_of, changed_by, values_following}
+use Rattle.rinex_file.specs.Header.{is_of_types}
+use Rattle.rinex_file.specs.inner.Read.Progress.{Progress, HasLinesLeft}
+use Rattle.rinex_file.specs.inner.Read.Sound.{IsSound, AreLinesOf}
+use Rattle.rinex_file.specs.Counting.{History, rows_in, events_in}
+
+-- what was read if a parser state has this history
+abbrev pub progress_at : ParserState → History → Progress
+progress_at c h =
+    record { expected = c.expected; known = c.head; epochs = h.epochs; change = c.change; time = c.time; rows = h.rows }
+
+-- exactly the numbers above this one continue the increasing numbers
+abbrev pub IsLast : List ℕ → ℕ → Type 0
+IsLast xs last = (n : ℕ) → 0 < n → (last < n) ↔ IsStrictlyIncreasing (xs ++ n ∷ [])
+
+-- the times, the last rank, the last change of station values, and the counts are those of a history
+pub record AreCounted (h : History) (t : Option EpochTimes) (last_rank : ℕ) (changed : Option StationValues)
+    (n : Counts) : Type 0 where
+  pub times : AreTimesOrNone (map time_stamped h.epochs) t
+  pub rank : IsLast (map rank_of h.rows) last_rank
+  pub values : (v : StationValues) → changed_by v changed ≡ values_following v h.epochs
+  pub epochs : n.epochs ≡ length h.epochs
+  pub satellites : n.satellites ≡ rows_in h.epochs + length h.rows
+  pub events : n.events ≡ events_in h.epochs
+
+-- this is the parser state after this history
+pub record FollowsHistory (c : ParserState) (h : History) : Type 0 where
+  pub sound : IsSound (progress_at c h)
+  pub counted : AreCounted h c.times c.rank c.values c.counts
+
+-- an epoch after this change of station values
+abbrev pub stamped_at : Option StationValues → ℕ → List SatelliteRow → Stamped
+stamped_at change time rows = record { change = change; time = time; rows = rows }
+
+-- a history with one satellite more
+abbrev pub with_satellite : History → SatelliteRow → History
+with_satellite h row = record { epochs = h.epochs; rows = h.rows ++ row ∷ [] }
+
+-- a history in which the epoch that was begun, after this change and at this time, has all its satellites
+abbrev pub with_whole_epoch : History → Option StationValues → ℕ → History
+with_whole_epoch h change time = record { epochs = h.epochs ++ stamped_at change time h.rows ∷ []; rows = [] }
+
+-- the history with what a line added
+abbrev pub with_line : AddedRow → ParserState → History → History
+with_line NoRow c h = h
+with_line OneRow c h = with_satellite h c.last_read
+with_line LastRow c h = with_whole_epoch (with_satellite h c.last_read) c.change c.time
+
+-- a file that has the line next has these lines left after it
+abbrev pub GoesOnWithLine : Progress → Progress → List ℕ → Type 0
+GoesOnWithLine old new line =
+    (v : FileValue) (left : List (List ℕ)) → HasLinesLeft old v (line ∷ left) → HasLinesLeft new v left
+
+-- the line is that of what was added to what was read
+abbrev pub ShowsLine : Progress → Progress → List ℕ → Type 0
+ShowsLine old new line = (taken : List (List ℕ)) → AreLinesOf old taken → AreLinesOf new (taken ++ line ∷ [])
+
+-- no file continues with the line
+abbrev pub RefusesLine : Progress → List ℕ → Type 0
+RefusesLine s line = (v : FileValue) (left : List (List ℕ)) → HasLinesLeft s v (line ∷ left) → ⊥
+
+-- no count is greater than this number of lines
+abbrev pub HasRoom : ParserState → ℕ → Type 0
+HasRoom c lines = (c.counts.epochs ≤ lines) × (c.counts.satellites ≤ lines) × (c.counts.events ≤ lines)
+
+-- a line was accepted: it may follow what was read, the state has the history with what the line adds, and no count grows
+-- by more than one
+pub record IsNext (old new : ParserState) (added : AddedRow) (line : List ℕ) (h : History) : Type 0 where
+  pub history : FollowsHistory new (with_line added new h)
+  pub follows : GoesOnWithLine (progress_at old h) (progress_at new (with_line added new h)) line
+  pub shows : ShowsLine (progress_at old h) (progress_at new (with_line added new h)) line
+  pub room : (n : ℕ) → HasRoom old n → HasRoom new (n + 1)
+
+-- memory may run out where this is expected and this line is read: only at a line of types
+abbrev pub MayRunOut : Expected → List ℕ → Type 0
+MayRunOut (Header place) line = is_of_types line ≡ true
+MayRunOut other line = ⊥
+
+-- the result of a line
+abbrev pub TakesLine : ParserState → ParserState → List ℕ → Result AddedRow Refusal → Type 0
+TakesLine old new line (Ok added) = (h : History) → FollowsHistory old h → IsNext old new added line h
+TakesLine old new line (Err Bad) = (h : History) → FollowsHistory old h → RefusesLine (progress_at old h) line
+TakesLine old new line (Err Memory) = MayRunOut old.expected line

@@ -1,0 +1,15 @@
+-- Definitions that no promise to a user reaches: the vocabulary of private contracts and of proofs.
+pub mod LastBits
+pub mod LayoutLaws
+pub mod Rows
+pub mod Ranges
+pub mod Forms
+pub mod FormLaws
+pub mod Refusals
+pub mod Pairs
+pub mod Views
+pub mod Viewed
+pub mod Presences
+pub mod ValueCounts
+pub mod Summaries
+pub mod Names
