@@ -8,7 +8,7 @@ use Rattle.obs_epoch.proofs.TimesLemmas.{next, timed-push, greatest-push}
 use Rattle.obs_epoch.proofs.ClosedLemmas.{ends, no_times, closed_is, when, taken_follows, grows_by}
 use Rattle.obs_epoch.proofs.EpochLemmas.{AllLater, IsLater, epoch_at-push, times_before, all_later}
 use Rattle.std.proofs.lemmas.Grind.{common_steps}
-use Rattle.rtcm_bits.specs.inner.SmallLaws.{prefix_self, prefix_trans}
+use Rattle.rtcm_bits.proofs.SmallLaws.{prefix_self, prefix_trans}
 
 -- ---- a closed epoch stays closed
 

@@ -17,7 +17,7 @@ use Rattle.obs_epoch.proofs.OneStepLemmas.{closed_later}
 use Rattle.obs_epoch.proofs.TakeLemmas.{taken, closes_it, ended, Ended, times_taken, time_taken, pending_taken, IsSet, no_point_given, same_values, clock_stepped, counts_stepped, handed_is, ended_is, marks_stepped}
 use Rattle.obs_epoch.proofs.HistoryLemmas.{Each, each_filter, each_front, each_back, list-push, before_all, before-push, pending_open, with_pending}
 use Rattle.std.proofs.lemmas.Grind.{common_steps}
-use Rattle.rtcm_bits.specs.inner.SmallLaws.{prefix_self}
+use Rattle.rtcm_bits.proofs.SmallLaws.{prefix_self}
 
 -- ---- which epoch is new
 

@@ -12,7 +12,7 @@ use Rattle.gnss_system.specs.Signals.{most_signals}
 use Rattle.gnss_system.specs.SystemValues.{value_of}
 use Rattle.std.proofs.Common.{◌≡◌, ◌∙◌, ap, get_or, replicate, ℕ, ◌≤◌, List, [], ◌++◌, length, sym, subst, arith, Option, Some, filter, is_some, filter_map, unwrap_or}
 use Rattle.std.proofs.lemmas.Grind.{common_steps}
-use Rattle.rtcm_bits.specs.inner.SmallLaws.{length-filter-le, length-filter_map-le}
+use Rattle.rtcm_bits.proofs.SmallLaws.{length-filter-le, length-filter_map-le}
 
 -- ---- the cells of a signal
 

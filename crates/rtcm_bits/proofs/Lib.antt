@@ -1,4 +1,6 @@
 pub mod Names
+pub mod SmallLaws
+pub mod BitLaws
 pub mod ListLemmas
 pub mod BitLemmas
 pub mod PartLemmas

@@ -1,6 +1,6 @@
 -- The names that proofs cite, passed on from one place. Declares nothing.
 pub use Rattle.circular_buffer.specs.Buffer.{Buffer, buffer}
-pub use Rattle.rtcm_bits.specs.inner.BitLaws.{bit-small, bits_of-append, cons2, half, length-bits_of, length-uint, number-fits, number-split, number-take-fits, number-uint, number_of-uint, odd_bit, pow-double, pow_mono, raw-signed, raw_fits, signed-fits, signed-raw, signed_high, signed_low, uint-number}
+pub use Rattle.rtcm_bits.proofs.BitLaws.{bit-small, bits_of-append, cons2, half, length-bits_of, length-uint, number-fits, number-split, number-take-fits, number-uint, number_of-uint, odd_bit, pow-double, pow_mono, raw-signed, raw_fits, signed-fits, signed-raw, signed_high, signed_low, uint-number}
 unfoldable pub use Rattle.rtcm_bits.specs.Bits.{bits_of, number_from, uint}
 pub use Rattle.rtcm_bits.specs.Bits.{FitsInt, bit, filled, missing, number, odd, raw, signed}
 unfoldable pub use Rattle.rtcm_bits.specs.Crc.{add_front, bits_remainder, crc, generator, remainder}

@@ -1,5 +1,3 @@
 -- Definitions that no promise to a user reaches: the vocabulary of private contracts and of proofs.
-pub mod BitLaws
-pub mod SmallLaws
 pub mod Register
 pub mod Folding

@@ -43,7 +43,7 @@ pub use Rattle.rtcm_convert.specs.declared.fault.Fault.TheVariants.{BadSetup, Fa
 pub use Rattle.rtcm_convert.specs.declared.report.Report.{Report}
 pub use Rattle.rtcm_convert.specs.declared.setup.Setup.{Setup}
 pub use Rattle.line_texts.proofs.LineLemmas.{add_count, add_text, add_word, end_line}
-pub use Rattle.rtcm_bits.specs.inner.SmallLaws.{passed, wrapped}
+pub use Rattle.rtcm_bits.proofs.SmallLaws.{passed, wrapped}
 pub use Rattle.rtcm_inspect.specs.Fitting.{height_text, position_text}
 pub use Rattle.rtcm_inspect.specs.Printing.{PrintsLine, PrintsSome}
 pub use Rattle.rtcm_inspect.specs.declared.fault.InspectFault.{InspectFault}

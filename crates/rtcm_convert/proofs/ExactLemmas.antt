@@ -13,8 +13,8 @@ use Rattle.gnss_obs.specs.Values.{Closed}
 use Rattle.rtcm_convert.proofs.Names.{common_steps, ◌≡◌, ◌||◌, ℕ, ◌+◌, ◌*◌, ◌≤◌, most_bytes, List, [], ◌∷◌, ◌++◌, Bool, true, false, refl, sym, ap, subst, arith, rules, length, length-append, add-zero, suc, nat_lt, Option, Some, None, is_some, count_by, filter, if◌then◌else◌, zip, option_map_or, length-map, length-filter, count_by-le-length, System, Framed, Message, Entry, MasksValue, MsmValue, AreMasks, IsMessage, chosen, cell_pairs, all_pairs, entry_in, Kind, GatherSetup, Heard, heard, heard_by, ChannelsValue, heard_msm, is_own, unlisted_in, HeardCell, Timed, timed, timed_after, taken_at, is_late, is_past, time_of, times, counts_of, counts_of_message, no_counts, with_skipped, is_planned, offered, kind_of, kind_at, closed_at, satellites_written, SetupValue, messages_of, message_of, epochs_in, outcomes_after, capped, capped_tally, sum_of_counts, tally_of, tally_of_one, IsFew, AreFew, Report, CellCounts}
 use Rattle.rtcm_msg.specs.declared.message.Message.TheVariants as message
 use Rattle.obs_epoch.specs.declared.taken.Kind.TheVariants as kind
-use Rattle.rtcm_bits.specs.inner.SmallLaws.{length-filter-le, length-filter_map-le}
-use Rattle.rtcm_bits.specs.inner.BitLaws.{length-uint}
+use Rattle.rtcm_bits.proofs.SmallLaws.{length-filter-le, length-filter_map-le}
+use Rattle.rtcm_bits.proofs.BitLaws.{length-uint}
 
 -- ---- the cells of a message
 

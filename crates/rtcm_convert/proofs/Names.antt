@@ -27,7 +27,7 @@ unfoldable pub use Rattle.rtcm_bits.specs.Bits.{uint}
 pub use Rattle.devices.specs.Device.{AppendsPrefix, Device, FailsWith, HasFailed, IsBetween}
 pub use Rattle.rtcm_bits.specs.FrameOf.{longest_frame}
 pub use Rattle.rtcm_bits.specs.Prefix.{IsPrefix}
-pub use Rattle.rtcm_bits.specs.inner.SmallLaws.{on_failure, passed}
+pub use Rattle.rtcm_bits.proofs.SmallLaws.{on_failure, passed}
 pub use Rattle.rtcm_convert.specs.Broken.{BrokeInPieces, FailedWriting, FailedWritingAtEnd, IsBroken, joined_pieces}
 pub use Rattle.rtcm_convert.specs.Conversion.{Completed, CompletedEmpty, CompletesEmptyFile, CompletesFile, Conversion, CutsAtLimit, FailsAtEnd, FailsAtPiece, FailsFeeding, FailsFinishing, HasConverted, HasFinished, IsGoing, IsPastLimit, LeftBy, RanToFault, RanToLimit, WritesAdded, kept_of, refusal}
 pub use Rattle.rtcm_convert.specs.inner.Conversion.{FinishesEmptyNow, FinishesNow, IsFit, KeepsNow, StopsAtEnd, TakesFromReader, TakesPiece, WritesPrefixOfAdded}

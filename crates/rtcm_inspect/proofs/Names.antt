@@ -40,7 +40,7 @@ pub use Rattle.devices.specs.Devices.{Devices, Ends, HaveFailedBy, ReaderFailure
 pub use Rattle.rtcm_bits.specs.FrameOf.{frame_bytes, longest_message, longest_message_bits}
 pub use Rattle.rtcm_bits.specs.Prefix.{IsPrefix}
 pub use Rattle.devices.specs.declared.counted.DeviceFailed.{DeviceFailed}
-pub use Rattle.rtcm_bits.specs.inner.SmallLaws.{of_ok, passed}
+pub use Rattle.rtcm_bits.proofs.SmallLaws.{of_ok, passed}
 pub use Rattle.rtcm_inspect.specs.Checking.{IsCheckedOr, ChecksFile, EndsCheck, IsFileWith, ReadsGaps, StopsCheck}
 unfoldable pub use Rattle.rtcm_inspect.specs.CheckOutput.{check_line, complete_line, gap_line}
 pub use Rattle.rtcm_inspect.specs.CheckOutput.{IsOutput, complete_if, gap_between, gaps_after, gaps_of, times_if}

@@ -3,7 +3,7 @@ use Rattle.std.proofs.Common.{ℕ, ◌≡◌, ◌+◌, ◌^◌, ◌<◌, ◌≤�
 use Rattle.std.proofs.lemmas.Bool.{cases_lt}
 use Rattle.std.proofs.lemmas.List.{take-append-drop, length-take-le}
 use Rattle.rtcm_msg.specs.inner.Names.{uint, number, Cursor, advanced, unsigned_at, MsgFault, Short, ◌>>=◌, number_at}
-use Rattle.rtcm_bits.specs.inner.BitLaws.{number-take-fits, uint-number}
+use Rattle.rtcm_bits.proofs.BitLaws.{number-take-fits, uint-number}
 
 pub bind_ok : {A B : Type 0} (r : Result A MsgFault) (f : A → Result B MsgFault) (y : B) → (r >>= f) ≡ Ok y → (x : A) × (r ≡ Ok x) × (f x ≡ Ok y)
 bind_ok r f y h = grind arith

@@ -5,7 +5,7 @@ use Rattle.std.proofs.lemmas.List.{length-map}
 use Rattle.std.proofs.Math.Nat.{div-eq_of_lt}
 use Rattle.std.proofs.lemmas.Nat.{shr_high, shr-shr, div-add-mod', mod_below, pow_pos}
 use Rattle.rtcm_msg.specs.inner.Names.{uint, Cursor, number_at, total_width, columns, column_at, columns_at, EachBelow}
-use Rattle.rtcm_bits.specs.inner.BitLaws.{uint-low}
+use Rattle.rtcm_bits.proofs.BitLaws.{uint-low}
 use Rattle.rtcm_msg.proofs.Binds.{bind_ok, ok_inj, number_consumed, Consumed}
 use Rattle.rtcm_msg.proofs.Combine.{cursor, number_again}
 

@@ -2,7 +2,7 @@
 use Rattle.std.proofs.Common.{ℕ, ◌≡◌, ◌+◌, ◌^◌, ◌<◌, ◌≤◌, Bool, List, ◌∷◌, ◌++◌, length, Result, Ok, Some, refl, ◌∙◌, arith, length-append}
 use Rattle.std.proofs.lemmas.List.{take_at, drop_at}
 use Rattle.rtcm_msg.specs.inner.Names.{uint, Cursor, MsgFault, number_at, ◌>>=◌, first_past}
-use Rattle.rtcm_bits.specs.inner.BitLaws.{length-uint, number_of-uint}
+use Rattle.rtcm_bits.proofs.BitLaws.{length-uint, number_of-uint}
 use Rattle.rtcm_msg.proofs.Binds.{number_there}
 
 -- ---- the fault

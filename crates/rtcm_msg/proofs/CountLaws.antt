@@ -7,7 +7,7 @@ use Rattle.std.proofs.lemmas.List.{length-map}
 use Rattle.std.proofs.lemmas.List.FromFn.{length-enumerate_from}
 use Rattle.std.specs.List.{flat_map, enumerate_from}
 use Rattle.rtcm_msg.specs.inner.Names.{Pair, MasksValue, AreMasks, pair_count, uint, up_from, ids, chosen, pair, all_pairs, cell_pairs}
-use Rattle.rtcm_bits.specs.inner.BitLaws.{length-uint, mod-suc}
+use Rattle.rtcm_bits.proofs.BitLaws.{length-uint, mod-suc}
 
 -- ---- the number of IDs
 

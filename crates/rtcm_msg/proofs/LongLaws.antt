@@ -5,7 +5,7 @@ use Rattle.std.proofs.lemmas.Nat.{ones-le, mul-le}
 use Rattle.std.proofs.lemmas.List.{length-drop, take-append-le, drop-append-le, take-append-drop, length-take-le}
 use Rattle.rtcm_msg.specs.inner.Names.{bits_of, number, MsgFault, Message, total_width, message_by, message_with, MsmSet, kind_with, ReadsMessage, IsFault, is_read_msm, set_of, layout_by, Kind, kind_of, is_msm_kind, has_bad_time, has_too_many, repeated, Form, satellite_widths, cell_widths}
 use Rattle.rtcm_bits.specs.FrameOf.{longest_message, longest_message_bits}
-use Rattle.rtcm_bits.specs.inner.BitLaws.{bits_of-append, length-bits_of, number-take-fits}
+use Rattle.rtcm_bits.proofs.BitLaws.{bits_of-append, length-bits_of, number-take-fits}
 use Rattle.rtcm_msg.specs.Encoding.{number_of}
 use Rattle.rtcm_msg.proofs.FieldLaws.{past_none, field_at}
 use Rattle.rtcm_msg.proofs.FaultLaws.{total-append, total-repeated, pair_count_of}

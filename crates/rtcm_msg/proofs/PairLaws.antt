@@ -8,7 +8,7 @@ use Rattle.std.proofs.lemmas.Nat.Bits.{and_pow}
 use Rattle.std.proofs.lemmas.Bool.{cases_lt}
 use Rattle.std.proofs.Math.Nat.{div-eq_of_lt}
 use Rattle.rtcm_msg.specs.inner.Names.{uint, Pair, up_from, ids, pair, chosen, MasksValue, AreMasks, pair_count, all_pairs_from, pairs_from, IndicesAreBelow, AreAll}
-use Rattle.rtcm_bits.specs.inner.BitLaws.{uint-low, pow_mono, length-uint}
+use Rattle.rtcm_bits.proofs.BitLaws.{uint-low, pow_mono, length-uint}
 use Rattle.rtcm_msg.proofs.CountLaws.{ids_count, pairs_count, cell_pairs_count}
 
 -- ---- the highest bit of a set

@@ -4,7 +4,7 @@ use Rattle.std.proofs.Common.{◌∙◌, arith, lit<, ◌⊎◌, inl, inr, nat_l
 use Rattle.std.proofs.lemmas.Nat.{mod-pow-add, shr_high, pow-add, pow_pos, mod_below}
 use Rattle.std.proofs.Math.Nat.{add-mul-div_right, add-mul-mod_self_right, mod-eq_of_lt, mul_assoc}
 use Rattle.rtcm_bits.specs.Bits.{bit, FitsInt}
-use Rattle.rtcm_bits.specs.inner.BitLaws.{raw_fits, raw-signed, signed-raw, signed-fits}
+use Rattle.rtcm_bits.proofs.BitLaws.{raw_fits, raw-signed, signed-raw, signed-fits}
 use Rattle.rtcm_msg.specs.Layout.{FieldKind, Uint, Int, Flag, Reserved, Table, width, widths, Content, Contents}
 use Rattle.rtcm_msg.specs.Layout.{number_of, content}
 use Rattle.rtcm_msg.specs.Packed.{total_width, packed, unpacked}

@@ -1,6 +1,6 @@
 use Rattle.std.proofs.Common.{ℕ, ◌≡◌, ◌≢◌, ◌+◌, ◌<◌, ◌≤◌, ◌==◌, ◌++◌, ◌∙◌, Bool, true, false, List, length, take, drop, nat_le, Some, None, refl, sym, ap, arith, lit≤}
 use Rattle.std.proofs.lemmas.List.{take-append-drop, length-take-le}
-use Rattle.rtcm_bits.specs.inner.BitLaws.{bits_of-append, length-bits_of}
+use Rattle.rtcm_bits.proofs.BitLaws.{bits_of-append, length-bits_of}
 use Rattle.rtcm_msg.specs.inner.Names.{bits_of, field_at}
 use Rattle.rtcm_msg.specs.Channels.{channel_of_1020}
 use Rattle.rtcm_msg.proofs.LongLaws.{field_more}

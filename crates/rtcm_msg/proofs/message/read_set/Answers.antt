@@ -2,7 +2,7 @@ use Rattle.std.proofs.Common.{ℕ, ◌/◌, ◌%◌, true, false, nat_le, ◌≡
 use Rattle.gnss_system.specs.declared.system.System.{System}
 use Rattle.gnss_system.specs.Satellites.{system_of_tens}
 use Rattle.rtcm_msg.specs.inner.Names.{bits_of, Cursor, cursor_at, field_at, set_at, set_in, is_any_msm}
-use Rattle.rtcm_bits.specs.inner.BitLaws.{length-bits_of}
+use Rattle.rtcm_bits.proofs.BitLaws.{length-bits_of}
 use Rattle.rtcm_msg.proofs.MessageLaws.{other_set}
 use Rattle.rtcm_msg.proofs.message.read_set.Goals as goal
 

@@ -1,5 +1,5 @@
 use Rattle.rtcm_bits.proofs.Names.{[], ◌∷◌, drop, arith, length-drop}
-use Rattle.rtcm_bits.specs.inner.SmallLaws.{of_ok}
+use Rattle.rtcm_bits.proofs.SmallLaws.{of_ok}
 use Rattle.rtcm_bits.proofs.LookLemmas.{view_grown}
 use Rattle.rtcm_bits.proofs.window.Window.push.Goals as goal
 
