@@ -4,7 +4,7 @@ use Rattle.std.proofs.Math.Seq.{split_at}
 use Rattle.std.proofs.lemmas.Map.Keys.{apart_from_distinct, IsDistinct-tail}
 use Rattle.std.proofs.lemmas.List.Elements.{All-head, All-tail}
 use Rattle.gnss_obs.specs.inner.Names.{System, SignalAt, IsSignal, PlanFault, UnknownCode, RepeatedCode, indices, IsOf, IsUnfitAfter, IsUnfit, IsMemoryFaultOr, MayAdd, BeginsWithOwn, list_any, IsDistinct}
-use Rattle.gnss_system.proofs.Checked.{flip_false}
+use Rattle.gnss_system.proofs.CheckedLaws.{flip_false}
 
 -- The first signal is of the system if those before one are, and this one.
 begin_own : (system : System) (ss : List SignalAt) (k : ℕ) (s : SignalAt) → k < length ss → s ≡ get_or ss k s → IsOf system (take k ss) → s.system ≡ system → BeginsWithOwn system ss

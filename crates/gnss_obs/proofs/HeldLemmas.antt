@@ -6,7 +6,7 @@ use Rattle.std.proofs.lemmas.List.{map-append}
 use Rattle.std.proofs.lemmas.Map.Keys.{IsDistinct-IsPermutation, IsDistinct-push}
 use Rattle.std.proofs.lemmas.Cmp.{nat_eq_equiv}
 use Rattle.std.specs.List.{IsDistinct}
-use Rattle.gnss_obs.proofs.OrderLemmas.{sort_moves}
+use Rattle.gnss_obs.proofs.OrderLaws.{sort_moves}
 use Rattle.gnss_obs.specs.Order.{AreSorted}
 use Rattle.gnss_obs.specs.declared.epoch_cells.Added.TheVariants.{Kept}
 use Rattle.std.specs.Prelude.{nat_le}

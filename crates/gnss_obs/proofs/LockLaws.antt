@@ -2,7 +2,7 @@
 use Rattle.std.proofs.Common.{rules, ℕ, ◌≡◌, ◌<◌, ◌≤◌, arith, refl, ap, get_or, ◌+◌, ◌*◌, ◌==◌, ◌||◌, nat_lt, Bool, true, false, Option, Some, None}
 use Rattle.gnss_obs.specs.LockTimes.{least4, least7, time_of, times7}
 use Rattle.gnss_obs.specs.declared.lock.TheConstants.{LEAST7}
-use Rattle.gnss_system.proofs.Checked.{passes_at, unless_less}
+use Rattle.gnss_system.proofs.CheckedLaws.{passes_at, unless_less}
 use Rattle.std.proofs.lemmas.Bool.{ltb-true, eqb-true}
 
 -- the steps of the indicators, each computed

@@ -7,7 +7,7 @@ use Rattle.std.proofs.lemmas.List.Elements.{All-head, All-tail}
 use Rattle.std.specs.List.{list_any, position_or_len, IsDistinct}
 use Rattle.gnss_system.specs.Signals.{SignalAt, IsSignal, most_signals}
 use Rattle.gnss_obs.specs.inner.SignalLists.{AreFound, AreRows, IsOf}
-use Rattle.gnss_obs.proofs.PlanLemmas.{indices-push, is_of-push}
+use Rattle.gnss_obs.proofs.PlanLaws.{indices-push, is_of-push}
 use Rattle.std.proofs.lemmas.Grind.{common_steps}
 use Rattle.std.proofs.lemmas.List.Quantifiers.{position-Some}
 use Rattle.std.proofs.lemmas.Option.{slice_get-get_or}

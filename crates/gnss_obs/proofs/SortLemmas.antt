@@ -9,8 +9,8 @@ use Rattle.std.proofs.lemmas.Map.Keys.{apart_from_distinct, IsDistinct-head, IsD
 use Rattle.gnss_obs.specs.Order.{Rise, RiseTo}
 use Rattle.gnss_obs.specs.inner.Names.{AreBelow, AreHeld, AreKept, AreOrderedBy, IsPlanned, Cell, IsHeld, IsOf, IsSignal, SignalAt, System, has_slot, indices, IsDistinct, slot, table, place_in, SortKey, is_before, SortKeysRise, insert_by, cell_sort_key, sorted_cells, cell_number, option_map_or, AllByRecursion}
 use Rattle.gnss_obs.proofs.HeldLemmas.{low_index}
-use Rattle.gnss_obs.proofs.OrderLemmas.{Before, Differ, sort_moves, sorted_rise}
-use Rattle.gnss_obs.proofs.PlanLemmas.{few_signals, length_indices}
+use Rattle.gnss_obs.proofs.OrderLaws.{Before, Differ, sort_moves, sorted_rise}
+use Rattle.gnss_obs.proofs.PlanLaws.{few_signals, length_indices}
 use Rattle.std.proofs.lemmas.Grind.{common_steps}
 
 -- ---- numbers of cells

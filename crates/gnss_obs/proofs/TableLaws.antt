@@ -8,7 +8,7 @@ use Rattle.gnss_system.proofs.SystemLaws.{each_system}
 use Rattle.gnss_obs.specs.inner.Names.{System, SignalAt, IsSignal, after, greatest_signal_id, id_of, signal_of_id, table, rows}
 use Rattle.std.proofs.lemmas.Grind.{common_steps}
 use Rattle.gnss_obs.proofs.SortLemmas.{table_few}
-use Rattle.gnss_system.proofs.Checked.{passes_at, passes_below}
+use Rattle.gnss_system.proofs.CheckedLaws.{passes_at, passes_below}
 use Rattle.std.proofs.lemmas.Bool.{and_parts, ltb-true, eqb-true}
 
 -- the ID of a row is below the next one

@@ -4,7 +4,7 @@ use Rattle.std.specs.List.{list_all, list_any, sum_by}
 use Rattle.std.specs.Option.{option_map_or}
 use Rattle.std.specs.Prelude.{suc, ◌≤◌, find, Option, None, Some, take, nat_lt, if◌then◌else◌}
 use Rattle.std.proofs.lemmas.List.Sums.{sum_by-cons}
-use Rattle.gnss_system.proofs.Checked.{passes_at}
+use Rattle.gnss_system.proofs.CheckedLaws.{passes_at}
 use Rattle.std.proofs.lemmas.Grind.{common_steps}
 use Rattle.gnss_system.specs.declared.system.System.{System}
 use Rattle.gnss_system.specs.declared.system.System.TheVariants.{Gps, Galileo, Glonass, Beidou, Qzss, Sbas}

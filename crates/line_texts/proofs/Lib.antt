@@ -1,4 +1,4 @@
 pub mod Names
-pub mod LineLemmas
-pub mod LengthLemmas
-pub mod ChannelLemmas
+pub mod LineLaws
+pub mod LengthLaws
+pub mod ChannelLaws

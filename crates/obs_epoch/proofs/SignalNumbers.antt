@@ -4,7 +4,7 @@ use Rattle.std.proofs.lemmas.Bool.{cases_lt, not-true, eqb-true}
 use Rattle.std.proofs.lemmas.Grind.{common_steps}
 use Rattle.std.proofs.lemmas.List.Quantifiers.{position-Some}
 use Rattle.obs_epoch.specs.inner.Names.{System, ListedSignal, Satellite, is_system, satellite_of_id, SignalAt, IsSignal, id_of, table, signal_of_id, HeardCell, Entry, has_id, is_in, has_listed_value, value_count, seen_in, lock_by, observed, SignalCountsValue, signal_counts, counted, signal_in, counted_more, satellite_set, brings_value, is_of_signal, count_of, CountsEntries, cons_option, option_map_or, Form}
-use Rattle.gnss_system.proofs.Checked.{passes_at, passes_below}
+use Rattle.gnss_system.proofs.CheckedLaws.{passes_at, passes_below}
 use Rattle.gnss_obs.proofs.TableLaws.{id_back, ids_within}
 use Rattle.rtcm_msg.proofs.ValueLaws.{count_first}
 use Rattle.obs_epoch.proofs.SignalCountsLemmas.{every_hertz, value_same, one_first, few_of}

@@ -16,7 +16,7 @@ use mathlib.Core.Bool.{beq, not}
 use Rattle.obs_epoch.proofs.HeardLemmas.{heard_step}
 use Rattle.gnss_obs.specs.declared.epoch_cells.Added.TheVariants as added
 use Rattle.std.proofs.lemmas.List.Sorted.{list_any-IsPermutation, length_permutation}
-use Rattle.gnss_obs.proofs.OrderLemmas.{sort_moves}
+use Rattle.gnss_obs.proofs.OrderLaws.{sort_moves}
 use Rattle.std.proofs.lemmas.Grind.{common_steps}
 
 -- ---- one more cell

@@ -1,2 +1,2 @@
 pub mod Names
-pub mod NumberLemmas
+pub mod NumberLaws

@@ -1,7 +1,7 @@
 -- The lines of a file value are lines, and none is longer than the largest line that is read.
 use Rattle.rinex_file.proofs.Rows.Sizes.{small_value, length-value, strength_fits, few_numbers}
 use Rattle.rinex_file.proofs.Rows.Trimmed.{filled, length-trimmed}
-use Rattle.rinex_columns.proofs.NumberLemmas.{has-append, has-right, lacks-padded, length-right, length-padded}
+use Rattle.rinex_columns.proofs.NumberLaws.{has-append, has-right, lacks-padded, length-right, length-padded}
 use Rattle.rinex_file.proofs.FewRows.{few_most, few_rows}
 use Rattle.rinex_file.proofs.PlainTexts.{clean-fixed, IsPlain, plain-append, plain-padded, plain, plain-flat_map, plain-joined, also}
 use Rattle.rinex_file.proofs.Reading.Epochs.{few_signals_of}

@@ -1,10 +1,10 @@
 -- The names that proofs cite, passed on from one place. Declares nothing.
 pub use Rattle.arrayvec.specs.ArrayVec.{array_vec_len}
-pub use Rattle.gnss_system.proofs.Checked.{flip_false, passes_at}
+pub use Rattle.gnss_system.proofs.CheckedLaws.{flip_false, passes_at}
 pub use Rattle.gnss_system.proofs.SystemLaws.{short_table}
 pub use Rattle.std.proofs.lemmas.Bool.{eqb-true as is_equal, leb-true as at_most, ltb-true as is_less}
-pub use Rattle.gnss_obs.proofs.GroupLemmas.{Above, Climb, Left, all_above, left_all, sorted_climbs}
-pub use Rattle.gnss_obs.proofs.PlanLemmas.{any_index, few_signals, indices-push, length_indices, none_of}
+pub use Rattle.gnss_obs.proofs.GroupLaws.{Above, Climb, Left, all_above, left_all, sorted_climbs}
+pub use Rattle.gnss_obs.proofs.PlanLaws.{any_index, few_signals, indices-push, length_indices, none_of}
 pub use Rattle.gnss_obs.specs.Channels.{AreChannels, ChannelsValue, most_number, no_channels, slot_count, with_number}
 pub use Rattle.gnss_obs.specs.Dates.{IsCivilOf, civil_of}
 pub use Rattle.gnss_obs.specs.GatheredEpochs.{AreGathered, AreGatheredEpochs, AreStationValues, IsCoordinate, IsGathered, IsGatheredEpoch, TimesRise, same_place}

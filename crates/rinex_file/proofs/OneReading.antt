@@ -1,6 +1,6 @@
 -- A text is that of one value: of a field, of a signal, and of a satellite.
 use Rattle.rinex_file.proofs.Rows.Trimmed.{fill-trimmed, length-trimmed, trimmed-front}
-use Rattle.rinex_columns.proofs.NumberLemmas.{has-append, has-right, length-right, number_in-fixed}
+use Rattle.rinex_columns.proofs.NumberLaws.{has-append, has-right, length-right, number_in-fixed}
 use Rattle.rinex_file.proofs.Digits.Padded.{two_digits}
 use Rattle.rinex_file.proofs.Fields.Lanes.{lane_is}
 use Rattle.rinex_file.proofs.HeaderRows.Texts.{trimmed-trimmed}

@@ -1,7 +1,7 @@
 pub mod Names
 pub mod SmallLaws
 pub mod BitLaws
-pub mod ListLemmas
+pub mod ListLaws
 pub mod BitLemmas
 pub mod PartLemmas
 pub mod WriteLemmas
@@ -13,8 +13,8 @@ pub mod ResidueLemmas
 pub mod TableLemmas
 pub mod SumLemmas
 pub mod EntryLemmas
-pub mod WordLemmas
-pub mod WindowLemmas
+pub mod WordLaws
+pub mod WindowLaws
 pub mod LookLemmas
 pub mod Examples
 pub mod FoldLemmas

@@ -1,6 +1,6 @@
 -- The counts of looks of a window. Only the first ones are stored.
 use Rattle.rtcm_bits.proofs.Names.{◌≡◌, ℕ, ◌+◌, ◌-◌, ◌<◌, ◌≤◌, min, max, List, [], ◌∷◌, ◌++◌, length, drop, replicate, slice_index, slice_set, refl, sym, ap, ◌∙◌, arith, suc, zero, length-append, length-drop, append_assoc, ⊎_elim, drop-append-le, drop-replicate, drop-set-lt, get_or-append-add, get_or-append_right, get_or_append_left, get_or-replicate, get_or-set_other, length-replicate, replicate-append-replicate, set-append_left, cases_lt, drop-append-add, get_or-append_seam, set-append_seam, Buffer, buffer, WindowValue, held_of, filled_up, counts_alone, looked_through, pushed_all, without_front}
-use Rattle.rtcm_bits.proofs.WindowLemmas.{AgreeFrom, looked_length, shifted, through_counts}
+use Rattle.rtcm_bits.proofs.WindowLaws.{AgreeFrom, looked_length, shifted, through_counts}
 
 -- the sums of a window before and after looks at k bytes: e and e' count all looks, m is the largest count after them
 pub record AreSums (e e' k m largest : ℕ) : Type 0 where

@@ -42,7 +42,7 @@ pub use Rattle.rtcm_convert.specs.declared.fault.Fault.{Fault}
 pub use Rattle.rtcm_convert.specs.declared.fault.Fault.TheVariants.{BadSetup, Failed, Finished, Memory, NoEpoch, NoneChosen, Read, TooLong, Write}
 pub use Rattle.rtcm_convert.specs.declared.report.Report.{Report}
 pub use Rattle.rtcm_convert.specs.declared.setup.Setup.{Setup}
-pub use Rattle.line_texts.proofs.LineLemmas.{add_count, add_text, add_word, end_line}
+pub use Rattle.line_texts.proofs.LineLaws.{add_count, add_text, add_word, end_line}
 pub use Rattle.rtcm_bits.proofs.SmallLaws.{passed, wrapped}
 pub use Rattle.rtcm_inspect.specs.Fitting.{height_text, position_text}
 pub use Rattle.rtcm_inspect.specs.Printing.{PrintsLine, PrintsSome}

@@ -6,7 +6,7 @@ use Rattle.std.proofs.Common.{min}
 use Rattle.std.specs.List.{reduce}
 use Rattle.rtcm_inspect.specs.declared.fault.InspectFault.TheVariants.{Check, Write}
 use Rattle.rtcm_inspect.proofs.CheckLemmas.{none_written, refused}
-use Rattle.line_texts.proofs.LineLemmas.{add_text, end_line}
+use Rattle.line_texts.proofs.LineLaws.{add_text, end_line}
 use Rattle.rtcm_inspect.proofs.PrintingLemmas.{longer_part, printed_after, printed_later}
 use Rattle.rtcm_inspect.proofs.Names.{CheckOptions, EndsCheck, IsOutput, inl, lt-ltb, ⊤, AppendsPrefix, AreCounts, AreTimes, AreTimesOrNone, EpochTimes, FileValue, IfSome, IsCheckedOr, IsFileValue, ap₂, check_line, complete_if, IfSome_then, IsDelivered, ReadsGaps, append_assoc, file_lines, file_text, inr, length, most_lines, steps_of, times_if, ◌≡◌, ◌∙◌, ◌+◌, ◌<◌, ◌≤◌, ◌∷◌, ◌++◌, [], ap, arith, append-nil, codes, cond, refl, subst, sym, ℕ, List, Option, Some, None, Bool, Devices, Writer, EndsPrinting, Err, FileSummary, IsSummaryOf, InspectFault, IsPrefix, LeavesRest, Ok, PrintsText, ReadsEpoch, Result, Stamped, gap_between, gap_line, gaps_of, map, moment_words, time_stamped, with_words, gaps_after, option_map, map-append}
 

@@ -1,6 +1,6 @@
 -- Lengths that are read back.
 use Rattle.std.proofs.Common.{◌≡◌, ◌∙◌, ◌<◌, ◌+◌, ◌^◌, ◌==◌, ◌++◌, ℕ, ℤ, pos, negsuc, neg_ℤ, suc, true, not, List, ◌∷◌, Option, Some, None, IfSome, option_map, arith, refl, ap}
-use Rattle.line_texts.proofs.LengthLemmas.{cut_first, size_below, size_unsigned, size_whole}
+use Rattle.line_texts.proofs.LengthLaws.{cut_first, size_below, size_unsigned, size_whole}
 use Rattle.rtcm_inspect.proofs.Names.{list_all, option_map_or, FitsInt, InRange, StationParts, height_text, position_text, coordinate_by, coordinate_of, cut, length_below, position_of, metres, size_text, coordinate_bound}
 
 pub coordinate_read : (z : ℤ) → FitsInt 38 z → coordinate_of (metres z) ≡ Some z

@@ -1,5 +1,5 @@
 -- The plan of the signals of a stream has a column for each of its values, and their line is parsed as that plan.
-use Rattle.line_texts.proofs.LineLemmas.{first_code, is_comma, last_code}
+use Rattle.line_texts.proofs.LineLaws.{first_code, is_comma, last_code}
 use Rattle.rtcm_inspect.proofs.SignalLemmas.{any_filter, own_signal}
 use Rattle.gnss_system.specs.declared.tables.ListedSignal as tables
 use Rattle.rtcm_inspect.proofs.Names.{None, if◌then◌else◌, lt-ltb, ltb-true, ◌≡◌, ℕ, zero, suc, ◌+◌, ◌<◌, ◌≤◌, ◌==◌, ◌&&◌, ◌||◌, Bool, true, false, not, List, [], ◌∷◌, ◌++◌, length, refl, sym, ap, ap₂, ◌∙◌, subst, arith, filter, map, All, Some, Result, Ok, Err, nat_eq, get_or, append-nil, append_assoc, is_some, ◌≢◌, AllPass-from_list_all, common_steps, list_all, nat_tests, option_map_or, slice_get, slice_get-get_or, cond, nat_lt, position, list_any, position_or_len, bytes_eq, filter-append, list_any-append, System, SignalAt, IsSignal, table, code_of, signal_of_code, PlanFault, RepeatedCode, is_planned, has_listed_key, GatherSetup, HeardCell, IsKey, below, place_in, between_commas, one_signal_more, signals_after, signals_of, plan_of, planned_of, is_of_signal, count_of, signal_in, had, plan_had, plan_with, ChannelsValue, code_list, codes_word}

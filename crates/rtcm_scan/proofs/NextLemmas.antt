@@ -1,6 +1,6 @@
 -- The state after the steps of `next`.
 use Rattle.rtcm_scan.proofs.Names.{ℕ, ◌≡◌, ◌+◌, ◌-◌, ◌<◌, ◌≤◌, true, false, List, [], ◌∷◌, ◌++◌, length, refl, sym, ap, ◌∙◌, arith, subst, length-drop, nil_from_length, begins_frame, is_open, frame_length, framed_message, Framed, looked_through, without_front, FramerValue, HasFramed, first_held, IsPassed, window_of, with_window, asked, with_candidate_examined, passed, HasExamined, IsCountedTo, message_length, IsDrained}
-use Rattle.rtcm_bits.proofs.WindowLemmas.{looked_bytes}
+use Rattle.rtcm_bits.proofs.WindowLaws.{looked_bytes}
 use Rattle.rtcm_scan.proofs.StepLemmas.{step_examined, step_give_up, step_take}
 use Rattle.rtcm_scan.proofs.KnownLemmas.{AreKnownCounts, counted_empty, counted_open, counted_frame}
 use Rattle.rtcm_scan.proofs.FrameLemmas.{length-message, begins_parts}

@@ -4,7 +4,7 @@ use Rattle.rtcm_scan.proofs.FrameLemmas.{none_without}
 use Rattle.rtcm_scan.proofs.CandidateLemmas.{taken_more}
 use Rattle.rtcm_scan.proofs.NextLemmas.{counts_passed}
 use Rattle.rtcm_scan.proofs.HistoryLemmas.{view_dropped}
-use Rattle.rtcm_bits.proofs.WindowLemmas.{looked_bytes, looked_left, looked_on, looked_past, looked_to}
+use Rattle.rtcm_bits.proofs.WindowLaws.{looked_bytes, looked_left, looked_on, looked_past, looked_to}
 use Rattle.rtcm_scan.proofs.StepLemmas.{step_examined_to}
 
 -- the first byte by itself, and then the others

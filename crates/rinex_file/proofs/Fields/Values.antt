@@ -1,5 +1,5 @@
 -- The value in the columns of a field: only its template leaves the digits of a size whose first digit is in its place.
-use Rattle.rinex_columns.proofs.NumberLemmas.{not_negative}
+use Rattle.rinex_columns.proofs.NumberLaws.{not_negative}
 use Rattle.rinex_file.proofs.Digits.Padded.{empty_columns}
 use Rattle.rinex_file.proofs.Fields.Columns.{blank_columns, last_minus, empty_columns_are, field_text, within_columns}
 use Rattle.rinex_file.proofs.Fields.Lanes.{taken, below_at, added_back, taken_back, template_below, tenth_below}

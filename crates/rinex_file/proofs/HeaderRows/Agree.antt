@@ -1,6 +1,6 @@
 -- Version, position and height are read back from their lines; the lines of a header up to a row and from it on.
 use Rattle.std.proofs.lemmas.Grind.{flat_map-append}
-use Rattle.rinex_columns.proofs.NumberLemmas.{number_in-fixed, digits_in-right, digits_in-fixed, length-fixed, length-right, length-sign}
+use Rattle.rinex_columns.proofs.NumberLaws.{number_in-fixed, digits_in-right, digits_in-fixed, length-fixed, length-right, length-sign}
 use Rattle.rinex_file.proofs.Reading.Dates.{IsField, AreFields, field_at}
 use Rattle.rinex_file.proofs.HeaderRows.Types.{content_first}
 use Rattle.std.proofs.Math.Nat.{mod-eq_of_lt}

@@ -3,7 +3,7 @@ use Rattle.rinex_file.proofs.Reading.Epochs.{few_signals_of}
 use Rattle.rinex_file.proofs.HeaderRows.Agree.{split_at, less_or}
 use Rattle.gnss_system.proofs.SystemLaws.{equal_values, value_tabulated}
 use Rattle.gnss_system.specs.SystemValues.{tabulate, value_of}
-use Rattle.gnss_obs.proofs.PlanLemmas.{few_below, listed_by}
+use Rattle.gnss_obs.proofs.PlanLaws.{few_below, listed_by}
 use Rattle.gnss_system.proofs.SystemLaws.{short_table}
 use Rattle.rinex_file.proofs.HeaderRows.Letters.{same_flags}
 use Rattle.rinex_file.proofs.HeaderRows.Some.{SomeShown, some_shown}

@@ -1,5 +1,5 @@
 -- The rows of types and of slots, and where they are.
-use Rattle.gnss_system.proofs.Checked.{passes_below}
+use Rattle.gnss_system.proofs.CheckedLaws.{passes_below}
 use Rattle.gnss_system.proofs.SystemLaws.{each_system, system_same}
 use Rattle.rinex_file.proofs.HeaderRows.Agree.{placed}
 use Rattle.rinex_file.proofs.PlainTexts.{both}

@@ -1,7 +1,7 @@
 -- The lines of a header are lines, and none is longer than the largest line that is read.
 use Rattle.gnss_system.specs.declared.tables.ListedSignal.{ListedSignal as TableEntry}
 use Rattle.gnss_obs.specs.Weeks.{day as day_length}
-use Rattle.gnss_obs.proofs.WalkLemmas.{date_of_is, hours}
+use Rattle.gnss_obs.proofs.WalkLaws.{date_of_is, hours}
 use Rattle.gnss_obs.specs.Dates.{IsCivil}
 use Rattle.rinex_file.proofs.HeaderRows.Agree.{at_most_a_day}
 use Rattle.rinex_file.proofs.Reading.Epochs.{few_signals_of}

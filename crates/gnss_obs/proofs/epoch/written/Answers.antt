@@ -1,6 +1,6 @@
 use Rattle.std.proofs.Common.{◌≡◌, ◌≤◌, ◌∙◌, arith, length, subst, sym}
 use Rattle.gnss_system.specs.Satellites.{satellites as satellites_in}
-use Rattle.gnss_obs.proofs.GroupLemmas.{all_counted, counted_after, counted_all}
+use Rattle.gnss_obs.proofs.GroupLaws.{all_counted, counted_after, counted_all}
 use Rattle.gnss_obs.proofs.epoch.written.Goals as goal
 
 count_is : (c : goal.After-loop-i) → c.loop-i.count ≡ counted_after 0 c.args.cells.now

@@ -1,5 +1,5 @@
 use Rattle.std.proofs.Common.{◌≡◌, ◌+◌, ◌≤◌, drop}
-use Rattle.gnss_obs.proofs.GroupLemmas.{counted_after}
+use Rattle.gnss_obs.proofs.GroupLaws.{counted_after}
 use Rattle.gnss_obs.proofs.epoch.written.Given as goal
 
 abbrev pub invariant-loop-i : goal.invariant-loop-i

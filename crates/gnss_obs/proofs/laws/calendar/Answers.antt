@@ -1,7 +1,7 @@
 use Rattle.std.proofs.Common.{arith, ◌≡◌, ℕ, ◌+◌, ◌*◌, ◌/◌, ◌%◌, ◌≤◌, pos}
 use Rattle.jiff_core.specs.Calendar.{IsCivilDate}
 use Rattle.gnss_obs.specs.Dates.{date_of}
-use Rattle.gnss_obs.proofs.WalkLemmas.{date_of_is, hours}
+use Rattle.gnss_obs.proofs.WalkLaws.{date_of_is, hours}
 use Rattle.gnss_obs.proofs.laws.calendar.Goals as goal
 use Rattle.std.proofs.lemmas.Grind.{common_steps}
 

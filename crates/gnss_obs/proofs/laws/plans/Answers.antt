@@ -5,7 +5,7 @@ use Rattle.std.specs.List.{list_any, IsDistinct}
 use Rattle.std.proofs.lemmas.Cmp.{nat_eq_equiv}
 use Rattle.std.proofs.lemmas.Map.Keys.{IsDistinct-push}
 use Rattle.gnss_obs.specs.inner.Names.{System, SignalAt, signal_of_code, PlanFault, RepeatedCode, signals_after, one_signal_more, CodesNameSignals}
-use Rattle.gnss_obs.proofs.PlanLemmas.{of_where}
+use Rattle.gnss_obs.proofs.PlanLaws.{of_where}
 use Rattle.gnss_obs.proofs.laws.plans.Goals as goal
 use Rattle.std.proofs.lemmas.Grind.{common_steps}
 

@@ -1,5 +1,5 @@
 use Rattle.std.proofs.lemmas.Result.{err_from_is_err_and}
-use Rattle.gnss_obs.proofs.PlanLemmas.{none_of}
+use Rattle.gnss_obs.proofs.PlanLaws.{none_of}
 use Rattle.gnss_obs.proofs.FitLemmas.{unfit_at}
 use Rattle.gnss_obs.proofs.plan.add_signals.Goals as goal
 

@@ -2,7 +2,7 @@ use denote.Shadow.{shadow}
 use denote.Text.{Utf8}
 use Rattle.std.proofs.Common.{◌≡◌, [], length}
 use Rattle.gnss_obs.specs.inner.Names.{indices, IsOf, signals_after, between_commas}
-use Rattle.gnss_obs.proofs.PlanLemmas.{IsFirstRead}
+use Rattle.gnss_obs.proofs.PlanLaws.{IsFirstRead}
 use Rattle.gnss_obs.proofs.plan.read_codes.Given as goal
 
 -- The rest of the codes gives what all codes do.

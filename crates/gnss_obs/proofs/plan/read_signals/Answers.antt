@@ -1,4 +1,4 @@
-use Rattle.gnss_obs.proofs.PlanLemmas.{when_codes, when_none}
+use Rattle.gnss_obs.proofs.PlanLaws.{when_codes, when_none}
 use Rattle.gnss_obs.proofs.plan.read_signals.Goals as goal
 
 pub returns-in-none : goal.returns-in-none

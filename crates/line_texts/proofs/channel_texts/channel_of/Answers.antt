@@ -1,4 +1,4 @@
-use Rattle.line_texts.proofs.LengthLemmas.{no_sign}
+use Rattle.line_texts.proofs.LengthLaws.{no_sign}
 use Rattle.line_texts.proofs.Names.{arith, rules, strip_prefix_char}
 use Rattle.line_texts.proofs.channel_texts.channel_of.Goals as goal
 

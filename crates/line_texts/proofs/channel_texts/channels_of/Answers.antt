@@ -1,5 +1,5 @@
-use Rattle.gnss_obs.proofs.PlanLemmas.{first_none, first_some}
-use Rattle.line_texts.proofs.ChannelLemmas.{entry_last, entry_refused, entry_taken}
+use Rattle.gnss_obs.proofs.PlanLaws.{first_none, first_some}
+use Rattle.line_texts.proofs.ChannelLaws.{entry_last, entry_refused, entry_taken}
 use Rattle.line_texts.proofs.Names.{◌∙◌, rules, sym}
 use Rattle.line_texts.proofs.channel_texts.channels_of.Goals as goal
 

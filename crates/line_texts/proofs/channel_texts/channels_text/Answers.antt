@@ -1,6 +1,6 @@
 use Rattle.std.proofs.lemmas.List.{take_all}
 use Rattle.line_texts.specs.ChannelTexts.{after_comma, channels_text, slot_text}
-use Rattle.line_texts.proofs.ChannelLemmas.{number_here, slot_none, slot_short, slot_some}
+use Rattle.line_texts.proofs.ChannelLaws.{number_here, slot_none, slot_short, slot_some}
 use Rattle.line_texts.proofs.channel_texts.channels_text.Goals.{in-Some, in_default}
 use Rattle.line_texts.proofs.Names.{◌≡◌, ◌∙◌, ◌+◌, ◌<◌, ℕ, List, None, Some, ap, arith, get_or, length, sym}
 use Rattle.line_texts.proofs.channel_texts.channels_text.Goals as goal

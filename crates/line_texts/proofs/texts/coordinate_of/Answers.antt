@@ -1,4 +1,4 @@
-use Rattle.line_texts.proofs.LengthLemmas.{no_sign}
+use Rattle.line_texts.proofs.LengthLaws.{no_sign}
 use Rattle.line_texts.proofs.Names.{arith, rules, strip_prefix_char}
 use Rattle.line_texts.proofs.texts.coordinate_of.Goals as goal
 

@@ -1,4 +1,4 @@
-use Rattle.line_texts.proofs.LengthLemmas.{number_parsed}
+use Rattle.line_texts.proofs.LengthLaws.{number_parsed}
 use Rattle.line_texts.proofs.Names.{◌^◌, ◌<◌, ◌∙◌, arith, sym, subst, true≢false, ℕ, Option, IfSome, starts_char}
 use Rattle.line_texts.proofs.texts.number_of.Goals as goal
 

@@ -1,5 +1,5 @@
 use Rattle.std.proofs.Common.{◌∙◌, rules, sym}
-use Rattle.line_texts.proofs.LengthLemmas.{no_time}
+use Rattle.line_texts.proofs.LengthLaws.{no_time}
 use Rattle.line_texts.proofs.texts.time_of.Goals as goal
 
 pub returns : goal.returns

@@ -1,4 +1,4 @@
-use Rattle.rinex_columns.proofs.NumberLemmas.{ten_pow}
+use Rattle.rinex_columns.proofs.NumberLaws.{ten_pow}
 use Rattle.rinex_columns.proofs.Names.{arith, common_steps}
 use Rattle.rinex_columns.proofs.write.put_fixed.Goals as goal
 

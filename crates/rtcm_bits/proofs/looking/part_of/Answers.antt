@@ -1,5 +1,5 @@
 use Rattle.rtcm_bits.proofs.Names.{rules}
-use Rattle.rtcm_bits.proofs.WindowLemmas.{range_past}
+use Rattle.rtcm_bits.proofs.WindowLaws.{range_past}
 use Rattle.rtcm_bits.proofs.looking.part_of.Goals as goal
 
 pub returns-clause-bytes : goal.returns-clause-bytes

@@ -1,5 +1,5 @@
 use Rattle.rtcm_bits.proofs.Names.{◌≡◌, ◌-◌, length, sym, ap, ◌∙◌, arith, length-drop}
-use Rattle.rtcm_bits.proofs.ListLemmas.{when_ok}
+use Rattle.rtcm_bits.proofs.ListLaws.{when_ok}
 use Rattle.rtcm_bits.proofs.looking.spell_out.Goals as goal
 
 pub returns-clause-size : goal.returns-clause-size

@@ -1,4 +1,4 @@
-use Rattle.rtcm_bits.proofs.WordLemmas.{part_of_a_word}
+use Rattle.rtcm_bits.proofs.WordLaws.{part_of_a_word}
 use Rattle.rtcm_bits.proofs.reader.bits_in_word.Goals as goal
 
 pub returns : goal.returns

@@ -1,5 +1,5 @@
 use Rattle.rtcm_bits.proofs.Names.{ℕ, List, Bool, ◌≡◌, ◌+◌, ◌-◌, ◌*◌, ap, ◌∙◌, arith, drop, take, bits_of, number}
-use Rattle.rtcm_bits.proofs.WordLemmas.{in_nine}
+use Rattle.rtcm_bits.proofs.WordLaws.{in_nine}
 use Rattle.rtcm_bits.proofs.reader.number_in_nine.Goals as goal
 
 pub overflow_add-result : goal.overflow_add-result

@@ -1,5 +1,5 @@
 use Rattle.rtcm_bits.proofs.Names.{◌+◌, ◌-◌, arith}
-use Rattle.rtcm_bits.proofs.WordLemmas.{word_of_range}
+use Rattle.rtcm_bits.proofs.WordLaws.{word_of_range}
 use Rattle.rtcm_bits.proofs.reader.word_at.Goals as goal
 
 pub returns : goal.returns

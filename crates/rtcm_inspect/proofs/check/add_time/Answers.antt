@@ -1,4 +1,4 @@
-use Rattle.line_texts.proofs.LineLemmas.{add_text, end_line}
+use Rattle.line_texts.proofs.LineLaws.{add_text, end_line}
 use Rattle.rtcm_inspect.proofs.Names.{◌≡◌, ◌∙◌, ◌+◌, [], ◌∷◌, ◌++◌, ℕ, List, ap, arith, length, length-append, refl, moment_words, time_line, with_words}
 use Rattle.rtcm_inspect.proofs.check.add_time.Goals as goal
 

@@ -1,5 +1,5 @@
 use Rattle.rtcm_inspect.proofs.GapLemmas.{one_gap}
-use Rattle.line_texts.proofs.LineLemmas.{add_text}
+use Rattle.line_texts.proofs.LineLaws.{add_text}
 use Rattle.rtcm_inspect.proofs.Names.{◌≡◌, ◌∙◌, ap, arith, length, option_map, refl, subst, EndsPrinting, List, ℕ, writer_of}
 use Rattle.rtcm_inspect.proofs.check.print_gap.Goals as goal
 

@@ -1,4 +1,4 @@
-use Rattle.line_texts.proofs.ChannelLemmas.{channels_read}
+use Rattle.line_texts.proofs.ChannelLaws.{channels_read}
 use Rattle.rtcm_inspect.proofs.FirstChannelLemmas.{first_channels}
 use Rattle.rtcm_inspect.proofs.StreamChannelLemmas.{stream_channels}
 use Rattle.rtcm_inspect.proofs.laws.channels.Goals as goal

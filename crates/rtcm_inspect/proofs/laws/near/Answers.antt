@@ -1,4 +1,4 @@
-use Rattle.line_texts.proofs.LengthLemmas.{week_read}
+use Rattle.line_texts.proofs.LengthLaws.{week_read}
 use Rattle.rtcm_inspect.proofs.LeapLemmas.{leap_free}
 use Rattle.rtcm_inspect.proofs.RangeLemmas.{below_week}
 use Rattle.rtcm_inspect.proofs.SetLemmas.{SetLaws}

@@ -1,5 +1,5 @@
 use Rattle.rtcm_inspect.proofs.SignalLemmas.{decodes_had}
-use Rattle.line_texts.proofs.LineLemmas.{words_after}
+use Rattle.line_texts.proofs.LineLaws.{words_after}
 use Rattle.rtcm_inspect.proofs.Names.{◌≡◌, ◌∙◌, ◌&&◌, ◌++◌, ◌∷◌, [], ℕ, Bool, true, false, ChannelsValue, List, Option, append-nil, ap, ap₂, arith, codes, further_words, if◌then◌else◌, length, nat_lt, not, refl, sym, codes_word, had, plan_had, System, with_words, HeardCell}
 use Rattle.gnss_system.specs.declared.system.System.TheVariants as system
 use Rattle.gnss_system.specs.Satellites.{name_of}

@@ -1,4 +1,4 @@
-use Rattle.line_texts.proofs.LineLemmas.{add_text, add_word}
+use Rattle.line_texts.proofs.LineLaws.{add_text, add_word}
 use Rattle.rtcm_inspect.proofs.Names.{◌∙◌, ◌++◌, ℕ, Option, ap, codes, refl, rules, valued_in, number_start}
 use Rattle.rtcm_inspect.proofs.options.first_words.Goals as goal
 

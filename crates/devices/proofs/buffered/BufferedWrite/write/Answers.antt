@@ -1,6 +1,6 @@
 use Rattle.devices.proofs.Names.{◌≡◌, false, sym, ap, ◌∙◌, rules, append_known-grown, Keeps-refl}
 use Rattle.devices.proofs.BufferLemmas.{one_more}
-use Rattle.rtcm_bits.proofs.ListLemmas.{when_ok}
+use Rattle.rtcm_bits.proofs.ListLaws.{when_ok}
 use Rattle.devices.proofs.buffered.BufferedWrite.write.Goals.{then-self+in_ok-write_out, else-self+else-len-eq-BUFFER_BYTES}
 use Rattle.devices.proofs.buffered.BufferedWrite.write.Goals as goal
 

@@ -2,7 +2,7 @@ use Rattle.std.proofs.Common.{ℕ, ◌≡◌, ◌∙◌, false, nat_lt, sym, ari
 use Rattle.gnss_obs.specs.inner.Names.{cells_of}
 use Rattle.gnss_obs.specs.Values.{written_among}
 use Rattle.gnss_system.specs.Satellites.{satellites as satellites_in}
-use Rattle.gnss_obs.proofs.GroupLemmas.{some_counted}
+use Rattle.gnss_obs.proofs.GroupLaws.{some_counted}
 use Rattle.gnss_system.proofs.SystemLaws.{below_next, below_all, sum_none, sum_some}
 use Rattle.gnss_obs.proofs.epoch.Epoch.has_satellites.Goals as goal
 

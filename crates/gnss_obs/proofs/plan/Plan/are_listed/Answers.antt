@@ -4,7 +4,7 @@ use Rattle.gnss_system.specs.SystemValues.{value_of}
 use Rattle.gnss_system.proofs.SystemLaws.{value_mapped}
 use Rattle.gnss_obs.specs.inner.Names.{System, PlanValue, indices, planned_of, table}
 use Rattle.gnss_system.specs.declared.system.System.TheVariants.{Glonass}
-use Rattle.gnss_obs.proofs.PlanLemmas.{listed_by, none_planned}
+use Rattle.gnss_obs.proofs.PlanLaws.{listed_by, none_planned}
 use Rattle.gnss_obs.proofs.plan.Plan.are_listed.Goals as goal
 
 here : (c : goal.After-are_channels) (s : System) → indices (value_of s c.self.inside.signals) ≡ planned_of s c.args.self.now

@@ -1,5 +1,5 @@
 use Rattle.std.proofs.Common.{arith}
-use Rattle.gnss_obs.proofs.PlanLemmas.{few_signals}
+use Rattle.gnss_obs.proofs.PlanLaws.{few_signals}
 use Rattle.gnss_obs.proofs.plan.Plan.signals.Goals as goal
 
 pub returns-clause-bound : goal.returns-clause-bound

@@ -2,7 +2,7 @@ use Rattle.std.proofs.Common.{◌≡◌, ◌∙◌, [], ap, sym, true≢false}
 use Rattle.gnss_system.specs.declared.system.System.TheVariants.{Glonass}
 use Rattle.gnss_system.proofs.SystemLaws.{value_mapped}
 use Rattle.gnss_obs.specs.inner.Names.{PlanValue, indices, planned_of}
-use Rattle.gnss_obs.proofs.PlanLemmas.{channelled, none_planned, some_planned}
+use Rattle.gnss_obs.proofs.PlanLaws.{channelled, none_planned, some_planned}
 use Rattle.gnss_obs.proofs.plan.Plan.with_channels.Goals as goal
 
 not_empty : (c : goal.Else-is_empty) → c.list.result.now ≡ [] → ⊥

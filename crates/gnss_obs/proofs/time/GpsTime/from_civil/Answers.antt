@@ -4,7 +4,7 @@ use Rattle.jiff_core.specs.Calendar.{days_from_civil}
 use Rattle.jiff_core.specs.DateTime.{civil_nanos}
 use Rattle.gnss_obs.specs.Weeks.{week}
 use Rattle.gnss_obs.specs.inner.Names.{weeks, civil_of, clock_of, IsCivilOf, Civil}
-use Rattle.gnss_obs.proofs.WalkLemmas.{walk_is, same_number}
+use Rattle.gnss_obs.proofs.WalkLaws.{walk_is, same_number}
 use Rattle.gnss_obs.proofs.CivilLemmas.{since_of, since_range, is_of, only_one, not_below, below_none, cast_fits, cast_is}
 use Rattle.gnss_obs.proofs.time.GpsTime.from_civil.Goals as goal
 

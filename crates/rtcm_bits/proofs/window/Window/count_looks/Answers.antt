@@ -1,7 +1,7 @@
 -- Four cases: bytes with an entry are counted there; bytes without a look are only numbered; a second look at the
 -- first byte without an entry adds one; else every byte gets its entry first.
 use Rattle.rtcm_bits.proofs.Names.{List, [], ◌∷◌, ℕ, ◌≡◌, ◌+◌, ◌-◌, drop, drop-append-le, length, max, sym, ap, ◌∙◌, rules, arith, length-drop, with_items_is, vec_len, held_of, filled_up, looked_through, counts_alone}
-use Rattle.rtcm_bits.proofs.ListLemmas.{when_ok}
+use Rattle.rtcm_bits.proofs.ListLaws.{when_ok}
 use Rattle.rtcm_bits.proofs.LookLemmas.{first_looks_at, second_look_at, later_looks, filled_out}
 use Rattle.rtcm_bits.proofs.window.Window.count_looks.Goals as goal
 

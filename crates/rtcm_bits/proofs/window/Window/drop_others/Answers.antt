@@ -1,5 +1,5 @@
 use Rattle.rtcm_bits.proofs.Names.{◌≡◌, ◌+◌, ◌≤◌, ℕ, length, min, ap, ◌∙◌, arith, WindowValue, looked_through, without_front}
-use Rattle.rtcm_bits.proofs.WindowLemmas.{looked_dropped, looked_left, looked_to, others_on}
+use Rattle.rtcm_bits.proofs.WindowLaws.{looked_dropped, looked_left, looked_to, others_on}
 use Rattle.rtcm_bits.proofs.window.Window.drop_others.Goals as goal
 
 pub returns-then-held-gt0-clause-dropped : goal.returns-then-held-gt0-clause-dropped

@@ -1,6 +1,6 @@
 use Rattle.rtcm_bits.proofs.Names.{◌≡◌, length, drop, ap, arith, length-drop}
 use Rattle.rtcm_bits.proofs.LookLemmas.{view_grown}
-use Rattle.rtcm_bits.proofs.WindowLemmas.{all_taken}
+use Rattle.rtcm_bits.proofs.WindowLaws.{all_taken}
 use Rattle.rtcm_bits.proofs.window.Window.push_all.Goals as goal
 
 pub returns : goal.returns

@@ -2,7 +2,7 @@
 use Rattle.rtcm_bits.proofs.Names.{◌≡◌, ℕ, ◌+◌, ◌-◌, ◌*◌, ◌/◌, ◌%◌, ◌^◌, ◌<◌, ◌≤◌, Bool, List, [], ◌∷◌, ◌++◌, length, take, drop, get_or, refl, sym, ap, ◌∙◌, arith, take-append-drop, length-drop, lit<, from_be_bytes, w64, field_of, shl-shr, shr-shr, take-take, drop-take, drop-drop, length-take-le, get_or-take, get_or-drop, take_at, drop_at, uint, number, number_from, bits_of, length-bits_of, bits_of-append, number-uint, uint-number}
 use Rattle.rtcm_bits.proofs.BitLemmas.{number-append}
 use Rattle.rtcm_bits.proofs.PartLemmas.{part-uint, Next, next_part}
-use Rattle.rtcm_bits.proofs.ListLemmas.{eight_of}
+use Rattle.rtcm_bits.proofs.ListLaws.{eight_of}
 
 -- the part of a word that two shifts leave
 pub part_of_a_word : (word skip width : ℕ) → skip + width ≤ 64 → word * 2 ^ skip % 2 ^ 64 / 2 ^ (64 - width) ≡ number (take width (drop skip (uint 64 word)))
