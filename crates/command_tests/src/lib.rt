@@ -15,6 +15,8 @@ mod chosen;
 #[cfg(test)]
 mod convert;
 #[cfg(test)]
+mod examples;
+#[cfg(test)]
 mod faults;
 #[cfg(test)]
 mod frames;

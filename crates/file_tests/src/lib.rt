@@ -3,6 +3,8 @@
 #![tactic(auto)]
 
 #[cfg(test)]
+mod examples;
+#[cfg(test)]
 mod rinex_file_tests;
 #[cfg(test)]
 mod rtcm_convert_tests;

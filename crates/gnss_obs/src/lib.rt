@@ -4,6 +4,14 @@
 //! A [`Plan`] lists the wanted signals, and has the [`Channels`] of the GLONASS satellites. A
 //! [`GpsTime`] counts milliseconds of GPS time and converts to and from a [`Civil`] date. An
 //! [`Epoch`] has the [`Cell`]s of one time in order.
+//!
+//! ```
+//! /// The date and time in GPS time at which a GPS week begins.
+//! fn first_date(week: u32) -> Option<Civil> {
+//!     let time = GpsTime::new(week as u64 * WEEK)?;
+//!     Some(time.civil())
+//! }
+//! ```
 #![tactic(auto)]
 
 mod cell;

@@ -1,4 +1,11 @@
 //! The satellite systems: their letters, satellites and signals, and a value for each of them.
+//!
+//! ```
+//! /// The letter of a system in a file, and the number of its satellites.
+//! fn letter_and_satellites(system: System) -> (u8, u8) {
+//!     (system.letter(), system.satellites())
+//! }
+//! ```
 #![tactic(auto)]
 
 mod by_system;

@@ -1,5 +1,17 @@
 //! Lines that are put together from words and numbers; weeks, dates, times, lengths, intervals and
 //! channels, read from texts of options and written; leap seconds of a date.
+//!
+//! ```
+//! /// The line of the GPS week of a date, as `week 2300`.
+//! fn week_line(date: &str) -> Option<OutputLine> {
+//!     let week = week_of(date)?;
+//!     let mut line = OutputLine::new();
+//!     line.put(b"week");
+//!     line.add_number(week as u64);
+//!     line.finish();
+//!     Some(line)
+//! }
+//! ```
 #![tactic(auto)]
 
 mod channel_texts;

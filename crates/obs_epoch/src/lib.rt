@@ -2,6 +2,18 @@
 //!
 //! A [`Gatherer`] processes the messages of a station one by one and returns each [`Epoch`] when it
 //! is closed. [`SignalCounts`] count cells by signal.
+//!
+//! ```
+//! /// The number of satellites of the epoch that a message of GPS ends, if it ends one.
+//! fn satellites_of(alloc: Global, message: &Message) -> Option<usize> {
+//!     let plan = Plan::parse(alloc, "all", "none").ok()?;
+//!     let mut gatherer = Gatherer::new(alloc, GatherSetup::new(plan, 2300)).ok()?;
+//!     gatherer.take(message);
+//!     let satellites = gatherer.closed().map(|epoch| epoch.satellites());
+//!     drop(gatherer);
+//!     satellites
+//! }
+//! ```
 #![tactic(auto)]
 
 mod choice;

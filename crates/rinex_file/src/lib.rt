@@ -6,6 +6,14 @@
 //! reads a file back, [`check_file`] only counts its contents, [`check_file_times`] also returns
 //! the times of its epochs, an [`EpochReader`] returns epoch by epoch, and [`file_bytes`] returns
 //! the text of a file that was read.
+//!
+//! ```
+//! /// The numbers of epochs, satellite lines and events of an observation file.
+//! fn counts_of(alloc: Global, file: &[u8]) -> Result<Counts, ReadFault> {
+//!     let mut reader = Counted::new(file);
+//!     check_file(alloc, &mut reader)
+//! }
+//! ```
 #![tactic(auto)]
 
 mod header;

@@ -1,4 +1,16 @@
 //! The CRC, the bit fields, the frame of a message and the window of undecided bytes of RTCM 3.
+//!
+//! ```
+//! /// The CRC of the frame of a message, its own CRC included.
+//! fn residue(message: &[u8]) -> Option<u32> {
+//!     if message.len() > LONGEST_MESSAGE {
+//!         return None;
+//!     }
+//!     let mut frame = ArrayVec::new();
+//!     frame_of(message, &mut frame);
+//!     Some(crc24q(frame.as_slice()))
+//! }
+//! ```
 #![tactic(auto)]
 
 mod complement;

@@ -1,6 +1,16 @@
 //! What is in a stream or a file, as text: the frames, messages and signals of an RTCM 3 stream,
 //! the options of a conversion that fit it, and the counts of an observation file. Lines, weeks,
 //! dates, lengths and GLONASS channels of texts, and leap seconds are those of `line_texts`.
+//!
+//! ```
+//! /// The lines of the frames of a stream.
+//! fn lines_of(alloc: Global, stream: &[u8]) -> Result<Vec<u8>, InspectFault> {
+//!     let (mut reader, mut writer) = (Counted::new(stream), Counted::new(Vec::new(alloc)));
+//!     let listed = run_frames(alloc, &mut reader, &mut writer);
+//!     let lines = writer.into_inner();
+//!     listed.map(|_| lines)
+//! }
+//! ```
 #![tactic(auto)]
 
 mod check;

@@ -6,6 +6,16 @@
 //! [`decode`] reads a message and [`encode`] writes one. [`look`] returns a [`View`] that reads the
 //! cells of an MSM one by one from its bytes, each as an [`Entry`], and [`look_in`] decodes the
 //! MSMs of a set alone.
+//!
+//! ```
+//! /// The station of a message 1005 or 1006.
+//! fn station_of(message: &[u8]) -> Result<Option<u16>, MsgFault> {
+//!     match decode(message)? {
+//!         Message::Station(station) => Ok(Some(station.parts().station)),
+//!         _ => Ok(None),
+//!     }
+//! }
+//! ```
 #![tactic(auto)]
 
 mod channels;

@@ -3,6 +3,8 @@
 #![tactic(auto)]
 
 #[cfg(test)]
+mod examples;
+#[cfg(test)]
 mod gnss_obs_tests;
 #[cfg(test)]
 mod obs_epoch_tests;
