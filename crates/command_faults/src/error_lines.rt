@@ -5,9 +5,10 @@ ghost use Rattle.command_faults.specs.ErrorLines.{error_words};
 ghost use Rattle.line_texts.specs.Lines.{with_words};
 ghost use Rattle.rtcm_inspect.specs.inner.Lines.{longest_error, longest_fault_name, longest_start};
 
-use crate::fault::{DateOption, CommandFault};
+use crate::fault::{CommandFault, DateOption};
+use line_texts::OutputLine;
 use rtcm_convert::Fault;
-use rtcm_inspect::{OutputLine, add_header_error, add_inspection_error, add_plan_error};
+use rtcm_inspect::{add_header_error, add_inspection_error, add_plan_error};
 
 /// Returns the line of a fault: the program's name, the fault's name, and the values that it
 /// carries or the form that is accepted.

@@ -13,5 +13,5 @@ mod fault;
 mod status;
 
 pub use error_lines::error_line;
-pub use fault::{DateOption, CommandFault};
+pub use fault::{CommandFault, DateOption};
 pub use status::exit_status;

@@ -3,8 +3,8 @@ ghost use Rattle.std.specs.Prelude.{refl};
 
 use super::scenario::{FAULTLESS, READ, Room, Setting, WRITE, ends, run};
 use super::texts::{Text, front};
-use devices_for_tests::{PieceReader, ReadEnd, ShortWriter, WriteEnd};
 use devices::{Buffered, Counted, Deliver};
+use devices_for_tests::{PieceReader, ReadEnd, ShortWriter, WriteEnd};
 use rtcm_command::command::command;
 use std::alloc::Global;
 use std::io;

@@ -1,6 +1,6 @@
 //! Channels of GLONASS satellites, read from text.
 use gnss_obs::Channels;
-use rtcm_inspect::channels_of;
+use line_texts::channels_of;
 
 /// Texts with their slots and channels, at most two.
 static ACCEPTED: [(&str, &[(u8, i8)]); 8] = [

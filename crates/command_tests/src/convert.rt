@@ -6,9 +6,9 @@ use super::texts::ExpectedLine::{Above, NextTime, NextValues, Position, Time, Tw
 use super::texts::Piece::{Fine, Framed};
 use super::texts::Text::{File, Stream};
 use super::texts::{FINE_FILE, REPORT, Text};
+use devices::Counted;
 use gnss_obs::Plan;
 use rinex_file::{HeaderTexts, Texts};
-use devices::Counted;
 use rtcm_command::{report_line, run_convert};
 use rtcm_convert::Setup;
 use std::alloc::Global;

@@ -66,7 +66,9 @@ fn is_listed(alloc: Global) -> bool {
 #[test]
 fn examples_have_their_results(rt: HostRuntime) {
     let words = ["rtcm2rinex", "frames"];
-    assert!(rt; week_line("2024-02-04").is_some_and(|line| line.as_bytes() == b"week 2300\n".as_slice()));
+    assert!(rt;
+        week_line("2024-02-04").is_some_and(|line| line.as_bytes() == b"week 2300\n".as_slice())
+    );
     assert!(rt; is_listed(rt.alloc()) && is_accepted(rt.alloc(), &words));
     assert!(rt; line_of_a_failed_read().as_bytes() == b"rtcm2rinex: Read\n".as_slice());
     assert!(rt; status_of(rt.alloc(), &words, FRAME) == 0);

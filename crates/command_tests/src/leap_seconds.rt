@@ -1,6 +1,6 @@
 //! Leap seconds by dates.
-use rtcm_inspect::{hour_of, leap_at};
 
+use line_texts::{hour_of, leap_at};
 /// The last day before a change of the leap seconds, the day from which the number is the next one,
 /// and that number.
 static CHANGES: [(&str, &str, u8); 18] = [

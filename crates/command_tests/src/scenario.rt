@@ -3,8 +3,8 @@
 //! Values with a destructor, such as devices, make proofs slow. So one function makes and drops
 //! them, and a test is a setting and a list of cases.
 use super::texts::Text;
-use devices_for_tests::{PieceReader, ReadEnd, ShortWriter, WriteEnd};
 use devices::Counted;
+use devices_for_tests::{PieceReader, ReadEnd, ShortWriter, WriteEnd};
 use rtcm_command::command::command;
 use std::alloc::{AllocError, Global};
 use std::process::Abort;

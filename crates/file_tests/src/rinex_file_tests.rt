@@ -16,11 +16,11 @@ mod times;
 mod writing;
 
 use arrayvec::ArrayVec;
+use devices::Counted;
 use devices_for_tests::{ShortWriter, WriteEnd};
 use gnss_obs::{GpsTime, Plan, StationValues};
 use parts::{Part, text_of};
 use rinex_file::{Head, HeadFault, HeaderField, HeaderTexts, Texts, header_lines};
-use devices::Counted;
 use std::alloc::Global;
 
 /// The values of a station.

@@ -39,7 +39,6 @@ pub use civil::Civil;
 pub use epoch::{Epoch, MOST_CELLS, end_of, is_written};
 pub use epoch_cells::{Added, EpochCells};
 pub use fault::PlanFault;
-pub use gnss_system::{BySystem, GALILEO_SIGNAL_COUNT, GPS_SIGNAL_COUNT, System};
 pub use interval::Interval;
 pub use lock::{Lock, is_lost};
 pub use observables::{

@@ -32,8 +32,6 @@ mod tow;
 
 pub use choice::{Choice, EpochCounts};
 pub use gather::Gatherer;
-// The benchmark imports it from here.
-pub use gnss_obs::Plan;
 pub use set::{is_always_decoded, msm_set};
 pub use setup::{Gather, GatherSetup, LEAP_SECONDS};
 pub use signal_counts::SignalCounts;

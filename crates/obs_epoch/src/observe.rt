@@ -6,7 +6,8 @@ ghost use Rattle.obs_epoch.specs.Heard.{seen_in};
 ghost use Rattle.gnss_obs.specs.HeardCells.{heard_cell, IsObserved};
 ghost use Rattle.obs_epoch.specs.inner.GathererSteps.{planned_cell};
 
-use gnss_obs::{Cell, Lock, Plan, Sat, System, doppler_at, phase_at, pseudorange, strength};
+use gnss_obs::{Cell, Lock, Plan, Sat, doppler_at, phase_at, pseudorange, strength};
+use gnss_system::System;
 use rtcm_msg::{Entry, Form};
 
 /// Returns the cell of an entry if its satellite is listed and its signal is planned, else `None`.

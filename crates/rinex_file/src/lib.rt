@@ -30,7 +30,6 @@ pub use read::epochs::{EpochReader, NextEpoch};
 pub use read::fault::ReadFault;
 pub use read::file::{Counts, FileSummary, check_file, check_file_times, read_file};
 pub use read::times::EpochTimes;
-pub use rinex_columns::Line;
 pub use values::ObsFile;
 pub use write::file::file_bytes;
 pub use write::line::epoch_line;

@@ -7,8 +7,8 @@ ghost use Rattle.rinex_file.specs.Counting.{events_in};
 use crate::header::texts::HeaderTexts;
 use crate::read::file::Counts;
 use arrayvec::ArrayVec;
-use gnss_obs::{GpsTime, Interval, Plan, StationValues, System, Thousandths};
-use gnss_system::MOST_SIGNALS;
+use gnss_obs::{GpsTime, Interval, Plan, StationValues, Thousandths};
+use gnss_system::{MOST_SIGNALS, System};
 use std::marker::Model;
 
 /// The values of a signal in a line: pseudorange (m), phase (cycles), Doppler (Hz) and strength

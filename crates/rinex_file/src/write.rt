@@ -18,10 +18,10 @@ use crate::header::head::{Head, header_lines};
 use crate::header::lines::{delta_line, position_line};
 use crate::write::line::{epoch_line, event_line};
 use crate::write::satellite::put_satellite_line;
+use devices::{Counted, DeviceFailed};
 use gnss_obs::{Epoch, Plan, StationValues, end_of, is_written};
 use gnss_system::{SYSTEMS, System};
 use rinex_columns::{Line, MOST_LINE};
-use devices::{Counted, DeviceFailed};
 use std::io::Write;
 
 /// Writes a header, line by line.

@@ -8,8 +8,8 @@ ghost use Rattle.rtcm_command.specs.Reports.{report_line};
 
 use command_faults::CommandFault;
 use devices::{Counted, Deliver};
+use line_texts::OutputLine;
 use rtcm_convert::{Fault, Report, Setup, convert_stream};
-use rtcm_inspect::OutputLine;
 use std::alloc::Global;
 use std::io::Read;
 

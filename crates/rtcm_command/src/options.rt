@@ -15,13 +15,13 @@ ghost use Rattle.rtcm_command.specs.SetupOptions.{IsSetupOf, IsWeekRefused, IsWe
 ghost use Rattle.rtcm_command.specs.SetupOptions.{forms_set, options_of, plan_set, text_set, texts_set, values_set};
 
 use clap::ArgMatches;
-use command_faults::{DateOption, CommandFault};
-use gnss_obs::{BySystem, Channels, GpsTime, Interval, Plan, PlanFault, StationValues};
+use command_faults::{CommandFault, DateOption};
+use gnss_obs::{Channels, GpsTime, Interval, Plan, PlanFault, StationValues};
+use gnss_system::BySystem;
+use line_texts::{epoch_interval_of, hour_of, interval_of, length_below, position_of, week_of};
 use obs_epoch::{Choice, Gather, GatherSetup, LEAP_SECONDS};
-use line_texts::epoch_interval_of;
 use rinex_file::{HeaderTexts, Texts};
 use rtcm_convert::Setup;
-use rtcm_inspect::{hour_of, interval_of, length_below, position_of, week_of};
 use rtcm_msg::Forms;
 use rtcm_scan::MOST_BYTES;
 use std::alloc::Global;
@@ -284,6 +284,6 @@ pub fn values_of(options: &ArgMatches) -> Result<StationValues, CommandFault>
 pub fn channels_of(options: &ArgMatches) -> Result<Channels, CommandFault>
     ensures { result ≡ channels_set (options_of options.now) }
 {
-    let channels = rtcm_inspect::channels_of(text(options, "glonass-channels"));
+    let channels = line_texts::channels_of(text(options, "glonass-channels"));
     channels.ok_or(CommandFault::BadChannels)
 }

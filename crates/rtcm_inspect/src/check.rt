@@ -16,10 +16,10 @@ ghost use Rattle.line_texts.specs.Lines.{with_words};
 
 use crate::fault::InspectFault;
 use crate::printing::{deliver_waiting, print_text};
+use devices::{Counted, Deliver};
 use gnss_obs::GpsTime;
 use line_texts::OutputLine;
 use rinex_file::{Counts, EpochReader, EpochTimes, FileSummary, NextEpoch};
-use devices::{Counted, Deliver};
 use std::alloc::Global;
 use std::io::Read;
 

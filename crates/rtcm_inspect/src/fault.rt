@@ -7,10 +7,11 @@ ghost use Rattle.rtcm_inspect.specs.FaultWords.{file_words, header_words, inspec
 ghost use Rattle.line_texts.specs.Lines.{with_words};
 ghost use Rattle.rtcm_inspect.specs.inner.Lines.{longest_error, longest_fault, longest_fault_name, longest_start};
 
-use gnss_obs::{PlanFault, System};
+use devices::DeviceFailed;
+use gnss_obs::PlanFault;
+use gnss_system::System;
 use line_texts::OutputLine;
 use rinex_file::{HeadFault, HeaderField, ReadFault};
-use devices::DeviceFailed;
 use rtcm_scan::{ScanFault, StreamFault};
 use std::fmt;
 use thiserror::Error;

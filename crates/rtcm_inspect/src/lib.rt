@@ -28,9 +28,6 @@ mod stream_channels;
 pub use check::{CheckOptions, run_check, run_check_with};
 pub use fault::{InspectFault, add_header_error, add_inspection_error, add_plan_error};
 pub use listing::{Listing, list, run_frames, run_show};
-pub use line_texts::{
-    OutputLine, channels_of, hour_of, interval_of, leap_at, length_below, position_of, week_of,
-};
 pub use options::run_options;
 pub use printing::{print_line, print_text};
 pub use signals::run_signals;

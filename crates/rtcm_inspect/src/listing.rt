@@ -17,8 +17,8 @@ ghost use Rattle.rtcm_inspect.specs.ShowLines.{msm_line, show_line, show_lines, 
 ghost use Rattle.rtcm_inspect.specs.Listing.{EndsListing, listing_line, listing_lines};
 
 use crate::fault::InspectFault;
-use line_texts::OutputLine;
 use devices::{Counted, Deliver, DeviceFailed};
+use line_texts::OutputLine;
 use rtcm_bits::BitReader;
 use rtcm_msg::{MsgFault, MsmSet, MsmView, StationParts, View, look, look_in, time_of_week};
 use rtcm_scan::{Frame, FrameSink, Framer, MOST_BYTES, ScanFault, laws};

@@ -14,11 +14,11 @@ use crate::counting::read_signals;
 use crate::fault::InspectFault;
 use crate::printing::{deliver_waiting, print_text};
 use arrayvec::ArrayVec;
+use devices::{Counted, Deliver};
 use gnss_obs::Signal;
 use gnss_system::{MOST_SIGNALS, SYSTEMS, System};
-use obs_epoch::SignalCounts;
 use line_texts::OutputLine;
-use devices::{Counted, Deliver};
+use obs_epoch::SignalCounts;
 use std::alloc::Global;
 use std::io::Read;
 

@@ -41,7 +41,6 @@ pub use channels::{SentChannels, channel_of_1020};
 pub use data::{Cell, INVALID_FINE_RATE, INVALID_ROUGH_RATE, Satellite};
 pub use entry::Entry;
 pub use fault::{Field, MsgFault, ValueFault};
-pub use gnss_system::System;
 pub use grid::{Grid, Grid4, Grid5, Grid6, Grid7, GridOf};
 pub use header::{Masks, MsmHeader, WEEK, time_of_week};
 pub use message::{Message, decode, encode};

@@ -2,9 +2,9 @@
 mod channels;
 
 use gnss_obs::{
-    Lock, Sat, Signal, System, Thousandths, doppler, is_lost, phase, pseudorange, strength,
-    strength_digit,
+    Lock, Sat, Signal, Thousandths, doppler, is_lost, phase, pseudorange, strength, strength_digit,
 };
+use gnss_system::System;
 
 static NUMBERS: [(System, u8, bool); 7] = [
     (System::Gps, 0, false),

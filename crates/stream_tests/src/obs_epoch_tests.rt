@@ -11,7 +11,8 @@ mod messages;
 mod plans;
 mod signal_counts;
 
-use gnss_obs::{Cell, Epoch, Plan, PlanFault, StationValues, System};
+use gnss_obs::{Cell, Epoch, Plan, PlanFault, StationValues};
+use gnss_system::System;
 use messages::{Heard, message};
 use obs_epoch::{CellCounts, Choice, EpochCounts, Gather, GatherSetup, Gatherer, Kind, Taken};
 use std::alloc::Global;

@@ -9,8 +9,8 @@ mod windows;
 
 use arrayvec::ArrayVec;
 use buffered::Stumbles;
-use devices_for_tests::{PieceReader, ReadEnd, ShortWriter, WriteEnd};
 use devices::Counted;
+use devices_for_tests::{PieceReader, ReadEnd, ShortWriter, WriteEnd};
 use rtcm_bits::{BitReader, BitWriter, CheckRegister, LONGEST_MESSAGE, crc24q, frame_of};
 use std::io;
 use std::io::{ErrorKind, Read, Write};

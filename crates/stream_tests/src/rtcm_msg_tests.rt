@@ -8,10 +8,11 @@ mod texts;
 mod values;
 
 use arrayvec::ArrayVec;
+use gnss_system::System;
 use known::{Known, bytes_of};
 use rtcm_msg::{
     Cell, Entry, Form, Grid7, Message, MsgFault, Msm, MsmHeader, MsmView, Satellite, StationParts,
-    System, View, decode, encode, look,
+    View, decode, encode, look,
 };
 use std::test::*;
 

@@ -1,9 +1,9 @@
 //! The blocks in which a file is read ahead: their reads, which no clause counts, and lines that
 //! continue in the next block.
 use super::long::long_text;
+use devices::Counted;
 use devices_for_tests::{PieceReader, ReadEnd};
 use rinex_file::{Counts, ReadFault, check_file, file_bytes, read_file};
-use devices::Counted;
 use std::alloc::Global;
 use std::io;
 use std::io::Read;

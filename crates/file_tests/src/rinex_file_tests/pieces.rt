@@ -2,9 +2,9 @@
 //! read there, and any other is put together.
 use super::joined;
 use super::parts::Part;
+use devices::Counted;
 use devices_for_tests::{PieceReader, ReadEnd};
 use rinex_file::{Counts, ReadFault, check_file, read_file};
-use devices::Counted;
 use std::alloc::Global;
 use std::io::ErrorKind;
 

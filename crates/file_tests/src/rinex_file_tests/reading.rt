@@ -1,10 +1,11 @@
 //! Files that are read back, and files that are refused.
 use super::parts::{Part, text_of};
 use super::{Text, VALUES, joined, put};
-use devices_for_tests::{PieceReader, ReadEnd};
-use gnss_obs::{StationValues, System};
-use rinex_file::{Counts, HeaderField, ObsFile, ReadFault, check_file, file_bytes, read_file};
 use devices::Counted;
+use devices_for_tests::{PieceReader, ReadEnd};
+use gnss_obs::StationValues;
+use gnss_system::System;
+use rinex_file::{Counts, HeaderField, ObsFile, ReadFault, check_file, file_bytes, read_file};
 use std::alloc::Global;
 use std::io::ErrorKind;
 

@@ -1,9 +1,9 @@
 //! The times of the epochs of a file: of files with gaps and an event, of one epoch, and of none.
 use super::joined;
 use super::parts::Part;
+use devices::Counted;
 use devices_for_tests::{PieceReader, ReadEnd};
 use rinex_file::{EpochTimes, FileSummary, ReadFault, check_file_times};
-use devices::Counted;
 use std::alloc::Global;
 
 /// The GPS time 2024-02-04 00:00:00, the begin of week 2300, in milliseconds.

@@ -2,10 +2,12 @@
 use super::parts::Part;
 use super::{ALL, OWN_TEXTS, Takes, Writer, has_written, is_outcome, length, writer};
 use devices_for_tests::WriteEnd;
-use gnss_obs::{Epoch, GpsTime, Plan, Sat, System};
+use gnss_obs::{Epoch, GpsTime, Plan, Sat};
+use gnss_system::System;
 use obs_epoch::{GatherSetup, Gatherer};
+use rinex_columns::Line;
 use rinex_file::{
-    Head, HeadFault, HeaderTexts, Line, epoch_line, satellite_line, write_epoch, write_header,
+    Head, HeadFault, HeaderTexts, epoch_line, satellite_line, write_epoch, write_header,
 };
 use rtcm_msg::{Message, decode};
 use std::alloc::Global;

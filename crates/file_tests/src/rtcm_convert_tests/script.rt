@@ -4,11 +4,12 @@
 //! makes and drops each of them, and a test is a table of scripts.
 use super::by_definition::Text;
 use super::{Frame, bytes_of, file};
+use devices::{Counted, Deliver};
 use devices_for_tests::{PieceReader, ReadEnd, ShortWriter, WriteEnd};
-use gnss_obs::{Plan, System};
+use gnss_obs::Plan;
+use gnss_system::System;
 use obs_epoch::Choice;
 use rinex_file::{HeaderTexts, Texts};
-use devices::{Counted, Deliver};
 use rtcm_convert::{Converter, Fault, Report, Setup, convert_pieces, convert_stream};
 use rtcm_msg::Forms;
 use rtcm_scan::MOST_BYTES;

@@ -68,4 +68,3 @@ counted_epoch in_window on_grid n = record {
   window = up_to_most (n.window + one_if in_window);
   grid = up_to_most (n.grid + one_if on_grid);
 }
-

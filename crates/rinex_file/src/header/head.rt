@@ -13,7 +13,8 @@ use crate::header::lines::{
 use crate::header::lists::{slot_rows, slots_in, slots_with, type_rows, types_with};
 use crate::header::rows::{HeaderRow, ROW_COUNT, row_at};
 use crate::header::texts::HeaderTexts;
-use gnss_obs::{BySystem, GpsTime, Interval, Plan, StationValues, System};
+use gnss_obs::{GpsTime, Interval, Plan, StationValues};
+use gnss_system::{BySystem, System};
 use rinex_columns::{Line, labelled};
 use std::marker::Model;
 

@@ -14,7 +14,8 @@ ghost use Rattle.rinex_columns.specs.HeaderLine.{header_line};
 ghost use Rattle.rinex_columns.specs.Limits.{most_line};
 ghost use Rattle.rinex_file.specs.Slots.{slot_text, slot_rows, slots_front, slots_in_line, slots_of};
 
-use gnss_obs::{Channels, GREATEST_SLOT, Signal, System};
+use gnss_obs::{Channels, GREATEST_SLOT, Signal};
+use gnss_system::System;
 use rinex_columns::{Line, labelled, put, put_whole};
 
 /// Largest number of types in a line.

@@ -15,9 +15,9 @@ use crate::read::file::FileSummary;
 use crate::read::lines::{Found, Lines};
 use crate::read::parser_state::{AddedRow, Expected, ParserState, Refusal};
 use crate::read::times::EpochTimes;
+use devices::Counted;
 use gnss_obs::GpsTime;
 use rinex_columns::Line;
-use devices::Counted;
 use std::alloc::Global;
 use std::io::Read;
 

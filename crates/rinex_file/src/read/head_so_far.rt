@@ -23,7 +23,8 @@ use crate::read::other_lines::{
 use crate::read::parser_state::{Expected, Refusal};
 use crate::read::slots::SlotsSoFar;
 use crate::read::types::TypesSoFar;
-use gnss_obs::{BySystem, GpsTime, Interval, StationValues, System};
+use gnss_obs::{GpsTime, Interval, StationValues};
+use gnss_system::{BySystem, System};
 use rinex_columns::{Line, put_left, read_labelled};
 use std::alloc::Global;
 use std::marker::Model;

@@ -6,9 +6,9 @@ ghost use Rattle.rinex_file.specs.Blocks.{MovesBytes, LeavesRest};
 ghost use Rattle.rinex_file.specs.Exact.{IsFound, IsLine};
 ghost use Rattle.rinex_columns.specs.Limits.{most_line};
 
+use devices::Counted;
 use memchr::memchr;
 use rinex_columns::{Line, MOST_LINE, put};
-use devices::Counted;
 use std::io::Read;
 use std::marker::Model;
 

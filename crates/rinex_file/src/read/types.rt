@@ -11,7 +11,8 @@ ghost use Rattle.rinex_file.specs.inner.Read.HeaderSteps.{HasSignalAt, IsLineOfT
 
 use crate::header::lists::{TYPES_IN_LINE, type_rows, types_with};
 use crate::read::parser_state::Refusal;
-use gnss_obs::{Signal, Signals, System};
+use gnss_obs::{Signal, Signals};
+use gnss_system::System;
 use rinex_columns::{columns, digits_in, is_same};
 use std::alloc::Global;
 

@@ -10,9 +10,9 @@ use crate::values::{ObsFile, StoredEpoch};
 use crate::write::line::epoch_line;
 use crate::write::satellite::put_values;
 use crate::write::{write_event, write_header};
+use devices::Counted;
 use gnss_obs::StationValues;
 use rinex_columns::{Line, MOST_LINE};
-use devices::Counted;
 use std::alloc::{AllocError, Global};
 
 /// A file in memory; a write fails if memory runs out.

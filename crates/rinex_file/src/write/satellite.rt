@@ -15,7 +15,8 @@ ghost use Rattle.rinex_columns.specs.Limits.{most_line, signal_columns, value_co
 
 use crate::values::SignalValues;
 use crate::write::lanes::{columns_in, columns_in_two, columns_of, columns_of_range};
-use gnss_obs::{Cell, Epoch, Plan, Sat, System, Thousandths, strength_digit};
+use gnss_obs::{Cell, Epoch, Plan, Sat, Thousandths, strength_digit};
+use gnss_system::System;
 use rinex_columns::{Line, MOST_LINE, SIGNAL_COLUMNS, VALUE_COLUMNS, put};
 use std::marker::Model;
 use std::simd::prelude::*;

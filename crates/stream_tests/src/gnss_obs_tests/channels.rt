@@ -1,5 +1,6 @@
 //! The channels of GLONASS satellites, and carriers computed by hand.
-use gnss_obs::{BySystem, Channels, Plan, Sat, Signal, System};
+use gnss_obs::{Channels, Plan, Sat, Signal};
+use gnss_system::{BySystem, System};
 use std::alloc::Global;
 use std::test::*;
 

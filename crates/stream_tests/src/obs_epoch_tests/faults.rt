@@ -1,6 +1,7 @@
 //! The texts of faults.
 use crate::texts::have_texts;
-use gnss_obs::{PlanFault, System};
+use gnss_obs::PlanFault;
+use gnss_system::System;
 use std::test::*;
 
 static TEXTS: [(PlanFault, &str); 6] = [

@@ -1,7 +1,8 @@
 //! The messages of the tests of a gatherer.
+use gnss_system::System;
 use rtcm_msg::{
     Cell, INVALID_FINE_RATE, INVALID_ROUGH_RATE, Masks, Message, Msm, MsmHeader, Satellite,
-    Station, StationParts, System,
+    Station, StationParts,
 };
 
 /// A message of station 7, with its time in milliseconds of the week and its multiple message bit.

@@ -1,5 +1,6 @@
 //! Plans of texts and of signals.
-use gnss_obs::{BySystem, Plan, PlanFault, Signal, System};
+use gnss_obs::{Plan, PlanFault, Signal};
+use gnss_system::{BySystem, System};
 use std::alloc::Global;
 use std::test::*;
 

@@ -1,6 +1,6 @@
 //! The number of counted cells of a signal.
 use super::messages::{Heard, message};
-use gnss_obs::System;
+use gnss_system::System;
 use obs_epoch::SignalCounts;
 use std::test::*;
 

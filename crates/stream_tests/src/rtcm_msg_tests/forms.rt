@@ -3,10 +3,11 @@ use super::known::{Known, bytes_of};
 use super::values::{COARSE_CELL, COARSE_SATELLITE, msm_fault};
 use super::{HEADER, is_written_back};
 use arrayvec::ArrayVec;
+use gnss_system::System;
 use rtcm_msg::{
     Cell, Entry, Field, Form, Forms, Grid, Grid4, Grid5, Grid6, Grid7, INVALID_FINE_RATE,
-    INVALID_ROUGH_RATE, Masks, Message, Msm, MsmSet, Satellite, System, ValueFault, View, decode,
-    encode, look, look_in,
+    INVALID_ROUGH_RATE, Masks, Message, Msm, MsmSet, Satellite, ValueFault, View, decode, encode,
+    look, look_in,
 };
 use std::test::*;
 

@@ -3,8 +3,9 @@ use super::forms::write;
 use super::known::{Known, bytes_of};
 use super::{CELL, HEADER, SATELLITE, is_written_back};
 use arrayvec::ArrayVec;
+use gnss_system::System;
 use rtcm_msg::{
-    Form, Grid7, INVALID_ROUGH_RATE, Masks, Message, MsgFault, Msm, MsmHeader, Satellite, System,
+    Form, Grid7, INVALID_ROUGH_RATE, Masks, Message, MsgFault, Msm, MsmHeader, Satellite,
     ValueFault, View, channel_of_1020, decode, look,
 };
 use std::test::*;

@@ -2,9 +2,10 @@
 use super::known::{Known, bytes_of};
 use super::{CELL, HEADER, SATELLITE, STATION_PARTS, is_written_back};
 use arrayvec::ArrayVec;
+use gnss_system::System;
 use rtcm_msg::{
     Cell, Field, Grid, Grid4, Grid7, INVALID_FINE_RATE, INVALID_ROUGH_RATE, Masks, Message, Msm,
-    MsmHeader, Satellite, Station, StationParts, System, ValueFault, View, encode, look,
+    MsmHeader, Satellite, Station, StationParts, ValueFault, View, encode, look,
 };
 use std::test::*;
 
