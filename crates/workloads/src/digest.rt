@@ -1,7 +1,7 @@
 //! A digest of all that a job computes.
 ghost use Rattle.std.specs.Prelude.{[], refl};
 
-use rtcm_bits::{Deliver, Destination};
+use devices::{Deliver, Destination};
 use std::io;
 use std::io::Write;
 

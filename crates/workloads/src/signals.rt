@@ -2,7 +2,7 @@
 ghost use Rattle.std.specs.Prelude.{⊤};
 
 use crate::digest::Digest;
-use gnss_obs::{GALILEO_SIGNAL_COUNT, GPS_SIGNAL_COUNT, System};
+use gnss_system::{GALILEO_SIGNAL_COUNT, GPS_SIGNAL_COUNT, System};
 use obs_epoch::SignalCounts;
 use rtcm_msg::look;
 use rtcm_scan::{Frame, FrameSink};

@@ -1,7 +1,8 @@
 //! An observation file, as a reader: epochs of a converted stream, with other times and values.
 use crate::random::Random;
 use gnss_obs::GpsTime;
-use rinex_file::{Line, epoch_line};
+use rinex_columns::Line;
+use rinex_file::epoch_line;
 use std::alloc::{AllocError, Global};
 use std::io;
 use std::io::Read;
