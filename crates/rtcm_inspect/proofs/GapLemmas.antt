@@ -103,7 +103,7 @@ pub gaps_refused : {R W : Type 0} (o : CheckOptions) (d d2 : Devices R W) (w1 : 
     → (w1.device.failures ≡ d.writer.device.failures) × IsDelivered d.writer w1 → ReadsGaps (Err fault) o.interval (record d { writer = w1 }) d2
     → IfSome d.reader.unread (λ input. input ≡ file_text v → IsCheckedOr o v (Err fault) d.writer.written d2.writer.written)
 gaps_refused o d d2 w1 (Check e) v is few kept (es, why, none, read, printed, failures) = IfSome_then d.reader.unread (none v is few) (λ input h same. refused o v e _ _ (h same))
-gaps_refused o d d2 w1 Write v is few kept (es, n, first, part, fine) =
+gaps_refused o d d2 w1 Write v is few kept (es, n, asked, first, part, fine) =
     let later = printed_later {A = ⊤} {w = d.writer} (Err Write) w1 d2.writer kept refl (refl, part) in
     IfSome_then d.reader.unread first (λ input f same. first_gaps o _ _ v es is (f.only v is same) later.ends.1.1)
 gaps_refused o d d2 w1 other v is few kept h = absurd h
@@ -114,7 +114,7 @@ pub gaps_stopped : {R W : Type 0} (o : CheckOptions) (d d2 : Devices R W) (w1 : 
 gaps_stopped o d d2 w1 (Check e) kept (es, why, none, read, printed, failures) =
     let later = printed_later {A = ⊤} {w = d.writer} (Ok tt) w1 d2.writer kept refl printed in
     ((failures, none_written e _ _ later.ends.0), (es, why, read, later.ends.2, later.ends.1))
-gaps_stopped o d d2 w1 Write kept (es, n, first, part, fine) =
+gaps_stopped o d d2 w1 Write kept (es, n, asked, first, part, fine) =
     let later = printed_later {A = ⊤} {w = d.writer} (Err Write) w1 d2.writer kept refl (refl, part) in
-    ((fine, later.ends.1.0), inr (inl (es, n, first, later.ends.1.1)))
+    ((fine, later.ends.1.0), inr (inl (es, n, asked, first, later.ends.1.1)))
 gaps_stopped o d d2 w1 other kept h = absurd h

@@ -1,5 +1,6 @@
 -- What the command `check` has read and written: the devices were d and are d'.
 use Rattle.std.specs.Prelude.{◌≡◌, ◌⊎◌, ◌≤◌, ℕ, List, [], length, Option, Result}
+use Rattle.std.specs.Prelude.{is_some, true}
 use Rattle.std.specs.Prelude.{Ok, Err, IfSome, ⊤}
 use Rattle.std.specs.Io.KnownBytes.{Appends, Keeps}
 use Rattle.devices.specs.Device.{AppendsPrefix}
@@ -32,7 +33,7 @@ ChecksFile o d d' = IsFileWith o (Appends d.writer.written d'.writer.written) d.
 
 -- A file isn't accepted for this reason: the gaps of the epochs before it were written, and nothing waits in the writer.
 -- At a failed read these are all epochs in the bytes that were read. Or the writer failed, before anything was read, in
--- the gaps of the first epochs, or in the output of a file.
+-- the gaps of the first epochs if they are asked for, or in the output of a file.
 abbrev pub StopsCheck : {R W : Type 0} → CheckOptions → (d d' : Devices R W) → InspectFault → Type 0
 StopsCheck o d d' (faults.Check e) =
     (es : List Stamped) × IfSome d.reader.unread (λ input. ExplainsFault input e × AreEpochsBefore es e input)
@@ -40,7 +41,7 @@ StopsCheck o d d' (faults.Check e) =
     × Appends d.writer.written d'.writer.written (gaps_of o.interval es) × (d'.writer.waiting ≡ [])
 StopsCheck o d d' faults.Write =
     IsUnread d d'
-    ⊎ ((es : List Stamped) × (n : ℕ) × IfSome d.reader.unread (AreFirstEpochs es n)
+    ⊎ ((es : List Stamped) × (n : ℕ) × (is_some o.interval ≡ true) × IfSome d.reader.unread (AreFirstEpochs es n)
     × AppendsPrefix d.writer.written d'.writer.written (gaps_of o.interval es))
     ⊎ IsFileWith o (AppendsPrefix d.writer.written d'.writer.written) d.reader.unread
 StopsCheck o d d' other = ⊥
@@ -77,6 +78,6 @@ ReadsGaps (Err (faults.Check e)) interval d d' =
     × PrintsText (gaps_of interval es) d.writer d'.writer
     × ReaderFailures (culprit (faults.Check e)) d.reader.device.failures d'.reader.device.failures
 ReadsGaps (Err faults.Write) interval d d' =
-    (es : List Stamped) × (n : ℕ) × IfSome d.reader.unread (AreFirstEpochs es n)
+    (es : List Stamped) × (n : ℕ) × (is_some interval ≡ true) × IfSome d.reader.unread (AreFirstEpochs es n)
     × PrintsPart (gaps_of interval es) d.writer d'.writer × (d'.reader.device.failures ≡ d.reader.device.failures)
 ReadsGaps (Err other) interval d d' = ⊥

@@ -1,6 +1,6 @@
 //! The command `check`: whether the input is a file as `convert` writes it, its counts, the times
 //! of its epochs, and the gaps between them.
-ghost use Rattle.std.specs.Prelude.{◌≡◌, ◌+◌, ◌<◌, ◌≤◌, ◌++◌, [], List, Option, ℕ, IfSome, length, option_map};
+ghost use Rattle.std.specs.Prelude.{◌≡◌, ◌+◌, ◌<◌, ◌≤◌, ◌++◌, [], List, Option, ℕ, IfErr, IfSome, is_some, true, length, option_map};
 ghost use Rattle.rinex_file.specs.Blocks.{LeavesRest};
 ghost use Rattle.rinex_file.specs.Counting.{AreCounts};
 ghost use Rattle.rinex_file.specs.Value.{FileValue};
@@ -138,8 +138,9 @@ fn print_gap<W: Deliver>(
 ) -> Result<(), InspectFault>
     requires small { IfSome interval (λ n. n ≤ longest_interval) }
     requires sent { W.waiting writer.old.inner ≡ [] }
-    ensures { Writes W.contents W.waiting writer.old writer.new
+    ensures line { Writes W.contents W.waiting writer.old writer.new
         (EndsPrinting result (gap_between interval (option_map (λ t. t.last) before) time)) }
+    ensures asked { IfErr result (λ _. is_some interval ≡ true) }
 {
     let Some(interval) = interval else {
         return Ok(());

@@ -20,7 +20,7 @@ loop-before-preserved g c =
     let (es, read, printed) = inv.read in
     let (e, time, before, next, first, counted) = next_is c.loop-before.file c.next.new.self es _ (g.R.Read.remaining c.next.new.reader.inner) c.in-Ok-Epoch.field-0-is (c.in-Ok-Epoch.ensures.epochs es _ read) in
     record {
-      read = (es ++ e ∷ [], next, printed_more (at c.args.writer.now) (at c.loop-before.writer) (at c.print_gap.new.writer) c.args.interval es e c.in-Ok-Epoch.before printed before time c.in_ok-print_gap-in-Ok-Epoch.was c.print_gap.ensures);
+      read = (es ++ e ∷ [], next, printed_more (at c.args.writer.now) (at c.loop-before.writer) (at c.print_gap.new.writer) c.args.interval es e c.in-Ok-Epoch.before printed before time c.in_ok-print_gap-in-Ok-Epoch.was c.print_gap.ensures.line);
       left = leaves_more _ _ _ inv.left c.in-Ok-Epoch.ensures.left;
       same = c.in-Ok-Epoch.ensures.same isnt_err ∙ inv.same;
     }
@@ -31,13 +31,14 @@ returns-in_err-print_gap-in-Ok-Epoch-clause-gaps g c =
     let inv = c.loop-before.invariant in
     let (es, read, printed) = inv.read in
     let (e, time, before, next, first, counted) = next_is c.loop-before.file c.next.new.self es _ (g.R.Read.remaining c.next.new.reader.inner) c.in-Ok-Epoch.field-0-is (c.in-Ok-Epoch.ensures.epochs es _ read) in
-    let (write, part) = printed_more (at c.args.writer.now) (at c.loop-before.writer) (at c.print_gap.new.writer) c.args.interval es e c.in-Ok-Epoch.before printed before time c.in_err-print_gap-in-Ok-Epoch.was c.print_gap.ensures in
+    let (write, part) = printed_more (at c.args.writer.now) (at c.loop-before.writer) (at c.print_gap.new.writer) c.args.interval es e c.in-Ok-Epoch.before printed before time c.in_err-print_gap-in-Ok-Epoch.was c.print_gap.ensures.line in
+    let asked = rw c.in_err-print_gap-in-Ok-Epoch.was at c.print_gap.ensures.asked in
     let both = devices_of g.R.Read.remaining g.W.Write.contents g.W.Deliver.waiting in
     let d = both c.args.reader.now c.args.writer.now in
     let d2 = both c.next.new.reader c.print_gap.new.writer in
     passed c.from_residual.result _ (λ r. ReadsGaps r c.args.interval d d2) c.from_residual.ensures.1
     (subst (λ (f : InspectFault). ReadsGaps (Err f) c.args.interval d d2) (sym write)
-    (es ++ e ∷ [], c.next.new.self.reading.count, first, part, c.in-Ok-Epoch.ensures.same isnt_err ∙ inv.same))
+    (es ++ e ∷ [], c.next.new.self.reading.count, asked, first, part, c.in-Ok-Epoch.ensures.same isnt_err ∙ inv.same))
 
 pub returns-in_err-print_gap-in-Ok-Epoch-clause-left : goal.returns-in_err-print_gap-in-Ok-Epoch-clause-left
 returns-in_err-print_gap-in-Ok-Epoch-clause-left g c = leaves_more _ _ _ c.loop-before.invariant.left c.in-Ok-Epoch.ensures.left
