@@ -6,9 +6,12 @@ from functools import cached_property
 from pathlib import Path
 
 USE = re.compile(
-    r"^\s*(?:ghost )?(?:unfoldable )?(?P<passed>pub )?use (?P<module>[^\s{;]+?)(?:\.\{(?P<names>[^}]*)\}| as (?P<alias>[^\s;]+))?;?$"
+    r"^\s*(?:ghost )?(?:unfoldable )?(?P<passed>pub )?use (?P<module>[^\s{;]+?)"
+    r"(?:\.\{(?P<names>[^}]*)\}| as (?P<alias>[^\s;]+))?;?$"
 )
-SIGNATURE = re.compile(r"^(?:(?:abbrev|unfoldable|pub) )*(?:(?:record|data) (?P<type>[^\s:(]+)|(?P<name>[^\s:(]+) :(?:\s|$))")
+SIGNATURE = re.compile(
+    r"^(?:(?:abbrev|unfoldable|pub) )*(?:(?:record|data) (?P<type>[^\s:(]+)|(?P<name>[^\s:(]+) :(?:\s|$))"
+)
 CONSTRUCTOR = re.compile(r"^\s+(?:pub )?(\S+) : ")
 # What ends a word. A field `x.name` isn't a word of its own, and neither is a comment.
 WORD = re.compile(r"[^\s(){}\[\],;.λ]+")
@@ -128,7 +131,8 @@ def indentation(line: str) -> int:
 def read_source(crate: str, file: Path) -> Source:
     source = Source(crate, file)
     lines = file.read_text(encoding="utf-8").splitlines()
-    for base, names in re.findall(r"^(?:pub(?:\(crate\))? )?use ([a-z_0-9]+)::([^;]*);", "\n".join(lines), re.MULTILINE):
+    uses = re.findall(r"^(?:pub(?:\(crate\))? )?use ([a-z_0-9]+)::([^;]*);", "\n".join(lines), re.MULTILINE)
+    for base, names in uses:
         where = crate if base in ("crate", "super", "self") else base
         source.crates |= dict.fromkeys(re.findall(r"\w+", names), where)
     owner, at = "", 0
@@ -197,7 +201,9 @@ class Definitions:
             return self.find(*module.passed.names[name])
         return self.by_constructor.get((path, name))
 
-    def cited(self, lines: Iterable[str], scope: Scope, own: Module | None = None) -> tuple[list[Definition], list[tuple[str, str]]]:
+    def cited(
+        self, lines: Iterable[str], scope: Scope, own: Module | None = None
+    ) -> tuple[list[Definition], list[tuple[str, str]]]:
         """Returns the definitions that a text cites, and the modules and names of all else."""
         names = set()
         words, variables = set(), set()
