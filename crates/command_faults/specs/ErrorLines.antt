@@ -42,6 +42,7 @@ date_words dated.Until = codes "--until TIME:" ∷ time_form
 -- the name of an error, and its parameters or the accepted form
 abbrev pub error_words : CommandFault → List (List ℕ)
 error_words faults.Memory = codes "Memory" ∷ []
+error_words faults.OneOf = codes "OneOf" ∷ codes "--week WEEK, --near DATE: one of them" ∷ []
 error_words (faults.BadDate option) = codes "BadDate" ∷ date_words option
 error_words faults.BadPosition =
     codes "BadPosition" ∷ codes "--position X,Y,Z: metres, up to 8 digits and 4 decimals each,"

@@ -30,6 +30,7 @@ fn add_error(line: &mut OutputLine, fault: CommandFault)
 {
     match fault {
         CommandFault::Memory => line.add_word("Memory"),
+        CommandFault::OneOf => line.add_word("OneOf --week WEEK, --near DATE: one of them"),
         CommandFault::BadDate(option) => add_date_error(line, option),
         CommandFault::BadPosition => line.add_word(
             "BadPosition --position X,Y,Z: metres, up to 8 digits and 4 decimals each, \

@@ -10,6 +10,8 @@ use rtcm_inspect::InspectFault;
 pub enum CommandFault {
     /// Out of memory while reading the words.
     Memory,
+    /// Neither `--week` nor `--near` is given, or both are.
+    OneOf,
     /// The text of this option isn't a date, nor a week or a time where one is accepted.
     BadDate(DateOption),
     /// The text of `--position` isn't a position.

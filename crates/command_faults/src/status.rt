@@ -10,7 +10,7 @@ use devices::{Counted, Deliver};
 use rtcm_inspect::print_line;
 
 /// Prints the fault of a command, if any, on one line, and returns the exit status: 0 after
-/// success, 2 if a date, the position, the height, the list of channels, the window, an interval or
+/// success, 2 if not one of two options is given, or a date, the position, the height, the list of channels, the window, an interval or
 /// the tolerance is invalid, else 1. A failure of this writer is ignored.
 pub fn exit_status<E: Deliver>(ended: Result<(), CommandFault>, faults: &mut Counted<E>) -> u8
     ensures value { result ≡ status_of ended }
@@ -20,7 +20,8 @@ pub fn exit_status<E: Deliver>(ended: Result<(), CommandFault>, faults: &mut Cou
     let Err(fault) = ended else { return 0 };
     print_line(error_line(fault).as_bytes(), faults);
     match fault {
-        CommandFault::BadDate(_)
+        CommandFault::OneOf
+        | CommandFault::BadDate(_)
         | CommandFault::BadPosition
         | CommandFault::BadHeight
         | CommandFault::BadChannels

@@ -40,8 +40,12 @@ flag name = record (read_by value.Bool (named name)) { action = Some action.SetT
 abbrev pub required : Rule → Rule
 required a = record a { required = true }
 
+-- what gives the week of the first observations: one of them has to be given
 abbrev pub week : Rule
-week = required (option (codes "week"))
+week = option (codes "week")
+
+abbrev pub near : Rule
+near = option (codes "near")
 
 abbrev pub date : Rule
 date = required (option (codes "date"))
@@ -75,7 +79,7 @@ abbrev pub channels : Rule
 channels = or_else [] (option (codes "glonass-channels"))
 
 abbrev pub leap_seconds : Rule
-leap_seconds = read_by (value.Unsigned 0 255) (or_else (codes "18") (option (codes "leap-seconds")))
+leap_seconds = read_by (value.Unsigned 0 255) (option (codes "leap-seconds"))
 
 abbrev pub planned_with : System → List Rule
 planned_with Glonass = planned Glonass ∷ channels ∷ leap_seconds ∷ []
@@ -83,10 +87,6 @@ planned_with other = planned other ∷ []
 
 abbrev pub station : Rule
 station = read_by (value.Signed (pos 0) (pos 4095)) (option (codes "station"))
-
--- a date near the first observations
-abbrev pub near : Rule
-near = option (codes "near")
 
 abbrev pub times : Rule
 times = flag (codes "times")
@@ -157,7 +157,7 @@ check = with_options (new_app (codes "check")) (times ∷ gaps ∷ [])
 
 abbrev pub convert : (forms rules : Choices) → App
 convert forms rules = with_options (with_options (new_app (codes "convert"))
-    (week ∷ date ∷ from ∷ until ∷ interval ∷ tolerance
+    (week ∷ near ∷ date ∷ from ∷ until ∷ interval ∷ tolerance
     ∷ (flat_map planned_with systems ++ msm forms ∷ station ∷ position ∷ height ∷ gather rules ∷ limit ∷ [])))
     texts
 

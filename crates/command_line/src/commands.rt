@@ -155,9 +155,12 @@ const CONVERT: CommandRow<'static> = CommandRow {
                cells and epochs.",
     options: option_rows! {
         None => {
-            "week", "WEEK", true, &[], TEXT, Set,
+            "week", "WEEK", false, &[], TEXT, Set,
                 "GPS week of the first observations, 0 to 99999\n\
                  without rollover, or a date in it: 2024-02-04";
+            "near", "DATE", false, &[], TEXT, Set,
+                "In place of --week: GPS date within half a week\n\
+                 of the first observations, as 2024-02-04";
             "date", "TEXT", true, &[], TEXT, Set, "Date of the run: 'yyyymmdd hhmmss UTC'";
         }
         Some("Epochs") => {
@@ -186,9 +189,10 @@ const CONVERT: CommandRow<'static> = CommandRow {
                 "Channels of GLONASS slots, as 1:1,2:-4:\n\
                  without one a satellite has no phase and\n\
                  no Doppler shift";
-            "leap-seconds", "SECONDS", false, &["18"], ValueParser::Unsigned(0, 255), Set,
+            "leap-seconds", "SECONDS", false, &[], ValueParser::Unsigned(0, 255), Set,
                 "GPS time minus UTC, 0 to 255, for the\n\
-                 times of GLONASS";
+                 times of GLONASS; without it 18, or with\n\
+                 --near that of the date";
             "beidou", "SIGNALS", false, &["none"], TEXT, Set,
                 "BeiDou signals in the file's order: all,\n\
                  none, or codes as 2I,6I";

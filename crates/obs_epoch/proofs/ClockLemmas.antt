@@ -1,6 +1,7 @@
 -- A step of the clock adds one message to the list.
 use Rattle.std.proofs.Common.{◌≡◌, ℕ, zero, suc, ◌+◌, ◌*◌, ◌/◌, ◌<◌, Bool, true, false, not, ◌||◌, ◌&&◌, List, [], ◌∷◌, ◌++◌, refl, ap, ap₂, ◌∙◌, subst, arith, Option, Some, None, nat_lt, ◌==◌}
 use Rattle.obs_epoch.specs.inner.Names.{CloseFirst, CellCounts, GatherSetup, Heard, ends_epoch, is_own, Timed, greatest_time, is_closed, taken_at, ahead, is_late, is_past, time_of, State, is_pending, closes_first, kind_after, kind_by, step_by, is_late_at, is_first_at, ended_where, option_map_or}
+use Rattle.obs_epoch.specs.Starts.{first_week}
 use Rattle.rtcm_msg.specs.Msm.{week}
 use Rattle.obs_epoch.proofs.TimesLemmas.{next, greatest-push, greatest-present, greater-absent, none-absent, closed-push, closed-new}
 use Rattle.std.proofs.lemmas.Grind.{common_steps}
@@ -90,7 +91,7 @@ follows s xs tow early = by (greatest_time xs) refl early where
   at_once t u (suc d) at e early = greater t at (omega (arith, e))
 
   by : (g : Option ℕ) → greatest_time xs ≡ g → option_map_or (λ t. nat_lt (week / 2) (ahead t tow) || ((ahead t tow == 0) && is_closed s t xs)) g false ≡ false
-      → Follows s xs (option_map_or (λ t. t + ahead t tow) g (s.start_week * week + tow))
+      → Follows s xs (option_map_or (λ t. t + ahead t tow) g (first_week s.start tow * week + tow))
   by None at early = first at
   by (Some t) at early = at_once t (t + ahead t tow) (ahead t tow) at refl early
 

@@ -12,6 +12,7 @@ pub mod OneStepLemmas
 pub mod ClockLemmas
 pub mod HeardLemmas
 pub mod Rows
+pub mod StartLaws
 pub mod EntryLemmas
 pub mod HistoryLemmas
 pub mod ReturnedLemmas

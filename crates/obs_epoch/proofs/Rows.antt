@@ -1,5 +1,6 @@
 -- The definitions computed on small lists.
 use Rattle.obs_epoch.specs.declared.setup.Gather.TheVariants as gathers
+use Rattle.obs_epoch.specs.declared.week.Start.TheVariants.{Week}
 use Rattle.gnss_system.specs.declared.system.System.TheVariants.{Glonass}
 use Rattle.obs_epoch.specs.Heard.{tow_of}
 use Rattle.std.proofs.Common.{◌≡◌, ℕ, ◌+◌, ◌*◌, ◌^◌, Bool, true, false, List, [], ◌∷◌, map, refl, Option, Some, None, pos, ℤ}
@@ -7,11 +8,12 @@ use Rattle.obs_epoch.specs.inner.Names.{Gps, GatherSetup, Heard, HeardCell, time
 use Rattle.gnss_system.specs.SystemValues.{of_two}
 use Rattle.gnss_obs.specs.Values.{plan_with}
 use Rattle.rtcm_msg.specs.Msm.{week}
+use Rattle.obs_epoch.specs.Starts.{first_week}
 use Rattle.obs_epoch.specs.Choices.{every_epoch}
 use Rattle.obs_epoch.specs.Epochs.{closed_times, epoch_at, epochs}
 
 abbrev setup : GatherSetup
-setup = record { plan = plan_with (of_two (2 ∷ []) (2 ∷ []) []); start_week = 2300; station = Some 7; gather = gathers.Bit; initial = no_values; leap_seconds = 18; choice = every_epoch }
+setup = record { plan = plan_with (of_two (2 ∷ []) (2 ∷ []) []); start = Week 2300; station = Some 7; gather = gathers.Bit; initial = no_values; leap_seconds = 18; choice = every_epoch }
 
 abbrev observed : ℕ → Bool → List HeardCell → Heard
 observed tow more cells = record { station = Some 7; tow = Some tow; more = Some more; cells = cells; unlisted = 0; point = None }
@@ -31,6 +33,7 @@ abbrev four : List Heard
 four = observed 604_799_000 false [] ∷ observed 0 false [] ∷ observed 302_400_000 false [] ∷ observed 1 false [] ∷ []
 
 pub four_times : map (λ x. x.time) (timed setup four) ≡ Some (2300 * week + 604_799_000) ∷ Some (2301 * week) ∷ Some (2301 * week + 302_400_000) ∷ None ∷ []
+unfolding first_week
 four_times = refl
 
 -- An unsupported message closes the epoch, and the last message is late.
@@ -38,10 +41,12 @@ abbrev closing : List Heard
 closing = observed 5 true [] ∷ observed 5 true [] ∷ other false ∷ observed 5 true [] ∷ []
 
 pub closing_times : map (λ x. x.time) (timed setup closing) ≡ Some (2300 * week + 5) ∷ Some (2300 * week + 5) ∷ None ∷ None ∷ []
+unfolding first_week
 closing_times = refl
 
 pub not_by_bit : map (λ x. x.time) (timed (record setup { gather = gathers.Time }) closing)
     ≡ Some (2300 * week + 5) ∷ Some (2300 * week + 5) ∷ None ∷ Some (2300 * week + 5) ∷ []
+unfolding first_week
 not_by_bit = refl
 
 abbrev cell : Option ℤ → Option ℕ → HeardCell
@@ -66,10 +71,13 @@ three =
     ∷ observed 3000 true (cell (Some (pos 1)) (Some 2048) ∷ cell None None ∷ []) ∷ []
 
 pub three_llis : small_lli (epochs setup (timed setup three)) ≡ (0 ∷ []) ∷ (0 ∷ []) ∷ (1 ∷ []) ∷ []
+unfolding first_week
 three_llis = refl
 
 pub two_closed : small_lli (map (epoch_at setup (timed setup three)) (closed_times setup (timed setup three))) ≡ (0 ∷ []) ∷ (0 ∷ []) ∷ []
+unfolding first_week
 two_closed = refl
 
 pub one_repeated : counts_of setup [] (cell None None ∷ cell None (Some 1) ∷ []) ≡ record { kept = 1; skipped = 0; repeated = 1; crowded = 0 }
+unfolding first_week
 one_repeated = refl

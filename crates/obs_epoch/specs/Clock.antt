@@ -4,6 +4,7 @@ use Rattle.std.specs.Option.{option_map_or, ForSome}
 use Rattle.obs_epoch.specs.Heard.{GatherSetup, Heard, is_own}
 use Rattle.rtcm_msg.specs.Msm.{week}
 use Rattle.gnss_obs.specs.Weeks.{weeks}
+use Rattle.obs_epoch.specs.Starts.{Start, is_no_week}
 use Rattle.obs_epoch.specs.Times.{Timed, greatest_time, is_closed, is_late, is_past, time_of, timed}
 
 -- The value of a clock: its setup, the greatest time, and whether the epoch of that time is pending.
@@ -12,9 +13,9 @@ pub record State : Type 0 where
   pub latest : Option ℕ
   pub pending : Bool
 
--- The start week and the greatest time are within the weeks; a pending epoch has a time.
-pub record IsWithinWeeks (start_week : ℕ) (latest : Option ℕ) (pending : Bool) : Type 0 where
-  pub start : start_week < weeks
+-- The first week and the greatest time are within the weeks; a pending epoch has a time.
+pub record IsWithinWeeks (start : Start) (latest : Option ℕ) (pending : Bool) : Type 0 where
+  pub first : is_no_week start ≡ false
   pub time : ForSome latest (λ t. t < weeks * week)
   pub known : pending ≡ true → is_some latest ≡ true
 

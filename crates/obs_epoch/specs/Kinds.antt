@@ -5,6 +5,7 @@ use Rattle.obs_epoch.specs.declared.taken.Kind.TheVariants as kinds
 use Rattle.std.specs.Prelude.{nat_lt}
 use Rattle.std.specs.Option.{option_map_or}
 use Rattle.obs_epoch.specs.declared.setup.Gather.TheVariants as gathers
+use Rattle.obs_epoch.specs.declared.week.Start.TheVariants.{Week}
 use Rattle.gnss_obs.specs.Values.{PlanValue}
 use Rattle.obs_epoch.specs.Heard.{GatherSetup, Heard, is_own}
 use Rattle.gnss_obs.specs.Values.{no_values}
@@ -51,7 +52,7 @@ default_leap = 18
 abbrev pub default_setup : PlanValue → ℕ → GatherSetup
 default_setup plan start_week = record {
   plan = plan;
-  start_week = start_week;
+  start = Week start_week;
   station = None;
   gather = gathers.Bit;
   initial = no_values;

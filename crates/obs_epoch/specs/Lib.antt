@@ -1,5 +1,7 @@
 pub mod Choices
 pub mod Heard
+pub mod NearWeek
+pub mod Starts
 pub mod Times
 pub mod Cells
 pub mod Loss

@@ -5,6 +5,7 @@ use Rattle.std.specs.Option.{option_map_or}
 use Rattle.std.specs.List.{list_any}
 use Rattle.rtcm_msg.specs.Msm.{week}
 use Rattle.gnss_obs.specs.Weeks.{weeks}
+use Rattle.obs_epoch.specs.Starts.{first_week}
 use Rattle.obs_epoch.specs.Heard.{GatherSetup, Heard, is_own, ends_epoch}
 
 -- A message, with its time if it was accepted.
@@ -42,7 +43,7 @@ ahead t tow = (tow + (week - t % week)) % week
 
 -- The time of a message with this time of week.
 abbrev pub time_of : GatherSetup → List Timed → ℕ → ℕ
-time_of s earlier tow = option_map_or (λ t. t + ahead t tow) (greatest_time earlier) (s.start_week * week + tow)
+time_of s earlier tow = option_map_or (λ t. t + ahead t tow) (greatest_time earlier) (first_week s.start tow * week + tow)
 
 -- More than half a week ahead, so before the greatest time; or equal to the greatest time, if its epoch is closed.
 abbrev pub is_late : GatherSetup → List Timed → ℕ → Bool

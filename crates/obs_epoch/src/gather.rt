@@ -8,7 +8,6 @@ ghost use Rattle.rtcm_msg.specs.inner.Viewed.{viewed_message};
 ghost use Rattle.rtcm_msg.specs.Forms.{lock_codes};
 ghost use Rattle.rtcm_msg.specs.inner.Forms.{form_as};
 ghost use Rattle.rtcm_msg.specs.inner.Views.{formed};
-ghost use Rattle.gnss_obs.specs.Weeks.{weeks};
 ghost use Rattle.obs_epoch.specs.Heard.{Heard, heard_by, heard_summary};
 ghost use Rattle.obs_epoch.specs.declared.setup.GatherSetup.{GatherSetup};
 ghost use Rattle.gnss_obs.specs.Order.{AreSortedByPlan};
@@ -20,6 +19,7 @@ ghost use Rattle.obs_epoch.specs.GathererAfter.{most_locks, recorded};
 ghost use Rattle.obs_epoch.specs.inner.Step.{kind_by, closed_time, ended_where, step_by};
 ghost use Rattle.gnss_obs.specs.Values.{Closed, cells_of, most_cells, planned_of};
 ghost use Rattle.obs_epoch.specs.Kinds.{is_no_station, with_counts};
+ghost use Rattle.obs_epoch.specs.Starts.{is_no_week};
 ghost use Rattle.obs_epoch.specs.GathererHistory.{HasGatheredEpochs, closed_by, closed_in, plan_in};
 ghost use Rattle.obs_epoch.specs.inner.Calls.{TakesMessage, EndsPendingEpoch, StaysEnded, HoldsCells, HoldsLockedKeys};
 ghost use Rattle.obs_epoch.specs.inner.Calls.{CountsEpochs};
@@ -90,7 +90,7 @@ impl Model for Gatherer {
 
 impl Gatherer {
     /// Returns a gatherer of the messages of one station, or of all stations as if they were one.
-    /// The first time is in the start week. Only this call allocates.
+    /// The first time is in the week that the start gives. Only this call allocates.
     ///
     /// # Errors
     ///
@@ -100,15 +100,16 @@ impl Gatherer {
         ensures history { IfOk result (λ g. HasGatheredEpochs g setup [] [] None) }
         ensures going { IfOk result (λ g. g.has_ended ≡ false) }
         ensures none { IfOk result (λ g. closed_in g ≡ None) }
-        ensures accepted { IsOk result → (setup.start_week < weeks) × (is_no_station setup.station ≡ false) }
-        ensures week { (result ≡ Err PlanFault.BadWeek) ↔ (weeks ≤ setup.start_week) }
+        ensures accepted { IsOk result
+            → (is_no_week setup.start ≡ false) × (is_no_station setup.station ≡ false) }
+        ensures week { (result ≡ Err PlanFault.BadWeek) ↔ (is_no_week setup.start ≡ true) }
         ensures station { (result ≡ Err PlanFault.BadStation)
-            ↔ ((setup.start_week < weeks) × (is_no_station setup.station ≡ true)) }
+            ↔ ((is_no_week setup.start ≡ false) × (is_no_station setup.station ≡ true)) }
         ensures only { IfErr result
             (λ e. (e ≡ PlanFault.BadWeek) ⊎ ((e ≡ PlanFault.BadStation) ⊎ (e ≡ PlanFault.Memory))) }
     {
         let initial = setup.initial;
-        match new_parts(alloc, setup.start_week, setup.station) {
+        match new_parts(alloc, setup.start, setup.station) {
             Ok((pending, closed, locks, marks)) => Ok(Gatherer {
                 clock: Clock::new(setup),
                 pending,

@@ -4,6 +4,7 @@ ghost use Rattle.obs_epoch.specs.Laws.{AllClosed, ClosedStay, ClosedComeFirst, N
 ghost use Rattle.obs_epoch.specs.Laws.{IsThinnedByChoice, IsWholeByEvery, NoneReturned, ReturnsEvery, WindowsAreApart};
 ghost use Rattle.obs_epoch.specs.Laws.{WindowsJoin};
 ghost use Rattle.obs_epoch.specs.Reach.{MessagesAreHeard, EpochsAreGathered};
+ghost use Rattle.obs_epoch.specs.Starts.{IsGivenWeek, IsNearestFirst, IsWeekOfWeeks};
 ghost use Rattle.obs_epoch.specs.TimeLaws.{IsGlonassTime};
 ghost use Rattle.obs_epoch.specs.TwoSystems.{AreReadPlainly};
 ghost use Rattle.gnss_obs.specs.GatheredEpochs.{AreStationValues};
@@ -55,6 +56,16 @@ pub fn two_systems()
     rtcm_msg::laws::message_sets();
     rtcm_msg::laws::default_messages();
 }
+
+/// The week of the first observations is the given one, or the one in which their time of week is
+/// nearest to the given time. It is one from 0 to 99,999.
+#[tactic(auto, using(crate::proofs::StartLaws::given, crate::proofs::StartLaws::nearest,
+    crate::proofs::StartLaws::of_weeks))]
+pub fn first_week()
+    ensures given { IsGivenWeek }
+    ensures near { IsNearestFirst }
+    ensures weeks { IsWeekOfWeeks }
+{}
 
 /// GLONASS time is UTC plus 3 h, and GPS time is UTC plus the leap seconds.
 #[tactic(auto, using(crate::proofs::TimeLawLemmas::glonass_time))]

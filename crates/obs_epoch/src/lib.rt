@@ -29,6 +29,7 @@ mod signal_counts;
 mod start;
 mod taken;
 mod tow;
+mod week;
 
 pub use choice::{Choice, EpochCounts};
 pub use gather::Gatherer;
@@ -37,3 +38,4 @@ pub use setup::{Gather, GatherSetup, LEAP_SECONDS};
 pub use signal_counts::SignalCounts;
 pub use taken::{CellCounts, Kind, Taken};
 pub use tow::tow_of;
+pub use week::{Start, week_near};

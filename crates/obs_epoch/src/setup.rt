@@ -3,6 +3,7 @@ ghost use Rattle.std.specs.Prelude.{◌≡◌};
 ghost use Rattle.obs_epoch.specs.Kinds.{default_setup};
 
 use crate::choice::Choice;
+use crate::week::Start;
 use gnss_obs::{Plan, StationValues};
 
 /// How the epochs of a station are closed.
@@ -23,8 +24,8 @@ pub const LEAP_SECONDS: u8 = 18;
 pub struct GatherSetup {
     /// The wanted signals.
     pub plan: Plan,
-    /// The GPS week of the first observations, from 0 to 99,999, without wrapping.
-    pub start_week: u32,
+    /// What gives the week of the first observations.
+    pub start: Start,
     /// The reference station (DF003, 0 to 4,095) whose messages are used; `None` uses those of
     /// every station as if they were one.
     pub station: Option<u16>,
@@ -47,7 +48,7 @@ impl GatherSetup {
     {
         GatherSetup {
             plan,
-            start_week,
+            start: Start::Week(start_week),
             station: None,
             gather: Gather::Bit,
             initial: StationValues::zero(),

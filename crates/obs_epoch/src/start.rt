@@ -1,15 +1,16 @@
 //! What a gatherer starts with.
-ghost use Rattle.std.specs.Prelude.{◌≡◌, ◌↔◌, ◌⊎◌, ◌<◌, ◌≤◌, true, false, IfOk, IfErr, IsOk, Err};
+ghost use Rattle.std.specs.Prelude.{◌≡◌, ◌↔◌, ◌⊎◌, true, false, IfOk, IfErr, IsOk, Err};
 ghost use Rattle.gnss_obs.specs.Values.{empty_epoch, no_cells, no_values};
-ghost use Rattle.gnss_obs.specs.Weeks.{weeks};
 ghost use Rattle.gnss_obs.specs.declared.fault.PlanFault.{PlanFault};
 ghost use Rattle.obs_epoch.specs.inner.Held.{no_locks};
 ghost use Rattle.obs_epoch.specs.Kinds.{is_no_station};
+ghost use Rattle.obs_epoch.specs.Starts.{is_no_week};
 ghost use Rattle.obs_epoch.specs.inner.Marks.{no_marks};
 
 use crate::locks::Locks;
 use crate::marks::Marks;
-use gnss_obs::{Epoch, EpochCells, PlanFault, WEEKS};
+use crate::week::Start;
+use gnss_obs::{Epoch, EpochCells, PlanFault};
 use std::alloc::{AllocError, Global};
 
 /// Returns no cells, an epoch without cells, empty lock records and no loss of lock, if the start
@@ -21,21 +22,21 @@ use std::alloc::{AllocError, Global};
 /// else `Memory` if an allocation failed.
 pub fn new_parts(
     alloc: Global,
-    start_week: u32,
+    start: Start,
     station: Option<u16>,
 ) -> Result<(EpochCells, Epoch, Locks, Marks), PlanFault>
     ensures pending { IfOk result (λ r. r.0 ≡ no_cells) }
     ensures closed { IfOk result (λ r. r.1 ≡ record { epoch = empty_epoch 0; values = no_values }) }
     ensures locks { IfOk result (λ r. r.2 ≡ no_locks) }
     ensures marks { IfOk result (λ r. r.3 ≡ no_marks) }
-    ensures accepted { IsOk result → (start_week < weeks) × (is_no_station station ≡ false) }
-    ensures week { (result ≡ Err PlanFault.BadWeek) ↔ (weeks ≤ start_week) }
+    ensures accepted { IsOk result → (is_no_week start ≡ false) × (is_no_station station ≡ false) }
+    ensures week { (result ≡ Err PlanFault.BadWeek) ↔ (is_no_week start ≡ true) }
     ensures station { (result ≡ Err PlanFault.BadStation)
-        ↔ ((start_week < weeks) × (is_no_station station ≡ true)) }
+        ↔ ((is_no_week start ≡ false) × (is_no_station station ≡ true)) }
     ensures only { IfErr result
         (λ e. (e ≡ PlanFault.BadWeek) ⊎ ((e ≡ PlanFault.BadStation) ⊎ (e ≡ PlanFault.Memory))) }
 {
-    if start_week as u64 >= WEEKS {
+    if start.is_no_week() {
         return Err(PlanFault::BadWeek);
     }
     if station.unwrap_or(0) > 4_095 {

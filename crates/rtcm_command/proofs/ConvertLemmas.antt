@@ -1,6 +1,6 @@
 -- A conversion that is stopped by a fault.
 use Rattle.rtcm_command.proofs.OptionLemmas.{bad_choice}
-use Rattle.rtcm_command.proofs.Names.{⊤, AreUntouched, Devices, Writer, EndsConverting, culprit, IsErrAnd, passed, ◌≡◌, ap, sym, subst, refl, ℕ, ℤ, List, Option, Some, Result, Err, IsErrOf, IfSome, inl, inr, ◌≢◌, ◌↔◌, IsSentAfter, IsSetupFault, IsMadeEmpty, IsMadeSoFar, IsMadeInPart, IsMadeToLimit, IsBad, Setup, Fault, Memory, BadSetup, TooLong, Read, Write, Failed, Finished, NoEpoch, NoneChosen, EpochCounts, Report, CommandFault, Row, StationValues, values_by, HasSetupFault, IsRefusedAfterWeek, IsRefusedAfterChannels, IsSetupRefused, IsWeekSet, values_set, StopsConversion, HaveFailedBy, ChannelsValue, channels_by, channels_set}
+use Rattle.rtcm_command.proofs.Names.{⊤, AreUntouched, Devices, Writer, EndsConverting, culprit, IsErrAnd, passed, ◌≡◌, ap, sym, subst, refl, ℕ, ℤ, List, Option, Some, None, Result, Err, IsErrOf, IfSome, inl, inr, ◌≢◌, ◌↔◌, IsSentAfter, IsSetupFault, IsMadeEmpty, IsMadeSoFar, IsMadeInPart, IsMadeToLimit, IsBad, Setup, Fault, Memory, BadSetup, TooLong, Read, Write, Failed, Finished, NoEpoch, NoneChosen, EpochCounts, Report, CommandFault, Row, StationValues, values_by, HasSetupFault, IsRefusedAfterStart, IsRefusedAfterChannels, IsSetupRefused, IsStartFault, IsStartSet, Start, codes, first_of, values_set, StopsConversion, HaveFailedBy, ChannelsValue, channels_by, channels_set}
 use Rattle.command_faults.specs.declared.fault.CommandFault.TheVariants as faults
 
 abbrev Result-of : Fault → Result Report Fault
@@ -44,8 +44,13 @@ module _ {R W : Type 0} (d : Devices R W) (options : List Row) where
   HasNoneFailed e = HaveFailedBy (culprit e) d d
 
   none_failed : (e : CommandFault) → IsSetupRefused options e → HasNoneFailed e
-  none_failed e (inl (is, none)) = subst HasNoneFailed (sym is) (refl, refl)
-  none_failed e (inr (n, week, first)) = by _ _ _ first where
+  none_failed e (inl bad) = no_start (first_of (codes "week") options) (first_of (codes "near") options) bad where
+    no_start : (week near : Option (List ℕ)) → IsStartFault week near e → HasNoneFailed e
+    no_start (Some text) None h = subst HasNoneFailed (sym h.0) (refl, refl)
+    no_start None (Some text) h = subst HasNoneFailed (sym h.0) (refl, refl)
+    no_start None None h = subst HasNoneFailed (sym h) (refl, refl)
+    no_start (Some text) (Some date) h = subst HasNoneFailed (sym h) (refl, refl)
+  none_failed e (inr (start, set, first)) = by _ _ _ first where
     made : (e : CommandFault) → HasSetupFault options e → HasNoneFailed e
     made (faults.Header f) h = (refl, refl)
     made (faults.Plan f) h = (refl, refl)
@@ -55,7 +60,7 @@ module _ {R W : Type 0} (d : Devices R W) (options : List Row) where
     last (inl choice) = bad_choice HasNoneFailed (λ o. (refl, refl)) (refl, refl) (refl, refl) (refl, refl) options e choice
     last (inr (choice, is, fault)) = made e fault
 
-    by : (p : Option (ℤ × ℤ × ℤ)) (h : Option ℕ) (c : Option ChannelsValue) → IsRefusedAfterWeek (values_by p h) (channels_by c) options e → HasNoneFailed e
+    by : (p : Option (ℤ × ℤ × ℤ)) (h : Option ℕ) (c : Option ChannelsValue) → IsRefusedAfterStart (values_by p h) (channels_by c) options e → HasNoneFailed e
     by (Some (x, y, z)) (Some h) (Some c) is = last is
     by p h c is = subst HasNoneFailed (sym is) (refl, refl)
 
@@ -63,7 +68,7 @@ module _ {R W : Type 0} (d : Devices R W) (options : List Row) where
   ends_refused ended fault e is refused =
       passed ended fault (λ x. EndsConverting x options e e d d) is (none_failed fault refused, (inl (refused, (refl, refl)), refl))
 
--- the first fault after a valid week, of results that are known
-pub first_fault : {values : Result StationValues CommandFault} {channels : Result ChannelsValue CommandFault} {fault : CommandFault} (options : List Row) (n : ℕ) → IsWeekSet options n → values_set options ≡ values → channels_set options ≡ channels
-    → IsRefusedAfterWeek values channels options fault → IsSetupRefused options fault
-first_fault {values} {channels} {fault} options n week is are h = inr (n, week, subst (λ (c : Result ChannelsValue CommandFault). IsRefusedAfterWeek (values_set options) c options fault) (sym are) (subst (λ (v : Result StationValues CommandFault). IsRefusedAfterWeek v channels options fault) (sym is) h))
+-- the first fault after a valid start, of results that are known
+pub first_fault : {values : Result StationValues CommandFault} {channels : Result ChannelsValue CommandFault} (fault : CommandFault) (options : List Row) (start : Start) → IsStartSet options start → values_set options ≡ values → channels_set options ≡ channels
+    → IsRefusedAfterStart values channels options fault → IsSetupRefused options fault
+first_fault {values} {channels} fault options start set is are h = inr (start, set, subst (λ (c : Result ChannelsValue CommandFault). IsRefusedAfterStart (values_set options) c options fault) (sym are) (subst (λ (v : Result StationValues CommandFault). IsRefusedAfterStart v channels options fault) (sym is) h))

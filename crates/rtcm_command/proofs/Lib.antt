@@ -4,3 +4,4 @@ mod ConvertLemmas
 mod CommandLemmas
 pub mod PrintedPlanLemmas
 pub mod PrintedWordsLemmas
+mod NearOptionLemmas

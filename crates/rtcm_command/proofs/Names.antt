@@ -23,6 +23,8 @@ pub use Rattle.rtcm_command.specs.Devices.{culprit, of_inspection}
 pub use Rattle.devices.specs.Devices.{AreFine, AreUntouched, Devices, Ends, HaveFailedBy, Reader, Writer, devices_of, writer_of}
 unfoldable pub use Rattle.command_faults.specs.ErrorLines.{error_line}
 pub use Rattle.line_texts.specs.Lengths.{epoch_interval_of, interval_of, length_below, position_of}
+pub use Rattle.obs_epoch.specs.declared.week.Start.{Start}
+pub use Rattle.obs_epoch.specs.declared.week.Start.TheVariants.{Week, Near}
 pub use Rattle.obs_epoch.specs.declared.choice.Choice.{Choice}
 pub use Rattle.obs_epoch.specs.declared.choice.EpochCounts.{EpochCounts}
 pub use Rattle.command_faults.specs.inner.Printing.{PrintsFault}
@@ -30,7 +32,7 @@ pub use Rattle.command_faults.specs.Status.{fault_status, status_of}
 unfoldable pub use Rattle.rtcm_command.specs.Reports.{report_line}
 pub use Rattle.rtcm_command.specs.Reports.{counts_named}
 unfoldable pub use Rattle.rtcm_command.specs.SetupOptions.{plan_set}
-pub use Rattle.rtcm_command.specs.SetupOptions.{HasSetupFault, IsChoiceSet, IsRefusedAfterWeek, IsFromSet, IsRefusedAfterChannels, IsNoonOf, IsNumberOf, IsNumberOr, IsSetupRefused, IsTimeIn, IsUntilSet, IsWeekSet, channels_by, channels_set, choice_by, choice_with, gaps_set, interval_by, interval_in, interval_set, options_of, text_set, tolerance_set, values_by, values_in, values_set, window_by}
+pub use Rattle.rtcm_command.specs.SetupOptions.{HasSetupFault, IsChoiceSet, IsRefusedAfterStart, IsFromSet, IsRefusedAfterChannels, IsNoonOf, IsNumberOf, IsNumberOr, IsSetupRefused, IsTimeIn, IsStartFault, IsStartOf, IsStartRefused, IsStartSet, IsUntilSet, channels_by, channels_set, choice_by, choice_with, gaps_set, interval_by, interval_in, interval_set, options_of, text_set, tolerance_set, usual_leap, values_by, values_in, values_set, window_by}
 pub use Rattle.command_faults.specs.declared.fault.DateOption.{DateOption}
 pub use Rattle.command_faults.specs.declared.fault.CommandFault.{CommandFault}
 pub use Rattle.command_faults.specs.declared.fault.CommandFault.TheVariants.{Convert}

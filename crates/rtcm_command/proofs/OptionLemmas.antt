@@ -55,6 +55,14 @@ noon_given f id r o near is found =
     let same : option_map (λ (s : Bor (List ℕ)). s.now) o ≡ first_of id (rows_of f) = ap (option_map (λ (s : Bor (List ℕ)). s.now)) (sym found) ∙ is ∙ first_value-rows f id in
     (subst (λ (t : Option (List ℕ)). IsNoonOf t near) same, subst (λ (t : Option (List ℕ)). IsNoonOf t near) (sym same))
 
+-- of two options, by the first values found and by the options as clap's definitions list them
+pub both_given : (P : (a b : Option (List ℕ)) → Type 0) (f : Found) (id other : List ℕ) (r o q p : Option (Bor (List ℕ))) → option_map (λ s. s.now) r ≡ first_value f id → r ≡ o
+    → option_map (λ s. s.now) q ≡ first_value f other → q ≡ p → P (option_map (λ s. s.now) o) (option_map (λ s. s.now) p) → P (first_of id (rows_of f)) (first_of other (rows_of f))
+both_given P f id other r o q p is found are had h =
+    let first : option_map (λ (s : Bor (List ℕ)). s.now) o ≡ first_of id (rows_of f) = ap (option_map (λ (s : Bor (List ℕ)). s.now)) (sym found) ∙ is ∙ first_value-rows f id in
+    let second : option_map (λ (s : Bor (List ℕ)). s.now) p ≡ first_of other (rows_of f) = ap (option_map (λ (s : Bor (List ℕ)). s.now)) (sym had) ∙ are ∙ first_value-rows f other in
+    subst (P (first_of id (rows_of f))) second (subst (λ (t : Option (List ℕ)). P t (option_map (λ s. s.now) p)) first h)
+
 -- a text of which noon isn't known
 pub no_noon : (text : List ℕ) → ((t : ℕ) → IsHourOf 12 text t → ⊥) → (near : Option ℕ) → IsNoonOf (Some text) near → ⊥
 no_noon text none None h = h

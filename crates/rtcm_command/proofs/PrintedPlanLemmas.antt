@@ -3,7 +3,7 @@ use Rattle.std.specs.Prelude.{◌∷◌, nat_le, false, option_and_then, if◌th
 use Rattle.std.proofs.Common.{suc}
 use Rattle.std.proofs.lemmas.Bool.{lt-ltb}
 use Rattle.std.proofs.lemmas.List.Sums.{count_by-le-length}
-use Rattle.clap.specs.Walk.{one_of}
+use Rattle.clap.specs.Walk.{first_of, one_of}
 use Rattle.gnss_system.specs.declared.system.System.{System}
 use Rattle.gnss_system.specs.declared.system.System.TheVariants.{Glonass}
 use Rattle.gnss_system.specs.Satellites.{name_of}
@@ -19,7 +19,6 @@ use Rattle.rtcm_msg.specs.declared.number.MsmSet.{MsmSet}
 use Rattle.rtcm_msg.specs.declared.station.StationParts.{StationParts}
 use Rattle.rtcm_scan.specs.Frames.{Framed}
 use Rattle.obs_epoch.specs.Epochs.{values_from}
-use Rattle.obs_epoch.specs.Kinds.{default_leap}
 use Rattle.obs_epoch.specs.Sets.{is_always_decoded, is_decoded, set_of}
 use Rattle.line_texts.specs.ChannelTexts.{channels_text}
 use Rattle.line_texts.specs.LeapSeconds.{leap_at, leap_months, month_number}
@@ -28,18 +27,21 @@ use Rattle.rtcm_inspect.specs.ChannelLaws.{HasChannels}
 use Rattle.rtcm_inspect.specs.FirstMessages.{first_station}
 use Rattle.rtcm_inspect.specs.WeekLaws.{first_tow}
 use Rattle.rtcm_inspect.specs.Fitting.{options_line}
-use Rattle.rtcm_inspect.specs.NearWeek.{IsWeekFor, IsWeekNear}
+use Rattle.obs_epoch.specs.NearWeek.{IsWeekNear}
+use Rattle.obs_epoch.specs.Starts.{first_week, is_no_week}
+use Rattle.obs_epoch.proofs.StartLaws.{given}
+use Rattle.rtcm_inspect.specs.NearWeek.{IsWeekFor}
 use Rattle.rtcm_inspect.specs.OptionOutput.{leap_near}
 use Rattle.rtcm_inspect.specs.SignalLaws.{AreReadAsPlan}
 use Rattle.rtcm_inspect.specs.Signals.{codes_word, forms_had, had, plan_in, set_had, valued_in}
 use Rattle.rtcm_inspect.specs.StreamChannels.{channels_in}
-use Rattle.rtcm_inspect.specs.WeekLaws.{IsDatedByWeek, IsLeapFree}
+use Rattle.rtcm_inspect.specs.WeekLaws.{IsDatedByStart, IsLeapFree}
 use Rattle.rtcm_convert.specs.SetupValues.{setup_value}
 use Rattle.rtcm_command.specs.PrintedPlan.{ArePrintedWords, IsDatedAsPrinted, IsDatedNear, IsStartedAsFound, StartsAsFound, leap_option}
 use Rattle.rtcm_command.proofs.PrintedWordsLemmas.{AreAsPrinted, as_printed, channels_option, forms_text, signals_text}
 use Rattle.rtcm_command.specs.SetupOptions.{IsPlanSet}
 use Rattle.rtcm_command.specs.StationLaws.{AreChannelsSet, AreLeapSecondsRead, AreReadAsStation, AreZeroByDefault, IsStationRead, IsWeekRead}
-use Rattle.rtcm_command.proofs.Names.{ChannelsValue, IsNumberOf, IsWeekSet, Row, Setup, StationValues, bytes_eq, channels_set, height_text, no_values, plan_set, position_text, text_set, values_set, option_map_or, ◌<◌, ◌≡◌, Bool, IfSome, List, None, Ok, Option, Result, Some, [], ap, ap₂, arith, codes, decimal, inl, inr, length, lit<, option_map, refl, subst, sym, unwrap_or, ℕ, ◌^◌, ◌∙◌}
+use Rattle.rtcm_command.proofs.Names.{ChannelsValue, IsNumberOf, IsNumberOr, IsStartSet, Row, Start, Week, not, usual_leap, Setup, StationValues, bytes_eq, channels_set, height_text, no_values, plan_set, position_text, text_set, values_set, option_map_or, ◌<◌, ◌≡◌, Bool, IfSome, List, None, Ok, Option, Result, Some, [], ap, ap₂, arith, codes, decimal, inl, inr, length, option_map, refl, subst, sym, unwrap_or, ℕ, ◌^◌, ◌∙◌}
 
 -- ---- the signals
 
@@ -96,18 +98,23 @@ week_small None tow n h = cc
 week_small (Some noon) None n h = cc
 week_small (Some noon) (Some tow) n (m, is, near) = let same : n ≡ m = cc in subst (λ (k : ℕ). k < weeks) (sym same) (near_small noon tow m near)
 
-week_read : (options : List Row) (near tow w : Option ℕ) (m : ℕ) → IsWeekRead → IsWeekFor near tow w → IfSome w (λ n. text_set options (codes "week") ≡ decimal n)
-    → IsWeekSet options m → IfSome w (λ n. m ≡ n)
-week_read options near tow None m read is text set = tt
-week_read options near tow (Some n) m read is text set = (read options n m (week_small near tow n is) text).0 set
+week_read : (options : List Row) (near tow w : Option ℕ) (start : Start) → IsWeekRead → IsWeekFor near tow w → IfSome w (λ n. first_of (codes "week") options ≡ Some (decimal n))
+    → IsStartSet options start → IfSome w (λ n. start ≡ Week n)
+week_read options near tow None start read is text set = tt
+week_read options near tow (Some n) start read is text set = ((read options n start (week_small near tow n is) text).0 set).1
+
+-- without the option
+pub usual_read : (m otherwise : ℕ) → IsNumberOr 8 otherwise None m → m ≡ otherwise
+usual_read m otherwise (found, none, is) = is ∙ ap (λ (o : Option ℕ). unwrap_or o otherwise) none
 
 leap_small : (t : ℕ) → leap_at t < 256
 leap_small t = omega (arith, count_by-le-length (λ m. nat_le m (month_number (civil_of t).year (civil_of t).month)) leap_months)
 
-leap_fits : (b : Bool) (near : Option ℕ) → (if b then unwrap_or (option_map leap_at near) default_leap else default_leap) < 2 ^ 8
-leap_fits true (Some t) = leap_small t
-leap_fits true None = lit< tt
-leap_fits false near = lit< tt
+leap_read : (options : List Row) (b : Bool) (near : Option ℕ) (m otherwise : ℕ) → AreLeapSecondsRead → one_of (codes "leap-seconds") options ≡ (if b then option_map decimal (option_map leap_at near) else None)
+    → IsNumberOr 8 otherwise (one_of (codes "leap-seconds") options) m → m ≡ (if b then unwrap_or (option_map leap_at near) otherwise else otherwise)
+leap_read options true (Some t) m otherwise read is h = read options (leap_at t) m otherwise (leap_small t) is h
+leap_read options true None m otherwise read is h = usual_read m otherwise (subst (λ (t : Option (List ℕ)). IsNumberOr 8 otherwise t m) is h)
+leap_read options false near m otherwise read is h = usual_read m otherwise (subst (λ (t : Option (List ℕ)). IsNumberOr 8 otherwise t m) is h)
 
 -- ---- the station values
 
@@ -151,8 +158,8 @@ started_as_found laws options near w wanted fs x are start =
       plan = plan_found laws options x.gatherer.plan wanted fs are.some printed.signals printed.channels start.plan;
       forms = start.forms ∙ forms_read (forms_had wanted fs) (text_set options (codes "msm")) printed.forms;
       station = station_read options wanted x.gatherer.station laws.station are.station printed.station start.station;
-      week = week_read options near (first_tow (leap_near near) (set_had wanted fs) wanted fs) w x.gatherer.start_week laws.week are.week printed.week start.week;
-      leap_seconds = laws.leap options (leap_option (option_map leap_at near) (plan_in wanted fs)) x.gatherer.leap_seconds (leap_fits (is_decoded (plan_in wanted fs) Glonass) near) printed.leap_seconds start.leap;
+      week = week_read options near (first_tow (leap_near near) (set_had wanted fs) wanted fs) w x.gatherer.start laws.week are.week printed.week start.start;
+      leap_seconds = leap_read options (is_decoded (plan_in wanted fs) Glonass) near x.gatherer.leap_seconds (usual_leap x.gatherer.start) laws.leap printed.leap_seconds start.leap;
       initial = values_read options (first_station wanted fs) x.gatherer.initial laws.position laws.zero (laws.range wanted fs) printed.position printed.height start.initial;
     }
 
@@ -161,32 +168,35 @@ started_as_found laws options near w wanted fs x are start =
 -- the laws of the week
 pub record DateLaws : Type 0 where
   pub free : IsLeapFree
-  pub dated : IsDatedByWeek
+  pub dated : IsDatedByStart
   pub small : (leap : ℕ) (set : MsmSet) (wanted : Option ℕ) (fs : List Framed) (tow : ℕ) → first_tow leap set wanted fs ≡ Some tow → tow < week
 
 -- without GLONASS the leap seconds don't matter
-same_first : IsLeapFree → (noon leap : ℕ) (wanted : Option ℕ) (fs : List Framed) → leap ≡ leap_option (Some (leap_at noon)) (plan_in wanted fs)
+same_first : IsLeapFree → (noon leap : ℕ) (start : Start) (wanted : Option ℕ) (fs : List Framed) → leap ≡ leap_option (Some (leap_at noon)) (plan_in wanted fs) start
     → first_tow leap (set_had wanted fs) wanted fs ≡ first_tow (leap_at noon) (set_had wanted fs) wanted fs
-same_first free noon leap wanted fs is = by (is_decoded (plan_in wanted fs) Glonass) refl where
+same_first free noon leap start wanted fs is = by (is_decoded (plan_in wanted fs) Glonass) refl where
   by : (b : Bool) → is_decoded (plan_in wanted fs) Glonass ≡ b → first_tow leap (set_had wanted fs) wanted fs ≡ first_tow (leap_at noon) (set_had wanted fs) wanted fs
-  by true decoded = ap (λ (n : ℕ). first_tow n (set_had wanted fs) wanted fs) (is ∙ ap (λ (b : Bool). if b then leap_at noon else default_leap) decoded)
+  by true decoded = ap (λ (n : ℕ). first_tow n (set_had wanted fs) wanted fs) (is ∙ ap (λ (b : Bool). if b then leap_at noon else usual_leap start) decoded)
   by false decoded = free (set_had wanted fs) leap (leap_at noon) wanted fs decoded
 
-week_of_start : (noon tow start : ℕ) (w : Option ℕ) → IsWeekFor (Some noon) (Some tow) w → IfSome w (λ n. start ≡ n) → IsWeekNear noon tow start
+week_of_start : (noon tow : ℕ) (start : Start) (w : Option ℕ) → IsWeekFor (Some noon) (Some tow) w → IfSome w (λ n. start ≡ Week n) → IsWeekNear noon tow (first_week start tow) × (is_no_week start ≡ false)
 week_of_start noon tow start None (n, is, near) found = cc
-week_of_start noon tow start (Some m) (n, is, near) found = let same : start ≡ n = cc in subst (λ (k : ℕ). IsWeekNear noon tow k) (sym same) near
+week_of_start noon tow start (Some m) (n, is, near) found =
+    let same : start ≡ Week n = cc in
+    subst (λ (s : Start). IsWeekNear noon tow (first_week s tow) × (is_no_week s ≡ false)) (sym same)
+    (subst (λ (k : ℕ). IsWeekNear noon tow k) (sym (given n tow)) near, ap not (lt-ltb n weeks (near_small noon tow n near)))
 
 -- the first time of a conversion that starts as found
 first_dated : DateLaws → (noon : ℕ) (w wanted : Option ℕ) (fs : List Framed) (x : Setup) → StartsAsFound x w (Some (leap_at noon)) wanted fs
     → IsWeekFor (Some noon) (first_tow (leap_at noon) (set_had wanted fs) wanted fs) w → IsDatedNear noon x wanted fs
 first_dated laws noon w wanted fs x found is tow first =
-    let near : IsWeekNear noon tow x.gatherer.start_week = week_of_start noon tow x.gatherer.start_week w (subst (λ (t : Option ℕ). IsWeekFor (Some noon) t w) first is) found.week in
+    let near = week_of_start noon tow x.gatherer.start w (subst (λ (t : Option ℕ). IsWeekFor (Some noon) t w) first is) found.week in
     let set : set_of x.gatherer.plan x.forms ≡ set_had wanted fs = ap₂ set_of found.plan found.forms in
     let tow_is : first_tow x.gatherer.leap_seconds (set_of x.gatherer.plan x.forms) x.gatherer.station fs ≡ Some tow =
-    ap₂ (λ (m : MsmSet) (o : Option ℕ). first_tow x.gatherer.leap_seconds m o fs) set found.station ∙ same_first laws.free noon x.gatherer.leap_seconds wanted fs found.leap_seconds ∙ first in (
-      x.gatherer.start_week,
-      near,
-      laws.dated (setup_value x).set (setup_value x).gatherer fs tow (near_small noon tow x.gatherer.start_week near)
+    ap₂ (λ (m : MsmSet) (o : Option ℕ). first_tow x.gatherer.leap_seconds m o fs) set found.station ∙ same_first laws.free noon x.gatherer.leap_seconds x.gatherer.start wanted fs found.leap_seconds ∙ first in (
+      first_week x.gatherer.start tow,
+      near.0,
+      laws.dated (setup_value x).set (setup_value x).gatherer fs tow near.1
           (laws.small (leap_at noon) (set_had wanted fs) wanted fs tow first) tow_is,
     )
 

@@ -1,5 +1,4 @@
 -- The values that the words of the printed options give.
-use Rattle.std.specs.Fmt.{digits}
 use Rattle.std.specs.Prelude.{◌&&◌, ◌∷◌, ◌++◌, false, flat_map, if◌then◌else◌, nat_lt, option_and_then, true}
 use Rattle.std.specs.Option.{option_or}
 use Rattle.std.proofs.Common.{append_assoc, append-nil}
@@ -11,17 +10,16 @@ use Rattle.gnss_obs.specs.Values.{PlanValue, planned_of}
 use Rattle.rtcm_msg.specs.declared.number.Forms.{Forms}
 use Rattle.rtcm_msg.specs.declared.number.Forms.TheVariants as forms
 use Rattle.rtcm_msg.specs.declared.station.StationParts.{StationParts}
-use Rattle.obs_epoch.specs.Kinds.{default_leap}
 use Rattle.obs_epoch.specs.Sets.{is_always_decoded, is_decoded}
 use Rattle.line_texts.specs.ChannelTexts.{channels_text}
 use Rattle.rtcm_inspect.specs.Fitting.{antenna_words, channel_words, forms_words, further_words, number_words, option_words, other_words, position_word, station_words}
 use Rattle.rtcm_inspect.specs.Signals.{codes_word}
-use Rattle.clap.specs.Walk.{one_of}
+use Rattle.clap.specs.Walk.{first_of, one_of}
 use Rattle.rtcm_inspect.specs.FirstMessages.{first_station}
 use Rattle.rtcm_inspect.specs.Signals.{forms_had, plan_in}
 use Rattle.rtcm_scan.specs.Frames.{Framed}
 use Rattle.command_line.specs.CommandLine as rules
-use Rattle.rtcm_command.specs.PrintedPlan.{HaveValues, after_prefix, default_of, given, has_equals, leap_option, printed_words}
+use Rattle.rtcm_command.specs.PrintedPlan.{HaveValues, after_prefix, default_of, given, has_equals, printed_words}
 use Rattle.rtcm_command.proofs.Names.{ChannelsValue, IfSome, Row, text_set, subst, bytes_eq, height_text, not, position_text, option_map_or, ◌≡◌, Bool, List, None, Option, Some, [], ap, codes, decimal, length, option_map, refl, sym, unwrap_or, ℕ, ◌∙◌}
 
 -- the signals of a system: those printed, which are of GPS, of Galileo and of a system with a signal; else the default
@@ -32,6 +30,10 @@ signals_text p s = if is_decoded p s then codes_word s (planned_of s p) else cod
 abbrev pub channels_option : PlanValue → List ℕ
 channels_option p = if is_decoded p Glonass then channels_text p.channels else []
 
+-- the leap seconds, which are printed with signals of GLONASS
+abbrev pub leap_text : (leap : Option ℕ) → PlanValue → Option (List ℕ)
+leap_text leap p = if is_decoded p Glonass then option_map decimal leap else None
+
 -- the forms, of which all are printed; else the default
 abbrev pub forms_text : Forms → List ℕ
 forms_text forms.FourAndSeven = codes "4,7"
@@ -39,11 +41,11 @@ forms_text forms.All = codes "all"
 
 -- the options by the values that their words give
 pub record AreAsPrinted (options : List Row) (w leap wanted : Option ℕ) (fs : List Framed) : Type 0 where
-  pub week : IfSome w (λ n. text_set options (codes "week") ≡ decimal n)
+  pub week : IfSome w (λ n. first_of (codes "week") options ≡ Some (decimal n))
   pub station : one_of (codes "station") options ≡ option_map decimal wanted
   pub signals : (s : System) → text_set options (name_of s) ≡ signals_text (plan_in wanted fs) s
   pub channels : text_set options (codes "glonass-channels") ≡ channels_option (plan_in wanted fs)
-  pub leap_seconds : one_of (codes "leap-seconds") options ≡ Some (decimal (leap_option leap (plan_in wanted fs)))
+  pub leap_seconds : one_of (codes "leap-seconds") options ≡ leap_text leap (plan_in wanted fs)
   pub forms : text_set options (codes "msm") ≡ forms_text (forms_had wanted fs)
   pub position : text_set options (codes "position") ≡ option_map_or position_text (first_station wanted fs) (codes "0,0,0")
   pub height : text_set options (codes "antenna-height") ≡ height_text (option_and_then (λ s. s.height) (first_station wanted fs))
@@ -339,13 +341,12 @@ module _ (w leap st : Option ℕ) (p : PlanValue) (f : Forms) (first : Option St
         by true (b ∷ bs) = refl
         by false text = refl
 
-  pub leap_given : unwrap_or (given (codes "leap-seconds") words) (codes "18") ≡ decimal (leap_option leap p)
-  unfolding digits
+  pub leap_given : given (codes "leap-seconds") words ≡ leap_text leap p
   leap_given =
-      ap (λ (o : Option (List ℕ)). unwrap_or o (codes "18")) (further_given (codes "leap-seconds") refl refl refl refl refl refl refl refl (λ s. refl) refl)
+      further_given (codes "leap-seconds") refl refl refl refl refl refl refl refl (λ s. refl) refl
       ∙ by (nat_lt 0 (length p.signals.glonass)) (channels_text p.channels) leap where
-        by : (b : Bool) (text : List ℕ) (l : Option ℕ) → unwrap_or (if b then option_or None (option_or (channel_value (codes "leap-seconds") text) (number_value (codes "--leap-seconds") (codes "leap-seconds") l)) else None) (codes "18")
-            ≡ decimal (if b then unwrap_or l default_leap else default_leap)
+        by : (b : Bool) (text : List ℕ) (l : Option ℕ) → (if b then option_or None (option_or (channel_value (codes "leap-seconds") text) (number_value (codes "--leap-seconds") (codes "leap-seconds") l)) else None)
+            ≡ (if b then option_map decimal l else None)
         by false text l = refl
         by true [] None = refl
         by true [] (Some n) = refl
@@ -416,10 +417,10 @@ module _ (w leap st : Option ℕ) (p : PlanValue) (f : Forms) (first : Option St
 
 -- ---- the options of a conversion
 
-week_as : (options : List Row) (w : Option ℕ) (t : Option (List ℕ)) → IfSome w (λ n. t ≡ Some (decimal n)) → IfSome t (λ t. text_set options (codes "week") ≡ t)
-    → IfSome w (λ n. text_set options (codes "week") ≡ decimal n)
+week_as : (options : List Row) (w : Option ℕ) (t : Option (List ℕ)) → IfSome w (λ n. t ≡ Some (decimal n)) → IfSome t (λ t. first_of (codes "week") options ≡ Some t)
+    → IfSome w (λ n. first_of (codes "week") options ≡ Some (decimal n))
 week_as options None t is given = tt
-week_as options (Some n) t is given = subst (λ (o : Option (List ℕ)). IfSome o (λ t. text_set options (codes "week") ≡ t)) is given
+week_as options (Some n) t is given = subst (λ (o : Option (List ℕ)). IfSome o (λ t. first_of (codes "week") options ≡ Some t)) is given
 
 pub as_printed : (options : List Row) (w leap wanted : Option ℕ) (fs : List Framed) → HaveValues options (printed_words w leap wanted fs) → AreAsPrinted options w leap wanted fs
 as_printed options w leap wanted fs have =
@@ -431,7 +432,7 @@ as_printed options w leap wanted fs have =
       station = have.station ∙ station_given w leap wanted p f first;
       signals = λ s. have.signals s ∙ signals_given w leap wanted p f first s;
       channels = have.channels ∙ channels_given w leap wanted p f first;
-      leap_seconds = have.leap_seconds ∙ ap Some (leap_given w leap wanted p f first);
+      leap_seconds = have.leap_seconds ∙ leap_given w leap wanted p f first;
       forms = have.forms ∙ forms_given w leap wanted p f first;
       position = have.position ∙ position_given w leap wanted p f first;
       height = have.height ∙ height_given w leap wanted p f first;

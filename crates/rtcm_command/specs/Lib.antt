@@ -5,3 +5,4 @@ pub mod Reports
 pub mod Commands
 pub mod StationLaws
 pub mod PrintedPlan
+pub mod NearOption

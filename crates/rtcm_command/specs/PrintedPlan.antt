@@ -4,7 +4,7 @@ use Rattle.std.specs.Prelude.{Option, Some, None, IfSome, unwrap_or, if◌then�
 use Rattle.std.specs.List.{list_any}
 use Rattle.std.specs.Option.{option_map_or, option_or}
 use Rattle.std.specs.Str.{bytes_eq}
-use Rattle.clap.specs.Walk.{Row, Rule, one_of}
+use Rattle.clap.specs.Walk.{Row, Rule, first_of, one_of}
 use Rattle.gnss_system.specs.declared.system.System.{System}
 use Rattle.gnss_system.specs.declared.system.System.TheVariants.{Glonass}
 use Rattle.gnss_system.specs.Satellites.{name_of}
@@ -12,23 +12,25 @@ use Rattle.gnss_obs.specs.Values.{PlanValue, no_values}
 use Rattle.gnss_obs.specs.Weeks.{week}
 use Rattle.rtcm_scan.specs.Frames.{Framed}
 use Rattle.obs_epoch.specs.Epochs.{values_from}
-use Rattle.obs_epoch.specs.Kinds.{default_leap}
 use Rattle.obs_epoch.specs.Sets.{is_decoded}
+use Rattle.obs_epoch.specs.declared.week.Start.{Start}
 use Rattle.obs_epoch.specs.Times.{timed}
+use Rattle.obs_epoch.specs.declared.week.Start.TheVariants.{Week}
 use Rattle.command_line.specs.CommandLine as rules
 use Rattle.line_texts.specs.LeapSeconds.{leap_at}
 use Rattle.line_texts.specs.Lines.{line}
 use Rattle.rtcm_inspect.specs.FirstMessages.{first_station}
 use Rattle.rtcm_inspect.specs.WeekLaws.{first_tow}
 use Rattle.rtcm_inspect.specs.Fitting.{option_words, options_text}
-use Rattle.rtcm_inspect.specs.NearWeek.{IsWeekFor, IsWeekNear}
+use Rattle.obs_epoch.specs.NearWeek.{IsWeekNear}
+use Rattle.rtcm_inspect.specs.NearWeek.{IsWeekFor}
 use Rattle.rtcm_inspect.specs.OptionOutput.{leap_near}
 use Rattle.rtcm_inspect.specs.Signals.{forms_had, plan_in, set_had, valued_in}
 use Rattle.rtcm_inspect.specs.WeekLaws.{first_time}
 use Rattle.rtcm_convert.specs.Converted.{messages_of}
 use Rattle.rtcm_convert.specs.SetupValues.{setup_value}
 use Rattle.rtcm_convert.specs.declared.setup.Setup.{Setup}
-use Rattle.rtcm_command.specs.SetupOptions.{IsSetupOf, text_set}
+use Rattle.rtcm_command.specs.SetupOptions.{IsSetupOf, text_set, usual_leap}
 
 -- ---- the options that words give
 
@@ -56,11 +58,11 @@ default_of rule = get_or rule.defaults 0 []
 
 -- The options of a conversion have the values that words give to them, and else their defaults.
 pub record HaveValues (options : List Row) (words : List (List ℕ)) : Type 0 where
-  pub week : IfSome (given (codes "week") words) (λ t. text_set options (codes "week") ≡ t)
+  pub week : IfSome (given (codes "week") words) (λ t. first_of (codes "week") options ≡ Some t)
   pub station : one_of (codes "station") options ≡ given (codes "station") words
   pub signals : (s : System) → text_set options (name_of s) ≡ unwrap_or (given (name_of s) words) (default_of (rules.planned s))
   pub channels : text_set options (codes "glonass-channels") ≡ unwrap_or (given (codes "glonass-channels") words) (default_of rules.channels)
-  pub leap_seconds : one_of (codes "leap-seconds") options ≡ Some (unwrap_or (given (codes "leap-seconds") words) (default_of rules.leap_seconds))
+  pub leap_seconds : one_of (codes "leap-seconds") options ≡ given (codes "leap-seconds") words
   pub forms : text_set options (codes "msm") ≡ unwrap_or (given (codes "msm") words) (codes "4,7")
   pub position : text_set options (codes "position") ≡ unwrap_or (given (codes "position") words) (default_of rules.position)
   pub height : text_set options (codes "antenna-height") ≡ unwrap_or (given (codes "antenna-height") words) (default_of rules.height)
@@ -72,9 +74,9 @@ printed_words w leap wanted fs =
 
 -- ---- the conversion
 
--- the leap seconds, which are printed with signals of GLONASS if they are known; else the default
-abbrev pub leap_option : (leap : Option ℕ) → PlanValue → ℕ
-leap_option leap p = if is_decoded p Glonass then unwrap_or leap default_leap else default_leap
+-- the leap seconds, which are printed with signals of GLONASS if they are known; else those without their option
+abbrev pub leap_option : (leap : Option ℕ) → PlanValue → Start → ℕ
+leap_option leap p start = if is_decoded p Glonass then unwrap_or leap (usual_leap start) else usual_leap start
 
 -- A conversion starts with what `options` found in these frames: the plan with its channels, the forms, the station,
 -- the week, the leap seconds, and the values of the first station message, which are 0 without one.
@@ -82,8 +84,8 @@ pub record StartsAsFound (x : Setup) (w leap wanted : Option ℕ) (fs : List Fra
   pub plan : x.gatherer.plan ≡ plan_in wanted fs
   pub forms : x.forms ≡ forms_had wanted fs
   pub station : x.gatherer.station ≡ wanted
-  pub week : IfSome w (λ n. x.gatherer.start_week ≡ n)
-  pub leap_seconds : x.gatherer.leap_seconds ≡ leap_option leap (plan_in wanted fs)
+  pub week : IfSome w (λ n. x.gatherer.start ≡ Week n)
+  pub leap_seconds : x.gatherer.leap_seconds ≡ leap_option leap (plan_in wanted fs) x.gatherer.start
   pub initial : x.gatherer.initial ≡ option_map_or (λ s. values_from s 0) (first_station wanted fs) no_values
 
 -- its first accepted message is the first MSM that it decodes, in the week nearest to the noon of the date

@@ -12,6 +12,8 @@ use Rattle.rtcm_scan.specs.Scan.{most_bytes}
 use Rattle.obs_epoch.specs.Choices.{every_epoch}
 use Rattle.obs_epoch.specs.Heard.{is_by_bit}
 use Rattle.obs_epoch.specs.Kinds.{default_leap}
+use Rattle.obs_epoch.specs.declared.week.Start.{Start}
+use Rattle.obs_epoch.specs.declared.week.Start.TheVariants.{Week, Near}
 use Rattle.obs_epoch.specs.declared.choice.Choice.{Choice}
 use Rattle.gnss_system.specs.Satellites.{name_of}
 use Rattle.gnss_system.specs.SystemValues.{tabulate}
@@ -26,6 +28,7 @@ use Rattle.gnss_obs.specs.declared.cell.StationValues.{StationValues}
 use Rattle.rtcm_convert.specs.declared.setup.Setup.{Setup}
 use Rattle.line_texts.specs.ChannelTexts.{channels_of}
 use Rattle.line_texts.specs.Dates.{IsHourOf, IsTimeOf, IsWeekOf}
+use Rattle.line_texts.specs.LeapSeconds.{leap_at}
 use Rattle.line_texts.specs.Lengths.{epoch_interval_of, interval_of, length_below, position_of, tolerance_of}
 use Rattle.command_faults.specs.declared.fault.DateOption.{DateOption}
 use Rattle.command_faults.specs.declared.fault.DateOption.TheVariants as dated
@@ -63,13 +66,25 @@ IsNumberOf bits (Some text) (Some n) = IsDecimalForm bits text × (n ≡ digits_
 abbrev pub IsNumberOr : ℕ → ℕ → Option (List ℕ) → ℕ → Type 0
 IsNumberOr bits otherwise text n = (found : Option ℕ) × IsNumberOf bits text found × (n ≡ unwrap_or found otherwise)
 
--- the week that `--week` gives
-abbrev pub IsWeekSet : List Row → ℕ → Type 0
-IsWeekSet options n = IsWeekOf (text_set options (codes "week")) n
+-- what the texts of `--week` and `--near` give: one of them has to be given
+abbrev pub IsStartOf : (week near : Option (List ℕ)) → Start → Type 0
+IsStartOf (Some text) None start = (n : ℕ) × IsWeekOf text n × (start ≡ Week n)
+IsStartOf None (Some text) start = (noon : ℕ) × IsHourOf 12 text noon × (start ≡ Near noon)
+IsStartOf week near start = ⊥
 
--- it gives none, which is this fault
-abbrev pub IsWeekRefused : List Row → CommandFault → Type 0
-IsWeekRefused options fault = (fault ≡ faults.BadDate dated.Week) × ((n : ℕ) → IsWeekSet options n → ⊥)
+-- the fault of these texts
+abbrev pub IsStartFault : (week near : Option (List ℕ)) → CommandFault → Type 0
+IsStartFault (Some text) None fault = (fault ≡ faults.BadDate dated.Week) × ((n : ℕ) → IsWeekOf text n → ⊥)
+IsStartFault None (Some text) fault = (fault ≡ faults.BadDate dated.Near) × ((noon : ℕ) → IsHourOf 12 text noon → ⊥)
+IsStartFault week near fault = fault ≡ faults.OneOf
+
+-- what gives the week of a conversion
+abbrev pub IsStartSet : List Row → Start → Type 0
+IsStartSet options = IsStartOf (first_of (codes "week") options) (first_of (codes "near") options)
+
+-- it isn't given, which is this fault
+abbrev pub IsStartRefused : List Row → CommandFault → Type 0
+IsStartRefused options = IsStartFault (first_of (codes "week") options) (first_of (codes "near") options)
 
 -- noon of the date in a text, if there is a text
 abbrev pub IsNoonOf : Option (List ℕ) → Option ℕ → Type 0
@@ -77,7 +92,7 @@ IsNoonOf None near = near ≡ None
 IsNoonOf (Some text) None = ⊥
 IsNoonOf (Some text) (Some t) = IsHourOf 12 text t
 
--- noon of the date that `--near` gives, if it is given
+-- noon of the date that `--near` of `options` gives, if it is given
 abbrev pub IsNearSet : List Row → Option ℕ → Type 0
 IsNearSet options near = IsNoonOf (first_of (codes "near") options) near
 
@@ -194,15 +209,20 @@ values_in position height = values_by (position_of position) (length_below (2 ^ 
 abbrev pub values_set : List Row → Result StationValues CommandFault
 values_set options = values_in (text_set options (codes "position")) (text_set options (codes "antenna-height"))
 
+-- the leap seconds without their option: those of the date that gives the week, and else those from 2017 on
+abbrev pub usual_leap : Start → ℕ
+usual_leap (Week n) = default_leap
+usual_leap (Near noon) = leap_at noon
+
 -- The setup of a conversion has the value of each option, by its name.
 pub record IsSetupOf (options : List Row) (x : Setup) : Type 0 where
   pub texts : x.texts ≡ trimmed_texts (texts_set options)
   pub plan : IsPlanSet options x.gatherer.plan
-  pub week : IsWeekSet options x.gatherer.start_week
+  pub start : IsStartSet options x.gatherer.start
   pub station : IsNumberOf 16 (one_of (codes "station") options) x.gatherer.station
   pub gather : is_by_bit x.gatherer.gather ≡ not (bytes_eq (text_set options (codes "gather")) (codes "time"))
   pub initial : values_set options ≡ Ok x.gatherer.initial
-  pub leap : IsNumberOr 8 default_leap (one_of (codes "leap-seconds") options) x.gatherer.leap_seconds
+  pub leap : IsNumberOr 8 (usual_leap x.gatherer.start) (one_of (codes "leap-seconds") options) x.gatherer.leap_seconds
   pub choice : IsChoiceSet options (Ok x.gatherer.choice)
   pub forms : x.forms ≡ forms_set options
   pub limit : IsNumberOr 64 most_bytes (one_of (codes "limit") options) x.limit
@@ -221,15 +241,16 @@ IsRefusedAfterChannels options fault =
     IsChoiceSet options (Err fault) ⊎ ((choice : Choice) × IsChoiceSet options (Ok choice) × HasSetupFault options fault)
 
 -- the fault of the position or the height, and then that of the channels, comes before these
-abbrev pub IsRefusedAfterWeek : Result StationValues CommandFault → Result ChannelsValue CommandFault → List Row → CommandFault
+abbrev pub IsRefusedAfterStart : Result StationValues CommandFault → Result ChannelsValue CommandFault → List Row → CommandFault
     → Type 0
-IsRefusedAfterWeek (Err e) channels options fault = fault ≡ e
-IsRefusedAfterWeek (Ok values) (Err e) options fault = fault ≡ e
-IsRefusedAfterWeek (Ok values) (Ok channels) options fault = IsRefusedAfterChannels options fault
+IsRefusedAfterStart (Err e) channels options fault = fault ≡ e
+IsRefusedAfterStart (Ok values) (Err e) options fault = fault ≡ e
+IsRefusedAfterStart (Ok values) (Ok channels) options fault = IsRefusedAfterChannels options fault
 
--- These options are refused with this fault: that of the week, else that of the position, else that of the height, else
+-- These options are refused with this fault: that of the start, else that of the position, else that of the height, else
 -- that of the channels, else that of the choice of epochs, else that of a text of the header, else that of the plan.
 abbrev pub IsSetupRefused : List Row → CommandFault → Type 0
 IsSetupRefused options fault =
-    IsWeekRefused options fault
-    ⊎ ((n : ℕ) × IsWeekSet options n × IsRefusedAfterWeek (values_set options) (channels_set options) options fault)
+    IsStartRefused options fault
+    ⊎ ((start : Start) × IsStartSet options start
+    × IsRefusedAfterStart (values_set options) (channels_set options) options fault)

@@ -19,8 +19,7 @@ ghost use Rattle.rtcm_command.specs.SetupOptions.{options_of};
 
 use crate::convert::{report_line, run_convert};
 use crate::options::{
-    channels_of, choice_of, gaps_of, has_flag, near_of, setup_of, start_week_of, station_of,
-    values_of,
+    channels_of, choice_of, gaps_of, has_flag, near_of, setup_of, start_of, station_of, values_of,
 };
 use clap::ArgMatches;
 use clap::error::ErrorKind;
@@ -131,11 +130,11 @@ fn convert<R: Read, W: Deliver, E: Deliver>(
     ensures { Runs R.remaining reader.old reader.new W.contents W.waiting writer.old writer.new
         E.contents E.waiting faults.old faults.new (EndsConverting result (options_of options.now)) }
 {
-    let start_week = start_week_of(options)?;
+    let start = start_of(options)?;
     let initial = values_of(options)?;
     let channels = channels_of(options)?;
     let choice = choice_of(options)?;
-    let setup = setup_of(alloc, options, start_week, initial, channels, choice)?;
+    let setup = setup_of(alloc, options, start, initial, channels, choice)?;
     let report = run_convert(alloc, setup, reader, writer)?;
     print_line(report_line(&report).as_bytes(), faults);
     Ok(())

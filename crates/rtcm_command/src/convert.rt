@@ -14,8 +14,8 @@ use std::alloc::Global;
 use std::io::Read;
 
 /// Writes the observation file of a stream that is read to its end. For every stream, regardless of
-/// the sizes of the reads, and for every starting week and plan, the file written is exactly the
-/// one defined from the stream's valid frames in order, and has an epoch.
+/// the sizes of the reads, and for every starting week or date and plan, the file written is
+/// exactly the one defined from the stream's valid frames in order, and has an epoch.
 ///
 /// # Errors
 ///

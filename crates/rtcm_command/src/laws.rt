@@ -1,4 +1,5 @@
 //! Laws over the options that `options` prints.
+ghost use Rattle.rtcm_command.specs.NearOption.{IsDatedByNear};
 ghost use Rattle.rtcm_command.specs.PrintedPlan.{ArePrintedWords, IsDatedAsPrinted, IsStartedAsFound};
 ghost use Rattle.rtcm_command.specs.StationLaws.{AreChannelsSet, AreLeapSecondsRead, AreReadAsStation};
 ghost use Rattle.rtcm_command.specs.StationLaws.{AreZeroByDefault, IsStationRead, IsWeekRead};
@@ -13,13 +14,24 @@ pub fn station()
 }
 
 /// The numbers of the week, of the leap seconds and of the station that `options` prints are read as
-/// this week, these leap seconds and this station, and as no other.
+/// this week, these leap seconds and this station, and as no other. With a week there is no
+/// `--near`.
 pub fn numbers()
     ensures week { IsWeekRead }
     ensures leap { AreLeapSecondsRead }
     ensures station { IsStationRead }
 {
     rtcm_inspect::laws::near();
+}
+
+/// With `--near` the first MSM that a conversion decodes, of the station or of any, is accepted, in
+/// the week in which it is nearest to noon of the date. Without `--leap-seconds` the leap seconds
+/// are those of the date.
+pub fn near()
+    ensures { IsDatedByNear }
+{
+    rtcm_inspect::laws::near();
+    obs_epoch::laws::first_week();
 }
 
 /// The channels that `options` prints for a stream are read as these, and as no others.

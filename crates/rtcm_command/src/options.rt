@@ -5,40 +5,53 @@ ghost use Rattle.std.specs.Str.{bytes_eq};
 ghost use Rattle.gnss_obs.specs.Plans.{HasSignal};
 ghost use Rattle.gnss_obs.specs.inner.SignalLists.{IsDefined};
 ghost use Rattle.obs_epoch.specs.Heard.{is_by_bit};
-ghost use Rattle.obs_epoch.specs.Kinds.{default_leap};
 ghost use Rattle.rinex_file.specs.inner.TextsOf.{lists_of};
 ghost use Rattle.line_texts.specs.Lengths.{longest_interval};
 ghost use Rattle.rtcm_command.specs.SetupOptions.{HasSetupFault, IsChoiceSet, IsNearRefused, IsNearSet, IsNumberOf};
 ghost use Rattle.rtcm_command.specs.SetupOptions.{IsNumberOr, IsTimeIn, IsWindowSet, channels_set, interval_set};
 ghost use Rattle.rtcm_command.specs.SetupOptions.{plan_texts, tolerance_set};
-ghost use Rattle.rtcm_command.specs.SetupOptions.{IsSetupOf, IsWeekRefused, IsWeekSet, gaps_set, has_flag};
+ghost use Rattle.rtcm_command.specs.SetupOptions.{IsSetupOf, IsStartRefused, IsStartSet, gaps_set, has_flag, usual_leap};
 ghost use Rattle.rtcm_command.specs.SetupOptions.{forms_set, options_of, plan_set, text_set, texts_set, values_set};
 
 use clap::ArgMatches;
 use command_faults::{CommandFault, DateOption};
 use gnss_obs::{Channels, GpsTime, Interval, Plan, PlanFault, StationValues};
 use gnss_system::BySystem;
-use line_texts::{epoch_interval_of, hour_of, interval_of, length_below, position_of, week_of};
-use obs_epoch::{Choice, Gather, GatherSetup, LEAP_SECONDS};
+use line_texts::{
+    epoch_interval_of, hour_of, interval_of, leap_at, length_below, position_of, week_of,
+};
+use obs_epoch::{Choice, Gather, GatherSetup, LEAP_SECONDS, Start};
 use rinex_file::{HeaderTexts, Texts};
 use rtcm_convert::Setup;
 use rtcm_msg::Forms;
 use rtcm_scan::MOST_BYTES;
 use std::alloc::Global;
 
-/// Returns the week of the first observations.
+/// Returns what gives the week of the first observations.
 ///
 /// # Errors
 ///
-/// `BadDate` if the text isn't a week or a date.
-pub fn start_week_of(options: &ArgMatches) -> Result<u32, CommandFault>
-    ensures { MatchResult result (IsWeekSet (options_of options.now)) (IsWeekRefused (options_of options.now)) }
+/// `OneOf` if not exactly one of the options is given, and `BadDate` if its text isn't a week or a
+/// date.
+pub fn start_of(options: &ArgMatches) -> Result<Start, CommandFault>
+    ensures { MatchResult result (IsStartSet (options_of options.now)) (IsStartRefused (options_of options.now)) }
 {
-    let week = week_of(text(options, "week"));
-    week.ok_or(CommandFault::BadDate(DateOption::Week))
+    match (options.get_str("week"), options.get_str("near")) {
+        (Some(text), None) => match week_of(text) {
+            Some(week) => Ok(Start::Week(week)),
+            None => Err(CommandFault::BadDate(DateOption::Week)),
+        },
+        (None, Some(text)) => match hour_of(text, 12) {
+            Some(noon) => Ok(Start::Near(noon)),
+            None => Err(CommandFault::BadDate(DateOption::Near)),
+        },
+        (None, None) => Err(CommandFault::OneOf),
+        (Some(_), Some(_)) => Err(CommandFault::OneOf),
+    }
 }
 
-/// Returns noon of the date near the first observations, or `None` if the option isn't given.
+/// Returns noon of the date of `options` near the first observations, or `None` if the option isn't
+/// given.
 ///
 /// # Errors
 ///
@@ -152,8 +165,8 @@ pub fn has_flag(options: &ArgMatches, name: &str) -> bool
     text(options, name) == "true"
 }
 
-/// Returns the settings of a conversion that begins in a week, with these station values, channels
-/// and epochs. The texts of the header are checked before the plan.
+/// Returns the settings of a conversion with this start, these station values, channels and epochs.
+/// The texts of the header are checked before the plan.
 ///
 /// # Errors
 ///
@@ -161,12 +174,12 @@ pub fn has_flag(options: &ArgMatches, name: &str) -> bool
 pub fn setup_of(
     alloc: Global,
     options: &ArgMatches,
-    start_week: u32,
+    start: Start,
     initial: StationValues,
     channels: Channels,
     choice: Choice,
 ) -> Result<Setup, CommandFault>
-    requires week { IsWeekSet (options_of options.now) start_week }
+    requires start { IsStartSet (options_of options.now) start }
     requires values { values_set (options_of options.now) ≡ Ok initial }
     requires channels { channels_set (options_of options.now) ≡ Ok channels }
     requires choice { IsChoiceSet (options_of options.now) (Ok choice) }
@@ -174,13 +187,14 @@ pub fn setup_of(
 {
     let texts = HeaderTexts::new(&texts_of(options)).map_err(CommandFault::Header)?;
     let plan = plan_of(alloc, options).map_err(CommandFault::Plan)?;
+    let leap_seconds = leap_seconds_of(options, &start);
     let gatherer = GatherSetup {
         plan: plan.with_channels(channels),
-        start_week,
+        start,
         station: station_of(options),
         gather: gather_of(text(options, "gather")),
         initial,
-        leap_seconds: leap_seconds_of(options),
+        leap_seconds,
         choice,
     };
     Ok(Setup {
@@ -241,10 +255,23 @@ fn forms_of(options: &ArgMatches) -> Forms
 }
 
 /// Returns GPS time minus UTC in seconds.
-fn leap_seconds_of(options: &ArgMatches) -> u8
-    ensures { IsNumberOr 8 default_leap (one_of (codes "leap-seconds") (options_of options.now)) result }
+fn leap_seconds_of(options: &ArgMatches, start: &Start) -> u8
+    ensures { IsNumberOr 8 (usual_leap start.now) (one_of (codes "leap-seconds") (options_of options.now)) result }
 {
-    options.get_one("leap-seconds").unwrap_or(LEAP_SECONDS)
+    options
+        .get_one("leap-seconds")
+        .unwrap_or(usual_leap_seconds(start))
+}
+
+/// Returns the leap seconds without their option: those of the date that gives the week, or else
+/// those from 2017 on.
+fn usual_leap_seconds(start: &Start) -> u8
+    ensures { result ≡ usual_leap start.now }
+{
+    match start {
+        Start::Week(_) => LEAP_SECONDS,
+        Start::Near(noon) => leap_at(*noon),
+    }
 }
 
 /// Returns the value of an option that is required or has a default.

@@ -1,11 +1,11 @@
 -- The settings of a conversion that its definitions cite.
-use Rattle.std.specs.Prelude.{◌≡◌, ◌<◌, ◌≤◌, ◌⊎◌, ℕ, true}
-use Rattle.gnss_obs.specs.Weeks.{weeks}
+use Rattle.std.specs.Prelude.{◌≡◌, ◌<◌, ◌⊎◌, ℕ, true}
 use Rattle.gnss_obs.specs.Values.{PlanValue}
 use Rattle.rtcm_scan.specs.Scan.{most_bytes}
 use Rattle.rtcm_msg.specs.declared.number.Forms.TheVariants.{FourAndSeven}
 use Rattle.obs_epoch.specs.Kinds.{is_no_station}
 use Rattle.obs_epoch.specs.Kinds.{default_setup as default_gatherer}
+use Rattle.obs_epoch.specs.Starts.{is_no_week}
 use Rattle.obs_epoch.specs.Sets.{set_of}
 use Rattle.gnss_obs.specs.GatheredEpochs.{AreStationValues}
 use Rattle.rinex_file.specs.Texts.{HeaderLists}
@@ -27,7 +27,7 @@ setup_value x = record { gatherer = x.gatherer; texts = x.texts; set = set_of x.
 
 -- a week or a station out of range
 abbrev pub IsBadStart : Setup → Type 0
-IsBadStart x = (weeks ≤ x.gatherer.start_week) ⊎ (is_no_station x.gatherer.station ≡ true)
+IsBadStart x = (is_no_week x.gatherer.start ≡ true) ⊎ (is_no_station x.gatherer.station ≡ true)
 
 -- station values that no message can have, a limit above the largest number of bytes of a stream, or a week or a
 -- station out of range

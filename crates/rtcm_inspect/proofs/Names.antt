@@ -58,7 +58,8 @@ pub use Rattle.rtcm_inspect.specs.Inspected.{inspected, inspected_at, inspected_
 pub use Rattle.line_texts.specs.Lines.{line, with_words}
 pub use Rattle.rtcm_inspect.specs.Listing.{EndsListing, Lists, ListsAll, ListsDecided, ListsPart, ListsToLimit, ListsUpTo, StopsListing, WritesLine, listing_line, listing_lines, piece_bytes}
 pub use Rattle.line_texts.specs.Metres.{metres, size_text}
-pub use Rattle.rtcm_inspect.specs.NearWeek.{IsNearestWeek, IsWeekFor, IsWeekNear, half_week}
+pub use Rattle.obs_epoch.specs.NearWeek.{IsNearestWeek, IsWeekNear, half_week}
+pub use Rattle.rtcm_inspect.specs.NearWeek.{IsWeekFor}
 pub use Rattle.rtcm_inspect.specs.OptionOutput.{AreOptionsOf, AreOptionsRefused}
 pub use Rattle.rtcm_inspect.specs.Printing.{EndsPrinting, PrintsLine, PrintsText}
 pub use Rattle.rtcm_inspect.specs.ReadBack.{AreEncoded, AreKnown, AreReadAs, ReadsBack}

@@ -1,4 +1,6 @@
 -- The nearest week, and the time of the first MSM.
+use Rattle.obs_epoch.specs.Starts.{first_week, is_no_week}
+use Rattle.obs_epoch.proofs.StartLaws.{of_weeks}
 use Rattle.rtcm_inspect.proofs.FirstLemmas.{or_more, or_none}
 use Rattle.rtcm_inspect.proofs.Names.{◌≡◌, ◌∙◌, ◌+◌, ◌-◌, ◌*◌, ◌/◌, ◌<◌, ◌≤◌, ◌==◌, ◌&&◌, ◌||◌, ◌++◌, ℕ, Bool, true, false, List, [], ◌∷◌, Option, Some, None, Result, Ok, Err, refl, sym, ap, ap₂, arith, cons_option, filter_map, nat_lt, option_and_then, if◌then◌else◌, option_or, option_map_or, week, weeks, Framed, message_with, MsmSet, MsgFault, Message, Station, Msm4, Msm5, Msm6, Msm7, GatherSetup, Heard, is_own, is_of_station, Timed, ahead, greatest_time, is_closed, is_past, max_known, taken_at, timed_after, first_tow, tow_of, ChannelsValue, every_channel, heard_in, heard_of, IsNearestWeek, IsWeekNear, half_week, first_time, inl, inr}
 
@@ -112,40 +114,40 @@ not_taken s earlier m none = choose (is_own s m) _ m.tow (λ own. no_parts s.sta
 abbrev placed : GatherSetup → List Timed → Option ℕ → ℕ → Option ℕ
 placed s earlier greatest tow =
     if option_map_or (λ t. nat_lt half_week (ahead t tow) || ((ahead t tow == 0) && is_closed s t earlier)) greatest false
-    || is_past (option_map_or (λ t. t + ahead t tow) greatest (s.start_week * week + tow))
-    then None else Some (option_map_or (λ t. t + ahead t tow) greatest (s.start_week * week + tow))
+    || is_past (option_map_or (λ t. t + ahead t tow) greatest (first_week s.start tow * week + tow))
+    then None else Some (option_map_or (λ t. t + ahead t tow) greatest (first_week s.start tow * week + tow))
 
 not_past : (w tow : ℕ) → w < weeks → tow < week → is_past (w * week + tow) ≡ false
 not_past w tow within small = let h : w * week + tow < weeks * week = omega (arith, within, small) in grind (arith, h)
 
--- the first MSM is accepted in the start week
-taken_first : {tow : ℕ} (s : GatherSetup) (earlier : List Timed) (m : Heard) → is_past (s.start_week * week + tow) ≡ false → greatest_time earlier ≡ None → is_own s m ≡ true → m.tow ≡ Some tow
-    → taken_at s earlier m ≡ Some (s.start_week * week + tow)
+-- the first MSM is accepted in the week of the start
+taken_first : {tow : ℕ} (s : GatherSetup) (earlier : List Timed) (m : Heard) → is_past (first_week s.start tow * week + tow) ≡ false → greatest_time earlier ≡ None → is_own s m ≡ true → m.tow ≡ Some tow
+    → taken_at s earlier m ≡ Some (first_week s.start tow * week + tow)
 taken_first {tow} s earlier m now none own is =
     ap₂ (λ (b : Bool) (o : Option ℕ). if b then option_and_then (placed s earlier (greatest_time earlier)) o else None) own is
     ∙ ap (λ (g : Option ℕ). placed s earlier g tow) none
-    ∙ ap (λ (b : Bool). if b then None else Some (s.start_week * week + tow)) now
+    ∙ ap (λ (b : Bool). if b then None else Some (first_week s.start tow * week + tow)) now
 
 -- if this is the first time of week, these messages have the first time of all
 abbrev Dated : GatherSetup → ℕ → Option ℕ → List Heard → Type 0
-Dated s tow first ms = (earlier : List Timed) → first_time earlier ≡ None → first ≡ Some tow → first_time (timed_after s earlier ms) ≡ Some (s.start_week * week + tow)
+Dated s tow first ms = (earlier : List Timed) → first_time earlier ≡ None → first ≡ Some tow → first_time (timed_after s earlier ms) ≡ Some (first_week s.start tow * week + tow)
 
 -- one more frame, whose message is o
-dated_step : {tow : ℕ} {rest : Option ℕ} (s : GatherSetup) (o : Option Heard) (ms : List Heard) → is_past (s.start_week * week + tow) ≡ false → Dated s tow rest ms
+dated_step : {tow : ℕ} {rest : Option ℕ} (s : GatherSetup) (o : Option Heard) (ms : List Heard) → is_past (first_week s.start tow * week + tow) ≡ false → Dated s tow rest ms
     → ((m : Heard) (t : ℕ) → o ≡ Some m → m.tow ≡ Some t → (n : ℕ) × (m.station ≡ Some n)) → Dated s tow (option_or (option_and_then (tow_of s.station) o) rest) (cons_option o ms)
 dated_step s None ms now more station earlier none first = more earlier none first
 dated_step {tow} {rest} s (Some m) ms now more station earlier none first = by (tow_of s.station m) refl first where
   x : Timed
   x = record { message = m; time = taken_at s earlier m }
 
-  by : (t : Option ℕ) → tow_of s.station m ≡ t → option_or t rest ≡ Some tow → first_time (timed_after s (earlier ++ x ∷ []) ms) ≡ Some (s.start_week * week + tow)
+  by : (t : Option ℕ) → tow_of s.station m ≡ t → option_or t rest ≡ Some tow → first_time (timed_after s (earlier ++ x ∷ []) ms) ≡ Some (first_week s.start tow * week + tow)
   by None e first = more (earlier ++ x ∷ []) (first_or_none earlier x none (not_taken s earlier m e)) first
   by (Some t) e first =
       let parts = tow_parts s.station m t e in
       let is : m.tow ≡ Some tow = parts.1 ∙ first in
       let from = station m tow refl is in
       let own = counts_own s m from.0 from.1 parts.0 in
-      first_stays s (s.start_week * week + tow) (earlier ++ x ∷ []) ms (first_or_none earlier x none (taken_first s earlier m now (none_greatest earlier none) own is))
+      first_stays s (first_week s.start tow * week + tow) (earlier ++ x ∷ []) ms (first_or_none earlier x none (taken_first s earlier m now (none_greatest earlier none) own is))
 
 -- the time of week doesn't depend on the channels
 same_tow : (wanted : Option ℕ) (c d : ChannelsValue) (leap : ℕ) (r : Result Message MsgFault) → option_and_then (tow_of wanted) (heard_of c leap r) ≡ option_and_then (tow_of wanted) (heard_of d leap r)
@@ -156,12 +158,12 @@ same_tow wanted c d leap other = refl
 abbrev heard_all : MsmSet → GatherSetup → List Framed → List Heard
 heard_all set s fs = filter_map (λ f. heard_in s.plan.channels s.leap_seconds set f.message) fs
 
-dated_after : (set : MsmSet) (s : GatherSetup) (tow : ℕ) (fs : List Framed) → is_past (s.start_week * week + tow) ≡ false → Dated s tow (first_tow s.leap_seconds set s.station fs) (heard_all set s fs)
+dated_after : (set : MsmSet) (s : GatherSetup) (tow : ℕ) (fs : List Framed) → is_past (first_week s.start tow * week + tow) ≡ false → Dated s tow (first_tow s.leap_seconds set s.station fs) (heard_all set s fs)
 dated_after set s tow [] now = λ earlier none first. absurd (no_tow first)
 dated_after set s tow (f ∷ fs) now = λ earlier none first.
     dated_step s (heard_in s.plan.channels s.leap_seconds set f.message) (heard_all set s fs) now (dated_after set s tow fs now)
     (λ m t is h. has_station s.plan.channels s.leap_seconds (message_with set f.message) m t is h) earlier none
     (ap (λ (o : Option ℕ). option_or o (first_tow s.leap_seconds set s.station fs)) (same_tow s.station s.plan.channels every_channel s.leap_seconds (message_with set f.message)) ∙ first)
 
-pub dated : (set : MsmSet) (s : GatherSetup) (fs : List Framed) (tow : ℕ) → s.start_week < weeks → tow < week → first_tow s.leap_seconds set s.station fs ≡ Some tow → first_time (timed_after s [] (heard_all set s fs)) ≡ Some (s.start_week * week + tow)
-dated set s fs tow within small first = dated_after set s tow fs (not_past s.start_week tow within small) [] refl first
+pub dated : (set : MsmSet) (s : GatherSetup) (fs : List Framed) (tow : ℕ) → is_no_week s.start ≡ false → tow < week → first_tow s.leap_seconds set s.station fs ≡ Some tow → first_time (timed_after s [] (heard_all set s fs)) ≡ Some (first_week s.start tow * week + tow)
+dated set s fs tow within small first = dated_after set s tow fs (not_past (first_week s.start tow) tow (of_weeks s.start tow within) small) [] refl first

@@ -10,7 +10,8 @@ use Rattle.obs_epoch.specs.Heard.{heard_in}
 use Rattle.obs_epoch.specs.declared.setup.GatherSetup.{GatherSetup}
 use Rattle.obs_epoch.specs.Times.{Timed, timed}
 use Rattle.line_texts.specs.Dates.{IsWeekOf}
-use Rattle.rtcm_inspect.specs.NearWeek.{IsNearestWeek, IsWeekNear, half_week}
+use Rattle.obs_epoch.specs.NearWeek.{IsNearestWeek, IsWeekNear, half_week}
+use Rattle.obs_epoch.specs.Starts.{first_week, is_no_week}
 use Rattle.std.specs.Prelude.{option_and_then}
 use Rattle.std.specs.Prelude.{if◌then◌else◌}
 use Rattle.obs_epoch.specs.Heard.{Heard}
@@ -49,11 +50,11 @@ first_time [] = None
 first_time (x ∷ xs) = option_or x.time (first_time xs)
 
 -- a conversion that decodes the MSMs of a set accepts the first one of the station, or of any, and its time is in the
--- start week
-abbrev pub IsDatedByWeek : Type 0
-IsDatedByWeek = (set : MsmSet) (s : GatherSetup) (fs : List Framed) (tow : ℕ) → s.start_week < weeks → tow < week
+-- week that the start gives for its time of week
+abbrev pub IsDatedByStart : Type 0
+IsDatedByStart = (set : MsmSet) (s : GatherSetup) (fs : List Framed) (tow : ℕ) → is_no_week s.start ≡ false → tow < week
     → first_tow s.leap_seconds set s.station fs ≡ Some tow
-    → first_time (timed s (filter_map (λ f. heard_in s.plan.channels s.leap_seconds set f.message) fs)) ≡ Some (s.start_week * week + tow)
+    → first_time (timed s (filter_map (λ f. heard_in s.plan.channels s.leap_seconds set f.message) fs)) ≡ Some (first_week s.start tow * week + tow)
 
 -- the time of week of the first MSM of a set without GLONASS doesn't depend on the leap seconds
 abbrev pub IsLeapFree : Type 0

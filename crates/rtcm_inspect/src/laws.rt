@@ -4,7 +4,7 @@ ghost use Rattle.rtcm_msg.specs.declared.message.Message.{Message};
 ghost use Rattle.rtcm_inspect.specs.ReadBack.{AreKnown, AreEncoded, ReadsBack};
 ghost use Rattle.rtcm_inspect.specs.SignalLaws.{AreReadAsPlan, LeavesNoneOut, LosesNone, LosesUnknownCarriers};
 ghost use Rattle.rtcm_inspect.specs.SignalLaws.{SkipsNoValue};
-ghost use Rattle.rtcm_inspect.specs.WeekLaws.{AreWeeksRead, HasOneWeek, IsBelowWeek, IsDatedByWeek, IsLeapFree};
+ghost use Rattle.rtcm_inspect.specs.WeekLaws.{AreWeeksRead, HasOneWeek, IsBelowWeek, IsDatedByStart, IsLeapFree};
 ghost use Rattle.rtcm_inspect.specs.WeekLaws.{IsNearestPrinted};
 ghost use Rattle.rtcm_inspect.specs.ChannelLaws.{AreChannelsRead, AreFirstChannels, HasChannels};
 ghost use Rattle.rtcm_inspect.specs.LengthLaws.{AreHeightsRead, ArePositionsRead, IsFirstInRange};
@@ -41,14 +41,14 @@ pub fn signals()
 
 /// The week that `run_options` prints for a date. From 1980-01-09 on exactly one week puts a time
 /// of week at most half a week before noon, or less than half a week after it, and it is printed if
-/// it is one from 0 to 99,999. The printed number is read as this week, and a conversion with a
-/// start week gives the first MSM that it decodes, of the station or of any, its time in that week.
+/// it is one from 0 to 99,999. The printed number is read as this week, and a conversion gives
+/// the first MSM that it decodes, of the station or of any, its time in the week of its start.
 /// Its time of week is below a week, and depends on the leap seconds only if GLONASS is decoded.
 pub fn near()
     ensures one { HasOneWeek }
     ensures printed { IsNearestPrinted }
     ensures read { AreWeeksRead }
-    ensures dated { IsDatedByWeek }
+    ensures dated { IsDatedByStart }
     ensures leap { IsLeapFree }
     ensures small { IsBelowWeek }
 {

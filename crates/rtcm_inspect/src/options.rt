@@ -27,10 +27,10 @@ use crate::printing::{deliver_waiting, print_text};
 use crate::signals::code_at;
 use arrayvec::ArrayVec;
 use devices::{Counted, Deliver};
-use gnss_obs::{Channels, GpsTime, WEEK, WEEKS};
+use gnss_obs::{Channels, GpsTime};
 use gnss_system::{BySystem, SYSTEMS, System};
 use line_texts::{LINE_BYTES, OutputLine, channels_text, leap_at};
-use obs_epoch::{SignalCounts, is_always_decoded};
+use obs_epoch::{SignalCounts, is_always_decoded, week_near};
 use rtcm_msg::{Forms, MsmSet, StationParts};
 use std::alloc::Global;
 use std::io::Read;
@@ -270,8 +270,7 @@ fn put_line(text: &mut OptionsText, line: &OutputLine)
 fn week_for(noon: GpsTime, tow: Option<u32>) -> Option<u32>
     ensures { IsWeekFor (Some noon) tow result }
 {
-    let before = (noon.milliseconds() + WEEK / 2 - 1).saturating_sub(tow? as u64);
-    Some((before / WEEK).min(WEEKS - 1) as u32)
+    Some(week_near(noon, tow?))
 }
 
 /// Adds an option with a number, if there is one, and a blank.

@@ -11,10 +11,11 @@ use Rattle.obs_epoch.specs.Kinds.{is_accepted, is_close_first}
 use Rattle.obs_epoch.specs.Heard.{Heard, ends_epoch, is_own}
 use Rattle.rtcm_msg.specs.Msm.{week}
 use Rattle.obs_epoch.specs.Times.{ahead, is_past}
+use Rattle.obs_epoch.specs.Starts.{first_week}
 use Rattle.obs_epoch.specs.Clock.{State}
 
 abbrev pub time_at : State → ℕ → ℕ
-time_at g tow = option_map_or (λ t. t + ahead t tow) g.latest (g.setup.start_week * week + tow)
+time_at g tow = option_map_or (λ t. t + ahead t tow) g.latest (first_week g.setup.start tow * week + tow)
 
 abbrev pub is_late_at : State → ℕ → Bool
 is_late_at g tow =

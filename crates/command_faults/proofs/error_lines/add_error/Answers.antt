@@ -2,6 +2,9 @@ use Rattle.command_faults.specs.declared.fault.CommandFault.TheVariants as fault
 use Rattle.command_faults.proofs.Names.{◌∙◌, error_words, words_in_one}
 use Rattle.command_faults.proofs.error_lines.add_error.Goals as goal
 
+pub returns-in-OneOf-clause-text : goal.returns-in-OneOf-clause-text
+returns-in-OneOf-clause-text c = c.add_word-in-OneOf.ensures.text ∙ words_in_one error_words c.args.line.now c.args.fault faults.OneOf c.in-OneOf.is
+
 pub returns-in-BadPosition-clause-text : goal.returns-in-BadPosition-clause-text
 returns-in-BadPosition-clause-text c = c.add_word-in-BadPosition.ensures.text ∙ words_in_one error_words c.args.line.now c.args.fault faults.BadPosition c.in-BadPosition.is
 

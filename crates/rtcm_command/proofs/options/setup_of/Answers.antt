@@ -22,11 +22,11 @@ returns c =
         c.requires.channels,
         c.with_channels.ensures,
       );
-      week = c.requires.week;
+      start = c.requires.start;
       station = c.station_of.ensures;
       gather = c.gather_of.ensures ∙ ap (λ (t : List ℕ). not (bytes_eq t (codes "time"))) c.text.ensures;
       initial = c.requires.values;
-      leap = c.leap_seconds_of.ensures;
+      leap = c.leap_seconds_of-leap_seconds.ensures;
       choice = c.requires.choice;
       forms = c.forms_of.ensures;
       limit = (

@@ -5,8 +5,5 @@ use Rattle.obs_epoch.proofs.clock.Clock.place.Goals as goal
 pub returns-then-self : goal.returns-then-self
 returns-then-self c = grind (arith, common_steps)
 
-pub returns-then-time-2-clause-kind : goal.returns-then-time-2-clause-kind
-returns-then-time-2-clause-kind c = grind (arith, common_steps)
-
 pub returns-clause-kind : goal.returns-clause-kind
 returns-clause-kind c = grind (arith, common_steps)
