@@ -1,12 +1,11 @@
 """The commands: the lines printed for the bytes of a stream."""
-from .epochs import LAST_WEEK, Gathered, Setup
+from .epochs import Gathered, Setup, week_near
 from .frames import frames_of
 from .lines import epoch_lines, event_lines, fixed, has_value, header
 from .messages import (
     DEFAULT,
     EVERY,
     SIGNALS,
-    WEEK,
     Cell,
     Channels,
     Message,
@@ -108,13 +107,6 @@ def channels_in(messages: list[Message], station: int | None) -> Channels:
     return channels
 
 
-def week_near(msms: list[Msm], noon: int) -> int:
-    """Returns the week in which the first of these MSMs is nearest to noon; the earlier of two."""
-    time = msms[0].gps_time(leap_seconds_at(noon))
-    weeks = range(max(noon // WEEK - 1, 0), min(noon // WEEK + 2, LAST_WEEK))
-    return min(weeks, key=lambda week: abs(week * WEEK + time - noon))
-
-
 def plan_words(counts: dict[tuple[str, str], int], glonass: list[str]) -> list[str]:
     """Returns the options of the signals: of GPS and Galileo, and of each other system that has one; of GLONASS with
     further ones."""
@@ -155,7 +147,7 @@ def option_line(data: bytes, station: int | None, noon: int | None = None, numbe
     # those that are decoded with these options
     decoded = numbers_of({"G", "E"} | {system for system, _ in counts}, FORMS_OF[text])
     msms = [read for read in msms if read.number in decoded]
-    words = [] if noon is None else [f"--week {week_near(msms, noon)}"]
+    words = [] if noon is None else [f"--week {week_near(msms[0].gps_time(leap_seconds_at(noon)), noon)}"]
     words += [] if station is None else [f"--station {station}"]
     words += plan_words(counts, glonass_words(channels_in(messages, station), noon))
     words += ["--msm all"] if text == "all" else []

@@ -14,6 +14,12 @@ StationValues = tuple[tuple[int, int, int], int]
 NO_VALUES: StationValues = ((0, 0, 0), 0)
 
 
+def week_near(time: int, noon: int) -> int:
+    """Returns the week in which a time of week is nearest to noon of a date; the earlier of two."""
+    weeks = range(max(noon // WEEK - 1, 0), min(noon // WEEK + 2, LAST_WEEK))
+    return min(weeks, key=lambda week: abs(week * WEEK + time - noon))
+
+
 @dataclass(frozen=True)
 class Choice:
     """The epochs that are written: times in ms from 1980-01-06, an interval, if there is one, and a tolerance in ms."""
@@ -35,7 +41,8 @@ class Choice:
 
 @dataclass
 class Setup:
-    week: int
+    # the week of the first time that is accepted; without it, it is nearest to noon of a date
+    week: int | None
     station: int | None
     by_bit: bool
     plan: Plan
@@ -47,6 +54,11 @@ class Setup:
     leap_seconds: int = 18
     channels: Channels = field(default_factory=dict)
     choice: Choice = Choice()
+    noon: int | None = None
+
+    def first_week(self, time: int) -> int:
+        """Returns the week of the first time of week."""
+        return week_near(time, self.noon) if self.week is None else self.week
 
     def numbers(self) -> set[int]:
         """Returns the numbers of the MSMs that are decoded: of GPS and Galileo in any case."""
@@ -88,7 +100,7 @@ class Gathered:
         if isinstance(message, Station):
             return "station"
         of_week = message.gps_time(self.setup.leap_seconds)
-        time = self.setup.week * WEEK + of_week
+        time = self.setup.first_week(of_week) * WEEK + of_week
         if self.taken:
             greatest = max(self.taken.values())
             ahead = (of_week - greatest) % WEEK

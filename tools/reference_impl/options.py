@@ -70,6 +70,13 @@ def noon_of(text: str) -> int:
         raise Fault(f"BadDate --near DATE: {DATES}") from None
 
 
+def start_of(week: str | None, near: str | None) -> tuple[int | None, int | None]:
+    """Returns the week of the option `--week`, or noon of the date of the option `--near`."""
+    if (week is None) == (near is None):
+        raise Fault("OneOf --week WEEK, --near DATE: one of them")
+    return (None, noon_of(near)) if week is None else (week_of(week), None)
+
+
 def length_of(text: str) -> int:
     """Returns a length in units of 0.0001 m, from a text in metres."""
     found = re.fullmatch(r"(-?)(\d{1,8})(?:\.(\d{1,4}))?", text, re.ASCII)
