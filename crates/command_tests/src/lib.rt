@@ -25,6 +25,8 @@ mod leap_seconds;
 #[cfg(test)]
 mod messages;
 #[cfg(test)]
+mod near;
+#[cfg(test)]
 mod scenario;
 #[cfg(test)]
 mod signals;

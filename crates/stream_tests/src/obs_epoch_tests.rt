@@ -10,11 +10,14 @@ mod locks;
 mod messages;
 mod plans;
 mod signal_counts;
+mod starts;
 
-use gnss_obs::{Cell, Epoch, Plan, PlanFault, StationValues};
+use gnss_obs::{Cell, Epoch, GpsTime, Plan, PlanFault, StationValues};
 use gnss_system::System;
 use messages::{Heard, message};
-use obs_epoch::{CellCounts, Choice, EpochCounts, Gather, GatherSetup, Gatherer, Kind, Taken};
+use obs_epoch::{
+    CellCounts, Choice, EpochCounts, Gather, GatherSetup, Gatherer, Kind, Start, Taken,
+};
 use std::alloc::Global;
 use std::test::*;
 
@@ -186,18 +189,19 @@ fn go_through(g: &mut Gatherer, steps: &[Step]) -> bool {
     true
 }
 
-/// Whether the steps of a gatherer with this plan and choice have their expected outcomes.
+/// Whether the steps of a gatherer with this plan, start and choice have their expected outcomes.
 fn run(
     alloc: Global,
     plan: (&str, &str),
-    week: u32,
+    start: Start,
     station: Option<u16>,
     gather: Gather,
     choice: Choice,
     steps: &[Step],
 ) -> Result<bool, PlanFault> {
     let plan = Plan::parse(alloc, plan.0, plan.1)?;
-    let mut setup = GatherSetup::new(plan, week);
+    let mut setup = GatherSetup::new(plan, 0);
+    setup.start = start;
     setup.station = station;
     setup.gather = gather;
     setup.choice = choice;
@@ -216,13 +220,28 @@ fn goes_as_given(
     steps: &[Step],
 ) -> bool {
     let choice = Choice::default();
-    run(alloc, plan, week, Some(7), gather, choice, steps) == Ok(true)
+    let start = Start::Week(week);
+    run(alloc, plan, start, Some(7), gather, choice, steps) == Ok(true)
 }
 
 /// Whether all steps of a gatherer of station 7 with this choice, with every signal planned, from
 /// week 2,300 on and by the bit, have their expected outcomes.
 fn goes_with(alloc: Global, choice: Choice, steps: &[Step]) -> bool {
-    run(alloc, ALL, 2_300, Some(7), Gather::Bit, choice, steps) == Ok(true)
+    let start = Start::Week(2_300);
+    run(alloc, ALL, start, Some(7), Gather::Bit, choice, steps) == Ok(true)
+}
+
+/// Whether all steps of a gatherer of station 7 near this time, with every signal planned and by
+/// the bit, have their expected outcomes.
+fn goes_near(alloc: Global, noon: u64, steps: &[Step]) -> bool {
+    let choice = Choice::default();
+    match GpsTime::new(noon) {
+        Some(noon) => {
+            let start = Start::Near(noon);
+            run(alloc, ALL, start, Some(7), Gather::Bit, choice, steps) == Ok(true)
+        }
+        None => false,
+    }
 }
 
 /// The same as `goes_as_given` with every signal planned, from week 2,300 on and by the bit.
@@ -396,8 +415,9 @@ fn set_up(
     gather: Gather,
 ) -> Result<bool, PlanFault> {
     let choice = Choice::default();
+    let start = Start::Week(week);
     let steps = &[Plans(1)];
-    run(alloc, ("1C", "none"), week, station, gather, choice, steps)
+    run(alloc, ("1C", "none"), start, station, gather, choice, steps)
 }
 
 fn are_refused_in_order(alloc: Global) -> bool {
