@@ -21,6 +21,7 @@
 mod channels;
 mod data;
 mod entry;
+mod equipment;
 mod fault;
 mod field;
 mod grid;
@@ -40,7 +41,8 @@ mod writing;
 pub use channels::{SentChannels, channel_of_1020};
 pub use data::{Cell, INVALID_FINE_RATE, INVALID_ROUGH_RATE, Satellite};
 pub use entry::Entry;
-pub use fault::{Field, MsgFault, ValueFault};
+pub use equipment::{Equipment, equipment_in};
+pub use fault::{EquipmentFault, Field, MsgFault, ValueFault};
 pub use grid::{Grid, Grid4, Grid5, Grid6, Grid7, GridOf};
 pub use header::{Masks, MsmHeader, WEEK, time_of_week};
 pub use message::{Message, decode, encode};

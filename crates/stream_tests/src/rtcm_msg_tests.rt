@@ -1,5 +1,6 @@
 //! What no clause states: encoded messages from outside, and that each call can succeed.
 
+mod equipment;
 mod forms;
 mod glonass;
 mod known;
