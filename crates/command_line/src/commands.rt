@@ -100,7 +100,9 @@ const SHOW: CommandRow<'static> = CommandRow {
                it has.",
     options: option_rows! {
         None => {
-            "all", "", false, &[], ValueParser::Bool, SetTrue, "Shows MSM4 to MSM7 of every system";
+            "all", "", false, &[], ValueParser::Bool, SetTrue,
+                "Shows MSM4 to MSM7 of every system, and the\n\
+                 antenna and the receiver";
         }
     },
 };
@@ -212,8 +214,7 @@ const CONVERT: CommandRow<'static> = CommandRow {
                  it the messages of every station count";
             "position", "X,Y,Z", false, &["0,0,0"], TEXT, Set,
                 "Position in metres until a message 1005 or\n\
-                 1006; write --position=X,Y,Z if X is\n\
-                 negative";
+                 1006";
             "antenna-height", "HEIGHT", false, &["0"], TEXT, Set,
                 "Antenna height in metres until a message 1006,\n\
                  0 to 6.5535";

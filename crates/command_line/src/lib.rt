@@ -17,5 +17,7 @@
 
 mod cli;
 mod commands;
+mod words;
 
 pub use cli::{VERSION, drop_matches, parse};
+pub use words::joined_words;

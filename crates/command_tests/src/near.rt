@@ -25,8 +25,9 @@ const ONE: Text = Stream(&[Fine(&[])]);
 
 const ONE_OF: Expected = Invalid("rtcm2rinex: OneOf --week WEEK, --near DATE: one of them\n");
 
-const BAD_NEAR: Expected =
-    Invalid("rtcm2rinex: BadDate --near DATE: a date yyyy-mm-dd, 1980-01-06 to 3896-07-18\n");
+const BAD_NEAR: Expected = Invalid(
+    "rtcm2rinex: BadDate --near DATE: a date yyyy-mm-dd, 1980-01-06 to 3896-07-18\n",
+);
 
 /// Dates of which the first second of a week is at most half a week away.
 static NEAR: [Case; 4] = [
@@ -50,7 +51,11 @@ static NO_START: [Case; 8] = [
     (&["--near", "2300"], ONE, BAD_NEAR),
     (&["--near", "2024-02-30"], ONE, BAD_NEAR),
     (&["--near=", "--position", "x"], ONE, BAD_NEAR),
-    (&["--near", "2024-02-04", "--near", "2024-02-04"], ONE, Refused),
+    (
+        &["--near", "2024-02-04", "--near", "2024-02-04"],
+        ONE,
+        Refused,
+    ),
 ];
 
 #[test]

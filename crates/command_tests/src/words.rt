@@ -3,9 +3,10 @@ use super::messages::FRAMED_STATION;
 use super::scenario::Expected::Refused;
 use super::scenario::{Case, FAULTLESS, Setting, assert_come};
 use super::texts::Text::Bytes;
+use command_line::joined_words;
 use devices::Counted;
 use rtcm_command::command::refuse_words;
-use std::alloc::Global;
+use std::alloc::{AllocError, Global};
 use std::io;
 use std::io::ErrorKind;
 
@@ -48,4 +49,30 @@ fn words_that_cannot_be_had_are_given(rt: HostRuntime) {
         )
     );
     assert!(rt; are_refused(rt.alloc(), ErrorKind::InvalidData, 2, invalid_text));
+}
+
+/// Whether these words are read as those.
+fn are_joined(alloc: Global, given: &[&str], expected: &[&str]) -> Result<bool, AllocError> {
+    let mut words = Vec::new(alloc);
+    for word in given {
+        words.push(String::from_str(alloc, word)?)?;
+    }
+    let joined = joined_words(alloc, words.as_slice())?;
+    let mut same = joined.len() == expected.len();
+    for i in 0..expected.len().min(joined.len()) {
+        same &= joined[i].as_str() == expected[i];
+    }
+    Ok(same)
+}
+
+#[test]
+fn a_position_and_its_negative_value_are_one_word(rt: HostRuntime) {
+    let (given, one) = (["--position", "-1,2,3", "-1"], ["--position=-1,2,3", "-1"]);
+    assert!(rt; are_joined(rt.alloc(), &given, &one) == Ok(true));
+    for others in [
+        ["--position", "--gps", "1C"],
+        ["--marker", "-1", "--position"],
+    ] {
+        assert!(rt; are_joined(rt.alloc(), &others, &others) == Ok(true));
+    }
 }

@@ -3,6 +3,7 @@
 //! command `check` reads such a file back and reports whether it is accepted.
 #![tactic(auto)]
 
+use command_line::joined_words;
 use devices::{Buffered, Counted};
 use rtcm_command::command::{command, refuse_words};
 use std::alloc::Global;
@@ -21,7 +22,8 @@ fn main(rt: HostRuntime) -> ExitCode {
 /// an error if the words of the command line can't be read or memory ran out.
 fn run(rt: &HostRuntime) -> io::Result<u8> {
     let alloc: Global = rt.alloc();
-    let owned: Vec<String> = std::env::args(rt)?.collect(alloc)?;
+    let given: Vec<String> = std::env::args(rt)?.collect(alloc)?;
+    let owned = joined_words(alloc, given.as_slice())?;
     let mut words: Vec<&str> = Vec::new(alloc);
     for word in &owned {
         words.push(word.as_str())?;
