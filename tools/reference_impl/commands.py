@@ -6,6 +6,7 @@ from .messages import (
     DEFAULT,
     EVERY,
     SIGNALS,
+    TEXTS,
     Cell,
     Channels,
     Message,
@@ -14,6 +15,7 @@ from .messages import (
     Refused,
     Station,
     decode,
+    equipment_of,
     number_of,
     numbers_of,
 )
@@ -31,12 +33,24 @@ def frame_lines(data: bytes) -> list[str]:
     return [f"{place} {len(message)} {word(number_of(message))}" for place, message in frames_of(data)]
 
 
-def show_lines(data: bytes, numbers: set[int] = DEFAULT) -> list[str]:
-    """Returns a line for each station message, and each MSM of these numbers."""
+def quoted(text: bytes) -> str:
+    """Returns a text in quotation marks, with the hexadecimal code of each byte that is special or not printable."""
+    plain = [chr(byte) if 0x20 <= byte < 0x7F and byte not in b'"\\' else f"\\x{byte:02X}" for byte in text]
+    return f'"{"".join(plain)}"'
+
+
+def show_lines(data: bytes, is_all: bool = False) -> list[str]:
+    """Returns a line for each station message and each MSM that is decoded by default; or for each of these, each
+    other MSM and each antenna and receiver."""
     lines = []
     for place, message in frames_of(data):
         try:
-            read = decode(message, numbers)
+            if is_all and number_of(message) in TEXTS:
+                about = equipment_of(message)
+                texts = map(quoted, about.texts)
+                lines.append(" ".join(map(str, (place, about.number, about.station, about.setup, *texts))))
+                continue
+            read = decode(message, EVERY if is_all else DEFAULT)
         except Refused as fault:
             lines.append(f"{place} {word(number_of(message))} {fault}")
             continue

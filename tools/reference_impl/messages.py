@@ -46,6 +46,11 @@ CHANNELS = range(-7, 7)
 LISTED = {first + n for first in range(1071, 1130, 10) for n in range(7)}
 
 
+# The number of texts of a message with an antenna and a receiver, and the longest.
+TEXTS = {1007: 1, 1008: 2, 1033: 5}
+LONGEST_TEXT = 31
+
+
 def numbers_of(systems: Iterable[str], forms: Iterable[int]) -> set[int]:
     """Returns the numbers of the MSMs of these systems and forms."""
     return {FIRST_NUMBERS[system] + form for system in systems for form in forms}
@@ -223,3 +228,35 @@ def least_of_10(i: int) -> int | None:
     """Returns the minimum lock time of DF407 in ms; None from 705 on (unknown lock)."""
     k = max(0, i // 32 - 1)
     return None if i > 704 else 2**k * (i - 32 * k)
+
+
+@dataclass
+class Equipment:
+    """The antenna and the receiver of a station: a message 1007, 1008 or 1033."""
+
+    number: int
+    station: int
+    setup: int
+    texts: list[bytes]
+
+
+def equipment_of(message: bytes) -> Equipment:
+    """Returns the content of a message 1007, 1008 or 1033; all of its fields but the first two are whole bytes."""
+    number = number_of(message)
+    if len(message) < 3:
+        raise Refused("Short 12")
+    place, setup, texts = 3, None, []
+    while setup is None or len(texts) < TEXTS[number]:
+        if place >= len(message):
+            raise Refused(f"Short {8 * place}")
+        if texts and setup is None:
+            setup, place = message[place], place + 1
+            continue
+        if message[place] > LONGEST_TEXT:
+            raise Refused(f"BadCounter {8 * place}")
+        text = message[place + 1 : place + 1 + message[place]]
+        if len(text) < message[place]:
+            raise Refused(f"Short {8 * (place + 1)}")
+        texts.append(text)
+        place += 1 + len(text)
+    return Equipment(number, (message[1] & 15) << 8 | message[2], setup, texts)

@@ -22,3 +22,4 @@ pub mod CarrierLemmas
 pub mod LeapLemmas
 pub mod RangeLemmas
 pub mod FirstChannelLemmas
+mod EquipmentLemmas

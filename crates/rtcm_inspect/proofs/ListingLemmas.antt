@@ -55,6 +55,11 @@ module _ {W : Type 0} {held : W → Option (List ℕ)} {k0 k : Listing} {o0 o o2
     failed = subst (λ (n : ℕ). HasFailed n o2.failures) s.fine failed;
   }
 
+-- a text, given in other terms, was written or not
+pub written_as : {W : Type 0} {text same : List ℕ} (held : W → Option (List ℕ)) (o o2 : Device W) (r : Result ⊤ DeviceFailed) → text ≡ same → WritesLine r held o o2 text
+    → WritesLine r held o o2 same
+written_as held o o2 r e w = subst (WritesLine r held o o2) e w
+
 -- a frame's line, given in other terms, was written or not
 pub whole_line : {W : Type 0} {text : List ℕ} (held : W → Option (List ℕ)) (k : Listing) (o o2 : Device W) (f : Framed) (r : Result ⊤ DeviceFailed) → text ≡ listing_line k f → WritesLine r held o o2 text
     → OnOk r ((k0 : Listing) (o0 : Device W) (ps fs : List Framed) → Lists held k0 o0 ps k o fs → Lists held k0 o0 ps k o2 (fs ++ f ∷ []))

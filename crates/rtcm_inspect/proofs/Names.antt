@@ -63,7 +63,7 @@ pub use Rattle.rtcm_inspect.specs.NearWeek.{IsWeekFor}
 pub use Rattle.rtcm_inspect.specs.OptionOutput.{AreOptionsOf, AreOptionsRefused}
 pub use Rattle.rtcm_inspect.specs.Printing.{EndsPrinting, PrintsLine, PrintsText}
 pub use Rattle.rtcm_inspect.specs.ReadBack.{AreEncoded, AreKnown, AreReadAs, ReadsBack}
-unfoldable pub use Rattle.rtcm_inspect.specs.ShowLines.{fault_line, msm_line, show_line, station_line}
+unfoldable pub use Rattle.rtcm_inspect.specs.ShowLines.{fault_line, msm_line, message_line, station_line}
 pub use Rattle.rtcm_inspect.specs.ShowLines.{fault_words, height_words, read_for, read_line}
 pub use Rattle.rtcm_inspect.specs.SignalLaws.{SkipsOnly}
 unfoldable pub use Rattle.rtcm_inspect.specs.Signals.{count_line}

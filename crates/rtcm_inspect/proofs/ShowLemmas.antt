@@ -1,12 +1,12 @@
 -- The line of a message.
-use Rattle.rtcm_inspect.proofs.Names.{◌≡◌, ◌∙◌, ap, sym, ℕ, ℤ, pos, negsuc, List, Result, Ok, FitsSigned, w64, to_z, of_z, arith, refl, to_z-of_z, FitsInt, Bool, Framed, MsgFault, Message, read_for, Form, MsmValue, FormedMsm, formed, message_in, message_number, show_line, read_line, msm_line}
+use Rattle.rtcm_inspect.proofs.Names.{◌≡◌, ◌∙◌, ap, sym, ℕ, ℤ, pos, negsuc, List, Result, Ok, FitsSigned, w64, to_z, of_z, arith, refl, to_z-of_z, FitsInt, Bool, Framed, MsgFault, Message, read_for, Form, MsmValue, FormedMsm, formed, message_in, message_number, message_line, read_line, msm_line}
 use Rattle.rtcm_msg.specs.declared.view.Form.TheVariants as forms
 
-pub shown : (all : Bool) (f : Framed) (r : Result Message MsgFault) {bytes : List ℕ} → bytes ≡ f.message → read_for all bytes ≡ r → show_line all f ≡ read_line f r
-unfolding show_line
+pub shown : (all : Bool) (f : Framed) (r : Result Message MsgFault) {bytes : List ℕ} → bytes ≡ f.message → read_for all bytes ≡ r → message_line all f ≡ read_line f r
+unfolding message_line
 shown all f r {bytes} e h = ap (read_line f) (sym (ap (read_for all) e) ∙ h)
 
-pub shown_value : (all : Bool) (f : Framed) (v m : Message) {bytes : List ℕ} → bytes ≡ f.message → read_for all bytes ≡ Ok v → v ≡ m → show_line all f ≡ read_line f (Ok m)
+pub shown_value : (all : Bool) (f : Framed) (v m : Message) {bytes : List ℕ} → bytes ≡ f.message → read_for all bytes ≡ Ok v → v ≡ m → message_line all f ≡ read_line f (Ok m)
 shown_value all f v m e h same = shown all f (Ok m) e (h ∙ ap (λ (x : Message). Ok x) same)
 
 -- the line of an MSM of either form

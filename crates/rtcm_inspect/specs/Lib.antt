@@ -1,5 +1,6 @@
 pub mod FaultWords
 pub mod FrameLines
+pub mod EquipmentLines
 pub mod ShowLines
 pub mod Devices
 pub mod Listing

@@ -12,6 +12,9 @@ use Rattle.rtcm_msg.specs.declared.station.StationParts.{StationParts}
 use Rattle.rtcm_msg.specs.Msm.{MsmValue, time_of_week}
 use Rattle.rtcm_msg.specs.Decoding.{message_at, message_with}
 use Rattle.rtcm_msg.specs.Numbers.{default_set, message_number}
+use Rattle.rtcm_msg.specs.Equipment.{EquipmentValue, equipment_in}
+use Rattle.rtcm_msg.specs.declared.fault.EquipmentFault.{EquipmentFault}
+use Rattle.rtcm_inspect.specs.EquipmentLines.{equipment_line}
 use Rattle.rtcm_inspect.specs.FrameLines.{number_word}
 use Rattle.line_texts.specs.Lines.{line}
 use Rattle.line_texts.specs.Metres.{metres}
@@ -59,9 +62,19 @@ abbrev pub read_for : (all : Bool) → List ℕ → Result Message MsgFault
 read_for true bytes = message_at bytes
 read_for false bytes = message_with default_set bytes
 
+-- the line of a message as it is read
+unfoldable pub message_line : (all : Bool) → Framed → List ℕ
+message_line all f = read_line f (read_for all f.message)
+
+-- of all messages, an antenna and a receiver have a line too
+abbrev pub line_with : Framed → Option (Result EquipmentValue EquipmentFault) → List ℕ
+line_with f None = message_line true f
+line_with f (Some read) = equipment_line f read
+
 -- the line of a frame
-unfoldable pub show_line : (all : Bool) → Framed → List ℕ
-show_line all f = read_line f (read_for all f.message)
+abbrev pub show_line : (all : Bool) → Framed → List ℕ
+show_line false f = message_line false f
+show_line true f = line_with f (equipment_in f.message)
 
 -- the lines of frames, one after the other
 abbrev pub show_lines : (all : Bool) → List Framed → List ℕ

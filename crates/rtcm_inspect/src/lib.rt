@@ -15,6 +15,7 @@
 
 mod check;
 mod counting;
+mod equipment;
 mod fault;
 mod first_messages;
 mod first_tows;

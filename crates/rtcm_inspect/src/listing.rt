@@ -1,9 +1,10 @@
 //! The commands `frames` and `show`: a line for each frame, or for each message, of a stream.
-ghost use Rattle.std.specs.Prelude.{◌≡◌, ◌+◌, ◌≤◌, ◌∷◌, ◌++◌, true, false, length};
+ghost use Rattle.std.specs.Prelude.{◌≡◌, ◌+◌, ◌≤◌, ◌∷◌, ◌++◌, IfOk, true, false, length};
 ghost use Rattle.devices.specs.Devices.{Changes};
 ghost use Rattle.rtcm_bits.specs.FrameOf.{longest_message};
 ghost use Rattle.rtcm_scan.specs.inner.Results.{framed};
 ghost use Rattle.rtcm_scan.specs.Scan.{most_bytes};
+ghost use Rattle.rtcm_msg.specs.Equipment.{AreShort, values_of};
 ghost use Rattle.rtcm_msg.specs.Station.{InRange};
 ghost use Rattle.rtcm_msg.specs.Numbers.{message_number};
 ghost use Rattle.rtcm_inspect.specs.FrameLines.{frame_line, frame_lines, number_word};
@@ -13,14 +14,19 @@ ghost use Rattle.rtcm_inspect.specs.ShowLines.{fault_words};
 ghost use Rattle.rtcm_msg.specs.Fields.{GivesViewed};
 ghost use Rattle.rtcm_msg.specs.inner.Viewed.{viewed_message};
 ghost use Rattle.rtcm_inspect.specs.ShowLines.{read_for};
-ghost use Rattle.rtcm_inspect.specs.ShowLines.{msm_line, show_line, show_lines, station_line};
-ghost use Rattle.rtcm_inspect.specs.Listing.{EndsListing, listing_line, listing_lines};
+ghost use Rattle.rtcm_inspect.specs.EquipmentLines.{equipment_line};
+ghost use Rattle.rtcm_inspect.specs.ShowLines.{message_line, msm_line, show_line, show_lines, station_line};
+ghost use Rattle.rtcm_inspect.specs.Listing.{EndsListing, WritesLine, listing_lines};
 
+use crate::equipment::{add_equipment_fault, equipment_text};
 use crate::fault::InspectFault;
 use devices::{Counted, Deliver, DeviceFailed};
 use line_texts::OutputLine;
 use rtcm_bits::BitReader;
-use rtcm_msg::{MsgFault, MsmSet, MsmView, StationParts, View, look, look_in, time_of_week};
+use rtcm_msg::{
+    Equipment, EquipmentFault, MsgFault, MsmSet, MsmView, StationParts, View, equipment_in, look,
+    look_in, time_of_week,
+};
 use rtcm_scan::{Frame, FrameSink, Framer, MOST_BYTES, ScanFault, laws};
 use std::alloc::Global;
 use std::io::Read;
@@ -53,9 +59,11 @@ impl<W: Deliver> FrameSink<Counted<W>> for Listing {
     ghost broke = { ListsUpTo W.contents };
 
     fn take(&mut self, frame: &Frame, out: &mut Counted<W>) -> Result<(), DeviceFailed> {
-        let mut line = OutputLine::new();
-        add_line(&mut line, *self, frame);
-        out.write_whole(line.as_bytes())
+        match self {
+            Listing::Frames => write_frame(frame, out),
+            Listing::Messages => write_message(false, frame, out),
+            Listing::AllMessages => write_any(frame, out),
+        }
     }
 
     fn send(&self, out: &mut Counted<W>) -> Result<(), DeviceFailed> {
@@ -63,16 +71,61 @@ impl<W: Deliver> FrameSink<Counted<W>> for Listing {
     }
 }
 
-/// Adds the line of a frame, if it has one.
-fn add_line(line: &mut OutputLine, listing: Listing, frame: &Frame)
-    requires { length line.old ≤ longest_prefix }
-    ensures { line.new ≡ line.old ++ listing_line listing (framed frame.now) }
+/// Writes the line of a frame.
+fn write_frame<W: Deliver>(frame: &Frame, out: &mut Counted<W>) -> Result<(), DeviceFailed>
+    ensures { WritesLine result W.contents out.old out.new (frame_line (framed frame.now)) }
 {
-    match listing {
-        Listing::Frames => add_frame(line, frame),
-        // One call, as two would make the loop over the lines slower by 3 %.
-        Listing::Messages | Listing::AllMessages => {
-            add_message(line, matches!(listing, Listing::AllMessages), frame);
+    let mut line = OutputLine::new();
+    add_frame(&mut line, frame);
+    out.write_whole(line.as_bytes())
+}
+
+/// Writes the line of a frame's message, if it is read or refused.
+// Inlined into the loop of `frames`, its buffers would be cleared for every frame.
+#[inline(never)]
+fn write_message<W: Deliver>(
+    all: bool,
+    frame: &Frame,
+    out: &mut Counted<W>,
+) -> Result<(), DeviceFailed>
+    ensures { WritesLine result W.contents out.old out.new (message_line all (framed frame.now)) }
+{
+    let mut line = OutputLine::new();
+    add_message(&mut line, all, frame);
+    out.write_whole(line.as_bytes())
+}
+
+/// Writes the line of a frame's message, if it is read or refused, or if it is an antenna or a
+/// receiver.
+#[inline(never)]
+fn write_any<W: Deliver>(frame: &Frame, out: &mut Counted<W>) -> Result<(), DeviceFailed>
+    ensures { WritesLine result W.contents out.old out.new (show_line true (framed frame.now)) }
+{
+    match equipment_in(frame.message.as_slice()) {
+        Some(read) => write_equipment(&read, frame, out),
+        None => write_message(true, frame, out),
+    }
+}
+
+/// Writes the line of an antenna and a receiver. If they aren't read it is their offset, number and
+/// fault.
+fn write_equipment<W: Deliver>(
+    read: &Result<Equipment<'_>, EquipmentFault>,
+    frame: &Frame,
+    out: &mut Counted<W>,
+) -> Result<(), DeviceFailed>
+    requires { IfOk read.now (λ e. AreShort e.texts.items) }
+    ensures { WritesLine result W.contents out.old out.new (equipment_line (framed frame.now) (values_of read.now)) }
+{
+    match read {
+        Ok(equipment) => out.write_whole(equipment_text(frame.offset, equipment).as_slice()),
+        Err(fault) => {
+            let mut line = OutputLine::new();
+            line.put_number(frame.offset);
+            add_message_number(&mut line, frame.message.as_slice());
+            add_equipment_fault(&mut line, *fault);
+            line.finish();
+            out.write_whole(line.as_bytes())
         }
     }
 }
@@ -157,11 +210,9 @@ fn add_frame(line: &mut OutputLine, frame: &Frame)
 
 /// Adds the line of a frame's message, if it is read or refused. That of a refused message is its
 /// offset, number and fault.
-// Inlined into the loop of `frames`, its buffers would be cleared for every frame.
-#[inline(never)]
 fn add_message(line: &mut OutputLine, all: bool, frame: &Frame)
     requires { length line.old ≤ longest_prefix }
-    ensures { line.new ≡ line.old ++ show_line all (framed frame.now) }
+    ensures { line.new ≡ line.old ++ message_line all (framed frame.now) }
 {
     let message = frame.message.as_slice();
     match read_for(all, message) {

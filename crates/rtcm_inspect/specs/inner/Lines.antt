@@ -3,6 +3,7 @@ use Rattle.std.specs.Prelude.{ℕ, ◌+◌, ◌*◌, length}
 use Rattle.gnss_system.specs.Signals.{most_signals}
 use Rattle.gnss_system.specs.Systems.{systems}
 use Rattle.line_texts.specs.Lines.{longest_line, longest_number}
+use Rattle.rtcm_msg.specs.Equipment.{longest_text}
 
 -- the most bytes before the line of a frame or a message
 abbrev pub longest_prefix : ℕ
@@ -46,3 +47,10 @@ longest_signal = 26
 
 abbrev pub longest_signals : ℕ
 longest_signals = longest_signal * most_signals * length systems
+
+-- the most bytes of four numbers, and of a text in quotation marks after a blank, in the line of an antenna and a receiver
+abbrev pub longest_head : ℕ
+longest_head = 4 * (1 + longest_number)
+
+abbrev pub longest_quoted : ℕ
+longest_quoted = 3 + 4 * longest_text

@@ -1,15 +1,18 @@
-use Rattle.rtcm_inspect.proofs.ListingLemmas.{part_line, whole_line}
-use Rattle.rtcm_inspect.proofs.Names.{◌∙◌, ◌++◌, ap, ℕ, List, framed, listing_line}
+use Rattle.rtcm_inspect.proofs.ListingLemmas.{part_line}
+use Rattle.rtcm_inspect.proofs.Names.{ap, sym, framed, Listing, listing_line}
 use Rattle.rtcm_inspect.proofs.listing.ListingFrameSinkCounted.take.Goals as goal
 
-pub returns-clause-whole : goal.returns-clause-whole
-returns-clause-whole g c =
-    let f = framed c.args.frame.now in
-    whole_line g.W.Write.contents c.args.self.now c.args.out.now c.write_whole.new.self f c.write_whole.result (c.as_bytes.ensures.text ∙ c.add_line.ensures ∙ ap (λ (l : List ℕ). l ++ listing_line c.args.self.now f) c.new-line.ensures)
-    (c.write_whole.ensures.whole, c.write_whole.ensures.part, c.write_whole.ensures.device)
+pub returns-in-Frames-clause-part : goal.returns-in-Frames-clause-part
+returns-in-Frames-clause-part g c =
+    part_line g.W.Write.contents c.args.self.now c.args.out.now c.write_frame.new.out (framed c.args.frame.now) c.write_frame.result
+    (ap (λ (k : Listing). listing_line k (framed c.args.frame.now)) (sym c.in-Frames.is)) c.write_frame.ensures
 
-pub returns-clause-part : goal.returns-clause-part
-returns-clause-part g c =
-    let f = framed c.args.frame.now in
-    part_line g.W.Write.contents c.args.self.now c.args.out.now c.write_whole.new.self f c.write_whole.result (c.as_bytes.ensures.text ∙ c.add_line.ensures ∙ ap (λ (l : List ℕ). l ++ listing_line c.args.self.now f) c.new-line.ensures)
-    (c.write_whole.ensures.whole, c.write_whole.ensures.part, c.write_whole.ensures.device)
+pub returns-in-Messages-clause-part : goal.returns-in-Messages-clause-part
+returns-in-Messages-clause-part g c =
+    part_line g.W.Write.contents c.args.self.now c.args.out.now c.write_message.new.out (framed c.args.frame.now) c.write_message.result
+    (ap (λ (k : Listing). listing_line k (framed c.args.frame.now)) (sym c.in-Messages.is)) c.write_message.ensures
+
+pub returns-in-AllMessages-clause-part : goal.returns-in-AllMessages-clause-part
+returns-in-AllMessages-clause-part g c =
+    part_line g.W.Write.contents c.args.self.now c.args.out.now c.write_any.new.out (framed c.args.frame.now) c.write_any.result
+    (ap (λ (k : Listing). listing_line k (framed c.args.frame.now)) (sym c.in-AllMessages.is)) c.write_any.ensures
