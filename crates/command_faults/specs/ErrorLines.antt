@@ -3,6 +3,7 @@ use Rattle.std.specs.Prelude.{ℕ, List, [], ◌∷◌, codes, decimal}
 use Rattle.rtcm_convert.specs.declared.fault.Fault.{Fault}
 use Rattle.rtcm_convert.specs.declared.fault.Fault.TheVariants as convert
 use Rattle.rtcm_inspect.specs.FaultWords.{header_words, inspection_words, plan_words}
+use Rattle.rinex_inspect.specs.Faults.{file_words}
 use Rattle.line_texts.specs.Lines.{line}
 use Rattle.command_faults.specs.declared.fault.DateOption.{DateOption}
 use Rattle.command_faults.specs.declared.fault.DateOption.TheVariants as dated
@@ -63,6 +64,7 @@ error_words (faults.Header e) = header_words e
 error_words (faults.Plan e) = plan_words e
 error_words (faults.Convert e) = conversion_word e ∷ conversion_counts e
 error_words (faults.Inspect e) = inspection_words e
+error_words (faults.File e) = file_words e
 
 -- the line of an error
 unfoldable pub error_line : CommandFault → List ℕ

@@ -3,10 +3,11 @@ ghost use Rattle.std.specs.Prelude.{◌≡◌, ◌+◌, ◌≤◌, ◌∷◌, co
 ghost use Rattle.command_faults.specs.ErrorLines.{conversion_counts, conversion_word, date_words, error_line};
 ghost use Rattle.command_faults.specs.ErrorLines.{error_words};
 ghost use Rattle.line_texts.specs.Lines.{with_words};
-ghost use Rattle.rtcm_inspect.specs.inner.Lines.{longest_error, longest_fault_name, longest_start};
+ghost use Rattle.line_texts.specs.inner.Errors.{longest_error, longest_fault_name, longest_start};
 
 use crate::fault::{CommandFault, DateOption};
 use line_texts::OutputLine;
+use rinex_inspect::add_file_error;
 use rtcm_convert::Fault;
 use rtcm_inspect::{add_header_error, add_inspection_error, add_plan_error};
 
@@ -58,6 +59,7 @@ fn add_error(line: &mut OutputLine, fault: CommandFault)
         CommandFault::Plan(fault) => add_plan_error(line, fault),
         CommandFault::Convert(fault) => add_conversion_error(line, fault),
         CommandFault::Inspect(fault) => add_inspection_error(line, fault),
+        CommandFault::File(fault) => add_file_error(line, fault),
     }
 }
 

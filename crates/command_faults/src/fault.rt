@@ -2,6 +2,7 @@
 
 use gnss_obs::PlanFault;
 use rinex_file::HeadFault;
+use rinex_inspect::FileFault;
 use rtcm_convert::Fault;
 use rtcm_inspect::InspectFault;
 
@@ -34,8 +35,10 @@ pub enum CommandFault {
     Plan(PlanFault),
     /// The conversion stopped.
     Convert(Fault),
-    /// Another command stopped, or the output of the version.
+    /// A command that reads a stream stopped, or the output of the version.
     Inspect(InspectFault),
+    /// A command that reads a file stopped.
+    File(FileFault),
 }
 
 /// An option whose value is a date.

@@ -6,8 +6,7 @@ ghost use Rattle.command_faults.specs.Status.{status_of};
 
 use crate::error_lines::error_line;
 use crate::fault::CommandFault;
-use devices::{Counted, Deliver};
-use rtcm_inspect::print_line;
+use devices::{Counted, Deliver, print_line};
 
 /// Prints the fault of a command, if any, on one line, and returns the exit status: 0 after
 /// success, 2 if not one of two options is given, or a date, the position, the height, the list of channels, the window, an interval or

@@ -1,3 +1,4 @@
 pub mod Names
 pub mod DeviceLemmas
 pub mod BufferLemmas
+pub mod PrintingLaws

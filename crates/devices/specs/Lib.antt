@@ -1,4 +1,5 @@
 pub mod Device
 pub mod Devices
 pub mod Buffering
+pub mod Printing
 pub mod inner

@@ -1,5 +1,5 @@
 //! Readers and writers whose calls are counted, so that a failure has its cause; a buffer that loses
-//! no byte; and writers that say what waits in them.
+//! no byte; writers that say what waits in them; and texts that are written and delivered.
 //!
 //! ```
 //! /// The number of bytes that the first read of a stream returns, and of its failed reads.
@@ -16,7 +16,9 @@ mod buffered;
 mod counted;
 mod deliver;
 pub mod laws;
+mod printing;
 
 pub use buffered::Buffered;
 pub use counted::{Counted, DeviceFailed};
 pub use deliver::{Deliver, Destination};
+pub use printing::{deliver_waiting, print_line, print_text};

@@ -5,3 +5,4 @@ pub mod Lengths
 pub mod Dates
 pub mod ChannelTexts
 pub mod LeapSeconds
+pub mod inner

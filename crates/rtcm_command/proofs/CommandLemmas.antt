@@ -2,7 +2,7 @@
 use Rattle.std.specs.Prelude.{IfSome, string_bytes}
 use Rattle.std.proofs.Common.{Global, String}
 use Rattle.rtcm_command.specs.Commands.{refusal_line}
-use Rattle.rtcm_command.proofs.Names.{◌≡◌, ◌∙◌, inl, inr, refl, sym, subst, codes, ap, ap₂, option_map, ℕ, List, Option, Some, None, Result, Ok, Err, arith, ⊤, ◌≢◌, IsCommand, box_value, option_map_or, Box, found_of, subcommand_rows, subcommand_rows_of, Row, Text, rows_of, out-SubCommand, SubCommand, kind_of, Error, ArgMatches, AreFine, AreUntouched, Devices, EndsInspection, Reader, Writer, culprit, SelectsCommand, IsFoundIn, RefusesWords, FailsParsing, AreRefused, AreRefusedBy, EndsCommand, EndsFound, HasCommand, HasCompleted, HasDone, HasStopped, HasStoppedEarly, StopsPrinting, fault_status, status_of, error_line, length, lit<, ◌<◌, PrintsLine, PrintsSome, PrintsFault, InspectFault, Ends, of_inspection, CommandFault, HaveFailedBy, IsErrAnd, passed}
+use Rattle.rtcm_command.proofs.Names.{◌≡◌, ◌∙◌, inl, inr, refl, sym, subst, codes, ap, ap₂, option_map, ℕ, List, Option, Some, None, Result, Ok, Err, arith, ⊤, ◌≢◌, IsCommand, box_value, option_map_or, Box, found_of, subcommand_rows, subcommand_rows_of, Row, Text, rows_of, out-SubCommand, SubCommand, kind_of, Error, ArgMatches, AreFine, AreUntouched, Devices, EndsInspection, Reader, Writer, culprit, SelectsCommand, IsFoundIn, RefusesWords, FailsParsing, AreRefused, AreRefusedBy, EndsCommand, EndsFound, HasCommand, HasCompleted, HasDone, HasStopped, HasStoppedEarly, StopsPrinting, fault_status, status_of, error_line, length, lit<, ◌<◌, PrintsLine, PrintsSome, PrintsFault, InspectFault, Ends, of_inspection, EndsOnFile, FileFault, of_file, CommandFault, HaveFailedBy, IsErrAnd, passed}
 use Rattle.clap.specs.declared.error.kind.ErrorKind.TheVariants as kind
 use Rattle.rtcm_inspect.specs.Devices as inspection
 use Rattle.command_faults.specs.declared.fault.CommandFault.TheVariants as faults
@@ -32,19 +32,21 @@ module _ {R W : Type 0} (n : Text) (o : List Row) (d d2 : Devices R W) where
   inspection_fine (inl h) = h.1.0
   inspection_fine (inr (inl h)) = h.1.0
   inspection_fine (inr (inr (inl h))) = h.1.2.0
-  inspection_fine (inr (inr (inr (inl h)))) = h.1.2.2.0
-  inspection_fine (inr (inr (inr (inr h)))) = h.1.2.0
+  inspection_fine (inr (inr (inr h))) = h.1.2.2.0
 
   inspection_failed : (e : InspectFault) → EndsInspection (Err e) n o d d2 → HaveFailedBy (inspection.culprit e) d d2
   inspection_failed e (inl h) = h.1.0
   inspection_failed e (inr (inl h)) = h.1.0
   inspection_failed e (inr (inr (inl h))) = h.1.2.0
-  inspection_failed e (inr (inr (inr (inl h)))) = h.1.2.2.0
-  inspection_failed e (inr (inr (inr (inr h)))) = h.1.2.0
+  inspection_failed e (inr (inr (inr h))) = h.1.2.2.0
 
   ends_inspected : {E : Type 0} (ended : Result ⊤ InspectFault) (e : Writer E) → EndsInspection ended n o d d2 → EndsCommand (of_inspection ended) n o e e d d2
-  ends_inspected (Ok u) e h = (inspection_fine h, inr (h, refl))
+  ends_inspected (Ok u) e h = (inspection_fine h, inr (inl h, refl))
   ends_inspected (Err f) e h = (inspection_failed f h, (inr (inl (f, refl, h)), refl))
+
+  ends_on_file : {E : Type 0} (ended : Result ⊤ FileFault) (e : Writer E) → EndsOnFile ended n o d d2 → EndsCommand (of_file ended) n o e e d d2
+  ends_on_file (Ok u) e h = (h.1.2.0, inr (inr h, refl))
+  ends_on_file (Err f) e h = (h.1.2.0, (inr (inr (inl (f, refl, h))), refl))
 
 pub has_command : (words : List Text) (m : ArgMatches) → IsFoundIn words m → HasCommand m
 has_command words m found = (found.0, found.1, found.2, found.3)
@@ -71,11 +73,17 @@ pub is_check : {n : Text} {o : List Row} (m : ArgMatches) → HasCommand m → s
     → n ≡ codes "check"
 is_check {n} m (name, options, one, found) rows = only_check n (subst IsCommand (ap (λ (x : Option (Text × List Row)). option_map_or (λ p. p.0) x n) (sym found ∙ rows)) one)
 
--- how a command other than `convert` ended
+-- how a command that reads a stream and doesn't convert it ended
 pub inspection_found : {R W E : Type 0} {ended : Result ⊤ CommandFault} {rows : Option (Text × List Row)} {n : Text} {o : List Row} (d d2 : Devices R W) (e : Writer E) (inspection : Result ⊤ InspectFault) → ended ≡ of_inspection inspection → rows ≡ Some (n, o)
     → EndsInspection inspection n o d d2 → EndsFound ended rows e e d d2
 inspection_found {n = n} {o} d d2 e inspection same found h =
     (n, o, found, subst (λ x. EndsCommand x n o e e d d2) (sym same) (ends_inspected n o d d2 inspection e h))
+
+-- how a command that reads a file ended
+pub file_found : {R W E : Type 0} {ended : Result ⊤ CommandFault} {rows : Option (Text × List Row)} {n : Text} {o : List Row} (d d2 : Devices R W) (e : Writer E) (read : Result ⊤ FileFault) → ended ≡ of_file read → rows ≡ Some (n, o)
+    → EndsOnFile read n o d d2 → EndsFound ended rows e e d d2
+file_found {n = n} {o} d d2 e read same found h =
+    (n, o, found, subst (λ x. EndsCommand x n o e e d d2) (sym same) (ends_on_file n o d d2 read e h))
 
 -- an option of a command is refused, and nothing is read or written
 pub option_refused : {R W E : Type 0} {rows : Option (Text × List Row)} {n : Text} {o : List Row} {fault known : CommandFault} (d : Devices R W) (e : Writer E) (ended : Result ⊤ CommandFault) → IsErrAnd ended (λ y. y ≡ fault) → rows ≡ Some (n, o)
@@ -139,8 +147,9 @@ refused_by : {R W : Type 0} (d d2 : Devices R W) (name : Text) (options : List R
 refused_by d d2 name options fault two (inl (n, inl (refused, untouched))) = (inl (n, refused), untouched)
 refused_by d d2 name options fault two (inl (n, inr (x, start, (e, same, stops)))) = absurd (one_two (sym (ap fault_status same) ∙ two))
 refused_by d d2 name options fault two (inr (inl (e, same, stops))) = absurd (one_two (sym (ap fault_status same) ∙ two))
-refused_by d d2 name options fault two (inr (inr (inl (n, refused, untouched)))) = (inr (inl (n, refused)), untouched)
-refused_by d d2 name options fault two (inr (inr (inr (n, refused, untouched)))) = (inr (inr (n, refused)), untouched)
+refused_by d d2 name options fault two (inr (inr (inl (e, same, stops)))) = absurd (one_two (sym (ap fault_status same) ∙ two))
+refused_by d d2 name options fault two (inr (inr (inr (inl (n, refused, untouched))))) = (inr (inl (n, refused)), untouched)
+refused_by d d2 name options fault two (inr (inr (inr (inr (n, refused, untouched))))) = (inr (inr (n, refused)), untouched)
 
 pub refused_at_two : {R W E : Type 0} {d d2 : Devices R W} {e e1 e2 : Writer E} {words : List Text} {m : ArgMatches} {status : ℕ} (ended : Result ⊤ CommandFault) → Served d d2 e e1 e2 words m ended status → status ≡ 2
     → AreRefused words e e2 × AreUntouched d d2

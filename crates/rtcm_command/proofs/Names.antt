@@ -15,11 +15,11 @@ pub use Rattle.gnss_obs.specs.Values.{no_values}
 pub use Rattle.gnss_obs.specs.declared.cell.StationValues.{StationValues}
 pub use Rattle.command_line.specs.CommandLine.{FailsParsing, SelectsCommand}
 pub use Rattle.command_line.specs.inner.CommandLine.{IsCommand, IsFoundIn, RefusesWords}
-pub use Rattle.rtcm_command.specs.Commands.{AreRefused, AreRefusedBy, EndsCommand, EndsFound, HasCommand, EndsInspection, HasCompleted, HasDone, HasStopped, HasStoppedEarly, StopsPrinting}
+pub use Rattle.rtcm_command.specs.Commands.{AreRefused, AreRefusedBy, EndsCommand, EndsFound, HasCommand, EndsInspection, EndsOnFile, HasCompleted, HasDone, HasStopped, HasStoppedEarly, StopsPrinting}
 pub use Rattle.rtcm_command.specs.Converting.{EndsConversion, EndsConverting, MakesFile, StopsConversion}
 pub use Rattle.line_texts.specs.ChannelTexts.{channels_of}
 pub use Rattle.line_texts.specs.Dates.{IsHourOf, IsTimeOf, IsWeekOf}
-pub use Rattle.rtcm_command.specs.Devices.{culprit, of_inspection}
+pub use Rattle.rtcm_command.specs.Devices.{culprit, of_file, of_inspection}
 pub use Rattle.devices.specs.Devices.{AreFine, AreUntouched, Devices, Ends, HaveFailedBy, Reader, Writer, devices_of, writer_of}
 unfoldable pub use Rattle.command_faults.specs.ErrorLines.{error_line}
 pub use Rattle.line_texts.specs.Lengths.{epoch_interval_of, interval_of, length_below, position_of}
@@ -47,8 +47,9 @@ pub use Rattle.rtcm_convert.specs.declared.setup.Setup.{Setup}
 pub use Rattle.line_texts.proofs.LineLaws.{add_count, add_text, add_word, end_line}
 pub use Rattle.rtcm_bits.proofs.SmallLaws.{passed, wrapped}
 pub use Rattle.rtcm_inspect.specs.Fitting.{height_text, position_text}
-pub use Rattle.rtcm_inspect.specs.Printing.{PrintsLine, PrintsSome}
+pub use Rattle.devices.specs.Printing.{PrintsLine, PrintsSome}
 pub use Rattle.rtcm_inspect.specs.declared.fault.InspectFault.{InspectFault}
+pub use Rattle.rinex_inspect.specs.declared.fault.FileFault.{FileFault}
 pub use Rattle.std.specs.Borrow.{Bor}
 pub use Rattle.std.specs.Box.{box_value}
 pub use Rattle.std.specs.Option.{option_map_or}

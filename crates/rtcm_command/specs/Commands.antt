@@ -7,24 +7,25 @@ use Rattle.clap.specs.declared.error.kind.ErrorKind.TheVariants.{DisplayVersion,
 use Rattle.clap.specs.declared.error.kind.ErrorKind.{ErrorKind}
 use Rattle.clap.specs.declared.parser.matches.ArgMatches.{ArgMatches}
 use Rattle.devices.specs.Devices.{AreFine, AreUntouched, Devices, Ends, HaveFailedBy, Writer}
+use Rattle.devices.specs.Printing.{PrintsLine, PrintsPart, PrintsSome, PrintsText}
 use Rattle.rtcm_scan.specs.Scan.{most_bytes}
-use Rattle.rtcm_inspect.specs.Checking.{EndsCheck}
 use Rattle.rtcm_inspect.specs.FrameLines.{frame_lines}
 use Rattle.rtcm_inspect.specs.Listing.{EndsListing}
 use Rattle.rtcm_inspect.specs.OptionOutput.{AreOptionsOf, AreOptionsRefused}
-use Rattle.rtcm_inspect.specs.Printing.{PrintsLine, PrintsPart, PrintsSome, PrintsText}
 use Rattle.rtcm_inspect.specs.ShowLines.{show_lines}
 use Rattle.rtcm_inspect.specs.Signals.{AreSignalsOf, AreSignalsRefused}
 use Rattle.rtcm_inspect.specs.StreamOutput.{EndsStream}
+use Rattle.rinex_inspect.specs.Checking.{EndsCheck}
 use Rattle.rtcm_command.specs.Converting.{IsConverted, StopsConverting}
 use Rattle.command_line.specs.CommandLine.{SelectsCommand, FailsParsing}
 use Rattle.command_line.specs.inner.CommandLine.{IsCommand}
-use Rattle.rtcm_command.specs.Devices.{IsInspected, culprit}
+use Rattle.rtcm_command.specs.Devices.{IsInspected, IsOfFile, culprit}
 use Rattle.command_faults.specs.ErrorLines.{error_line}
 use Rattle.command_faults.specs.Status.{fault_status}
 use Rattle.rtcm_command.specs.SetupOptions.{IsNearRefused, IsNearSet, IsNumberOf, IsSetupRefused, gaps_set, has_flag}
 use Rattle.rtcm_inspect.specs.declared.fault.InspectFault.{InspectFault}
 use Rattle.rtcm_inspect.specs.declared.fault.InspectFault.TheVariants as inspect
+use Rattle.rinex_inspect.specs.declared.fault.FileFault.{FileFault}
 use Rattle.command_faults.specs.declared.fault.CommandFault.{CommandFault}
 use Rattle.command_faults.specs.declared.fault.CommandFault.TheVariants as faults
 use Rattle.command_line.specs.declared.cli.TheConstants.{VERSION}
@@ -41,8 +42,8 @@ OfNear options Does = OfStation options (λ wanted. (near : Option ℕ) × IsNea
 abbrev pub OfGaps : List Row → (Option ℕ → Type 0) → Type 0
 OfGaps options Does = (interval : Option ℕ) × (gaps_set options ≡ Ok interval) × Does interval
 
--- How a command other than `convert` ended with these options: a stream was listed, its signals or the options that fit
--- it were printed, or a file was read back.
+-- How a command that reads a stream and doesn't convert it ended with these options: the stream was listed, or its
+-- signals or the options that fit it were printed.
 abbrev pub EndsInspection : {R W : Type 0} → Result ⊤ InspectFault → Text → List Row → (d d' : Devices R W) → Type 0
 EndsInspection result name options d d' =
     ((name ≡ codes "frames") × EndsListing result most_bytes frame_lines d d')
@@ -51,14 +52,19 @@ EndsInspection result name options d d' =
     × OfStation options (λ wanted. EndsStream result (AreSignalsOf wanted) (AreSignalsRefused wanted) d d'))
     ⊎ ((name ≡ codes "options")
     × OfNear options (λ near wanted. EndsStream result (AreOptionsOf near wanted) (AreOptionsRefused wanted) d d'))
-    ⊎ ((name ≡ codes "check") × OfGaps options (λ interval.
-    EndsCheck (record { interval = interval; times = has_flag (codes "times") options }) result d d'))
+
+-- how a command that reads a file ended with these options: the file was read back
+abbrev pub EndsOnFile : {R W : Type 0} → Result ⊤ FileFault → Text → List Row → (d d' : Devices R W) → Type 0
+EndsOnFile result name options d d' =
+    (name ≡ codes "check") × OfGaps options (λ interval.
+    EndsCheck (record { interval = interval; times = has_flag (codes "times") options }) result d d')
 
 -- The command of this name completed: the file of the stream was written, which has an epoch, and its report was
 -- printed; or any other command, and nothing was written to standard error.
 abbrev pub HasDone : {R W E : Type 0} → Text → List Row → (e e' : Writer E) → (d d' : Devices R W) → Type 0
 HasDone name options e e' d d' =
-    ((name ≡ codes "convert") × IsConverted options d d' e e') ⊎ (EndsInspection (Ok tt) name options d d' × (e' ≡ e))
+    ((name ≡ codes "convert") × IsConverted options d d' e e')
+    ⊎ ((EndsInspection (Ok tt) name options d d' ⊎ EndsOnFile (Ok tt) name options d d') × (e' ≡ e))
 
 -- The command was stopped by a fault, or it was refused for the date or the interval of its options, and nothing was
 -- read or written.
@@ -66,6 +72,7 @@ abbrev pub HasStopped : {R W : Type 0} → Text → List Row → (d d' : Devices
 HasStopped name options d d' fault =
     ((name ≡ codes "convert") × StopsConverting options d d' fault)
     ⊎ IsInspected (λ e. EndsInspection (Err e) name options d d') fault
+    ⊎ IsOfFile (λ e. EndsOnFile (Err e) name options d d') fault
     ⊎ ((name ≡ codes "options") × IsNearRefused options fault × AreUntouched d d')
     ⊎ ((name ≡ codes "check") × (gaps_set options ≡ Err fault) × AreUntouched d d')
 

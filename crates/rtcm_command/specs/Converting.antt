@@ -9,7 +9,7 @@ use Rattle.rtcm_convert.specs.declared.fault.Fault.{Fault}
 use Rattle.rtcm_convert.specs.declared.fault.Fault.TheVariants as convert
 use Rattle.rtcm_convert.specs.declared.report.Report.{Report}
 use Rattle.rtcm_command.specs.Devices.{IsOfConversion, culprit}
-use Rattle.rtcm_inspect.specs.Printing.{PrintsLine}
+use Rattle.devices.specs.Printing.{PrintsLine}
 use Rattle.rtcm_command.specs.Reports.{report_line}
 use Rattle.clap.specs.Walk.{Row}
 use Rattle.command_faults.specs.declared.fault.CommandFault.{CommandFault}

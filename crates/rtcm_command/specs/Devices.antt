@@ -6,17 +6,28 @@ use Rattle.rtcm_convert.specs.Faults as conversion
 use Rattle.rtcm_convert.specs.declared.fault.Fault.{Fault}
 use Rattle.rtcm_inspect.specs.Devices as inspection
 use Rattle.rtcm_inspect.specs.declared.fault.InspectFault.{InspectFault}
+use Rattle.rinex_inspect.specs.Faults as of_files
+use Rattle.rinex_inspect.specs.declared.fault.FileFault.{FileFault}
 use Rattle.command_faults.specs.declared.fault.CommandFault.{CommandFault}
 use Rattle.command_faults.specs.declared.fault.CommandFault.TheVariants as faults
 
--- the result of a command other than `convert`
+-- the result of a command that reads a stream and doesn't convert it
 abbrev pub of_inspection : {A : Type 0} → Result A InspectFault → Result A CommandFault
 of_inspection (Ok x) = Ok x
 of_inspection (Err e) = Err (faults.Inspect e)
 
--- such a command was stopped by this fault
+-- the result of a command that reads a file
+abbrev pub of_file : {A : Type 0} → Result A FileFault → Result A CommandFault
+of_file (Ok x) = Ok x
+of_file (Err e) = Err (faults.File e)
+
+-- a command that reads a stream and doesn't convert it was stopped by this fault
 abbrev pub IsInspected : (InspectFault → Type 0) → CommandFault → Type 0
 IsInspected Stops fault = (e : InspectFault) × (fault ≡ faults.Inspect e) × Stops e
+
+-- a command that reads a file was stopped by this fault
+abbrev pub IsOfFile : (FileFault → Type 0) → CommandFault → Type 0
+IsOfFile Stops fault = (e : FileFault) × (fault ≡ faults.File e) × Stops e
 
 -- a conversion was stopped by this fault
 abbrev pub IsOfConversion : (Fault → Type 0) → CommandFault → Type 0
@@ -26,6 +37,7 @@ IsOfConversion Stops fault = (e : Fault) × (fault ≡ faults.Convert e) × Stop
 abbrev pub culprit : CommandFault → Culprit
 culprit (faults.Convert e) = conversion.culprit e
 culprit (faults.Inspect e) = inspection.culprit e
+culprit (faults.File e) = of_files.culprit e
 culprit other = NoDevice
 
 -- P relates the writer for faults and the devices, before and after

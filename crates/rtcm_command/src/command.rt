@@ -10,9 +10,9 @@ ghost use Rattle.clap.specs.Values.{kind_of};
 ghost use Rattle.clap.specs.declared.error.kind.ErrorKind.TheVariants.{DisplayVersion, OutOfMemory};
 ghost use Rattle.rtcm_command.specs.Commands.{AreRefused, EndsFound, HasCommand};
 ghost use Rattle.rtcm_command.specs.Commands.{HasStoppedEarly, HasCompleted, StopsPrinting, refusal_line};
-ghost use Rattle.rtcm_command.specs.Devices.{Runs, of_inspection};
+ghost use Rattle.rtcm_command.specs.Devices.{Runs, of_file, of_inspection};
 ghost use Rattle.command_faults.specs.ErrorLines.{error_line, not_text_line};
-ghost use Rattle.rtcm_inspect.specs.Printing.{PrintsLine, PrintsSome, PrintsText};
+ghost use Rattle.devices.specs.Printing.{PrintsLine, PrintsSome, PrintsText};
 ghost use Rattle.command_line.specs.declared.cli.TheConstants.{VERSION};
 ghost use Rattle.rtcm_command.specs.Converting.{EndsConverting};
 ghost use Rattle.rtcm_command.specs.SetupOptions.{options_of};
@@ -25,11 +25,9 @@ use clap::ArgMatches;
 use clap::error::ErrorKind;
 use command_faults::{CommandFault, error_line, exit_status};
 use command_line::{VERSION, drop_matches, parse};
-use devices::{Counted, Deliver};
-use rtcm_inspect::{
-    CheckOptions, InspectFault, Listing, list, print_line, print_text, run_check_with, run_frames,
-    run_options, run_show, run_signals,
-};
+use devices::{Counted, Deliver, print_line, print_text};
+use rinex_inspect::{CheckOptions, FileFault, run_check_with};
+use rtcm_inspect::{InspectFault, Listing, list, run_frames, run_options, run_show, run_signals};
 use rtcm_scan::MOST_BYTES;
 use std::alloc::Global;
 use std::io::{self, Read};
@@ -106,16 +104,23 @@ fn run<R: Read, W: Deliver, E: Deliver>(
             let interval = gaps_of(options)?;
             let times = has_flag(options, "times");
             let asked = CheckOptions { interval, times };
-            of_inspection(run_check_with(alloc, asked, reader, writer))
+            of_file(run_check_with(alloc, asked, reader, writer))
         }
     }
 }
 
-/// Returns the result of a command other than `convert`.
+/// Returns the result of a command that reads a stream and doesn't convert it.
 fn of_inspection(ended: Result<(), InspectFault>) -> Result<(), CommandFault>
     ensures { result ≡ of_inspection ended }
 {
     ended.map_err(CommandFault::Inspect)
+}
+
+/// Returns the result of a command that reads a file.
+fn of_file(ended: Result<(), FileFault>) -> Result<(), CommandFault>
+    ensures { result ≡ of_file ended }
+{
+    ended.map_err(CommandFault::File)
 }
 
 /// Converts the stream as the options ask, and prints the report. A failure of its writer is
@@ -158,7 +163,7 @@ fn answer<W: Deliver, E: Deliver>(
 {
     match error.kind() {
         ErrorKind::DisplayVersion => {
-            let ended = print_text(VERSION.as_bytes(), writer);
+            let ended = print_text(VERSION.as_bytes(), writer, InspectFault::Write);
             exit_status(of_inspection(ended), faults)
         }
         ErrorKind::OutOfMemory => exit_status(Err(CommandFault::Memory), faults),

@@ -1,7 +1,8 @@
 -- Signal counts as a consumer of frames.
-use Rattle.rtcm_inspect.proofs.PrintingLemmas.{Printed}
+use Rattle.devices.proofs.PrintingLaws.{Printed}
 use Rattle.rtcm_inspect.proofs.StreamLemmas.{Began}
 use Rattle.rtcm_inspect.proofs.Names.{◌≡◌, ◌∙◌, ap, inr, ◌*◌, ◌<◌, ◌≤◌, ◌^◌, sym, subst, arith, Bool, true, ℕ, List, [], ◌∷◌, ◌++◌, Option, Result, Ok, Err, length, length-append, append-nil, refl, Framed, frames_of, known_frames, Device, Devices, HasFailed, StreamFault, ⊤, InspectFault, ReaderFailures, culprit, stream_fault, AtFault, Passes, BreaksReading, PassesAll, PassesToLimit, Reads, FramerValue, most_bytes, AreSignalCounts, CountsMessage, SignalCountsValue, valued, inspected, HeardCell, inspected_of, message_at, MsgFault, Message, valued_in, valued_of, flat_map-append, AreFirst, EndsStream, ReadsTooMuch, Counts, StopsCounting, HasCounted, IsCounted, AreSignals, NeverFails, option_map_or, StreamSignals, piece_bytes, forms_had, channels_in}
+use Rattle.rtcm_inspect.specs.declared.fault.InspectFault.TheVariants as faults
 use Rattle.rtcm_scan.specs.declared.feed.StreamFault.TheVariants as stream
 
 valued_more : (wanted : Option ℕ) (fs : List Framed) (f : Framed) (cells : List HeardCell) → valued_of wanted f ≡ cells → valued_in wanted (fs ++ f ∷ []) ≡ valued_in wanted fs ++ cells
@@ -92,7 +93,7 @@ counted_reads (stream.Sink fault) before after h = h
 
 -- the text of a stream was printed, or a part of it
 pub stream_printed : {R W : Type 0} {text : List ℕ} (IsText : List Framed → List ℕ → Type 0) (IsRefused : List Framed → InspectFault → Type 0) (d d2 : Devices R W) (ended : Result ⊤ InspectFault) {s : StreamSignals} {wanted : Option ℕ}
-    (h : HasCounted s wanted d.reader.unread d2.reader.unread) → IsText (frames_of h.0) text → d2.reader.device.failures ≡ d.reader.device.failures → Printed ended d.writer d2.writer text
+    (h : HasCounted s wanted d.reader.unread d2.reader.unread) → IsText (frames_of h.0) text → d2.reader.device.failures ≡ d.reader.device.failures → Printed faults.Write ended d.writer d2.writer text
     → EndsStream ended IsText IsRefused d d2
 stream_printed {text = text} IsText IsRefused d d2 (Ok u) h is same p = ((same, p.ends.0, p.ends.1), (h.0, h.1, h.2, (text, is, p.ends.2)))
 stream_printed {text = text} IsText IsRefused d d2 (Err fault) h is same p =

@@ -3,9 +3,6 @@ mod StreamLemmas
 mod ListingLemmas
 mod ShowLemmas
 mod ReadBackLemmas
-mod CheckLemmas
-mod GapLemmas
-pub mod PrintingLemmas
 mod SetLemmas
 mod TowLemmas
 mod FirstLemmas

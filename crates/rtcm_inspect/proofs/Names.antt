@@ -41,13 +41,8 @@ pub use Rattle.rtcm_bits.specs.FrameOf.{frame_bytes, longest_message, longest_me
 pub use Rattle.rtcm_bits.specs.Prefix.{IsPrefix}
 pub use Rattle.devices.specs.declared.counted.DeviceFailed.{DeviceFailed}
 pub use Rattle.rtcm_bits.proofs.SmallLaws.{of_ok, passed}
-pub use Rattle.rtcm_inspect.specs.Checking.{IsCheckedOr, ChecksFile, EndsCheck, IsFileWith, ReadsGaps, StopsCheck}
-unfoldable pub use Rattle.rtcm_inspect.specs.CheckOutput.{check_line, complete_line, gap_line}
-pub use Rattle.rtcm_inspect.specs.CheckOutput.{IsOutput, complete_if, gap_between, gaps_after, gaps_of, times_if}
 pub use Rattle.rtcm_inspect.specs.inner.Counting.{AreSignals, Counts, HasCounted, IsCounted, NeverFails, StopsCounting}
-unfoldable pub use Rattle.rtcm_inspect.specs.DateTexts.{time_line}
-pub use Rattle.rtcm_inspect.specs.DateTexts.{clock_text, date_text, moment_words, times_lines}
-pub use Rattle.rtcm_inspect.specs.Devices.{EndsDelivery, IsDelivered, culprit, stream_fault}
+pub use Rattle.rtcm_inspect.specs.Devices.{culprit, stream_fault}
 pub use Rattle.rtcm_inspect.specs.FirstMessages.{AreFirst, first_station, mixed_of, point_of, sender, stations_in, stations_of, with_other}
 pub use Rattle.rtcm_inspect.specs.inner.FirstTows.{AreTows}
 pub use Rattle.rtcm_inspect.specs.WeekLaws.{first_in, first_tow, tow_of}
@@ -61,7 +56,6 @@ pub use Rattle.line_texts.specs.Metres.{metres, size_text}
 pub use Rattle.obs_epoch.specs.NearWeek.{IsNearestWeek, IsWeekNear, half_week}
 pub use Rattle.rtcm_inspect.specs.NearWeek.{IsWeekFor}
 pub use Rattle.rtcm_inspect.specs.OptionOutput.{AreOptionsOf, AreOptionsRefused}
-pub use Rattle.rtcm_inspect.specs.Printing.{EndsPrinting, PrintsLine, PrintsText}
 pub use Rattle.rtcm_inspect.specs.ReadBack.{AreEncoded, AreKnown, AreReadAs, ReadsBack}
 unfoldable pub use Rattle.rtcm_inspect.specs.ShowLines.{fault_line, msm_line, message_line, station_line}
 pub use Rattle.rtcm_inspect.specs.ShowLines.{fault_words, height_words, read_for, read_line}
@@ -71,7 +65,6 @@ pub use Rattle.rtcm_inspect.specs.Signals.{AreSignalsOf, AreSignalsRefused, code
 pub use Rattle.rtcm_inspect.specs.StreamOutput.{EndsStream, ReadsTooMuch}
 pub use Rattle.rtcm_inspect.specs.StreamChannels.{channels_in, sent_by, sent_in, sent_of, with_first, with_sent}
 pub use Rattle.rtcm_inspect.specs.WeekLaws.{first_time}
-pub use Rattle.rtcm_inspect.specs.declared.check.CheckOptions.{CheckOptions}
 pub use Rattle.rtcm_inspect.specs.declared.counting.StreamSignals.{StreamSignals}
 pub use Rattle.rtcm_inspect.specs.declared.fault.InspectFault.{InspectFault}
 pub use Rattle.rtcm_inspect.specs.declared.first_messages.FirstMessages.{FirstMessages}

@@ -8,8 +8,6 @@ use Rattle.rtcm_scan.specs.declared.framer.ScanFault.TheVariants as scan
 use Rattle.rinex_file.specs.Texts.{field_name}
 use Rattle.rinex_file.specs.declared.header.fault.HeadFault.{HeadFault}
 use Rattle.rinex_file.specs.declared.header.fault.HeadFault.TheVariants as header
-use Rattle.rinex_file.specs.declared.read.fault.ReadFault.{ReadFault}
-use Rattle.rinex_file.specs.declared.read.fault.ReadFault.TheVariants as reading
 use Rattle.rtcm_inspect.specs.declared.fault.InspectFault.{InspectFault}
 use Rattle.rtcm_inspect.specs.declared.fault.InspectFault.TheVariants as inspect
 
@@ -35,22 +33,10 @@ plan_words plans.BadWeek = codes "BadWeek" ∷ []
 plan_words plans.BadStation = codes "BadStation" ∷ []
 plan_words plans.Memory = codes "Memory" ∷ []
 
--- a line of a file, counted from 1
-abbrev pub file_words : ReadFault → List (List ℕ)
-file_words reading.Memory = codes "Memory" ∷ []
-file_words reading.Read = codes "Read" ∷ []
-file_words (reading.BadHeader k) = codes "BadHeader" ∷ decimal k ∷ []
-file_words (reading.BadEpoch k) = codes "BadEpoch" ∷ decimal k ∷ []
-file_words (reading.BadEvent k) = codes "BadEvent" ∷ decimal k ∷ []
-file_words (reading.BadSatellite k) = codes "BadSatellite" ∷ decimal k ∷ []
-file_words (reading.CutShort k) = codes "CutShort" ∷ decimal k ∷ []
-file_words reading.TooLong = codes "TooLong" ∷ []
-
--- a command that reads a stream or a file
+-- a command that reads a stream
 abbrev pub inspection_words : InspectFault → List (List ℕ)
 inspection_words inspect.Read = codes "Read" ∷ []
 inspection_words inspect.Write = codes "Write" ∷ []
 inspection_words (inspect.Scan e) = scan_word e ∷ []
-inspection_words (inspect.Check e) = file_words e
 inspection_words (inspect.SeveralStations a b) = codes "SeveralStations" ∷ decimal a ∷ decimal b ∷ []
 inspection_words inspect.NoSignal = codes "NoSignal" ∷ []

@@ -5,10 +5,7 @@ pub mod ShowLines
 pub mod Devices
 pub mod Listing
 pub mod ReadBack
-pub mod DateTexts
-pub mod Checking
 pub mod Inspected
-pub mod CheckOutput
 pub mod FirstMessages
 pub mod StreamChannels
 pub mod NearWeek
@@ -16,7 +13,6 @@ pub mod Signals
 pub mod Fitting
 pub mod StreamOutput
 pub mod OptionOutput
-pub mod Printing
 pub mod SignalLaws
 pub mod WeekLaws
 pub mod LengthLaws

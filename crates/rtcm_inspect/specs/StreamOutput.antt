@@ -7,7 +7,8 @@ use Rattle.devices.specs.Devices.{Devices, Ends}
 use Rattle.rtcm_scan.specs.Frames.{Framed}
 use Rattle.rtcm_scan.specs.Scan.{most_bytes}
 use Rattle.rtcm_scan.specs.declared.framer.ScanFault.TheVariants as scan
-use Rattle.rtcm_inspect.specs.Devices.{IsDelivered, IsUnread, ReadsStream, culprit}
+use Rattle.devices.specs.Printing.{IsDelivered, IsUnread}
+use Rattle.rtcm_inspect.specs.Devices.{ReadsStream, culprit}
 use Rattle.rtcm_inspect.specs.declared.fault.InspectFault.{InspectFault}
 use Rattle.rtcm_inspect.specs.declared.fault.InspectFault.TheVariants as faults
 

@@ -3,15 +3,15 @@ ghost use Rattle.std.specs.Prelude.{◌≡◌, ◌+◌, ◌≤◌, [], ◌∷◌
 ghost use Rattle.gnss_system.specs.Satellites.{letter};
 ghost use Rattle.rinex_file.specs.Texts.{field_name};
 ghost use Rattle.rtcm_inspect.specs.Devices.{stream_fault};
-ghost use Rattle.rtcm_inspect.specs.FaultWords.{file_words, header_words, inspection_words, plan_words};
+ghost use Rattle.rtcm_inspect.specs.FaultWords.{header_words, inspection_words, plan_words};
 ghost use Rattle.line_texts.specs.Lines.{with_words};
-ghost use Rattle.rtcm_inspect.specs.inner.Lines.{longest_error, longest_fault, longest_fault_name, longest_start};
+ghost use Rattle.line_texts.specs.inner.Errors.{longest_error, longest_fault, longest_fault_name, longest_start};
 
 use devices::DeviceFailed;
 use gnss_obs::PlanFault;
 use gnss_system::System;
 use line_texts::OutputLine;
-use rinex_file::{HeadFault, HeaderField, ReadFault};
+use rinex_file::{HeadFault, HeaderField};
 use rtcm_scan::{ScanFault, StreamFault};
 use std::fmt;
 use thiserror::Error;
@@ -25,8 +25,6 @@ pub enum InspectFault {
     Write,
     /// The framer refused.
     Scan(ScanFault),
-    /// The file checked was refused.
-    Check(ReadFault),
     /// The MSMs and station messages of the stream are of these two stations, or more, and none was
     /// given.
     SeveralStations(u16, u16),
@@ -52,8 +50,7 @@ impl From<StreamFault<DeviceFailed>> for InspectFault {
     }
 }
 
-/// Adds the name of a fault of an inspection, with the number of the line or the numbers of the
-/// stations, if any.
+/// Adds the name of a fault of a stream, with the numbers of the stations, if any.
 pub fn add_inspection_error(line: &mut OutputLine, fault: InspectFault)
     requires { length line.old ≤ longest_start }
     ensures text { line.new ≡ with_words line.old (inspection_words fault) }
@@ -66,7 +63,6 @@ pub fn add_inspection_error(line: &mut OutputLine, fault: InspectFault)
         InspectFault::Scan(ScanFault::BadLimit) => line.add_word("BadLimit"),
         InspectFault::Scan(ScanFault::TooLong) => line.add_word("TooLong"),
         InspectFault::Scan(ScanFault::Ended) => line.add_word("Ended"),
-        InspectFault::Check(fault) => add_file_error(line, fault),
         InspectFault::SeveralStations(first, other) => {
             line.add_count("SeveralStations", u64::from(first));
             line.add_number(u64::from(other));
@@ -102,24 +98,6 @@ pub fn add_plan_error(line: &mut OutputLine, fault: PlanFault)
         PlanFault::BadWeek => line.add_word("BadWeek"),
         PlanFault::BadStation => line.add_word("BadStation"),
         PlanFault::Memory => line.add_word("Memory"),
-    }
-}
-
-/// Adds the name of a fault of a file, and the number of the line, if any.
-fn add_file_error(line: &mut OutputLine, fault: ReadFault)
-    requires { length line.old ≤ longest_start }
-    ensures text { line.new ≡ with_words line.old (file_words fault) }
-    ensures short { length line.new ≤ length line.old + longest_error }
-{
-    match fault {
-        ReadFault::Memory => line.add_word("Memory"),
-        ReadFault::Read => line.add_word("Read"),
-        ReadFault::BadHeader(k) => line.add_count("BadHeader", k),
-        ReadFault::BadEpoch(k) => line.add_count("BadEpoch", k),
-        ReadFault::BadEvent(k) => line.add_count("BadEvent", k),
-        ReadFault::BadSatellite(k) => line.add_count("BadSatellite", k),
-        ReadFault::CutShort(k) => line.add_count("CutShort", k),
-        ReadFault::TooLong => line.add_word("TooLong"),
     }
 }
 

@@ -1,6 +1,6 @@
-//! What is in a stream or a file, as text: the frames, messages and signals of an RTCM 3 stream,
-//! the options of a conversion that fit it, and the counts of an observation file. Lines, weeks,
-//! dates, lengths and GLONASS channels of texts, and leap seconds are those of `line_texts`.
+//! What is in a stream, as text: the frames, messages and signals of an RTCM 3 stream, and the
+//! options of a conversion that fit it. Lines, weeks, dates, lengths and GLONASS channels of texts,
+//! and leap seconds are those of `line_texts`.
 //!
 //! ```
 //! /// The lines of the frames of a stream.
@@ -13,7 +13,6 @@
 //! ```
 #![tactic(auto)]
 
-mod check;
 mod counting;
 mod equipment;
 mod fault;
@@ -22,13 +21,10 @@ mod first_tows;
 pub mod laws;
 mod listing;
 mod options;
-mod printing;
 mod signals;
 mod stream_channels;
 
-pub use check::{CheckOptions, run_check, run_check_with};
 pub use fault::{InspectFault, add_header_error, add_inspection_error, add_plan_error};
 pub use listing::{Listing, list, run_frames, run_show};
 pub use options::run_options;
-pub use printing::{print_line, print_text};
 pub use signals::run_signals;

@@ -23,10 +23,9 @@ ghost use Rattle.rtcm_inspect.specs.Signals.{codes_word, decodes, had, has_count
 
 use crate::counting::{StreamSignals, read_signals};
 use crate::fault::InspectFault;
-use crate::printing::{deliver_waiting, print_text};
 use crate::signals::code_at;
 use arrayvec::ArrayVec;
-use devices::{Counted, Deliver};
+use devices::{Counted, Deliver, deliver_waiting, print_text};
 use gnss_obs::{Channels, GpsTime};
 use gnss_system::{BySystem, SYSTEMS, System};
 use line_texts::{LINE_BYTES, OutputLine, channels_text, leap_at};
@@ -70,10 +69,10 @@ pub fn run_options<R: Read, W: Deliver>(
     ensures { Changes R.remaining reader.old reader.new W.contents W.waiting writer.old writer.new
         (EndsStream result (AreOptionsOf near station) (AreOptionsRefused station)) }
 {
-    deliver_waiting(writer)?;
+    deliver_waiting(writer, InspectFault::Write)?;
     let signals = read_signals(alloc, station, reader)?;
     let text = options_of(&signals, near)?;
-    print_text(text.as_slice(), writer)
+    print_text(text.as_slice(), writer, InspectFault::Write)
 }
 
 /// Returns the line of the options that fit a stream.

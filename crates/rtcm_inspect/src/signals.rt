@@ -12,9 +12,8 @@ ghost use Rattle.rtcm_inspect.specs.Signals.{AreSignalsOf, AreSignalsRefused, co
 
 use crate::counting::read_signals;
 use crate::fault::InspectFault;
-use crate::printing::{deliver_waiting, print_text};
 use arrayvec::ArrayVec;
-use devices::{Counted, Deliver};
+use devices::{Counted, Deliver, deliver_waiting, print_text};
 use gnss_obs::Signal;
 use gnss_system::{MOST_SIGNALS, SYSTEMS, System};
 use line_texts::OutputLine;
@@ -43,14 +42,14 @@ pub fn run_signals<R: Read, W: Deliver>(
     ensures { Changes R.remaining reader.old reader.new W.contents W.waiting writer.old writer.new
         (EndsStream result (AreSignalsOf station) (AreSignalsRefused station)) }
 {
-    deliver_waiting(writer)?;
+    deliver_waiting(writer, InspectFault::Write)?;
     let signals = read_signals(alloc, station, reader)?;
     if !signals.signal_counts.has_any() {
         return Err(InspectFault::NoSignal);
     }
     let mut text = ArrayVec::new();
     add_systems(&mut text, &signals.signal_counts);
-    print_text(text.as_slice(), writer)
+    print_text(text.as_slice(), writer, InspectFault::Write)
 }
 
 /// Adds the lines of each system.

@@ -1,7 +1,7 @@
 -- The line of a fault on standard error, whose failures are ignored: it was e, and is e'.
 use Rattle.std.specs.Prelude.{◌≡◌, Result, Ok, Err}
 use Rattle.devices.specs.Devices.{Writer}
-use Rattle.rtcm_inspect.specs.Printing.{PrintsLine}
+use Rattle.devices.specs.Printing.{PrintsLine}
 use Rattle.command_faults.specs.ErrorLines.{error_line}
 use Rattle.command_faults.specs.declared.fault.CommandFault.{CommandFault}
 

@@ -9,20 +9,6 @@ use Rattle.rtcm_msg.specs.Equipment.{longest_text}
 abbrev pub longest_prefix : ℕ
 longest_prefix = 80
 
--- the most bytes before the words of an error, and of these words, each after a blank
-abbrev pub longest_start : ℕ
-longest_start = 100
-
-abbrev pub longest_error : ℕ
-longest_error = 120
-
--- the most bytes of the name of a fault, and of this name and the field or the code in which the fault is
-abbrev pub longest_fault_name : ℕ
-longest_fault_name = 20
-
-abbrev pub longest_fault : ℕ
-longest_fault = 60
-
 -- the most bytes of the name of an option that has a number, and of the option: name, blank, number and blank
 abbrev pub longest_name : ℕ
 longest_name = 10

@@ -1,8 +1,8 @@
-use Rattle.rtcm_command.proofs.CommandLemmas.{ends_so, inspection_found, is_check, option_refused, sub_found}
+use Rattle.rtcm_command.proofs.CommandLemmas.{ends_so, file_found, inspection_found, is_check, option_refused, sub_found}
 use Rattle.rtcm_command.proofs.OptionLemmas.{bad_interval}
 use Rattle.rtcm_command.proofs.Names.{◌∙◌, Bool, inl, inr, refl, subst, sym, devices_of, options_of, writer_of}
 use Rattle.rtcm_scan.specs.Scan.{most_bytes}
-use Rattle.rtcm_inspect.specs.Checking.{EndsCheck}
+use Rattle.rinex_inspect.specs.Checking.{EndsCheck}
 use Rattle.rtcm_inspect.specs.Listing.{EndsListing}
 use Rattle.rtcm_inspect.specs.ShowLines.{show_lines}
 use Rattle.rtcm_command.proofs.command.run.Goals as goal
@@ -43,7 +43,7 @@ returns-in_ok-near-in-options g c =
     let d = at c.args.reader.now c.args.writer.now in
     let d2 = at c.run_options.new.reader c.run_options.new.writer in
     inspection_found d d2 (writer_of g.E.Write.contents g.E.Deliver.waiting c.args.faults.now) c.run_options.result c.of_inspection-in-options.ensures (sub_found _ c.in-Some.ensures.name c.in-Some.ensures.rows)
-    (inr (inr (inr (inl (c.in-options.is, (c.station_of-in-options.result, c.station_of-in-options.ensures, (c.in_ok-near-in-options.near, c.in_ok-near-in-options.ensures, c.run_options.ensures)))))))
+    (inr (inr (inr (c.in-options.is, (c.station_of-in-options.result, c.station_of-in-options.ensures, (c.in_ok-near-in-options.near, c.in_ok-near-in-options.ensures, c.run_options.ensures))))))
 
 pub returns-in-convert : goal.returns-in-convert
 returns-in-convert g c =
@@ -64,14 +64,14 @@ returns-in_ok-interval-in_default-name g c =
     let found = sub_found _ c.in-Some.ensures.name c.in-Some.ensures.rows in
     let n = is_check c.args.matches.now c.requires found c.in_default-name.not-frames c.in_default-name.not-show c.in_default-name.not-signals c.in_default-name.not-options c.in_default-name.not-convert in
     let h = subst (λ (b : Bool). EndsCheck (record { interval = c.in_ok-interval-in_default-name.interval; times = b }) c.run_check_with.result d d2) c.has_flag-times.ensures c.run_check_with.ensures.ends in
-    inspection_found d d2 (writer_of g.E.Write.contents g.E.Deliver.waiting c.args.faults.now) c.run_check_with.result c.of_inspection-in_default-name.ensures found
-    (inr (inr (inr (inr (n, (c.in_ok-interval-in_default-name.interval, sym c.in_ok-interval-in_default-name.ensures.value, h))))))
+    file_found d d2 (writer_of g.E.Write.contents g.E.Deliver.waiting c.args.faults.now) c.run_check_with.result c.of_file.ensures found
+    (n, (c.in_ok-interval-in_default-name.interval, sym c.in_ok-interval-in_default-name.ensures.value, h))
 
 pub returns-in_err-near-in-options : goal.returns-in_err-near-in-options
 returns-in_err-near-in-options g c =
     let d = devices_of g.R.Read.remaining g.W.Write.contents g.W.Deliver.waiting c.args.reader.now c.args.writer.now in
     let refused = c.in_err-near-in-options.ensures in
-    option_refused d (writer_of g.E.Write.contents g.E.Deliver.waiting c.args.faults.now) c.from_residual.result c.from_residual.ensures.1 (sub_found _ c.in-Some.ensures.name c.in-Some.ensures.rows) refused.0 (refl, refl) (inr (inr (inl (c.in-options.is, refused, (refl, refl)))))
+    option_refused d (writer_of g.E.Write.contents g.E.Deliver.waiting c.args.faults.now) c.from_residual.result c.from_residual.ensures.1 (sub_found _ c.in-Some.ensures.name c.in-Some.ensures.rows) refused.0 (refl, refl) (inr (inr (inr (inl (c.in-options.is, refused, (refl, refl))))))
 
 pub returns-in_err-interval-in_default-name : goal.returns-in_err-interval-in_default-name
 returns-in_err-interval-in_default-name g c =
@@ -79,4 +79,4 @@ returns-in_err-interval-in_default-name g c =
     let n = is_check c.args.matches.now c.requires found c.in_default-name.not-frames c.in_default-name.not-show c.in_default-name.not-signals c.in_default-name.not-options c.in_default-name.not-convert in
     let d = devices_of g.R.Read.remaining g.W.Write.contents g.W.Deliver.waiting c.args.reader.now c.args.writer.now in
     let set = sym c.in_err-interval-in_default-name.ensures.value in
-    option_refused d (writer_of g.E.Write.contents g.E.Deliver.waiting c.args.faults.now) c.from_residual-in_err-interval-in_default-name.result c.from_residual-in_err-interval-in_default-name.ensures.1 found (bad_interval _ _ set) (refl, refl) (inr (inr (inr (n, set, (refl, refl)))))
+    option_refused d (writer_of g.E.Write.contents g.E.Deliver.waiting c.args.faults.now) c.from_residual-in_err-interval-in_default-name.result c.from_residual-in_err-interval-in_default-name.ensures.1 found (bad_interval _ _ set) (refl, refl) (inr (inr (inr (inr (n, set, (refl, refl))))))

@@ -1,5 +1,5 @@
 use Rattle.rtcm_inspect.proofs.CountingLemmas.{stream_printed}
-use Rattle.rtcm_inspect.proofs.PrintingLemmas.{printed_later}
+use Rattle.devices.proofs.PrintingLaws.{printed_later}
 use Rattle.rtcm_inspect.proofs.SignalLemmas.{no_cells, some_cells}
 use Rattle.rtcm_inspect.proofs.ValuedLemmas.{valued_keys}
 use Rattle.rtcm_inspect.proofs.Names.{◌∙◌, refl, sym, AreSignalsOf, AreSignalsRefused, devices_of, frames_of, valued_in, writer_of}

@@ -1,0 +1,17 @@
+use Rattle.rinex_inspect.proofs.Names.{◌≡◌, ◌+◌, ◌-◌, List, gaps_of, PrintsText, Stamped, LeavesRest, HasReadEpochs, most_lines, writer_of}
+use Rattle.rinex_inspect.proofs.check.print_gaps.Given as goal
+
+-- the gaps of the epochs that were read were written
+abbrev pub invariant-loop-before : goal.invariant-loop-before
+invariant-loop-before g l =
+    let remaining = g.R.Read.remaining in
+    let at = writer_of g.W.Write.contents g.W.Deliver.waiting in
+    record {
+      read : (es : List Stamped) × HasReadEpochs l.file es (remaining l.fn.reader.inner) (remaining l.reader.inner)
+          × PrintsText (gaps_of l.interval es) (at l.fn.writer) (at l.writer);
+      left : LeavesRest (remaining l.fn.reader.inner) (remaining l.reader.inner);
+      same : l.reader.failures ≡ l.fn.reader.failures;
+    }
+
+abbrev pub decreases-loop-before : goal.decreases-loop-before
+decreases-loop-before g l = most_lines + 1 - l.file.reading.count

@@ -1,0 +1,83 @@
+-- What the command `check` has read and written: the devices were d and are d'.
+use Rattle.std.specs.Prelude.{◌≡◌, ◌⊎◌, ◌≤◌, ℕ, List, [], length, Option, Result}
+use Rattle.std.specs.Prelude.{is_some, true}
+use Rattle.std.specs.Prelude.{Ok, Err, IfSome, ⊤}
+use Rattle.std.specs.Io.KnownBytes.{Appends, Keeps}
+use Rattle.devices.specs.Device.{AppendsPrefix}
+use Rattle.devices.specs.Devices.{Devices, Ends, ReaderFailures}
+use Rattle.rinex_file.specs.Accepted.{AreEpochsBefore, AreEpochsRead, AreFirstEpochs}
+use Rattle.rinex_file.specs.Counting.{IsTextWith}
+use Rattle.rinex_file.specs.Exact.{ExplainsFault, IfTextOfFile, IsNoFault, most_lines}
+use Rattle.rinex_file.specs.File.{file_text, file_lines}
+use Rattle.rinex_file.specs.FileValues.{IsFileValue}
+use Rattle.rinex_file.specs.inner.Read.EpochSteps.{IsSummaryOf}
+use Rattle.rinex_file.specs.Value.{FileValue, Stamped}
+use Rattle.rinex_file.specs.declared.read.fault.ReadFault.TheVariants as reading
+use Rattle.rinex_file.specs.declared.read.file.FileSummary.{FileSummary}
+use Rattle.rinex_inspect.specs.CheckOutput.{IsOutput, gaps_of}
+use Rattle.devices.specs.Printing.{IsUnread, PrintsPart, PrintsText}
+use Rattle.rinex_inspect.specs.Faults.{culprit}
+use Rattle.rinex_inspect.specs.declared.check.CheckOptions.{CheckOptions}
+use Rattle.rinex_inspect.specs.declared.fault.FileFault.{FileFault}
+use Rattle.rinex_inspect.specs.declared.fault.FileFault.TheVariants as faults
+
+-- the reader had the text of a file value, and Writes holds for the output
+abbrev pub IsFileWith : CheckOptions → (List ℕ → Type 0) → (unread : Option (List ℕ)) → Type 0
+IsFileWith o Writes unread =
+    (v : FileValue) × IsFileValue v × IfSome unread (λ input. input ≡ file_text v)
+    × ((text : List ℕ) × IsOutput o v text × Writes text)
+
+-- the output was written whole
+abbrev pub ChecksFile : {R W : Type 0} → CheckOptions → (d d' : Devices R W) → Type 0
+ChecksFile o d d' = IsFileWith o (Appends d.writer.written d'.writer.written) d.reader.unread
+
+-- A file isn't accepted for this reason: the gaps of the epochs before it were written, and nothing waits in the writer.
+-- At a failed read these are all epochs in the bytes that were read. Or the writer failed, before anything was read, in
+-- the gaps of the first epochs if they are asked for, or in the output of a file.
+abbrev pub StopsCheck : {R W : Type 0} → CheckOptions → (d d' : Devices R W) → FileFault → Type 0
+StopsCheck o d d' (faults.File e) =
+    (es : List Stamped) × IfSome d.reader.unread (λ input. ExplainsFault input e × AreEpochsBefore es e input)
+    × (e ≡ reading.Read → AreEpochsRead es d.reader.unread d'.reader.unread)
+    × Appends d.writer.written d'.writer.written (gaps_of o.interval es) × (d'.writer.waiting ≡ [])
+StopsCheck o d d' faults.Write =
+    IsUnread d d'
+    ⊎ ((es : List Stamped) × (n : ℕ) × (is_some o.interval ≡ true) × IfSome d.reader.unread (AreFirstEpochs es n)
+    × AppendsPrefix d.writer.written d'.writer.written (gaps_of o.interval es))
+    ⊎ IsFileWith o (AppendsPrefix d.writer.written d'.writer.written) d.reader.unread
+StopsCheck o d d' other = ⊥
+
+-- how a check ended
+abbrev pub EndsCheck : {A R W : Type 0} → CheckOptions → Result A FileFault → (d d' : Devices R W) → Type 0
+EndsCheck o result d d' = Ends culprit result d d' (λ _. ChecksFile o d d') (StopsCheck o d d')
+
+-- The possible outcomes for the text of this file value: its output, unless memory runs out or a device fails. A writer
+-- that fails has accepted nothing or a prefix.
+abbrev pub IsCheckedOr : CheckOptions → FileValue → Result ⊤ FileFault → (w w' : Option (List ℕ)) → Type 0
+IsCheckedOr o v (Ok u) w w' = (text : List ℕ) × IsOutput o v text × Appends w w' text
+IsCheckedOr o v (Err faults.Write) w w' = Keeps w w' ⊎ ((text : List ℕ) × IsOutput o v text × AppendsPrefix w w' text)
+IsCheckedOr o v (Err (faults.File reading.Memory)) w w' = ⊤
+IsCheckedOr o v (Err (faults.File reading.Read)) w w' = ⊤
+IsCheckedOr o v (Err other) w w' = ⊥
+
+-- the text of each file value is accepted
+abbrev pub AcceptsFiles : {R W : Type 0} → CheckOptions → Result ⊤ FileFault → (d d' : Devices R W) → Type 0
+AcceptsFiles o result d d' = (v : FileValue) → IsFileValue v → length (file_lines v) ≤ most_lines
+    → IfSome d.reader.unread (λ input. input ≡ file_text v → IsCheckedOr o v result d.writer.written d'.writer.written)
+
+-- ---- the reading of a file and the writing of its gaps
+
+-- The gaps of all epochs were written; or of those before a fault; or the writer failed in those of the first epochs.
+abbrev pub ReadsGaps : {R W : Type 0} → Result FileSummary FileFault → Option ℕ → (d d' : Devices R W) → Type 0
+ReadsGaps (Ok s) interval d d' =
+    (es : List Stamped) × IsTextWith (IsSummaryOf es s) d.reader.unread × IfTextOfFile d.reader.unread (IsSummaryOf es s)
+    × PrintsText (gaps_of interval es) d.writer d'.writer × (d'.reader.device.failures ≡ d.reader.device.failures)
+ReadsGaps (Err (faults.File e)) interval d d' =
+    (es : List Stamped) × IfSome d.reader.unread (λ input. ExplainsFault input e × AreEpochsBefore es e input)
+    × IfTextOfFile d.reader.unread (λ v. IsNoFault e)
+    × (e ≡ reading.Read → AreEpochsRead es d.reader.unread d'.reader.unread)
+    × PrintsText (gaps_of interval es) d.writer d'.writer
+    × ReaderFailures (culprit (faults.File e)) d.reader.device.failures d'.reader.device.failures
+ReadsGaps (Err faults.Write) interval d d' =
+    (es : List Stamped) × (n : ℕ) × (is_some interval ≡ true) × IfSome d.reader.unread (AreFirstEpochs es n)
+    × PrintsPart (gaps_of interval es) d.writer d'.writer × (d'.reader.device.failures ≡ d.reader.device.failures)
+ReadsGaps (Err other) interval d d' = ⊥

@@ -1,0 +1,4 @@
+pub mod Faults
+pub mod DateTexts
+pub mod CheckOutput
+pub mod Checking

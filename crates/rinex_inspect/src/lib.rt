@@ -1,0 +1,19 @@
+//! What is in an observation file, as text: its counts, the times of its epochs, and the gaps between
+//! them. Lines, dates and lengths of texts are those of `line_texts`.
+//!
+//! ```
+//! /// The line of the counts of a file.
+//! fn counts_of(alloc: Global, file: &[u8]) -> Result<Vec<u8>, FileFault> {
+//!     let (mut reader, mut writer) = (Counted::new(file), Counted::new(Vec::new(alloc)));
+//!     let checked = run_check(alloc, &mut reader, &mut writer);
+//!     let line = writer.into_inner();
+//!     checked.map(|_| line)
+//! }
+//! ```
+#![tactic(auto)]
+
+mod check;
+mod fault;
+
+pub use check::{CheckOptions, run_check, run_check_with};
+pub use fault::{FileFault, add_file_error};

@@ -1,8 +1,0 @@
-use Rattle.rtcm_inspect.proofs.PrintingLemmas.{line_printed}
-use Rattle.rtcm_inspect.proofs.Names.{writer_of}
-use Rattle.rtcm_inspect.proofs.printing.print_line.Goals as goal
-
-pub returns : goal.returns
-returns g c =
-    let at = writer_of g.E.Write.contents g.E.Deliver.waiting in
-    line_printed c.print_text.result (at c.args.faults.now) (at c.print_text.new.writer) c.args.text.now c.print_text.ensures
