@@ -3,6 +3,7 @@
 from collections.abc import Iterator
 
 from .commands import convert, frame_lines, show_lines
+from .complete import Completeness
 from .epochs import Choice, Setup
 from .files import check_lines
 from .frames import decided_length
@@ -17,7 +18,7 @@ GAPS = "check --gaps 0.5".split()
 def gaps(data: bytes) -> Iterator[str]:
     """Yields the gaps between the epochs of a file that may be cut."""
     try:
-        yield from (line for line in check_lines(data, False, 500) if line.startswith("gap "))
+        yield from (line for line in check_lines(data, False, Completeness(500)) if line.startswith("gap "))
     except Fault:
         pass
 

@@ -3,6 +3,7 @@ import re
 from collections.abc import Iterator
 from datetime import datetime, timedelta
 
+from .complete import Completeness
 from .lines import fixed, header_line, slot_line, station_lines, type_lines
 from .messages import CHANNELS, NUMBER_OFFSETS, SATELLITES, SIGNALS
 from .options import MOST, Fault, is_interval
@@ -46,8 +47,9 @@ def time_of(date: list[int], seconds: str) -> int:
 class File:
     """A file that is read line by line. A line that is not as expected raises a ValueError."""
 
-    def __init__(self, data: bytes) -> None:
+    def __init__(self, data: bytes, complete: Completeness | None = None) -> None:
         self.data, self.place, self.number = data.decode("latin-1"), 0, 0
+        self.complete = complete
         self.values: list[int] = []
         self.times: list[int] = []
         self.satellites = self.events = 0
@@ -227,6 +229,8 @@ class File:
                 continue
             time, count = self.epoch(line, time)
             is_due = False
+            if self.complete and not self.complete.has(time):
+                raise Fault(f"OtherDay {self.number}")
             yield "BadSatellite"
             satellite = None
             for _ in range(count):
@@ -245,12 +249,12 @@ def time_lines(times: list[int]) -> list[str]:
     return lines + [f"step {min(steps) // 1000}.{min(steps) % 1000:03}"] if steps else lines
 
 
-def check_lines(data: bytes, has_times: bool = False, interval: int | None = None) -> Iterator[str]:
-    """Yields the gaps at an interval of ms, the counts of a file, its times, and whether it is complete, as asked for.
+def check_lines(data: bytes, has_times: bool = False, complete: Completeness | None = None) -> Iterator[str]:
+    """Yields the gaps, the counts of a file, its times, and whether it is complete, as asked for.
 
     Raises its fault, if it has one, after the gaps of the epochs before it.
     """
-    file, kind, fault = File(data), "", None
+    file, kind, fault = File(data, complete), "", None
     try:
         for kind in file.read():
             pass
@@ -259,12 +263,12 @@ def check_lines(data: bytes, has_times: bool = False, interval: int | None = Non
     except Fault as cut:
         fault = cut
     times = file.times
-    if interval is not None:
-        for time, later in zip(times, times[1:]):
-            yield from [f"gap {shown(time)} {shown(later)}"] if later - time > interval else []
+    if complete:
+        yield from (f"gap {shown(time)} {shown(later)}" for time, later in complete.gaps(times, fault is None))
     if fault:
         raise fault
     yield f"epochs {len(times)} satellites {file.satellites} events {file.events}"
     yield from time_lines(times) if has_times else []
-    if interval is not None:
-        yield f"complete {len(times)} of {(times[-1] - times[0]) // interval + 1}"
+    if complete:
+        indexes = {complete.index(time, times[0]) for time in times}
+        yield f"complete {len(indexes)} of {complete.size(times[-1], times[0])}"

@@ -2,6 +2,7 @@
 import re
 from datetime import date
 
+from .complete import Completeness
 from .epochs import LAST_WEEK, Choice, Plan, StationValues
 from .messages import CHANNELS, DAY, SATELLITES, SIGNALS, Channels
 
@@ -99,6 +100,22 @@ def interval_of(text: str) -> int:
     if not 0 < interval <= DAY:
         raise Fault("BadGaps --gaps SECONDS: up to 3 decimals, 0.001 to 86400")
     return interval
+
+
+def completeness_of(gaps: str | None, start: str | None, until: str | None) -> Completeness | None:
+    """Returns what makes a file complete, by the options `--gaps`, `--from` and `--until` of `check`."""
+    given = (gaps, start, until)
+    if (start, until) != (None, None) and None in given:
+        raise Fault("AllOf --gaps SECONDS, --from TIME, --until TIME: all of them")
+    if gaps is None:
+        return None
+    interval = interval_of(gaps)
+    if start is None or until is None:
+        return Completeness(interval)
+    window = time_of(start, "--from"), time_of(until, "--until")
+    if window[1] <= window[0] or (window[1] - window[0]) % interval:
+        raise Fault("BadWindow --until TIME: whole intervals after --from")
+    return Completeness(interval, window)
 
 
 def is_interval(interval: int) -> bool:

@@ -55,6 +55,12 @@ fn add_error(line: &mut OutputLine, fault: CommandFault)
         CommandFault::BadGaps => line.add_word(
             "BadGaps --gaps SECONDS: up to 3 decimals, 0.001 to 86400",
         ),
+        CommandFault::AllOf => line.add_word(
+            "AllOf --gaps SECONDS, --from TIME, --until TIME: all of them",
+        ),
+        CommandFault::BadGapsWindow => line.add_word(
+            "BadWindow --until TIME: whole intervals after --from",
+        ),
         CommandFault::Header(fault) => add_header_error(line, fault),
         CommandFault::Plan(fault) => add_plan_error(line, fault),
         CommandFault::Convert(fault) => add_conversion_error(line, fault),

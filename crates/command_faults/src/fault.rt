@@ -29,6 +29,10 @@ pub enum CommandFault {
     BadTolerance,
     /// The text of `--gaps` isn't an interval.
     BadGaps,
+    /// Of the options `--gaps`, `--from` and `--until` of `check` some are given, but not all.
+    AllOf,
+    /// The time of `--until` isn't a whole number of intervals of `--gaps` after that of `--from`.
+    BadGapsWindow,
     /// A text of the header was refused.
     Header(HeadFault),
     /// The plan of signals was refused.

@@ -27,7 +27,9 @@ pub fn exit_status<E: Deliver>(ended: Result<(), CommandFault>, faults: &mut Cou
         | CommandFault::BadWindow
         | CommandFault::BadInterval
         | CommandFault::BadTolerance
-        | CommandFault::BadGaps => 2,
+        | CommandFault::BadGaps
+        | CommandFault::AllOf
+        | CommandFault::BadGapsWindow => 2,
         _ => 1,
     }
 }

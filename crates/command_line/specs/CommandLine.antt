@@ -153,7 +153,7 @@ abbrev pub show : App
 show = with_options (new_app (codes "show")) (all ∷ [])
 
 abbrev pub check : App
-check = with_options (new_app (codes "check")) (times ∷ gaps ∷ [])
+check = with_options (new_app (codes "check")) (times ∷ gaps ∷ from ∷ until ∷ [])
 
 abbrev pub convert : (forms rules : Choices) → App
 convert forms rules = with_options (with_options (new_app (codes "convert"))

@@ -262,9 +262,16 @@ const CHECK: CommandRow<'static> = CommandRow {
                 "Also prints the first and the last epoch and the\n\
                  smallest step between epochs";
             "gaps", "SECONDS", false, &[], TEXT, Set,
-                "Also prints consecutive epochs that are more than\n\
-                 this apart, 0.001 to 86400, and how many epochs\n\
-                 at this interval the file has";
+                "Also prints the gaps between epochs at this\n\
+                 interval, 0.001 to 86400, and how many of a\n\
+                 complete file's epochs the file has";
+            "from", "TIME", false, &[], TEXT, Set,
+                "The complete file begins at this GPS time, as\n\
+                 2024-02-04 or 2024-02-04T13:30:00; an epoch\n\
+                 before it is a fault";
+            "until", "TIME", false, &[], TEXT, Set,
+                "It ends before this GPS time, whole intervals\n\
+                 later";
         }
     },
 };

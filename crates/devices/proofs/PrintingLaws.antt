@@ -9,33 +9,33 @@ use Rattle.std.proofs.Common.{MatchResult, Err, Ok, Result, ℕ, append-nil, inl
 use Rattle.std.specs.Result.{IsErrAnd}
 
 -- a text that was written, and then delivered or not
-pub then_delivered : {A F W : Type 0} {failed : F} (r : Result A F) (w w1 w2 : Writer W) (text : List ℕ) → w1.device.failures ≡ w.device.failures
+pub then_delivered : {A F W : Type 0} (failed : F) (r : Result A F) (w w1 w2 : Writer W) (text : List ℕ) → w1.device.failures ≡ w.device.failures
     → Appends w.written w1.written text → EndsDelivery failed r w1 w2 → EndsPrinting failed r text w w2
-then_delivered (Ok u) w w1 w2 text fine went h = (h.0 ∙ fine, h.1.1, Appends-kept _ _ _ text went h.1.0)
-then_delivered (Err fault) w w1 w2 text fine went h = (
+then_delivered failed (Ok u) w w1 w2 text fine went h = (h.0 ∙ fine, h.1.1, Appends-kept _ _ _ text went h.1.0)
+then_delivered failed (Err fault) w w1 w2 text fine went h = (
   h.0,
   (subst (λ (n : ℕ). HasFailed n w2.device.failures) fine h.1, ([], (text, sym (append-nil text), Appends-kept _ _ _ text went h.2))),
 )
 
 -- a line that was written, in whole or in part
-pub line_printed : {A F E : Type 0} {failed : F} (r : Result A F) (e e2 : Writer E) (text : List ℕ) → EndsPrinting failed r text e e2 → PrintsLine text e e2
-line_printed (Ok u) e e2 text h = inl h
-line_printed (Err fault) e e2 text h = inr h.1
+pub line_printed : {A F E : Type 0} (failed : F) (r : Result A F) (e e2 : Writer E) (text : List ℕ) → EndsPrinting failed r text e e2 → PrintsLine text e e2
+line_printed failed (Ok u) e e2 text h = inl h
+line_printed failed (Err fault) e e2 text h = inr h.1
 
 kept_appends : (a b c : Option (List ℕ)) (text : List ℕ) → Keeps a b → Appends b c text → Appends a c text
 kept_appends a b c text k h = Appends-trans a b c [] text (Appends-kept a a b [] (Appends-nil a) k) h
 
 -- how the printing of a text ended
-pub record Printed {A F W : Type 0} {failed : F} (r : Result A F) (w w2 : Writer W) (text : List ℕ) : Type 0 where
+pub record Printed {A F W : Type 0} (failed : F) (r : Result A F) (w w2 : Writer W) (text : List ℕ) : Type 0 where
   pub ends : EndsPrinting failed r text w w2
 
 -- a text, given in other terms, that was written after a delivery
-pub printed_later : {A F W : Type 0} {failed : F} {w : Writer W} {x text : List ℕ} (r : Result A F) (w1 w2 : Writer W)
+pub printed_later : {A F W : Type 0} {w : Writer W} {x text : List ℕ} (failed : F) (r : Result A F) (w1 w2 : Writer W)
     → (w1.device.failures ≡ w.device.failures) × IsDelivered w w1 → x ≡ text → EndsPrinting failed r x w1 w2 → Printed failed r w w2 text
-printed_later {A} {F} {failed = failed} {text = text} (Ok u) w1 w2 kept same x =
+printed_later {A} {F} {text = text} failed (Ok u) w1 w2 kept same x =
     let h : EndsPrinting {A = A} {F = F} failed (Ok u) text w1 w2 = subst (λ (t : List ℕ). EndsPrinting {A = A} {F = F} failed (Ok u) t w1 w2) same x in
     record { ends = (h.0 ∙ kept.0, h.1, kept_appends _ _ _ text kept.1.0 h.2) }
-printed_later {A} {failed = failed} {text = text} (Err fault) w1 w2 kept same x =
+printed_later {A} {text = text} failed (Err fault) w1 w2 kept same x =
     let h : EndsPrinting {A = A} failed (Err fault) text w1 w2 = subst (λ (t : List ℕ). EndsPrinting {A = A} failed (Err fault) t w1 w2) same x in
     let prefix = h.1.1 in
     record { ends = (h.0, (subst (λ (n : ℕ). HasFailed n w2.device.failures) kept.0 h.1.0, (prefix.0, (prefix.1.0, prefix.1.1, kept_appends _ _ _ prefix.1.0 kept.1.0 prefix.1.2)))) }
@@ -53,10 +53,10 @@ part_after : (a b c : Option (List ℕ)) (x y : List ℕ) → Appends a b x → 
 part_after a b c x y first (rest, (sent, split, went)) = (rest, (x ++ sent, ap (λ l. x ++ l) split ∙ sym (append_assoc x sent rest), Appends-trans a b c x sent first went))
 
 -- a text that was written after another one
-pub printed_after : {A F W : Type 0} {failed : F} (r : Result A F) (w w1 w2 : Writer W) (x y : List ℕ) → PrintsText x w w1 → EndsPrinting failed r y w1 w2
+pub printed_after : {A F W : Type 0} (failed : F) (r : Result A F) (w w1 w2 : Writer W) (x y : List ℕ) → PrintsText x w w1 → EndsPrinting failed r y w1 w2
     → EndsPrinting failed r (x ++ y) w w2
-printed_after (Ok u) w w1 w2 x y first next = (next.0 ∙ first.0, next.1, Appends-trans _ _ _ x y first.2 next.2)
-printed_after (Err fault) w w1 w2 x y first next =
+printed_after failed (Ok u) w w1 w2 x y first next = (next.0 ∙ first.0, next.1, Appends-trans _ _ _ x y first.2 next.2)
+printed_after failed (Err fault) w w1 w2 x y first next =
     (next.0, (subst (λ (n : ℕ). HasFailed n w2.device.failures) first.0 next.1.0, part_after _ _ _ x y first.2 next.1.1))
 
 -- a prefix of a text is one of a longer text

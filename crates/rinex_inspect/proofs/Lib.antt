@@ -1,3 +1,5 @@
 pub mod Names
 mod CheckLemmas
 mod GapLemmas
+mod CompleteLemmas
+mod MissingLemmas

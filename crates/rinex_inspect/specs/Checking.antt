@@ -4,18 +4,15 @@ use Rattle.std.specs.Prelude.{is_some, true}
 use Rattle.std.specs.Prelude.{Ok, Err, IfSome, ⊤}
 use Rattle.std.specs.Io.KnownBytes.{Appends, Keeps}
 use Rattle.devices.specs.Device.{AppendsPrefix}
-use Rattle.devices.specs.Devices.{Devices, Ends, ReaderFailures}
+use Rattle.devices.specs.Devices.{Devices, Ends}
 use Rattle.rinex_file.specs.Accepted.{AreEpochsBefore, AreEpochsRead, AreFirstEpochs}
-use Rattle.rinex_file.specs.Counting.{IsTextWith}
-use Rattle.rinex_file.specs.Exact.{ExplainsFault, IfTextOfFile, IsNoFault, most_lines}
+use Rattle.rinex_file.specs.Exact.{ExplainsFault, most_lines}
 use Rattle.rinex_file.specs.File.{file_text, file_lines}
 use Rattle.rinex_file.specs.FileValues.{IsFileValue}
-use Rattle.rinex_file.specs.inner.Read.EpochSteps.{IsSummaryOf}
 use Rattle.rinex_file.specs.Value.{FileValue, Stamped}
 use Rattle.rinex_file.specs.declared.read.fault.ReadFault.TheVariants as reading
-use Rattle.rinex_file.specs.declared.read.file.FileSummary.{FileSummary}
-use Rattle.rinex_inspect.specs.CheckOutput.{IsOutput, gaps_of}
-use Rattle.devices.specs.Printing.{IsUnread, PrintsPart, PrintsText}
+use Rattle.rinex_inspect.specs.CheckOutput.{IsOutput, gaps_if, times_in}
+use Rattle.devices.specs.Printing.{IsUnread}
 use Rattle.rinex_inspect.specs.Faults.{culprit}
 use Rattle.rinex_inspect.specs.declared.check.CheckOptions.{CheckOptions}
 use Rattle.rinex_inspect.specs.declared.fault.FileFault.{FileFault}
@@ -38,13 +35,12 @@ abbrev pub StopsCheck : {R W : Type 0} → CheckOptions → (d d' : Devices R W)
 StopsCheck o d d' (faults.File e) =
     (es : List Stamped) × IfSome d.reader.unread (λ input. ExplainsFault input e × AreEpochsBefore es e input)
     × (e ≡ reading.Read → AreEpochsRead es d.reader.unread d'.reader.unread)
-    × Appends d.writer.written d'.writer.written (gaps_of o.interval es) × (d'.writer.waiting ≡ [])
+    × Appends d.writer.written d'.writer.written (gaps_if o.complete (times_in es)) × (d'.writer.waiting ≡ [])
 StopsCheck o d d' faults.Write =
     IsUnread d d'
-    ⊎ ((es : List Stamped) × (n : ℕ) × (is_some o.interval ≡ true) × IfSome d.reader.unread (AreFirstEpochs es n)
-    × AppendsPrefix d.writer.written d'.writer.written (gaps_of o.interval es))
+    ⊎ ((es : List Stamped) × (n : ℕ) × (is_some o.complete ≡ true) × IfSome d.reader.unread (AreFirstEpochs es n)
+    × AppendsPrefix d.writer.written d'.writer.written (gaps_if o.complete (times_in es)))
     ⊎ IsFileWith o (AppendsPrefix d.writer.written d'.writer.written) d.reader.unread
-StopsCheck o d d' other = ⊥
 
 -- how a check ended
 abbrev pub EndsCheck : {A R W : Type 0} → CheckOptions → Result A FileFault → (d d' : Devices R W) → Type 0
@@ -63,21 +59,3 @@ IsCheckedOr o v (Err other) w w' = ⊥
 abbrev pub AcceptsFiles : {R W : Type 0} → CheckOptions → Result ⊤ FileFault → (d d' : Devices R W) → Type 0
 AcceptsFiles o result d d' = (v : FileValue) → IsFileValue v → length (file_lines v) ≤ most_lines
     → IfSome d.reader.unread (λ input. input ≡ file_text v → IsCheckedOr o v result d.writer.written d'.writer.written)
-
--- ---- the reading of a file and the writing of its gaps
-
--- The gaps of all epochs were written; or of those before a fault; or the writer failed in those of the first epochs.
-abbrev pub ReadsGaps : {R W : Type 0} → Result FileSummary FileFault → Option ℕ → (d d' : Devices R W) → Type 0
-ReadsGaps (Ok s) interval d d' =
-    (es : List Stamped) × IsTextWith (IsSummaryOf es s) d.reader.unread × IfTextOfFile d.reader.unread (IsSummaryOf es s)
-    × PrintsText (gaps_of interval es) d.writer d'.writer × (d'.reader.device.failures ≡ d.reader.device.failures)
-ReadsGaps (Err (faults.File e)) interval d d' =
-    (es : List Stamped) × IfSome d.reader.unread (λ input. ExplainsFault input e × AreEpochsBefore es e input)
-    × IfTextOfFile d.reader.unread (λ v. IsNoFault e)
-    × (e ≡ reading.Read → AreEpochsRead es d.reader.unread d'.reader.unread)
-    × PrintsText (gaps_of interval es) d.writer d'.writer
-    × ReaderFailures (culprit (faults.File e)) d.reader.device.failures d'.reader.device.failures
-ReadsGaps (Err faults.Write) interval d d' =
-    (es : List Stamped) × (n : ℕ) × (is_some interval ≡ true) × IfSome d.reader.unread (AreFirstEpochs es n)
-    × PrintsPart (gaps_of interval es) d.writer d'.writer × (d'.reader.device.failures ≡ d.reader.device.failures)
-ReadsGaps (Err other) interval d d' = ⊥

@@ -1,20 +1,26 @@
 //! The command `check`: whether the input is a file as `convert` writes it, its counts, the times
 //! of its epochs, and the gaps between them.
-ghost use Rattle.std.specs.Prelude.{◌≡◌, ◌+◌, ◌<◌, ◌≤◌, ◌++◌, [], List, Option, ℕ, IfErr, IfSome, is_some, true, length, option_map};
+ghost use Rattle.std.specs.Prelude.{◌≡◌, ◌+◌, ◌*◌, ◌<◌, ◌≤◌, ◌++◌, [], List, Option, ℕ, IfErr, IfOk, IfSome, is_some, true, length};
+ghost use Rattle.gnss_obs.specs.Weeks.{week, weeks};
 ghost use Rattle.rinex_file.specs.Blocks.{LeavesRest};
-ghost use Rattle.rinex_file.specs.Counting.{AreCounts};
+ghost use Rattle.rinex_file.specs.Counting.{AreCounts, IsSummary};
+ghost use Rattle.rinex_file.specs.FileValues.{IsFileValue};
 ghost use Rattle.rinex_file.specs.Value.{FileValue};
 ghost use Rattle.devices.specs.Devices.{Changes, Writes};
-ghost use Rattle.rinex_inspect.specs.CheckOutput.{check_line, complete_if, counts_alone, gap_between, times_if};
-ghost use Rattle.rinex_inspect.specs.Checking.{AcceptsFiles, EndsCheck, ReadsGaps};
+ghost use Rattle.devices.specs.Printing.{EndsPrinting};
+ghost use Rattle.rinex_inspect.specs.CheckOutput.{check_line, counts_alone, times_if, times_in};
+ghost use Rattle.rinex_inspect.specs.Checking.{AcceptsFiles, EndsCheck};
 ghost use Rattle.rinex_file.specs.inner.Read.EpochSteps.{HasReadEpochs};
 ghost use Rattle.rinex_inspect.specs.DateTexts.{longest_times, moment_bytes, moment_words, step_line, time_line};
 ghost use Rattle.rinex_inspect.specs.DateTexts.{times_lines};
-ghost use Rattle.line_texts.specs.Lengths.{longest_interval};
-ghost use Rattle.devices.specs.Printing.{EndsPrinting};
+ghost use Rattle.rinex_inspect.specs.Gaps.{IsCompleteness, gap_between};
+ghost use Rattle.rinex_inspect.specs.inner.Missing.{complete_but, end_gap_if, end_missing_if, first_with, gap_with};
+ghost use Rattle.rinex_inspect.specs.inner.Missing.{longest_gap, missing_between, missing_with};
+ghost use Rattle.rinex_inspect.specs.inner.Reading.{CountsMissing, IsEndOutput, ReadsGaps};
 ghost use Rattle.line_texts.specs.Lines.{with_words};
 
 use crate::fault::FileFault;
+use crate::gaps::{Completeness, Placed, last_placed};
 use devices::{Counted, Deliver, deliver_waiting, print_text};
 use gnss_obs::GpsTime;
 use line_texts::OutputLine;
@@ -25,9 +31,8 @@ use std::io::Read;
 /// What `check` writes besides the counts.
 #[derive(Clone, Copy)]
 pub struct CheckOptions {
-    /// The interval of the epochs of a complete file in milliseconds: the gaps and the number of
-    /// its epochs are written.
-    pub interval: Option<u64>,
+    /// What makes the file complete: its gaps and the number of its epochs are written.
+    pub complete: Option<Completeness>,
     /// Whether the times are written.
     pub times: bool,
 }
@@ -53,7 +58,7 @@ pub fn run_check<R: Read, W: Deliver>(
         (AcceptsFiles counts_alone result) }
 {
     let counts_alone = CheckOptions {
-        interval: None,
+        complete: None,
         times: false,
     };
     run_check_with(alloc, counts_alone, reader, writer)
@@ -62,10 +67,12 @@ pub fn run_check<R: Read, W: Deliver>(
 /// Delivers what waits in the writer, reads a file to its end and writes its numbers of epochs,
 /// satellite lines and events. It is accepted exactly if it is encoded as `convert` encodes files.
 ///
-/// With an interval it also writes, while the file is read, a line for each two consecutive epochs
-/// that are more than the interval apart, and at the end the number of epochs with that of a
-/// complete file: those at this interval from the first to the last. With times it also writes
-/// those of the first and the last epoch, and the smallest step between two epochs, if it has two.
+/// If it is asked whether the file is complete, it also writes, while the file is read, a line for
+/// each two consecutive epochs whose indexes differ by 2 or more, and at the end the number of
+/// different indexes with that of a complete file. The index of an epoch is the number of intervals
+/// to it from the first epoch, or from the begin of the window; the epoch may be early by half a
+/// second, or by half of the interval if that is less. With times it also writes those of the first
+/// and the last epoch, and the smallest step between two epochs, if it has two.
 ///
 /// # Errors
 ///
@@ -78,7 +85,7 @@ pub fn run_check_with<R: Read, W: Deliver>(
     reader: &mut Counted<R>,
     writer: &mut Counted<W>,
 ) -> Result<(), FileFault>
-    requires { IfSome options.interval (λ n. (0 < n) × (n ≤ longest_interval)) }
+    requires { IfSome options.complete IsCompleteness }
     ensures ends { Changes R.remaining reader.old reader.new W.contents W.waiting writer.old writer.new
         (EndsCheck options result) }
 
@@ -91,77 +98,146 @@ pub fn run_check_with<R: Read, W: Deliver>(
 {
     deliver_waiting(writer, FileFault::Write)?;
     let mut file = EpochReader::new(alloc);
-    let read = print_gaps(options.interval, &mut file, reader, writer);
+    let read = print_gaps(&options.complete, &mut file, reader, writer);
     drop(file);
     match read {
-        Ok(summary) => {
-            let mut text = counts_line(&summary.counts);
-            add_asked_times(&mut text, options.times, &summary.times);
-            add_complete(&mut text, options.interval, &summary);
+        Ok((summary, missing)) => {
+            let text = summary_text(&options, &summary, missing);
             print_text(text.as_bytes(), writer, FileFault::Write)
         }
         Err(fault) => Err(fault),
     }
 }
 
-/// Reads a file to its end, and writes a line for each gap, if an interval is given.
+/// Returns what is written at the end of a file with this number of missing epochs before its last
+/// one.
+fn summary_text(options: &CheckOptions, summary: &FileSummary, missing: u64) -> OutputLine
+    requires { IfSome options.now.complete IsCompleteness }
+    ensures { (v : FileValue) → IsFileValue v → IsSummary summary.now v
+        → CountsMissing options.now.complete (times_in v.epochs) missing
+        → IsEndOutput options.now v summary.now.times result }
+{
+    let mut text = OutputLine::new();
+    let after = add_last_gap(&mut text, &options.complete, &summary.times);
+    add_counts(&mut text, &summary.counts);
+    add_asked_times(&mut text, options.times, &summary.times);
+    add_complete(&mut text, &options.complete, &summary.times, missing, after);
+    text
+}
+
+/// Reads a file to its end, and writes a line for each gap before and between its epochs, if it is
+/// asked whether it is complete. Returns the summary and the number of missing epochs.
 fn print_gaps<R: Read, W: Deliver>(
-    interval: Option<u64>,
+    complete: &Option<Completeness>,
     file: &mut EpochReader,
     reader: &mut Counted<R>,
     writer: &mut Counted<W>,
-) -> Result<FileSummary, FileFault>
-    requires small { IfSome interval (λ n. n ≤ longest_interval) }
+) -> Result<(FileSummary, u64), FileFault>
+    requires fits { IfSome complete.now IsCompleteness }
     requires start { (input : Option (List ℕ)) → HasReadEpochs file.old [] input input }
     requires sent { W.waiting writer.old.inner ≡ [] }
     ensures gaps { Changes R.remaining reader.old reader.new W.contents W.waiting writer.old writer.new
-        (ReadsGaps result interval) }
+        (ReadsGaps result complete.now) }
     ensures left { LeavesRest (R.remaining reader.old.inner) (R.remaining reader.new.inner) }
 {
+    let mut missing = 0u64;
     loop {
         match file.next(reader) {
-            Ok(NextEpoch::Epoch { before, time }) => print_gap(interval, before, time, writer)?,
-            Ok(NextEpoch::End(summary)) => return Ok(summary),
+            Ok(NextEpoch::Epoch { before, time }) => {
+                missing = missing.saturating_add(print_gap(complete, before, time, writer)?);
+            }
+            Ok(NextEpoch::End(summary)) => return Ok((summary, missing)),
             Err(fault) => return Err(FileFault::File(fault)),
         }
     }
 }
 
-/// Writes the line of a gap, if the last of the times before this one is earlier by more than an
-/// interval, if one is given.
+/// Writes the line of the gap before an epoch, if there is one and it is asked for. Returns the
+/// number of missing epochs.
 fn print_gap<W: Deliver>(
-    interval: Option<u64>,
+    complete: &Option<Completeness>,
     before: Option<EpochTimes>,
     time: GpsTime,
     writer: &mut Counted<W>,
-) -> Result<(), FileFault>
-    requires small { IfSome interval (λ n. n ≤ longest_interval) }
+) -> Result<u64, FileFault>
+    requires fits { IfSome complete.now IsCompleteness }
     requires sent { W.waiting writer.old.inner ≡ [] }
     ensures line { Writes W.contents W.waiting writer.old writer.new
-        (EndsPrinting FileFault.Write result (gap_between interval (option_map (λ t. t.last) before) time)) }
-    ensures asked { IfErr result (λ _. is_some interval ≡ true) }
+        (EndsPrinting FileFault.Write result (gap_with complete.now before time)) }
+    ensures missing { IfOk result (λ n. n ≡ missing_with complete.now before time) }
+    ensures range { time < weeks * week }
+    ensures asked { IfErr result (λ _. is_some complete.now ≡ true) }
 {
-    let Some(interval) = interval else {
-        return Ok(());
+    let Some(complete) = complete else {
+        return Ok(0);
     };
-    let Some(times) = before else {
-        return Ok(());
-    };
-    let last = times.last;
-    if last.milliseconds() + interval >= time.milliseconds() {
-        return Ok(());
-    }
+    let origin = complete.origin(first_with(&before, time));
+    let last = last_placed(complete, origin, &before);
     let mut line = OutputLine::new();
-    line.put(b"gap");
-    add_moment(&mut line, last);
-    add_moment(&mut line, time);
-    line.finish();
-    print_text(line.as_bytes(), writer, FileFault::Write)
+    let missing = add_gap(&mut line, last, complete.placed(origin, time));
+    if missing == 0 {
+        return Ok(0);
+    }
+    match print_text(line.as_bytes(), writer, FileFault::Write) {
+        Ok(()) => Ok(missing),
+        Err(fault) => Err(fault),
+    }
+}
+
+/// Returns the time of the first epoch: that of an epoch, or of those before it.
+fn first_with(before: &Option<EpochTimes>, time: GpsTime) -> GpsTime
+    ensures { result ≡ first_with before.now time }
+{
+    match before {
+        Some(times) => times.first,
+        None => time,
+    }
+}
+
+/// Adds the line of the gap between two epochs, if there is one, and returns the number of missing
+/// epochs.
+fn add_gap(text: &mut OutputLine, last: Placed, next: Placed) -> u64
+    requires { length text.old ≤ 100 }
+    ensures text { text.new ≡ text.old ++ gap_between last next }
+    ensures short { length text.new ≤ length text.old + longest_gap }
+    ensures missing { result ≡ missing_between last next }
+{
+    let missing = next.place.saturating_sub(last.place).saturating_sub(1);
+    if missing > 0 {
+        text.put(b"gap");
+        add_moment(text, last.time);
+        add_moment(text, next.time);
+        text.finish();
+    }
+    missing
+}
+
+/// Adds the line of the gap after the last epoch, if there is one and it is asked for, and returns
+/// the number of missing epochs.
+fn add_last_gap(
+    text: &mut OutputLine,
+    complete: &Option<Completeness>,
+    times: &EpochTimes,
+) -> u64
+    requires empty { text.old ≡ [] }
+    requires fits { IfSome complete.now IsCompleteness }
+    ensures text { text.new ≡ end_gap_if complete.now times.now }
+    ensures short { length text.new ≤ longest_gap }
+    ensures missing { result ≡ end_missing_if complete.now times.now }
+{
+    let Some(complete) = complete else {
+        return 0;
+    };
+    let Some(end) = complete.end() else {
+        return 0;
+    };
+    let origin = complete.origin(times.first);
+    add_gap(text, complete.placed(origin, times.last), end)
 }
 
 /// Adds the lines of the times, if they are asked for.
 fn add_asked_times(text: &mut OutputLine, with_times: bool, times: &EpochTimes)
-    requires { length text.old ≤ 100 }
+    requires { length text.old ≤ 200 }
     ensures text { text.new ≡ text.old ++ times_if with_times times.now }
     ensures short { length text.new ≤ length text.old + longest_times }
 {
@@ -170,39 +246,44 @@ fn add_asked_times(text: &mut OutputLine, with_times: bool, times: &EpochTimes)
     }
 }
 
-/// Adds the line of the number of epochs and that of a complete file, if an interval is given.
-fn add_complete(text: &mut OutputLine, interval: Option<u64>, summary: &FileSummary)
+/// Adds the line of the number of epochs and that of a complete file, if it is asked for: those of
+/// a complete file but for these numbers of missing ones, before its last epoch and after it.
+fn add_complete(
+    text: &mut OutputLine,
+    complete: &Option<Completeness>,
+    times: &EpochTimes,
+    missing: u64,
+    after: u64,
+)
     requires room { length text.old ≤ 300 }
-    requires some { IfSome interval (λ n. (0 < n) × (n ≤ longest_interval)) }
-    ensures { text.new ≡ text.old ++ complete_if interval summary.now.counts.epochs summary.now.times }
+    requires fits { IfSome complete.now IsCompleteness }
+    ensures { text.new ≡ text.old ++ complete_but complete.now times.now missing after }
 {
-    if let Some(interval) = interval {
-        let first = summary.times.first.milliseconds();
-        let span = summary.times.last.milliseconds().saturating_sub(first);
+    if let Some(complete) = complete {
+        let size = complete.size(times);
         text.put(b"complete");
-        text.add_number(summary.counts.epochs);
-        text.add_count("of", span / interval + 1);
+        text.add_number(size.saturating_sub(missing).saturating_sub(after));
+        text.add_count("of", size);
         text.finish();
     }
 }
 
-/// Returns the line of the counts of a file.
-fn counts_line(counts: &Counts) -> OutputLine
-    ensures line { (v : FileValue) → AreCounts counts.now v → result ≡ check_line v }
-    ensures short { length result ≤ 100 }
+/// Adds the line of the counts of a file.
+fn add_counts(text: &mut OutputLine, counts: &Counts)
+    requires { length text.old ≤ 100 }
+    ensures text { (v : FileValue) → AreCounts counts.now v → text.new ≡ text.old ++ check_line v }
+    ensures short { length text.new ≤ length text.old + 100 }
 {
-    let mut line = OutputLine::new();
-    line.put(b"epochs");
-    line.add_number(counts.epochs);
-    line.add_count("satellites", counts.satellites);
-    line.add_count("events", counts.events);
-    line.finish();
-    line
+    text.put(b"epochs");
+    text.add_number(counts.epochs);
+    text.add_count("satellites", counts.satellites);
+    text.add_count("events", counts.events);
+    text.finish();
 }
 
 /// Adds the lines of the times of a file's epochs.
 fn add_times(text: &mut OutputLine, times: &EpochTimes)
-    requires { length text.old ≤ 100 }
+    requires { length text.old ≤ 200 }
     ensures text { text.new ≡ text.old ++ times_lines times.now }
     ensures short { length text.new ≤ length text.old + longest_times }
 {
@@ -213,7 +294,7 @@ fn add_times(text: &mut OutputLine, times: &EpochTimes)
 
 /// Adds the line of a time: a name, the date and the time of day.
 fn add_time(text: &mut OutputLine, name: &str, time: GpsTime)
-    requires room { length text.old ≤ 200 }
+    requires room { length text.old ≤ 250 }
     requires short { length name.now ≤ 10 }
     ensures text { text.new ≡ text.old ++ time_line name.now time }
     ensures short { length text.new ≤ length text.old + 40 }
@@ -225,7 +306,7 @@ fn add_time(text: &mut OutputLine, name: &str, time: GpsTime)
 
 /// Adds the date and the time of day of a time, each after a blank.
 fn add_moment(text: &mut OutputLine, time: GpsTime)
-    requires { length text.old ≤ 250 }
+    requires { length text.old ≤ 300 }
     ensures text { text.new ≡ with_words text.old (moment_words time) }
     ensures short { length text.new ≤ length text.old + moment_bytes }
 {

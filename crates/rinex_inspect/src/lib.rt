@@ -14,6 +14,9 @@
 
 mod check;
 mod fault;
+mod gaps;
+pub mod laws;
 
 pub use check::{CheckOptions, run_check, run_check_with};
 pub use fault::{FileFault, add_file_error};
+pub use gaps::{Completeness, Window};

@@ -1,5 +1,13 @@
 -- The values of options.
 use Rattle.command_faults.specs.declared.fault.DateOption.TheVariants as dated
+use Rattle.devices.specs.Devices.{Culprit, Devices, HaveFailedBy, NoDevice}
+use Rattle.rinex_inspect.specs.declared.gaps.Window.{Window}
+use Rattle.rtcm_command.specs.CompleteOptions.{IsCompleteBy, IsCompleteSet, IsTimeGiven, IsWindowOf, complete_with, is_given, lacks_one, window_with}
+use Rattle.rtcm_command.specs.Devices.{culprit}
+use Rattle.rtcm_command.specs.SetupOptions.{gaps_set}
+use Rattle.std.proofs.Common.{◌%◌, ◌-◌, ◌<◌, ◌≤◌, ◌==◌, ◌&&◌, arith, is_some}
+use Rattle.std.proofs.Math.Nat.{mod-eq_of_lt}
+use Rattle.std.proofs.lemmas.Bool.{ltb-false, ltb-true}
 use Rattle.command_faults.specs.declared.fault.CommandFault.TheVariants as faults
 use Rattle.rtcm_command.proofs.Names.{◌≡◌, ◌∙◌, ℕ, Bool, true, false, nat_lt, ok_or, if◌then◌else◌, codes, IsChoiceSet, IsFromSet, IsUntilSet, Row, choice_by, choice_with, interval_set, tolerance_set, window_by, List, [], Option, Some, None, Result, Ok, Bor, option_map, unwrap_or, refl, sym, ap, subst, ◌↔◌, ParsesUnsigned, ReadsOne, first_value, one_text, first_of, one_of, rows_of, Found, first_value-rows, one_text-rows, IsHourOf, IsNoonOf, IsNumberOf, IsTimeIn, DateOption, CommandFault, interval_by, interval_in, option_and_then, Err, text_set}
 
@@ -100,3 +108,55 @@ module _ (P : CommandFault → Type 0) (each_time : (option : DateOption) → P 
   pub bad_choice : (options : List Row) (fault : CommandFault) → IsChoiceSet options (Err fault) → P fault
   bad_choice options fault (window, (from, until, f, u, is), h) =
       bad_grid window (interval_set options) (tolerance_set options) fault (λ e. bad_window options from until fault f u (sym is ∙ e)) (bad_interval (first_of (codes "interval") options) _) (λ i. bad_tolerance _) (sym h)
+
+-- ---- what makes a file complete
+
+given_some : {A B : Type 0} (f : A → B) (r : Option A) → is_some (option_map f r) ≡ is_some r
+given_some f None = refl
+given_some f (Some x) = refl
+
+pub is_given_by : (f : Found) (id : List ℕ) (r : Option (Bor (List ℕ))) → option_map (λ s. s.now) r ≡ first_value f id → is_some r ≡ is_given id (rows_of f)
+is_given_by f id r is = sym (given_some (λ (s : Bor (List ℕ)). s.now) r) ∙ ap (λ (o : Option (List ℕ)). is_some o) (is ∙ first_value-rows f id)
+
+-- a time by the first value found of an option, and by the options as clap's definitions list them
+pub moment_given : (option : DateOption) (f : Found) (id : List ℕ) (r o : Option (Bor (List ℕ))) (time : Result (Option ℕ) CommandFault) → option_map (λ s. s.now) r ≡ first_value f id → r ≡ o → IsTimeGiven option (option_map (λ s. s.now) o) time
+    → IsTimeGiven option (first_of id (rows_of f)) time
+moment_given option f id r o time is found h =
+    subst (λ (t : Option (List ℕ)). IsTimeGiven option t time) (ap (option_map (λ (s : Bor (List ℕ)). s.now)) (sym found) ∙ is ∙ first_value-rows f id) h
+
+-- a number that isn't 0 is at least its divisor
+pub one_or_more : (n k : ℕ) → 0 < k → 0 < n → n % k ≡ 0 → k ≤ n
+one_or_more n k some more whole = by (nat_lt n k) refl where
+  by : (b : Bool) → nat_lt n k ≡ b → k ≤ n
+  by true e = let less = ltb-true n k e in let same = mod-eq_of_lt less in absurd (omega (arith, same, whole, more))
+  by false e = let h = ltb-false n k e in omega (arith, h)
+
+-- of these faults no device failed
+refused_time : (option : DateOption) (text : Option (List ℕ)) (fault : CommandFault) → IsTimeGiven option text (Err fault) → culprit fault ≡ NoDevice
+refused_time option None fault h = absurd cc
+refused_time option (Some text) fault h = ap culprit h.0
+
+refused_window : (interval : ℕ) (options : List Row) (from until : Result (Option ℕ) CommandFault) (fault : CommandFault) → IsTimeGiven dated.From (first_of (codes "from") options) from
+    → IsTimeGiven dated.Until (first_of (codes "until") options) until → Err fault ≡ window_with interval from until → culprit fault ≡ NoDevice
+refused_window interval options (Err e) until fault f u is = refused_time dated.From _ fault (subst (λ (r : Result (Option ℕ) CommandFault). IsTimeGiven dated.From (first_of (codes "from") options) r) (let same : e ≡ fault = cc in ap Err same) f)
+refused_window interval options (Ok from) (Err e) fault f u is = refused_time dated.Until _ fault (subst (λ (r : Result (Option ℕ) CommandFault). IsTimeGiven dated.Until (first_of (codes "until") options) r) (let same : e ≡ fault = cc in ap Err same) u)
+refused_window interval options (Ok None) (Ok until) fault f u is = absurd cc
+refused_window interval options (Ok (Some from)) (Ok None) fault f u is = absurd cc
+refused_window interval options (Ok (Some from)) (Ok (Some until)) fault f u is = by (nat_lt from until && ((until - from) % interval == 0)) is where
+  by : (b : Bool) → Err fault ≡ (if b then Ok (Some (record { from = from; until = until })) else Err faults.BadGapsWindow) → culprit fault ≡ NoDevice
+  by true is = absurd cc
+  by false is = let same : fault ≡ faults.BadGapsWindow = cc in ap culprit same
+
+pub refused_complete : (options : List Row) (fault : CommandFault) → IsCompleteSet options (Err fault) → culprit fault ≡ NoDevice
+refused_complete options fault set = by (lacks_one options) (gaps_set options) refl set where
+  of : (interval : ℕ) (window : Result (Option Window) CommandFault) → IsWindowOf interval options window → Err fault ≡ complete_with interval window → culprit fault ≡ NoDevice
+  of interval (Err e) (from, until, f, u, is) same = refused_window interval options from until fault f u (let e_is : e ≡ fault = cc in ap Err (sym e_is) ∙ is)
+  of interval (Ok w) h same = absurd cc
+  by : (b : Bool) (gaps : Result (Option ℕ) CommandFault) → gaps_set options ≡ gaps → IsCompleteBy b gaps options (Err fault) → culprit fault ≡ NoDevice
+  by true gaps e same = let is : fault ≡ faults.AllOf = cc in ap culprit is
+  by false (Err x) e same = let is : fault ≡ faults.BadGaps = (let known : x ≡ faults.BadGaps = bad_interval (first_of (codes "gaps") options) _ e in cc) in ap culprit is
+  by false (Ok None) e same = absurd cc
+  by false (Ok (Some interval)) e (window, is, same) = of interval window is same
+
+pub no_device : {R W : Type 0} {fault : CommandFault} (d : Devices R W) → culprit fault ≡ NoDevice → HaveFailedBy (culprit fault) d d
+no_device d none = subst (λ (c : Culprit). HaveFailedBy c d d) (sym none) (refl, refl)

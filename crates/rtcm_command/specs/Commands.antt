@@ -22,10 +22,12 @@ use Rattle.command_line.specs.inner.CommandLine.{IsCommand}
 use Rattle.rtcm_command.specs.Devices.{IsInspected, IsOfFile, culprit}
 use Rattle.command_faults.specs.ErrorLines.{error_line}
 use Rattle.command_faults.specs.Status.{fault_status}
-use Rattle.rtcm_command.specs.SetupOptions.{IsNearRefused, IsNearSet, IsNumberOf, IsSetupRefused, gaps_set, has_flag}
+use Rattle.rtcm_command.specs.SetupOptions.{IsNearRefused, IsNearSet, IsNumberOf, IsSetupRefused, has_flag}
+use Rattle.rtcm_command.specs.CompleteOptions.{IsCompleteSet}
 use Rattle.rtcm_inspect.specs.declared.fault.InspectFault.{InspectFault}
 use Rattle.rtcm_inspect.specs.declared.fault.InspectFault.TheVariants as inspect
 use Rattle.rinex_inspect.specs.declared.fault.FileFault.{FileFault}
+use Rattle.rinex_inspect.specs.declared.gaps.Completeness.{Completeness}
 use Rattle.command_faults.specs.declared.fault.CommandFault.{CommandFault}
 use Rattle.command_faults.specs.declared.fault.CommandFault.TheVariants as faults
 use Rattle.command_line.specs.declared.cli.TheConstants.{VERSION}
@@ -38,9 +40,9 @@ OfStation options Does = (wanted : Option ℕ) × IsNumberOf 16 (one_of (codes "
 abbrev pub OfNear : List Row → ((near wanted : Option ℕ) → Type 0) → Type 0
 OfNear options Does = OfStation options (λ wanted. (near : Option ℕ) × IsNearSet options near × Does near wanted)
 
--- for the interval
-abbrev pub OfGaps : List Row → (Option ℕ → Type 0) → Type 0
-OfGaps options Does = (interval : Option ℕ) × (gaps_set options ≡ Ok interval) × Does interval
+-- for what makes the file complete
+abbrev pub OfComplete : List Row → (Option Completeness → Type 0) → Type 0
+OfComplete options Does = (complete : Option Completeness) × IsCompleteSet options (Ok complete) × Does complete
 
 -- How a command that reads a stream and doesn't convert it ended with these options: the stream was listed, or its
 -- signals or the options that fit it were printed.
@@ -56,8 +58,8 @@ EndsInspection result name options d d' =
 -- how a command that reads a file ended with these options: the file was read back
 abbrev pub EndsOnFile : {R W : Type 0} → Result ⊤ FileFault → Text → List Row → (d d' : Devices R W) → Type 0
 EndsOnFile result name options d d' =
-    (name ≡ codes "check") × OfGaps options (λ interval.
-    EndsCheck (record { interval = interval; times = has_flag (codes "times") options }) result d d')
+    (name ≡ codes "check") × OfComplete options (λ complete.
+    EndsCheck (record { complete = complete; times = has_flag (codes "times") options }) result d d')
 
 -- The command of this name completed: the file of the stream was written, which has an epoch, and its report was
 -- printed; or any other command, and nothing was written to standard error.
@@ -74,7 +76,7 @@ HasStopped name options d d' fault =
     ⊎ IsInspected (λ e. EndsInspection (Err e) name options d d') fault
     ⊎ IsOfFile (λ e. EndsOnFile (Err e) name options d d') fault
     ⊎ ((name ≡ codes "options") × IsNearRefused options fault × AreUntouched d d')
-    ⊎ ((name ≡ codes "check") × (gaps_set options ≡ Err fault) × AreUntouched d d')
+    ⊎ ((name ≡ codes "check") × IsCompleteSet options (Err fault) × AreUntouched d d')
 
 -- how the command ended; it prints no fault
 abbrev pub EndsCommand : {A R W E : Type 0} → Result A CommandFault → Text → List Row → (e e' : Writer E)
@@ -133,7 +135,7 @@ abbrev pub AreRefusedBy : Text → List Row → CommandFault → Type 0
 AreRefusedBy name options fault =
     ((name ≡ codes "convert") × IsSetupRefused options fault)
     ⊎ ((name ≡ codes "options") × IsNearRefused options fault)
-    ⊎ ((name ≡ codes "check") × (gaps_set options ≡ Err fault))
+    ⊎ ((name ≡ codes "check") × IsCompleteSet options (Err fault))
 
 -- The words lead to an error other than the version's text, and a text was printed; or they ask for a command with an
 -- option whose date, time, position, antenna height, list of channels, window, interval or tolerance is invalid, and the

@@ -1,4 +1,5 @@
 pub mod SetupOptions
+pub mod CompleteOptions
 pub mod Devices
 pub mod Converting
 pub mod Reports

@@ -19,7 +19,8 @@ ghost use Rattle.rtcm_command.specs.SetupOptions.{options_of};
 
 use crate::convert::{report_line, run_convert};
 use crate::options::{
-    channels_of, choice_of, gaps_of, has_flag, near_of, setup_of, start_of, station_of, values_of,
+    channels_of, choice_of, complete_of, has_flag, near_of, setup_of, start_of, station_of,
+    values_of,
 };
 use clap::ArgMatches;
 use clap::error::ErrorKind;
@@ -101,9 +102,9 @@ fn run<R: Read, W: Deliver, E: Deliver>(
         }
         "convert" => convert(alloc, options, reader, writer, faults),
         _ => {
-            let interval = gaps_of(options)?;
+            let complete = complete_of(options)?;
             let times = has_flag(options, "times");
-            let asked = CheckOptions { interval, times };
+            let asked = CheckOptions { complete, times };
             of_file(run_check_with(alloc, asked, reader, writer))
         }
     }

@@ -1,5 +1,5 @@
 //! The values of the options of the commands.
-ghost use Rattle.std.specs.Prelude.{◌≡◌, ◌<◌, ◌≤◌, IfOk, IfSome, MatchResult, Ok, codes, not};
+ghost use Rattle.std.specs.Prelude.{◌≡◌, ◌+◌, ◌<◌, ◌≤◌, IfOk, IfSome, MatchResult, Ok, codes, not};
 ghost use Rattle.clap.specs.Walk.{first_of, one_of};
 ghost use Rattle.std.specs.Str.{bytes_eq};
 ghost use Rattle.gnss_obs.specs.Plans.{HasSignal};
@@ -11,6 +11,9 @@ ghost use Rattle.rtcm_command.specs.SetupOptions.{HasSetupFault, IsChoiceSet, Is
 ghost use Rattle.rtcm_command.specs.SetupOptions.{IsNumberOr, IsTimeIn, IsWindowSet, channels_set, interval_set};
 ghost use Rattle.rtcm_command.specs.SetupOptions.{plan_texts, tolerance_set};
 ghost use Rattle.rtcm_command.specs.SetupOptions.{IsSetupOf, IsStartRefused, IsStartSet, gaps_set, has_flag, usual_leap};
+ghost use Rattle.rinex_inspect.specs.Gaps.{IsCompleteness};
+ghost use Rattle.rtcm_command.specs.CompleteOptions.{IsCompleteSet, IsTimeGiven, IsWindowOf, is_given, lacks_one};
+ghost use Rattle.rtcm_command.specs.CompleteOptions.{whole_window};
 ghost use Rattle.rtcm_command.specs.SetupOptions.{forms_set, options_of, plan_set, text_set, texts_set, values_set};
 
 use clap::ArgMatches;
@@ -22,6 +25,7 @@ use line_texts::{
 };
 use obs_epoch::{Choice, Gather, GatherSetup, LEAP_SECONDS, Start};
 use rinex_file::{HeaderTexts, Texts};
+use rinex_inspect::{Completeness, Window};
 use rtcm_convert::Setup;
 use rtcm_msg::Forms;
 use rtcm_scan::MOST_BYTES;
@@ -73,7 +77,7 @@ pub fn near_of(options: &ArgMatches) -> Result<Option<GpsTime>, CommandFault>
 /// # Errors
 ///
 /// `BadGaps` if the text isn't an interval.
-pub fn gaps_of(options: &ArgMatches) -> Result<Option<u64>, CommandFault>
+fn gaps_of(options: &ArgMatches) -> Result<Option<u64>, CommandFault>
     ensures value { result ≡ gaps_set (options_of options.now) }
     ensures fits { IfOk result (λ gap. IfSome gap (λ n. (0 < n) × (n ≤ longest_interval))) }
 {
@@ -83,6 +87,92 @@ pub fn gaps_of(options: &ArgMatches) -> Result<Option<u64>, CommandFault>
             None => Err(CommandFault::BadGaps),
         },
         None => Ok(None),
+    }
+}
+
+/// Returns what makes the file complete that `check` reads, or `None` if no interval is given.
+///
+/// # Errors
+///
+/// `AllOf` if one of `--gaps`, `--from` and `--until` lacks, `BadGaps`, `BadDate` or
+/// `BadGapsWindow` of the first of them that isn't valid.
+pub fn complete_of(options: &ArgMatches) -> Result<Option<Completeness>, CommandFault>
+    ensures set { IsCompleteSet (options_of options.now) result }
+    ensures fits { IfOk result (λ complete. IfSome complete IsCompleteness) }
+{
+    if lacks_one(options) {
+        return Err(CommandFault::AllOf);
+    }
+    let Some(interval) = gaps_of(options)? else {
+        return Ok(None);
+    };
+    match whole_window_of(options, interval) {
+        Ok(window) => Ok(Some(Completeness { interval, window })),
+        Err(fault) => Err(fault),
+    }
+}
+
+/// Returns whether the begin or the end of a window is given, but not both with the interval.
+fn lacks_one(options: &ArgMatches) -> bool
+    ensures { result ≡ lacks_one (options_of options.now) }
+{
+    let (from, until) = (is_given(options, "from"), is_given(options, "until"));
+    (from || until) && !(from && until && is_given(options, "gaps"))
+}
+
+/// Returns whether the option of this name is given.
+fn is_given(options: &ArgMatches, name: &str) -> bool
+    ensures { result ≡ is_given name.now (options_of options.now) }
+{
+    options.get_str(name).is_some()
+}
+
+/// Returns the window of whole intervals that the options give, if they give one.
+fn whole_window_of(options: &ArgMatches, interval: u64) -> Result<Option<Window>, CommandFault>
+    requires { 0 < interval }
+    ensures set { IsWindowOf interval (options_of options.now) result }
+    ensures fits { IfOk result (λ window. IfSome window (λ w. w.from + interval ≤ w.until)) }
+{
+    let from = moment_of(options, "from", DateOption::From)?;
+    let until = moment_of(options, "until", DateOption::Until)?;
+    match (from, until) {
+        (Some(from), Some(until)) => whole_window(interval, from, until),
+        _ => Ok(None),
+    }
+}
+
+/// Returns the time of the option of this name, or `None` if it isn't given.
+fn moment_of(
+    options: &ArgMatches,
+    name: &str,
+    option: DateOption,
+) -> Result<Option<GpsTime>, CommandFault>
+    ensures { IsTimeGiven option (first_of name.now (options_of options.now)) result }
+{
+    match options.get_str(name) {
+        Some(text) => match line_texts::time_of(text) {
+            Some(time) => Ok(Some(time)),
+            None => Err(CommandFault::BadDate(option)),
+        },
+        None => Ok(None),
+    }
+}
+
+/// Returns the window of these times, which are to be a whole number of intervals apart.
+fn whole_window(
+    interval: u64,
+    from: GpsTime,
+    until: GpsTime,
+) -> Result<Option<Window>, CommandFault>
+    requires { 0 < interval }
+    ensures set { result ≡ whole_window interval from until }
+    ensures fits { IfOk result (λ window. IfSome window (λ w. w.from + interval ≤ w.until)) }
+{
+    let (begin, end) = (from.milliseconds(), until.milliseconds());
+    if begin < end && (end - begin) % interval == 0 {
+        Ok(Some(Window { from, until }))
+    } else {
+        Err(CommandFault::BadGapsWindow)
     }
 }
 

@@ -25,3 +25,9 @@ returns-in-BadInterval-clause-text c = c.add_word-in-BadInterval.ensures.text �
 
 pub returns-in-BadTolerance-clause-text : goal.returns-in-BadTolerance-clause-text
 returns-in-BadTolerance-clause-text c = c.add_word-in-BadTolerance.ensures.text ∙ words_in_one error_words c.args.line.now c.args.fault faults.BadTolerance c.in-BadTolerance.is
+
+pub returns-in-AllOf-clause-text : goal.returns-in-AllOf-clause-text
+returns-in-AllOf-clause-text c = c.add_word-in-AllOf.ensures.text ∙ words_in_one error_words c.args.line.now c.args.fault faults.AllOf c.in-AllOf.is
+
+pub returns-in-BadGapsWindow-clause-text : goal.returns-in-BadGapsWindow-clause-text
+returns-in-BadGapsWindow-clause-text c = c.add_word-in-BadGapsWindow.ensures.text ∙ words_in_one error_words c.args.line.now c.args.fault faults.BadGapsWindow c.in-BadGapsWindow.is

@@ -5,4 +5,4 @@ use Rattle.devices.proofs.printing.print_line.Goals as goal
 pub returns : goal.returns
 returns g c =
     let at = writer_of g.E.Write.contents g.E.Deliver.waiting in
-    line_printed c.print_text.result (at c.args.faults.now) (at c.print_text.new.writer) c.args.text.now c.print_text.ensures
+    line_printed (record {}) c.print_text.result (at c.args.faults.now) (at c.print_text.new.writer) c.args.text.now c.print_text.ensures

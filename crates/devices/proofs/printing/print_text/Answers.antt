@@ -13,4 +13,4 @@ returns g c =
     let device = subst (λ (r : Result ⊤ DeviceFailed). FailsWith r c.args.writer.now c.write_whole.new.self) ok c.write_whole.ensures.device in
     let whole = subst (λ (r : Result ⊤ DeviceFailed). OnOk r (Appends (g.W.Write.contents c.args.writer.now.inner) (g.W.Write.contents c.write_whole.new.self.inner) c.args.text.now)) ok c.write_whole.ensures.whole in
     let at = writer_of g.W.Write.contents g.W.Deliver.waiting in
-    then_delivered c.deliver_waiting.result (at c.args.writer.now) (at c.write_whole.new.self) (at c.deliver_waiting.new.writer) c.args.text.now device.1 whole c.deliver_waiting.ensures
+    then_delivered c.args.fault c.deliver_waiting.result (at c.args.writer.now) (at c.write_whole.new.self) (at c.deliver_waiting.new.writer) c.args.text.now device.1 whole c.deliver_waiting.ensures

@@ -1,15 +1,16 @@
-use Rattle.rinex_inspect.specs.declared.fault.FileFault.TheVariants.{File, Write}
+use Rattle.rinex_inspect.specs.declared.fault.FileFault.TheVariants.{File}
 use Rattle.rinex_inspect.proofs.CheckLemmas.{read_failures}
-use Rattle.rinex_inspect.proofs.GapLemmas.{isnt_err, leaves_all, leaves_more, next_is, printed_more}
-use Rattle.rinex_inspect.proofs.Names.{◌∙◌, ◌++◌, ◌∷◌, [], ap, arith, refl, subst, sym, Appends-nil, Err, FileFault, ReadsGaps, ℕ, passed, ReaderFailures, culprit, devices_of, writer_of}
+use Rattle.rinex_inspect.proofs.MissingLemmas.{none_missed, none_printed}
+use Rattle.rinex_inspect.proofs.GapLemmas.{counted_more, isnt_err, leaves_all, leaves_more, next_is, printed_more}
+use Rattle.rinex_inspect.proofs.Names.{Appends, ◌∙◌, ◌++◌, ◌∷◌, [], ap, arith, refl, subst, sym, Appends-nil, Err, FileFault, ReadsGaps, ℕ, passed, ReaderFailures, culprit, devices_of, writer_of}
 use Rattle.rinex_inspect.proofs.check.print_gaps.Goals as goal
 
 pub loop-before-init : goal.loop-before-init
-loop-before-init g c = record { read = ([], c.requires.start _, (refl, c.requires.sent, Appends-nil _)); left = leaves_all _; same = refl }
+loop-before-init g c = record { read = ([], c.requires.start _, (refl, c.requires.sent, subst (Appends _ _) (sym (none_printed c.args.complete.now)) (Appends-nil _)), λ rise. none_missed c.args.complete.now); left = leaves_all _; same = refl }
 
 pub loop-before-smaller : goal.loop-before-smaller
 loop-before-smaller g c =
-    let (es, read, printed) = c.loop-before.invariant.read in
+    let (es, read, printed, counts) = c.loop-before.invariant.read in
     let (e, time, before, next, first, counted) = next_is c.loop-before.file c.next.new.self es _ (g.R.Read.remaining c.next.new.reader.inner) c.in-Ok-Epoch.field-0-is (c.in-Ok-Epoch.ensures.epochs es _ read) in
     omega (arith, counted)
 
@@ -17,10 +18,10 @@ pub loop-before-preserved : goal.loop-before-preserved
 loop-before-preserved g c =
     let at = writer_of g.W.Write.contents g.W.Deliver.waiting in
     let inv = c.loop-before.invariant in
-    let (es, read, printed) = inv.read in
+    let (es, read, printed, counts) = inv.read in
     let (e, time, before, next, first, counted) = next_is c.loop-before.file c.next.new.self es _ (g.R.Read.remaining c.next.new.reader.inner) c.in-Ok-Epoch.field-0-is (c.in-Ok-Epoch.ensures.epochs es _ read) in
     record {
-      read = (es ++ e ∷ [], next, printed_more (at c.args.writer.now) (at c.loop-before.writer) (at c.print_gap.new.writer) c.args.interval es e c.in-Ok-Epoch.before printed before time c.in_ok-print_gap-in-Ok-Epoch.was c.print_gap.ensures.line);
+      read = (es ++ e ∷ [], next, printed_more (at c.args.writer.now) (at c.loop-before.writer) (at c.print_gap.new.writer) c.args.complete.now es e c.in-Ok-Epoch.before printed before time c.in_ok-print_gap-in-Ok-Epoch.was c.print_gap.ensures.line, counted_more c.args.complete.now es e c.in-Ok-Epoch.before c.requires.fits before time counts (rw c.in_ok-print_gap-in-Ok-Epoch.was at c.print_gap.ensures.missing) (λ fits. omega (arith, fits, c.saturating_add-missing.ensures)) (omega (arith, c.print_gap.ensures.range)));
       left = leaves_more _ _ _ inv.left c.in-Ok-Epoch.ensures.left;
       same = c.in-Ok-Epoch.ensures.same isnt_err ∙ inv.same;
     }
@@ -29,15 +30,15 @@ pub returns-in_err-print_gap-in-Ok-Epoch-clause-gaps : goal.returns-in_err-print
 returns-in_err-print_gap-in-Ok-Epoch-clause-gaps g c =
     let at = writer_of g.W.Write.contents g.W.Deliver.waiting in
     let inv = c.loop-before.invariant in
-    let (es, read, printed) = inv.read in
+    let (es, read, printed, counts) = inv.read in
     let (e, time, before, next, first, counted) = next_is c.loop-before.file c.next.new.self es _ (g.R.Read.remaining c.next.new.reader.inner) c.in-Ok-Epoch.field-0-is (c.in-Ok-Epoch.ensures.epochs es _ read) in
-    let (write, part) = printed_more (at c.args.writer.now) (at c.loop-before.writer) (at c.print_gap.new.writer) c.args.interval es e c.in-Ok-Epoch.before printed before time c.in_err-print_gap-in-Ok-Epoch.was c.print_gap.ensures.line in
+    let (write, part) = printed_more (at c.args.writer.now) (at c.loop-before.writer) (at c.print_gap.new.writer) c.args.complete.now es e c.in-Ok-Epoch.before printed before time c.in_err-print_gap-in-Ok-Epoch.was c.print_gap.ensures.line in
     let asked = rw c.in_err-print_gap-in-Ok-Epoch.was at c.print_gap.ensures.asked in
     let both = devices_of g.R.Read.remaining g.W.Write.contents g.W.Deliver.waiting in
     let d = both c.args.reader.now c.args.writer.now in
     let d2 = both c.next.new.reader c.print_gap.new.writer in
-    passed c.from_residual.result _ (λ r. ReadsGaps r c.args.interval d d2) c.from_residual.ensures.1
-    (subst (λ (f : FileFault). ReadsGaps (Err f) c.args.interval d d2) (sym write)
+    passed c.from_residual.result _ (λ r. ReadsGaps r c.args.complete.now d d2) c.from_residual.ensures.1
+    (subst (λ (f : FileFault). ReadsGaps (Err f) c.args.complete.now d d2) (sym write)
     (es ++ e ∷ [], c.next.new.self.reading.count, asked, first, part, c.in-Ok-Epoch.ensures.same isnt_err ∙ inv.same))
 
 pub returns-in_err-print_gap-in-Ok-Epoch-clause-left : goal.returns-in_err-print_gap-in-Ok-Epoch-clause-left
@@ -46,9 +47,9 @@ returns-in_err-print_gap-in-Ok-Epoch-clause-left g c = leaves_more _ _ _ c.loop-
 pub returns-in-Ok-End-clause-gaps : goal.returns-in-Ok-End-clause-gaps
 returns-in-Ok-End-clause-gaps g c =
     let inv = c.loop-before.invariant in
-    let (es, read, printed) = inv.read in
+    let (es, read, printed, counts) = inv.read in
     let (found, only) = next_is c.loop-before.file c.next.new.self es _ (g.R.Read.remaining c.next.new.reader.inner) c.in-Ok-End.field-0-is (c.in-Ok-End.ensures.epochs es _ read) in
-    (es, found, only, printed, c.in-Ok-End.ensures.same isnt_err ∙ inv.same)
+    (es, found, only, printed, c.in-Ok-End.ensures.same isnt_err ∙ inv.same, counts)
 
 pub returns-in-Ok-End-clause-left : goal.returns-in-Ok-End-clause-left
 returns-in-Ok-End-clause-left g c = leaves_more _ _ _ c.loop-before.invariant.left c.in-Ok-End.ensures.left
@@ -56,7 +57,7 @@ returns-in-Ok-End-clause-left g c = leaves_more _ _ _ c.loop-before.invariant.le
 pub returns-in-Err-clause-gaps : goal.returns-in-Err-clause-gaps
 returns-in-Err-clause-gaps g c =
     let inv = c.loop-before.invariant in
-    let (es, read, printed) = inv.read in
+    let (es, read, printed, counts) = inv.read in
     let (why, none, decided) = c.in-Err.ensures.epochs es _ read in
     let failures = read_failures c.in-Err.fault c.loop-before.reader.failures _ (λ e. c.in-Err.ensures.failed (ap Err e)) (λ isnt. c.in-Err.ensures.same (λ e. isnt cc)) in
     (es, why, none, decided, printed, subst (λ (n : ℕ). ReaderFailures (culprit (File c.in-Err.fault)) n c.next.new.reader.failures) inv.same failures)

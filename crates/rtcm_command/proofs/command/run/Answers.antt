@@ -1,6 +1,6 @@
 use Rattle.rtcm_command.proofs.CommandLemmas.{ends_so, file_found, inspection_found, is_check, option_refused, sub_found}
-use Rattle.rtcm_command.proofs.OptionLemmas.{bad_interval}
-use Rattle.rtcm_command.proofs.Names.{◌∙◌, Bool, inl, inr, refl, subst, sym, devices_of, options_of, writer_of}
+use Rattle.rtcm_command.proofs.OptionLemmas.{no_device, refused_complete}
+use Rattle.rtcm_command.proofs.Names.{◌∙◌, Bool, inl, inr, refl, subst, sym, EndsInspection, devices_of, options_of, writer_of}
 use Rattle.rtcm_scan.specs.Scan.{most_bytes}
 use Rattle.rinex_inspect.specs.Checking.{EndsCheck}
 use Rattle.rtcm_inspect.specs.Listing.{EndsListing}
@@ -56,16 +56,16 @@ returns-in-convert g c =
       ends_so c.convert.result d d2 (λ x h. inl (c.in-convert.is, h)) (λ f h. (inl (c.in-convert.is, h.0), h.1)) c.convert.ensures,
     )
 
-pub returns-in_ok-interval-in_default-name : goal.returns-in_ok-interval-in_default-name
-returns-in_ok-interval-in_default-name g c =
+pub returns-in_ok-complete-in_default-name : goal.returns-in_ok-complete-in_default-name
+returns-in_ok-complete-in_default-name g c =
     let at = devices_of g.R.Read.remaining g.W.Write.contents g.W.Deliver.waiting in
     let d = at c.args.reader.now c.args.writer.now in
     let d2 = at c.run_check_with.new.reader c.run_check_with.new.writer in
     let found = sub_found _ c.in-Some.ensures.name c.in-Some.ensures.rows in
     let n = is_check c.args.matches.now c.requires found c.in_default-name.not-frames c.in_default-name.not-show c.in_default-name.not-signals c.in_default-name.not-options c.in_default-name.not-convert in
-    let h = subst (λ (b : Bool). EndsCheck (record { interval = c.in_ok-interval-in_default-name.interval; times = b }) c.run_check_with.result d d2) c.has_flag-times.ensures c.run_check_with.ensures.ends in
+    let h = subst (λ (b : Bool). EndsCheck (record { complete = c.in_ok-complete-in_default-name.complete; times = b }) c.run_check_with.result d d2) c.has_flag-times.ensures c.run_check_with.ensures.ends in
     file_found d d2 (writer_of g.E.Write.contents g.E.Deliver.waiting c.args.faults.now) c.run_check_with.result c.of_file.ensures found
-    (n, (c.in_ok-interval-in_default-name.interval, sym c.in_ok-interval-in_default-name.ensures.value, h))
+    (n, (c.in_ok-complete-in_default-name.complete, c.in_ok-complete-in_default-name.ensures.set, h))
 
 pub returns-in_err-near-in-options : goal.returns-in_err-near-in-options
 returns-in_err-near-in-options g c =
@@ -73,10 +73,10 @@ returns-in_err-near-in-options g c =
     let refused = c.in_err-near-in-options.ensures in
     option_refused d (writer_of g.E.Write.contents g.E.Deliver.waiting c.args.faults.now) c.from_residual.result c.from_residual.ensures.1 (sub_found _ c.in-Some.ensures.name c.in-Some.ensures.rows) refused.0 (refl, refl) (inr (inr (inr (inl (c.in-options.is, refused, (refl, refl))))))
 
-pub returns-in_err-interval-in_default-name : goal.returns-in_err-interval-in_default-name
-returns-in_err-interval-in_default-name g c =
+pub returns-in_err-complete-in_default-name : goal.returns-in_err-complete-in_default-name
+returns-in_err-complete-in_default-name g c =
     let found = sub_found _ c.in-Some.ensures.name c.in-Some.ensures.rows in
     let n = is_check c.args.matches.now c.requires found c.in_default-name.not-frames c.in_default-name.not-show c.in_default-name.not-signals c.in_default-name.not-options c.in_default-name.not-convert in
     let d = devices_of g.R.Read.remaining g.W.Write.contents g.W.Deliver.waiting c.args.reader.now c.args.writer.now in
-    let set = sym c.in_err-interval-in_default-name.ensures.value in
-    option_refused d (writer_of g.E.Write.contents g.E.Deliver.waiting c.args.faults.now) c.from_residual-in_err-interval-in_default-name.result c.from_residual-in_err-interval-in_default-name.ensures.1 found (bad_interval _ _ set) (refl, refl) (inr (inr (inr (inr (n, set, (refl, refl))))))
+    let set = c.in_err-complete-in_default-name.ensures.set in
+    option_refused d (writer_of g.E.Write.contents g.E.Deliver.waiting c.args.faults.now) c.from_residual-in_err-complete-in_default-name.result c.from_residual-in_err-complete-in_default-name.ensures.1 found refl (no_device d (refused_complete _ _ set)) (inr (inr (inr (inr (n, set, (refl, refl))))))

@@ -1,3 +1,4 @@
+use Rattle.rtcm_inspect.specs.declared.fault.InspectFault.TheVariants.{Write}
 use Rattle.rtcm_inspect.proofs.CountingLemmas.{stream_printed}
 use Rattle.devices.proofs.PrintingLaws.{printed_later}
 use Rattle.rtcm_inspect.proofs.Names.{sym, subst, Option, ℕ, frames_of, AreOptionsOf, AreOptionsRefused, AreSignals, devices_of, writer_of}
@@ -11,4 +12,4 @@ returns g c =
     let at = devices_of g.R.Read.remaining g.W.Write.contents g.W.Deliver.waiting in
     let w = writer_of g.W.Write.contents g.W.Deliver.waiting in
     stream_printed (AreOptionsOf c.args.near c.args.station) (AreOptionsRefused c.args.station) (at c.args.reader.now c.args.writer.now) (at c.read_signals.new.reader c.print_text.new.writer) c.print_text.result s are c.in_ok-signals.ensures.reader
-    (printed_later c.print_text.result (w c.deliver_waiting.new.writer) (w c.print_text.new.writer) c.in_ok-deliver_waiting.ensures c.as_slice.ensures.value c.print_text.ensures)
+    (printed_later Write c.print_text.result (w c.deliver_waiting.new.writer) (w c.print_text.new.writer) c.in_ok-deliver_waiting.ensures c.as_slice.ensures.value c.print_text.ensures)

@@ -1,0 +1,127 @@
+//! The indexes of epochs at an interval, and the gaps between them.
+ghost use Rattle.std.specs.Prelude.{◌≡◌, ◌<◌, ◌≤◌, ◌*◌, option_to_list};
+ghost use Rattle.gnss_obs.specs.Weeks.{week, weeks};
+ghost use Rattle.rinex_inspect.specs.CheckOutput.{size_of};
+ghost use Rattle.rinex_inspect.specs.Gaps.{capped, ends_in, origin_in, placed, window_size};
+ghost use Rattle.rinex_inspect.specs.inner.Missing.{last_with};
+
+use gnss_obs::GpsTime;
+use rinex_file::EpochTimes;
+
+/// What makes a file complete: an epoch at each interval from its first epoch to its last one, or
+/// in each interval of a window.
+#[derive(Clone, Copy)]
+pub struct Completeness {
+    /// The interval of the epochs in milliseconds.
+    pub interval: u64,
+    /// The window, if there is one. It has a whole number of intervals.
+    pub window: Option<Window>,
+}
+
+/// The times from which on and before which a file has epochs.
+#[derive(Clone, Copy)]
+pub struct Window {
+    /// The begin of the first interval.
+    pub from: GpsTime,
+    /// The end of the last interval.
+    pub until: GpsTime,
+}
+
+/// A time, and its place in a file: the index of its epoch plus one. The begin of a window has the
+/// place 0, and its end that after the last index.
+#[derive(Clone, Copy)]
+pub(crate) struct Placed {
+    pub(crate) place: u64,
+    pub(crate) time: GpsTime,
+}
+
+impl Window {
+    /// Returns the number of intervals of this length.
+    fn size(&self, interval: u64) -> u64
+        requires { 0 < interval }
+        ensures value { result ≡ window_size interval self.now }
+        ensures bound { result < weeks * week }
+    {
+        let from = self.from.milliseconds();
+        self.until.milliseconds().saturating_sub(from) / interval
+    }
+}
+
+impl Completeness {
+    /// Returns the time from which on indexes are counted in a file that begins at this time.
+    pub(crate) fn origin(&self, first: GpsTime) -> GpsTime
+        ensures { result ≡ origin_in self.now.window first }
+    {
+        match self.window {
+            Some(window) => window.from,
+            None => first,
+        }
+    }
+
+    /// Returns the place of an epoch at this time.
+    pub(crate) fn placed(&self, origin: GpsTime, time: GpsTime) -> Placed
+        requires { 0 < self.now.interval }
+        ensures { result ≡ placed self.now origin time }
+    {
+        let early = (self.interval / 2).min(500);
+        let since = (time.milliseconds() + early).saturating_sub(origin.milliseconds());
+        let index = self.capped(since / self.interval);
+        Placed {
+            place: index.saturating_add(1),
+            time,
+        }
+    }
+
+    /// Returns the index of an epoch that is this number of intervals after the origin.
+    fn capped(&self, intervals: u64) -> u64
+        requires { 0 < self.now.interval }
+        ensures value { result ≡ capped self.now.window self.now intervals }
+        ensures bound { result ≤ intervals }
+    {
+        match &self.window {
+            Some(window) => intervals.min(window.size(self.interval).saturating_sub(1)),
+            None => intervals,
+        }
+    }
+
+    /// Returns the end of the window, if there is one.
+    pub(crate) fn end(&self) -> Option<Placed>
+        requires { 0 < self.now.interval }
+        ensures { option_to_list result ≡ ends_in self.now.window self.now.interval }
+    {
+        let window = self.window?;
+        Some(Placed {
+            place: window.size(self.interval) + 1,
+            time: window.until,
+        })
+    }
+
+    /// Returns the number of epochs of a complete file with these times.
+    pub(crate) fn size(&self, times: &EpochTimes) -> u64
+        requires { 0 < self.now.interval }
+        ensures { result ≡ size_of self.now times.now }
+    {
+        match &self.window {
+            Some(window) => window.size(self.interval),
+            None => self.placed(times.first, times.last).place,
+        }
+    }
+}
+
+/// Returns the place of the last epoch with these times, or the begin of the file at its origin.
+pub(crate) fn last_placed(
+    complete: &Completeness,
+    origin: GpsTime,
+    times: &Option<EpochTimes>,
+) -> Placed
+    requires { 0 < complete.now.interval }
+    ensures { result ≡ last_with complete.now origin times.now }
+{
+    match times {
+        Some(times) => complete.placed(origin, times.last),
+        None => Placed {
+            place: 0,
+            time: origin,
+        },
+    }
+}
