@@ -26,13 +26,13 @@ pub use Rattle.gnss_system.specs.declared.system.System.{System}
 pub use Rattle.gnss_system.specs.declared.system.System.TheVariants.{Gps}
 pub use Rattle.memchr.specs.Find.{IsFirstByte, is_byte}
 pub use Rattle.rtcm_bits.specs.Prefix.{IsPrefix}
-pub use Rattle.rinex_file.specs.Accepted.{AreBegunWith, AreEpochsRead, AreFirstEpochs}
-pub use Rattle.rinex_file.specs.Begun.{AreBegun, IsHeaderBegun, IsEventBegun, part_lines, whole_lines}
+pub use Rattle.rinex_file.specs.Accepted.{AreBegunWith, AreEpochsRead, AreFirstEpochs, HasPlan, IsEpochLine, IsFaultAfter}
+pub use Rattle.rinex_file.specs.Begun.{AreBegun, IsEpochBegun, IsHeaderBegun, IsEventBegun, part_lines, whole_lines}
 unfoldable pub use Rattle.rinex_file.specs.Blanks.{trimmed}
 pub use Rattle.rinex_file.specs.Blanks.{IsEnded, before_cut, filled_to}
 pub use Rattle.rinex_file.specs.Blocks.{AreMoved, LeavesRest, LinesRead, MovesBytes, last_line}
 pub use Rattle.rinex_file.specs.Counting.{IsSummary, IsTextWith}
-pub use Rattle.rinex_file.specs.Exact.{AreBefore, ExplainsFault, ExplainsStored, HasHeader, IsAtTypes, IsCutShort, IsExpectedAt, IsFaulty, IsFound, IsLine, IsNoFault, IsReadOr, IsTextOf, IsTooLong, NoFileBegins, most_lines}
+pub use Rattle.rinex_file.specs.Exact.{IfTextOfFile, AreBefore, ExplainsFault, ExplainsStored, HasHeader, IsAtTypes, IsCutShort, IsExpectedAt, IsFaulty, IsFound, IsLine, IsNoFault, IsReadOr, IsTextOf, IsTooLong, NoFileBegins, most_lines}
 unfoldable pub use Rattle.rinex_file.specs.File.{epoch_text, event_line, event_text, line_among, shown_text, lines_up_to}
 pub use Rattle.rinex_file.specs.File.{shown_of, change_lines, change_text, header_text, closed_text, event_lines, file_lines, file_text, gathered, line_or_none, lines_of_parts, stamped_lines}
 pub use Rattle.rinex_file.specs.File.{lines_of_systems}
@@ -46,9 +46,9 @@ pub use Rattle.rinex_columns.specs.Limits.{most_line}
 unfoldable pub use Rattle.rinex_file.specs.Lines.{epoch_line, field, satellite_line, signal_text}
 pub use Rattle.rinex_file.specs.Lines.{epoch_fields, lli_byte, row_text, strength_byte}
 pub use Rattle.rinex_columns.specs.Numbers.{fixed, joined, left, padded, right}
-pub use Rattle.rinex_file.specs.inner.ParserState.{FollowsHistory, MayRunOut, GoesOnWithLine, IsLast, IsNext, RefusesLine, ShowsLine, TakesLine, progress_at, stamped_at, with_line}
+pub use Rattle.rinex_file.specs.inner.ParserState.{FollowsHistory, MayRunOut, ExpectsHeader, ExpectsRow, Adds, GoesOnWithLine, IsLast, IsNext, RefusesLine, ShowsLine, TakesLine, progress_at, stamped_at, with_line}
 pub use Rattle.rinex_file.specs.Counting.{History, changes_of, events_in, nothing, rows_in}
-pub use Rattle.rinex_file.specs.inner.Read.EpochSteps.{HasReadTo, IsSummaryOf}
+pub use Rattle.rinex_file.specs.inner.Read.EpochSteps.{AddsOrEnds, HasReadPart, HasReadTo, IsStart, IsSummaryOf, IsSummaryRead, ReadsNextEpoch, ReadsNextRow, BeginsNextEpoch, EndsEpoch, StopsReading, plan_in, with_read}
 pub use Rattle.rinex_columns.specs.Read.{ReadsExactly, digits_in, has, number_in, some_if}
 pub use Rattle.rinex_file.specs.inner.Read.HeaderSteps.{AreItemsBefore, EndsHeader, IsLineOfSlots, TakesOrRefusesSlots, TakesSlots, with_slots, GoesOn, GoesTo, HasSignalAt, IsHeaderLineRead, IsOnly, NoneGoesOn, ReadsOrRefuses, ReadsOrRefusesTexts, ReadsTexts, RefusesHeaderLine, RefusesTexts, RefusesTypes, SameFrom, StepsTo, Takes, TakesHeaderLine, TakesTypes, begins_with, row_label, with_interval, expected_if, if_fine, known_line, texts_in, with_first, with_letter, with_texts, with_types, with_values}
 unfoldable pub use Rattle.rinex_file.specs.inner.Read.Keeping.{stamped_text}

@@ -1,9 +1,10 @@
 -- The epochs in the first lines of an input.
-use Rattle.std.specs.Prelude.{◌≡◌, ◌⊎◌, ℕ, ◌+◌, false, List, [], ◌++◌, length, All, Option, ⊤}
+use Rattle.std.specs.Prelude.{◌≡◌, ◌⊎◌, ℕ, ◌+◌, false, List, [], ◌∷◌, ◌++◌, length, All, Option, ⊤}
 use Rattle.std.specs.Io.KnownBytes.{Consumes}
 use Rattle.rtcm_bits.specs.Prefix.{IsPrefix}
 use Rattle.rinex_file.specs.Begun.{IsHeaderBegun, IsBetweenEpochs, IsEventBegun, IsEpochBegun}
-use Rattle.rinex_file.specs.Exact.{AreFirstLines, IsLine, most_lines}
+use Rattle.gnss_obs.specs.Values.{PlanValue}
+use Rattle.rinex_file.specs.Exact.{AreFirstLines, HasHeader, IsLine, most_lines}
 use Rattle.rinex_file.specs.File.{file_text}
 use Rattle.rinex_file.specs.FileValues.{IsFileValue}
 use Rattle.rinex_columns.specs.Numbers.{joined}
@@ -28,6 +29,21 @@ pub record AreFirstEpochs (es : List Stamped) (n : ℕ) (input : List ℕ) : Typ
   pub count : length lines ≡ n
   pub begun : AreBegunWith es lines
   pub only : (v : FileValue) → IsFileValue v → input ≡ file_text v → IsPrefix es v.epochs
+
+-- line n of the input is that of an epoch at this time, after an event or none, these epochs and a header; and each file
+-- value with this text begins with these epochs and one at this time
+pub record IsEpochLine (es : List Stamped) (time n : ℕ) (input : List ℕ) : Type 0 where
+  pub lines : List (List ℕ)
+  pub rest : List ℕ
+  pub first : AreFirstLines input lines rest
+  pub count : length lines ≡ n
+  pub begun : (b : IsEpochBegun lines) × (b.es ≡ es) × (b.e.time ≡ time) × (b.e.rows ≡ [])
+  pub only : (v : FileValue) → IsFileValue v → input ≡ file_text v
+      → (e : Stamped) × (e.time ≡ time) × IsPrefix (es ++ e ∷ []) v.epochs
+
+-- the input begins with a header with this plan
+abbrev pub HasPlan : PlanValue → List ℕ → Type 0
+HasPlan plan input = (b : HasHeader input) × (b.h.plan ≡ plan)
 
 -- bytes were read of the input, of which these are the whole epochs, and this is left
 pub record AreEpochsRead (es : List Stamped) (input left : Option (List ℕ)) : Type 0 where

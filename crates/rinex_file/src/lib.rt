@@ -4,14 +4,27 @@
 //! [`header_lines`], [`epoch_line`] and [`satellite_line`] format lines; [`write_header`],
 //! [`write_event`] and [`write_epoch`] write them. None of these allocates memory. [`read_file`]
 //! reads a file back, [`check_file`] only counts its contents, [`check_file_times`] also returns
-//! the times of its epochs, an [`EpochReader`] returns epoch by epoch, and [`file_bytes`] returns
-//! the text of a file that was read.
+//! the times of its epochs, an [`EpochReader`] returns epoch by epoch and row by row, and
+//! [`file_bytes`] returns the text of a file that was read.
 //!
 //! ```
 //! /// The numbers of epochs, satellite lines and events of an observation file.
 //! fn counts_of(alloc: Global, file: &[u8]) -> Result<Counts, ReadFault> {
 //!     let mut reader = Counted::new(file);
 //!     check_file(alloc, &mut reader)
+//! }
+//!
+//! /// The number of the satellite in the first row of an observation file.
+//! fn first_satellite(alloc: Global, file: &[u8]) -> Result<Option<u8>, ReadFault> {
+//!     let mut reader = Counted::new(file);
+//!     let mut epochs = EpochReader::new(alloc);
+//!     match epochs.begin(&mut reader)? {
+//!         NextEpoch::Epoch { .. } => {
+//!             let is_read = epochs.next_row(&mut reader)?;
+//!             Ok(is_read.then_some(epochs.row().satellite))
+//!         }
+//!         NextEpoch::End(_) => Ok(None),
+//!     }
 //! }
 //! ```
 #![tactic(auto)]
@@ -30,7 +43,7 @@ pub use read::epochs::{EpochReader, NextEpoch};
 pub use read::fault::ReadFault;
 pub use read::file::{Counts, FileSummary, check_file, check_file_times, read_file};
 pub use read::times::EpochTimes;
-pub use values::ObsFile;
+pub use values::{ObsFile, SatelliteRow, SignalValues};
 pub use write::file::file_bytes;
 pub use write::line::epoch_line;
 pub use write::satellite::satellite_line;

@@ -14,12 +14,18 @@ use std::marker::Model;
 /// The values of a signal in a line: pseudorange (m), phase (cycles), Doppler (Hz) and strength
 /// (dB-Hz), and the loss-of-lock indicator of the phase. All are absent if nothing was observed.
 #[derive(Clone, Copy, Default)]
-pub(crate) struct SignalValues {
-    pub(crate) c: Option<Thousandths>,
-    pub(crate) l: Option<Thousandths>,
-    pub(crate) d: Option<Thousandths>,
-    pub(crate) s: Option<Thousandths>,
-    pub(crate) lli: u8,
+pub struct SignalValues {
+    /// The pseudorange in metres.
+    pub c: Option<Thousandths>,
+    /// The carrier phase in cycles.
+    pub l: Option<Thousandths>,
+    /// The Doppler shift in hertz.
+    pub d: Option<Thousandths>,
+    /// The strength in dB-Hz, 0.001 to 99.999.
+    pub s: Option<Thousandths>,
+    /// The loss-of-lock indicator of the phase, 0 to 3: bit 0 if lock was lost, bit 1 if the phase
+    /// may be off by half a cycle.
+    pub lli: u8,
 }
 
 impl Model for SignalValues {
@@ -44,10 +50,13 @@ impl SignalValues {
 /// The row of a satellite: its system, its number, and the values of each planned signal in the
 /// plan's order. It has a fixed size, so that reading a line into it doesn't allocate.
 #[derive(Drop)]
-pub(crate) struct SatelliteRow {
-    pub(crate) system: System,
-    pub(crate) satellite: u8,
-    pub(crate) signal_values: ArrayVec<SignalValues, MOST_SIGNALS>,
+pub struct SatelliteRow {
+    /// Its system.
+    pub system: System,
+    /// Its number, counted from 1, without the offset of the number in a file.
+    pub satellite: u8,
+    /// The values of each planned signal of its system, in the order of the file.
+    pub signal_values: ArrayVec<SignalValues, MOST_SIGNALS>,
 }
 
 impl Model for SatelliteRow {

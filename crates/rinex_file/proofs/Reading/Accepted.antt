@@ -1,10 +1,12 @@
 -- The epochs in the lines that were accepted.
 use Rattle.rinex_file.proofs.Writing.Sent.{joined-append}
 use Rattle.rinex_file.specs.declared.read.fault.ReadFault.TheVariants.{Memory}
-use Rattle.rinex_file.proofs.FileLines.{lines_are_lines}
-use Rattle.rinex_file.proofs.Reading.Header.{text_header, begin_whole, begun_with}
-use Rattle.rinex_file.proofs.Reading.Lines.{said_of, consumed, none_ahead, splits}
-use Rattle.rinex_file.proofs.Names.{append_assoc, inr, ◌∙◌, header_lines, Memory, ExplainsStored, HasHeader, IsWhole, shown_text, ◌≡◌, sym, ap, refl, subst, ℕ, List, [], ◌∷◌, ◌++◌, Option, IfSome, AddedRow, NoRow, OneRow, LastRow, Expected, Header, Epoch, EventPosition, EventHeight, EventEpoch, Satellite, ParserState, Reading, Progress, History, HasRead, HasReadTo, stamped_at, IsSoundAt, IsAt, IsSound, HasLinesLeft, progress_at, with_line, SatelliteRow, Stamped, FileValue, stamped, joined, file_lines, AreEpochsRead, AreFirstEpochs, Consumes, Consumes-trans, IsPrefix, false, has, prepend_known}
+use Rattle.rinex_file.proofs.FileLines.{lines_are_lines, lines_are_short}
+use Rattle.rinex_file.proofs.Reading.Header.{text_header, begin_whole, begun_with, row_expected}
+use Rattle.rinex_file.proofs.Reading.Epochs.{sound_open}
+use Rattle.rinex_file.specs.inner.Read.EpochSteps.{HasReadPartAt}
+use Rattle.rinex_file.proofs.Reading.Lines.{both_said, only_faults, said_of, consumed, none_ahead, splits}
+use Rattle.rinex_file.proofs.Names.{append_assoc, inr, is_some, true, ◌+◌, ReadsNextLine, Ok, None, Some, AddsOrEnds, ReadFault, ExpectsHeader, ExpectsRow, Adds, HasReadPart, ExplainsFault, IsFaultAfter, StopsReading, HasPlan, IsEpochLine, Known, StationValues, System, IsSatelliteRow, IsStamped, AreRead, All, All-head, All-tail, plan_in, planned_in, with_read, Read, ◌∙◌, header_lines, Memory, ExplainsStored, HasHeader, IsWhole, shown_text, ◌≡◌, sym, ap, refl, subst, ℕ, List, [], ◌∷◌, ◌++◌, Option, IfSome, AddedRow, NoRow, OneRow, LastRow, Expected, Header, Epoch, EventPosition, EventHeight, EventEpoch, Satellite, ParserState, Reading, Progress, History, HasRead, HasReadTo, stamped_at, IsSoundAt, IsAt, IsSound, HasLinesLeft, progress_at, with_line, SatelliteRow, Stamped, FileValue, stamped, joined, file_lines, AreEpochsRead, AreFirstEpochs, Consumes, Consumes-trans, IsPrefix, false, has, prepend_known}
 
 -- a file that continues after what was read begins with the epochs that were read
 at_left : (s : Progress) (expected : Expected) (v : FileValue) (left : List (List ℕ)) → IsSoundAt s expected → IsAt s expected v left → IsPrefix s.epochs v.epochs
@@ -51,40 +53,161 @@ epochs_read {r} {h} {input} {before} left {ahead} line read next none endless =
       begun = begun_with s s.expected t.lines read.history.sound t.history.are;
     }
 
--- a line that adds no epoch
-pub same_epochs : {r : Reading} (c : ParserState) {es : List Stamped} (rows : List SatelliteRow) {input left : Option (List ℕ)} (added : AddedRow) → (added ≡ LastRow → ⊥)
-    → HasRead r (with_line added c (record { epochs = es; rows = rows })) input left → (rows : List SatelliteRow) × HasRead r (record { epochs = es; rows = rows }) input left
-same_epochs c rows NoRow other read = (rows, read)
-same_epochs c rows OneRow other read = (rows ++ c.last_read ∷ [], read)
-same_epochs c rows LastRow other read = absurd (other refl)
+-- ---- the lines of epochs
 
--- a line that adds an epoch
-pub one_epoch : {r : Reading} (es : List Stamped) (rows : List SatelliteRow) {input left : Option (List ℕ)} {added : AddedRow} → added ≡ LastRow
-    → HasRead r (with_line added r.parser_state (record { epochs = es; rows = rows })) input left
-    → (e : Stamped) × (e.time ≡ r.parser_state.time) × HasReadTo r (es ++ e ∷ []) input left × IfSome input (AreFirstEpochs (es ++ e ∷ []) r.count)
-one_epoch {r} es rows {input} {left} is read =
-    let c = r.parser_state in
-    let whole : HasRead r (with_line LastRow c (record { epochs = es; rows = rows })) input left = subst (λ (a : AddedRow). HasRead r (with_line a c (record { epochs = es; rows = rows })) input left) is read in
-    (stamped_at c.change c.time (rows ++ c.last_read ∷ []), refl, whole, first_epochs whole)
+pub header_expected : (expected : Expected) → ExpectsHeader expected → ExpectsRow expected → ⊥
+header_expected (Header place) header inside = inside
+header_expected other header inside = header
 
--- the input begins with a header if a satellite was read
-pub whole_header : {r : Reading} {h : History} {input left : Option (List ℕ)} → HasRead r h input left → (h.epochs ≡ [] → h.rows ≡ [] → ⊥) → IfSome input HasHeader
-unfolding shown_text
-whole_header {r} {h} {input} read some =
-    let s = progress_at r.parser_state h in
-    let t = read.taken in
-    let (others, is, are) = begin_whole s s.expected t.lines read.history.sound t.history.are some in
-    let front = header_lines s.known.shown in
-    consumed input _ (joined t.lines) HasHeader t.taken (λ rest. record {
-      h = s.known.shown;
-      rest = joined others ++ rest;
-      is = is;
-      begins = ap (λ (l : List ℕ). l ++ rest) (ap joined are ∙ joined-append front others) ∙ append_assoc (joined front) (joined others) rest;
-    })
+pub adds_some : (old new : Reading) {o : Option AddedRow} {added : AddedRow} → o ≡ Some added → AddsOrEnds old new (Ok o) → Adds added old.parser_state new.parser_state
+adds_some old new e adds = subst (λ (x : Option AddedRow). AddsOrEnds old new (Ok x)) e adds
+
+pub adds_none : (old new : Reading) {o : Option AddedRow} → o ≡ None → AddsOrEnds old new (Ok o) → (old.parser_state.expected ≡ Epoch) × (new.parser_state ≡ old.parser_state)
+adds_none old new e adds = subst (λ (x : Option AddedRow). AddsOrEnds old new (Ok x)) e adds
+
+-- a line that isn't that of a satellite adds nothing
+pub none_added : (old new : ParserState) (h : History) (added : AddedRow) → Adds added old new → (ExpectsRow old.expected → ⊥)
+    → (with_line added new h ≡ h) × ((ExpectsHeader old.expected → ⊥) → new.head ≡ old.head)
+none_added old new h NoRow adds outside = (refl, adds.1)
+none_added old new h other adds outside = absurd (outside adds.0)
+
+-- a satellite of an epoch is expected
+pub open_part : {r : Reading} {es : List Stamped} {e : Stamped} {input left : Option (List ℕ)} (expected : Expected) → ExpectsRow expected → HasReadPartAt expected r es e input left
+    → HasRead r (record { epochs = es; rows = e.rows }) input left × (r.parser_state.change ≡ e.change) × (r.parser_state.time ≡ e.time)
+open_part (Satellite n) inside part = part
+open_part other inside part = absurd inside
+
+pub is_part : {r : Reading} {es : List Stamped} {e : Stamped} {input left : Option (List ℕ)} (expected : Expected) → ExpectsRow expected → HasRead r (record { epochs = es; rows = e.rows }) input left
+    → r.parser_state.change ≡ e.change → r.parser_state.time ≡ e.time → HasReadPartAt expected r es e input left
+is_part (Satellite n) inside read change time = (read, change, time)
+is_part other inside read change time = absurd inside
+
+-- none is expected
+pub whole_part : {r : Reading} (es : List Stamped) (e : Stamped) {input left : Option (List ℕ)} (expected : Expected) → (ExpectsRow expected → ⊥) → HasReadPartAt expected r es e input left
+    → HasReadTo r (es ++ e ∷ []) input left
+whole_part es e (Satellite n) outside part = absurd (outside tt)
+whole_part es e other outside part = part
+
+is_whole : (r : Reading) (es : List Stamped) (e : Stamped) {input left : Option (List ℕ)} (expected : Expected) → expected ≡ Epoch → HasReadTo r (es ++ e ∷ []) input left → HasReadPartAt expected r es e input left
+is_whole r es e {input} {left} expected is read = subst (λ (d : Expected). HasReadPartAt d r es e input left) (sym is) read
+
+-- a line adds a satellite to the epoch
+pub row_added : (old new : Reading) (es : List Stamped) (e : Stamped) {input left : Option (List ℕ)} (added : AddedRow) → Adds added old.parser_state new.parser_state → ExpectsRow old.parser_state.expected
+    → old.parser_state.change ≡ e.change → old.parser_state.time ≡ e.time → HasRead new (with_line added new.parser_state (record { epochs = es; rows = e.rows })) input left
+    → HasReadPart new es (with_read e new.parser_state.last_read) input left × (plan_in new ≡ plan_in old)
+row_added old new es e NoRow adds inside change time read = absurd (adds.0 inside)
+row_added old new es e OneRow adds inside change time read =
+    let (head, same, at) = adds.2 in
+    (is_part new.parser_state.expected adds.1 read (same ∙ change) (at ∙ time), ap (λ (k : Known). k.shown.plan) head)
+row_added old new es e {input} {left} LastRow adds inside change time read =
+    let (head, same, at) = adds.2 in
+    let c = new.parser_state in
+    let whole = stamped_at_as (e.rows ++ c.last_read ∷ []) (same ∙ change) (at ∙ time) in
+    (is_whole new es (with_read e c.last_read) c.expected adds.1 (subst (λ (x : Stamped). HasRead new (record { epochs = es ++ x ∷ []; rows = [] }) input left) whole read, λ row. subst ExpectsRow adds.1 row), ap (λ (k : Known). k.shown.plan) head) where
+      stamped_at_as : {a b : Option StationValues} {s t : ℕ} (rows : List SatelliteRow) → a ≡ b → s ≡ t → stamped_at a s rows ≡ stamped_at b t rows
+      stamped_at_as rows change time = cc
 
 not_pushed : {A : Type 0} (xs : List A) (x : A) → xs ++ x ∷ [] ≡ [] → ⊥
 not_pushed [] x e = cc
 not_pushed (y ∷ ys) x e = cc
+
+are_read : (s : Progress) (expected : Expected) → IsSoundAt s expected → (s.epochs ≡ [] → ⊥) → AreRead s
+are_read s (Header place) sound some = absurd (some sound.0)
+are_read s (EventHeight p) sound some = sound.0.0
+are_read s (EventEpoch w) sound some = sound.0.0
+are_read s other sound some = sound.0
+
+-- the line of a satellite is read
+pub row_read : (old new : Reading) (es : List Stamped) (e : Stamped) (input before left : Option (List ℕ)) (o : Option AddedRow) → ExpectsRow old.parser_state.expected → HasReadPart old es e input before
+    → ReadsNextLine old new (record { epochs = es; rows = e.rows }) input left (Ok o) → AddsOrEnds old new (Ok o)
+    → HasReadPart new es (with_read e new.parser_state.last_read) input left × (plan_in new ≡ plan_in old) × (new.count ≡ old.count + 1) × (is_some o ≡ true)
+row_read old new es e input before left None inside part goes adds = absurd (subst ExpectsRow adds.0 inside)
+row_read old new es e input before left (Some added) inside part goes adds =
+    let (read, change, time) = open_part old.parser_state.expected inside part in
+    let (more, plan) = row_added old new es e added adds inside change time goes.0 in
+    (more, plan, goes.1, refl)
+
+last_of : {A : Type 0} (P : A → Type 0) (xs : List A) (x : A) → All P (xs ++ x ∷ []) → P x
+last_of P [] x all = All-head P x [] all
+last_of P (y ∷ ys) x all = last_of P ys x (All-tail P y (ys ++ x ∷ []) all)
+
+-- it is a satellite of the plan
+pub row_planned : (r : Reading) (es : List Stamped) (e : Stamped) (input left : Option (List ℕ)) → HasReadPart r es (with_read e r.parser_state.last_read) input left
+    → IsSatelliteRow (planned_in (plan_in r)) r.parser_state.last_read
+row_planned r es e input left part = by r.parser_state.expected refl part where
+  signals : System → ℕ
+  signals = planned_in (plan_in r)
+
+  seen : SatelliteRow
+  seen = r.parser_state.last_read
+
+  by : (d : Expected) → r.parser_state.expected ≡ d → HasReadPartAt d r es (with_read e seen) input left → IsSatelliteRow signals seen
+  by (Satellite n) is part =
+      let s = progress_at r.parser_state (record { epochs = es; rows = e.rows ++ seen ∷ [] }) in
+      last_of (IsSatelliteRow signals) e.rows seen (sound_open s n is part.0.history.sound).1.rows.each
+  by other is part =
+      let s = progress_at r.parser_state (record { epochs = es ++ with_read e seen ∷ []; rows = [] }) in
+      let are = are_read s s.expected part.0.history.sound (not_pushed es (with_read e seen)) in
+      last_of (IsSatelliteRow signals) e.rows seen (last_of (IsStamped signals) es (with_read e seen) are.epochs).rows.each
+
+-- a file that continues after it has that epoch
+next_at : (s : Progress) (expected : Expected) (v : FileValue) (left : List (List ℕ)) → ExpectsRow expected → IsAt s expected v left → (e : Stamped) × (e.time ≡ s.time) × IsPrefix (s.epochs ++ e ∷ []) v.epochs
+next_at s (Satellite n) v left inside at =
+    let e = stamped s (s.rows ++ at.more) in
+    (e, refl, (at.others, ap (λ (f : FileValue). f.epochs) at.value ∙ sym (append_assoc s.epochs (e ∷ []) at.others)))
+next_at s other v left inside at = absurd inside
+
+next_left : (s : Progress) (v : FileValue) (left : List (List ℕ)) → ExpectsRow s.expected → HasLinesLeft s v left → (e : Stamped) × (e.time ≡ s.time) × IsPrefix (s.epochs ++ e ∷ []) v.epochs
+unfolding HasLinesLeft
+next_left s v left inside on = next_at s s.expected v left inside on.1
+
+-- the line of an epoch was read
+pub epoch_begun : (r : Reading) (es : List Stamped) {input left : Option (List ℕ)} → ExpectsRow r.parser_state.expected → HasRead r (record { epochs = es; rows = [] }) input left
+    → IfSome input (IsEpochLine es r.parser_state.time r.count)
+epoch_begun r es {input} {left} inside read =
+    let s = progress_at r.parser_state (record { epochs = es; rows = [] }) in
+    let t = read.taken in
+    let sound = read.history.sound in
+    consumed input _ (joined t.lines) (IsEpochLine es r.parser_state.time r.count) t.taken (λ rest. record {
+      lines = t.lines;
+      rest = rest;
+      first = record { are = t.are; first = refl };
+      count = t.many;
+      begun = row_expected s s.expected t.lines sound t.history.are inside;
+      only = λ v is e.
+          let (more, lines, text) = splits (file_lines v) t.lines rest (lines_are_lines v is) t.are (sym e) in
+          next_left s v more inside (t.history.goes v more is lines);
+    })
+
+-- a fault of the next line
+pub stopped : {r : Reading} {h : History} {input before : Option (List ℕ)} (left : Option (List ℕ)) (fault : ReadFault) → HasRead r h input before → IfSome input (λ bytes. ExplainsFault bytes fault)
+    → IsFaultAfter fault r.count → (fault ≡ Memory → h.epochs ≡ []) → (fault ≡ Read → AreEpochsRead h.epochs input left) → StopsReading h.epochs input left fault
+stopped {r} {h} {input} left fault read why number memory failed = (
+  both_said input _ _ _ (λ bytes why first. (why, (r.count, number, first, memory))) why (first_epochs read),
+  λ v is few. only_faults lines_are_lines lines_are_short input fault v why is few,
+  failed,
+)
+
+-- the input begins with a header if a satellite was read, and its plan was read
+pub plan_read : {r : Reading} {h : History} {input left : Option (List ℕ)} → HasRead r h input left → (h.epochs ≡ [] → h.rows ≡ [] → ⊥) → IfSome input (HasPlan (plan_in r))
+unfolding shown_text
+plan_read {r} {h} {input} read some =
+    let s = progress_at r.parser_state h in
+    let t = read.taken in
+    let (others, is, are) = begin_whole s s.expected t.lines read.history.sound t.history.are some in
+    let front = header_lines s.known.shown in
+    consumed input _ (joined t.lines) (HasPlan (plan_in r)) t.taken (λ rest. (
+      record {
+        h = s.known.shown;
+        rest = joined others ++ rest;
+        is = is;
+        begins = ap (λ (l : List ℕ). l ++ rest) (ap joined are ∙ joined-append front others) ∙ append_assoc (joined front) (joined others) rest;
+      },
+      refl,
+    ))
+
+pub whole_header : {r : Reading} {h : History} {input left : Option (List ℕ)} → HasRead r h input left → (h.epochs ≡ [] → h.rows ≡ [] → ⊥) → IfSome input HasHeader
+whole_header {input = input} read some = said_of input _ _ (λ bytes has. has.0) (plan_read read some)
 
 -- a line that adds a satellite
 pub some_read : (added : AddedRow) (c : ParserState) (h : History) → (added ≡ NoRow → ⊥) → (with_line added c h).epochs ≡ [] → (with_line added c h).rows ≡ [] → ⊥

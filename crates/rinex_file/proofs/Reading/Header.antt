@@ -5,7 +5,7 @@ use Rattle.rinex_file.proofs.HeaderRows.Some.{some_shown}
 use Rattle.rinex_file.proofs.HeaderRows.End.{zero_values}
 use Rattle.rinex_file.proofs.Reading.Lines.{consumed}
 use Rattle.rinex_file.proofs.Reading.Epochs.{lines_with, lines_are, sound_open, sound_between, at_expected, file_value}
-use Rattle.rinex_file.proofs.Names.{joined, true, file_text, is_of_types, HasHeader, IsHeaderBegun, shown_text, append_assoc, MayRunOut, common_steps, Has, GoesOn, shown_of, arith, ◌≡◌, ◌∙◌, sym, ap, refl, ℕ, zero, suc, ◌+◌, ◌<◌, pos, List, [], ◌∷◌, ◌++◌, length, Option, IfSome, lit<, subst, take, drop, append-nil, inl, inr, AreBegunWith, None, Some, ⊤, map, flat_map, All-head, All-nil, length-map, nil_from_length, StationValues, ParserState, Expected, Header, Epoch, EventPosition, EventHeight, EventEpoch, Satellite, IsChange, IsFileValue, AreBegun, IsEventBegun, header_lines, whole_lines, AreBefore, IsExpectedAt, Progress, IsPosition, shown_with, lines_after, stamped, Known, Shown, IsShown, IsHeadAt, file_with, StartsAt, IsInHeader, IsAt, IsAtEpoch, IsInEvent, position_of, HasLinesLeft, RefusesLine, IsSound, IsSoundAt, IsEventExpected, AreLinesAt, values_now, AreRead, AreLinesOf, History, FollowsHistory, progress_at, GoesOnWithLine, ShowsLine, IsTaken, SatelliteRow, Stamped, FileValue, satellite_line, event_lines, stamped_lines, file_lines, lines_of_parts, GoesTo, EndsHeader, NoneGoesOn}
+use Rattle.rinex_file.proofs.Names.{joined, ExpectsHeader, ExpectsRow, IsEpochBegun, true, file_text, is_of_types, HasHeader, IsHeaderBegun, shown_text, append_assoc, MayRunOut, common_steps, Has, GoesOn, shown_of, arith, ◌≡◌, ◌∙◌, sym, ap, refl, ℕ, zero, suc, ◌+◌, ◌<◌, pos, List, [], ◌∷◌, ◌++◌, length, Option, IfSome, lit<, subst, take, drop, append-nil, inl, inr, AreBegunWith, None, Some, ⊤, map, flat_map, All-head, All-nil, length-map, nil_from_length, StationValues, ParserState, Expected, Header, Epoch, EventPosition, EventHeight, EventEpoch, Satellite, IsChange, IsFileValue, AreBegun, IsEventBegun, header_lines, whole_lines, AreBefore, IsExpectedAt, Progress, IsPosition, shown_with, lines_after, stamped, Known, Shown, IsShown, IsHeadAt, file_with, StartsAt, IsInHeader, IsAt, IsAtEpoch, IsInEvent, position_of, HasLinesLeft, RefusesLine, IsSound, IsSoundAt, IsEventExpected, AreLinesAt, values_now, AreRead, AreLinesOf, History, FollowsHistory, progress_at, GoesOnWithLine, ShowsLine, IsTaken, SatelliteRow, Stamped, FileValue, satellite_line, event_lines, stamped_lines, file_lines, lines_of_parts, GoesTo, EndsHeader, NoneGoesOn}
 
 some_lines : (xs : List (List ℕ)) → (xs ≡ [] → ⊥) → 0 < length xs
 some_lines xs some = grind (arith, common_steps)
@@ -75,6 +75,18 @@ begun_with s EventPosition lines sound are = inr (inr (inl (are_before s EventPo
 begun_with s (EventHeight p) lines sound are = inr (inr (inr (inl (are_before s (EventHeight p) lines sound are, refl))))
 begun_with s (EventEpoch w) lines sound are = inr (inr (inr (inr (inl (are_before s (EventEpoch w) lines sound are, refl)))))
 begun_with s (Satellite n) lines sound are = inr (inr (inr (inr (inr (are_before s (Satellite n) lines sound are, refl)))))
+
+-- the line of an epoch was read, and lines of its satellites
+pub row_expected : (s : Progress) (expected : Expected) (lines : List (List ℕ)) → IsSoundAt s expected → AreLinesAt s expected lines → ExpectsRow expected
+    → (b : IsEpochBegun lines) × (b.es ≡ s.epochs) × (b.e.time ≡ s.time) × (b.e.rows ≡ s.rows)
+unfolding are_before
+row_expected s (Satellite n) lines sound are inside = (are_before s (Satellite n) lines sound are, refl, refl, refl)
+row_expected s other lines sound are inside = absurd inside
+
+-- the header is whole if an epoch was read
+pub past_header : (s : Progress) (expected : Expected) → IsSoundAt s expected → (s.epochs ≡ [] → ⊥) → ExpectsHeader expected → ⊥
+past_header s (Header place) sound some inside = some sound.0
+past_header s other sound some inside = absurd inside
 
 are_begun : (expected : Expected) (lines : List (List ℕ)) → AreBefore expected lines → AreBegun lines
 are_begun v0 lines h = grind arith

@@ -1,6 +1,6 @@
 -- The counts of a file that was read whole, and the times of its epochs.
 use Rattle.rinex_file.proofs.Reading.Lines.{said_of}
-use Rattle.rinex_file.proofs.Names.{common_steps, arith, ◌≡◌, sym, ap, subst, ℕ, ◌+◌, ◌<◌, List, [], length, Option, Some, IfSome, map, is_some, true, ParserState, EpochTimes, FileSummary, SatelliteRow, Stamped, FileValue, IsFileValue, time_stamped, file_text, History, AreTimesOrNone, IsSummary, IsTextWith, IsWhole, file_at}
+use Rattle.rinex_file.proofs.Names.{refl, Reading, IfTextOfFile, IsSummaryOf, IsSummaryRead, common_steps, arith, ◌≡◌, sym, ap, subst, ℕ, ◌+◌, ◌<◌, List, [], length, Option, Some, IfSome, map, is_some, true, ParserState, EpochTimes, FileSummary, SatelliteRow, Stamped, FileValue, IsFileValue, time_stamped, file_text, History, AreTimesOrNone, IsSummary, IsTextWith, IsWhole, file_at}
 
 no_rows_more : (n m : ℕ) (rows : List SatelliteRow) → n ≡ m + length rows → rows ≡ [] → n ≡ m
 no_rows_more n m rows e none = let zero : length rows ≡ 0 = ap length none in omega (arith, e, zero)
@@ -21,3 +21,16 @@ module _ {c : ParserState} {h : History} {input : Option (List ℕ)} (whole : Is
 
   pub only_with : (v : FileValue) → IsFileValue v → IfSome input (λ bytes. bytes ≡ file_text v → Holds v)
   only_with v is = said_of input _ _ (λ bytes text same. subst Holds (sym (text.only v is same)) holds) whole.text
+
+-- the file of the epochs that were read, and its plan
+pub ended : (r : Reading) (es : List Stamped) (s : FileSummary) {input : Option (List ℕ)} → (whole : IsWhole r.parser_state (record { epochs = es; rows = [] }) input)
+    → IsSummary s (file_at r.parser_state (record { epochs = es; rows = [] })) → IsTextWith (IsSummaryRead r es s) input × IfTextOfFile input (IsSummaryRead r es s)
+ended r es s whole is = (text_with whole (IsSummaryRead r es s) ((is, refl), refl), λ v value few. only_with whole (IsSummaryRead r es s) ((is, refl), refl) v value)
+
+-- the same without the plan
+pub without_plan : (r : Reading) (es : List Stamped) (s : FileSummary) (input : Option (List ℕ)) → IsTextWith (IsSummaryRead r es s) input → IfTextOfFile input (IsSummaryRead r es s)
+    → IsTextWith (IsSummaryOf es s) input × IfTextOfFile input (IsSummaryOf es s)
+without_plan r es s input has only = (
+  record { v = has.v; is = has.is; few = has.few; text = has.text; holds = has.holds.0 },
+  λ v is few. said_of input _ _ (λ bytes holds same. (holds same).0) (only v is few),
+)

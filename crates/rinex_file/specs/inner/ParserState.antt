@@ -1,7 +1,6 @@
 -- The parser state while a file is read, and what it means for all that was read.
-use Rattle.std.specs.Prelude.{◌≡◌, ℕ, ◌+◌, ◌≤◌, List, [], ◌∷◌, ◌++◌, length, map, Option, Some, None, Result, Ok, Err}
-use Rattle.std.specs.Prelude.{true, ◌<◌, ◌↔◌}
-use Rattle.std.specs.List.{sum_by}
+use Rattle.std.specs.Prelude.{◌≡◌, ℕ, ◌+◌, ◌≤◌, List, [], ◌∷◌, ◌++◌, length, map, Option, Result, Ok, Err}
+use Rattle.std.specs.Prelude.{true, ◌<◌, ◌↔◌, ⊤}
 use Rattle.std.specs.List.Sorted.{IsStrictlyIncreasing}
 use Rattle.rinex_file.specs.declared.read.parser_state.ParserState.{ParserState}
 use Rattle.rinex_file.specs.declared.read.file.Counts.{Counts}
@@ -10,7 +9,7 @@ use Rattle.rinex_file.specs.Times.{AreTimesOrNone}
 use Rattle.rinex_file.specs.declared.read.parser_state.AddedRow.{AddedRow}
 use Rattle.rinex_file.specs.declared.read.parser_state.AddedRow.TheVariants.{NoRow, OneRow, LastRow}
 use Rattle.rinex_file.specs.declared.read.parser_state.Expected.{Expected}
-use Rattle.rinex_file.specs.declared.read.parser_state.Expected.TheVariants.{Header}
+use Rattle.rinex_file.specs.declared.read.parser_state.Expected.TheVariants.{Header, Epoch, Satellite}
 use Rattle.rinex_file.specs.declared.read.parser_state.Refusal.{Refusal}
 use Rattle.rinex_file.specs.declared.read.parser_state.Refusal.TheVariants.{Memory, Bad}
 use Rattle.rinex_file.specs.Value.{SatelliteRow, Stamped, FileValue}
@@ -80,6 +79,26 @@ RefusesLine s line = (v : FileValue) (left : List (List ℕ)) → HasLinesLeft s
 abbrev pub HasRoom : ParserState → ℕ → Type 0
 HasRoom c lines = (c.counts.epochs ≤ lines) × (c.counts.satellites ≤ lines) × (c.counts.events ≤ lines)
 
+-- a line of a header is expected; a line of a satellite is
+abbrev pub ExpectsHeader : Expected → Type 0
+ExpectsHeader (Header place) = ⊤
+ExpectsHeader other = ⊥
+
+abbrev pub ExpectsRow : Expected → Type 0
+ExpectsRow (Satellite n) = ⊤
+ExpectsRow other = ⊥
+
+-- the header and the epoch that was begun are the same
+abbrev pub AreSame : (old new : ParserState) → Type 0
+AreSame old new = (new.head ≡ old.head) × (new.change ≡ old.change) × (new.time ≡ old.time)
+
+-- what a line adds: a satellite, the last one or another, only if one is expected; and it leaves the header as it is,
+-- unless it is a line of the header
+abbrev pub Adds : AddedRow → (old new : ParserState) → Type 0
+Adds NoRow old new = (ExpectsRow old.expected → ⊥) × ((ExpectsHeader old.expected → ⊥) → new.head ≡ old.head)
+Adds OneRow old new = ExpectsRow old.expected × ExpectsRow new.expected × AreSame old new
+Adds LastRow old new = ExpectsRow old.expected × (new.expected ≡ Epoch) × AreSame old new
+
 -- a line was accepted: it may follow what was read, the state has the history with what the line adds, and no count grows
 -- by more than one
 pub record IsNext (old new : ParserState) (added : AddedRow) (line : List ℕ) (h : History) : Type 0 where
@@ -87,6 +106,7 @@ pub record IsNext (old new : ParserState) (added : AddedRow) (line : List ℕ) (
   pub follows : GoesOnWithLine (progress_at old h) (progress_at new (with_line added new h)) line
   pub shows : ShowsLine (progress_at old h) (progress_at new (with_line added new h)) line
   pub room : (n : ℕ) → HasRoom old n → HasRoom new (n + 1)
+  pub adds : Adds added old new
 
 -- memory may run out where this is expected and this line is read: only at a line of types
 abbrev pub MayRunOut : Expected → List ℕ → Type 0

@@ -1,22 +1,28 @@
 //! Reading a file line by line, and epoch by epoch.
-ghost use Rattle.std.specs.Prelude.{◌≡◌, ◌==◌, ◌+◌, [], List, Option, ℕ, Err, IfErr};
+ghost use Rattle.std.specs.Prelude.{◌≡◌, ◌==◌, ◌+◌, [], List, Option, ℕ, Err, IfErr, IsTrue, ◌↔◌};
 ghost use Rattle.devices.specs.Device.{HasFailed};
 ghost use Rattle.rinex_file.specs.Accepted.{AreEpochsRead, IsFaultAfter};
 ghost use Rattle.rinex_file.specs.Exact.{ExplainsFault, IsFaulty, IsExpectedAt};
 ghost use Rattle.rinex_file.specs.Blocks.{LeavesRest};
-ghost use Rattle.rinex_file.specs.inner.ParserState.{FollowsHistory};
-ghost use Rattle.rinex_file.specs.Counting.{History, nothing};
+ghost use Rattle.rinex_file.specs.inner.ParserState.{ExpectsRow, FollowsHistory};
+ghost use Rattle.rinex_file.specs.Counting.{History};
 ghost use Rattle.rinex_file.specs.Value.{Stamped};
 ghost use Rattle.rinex_file.specs.inner.Read.Steps.{GoesOnReading, HasRead};
-ghost use Rattle.rinex_file.specs.inner.Read.EpochSteps.{HasReadEpochs, HasReadTo, ReadsEpoch, ReadsNextEpoch};
+ghost use Rattle.gnss_obs.specs.SignalLists.{indices};
+ghost use Rattle.gnss_obs.specs.Values.{planned_of};
+ghost use Rattle.rinex_file.specs.inner.Read.EpochSteps.{AddsOrEnds, BeginsEpoch, BeginsNextEpoch, EndsEpoch};
+ghost use Rattle.rinex_file.specs.inner.Read.EpochSteps.{FinishesEpoch, HasReadEpochs, HasReadPart, HasReadRows};
+ghost use Rattle.rinex_file.specs.inner.Read.EpochSteps.{HasReadTo, ReadsEpoch, ReadsRow, plan_of, row_of};
 
 use crate::read::fault::ReadFault;
 use crate::read::file::FileSummary;
 use crate::read::lines::{Found, Lines};
 use crate::read::parser_state::{AddedRow, Expected, ParserState, Refusal};
 use crate::read::times::EpochTimes;
+use crate::values::SatelliteRow;
 use devices::Counted;
-use gnss_obs::GpsTime;
+use gnss_obs::{GpsTime, Signal};
+use gnss_system::System;
 use rinex_columns::Line;
 use std::alloc::Global;
 use std::io::Read;
@@ -52,7 +58,7 @@ fn fault_at(expected: Expected, number: u64) -> ReadFault
 impl Reading {
     /// Returns the reading of a file of which nothing was read.
     pub(crate) fn new(alloc: Global) -> Reading
-        ensures { (input : Option (List ℕ)) → HasRead result nothing input input }
+        ensures { (input : Option (List ℕ)) → HasReadTo result [] input input }
     {
         Reading {
             parser_state: ParserState::new(alloc),
@@ -81,6 +87,7 @@ impl Reading {
         ensures left { LeavesRest (R.remaining reader.old.inner) (R.remaining reader.new.inner) }
         ensures failed { result ≡ Err ReadFault.Read → HasFailed reader.old.failures reader.new.failures }
         ensures same { (result ≡ Err ReadFault.Read → ⊥) → reader.new.failures ≡ reader.old.failures }
+        ensures adds { AddsOrEnds self.old self.new result }
     {
         let number = self.count + 1;
         let fault = fault_at(self.parser_state.expected, number);
@@ -135,6 +142,91 @@ impl EpochReader {
         }
     }
 
+    /// Reads the lines up to that of the next epoch, or to the end of the file. The epoch is whole
+    /// after its rows: read them by [`next_row`](EpochReader::next_row) or
+    /// [`finish`](EpochReader::finish). Not to be called before that, nor after the end or an error.
+    ///
+    /// # Errors
+    ///
+    /// As for [`check_file`](crate::check_file).
+    pub fn begin<R: Read>(&mut self, reader: &mut Counted<R>) -> Result<NextEpoch, ReadFault>
+        requires { (es : List Stamped) × (input : Option (List ℕ))
+            × HasReadEpochs self.old es input (R.remaining reader.old.inner) }
+        ensures epochs { (es : List Stamped) → (input : Option (List ℕ))
+            → HasReadEpochs self.old es input (R.remaining reader.old.inner)
+            → BeginsEpoch self.old self.new es input (R.remaining reader.new.inner) result }
+        ensures failed { result ≡ Err ReadFault.Read → HasFailed reader.old.failures reader.new.failures }
+        ensures same { (result ≡ Err ReadFault.Read → ⊥) → reader.new.failures ≡ reader.old.failures }
+        ensures left { LeavesRest (R.remaining reader.old.inner) (R.remaining reader.new.inner) }
+    {
+        begin_epoch(&mut self.reading, reader)
+    }
+
+    /// Reads the line of the next satellite of the epoch that was begun, and returns true; or false
+    /// if the epoch is whole. [`row`](EpochReader::row) returns what the line contains.
+    ///
+    /// # Errors
+    ///
+    /// As for [`check_file`](crate::check_file).
+    pub fn next_row<R: Read>(&mut self, reader: &mut Counted<R>) -> Result<bool, ReadFault>
+        requires { (es : List Stamped) × (e : Stamped) × (input : Option (List ℕ))
+            × HasReadRows self.old es e input (R.remaining reader.old.inner) }
+        ensures rows { (es : List Stamped) → (e : Stamped) → (input : Option (List ℕ))
+            → HasReadRows self.old es e input (R.remaining reader.old.inner)
+            → ReadsRow self.old self.new es e input (R.remaining reader.new.inner) result }
+        ensures failed { result ≡ Err ReadFault.Read → HasFailed reader.old.failures reader.new.failures }
+        ensures same { (result ≡ Err ReadFault.Read → ⊥) → reader.new.failures ≡ reader.old.failures }
+        ensures left { LeavesRest (R.remaining reader.old.inner) (R.remaining reader.new.inner) }
+    {
+        if !expects_row(&self.reading) {
+            return Ok(false);
+        }
+        match self.reading.next(reader) {
+            Ok(added) => Ok(added.is_some()),
+            Err(fault) => Err(fault),
+        }
+    }
+
+    /// Reads the lines of the satellites that are left of the epoch that was begun.
+    ///
+    /// # Errors
+    ///
+    /// As for [`check_file`](crate::check_file).
+    pub fn finish<R: Read>(&mut self, reader: &mut Counted<R>) -> Result<(), ReadFault>
+        requires { (es : List Stamped) × (e : Stamped) × (input : Option (List ℕ))
+            × HasReadRows self.old es e input (R.remaining reader.old.inner) }
+        ensures rows { (es : List Stamped) → (e : Stamped) → (input : Option (List ℕ))
+            → HasReadRows self.old es e input (R.remaining reader.old.inner)
+            → FinishesEpoch self.old self.new es e input (R.remaining reader.new.inner) result }
+        ensures failed { result ≡ Err ReadFault.Read → HasFailed reader.old.failures reader.new.failures }
+        ensures same { (result ≡ Err ReadFault.Read → ⊥) → reader.new.failures ≡ reader.old.failures }
+        ensures left { LeavesRest (R.remaining reader.old.inner) (R.remaining reader.new.inner) }
+    {
+        finish_epoch(&mut self.reading, reader)
+    }
+
+    /// Returns the row that was read last.
+    pub fn row(&self) -> &SatelliteRow
+        ensures { result.now ≡ row_of self.now }
+    {
+        &self.reading.parser_state.last_read
+    }
+
+    /// Returns the number of the line that was read last, counted from 1; 0 before any line.
+    pub fn line(&self) -> u64
+        ensures { result ≡ self.now.reading.count }
+    {
+        self.reading.count
+    }
+
+    /// Returns the planned signals of a system, in the order of the file. They are read with the
+    /// header, so none is planned before the first epoch was begun.
+    pub fn signals(&self, system: System) -> &[Signal]
+        ensures { indices result.now ≡ planned_of system (plan_of self.now) }
+    {
+        self.reading.parser_state.head.signals(system)
+    }
+
     /// Reads the lines of the next epoch, or the end of the file. It accepts the files that
     /// [`check_file`](crate::check_file) accepts. Not to be called after the end or an error.
     ///
@@ -153,12 +245,26 @@ impl EpochReader {
         // A prefix of the input was read.
         ensures left { LeavesRest (R.remaining reader.old.inner) (R.remaining reader.new.inner) }
     {
-        next_epoch(&mut self.reading, reader)
+        match self.begin(reader) {
+            Ok(NextEpoch::Epoch { before, time }) => match self.finish(reader) {
+                Ok(()) => Ok(NextEpoch::Epoch { before, time }),
+                Err(fault) => Err(fault),
+            },
+            Ok(NextEpoch::End(summary)) => Ok(NextEpoch::End(summary)),
+            Err(fault) => Err(fault),
+        }
     }
 }
 
-/// Reads lines up to the end of the next epoch, or of the file.
-fn next_epoch<R: Read>(
+/// Returns whether the line of a satellite is expected.
+fn expects_row(reading: &Reading) -> bool
+    ensures { IsTrue result ↔ ExpectsRow reading.now.parser_state.expected }
+{
+    matches!(reading.parser_state.expected, Expected::Satellite(_))
+}
+
+/// Reads lines up to that of the next epoch, or to the end of the file.
+fn begin_epoch<R: Read>(
     reading: &mut Reading,
     reader: &mut Counted<R>,
 ) -> Result<NextEpoch, ReadFault>
@@ -166,25 +272,45 @@ fn next_epoch<R: Read>(
         × HasReadTo reading.old es input (R.remaining reader.old.inner) }
     ensures epochs { (es : List Stamped) → (input : Option (List ℕ))
         → HasReadTo reading.old es input (R.remaining reader.old.inner)
-        → ReadsNextEpoch reading.old reading.new es input (R.remaining reader.new.inner) result }
+        → BeginsNextEpoch reading.old reading.new es input (R.remaining reader.new.inner) result }
     ensures failed { result ≡ Err ReadFault.Read → HasFailed reader.old.failures reader.new.failures }
     ensures same { (result ≡ Err ReadFault.Read → ⊥) → reader.new.failures ≡ reader.old.failures }
     ensures left { LeavesRest (R.remaining reader.old.inner) (R.remaining reader.new.inner) }
 {
     let before = reading.parser_state.times;
     loop {
-        let added = match reading.next(reader) {
-            Ok(Some(added)) => added,
+        match reading.next(reader) {
+            Ok(Some(_)) => {}
             Ok(None) => {
                 let state = &reading.parser_state;
                 let (counts, times) = (state.counts, state.times.unwrap());
                 return Ok(NextEpoch::End(FileSummary { counts, times }));
             }
             Err(fault) => return Err(fault),
-        };
-        if let AddedRow::LastRow = added {
+        }
+        if expects_row(reading) {
             let time = reading.parser_state.time;
             return Ok(NextEpoch::Epoch { before, time });
         }
     }
+}
+
+/// Reads the lines of the satellites that are left of an epoch that was begun.
+fn finish_epoch<R: Read>(reading: &mut Reading, reader: &mut Counted<R>) -> Result<(), ReadFault>
+    requires { (es : List Stamped) × (e : Stamped) × (input : Option (List ℕ))
+        × HasReadPart reading.old es e input (R.remaining reader.old.inner) }
+    ensures rows { (es : List Stamped) → (e : Stamped) → (input : Option (List ℕ))
+        → HasReadPart reading.old es e input (R.remaining reader.old.inner)
+        → EndsEpoch reading.old reading.new es e input (R.remaining reader.new.inner) result }
+    ensures failed { result ≡ Err ReadFault.Read → HasFailed reader.old.failures reader.new.failures }
+    ensures same { (result ≡ Err ReadFault.Read → ⊥) → reader.new.failures ≡ reader.old.failures }
+    ensures left { LeavesRest (R.remaining reader.old.inner) (R.remaining reader.new.inner) }
+{
+    while expects_row(reading) {
+        match reading.next(reader) {
+            Ok(_) => {}
+            Err(fault) => return Err(fault),
+        }
+    }
+    Ok(())
 }

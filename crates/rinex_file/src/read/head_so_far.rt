@@ -23,7 +23,7 @@ use crate::read::other_lines::{
 use crate::read::parser_state::{Expected, Refusal};
 use crate::read::slots::SlotsSoFar;
 use crate::read::types::TypesSoFar;
-use gnss_obs::{GpsTime, Interval, StationValues};
+use gnss_obs::{GpsTime, Interval, Signal, StationValues};
 use gnss_system::{BySystem, System};
 use rinex_columns::{Line, put_left, read_labelled};
 use std::alloc::Global;
@@ -110,6 +110,13 @@ impl HeadSoFar {
         ensures { result ≡ length (planned_of system self.now.shown.plan) }
     {
         self.of(system).signals.len()
+    }
+
+    /// Returns the signals of a system that were read.
+    pub(crate) fn signals(&self, system: System) -> &[Signal]
+        ensures { indices result.now ≡ planned_of system self.now.shown.plan }
+    {
+        self.of(system).signals.as_slice()
     }
 
     /// Shows that each part that was read is one of a header.

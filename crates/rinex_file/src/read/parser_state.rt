@@ -8,7 +8,7 @@ ghost use Rattle.gnss_obs.specs.declared.cell.StationValues.{StationValues};
 ghost use Rattle.rinex_file.specs.FileValues.{IsFileValue, most_rows, planned_in, rank_of};
 ghost use Rattle.rinex_file.specs.File.{event_line, file_lines};
 ghost use Rattle.rinex_file.specs.inner.Read.Progress.{HasLinesLeft, epoch_after};
-ghost use Rattle.rinex_file.specs.inner.ParserState.{HasRoom, FollowsHistory, TakesLine};
+ghost use Rattle.rinex_file.specs.inner.ParserState.{ExpectsHeader, HasRoom, FollowsHistory, TakesLine};
 ghost use Rattle.rinex_file.specs.Counting.{History};
 ghost use Rattle.rinex_file.specs.inner.ParserState.{progress_at};
 ghost use Rattle.rinex_file.specs.Counting.{nothing};
@@ -116,6 +116,7 @@ impl ParserState {
         ensures starts { (v : FileValue) → IsFileValue v → HasLinesLeft (progress_at result nothing) v (file_lines v) }
         ensures lines { AreLinesOf (progress_at result nothing) [] }
         ensures none { HasRoom result 0 }
+        ensures header { ExpectsHeader result.expected }
     {
         let head = HeadSoFar::new(alloc);
         let time = head.first;

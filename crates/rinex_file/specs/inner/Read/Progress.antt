@@ -20,7 +20,7 @@ use Rattle.rinex_file.specs.declared.header.fields.HeaderField.{HeaderField}
 use Rattle.rinex_file.specs.Value as file
 use Rattle.rinex_file.specs.Value.{SatelliteRow, Stamped, FileValue}
 use Rattle.gnss_obs.specs.GatheredEpochs.{IsCoordinate}
-use Rattle.rinex_file.specs.FileValues.{AreTexts, IsPlan, AreValues, IsTime, IsFileValue}
+use Rattle.rinex_file.specs.FileValues.{AreTexts, AreValues, IsTime, IsFileValue}
 use Rattle.rinex_file.specs.Header.{flagged_letter}
 use Rattle.rinex_file.specs.inner.Header.{row_at, row_place, row_count, is_given, first_types}
 pub use Rattle.rinex_file.specs.Header.{Shown}

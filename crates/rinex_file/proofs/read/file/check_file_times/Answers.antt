@@ -6,7 +6,7 @@ use Rattle.rinex_file.proofs.Names.{refl, IsSummary}
 use Rattle.rinex_file.proofs.read.file.check_file_times.Goals as goal
 
 pub read_lines-requires-clause-read : goal.read_lines-requires-clause-read
-read_lines-requires-clause-read g c = c.new-reading.ensures _
+read_lines-requires-clause-read g c = (c.new-reading.ensures _).0
 
 pub unwrap-times-requires : goal.unwrap-times-requires
 unwrap-times-requires g c = let (h, whole, stores) = c.in-Ok.ensures.found in has_times _ h _ whole

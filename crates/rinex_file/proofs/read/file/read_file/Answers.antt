@@ -7,7 +7,7 @@ use Rattle.rinex_file.proofs.Names.{◌≡◌, Option, Some, None, IfSome, IfOk,
 use Rattle.rinex_file.proofs.read.file.read_file.Goals as goal
 
 pub read_lines-requires-clause-read : goal.read_lines-requires-clause-read
-read_lines-requires-clause-read g c = c.new-reading.ensures _
+read_lines-requires-clause-read g c = (c.new-reading.ensures _).0
 
 pub finish-requires : goal.finish-requires
 finish-requires g c =

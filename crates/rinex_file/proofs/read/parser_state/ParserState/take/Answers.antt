@@ -1,7 +1,7 @@
 use Rattle.rinex_file.proofs.Reading.Epochs.{bad_of, goes_on, passed, stopped}
 use Rattle.rinex_file.proofs.Reading.Events.{event_taken, event_shows, sound_event, position_taken, position_shows, no_position, sound_position}
 use Rattle.rinex_file.proofs.Reading.Header.{no_header, header_taken, header_shows, header_ended, ended_shows, sound_start, sound_header}
-use Rattle.rinex_file.proofs.Names.{MayRunOut, IsPosition, Option, ReadsExactly, StationValues, position_line, ◌≡◌, ◌<◌, ℕ, List, subst, sym, ◌∙◌, Err, ParserState, NoRow, Expected, Header, Epoch, EventPosition, EventHeight, Refusal, History, FollowsHistory, IsNext, progress_at, Known, StepsTo, TakesHeaderLine}
+use Rattle.rinex_file.proofs.Names.{MayRunOut, IsPosition, Option, ReadsExactly, StationValues, position_line, ◌≡◌, ◌<◌, ℕ, List, subst, sym, ◌∙◌, Err, ParserState, NoRow, Expected, Header, Epoch, EventPosition, EventHeight, Refusal, History, FollowsHistory, IsNext, progress_at, Known, StepsTo, TakesHeaderLine, ExpectsRow, ExpectsHeader, refl}
 use Rattle.rinex_file.proofs.read.parser_state.ParserState.take.Goals as goal
 
 pub returns-in_err-self-in-Header : goal.returns-in_err-self-in-Header
@@ -21,10 +21,12 @@ headed {c} {h} {place} {line} k (Header next) expected history goes =
     let s = progress_at c h in
     let (epochs, rows, here) = sound_header s place expected history.sound in
     goes_on (Header next) k c.change c.time history (epochs, rows, goes.at) (header_taken s line expected goes) (header_shows s line expected goes)
+    (λ inside. subst ExpectsRow expected inside) (λ other. absurd (other (subst ExpectsHeader (sym expected) tt)))
 headed {c} {h} {place} {line} k Epoch expected history end =
     let s = progress_at c h in
     let (epochs, rows, here) = sound_header s place expected history.sound in
     goes_on Epoch k c.change c.time history (sound_start s k end.is epochs, rows) (header_ended s line expected epochs end) (ended_shows s line expected epochs end)
+    (λ inside. subst ExpectsRow expected inside) (λ other. absurd (other (subst ExpectsHeader (sym expected) tt)))
 headed k other expected history goes = absurd goes
 
 pub returns-in_ok-self-in-Header : goal.returns-in_ok-self-in-Header
@@ -36,7 +38,7 @@ returns-in-Epoch c = λ h history.
     let shown = c.is_same.ensures.0 c.if-is_same.true ∙ c.event_line.ensures in
     goes_on EventPosition c.args.self.now.head c.args.self.now.change c.args.self.now.time history
     (sound_event s c.in-Epoch.is history.sound (subst (λ (n : ℕ). 0 < n) history.counted.epochs c.if-self-gt0.true)) (event_taken s c.args.line.now c.in-Epoch.is shown)
-    (event_shows s c.args.line.now c.in-Epoch.is shown)
+    (event_shows s c.args.line.now c.in-Epoch.is shown) (λ inside. subst ExpectsRow c.in-Epoch.is inside) (λ other. refl)
 
 -- what is read of the line of a position
 abbrev Reads : List ℕ → Option StationValues → Type 0
@@ -53,3 +55,4 @@ returns-in_ok-position-in-EventPosition c = λ h history.
     let (is, shown, only) = subst (Reads c.args.line.now) c.in_ok-position-in-EventPosition.ensures.ok_part c.read_position.ensures in
     goes_on (EventHeight p) c.args.self.now.head c.args.self.now.change c.args.self.now.time history
     (sound_position s p c.in-EventPosition.is history.sound is) (position_taken s p c.args.line.now c.in-EventPosition.is only) (position_shows s p c.args.line.now c.in-EventPosition.is shown)
+    (λ inside. subst ExpectsRow c.in-EventPosition.is inside) (λ other. refl)

@@ -1,6 +1,6 @@
-use Rattle.rinex_file.proofs.Reading.Epochs.{Begins, bad_of, goes_on, stopped, epoch_taken, epoch_shows, few_satellites, no_epoch, sound_begun, sound_epoch}
+use Rattle.rinex_file.proofs.Reading.Epochs.{Begins, bad_of, goes_on, stopped, epoch_taken, epoch_shows, few_satellites, no_epoch, sound_begun, sound_epoch, outside_after}
 use Rattle.rinex_file.proofs.Judged.{refused}
-use Rattle.rinex_file.proofs.Names.{◌∙◌, planned_in, civil_of, epoch_line, List, Option, ReadsExactly, ◌<◌, ◌≤◌, ℕ, subst, sym, IsTime, progress_at, Progress, MayBegin, Satellite}
+use Rattle.rinex_file.proofs.Names.{◌∙◌, planned_in, civil_of, epoch_line, List, Option, ReadsExactly, ◌<◌, ◌≤◌, ℕ, subst, sym, IsTime, progress_at, Progress, MayBegin, Satellite, refl}
 use Rattle.rinex_file.proofs.read.parser_state.ParserState.take_epoch.Goals as goal
 
 pub may_begin-requires : goal.may_begin-requires
@@ -38,4 +38,4 @@ returns c = λ h history.
     goes_on (Satellite n) c.args.self.now.head c.args.change time history (sound_begun read rows may is.0 change same)
     (epoch_taken s c.args.change rows shown (λ w begins. only w (fits s w begins)) c.requires.expected
     (λ none both. c.requires.event none (subst (λ (k : ℕ). 0 < k) (sym history.counted.epochs) both.0, both.1)))
-    (epoch_shows s c.args.change time n c.args.line.now c.requires.expected rows shown)
+    (epoch_shows s c.args.change time n c.args.line.now c.requires.expected rows shown) (outside_after c.args.self.now.expected c.args.change c.requires.expected) (λ other. refl)

@@ -1,7 +1,7 @@
 use Rattle.rinex_file.proofs.Judged.{refused}
 use Rattle.rinex_file.proofs.Reading.Epochs.{bad_of, goes_on, stopped}
 use Rattle.rinex_file.proofs.Reading.Events.{height_taken, height_shows, no_height, same_height, sound_height}
-use Rattle.rinex_file.proofs.Names.{◌≡◌, ◌∙◌, ◌<◌, ◌^◌, ReadsExactly, height_line, sym, ap, subst, refl, ℕ, List, Option, Some, None, unwrap_or, StationValues, changed_by, ParserState, NoRow, Expected, EventEpoch, History, IsNext, progress_at}
+use Rattle.rinex_file.proofs.Names.{◌≡◌, ◌∙◌, ◌<◌, ◌^◌, ReadsExactly, height_line, sym, ap, subst, refl, ℕ, List, Option, Some, None, unwrap_or, StationValues, changed_by, ParserState, NoRow, Expected, EventEpoch, History, IsNext, ExpectsRow, progress_at}
 use Rattle.rinex_file.proofs.read.parser_state.ParserState.take_height.Goals as goal
 
 unwrapped : (o : Option StationValues) (v : StationValues) → unwrap_or o v ≡ changed_by v o
@@ -41,4 +41,5 @@ returns c = λ h history.
     next_of _ c.args.self.now (EventEpoch (record p { height = height })) c.args.line.now h c.self.view_is
     (goes_on (EventEpoch (record p { height = height })) c.args.self.now.head c.args.self.now.change c.args.self.now.time history
     (sound_height s p height c.requires.expected history.sound small (λ other. refused c.is_same.result _ c.is_same.ensures.exact c.if-is_same.false (other ∙ sym now)))
-    (height_taken s p c.args.line.now c.requires.expected height only) (height_shows s p height c.args.line.now c.requires.expected shown))
+    (height_taken s p c.args.line.now c.requires.expected height only) (height_shows s p height c.args.line.now c.requires.expected shown)
+    (λ inside. subst ExpectsRow c.requires.expected inside) (λ other. refl))
