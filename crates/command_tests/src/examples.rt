@@ -3,6 +3,8 @@ use command_faults::{CommandFault, error_line};
 use command_line::{drop_matches, parse};
 use devices::Counted;
 use line_texts::{OutputLine, week_of};
+use rinex_file::ReadFault;
+use rinex_inspect::{FileFault, run_check};
 use rtcm_command::command::command;
 use rtcm_inspect::{InspectFault, run_frames};
 use std::alloc::Global;
@@ -23,6 +25,14 @@ fn lines_of(alloc: Global, stream: &[u8]) -> Result<Vec<u8>, InspectFault> {
     let listed = run_frames(alloc, &mut reader, &mut writer);
     let lines = writer.into_inner();
     listed.map(|_| lines)
+}
+
+/// The line of the counts of a file.
+fn counts_of(alloc: Global, file: &[u8]) -> Result<Vec<u8>, FileFault> {
+    let (mut reader, mut writer) = (Counted::new(file), Counted::new(Vec::new(alloc)));
+    let checked = run_check(alloc, &mut reader, &mut writer);
+    let line = writer.into_inner();
+    checked.map(|_| line)
 }
 
 /// Whether the words are a command line of the program.
@@ -63,6 +73,17 @@ fn is_listed(alloc: Global) -> bool {
     }
 }
 
+/// Whether a file without a line is refused in line 1.
+fn is_refused(alloc: Global) -> bool {
+    match counts_of(alloc, &[]) {
+        Ok(line) => {
+            drop(line);
+            false
+        }
+        Err(fault) => fault == FileFault::File(ReadFault::CutShort(1)),
+    }
+}
+
 #[test]
 fn examples_have_their_results(rt: HostRuntime) {
     let words = ["rtcm2rinex", "frames"];
@@ -70,6 +91,7 @@ fn examples_have_their_results(rt: HostRuntime) {
         week_line("2024-02-04").is_some_and(|line| line.as_bytes() == b"week 2300\n".as_slice())
     );
     assert!(rt; is_listed(rt.alloc()) && is_accepted(rt.alloc(), &words));
+    assert!(rt; is_refused(rt.alloc()));
     assert!(rt; line_of_a_failed_read().as_bytes() == b"rtcm2rinex: Read\n".as_slice());
     assert!(rt; status_of(rt.alloc(), &words, FRAME) == 0);
 }

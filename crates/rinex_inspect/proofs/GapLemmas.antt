@@ -2,13 +2,20 @@
 use Rattle.rinex_file.specs.declared.read.epochs.EpochReader.{EpochReader}
 use Rattle.rinex_file.specs.declared.read.epochs.NextEpoch.{NextEpoch}
 use Rattle.std.proofs.KnownBytes.{Consumes-nil, Consumes-trans}
-use Rattle.std.proofs.Common.{min}
+use Rattle.rinex_file.specs.Counting.{IsTextWith}
+use Rattle.rinex_file.specs.Exact.{IfTextOfFile}
+use Rattle.rinex_file.specs.declared.read.epochs.Reading.{Reading}
+use Rattle.rinex_file.specs.inner.Read.EpochSteps.{IsSummaryRead}
+use Rattle.rinex_inspect.specs.Gaps.{AreInside, is_inside}
+use Rattle.rinex_inspect.specs.inner.Reading.{ReadsInside}
+use Rattle.std.proofs.lemmas.List.Elements.{All-append, All-cons, All-head, All-nil, All-tail}
+use Rattle.std.proofs.Common.{All, false, true, min}
 use Rattle.std.specs.List.{reduce}
-use Rattle.rinex_inspect.specs.declared.fault.FileFault.TheVariants.{File, Write}
+use Rattle.rinex_inspect.specs.declared.fault.FileFault.TheVariants.{File, OtherDay, Write}
 use Rattle.rinex_inspect.proofs.CheckLemmas.{none_written, refused}
 use Rattle.devices.proofs.PrintingLaws.{longer_part, printed_after, printed_later}
 use Rattle.rinex_inspect.proofs.MissingLemmas.{gaps_next, gaps_prefix, missing_next, missing_small, rise_front}
-use Rattle.rinex_inspect.proofs.Names.{CheckOptions, Completeness, CountsMissing, EndsCheck, IsCompleteness, IsEndOutput, IsOutput, IsSummary, inl, Rise, all_gaps_if, gap_with, gaps_if, inr, missing_if, missing_with, times_in, ⊤, AppendsPrefix, AreTimes, AreTimesOrNone, EpochTimes, FileValue, IfSome, IsCheckedOr, IsFileValue, check_line, complete_if, IfSome_then, IsDelivered, ReadsGaps, append_assoc, file_lines, file_text, length, most_lines, steps_of, times_if, ◌≡◌, ◌∙◌, ◌+◌, ◌<◌, ◌≤◌, ◌∷◌, ◌++◌, [], ap, arith, refl, subst, sym, ℕ, List, Option, Devices, Writer, EndsPrinting, Err, FileSummary, IsSummaryOf, FileFault, IsPrefix, LeavesRest, Ok, PrintsText, ReadsEpoch, Result, Stamped, map, time_stamped, map-append}
+use Rattle.rinex_inspect.proofs.Names.{ReaderFailures, culprit, CheckOptions, Completeness, CountsMissing, EndsCheck, IsCompleteness, IsEndOutput, IsOutput, IsSummary, inl, Rise, all_gaps_if, gap_with, gaps_if, inr, missing_if, missing_with, times_in, ⊤, AppendsPrefix, AreTimes, AreTimesOrNone, EpochTimes, FileValue, IfSome, IsCheckedOr, IsFileValue, check_line, complete_if, IfSome_then, IsDelivered, ReadsGaps, append_assoc, file_lines, file_text, length, most_lines, steps_of, times_if, ◌≡◌, ◌∙◌, ◌+◌, ◌<◌, ◌≤◌, ◌∷◌, ◌++◌, [], ap, arith, refl, subst, sym, ℕ, List, Option, Devices, Writer, EndsPrinting, Err, FileSummary, IsSummaryOf, FileFault, IsPrefix, LeavesRest, Ok, PrintsText, ReadsEpoch, Result, Stamped, map, time_stamped, map-append}
 use Rattle.std.proofs.Common.{◌^◌}
 
 pub leaves_all : (a : Option (List ℕ)) → LeavesRest a a
@@ -37,9 +44,38 @@ counted_more {time} {k} {n} {m} complete es e before is are same before_it one s
     let few : missing_if complete (ts ++ time ∷ []) ≤ time + 501 = missing_small complete ts time is rise_all in
     sum (omega (arith, first, one, next, few, small)) ∙ omega (arith, first, one, next) ∙ ap (missing_if complete) (sym all)
 
--- the next epoch, or the end of the file
-pub next_is : (old new : EpochReader) (es : List Stamped) (input left : Option (List ℕ)) {n m : NextEpoch} → n ≡ m → ReadsEpoch old new es input left (Ok n) → ReadsEpoch old new es input left (Ok m)
-next_is old new es input left is reads = subst (λ (n : NextEpoch). ReadsEpoch old new es input left (Ok n)) is reads
+-- a summary, without the plan that was read
+pub without_plan : (r : Reading) (es : List Stamped) (s : FileSummary) (input : Option (List ℕ)) → IsTextWith (IsSummaryRead r es s) input → IfTextOfFile input (IsSummaryRead r es s)
+    → IsTextWith (IsSummaryOf es s) input × IfTextOfFile input (IsSummaryOf es s)
+without_plan r es s input has only = (record { v = has.v; is = has.is; few = has.few; text = has.text; holds = has.holds.0 }, λ v is few. IfSome_then input (only v is few) (λ bytes h same. (h same).0))
+
+-- the times of epochs inside of the window, and of one more
+pub inside_more : (complete : Option Completeness) (es : List Stamped) (e : Stamped) {time : ℕ} → AreInside complete (times_in es) → e.time ≡ time → is_inside complete time ≡ true → AreInside complete (times_in (es ++ e ∷ []))
+inside_more complete es e all same one =
+    let p : ℕ → Type 0 = λ (t : ℕ). is_inside complete t ≡ true in
+    subst (λ (l : List ℕ). All p l) (sym (map-append time_stamped es (e ∷ [])))
+    (All-append p (times_in es) (e.time ∷ []) all (All-cons p e.time [] (subst p (sym same) one) (All-nil p)))
+
+-- epochs of which one is outside aren't all inside
+pub not_inside : (complete : Option Completeness) (es more : List Stamped) (e : Stamped) {time : ℕ} → e.time ≡ time → is_inside complete time ≡ false → AreInside complete (times_in ((es ++ e ∷ []) ++ more)) → ⊥
+not_inside complete es more e {time} same out all =
+    let inside : is_inside complete time ≡ true = subst (λ (t : ℕ). is_inside complete t ≡ true) same (one_of es all) in
+    let bad : false ≡ true = sym out ∙ inside in
+    cc where
+      one_of : (es : List Stamped) → AreInside complete (times_in ((es ++ e ∷ []) ++ more)) → is_inside complete e.time ≡ true
+      one_of [] all = All-head (λ (t : ℕ). is_inside complete t ≡ true) e.time (times_in more) all
+      one_of (x ∷ es) all = one_of es (All-tail (λ (t : ℕ). is_inside complete t ≡ true) x.time (times_in ((es ++ e ∷ []) ++ more)) all)
+
+-- the next epoch inside of the window, or the end
+pub inside_is : (complete : Option Completeness) (old new : EpochReader) (es : List Stamped) (input left : Option (List ℕ)) {n m : NextEpoch} → n ≡ m → ReadsInside complete old new es input left (Ok n) → ReadsInside complete old new es input left (Ok m)
+inside_is complete old new es input left is reads = subst (λ (n : NextEpoch). ReadsInside complete old new es input left (Ok n)) is reads
+
+-- a fault after these epochs, the gaps of which were printed
+pub stopped_inside : {R W : Type 0} (complete : Option Completeness) (d d2 : Devices R W) (fault : FileFault) (old new : EpochReader) (es : List Stamped) → ReadsInside complete old new es d.reader.unread d2.reader.unread (Err fault) → AreInside complete (times_in es)
+    → PrintsText (gaps_if complete (times_in es)) d.writer d2.writer → ReaderFailures (culprit fault) d.reader.device.failures d2.reader.device.failures → ReadsGaps (Err fault) complete d d2
+stopped_inside complete d d2 (File e) old new es h inside printed failures = (es, h.0, h.1, h.2, printed, failures)
+stopped_inside complete d d2 (OtherDay k) old new es (t, out, line) inside printed failures = (es, IfSome_then d.reader.unread line (λ input at. (t, out, inside, at)), printed, failures)
+stopped_inside complete d d2 Write old new es h inside printed failures = absurd h
 
 -- a value is no fault
 pub isnt_err : {A E : Type 0} {x : A} {e : E} → ◌≡◌ {A = Result A E} (Ok x) (Err e) → ⊥
@@ -82,6 +118,9 @@ pub gaps_refused : {R W : Type 0} (o : CheckOptions) (d d2 : Devices R W) (w1 : 
     → (w1.device.failures ≡ d.writer.device.failures) × IsDelivered d.writer w1 → ReadsGaps (Err fault) o.complete (record d { writer = w1 }) d2
     → IfSome d.reader.unread (λ input. input ≡ file_text v → IsCheckedOr o v (Err fault) d.writer.written d2.writer.written)
 gaps_refused o d d2 w1 (File e) v is few kept (es, why, none, read, printed, failures) = IfSome_then d.reader.unread (none v is few) (λ input h same. refused o v e _ _ (h same))
+gaps_refused o d d2 w1 (OtherDay k) v is few kept (es, line, printed, fine) =
+    IfSome_then d.reader.unread line
+    (λ input h same all. let (t, out, inside, at) = h in let (e, time, (more, split)) = at.only v is same in not_inside o.complete es more e time out (subst (λ (l : List Stamped). AreInside o.complete (times_in l)) split all))
 gaps_refused o d d2 w1 Write v is few kept (es, n, asked, first, part, fine) =
     let later = printed_later {A = ⊤} {w = d.writer} Write (Err Write) w1 d2.writer kept refl (refl, part) in
     IfSome_then d.reader.unread first (λ input f same. first_gaps o _ _ v es is (f.only v is same) later.ends.1.1)
@@ -92,6 +131,9 @@ pub gaps_stopped : {R W : Type 0} (o : CheckOptions) (d d2 : Devices R W) (w1 : 
 gaps_stopped o d d2 w1 (File e) kept (es, why, none, read, printed, failures) =
     let later = printed_later {A = ⊤} {w = d.writer} Write (Ok tt) w1 d2.writer kept refl printed in
     ((failures, none_written e _ _ later.ends.0), (es, why, read, later.ends.2, later.ends.1))
+gaps_stopped o d d2 w1 (OtherDay k) kept (es, line, printed, fine) =
+    let later = printed_later {A = ⊤} {w = d.writer} Write (Ok tt) w1 d2.writer kept refl printed in
+    ((fine, later.ends.0), (es, line, later.ends.2, later.ends.1))
 gaps_stopped o d d2 w1 Write kept (es, n, asked, first, part, fine) =
     let later = printed_later {A = ⊤} {w = d.writer} Write (Err Write) w1 d2.writer kept refl (refl, part) in
     ((fine, later.ends.1.0), inr (inl (es, n, asked, first, later.ends.1.1)))

@@ -20,7 +20,7 @@ pub use Rattle.rinex_inspect.specs.inner.Reading.{CountsMissing, IsEndOutput, Re
 unfoldable pub use Rattle.rinex_inspect.specs.CheckOutput.{check_line, complete_line}
 unfoldable pub use Rattle.rinex_inspect.specs.Gaps.{gap_line}
 pub use Rattle.rinex_inspect.specs.CheckOutput.{IsOutput, all_gaps_if, complete_if, gaps_if, size_of, times_if, times_in}
-pub use Rattle.rinex_inspect.specs.Gaps.{IsCompleteness, all_gaps, all_placed, capped, early, ends_in, first_of, gap_between, gaps_before, gaps_from, index_of, indexes_of, intervals_to, number_among, origin_in, origin_of, placed, start, window_size}
+pub use Rattle.rinex_inspect.specs.Gaps.{AreInside, IsCompleteness, all_gaps, all_placed, capped, early, ends_in, first_of, gap_between, gaps_before, gaps_from, index_of, indexes_of, intervals_to, number_among, origin_in, origin_of, placed, start, window_size}
 pub use Rattle.rinex_inspect.specs.inner.Missing.{Rise, end_gap_if, end_missing_if, first_with, gap_with, gaps_to_end, last_with, missing_before, missing_between, missing_from, missing_if, missing_to_end, missing_with, origin_with}
 pub use Rattle.rinex_inspect.specs.declared.gaps.Completeness.{Completeness}
 pub use Rattle.rinex_inspect.specs.declared.gaps.Placed.{Placed}

@@ -1,11 +1,11 @@
 -- What the command `check` has read and written: the devices were d and are d'.
 use Rattle.std.specs.Prelude.{◌≡◌, ◌⊎◌, ◌≤◌, ℕ, List, [], length, Option, Result}
-use Rattle.std.specs.Prelude.{is_some, true}
+use Rattle.std.specs.Prelude.{is_some, true, false}
 use Rattle.std.specs.Prelude.{Ok, Err, IfSome, ⊤}
 use Rattle.std.specs.Io.KnownBytes.{Appends, Keeps}
 use Rattle.devices.specs.Device.{AppendsPrefix}
 use Rattle.devices.specs.Devices.{Devices, Ends}
-use Rattle.rinex_file.specs.Accepted.{AreEpochsBefore, AreEpochsRead, AreFirstEpochs}
+use Rattle.rinex_file.specs.Accepted.{AreEpochsBefore, AreEpochsRead, AreFirstEpochs, IsEpochLine}
 use Rattle.rinex_file.specs.Exact.{ExplainsFault, most_lines}
 use Rattle.rinex_file.specs.File.{file_text, file_lines}
 use Rattle.rinex_file.specs.FileValues.{IsFileValue}
@@ -14,19 +14,26 @@ use Rattle.rinex_file.specs.declared.read.fault.ReadFault.TheVariants as reading
 use Rattle.rinex_inspect.specs.CheckOutput.{IsOutput, gaps_if, times_in}
 use Rattle.devices.specs.Printing.{IsUnread}
 use Rattle.rinex_inspect.specs.Faults.{culprit}
+use Rattle.rinex_inspect.specs.Gaps.{AreInside, is_inside}
+use Rattle.rinex_inspect.specs.declared.gaps.Completeness.{Completeness}
 use Rattle.rinex_inspect.specs.declared.check.CheckOptions.{CheckOptions}
 use Rattle.rinex_inspect.specs.declared.fault.FileFault.{FileFault}
 use Rattle.rinex_inspect.specs.declared.fault.FileFault.TheVariants as faults
 
--- the reader had the text of a file value, and Writes holds for the output
+-- the reader had the text of a file value without an epoch outside of the window, and Writes holds for the output
 abbrev pub IsFileWith : CheckOptions → (List ℕ → Type 0) → (unread : Option (List ℕ)) → Type 0
 IsFileWith o Writes unread =
     (v : FileValue) × IsFileValue v × IfSome unread (λ input. input ≡ file_text v)
-    × ((text : List ℕ) × IsOutput o v text × Writes text)
+    × AreInside o.complete (times_in v.epochs) × ((text : List ℕ) × IsOutput o v text × Writes text)
 
 -- the output was written whole
 abbrev pub ChecksFile : {R W : Type 0} → CheckOptions → (d d' : Devices R W) → Type 0
 ChecksFile o d d' = IsFileWith o (Appends d.writer.written d'.writer.written) d.reader.unread
+
+-- line k of the input is that of an epoch outside of the window, after these epochs, which are inside
+abbrev pub IsOtherDay : Option Completeness → List Stamped → (k : ℕ) → List ℕ → Type 0
+IsOtherDay complete es k input = (t : ℕ) × (is_inside complete t ≡ false) × AreInside complete (times_in es)
+    × IsEpochLine es t k input
 
 -- A file isn't accepted for this reason: the gaps of the epochs before it were written, and nothing waits in the writer.
 -- At a failed read these are all epochs in the bytes that were read. Or the writer failed, before anything was read, in
@@ -35,6 +42,9 @@ abbrev pub StopsCheck : {R W : Type 0} → CheckOptions → (d d' : Devices R W)
 StopsCheck o d d' (faults.File e) =
     (es : List Stamped) × IfSome d.reader.unread (λ input. ExplainsFault input e × AreEpochsBefore es e input)
     × (e ≡ reading.Read → AreEpochsRead es d.reader.unread d'.reader.unread)
+    × Appends d.writer.written d'.writer.written (gaps_if o.complete (times_in es)) × (d'.writer.waiting ≡ [])
+StopsCheck o d d' (faults.OtherDay k) =
+    (es : List Stamped) × IfSome d.reader.unread (IsOtherDay o.complete es k)
     × Appends d.writer.written d'.writer.written (gaps_if o.complete (times_in es)) × (d'.writer.waiting ≡ [])
 StopsCheck o d d' faults.Write =
     IsUnread d d'
@@ -46,13 +56,15 @@ StopsCheck o d d' faults.Write =
 abbrev pub EndsCheck : {A R W : Type 0} → CheckOptions → Result A FileFault → (d d' : Devices R W) → Type 0
 EndsCheck o result d d' = Ends culprit result d d' (λ _. ChecksFile o d d') (StopsCheck o d d')
 
--- The possible outcomes for the text of this file value: its output, unless memory runs out or a device fails. A writer
--- that fails has accepted nothing or a prefix.
+-- The possible outcomes for the text of this file value: its output if no epoch is outside of the window, unless memory
+-- runs out or a device fails. A writer that fails has accepted nothing or a prefix.
 abbrev pub IsCheckedOr : CheckOptions → FileValue → Result ⊤ FileFault → (w w' : Option (List ℕ)) → Type 0
-IsCheckedOr o v (Ok u) w w' = (text : List ℕ) × IsOutput o v text × Appends w w' text
+IsCheckedOr o v (Ok u) w w' =
+    AreInside o.complete (times_in v.epochs) × ((text : List ℕ) × IsOutput o v text × Appends w w' text)
 IsCheckedOr o v (Err faults.Write) w w' = Keeps w w' ⊎ ((text : List ℕ) × IsOutput o v text × AppendsPrefix w w' text)
 IsCheckedOr o v (Err (faults.File reading.Memory)) w w' = ⊤
 IsCheckedOr o v (Err (faults.File reading.Read)) w w' = ⊤
+IsCheckedOr o v (Err (faults.OtherDay k)) w w' = AreInside o.complete (times_in v.epochs) → ⊥
 IsCheckedOr o v (Err other) w w' = ⊥
 
 -- the text of each file value is accepted

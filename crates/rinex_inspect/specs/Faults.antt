@@ -21,6 +21,7 @@ read_words reading.TooLong = codes "TooLong" ∷ []
 abbrev pub file_words : FileFault → List (List ℕ)
 file_words (faults.File e) = read_words e
 file_words faults.Write = codes "Write" ∷ []
+file_words (faults.OtherDay k) = codes "OtherDay" ∷ decimal k ∷ []
 
 -- the device that failed at a fault
 abbrev pub culprit : FileFault → Culprit

@@ -1,6 +1,6 @@
 -- The epochs of a complete file, which are at one interval, and the gaps between those of a file. Times and intervals
 -- are in milliseconds.
-use Rattle.std.specs.Prelude.{◌==◌, ℕ, ◌+◌, ◌-◌, ◌/◌, ◌<◌, ◌≤◌, nat_lt, min, Bool, List, [], ◌∷◌, ◌++◌, map, codes}
+use Rattle.std.specs.Prelude.{◌≡◌, ◌&&◌, nat_le, true, All, ◌==◌, ℕ, ◌+◌, ◌-◌, ◌/◌, ◌<◌, ◌≤◌, nat_lt, min, Bool, List, [], ◌∷◌, ◌++◌, map, codes}
 use Rattle.std.specs.Prelude.{if◌then◌else◌, Option, Some, None, IfSome}
 use Rattle.std.specs.List.{count_by, list_any}
 use Rattle.gnss_obs.specs.Plans.{below}
@@ -33,6 +33,18 @@ first_of (t ∷ ts) = t
 
 abbrev pub origin_of : Completeness → List ℕ → ℕ
 origin_of g ts = origin_in g.window (first_of ts)
+
+-- the window, if there is one, has an epoch at this time
+abbrev pub is_in_window : Option Window → (early time : ℕ) → Bool
+is_in_window None early t = true
+is_in_window (Some w) early t = nat_le w.from (t + early) && nat_lt t w.until
+
+abbrev pub is_inside : Option Completeness → ℕ → Bool
+is_inside None t = true
+is_inside (Some g) t = is_in_window g.window (early g) t
+
+abbrev pub AreInside : Option Completeness → List ℕ → Type 0
+AreInside complete ts = All (λ t. is_inside complete t ≡ true) ts
 
 -- the number of intervals from the origin to a time, which may be early
 abbrev pub intervals_to : Completeness → (origin time : ℕ) → ℕ

@@ -5,7 +5,7 @@ ghost use Rattle.gnss_obs.specs.Weeks.{week, weeks};
 ghost use Rattle.rinex_file.specs.Blocks.{LeavesRest};
 ghost use Rattle.rinex_file.specs.Counting.{AreCounts, IsSummary};
 ghost use Rattle.rinex_file.specs.FileValues.{IsFileValue};
-ghost use Rattle.rinex_file.specs.Value.{FileValue};
+ghost use Rattle.rinex_file.specs.Value.{FileValue, Stamped};
 ghost use Rattle.devices.specs.Devices.{Changes, Writes};
 ghost use Rattle.devices.specs.Printing.{EndsPrinting};
 ghost use Rattle.rinex_inspect.specs.CheckOutput.{check_line, counts_alone, times_if, times_in};
@@ -13,10 +13,11 @@ ghost use Rattle.rinex_inspect.specs.Checking.{AcceptsFiles, EndsCheck};
 ghost use Rattle.rinex_file.specs.inner.Read.EpochSteps.{HasReadEpochs};
 ghost use Rattle.rinex_inspect.specs.DateTexts.{longest_times, moment_bytes, moment_words, step_line, time_line};
 ghost use Rattle.rinex_inspect.specs.DateTexts.{times_lines};
-ghost use Rattle.rinex_inspect.specs.Gaps.{IsCompleteness, gap_between};
+ghost use Rattle.rinex_inspect.specs.Gaps.{IsCompleteness, gap_between, is_inside};
 ghost use Rattle.rinex_inspect.specs.inner.Missing.{complete_but, end_gap_if, end_missing_if, first_with, gap_with};
 ghost use Rattle.rinex_inspect.specs.inner.Missing.{longest_gap, missing_between, missing_with};
-ghost use Rattle.rinex_inspect.specs.inner.Reading.{CountsMissing, IsEndOutput, ReadsGaps};
+ghost use Rattle.rinex_inspect.specs.inner.Reading.{CountsMissing, FailsByReader, IsEndOutput, ReadsGaps};
+ghost use Rattle.rinex_inspect.specs.inner.Reading.{ReadsInside};
 ghost use Rattle.line_texts.specs.Lines.{with_words};
 
 use crate::fault::FileFault;
@@ -76,7 +77,9 @@ pub fn run_check<R: Read, W: Deliver>(
 ///
 /// # Errors
 ///
-/// `File` with the fault of [`EpochReader::next`], and `Write` if the writer failed.
+/// `File` with the fault of [`EpochReader::next`], `OtherDay` with the number of the line of the first
+/// epoch that is outside of the window, judged before the lines of its satellites, and `Write` if the
+/// writer failed.
 // Not inlined, so that the parser's block of bytes isn't in the stack frame of every command.
 #[inline(never)]
 pub fn run_check_with<R: Read, W: Deliver>(
@@ -142,13 +145,56 @@ fn print_gaps<R: Read, W: Deliver>(
 {
     let mut missing = 0u64;
     loop {
-        match file.next(reader) {
+        match next_inside(complete, file, reader) {
             Ok(NextEpoch::Epoch { before, time }) => {
                 missing = missing.saturating_add(print_gap(complete, before, time, writer)?);
             }
             Ok(NextEpoch::End(summary)) => return Ok((summary, missing)),
-            Err(fault) => return Err(FileFault::File(fault)),
+            Err(fault) => return Err(fault),
         }
+    }
+}
+
+/// Reads the lines of the next epoch, which is to be inside of the window, or the end of the file.
+///
+/// # Errors
+///
+/// `OtherDay` with the number of the line of an epoch outside of the window, and `File`.
+fn next_inside<R: Read>(
+    complete: &Option<Completeness>,
+    file: &mut EpochReader,
+    reader: &mut Counted<R>,
+) -> Result<NextEpoch, FileFault>
+    requires { (es : List Stamped) × (input : Option (List ℕ))
+        × HasReadEpochs file.old es input (R.remaining reader.old.inner) }
+    ensures epochs { (es : List Stamped) → (input : Option (List ℕ))
+        → HasReadEpochs file.old es input (R.remaining reader.old.inner)
+        → ReadsInside complete.now file.old file.new es input (R.remaining reader.new.inner) result }
+    ensures failed { FailsByReader result reader.old.failures reader.new.failures }
+    ensures left { LeavesRest (R.remaining reader.old.inner) (R.remaining reader.new.inner) }
+{
+    match file.begin(reader) {
+        Ok(NextEpoch::Epoch { before, time }) => {
+            if !is_inside(complete, time) {
+                return Err(FileFault::OtherDay(file.line()));
+            }
+            match file.finish(reader) {
+                Ok(()) => Ok(NextEpoch::Epoch { before, time }),
+                Err(fault) => Err(FileFault::File(fault)),
+            }
+        }
+        Ok(NextEpoch::End(summary)) => Ok(NextEpoch::End(summary)),
+        Err(fault) => Err(FileFault::File(fault)),
+    }
+}
+
+/// Returns whether the window, if there is one, has an epoch at this time.
+fn is_inside(complete: &Option<Completeness>, time: GpsTime) -> bool
+    ensures { result ≡ is_inside complete.now time }
+{
+    match complete {
+        Some(complete) => complete.is_inside(time),
+        None => true,
     }
 }
 

@@ -18,6 +18,8 @@ pub enum FileFault {
     File(ReadFault),
     /// The writer failed, or accepted none of the bytes of a write.
     Write,
+    /// The line of this number is that of an epoch outside of the window.
+    OtherDay(u64),
 }
 
 impl fmt::Display for FileFault {
@@ -35,6 +37,7 @@ pub fn add_file_error(line: &mut OutputLine, fault: FileFault)
     match fault {
         FileFault::File(fault) => add_read_error(line, fault),
         FileFault::Write => line.add_word("Write"),
+        FileFault::OtherDay(k) => line.add_count("OtherDay", k),
     }
 }
 

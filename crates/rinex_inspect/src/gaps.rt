@@ -2,7 +2,8 @@
 ghost use Rattle.std.specs.Prelude.{◌≡◌, ◌<◌, ◌≤◌, ◌*◌, option_to_list};
 ghost use Rattle.gnss_obs.specs.Weeks.{week, weeks};
 ghost use Rattle.rinex_inspect.specs.CheckOutput.{size_of};
-ghost use Rattle.rinex_inspect.specs.Gaps.{capped, ends_in, origin_in, placed, window_size};
+ghost use Rattle.rinex_inspect.specs.Gaps.{capped, early, ends_in, is_in_window, origin_in, placed};
+ghost use Rattle.rinex_inspect.specs.Gaps.{window_size};
 ghost use Rattle.rinex_inspect.specs.inner.Missing.{last_with};
 
 use gnss_obs::GpsTime;
@@ -58,13 +59,32 @@ impl Completeness {
         }
     }
 
+    /// Returns whether the window, if there is one, has an epoch at this time.
+    pub(crate) fn is_inside(&self, time: GpsTime) -> bool
+        ensures { result ≡ is_in_window self.now.window (early self.now) time }
+    {
+        let Some(window) = &self.window else {
+            return true;
+        };
+        let time = time.milliseconds();
+        window.from.milliseconds() <= time + self.early() && time < window.until.milliseconds()
+    }
+
+    /// Returns how much before its time an epoch may be, in milliseconds.
+    fn early(&self) -> u64
+        ensures value { result ≡ early self.now }
+        ensures bound { result ≤ 500 }
+    {
+        (self.interval / 2).min(500)
+    }
+
     /// Returns the place of an epoch at this time.
     pub(crate) fn placed(&self, origin: GpsTime, time: GpsTime) -> Placed
         requires { 0 < self.now.interval }
         ensures { result ≡ placed self.now origin time }
     {
-        let early = (self.interval / 2).min(500);
-        let since = (time.milliseconds() + early).saturating_sub(origin.milliseconds());
+        let latest = time.milliseconds() + self.early();
+        let since = latest.saturating_sub(origin.milliseconds());
         let index = self.capped(since / self.interval);
         Placed {
             place: index.saturating_add(1),

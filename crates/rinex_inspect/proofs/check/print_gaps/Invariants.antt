@@ -1,4 +1,4 @@
-use Rattle.rinex_inspect.proofs.Names.{◌≡◌, ◌+◌, ◌-◌, List, gaps_if, times_in, CountsMissing, PrintsText, Stamped, LeavesRest, HasReadEpochs, most_lines, writer_of}
+use Rattle.rinex_inspect.proofs.Names.{◌≡◌, ◌+◌, ◌-◌, List, gaps_if, times_in, AreInside, CountsMissing, PrintsText, Stamped, LeavesRest, HasReadEpochs, most_lines, writer_of}
 use Rattle.rinex_inspect.proofs.check.print_gaps.Given as goal
 
 -- the gaps of the epochs that were read were written
@@ -9,7 +9,7 @@ invariant-loop-before g l =
     record {
       read : (es : List Stamped) × HasReadEpochs l.file es (remaining l.fn.reader.inner) (remaining l.reader.inner)
           × PrintsText (gaps_if l.complete (times_in es)) (at l.fn.writer) (at l.writer)
-          × CountsMissing l.complete (times_in es) l.missing;
+          × CountsMissing l.complete (times_in es) l.missing × AreInside l.complete (times_in es);
       left : LeavesRest (remaining l.fn.reader.inner) (remaining l.reader.inner);
       same : l.reader.failures ≡ l.fn.reader.failures;
     }

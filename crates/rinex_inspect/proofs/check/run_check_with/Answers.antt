@@ -2,8 +2,12 @@ use Rattle.rinex_inspect.specs.declared.fault.FileFault.TheVariants.{Write}
 use Rattle.rinex_inspect.proofs.CheckLemmas.{checked, checked_or, kept_first, where_known}
 use Rattle.rinex_inspect.proofs.GapLemmas.{gaps_refused, gaps_stopped, leaves_all, whole_output}
 use Rattle.devices.proofs.PrintingLaws.{printed_after, printed_later}
-use Rattle.rinex_inspect.proofs.Names.{◌++◌, ap, List, ℕ, IfSome_then, devices_of, gaps_if, times_in, writer_of}
+use Rattle.rinex_inspect.proofs.Names.{AreInside, Completeness, FileSummary, FileValue, IsSummaryOf, Option, Stamped, subst, sym, ◌++◌, ap, List, ℕ, IfSome_then, devices_of, gaps_if, times_in, writer_of}
 use Rattle.rinex_inspect.proofs.check.run_check_with.Goals as goal
+
+-- the epochs of a file that was read are inside of the window
+inside_of : {s : FileSummary} {es : List Stamped} {v : FileValue} (complete : Option Completeness) → AreInside complete (times_in es) → IsSummaryOf es s v → AreInside complete (times_in v.epochs)
+inside_of complete inside is = subst (λ (l : List Stamped). AreInside complete (times_in l)) (sym is.1) inside
 
 pub returns-in_err-deliver_waiting-clause-only : goal.returns-in_err-deliver_waiting-clause-only
 returns-in_err-deliver_waiting-clause-only g c = λ v is few.
@@ -12,20 +16,20 @@ returns-in_err-deliver_waiting-clause-only g c = λ v is few.
 
 pub returns-in-Ok-clause-ends : goal.returns-in-Ok-clause-ends
 returns-in-Ok-clause-ends g c =
-    let (es, found, only, printed, same, counts) = c.in-Ok.ensures.gaps in
+    let (es, found, only, printed, same, counts, inside) = c.in-Ok.ensures.gaps in
     let at = devices_of g.R.Read.remaining g.W.Write.contents g.W.Deliver.waiting in
     let w = writer_of g.W.Write.contents g.W.Deliver.waiting in
     checked c.args.options (at c.args.reader.now c.args.writer.now) (at c.print_gaps-read.new.reader c.print_text.new.writer) c.print_text.result
-    (found.v, found.is, found.text, whole_output c.args.options c.in-Ok.summary found.v es _ found.holds found.is counts c.summary_text-text.ensures) same
+    (found.v, found.is, found.text, inside_of c.args.options.complete inside found.holds, whole_output c.args.options c.in-Ok.summary found.v es _ found.holds found.is counts c.summary_text-text.ensures) same
     (printed_later Write c.print_text.result (w c.deliver_waiting.new.writer) (w c.print_text.new.writer) c.in_ok-deliver_waiting.ensures (ap (λ (t : List ℕ). gaps_if c.args.options.complete (times_in es) ++ t) c.as_bytes.ensures.text)
     (printed_after Write c.print_text.result (w c.deliver_waiting.new.writer) (w c.print_gaps-read.new.writer) (w c.print_text.new.writer) (gaps_if c.args.options.complete (times_in es)) _ printed c.print_text.ensures))
 
 pub returns-in-Ok-clause-only : goal.returns-in-Ok-clause-only
 returns-in-Ok-clause-only g c = λ v is few.
-    let (es, found, only, printed, same, counts) = c.in-Ok.ensures.gaps in
+    let (es, found, only, printed, same, counts, inside) = c.in-Ok.ensures.gaps in
     let w = writer_of g.W.Write.contents g.W.Deliver.waiting in
     IfSome_then (g.R.Read.remaining c.args.reader.now.inner) (only v is few)
-    (λ input h text. checked_or {w = w c.args.writer.now} {w2 = w c.print_text.new.writer} c.args.options c.print_text.result v (whole_output c.args.options c.in-Ok.summary v es _ (h text) is counts c.summary_text-text.ensures)
+    (λ input h text. checked_or {w = w c.args.writer.now} {w2 = w c.print_text.new.writer} c.args.options c.print_text.result v (inside_of c.args.options.complete inside (h text)) (whole_output c.args.options c.in-Ok.summary v es _ (h text) is counts c.summary_text-text.ensures)
     (printed_later Write c.print_text.result (w c.deliver_waiting.new.writer) (w c.print_text.new.writer) c.in_ok-deliver_waiting.ensures (ap (λ (t : List ℕ). gaps_if c.args.options.complete (times_in es) ++ t) c.as_bytes.ensures.text)
     (printed_after Write c.print_text.result (w c.deliver_waiting.new.writer) (w c.print_gaps-read.new.writer) (w c.print_text.new.writer) (gaps_if c.args.options.complete (times_in es)) _ printed c.print_text.ensures)))
 
