@@ -7,28 +7,31 @@ from .complete import Completeness
 from .epochs import Choice, Setup
 from .files import check_lines
 from .frames import decided_length
-from .options import COLUMNS, Fault, plan_of
+from .options import COLUMNS, Fault, completeness_of, plan_of
 
 CONVERT = "convert --week 2075 --date x --gps 1C,2L --galileo 1C,7Q".split()
 EVERY_2 = [*CONVERT, "--interval", "2"]
 CHOICES = {tuple(CONVERT): Choice(), tuple(EVERY_2): Choice(interval=2000)}
 GAPS = "check --gaps 0.5".split()
+DAY = ["2019-10-17", "2019-10-18"]
+OF_DAY = [*GAPS, "--from", DAY[0], "--until", DAY[1]]
+COMPLETE = {tuple(GAPS): completeness_of("0.5", None, None), tuple(OF_DAY): completeness_of("0.5", *DAY)}
 
 
-def gaps(data: bytes) -> Iterator[str]:
-    """Yields the gaps between the epochs of a file that may be cut."""
+def gaps(data: bytes, complete: Completeness) -> Iterator[str]:
+    """Yields the gaps before and between the epochs of a file that may be cut."""
     try:
-        yield from (line for line in check_lines(data, False, Completeness(500)) if line.startswith("gap "))
+        yield from (line for line in check_lines(data, False, complete) if line.startswith("gap "))
     except Fault:
         pass
 
 
 def decided_output(words: list[str], data: bytes) -> bytes:
-    """Returns what these bytes decide: of CONVERT and EVERY_2 the file of the closed epochs, of GAPS those of the whole
-    epochs."""
+    """Returns what these bytes decide: of CONVERT and EVERY_2 the file of the closed epochs, of GAPS and OF_DAY those of
+    the whole epochs."""
     decided = data[: decided_length(data)]
-    if words == GAPS:
-        lines = gaps(data)
+    if complete := COMPLETE.get(tuple(words)):
+        lines = gaps(data, complete)
     elif choice := CHOICES.get(tuple(words)):
         setup = Setup(2075, None, True, plan_of("1C,2L", "1C,7Q"), choice=choice)
         texts = dict.fromkeys(COLUMNS, "") | {"date": "x", "marker_type": "GEODETIC"}

@@ -60,7 +60,7 @@ fn a_damaged_file_is_refused(rt: HostRuntime) {
     assert_come(&rt, rt.alloc(), &OF_SPOILT, &SPOILT);
 }
 
-const GAPS: [&str; 4] = ["rtcm2rinex", "check", "--gaps", "0.999"];
+const GAPS: [&str; 4] = ["rtcm2rinex", "check", "--gaps", "0.4"];
 
 /// A gap of one second, in a file and before a line that is refused.
 static WITH_A_GAP: [Case; 2] = [
@@ -71,7 +71,7 @@ static WITH_A_GAP: [Case; 2] = [
             Lines(
                 "gap 2024-02-04 00:00:01.000 2024-02-04 00:00:02.000\n\
                  epochs 2 satellites 2 events 0\n\
-                 complete 2 of 2\n",
+                 complete 2 of 4\n",
             ),
             "",
         ),
@@ -95,4 +95,73 @@ static OF_GAPS: Setting = Setting {
 #[test]
 fn the_gaps_of_a_file_are_printed(rt: HostRuntime) {
     assert_come(&rt, rt.alloc(), &OF_GAPS, &WITH_A_GAP);
+}
+
+const WINDOW: [&str; 8] = [
+    "rtcm2rinex",
+    "check",
+    "--gaps",
+    "1",
+    "--from",
+    "2024-02-04",
+    "--until",
+    "2024-02-04T00:00:04",
+];
+
+/// Two epochs of a window of four seconds, from 0 s on.
+static IN_A_WINDOW: [Case; 1] = [(
+    &[],
+    File(&[], &[Time, Values, NextTime, NextValues]),
+    Good(
+        Lines(
+            "gap 2024-02-04 00:00:00.000 2024-02-04 00:00:01.000\n\
+             gap 2024-02-04 00:00:02.000 2024-02-04 00:00:04.000\n\
+             epochs 2 satellites 2 events 0\n\
+             complete 2 of 4\n",
+        ),
+        "",
+    ),
+)];
+
+static OF_WINDOW: Setting = Setting {
+    words: &WINDOW,
+    sizes: &[&[1], &[]],
+    ..FAULTLESS
+};
+
+#[test]
+fn the_gaps_of_a_window_are_printed(rt: HostRuntime) {
+    assert_come(&rt, rt.alloc(), &OF_WINDOW, &IN_A_WINDOW);
+}
+
+const SHORT_WINDOW: [&str; 8] = [
+    "rtcm2rinex",
+    "check",
+    "--gaps",
+    "1",
+    "--from",
+    "2024-02-04",
+    "--until",
+    "2024-02-04T00:00:02",
+];
+
+/// The second epoch, in line 17, is at the end of the window.
+static OUT_OF_A_WINDOW: [Case; 1] = [(
+    &[],
+    File(&[], &[Time, Values, NextTime, NextValues]),
+    Fault(
+        Lines("gap 2024-02-04 00:00:00.000 2024-02-04 00:00:01.000\n"),
+        "rtcm2rinex: OtherDay 17\n",
+    ),
+)];
+
+static OF_SHORT_WINDOW: Setting = Setting {
+    words: &SHORT_WINDOW,
+    sizes: &[&[1], &[]],
+    ..FAULTLESS
+};
+
+#[test]
+fn an_epoch_outside_of_the_window_is_refused(rt: HostRuntime) {
+    assert_come(&rt, rt.alloc(), &OF_SHORT_WINDOW, &OUT_OF_A_WINDOW);
 }

@@ -15,7 +15,7 @@ use Rattle.rinex_inspect.specs.declared.fault.FileFault.TheVariants.{File, Other
 use Rattle.rinex_inspect.proofs.CheckLemmas.{none_written, refused}
 use Rattle.devices.proofs.PrintingLaws.{longer_part, printed_after, printed_later}
 use Rattle.rinex_inspect.proofs.MissingLemmas.{gaps_next, gaps_prefix, missing_next, missing_small, rise_front}
-use Rattle.rinex_inspect.proofs.Names.{ReaderFailures, culprit, CheckOptions, Completeness, CountsMissing, EndsCheck, IsCompleteness, IsEndOutput, IsOutput, IsSummary, inl, Rise, all_gaps_if, gap_with, gaps_if, inr, missing_if, missing_with, times_in, ⊤, AppendsPrefix, AreTimes, AreTimesOrNone, EpochTimes, FileValue, IfSome, IsCheckedOr, IsFileValue, check_line, complete_if, IfSome_then, IsDelivered, ReadsGaps, append_assoc, file_lines, file_text, length, most_lines, steps_of, times_if, ◌≡◌, ◌∙◌, ◌+◌, ◌<◌, ◌≤◌, ◌∷◌, ◌++◌, [], ap, arith, refl, subst, sym, ℕ, List, Option, Devices, Writer, EndsPrinting, Err, FileSummary, IsSummaryOf, FileFault, IsPrefix, LeavesRest, Ok, PrintsText, ReadsEpoch, Result, Stamped, map, time_stamped, map-append}
+use Rattle.rinex_inspect.proofs.Names.{ReaderFailures, culprit, CheckOptions, Completeness, CountsMissing, EndsCheck, IsCompleteness, IsEndOutput, IsOutput, IsSummary, inl, Rise, all_gaps_if, gap_with, gaps_if, inr, missing_if, missing_with, times_in, ⊤, AppendsPrefix, AreTimes, AreTimesOrNone, EpochTimes, FileValue, IfSome, IsCheckedOr, IsFileValue, check_line, complete_if, IfSome_then, IsDelivered, ReadsGaps, append_assoc, file_lines, file_text, length, most_lines, steps_of, times_if, ◌≡◌, ◌∙◌, ◌+◌, ◌<◌, ◌≤◌, ◌∷◌, ◌++◌, [], ap, arith, refl, subst, sym, ℕ, List, Option, Devices, Writer, EndsPrinting, Err, FileSummary, IsSummaryOf, FileFault, IsPrefix, LeavesRest, Ok, PrintsText, Result, Stamped, map, time_stamped, map-append}
 use Rattle.std.proofs.Common.{◌^◌}
 
 pub leaves_all : (a : Option (List ℕ)) → LeavesRest a a

@@ -50,12 +50,6 @@ bad_interval (Some text) (Some n) e = cc
 
 -- ---- dates and times
 
--- the same of a time
-pub time_given : (option : DateOption) (otherwise : ℕ) (f : Found) (id : List ℕ) (r o : Option (Bor (List ℕ))) (time : Result ℕ CommandFault) → option_map (λ s. s.now) r ≡ first_value f id → r ≡ o → IsTimeIn option otherwise (option_map (λ s. s.now) o) time
-    → IsTimeIn option otherwise (first_of id (rows_of f)) time
-time_given option otherwise f id r o time is found h =
-    subst (λ (t : Option (List ℕ)). IsTimeIn option otherwise t time) (ap (option_map (λ (s : Bor (List ℕ)). s.now)) (sym found) ∙ is ∙ first_value-rows f id) h
-
 -- noon by the first value found of an option, and by the options as clap's definitions list them
 pub noon_given : (f : Found) (id : List ℕ) (r o : Option (Bor (List ℕ))) (near : Option ℕ) → option_map (λ s. s.now) r ≡ first_value f id → r ≡ o
     → IsNoonOf (option_map (λ s. s.now) o) near ↔ IsNoonOf (first_of id (rows_of f)) near
@@ -123,6 +117,20 @@ pub moment_given : (option : DateOption) (f : Found) (id : List ℕ) (r o : Opti
     → IsTimeGiven option (first_of id (rows_of f)) time
 moment_given option f id r o time is found h =
     subst (λ (t : Option (List ℕ)). IsTimeGiven option t time) (ap (option_map (λ (s : Bor (List ℕ)). s.now)) (sym found) ∙ is ∙ first_value-rows f id) h
+
+-- the time that is given, or another one
+abbrev pub or_time : (otherwise : ℕ) → Result (Option ℕ) CommandFault → Result ℕ CommandFault
+or_time otherwise (Ok None) = Ok otherwise
+or_time otherwise (Ok (Some t)) = Ok t
+or_time otherwise (Err e) = Err e
+
+pub time_from : (option : DateOption) (otherwise : ℕ) (text : Option (List ℕ)) (time : Result (Option ℕ) CommandFault) → IsTimeGiven option text time → IsTimeIn option otherwise text (or_time otherwise time)
+time_from option otherwise None (Ok None) h = refl
+time_from option otherwise None (Ok (Some t)) h = absurd cc
+time_from option otherwise None (Err e) h = absurd cc
+time_from option otherwise (Some text) (Ok None) h = absurd h
+time_from option otherwise (Some text) (Ok (Some t)) h = h
+time_from option otherwise (Some text) (Err e) h = h
 
 -- a number that isn't 0 is at least its divisor
 pub one_or_more : (n k : ℕ) → 0 < k → 0 < n → n % k ≡ 0 → k ≤ n

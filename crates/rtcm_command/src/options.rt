@@ -218,12 +218,10 @@ fn time_of(
 ) -> Result<u64, CommandFault>
     ensures { IsTimeIn option otherwise (first_of name.now (options_of options.now)) result }
 {
-    match options.get_str(name) {
-        Some(text) => match line_texts::time_of(text) {
-            Some(time) => Ok(time.milliseconds()),
-            None => Err(CommandFault::BadDate(option)),
-        },
-        None => Ok(otherwise),
+    match moment_of(options, name, option) {
+        Ok(Some(time)) => Ok(time.milliseconds()),
+        Ok(None) => Ok(otherwise),
+        Err(fault) => Err(fault),
     }
 }
 

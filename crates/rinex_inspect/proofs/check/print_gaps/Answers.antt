@@ -3,7 +3,7 @@ use Rattle.rinex_inspect.proofs.GapLemmas.{counted_more, inside_is, inside_more,
 use Rattle.rinex_inspect.specs.Gaps.{is_inside}
 use Rattle.std.proofs.Common.{true}
 use Rattle.std.proofs.lemmas.List.Elements.{All-nil}
-use Rattle.rinex_inspect.proofs.Names.{◌≡◌, Appends, ◌∙◌, ◌++◌, ◌∷◌, [], ap, arith, refl, subst, sym, Appends-nil, Err, FileFault, ReadsGaps, ℕ, passed, ReaderFailures, culprit, devices_of, writer_of}
+use Rattle.rinex_inspect.proofs.Names.{◌≡◌, Appends, ◌∙◌, ◌++◌, ◌∷◌, [], arith, refl, subst, sym, Appends-nil, Err, FileFault, ReadsGaps, ℕ, passed, ReaderFailures, culprit, devices_of, writer_of}
 use Rattle.rinex_inspect.proofs.check.print_gaps.Goals as goal
 
 pub loop-before-init : goal.loop-before-init

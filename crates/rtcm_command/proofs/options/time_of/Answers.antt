@@ -1,17 +1,14 @@
-use Rattle.rtcm_command.proofs.OptionLemmas.{time_given}
-use Rattle.rtcm_command.proofs.Names.{refl, subst, sym, None, Some, Ok, Err, IsTimeOf, found_of}
-use Rattle.command_faults.specs.declared.fault.CommandFault.TheVariants as faults
+use Rattle.rtcm_command.proofs.OptionLemmas.{time_from}
+use Rattle.rtcm_command.proofs.Names.{subst, sym, ℕ, None, Some, Ok, Err, IsTimeIn, first_of, options_of}
 use Rattle.rtcm_command.proofs.options.time_of.Goals as goal
 
-pub returns-in-Some-time_of : goal.returns-in-Some-time_of
-returns-in-Some-time_of c =
-    time_given c.args.option c.args.otherwise (found_of c.args.options.now) c.args.name.now c.get_str.result (Some c.in-Some.text) (Ok c.milliseconds.result) c.get_str.ensures c.in-Some.is
-    (subst (IsTimeOf c.in-Some.text.now) (sym c.milliseconds.ensures.value) c.in-Some-time_of.ensures)
+pub returns-in-Ok-Some : goal.returns-in-Ok-Some
+returns-in-Ok-Some c =
+    let text = first_of c.args.name.now (options_of c.args.options.now) in
+    subst (λ (n : ℕ). IsTimeIn c.args.option c.args.otherwise text (Ok n)) (sym c.milliseconds.ensures.value) (time_from c.args.option c.args.otherwise text (Ok (Some c.in-Ok-Some.time)) c.in-Ok-Some.ensures)
 
-pub returns-in-None-time_of : goal.returns-in-None-time_of
-returns-in-None-time_of c =
-    time_given c.args.option c.args.otherwise (found_of c.args.options.now) c.args.name.now c.get_str.result (Some c.in-Some.text) (Err (faults.BadDate c.args.option)) c.get_str.ensures c.in-Some.is (refl, c.in-None-time_of.ensures)
+pub returns-in-Ok-None : goal.returns-in-Ok-None
+returns-in-Ok-None c = time_from c.args.option c.args.otherwise (first_of c.args.name.now (options_of c.args.options.now)) (Ok None) c.in-Ok-None.ensures
 
-pub returns-in-None : goal.returns-in-None
-returns-in-None c =
-    time_given c.args.option c.args.otherwise (found_of c.args.options.now) c.args.name.now c.get_str.result None (Ok c.args.otherwise) c.get_str.ensures c.in-None.is refl
+pub returns-in-Err : goal.returns-in-Err
+returns-in-Err c = time_from c.args.option c.args.otherwise (first_of c.args.name.now (options_of c.args.options.now)) (Err c.in-Err.fault) c.in-Err.ensures
