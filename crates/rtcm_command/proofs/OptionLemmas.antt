@@ -151,7 +151,7 @@ refused_window interval options (Ok from) (Err e) fault f u is = refused_time da
 refused_window interval options (Ok None) (Ok until) fault f u is = absurd cc
 refused_window interval options (Ok (Some from)) (Ok None) fault f u is = absurd cc
 refused_window interval options (Ok (Some from)) (Ok (Some until)) fault f u is = by (nat_lt from until && ((until - from) % interval == 0)) is where
-  by : (b : Bool) → Err fault ≡ (if b then Ok (Some (record { from = from; until = until })) else Err faults.BadGapsWindow) → culprit fault ≡ NoDevice
+  by : (b : Bool) → ◌≡◌ {A = Result (Option Window) CommandFault} (Err fault) (if b then Ok (Some (record { from = from; until = until })) else Err faults.BadGapsWindow) → culprit fault ≡ NoDevice
   by true is = absurd cc
   by false is = let same : fault ≡ faults.BadGapsWindow = cc in ap culprit same
 
@@ -166,5 +166,23 @@ refused_complete options fault set = by (lacks_one options) (gaps_set options) r
   by false (Ok None) e same = absurd cc
   by false (Ok (Some interval)) e (window, is, same) = of interval window is same
 
-pub no_device : {R W : Type 0} {fault : CommandFault} (d : Devices R W) → culprit fault ≡ NoDevice → HaveFailedBy (culprit fault) d d
-no_device d none = subst (λ (c : Culprit). HaveFailedBy c d d) (sym none) (refl, refl)
+pub no_device : {R W : Type 0} (fault : CommandFault) (d : Devices R W) → culprit fault ≡ NoDevice → HaveFailedBy (culprit fault) d d
+no_device fault d none = subst (λ (c : Culprit). HaveFailedBy c d d) (sym none) (refl, refl)
+
+pub complete_lacks : (options : List Row) → lacks_one options ≡ true → IsCompleteSet options (Err faults.AllOf)
+complete_lacks options e = subst (λ (b : Bool). IsCompleteBy b (gaps_set options) options (Err faults.AllOf)) (sym e) refl
+
+pub complete_refused : {fault : CommandFault} (options : List Row) → lacks_one options ≡ false → Err fault ≡ gaps_set options → IsCompleteSet options (Err fault)
+complete_refused {fault} options e is =
+    subst (λ (b : Bool). IsCompleteBy b (gaps_set options) options (Err fault)) (sym e) (subst (λ (g : Result (Option ℕ) CommandFault). IsCompleteBy false g options (Err fault)) is refl)
+
+pub complete_none : (options : List Row) → lacks_one options ≡ false → Ok None ≡ gaps_set options → IsCompleteSet options (Ok None)
+complete_none options e is =
+    subst (λ (b : Bool). IsCompleteBy b (gaps_set options) options (Ok None)) (sym e) (subst (λ (g : Result (Option ℕ) CommandFault). IsCompleteBy false g options (Ok None)) is refl)
+
+pub complete_window : {interval : ℕ} (options : List Row) (window : Result (Option Window) CommandFault) → lacks_one options ≡ false → Ok (Some interval) ≡ gaps_set options → IsWindowOf interval options window
+    → IsCompleteSet options (complete_with interval window)
+complete_window {interval} options window e is of =
+    let complete = complete_with interval window in
+    subst (λ (b : Bool). IsCompleteBy b (gaps_set options) options complete) (sym e)
+    (subst (λ (g : Result (Option ℕ) CommandFault). IsCompleteBy false g options complete) is (window, of, refl))

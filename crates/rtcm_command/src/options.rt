@@ -133,9 +133,9 @@ fn whole_window_of(options: &ArgMatches, interval: u64) -> Result<Option<Window>
     ensures set { IsWindowOf interval (options_of options.now) result }
     ensures fits { IfOk result (λ window. IfSome window (λ w. w.from + interval ≤ w.until)) }
 {
-    let from = moment_of(options, "from", DateOption::From)?;
-    let until = moment_of(options, "until", DateOption::Until)?;
-    match (from, until) {
+    let from = moment_of(options, "from", DateOption::From);
+    let until = moment_of(options, "until", DateOption::Until);
+    match (from?, until?) {
         (Some(from), Some(until)) => whole_window(interval, from, until),
         _ => Ok(None),
     }

@@ -79,4 +79,4 @@ returns-in_err-complete-in_default-name g c =
     let n = is_check c.args.matches.now c.requires found c.in_default-name.not-frames c.in_default-name.not-show c.in_default-name.not-signals c.in_default-name.not-options c.in_default-name.not-convert in
     let d = devices_of g.R.Read.remaining g.W.Write.contents g.W.Deliver.waiting c.args.reader.now c.args.writer.now in
     let set = c.in_err-complete-in_default-name.ensures.set in
-    option_refused d (writer_of g.E.Write.contents g.E.Deliver.waiting c.args.faults.now) c.from_residual-in_err-complete-in_default-name.result c.from_residual-in_err-complete-in_default-name.ensures.1 found refl (no_device d (refused_complete _ _ set)) (inr (inr (inr (inr (n, set, (refl, refl))))))
+    option_refused d (writer_of g.E.Write.contents g.E.Deliver.waiting c.args.faults.now) c.from_residual-in_err-complete-in_default-name.result c.from_residual-in_err-complete-in_default-name.ensures.1 found refl (no_device c.in_err-complete-in_default-name.field-0.0 d (refused_complete (options_of c.in-Some.options.now) c.in_err-complete-in_default-name.field-0.0 set)) (inr (inr (inr (inr (n, set, (refl, refl))))))
