@@ -1,6 +1,6 @@
 use Rattle.rtcm_command.proofs.CommandLemmas.{ends_so, file_found, inspection_found, is_check, option_refused, sub_found}
 use Rattle.rtcm_command.proofs.OptionLemmas.{no_device, refused_complete}
-use Rattle.rtcm_command.proofs.Names.{◌∙◌, Bool, inl, inr, refl, subst, sym, EndsInspection, devices_of, options_of, writer_of}
+use Rattle.rtcm_command.proofs.Names.{◌∙◌, Bool, inl, inr, refl, subst, sym, devices_of, options_of, writer_of}
 use Rattle.rtcm_scan.specs.Scan.{most_bytes}
 use Rattle.rinex_inspect.specs.Checking.{EndsCheck}
 use Rattle.rtcm_inspect.specs.Listing.{EndsListing}
