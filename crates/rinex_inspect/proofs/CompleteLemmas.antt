@@ -118,8 +118,8 @@ covered_more {xs} {p} {k} j c h = record {
       let all : number_among xs m + k ≡ p = c.sum m (omega (arith, h, fits)) in
       let less : p ≤ j = omega (arith, h, other) in
       omega (arith, one, all, less) where
-    under_of : (ys : List ℕ) → All (λ i. i < p) ys → All (λ i. i < j) ys
-    under_of [] all = All-nil (λ i. i < j)
-    under_of (y ∷ ys) all =
-        let first : y < p = All-head (λ i. i < p) y ys all in
-        All-cons (λ i. i < j) y ys (omega (arith, first, h, other)) (under_of ys (All-tail (λ i. i < p) y ys all))
+        under_of : (ys : List ℕ) → All (λ i. i < p) ys → All (λ i. i < j) ys
+        under_of [] all = All-nil (λ i. i < j)
+        under_of (y ∷ ys) all =
+            let first : y < p = All-head (λ i. i < p) y ys all in
+            All-cons (λ i. i < j) y ys (omega (arith, first, h, other)) (under_of ys (All-tail (λ i. i < p) y ys all))

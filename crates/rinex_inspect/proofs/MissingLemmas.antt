@@ -94,7 +94,7 @@ missing_next None ts before time are = refl
 missing_next (Some g) ts before time are =
     let o = origin_with g before time in
     let last : missing_between (last_placed (start o) (map (placed g o) ts)) (placed g o time) + 0 ≡ missing_with (Some g) before time =
-        ap (λ p. missing_between p (placed g o time) + 0) (last_of g ts before o are) ∙ omega arith in
+    ap (λ p. missing_between p (placed g o time) + 0) (last_of g ts before o are) ∙ omega arith in
     ap (λ (n : ℕ). missing_from (start (origin_in g.window n)) (map (placed g (origin_in g.window n)) (ts ++ time ∷ []))) (first_is g ts before time are)
     ∙ ap (missing_from (start o)) (map-append (placed g o) ts (time ∷ []))
     ∙ missing_split (start o) (map (placed g o) ts) (placed g o time ∷ [])
@@ -158,7 +158,7 @@ module _ (g : Completeness) (is : IsCompleteness g) (o : ℕ) where
   few_missing ts time rise =
       let c = all_covered (ts ++ time ∷ []) rise in
       let last : (last_placed (start o) (map (placed g o) (ts ++ time ∷ []))).place ≡ index_of g o time + 1 =
-          ap (λ (l : List Placed). (last_placed (start o) l).place) (map-append (placed g o) ts (time ∷ [])) ∙ ap (λ (p : Placed). p.place) (last_is (start o) (map (placed g o) ts) (placed g o time)) in
+      ap (λ (l : List Placed). (last_placed (start o) l).place) (map-append (placed g o) ts (time ∷ [])) ∙ ap (λ (p : Placed). p.place) (last_is (start o) (map (placed g o) ts) (placed g o time)) in
       let small = index_small time in
       let all = c.sum (last_placed (start o) (map (placed g o) (ts ++ time ∷ []))).place (omega arith) in
       omega (arith, all, last, small)
@@ -174,11 +174,10 @@ gaps_prefix (Some g) [] us = (all_gaps g us, refl)
 gaps_prefix (Some g) (t ∷ ts) us =
     let o = origin_of g (t ∷ ts) in
     let first = map (placed g o) (t ∷ ts) in
-    let more = map (placed g o) us ++ ends_in g.window g.interval in
-    (
+    let more = map (placed g o) us ++ ends_in g.window g.interval in (
       gaps_from (last_placed (start o) first) more,
       ap (gaps_from (start o)) (ap (λ l. l ++ ends_in g.window g.interval) (map-append (placed g o) (t ∷ ts) us) ∙ append_assoc first (map (placed g o) us) (ends_in g.window g.interval))
-      ∙ gaps_split (start o) first more,
+          ∙ gaps_split (start o) first more,
     )
 
 -- ---- a whole file
@@ -215,12 +214,13 @@ no_gaps p (q ∷ qs) none =
     let first = no_gap p q (left_nil (gap_between p q) (gaps_from q qs) none) in
     let rest = no_gaps q qs (right_nil (gap_between p q) (gaps_from q qs) none) in
     omega (arith, first, rest) where
-  left_nil : (xs ys : List ℕ) → xs ++ ys ≡ [] → xs ≡ []
-  left_nil [] ys e = refl
-  left_nil (x ∷ xs) ys e = absurd cc
-  right_nil : (xs ys : List ℕ) → xs ++ ys ≡ [] → ys ≡ []
-  right_nil [] ys e = e
-  right_nil (x ∷ xs) ys e = absurd cc
+      left_nil : (xs ys : List ℕ) → xs ++ ys ≡ [] → xs ≡ []
+      left_nil [] ys e = refl
+      left_nil (x ∷ xs) ys e = absurd cc
+
+      right_nil : (xs ys : List ℕ) → xs ++ ys ≡ [] → ys ≡ []
+      right_nil [] ys e = e
+      right_nil (x ∷ xs) ys e = absurd cc
 
 none_missing_from : (p : Placed) (qs : List Placed) → missing_from p qs ≡ 0 → gaps_from p qs ≡ []
 none_missing_from p [] none = refl

@@ -260,11 +260,7 @@ fn add_gap(text: &mut OutputLine, last: Placed, next: Placed) -> u64
 
 /// Adds the line of the gap after the last epoch, if there is one and it is asked for, and returns
 /// the number of missing epochs.
-fn add_last_gap(
-    text: &mut OutputLine,
-    complete: &Option<Completeness>,
-    times: &EpochTimes,
-) -> u64
+fn add_last_gap(text: &mut OutputLine, complete: &Option<Completeness>, times: &EpochTimes) -> u64
     requires empty { text.old ≡ [] }
     requires fits { IfSome complete.now IsCompleteness }
     ensures text { text.new ≡ end_gap_if complete.now times.now }

@@ -160,6 +160,7 @@ refused_complete options fault set = by (lacks_one options) (gaps_set options) r
   of : (interval : ℕ) (window : Result (Option Window) CommandFault) → IsWindowOf interval options window → Err fault ≡ complete_with interval window → culprit fault ≡ NoDevice
   of interval (Err e) (from, until, f, u, is) same = refused_window interval options from until fault f u (let e_is : e ≡ fault = cc in ap Err (sym e_is) ∙ is)
   of interval (Ok w) h same = absurd cc
+
   by : (b : Bool) (gaps : Result (Option ℕ) CommandFault) → gaps_set options ≡ gaps → IsCompleteBy b gaps options (Err fault) → culprit fault ≡ NoDevice
   by true gaps e same = let is : fault ≡ faults.AllOf = cc in ap culprit is
   by false (Err x) e same = let is : fault ≡ faults.BadGaps = (let known : x ≡ faults.BadGaps = bad_interval (first_of (codes "gaps") options) _ e in cc) in ap culprit is
