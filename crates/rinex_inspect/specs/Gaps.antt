@@ -1,6 +1,7 @@
 -- The epochs of a complete file, which are at one interval, and the gaps between those of a file. Times and intervals
 -- are in milliseconds.
-use Rattle.std.specs.Prelude.{◌≡◌, ◌&&◌, nat_le, true, All, ◌==◌, ℕ, ◌+◌, ◌-◌, ◌/◌, ◌<◌, ◌≤◌, nat_lt, min, Bool, List, [], ◌∷◌, ◌++◌, map, codes}
+use Rattle.std.specs.Prelude.{◌≡◌, ◌&&◌, nat_le, true, All, ◌==◌, ℕ, ◌+◌, ◌-◌, ◌/◌, ◌<◌, ◌≤◌, nat_lt, min, Bool, List, []}
+use Rattle.std.specs.Prelude.{◌∷◌, ◌++◌, map, codes}
 use Rattle.std.specs.Prelude.{if◌then◌else◌, Option, Some, None, IfSome}
 use Rattle.std.specs.List.{count_by, list_any}
 use Rattle.gnss_obs.specs.Plans.{below}
@@ -54,7 +55,7 @@ intervals_to g origin t = ((t + early g) - origin) / g.interval
 abbrev pub window_size : ℕ → Window → ℕ
 window_size interval w = (w.until - w.from) / interval
 
--- the index of an epoch that is this number of intervals after the origin; in a window at most that of its last interval
+-- the index of an epoch that is this number of intervals after the origin; in a window at most its last index
 abbrev pub capped : Option Window → Completeness → ℕ → ℕ
 capped None g n = n
 capped (Some w) g n = min n (window_size g.interval w - 1)
@@ -77,8 +78,8 @@ is_among indexes n = list_any (λ i. i == n) indexes
 abbrev pub number_among : List ℕ → ℕ → ℕ
 number_among indexes m = count_by (is_among indexes) (below m)
 
--- the number of epochs of a complete file whose last epoch is at this time: the intervals of the window; or the index of
--- that epoch plus one
+-- the number of epochs of a complete file whose last epoch is at this time: the intervals of the window; or the index
+-- of that epoch plus one
 abbrev pub size_in : Option Window → Completeness → (origin last : ℕ) → ℕ
 size_in None g origin last = index_of g origin last + 1
 size_in (Some w) g origin last = window_size g.interval w

@@ -1,6 +1,7 @@
 //! The command `check`: whether the input is a file as `convert` writes it, its counts, the times
 //! of its epochs, and the gaps between them.
-ghost use Rattle.std.specs.Prelude.{◌≡◌, ◌+◌, ◌*◌, ◌<◌, ◌≤◌, ◌++◌, [], List, Option, ℕ, IfErr, IfOk, IfSome, is_some, true, length};
+ghost use Rattle.std.specs.Prelude.{◌≡◌, ◌+◌, ◌*◌, ◌<◌, ◌≤◌, ◌++◌, [], List, Option, ℕ, IfErr, IfOk, IfSome};
+ghost use Rattle.std.specs.Prelude.{is_some, true, length};
 ghost use Rattle.gnss_obs.specs.Weeks.{week, weeks};
 ghost use Rattle.rinex_file.specs.Blocks.{LeavesRest};
 ghost use Rattle.rinex_file.specs.Counting.{AreCounts, IsSummary};
@@ -77,9 +78,9 @@ pub fn run_check<R: Read, W: Deliver>(
 ///
 /// # Errors
 ///
-/// `File` with the fault of [`EpochReader::next`], `OtherDay` with the number of the line of the first
-/// epoch that is outside of the window, judged before the lines of its satellites, and `Write` if the
-/// writer failed.
+/// `File` with the fault of [`EpochReader::next`], `OtherDay` with the number of the line of the
+/// first epoch that is outside of the window, judged before the lines of its satellites, and
+/// `Write` if the writer failed.
 // Not inlined, so that the parser's block of bytes isn't in the stack frame of every command.
 #[inline(never)]
 pub fn run_check_with<R: Read, W: Deliver>(

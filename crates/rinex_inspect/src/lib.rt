@@ -1,5 +1,5 @@
-//! What is in an observation file, as text: its counts, the times of its epochs, and the gaps between
-//! them. Lines, dates and lengths of texts are those of `line_texts`.
+//! What is in an observation file, as text: its counts, the times of its epochs, and the gaps
+//! between them. Lines, dates and lengths of texts are those of `line_texts`.
 //!
 //! ```
 //! /// The line of the counts of a file.

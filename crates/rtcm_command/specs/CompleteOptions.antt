@@ -54,7 +54,8 @@ complete_with interval (Ok window) = Ok (Some (record { interval = interval; win
 
 -- what makes the file complete, if an interval is given; or a fault: that one of the options lacks, or else that of the
 -- interval, of the begin, of the end, or of the window
-abbrev pub IsCompleteBy : Bool → Result (Option ℕ) CommandFault → List Row → Result (Option Completeness) CommandFault → Type 0
+abbrev pub IsCompleteBy : Bool → Result (Option ℕ) CommandFault → List Row
+    → Result (Option Completeness) CommandFault → Type 0
 IsCompleteBy true gaps options complete = complete ≡ Err faults.AllOf
 IsCompleteBy false (Err e) options complete = complete ≡ Err e
 IsCompleteBy false (Ok None) options complete = complete ≡ Ok None

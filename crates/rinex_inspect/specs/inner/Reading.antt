@@ -45,10 +45,13 @@ FailsByReader (Ok x) before after = after ≡ before
 FailsByReader (Err fault) before after = ReaderFailures (culprit fault) before after
 
 -- The gaps of all epochs were written; or of those before a fault; or the writer failed in those of the first epochs.
-abbrev pub ReadsGaps : {R W : Type 0} → Result (FileSummary × ℕ) FileFault → Option Completeness → (d d' : Devices R W) → Type 0
+abbrev pub ReadsGaps : {R W : Type 0} → Result (FileSummary × ℕ) FileFault → Option Completeness
+    → (d d' : Devices R W) → Type 0
 ReadsGaps (Ok (s, missing)) complete d d' =
-    (es : List Stamped) × IsTextWith (IsSummaryOf es s) d.reader.unread × IfTextOfFile d.reader.unread (IsSummaryOf es s)
-    × PrintsText (gaps_if complete (times_in es)) d.writer d'.writer × (d'.reader.device.failures ≡ d.reader.device.failures)
+    (es : List Stamped) × IsTextWith (IsSummaryOf es s) d.reader.unread
+    × IfTextOfFile d.reader.unread (IsSummaryOf es s)
+    × PrintsText (gaps_if complete (times_in es)) d.writer d'.writer
+    × (d'.reader.device.failures ≡ d.reader.device.failures)
     × CountsMissing complete (times_in es) missing × AreInside complete (times_in es)
 ReadsGaps (Err (faults.File e)) complete d d' =
     (es : List Stamped) × IfSome d.reader.unread (λ input. ExplainsFault input e × AreEpochsBefore es e input)
@@ -58,10 +61,12 @@ ReadsGaps (Err (faults.File e)) complete d d' =
     × ReaderFailures (culprit (faults.File e)) d.reader.device.failures d'.reader.device.failures
 ReadsGaps (Err (faults.OtherDay k)) complete d d' =
     (es : List Stamped) × IfSome d.reader.unread (IsOtherDay complete es k)
-    × PrintsText (gaps_if complete (times_in es)) d.writer d'.writer × (d'.reader.device.failures ≡ d.reader.device.failures)
+    × PrintsText (gaps_if complete (times_in es)) d.writer d'.writer
+    × (d'.reader.device.failures ≡ d.reader.device.failures)
 ReadsGaps (Err faults.Write) complete d d' =
     (es : List Stamped) × (n : ℕ) × (is_some complete ≡ true) × IfSome d.reader.unread (AreFirstEpochs es n)
-    × PrintsPart (gaps_if complete (times_in es)) d.writer d'.writer × (d'.reader.device.failures ≡ d.reader.device.failures)
+    × PrintsPart (gaps_if complete (times_in es)) d.writer d'.writer
+    × (d'.reader.device.failures ≡ d.reader.device.failures)
 
 -- what is written at the end of a file, after the gaps before and between its epochs
 abbrev pub IsEndOutput : CheckOptions → FileValue → EpochTimes → List ℕ → Type 0
