@@ -18,6 +18,13 @@ use Rattle.rtcm_msg.proofs.SetLaws.{by_set, message_known, message_other}
 pub field_more : (a b : List Bool) (place w : ℕ) → place + w ≤ length a → field_at (a ++ b) place w ≡ field_at a place w
 field_more a b place w h = ap number (ap (take w) (drop-append-le place a b (omega arith)) ∙ take-append-le w (drop place a) b (omega (arith, length-drop place a)))
 
+-- The first bytes determine the fields in them.
+pub field_in_front : (bytes : List ℕ) (n place w : ℕ) → n ≤ length bytes → place + w ≤ 8 * n → field_at (bits_of (take n bytes)) place w ≡ field_at (bits_of bytes) place w
+field_in_front bytes n place w long fits =
+    let split : bits_of bytes ≡ bits_of (take n bytes) ++ bits_of (drop n bytes) = ap bits_of (sym (take-append-drop n bytes)) ∙ bits_of-append (take n bytes) (drop n bytes) in
+    let room : place + w ≤ length (bits_of (take n bytes)) = let size = length-bits_of (take n bytes) in let taken = length-take-le n bytes long in omega (arith, size, taken, fits) in
+    sym (ap (λ (bits : List Bool). field_at bits place w) split ∙ field_more (bits_of (take n bytes)) (bits_of (drop n bytes)) place w room)
+
 le_more : (k : ℕ) (a b : List Bool) → k ≤ length a → nat_le k (length (a ++ b)) ≡ nat_le k (length a)
 le_more k a b h = le-leb k (length (a ++ b)) (omega (arith, length-append a b, h)) ∙ sym (le-leb k (length a) h)
 

@@ -36,6 +36,7 @@ mod station;
 mod summary;
 mod value_counts;
 mod view;
+mod weeks;
 mod writing;
 
 pub use channels::{SentChannels, channel_of_1020};
@@ -52,3 +53,4 @@ pub use station::{Station, StationParts};
 pub use summary::Summary;
 pub use value_counts::ValueCounts;
 pub use view::{Entries, Form, MsmView, View, form_as, look, look_in};
+pub use weeks::{SentWeek, sent_week};

@@ -7,6 +7,7 @@ mod known;
 mod prefixes;
 mod texts;
 mod values;
+mod weeks;
 
 use arrayvec::ArrayVec;
 use gnss_system::System;

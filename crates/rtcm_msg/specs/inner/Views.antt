@@ -1,10 +1,7 @@
 -- Messages that are read from their bytes.
-use Rattle.std.specs.Prelude.{◌≡◌, ℕ, ◌+◌, ◌*◌, ◌≤◌, List, length, Result, Ok}
-use Rattle.gnss_system.specs.declared.system.System.{System}
+use Rattle.std.specs.Prelude.{◌≡◌, ℕ, ◌+◌, ◌*◌, ◌≤◌, List, length}
 use Rattle.rtcm_msg.specs.declared.message.Message.{Message}
-use Rattle.rtcm_msg.specs.declared.message.Message.TheVariants as messages
 use Rattle.rtcm_msg.specs.declared.view.Form.{Form}
-use Rattle.rtcm_msg.specs.declared.view.Form.TheVariants as forms
 use Rattle.rtcm_msg.specs.declared.view.Data.{Data}
 use Rattle.rtcm_msg.specs.declared.view.Data.TheVariants as datas
 use Rattle.rtcm_msg.specs.declared.data.LastBits.{LastBits}
@@ -12,10 +9,7 @@ use Rattle.rtcm_msg.specs.inner.LastBits.{AreLast}
 use Rattle.rtcm_msg.specs.inner.Rows.{rows_at}
 use Rattle.rtcm_bits.specs.Bits.{bits_of}
 use Rattle.rtcm_bits.specs.FrameOf.{longest_message}
-use Rattle.rtcm_bits.specs.Cursors.{Cursor}
-use Rattle.rtcm_msg.specs.declared.fault.MsgFault.{MsgFault}
-use Rattle.rtcm_msg.specs.Fields.{◌>>=◌}
-use Rattle.rtcm_msg.specs.Msm.{MsmValue, msm_at, satellite_mask_bits, most_pairs}
+use Rattle.rtcm_msg.specs.Msm.{MsmValue, satellite_mask_bits, most_pairs}
 use Rattle.rtcm_msg.specs.Packed.{total_width}
 use Rattle.rtcm_msg.specs.Forms.{satellite_widths, cell_widths}
 use Rattle.rtcm_msg.specs.Decoding.{message_in}

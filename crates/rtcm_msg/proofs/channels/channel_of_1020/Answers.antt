@@ -1,9 +1,8 @@
-use Rattle.std.proofs.Common.{ℕ, ◌≡◌, ◌≢◌, ◌+◌, ◌<◌, ◌≤◌, ◌==◌, ◌++◌, ◌∙◌, Bool, true, false, List, length, take, drop, nat_le, Some, None, refl, sym, ap, arith, lit≤}
-use Rattle.std.proofs.lemmas.List.{take-append-drop, length-take-le}
-use Rattle.rtcm_bits.proofs.BitLaws.{bits_of-append, length-bits_of}
+use Rattle.std.proofs.Common.{ℕ, ◌≡◌, ◌≢◌, ◌+◌, ◌<◌, ◌≤◌, ◌==◌, ◌∙◌, true, false, List, length, take, nat_le, Some, None, refl, sym, arith, lit≤}
+use Rattle.rtcm_bits.proofs.BitLaws.{length-bits_of}
 use Rattle.rtcm_msg.specs.inner.Names.{bits_of, field_at}
 use Rattle.rtcm_msg.specs.Channels.{channel_of_1020}
-use Rattle.rtcm_msg.proofs.LongLaws.{field_more}
+use Rattle.rtcm_msg.proofs.LongLaws.{field_in_front}
 use Rattle.rtcm_msg.proofs.channels.channel_of_1020.Goals as goal
 
 too_short : (bytes : List ℕ) → length bytes < 3 → channel_of_1020 bytes ≡ None
@@ -17,10 +16,7 @@ module _ (bytes : List ℕ) (long : 3 ≤ length bytes) where
 
   -- The first three bytes determine the fields.
   same : (place w : ℕ) → place + w ≤ 24 → field_at (bits_of (take 3 bytes)) place w ≡ field_at (bits_of bytes) place w
-  same place w fits =
-      let split : bits_of bytes ≡ bits_of (take 3 bytes) ++ bits_of (drop 3 bytes) = ap bits_of (sym (take-append-drop 3 bytes)) ∙ bits_of-append (take 3 bytes) (drop 3 bytes) in
-      let room : place + w ≤ length (bits_of (take 3 bytes)) = let size = length-bits_of (take 3 bytes) in let three = length-take-le 3 bytes long in omega (arith, size, three, fits) in
-      sym (ap (λ (bits : List Bool). field_at bits place w) split ∙ field_more (bits_of (take 3 bytes)) (bits_of (drop 3 bytes)) place w room)
+  same place w fits = field_in_front bytes 3 place w long fits
 
   another : (n : ℕ) → n ≡ field_at (bits_of (take 3 bytes)) 0 12 → n ≢ 1020 → channel_of_1020 bytes ≡ None
   another n is not_it =
