@@ -20,6 +20,7 @@ from .messages import (
     numbers_of,
 )
 from .options import FORMS_OF, OPTION_NAMES, Fault, leap_seconds_at
+from .weeks import Counted, First, check_near, week_sent
 
 KINDS = ("station", "other", "ignored", "late", "past", "taken")
 Report = dict[str, int]
@@ -132,10 +133,10 @@ def plan_words(counts: dict[tuple[str, str], int], glonass: list[str]) -> list[s
     return words
 
 
-def glonass_words(channels: Channels, noon: int | None) -> list[str]:
+def glonass_words(channels: Channels, leap_seconds: int | None) -> list[str]:
     texts = ",".join(f"{slot}:{channel}" for slot, channel in sorted(channels.items()))
     words = [f"--glonass-channels {texts}"] if channels else []
-    return words + ([] if noon is None else [f"--leap-seconds {leap_seconds_at(noon)}"])
+    return words + ([] if leap_seconds is None else [f"--leap-seconds {leap_seconds}"])
 
 
 def station_words(first: Station | None) -> list[str]:
@@ -147,9 +148,26 @@ def station_words(first: Station | None) -> list[str]:
     return words
 
 
-def option_line(data: bytes, station: int | None, noon: int | None = None, numbers: set[int] = EVERY) -> str:
-    """Returns the options of `convert` that fit a stream, of this station or of its only one."""
-    messages = messages_of(frames_of(data), numbers)
+def read_frames(data: bytes, numbers: set[int]) -> list[tuple[bytes, Message | None]]:
+    """Returns each message with what is read of it, or None if it is refused."""
+    read = []
+    for _, message in frames_of(data):
+        try:
+            read.append((message, decode(message, numbers)))
+        except Refused:
+            read.append((message, None))
+    return read
+
+
+# A source of the week that is the stream's ephemerides, in place of the noon of a date.
+EPHEMERIDES = "ephemerides"
+
+
+def option_line(data: bytes, station: int | None, source: int | str | None = None, numbers: set[int] = EVERY) -> str:
+    """Returns the options of `convert` that fit a stream, of this station or of its only one, with the week near the
+    noon of a date, or by the ephemerides."""
+    read = read_frames(data, numbers)
+    messages = [message for _, message in read if message is not None]
     stations = stations_of(messages)
     if station is None and len(stations) > 1:
         raise Fault(f"SeveralStations {stations[0]} {stations[1]}")
@@ -157,13 +175,24 @@ def option_line(data: bytes, station: int | None, noon: int | None = None, numbe
     if not counts:
         raise Fault("NoSignal")
     msms = observed(messages, station)
-    text = "all" if any(read.number % 10 in (5, 6) and counted(read) for read in msms) else "4,7"
+    text = "all" if any(msm.number % 10 in (5, 6) and counted(msm) for msm in msms) else "4,7"
     # those that are decoded with these options
     decoded = numbers_of({"G", "E"} | {system for system, _ in counts}, FORMS_OF[text])
-    msms = [read for read in msms if read.number in decoded]
-    words = [] if noon is None else [f"--week {week_near(msms[0].gps_time(leap_seconds_at(noon)), noon)}"]
+    week, leap_seconds = None, None
+    if source is not None:
+        times = Counted(read, station)
+        own = [place for place, (_, msm) in enumerate(read) if observed([msm], station)]
+        place = next(place for place in own if read[place][1].number in decoded)
+        first = First(read[place][1], times.at(place))
+        if source == EPHEMERIDES:
+            week, leap_seconds = week_sent(times, first)
+        else:
+            check_near(times, first, source)
+            leap_seconds = leap_seconds_at(source)
+            week = week_near(first.msm.gps_time(leap_seconds), source)
+    words = [] if week is None else [f"--week {week}"]
     words += [] if station is None else [f"--station {station}"]
-    words += plan_words(counts, glonass_words(channels_in(messages, station), noon))
+    words += plan_words(counts, glonass_words(channels_in(messages, station), leap_seconds))
     words += ["--msm all"] if text == "all" else []
     return " ".join(words + station_words(first_station(messages, station)))
 

@@ -3,8 +3,8 @@ use Rattle.std.specs.Prelude.{ℕ, Result, Ok, Err}
 use Rattle.command_faults.specs.declared.fault.CommandFault.{CommandFault}
 use Rattle.command_faults.specs.declared.fault.CommandFault.TheVariants as faults
 
--- the exit status of a fault: 2 for two options of which not one is given, and for an invalid date, position, height,
--- list of channels, window, interval or tolerance
+-- the exit status of a fault: 2 for two options of which not one is given, or three of which not all are, and for an
+-- invalid date, position, height, list of channels, window, interval or tolerance
 abbrev pub fault_status : CommandFault → ℕ
 fault_status faults.OneOf = 2
 fault_status (faults.BadDate option) = 2

@@ -88,6 +88,10 @@ planned_with other = planned other ∷ []
 abbrev pub station : Rule
 station = read_by (value.Signed (pos 0) (pos 4095)) (option (codes "station"))
 
+-- whether the week is printed by the ephemerides
+abbrev pub by_ephemerides : Rule
+by_ephemerides = flag (codes "week")
+
 abbrev pub times : Rule
 times = flag (codes "times")
 
@@ -147,7 +151,7 @@ abbrev pub of_station : Text → App
 of_station name = with_options (new_app name) (station ∷ [])
 
 abbrev pub fitting : App
-fitting = with_options (of_station (codes "options")) (near ∷ [])
+fitting = with_options (of_station (codes "options")) (by_ephemerides ∷ near ∷ [])
 
 abbrev pub show : App
 show = with_options (new_app (codes "show")) (all ∷ [])

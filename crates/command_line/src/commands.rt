@@ -131,16 +131,18 @@ const OPTIONS: CommandRow<'static> = CommandRow {
                < stream.rtcm3 > station.obs\n\
                A line as '--gps 1C,2W --galileo none --position=1.0000,-2.0000,3.0000' has\n\
                every signal with a pseudorange, a phase, a Doppler shift or a strength, and\n\
-               the position of the first message 1005 or 1006. With --near it begins with\n\
-               the week, as '--week 2300', and has the leap seconds for GLONASS; with\n\
-               --station it has the station. Without --station a stream of several stations\n\
-               is refused.",
+               the position of the first message 1005 or 1006. With --week or --near it\n\
+               begins with the week, as '--week 2300', and has the leap seconds for GLONASS;\n\
+               with --station it has the station. Without --station a stream of several\n\
+               stations is refused.",
     options: option_rows! {
         None => {
             "station", "NUMBER", false, &[], STATION, Set, STATION_HELP;
+            "week", "", false, &[], ValueParser::Bool, SetTrue,
+                "Prints --week, by the ephemerides of the stream";
             "near", "DATE", false, &[], TEXT, Set,
                 "GPS date within half a week of the first\n\
-                 observations, as 2024-02-04: prints --week too";
+                 observations, as 2024-02-04: prints --week by it";
         }
     },
 };

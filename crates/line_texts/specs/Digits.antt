@@ -1,5 +1,5 @@
 -- The last digits of numbers.
-use Rattle.std.specs.Prelude.{ℕ, ◌+◌, ◌/◌, ◌%◌, List, [], ◌∷◌}
+use Rattle.std.specs.Prelude.{ℕ, ◌+◌, ◌/◌, ◌%◌, List, [], ◌∷◌, ◌++◌, codes}
 
 -- the last digit of a number
 abbrev pub digit : ℕ → ℕ
@@ -15,3 +15,7 @@ three_digits n = digit (n / 100) ∷ digit (n / 10) ∷ digit n ∷ []
 -- the last four digits of a number
 abbrev pub four_digits : ℕ → List ℕ
 four_digits n = digit (n / 1000) ∷ digit (n / 100) ∷ digit (n / 10) ∷ digit n ∷ []
+
+-- a date: year, month and day
+abbrev pub calendar_text : (year month day : ℕ) → List ℕ
+calendar_text year month day = four_digits year ++ codes "-" ++ two_digits month ++ codes "-" ++ two_digits day

@@ -1,6 +1,6 @@
 //! A line of output.
 ghost use Rattle.std.specs.Prelude.{◌≡◌, ◌+◌, ◌<◌, ◌≤◌, [], ◌∷◌, ◌++◌, length, decimal};
-ghost use Rattle.line_texts.specs.Digits.{digit, four_digits, three_digits, two_digits};
+ghost use Rattle.line_texts.specs.Digits.{calendar_text, digit, four_digits, three_digits, two_digits};
 ghost use Rattle.line_texts.specs.Lines.{longest_line, longest_number};
 ghost use Rattle.line_texts.specs.Metres.{metres, size_text};
 
@@ -148,6 +148,17 @@ impl OutputLine {
     {
         self.add_two(separator, number / 100);
         self.put(&[digit(number / 10), digit(number)]);
+    }
+
+    /// Appends a blank and a date.
+    pub fn add_date(&mut self, year: u16, month: u8, day: u8)
+        requires { length self.old + 11 ≤ longest_line }
+        ensures text { self.new ≡ self.old ++ 0x20 ∷ calendar_text year month day }
+        ensures short { length self.new ≡ length self.old + 11 }
+    {
+        self.add_four(b' ', u64::from(year));
+        self.add_two(b'-', u64::from(month));
+        self.add_two(b'-', u64::from(day));
     }
 
     /// Appends the line feed.

@@ -59,8 +59,6 @@ pub fn two_systems()
 
 /// The week of the first observations is the given one, or the one in which their time of week is
 /// nearest to the given time. It is one from 0 to 99,999.
-#[tactic(auto, using(crate::proofs::StartLaws::given, crate::proofs::StartLaws::nearest,
-    crate::proofs::StartLaws::of_weeks))]
 pub fn first_week()
     ensures given { IsGivenWeek }
     ensures near { IsNearestFirst }

@@ -3,12 +3,12 @@ use Rattle.std.specs.Prelude.{ℕ, ◌+◌, ◌*◌, ◌/◌, List, [], ◌∷�
 use Rattle.gnss_obs.specs.Dates.{civil_of}
 use Rattle.gnss_obs.specs.declared.civil.Civil.{Civil}
 use Rattle.rinex_file.specs.declared.read.times.EpochTimes.{EpochTimes}
-use Rattle.line_texts.specs.Digits.{four_digits, three_digits, two_digits}
+use Rattle.line_texts.specs.Digits.{calendar_text, three_digits, two_digits}
 use Rattle.line_texts.specs.Lines.{line}
 
 -- year, month and day
 abbrev pub date_text : Civil → List ℕ
-date_text c = four_digits c.year ++ codes "-" ++ two_digits c.month ++ codes "-" ++ two_digits c.day
+date_text c = calendar_text c.year c.month c.day
 
 -- hour, minute and second with three decimals
 abbrev pub clock_text : Civil → List ℕ

@@ -355,9 +355,7 @@ fn add_moment(text: &mut OutputLine, time: GpsTime)
 {
     let civil = time.civil();
     let millisecond = u64::from(civil.millisecond);
-    text.add_four(b' ', u64::from(civil.year));
-    text.add_two(b'-', u64::from(civil.month));
-    text.add_two(b'-', u64::from(civil.day));
+    text.add_date(civil.year, civil.month, civil.day);
     text.add_two(b' ', u64::from(civil.hour));
     text.add_two(b':', u64::from(civil.minute));
     text.add_two(b':', millisecond / 1_000);

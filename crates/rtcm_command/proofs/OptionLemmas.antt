@@ -1,11 +1,12 @@
 -- The values of options.
+use Rattle.rtcm_command.specs.SetupOptions.{IsSourceRefused}
 use Rattle.command_faults.specs.declared.fault.DateOption.TheVariants as dated
 use Rattle.devices.specs.Devices.{Culprit, Devices, HaveFailedBy, NoDevice}
 use Rattle.rinex_inspect.specs.declared.gaps.Window.{Window}
 use Rattle.rtcm_command.specs.CompleteOptions.{IsCompleteBy, IsCompleteSet, IsTimeGiven, IsWindowOf, complete_with, is_given, lacks_one, window_with}
 use Rattle.rtcm_command.specs.Devices.{culprit}
 use Rattle.rtcm_command.specs.SetupOptions.{gaps_set}
-use Rattle.std.proofs.Common.{◌%◌, ◌-◌, ◌<◌, ◌≤◌, ◌==◌, ◌&&◌, arith, is_some}
+use Rattle.std.proofs.Common.{◌%◌, ◌-◌, ◌<◌, ◌≤◌, ◌==◌, ◌&&◌, arith, inl, inr, is_some}
 use Rattle.std.proofs.Math.Nat.{mod-eq_of_lt}
 use Rattle.std.proofs.lemmas.Bool.{ltb-false, ltb-true}
 use Rattle.command_faults.specs.declared.fault.CommandFault.TheVariants as faults
@@ -51,10 +52,13 @@ bad_interval (Some text) (Some n) e = cc
 -- ---- dates and times
 
 -- noon by the first value found of an option, and by the options as clap's definitions list them
+pub text_given : (f : Found) (id : List ℕ) (r o : Option (Bor (List ℕ))) → option_map (λ s. s.now) r ≡ first_value f id → r ≡ o → option_map (λ (s : Bor (List ℕ)). s.now) o ≡ first_of id (rows_of f)
+text_given f id r o is found = ap (option_map (λ (s : Bor (List ℕ)). s.now)) (sym found) ∙ is ∙ first_value-rows f id
+
 pub noon_given : (f : Found) (id : List ℕ) (r o : Option (Bor (List ℕ))) (near : Option ℕ) → option_map (λ s. s.now) r ≡ first_value f id → r ≡ o
     → IsNoonOf (option_map (λ s. s.now) o) near ↔ IsNoonOf (first_of id (rows_of f)) near
 noon_given f id r o near is found =
-    let same : option_map (λ (s : Bor (List ℕ)). s.now) o ≡ first_of id (rows_of f) = ap (option_map (λ (s : Bor (List ℕ)). s.now)) (sym found) ∙ is ∙ first_value-rows f id in
+    let same = text_given f id r o is found in
     (subst (λ (t : Option (List ℕ)). IsNoonOf t near) same, subst (λ (t : Option (List ℕ)). IsNoonOf t near) (sym same))
 
 -- of two options, by the first values found and by the options as clap's definitions list them
@@ -69,6 +73,11 @@ both_given P f id other r o q p is found are had h =
 pub no_noon : (text : List ℕ) → ((t : ℕ) → IsHourOf 12 text t → ⊥) → (near : Option ℕ) → IsNoonOf (Some text) near → ⊥
 no_noon text none None h = h
 no_noon text none (Some t) h = none t h
+
+-- what holds of both faults of the source of a week
+pub source_fault : (P : CommandFault → Type 0) (options : List Row) (fault : CommandFault) → P faults.OneOf → P (faults.BadDate dated.Near) → IsSourceRefused options fault → P fault
+source_fault P options fault one date (inl (flag, given, is)) = subst P (sym is) one
+source_fault P options fault one date (inr (flag, refused)) = subst P (sym refused.0) date
 
 -- ---- the fault of the choice of epochs
 

@@ -1,5 +1,5 @@
 -- A conversion with the options that `options` prints for a stream.
-use Rattle.std.specs.Prelude.{◌∷◌, nat_le, false, option_and_then, if◌then◌else◌, nat_lt, true, ◌||◌}
+use Rattle.std.specs.Prelude.{◌+◌, ◌*◌, ◌/◌, ◌∷◌, nat_le, false, option_and_then, if◌then◌else◌, nat_lt, true, ◌||◌}
 use Rattle.std.proofs.Common.{suc}
 use Rattle.std.proofs.lemmas.Bool.{lt-ltb}
 use Rattle.std.proofs.lemmas.List.Sums.{count_by-le-length}
@@ -31,13 +31,18 @@ use Rattle.obs_epoch.specs.NearWeek.{IsWeekNear}
 use Rattle.obs_epoch.specs.Starts.{first_week, is_no_week}
 use Rattle.obs_epoch.proofs.StartLaws.{given}
 use Rattle.rtcm_inspect.specs.NearWeek.{IsWeekFor}
-use Rattle.rtcm_inspect.specs.OptionOutput.{leap_near}
+use Rattle.rtcm_inspect.specs.OptionOutput.{IsPrinted}
+use Rattle.rtcm_inspect.specs.SentWeeks.{first_msm, leap_by, time_in, week_by, within_weeks}
+use Rattle.rtcm_inspect.specs.declared.first_two.FirstTwo.{FirstTwo}
+use Rattle.rtcm_inspect.specs.declared.first_two.FirstTwo.TheVariants.{One}
+use Rattle.rtcm_inspect.specs.declared.printed_week.WeekSource.{WeekSource}
+use Rattle.rtcm_inspect.specs.declared.printed_week.WeekSource.TheVariants.{Unprinted, Near, Ephemerides}
 use Rattle.rtcm_inspect.specs.SignalLaws.{AreReadAsPlan}
 use Rattle.rtcm_inspect.specs.Signals.{codes_word, forms_had, had, plan_in, set_had, valued_in}
 use Rattle.rtcm_inspect.specs.StreamChannels.{channels_in}
 use Rattle.rtcm_inspect.specs.WeekLaws.{IsDatedByStart, IsLeapFree}
 use Rattle.rtcm_convert.specs.SetupValues.{setup_value}
-use Rattle.rtcm_command.specs.PrintedPlan.{ArePrintedWords, IsDatedAsPrinted, IsDatedNear, IsStartedAsFound, StartsAsFound, leap_option}
+use Rattle.rtcm_command.specs.PrintedPlan.{ArePrintedWords, IsDatedAsPrinted, IsDatedAsSent, IsDatedIn, IsStartedAsFound, StartsAsFound, leap_option}
 use Rattle.rtcm_command.proofs.PrintedWordsLemmas.{AreAsPrinted, as_printed, channels_option, forms_text, signals_text}
 use Rattle.rtcm_command.specs.SetupOptions.{IsPlanSet}
 use Rattle.rtcm_command.specs.StationLaws.{AreChannelsSet, AreLeapSecondsRead, AreReadAsStation, AreZeroByDefault, IsStationRead, IsWeekRead}
@@ -93,28 +98,42 @@ near_small noon tow n (inl (small, near)) = small
 near_small noon tow n (inr (inl (zero, late))) = omega (arith, zero)
 near_small noon tow n (inr (inr (last, early))) = omega (arith, last)
 
-week_small : (near tow : Option ℕ) (n : ℕ) → IsWeekFor near tow (Some n) → n < weeks
-week_small None tow n h = cc
-week_small (Some noon) None n h = cc
-week_small (Some noon) (Some tow) n (m, is, near) = let same : n ≡ m = cc in subst (λ (k : ℕ). k < weeks) (sym same) (near_small noon tow m near)
-
-week_read : (options : List Row) (near tow w : Option ℕ) (start : Start) → IsWeekRead → IsWeekFor near tow w → IfSome w (λ n. first_of (codes "week") options ≡ Some (decimal n))
-    → IsStartSet options start → IfSome w (λ n. start ≡ Week n)
-week_read options near tow None start read is text set = tt
-week_read options near tow (Some n) start read is text set = ((read options n start (week_small near tow n is) text).0 set).1
+within_last : (t : ℕ) → within_weeks t / week < weeks
+within_last t = omega arith
 
 -- without the option
 pub usual_read : (m otherwise : ℕ) → IsNumberOr 8 otherwise None m → m ≡ otherwise
 usual_read m otherwise (found, none, is) = is ∙ ap (λ (o : Option ℕ). unwrap_or o otherwise) none
 
+-- the week and the leap seconds that are printed
+week_small : (source : WeekSource) (w leap wanted : Option ℕ) (fs : List Framed) → IsPrinted source wanted fs w leap → IfSome w (λ n. n < weeks)
+week_small Unprinted w leap wanted fs h = subst (λ (o : Option ℕ). IfSome o (λ n. n < weeks)) (sym h.0) tt
+week_small (Near noon) w leap wanted fs h = by w (first_tow (leap_at noon) (set_had wanted fs) wanted fs) h.0 where
+  by : (w tow : Option ℕ) → IsWeekFor (Some noon) tow w → IfSome w (λ n. n < weeks)
+  by None tow h = tt
+  by (Some n) None h = cc
+  by (Some n) (Some tow) (m, is, near) = let same : n ≡ m = cc in subst (λ (k : ℕ). k < weeks) (sym same) (near_small noon tow m near)
+week_small Ephemerides w leap wanted fs h = subst (λ (o : Option ℕ). IfSome o (λ n. n < weeks)) (sym h.2) (within_last (time_in h.0 (first_msm (leap_by wanted fs h.0) wanted fs)))
+
 leap_small : (t : ℕ) → leap_at t < 256
 leap_small t = omega (arith, count_by-le-length (λ m. nat_le m (month_number (civil_of t).year (civil_of t).month)) leap_months)
 
-leap_read : (options : List Row) (b : Bool) (near : Option ℕ) (m otherwise : ℕ) → AreLeapSecondsRead → one_of (codes "leap-seconds") options ≡ (if b then option_map decimal (option_map leap_at near) else None)
-    → IsNumberOr 8 otherwise (one_of (codes "leap-seconds") options) m → m ≡ (if b then unwrap_or (option_map leap_at near) otherwise else otherwise)
-leap_read options true (Some t) m otherwise read is h = read options (leap_at t) m otherwise (leap_small t) is h
-leap_read options true None m otherwise read is h = usual_read m otherwise (subst (λ (t : Option (List ℕ)). IsNumberOr 8 otherwise t m) is h)
-leap_read options false near m otherwise read is h = usual_read m otherwise (subst (λ (t : Option (List ℕ)). IsNumberOr 8 otherwise t m) is h)
+leap_below : (source : WeekSource) (w leap wanted : Option ℕ) (fs : List Framed) → IsPrinted source wanted fs w leap → IfSome leap (λ n. n < 256)
+leap_below Unprinted w leap wanted fs h = subst (λ (o : Option ℕ). IfSome o (λ n. n < 256)) (sym h.1) tt
+leap_below (Near noon) w leap wanted fs h = subst (λ (o : Option ℕ). IfSome o (λ n. n < 256)) (sym h.2) (leap_small noon)
+leap_below Ephemerides w leap wanted fs h = subst (λ (o : Option ℕ). IfSome o (λ n. n < 256)) (sym h.3) (leap_small (within_weeks (time_in h.0 (first_msm 0 wanted fs))))
+
+week_read : (options : List Row) (w : Option ℕ) (start : Start) → IsWeekRead → IfSome w (λ n. n < weeks) → IfSome w (λ n. first_of (codes "week") options ≡ Some (decimal n))
+    → IsStartSet options start → IfSome w (λ n. start ≡ Week n)
+week_read options None start read small text set = tt
+week_read options (Some n) start read small text set = ((read options n start small text).0 set).1
+
+leap_read : (options : List Row) (b : Bool) (leap : Option ℕ) (m otherwise : ℕ) → AreLeapSecondsRead → IfSome leap (λ n. n < 256)
+    → one_of (codes "leap-seconds") options ≡ (if b then option_map decimal leap else None)
+    → IsNumberOr 8 otherwise (one_of (codes "leap-seconds") options) m → m ≡ (if b then unwrap_or leap otherwise else otherwise)
+leap_read options true (Some n) m otherwise read small is h = read options n m otherwise small is h
+leap_read options true None m otherwise read small is h = usual_read m otherwise (subst (λ (t : Option (List ℕ)). IsNumberOr 8 otherwise t m) is h)
+leap_read options false leap m otherwise read small is h = usual_read m otherwise (subst (λ (t : Option (List ℕ)). IsNumberOr 8 otherwise t m) is h)
 
 -- ---- the station values
 
@@ -152,14 +171,14 @@ plan_found laws options plan wanted fs some signals channels (p, set, plan_is, s
     ∙ ap (λ (c : ChannelsValue). record (plan_with (tabulate (had (valued_in wanted fs)))) { channels = c }) (chosen (had (valued_in wanted fs) Glonass) set (channels_in wanted fs) known)
 
 pub started_as_found : ReadLaws → IsStartedAsFound
-started_as_found laws options near w wanted fs x are start =
-    let printed : AreAsPrinted options w (option_map leap_at near) wanted fs = as_printed options w (option_map leap_at near) wanted fs are.printed in
+started_as_found laws options source w leap wanted fs x are start =
+    let printed : AreAsPrinted options w leap wanted fs = as_printed options w leap wanted fs are.printed in
     record {
       plan = plan_found laws options x.gatherer.plan wanted fs are.some printed.signals printed.channels start.plan;
       forms = start.forms ∙ forms_read (forms_had wanted fs) (text_set options (codes "msm")) printed.forms;
       station = station_read options wanted x.gatherer.station laws.station are.station printed.station start.station;
-      week = week_read options near (first_tow (leap_near near) (set_had wanted fs) wanted fs) w x.gatherer.start laws.week are.week printed.week start.start;
-      leap_seconds = leap_read options (is_decoded (plan_in wanted fs) Glonass) near x.gatherer.leap_seconds (usual_leap x.gatherer.start) laws.leap printed.leap_seconds start.leap;
+      week = week_read options w x.gatherer.start laws.week (week_small source w leap wanted fs are.week) printed.week start.start;
+      leap_seconds = leap_read options (is_decoded (plan_in wanted fs) Glonass) leap x.gatherer.leap_seconds (usual_leap x.gatherer.start) laws.leap (leap_below source w leap wanted fs are.week) printed.leap_seconds start.leap;
       initial = values_read options (first_station wanted fs) x.gatherer.initial laws.position laws.zero (laws.range wanted fs) printed.position printed.height start.initial;
     }
 
@@ -172,37 +191,50 @@ pub record DateLaws : Type 0 where
   pub small : (leap : ℕ) (set : MsmSet) (wanted : Option ℕ) (fs : List Framed) (tow : ℕ) → first_tow leap set wanted fs ≡ Some tow → tow < week
 
 -- without GLONASS the leap seconds don't matter
-same_first : IsLeapFree → (noon leap : ℕ) (start : Start) (wanted : Option ℕ) (fs : List Framed) → leap ≡ leap_option (Some (leap_at noon)) (plan_in wanted fs) start
-    → first_tow leap (set_had wanted fs) wanted fs ≡ first_tow (leap_at noon) (set_had wanted fs) wanted fs
-same_first free noon leap start wanted fs is = by (is_decoded (plan_in wanted fs) Glonass) refl where
-  by : (b : Bool) → is_decoded (plan_in wanted fs) Glonass ≡ b → first_tow leap (set_had wanted fs) wanted fs ≡ first_tow (leap_at noon) (set_had wanted fs) wanted fs
-  by true decoded = ap (λ (n : ℕ). first_tow n (set_had wanted fs) wanted fs) (is ∙ ap (λ (b : Bool). if b then leap_at noon else usual_leap start) decoded)
-  by false decoded = free (set_had wanted fs) leap (leap_at noon) wanted fs decoded
-
-week_of_start : (noon tow : ℕ) (start : Start) (w : Option ℕ) → IsWeekFor (Some noon) (Some tow) w → IfSome w (λ n. start ≡ Week n) → IsWeekNear noon tow (first_week start tow) × (is_no_week start ≡ false)
-week_of_start noon tow start None (n, is, near) found = cc
-week_of_start noon tow start (Some m) (n, is, near) found =
-    let same : start ≡ Week n = cc in
-    subst (λ (s : Start). IsWeekNear noon tow (first_week s tow) × (is_no_week s ≡ false)) (sym same)
-    (subst (λ (k : ℕ). IsWeekNear noon tow k) (sym (given n tow)) near, ap not (lt-ltb n weeks (near_small noon tow n near)))
+same_first : IsLeapFree → (leap used : ℕ) (start : Start) (wanted : Option ℕ) (fs : List Framed) → used ≡ leap_option (Some leap) (plan_in wanted fs) start
+    → first_tow used (set_had wanted fs) wanted fs ≡ first_tow leap (set_had wanted fs) wanted fs
+same_first free leap used start wanted fs is = by (is_decoded (plan_in wanted fs) Glonass) refl where
+  by : (b : Bool) → is_decoded (plan_in wanted fs) Glonass ≡ b → first_tow used (set_had wanted fs) wanted fs ≡ first_tow leap (set_had wanted fs) wanted fs
+  by true decoded = ap (λ (n : ℕ). first_tow n (set_had wanted fs) wanted fs) (is ∙ ap (λ (b : Bool). if b then leap else usual_leap start) decoded)
+  by false decoded = free (set_had wanted fs) used leap wanted fs decoded
 
 -- the first time of a conversion that starts as found
-first_dated : DateLaws → (noon : ℕ) (w wanted : Option ℕ) (fs : List Framed) (x : Setup) → StartsAsFound x w (Some (leap_at noon)) wanted fs
-    → IsWeekFor (Some noon) (first_tow (leap_at noon) (set_had wanted fs) wanted fs) w → IsDatedNear noon x wanted fs
-first_dated laws noon w wanted fs x found is tow first =
-    let near = week_of_start noon tow x.gatherer.start w (subst (λ (t : Option ℕ). IsWeekFor (Some noon) t w) first is) found.week in
+first_dated : DateLaws → (w leap : ℕ) (wanted : Option ℕ) (fs : List Framed) (x : Setup) → w < weeks → StartsAsFound x (Some w) (Some leap) wanted fs → IsDatedIn w leap x wanted fs
+first_dated laws w leap wanted fs x small found tow first =
+    let is_week : is_no_week x.gatherer.start ≡ false = ap is_no_week found.week ∙ ap not (lt-ltb w weeks small) in
     let set : set_of x.gatherer.plan x.forms ≡ set_had wanted fs = ap₂ set_of found.plan found.forms in
     let tow_is : first_tow x.gatherer.leap_seconds (set_of x.gatherer.plan x.forms) x.gatherer.station fs ≡ Some tow =
-    ap₂ (λ (m : MsmSet) (o : Option ℕ). first_tow x.gatherer.leap_seconds m o fs) set found.station ∙ same_first laws.free noon x.gatherer.leap_seconds x.gatherer.start wanted fs found.leap_seconds ∙ first in (
-      first_week x.gatherer.start tow,
-      near.0,
-      laws.dated (setup_value x).set (setup_value x).gatherer fs tow near.1
-          (laws.small (leap_at noon) (set_had wanted fs) wanted fs tow first) tow_is,
-    )
+    ap₂ (λ (m : MsmSet) (o : Option ℕ). first_tow x.gatherer.leap_seconds m o fs) set found.station ∙ same_first laws.free leap x.gatherer.leap_seconds x.gatherer.start wanted fs found.leap_seconds ∙ first in
+    laws.dated (setup_value x).set (setup_value x).gatherer fs tow is_week (laws.small leap (set_had wanted fs) wanted fs tow first) tow_is
+    ∙ ap (λ (n : ℕ). Some (n * week + tow)) (ap (λ (s : Start). first_week s tow) found.week ∙ given w tow)
+
+-- near a date
+week_of : (noon tow : ℕ) (w : Option ℕ) → IsWeekFor (Some noon) (Some tow) w → (n : ℕ) × (w ≡ Some n) × IsWeekNear noon tow n
+week_of noon tow w h = h
 
 pub dated_as_printed : ReadLaws → DateLaws → IsDatedAsPrinted
-dated_as_printed read laws options noon w wanted fs x are start =
-    first_dated laws noon w wanted fs x (started_as_found read options (Some noon) w wanted fs x are start) are.week
+dated_as_printed read laws options noon w leap wanted fs x are start tow first =
+    let (n, is, near) = week_of noon tow w (subst (λ (t : Option ℕ). IsWeekFor (Some noon) t w) first are.week.0) in
+    let found : StartsAsFound x (Some n) (Some (leap_at noon)) wanted fs = subst2 is are.week.2 (started_as_found read options (Near noon) w leap wanted fs x are start) in
+    (n, near, first_dated laws n (leap_at noon) wanted fs x (near_small noon tow n near) found tow first)
+  where
+    subst2 : {n m : Option ℕ} → w ≡ n → leap ≡ m → StartsAsFound x w leap wanted fs → StartsAsFound x n m wanted fs
+    subst2 {n} {m} e f h = subst (λ (o : Option ℕ). StartsAsFound x o m wanted fs) e (subst (λ (o : Option ℕ). StartsAsFound x w o wanted fs) f h)
+
+-- by the ephemerides
+one_week : (a b : ℕ) → ◌≡◌ {A = FirstTwo} (One a) (One b) → a ≡ b
+one_week a b e = cc
+
+pub dated_as_sent : ReadLaws → DateLaws → IsDatedAsSent
+dated_as_sent read laws options d w leap wanted fs x are start one =
+    let (e, is, week_is, leap_is) = are.week in
+    let same : e ≡ d = one_week e d (sym is ∙ one) in
+    let found : StartsAsFound x (Some (week_by wanted fs d)) (Some (leap_by wanted fs d)) wanted fs =
+    subst2 (week_is ∙ ap (λ (n : ℕ). Some (week_by wanted fs n)) same) (leap_is ∙ ap (λ (n : ℕ). Some (leap_by wanted fs n)) same) (started_as_found read options Ephemerides w leap wanted fs x are start) in
+    first_dated laws (week_by wanted fs d) (leap_by wanted fs d) wanted fs x (within_last (time_in d (first_msm (leap_by wanted fs d) wanted fs))) found
+  where
+    subst2 : {n m : Option ℕ} → w ≡ n → leap ≡ m → StartsAsFound x w leap wanted fs → StartsAsFound x n m wanted fs
+    subst2 {n} {m} e f h = subst (λ (o : Option ℕ). StartsAsFound x o m wanted fs) e (subst (λ (o : Option ℕ). StartsAsFound x w o wanted fs) f h)
 
 -- ---- the line
 

@@ -22,8 +22,9 @@ use Rattle.command_line.specs.inner.CommandLine.{IsCommand}
 use Rattle.rtcm_command.specs.Devices.{IsInspected, IsOfFile, culprit}
 use Rattle.command_faults.specs.ErrorLines.{error_line}
 use Rattle.command_faults.specs.Status.{fault_status}
-use Rattle.rtcm_command.specs.SetupOptions.{IsNearRefused, IsNearSet, IsNumberOf, IsSetupRefused, has_flag}
+use Rattle.rtcm_command.specs.SetupOptions.{IsNumberOf, IsSetupRefused, IsSourceRefused, IsSourceSet, has_flag}
 use Rattle.rtcm_command.specs.CompleteOptions.{IsCompleteSet}
+use Rattle.rtcm_inspect.specs.declared.printed_week.WeekSource.{WeekSource}
 use Rattle.rtcm_inspect.specs.declared.fault.InspectFault.{InspectFault}
 use Rattle.rtcm_inspect.specs.declared.fault.InspectFault.TheVariants as inspect
 use Rattle.rinex_inspect.specs.declared.fault.FileFault.{FileFault}
@@ -36,9 +37,10 @@ use Rattle.command_line.specs.declared.cli.TheConstants.{VERSION}
 abbrev pub OfStation : List Row → (Option ℕ → Type 0) → Type 0
 OfStation options Does = (wanted : Option ℕ) × IsNumberOf 16 (one_of (codes "station") options) wanted × Does wanted
 
--- for the station and the noon of the date
-abbrev pub OfNear : List Row → ((near wanted : Option ℕ) → Type 0) → Type 0
-OfNear options Does = OfStation options (λ wanted. (near : Option ℕ) × IsNearSet options near × Does near wanted)
+-- for the station and the week
+abbrev pub OfSource : List Row → (WeekSource → (wanted : Option ℕ) → Type 0) → Type 0
+OfSource options Does =
+    OfStation options (λ wanted. (source : WeekSource) × IsSourceSet options source × Does source wanted)
 
 -- for what makes the file complete
 abbrev pub OfComplete : List Row → (Option Completeness → Type 0) → Type 0
@@ -53,7 +55,8 @@ EndsInspection result name options d d' =
     ⊎ ((name ≡ codes "signals")
     × OfStation options (λ wanted. EndsStream result (AreSignalsOf wanted) (AreSignalsRefused wanted) d d'))
     ⊎ ((name ≡ codes "options")
-    × OfNear options (λ near wanted. EndsStream result (AreOptionsOf near wanted) (AreOptionsRefused wanted) d d'))
+    × OfSource options (λ source wanted.
+    EndsStream result (AreOptionsOf source wanted) (AreOptionsRefused source wanted) d d'))
 
 -- how a command that reads a file ended with these options: the file was read back
 abbrev pub EndsOnFile : {R W : Type 0} → Result ⊤ FileFault → Text → List Row → (d d' : Devices R W) → Type 0
@@ -68,14 +71,14 @@ HasDone name options e e' d d' =
     ((name ≡ codes "convert") × IsConverted options d d' e e')
     ⊎ ((EndsInspection (Ok tt) name options d d' ⊎ EndsOnFile (Ok tt) name options d d') × (e' ≡ e))
 
--- The command was stopped by a fault, or it was refused for the date or the interval of its options, and nothing was
+-- The command was stopped by a fault, or it was refused for the date, the two options or the interval, and nothing was
 -- read or written.
 abbrev pub HasStopped : {R W : Type 0} → Text → List Row → (d d' : Devices R W) → CommandFault → Type 0
 HasStopped name options d d' fault =
     ((name ≡ codes "convert") × StopsConverting options d d' fault)
     ⊎ IsInspected (λ e. EndsInspection (Err e) name options d d') fault
     ⊎ IsOfFile (λ e. EndsOnFile (Err e) name options d d') fault
-    ⊎ ((name ≡ codes "options") × IsNearRefused options fault × AreUntouched d d')
+    ⊎ ((name ≡ codes "options") × IsSourceRefused options fault × AreUntouched d d')
     ⊎ ((name ≡ codes "check") × IsCompleteSet options (Err fault) × AreUntouched d d')
 
 -- how the command ended; it prints no fault
@@ -134,12 +137,12 @@ refusal_line (Some text) = text
 abbrev pub AreRefusedBy : Text → List Row → CommandFault → Type 0
 AreRefusedBy name options fault =
     ((name ≡ codes "convert") × IsSetupRefused options fault)
-    ⊎ ((name ≡ codes "options") × IsNearRefused options fault)
+    ⊎ ((name ≡ codes "options") × IsSourceRefused options fault)
     ⊎ ((name ≡ codes "check") × IsCompleteSet options (Err fault))
 
 -- The words lead to an error other than the version's text, and a text was printed; or they ask for a command with an
--- option whose date, time, position, antenna height, list of channels, window, interval or tolerance is invalid, and the
--- line of that fault was printed.
+-- option whose date, time, position, antenna height, list of channels, window, interval or tolerance is invalid, or with
+-- two that exclude each other, and the line of that fault was printed.
 abbrev pub AreRefused : {E : Type 0} → List Text → (e e' : Writer E) → Type 0
 AreRefused words e e' =
     ((k : ErrorKind) × FailsParsing words k × (k ≡ DisplayVersion → ⊥) × PrintsSome e e')

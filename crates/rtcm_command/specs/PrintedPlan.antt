@@ -23,8 +23,12 @@ use Rattle.rtcm_inspect.specs.FirstMessages.{first_station}
 use Rattle.rtcm_inspect.specs.WeekLaws.{first_tow}
 use Rattle.rtcm_inspect.specs.Fitting.{option_words, options_text}
 use Rattle.obs_epoch.specs.NearWeek.{IsWeekNear}
-use Rattle.rtcm_inspect.specs.NearWeek.{IsWeekFor}
-use Rattle.rtcm_inspect.specs.OptionOutput.{leap_near}
+use Rattle.rtcm_inspect.specs.FirstTwo.{first_two}
+use Rattle.rtcm_inspect.specs.OptionOutput.{IsPrinted}
+use Rattle.rtcm_inspect.specs.SentWeeks.{leap_by, week_by, whole_in}
+use Rattle.rtcm_inspect.specs.declared.first_two.FirstTwo.TheVariants.{One}
+use Rattle.rtcm_inspect.specs.declared.printed_week.WeekSource.{WeekSource}
+use Rattle.rtcm_inspect.specs.declared.printed_week.WeekSource.TheVariants.{Near, Ephemerides}
 use Rattle.rtcm_inspect.specs.Signals.{forms_had, plan_in, set_had, valued_in}
 use Rattle.rtcm_inspect.specs.WeekLaws.{first_time}
 use Rattle.rtcm_convert.specs.Converted.{messages_of}
@@ -88,18 +92,24 @@ pub record StartsAsFound (x : Setup) (w leap wanted : Option ℕ) (fs : List Fra
   pub leap_seconds : x.gatherer.leap_seconds ≡ leap_option leap (plan_in wanted fs) x.gatherer.start
   pub initial : x.gatherer.initial ≡ option_map_or (λ s. values_from s 0) (first_station wanted fs) no_values
 
--- its first accepted message is the first MSM that it decodes, in the week nearest to the noon of the date
+-- its first accepted message is the first MSM that it decodes, which has this time of week and is in this week
+abbrev pub IsDatedIn : (w : ℕ) → (leap : ℕ) → Setup → (wanted : Option ℕ) → List Framed → Type 0
+IsDatedIn w leap x wanted fs = (tow : ℕ) → first_tow leap (set_had wanted fs) wanted fs ≡ Some tow
+    → first_time (timed (setup_value x).gatherer (messages_of (setup_value x) fs)) ≡ Some (w * week + tow)
+
+-- in the week nearest to the noon of the date
 abbrev pub IsDatedNear : (noon : ℕ) → Setup → (wanted : Option ℕ) → List Framed → Type 0
-IsDatedNear noon x wanted fs = (tow : ℕ) → first_tow (leap_near (Some noon)) (set_had wanted fs) wanted fs ≡ Some tow
+IsDatedNear noon x wanted fs = (tow : ℕ) → first_tow (leap_at noon) (set_had wanted fs) wanted fs ≡ Some tow
     → (n : ℕ) × IsWeekNear noon tow n
     × (first_time (timed (setup_value x).gatherer (messages_of (setup_value x) fs)) ≡ Some (n * week + tow))
 
--- The week is the one that `options` prints near a date, and the options are as printed.
-pub record AreOptionsNear (options : List Row) (near w wanted : Option ℕ) (fs : List Framed) : Type 0 where
+-- These are the week and the leap seconds that `options` prints, and the options are as printed.
+pub record AreOptionsPrinted (options : List Row) (source : WeekSource) (w leap wanted : Option ℕ)
+    (fs : List Framed) : Type 0 where
   pub station : IfSome wanted (λ n. n < 2 ^ 16)
   pub some : 0 < length (valued_in wanted fs)
-  pub week : IsWeekFor near (first_tow (leap_near near) (set_had wanted fs) wanted fs) w
-  pub printed : HaveValues options (printed_words w (option_map leap_at near) wanted fs)
+  pub week : IsPrinted source wanted fs w leap
+  pub printed : HaveValues options (printed_words w leap wanted fs)
 
 -- ---- laws
 
@@ -109,10 +119,15 @@ ArePrintedWords = (w leap wanted : Option ℕ) (fs : List Framed)
     → options_text w leap wanted fs ≡ line (printed_words w leap wanted fs)
 
 abbrev pub IsStartedAsFound : Type 0
-IsStartedAsFound = (options : List Row) (near w wanted : Option ℕ) (fs : List Framed) (x : Setup)
-    → AreOptionsNear options near w wanted fs → IsSetupOf options x
-    → StartsAsFound x w (option_map leap_at near) wanted fs
+IsStartedAsFound = (options : List Row) (source : WeekSource) (w leap wanted : Option ℕ) (fs : List Framed) (x : Setup)
+    → AreOptionsPrinted options source w leap wanted fs → IsSetupOf options x → StartsAsFound x w leap wanted fs
 
 abbrev pub IsDatedAsPrinted : Type 0
-IsDatedAsPrinted = (options : List Row) (noon : ℕ) (w wanted : Option ℕ) (fs : List Framed) (x : Setup)
-    → AreOptionsNear options (Some noon) w wanted fs → IsSetupOf options x → IsDatedNear noon x wanted fs
+IsDatedAsPrinted = (options : List Row) (noon : ℕ) (w leap wanted : Option ℕ) (fs : List Framed) (x : Setup)
+    → AreOptionsPrinted options (Near noon) w leap wanted fs → IsSetupOf options x → IsDatedNear noon x wanted fs
+
+-- by the ephemerides, which all say that GPS week d was counted as week 0
+abbrev pub IsDatedAsSent : Type 0
+IsDatedAsSent = (options : List Row) (d : ℕ) (w leap wanted : Option ℕ) (fs : List Framed) (x : Setup)
+    → AreOptionsPrinted options Ephemerides w leap wanted fs → IsSetupOf options x → first_two (whole_in wanted fs) ≡ One d
+    → IsDatedIn (week_by wanted fs d) (leap_by wanted fs d) x wanted fs

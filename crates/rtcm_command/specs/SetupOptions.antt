@@ -1,6 +1,6 @@
 -- The values that the options of the commands give.
 use Rattle.std.specs.Prelude.{◌≡◌, ◌<◌, ◌^◌, nat_lt, ℕ, ℤ, List, [], ◌∷◌, map, Option, Some, None, Result, Ok, Err, codes}
-use Rattle.std.specs.Prelude.{Bool, option_and_then, ok_or, unwrap_or, not, ◌⊎◌, if◌then◌else◌}
+use Rattle.std.specs.Prelude.{Bool, true, false, is_some, option_and_then, ok_or, unwrap_or, not, ◌⊎◌, if◌then◌else◌}
 use Rattle.std.specs.Str.{bytes_eq}
 use Rattle.std.specs.Str.Parse.{IsNumeral, digits_value, without_leading_plus}
 use Rattle.clap.specs.Walk.{Row, first_of, one_of, rows_of}
@@ -30,6 +30,8 @@ use Rattle.line_texts.specs.ChannelTexts.{channels_of}
 use Rattle.line_texts.specs.Dates.{IsHourOf, IsTimeOf, IsWeekOf}
 use Rattle.line_texts.specs.LeapSeconds.{leap_at}
 use Rattle.line_texts.specs.Lengths.{epoch_interval_of, interval_of, length_below, position_of, tolerance_of}
+use Rattle.rtcm_inspect.specs.declared.printed_week.WeekSource.{WeekSource}
+use Rattle.rtcm_inspect.specs.declared.printed_week.WeekSource.TheVariants as sources
 use Rattle.command_faults.specs.declared.fault.DateOption.{DateOption}
 use Rattle.command_faults.specs.declared.fault.DateOption.TheVariants as dated
 use Rattle.command_faults.specs.declared.fault.CommandFault.{CommandFault}
@@ -103,6 +105,25 @@ IsNearRefused options fault = (fault ≡ faults.BadDate dated.Near) × ((near : 
 -- the flag of this name is given
 abbrev pub has_flag : List ℕ → List Row → Bool
 has_flag name options = bytes_eq (text_set options name) (codes "true")
+
+-- where the week of the command `options` comes from: the ephemerides if `--week` is given, or a date that is given
+abbrev pub source_near : Option ℕ → WeekSource
+source_near None = sources.Unprinted
+source_near (Some noon) = sources.Near noon
+
+abbrev pub IsSourceSet : List Row → WeekSource → Type 0
+IsSourceSet options source =
+    ((has_flag (codes "week") options ≡ true) × (first_of (codes "near") options ≡ None)
+    × (source ≡ sources.Ephemerides))
+    ⊎ ((has_flag (codes "week") options ≡ false)
+    × ((near : Option ℕ) × IsNearSet options near × (source ≡ source_near near)))
+
+-- both are given, or the text of `--near` isn't a date, which is this fault
+abbrev pub IsSourceRefused : List Row → CommandFault → Type 0
+IsSourceRefused options fault =
+    ((has_flag (codes "week") options ≡ true) × (is_some (first_of (codes "near") options) ≡ true)
+    × (fault ≡ faults.OneOf))
+    ⊎ ((has_flag (codes "week") options ≡ false) × IsNearRefused options fault)
 
 -- the forms of MSM that are read
 abbrev pub forms_set : List Row → Forms

@@ -19,7 +19,7 @@ ghost use Rattle.rtcm_command.specs.SetupOptions.{options_of};
 
 use crate::convert::{report_line, run_convert};
 use crate::options::{
-    channels_of, choice_of, complete_of, has_flag, near_of, setup_of, start_of, station_of,
+    channels_of, choice_of, complete_of, has_flag, setup_of, source_of, start_of, station_of,
     values_of,
 };
 use clap::ArgMatches;
@@ -35,8 +35,8 @@ use std::io::{self, Read};
 
 /// Runs the command that the words ask for, the first of which is the program's name, and returns
 /// the exit status: 0 after success, 1 after a fault, and 2 if the words aren't accepted, ask for
-/// help, or have an invalid date, time, position, height, list of channels, window, interval or
-/// tolerance.
+/// help, have an invalid date, time, position, height, list of channels, window, interval or
+/// tolerance, or two options that exclude each other.
 pub fn command<R: Read, W: Deliver, E: Deliver>(
     alloc: Global,
     words: &[&str],
@@ -57,9 +57,9 @@ pub fn command<R: Read, W: Deliver, E: Deliver>(
     ensures stopped { result ≡ 1 → Runs R.remaining reader.old reader.new W.contents W.waiting writer.old writer.new
         E.contents E.waiting faults.old faults.new (HasStoppedEarly (texts words.now)) }
 
-    // They aren't accepted, ask for help, or have an invalid date, time, position, height, list of
-    // channels, window, interval or tolerance, and a text was written to `faults`. Nothing was
-    // read, and nothing was written to the output.
+    // They aren't accepted, ask for help, have an invalid date, time, position, height, list of
+    // channels, window, interval or tolerance, or two options that exclude each other, and a text
+    // was written to `faults`. Nothing was read, and nothing was written to the output.
     ensures refused { result ≡ 2 → Writes E.contents E.waiting faults.old faults.new (AreRefused (texts words.now))
         × IsUntouched reader.old reader.new writer.old writer.new }
 {
@@ -97,8 +97,8 @@ fn run<R: Read, W: Deliver, E: Deliver>(
         "show" => of_inspection(run_show(alloc, reader, writer)),
         "signals" => of_inspection(run_signals(alloc, station_of(options), reader, writer)),
         "options" => {
-            let near = near_of(options)?;
-            of_inspection(run_options(alloc, station_of(options), near, reader, writer))
+            let source = source_of(options)?;
+            of_inspection(run_options(alloc, station_of(options), source, reader, writer))
         }
         "convert" => convert(alloc, options, reader, writer, faults),
         _ => {

@@ -1,6 +1,6 @@
 //! Laws over the options that `options` prints.
 ghost use Rattle.rtcm_command.specs.NearOption.{IsDatedByNear};
-ghost use Rattle.rtcm_command.specs.PrintedPlan.{ArePrintedWords, IsDatedAsPrinted, IsStartedAsFound};
+ghost use Rattle.rtcm_command.specs.PrintedPlan.{ArePrintedWords, IsDatedAsPrinted, IsDatedAsSent, IsStartedAsFound};
 ghost use Rattle.rtcm_command.specs.StationLaws.{AreChannelsSet, AreLeapSecondsRead, AreReadAsStation};
 ghost use Rattle.rtcm_command.specs.StationLaws.{AreZeroByDefault, IsStationRead, IsWeekRead};
 
@@ -43,13 +43,15 @@ pub fn channels()
 
 /// For every stream: if options have the value of each word that `options` prints, and else their
 /// defaults, a conversion starts with what was found in the stream: plan, channels, forms, station,
-/// week, leap seconds and the values of the first station message. Near a date its first accepted
-/// message is in the week that is nearest to the noon of the date, also before 2017, when a
-/// conversion without GLONASS has other leap seconds than the date.
+/// week, leap seconds and the values of the first station message. Its first accepted message is in
+/// the week that is printed: near a date in the one that is nearest to the noon of the date, by the
+/// ephemerides in the one that they say, also before 2017, when a conversion without GLONASS has
+/// other leap seconds than the date.
 pub fn printed_plan()
     ensures words { ArePrintedWords }
     ensures found { IsStartedAsFound }
     ensures dated { IsDatedAsPrinted }
+    ensures sent { IsDatedAsSent }
 {
     numbers();
     station();

@@ -10,7 +10,8 @@ ghost use Rattle.line_texts.specs.Lengths.{longest_interval};
 ghost use Rattle.rtcm_command.specs.SetupOptions.{HasSetupFault, IsChoiceSet, IsNearRefused, IsNearSet, IsNumberOf};
 ghost use Rattle.rtcm_command.specs.SetupOptions.{IsNumberOr, IsTimeIn, IsWindowSet, channels_set, interval_set};
 ghost use Rattle.rtcm_command.specs.SetupOptions.{plan_texts, tolerance_set};
-ghost use Rattle.rtcm_command.specs.SetupOptions.{IsSetupOf, IsStartRefused, IsStartSet, gaps_set, has_flag, usual_leap};
+ghost use Rattle.rtcm_command.specs.SetupOptions.{IsSetupOf, IsSourceRefused, IsSourceSet, IsStartRefused, IsStartSet};
+ghost use Rattle.rtcm_command.specs.SetupOptions.{gaps_set, has_flag, usual_leap};
 ghost use Rattle.rinex_inspect.specs.Gaps.{IsCompleteness};
 ghost use Rattle.rtcm_command.specs.CompleteOptions.{IsCompleteSet, IsTimeGiven, IsWindowOf, is_given, lacks_one};
 ghost use Rattle.rtcm_command.specs.CompleteOptions.{whole_window};
@@ -27,6 +28,7 @@ use obs_epoch::{Choice, Gather, GatherSetup, LEAP_SECONDS, Start};
 use rinex_file::{HeaderTexts, Texts};
 use rinex_inspect::{Completeness, Window};
 use rtcm_convert::Setup;
+use rtcm_inspect::WeekSource;
 use rtcm_msg::Forms;
 use rtcm_scan::MOST_BYTES;
 use std::alloc::Global;
@@ -60,7 +62,7 @@ pub fn start_of(options: &ArgMatches) -> Result<Start, CommandFault>
 /// # Errors
 ///
 /// `BadDate` if the text isn't a date.
-pub fn near_of(options: &ArgMatches) -> Result<Option<GpsTime>, CommandFault>
+fn near_of(options: &ArgMatches) -> Result<Option<GpsTime>, CommandFault>
     ensures { MatchResult result (IsNearSet (options_of options.now)) (IsNearRefused (options_of options.now)) }
 {
     match options.get_str("near") {
@@ -69,6 +71,27 @@ pub fn near_of(options: &ArgMatches) -> Result<Option<GpsTime>, CommandFault>
             None => Err(CommandFault::BadDate(DateOption::Near)),
         },
         None => Ok(None),
+    }
+}
+
+/// Returns where the week of the command `options` comes from.
+///
+/// # Errors
+///
+/// `OneOf` if both the ephemerides and a date are asked for, and `BadDate` if the text isn't a date.
+pub fn source_of(options: &ArgMatches) -> Result<WeekSource, CommandFault>
+    ensures { MatchResult result (IsSourceSet (options_of options.now)) (IsSourceRefused (options_of options.now)) }
+{
+    if has_flag(options, "week") {
+        match options.get_str("near") {
+            Some(_) => Err(CommandFault::OneOf),
+            None => Ok(WeekSource::Ephemerides),
+        }
+    } else {
+        match near_of(options)? {
+            Some(noon) => Ok(WeekSource::Near(noon)),
+            None => Ok(WeekSource::Unprinted),
+        }
     }
 }
 

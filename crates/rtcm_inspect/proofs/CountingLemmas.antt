@@ -1,5 +1,7 @@
 -- Signal counts as a consumer of frames.
 use Rattle.devices.proofs.PrintingLaws.{Printed}
+use Rattle.rtcm_inspect.specs.CountedTimes.{greatest_in}
+use Rattle.rtcm_inspect.specs.inner.SaidWeeks.{AreSaidIn}
 use Rattle.rtcm_inspect.proofs.StreamLemmas.{Began}
 use Rattle.rtcm_inspect.proofs.Names.{◌≡◌, ◌∙◌, ap, inr, ◌*◌, ◌<◌, ◌≤◌, ◌^◌, sym, subst, arith, Bool, true, ℕ, List, [], ◌∷◌, ◌++◌, Option, Result, Ok, Err, length, length-append, append-nil, refl, Framed, frames_of, known_frames, Device, Devices, HasFailed, StreamFault, ⊤, InspectFault, ReaderFailures, culprit, stream_fault, AtFault, Passes, BreaksReading, PassesAll, PassesToLimit, Reads, FramerValue, most_bytes, AreSignalCounts, CountsMessage, SignalCountsValue, valued, inspected, HeardCell, inspected_of, message_at, MsgFault, Message, valued_in, valued_of, flat_map-append, AreFirst, EndsStream, ReadsTooMuch, Counts, StopsCounting, HasCounted, IsCounted, AreSignals, NeverFails, option_map_or, StreamSignals, piece_bytes, forms_had, channels_in}
 use Rattle.rtcm_inspect.specs.declared.fault.InspectFault.TheVariants as faults
@@ -34,8 +36,8 @@ refused_counted {c} {wanted} {fs} f is h =
     }
 
 -- no frame was counted
-pub none_counted : (c : StreamSignals) (wanted : Option ℕ) → AreSignalCounts c.signal_counts [] → c.forms ≡ forms_had wanted [] → c.channels ≡ channels_in wanted [] → AreFirst c.first wanted [] → AreSignals c wanted []
-none_counted c wanted signal_counts forms channels first = record { counted = record { signal_counts = signal_counts; few = omega arith }; forms = forms; channels = channels; first = first }
+pub none_counted : (c : StreamSignals) (wanted : Option ℕ) → AreSignalCounts c.signal_counts [] → c.forms ≡ forms_had wanted [] → c.channels ≡ channels_in wanted [] → AreFirst c.first wanted [] → AreSaidIn c.weeks wanted [] → AreSignals c wanted []
+none_counted c wanted signal_counts forms channels first weeks = record { counted = record { signal_counts = signal_counts; few = omega arith }; forms = forms; channels = channels; first = first; weeks = weeks }
 
 pub new_counts : (c : StreamSignals) → Counts c tt [] c tt []
 new_counts c = record { same = refl; counts = λ few begun. begun }
@@ -46,13 +48,14 @@ pub one_more_counted : {c0 : StreamSignals} (c : StreamSignals) {c2 : StreamSign
     → ((gs : List Framed) → c.forms ≡ forms_had c.station gs → c2.forms ≡ forms_had c.station (gs ++ f ∷ []))
     → ((gs : List Framed) → c.channels ≡ channels_in c.station gs → c2.channels ≡ channels_in c.station (gs ++ f ∷ []))
     → ((gs : List Framed) → length gs < 2 ^ 56 → AreFirst c.first c.station gs → AreFirst c2.first c.station (gs ++ f ∷ []))
+    → ((gs : List Framed) → c.first.tows.greatest ≡ greatest_in c.station gs → AreSaidIn c.weeks c.station gs → AreSaidIn c2.weeks c.station (gs ++ f ∷ []))
     → Counts c0 tt ps c tt fs → Counts c0 tt ps c2 tt (fs ++ f ∷ [])
-one_more_counted c {c2} {fs} f kept step forms channels first s = record {
+one_more_counted c {c2} {fs} f kept step forms channels first weeks s = record {
   same = kept ∙ s.same;
   counts = λ few begun.
       let fewer : length fs < 2 ^ 56 = omega (arith, length-append fs (f ∷ []), few) in
       let before : AreSignals c c.station fs = subst (λ (wanted : Option ℕ). AreSignals c wanted fs) (sym s.same) (s.counts fewer begun) in
-      subst (λ (wanted : Option ℕ). AreSignals c2 wanted (fs ++ f ∷ [])) s.same (record { counted = step fs fewer before.counted; forms = forms fs before.forms; channels = channels fs before.channels; first = first fs fewer before.first });
+      subst (λ (wanted : Option ℕ). AreSignals c2 wanted (fs ++ f ∷ [])) s.same (record { counted = step fs fewer before.counted; forms = forms fs before.forms; channels = channels fs before.channels; first = first fs fewer before.first; weeks = weeks fs before.first.tows.greatest before.weeks });
 }
 
 -- ---- a stream that is counted from its start

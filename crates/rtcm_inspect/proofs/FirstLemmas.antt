@@ -1,6 +1,6 @@
 -- What the first messages contain, after one more frame.
-use Rattle.rtcm_inspect.specs.declared.first_messages.Stations.TheVariants.{Unknown}
-use Rattle.rtcm_inspect.proofs.Names.{Bool, Stations, if◌then◌else◌, ◌≡◌, ◌∙◌, ◌==◌, ◌++◌, ℕ, true, false, not, List, [], ◌∷◌, Option, Some, None, Result, Ok, Err, IfSome, refl, sym, ap, find, append-nil, arith, option_and_then, option_or, filter_map-append, find-append, Framed, message_at, InRange, StationParts, MsgFault, Message, Heard, inspected, AreFirst, first_in, first_station, option_to_list, point_of, sender, stations_in, stations_of, with_other, inspected_at, inspected_of, AreTows, FirstMessages, One, Several}
+use Rattle.rtcm_inspect.specs.declared.first_two.FirstTwo.TheVariants.{Unknown}
+use Rattle.rtcm_inspect.proofs.Names.{Bool, FirstTwo, if◌then◌else◌, ◌≡◌, ◌∙◌, ◌==◌, ◌++◌, ℕ, true, false, not, List, [], ◌∷◌, Option, Some, None, Result, Ok, Err, IfSome, refl, sym, ap, find, append-nil, arith, option_and_then, option_or, filter_map-append, find-append, Framed, message_at, InRange, StationParts, MsgFault, Message, Heard, inspected, AreFirst, first_in, first_station, option_to_list, point_of, sender, first_two, stations_of, with_other, inspected_at, inspected_of, AreTows, FirstMessages, One, Several}
 
 pub or_more : {A : Type 0} (a b c : Option A) → option_or a (option_or b c) ≡ option_or (option_or a b) c
 or_more None b c = refl
@@ -31,12 +31,12 @@ stations_after fs f r is = stations_more fs f ∙ ap (λ (r : Result Message Msg
 
 -- a message that was read
 pub first_read : {x y : FirstMessages} {wanted : Option ℕ} {fs : List Framed} (f : Framed) {m : Message} → message_at f.message ≡ Ok m → y.point ≡ option_or x.point (point_of wanted (inspected m))
-    → (AreTows x.tows wanted fs → AreTows y.tows wanted (fs ++ f ∷ [])) → (x.stations ≡ stations_in (stations_of fs) → y.stations ≡ stations_in (stations_of fs ++ option_to_list (sender (inspected m))))
+    → (AreTows x.tows wanted fs → AreTows y.tows wanted (fs ++ f ∷ [])) → (x.stations ≡ first_two (stations_of fs) → y.stations ≡ first_two (stations_of fs ++ option_to_list (sender (inspected m))))
     → (IfSome x.point InRange → IfSome y.point InRange) → AreFirst x wanted fs → AreFirst y wanted (fs ++ f ∷ [])
 first_read {wanted} {fs} f {m} is point tows stations range h = record {
   point = point ∙ ap (λ (o : Option StationParts). option_or o (point_of wanted (inspected m))) h.point ∙ sym (first_after (point_of wanted) fs f (Ok m) is);
   tows = tows h.tows;
-  stations = stations h.stations ∙ ap stations_in (sym (stations_after fs f (Ok m) is));
+  stations = stations h.stations ∙ ap first_two (sym (stations_after fs f (Ok m) is));
   in_range = range h.in_range;
 }
 
@@ -45,19 +45,19 @@ pub first_refused : {x : FirstMessages} {wanted : Option ℕ} {fs : List Framed}
 first_refused {wanted} {fs} f {e} is tows h = record {
   point = h.point ∙ sym (first_after (point_of wanted) fs f (Err e) is ∙ or_none (first_station wanted fs));
   tows = tows h.tows;
-  stations = h.stations ∙ ap stations_in (sym (stations_after fs f (Err e) is ∙ append-nil (stations_of fs)));
+  stations = h.stations ∙ ap first_two (sym (stations_after fs f (Err e) is ∙ append-nil (stations_of fs)));
   in_range = h.in_range;
 }
 
 -- ---- one more station
 
 -- the stations after one more
-abbrev pub next : Stations → ℕ → Stations
+abbrev pub next : FirstTwo → ℕ → FirstTwo
 next Unknown n = One n
 next (One a) n = if n == a then One a else Several a n
 next (Several a b) n = Several a b
 
-pub one_more : (ns : List ℕ) (n : ℕ) → next (stations_in ns) n ≡ stations_in (ns ++ n ∷ [])
+pub one_more : (ns : List ℕ) (n : ℕ) → next (first_two ns) n ≡ first_two (ns ++ n ∷ [])
 one_more [] n = refl
 one_more (a ∷ ns) n = by (find (λ m. not (m == a)) ns) ∙ ap (with_other a) (sym (find-append (λ m. not (m == a)) ns (n ∷ []))) where
   new : (b : Bool) → (if b then One a else Several a n) ≡ with_other a (if not b then Some n else None)

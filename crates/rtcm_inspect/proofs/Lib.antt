@@ -4,7 +4,10 @@ mod ListingLemmas
 mod ShowLemmas
 mod ReadBackLemmas
 mod SetLemmas
+mod CountedLemmas
 mod TowLemmas
+mod SaidLemmas
+mod PrintedWeekLemmas
 mod FirstLemmas
 mod CountingLemmas
 mod SignalLemmas
@@ -12,6 +15,7 @@ mod ValuedLemmas
 mod PlannedLemmas
 mod SkipLemmas
 mod WeekLemmas
+mod SentWeekLemmas
 mod OptionLemmas
 mod LengthLemmas
 mod StreamChannelLemmas

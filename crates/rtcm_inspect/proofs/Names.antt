@@ -43,7 +43,8 @@ pub use Rattle.devices.specs.declared.counted.DeviceFailed.{DeviceFailed}
 pub use Rattle.rtcm_bits.proofs.SmallLaws.{of_ok, passed}
 pub use Rattle.rtcm_inspect.specs.inner.Counting.{AreSignals, Counts, HasCounted, IsCounted, NeverFails, StopsCounting}
 pub use Rattle.rtcm_inspect.specs.Devices.{culprit, stream_fault}
-pub use Rattle.rtcm_inspect.specs.FirstMessages.{AreFirst, first_station, mixed_of, point_of, sender, stations_in, stations_of, with_other}
+pub use Rattle.rtcm_inspect.specs.FirstMessages.{AreFirst, first_station, mixed_of, point_of, sender, stations_of}
+pub use Rattle.rtcm_inspect.specs.FirstTwo.{first_two, with_other}
 pub use Rattle.rtcm_inspect.specs.inner.FirstTows.{AreTows}
 pub use Rattle.rtcm_inspect.specs.WeekLaws.{first_in, first_tow, tow_of}
 unfoldable pub use Rattle.rtcm_inspect.specs.Fitting.{options_line}
@@ -68,8 +69,8 @@ pub use Rattle.rtcm_inspect.specs.WeekLaws.{first_time}
 pub use Rattle.rtcm_inspect.specs.declared.counting.StreamSignals.{StreamSignals}
 pub use Rattle.rtcm_inspect.specs.declared.fault.InspectFault.{InspectFault}
 pub use Rattle.rtcm_inspect.specs.declared.first_messages.FirstMessages.{FirstMessages}
-pub use Rattle.rtcm_inspect.specs.declared.first_messages.Stations.{Stations}
-pub use Rattle.rtcm_inspect.specs.declared.first_messages.Stations.TheVariants.{One, Several}
+pub use Rattle.rtcm_inspect.specs.declared.first_two.FirstTwo.{FirstTwo}
+pub use Rattle.rtcm_inspect.specs.declared.first_two.FirstTwo.TheVariants.{One, Several}
 pub use Rattle.rtcm_inspect.specs.declared.listing.Listing.{Listing}
 pub use Rattle.rtcm_msg.specs.Channels.{channel_of_1020, sent_channels}
 pub use Rattle.rtcm_msg.specs.Decoding.{message_at, message_with}

@@ -5,17 +5,19 @@ use Rattle.std.proofs.lemmas.List.{length-take-le}
 use Rattle.gnss_system.specs.SystemValues.{tabulate, value_of, with_value_of}
 use Rattle.rtcm_msg.specs.declared.number.Forms.TheVariants.{FourAndSeven, All}
 use Rattle.gnss_system.specs.declared.by_system.BySystem.{BySystem}
-use Rattle.gnss_system.proofs.SystemLaws.{any_system, each_after, index_less, system_same, systems_split, value_after, value_of_other, value_tabulated}
+use Rattle.gnss_system.proofs.SystemLaws.{any_system, each_after, index_less, is_tabulated, system_same, systems_split, value_after, value_of_other, value_tabulated}
 use Rattle.rtcm_msg.specs.Sets.{is_in_set}
 use Rattle.gnss_system.specs.declared.system.System.TheVariants as listed
-use Rattle.rtcm_msg.specs.declared.view.Form.TheVariants as shape
 use Rattle.rtcm_inspect.proofs.FirstLemmas.{first_more, or_none}
 use Rattle.rtcm_inspect.proofs.SetLemmas.{SetLaws, same_none, tow_read, tow_refused}
-use Rattle.rtcm_inspect.specs.inner.FirstTows.{AreTows, IsMsmOf, IsWith, earlier, earliest, entry, later_by, placed_by, tow_in}
+use Rattle.gnss_obs.specs.Weeks.{weeks}
+use Rattle.rtcm_inspect.proofs.CountedLemmas.{at_more, greatest_more, none_counted, number_kept, number_new, some_counted}
+use Rattle.rtcm_inspect.specs.CountedTimes.{counted_before, counted_set, counted_tows, greatest_in, greatest_of, with_tow, tow_in as counted_in}
+use Rattle.rtcm_inspect.specs.inner.FirstTows.{AreSettled, AreTows, CountsTow, IsGreatestAt, IsMsmOf, IsWith, PlacesTow, SettlesTows, earlier, earliest, entry, later_by, placed_by, settled, settled_tows, tow_in}
 use Rattle.rtcm_inspect.specs.declared.first_tows.FirstTows.{FirstTows}
 use Rattle.rtcm_inspect.specs.declared.first_tows.PlacedTow.{PlacedTow}
 use Rattle.rtcm_inspect.specs.declared.first_tows.SystemTows.{SystemTows}
-use Rattle.rtcm_inspect.proofs.Names.{option_or, le-ltb, lt-ltb, Framed, Message, MsgFault, Ok, Err, ◌++◌, ◌≤◌, first_tow, every_channel, heard, inspected_in, MsmValue, drop, drop_at, length, length-append, message_at, option_map_or, take, tow_of, week, ◌*◌, ◌%◌, ◌==◌, ◌≡◌, ◌∙◌, ◌+◌, ◌<◌, ◌&&◌, ◌||◌, ℕ, Bool, true, false, List, [], ◌∷◌, Option, Some, None, IfSome, ap, ap₂, arith, list_any, nat_lt, option_map, refl, subst, sym, if◌then◌else◌, have_form, Form, Forms, MsmSet, System}
+use Rattle.rtcm_inspect.proofs.Names.{option_or, le-ltb, lt-ltb, Framed, Message, MsgFault, Ok, Err, ◌++◌, ◌≤◌, first_tow, every_channel, heard, inspected_in, MsmValue, drop, drop_at, length, length-append, message_at, option_map_or, take, tow_of, week, ◌*◌, ◌%◌, ◌==◌, ◌≡◌, ◌∙◌, ◌+◌, ◌<◌, ◌&&◌, ◌||◌, ℕ, Bool, true, false, List, [], ◌∷◌, Option, Some, None, IfSome, ap, ap₂, arith, list_any, nat_lt, option_map, is_some, not, refl, subst, sym, if◌then◌else◌, have_form, Form, Forms, MsmSet, System}
 
 -- a time of week before a place
 abbrev pub IsBefore : ℕ → Option PlacedTow → Type 0
@@ -112,12 +114,55 @@ first_after : SetLaws → (leap : ℕ) (set : MsmSet) (wanted : Option ℕ) (fs 
 first_after laws leap set wanted fs f m read =
     first_more (inspected_in leap set) (tow_of wanted) fs f ∙ ap (option_or (first_tow leap set wanted fs)) (tow_read laws leap set wanted f.message m read)
 
+-- ---- the greatest time
+
+-- what a frame has for a set
+tow_refused_in : SetLaws → (set : MsmSet) (wanted : Option ℕ) (f : Framed) {e : MsgFault} → message_at f.message ≡ Err e → counted_in set wanted f ≡ None
+tow_refused_in laws set wanted f {e} read = tow_refused laws 0 set wanted f.message e read
+
+tow_read_in : SetLaws → (set : MsmSet) (wanted : Option ℕ) (f : Framed) {m : Message} → message_at f.message ≡ Ok m
+    → counted_in set wanted f ≡ (if is_in_set set m then tow_of wanted (heard every_channel 0 m) else None)
+tow_read_in laws set wanted f {m} read = tow_read laws 0 set wanted f.message m read
+
+none_of : (b : Bool) (o : Option ℕ) → o ≡ None → (if b then o else None) ≡ None
+none_of true o none = none
+none_of false o none = refl
+
+-- the first MSM of a set is known, or there is none
+module _ {x : FirstTows} {wanted : Option ℕ} {fs : List Framed} (h : AreTows x wanted fs) (set : MsmSet) where
+  known : {t : PlacedTow} → earliest set x.tows systems ≡ Some t → first_tow 0 set wanted fs ≡ Some (placed_by 0 t)
+  known is = sym (h.first 0 set) ∙ ap (option_map (placed_by 0)) is
+
+  unknown : earliest set x.tows systems ≡ None → first_tow 0 set wanted fs ≡ None
+  unknown is = sym (h.first 0 set) ∙ ap (option_map (placed_by 0)) is
+
+  at_known : {t : PlacedTow} → earliest set x.tows systems ≡ Some t → IsGreatestAt (counted_before set wanted fs) (counted_tows wanted fs) t.greatest
+  at_known is = subst (λ (o : Option PlacedTow). IfSome o (λ t. IsGreatestAt (counted_before set wanted fs) (counted_tows wanted fs) t.greatest)) is (h.at_first set)
+
+-- by the frames with one more, of which these times of week count
+abbrev AtFirst : Option ℕ → List Framed → List ℕ → MsmSet → Option PlacedTow → Type 0
+AtFirst wanted gs tows set o = IfSome o (λ t. IsGreatestAt (counted_before set wanted gs) tows t.greatest)
+
+at_same : {x : FirstTows} {wanted : Option ℕ} {fs : List Framed} (f : Framed) → AreTows x wanted fs → (set : MsmSet) → AtFirst wanted (fs ++ f ∷ []) (counted_tows wanted fs) set (earliest set x.tows systems)
+at_same {x} {wanted} {fs} f h set = by (earliest set x.tows systems) refl where
+  by : (o : Option PlacedTow) → earliest set x.tows systems ≡ o → AtFirst wanted (fs ++ f ∷ []) (counted_tows wanted fs) set o
+  by None is = tt
+  by (Some t) is = subst (λ (n : ℕ). IsGreatestAt n (counted_tows wanted fs) t.greatest) (sym (number_kept set wanted fs f (known h set is))) (at_known h set is)
+
+-- a frame that doesn't count
+uncounted : (wanted : Option ℕ) (fs : List Framed) (f : Framed) (set : MsmSet) (o : Option PlacedTow) → counted_in counted_set wanted f ≡ None
+    → AtFirst wanted (fs ++ f ∷ []) (counted_tows wanted fs) set o → AtFirst wanted (fs ++ f ∷ []) (counted_tows wanted (fs ++ f ∷ [])) set o
+uncounted wanted fs f set o none h = subst (λ (l : List ℕ). AtFirst wanted (fs ++ f ∷ []) l set o) (sym (none_counted wanted fs f none)) h
+
 -- a message that was refused
 pub tows_refused : SetLaws → {x : FirstTows} {wanted : Option ℕ} {fs : List Framed} (f : Framed) {e : MsgFault} → message_at f.message ≡ Err e → AreTows x wanted fs → AreTows x wanted (fs ++ f ∷ [])
 tows_refused laws {x} {wanted} {fs} f {e} read h = record {
   few = omega (arith, more_frames x.messages fs f h.few);
   before = h.before;
   first = λ leap set. h.first leap set ∙ sym (first_more (inspected_in leap set) (tow_of wanted) fs f ∙ ap (option_or (first_tow leap set wanted fs)) (tow_refused laws leap set wanted f.message e read) ∙ or_none (first_tow leap set wanted fs));
+  greatest = h.greatest ∙ ap greatest_of (sym (none_counted wanted fs f (tow_refused_in laws counted_set wanted f read)));
+  settled = h.settled;
+  at_first = λ set. uncounted wanted fs f set (earliest set x.tows systems) (tow_refused_in laws counted_set wanted f read) (at_same f h set);
 }
 
 later : (n m : ℕ) (o : Option PlacedTow) → n ≤ m → IsBefore n o → IsBefore m o
@@ -129,15 +174,19 @@ no_tow true o t none = rw none (or_none o)
 no_tow false o t none = or_none o
 
 -- a message that isn't an MSM of the wanted station
-pub tows_same : SetLaws → {x y : FirstTows} {wanted : Option ℕ} {fs : List Framed} (f : Framed) {m : Message} → message_at f.message ≡ Ok m → y.messages ≡ x.messages + 1 → y.tows ≡ x.tows
+pub tows_same : SetLaws → {x y : FirstTows} {wanted : Option ℕ} {fs : List Framed} (f : Framed) {m : Message} → message_at f.message ≡ Ok m → y.messages ≡ x.messages + 1 → y ≡ record x { messages = y.messages }
     → ((leap : ℕ) → tow_of wanted (heard every_channel leap m) ≡ None) → AreTows x wanted fs → AreTows y wanted (fs ++ f ∷ [])
-tows_same laws {x} {y} {wanted} {fs} f {m} read count same none h = record {
+tows_same laws {x} {y} {wanted} {fs} f {m} read count same none h = subst (λ (z : FirstTows). AreTows z wanted (fs ++ f ∷ [])) (sym same) (record {
   few = omega (arith, count, more_frames x.messages fs f h.few);
-  before = λ s forms. subst (λ (tows : BySystem SystemTows). IsBefore y.messages (tow_in forms (value_of s tows))) (sym same)
-      (later x.messages y.messages (tow_in forms (value_of s x.tows)) (omega (arith, count)) (h.before s forms));
-  first = λ leap set. ap (λ (tows : BySystem SystemTows). option_map (placed_by leap) (earliest set tows systems)) same
-      ∙ h.first leap set ∙ sym (first_after laws leap set wanted fs f m read ∙ no_tow (is_in_set set m) (first_tow leap set wanted fs) (tow_of wanted (heard every_channel leap m)) (none leap));
-}
+  before = λ s forms. later x.messages y.messages (tow_in forms (value_of s x.tows)) (omega (arith, count)) (h.before s forms);
+  first = λ leap set. h.first leap set ∙ sym (first_after laws leap set wanted fs f m read ∙ no_tow (is_in_set set m) (first_tow leap set wanted fs) (tow_of wanted (heard every_channel leap m)) (none leap));
+  greatest = h.greatest ∙ ap greatest_of (sym (none_counted wanted fs f none_here));
+  settled = h.settled;
+  at_first = λ set. uncounted wanted fs f set (earliest set x.tows systems) none_here (at_same f h set);
+})
+  where
+    none_here : counted_in counted_set wanted f ≡ None
+    none_here = tow_read_in laws counted_set wanted f read ∙ none_of (is_in_set counted_set m) (tow_of wanted (heard every_channel 0 m)) (none 0)
 
 tow_grown : (leap : ℕ) (b : Bool) (c : PlacedTow) (o : Option PlacedTow) → option_map (placed_by leap) (grown b c o) ≡ option_or (option_map (placed_by leap) o) (if b then Some (placed_by leap c) else None)
 tow_grown leap true c None = refl
@@ -151,24 +200,184 @@ with_before x y form c forms is h = subst (IsBefore (c.place + 1)) (sym is) (by 
   by true (Some t) h = omega (arith, h)
   by false o h = later c.place (c.place + 1) o (omega arith) h
 
--- an MSM of the wanted station
-pub tows_more : SetLaws → {x y : FirstTows} {wanted : Option ℕ} {fs : List Framed} (f : Framed) {m : Message} {now : SystemTows} {tow : ℕ} (system : System) (form : Form) → message_at f.message ≡ Ok m
-    → y.messages ≡ x.messages + 1 → y.tows ≡ with_value_of system x.tows now → IsMsmOf m system form → ((leap : ℕ) → tow_of wanted (heard every_channel leap m) ≡ Some (later_by system leap tow))
-    → ((forms : Forms) → IsWith (value_of system x.tows) form (record { place = x.messages; system = system; tow = tow }) now forms) → AreTows x wanted fs → AreTows y wanted (fs ++ f ∷ [])
-tows_more laws {x} {y} {wanted} {fs} f {m} {now} {tow} system form read count same is has with_tow h = record {
-  few = omega (arith, count, more_frames x.messages fs f h.few);
-  before = λ s forms. rw (same, count) (each_after (λ (s : System) (t : SystemTows). (forms : Forms) → IsBefore (x.messages + 1) (tow_in forms t)) system x.tows now
+-- an MSM of the wanted station was added to the first ones; its time may still have to be counted
+pub record AreTowsButLast (y : FirstTows) (wanted : Option ℕ) (fs : List Framed) (f : Framed) : Type 0 where
+  pub few : y.messages ≤ length (fs ++ f ∷ [])
+  pub before : (s : System) (forms : Forms) → IfSome (tow_in forms (value_of s y.tows)) (λ t. t.place < y.messages)
+  pub first : (leap : ℕ) (set : MsmSet) → option_map (placed_by leap) (earliest set y.tows systems) ≡ first_tow leap set wanted (fs ++ f ∷ [])
+  pub greatest : y.greatest ≡ greatest_in wanted fs
+  pub settled : y.is_waiting ≡ false → AreSettled y.tows
+  pub at_first : (set : MsmSet) → AtFirst wanted (fs ++ f ∷ []) (counted_tows wanted fs) set (earliest set y.tows systems)
+
+-- the first MSM of a set with one more, whose greatest time isn't known
+at_grown : (wanted : Option ℕ) (fs : List Framed) (f : Framed) (set : MsmSet) (c : PlacedTow) (b : Bool) (o : Option PlacedTow) → c.greatest ≡ None
+    → AtFirst wanted (fs ++ f ∷ []) (counted_tows wanted fs) set o → (b ≡ true → o ≡ None → length (counted_tows wanted fs) ≡ counted_before set wanted (fs ++ f ∷ []))
+    → AtFirst wanted (fs ++ f ∷ []) (counted_tows wanted fs) set (grown b c o)
+at_grown wanted fs f set c true None none h new = subst (IsGreatestAt (counted_before set wanted (fs ++ f ∷ [])) (counted_tows wanted fs)) (sym none) (new refl refl)
+at_grown wanted fs f set c false None none h new = tt
+at_grown wanted fs f set c b (Some t) none h new = h
+
+if_true : (b : Bool) (o : Option ℕ) → b ≡ true → (if b then o else None) ≡ o
+if_true b o e = ap (λ (d : Bool). if d then o else None) e
+
+pub tows_placed : SetLaws → {x y : FirstTows} {wanted : Option ℕ} {fs : List Framed} (f : Framed) {m : Message} (form : Form) (c : PlacedTow) {n : ℕ} → n ≡ x.messages + 1 → message_at f.message ≡ Ok m → c.place ≡ x.messages → c.greatest ≡ None
+    → IsMsmOf m c.system form → ((leap : ℕ) → tow_of wanted (heard every_channel leap m) ≡ Some (later_by c.system leap c.tow))
+    → PlacesTow (record x { messages = n }) form c y → AreTows x wanted fs → AreTowsButLast y wanted fs f
+tows_placed laws {x} {y} {wanted} {fs} f {m} form c count read place none is has p h = record {
+  few = omega (arith, p.messages, count, more_frames x.messages fs f h.few);
+  before = λ s forms. rw (p.messages, count, p.tows.1) (each_after (λ (s : System) (t : SystemTows). (forms : Forms) → IsBefore (x.messages + 1) (tow_in forms t)) c.system x.tows p.tows.0
       (λ s forms. later x.messages (x.messages + 1) (tow_in forms (value_of s x.tows)) (omega arith) (h.before s forms))
-      (λ forms. with_before (value_of system x.tows) now form c forms (with_tow forms) (h.before system forms)) s forms);
-  first = λ leap set. ap (λ (tows : BySystem SystemTows). option_map (placed_by leap) (earliest set tows systems)) same
-      ∙ ap (option_map (placed_by leap)) (first_grown set x.tows system form c now with_tow h.before)
-      ∙ tow_grown leap (value_of system set.systems && have_form set.forms form) c (earliest set x.tows systems)
-      ∙ ap (λ (o : Option ℕ). option_or o (if value_of system set.systems && have_form set.forms form then Some (placed_by leap c) else None)) (h.first leap set)
+      (λ forms. subst (λ (n : ℕ). IsBefore (n + 1) (tow_in forms p.tows.0)) place (with_before (value_of c.system x.tows) p.tows.0 form c forms (p.tows.2 forms) (rw place (h.before c.system forms)))) s forms);
+  first = λ leap set. ap (option_map (placed_by leap)) (grows set)
+      ∙ tow_grown leap (is_in set) c (earliest set x.tows systems)
+      ∙ ap (λ (o : Option ℕ). option_or o (if is_in set then Some (placed_by leap c) else None)) (h.first leap set)
       ∙ sym (first_after laws leap set wanted fs f m read ∙ ap₂ (λ (b : Bool) (t : Option ℕ). option_or (first_tow leap set wanted fs) (if b then t else None)) (is set) (has leap));
+  greatest = p.greatest ∙ h.greatest;
+  settled = λ waits. subst AreSettled (sym (p.same waits).1) (h.settled (p.same waits).0);
+  at_first = λ set. subst (AtFirst wanted (fs ++ f ∷ []) (counted_tows wanted fs) set) (sym (grows set))
+      (at_grown wanted fs f set c (is_in set) (earliest set x.tows systems) none (at_same f h set)
+      (λ within first. number_new set wanted fs f (unknown h set first) (tow_read_in laws set wanted f read ∙ if_true (is_in_set set m) (tow_of wanted (heard every_channel 0 m)) (is set ∙ within) ∙ has 0)));
 }
   where
-    c : PlacedTow
-    c = record { place = x.messages; system = system; tow = tow }
+    is_in : MsmSet → Bool
+    is_in set = value_of c.system set.systems && have_form set.forms form
+
+    grows : (set : MsmSet) → earliest set y.tows systems ≡ grown (is_in set) c (earliest set x.tows systems)
+    grows set = ap (λ (tows : BySystem SystemTows). earliest set tows systems) p.tows.1
+        ∙ first_grown set x.tows c.system form c p.tows.0 p.tows.2 (λ s forms. rw place (h.before s forms))
+
+-- an MSM of GLONASS doesn't count
+pub tows_of_glonass : SetLaws → {y : FirstTows} {wanted : Option ℕ} {fs : List Framed} (f : Framed) {m : Message} (form : Form) → message_at f.message ≡ Ok m → IsMsmOf m listed.Glonass form
+    → AreTowsButLast y wanted fs f → AreTows y wanted (fs ++ f ∷ [])
+tows_of_glonass laws {y} {wanted} {fs} f {m} form read is h = record {
+  few = h.few;
+  before = h.before;
+  first = h.first;
+  greatest = h.greatest ∙ ap greatest_of (sym (none_counted wanted fs f none_here));
+  settled = h.settled;
+  at_first = λ set. uncounted wanted fs f set (earliest set y.tows systems) none_here (h.at_first set);
+}
+  where
+    none_here : counted_in counted_set wanted f ≡ None
+    none_here = tow_read_in laws counted_set wanted f read ∙ ap (λ (b : Bool). if b then tow_of wanted (heard every_channel 0 m) else None) (is counted_set)
+
+-- ---- a first MSM that is given a greatest time
+
+settled_earlier : (t : ℕ) (a b : Option PlacedTow) → earlier (option_map (settled t) a) (option_map (settled t) b) ≡ option_map (settled t) (earlier a b)
+settled_earlier t None b = refl
+settled_earlier t (Some x) None = refl
+settled_earlier t (Some x) (Some y) = by (nat_lt y.place x.place) where
+  by : (b : Bool) → (if b then Some (settled t y) else Some (settled t x)) ≡ option_map (settled t) (if b then Some y else Some x)
+  by true = refl
+  by false = refl
+
+abbrev all_settled : ℕ → BySystem SystemTows → BySystem SystemTows
+all_settled t tows = tabulate (λ s. settled_tows t (value_of s tows))
+
+settled_in : (t : ℕ) (forms : Forms) (x : SystemTows) → tow_in forms (settled_tows t x) ≡ option_map (settled t) (tow_in forms x)
+settled_in t FourAndSeven x = refl
+settled_in t All x = refl
+
+of_settled : (t : ℕ) (tows : BySystem SystemTows) (s : System) (forms : Forms) → tow_in forms (value_of s (all_settled t tows)) ≡ option_map (settled t) (tow_in forms (value_of s tows))
+of_settled t tows s forms = ap (tow_in forms) (value_tabulated s (λ s. settled_tows t (value_of s tows))) ∙ settled_in t forms (value_of s tows)
+
+settled_earliest : (t : ℕ) (set : MsmSet) (tows : BySystem SystemTows) (ss : List System) → earliest set (all_settled t tows) ss ≡ option_map (settled t) (earliest set tows ss)
+settled_earliest t set tows [] = refl
+settled_earliest t set tows (s ∷ ss) =
+    ap₂ earlier (by (value_of s set.systems)) (settled_earliest t set tows ss) ∙ settled_earlier t (entry set tows s) (earliest set tows ss)
+  where
+    by : (b : Bool) → (if b then tow_in set.forms (value_of s (all_settled t tows)) else None) ≡ option_map (settled t) (if b then tow_in set.forms (value_of s tows) else None)
+    by true = of_settled t tows s set.forms
+    by false = refl
+
+settled_before : (n t : ℕ) (o : Option PlacedTow) → IsBefore n o → IsBefore n (option_map (settled t) o)
+settled_before n t None h = tt
+settled_before n t (Some x) h = h
+
+settled_placed : (leap t : ℕ) (o : Option PlacedTow) → option_map (placed_by leap) (option_map (settled t) o) ≡ option_map (placed_by leap) o
+settled_placed leap t None = refl
+settled_placed leap t (Some x) = refl
+
+settled_some : (t : ℕ) (o : Option PlacedTow) → IfSome (option_map (settled t) o) (λ x. is_some x.greatest ≡ true)
+settled_some t None = tt
+settled_some t (Some x) = by x.greatest where
+  by : (o : Option ℕ) → is_some (option_or o (Some t)) ≡ true
+  by None = refl
+  by (Some u) = refl
+
+at_settled : (n : ℕ) (tows : List ℕ) (tow t : ℕ) (o : Option PlacedTow) → greatest_of (tows ++ tow ∷ []) ≡ Some t → t < weeks * week → IfSome o (λ x. IsGreatestAt n tows x.greatest)
+    → IfSome (option_map (settled t) o) (λ x. IsGreatestAt n (tows ++ tow ∷ []) x.greatest)
+at_settled n tows tow t None is small h = tt
+at_settled n tows tow t (Some x) is small h = at_more n tows tow t x.greatest is small h
+
+-- an MSM of another system than GLONASS counts, with its time of week
+another_system : (s : System) → (s ≡ listed.Glonass → ⊥) → is_system s listed.Glonass ≡ false
+another_system s other = by (is_system s listed.Glonass) refl where
+  by : (b : Bool) → is_system s listed.Glonass ≡ b → b ≡ false
+  by true e = absurd (other (system_same s listed.Glonass e))
+  by false e = refl
+
+pub counts_tow : (m : Message) (system : System) (form : Form) → IsMsmOf m system form → (system ≡ listed.Glonass → ⊥) → is_in_set counted_set m ≡ true
+counts_tow m system form is other =
+    is counted_set ∙ ap (λ (b : Bool). b && have_form All form) (value_tabulated system (λ s. not (is_system s listed.Glonass)) ∙ ap not (another_system system other))
+
+pub same_later : (system : System) (tow : ℕ) → (system ≡ listed.Glonass → ⊥) → later_by system 0 tow ≡ tow
+same_later listed.Glonass tow other = absurd (other refl)
+same_later system tow other = refl
+
+-- a time of week is counted
+same_settled : (t : ℕ) (o : Option PlacedTow) → IfSome o (λ x. is_some x.greatest ≡ true) → o ≡ option_map (settled t) o
+same_settled t None h = refl
+same_settled t (Some x) h = by x.greatest refl h where
+  by : (o : Option ℕ) → x.greatest ≡ o → is_some o ≡ true → Some x ≡ Some (settled t x)
+  by None e h = cc
+  by (Some u) e h = ap (λ (g : Option ℕ). Some (record x { greatest = g })) (e ∙ sym (ap (λ (g : Option ℕ). option_or g (Some t)) e))
+
+same_tows : (t : ℕ) (x : SystemTows) → ((forms : Forms) → IfSome (tow_in forms x) (λ t. is_some t.greatest ≡ true)) → x ≡ settled_tows t x
+same_tows t x h = ap₂ pair (same_settled t x.four_and_seven (h FourAndSeven)) (same_settled t x.all (h All)) where
+  pair : Option PlacedTow → Option PlacedTow → SystemTows
+  pair a b = record { four_and_seven = a; all = b }
+
+pub counted_still : (x : FirstTows) (tow t : ℕ) → Some t ≡ with_tow x.greatest tow → t < weeks * week → x.is_waiting ≡ false → CountsTow x tow (record x { greatest = Some t })
+counted_still x tow t is small still = record {
+  messages = refl;
+  greatest = is;
+  tows = (t, refl, small, λ settled. is_tabulated x.tows (λ s. settled_tows t (value_of s x.tows)) (λ s. same_tows t (value_of s x.tows) (settled still s)));
+}
+
+pub counted_settled : (x : FirstTows) {y : FirstTows} (tow t : ℕ) {u : ℕ} → Some t ≡ with_tow x.greatest tow → t < weeks * week → u ≡ t → SettlesTows (record x { greatest = Some t }) u y → CountsTow x tow y
+counted_settled x {y} tow t is small same h = record {
+  messages = h.messages;
+  greatest = h.greatest ∙ is;
+  tows = (t, h.greatest, small, λ settled. h.tows ∙ ap (λ (u : ℕ). all_settled u x.tows) same);
+}
+
+-- an MSM of another system is counted
+pub tows_counted : SetLaws → {y z : FirstTows} {wanted : Option ℕ} {fs : List Framed} (f : Framed) {m : Message} (form : Form) {tow : ℕ} → message_at f.message ≡ Ok m
+    → is_in_set counted_set m ≡ true → tow_of wanted (heard every_channel 0 m) ≡ Some tow → CountsTow y tow z → AreTowsButLast y wanted fs f → AreTows z wanted (fs ++ f ∷ [])
+tows_counted laws {y} {z} {wanted} {fs} f {m} form {tow} read counts has p h = record {
+  few = omega (arith, p.messages, h.few);
+  before = λ s forms. rw (p.messages, all) (subst (IsBefore y.messages) (sym (of_settled t y.tows s forms)) (settled_before y.messages t (tow_in forms (value_of s y.tows)) (h.before s forms)));
+  first = λ leap set. ap (λ (tows : BySystem SystemTows). option_map (placed_by leap) (earliest set tows systems)) all
+      ∙ ap (option_map (placed_by leap)) (settled_earliest t set y.tows systems) ∙ settled_placed leap t (earliest set y.tows systems) ∙ h.first leap set;
+  greatest = p.tows.1 ∙ sym now ∙ ap greatest_of (sym (some_counted wanted fs f here));
+  settled = λ waits. rw all (λ s forms. subst (λ (o : Option PlacedTow). IfSome o (λ x. is_some x.greatest ≡ true)) (sym (of_settled t y.tows s forms)) (settled_some t (tow_in forms (value_of s y.tows))));
+  at_first = λ set. subst (λ (l : List ℕ). AtFirst wanted (fs ++ f ∷ []) l set (earliest set z.tows systems)) (sym (some_counted wanted fs f here))
+      (subst (AtFirst wanted (fs ++ f ∷ []) (counted_tows wanted fs ++ tow ∷ []) set) (sym (ap (λ (tows : BySystem SystemTows). earliest set tows systems) all ∙ settled_earliest t set y.tows systems))
+      (at_settled (counted_before set wanted (fs ++ f ∷ [])) (counted_tows wanted fs) tow t (earliest set y.tows systems) now p.tows.2 (h.at_first set)));
+}
+  where
+    t : ℕ
+    t = p.tows.0
+
+    all : z.tows ≡ all_settled t y.tows
+    all = p.tows.3 h.settled
+
+    here : counted_in counted_set wanted f ≡ Some tow
+    here = tow_read_in laws counted_set wanted f read ∙ if_true (is_in_set counted_set m) (tow_of wanted (heard every_channel 0 m)) counts ∙ has
+
+    now : greatest_of (counted_tows wanted fs ++ tow ∷ []) ≡ Some t
+    now = greatest_more (counted_tows wanted fs) tow ∙ ap (λ (o : Option ℕ). with_tow o tow) (sym h.greatest) ∙ sym p.greatest ∙ p.tows.1
 
 -- ---- the first MSM of a set, from the last system on
 
@@ -195,16 +404,23 @@ none_early set (s ∷ ss) = ap₂ earlier (by (value_of s set.systems) set.forms
   by true All e = ap (λ (x : SystemTows). x.all) e
   by false forms e = refl
 
-pub no_tows : (wanted : Option ℕ) (tows : BySystem SystemTows) → tows ≡ tabulate (λ s. none_yet) → AreTows (record { messages = 0; tows = tows }) wanted []
+pub no_tows : (wanted : Option ℕ) (tows : BySystem SystemTows) → tows ≡ tabulate (λ s. none_yet) → AreTows (record { messages = 0; tows = tows; greatest = None; is_waiting = false }) wanted []
 no_tows wanted tows is = record {
   few = omega arith;
   before = λ s forms. subst (λ (x : SystemTows). IsBefore 0 (tow_in forms x)) (sym (ap (value_of s) is ∙ value_tabulated s (λ s. none_yet))) (by forms);
   first = λ leap set. ap (λ (tows : BySystem SystemTows). option_map (placed_by leap) (earliest set tows systems)) is ∙ ap (option_map (placed_by leap)) (none_early set systems);
+  greatest = refl;
+  settled = λ waits s forms. subst (λ (x : SystemTows). IfSome (tow_in forms x) (λ t. is_some t.greatest ≡ true)) (sym (ap (value_of s) is ∙ value_tabulated s (λ s. none_yet))) (settled forms);
+  at_first = λ set. subst (AtFirst wanted [] [] set) (sym (ap (λ (tows : BySystem SystemTows). earliest set tows systems) is ∙ none_early set systems)) tt;
 }
   where
     by : (forms : Forms) → IsBefore 0 (tow_in forms none_yet)
     by FourAndSeven = tt
     by All = tt
+
+    settled : (forms : Forms) → IfSome (tow_in forms none_yet) (λ t. is_some t.greatest ≡ true)
+    settled FourAndSeven = tt
+    settled All = tt
 
 -- ---- the time of week of an MSM
 

@@ -2,7 +2,6 @@
 use Rattle.rtcm_msg.specs.declared.view.Form.TheVariants as forms
 use Rattle.std.proofs.lemmas.Option.{cond_some, same_Some}
 use Rattle.rtcm_inspect.proofs.Names.{option_and_then, MsmValue, heard_msm, ◌≡◌, ℕ, ◌≤◌, ◌&&◌, Bool, true, false, List, [], ◌∷◌, refl, sym, ◌∙◌, subst, arith, filter, All, Option, Some, None, Result, Ok, Err, filter_map, cond, nat_le, option_map, option_map_or, cons_option, All-nil, All-cons, All-append, All-filter, System, Satellite, IsSatellite, satellites, satellite_of_id, SignalAt, IsSignal, signal_of_id, Entry, Message, Msm4, Msm5, Msm6, Msm7, entries, MsgFault, message_at, Framed, Heard, inspected, every_channel, seen_in, lock_by, observed, HeardCell, IsKey, inspected_of, brings_value, is_of_station, valued, valued_of, valued_in, Form}
-use Rattle.gnss_system.specs.declared.tables.ListedSignal as tables
 use Rattle.gnss_system.proofs.SystemLaws.{listed_of}
 
 satellite_listed : (system : System) (id : ℕ) (s : Satellite) → satellite_of_id system id ≡ Some s → (s.system ≡ system) × IsSatellite s

@@ -1,6 +1,8 @@
 -- The names of faults, and what they carry, as words. They agree with the manual page.
-use Rattle.std.specs.Prelude.{ℕ, List, [], ◌∷◌, codes, decimal}
+use Rattle.std.specs.Prelude.{ℕ, ◌/◌, List, [], ◌∷◌, codes, decimal}
 use Rattle.gnss_system.specs.Satellites.{letter}
+use Rattle.gnss_obs.specs.Dates.{civil_of}
+use Rattle.gnss_obs.specs.Weeks.{week}
 use Rattle.gnss_obs.specs.declared.fault.PlanFault.{PlanFault}
 use Rattle.gnss_obs.specs.declared.fault.PlanFault.TheVariants as plans
 use Rattle.rtcm_scan.specs.declared.framer.ScanFault.{ScanFault}
@@ -8,8 +10,10 @@ use Rattle.rtcm_scan.specs.declared.framer.ScanFault.TheVariants as scan
 use Rattle.rinex_file.specs.Texts.{field_name}
 use Rattle.rinex_file.specs.declared.header.fault.HeadFault.{HeadFault}
 use Rattle.rinex_file.specs.declared.header.fault.HeadFault.TheVariants as header
+use Rattle.line_texts.specs.Digits.{calendar_text}
 use Rattle.rtcm_inspect.specs.declared.fault.InspectFault.{InspectFault}
 use Rattle.rtcm_inspect.specs.declared.fault.InspectFault.TheVariants as inspect
+use Rattle.rtcm_inspect.specs.declared.fault.WeekDate.{WeekDate}
 
 -- a stream is too long, or memory ran out
 abbrev pub scan_word : ScanFault → List ℕ
@@ -33,6 +37,13 @@ plan_words plans.BadWeek = codes "BadWeek" ∷ []
 plan_words plans.BadStation = codes "BadStation" ∷ []
 plan_words plans.Memory = codes "Memory" ∷ []
 
+-- the week and the date of a time
+abbrev pub week_date : ℕ → WeekDate
+week_date t = record { week = t / week; year = (civil_of t).year; month = (civil_of t).month; day = (civil_of t).day }
+
+abbrev pub week_words : WeekDate → List (List ℕ)
+week_words date = decimal date.week ∷ calendar_text date.year date.month date.day ∷ []
+
 -- a command that reads a stream
 abbrev pub inspection_words : InspectFault → List (List ℕ)
 inspection_words inspect.Read = codes "Read" ∷ []
@@ -40,3 +51,6 @@ inspection_words inspect.Write = codes "Write" ∷ []
 inspection_words (inspect.Scan e) = scan_word e ∷ []
 inspection_words (inspect.SeveralStations a b) = codes "SeveralStations" ∷ decimal a ∷ decimal b ∷ []
 inspection_words inspect.NoSignal = codes "NoSignal" ∷ []
+inspection_words inspect.NoWeek = codes "NoWeek" ∷ []
+inspection_words (inspect.SeveralWeeks a b) = codes "SeveralWeeks" ∷ decimal a ∷ decimal b ∷ []
+inspection_words (inspect.OtherWeek date) = codes "OtherWeek" ∷ week_words date

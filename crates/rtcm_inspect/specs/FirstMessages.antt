@@ -1,5 +1,5 @@
 -- What the first messages of a stream contain, and the stations of its messages.
-use Rattle.std.specs.Prelude.{◌≡◌, ℕ, ◌==◌, ◌||◌, not, List, [], ◌∷◌, find, filter_map, Option, Some, None, is_some}
+use Rattle.std.specs.Prelude.{◌≡◌, ℕ, ◌||◌, List, filter_map, Option, Some, None, is_some}
 use Rattle.std.specs.Prelude.{IfSome, option_and_then, if◌then◌else◌}
 use Rattle.rtcm_scan.specs.Frames.{Framed}
 use Rattle.rtcm_msg.specs.Station.{InRange}
@@ -10,8 +10,9 @@ use Rattle.rtcm_inspect.specs.inner.FirstTows.{AreTows}
 use Rattle.rtcm_inspect.specs.WeekLaws.{first_in}
 use Rattle.rtcm_inspect.specs.Inspected.{inspected_at}
 use Rattle.rtcm_inspect.specs.declared.first_messages.FirstMessages.{FirstMessages}
-use Rattle.rtcm_inspect.specs.declared.first_messages.Stations.{Stations}
-use Rattle.rtcm_inspect.specs.declared.first_messages.Stations.TheVariants.{Unknown, One, Several}
+use Rattle.rtcm_inspect.specs.FirstTwo.{first_two}
+use Rattle.rtcm_inspect.specs.declared.first_two.FirstTwo.{FirstTwo}
+use Rattle.rtcm_inspect.specs.declared.first_two.FirstTwo.TheVariants.{Unknown, One, Several}
 
 -- the content of a station message (1005 or 1006) of the wanted station; if none is given, of any station
 abbrev pub point_of : Option ℕ → Heard → Option StationParts
@@ -31,24 +32,15 @@ sender m = if is_some m.tow || is_some m.point then m.station else None
 abbrev pub stations_of : List Framed → List ℕ
 stations_of fs = filter_map (λ f. option_and_then sender (inspected_at f.message)) fs
 
--- none, one, or the first and the first other one
-abbrev pub with_other : ℕ → Option ℕ → Stations
-with_other a None = One a
-with_other a (Some b) = Several a b
-
-abbrev pub stations_in : List ℕ → Stations
-stations_in [] = Unknown
-stations_in (a ∷ ns) = with_other a (find (λ n. not (n == a)) ns)
-
 -- The first two stations, if the messages of several count: of all stations, if none is given.
-abbrev pub mixed_of : Option ℕ → Stations → Option (ℕ × ℕ)
+abbrev pub mixed_of : Option ℕ → FirstTwo → Option (ℕ × ℕ)
 mixed_of (Some wanted) all = None
 mixed_of None (Several a b) = Some (a, b)
 mixed_of None (One a) = None
 mixed_of None Unknown = None
 
 abbrev pub mixed : Option ℕ → List Framed → Option (ℕ × ℕ)
-mixed wanted fs = mixed_of wanted (stations_in (stations_of fs))
+mixed wanted fs = mixed_of wanted (first_two (stations_of fs))
 
 -- ---- while the stream is read
 
@@ -56,5 +48,5 @@ mixed wanted fs = mixed_of wanted (stations_in (stations_of fs))
 pub record AreFirst (x : FirstMessages) (wanted : Option ℕ) (fs : List Framed) : Type 0 where
   pub point : x.point ≡ first_station wanted fs
   pub tows : AreTows x.tows wanted fs
-  pub stations : x.stations ≡ stations_in (stations_of fs)
+  pub stations : x.stations ≡ first_two (stations_of fs)
   pub in_range : IfSome x.point InRange

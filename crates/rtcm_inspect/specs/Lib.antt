@@ -6,7 +6,10 @@ pub mod Devices
 pub mod Listing
 pub mod ReadBack
 pub mod Inspected
+pub mod FirstTwo
 pub mod FirstMessages
+pub mod CountedTimes
+pub mod SentWeeks
 pub mod StreamChannels
 pub mod NearWeek
 pub mod Signals
@@ -15,6 +18,7 @@ pub mod StreamOutput
 pub mod OptionOutput
 pub mod SignalLaws
 pub mod WeekLaws
+pub mod SentWeekLaws
 pub mod LengthLaws
 pub mod ChannelLaws
 pub mod inner

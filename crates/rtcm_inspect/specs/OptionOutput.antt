@@ -1,34 +1,68 @@
--- The output of the command `options`. `near` is the noon of the given date.
-use Rattle.std.specs.Prelude.{◌≡◌, ℕ, ◌<◌, List, [], length, option_map, Option, Some, None}
-use Rattle.std.specs.Option.{option_map_or}
+-- The output of the command `options`.
+use Rattle.std.specs.Prelude.{◌≡◌, ℕ, ◌<◌, Bool, false, true, List, [], length, Option, Some, None, IfSome}
 use Rattle.rtcm_scan.specs.Frames.{Framed}
-use Rattle.obs_epoch.specs.Kinds.{default_leap}
+use Rattle.rtcm_inspect.specs.FaultWords.{week_date}
 use Rattle.rtcm_inspect.specs.FirstMessages.{mixed}
+use Rattle.rtcm_inspect.specs.FirstTwo.{first_two}
 use Rattle.rtcm_inspect.specs.WeekLaws.{first_tow}
 use Rattle.rtcm_inspect.specs.Fitting.{options_text}
 use Rattle.line_texts.specs.LeapSeconds.{leap_at}
 use Rattle.rtcm_inspect.specs.NearWeek.{IsWeekFor}
+use Rattle.rtcm_inspect.specs.SentWeeks.{IsOtherTime, first_msm, is_denied, leap_by, rests_in, week_by, whole_in}
 use Rattle.rtcm_inspect.specs.Signals.{set_had, valued_in}
 use Rattle.rtcm_inspect.specs.declared.fault.InspectFault.{InspectFault}
 use Rattle.rtcm_inspect.specs.declared.fault.InspectFault.TheVariants as faults
+use Rattle.rtcm_inspect.specs.declared.first_two.FirstTwo.TheVariants.{One, Several}
+use Rattle.rtcm_inspect.specs.declared.printed_week.WeekSource.{WeekSource}
+use Rattle.rtcm_inspect.specs.declared.printed_week.WeekSource.TheVariants.{Unprinted, Near, Ephemerides}
 
--- the leap seconds near the noon of a date, or those from 2017 on if none is given
-abbrev pub leap_near : Option ℕ → ℕ
-leap_near near = option_map_or leap_at near default_leap
+-- ---- the week
+
+-- the week nearest to noon, by the leap seconds of its date
+abbrev pub IsWeekAt : (noon : ℕ) → Option ℕ → List Framed → (w : Option ℕ) → Type 0
+IsWeekAt noon wanted fs w = IsWeekFor (Some noon) (first_tow (leap_at noon) (set_had wanted fs) wanted fs) w
+
+-- the ephemerides deny that the first MSM is in week w, by the leap seconds of the date of noon
+abbrev pub is_denied_at : (noon : ℕ) → Option ℕ → List Framed → (w : ℕ) → Bool
+is_denied_at noon wanted fs w =
+    is_denied (first_msm (leap_at noon) wanted fs) (whole_in wanted fs) (rests_in wanted fs) w
+
+-- The week and the leap seconds that are printed for these frames: none; those of the date of noon, with the nearest
+-- week, which isn't denied; or those that are all said by the ephemerides with whole weeks.
+abbrev pub IsPrinted : WeekSource → (wanted : Option ℕ) → List Framed → (w leap : Option ℕ) → Type 0
+IsPrinted Unprinted wanted fs w leap = (w ≡ None) × (leap ≡ None)
+IsPrinted (Near noon) wanted fs w leap =
+    IsWeekAt noon wanted fs w × IfSome w (λ n. is_denied_at noon wanted fs n ≡ false) × (leap ≡ Some (leap_at noon))
+IsPrinted Ephemerides wanted fs w leap =
+    (d : ℕ) × (first_two (whole_in wanted fs) ≡ One d) × (w ≡ Some (week_by wanted fs d))
+    × (leap ≡ Some (leap_by wanted fs d))
+
+-- The ephemerides say no week, or these two; or they deny the week nearest to noon, and the first one says another.
+abbrev pub IsWeekRefused : WeekSource → (wanted : Option ℕ) → List Framed → InspectFault → Type 0
+IsWeekRefused Ephemerides wanted fs faults.NoWeek = whole_in wanted fs ≡ []
+IsWeekRefused Ephemerides wanted fs (faults.SeveralWeeks a b) =
+    (d : ℕ) × (e : ℕ) × (first_two (whole_in wanted fs) ≡ Several d e) × (a ≡ week_by wanted fs d)
+    × (b ≡ week_by wanted fs e)
+IsWeekRefused (Near noon) wanted fs (faults.OtherWeek date) =
+    (w : ℕ) × IsWeekAt noon wanted fs (Some w) × (is_denied_at noon wanted fs w ≡ true) × ((t : ℕ)
+    × IsOtherTime noon (first_msm (leap_at noon) wanted fs) (whole_in wanted fs) (rests_in wanted fs) t
+    × (date ≡ week_date t))
+IsWeekRefused source wanted fs other = ⊥
+
+-- ---- the line
+
+-- the messages of one station count, and one of their cells has a value
+abbrev pub HasSignals : (wanted : Option ℕ) → List Framed → Type 0
+HasSignals wanted fs = (mixed wanted fs ≡ None) × (0 < length (valued_in wanted fs))
 
 -- the text is the line of the options that fit these frames
-abbrev pub IsDatedLine : (near wanted : Option ℕ) → List Framed → List ℕ → Type 0
-IsDatedLine near wanted fs text =
-    (w : Option ℕ) × IsWeekFor near (first_tow (leap_near near) (set_had wanted fs) wanted fs) w
-    × (text ≡ options_text w (option_map leap_at near) wanted fs)
+abbrev pub AreOptionsOf : WeekSource → (wanted : Option ℕ) → List Framed → List ℕ → Type 0
+AreOptionsOf source wanted fs text = HasSignals wanted fs × ((w : Option ℕ) × (leap : Option ℕ)
+    × IsPrinted source wanted fs w leap × (text ≡ options_text w leap wanted fs))
 
--- The messages of one station count, one of their cells has a value, and the text is that line.
-abbrev pub AreOptionsOf : (near wanted : Option ℕ) → List Framed → List ℕ → Type 0
-AreOptionsOf near wanted fs text =
-    (mixed wanted fs ≡ None) × (0 < length (valued_in wanted fs)) × IsDatedLine near wanted fs text
-
--- The messages of several stations count, of which these are the first two; or of one, and no cell has a value.
-abbrev pub AreOptionsRefused : Option ℕ → List Framed → InspectFault → Type 0
-AreOptionsRefused wanted fs (faults.SeveralStations a b) = mixed wanted fs ≡ Some (a, b)
-AreOptionsRefused wanted fs faults.NoSignal = (mixed wanted fs ≡ None) × (valued_in wanted fs ≡ [])
-AreOptionsRefused wanted fs other = ⊥
+-- The messages of several stations count, of which these are the first two; or of one, and no cell has a value, or the
+-- week is refused.
+abbrev pub AreOptionsRefused : WeekSource → Option ℕ → List Framed → InspectFault → Type 0
+AreOptionsRefused source wanted fs (faults.SeveralStations a b) = mixed wanted fs ≡ Some (a, b)
+AreOptionsRefused source wanted fs faults.NoSignal = (mixed wanted fs ≡ None) × (valued_in wanted fs ≡ [])
+AreOptionsRefused source wanted fs other = HasSignals wanted fs × IsWeekRefused source wanted fs other

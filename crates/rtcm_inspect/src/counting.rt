@@ -10,6 +10,7 @@ ghost use Rattle.rtcm_inspect.specs.Devices.{CountsReader};
 use crate::fault::InspectFault;
 use crate::first_messages::{FirstMessages, is_of_other};
 use crate::listing::PIECE_BYTES;
+use crate::said_weeks::SaidWeeks;
 use crate::stream_channels::add_sent_channels;
 use devices::{Counted, DeviceFailed};
 use gnss_obs::Channels;
@@ -33,6 +34,8 @@ pub struct StreamSignals {
     pub channels: Channels,
     /// What the first messages contain.
     pub first: FirstMessages,
+    /// What the ephemerides say of the week.
+    pub weeks: SaidWeeks,
 }
 
 impl FrameSink<()> for StreamSignals {
@@ -48,6 +51,7 @@ impl FrameSink<()> for StreamSignals {
     fn take(&mut self, frame: &Frame, _out: &mut ()) -> Result<(), DeviceFailed> {
         message_sets();
         let message = frame.message.as_slice();
+        self.weeks.add(self.first.tows.greatest, message);
         // Not `look`, which would copy the view for each message.
         match &look_in(&MsmSet::all(), message) {
             Ok(view) => {
@@ -108,12 +112,16 @@ pub fn read_signals<R: Read>(
     let Ok(mut framer) = Framer::new(alloc, MOST_BYTES) else {
         return Err(InspectFault::Scan(ScanFault::Memory));
     };
+    let Ok(weeks) = SaidWeeks::new(alloc) else {
+        return Err(InspectFault::Scan(ScanFault::Memory));
+    };
     let mut signals = StreamSignals {
         station,
         signal_counts: SignalCounts::new(),
         forms: Forms::FourAndSeven,
         channels: Channels::none(),
         first: FirstMessages::new(),
+        weeks,
     };
     let mut buffer = [0; PIECE_BYTES];
     laws::prefix();

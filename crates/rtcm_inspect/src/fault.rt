@@ -30,6 +30,25 @@ pub enum InspectFault {
     SeveralStations(u16, u16),
     /// No cell of the stream has a value.
     NoSignal,
+    /// No ephemeris of the stream says the week.
+    NoWeek,
+    /// The ephemerides of the stream say these two weeks, or more.
+    SeveralWeeks(u32, u32),
+    /// The ephemerides of the stream say this week, and not the one near the date.
+    OtherWeek(WeekDate),
+}
+
+/// A GPS week and a date in it.
+#[derive(Clone, Copy, Debug, PartialEq, Eq)]
+pub struct WeekDate {
+    /// The week, 0 to 99,999.
+    pub week: u32,
+    /// The year.
+    pub year: u16,
+    /// The month, 1 to 12.
+    pub month: u8,
+    /// The day of the month, 1 to 31.
+    pub day: u8,
 }
 
 impl fmt::Display for InspectFault {
@@ -50,7 +69,8 @@ impl From<StreamFault<DeviceFailed>> for InspectFault {
     }
 }
 
-/// Adds the name of a fault of a stream, with the numbers of the stations, if any.
+/// Adds the name of a fault of a stream, with the numbers of the stations or weeks, or the week and the
+/// date, if any.
 pub fn add_inspection_error(line: &mut OutputLine, fault: InspectFault)
     requires { length line.old ≤ longest_start }
     ensures text { line.new ≡ with_words line.old (inspection_words fault) }
@@ -68,6 +88,15 @@ pub fn add_inspection_error(line: &mut OutputLine, fault: InspectFault)
             line.add_number(u64::from(other));
         }
         InspectFault::NoSignal => line.add_word("NoSignal"),
+        InspectFault::NoWeek => line.add_word("NoWeek"),
+        InspectFault::SeveralWeeks(first, other) => {
+            line.add_count("SeveralWeeks", u64::from(first));
+            line.add_number(u64::from(other));
+        }
+        InspectFault::OtherWeek(date) => {
+            line.add_count("OtherWeek", u64::from(date.week));
+            line.add_date(date.year, date.month, date.day);
+        }
     }
 }
 

@@ -6,45 +6,23 @@ ghost use Rattle.rtcm_msg.specs.Station.{InRange};
 ghost use Rattle.rtcm_msg.specs.inner.Viewed.{viewed_message};
 ghost use Rattle.rtcm_scan.specs.Frames.{Framed};
 ghost use Rattle.rtcm_inspect.specs.FirstMessages.{AreFirst, mixed_of, point_of, sender};
-ghost use Rattle.rtcm_inspect.specs.FirstMessages.{stations_in};
+ghost use Rattle.rtcm_inspect.specs.FirstTwo.{first_two};
 ghost use Rattle.rtcm_inspect.specs.Inspected.{inspected};
 ghost use Rattle.rtcm_inspect.specs.Signals.{is_of_other};
 ghost use Rattle.rtcm_inspect.specs.FirstMessages as first;
 
 use crate::first_tows::FirstTows;
+use crate::first_two::FirstTwo;
 use rtcm_msg::{Forms, StationParts, View};
 
-/// The stations of a stream's MSMs and station messages.
-#[derive(Clone, Copy)]
-pub enum Stations {
-    /// There is no such message.
-    Unknown,
-    /// All are of this station.
-    One(u16),
-    /// The station of the first one, and the first other station.
-    Several(u16, u16),
-}
-
-impl Stations {
-    /// Adds the station of one more message.
-    fn add(&mut self, station: u16)
-        ensures { (ns : List ℕ) → self.old ≡ stations_in ns → self.new ≡ stations_in (ns ++ station ∷ []) }
-    {
-        match *self {
-            Stations::Unknown => *self = Stations::One(station),
-            Stations::One(first) if first != station => *self = Stations::Several(first, station),
-            Stations::One(_) => {}
-            Stations::Several(_, _) => {}
-        }
-    }
-
+impl FirstTwo {
     /// Returns the first two stations, if the messages of several stations count: of all stations,
     /// if none is given.
     pub fn mixed(self, wanted: Option<u16>) -> Option<(u16, u16)>
         ensures { result ≡ mixed_of wanted self }
     {
         match (wanted, self) {
-            (None, Stations::Several(first, other)) => Some((first, other)),
+            (None, FirstTwo::Several(first, other)) => Some((first, other)),
             _ => None,
         }
     }
@@ -57,8 +35,8 @@ pub struct FirstMessages {
     pub point: Option<StationParts>,
     /// The times of week of its first MSMs.
     pub tows: FirstTows,
-    /// The stations of all MSMs and station messages.
-    pub stations: Stations,
+    /// The first two stations of all MSMs and station messages.
+    pub stations: FirstTwo,
 }
 
 impl FirstMessages {
@@ -69,7 +47,7 @@ impl FirstMessages {
         FirstMessages {
             point: None,
             tows: FirstTows::new(),
-            stations: Stations::Unknown,
+            stations: FirstTwo::Unknown,
         }
     }
 

@@ -1,5 +1,7 @@
-//! The times of week of the first MSMs of a stream.
-ghost use Rattle.std.specs.Prelude.{◌≡◌, ◌<◌, ◌^◌, ◌∷◌, ◌++◌, [], ℕ, List, Option, Some, None, Ok, IfNone, IfSome, length, option_map};
+//! The times of week of the first MSMs of a stream, and the times counted along it.
+ghost use Rattle.std.specs.Prelude.{◌≡◌, ◌*◌, ◌<◌, ◌^◌, ◌∷◌, ◌++◌, [], ℕ, List, Option, Some, None, Ok, IfNone, IfSome, false};
+ghost use Rattle.std.specs.Prelude.{length, option_and_then, option_map};
+ghost use Rattle.std.specs.Option.{option_or};
 ghost use Rattle.gnss_system.specs.Systems.{systems};
 ghost use Rattle.rtcm_msg.specs.Decoding.{message_at};
 ghost use Rattle.rtcm_msg.specs.inner.Viewed.{viewed_message};
@@ -7,11 +9,16 @@ ghost use Rattle.rtcm_msg.specs.declared.number.Forms.{Forms};
 ghost use Rattle.rtcm_scan.specs.Frames.{Framed};
 ghost use Rattle.obs_epoch.specs.Heard.{heard};
 ghost use Rattle.obs_epoch.specs.SignalCounts.{every_channel};
+ghost use Rattle.obs_epoch.specs.Times.{ahead};
+ghost use Rattle.gnss_obs.specs.Weeks.{week, weeks};
 ghost use Rattle.rtcm_inspect.specs.inner.FirstTows.{AreTows, IsMsmOf, IsWith, earlier, earliest, entry};
-ghost use Rattle.rtcm_inspect.specs.inner.FirstTows.{later_by, placed_by, tow_in};
+ghost use Rattle.rtcm_inspect.specs.inner.FirstTows.{CountsTow, PlacesTow, SettlesTows};
+ghost use Rattle.rtcm_inspect.specs.inner.FirstTows.{greatest_among, later_by, placed_by};
+ghost use Rattle.rtcm_inspect.specs.inner.FirstTows.{settled, settled_tows, tow_in};
+ghost use Rattle.rtcm_inspect.specs.CountedTimes.{with_tow};
 ghost use Rattle.rtcm_inspect.specs.WeekLaws.{tow_of};
 
-use gnss_obs::WEEK;
+use gnss_obs::{GpsTime, WEEK};
 use gnss_system::{BySystem, SYSTEMS, System};
 use rtcm_msg::laws::message_sets;
 use rtcm_msg::{Form, Forms, MsmSet, View};
@@ -25,6 +32,9 @@ pub struct PlacedTow {
     pub system: System,
     /// The time of week, if GPS time were UTC.
     pub tow: u32,
+    /// The greatest time at the first MSM that is counted from this one on, if there is one, in
+    /// milliseconds.
+    pub greatest: Option<u64>,
 }
 
 /// The first MSMs of a system.
@@ -43,6 +53,10 @@ pub struct FirstTows {
     pub messages: u64,
     /// The first MSMs.
     pub tows: BySystem<SystemTows>,
+    /// The greatest time of the MSMs that are counted: those of every system but GLONASS.
+    pub greatest: Option<GpsTime>,
+    /// Whether a first MSM may lack its greatest time.
+    pub is_waiting: bool,
 }
 
 impl SystemTows {
@@ -56,15 +70,29 @@ impl SystemTows {
         }
     }
 
-    /// Adds one more MSM of this form.
-    fn add(&mut self, form: Form, tow: PlacedTow)
-        ensures { (forms : Forms) → IsWith self.old form tow self.new forms }
+    /// Adds one more MSM of this form, and returns whether it is a first one.
+    fn add(&mut self, form: Form, tow: PlacedTow) -> bool
+        ensures with { (forms : Forms) → IsWith self.old form tow self.new forms }
+        ensures same { result ≡ false → self.new ≡ self.old }
     {
-        if self.all.is_none() {
+        let of_all = self.all.is_none();
+        if of_all {
             self.all = Some(tow);
         }
-        if self.four_and_seven.is_none() && Forms::FourAndSeven.have(form) {
+        let of_some = self.four_and_seven.is_none() && Forms::FourAndSeven.have(form);
+        if of_some {
             self.four_and_seven = Some(tow);
+        }
+        of_all || of_some
+    }
+
+    /// Returns them with this greatest time, if they have none.
+    fn settled(&self, time: u64) -> SystemTows
+        ensures { result ≡ settled_tows time self.now }
+    {
+        SystemTows {
+            four_and_seven: settled(self.four_and_seven, time),
+            all: settled(self.all, time),
         }
     }
 }
@@ -80,6 +108,8 @@ impl FirstTows {
                 four_and_seven: None,
                 all: None,
             }),
+            greatest: None,
+            is_waiting: false,
         }
     }
 
@@ -93,15 +123,80 @@ impl FirstTows {
         // No stream has 2^64 messages.
         self.messages = self.messages.wrapping_add(1);
         if let Some((system, form, tow)) = tow_of(wanted, view) {
-            self.tows
-                .of_mut(system)
-                .add(form, PlacedTow { place, system, tow });
+            self.place(
+                form,
+                PlacedTow {
+                    place,
+                    system,
+                    tow,
+                    greatest: None,
+                },
+            );
+            match system {
+                System::Glonass => {}
+                _ => self.count(tow),
+            }
         }
+    }
+
+    /// Adds an MSM of this form to the first ones.
+    fn place(&mut self, form: Form, tow: PlacedTow)
+        ensures { PlacesTow self.old form tow self.new }
+    {
+        if self.tows.of_mut(tow.system).add(form, tow) {
+            self.is_waiting = true;
+        }
+    }
+
+    /// Counts the time of an MSM.
+    fn count(&mut self, tow: u32)
+        ensures { CountsTow self.old tow self.new }
+    {
+        let time = greatest_with(self.greatest, tow);
+        self.greatest = Some(time);
+        if self.is_waiting {
+            self.settle(time.milliseconds());
+        }
+    }
+
+    /// Gives this greatest time to the first MSMs that have none.
+    fn settle(&mut self, time: u64)
+        ensures { SettlesTows self.old time self.new }
+    {
+        let tows = self.tows;
+        self.tows = BySystem::each(|system| tows.of(system).settled(time));
+        self.is_waiting = false;
     }
 
     /// Returns the time of week of the first MSM of a set, with these leap seconds.
     pub fn first(&self, set: &MsmSet, leap: u8) -> Option<u32>
         ensures { result ≡ option_map (placed_by leap) (earliest set.now self.now.tows systems) }
+    {
+        let first = self.earliest(set)?;
+        Some(later_by(first.system, leap, first.tow))
+    }
+
+    /// Returns the greatest time at the first MSM of a set.
+    pub fn greatest_at_first(&self, set: &MsmSet) -> Option<GpsTime>
+        ensures { IfSome (greatest_among set.now self.now.tows) (λ t. t < weeks * week)
+            → result ≡ option_or (greatest_among set.now self.now.tows) self.now.greatest }
+    {
+        match self.greatest_among(set) {
+            Some(time) => GpsTime::new(time),
+            None => self.greatest,
+        }
+    }
+
+    /// Returns the greatest time that the first MSM of a set has.
+    fn greatest_among(&self, set: &MsmSet) -> Option<u64>
+        ensures { result ≡ greatest_among set.now self.now.tows }
+    {
+        self.earliest(set)?.greatest
+    }
+
+    /// Returns the first MSM of a set.
+    fn earliest(&self, set: &MsmSet) -> Option<PlacedTow>
+        ensures { result ≡ earliest set.now self.now.tows systems }
     {
         let mut first = None;
         let mut i = SYSTEMS.len();
@@ -109,8 +204,7 @@ impl FirstTows {
             i -= 1;
             first = earlier(self.entry(set, System::at(i)), first);
         }
-        let first = first?;
-        Some(later_by(first.system, leap, first.tow))
+        first
     }
 
     /// Returns the first MSM of a system, if it is in a set.
@@ -151,6 +245,41 @@ fn tow_of(wanted: Option<u16>, view: &View<'_>) -> Option<(System, Form, u32)>
         }
         _ => None,
     }
+}
+
+/// Returns a first MSM with this greatest time, if it has none.
+fn settled(tow: Option<PlacedTow>, time: u64) -> Option<PlacedTow>
+    ensures { result ≡ option_map (settled time) tow }
+{
+    let tow = tow?;
+    Some(PlacedTow {
+        greatest: tow.greatest.or(Some(time)),
+        ..tow
+    })
+}
+
+/// Returns the greatest time after one more time of week.
+fn greatest_with(greatest: Option<GpsTime>, tow: u32) -> GpsTime
+    ensures value { Some result ≡ with_tow greatest tow }
+    ensures bound { result < weeks * week }
+{
+    let Some(time) = greatest else {
+        return GpsTime::within(u64::from(tow));
+    };
+    let ahead = ahead(time.milliseconds(), tow);
+    if ahead > WEEK / 2 {
+        return time;
+    }
+    GpsTime::new(time.milliseconds() + ahead).unwrap_or(time)
+}
+
+/// Returns the milliseconds from a time to the next one with this time of week.
+#[inline(always)]
+pub fn ahead(time: u64, tow: u32) -> u64
+    ensures value { result ≡ ahead time tow }
+    ensures bound { result < week }
+{
+    (u64::from(tow) + (WEEK - time % WEEK)) % WEEK
 }
 
 /// Returns the time of week of a system with these leap seconds, of which only that of GLONASS

@@ -6,6 +6,7 @@ ghost use Rattle.rtcm_inspect.specs.SignalLaws.{AreReadAsPlan, LeavesNoneOut, Lo
 ghost use Rattle.rtcm_inspect.specs.SignalLaws.{SkipsNoValue};
 ghost use Rattle.rtcm_inspect.specs.WeekLaws.{AreWeeksRead, HasOneWeek, IsBelowWeek, IsDatedByStart, IsLeapFree};
 ghost use Rattle.rtcm_inspect.specs.WeekLaws.{IsNearestPrinted};
+ghost use Rattle.rtcm_inspect.specs.SentWeekLaws.{IsCountedFromStart, IsInSentWeek};
 ghost use Rattle.rtcm_inspect.specs.ChannelLaws.{AreChannelsRead, AreFirstChannels, HasChannels};
 ghost use Rattle.rtcm_inspect.specs.LengthLaws.{AreHeightsRead, ArePositionsRead, IsFirstInRange};
 
@@ -54,6 +55,14 @@ pub fn near()
 {
     rtcm_msg::laws::message_sets();
 }
+
+/// Times that are counted from week 0 along a stream are those of a conversion: its greatest time is
+/// the counted one, after the begin of its start week. So if an ephemeris says which GPS week was
+/// counted as week 0, a conversion that starts in it is in the week of the ephemeris, when this comes.
+pub fn week()
+    ensures counted { IsCountedFromStart }
+    ensures sent { IsInSentWeek }
+{}
 
 /// The position and the antenna height that `run_options` prints for a station message are read as
 /// those of the message, for every message in range, as is the first one of every stream.

@@ -14,17 +14,22 @@
 #![tactic(auto)]
 
 mod counting;
+mod decoded;
 mod equipment;
 mod fault;
 mod first_messages;
 mod first_tows;
+mod first_two;
 pub mod laws;
 mod listing;
 mod options;
+mod printed_week;
+mod said_weeks;
 mod signals;
 mod stream_channels;
 
-pub use fault::{InspectFault, add_header_error, add_inspection_error, add_plan_error};
+pub use fault::{InspectFault, WeekDate, add_header_error, add_inspection_error, add_plan_error};
 pub use listing::{Listing, list, run_frames, run_show};
 pub use options::run_options;
+pub use printed_week::WeekSource;
 pub use signals::run_signals;

@@ -16,21 +16,22 @@ ghost use Rattle.rtcm_inspect.specs.Fitting.{number_start, number_words, options
 ghost use Rattle.rtcm_inspect.specs.Fitting.{other_words, station_words};
 ghost use Rattle.rtcm_inspect.specs.inner.Lines.{longest_codes, longest_name, longest_option, longest_options};
 ghost use Rattle.rtcm_inspect.specs.inner.Lines.{longest_plan};
-ghost use Rattle.rtcm_inspect.specs.NearWeek.{IsWeekFor};
-ghost use Rattle.rtcm_inspect.specs.OptionOutput.{AreOptionsOf, AreOptionsRefused, IsDatedLine};
+ghost use Rattle.rtcm_inspect.specs.OptionOutput.{AreOptionsOf, AreOptionsRefused};
 ghost use Rattle.rtcm_inspect.specs.StreamOutput.{EndsStream};
-ghost use Rattle.rtcm_inspect.specs.Signals.{codes_word, decodes, had, has_counted, plan_had, plan_in, set_had};
+ghost use Rattle.rtcm_inspect.specs.Signals.{codes_word, had, plan_had, plan_in};
 
 use crate::counting::{StreamSignals, read_signals};
+use crate::decoded::has_signal;
 use crate::fault::InspectFault;
+use crate::printed_week::{WeekSource, printed_week};
 use crate::signals::code_at;
 use arrayvec::ArrayVec;
 use devices::{Counted, Deliver, deliver_waiting, print_text};
-use gnss_obs::{Channels, GpsTime};
-use gnss_system::{BySystem, SYSTEMS, System};
-use line_texts::{LINE_BYTES, OutputLine, channels_text, leap_at};
-use obs_epoch::{SignalCounts, is_always_decoded, week_near};
-use rtcm_msg::{Forms, MsmSet, StationParts};
+use gnss_obs::Channels;
+use gnss_system::{SYSTEMS, System};
+use line_texts::{LINE_BYTES, OutputLine, channels_text};
+use obs_epoch::{SignalCounts, is_always_decoded};
+use rtcm_msg::{Forms, StationParts};
 use std::alloc::Global;
 use std::io::Read;
 
@@ -45,33 +46,29 @@ const OPTIONS_BYTES: usize = 2 * LINE_BYTES + PLAN_BYTES * SYSTEMS.len();
 type OptionsText = ArrayVec<u8, OPTIONS_BYTES>;
 
 /// Delivers what waits in the writer, reads a stream, and writes a line of the options of `convert`
-/// that fit it: the week in which its first MSM is nearest to a date, given by its noon, the
-/// station, the signals of the cells that have a value, of GLONASS the first channel of each slot and
-/// the leap seconds of the date, the forms of the MSMs, and the values of the first station message.
-/// If no station is given, the line has none, and the stream may have no messages of another one
-/// than the first.
-///
-/// A time that is half a week from noon in two weeks is that before noon. If the nearest week is
-/// before the first or after the last one, 99,999, that one is written.
+/// that fit it: the week of its first MSM, if it is asked for, the station, the signals of the cells
+/// that have a value, of GLONASS the first channel of each slot and, with a week, the leap seconds,
+/// the forms of the MSMs, and the values of the first station message. If no station is given, the
+/// line has none, and the stream may have no messages of another one than the first.
 ///
 /// # Errors
 ///
 /// `SeveralStations` with the first two if no station is given and the MSMs and station messages
-/// are of several, `NoSignal` if no cell has a value, `Write` if the writer failed, and those of
-/// `read_signals`.
+/// are of several, `NoSignal` if no cell has a value, then those of `printed_week`; `Write` if the
+/// writer failed, and those of `read_signals`.
 pub fn run_options<R: Read, W: Deliver>(
     alloc: Global,
     station: Option<u16>,
-    near: Option<GpsTime>,
+    source: WeekSource,
     reader: &mut Counted<R>,
     writer: &mut Counted<W>,
 ) -> Result<(), InspectFault>
     ensures { Changes R.remaining reader.old reader.new W.contents W.waiting writer.old writer.new
-        (EndsStream result (AreOptionsOf near station) (AreOptionsRefused station)) }
+        (EndsStream result (AreOptionsOf source station) (AreOptionsRefused source station)) }
 {
     deliver_waiting(writer, InspectFault::Write)?;
     let signals = read_signals(alloc, station, reader)?;
-    let text = options_of(&signals, near)?;
+    let text = options_of(&signals, source)?;
     print_text(text.as_slice(), writer, InspectFault::Write)
 }
 
@@ -79,67 +76,22 @@ pub fn run_options<R: Read, W: Deliver>(
 ///
 /// # Errors
 ///
-/// `SeveralStations` and `NoSignal`.
-fn options_of(signals: &StreamSignals, near: Option<GpsTime>) -> Result<OptionsText, InspectFault>
+/// `SeveralStations`, `NoSignal`, and those of `printed_week`.
+fn options_of(signals: &StreamSignals, source: WeekSource) -> Result<OptionsText, InspectFault>
     requires { IfSome signals.now.first.point InRange }
     ensures line { (fs : List Framed) → AreSignals signals.now signals.now.station fs
-        → IfOk result (λ text. AreOptionsOf near signals.now.station fs text.items) }
+        → IfOk result (λ text. AreOptionsOf source signals.now.station fs text.items) }
     ensures refused { (fs : List Framed) → AreSignals signals.now signals.now.station fs
-        → IfErr result (AreOptionsRefused signals.now.station fs) }
+        → IfErr result (AreOptionsRefused source signals.now.station fs) }
 {
     match signals.first.stations.mixed(signals.station) {
         Some((first, other)) => Err(InspectFault::SeveralStations(first, other)),
         None if !signals.signal_counts.has_any() => Err(InspectFault::NoSignal),
-        None => Ok(dated_line(signals, near)),
-    }
-}
-
-/// Returns the line of the options that fit a stream, near the noon of a date if one is given.
-fn dated_line(signals: &StreamSignals, near: Option<GpsTime>) -> OptionsText
-    requires { IfSome signals.now.first.point InRange }
-    ensures { (fs : List Framed) → AreSignals signals.now signals.now.station fs
-        → IsDatedLine near signals.now.station fs result.items }
-{
-    match near {
-        Some(noon) => {
-            let leap = leap_at(noon);
-            let tow = signals.first.tows.first(&set_had(signals), leap);
-            options_line(signals, week_for(noon, tow), Some(leap))
-        }
-        None => options_line(signals, None, None),
-    }
-}
-
-/// Returns the MSMs that a conversion decodes with the options that fit a stream.
-fn set_had(signals: &StreamSignals) -> MsmSet
-    ensures { (fs : List Framed) → AreSignals signals.now signals.now.station fs
-        → result ≡ set_had signals.now.station fs }
-{
-    MsmSet {
-        systems: BySystem::each(|system| decodes(&signals.signal_counts, system)),
-        forms: signals.forms,
-    }
-}
-
-/// Returns whether a conversion decodes the MSMs of a system: those of GPS and Galileo, and of any
-/// other of which a signal has a cell with a value.
-fn decodes(signal_counts: &SignalCounts, system: System) -> bool
-    ensures { result ≡ decodes signal_counts.now system }
-{
-    is_always_decoded(system) || has_signal(signal_counts, system)
-}
-
-/// Returns whether a signal of a system has a cell with a value.
-fn has_signal(signal_counts: &SignalCounts, system: System) -> bool
-    ensures { result ≡ has_counted signal_counts.now system }
-{
-    let mut found = false;
-    for index in 0..system.signals() {
-        if signal_counts.count(system, index) > 0 {
-            found = true;
+        None => {
+            let printed = printed_week(signals, source)?;
+            Ok(options_line(signals, printed.week, printed.leap))
         }
     }
-    found
 }
 
 /// Returns the line of the options that fit a stream of signals, with this week and these leap
@@ -263,13 +215,6 @@ fn put_line(text: &mut OptionsText, line: &OutputLine)
     ensures { text.new.items ≡ text.old.items ++ line.now }
 {
     text.try_extend_from_slice(line.as_bytes()).unwrap();
-}
-
-/// Returns the week of the options for the noon of a date and the time of week of the first MSM.
-fn week_for(noon: GpsTime, tow: Option<u32>) -> Option<u32>
-    ensures { IsWeekFor (Some noon) tow result }
-{
-    Some(week_near(noon, tow?))
 }
 
 /// Adds an option with a number, if there is one, and a blank.

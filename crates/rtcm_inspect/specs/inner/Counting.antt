@@ -8,6 +8,7 @@ use Rattle.rtcm_scan.specs.declared.framer.ScanFault.TheVariants as scan
 use Rattle.rtcm_msg.specs.Msm.{most_pairs}
 use Rattle.obs_epoch.specs.inner.SignalCounts.{SignalCountsValue, AreSignalCounts}
 use Rattle.rtcm_inspect.specs.FirstMessages.{AreFirst}
+use Rattle.rtcm_inspect.specs.inner.SaidWeeks.{AreSaidIn}
 use Rattle.rtcm_inspect.specs.Signals.{forms_had, valued_in}
 use Rattle.rtcm_inspect.specs.StreamChannels.{channels_in}
 use Rattle.rtcm_inspect.specs.StreamOutput.{ReadsTooMuch}
@@ -26,6 +27,7 @@ pub record AreSignals (s : StreamSignals) (wanted : Option ℕ) (fs : List Frame
   pub forms : s.forms ≡ forms_had wanted fs
   pub channels : s.channels ≡ channels_in wanted fs
   pub first : AreFirst s.first wanted fs
+  pub weeks : AreSaidIn s.weeks wanted fs
 
 -- The stream was read to its end, and its signals were counted.
 abbrev pub HasCounted : StreamSignals → Option ℕ → (r r' : Option (List ℕ)) → Type 0

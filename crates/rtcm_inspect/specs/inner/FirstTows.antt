@@ -1,12 +1,12 @@
--- The times of week of the first MSMs of a stream, by system and form.
+-- The times of week of the first MSMs of a stream, by system and form, and the greatest time.
 use Rattle.std.specs.Prelude.{◌≡◌, ℕ, ◌+◌, ◌*◌, ◌%◌, ◌<◌, ◌≤◌, nat_lt, List, [], ◌∷◌, length, Option, Some, None, IfSome}
-use Rattle.std.specs.Prelude.{option_and_then, option_map, if◌then◌else◌}
+use Rattle.std.specs.Prelude.{false, true, is_some, option_and_then, option_map, take, if◌then◌else◌}
 use Rattle.std.specs.Option.{option_or}
-use Rattle.gnss_obs.specs.Weeks.{week}
+use Rattle.gnss_obs.specs.Weeks.{week, weeks}
 use Rattle.gnss_system.specs.declared.system.System.{System}
 use Rattle.gnss_system.specs.declared.system.System.TheVariants.{Glonass}
 use Rattle.gnss_system.specs.declared.by_system.BySystem.{BySystem}
-use Rattle.gnss_system.specs.SystemValues.{value_of}
+use Rattle.gnss_system.specs.SystemValues.{tabulate, value_of, with_value_of}
 use Rattle.gnss_system.specs.Systems.{systems}
 use Rattle.rtcm_msg.specs.Numbers.{have_form}
 use Rattle.rtcm_msg.specs.declared.number.Forms.{Forms}
@@ -16,9 +16,7 @@ use Rattle.rtcm_msg.specs.declared.view.Form.{Form}
 use Rattle.rtcm_scan.specs.Frames.{Framed}
 use Rattle.rtcm_msg.specs.Sets.{has_msm, is_in_set}
 use Rattle.rtcm_msg.specs.declared.message.Message.{Message}
-use Rattle.obs_epoch.specs.Heard.{Heard}
-use Rattle.obs_epoch.specs.SignalCounts.{is_of_station}
-use Rattle.rtcm_inspect.specs.Inspected.{inspected_in}
+use Rattle.rtcm_inspect.specs.CountedTimes.{counted_before, counted_tows, greatest_in, greatest_of, with_tow}
 use Rattle.rtcm_inspect.specs.declared.first_tows.PlacedTow.{PlacedTow}
 use Rattle.rtcm_inspect.specs.declared.first_tows.SystemTows.{SystemTows}
 use Rattle.rtcm_inspect.specs.declared.first_tows.FirstTows.{FirstTows}
@@ -62,9 +60,60 @@ abbrev pub earliest : MsmSet → BySystem SystemTows → List System → Option 
 earliest set tows [] = None
 earliest set tows (s ∷ ss) = earlier (entry set tows s) (earliest set tows ss)
 
--- x are the first ones of these frames
+-- ---- the greatest time at a first MSM
+
+-- a first MSM with this greatest time, if it has none
+abbrev pub settled : ℕ → PlacedTow → PlacedTow
+settled time t = record t { greatest = option_or t.greatest (Some time) }
+
+abbrev pub settled_tows : ℕ → SystemTows → SystemTows
+settled_tows time x =
+    record { four_and_seven = option_map (settled time) x.four_and_seven; all = option_map (settled time) x.all }
+
+-- every first MSM has one
+abbrev pub AreSettled : BySystem SystemTows → Type 0
+AreSettled tows =
+    (s : System) (forms : Forms) → IfSome (tow_in forms (value_of s tows)) (λ t. is_some t.greatest ≡ true)
+
+-- that of the first MSM of a set
+abbrev pub greatest_among : MsmSet → BySystem SystemTows → Option ℕ
+greatest_among set tows = option_and_then (λ t. t.greatest) (earliest set tows systems)
+
+-- It is that of the counted times of week up to the one at index n, if there is one; else it is unknown.
+abbrev pub IsGreatestAt : (n : ℕ) → List ℕ → Option ℕ → Type 0
+IsGreatestAt n tows None = length tows ≡ n
+IsGreatestAt n tows (Some t) = (n < length tows) × (greatest_of (take (n + 1) tows) ≡ Some t) × (t < weeks * week)
+
+-- ---- one more message
+
+-- an MSM of this form was added to the first ones
+pub record PlacesTow (x : FirstTows) (form : Form) (t : PlacedTow) (y : FirstTows) : Type 0 where
+  pub messages : y.messages ≡ x.messages
+  pub greatest : y.greatest ≡ x.greatest
+  pub tows : (now : SystemTows) × (y.tows ≡ with_value_of t.system x.tows now)
+      × ((forms : Forms) → IsWith (value_of t.system x.tows) form t now forms)
+  pub same : y.is_waiting ≡ false → (x.is_waiting ≡ false) × (y.tows ≡ x.tows)
+
+-- the first ones were given a greatest time
+pub record SettlesTows (x : FirstTows) (time : ℕ) (y : FirstTows) : Type 0 where
+  pub messages : y.messages ≡ x.messages
+  pub greatest : y.greatest ≡ x.greatest
+  pub tows : y.tows ≡ tabulate (λ s. settled_tows time (value_of s x.tows))
+
+-- a time of week was counted
+pub record CountsTow (x : FirstTows) (tow : ℕ) (y : FirstTows) : Type 0 where
+  pub messages : y.messages ≡ x.messages
+  pub greatest : y.greatest ≡ with_tow x.greatest tow
+  pub tows : (t : ℕ) × (y.greatest ≡ Some t) × (t < weeks * week) × ((x.is_waiting ≡ false → AreSettled x.tows)
+      → y.tows ≡ tabulate (λ s. settled_tows t (value_of s x.tows)))
+
+-- x are the first ones of these frames, and the greatest time
 pub record AreTows (x : FirstTows) (wanted : Option ℕ) (fs : List Framed) : Type 0 where
   pub few : x.messages ≤ length fs
   pub before : (s : System) (forms : Forms) → IfSome (tow_in forms (value_of s x.tows)) (λ t. t.place < x.messages)
   pub first : (leap : ℕ) (set : MsmSet)
       → option_map (placed_by leap) (earliest set x.tows systems) ≡ first_tow leap set wanted fs
+  pub greatest : x.greatest ≡ greatest_in wanted fs
+  pub settled : x.is_waiting ≡ false → AreSettled x.tows
+  pub at_first : (set : MsmSet) → IfSome (earliest set x.tows systems)
+      (λ t. IsGreatestAt (counted_before set wanted fs) (counted_tows wanted fs) t.greatest)

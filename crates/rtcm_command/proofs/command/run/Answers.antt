@@ -1,5 +1,8 @@
 use Rattle.rtcm_command.proofs.CommandLemmas.{ends_so, file_found, inspection_found, is_check, option_refused, sub_found}
-use Rattle.rtcm_command.proofs.OptionLemmas.{no_device, refused_complete}
+use Rattle.rtcm_command.proofs.OptionLemmas.{no_device, refused_complete, source_fault}
+use Rattle.rtcm_command.specs.Devices.{culprit}
+use Rattle.devices.specs.Devices.{HaveFailedBy}
+use Rattle.command_faults.specs.declared.fault.CommandFault.{CommandFault}
 use Rattle.rtcm_command.proofs.Names.{◌∙◌, Bool, inl, inr, refl, subst, sym, devices_of, options_of, writer_of}
 use Rattle.rtcm_scan.specs.Scan.{most_bytes}
 use Rattle.rinex_inspect.specs.Checking.{EndsCheck}
@@ -37,13 +40,13 @@ returns-in-signals g c =
     let d2 = at c.run_signals.new.reader c.run_signals.new.writer in
     inspection_found d d2 (writer_of g.E.Write.contents g.E.Deliver.waiting c.args.faults.now) c.run_signals.result c.of_inspection-in-signals.ensures (sub_found _ c.in-Some.ensures.name c.in-Some.ensures.rows) (inr (inr (inl (c.in-signals.is, (c.station_of.result, c.station_of.ensures, c.run_signals.ensures)))))
 
-pub returns-in_ok-near-in-options : goal.returns-in_ok-near-in-options
-returns-in_ok-near-in-options g c =
+pub returns-in_ok-source-in-options : goal.returns-in_ok-source-in-options
+returns-in_ok-source-in-options g c =
     let at = devices_of g.R.Read.remaining g.W.Write.contents g.W.Deliver.waiting in
     let d = at c.args.reader.now c.args.writer.now in
     let d2 = at c.run_options.new.reader c.run_options.new.writer in
     inspection_found d d2 (writer_of g.E.Write.contents g.E.Deliver.waiting c.args.faults.now) c.run_options.result c.of_inspection-in-options.ensures (sub_found _ c.in-Some.ensures.name c.in-Some.ensures.rows)
-    (inr (inr (inr (c.in-options.is, (c.station_of-in-options.result, c.station_of-in-options.ensures, (c.in_ok-near-in-options.near, c.in_ok-near-in-options.ensures, c.run_options.ensures))))))
+    (inr (inr (inr (c.in-options.is, (c.station_of-in-options.result, c.station_of-in-options.ensures, (c.in_ok-source-in-options.source, c.in_ok-source-in-options.ensures, c.run_options.ensures))))))
 
 pub returns-in-convert : goal.returns-in-convert
 returns-in-convert g c =
@@ -67,11 +70,12 @@ returns-in_ok-complete-in_default-name g c =
     file_found d d2 (writer_of g.E.Write.contents g.E.Deliver.waiting c.args.faults.now) c.run_check_with.result c.of_file.ensures found
     (n, (c.in_ok-complete-in_default-name.complete, c.in_ok-complete-in_default-name.ensures.set, h))
 
-pub returns-in_err-near-in-options : goal.returns-in_err-near-in-options
-returns-in_err-near-in-options g c =
+pub returns-in_err-source-in-options : goal.returns-in_err-source-in-options
+returns-in_err-source-in-options g c =
     let d = devices_of g.R.Read.remaining g.W.Write.contents g.W.Deliver.waiting c.args.reader.now c.args.writer.now in
-    let refused = c.in_err-near-in-options.ensures in
-    option_refused d (writer_of g.E.Write.contents g.E.Deliver.waiting c.args.faults.now) c.from_residual.result c.from_residual.ensures.1 (sub_found _ c.in-Some.ensures.name c.in-Some.ensures.rows) refused.0 (refl, refl) (inr (inr (inr (inl (c.in-options.is, refused, (refl, refl))))))
+    let refused = c.in_err-source-in-options.ensures in
+    let none = source_fault (λ (f : CommandFault). HaveFailedBy (culprit f) d d) (options_of c.in-Some.options.now) c.in_err-source-in-options.field-0.0 (refl, refl) (refl, refl) refused in
+    option_refused d (writer_of g.E.Write.contents g.E.Deliver.waiting c.args.faults.now) c.from_residual.result c.from_residual.ensures.1 (sub_found _ c.in-Some.ensures.name c.in-Some.ensures.rows) refl none (inr (inr (inr (inl (c.in-options.is, refused, (refl, refl))))))
 
 pub returns-in_err-complete-in_default-name : goal.returns-in_err-complete-in_default-name
 returns-in_err-complete-in_default-name g c =

@@ -1,4 +1,4 @@
-use Rattle.rtcm_command.proofs.PrintedPlanLemmas.{DateLaws, ReadLaws, dated_as_printed, started_as_found, words_printed}
+use Rattle.rtcm_command.proofs.PrintedPlanLemmas.{DateLaws, ReadLaws, dated_as_printed, dated_as_sent, started_as_found, words_printed}
 use Rattle.rtcm_command.proofs.laws.printed_plan.Goals as goal
 
 pub returns : goal.returns
@@ -15,4 +15,4 @@ returns c =
       range = c.lengths.ensures.first;
     } in
     let date : DateLaws = record { free = c.near.ensures.leap; dated = c.near.ensures.dated; small = c.near.ensures.small } in
-    record { words = words_printed; found = started_as_found read; dated = dated_as_printed read date }
+    record { words = words_printed; found = started_as_found read; dated = dated_as_printed read date; sent = dated_as_sent read date }

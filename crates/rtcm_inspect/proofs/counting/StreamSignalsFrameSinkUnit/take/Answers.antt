@@ -25,7 +25,8 @@ returns-in-Ok-clause-whole c = λ c0 o ps fs took.
     let channels = c.add_sent_channels.ensures read ∙ ap (λ (bytes : List ℕ). with_sent s.channels (option_to_list (channel_of_1020 bytes) ++ sent_of s.station m)) c.as_slice-message.ensures.value in
     one_more_counted s f refl
     (λ gs few h. read_counted f is c.count_view.ensures few h) (λ gs h. forms_read s.station gs f m is c.add_form.ensures h)
-    (λ gs h. channels_read s.station gs f is channels h) (λ gs few h. c.add.ensures gs f is few h) took
+    (λ gs h. channels_read s.station gs f is channels h) (λ gs few h. c.add-in-Ok.ensures gs f is few h)
+    (λ gs greatest h. c.add.ensures s.station gs f (sym c.as_slice-message.ensures.value) greatest h) took
 
 pub returns-in-Err-clause-whole : goal.returns-in-Err-clause-whole
 returns-in-Err-clause-whole c = λ c0 o ps fs took.
@@ -34,4 +35,5 @@ returns-in-Err-clause-whole c = λ c0 o ps fs took.
     let is = ap message_at (sym c.as_slice-message.ensures.value) ∙ subst (λ (r : Result View MsgFault). GivesViewed viewed_message r (message_at c.as_slice-message.result.now)) c.in-Err.is (whole _ _ _ c.all.ensures c.message_sets.ensures.whole c.look_in.ensures.exact) in
     one_more_counted s f refl (λ gs few h. refused_counted f is h) (λ gs h. forms_refused s.station gs f _ is h)
     (λ gs h. channels_refused s.station gs f is h)
-    (λ gs few h. first_refused f is (tows_refused (record { inside = c.message_sets.ensures.inside; outside = c.message_sets.ensures.outside; refused = c.message_sets.ensures.refused }) f is) h) took
+    (λ gs few h. first_refused f is (tows_refused (record { inside = c.message_sets.ensures.inside; outside = c.message_sets.ensures.outside; refused = c.message_sets.ensures.refused }) f is) h)
+    (λ gs greatest h. c.add.ensures s.station gs f (sym c.as_slice-message.ensures.value) greatest h) took

@@ -1,0 +1,125 @@
+-- The week of the options.
+use Rattle.std.specs.Prelude.{min}
+use Rattle.gnss_obs.specs.Weeks.{week, weeks}
+use Rattle.rtcm_inspect.specs.CountedTimes.{counted_before, counted_tows, greatest_at_first}
+use Rattle.line_texts.specs.LeapSeconds.{leap_at}
+use Rattle.rtcm_inspect.specs.FaultWords.{week_date}
+use Rattle.rtcm_inspect.specs.SentWeeks.{IsNearestRest, IsOtherTime, distance, first_msm, is_denied, is_in, rests_in, whole_in}
+use Rattle.rtcm_inspect.specs.declared.fault.WeekDate.{WeekDate}
+use Rattle.rtcm_inspect.specs.declared.printed_week.FirstMsm.{FirstMsm}
+use Rattle.rtcm_inspect.specs.inner.SaidWeeks.{first_of}
+use Rattle.rtcm_inspect.proofs.SaidLemmas.{no_first, some_first}
+use Rattle.rtcm_inspect.specs.OptionOutput.{AreOptionsRefused, HasSignals, IsWeekAt, IsWeekRefused, is_denied_at}
+use Rattle.rtcm_inspect.specs.declared.fault.InspectFault.{InspectFault}
+use Rattle.rtcm_inspect.specs.declared.fault.InspectFault.TheVariants as faults
+use Rattle.rtcm_inspect.specs.declared.printed_week.WeekSource.{WeekSource}
+use Rattle.rtcm_inspect.specs.declared.printed_week.WeekSource.TheVariants.{Unprinted, Near, Ephemerides}
+use Rattle.rtcm_inspect.specs.declared.first_tows.FirstTows.{FirstTows}
+use Rattle.rtcm_inspect.specs.declared.first_tows.PlacedTow.{PlacedTow}
+use Rattle.rtcm_inspect.specs.inner.FirstTows.{AreTows, IsGreatestAt, earliest, greatest_among, placed_by}
+use Rattle.gnss_system.specs.Systems.{systems}
+use Rattle.rtcm_inspect.proofs.CountedLemmas.{at_end, at_none}
+use Rattle.rtcm_inspect.proofs.Names.{◌≡◌, ◌∙◌, ◌+◌, ◌-◌, ◌*◌, ◌/◌, ◌%◌, ◌<◌, ◌≤◌, [], ◌∷◌, ℕ, Bool, false, true, List, Option, Some, None, IfSome, IsWeekFor, FirstTwo, ap, ap₂, arith, first_tow, first_two, list_any, not, set_had, option_and_then, option_map, option_or, refl, subst, sym, Framed, MsmSet}
+
+-- ---- the greatest time at the first MSM of a set
+
+module _ {x : FirstTows} {wanted : Option ℕ} {fs : List Framed} (h : AreTows x wanted fs) (set : MsmSet) where
+  pub at_first_msm : IfSome (greatest_among set x.tows) (λ t. t < weeks * week) × (option_or (greatest_among set x.tows) x.greatest ≡ greatest_at_first set wanted fs)
+  at_first_msm = by (earliest set x.tows systems) refl where
+    some : (o : Option ℕ) → IsGreatestAt (counted_before set wanted fs) (counted_tows wanted fs) o → IfSome o (λ t. t < weeks * week) × (option_or o x.greatest ≡ greatest_at_first set wanted fs)
+    some None g = (tt, h.greatest ∙ at_end (counted_before set wanted fs) (counted_tows wanted fs) None g)
+    some (Some t) g = (g.2, at_end (counted_before set wanted fs) (counted_tows wanted fs) (Some t) g)
+
+    by : (o : Option PlacedTow) → earliest set x.tows systems ≡ o → IfSome (option_and_then (λ t. t.greatest) o) (λ t. t < weeks * week) × (option_or (option_and_then (λ t. t.greatest) o) x.greatest ≡ greatest_at_first set wanted fs)
+    by None is = (tt, h.greatest ∙ sym (at_none set wanted fs (sym (h.first 0 set) ∙ ap (option_map (placed_by 0)) is)))
+    by (Some t) is = some t.greatest (subst (λ (o : Option PlacedTow). IfSome o (λ t. IsGreatestAt (counted_before set wanted fs) (counted_tows wanted fs) t.greatest)) is (h.at_first set))
+
+-- ---- the nearest week with a rest
+
+abbrev span : ℕ
+span = 1_024 * week
+
+abbrev half_span : ℕ
+half_span = 512 * week
+
+-- of the times first + j * span up to number m, number k is the nearest
+module _ (noon first q k m j : ℕ) (low : q * span ≤ (noon + half_span - 1) - first) (high : (noon + half_span - 1) - first < q * span + span) (few : k ≤ q) (last : k ≤ m) (one : k ≡ min q m) (within : j ≤ m) where
+  nearer : distance noon (first + k * span) ≤ distance noon (first + j * span)
+  nearer = omega (arith, low, high, few, last, one, within)
+
+  earlier : distance noon (first + k * span) ≡ distance noon (first + j * span) → k ≤ j
+  earlier same = omega (arith, low, high, few, last, one, within, same)
+
+time_at : (rest tow k : ℕ) → (rest + 1_024 * k) * week + tow ≡ (rest * week + tow) + k * span
+time_at rest tow k = omega arith
+
+divided : (n : ℕ) → (n / span * span ≤ n) × (n < n / span * span + span)
+divided n = omega arith
+
+pub nearest : (noon tow rest : ℕ) → rest < 1_024
+    → IsNearestRest noon tow rest (rest + 1_024 * min (((noon + half_span - 1) - (rest * week + tow)) / span) ((weeks - 1 - rest) / 1_024))
+nearest noon tow rest small = (omega (arith, small), omega (arith, small), each) where
+  q : ℕ
+  q = ((noon + half_span - 1) - (rest * week + tow)) / span
+
+  m : ℕ
+  m = (weeks - 1 - rest) / 1_024
+
+  each : (v : ℕ) → v < weeks → v % 1_024 ≡ rest → (distance noon ((rest + 1_024 * min q m) * week + tow) ≤ distance noon (v * week + tow)) × (distance noon ((rest + 1_024 * min q m) * week + tow) ≡ distance noon (v * week + tow) → rest + 1_024 * min q m ≤ v)
+  each v less is =
+      let j : ℕ = v / 1_024 in
+      let parts : v ≡ rest + 1_024 * (v / 1_024) = omega (arith, is) in
+      let d = divided ((noon + half_span - 1) - (rest * week + tow)) in
+      let bound : v / 1_024 ≤ m = omega (arith, less, parts) in
+      let few : min q m ≤ q = omega arith in
+      let last : min q m ≤ m = omega arith in
+      let here : (rest + 1_024 * min q m) * week + tow ≡ (rest * week + tow) + min q m * span = time_at rest tow (min q m) in
+      let there : v * week + tow ≡ (rest * week + tow) + v / 1_024 * span = ap (λ (n : ℕ). n * week + tow) parts ∙ time_at rest tow (v / 1_024) in (
+        subst2 here there (nearer noon (rest * week + tow) q (min q m) m (v / 1_024) d.0 d.1 few last refl bound),
+        λ same. omega (arith, parts, earlier noon (rest * week + tow) q (min q m) m (v / 1_024) d.0 d.1 few last refl bound (ap (distance noon) (sym here) ∙ same ∙ ap (distance noon) there)),
+      )
+    where
+      subst2 : {a b c d : ℕ} → a ≡ c → b ≡ d → distance noon c ≤ distance noon d → distance noon a ≤ distance noon b
+      subst2 e f less = rw (e, f) less
+
+-- ---- a week that is refused
+
+pub week_refused : (source : WeekSource) (wanted : Option ℕ) (fs : List Framed) (fault : InspectFault) → HasSignals wanted fs → IsWeekRefused source wanted fs fault → AreOptionsRefused source wanted fs fault
+week_refused Unprinted wanted fs fault signals h = absurd h
+week_refused (Near noon) wanted fs (faults.OtherWeek date) signals h = (signals, h)
+week_refused (Near noon) wanted fs other signals h = absurd h
+week_refused Ephemerides wanted fs faults.NoWeek signals h = (signals, h)
+week_refused Ephemerides wanted fs (faults.SeveralWeeks a b) signals h = (signals, h)
+week_refused Ephemerides wanted fs other signals h = absurd h
+
+-- ---- a week near a date
+
+pub at_noon : {tow : Option ℕ} (w : Option ℕ) (noon leap : ℕ) (set : MsmSet) (wanted : Option ℕ) (fs : List Framed) → tow ≡ first_tow leap set wanted fs → set ≡ set_had wanted fs → leap ≡ leap_at noon
+    → IsWeekFor (Some noon) tow w → IsWeekAt noon wanted fs w
+at_noon w noon leap set wanted fs first had by h =
+    subst (λ (t : Option ℕ). IsWeekFor (Some noon) t w) (first ∙ ap₂ (λ (s : MsmSet) (n : ℕ). first_tow n s wanted fs) had by) h
+
+pub other_said : {x : FirstMsm} (noon w t : ℕ) (date : WeekDate) (wanted : Option ℕ) (fs : List Framed) → x ≡ first_msm (leap_at noon) wanted fs → IsWeekAt noon wanted fs (Some w)
+    → (is_denied x (whole_in wanted fs) (rests_in wanted fs) w ≡ true) × IsOtherTime noon x (whole_in wanted fs) (rests_in wanted fs) t → date ≡ week_date t → IsWeekRefused (Near noon) wanted fs (faults.OtherWeek date)
+other_said noon w t date wanted fs first at h is =
+    let both = subst (λ (y : FirstMsm). (is_denied y (whole_in wanted fs) (rests_in wanted fs) w ≡ true) × IsOtherTime noon y (whole_in wanted fs) (rests_in wanted fs) t) first h in
+    (w, at, both.0, (t, both.1, is))
+
+pub not_denied : {x : FirstMsm} (noon w : ℕ) (wanted : Option ℕ) (fs : List Framed) → x ≡ first_msm (leap_at noon) wanted fs → is_denied x (whole_in wanted fs) (rests_in wanted fs) w ≡ false
+    → is_denied_at noon wanted fs w ≡ false
+not_denied noon w wanted fs first h = subst (λ (y : FirstMsm). is_denied y (whole_in wanted fs) (rests_in wanted fs) w ≡ false) first h
+
+-- ---- what the ephemerides say of a week
+
+pub whole_denied : (x : FirstMsm) (w d : ℕ) {said : FirstTwo} {found : Bool} (ds rests : List ℕ) → Some d ≡ first_of said → said ≡ first_two ds → found ≡ list_any (is_in true x w) ds
+    → (rest : List ℕ) × (ds ≡ d ∷ rest) × (is_denied x ds rests w ≡ not found)
+whole_denied x w d {said} {found} ds rests some first any =
+    let (rest, is) = some_first d ds some first in
+    (rest, is, ap (λ (l : List ℕ). is_denied x l rests w) is ∙ ap (λ (l : List ℕ). not (list_any (is_in true x w) l)) (sym is) ∙ ap not (sym any))
+
+pub rest_denied : (x : FirstMsm) (w d : ℕ) {said other : FirstTwo} {found : Bool} (ds rests : List ℕ) → None ≡ first_of said → said ≡ first_two ds → Some d ≡ first_of other → other ≡ first_two rests
+    → found ≡ list_any (is_in false x w) rests → (rest : List ℕ) × (ds ≡ []) × (rests ≡ d ∷ rest) × (is_denied x ds rests w ≡ not found)
+rest_denied x w d {said} {other} {found} ds rests none known some first any =
+    let (rest, is) = some_first d rests some first in
+    let nothing = no_first ds none known in
+    (rest, nothing, is, ap₂ (λ (l m : List ℕ). is_denied x l m w) nothing is ∙ ap (λ (l : List ℕ). not (list_any (is_in false x w) l)) (sym is) ∙ ap not (sym any))

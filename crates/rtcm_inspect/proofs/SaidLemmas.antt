@@ -1,0 +1,166 @@
+-- What the ephemerides of a stream say of the week, after one more frame.
+use Rattle.std.specs.Prelude.{not}
+use Rattle.std.proofs.Common.{set, suc, zero}
+use Rattle.std.proofs.lemmas.Bool.{and_parts}
+use Rattle.std.proofs.lemmas.List.{get_or-set_other, get_or-set_same, get_or_past, length-set}
+use Rattle.std.proofs.lemmas.List.Folds.{Any-from_list_any, list_any_at}
+use Rattle.rtcm_msg.specs.Weeks.{sent_week}
+use Rattle.rtcm_msg.specs.declared.weeks.SentWeek.{SentWeek}
+use Rattle.rtcm_inspect.specs.CountedTimes.{greatest_in}
+use Rattle.rtcm_inspect.specs.SentWeeks.{rest_by, rests_in, said_after, said_at, whole_by, whole_in}
+use Rattle.rtcm_inspect.specs.declared.said_weeks.SaidWeeks.{SaidWeeks}
+use Rattle.rtcm_inspect.specs.declared.said_weeks.WeekSet.{WeekSet}
+use Rattle.rtcm_inspect.specs.inner.SaidWeeks.{AreSaid, AreSaidIn, first_of}
+use Rattle.rtcm_inspect.proofs.Names.{◌≡◌, ◌∙◌, ◌<◌, ◌==◌, ◌&&◌, ◌||◌, ◌++◌, ℕ, Bool, true, false, List, [], ◌∷◌, Option, Some, None, ap, ap₂, append-nil, append_assoc, arith, below, find, first_two, get_or, length, list_any, list_any-append, nat_lt, nat_tests, option_and_then, option_to_list, refl, subst, sym, with_other, FirstTwo, Framed}
+
+-- ---- one more frame
+
+said_more : (says : ℕ → SentWeek → Option ℕ) (wanted : Option ℕ) (earlier fs : List Framed) (f : Framed)
+    → said_after says wanted earlier (fs ++ f ∷ []) ≡ said_after says wanted earlier fs ++ option_to_list (said_at says wanted (earlier ++ fs) f)
+said_more says wanted earlier [] f =
+    append-nil (option_to_list (said_at says wanted earlier f))
+    ∙ ap (λ (before : List Framed). option_to_list (said_at says wanted before f)) (sym (append-nil earlier))
+said_more says wanted earlier (g ∷ fs) f =
+    ap (λ (l : List ℕ). option_to_list (said_at says wanted earlier g) ++ l)
+    (said_more says wanted (earlier ++ g ∷ []) fs f
+    ∙ ap (λ (before : List Framed). said_after says wanted (earlier ++ g ∷ []) fs ++ option_to_list (said_at says wanted before f)) (append_assoc earlier (g ∷ []) fs))
+    ∙ sym (append_assoc (option_to_list (said_at says wanted earlier g)) (said_after says wanted (earlier ++ g ∷ []) fs) (option_to_list (said_at says wanted (earlier ++ g ∷ fs) f)))
+
+-- what the frame says, by the message and the greatest time before it
+said_of : (says : ℕ → SentWeek → Option ℕ) (wanted : Option ℕ) (fs : List Framed) (f : Framed) (message : List ℕ) {t : Option ℕ} {e : Option SentWeek} → f.message ≡ message → e ≡ sent_week message
+    → t ≡ greatest_in wanted fs → said_at says wanted fs f ≡ option_and_then (λ t. option_and_then (says t) e) t
+said_of says wanted fs f message is sent greatest =
+    ap₂ (λ (e : Option SentWeek) (t : Option ℕ). option_and_then (λ t. option_and_then (says t) e) t) (ap sent_week is ∙ sym sent) (sym greatest)
+
+pub no_sender : (o : Option ℕ) (says : ℕ → SentWeek → Option ℕ) → option_and_then (λ t. option_and_then (says t) None) o ≡ None
+no_sender None says = refl
+no_sender (Some t) says = refl
+
+pub said_now : (says : ℕ → SentWeek → Option ℕ) (wanted : Option ℕ) (fs : List Framed) (f : Framed) (message : List ℕ) {t : Option ℕ} {e : Option SentWeek} {said : Option ℕ} → f.message ≡ message → e ≡ sent_week message
+    → t ≡ greatest_in wanted fs → option_and_then (λ t. option_and_then (says t) e) t ≡ said
+    → said_after says wanted [] (fs ++ f ∷ []) ≡ said_after says wanted [] fs ++ option_to_list said
+said_now says wanted fs f message is sent greatest said =
+    said_more says wanted [] fs f ∙ ap (λ (o : Option ℕ). said_after says wanted [] fs ++ option_to_list o) (said_of says wanted fs f message is sent greatest ∙ said)
+
+-- a frame that says nothing
+pub nothing_said : {x : SaidWeeks} {wanted : Option ℕ} {fs : List Framed} (f : Framed) (message : List ℕ) {t : Option ℕ} {e : Option SentWeek} → f.message ≡ message → e ≡ sent_week message → t ≡ greatest_in wanted fs
+    → ((says : ℕ → SentWeek → Option ℕ) → option_and_then (λ t. option_and_then (says t) e) t ≡ None) → AreSaidIn x wanted fs → AreSaidIn x wanted (fs ++ f ∷ [])
+nothing_said {x} {wanted} {fs} f message is sent greatest none h = record {
+  whole = subst (AreSaid x.whole 16_384) (sym (said_now whole_by wanted fs f message is sent greatest (none whole_by) ∙ append-nil (whole_in wanted fs))) h.whole;
+  rests = subst (AreSaid x.rests 1_024) (sym (said_now rest_by wanted fs f message is sent greatest (none rest_by) ∙ append-nil (rests_in wanted fs))) h.rests;
+}
+
+-- a frame with an ephemeris, after others that have a greatest time
+pub both_said : {x y : SaidWeeks} {wanted : Option ℕ} {fs : List Framed} (f : Framed) (message : List ℕ) (t : ℕ) (e : SentWeek) {whole rest : Option ℕ} → f.message ≡ message → Some e ≡ sent_week message → Some t ≡ greatest_in wanted fs
+    → whole ≡ whole_by t e → rest ≡ rest_by t e → (AreSaid x.whole 16_384 (whole_in wanted fs) → AreSaid y.whole 16_384 (whole_in wanted fs ++ option_to_list whole))
+    → (AreSaid x.rests 1_024 (rests_in wanted fs) → AreSaid y.rests 1_024 (rests_in wanted fs ++ option_to_list rest)) → AreSaidIn x wanted fs → AreSaidIn y wanted (fs ++ f ∷ [])
+both_said {x} {y} {wanted} {fs} f message t e is sent greatest whole rest more rests h = record {
+  whole = subst (AreSaid y.whole 16_384) (sym (said_now whole_by wanted fs f message is sent greatest (sym whole))) (more h.whole);
+  rests = subst (AreSaid y.rests 1_024) (sym (said_now rest_by wanted fs f message is sent greatest (sym rest))) (rests h.rests);
+}
+
+-- ---- one more week of a set
+
+set_more : (added : List Bool) (n size : ℕ) (ns : List ℕ) → length added ≡ size → n < size → ((k : ℕ) → get_or added k false ≡ list_any (λ m. m == k) ns)
+    → (k : ℕ) → get_or (set added n true) k false ≡ list_any (λ m. m == k) (ns ++ n ∷ [])
+set_more added n size ns is small h k = by (n == k) refl ∙ sym (list_any-append (λ m. m == k) ns (n ∷ [])) where
+  later : (b : Bool) → (b || (true || false)) ≡ true
+  later true = refl
+  later false = refl
+
+  same : (b : Bool) → (b || (false || false)) ≡ b
+  same true = refl
+  same false = refl
+
+  by : (b : Bool) → (n == k) ≡ b → get_or (set added n true) k false ≡ (list_any (λ m. m == k) ns || ((n == k) || false))
+  by true e =
+      let equal : n ≡ k = grind (arith, e) in
+      subst (λ (j : ℕ). get_or (set added n true) j false ≡ true) equal (get_or-set_same added n true false (omega (arith, small, is)))
+      ∙ sym (ap (λ (b : Bool). list_any (λ m. m == k) ns || (b || false)) e ∙ later (list_any (λ m. m == k) ns))
+  by false e =
+      let apart : k ≡ n → ⊥ = λ q. let bad : (n == k) ≡ true = grind (arith, q) in let no : true ≡ false = sym bad ∙ e in cc in
+      get_or-set_other added n k true false apart ∙ h k
+      ∙ sym (ap (λ (b : Bool). list_any (λ m. m == k) ns || (b || false)) e ∙ same (list_any (λ m. m == k) ns))
+
+pub one_added : {x y : WeekSet} (n size : ℕ) (ns : List ℕ) → n < size → y.added.items ≡ set x.added.items n true → (x.first ≡ first_two ns → y.first ≡ first_two (ns ++ n ∷ [])) → AreSaid x size ns → AreSaid y size (ns ++ n ∷ [])
+one_added {x} {y} n size ns small is first h = record {
+  room = ap length is ∙ length-set x.added.items n true ∙ h.room;
+  added = λ k. ap (λ (l : List Bool). get_or l k false) is ∙ set_more x.added.items n size ns h.room small h.added k;
+  first = first h.first;
+}
+
+-- ---- the weeks of a set
+
+in_below : (q : ℕ → Bool) (n m : ℕ) → m < n → q m ≡ true → list_any q (below n) ≡ true
+in_below q zero m less is = absurd (omega (arith, less))
+in_below q (suc n) m less is = list_any-append q (below n) (n ∷ []) ∙ by (m == n) refl (λ apart. in_below q n m apart is) where
+  left : (a b : Bool) → a ≡ true → (a || b) ≡ true
+  left true b e = refl
+  left false b e = cc
+
+  right : (a b : Bool) → b ≡ true → (a || (b || false)) ≡ true
+  right true b e = refl
+  right false true e = refl
+  right false false e = cc
+
+  by : (b : Bool) → (m == n) ≡ b → (m < n → list_any q (below n) ≡ true) → (list_any q (below n) || (q n || false)) ≡ true
+  by true e rest = let same : m ≡ n = grind (arith, e) in right (list_any q (below n)) (q n) (subst (λ (k : ℕ). q k ≡ true) same is)
+  by false e rest =
+      let apart : m ≡ n → ⊥ = λ s. let bad : (m == n) ≡ true = grind (arith, s) in let no : true ≡ false = sym bad ∙ e in cc in
+      left (list_any q (below n)) (q n || false) (rest (omega (arith, less, apart)))
+
+iff_same : (a b : Bool) → (a ≡ true → b ≡ true) → (b ≡ true → a ≡ true) → a ≡ b
+iff_same true b to from = sym (to refl)
+iff_same false true to from = from refl
+iff_same false false to from = refl
+
+within : (added : List Bool) (m : ℕ) → get_or added m false ≡ true → m < length added
+within added m e = by (nat_lt m (length added)) refl where
+  by : (b : Bool) → nat_lt m (length added) ≡ b → m < length added
+  by true t = grind (arith, nat_tests, t)
+  by false t =
+      let past : get_or added m false ≡ false = get_or_past added m false (grind (arith, nat_tests, t)) in
+      let bad : true ≡ false = sym e ∙ past in
+      cc
+
+pub any_added : (p : ℕ → Bool) (added : List Bool) (size : ℕ) (ns : List ℕ) → length added ≡ size → ((k : ℕ) → get_or added k false ≡ list_any (λ m. m == k) ns)
+    → list_any (λ i. get_or added i false && p i) (below size) ≡ list_any p ns
+any_added p added size ns is h = iff_same (list_any q (below size)) (list_any p ns) to from where
+  q : ℕ → Bool
+  q i = get_or added i false && p i
+
+  both : (a b : Bool) → a ≡ true → b ≡ true → (a && b) ≡ true
+  both true b e d = d
+  both false b e d = cc
+
+  to : list_any q (below size) ≡ true → list_any p ns ≡ true
+  to some =
+      let (k, i, within, at, parts) = Any-from_list_any q (below size) some in
+      let each = and_parts (get_or added i false) (p i) parts in
+      let (j, m, inside, there, equal) = Any-from_list_any (λ m. m == i) ns (sym (h i) ∙ each.0) in
+      let same : m ≡ i = grind (arith, equal) in
+      list_any_at p ns j m inside (subst (λ (n : ℕ). p n ≡ true) (sym (there ∙ same)) each.1)
+
+  from : list_any p ns ≡ true → list_any q (below size) ≡ true
+  from some =
+      let (j, m, inside, there, holds) = Any-from_list_any p ns some in
+      let itself : (m == m) ≡ true = grind arith in
+      let added_m : get_or added m false ≡ true = h m ∙ list_any_at (λ k. k == m) ns j m inside (subst (λ (n : ℕ). (n == m) ≡ true) (sym there) itself) in
+      let less : m < size = subst (λ (n : ℕ). m < n) is (within added m added_m) in
+      in_below q size m less (both (get_or added m false) (p m) added_m holds)
+
+-- ---- the first of them
+
+pub no_first : {x : FirstTwo} (ns : List ℕ) → None ≡ first_of x → x ≡ first_two ns → ns ≡ []
+no_first {x} [] none is = refl
+no_first {x} (n ∷ ns) none is = absurd (by (find (λ m. not (m == n)) ns) (none ∙ ap first_of is)) where
+  by : (o : Option ℕ) → ◌≡◌ {A = Option ℕ} None (first_of (with_other n o)) → ⊥
+  by None e = cc
+  by (Some m) e = cc
+
+pub some_first : {x : FirstTwo} (d : ℕ) (ns : List ℕ) → Some d ≡ first_of x → x ≡ first_two ns → (rest : List ℕ) × (ns ≡ d ∷ rest)
+some_first {x} d [] some is = absurd (let bad : ◌≡◌ {A = Option ℕ} (Some d) None = some ∙ ap first_of is in cc)
+some_first {x} d (n ∷ ns) some is = (ns, ap (λ (m : ℕ). m ∷ ns) (by (find (λ m. not (m == n)) ns) (some ∙ ap first_of is))) where
+  by : (o : Option ℕ) → Some d ≡ first_of (with_other n o) → n ≡ d
+  by None e = cc
+  by (Some m) e = cc

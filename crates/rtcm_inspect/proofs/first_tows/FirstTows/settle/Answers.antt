@@ -1,0 +1,12 @@
+use Rattle.gnss_system.proofs.SystemLaws.{is_tabulated}
+use Rattle.gnss_system.specs.SystemValues.{value_of}
+use Rattle.rtcm_inspect.specs.inner.FirstTows.{settled_tows}
+use Rattle.rtcm_inspect.proofs.Names.{refl, rules}
+use Rattle.rtcm_inspect.proofs.first_tows.FirstTows.settle.Goals as goal
+
+pub returns : goal.returns
+returns c = record {
+  messages = refl;
+  greatest = refl;
+  tows = is_tabulated c.each-self.result (λ s. settled_tows c.args.time (value_of s c.args.self.now.tows)) (λ s. let given = c.each-self.ensures s in search rules);
+}

@@ -1,0 +1,9 @@
+use Rattle.line_texts.specs.LeapSeconds.{leap_at}
+use Rattle.rtcm_inspect.specs.SentWeeks.{time_in, within_weeks}
+use Rattle.rtcm_inspect.proofs.Names.{◌∙◌, ap, ap₂}
+use Rattle.rtcm_inspect.proofs.printed_week.leap_by.Goals as goal
+
+pub returns : goal.returns
+returns c = λ fs h.
+    c.leap_at.ensures.value
+    ∙ ap leap_at (c.within_weeks.ensures ∙ ap within_weeks (c.time_in.ensures ∙ ap₂ time_in c.from.ensures (c.first_msm.ensures fs h)))

@@ -1,0 +1,27 @@
+-- A conversion that starts in the week that an ephemeris says was counted as week 0 is in the week of the ephemeris.
+use Rattle.std.specs.Prelude.{◌≡◌, ℕ, ◌+◌, ◌*◌, ◌/◌, ◌<◌, List, filter_map, Some, None, if◌then◌else◌}
+use Rattle.gnss_obs.specs.Weeks.{week, weeks}
+use Rattle.rtcm_msg.specs.declared.weeks.SentWeek.{SentWeek}
+use Rattle.obs_epoch.specs.Heard.{Heard, is_own}
+use Rattle.obs_epoch.specs.declared.setup.GatherSetup.{GatherSetup}
+use Rattle.obs_epoch.specs.declared.week.Start.TheVariants.{Week}
+use Rattle.obs_epoch.specs.Times.{greatest_time, timed}
+use Rattle.rtcm_inspect.specs.CountedTimes.{greatest_of}
+use Rattle.rtcm_inspect.specs.SentWeeks.{whole_by}
+
+-- the times of week of the messages that a conversion dates, in order
+abbrev pub own_tows : GatherSetup → List Heard → List ℕ
+own_tows s ms = filter_map (λ m. if is_own s m then m.tow else None) ms
+
+-- The greatest time of a conversion is the one that is counted from week 0, after the begin of the start week.
+abbrev pub IsCountedFromStart : Type 0
+IsCountedFromStart = (s : GatherSetup) (ms : List Heard) (w t : ℕ) → s.start ≡ Week w
+    → greatest_of (own_tows s ms) ≡ Some t → w * week + t < weeks * week
+    → greatest_time (timed s ms) ≡ Some (w * week + t)
+
+-- If an ephemeris says that week d was counted as week 0, the greatest time of a conversion that starts in week d is in
+-- the week of the ephemeris.
+abbrev pub IsInSentWeek : Type 0
+IsInSentWeek = (s : GatherSetup) (ms : List Heard) (d t : ℕ) (e : SentWeek) → s.start ≡ Week d
+    → greatest_of (own_tows s ms) ≡ Some t → whole_by t e ≡ Some d → e.week < weeks
+    → (u : ℕ) × (greatest_time (timed s ms) ≡ Some u) × (u / week ≡ e.week)
