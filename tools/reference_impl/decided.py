@@ -5,7 +5,7 @@ from collections.abc import Iterator
 from .commands import convert, frame_lines, show_lines
 from .complete import Completeness
 from .epochs import Choice, Setup
-from .files import check_lines
+from .files import File, gap_lines
 from .frames import decided_length
 from .options import COLUMNS, Fault, completeness_of, plan_of
 
@@ -20,10 +20,13 @@ COMPLETE = {tuple(GAPS): completeness_of("0.5", None, None), tuple(OF_DAY): comp
 
 def gaps(data: bytes, complete: Completeness) -> Iterator[str]:
     """Yields the gaps before and between the epochs of a file that may be cut."""
+    file = File(data, complete)
     try:
-        yield from (line for line in check_lines(data, False, complete) if line.startswith("gap "))
-    except Fault:
+        for _ in file.read():
+            pass
+    except (ValueError, IndexError, Fault):
         pass
+    yield from gap_lines(complete, file.times, False)
 
 
 def decided_output(words: list[str], data: bytes) -> bytes:

@@ -249,6 +249,11 @@ def time_lines(times: list[int]) -> list[str]:
     return lines + [f"step {min(steps) // 1000}.{min(steps) % 1000:03}"] if steps else lines
 
 
+def gap_lines(complete: Completeness, times: list[int], has_end: bool) -> list[str]:
+    """Returns the lines of the gaps of a file with epochs at these times, of which the end was read or not."""
+    return [f"gap {shown(time)} {shown(later)}" for time, later in complete.gaps(times, has_end)]
+
+
 def check_lines(data: bytes, has_times: bool = False, complete: Completeness | None = None) -> Iterator[str]:
     """Yields the gaps, the counts of a file, its times, and whether it is complete, as asked for.
 
@@ -264,7 +269,7 @@ def check_lines(data: bytes, has_times: bool = False, complete: Completeness | N
         fault = cut
     times = file.times
     if complete:
-        yield from (f"gap {shown(time)} {shown(later)}" for time, later in complete.gaps(times, fault is None))
+        yield from gap_lines(complete, times, fault is None)
     if fault:
         raise fault
     yield f"epochs {len(times)} satellites {file.satellites} events {file.events}"
