@@ -13,19 +13,6 @@
 //!     let mut reader = Counted::new(file);
 //!     check_file(alloc, &mut reader)
 //! }
-//!
-//! /// The number of the satellite in the first row of an observation file.
-//! fn first_satellite(alloc: Global, file: &[u8]) -> Result<Option<u8>, ReadFault> {
-//!     let mut reader = Counted::new(file);
-//!     let mut epochs = EpochReader::new(alloc);
-//!     match epochs.begin(&mut reader)? {
-//!         NextEpoch::Epoch { .. } => {
-//!             let is_read = epochs.next_row(&mut reader)?;
-//!             Ok(is_read.then_some(epochs.row().satellite))
-//!         }
-//!         NextEpoch::End(_) => Ok(None),
-//!     }
-//! }
 //! ```
 #![tactic(auto)]
 
