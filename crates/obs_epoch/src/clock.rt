@@ -1,9 +1,9 @@
 //! The times of messages.
-ghost use Rattle.std.specs.Prelude.{◌==◌, ◌≡◌, ◌<◌, ◌*◌, [], Some, true, false, is_some, if◌then◌else◌};
+ghost use Rattle.std.specs.Prelude.{◌==◌, ◌≡◌, ◌+◌, ◌<◌, ◌*◌, [], true, false, is_some};
 ghost use Rattle.std.specs.Option.{ForSome};
 ghost use Rattle.rtcm_msg.specs.Msm.{week};
 ghost use Rattle.obs_epoch.specs.Heard.{ends_epoch, heard_summary, is_own};
-ghost use Rattle.obs_epoch.specs.Starts.{is_no_week};
+ghost use Rattle.obs_epoch.specs.Starts.{first_week, is_no_week};
 
 use crate::choice::Choice;
 use crate::setup::{Gather, GatherSetup};
@@ -41,8 +41,6 @@ impl Clock {
     ghost use Rattle.obs_epoch.specs.inner.Step.{KeepsEpoch, kind_by, step_by, kind_now, ended_where, closed_time};
     ghost use Rattle.obs_epoch.specs.inner.Step.{open_at, open_by};
     ghost use Rattle.obs_epoch.specs.GathererAfter.{time_in};
-    ghost use Rattle.obs_epoch.specs.Times.{is_past};
-    ghost use Rattle.obs_epoch.specs.declared.taken.Kind.TheVariants.{Kept, PastWeeks};
 
     /// Returns the clock before the first message.
     pub fn new(setup: GatherSetup) -> Clock
@@ -150,33 +148,33 @@ impl Clock {
         ensures kind { result ≡ kind_now self.old no_counts tow }
         ensures step { self.new ≡ open_at self.old tow }
     {
-        let Some(latest) = self.latest else {
-            let week = self.setup.start.week(tow);
-            return self.accept(week as u64 * WEEK + tow as u64);
+        let time = match self.latest {
+            None => self.first_time(tow),
+            Some(latest) => {
+                let ahead = (tow as u64 + (WEEK - latest % WEEK)) % WEEK;
+                if ahead > WEEK / 2 || ahead == 0 && !self.pending {
+                    return Kind::Late;
+                }
+                let time = latest + ahead;
+                if time < WEEKS * WEEK && ahead > 0 && self.pending {
+                    return Kind::CloseFirst;
+                }
+                time
+            }
         };
-        let ahead = (tow as u64 + (WEEK - latest % WEEK)) % WEEK;
-        if ahead > WEEK / 2 || ahead == 0 && !self.pending {
-            return Kind::Late;
-        }
-        let time = latest + ahead;
-        if time < WEEKS * WEEK && ahead > 0 && self.pending {
-            return Kind::CloseFirst;
-        }
-        self.accept(time)
-    }
-
-    // Processes observations of the pending epoch, or of one that begins, if their time is within
-    // the weeks.
-    fn accept(&mut self, time: u64) -> Kind
-        ensures kind { result ≡ (if is_past time then PastWeeks else Kept no_counts) }
-        ensures step { self.new
-            ≡ (if is_past time then self.old else record self.old { latest = Some time; pending = true }) }
-    {
         if time >= WEEKS * WEEK {
             return Kind::PastWeeks;
         }
         self.latest = Some(time);
         self.pending = true;
         Kind::Kept(CellCounts::default())
+    }
+
+    // Returns the time of the first observations, which have this time of week in milliseconds.
+    #[inline(never)]
+    fn first_time(&self, tow: u32) -> u64
+        ensures { result ≡ first_week self.now.setup.start tow * week + tow }
+    {
+        self.setup.start.week(tow) as u64 * WEEK + tow as u64
     }
 }
