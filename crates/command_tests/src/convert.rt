@@ -197,7 +197,7 @@ fn converts(alloc: Global, stream: &[u8], file: &[u8], report: &str) -> bool {
     let output = writer.into_inner();
     match ended {
         Ok(found) => {
-            report_line(&found).as_bytes() == report.as_bytes() && output.as_slice() == file
+            report_line(&found, false).as_bytes() == report.as_bytes() && output.as_slice() == file
         }
         Err(_) => false,
     }

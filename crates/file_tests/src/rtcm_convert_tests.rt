@@ -94,6 +94,7 @@ const ONE: Report = Report {
     skipped: 0,
     repeated: 0,
     crowded: 0,
+    without_channel: 0,
     epochs: 1,
 };
 

@@ -6,10 +6,10 @@ use Rattle.std.specs.List.{join_with_byte}
 abbrev pub longest_number : ℕ
 longest_number = 20
 
--- Room for a line. The longest is the report of a conversion: 14 names of 90 letters in all, 14 numbers, 27 blanks and
+-- Room for a line. The longest is the report of a conversion: 15 names of 105 letters in all, 15 numbers, 29 blanks and
 -- a line feed. The last 2 are spare.
 abbrev pub longest_line : ℕ
-longest_line = 90 + 14 * longest_number + 27 + 1 + 2
+longest_line = 105 + 15 * longest_number + 29 + 1 + 2
 
 -- the words with single blanks between them and a line feed after the last
 abbrev pub line : List (List ℕ) → List ℕ

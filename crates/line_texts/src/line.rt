@@ -8,9 +8,9 @@ use arrayvec::ArrayVec;
 use itoa::Buffer;
 use std::marker::Model;
 
-/// Room for a line. The longest is the report of a conversion: 14 names of 90 letters in all, 14
-/// numbers of at most 20 digits, 27 blanks and a line feed. The last 2 are spare.
-pub const LINE_BYTES: usize = 90 + 14 * 20 + 27 + 1 + 2;
+/// Room for a line. The longest is the report of a conversion: 15 names of 105 letters in all, 15
+/// numbers of at most 20 digits, 29 blanks and a line feed. The last 2 are spare.
+pub const LINE_BYTES: usize = 105 + 15 * 20 + 29 + 1 + 2;
 
 /// A line of output, built word by word with single blanks between the words.
 #[derive(Drop)]

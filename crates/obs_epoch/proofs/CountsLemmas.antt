@@ -1,11 +1,13 @@
 -- Counting cell by cell gives the counts of the whole message.
-use Rattle.std.proofs.Common.{◌≡◌, ℕ, ◌+◌, ◌≤◌, Bool, true, false, not, ◌||◌, ◌&&◌, List, [], ◌∷◌, ◌++◌, filter, refl, sym, ap, ap₂, ◌∙◌, subst, arith, length, append_assoc, append-nil, length-append, nat_le, if◌then◌else◌, cond, count_by, length-take-le, take_all, flat_map}
+use Rattle.std.proofs.Common.{◌≡◌, ℕ, ◌+◌, ◌≤◌, Bool, true, false, not, ◌||◌, ◌&&◌, List, [], ◌∷◌, ◌++◌, filter, refl, sym, ap, ap₂, ◌∙◌, subst, arith, length, append_assoc, append-nil, length-append, nat_le, if◌then◌else◌, cond, count_by, is_some, length-take-le, take_all, flat_map}
 use Rattle.std.proofs.lemmas.List.Concat.{length-flat_map}
 use Rattle.gnss_system.specs.Systems.{systems}
+use Rattle.gnss_system.specs.declared.system.System.TheVariants.{Glonass}
+use Rattle.gnss_obs.specs.Channels.{hertz_by, number_at}
 use Rattle.gnss_system.proofs.SystemLaws.{system_same, any_system, sum_grown}
 use Rattle.std.proofs.lemmas.List.Sums.{sum_by-cons}
 use Rattle.std.proofs.lemmas.List.Folds.{list_any-append}
-use Rattle.obs_epoch.specs.inner.Names.{System, is_system, list_any, Crowded, Kept, Repeated, Skipped, count_in, GatherSetup, HeardCell, no_counts, counts_of, is_of_system, is_among, kept, kept_of_all, is_planned, has_same_key, most_cells, CellCounts}
+use Rattle.obs_epoch.specs.inner.Names.{System, is_system, list_any, Crowded, Kept, Repeated, Skipped, count_in, GatherSetup, HeardCell, no_counts, counts_of, is_of_system, is_among, kept, kept_of_all, kept_without, lacks_channel, is_planned, has_same_key, most_cells, CellCounts}
 use Rattle.obs_epoch.proofs.CellsLemmas.{kept-add, mine, mine-among, among-push, same_key_laws, key_system}
 use Rattle.obs_epoch.proofs.NotingLemmas.{kept_apart}
 use Rattle.obs_epoch.proofs.LoadLemmas.{counts_after, outcome_after, planned_one}
@@ -75,6 +77,35 @@ both-length xs y a n e f =
       by t true h = own_length t (system_same y.satellite.system t h)
       by t false h = other_length t (grind (arith, h))
 
+-- A cell that lacks a channel is of GLONASS.
+lacks_own : (s : GatherSetup) (y : HeardCell) → is_of_system Glonass y ≡ false → lacks_channel s y ≡ false
+lacks_own s y other = by y.satellite.system other where
+  by : (system : System) → is_system Glonass system ≡ false → not (is_some (hertz_by system (number_at s.plan.channels y.satellite.id) y.signal)) ≡ false
+  by Glonass e = absurd cc
+  by system e = refl
+
+count_push : (p : HeardCell → Bool) (ks : List HeardCell) (y : HeardCell) → count_by p (ks ++ y ∷ []) ≡ count_by p ks + (if p y then 1 else 0)
+count_push p [] y = omega (arith, sum_by-cons (λ y. cond (p y) 1 0) y [])
+count_push p (k ∷ ks) y = omega (arith, sum_by-cons (λ y. cond (p y) 1 0) k (ks ++ y ∷ []), sum_by-cons (λ y. cond (p y) 1 0) k ks, count_push p ks y)
+
+-- The number of kept cells without a channel after one more cell.
+pub without-push : (s : GatherSetup) (xs : List HeardCell) (y : HeardCell) (a n : Bool) → is_among (kept y.satellite.system xs) y ≡ a → nat_le most_cells (length (kept y.satellite.system xs)) ≡ n
+    → kept_without s (xs ++ y ∷ []) ≡ kept_without s xs + (if not (a || n) then (if lacks_channel s y then 1 else 0) else 0)
+without-push s xs y a n e f = ap (count_by (lacks_channel s)) (kept-add Glonass xs y) ∙ by (is_of_system Glonass y) refl where
+  ks : List HeardCell
+  ks = kept Glonass xs
+
+  by : (g : Bool) → is_of_system Glonass y ≡ g
+      → count_by (lacks_channel s) (if g && not (is_among ks y || nat_le most_cells (length ks)) then ks ++ y ∷ [] else ks) ≡ count_by (lacks_channel s) ks + (if not (a || n) then (if lacks_channel s y then 1 else 0) else 0)
+  by false g =
+      let lacks = lacks_own s y g in
+      grind (arith, common_steps, lacks)
+  by true g =
+      let same : Glonass ≡ y.satellite.system = system_same Glonass y.satellite.system g in
+      let among : is_among ks y ≡ a = ap (λ (t : System). is_among (kept t xs) y) same ∙ e in
+      let full : nat_le most_cells (length ks) ≡ n = ap (λ (t : System). nat_le most_cells (length (kept t xs))) same ∙ f in
+      grind (arith, common_steps, among, full, count_push)
+
 self_system : (y : HeardCell) → is_of_system y.satellite.system y ≡ true
 self_system y = grind (arith, common_steps)
 
@@ -96,47 +127,49 @@ now-among xs ys y a n e f =
 
 -- ---- the sums
 
--- N is n plus these counts; before there were b kept cells, and after there are a.
-record Sums (N n : CellCounts) (b a skipped known crowded : ℕ) : Type 0 where
+-- N is n plus these counts; before there were b kept cells, of which l lack a channel, and after there are a, of which m do.
+record Sums (N n : CellCounts) (b a l m skipped known crowded : ℕ) : Type 0 where
   pub kept : N.kept + b ≡ n.kept + a
+  pub lacks : N.without_channel + l ≡ n.without_channel + m
   pub skips : N.skipped ≡ n.skipped + skipped
   pub knows : N.repeated + N.kept ≡ (n.repeated + n.kept) + known
   pub crowds : N.crowded ≡ n.crowded + crowded
 
 -- Counts that are added in two steps are added at once.
-both_sums : {N m n : CellCounts} {b b' e s r c skipped known crowded : ℕ} → Sums N m b' e skipped known crowded → Sums m n b b' s r c → Sums N n b e (s + skipped) (r + known) (c + crowded)
+both_sums : {N m n : CellCounts} {b b' e l l' k s r c skipped known crowded : ℕ} → Sums N m b' e l' k skipped known crowded → Sums m n b b' l l' s r c → Sums N n b e l k (s + skipped) (r + known) (c + crowded)
 both_sums h g = grind (arith, common_steps)
 
 -- One more cell at the beginning.
-one_sum : {N n : CellCounts} (p a f : Bool) {b b' e skipped known crowded : ℕ} → Sums N (count_in (if p then (if a then Repeated else (if f then Crowded else Kept)) else Skipped) n) b' e skipped known crowded
+one_sum : {N n : CellCounts} (p a f g : Bool) {b b' e l l' k skipped known crowded : ℕ} → Sums N (count_in g (if p then (if a then Repeated else (if f then Crowded else Kept)) else Skipped) n) b' e l' k skipped known crowded
     → b' ≡ b + (if p then (if not (a || f) then 1 else 0) else 0)
-    → Sums N n b e ((if not p then 1 else 0) + skipped) ((if p then (if (a || not f) then 1 else 0) else 0) + known) ((if p then (if not (a || not f) then 1 else 0) else 0) + crowded)
-one_sum false a f h g = both_sums h (record { kept = omega (arith, g); skips = refl; knows = omega arith; crowds = omega arith })
-one_sum true true f h g = both_sums h (record { kept = omega (arith, g); skips = omega arith; knows = omega arith; crowds = omega arith })
-one_sum true false true h g = both_sums h (record { kept = omega (arith, g); skips = omega arith; knows = omega arith; crowds = refl })
-one_sum true false false h g = both_sums h (record { kept = omega (arith, g); skips = omega arith; knows = omega arith; crowds = omega arith })
+    → l' ≡ l + (if p then (if not (a || f) then (if g then 1 else 0) else 0) else 0)
+    → Sums N n b e l k ((if not p then 1 else 0) + skipped) ((if p then (if (a || not f) then 1 else 0) else 0) + known) ((if p then (if not (a || not f) then 1 else 0) else 0) + crowded)
+one_sum false a f g h i j = both_sums h (record { kept = omega (arith, i); lacks = omega (arith, j); skips = refl; knows = omega arith; crowds = omega arith })
+one_sum true true f g h i j = both_sums h (record { kept = omega (arith, i); lacks = omega (arith, j); skips = omega arith; knows = omega arith; crowds = omega arith })
+one_sum true false true g h i j = both_sums h (record { kept = omega (arith, i); lacks = omega (arith, j); skips = omega arith; knows = omega arith; crowds = refl })
+one_sum true false false g h i j = both_sums h (record { kept = omega (arith, i); lacks = omega (arith, j); skips = omega arith; knows = omega arith; crowds = omega arith })
 
-change : {N n : CellCounts} {b e u v w u' v' w' : ℕ} → u ≡ u' → v ≡ v' → w ≡ w' → Sums N n b e u v w → Sums N n b e u' v' w'
-change {n} p q r h = record { kept = h.kept; skips = h.skips ∙ ap (λ k. n.skipped + k) p; knows = h.knows ∙ ap (λ k. (n.repeated + n.kept) + k) q; crowds = h.crowds ∙ ap (λ k. n.crowded + k) r }
+change : {N n : CellCounts} {b e l k u v w u' v' w' : ℕ} → u ≡ u' → v ≡ v' → w ≡ w' → Sums N n b e l k u v w → Sums N n b e l k u' v' w'
+change {n} p q r h = record { kept = h.kept; lacks = h.lacks; skips = h.skips ∙ ap (λ k. n.skipped + k) p; knows = h.knows ∙ ap (λ k. (n.repeated + n.kept) + k) q; crowds = h.crowds ∙ ap (λ k. n.crowded + k) r }
 
 abbrev planned : GatherSetup → List HeardCell → List HeardCell
 planned s ys = filter (is_planned s) ys
 
 abbrev Tally : GatherSetup → List HeardCell → CellCounts → List HeardCell → Type 0
 Tally s xs n ys =
-    Sums (counts_after s xs n ys) n (length (kept_of_all xs)) (length (kept_of_all (xs ++ planned s ys))) (count_by (λ x. not (is_planned s x)) ys)
+    Sums (counts_after s xs n ys) n (length (kept_of_all xs)) (length (kept_of_all (xs ++ planned s ys))) (kept_without s xs) (kept_without s (xs ++ planned s ys)) (count_by (λ x. not (is_planned s x)) ys)
     (count_by (is_among (kept_of_all (xs ++ planned s ys))) (planned s ys)) (count_by (λ x. not (is_among (kept_of_all (xs ++ planned s ys)) x)) (planned s ys))
 
 count_cons : (p : HeardCell → Bool) (x : HeardCell) (xs : List HeardCell) → count_by p (x ∷ xs) ≡ (if p x then 1 else 0) + count_by p xs
 count_cons p x xs = sum_by-cons (λ y. cond (p y) 1 0) x xs
 
-tally_step : (s : GatherSetup) (xs : List HeardCell) (n : CellCounts) (y : HeardCell) (ys : List HeardCell) → Tally s (xs ++ planned_one s y) (count_in (outcome_after s xs y) n) ys → Tally s xs n (y ∷ ys)
+tally_step : (s : GatherSetup) (xs : List HeardCell) (n : CellCounts) (y : HeardCell) (ys : List HeardCell) → Tally s (xs ++ planned_one s y) (count_in (lacks_channel s y) (outcome_after s xs y) n) ys → Tally s xs n (y ∷ ys)
 tally_step s xs n y ys h =
     change (sym skips) (sym (knows (is_planned s y))) (sym (crowds (is_planned s y)))
-    (one_sum (is_planned s y) a f
-    (subst (λ w. Sums (counts_after s (xs ++ planned_one s y) (count_in (outcome_after s xs y) n) ys) (count_in (outcome_after s xs y) n) (length (kept_of_all (xs ++ planned_one s y))) (length (kept_of_all w)) (count_by (λ x. not (is_planned s x)) ys)
+    (one_sum (is_planned s y) a f (lacks_channel s y)
+    (subst (λ w. Sums (counts_after s (xs ++ planned_one s y) (count_in (lacks_channel s y) (outcome_after s xs y) n) ys) (count_in (lacks_channel s y) (outcome_after s xs y) n) (length (kept_of_all (xs ++ planned_one s y))) (length (kept_of_all w)) (kept_without s (xs ++ planned_one s y)) (kept_without s w) (count_by (λ x. not (is_planned s x)) ys)
     (count_by (is_among (kept_of_all w)) (planned s ys)) (count_by (λ x. not (is_among (kept_of_all w) x)) (planned s ys))) (whole (is_planned s y)) h)
-    (before (is_planned s y))) where
+    (before (is_planned s y)) (lacking (is_planned s y))) where
       a : Bool
       a = is_among (kept y.satellite.system xs) y
 
@@ -150,6 +183,10 @@ tally_step s xs n y ys h =
       before : (b : Bool) → length (kept_of_all (xs ++ (if b then y ∷ [] else []))) ≡ length (kept_of_all xs) + (if b then (if not (a || f) then 1 else 0) else 0)
       before true = both-length xs y a f refl refl
       before false = ap (λ l. length (kept_of_all l)) (append-nil xs) ∙ (let none : length (kept_of_all xs) ≡ length (kept_of_all xs) + 0 = omega arith in none)
+
+      lacking : (b : Bool) → kept_without s (xs ++ (if b then y ∷ [] else [])) ≡ kept_without s xs + (if b then (if not (a || f) then (if lacks_channel s y then 1 else 0) else 0) else 0)
+      lacking true = without-push s xs y a f refl refl
+      lacking false = ap (kept_without s) (append-nil xs) ∙ (let none : kept_without s xs ≡ kept_without s xs + 0 = omega arith in none)
 
       skips : count_by (λ x. not (is_planned s x)) (y ∷ ys) ≡ (if not (is_planned s y) then 1 else 0) + count_by (λ x. not (is_planned s x)) ys
       skips = count_cons (λ x. not (is_planned s x)) y ys
@@ -173,7 +210,7 @@ tally_step s xs n y ys h =
 
 tally : (s : GatherSetup) (xs : List HeardCell) (n : CellCounts) (ys : List HeardCell) → Tally s xs n ys
 tally s xs n [] = grind (arith, common_steps, append-nil)
-tally s xs n (y ∷ ys) = tally_step s xs n y ys (tally s (xs ++ planned_one s y) (count_in (outcome_after s xs y) n) ys)
+tally s xs n (y ∷ ys) = tally_step s xs n y ys (tally s (xs ++ planned_one s y) (count_in (lacks_channel s y) (outcome_after s xs y) n) ys)
 
 pub counts_are : (s : GatherSetup) (xs ys : List HeardCell) → counts_after s xs no_counts ys ≡ counts_of s xs ys
 counts_are s xs ys = grind (arith, common_steps, tally, counts_after)

@@ -2,15 +2,15 @@
 use Rattle.gnss_obs.specs.Channels.{ChannelsValue}
 use Rattle.obs_epoch.specs.Clock.{State}
 use Rattle.obs_epoch.specs.GathererAfter.{GathererValue}
-use Rattle.obs_epoch.specs.inner.Names.{System, Entry, CellOutcome, count_in, seen_in, unlisted_in, HeardCell, with_skipped, Loaded, load, load_one, load_entries, with_unlisted, outcome_in, hold, hold_by, CellCounts, option_map_or, cons_option, Form}
-use Rattle.std.proofs.Common.{◌≡◌, ℕ, ◌+◌, List, [], ◌∷◌, refl, ap, ◌∙◌, arith, Option, Some, None, is_some, filter_map, cond}
+use Rattle.obs_epoch.specs.inner.Names.{System, Entry, CellOutcome, count_in, lacks_channel, seen_in, unlisted_in, HeardCell, with_skipped, Loaded, load, load_one, load_entries, with_unlisted, outcome_in, hold, hold_by, CellCounts, option_map_or, cons_option, Form}
+use Rattle.std.proofs.Common.{◌≡◌, ℕ, ◌+◌, Bool, List, [], ◌∷◌, refl, ap, ◌∙◌, arith, Option, Some, None, is_some, filter_map, cond}
 use Rattle.std.proofs.lemmas.Grind.{common_steps}
 
-later_count : (k : CellOutcome) (n : ℕ) (c : CellCounts) → count_in k (with_skipped n c) ≡ with_skipped n (count_in k c)
-later_count k n c = grind (arith, common_steps)
+later_count : (b : Bool) (k : CellOutcome) (n : ℕ) (c : CellCounts) → count_in b k (with_skipped n c) ≡ with_skipped n (count_in b k c)
+later_count b k n c = grind (arith, common_steps)
 
 later_one : (n : ℕ) (l : Loaded) (x : HeardCell) → load_one (with_unlisted n l) x ≡ with_unlisted n (load_one l x)
-later_one n l x = ap (λ c. record { state = hold l.state x; counts = c }) (later_count (outcome_in l.state x) n l.counts)
+later_one n l x = ap (λ c. record { state = hold l.state x; counts = c }) (later_count (lacks_channel l.state.clock.setup x) (outcome_in l.state x) n l.counts)
 
 later : (n : ℕ) (l : Loaded) (xs : List HeardCell) → load (with_unlisted n l) xs ≡ with_unlisted n (load l xs)
 later n l [] = refl

@@ -7,6 +7,7 @@ pub mod TakeLemmas
 pub mod TimesLemmas
 pub mod CellsLemmas
 pub mod CountsLemmas
+pub mod CountLaws
 pub mod ClosedLemmas
 pub mod OneStepLemmas
 pub mod ClockLemmas

@@ -1,6 +1,6 @@
 -- The cells of one more message, kept one by one, are the kept cells of the longer list.
 use Rattle.std.proofs.Common.{[], ◌≡◌, ℕ, suc, Bool, true, false, not, ◌||◌, ◌&&◌, List, ◌∷◌, ◌++◌, filter, refl, sym, ap, ap₂, ◌∙◌, subst, arith, length, append_assoc, append-nil, Option, nat_le, if◌then◌else◌, cond}
-use Rattle.obs_epoch.specs.inner.Names.{System, is_system, CellOutcome, Crowded, Kept, Repeated, Skipped, count_in, lookup, outcome_by, outcome_of, outcome_of_added, is_held, GatherSetup, HeardCell, kept_cell, is_of_system, is_among, kept, add, is_planned, has_same_key, lli_with, GathererValue, with_more, outcome_in, hold, hold_by, load, PlanValue, planned_of, most_cells, EpochValue, cells_of, insert_by, sort_key_of, sorted, cell_sort_key, Cell, KnownLock, CellCounts}
+use Rattle.obs_epoch.specs.inner.Names.{System, is_system, CellOutcome, Crowded, Kept, Repeated, Skipped, count_in, lookup, outcome_by, outcome_of, outcome_of_added, is_held, GatherSetup, HeardCell, kept_cell, is_of_system, is_among, kept, add, is_planned, lacks_channel, has_same_key, lli_with, GathererValue, with_more, outcome_in, hold, hold_by, load, PlanValue, planned_of, most_cells, EpochValue, cells_of, insert_by, sort_key_of, sorted, cell_sort_key, Cell, KnownLock, CellCounts}
 use Rattle.gnss_obs.specs.declared.epoch_cells.Added.TheVariants as added
 use Rattle.gnss_system.specs.SystemValues.{value_of, with_value_of, tabulate}
 use Rattle.gnss_system.specs.declared.by_system.BySystem.{BySystem}
@@ -126,7 +126,7 @@ one_more s f t xs x = by (is_planned s x) (is_among (kept x.satellite.system xs)
 -- The counts after these cells, one by one.
 abbrev pub counts_after : GatherSetup → List HeardCell → CellCounts → List HeardCell → CellCounts
 counts_after s xs n [] = n
-counts_after s xs n (y ∷ ys) = counts_after s (xs ++ planned_one s y) (count_in (outcome_after s xs y) n) ys
+counts_after s xs n (y ∷ ys) = counts_after s (xs ++ planned_one s y) (count_in (lacks_channel s y) (outcome_after s xs y) n) ys
 
 pub hold_is : (k : CellOutcome) (g : GathererValue) (x : HeardCell) → hold_by k g x ≡ record g { epoch = epoch_by g.clock.setup.plan k (lookup g.locks) g.epoch x }
 hold_is k g x = grind (arith, common_steps)
@@ -143,9 +143,9 @@ load_is g n t xs (y ∷ ys) h =
     let after : hold g y ≡ record g { epoch = epoch_of s.plan f t (xs ++ planned_one s y) } =
     ap (λ k. hold_by k g y) outcome ∙ hold_is (outcome_after s xs y) g y
     ∙ ap (λ e. record g { epoch = e }) (ap (λ e. epoch_by s.plan (outcome_after s xs y) f e y) h ∙ one_more s f t xs y) in
-    ap₂ (λ v k. load (record { state = v; counts = count_in k n }) ys) after outcome
-    ∙ load_is (record g { epoch = epoch_of s.plan f t (xs ++ planned_one s y) }) (count_in (outcome_after s xs y) n) t (xs ++ planned_one s y) ys refl
-    ∙ ap (λ l. record { state = record g { epoch = epoch_of s.plan f t l }; counts = counts_after s (xs ++ planned_one s y) (count_in (outcome_after s xs y) n) ys })
+    ap₂ (λ v k. load (record { state = v; counts = count_in (lacks_channel s y) k n }) ys) after outcome
+    ∙ load_is (record g { epoch = epoch_of s.plan f t (xs ++ planned_one s y) }) (count_in (lacks_channel s y) (outcome_after s xs y) n) t (xs ++ planned_one s y) ys refl
+    ∙ ap (λ l. record { state = record g { epoch = epoch_of s.plan f t l }; counts = counts_after s (xs ++ planned_one s y) (count_in (lacks_channel s y) (outcome_after s xs y) n) ys })
     (append_assoc xs (planned_one s y) (filter (is_planned s) ys) ∙ ap (λ l. xs ++ l) (split (is_planned s y) y (filter (is_planned s) ys))) where
       split : (b : Bool) (y : HeardCell) (l : List HeardCell) → (if b then y ∷ [] else []) ++ l ≡ cond b (y ∷ l) l
       split b y l = grind (arith, common_steps)

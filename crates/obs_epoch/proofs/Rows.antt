@@ -78,6 +78,6 @@ pub two_closed : small_lli (map (epoch_at setup (timed setup three)) (closed_tim
 unfolding first_week
 two_closed = refl
 
-pub one_repeated : counts_of setup [] (cell None None ∷ cell None (Some 1) ∷ []) ≡ record { kept = 1; skipped = 0; repeated = 1; crowded = 0 }
+pub one_repeated : counts_of setup [] (cell None None ∷ cell None (Some 1) ∷ []) ≡ record { kept = 1; without_channel = 0; skipped = 0; repeated = 1; crowded = 0 }
 unfolding first_week
 one_repeated = refl

@@ -4,6 +4,8 @@ use Rattle.std.specs.Prelude.{◌++◌, filter, flat_map, take, length, count_by
 use Rattle.std.specs.Option.{option_map_or}
 use Rattle.std.specs.List.{list_any}
 use Rattle.gnss_system.specs.declared.system.System.{System}
+use Rattle.gnss_system.specs.declared.system.System.TheVariants.{Glonass}
+use Rattle.gnss_obs.specs.Channels.{hertz_in}
 use Rattle.gnss_system.specs.Systems.{systems}
 use Rattle.gnss_system.specs.Satellites.{satellites}
 use Rattle.gnss_system.specs.Signals.{table}
@@ -64,13 +66,22 @@ abbrev pub kept_of_all : List HeardCell → List HeardCell
 kept_of_all xs = flat_map (λ s. kept s xs) systems
 
 abbrev pub no_counts : CellCounts
-no_counts = record { kept = 0; skipped = 0; repeated = 0; crowded = 0 }
+no_counts = record { kept = 0; without_channel = 0; skipped = 0; repeated = 0; crowded = 0 }
+
+-- The carrier of a cell isn't known: its satellite is one of GLONASS without a channel, so it has no phase and no shift.
+abbrev pub lacks_channel : GatherSetup → HeardCell → Bool
+lacks_channel s x = not (is_some (hertz_in s.plan.channels x.satellite x.signal))
+
+-- The number of kept cells of GLONASS without a channel.
+abbrev pub kept_without : GatherSetup → List HeardCell → ℕ
+kept_without s xs = count_by (lacks_channel s) (kept Glonass xs)
 
 -- The number of cells of all outcomes.
 abbrev pub cells_counted : CellCounts → ℕ
 cells_counted n = n.kept + n.skipped + n.repeated + n.crowded
 
--- The outcomes of a message's cells after the earlier cells: the kept, unplanned, repeated and surplus ones.
+-- The outcomes of a message's cells after the earlier cells: the kept ones, of these those without a channel, and the
+-- unplanned, repeated and surplus ones.
 abbrev pub counts_of : GatherSetup → List HeardCell → List HeardCell → CellCounts
 counts_of s before cells =
     let planned = filter (is_planned s) cells in
@@ -78,6 +89,7 @@ counts_of s before cells =
     let newly = length all - length (kept_of_all before) in
     record {
       kept = newly;
+      without_channel = kept_without s (before ++ planned) - kept_without s before;
       skipped = count_by (λ x. not (is_planned s x)) cells;
       repeated = count_by (is_among all) planned - newly;
       crowded = count_by (λ x. not (is_among all x)) planned;

@@ -28,7 +28,7 @@ ghost use Rattle.obs_epoch.specs.inner.GathererSteps.{closed_noted, loaded_where
 ghost use Rattle.obs_epoch.specs.inner.GathererSteps.{cleared_if, thinned, thinned_if};
 ghost use Rattle.obs_epoch.specs.inner.Marks.{carried_from, carried_to};
 ghost use Rattle.obs_epoch.specs.inner.GathererSteps.{load, system_as, rested, outcome_in, hold, shut_where};
-ghost use Rattle.obs_epoch.specs.Cells.{cells_counted, no_counts};
+ghost use Rattle.obs_epoch.specs.Cells.{cells_counted, lacks_channel, no_counts};
 
 use crate::choice::{Choice, EpochCounts};
 use crate::clock::Clock;
@@ -384,14 +384,18 @@ impl Gatherer {
             ≡ true }
         requires pending { self.old.clock.pending ≡ true }
         requires few { cells_counted n.old < usize.MAX }
-        ensures counts { n.new ≡ count_in (outcome_in self.old (heard_cell x)) n.old }
+        requires less { n.old.without_channel ≤ n.old.kept }
+        ensures counts { n.new ≡ count_in (lacks_channel self.old.clock.setup (heard_cell x))
+            (outcome_in self.old (heard_cell x)) n.old }
         ensures step { self.new ≡ hold self.old (heard_cell x) }
         ensures pending { self.new.clock.pending ≡ true }
         ensures one { cells_counted n.new ≡ cells_counted n.old + 1 }
+        ensures less { n.new.without_channel ≤ n.new.kept }
     {
         let time = self.clock.time().milliseconds();
+        let carrier = self.clock.plan().channels().hertz(x.satellite, x.signal);
         x.lli = lli(&x, time, self.locks.latest(system, &x));
-        count(self.pending.add(x), n);
+        count(self.pending.add(x), carrier.is_none(), n);
     }
 
     // Processes the cells of a message of this system, which is `S`, and form `F`, and returns their
@@ -423,10 +427,12 @@ impl Gatherer {
         requires entry { IsEntry (lock_codes form) entry.now }
         requires pending { self.old.clock.pending ≡ true }
         requires few { cells_counted n.old < usize.MAX }
+        requires less { n.old.without_channel ≤ n.old.kept }
         ensures step { record { state = self.new; counts = n.new }
             ≡ load_entry form system (record { state = self.old; counts = n.old }) entry.now }
         ensures pending { self.new.clock.pending ≡ true }
         ensures one { cells_counted n.new ≡ cells_counted n.old + 1 }
+        ensures less { n.new.without_channel ≤ n.new.kept }
     {
         match observe(self.clock.plan(), form, system, entry) {
             None => n.skipped += 1,
@@ -475,15 +481,22 @@ fn clear_if(begins: bool, last: &mut Epoch)
     }
 }
 
-// Counts the outcome of a cell of a planned signal.
+// Counts the outcome of a cell of a planned signal, which may lack a channel.
 #[inline(always)]
-fn count(added: Added, n: &mut CellCounts)
+fn count(added: Added, lacks_channel: bool, n: &mut CellCounts)
     requires few { cells_counted n.old < usize.MAX }
-    ensures counts { n.new ≡ count_in (outcome_of_added added) n.old }
+    requires less { n.old.without_channel ≤ n.old.kept }
+    ensures counts { n.new ≡ count_in lacks_channel (outcome_of_added added) n.old }
     ensures one { cells_counted n.new ≡ cells_counted n.old + 1 }
+    ensures less { n.new.without_channel ≤ n.new.kept }
 {
     match added {
-        Added::Kept => n.kept += 1,
+        Added::Kept => {
+            n.kept += 1;
+            if lacks_channel {
+                n.without_channel += 1;
+            }
+        }
         Added::Repeated => n.repeated += 1,
         Added::Crowded => n.crowded += 1,
     }

@@ -26,6 +26,9 @@ pub enum Kind {
 pub struct CellCounts {
     /// Cells that were kept.
     pub kept: usize,
+    /// Those of them of GLONASS satellites without a channel, which have no phase and no Doppler
+    /// shift.
+    pub without_channel: usize,
     /// Cells of an unlisted satellite or signal, or of a signal that isn't planned.
     pub skipped: usize,
     /// Cells of a satellite and signal of which the epoch has a cell already.

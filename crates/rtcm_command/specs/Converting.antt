@@ -11,6 +11,8 @@ use Rattle.rtcm_convert.specs.declared.report.Report.{Report}
 use Rattle.rtcm_command.specs.Devices.{IsOfConversion, culprit}
 use Rattle.devices.specs.Printing.{PrintsLine}
 use Rattle.rtcm_command.specs.Reports.{report_line}
+use Rattle.obs_epoch.specs.Sets.{is_decoded}
+use Rattle.gnss_system.specs.declared.system.System.TheVariants.{Glonass}
 use Rattle.clap.specs.Walk.{Row}
 use Rattle.command_faults.specs.declared.fault.CommandFault.{CommandFault}
 use Rattle.rtcm_command.specs.SetupOptions.{IsSetupOf, IsSetupRefused}
@@ -24,7 +26,7 @@ MakesFile x report d d' = IfSome d.reader.unread (IsMadeWith x report d.writer.w
 abbrev pub IsConverted : {R W E : Type 0} → List Row → (d d' : Devices R W) → (e e' : Writer E) → Type 0
 IsConverted options d d' e e' =
     (x : Setup) × (report : Report) × IsSetupOf options x × (IsBad x → ⊥) × MakesFile x report d d'
-    × PrintsLine (report_line report) e e'
+    × PrintsLine (report_line (is_decoded x.gatherer.plan Glonass) report) e e'
 
 -- the file of the bytes that the reader had has no epoch and is empty, for this reason
 abbrev pub MakesNoEpoch : {R W : Type 0} → Setup → Fault → (d d' : Devices R W) → Type 0

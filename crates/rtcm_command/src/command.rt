@@ -27,6 +27,7 @@ use clap::error::ErrorKind;
 use command_faults::{CommandFault, error_line, exit_status};
 use command_line::{VERSION, drop_matches, parse};
 use devices::{Counted, Deliver, print_line, print_text};
+use gnss_system::System;
 use rinex_inspect::{CheckOptions, FileFault, run_check_with};
 use rtcm_inspect::{InspectFault, Listing, list, run_frames, run_options, run_show, run_signals};
 use rtcm_scan::MOST_BYTES;
@@ -141,8 +142,9 @@ fn convert<R: Read, W: Deliver, E: Deliver>(
     let channels = channels_of(options)?;
     let choice = choice_of(options)?;
     let setup = setup_of(alloc, options, start, initial, channels, choice)?;
+    let has_glonass = setup.gatherer.plan.signals(System::Glonass) > 0;
     let report = run_convert(alloc, setup, reader, writer)?;
-    print_line(report_line(&report).as_bytes(), faults);
+    print_line(report_line(&report, has_glonass).as_bytes(), faults);
     Ok(())
 }
 

@@ -1,10 +1,11 @@
 //! The command `convert`: the observation file of a stream.
-ghost use Rattle.std.specs.Prelude.{◌≡◌, ◌≤◌, ◌↔◌, Err, max};
+ghost use Rattle.std.specs.Prelude.{◌≡◌, ◌+◌, ◌≤◌, ◌↔◌, Err, length, max};
 ghost use Rattle.devices.specs.Devices.{Changes};
 ghost use Rattle.rtcm_bits.specs.FrameOf.{longest_frame};
 ghost use Rattle.rtcm_convert.specs.SetupValues.{IsBad};
 ghost use Rattle.rtcm_command.specs.Converting.{EndsConversion};
-ghost use Rattle.rtcm_command.specs.Reports.{report_line};
+ghost use Rattle.line_texts.specs.Lines.{longest_number, with_words};
+ghost use Rattle.rtcm_command.specs.Reports.{channel_count, report_line};
 
 use command_faults::CommandFault;
 use devices::{Counted, Deliver};
@@ -38,9 +39,10 @@ pub fn run_convert<R: Read, W: Deliver>(
     }
 }
 
-/// Returns the line of a report: each count after its name.
-pub fn report_line(report: &Report) -> OutputLine
-    ensures { result ≡ report_line report.now }
+/// Returns the line of a report: each count after its name. Only if a signal of GLONASS is planned,
+/// the line has the number of its cells without a channel.
+pub fn report_line(report: &Report, has_glonass: bool) -> OutputLine
+    ensures { result ≡ report_line has_glonass report.now }
 {
     let mut line = OutputLine::new();
     line.put(b"bytes");
@@ -57,7 +59,19 @@ pub fn report_line(report: &Report) -> OutputLine
     line.add_count("skipped", report.skipped);
     line.add_count("repeated", report.repeated);
     line.add_count("crowded", report.crowded);
+    add_channel_count(&mut line, report, has_glonass);
     line.add_count("epochs", report.epochs);
     line.finish();
     line
+}
+
+/// Adds the number of cells of GLONASS without a channel, if a signal of it is planned.
+fn add_channel_count(line: &mut OutputLine, report: &Report, has_glonass: bool)
+    requires { length line.old ≤ 376 }
+    ensures text { line.new ≡ with_words line.old (channel_count has_glonass report.now) }
+    ensures short { length line.new ≤ length line.old + 17 + longest_number }
+{
+    if has_glonass {
+        line.add_count("without_channel", report.without_channel);
+    }
 }

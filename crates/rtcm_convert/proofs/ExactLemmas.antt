@@ -1,8 +1,10 @@
 -- No count of a stream reaches the greatest number that is counted: a frame has at least six bytes and at most 64
 -- cells.
+use Rattle.std.specs.Prelude.{not}
 use Rattle.rtcm_msg.specs.Entries.{entries_in}
 use Rattle.rtcm_msg.specs.declared.view.Form.{Form}
 use Rattle.rtcm_msg.specs.declared.view.Form.TheVariants as forms
+use Rattle.obs_epoch.proofs.CountLaws.{few_without}
 use Rattle.obs_epoch.specs.declared.choice.Choice.{Choice}
 use Rattle.obs_epoch.specs.Choices.{in_window, is_chosen, on_grid}
 use Rattle.obs_epoch.specs.GathererHistory.{whole_list}
@@ -62,16 +64,25 @@ record CountsFew (n : CellCounts) : Type 0 where
   skipped : n.skipped ≤ 128
   repeated : n.repeated ≤ 128
   crowded : n.crowded ≤ 128
+  without : n.without_channel ≤ 128
 
 planned_few : (s : GatherSetup) (xs : List HeardCell) → length (filter (is_planned s) xs) ≤ length xs
 planned_few s xs = subst (λ (n : ℕ). n ≤ length xs) (sym (length-filter (is_planned s) xs)) (count_by-le-length (is_planned s) xs)
 
+without_few : (s : GatherSetup) (before : List HeardCell) (m : Heard) → HasFew m → (counts_of s before m.cells).without_channel ≤ 128
+without_few s before m h = omega (arith, few_without s before (filter (is_planned s) m.cells), planned_few s m.cells, h.cells)
+
 counts_few : (s : GatherSetup) (before : List HeardCell) (m : Heard) → HasFew m → CountsFew (with_skipped m.unlisted (counts_of s before m.cells))
-counts_few s before m h = grind (arith, common_steps, count_by-le-length, planned_few)
+counts_few s before m h = record {
+  skipped = omega (arith, h.cells, h.unlisted, count_by-le-length (λ x. not (is_planned s x)) m.cells);
+  repeated = grind (arith, common_steps, count_by-le-length, planned_few);
+  crowded = grind (arith, common_steps, count_by-le-length, planned_few);
+  without = without_few s before m h;
+}
 
 counts_few_at : (s : GatherSetup) (xs : List Timed) (m : Heard) (o : Option ℕ) → HasFew m
     → CountsFew (option_map_or (λ u. with_skipped m.unlisted (counts_of s (offered s u xs) m.cells)) o no_counts)
-counts_few_at s xs m None h = record { skipped = omega arith; repeated = omega arith; crowded = omega arith }
+counts_few_at s xs m None h = record { skipped = omega arith; repeated = omega arith; crowded = omega arith; without = omega arith }
 counts_few_at s xs m (Some u) h = counts_few s (offered s u xs) m h
 
 -- ---- what a frame adds to each count

@@ -38,6 +38,7 @@ no_tally =
       skipped = 0;
       repeated = 0;
       crowded = 0;
+      without_channel = 0;
       epochs = 0;
     }
 
@@ -52,7 +53,13 @@ tally_by kind.Ignored = record one_frame { ignored = 1 }
 tally_by kind.Late = record one_frame { late = 1 }
 tally_by kind.PastWeeks = record one_frame { past = 1 }
 tally_by (kind.Kept n) =
-    record one_frame { taken = 1; skipped = n.skipped; repeated = n.repeated; crowded = n.crowded }
+    record one_frame {
+      taken = 1;
+      skipped = n.skipped;
+      repeated = n.repeated;
+      crowded = n.crowded;
+      without_channel = n.without_channel;
+    }
 tally_by kind.CloseFirst = one_frame
 
 -- what one frame adds to each count
@@ -78,6 +85,7 @@ counts_by others by = record others {
   skipped = by (λ t. t.skipped);
   repeated = by (λ t. t.repeated);
   crowded = by (λ t. t.crowded);
+  without_channel = by (λ t. t.without_channel);
 }
 
 -- both counts together

@@ -34,6 +34,8 @@ pub struct Report {
     pub repeated: u64,
     /// Cells beyond the 256 cells of a system in an epoch.
     pub crowded: u64,
+    /// Cells of GLONASS satellites without a channel, which have no phase and no Doppler shift.
+    pub without_channel: u64,
     /// Number of epochs in the file.
     pub epochs: u64,
 }
@@ -58,6 +60,7 @@ impl Report {
                 one.skipped = n.skipped as u64;
                 one.repeated = n.repeated as u64;
                 one.crowded = n.crowded as u64;
+                one.without_channel = n.without_channel as u64;
             }
             Some(Kind::CloseFirst) => {}
         }
@@ -81,6 +84,7 @@ impl Report {
             skipped: self.skipped.saturating_add(one.skipped),
             repeated: self.repeated.saturating_add(one.repeated),
             crowded: self.crowded.saturating_add(one.crowded),
+            without_channel: self.without_channel.saturating_add(one.without_channel),
             ..*self
         };
     }

@@ -252,6 +252,7 @@ fn goes_by_bit(alloc: Global, steps: &[Step]) -> bool {
 fn counts(kept: usize, repeated: usize, crowded: usize) -> Kind {
     Kind::Kept(CellCounts {
         kept,
+        without_channel: 0,
         skipped: 0,
         repeated,
         crowded,
@@ -261,6 +262,7 @@ fn counts(kept: usize, repeated: usize, crowded: usize) -> Kind {
 /// One cell, and it is kept.
 const KEPT: Kind = Kind::Kept(CellCounts {
     kept: 1,
+    without_channel: 0,
     skipped: 0,
     repeated: 0,
     crowded: 0,

@@ -12,7 +12,7 @@ use Rattle.rtcm_msg.specs.declared.entry.Entry.{Entry}
 use Rattle.rtcm_msg.specs.declared.view.Form.{Form}
 use Rattle.obs_epoch.specs.Heard.{Heard, seen_in}
 use Rattle.gnss_obs.specs.HeardCells.{HeardCell, kept_cell}
-use Rattle.obs_epoch.specs.Cells.{no_counts, with_skipped}
+use Rattle.obs_epoch.specs.Cells.{lacks_channel, no_counts, with_skipped}
 use Rattle.obs_epoch.specs.Kinds.{is_accepted}
 use Rattle.gnss_obs.specs.Values.{PlanValue, planned_of, CellLists, Closed, EpochValue, cells_of, cleared, empty_epoch, no_cells}
 use Rattle.gnss_obs.specs.Values.{satellites_written}
@@ -83,7 +83,7 @@ pub record Loaded : Type 0 where
   pub counts : CellCounts
 
 abbrev pub load_one : Loaded → HeardCell → Loaded
-load_one l x = record { state = hold l.state x; counts = count_in (outcome_in l.state x) l.counts }
+load_one l x = record { state = hold l.state x; counts = count_in (lacks_channel l.state.clock.setup x) (outcome_in l.state x) l.counts }
 
 -- More cells, one by one.
 abbrev pub load : Loaded → List HeardCell → Loaded

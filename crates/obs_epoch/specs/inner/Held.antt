@@ -1,6 +1,6 @@
 -- The kept cells and the lock records, and one step of each.
 use Rattle.std.specs.Prelude.{[], ℕ, ◌+◌, ◌-◌, ◌*◌, ◌≡◌, List, ◌∷◌, length, get_or, set, replicate}
-use Rattle.std.specs.Prelude.{count_by, fold, if◌then◌else◌, Option, Some, None, is_some}
+use Rattle.std.specs.Prelude.{Bool, count_by, fold, if◌then◌else◌, Option, Some, None, is_some}
 use Rattle.std.specs.Option.{option_map_or}
 use Rattle.gnss_system.specs.declared.system.System.{System}
 use Rattle.gnss_obs.specs.Values.{EpochValue, cells_of}
@@ -63,8 +63,9 @@ abbrev pub outcome_of : GatherSetup → List Cell → HeardCell → CellOutcome
 outcome_of s ms x =
     if is_planned s x then outcome_of_added (outcome_by (is_held ms x) (length ms)) else Skipped
 
-abbrev pub count_in : CellOutcome → CellCounts → CellCounts
-count_in Kept n = record n { kept = n.kept + 1 }
-count_in Skipped n = record n { skipped = n.skipped + 1 }
-count_in Repeated n = record n { repeated = n.repeated + 1 }
-count_in Crowded n = record n { crowded = n.crowded + 1 }
+-- One more cell, which has a channel or lacks it.
+abbrev pub count_in : Bool → CellOutcome → CellCounts → CellCounts
+count_in lacks Kept n = record n { kept = n.kept + 1; without_channel = n.without_channel + (if lacks then 1 else 0) }
+count_in lacks Skipped n = record n { skipped = n.skipped + 1 }
+count_in lacks Repeated n = record n { repeated = n.repeated + 1 }
+count_in lacks Crowded n = record n { crowded = n.crowded + 1 }

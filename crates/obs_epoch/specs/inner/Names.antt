@@ -21,7 +21,7 @@ pub use Rattle.gnss_system.specs.declared.system.System.TheVariants.{Gps}
 pub use Rattle.gnss_system.specs.declared.system.System.{System}
 pub use Rattle.gnss_system.specs.declared.tables.ListedSignal.{ListedSignal}
 pub use Rattle.obs_epoch.specs.inner.Calls.{IsCloseFirstExactly}
-pub use Rattle.obs_epoch.specs.Cells.{add, cells_at, cells_counted, counts_of, counts_of_message, firsts, firsts_after, has_listed_key, is_among, is_of_system, is_planned, kept, kept_of_all, no_counts, offered, with_skipped}
+pub use Rattle.obs_epoch.specs.Cells.{add, cells_at, cells_counted, counts_of, counts_of_message, firsts, firsts_after, has_listed_key, is_among, is_of_system, is_planned, kept, kept_of_all, kept_without, lacks_channel, no_counts, offered, with_skipped}
 pub use Rattle.obs_epoch.specs.Clock.{HasHeardMessages, State, closes_first, is_pending}
 pub use Rattle.obs_epoch.specs.Epochs.{cells_with_lli, closed_so_far, closed_times, epoch_at, is_shut, values_after_message, values_of}
 pub use Rattle.obs_epoch.specs.inner.GathererSteps.{Loaded, begun_by, closed_if, closed_noted, end_step, epoch_begun}

@@ -1,5 +1,5 @@
 use Rattle.rtcm_command.proofs.ConvertLemmas.{ends_refused, first_fault}
-use Rattle.rtcm_command.proofs.Names.{◌≡◌, ◌∙◌, inl, inr, refl, subst, sym, ℕ, List, Result, Ok, Err, BadSetup, Report, EndsConverting, PrintsLine, options_of, CommandFault, devices_of, passed, writer_of}
+use Rattle.rtcm_command.proofs.Names.{◌≡◌, ◌∙◌, ap, nat_lt, report_line, inl, inr, refl, subst, sym, ℕ, List, Result, Ok, Err, BadSetup, Report, EndsConverting, PrintsLine, options_of, CommandFault, devices_of, passed, writer_of}
 use Rattle.command_faults.specs.declared.fault.CommandFault.TheVariants as faults
 use Rattle.rtcm_command.proofs.command.convert.Goals as goal
 
@@ -46,6 +46,7 @@ returns g c =
         c.in_ok-setup.ensures,
         (λ bad. let no : ◌≡◌ {A = Result Report CommandFault} (Ok c.in_ok-report.report) (Err (faults.Convert BadSetup)) = end.bad_setup.1 bad in cc),
         end.ends.1,
-        subst (λ (t : List ℕ). PrintsLine t (at c.args.faults.now) (at c.print_line.new.faults)) (c.as_bytes.ensures.text ∙ c.report_line.ensures) c.print_line.ensures,
+        subst (λ (t : List ℕ). PrintsLine t (at c.args.faults.now) (at c.print_line.new.faults)) (c.as_bytes.ensures.text ∙ c.report_line.ensures ∙ ap (λ (n : ℕ). report_line (nat_lt 0 n) c.in_ok-report.report) c.signals-has_glonass.ensures.count)
+            c.print_line.ensures,
       ),
     )

@@ -1,7 +1,14 @@
 -- The counts in the order of the line: `add_count-K` adds the K-th after `bytes`, so that a new count moves the
 -- numbers after it by one.
-use Rattle.rtcm_command.proofs.Names.{[], codes, decimal, refl, counts_named, report_line, add_count, add_text, add_word, end_line}
+use Rattle.std.specs.Prelude.{◌∷◌, ◌++◌}
+use Rattle.line_texts.specs.Lines.{with_words}
+use Rattle.rtcm_command.specs.Reports.{channel_count}
+use Rattle.rtcm_command.proofs.Names.{◌≡◌, ◌∙◌, ap, sym, ℕ, List, [], codes, decimal, refl, counts_named, report_line, add_count, add_text, add_word, end_line}
 use Rattle.rtcm_command.proofs.convert.report_line.Goals as goal
+
+words_split : (text : List ℕ) (first last : List (List ℕ)) → with_words text (first ++ last) ≡ with_words (with_words text first) last
+words_split text [] last = refl
+words_split text (w ∷ ws) last = words_split (text ++ 0x20 ∷ w) ws last
 
 pub returns : goal.returns
 unfolding report_line
@@ -20,5 +27,6 @@ returns c =
     let skipped = add_count (codes "skipped") (decimal r.skipped) c.add_count-10.ensures.text taken in
     let repeated = add_count (codes "repeated") (decimal r.repeated) c.add_count-11.ensures.text skipped in
     let crowded = add_count (codes "crowded") (decimal r.crowded) c.add_count-12.ensures.text repeated in
-    let epochs = add_count (codes "epochs") (decimal r.epochs) c.add_count-13.ensures.text crowded in
-    end_line [] (codes "bytes") (counts_named c.args.report.now) c.finish.ensures epochs
+    let channel = c.add_channel_count.ensures.text ∙ ap (λ (l : List ℕ). with_words l (channel_count c.args.has_glonass r)) crowded in
+    let epochs = add_count (codes "epochs") (decimal r.epochs) c.add_count-13.ensures.text channel in
+    end_line [] (codes "bytes") (counts_named c.args.has_glonass c.args.report.now) c.finish.ensures (epochs ∙ sym (words_split _ (channel_count c.args.has_glonass r) (codes "epochs" ∷ decimal r.epochs ∷ [])))

@@ -10,6 +10,7 @@ invariant-loop-entry g l = record {
   pending : l.self.clock.pending ≡ true;
   cells : l.cells.form ≡ l.fn.cells.form;
   counted : cells_counted l.counts + length l.cells.left ≤ 64;
+  less : l.counts.without_channel ≤ l.counts.kept;
 }
 
 abbrev pub decreases-loop-entry : goal.decreases-loop-entry

@@ -1,5 +1,7 @@
-use Rattle.std.proofs.Common.{◌≡◌, ◌∙◌, sym, ap, ap₂, subst, true, is_some}
-use Rattle.obs_epoch.specs.inner.Names.{Cell, planned_of, heard_cell, kept_cell, place_in, GathererValue, hold, outcome_in, count_in, lli_with}
+use Rattle.std.proofs.Common.{◌≡◌, ◌∙◌, sym, ap, ap₂, subst, not, Bool, true, false, is_some}
+use Rattle.gnss_obs.specs.Channels.{ChannelsValue, hertz_in}
+use Rattle.gnss_obs.specs.Values.{PlanValue}
+use Rattle.obs_epoch.specs.inner.Names.{Cell, lacks_channel, planned_of, heard_cell, kept_cell, place_in, GathererValue, hold, outcome_in, count_in, lli_with}
 use Rattle.obs_epoch.proofs.ValueLemmas.{gathered_of, held_is, never_both, open_is, outcome_is, planned_added, planned_is}
 use Rattle.obs_epoch.proofs.gather.Gatherer.take_cell.Goals as goal
 
@@ -27,6 +29,10 @@ returns-clause-step c =
     ap (λ e. record g { epoch = e }) (open_is i.clock c.add.new.self i.closed going)
     ∙ held_is g x now (planned_is g.clock.setup x c.requires.observed.key planned) lli c.add.ensures ∙ ap (λ v. hold v x) c.self.view_is
 
+turned : (a b : Bool) → not a ≡ b → a ≡ not b
+turned true b e = ap not e
+turned false b e = ap not e
+
 pub returns-clause-counts : goal.returns-clause-counts
 returns-clause-counts c =
     let x = heard_cell c.args.x in
@@ -34,6 +40,9 @@ returns-clause-counts c =
     let g : GathererValue = gathered_of i.clock i.pending i.closed i.values i.locks i.marks i.counts i.chosen i.just_closed i.has_ended in
     let planned = subst (λ (v : GathererValue). is_some (place_in c.args.x.signal (planned_of c.args.x.satellite.system v.clock.setup.plan)) ≡ true) (sym c.self.view_is) c.requires.planned in
     let going : i.clock.pending ≡ true = ap (λ (v : GathererValue). v.clock.pending) c.self.view_is ∙ c.requires.pending in
+    let lacks : c.is_none.result ≡ lacks_channel c.args.self.now.clock.setup x =
+    turned c.is_none.result _ (sym c.is_none.ensures ∙ ap is_some (c.hertz-carrier.ensures.value
+    ∙ ap (λ (channels : ChannelsValue). hertz_in channels x.satellite x.signal) (c.channels.ensures ∙ ap (λ (p : PlanValue). p.channels) (c.plan.ensures ∙ ap (λ (v : GathererValue). v.clock.setup.plan) c.self.view_is)))) in
     c.count.ensures.counts
-    ∙ ap (λ o. count_in o c.args.n.now)
+    ∙ ap₂ (λ b o. count_in b o c.args.n.now) lacks
     (outcome_is g x c.lli.result (open_is i.clock i.pending i.closed going) (planned_is g.clock.setup x c.requires.observed.key planned) c.add.ensures ∙ ap (λ v. outcome_in v x) c.self.view_is)

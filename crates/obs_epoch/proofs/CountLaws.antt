@@ -1,0 +1,18 @@
+-- How many cells of a message can lack a channel.
+use Rattle.std.proofs.Common.{◌≡◌, ℕ, ◌+◌, ◌≤◌, Bool, true, false, not, ◌||◌, List, [], ◌∷◌, ◌++◌, arith, length, append_assoc, append-nil, nat_le, if◌then◌else◌, ap, refl}
+use Rattle.obs_epoch.specs.inner.Names.{GatherSetup, HeardCell, is_among, kept, kept_without, lacks_channel, most_cells}
+use Rattle.obs_epoch.proofs.CountsLemmas.{without-push}
+
+at_most_one : (a b : Bool) → (if a then (if b then 1 else 0) else 0) ≤ 1
+at_most_one true true = omega arith
+at_most_one true false = omega arith
+at_most_one false b = omega arith
+
+-- Each further cell is at most one more.
+pub few_without : (s : GatherSetup) (xs ys : List HeardCell) → kept_without s (xs ++ ys) ≤ kept_without s xs + length ys
+few_without s xs [] = let none : kept_without s (xs ++ []) ≡ kept_without s xs = ap (kept_without s) (append-nil xs) in omega (arith, none)
+few_without s xs (y ∷ ys) =
+    let a : Bool = is_among (kept y.satellite.system xs) y in
+    let n : Bool = nat_le most_cells (length (kept y.satellite.system xs)) in
+    let whole : kept_without s ((xs ++ y ∷ []) ++ ys) ≡ kept_without s (xs ++ y ∷ ys) = ap (kept_without s) (append_assoc xs (y ∷ []) ys) in
+    omega (arith, whole, few_without s (xs ++ y ∷ []) ys, without-push s xs y a n refl refl, at_most_one (not (a || n)) (lacks_channel s y))
