@@ -224,8 +224,12 @@ def convert(data: bytes, setup: Setup, texts: dict[str, str], has_ended: bool = 
     report = {"bytes": len(data), "skipped_bytes": len(data) - sum(6 + len(message) for _, message in frames)}
     report |= {"frames": len(frames), "faulty": len(frames) - len(messages)}
     report |= {kind: gathered.kinds.count(kind) for kind in KINDS}
-    outcomes = [outcome for time in gathered.times for outcome, _ in gathered.outcomes(time)]
-    report |= {outcome: outcomes.count(outcome) for outcome in ("skipped", "repeated", "crowded")}
+    outcomes = [(outcome, cell) for time in gathered.times for outcome, cell in gathered.outcomes(time)]
+    found = [outcome for outcome, _ in outcomes]
+    report |= {outcome: found.count(outcome) for outcome in ("skipped", "repeated", "crowded")}
+    if setup.plan["R"]:
+        keys = [cell.key for outcome, cell in outcomes if outcome == "kept"]
+        report["without_channel"] = sum(system == "R" and slot not in setup.channels for system, slot, _ in keys)
     return lines, report | {"epochs": len(written)}
 
 
