@@ -6,6 +6,7 @@ from .common import file_row, msm, row
 
 WEEK, DAY, HOUR = 604_800_000, 86_400_000, 3_600_000
 SENT = ["options", "--week"]
+USAGE = {"prints_usage": True}
 NEAR = ["options", "--near", "2024-02-07"]
 RECORDINGS = {
     "zed-f9t": ("samples/zed-f9t-2019-10-17.rtcm3", "2019-10-17"),
@@ -109,8 +110,8 @@ def order_rows() -> list[dict]:
         row("no-signal", SENT, [msm(1077, NOON, whole=255, strength=0), this]),
         row("a-week-and-a-date", [*SENT, "--near", "2024-02-07"], [first, this]),
         row("a-week-and-no-date", [*SENT, "--near", "x"], [first, this]),
-        row("the-flag-with-a-value", ["options", "--week=2300"], [first, this]),
-        row("the-flag-twice", ["options", "--week", "--week"], [first, this]),
+        row("the-flag-with-a-value", ["options", "--week=2300"], [first, this]) | USAGE,
+        row("the-flag-twice", ["options", "--week", "--week"], [first, this]) | USAGE,
     ]
 
 
