@@ -1,0 +1,30 @@
+#!/bin/sh
+# doppler.sh OBS: prints of how many satellite lines of an observation file the Doppler shift D of the first signal fits
+# the phase L, whose change a second is -D, and of how many it has the wrong sign, as of u-blox F9 receivers.
+# doppler.sh --turn OBS: prints the file with the other sign of each D.
+set -eu
+if test "$1" = --turn; then
+    exec awk '
+        /END OF HEADER/ { body = 1 }
+        body && /^[A-Z]/ {
+            for (n = 36; n < length($0); n += 64)
+                if (substr($0, n, 14) * 1)
+                    $0 = substr($0, 1, n - 1) sprintf("%14.3f", -substr($0, n, 14)) substr($0, n + 14)
+        }
+        { print }' "$2"
+fi
+awk '
+    /END OF HEADER/ { body = 1 }
+    $1 == ">" { time = 3600 * $5 + 60 * $6 + $7 }
+    body && /^[A-Z]/ {
+        id = substr($0, 1, 3)
+        phase = substr($0, 20, 14)
+        doppler = substr($0, 36, 14)
+        if (phase * doppler * last[id] && time > at[id]) {
+            rate = (last[id] - phase) / (time - at[id])
+            if ((rate - doppler) ^ 2 < (rate + doppler) ^ 2) right++; else wrong++
+        }
+        last[id] = phase
+        at[id] = time
+    }
+    END { print right + 0 " fit, " wrong + 0 " have the wrong sign" }' "$1"

@@ -1,0 +1,20 @@
+#!/bin/sh
+# nightly.sh [DAY [HOSTS]]: converts a day, by default yesterday, of each station in the file `stations`, one a line, by
+# day.sh in this folder, as many at once as there are processors. It prints a line for each station whose day lacks
+# something, and nothing of a good day; its status is the number of these, at most 101. The list is read each time.
+#
+# HOSTS, as `:,gnss@host`, in which `:` is this machine, take part by ssh. They see the current folder and this script
+# under the same names, and have rtcm2rinex and GNU parallel in the PATH of their shells.
+set -eu
+day=${1:-$(date -u -d yesterday +%F)}
+scripts=$(cd "$(dirname "$0")" && pwd)
+test -s stations || {
+    echo "stations: missing or empty" >&2
+    exit 1
+}
+if test $# -gt 1; then
+    set -- --sshlogin "$2" --workdir "$PWD"
+else
+    set --
+fi
+exec parallel "$@" --arg-file stations sh "$scripts/day.sh" {} "$day"

@@ -1,0 +1,17 @@
+#!/bin/sh
+# read-back.sh FILE ..: checks observation files, also compressed by gzip, and prints the number of epochs, the first
+# and the last time of each, or why it isn't accepted. It fails if one isn't.
+set -eu
+status=0
+for file; do
+    if times=$(gzip -cdf "$file" | rtcm2rinex check --times 2>&1); then
+        echo "$times" | awk -v file="$file" '
+            $1 == "epochs" { epochs = $2 }
+            $1 == "first" { first = $2 " " $3 }
+            $1 == "last" { print file ": " epochs " epochs from " first " to " $2 " " $3 }'
+    else
+        echo "$file: $times"
+        status=1
+    fi
+done
+exit "$status"
