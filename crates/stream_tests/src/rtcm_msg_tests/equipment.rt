@@ -1,4 +1,5 @@
 //! Messages 1007, 1008 and 1033.
+use rtcm_bits::LONGEST_MESSAGE;
 use rtcm_msg::{EquipmentFault, equipment_in};
 use std::test::*;
 
@@ -8,6 +9,9 @@ const MESSAGE: &[u8] = b"\x40\x90\x29\x03GPP\x07\x011\x01A\x00\x0223";
 
 /// Returns the fault of a message, if it has one.
 fn fault_of(message: &[u8]) -> Option<EquipmentFault> {
+    if message.len() > LONGEST_MESSAGE {
+        return None;
+    }
     match equipment_in(message) {
         Some(Err(fault)) => Some(fault),
         _ => None,
