@@ -15,4 +15,4 @@ _rtcm2rinex() {
         END { if (!has_value) print options }')
     COMPREPLY=($(compgen -W "$words" -- "$word"))
 }
-complete -F _rtcm2rinex rtcm2rinex
+complete -o default -F _rtcm2rinex rtcm2rinex
