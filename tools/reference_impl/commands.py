@@ -95,10 +95,17 @@ def signal_counts(messages: list[Message], station: int | None) -> dict[tuple[st
     return {signal: count for signal, count in counts.items() if count}
 
 
+def no_signal(data: bytes, messages: list[Message]) -> Fault:
+    """Returns the fault of a stream without signals: its bytes, its frames, and the MSMs of every station."""
+    msms = observed(messages, None)
+    return Fault(f"NoSignal bytes {len(data)} frames {len(frames_of(data))} msm {len(msms)}")
+
+
 def count_lines(data: bytes, station: int | None, numbers: set[int] = EVERY) -> list[str]:
-    counts = signal_counts(messages_of(frames_of(data), numbers), station)
+    messages = messages_of(frames_of(data), numbers)
+    counts = signal_counts(messages, station)
     if not counts:
-        raise Fault("NoSignal")
+        raise no_signal(data, messages)
     return [f"{system} {code} {count}" for (system, code), count in counts.items()]
 
 
@@ -173,7 +180,7 @@ def option_line(data: bytes, station: int | None, source: int | str | None = Non
         raise Fault(f"SeveralStations {stations[0]} {stations[1]}")
     counts = signal_counts(messages, station)
     if not counts:
-        raise Fault("NoSignal")
+        raise no_signal(data, messages)
     msms = observed(messages, station)
     text = "all" if any(msm.number % 10 in (5, 6) and counted(msm) for msm in msms) else "4,7"
     # those that are decoded with these options

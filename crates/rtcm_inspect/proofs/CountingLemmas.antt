@@ -3,7 +3,7 @@ use Rattle.devices.proofs.PrintingLaws.{Printed}
 use Rattle.rtcm_inspect.specs.CountedTimes.{greatest_in}
 use Rattle.rtcm_inspect.specs.inner.SaidWeeks.{AreSaidIn}
 use Rattle.rtcm_inspect.proofs.StreamLemmas.{Began}
-use Rattle.rtcm_inspect.proofs.Names.{◌≡◌, ◌∙◌, ap, inr, ◌*◌, ◌<◌, ◌≤◌, ◌^◌, sym, subst, arith, Bool, true, ℕ, List, [], ◌∷◌, ◌++◌, Option, Result, Ok, Err, length, length-append, append-nil, refl, Framed, frames_of, known_frames, Device, Devices, HasFailed, StreamFault, ⊤, InspectFault, ReaderFailures, culprit, stream_fault, AtFault, Passes, BreaksReading, PassesAll, PassesToLimit, Reads, FramerValue, most_bytes, AreSignalCounts, CountsMessage, SignalCountsValue, valued, inspected, HeardCell, inspected_of, message_at, MsgFault, Message, valued_in, valued_of, flat_map-append, AreFirst, EndsStream, ReadsTooMuch, Counts, StopsCounting, HasCounted, IsCounted, AreSignals, NeverFails, option_map_or, StreamSignals, piece_bytes, forms_had, channels_in}
+use Rattle.rtcm_inspect.proofs.Names.{◌≡◌, ◌∙◌, ap, inr, ◌+◌, ◌*◌, ◌<◌, ◌≤◌, ◌^◌, sym, subst, arith, Bool, true, ℕ, List, [], ◌∷◌, ◌++◌, Option, Result, Ok, Err, length, length-append, append-nil, refl, Framed, frames_of, known_frames, Device, Devices, HasFailed, StreamFault, ⊤, InspectFault, ReaderFailures, culprit, stream_fault, AtFault, Passes, BreaksReading, PassesAll, PassesToLimit, Reads, FramerValue, most_bytes, AreSignalCounts, CountsMessage, SignalCountsValue, valued, inspected, HeardCell, inspected_of, message_at, MsgFault, Message, valued_in, valued_of, flat_map-append, AreFirst, EndsStream, ReadsTooMuch, Counts, StopsCounting, HasCounted, IsCounted, AreSignals, NeverFails, option_map_or, StreamSignals, StreamCounts, AreFrameCounts, is_msm, msm_in, stream_counts, cond, filter-append, length-filter, count_by-le-length, piece_bytes, forms_had, channels_in}
 use Rattle.rtcm_inspect.specs.declared.fault.InspectFault.TheVariants as faults
 use Rattle.rtcm_scan.specs.declared.feed.StreamFault.TheVariants as stream
 
@@ -35,9 +35,24 @@ refused_counted {c} {wanted} {fs} f is h =
       few = omega (arith, h.few, length-append fs (f ∷ []), ap length all);
     }
 
+-- the MSMs of one more frame
+pub msm_more : (fs : List Framed) (f : Framed) {has : Bool} → is_msm (message_at f.message) ≡ has → length (msm_in (fs ++ f ∷ [])) ≡ length (msm_in fs) + length (cond has (f ∷ []) [])
+msm_more fs f is =
+    ap length (filter-append (λ g. is_msm (message_at g.message)) fs (f ∷ [])) ∙ length-append (msm_in fs) (msm_in (f ∷ []))
+    ∙ ap (λ (b : Bool). length (msm_in fs) + length (cond b (f ∷ []) [])) is
+
+pub msm_few : (fs : List Framed) → length (msm_in fs) ≤ length fs
+msm_few fs = let e = length-filter (λ g. is_msm (message_at g.message)) fs in let few = count_by-le-length (λ g. is_msm (message_at g.message)) fs in omega (arith, e, few)
+
+-- the numbers of a stream, of those of its bytes and of its frames
+pub all_numbers : {c : StreamCounts} (b : List ℕ) → c.bytes ≡ length b → AreFrameCounts c (frames_of b) → c ≡ stream_counts b
+all_numbers {c} b bytes h =
+    ap (λ (n : ℕ). record { bytes = n; frames = c.frames; msm = c.msm }) bytes ∙ ap (λ (n : ℕ). record { bytes = length b; frames = n; msm = c.msm }) h.frames
+    ∙ ap (λ (n : ℕ). record { bytes = length b; frames = length (frames_of b); msm = n }) h.msm
+
 -- no frame was counted
-pub none_counted : (c : StreamSignals) (wanted : Option ℕ) → AreSignalCounts c.signal_counts [] → c.forms ≡ forms_had wanted [] → c.channels ≡ channels_in wanted [] → AreFirst c.first wanted [] → AreSaidIn c.weeks wanted [] → AreSignals c wanted []
-none_counted c wanted signal_counts forms channels first weeks = record { counted = record { signal_counts = signal_counts; few = omega arith }; forms = forms; channels = channels; first = first; weeks = weeks }
+pub none_counted : (c : StreamSignals) (wanted : Option ℕ) → AreSignalCounts c.signal_counts [] → c.forms ≡ forms_had wanted [] → c.channels ≡ channels_in wanted [] → AreFirst c.first wanted [] → AreSaidIn c.weeks wanted [] → AreFrameCounts c.counts [] → AreSignals c wanted []
+none_counted c wanted signal_counts forms channels first weeks counts = record { counted = record { signal_counts = signal_counts; few = omega arith }; forms = forms; channels = channels; first = first; weeks = weeks; counts = counts }
 
 pub new_counts : (c : StreamSignals) → Counts c tt [] c tt []
 new_counts c = record { same = refl; counts = λ few begun. begun }
@@ -49,27 +64,36 @@ pub one_more_counted : {c0 : StreamSignals} (c : StreamSignals) {c2 : StreamSign
     → ((gs : List Framed) → c.channels ≡ channels_in c.station gs → c2.channels ≡ channels_in c.station (gs ++ f ∷ []))
     → ((gs : List Framed) → length gs < 2 ^ 56 → AreFirst c.first c.station gs → AreFirst c2.first c.station (gs ++ f ∷ []))
     → ((gs : List Framed) → c.first.tows.greatest ≡ greatest_in c.station gs → AreSaidIn c.weeks c.station gs → AreSaidIn c2.weeks c.station (gs ++ f ∷ []))
+    → ((gs : List Framed) → length gs < 2 ^ 56 → AreFrameCounts c.counts gs → AreFrameCounts c2.counts (gs ++ f ∷ []))
     → Counts c0 tt ps c tt fs → Counts c0 tt ps c2 tt (fs ++ f ∷ [])
-one_more_counted c {c2} {fs} f kept step forms channels first weeks s = record {
+one_more_counted c {c2} {fs} f kept step forms channels first weeks counts s = record {
   same = kept ∙ s.same;
   counts = λ few begun.
       let fewer : length fs < 2 ^ 56 = omega (arith, length-append fs (f ∷ []), few) in
       let before : AreSignals c c.station fs = subst (λ (wanted : Option ℕ). AreSignals c wanted fs) (sym s.same) (s.counts fewer begun) in
-      subst (λ (wanted : Option ℕ). AreSignals c2 wanted (fs ++ f ∷ [])) s.same (record { counted = step fs fewer before.counted; forms = forms fs before.forms; channels = channels fs before.channels; first = first fs fewer before.first; weeks = weeks fs before.first.tows.greatest before.weeks });
+      subst (λ (wanted : Option ℕ). AreSignals c2 wanted (fs ++ f ∷ [])) s.same (record { counted = step fs fewer before.counted; forms = forms fs before.forms; channels = channels fs before.channels; first = first fs fewer before.first; weeks = weeks fs before.first.tows.greatest before.weeks; counts = counts fs fewer before.counts });
 }
+
+-- with the number of bytes
+abbrev pub with_bytes : StreamSignals → ℕ → StreamSignals
+with_bytes c n = record c { counts = record c.counts { bytes = n } }
+
+with_bytes_counted : {c : StreamSignals} {wanted : Option ℕ} {fs : List Framed} (n : ℕ) → AreSignals c wanted fs → AreSignals (with_bytes c n) wanted fs
+with_bytes_counted n h = record { counted = h.counted; forms = h.forms; channels = h.channels; first = h.first; weeks = h.weeks; counts = record { frames = h.counts.frames; msm = h.counts.msm } }
 
 -- ---- a stream that is counted from its start
 
 module _ {v : FramerValue} {c c2 : StreamSignals} {limit : ℕ} (v2 : FramerValue) (r r2 : Option (List ℕ)) (began : Began Counts v c tt limit) where
-  -- to its end
-  pub counted_all : v2.has_ended ≡ true → AreSignals c c.station [] → ((b : List ℕ) → 6 * length (frames_of b) ≤ length b)
-      → PassesAll Counts v c tt v2 c2 tt r r2 → HasCounted c2 c.station r r2
-  counted_all ended begun law p =
+  -- to its end, after n bytes
+  pub counted_all : (n : ℕ) → n ≡ v2.taken → v2.has_ended ≡ true → AreSignals c c.station [] → ((b : List ℕ) → 6 * length (frames_of b) ≤ length b)
+      → PassesAll Counts v c tt v2 c2 tt r r2 → HasCounted (with_bytes c2 n) c.station r r2
+  counted_all n taken ended begun law p =
       let b : List ℕ = p.0.0 in
       let all = p.0.2 c tt [] [] began.new in
       let counts = subst (λ (e : Bool). length (known_frames e b) < 2 ^ 56 → AreSignals c c.station [] → AreSignals c2 c.station (known_frames e b)) ended all.passed.taken.counts in
       let few : length (frames_of b) < 2 ^ 56 = omega (arith, law b, all.passed.framer.history.taken, all.passed.framer.within, all.passed.framer.limit) in
-      (b, p.0.1, p.1, all.passed.taken.same, counts few begun)
+      let are = with_bytes_counted n (counts few begun) in
+      (b, p.0.1, p.1, all.passed.taken.same, are, all_numbers b (taken ∙ all.passed.framer.history.taken) are.counts)
 
   -- over the limit
   pub counted_too_much : Reads r r2 (PassesToLimit Counts v c tt v2 c2 tt) → ReadsTooMuch limit r r2
@@ -95,7 +119,7 @@ counted_reads stream.TooLong before after h = h
 counted_reads (stream.Sink fault) before after h = h
 
 -- the text of a stream was printed, or a part of it
-pub stream_printed : {R W : Type 0} {text : List ℕ} (IsText : List Framed → List ℕ → Type 0) (IsRefused : List Framed → InspectFault → Type 0) (d d2 : Devices R W) (ended : Result ⊤ InspectFault) {s : StreamSignals} {wanted : Option ℕ}
+pub stream_printed : {R W : Type 0} {text : List ℕ} (IsText : List Framed → List ℕ → Type 0) (IsRefused : List ℕ → InspectFault → Type 0) (d d2 : Devices R W) (ended : Result ⊤ InspectFault) {s : StreamSignals} {wanted : Option ℕ}
     (h : HasCounted s wanted d.reader.unread d2.reader.unread) → IsText (frames_of h.0) text → d2.reader.device.failures ≡ d.reader.device.failures → Printed faults.Write ended d.writer d2.writer text
     → EndsStream ended IsText IsRefused d d2
 stream_printed {text = text} IsText IsRefused d d2 (Ok u) h is same p = ((same, p.ends.0, p.ends.1), (h.0, h.1, h.2, (text, is, p.ends.2)))

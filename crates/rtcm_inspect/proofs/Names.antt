@@ -41,7 +41,7 @@ pub use Rattle.rtcm_bits.specs.FrameOf.{frame_bytes, longest_message, longest_me
 pub use Rattle.rtcm_bits.specs.Prefix.{IsPrefix}
 pub use Rattle.devices.specs.declared.counted.DeviceFailed.{DeviceFailed}
 pub use Rattle.rtcm_bits.proofs.SmallLaws.{of_ok, passed}
-pub use Rattle.rtcm_inspect.specs.inner.Counting.{AreSignals, Counts, HasCounted, IsCounted, NeverFails, StopsCounting}
+pub use Rattle.rtcm_inspect.specs.inner.Counting.{AreFrameCounts, AreSignals, Counts, HasCounted, IsCounted, NeverFails, StopsCounting}
 pub use Rattle.rtcm_inspect.specs.Devices.{culprit, stream_fault}
 pub use Rattle.rtcm_inspect.specs.FirstMessages.{AreFirst, first_station, mixed_of, point_of, sender, stations_of}
 pub use Rattle.rtcm_inspect.specs.FirstTwo.{first_two, with_other}
@@ -64,10 +64,12 @@ pub use Rattle.rtcm_inspect.specs.SignalLaws.{SkipsOnly}
 unfoldable pub use Rattle.rtcm_inspect.specs.Signals.{count_line}
 pub use Rattle.rtcm_inspect.specs.Signals.{AreSignalsOf, AreSignalsRefused, code_list, codes_word, count_lines, decodes, forms_had, had, had_below, has_counted, has_other_value, is_of_other, lines_below, needs_all, plan_had, plan_in, set_had, signals_text, valued_in, valued_of, with_forms}
 pub use Rattle.rtcm_inspect.specs.StreamOutput.{EndsStream, ReadsTooMuch}
+pub use Rattle.rtcm_inspect.specs.StreamCounts.{is_msm, msm_in, stream_counts}
 pub use Rattle.rtcm_inspect.specs.StreamChannels.{channels_in, sent_by, sent_in, sent_of, with_first, with_sent}
 pub use Rattle.rtcm_inspect.specs.WeekLaws.{first_time}
 pub use Rattle.rtcm_inspect.specs.declared.counting.StreamSignals.{StreamSignals}
 pub use Rattle.rtcm_inspect.specs.declared.fault.InspectFault.{InspectFault}
+pub use Rattle.rtcm_inspect.specs.declared.fault.StreamCounts.{StreamCounts}
 pub use Rattle.rtcm_inspect.specs.declared.first_messages.FirstMessages.{FirstMessages}
 pub use Rattle.rtcm_inspect.specs.declared.first_two.FirstTwo.{FirstTwo}
 pub use Rattle.rtcm_inspect.specs.declared.first_two.FirstTwo.TheVariants.{One, Several}

@@ -19,7 +19,7 @@ use Rattle.rtcm_inspect.specs.declared.first_tows.PlacedTow.{PlacedTow}
 use Rattle.rtcm_inspect.specs.inner.FirstTows.{AreTows, IsGreatestAt, earliest, greatest_among, placed_by}
 use Rattle.gnss_system.specs.Systems.{systems}
 use Rattle.rtcm_inspect.proofs.CountedLemmas.{at_end, at_none}
-use Rattle.rtcm_inspect.proofs.Names.{◌≡◌, ◌∙◌, ◌+◌, ◌-◌, ◌*◌, ◌/◌, ◌%◌, ◌<◌, ◌≤◌, [], ◌∷◌, ℕ, Bool, false, true, List, Option, Some, None, IfSome, IsWeekFor, FirstTwo, ap, ap₂, arith, first_tow, first_two, list_any, not, set_had, option_and_then, option_map, option_or, refl, subst, sym, Framed, MsmSet}
+use Rattle.rtcm_inspect.proofs.Names.{◌≡◌, ◌∙◌, ◌+◌, ◌-◌, ◌*◌, ◌/◌, ◌%◌, ◌<◌, ◌≤◌, [], ◌∷◌, ℕ, Bool, false, true, List, Option, Some, None, IfSome, IsWeekFor, FirstTwo, frames_of, ap, ap₂, arith, first_tow, first_two, list_any, not, set_had, option_and_then, option_map, option_or, refl, subst, sym, Framed, MsmSet}
 
 -- ---- the greatest time at the first MSM of a set
 
@@ -84,13 +84,13 @@ nearest noon tow rest small = (omega (arith, small), omega (arith, small), each)
 
 -- ---- a week that is refused
 
-pub week_refused : (source : WeekSource) (wanted : Option ℕ) (fs : List Framed) (fault : InspectFault) → HasSignals wanted fs → IsWeekRefused source wanted fs fault → AreOptionsRefused source wanted fs fault
-week_refused Unprinted wanted fs fault signals h = absurd h
-week_refused (Near noon) wanted fs (faults.OtherWeek date) signals h = (signals, h)
-week_refused (Near noon) wanted fs other signals h = absurd h
-week_refused Ephemerides wanted fs faults.NoWeek signals h = (signals, h)
-week_refused Ephemerides wanted fs (faults.SeveralWeeks a b) signals h = (signals, h)
-week_refused Ephemerides wanted fs other signals h = absurd h
+pub week_refused : (source : WeekSource) (wanted : Option ℕ) (b : List ℕ) (fault : InspectFault) → HasSignals wanted (frames_of b) → IsWeekRefused source wanted (frames_of b) fault → AreOptionsRefused source wanted b fault
+week_refused Unprinted wanted b fault signals h = absurd h
+week_refused (Near noon) wanted b (faults.OtherWeek date) signals h = (signals, h)
+week_refused (Near noon) wanted b other signals h = absurd h
+week_refused Ephemerides wanted b faults.NoWeek signals h = (signals, h)
+week_refused Ephemerides wanted b (faults.SeveralWeeks first other) signals h = (signals, h)
+week_refused Ephemerides wanted b other signals h = absurd h
 
 -- ---- a week near a date
 

@@ -3,7 +3,6 @@ use Rattle.std.specs.Prelude.{◌≡◌, Result, Ok, Err, List, ℕ}
 use Rattle.std.specs.Io.KnownBytes.{Consumes, IsAtEnd}
 use Rattle.devices.specs.Device.{Device}
 use Rattle.devices.specs.Devices.{Culprit, Devices, NoDevice, ReaderFailures, TheReader, TheWriter}
-use Rattle.rtcm_scan.specs.Frames.{Framed, frames_of}
 use Rattle.rtcm_scan.specs.declared.feed.StreamFault.{StreamFault}
 use Rattle.rtcm_scan.specs.declared.feed.StreamFault.TheVariants as stream
 use Rattle.rtcm_scan.specs.declared.framer.ScanFault.TheVariants as scan
@@ -27,7 +26,7 @@ abbrev pub CountsReader : {T A : Type 0} → Result A InspectFault → Device T 
 CountsReader (Ok x) r r' = r'.failures ≡ r.failures
 CountsReader (Err fault) r r' = ReaderFailures (culprit fault) r.failures r'.failures
 
--- the stream was read to its end, and P holds for its frames
-abbrev pub ReadsStream : {R W : Type 0} → (d d' : Devices R W) → (List Framed → Type 0) → Type 0
+-- the stream was read to its end, and P holds for its bytes
+abbrev pub ReadsStream : {R W : Type 0} → (d d' : Devices R W) → (List ℕ → Type 0) → Type 0
 ReadsStream d d' P =
-    (b : List ℕ) × Consumes d.reader.unread d'.reader.unread b × IsAtEnd d'.reader.unread × P (frames_of b)
+    (b : List ℕ) × Consumes d.reader.unread d'.reader.unread b × IsAtEnd d'.reader.unread × P b

@@ -50,7 +50,9 @@ inspection_words inspect.Read = codes "Read" ∷ []
 inspection_words inspect.Write = codes "Write" ∷ []
 inspection_words (inspect.Scan e) = scan_word e ∷ []
 inspection_words (inspect.SeveralStations a b) = codes "SeveralStations" ∷ decimal a ∷ decimal b ∷ []
-inspection_words inspect.NoSignal = codes "NoSignal" ∷ []
+inspection_words (inspect.NoSignal counts) =
+    codes "NoSignal" ∷ codes "bytes" ∷ decimal counts.bytes ∷ codes "frames" ∷ decimal counts.frames
+    ∷ codes "msm" ∷ decimal counts.msm ∷ []
 inspection_words inspect.NoWeek = codes "NoWeek" ∷ []
 inspection_words (inspect.SeveralWeeks a b) = codes "SeveralWeeks" ∷ decimal a ∷ decimal b ∷ []
 inspection_words (inspect.OtherWeek date) = codes "OtherWeek" ∷ week_words date

@@ -6,6 +6,7 @@ pub mod Devices
 pub mod Listing
 pub mod ReadBack
 pub mod Inspected
+pub mod StreamCounts
 pub mod FirstTwo
 pub mod FirstMessages
 pub mod CountedTimes

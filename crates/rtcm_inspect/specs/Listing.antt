@@ -5,7 +5,7 @@ use Rattle.std.specs.List.{flat_map}
 use Rattle.std.specs.Io.KnownBytes.{Appends, Consumes, IsAtEnd}
 use Rattle.devices.specs.Device.{AppendsPrefix, Device, FailsWith, HasFailed, IsBetween}
 use Rattle.devices.specs.declared.counted.DeviceFailed.{DeviceFailed}
-use Rattle.rtcm_scan.specs.Frames.{Framed}
+use Rattle.rtcm_scan.specs.Frames.{Framed, frames_of}
 use Rattle.rtcm_scan.specs.Decided.{decided_frames}
 use Rattle.rtcm_scan.specs.Known.{known_frames}
 use Rattle.rtcm_scan.specs.declared.framer.ScanFault.TheVariants as scan
@@ -32,7 +32,7 @@ listing_lines listing fs = flat_map (listing_line listing) fs
 
 -- the stream was read to its end, and the lines of its frames were written
 abbrev pub ListsAll : {R W : Type 0} → (List Framed → List ℕ) → (d d' : Devices R W) → Type 0
-ListsAll lines d d' = ReadsStream d d' (λ fs. Appends d.writer.written d'.writer.written (lines fs))
+ListsAll lines d d' = ReadsStream d d' (λ b. Appends d.writer.written d'.writer.written (lines (frames_of b)))
 
 -- some bytes were read, and the lines of the frames that they decide were written
 abbrev pub ListsDecided : {R W : Type 0} → (List Framed → List ℕ) → (d d' : Devices R W) → Type 0

@@ -1,6 +1,6 @@
 -- The output of the command `options`.
 use Rattle.std.specs.Prelude.{◌≡◌, ℕ, ◌<◌, Bool, false, true, List, [], length, Option, Some, None, IfSome}
-use Rattle.rtcm_scan.specs.Frames.{Framed}
+use Rattle.rtcm_scan.specs.Frames.{Framed, frames_of}
 use Rattle.rtcm_inspect.specs.FaultWords.{week_date}
 use Rattle.rtcm_inspect.specs.FirstMessages.{mixed}
 use Rattle.rtcm_inspect.specs.FirstTwo.{first_two}
@@ -10,6 +10,7 @@ use Rattle.line_texts.specs.LeapSeconds.{leap_at}
 use Rattle.rtcm_inspect.specs.NearWeek.{IsWeekFor}
 use Rattle.rtcm_inspect.specs.SentWeeks.{IsOtherTime, first_msm, is_denied, leap_by, rests_in, week_by, whole_in}
 use Rattle.rtcm_inspect.specs.Signals.{set_had, valued_in}
+use Rattle.rtcm_inspect.specs.StreamCounts.{stream_counts}
 use Rattle.rtcm_inspect.specs.declared.fault.InspectFault.{InspectFault}
 use Rattle.rtcm_inspect.specs.declared.fault.InspectFault.TheVariants as faults
 use Rattle.rtcm_inspect.specs.declared.first_two.FirstTwo.TheVariants.{One, Several}
@@ -60,9 +61,12 @@ abbrev pub AreOptionsOf : WeekSource → (wanted : Option ℕ) → List Framed �
 AreOptionsOf source wanted fs text = HasSignals wanted fs × ((w : Option ℕ) × (leap : Option ℕ)
     × IsPrinted source wanted fs w leap × (text ≡ options_text w leap wanted fs))
 
--- The messages of several stations count, of which these are the first two; or of one, and no cell has a value, or the
--- week is refused.
-abbrev pub AreOptionsRefused : WeekSource → Option ℕ → List Framed → InspectFault → Type 0
-AreOptionsRefused source wanted fs (faults.SeveralStations a b) = mixed wanted fs ≡ Some (a, b)
-AreOptionsRefused source wanted fs faults.NoSignal = (mixed wanted fs ≡ None) × (valued_in wanted fs ≡ [])
-AreOptionsRefused source wanted fs other = HasSignals wanted fs × IsWeekRefused source wanted fs other
+-- Of this stream the messages of several stations count, of which these are the first two; or of one, and no cell has a
+-- value, and these are its numbers, or the week is refused.
+abbrev pub AreOptionsRefused : WeekSource → Option ℕ → List ℕ → InspectFault → Type 0
+AreOptionsRefused source wanted b (faults.SeveralStations first other) =
+    mixed wanted (frames_of b) ≡ Some (first, other)
+AreOptionsRefused source wanted b (faults.NoSignal counts) = (mixed wanted (frames_of b) ≡ None)
+    × (valued_in wanted (frames_of b) ≡ []) × (counts ≡ stream_counts b)
+AreOptionsRefused source wanted b other =
+    HasSignals wanted (frames_of b) × IsWeekRefused source wanted (frames_of b) other

@@ -3,7 +3,7 @@ use Rattle.std.specs.Prelude.{◌≡◌, ◌<◌, ℕ, nat_lt, List, [], ◌∷�
 use Rattle.std.specs.Prelude.{Bool, false, not, ◌&&◌, ◌||◌, Result, Ok, Err, if◌then◌else◌}
 use Rattle.std.specs.Option.{option_map_or}
 use Rattle.std.specs.List.{join_with_byte, list_any}
-use Rattle.rtcm_scan.specs.Frames.{Framed}
+use Rattle.rtcm_scan.specs.Frames.{Framed, frames_of}
 use Rattle.gnss_system.specs.declared.system.System.{System}
 use Rattle.gnss_system.specs.Systems.{systems}
 use Rattle.gnss_system.specs.SystemValues.{tabulate}
@@ -26,6 +26,7 @@ use Rattle.gnss_obs.specs.Values.{PlanValue, plan_with}
 use Rattle.rtcm_inspect.specs.Inspected.{inspected, inspected_at}
 use Rattle.line_texts.specs.Lines.{line}
 use Rattle.rtcm_inspect.specs.StreamChannels.{channels_in}
+use Rattle.rtcm_inspect.specs.StreamCounts.{stream_counts}
 use Rattle.gnss_obs.specs.HeardCells.{HeardCell}
 use Rattle.rtcm_inspect.specs.declared.fault.InspectFault.{InspectFault}
 use Rattle.rtcm_inspect.specs.declared.fault.InspectFault.TheVariants as faults
@@ -120,7 +121,8 @@ signals_text wanted fs = flat_map (count_lines (valued_in wanted fs)) systems
 abbrev pub AreSignalsOf : Option ℕ → List Framed → List ℕ → Type 0
 AreSignalsOf wanted fs text = (0 < length (valued_in wanted fs)) × (text ≡ signals_text wanted fs)
 
--- No cell has a value.
-abbrev pub AreSignalsRefused : Option ℕ → List Framed → InspectFault → Type 0
-AreSignalsRefused wanted fs faults.NoSignal = valued_in wanted fs ≡ []
-AreSignalsRefused wanted fs other = ⊥
+-- No cell of this stream has a value, and these are its numbers.
+abbrev pub AreSignalsRefused : Option ℕ → List ℕ → InspectFault → Type 0
+AreSignalsRefused wanted b (faults.NoSignal counts) =
+    (valued_in wanted (frames_of b) ≡ []) × (counts ≡ stream_counts b)
+AreSignalsRefused wanted b other = ⊥

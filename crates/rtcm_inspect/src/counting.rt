@@ -1,13 +1,16 @@
 //! The signals of a stream, counted while it is read.
-ghost use Rattle.std.specs.Prelude.{◌≡◌, IfOk, IfErr, length, nat_lt};
+ghost use Rattle.std.specs.Prelude.{◌≡◌, ◌<◌, ◌^◌, ◌++◌, ◌∷◌, [], List, Ok, IfOk, IfErr, length, nat_lt};
+ghost use Rattle.rtcm_msg.specs.Decoding.{message_at};
 ghost use Rattle.rtcm_msg.specs.inner.Viewed.{viewed_message};
+ghost use Rattle.rtcm_scan.specs.Frames.{Framed};
 ghost use Rattle.obs_epoch.specs.SignalCounts.{valued};
 ghost use Rattle.rtcm_inspect.specs.Inspected.{inspected};
 ghost use Rattle.rtcm_inspect.specs.Signals.{with_forms};
-ghost use Rattle.rtcm_inspect.specs.inner.Counting.{HasCounted, StopsCounting};
+ghost use Rattle.rtcm_inspect.specs.StreamCounts.{is_msm};
+ghost use Rattle.rtcm_inspect.specs.inner.Counting.{AreFrameCounts, HasCounted, StopsCounting};
 ghost use Rattle.rtcm_inspect.specs.Devices.{CountsReader};
 
-use crate::fault::InspectFault;
+use crate::fault::{InspectFault, StreamCounts};
 use crate::first_messages::{FirstMessages, is_of_other};
 use crate::listing::PIECE_BYTES;
 use crate::said_weeks::SaidWeeks;
@@ -36,6 +39,8 @@ pub struct StreamSignals {
     pub first: FirstMessages,
     /// What the ephemerides say of the week.
     pub weeks: SaidWeeks,
+    /// The numbers of frames and MSMs; that of bytes is known at the end.
+    pub counts: StreamCounts,
 }
 
 impl FrameSink<()> for StreamSignals {
@@ -55,6 +60,7 @@ impl FrameSink<()> for StreamSignals {
         // Not `look`, which would copy the view for each message.
         match &look_in(&MsmSet::all(), message) {
             Ok(view) => {
+                self.counts.add_frame(is_msm(view));
                 self.signal_counts.count_view(self.station, view);
                 add_form(&mut self.forms, self.station, view);
                 add_sent_channels(&mut self.channels, self.station, message, view);
@@ -62,13 +68,37 @@ impl FrameSink<()> for StreamSignals {
                 Ok(())
             }
             // A refused message has no cells.
-            Err(_) => Ok(()),
+            Err(_) => {
+                self.counts.add_frame(false);
+                Ok(())
+            }
         }
     }
 
     fn send(&self, _out: &mut ()) -> Result<(), DeviceFailed> {
         Ok(())
     }
+}
+
+impl StreamCounts {
+    /// Adds one more frame.
+    fn add_frame(&mut self, has_msm: bool)
+        ensures { (fs : List Framed) (f : Framed) → is_msm (message_at f.message) ≡ has_msm
+            → length fs < 2 ^ 56 → AreFrameCounts self.old fs → AreFrameCounts self.new (fs ++ f ∷ []) }
+    {
+        // No stream has 2^64 frames.
+        self.frames = self.frames.wrapping_add(1);
+        if has_msm {
+            self.msm = self.msm.wrapping_add(1);
+        }
+    }
+}
+
+/// Returns whether a message is an MSM.
+fn is_msm(view: &View<'_>) -> bool
+    ensures { result ≡ is_msm (Ok (viewed_message view.now)) }
+{
+    matches!(view, View::Msm(_))
 }
 
 /// Adds one more message to the forms: they are all, if it is an MSM in another form, and has a cell
@@ -122,12 +152,17 @@ pub fn read_signals<R: Read>(
         channels: Channels::none(),
         first: FirstMessages::new(),
         weeks,
+        counts: StreamCounts {
+            bytes: 0,
+            frames: 0,
+            msm: 0,
+        },
     };
     let mut buffer = [0; PIECE_BYTES];
     laws::prefix();
     let read = framer.read_frames(reader, &mut buffer, &mut signals, &mut ());
     // At most the limit's number of bytes was read, so no count reaches its largest number.
-    let _ = framer.taken();
+    signals.counts.bytes = framer.taken();
     drop(framer);
     match read {
         Ok(()) => Ok(signals),

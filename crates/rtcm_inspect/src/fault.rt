@@ -28,14 +28,25 @@ pub enum InspectFault {
     /// The MSMs and station messages of the stream are of these two stations, or more, and none was
     /// given.
     SeveralStations(u16, u16),
-    /// No cell of the stream has a value.
-    NoSignal,
+    /// No cell of the stream, which has these numbers, has a value.
+    NoSignal(StreamCounts),
     /// No ephemeris of the stream says the week.
     NoWeek,
     /// The ephemerides of the stream say these two weeks, or more.
     SeveralWeeks(u32, u32),
     /// The ephemerides of the stream say this week, and not the one near the date.
     OtherWeek(WeekDate),
+}
+
+/// The numbers of a stream: an empty one, another format and a stream without MSMs differ in them.
+#[derive(Clone, Copy, Debug, PartialEq, Eq)]
+pub struct StreamCounts {
+    /// Number of bytes.
+    pub bytes: u64,
+    /// Number of frames.
+    pub frames: u64,
+    /// Number of MSM4 to MSM7 that are decoded, of every system and station.
+    pub msm: u64,
 }
 
 /// A GPS week and a date in it.
@@ -69,8 +80,8 @@ impl From<StreamFault<DeviceFailed>> for InspectFault {
     }
 }
 
-/// Adds the name of a fault of a stream, with the numbers of the stations or weeks, or the week and the
-/// date, if any.
+/// Adds the name of a fault of a stream, with the numbers of the stations, weeks or stream, or the week
+/// and the date, if any.
 pub fn add_inspection_error(line: &mut OutputLine, fault: InspectFault)
     requires { length line.old ≤ longest_start }
     ensures text { line.new ≡ with_words line.old (inspection_words fault) }
@@ -87,7 +98,12 @@ pub fn add_inspection_error(line: &mut OutputLine, fault: InspectFault)
             line.add_count("SeveralStations", u64::from(first));
             line.add_number(u64::from(other));
         }
-        InspectFault::NoSignal => line.add_word("NoSignal"),
+        InspectFault::NoSignal(counts) => {
+            line.add_word("NoSignal");
+            line.add_count("bytes", counts.bytes);
+            line.add_count("frames", counts.frames);
+            line.add_count("msm", counts.msm);
+        }
         InspectFault::NoWeek => line.add_word("NoWeek"),
         InspectFault::SeveralWeeks(first, other) => {
             line.add_count("SeveralWeeks", u64::from(first));

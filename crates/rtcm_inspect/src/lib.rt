@@ -28,7 +28,9 @@ mod said_weeks;
 mod signals;
 mod stream_channels;
 
-pub use fault::{InspectFault, WeekDate, add_header_error, add_inspection_error, add_plan_error};
+pub use fault::{
+    InspectFault, StreamCounts, WeekDate, add_header_error, add_inspection_error, add_plan_error,
+};
 pub use listing::{Listing, list, run_frames, run_show};
 pub use options::run_options;
 pub use printed_week::WeekSource;

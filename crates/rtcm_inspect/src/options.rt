@@ -1,12 +1,12 @@
 //! The command `options`: the options of `convert` that fit a stream.
 ghost use Rattle.std.specs.Prelude.{◌≡◌, ◌+◌, ◌*◌, ◌<◌, ◌≤◌, ◌∷◌, ◌++◌, [], codes, flat_map, List, Option, IfOk, IfErr};
-ghost use Rattle.std.specs.Prelude.{IfSome, Some, length};
+ghost use Rattle.std.specs.Prelude.{ℕ, IfSome, Some, length};
 ghost use Rattle.gnss_obs.specs.Channels.{slot_count};
 ghost use Rattle.gnss_obs.specs.HeardCells.{HeardCell};
 ghost use Rattle.gnss_system.specs.Systems.{systems};
 ghost use Rattle.devices.specs.Devices.{Changes};
 ghost use Rattle.rtcm_msg.specs.Station.{InRange};
-ghost use Rattle.rtcm_scan.specs.Frames.{Framed};
+ghost use Rattle.rtcm_scan.specs.Frames.{Framed, frames_of};
 ghost use Rattle.obs_epoch.specs.inner.SignalCounts.{AreSignalCounts};
 ghost use Rattle.line_texts.specs.ChannelTexts.{channels_text};
 ghost use Rattle.line_texts.specs.Lines.{longest_line, longest_number, with_words};
@@ -17,6 +17,7 @@ ghost use Rattle.rtcm_inspect.specs.Fitting.{other_words, station_words};
 ghost use Rattle.rtcm_inspect.specs.inner.Lines.{longest_codes, longest_name, longest_option, longest_options};
 ghost use Rattle.rtcm_inspect.specs.inner.Lines.{longest_plan};
 ghost use Rattle.rtcm_inspect.specs.OptionOutput.{AreOptionsOf, AreOptionsRefused};
+ghost use Rattle.rtcm_inspect.specs.StreamCounts.{stream_counts};
 ghost use Rattle.rtcm_inspect.specs.StreamOutput.{EndsStream};
 ghost use Rattle.rtcm_inspect.specs.Signals.{codes_word, had, plan_had, plan_in};
 
@@ -81,12 +82,12 @@ fn options_of(signals: &StreamSignals, source: WeekSource) -> Result<OptionsText
     requires { IfSome signals.now.first.point InRange }
     ensures line { (fs : List Framed) → AreSignals signals.now signals.now.station fs
         → IfOk result (λ text. AreOptionsOf source signals.now.station fs text.items) }
-    ensures refused { (fs : List Framed) → AreSignals signals.now signals.now.station fs
-        → IfErr result (AreOptionsRefused source signals.now.station fs) }
+    ensures refused { (b : List ℕ) → AreSignals signals.now signals.now.station (frames_of b)
+        → signals.now.counts ≡ stream_counts b → IfErr result (AreOptionsRefused source signals.now.station b) }
 {
     match signals.first.stations.mixed(signals.station) {
         Some((first, other)) => Err(InspectFault::SeveralStations(first, other)),
-        None if !signals.signal_counts.has_any() => Err(InspectFault::NoSignal),
+        None if !signals.signal_counts.has_any() => Err(InspectFault::NoSignal(signals.counts)),
         None => {
             let printed = printed_week(signals, source)?;
             Ok(options_line(signals, printed.week, printed.leap))

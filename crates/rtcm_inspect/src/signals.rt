@@ -45,7 +45,7 @@ pub fn run_signals<R: Read, W: Deliver>(
     deliver_waiting(writer, InspectFault::Write)?;
     let signals = read_signals(alloc, station, reader)?;
     if !signals.signal_counts.has_any() {
-        return Err(InspectFault::NoSignal);
+        return Err(InspectFault::NoSignal(signals.counts));
     }
     let mut text = ArrayVec::new();
     add_systems(&mut text, &signals.signal_counts);

@@ -11,15 +11,22 @@ use Rattle.rtcm_inspect.specs.FirstMessages.{AreFirst}
 use Rattle.rtcm_inspect.specs.inner.SaidWeeks.{AreSaidIn}
 use Rattle.rtcm_inspect.specs.Signals.{forms_had, valued_in}
 use Rattle.rtcm_inspect.specs.StreamChannels.{channels_in}
+use Rattle.rtcm_inspect.specs.StreamCounts.{msm_in, stream_counts}
 use Rattle.rtcm_inspect.specs.StreamOutput.{ReadsTooMuch}
 use Rattle.rtcm_inspect.specs.declared.fault.InspectFault.{InspectFault}
 use Rattle.rtcm_inspect.specs.declared.fault.InspectFault.TheVariants as faults
 use Rattle.rtcm_inspect.specs.declared.counting.StreamSignals.{StreamSignals}
+use Rattle.rtcm_inspect.specs.declared.fault.StreamCounts.{StreamCounts}
 
 -- the counts are those of the cells of these frames, each of which has at most `most_pairs`
 pub record IsCounted (c : SignalCountsValue) (wanted : Option ℕ) (fs : List Framed) : Type 0 where
   pub signal_counts : AreSignalCounts c (valued_in wanted fs)
   pub few : length (valued_in wanted fs) ≤ most_pairs * length fs
+
+-- the numbers of these frames
+pub record AreFrameCounts (c : StreamCounts) (fs : List Framed) : Type 0 where
+  pub frames : c.frames ≡ length fs
+  pub msm : c.msm ≡ length (msm_in fs)
 
 -- the signals of these frames
 pub record AreSignals (s : StreamSignals) (wanted : Option ℕ) (fs : List Framed) : Type 0 where
@@ -28,11 +35,13 @@ pub record AreSignals (s : StreamSignals) (wanted : Option ℕ) (fs : List Frame
   pub channels : s.channels ≡ channels_in wanted fs
   pub first : AreFirst s.first wanted fs
   pub weeks : AreSaidIn s.weeks wanted fs
+  pub counts : AreFrameCounts s.counts fs
 
 -- The stream was read to its end, and its signals were counted.
 abbrev pub HasCounted : StreamSignals → Option ℕ → (r r' : Option (List ℕ)) → Type 0
 HasCounted s wanted r r' =
     (b : List ℕ) × Consumes r r' b × IsAtEnd r' × (s.station ≡ wanted) × AreSignals s wanted (frames_of b)
+    × (s.counts ≡ stream_counts b)
 
 -- what was read when the counting was stopped by a fault
 abbrev pub StopsCounting : {R : Type 0} → (R → Option (List ℕ)) → (r r' : Device R) → InspectFault → Type 0

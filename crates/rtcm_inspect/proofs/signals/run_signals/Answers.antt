@@ -11,7 +11,7 @@ returns-then-not-has_any g c =
     let s = c.in_ok-signals.ensures.whole in
     let cells = valued_in c.args.station (frames_of s.0) in
     let none = no_cells _ cells s.4.counted.signal_counts (valued_keys c.args.station (frames_of s.0)) (sym c.has_any.ensures ∙ c.if-not-has_any.true) in
-    ((c.in_ok-signals.ensures.reader, c.in_ok-deliver_waiting.ensures.0), ((s.0, s.1, s.2, none), c.in_ok-deliver_waiting.ensures.1))
+    ((c.in_ok-signals.ensures.reader, c.in_ok-deliver_waiting.ensures.0), ((s.0, s.1, s.2, (none, s.5)), c.in_ok-deliver_waiting.ensures.1))
 
 pub returns : goal.returns
 returns g c =

@@ -7,7 +7,7 @@ use Rattle.rtcm_msg.specs.Fields.{GivesViewed}
 use Rattle.rtcm_msg.specs.Numbers.{whole_set}
 use Rattle.rtcm_msg.specs.declared.number.MsmSet.{MsmSet}
 use Rattle.rtcm_msg.specs.declared.view.View.{View}
-use Rattle.rtcm_inspect.proofs.Names.{subst, List, ℕ, ◌≡◌, ◌++◌, channel_of_1020, option_to_list, sent_of, with_sent, Result, MsgFault, ◌∙◌, ap, refl, sym, message_at, message_with, viewed_message, framed}
+use Rattle.rtcm_inspect.proofs.Names.{subst, List, ℕ, ◌≡◌, ◌++◌, channel_of_1020, option_to_list, sent_of, with_sent, Result, MsgFault, ◌∙◌, ap, refl, sym, message_at, message_with, viewed_message, framed, is_msm}
 use Rattle.rtcm_inspect.proofs.counting.StreamSignalsFrameSinkUnit.take.Goals as goal
 
 -- all messages are decoded
@@ -26,7 +26,7 @@ returns-in-Ok-clause-whole c = λ c0 o ps fs took.
     one_more_counted s f refl
     (λ gs few h. read_counted f is c.count_view.ensures few h) (λ gs h. forms_read s.station gs f m is c.add_form.ensures h)
     (λ gs h. channels_read s.station gs f is channels h) (λ gs few h. c.add-in-Ok.ensures gs f is few h)
-    (λ gs greatest h. c.add.ensures s.station gs f (sym c.as_slice-message.ensures.value) greatest h) took
+    (λ gs greatest h. c.add.ensures s.station gs f (sym c.as_slice-message.ensures.value) greatest h) (λ gs few h. c.add_frame.ensures gs f (ap is_msm is ∙ sym c.is_msm.ensures) few h) took
 
 pub returns-in-Err-clause-whole : goal.returns-in-Err-clause-whole
 returns-in-Err-clause-whole c = λ c0 o ps fs took.
@@ -36,4 +36,4 @@ returns-in-Err-clause-whole c = λ c0 o ps fs took.
     one_more_counted s f refl (λ gs few h. refused_counted f is h) (λ gs h. forms_refused s.station gs f _ is h)
     (λ gs h. channels_refused s.station gs f is h)
     (λ gs few h. first_refused f is (tows_refused (record { inside = c.message_sets.ensures.inside; outside = c.message_sets.ensures.outside; refused = c.message_sets.ensures.refused }) f is) h)
-    (λ gs greatest h. c.add.ensures s.station gs f (sym c.as_slice-message.ensures.value) greatest h) took
+    (λ gs greatest h. c.add.ensures s.station gs f (sym c.as_slice-message.ensures.value) greatest h) (λ gs few h. c.add_frame-in-Err.ensures gs f (ap is_msm is) few h) took
