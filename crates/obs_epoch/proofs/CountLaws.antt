@@ -1,5 +1,5 @@
 -- How many cells of a message can lack a channel.
-use Rattle.std.proofs.Common.{◌≡◌, ℕ, ◌+◌, ◌≤◌, Bool, true, false, not, ◌||◌, List, [], ◌∷◌, ◌++◌, arith, length, append_assoc, append-nil, nat_le, if◌then◌else◌, ap, refl}
+use Rattle.std.proofs.Common.{◌≡◌, ◌+◌, ◌≤◌, Bool, true, false, not, ◌||◌, List, [], ◌∷◌, ◌++◌, arith, length, append_assoc, append-nil, nat_le, if◌then◌else◌, ap, refl}
 use Rattle.obs_epoch.specs.inner.Names.{GatherSetup, HeardCell, is_among, kept, kept_without, lacks_channel, most_cells}
 use Rattle.obs_epoch.proofs.CountsLemmas.{without-push}
 

@@ -1,5 +1,5 @@
 -- The week of the first observations.
-use Rattle.std.proofs.Common.{◌≡◌, ℕ, arith, refl}
+use Rattle.std.proofs.Common.{arith, refl}
 use Rattle.obs_epoch.specs.Starts.{IsGivenWeek, IsNearestFirst, IsWeekOfWeeks, first_week}
 use Rattle.obs_epoch.specs.declared.week.Start.TheVariants.{Week, Near}
 

@@ -20,7 +20,6 @@ use Rattle.obs_epoch.specs.Choices.{in_window, is_chosen, on_grid}
 use Rattle.obs_epoch.specs.inner.Marks.{carried_from, carried_to, counted_epoch}
 use Rattle.obs_epoch.specs.declared.choice.EpochCounts.{EpochCounts}
 use Rattle.gnss_obs.specs.inner.PlanOrder.{HasPlannedCells}
-use Rattle.gnss_obs.specs.Arriving.{sorted_lists}
 use Rattle.gnss_system.specs.SystemValues.{with_value_of}
 use Rattle.gnss_obs.specs.Plans.{place_in}
 use Rattle.gnss_obs.specs.Order.{AreSortedByPlan, insert_by, cell_sort_key}
@@ -28,9 +27,7 @@ use Rattle.obs_epoch.specs.Loss.{lli_with}
 use Rattle.obs_epoch.specs.Epochs.{values_after_message}
 use Rattle.obs_epoch.specs.Clock.{State}
 use Rattle.obs_epoch.specs.inner.Step.{kind_by, step_by, open_by, ended_where, is_same, closed_time}
-use Rattle.obs_epoch.specs.GathererAfter.{time_in}
 use Rattle.gnss_obs.specs.declared.cell.Cell.{Cell}
-use Rattle.obs_epoch.specs.declared.locks.KnownLock.{KnownLock}
 use Rattle.obs_epoch.specs.declared.taken.CellCounts.{CellCounts}
 use Rattle.obs_epoch.specs.GathererAfter.{GathererValue}
 

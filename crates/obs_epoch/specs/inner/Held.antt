@@ -1,14 +1,14 @@
 -- The kept cells and the lock records, and one step of each.
-use Rattle.std.specs.Prelude.{[], ℕ, ◌+◌, ◌-◌, ◌*◌, ◌≡◌, List, ◌∷◌, length, get_or, set, replicate}
-use Rattle.std.specs.Prelude.{Bool, count_by, fold, if◌then◌else◌, Option, Some, None, is_some}
+use Rattle.std.specs.Prelude.{[], ℕ, ◌+◌, ◌≡◌, List, ◌∷◌, length, set, replicate}
+use Rattle.std.specs.Prelude.{Bool, fold, if◌then◌else◌, Option, Some, None}
 use Rattle.std.specs.Option.{option_map_or}
 use Rattle.gnss_system.specs.declared.system.System.{System}
 use Rattle.gnss_obs.specs.Values.{EpochValue, cells_of}
-use Rattle.gnss_system.specs.Signals.{table, first_key, key_count}
+use Rattle.gnss_system.specs.Signals.{table}
 use Rattle.gnss_obs.specs.declared.cell.Cell.{Cell}
 use Rattle.obs_epoch.specs.Heard.{GatherSetup}
 use Rattle.gnss_obs.specs.HeardCells.{HeardCell, heard_cell}
-use Rattle.obs_epoch.specs.Cells.{is_among, firsts, is_planned, has_listed_key}
+use Rattle.obs_epoch.specs.Cells.{is_planned}
 use Rattle.obs_epoch.specs.Loss.{lock_of}
 use Rattle.obs_epoch.specs.declared.locks.KnownLock.{KnownLock}
 use Rattle.obs_epoch.specs.declared.locks.Keys.{Keys}

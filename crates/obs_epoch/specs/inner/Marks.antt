@@ -1,18 +1,16 @@
 -- The loss of lock that is carried to the next epoch on the grid, and one step of it.
-use Rattle.std.specs.Prelude.{ℕ, zero, suc, ◌≡◌, ◌+◌, ◌==◌, ◌%◌, ◌&&◌, ◌||◌, Bool, true, false, not, List, [], ◌∷◌}
-use Rattle.std.specs.Prelude.{get_or, set, length, replicate, fold, if◌then◌else◌}
+use Rattle.std.specs.Prelude.{ℕ, zero, suc, ◌+◌, ◌==◌, ◌%◌, ◌&&◌, ◌||◌, Bool, false, not, List, [], ◌∷◌}
+use Rattle.std.specs.Prelude.{set, replicate, fold, if◌then◌else◌}
 use Rattle.gnss_system.specs.declared.system.System.{System}
 use Rattle.gnss_system.specs.Systems.{systems}
 use Rattle.gnss_system.specs.SystemValues.{with_value_of}
 use Rattle.std.specs.Prelude.{map}
 use Rattle.gnss_obs.specs.declared.cell.Cell.{Cell}
 use Rattle.gnss_obs.specs.HeardCells.{heard_cell}
-use Rattle.gnss_obs.specs.Values.{Closed, EpochValue, cells_of}
-use Rattle.obs_epoch.specs.declared.choice.Choice.{Choice}
+use Rattle.gnss_obs.specs.Values.{EpochValue, cells_of}
 use Rattle.obs_epoch.specs.declared.choice.EpochCounts.{EpochCounts}
-use Rattle.obs_epoch.specs.Cells.{has_listed_key}
 use Rattle.obs_epoch.specs.GathererAfter.{lock_place, most_locks}
-use Rattle.obs_epoch.specs.Thinning.{has_phase, lost_before, mark_if, marked_epoch, up_to_most}
+use Rattle.obs_epoch.specs.Thinning.{has_phase, mark_if, marked_epoch, up_to_most}
 use Rattle.obs_epoch.specs.GathererHistory.{is_lost_in}
 
 -- ---- an entry for each satellite and signal: whether lock was lost
