@@ -6,7 +6,6 @@ use Rattle.rtcm_inspect.specs.CountedTimes.{with_tow}
 use Rattle.obs_epoch.specs.NearWeek.{half_week}
 use Rattle.obs_epoch.specs.Starts.{first_week}
 use Rattle.obs_epoch.specs.declared.week.Start.{Start}
-use Rattle.obs_epoch.specs.declared.week.Start.TheVariants.{Week}
 use Rattle.obs_epoch.proofs.StartLaws.{given}
 use Rattle.rtcm_inspect.specs.SentWeekLaws.{IsCountedFromStart, IsInSentWeek, own_tows}
 use Rattle.rtcm_inspect.specs.SentWeeks.{is_recent, whole_by}

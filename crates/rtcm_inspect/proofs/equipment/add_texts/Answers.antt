@@ -1,4 +1,4 @@
-use Rattle.std.proofs.Common.{◌≡◌, ◌+◌, ◌*◌, ◌++◌, ◌∙◌, ℕ, List, length, map, take, arith, ap}
+use Rattle.std.proofs.Common.{◌++◌, ◌∙◌, ℕ, List, length, map, arith, ap}
 use Rattle.std.proofs.lemmas.List.{take_all}
 use Rattle.std.specs.Borrow.{Bor}
 use Rattle.line_texts.specs.Lines.{with_words}

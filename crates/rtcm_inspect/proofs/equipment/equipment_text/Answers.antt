@@ -1,4 +1,4 @@
-use Rattle.std.proofs.Common.{◌≡◌, ◌∷◌, ◌++◌, ◌∙◌, [], ℕ, List, map, ap, decimal}
+use Rattle.std.proofs.Common.{◌∷◌, ◌++◌, ◌∙◌, [], ℕ, List, map, ap, decimal}
 use Rattle.std.specs.Borrow.{Bor}
 use Rattle.line_texts.proofs.LineLaws.{end_line}
 use Rattle.line_texts.specs.Lines.{with_words}
