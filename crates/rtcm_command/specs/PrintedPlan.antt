@@ -1,5 +1,5 @@
 -- A conversion with the options that `options` prints for a stream.
-use Rattle.std.specs.Prelude.{◌≡◌, ◌+◌, ◌*◌, ◌<◌, ◌^◌, ◌==◌, Bool, ℕ, List, [], ◌∷◌, ◌++◌, codes, get_or, length, option_map}
+use Rattle.std.specs.Prelude.{◌≡◌, ◌+◌, ◌*◌, ◌<◌, ◌^◌, ◌==◌, Bool, ℕ, List, [], ◌∷◌, ◌++◌, codes, get_or, length}
 use Rattle.std.specs.Prelude.{Option, Some, None, IfSome, unwrap_or, if◌then◌else◌}
 use Rattle.std.specs.List.{list_any}
 use Rattle.std.specs.Option.{option_map_or, option_or}
