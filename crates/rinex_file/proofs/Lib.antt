@@ -1,4 +1,5 @@
 pub mod Names
+pub mod ReadingLaws
 mod Digits
 mod Fields
 mod Rows

@@ -1,0 +1,110 @@
+-- What is known of the epochs that an `EpochReader` has read.
+use Rattle.std.specs.List.Sorted.{IsStrictlyIncreasing}
+use Rattle.std.specs.List.{sum_by}
+use Rattle.std.proofs.lemmas.List.Elements.{All-append, All-cons, All-head, All-nil, All-tail}
+use Rattle.std.proofs.lemmas.List.{length-append}
+use Rattle.std.proofs.lemmas.List.Sums.{sum_by-append}
+use Rattle.std.proofs.Common.{◌≤◌, arith, length, map}
+use Rattle.std.proofs.lemmas.List.{map-append}
+use Rattle.gnss_obs.specs.Values.{PlanValue}
+use Rattle.rinex_file.specs.Counting.{rows_in}
+use Rattle.rinex_file.specs.Exact.{most_lines}
+use Rattle.rinex_file.specs.File.{file_text}
+use Rattle.rinex_file.specs.FileValues.{AreSatelliteRows, IsFileValue, IsPlan, IsTime, time_stamped}
+use Rattle.rinex_file.specs.inner.Read.EpochSteps.{HasReadPartAt}
+use Rattle.rinex_file.proofs.FileLines.{lines_are_lines}
+use Rattle.rinex_file.proofs.Reading.Accepted.{plan_read}
+use Rattle.rinex_file.proofs.Reading.Epochs.{sound_open}
+use Rattle.rinex_file.proofs.Reading.Lines.{consumed, splits}
+use Rattle.rinex_file.proofs.Names.{HasPlan, HasLinesLeft, HasReadPart, IsAt, IsSoundAt, IsStamped, AreRead, All, plan_in, planned_in, ◌∙◌, ◌≡◌, sym, ap, refl, subst, ℕ, List, [], ◌∷◌, ◌++◌, ◌+◌, Option, IfSome, Expected, Header, Epoch, EventPosition, EventHeight, EventEpoch, Satellite, Reading, Progress, HasRead, HasReadTo, progress_at, SatelliteRow, Stamped, FileValue, joined, file_lines}
+
+-- epochs of a file with this plan, of which there aren't more lines than a file has
+pub record AreFine (p : PlanValue) (es : List Stamped) : Type 0 where
+  pub plan : IsPlan p
+  pub rows : All (λ e. AreSatelliteRows (planned_in p) e.rows) es
+  pub rising : IsStrictlyIncreasing (map time_stamped es)
+  pub times : All (λ e. IsTime e.time) es
+  pub few : rows_in es ≤ most_lines
+  pub many : length es ≤ most_lines + 1
+
+some_read : (s : Progress) (expected : Expected) → IsSoundAt s expected → (s.epochs ≡ [] → ⊥) → AreRead s
+some_read s (Header place) sound some = absurd (some sound.0)
+some_read s (EventHeight p) sound some = sound.0.0
+some_read s (EventEpoch w) sound some = sound.0.0
+some_read s other sound some = sound.0
+
+all_rows : (p : PlanValue) (es : List Stamped) → All (IsStamped (planned_in p)) es → All (λ e. AreSatelliteRows (planned_in p) e.rows) es
+all_rows p [] all = All-nil (λ (e : Stamped). AreSatelliteRows (planned_in p) e.rows)
+all_rows p (e ∷ es) all = All-cons (λ (e : Stamped). AreSatelliteRows (planned_in p) e.rows) e es (All-head (IsStamped (planned_in p)) e es all).rows (all_rows p es (All-tail (IsStamped (planned_in p)) e es all))
+
+all_times : (p : PlanValue) (es : List Stamped) → All (IsStamped (planned_in p)) es → All (λ e. IsTime e.time) es
+all_times p [] all = All-nil (λ (e : Stamped). IsTime e.time)
+all_times p (e ∷ es) all = All-cons (λ (e : Stamped). IsTime e.time) e es (All-head (IsStamped (planned_in p)) e es all).time (all_times p es (All-tail (IsStamped (planned_in p)) e es all))
+
+-- whole epochs
+pub whole_fine : (r : Reading) (es : List Stamped) {input left : Option (List ℕ)} → HasReadTo r es input left → (es ≡ [] → ⊥) → AreFine (plan_in r) es
+whole_fine r es read some =
+    let s = progress_at r.parser_state (record { epochs = es; rows = [] }) in
+    let are = some_read s s.expected read.0.history.sound some in
+    let counted = read.0.history.counted in
+    let (room, within) = read.0.within in
+    record {
+      plan = are.shown.plan;
+      rows = all_rows (plan_in r) es are.epochs;
+      rising = are.rising;
+      times = all_times (plan_in r) es are.epochs;
+      few = omega (arith, counted.satellites, room.1, within);
+      many = omega (arith, counted.epochs, room.0, within);
+    }
+
+last_none : {A : Type 0} (xs : List A) (x : A) → xs ++ x ∷ [] ≡ [] → ⊥
+last_none [] x e = cc
+last_none (y ∷ ys) x e = cc
+
+-- whole epochs, and one that was begun
+pub part_fine : (r : Reading) (es : List Stamped) (e : Stamped) (input left : Option (List ℕ)) → HasReadPart r es e input left → AreFine (plan_in r) (es ++ e ∷ [])
+part_fine r es e input left part = by r.parser_state.expected refl part where
+  by : (d : Expected) → r.parser_state.expected ≡ d → HasReadPartAt d r es e input left → AreFine (plan_in r) (es ++ e ∷ [])
+  by (Satellite n) is part =
+      let s = progress_at r.parser_state (record { epochs = es; rows = e.rows }) in
+      let (are, next, some, room) = sound_open s n is part.0.history.sound in
+      let counted = part.0.history.counted in
+      let (fits, within) = part.0.within in
+      let p = plan_in r in
+      let rowed : Stamped → Type 0 = λ (x : Stamped). AreSatelliteRows (planned_in p) x.rows in
+      let timed : Stamped → Type 0 = λ (x : Stamped). IsTime x.time in
+      record {
+        plan = are.shown.plan;
+        rows = All-append rowed es (e ∷ []) (all_rows p es are.epochs) (All-cons rowed e [] next.rows (All-nil rowed));
+        rising = subst IsStrictlyIncreasing (ap (λ (t : ℕ). map time_stamped es ++ t ∷ []) part.2 ∙ sym (map-append time_stamped es (e ∷ []))) next.later;
+        times = All-append timed es (e ∷ []) (all_times p es are.epochs) (All-cons timed e [] (subst IsTime part.2 next.time) (All-nil timed));
+        few = omega (arith, counted.satellites, fits.1, within, sum_by-append (λ (x : Stamped). length x.rows) es (e ∷ []));
+        many = omega (arith, counted.epochs, fits.0, within, length-append es (e ∷ []));
+      }
+  by other is part = whole_fine r (es ++ e ∷ []) part (last_none es e)
+
+-- the plan that was read
+pub plan_known : (r : Reading) (es : List Stamped) {input left : Option (List ℕ)} → HasReadTo r es input left → (es ≡ [] → ⊥) → IfSome input (HasPlan (plan_in r))
+plan_known r es read some = plan_read read.0 (λ none rows. some none)
+
+plan_at : (s : Progress) (expected : Expected) (v : FileValue) (left : List (List ℕ)) → IsSoundAt s expected → (s.epochs ≡ [] → ⊥) → IsAt s expected v left → v.plan ≡ s.known.shown.plan
+plan_at s (Header place) v left sound some at = absurd (some sound.0)
+plan_at s Epoch v left sound some at = ap (λ (f : FileValue). f.plan) at.value
+plan_at s EventPosition v left sound some at = ap (λ (f : FileValue). f.plan) at.value
+plan_at s (EventHeight position) v left sound some at = ap (λ (f : FileValue). f.plan) at.value
+plan_at s (EventEpoch values) v left sound some at = ap (λ (f : FileValue). f.plan) at.value
+plan_at s (Satellite n) v left sound some at = ap (λ (f : FileValue). f.plan) at.value
+
+plan_left : (s : Progress) (v : FileValue) (left : List (List ℕ)) → IsSoundAt s s.expected → (s.epochs ≡ [] → ⊥) → HasLinesLeft s v left → v.plan ≡ s.known.shown.plan
+unfolding HasLinesLeft
+plan_left s v left sound some on = plan_at s s.expected v left sound some on.1
+
+-- each file value with this text has this plan
+pub one_plan : (r : Reading) (es : List Stamped) {input left : Option (List ℕ)} → HasReadTo r es input left → (es ≡ [] → ⊥)
+    → IfSome input (λ bytes. (v : FileValue) → IsFileValue v → bytes ≡ file_text v → v.plan ≡ plan_in r)
+one_plan r es {input} read some =
+    let s = progress_at r.parser_state (record { epochs = es; rows = [] }) in
+    let t = read.0.taken in
+    consumed input _ (joined t.lines) (λ bytes. (v : FileValue) → IsFileValue v → bytes ≡ file_text v → v.plan ≡ plan_in r) t.taken (λ rest v is e.
+    let (more, lines, text) = splits (file_lines v) t.lines rest (lines_are_lines v is) t.are (sym e) in
+    plan_left s v more read.0.history.sound some (t.history.goes v more is lines))
