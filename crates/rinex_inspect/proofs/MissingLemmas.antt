@@ -114,7 +114,7 @@ pub rises_from : (ts : List ℕ) → IsStrictlyIncreasing ts → Rise 0 ts
 rises_from [] h = tt
 rises_from (t ∷ ts) h = (omega arith, rises t ts h)
 
-div_mono : (a b k : ℕ) → 0 < k → a ≤ b → a / k ≤ b / k
+pub div_mono : (a b k : ℕ) → 0 < k → a ≤ b → a / k ≤ b / k
 div_mono a b k some h = let least = div-mul-le_self a k in (le-div_iff_mul-le {k = k} {x = a / k} {y = b} some).1 (omega (arith, least, h))
 
 module _ (g : Completeness) (is : IsCompleteness g) (o : ℕ) where

@@ -4,4 +4,7 @@ pub mod Gaps
 pub mod CheckOutput
 pub mod Checking
 pub mod CheckLaws
+pub mod Tallies
+pub mod QualityOutput
+pub mod Quality
 pub mod inner

@@ -1,6 +1,6 @@
 //! The command `check`: whether the input is a file as `convert` writes it, its counts, the times
 //! of its epochs, and the gaps between them.
-ghost use Rattle.std.specs.Prelude.{◌≡◌, ◌+◌, ◌*◌, ◌<◌, ◌≤◌, ◌++◌, [], List, Option, ℕ, IfErr, IfOk, IfSome};
+ghost use Rattle.std.specs.Prelude.{◌≡◌, ◌+◌, ◌*◌, ◌<◌, ◌≤◌, ◌++◌, ◌∷◌, [], List, Option, ℕ, IfErr, IfOk, IfSome};
 ghost use Rattle.std.specs.Prelude.{is_some, true, length};
 ghost use Rattle.gnss_obs.specs.Weeks.{week, weeks};
 ghost use Rattle.rinex_file.specs.Blocks.{LeavesRest};
@@ -12,8 +12,9 @@ ghost use Rattle.devices.specs.Printing.{EndsPrinting};
 ghost use Rattle.rinex_inspect.specs.CheckOutput.{check_line, counts_alone, times_if, times_in};
 ghost use Rattle.rinex_inspect.specs.Checking.{AcceptsFiles, EndsCheck};
 ghost use Rattle.rinex_file.specs.inner.Read.EpochSteps.{HasReadEpochs};
-ghost use Rattle.rinex_inspect.specs.DateTexts.{longest_times, moment_bytes, moment_words, step_line, time_line};
-ghost use Rattle.rinex_inspect.specs.DateTexts.{times_lines};
+ghost use Rattle.gnss_obs.specs.Dates.{civil_of};
+ghost use Rattle.rinex_inspect.specs.DateTexts.{clock_text, date_text, longest_times, moment_bytes, moment_words};
+ghost use Rattle.rinex_inspect.specs.DateTexts.{step_line, time_line, times_lines};
 ghost use Rattle.rinex_inspect.specs.Gaps.{IsCompleteness, gap_between, is_inside};
 ghost use Rattle.rinex_inspect.specs.inner.Missing.{complete_but, end_gap_if, end_missing_if, first_with, gap_with};
 ghost use Rattle.rinex_inspect.specs.inner.Missing.{longest_gap, missing_between, missing_with};
@@ -312,7 +313,7 @@ fn add_complete(
 }
 
 /// Adds the line of the counts of a file.
-fn add_counts(text: &mut OutputLine, counts: &Counts)
+pub(crate) fn add_counts(text: &mut OutputLine, counts: &Counts)
     requires { length text.old ≤ 100 }
     ensures text { (v : FileValue) → AreCounts counts.now v → text.new ≡ text.old ++ check_line v }
     ensures short { length text.new ≤ length text.old + 100 }
@@ -353,10 +354,19 @@ fn add_moment(text: &mut OutputLine, time: GpsTime)
     ensures text { text.new ≡ with_words text.old (moment_words time) }
     ensures short { length text.new ≤ length text.old + moment_bytes }
 {
+    add_instant(text, b' ', time);
+}
+
+/// Adds the date of a time after a blank, and its time of day after a separator.
+pub(crate) fn add_instant(text: &mut OutputLine, separator: u8, time: GpsTime)
+    requires { length text.old ≤ 300 }
+    ensures text { text.new ≡ (text.old ++ 0x20 ∷ date_text (civil_of time)) ++ separator ∷ clock_text (civil_of time) }
+    ensures short { length text.new ≤ length text.old + moment_bytes }
+{
     let civil = time.civil();
     let millisecond = u64::from(civil.millisecond);
     text.add_date(civil.year, civil.month, civil.day);
-    text.add_two(b' ', u64::from(civil.hour));
+    text.add_two(separator, u64::from(civil.hour));
     text.add_two(b':', u64::from(civil.minute));
     text.add_two(b':', millisecond / 1_000);
     text.add_three(b'.', millisecond);

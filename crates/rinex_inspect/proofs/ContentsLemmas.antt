@@ -1,0 +1,226 @@
+-- The contents of the table of epochs, and equal contents.
+use Rattle.std.proofs.Common.{◌≡◌, ◌∙◌, ◌+◌, ◌*◌, ◌/◌, ◌%◌, ◌<◌, ◌≤◌, ◌++◌, ◌∷◌, [], ℕ, ℤ, Bool, true, false, zero, suc, List, Option, Some, None, cond, get_or, length, map, refl, ap, ap₂, sym, subst, arith, add-one, append_assoc, append-nil, is_some, pos, codes, decimal}
+use Rattle.std.specs.Prelude.{All, IfSome, filter, flat_map, nat_lt}
+use Rattle.std.specs.List.{count_by, sum_by}
+use Rattle.std.proofs.lemmas.Int.{ints}
+use Rattle.std.proofs.lemmas.List.{length-append, length-map}
+use Rattle.std.proofs.lemmas.List.Concat.{flat_map-cons}
+use Rattle.std.proofs.lemmas.List.Elements.{All-append, All-filter, All-head, All-nil, All-tail}
+use Rattle.std.proofs.lemmas.List.Sums.{count_by-le-length, sum_by-cons}
+use Rattle.std.proofs.lemmas.Nat.{div-mul-add, mod-mul-add}
+use Rattle.std.proofs.Math.Nat.{div-lt_iff_lt-mul, mod-lt}
+use Rattle.rtcm_bits.proofs.SmallLaws.{length-filter-le}
+use Rattle.gnss_obs.proofs.PlanLaws.{few_below}
+use Rattle.gnss_obs.specs.Plans.{below}
+use Rattle.gnss_obs.specs.Values.{PlanValue, planned_of}
+use Rattle.gnss_system.specs.declared.system.System.{System}
+use Rattle.gnss_system.specs.Satellites.{Satellite, letter, satellites}
+use Rattle.line_texts.specs.Lines.{line}
+use Rattle.gnss_system.specs.Signals.{most_signals, table}
+use Rattle.gnss_system.specs.Systems.{systems}
+use Rattle.rinex_file.proofs.ReadingLaws.{AreFine}
+use Rattle.rinex_file.specs.Counting.{rows_in}
+use Rattle.rinex_file.specs.Exact.{most_lines}
+use Rattle.rinex_file.specs.FileValues.{AreSatelliteRows, AreSignalValues, IsFrom, IsPlan, IsSatelliteRow, planned_in}
+use Rattle.rinex_file.specs.Value.{SatelliteRow, SignalValues, Stamped, no_signal_values}
+use Rattle.rinex_inspect.proofs.TallyLemmas.{tally_is}
+use Rattle.rinex_inspect.proofs.SumLemmas.{sum_more, texts_more, texts_same}
+unfoldable use Rattle.rinex_inspect.specs.QualityOutput.{present_line, signal_line}
+use Rattle.rinex_inspect.specs.QualityOutput.{Contents, code_at, contents_of, presence_words, satellite_word, tally_words, lost_in, period_line, period_lines, satellite_line, tally_line, texts_below}
+use Rattle.rinex_inspect.specs.Tallies.{all_rows, has_values, is_half, is_lost, is_row_of, satellite_at, strength_of, tally_of, total, values_in}
+use Rattle.rinex_inspect.specs.declared.quality_lines.Lines.{Lines}
+use Rattle.rinex_inspect.specs.declared.quality_lines.Lines.TheVariants.{Period, Satellites, Signals}
+use Rattle.rinex_inspect.specs.declared.table.Table.{Table}
+use Rattle.rinex_inspect.specs.declared.tally.Presence.{Presence}
+use Rattle.rinex_inspect.specs.declared.tally.Tally.{Tally}
+use Rattle.rinex_inspect.specs.inner.QualityLines.{IsPrintable, IsSmallTally, all_lines, line_at, line_count}
+use Rattle.rinex_inspect.specs.inner.Tables.{IsTableOf, capped_tally, contents_in}
+
+-- ---- no tally is great
+
+-- lines of a file with this plan
+abbrev pub AreRows : PlanValue → List SatelliteRow → Type 0
+AreRows p rows = All (IsSatelliteRow (planned_in p)) rows
+
+strong : (e : SignalValues) → AreSignalValues e → strength_of e.s ≤ 99999
+strong e fits = by e.s fits.s where
+  by : (s : Option ℤ) → IfSome s (IsFrom (pos 1) (pos 99_999)) → strength_of s ≤ 99999
+  by None h = omega arith
+  by (Some z) h = omega (arith, ints, h.0, h.1)
+
+strong_at : (es : List SignalValues) (k : ℕ) → All AreSignalValues es → strength_of (get_or es k no_signal_values).s ≤ 99999
+strong_at [] k all = omega arith
+strong_at (e ∷ es) zero all = strong e (All-head AreSignalValues e es all)
+strong_at (e ∷ es) (suc k) all = strong_at es k (All-tail AreSignalValues e es all)
+
+module _ (p : PlanValue) (s : Satellite) (k : ℕ) where
+  few_vals : (rows : List SatelliteRow) → length (map (values_in k) (filter (is_row_of s) rows)) ≤ length rows
+  few_vals rows = let few = length-filter-le (is_row_of s) rows in let same : length (map (values_in k) (filter (is_row_of s) rows)) ≡ length (filter (is_row_of s) rows) = length-map (filter (is_row_of s) rows) (values_in k) in omega (arith, few, same)
+
+  strengths : (rows : List SatelliteRow) → AreRows p rows → sum_by (λ e. strength_of e.s) (map (values_in k) (filter (is_row_of s) rows)) ≤ 99999 * length rows
+  strengths [] all = omega arith
+  strengths (r ∷ rows) all = by (strengths rows (All-tail (IsSatelliteRow (planned_in p)) r rows all)) (is_row_of s r) (strong_at r.row.signal_values k (All-head (IsSatelliteRow (planned_in p)) r rows all).row.signal_values) where
+    by : sum_by (λ e. strength_of e.s) (map (values_in k) (filter (is_row_of s) rows)) ≤ 99999 * length rows → (b : Bool) → strength_of (values_in k r).s ≤ 99999
+        → sum_by (λ e. strength_of e.s) (map (values_in k) (cond b (r ∷ filter (is_row_of s) rows) (filter (is_row_of s) rows))) ≤ 99999 * length (r ∷ rows)
+    by rest true one = let sum = sum_by-cons (λ (e : SignalValues). strength_of e.s) (values_in k r) (map (values_in k) (filter (is_row_of s) rows)) in omega (arith, rest, one, sum)
+    by rest false one = omega (arith, rest)
+
+length_rows : (es : List Stamped) → length (all_rows es) ≡ rows_in es
+length_rows [] = refl
+length_rows (e ∷ es) = ap length (flat_map-cons (λ (x : Stamped). x.rows) e es) ∙ length-append e.rows (all_rows es) ∙ ap (λ (n : ℕ). length e.rows + n) (length_rows es) ∙ sym (sum_by-cons (λ (x : Stamped). length x.rows) e es)
+
+fine_rows : (p : PlanValue) (es : List Stamped) → All (λ e. AreSatelliteRows (planned_in p) e.rows) es → AreRows p (all_rows es)
+fine_rows p [] all = All-nil (IsSatelliteRow (planned_in p))
+fine_rows p (e ∷ es) all =
+    subst (AreRows p) (sym (flat_map-cons (λ (x : Stamped). x.rows) e es))
+    (All-append (IsSatelliteRow (planned_in p)) e.rows (all_rows es) (All-head (λ (x : Stamped). AreSatelliteRows (planned_in p) x.rows) e es all).each (fine_rows p es (All-tail (λ (x : Stamped). AreSatelliteRows (planned_in p) x.rows) e es all)))
+
+-- lines that aren't more than those of a file
+pub record AreFew (p : PlanValue) (es : List Stamped) : Type 0 where
+  pub rows : AreRows p (all_rows es)
+  pub few : length (all_rows es) ≤ most_lines
+
+few_filter : (q : Stamped → Bool) (es : List Stamped) → rows_in (filter q es) ≤ rows_in es
+few_filter q [] = omega arith
+few_filter q (e ∷ es) = by (few_filter q es) (q e) where
+  by : rows_in (filter q es) ≤ rows_in es → (b : Bool) → rows_in (cond b (e ∷ filter q es) (filter q es)) ≤ rows_in (e ∷ es)
+  by rest true = let a = sum_by-cons (λ (x : Stamped). length x.rows) e (filter q es) in let b = sum_by-cons (λ (x : Stamped). length x.rows) e es in omega (arith, rest, a, b)
+  by rest false = let b = sum_by-cons (λ (x : Stamped). length x.rows) e es in omega (arith, rest, b)
+
+pub few_of : (p : PlanValue) (q : Stamped → Bool) (es : List Stamped) → AreFine p es → AreFew p (filter q es)
+few_of p q es fine = record {
+  rows = fine_rows p (filter q es) (All-filter q (λ (x : Stamped). AreSatelliteRows (planned_in p) x.rows) es fine.rows);
+  few = let a = length_rows (filter q es) in let b = few_filter q es in let c = fine.few in omega (arith, a, b, c);
+}
+
+pub tally_small : (p : PlanValue) (s : Satellite) (k : ℕ) (es : List Stamped) → AreFew p es → IsSmallTally (tally_of s k es)
+tally_small p s k es are =
+    let rows = all_rows es in
+    let vs = map (values_in k) (filter (is_row_of s) rows) in
+    let few = few_vals p s k rows in
+    let most = are.few in
+    record {
+      c = let n = count_by-le-length (λ (e : SignalValues). is_some e.c) vs in omega (arith, n, few, most);
+      l = let n = count_by-le-length (λ (e : SignalValues). is_some e.l) vs in omega (arith, n, few, most);
+      d = let n = count_by-le-length (λ (e : SignalValues). is_some e.d) vs in omega (arith, n, few, most);
+      s = let n = count_by-le-length (λ (e : SignalValues). is_some e.s) vs in omega (arith, n, few, most);
+      lost = let n = count_by-le-length is_lost vs in omega (arith, n, few, most);
+      half = let n = count_by-le-length is_half vs in omega (arith, n, few, most);
+      strength = let n = strengths p s k rows are.rows in omega (arith, n, most);
+    }
+
+pub capped_same : (t : Tally) → IsSmallTally t → capped_tally t ≡ t
+capped_same t is = tally_is (omega (arith, is.c)) (omega (arith, is.l)) (omega (arith, is.d)) (omega (arith, is.s)) (omega (arith, is.lost)) (omega (arith, is.half)) (omega (arith, is.strength))
+
+-- ---- the table of epochs
+
+-- the same contents
+pub record AreSame (a b : Contents) : Type 0 where
+  pub tallies : (s : System) (i k : ℕ) → i < satellites s → k < most_signals → a.tallies s i k ≡ b.tallies s i k
+  pub presences : (s : System) (i : ℕ) → i < satellites s → a.presences s i ≡ b.presences s i
+
+pub table_contents : (p : PlanValue) (t : Table) (es : List Stamped) → AreFew p es → IsTableOf t es → AreSame (contents_in t) (contents_of es)
+table_contents p t es few is = record {
+  tallies = λ s i k less fits. (is.each s i less).signals k fits ∙ capped_same (tally_of (satellite_at s i) k es) (tally_small p (satellite_at s i) k es few);
+  presences = λ s i less. (is.each s i less).presence;
+}
+
+pub few_planned : (p : PlanValue) → IsPlan p → (s : System) → planned_in p s ≤ most_signals
+few_planned p is s = let a = few_below (length (table s)) (planned_of s p) (is.listed s) (is.apart s) in let b = short s in omega (arith, a, b) where
+  short : (s : System) → length (table s) ≤ most_signals
+  short s = grind arith
+
+pub printable : (p : PlanValue) (t : Table) (es : List Stamped) → IsPlan p → AreFew p es → IsTableOf t es → IsPrintable t p
+printable p t es plan few is = record {
+  places = is.size;
+  each = λ s i less. record {
+    size = (is.each s i less).size;
+    each = λ k fits. subst IsSmallTally (sym ((table_contents p t es few is).tallies s i k less fits)) (tally_small p (satellite_at s i) k es few);
+  };
+  few = few_planned p plan;
+}
+
+-- ---- equal contents have equal lines
+
+-- the line of a signal, and of a satellite, in their numbers
+abbrev signal_text : PlanValue → System → ℕ → ℕ → Tally → List ℕ
+signal_text plan s k n t = line (codes "signal" ∷ (letter s ∷ []) ∷ code_at plan s k ∷ codes "satellites" ∷ decimal n ∷ tally_words t)
+
+abbrev satellite_text : System → ℕ → Presence → ℕ → List ℕ
+satellite_text s i p n = cond (nat_lt 0 p.epochs) (line (codes "satellite" ∷ satellite_word s i ∷ (presence_words p ++ codes "lost" ∷ decimal n ∷ []))) []
+
+sum_same : (f g : ℕ → ℕ) (n : ℕ) → ((i : ℕ) → i < n → f i ≡ g i) → sum_by f (below n) ≡ sum_by g (below n)
+sum_same f g zero same = refl
+sum_same f g (suc n) same =
+    let rest = sum_same f g n (λ i less. same i (omega (arith, less))) in
+    let one = same n (omega arith) in
+    ap (λ (m : ℕ). sum_by f (below m)) (sym (add-one n)) ∙ sum_more f n ∙ ap₂ (λ (x y : ℕ). x + y) rest one ∙ sym (sum_more g n) ∙ ap (λ (m : ℕ). sum_by g (below m)) (add-one n)
+
+some_factor : (m n i : ℕ) → i < m * n → 0 < n
+some_factor m zero i less = absurd (let none : m * 0 ≡ 0 = omega arith in omega (arith, less, none))
+some_factor m (suc n) i less = omega arith
+
+module _ (plan : PlanValue) (a b : Contents) (same : AreSame a b) (few : (s : System) → planned_in plan s ≤ most_signals) where
+  total_same : (s : System) (k : ℕ) → k < most_signals → total (λ i. a.tallies s i k) (satellites s) ≡ total (λ i. b.tallies s i k) (satellites s)
+  total_same s k fits =
+      let each : (i : ℕ) → i < satellites s → a.tallies s i k ≡ b.tallies s i k = λ i less. same.tallies s i k less fits in
+      tally_is (sum_same _ _ (satellites s) (λ i less. ap (λ (t : Tally). t.c) (each i less))) (sum_same _ _ (satellites s) (λ i less. ap (λ (t : Tally). t.l) (each i less)))
+      (sum_same _ _ (satellites s) (λ i less. ap (λ (t : Tally). t.d) (each i less))) (sum_same _ _ (satellites s) (λ i less. ap (λ (t : Tally). t.s) (each i less)))
+      (sum_same _ _ (satellites s) (λ i less. ap (λ (t : Tally). t.lost) (each i less))) (sum_same _ _ (satellites s) (λ i less. ap (λ (t : Tally). t.half) (each i less)))
+      (sum_same _ _ (satellites s) (λ i less. ap (λ (t : Tally). t.strength) (each i less)))
+
+  signal_same : (s : System) (k : ℕ) → k < planned_in plan s → signal_line plan a s k ≡ signal_line plan b s k
+  unfolding signal_line
+  signal_same s k less =
+      let fits : k < most_signals = omega (arith, less, few s) in
+      let number : count_by (λ i. has_values (a.tallies s i k)) (below (satellites s)) ≡ count_by (λ i. has_values (b.tallies s i k)) (below (satellites s)) = sum_same (λ (i : ℕ). cond (has_values (a.tallies s i k)) 1 0) (λ (i : ℕ). cond (has_values (b.tallies s i k)) 1 0) (satellites s) (λ i at. ap (λ (t : Tally). cond (has_values t) 1 0) (same.tallies s i k at fits)) in
+      ap₂ (λ (n : ℕ) (t : Tally). signal_text plan s k n t) number (total_same s k fits)
+
+  lost_same : (s : System) (i : ℕ) → i < satellites s → lost_in plan a s i ≡ lost_in plan b s i
+  lost_same s i less = sum_same (λ (k : ℕ). (a.tallies s i k).lost) (λ (k : ℕ). (b.tallies s i k).lost) (planned_in plan s) (λ k at. ap (λ (t : Tally). t.lost) (same.tallies s i k less (omega (arith, at, few s))))
+
+  satellite_same : (s : System) (i : ℕ) → i < satellites s → satellite_line plan a s i ≡ satellite_line plan b s i
+  unfolding present_line
+  satellite_same s i less = ap₂ (λ (p : Presence) (n : ℕ). satellite_text s i p n) (same.presences s i less) (lost_same s i less)
+
+  period_same : (start : ℕ) (s : System) (i k : ℕ) → i < satellites s → k < planned_in plan s → period_line plan start a s i k ≡ period_line plan start b s i k
+  period_same start s i k less fits = ap (λ (t : Tally). cond (has_values t) (tally_line plan start t s i k) []) (same.tallies s i k less (omega (arith, fits, few s)))
+
+  line_same : (lines : Lines) (s : System) (i : ℕ) → i < line_count lines plan s → line_at lines plan a s i ≡ line_at lines plan b s i
+  line_same Signals s i less = signal_same s i less
+  line_same Satellites s i less = satellite_same s i less
+  line_same (Period start) s i less =
+      let some : 0 < planned_in plan s = some_factor (satellites s) (planned_in plan s) i less in
+      period_same start s (i / planned_in plan s) (i % planned_in plan s) ((div-lt_iff_lt-mul {k = planned_in plan s} {x = i} {y = satellites s} some).1 less) (mod-lt i some)
+
+  pub lines_same : (lines : Lines) → all_lines lines plan a ≡ all_lines lines plan b
+  lines_same lines = ap (λ (f : System → List ℕ). flat_map f systems) (λ i s. texts_same (line_at lines plan a s) (line_at lines plan b s) (line_count lines plan s) (λ k less. line_same lines s k less) i)
+
+-- ---- the lines of a period, by satellite and by signal
+
+texts_split : (f : ℕ → List ℕ) (m n : ℕ) → texts_below f (m + n) ≡ texts_below f m ++ texts_below (λ k. f (m + k)) n
+texts_split f m zero = ap (texts_below f) {x = m + 0} {y = m} (omega arith) ∙ sym (append-nil (texts_below f m))
+texts_split f m (suc n) =
+    ap (texts_below f) {x = m + suc n} {y = (m + n) + 1} (omega arith) ∙ texts_more f (m + n) ∙ ap (λ (l : List ℕ). l ++ f (m + n)) (texts_split f m n)
+    ∙ append_assoc (texts_below f m) (texts_below (λ k. f (m + k)) n) (f (m + n)) ∙ ap (λ (l : List ℕ). texts_below f m ++ l) (sym (texts_more (λ k. f (m + k)) n) ∙ ap (texts_below (λ k. f (m + k))) (add-one n))
+
+in_grid : (f : ℕ → ℕ → List ℕ) (m n : ℕ) → texts_below (λ i. f (i / n) (i % n)) (m * n) ≡ texts_below (λ i. texts_below (f i) n) m
+in_grid f zero n = ap (texts_below (λ i. f (i / n) (i % n))) {x = 0 * n} {y = 0} (omega arith)
+in_grid f (suc m) n =
+    ap (texts_below (λ i. f (i / n) (i % n))) {x = suc m * n} {y = m * n + n} (grind arith) ∙ texts_split (λ i. f (i / n) (i % n)) (m * n) n
+    ∙ ap₂ (λ (x y : List ℕ). x ++ y) (in_grid f m n) (texts_same (λ k. f ((m * n + k) / n) ((m * n + k) % n)) (f m) n (λ k less. ap₂ f (div-mul-add m n k less) (mod-mul-add m n k less)))
+    ∙ sym (texts_more (λ i. texts_below (f i) n) m) ∙ ap (texts_below (λ i. texts_below (f i) n)) (add-one m)
+
+pub period_is : (plan : PlanValue) (start : ℕ) (has : Contents) → all_lines (Period start) plan has ≡ period_lines plan start has
+period_is plan start has = ap (λ (f : System → List ℕ). flat_map f systems) (λ i s. in_grid (period_line plan start has s) (satellites s) (planned_in plan s) i)
+
+-- ---- no epoch
+
+none_below : (n : ℕ) → texts_below (λ i. []) n ≡ []
+none_below zero = refl
+none_below (suc n) = ap (texts_below (λ i. [])) (sym (add-one n)) ∙ texts_more (λ i. []) n ∙ append-nil (texts_below (λ i. []) n) ∙ none_below n
+
+pub none_in_period : (plan : PlanValue) (start : ℕ) → period_lines plan start (contents_of []) ≡ []
+none_in_period plan start = ap (λ (f : System → List ℕ). flat_map f systems) {x = λ s. texts_below (λ i. texts_below (period_line plan start (contents_of []) s i) (planned_in plan s)) (satellites s)} {y = λ s. []} (λ j s. both s j) where
+  both : (s : System) → texts_below (λ i. texts_below (period_line plan start (contents_of []) s i) (planned_in plan s)) (satellites s) ≡ []
+  both s = texts_same (λ i. texts_below (period_line plan start (contents_of []) s i) (planned_in plan s)) (λ i. []) (satellites s) (λ i less. none_below (planned_in plan s)) ∙ none_below (satellites s)

@@ -1,8 +1,0 @@
-use Rattle.rinex_inspect.proofs.Names.{◌≡◌, ◌∙◌, [], ◌∷◌, ap, append_assoc, clock_text, date_text, with_words, Civil}
-use Rattle.rinex_inspect.proofs.check.add_moment.Goals as goal
-
-pub returns-clause-text : goal.returns-clause-text
-returns-clause-text c =
-    let date = c.civil-civil.result in
-    let words : c.add_three.new.self ≡ with_words c.args.text.now (date_text date ∷ clock_text date ∷ []) = simp (c.add_three.ensures.text, c.add_two-3.ensures.text, c.add_two-2.ensures.text, c.add_two.ensures.text, c.add_date.ensures.text, c.from-millisecond.ensures, c.from.ensures, c.from-2.ensures, append_assoc) in
-    words ∙ ap (λ (d : Civil). with_words c.args.text.now (date_text d ∷ clock_text d ∷ [])) c.civil-civil.ensures.walk

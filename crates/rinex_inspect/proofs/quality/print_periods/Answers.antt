@@ -1,0 +1,69 @@
+use Rattle.std.proofs.Common.{◌∙◌, ◌++◌, ◌∷◌, [], ℕ, arith, refl, subst, sym, Ok}
+use Rattle.std.specs.Bool.{⊤}
+use Rattle.std.proofs.KnownBytes.{Appends-nil}
+use Rattle.devices.specs.Devices.{ReaderFailures, devices_of, writer_of}
+use Rattle.rinex_file.specs.inner.Read.EpochSteps.{plan_of}
+use Rattle.rinex_inspect.proofs.GapLemmas.{leaves_all, leaves_more}
+use Rattle.rinex_inspect.proofs.Names.{Appends, culprit}
+use Rattle.rinex_inspect.proofs.RatingLemmas.{all_rated, next_is, none_before, printed_with, stopped_periods}
+use Rattle.rinex_inspect.proofs.quality.print_periods.Goals as goal
+
+pub loop-counts-init : goal.loop-counts-init
+loop-counts-init g c = record { read = ([], c.requires.start _, c.requires.tables, (refl, c.requires.sent, subst (Appends _ _) (sym (none_before c.args.every.now (plan_of c.args.file.now) c.requires.every)) (Appends-nil _))); left = leaves_all _; same = refl }
+
+pub rate_next-requires-clause-sent : goal.rate_next-requires-clause-sent
+rate_next-requires-clause-sent g c = c.loop-counts.invariant.read.3.1
+
+pub rate_next-requires-clause-read : goal.rate_next-requires-clause-read
+rate_next-requires-clause-read g c =
+    let (es, read, tables, printed) = c.loop-counts.invariant.read in
+    (es, g.R.Read.remaining c.args.reader.now.inner, read, tables)
+
+pub loop-counts-smaller : goal.loop-counts-smaller
+loop-counts-smaller g c =
+    let at = devices_of g.R.Read.remaining g.W.Write.contents g.W.Deliver.waiting in
+    let (es, read, tables, printed) = c.loop-counts.invariant.read in
+    let input = g.R.Read.remaining c.args.reader.now.inner in
+    let (whole, next, less, keeps, tables2, more) = next_is c.args.every.now c.loop-counts.file c.rate_next.new.file c.loop-counts.tables c.rate_next.new.tables es input (at c.loop-counts.reader c.loop-counts.writer) (at c.rate_next.new.reader c.rate_next.new.writer) c.in-Ok-None.field-0-is (c.in-Ok-None.ensures.rates es input read tables) in
+    let few = read.0.within.1 in
+    omega (arith, less, few)
+
+pub loop-counts-preserved : goal.loop-counts-preserved
+loop-counts-preserved g c =
+    let at = devices_of g.R.Read.remaining g.W.Write.contents g.W.Deliver.waiting in
+    let w = writer_of g.W.Write.contents g.W.Deliver.waiting in
+    let inv = c.loop-counts.invariant in
+    let (es, read, tables, printed) = inv.read in
+    let input = g.R.Read.remaining c.args.reader.now.inner in
+    let (whole, next, less, keeps, tables2, (text, after, more)) = next_is c.args.every.now c.loop-counts.file c.rate_next.new.file c.loop-counts.tables c.rate_next.new.tables es input (at c.loop-counts.reader c.loop-counts.writer) (at c.rate_next.new.reader c.rate_next.new.writer) c.in-Ok-None.field-0-is (c.in-Ok-None.ensures.rates es input read tables) in
+    record {
+      read = (es ++ whole ∷ [], next, tables2, printed_with {A = ⊤} c.args.every.now (plan_of c.loop-counts.file) (plan_of c.rate_next.new.file) es whole text (Ok tt) (w c.args.writer.now) (w c.loop-counts.writer) (w c.rate_next.new.writer) c.requires.every keeps after printed more);
+      left = leaves_more _ _ _ inv.left c.in-Ok-None.ensures.left;
+      same = c.in-Ok-None.ensures.failed ∙ inv.same;
+    }
+
+pub returns-in-Ok-Some-clause-rates : goal.returns-in-Ok-Some-clause-rates
+returns-in-Ok-Some-clause-rates g c =
+    let at = devices_of g.R.Read.remaining g.W.Write.contents g.W.Deliver.waiting in
+    let inv = c.loop-counts.invariant in
+    let (es, read, tables, printed) = inv.read in
+    let input = g.R.Read.remaining c.args.reader.now.inner in
+    all_rated c.args.every.now c.loop-counts.file c.rate_next.new.file c.loop-counts.tables c.rate_next.new.tables es c.in-Ok-Some.counts (at c.args.reader.now c.args.writer.now) (at c.loop-counts.reader c.loop-counts.writer) (at c.rate_next.new.reader c.rate_next.new.writer) c.requires.every read tables printed
+    (next_is c.args.every.now c.loop-counts.file c.rate_next.new.file c.loop-counts.tables c.rate_next.new.tables es input (at c.loop-counts.reader c.loop-counts.writer) (at c.rate_next.new.reader c.rate_next.new.writer) c.in-Ok-Some.field-0-is (c.in-Ok-Some.ensures.rates es input read tables))
+    (c.in-Ok-Some.ensures.failed ∙ inv.same)
+
+pub returns-in-Ok-Some-clause-left : goal.returns-in-Ok-Some-clause-left
+returns-in-Ok-Some-clause-left g c = leaves_more _ _ _ c.loop-counts.invariant.left c.in-Ok-Some.ensures.left
+
+pub returns-in-Err-clause-rates : goal.returns-in-Err-clause-rates
+returns-in-Err-clause-rates g c =
+    let at = devices_of g.R.Read.remaining g.W.Write.contents g.W.Deliver.waiting in
+    let inv = c.loop-counts.invariant in
+    let (es, read, tables, printed) = inv.read in
+    let input = g.R.Read.remaining c.args.reader.now.inner in
+    stopped_periods c.args.every.now c.loop-counts.file c.rate_next.new.file c.loop-counts.tables c.rate_next.new.tables es (at c.args.reader.now c.args.writer.now) (at c.loop-counts.reader c.loop-counts.writer) (at c.rate_next.new.reader c.rate_next.new.writer) c.in-Err.fault c.requires.every read printed
+    (c.in-Err.ensures.rates es input read tables)
+    (subst (λ (n : ℕ). ReaderFailures (culprit c.in-Err.fault) n c.rate_next.new.reader.failures) inv.same c.in-Err.ensures.failed)
+
+pub returns-in-Err-clause-left : goal.returns-in-Err-clause-left
+returns-in-Err-clause-left g c = leaves_more _ _ _ c.loop-counts.invariant.left c.in-Err.ensures.left

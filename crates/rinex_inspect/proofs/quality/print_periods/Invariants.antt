@@ -1,0 +1,25 @@
+use Rattle.std.proofs.Common.{◌≡◌, ◌-◌, ◌+◌, List}
+use Rattle.devices.specs.Devices.{writer_of}
+use Rattle.devices.specs.Printing.{PrintsText}
+use Rattle.rinex_file.specs.Blocks.{LeavesRest}
+use Rattle.rinex_file.specs.Exact.{most_lines}
+use Rattle.rinex_file.specs.Value.{Stamped}
+use Rattle.rinex_file.specs.inner.Read.EpochSteps.{HasReadEpochs, plan_of}
+use Rattle.rinex_inspect.specs.QualityOutput.{lines_before}
+use Rattle.rinex_inspect.specs.inner.Rating.{AreTables}
+use Rattle.rinex_inspect.proofs.quality.print_periods.Given as goal
+
+-- the lines of the periods before that of the last epoch were written
+abbrev pub invariant-loop-counts : goal.invariant-loop-counts
+invariant-loop-counts g l =
+    let remaining = g.R.Read.remaining in
+    let at = writer_of g.W.Write.contents g.W.Deliver.waiting in
+    record {
+      read : (es : List Stamped) × HasReadEpochs l.file es (remaining l.fn.reader.inner) (remaining l.reader.inner) × AreTables l.every l.tables es
+          × PrintsText (lines_before (plan_of l.file) l.every es) (at l.fn.writer) (at l.writer);
+      left : LeavesRest (remaining l.fn.reader.inner) (remaining l.reader.inner);
+      same : l.reader.failures ≡ l.fn.reader.failures;
+    }
+
+abbrev pub decreases-loop-counts : goal.decreases-loop-counts
+decreases-loop-counts g l = most_lines + 1 - l.file.reading.count

@@ -1,0 +1,44 @@
+use Rattle.std.proofs.Common.{◌*◌, ◌<◌, ℕ, List, subst, sym}
+use Rattle.devices.proofs.PrintingLaws.{printed_after}
+use Rattle.devices.specs.Devices.{devices_of, writer_of}
+use Rattle.devices.specs.Printing.{EndsPrinting}
+use Rattle.gnss_obs.specs.Weeks.{week, weeks}
+use Rattle.rinex_file.specs.inner.Read.EpochSteps.{plan_of}
+use Rattle.rinex_inspect.proofs.EndLemmas.{ended, ended_early_or, ended_or}
+use Rattle.rinex_inspect.proofs.Names.{IfSome, IfSome_then, times_in}
+use Rattle.rinex_inspect.proofs.PeriodLemmas.{start_within}
+use Rattle.rinex_inspect.specs.QualityOutput.{lines_before}
+use Rattle.rinex_inspect.specs.Tallies.{last_of}
+use Rattle.rinex_inspect.specs.declared.fault.FileFault.TheVariants.{Write}
+use Rattle.rinex_inspect.specs.inner.Rating.{end_text}
+use Rattle.rinex_inspect.proofs.quality.rate.Goals as goal
+
+pub print_end-requires-clause-within : goal.print_end-requires-clause-within
+print_end-requires-clause-within g c =
+    let (es, has, only, tables, printed, fine, fits, output) = c.in-Ok.ensures.rates in
+    subst (λ (p : ℕ). IfSome c.args.every.now (λ n. p * n < weeks * week)) (sym tables.period) (start_within c.args.every.now (last_of (times_in es)) c.requires.every)
+
+pub returns-in-Ok-clause-ends : goal.returns-in-Ok-clause-ends
+returns-in-Ok-clause-ends g c =
+    let at = devices_of g.R.Read.remaining g.W.Write.contents g.W.Deliver.waiting in
+    let w = writer_of g.W.Write.contents g.W.Deliver.waiting in
+    let (es, has, only, tables, printed, fine, fits, output) = c.in-Ok.ensures.rates in
+    let plan = plan_of c.print_periods.new.file in
+    ended c.args.every.now (at c.args.reader.now c.args.writer.now) (at c.print_periods.new.reader c.print_end.new.writer) c.print_end.result has.v has.is has.text fine
+    (subst (λ (l : List ℕ). EndsPrinting Write c.print_end.result l (w c.args.writer.now) (w c.print_end.new.writer)) (sym (output has.v has.holds))
+    (printed_after Write c.print_end.result (w c.args.writer.now) (w c.print_periods.new.writer) (w c.print_end.new.writer) (lines_before plan c.args.every.now es) (end_text c.args.every.now plan c.print_periods.new.tables has.v) printed (c.print_end.ensures has.v has.holds.0)))
+
+pub returns-in-Ok-clause-only : goal.returns-in-Ok-clause-only
+returns-in-Ok-clause-only g c = λ v file few.
+    let w = writer_of g.W.Write.contents g.W.Deliver.waiting in
+    let (es, has, only, tables, printed, fine, fits, output) = c.in-Ok.ensures.rates in
+    let plan = plan_of c.print_periods.new.file in
+    IfSome_then (g.R.Read.remaining c.args.reader.now.inner) (only v file few) (λ input h same. let rated = h same in
+    ended_or c.args.every.now (w c.args.writer.now) (w c.print_end.new.writer) c.print_end.result v
+    (subst (λ (l : List ℕ). EndsPrinting Write c.print_end.result l (w c.args.writer.now) (w c.print_end.new.writer)) (sym (output v rated))
+    (printed_after Write c.print_end.result (w c.args.writer.now) (w c.print_periods.new.writer) (w c.print_end.new.writer) (lines_before plan c.args.every.now es) (end_text c.args.every.now plan c.print_periods.new.tables v) printed (c.print_end.ensures v rated.0))))
+
+pub returns-in-Err-clause-only : goal.returns-in-Err-clause-only
+returns-in-Err-clause-only g c =
+    let at = devices_of g.R.Read.remaining g.W.Write.contents g.W.Deliver.waiting in
+    ended_early_or c.args.every.now c.print_periods.new.file c.print_periods.new.tables (at c.args.reader.now c.args.writer.now) (at c.print_periods.new.reader c.print_periods.new.writer) c.in-Err.fault c.requires.every c.in-Err.ensures.rates

@@ -1,0 +1,72 @@
+use Rattle.std.proofs.Common.{◌∙◌, ◌≤◌, ◌++◌, ◌∷◌, [], ap, arith, length, refl, sym, subst, Ok}
+use Rattle.rinex_file.specs.Value.{SatelliteRow}
+use Rattle.rinex_file.specs.inner.Read.EpochSteps.{row_of, with_read}
+use Rattle.rinex_inspect.proofs.GapLemmas.{leaves_all, leaves_more}
+use Rattle.rinex_inspect.proofs.RatingLemmas.{few_epochs, row_is, row_step}
+use Rattle.rinex_inspect.proofs.TableSteps.{table_begun}
+use Rattle.rinex_inspect.specs.declared.table.Table.{Table}
+use Rattle.rinex_inspect.specs.inner.Tables.{HasAddedRow, IsTableOf, records_in}
+use Rattle.rinex_inspect.proofs.quality.read_rows.Goals as goal
+
+pub loop-table-init : goal.loop-table-init
+loop-table-init g c = record {
+  read = λ es e input start rows. (
+    e,
+    start.0,
+    rows,
+    omega arith,
+    refl,
+    λ xs few is.
+        subst (λ (t : Table). IsTableOf t (xs ++ e ∷ [])) (sym c.begin.ensures)
+        (table_begun c.args.table.now xs e (few_epochs c.args.file.now es e input _ xs rows few) start.1 start.0 is),
+  );
+  some = c.requires;
+  left = leaves_all _;
+  same = refl;
+}
+
+pub next_row-requires : goal.next_row-requires
+next_row-requires g c =
+    let inv = c.loop-table.invariant in
+    let (es, e, input, xs, start, rows, is, few) = inv.some in
+    let (more, time, part, least, plan, added) = inv.read es e input start rows in
+    (es, more, input, part)
+
+pub add-requires-clause-some : goal.add-requires-clause-some
+add-requires-clause-some g c =
+    let inv = c.loop-table.invariant in
+    let (es, e, input, xs, start, rows, is, few) = inv.some in
+    let (more, time, part, least, plan, added) = inv.read es e input start rows in
+    let (next, fits, counted, same) = row_is c.loop-table.file c.next_row.new.self es more input (g.R.Read.remaining c.next_row.new.reader.inner) (ap Ok c.in-Ok-true.field-0-test) (c.in-Ok-true.ensures.rows es more input part) in
+    subst (λ (r : SatelliteRow). 1 ≤ r.row.satellite) (sym c.row.ensures) fits.row.satellite.0
+
+pub add-requires-clause-place : goal.add-requires-clause-place
+add-requires-clause-place g c =
+    let inv = c.loop-table.invariant in
+    let (es, e, input, xs, start, rows, is, few) = inv.some in
+    let (more, time, part, least, plan, added) = inv.read es e input start rows in
+    let (next, fits, counted, same) = row_is c.loop-table.file c.next_row.new.self es more input (g.R.Read.remaining c.next_row.new.reader.inner) (ap Ok c.in-Ok-true.field-0-test) (c.in-Ok-true.ensures.rows es more input part) in
+    let row : SatelliteRow = row_of c.next_row.new.self in
+    let size = (added xs few is).size row.system in
+    subst (λ (r : SatelliteRow). r.row.satellite ≤ length (records_in c.loop-table.table r.system)) (sym c.row.ensures) (omega (arith, fits.row.satellite.1, size))
+
+pub loop-table-preserved : goal.loop-table-preserved
+loop-table-preserved g c =
+    let inv = c.loop-table.invariant in
+    record {
+      read = λ es e input start rows.
+          let (more, time, part, least, plan, added) = inv.read es e input start rows in
+          let (next, fits, counted, same) = row_is c.loop-table.file c.next_row.new.self es more input (g.R.Read.remaining c.next_row.new.reader.inner) (ap Ok c.in-Ok-true.field-0-test) (c.in-Ok-true.ensures.rows es more input part) in
+          let row : SatelliteRow = row_of c.next_row.new.self in
+          let add : HasAddedRow row c.loop-table.table c.add.new.self = subst (λ (r : SatelliteRow). HasAddedRow r c.loop-table.table c.add.new.self) c.row.ensures c.add.ensures in
+          (with_read more row, time, next, omega (arith, least, counted), same ∙ plan, λ xs few is. row_step c.next_row.new.self es more input (g.R.Read.remaining c.next_row.new.reader.inner) row xs c.loop-table.table c.add.new.self next fits few add (added xs few is));
+      some = inv.some;
+      left = leaves_more _ _ _ inv.left c.in-Ok-true.ensures.left;
+      same = c.in-Ok-true.ensures.same (λ e. cc) ∙ inv.same;
+    }
+
+pub returns-in-Ok-false-clause-left : goal.returns-in-Ok-false-clause-left
+returns-in-Ok-false-clause-left g c = leaves_more _ _ _ c.loop-table.invariant.left c.in-Ok-false.ensures.left
+
+pub returns-in-Err-clause-left : goal.returns-in-Err-clause-left
+returns-in-Err-clause-left g c = leaves_more _ _ _ c.loop-table.invariant.left c.in-Err.ensures.left

@@ -1,0 +1,25 @@
+use Rattle.std.proofs.Common.{◌≡◌, ◌-◌, ◌+◌, ◌≤◌, ◌++◌, ◌∷◌, [], List, ℕ, Option, length}
+use Rattle.rinex_file.specs.Blocks.{LeavesRest}
+use Rattle.rinex_file.specs.Exact.{most_lines}
+use Rattle.rinex_file.specs.Value.{Stamped}
+use Rattle.rinex_file.specs.inner.Read.EpochSteps.{HasReadRows, IsStart, plan_of}
+use Rattle.rinex_inspect.specs.inner.Tables.{IsTableOf}
+use Rattle.rinex_inspect.proofs.quality.read_rows.Given as goal
+
+-- the lines that were read of the epoch were added to the table
+abbrev pub invariant-loop-table : goal.invariant-loop-table
+invariant-loop-table g l =
+    let remaining = g.R.Read.remaining in
+    record {
+      read : (es : List Stamped) (e : Stamped) (input : Option (List ℕ)) → IsStart l.fn.time e → HasReadRows l.fn.file es e input (remaining l.fn.reader.inner)
+          → (more : Stamped) × (more.time ≡ l.fn.time) × HasReadRows l.file es more input (remaining l.reader.inner)
+          × (l.fn.file.reading.count ≤ l.file.reading.count) × (plan_of l.file ≡ plan_of l.fn.file)
+          × ((xs : List Stamped) → length xs ≤ length es → IsTableOf l.fn.table xs → IsTableOf l.table (xs ++ more ∷ []));
+      some : (es : List Stamped) × (e : Stamped) × (input : Option (List ℕ)) × (xs : List Stamped) × IsStart l.fn.time e × HasReadRows l.fn.file es e input (remaining l.fn.reader.inner)
+          × IsTableOf l.fn.table xs × (length xs ≤ length es);
+      left : LeavesRest (remaining l.fn.reader.inner) (remaining l.reader.inner);
+      same : l.reader.failures ≡ l.fn.reader.failures;
+    }
+
+abbrev pub decreases-loop-table : goal.decreases-loop-table
+decreases-loop-table g l = most_lines + 1 - l.file.reading.count

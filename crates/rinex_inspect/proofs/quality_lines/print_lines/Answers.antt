@@ -1,0 +1,27 @@
+use Rattle.std.specs.Bool.{⊤}
+use Rattle.std.specs.Prelude.{flat_map}
+use Rattle.std.proofs.Common.{◌≡◌, ◌∙◌, ◌+◌, ◌++◌, ◌∷◌, [], ap, sym, drop, take, append-nil, List, ℕ, Err}
+use Rattle.std.proofs.lemmas.Grind.{flat_map-append}
+use Rattle.std.proofs.lemmas.List.{take-append-drop}
+use Rattle.devices.proofs.PrintingLaws.{printed_after}
+use Rattle.devices.specs.Devices.{writer_of}
+use Rattle.gnss_system.proofs.SystemLaws.{systems_taken}
+use Rattle.gnss_system.specs.Systems.{systems}
+use Rattle.gnss_system.specs.declared.system.System.{System}
+use Rattle.rinex_file.specs.inner.Read.EpochSteps.{plan_of}
+use Rattle.rinex_inspect.proofs.QualityTexts.{part_of_more}
+use Rattle.rinex_inspect.specs.declared.fault.FileFault.TheVariants.{Write}
+use Rattle.rinex_inspect.specs.inner.QualityLines.{system_lines}
+use Rattle.rinex_inspect.specs.inner.Tables.{contents_in}
+use Rattle.rinex_inspect.proofs.quality_lines.print_lines.Goals as goal
+
+pub returns-in-Err : goal.returns-in-Err
+returns-in-Err g c =
+    let at = writer_of g.W.Write.contents g.W.Deliver.waiting in
+    let f : System → List ℕ = system_lines c.args.lines.now (plan_of c.args.file.now) (contents_in c.args.table.now) in
+    let i = c.loop-i.i in
+    let s = c.at.result in
+    let front : flat_map f (take (i + 1) systems) ≡ flat_map f (take i systems) ++ f s = ap (flat_map f) (systems_taken i s c.at.ensures) ∙ flat_map-append f (take i systems) (s ∷ []) ∙ ap (λ (l : List ℕ). flat_map f (take i systems) ++ l) (append-nil (f s)) in
+    part_of_more ⊤ Write c.in-Err.fault (at c.args.writer.now) (at c.print_system.new.writer) (flat_map f (take i systems) ++ f s) (flat_map f systems)
+    (printed_after {A = ⊤} Write (Err c.in-Err.fault) (at c.args.writer.now) (at c.loop-i.writer) (at c.print_system.new.writer) (flat_map f (take i systems)) (f s) c.loop-i.invariant c.in-Err.ensures)
+    (flat_map f (drop (i + 1) systems), ap (flat_map f) (sym (take-append-drop (i + 1) systems)) ∙ flat_map-append f (take (i + 1) systems) (drop (i + 1) systems) ∙ ap (λ (l : List ℕ). l ++ flat_map f (drop (i + 1) systems)) front)

@@ -1,0 +1,31 @@
+use Rattle.std.specs.Bool.{⊤}
+use Rattle.std.proofs.Common.{◌∙◌, ◌+◌, ◌++◌, ap, arith, sym, subst, List, ℕ, Ok, Err}
+use Rattle.devices.proofs.PrintingLaws.{printed_after}
+use Rattle.devices.specs.Devices.{writer_of}
+use Rattle.devices.specs.Printing.{PrintsText}
+use Rattle.rinex_file.specs.inner.Read.EpochSteps.{plan_of}
+use Rattle.rinex_inspect.proofs.QualityTexts.{part_of_more}
+use Rattle.rinex_inspect.proofs.SumLemmas.{texts_front, texts_more}
+use Rattle.rinex_inspect.specs.QualityOutput.{texts_below}
+use Rattle.rinex_inspect.specs.declared.fault.FileFault.TheVariants.{Write}
+use Rattle.rinex_inspect.specs.inner.QualityLines.{line_at, system_lines}
+use Rattle.rinex_inspect.specs.inner.Tables.{contents_in}
+use Rattle.rinex_inspect.proofs.quality_lines.print_system.Goals as goal
+
+pub loop-index-preserved : goal.loop-index-preserved
+loop-index-preserved g c =
+    let at = writer_of g.W.Write.contents g.W.Deliver.waiting in
+    let f : ℕ → List ℕ = line_at c.args.lines.now (plan_of c.args.file.now) (contents_in c.args.table.now) c.args.system in
+    let i = c.loop-index.index in
+    subst (λ (text : List ℕ). PrintsText text (at c.args.writer.now) (at c.print_if.new.writer)) (ap (λ (l : List ℕ). texts_below f i ++ l) c.line_at-text.ensures ∙ sym (texts_more f i))
+    (printed_after {A = ⊤} Write (Ok tt) (at c.args.writer.now) (at c.loop-index.writer) (at c.print_if.new.writer) (texts_below f i) c.line_at-text.result c.loop-index.invariant c.in-Ok.ensures)
+
+pub returns-in-Err : goal.returns-in-Err
+returns-in-Err g c =
+    let at = writer_of g.W.Write.contents g.W.Deliver.waiting in
+    let f : ℕ → List ℕ = line_at c.args.lines.now (plan_of c.args.file.now) (contents_in c.args.table.now) c.args.system in
+    let i = c.loop-index.index in
+    let (more, split) = texts_front f (i + 1) c.line_count-index-end.result (omega (arith, c.loop-index-test.true)) in
+    part_of_more ⊤ Write c.in-Err.fault (at c.args.writer.now) (at c.print_if.new.writer) (texts_below f i ++ c.line_at-text.result) (system_lines c.args.lines.now (plan_of c.args.file.now) (contents_in c.args.table.now) c.args.system)
+    (printed_after {A = ⊤} Write (Err c.in-Err.fault) (at c.args.writer.now) (at c.loop-index.writer) (at c.print_if.new.writer) (texts_below f i) c.line_at-text.result c.loop-index.invariant c.in-Err.ensures)
+    (more, ap (texts_below f) (sym c.line_count-index-end.ensures) ∙ split ∙ ap (λ (l : List ℕ). l ++ more) (texts_more f i ∙ ap (λ (l : List ℕ). texts_below f i ++ l) (sym c.line_at-text.ensures)))

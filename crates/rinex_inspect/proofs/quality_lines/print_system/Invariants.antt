@@ -1,0 +1,12 @@
+use Rattle.devices.specs.Devices.{writer_of}
+use Rattle.devices.specs.Printing.{PrintsText}
+use Rattle.rinex_file.specs.inner.Read.EpochSteps.{plan_of}
+use Rattle.rinex_inspect.specs.QualityOutput.{texts_below}
+use Rattle.rinex_inspect.specs.inner.QualityLines.{line_at}
+use Rattle.rinex_inspect.specs.inner.Tables.{contents_in}
+use Rattle.rinex_inspect.proofs.quality_lines.print_system.Given as goal
+
+abbrev pub invariant-loop-index : goal.invariant-loop-index
+invariant-loop-index g l =
+    let at = writer_of g.W.Write.contents g.W.Deliver.waiting in
+    PrintsText (texts_below (line_at l.lines (plan_of l.file) (contents_in l.table) l.system) l.index) (at l.fn.writer) (at l.writer)

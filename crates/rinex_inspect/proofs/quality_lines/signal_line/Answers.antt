@@ -1,0 +1,24 @@
+use Rattle.std.proofs.Common.{◌≡◌, ◌∙◌, ◌++◌, ◌∷◌, [], ap, arith, codes, List, ℕ}
+use Rattle.rinex_file.specs.inner.Read.EpochSteps.{plan_of}
+use Rattle.rinex_inspect.proofs.QualityTexts.{number_is, signal_is, totals_are, totals_small}
+use Rattle.rinex_inspect.specs.inner.Tables.{contents_in, records_in}
+use Rattle.rinex_inspect.proofs.quality_lines.signal_line.Goals as goal
+
+pub add_tally-requires-clause-small : goal.add_tally-requires-clause-small
+add_tally-requires-clause-small c =
+    let t = c.args.table.now in let s = c.args.system in let k = c.args.k in
+    let rs : c.as_slice.result.now ≡ records_in t s = c.as_slice.ensures.value ∙ ap (λ v. v.items) c.of.ensures in
+    (totals_small t s (plan_of c.args.file.now) k c.requires.fits (omega (arith, c.requires.place, c.requires.fits.few s)) (totals_are t s k rs c.requires.fits.places c.total_of-satellites.ensures.total)).0
+
+pub add_tally-requires-clause-few : goal.add_tally-requires-clause-few
+add_tally-requires-clause-few c =
+    let t = c.args.table.now in let s = c.args.system in let k = c.args.k in
+    let rs : c.as_slice.result.now ≡ records_in t s = c.as_slice.ensures.value ∙ ap (λ v. v.items) c.of.ensures in
+    (totals_small t s (plan_of c.args.file.now) k c.requires.fits (omega (arith, c.requires.place, c.requires.fits.few s)) (totals_are t s k rs c.requires.fits.places c.total_of-satellites.ensures.total)).1
+
+pub returns : goal.returns
+returns c =
+    let t = c.args.table.now in let s = c.args.system in let k = c.args.k in
+    let rs : c.as_slice.result.now ≡ records_in t s = c.as_slice.ensures.value ∙ ap (λ v. v.items) c.of.ensures in
+    signal_is (plan_of c.args.file.now) (contents_in t) s k (number_is t s k rs c.requires.fits.places c.total_of-satellites.ensures.satellites) (totals_are t s k rs c.requires.fits.places c.total_of-satellites.ensures.total)
+    (c.put.ensures ∙ ap (λ (l : List ℕ). l ++ codes "signal") c.new-line.ensures) (c.add_part.ensures.text ∙ ap (λ (b : ℕ). c.put.new.self ++ 0x20 ∷ b ∷ []) c.letter.ensures) c.add_code.ensures.text c.add_count.ensures.text c.add_tally.ensures.text c.finish.ensures

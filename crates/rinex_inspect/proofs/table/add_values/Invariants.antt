@@ -1,0 +1,6 @@
+use Rattle.std.proofs.Common.{◌≡◌, take}
+use Rattle.rinex_inspect.specs.inner.Tables.{added}
+use Rattle.rinex_inspect.proofs.table.add_values.Given as goal
+
+abbrev pub invariant-loop-k : goal.invariant-loop-k
+invariant-loop-k l = l.tallies ≡ added l.fn.tallies (take l.k l.values)
