@@ -203,7 +203,7 @@ of_each forms rules name isnt = (
     λ t. inr (inl refl),
     (
       λ t. inr (inr (inl refl)),
-      (λ t. inr (inr (inr (inl refl))), (λ t. inr (inr (inr (inr (inl refl)))), (λ t. inr (inr (inr (inr (inr refl)))), (λ t. absurd (isnt_answered name isnt t), tt)))),
+      (λ t. inr (inr (inr (inl refl))), (λ t. inr (inr (inr (inr (inl refl)))), (λ t. inr (inr (inr (inr (inr (inl refl))))), (λ t. inr (inr (inr (inr (inr (inr refl))))), (λ t. absurd (isnt_answered name isnt t), tt))))),
     ),
   ),
 )

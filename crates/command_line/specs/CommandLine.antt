@@ -99,6 +99,10 @@ times = flag (codes "times")
 abbrev pub gaps : Rule
 gaps = option (codes "gaps")
 
+-- the length of the periods of which values are counted
+abbrev pub every : Rule
+every = option (codes "every")
+
 -- whether all messages are shown
 abbrev pub all : Rule
 all = flag (codes "all")
@@ -159,6 +163,9 @@ show = with_options (new_app (codes "show")) (all ∷ [])
 abbrev pub check : App
 check = with_options (new_app (codes "check")) (times ∷ gaps ∷ from ∷ until ∷ [])
 
+abbrev pub quality : App
+quality = with_options (new_app (codes "quality")) (every ∷ [])
+
 abbrev pub convert : (forms rules : Choices) → App
 convert forms rules = with_options (with_options (new_app (codes "convert"))
     (week ∷ near ∷ date ∷ from ∷ until ∷ interval ∷ tolerance
@@ -180,7 +187,8 @@ signal_commands =
     with_subcommand (with_subcommand listings (of_station (codes "signals")).top) fitting.top
 
 abbrev pub program : (forms rules : Choices) → App
-program forms rules = with_subcommand (with_subcommand signal_commands (convert forms rules).top) check.top
+program forms rules =
+    with_subcommand (with_subcommand (with_subcommand signal_commands (convert forms rules).top) check.top) quality.top
 
 -- the commands and options are those of the program
 abbrev pub IsProgram : App → Type 0

@@ -278,9 +278,32 @@ const CHECK: CommandRow<'static> = CommandRow {
     },
 };
 
+/// The command `quality`.
+const QUALITY: CommandRow<'static> = CommandRow {
+    name: "quality",
+    about: "Prints what each signal and each satellite of a file has",
+    examples: "Example: rtcm2rinex quality < station.obs\n\
+               A line as 'signal G 1C satellites 9 c 9 l 9 d 0 s 9 lost 1 half 0 mean 41.250'\n\
+               counts the satellites with a signal, its values C, L, D and S, its phases with\n\
+               a loss of lock and with a half cycle, and gives the mean strength in dB-Hz. A\n\
+               line of a satellite counts the epochs in which it has a line, of those of the\n\
+               file from its first to its last. With --every a line is of a satellite and\n\
+               signal in a period, and begins with the period's start.",
+    options: option_rows! {
+        None => {
+            "every", "SECONDS", false, &[], TEXT, Set,
+                "Prints each satellite and signal in periods of\n\
+                 this length, 1 to 86400, a divisor of a day";
+        }
+    },
+};
+
 /// Returns the row of the program, and those of its commands, in the order of the help text.
-pub fn program_rows() -> (CommandRow<'static>, [CommandRow<'static>; 6])
+pub fn program_rows() -> (CommandRow<'static>, [CommandRow<'static>; 7])
     ensures { AreRows result.0 result.1 }
 {
-    (PROGRAM, [FRAMES, SHOW, SIGNALS, OPTIONS, CONVERT, CHECK])
+    (
+        PROGRAM,
+        [FRAMES, SHOW, SIGNALS, OPTIONS, CONVERT, CHECK, QUALITY],
+    )
 }

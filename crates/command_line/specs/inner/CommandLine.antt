@@ -11,7 +11,7 @@ use Rattle.clap.specs.declared.parser.matches.ArgMatches.{ArgMatches}
 use Rattle.clap.specs.declared.builder.command.Command.{Command}
 use Rattle.command_line.specs.declared.commands.CommandRow.{CommandRow}
 use Rattle.command_line.specs.declared.commands.OptionRow.{OptionRow}
-use Rattle.command_line.specs.CommandLine.{named, required, with_options, start_of, program, IsProgram, SelectsCommand}
+use Rattle.command_line.specs.CommandLine.{named, with_options, start_of, program, IsProgram, SelectsCommand}
 use Rattle.command_line.specs.CommandLine.{FailsParsing}
 
 -- ---- options
@@ -47,7 +47,7 @@ abbrev pub IsCommand : Text → Type 0
 IsCommand name =
     (name ≡ codes "frames") ⊎ (name ≡ codes "show") ⊎ (name ≡ codes "signals") ⊎ (name ≡ codes "options")
     ⊎ (name ≡ codes "convert")
-    ⊎ (name ≡ codes "check")
+    ⊎ (name ≡ codes "check") ⊎ (name ≡ codes "quality")
 
 -- ---- what words ask for, by clap's own definitions
 
