@@ -60,6 +60,8 @@ error_words faults.BadTolerance =
     codes "BadTolerance" ∷ codes "--tolerance SECONDS: up to 3 decimals, 0 to 0.5,"
     ∷ codes "at most half of --interval" ∷ []
 error_words faults.BadGaps = codes "BadGaps" ∷ codes "--gaps SECONDS: up to 3 decimals, 0.001 to 86400" ∷ []
+error_words faults.BadEvery =
+    codes "BadInterval" ∷ codes "--every SECONDS: up to 3 decimals, 1 to 86400," ∷ codes "a divisor of a day" ∷ []
 error_words faults.AllOf = codes "AllOf" ∷ codes "--gaps SECONDS, --from TIME, --until TIME: all of them" ∷ []
 error_words faults.BadGapsWindow = codes "BadWindow" ∷ codes "--until TIME: whole intervals after --from" ∷ []
 error_words (faults.Header e) = header_words e

@@ -15,6 +15,7 @@ fault_status faults.BadWindow = 2
 fault_status faults.BadInterval = 2
 fault_status faults.BadTolerance = 2
 fault_status faults.BadGaps = 2
+fault_status faults.BadEvery = 2
 fault_status faults.AllOf = 2
 fault_status faults.BadGapsWindow = 2
 fault_status other = 1

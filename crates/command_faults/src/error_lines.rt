@@ -55,6 +55,9 @@ fn add_error(line: &mut OutputLine, fault: CommandFault)
         CommandFault::BadGaps => line.add_word(
             "BadGaps --gaps SECONDS: up to 3 decimals, 0.001 to 86400",
         ),
+        CommandFault::BadEvery => line.add_word(
+            "BadInterval --every SECONDS: up to 3 decimals, 1 to 86400, a divisor of a day",
+        ),
         CommandFault::AllOf => line.add_word(
             "AllOf --gaps SECONDS, --from TIME, --until TIME: all of them",
         ),

@@ -29,6 +29,8 @@ pub enum CommandFault {
     BadTolerance,
     /// The text of `--gaps` isn't an interval.
     BadGaps,
+    /// The text of `--every` isn't the length of a period.
+    BadEvery,
     /// Of the options `--gaps`, `--from` and `--until` of `check` some are given, but not all.
     AllOf,
     /// The time of `--until` isn't a whole number of intervals of `--gaps` after that of `--from`.

@@ -29,6 +29,7 @@ pub fn exit_status<E: Deliver>(ended: Result<(), CommandFault>, faults: &mut Cou
         | CommandFault::BadInterval
         | CommandFault::BadTolerance
         | CommandFault::BadGaps
+        | CommandFault::BadEvery
         | CommandFault::AllOf
         | CommandFault::BadGapsWindow => 2,
         _ => 1,

@@ -1,6 +1,7 @@
 //! Reads an RTCM 3 stream from standard input, and writes its content to standard output: its
 //! frames, its messages, its signals, or the RINEX 3.05 observation file of its observations. The
-//! command `check` reads such a file back and reports whether it is accepted.
+//! command `check` reads such a file back and reports whether it is accepted, and `quality` counts
+//! its values.
 #![tactic(auto)]
 
 use command_line::joined_words;

@@ -4,6 +4,7 @@ use Rattle.std.proofs.Common.{Global, String}
 use Rattle.rtcm_command.specs.Commands.{refusal_line}
 use Rattle.rtcm_command.proofs.Names.{◌≡◌, ◌∙◌, inl, inr, refl, sym, subst, codes, ap, ap₂, option_map, ℕ, List, Option, Some, None, Result, Ok, Err, arith, ⊤, ◌≢◌, IsCommand, box_value, option_map_or, Box, found_of, subcommand_rows, subcommand_rows_of, Row, Text, rows_of, out-SubCommand, SubCommand, kind_of, Error, ArgMatches, AreFine, AreUntouched, Devices, EndsInspection, Reader, Writer, culprit, SelectsCommand, IsFoundIn, RefusesWords, FailsParsing, AreRefused, AreRefusedBy, EndsCommand, EndsFound, HasCommand, HasCompleted, HasDone, HasStopped, HasStoppedEarly, StopsPrinting, fault_status, status_of, error_line, length, lit<, ◌<◌, PrintsLine, PrintsSome, PrintsFault, InspectFault, Ends, of_inspection, EndsOnFile, FileFault, of_file, CommandFault, HaveFailedBy, IsErrAnd, passed}
 use Rattle.clap.specs.declared.error.kind.ErrorKind.TheVariants as kind
+use Rattle.rinex_inspect.specs.Faults as of_files
 use Rattle.rtcm_inspect.specs.Devices as inspection
 use Rattle.command_faults.specs.declared.fault.CommandFault.TheVariants as faults
 
@@ -44,9 +45,17 @@ module _ {R W : Type 0} (n : Text) (o : List Row) (d d2 : Devices R W) where
   ends_inspected (Ok u) e h = (inspection_fine h, inr (inl h, refl))
   ends_inspected (Err f) e h = (inspection_failed f h, (inr (inl (f, refl, h)), refl))
 
+  file_fine : EndsOnFile (Ok tt) n o d d2 → AreFine d d2
+  file_fine (inl h) = h.1.2.0
+  file_fine (inr h) = h.1.2.0
+
+  file_failed : (e : FileFault) → EndsOnFile (Err e) n o d d2 → HaveFailedBy (of_files.culprit e) d d2
+  file_failed e (inl h) = h.1.2.0
+  file_failed e (inr h) = h.1.2.0
+
   ends_on_file : {E : Type 0} (ended : Result ⊤ FileFault) (e : Writer E) → EndsOnFile ended n o d d2 → EndsCommand (of_file ended) n o e e d d2
-  ends_on_file (Ok u) e h = (h.1.2.0, inr (inr h, refl))
-  ends_on_file (Err f) e h = (h.1.2.0, (inr (inr (inl (f, refl, h))), refl))
+  ends_on_file (Ok u) e h = (file_fine h, inr (inr h, refl))
+  ends_on_file (Err f) e h = (file_failed f h, (inr (inr (inl (f, refl, h))), refl))
 
 pub has_command : (words : List Text) (m : ArgMatches) → IsFoundIn words m → HasCommand m
 has_command words m found = (found.0, found.1, found.2, found.3)
@@ -60,18 +69,19 @@ sub_found {n = n} {o} (Some b) e f =
     let q : o ≡ rows_of (found_of (out-SubCommand (box_value b)).matches) = ap (λ (x : Option (List Row)). option_map_or (λ y. y) x o) f in
     sym (ap₂ (λ (x : Text) (y : List Row). Some (x, y)) p q)
 
-only_check : (n : Text) → IsCommand n → (n ≢ codes "frames") → (n ≢ codes "show") → (n ≢ codes "signals") → (n ≢ codes "options") → (n ≢ codes "convert") → n ≡ codes "check"
-only_check n (inl e) f s g p v = absurd (f e)
-only_check n (inr (inl e)) f s g p v = absurd (s e)
-only_check n (inr (inr (inl e))) f s g p v = absurd (g e)
-only_check n (inr (inr (inr (inl e)))) f s g p v = absurd (p e)
-only_check n (inr (inr (inr (inr (inl e))))) f s g p v = absurd (v e)
-only_check n (inr (inr (inr (inr (inr e))))) f s g p v = e
+only_quality : (n : Text) → IsCommand n → (n ≢ codes "frames") → (n ≢ codes "show") → (n ≢ codes "signals") → (n ≢ codes "options") → (n ≢ codes "convert") → (n ≢ codes "check") → n ≡ codes "quality"
+only_quality n (inl e) f s g p v c = absurd (f e)
+only_quality n (inr (inl e)) f s g p v c = absurd (s e)
+only_quality n (inr (inr (inl e))) f s g p v c = absurd (g e)
+only_quality n (inr (inr (inr (inl e)))) f s g p v c = absurd (p e)
+only_quality n (inr (inr (inr (inr (inl e))))) f s g p v c = absurd (v e)
+only_quality n (inr (inr (inr (inr (inr (inl e)))))) f s g p v c = absurd (c e)
+only_quality n (inr (inr (inr (inr (inr (inr e)))))) f s g p v c = e
 
 -- the command that was found, if it isn't one of the others
-pub is_check : {n : Text} {o : List Row} (m : ArgMatches) → HasCommand m → subcommand_rows_of m ≡ Some (n, o) → (n ≢ codes "frames") → (n ≢ codes "show") → (n ≢ codes "signals") → (n ≢ codes "options") → (n ≢ codes "convert")
-    → n ≡ codes "check"
-is_check {n} m (name, options, one, found) rows = only_check n (subst IsCommand (ap (λ (x : Option (Text × List Row)). option_map_or (λ p. p.0) x n) (sym found ∙ rows)) one)
+pub is_quality : {n : Text} {o : List Row} (m : ArgMatches) → HasCommand m → subcommand_rows_of m ≡ Some (n, o) → (n ≢ codes "frames") → (n ≢ codes "show") → (n ≢ codes "signals") → (n ≢ codes "options") → (n ≢ codes "convert")
+    → (n ≢ codes "check") → n ≡ codes "quality"
+is_quality {n} m (name, options, one, found) rows = only_quality n (subst IsCommand (ap (λ (x : Option (Text × List Row)). option_map_or (λ p. p.0) x n) (sym found ∙ rows)) one)
 
 -- how a command that reads a stream and doesn't convert it ended
 pub inspection_found : {R W E : Type 0} {ended : Result ⊤ CommandFault} {rows : Option (Text × List Row)} {n : Text} {o : List Row} (d d2 : Devices R W) (e : Writer E) (inspection : Result ⊤ InspectFault) → ended ≡ of_inspection inspection → rows ≡ Some (n, o)
@@ -149,7 +159,7 @@ refused_by d d2 name options fault two (inl (n, inr (x, start, (e, same, stops))
 refused_by d d2 name options fault two (inr (inl (e, same, stops))) = absurd (one_two (sym (ap fault_status same) ∙ two))
 refused_by d d2 name options fault two (inr (inr (inl (e, same, stops)))) = absurd (one_two (sym (ap fault_status same) ∙ two))
 refused_by d d2 name options fault two (inr (inr (inr (inl (n, refused, untouched))))) = (inr (inl (n, refused)), untouched)
-refused_by d d2 name options fault two (inr (inr (inr (inr (n, refused, untouched))))) = (inr (inr (n, refused)), untouched)
+refused_by d d2 name options fault two (inr (inr (inr (inr (refused, untouched))))) = (inr (inr refused), untouched)
 
 pub refused_at_two : {R W E : Type 0} {d d2 : Devices R W} {e e1 e2 : Writer E} {words : List Text} {m : ArgMatches} {status : ℕ} (ended : Result ⊤ CommandFault) → Served d d2 e e1 e2 words m ended status → status ≡ 2
     → AreRefused words e e2 × AreUntouched d d2

@@ -16,13 +16,15 @@ use Rattle.rtcm_inspect.specs.ShowLines.{show_lines}
 use Rattle.rtcm_inspect.specs.Signals.{AreSignalsOf, AreSignalsRefused}
 use Rattle.rtcm_inspect.specs.StreamOutput.{EndsStream}
 use Rattle.rinex_inspect.specs.Checking.{EndsCheck}
+use Rattle.rinex_inspect.specs.Quality.{EndsQuality}
 use Rattle.rtcm_command.specs.Converting.{IsConverted, StopsConverting}
 use Rattle.command_line.specs.CommandLine.{SelectsCommand, FailsParsing}
 use Rattle.command_line.specs.inner.CommandLine.{IsCommand}
 use Rattle.rtcm_command.specs.Devices.{IsInspected, IsOfFile, culprit}
 use Rattle.command_faults.specs.ErrorLines.{error_line}
 use Rattle.command_faults.specs.Status.{fault_status}
-use Rattle.rtcm_command.specs.SetupOptions.{IsNumberOf, IsSetupRefused, IsSourceRefused, IsSourceSet, has_flag}
+use Rattle.rtcm_command.specs.SetupOptions.{IsNumberOf, IsSetupRefused, IsSourceRefused, IsSourceSet, every_set}
+use Rattle.rtcm_command.specs.SetupOptions.{has_flag}
 use Rattle.rtcm_command.specs.CompleteOptions.{IsCompleteSet}
 use Rattle.rtcm_inspect.specs.declared.printed_week.WeekSource.{WeekSource}
 use Rattle.rtcm_inspect.specs.declared.fault.InspectFault.{InspectFault}
@@ -58,11 +60,22 @@ EndsInspection result name options d d' =
     × OfSource options (λ source wanted.
     EndsStream result (AreOptionsOf source wanted) (AreOptionsRefused source wanted) d d'))
 
--- how a command that reads a file ended with these options: the file was read back
+-- for the length of the periods, if it is given
+abbrev pub OfEvery : List Row → (Option ℕ → Type 0) → Type 0
+OfEvery options Does = (every : Option ℕ) × (every_set options ≡ Ok every) × Does every
+
+-- how a command that reads a file ended with these options: the file was read back, or its values were counted
 abbrev pub EndsOnFile : {R W : Type 0} → Result ⊤ FileFault → Text → List Row → (d d' : Devices R W) → Type 0
 EndsOnFile result name options d d' =
-    (name ≡ codes "check") × OfComplete options (λ complete.
-    EndsCheck (record { complete = complete; times = has_flag (codes "times") options }) result d d')
+    ((name ≡ codes "check") × OfComplete options (λ complete.
+    EndsCheck (record { complete = complete; times = has_flag (codes "times") options }) result d d'))
+    ⊎ ((name ≡ codes "quality") × OfEvery options (λ every. EndsQuality every result d d'))
+
+-- the options of a command that reads a file are refused with this fault
+abbrev pub AreFileOptionsRefused : Text → List Row → CommandFault → Type 0
+AreFileOptionsRefused name options fault =
+    ((name ≡ codes "check") × IsCompleteSet options (Err fault))
+    ⊎ ((name ≡ codes "quality") × (every_set options ≡ Err fault))
 
 -- The command of this name completed: the file of the stream was written, which has an epoch, and its report was
 -- printed; or any other command, and nothing was written to standard error.
@@ -71,7 +84,7 @@ HasDone name options e e' d d' =
     ((name ≡ codes "convert") × IsConverted options d d' e e')
     ⊎ ((EndsInspection (Ok tt) name options d d' ⊎ EndsOnFile (Ok tt) name options d d') × (e' ≡ e))
 
--- The command was stopped by a fault, or it was refused for the date, the two options or the interval, and nothing was
+-- The command was stopped by a fault, or it was refused for the date, the two options or an interval, and nothing was
 -- read or written.
 abbrev pub HasStopped : {R W : Type 0} → Text → List Row → (d d' : Devices R W) → CommandFault → Type 0
 HasStopped name options d d' fault =
@@ -79,7 +92,7 @@ HasStopped name options d d' fault =
     ⊎ IsInspected (λ e. EndsInspection (Err e) name options d d') fault
     ⊎ IsOfFile (λ e. EndsOnFile (Err e) name options d d') fault
     ⊎ ((name ≡ codes "options") × IsSourceRefused options fault × AreUntouched d d')
-    ⊎ ((name ≡ codes "check") × IsCompleteSet options (Err fault) × AreUntouched d d')
+    ⊎ (AreFileOptionsRefused name options fault × AreUntouched d d')
 
 -- how the command ended; it prints no fault
 abbrev pub EndsCommand : {A R W E : Type 0} → Result A CommandFault → Text → List Row → (e e' : Writer E)
@@ -138,7 +151,7 @@ abbrev pub AreRefusedBy : Text → List Row → CommandFault → Type 0
 AreRefusedBy name options fault =
     ((name ≡ codes "convert") × IsSetupRefused options fault)
     ⊎ ((name ≡ codes "options") × IsSourceRefused options fault)
-    ⊎ ((name ≡ codes "check") × IsCompleteSet options (Err fault))
+    ⊎ AreFileOptionsRefused name options fault
 
 -- The words lead to an error other than the version's text, and a text was printed; or they ask for a command with an
 -- option whose date, time, position, antenna height, list of channels, window, interval or tolerance is invalid, or with

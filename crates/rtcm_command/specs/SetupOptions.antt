@@ -1,6 +1,7 @@
 -- The values that the options of the commands give.
 use Rattle.std.specs.Prelude.{◌≡◌, ◌<◌, ◌^◌, nat_lt, ℕ, ℤ, List, [], ◌∷◌, map, Option, Some, None, Result, Ok, Err, codes}
-use Rattle.std.specs.Prelude.{Bool, true, false, is_some, option_and_then, ok_or, unwrap_or, not, ◌⊎◌, if◌then◌else◌}
+use Rattle.std.specs.Prelude.{Bool, true, false, is_some, nat_le, option_and_then, ok_or, unwrap_or, not, ◌⊎◌}
+use Rattle.std.specs.Prelude.{if◌then◌else◌}
 use Rattle.std.specs.Str.{bytes_eq}
 use Rattle.std.specs.Str.Parse.{IsNumeral, digits_value, without_leading_plus}
 use Rattle.clap.specs.Walk.{Row, first_of, one_of, rows_of}
@@ -141,6 +142,14 @@ interval_in fault read text = interval_by fault text (option_and_then read text)
 -- the interval that `--gaps` gives, if it is given, or its fault
 abbrev pub gaps_set : List Row → Result (Option ℕ) CommandFault
 gaps_set options = interval_in faults.BadGaps interval_of (first_of (codes "gaps") options)
+
+-- the length of a period: an interval of epochs of 1 s or more
+abbrev pub period_length_of : List ℕ → Option ℕ
+period_length_of text = option_and_then (λ n. if nat_le 1000 n then Some n else None) (epoch_interval_of text)
+
+-- the length of the periods that `--every` gives, if it is given, or its fault
+abbrev pub every_set : List Row → Result (Option ℕ) CommandFault
+every_set options = interval_in faults.BadEvery period_length_of (first_of (codes "every") options)
 
 -- ---- the choice of epochs
 

@@ -19,8 +19,8 @@ ghost use Rattle.rtcm_command.specs.SetupOptions.{options_of};
 
 use crate::convert::{report_line, run_convert};
 use crate::options::{
-    channels_of, choice_of, complete_of, has_flag, setup_of, source_of, start_of, station_of,
-    values_of,
+    channels_of, choice_of, complete_of, every_of, has_flag, setup_of, source_of, start_of,
+    station_of, values_of,
 };
 use clap::ArgMatches;
 use clap::error::ErrorKind;
@@ -28,7 +28,7 @@ use command_faults::{CommandFault, error_line, exit_status};
 use command_line::{VERSION, drop_matches, parse};
 use devices::{Counted, Deliver, print_line, print_text};
 use gnss_system::System;
-use rinex_inspect::{CheckOptions, FileFault, run_check_with};
+use rinex_inspect::{CheckOptions, FileFault, run_check_with, run_quality};
 use rtcm_inspect::{InspectFault, Listing, list, run_frames, run_options, run_show, run_signals};
 use rtcm_scan::MOST_BYTES;
 use std::alloc::Global;
@@ -102,11 +102,15 @@ fn run<R: Read, W: Deliver, E: Deliver>(
             of_inspection(run_options(alloc, station_of(options), source, reader, writer))
         }
         "convert" => convert(alloc, options, reader, writer, faults),
-        _ => {
+        "check" => {
             let complete = complete_of(options)?;
             let times = has_flag(options, "times");
             let asked = CheckOptions { complete, times };
             of_file(run_check_with(alloc, asked, reader, writer))
+        }
+        _ => {
+            let every = every_of(options)?;
+            of_file(run_quality(alloc, every, reader, writer))
         }
     }
 }

@@ -11,7 +11,7 @@ ghost use Rattle.rtcm_command.specs.SetupOptions.{HasSetupFault, IsChoiceSet, Is
 ghost use Rattle.rtcm_command.specs.SetupOptions.{IsNumberOr, IsTimeIn, IsWindowSet, channels_set, interval_set};
 ghost use Rattle.rtcm_command.specs.SetupOptions.{plan_texts, tolerance_set};
 ghost use Rattle.rtcm_command.specs.SetupOptions.{IsSetupOf, IsSourceRefused, IsSourceSet, IsStartRefused, IsStartSet};
-ghost use Rattle.rtcm_command.specs.SetupOptions.{gaps_set, has_flag, usual_leap};
+ghost use Rattle.rtcm_command.specs.SetupOptions.{every_set, gaps_set, has_flag, period_length_of, usual_leap};
 ghost use Rattle.rinex_inspect.specs.Gaps.{IsCompleteness};
 ghost use Rattle.rtcm_command.specs.CompleteOptions.{IsCompleteSet, IsTimeGiven, IsWindowOf, is_given, lacks_one};
 ghost use Rattle.rtcm_command.specs.CompleteOptions.{whole_window};
@@ -197,6 +197,34 @@ fn whole_window(
     } else {
         Err(CommandFault::BadGapsWindow)
     }
+}
+
+/// Returns the length of the periods of `--every`, or `None` if the option isn't given.
+///
+/// # Errors
+///
+/// `BadEvery` if the text isn't the length of a period.
+pub fn every_of(options: &ArgMatches) -> Result<Option<Interval>, CommandFault>
+    ensures { result ≡ every_set (options_of options.now) }
+{
+    match options.get_str("every") {
+        Some(text) => match period_length_of(text) {
+            Some(every) => Ok(Some(every)),
+            None => Err(CommandFault::BadEvery),
+        },
+        None => Ok(None),
+    }
+}
+
+/// Returns the interval of epochs in a text if it is 1 s or more.
+fn period_length_of(text: &str) -> Option<Interval>
+    ensures { result ≡ period_length_of text.now }
+{
+    let every = epoch_interval_of(text)?;
+    if every.milliseconds() < 1_000 {
+        return None;
+    }
+    Some(every)
 }
 
 /// Returns the choice of the epochs that are written.

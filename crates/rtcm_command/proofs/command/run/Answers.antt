@@ -1,9 +1,9 @@
-use Rattle.rtcm_command.proofs.CommandLemmas.{ends_so, file_found, inspection_found, is_check, option_refused, sub_found}
-use Rattle.rtcm_command.proofs.OptionLemmas.{no_device, refused_complete, source_fault}
+use Rattle.rtcm_command.proofs.CommandLemmas.{ends_so, file_found, inspection_found, is_quality, option_refused, sub_found}
+use Rattle.rtcm_command.proofs.OptionLemmas.{bad_interval, no_device, refused_complete, source_fault}
 use Rattle.rtcm_command.specs.Devices.{culprit}
 use Rattle.devices.specs.Devices.{HaveFailedBy}
 use Rattle.command_faults.specs.declared.fault.CommandFault.{CommandFault}
-use Rattle.rtcm_command.proofs.Names.{◌∙◌, Bool, inl, inr, refl, subst, sym, devices_of, options_of, writer_of}
+use Rattle.rtcm_command.proofs.Names.{◌∙◌, Bool, codes, first_of, inl, inr, refl, subst, sym, devices_of, options_of, writer_of}
 use Rattle.rtcm_scan.specs.Scan.{most_bytes}
 use Rattle.rinex_inspect.specs.Checking.{EndsCheck}
 use Rattle.rtcm_inspect.specs.Listing.{EndsListing}
@@ -59,16 +59,24 @@ returns-in-convert g c =
       ends_so c.convert.result d d2 (λ x h. inl (c.in-convert.is, h)) (λ f h. (inl (c.in-convert.is, h.0), h.1)) c.convert.ensures,
     )
 
-pub returns-in_ok-complete-in_default-name : goal.returns-in_ok-complete-in_default-name
-returns-in_ok-complete-in_default-name g c =
+pub returns-in_ok-complete-in-check : goal.returns-in_ok-complete-in-check
+returns-in_ok-complete-in-check g c =
     let at = devices_of g.R.Read.remaining g.W.Write.contents g.W.Deliver.waiting in
     let d = at c.args.reader.now c.args.writer.now in
     let d2 = at c.run_check_with.new.reader c.run_check_with.new.writer in
+    let h = subst (λ (b : Bool). EndsCheck (record { complete = c.in_ok-complete-in-check.complete; times = b }) c.run_check_with.result d d2) c.has_flag-times.ensures c.run_check_with.ensures.ends in
+    file_found d d2 (writer_of g.E.Write.contents g.E.Deliver.waiting c.args.faults.now) c.run_check_with.result c.of_file.ensures (sub_found _ c.in-Some.ensures.name c.in-Some.ensures.rows)
+    (inl (c.in-check.is, (c.in_ok-complete-in-check.complete, c.in_ok-complete-in-check.ensures.set, h)))
+
+pub returns-in_ok-every-in_default-name : goal.returns-in_ok-every-in_default-name
+returns-in_ok-every-in_default-name g c =
+    let at = devices_of g.R.Read.remaining g.W.Write.contents g.W.Deliver.waiting in
+    let d = at c.args.reader.now c.args.writer.now in
+    let d2 = at c.run_quality.new.reader c.run_quality.new.writer in
     let found = sub_found _ c.in-Some.ensures.name c.in-Some.ensures.rows in
-    let n = is_check c.args.matches.now c.requires found c.in_default-name.not-frames c.in_default-name.not-show c.in_default-name.not-signals c.in_default-name.not-options c.in_default-name.not-convert in
-    let h = subst (λ (b : Bool). EndsCheck (record { complete = c.in_ok-complete-in_default-name.complete; times = b }) c.run_check_with.result d d2) c.has_flag-times.ensures c.run_check_with.ensures.ends in
-    file_found d d2 (writer_of g.E.Write.contents g.E.Deliver.waiting c.args.faults.now) c.run_check_with.result c.of_file.ensures found
-    (n, (c.in_ok-complete-in_default-name.complete, c.in_ok-complete-in_default-name.ensures.set, h))
+    let n = is_quality c.args.matches.now c.requires found c.in_default-name.not-frames c.in_default-name.not-show c.in_default-name.not-signals c.in_default-name.not-options c.in_default-name.not-convert c.in_default-name.not-check in
+    file_found d d2 (writer_of g.E.Write.contents g.E.Deliver.waiting c.args.faults.now) c.run_quality.result c.of_file-in_default-name.ensures found
+    (inr (n, (c.in_ok-every-in_default-name.every, sym c.in_ok-every-in_default-name.ensures, c.run_quality.ensures.ends)))
 
 pub returns-in_err-source-in-options : goal.returns-in_err-source-in-options
 returns-in_err-source-in-options g c =
@@ -77,10 +85,16 @@ returns-in_err-source-in-options g c =
     let none = source_fault (λ (f : CommandFault). HaveFailedBy (culprit f) d d) (options_of c.in-Some.options.now) c.in_err-source-in-options.field-0.0 (refl, refl) (refl, refl) refused in
     option_refused d (writer_of g.E.Write.contents g.E.Deliver.waiting c.args.faults.now) c.from_residual.result c.from_residual.ensures.1 (sub_found _ c.in-Some.ensures.name c.in-Some.ensures.rows) refl none (inr (inr (inr (inl (c.in-options.is, refused, (refl, refl))))))
 
-pub returns-in_err-complete-in_default-name : goal.returns-in_err-complete-in_default-name
-returns-in_err-complete-in_default-name g c =
-    let found = sub_found _ c.in-Some.ensures.name c.in-Some.ensures.rows in
-    let n = is_check c.args.matches.now c.requires found c.in_default-name.not-frames c.in_default-name.not-show c.in_default-name.not-signals c.in_default-name.not-options c.in_default-name.not-convert in
+pub returns-in_err-complete-in-check : goal.returns-in_err-complete-in-check
+returns-in_err-complete-in-check g c =
     let d = devices_of g.R.Read.remaining g.W.Write.contents g.W.Deliver.waiting c.args.reader.now c.args.writer.now in
-    let set = c.in_err-complete-in_default-name.ensures.set in
-    option_refused d (writer_of g.E.Write.contents g.E.Deliver.waiting c.args.faults.now) c.from_residual-in_err-complete-in_default-name.result c.from_residual-in_err-complete-in_default-name.ensures.1 found refl (no_device c.in_err-complete-in_default-name.field-0.0 d (refused_complete (options_of c.in-Some.options.now) c.in_err-complete-in_default-name.field-0.0 set)) (inr (inr (inr (inr (n, set, (refl, refl))))))
+    let set = c.in_err-complete-in-check.ensures.set in
+    option_refused d (writer_of g.E.Write.contents g.E.Deliver.waiting c.args.faults.now) c.from_residual-in_err-complete-in-check.result c.from_residual-in_err-complete-in-check.ensures.1 (sub_found _ c.in-Some.ensures.name c.in-Some.ensures.rows) refl (no_device c.in_err-complete-in-check.field-0.0 d (refused_complete (options_of c.in-Some.options.now) c.in_err-complete-in-check.field-0.0 set)) (inr (inr (inr (inr (inl (c.in-check.is, set), (refl, refl))))))
+
+pub returns-in_err-every-in_default-name : goal.returns-in_err-every-in_default-name
+returns-in_err-every-in_default-name g c =
+    let found = sub_found _ c.in-Some.ensures.name c.in-Some.ensures.rows in
+    let n = is_quality c.args.matches.now c.requires found c.in_default-name.not-frames c.in_default-name.not-show c.in_default-name.not-signals c.in_default-name.not-options c.in_default-name.not-convert c.in_default-name.not-check in
+    let d = devices_of g.R.Read.remaining g.W.Write.contents g.W.Deliver.waiting c.args.reader.now c.args.writer.now in
+    let set = sym c.in_err-every-in_default-name.ensures in
+    option_refused d (writer_of g.E.Write.contents g.E.Deliver.waiting c.args.faults.now) c.from_residual-in_err-every-in_default-name.result c.from_residual-in_err-every-in_default-name.ensures.1 found (bad_interval (first_of (codes "every") (options_of c.in-Some.options.now)) _ set) (refl, refl) (inr (inr (inr (inr (inr (n, set), (refl, refl))))))
