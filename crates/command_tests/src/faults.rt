@@ -5,6 +5,7 @@ use super::check::CHECK;
 use super::convert::OPTIONS;
 use super::frames::{FRAMES, SHOW, SHOWN};
 use super::messages::{FINE, FRAMED_STATION, HEIGHT, LATE_FRAME};
+use super::quality::{EVERY, FIRST_PERIOD, PERIODS, QUALITY, RATED, TWO_EPOCHS};
 use super::scenario::Expected::{Fault, Good};
 use super::scenario::{Case, FAULTLESS, READ, Room, Setting, WRITE, assert_come};
 use super::signals::SIGNALS;
@@ -129,12 +130,14 @@ fn a_reader_may_fail_after_each_byte(rt: HostRuntime) {
     assert_reported(&rt, rt.alloc(), &READS);
 }
 
-static FLUSHED: [Failure; 5] = [
+static FLUSHED: [Failure; 7] = [
     (&FRAMES, ONE_FRAME, Lines("0 "), Device),
     (&SHOW, ONE_FRAME, Lines("0 "), Device),
     (&OPTIONS, ONE_FRAME, Lines("  "), Device),
     (&SIGNALS, ONE_FRAME, Lines("G "), Device),
     (&CHECK, FINE_FILE, Lines("ep"), Device),
+    (&QUALITY, FINE_FILE, Lines("ep"), Device),
+    (&EVERY, TWO_EPOCHS, Lines("20"), Device),
 ];
 
 // A buffer accepts every line, and its device fails when they are written.
@@ -143,12 +146,13 @@ fn a_flush_that_fails_is_given(rt: HostRuntime) {
     assert_reported(&rt, rt.alloc(), &FLUSHED);
 }
 
-static UNFLUSHED: [Failure; 5] = [
+static UNFLUSHED: [Failure; 6] = [
     (&FRAMES, ONE_FRAME, LISTED_FINE, Flush),
     (&SHOW, ONE_FRAME, SHOWN_FINE, Flush),
     (&OPTIONS, ONE_FRAME, FINE_FILE, Flush),
     (&SIGNALS, ONE_FRAME, Lines("G 1C 1\n"), Flush),
     (&CHECK, FINE_FILE, COUNTS, Flush),
+    (&EVERY, FINE_FILE, FIRST_PERIOD, Flush),
 ];
 
 // A writer accepts the output, and fails when it is flushed.
@@ -171,7 +175,7 @@ fn decided_output_is_flushed(rt: HostRuntime) {
 
 const FAILS: ReadEnd = ReadEnd::Fails(ErrorKind::Interrupted);
 
-static STOPPED: [Failure; 10] = [
+static STOPPED: [Failure; 14] = [
     (&FRAMES, ONE_FRAME, LISTED_FINE, Stop(FAILS, 1, READ)),
     (&FRAMES, ONE_FRAME, LISTED_FINE, Stop(ReadEnd::Ends, 0, "")),
     (&SHOW, ONE_FRAME, SHOWN_FINE, Stop(FAILS, 1, READ)),
@@ -192,6 +196,10 @@ static STOPPED: [Failure; 10] = [
     ),
     (&CHECK, FINE_FILE, Lines(""), Stop(FAILS, 1, READ)),
     (&CHECK, FINE_FILE, COUNTS, Stop(ReadEnd::Ends, 0, "")),
+    (&QUALITY, FINE_FILE, Lines(""), Stop(FAILS, 1, READ)),
+    (&QUALITY, FINE_FILE, RATED, Stop(ReadEnd::Ends, 0, "")),
+    (&EVERY, TWO_EPOCHS, FIRST_PERIOD, Stop(FAILS, 1, READ)),
+    (&EVERY, TWO_EPOCHS, PERIODS, Stop(ReadEnd::Ends, 0, "")),
 ];
 
 /// The lines of `FINE`.

@@ -27,6 +27,8 @@ mod messages;
 #[cfg(test)]
 mod near;
 #[cfg(test)]
+mod quality;
+#[cfg(test)]
 mod scenario;
 #[cfg(test)]
 mod signals;
