@@ -52,6 +52,8 @@ class File:
         self.complete = complete
         self.values: list[int] = []
         self.times: list[int] = []
+        # the satellite lines of each epoch
+        self.rows: list[list[str]] = []
         self.satellites = self.events = 0
         self.plan: dict[str, list[str]] = {}
 
@@ -199,9 +201,8 @@ class File:
         self.expect(all(value is None or cell[14:] == end for value, cell, end in zip(known, cells, ends)))
         return any(value is not None for value in known)
 
-    def satellite(self, before: tuple[str, int] | None) -> tuple[str, int]:
-        """Reads a satellite's line, which comes after that of another."""
-        line = self.take()
+    def satellite(self, line: str, before: tuple[str, int] | None) -> tuple[str, int]:
+        """Judges a satellite's line, which comes after that of another."""
         system, number = line[:1], int(line[1:3])
         self.expect(line[:3] == f"{system}{number:02}" and system in self.plan)
         self.expect(0 < number - NUMBER_OFFSETS[system] <= SATELLITES[system])
@@ -232,14 +233,33 @@ class File:
             if self.complete and not self.complete.has(time):
                 raise Fault(f"OtherDay {self.number}")
             yield "BadSatellite"
-            satellite = None
+            satellite, rows = None, []
             for _ in range(count):
-                satellite = self.satellite(satellite)
+                rows.append(self.take())
+                satellite = self.satellite(rows[-1], satellite)
             self.times.append(time)
+            self.rows.append(rows)
+
+    def fault(self) -> Fault | None:
+        """Reads the file. Returns its fault, if it has one."""
+        kind = ""
+        try:
+            for kind in self.read():
+                pass
+        except (ValueError, IndexError):
+            return Fault(f"{kind} {self.number}")
+        except Fault as fault:
+            return fault
+        return None
 
 
 def shown(time: int) -> str:
     return (datetime(1980, 1, 6) + timedelta(milliseconds=time)).isoformat(" ", "milliseconds")
+
+
+def counts_line(file: File) -> str:
+    """Returns the line of the counts of a file."""
+    return f"epochs {len(file.times)} satellites {file.satellites} events {file.events}"
 
 
 def time_lines(times: list[int]) -> list[str]:
@@ -259,20 +279,13 @@ def check_lines(data: bytes, has_times: bool = False, complete: Completeness | N
 
     Raises its fault, if it has one, after the gaps of the epochs before it.
     """
-    file, kind, fault = File(data, complete), "", None
-    try:
-        for kind in file.read():
-            pass
-    except (ValueError, IndexError):
-        fault = Fault(f"{kind} {file.number}")
-    except Fault as cut:
-        fault = cut
-    times = file.times
+    file = File(data, complete)
+    fault, times = file.fault(), file.times
     if complete:
         yield from gap_lines(complete, times, fault is None)
     if fault:
         raise fault
-    yield f"epochs {len(times)} satellites {file.satellites} events {file.events}"
+    yield counts_line(file)
     yield from time_lines(times) if has_times else []
     if complete:
         indexes = {complete.index(time, times[0]) for time in times}

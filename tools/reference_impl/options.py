@@ -123,6 +123,14 @@ def is_interval(interval: int) -> bool:
     return 100 <= interval <= DAY and DAY % interval == 0
 
 
+def period_of(text: str) -> int:
+    """Returns the period of the option `--every`, in ms."""
+    period = milliseconds_of(text) or 0
+    if period < 1000 or not is_interval(period):
+        raise Fault("BadInterval --every SECONDS: up to 3 decimals, 1 to 86400, a divisor of a day")
+    return period
+
+
 def time_of(text: str, option: str) -> int:
     """Returns the time of the option `--from` or `--until`, in ms from 1980-01-06."""
     found = re.fullmatch(r"([0-9-]{10})(?:T(\d\d):(\d\d):(\d\d))?", text, re.ASCII)
