@@ -2,7 +2,7 @@
 from collections.abc import Iterator
 from dataclasses import dataclass, field
 
-from .files import File, counts_line, shown, units
+from .files import LAST_TIME, File, counts_line, shown, units
 from .lines import fixed
 from .options import Fault
 
@@ -87,7 +87,8 @@ def period_lines(file: File, every: int, has_end: bool) -> Iterator[str]:
     """Yields the lines of the periods, without the last one if the file has a fault after it."""
     periods: dict[int, list[str]] = {}
     for time, rows in zip(file.times, file.rows):
-        periods.setdefault((time + EARLY) // every, []).extend(rows)
+        # there is no period after the last week
+        periods.setdefault(min(time + EARLY, LAST_TIME - 1) // every, []).extend(rows)
     if not has_end and periods:
         del periods[max(periods)]
     systems = list(file.plan)
