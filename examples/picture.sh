@@ -1,0 +1,160 @@
+#!/bin/sh
+# picture.sh OBS NAME [SECONDS]: draws an observation file, also compressed by gzip, by gnuplot. NAME-satellites.png has
+# which satellites are there when, coloured by their mean strength, with losses of lock and gaps; NAME-strength.png the
+# mean strength of each signal. Times are GPS time, in hours of the first day.
+#
+# A column of the pictures is a period of SECONDS, a divisor of a day; by default the shortest of which there are at
+# most 400. A gap is one by `rtcm2rinex check --gaps`, at the smallest step between epochs.
+set -eu
+obs=$1 name=$2 every=${3-}
+
+# how the file is asked: its first and last second, and its step, which a clock that jitters changes
+ask() { gzip -cdf "$obs" | rtcm2rinex "$@"; }
+times=$(ask check --times)
+first=$(date -u -d "$(echo "$times" | sed -n 's/^first //p')" +%s)
+last=$(date -u -d "$(echo "$times" | sed -n 's/^last //p')" +%s)
+step=$(echo "$times" | awk '
+    BEGIN { step = 1 }
+    $1 == "step" { step = $2 < 0.75 ? int($2 * 20 + 0.5) / 20 : int($2 + 0.5) }
+    END { print (step < 0.05 ? 0.05 : step) }')
+for seconds in 1 2 5 10 30 60 120 300 600 900 1800 3600 7200 14400 43200 86400; do
+    test "$seconds" -lt "${step%.*}" || test $((last - first)) -gt $((400 * seconds)) || break
+done
+every=${every:-$seconds}
+gaps=$(ask check --gaps "$step")
+whole=$(ask quality)
+periods=$(ask quality --every "$every")
+
+# the data and what depends on them, as a program for gnuplot
+data=$(printf '%s\n' "$whole" "$periods" "$gaps" | awk -v every="$every" -v step="$step" '
+    $1 == "gap" { froms[++holes] = seconds($2 " " $3) + step; tos[holes] = seconds($4 " " $5) }
+    $1 == "signal" && $13 > 0 { signals[++lines] = $2 " " $3 }
+    $1 == "satellite" { satellites[++rows] = $2 }
+    $1 ~ /T/ {
+        at = seconds($1)
+        if (!columns) { day = substr($1, 1, 10); midnight = at - at % 86400 }
+        x = at - midnight
+        if (!columns || x != column[columns]) column[++columns] = x
+        cells[x, $2] += $11 * $17
+        strengths[x, $2] += $11
+        lost[x, $2] += $13
+        signal = substr($2, 1, 1) " " $3
+        sums[x, signal] += $11 * $17
+        values[x, signal] += $11
+    }
+    END {
+        # a block without a point is an error
+        print "$gaps << EOD\nNaN NaN"
+        # of half a column at least, to be seen
+        for (n = 1; n <= holes; n++)
+            print froms[n] - midnight, max(tos[n], froms[n] + every / 2) - midnight
+        print "EOD"
+        print "$cells << EOD"
+        for (n = 1; n <= rows; n++)
+            for (i = 1; i <= columns; i++)
+                if ((key = column[i] SUBSEP satellites[n]) in cells)
+                    print column[i], n, (strengths[key] ? cells[key] / strengths[key] : 0)
+        print "EOD"
+        print "$lost << EOD\nNaN NaN"
+        for (n = 1; n <= rows; n++)
+            for (i = 1; i <= columns; i++)
+                if (lost[column[i], satellites[n]]) print column[i] + every / 2, n
+        print "EOD"
+        print "$strength << EOD"
+        low = 100
+        for (n = 1; n <= lines; n++) {
+            print "\"" signals[n] "\""
+            # a line ends at a period without a value
+            for (i = 1; i <= columns; i++) {
+                key = column[i] SUBSEP signals[n]
+                if (i > 1 && column[i] > column[i - 1] + every || !values[key]) print ""
+                if (!values[key]) continue
+                mean = sums[key] / values[key]
+                print column[i] + every / 2, mean
+                low = min(low, mean)
+                high = max(high, mean)
+            }
+            print "\n"
+        }
+        print "EOD"
+
+        # a day as a whole, or the part that the file has
+        begin = column[1]
+        end = column[columns] + every
+        if (end <= 86400 && end - begin > 43200) { begin = 0; end = 86400 }
+        count = split("1 2 5 10 15 30 60 120 300 600 900 1800 3600 7200 10800 14400 21600 43200 86400", steps, " ")
+        for (i = 1; i < count && steps[i] < (end - begin) / 13; i++);
+        format = steps[i] % 3600 == 0 ? "%tH" : steps[i] % 60 == 0 ? "%tH:%tM" : "%tH:%tM:%tS"
+        print "set xrange [" begin ":" end "]"
+        print "set xtics time format \"" format "\" " steps[i]
+        print "set xlabel \"GPS time from " day " 0 h\""
+        print "every = " every
+        print "rows = " rows
+        print "lines = " lines + 0
+        print "low = " int(low) - 1
+        print "high = " int(high) + 2
+        # the satellites of many rows are named at both sides by turns
+        sides = rows > 60 ? 2 : 1
+        print "set ytics ()" (sides == 2 ? "; set y2tics ()" : "")
+        for (n = 1; n <= rows; n++) {
+            tick = "(\"" satellites[n] "\" " n ")"
+            print "set " (n % sides ? "y2tics" : "ytics") " add " tick
+            if (n > 1 && substr(satellites[n], 1, 1) != substr(satellites[n - 1], 1, 1))
+                print "set arrow from graph 0, first " n - 0.5 " to graph 1, first " n - 0.5 " nohead lc \"#808080\""
+        }
+    }
+    function min(one, other) { return one < other ? one : other }
+    function max(one, other) { return one > other ? one : other }
+    function seconds(time,   year, month, days) {
+        year = substr(time, 1, 4)
+        month = substr(time, 6, 2) - 3
+        if (month < 0) { year--; month += 12 }
+        days = 365 * year + int(year / 4) - int(year / 100) + int(year / 400) + int((153 * month + 2) / 5)
+        days += substr(time, 9, 2)
+        return 86400 * days + 3600 * substr(time, 12, 2) + 60 * substr(time, 15, 2) + substr(time, 18)
+    }')
+
+# shellcheck disable=SC2016 # gnuplot has the names from the environment
+{
+    echo "$data"
+    cat << 'END'
+set terminal pngcairo size 1200,800 background "white" font "Sans,11" noenhanced
+set style fill solid noborder
+set tics nomirror
+set grid xtics lc "#d0d0d0"
+
+set output name . "-satellites.png"
+set title file . ": satellites, periods of " . every . " s"
+set yrange [rows + 0.5:0.5]
+set y2range [rows + 0.5:0.5]
+set tics scale 0 font "Sans,8"
+set key outside top right horizontal
+set cbrange [20:55]
+set cblabel "mean strength, dB-Hz"
+# no seams between the boxes
+width = 1.2 * every
+set palette maxcolors 35
+set palette defined (20 "#440154", 29 "#3b528b", 37 "#21918c", 46 "#5ec962", 55 "#fde725")
+plot $cells using 1:2:1:($1 + width):($2 - 0.4):($2 + 0.4):($3 > 0 ? $3 : NaN) with boxxy lc palette notitle, \
+    $cells using 1:($3 > 0 ? NaN : $2):1:($1 + width):($2 - 0.4):($2 + 0.4) with boxxy lc "#b0d0f0" \
+        title "no strength", \
+    $gaps using 1:(0):1:2:(0):(rows + 1) with boxxy lc "#c8c8c8" title "gap", \
+    $lost using 1:2 with points pt 7 ps 0.7 lc "white" notitle, \
+    $lost using 1:2 with points pt 7 ps 0.4 lc "black" title "loss of lock"
+
+if (lines == 0) exit
+set output name . "-strength.png"
+set title file . ": mean strength of the signals, periods of " . every . " s"
+unset y2tics
+unset arrow
+unset ytics
+set ytics font "Sans,11"
+set ylabel "dB-Hz"
+set yrange [low:high]
+set grid ytics
+set key outside right vertical
+set tics font "Sans,11"
+plot for [n = 0:lines - 1] $strength index n using 1:2 with linespoints lw 2 dt n / 8 + 1 pt 7 ps 0.3 \
+    title columnheader(1)
+END
+} | NAME=$name FILE=${obs##*/} gnuplot -e 'name = system("echo \"$NAME\""); file = system("echo \"$FILE\"")' -
