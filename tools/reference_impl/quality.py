@@ -4,7 +4,6 @@ from dataclasses import dataclass, field
 
 from .files import LAST_TIME, File, counts_line, shown, units
 from .lines import fixed
-from .options import Fault
 
 # An epoch this number of ms before a period is in it.
 EARLY = 50
