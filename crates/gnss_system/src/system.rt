@@ -56,7 +56,15 @@ impl System {
         requires { index < length systems }
         ensures { index_of result ≡ index }
     {
-        SYSTEMS[index]
+        // Indexing `SYSTEMS` makes each loop over the systems copy the array to the stack.
+        match index {
+            0 => System::Gps,
+            1 => System::Galileo,
+            2 => System::Glonass,
+            3 => System::Beidou,
+            4 => System::Qzss,
+            _ => System::Sbas,
+        }
     }
 
     ghost use Rattle.gnss_system.specs.Satellites.{satellites, most_satellites, first_number, number_of, satellite_set};
