@@ -104,6 +104,15 @@ end_is (w ∷ ws) n len place end e = elim (cases_lt len (place + n * w)) [
   | inr there ↦ let more : nat_lt len (place + n * w) ≡ false = grind (arith, there) in end_is ws n len (place + n * w) end (rw more at e) ∙ two_more place n w (total_width ws)
 ]
 
+-- Data that are within the bits end where the sum of the widths says.
+pub end_there : (ws : List ℕ) (n len place : ℕ) → place + n * total_width ws ≤ len → end_of_rows ws n len place ≡ Ok (place + n * total_width ws)
+unfolding end_of_rows
+end_there [] n len place h = let same : place ≡ place + n * 0 = omega arith in ap Ok same
+end_there (w ∷ ws) n len place h =
+    let room : place + n * w + n * total_width ws ≤ len = rw (two_more place n w (total_width ws)) h in
+    let more : nat_lt len (place + n * w) ≡ false = grind (arith, room) in
+    rw more (end_there ws n len (place + n * w) room) ∙ ap Ok (two_more place n w (total_width ws))
+
 columns_next : (w : ℕ) (ws ps xs : List ℕ) (c d : Cursor) → column_at w ps c ≡ Ok (xs, d) → columns_at (w ∷ ws) ps c ≡ columns_at ws xs d
 unfolding columns_at
 columns_next w ws ps xs c d e = rw e refl

@@ -12,6 +12,7 @@ ghost use Rattle.rtcm_msg.specs.inner.Forms as inner_forms;
 ghost use Rattle.rtcm_msg.specs.Forms.{lock_codes, satellite_data, satellite_number, cell_data, cell_number};
 ghost use Rattle.rtcm_msg.specs.Forms.{IsSatelliteData, IsCellData};
 ghost use Rattle.rtcm_msg.specs.Numbers.{message_number};
+ghost use Rattle.rtcm_msg.specs.Packed.{total_width};
 ghost use Rattle.rtcm_msg.specs.Entries.{IsEntry, entries, entry_in};
 ghost use Rattle.rtcm_msg.specs.Encoding.{IsMessage};
 ghost use Rattle.rtcm_msg.specs.Decoding as decoding;
@@ -20,7 +21,7 @@ ghost use Rattle.rtcm_msg.specs.inner.Views as views;
 use crate::data::{Cell, LastBits, Satellite};
 use crate::entry::Entry;
 use crate::fault::MsgFault;
-use crate::field::end_of_fields;
+use crate::field::end_of_data;
 use crate::header::{Masks, MsmHeader, read_head};
 use crate::message::{Message, read_set};
 use crate::msm::msm_of;
@@ -72,6 +73,21 @@ impl Form {
             Form::Msm5 => (&[8, 4, 10, 14], &[15, 22, 4, 1, 6, 15]),
             Form::Msm6 => (&[8, 10], &[20, 24, 10, 1, 10]),
             Form::Msm7 => (&[8, 4, 10, 14], &[20, 24, 10, 1, 10, 15]),
+        }
+    }
+
+    /// Returns the sums of the widths in bits of the fields of a satellite and of a cell, as `widths`
+    /// has them.
+    pub(crate) fn total_widths(self) -> (usize, usize)
+        ensures satellite { result.0 ≡ total_width (forms.satellite_widths self) }
+        ensures cell { result.1 ≡ total_width (forms.cell_widths self) }
+        ensures narrow { (result.0 ≤ 36) × (result.1 ≤ 80) }
+    {
+        match self {
+            Form::Msm4 => (18, 48),
+            Form::Msm5 => (36, 63),
+            Form::Msm6 => (18, 65),
+            Form::Msm7 => (36, 80),
         }
     }
 }
@@ -245,6 +261,16 @@ impl<'a> MsmView<'a> {
         self.satellite(self.form(), i)
     }
 
+    /// Reads the data of satellite `i` of a message in the form `F`, for which it is compiled.
+    #[inline(never)]
+    fn read_satellite_in<const F: usize>(&self, i: usize) -> Satellite
+        requires form { inner_forms.form_as F ≡ self.now.form }
+        requires there { i < length self.now.msm.satellites }
+        ensures { result ≡ satellite_data self.now.form (slice_index self.now.msm.satellites i) }
+    {
+        self.satellite(form_as::<F>(), i)
+    }
+
     /// Returns the entry of cell `i`, which is of the satellite and the signal of `pair`.
     #[inline(always)]
     #[tactic(auto, using(crate::specs::inner::FormLaws::satellite_in_range))]
@@ -332,7 +358,7 @@ impl<'a> Entries<'a> {
         let satellite = if pair.index == self.index {
             self.cached
         } else {
-            view.read_satellite(pair.index)
+            view.read_satellite_in::<F>(pair.index)
         };
         let entry = view.entry(form_as::<F>(), pair, &satellite, cells.next);
         self.cells.pairs = pairs;
@@ -386,8 +412,15 @@ fn view_msm(bytes: &[u8], form: Form, system: System) -> Result<View<'_>, MsgFau
     let satellites = masks.satellites().count_ones() as usize;
     let cells = masks.cells().count_ones() as usize;
     let (satellite_widths, cell_widths) = form.widths();
-    let cells_at = end_of_fields(bytes, satellite_widths, satellites, satellites_at)?;
-    end_of_fields(bytes, cell_widths, cells, cells_at)?;
+    let (satellite_bits, cell_bits) = form.total_widths();
+    let cells_at = end_of_data(
+        bytes,
+        satellite_widths,
+        satellite_bits,
+        satellites,
+        satellites_at,
+    )?;
+    end_of_data(bytes, cell_widths, cell_bits, cells, cells_at)?;
     Ok(View::Msm(MsmView {
         form,
         system,
