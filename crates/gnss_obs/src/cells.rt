@@ -115,8 +115,9 @@ impl Cells {
     {
         let entry = slot(&x);
         self.table[entry] = self.list.len() as u8;
-        // Nothing: the prover has to meet the type of a cell's values before it lends the list.
-        let _ = x.c.is_some();
+        // The prover has to meet the type of a cell's values before it lends the list. A read of a
+        // value's tag would split the copy of the cell into more stores.
+        let _ = &x.c;
         self.list.push_reserved(x);
         self.least_next = least_next_after(self.least_next, entry);
     }

@@ -136,8 +136,9 @@ fn put_each_in(text: &[u8], last: &[u8; SIGNAL_COLUMNS], values: &mut [SignalVal
         let Some(entry) = written_at(text, last, SIGNAL_COLUMNS * i) else {
             return false;
         };
-        some |= entry.has_value();
         values[i] = entry;
+        // After a read of `entry`, its tags are stored byte by byte: 4 % of `check`.
+        some |= values[i].has_value();
     }
     some
 }

@@ -1,7 +1,7 @@
 use Rattle.rinex_file.proofs.Rows.Written.{signals_more, some_more}
 use Rattle.rinex_file.proofs.Rows.Cut.{filled_part, all_read}
 use Rattle.rinex_file.proofs.OneReading.{signal_at}
-use Rattle.rinex_file.proofs.Names.{arith, ◌≡◌, ◌∙◌, sym, subst, ◌+◌, ◌*◌, ◌<◌, take, length, [], ◌∷◌, ◌++◌, All, slice_set, ap, get_or, drop, take_more_set, All-push, AreSignalValues, filled_to, no_signal_values}
+use Rattle.rinex_file.proofs.Names.{arith, ◌≡◌, ◌∙◌, sym, subst, ◌+◌, ◌*◌, ◌<◌, take, length, [], ◌∷◌, ◌++◌, All, slice_set, ap, get_or, get_or-set_same, drop, take_more_set, All-push, AreSignalValues, has_some_value, filled_to, no_signal_values}
 use Rattle.rinex_file.proofs.read.row.put_each_in.Goals as goal
 
 pub loop-i-preserved : goal.loop-i-preserved
@@ -16,7 +16,8 @@ loop-i-preserved c =
     let pushed : new ≡ take i old ++ entry ∷ [] = take_more_set old i entry less in
     record {
       each = subst (All AreSignalValues) (sym pushed) (All-push AreSignalValues (take i old) entry c.loop-i.invariant.each c.in-Some.ensures.0);
-      some = some_more (take i old) new entry c.loop-i.some c.has_value-some.result pushed c.loop-i.invariant.some c.has_value-some.ensures;
+      some = some_more (take i old) new entry c.loop-i.some c.has_value-some.result pushed c.loop-i.invariant.some
+          (c.has_value-some.ensures ∙ ap has_some_value (get_or-set_same old i entry c.index-values-i.result less));
       text = signals_more (filled_to (64 * n) text) i (take i old) entry pushed c.loop-i.invariant.text
           (filled_part (64 * n) (64 * i) text (omega (arith, c.loop-i-test.true)) c.requires.room ∙ c.in-Some.ensures.1);
     }
