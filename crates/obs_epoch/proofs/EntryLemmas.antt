@@ -1,9 +1,12 @@
 -- The cells of a message, one by one: those that are listed, and the number of others.
 use Rattle.gnss_obs.specs.Channels.{ChannelsValue}
+use Rattle.gnss_obs.specs.Observables.{phase_by}
+use Rattle.obs_epoch.specs.Heard.{GatherSetup}
+use Rattle.obs_epoch.specs.inner.GathererSteps.{load_entry, planned_cell}
 use Rattle.obs_epoch.specs.Clock.{State}
 use Rattle.obs_epoch.specs.GathererAfter.{GathererValue}
-use Rattle.obs_epoch.specs.inner.Names.{System, Entry, CellOutcome, count_in, lacks_channel, seen_in, unlisted_in, HeardCell, with_skipped, Loaded, load, load_one, load_entries, with_unlisted, outcome_in, hold, hold_by, CellCounts, option_map_or, cons_option, Form}
-use Rattle.std.proofs.Common.{◌≡◌, ℕ, ◌+◌, Bool, List, [], ◌∷◌, refl, ap, ◌∙◌, arith, Option, Some, None, is_some, filter_map, cond}
+use Rattle.obs_epoch.specs.inner.Names.{System, Entry, Cell, cells_counted, heard_cell, CellOutcome, count_in, lacks_channel, seen_in, unlisted_in, HeardCell, with_skipped, Loaded, load, load_one, load_entries, with_unlisted, outcome_in, hold, hold_by, CellCounts, option_map_or, cons_option, Form}
+use Rattle.std.proofs.Common.{◌≡◌, ℕ, ◌+◌, ◌≤◌, ℤ, ◌&&◌, not, Bool, List, [], ◌∷◌, refl, ap, ◌∙◌, arith, Option, Some, None, is_some, filter_map, cond, option_and_then}
 use Rattle.std.proofs.lemmas.Grind.{common_steps}
 
 later_count : (b : Bool) (k : CellOutcome) (n : ℕ) (c : CellCounts) → count_in b k (with_skipped n c) ≡ with_skipped n (count_in b k c)
@@ -48,3 +51,35 @@ load_entries_is channels form system l (e ∷ es) same =
           ∙ ap (λ n. with_unlisted n (load (load_one l x) (listed channels form system es))) (zero-plus (others channels form system es)) where
             zero-plus : (n : ℕ) → n ≡ 0 + n
             zero-plus n = omega arith
+
+-- ---- what one entry adds
+
+pub record OneMore (l m : Loaded) : Type 0 where
+  pub clock : m.state.clock ≡ l.state.clock
+  pub one : cells_counted m.counts ≡ cells_counted l.counts + 1
+  pub less : l.counts.without_channel ≤ l.counts.kept → m.counts.without_channel ≤ m.counts.kept
+
+one_counted : (b : Bool) (k : CellOutcome) (n : CellCounts) → cells_counted (count_in b k n) ≡ cells_counted n + 1
+one_counted b k n = grind (arith, common_steps)
+
+one_less : (b : Bool) (k : CellOutcome) (n : CellCounts) → n.without_channel ≤ n.kept → (count_in b k n).without_channel ≤ (count_in b k n).kept
+one_less b k n h = grind (arith, common_steps)
+
+pub one_more : (form : Form) (system : System) (l : Loaded) (e : Entry) → OneMore l (load_entry form system l e)
+one_more form system l e = by (seen_in l.state.clock.setup.plan.channels form system e) where
+  by : (o : Option HeardCell) → OneMore l (option_map_or (load_one l) o (with_unlisted 1 l))
+  by None = record { clock = refl; one = omega arith; less = λ h. h }
+  by (Some x) = record {
+    clock = kept_setup (outcome_in l.state x) l.state x;
+    one = one_counted (lacks_channel l.state.clock.setup x) (outcome_in l.state x) l.counts;
+    less = one_less (lacks_channel l.state.clock.setup x) (outcome_in l.state x) l.counts;
+  }
+
+-- ---- the phase of a cell is that of its entry, if there is a carrier
+
+phase_known : (h : Option ℕ) (p : Option ℤ) → is_some (phase_by h p) ≡ (is_some p && not (not (is_some h)))
+phase_known h p = grind (arith, common_steps)
+
+pub has_phase_of : (s : GatherSetup) (form : Form) (system : System) (e : Entry) (x : Cell)
+    → Some x ≡ option_and_then (planned_cell s.plan) (seen_in s.plan.channels form system e) → is_some x.l ≡ (is_some e.phase && not (lacks_channel s (heard_cell x)))
+has_phase_of s form system e x is = grind (arith, common_steps, phase_known)

@@ -7,7 +7,7 @@ use Rattle.gnss_system.proofs.SystemLaws.{value_after, value_tabulated, with_sam
 use Rattle.gnss_system.specs.Systems.{systems}
 use Rattle.obs_epoch.specs.declared.choice.Choice.{Choice}
 use Rattle.obs_epoch.specs.Choices.{on_grid}
-use Rattle.obs_epoch.specs.inner.Marks.{carried_from, mark_at, no_marks, note_losses, note_lost, note_systems_lost, with_mark_in}
+use Rattle.obs_epoch.specs.inner.Marks.{any_loss, carried_from, has_loss, mark_at, no_marks, note_losses, note_lost, note_systems_lost, with_mark_in}
 use Rattle.obs_epoch.specs.GathererHistory.{AreMarks, is_lost_in}
 use Rattle.obs_epoch.specs.inner.Names.{Cell, Closed, EpochValue, System, cells_of, has_listed_key, has_same_key, heard_cell, lock_place, most_locks}
 use Rattle.obs_epoch.specs.Thinning.{all_cells, has_cell, has_phase, is_marked, lost_before, mark_if, marked_epoch}
@@ -261,3 +261,14 @@ first_in_step marks system i e =
     ap (λ l. record e { cells = with_value_of system (with_value_of system e.cells (mark_first lost i xs)) (mark_at lost i l) }) (value_after system e.cells (mark_first lost i xs))
     ∙ ap (λ cells. record e { cells = cells }) (with_twice system e.cells (mark_first lost i xs) (mark_at lost i (mark_first lost i xs)))
     ∙ ap (λ l. record e { cells = with_value_of system e.cells l }) (first_step lost i xs ∙ ap (λ n. mark_first lost n xs) next)
+
+-- ---- an epoch without a loss of lock
+
+none_noted : (marks : List Bool) (xs : List Cell) → list_any has_loss xs ≡ false → note_losses false marks xs ≡ marks
+none_noted marks [] e = refl
+none_noted marks (x ∷ xs) e = grind (arith, common_steps, none_noted marks xs)
+
+-- Off the grid nothing of it is carried.
+pub none_carried : (marks : List Bool) (e : EpochValue) (ss : List System) → any_loss e ss ≡ false → note_systems_lost false e marks ss ≡ marks
+none_carried marks e [] h = refl
+none_carried marks e (s ∷ ss) h = grind (arith, common_steps, none_noted marks (cells_of s e), none_carried marks e ss)

@@ -1,5 +1,5 @@
 //! Gathers messages into epochs, with loss of lock indicators.
-ghost use Rattle.std.specs.Prelude.{[], ◌≡◌, ◌↔◌, ◌⊎◌, ◌+◌, ◌<◌, ◌≤◌, true, false, length, None, Some, is_some, IfOk};
+ghost use Rattle.std.specs.Prelude.{[], ◌≡◌, ◌↔◌, ◌⊎◌, ◌<◌, ◌≤◌, ◌&&◌, not, true, false, length, None, Some, is_some, IfOk};
 ghost use Rattle.std.specs.Prelude.{IfErr, IfSome, IsOk, Err, if◌then◌else◌, option_map, option_to_list, List, Option};
 ghost use Rattle.std.specs.Option.{ForSome};
 ghost use Rattle.rtcm_msg.specs.Msm.{most_pairs, week};
@@ -14,8 +14,8 @@ ghost use Rattle.gnss_obs.specs.Order.{AreSortedByPlan};
 ghost use Rattle.gnss_obs.specs.Plans.{place_in};
 ghost use Rattle.gnss_obs.specs.HeardCells.{heard_cell, IsObserved};
 ghost use Rattle.obs_epoch.specs.Epochs.{values_after_message, values_of};
-ghost use Rattle.obs_epoch.specs.inner.Held.{count_in, outcome_of_added};
-ghost use Rattle.obs_epoch.specs.GathererAfter.{most_locks, recorded};
+ghost use Rattle.obs_epoch.specs.inner.Held.{count_in};
+ghost use Rattle.obs_epoch.specs.GathererAfter.{most_locks, recorded, time_in};
 ghost use Rattle.obs_epoch.specs.inner.Step.{kind_by, closed_time, ended_where, step_by};
 ghost use Rattle.gnss_obs.specs.Values.{Closed, cells_of, most_cells, planned_of};
 ghost use Rattle.obs_epoch.specs.Kinds.{is_no_station, with_counts};
@@ -26,7 +26,8 @@ ghost use Rattle.obs_epoch.specs.inner.Calls.{CountsEpochs};
 ghost use Rattle.gnss_obs.specs.declared.fault.PlanFault.{PlanFault};
 ghost use Rattle.obs_epoch.specs.inner.GathererSteps.{closed_noted, loaded_where, load_entry, load_entries, begun_by};
 ghost use Rattle.obs_epoch.specs.inner.GathererSteps.{cleared_if, thinned, thinned_if};
-ghost use Rattle.obs_epoch.specs.inner.Marks.{carried_from, carried_to};
+ghost use Rattle.obs_epoch.specs.inner.Marks.{any_loss};
+ghost use Rattle.gnss_system.specs.Systems.{systems};
 ghost use Rattle.obs_epoch.specs.inner.GathererSteps.{load, system_as, rested, outcome_in, hold, shut_where};
 ghost use Rattle.obs_epoch.specs.Cells.{cells_counted, lacks_channel, no_counts};
 
@@ -40,7 +41,7 @@ use crate::setup::GatherSetup;
 use crate::start::new_parts;
 use crate::taken::{CellCounts, Kind, Taken};
 use crate::tow::summary_of;
-use gnss_obs::{Added, Cell, Epoch, EpochCells, Plan, PlanFault, StationValues};
+use gnss_obs::{Cell, Epoch, EpochCells, Plan, PlanFault, StationValues};
 use gnss_system::System;
 use rtcm_msg::{Entries, Entry, Form, Message, MsmView, Summary, View, form_as};
 use std::alloc::Global;
@@ -286,14 +287,15 @@ impl Gatherer {
         self.closed
             .close(&mut self.pending, self.clock.plan(), at, self.values);
         self.clock.end();
-        note_systems(&mut self.locks, at.milliseconds(), &self.closed);
-        self.thin();
+        let has_loss = note_systems(&mut self.locks, at.milliseconds(), &self.closed);
+        self.thin(has_loss);
     }
 
     // Counts the epoch closed last if it is left out, marks its phases, and notes the loss of lock in
-    // it.
-    fn thin(&mut self)
-        requires { self.old.clock.pending ≡ false }
+    // it, of which there is some or not.
+    fn thin(&mut self, has_loss: bool)
+        requires shut { self.old.clock.pending ≡ false }
+        requires loss { has_loss ≡ any_loss self.old.epoch systems }
         ensures { self.new ≡ thinned self.old }
     {
         let time = self.closed.time();
@@ -304,7 +306,8 @@ impl Gatherer {
         self.chosen = in_window & on_grid;
         let left_out = !self.chosen && self.closed.has_satellites();
         self.counts.count(left_out, in_window, on_grid);
-        carry(has_interval, &mut self.marks, on_grid, &mut self.closed);
+        let marks = &mut self.marks;
+        marks::carry(has_interval, marks, on_grid, has_loss, &mut self.closed);
     }
 
     // Returns the station values after a message.
@@ -330,54 +333,80 @@ impl Gatherer {
         ensures { record { state = self.new; counts = result }
             ≡ loaded_where is_accepted self.old (heard_by self.old.clock.setup (viewed_message view.now)) }
     {
+        let mut counts = CellCounts::default();
         if !is_accepted {
-            return CellCounts::default();
+            return counts;
         }
+        self.load_view(view, &mut counts);
+        counts
+    }
+
+    // Processes the cells of an accepted message, and counts their outcomes.
+    // The counts are a parameter down to the loop: returned from it, they would be in registers that
+    // are saved for each cell, 0.5 % of the instructions of `convert`.
+    #[inline(always)]
+    fn load_view(&mut self, view: &View<'_>, n: &mut CellCounts)
+        requires pending { self.old.clock.pending ≡ true }
+        requires none { n.old ≡ no_counts }
+        ensures { record { state = self.new; counts = n.new }
+            ≡ loaded_where true self.old (heard_by self.old.clock.setup (viewed_message view.now)) }
+    {
         match view {
             View::Msm(m) => match m.system() {
-                System::Gps => self.load_of::<0>(m),
-                System::Galileo => self.load_of::<1>(m),
-                _ => self.load_of::<2>(m),
+                System::Gps => self.load_of::<0>(m, n),
+                System::Galileo => self.load_of::<1>(m, n),
+                _ => self.load_of::<2>(m, n),
             },
-            View::Station(_) | View::Other { number: _, set: _ } => CellCounts::default(),
+            View::Station(_) | View::Other { number: _, set: _ } => {}
         }
     }
 
     // Processes the cells of a message of system `S`: 0 for GPS, 1 for Galileo, 2 for any other.
     #[inline(always)]
-    fn load_of<const S: usize>(&mut self, m: &MsmView<'_>) -> CellCounts
+    fn load_of<const S: usize>(&mut self, m: &MsmView<'_>, n: &mut CellCounts)
         requires system { system_as S m.now.msm.system ≡ m.now.msm.system }
         requires pending { self.old.clock.pending ≡ true }
-        ensures { record { state = self.new; counts = result }
+        requires none { n.old ≡ no_counts }
+        ensures { record { state = self.new; counts = n.new }
             ≡ load_entries m.now.form m.now.msm.system (record { state = self.old; counts = no_counts })
             (entries (formed m.now)) }
     {
         match m.form() {
-            Form::Msm4 => self.load_as::<S, 4>(m),
-            Form::Msm5 => self.load_as::<S, 5>(m),
-            Form::Msm6 => self.load_as::<S, 6>(m),
-            Form::Msm7 => self.load_as::<S, 7>(m),
+            Form::Msm4 => self.load_as::<S, 4>(m, n),
+            Form::Msm5 => self.load_as::<S, 5>(m, n),
+            Form::Msm6 => self.load_as::<S, 6>(m, n),
+            Form::Msm7 => self.load_as::<S, 7>(m, n),
         }
     }
 
     // Processes the cells of a message of system `S` and form `F`. It isn't inlined, so that the
     // loop over them is compiled by itself for each `S` and `F`.
     #[inline(never)]
-    fn load_as<const S: usize, const F: usize>(&mut self, m: &MsmView<'_>) -> CellCounts
+    fn load_as<const S: usize, const F: usize>(&mut self, m: &MsmView<'_>, n: &mut CellCounts)
         requires form { form_as F ≡ m.now.form }
         requires system { system_as S m.now.msm.system ≡ m.now.msm.system }
         requires pending { self.old.clock.pending ≡ true }
-        ensures { record { state = self.new; counts = result }
+        requires none { n.old ≡ no_counts }
+        ensures { record { state = self.new; counts = n.new }
             ≡ load_entries m.now.form m.now.msm.system (record { state = self.old; counts = no_counts })
             (entries (formed m.now)) }
     {
-        self.take_all::<S, F>(m.system(), &mut m.entries())
+        self.take_all::<S, F>(m.system(), &mut m.entries(), n);
     }
 
     // Keeps a cell of a planned signal, unless a cell of its key is kept or there is no room, and
-    // counts its outcome.
+    // counts its outcome. It is of an epoch of this time, and of an entry that has a phase or not.
     #[inline(always)]
-    fn take_cell(&mut self, system: System, mut x: Cell, n: &mut CellCounts)
+    fn take_cell(
+        &mut self,
+        system: System,
+        time: u64,
+        has_phase: bool,
+        mut x: Cell,
+        n: &mut CellCounts,
+    )
+        requires time { time ≡ time_in self.old.clock }
+        requires phase { is_some x.l ≡ has_phase && not (lacks_channel self.old.clock.setup (heard_cell x)) }
         requires observed { IsObserved (heard_cell x) }
         requires system { x.satellite.system ≡ system }
         requires planned { is_some (place_in x.signal (planned_of x.satellite.system self.old.clock.setup.plan))
@@ -388,74 +417,60 @@ impl Gatherer {
         ensures counts { n.new ≡ count_in (lacks_channel self.old.clock.setup (heard_cell x))
             (outcome_in self.old (heard_cell x)) n.old }
         ensures step { self.new ≡ hold self.old (heard_cell x) }
-        ensures pending { self.new.clock.pending ≡ true }
-        ensures one { cells_counted n.new ≡ cells_counted n.old + 1 }
-        ensures less { n.new.without_channel ≤ n.new.kept }
     {
-        let time = self.clock.time().milliseconds();
         let carrier = self.clock.plan().channels().hertz(x.satellite, x.signal);
-        x.lli = lli(&x, time, self.locks.latest(system, &x));
-        count(self.pending.add(x), carrier.is_none(), n);
+        let has_phase = has_phase && carrier.is_some();
+        x.lli = lli(has_phase, &x, time, self.locks.latest(system, &x));
+        n.add(self.pending.add(x), carrier.is_none());
     }
 
-    // Processes the cells of a message of this system, which is `S`, and form `F`, and returns their
+    // Processes the cells of a message of this system, which is `S`, and form `F`, and counts their
     // outcomes.
     // A function of its own: as a part of `load_as`, `convert` executes 2 % more instructions.
     fn take_all<const S: usize, const F: usize>(
         &mut self,
         system: System,
         cells: &mut Entries<'_>,
-    ) -> CellCounts
+        n: &mut CellCounts,
+    )
         requires form { form_as F ≡ cells.old.form }
         requires system { system_as S system ≡ system }
         requires pending { self.old.clock.pending ≡ true }
+        requires none { n.old ≡ no_counts }
         requires few { length cells.old.left ≤ most_pairs }
-        ensures { record { state = self.new; counts = result }
+        ensures { record { state = self.new; counts = n.new }
             ≡ load_entries cells.old.form system (record { state = self.old; counts = no_counts }) cells.old.left }
     {
         let (form, system) = (form_as::<F>(), system_as::<S>(system));
-        let mut counts = CellCounts::default();
+        let time = self.clock.time().milliseconds();
         while let Some(entry) = cells.next_in::<F>() {
-            self.take_entry(form, system, &entry, &mut counts);
+            self.take_entry(form, system, time, &entry, n);
         }
-        counts
     }
 
     // Processes a cell of a message, and counts its outcome.
     #[inline(always)]
-    fn take_entry(&mut self, form: Form, system: System, entry: &Entry, n: &mut CellCounts)
+    fn take_entry(
+        &mut self,
+        form: Form,
+        system: System,
+        time: u64,
+        entry: &Entry,
+        n: &mut CellCounts,
+    )
+        requires time { time ≡ time_in self.old.clock }
         requires entry { IsEntry (lock_codes form) entry.now }
         requires pending { self.old.clock.pending ≡ true }
         requires few { cells_counted n.old < usize.MAX }
         requires less { n.old.without_channel ≤ n.old.kept }
         ensures step { record { state = self.new; counts = n.new }
             ≡ load_entry form system (record { state = self.old; counts = n.old }) entry.now }
-        ensures pending { self.new.clock.pending ≡ true }
-        ensures one { cells_counted n.new ≡ cells_counted n.old + 1 }
-        ensures less { n.new.without_channel ≤ n.new.kept }
     {
         match observe(self.clock.plan(), form, system, entry) {
             None => n.skipped += 1,
-            Some(x) => self.take_cell(system, x, n),
+            Some(x) => self.take_cell(system, time, entry.phase.is_some(), x, n),
         }
     }
-}
-
-// If there is an interval, marks the phases of an epoch on the grid at which lock was lost before,
-// and notes the loss of lock in it.
-fn carry(has_interval: bool, lost: &mut Marks, on_grid: bool, epoch: &mut Epoch)
-    ensures epoch { epoch.new ≡ record epoch.old {
-      epoch = if has_interval then carried_to on_grid lost.old epoch.old.epoch else epoch.old.epoch;
-    } }
-    ensures marks { lost.new ≡ (if has_interval then carried_from on_grid lost.old epoch.old.epoch else lost.old) }
-{
-    if !has_interval {
-        return;
-    }
-    if on_grid {
-        marks::mark_systems(lost, epoch);
-    }
-    marks::note_systems(lost, on_grid, epoch);
 }
 
 // Returns a system that is `S`, as a constant if it is GPS or Galileo.
@@ -478,26 +493,5 @@ fn clear_if(begins: bool, last: &mut Epoch)
 {
     if begins {
         last.clear();
-    }
-}
-
-// Counts the outcome of a cell of a planned signal, which may lack a channel.
-#[inline(always)]
-fn count(added: Added, lacks_channel: bool, n: &mut CellCounts)
-    requires few { cells_counted n.old < usize.MAX }
-    requires less { n.old.without_channel ≤ n.old.kept }
-    ensures counts { n.new ≡ count_in lacks_channel (outcome_of_added added) n.old }
-    ensures one { cells_counted n.new ≡ cells_counted n.old + 1 }
-    ensures less { n.new.without_channel ≤ n.new.kept }
-{
-    match added {
-        Added::Kept => {
-            n.kept += 1;
-            if lacks_channel {
-                n.without_channel += 1;
-            }
-        }
-        Added::Repeated => n.repeated += 1,
-        Added::Crowded => n.crowded += 1,
     }
 }

@@ -1,6 +1,6 @@
 //! Lock records: for each satellite and signal, the latest known lock in a closed epoch. The loss
 //! of lock indicators of the next epoch are computed from them.
-ghost use Rattle.std.specs.Prelude.{◌≡◌, ◌+◌, ◌<◌, ◌≤◌, length, IfOk};
+ghost use Rattle.std.specs.Prelude.{◌≡◌, ◌+◌, ◌<◌, ◌≤◌, ◌%◌, ◌==◌, is_some, length, IfOk};
 ghost use Rattle.obs_epoch.specs.inner.Held.{AreKeysOf, no_locks, note, note_all};
 ghost use Rattle.obs_epoch.specs.GathererAfter.{lock_place, lookup, most_locks};
 ghost use Rattle.obs_epoch.specs.inner.Held.{note_systems};
@@ -9,6 +9,8 @@ ghost use Rattle.gnss_obs.specs.HeardCells.{IsKey, heard_cell};
 ghost use Rattle.obs_epoch.specs.Loss.{lli_with};
 ghost use Rattle.gnss_obs.specs.Values.{AreHeld};
 ghost use Rattle.gnss_system.specs.Systems.{systems};
+ghost use Rattle.std.specs.List.{list_any};
+ghost use Rattle.obs_epoch.specs.inner.Marks.{any_loss, has_loss};
 
 use gnss_obs::{Cell, Epoch, Lock, is_lost};
 use gnss_system::{KEY_COUNT, SYSTEMS, System};
@@ -93,15 +95,21 @@ impl Locks {
     }
 }
 
-/// Records the locks of the cells of a system when their epoch of this time is closed.
-pub fn note_cells(locks: &mut Locks, time: u64, system: System, cells: &[Cell])
+/// Records the locks of the cells of a system when their epoch of this time is closed, and returns
+/// whether bit 0 of a loss of lock indicator is set.
+// Both in one loop: a loop of its own over the cells would cost more than it spares.
+pub fn note_cells(locks: &mut Locks, time: u64, system: System, cells: &[Cell]) -> bool
     requires held { AreHeld system cells.now }
-    ensures { locks.new ≡ note_all time locks.old cells.now }
+    ensures locks { locks.new ≡ note_all time locks.old cells.now }
+    ensures loss { result ≡ list_any has_loss cells.now }
 {
     let keys = keys_of(system);
+    let mut has_loss = false;
     for i in 0..cells.len() {
         locks.note(keys, time, &cells[i]);
+        has_loss |= cells[i].lli % 2 == 1;
     }
+    has_loss
 }
 
 /// The entries of the keys of a system: the index of the first one, and the number of entries of
@@ -123,15 +131,19 @@ pub fn keys_of(system: System) -> Keys
     }
 }
 
-/// Records the locks of the cells of an epoch, one system after the other.
-pub fn note_systems(locks: &mut Locks, time: u64, epoch: &Epoch)
+/// Records the locks of the cells of an epoch, one system after the other, and returns whether bit
+/// 0 of a loss of lock indicator is set.
+pub fn note_systems(locks: &mut Locks, time: u64, epoch: &Epoch) -> bool
     requires { time ≡ epoch.now.epoch.time }
-    ensures { locks.new ≡ note_systems epoch.now.epoch locks.old systems }
+    ensures locks { locks.new ≡ note_systems epoch.now.epoch locks.old systems }
+    ensures loss { result ≡ any_loss epoch.now.epoch systems }
 {
+    let mut has_loss = false;
     for i in 0..SYSTEMS.len() {
         let system = System::at(i);
-        note_cells(locks, time, system, epoch.cells(system));
+        has_loss |= note_cells(locks, time, system, epoch.cells(system));
     }
+    has_loss
 }
 
 /// Returns the index of the entry of the key of a cell.
@@ -148,11 +160,14 @@ pub fn lock_place(keys: Keys, x: &Cell) -> usize
 /// Returns the loss of lock indicator (LLI) of RINEX for a cell: bit 0 if lock was lost since
 /// `before`, the latest known lock of its key; bit 1 if the phase may be off by half a cycle; 0
 /// without a phase.
-pub fn lli(x: &Cell, time: u64, before: Option<KnownLock>) -> u8
+// Whether there is a phase is a parameter: read from a cell that isn't kept yet, it would make the
+// phase one of more parts to store, 1.2 % of the instructions of `convert`.
+pub fn lli(has_phase: bool, x: &Cell, time: u64, before: Option<KnownLock>) -> u8
+    requires phase { has_phase ≡ is_some x.now.l }
     ensures value { result ≡ lli_with time (heard_cell x.now) before }
     ensures bound { result < 4 }
 {
-    if x.l.is_none() {
+    if !has_phase {
         return 0;
     }
     let lost = before.is_some_and(|was| is_lost(was.lock, x.lock, time.saturating_sub(was.time)));

@@ -1,8 +1,8 @@
 //! Loss of lock in epochs off the grid: for each satellite and signal, whether its phase in the next
 //! epoch on the grid is to be marked.
-ghost use Rattle.std.specs.Prelude.{◌≡◌, ◌<◌, ◌≤◌, length, IfOk};
+ghost use Rattle.std.specs.Prelude.{◌≡◌, ◌<◌, ◌≤◌, if◌then◌else◌, length, IfOk};
 ghost use Rattle.obs_epoch.specs.inner.Held.{AreKeysOf};
-ghost use Rattle.obs_epoch.specs.inner.Marks.{no_marks, note_lost, note_losses};
+ghost use Rattle.obs_epoch.specs.inner.Marks.{any_loss, carried_from, carried_to, no_marks, note_lost, note_losses};
 ghost use Rattle.obs_epoch.specs.GathererHistory.{is_lost_in};
 ghost use Rattle.obs_epoch.specs.inner.Marks.{note_systems_lost, with_mark_in, with_marks_of};
 ghost use Rattle.obs_epoch.specs.Thinning.{marked_epoch};
@@ -70,10 +70,37 @@ impl Marks {
     }
 }
 
-/// Marks the phases of an epoch on the grid at which lock was lost before.
-// Not inlined, as nothing of it is done without an interval.
+/// If there is an interval, marks the phases of an epoch on the grid at which lock was lost before,
+/// and notes the loss of lock in it, of which there is some or not.
+pub fn carry(
+    has_interval: bool,
+    marks: &mut Marks,
+    on_grid: bool,
+    has_loss: bool,
+    epoch: &mut Epoch,
+)
+    requires { has_loss ≡ any_loss epoch.old.epoch systems }
+    ensures epoch { epoch.new ≡ record epoch.old {
+      epoch = if has_interval then carried_to on_grid marks.old epoch.old.epoch else epoch.old.epoch;
+    } }
+    ensures marks { marks.new ≡ (if has_interval then carried_from on_grid marks.old epoch.old.epoch else marks.old) }
+{
+    if !has_interval {
+        return;
+    }
+    if on_grid {
+        mark_systems(marks, epoch);
+    }
+    // Without one, nothing of an epoch off the grid is carried.
+    if on_grid || has_loss {
+        note_systems(marks, on_grid, epoch);
+    }
+}
+
+// Marks the phases of an epoch on the grid at which lock was lost before. It isn't
+// inlined, as nothing of it is done without an interval.
 #[inline(never)]
-pub fn mark_systems(marks: &Marks, epoch: &mut Epoch)
+fn mark_systems(marks: &Marks, epoch: &mut Epoch)
     ensures { epoch.new ≡ record epoch.old { epoch = marked_epoch (is_lost_in marks.now) epoch.old.epoch } }
 {
     for i in 0..SYSTEMS.len() {
@@ -105,10 +132,10 @@ fn mark_cell(marks: &Marks, keys: Keys, epoch: &mut Epoch, system: System, at: u
     }
 }
 
-/// Notes the loss of lock in an epoch, one system after the other.
-// Not inlined, as nothing of it is done without an interval.
+// Notes the loss of lock in an epoch, one system after the other. It isn't inlined,
+// as nothing of it is done without an interval.
 #[inline(never)]
-pub fn note_systems(marks: &mut Marks, on_grid: bool, epoch: &Epoch)
+fn note_systems(marks: &mut Marks, on_grid: bool, epoch: &Epoch)
     ensures { marks.new ≡ note_systems_lost on_grid epoch.now.epoch marks.old systems }
 {
     for i in 0..SYSTEMS.len() {

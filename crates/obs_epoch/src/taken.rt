@@ -1,6 +1,10 @@
 //! The outcome of a message.
-ghost use Rattle.std.specs.Prelude.{◌≡◌};
+ghost use Rattle.std.specs.Prelude.{◌≡◌, ◌<◌, ◌≤◌};
+ghost use Rattle.obs_epoch.specs.Cells.{cells_counted};
+ghost use Rattle.obs_epoch.specs.inner.Held.{count_in, outcome_of_added};
 ghost use Rattle.obs_epoch.specs.Kinds.{is_accepted, is_close_first, with_counts};
+
+use gnss_obs::Added;
 
 /// The outcome of a message.
 #[derive(Clone, Copy, PartialEq)]
@@ -44,6 +48,27 @@ pub struct Taken {
     pub kind: Kind,
     /// Whether the call closed an epoch, which `Gatherer::closed` then returns.
     pub closed: bool,
+}
+
+impl CellCounts {
+    /// Counts the outcome of a cell of a planned signal, which may lack a channel.
+    #[inline(always)]
+    pub(crate) fn add(&mut self, added: Added, lacks_channel: bool)
+        requires few { cells_counted self.old < usize.MAX }
+        requires less { self.old.without_channel ≤ self.old.kept }
+        ensures { self.new ≡ count_in lacks_channel (outcome_of_added added) self.old }
+    {
+        match added {
+            Added::Kept => {
+                self.kept += 1;
+                if lacks_channel {
+                    self.without_channel += 1;
+                }
+            }
+            Added::Repeated => self.repeated += 1,
+            Added::Crowded => self.crowded += 1,
+        }
+    }
 }
 
 impl Kind {

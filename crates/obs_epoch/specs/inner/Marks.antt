@@ -1,6 +1,7 @@
 -- The loss of lock that is carried to the next epoch on the grid, and one step of it.
 use Rattle.std.specs.Prelude.{ℕ, zero, suc, ◌+◌, ◌==◌, ◌%◌, ◌&&◌, ◌||◌, Bool, false, not, List, [], ◌∷◌}
 use Rattle.std.specs.Prelude.{set, replicate, fold, if◌then◌else◌}
+use Rattle.std.specs.List.{list_any}
 use Rattle.gnss_system.specs.declared.system.System.{System}
 use Rattle.gnss_system.specs.Systems.{systems}
 use Rattle.gnss_system.specs.SystemValues.{with_value_of}
@@ -20,10 +21,18 @@ no_marks = replicate most_locks false
 
 -- ---- one more epoch
 
+-- The loss of lock indicator of a cell has bit 0.
+abbrev pub has_loss : Cell → Bool
+has_loss x = x.lli % 2 == 1
+
+-- Such a cell is in an epoch, among those of these systems.
+abbrev pub any_loss : EpochValue → List System → Bool
+any_loss e systems = list_any (λ s. list_any has_loss (cells_of s e)) systems
+
 -- On the grid, a phase carries the mark, and lock is no longer lost; off the grid, it is lost at a marked phase.
 abbrev pub note_lost : Bool → List Bool → Cell → List Bool
 note_lost on_grid marks x =
-    if has_phase x && (on_grid || (x.lli % 2 == 1)) then set marks (lock_place (heard_cell x)) (not on_grid) else marks
+    if has_phase x && (on_grid || has_loss x) then set marks (lock_place (heard_cell x)) (not on_grid) else marks
 
 abbrev pub note_losses : Bool → List Bool → List Cell → List Bool
 note_losses on_grid marks [] = marks

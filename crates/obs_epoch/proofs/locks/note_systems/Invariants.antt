@@ -1,7 +1,11 @@
 use Rattle.std.proofs.Common.{◌≡◌, take}
 use Rattle.gnss_system.specs.Systems.{systems}
 use Rattle.obs_epoch.specs.inner.Held.{note_systems}
+use Rattle.obs_epoch.specs.inner.Marks.{any_loss}
 use Rattle.obs_epoch.proofs.locks.note_systems.Given as goal
 
 abbrev pub invariant-loop-i : goal.invariant-loop-i
-invariant-loop-i l = l.locks ≡ note_systems l.epoch.epoch l.fn.locks (take l.i systems)
+invariant-loop-i l = record {
+  locks : l.locks ≡ note_systems l.epoch.epoch l.fn.locks (take l.i systems);
+  loss : l.has_loss ≡ any_loss l.epoch.epoch (take l.i systems);
+}

@@ -34,8 +34,8 @@ returns c =
     ap (λ (k : Closed). k.epoch) c.close.ensures.closed
     ∙ ap₂ (λ t p. let e : EpochValue = record { time = t; cells = sorted_lists p i.pending } in e) c.time-at.ensures c.plan.ensures
     ∙ sym (open_is i.clock i.pending i.closed going) in
-    c.thin.ensures ∙ ap thinned (ap₂ (λ (b : Bool) (e : EpochValue). record g { clock = c.end.new.self; epoch = e; locks = c.note_systems.new.locks; just_closed = b }) shut
+    c.thin.ensures ∙ ap thinned (ap₂ (λ (b : Bool) (e : EpochValue). record g { clock = c.end.new.self; epoch = e; locks = c.note_systems-has_loss.new.locks; just_closed = b }) shut
     (shut_is c.end.new.self c.close.new.pending c.close.new.self (ap (λ (k : State). k.pending) c.end.ensures) ∙ epoch)
     ∙ ap₂ (λ (k : State) locks. record g { clock = k; locks = locks; just_closed = true }) c.end.ensures
-    (c.note_systems.ensures ∙ ap (λ (e : EpochValue). note_systems e i.locks systems) epoch)
+    (c.note_systems-has_loss.ensures.locks ∙ ap (λ (e : EpochValue). note_systems e i.locks systems) epoch)
     ∙ ap₂ (λ b v. closed_noted (shut_where b v)) (sym shut) c.self.view_is) ∙ ap (λ b. thinned_if b (closed_noted (shut_where c.args.closed c.args.self.now))) (sym shut)

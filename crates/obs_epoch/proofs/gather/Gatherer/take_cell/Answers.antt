@@ -1,6 +1,7 @@
 use Rattle.std.proofs.Common.{◌≡◌, ◌∙◌, sym, ap, ap₂, subst, not, Bool, true, false, is_some}
 use Rattle.gnss_obs.specs.Channels.{ChannelsValue, hertz_in}
 use Rattle.gnss_obs.specs.Values.{PlanValue}
+use Rattle.obs_epoch.specs.GathererAfter.{time_in}
 use Rattle.obs_epoch.specs.inner.Names.{Cell, lacks_channel, planned_of, heard_cell, kept_cell, place_in, GathererValue, hold, outcome_in, count_in, lli_with}
 use Rattle.obs_epoch.proofs.ValueLemmas.{gathered_of, held_is, never_both, open_is, outcome_is, planned_added, planned_is}
 use Rattle.obs_epoch.proofs.gather.Gatherer.take_cell.Goals as goal
@@ -25,7 +26,7 @@ returns-clause-step c =
     let planned = subst (λ (v : GathererValue). is_some (place_in c.args.x.signal (planned_of c.args.x.satellite.system v.clock.setup.plan)) ≡ true) (sym c.self.view_is) c.requires.planned in
     let going : i.clock.pending ≡ true = ap (λ (v : GathererValue). v.clock.pending) c.self.view_is ∙ c.requires.pending in
     let now = open_is i.clock i.pending i.closed going in
-    let lli = c.lli.ensures.value ∙ ap₂ (λ t o. lli_with t x o) (c.milliseconds-time.ensures.value ∙ c.time.ensures ∙ ap (λ e. e.time) (sym now)) c.latest.ensures in
+    let lli = c.lli.ensures.value ∙ ap₂ (λ t o. lli_with t x o) (c.requires.time ∙ ap (λ (v : GathererValue). time_in v.clock) (sym c.self.view_is) ∙ ap (λ e. e.time) (sym now)) c.latest.ensures in
     ap (λ e. record g { epoch = e }) (open_is i.clock c.add.new.self i.closed going)
     ∙ held_is g x now (planned_is g.clock.setup x c.requires.observed.key planned) lli c.add.ensures ∙ ap (λ v. hold v x) c.self.view_is
 
@@ -43,6 +44,6 @@ returns-clause-counts c =
     let lacks : c.is_none.result ≡ lacks_channel c.args.self.now.clock.setup x =
     turned c.is_none.result _ (sym c.is_none.ensures ∙ ap is_some (c.hertz-carrier.ensures.value
     ∙ ap (λ (channels : ChannelsValue). hertz_in channels x.satellite x.signal) (c.channels.ensures ∙ ap (λ (p : PlanValue). p.channels) (c.plan.ensures ∙ ap (λ (v : GathererValue). v.clock.setup.plan) c.self.view_is)))) in
-    c.count.ensures.counts
+    c.add-2.ensures
     ∙ ap₂ (λ b o. count_in b o c.args.n.now) lacks
     (outcome_is g x c.lli.result (open_is i.clock i.pending i.closed going) (planned_is g.clock.setup x c.requires.observed.key planned) c.add.ensures ∙ ap (λ v. outcome_in v x) c.self.view_is)

@@ -6,7 +6,7 @@ use Rattle.obs_epoch.proofs.gather.Gatherer.thin.Goals as goal
 pub invariant_of-self : goal.invariant_of-self
 invariant_of-self c =
     let i = c.self.inside in
-    let shut : i.clock.pending ≡ false = ap (λ (v : GathererValue). v.clock.pending) c.self.view_is ∙ c.requires in
+    let shut : i.clock.pending ≡ false = ap (λ (v : GathererValue). v.clock.pending) c.self.view_is ∙ c.requires.shut in
     record {
       planned = c.self.invariant.planned;
       none = c.self.invariant.none;
