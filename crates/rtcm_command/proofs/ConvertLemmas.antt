@@ -1,6 +1,7 @@
 -- A conversion that is stopped by a fault.
 use Rattle.rtcm_command.proofs.OptionLemmas.{bad_choice}
-use Rattle.rtcm_command.proofs.Names.{⊤, AreUntouched, Devices, Writer, EndsConverting, culprit, IsErrAnd, passed, ◌≡◌, ap, sym, subst, refl, ℕ, ℤ, List, Option, Some, None, Result, Err, IsErrOf, IfSome, inl, inr, ◌≢◌, ◌↔◌, IsSentAfter, IsSetupFault, IsMadeEmpty, IsMadeSoFar, IsMadeInPart, IsMadeToLimit, IsBad, Setup, Fault, Memory, BadSetup, TooLong, Read, Write, Failed, Finished, NoEpoch, NoneChosen, EpochCounts, Report, CommandFault, Row, StationValues, values_by, HasSetupFault, IsRefusedAfterStart, IsRefusedAfterChannels, IsSetupRefused, IsStartFault, IsStartSet, Start, codes, first_of, values_set, StopsConversion, HaveFailedBy, ChannelsValue, channels_by, channels_set}
+use Rattle.rtcm_command.proofs.Names.{⊤, AreUntouched, Devices, Writer, EndsConverting, culprit, IsErrAnd, passed, ◌≡◌, ap, sym, subst, refl, ℕ, ℤ, List, Option, Some, None, Result, Err, IsErrOf, IfSome, inl, inr, ◌≢◌, ◌↔◌, IsSentAfter, IsSetupFault, IsMadeEmpty, IsMadeSoFar, IsMadeInPart, IsMadeToLimit, IsBad, Setup, Fault, Memory, BadSetup, TooLong, Read, Write, Failed, Finished, NoEpoch, NoneChosen, Report, CommandFault, Row, StationValues, values_by, HasSetupFault, IsRefusedAfterStart, IsRefusedAfterChannels, IsSetupRefused, IsStartFault, IsStartSet, Start, codes, first_of, values_set, StopsConversion, HaveFailedBy, ChannelsValue, channels_by, channels_set}
+use Rattle.rtcm_convert.specs.Faults.{IsOfNone}
 use Rattle.command_faults.specs.declared.fault.CommandFault.TheVariants as faults
 
 abbrev Result-of : Fault → Result Report Fault
@@ -9,8 +10,7 @@ Result-of fault = Err fault
 -- what a conversion that returned this fault did
 pub record Faulted {R W : Type 0} (x : Setup) (d d2 : Devices R W) (fault : Fault) : Type 0 where
   pub sent : IsSentAfter (Result-of fault) d.writer.waiting d2.writer.waiting
-  pub no_epoch : IsErrOf (Result-of fault) NoEpoch → IfSome d.reader.unread (IsMadeEmpty x NoEpoch d.writer.written d2.writer.written)
-  pub none_chosen : (counts : EpochCounts) → IsErrOf (Result-of fault) (NoneChosen counts) → IfSome d.reader.unread (IsMadeEmpty x (NoneChosen counts) d.writer.written d2.writer.written)
+  pub empty : (given : Fault) → IsOfNone given → IsErrOf (Result-of fault) given → IfSome d.reader.unread (IsMadeEmpty x given d.writer.written d2.writer.written)
   pub long : IsErrOf (Result-of fault) TooLong → IsMadeToLimit x d.reader.unread d2.reader.unread d.writer.written d2.writer.written
   pub read : IsErrOf (Result-of fault) Read → IsMadeSoFar x d.reader.unread d2.reader.unread d.writer.written d2.writer.written
   pub write : IsErrOf (Result-of fault) Write → IsMadeInPart x d.reader.unread d2.reader.unread d.writer.written d2.writer.written
@@ -26,8 +26,8 @@ conversion_stopped Read s = (s.read refl, s.sent)
 conversion_stopped Write s = s.write refl
 conversion_stopped Failed s = absurd (s.only.0 refl)
 conversion_stopped Finished s = absurd (s.only.1 refl)
-conversion_stopped NoEpoch s = (s.no_epoch refl, s.sent)
-conversion_stopped (NoneChosen counts) s = (s.none_chosen counts refl, s.sent)
+conversion_stopped NoEpoch s = (s.empty NoEpoch tt refl, s.sent)
+conversion_stopped (NoneChosen counts) s = (s.empty (NoneChosen counts) tt refl, s.sent)
 
 -- a bad setup is the fault of the conversion and of the command
 pub given_bad : (fault : Fault) (Bad : Type 0) → (◌≡◌ {A = Result Report Fault} (Err fault) (Err BadSetup) ↔ Bad)

@@ -1,5 +1,5 @@
 -- The faults of a call, by the results that it never has.
-use Rattle.obs_epoch.specs.declared.choice.EpochCounts.{EpochCounts}
+use Rattle.rtcm_convert.specs.Faults.{IsOfNone}
 use Rattle.rtcm_convert.proofs.Names.{arith, ◌≡◌, ℕ, Bool, true, false, sym, ap, subst, ◌∙◌, inl, inr, Result, Ok, Err, IfErr, false≢true, IsErrOf, OnErr, OnOk, Device, HasFailed, FailsWith, FailsWithWriter, IsSetupFault, IsPiecesFault, IsRunFault, Fault, BadSetup, Memory, Read, TooLong, Write, NoEpoch, NoneChosen, ⊤}
 use Rattle.std.proofs.lemmas.Grind.{common_steps}
 
@@ -64,6 +64,6 @@ fault_given P (Ok x) fault is h = absurd (not_err x fault is)
 fault_given P (Err f) fault is h = let same : f ≡ fault = cc in subst P same h
 
 -- no file was made with a bad setup
-pub setup_never : (f : Fault) → IsSetupFault f → (counts : EpochCounts) → f ≡ NoneChosen counts → ⊥
-setup_never f (inl e) counts is = absurd cc
-setup_never f (inr e) counts is = absurd cc
+pub setup_never : (f : Fault) → IsSetupFault f → (fault : Fault) → IsOfNone fault → f ≡ fault → ⊥
+setup_never f (inl e) fault none is = subst IsOfNone (sym is ∙ e) none
+setup_never f (inr e) fault none is = subst IsOfNone (sym is ∙ e) none

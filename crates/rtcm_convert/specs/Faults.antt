@@ -50,6 +50,12 @@ FailsWithDevices result r r' w w' = FailsWithReader result r r' × FailsWithWrit
 abbrev pub fault_of_none : EpochCounts → Fault
 fault_of_none counts = if counts.epochs == 0 then NoEpoch else NoneChosen counts
 
+-- these faults
+abbrev pub IsOfNone : Fault → Type 0
+IsOfNone NoEpoch = ⊤
+IsOfNone (NoneChosen counts) = ⊤
+IsOfNone other = ⊥
+
 -- the faults of a setup
 abbrev pub IsSetupFault : Fault → Type 0
 IsSetupFault fault = (fault ≡ BadSetup) ⊎ (fault ≡ Memory)

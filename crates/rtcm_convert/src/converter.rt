@@ -12,9 +12,8 @@ ghost use Rattle.gnss_obs.specs.Values.{most_cells};
 ghost use Rattle.rtcm_convert.specs.Kept.{cells_kept, locks_kept, locks_in_all, IsWithinBounds, IsKeptNow, IsKeptAtEnd};
 ghost use Rattle.devices.specs.Device.{IsUntouched, Moves};
 ghost use Rattle.rtcm_convert.specs.Outcomes.{report_with};
-ghost use Rattle.rtcm_convert.specs.Faults.{FailsWithReader, FailsWithWriter, IsSentAfter, IsSetupFault};
+ghost use Rattle.rtcm_convert.specs.Faults.{FailsWithReader, FailsWithWriter, IsOfNone, IsSentAfter, IsSetupFault};
 ghost use Rattle.rtcm_convert.specs.Faults.{fault_of_none};
-ghost use Rattle.obs_epoch.specs.declared.choice.EpochCounts.{EpochCounts};
 ghost use Rattle.rtcm_convert.specs.Faults.{IsFeedFault, IsFinishFault, IsPiecesFault, IsRunFault};
 ghost use Rattle.rtcm_convert.specs.SetupValues.{setup_value, IsBad};
 ghost use Rattle.rtcm_convert.specs.Converted.{SetupValue};
@@ -190,14 +189,10 @@ impl Converter {
         ensures whole { IfOk result
             (FinishesNow self.old self.new (W.waiting writer.new.inner) (W.contents writer.old.inner)
             (W.contents writer.new.inner)) }
-        // No epoch of the whole stream has a value, so nothing was written.
-        ensures no_epoch { IsErrOf result Fault.NoEpoch
+        // Nothing was written: no epoch of the whole stream has a value, or none that has one is chosen.
+        ensures empty { (fault : Fault) → IsOfNone fault → IsErrOf result fault
             → FinishesEmptyNow self.old self.new (W.waiting writer.new.inner) (W.contents writer.old.inner)
-            (W.contents writer.new.inner) Fault.NoEpoch }
-        // None that has a value is chosen, and these are their numbers.
-        ensures none_chosen { (counts : EpochCounts) → IsErrOf result (Fault.NoneChosen counts)
-            → FinishesEmptyNow self.old self.new (W.waiting writer.new.inner) (W.contents writer.old.inner)
-            (W.contents writer.new.inner) (Fault.NoneChosen counts) }
+            (W.contents writer.new.inner) fault }
         // A prefix of the rest of the file was written.
         ensures part { IsErrOf result Fault.Write
             → StopsAtEnd self.old (W.contents writer.old.inner) (W.contents writer.new.inner) }
@@ -271,14 +266,10 @@ impl Converter {
             (λ report.
             CompletesFile self.old self.new (W.waiting writer.new.inner) (W.contents writer.old.inner)
             (W.contents writer.new.inner) report (joined_pieces pieces.now)) }
-        // No epoch of the whole stream has a value, so nothing was written.
-        ensures no_epoch { IsErrOf result Fault.NoEpoch
+        // Nothing was written: no epoch of the whole stream has a value, or none that has one is chosen.
+        ensures empty { (fault : Fault) → IsOfNone fault → IsErrOf result fault
             → CompletesEmptyFile self.old self.new (W.waiting writer.new.inner) (W.contents writer.old.inner)
-            (W.contents writer.new.inner) Fault.NoEpoch (joined_pieces pieces.now) }
-        // None that has a value is chosen, and these are their numbers.
-        ensures none_chosen { (counts : EpochCounts) → IsErrOf result (Fault.NoneChosen counts)
-            → CompletesEmptyFile self.old self.new (W.waiting writer.new.inner) (W.contents writer.old.inner)
-            (W.contents writer.new.inner) (Fault.NoneChosen counts) (joined_pieces pieces.now) }
+            (W.contents writer.new.inner) fault (joined_pieces pieces.now) }
         // The bytes up to the limit were accepted, and what they add was written.
         ensures long { IsErrOf result Fault.TooLong
             → CutsAtLimit self.old self.new (W.contents writer.old.inner) (W.contents writer.new.inner)
@@ -327,14 +318,10 @@ impl Converter {
         // The rest of the file of all the bytes was written, and that is the report.
         ensures whole { IfOk result (λ report. Moves R.remaining reader.old reader.new W.contents writer.old writer.new
             (CompletesFileOfAll self.old self.new (W.waiting writer.new.inner) report)) }
-        // No epoch of the whole stream has a value, so nothing was written.
-        ensures no_epoch { IsErrOf result Fault.NoEpoch
+        // Nothing was written: no epoch of the whole stream has a value, or none that has one is chosen.
+        ensures empty { (fault : Fault) → IsOfNone fault → IsErrOf result fault
             → Moves R.remaining reader.old reader.new W.contents writer.old writer.new
-            (CompletesEmptyFileOfAll self.old self.new (W.waiting writer.new.inner) Fault.NoEpoch) }
-        // None that has a value is chosen, and these are their numbers.
-        ensures none_chosen { (counts : EpochCounts) → IsErrOf result (Fault.NoneChosen counts)
-            → Moves R.remaining reader.old reader.new W.contents writer.old writer.new
-            (CompletesEmptyFileOfAll self.old self.new (W.waiting writer.new.inner) (Fault.NoneChosen counts)) }
+            (CompletesEmptyFileOfAll self.old self.new (W.waiting writer.new.inner) fault) }
         // The stream is longer than the limit; the bytes up to it were accepted, and what they add
         // was written.
         ensures long { IsErrOf result Fault.TooLong

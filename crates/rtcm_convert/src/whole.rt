@@ -1,11 +1,10 @@
 //! Whole streams.
 ghost use Rattle.std.specs.Prelude.{◌≡◌, ◌≢◌, ◌↔◌, Err, IsErrOf, IfOk, IfErr, IfSome};
 ghost use Rattle.devices.specs.Device.{IsUntouched, Moves};
-ghost use Rattle.rtcm_convert.specs.Faults.{FailsWithDevices, FailsWithWriter, IsSentAfter, IsSetupFault};
+ghost use Rattle.rtcm_convert.specs.Faults.{FailsWithDevices, FailsWithWriter, IsOfNone, IsSentAfter, IsSetupFault};
 ghost use Rattle.rtcm_convert.specs.Broken.{BrokeInPieces, joined_pieces};
 ghost use Rattle.rtcm_convert.specs.Made.{IsMadeWith, IsMadeEmpty, IsMadeToLimit, AreMadeToLimit, IsMadeSoFar};
 ghost use Rattle.rtcm_convert.specs.Made.{IsMadeInPart};
-ghost use Rattle.obs_epoch.specs.declared.choice.EpochCounts.{EpochCounts};
 ghost use Rattle.rtcm_convert.specs.SetupValues.{setup_value, IsBad};
 
 use crate::converter::Converter;
@@ -37,15 +36,11 @@ pub fn convert_stream<R: Read, W: Deliver>(
     ensures made { IfOk result (λ report.
         IfSome (R.remaining reader.old.inner)
         (IsMadeWith setup report (W.contents writer.old.inner) (W.contents writer.new.inner))) }
-    // The file has no epoch and is empty, as no epoch of the stream has a value.
-    ensures no_epoch { IsErrOf result Fault.NoEpoch
+    // The file has no epoch and is empty, as no epoch of the stream has a value, or none that has
+    // one is chosen.
+    ensures empty { (fault : Fault) → IsOfNone fault → IsErrOf result fault
         → IfSome (R.remaining reader.old.inner)
-        (IsMadeEmpty setup Fault.NoEpoch (W.contents writer.old.inner) (W.contents writer.new.inner)) }
-    // It is empty, as none that has a value is chosen, and these are their numbers.
-    ensures none_chosen { (counts : EpochCounts) → IsErrOf result (Fault.NoneChosen counts)
-        → IfSome (R.remaining reader.old.inner)
-        (IsMadeEmpty setup (Fault.NoneChosen counts) (W.contents writer.old.inner)
-        (W.contents writer.new.inner)) }
+        (IsMadeEmpty setup fault (W.contents writer.old.inner) (W.contents writer.new.inner)) }
     // The stream is longer than the limit; the bytes up to it were accepted, and the file of the
     // epochs that they close was written.
     ensures long { IsErrOf result Fault.TooLong
@@ -92,14 +87,11 @@ pub fn convert_pieces<W: Deliver>(
     ensures made { IfOk result (λ report.
         IsMadeWith setup report (W.contents writer.old.inner) (W.contents writer.new.inner)
         (joined_pieces pieces.now)) }
-    // The file has no epoch and is empty, as no epoch of the stream has a value.
-    ensures no_epoch { IsErrOf result Fault.NoEpoch
-        → IsMadeEmpty setup Fault.NoEpoch (W.contents writer.old.inner) (W.contents writer.new.inner)
+    // The file has no epoch and is empty, as no epoch of the stream has a value, or none that has
+    // one is chosen.
+    ensures empty { (fault : Fault) → IsOfNone fault → IsErrOf result fault
+        → IsMadeEmpty setup fault (W.contents writer.old.inner) (W.contents writer.new.inner)
         (joined_pieces pieces.now) }
-    // It is empty, as none that has a value is chosen, and these are their numbers.
-    ensures none_chosen { (counts : EpochCounts) → IsErrOf result (Fault.NoneChosen counts)
-        → IsMadeEmpty setup (Fault.NoneChosen counts) (W.contents writer.old.inner)
-        (W.contents writer.new.inner) (joined_pieces pieces.now) }
     // The pieces go over the limit; the file of the epochs that the bytes up to it close was
     // written.
     ensures long { IsErrOf result Fault.TooLong

@@ -1,7 +1,7 @@
 use Rattle.rtcm_convert.proofs.FaultLemmas.{setup_never, pieces_known, never, not_of_setup, not_err}
 use Rattle.rtcm_convert.proofs.PartLemmas.{same_fault}
 use Rattle.rtcm_convert.proofs.WholeLemmas.{BeganNew, run_made, run_empty, pieces_cut, pieces_failed}
-use Rattle.rtcm_convert.proofs.Names.{◌≡◌, Err, IsBad, IsErrOf, NoneChosen, Some, refl, LeftBy, BadSetup, Read, Failed, Finished, joined_pieces, passed}
+use Rattle.rtcm_convert.proofs.Names.{◌≡◌, Err, IsBad, IsErrOf, Some, refl, LeftBy, BadSetup, Read, Failed, Finished, joined_pieces, passed}
 use Rattle.rtcm_convert.proofs.whole.convert_pieces.Goals as goal
 
 pub returns : goal.returns
@@ -16,8 +16,7 @@ returns g c =
     let no = never (λ f. LeftBy f w) pieces_known r left in
     record {
       made = run_made _ (Some (joined_pieces c.args.pieces.now)) _ _ r new (c.read_back.ensures.some h.fits) n.whole;
-      no_epoch = λ e. run_empty _ _ (Some (joined_pieces c.args.pieces.now)) _ _ new (n.no_epoch e);
-      none_chosen = λ counts e. run_empty _ _ (Some (joined_pieces c.args.pieces.now)) _ _ new (n.none_chosen counts e);
+      empty = λ fault none e. run_empty _ _ (Some (joined_pieces c.args.pieces.now)) _ _ new (n.empty fault none e);
       long = λ e. pieces_cut c.args.pieces.now new h.fresh.1 (n.long e);
       write = λ e. pieces_failed c.args.pieces.now new (n.write e);
       sent = n.sent;
@@ -27,9 +26,9 @@ returns g c =
       only = (no Failed refl, no Finished refl, no Read refl);
     }
 
-pub returns-in_err-converter-clause-none_chosen : goal.returns-in_err-converter-clause-none_chosen
-returns-in_err-converter-clause-none_chosen g c = λ counts e.
-    absurd (setup_never c.in_err-converter.field-0.0 c.in_err-converter.ensures.only counts (passed c.from_residual.result _ (λ q. IsErrOf q (NoneChosen counts) → c.in_err-converter.field-0.0 ≡ NoneChosen counts) c.from_residual.ensures.1 (λ k. cc) e))
+pub returns-in_err-converter-clause-empty : goal.returns-in_err-converter-clause-empty
+returns-in_err-converter-clause-empty g c = λ fault none e.
+    absurd (setup_never c.in_err-converter.field-0.0 c.in_err-converter.ensures.only fault none (passed c.from_residual.result _ (λ q. IsErrOf q fault → c.in_err-converter.field-0.0 ≡ fault) c.from_residual.ensures.1 (λ k. cc) e))
 
 pub returns-in_err-converter-clause-bad_setup : goal.returns-in_err-converter-clause-bad_setup
 returns-in_err-converter-clause-bad_setup g c =

@@ -19,17 +19,11 @@ returns-in-Ok-clause-whole g c =
     let r = c.finish.result in
     subst (λ (x : Conversion). IfOk r (λ report. IfSome (g.R.Read.remaining c.args.reader.now.inner) (CompletesFile x c.finish.new.self (g.W.Deliver.waiting c.finish.new.writer.inner) (g.W.Write.contents c.args.writer.now.inner) (g.W.Write.contents c.finish.new.writer.inner) report))) c.self.view_is (IfOk-weaker r _ _ (λ _. ran_whole _ _ p c.in-Ok.ensures.end.0) c.finish.ensures.whole)
 
-pub returns-in-Ok-clause-no_epoch : goal.returns-in-Ok-clause-no_epoch
-returns-in-Ok-clause-no_epoch g c =
+pub returns-in-Ok-clause-empty : goal.returns-in-Ok-clause-empty
+returns-in-Ok-clause-empty g c =
     let listening = c.self.invariant.listening (going_on c.self.view_is c.in_ok-refuse.ensures.going) in
     let p = rest_taken g.W.Write.contents (g.R.Read.remaining c.args.reader.now.inner) (g.R.Read.remaining c.read_pieces.new.reader.inner) (record { bounds = c.kept.ensures.bounds; values = c.kept.ensures.now }) listening (c.read_pieces.ensures.same.ended ∙ listening) c.in-Ok.ensures.whole in
-    λ h. subst (λ (x : Conversion). IfSome (g.R.Read.remaining c.args.reader.now.inner) (CompletesEmptyFile x c.finish.new.self (g.W.Deliver.waiting c.finish.new.writer.inner) (g.W.Write.contents c.args.writer.now.inner) (g.W.Write.contents c.finish.new.writer.inner) NoEpoch)) c.self.view_is (ran_empty _ _ p c.in-Ok.ensures.end.0 (c.finish.ensures.no_epoch h))
-
-pub returns-in-Ok-clause-none_chosen : goal.returns-in-Ok-clause-none_chosen
-returns-in-Ok-clause-none_chosen g c =
-    let listening = c.self.invariant.listening (going_on c.self.view_is c.in_ok-refuse.ensures.going) in
-    let p = rest_taken g.W.Write.contents (g.R.Read.remaining c.args.reader.now.inner) (g.R.Read.remaining c.read_pieces.new.reader.inner) (record { bounds = c.kept.ensures.bounds; values = c.kept.ensures.now }) listening (c.read_pieces.ensures.same.ended ∙ listening) c.in-Ok.ensures.whole in
-    λ counts h. subst (λ (x : Conversion). IfSome (g.R.Read.remaining c.args.reader.now.inner) (CompletesEmptyFile x c.finish.new.self (g.W.Deliver.waiting c.finish.new.writer.inner) (g.W.Write.contents c.args.writer.now.inner) (g.W.Write.contents c.finish.new.writer.inner) (NoneChosen counts))) c.self.view_is (ran_empty _ _ p c.in-Ok.ensures.end.0 (c.finish.ensures.none_chosen counts h))
+    λ fault none h. subst (λ (x : Conversion). IfSome (g.R.Read.remaining c.args.reader.now.inner) (CompletesEmptyFile x c.finish.new.self (g.W.Deliver.waiting c.finish.new.writer.inner) (g.W.Write.contents c.args.writer.now.inner) (g.W.Write.contents c.finish.new.writer.inner) fault)) c.self.view_is (ran_empty _ _ p c.in-Ok.ensures.end.0 (c.finish.ensures.empty fault none h))
 
 pub returns-in-Ok-clause-write : goal.returns-in-Ok-clause-write
 returns-in-Ok-clause-write g c =

@@ -37,15 +37,10 @@ returns-clause-whole g c =
     let all = pieces_all (λ piece. piece.items) c.args.pieces.now c.loop-piece.piece-index c.loop-piece.auto.piece-index-end c.loop-piece-test.false in
     IfOk-weaker c.finish.result _ _ (λ _. pieces_whole _ c.loop-piece.invariant.came all) c.finish.ensures.whole
 
-pub returns-clause-no_epoch : goal.returns-clause-no_epoch
-returns-clause-no_epoch g c =
+pub returns-clause-empty : goal.returns-clause-empty
+returns-clause-empty g c =
     let all = pieces_all (λ piece. piece.items) c.args.pieces.now c.loop-piece.piece-index c.loop-piece.auto.piece-index-end c.loop-piece-test.false in
-    λ e. pieces_empty _ c.loop-piece.invariant.came all (c.finish.ensures.no_epoch e)
-
-pub returns-clause-none_chosen : goal.returns-clause-none_chosen
-returns-clause-none_chosen g c =
-    let all = pieces_all (λ piece. piece.items) c.args.pieces.now c.loop-piece.piece-index c.loop-piece.auto.piece-index-end c.loop-piece-test.false in
-    λ counts e. pieces_empty _ c.loop-piece.invariant.came all (c.finish.ensures.none_chosen counts e)
+    λ fault none e. pieces_empty _ c.loop-piece.invariant.came all (c.finish.ensures.empty fault none e)
 
 pub returns-clause-write : goal.returns-clause-write
 returns-clause-write g c =
