@@ -56,15 +56,16 @@ impl FrameSink<()> for StreamSignals {
     fn take(&mut self, frame: &Frame, _out: &mut ()) -> Result<(), DeviceFailed> {
         message_sets();
         let message = frame.message.as_slice();
+        let station = self.station;
         self.weeks.add(self.first.tows.greatest, message);
         // Not `look`, which would copy the view for each message.
         match &look_in(&MsmSet::all(), message) {
             Ok(view) => {
                 self.counts.add_frame(is_msm(view));
-                self.signal_counts.count_view(self.station, view);
-                add_form(&mut self.forms, self.station, view);
-                add_sent_channels(&mut self.channels, self.station, message, view);
-                self.first.add(self.station, view);
+                self.signal_counts.count_view(station, view);
+                add_form(&mut self.forms, station, view);
+                add_sent_channels(&mut self.channels, station, message, view);
+                self.first.add(station, view);
                 Ok(())
             }
             // A refused message has no cells.
