@@ -18,7 +18,7 @@ pub use Rattle.rtcm_scan.specs.Known.{known_frames}
 pub use Rattle.rtcm_scan.specs.Local.{HasNoOtherFrame, StaysLocal, frame_place, placed, stream_after}
 unfoldable pub use Rattle.rtcm_scan.specs.Looks.{greatest_below, spans_now, spans_of, tried_before}
 pub use Rattle.rtcm_scan.specs.Looks.{CountsLooks, Span, all_looks, covers, examined, examined_now, examined_spans, looks_at, most, most_looks, most_now, span, spans_at}
-pub use Rattle.rtcm_scan.specs.inner.Passing.{AtFault, Breaking, Breaks, BreaksAfter, BreaksKnown, BreaksReading, Coming, Continues, HasBroken, HasPassed, HasPassedAll, HasReadPiece, IsReadingOn, IsSameStream, Passes, PassesAll, PassesKnown, PassesToLimit, Reads, ReadsOn}
+pub use Rattle.rtcm_scan.specs.inner.Passing.{AtFault, Breaking, Breaks, BreaksAfter, BreaksKnown, BreaksReading, Coming, Continues, HasBroken, HasPassed, HasPassedAll, HasReadPiece, IsReadingOn, IsSameStream, Passes, PassesAll, PassesKnown, PassesPushed, PassesToLimit, Reads, ReadsOn}
 pub use Rattle.rtcm_scan.specs.inner.Pending.{asked, passed, with_candidate_examined}
 unfoldable pub use Rattle.rtcm_scan.specs.inner.Results.{decision}
 pub use Rattle.rtcm_scan.specs.inner.Results.{frame_at, if_missing, new_scan}

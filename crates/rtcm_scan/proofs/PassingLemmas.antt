@@ -1,5 +1,5 @@
 -- Frames that are passed to a sink, piece by piece.
-use Rattle.rtcm_scan.proofs.Names.{◌≡◌, ℕ, ◌+◌, ◌-◌, ◌<◌, ◌≤◌, Bool, true, false, List, [], ◌∷◌, ◌++◌, ◌∙◌, ap, sym, refl, arith, length, take, drop, append_assoc, append-nil, subst, take-append-drop, length-drop, slice_range, length-take, ⊎_elim, cases_lt, take-add, IsPrefix, Framed, frames_of, known_frames, FramerValue, with_bytes, AcceptsBytes, HasExamined, Coming, Breaking, HasPassed, HasPassedAll, PassesKnown, BreaksKnown, Passes, Breaks, Continues, IsSameStream, prefix_self, prefix_trans}
+use Rattle.rtcm_scan.proofs.Names.{◌≡◌, ℕ, ◌+◌, ◌-◌, ◌<◌, ◌≤◌, Bool, true, false, List, [], ◌∷◌, ◌++◌, ◌∙◌, ap, sym, refl, arith, length, take, drop, append_assoc, append-nil, subst, take-append-drop, length-drop, slice_range, length-take, ⊎_elim, cases_lt, take-add, IsPrefix, Framed, frames_of, known_frames, FramerValue, with_bytes, AcceptsBytes, HasExamined, Coming, Breaking, HasPassed, HasPassedAll, PassesPushed, BreaksKnown, Passes, Breaks, Continues, IsSameStream, prefix_self, prefix_trans}
 use Rattle.std.specs.Prelude.{Result, Ok, Err, OnErr, MatchResult}
 use Rattle.std.specs.Result.{IsErrAnd}
 use Rattle.rtcm_scan.proofs.PrefixLemmas.{stays_decided}
@@ -47,27 +47,28 @@ pub continues_block : {v v1 v2 : FramerValue} {n m : ℕ} (xs : List ℕ) → le
 continues_block {v} {v1} {v2} {n} xs size k push within counts = grind arith
 
 module _ {S O : Type 0} (took : Coming S O) where
-  -- bytes were accepted, and at least the frames known before them were passed on
+  -- bytes were accepted, and at least the frames known before them were passed on, or all if the framer is ready
   abbrev pub PassesPart : FramerValue → S → O → FramerValue → S → O → List ℕ → Type 0
   PassesPart v s o v' s' o' next = (s0 : S) (o0 : O) (ps : List Framed) (b : List ℕ) → HasPassedAll took v s0 o0 ps s o b
       → (fs : List Framed) × IsPrefix (known_frames v.has_ended b) fs × HasPassed took v' s0 o0 ps s' o' (b ++ next) fs
+      × (v'.is_ready ≡ true → HasPassedAll took v' s0 o0 ps s' o' (b ++ next))
 
   -- their frames were passed on
-  pub part_drained : {v v' v2 : FramerValue} {s s' s2 : S} {o o' o2 : O} (next : List ℕ) → PassesPart v s o v' s' o' next → PassesKnown took v' s' o' v2 s2 o2
+  pub part_drained : {v v' v2 : FramerValue} {s s' s2 : S} {o o' o2 : O} (next : List ℕ) → PassesPart v s o v' s' o' next → PassesPushed took v' s' o' v2 s2 o2
       → Passes took v s o v2 s2 o2 next
-  part_drained next p k s0 o0 ps b x = let q = p s0 o0 ps b x in k s0 o0 ps (b ++ next) q.0 q.2
+  part_drained next p k s0 o0 ps b x = let q = p s0 o0 ps b x in k s0 o0 ps (b ++ next) q.0 q.2 (λ ready going. q.3 ready)
 
   -- a block after the first n bytes of a piece was accepted
   pub part_pushed : {v v1 v2 : FramerValue} {s s1 : S} {o o1 : O} (piece : List ℕ) (n m : ℕ) → (v.has_ended ≡ true → length piece ≡ 0) → v1.has_ended ≡ v.has_ended
       → Passes took v s o v1 s1 o1 (take n piece) → AcceptsBytes v1 v2 (slice_range piece n (n + m))
-      → PassesPart v s o v2 s1 o1 (take (n + m) piece)
-  part_pushed {v} {v1} {v2} piece n m going same p counts s0 o0 ps b x =
+      → v2.is_ready ≡ false → PassesPart v s o v2 s1 o1 (take (n + m) piece)
+  part_pushed {v} {v1} {v2} piece n m going same p counts pushed s0 o0 ps b x =
       let e : Bool = v.has_ended in
       let k = p s0 o0 ps b x in
       let fs : List Framed = known_frames v1.has_ended (b ++ take n piece) in
       let first : IsPrefix (known_frames e b) fs =
       subst (λ (h : Bool). IsPrefix (known_frames e b) (known_frames h (b ++ take n piece))) (sym same) (known_later e b (take n piece) (λ h. omega (arith, going h, length-take n piece))) in
-      (fs, first, record { framer = subst (λ (l : List ℕ). HasExamined v2 l fs) (take_block b piece n m) (counts (b ++ take n piece) fs k.passed.framer); taken = k.passed.taken })
+      (fs, first, record { framer = subst (λ (l : List ℕ). HasExamined v2 l fs) (take_block b piece n m) (counts (b ++ take n piece) fs k.passed.framer); taken = k.passed.taken }, λ ready. absurd (cc (ready, pushed)))
 
   -- the sink failed at a frame of the first n bytes of a piece
   pub part_breaks : {v v1 : FramerValue} {s s1 s2 : S} {o o1 o2 : O} (broke : Breaking S O) (piece : List ℕ) (n : ℕ) → (v.has_ended ≡ true → length piece ≡ 0)

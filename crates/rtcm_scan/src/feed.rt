@@ -2,7 +2,8 @@
 ghost use Rattle.std.specs.Prelude.{◌≡◌, ◌+◌, ◌≤◌, ◌<◌, ⊤, true, false, max, length, OnOk, OnErr, IfOk, IfErr, MatchResult};
 ghost use Rattle.std.specs.Io.KnownBytes.{Keeps, IsAtEnd};
 ghost use Rattle.devices.specs.Device.{failures_after_read, moved};
-ghost use Rattle.rtcm_scan.specs.inner.Passing.{PassesKnown, BreaksKnown, Passes, Breaks, PassesToLimit, PassesAll};
+ghost use Rattle.rtcm_scan.specs.inner.Passing.{PassesKnown, PassesPushed, BreaksKnown};
+ghost use Rattle.rtcm_scan.specs.inner.Passing.{Passes, Breaks, PassesToLimit, PassesAll};
 ghost use Rattle.rtcm_scan.specs.inner.Passing.{BreaksAfter, BreaksReading, HasReadPiece, Reads, ReadsOn, CountsReads};
 ghost use Rattle.rtcm_scan.specs.inner.Passing.{TakesPiece, Continues, IsSameStream, IsReadingOn, AtFault};
 ghost use Rattle.rtcm_scan.specs.inner.Passing.{UnlessBroken};
@@ -25,6 +26,7 @@ pub enum StreamFault<F> {
 impl Framer {
     /// Passes frame after frame to the sink until no more are decided. `frame` is the buffer of
     /// their messages.
+    // Of the calls for a stream that comes byte by byte half follow no push.
     fn drain_into<O, S: FrameSink<O>>(
         &mut self,
         frame: &mut Frame,
@@ -33,13 +35,16 @@ impl Framer {
     ) -> Result<(), S::Fault>
         requires { S.can_take sink.old }
         ensures goes { S.can_take sink.new }
-        ensures whole { OnOk result (PassesKnown S.took self.old sink.old out.old self.new sink.new out.new) }
+        ensures whole { OnOk result (PassesPushed S.took self.old sink.old out.old self.new sink.new out.new) }
         ensures part { OnErr result
             (BreaksKnown S.took S.broke self.old.has_ended self.old sink.old out.old sink.new out.new) }
         ensures ready { OnOk result (self.new.is_ready ≡ true) }
         ensures ended { self.new.has_ended ≡ self.old.has_ended }
         ensures same { IsSameStream self.old self.new }
     {
+        if self.is_drained() {
+            return Ok(());
+        }
         while let Some(offset) = self.next_into(&mut frame.message) {
             frame.offset = offset;
             sink.take(frame, out)?;

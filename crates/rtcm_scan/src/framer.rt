@@ -4,7 +4,7 @@
 //! offset, it is returned, and the scan continues after it; if none can begin there, the scan
 //! continues one byte further; if bytes are missing, it waits for them. So a frame inside a damaged
 //! frame is found. Each byte of a candidate is read once, for every way to cut the stream.
-ghost use Rattle.std.specs.Prelude.{◌≡◌, ◌+◌, ◌-◌, ◌*◌, ◌<◌, ◌≤◌, ◌⊎◌, ℕ, List, [], ◌∷◌, min, length, take};
+ghost use Rattle.std.specs.Prelude.{◌≡◌, ◌+◌, ◌-◌, ◌*◌, ◌<◌, ◌≤◌, ◌⊎◌, ◌&&◌, not, ℕ, List, [], ◌∷◌, min, length, take};
 ghost use Rattle.std.specs.Prelude.{true, false, IsTrue, IfOk, OnOk, OnErr, IfErr, IfSome, IfNone, OnSome, ◌↔◌};
 ghost use Rattle.rtcm_scan.specs.Frame.{begins_frame, frame_length, framed_message};
 ghost use Rattle.rtcm_scan.specs.Frames.{Framed};
@@ -140,6 +140,14 @@ impl Framer {
         ensures { result ≡ self.now.is_ready }
     {
         self.drained
+    }
+
+    /// Returns whether no byte was pushed since no more were decided, and the stream hasn't ended: then
+    /// no more are.
+    pub(crate) fn is_drained(&self) -> bool
+        ensures { result ≡ self.now.is_ready && not self.now.has_ended }
+    {
+        self.drained && !self.ended
     }
 
     /// Accepts one more byte, and reads none. Call `next` or `next_into` until it returns `None`

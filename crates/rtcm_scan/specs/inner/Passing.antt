@@ -1,5 +1,5 @@
 -- The frames that a framer passes to a sink, for every history.
-use Rattle.std.specs.Prelude.{◌≡◌, ℕ, ◌+◌, ◌-◌, ◌<◌, ◌≤◌, max, ⊤, Bool, true, List, ◌++◌, take, length, Option, Result}
+use Rattle.std.specs.Prelude.{◌≡◌, ℕ, ◌+◌, ◌-◌, ◌<◌, ◌≤◌, max, ⊤, Bool, true, false, List, ◌++◌, take, length, Option, Result}
 use Rattle.std.specs.Prelude.{Ok, Err, OnOk, IfErr}
 use Rattle.devices.specs.Device.{Device, HasFailed}
 use Rattle.std.specs.Io.KnownBytes.{Consumes, IsAtEnd}
@@ -49,6 +49,12 @@ pub record HasBroken {S O : Type 0} (broke : Breaking S O) (ended : Bool) (s0 : 
 abbrev pub PassesKnown : {S O : Type 0} → Coming S O → FramerValue → S → O → FramerValue → S → O → Type 0
 PassesKnown {S} {O} took v s o v' s' o' = (s0 : S) (o0 : O) (ps : List Framed) (b : List ℕ) (fs : List Framed)
     → HasPassed took v s0 o0 ps s o b fs → HasPassedAll took v' s0 o0 ps s' o' b
+
+-- all known frames were passed on, where those of a ready framer were before, unless the stream has ended
+abbrev pub PassesPushed : {S O : Type 0} → Coming S O → FramerValue → S → O → FramerValue → S → O → Type 0
+PassesPushed {S} {O} took v s o v' s' o' = (s0 : S) (o0 : O) (ps : List Framed) (b : List ℕ) (fs : List Framed)
+    → HasPassed took v s0 o0 ps s o b fs → (v.is_ready ≡ true → v.has_ended ≡ false → HasPassedAll took v s0 o0 ps s o b)
+    → HasPassedAll took v' s0 o0 ps s' o' b
 
 -- the sink failed at one of the known frames, if `ended` at one of those known at the end
 abbrev pub BreaksKnown : {S O : Type 0} → Coming S O → Breaking S O → Bool → FramerValue → S → O → S → O → Type 0

@@ -35,7 +35,7 @@ returns-in_err-take-clause-part g c =
     }))
 
 pub returns-clause-whole : goal.returns-clause-whole
-returns-clause-whole g c s o ps b fs x =
+returns-clause-whole g c s o ps b fs x drained =
     let k = c.loop-offset.invariant.passed s o ps b fs x in
     let m = c.in_default.ensures.none b k.0 k.2.framer in
     record {

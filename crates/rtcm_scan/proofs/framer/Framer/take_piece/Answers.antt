@@ -1,13 +1,17 @@
 -- The frames that the bytes so far decide were passed on before more bytes are pushed, up to the limit of the
 -- framer.
-use Rattle.rtcm_scan.proofs.Names.{◌≡◌, ◌+◌, ◌∙◌, ap, sym, subst, refl, arith, ℕ, List, append-nil, length, slice_range, take, known_frames, FramerValue, HasPassed, prefix_self, on_failure}
+use Rattle.rtcm_scan.proofs.Names.{◌≡◌, ◌+◌, ◌∙◌, ap, sym, subst, refl, arith, ℕ, List, append-nil, length, slice_range, take, known_frames, FramerValue, HasPassed, HasPassedAll, prefix_self, on_failure}
 use Rattle.rtcm_scan.proofs.PassingLemmas.{at_limit, continues_same, continues_block, part_drained, part_pushed, part_breaks}
 use Rattle.rtcm_scan.proofs.framer.Framer.take_piece.Goals as goal
 
 pub loop-self-init : goal.loop-self-init
 loop-self-init g c = record {
-  passes = λ s o ps b x. (let fs = known_frames c.args.self.now.has_ended b in
-      (fs, prefix_self fs, subst (λ (l : List ℕ). HasPassed g.S.FrameSink.took c.args.self.now s o ps c.args.sink.now c.args.out.now l fs) (sym (append-nil b)) x.passed));
+  passes = λ s o ps b x. (let fs = known_frames c.args.self.now.has_ended b in (
+    fs,
+    prefix_self fs,
+    subst (λ (l : List ℕ). HasPassed g.S.FrameSink.took c.args.self.now s o ps c.args.sink.now c.args.out.now l fs) (sym (append-nil b)) x.passed,
+    λ _. subst (HasPassedAll g.S.FrameSink.took c.args.self.now s o ps c.args.sink.now c.args.out.now) (sym (append-nil b)) x,
+  ));
   can = c.requires.can;
   bound = omega arith;
   taken = omega arith;
@@ -50,7 +54,8 @@ loop-self-preserved g c =
     let taken : c.push_all.new.self.taken ≡ c.drain_into.new.self.taken + length (slice_range c.args.piece.now c.loop-self.taken (c.loop-self.taken + c.min.result)) = ap (λ (v : FramerValue). v.taken) push.ok in
     record {
       passes = part_pushed g.S.FrameSink.took c.args.piece.now c.loop-self.taken c.min.result c.requires.going same.ended
-          (part_drained g.S.FrameSink.took (take c.loop-self.taken c.args.piece.now) i.passes d.whole) push.history;
+          (part_drained g.S.FrameSink.took (take c.loop-self.taken c.args.piece.now) i.passes d.whole) push.history
+          (ap (λ (v : FramerValue). v.is_ready) push.ok);
       can = c.drain_into.ensures.goes;
       bound = omega (arith, c.min.ensures, i.bound);
       taken = omega (arith, taken, size, c.drain_into.ensures.same.taken, i.taken);
