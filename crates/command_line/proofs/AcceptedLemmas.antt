@@ -123,7 +123,7 @@ turn_name s names w word free none fault p stops =
     (subst (λ (o : Option (Text × List Text)). (walked_from s.rules names o w word).stopped ≡ Some p) none stops)
 
 -- after a subcommand the walk keeps its name
-kept_name : (s : Shape) (names : Names) (words : List Text) (w : Walk) (q p : Text × List Text) → w.stopped ≡ Some q
+pub kept_name : (s : Shape) (names : Names) (words : List Text) (w : Walk) (q p : Text × List Text) → w.stopped ≡ Some q
     → (fold (walked s.rules names) w words).stopped ≡ Some p → q.0 ≡ p.0
 unfolding walked
 kept_name s names [] w q p at stops = ap (λ (o : Option (Text × List Text)). option_map_or (λ x. x.0) o q.0) (sym at ∙ stops)
@@ -214,10 +214,15 @@ command_asked a words (forms, rules, are, also, is) none =
     subst (λ (x : App). fault_of x words ≡ [] → (name : Text) × (options : List Row) × IsCommand name × (subcommand_of x words ≡ Some (name, options))) (sym is)
     (name_asked IsCommand (program forms rules) words refl refl (of_each forms rules)) none
 
+-- two commands have the same faults at these words, and are asked for the same
+abbrev pub FindsSame : App → App → List Text → Type 0
+FindsSame p a words = (fault_of p words ≡ fault_of a words) × (subcommand_of p words ≡ subcommand_of a words)
+
 -- a parse finds the command that the words ask for
-pub found_command : (a : App) (words : List Text) (r : Result ArgMatches Error) → IsProgram a → is_simple_and_free a ≡ true → FailsBy (fault_of a words) r
-    → IfOk r (HasMatchesOf a words) → IfOk r (IsFoundIn words)
-found_command a words (Err e) is read fails found = tt
-found_command a words (Ok m) is read none found =
-    let asked = command_asked a words is none in
-    (asked.0, asked.1, asked.2, (found (is_simple_read a read)).1 ∙ asked.3, (a, is, none, asked.3))
+pub found_command : (p a : App) (words : List Text) (r : Result ArgMatches Error) → IsProgram a → FindsSame p a words → is_simple_and_free p ≡ true
+    → FailsBy (fault_of p words) r → IfOk r (HasMatchesOf p words) → IfOk r (IsFoundIn words)
+found_command p a words (Err e) is same read fails found = tt
+found_command p a words (Ok m) is same read none found =
+    let clear = sym same.0 ∙ none in
+    let asked = command_asked a words is clear in
+    (asked.0, asked.1, asked.2, (found (is_simple_read p read)).1 ∙ same.1 ∙ asked.3, (a, is, clear, asked.3))

@@ -1,6 +1,6 @@
 -- A command after an option or a command is added.
 use Rattle.std.proofs.lemmas.Bool.{and_parts, not-true}
-use Rattle.command_line.proofs.Names.{◌≡◌, ◌+◌, ◌<◌, ◌&&◌, ◌∷◌, [], ℕ, Bool, Result, Ok, Err, IfErr, List, None, Some, true, false, not, is_some, length, map, take, get_or, refl, sym, ap, ap₂, ◌∙◌, map_more, fold-append, Rule, Text, is_empty, rule_of, App, app_of, built, app_of_fields, is_simple, new_app, on_top, with_rule, with_subcommand, AddsArg, AddsSubcommand, is_free_app, is_simple_and_free, clap_on_literals, FailsBy, HasKind, Kinds, Error, Bor, CommandRow, OptionRow, command_set, option_set, program, with_commands, with_options, Arg, Command, out-Command}
+use Rattle.command_line.proofs.Names.{◌≡◌, ◌+◌, ◌<◌, ◌&&◌, ◌∷◌, [], ℕ, Bool, if◌then◌else◌, Result, Ok, Err, IfErr, List, Option, None, Some, true, false, not, is_some, length, map, take, get_or, refl, sym, ap, ap₂, ◌∙◌, map_more, fold-append, Rule, Text, is_empty, rule_of, App, app_of, built, app_of_fields, is_simple, new_app, on_top, with_rule, with_subcommand, AddsArg, AddsSubcommand, is_free_app, is_simple_and_free, clap_on_literals, FailsBy, HasKind, Kinds, Error, Bor, CommandRow, OptionRow, command_set, is_needed, needed_set, option_set, program, with_commands, with_options, Arg, Command, out-Command}
 use Rattle.clap.specs.declared.builder.value_parser.ValueParser.TheVariants as value
 use Rattle.clap.specs.declared.builder.action.ArgAction.TheVariants as action
 
@@ -43,9 +43,17 @@ pub plain : (a : App) (rs : List Rule) → (with_options a rs).top.is_plain ≡ 
 plain a [] = refl
 plain a (r ∷ rs) = plain (with_rule a r) rs
 
--- the command of a row has only a name
-pub plain_given : (row : CommandRow) → (command_set row).top.is_plain ≡ true
-plain_given row = plain (new_app row.name.now) (map option_set row.options.now)
+-- the command of a row has only a name, with its options or without
+pub plain_given : (asked : Option Text) (row : CommandRow) → (needed_set asked row).top.is_plain ≡ true
+plain_given asked row = by (is_needed asked (command_set row).top.name) where
+  by : (b : Bool) → (if b then command_set row else new_app (command_set row).top.name).top.is_plain ≡ true
+  by true = plain (new_app row.name.now) (map option_set row.options.now)
+  by false = refl
+
+-- the options of a command don't change its name
+pub named_as : (a : App) (rs : List Rule) → (with_options a rs).top.name ≡ a.top.name
+named_as a [] = refl
+named_as a (r ∷ rs) = named_as (with_rule a r) rs
 
 -- one more command
 pub with_command : {old sub new : Command} {app below : App} → AddsSubcommand old sub new → app_of old ≡ app → app_of sub ≡ below → below.top.is_plain ≡ true
@@ -82,9 +90,15 @@ pub one_option_more : (a : App) (rows : List OptionRow) (n : ℕ) (d : OptionRow
 one_option_more a rows n d lt =
     sym (ap (with_options a) (map_more option_set rows n d lt) ∙ fold-append with_rule a (map option_set (take n rows)) (option_set (get_or rows n d) ∷ []))
 
--- one more command of the rows
-pub one_command_more : (a : App) (rows : List CommandRow) (n : ℕ) (d : CommandRow) → n < length rows
-    → with_subcommand (with_commands a (map command_set (take n rows))) (command_set (get_or rows n d)).top
-    ≡ with_commands a (map command_set (take (n + 1) rows))
-one_command_more a rows n d lt =
-    sym (ap (with_commands a) (map_more command_set rows n d lt) ∙ fold-append _ a (map command_set (take n rows)) (command_set (get_or rows n d) ∷ []))
+-- one more command, of these of the rows
+pub one_command_more : (of : CommandRow → App) (a : App) (rows : List CommandRow) (n : ℕ) (d : CommandRow) → n < length rows
+    → with_subcommand (with_commands a (map of (take n rows))) (of (get_or rows n d)).top ≡ with_commands a (map of (take (n + 1) rows))
+one_command_more of a rows n d lt =
+    sym (ap (with_commands a) (map_more of rows n d lt) ∙ fold-append _ a (map of (take n rows)) (of (get_or rows n d) ∷ []))
+
+-- the command of a row, with its options or without
+pub needed_row : (asked : Option Text) (row : CommandRow) (b : Bool) → is_needed asked row.name.now ≡ b
+    → (if b then command_set row else new_app row.name.now) ≡ needed_set asked row
+needed_row asked row b e =
+    sym (ap (λ (n : Text). if is_needed asked n then command_set row else new_app n) (named_as (new_app row.name.now) (map option_set row.options.now))
+    ∙ ap (λ (x : Bool). if x then command_set row else new_app row.name.now) e)

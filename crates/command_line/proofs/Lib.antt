@@ -1,3 +1,4 @@
 pub mod Names
+mod NeededLemmas
 mod CommandLineLemmas
 mod AcceptedLemmas

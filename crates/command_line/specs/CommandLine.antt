@@ -179,16 +179,15 @@ start_of name = on_top (λ s. record s { subcommand_required = true; has_version
 abbrev pub start : App
 start = start_of (codes "rtcm2rinex")
 
-abbrev pub listings : App
-listings = with_subcommand (with_subcommand start (new_app (codes "frames")).top) show.top
+abbrev pub commands : (forms rules : Choices) → List App
+commands forms rules =
+    new_app (codes "frames") ∷ show ∷ of_station (codes "signals") ∷ fitting ∷ convert forms rules ∷ check ∷ quality ∷ []
 
-abbrev pub signal_commands : App
-signal_commands =
-    with_subcommand (with_subcommand listings (of_station (codes "signals")).top) fitting.top
+abbrev pub with_commands : App → List App → App
+with_commands a commands = fold (λ (program : App) (command : App). with_subcommand program command.top) a commands
 
 abbrev pub program : (forms rules : Choices) → App
-program forms rules =
-    with_subcommand (with_subcommand (with_subcommand signal_commands (convert forms rules).top) check.top) quality.top
+program forms rules = with_commands start (commands forms rules)
 
 -- the commands and options are those of the program
 abbrev pub IsProgram : App → Type 0

@@ -1,8 +1,9 @@
 //! The command line.
-ghost use Rattle.std.specs.Prelude.{◌≡◌, IfOk, IfErr, map};
+ghost use Rattle.std.specs.Prelude.{◌≡◌, true, Some, IfOk, IfErr, IfSome, map, option_map, slice_get};
 ghost use Rattle.clap.specs.Walk.{rule_of, texts};
 ghost use Rattle.clap.specs.Simple.{app_of, new_app};
-ghost use Rattle.command_line.specs.inner.CommandLine.{IsFoundIn, RefusesWords, command_set, option_set};
+ghost use Rattle.command_line.specs.inner.CommandLine.{IsFoundIn, RefusesWords};
+ghost use Rattle.command_line.specs.inner.CommandLine.{has_row, is_needed, needed_set, option_set};
 ghost use Rattle.command_line.specs.CommandLine as line;
 ghost use Rattle.command_line.specs.inner.CommandLine as inner_line;
 
@@ -26,7 +27,7 @@ pub fn parse<'a>(alloc: Global, words: &'a [&'a str]) -> Result<ArgMatches<'a>, 
     let start = described(alloc, &program)
         .version(VERSION)
         .subcommand_required(true);
-    let program = with_commands(alloc, start, &rows)?;
+    let program = with_commands(alloc, start, &rows, asked(words, &rows))?;
     program.try_get_matches_from(words)
 }
 
@@ -36,20 +37,63 @@ pub fn drop_matches(matches: ArgMatches) {
     drop(matches);
 }
 
-/// Returns the program with a command for each of these rows.
+/// Returns the first word after the program's name, if it is the name of one of these commands.
+fn asked<'a>(words: &[&'a str], rows: &[CommandRow]) -> Option<&'a str>
+    ensures { IfSome result (λ name. (slice_get (texts words.now) 1 ≡ Some name.now)
+        × (has_row rows.now name.now ≡ true)) }
+{
+    let name = *words.get(1)?;
+    for row in rows {
+        if row.name == name {
+            return Some(name);
+        }
+    }
+    None
+}
+
+/// Returns the program with a command for each of these rows, which has its options if it is asked
+/// for, or none is.
 fn with_commands<'a>(
     alloc: Global,
     program: Command<'a>,
     rows: &[CommandRow<'a>],
+    asked: Option<&str>,
 ) -> Result<Command<'a>, AllocError>
-    ensures { inner_line.Makes result (inner_line.with_commands (app_of program.entry) (map command_set rows.now)) }
+    ensures { inner_line.Makes result (line.with_commands (app_of program.entry)
+        (map (needed_set (option_map (λ a. a.now) asked.entry)) rows.now)) }
 {
     let mut program = program;
     for row in rows {
-        let command = with_options(alloc, described(alloc, row), row.options)?;
-        program = program.subcommand(command)?;
+        program = program.subcommand(command(alloc, row, asked)?)?;
     }
     Ok(program)
+}
+
+/// Returns the command of a row, without its options if another one is asked for.
+// A start takes 0.7 of the instructions of one with the options of all commands.
+fn command<'a>(
+    alloc: Global,
+    row: &CommandRow<'a>,
+    asked: Option<&str>,
+) -> Result<Command<'a>, AllocError>
+    ensures { inner_line.Makes result (needed_set (option_map (λ a. a.now) asked.entry) row.now) }
+{
+    let command = described(alloc, row);
+    if needs_options(asked, row.name) {
+        with_options(alloc, command, row.options)
+    } else {
+        Ok(command)
+    }
+}
+
+/// Returns whether this command is asked for, or none is.
+fn needs_options(asked: Option<&str>, name: &str) -> bool
+    ensures { result ≡ is_needed (option_map (λ a. a.now) asked.entry) name.now }
+{
+    match asked {
+        Some(asked) => asked == name,
+        None => true,
+    }
 }
 
 /// Returns the command with an option for each of these rows.

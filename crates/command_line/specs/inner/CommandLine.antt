@@ -1,9 +1,11 @@
 -- The program's command line: its commands and their options, by which clap's definitions read words. They agree with
 -- the manual page.
-use Rattle.std.specs.Prelude.{◌≡◌, ◌⊎◌, List, map, fold, codes, Some, Result, IfOk}
+use Rattle.std.specs.Prelude.{◌≡◌, ◌⊎◌, true, Bool, List, [], ◌∷◌, map, codes, Option, Some, Result, IfOk, if◌then◌else◌}
+use Rattle.std.specs.List.{list_any}
+use Rattle.std.specs.Option.{option_map_or}
+use Rattle.std.specs.Str.{bytes_eq}
 use Rattle.clap.specs.Walk.{Row, Rule, Text}
 use Rattle.clap.specs.Simple.{App, app_of, new_app, subcommand_rows_of}
-use Rattle.clap.specs.Simple.{with_subcommand}
 use Rattle.clap.specs.Values.{kind_of}
 use Rattle.clap.specs.declared.error.Error.{Error}
 use Rattle.clap.specs.declared.error.kind.ErrorKind.TheVariants as kind
@@ -11,7 +13,7 @@ use Rattle.clap.specs.declared.parser.matches.ArgMatches.{ArgMatches}
 use Rattle.clap.specs.declared.builder.command.Command.{Command}
 use Rattle.command_line.specs.declared.commands.CommandRow.{CommandRow}
 use Rattle.command_line.specs.declared.commands.OptionRow.{OptionRow}
-use Rattle.command_line.specs.CommandLine.{named, with_options, start_of, program, IsProgram, SelectsCommand}
+use Rattle.command_line.specs.CommandLine.{Choices, AreChoices, named, with_options, commands, SelectsCommand}
 use Rattle.command_line.specs.CommandLine.{FailsParsing}
 
 -- ---- options
@@ -27,16 +29,31 @@ option_set row = record (named row.name.now) {
 
 -- ---- commands
 
--- the command of a row
+-- the command of a row, with all its options
 abbrev pub command_set : CommandRow → App
 command_set row = with_options (new_app row.name.now) (map option_set row.options.now)
 
-abbrev pub with_commands : App → List App → App
-with_commands a commands = fold (λ (program : App) (command : App). with_subcommand program command.top) a commands
+-- A command that the words ask for is named by the first one after the program's name. The options of the others are
+-- not needed, and all are if the words ask for none.
+abbrev pub is_needed : Option Text → Text → Bool
+is_needed asked name = option_map_or (λ a. bytes_eq a name) asked true
+
+abbrev pub needed : Option Text → App → App
+needed asked a = if is_needed asked a.top.name then a else new_app a.top.name
+
+-- the command of a row, with those that are needed
+abbrev pub needed_set : Option Text → CommandRow → App
+needed_set asked row = needed asked (command_set row)
 
 -- the rows of the program and of its commands
 abbrev pub AreRows : CommandRow → List CommandRow → Type 0
-AreRows program commands = IsProgram (with_commands (start_of program.name.now) (map command_set commands))
+AreRows program rows = (forms : Choices) × (rules : Choices) × AreChoices (codes "4,7" ∷ codes "all" ∷ []) forms
+    × AreChoices (codes "bit" ∷ codes "time" ∷ []) rules × (program.name.now ≡ codes "rtcm2rinex")
+    × (map command_set rows ≡ commands forms rules)
+
+-- the command of this name is one of the rows
+abbrev pub has_row : List CommandRow → Text → Bool
+has_row rows name = list_any (λ row. bytes_eq row.name.now name) rows
 
 -- if the command was made, its definition is this one
 abbrev pub Makes : {E : Type 0} → Result Command E → App → Type 0

@@ -1,17 +1,25 @@
-use Rattle.command_line.proofs.CommandLineLemmas.{is_read, versioned, why}
+use Rattle.command_line.proofs.CommandLineLemmas.{versioned, why}
 use Rattle.command_line.proofs.AcceptedLemmas.{found_command}
-use Rattle.command_line.proofs.Names.{◌≡◌, ◌∙◌, true, inl, inr, map, ap, subst, sym, IfErr-weaker, App, app_of, texts, is_simple_and_free, IsProgram, command_set, with_commands}
+use Rattle.command_line.proofs.NeededLemmas.{rows_fit}
+use Rattle.command_line.proofs.Names.{◌∙◌, inl, inr, map, option_map, ap, subst, refl, IfErr-weaker, IsAmong, App, IsProgram, Text, app_of, texts, kind_of, program, start_of, needed_set, with_commands}
 use Rattle.command_line.proofs.cli.parse.Goals as goal
 
 pub returns : goal.returns
 returns c =
-    let program = app_of c.in_ok-program.program in
-    let same = c.in_ok-program.ensures ∙ ap (λ (a : App). with_commands a (map command_set c.program_rows.result.1))
-    (versioned _ _ _ c.version.ensures c.subcommand_required-start.ensures c.described.ensures) in
-    let is : IsProgram program = subst IsProgram (sym same) c.program_rows.ensures in
+    let rows = c.program_rows.ensures in
+    let all = program rows.0 rows.1 in
+    let is : IsProgram all = (rows.0, rows.1, rows.2, rows.3, refl) in
+    let words = texts c.args.words.now in
+    let sets = map (needed_set (option_map (λ n. n.now) c.asked.result)) c.program_rows.result.1 in
+    let same = c.in_ok-program.ensures
+    ∙ ap (λ (a : App). with_commands a sets) (versioned _ _ _ c.version.ensures c.subcommand_required-start.ensures c.described.ensures)
+    ∙ ap (λ (name : Text). with_commands (start_of name) sets) rows.4 in
+    let fits = rows_fit (app_of c.in_ok-program.program) rows.0 rows.1 _ c.asked.result words rows.5 c.asked.ensures same in
     let parse = c.try_get_matches_from in
-    let read : is_simple_and_free program ≡ true = ap is_simple_and_free is.4 ∙ is_read is.0 is.1 in
     record {
-      asked = found_command program (texts c.args.words.now) parse.result is read (parse.ensures.kinds read) parse.ensures.matches;
-      refused = IfErr-weaker parse.result _ _ (λ e h. elim h [ inl memory ↦ inl memory | inr among ↦ inr (program, is, among) ]) (why _ parse.result (parse.ensures.kinds read));
+      asked = found_command (app_of c.in_ok-program.program) all words parse.result is fits.1 fits.0 (parse.ensures.kinds fits.0) parse.ensures.matches;
+      refused = IfErr-weaker parse.result _ _ (λ e h. elim h [
+        | inl memory ↦ inl memory
+        | inr among ↦ inr (all, is, subst (IsAmong (kind_of e)) fits.1.0 among)
+      ]) (why _ parse.result (parse.ensures.kinds fits.0));
     }

@@ -2,4 +2,4 @@ use Rattle.std.proofs.Common.{refl}
 use Rattle.command_line.proofs.commands.program_rows.Goals as goal
 
 pub returns : goal.returns
-returns c = (_, _, refl, refl, refl)
+returns c = (_, _, refl, refl, refl, refl)
