@@ -59,15 +59,19 @@ echo "$report" > "$kept.report"
 echo "$signals" > "$kept.signals"
 
 # Logs that overlap repeat messages, which are counted as late, or their cells as repeated. Lost is a message of an
-# earlier time than one before it of its number and station, if it comes for the first time.
+# earlier time than one before it, if it comes for the first time. Times of BeiDou are 14 seconds behind GPS time, those
+# of GLONASS are of Moscow, without leap seconds.
 late=0
 case $report in
 *" late 0 "*) ;;
 *)
-    late=$(rtcm2rinex show --all < "$kept.raw" | awk '
-        NF == 8 && $2 != "1008" && !seen[$2, $3, $4]++ {
-            back = last[$2, $3] - $4
-            if (back > 0 && back < 302400000) late++; else last[$2, $3] = $4
+    leap=${plan##*--leap-seconds }
+    test "$leap" != "$plan" || leap=18
+    late=$(rtcm2rinex show --all < "$kept.raw" | awk -v leap="${leap%% *}" -v week=604800000 '
+        $2 ~ /^1(07|08|09|10|11|12)[4-7]$/ && NF == 8 && !seen[$2, $3, $4]++ {
+            time = $4 + ($2 ~ /^112/ ? 14000 : $2 ~ /^108/ ? 1000 * leap - 10800000 : 0)
+            back = (last - time + 2 * week) % week
+            if (started++ && back > 0 && back < week / 2) late++; else last = time
         }
         END { print late + 0 }')
     ;;
