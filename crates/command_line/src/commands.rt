@@ -12,7 +12,7 @@ pub struct CommandRow<'a> {
     pub name: &'a str,
     /// What it does.
     pub about: &'a str,
-    /// How it is called, and the meaning of the lines that it prints.
+    /// The meaning of the lines that it prints, and how it is called.
     pub examples: &'a str,
     /// The options that it has.
     pub options: &'a [OptionRow<'a>],
@@ -81,9 +81,9 @@ const PROGRAM: CommandRow<'static> = CommandRow {
 const FRAMES: CommandRow<'static> = CommandRow {
     name: "frames",
     about: "Lists the frames: the place, length and number of each message",
-    examples: "Example: rtcm2rinex frames < stream.rtcm3\n\
-               A line as '0 19 1005' is a frame at byte 0 with a message of 19 bytes, which\n\
-               is message 1005.",
+    examples: "A line as '0 19 1005' is a frame at byte 0 with a message of 19 bytes, which\n\
+               is message 1005.\n\
+               Example: rtcm2rinex frames < stream.rtcm3 > frames.txt",
     options: &[],
 };
 
@@ -91,13 +91,13 @@ const FRAMES: CommandRow<'static> = CommandRow {
 const SHOW: CommandRow<'static> = CommandRow {
     name: "show",
     about: "Shows the messages: stations, heads of MSMs, and refused messages",
-    examples: "Example: rtcm2rinex show < stream.rtcm3\n\
-               A line as '0 1005 2003 1114104.5999 -4850729.7108 3975521.4643' is a station:\n\
+    examples: "A line as '0 1005 2003 1114104.5999 -4850729.7108 3975521.4643' is a station:\n\
                the place of its frame, the message's number, the station, and X, Y and Z in\n\
                metres.\n\
                A line as '52 1077 2003 1000 0 1 1 1' is an MSM: place, number, station, time\n\
                in milliseconds of the week, DF393, and how many satellites, signals and cells\n\
-               it has.",
+               it has.\n\
+               Example: rtcm2rinex show < stream.rtcm3 > messages.txt",
     options: option_rows! {
         None => {
             "all", "", false, &[], ValueParser::Bool, SetTrue,
@@ -111,9 +111,9 @@ const SHOW: CommandRow<'static> = CommandRow {
 const SIGNALS: CommandRow<'static> = CommandRow {
     name: "signals",
     about: "Prints a table of the signals of the stream",
-    examples: "Example: rtcm2rinex signals < stream.rtcm3\n\
-               A line as 'G 1C 3042' is a signal: its system, its code, and the number of its\n\
-               cells with a pseudorange, a phase, a Doppler shift or a strength.",
+    examples: "A line as 'G 1C 3042' is a signal: its system, its code, and the number of its\n\
+               cells with a pseudorange, a phase, a Doppler shift or a strength.\n\
+               Example: rtcm2rinex signals < stream.rtcm3 > signals.txt",
     options: option_rows! {
         None => {
             "station", "NUMBER", false, &[], STATION, Set, STATION_HELP;
@@ -125,16 +125,16 @@ const SIGNALS: CommandRow<'static> = CommandRow {
 const OPTIONS: CommandRow<'static> = CommandRow {
     name: "options",
     about: "Prints the options of convert that fit the stream",
-    examples: "Example:\n  \
-               plan=$(rtcm2rinex options --near 2024-02-04 < stream.rtcm3) &&\n  \
-               rtcm2rinex convert --date \"20240204 000001 UTC\" $plan \\\n    \
-               < stream.rtcm3 > station.obs\n\
-               A line as '--gps 1C,2W --galileo none --position=1.0000,-2.0000,3.0000' has\n\
+    examples: "A line as '--gps 1C,2W --galileo none --position=1.0000,-2.0000,3.0000' has\n\
                every signal with a pseudorange, a phase, a Doppler shift or a strength, and\n\
                the position of the first message 1005 or 1006. With --week or --near it\n\
                begins with the week, as '--week 2300', and has the leap seconds for GLONASS;\n\
                with --station it has the station. Without --station a stream of several\n\
-               stations is refused.",
+               stations is refused.\n\
+               Example:\n  \
+               plan=$(rtcm2rinex options --near 2024-02-04 < stream.rtcm3) &&\n  \
+               rtcm2rinex convert --date \"20240204 000001 UTC\" $plan \\\n    \
+               < stream.rtcm3 > station.obs",
     options: option_rows! {
         None => {
             "station", "NUMBER", false, &[], STATION, Set, STATION_HELP;
@@ -151,12 +151,12 @@ const OPTIONS: CommandRow<'static> = CommandRow {
 const CONVERT: CommandRow<'static> = CommandRow {
     name: "convert",
     about: "Converts the observations to a RINEX 3.05 observation file",
-    examples: "Example:\n  \
-               rtcm2rinex convert --week 2300 --date \"20240204 000001 UTC\" \\\n    \
-               --gps 1C,2W --galileo none < stream.rtcm3 > station.obs\n\
-               The command options prints the week and the signals of a stream.\n\
+    examples: "The command options prints the week and the signals of a stream.\n\
                At the end one line on standard error counts the bytes, frames, messages,\n\
-               cells and epochs.",
+               cells and epochs.\n\
+               Example:\n  \
+               rtcm2rinex convert --week 2300 --date \"20240204 000001 UTC\" \\\n    \
+               --gps 1C,2W --galileo none < stream.rtcm3 > station.obs",
     options: option_rows! {
         None => {
             "week", "WEEK", false, &[], TEXT, Set,
@@ -253,11 +253,11 @@ const CONVERT: CommandRow<'static> = CommandRow {
 const CHECK: CommandRow<'static> = CommandRow {
     name: "check",
     about: "Checks that standard input is a file just as convert writes it",
-    examples: "Example: rtcm2rinex check < station.obs\n\
-               A line as 'epochs 2 satellites 17 events 0' counts the epochs, the lines of\n\
+    examples: "A line as 'epochs 2 satellites 17 events 0' counts the epochs, the lines of\n\
                satellites, and the events with other station values. Of any other file the\n\
                first line that is wrong is given on standard error, as\n\
-               'rtcm2rinex: BadHeader 2'.",
+               'rtcm2rinex: BadHeader 2'.\n\
+               Example: rtcm2rinex check < station.obs > epochs.txt",
     options: option_rows! {
         None => {
             "times", "", false, &[], ValueParser::Bool, SetTrue,
@@ -282,13 +282,13 @@ const CHECK: CommandRow<'static> = CommandRow {
 const QUALITY: CommandRow<'static> = CommandRow {
     name: "quality",
     about: "Prints what each signal and each satellite of a file has",
-    examples: "Example: rtcm2rinex quality < station.obs\n\
-               A line as 'signal G 1C satellites 9 c 9 l 9 d 0 s 9 lost 1 half 0 mean 41.250'\n\
+    examples: "A line as 'signal G 1C satellites 9 c 9 l 9 d 0 s 9 lost 1 half 0 mean 41.250'\n\
                counts the satellites with a signal, its values C, L, D and S, its phases with\n\
                a loss of lock and with a half cycle, and gives the mean strength in dB-Hz. A\n\
                line of a satellite counts the epochs in which it has a line, of those of the\n\
                file from its first to its last. With --every a line is of a satellite and\n\
-               signal in a period, and begins with the period's start.",
+               signal in a period, and begins with the period's start.\n\
+               Example: rtcm2rinex quality < station.obs > quality.txt",
     options: option_rows! {
         None => {
             "every", "SECONDS", false, &[], TEXT, Set,
