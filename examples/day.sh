@@ -2,72 +2,93 @@
 # day.sh STATION DAY: converts the raw logs of a station's day to its RINEX file of an epoch every 30 seconds, and
 # checks it. It prints one line if the day lacks something, and then fails. In the current folder are
 #
-#   raw/STATION/    the raw logs, RTCM 3, also compressed by gzip, whose names begin with the day, and with the time of
-#                   the day if it has several: 2024-02-04.rtcm3, or 2024-02-04-130000.rtcm3.gz and others
-#   headers/STATION an option of `rtcm2rinex convert` a line, if there is such a file: --rec-type=SEPT POLARX5
-#   obs/STATION/    the file with its RINEX name, the report of the conversion, and the table of the signals of the logs
+#   raw/STATION/    the raw logs, RTCM 3, also compressed by gzip, whose names begin with the day (UTC), and all with the
+#                   time of the day if it has several: 2024-02-04.rtcm3, or 2024-02-04-130000.rtcm3.gz and others
+#   headers/STATION options of `rtcm2rinex convert`, one a line, if there is such a file: --rec-type=SEPT POLARX5. They
+#                   are the header texts and others that this script and the plan of `options` don't give; --station
+#                   is given to `options`
+#   obs/STATION/    the file with its RINEX name, the report of the conversion, and the values of the signals of the file
 #
 # A STATION has nine characters for the RINEX name, as KIRU00SWE: site, monument, receiver and country. SKIPPED is the
 # largest percentage of bytes in no frame that isn't reported, 1 by default: more if the logs have other data too.
 set -eu
+export LC_ALL=C
 station=$1 day=$2
 before=$(date -u -d "$day - 1 day" +%F)
 after=$(date -u -d "$day + 1 day" +%F)
 made=obs/$station/${station}_S_$(date -u -d "$day" +%Y%j)0000_01D_30S_MO.rnx
 kept=obs/$station/$day
+part=$made.$$.part raw=$kept.$$.raw
 mkdir -p "obs/$station"
-trap 'rm -f "$made.part" "$kept.raw"' EXIT
+trap 'rm -f "$part" "$raw"' EXIT
+trap 'exit 1' HUP INT TERM
 
+# shellcheck disable=SC2048,SC2086 # split into words, the lines of an error become one
 say() {
-    echo "$station $day: $*"
+    set -f
+    echo "$station $day:" $*
     exit 1
 }
 
-# the logs of the day, and how often they have each signal
-set -- "raw/$station/$day"*.rtcm3*
-test -e "$1" || say "no log"
-signals=$(gzip -cdf "$@" 2> /dev/null | rtcm2rinex signals 2>&1) || say "no file: $signals"
+# the options of the station
+header=headers/$station wanted=
+set --
+if test -e "$header" || test -L "$header"; then
+    { test -f "$header" && test -r "$header"; } || say "no file: $header is not readable"
+    while IFS= read -r option || test -n "$option"; do
+        case $option in
+        "") ;;
+        --station=*) wanted=$option ;;
+        *) set -- "$@" "$option" ;;
+        esac
+    done < "$header"
+fi
 
-# They follow the last log of the day before and precede the first one of the day after, which may have the first and
-# the last seconds of the day.
-for log in "raw/$station/$before"*.rtcm3*; do last=$log; done
-test ! -e "$last" || set -- "$last" "$@"
-for log in "raw/$station/$after"*.rtcm3*; do
-    test ! -e "$log" || set -- "$@" "$log"
-    break
+# the logs of the day
+for log in "raw/$station/$day"*.rtcm3*; do
+    test -e "$log" || say "no log"
+    errors=$(gzip -cdf "$log" 2>&1 >> "$raw") || say "no file: $errors"
 done
-# shellcheck disable=SC2086 # the lines of its errors become one
-errors=$(gzip -cdf "$@" 2>&1 > "$kept.raw") || say "no file:" $errors
+
+# The first and the last seconds of the day may be in the logs beside it: those of UTC begin 18 seconds after the GPS
+# day. If such a log is damaged, its own day says so.
+for last in "raw/$station/$before"*.rtcm3*; do :; done
+for next in "raw/$station/$after"*.rtcm3*; do break; done
+logs() {
+    test ! -e "$last" || gzip -cdf "$last" 2> /dev/null | tail -c 2000000
+    cat "$raw"
+    test ! -e "$next" || gzip -cdf "$next" 2> /dev/null | head -c 2000000
+}
 
 # the options that fit them; a date that their ephemerides contradict is an error
-plan=$(rtcm2rinex options --near "$day" < "$kept.raw" 2>&1) || say "no file: $plan"
-
-# the options of the station, one a line
-set --
-if test -e "headers/$station"; then
-    while IFS= read -r option; do
-        test -z "$option" || set -- "$@" "$option"
-    done < "headers/$station"
-fi
+# shellcheck disable=SC2086 # there may be no station
+plan=$(logs | rtcm2rinex options --near "$day" $wanted 2>&1) || say "no file: $plan"
 
 # Recordings have no hurry: an epoch is closed by a later one, so that repeated messages can't end it.
 # shellcheck disable=SC2086 # the shell has to split a plan into options
-report=$(rtcm2rinex convert --gather time --interval 30 --from "$day" --until "$after" \
-    --date "$(date -u '+%Y%m%d %H%M%S UTC')" $plan "$@" < "$kept.raw" 2>&1 > "$made.part") || say "no file: $report"
-gaps=$(rtcm2rinex check --gaps 30 --from "$day" --until "$after" < "$made.part" 2>&1) || say "no file: $gaps"
-echo "$report" > "$kept.report"
-echo "$signals" > "$kept.signals"
+report=$(logs | rtcm2rinex convert --gather time --interval 30 --from "$day" --until "$after" \
+    --date "$(date -u '+%Y%m%d %H%M%S UTC')" $plan "$@" 2>&1 > "$part") || say "no file: $report"
+gaps=$(rtcm2rinex check --gaps 30 --from "$day" --until "$after" < "$part" 2>&1) || say "no file: $gaps"
+values=$(rtcm2rinex quality < "$part" | grep '^signal ') || :
+heard=$(logs | rtcm2rinex signals)
 
-# Logs that overlap repeat messages, which are counted as late, or their cells as repeated. Lost is a message of an
-# earlier time than one before it, if it comes for the first time. Times of BeiDou are 14 seconds behind GPS time, those
-# of GLONASS are of Moscow, without leap seconds.
+# A file that was made of more logs is kept.
+epochs() { rtcm2rinex check 2> /dev/null < "$1" | cut -d ' ' -f 2; }
+test ! -e "$made" || test "$(epochs "$made")" -le "$(epochs "$part")" ||
+    say "$(epochs "$part") epochs, and $(epochs "$made") in the file that there is, which is kept"
+echo "$report" > "$kept.report"
+echo "$values" > "$kept.signals"
+
+# Logs that overlap repeat messages, which are counted as late. Lost is a message of an earlier time than one before it,
+# if it comes for the first time. Times of BeiDou are 14 seconds behind GPS time, those of GLONASS are of Moscow, without
+# leap seconds.
 late=0
 case $report in
 *" late 0 "*) ;;
 *)
     leap=${plan##*--leap-seconds }
     test "$leap" != "$plan" || leap=18
-    late=$(rtcm2rinex show --all < "$kept.raw" | awk -v leap="${leap%% *}" -v week=604800000 '
+    late=$(logs | rtcm2rinex show --all | awk -v leap="${leap%% *}" -v week=604800000 '
         $2 ~ /^1(07|08|09|10|11|12)[4-7]$/ && NF == 8 && !seen[$2, $3, $4]++ {
             time = $4 + ($2 ~ /^112/ ? 14000 : $2 ~ /^108/ ? 1000 * leap - 10800000 : 0)
             back = (last - time + 2 * week) % week
@@ -76,15 +97,15 @@ case $report in
         END { print late + 0 }')
     ;;
 esac
-mv "$made.part" "$made"
+mv "$part" "$made"
 
 # What the day lacks, in one line: epochs, bytes, messages, and half of the values of a signal of the day before.
 previous=obs/$station/$before.signals
 test -e "$previous" || previous=/dev/null
-lacks=$(gaps=$gaps report=$report awk -v late="$late" -v skipped="${SKIPPED:-1}" '
-    { signal = $1 " " $2 }
-    when == "before" { was[signal] = $3; order[++signals] = signal }
-    when == "now" { now[signal] = $3 }
+lacks=$(gaps=$gaps report=$report heard=$heard awk -v late="$late" -v size="$(wc -c < "$raw")" -v skipped="${SKIPPED:-1}" '
+    { signal = $2 " " $3; count = $7 + $9 + $11 + $13 }
+    when == "before" { was[signal] = count; order[++signals] = signal }
+    when == "now" { now[signal] = count }
     END {
         count = split(ENVIRON["gaps"], lines, "\n")
         for (i = 1; i <= count; i++) {
@@ -95,16 +116,25 @@ lacks=$(gaps=$gaps report=$report awk -v late="$late" -v skipped="${SKIPPED:-1}"
         }
         count = split(ENVIRON["report"], words, " ")
         for (i = 1; i < count; i += 2) of[words[i]] = words[i + 1]
-        if (100 * of["skipped_bytes"] > skipped * of["bytes"])
-            add(int(100 * of["skipped_bytes"] / of["bytes"] + 0.5) " % of the bytes are in no frame")
+        if (100 * of["skipped_bytes"] > skipped * size)
+            add(int(100 * of["skipped_bytes"] / size + 0.5) " % of the bytes are in no frame")
+        if (of["repeated"] > of["taken"])
+            add(of["repeated"] " cells are repeated in " of["taken"] " messages, as by two receivers of one number")
         if (late) add(late " late messages are lost")
         count = split("faulty past crowded without_channel", words, " ")
         for (i = 1; i <= count; i++)
             if (of[words[i]] > 0) add(words[i] " " of[words[i]])
+        # off the times of the file, as by a clock of its own
+        count = split(ENVIRON["heard"], lines, "\n")
+        for (i = 1; i <= count; i++) {
+            split(lines[i], words, " ")
+            if (words[3] >= 1000 && !now[words[1] " " words[2]])
+                add("signal " words[1] " " words[2] " has no values, and " words[3] " cells in the logs")
+        }
         for (i = 1; i <= signals; i++) {
             signal = order[i]
             if (2 * now[signal] < was[signal])
-                add("signal " signal " has " now[signal] + 0 " cells, " was[signal] " the day before")
+                add("signal " signal " has " now[signal] + 0 " values, " was[signal] " the day before")
         }
         print lacks
     }
