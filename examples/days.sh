@@ -1,0 +1,16 @@
+#!/bin/sh
+# days.sh STATION [N]: converts yesterday by day.sh in this folder, and before it each of the N days before, by default 6,
+# that has raw logs and no report, as after the machine was off. It prints a line for each day that lacks something, and
+# then fails.
+set -eu
+station=$1 status=0 n=$((${2:-6} + 1))
+scripts=$(cd "$(dirname "$0")" && pwd)
+while test "$n" -gt 0; do
+    day=$(date -u -d "$n days ago" +%F)
+    set -- "raw/$station/$day"*
+    if test "$n" = 1 || { test -e "$1" && test ! -e "obs/$station/$day.report"; }; then
+        sh "$scripts/day.sh" "$station" "$day" || status=1
+    fi
+    n=$((n - 1))
+done
+exit "$status"
