@@ -32,7 +32,8 @@ run: build
 	@mkdir -p out
 	$(PROGRAM) options --near $(DAY) < $(SAMPLE).rtcm3 > $(MADE).plan
 	@cat $(MADE).plan
-	$(PROGRAM) convert --date $(DATE) $$(cat $(MADE).plan) < $(SAMPLE).rtcm3 > $(MADE).obs 2> $(MADE).report
+	$(PROGRAM) convert --date $(DATE) --gather time $$(cat $(MADE).plan) < $(SAMPLE).rtcm3 > $(MADE).obs \
+	    2> $(MADE).report
 	@head -n 30 $(MADE).obs
 	@echo ".. $$(wc -l < $(MADE).obs) lines in $(MADE).obs, and the report:"
 	@cat $(MADE).report
@@ -42,8 +43,8 @@ run: build
 try:
 	@mkdir -p out
 	@echo "nothing is proved here: the program is built without its proofs (make run proves it)"
-	@cd crates/rtcm2rinex && rt try -- convert --date $(DATE) $$(cat ../../$(SAMPLE).plan) < ../../$(SAMPLE).rtcm3 \
-	    > ../../out/try.obs 2> ../../out/try.report || { cat ../../out/try.report; exit 1; }
+	@cd crates/rtcm2rinex && rt try -- convert --date $(DATE) --gather time $$(cat ../../$(SAMPLE).plan) \
+	    < ../../$(SAMPLE).rtcm3 > ../../out/try.obs 2> ../../out/try.report || { cat ../../out/try.report; exit 1; }
 	@head -n 30 out/try.obs
 	@echo ".. $$(wc -l < out/try.obs) lines in out/try.obs, and the report:"
 	@grep '^bytes ' out/try.report
