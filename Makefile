@@ -5,8 +5,8 @@
 #                 unproved code, and prints the start of the file: a first look within a minute. It proves nothing
 # make dist       packs the proved program with its documents, out/rtcm2rinex-VERSION-linux-x86_64.tar.gz
 # make deb        the same as a Debian package, out/rtcm2rinex_VERSION_amd64.deb; needs dpkg-deb
-# make install    builds it if it is missing, and installs program, manual page and completion for bash to PREFIX
-#                 (/usr/local)
+# make install    builds it if it is missing, and installs program, manual page, completion for bash and examples to
+#                 PREFIX (/usr/local)
 # make read-back  builds it, has RTKLIB read back the converted recordings, and compares RTKLIB's own conversions
 # make test       runs the gate: documents, all proofs, must-fail mutants, tests, stored cases, the commands of the manual
 #                 page, random streams, fault injection (docs/GATE.md)
@@ -19,6 +19,7 @@ DAY := 2019-10-17
 DATE := "20240204 000001 UTC"
 
 PREFIX ?= /usr/local
+EXAMPLES = $(PREFIX)/share/doc/rtcm2rinex/examples
 
 # The prover's allocator returns memory to the kernel that it soon needs again; keeping it makes checks faster.
 export MIMALLOC_PURGE_DELAY ?= -1
@@ -64,6 +65,9 @@ install:
 	install -m 755 $(PROGRAM) $(DESTDIR)$(PREFIX)/bin/rtcm2rinex
 	install -m 644 docs/rtcm2rinex.1 $(DESTDIR)$(PREFIX)/share/man/man1/rtcm2rinex.1
 	install -m 644 docs/rtcm2rinex.bash $(DESTDIR)$(PREFIX)/share/bash-completion/completions/rtcm2rinex
+	install -d $(DESTDIR)$(EXAMPLES)/systemd
+	install -m 644 examples/*.sh $(DESTDIR)$(EXAMPLES)
+	install -m 644 examples/systemd/* $(DESTDIR)$(EXAMPLES)/systemd
 
 read-back: build
 	@tools/read_back $(PROGRAM)
