@@ -5,6 +5,7 @@
 #                 unproved code, and prints the start of the file: a first look within a minute. It proves nothing
 # make dist       packs the proved program with its documents, out/rtcm2rinex-VERSION-linux-x86_64.tar.gz
 # make deb        the same as a Debian package, out/rtcm2rinex_VERSION_amd64.deb; needs dpkg-deb
+#                 (HOMEPAGE=https://.. gives its field Homepage, which it lacks by default)
 # make install    builds it if it is missing, and installs program, manual page, completion for bash and examples to
 #                 PREFIX (/usr/local)
 # make read-back  builds it, has RTKLIB read back the converted recordings, and compares RTKLIB's own conversions
@@ -55,7 +56,7 @@ dist: build
 	@tools/dist $(PROGRAM)
 
 deb: build
-	@tools/dist --deb $(PROGRAM)
+	@HOMEPAGE="$(HOMEPAGE)" tools/dist --deb $(PROGRAM)
 
 # An existing program is installed as it is, so that `sudo make install` proves nothing.
 install:
