@@ -5,7 +5,7 @@ use Rattle.devices.specs.Devices.{Writer}
 use Rattle.devices.specs.Printing.{EndsDelivery, EndsPrinting, IsDelivered, PrintsLine, PrintsText}
 use Rattle.rtcm_bits.specs.Prefix.{IsPrefix}
 use Rattle.std.proofs.KnownBytes.{Appends-kept, Appends-nil, Appends-trans}
-use Rattle.std.proofs.Common.{MatchResult, Err, Ok, Result, ℕ, append-nil, inl, inr, refl, subst}
+use Rattle.std.proofs.Common.{MatchResult, Err, Ok, Result, ℕ, append-nil, inl, inr, subst}
 use Rattle.std.specs.Result.{IsErrAnd}
 
 -- a text that was written, and then delivered or not
@@ -22,7 +22,7 @@ pub line_printed : {A F E : Type 0} (failed : F) (r : Result A F) (e e2 : Writer
 line_printed failed (Ok u) e e2 text h = inl h
 line_printed failed (Err fault) e e2 text h = inr h.1
 
-kept_appends : (a b c : Option (List ℕ)) (text : List ℕ) → Keeps a b → Appends b c text → Appends a c text
+pub kept_appends : (a b c : Option (List ℕ)) (text : List ℕ) → Keeps a b → Appends b c text → Appends a c text
 kept_appends a b c text k h = Appends-trans a b c [] text (Appends-kept a a b [] (Appends-nil a) k) h
 
 -- how the printing of a text ended
@@ -44,10 +44,6 @@ printed_later {A} {text = text} failed (Err fault) w1 w2 kept same x =
 pub unmapped : {T D E : Type 0} (Q : D → E → Type 0) (r : Result T D) (s : Result T E) (t : T) → MatchResult r (λ x. s ≡ Ok x) (λ e. IsErrAnd s (Q e)) → s ≡ Ok t → r ≡ Ok t
 unmapped Q (Ok x) s t is ok = cc
 unmapped Q (Err e) s t is ok = absurd (rw ok at is)
-
-pub unmapped_err : {T D E : Type 0} (Q : D → E → Type 0) (r : Result T D) (s : Result T E) (f : E) → MatchResult r (λ x. s ≡ Ok x) (λ e. IsErrAnd s (Q e)) → s ≡ Err f → (e : D) × (r ≡ Err e) × Q e f
-unmapped_err Q (Ok x) s f is err = absurd cc
-unmapped_err Q (Err e) s f is err = (e, refl, rw err at is)
 
 part_after : (a b c : Option (List ℕ)) (x y : List ℕ) → Appends a b x → AppendsPrefix b c y → AppendsPrefix a c (x ++ y)
 part_after a b c x y first (rest, (sent, split, went)) = (rest, (x ++ sent, ap (λ l. x ++ l) split ∙ sym (append_assoc x sent rest), Appends-trans a b c x sent first went))

@@ -1,6 +1,5 @@
 -- What is known of the epochs that an `EpochReader` has read.
 use Rattle.std.specs.List.Sorted.{IsStrictlyIncreasing}
-use Rattle.std.specs.List.{sum_by}
 use Rattle.std.proofs.lemmas.List.Elements.{All-append, All-cons, All-head, All-nil, All-tail}
 use Rattle.std.proofs.lemmas.List.{length-append}
 use Rattle.std.proofs.lemmas.List.Sums.{sum_by-append}
@@ -13,10 +12,10 @@ use Rattle.rinex_file.specs.File.{file_text}
 use Rattle.rinex_file.specs.FileValues.{AreSatelliteRows, IsFileValue, IsPlan, IsTime, time_stamped}
 use Rattle.rinex_file.specs.inner.Read.EpochSteps.{HasReadPartAt}
 use Rattle.rinex_file.proofs.FileLines.{lines_are_lines}
-use Rattle.rinex_file.proofs.Reading.Accepted.{plan_read}
+use Rattle.rinex_file.proofs.Reading.Accepted.{are_read, not_pushed, plan_read}
 use Rattle.rinex_file.proofs.Reading.Epochs.{sound_open}
 use Rattle.rinex_file.proofs.Reading.Lines.{consumed, splits}
-use Rattle.rinex_file.proofs.Names.{HasPlan, HasLinesLeft, HasReadPart, IsAt, IsSoundAt, IsStamped, AreRead, All, plan_in, planned_in, ◌∙◌, ◌≡◌, sym, ap, refl, subst, ℕ, List, [], ◌∷◌, ◌++◌, ◌+◌, Option, IfSome, Expected, Header, Epoch, EventPosition, EventHeight, EventEpoch, Satellite, Reading, Progress, HasRead, HasReadTo, progress_at, SatelliteRow, Stamped, FileValue, joined, file_lines}
+use Rattle.rinex_file.proofs.Names.{HasPlan, HasLinesLeft, HasReadPart, IsAt, IsSoundAt, IsStamped, All, plan_in, planned_in, ◌∙◌, ◌≡◌, sym, ap, refl, subst, ℕ, List, [], ◌∷◌, ◌++◌, ◌+◌, Option, IfSome, Expected, Header, Epoch, EventPosition, EventHeight, EventEpoch, Satellite, Reading, Progress, HasReadTo, progress_at, Stamped, FileValue, joined, file_lines}
 
 -- epochs of a file with this plan, of which there aren't more lines than a file has
 pub record AreFine (p : PlanValue) (es : List Stamped) : Type 0 where
@@ -26,12 +25,6 @@ pub record AreFine (p : PlanValue) (es : List Stamped) : Type 0 where
   pub times : All (λ e. IsTime e.time) es
   pub few : rows_in es ≤ most_lines
   pub many : length es ≤ most_lines + 1
-
-some_read : (s : Progress) (expected : Expected) → IsSoundAt s expected → (s.epochs ≡ [] → ⊥) → AreRead s
-some_read s (Header place) sound some = absurd (some sound.0)
-some_read s (EventHeight p) sound some = sound.0.0
-some_read s (EventEpoch w) sound some = sound.0.0
-some_read s other sound some = sound.0
 
 all_rows : (p : PlanValue) (es : List Stamped) → All (IsStamped (planned_in p)) es → All (λ e. AreSatelliteRows (planned_in p) e.rows) es
 all_rows p [] all = All-nil (λ (e : Stamped). AreSatelliteRows (planned_in p) e.rows)
@@ -45,7 +38,7 @@ all_times p (e ∷ es) all = All-cons (λ (e : Stamped). IsTime e.time) e es (Al
 pub whole_fine : (r : Reading) (es : List Stamped) {input left : Option (List ℕ)} → HasReadTo r es input left → (es ≡ [] → ⊥) → AreFine (plan_in r) es
 whole_fine r es read some =
     let s = progress_at r.parser_state (record { epochs = es; rows = [] }) in
-    let are = some_read s s.expected read.0.history.sound some in
+    let are = are_read s s.expected read.0.history.sound some in
     let counted = read.0.history.counted in
     let (room, within) = read.0.within in
     record {
@@ -56,10 +49,6 @@ whole_fine r es read some =
       few = omega (arith, counted.satellites, room.1, within);
       many = omega (arith, counted.epochs, room.0, within);
     }
-
-last_none : {A : Type 0} (xs : List A) (x : A) → xs ++ x ∷ [] ≡ [] → ⊥
-last_none [] x e = cc
-last_none (y ∷ ys) x e = cc
 
 -- whole epochs, and one that was begun
 pub part_fine : (r : Reading) (es : List Stamped) (e : Stamped) (input left : Option (List ℕ)) → HasReadPart r es e input left → AreFine (plan_in r) (es ++ e ∷ [])
@@ -81,7 +70,7 @@ part_fine r es e input left part = by r.parser_state.expected refl part where
         few = omega (arith, counted.satellites, fits.1, within, sum_by-append (λ (x : Stamped). length x.rows) es (e ∷ []));
         many = omega (arith, counted.epochs, fits.0, within, length-append es (e ∷ []));
       }
-  by other is part = whole_fine r (es ++ e ∷ []) part (last_none es e)
+  by other is part = whole_fine r (es ++ e ∷ []) part (not_pushed es e)
 
 -- the plan that was read
 pub plan_known : (r : Reading) (es : List Stamped) {input left : Option (List ℕ)} → HasReadTo r es input left → (es ≡ [] → ⊥) → IfSome input (HasPlan (plan_in r))

@@ -2,8 +2,8 @@
 use Rattle.std.proofs.Common.{◌≡◌, ◌∙◌, ◌<◌, ◌≤◌, ◌++◌, ◌∷◌, [], ℕ, Bool, true, false, ◌==◌, List, Option, Some, None, Result, Ok, Err, inl, inr, refl, ap, sym, subst, arith, append_assoc, append-nil}
 use Rattle.std.specs.Bool.{⊤}
 use Rattle.std.specs.List.Sorted.{IsStrictlyIncreasing}
-use Rattle.std.proofs.KnownBytes.{Appends-kept, Appends-nil, Appends-trans, Keeps-trans}
-use Rattle.devices.proofs.PrintingLaws.{longer_part}
+use Rattle.std.proofs.KnownBytes.{Keeps-trans}
+use Rattle.devices.proofs.PrintingLaws.{kept_appends, longer_part}
 use Rattle.devices.specs.Device.{AppendsPrefix}
 use Rattle.devices.specs.Devices.{Devices, Reader, Writer}
 use Rattle.std.proofs.lemmas.Bool.{eqb-false, eqb-true}
@@ -18,8 +18,8 @@ use Rattle.rinex_file.specs.declared.read.epochs.EpochReader.{EpochReader}
 use Rattle.rinex_file.specs.declared.read.fault.ReadFault.{ReadFault}
 use Rattle.rinex_file.specs.declared.read.fault.ReadFault.TheVariants as reading
 use Rattle.rtcm_bits.specs.Prefix.{IsPrefix}
-use Rattle.rinex_inspect.proofs.Names.{Appends, HasFailed, IfSome, IfSome_then, IsErrAnd, Keeps, WriterFailures, culprit, passed, times_in, time_stamped}
-use Rattle.rinex_inspect.proofs.CheckLemmas.{none_written, where_known}
+use Rattle.rinex_inspect.proofs.Names.{HasFailed, IfSome, IfSome_then, IsErrAnd, Keeps, WriterFailures, culprit, passed, times_in, time_stamped}
+use Rattle.rinex_inspect.proofs.CheckLemmas.{where_known}
 use Rattle.rinex_inspect.proofs.PeriodLemmas.{IsEvery, before_later, before_same, period_rises}
 use Rattle.rinex_inspect.proofs.RatingLemmas.{before_plan, rise_init, rising_front}
 use Rattle.rinex_inspect.proofs.SumLemmas.{texts_more}
@@ -78,12 +78,6 @@ pub ended_or : {W : Type 0} (every : Option ℕ) (w w2 : Writer W) (r : Result �
 ended_or every w w2 (Ok u) v p = p.2
 ended_or every w w2 (Err fault) v p = subst (λ (f : FileFault). IsRatedOr every v (Err f) w.written w2.written) (sym p.0) (inr p.1.1)
 
--- a fault
-pub ended_early : {R W : Type 0} (every : Option ℕ) (new : EpochReader) (t : Tables) (d d2 : Devices R W) (fault : FileFault) → RatesPeriods every new t (Err fault) d d2 → EndsQuality {A = ⊤} every (Err fault) d d2
-ended_early every new t d d2 (faults.File e) (es, plan, known, why, none, read, printed, failures) = ((failures, none_written e _ _ printed.0), inr (es, plan, known, why, read, printed.2, printed.1))
-ended_early every new t d d2 (faults.OtherDay k) h = absurd h
-ended_early every new t d d2 faults.Write (es, plan, n, known, one, first, part, fine) = ((fine, part.0), inr (inl (es, plan, n, known, first, part.1)))
-
 refused : (every : Option ℕ) (v : FileValue) (e : ReadFault) (w w' : Option (List ℕ)) → IsNoFault e → IsRatedOr every v (Err (faults.File e)) w w'
 refused every v reading.Memory w w' h = tt
 refused every v reading.Read w w' h = tt
@@ -102,27 +96,24 @@ ended_early_or every new t d d2 faults.Write is (es, plan, n, known, one, first,
 
 -- ---- after a delivery
 
-kept : (a b c : Option (List ℕ)) (text : List ℕ) → Keeps a b → Appends b c text → Appends a c text
-kept a b c text k h = Appends-trans a b c [] text (Appends-kept a a b [] (Appends-nil a) k) h
-
 kept_part : (a b c : Option (List ℕ)) (text : List ℕ) → Keeps a b → AppendsPrefix b c text → AppendsPrefix a c text
-kept_part a b c text k (rest, (sent, split, went)) = (rest, (sent, split, kept a b c sent k went))
+kept_part a b c text k (rest, (sent, split, went)) = (rest, (sent, split, kept_appends a b c sent k went))
 
 module _ {R W : Type 0} (every : Option ℕ) (d d2 : Devices R W) (w1 : Writer W) (first : (w1.device.failures ≡ d.writer.device.failures) × IsDelivered d.writer w1) where
   abbrev after : Devices R W
   after = record d { writer = w1 }
 
   pub delivered : (r : Result ⊤ FileFault) → EndsQuality every r after d2 → EndsQuality every r d d2
-  delivered (Ok u) h = ((h.0.0, h.0.1 ∙ first.0, h.0.2), (h.1.0, h.1.1, h.1.2, kept d.writer.written w1.written d2.writer.written (quality_output every h.1.0) first.1.0 h.1.3))
+  delivered (Ok u) h = ((h.0.0, h.0.1 ∙ first.0, h.0.2), (h.1.0, h.1.1, h.1.2, kept_appends d.writer.written w1.written d2.writer.written (quality_output every h.1.0) first.1.0 h.1.3))
   delivered (Err (faults.File e)) (failed, inl (memory, unread, waiting)) = ((failed.0, subst (λ (n : ℕ). WriterFailures (culprit (faults.File e)) n d2.writer.device.failures) first.0 failed.1), inl (memory, (unread.0, Keeps-trans _ _ _ first.1.0 unread.1), waiting))
-  delivered (Err (faults.File e)) (failed, inr (es, plan, known, why, read, appends, waiting)) = ((failed.0, subst (λ (n : ℕ). WriterFailures (culprit (faults.File e)) n d2.writer.device.failures) first.0 failed.1), inr (es, plan, known, why, read, kept _ _ _ (lines_before plan every es) first.1.0 appends, waiting))
+  delivered (Err (faults.File e)) (failed, inr (es, plan, known, why, read, appends, waiting)) = ((failed.0, subst (λ (n : ℕ). WriterFailures (culprit (faults.File e)) n d2.writer.device.failures) first.0 failed.1), inr (es, plan, known, why, read, kept_appends _ _ _ (lines_before plan every es) first.1.0 appends, waiting))
   delivered (Err (faults.OtherDay k)) (failed, h) = absurd h
   delivered (Err faults.Write) (failed, inl unread) = ((failed.0, subst (λ (n : ℕ). HasFailed n d2.writer.device.failures) first.0 failed.1), inl (unread.0, Keeps-trans _ _ _ first.1.0 unread.1))
   delivered (Err faults.Write) (failed, inr (inl (es, plan, n, known, begun, part))) = ((failed.0, subst (λ (n : ℕ). HasFailed n d2.writer.device.failures) first.0 failed.1), inr (inl (es, plan, n, known, begun, kept_part _ _ _ (lines_before plan every es) first.1.0 part)))
   delivered (Err faults.Write) (failed, inr (inr (v, is, text, part))) = ((failed.0, subst (λ (n : ℕ). HasFailed n d2.writer.device.failures) first.0 failed.1), inr (inr (v, is, text, kept_part _ _ _ (quality_output every v) first.1.0 part)))
 
   rated_or : (v : FileValue) (r : Result ⊤ FileFault) → IsRatedOr every v r w1.written d2.writer.written → IsRatedOr every v r d.writer.written d2.writer.written
-  rated_or v (Ok u) h = kept _ _ _ (quality_output every v) first.1.0 h
+  rated_or v (Ok u) h = kept_appends _ _ _ (quality_output every v) first.1.0 h
   rated_or v (Err faults.Write) (inl same) = inl (Keeps-trans _ _ _ first.1.0 same)
   rated_or v (Err faults.Write) (inr part) = inr (kept_part _ _ _ (quality_output every v) first.1.0 part)
   rated_or v (Err (faults.File reading.Memory)) h = tt
@@ -138,8 +129,3 @@ pub undelivered : {R W : Type 0} {fault : FileFault} (every : Option ℕ) (d d2 
 undelivered {fault = fault} every d d2 r is write same failed keeps =
     let both : EndsQuality {A = ⊤} every (Err faults.Write) d d2 × RatesFiles every (Err faults.Write) d d2 = (((ap (λ (x : Reader _). x.device.failures) same, failed), inl (ap (λ (x : Reader _). x.device) same, keeps)), λ v file few. where_known _ d.reader.unread (λ input text. inl keeps)) in
     passed r fault (λ (q : Result ⊤ FileFault). EndsQuality every q d d2 × RatesFiles every q d d2) is (subst (λ (f : FileFault). EndsQuality {A = ⊤} every (Err f) d d2 × RatesFiles every (Err f) d d2) (sym write) both)
-
--- memory ran out before anything was read
-pub no_memory : {R W : Type 0} (every : Option ℕ) (d d2 : Devices R W) → d2.reader ≡ d.reader → (d2.writer.device.failures ≡ d.writer.device.failures) × IsDelivered d.writer d2.writer
-    → EndsQuality {A = ⊤} every (Err (faults.File reading.Memory)) d d2 × RatesFiles every (Err (faults.File reading.Memory)) d d2
-no_memory every d d2 same kept_writer = (((ap (λ (x : Reader _). x.device.failures) same, kept_writer.0), inl (refl, (ap (λ (x : Reader _). x.device) same, kept_writer.1.0), kept_writer.1.1)), λ v file few. where_known _ d.reader.unread (λ input text. tt))

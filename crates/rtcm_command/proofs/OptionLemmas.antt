@@ -141,13 +141,6 @@ time_from option otherwise (Some text) (Ok None) h = absurd h
 time_from option otherwise (Some text) (Ok (Some t)) h = h
 time_from option otherwise (Some text) (Err e) h = h
 
--- a number that isn't 0 is at least its divisor
-pub one_or_more : (n k : ℕ) → 0 < k → 0 < n → n % k ≡ 0 → k ≤ n
-one_or_more n k some more whole = by (nat_lt n k) refl where
-  by : (b : Bool) → nat_lt n k ≡ b → k ≤ n
-  by true e = let less = ltb-true n k e in let same = mod-eq_of_lt less in absurd (omega (arith, same, whole, more))
-  by false e = let h = ltb-false n k e in omega (arith, h)
-
 -- of these faults no device failed
 refused_time : (option : DateOption) (text : Option (List ℕ)) (fault : CommandFault) → IsTimeGiven option text (Err fault) → culprit fault ≡ NoDevice
 refused_time option None fault h = absurd cc
@@ -178,21 +171,3 @@ refused_complete options fault set = by (lacks_one options) (gaps_set options) r
 
 pub no_device : {R W : Type 0} (fault : CommandFault) (d : Devices R W) → culprit fault ≡ NoDevice → HaveFailedBy (culprit fault) d d
 no_device fault d none = subst (λ (c : Culprit). HaveFailedBy c d d) (sym none) (refl, refl)
-
-pub complete_lacks : (options : List Row) → lacks_one options ≡ true → IsCompleteSet options (Err faults.AllOf)
-complete_lacks options e = subst (λ (b : Bool). IsCompleteBy b (gaps_set options) options (Err faults.AllOf)) (sym e) refl
-
-pub complete_refused : {fault : CommandFault} (options : List Row) → lacks_one options ≡ false → Err fault ≡ gaps_set options → IsCompleteSet options (Err fault)
-complete_refused {fault} options e is =
-    subst (λ (b : Bool). IsCompleteBy b (gaps_set options) options (Err fault)) (sym e) (subst (λ (g : Result (Option ℕ) CommandFault). IsCompleteBy false g options (Err fault)) is refl)
-
-pub complete_none : (options : List Row) → lacks_one options ≡ false → Ok None ≡ gaps_set options → IsCompleteSet options (Ok None)
-complete_none options e is =
-    subst (λ (b : Bool). IsCompleteBy b (gaps_set options) options (Ok None)) (sym e) (subst (λ (g : Result (Option ℕ) CommandFault). IsCompleteBy false g options (Ok None)) is refl)
-
-pub complete_window : {interval : ℕ} (options : List Row) (window : Result (Option Window) CommandFault) → lacks_one options ≡ false → Ok (Some interval) ≡ gaps_set options → IsWindowOf interval options window
-    → IsCompleteSet options (complete_with interval window)
-complete_window {interval} options window e is of =
-    let complete = complete_with interval window in
-    subst (λ (b : Bool). IsCompleteBy b (gaps_set options) options complete) (sym e)
-    (subst (λ (g : Result (Option ℕ) CommandFault). IsCompleteBy false g options complete) is (window, of, refl))

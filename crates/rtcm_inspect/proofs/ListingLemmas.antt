@@ -1,6 +1,6 @@
 -- A listing as a consumer of frames.
 use Rattle.rtcm_inspect.proofs.StreamLemmas.{Began}
-use Rattle.rtcm_inspect.proofs.Names.{Err, Ok, OnErr, OnOk, Result, DeviceFailed, WritesLine, ◌≡◌, ◌∙◌, ◌-◌, ◌<◌, ap, sym, subst, refl, arith, Bool, true, false, ℕ, List, [], ◌∷◌, ◌++◌, Option, append_assoc, append-nil, length, take, Appends, Keeps, flat_map-append, Appends-nil, Appends-trans, Appends-kept, AppendsPrefix, Device, HasFailed, IsPrefix, Framed, decided_frames, known_frames, ⊤, StreamFault, Devices, EndsListing, devices_of, stream_fault, AtFault, BreaksReading, Passes, PassesAll, PassesToLimit, Reads, FramerValue, Listing, Lists, ListsAll, ListsDecided, ListsPart, ListsToLimit, ListsUpTo, listing_line, listing_lines, piece_bytes}
+use Rattle.rtcm_inspect.proofs.Names.{Err, Ok, OnErr, Result, DeviceFailed, WritesLine, ◌≡◌, ◌∙◌, ◌-◌, ◌<◌, ap, sym, subst, refl, arith, Bool, true, false, ℕ, List, [], ◌∷◌, ◌++◌, Option, append_assoc, append-nil, length, take, Appends, Keeps, flat_map-append, Appends-nil, Appends-trans, Appends-kept, AppendsPrefix, Device, HasFailed, IsPrefix, Framed, decided_frames, known_frames, ⊤, StreamFault, Devices, EndsListing, devices_of, stream_fault, AtFault, BreaksReading, Passes, PassesAll, PassesToLimit, Reads, FramerValue, Listing, Lists, ListsAll, ListsDecided, ListsPart, ListsToLimit, ListsUpTo, listing_line, listing_lines, piece_bytes}
 use Rattle.rtcm_scan.specs.declared.feed.StreamFault.TheVariants as stream
 use Rattle.rtcm_bits.proofs.SmallLaws.{prefix_self, prefix_trans}
 
@@ -13,18 +13,6 @@ first_lines : (k : Listing) (fs gs : List Framed) → IsPrefix fs gs → IsPrefi
 first_lines k fs gs p = (listing_lines k p.0, ap (listing_lines k) p.1 ∙ flat_map-append (listing_line k) fs p.0)
 
 module _ {W : Type 0} {held : W → Option (List ℕ)} {k0 k : Listing} {o0 o o2 : Device W} {ps fs : List Framed} where
-  -- a frame's line was written
-  one_more_listed : (f : Framed) → Appends (held o.inner) (held o2.inner) (listing_line k f) → o2.failures ≡ o.failures
-      → Lists held k0 o0 ps k o fs → Lists held k0 o0 ps k o2 (fs ++ f ∷ [])
-  one_more_listed f line fine s =
-      let same : Appends (held o.inner) (held o2.inner) (listing_line k0 f) = subst (λ (x : Listing). Appends (held o.inner) (held o2.inner) (listing_line x f)) s.same line in
-      record {
-        same = s.same;
-        out = λ w a. subst (λ (l : List ℕ). Appends w (held o2.inner) l) (sym (lines_more k0 fs f))
-            (Appends-trans w (held o.inner) (held o2.inner) (listing_lines k0 fs) (listing_line k0 f) (s.out w a) same);
-        fine = fine ∙ s.fine;
-      }
-
   -- a prefix of the line was written
   stopped_at_line : (f : Framed) → AppendsPrefix (held o.inner) (held o2.inner) (listing_line k f) → HasFailed o.failures o2.failures
       → Lists held k0 o0 ps k o fs → ListsUpTo held k0 o0 ps k o2 fs (fs ++ f ∷ [])
@@ -60,12 +48,7 @@ pub written_as : {W : Type 0} {text same : List ℕ} (held : W → Option (List 
     → WritesLine r held o o2 same
 written_as held o o2 r e w = subst (WritesLine r held o o2) e w
 
--- a frame's line, given in other terms, was written or not
-pub whole_line : {W : Type 0} {text : List ℕ} (held : W → Option (List ℕ)) (k : Listing) (o o2 : Device W) (f : Framed) (r : Result ⊤ DeviceFailed) → text ≡ listing_line k f → WritesLine r held o o2 text
-    → OnOk r ((k0 : Listing) (o0 : Device W) (ps fs : List Framed) → Lists held k0 o0 ps k o fs → Lists held k0 o0 ps k o2 (fs ++ f ∷ []))
-whole_line held k o o2 f (Ok u) is w = λ k0 o0 ps fs. one_more_listed f (subst (Appends (held o.inner) (held o2.inner)) is w.0) w.2.1
-whole_line held k o o2 f (Err e) is w = tt
-
+-- a frame's line, given in other terms, was written in part
 pub part_line : {W : Type 0} {text : List ℕ} (held : W → Option (List ℕ)) (k : Listing) (o o2 : Device W) (f : Framed) (r : Result ⊤ DeviceFailed) → text ≡ listing_line k f → WritesLine r held o o2 text
     → OnErr r ((k0 : Listing) (o0 : Device W) (ps fs : List Framed) → Lists held k0 o0 ps k o fs → ListsUpTo held k0 o0 ps k o2 fs (fs ++ f ∷ []))
 part_line held k o o2 f (Ok u) is w = tt

@@ -4,11 +4,9 @@ use Rattle.gnss_obs.specs.Weeks.{week, weeks}
 use Rattle.rtcm_inspect.specs.CountedTimes.{counted_before, counted_tows, greatest_at_first}
 use Rattle.line_texts.specs.LeapSeconds.{leap_at}
 use Rattle.rtcm_inspect.specs.FaultWords.{week_date}
-use Rattle.rtcm_inspect.specs.SentWeeks.{IsNearestRest, IsOtherTime, distance, first_msm, is_denied, is_in, rests_in, whole_in}
+use Rattle.rtcm_inspect.specs.SentWeeks.{IsNearestRest, IsOtherTime, distance, first_msm, is_denied, rests_in, whole_in}
 use Rattle.rtcm_inspect.specs.declared.fault.WeekDate.{WeekDate}
 use Rattle.rtcm_inspect.specs.declared.printed_week.FirstMsm.{FirstMsm}
-use Rattle.rtcm_inspect.specs.inner.SaidWeeks.{first_of}
-use Rattle.rtcm_inspect.proofs.SaidLemmas.{no_first, some_first}
 use Rattle.rtcm_inspect.specs.OptionOutput.{AreOptionsRefused, HasSignals, IsWeekAt, IsWeekRefused, is_denied_at}
 use Rattle.rtcm_inspect.specs.declared.fault.InspectFault.{InspectFault}
 use Rattle.rtcm_inspect.specs.declared.fault.InspectFault.TheVariants as faults
@@ -19,7 +17,7 @@ use Rattle.rtcm_inspect.specs.declared.first_tows.PlacedTow.{PlacedTow}
 use Rattle.rtcm_inspect.specs.inner.FirstTows.{AreTows, IsGreatestAt, earliest, greatest_among, placed_by}
 use Rattle.gnss_system.specs.Systems.{systems}
 use Rattle.rtcm_inspect.proofs.CountedLemmas.{at_end, at_none}
-use Rattle.rtcm_inspect.proofs.Names.{◌≡◌, ◌∙◌, ◌+◌, ◌-◌, ◌*◌, ◌/◌, ◌%◌, ◌<◌, ◌≤◌, [], ◌∷◌, ℕ, Bool, false, true, List, Option, Some, None, IfSome, IsWeekFor, FirstTwo, frames_of, ap, ap₂, arith, first_tow, first_two, list_any, not, set_had, option_and_then, option_map, option_or, refl, subst, sym, Framed, MsmSet}
+use Rattle.rtcm_inspect.proofs.Names.{◌≡◌, ◌∙◌, ◌+◌, ◌-◌, ◌*◌, ◌/◌, ◌%◌, ◌<◌, ◌≤◌, ℕ, false, true, List, Option, Some, None, IfSome, IsWeekFor, frames_of, ap, ap₂, arith, first_tow, set_had, option_and_then, option_map, option_or, refl, subst, sym, Framed, MsmSet}
 
 -- ---- the greatest time at the first MSM of a set
 
@@ -110,16 +108,3 @@ pub not_denied : {x : FirstMsm} (noon w : ℕ) (wanted : Option ℕ) (fs : List 
 not_denied noon w wanted fs first h = subst (λ (y : FirstMsm). is_denied y (whole_in wanted fs) (rests_in wanted fs) w ≡ false) first h
 
 -- ---- what the ephemerides say of a week
-
-pub whole_denied : (x : FirstMsm) (w d : ℕ) {said : FirstTwo} {found : Bool} (ds rests : List ℕ) → Some d ≡ first_of said → said ≡ first_two ds → found ≡ list_any (is_in true x w) ds
-    → (rest : List ℕ) × (ds ≡ d ∷ rest) × (is_denied x ds rests w ≡ not found)
-whole_denied x w d {said} {found} ds rests some first any =
-    let (rest, is) = some_first d ds some first in
-    (rest, is, ap (λ (l : List ℕ). is_denied x l rests w) is ∙ ap (λ (l : List ℕ). not (list_any (is_in true x w) l)) (sym is) ∙ ap not (sym any))
-
-pub rest_denied : (x : FirstMsm) (w d : ℕ) {said other : FirstTwo} {found : Bool} (ds rests : List ℕ) → None ≡ first_of said → said ≡ first_two ds → Some d ≡ first_of other → other ≡ first_two rests
-    → found ≡ list_any (is_in false x w) rests → (rest : List ℕ) × (ds ≡ []) × (rests ≡ d ∷ rest) × (is_denied x ds rests w ≡ not found)
-rest_denied x w d {said} {other} {found} ds rests none known some first any =
-    let (rest, is) = some_first d rests some first in
-    let nothing = no_first ds none known in
-    (rest, nothing, is, ap₂ (λ (l m : List ℕ). is_denied x l m w) nothing is ∙ ap (λ (l : List ℕ). not (list_any (is_in false x w) l)) (sym is) ∙ ap not (sym any))

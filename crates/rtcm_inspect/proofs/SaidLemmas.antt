@@ -2,14 +2,13 @@
 use Rattle.std.specs.Prelude.{not}
 use Rattle.std.proofs.Common.{set, suc, zero}
 use Rattle.std.proofs.lemmas.Bool.{and_parts}
-use Rattle.std.proofs.lemmas.List.{get_or-set_other, get_or-set_same, get_or_past, length-set}
+use Rattle.std.proofs.lemmas.List.{get_or-set_other, get_or-set_same, get_or_past}
 use Rattle.std.proofs.lemmas.List.Folds.{Any-from_list_any, list_any_at}
 use Rattle.rtcm_msg.specs.Weeks.{sent_week}
 use Rattle.rtcm_msg.specs.declared.weeks.SentWeek.{SentWeek}
 use Rattle.rtcm_inspect.specs.CountedTimes.{greatest_in}
 use Rattle.rtcm_inspect.specs.SentWeeks.{rest_by, rests_in, said_after, said_at, whole_by, whole_in}
 use Rattle.rtcm_inspect.specs.declared.said_weeks.SaidWeeks.{SaidWeeks}
-use Rattle.rtcm_inspect.specs.declared.said_weeks.WeekSet.{WeekSet}
 use Rattle.rtcm_inspect.specs.inner.SaidWeeks.{AreSaid, AreSaidIn, first_of}
 use Rattle.rtcm_inspect.proofs.Names.{◌≡◌, ◌∙◌, ◌<◌, ◌==◌, ◌&&◌, ◌||◌, ◌++◌, ℕ, Bool, true, false, List, [], ◌∷◌, Option, Some, None, ap, ap₂, append-nil, append_assoc, arith, below, find, first_two, get_or, length, list_any, list_any-append, nat_lt, nat_tests, option_and_then, option_to_list, refl, subst, sym, with_other, FirstTwo, Framed}
 
@@ -82,13 +81,6 @@ set_more added n size ns is small h k = by (n == k) refl ∙ sym (list_any-appen
       get_or-set_other added n k true false apart ∙ h k
       ∙ sym (ap (λ (b : Bool). list_any (λ m. m == k) ns || (b || false)) e ∙ same (list_any (λ m. m == k) ns))
 
-pub one_added : {x y : WeekSet} (n size : ℕ) (ns : List ℕ) → n < size → y.added.items ≡ set x.added.items n true → (x.first ≡ first_two ns → y.first ≡ first_two (ns ++ n ∷ [])) → AreSaid x size ns → AreSaid y size (ns ++ n ∷ [])
-one_added {x} {y} n size ns small is first h = record {
-  room = ap length is ∙ length-set x.added.items n true ∙ h.room;
-  added = λ k. ap (λ (l : List Bool). get_or l k false) is ∙ set_more x.added.items n size ns h.room small h.added k;
-  first = first h.first;
-}
-
 -- ---- the weeks of a set
 
 in_below : (q : ℕ → Bool) (n m : ℕ) → m < n → q m ≡ true → list_any q (below n) ≡ true
@@ -155,12 +147,5 @@ pub no_first : {x : FirstTwo} (ns : List ℕ) → None ≡ first_of x → x ≡ 
 no_first {x} [] none is = refl
 no_first {x} (n ∷ ns) none is = absurd (by (find (λ m. not (m == n)) ns) (none ∙ ap first_of is)) where
   by : (o : Option ℕ) → ◌≡◌ {A = Option ℕ} None (first_of (with_other n o)) → ⊥
-  by None e = cc
-  by (Some m) e = cc
-
-pub some_first : {x : FirstTwo} (d : ℕ) (ns : List ℕ) → Some d ≡ first_of x → x ≡ first_two ns → (rest : List ℕ) × (ns ≡ d ∷ rest)
-some_first {x} d [] some is = absurd (let bad : ◌≡◌ {A = Option ℕ} (Some d) None = some ∙ ap first_of is in cc)
-some_first {x} d (n ∷ ns) some is = (ns, ap (λ (m : ℕ). m ∷ ns) (by (find (λ m. not (m == n)) ns) (some ∙ ap first_of is))) where
-  by : (o : Option ℕ) → Some d ≡ first_of (with_other n o) → n ≡ d
   by None e = cc
   by (Some m) e = cc

@@ -7,6 +7,7 @@ use Rattle.rtcm_bits.specs.Bits.{signed, raw}
 use Rattle.std.proofs.Math.Nat.{div-div-eq-div-mul, div-one}
 use Rattle.rtcm_msg.specs.inner.Names.{Table, FieldKind, width, widths, Contents, content, total_width, unpacked, field_at, row_at, Form, LastBits, AreLast, satellite_widths, cell_widths}
 use Rattle.rtcm_msg.specs.Packed.{packed}
+use Rattle.rtcm_msg.specs.inner.LayoutLaws.{below_product}
 use Rattle.rtcm_msg.specs.declared.data.Satellite.{Satellite}
 use Rattle.rtcm_msg.specs.declared.data.Cell.{Cell}
 use Rattle.rtcm_msg.specs.Forms.{Precision, precision, is_fine, has_rates, satellite_table_by, satellite_of, satellite_data, satellite_contents, satellite_number, cell_table, cell_of, cell_data, cell_number, rate_table, rate_in, cell_table_by, cell_contents}
@@ -28,9 +29,6 @@ field_fits bits p w =
     let most = pow_mono (length (take w (drop p bits))) w few in
     omega (arith, fits, most)
 
-below : (n p q r : ℕ) → n < p → r < q → n * q + r < p * q
-below n p q r h k = grind arith
-
 joined : (m f q t r : ℕ) → (m * q + f) * t + r ≡ m * (q * t) + (f * t + r)
 joined m f q t r = grind arith
 
@@ -43,7 +41,7 @@ row_split (w ∷ ws) n bits p i m =
     let rest = row_split ws n bits (p + n * w) i (m * 2 ^ w + here) in
     let t = 2 ^ total_width ws in (
       here * t + rest.0,
-      rw (pow-add 2 w (total_width ws)) (below here (2 ^ w) t rest.0 (field_fits bits (p + i * w) w) rest.1),
+      rw (pow-add 2 w (total_width ws)) (below_product here (2 ^ w) t rest.0 (field_fits bits (p + i * w) w) rest.1),
       rest.2 ∙ rw (pow-add 2 w (total_width ws)) (joined m here (2 ^ w) t rest.0),
     )
 

@@ -1,6 +1,6 @@
 -- Texts of the equipment that follow each other.
-use Rattle.std.proofs.Common.{ℕ, ◌≡◌, ◌+◌, ◌∷◌, ◌++◌, [], List, length, Result, Ok, Err, zero, suc, refl, ap}
-use Rattle.std.proofs.lemmas.List.{append_assoc, append-nil}
+use Rattle.std.proofs.Common.{ℕ, ◌≡◌, ◌+◌, ◌∷◌, ◌++◌, [], List, length, Result, Ok, Err, suc, refl}
+use Rattle.std.proofs.lemmas.List.{append_assoc}
 use Rattle.rtcm_msg.specs.Fields.{◌>>=◌}
 use Rattle.rtcm_msg.specs.Equipment.{text_at, texts_at}
 use Rattle.rtcm_msg.specs.declared.fault.EquipmentFault.{EquipmentFault}

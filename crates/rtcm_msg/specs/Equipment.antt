@@ -1,5 +1,5 @@
 -- The antenna and the receiver of a station: messages 1007, 1008 and 1033.
-use Rattle.std.specs.Prelude.{ℕ, ◌≤◌, ◌+◌, ◌*◌, ◌-◌, ◌==◌, ◌||◌, nat_lt, zero, suc, if◌then◌else◌, Bool, List, [], ◌∷◌, drop, length, map, slice_get, take, Option, Some}
+use Rattle.std.specs.Prelude.{ℕ, ◌≤◌, ◌+◌, ◌*◌, ◌==◌, nat_lt, zero, suc, if◌then◌else◌, List, [], ◌∷◌, drop, length, map, slice_get, take, Option, Some}
 use Rattle.std.specs.Prelude.{None, Result, Ok, Err, option_map}
 use Rattle.std.specs.Borrow.{Bor}
 use Rattle.std.specs.List.{All}

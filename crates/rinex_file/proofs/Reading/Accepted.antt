@@ -107,11 +107,11 @@ row_added old new es e {input} {left} LastRow adds inside change time read =
       stamped_at_as : {a b : Option StationValues} {s t : ℕ} (rows : List SatelliteRow) → a ≡ b → s ≡ t → stamped_at a s rows ≡ stamped_at b t rows
       stamped_at_as rows change time = cc
 
-not_pushed : {A : Type 0} (xs : List A) (x : A) → xs ++ x ∷ [] ≡ [] → ⊥
+pub not_pushed : {A : Type 0} (xs : List A) (x : A) → xs ++ x ∷ [] ≡ [] → ⊥
 not_pushed [] x e = cc
 not_pushed (y ∷ ys) x e = cc
 
-are_read : (s : Progress) (expected : Expected) → IsSoundAt s expected → (s.epochs ≡ [] → ⊥) → AreRead s
+pub are_read : (s : Progress) (expected : Expected) → IsSoundAt s expected → (s.epochs ≡ [] → ⊥) → AreRead s
 are_read s (Header place) sound some = absurd (some sound.0)
 are_read s (EventHeight p) sound some = sound.0.0
 are_read s (EventEpoch w) sound some = sound.0.0

@@ -1,11 +1,11 @@
 -- Packing and unpacking undo each other.
-use Rattle.std.proofs.Common.{ap, ◌<◌, ℕ, ℤ, Bool, true, false, lit≤, ◌≡◌, ◌^◌, ◌≤◌, ◌∙◌, refl, sym, arith}
+use Rattle.std.proofs.Common.{ap, ◌<◌, ℕ, ℤ, Bool, true, false, lit≤, ◌≡◌, ◌^◌, ◌≤◌, ◌∙◌, refl, arith}
 use Rattle.rtcm_msg.specs.declared.view.Form.{Form}
 use Rattle.rtcm_msg.specs.declared.view.Form.TheVariants as forms
 use Rattle.rtcm_msg.specs.declared.data.Satellite.{Satellite}
 use Rattle.rtcm_msg.specs.declared.data.Cell.{Cell}
 use Rattle.rtcm_msg.specs.Layout.{Contents}
-use Rattle.rtcm_msg.specs.inner.LayoutLaws.{FitAll, have_signs, packed_fits, unpacked-packed, unpacked_fit}
+use Rattle.rtcm_msg.specs.inner.LayoutLaws.{FitAll, have_signs, packed_fits, unpacked_fit}
 use Rattle.rtcm_msg.specs.inner.LayoutLaws.{packed-unpacked}
 use Rattle.rtcm_msg.specs.Packed.{total_width, packed, unpacked}
 use Rattle.rtcm_msg.specs.Fractions.{invalid_rough_rate, invalid_fine_rate}
@@ -45,23 +45,11 @@ fixed : (s : Satellite) → s.extended < 1 → s.rate ≡ invalid_rough_rate
     → record { whole = s.whole; extended = 0; fraction = s.fraction; rate = invalid_rough_rate } ≡ s
 fixed s e r = let z : s.extended ≡ 0 = omega (arith, e) in rw (z, r) refl
 
-satellite_kept : (rates : Bool) (s : Satellite) → FitsSatellite rates s
-    → satellite_of rates (satellite_contents rates s) ≡ s
-satellite_kept false s h = fixed s h.extended h.rate
-satellite_kept true s h = refl
-
 pub satellite_fits : (f : Form) (s : Satellite) → IsSatelliteData f s
     → satellite_number f s < 2 ^ total_width (satellite_widths f)
 satellite_fits f s h =
     let rates = has_rates f in
     packed_fits (satellite_table f) (satellite_contents rates s) (satellite_signs rates) (satellite_fit rates s h)
-
-pub satellite_back : (f : Form) (s : Satellite) → IsSatelliteData f s → satellite_data f (satellite_number f s) ≡ s
-satellite_back f s h =
-    let rates = has_rates f in
-    ap (satellite_of rates)
-    (unpacked-packed (satellite_table f) (satellite_contents rates s) (satellite_signs rates) (satellite_fit rates s h))
-    ∙ satellite_kept rates s h
 
 pub satellite_in_range : (f : Form) (n : ℕ) → IsSatelliteData f (satellite_data f n)
 satellite_in_range f n =
@@ -90,10 +78,6 @@ rate_is : (rates : Bool) (cs : Contents (rate_table rates)) → FitAll (rate_tab
 rate_is false cs h = refl
 rate_is true cs h = h.0
 
-rate_kept : (rates : Bool) (z : ℤ) → FitsIf rates 15 invalid_fine_rate z → rate_in rates (rate_contents rates z) ≡ z
-rate_kept false z h = sym h
-rate_kept true z h = refl
-
 rate_back : (rates : Bool) (cs : Contents (rate_table rates)) → rate_contents rates (rate_in rates cs) ≡ cs
 rate_back false cs = refl
 rate_back true cs = refl
@@ -104,12 +88,6 @@ cell_fit f c h = (h.range, (h.phase, (h.lock, (tt, (h.strength, rate_fit (has_ra
 pub cell_fits : (f : Form) (c : Cell) → IsCellData f c → cell_number f c < 2 ^ total_width (cell_widths f)
 cell_fits f c h =
     packed_fits (cell_table f) (cell_contents (is_fine f) (has_rates f) c) (cell_signs f) (cell_fit f c h)
-
-pub cell_back : (f : Form) (c : Cell) → IsCellData f c → cell_data f (cell_number f c) ≡ c
-cell_back f c h =
-    ap (cell_of (is_fine f) (has_rates f))
-    (unpacked-packed (cell_table f) (cell_contents (is_fine f) (has_rates f) c) (cell_signs f) (cell_fit f c h))
-    ∙ ap (λ (z : ℤ). record c { rate = z }) (rate_kept (has_rates f) c.rate h.rate)
 
 pub cell_in_range : (f : Form) (n : ℕ) → IsCellData f (cell_data f n)
 cell_in_range f n =

@@ -80,7 +80,7 @@ FitAll (f ∷ fs) cs = FitsKind f.1 cs.0 × FitAll fs cs.1
 
 -- ---- packed in one number
 
-below_product : (n p q r : ℕ) → n < p → r < q → n * q + r < p * q
+pub below_product : (n p q r : ℕ) → n < p → r < q → n * q + r < p * q
 below_product n p q r h k = grind arith
 
 pub packed_fits : (t : Table) (cs : Contents t) → have_signs t ≡ true → FitAll t cs

@@ -1,4 +1,4 @@
-use Rattle.std.proofs.Common.{Err, sym, subst, ◌≤◌, ◌≡◌, ◌+◌, ◌-◌, ◌<◌, ◌∷◌, ◌++◌, ◌∙◌, [], ℕ, List, length, map, arith, ap, suc}
+use Rattle.std.proofs.Common.{Err, sym, subst, ◌≤◌, ◌≡◌, ◌+◌, ◌-◌, ◌∷◌, ◌++◌, ◌∙◌, [], ℕ, List, length, map, arith, ap, suc}
 use Rattle.std.proofs.lemmas.List.{append_assoc, map-append}
 use Rattle.std.proofs.lemmas.List.Elements.{All-push}
 use Rattle.std.proofs.lemmas.Result.{err_from_is_err_and}
