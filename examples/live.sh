@@ -7,7 +7,12 @@
 # nothing. The last epoch is kept at Ctrl-C, at SIGTERM to all processes, and when the terminal is closed, after which
 # the conversion goes on. For an archive keep the raw stream (rtcm2rinex-log@.service) and convert it a day at a time.
 set -eu
-plan=$(cat "$1") stream=$2 obs=$3-$(date -u +%Y%m%dT%H%M%SZ).obs
+plan=$(cat "$1")
+test "$plan" || {
+    echo "$1: no plan" >&2
+    exit 1
+}
+stream=$2 obs=$3-$(date -u +%Y%m%dT%H%M%SZ).obs
 shift 3
 
 # The first line in the pipe is the process number of str2str, which ignores SIGPIPE and would go on alone.
@@ -25,7 +30,8 @@ sh -c 'echo $$; exec str2str -in "$1"' sh "$stream" |
             echo "$obs: $report" >&2
         else
             echo "$obs: the conversion ended with status $?: $report" >&2
-            kill "$reader" 2> /dev/null || :
+            # str2str loses a signal that comes before it has started
+            while kill "$reader" 2> /dev/null; do sleep 1; done
             exit 1
         fi
     )

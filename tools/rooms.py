@@ -19,13 +19,18 @@ START = datetime(1980, 1, 6)
 # Time after which a command that doesn't end by itself is killed.
 MOMENT = 1.0
 KILLED = -signal.SIGKILL
+# Time from its start in which `str2str` loses signals.
+DEAF = 0.5
 STR2STR = f"""\
 #!{sys.executable}
 import os, signal, time
-for end in (signal.SIGINT, signal.SIGTERM):
-    signal.signal(end, lambda *_: os._exit(0))
-for ignored in (signal.SIGHUP, signal.SIGPIPE):
+ends = (signal.SIGINT, signal.SIGTERM)
+for ignored in (*ends, signal.SIGHUP, signal.SIGPIPE):
     signal.signal(ignored, signal.SIG_IGN)
+# like str2str it loses the signals that come before it has started
+time.sleep({DEAF})
+for end in ends:
+    signal.signal(end, lambda *_: os._exit(0))
 data = open("live.rtcm3", "rb").read()
 while True:
     try:
