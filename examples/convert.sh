@@ -7,6 +7,11 @@
 set -eu
 raw=$1 obs=$2
 shift 2
+# shellcheck disable=SC3013 # -ef is in POSIX.1-2024
+if test -d "$obs" || test "$raw" -ef "$obs" || test "$raw" -ef "$obs.part"; then
+    echo "$obs: a folder, or the recording" >&2
+    exit 1
+fi
 
 # the options that fit the recording: week, signals, GLONASS channels, position
 if test "${DAY-}"; then
@@ -15,8 +20,10 @@ else
     plan=$(rtcm2rinex options --week < "$raw")
 fi
 
-# the file has its name only when it is complete
-trap 'rm -f "$obs.part"' EXIT
+# The file has its name only when it is complete. Not every shell runs the trap of EXIT at a signal.
+trap 'rm -f -- "$obs.part"' EXIT
+trap 'exit 1' HUP INT TERM
+# Recordings have no hurry: an epoch is closed by a later one, so that repeated messages can't end it.
 # shellcheck disable=SC2086 # the shell has to split a plan into options
-rtcm2rinex convert --date "$(date -u '+%Y%m%d %H%M%S UTC')" $plan "$@" < "$raw" > "$obs.part"
-mv "$obs.part" "$obs"
+rtcm2rinex convert --gather time --date "$(date -u '+%Y%m%d %H%M%S UTC')" $plan "$@" < "$raw" > "$obs.part"
+mv -- "$obs.part" "$obs"
