@@ -1,17 +1,26 @@
 #!/bin/sh
 # doppler.sh OBS: prints of how many satellite lines of an observation file the Doppler shift D of the first signal fits
-# the phase L, whose change a second is -D, and of how many it has the wrong sign, as of u-blox F9 receivers.
+# the phase L, whose change a second is -D, and of how many it has the wrong sign, as of u-blox F9 receivers. It fails
+# if there is no such line.
 # doppler.sh --turn OBS: prints the file with the other sign of each D.
 set -eu
+# some awks read and print decimals with the comma of the locale
+export LC_ALL=C
+# awk has the file as its input, since it takes names with = for assignments
 if test "$1" = --turn; then
-    exec awk '
+    awk '
         /END OF HEADER/ { body = 1 }
         body && /^[A-Z]/ {
             for (n = 36; n < length($0); n += 64)
                 if (substr($0, n, 14) * 1)
                     $0 = substr($0, 1, n - 1) sprintf("%14.3f", -substr($0, n, 14)) substr($0, n + 14)
         }
-        { print }' "$2"
+        { print }
+        END { exit !body }' < "$2" || {
+        echo "$2: no observation file" >&2
+        exit 1
+    }
+    exit
 fi
 awk '
     /END OF HEADER/ { body = 1 }
@@ -27,4 +36,10 @@ awk '
         last[id] = phase
         at[id] = time
     }
-    END { print right + 0 " fit, " wrong + 0 " have the wrong sign" }' "$1"
+    END {
+        if (!(right + wrong)) exit 1
+        print right + 0 " fit, " wrong + 0 " have the wrong sign"
+    }' < "$1" || {
+    echo "$1: no line to compare" >&2
+    exit 1
+}
