@@ -7,9 +7,13 @@
 # most 400. A gap is one by `rtcm2rinex check --gaps`, at the smallest step between epochs.
 set -eu
 obs=$1 name=$2 every=${3-}
+# some awks read and print decimals with the comma of the locale
+export LC_ALL=C
+# it fails here if gzip does, whose status a pipe doesn't have
+gzip -cdf -- "$obs" > /dev/null
 
 # how the file is asked: its first and last second, and its step, which a clock that jitters changes
-ask() { gzip -cdf "$obs" | rtcm2rinex "$@"; }
+ask() { gzip -cdf -- "$obs" | rtcm2rinex "$@"; }
 times=$(ask check --times)
 first=$(date -u -d "$(echo "$times" | sed -n 's/^first //p')" +%s)
 last=$(date -u -d "$(echo "$times" | sed -n 's/^last //p')" +%s)
