@@ -6,9 +6,7 @@ use Rattle.rinex_inspect.specs.declared.gaps.Window.{Window}
 use Rattle.rtcm_command.specs.CompleteOptions.{IsCompleteBy, IsCompleteSet, IsTimeGiven, IsWindowOf, complete_with, is_given, lacks_one, window_with}
 use Rattle.rtcm_command.specs.Devices.{culprit}
 use Rattle.rtcm_command.specs.SetupOptions.{gaps_set}
-use Rattle.std.proofs.Common.{◌%◌, ◌-◌, ◌<◌, ◌≤◌, ◌==◌, ◌&&◌, arith, inl, inr, is_some}
-use Rattle.std.proofs.Math.Nat.{mod-eq_of_lt}
-use Rattle.std.proofs.lemmas.Bool.{ltb-false, ltb-true}
+use Rattle.std.proofs.Common.{◌%◌, ◌-◌, ◌==◌, ◌&&◌, inl, inr, is_some}
 use Rattle.command_faults.specs.declared.fault.CommandFault.TheVariants as faults
 use Rattle.rtcm_command.proofs.Names.{◌≡◌, ◌∙◌, ℕ, Bool, true, false, nat_lt, ok_or, if◌then◌else◌, codes, IsChoiceSet, IsFromSet, IsUntilSet, Row, choice_by, choice_with, interval_set, tolerance_set, window_by, List, [], Option, Some, None, Result, Ok, Bor, option_map, unwrap_or, refl, sym, ap, subst, ◌↔◌, ParsesUnsigned, ReadsOne, first_value, one_text, first_of, one_of, rows_of, Found, first_value-rows, one_text-rows, IsHourOf, IsNoonOf, IsNumberOf, IsTimeIn, DateOption, CommandFault, interval_by, interval_in, option_and_then, Err, text_set}
 
