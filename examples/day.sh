@@ -70,12 +70,15 @@ report=$(logs | rtcm2rinex convert --gather time --interval 30 --from "$day" --u
     --date "$(date -u '+%Y%m%d %H%M%S UTC')" $plan "$@" 2>&1 > "$part") || say "no file: $report"
 gaps=$(rtcm2rinex check --gaps 30 --from "$day" --until "$after" < "$part" 2>&1) || say "no file: $gaps"
 values=$(rtcm2rinex quality < "$part" | grep '^signal ') || :
-heard=$(logs | rtcm2rinex signals)
+# shellcheck disable=SC2086 # there may be no station
+heard=$(logs | rtcm2rinex signals $wanted)
 
 # A file that was made of more logs is kept.
 epochs() { rtcm2rinex check 2> /dev/null < "$1" | cut -d ' ' -f 2; }
-test ! -e "$made" || test "$(epochs "$made")" -le "$(epochs "$part")" ||
-    say "$(epochs "$part") epochs, and $(epochs "$made") in the file that there is, which is kept"
+if test -e "$made"; then
+    had=$(epochs "$made") has=$(epochs "$part")
+    test "${had:-0}" -le "$has" || say "$has epochs, and $had in the file that there is, which is kept"
+fi
 echo "$report" > "$kept.report"
 echo "$values" > "$kept.signals"
 
@@ -88,7 +91,8 @@ case $report in
 *)
     leap=${plan##*--leap-seconds }
     test "$leap" != "$plan" || leap=18
-    late=$(logs | rtcm2rinex show --all | awk -v leap="${leap%% *}" -v week=604800000 '
+    late=$(logs | rtcm2rinex show --all | awk -v own="${wanted#--station=}" -v leap="${leap%% *}" -v week=604800000 '
+        own != "" && $3 != own { next }
         $2 ~ /^1(07|08|09|10|11|12)[4-7]$/ && NF == 8 && !seen[$2, $3, $4]++ {
             time = $4 + ($2 ~ /^112/ ? 14000 : $2 ~ /^108/ ? 1000 * leap - 10800000 : 0)
             back = (last - time + 2 * week) % week
