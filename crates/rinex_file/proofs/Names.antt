@@ -46,7 +46,7 @@ pub use Rattle.rinex_columns.specs.Limits.{most_line}
 unfoldable pub use Rattle.rinex_file.specs.Lines.{epoch_line, field, satellite_line, signal_text}
 pub use Rattle.rinex_file.specs.Lines.{epoch_fields, lli_byte, row_text, strength_byte}
 pub use Rattle.rinex_columns.specs.Numbers.{fixed, joined, left, padded, right}
-pub use Rattle.rinex_file.specs.inner.ParserState.{FollowsHistory, MayRunOut, ExpectsHeader, ExpectsRow, Adds, GoesOnWithLine, IsLast, IsNext, RefusesLine, ShowsLine, TakesLine, progress_at, stamped_at, with_line}
+pub use Rattle.rinex_file.specs.inner.ParserState.{FollowsHistory, open_epochs, MayRunOut, ExpectsHeader, ExpectsRow, Adds, GoesOnWithLine, IsLast, IsNext, RefusesLine, ShowsLine, TakesLine, progress_at, stamped_at, with_line}
 pub use Rattle.rinex_file.specs.Counting.{History, changes_of, events_in, nothing, rows_in}
 pub use Rattle.rinex_file.specs.inner.Read.EpochSteps.{AddsOrEnds, HasReadPart, HasReadTo, IsStart, IsSummaryOf, IsSummaryRead, ReadsNextEpoch, ReadsNextRow, BeginsNextEpoch, EndsEpoch, StopsReading, plan_in, with_read}
 pub use Rattle.rinex_columns.specs.Read.{ReadsExactly, digits_in, has, number_in, some_if}

@@ -15,16 +15,15 @@ use Rattle.rinex_file.proofs.FileLines.{lines_are_lines}
 use Rattle.rinex_file.proofs.Reading.Accepted.{are_read, not_pushed, plan_read}
 use Rattle.rinex_file.proofs.Reading.Epochs.{sound_open}
 use Rattle.rinex_file.proofs.Reading.Lines.{consumed, splits}
-use Rattle.rinex_file.proofs.Names.{HasPlan, HasLinesLeft, HasReadPart, IsAt, IsSoundAt, IsStamped, All, plan_in, planned_in, ◌∙◌, ◌≡◌, sym, ap, refl, subst, ℕ, List, [], ◌∷◌, ◌++◌, ◌+◌, Option, IfSome, Expected, Header, Epoch, EventPosition, EventHeight, EventEpoch, Satellite, Reading, Progress, HasReadTo, progress_at, Stamped, FileValue, joined, file_lines}
+use Rattle.rinex_file.proofs.Names.{open_epochs, HasPlan, HasLinesLeft, HasReadPart, IsAt, IsSoundAt, IsStamped, All, plan_in, planned_in, ◌∙◌, ◌≡◌, sym, ap, refl, subst, ℕ, List, [], ◌∷◌, ◌++◌, ◌+◌, Option, IfSome, Expected, Header, Epoch, EventPosition, EventHeight, EventEpoch, Satellite, Reading, Progress, HasReadTo, progress_at, Stamped, FileValue, joined, file_lines}
 
--- epochs of a file with this plan, of which there aren't more lines than a file has
+-- epochs of a file with this plan, which don't have more lines than a file has
 pub record AreFine (p : PlanValue) (es : List Stamped) : Type 0 where
   pub plan : IsPlan p
   pub rows : All (λ e. AreSatelliteRows (planned_in p) e.rows) es
   pub rising : IsStrictlyIncreasing (map time_stamped es)
   pub times : All (λ e. IsTime e.time) es
-  pub few : rows_in es ≤ most_lines
-  pub many : length es ≤ most_lines + 1
+  pub few : length es + rows_in es ≤ most_lines
 
 all_rows : (p : PlanValue) (es : List Stamped) → All (IsStamped (planned_in p)) es → All (λ e. AreSatelliteRows (planned_in p) e.rows) es
 all_rows p [] all = All-nil (λ (e : Stamped). AreSatelliteRows (planned_in p) e.rows)
@@ -46,8 +45,7 @@ whole_fine r es read some =
       rows = all_rows (plan_in r) es are.epochs;
       rising = are.rising;
       times = all_times (plan_in r) es are.epochs;
-      few = omega (arith, counted.satellites, room.1, within);
-      many = omega (arith, counted.epochs, room.0, within);
+      few = omega (arith, counted.epochs, counted.satellites, room.0, within);
     }
 
 -- whole epochs, and one that was begun
@@ -67,8 +65,10 @@ part_fine r es e input left part = by r.parser_state.expected refl part where
         rows = All-append rowed es (e ∷ []) (all_rows p es are.epochs) (All-cons rowed e [] next.rows (All-nil rowed));
         rising = subst IsStrictlyIncreasing (ap (λ (t : ℕ). map time_stamped es ++ t ∷ []) part.2 ∙ sym (map-append time_stamped es (e ∷ []))) next.later;
         times = All-append timed es (e ∷ []) (all_times p es are.epochs) (All-cons timed e [] (subst IsTime part.2 next.time) (All-nil timed));
-        few = omega (arith, counted.satellites, fits.1, within, sum_by-append (λ (x : Stamped). length x.rows) es (e ∷ []));
-        many = omega (arith, counted.epochs, fits.0, within, length-append es (e ∷ []));
+        few =
+            let begun = ap open_epochs is in
+            let rows = sum_by-append (λ (x : Stamped). length x.rows) es (e ∷ []) in
+            omega (arith, begun, counted.epochs, counted.satellites, fits.0, within, rows, length-append es (e ∷ []));
       }
   by other is part = whole_fine r (es ++ e ∷ []) part (not_pushed es e)
 

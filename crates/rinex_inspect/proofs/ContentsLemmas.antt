@@ -1,5 +1,5 @@
 -- The contents of the table of epochs, and equal contents.
-use Rattle.std.proofs.Common.{◌≡◌, ◌∙◌, ◌+◌, ◌*◌, ◌/◌, ◌%◌, ◌<◌, ◌≤◌, ◌++◌, ◌∷◌, [], ℕ, ℤ, Bool, true, false, zero, suc, List, Option, Some, None, cond, get_or, length, map, refl, ap, ap₂, sym, subst, arith, add-one, append_assoc, append-nil, is_some, pos, codes, decimal}
+use Rattle.std.proofs.Common.{◌≡◌, ◌∙◌, ◌+◌, ◌*◌, ◌/◌, ◌%◌, ◌^◌, ◌==◌, ◌&&◌, ◌<◌, ◌≤◌, ◌++◌, ◌∷◌, [], ℕ, ℤ, Bool, true, false, zero, suc, List, Option, Some, None, cond, get_or, length, map, refl, ap, ap₂, sym, subst, arith, add-one, append_assoc, append-nil, is_some, pos, codes, decimal}
 use Rattle.std.specs.Prelude.{All, IfSome, filter, flat_map, nat_lt}
 use Rattle.std.specs.List.{count_by, sum_by}
 use Rattle.std.proofs.lemmas.Int.{ints}
@@ -9,7 +9,6 @@ use Rattle.std.proofs.lemmas.List.Elements.{All-append, All-filter, All-head, Al
 use Rattle.std.proofs.lemmas.List.Sums.{count_by-le-length, sum_by-cons}
 use Rattle.std.proofs.lemmas.Nat.{div-mul-add, mod-mul-add}
 use Rattle.std.proofs.Math.Nat.{div-lt_iff_lt-mul, mod-lt}
-use Rattle.rtcm_bits.proofs.SmallLaws.{length-filter-le}
 use Rattle.gnss_obs.proofs.PlanLaws.{few_below}
 use Rattle.gnss_obs.specs.Plans.{below}
 use Rattle.gnss_obs.specs.Values.{PlanValue, planned_of}
@@ -17,14 +16,15 @@ use Rattle.gnss_system.specs.declared.system.System.{System}
 use Rattle.gnss_system.specs.Satellites.{Satellite, letter, satellites}
 use Rattle.line_texts.specs.Lines.{line}
 use Rattle.gnss_system.specs.Signals.{most_signals, table}
-use Rattle.gnss_system.specs.Systems.{systems}
+use Rattle.gnss_system.specs.Systems.{is_system, systems}
 use Rattle.rinex_file.proofs.ReadingLaws.{AreFine}
 use Rattle.rinex_file.specs.Counting.{rows_in}
 use Rattle.rinex_file.specs.Exact.{most_lines}
 use Rattle.rinex_file.specs.FileValues.{AreSatelliteRows, AreSignalValues, IsFrom, IsPlan, IsSatelliteRow, planned_in}
 use Rattle.rinex_file.specs.Value.{SatelliteRow, SignalValues, Stamped, no_signal_values}
 use Rattle.rinex_inspect.proofs.TallyLemmas.{tally_is}
-use Rattle.rinex_inspect.proofs.SumLemmas.{sum_more, texts_more, texts_same}
+use Rattle.rinex_inspect.proofs.QualityTexts.{few_satellites}
+use Rattle.rinex_inspect.proofs.SumLemmas.{one_small_of, sum_add, sum_bound, sum_mono, sum_same, sum_suc, texts_more, texts_same}
 unfoldable use Rattle.rinex_inspect.specs.QualityOutput.{present_line, signal_line}
 use Rattle.rinex_inspect.specs.QualityOutput.{Contents, code_at, contents_of, presence_words, satellite_word, tally_words, lost_in, period_line, period_lines, satellite_line, tally_line, texts_below}
 use Rattle.rinex_inspect.specs.Tallies.{all_rows, has_values, is_half, is_lost, is_row_of, satellite_at, strength_of, tally_of, total, values_in}
@@ -54,9 +54,6 @@ strong_at (e ∷ es) zero all = strong e (All-head AreSignalValues e es all)
 strong_at (e ∷ es) (suc k) all = strong_at es k (All-tail AreSignalValues e es all)
 
 module _ (p : PlanValue) (s : Satellite) (k : ℕ) where
-  few_vals : (rows : List SatelliteRow) → length (map (values_in k) (filter (is_row_of s) rows)) ≤ length rows
-  few_vals rows = let few = length-filter-le (is_row_of s) rows in let same : length (map (values_in k) (filter (is_row_of s) rows)) ≡ length (filter (is_row_of s) rows) = length-map (filter (is_row_of s) rows) (values_in k) in omega (arith, few, same)
-
   strengths : (rows : List SatelliteRow) → AreRows p rows → sum_by (λ e. strength_of e.s) (map (values_in k) (filter (is_row_of s) rows)) ≤ 99999 * length rows
   strengths [] all = omega arith
   strengths (r ∷ rows) all = by (strengths rows (All-tail (IsSatelliteRow (planned_in p)) r rows all)) (is_row_of s r) (strong_at r.row.signal_values k (All-head (IsSatelliteRow (planned_in p)) r rows all).row.signal_values) where
@@ -78,7 +75,7 @@ fine_rows p (e ∷ es) all =
 -- lines that aren't more than those of a file
 pub record AreFew (p : PlanValue) (es : List Stamped) : Type 0 where
   pub rows : AreRows p (all_rows es)
-  pub few : length (all_rows es) ≤ most_lines
+  pub few : length (all_rows es) < most_lines
 
 few_filter : (q : Stamped → Bool) (es : List Stamped) → rows_in (filter q es) ≤ rows_in es
 few_filter q [] = omega arith
@@ -87,27 +84,59 @@ few_filter q (e ∷ es) = by (few_filter q es) (q e) where
   by rest true = let a = sum_by-cons (λ (x : Stamped). length x.rows) e (filter q es) in let b = sum_by-cons (λ (x : Stamped). length x.rows) e es in omega (arith, rest, a, b)
   by rest false = let b = sum_by-cons (λ (x : Stamped). length x.rows) e es in omega (arith, rest, b)
 
+-- each epoch has a line of its own
+fewer : (es : List Stamped) → length es + rows_in es ≤ most_lines → rows_in es < most_lines
+fewer [] few = omega arith
+fewer (e ∷ es) few = omega (arith, few)
+
 pub few_of : (p : PlanValue) (q : Stamped → Bool) (es : List Stamped) → AreFine p es → AreFew p (filter q es)
 few_of p q es fine = record {
   rows = fine_rows p (filter q es) (All-filter q (λ (x : Stamped). AreSatelliteRows (planned_in p) x.rows) es fine.rows);
-  few = let a = length_rows (filter q es) in let b = few_filter q es in let c = fine.few in omega (arith, a, b, c);
+  few = omega (arith, length_rows (filter q es), few_filter q es, fewer es fine.few);
 }
 
-pub tally_small : (p : PlanValue) (s : Satellite) (k : ℕ) (es : List Stamped) → AreFew p es → IsSmallTally (tally_of s k es)
-tally_small p s k es are =
-    let rows = all_rows es in
-    let vs = map (values_in k) (filter (is_row_of s) rows) in
-    let few = few_vals p s k rows in
-    let most = are.few in
-    record {
-      c = let n = count_by-le-length (λ (e : SignalValues). is_some e.c) vs in omega (arith, n, few, most);
-      l = let n = count_by-le-length (λ (e : SignalValues). is_some e.l) vs in omega (arith, n, few, most);
-      d = let n = count_by-le-length (λ (e : SignalValues). is_some e.d) vs in omega (arith, n, few, most);
-      s = let n = count_by-le-length (λ (e : SignalValues). is_some e.s) vs in omega (arith, n, few, most);
-      lost = let n = count_by-le-length is_lost vs in omega (arith, n, few, most);
-      half = let n = count_by-le-length is_half vs in omega (arith, n, few, most);
-      strength = let n = strengths p s k rows are.rows in omega (arith, n, most);
-    }
+-- a line is one of at most one satellite of a system
+one_satellite : (s : System) (r : SatelliteRow) (n : ℕ) → (sum_by (λ i. cond (is_row_of (satellite_at s i) r) 1 0) (below n) ≤ 1) × (n < r.row.satellite → sum_by (λ i. cond (is_row_of (satellite_at s i) r) 1 0) (below n) ≡ 0)
+one_satellite s r zero = (omega arith, λ less. refl)
+one_satellite s r (suc n) = by (is_system s r.system) (r.row.satellite == n + 1) refl (sum_suc (λ (i : ℕ). cond (is_row_of (satellite_at s i) r) 1 0) n) (one_satellite s r n) where
+  by : {m sum : ℕ} (a b : Bool) → (r.row.satellite == n + 1) ≡ b → sum ≡ m + cond (a && b) 1 0 → (m ≤ 1) × (n < r.row.satellite → m ≡ 0) → (sum ≤ 1) × (suc n < r.row.satellite → sum ≡ 0)
+  by a b e sum before = grind (arith, e, sum, before)
+
+-- the lines of all satellites of a system
+lines_of : (s : System) (n : ℕ) (rows : List SatelliteRow) → sum_by (λ i. length (filter (is_row_of (satellite_at s i)) rows)) (below n) ≤ length rows
+lines_of s zero [] = omega arith
+lines_of s (suc n) [] = omega (arith, lines_of s n [], sum_suc (λ (i : ℕ). 0) n)
+lines_of s n (r ∷ rows) =
+    let one = (one_satellite s r n).0 in
+    let sum = sum_add (λ (i : ℕ). cond (is_row_of (satellite_at s i) r) 1 0) (λ (i : ℕ). length (filter (is_row_of (satellite_at s i)) rows)) n in
+    let split = sum_same (λ (i : ℕ). length (filter (is_row_of (satellite_at s i)) (r ∷ rows))) (λ (i : ℕ). cond (is_row_of (satellite_at s i) r) 1 0 + length (filter (is_row_of (satellite_at s i)) rows)) n
+    (λ i fits. by (is_row_of (satellite_at s i) r) (filter (is_row_of (satellite_at s i)) rows)) in
+    omega (arith, lines_of s n rows, one, sum, split) where
+      by : (b : Bool) (kept : List SatelliteRow) → length (cond b (r ∷ kept) kept) ≡ cond b 1 0 + length kept
+      by true kept = omega arith
+      by false kept = omega arith
+
+module _ (p : PlanValue) (s : System) (k : ℕ) (es : List Stamped) (are : AreFew p es) where
+  -- of each line at most one satellite has a value
+  values_few : (q : SignalValues → Bool) → sum_by (λ i. count_by q (map (values_in k) (filter (is_row_of (satellite_at s i)) (all_rows es)))) (below (satellites s)) < 2 ^ 32
+  values_few q =
+      let own : ℕ → List SatelliteRow = λ i. filter (is_row_of (satellite_at s i)) (all_rows es) in
+      let less = sum_mono (λ (i : ℕ). count_by q (map (values_in k) (own i))) (λ (i : ℕ). length (own i)) (satellites s)
+      (λ i fits. omega (arith, count_by-le-length q (map (values_in k) (own i)), length-map (own i) (values_in k))) in
+      omega (arith, less, lines_of s (satellites s) (all_rows es), are.few)
+
+  pub totals_few : IsSmallTally (total (λ i. tally_of (satellite_at s i) k es) (satellites s))
+  totals_few = record {
+    c = values_few (λ e. is_some e.c);
+    l = values_few (λ e. is_some e.l);
+    d = values_few (λ e. is_some e.d);
+    s = values_few (λ e. is_some e.s);
+    lost = values_few is_lost;
+    half = values_few is_half;
+    strength =
+        let sum = sum_bound (λ (i : ℕ). (tally_of (satellite_at s i) k es).strength) (satellites s) (2 ^ 49) (λ i fits. omega (arith, strengths p (satellite_at s i) k (all_rows es) are.rows, are.few)) in
+        omega (arith, sum, few_satellites s);
+  }
 
 pub capped_same : (t : Tally) → IsSmallTally t → capped_tally t ≡ t
 capped_same t is = tally_is (omega (arith, is.c)) (omega (arith, is.l)) (omega (arith, is.d)) (omega (arith, is.s)) (omega (arith, is.lost)) (omega (arith, is.half)) (omega (arith, is.strength))
@@ -121,7 +150,7 @@ pub record AreSame (a b : Contents) : Type 0 where
 
 pub table_contents : (p : PlanValue) (t : Table) (es : List Stamped) → AreFew p es → IsTableOf t es → AreSame (contents_in t) (contents_of es)
 table_contents p t es few is = record {
-  tallies = λ s i k less fits. (is.each s i less).signals k fits ∙ capped_same (tally_of (satellite_at s i) k es) (tally_small p (satellite_at s i) k es few);
+  tallies = λ s i k less fits. (is.each s i less).signals k fits ∙ capped_same (tally_of (satellite_at s i) k es) (one_small_of (λ (i : ℕ). tally_of (satellite_at s i) k es) i (satellites s) less (totals_few p s k es few));
   presences = λ s i less. (is.each s i less).presence;
 }
 
@@ -129,16 +158,6 @@ pub few_planned : (p : PlanValue) → IsPlan p → (s : System) → planned_in p
 few_planned p is s = let a = few_below (length (table s)) (planned_of s p) (is.listed s) (is.apart s) in let b = short s in omega (arith, a, b) where
   short : (s : System) → length (table s) ≤ most_signals
   short s = grind arith
-
-pub printable : (p : PlanValue) (t : Table) (es : List Stamped) → IsPlan p → AreFew p es → IsTableOf t es → IsPrintable t p
-printable p t es plan few is = record {
-  places = is.size;
-  each = λ s i less. record {
-    size = (is.each s i less).size;
-    each = λ k fits. subst IsSmallTally (sym ((table_contents p t es few is).tallies s i k less fits)) (tally_small p (satellite_at s i) k es few);
-  };
-  few = few_planned p plan;
-}
 
 -- ---- equal contents have equal lines
 
@@ -148,13 +167,6 @@ signal_text plan s k n t = line (codes "signal" ∷ (letter s ∷ []) ∷ code_a
 
 abbrev satellite_text : System → ℕ → Presence → ℕ → List ℕ
 satellite_text s i p n = cond (nat_lt 0 p.epochs) (line (codes "satellite" ∷ satellite_word s i ∷ (presence_words p ++ codes "lost" ∷ decimal n ∷ []))) []
-
-sum_same : (f g : ℕ → ℕ) (n : ℕ) → ((i : ℕ) → i < n → f i ≡ g i) → sum_by f (below n) ≡ sum_by g (below n)
-sum_same f g zero same = refl
-sum_same f g (suc n) same =
-    let rest = sum_same f g n (λ i less. same i (omega (arith, less))) in
-    let one = same n (omega arith) in
-    ap (λ (m : ℕ). sum_by f (below m)) (sym (add-one n)) ∙ sum_more f n ∙ ap₂ (λ (x y : ℕ). x + y) rest one ∙ sym (sum_more g n) ∙ ap (λ (m : ℕ). sum_by g (below m)) (add-one n)
 
 some_factor : (m n i : ℕ) → i < m * n → 0 < n
 some_factor m zero i less = absurd (let none : m * 0 ≡ 0 = omega arith in omega (arith, less, none))
@@ -195,6 +207,21 @@ module _ (plan : PlanValue) (a b : Contents) (same : AreSame a b) (few : (s : Sy
 
   pub lines_same : (lines : Lines) → all_lines lines plan a ≡ all_lines lines plan b
   lines_same lines = ap (λ (f : System → List ℕ). flat_map f systems) (λ i s. texts_same (line_at lines plan a s) (line_at lines plan b s) (line_count lines plan s) (λ k less. line_same lines s k less) i)
+
+pub printable : (p : PlanValue) (t : Table) (es : List Stamped) → IsPlan p → AreFew p es → IsTableOf t es → IsPrintable t p
+printable p t es plan few is =
+    let same = table_contents p t es few is in
+    let totals : (s : System) (k : ℕ) → k < most_signals → IsSmallTally (total (λ i. (contents_in t).tallies s i k) (satellites s)) =
+    λ s k fits. subst IsSmallTally (sym (total_same p (contents_in t) (contents_of es) same (few_planned p plan) s k fits)) (totals_few p s k es few) in
+    record {
+      places = is.size;
+      each = λ s i less. record {
+        size = (is.each s i less).size;
+        each = λ k fits. one_small_of (λ (i : ℕ). (contents_in t).tallies s i k) i (satellites s) less (totals s k fits);
+      };
+      totals = totals;
+      few = few_planned p plan;
+    }
 
 -- ---- the lines of a period, by satellite and by signal
 

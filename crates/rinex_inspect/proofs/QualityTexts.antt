@@ -1,5 +1,5 @@
 -- The words of the lines of `quality`.
-use Rattle.std.proofs.Common.{◌≡◌, ◌∙◌, ◌+◌, ◌<◌, ◌≤◌, ◌++◌, ◌∷◌, [], ℕ, Bool, true, false, List, cond, length, codes, decimal, refl, ap, ap₂, sym, append_assoc, arith, Err, drop, take, get_or, subst, ◌-◌, ◌^◌}
+use Rattle.std.proofs.Common.{◌≡◌, ◌∙◌, ◌+◌, ◌<◌, ◌≤◌, ◌++◌, ◌∷◌, [], ℕ, Bool, true, false, List, cond, length, codes, decimal, refl, ap, ap₂, sym, append_assoc, arith, Err, drop, take, get_or, subst, ◌-◌}
 use Rattle.std.proofs.lemmas.List.{length-append}
 use Rattle.std.proofs.lemmas.List.{get_or_read}
 use Rattle.std.proofs.Math.Seq.{take-length}
@@ -9,8 +9,7 @@ use Rattle.gnss_obs.specs.SignalLists.{indices}
 use Rattle.gnss_obs.specs.Values.{planned_of}
 use Rattle.gnss_system.specs.Signals.{SignalAt, most_signals}
 use Rattle.rinex_file.specs.FileValues.{planned_in}
-use Rattle.rinex_inspect.proofs.SumLemmas.{total_small}
-use Rattle.rinex_inspect.specs.inner.QualityLines.{IsPrintable}
+use Rattle.rinex_inspect.specs.inner.QualityLines.{IsPrintable, IsSmallTally}
 use Rattle.rinex_inspect.specs.inner.Tables.{HasPlaces, contents_in, no_record, record_at, records_in, tally_at}
 use Rattle.rinex_inspect.specs.declared.table.SatelliteRecord.{SatelliteRecord}
 use Rattle.rinex_inspect.specs.declared.table.Table.{Table}
@@ -114,10 +113,8 @@ module _ (t : Table) (s : System) where
       e ∙ ap (λ (l : List SatelliteRecord). total (tally_at l k) (length l)) same
       ∙ ap (λ (n : ℕ). total (λ i. (contents_in t).tallies s i k) n) (places s)
 
-  pub totals_small : (plan : PlanValue) (k : ℕ) {u : Tally} → IsPrintable t plan → k < most_signals → u ≡ total (λ i. (contents_in t).tallies s i k) (satellites s) → (u.strength < 2 ^ 56) × (u.s < 2 ^ 56)
-  totals_small plan k fits place e =
-      let both = total_small (λ i. (contents_in t).tallies s i k) (satellites s) (few_satellites s) (λ i few. (fits.each s i few).each k place) in
-      subst (λ (u : Tally). (u.strength < 2 ^ 56) × (u.s < 2 ^ 56)) (sym e) both
+  pub totals_small : (plan : PlanValue) (k : ℕ) {u : Tally} → IsPrintable t plan → k < most_signals → u ≡ total (λ i. (contents_in t).tallies s i k) (satellites s) → IsSmallTally u
+  totals_small plan k fits place e = subst IsSmallTally (sym e) (fits.totals s k place)
 
   -- the record of a satellite
   pub record_is : (i : ℕ) {l : List SatelliteRecord} {r : SatelliteRecord} → l ≡ records_in t s → HasPlaces t → i < satellites s → r ≡ get_or l i r → r ≡ record_at t s i

@@ -53,7 +53,7 @@ use Rattle.rinex_inspect.specs.inner.Tables.{HasAddedRow, IsTableOf}
 
 -- the epochs are few
 pub few_epochs : (r : EpochReader) (es : List Stamped) (e : Stamped) (input left : Option (List ℕ)) (xs : List Stamped) → HasReadRows r es e input left → length xs ≤ length es → length xs < 2 ^ 62
-few_epochs r es e input left xs part few = let many = (part_fine r.reading es e input left part).many in omega (arith, many, few, length-append es (e ∷ []))
+few_epochs r es e input left xs part few = let all = (part_fine r.reading es e input left part).few in omega (arith, all, few, length-append es (e ∷ []))
 
 last_of : {A : Type 0} (P : A → Type 0) (xs : List A) (x : A) → All P (xs ++ x ∷ []) → P x
 last_of P [] x all = All-head P x [] all

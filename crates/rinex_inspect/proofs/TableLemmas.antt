@@ -20,19 +20,19 @@ use Rattle.rinex_inspect.specs.inner.Tables.{HasAdded, IsRecordOf, added, before
 
 -- ---- tallies
 
-cap_more : {X : Type 0} (f : X → ℕ) (xs : List X) (x : X) → capped (capped (sum_by f xs) + f x) ≡ capped (sum_by f (xs ++ x ∷ []))
-cap_more f xs x = let more = sum_by-append f xs (x ∷ []) in let one : sum_by f (x ∷ []) ≡ f x = omega arith in omega (arith, more, one)
+cap_more : {X : Type 0} (bits : ℕ) (f : X → ℕ) (xs : List X) (x : X) → capped bits (capped bits (sum_by f xs) + f x) ≡ capped bits (sum_by f (xs ++ x ∷ []))
+cap_more bits f xs x = let more = sum_by-append f xs (x ∷ []) in let one : sum_by f (x ∷ []) ≡ f x = omega arith in omega (arith, more, one)
 
 -- one entry more
 tally_more : (es : List SignalValues) (e : SignalValues) → with_values (capped_tally (tally es)) e ≡ capped_tally (tally (es ++ e ∷ []))
-tally_more es e = tally_is (cap_more _ es e) (cap_more _ es e) (cap_more _ es e) (cap_more _ es e) (cap_more _ es e) (cap_more _ es e) (cap_more _ es e)
+tally_more es e = tally_is (cap_more 32 _ es e) (cap_more 32 _ es e) (cap_more 32 _ es e) (cap_more 32 _ es e) (cap_more 32 _ es e) (cap_more 32 _ es e) (cap_more 64 _ es e)
 
 -- no values leave a tally as it is
-capped_again : (n : ℕ) → capped (capped n + 0) ≡ capped n
-capped_again n = omega arith
+capped_again : (bits n : ℕ) → capped bits (capped bits n + 0) ≡ capped bits n
+capped_again bits n = omega arith
 
 tally_none : (t : Tally) → with_values (capped_tally t) no_signal_values ≡ capped_tally t
-tally_none t = tally_is (capped_again t.c) (capped_again t.l) (capped_again t.d) (capped_again t.s) (capped_again t.lost) (capped_again t.half) (capped_again t.strength)
+tally_none t = tally_is (capped_again 32 t.c) (capped_again 32 t.l) (capped_again 32 t.d) (capped_again 32 t.s) (capped_again 32 t.lost) (capped_again 32 t.half) (capped_again 64 t.strength)
 
 -- the tally of a signal after a line
 added_at : (ts : List Tally) (es : List SignalValues) (k : ℕ) (t : Tally) → k < length ts → get_or ts k no_tally ≡ capped_tally t
@@ -126,11 +126,11 @@ record_other q s xs e r out is =
 not_none : (m : ℕ) → 0 < m → (m == 0) ≡ false
 not_none m h = grind (arith, h)
 
-present_new : (n time : ℕ) (q : SatelliteRecord) → q.presence.epochs ≡ 0 → present_with n time q ≡ record { epochs = capped (q.presence.epochs + 1); span = n - (n - 1); first = time; last = time }
-present_new n time q e = ap (λ (b : Bool). record { epochs = capped (q.presence.epochs + 1); span = n - cond b (n - 1) q.before; first = cond b time q.presence.first; last = time }) (ap (λ (m : ℕ). m == 0) e)
+present_new : (n time : ℕ) (q : SatelliteRecord) → q.presence.epochs ≡ 0 → present_with n time q ≡ record { epochs = capped 64 (q.presence.epochs + 1); span = n - (n - 1); first = time; last = time }
+present_new n time q e = ap (λ (b : Bool). record { epochs = capped 64 (q.presence.epochs + 1); span = n - cond b (n - 1) q.before; first = cond b time q.presence.first; last = time }) (ap (λ (m : ℕ). m == 0) e)
 
-present_old : (n time : ℕ) (q : SatelliteRecord) → 0 < q.presence.epochs → present_with n time q ≡ record { epochs = capped (q.presence.epochs + 1); span = n - q.before; first = q.presence.first; last = time }
-present_old n time q some = ap (λ (b : Bool). record { epochs = capped (q.presence.epochs + 1); span = n - cond b (n - 1) q.before; first = cond b time q.presence.first; last = time }) (not_none q.presence.epochs some)
+present_old : (n time : ℕ) (q : SatelliteRecord) → 0 < q.presence.epochs → present_with n time q ≡ record { epochs = capped 64 (q.presence.epochs + 1); span = n - q.before; first = q.presence.first; last = time }
+present_old n time q some = ap (λ (b : Bool). record { epochs = capped 64 (q.presence.epochs + 1); span = n - cond b (n - 1) q.before; first = cond b time q.presence.first; last = time }) (not_none q.presence.epochs some)
 
 before_new : (n : ℕ) (q : SatelliteRecord) → q.presence.epochs ≡ 0 → before_with n q ≡ n - 1
 before_new n q e = ap (λ (b : Bool). cond b (n - 1) q.before) (ap (λ (m : ℕ). m == 0) e)

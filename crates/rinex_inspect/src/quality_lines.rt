@@ -12,8 +12,8 @@ ghost use Rattle.rinex_file.specs.inner.Read.EpochSteps.{plan_of};
 ghost use Rattle.rinex_inspect.specs.QualityOutput.{code_at, mean_text, period_line, satellite_line, satellite_word};
 ghost use Rattle.rinex_inspect.specs.QualityOutput.{presence_words, signal_line, tally_words, time_word};
 ghost use Rattle.rinex_inspect.specs.Tallies.{has_values, no_tally, total};
-ghost use Rattle.rinex_inspect.specs.inner.QualityLines.{AreSmallTallies, IsPrintable, all_lines, line_at, line_count};
-ghost use Rattle.rinex_inspect.specs.inner.QualityLines.{longest_tally, system_lines};
+ghost use Rattle.rinex_inspect.specs.inner.QualityLines.{AreSmallTallies, IsPrintable, IsSmallTally, all_lines};
+ghost use Rattle.rinex_inspect.specs.inner.QualityLines.{line_at, line_count, longest_tally, system_lines};
 ghost use Rattle.rinex_inspect.specs.inner.Tables.{contents_in, no_record, tally_at};
 ghost use Rattle.std.specs.Prelude.{ℕ, get_or, ◌^◌};
 
@@ -157,7 +157,8 @@ fn signal_line(table: &Table, file: &EpochReader, system: System, k: usize) -> O
 fn total_of(records: &[SatelliteRecord], k: usize) -> (u64, Tally)
     requires few { length records.now ≤ 63 }
     requires place { k < most_signals }
-    requires each { (i : ℕ) → i < length records.now → AreSmallTallies (get_or records.now i no_record).signals }
+    requires each { (i : ℕ) → i < length records.now → length (get_or records.now i no_record).signals ≡ most_signals }
+    requires fits { IsSmallTally (total (tally_at records.now k) (length records.now)) }
     ensures satellites { result.0
         ≡ count_by (λ i. has_values (tally_at records.now k i)) (below (length records.now)) }
     ensures total { result.1 ≡ total (tally_at records.now k) (length records.now) }
@@ -166,7 +167,7 @@ fn total_of(records: &[SatelliteRecord], k: usize) -> (u64, Tally)
     let mut total = Tally::new();
     for i in 0..records.len() {
         let tally = tally_at(records, i, k);
-        satellites += one_if(tally.has_values());
+        satellites += u64::from(one_if(tally.has_values()));
         total = total.plus(tally);
     }
     (satellites, total)
@@ -222,7 +223,7 @@ fn lost_of(signals: &[Tally], planned: usize) -> u64
 {
     let mut lost = 0u64;
     for k in 0..planned {
-        lost += signals[k].lost;
+        lost += u64::from(signals[k].lost);
     }
     lost
 }
@@ -294,16 +295,15 @@ fn time_word(time: GpsTime) -> OutputLine
 fn add_tally(line: &mut OutputLine, tally: &Tally)
     requires room { length line.old ≤ 200 }
     requires small { tally.now.strength < 2 ^ 56 }
-    requires few { tally.now.s < 2 ^ 56 }
     ensures text { line.new ≡ with_words line.old (tally_words tally.now) }
     ensures short { length line.new ≤ length line.old + longest_tally }
 {
-    line.add_count("c", tally.c);
-    line.add_count("l", tally.l);
-    line.add_count("d", tally.d);
-    line.add_count("s", tally.s);
-    line.add_count("lost", tally.lost);
-    line.add_count("half", tally.half);
+    line.add_count("c", u64::from(tally.c));
+    line.add_count("l", u64::from(tally.l));
+    line.add_count("d", u64::from(tally.d));
+    line.add_count("s", u64::from(tally.s));
+    line.add_count("lost", u64::from(tally.lost));
+    line.add_count("half", u64::from(tally.half));
     line.put(b" mean");
     add_mean(line, tally);
 }
@@ -313,7 +313,6 @@ fn add_tally(line: &mut OutputLine, tally: &Tally)
 fn add_mean(line: &mut OutputLine, tally: &Tally)
     requires room { length line.old ≤ 400 }
     requires small { tally.now.strength < 2 ^ 56 }
-    requires few { tally.now.s < 2 ^ 56 }
     ensures text { line.new ≡ line.old ++ 0x20 ∷ mean_text tally.now }
     ensures short { length line.new ≤ length line.old + 25 }
 {
@@ -321,7 +320,8 @@ fn add_mean(line: &mut OutputLine, tally: &Tally)
         line.put(b" -");
         return;
     }
-    let mean = (2 * tally.strength + tally.s) / (2 * tally.s);
+    let count = u64::from(tally.s);
+    let mean = (2 * tally.strength + count) / (2 * count);
     line.add_number(mean / 1_000);
     line.add_three(b'.', mean);
 }

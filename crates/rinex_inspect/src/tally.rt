@@ -6,21 +6,22 @@ ghost use Rattle.rinex_inspect.specs.inner.Tables.{plus, with_values};
 use gnss_obs::{GpsTime, Thousandths};
 use rinex_file::SignalValues;
 
-/// What a signal of a satellite has, or a signal of all satellites.
+/// What a signal of a satellite has, or a signal of all satellites. The numbers have 32 bits, as a
+/// file has at most 2^32 lines: a table has 4,140 tallies.
 #[derive(Clone, Copy)]
 pub(crate) struct Tally {
     /// Number of pseudoranges.
-    pub(crate) c: u64,
+    pub(crate) c: u32,
     /// Number of carrier phases.
-    pub(crate) l: u64,
+    pub(crate) l: u32,
     /// Number of Doppler shifts.
-    pub(crate) d: u64,
+    pub(crate) d: u32,
     /// Number of strengths.
-    pub(crate) s: u64,
+    pub(crate) s: u32,
     /// Number of phases at which lock was lost, by bit 0 of the loss-of-lock indicator.
-    pub(crate) lost: u64,
+    pub(crate) lost: u32,
     /// Number of phases that may be off by half a cycle, by bit 1.
-    pub(crate) half: u64,
+    pub(crate) half: u32,
     /// Sum of the strengths in 0.001 dB-Hz.
     pub(crate) strength: u64,
 }
@@ -95,7 +96,7 @@ impl Tally {
 
 /// Returns 1 if it is so, and 0 otherwise.
 #[inline(always)]
-pub(crate) fn one_if(is_so: bool) -> u64
+pub(crate) fn one_if(is_so: bool) -> u32
     ensures { result ≡ (if is_so then 1 else 0) }
 {
     if is_so { 1 } else { 0 }

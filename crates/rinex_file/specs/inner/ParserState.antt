@@ -75,9 +75,14 @@ ShowsLine old new line = (taken : List (List ℕ)) → AreLinesOf old taken → 
 abbrev pub RefusesLine : Progress → List ℕ → Type 0
 RefusesLine s line = (v : FileValue) (left : List (List ℕ)) → HasLinesLeft s v (line ∷ left) → ⊥
 
--- no count is greater than this number of lines
+-- the number of epochs, 0 or 1, whose line was read and not those of all their satellites
+abbrev pub open_epochs : Expected → ℕ
+open_epochs (Satellite n) = 1
+open_epochs other = 0
+
+-- each epoch and each satellite has a line of its own among this number of lines, and no more events are counted
 abbrev pub HasRoom : ParserState → ℕ → Type 0
-HasRoom c lines = (c.counts.epochs ≤ lines) × (c.counts.satellites ≤ lines) × (c.counts.events ≤ lines)
+HasRoom c lines = (c.counts.epochs + open_epochs c.expected + c.counts.satellites ≤ lines) × (c.counts.events ≤ lines)
 
 -- a line of a header is expected; a line of a satellite is
 abbrev pub ExpectsHeader : Expected → Type 0

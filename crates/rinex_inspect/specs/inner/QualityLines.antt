@@ -7,12 +7,12 @@ use Rattle.gnss_system.specs.Signals.{most_signals}
 use Rattle.gnss_system.specs.Systems.{systems}
 use Rattle.rinex_file.specs.FileValues.{planned_in}
 use Rattle.rinex_inspect.specs.QualityOutput.{Contents, period_line, satellite_line, signal_line, texts_below}
-use Rattle.rinex_inspect.specs.Tallies.{no_tally}
+use Rattle.rinex_inspect.specs.Tallies.{no_tally, total}
 use Rattle.rinex_inspect.specs.declared.quality_lines.Lines.{Lines}
 use Rattle.rinex_inspect.specs.declared.quality_lines.Lines.TheVariants.{Signals, Satellites, Period}
 use Rattle.rinex_inspect.specs.declared.table.Table.{Table}
 use Rattle.rinex_inspect.specs.declared.tally.Tally.{Tally}
-use Rattle.rinex_inspect.specs.inner.Tables.{HasPlaces, record_at}
+use Rattle.rinex_inspect.specs.inner.Tables.{HasPlaces, record_at, records_in, tally_at}
 
 -- the number of lines of a system at most
 abbrev pub line_count : Lines → PlanValue → System → ℕ
@@ -32,19 +32,16 @@ system_lines lines plan has s = texts_below (line_at lines plan has s) (line_cou
 abbrev pub all_lines : Lines → PlanValue → Contents → List ℕ
 all_lines lines plan has = flat_map (system_lines lines plan has) systems
 
--- ---- numbers of which sums over satellites or signals fit 64 bits
-
-abbrev pub small : ℕ
-small = 2 ^ 50
+-- ---- numbers that fit 32 bits, and strengths of which twice the sum fits 64 bits
 
 pub record IsSmallTally (t : Tally) : Type 0 where
-  pub c : t.c < small
-  pub l : t.l < small
-  pub d : t.d < small
-  pub s : t.s < small
-  pub lost : t.lost < small
-  pub half : t.half < small
-  pub strength : t.strength < small
+  pub c : t.c < 2 ^ 32
+  pub l : t.l < 2 ^ 32
+  pub d : t.d < 2 ^ 32
+  pub s : t.s < 2 ^ 32
+  pub lost : t.lost < 2 ^ 32
+  pub half : t.half < 2 ^ 32
+  pub strength : t.strength < 2 ^ 56
 
 -- a record with tallies of such numbers
 pub record AreSmallTallies (ts : List Tally) : Type 0 where
@@ -55,6 +52,7 @@ pub record AreSmallTallies (ts : List Tally) : Type 0 where
 pub record IsPrintable (t : Table) (plan : PlanValue) : Type 0 where
   pub places : HasPlaces t
   pub each : (s : System) (i : ℕ) → i < satellites s → AreSmallTallies (record_at t s i).signals
+  pub totals : (s : System) (k : ℕ) → k < most_signals → IsSmallTally (total (tally_at (records_in t s) k) (satellites s))
   pub few : (s : System) → planned_in plan s ≤ most_signals
 
 -- the most bytes of the words of a tally, each after a blank

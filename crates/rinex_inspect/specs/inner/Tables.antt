@@ -15,45 +15,45 @@ use Rattle.rinex_inspect.specs.declared.table.Table.{Table}
 use Rattle.rinex_inspect.specs.declared.tally.Presence.{Presence}
 use Rattle.rinex_inspect.specs.declared.tally.Tally.{Tally}
 
--- ---- counts of 64 bits, which stop at the greatest one; those of no file come near
+-- ---- numbers of some bits, which stop at the greatest one; those of no file are greater
 
-abbrev pub capped : ℕ → ℕ
-capped n = min n (2 ^ 64 - 1)
+abbrev pub capped : (bits n : ℕ) → ℕ
+capped bits n = min n (2 ^ bits - 1)
 
 abbrev pub one_if : Bool → ℕ
 one_if b = if b then 1 else 0
 
 abbrev pub capped_tally : Tally → Tally
 capped_tally t = record {
-  c = capped t.c;
-  l = capped t.l;
-  d = capped t.d;
-  s = capped t.s;
-  lost = capped t.lost;
-  half = capped t.half;
-  strength = capped t.strength;
+  c = capped 32 t.c;
+  l = capped 32 t.l;
+  d = capped 32 t.d;
+  s = capped 32 t.s;
+  lost = capped 32 t.lost;
+  half = capped 32 t.half;
+  strength = capped 64 t.strength;
 }
 
 abbrev pub with_values : Tally → SignalValues → Tally
 with_values t e = record {
-  c = capped (t.c + one_if (is_some e.c));
-  l = capped (t.l + one_if (is_some e.l));
-  d = capped (t.d + one_if (is_some e.d));
-  s = capped (t.s + one_if (is_some e.s));
-  lost = capped (t.lost + one_if (is_lost e));
-  half = capped (t.half + one_if (is_half e));
-  strength = capped (t.strength + strength_of e.s);
+  c = capped 32 (t.c + one_if (is_some e.c));
+  l = capped 32 (t.l + one_if (is_some e.l));
+  d = capped 32 (t.d + one_if (is_some e.d));
+  s = capped 32 (t.s + one_if (is_some e.s));
+  lost = capped 32 (t.lost + one_if (is_lost e));
+  half = capped 32 (t.half + one_if (is_half e));
+  strength = capped 64 (t.strength + strength_of e.s);
 }
 
 abbrev pub plus : Tally → Tally → Tally
 plus t u = record {
-  c = capped (t.c + u.c);
-  l = capped (t.l + u.l);
-  d = capped (t.d + u.d);
-  s = capped (t.s + u.s);
-  lost = capped (t.lost + u.lost);
-  half = capped (t.half + u.half);
-  strength = capped (t.strength + u.strength);
+  c = capped 32 (t.c + u.c);
+  l = capped 32 (t.l + u.l);
+  d = capped 32 (t.d + u.d);
+  s = capped 32 (t.s + u.s);
+  lost = capped 32 (t.lost + u.lost);
+  half = capped 32 (t.half + u.half);
+  strength = capped 64 (t.strength + u.strength);
 }
 
 -- the values of each signal, added to its tally
@@ -70,7 +70,7 @@ before_with n r = if r.presence.epochs == 0 then n - 1 else r.before
 
 abbrev pub present_with : (n time : ℕ) → SatelliteRecord → Presence
 present_with n time r = record {
-  epochs = capped (r.presence.epochs + 1);
+  epochs = capped 64 (r.presence.epochs + 1);
   span = n - before_with n r;
   first = if r.presence.epochs == 0 then time else r.presence.first;
   last = time;
@@ -153,4 +153,4 @@ tally_at rs k i = get_or (get_or rs i no_record).signals k no_tally
 
 -- an epoch without lines was begun at this time
 abbrev pub begun : ℕ → Table → Table
-begun time t = record t { epochs = capped (t.epochs + 1); time = time }
+begun time t = record t { epochs = capped 64 (t.epochs + 1); time = time }

@@ -1,20 +1,21 @@
-use Rattle.std.proofs.Common.{◌≡◌, ◌∙◌, ◌++◌, ◌∷◌, [], ap, arith, codes, List, ℕ}
+use Rattle.std.proofs.Common.{refl, length, ◌≡◌, ◌∙◌, ◌++◌, ◌∷◌, [], ap, arith, codes, List, ℕ}
 use Rattle.rinex_file.specs.inner.Read.EpochSteps.{plan_of}
 use Rattle.rinex_inspect.proofs.QualityTexts.{number_is, signal_is, totals_are, totals_small}
-use Rattle.rinex_inspect.specs.inner.Tables.{contents_in, records_in}
+use Rattle.rinex_inspect.specs.Tallies.{total}
+use Rattle.rinex_inspect.specs.inner.Tables.{contents_in, records_in, tally_at}
 use Rattle.rinex_inspect.proofs.quality_lines.signal_line.Goals as goal
+
+pub total_of-satellites-requires-clause-fits : goal.total_of-satellites-requires-clause-fits
+total_of-satellites-requires-clause-fits c =
+    let t = c.args.table.now in let s = c.args.system in
+    let rs : c.as_slice.result.now ≡ records_in t s = c.as_slice.ensures.value ∙ ap (λ v. v.items) c.of.ensures in
+    totals_small t s (plan_of c.args.file.now) c.args.k c.requires.fits (omega (arith, c.requires.place, c.requires.fits.few s)) (totals_are t s c.args.k {u = total (tally_at c.as_slice.result.now c.args.k) (length c.as_slice.result.now)} rs c.requires.fits.places refl)
 
 pub add_tally-requires-clause-small : goal.add_tally-requires-clause-small
 add_tally-requires-clause-small c =
     let t = c.args.table.now in let s = c.args.system in let k = c.args.k in
     let rs : c.as_slice.result.now ≡ records_in t s = c.as_slice.ensures.value ∙ ap (λ v. v.items) c.of.ensures in
-    (totals_small t s (plan_of c.args.file.now) k c.requires.fits (omega (arith, c.requires.place, c.requires.fits.few s)) (totals_are t s k rs c.requires.fits.places c.total_of-satellites.ensures.total)).0
-
-pub add_tally-requires-clause-few : goal.add_tally-requires-clause-few
-add_tally-requires-clause-few c =
-    let t = c.args.table.now in let s = c.args.system in let k = c.args.k in
-    let rs : c.as_slice.result.now ≡ records_in t s = c.as_slice.ensures.value ∙ ap (λ v. v.items) c.of.ensures in
-    (totals_small t s (plan_of c.args.file.now) k c.requires.fits (omega (arith, c.requires.place, c.requires.fits.few s)) (totals_are t s k rs c.requires.fits.places c.total_of-satellites.ensures.total)).1
+    (totals_small t s (plan_of c.args.file.now) k c.requires.fits (omega (arith, c.requires.place, c.requires.fits.few s)) (totals_are t s k rs c.requires.fits.places c.total_of-satellites.ensures.total)).strength
 
 pub returns : goal.returns
 returns c =

@@ -1,4 +1,4 @@
-use Rattle.std.proofs.Common.{◌∙◌, ℕ, ap, ap₂, arith}
+use Rattle.std.proofs.Common.{◌∙◌, ℕ, ap, ap₂, arith, length}
 use Rattle.rinex_inspect.proofs.QualityTexts.{counted, one_small}
 use Rattle.rinex_inspect.proofs.SumLemmas.{total_more}
 use Rattle.rinex_inspect.specs.Tallies.{has_values}
@@ -11,7 +11,7 @@ loop-i-preserved c =
     let inv = c.loop-i.invariant in
     let f : ℕ → Tally = tally_at c.args.records.now c.args.k in
     record {
-      number = counted (λ (i : ℕ). has_values (f i)) c.loop-i.i inv.number c.one_if-satellites.ensures (c.has_values.ensures ∙ ap has_values c.tally_at-tally.ensures);
-      bound = let one = one_small c.has_values.result c.one_if-satellites.ensures in omega (arith, inv.bound, one);
-      total = c.plus-total.ensures ∙ ap₂ plus inv.total c.tally_at-tally.ensures ∙ total_more f c.loop-i.i (omega (arith, c.loop-i-test.true, c.requires.few)) (λ i fits. (c.requires.each i (omega (arith, fits, c.loop-i-test.true))).each c.args.k c.requires.place);
+      number = counted (λ (i : ℕ). has_values (f i)) c.loop-i.i inv.number (c.from-satellites.ensures ∙ c.one_if.ensures) (c.has_values.ensures ∙ ap has_values c.tally_at-tally.ensures);
+      bound = let one = one_small c.has_values.result (c.from-satellites.ensures ∙ c.one_if.ensures) in omega (arith, inv.bound, one);
+      total = c.plus-total.ensures ∙ ap₂ plus inv.total c.tally_at-tally.ensures ∙ total_more f c.loop-i.i (length c.args.records.now) c.loop-i-test.true c.requires.fits;
     }

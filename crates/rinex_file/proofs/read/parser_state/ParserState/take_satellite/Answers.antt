@@ -3,7 +3,7 @@
 use Rattle.std.specs.Option.{is_some}
 use Rattle.rinex_file.proofs.Reading.Epochs.{bad_of, stopped, rise_after, rise_last, values_more, row_taken, row_shows, last_shows, no_row, bad_row, last_taken, sound_open, few_at, sound_row, sound_closed}
 use Rattle.rinex_file.proofs.FewRows.{some_rank}
-use Rattle.rinex_file.proofs.Names.{arith, ◌≡◌, ◌∙◌, ◌+◌, ◌-◌, ◌<◌, ◌∷◌, ◌++◌, [], ℕ, suc, List, sym, ap, subst, refl, length, length-append, Bool, Option, Some, None, IfSome, option_or, map, ◌≤◌, ◌↔◌, IsStrictlyIncreasing, map-append, sum_by-append, System, Satellite, SatelliteRow, Stamped, StationValues, IsSatelliteRow, changed_by, rank_of, time_stamped, satellite_line, Progress, ReadsExactly, some_if, EpochTimes, AreTimes, AreTimesOrNone, IsLast, changes_of, stamped_at, events_in, progress_at, rows_in, ExpectsRow}
+use Rattle.rinex_file.proofs.Names.{open_epochs, arith, ◌≡◌, ◌∙◌, ◌+◌, ◌-◌, ◌<◌, ◌∷◌, ◌++◌, [], ℕ, suc, List, sym, ap, subst, refl, length, length-append, Bool, Option, Some, None, IfSome, option_or, map, ◌≤◌, ◌↔◌, IsStrictlyIncreasing, map-append, sum_by-append, System, Satellite, SatelliteRow, Stamped, StationValues, IsSatelliteRow, changed_by, rank_of, time_stamped, satellite_line, Progress, ReadsExactly, some_if, EpochTimes, AreTimes, AreTimesOrNone, IsLast, changes_of, stamped_at, events_in, progress_at, rows_in, ExpectsRow}
 use mir.Val.{bool_byte}
 use Rattle.rinex_file.proofs.read.parser_state.ParserState.take_satellite.Goals as goal
 
@@ -99,7 +99,7 @@ returns-then-left-gt1 c = λ h history.
       };
       follows = row_taken s (c.args.left - 1) c.args.line.now (one_expected c.args.left s c.requires.expected some) seen shown.1 shown.2;
       shows = row_shows s (c.args.left - 1) c.args.line.now (one_expected c.args.left s c.requires.expected some) seen shown.1;
-      room = λ n few. let (epochs, rows, events) = few in (omega (arith, epochs), omega (arith, rows), omega (arith, events));
+      room = λ n few. let begun = ap open_epochs c.requires.expected in (omega (arith, begun, few.0), omega (arith, few.1));
       adds = (subst ExpectsRow (sym c.requires.expected) tt, tt, (refl, refl, refl));
     }
 
@@ -139,6 +139,6 @@ returns c = λ h history.
       };
       follows = last_taken s c.args.line.now (c.requires.expected ∙ ap Satellite last) seen shown.1 shown.2;
       shows = last_shows s c.args.line.now (c.requires.expected ∙ ap Satellite last) seen shown.1;
-      room = λ n few. let (epochs, rows, events) = few in (omega (arith, epochs), omega (arith, rows), event_room _ _ n events);
+      room = λ n few. let begun = ap open_epochs c.requires.expected in (omega (arith, begun, few.0), event_room _ _ n few.1);
       adds = (subst ExpectsRow (sym c.requires.expected) tt, refl, (refl, refl, refl));
     }
