@@ -1,23 +1,20 @@
 -- Laws of the definitions of Bits: numbers of w bits, lists of bits and two's complements.
-use Rattle.std.proofs.Common.{ℕ, zero, suc, ℤ, pos, negsuc, ◌≡◌, ◌+◌, ◌-◌, ◌*◌, ◌/◌, ◌%◌, ◌^◌, ◌<◌, ◌≤◌, Bool, true}
-use Rattle.std.proofs.Common.{false, List, [], ◌∷◌, ◌++◌, length, take, refl, sym, ap, ◌∙◌, arith, append_assoc}
-use Rattle.std.proofs.Common.{length-append, subst, ◌⊎◌, inl, inr, add_comm}
+use Rattle.std.proofs.Common.{ℕ, zero, suc, ℤ, pos, negsuc, ◌≡◌, ◌+◌, ◌-◌, ◌*◌, ◌/◌, ◌%◌, ◌^◌, ◌<◌, ◌≤◌, Bool}
+use Rattle.std.proofs.Common.{List, [], ◌∷◌, ◌++◌, length, take, refl, ap, ◌∙◌, arith, append_assoc}
+use Rattle.std.proofs.Common.{length-append, add_comm}
 use Rattle.std.proofs.lemmas.Nat.{mod-pow-add, shr_high, pow_pos}
 use Rattle.std.proofs.Math.Nat.{add-mul-div_right, mod-eq_of_lt, pow-le-pow_right}
 use Rattle.std.proofs.lemmas.Bool.{cases_lt}
 use Rattle.std.proofs.lemmas.List.{length-take-le}
 use mir.Val.{bool_byte}
 use Rattle.rtcm_bits.specs.Bits.{bit, odd, uint, number_from, number, bits_of, signed, raw, FitsInt}
+use Rattle.std.proofs.lemmas.Grind.{common_steps}
 
 pub bit_odd : (n : ℕ) → bit (odd n) ≡ n % 2
-bit_odd n = elim (mod2 n) [ inl z ↦ rw z refl | inr o ↦ rw o refl ]
-  where
-    mod2 : (n : ℕ) → (n % 2 ≡ 0) ⊎ (n % 2 ≡ 1)
-    mod2 n = grind arith
+bit_odd n = grind arith
 
 pub odd_bit : (n : ℕ) (b : Bool) → odd (2 * n + bit b) ≡ b
-odd_bit n false = let e : (2 * n + 0) % 2 ≡ 0 = omega arith in rw e refl
-odd_bit n true = let e : (2 * n + 1) % 2 ≡ 1 = omega arith in rw e refl
+odd_bit n b = grind arith
 
 pub length-uint : (w n : ℕ) → length (uint w n) ≡ w
 unfolding uint
@@ -46,8 +43,7 @@ pub number_of-uint : (w n : ℕ) → n < 2 ^ w → number (uint w n) ≡ n
 number_of-uint w n h = number-uint w 0 n ∙ rw (mod-eq_of_lt h) (omega arith)
 
 pub bit-small : (b : Bool) → bit b < 2
-bit-small false = omega arith
-bit-small true = omega arith
+bit-small b = grind arith
 
 -- the high part and the rest
 pub number-split : (bits : List Bool) (a : ℕ) → number_from a bits ≡ a * 2 ^ length bits + number bits
@@ -63,12 +59,7 @@ number-split (b ∷ bits) a =
 pub number-fits : (bits : List Bool) → number bits < 2 ^ length bits
 unfolding number_from
 number-fits [] = omega arith
-number-fits (b ∷ bits) =
-    rw (number-split bits (2 * 0 + bit b), pow-double (length bits))
-    (step (bit b) (2 ^ length bits) (number bits) (bit-small b) (number-fits bits))
-  where
-    step : (t p r : ℕ) → t < 2 → r < p → (2 * 0 + t) * p + r < 2 * p
-    step t p r s f = grind arith
+number-fits (b ∷ bits) = grind (arith, number-split, pow-double, bit-small, number-fits bits)
 
 pub cons2 : {x y : Bool} {xs ys : List Bool} → x ≡ y → xs ≡ ys → (x ∷ xs) ≡ (y ∷ ys)
 cons2 e f = cc
@@ -93,18 +84,14 @@ uint-low (suc w) a n = cons2 (head w a n) (rw (double w a) (uint-low w (2 * a) n
 pub uint-number : (bits : List Bool) (a : ℕ) → uint (length bits) (number_from a bits) ≡ bits
 unfolding uint number_from
 uint-number [] a = refl
-uint-number (b ∷ bits) a = cons2 (ap odd (top bits (2 * a + bit b)) ∙ odd_bit a b) (uint-number bits (2 * a + bit b))
-  where
-    top : (bits : List Bool) (c : ℕ) → number_from c bits / 2 ^ length bits ≡ c
-    top bits c = rw (number-split bits c) (shr_high c (length bits) (number bits) (number-fits bits))
+uint-number (b ∷ bits) a = grind (arith, cons2, odd_bit, number-split, shr_high, number-fits, uint-number bits (2 * a + bit b))
 
 -- ---- the bits of bytes
 
 pub bits_of-append : (xs ys : List ℕ) → bits_of (xs ++ ys) ≡ bits_of xs ++ bits_of ys
 unfolding bits_of
 bits_of-append [] ys = refl
-bits_of-append (x ∷ xs) ys =
-    ap (λ t. uint 8 x ++ t) (bits_of-append xs ys) ∙ sym (append_assoc (uint 8 x) (bits_of xs) (bits_of ys))
+bits_of-append (x ∷ xs) ys = grind (arith, append_assoc, bits_of-append xs ys)
 
 pub length-bits_of : (xs : List ℕ) → length (bits_of xs) ≡ 8 * length xs
 unfolding bits_of
@@ -112,13 +99,11 @@ length-bits_of [] = refl
 length-bits_of (x ∷ xs) = length-append (uint 8 x) (bits_of xs) ∙ omega (arith, length-uint 8 x, length-bits_of xs)
 
 pub number-take-fits : (l : List Bool) (w : ℕ) → w ≤ length l → number (take w l) < 2 ^ w
-number-take-fits l w h =
-    let P : ℕ → Type 0 = λ n. number (take w l) < 2 ^ n in subst P (length-take-le w l h) (number-fits (take w l))
+number-take-fits l w h = grind (arith, length-take-le, number-fits)
 
 -- a boolean as a number
 pub byte-bit : (b : Bool) → bool_byte b ≡ bit b
-byte-bit false = refl
-byte-bit true = refl
+byte-bit b = cc
 
 -- ---- two's complements
 
@@ -126,8 +111,7 @@ pub pow_mono : (i j : ℕ) → i ≤ j → 2 ^ i ≤ 2 ^ j
 pow_mono i j h = pow-le-pow_right (omega arith) h
 
 pub half : (w : ℕ) → 0 < w → 2 ^ w ≡ 2 * 2 ^ (w - 1)
-half zero h = absurd (omega arith)
-half (suc w) h = let e : suc w - 1 ≡ w = omega arith in rw e (omega arith)
+half w h = grind (arith, common_steps)
 
 pub signed_low : (v w : ℕ) → v < 2 ^ (w - 1) → signed w v ≡ pos v
 signed_low v w h = grind arith
@@ -136,23 +120,13 @@ pub signed_high : (v w : ℕ) → 2 ^ (w - 1) ≤ v → signed w v ≡ negsuc (2
 signed_high v w h = grind arith
 
 pub raw_fits : (z : ℤ) (w : ℕ) → 0 < w → FitsInt w z → raw w z < 2 ^ w
-raw_fits (pos n) w some h = omega (arith, half w some)
-raw_fits (negsuc n) w some h = omega (arith, half w some)
+raw_fits z w some h = grind (arith, half)
 
 pub raw-signed : (w n : ℕ) → 0 < w → n < 2 ^ w → raw w (signed w n) ≡ n
-raw-signed w n some fits = elim (cases_lt n (2 ^ (w - 1))) [
-  | inl low ↦ rw (signed_low n w low) refl
-  | inr high ↦ rw (signed_high n w high) (omega arith)
-]
+raw-signed w n some fits = grind (arith, cases_lt, signed_low, signed_high)
 
 pub signed-raw : (w : ℕ) (z : ℤ) → 0 < w → FitsInt w z → signed w (raw w z) ≡ z
-signed-raw w (pos n) some fits = signed_low n w fits
-signed-raw w (negsuc n) some fits =
-    let top = half w some in
-    signed_high (2 ^ w - (n + 1)) w (omega arith) ∙ ap negsuc (omega arith)
+signed-raw w z some fits = grind (arith, signed_low, half, signed_high)
 
 pub signed-fits : (w n : ℕ) → 0 < w → n < 2 ^ w → FitsInt w (signed w n)
-signed-fits w n some fits = elim (cases_lt n (2 ^ (w - 1))) [
-  | inl low ↦ rw (signed_low n w low) low
-  | inr high ↦ rw (signed_high n w high) (omega (arith, half w some))
-]
+signed-fits w n some fits = grind (arith, cases_lt, signed_low, signed_high, half)

@@ -61,9 +61,7 @@ unfolding remainder after_bits
 divide_all r [] h =
     let e : add_front r (replicate 24 false) ≡ r = (let t = add_front_to_zeros r in rw h at t) in e
 divide_all [] (b ∷ m) h = absurd (omega arith)
-divide_all (c ∷ r) (b ∷ m) h =
-    divide_step c b r (m ++ replicate 24 false) (length m) (omega (arith, h)) (omega (arith, length-append m (replicate 24 false), length-replicate 24 false))
-    ∙ divide_all (after_bit (c ∷ r) b) m (length-after_bit (c ∷ r) b (omega arith) ∙ h)
+divide_all (c ∷ r) (b ∷ m) h = grind (arith, divide_step, length-append, length-replicate, length-after_bit, divide_all (after_bit (c ∷ r) b) m (length-after_bit (c ∷ r) b (omega arith) ∙ h))
 
 pub after_bits-append : (r xs ys : List Bool) → after_bits r (xs ++ ys) ≡ after_bits (after_bits r xs) ys
 unfolding after_bits

@@ -21,28 +21,12 @@ three_bytes h m l j k = uint-split 8 16 h (m * 256 + l) (omega (arith, j, k)) �
 
 taken_in : (h m l a b c : ℕ) (rest : List Bool) → add_front (uint 8 h ++ (uint 8 m ++ uint 8 l)) (uint 8 a ++ (uint 8 b ++ (uint 8 c ++ rest)))
     ≡ uint 8 (bit_xor h a) ++ (uint 8 (bit_xor m b) ++ (uint 8 (bit_xor l c) ++ rest))
-taken_in h m l a b c rest =
-    let same : (x y : ℕ) → length (uint 8 x) ≡ length (uint 8 y) = λ x y. length-uint 8 x ∙ sym (length-uint 8 y) in
-    add_split (uint 8 h) (uint 8 a) (uint 8 m ++ uint 8 l) (uint 8 b ++ (uint 8 c ++ rest)) (same h a)
-    ∙ ap (λ (t : List Bool). t ++ add_front (uint 8 m ++ uint 8 l) (uint 8 b ++ (uint 8 c ++ rest))) (sym (uint-xor 8 h a))
-    ∙ ap (λ (t : List Bool). uint 8 (bit_xor h a) ++ t)
-    (add_split (uint 8 m) (uint 8 b) (uint 8 l) (uint 8 c ++ rest) (same m b)
-    ∙ ap (λ (t : List Bool). t ++ add_front (uint 8 l) (uint 8 c ++ rest)) (sym (uint-xor 8 m b))
-    ∙ ap (λ (t : List Bool). uint 8 (bit_xor m b) ++ t)
-    (add_front-append (uint 8 l) (uint 8 c) rest (omega (arith, length-uint 8 l, length-uint 8 c)) ∙ ap (λ (t : List Bool). t ++ rest) (sym (uint-xor 8 l c))))
+taken_in h m l a b c rest = grind (arith, length-uint, add_split, uint-xor, add_front-append)
 
 pub into_bytes : (x h a b c : ℕ) (rest : List ℕ) → x ≡ h * 65536 + (x / 256 % 256 * 256 + x % 256)
     → after_bits (uint 24 x) (bits_of (a ∷ b ∷ c ∷ rest)) ≡ uint 24 (crc (bit_xor h a ∷ bit_xor (x / 256 % 256) b ∷ bit_xor (x % 256) c ∷ rest))
 unfolding bits_of
-into_bytes x h a b c rest e =
-    let m : ℕ = x / 256 % 256 in
-    let l : ℕ = x % 256 in
-    let s : uint 24 x ≡ uint 8 h ++ (uint 8 m ++ uint 8 l) = ap (uint 24) e ∙ three_bytes h (x / 256 % 256) (x % 256) (omega arith) (omega arith) in
-    let n : length (bits_of (a ∷ b ∷ c ∷ rest)) ≡ 24 + length (bits_of rest) =
-    omega (arith, length-uint 8 a, length-uint 8 b, length-uint 8 c, length-append (uint 8 a) (uint 8 b ++ (uint 8 c ++ bits_of rest)), length-append (uint 8 b) (uint 8 c ++ bits_of rest), length-append (uint 8 c) (bits_of rest)) in
-    into_front (uint 24 x) (bits_of (a ∷ b ∷ c ∷ rest)) (length-uint 24 x) (omega (arith, n))
-    ∙ ap (λ (t : List Bool). bits_remainder (add_front t (bits_of (a ∷ b ∷ c ∷ rest)))) s
-    ∙ ap bits_remainder (taken_in h m l a b c (bits_of rest)) ∙ sym (check_is (bit_xor h a ∷ bit_xor m b ∷ bit_xor l c ∷ rest))
+into_bytes x h a b c rest e = grind (arith, three_bytes, length-uint, length-append, into_front, taken_in, check_is)
 
 -- each table is the one before it, with eight bits of 0 more
 abbrev pub next_entry : ℕ → ℕ

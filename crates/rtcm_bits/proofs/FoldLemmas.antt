@@ -1,5 +1,5 @@
 -- The CRC of folded bytes: a byte that is taken away and added to those 69, 71, 79, 85 and 96 places further on.
-use Rattle.rtcm_bits.proofs.Names.{◌≡◌, ℕ, ◌+◌, ◌-◌, ◌/◌, ◌%◌, ◌^◌, ◌<◌, ◌≤◌, Bool, true, false, eqb, List, [], ◌∷◌, ◌++◌, length, drop, take, get_or, replicate, refl, sym, ap, ◌∙◌, arith, suc, zero, bit_xor, length-append, lit<, lit≤, xor_assoc, xor_zero_r, drop-replicate, agree_below_at, eqb-true, append_assoc, length-replicate, replicate-append-replicate, length-drop, length-take-le, drop-drop, drop-append-le, take-append-drop, take-append-le, take_all, drop-append_seam, drop-append-add, drop-length, xor_lt, xor_comm, uint, number, number_from, bits_of, add_front, remainder, bits_remainder, crc, after_bits, add_bytes, fold_into, Sixes, TABLES, length-uint, bits_of-append}
+use Rattle.rtcm_bits.proofs.Names.{◌≡◌, ℕ, ◌+◌, ◌-◌, ◌/◌, ◌%◌, ◌^◌, ◌<◌, ◌≤◌, Bool, true, false, eqb, List, [], ◌∷◌, ◌++◌, length, drop, take, get_or, replicate, refl, sym, ap, ◌∙◌, arith, suc, zero, bit_xor, length-append, lit<, lit≤, xor_assoc, xor_zero_r, drop-replicate, agree_below_at, eqb-true, append_assoc, length-replicate, replicate-append-replicate, length-drop, length-take-le, drop-drop, drop-append-le, take-append-drop, take-append-le, take_all, drop-append_seam, drop-append-add, drop-length, xor_lt, xor_comm, uint, number, number_from, bits_of, add_front, remainder, bits_remainder, crc, after_bits, add_bytes, fold_into, Sixes, TABLES, length-uint, bits_of-append, common_steps}
 use Rattle.rtcm_bits.proofs.RegisterBits.{uint-xor, uint-mod}
 use Rattle.rtcm_bits.proofs.CheckLemmas.{divide_all, remainder_is, after_bits-append}
 use Rattle.rtcm_bits.proofs.RegisterLemmas.{check_is, check_below}
@@ -97,8 +97,7 @@ several_split : (u v : List ℕ) (n : ℕ) → several (u ++ v) n ≡ bit_xor (s
 several_split u v n = grind (arith, length-append, length-replicate, append_assoc, split_check, bit_xor)
 
 several_next : (v : List ℕ) (n m : ℕ) → m ≡ n + 1 → several v m ≡ next_entry (several v n)
-several_next v n m e =
-    ap (several v) e ∙ sym (zero_after (v ++ replicate n 0) ∙ ap crc (append_assoc v (replicate n 0) (0 ∷ []) ∙ ap (λ (l : List ℕ). v ++ l) (replicate-append-replicate n 1 0)))
+several_next v n m e = grind (arith, common_steps, zero_after, append_assoc, replicate-append-replicate)
 
 -- the same of one byte, as computed from the tables
 abbrev moved : ℕ → ℕ → ℕ
@@ -148,33 +147,19 @@ length-fold (o ∷ os) w m = length-add (drop o w) (fold_at os w m) ∙ length-f
 
 fold_check : (os w m : List ℕ) (t : ℕ) → Small os → 27 ≤ length w → length w + t ≡ length m → crc (fold_at os w m) ≡ bit_xor (parts os w t) (crc m)
 fold_check [] w m t s h e = sym (xor_comm 0 (crc m) ∙ xor_zero_r (crc m))
-fold_check (o ∷ os) w m t s h e =
-    sum_check (drop o w) (fold_at os w m) (o + t) (size w m t s.0 h e (length-fold os w m))
-    ∙ ap (bit_xor (several (drop o w) (o + t))) (fold_check os w m t s.1 h e) ∙ sym (xor_assoc (several (drop o w) (o + t)) (parts os w t) (crc m))
-  where
-    size : {o n : ℕ} (w m : List ℕ) (t : ℕ) → o ≤ 27 → 27 ≤ length w → length w + t ≡ length m → n ≡ length m → length (drop o w) + (o + t) ≡ n
-    size {o} w m t g h e l = omega (arith, length-drop o w, g, h, e, l)
+fold_check (o ∷ os) w m t s h e = grind (arith, common_steps, sum_check, length-fold, length-drop, fold_check os w m t s.1 h e)
 
 drop_swap : (k j : ℕ) (l : List ℕ) → drop k (drop j l) ≡ drop j (drop k l)
 drop_swap k j l = let e : j + k ≡ k + j = omega arith in drop-drop k j l ∙ ap (λ (n : ℕ). drop n l) e ∙ sym (drop-drop j k l)
 
 fold_drop : (k : ℕ) (os w m : List ℕ) → drop k (fold_at os w m) ≡ fold_at os (drop k w) (drop k m)
 fold_drop k [] w m = refl
-fold_drop k (o ∷ os) w m =
-    drop-add k (drop o w) (fold_at os w m) ∙ ap (λ (l : List ℕ). add_bytes l (drop k (fold_at os w m))) (drop_swap k o w)
-    ∙ ap (add_bytes (drop o (drop k w))) (fold_drop k os w m)
+fold_drop k (o ∷ os) w m = grind (arith, drop-add, drop_swap, fold_drop k os w m)
 
 parts_more : (os u v : List ℕ) (t : ℕ) → Small os → 27 ≤ length u → length v ≡ 16
     → parts os (u ++ v) t ≡ bit_xor (parts os u (16 + t)) (total os (λ (o : ℕ). several v (o + t)))
 parts_more [] u v t s h k = refl
-parts_more (o ∷ os) u v t s h k =
-    let e : length v + (o + t) ≡ o + (16 + t) = omega (arith, k) in
-    let a : ℕ = several (drop o u) (o + (16 + t)) in
-    let b : ℕ = several v (o + t) in
-    let q : several (drop o (u ++ v)) (o + t) ≡ bit_xor a b =
-    ap (λ (l : List ℕ). several l (o + t)) (drop-append-le o u v (omega (arith, s.0, h))) ∙ several_split (drop o u) v (o + t) ∙ ap (λ (n : ℕ). bit_xor (several (drop o u) n) b) e in
-    ap (λ (n : ℕ). bit_xor n (parts os (u ++ v) t)) q ∙ ap (bit_xor (bit_xor a b)) (parts_more os u v t s.1 h k)
-    ∙ swap_inner a b (parts os u (16 + t)) (total os (λ (o : ℕ). several v (o + t)))
+parts_more (o ∷ os) u v t s h k = grind (arith, drop-append-le, several_split, swap_inner, parts_more os u v t s.1 h k)
 
 -- sixteen bytes are taken away
 pub fold_step : (w a rest : List ℕ) (t : ℕ) → length w ≡ 96 → length a ≡ 16 → length rest ≡ 96 + t
@@ -279,9 +264,7 @@ start_folded x (a ∷ b ∷ c ∷ rest) h k =
 -- the last bytes, to which nothing but what was folded before is added
 fold_zeros : (os u : List ℕ) (k : ℕ) (m : List ℕ) → Small os → 27 ≤ length u → fold_at os (u ++ replicate k 0) m ≡ fold_at os u m
 fold_zeros [] u k m s h = refl
-fold_zeros (o ∷ os) u k m s h =
-    ap (λ (t : List ℕ). add_bytes t (fold_at os (u ++ replicate k 0) m)) (drop-append-le o u (replicate k 0) (omega (arith, s.0, h)))
-    ∙ zeros_end (drop o u) k (fold_at os (u ++ replicate k 0) m) ∙ ap (add_bytes (drop o u)) (fold_zeros os u k m s.1 h)
+fold_zeros (o ∷ os) u k m s h = grind (arith, drop-append-le, zeros_end, fold_zeros os u k m s.1 h)
 
 fold_none : (os : List ℕ) (n : ℕ) (m : List ℕ) → fold_at os (replicate n 0) m ≡ m
 fold_none [] n m = refl

@@ -16,8 +16,7 @@ unfolding fold_into
 first_folded w m h = folded_first offsets w (take 16 m) m (take_all 16 (take 16 m) (omega (arith, length-take-le 16 m h)))
 
 next_is : (w bytes v : List ℕ) (t n : ℕ) → t + 16 ≤ length bytes → n ≡ 16 → v ≡ take 16 (fold_into w (take n (drop t bytes))) → v ≡ take 16 (fold_into w (drop t bytes))
-next_is w bytes v t n h k e =
-    e ∙ ap (λ (m : ℕ). take 16 (fold_into w (take m (drop t bytes)))) k ∙ first_folded w (drop t bytes) (omega (arith, length-drop t bytes, h))
+next_is w bytes v t n h k e = grind (arith, first_folded, length-drop)
 
 -- the next sixteen bytes v from t on, with all that was folded to them, after which `last` takes the place of the earliest of w
 pub record IsStep (w bytes v next last : List ℕ) (t n : ℕ) : Type 0 where

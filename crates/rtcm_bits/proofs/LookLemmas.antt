@@ -1,5 +1,5 @@
 -- The counts of looks of a window. Only the first ones are stored.
-use Rattle.rtcm_bits.proofs.Names.{◌≡◌, ℕ, ◌+◌, ◌-◌, ◌<◌, ◌≤◌, min, max, List, [], ◌∷◌, ◌++◌, length, drop, replicate, slice_index, slice_set, refl, sym, ap, ◌∙◌, arith, suc, zero, length-append, length-drop, append_assoc, ⊎_elim, drop-append-le, drop-replicate, drop-set-lt, get_or-append-add, get_or-append_right, get_or_append_left, get_or-replicate, get_or-set_other, length-replicate, replicate-append-replicate, set-append_left, cases_lt, drop-append-add, get_or-append_seam, set-append_seam, Buffer, buffer, WindowValue, held_of, filled_up, counts_alone, looked_through, pushed_all, without_front}
+use Rattle.rtcm_bits.proofs.Names.{◌≡◌, ℕ, ◌+◌, ◌-◌, ◌<◌, ◌≤◌, min, max, List, [], ◌∷◌, ◌++◌, length, drop, replicate, slice_index, slice_set, refl, sym, ap, ◌∙◌, arith, suc, zero, length-append, length-drop, append_assoc, ⊎_elim, drop-append-le, drop-replicate, drop-set-lt, get_or-append-add, get_or-append_right, get_or_append_left, get_or-replicate, get_or-set_other, length-replicate, replicate-append-replicate, set-append_left, cases_lt, drop-append-add, get_or-append_seam, set-append_seam, Buffer, buffer, WindowValue, held_of, filled_up, counts_alone, looked_through, pushed_all, without_front, common_steps, rules}
 use Rattle.rtcm_bits.proofs.WindowLaws.{AgreeFrom, looked_length, shifted, through_counts}
 
 -- the sums of a window before and after looks at k bytes: e and e' count all looks, m is the largest count after them
@@ -13,8 +13,7 @@ pub filled_more : (xs : List ℕ) (o n k : ℕ) → length xs + o ≤ n → fill
 filled_more xs o n k h = grind (arith, replicate-append-replicate, append_assoc)
 
 pub filled_length : (xs : List ℕ) (o n : ℕ) → length xs + o ≤ n → length (filled_up xs o n) ≡ n
-filled_length xs o n h =
-    simp (length-append, length-replicate) (omega (arith, h))
+filled_length xs o n h = grind (arith, length-append, length-replicate)
 
 -- all counts of the first bytes stored
 pub filled_out : (xs ys : List ℕ) (o n k : ℕ) → ys ≡ filled_up xs o k → length xs + o ≤ k → k ≤ n → filled_up ys 0 n ≡ filled_up xs o n
@@ -50,11 +49,7 @@ first_looks {e} b xs o n m (suc k) h g = grind (arith, first_look, (first_looks 
 -- the second look at the first byte looked at once
 second_look : (xs : List ℕ) (p n : ℕ) → (slice_index (filled_up xs (suc p) n) (length xs) ≡ 1)
     × (slice_set (filled_up xs (suc p) n) (length xs) 2 ≡ filled_up (xs ++ 2 ∷ []) p n)
-second_look xs p n =
-    let l : length (xs ++ 2 ∷ []) + p ≡ length xs + suc p = simp length-append (omega arith) in
-    let a = count_at xs (replicate p 1 ++ replicate (n - (length xs + suc p)) 0) 1 2 (length xs) refl in
-    let t : (xs ++ 2 ∷ []) ++ (replicate p 1 ++ replicate (n - (length xs + suc p)) 0) ≡ xs ++ (2 ∷ (replicate p 1 ++ replicate (n - (length xs + suc p)) 0)) = simp append_assoc in
-    rw (l, t) a
+second_look xs p n = grind (arith, common_steps, length-append, count_at, append_assoc)
 
 pub second_look_at : {b ys : List ℕ} {o q e e' m m' s k : ℕ} {w : WindowValue} (xs : List ℕ) → held_of b (filled_up xs o (length b)) e m ≡ w → s ≡ length xs → o ≡ suc q
     → k ≡ 1 → ys ≡ xs ++ 2 ∷ [] → AreSums e e' k m' (max m 2) → held_of b (filled_up ys q (length b)) e' m' ≡ looked_through w s k
@@ -109,20 +104,17 @@ dropped_past xs o n d h =
 -- first looks at the bytes from s on, of a window with the view w
 pub first_looks_at : {b : List ℕ} {e e' m m' s k : ℕ} {w : WindowValue} (xs : List ℕ) (o : ℕ) → held_of b (filled_up xs o (length b)) e m ≡ w → s ≡ length xs + o
     → s + k ≤ length b → AreSums e e' k m' (max m (min k 1)) → held_of b (filled_up xs (o + k) (length b)) e' m' ≡ looked_through w s k
-first_looks_at {b} {m} {k} xs o v h g t =
-    rw (t.sum, t.most, h, ← v) (sym (first_looks b xs o (length b) m k (omega (arith, g, h)) t.few))
+first_looks_at {b} {m} {k} xs o v h g t = grind (arith, first_looks)
 
 -- more bytes in the ring
 pub view_grown : {b' : Buffer ℕ} {e m : ℕ} {w : WindowValue} (b : Buffer ℕ) (more xs : List ℕ) (o : ℕ) → held_of b.items (filled_up xs o (length b.items)) e m ≡ w
     → b' ≡ buffer (b.items ++ more) b.capacity → length xs + o ≤ length b.items → held_of b'.items (filled_up xs o (length b'.items)) e m ≡ pushed_all w more
-view_grown b more xs o v x h =
-    rw (x, length-append b.items more, filled_more xs o (length b.items) (length more) h, ← v) refl
+view_grown b more xs o v x h = grind (arith, length-append, filled_more)
 
 -- the last bytes of the ring, when no count is stored
 pub view_dropped : {b b' ys : List ℕ} {p e m j n : ℕ} {w : WindowValue} (xs : List ℕ) (o : ℕ) → held_of b (filled_up xs o (length b)) e m ≡ w
     → b' ≡ drop j b → j ≡ n → ys ≡ [] → p ≡ o - (n - length xs) → length xs ≤ n → held_of b' (filled_up (drop 0 ys) p (length b')) e m ≡ without_front w n
-view_dropped {b} {n} xs o v x f y q h =
-    rw (x, f, y, q, length-drop n b, ← dropped_past xs o (length b) n h, ← v) refl
+view_dropped {b} {n} xs o v x f y q h = grind (arith, length-drop, dropped_past)
 
 -- looks at bytes that are dropped next
 same_from : (xs : List ℕ) (m s k d : ℕ) → s + k ≤ d → drop d (looked_through (counts_alone xs m) s k).looks ≡ drop d xs
@@ -147,16 +139,10 @@ last_stored {b} {e} {m} {k} xs f o s v h t d l =
 
 seen_twice : (xs : List ℕ) (m s k : ℕ) → slice_index xs s ≡ 1 → ((j : ℕ) → slice_index xs (s + j) ≤ 1) → (looked_through (counts_alone xs m) s (suc k)).most ≡ max m 2
 seen_twice xs m s zero f g = let z : s + 0 ≡ s = omega arith in rw (z, f) refl
-seen_twice xs m s (suc k) f g =
-    let a = same_at xs m s (suc k) (s + suc k) (omega arith) in
-    rw (seen_twice xs m s k f g, a) (at_most m (slice_index xs (s + suc k)) (g (suc k)))
-  where
-    at_most : (m n : ℕ) → n ≤ 1 → max (max m 2) (min (n + 1) 65535) ≡ max m 2
-    at_most m n h = grind arith
+seen_twice xs m s (suc k) f g = search (rules, same_at, seen_twice xs m s k f g)
 
 at_once : (xs : List ℕ) (o z j : ℕ) → j < o → slice_index (xs ++ (replicate o 1 ++ replicate z 0)) (length xs + j) ≡ 1
-at_once xs o z j h = get_or-append-add xs (replicate o 1 ++ replicate z 0) j 0
-    ∙ get_or_append_left (replicate o 1) (replicate z 0) 0 j (omega (arith, h, length-replicate {A = ℕ} o 1)) ∙ get_or-replicate o j 1 0 h
+at_once xs o z j h = grind (arith, get_or-append-add, get_or_append_left, length-replicate, get_or-replicate)
 
 zeros_at : (z i : ℕ) → slice_index (replicate z 0) i ≡ 0
 zeros_at zero i = refl
@@ -164,8 +150,7 @@ zeros_at (suc z) zero = refl
 zeros_at (suc z) (suc i) = zeros_at z i
 
 not_once : (xs : List ℕ) (o z j : ℕ) → o ≤ j → slice_index (xs ++ (replicate o 1 ++ replicate z 0)) (length xs + j) ≡ 0
-not_once xs o z j h = get_or-append-add xs (replicate o 1 ++ replicate z 0) j 0
-    ∙ get_or-append_right (replicate o 1) (replicate z 0) o j 0 (length-replicate {A = ℕ} o 1) h ∙ zeros_at z (j - o)
+not_once xs o z j h = grind (arith, get_or-append-add, get_or-append_right, length-replicate, zeros_at)
 
 at_most_once : (xs : List ℕ) (o z j : ℕ) → slice_index (xs ++ (replicate o 1 ++ replicate z 0)) (length xs + j) ≤ 1
 at_most_once xs o z j = grind (arith, at_once, not_once, cases_lt)

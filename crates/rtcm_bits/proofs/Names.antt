@@ -27,3 +27,4 @@ pub use Rattle.std.specs.Int.Signed.{shr_z}
 pub use Rattle.std.specs.Io.KnownBytes.{Appends, Keeps, append_known}
 pub use Rattle.std.specs.Prelude.{Ok, OnOk, Result, if◌then◌else◌, is_ok}
 pub use Rattle.std.specs.Vec.{vec_len}
+pub use Rattle.std.proofs.lemmas.Grind.{common_steps}

@@ -46,17 +46,11 @@ part_of_bytes (x ∷ xs) (suc q) r n h k =
 -- n more bits
 pub number-more : (l : List Bool) (place i n : ℕ) → place + i + n ≤ length l
     → number (take (i + n) (drop place l)) ≡ number (take i (drop place l)) * 2 ^ n + number (take n (drop (place + i) l))
-number-more l place i n h =
-    let d : length (drop (place + i) l) ≡ length l - (place + i) = length-drop (place + i) l in
-    let len : length (take n (drop (place + i) l)) ≡ n = length-take-le n (drop (place + i) l) (omega arith) in
-    let s = number-split (take n (drop (place + i) l)) (number (take i (drop place l))) in
-    ap number (take-add i n (drop place l) ∙ ap (λ t. take i (drop place l) ++ take n t) (drop-drop i place l)) ∙ number-append (take i (drop place l)) (take n (drop (place + i) l)) 0 ∙ (rw len at s)
+number-more l place i n h = grind (arith, length-drop, length-take-le, number-split, take-add, drop-drop, number-append)
 
 -- a number of up to 64 bits fits
 short_fits : (l : List Bool) (i : ℕ) → i ≤ 64 → i ≤ length l → number (take i l) < 2 ^ 64
-short_fits l i h k =
-    let p : 2 ^ i ≤ 2 ^ 64 = pow-le-pow_right (omega arith) h in
-    omega (arith, p, number-take-fits l i k)
+short_fits l i h k = grind (arith, pow-le-pow_right, number-take-fits)
 
 pub record Next (xs : List ℕ) (place at n before part : ℕ) : Type 0 where
   pub value : before * 2 ^ n % 2 ^ 64 + part ≡ number (take (at + n - place) (drop place (bits_of xs)))

@@ -5,8 +5,7 @@ use Rattle.rtcm_bits.proofs.Names.{◌≡◌, ℕ, ◌+◌, ◌-◌, ◌*◌, �
 pub uint-cat : (w a k b : ℕ) → w ≤ k → uint w (a * 2 ^ k + b) ≡ uint w b
 unfolding uint
 uint-cat zero a k b h = refl
-uint-cat (suc w) a k b h =
-    rw (bit_at_cat_low a k b w (omega arith), uint-cat w a k b (omega arith)) refl
+uint-cat (suc w) a k b h = grind (arith, bit_at_cat_low, uint-cat w a k b (omega arith))
 
 pub uint-mod : (w k n : ℕ) → w ≤ k → uint w (n % 2 ^ k) ≡ uint w n
 uint-mod w k n h = sym (uint-cat w (n / 2 ^ k) k (n % 2 ^ k) h) ∙ ap (uint w) (div-add-mod' n (2 ^ k))

@@ -1,5 +1,5 @@
 -- The register as a number.
-use Rattle.rtcm_bits.proofs.Names.{◌≡◌, ℕ, ◌^◌, ◌<◌, Bool, List, [], ◌∷◌, ◌++◌, length, refl, sym, ap, ◌∙◌, uint, number, number_from, bits_of, crc, bits_remainder, after_bits, uint-number, number-fits, bits_of-append, number_of-uint, append-nil}
+use Rattle.rtcm_bits.proofs.Names.{◌≡◌, ℕ, ◌^◌, ◌<◌, Bool, List, [], ◌∷◌, ◌++◌, refl, sym, ap, ◌∙◌, uint, number, number_from, bits_of, crc, bits_remainder, after_bits, uint-number, number-fits, bits_of-append, number_of-uint, append-nil, arith}
 use Rattle.rtcm_bits.proofs.CheckLemmas.{after_bits-append, remainder-append, length-bits_remainder}
 
 -- the bits of a CRC are the remainder
@@ -11,9 +11,7 @@ check_is m =
 
 pub check_below : (m : List ℕ) → crc m < 2 ^ 24
 unfolding crc
-check_below m =
-    let r = bits_remainder (bits_of m) in
-    let h : number r < 2 ^ length r = number-fits r in rw (length-bits_remainder (bits_of m)) at h
+check_below m = grind (arith, number-fits, length-bits_remainder)
 
 -- several more bytes
 pub check_append : (m bytes : List ℕ) (x y : ℕ) → x ≡ crc m → y < 2 ^ 24 → uint 24 y ≡ after_bits (uint 24 x) (bits_of bytes) → y ≡ crc (m ++ bytes)
@@ -39,8 +37,7 @@ no_steps r = refl
 -- more bytes, one after the other
 pub steps_more : {all : List ℕ} (r : List Bool) (bytes more : List ℕ) (x y : ℕ) → all ≡ bytes ++ more → uint 24 x ≡ after_bits r (bits_of bytes) → uint 24 y ≡ after_bits (uint 24 x) (bits_of more)
     → uint 24 y ≡ after_bits r (bits_of all)
-steps_more r bytes more x y m e f =
-    f ∙ ap (λ t. after_bits t (bits_of more)) e ∙ sym (after_bits-append r (bits_of bytes) (bits_of more)) ∙ ap (after_bits r) (sym (bits_of-append bytes more) ∙ ap bits_of (sym m))
+steps_more r bytes more x y m e f = grind (arith, after_bits-append, bits_of-append)
 
 pub steps_push : {more : List ℕ} (r : List Bool) (bytes : List ℕ) (x y b : ℕ) → more ≡ bytes ++ b ∷ [] → uint 24 x ≡ after_bits r (bits_of bytes) → uint 24 y ≡ after_bits (uint 24 x) (uint 8 b)
     → uint 24 y ≡ after_bits r (bits_of more)

@@ -61,8 +61,7 @@ step_none (false ∷ r) l h =
 steps_none : (k : ℕ) (r : List Bool) → length r ≡ 24 → after_bits r (replicate k false) ≡ replicate 24 false → r ≡ replicate 24 false
 unfolding after_bits
 steps_none zero r l h = h
-steps_none (suc k) r l h =
-    step_none r l (steps_none k (after_bit r false) (length-after_bit r false (omega arith) ∙ l) h)
+steps_none (suc k) r l h = grind (arith, step_none, length-after_bit, steps_none k (after_bit r false) (length-after_bit r false (omega arith) ∙ l) h)
 
 -- a register and 24 further bits
 sum_after : (r n : List Bool) → length r ≡ 24 → length n ≡ 24 → after_bits r n ≡ after_bits (add_front r n) (replicate 24 false)
@@ -101,14 +100,7 @@ length-three x y z = length-append (uint 8 x) (uint 8 y ++ uint 8 z) ∙ ap (λ 
 
 number-three : (x y z : ℕ) → x < 256 → y < 256 → z < 256 → number (three x y z) ≡ x * 65536 + y * 256 + z
 unfolding three
-number-three x y z h k l =
-    let a : number (uint 8 x) ≡ x = number_of-uint 8 x h in
-    let b : number (uint 8 y) ≡ y = number_of-uint 8 y k in
-    let c : number (uint 8 z) ≡ z = number_of-uint 8 z l in
-    let d : length (uint 8 y ++ uint 8 z) ≡ 16 = length-append (uint 8 y) (uint 8 z) ∙ omega (arith, length-uint 8 y, length-uint 8 z) in
-    let e : number (uint 8 y ++ uint 8 z) ≡ y * 2 ^ 8 + z = number-append (uint 8 y) (uint 8 z) ∙ (rw (b, c, length-uint 8 z) refl) in
-    let f : number (three x y z) ≡ x * 2 ^ 16 + (y * 2 ^ 8 + z) = number-append (uint 8 x) (uint 8 y ++ uint 8 z) ∙ (rw (a, d, e) refl) in
-    f ∙ omega arith
+number-three x y z h k l = grind (arith, number_of-uint, length-append, length-uint, number-append, three)
 
 bytes_three : (x y z : ℕ) → bits_of (x ∷ y ∷ z ∷ []) ≡ three x y z
 unfolding bits_of three uint
@@ -116,9 +108,7 @@ bytes_three x y z = ap (λ q. uint 8 x ++ (uint 8 y ++ q)) (append-nil (uint 8 z
 
 check_three : (m : List ℕ) (x y z : ℕ) → crc (m ++ x ∷ y ∷ z ∷ []) ≡ number (after_bits (bits_remainder (bits_of m)) (three x y z))
 unfolding crc bits_of
-check_three m x y z =
-    let k : bits_of (m ++ x ∷ y ∷ z ∷ []) ≡ bits_of m ++ three x y z = bits_of-append m (x ∷ y ∷ z ∷ []) ∙ ap (λ t. bits_of m ++ t) (bytes_three x y z) in
-    ap (λ q. number (bits_remainder q)) k ∙ ap number (remainder-append (bits_of m) (three x y z))
+check_three m x y z = grind (arith, three, bits_of-append, bytes_three, remainder-append)
 
 number_zeros : number (replicate 24 false) ≡ 0
 unfolding number_from

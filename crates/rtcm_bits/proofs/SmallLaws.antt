@@ -1,6 +1,6 @@
 -- Small laws of lists and results, for the proofs of the crates above.
 use Rattle.std.proofs.Common.{◌≡◌, ◌≤◌, ◌∙◌, Bool, List, [], ◌∷◌, ◌++◌, length, filter, filter_map, append_assoc, ap, sym}
-use Rattle.std.proofs.Common.{append-nil, subst, arith, Option, Result, Ok, Err, IfOk, OnOk, OnErr, MatchResult}
+use Rattle.std.proofs.Common.{append-nil, arith, Option, Result, Ok, Err, IfOk, OnOk, OnErr, MatchResult}
 use Rattle.std.proofs.lemmas.List.Sums.{length-filter, count_by-le-length}
 use Rattle.std.proofs.lemmas.Grind.{common_steps}
 use Rattle.std.specs.Result.{IsErrAnd}
@@ -27,8 +27,7 @@ length-filter_map-le f (x ∷ xs) = grind (arith, common_steps, length-filter_ma
 
 -- if its fault is known
 pub passed : {A E : Type 0} (r : Result A E) (e : E) (P : Result A E → Type 0) → IsErrAnd r (λ y. y ≡ e) → P (Err e) → P r
-passed (Ok x) e P is h = absurd is
-passed (Err y) e P is h = subst (λ z. P (Err z)) (sym is) h
+passed r e P is h = grind arith
 
 -- if it returned a value
 pub of_ok : {A E P : Type 0} {r : Result A E} {u : A} → r ≡ Ok u → OnOk r P → P
@@ -41,5 +40,4 @@ on_failure r P p = grind arith
 -- if it returned a value, and `map_err` wraps its fault
 pub wrapped : {T D E : Type 0} (Q : D → E → Type 0) (P : T → Type 0) (r : Result T D) (s : Result T E) (t : T)
     → IfOk r P → MatchResult r (λ x. s ≡ Ok x) (λ e. IsErrAnd s (Q e)) → s ≡ Ok t → P t
-wrapped Q P (Ok x) s t given is ok = subst P (let same : x ≡ t = cc in same) given
-wrapped Q P (Err e) s t given is ok = absurd (rw ok at is)
+wrapped Q P r s t given is ok = grind arith

@@ -1,5 +1,5 @@
 -- A table of the CRCs of single bytes gives the register after eight bits.
-use Rattle.rtcm_bits.proofs.Names.{◌≡◌, ℕ, ◌+◌, ◌*◌, ◌/◌, ◌%◌, ◌^◌, ◌<◌, ◌≤◌, Bool, true, false, eqb, List, [], ◌∷◌, ◌++◌, length, drop, get_or, replicate, refl, sym, ap, ◌∙◌, arith, length-append, suc, zero, bit_and, bit_xor, agree_below_at, eqb-true, append-nil, length-replicate, and_mask, xor_comm, xor_lt, mod-eq_of_lt, div-add-mod', uint, number_from, bits_of, plus, add_front, generator, remainder, bits_remainder, crc, after_bits, TABLES, length-uint}
+use Rattle.rtcm_bits.proofs.Names.{◌≡◌, ℕ, ◌+◌, ◌*◌, ◌/◌, ◌%◌, ◌^◌, ◌<◌, ◌≤◌, Bool, true, false, eqb, List, [], ◌∷◌, ◌++◌, length, drop, get_or, replicate, refl, sym, ap, ◌∙◌, arith, length-append, suc, zero, bit_and, bit_xor, agree_below_at, eqb-true, append-nil, length-replicate, and_mask, xor_comm, xor_lt, mod-eq_of_lt, div-add-mod', uint, number_from, bits_of, plus, add_front, generator, remainder, bits_remainder, crc, after_bits, TABLES, length-uint, common_steps}
 use Rattle.rtcm_bits.proofs.RegisterBits.{uint-xor, uint-split}
 use Rattle.rtcm_bits.proofs.CheckLemmas.{divide_all, length-add_front, add_front_to_zeros, zeros_to_front, add_front_assoc, length-generator}
 use Rattle.rtcm_bits.proofs.ResidueLemmas.{add_front-append, add_front-same}
@@ -22,8 +22,7 @@ add_twice g p h = add_front_assoc g g p (omega arith) ∙ ap (λ r. add_front r 
 
 -- division keeps sums
 step_second : (g p q : List Bool) → length p ≡ length q → length g ≤ length p → add_front p (add_front g q) ≡ add_front g (add_front p q)
-step_second g p q h k =
-    add_front_comm p (add_front g q) (h ∙ sym (length-add_front g q)) ∙ sym (add_front_assoc g q p (omega (arith, h, k))) ∙ ap (add_front g) (add_front_comm q p (sym h))
+step_second g p q h k = grind (arith, add_front_comm, length-add_front, add_front_assoc)
 
 pub remainder_sum : (n : ℕ) (p q : List Bool) → length p ≡ length q → n + 24 ≤ length p → remainder n (add_front p q) ≡ add_front (remainder n p) (remainder n q)
 unfolding remainder add_front
@@ -108,8 +107,7 @@ table_step x y b t h k e f =
 
 -- the register moved up by a byte
 pub moved_up : (x t : ℕ) → bit_xor (bit_and x 65535 * 256 % 4294967296) t ≡ bit_xor (bit_and x 65535 * 256) t
-moved_up x t =
-    ap (λ q. bit_xor q t) (mod-eq_of_lt (rw (and_mask x 16) (omega arith)))
+moved_up x t = grind (arith, common_steps, mod-eq_of_lt, and_mask)
 
 pub table_below : (x t i : ℕ) → t ≡ crc (i ∷ []) → bit_xor (bit_and x 65535 * 256 % 4294967296) t < 2 ^ 24
 table_below x t i e =

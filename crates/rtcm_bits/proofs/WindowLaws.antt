@@ -12,13 +12,7 @@ through_counts b xs e m start (suc n) h = grind (arith, (through_counts b xs e m
 one_more : {zs : List ℕ} {m m' : ℕ} (ys : List ℕ) (f j k : ℕ) → j ≡ f + k → drop f ys ≡ zs → m ≡ m'
     → (drop f (slice_set ys j (min (slice_index ys j + 1) 65535)) ≡ slice_set zs k (min (slice_index zs k + 1) 65535))
     × (max m (min (slice_index ys j + 1) 65535) ≡ max m' (min (slice_index zs k + 1) 65535))
-one_more {zs} ys f j k e a b =
-    let g : slice_index ys j ≡ slice_index zs k = ap (λ (n : ℕ). slice_index ys n) e ∙ sym (get_or-drop f ys k 0) ∙ ap (λ (t : List ℕ). slice_index t k) a in
-    let c : ℕ = min (slice_index zs k + 1) 65535 in (
-      ap (λ (n : ℕ). drop f (slice_set ys j (min (n + 1) 65535))) g ∙ ap (λ (n : ℕ). drop f (slice_set ys n c)) e ∙ drop-set-add f ys k c
-          ∙ ap (λ (t : List ℕ). slice_set t k c) a,
-      rw (g, b) refl,
-    )
+one_more {zs} ys f j k e a b = grind (arith, get_or-drop, drop-set-add)
 
 -- looks at the counts after the first f
 pub shifted : (xs : List ℕ) (f m start n : ℕ)
@@ -52,10 +46,7 @@ looked_on w s j (suc k) =
 -- looks at bytes after the first f, before or after those are dropped
 pub looked_past : {i : ℕ} (w : WindowValue) (f s k : ℕ) → i ≡ f + s → looked_through (without_front w f) s k ≡ without_front (looked_through w i k) f
 looked_past w f s zero e = refl
-looked_past {i} w f s (suc k) e =
-    let v = looked_through w i k in
-    let a = one_more {m = v.most} v.looks f (i + k) (s + k) (omega (arith, e)) refl refl in
-    rw (looked_past w f s k e, a.0, a.1) refl
+looked_past {i} w f s (suc k) e = grind (arith, one_more, looked_past w f s k e)
 
 front_last : (w : WindowValue) (j k : ℕ) → looked_through (without_front w j) 0 k ≡ without_front (looked_through w j k) j
 front_last w j k = looked_past w j 0 k (omega arith)
@@ -95,13 +86,7 @@ range_seam f b s n u h g i =
 
 range_second : (f b : List ℕ) (s n u : ℕ) → length f ≤ s → u ≡ length f
     → take (length f - u) (drop u f) ++ take (s + n - length f - (s - u)) (drop (s - u) b) ≡ take n (drop s (f ++ b))
-range_second f b s n u h i =
-    let x : length f - length f ≡ 0 = omega arith in
-    let w : s + n - length f - (s - length f) ≡ n = omega (arith, h) in
-    let m : s ≡ length f + (s - length f) = omega (arith, h) in
-    let d : drop (length f + (s - length f)) (f ++ b) ≡ drop (s - length f) b = drop-append-add f b (s - length f) in
-    let e : drop s (f ++ b) ≡ drop (s - length f) b = ap (λ q. drop q (f ++ b)) m ∙ d in
-    rw (i, x, w, e) refl
+range_second f b s n u h i = grind (arith, drop-append-add)
 
 pub range_past : (f b : List ℕ) (s n from : ℕ) → from ≡ min s (length f) → length f < s + n
     → take (length f - from) (drop from f) ++ take (s + n - length f - (s - from)) (drop (s - from) b) ≡ slice_range (f ++ b) s (s + n)
@@ -110,12 +95,9 @@ range_past f b s n from e l = grind (arith, range_seam, range_second, cases_lt)
 -- a ring that has room takes all
 pub all_taken : (b b' : Buffer ℕ) (more : List ℕ) (n : ℕ) → length b.items + length more ≤ b.capacity → n ≡ min (length more) (b.capacity - length b.items)
     → b' ≡ buffer (b.items ++ take n more) b.capacity → b' ≡ buffer (b.items ++ more) b.capacity
-all_taken b b' more n h e g =
-    let k : n ≡ length more = grind (arith, e, h) in
-    g ∙ ap (λ (t : List ℕ). buffer (b.items ++ t) b.capacity) (ap (λ (q : ℕ). take q more) k ∙ take_all (length more) more (omega arith))
+all_taken b b' more n h e g = grind (arith, take_all)
 
 -- a search in two consecutive lists
 pub others_on : {w : List ℕ} {n byte : ℕ} (f b : List ℕ) → f ++ b ≡ w → n ≤ length f + length b → ((i : ℕ) → i < n → slice_index (f ++ b) i ≢ byte)
     → (n < length f + length b → slice_index (f ++ b) n ≡ byte) → (n ≤ length w) × ((i : ℕ) → i < n → slice_index w i ≢ byte) × (n < length w → slice_index w n ≡ byte)
-others_on f b e h o s =
-    rw (← e, length-append f b) (h, o, s)
+others_on f b e h o s = grind (arith, length-append)

@@ -27,8 +27,7 @@ nothing_after a = refl
 number_of_eight : {a b c d e f g h : ℕ} → a < 256 → b < 256 → c < 256 → d < 256 → e < 256 → f < 256 → g < 256 → h < 256
     → number (bits_of (a ∷ b ∷ c ∷ d ∷ e ∷ f ∷ g ∷ h ∷ [])) ≡ from_be_bytes w64 (a ∷ b ∷ c ∷ d ∷ e ∷ f ∷ g ∷ h ∷ [])
 unfolding bits_of
-number_of_eight i j k l m n o p =
-    byte_after 0 _ _ i ∙ byte_after _ _ _ j ∙ byte_after _ _ _ k ∙ byte_after _ _ _ l ∙ byte_after _ _ _ m ∙ byte_after _ _ _ n ∙ byte_after _ _ _ o ∙ byte_after _ _ [] p ∙ nothing_after _ ∙ omega arith
+number_of_eight i j k l m n o p = omega (arith, byte_after, nothing_after)
 
 -- eight bytes, as one number
 word_bits : (xs : List ℕ) (n : ℕ) → length xs ≡ 8 → ((i : ℕ) → i < 8 → get_or xs i 0 < 256)

@@ -1,5 +1,5 @@
 -- A number that is put a part of a byte at a time.
-use Rattle.rtcm_bits.proofs.Names.{◌≡◌, ℕ, ◌+◌, ◌-◌, ◌*◌, ◌/◌, ◌%◌, ◌^◌, ◌<◌, ◌≤◌, Bool, List, [], ◌∷◌, ◌++◌, length, sym, ap, ◌∙◌, arith, append_assoc, append-nil, length-append, pow-le-pow_right, mod-eq_of_lt, mod-lt, one_shl, pow-add, div-add-mod', pow_pos, uint, bits_of, length-uint}
+use Rattle.rtcm_bits.proofs.Names.{◌≡◌, ℕ, ◌+◌, ◌-◌, ◌*◌, ◌/◌, ◌%◌, ◌^◌, ◌<◌, ◌≤◌, Bool, List, [], ◌∷◌, ◌++◌, length, sym, ap, ◌∙◌, arith, append_assoc, append-nil, length-append, pow-le-pow_right, mod-eq_of_lt, mod-lt, one_shl, pow-add, div-add-mod', pow_pos, uint, bits_of, length-uint, common_steps}
 use Rattle.rtcm_bits.proofs.BitLemmas.{length-whole, bits_of-push}
 use Rattle.rtcm_bits.proofs.RegisterBits.{uint-split, uint-mod}
 
@@ -22,8 +22,7 @@ part_is k n p b h f g =
 -- the bits with one more part, if the byte isn't full yet
 pub part_put : {k n p b : ℕ} {now : List Bool} (xs : List ℕ) → bits_of xs ++ uint k p ≡ now → b < 2 ^ n → Part k n p b
     → bits_of xs ++ uint (k + n) (p * 2 ^ n % 65536 + b) ≡ now ++ uint n b
-part_put {k} {n} {p} {b} xs v g t =
-    ap (λ x. bits_of xs ++ uint (k + n) x) t.whole ∙ ap (λ r. bits_of xs ++ r) (uint-split k n p b g) ∙ sym (append_assoc (bits_of xs) (uint k p) (uint n b)) ∙ ap (λ r. r ++ uint n b) v
+part_put {k} {n} {p} {b} xs v g t = grind (arith, uint-split, append_assoc)
 
 -- the bits with one more part that fills the byte
 pub byte_put : {k n p b : ℕ} {now : List Bool} (xs : List ℕ) → k + n ≡ 8 → bits_of xs ++ uint k p ≡ now → b < 2 ^ n → Part k n p b
@@ -52,7 +51,4 @@ lengths now old left width value e = omega (arith, length-append now (uint left 
 
 -- one part put
 pub next_put : {next all : List Bool} {left n : ℕ} (now : List Bool) (value : ℕ) → n ≤ left → n ≤ 8 → now ++ uint left value ≡ all → next ≡ now ++ uint n (value / 2 ^ (left - n) % (1 * 2 ^ n % 2 ^ 64)) → next ++ uint (left - n) value ≡ all
-next_put {next} {left} {n} now value h few inv is =
-    let s : (1 * 2 ^ n) % 2 ^ 64 ≡ 2 ^ n = one_shl n 64 (omega arith) in
-    let f : next ≡ now ++ uint n (value / 2 ^ (left - n) % 2 ^ n) = rw s at is in
-    ap (λ r. r ++ uint (left - n) value) f ∙ append_assoc now (uint n (value / 2 ^ (left - n) % 2 ^ n)) (uint (left - n) value) ∙ ap (λ r. now ++ r) (first_part left n value h) ∙ inv
+next_put {next} {left} {n} now value h few inv is = grind (arith, common_steps, one_shl, append_assoc, first_part)
