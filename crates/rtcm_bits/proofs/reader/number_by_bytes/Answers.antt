@@ -1,4 +1,4 @@
-use Rattle.rtcm_bits.proofs.Names.{◌≡◌, ◌-◌, arith, drop, length-drop, bits_of, length-bits_of, number-take-fits}
+use Rattle.rtcm_bits.proofs.Names.{arith, drop, length-drop, bits_of, length-bits_of, number-take-fits}
 use Rattle.rtcm_bits.proofs.PartLemmas.{nothing_read, next_part}
 use Rattle.rtcm_bits.proofs.reader.number_by_bytes.Goals as goal
 
@@ -11,15 +11,7 @@ overflow_add-value c =
     omega (arith, next.fits)
 
 pub loop-at-preserved : goal.loop-at-preserved
-loop-at-preserved c = record {
-  from = omega arith;
-  within = omega arith;
-  value = (next_part c.args.bytes.now c.min-n.result c.loop-at.invariant.from (omega arith) (omega arith) (omega arith) c.loop-at.invariant.value c.bits_in_byte.ensures).value;
-}
+loop-at-preserved c = grind (arith, next_part)
 
 pub returns-clause-fits : goal.returns-clause-fits
-returns-clause-fits c =
-    let len = length-drop c.args.place (bits_of c.args.bytes.now) in
-    let fits = number-take-fits (drop c.args.place (bits_of c.args.bytes.now)) c.args.width (omega (arith, len, length-bits_of c.args.bytes.now)) in
-    let end : c.loop-at.at - c.args.place ≡ c.args.width = omega arith in
-    rw (c.loop-at.invariant.value, end) fits
+returns-clause-fits c = grind (arith, length-drop, number-take-fits, length-bits_of)

@@ -1,13 +1,9 @@
-use Rattle.rtcm_bits.proofs.Names.{◌≡◌, ◌+◌, List, ℕ, length, drop, ap, ◌∙◌, arith, rules, length-drop, vec_len, looked_through, counts_alone}
+use Rattle.rtcm_bits.proofs.Names.{◌≡◌, ◌+◌, List, ℕ, length, ap, ◌∙◌, arith, rules, length-drop, vec_len, looked_through, counts_alone}
 use Rattle.rtcm_bits.proofs.LookLemmas.{last_looks, last_stored}
 use Rattle.rtcm_bits.proofs.window.Window.count_last_looks.Goals as goal
 
 pub returns-then-start-counted-clause-counted : goal.returns-then-start-counted-clause-counted
-returns-then-start-counted-clause-counted c =
-    let i = c.self.inside in
-    let v : vec_len i.counts ≡ length i.counts.items = i.counts.ok.0 in
-    let k = length-drop i.first i.counts.items in
-    last_looks (drop i.first i.counts.items) i.once c.self.view_is (omega (arith, v, k)) (omega (arith, v, k)) (omega arith) (record { few = search rules; sum = c.saturating_add-self-inside.ensures; most = c.raise.ensures })
+returns-then-start-counted-clause-counted c = grind (arith, length-drop, last_looks)
 
 pub returns-then-start-n-clause-counted : goal.returns-then-start-n-clause-counted
 returns-then-start-n-clause-counted c =

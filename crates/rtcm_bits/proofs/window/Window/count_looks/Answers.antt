@@ -1,17 +1,12 @@
 -- Four cases: bytes with an entry are counted there; bytes without a look are only numbered; a second look at the
 -- first byte without an entry adds one; else every byte gets its entry first.
-use Rattle.rtcm_bits.proofs.Names.{List, [], ◌∷◌, ℕ, ◌≡◌, ◌+◌, ◌-◌, drop, drop-append-le, length, max, sym, ap, ◌∙◌, rules, arith, length-drop, with_items_is, vec_len, held_of, filled_up, looked_through, counts_alone}
+use Rattle.rtcm_bits.proofs.Names.{List, ℕ, ◌≡◌, ◌+◌, ◌-◌, drop, drop-append-le, length, max, sym, ap, ◌∙◌, rules, arith, length-drop, with_items_is, vec_len, held_of, filled_up, looked_through, counts_alone}
 use Rattle.rtcm_bits.proofs.ListLaws.{when_ok}
 use Rattle.rtcm_bits.proofs.LookLemmas.{first_looks_at, second_look_at, later_looks, filled_out}
 use Rattle.rtcm_bits.proofs.window.Window.count_looks.Goals as goal
 
 pub returns-then-start-counted-clause-counted : goal.returns-then-start-counted-clause-counted
-returns-then-start-counted-clause-counted c =
-    let i = c.self.inside in
-    let l : length i.bytes.items ≡ length c.args.self.now.bytes = ap (λ w. length w.bytes) c.self.view_is in
-    let v : vec_len i.counts ≡ length i.counts.items = i.counts.ok.0 in
-    first_looks_at (drop i.first i.counts.items) i.once c.self.view_is (omega (arith, v, length-drop i.first i.counts.items)) (omega (arith, l, c.requires))
-    (record { few = search rules; sum = c.saturating_add-self-inside.ensures; most = c.raise.ensures ∙ ap (λ (t : ℕ). max i.greatest t) c.min.ensures })
+returns-then-start-counted-clause-counted c = grind (arith, first_looks_at, length-drop)
 
 pub returns-then-start-n-clause-counted : goal.returns-then-start-n-clause-counted
 returns-then-start-n-clause-counted c =
@@ -26,14 +21,7 @@ returns-then-start-n-clause-counted c =
     (record { few = search rules; sum = c.saturating_add-self-inside.ensures; most = c.look_at_each-self-inside.ensures.greatest ∙ ap (λ (t : List ℕ). (looked_through (counts_alone t i.greatest) (i.first + c.args.start) c.args.n).most) c.as_mut_slice.ensures.value })
 
 pub returns-then-len-lt-CAPACITY-clause-counted : goal.returns-then-len-lt-CAPACITY-clause-counted
-returns-then-len-lt-CAPACITY-clause-counted c =
-    let i = c.self.inside in
-    let v : vec_len i.counts ≡ length i.counts.items = i.counts.ok.0 in
-    let k = length-drop i.first i.counts.items in
-    second_look_at {q = i.once - 1} (drop i.first i.counts.items) c.self.view_is (omega (arith, v, k, c.if-start-counted-2.true))
-    (omega (arith, v, c.if-start-n.false, c.if-start-counted.false, c.if-start-counted-2.true)) c.if-n-eq1.true
-    (ap (drop i.first) (when_ok _ c.unwrap.ensures c.push.ensures.items) ∙ drop-append-le i.first i.counts.items (2 ∷ []) (omega (arith, v, c.self.invariant)))
-    (record { few = search rules; sum = c.saturating_add-self-inside.ensures; most = c.raise-then-len-lt-CAPACITY.ensures })
+returns-then-len-lt-CAPACITY-clause-counted c = grind (arith, length-drop, second_look_at, when_ok, drop-append-le)
 
 pub returns-clause-counted : goal.returns-clause-counted
 returns-clause-counted c =
