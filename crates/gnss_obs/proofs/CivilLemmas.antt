@@ -1,5 +1,5 @@
 -- Dates and times of day in the calendar of the library.
-use Rattle.std.proofs.Common.{true≢false, ◌≡◌, ◌<◌, ◌≤◌, ◌+◌, ◌*◌, ◌/◌, ◌%◌, ◌∙◌, ℕ, ℤ, pos, negsuc, ◌+ℤ◌, ◌-ℤ◌, ◌*ℤ◌, neg_ℤ, ◌≤ℤ◌, refl, sym, subst, arith, nat_abs, to_z, of_z, to_z-of_z, FitsSigned, w8, w16, w32, w64, ap, ap₂, T, Fits, true, false, Result, Ok, Err, IsOk, IfOk, Option, Some, None, IfSome, IfNone, int_div, int_lt}
+use Rattle.std.proofs.Common.{◌≡◌, ◌<◌, ◌≤◌, ◌+◌, ◌*◌, ◌/◌, ◌%◌, ◌∙◌, ℕ, ℤ, pos, ◌+ℤ◌, ◌-ℤ◌, ◌*ℤ◌, neg_ℤ, ◌≤ℤ◌, refl, sym, subst, arith, nat_abs, to_z, of_z, to_z-of_z, FitsSigned, w8, w16, w32, w64, ap, ap₂, T, Fits, true, false, Result, IsOk, IfOk, Option, IfSome, IfNone, int_div, int_lt}
 use lib.Signed.{non_neg}
 use Rattle.std.specs.Int.{w128}
 use Rattle.jiff_core.specs.declared.civil.date.Date.{Date}
@@ -78,9 +78,7 @@ made_of at {t} {year} {month} {day} {hour} {minute} {second} e is h i s f =
     } where
       same_days : {year month day : ℕ} (date : Date) → IsDateOf date year month day → (t : ℕ) → epoch_day date -ℤ pos 3657 ≡ pos (t / 86_400_000)
           → days_from_civil (pos year) month day -ℤ days_from_civil (pos 1980) 1 6 ≡ pos (t / 86_400_000)
-      same_days {year} {month} {day} date is t e =
-          let same : days_from_civil (pos year) month day ≡ epoch_day date = days_same is.year is.month is.day in
-          subst (λ z. days_from_civil (pos year) month day -ℤ z ≡ pos (t / 86_400_000)) (sym first_day) (ap (λ z. z -ℤ pos 3657) same ∙ e)
+      same_days date h0 t h1 = grind (arith, days_same, first_day)
 
 pub day_below : (d : Date) → d.day < 128
 day_below d = grind (arith, common_steps)
@@ -119,8 +117,7 @@ pub record IsSince (z : ℤ) (n : ℕ) : Type 0 where
   pub small : n ≤ 1_000_000_000_000_000
 
 pub not_below : (z : ℤ) → (neg_ℤ (pos 1_000_000_000_000_000) ≤ℤ z) × (z ≤ℤ pos 1_000_000_000_000_000) → int_lt (to_z w128 (of_z w128 z)) (pos 0) ≡ false → (n : ℕ) × IsSince z n
-not_below (pos n) range h = grind (arith, common_steps, signed_arith, back, back_wide)
-not_below (negsuc n) range h = grind (arith, common_steps, signed_arith)
+not_below z range h = grind (arith, signed_arith, back, back_wide)
 
 pub below_none : (z : ℤ) (t : ℕ) → z ≡ pos t → t < 60_480_000_000_000 → int_lt (to_z w128 (of_z w128 z)) (pos 0) ≡ true → ⊥
 below_none z t e small h = grind (arith, common_steps)
@@ -162,10 +159,7 @@ pub is_taken : (c : Civil) → IsSmall c → IsCivil c → IsDate (to_z w16 c.ye
 is_taken c small valid = grind (arith, common_steps)
 
 pub some_of : {A E : Type 0} {P Q : A → Type 0} {o : Option A} (r : Result A E) → o ≡ result_ok r → IfOk r P → ((x : A) → P x → Q x) → IfSome o Q
-some_of (Ok x) e h f = rw e (f x h)
-some_of (Err y) e h f = rw e tt
+some_of r e h f = grind arith
 
 pub none_of : {A E V : Type 0} (o : Option A) (r : Result A E) → o ≡ result_ok r → (V → IsOk r) → IfNone o (V → ⊥)
-none_of (Some x) r e h = tt
-none_of None (Ok x) e h = absurd (cc)
-none_of None (Err y) e h = λ v. absurd (true≢false (sym (h v)))
+none_of o r e h = grind arith

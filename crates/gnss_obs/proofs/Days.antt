@@ -1,6 +1,6 @@
 -- The days since 1980-01-06.
-use Rattle.std.proofs.Common.{◌≡◌, inl, inr, refl, arith, rules, ℤ, pos, negsuc, ◌≤ℤ◌}
-use Rattle.std.proofs.Common.{FitsSigned, Fits, w16, to_z, of_z, to_z-of_z, nat_abs, T}
+use Rattle.std.proofs.Common.{◌≡◌, inl, inr, refl, arith, rules, ℤ, pos, ◌≤ℤ◌}
+use Rattle.std.proofs.Common.{Fits, w16, to_z, of_z, to_z-of_z, nat_abs, T}
 use lib.Signed.{non_neg}
 use Rattle.jiff_core.specs.declared.civil.date.Date.{Date}
 use Rattle.std.specs.Int.{IsInRange}
@@ -37,9 +37,7 @@ year_from d h =
 
 -- The year of such a date, cast to a signed number and back.
 pub plain_year : (z : ℤ) → pos 1980 ≤ℤ z → z ≤ℤ pos 9999 → pos (nat_abs (to_z w16 (of_z w16 z))) ≡ z
-plain_year (pos n) low high = let fits : FitsSigned w16 (pos n) = omega (arith, signed_arith, high) in rw (to_z-of_z fits) refl
-plain_year (negsuc n) low high = absurd (omega (arith, signed_arith, low))
+plain_year z low high = grind (arith, signed_arith, to_z-of_z)
 
 pub casts : (z : ℤ) → pos 1980 ≤ℤ z → z ≤ℤ pos 9999 → (T (non_neg (to_z w16 (of_z w16 z)))) × Fits w16 (nat_abs (to_z w16 (of_z w16 z)))
-casts (pos n) low high = let fits : FitsSigned w16 (pos n) = omega (arith, signed_arith, high) in rw (to_z-of_z fits) (search rules)
-casts (negsuc n) low high = absurd (omega (arith, signed_arith, low))
+casts z low high = grind (arith, signed_arith, to_z-of_z)

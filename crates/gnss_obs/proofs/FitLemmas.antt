@@ -1,9 +1,9 @@
 -- Signals that fit a plan, and those that don't.
-use Rattle.std.proofs.Common.{◌≡◌, ℕ, zero, suc, ◌<◌, ◌==◌, ◌||◌, false, List, [], ◌∷◌, ◌++◌, length, take, drop, get_or, All, nat_eq, refl, sym, true≢false, ap, ap₂, ◌∙◌, subst, arith, inl, inr}
+use Rattle.std.proofs.Common.{◌≡◌, ℕ, zero, suc, ◌<◌, ◌==◌, false, List, [], ◌∷◌, ◌++◌, length, take, drop, get_or, All, nat_eq, refl, sym, ap, ◌∙◌, subst, arith, inl, inr}
 use Rattle.std.proofs.Math.Seq.{split_at}
 use Rattle.std.proofs.lemmas.Map.Keys.{apart_from_distinct, IsDistinct-tail}
 use Rattle.std.proofs.lemmas.List.Elements.{All-head, All-tail}
-use Rattle.gnss_obs.specs.inner.Names.{System, SignalAt, IsSignal, PlanFault, UnknownCode, RepeatedCode, indices, IsOf, IsUnfitAfter, IsUnfit, IsMemoryFaultOr, MayAdd, BeginsWithOwn, list_any, IsDistinct}
+use Rattle.gnss_obs.specs.inner.Names.{System, SignalAt, IsSignal, PlanFault, indices, IsOf, IsUnfitAfter, IsUnfit, IsMemoryFaultOr, MayAdd, BeginsWithOwn, list_any, IsDistinct}
 use Rattle.gnss_system.proofs.CheckedLaws.{flip_false}
 
 -- The first signal is of the system if those before one are, and this one.
@@ -40,17 +40,14 @@ unlike_first x before rest s h =
 
 pub not_before : (before rest : List SignalAt) (s : SignalAt) → IsDistinct nat_eq (indices (before ++ s ∷ rest)) → list_any (λ (r : SignalAt). s.index == r.index) before ≡ false
 not_before [] rest s h = refl
-not_before (x ∷ before) rest s h =
-    ap₂ (λ a b. a || b) (unlike_first x.index before rest s h) (not_before before rest s (IsDistinct-tail nat_eq x.index (indices (before ++ s ∷ rest)) h))
+not_before (x ∷ before) rest s h = grind (arith, unlike_first, IsDistinct-tail, not_before before rest s (IsDistinct-tail nat_eq x.index (indices (before ++ s ∷ rest)) h))
 
 of_system : (system : System) (before rest : List SignalAt) (s : SignalAt) → All (λ (r : SignalAt). (r.system ≡ system) × IsSignal r) (before ++ s ∷ rest) → s.system ≡ system
 of_system system [] rest s h = (All-head (λ (r : SignalAt). (r.system ≡ system) × IsSignal r) s rest h).0
 of_system system (x ∷ before) rest s h = of_system system before rest s (All-tail (λ (r : SignalAt). (r.system ≡ system) × IsSignal r) x (before ++ s ∷ rest) h)
 
 by_fault : (system : System) (before rest : List SignalAt) (s : SignalAt) (fault : PlanFault) → IsUnfitAfter system before s fault → IsOf system (before ++ s ∷ rest) → ⊥
-by_fault system before rest s (UnknownCode named place) u is = u.2 (of_system system before rest s is.each)
-by_fault system before rest s (RepeatedCode named place) u is = true≢false (sym u.3 ∙ not_before before rest s is.apart)
-by_fault system before rest s _ u is = u
+by_fault system before rest s fault u is = grind (arith, of_system, not_before)
 
 -- A list with a signal that doesn't fit is no list of the system's signals.
 pub unfit_not_of : (system : System) (ss : List SignalAt) (fault : PlanFault) → IsUnfit system ss fault → IsOf system ss → ⊥

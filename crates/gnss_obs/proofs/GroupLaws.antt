@@ -44,8 +44,7 @@ pub record Left (n from : ℕ) (cells : List Cell) : Type 0 where
   pub rest : (later : ℕ) → n < later → filter (is_of_satellite later) cells ≡ filter (is_of_satellite later) (drop from cells)
 
 pub left_all : (system : System) (cells : List Cell) → AreHeld system cells → Left 0 0 cells
-left_all system cells h =
-    record { within = omega arith; above = recursion_from_All (λ (c : Cell). 0 < c.satellite.id) cells (λ i d less. (h.each i d less).number.0); rest = λ later l. refl }
+left_all system cells h = grind (arith, recursion_from_All)
 
 -- ---- the number of satellites to write
 
@@ -69,16 +68,12 @@ none_written n (c ∷ cells) h = grind (arith, common_steps, none_written n cell
 no_value : (c : Cell) (cells : List Cell) (n : ℕ) → has_value c ≡ false → written_among (c ∷ cells) n ≡ written_among cells n
 unfolding written_among
 no_value c cells zero h = refl
-no_value c cells (suc n) h = ap₂ (λ k b. k + one_if b) (no_value c cells n h) (by (c.satellite.id == suc n) (has_value c) h) where
-  by : (a v : Bool) → v ≡ false → ((a && v) || is_written cells (suc n)) ≡ is_written cells (suc n)
-  by a v h = grind (arith, common_steps, h)
+no_value c cells (suc n) h = grind (arith, no_value c cells n h)
 
 lower : (c : Cell) (cells : List Cell) (n : ℕ) → n < c.satellite.id → written_among (c ∷ cells) n ≡ written_among cells n
 unfolding written_among
 lower c cells zero lt = refl
-lower c cells (suc n) lt = ap₂ (λ k b. k + one_if ((b && has_value c) || is_written cells (suc n))) (lower c cells n (omega (arith, lt))) (unlike c.satellite.id (suc n) lt) where
-  unlike : (a n : ℕ) → n < a → (a == n) ≡ false
-  unlike a n lt = grind (arith, lt)
+lower c cells (suc n) lt = grind (arith, lower c cells n (omega (arith, lt)))
 
 one_more : (c : Cell) (cells : List Cell) (n : ℕ) → 1 ≤ c.satellite.id → c.satellite.id ≤ n → has_value c ≡ true
     → written_among (c ∷ cells) n ≡ written_among cells n + one_if (not (is_written cells c.satellite.id))
@@ -94,14 +89,7 @@ one_more c cells (suc n) low high h = by (c.satellite.id == suc n) refl (λ less
   by : (b : Bool) → (c.satellite.id == suc n) ≡ b
       → (c.satellite.id ≤ n → written_among (c ∷ cells) n ≡ written_among cells n + one_if (not (is_written cells c.satellite.id)))
       → written_among (c ∷ cells) (suc n) ≡ written_among cells (suc n) + one_if (not (is_written cells c.satellite.id))
-  by true e more =
-      let is : c.satellite.id ≡ suc n = grind (arith, e) in
-      ap₂ (λ k v. k + one_if v) (lower c cells n (omega (arith, is))) (ap₂ (λ a v. (a && v) || is_written cells (suc n)) e h)
-      ∙ sum (written_among cells n) (is_written cells (suc n)) ∙ ap (λ m. written_among cells n + one_if (is_written cells (suc n)) + one_if (not (is_written cells m))) (sym is)
-  by false e more =
-      let less : c.satellite.id ≤ n = grind (arith, e, high) in
-      ap₂ (λ k a. k + one_if ((a && has_value c) || is_written cells (suc n))) (more less) e
-      ∙ swap (written_among cells n) (one_if (not (is_written cells c.satellite.id))) (one_if (is_written cells (suc n)))
+  by b h0 h1 = grind (arith, lower, sum, swap)
 
 none_among : (n : ℕ) → written_among [] n ≡ 0
 unfolding written_among

@@ -1,5 +1,5 @@
 -- Kept cells of a system as they arrive.
-use Rattle.std.proofs.Common.{Box, Global, ◌≡◌, ℕ, ◌+◌, ◌*◌, ◌<◌, ◌==◌, ◌&&◌, ◌||◌, Bool, true, false, nat_eq, List, [], ◌∷◌, map, refl, sym, ap, ap₂, ◌∙◌, subst, arith, rules, length, All}
+use Rattle.std.proofs.Common.{Box, Global, ◌≡◌, ℕ, ◌+◌, ◌*◌, ◌<◌, ◌==◌, ◌&&◌, ◌||◌, false, nat_eq, List, [], ◌∷◌, map, refl, sym, ap, ap₂, ◌∙◌, subst, arith, rules, length, All}
 use Rattle.std.proofs.lemmas.List.Elements.{All-head, All-nil, All-push, All-tail}
 use Rattle.std.proofs.lemmas.List.Sorted.{All-permutation, IsPermutation-map, length_permutation}
 use Rattle.std.proofs.lemmas.List.{map-append}
@@ -9,13 +9,11 @@ use Rattle.std.specs.List.{IsDistinct}
 use Rattle.gnss_obs.proofs.OrderLaws.{sort_moves}
 use Rattle.gnss_obs.specs.Order.{AreSorted}
 use Rattle.gnss_obs.specs.declared.epoch_cells.Added.TheVariants.{Kept}
-use Rattle.std.specs.Prelude.{nat_le}
 use Rattle.gnss_system.proofs.SystemLaws.{each_system, equal_values, value_mapped, value_tabulated}
-use Rattle.gnss_system.specs.Signals.{table}
 use Rattle.gnss_system.specs.SystemValues.{value_of, with_value_of, map_by}
 use Rattle.gnss_system.specs.declared.by_system.BySystem.{BySystem}
 use Rattle.gnss_obs.specs.declared.cells.Cells.{Cells}
-use Rattle.gnss_obs.specs.inner.Names.{System, Cell, Added, Satellite, SignalAt, IsSignal, AreHeld, AreKept, CellLists, IsHeld, list_any, no_cells, IsObserved, heard_cell, same_key, cell_sort_key, is_held, AddsCell, IsAdded, slot, has_slot, sorted_cells, outcome_by, cells_after}
+use Rattle.gnss_obs.specs.inner.Names.{System, Cell, Added, Satellite, SignalAt, IsSignal, AreHeld, AreKept, CellLists, IsHeld, list_any, no_cells, IsObserved, heard_cell, same_key, cell_sort_key, is_held, AddsCell, IsAdded, slot, has_slot, sorted_cells, outcome_by}
 use Rattle.std.proofs.lemmas.Grind.{common_steps}
 
 -- ---- sorted cells
@@ -46,9 +44,7 @@ all_empty lists none s = none_kept s (none s)
 -- ---- one more cell
 
 pub low_index : (s : SignalAt) → IsSignal s → s.index < 32
-low_index s h = by _ (each_system (λ system. nat_le (length (table system)) 32) s.system refl) h where
-  by : (n : ℕ) → nat_le n 32 ≡ true → s.index < n → s.index < 32
-  by n few h = grind (arith, few, h)
+low_index s h = grind (arith, each_system)
 
 slots_same : (i j p q : ℕ) → p < 32 → q < 32 → ((i == j) && (p == q)) ≡ (32 * j + q == 32 * i + p)
 slots_same i j p q h k = grind (arith, common_steps, h, k)
@@ -67,14 +63,7 @@ held_slot system x is listed (c ∷ cells) all =
 
 -- A kept cell is of a new key.
 new_slot : (slots : List ℕ) (s : ℕ) (count : ℕ) → Kept ≡ outcome_by (has_slot s slots) count → list_any (nat_eq s) slots ≡ false
-new_slot slots s count kept = flip slots ∙ by (has_slot s slots) kept where
-  flip : (slots : List ℕ) → list_any (nat_eq s) slots ≡ has_slot s slots
-  flip [] = refl
-  flip (t ∷ slots) = ap₂ (λ a b. a || b) (nat_eq_equiv.symm s t) (flip slots)
-
-  by : (b : Bool) → Kept ≡ outcome_by b count → b ≡ false
-  by true e = cc
-  by false e = refl
+new_slot slots s count kept = grind arith
 
 pub kept_added : {system : System} {old cells new : List Cell} {x : Cell} (k : Added) → x.satellite.system ≡ system → AreKept system old → IsObserved (heard_cell x) → x.lli < 4
     → cells ≡ old → AddsCell cells x k new → AreKept system new
@@ -89,9 +78,4 @@ kept_added {system} {cells} _ is kept observed low same a = subst (AreKept syste
 
 pub is_added : {system : System} {old e : CellLists} {cells new : List Cell} {x : Cell} {k : Added} → x.satellite.system ≡ system → AreHeld system (value_of system e)
     → IsObserved (heard_cell x) → e ≡ old → cells ≡ value_of system e → AddsCell cells x k new → IsAdded old x k (with_value_of system e new)
-is_added {system} {e} {cells} {new} {x} {k} is held observed same at a =
-    subst (λ v. IsAdded v x k (with_value_of system e new)) same (record {
-      outcome = subst (λ s. k ≡ outcome_by (is_held (value_of s e) (heard_cell x)) (length (value_of s e))) (sym is)
-          (a.outcome ∙ ap (λ l. outcome_by (has_slot (slot x) (map slot l)) (length l)) at ∙ ap (λ b. outcome_by b (length (value_of system e))) (held_slot system x is observed.key.signal (value_of system e) held.each));
-      lists = subst (λ s. with_value_of system e new ≡ with_value_of s e (cells_after k (value_of s e) x)) (sym is) (ap (with_value_of system e) (a.cells ∙ ap (λ l. cells_after k l x) at));
-    })
+is_added {system} {e} {cells} {new} {x} {k} is held observed same at a = grind (arith, held_slot)

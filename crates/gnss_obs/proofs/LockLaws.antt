@@ -1,5 +1,5 @@
 -- The test for a loss of lock.
-use Rattle.std.proofs.Common.{rules, ℕ, ◌≡◌, ◌<◌, ◌≤◌, arith, refl, ap, get_or, ◌+◌, ◌*◌, ◌==◌, ◌||◌, nat_lt, Bool, true, false, Option, Some, None}
+use Rattle.std.proofs.Common.{ℕ, ◌≡◌, ◌<◌, ◌≤◌, arith, refl, get_or, ◌+◌, ◌*◌, ◌==◌, ◌||◌, nat_lt, Bool, true, false, Option, Some, None}
 use Rattle.gnss_obs.specs.LockTimes.{least4, least7, time_of, times7}
 use Rattle.gnss_obs.specs.declared.lock.TheConstants.{LEAST7}
 use Rattle.gnss_system.proofs.CheckedLaws.{passes_at, unless_less}
@@ -26,10 +26,7 @@ same_time None (Some b) = false
 same_time (Some a) None = false
 
 is_same_time : (s t : Option ℕ) → same_time s t ≡ true → s ≡ t
-is_same_time None None h = refl
-is_same_time None (Some b) h = absurd (search rules)
-is_same_time (Some a) None h = absurd (search rules)
-is_same_time (Some a) (Some b) h = ap Some (eqb-true a b h)
+is_same_time s t h = grind (arith, eqb-true)
 
 pub words7 : (i : ℕ) → i < 706 → time_of (get_or LEAST7 i 0) ≡ (times7 i).least
 words7 i below = is_same_time _ _ (passes_at (λ j. same_time (time_of (get_or LEAST7 j 0)) (times7 j).least) 706 i refl below)

@@ -1,5 +1,5 @@
 -- The plan of lists of signals, or its fault.
-use Rattle.std.proofs.Common.{◌≡◌, ℕ, ◌<◌, true≢false, true, false, List, length, refl, sym, ap, ◌∙◌, subst, arith, ◌⊎◌, inl, inr, Result, Ok, Err, IfErr, MatchResult, if◌then◌else◌, is_ok, nat_lt}
+use Rattle.std.proofs.Common.{◌≡◌, ℕ, ◌<◌, true, false, List, length, refl, sym, ap, ◌∙◌, subst, arith, ◌⊎◌, inl, inr, Result, Ok, Err, IfErr, MatchResult, if◌then◌else◌, is_ok, nat_lt}
 use Rattle.std.specs.List.{sum_by}
 use Rattle.gnss_system.specs.Systems.{systems, index_of}
 use Rattle.gnss_system.specs.SystemValues.{value_of, map_by}
@@ -20,12 +20,7 @@ made : {A : Type 0} (May : Type 0) (P : PlanFault → Type 0) (Done : Type 0) (a
     → IsMade added lists result
     → MatchResult result (λ p. Done × (is_none_planned lists ≡ false) × (p ≡ plan_with (map_by indices lists)))
     (λ e. IsMemoryFaultOr May P e ⊎ (Done × (is_none_planned lists ≡ true) × (e ≡ NothingPlanned)))
-made May P Done (Ok u) lists (Ok p) is m = (is, m.1, m.2)
-made May P Done (Ok u) lists (Err e) is (inl bad) = absurd (true≢false (ap is_ok bad))
-made May P Done (Ok u) lists (Err e) is (inr none) = inr (is, none.1, none.2)
-made May P Done (Err d) lists (Ok p) is m = absurd (true≢false (sym m.0))
-made May P Done (Err d) lists (Err e) is (inl same) = inl (subst (IsMemoryFaultOr May P) (ap fault_of same) is)
-made May P Done (Err d) lists (Err e) is (inr none) = absurd (true≢false (sym none.0))
+made May P Done added lists result is m = grind arith
 
 -- ---- the first fault
 

@@ -31,17 +31,7 @@ low : (n : ℕ) → n < 4 → n / 2 * 2 + 1 < 4
 low n h = grind (arith, h)
 
 pub one_held : (system : System) (x : Cell) → IsHeld system x → IsHeld system (with_mark x)
-one_held system x h = record {
-  satellite = h.satellite;
-  signal = h.signal;
-  number = h.number;
-  place = h.place;
-  c = h.c;
-  l = h.l;
-  d = h.d;
-  s = h.s;
-  lli = low x.lli h.lli;
-}
+one_held system x h = grind (arith, low)
 
 all_held : (system : System) (at : ℕ) (xs : List Cell) → All (IsHeld system) xs → All (IsHeld system) (marked_at at xs)
 all_held system at [] h = h

@@ -1,8 +1,8 @@
 -- Rounding a product.
-use Rattle.std.proofs.Common.{ℕ, zero, suc, ℤ, pos, negsuc, ◌≡◌, ◌+◌, ◌*◌, ◌/◌, ◌^◌, ◌<◌, ◌≤◌, ◌-ℤ◌, ◌*ℤ◌, ◌<ℤ◌, ◌≤ℤ◌, unsigned_abs, refl, ap, arith, w64, to_z, of_z, add-one}
+use Rattle.std.proofs.Common.{ℕ, ℤ, pos, negsuc, ◌≡◌, ◌+◌, ◌*◌, ◌/◌, ◌^◌, ◌<◌, ◌≤◌, ◌-ℤ◌, ◌*ℤ◌, ◌<ℤ◌, ◌≤ℤ◌, unsigned_abs, arith, w64, to_z, of_z, add-one}
 use Rattle.std.proofs.Math.IntN.{negsuc-*ℤ-pos}
 use Rattle.std.proofs.lemmas.Int.{ints, unsigned_abs-mul}
-use Rattle.std.specs.Prelude.{Option, Some, None, option_map}
+use Rattle.std.specs.Prelude.{Option, option_map}
 use Rattle.gnss_obs.specs.Rounding.{IsNearest, IsRounded, nearest, nearest_size}
 use Rattle.std.proofs.lemmas.Grind.{common_steps}
 
@@ -17,8 +17,7 @@ pub pos_casts : (t : ℕ) → t < 2 ^ 62 → to_z w64 t ≡ pos t
 pos_casts t h = omega (arith, ints)
 
 pub nearest_neg : (a : ℤ) (q : ℕ) → a <ℤ pos 0 → nearest a q ≡ pos 0 -ℤ pos (nearest_size (unsigned_abs a) q)
-nearest_neg (pos n) q h = absurd (omega (arith, ints))
-nearest_neg (negsuc n) q h = ap (λ k. pos 0 -ℤ pos (nearest_size k q)) (add-one n)
+nearest_neg a q h = grind (arith, ints, add-one)
 
 -- the difference of two numbers, by its size
 apart : (s n q : ℕ) → 2 * s ≤ 2 * n + q → 2 * n + q < 2 * s + 2 * q → 2 * unsigned_abs (pos s -ℤ pos n) ≤ q
@@ -29,16 +28,14 @@ tied s n q b e = omega (arith, ints)
 
 -- the product with a number turned negative
 mirrored : (t q : ℕ) → (pos 0 -ℤ pos t) *ℤ pos q ≡ pos 0 -ℤ pos (t * q)
-mirrored zero q = let z : zero * q ≡ 0 = omega arith in rw z refl
-mirrored (suc t) q = grind (arith, common_steps)
+mirrored t q = grind arith
 
 pub nearest_is : (a : ℤ) (q : ℕ) → 0 < q → IsNearest a q (nearest a q)
 nearest_is (pos n) q some = grind (arith, common_steps, size_bounds, apart, tied)
 nearest_is (negsuc n) q some = grind (arith, common_steps, size_bounds, mirrored)
 
 pub rounded : {A : Type 0} (above : A → ℤ) (q : ℕ) (x : Option A) → 0 < q → IsRounded above q x (option_map (λ a. nearest (above a) q) x)
-rounded above q None some = tt
-rounded above q (Some a) some = nearest_is (above a) q some
+rounded above q x some = grind (arith, nearest_is)
 
 -- the size of a quotient by an even number
 halved : (n h : ℕ) → nearest_size n (2 * h) ≡ (n + h) / (2 * h)
@@ -49,5 +46,4 @@ pub nearest_below : (x : ℤ) (f h : ℕ) → x <ℤ pos 0 → 0 < f → nearest
 nearest_below x f h neg some = grind (arith, common_steps, nearest_neg, unsigned_abs-mul, halved, negsuc-*ℤ-pos)
 
 pub nearest_above : (x : ℤ) (f h : ℕ) → pos 0 ≤ℤ x → nearest (x *ℤ pos f) (2 * h) ≡ pos ((unsigned_abs x * f + h) / (2 * h))
-nearest_above (pos n) f h up = ap pos (halved (n * f) h)
-nearest_above (negsuc n) f h up = absurd (omega (arith, ints))
+nearest_above x f h up = grind (arith, halved, ints)

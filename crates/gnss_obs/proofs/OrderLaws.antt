@@ -33,13 +33,7 @@ all-insert_by P at x (y ∷ ys) h k = grind (arith, common_steps, all-insert_by 
 -- An item with a sort key of its own is inserted in order.
 pub rise-insert_by : {X : Type 0} (at : X → SortKey) (x : X) (ys : List X) → SortKeysRise (map at ys) → AllByRecursion (λ y. at x ≡ at y → ⊥) ys → SortKeysRise (map at (insert_by at x ys))
 rise-insert_by at x [] r other = (tt, tt)
-rise-insert_by at x (y ∷ ys) r other = by (is_before (at x) (at y)) refl (rise-insert_by at x ys r.1 other.1) where
-  by : (b : Bool) → is_before (at x) (at y) ≡ b → SortKeysRise (map at (insert_by at x ys)) → SortKeysRise (map at (if b then x ∷ y ∷ ys else y ∷ insert_by at x ys))
-  by true e h = ((e, before_all (at x) (at y) (map at ys) e r.0), r)
-  by false e h =
-      let first = before_other (at x) (at y) e other.0 in
-      let all : Before (at y) (insert_by (λ (s : SortKey). s) (at x) (map at ys)) = all-insert_by (λ t. is_before (at y) t ≡ true) (λ (s : SortKey). s) (at x) (map at ys) first r.0 in
-      (subst (Before (at y)) (sym (map-insert_by at x ys)) all, h)
+rise-insert_by at x (y ∷ ys) r other = grind (arith, before_all, before_other, all-insert_by, map-insert_by, rise-insert_by at x ys r.1 other.1)
 
 -- No two items have the same sort key.
 abbrev pub Differ : {X : Type 0} → (X → SortKey) → List X → Type 0

@@ -1,6 +1,6 @@
 -- Codes separated by commas, and the signals of a plan.
 use Rattle.std.proofs.lemmas.Slice.Eq.{bytes_eq-Decides}
-use Rattle.std.proofs.Common.{Decides, bytes_eq, is_some, ◌⊎◌, ◌≡◌, ℕ, suc, zero, ◌+◌, ◌<◌, ◌≤◌, ◌==◌, ◌||◌, Bool, true, false, List, [], ◌∷◌, ◌++◌, length, All, nat_eq, refl, sym, ap, ap₂, ◌∙◌, subst, arith, Option, Some, None, Result, Ok, Err, inl, inr, rules, true≢false, if◌then◌else◌, codes, is_err}
+use Rattle.std.proofs.Common.{bytes_eq, is_some, ◌⊎◌, ◌≡◌, ℕ, suc, zero, ◌+◌, ◌<◌, ◌≤◌, ◌==◌, ◌||◌, Bool, true, false, List, [], ◌∷◌, ◌++◌, length, All, nat_eq, refl, sym, ap, ap₂, ◌∙◌, subst, arith, Option, Some, None, Result, Ok, Err, rules, true≢false, if◌then◌else◌, codes, is_err}
 use Rattle.std.proofs.Common.{Bor}
 use Rattle.std.proofs.lemmas.Cmp.{nat_eq_equiv}
 use Rattle.std.proofs.lemmas.Map.Keys.{IsDistinct-push}
@@ -33,9 +33,7 @@ first_none text r split is = no_comma text (rw is at (split_once_first 44 text r
 
 pub first_some : (text : List ℕ) (r : Option (Bor (List ℕ) × Bor (List ℕ))) (x : Bor (List ℕ) × Bor (List ℕ)) → IsSplitOnceResult 44 text r → r ≡ Some x
     → between_commas text ≡ x.0.now ∷ between_commas x.1.now
-first_some text r x split is =
-    let m = rw is at (split_once_first 44 text r split (omega arith)) in
-    at_comma text m.0 ∙ ap₂ (λ a b. a ∷ between_commas b) (sym m.1) (sym m.2)
+first_some text r x split is = grind (arith, split_once_first, at_comma)
 
 -- ---- the signals of a plan
 
@@ -127,21 +125,18 @@ IsFirstRead system all rest = (rest ≡ all) ⊎ (is_first_listed system all ≡
 
 pub first_read : (system : System) (all codes : List (List ℕ)) {rest : List (List ℕ)} (code : List ℕ) → rest ≡ code ∷ codes → IsFirstRead system all rest → is_some (signal_of_code system code) ≡ true
     → is_first_listed system all ≡ true
-first_read system all codes code split (inl same) listed = sym (ap (is_first_listed system) (sym split ∙ same)) ∙ listed
-first_read system all codes code split (inr first) listed = first
+first_read system all codes code split h1 listed = grind arith
 
 pub code_fault : (Q : Type 0) (system : System) (before : List SignalAt) (text : List ℕ) {code : List ℕ} {codes : List (List ℕ)} {all : Result (List ℕ) PlanFault} (fault : PlanFault)
     → between_commas text ≡ code ∷ codes → signals_after system (indices before) (between_commas text) ≡ all → (MayTakeCode system code before → Q)
     → IsMemoryFaultOr (MayTakeCode system code before) (RefusesCode system code before) fault → IsMemoryFaultOr Q (λ e. all ≡ Err e) fault
-code_fault Q system before text fault split same may (inl m) = inl (m.0, may m.1)
-code_fault Q system before text {codes} fault split same may (inr bad) = grind (arith, common_steps)
+code_fault Q system before text fault split same may h3 = grind arith
 
 pub last_code : {A : Type 0} (Q : Type 0) (system : System) (before after : List SignalAt) (text : List ℕ) {all : Result (List ℕ) PlanFault} (result : Result A PlanFault)
     → between_commas text ≡ text ∷ [] → signals_after system (indices before) (between_commas text) ≡ all
     → (MayTakeCode system text before → Q) → DoneOr (MayTakeCode system text before) (RefusesCode system text before) (TakesCode system text before after) result
     → DoneOr Q (λ e. all ≡ Err e) (ArePlanned system all after) result
-last_code Q system before after text (Ok u) split same may h = grind (arith, common_steps)
-last_code Q system before after text (Err e) split same may h = code_fault Q system before text e split same may h
+last_code Q system before after text result split same may h = grind (arith, code_fault)
 
 -- The signal of a code is one of the system's table.
 pub of_where : (system : System) (test : ListedSignal → Bool) (s : SignalAt) → signal_where system test ≡ Some s → (s.system ≡ system) × IsSignal s
@@ -188,23 +183,10 @@ pub when_none : (system : System) (text : List ℕ) (r : List SignalAt) → text
 when_none system text r is e = rw (is, e) (refl, none_of system)
 
 unlike : (xs ys : List ℕ) → (xs ≡ ys → ⊥) → bytes_eq xs ys ≡ false
-unlike xs ys other = by (bytes_eq xs ys) (bytes_eq-Decides xs ys) where
-  by : (b : Bool) → Decides b (xs ≡ ys) → b ≡ false
-  by false d = refl
-  by true d = absurd (other (d.0 refl))
+unlike xs ys other = grind (arith, bytes_eq-Decides)
 
 -- The signals of a text other than `all` and `none` are those of its codes.
 pub when_codes : {A : Type 0} (system : System) (text : List ℕ) (after : List SignalAt) (result : Result A PlanFault) → (text ≡ codes "all" → ⊥) → (text ≡ codes "none" → ⊥)
     → DoneOr (is_first_listed system (between_commas text) ≡ true) (λ e. signals_coded system text ≡ Err e) (ArePlanned system (signals_coded system text) after) result
     → DoneOr (has_signal system text ≡ true) (λ e. signals_of system text ≡ Err e) (ArePlanned system (signals_of system text) after) result
-when_codes system text after result every none h =
-    let all = unlike text (codes "all") every in
-    let nothing = unlike text (codes "none") none in
-    let same : signals_of system text ≡ signals_coded system text =
-    ap (λ b. if b then Ok (below (length (table system))) else (if bytes_eq text (codes "none") then Ok [] else signals_coded system text)) all
-    ∙ ap (λ b. if b then Ok [] else signals_coded system text) nothing in
-    let has : has_signal system text ≡ is_first_listed system (between_commas text) =
-    ap (λ b. if b then true else (if bytes_eq text (codes "none") then false else is_first_listed system (between_commas text))) all
-    ∙ ap (λ b. if b then false else is_first_listed system (between_commas text)) nothing in
-    subst (λ (b : Bool). DoneOr (b ≡ true) (λ e. signals_of system text ≡ Err e) (ArePlanned system (signals_of system text) after) result) (sym has)
-    (subst (λ (all : Result (List ℕ) PlanFault). DoneOr (is_first_listed system (between_commas text) ≡ true) (λ e. all ≡ Err e) (ArePlanned system all after) result) (sym same) h)
+when_codes system text after result every none h = grind (arith, unlike)

@@ -1,5 +1,5 @@
 -- Satellites as the bits of a set.
-use Rattle.std.proofs.Common.{◌≡◌, ℕ, zero, suc, ◌+◌, ◌*◌, ◌<◌, ◌≤◌, ◌^◌, ◌%◌, Bool, true, false, List, [], ◌∷◌, ◌++◌, refl, sym, ap, ◌∙◌, subst, arith, length, All, nat_lt, nat_eq, max, take, get_or}
+use Rattle.std.proofs.Common.{◌≡◌, ℕ, zero, suc, ◌+◌, ◌*◌, ◌<◌, ◌≤◌, ◌^◌, ◌%◌, Bool, true, false, List, [], ◌∷◌, ◌++◌, refl, sym, ap, ◌∙◌, subst, arith, length, All, nat_lt, nat_eq, max, take, get_or, rules}
 use Rattle.std.proofs.lemmas.List.{take_more}
 use Rattle.std.proofs.lemmas.Nat.{and_le_l}
 use Rattle.std.specs.Int.{bit_at, bit_not, trailing_zeros, w64}
@@ -8,7 +8,7 @@ use Rattle.std.specs.Int.Count.{trailing_of_zero}
 use Rattle.std.proofs.lemmas.List.Elements.{All-push, All-weaker}
 use Rattle.std.proofs.lemmas.Nat.Bits.{bit_at_and, bit_at_or, bit_at-lt, bit_at-zero, bit_at_set_same, bit_at_set_other, bit_at_clear_same, bit_at_clear_other, bit_at-trailing_zeros}
 use Rattle.gnss_obs.specs.inner.Arriving.{HasSatellites}
-use Rattle.gnss_obs.specs.inner.Names.{AreBelow, AreHeld, Cell, IsHeld, System, cell_number, place_in, satellites, sorted_cells}
+use Rattle.gnss_obs.specs.inner.Names.{AreBelow, AreHeld, Cell, IsHeld, System, cell_number, satellites, sorted_cells}
 use Rattle.std.proofs.lemmas.Grind.{common_steps}
 use Rattle.gnss_obs.proofs.SortLemmas.{Gap, IsFrom, below_all, below_first, below_skip, place_less}
 
@@ -87,8 +87,7 @@ lowest_rises set some small = by (without set id) refl where
   above : (n : ℕ) → id ≤ n → (n ≡ id → ⊥) → id + 1 ≤ n
   above n h other = step (nat_lt id n) refl where
     step : (b : Bool) → nat_lt id n ≡ b → id + 1 ≤ n
-    step true x = grind (arith, x)
-    step false x = absurd (other (grind (arith, x, h)))
+    step b h0 = omega arith
 
   by : (now : ℕ) → without set id ≡ now → id + 1 ≤ lowest now
   by zero is = let end = trailing_of_zero 64 in omega (arith, low, end)
@@ -139,10 +138,7 @@ lowest_sorted most planned cells {more = more} set some small few top h b = reco
       bit_at_clear_other w64 set id (lowest_bit set some small).0 c.satellite.id (omega (arith, listed, top)) (λ same. absurd (omega (arith, same, above))) ∙ was
 
   gap : (c : Cell) → IsLater set c → 64 * (id + 1) ≤ cell_number planned c → 64 * lowest now ≤ cell_number planned c
-  gap c own from =
-      let low = place_less (place_in c.signal planned) _ planned refl few in
-      let least = lowest_least now c.satellite.id (small_without set id small) (stays c own (omega (arith, from, low))) in
-      omega (arith, least)
+  gap c h0 h1 = grind (arith, place_less, lowest_least, small_without, stays, id, now)
 
 pub all_sorted : (most : ℕ) (planned : List ℕ) (cells first : List Cell) → length planned ≤ 64 → AreSortedTo most planned cells 0 first → first ≡ sorted_cells planned cells
 all_sorted most planned cells first few h =
@@ -150,7 +146,4 @@ all_sorted most planned cells first few h =
       lower : (c : Cell) → IsLater 0 c → cell_number planned c < 64 * 64
       lower c own = by (nat_lt c.satellite.id 64) refl where
         by : (b : Bool) → nat_lt c.satellite.id 64 ≡ b → cell_number planned c < 64 * 64
-        by true x = let low = place_less (place_in c.signal planned) _ planned refl few in let less : c.satellite.id < 64 = grind (arith, x) in omega (arith, low, less)
-        by false x =
-            let far : 64 ≤ c.satellite.id = grind (arith, x) in
-            absurd (omega (arith, bit_at-zero c.satellite.id, own (subst (λ n. n ≤ c.satellite.id) (sym (trailing_of_zero 64)) far)))
+        by b h0 = search (rules, place_less, bit_at-zero)

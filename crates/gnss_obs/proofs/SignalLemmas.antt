@@ -1,5 +1,5 @@
 -- Signals in a set, and the indices of a table's signals in it.
-use Rattle.std.proofs.Common.{◌≡◌, ◌≢◌, ℕ, ◌+◌, ◌<◌, ◌≤◌, ◌==◌, ◌||◌, Bool, true, false, not, List, [], ◌∷◌, ◌++◌, length, All, set, get_or, nat_eq, nat_lt, refl, sym, ap, ap₂, ◌∙◌, subst, arith, Option, Some, None, if◌then◌else◌, cond, position, is_some, option_map, option_and_then}
+use Rattle.std.proofs.Common.{◌≡◌, ◌≢◌, ℕ, ◌+◌, ◌<◌, ◌≤◌, ◌==◌, ◌||◌, Bool, true, false, not, List, [], ◌∷◌, ◌++◌, length, All, set, get_or, nat_eq, nat_lt, refl, sym, ap, ap₂, ◌∙◌, subst, arith, Option, Some, None, if◌then◌else◌, cond, position, is_some, option_map, option_and_then, rules}
 use Rattle.std.proofs.lemmas.List.{get_or-set_other, length_push}
 use Rattle.std.proofs.lemmas.List.Folds.{position_or_len_push}
 use Rattle.std.proofs.lemmas.Grind.{get_or-set_at}
@@ -11,7 +11,6 @@ use Rattle.gnss_obs.proofs.PlanLaws.{indices-push, is_of-push}
 use Rattle.std.proofs.lemmas.Grind.{common_steps}
 use Rattle.std.proofs.lemmas.List.Quantifiers.{position-Some}
 use Rattle.std.proofs.lemmas.Option.{slice_get-get_or}
-use Rattle.std.specs.Prelude.{nat_le}
 use Rattle.gnss_system.proofs.SystemLaws.{each_system}
 use Rattle.gnss_obs.specs.inner.Names.{System, ListedSignal, table, id_of, indices, signal_at, signal_of_id, option_map_or}
 use Rattle.gnss_obs.specs.Plans.{if_planned, planned_signal}
@@ -50,9 +49,7 @@ module _ {eq : SignalAt → SignalAt → Bool} (same : (a b : SignalAt) → a.sy
 any_alike : (s : SignalAt) (test : SignalAt → Bool) (ss : List SignalAt) → All (λ (r : SignalAt). (r.system ≡ s.system) × IsSignal r) ss
     → ((r : SignalAt) → s.system ≡ r.system → test r ≡ (s.index == r.index)) → list_any test ss ≡ list_any (λ (r : SignalAt). s.index == r.index) ss
 any_alike s test [] h same = refl
-any_alike s test (r ∷ ss) h same =
-    let here = All-head (λ (r : SignalAt). (r.system ≡ s.system) × IsSignal r) r ss h in
-    ap₂ (λ a b. a || b) (same r (sym here.0)) (any_alike s test ss (All-tail (λ (r : SignalAt). (r.system ≡ s.system) × IsSignal r) r ss h) same)
+any_alike s test (r ∷ ss) h same = search (rules, All-head, All-tail, any_alike s test ss (All-tail (λ (r : SignalAt). (r.system ≡ s.system) × IsSignal r) r ss h) same)
 
 pub is_absent : (s : SignalAt) {test : SignalAt → Bool} {ss : List SignalAt} → list_any test ss ≡ false → IsOf s.system ss
     → ((r : SignalAt) → s.system ≡ r.system → test r ≡ (s.index == r.index)) → list_any (λ (r : SignalAt). s.index == r.index) ss ≡ false
@@ -75,18 +72,7 @@ any_flip i (x ∷ xs) = grind (arith, common_steps, any_flip i xs)
 
 pub found_more : {places : List (Option ℕ)} {xs new : List ℕ} (i : ℕ) {place : ℕ} → AreFound places xs → i < most_signals → most_signals ≤ length places → list_any (nat_eq i) xs ≡ false
     → place ≡ length xs → new ≡ xs ++ i ∷ [] → AreFound (set places i (Some place)) new
-found_more {places} {xs} i {place} found less room none at is = subst (AreFound (set places i (Some place))) (sym is) (record { each = λ n small. by n small (nat_eq i n) refl }) where
-  apart : (n : ℕ) → nat_eq i n ≡ false → n ≢ i
-  apart n e same = absurd (grind (arith, e, same))
-
-  alike : (n : ℕ) → nat_eq i n ≡ true → n ≡ i
-  alike n e = grind (arith, e)
-
-  by : (n : ℕ) → n < 19 → (b : Bool) → nat_eq i n ≡ b → get_or (set places i (Some place)) n None ≡ position (λ j. j == n) (xs ++ i ∷ [])
-  by n small true e =
-      get_or-set_at places i n (Some place) None (alike n e) (omega (arith, less, room)) ∙ ap Some at
-      ∙ sym (first_here (λ j. j == n) xs i e (subst (λ (m : ℕ). list_any (λ j. j == m) xs ≡ false) (sym (alike n e)) (any_flip i xs ∙ none)))
-  by n small false e = get_or-set_other places i n (Some place) None (apart n e) ∙ found.each n small ∙ sym (first_skip (λ j. j == n) xs i e)
+found_more {places} {xs} i {place} found less room none at is = grind (arith, get_or-set_at, first_here, any_flip, get_or-set_other, first_skip)
 
 -- ---- the row of each ID
 
@@ -107,15 +93,10 @@ listed_at system i within = grind (arith, common_steps, within)
 
 -- No signal has this index.
 pub no_signal : (system : System) → signal_at system 255 ≡ None
-no_signal system = by _ _ (each_system (λ system. nat_le (length (table system)) 255) system refl) where
-  by : (n : ℕ) (s : SignalAt) → nat_le n 255 ≡ true → (if nat_lt 255 n then Some s else None) ≡ None
-  by n s few = grind (arith, common_steps, few)
+no_signal system = grind (arith, each_system)
 
 pub none_planned : (system : System) (id : ℕ) → planned_signal system [] id ≡ None
-none_planned system id = by (signal_of_id system id) where
-  by : (o : Option SignalAt) → option_and_then (if_planned []) o ≡ None
-  by None = refl
-  by (Some s) = refl
+none_planned system id = grind arith
 
 last_of : (system : System) (ss : List SignalAt) (s : SignalAt) → All (λ (r : SignalAt). (r.system ≡ system) × IsSignal r) (ss ++ s ∷ []) → s.system ≡ system
 last_of system [] s h = (All-head (λ (r : SignalAt). (r.system ≡ system) × IsSignal r) s [] h).0

@@ -1,5 +1,5 @@
 -- Cells sorted by numbers, and cells that are in order.
-use Rattle.std.proofs.Common.{◌≡◌, ℕ, zero, suc, ◌+◌, ◌*◌, ◌<◌, ◌≤◌, ◌==◌, Bool, true, false, ◌||◌, List, [], ◌∷◌, ◌++◌, map, drop, refl, sym, ap, ap₂, ◌∙◌, subst, arith, length, get_or, Option, Some, None, All, nat_eq, is_some}
+use Rattle.std.proofs.Common.{◌≡◌, ℕ, zero, suc, ◌+◌, ◌*◌, ◌<◌, ◌≤◌, ◌==◌, Bool, true, false, ◌||◌, List, [], ◌∷◌, ◌++◌, map, drop, refl, sym, ap, ap₂, ◌∙◌, subst, arith, length, get_or, Option, Some, All, nat_eq, is_some}
 use Rattle.std.specs.Prelude.{◌&&◌, fold, nat_lt, position}
 use Rattle.std.proofs.lemmas.List.{append_assoc, append-nil, get_or-map, length-append}
 use Rattle.std.proofs.lemmas.List.Elements.{All-append, All-cons, All-get_or, All-head, All-nil, All-push, All-tail, All-weaker}
@@ -16,8 +16,7 @@ use Rattle.std.proofs.lemmas.Grind.{common_steps}
 -- ---- numbers of cells
 
 pub place_less : (o : Option ℕ) (p : ℕ → Bool) (planned : List ℕ) → position p planned ≡ o → length planned ≤ 64 → option_map_or (λ k. k) o 0 < 64
-place_less None p planned e few = omega arith
-place_less (Some k) p planned e few = let h = (position-Some p planned k 0 e).0 in omega (arith, h, few)
+place_less o p planned e few = grind (arith, position-Some)
 
 pub table_few : (system : System) → length (table system) ≤ 64
 table_few system = grind (arith, common_steps)
@@ -121,8 +120,7 @@ number_is planned c p e = ap (λ o. 64 * c.satellite.id + option_map_or (λ n. n
 same_place : (planned : List ℕ) (i p : ℕ) {a : ℕ} → IsDistinct nat_eq planned → i < length planned → p < length planned → get_or planned i 0 ≡ a → get_or planned p 0 ≡ a → p ≡ i
 same_place planned i p {a} apart h k e f = by (nat_lt i p) (nat_lt p i) refl refl where
   clash : (b : Bool) → nat_eq a a ≡ b → b ≡ false → ⊥
-  clash true e f = cc
-  clash false e f = absurd (grind (arith, e))
+  clash b h0 h1 = grind arith
 
   by : (b c : Bool) → nat_lt i p ≡ b → nat_lt p i ≡ c → p ≡ i
   by true c x y = absurd (clash (nat_eq a a) refl (sym (ap₂ (λ n m. nat_eq n m) e f) ∙ apart_from_distinct nat_eq planned i p 0 apart (let l : i < p = grind (arith, x) in l) k))
@@ -185,13 +183,7 @@ pub record IsEntry (signals : List SignalAt) (i : ℕ) (s : SignalAt) : Type 0 w
 -- The cell of an entry has the number of its satellite and its signal's index in the plan.
 number_at : {system : System} {signals : List SignalAt} {i : ℕ} {s : SignalAt} (id : ℕ) (x : Cell) → IsOf system signals → IsEntry signals i s → IsPlanned (indices signals) x
     → x.signal.index < 32 → slot x ≡ 32 * id + s.index → cell_number (indices signals) x ≡ 64 * id + i
-number_at {signals = signals} {i} {s} id x of e some small is =
-    let p = placed (indices signals) x some in
-    let within : i < length (indices signals) = subst (λ n. i < n) (sym (length_indices signals)) e.less in
-    let same = both x.satellite.id x.signal.index id s.index small (low_index s e.listed) is in
-    number_is (indices signals) x p.0 p.1.0 ∙ ap₂ (λ n m. 64 * n + m) same.0 (same_place (indices signals) i p.0 of.apart within p.1.1 (index_of signals i s e.less e.is) (p.1.2 ∙ same.1)) where
-      both : (a b n m : ℕ) → b < 32 → m < 32 → 32 * a + b ≡ 32 * n + m → (a ≡ n) × (b ≡ m)
-      both a b n m h k e = (omega (arith, h, k, e), omega (arith, h, k, e))
+number_at {signals = signals} {i} {s} id x of e some small is = grind (arith, placed, length_indices, low_index, number_is, same_place, index_of)
 
 -- Without a cell of an entry, no cell has the number of its satellite and signal.
 none_at : {system : System} {signals : List SignalAt} {i : ℕ} {s : SignalAt} (id : ℕ) (cells : List Cell) → IsOf system signals → IsEntry signals i s → All (IsPlanned (indices signals)) cells
@@ -214,8 +206,7 @@ none_at {system} {signals} {i} {s} id (c ∷ cells) of e all none =
       other : (b p : ℕ) {a : ℕ} → p < 64 → a ≡ 64 * b + p → (p ≡ i → b ≡ id → ⊥) → 64 * id + i ≤ a → 64 * id + (i + 1) ≤ a
       other b p {a} h is differ le = step (nat_eq a (64 * id + i)) refl where
         step : (t : Bool) → nat_eq a (64 * id + i) ≡ t → 64 * id + (i + 1) ≤ a
-        step false t = grind (arith, t, le)
-        step true t = let equal : a ≡ 64 * id + i = grind (arith, t) in absurd (differ (omega (arith, equal, is, h, small)) (omega (arith, equal, is, h, small)))
+        step t h0 = grind (arith, differ, small)
 
       by : (b : Bool) → (slot c == 32 * id + s.index) ≡ b → (b || has_slot (32 * id + s.index) (map slot cells)) ≡ false
           → (has_slot (32 * id + s.index) (map slot cells) ≡ false → All (Gap planned (64 * id + i) (64 * id + (i + 1))) cells)
@@ -257,9 +248,7 @@ entries_end {system} {signals} {n} {cells} {first} id of end b =
       far b p e h le is from = omega (arith, e, h, le, is, from)
 
       later : (c : Cell) → IsPlanned (indices signals) c → 64 * id + n ≤ cell_number (indices signals) c → 64 * (id + 1) ≤ cell_number (indices signals) c
-      later c some =
-          let p = placed (indices signals) c some in
-          far c.satellite.id p.0 (number_is (indices signals) c p.0 p.1.0) p.1.1 most (length_indices signals ∙ sym end)
+      later c h0 = grind (arith, placed, number_is, length_indices, most, far)
 
 -- ---- cells in order
 
@@ -284,9 +273,7 @@ last_all at ys x (z ∷ zs) all h = (last_push at ys x z all.0 h.0, last_all at 
 
 rise_onto : {X : Type 0} (at : X → SortKey) (ys xs : List X) → AllByRecursion (Last at ys) xs → SortKeysRise (map at xs) → fold (λ zs x. insert_by at x zs) ys xs ≡ ys ++ xs
 rise_onto at ys [] all rise = sym (append-nil ys)
-rise_onto at ys (x ∷ xs) all rise =
-    ap (λ l. fold (λ zs z. insert_by at z zs) l xs) (insert_last at x ys all.0)
-    ∙ rise_onto at (ys ++ x ∷ []) xs (last_all at ys x xs all.1 rise.0) rise.1 ∙ append_assoc ys (x ∷ []) xs
+rise_onto at ys (x ∷ xs) all rise = grind (arith, insert_last, last_all, append_assoc, rise_onto at (ys ++ x ∷ []) xs (last_all at ys x xs all.1 rise.0) rise.1)
 
 none_before : {X : Type 0} (at : X → SortKey) (xs : List X) → AllByRecursion (Last at []) xs
 none_before at [] = tt
@@ -345,18 +332,12 @@ before_slot bound planned c d r h k less =
       compare : (p q : ℕ) → (c.signal.index < d.signal.index → p < q) → is_before (record { satellite = c.satellite.id; place = p }) (record { satellite = d.satellite.id; place = q }) ≡ true
       compare p q more = by (nat_lt c.satellite.id d.satellite.id) refl where
         by : (e : Bool) → nat_lt c.satellite.id d.satellite.id ≡ e → (e || ((c.satellite.id == d.satellite.id) && nat_lt p q)) ≡ true
-        by true x = refl
-        by false x =
-            let far : d.satellite.id ≤ c.satellite.id = grind (arith, x) in
-            let same : c.satellite.id ≡ d.satellite.id = omega (arith, far, less, h.1, k.1) in
-            let next = more (omega (arith, same, less)) in
-            grind (arith, same, next)
+        by e h0 = grind arith
 
 slots_first : (bound : ℕ) (planned : List ℕ) (c : Cell) (cells : List Cell) → RiseTo bound planned → IsPlannedCell planned c → All (IsPlannedCell planned) cells
     → AllByRecursion (λ n. slot c < n) (map slot cells) → Before (cell_sort_key planned c) (map (cell_sort_key planned) cells)
 slots_first bound planned c [] r h all less = tt
-slots_first bound planned c (d ∷ cells) r h all less =
-    (before_slot bound planned c d r h (All-head (IsPlannedCell planned) d cells all) less.0, slots_first bound planned c cells r h (All-tail (IsPlannedCell planned) d cells all) less.1)
+slots_first bound planned c (d ∷ cells) r h all less = grind (arith, before_slot, All-head, All-tail, slots_first bound planned c cells r h (All-tail (IsPlannedCell planned) d cells all) less.1)
 
 slots_rise : (bound top : ℕ) (planned : List ℕ) (cells : List Cell) → RiseTo bound planned → All (IsPlannedCell planned) cells → RiseTo top (map slot cells) → SortKeysRise (map (cell_sort_key planned) cells)
 slots_rise bound top planned [] r all s = tt

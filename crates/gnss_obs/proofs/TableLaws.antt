@@ -1,6 +1,6 @@
 -- The signal tables: their IDs rise row by row, each ID and each code has one row, and each ID the row that is listed
 -- for it.
-use Rattle.std.proofs.Common.{ℕ, ◌≡◌, ◌+◌, ◌-◌, ◌<◌, ◌≤◌, ◌==◌, ◌&&◌, true≢false, Bool, true, false, nat_lt, length, position, List, Option, Some, None, Bor, slice_index_or, refl, sym, ap, ◌∙◌, arith, slice_get, unwrap_or, option_copied, option_map, is_some, IfSome}
+use Rattle.std.proofs.Common.{ℕ, ◌≡◌, ◌+◌, ◌-◌, ◌<◌, ◌≤◌, ◌==◌, ◌&&◌, Bool, true, false, nat_lt, length, position, List, Option, Some, None, Bor, slice_index_or, refl, ap, ◌∙◌, arith, slice_get, unwrap_or, option_copied, option_map, is_some, IfSome}
 use Rattle.std.proofs.lemmas.Option.{slice_get_past, slice_get_read}
 use Rattle.std.specs.List.{list_all}
 use Rattle.gnss_system.specs.Systems.{systems}
@@ -42,8 +42,7 @@ is_at (Some j) i = j == i
 
 from_at : (o : Option ℕ) (i : ℕ) → is_at o i ≡ true → o ≡ Some i
 unfolding is_at
-from_at None i h = absurd (true≢false (sym h))
-from_at (Some j) i h = ap Some (eqb-true j i h)
+from_at o i h = grind (arith, eqb-true)
 
 abbrev has_first_id : System → ℕ → Bool
 has_first_id system i = is_at (position (λ e. e.0 == id_of (signal system i)) (table system)) i
@@ -66,19 +65,16 @@ rows_fit system id below = below_each row_at (λ system. 256) refl system id bel
 
 same_row : (n : ℕ) (o : Option ℕ) (row : ℕ) → is_row n o row ≡ true → (row == 255) ≡ false → (Some row ≡ o) × (row < n)
 unfolding is_row
-same_row n None row h other = absurd (grind (arith, h, other))
-same_row n (Some i) row h other = (ap Some (eqb-true row i (and_parts (nat_lt i n) (row == i) h).1), rw (eqb-true row i (and_parts (nat_lt i n) (row == i) h).1) (ltb-true i n (and_parts (nat_lt i n) (row == i) h).0))
+same_row n o row h other = grind (arith, eqb-true, and_parts, ltb-true)
 
 no_row : (n : ℕ) (o : Option ℕ) (row : ℕ) → is_row n o row ≡ true → row ≡ 255 → n ≤ 64 → o ≡ None
 unfolding is_row
-no_row n None row h none few = refl
-no_row n (Some i) row h none few = absurd (grind (arith, common_steps, h, none, few))
+no_row n o row h none few = grind arith
 
 -- the row at an ID
 read_at : (xs : List ℕ) (id : ℕ) (o : Option (Bor ℕ)) → is_some o ≡ nat_lt id (length xs) → IfSome o (λ x. x.now ≡ slice_index_or xs id x.now)
     → unwrap_or (option_copied o) 255 ≡ unwrap_or (slice_get xs id) 255
-read_at xs id None some h = ap (λ o. unwrap_or o 255) (sym (slice_get_past xs id (grind (arith, some))))
-read_at xs id (Some x) some h = ap (λ o. unwrap_or o 255) (sym (slice_get_read xs (length xs) id x.now refl (ltb-true id (length xs) (sym some)) h))
+read_at xs id o some h = grind (arith, slice_get_past, slice_get_read, ltb-true)
 
 pub row_is : (system : System) (id : ℕ) (o : Option (Bor ℕ)) → id < 256 → is_some o ≡ nat_lt id (length (rows system)) → IfSome o (λ x. x.now ≡ slice_index_or (rows system) id x.now)
     → (row : ℕ) → row ≡ unwrap_or (option_copied o) 255

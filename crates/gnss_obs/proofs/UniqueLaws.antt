@@ -1,14 +1,12 @@
 -- The nearest whole number is unique.
-use Rattle.std.proofs.Common.{ℕ, suc, ℤ, pos, negsuc, ◌≡◌, ◌+◌, ◌*◌, ◌<◌, ◌≤◌, ◌-ℤ◌, ◌+ℤ◌, ◌*ℤ◌, ◌<ℤ◌, ◌≤ℤ◌, unsigned_abs, ap, ◌∙◌, arith, ◌⊎◌, inl, inr}
+use Rattle.std.proofs.Common.{ℕ, suc, ℤ, pos, negsuc, ◌≡◌, ◌+◌, ◌*◌, ◌<◌, ◌≤◌, ◌-ℤ◌, ◌+ℤ◌, ◌*ℤ◌, ◌<ℤ◌, ◌≤ℤ◌, unsigned_abs, arith, ◌⊎◌, inl, inr, rules}
 use Rattle.std.proofs.Math.IntN.{neg_ℤ, negsuc-*ℤ-pos}
 use Rattle.std.proofs.lemmas.Int.{ints}
 use Rattle.std.proofs.lemmas.Nat.{mul-le}
 use Rattle.gnss_obs.specs.Rounding.{IsNearest}
 
 negative : (m q : ℕ) → negsuc m *ℤ pos q ≡ pos 0 -ℤ pos (suc m * q)
-negative m q = negsuc-*ℤ-pos m q ∙ turned (suc m * q) where
-  turned : (k : ℕ) → neg_ℤ (pos k) ≡ pos 0 -ℤ pos k
-  turned k = omega (arith, ints)
+negative m q = grind (arith, negsuc-*ℤ-pos, neg_ℤ, ints)
 
 more : (m n q : ℕ) → m < n → m * q + q ≤ n * q
 more m n q h = let p : suc m * q ≤ n * q = mul-le (suc m) q n q (omega (arith, h)) (omega arith) in omega (arith, p)
@@ -22,18 +20,13 @@ apart (pos m) (negsuc n) q h = absurd (omega (arith, ints, h))
 apart (negsuc m) (pos n) q h = rw (negative m q) (np (suc m * q) (n * q) q (omega arith)) where
   np : (x y q : ℕ) → q ≤ x → ((pos 0 -ℤ pos x) +ℤ pos q) ≤ℤ pos y
   np x y q h = omega (arith, ints)
-apart (negsuc m) (negsuc n) q h = let p = more (suc n) (suc m) q (omega (arith, ints, h)) in rw (negative m q, negative n q) (nn (suc m * q) (suc n * q) q p)
-  where
-    nn : (x y q : ℕ) → y + q ≤ x → ((pos 0 -ℤ pos x) +ℤ pos q) ≤ℤ (pos 0 -ℤ pos y)
-    nn x y q h = omega (arith, ints)
+apart (negsuc m) (negsuc n) q h = search (rules, more, ints, negative)
 
 order : (t u : ℤ) → (t ≡ u) ⊎ ((t <ℤ u) ⊎ (u <ℤ t))
 order t u = grind (arith, ints)
 
 zero_times : (q : ℕ) → pos 0 *ℤ pos q ≡ pos 0
-zero_times q = ap pos (none q) where
-  none : (q : ℕ) → 0 * q ≡ 0
-  none q = omega arith
+zero_times q = grind arith
 
 -- x is at most half of q from a, and if it is exactly half, further from zero.
 record IsClose (a : ℤ) (q : ℕ) (x : ℤ) : Type 0 where
@@ -42,14 +35,7 @@ record IsClose (a : ℤ) (q : ℕ) (x : ℤ) : Type 0 where
 
 -- x and y are adjacent and a is halfway: only one of them is further from zero than a
 clash : {a : ℤ} {q : ℕ} {x y : ℤ} → 0 < q → (x +ℤ pos q) ≤ℤ y → IsClose a q x → IsClose a q y → (pos 0 ≤ℤ x) ⊎ ((x +ℤ pos q) ≤ℤ pos 0) → ⊥
-clash {a} {q} {x} {y} some next p r side =
-    let near_x = p.near in
-    let near_y = r.near in
-    let half_x : 2 * unsigned_abs (x -ℤ a) ≡ q = omega (arith, ints, next, near_x, near_y) in
-    let half_y : 2 * unsigned_abs (y -ℤ a) ≡ q = omega (arith, ints, next, near_x, near_y) in
-    let far_x = p.tie half_x in
-    let far_y = r.tie half_y in
-    elim side [ inl right ↦ omega (arith, ints, next, half_x, half_y, far_x, far_y, right, some) | inr left ↦ omega (arith, ints, next, half_x, half_y, far_x, far_y, left, some) ]
+clash {a} {q} {x} {y} some next p r side = grind (arith, ints)
 
 one_side : (t u a : ℤ) (q : ℕ) → 0 < q → t <ℤ u → IsNearest a q t → IsNearest a q u → ⊥
 one_side t u a q some less p r = clash some (apart t u q less) (record { near = p.near; tie = p.tie }) (record { near = r.near; tie = r.tie }) (elim (order t (pos 0)) [
@@ -57,8 +43,7 @@ one_side t u a q some less p r = clash some (apart t u q less) (record { near = 
   | inr s ↦ elim s [ inl left ↦ inr (rw (zero_times q) at (apart t (pos 0) q left)) | inr right ↦ inl (positive t right) ]
 ]) where
   positive : (t : ℤ) → pos 0 <ℤ t → pos 0 ≤ℤ (t *ℤ pos q)
-  positive (pos n) h = omega (arith, ints)
-  positive (negsuc n) h = absurd (omega (arith, ints, h))
+  positive t h0 = grind (arith, ints)
 
 pub one_nearest : (a : ℤ) (q : ℕ) (t u : ℤ) → 0 < q → IsNearest a q t → IsNearest a q u → t ≡ u
 one_nearest a q t u some p r = elim (order t u) [
