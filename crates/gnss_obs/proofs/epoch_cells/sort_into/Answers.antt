@@ -1,9 +1,10 @@
-use Rattle.std.proofs.Common.{◌≡◌, ◌≤◌, ◌<◌, ◌+◌, ◌*◌, sym, arith, subst, length}
+use Rattle.std.proofs.Common.{◌≡◌, ◌≤◌, ◌+◌, ◌*◌, sym, arith, subst, length}
 use Rattle.gnss_obs.specs.inner.Names.{AreBelow, planned_of, satellites}
 use Rattle.gnss_obs.specs.inner.Arriving.{HasSatellites}
 use Rattle.gnss_obs.proofs.SetLemmas.{AreSortedTo, all_sorted, few_satellites, lowest, lowest_bit, lowest_rises, lowest_sorted, none_sorted}
 use Rattle.gnss_obs.proofs.SortLemmas.{few_planned}
 use Rattle.gnss_obs.proofs.epoch_cells.sort_into.Goals as goal
+use Rattle.std.proofs.lemmas.Grind.{common_steps}
 
 pub loop-left-init : goal.loop-left-init
 loop-left-init c =
@@ -16,11 +17,7 @@ pub copy_satellite-requires-clause-id : goal.copy_satellite-requires-clause-id
 copy_satellite-requires-clause-id c = c.loop-left.invariant.listed (lowest c.loop-left.left) (lowest_bit c.loop-left.left (omega (arith, c.loop-left-test.true)) (omega arith)).1
 
 pub loop-left-smaller : goal.loop-left-smaller
-loop-left-smaller c =
-    let some : 0 < c.loop-left.left = omega (arith, c.loop-left-test.true) in
-    let low = (lowest_bit c.loop-left.left some (omega arith)).0 in
-    let rises = lowest_rises c.loop-left.left some (omega arith) in
-    omega (arith, low, rises)
+loop-left-smaller c = grind (arith, common_steps, lowest_bit, lowest_rises)
 
 pub loop-left-preserved : goal.loop-left-preserved
 loop-left-preserved c =

@@ -5,7 +5,4 @@ use Rattle.gnss_obs.proofs.SizeLaws.{metres_small}
 use Rattle.gnss_obs.proofs.observables.pseudorange.Goals as goal
 
 pub returns-in-Some-clause-bound : goal.returns-in-Some-clause-bound
-returns-in-Some-clause-bound c =
-    let few = c.requires c.in-Some.r c.in-Some.is in
-    let small = metres_small c.in-Some.r few in
-    grind (arith, common_steps, ints, small, few)
+returns-in-Some-clause-bound c = grind (arith, common_steps, metres_small, ints)

@@ -5,6 +5,7 @@ use Rattle.gnss_system.specs.Satellites.{satellites as satellites_in}
 use Rattle.gnss_obs.proofs.GroupLaws.{some_counted}
 use Rattle.gnss_system.proofs.SystemLaws.{below_next, below_all, sum_none, sum_some}
 use Rattle.gnss_obs.proofs.epoch.Epoch.has_satellites.Goals as goal
+use Rattle.std.proofs.lemmas.Grind.{common_steps}
 
 pub returns-then-has_value : goal.returns-then-has_value
 returns-then-has_value c =
@@ -12,9 +13,7 @@ returns-then-has_value c =
     (sym (some_counted c.at.result c.cells.result.now _ c.cells.ensures.cells c.cells.ensures.held c.cells.ensures.order) ∙ sym c.has_value.ensures ∙ c.if-has_value.true))
 
 pub loop-i-preserved : goal.loop-i-preserved
-loop-i-preserved c =
-    below_next (λ s. nat_lt 0 (written_among (cells_of s c.args.self.now.epoch) (satellites_in s)) ≡ false) c.loop-i.i c.at.result c.at.ensures c.loop-i.invariant
-    (sym (some_counted c.at.result c.cells.result.now _ c.cells.ensures.cells c.cells.ensures.held c.cells.ensures.order) ∙ sym c.has_value.ensures ∙ c.if-has_value.false)
+loop-i-preserved c = grind (arith, common_steps, below_next, some_counted)
 
 pub returns : goal.returns
 returns c =

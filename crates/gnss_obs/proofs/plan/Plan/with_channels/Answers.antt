@@ -1,9 +1,10 @@
-use Rattle.std.proofs.Common.{◌≡◌, ◌∙◌, [], ap, sym, true≢false}
+use Rattle.std.proofs.Common.{◌≡◌, ◌∙◌, [], ap, sym, true≢false, arith}
 use Rattle.gnss_system.specs.declared.system.System.TheVariants.{Glonass}
 use Rattle.gnss_system.proofs.SystemLaws.{value_mapped}
-use Rattle.gnss_obs.specs.inner.Names.{PlanValue, indices, planned_of}
+use Rattle.gnss_obs.specs.inner.Names.{indices, planned_of}
 use Rattle.gnss_obs.proofs.PlanLaws.{channelled, none_planned, some_planned}
 use Rattle.gnss_obs.proofs.plan.Plan.with_channels.Goals as goal
+use Rattle.std.proofs.lemmas.Grind.{common_steps}
 
 not_empty : (c : goal.Else-is_empty) → c.list.result.now ≡ [] → ⊥
 not_empty c none = true≢false (sym (c.is_empty.ensures.1 none) ∙ c.if-is_empty.false)
@@ -16,6 +17,4 @@ invariant_of-result-2 c = (
 )
 
 pub returns : goal.returns
-returns c =
-    ap (λ (p : PlanValue). record p { channels = c.args.channels }) c.self.view_is
-    ∙ channelled c.args.self c.args.channels (some_planned c.list.result.now c.list.ensures.indices (not_empty c))
+returns c = grind (arith, common_steps, channelled, some_planned, not_empty)

@@ -1,5 +1,4 @@
 use Rattle.std.proofs.Common.{◌≡◌, ◌-ℤ◌, ◌<◌, ◌*◌, ◌↔◌, ℕ, pos, arith, ◌∙◌, sym, ap, ap₂, rules, Option, Some, None, IsSome, IfSome, IfNone}
-use Rattle.std.proofs.lemmas.Option.{IfSome_then}
 use Rattle.jiff_core.specs.Calendar.{days_from_civil}
 use Rattle.jiff_core.specs.DateTime.{civil_nanos}
 use Rattle.gnss_obs.specs.Weeks.{week}
@@ -7,6 +6,7 @@ use Rattle.gnss_obs.specs.inner.Names.{weeks, civil_of, clock_of, IsCivilOf, Civ
 use Rattle.gnss_obs.proofs.WalkLaws.{walk_is, same_number}
 use Rattle.gnss_obs.proofs.CivilLemmas.{since_of, since_range, is_of, only_one, not_below, below_none, cast_fits, cast_is}
 use Rattle.gnss_obs.proofs.time.GpsTime.from_civil.Goals as goal
+use Rattle.std.proofs.lemmas.Grind.{common_steps}
 
 none_of : (r : Option ℕ) (ms : ℕ) (civil : Civil) → (IsSome r ↔ (ms < 100_000 * 604_800_000)) → ((t : ℕ) → IsCivilOf t civil → t ≡ ms)
     → IfNone r ((t : ℕ) → t < 100_000 * 604_800_000 → ¬ IsCivilOf t civil)
@@ -31,14 +31,7 @@ overflow_cast-since c =
     cast_fits c.as_millis-since.result s.0 s.1.back s.1.small
 
 pub returns-clause-some : goal.returns-clause-some
-returns-clause-some c =
-    let civil = c.args.civil.now in
-    let e = since_of _ c.as_millis-since.result (days_from_civil (pos civil.year) civil.month civil.day) (clock_of civil)
-    (c.duration_since.ensures ∙ ap₂ (λ a b. a -ℤ b) c.in_ok-at_of.ensures.some.1 c.beginning.ensures) c.as_millis-since.ensures in
-    let range = since_range c.in_ok-at_of.field-0 _ c.as_millis-since.result (c.duration_since.ensures ∙ ap (λ b. civil_nanos c.in_ok-at_of.field-0 -ℤ b) c.beginning.ensures) c.as_millis-since.ensures in
-    let s = not_below c.as_millis-since.result range c.if-since-lt0.false in
-    IfSome_then c.new.result c.new.ensures.value
-    (λ t is. is_of civil t c.as_millis-since.result c.in_ok-at_of.ensures.some.0 e (s.1.is ∙ ap pos (sym (is ∙ cast_is c.as_millis-since.result s.0 s.1.back))))
+returns-clause-some c = grind (arith, common_steps, since_of, since_range, not_below, is_of, cast_is)
 
 pub returns-clause-walk : goal.returns-clause-walk
 returns-clause-walk c = within_weeks c.new.result _ c.args.civil.now c.new.ensures.some c.new.ensures.value (returns-clause-some c)
