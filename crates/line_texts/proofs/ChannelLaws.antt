@@ -5,7 +5,7 @@ use Rattle.std.proofs.lemmas.List.Elements.{All-take}
 use Rattle.line_texts.proofs.LengthLaws.{cut_first, decimal_read, no_byte, own}
 use Rattle.line_texts.proofs.LineLaws.{first_code, is_comma, join-push, last_code}
 use Rattle.line_texts.specs.ChannelTexts.{after_comma, channel_of, channel_text, channels_after, channels_of, channels_text, slot_channel_of, slot_of, slot_text, slot_texts, with_entry}
-use Rattle.line_texts.proofs.Names.{AreChannels, ChannelsValue, most_number, no_channels, number_at, slot_count, with_number, le-leb, after_byte, ◌≡◌, ◌∙◌, ◌+◌, ◌-◌, ◌<◌, ◌≤◌, ◌==◌, ◌^◌, ◌||◌, ◌++◌, ◌∷◌, [], ℕ, Bool, true, false, List, Option, Some, None, All, All-head, All-tail, IfSome, ⊤, ap, ap₂, append-nil, append_assoc, arith, between_commas, decimal, decimal_digit, digits_decimal, get_or, get_or_at, is_digit, join_with_byte, length, length-append, length-decimal-le, list_all, list_any, list_any-append, nat_lt, nat_tests, option_and_then, refl, replicate, sym, take, if◌then◌else◌}
+use Rattle.line_texts.proofs.Names.{AreChannels, ChannelsValue, most_number, no_channels, number_at, slot_count, le-leb, ◌≡◌, ◌∙◌, ◌+◌, ◌-◌, ◌<◌, ◌≤◌, ◌^◌, ◌++◌, ◌∷◌, [], ℕ, true, false, List, Option, Some, None, All, All-head, All-tail, IfSome, ⊤, ap, append-nil, append_assoc, arith, between_commas, decimal, decimal_digit, digits_decimal, get_or, get_or_at, is_digit, join_with_byte, length, length-append, length-decimal-le, list_all, list_any, list_any-append, nat_tests, option_and_then, refl, replicate, sym, take, common_steps}
 
 -- ---- a slot and its channel
 
@@ -13,37 +13,22 @@ fits : (n : ℕ) → n < 100 → n < 2 ^ 64
 fits n h = omega (arith, h)
 
 slot_read : (slot : ℕ) → 1 ≤ slot → slot ≤ slot_count → slot_of (decimal slot) ≡ Some slot
-slot_read slot some few =
-    let first = first_decimal slot some (fits slot (omega (arith, few))) in
-    let plain : (get_or (decimal slot) 0 0 == 0x30) ≡ false = grind (arith, nat_tests, first) in
-    rw (plain, decimal_read 2 slot (omega arith) (omega (arith, few)) (fits slot (omega (arith, few))), le-leb 1 slot some, le-leb slot 27 few) refl
+slot_read slot some few = grind (arith, first_decimal, fits, nat_tests, decimal_read, le-leb)
 
 negative_read : (n : ℕ) → n < 7 → channel_of (0x2D ∷ decimal (7 - n)) ≡ Some n
-negative_read n h =
-    let back : 7 - (7 - n) ≡ n = omega (arith, h) in
-    rw (decimal_read 1 (7 - n) (omega arith) (omega arith) (fits (7 - n) (omega arith)), le-leb 1 (7 - n) (omega (arith, h)), le-leb (7 - n) 7 (omega arith), back) refl
+negative_read n h = grind (arith, decimal_read, fits, le-leb)
 
 positive_read : (n : ℕ) → 7 ≤ n → n ≤ most_number → channel_of (decimal (n - 7)) ≡ Some n
-positive_read n least most =
-    let small : n - 7 < 10 = omega (arith, most) in
-    let unsigned : (48 + (n - 7) == 0x2D) ≡ false = grind (arith, nat_tests) in
-    let back : 7 + (n - 7) ≡ n = omega (arith, least) in
-    let read = decimal_read 1 (n - 7) (omega arith) small (fits (n - 7) (omega (arith, small))) in
-    let plain : after_byte 0x2D (decimal (n - 7)) ≡ None = rw (decimal_digit (n - 7) small, unsigned) refl in
-    rw (plain, read, le-leb 0 (n - 7) (omega arith), le-leb (n - 7) 6 (omega (arith, most)), back) refl
+positive_read n least most = grind (arith, nat_tests, decimal_read, fits, decimal_digit, le-leb)
 
 channel_read : (n : ℕ) → n ≤ most_number → channel_of (channel_text n) ≡ Some n
-channel_read n h = by (nat_lt n 7) refl where
-  by : (b : Bool) → nat_lt n 7 ≡ b → channel_of (if b then 0x2D ∷ decimal (7 - n) else decimal (n - 7)) ≡ Some n
-  by true e = negative_read n (grind (arith, nat_tests, e))
-  by false e = positive_read n (grind (arith, nat_tests, e)) h
+channel_read n h = grind (arith, negative_read, nat_tests, positive_read)
 
 digits_of : (n : ℕ) → n < 100 → list_all is_digit (decimal n) ≡ true
 digits_of n h = digits_decimal own n (fits n h)
 
 entry_read : (slot n : ℕ) → 1 ≤ slot → slot ≤ slot_count → n ≤ most_number → slot_channel_of (slot_text slot n) ≡ Some (slot, n)
-entry_read slot n some few small =
-    rw (cut_first 0x3A (decimal slot) (channel_text n) (no_byte 0x3A (decimal slot) refl (digits_of slot (omega (arith, few)))), slot_read slot some few, channel_read n small) refl
+entry_read slot n some few small = grind (arith, cut_first, no_byte, digits_of, slot_read, channel_read)
 
 -- ---- a text with a byte, and without a comma
 
@@ -56,17 +41,10 @@ no_comma [] h = refl
 no_comma (d ∷ ds) h = grind (arith, nat_tests, h, no_comma ds (grind (arith, h)))
 
 channel_plain : (n : ℕ) → n ≤ most_number → list_any is_comma (channel_text n) ≡ false
-channel_plain n h = by (nat_lt n 7) where
-  by : (b : Bool) → list_any is_comma (if b then 0x2D ∷ decimal (7 - n) else decimal (n - 7)) ≡ false
-  by true = no_comma (decimal (7 - n)) (digits_of (7 - n) (omega arith))
-  by false = no_comma (decimal (n - 7)) (digits_of (n - 7) (omega (arith, h)))
+channel_plain n h = grind (arith, is_comma, no_comma, digits_of)
 
 slot_plain : (slot n : ℕ) → slot ≤ slot_count → n ≤ most_number → IsPlain (slot_text slot n)
-slot_plain slot n few small = record {
-  plain = list_any-append is_comma (decimal slot) (0x3A ∷ channel_text n)
-      ∙ ap₂ (λ (a b : Bool). a || b) (no_comma (decimal slot) (digits_of slot (omega (arith, few)))) (channel_plain n small);
-  some = omega (arith, length-append (decimal slot) (0x3A ∷ channel_text n));
-}
+slot_plain slot n few small = grind (arith, list_any-append, is_comma, no_comma, digits_of, channel_plain, length-append)
 
 ArePlain : List (List ℕ) → Type 0
 ArePlain [] = ⊤
@@ -80,8 +58,7 @@ apart t (u ∷ us) h = first_code t (join_with_byte 0x2C (u ∷ us)) h.0.plain �
 
 join_some : (t : List ℕ) (ts : List (List ℕ)) → ArePlain (t ∷ ts) → 0 < length (join_with_byte 0x2C (t ∷ ts))
 unfolding ArePlain
-join_some t [] h = h.0.some
-join_some t (u ∷ us) h = omega (arith, h.0.some, length-append t (0x2C ∷ join_with_byte 0x2C (u ∷ us)))
+join_some t ts h = grind (arith, length-append)
 
 -- ---- the slots of a list
 
@@ -92,10 +69,7 @@ slots_plain : (slot : ℕ) (ns : ChannelsValue) → slot + length ns ≤ 28 → 
 unfolding ArePlain
 slots_plain slot [] few small = tt
 slots_plain slot (None ∷ ns) few small = slots_plain (slot + 1) ns (omega (arith, few)) (All-tail (λ number. IfSome number (λ n. n ≤ most_number)) None ns small)
-slots_plain slot (Some n ∷ ns) few small = (
-  slot_plain slot n (omega (arith, few)) (All-head (λ number. IfSome number (λ n. n ≤ most_number)) (Some n) ns small),
-  slots_plain (slot + 1) ns (omega (arith, few)) (All-tail (λ number. IfSome number (λ n. n ≤ most_number)) (Some n) ns small),
-)
+slots_plain slot (Some n ∷ ns) few small = grind (arith, common_steps, slot_plain, All-head, All-tail, slots_plain (slot + 1) ns (omega (arith, few)) (All-tail (λ number. IfSome number (λ n. n ≤ most_number)) (Some n) ns small))
 
 abbrev nones : ChannelsValue → ChannelsValue
 nones ns = replicate (length ns) None
@@ -105,22 +79,15 @@ abbrev Reads : (front : ChannelsValue) (slot : ℕ) (ns : ChannelsValue) → Typ
 Reads front slot ns = channels_after (front ++ nones ns) (slot_texts slot ns) ≡ Some (front ++ ns)
 
 shifted : (front : ChannelsValue) (x : Option ℕ) (slot : ℕ) (ns : ChannelsValue) → Reads (front ++ x ∷ []) slot ns → channels_after (front ++ x ∷ nones ns) (slot_texts slot ns) ≡ Some (front ++ x ∷ ns)
-shifted front x slot ns h =
-    ap (λ (l : ChannelsValue). channels_after l (slot_texts slot ns)) (sym (append_assoc front (x ∷ []) (nones ns))) ∙ h ∙ ap (λ (l : ChannelsValue). Some l) (append_assoc front (x ∷ []) ns)
+shifted front x slot ns h = grind (arith, append_assoc)
 
 -- a slot without a channel gets one
 entered : (front : ChannelsValue) (slot n : ℕ) (ns : ChannelsValue) → slot ≡ length front + 1 → slot ≤ slot_count → n ≤ most_number → with_entry (front ++ None ∷ nones ns) (slot_text slot n) ≡ Some (front ++ Some n ∷ nones ns)
-entered front slot n ns at few small =
-    let place : length front ≡ slot - 1 = omega (arith, at) in
-    let free : number_at (front ++ None ∷ nones ns) slot ≡ None = get_or_at front None (nones ns) None (slot - 1) place in
-    let set : with_number (front ++ None ∷ nones ns) slot n ≡ front ++ Some n ∷ nones ns = set_at front None (nones ns) (Some n) (slot - 1) place in
-    rw (entry_read slot n (omega (arith, at)) few small, free, set) refl
+entered front slot n ns at few small = grind (arith, get_or_at, set_at, entry_read)
 
 reads : (front : ChannelsValue) (slot : ℕ) (ns : ChannelsValue) → slot ≡ length front + 1 → slot + length ns ≤ 28 → AreNumbers ns → Reads front slot ns
 reads front slot [] at few small = refl
-reads front slot (None ∷ ns) at few small =
-    shifted front None (slot + 1) ns
-    (reads (front ++ None ∷ []) (slot + 1) ns (omega (arith, at, length-append front (None ∷ []))) (omega (arith, few)) (All-tail (λ number. IfSome number (λ n. n ≤ most_number)) None ns small))
+reads front slot (None ∷ ns) at few small = grind (arith, shifted, length-append, All-tail, reads (front ++ None ∷ []) (slot + 1) ns (omega (arith, at, length-append front (None ∷ []))) (omega (arith, few)) (All-tail (λ number. IfSome number (λ n. n ≤ most_number)) None ns small))
 reads front slot (Some n ∷ ns) at few small =
     ap (option_and_then (λ channels. channels_after channels (slot_texts (slot + 1) ns)))
     (entered front slot n ns at (omega (arith, few)) (All-head (λ number. IfSome number (λ n. n ≤ most_number)) (Some n) ns small))
@@ -128,8 +95,7 @@ reads front slot (Some n ∷ ns) at few small =
     (reads (front ++ Some n ∷ []) (slot + 1) ns (omega (arith, at, length-append front (Some n ∷ []))) (omega (arith, few)) (All-tail (λ number. IfSome number (λ n. n ≤ most_number)) (Some n) ns small))
 
 of_text : (text : List ℕ) → 0 < length text → channels_of text ≡ channels_after no_channels (between_commas text)
-of_text [] some = absurd (omega (arith, some))
-of_text (b ∷ bs) some = refl
+of_text text some = grind arith
 
 pub channels_read : (channels : ChannelsValue) → AreChannels channels → channels_of (channels_text channels) ≡ Some channels
 channels_read channels are = by (slot_texts 1 channels) refl (slots_plain 1 channels (omega (arith, are.slots)) are.each) where
@@ -143,8 +109,7 @@ channels_read channels are = by (slot_texts 1 channels) refl (slots_plain 1 chan
 -- ---- the text is read entry by entry: these known channels and the rest of it give what the whole does
 
 last_entry : (o : Option ChannelsValue) → option_and_then (λ channels. Some channels) o ≡ o
-last_entry None = refl
-last_entry (Some channels) = refl
+last_entry o = grind arith
 
 module _ (known : ChannelsValue) (rest text : List ℕ) (same : channels_after known (between_commas rest) ≡ channels_after no_channels (between_commas text)) where
   pub entry_refused : (entry after : List ℕ) → 0 < length text → between_commas rest ≡ entry ∷ between_commas after → with_entry known entry ≡ None → channels_of text ≡ None
@@ -166,8 +131,7 @@ texts_more slot (None ∷ ns) x = texts_more (slot + 1) ns x ∙ ap (λ (k : ℕ
 texts_more slot (Some n ∷ ns) x = ap (λ (l : List (List ℕ)). slot_text slot n ∷ l) (texts_more (slot + 1) ns x ∙ ap (λ (k : ℕ). slot_texts (slot + 1) ns ++ slot_texts k (x ∷ [])) (omega arith))
 
 after_some : (text more : List ℕ) → 0 < length text → after_comma text more ≡ text ++ 0x2C ∷ more
-after_some [] more some = absurd (omega (arith, some))
-after_some (b ∷ bs) more some = refl
+after_some text more some = grind arith
 
 joined_more : (ts : List (List ℕ)) (t : List ℕ) → ArePlain ts → after_comma (join_with_byte 0x2C ts) t ≡ join_with_byte 0x2C (ts ++ t ∷ [])
 joined_more [] t h = refl
@@ -193,16 +157,7 @@ number_here channels i = ap (λ (k : ℕ). get_or channels k None) (omega arith)
 
 -- the length of a slot's text
 channel_short : (n : ℕ) → n ≤ most_number → length (channel_text n) ≤ 2
-channel_short n h = by (nat_lt n 7) refl where
-  by : (b : Bool) → nat_lt n 7 ≡ b → length (if b then 0x2D ∷ decimal (7 - n) else decimal (n - 7)) ≤ 2
-  by true e = omega (arith, length-decimal-le 1 (7 - n) (omega arith) (omega arith) (fits (7 - n) (omega arith)))
-  by false e = omega (arith, length-decimal-le 1 (n - 7) (omega arith) (omega (arith, h)) (fits (n - 7) (omega (arith, h))))
+channel_short n h = grind (arith, length-decimal-le, fits)
 
 pub slot_short : (old : List ℕ) (slot n : ℕ) → slot ≤ slot_count → n ≤ most_number → length (after_comma old (slot_text slot n)) ≤ length old + 6
-slot_short old slot n few small =
-    let text : length (slot_text slot n) ≤ 5 = omega (arith, length-append (decimal slot) (0x3A ∷ channel_text n), length-decimal-le 2 slot (omega arith) (omega (arith, few)) (fits slot (omega (arith, few))), channel_short n small) in
-    by old text
-  where
-    by : (old : List ℕ) → length (slot_text slot n) ≤ 5 → length (after_comma old (slot_text slot n)) ≤ length old + 6
-    by [] h = omega (arith, h)
-    by (b ∷ bs) h = omega (arith, h, length-append bs (0x2C ∷ slot_text slot n))
+slot_short old slot n few small = grind (arith, length-append, length-decimal-le, fits, channel_short, length-append (decimal slot) (0x3A ∷ channel_text n), length-decimal-le 2 slot (omega arith) (omega (arith, few)) (fits slot (omega (arith, few))), fits slot (omega (arith, few)), channel_short n small)

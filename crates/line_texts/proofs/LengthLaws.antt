@@ -1,6 +1,6 @@
 -- Numbers, dates and lengths that are read from text, and lengths that were written.
-use Rattle.std.proofs.Common.{◌≡◌, ◌≢◌, ◌∙◌, ◌≤◌, ◌<◌, ◌+◌, ◌-◌, ◌*◌, ◌/◌, ◌%◌, ◌^◌, ◌&&◌, ◌==◌, ◌++◌, ℕ, pos, Bool, true, false, not, List, [], ◌∷◌, Option, Some, None, Result, Ok, Err, IfSome, Bor, option_map, unwrap_or, length, length-append, get_or, drop, decimal, codes, append_assoc, arith, rules, refl, sym, ap, subst, lit≤}
-use Rattle.line_texts.proofs.Names.{and_from, and_parts, le-leb, le-ltb, lt-ltb, inl, inr, ◌↔◌, IsNumeral, digits_value, signed_digits_value, without_leading_sign, decimal_is_IsNumeral, ParsesUnsigned, IsCivilOf, week, weeks, Civil, IsHourOf, IsTimeAt, IsWeekNumber, IsWeekOf, civil_in, if◌then◌else◌, option_and_then, nat_le, nat_lt, nat_tests, common_steps, list_all, result_ok, is_digit, digits_from, digits_in, next_digit, number_of as digits_number, number_of, MatchOption, IsNumeralModel, numerals_by_fold, parse_plain, digits_value_short, position_or_len, position_or_len_is, get_or_append_left, get_or_at, take_at, drop_at, length_push, decimal_nonempty, digits_decimal, digits_value-decimal, length-decimal-le, list_all-append, AllPass-from_list_all, after_byte, cut, decimals_of, fixed_by, fixed_point, length_below, four_digits, size_text}
+use Rattle.std.proofs.Common.{◌≡◌, ◌≢◌, ◌∙◌, ◌≤◌, ◌<◌, ◌+◌, ◌-◌, ◌*◌, ◌/◌, ◌%◌, ◌^◌, ◌==◌, ◌++◌, ℕ, pos, Bool, true, false, not, List, [], ◌∷◌, Option, Some, None, Result, Ok, Err, IfSome, Bor, option_map, length, length-append, get_or, drop, decimal, codes, append_assoc, arith, rules, refl, sym, ap, subst, lit≤}
+use Rattle.line_texts.proofs.Names.{and_from, and_parts, le-leb, le-ltb, lt-ltb, inl, inr, ◌↔◌, IsNumeral, digits_value, signed_digits_value, without_leading_sign, decimal_is_IsNumeral, ParsesUnsigned, IsCivilOf, week, weeks, Civil, IsHourOf, IsTimeAt, IsWeekNumber, IsWeekOf, civil_in, if◌then◌else◌, option_and_then, nat_lt, nat_tests, common_steps, list_all, result_ok, is_digit, digits_from, digits_in, next_digit, number_of as digits_number, number_of, MatchOption, IsNumeralModel, numerals_by_fold, parse_plain, digits_value_short, position_or_len, position_or_len_is, get_or_append_left, get_or_at, take_at, drop_at, length_push, decimal_nonempty, digits_decimal, digits_value-decimal, length-decimal-le, list_all-append, AllPass-from_list_all, after_byte, cut, decimals_of, fixed_by, fixed_point, length_below, four_digits, size_text}
 
 -- ---- numbers of digits alone
 
@@ -12,42 +12,28 @@ number_read most text some few all = rw (le-leb 1 (length text) some, le-leb (le
 
 -- a number that was written
 pub decimal_read : (most n : ℕ) → 0 < most → n < 10 ^ most → n < 2 ^ 64 → digits_number most (decimal n) ≡ Some n
-decimal_read most n some small fits =
-    number_read most (decimal n) (omega (arith, decimal_nonempty n fits)) (length-decimal-le most n some small fits) (digits_decimal own n fits)
-    ∙ ap (λ (k : ℕ). Some k) (digits_value-decimal own n fits)
+decimal_read most n some small fits = grind (arith, number_read, decimal_nonempty, length-decimal-le, digits_decimal, own, digits_value-decimal)
 
 -- a text that is empty, too long, or has another character
 pub number_missing : (most : ℕ) (text : List ℕ) → (list_all is_digit text ≡ true → 1 ≤ length text → length text ≤ most → ⊥) → digits_number most text ≡ None
-number_missing most text none = by (nat_le 1 (length text)) refl (nat_le (length text) most) refl (list_all is_digit text) refl where
-  by : (a : Bool) → nat_le 1 (length text) ≡ a → (b : Bool) → nat_le (length text) most ≡ b → (c : Bool) → list_all is_digit text ≡ c → (if a && b then (if c then Some (digits_in text) else None) else None) ≡ None
-  by true some true few true all = absurd (none all (grind (arith, nat_tests)) (grind (arith, nat_tests)))
-  by a some b few c all = refl
+number_missing most text none = grind (arith, nat_tests)
 
 -- a text without a leading plus sign that was parsed
 pub number_parsed : {E : Type 0} (most : ℕ) (text : List ℕ) (r : Result ℕ E) → most ≤ 8 → length text ≤ most → (get_or text 0 0 ≢ 43) → ParsesUnsigned 64 10 text r
     → (result_ok r ≡ digits_number most text) × IfSome (result_ok r) (λ n. n < 10 ^ most)
-number_parsed {E} most text (Ok n) small few plain h =
-    let p = parse_plain own {E = E} 64 text (Ok n) h plain in
-    (ap (λ (k : ℕ). Some k) p.1 ∙ sym (number_read most text p.0.1 few p.0.0), subst (λ (k : ℕ). k < 10 ^ most) (sym p.1) (digits_value_short own text most p.0.0 few))
+number_parsed {E} most text (Ok n) small few plain h = grind (arith, common_steps, parse_plain, own, number_read, digits_value_short)
 number_parsed {E} most text (Err e) small few plain h =
     (sym (number_missing most text (λ all some _. parse_plain own {E = E} 64 text (Err e) h plain (all, some, omega (arith, digits_value_short own text 8 all (omega arith))))), tt)
 
 -- a text without a minus sign, by the clause of `strip_prefix`
 pub no_sign : (text : List ℕ) (r : Option (Bor (List ℕ))) → MatchOption r ((rest : List ℕ) → text ≢ 45 ∷ rest) (λ x. text ≡ 45 ∷ x.now) → r ≡ None → after_byte 45 text ≡ None
-no_sign text (Some x) h is = cc
-no_sign [] None h is = refl
-no_sign (b ∷ bs) None h is = by (b == 45) refl where
-  by : (t : Bool) → (b == 45) ≡ t → (if t then Some bs else None) ≡ None
-  by true e = absurd (h bs (ap (λ n. n ∷ bs) (grind (arith, nat_tests))))
-  by false e = refl
+no_sign text r h is = grind (arith, nat_tests)
 
 -- ---- dates
 
 -- a date and time of day without a time
 pub no_time : {at : Option Civil} (c : Civil) → at ≡ Some c → ((t : ℕ) → t < weeks * week → IsCivilOf t c → ⊥) → (t : ℕ) → IsTimeAt at t → ⊥
-no_time c is none t h =
-    let same : h.0 ≡ c = ap (λ (o : Option Civil). unwrap_or o c) (sym h.1 ∙ is) in
-    none t h.3 (subst (IsCivilOf t) same h.2)
+no_time c is none t h = grind arith
 
 -- ---- digits
 
@@ -68,18 +54,12 @@ no_byte c (x ∷ xs) other h = and_from (not (x == c)) _ (grind (arith, nat_test
 -- ---- weeks
 
 unsigned : (ds : List ℕ) → list_all is_digit ds ≡ true → (without_leading_sign ds ≡ ds) × (signed_digits_value 10 ds ≡ pos (digits_value 10 ds))
-unsigned [] h = (refl, refl)
-unsigned (x ∷ xs) h =
-    let plus : (x == 43) ≡ false = grind (arith, nat_tests) in
-    let minus : (x == 45) ≡ false = grind (arith, nat_tests) in
-    rw (plus, minus) (refl, refl)
+unsigned ds h = grind (arith, nat_tests)
 
 -- none of the bytes is this one
 none_at : (c : ℕ) (ds : List ℕ) → c < 48 → list_all is_digit ds ≡ true → position_or_len (λ x. x == c) ds ≡ length ds
 none_at c [] low h = refl
-none_at c (x ∷ xs) low h =
-    let other : (x == c) ≡ false = grind (arith, nat_tests) in
-    rw other (omega (arith, none_at c xs low (and_parts (is_digit x) (list_all is_digit xs) h).1))
+none_at c (x ∷ xs) low h = grind (arith, nat_tests, and_parts, none_at c xs low (and_parts (is_digit x) (list_all is_digit xs) h).1)
 
 uncut : (c : ℕ) (ds : List ℕ) → c < 48 → list_all is_digit ds ≡ true → cut c ds ≡ None
 uncut c ds low h = rw (none_at c ds low h, le-ltb (length ds) (length ds) (omega arith)) refl

@@ -1,13 +1,11 @@
 -- Lines that are built word by word, and texts between commas.
-use Rattle.line_texts.proofs.Names.{◌≡◌, ◌==◌, ℕ, Bool, false, List, [], ◌∷◌, ◌++◌, ◌∙◌, ap, refl, sym, append_assoc, between_commas, join_with_byte, line, list_any, onto_first, or_parts, with_words, append-nil}
+use Rattle.line_texts.proofs.Names.{◌≡◌, ◌==◌, ℕ, Bool, false, List, [], ◌∷◌, ◌++◌, ◌∙◌, ap, refl, sym, append_assoc, between_commas, join_with_byte, line, list_any, onto_first, or_parts, with_words, append-nil, arith}
 
 joined : (x w : List ℕ) (ws : List (List ℕ)) → join_with_byte 0x20 ((x ++ 0x20 ∷ w) ∷ ws) ≡ join_with_byte 0x20 (x ∷ w ∷ ws)
-joined x w [] = refl
-joined x w (v ∷ vs) = append_assoc x (0x20 ∷ w) (0x20 ∷ join_with_byte 0x20 (v ∷ vs))
+joined x w ws = grind (arith, append_assoc)
 
 joined_after : (x w : List ℕ) (ws : List (List ℕ)) → join_with_byte 0x20 ((x ++ w) ∷ ws) ≡ x ++ join_with_byte 0x20 (w ∷ ws)
-joined_after x w [] = refl
-joined_after x w (v ∷ vs) = append_assoc x w (0x20 ∷ join_with_byte 0x20 (v ∷ vs))
+joined_after x w ws = grind (arith, append_assoc)
 
 words_joined : (x : List ℕ) (ws : List (List ℕ)) → with_words x ws ≡ join_with_byte 0x20 (x ∷ ws)
 words_joined x [] = refl
@@ -20,8 +18,7 @@ words_after text start (w ∷ ws) = words_after text (start ++ 0x20 ∷ w) ws �
 
 -- known words, added in one text
 pub words_in_one : {A : Type 0} (words : A → List (List ℕ)) (text : List ℕ) (x known : A) → x ≡ known → text ++ with_words [] (words known) ≡ with_words text (words x)
-words_in_one {A} words text x known is =
-    words_after text [] (words known) ∙ ap (λ (t : List ℕ). with_words t (words known)) (append-nil text) ∙ ap (λ (y : A). with_words text (words y)) (sym is)
+words_in_one {A} words text x known is = grind (arith, words_after, append-nil)
 
 -- one more word
 pub add_word : {old new text word same : List ℕ} → new ≡ old ++ 0x20 ∷ word → old ≡ text → word ≡ same → new ≡ text ++ 0x20 ∷ same
@@ -33,9 +30,7 @@ add_count name number e f = e ∙ ap (λ (l : List ℕ). (l ++ 0x20 ∷ name) ++
 
 -- the line feed, after a start and the words of a line
 pub end_line : (start first : List ℕ) (words : List (List ℕ)) {text all : List ℕ} → all ≡ text ++ 0x0A ∷ [] → text ≡ with_words (start ++ first) words → all ≡ start ++ line (first ∷ words)
-end_line start first words {text} {all} e f =
-    e ∙ ap (λ (l : List ℕ). l ++ 0x0A ∷ []) (f ∙ words_joined (start ++ first) words ∙ joined_after start first words)
-    ∙ append_assoc start (join_with_byte 0x20 (first ∷ words)) (0x0A ∷ [])
+end_line start first words {text} {all} e f = grind (arith, words_joined, joined_after, append_assoc)
 
 -- one more text
 pub add_text : {old new text part same : List ℕ} → new ≡ old ++ part → old ≡ text → part ≡ same → new ≡ text ++ same
