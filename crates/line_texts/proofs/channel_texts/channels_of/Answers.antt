@@ -2,6 +2,8 @@ use Rattle.gnss_obs.proofs.PlanLaws.{first_none, first_some}
 use Rattle.line_texts.proofs.ChannelLaws.{entry_last, entry_refused, entry_taken}
 use Rattle.line_texts.proofs.Names.{◌∙◌, rules, sym}
 use Rattle.line_texts.proofs.channel_texts.channels_of.Goals as goal
+use Rattle.std.proofs.Common.{arith}
+use Rattle.std.proofs.lemmas.Grind.{common_steps}
 
 pub loop-entry-preserved : goal.loop-entry-preserved
 loop-entry-preserved c =
@@ -16,7 +18,4 @@ returns-in_err-channels c =
     c.from_residual.ensures ∙ sym (entry_refused c.loop-entry.channels rest c.args.text.now c.loop-entry.invariant.1 c.in-Some.entry.now c.in-Some.after.now (search rules) split (sym c.with_entry.ensures ∙ c.in_err-channels.was))
 
 pub returns : goal.returns
-returns c =
-    let rest = c.loop-entry.rest.now in
-    let alone = first_none rest c.split_once.result c.split_once.ensures.cases c.in_default.is in
-    c.with_entry-2.ensures ∙ entry_last c.loop-entry.channels rest c.args.text.now c.loop-entry.invariant.1 (search rules) alone
+returns c = grind (arith, common_steps, first_none, entry_last)
