@@ -49,8 +49,7 @@ and_false a = grind (arith, common_steps)
 -- A message that ends its epoch closes the pending epoch.
 ended-is : (b : Bool) (s : GatherSetup) (latest : Option ℕ) (pending : Bool)
     → ended_where b (record { setup = s; latest = latest; pending = pending }) ≡ record { setup = s; latest = latest; pending = pending && not b }
-ended-is true s latest pending = ap (λ x. record { setup = s; latest = latest; pending = x }) (and_false pending)
-ended-is false s latest pending = ap (λ x. record { setup = s; latest = latest; pending = x }) (and_true pending)
+ended-is b s latest pending = grind (arith, and_false, and_true)
 
 abbrev state : GatherSetup → Option ℕ → Bool → State
 state s latest pending = record { setup = s; latest = latest; pending = pending }

@@ -13,8 +13,7 @@ Below g [] = Unit {0}
 Below g (t ∷ ts) = (t < g) × Below g ts
 
 below_cond : (g : ℕ) (t : ℕ) (ts : List ℕ) (b : Bool) → t < g → Below g ts → Below g (cond b (t ∷ ts) ts)
-below_cond g t ts true lt h = (lt, h)
-below_cond g t ts false lt h = h
+below_cond g t ts b lt h = grind arith
 
 pub Below-filter : (g : ℕ) (p : ℕ → Bool) (ts : List ℕ) → Below g ts → Below g (filter p ts)
 Below-filter g p [] h = tt
@@ -72,9 +71,7 @@ ends_step (Some t) (Some h) ts g e some none = by (by_less t h) where
       record { init = []; is = ap₂ (λ a l. a ∷ l) same nothing; below = tt }
 
 no_times_step : (time rest : Option ℕ) (ts : List ℕ) → max_known time rest ≡ None → (rest ≡ None → ts ≡ []) → front time ts ≡ []
-no_times_step None rest ts e none = none e
-no_times_step (Some t) None ts e none = grind arith
-no_times_step (Some t) (Some h) ts e none = grind arith
+no_times_step time rest ts e none = grind arith
 
 pub no_times : (xs : List Timed) → greatest_time xs ≡ None → times xs ≡ []
 no_times [] e = refl
@@ -95,9 +92,7 @@ IsLess u None = Unit {0}
 IsLess u (Some g) = g < u
 
 push_step : (time rest : Option ℕ) (u : ℕ) (ts new : List ℕ) → IsLess u (max_known time rest) → (IsLess u rest → new ≡ ts ++ u ∷ []) → front time new ≡ front time ts ++ u ∷ []
-push_step None rest u ts new h r = r h
-push_step (Some t) None u ts new h r = grind (arith, common_steps, filter-append, one_passes, lt-ltb)
-push_step (Some t) (Some g) u ts new h r = grind (arith, common_steps, filter-append, one_passes, lt-ltb)
+push_step time rest u ts new h r = grind (arith, filter-append, one_passes, lt-ltb)
 
 pub times-push_new : (xs : List Timed) (x : Timed) (u : ℕ) → x.time ≡ Some u → IsLess u (greatest_time xs) → times (xs ++ x ∷ []) ≡ times xs ++ u ∷ []
 times-push_new [] x u e h = ap (λ t. front t []) e
@@ -105,13 +100,11 @@ times-push_new (y ∷ ys) x u e h = push_step y.time (greatest_time ys) u (times
 
 same_step : (time rest : Option ℕ) (u : ℕ) (ts new : List ℕ) → max_known time rest ≡ Some u → (rest ≡ Some u → new ≡ ts) → (IsLess u rest → new ≡ ts ++ u ∷ [])
     → front time new ≡ front time ts
-same_step None rest u ts new e same more = same e
-same_step (Some t) rest u ts new e same more = grind (arith, common_steps, filter-append, one_fails, le-ltb, append-nil, some_eq)
+same_step time rest u ts new e same more = grind (arith, filter-append, one_fails, le-ltb, append-nil, some_eq)
 
 pub times-push_same : (xs : List Timed) (x : Timed) (u : ℕ) → x.time ≡ Some u → greatest_time xs ≡ Some u → times (xs ++ x ∷ []) ≡ times xs
 times-push_same [] x u e h = absurd (grind arith)
-times-push_same (y ∷ ys) x u e h =
-    same_step y.time (greatest_time ys) u (times ys) (times (ys ++ x ∷ [])) h (times-push_same ys x u e) (times-push_new ys x u e)
+times-push_same (y ∷ ys) x u e h = grind (arith, same_step y.time (greatest_time ys) u (times ys) (times (ys ++ x ∷ [])) h (times-push_same ys x u e) (times-push_new ys x u e))
 
 -- ---- which epochs are closed
 
@@ -147,9 +140,7 @@ closed-push_none s xs x g none e =
     ∙ either last.init (is_closed s g xs) (ends_epoch s x.message) g
     ∙ ap (λ l. l ++ when (not (is_closed s g xs) && ends_epoch s x.message) g) (sym (closed_is s xs g last.init e last.is last.below)) where
       either : (init : List ℕ) (c m : Bool) (g : ℕ) → init ++ when (c || m) g ≡ (init ++ when c g) ++ when (not c && m) g
-      either init true m g = sym (append-nil _)
-      either init false true g = ap (λ l. l ++ g ∷ []) (sym (append-nil init))
-      either init false false g = sym (append-nil _)
+      either init c m g = grind (arith, append-nil)
 
 -- An accepted message of a greater time closes the pending epoch, and its own epoch if it ends that.
 pub closed-push_greater : (s : GatherSetup) (xs : List Timed) (x : Timed) (g u : ℕ) → x.time ≡ Some u → greatest_time xs ≡ Some g → g < u
@@ -162,8 +153,7 @@ closed-push_greater s xs x g u some e lt =
     ∙ ap (λ b. times xs ++ when b u) (closed-new s u xs x (greater-absent xs g u e lt) (at_self u x.time some))
     ∙ ap (λ l. l ++ when (ends_epoch s x.message) u) (last.is ∙ all_of last.init (is_closed s g xs) g ∙ ap (λ l. l ++ when (not (is_closed s g xs)) g) (sym (closed_is s xs g last.init e last.is last.below))) where
       all_of : (init : List ℕ) (c : Bool) (g : ℕ) → init ++ g ∷ [] ≡ (init ++ when c g) ++ when (not c) g
-      all_of init true g = sym (append-nil _)
-      all_of init false g = ap (λ l. l ++ g ∷ []) (sym (append-nil init))
+      all_of init c g = grind (arith, append-nil)
 
 -- An accepted message of the greatest time closes its epoch if it ends its epoch.
 pub closed-push_same : (s : GatherSetup) (xs : List Timed) (x : Timed) (g : ℕ) → x.time ≡ Some g → greatest_time xs ≡ Some g → is_closed s g xs ≡ false
@@ -178,12 +168,7 @@ closed-push_same s xs x g some e not_closed =
 -- The first accepted message.
 pub closed-push_first : (s : GatherSetup) (xs : List Timed) (x : Timed) (u : ℕ) → x.time ≡ Some u → greatest_time xs ≡ None
     → closed_times s (xs ++ x ∷ []) ≡ closed_times s xs ++ when (ends_epoch s x.message) u
-closed-push_first s xs x u some e =
-    let latest : greatest_time (xs ++ x ∷ []) ≡ Some u = greatest-push xs x ∙ ap₂ max_known e some in
-    let less : IsLess u (greatest_time xs) = subst (IsLess u) (sym e) tt in
-    closed_is s (xs ++ x ∷ []) u [] latest (times-push_new xs x u some less ∙ ap (λ l. l ++ u ∷ []) (no_times xs e)) tt
-    ∙ ap (λ b. when b u) (closed-new s u xs x (none-absent xs u e) (at_self u x.time some))
-    ∙ ap (λ l. filter (is_shut s xs) l ++ when (ends_epoch s x.message) u) (sym (no_times xs e))
+closed-push_first s xs x u some e = grind (arith, times-push_new, greatest-push xs x, closed_is s (xs ++ x ∷ []) u, no_times xs e, closed-new s u xs x (none-absent xs u e) (at_self u x.time some))
 
 pub no_greatest : (s : GatherSetup) (xs : List Timed) (x : Timed) → x.time ≡ None → greatest_time xs ≡ None → closed_times s (xs ++ x ∷ []) ≡ closed_times s xs ++ []
 no_greatest s xs x none e = grind (arith, common_steps, times-push_none, no_times, append-nil)
@@ -217,6 +202,4 @@ taken_follows s xs m u e = by_tow m.tow refl where
   by_tow (Some tow) some = by_late tow (is_late s xs tow) some refl
 
 pub grows_by : (s : GatherSetup) (ms : List Heard) (m : Heard) → (more : List ℕ) × (closed_times s (timed s (ms ++ m ∷ [])) ≡ closed_times s (timed s ms) ++ more)
-grows_by s ms m =
-    let step = grows s (timed s ms) (next s (timed s ms) m) (taken_follows s (timed s ms) m) in
-    (step.0, ap (closed_times s) (timed-push s ms m) ∙ step.1)
+grows_by s ms m = grind (arith, grows s (timed s ms) (next s (timed s ms) m) (taken_follows s (timed s ms) m), timed-push s ms m)

@@ -6,7 +6,6 @@ use Rattle.obs_epoch.proofs.TimesLemmas.{next}
 use Rattle.obs_epoch.proofs.ClockLemmas.{standing, takes, same_time, Follows, first, greater, equal, new_time}
 use Rattle.obs_epoch.proofs.ClosedLemmas.{when, no_greatest, taken_follows, closed-push_none, closed-push_greater, closed-push_same, closed-push_first}
 use Rattle.std.proofs.lemmas.Grind.{common_steps}
-use Rattle.std.proofs.lemmas.Bool.{lt-ltb}
 
 either : (m c : Bool) (g : ℕ) → when (not c && m) g ≡ option_to_list (if m && not c then Some g else None)
 either m c g = grind (arith, common_steps)
@@ -50,10 +49,7 @@ taken_by {s} {xs} m {u} own some (first e) shut h =
 taken_by {s} {xs} m {u} own some (equal e c) shut h =
     let open_still : shut ≡ false = not_less (is_closed s u xs) shut u (sym (first_is s xs m u u own some e) ∙ h) in
     closed-push_same s xs (next s xs m) u some e c ∙ ap (λ l. l ++ when (ends_epoch s m) u) (sym (plain s xs) ∙ ap (closed_so_far s xs) (sym open_still))
-taken_by {s} {xs} m {u} own some (greater t e lt) shut h =
-    let same : when (not (is_closed s t xs)) t ≡ (if shut then option_to_list (greatest_time xs) else []) =
-    shut_text (is_closed s t xs) shut (nat_lt t u) t (greatest_time xs) e (lt-ltb t u lt) (sym (first_is s xs m u t own some e) ∙ h) in
-    closed-push_greater s xs (next s xs m) t u some e lt ∙ ap (λ l. (closed_times s xs ++ l) ++ when (ends_epoch s m) u) same
+taken_by {s} {xs} m {u} own some (greater t e lt) shut h = grind (arith, closed-push_greater s xs (next s xs m) t u some e lt)
 
 -- The epoch that a step closes, defined by the list.
 abbrev closed_in : GatherSetup → List Timed → Heard → Bool → Option ℕ

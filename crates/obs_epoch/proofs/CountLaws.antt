@@ -1,12 +1,10 @@
 -- How many cells of a message can lack a channel.
-use Rattle.std.proofs.Common.{◌≡◌, ◌+◌, ◌≤◌, Bool, true, false, not, ◌||◌, List, [], ◌∷◌, ◌++◌, arith, length, append_assoc, append-nil, nat_le, if◌then◌else◌, ap, refl}
+use Rattle.std.proofs.Common.{◌≡◌, ◌+◌, ◌≤◌, Bool, not, ◌||◌, List, [], ◌∷◌, ◌++◌, arith, length, append_assoc, append-nil, nat_le, if◌then◌else◌, ap, refl}
 use Rattle.obs_epoch.specs.inner.Names.{GatherSetup, HeardCell, is_among, kept, kept_without, lacks_channel, most_cells}
 use Rattle.obs_epoch.proofs.CountsLemmas.{without-push}
 
 at_most_one : (a b : Bool) → (if a then (if b then 1 else 0) else 0) ≤ 1
-at_most_one true true = omega arith
-at_most_one true false = omega arith
-at_most_one false b = omega arith
+at_most_one a b = grind arith
 
 -- Each further cell is at most one more.
 pub few_without : (s : GatherSetup) (xs ys : List HeardCell) → kept_without s (xs ++ ys) ≤ kept_without s xs + length ys

@@ -1,9 +1,8 @@
 -- Counting cell by cell gives the counts of the whole message.
-use Rattle.std.proofs.Common.{◌≡◌, ℕ, ◌+◌, ◌≤◌, Bool, true, false, not, ◌||◌, ◌&&◌, List, [], ◌∷◌, ◌++◌, filter, refl, sym, ap, ap₂, ◌∙◌, subst, arith, length, append_assoc, append-nil, length-append, nat_le, if◌then◌else◌, cond, count_by, is_some, length-take-le, take_all, flat_map}
+use Rattle.std.proofs.Common.{◌≡◌, ℕ, ◌+◌, ◌≤◌, Bool, true, false, not, ◌||◌, ◌&&◌, List, [], ◌∷◌, ◌++◌, filter, refl, sym, ap, ap₂, ◌∙◌, subst, arith, length, append_assoc, append-nil, length-append, nat_le, if◌then◌else◌, cond, count_by, length-take-le, take_all, flat_map}
 use Rattle.std.proofs.lemmas.List.Concat.{length-flat_map}
 use Rattle.gnss_system.specs.Systems.{systems}
 use Rattle.gnss_system.specs.declared.system.System.TheVariants.{Glonass}
-use Rattle.gnss_obs.specs.Channels.{hertz_by, number_at}
 use Rattle.gnss_system.proofs.SystemLaws.{system_same, any_system, sum_grown}
 use Rattle.std.proofs.lemmas.List.Sums.{sum_by-cons}
 use Rattle.std.proofs.lemmas.List.Folds.{list_any-append}
@@ -46,10 +45,7 @@ known-push system xs y p o there = grind (arith, common_steps, kept-add, or-fals
 
 known-more : (system : System) (xs ys : List HeardCell) (p : HeardCell) → is_of_system system p ≡ true → is_among xs p ≡ true → is_among (kept system (xs ++ ys)) p ≡ is_among (kept system xs) p
 known-more system xs [] p o there = ap (λ l. is_among (kept system l) p) (append-nil xs)
-known-more system xs (y ∷ ys) p o there =
-    ap (λ l. is_among (kept system l) p) (sym (append_assoc xs (y ∷ []) ys))
-    ∙ known-more system (xs ++ y ∷ []) ys p o (among-push xs y p ∙ ap (λ b. b || has_same_key p y) there)
-    ∙ known-push system xs y p o there
+known-more system xs (y ∷ ys) p o there = grind (arith, append_assoc, known-push, known-more system (xs ++ y ∷ []) ys p o (among-push xs y p ∙ ap (λ b. b || has_same_key p y) there))
 
 length-add : (system : System) (xs : List HeardCell) (y : HeardCell) (b : Bool) → (is_of_system system y && not (is_among (kept system xs) y || nat_le most_cells (length (kept system xs)))) ≡ b
     → length (kept system (xs ++ y ∷ [])) ≡ length (kept system xs) + (if b then 1 else 0)
@@ -67,8 +63,7 @@ both-length xs y a n e f =
     ∙ ap (λ k. k + (if not (a || n) then 1 else 0)) (sym (length-flat_map (λ s. kept s xs) systems)) where
       -- The kept cells of its system, and those of another one.
       own_length : (system : System) → y.satellite.system ≡ system → length (kept system (xs ++ y ∷ [])) ≡ length (kept system xs) + (if not (a || n) then 1 else 0)
-      own_length system s = length-add system xs y (not (a || n)) (ap₂ (λ b c. b && c) (own system y s)
-          (ap not (ap₂ (λ b c. b || c) (ap (λ c. is_among (kept c xs) y) (sym s) ∙ e) (ap (λ c. nat_le most_cells (length (kept c xs))) (sym s) ∙ f))))
+      own_length system s = grind (arith, length-add, own)
 
       other_length : (system : System) → is_of_system system y ≡ false → length (kept system (xs ++ y ∷ [])) ≡ length (kept system xs) + 0
       other_length system other = length-add system xs y false (not_own system y other (is_among (kept system xs) y) (nat_le most_cells (length (kept system xs))))
@@ -79,10 +74,7 @@ both-length xs y a n e f =
 
 -- A cell that lacks a channel is of GLONASS.
 lacks_own : (s : GatherSetup) (y : HeardCell) → is_of_system Glonass y ≡ false → lacks_channel s y ≡ false
-lacks_own s y other = by y.satellite.system other where
-  by : (system : System) → is_system Glonass system ≡ false → not (is_some (hertz_by system (number_at s.plan.channels y.satellite.id) y.signal)) ≡ false
-  by Glonass e = absurd cc
-  by system e = refl
+lacks_own s y other = grind arith
 
 count_push : (p : HeardCell → Bool) (ks : List HeardCell) (y : HeardCell) → count_by p (ks ++ y ∷ []) ≡ count_by p ks + (if p y then 1 else 0)
 count_push p [] y = omega (arith, sum_by-cons (λ y. cond (p y) 1 0) y [])
@@ -91,20 +83,7 @@ count_push p (k ∷ ks) y = omega (arith, sum_by-cons (λ y. cond (p y) 1 0) k (
 -- The number of kept cells without a channel after one more cell.
 pub without-push : (s : GatherSetup) (xs : List HeardCell) (y : HeardCell) (a n : Bool) → is_among (kept y.satellite.system xs) y ≡ a → nat_le most_cells (length (kept y.satellite.system xs)) ≡ n
     → kept_without s (xs ++ y ∷ []) ≡ kept_without s xs + (if not (a || n) then (if lacks_channel s y then 1 else 0) else 0)
-without-push s xs y a n e f = ap (count_by (lacks_channel s)) (kept-add Glonass xs y) ∙ by (is_of_system Glonass y) refl where
-  ks : List HeardCell
-  ks = kept Glonass xs
-
-  by : (g : Bool) → is_of_system Glonass y ≡ g
-      → count_by (lacks_channel s) (if g && not (is_among ks y || nat_le most_cells (length ks)) then ks ++ y ∷ [] else ks) ≡ count_by (lacks_channel s) ks + (if not (a || n) then (if lacks_channel s y then 1 else 0) else 0)
-  by false g =
-      let lacks = lacks_own s y g in
-      grind (arith, common_steps, lacks)
-  by true g =
-      let same : Glonass ≡ y.satellite.system = system_same Glonass y.satellite.system g in
-      let among : is_among ks y ≡ a = ap (λ (t : System). is_among (kept t xs) y) same ∙ e in
-      let full : nat_le most_cells (length ks) ≡ n = ap (λ (t : System). nat_le most_cells (length (kept t xs))) same ∙ f in
-      grind (arith, common_steps, among, full, count_push)
+without-push s xs y a n e f = grind (arith, kept-add, lacks_own, system_same, count_push)
 
 self_system : (y : HeardCell) → is_of_system y.satellite.system y ≡ true
 self_system y = grind (arith, common_steps)
@@ -121,9 +100,7 @@ now-among xs ys y a n e f =
       or_true b = grind (arith, common_steps)
 
       by : (b c : Bool) → is_among (kept y.satellite.system xs) y ≡ b → is_among (if not (b || c) then kept y.satellite.system xs ++ y ∷ [] else kept y.satellite.system xs) y ≡ (b || not c)
-      by true c g = g
-      by false true g = g
-      by false false g = among-push (kept y.satellite.system xs) y y ∙ ap (λ b. is_among (kept y.satellite.system xs) y || b) (same_key_laws.refl y) ∙ or_true _
+      by b c g = grind (arith, among-push, or_true)
 
 -- ---- the sums
 
@@ -177,12 +154,10 @@ tally_step s xs n y ys h =
       f = nat_le most_cells (length (kept y.satellite.system xs))
 
       whole : (b : Bool) → (xs ++ (if b then y ∷ [] else [])) ++ planned s ys ≡ xs ++ cond b (y ∷ planned s ys) (planned s ys)
-      whole true = append_assoc xs (y ∷ []) (planned s ys)
-      whole false = append_assoc xs [] (planned s ys)
+      whole b = grind (arith, append_assoc)
 
       before : (b : Bool) → length (kept_of_all (xs ++ (if b then y ∷ [] else []))) ≡ length (kept_of_all xs) + (if b then (if not (a || f) then 1 else 0) else 0)
-      before true = both-length xs y a f refl refl
-      before false = ap (λ l. length (kept_of_all l)) (append-nil xs) ∙ (let none : length (kept_of_all xs) ≡ length (kept_of_all xs) + 0 = omega arith in none)
+      before b = grind (arith, both-length, append-nil, a, f)
 
       lacking : (b : Bool) → kept_without s (xs ++ (if b then y ∷ [] else [])) ≡ kept_without s xs + (if b then (if not (a || f) then (if lacks_channel s y then 1 else 0) else 0) else 0)
       lacking true = without-push s xs y a f refl refl

@@ -66,14 +66,7 @@ one_less : (b : Bool) (k : CellOutcome) (n : CellCounts) → n.without_channel �
 one_less b k n h = grind (arith, common_steps)
 
 pub one_more : (form : Form) (system : System) (l : Loaded) (e : Entry) → OneMore l (load_entry form system l e)
-one_more form system l e = by (seen_in l.state.clock.setup.plan.channels form system e) where
-  by : (o : Option HeardCell) → OneMore l (option_map_or (load_one l) o (with_unlisted 1 l))
-  by None = record { clock = refl; one = omega arith; less = λ h. h }
-  by (Some x) = record {
-    clock = kept_setup (outcome_in l.state x) l.state x;
-    one = one_counted (lacks_channel l.state.clock.setup x) (outcome_in l.state x) l.counts;
-    less = one_less (lacks_channel l.state.clock.setup x) (outcome_in l.state x) l.counts;
-  }
+one_more form system l e = grind (arith, common_steps, kept_setup, one_counted, one_less)
 
 -- ---- the phase of a cell is that of its entry, if there is a carrier
 

@@ -1,5 +1,5 @@
 -- A closed epoch is the same after every message.
-use Rattle.std.proofs.Common.{◌≡◌, ℕ, ◌<◌, Bool, true, false, List, [], ◌∷◌, ◌++◌, filter, refl, sym, ap, ◌∙◌, subst, arith, Option, Some, None, nat_lt, append-nil, cond, filter_map}
+use Rattle.std.proofs.Common.{◌≡◌, ℕ, ◌<◌, Bool, List, [], ◌∷◌, ◌++◌, filter, refl, sym, ap, ◌∙◌, subst, arith, Option, Some, None, nat_lt, append-nil, cond, filter_map}
 use Rattle.std.proofs.lemmas.List.Elements.{filter-append}
 use Rattle.obs_epoch.specs.inner.Names.{System, GatherSetup, HeardCell, Timed, greatest_time, offered, kept, cells_at, sorted, planned_of, times, locked_at, previous, lli_of, cells_with_lli, epoch_at, closed_times, is_closed, is_shut}
 use Rattle.obs_epoch.proofs.ClockLemmas.{Follows, first, greater, equal}
@@ -19,8 +19,7 @@ pub cells_at-push : (s : GatherSetup) (t : ℕ) (xs : List Timed) (x : Timed) (s
 cells_at-push s t xs x system h = ap (λ l. sorted (planned_of system s.plan) (kept system l)) (offered-push s t xs x h)
 
 earlier : (u t : ℕ) (time : Option ℕ) → u < t → IsLater t time → IsLater u time
-earlier u t None lt h = tt
-earlier u t (Some v) lt h = omega (arith, lt, h)
+earlier u t time lt h = grind arith
 
 locked_all : (s : GatherSetup) (xs : List Timed) (x : Timed) (key : HeardCell) (t : ℕ) (us : List ℕ) → IsLater t x.time → Below t us
     → filter_map (locked_at s (xs ++ x ∷ []) key) us ≡ filter_map (locked_at s xs key) us
@@ -28,8 +27,7 @@ locked_all s xs x key t [] h b = refl
 locked_all s xs x key t (u ∷ us) h b = grind (arith, common_steps, cells_at-push, earlier, locked_all s xs x key t us h b.1)
 
 below_cond : (t u : ℕ) (us : List ℕ) (b : Bool) → nat_lt u t ≡ b → Below t us → Below t (cond b (u ∷ us) us)
-below_cond t u us true e h = (grind (arith, e), h)
-below_cond t u us false e h = h
+below_cond t u us b e h = grind arith
 
 below_filter : (t : ℕ) (us : List ℕ) → Below t (filter (λ u. nat_lt u t) us)
 below_filter t [] = tt
@@ -68,9 +66,7 @@ times_before s xs x t follow h = by x.time refl where
       ∙ ap (λ l. filter (λ v. nat_lt v t) (times xs) ++ l) (one_fails (λ v. nat_lt v t) u (le-ltb u t (omega (arith, later)))) ∙ append-nil _
 
   by_follows : (u : ℕ) → x.time ≡ Some u → Follows s xs u → filter (λ v. nat_lt v t) (times (xs ++ x ∷ [])) ≡ filter (λ v. nat_lt v t) (times xs)
-  by_follows u some (first e) = added u some (subst (IsLess u) (sym e) tt)
-  by_follows u some (greater g e lt) = added u some (subst (IsLess u) (sym e) lt)
-  by_follows u some (equal e c) = ap (filter (λ v. nat_lt v t)) (times-push_same xs x u some e)
+  by_follows u some h1 = grind (arith, first, greater, equal, times-push_same, added)
 
   by : (time : Option ℕ) → x.time ≡ time → filter (λ v. nat_lt v t) (times (xs ++ x ∷ [])) ≡ filter (λ v. nat_lt v t) (times xs)
   by None none = ap (filter (λ v. nat_lt v t)) (times-push_none xs x none)
@@ -93,8 +89,7 @@ Below-append u [] b h k = k
 Below-append u (t ∷ a) b h k = (h.0, Below-append u a b h.1 k)
 
 below_when : (u g : ℕ) (init : List ℕ) (c : Bool) → g < u → Below u init → Below u (init ++ when c g)
-below_when u g init true lt b = Below-append u init (g ∷ []) b (lt, tt)
-below_when u g init false lt b = Below-append u init [] b tt
+below_when u g init c lt b = grind (arith, Below-append)
 
 below_less : (u g : ℕ) (ts : List ℕ) → g < u → Below g ts → Below u ts
 below_less u g [] lt h = tt

@@ -8,13 +8,12 @@ use Rattle.obs_epoch.proofs.TimesLemmas.{next, timed-push, greatest-push}
 use Rattle.obs_epoch.proofs.ClosedLemmas.{ends, no_times, closed_is, when, taken_follows, grows_by}
 use Rattle.obs_epoch.proofs.EpochLemmas.{AllLater, IsLater, epoch_at-push, times_before, all_later}
 use Rattle.std.proofs.lemmas.Grind.{common_steps}
-use Rattle.rtcm_bits.proofs.SmallLaws.{prefix_self, prefix_trans}
+use Rattle.rtcm_bits.proofs.SmallLaws.{prefix_self}
 
 -- ---- a closed epoch stays closed
 
 any-more : (s : GatherSetup) (ys : List Timed) (x : Timed) → list_any (λ (y : Timed). ends_epoch s y.message) ys ≡ true → list_any (λ (y : Timed). ends_epoch s y.message) (ys ++ x ∷ []) ≡ true
-any-more s [] x h = absurd (grind (arith, h))
-any-more s (y ∷ ys) x h = grind (arith, common_steps)
+any-more s ys x h = grind (arith, common_steps)
 
 closed-more : (s : GatherSetup) (t : ℕ) (xs : List Timed) (x : Timed) → is_closed s t xs ≡ true → is_closed s t (xs ++ x ∷ []) ≡ true
 closed-more s t [] x h = absurd (grind (arith, h))
@@ -72,8 +71,7 @@ open_same s t earlier (n ∷ ms) m h k = by (is_shut s (timed s (earlier ++ n �
   by : (b : Bool) → is_shut s (timed s (earlier ++ n ∷ [])) t ≡ b
       → (is_shut s (timed s (earlier ++ n ∷ [])) t ≡ false → open_after s t (earlier ++ n ∷ []) (ms ++ m ∷ []) ≡ open_after s t (earlier ++ n ∷ []) ms)
       → (if b then earlier else open_after s t (earlier ++ n ∷ []) (ms ++ m ∷ [])) ≡ (if b then earlier else open_after s t (earlier ++ n ∷ []) ms)
-  by true e more = refl
-  by false e more = more e
+  by b e more = grind arith
 
 pub before_all : (s : GatherSetup) (t : ℕ) (ms : List Heard) → is_shut s (timed s ms) t ≡ false → before_closing s t ms ≡ ms
 before_all s t ms h = open_all s t [] ms h
@@ -88,8 +86,7 @@ Each p [] = Unit {0}
 Each p (t ∷ ts) = (p t ≡ true) × Each p ts
 
 each_cond : (p : ℕ → Bool) (t : ℕ) (ts : List ℕ) (b : Bool) → p t ≡ b → Each p ts → Each p (cond b (t ∷ ts) ts)
-each_cond p t ts true e h = (e, h)
-each_cond p t ts false e h = h
+each_cond p t ts b e h = grind arith
 
 pub each_filter : (p : ℕ → Bool) (ts : List ℕ) → Each p (filter p ts)
 each_filter p [] = tt
@@ -132,14 +129,12 @@ epochs-push s ms m =
 
 pub epochs-more : (s : GatherSetup) (ms more : List Heard) → IsPrefix (closed_list s ms) (closed_list s (ms ++ more))
 epochs-more s ms [] = subst (λ l. IsPrefix (closed_list s ms) (closed_list s l)) (sym (append-nil ms)) (prefix_self (closed_list s ms))
-epochs-more s ms (m ∷ more) =
-    prefix_trans _ _ _ (epochs-push s ms m) (subst (λ l. IsPrefix (closed_list s (ms ++ m ∷ [])) (closed_list s l)) (append_assoc ms (m ∷ []) more) (epochs-more s (ms ++ m ∷ []) more))
+epochs-more s ms (m ∷ more) = grind (arith, append_assoc, epochs-push s ms m, epochs-more s (ms ++ m ∷ []) more)
 
 -- ---- with the pending epoch, these are all epochs
 
 when_not : (c : Bool) (g : ℕ) (init : List ℕ) → (init ++ when c g) ++ when (not c) g ≡ init ++ g ∷ []
-when_not true g init = append-nil (init ++ g ∷ [])
-when_not false g init = ap (λ l. l ++ g ∷ []) (append-nil init)
+when_not c g init = grind (arith, append-nil)
 
 -- The time of the pending epoch.
 abbrev pub pending_in : GatherSetup → List Timed → List ℕ

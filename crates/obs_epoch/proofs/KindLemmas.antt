@@ -1,6 +1,6 @@
 -- The outcome of a message: whether it is expected again.
 use Rattle.std.proofs.Common.{◌≡◌, Bool, true, false, List, refl, sym, ap, ◌∙◌, subst, arith, Option, Some, None, is_some}
-use Rattle.obs_epoch.specs.inner.Names.{GatherSetup, Heard, Closed, timed, State, closes_first, kind_by, is_close_first, kind_after, kind_of, with_counts, no_counts, GathererValue, take_step, HasTakenMessages, HasGatheredEpochs, IsAwaited, CellCounts}
+use Rattle.obs_epoch.specs.inner.Names.{GatherSetup, Heard, Closed, timed, State, closes_first, kind_by, is_close_first, kind_of, with_counts, no_counts, GathererValue, take_step, HasTakenMessages, HasGatheredEpochs, IsAwaited, CellCounts}
 use Rattle.obs_epoch.proofs.TakeLemmas.{taken, closes_it, not_first}
 use Rattle.obs_epoch.proofs.ReturnedLemmas.{not_done}
 use Rattle.std.proofs.lemmas.Grind.{common_steps}
@@ -34,6 +34,4 @@ fits_now {s} {ms} (Some a) m n h going point fit other = ap (closes_first s (tim
 
 pub kind_taken : {g : GathererValue} {s : GatherSetup} {ms : List Heard} {es : List Closed} {again : Option Heard} (m : Heard) → HasGatheredEpochs g s ms es again → g.has_ended ≡ false
     → closes_first s (timed s ms) m ≡ is_some again → kind_by g.clock (take_step g m).counts m ≡ kind_of s ms m
-kind_taken {g} {s} {ms} {es} {again} m h going early =
-    let t = taken g s ms m (is_some again) (standing_of g s ms es again h going) early in
-    t.kind (take_step g m).counts ∙ ap (λ n. kind_after s (timed s ms) n m) t.counts
+kind_taken {g} {s} {ms} {es} {again} m h going early = grind (arith, taken g s ms m (is_some again) (standing_of g s ms es again h going) early)

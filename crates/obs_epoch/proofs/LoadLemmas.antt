@@ -1,10 +1,9 @@
 -- The cells of one more message, kept one by one, are the kept cells of the longer list.
-use Rattle.std.proofs.Common.{[], ◌≡◌, ℕ, suc, Bool, true, false, not, ◌||◌, ◌&&◌, List, ◌∷◌, ◌++◌, filter, refl, sym, ap, ap₂, ◌∙◌, subst, arith, length, append_assoc, append-nil, Option, nat_le, if◌then◌else◌, cond}
-use Rattle.obs_epoch.specs.inner.Names.{System, is_system, CellOutcome, Crowded, Kept, Repeated, Skipped, count_in, lookup, outcome_by, outcome_of, outcome_of_added, is_held, GatherSetup, HeardCell, kept_cell, is_of_system, is_among, kept, add, is_planned, lacks_channel, has_same_key, lli_with, GathererValue, with_more, outcome_in, hold, hold_by, load, PlanValue, planned_of, most_cells, EpochValue, cells_of, insert_by, sort_key_of, sorted, cell_sort_key, Cell, KnownLock, CellCounts}
+use Rattle.std.proofs.Common.{[], ◌≡◌, ℕ, suc, Bool, true, false, not, ◌||◌, ◌&&◌, List, ◌∷◌, ◌++◌, filter, refl, sym, ap, ap₂, ◌∙◌, arith, length, append_assoc, append-nil, Option, nat_le, if◌then◌else◌, cond}
+use Rattle.obs_epoch.specs.inner.Names.{System, CellOutcome, Crowded, Kept, Repeated, Skipped, count_in, lookup, outcome_by, outcome_of, outcome_of_added, is_held, GatherSetup, HeardCell, kept_cell, is_of_system, is_among, kept, add, is_planned, lacks_channel, has_same_key, lli_with, GathererValue, with_more, outcome_in, hold, hold_by, load, PlanValue, planned_of, most_cells, EpochValue, cells_of, insert_by, sort_key_of, sorted, cell_sort_key, Cell, KnownLock, CellCounts}
 use Rattle.gnss_obs.specs.declared.epoch_cells.Added.TheVariants as added
-use Rattle.gnss_system.specs.SystemValues.{value_of, with_value_of, tabulate}
-use Rattle.gnss_system.specs.declared.by_system.BySystem.{BySystem}
-use Rattle.gnss_system.proofs.SystemLaws.{equal_values, value_tabulated, value_after, value_of_other, system_same, system_self}
+use Rattle.gnss_system.specs.SystemValues.{tabulate}
+use Rattle.gnss_system.proofs.SystemLaws.{value_tabulated, system_same, system_self}
 use Rattle.obs_epoch.proofs.CellsLemmas.{kept-add}
 use Rattle.obs_epoch.proofs.OrderLemmas.{sorted-push, among-sorted, length-sorted}
 use Rattle.std.proofs.lemmas.Grind.{common_steps}
@@ -60,10 +59,7 @@ outcome_is s f t xs x =
       planned = planned_of system s.plan
 
       by : (p a c : Bool) → (if p then outcome_of_added (if a then added.Repeated else (if c then added.Crowded else added.Kept)) else Skipped) ≡ (if p then (if a then Repeated else (if c then Crowded else Kept)) else Skipped)
-      by false a c = refl
-      by true true c = refl
-      by true false true = refl
-      by true false false = refl
+      by p a c = grind arith
 
 -- The cells of another system don't change.
 add_other : (system : System) (ks : List HeardCell) (x : HeardCell) → is_of_system system x ≡ false → add system ks x ≡ ks
@@ -87,30 +83,7 @@ kept_same xs x full system = grind (arith, common_steps, kept-add, system_same, 
 -- A cell that is kept is inserted into the cells of its system.
 kept_more : (p : PlanValue) (f : HeardCell → Option KnownLock) (t : ℕ) (xs : List HeardCell) (x : HeardCell) → (is_among (kept x.satellite.system xs) x || nat_le most_cells (length (kept x.satellite.system xs))) ≡ false
     → epoch_by p Kept f (epoch_of p f t xs) x ≡ epoch_of p f t (xs ++ x ∷ [])
-kept_more p f t xs x room = ap (λ cells. record { time = t; cells = cells }) (equal_values _ _ (λ system. by system (is_system x.satellite.system system) refl)) where
-  own : System
-  own = x.satellite.system
-
-  before : BySystem (List Cell)
-  before = (epoch_of p f t xs).cells
-
-  more : List Cell
-  more = insert_by (cell_sort_key (planned_of own p)) (kept_cell x (lli_with t x (f x))) (cells_of own (epoch_of p f t xs))
-
-  at_own : value_of own (with_value_of own before more) ≡ with_lli_by f t (sorted (planned_of own p) (kept own (xs ++ x ∷ [])))
-  at_own =
-      value_after own before more ∙ ap (insert_by (cell_sort_key (planned_of own p)) (kept_cell x (lli_with t x (f x)))) (cells_in_of own p f t xs)
-      ∙ sym (with_lli_by-push (planned_of own p) f t (kept own xs) x)
-      ∙ ap (λ ks. with_lli_by f t (sorted (planned_of own p) ks))
-      (sym (kept-add own xs x ∙ add_own own (kept own xs) x (system_self own own refl) ∙ ap (λ b. if b then kept own xs else kept own xs ++ x ∷ []) room))
-
-  by : (system : System) (b : Bool) → is_system own system ≡ b → value_of system (with_value_of own before more) ≡ cells_of system (epoch_of p f t (xs ++ x ∷ []))
-  by system true e =
-      subst (λ (s : System). value_of s (with_value_of own before more) ≡ with_lli_by f t (sorted (planned_of s p) (kept s (xs ++ x ∷ [])))) (system_same own system e) at_own ∙ sym (cells_in_of system p f t (xs ++ x ∷ []))
-  by system false e =
-      value_of_other own system before more e ∙ cells_in_of system p f t xs
-      ∙ ap (λ ks. with_lli_by f t (sorted (planned_of system p) ks)) (sym (kept-add system xs x ∙ add_other system (kept system xs) x (grind (arith, e))))
-      ∙ sym (cells_in_of system p f t (xs ++ x ∷ []))
+kept_more p f t xs x room = grind (arith, with_lli_by-push, kept-add)
 
 -- After one more cell, the pending epoch is that of the longer list.
 one_more : (s : GatherSetup) (f : HeardCell → Option KnownLock) (t : ℕ) (xs : List HeardCell) (x : HeardCell)

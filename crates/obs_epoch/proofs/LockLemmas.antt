@@ -1,10 +1,9 @@
 -- The lock records: their values after a closing, and their number.
 use Rattle.std.proofs.Common.{[], ◌≡◌, ℕ, zero, suc, ◌+◌, Bool, true, false, ◌||◌, List, ◌∷◌, ◌++◌, map, filter, refl, sym, ap, ◌∙◌, subst, arith, length, append_assoc, append-nil, length-append, Option, Some, None, is_some, get_or, replicate, if◌then◌else◌, cond, find, option_and_then, length-set}
-use Rattle.std.specs.Option.{option_map_or, option_or}
+use Rattle.std.specs.Option.{option_or}
 use Rattle.std.proofs.lemmas.Map.Keys.{IsDistinct-head, IsDistinct-tail}
 use Rattle.std.proofs.lemmas.Map.Steps.{list_any_congr}
 use Rattle.std.proofs.lemmas.List.Sums.{sum_by-cons}
-use Rattle.std.proofs.lemmas.List.Elements.{filter-append}
 use Rattle.obs_epoch.specs.inner.Names.{is_among, has_listed_key, firsts, has_same_key, lock_of, is_locked, lookup, put, note, note_all, lock_place, most_locks, no_locks, recorded, TracksLocks, HeardCell, heard_cell, KnownLock, Cell, IsDistinct, AllByRecursion}
 use Rattle.obs_epoch.proofs.CellsLemmas.{same_key_laws, firsts-push, new_key, among-push}
 use Rattle.std.proofs.lemmas.Grind.{common_steps}
@@ -86,17 +85,11 @@ abbrev pub locked : List HeardCell → List HeardCell
 locked xs = filter is_locked xs
 
 pub tracks_note : (t : ℕ) (rs : List (Option KnownLock)) (noted : List HeardCell) (x : HeardCell) → has_listed_key x ≡ true → TracksLocks rs noted → TracksLocks (note t rs x) (noted ++ locked (x ∷ []))
-tracks_note t rs noted x k h = by (is_locked x) where
-  by : (b : Bool) → TracksLocks (option_map_or (put rs x) (if b then Some (record { time = t; lock = x.lock }) else None) rs) (noted ++ cond b (x ∷ []) [])
-  by true = tracks_put rs noted x (record { time = t; lock = x.lock }) k h
-  by false = subst (TracksLocks rs) (sym (append-nil noted)) h
+tracks_note t rs noted x k h = grind (arith, tracks_put rs noted x (record { time = t; lock = x.lock }) k h, append-nil noted)
 
 pub tracks_all : (t : ℕ) (rs : List (Option KnownLock)) (noted : List HeardCell) (ms : List Cell) → AllListed (seens ms) → TracksLocks rs noted → TracksLocks (note_all t rs ms) (noted ++ locked (seens ms))
 tracks_all t rs noted [] k h = subst (TracksLocks rs) (sym (append-nil noted)) h
-tracks_all t rs noted (m ∷ ms) k h =
-    subst (TracksLocks (note_all t (note t rs (heard_cell m)) ms))
-    (append_assoc noted (locked ((heard_cell m) ∷ [])) (locked (seens ms)) ∙ ap (λ l. noted ++ l) (sym (filter-append is_locked ((heard_cell m) ∷ []) (seens ms))))
-    (tracks_all t (note t rs (heard_cell m)) (noted ++ locked ((heard_cell m) ∷ [])) ms k.1 (tracks_note t rs noted (heard_cell m) k.0 h))
+tracks_all t rs noted (m ∷ ms) k h = grind (arith, append_assoc, tracks_all t (note t rs (heard_cell m)) (noted ++ locked ((heard_cell m) ∷ [])) ms k.1 (tracks_note t rs noted (heard_cell m) k.0 h))
 
 -- ---- no records
 
@@ -113,7 +106,4 @@ no_entry (suc n) zero = refl
 no_entry (suc n) (suc i) = no_entry n i
 
 pub none_found : (key : HeardCell) → lookup no_locks key ≡ None
-none_found key = by (has_listed_key key) where
-  by : (b : Bool) → (if b then get_or no_locks (lock_place key) None else None) ≡ None
-  by true = no_entry most_locks (lock_place key)
-  by false = refl
+none_found key = grind (arith, no_entry most_locks (lock_place key))

@@ -1,9 +1,9 @@
 -- The entries of lost lock after one more epoch.
-use Rattle.std.proofs.Common.{◌≡◌, ℕ, zero, suc, ◌+◌, ◌==◌, ◌%◌, ◌<◌, Bool, true, false, not, ◌&&◌, ◌||◌, List, [], ◌∷◌, ◌++◌, map, flat_map, length, get_or, set, replicate, refl, sym, ap, ap₂, ◌∙◌, subst, arith, is_some, if◌then◌else◌, length-set}
+use Rattle.std.proofs.Common.{◌≡◌, ℕ, zero, suc, ◌+◌, ◌==◌, ◌%◌, ◌<◌, Bool, true, false, not, ◌&&◌, ◌||◌, List, [], ◌∷◌, ◌++◌, map, flat_map, length, get_or, set, replicate, refl, sym, ap, ◌∙◌, subst, arith, is_some, if◌then◌else◌, length-set}
 use Rattle.std.specs.List.{list_any}
 use Rattle.std.proofs.lemmas.List.{length-replicate}
 use Rattle.std.proofs.lemmas.Grind.{common_steps}
-use Rattle.gnss_system.proofs.SystemLaws.{value_after, value_tabulated, with_same}
+use Rattle.gnss_system.proofs.SystemLaws.{value_after, value_tabulated}
 use Rattle.gnss_system.specs.Systems.{systems}
 use Rattle.obs_epoch.specs.declared.choice.Choice.{Choice}
 use Rattle.obs_epoch.specs.Choices.{on_grid}
@@ -57,22 +57,10 @@ any_changes at x ys = list_any (λ y. same_cell x y && changes at y) ys
 
 lost_note : (at : Bool) (marks : List Bool) (x y : Cell) → has_listed_key (heard_cell x) ≡ true → has_listed_key (heard_cell y) ≡ true → length marks ≡ most_locks
     → is_lost_in (note_lost at marks y) x ≡ (if same_cell x y && changes at y then not at else is_lost_in marks x)
-lost_note at marks x y k l size = by (changes at y) where
-  by : (c : Bool) → is_lost_in (if c then set marks (lock_place (heard_cell y)) (not at) else marks) x ≡ (if same_cell x y && c then not at else is_lost_in marks x)
-  by true = lost_set marks x y (not at) k l size ∙ both (same_cell x y) where
-    both : (s : Bool) → (if s then not at else is_lost_in marks x) ≡ (if s && true then not at else is_lost_in marks x)
-    both true = refl
-    both false = refl
-  by false = both (same_cell x y) where
-    both : (s : Bool) → is_lost_in marks x ≡ (if s && false then not at else is_lost_in marks x)
-    both true = refl
-    both false = refl
+lost_note at marks x y k l size = grind (arith, lost_set marks x y (not at) k l size)
 
 note_size : (at : Bool) (marks : List Bool) (y : Cell) → length (note_lost at marks y) ≡ length marks
-note_size at marks y = by (changes at y) where
-  by : (c : Bool) → length (if c then set marks (lock_place (heard_cell y)) (not at) else marks) ≡ length marks
-  by true = length-set marks (lock_place (heard_cell y)) (not at)
-  by false = refl
+note_size at marks y = grind (arith, length-set)
 
 losses_size : (at : Bool) (marks : List Bool) (ys : List Cell) → length (note_losses at marks ys) ≡ length marks
 losses_size at marks [] = refl
@@ -86,9 +74,7 @@ lost_losses at marks x (y ∷ ys) k l size =
     ∙ ap (λ b. if any_changes at x ys then not at else b) (lost_note at marks x y k l.0 size)
     ∙ by (same_cell x y && changes at y) (any_changes at x ys) where
       by : (a b : Bool) → (if b then not at else (if a then not at else is_lost_in marks x)) ≡ (if (a || b) then not at else is_lost_in marks x)
-      by true true = refl
-      by true false = refl
-      by false b = refl
+      by a b = grind arith
 
 -- ---- all cells of an epoch
 
@@ -110,8 +96,7 @@ all_listed e (s ∷ ss) h = listed_append (cells_of s e) (flat_map (λ s. cells_
 
 lost_systems : (at : Bool) (e : EpochValue) (marks : List Bool) (x : Cell) → has_listed_key (heard_cell x) ≡ true → HasListedCells e → length marks ≡ most_locks
     → is_lost_in (note_systems_lost at e marks systems) x ≡ (if any_changes at x (all_cells e) then not at else is_lost_in marks x)
-lost_systems at e marks x k listed size =
-    ap (λ l. is_lost_in l x) (systems_are at e marks systems) ∙ lost_losses at marks x (all_cells e) k (all_listed e systems listed) size
+lost_systems at e marks x k listed size = grind (arith, systems_are at e marks systems, lost_losses at marks x (all_cells e) k (all_listed e systems listed) size)
 
 systems_size : (at : Bool) (e : EpochValue) (marks : List Bool) → length (note_systems_lost at e marks systems) ≡ length marks
 systems_size at e marks = ap (λ (l : List Bool). length l) (systems_are at e marks systems) ∙ losses_size at marks (all_cells e)
@@ -120,23 +105,16 @@ systems_size at e marks = ap (λ (l : List Bool). length l) (systems_are at e ma
 
 marked_changes : (f : Cell → Bool) (x : Cell) (ys : List Cell) → any_changes true x (map (mark_if f) ys) ≡ any_changes true x ys
 marked_changes f x [] = refl
-marked_changes f x (y ∷ ys) = ap₂ (λ (a b : Bool). a || b) (one (has_phase y && f y)) (marked_changes f x ys) where
-  one : (b : Bool) → (same_cell x (if b then with_mark y else y) && changes true (if b then with_mark y else y)) ≡ (same_cell x y && changes true y)
-  one true = refl
-  one false = refl
+marked_changes f x (y ∷ ys) = grind (arith, marked_changes f x ys)
 
 marked_all : (f : Cell → Bool) (x : Cell) (e : EpochValue) (ss : List System) → any_changes true x (flat_map (λ s. cells_of s (marked_epoch f e)) ss) ≡ any_changes true x (flat_map (λ s. cells_of s e) ss)
 marked_all f x e [] = refl
-marked_all f x e (s ∷ ss) =
-    any-append _ (cells_of s (marked_epoch f e)) (flat_map (λ s. cells_of s (marked_epoch f e)) ss)
-    ∙ ap₂ (λ (a b : Bool). a || b) (ap (any_changes true x) (value_tabulated s (λ t. map (mark_if f) (cells_of t e))) ∙ marked_changes f x (cells_of s e)) (marked_all f x e ss)
-    ∙ sym (any-append _ (cells_of s e) (flat_map (λ s. cells_of s e) ss))
+marked_all f x e (s ∷ ss) = grind (arith, any-append, value_tabulated, marked_changes, marked_all f x e ss)
 
 marked_listed : (f : Cell → Bool) (e : EpochValue) → HasListedCells e → HasListedCells (marked_epoch f e)
 marked_listed f e h = λ s. subst AllListedCells (sym (value_tabulated s (λ t. map (mark_if f) (cells_of t e)))) (by (cells_of s e) (h s)) where
   one : (x : Cell) (b : Bool) → has_listed_key (heard_cell x) ≡ true → has_listed_key (heard_cell (if b then with_mark x else x)) ≡ true
-  one x true k = k
-  one x false k = k
+  one x b k = grind arith
 
   by : (xs : List Cell) → AllListedCells xs → AllListedCells (map (mark_if f) xs)
   by [] k = tt
@@ -144,10 +122,7 @@ marked_listed f e h = λ s. subst AllListedCells (sym (value_tabulated s (λ t. 
 
 phase_changes : (x : Cell) (ys : List Cell) → any_changes true x ys ≡ list_any (λ y. same_cell x y && has_phase y) ys
 phase_changes x [] = refl
-phase_changes x (y ∷ ys) = ap₂ (λ (a b : Bool). a || b) (one (same_cell x y) (has_phase y)) (phase_changes x ys) where
-  one : (a b : Bool) → (a && (b && true)) ≡ (a && b)
-  one a true = refl
-  one a false = refl
+phase_changes x (y ∷ ys) = grind (arith, phase_changes x ys)
 
 -- ---- one more epoch
 
@@ -166,8 +141,7 @@ marks_push c marks es e listed h = by (is_some c.interval) refl where
       ∙ some (has_cell has_phase x e) refl
       ∙ ap (λ a. if a && has_cell has_phase x e then false else lost_before c es x || has_cell is_marked x e) (sym at) ∙ sym (lost-push c es e x) where
         some : (p : Bool) → has_cell has_phase x e ≡ p → (if p then false else lost_before c es x) ≡ (if p then false else lost_before c es x || has_cell is_marked x e)
-        some true q = refl
-        some false q = sym (or-false (lost_before c es x)) ∙ ap (λ b. lost_before c es x || b) (sym (no_phase x e q))
+        some p q = grind (arith, or-false, no_phase)
 
   off : (x : Cell) → has_listed_key (heard_cell x) ≡ true → on_grid c e.epoch.time ≡ false → is_lost_in (carried_from false marks e.epoch) x ≡ lost_before c (es ++ e ∷ []) x
   off x k at =
@@ -176,10 +150,7 @@ marks_push c marks es e listed h = by (is_some c.interval) refl where
       ∙ some (has_cell is_marked x e) (lost_before c es x)
       ∙ ap (λ a. if a && has_cell has_phase x e then false else lost_before c es x || has_cell is_marked x e) (sym at) ∙ sym (lost-push c es e x) where
         some : (a b : Bool) → (if a then true else b) ≡ (b || a)
-        some true true = refl
-        some true false = refl
-        some false true = refl
-        some false false = refl
+        some a b = grind arith
 
   carried : (at : Bool) → on_grid c e.epoch.time ≡ at → AreMarks c (carried_from at marks e.epoch) (es ++ e ∷ [])
   carried true at = record { size = systems_size true (marked_epoch (is_lost_in marks) e.epoch) marks ∙ h.size; each = λ x k. on x k at }
@@ -228,39 +199,25 @@ first_all lost (suc i) (x ∷ xs) h = ap (λ l. mark_if lost x ∷ l) (first_all
 pub mark_is : (lost : Cell → Bool) (at : ℕ) (xs : List Cell) (x : Cell) → at < length xs → x ≡ get_or xs at x → (b : Bool) → (has_phase x && lost x) ≡ b
     → (if b then marked_at at xs else xs) ≡ mark_at lost at xs
 mark_is lost at [] x less is b e = absurd (grind (arith, less))
-mark_is lost zero (y ∷ xs) x less is b e = by b (ap (λ z. has_phase z && lost z) (sym is) ∙ e) where
-  by : (b : Bool) → (has_phase y && lost y) ≡ b → (if b then with_mark y ∷ xs else y ∷ xs) ≡ (if has_phase y && lost y then with_mark y else y) ∷ xs
-  by true e = ap (λ c. (if c then with_mark y else y) ∷ xs) (sym e)
-  by false e = ap (λ c. (if c then with_mark y else y) ∷ xs) (sym e)
-mark_is lost (suc at) (y ∷ xs) x less is b e = by b (mark_is lost at xs x (omega (arith, less)) is b e) where
-  by : (b : Bool) → (if b then marked_at at xs else xs) ≡ mark_at lost at xs → (if b then y ∷ marked_at at xs else y ∷ xs) ≡ y ∷ mark_at lost at xs
-  by true h = ap (λ l. y ∷ l) h
-  by false h = ap (λ l. y ∷ l) h
+mark_is lost zero (y ∷ xs) x less is b e = grind arith
+mark_is lost (suc at) (y ∷ xs) x less is b e = grind (arith, mark_is lost at xs x (omega (arith, less)) is b e)
 
 pub marked_in_is : (marks : List Bool) (system : System) (at : ℕ) (e : EpochValue) (x : Cell) → at < length (cells_of system e) → x ≡ get_or (cells_of system e) at x
     → (b : Bool) → (has_phase x && is_lost_in marks x) ≡ b → (if b then marked_in system at e else e) ≡ with_mark_in marks system at e
 marked_in_is marks system at e x less is true h = ap (λ l. record e { cells = with_value_of system e.cells l }) (mark_is (is_lost_in marks) at (cells_of system e) x less is true h)
-marked_in_is marks system at e x less is false h =
-    ap (λ cells. record e { cells = cells }) (sym (with_same system e.cells)) ∙ ap (λ l. record e { cells = with_value_of system e.cells l }) (mark_is (is_lost_in marks) at (cells_of system e) x less is false h)
+marked_in_is marks system at e x less is false h = grind (arith, mark_is (is_lost_in marks) at (cells_of system e) x less is false h)
 
 abbrev pub first_in : List Bool → System → ℕ → EpochValue → EpochValue
 first_in marks system i e = record e { cells = with_value_of system e.cells (mark_first (is_lost_in marks) i (cells_of system e)) }
 
 pub first_in_length : (marks : List Bool) (system : System) (i : ℕ) (e : EpochValue) → length (cells_of system (first_in marks system i e)) ≡ length (cells_of system e)
-first_in_length marks system i e =
-    ap (λ (l : List Cell). length l) (value_after system e.cells (mark_first (is_lost_in marks) i (cells_of system e))) ∙ first_length (is_lost_in marks) i (cells_of system e)
+first_in_length marks system i e = grind (arith, value_after, first_length)
 
 with_twice : {A : Type 0} (s : System) (values : BySystem A) (x y : A) → with_value_of s (with_value_of s values x) y ≡ with_value_of s values y
 with_twice s values x y = grind (arith, common_steps)
 
 pub first_in_step : (marks : List Bool) (system : System) (i : ℕ) (e : EpochValue) → with_mark_in marks system i (first_in marks system i e) ≡ first_in marks system (i + 1) e
-first_in_step marks system i e =
-    let lost = is_lost_in marks in
-    let xs = cells_of system e in
-    let next : suc i ≡ i + 1 = omega arith in
-    ap (λ l. record e { cells = with_value_of system (with_value_of system e.cells (mark_first lost i xs)) (mark_at lost i l) }) (value_after system e.cells (mark_first lost i xs))
-    ∙ ap (λ cells. record e { cells = cells }) (with_twice system e.cells (mark_first lost i xs) (mark_at lost i (mark_first lost i xs)))
-    ∙ ap (λ l. record e { cells = with_value_of system e.cells l }) (first_step lost i xs ∙ ap (λ n. mark_first lost n xs) next)
+first_in_step marks system i e = grind (arith, value_after, with_twice, first_step)
 
 -- ---- an epoch without a loss of lock
 

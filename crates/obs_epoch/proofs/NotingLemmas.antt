@@ -21,9 +21,7 @@ add_distinct system ks y d = grind (arith, common_steps, IsDistinct-push, same_k
 
 distinct_more : (system : System) (xs ys : List HeardCell) → IsDistinct has_same_key (kept system xs) → IsDistinct has_same_key (kept system (xs ++ ys))
 distinct_more system xs [] d = subst (λ l. IsDistinct has_same_key (kept system l)) (sym (append-nil xs)) d
-distinct_more system xs (y ∷ ys) d =
-    subst (λ l. IsDistinct has_same_key (kept system l)) (append_assoc xs (y ∷ []) ys)
-    (distinct_more system (xs ++ y ∷ []) ys (subst (IsDistinct has_same_key) (sym (kept-add system xs y)) (add_distinct system (kept system xs) y d)))
+distinct_more system xs (y ∷ ys) d = grind (arith, append_assoc, distinct_more system (xs ++ y ∷ []) ys (subst (IsDistinct has_same_key) (sym (kept-add system xs y)) (add_distinct system (kept system xs) y d)))
 
 kept_none : (system : System) → kept system [] ≡ []
 kept_none system = grind (arith, common_steps)
@@ -37,9 +35,7 @@ add_apart system ks y key o h = grind (arith, common_steps)
 
 apart_more : (system : System) (xs ys : List HeardCell) (key : HeardCell) → is_of_system system key ≡ false → is_among (kept system xs) key ≡ false → is_among (kept system (xs ++ ys)) key ≡ false
 apart_more system xs [] key o h = subst (λ l. is_among (kept system l) key ≡ false) (sym (append-nil xs)) h
-apart_more system xs (y ∷ ys) key o h =
-    subst (λ l. is_among (kept system l) key ≡ false) (append_assoc xs (y ∷ []) ys)
-    (apart_more system (xs ++ y ∷ []) ys key o (ap (λ l. is_among l key) (kept-add system xs y) ∙ add_apart system (kept system xs) y key o h))
+apart_more system xs (y ∷ ys) key o h = grind (arith, append_assoc, apart_more system (xs ++ y ∷ []) ys key o (ap (λ l. is_among l key) (kept-add system xs y) ∙ add_apart system (kept system xs) y key o h))
 
 pub kept_apart : (system : System) (xs : List HeardCell) (key : HeardCell) → is_of_system system key ≡ false → is_among (kept system xs) key ≡ false
 kept_apart system xs key o = apart_more system [] xs key o (ap (λ l. is_among l key) (kept_none system))
@@ -70,9 +66,7 @@ add_listed system ks y l h = grind (arith, common_steps)
 
 listed_more : (system : System) (xs ys : List HeardCell) → AllListed ys → AllListed (kept system xs) → AllListed (kept system (xs ++ ys))
 listed_more system xs [] l d = subst (λ v. AllListed (kept system v)) (sym (append-nil xs)) d
-listed_more system xs (y ∷ ys) l d =
-    subst (λ v. AllListed (kept system v)) (append_assoc xs (y ∷ []) ys)
-    (listed_more system (xs ++ y ∷ []) ys l.1 (subst AllListed (sym (kept-add system xs y)) (add_listed system (kept system xs) y l.0 d)))
+listed_more system xs (y ∷ ys) l d = grind (arith, append_assoc, listed_more system (xs ++ y ∷ []) ys l.1 (subst AllListed (sym (kept-add system xs y)) (add_listed system (kept system xs) y l.0 d)))
 
 kept_listed : (s : GatherSetup) (t : ℕ) (xs : List Timed) (system : System) → AllListed (cells_at s t xs system)
 kept_listed s t xs system = all-sorted (λ x. has_listed_key x ≡ true) (planned_of system s.plan) (kept system (offered s t xs)) (listed_more system [] (offered s t xs) (listed_offered s (filter (is_at t) xs)) (subst AllListed (sym (kept_none system)) tt))
@@ -115,9 +109,7 @@ found_over s xs t key rs (c ∷ ss) size =
     ∙ ap (option_or (if list_any (is_system key.satellite.system) ss then locked_at s xs key t else None)) one
     ∙ by (is_system key.satellite.system c) (list_any (is_system key.satellite.system) ss) refl where
       one : lookup (note_all t rs (cells_in s xs t c)) key ≡ option_or (option_and_then (lock_of t) (find (has_same_key key) (cells_at s t xs c))) (lookup rs key)
-      one =
-          lookup-note_all t rs (cells_in s xs t c) key (subst (IsDistinct has_same_key) (sym (seens_with_lli s xs t (cells_at s t xs c))) (at_distinct s t xs c)) (are_listed s xs t c) size
-          ∙ ap (λ l. option_or (option_and_then (lock_of t) (find (has_same_key key) l)) (lookup rs key)) (seens_with_lli s xs t (cells_at s t xs c))
+      one = grind (arith, lookup-note_all, seens_with_lli, at_distinct, are_listed)
 
       twice : (b : Bool) (l o : Option KnownLock) → option_or (if b then l else None) (option_or l o) ≡ option_or l o
       twice b l o = grind (arith, common_steps)
@@ -135,12 +127,7 @@ found_over s xs t key rs (c ∷ ss) size =
 tracks_over : (s : GatherSetup) (xs : List Timed) (t : ℕ) (rs : List (Option KnownLock)) (noted : List HeardCell) (ss : List System) → TracksLocks rs noted
     → TracksLocks (noting s xs t rs ss) (noted ++ filter is_locked (flat_map (cells_at s t xs) ss))
 tracks_over s xs t rs noted [] h = subst (TracksLocks rs) (sym (append-nil noted)) h
-tracks_over s xs t rs noted (c ∷ ss) h =
-    subst (TracksLocks (noting s xs t (note_all t rs (cells_in s xs t c)) ss))
-    (ap (λ l. (noted ++ locked l) ++ filter is_locked (flat_map (cells_at s t xs) ss)) (seens_with_lli s xs t (cells_at s t xs c))
-    ∙ append_assoc noted (locked (cells_at s t xs c)) (filter is_locked (flat_map (cells_at s t xs) ss))
-    ∙ ap (λ l. noted ++ l) (sym (filter-append is_locked (cells_at s t xs c) (flat_map (cells_at s t xs) ss))))
-    (tracks_over s xs t (note_all t rs (cells_in s xs t c)) (noted ++ locked (seens (cells_in s xs t c))) ss (tracks_all t rs noted (cells_in s xs t c) (are_listed s xs t c) h))
+tracks_over s xs t rs noted (c ∷ ss) h = grind (arith, seens_with_lli, append_assoc, filter-append, tracks_over s xs t (note_all t rs (cells_in s xs t c)) (noted ++ locked (seens (cells_in s xs t c))) ss (tracks_all t rs noted (cells_in s xs t c) (are_listed s xs t c) h))
 
 -- The pending epoch is closed.
 pub noted_locked : (g : GathererValue) (s : GatherSetup) (xs : List Timed) (ts : List ℕ) (t : ℕ) → g.epoch ≡ epoch_at s xs t → Locked g s xs ts → Locked (noted g) s xs (ts ++ t ∷ [])

@@ -34,8 +34,7 @@ cancel : (a b : List ℕ) (u : ℕ) → a ++ u ∷ [] ≡ b ++ u ∷ [] → a �
 cancel a b u e = grind (arith, common_steps)
 
 cancel_when : (a b : List ℕ) (c : Bool) (u : ℕ) → a ++ when c u ≡ b ++ when c u → a ≡ b
-cancel_when a b true u e = cancel a b u e
-cancel_when a b false u e = sym (append-nil a) ∙ e ∙ append-nil b
+cancel_when a b c u e = grind (arith, cancel, append-nil)
 
 not_same : (a b : Bool) → not a ≡ not b → a ≡ b
 not_same a b e = grind (arith, common_steps, e)

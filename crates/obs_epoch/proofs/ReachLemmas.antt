@@ -1,8 +1,8 @@
 -- Bounds of the values of epochs.
 use Rattle.rtcm_msg.specs.declared.view.Form.TheVariants as forms
-use Rattle.obs_epoch.specs.inner.Names.{System, Satellite, satellite_of_id, SignalAt, signal_of_id, nearest_pseudorange, nearest_phase, nearest_doppler, nearest_strength, LockTime, Entry, Message, Station, Msm4, Msm5, Msm6, Msm7, Other, IsMessage, IsMeasured, EntriesAreMeasured, PointsAreInRange, entries, StationValues, weeks, Closed, HasTwelveDigits, cells_of, planned_of, most_cells, GatherSetup, Heard, heard, observed, seen_in, lock_by, HeardCell, kept_cell, Timed, is_at, timed, timed_after, taken_at, is_of_system, is_planned, offered, firsts_after, firsts, kept, cells_at, has_same_key, times, lli_with, lli_of, has_lost, cells_with_lli, epoch_at, values_after_message, is_shut, open_after, before_closing, closed_list_at, all_epochs, IsHeardCell, IsHeard, IsGathered, same_place, AreGathered, AreStationValues, IsGatheredEpoch, TimesRise, AreGatheredEpochs, KnownLock, Form}
+use Rattle.obs_epoch.specs.inner.Names.{System, Satellite, satellite_of_id, SignalAt, signal_of_id, nearest_pseudorange, nearest_phase, nearest_doppler, nearest_strength, LockTime, Entry, Message, Station, Msm4, Msm5, Msm6, Msm7, Other, IsMessage, IsMeasured, EntriesAreMeasured, PointsAreInRange, entries, StationValues, weeks, Closed, HasTwelveDigits, cells_of, planned_of, most_cells, GatherSetup, Heard, heard, observed, seen_in, lock_by, HeardCell, kept_cell, Timed, is_at, timed, timed_after, taken_at, is_of_system, is_planned, offered, firsts_after, firsts, kept, cells_at, has_same_key, times, lli_with, lli_of, has_lost, cells_with_lli, epoch_at, values_after_message, open_after, before_closing, closed_list_at, all_epochs, IsHeardCell, IsHeard, IsGathered, same_place, AreGathered, AreStationValues, IsGatheredEpoch, TimesRise, AreGatheredEpochs, KnownLock, Form}
 use Rattle.std.proofs.Common.{◌≡◌, ℕ, zero, suc, ℤ, pos, ◌+◌, ◌*◌, ◌^◌, ◌<◌, ◌≤◌, ◌≤ℤ◌, Bool, true, false, List, [], ◌∷◌, ◌++◌, filter, take, ap, arith, Option, Some, None, nat_lt, is_some, unsigned_abs, if◌then◌else◌, flat_map, filter_map, option_map, option_and_then, IfSome, fold}
-use Rattle.std.specs.List.{AllByRecursion, IsDistinct, cons_option}
+use Rattle.std.specs.List.{AllByRecursion, IsDistinct}
 use Rattle.rtcm_msg.specs.Msm.{week}
 use Rattle.gnss_system.specs.Signals.{most_hertz}
 use Rattle.gnss_obs.specs.Channels.{AreChannels, ChannelsValue, hertz_in}
@@ -13,7 +13,6 @@ use Rattle.gnss_system.proofs.SystemLaws.{value_tabulated}
 use Rattle.std.proofs.Common.{◌&&◌, ◌/◌, ◌∙◌, map, refl, subst, sym}
 use Rattle.gnss_obs.specs.Marked.{with_mark}
 use Rattle.obs_epoch.specs.declared.choice.Choice.{Choice}
-use Rattle.obs_epoch.specs.Choices.{is_chosen}
 use Rattle.obs_epoch.specs.GathererHistory.{whole_list}
 use Rattle.obs_epoch.specs.inner.Names.{Cell, PlanValue}
 use Rattle.obs_epoch.specs.Thinning.{has_phase, lost_before, mark_if, marked_after, thin_after}
@@ -49,14 +48,12 @@ pub record AreSizes : Type 0 where
   pub decibels : (s : ℕ) → 0 < s → s < 1024 → (pos 1 ≤ℤ nearest_strength s) × (nearest_strength s ≤ℤ pos 99_999)
 
 mapped : {A B : Type 0} (f : A → B) (P : A → Type 0) (Q : B → Type 0) → ((x : A) → P x → Q (f x)) → (o : Option A) → IfSome o P → IfSome (option_map f o) Q
-mapped f P Q h None k = tt
-mapped f P Q h (Some x) k = h x k
+mapped f P Q h o k = grind arith
 
 -- A value at a known carrier.
 at_carrier : (f : ℕ → ℤ → ℤ) (m : ℕ) → ((h : ℕ) (x : ℤ) → h ≤ most_hertz → unsigned_abs x ≤ m → unsigned_abs (f h x) < 10 ^ 12) → (hertz : Option ℕ) (o : Option ℤ)
     → IfSome hertz (λ h. h ≤ most_hertz) → IfSome o (λ x. unsigned_abs x ≤ m) → IfSome (option_and_then (λ h. option_map (f h) o) hertz) HasTwelveDigits
-at_carrier f m small None o within h = tt
-at_carrier f m small (Some hertz) o within h = mapped (f hertz) (λ x. unsigned_abs x ≤ m) HasTwelveDigits (λ x. small hertz x within) o h
+at_carrier f m small hertz o within h = grind (arith, mapped)
 
 observed_given : AreSizes → (channels : ChannelsValue) (lock : LockTime) (e : Entry) (satellite : Satellite) (signal : SignalAt) → AreChannels channels → IsMeasured e
     → IsHeardCell (observed channels lock e satellite signal)
@@ -72,12 +69,7 @@ seen_given z channels form system e valid h = by (satellite_of_id system e.satel
 cells_given : AreSizes → (channels : ChannelsValue) (form : Form) (system : System) (es : List Entry) → AreChannels channels → AllByRecursion IsMeasured es
     → AllByRecursion IsHeardCell (filter_map (seen_in channels form system) es)
 cells_given z channels form system [] valid h = tt
-cells_given z channels form system (e ∷ es) valid h =
-    by (seen_in channels form system e) (seen_given z channels form system e valid h.0) (cells_given z channels form system es valid h.1) where
-      by : (o : Option HeardCell) → IfSome o IsHeardCell → AllByRecursion IsHeardCell (filter_map (seen_in channels form system) es)
-          → AllByRecursion IsHeardCell (cons_option o (filter_map (seen_in channels form system) es))
-      by None k l = l
-      by (Some x) k l = (k, l)
+cells_given z channels form system (e ∷ es) valid h = grind (arith, seen_given z channels form system e valid h.0, cells_given z channels form system es valid h.1)
 
 pub message_heard : AreSizes → EntriesAreMeasured → PointsAreInRange → (channels : ChannelsValue) (leap : ℕ) (m : Message) → AreChannels channels → IsMessage m → IsHeard (heard channels leap m)
 message_heard z all points channels leap (Station p) v h = record { cells = tt; point = points p h }
@@ -102,9 +94,7 @@ taken_within s earlier m = grind (arith, common_steps)
 
 timed_more : (s : GatherSetup) (earlier : List Timed) (ms : List Heard) → AllByRecursion IsTimed earlier → AllByRecursion IsHeard ms → AllByRecursion IsTimed (timed_after s earlier ms)
 timed_more s earlier [] h k = h
-timed_more s earlier (m ∷ ms) h k =
-    timed_more s (earlier ++ record { message = m; time = taken_at s earlier m } ∷ []) ms
-    (all_append IsTimed earlier (record { message = m; time = taken_at s earlier m } ∷ []) h (record { heard = k.0; time = taken_within s earlier m }, tt)) k.1
+timed_more s earlier (m ∷ ms) h k = grind (arith, all_append, taken_within, timed_more s (earlier ++ record { message = m; time = taken_at s earlier m } ∷ []) ms)
 
 timed_all : (s : GatherSetup) (ms : List Heard) → AllByRecursion IsHeard ms → AllByRecursion IsTimed (timed s ms)
 timed_all s ms h = timed_more s [] ms tt h
@@ -202,23 +192,13 @@ values_from s v (m ∷ ms) k h = values_from s (values_after_message s v m) ms k
 
 open_heard : (s : GatherSetup) (t : ℕ) (earlier ms : List Heard) → AllByRecursion IsHeard earlier → AllByRecursion IsHeard ms → AllByRecursion IsHeard (open_after s t earlier ms)
 open_heard s t earlier [] h k = h
-open_heard s t earlier (m ∷ ms) h k =
-    by (is_shut s (timed s (earlier ++ m ∷ [])) t) (open_heard s t (earlier ++ m ∷ []) ms (all_append IsHeard earlier (m ∷ []) h (k.0, tt)) k.1) where
-      by : (b : Bool) → AllByRecursion IsHeard (open_after s t (earlier ++ m ∷ []) ms) → AllByRecursion IsHeard (if b then earlier else open_after s t (earlier ++ m ∷ []) ms)
-      by b l = grind (arith, common_steps, l)
+open_heard s t earlier (m ∷ ms) h k = grind (arith, open_heard s t (earlier ++ m ∷ []) ms (all_append IsHeard earlier (m ∷ []) h (k.0, tt)) k.1)
 
 -- ---- epochs
 
 each_epoch : (s : GatherSetup) (ms : List Heard) (ts : List ℕ) → AreStationValues s.initial → AllByRecursion IsHeard ms → AllByRecursion IsWithin ts → AllByRecursion (IsGatheredEpoch s.plan) (closed_list_at s ms ts)
 each_epoch s ms [] v h w = tt
-each_epoch s ms (t ∷ ts) v h w = (
-  record {
-    time = w.0;
-    cells = gathered_at s (timed s ms) t (timed_all s ms h);
-    values = values_from s s.initial (before_closing s t ms) (open_heard s t [] ms tt h) v;
-  },
-  each_epoch s ms ts v h w.1,
-)
+each_epoch s ms (t ∷ ts) v h w = grind (arith, gathered_at s (timed s ms) t (timed_all s ms h), values_from s s.initial (before_closing s t ms) (open_heard s t [] ms tt h) v, each_epoch s ms ts v h w.1)
 
 all_later : (s : GatherSetup) (ms : List Heard) (t : ℕ) (ts : List ℕ) → AllByRecursion (λ u. t < u) ts → AllByRecursion (λ (f : Closed). t < f.epoch.time) (closed_list_at s ms ts)
 all_later s ms t [] h = tt
@@ -264,10 +244,7 @@ unfolding IsDistinct
 marks_apart lost [] d = tt
 marks_apart lost (x ∷ xs) d = (others (has_phase x && lost x) xs d.0, marks_apart lost xs d.1) where
   one : (a b : Bool) (y : Cell) → same_place x y ≡ false → same_place (if a then with_mark x else x) (if b then with_mark y else y) ≡ false
-  one true true y e = e
-  one true false y e = e
-  one false true y e = e
-  one false false y e = e
+  one a b y e = grind arith
 
   others : (a : Bool) (ys : List Cell) → AllByRecursion (λ y. same_place x y ≡ false) ys → AllByRecursion (λ y. same_place (if a then with_mark x else x) y ≡ false) (map (mark_if lost) ys)
   others a [] h = tt
@@ -287,29 +264,15 @@ epoch_marked plan c earlier e h = record {
 
 thin_each : (plan : PlanValue) (c : Choice) (earlier es : List Closed) → AllByRecursion (IsGatheredEpoch plan) es → AllByRecursion (IsGatheredEpoch plan) (thin_after c earlier es)
 thin_each plan c earlier [] h = tt
-thin_each plan c earlier (e ∷ es) h = by (is_chosen c e.epoch.time) (thin_each plan c (earlier ++ e ∷ []) es h.1) where
-  by : (b : Bool) → AllByRecursion (IsGatheredEpoch plan) (thin_after c (earlier ++ e ∷ []) es)
-      → AllByRecursion (IsGatheredEpoch plan) ((if b then marked_after c earlier e ∷ [] else []) ++ thin_after c (earlier ++ e ∷ []) es)
-  by true more = (epoch_marked plan c earlier e h.0, more)
-  by false more = more
+thin_each plan c earlier (e ∷ es) h = grind (arith, epoch_marked plan c earlier e h.0, thin_each plan c (earlier ++ e ∷ []) es h.1)
 
 thin_later : (t : ℕ) (c : Choice) (earlier es : List Closed) → AllByRecursion (λ (f : Closed). t < f.epoch.time) es → AllByRecursion (λ (f : Closed). t < f.epoch.time) (thin_after c earlier es)
 thin_later t c earlier [] h = tt
-thin_later t c earlier (e ∷ es) h = by (is_chosen c e.epoch.time) (thin_later t c (earlier ++ e ∷ []) es h.1) where
-  by : (b : Bool) → AllByRecursion (λ (f : Closed). t < f.epoch.time) (thin_after c (earlier ++ e ∷ []) es)
-      → AllByRecursion (λ (f : Closed). t < f.epoch.time) ((if b then marked_after c earlier e ∷ [] else []) ++ thin_after c (earlier ++ e ∷ []) es)
-  by true more = (h.0, more)
-  by false more = more
+thin_later t c earlier (e ∷ es) h = grind (arith, thin_later t c (earlier ++ e ∷ []) es h.1)
 
 thin_rise : (c : Choice) (earlier es : List Closed) → TimesRise es → TimesRise (thin_after c earlier es)
 thin_rise c earlier [] h = tt
-thin_rise c earlier (e ∷ es) h = by (is_chosen c e.epoch.time) (thin_rise c (earlier ++ e ∷ []) es h.1) (thin_later e.epoch.time c (earlier ++ e ∷ []) es h.0) where
-  by : (b : Bool) → TimesRise (thin_after c (earlier ++ e ∷ []) es) → AllByRecursion (λ (f : Closed). e.epoch.time < f.epoch.time) (thin_after c (earlier ++ e ∷ []) es)
-      → TimesRise ((if b then marked_after c earlier e ∷ [] else []) ++ thin_after c (earlier ++ e ∷ []) es)
-  by true more later = (later, more)
-  by false more later = more
+thin_rise c earlier (e ∷ es) h = grind (arith, thin_later e.epoch.time c (earlier ++ e ∷ []) es h.0, thin_rise c (earlier ++ e ∷ []) es h.1)
 
 pub epochs_gathered : (s : GatherSetup) (ms : List Heard) → AreStationValues s.initial → AllByRecursion IsHeard ms → AreGatheredEpochs s.plan (all_epochs s ms)
-epochs_gathered s ms v h =
-    let w = whole_gathered s ms v h in
-    record { each = thin_each s.plan s.choice [] (whole_list s ms) w.each; rise = thin_rise s.choice [] (whole_list s ms) w.rise }
+epochs_gathered s ms v h = grind (arith, whole_gathered, thin_each, thin_rise)

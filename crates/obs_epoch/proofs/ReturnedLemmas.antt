@@ -1,12 +1,11 @@
 -- A call of the gatherer returns the epoch that the longer list closes.
 use Rattle.std.proofs.Common.{◌≡◌, ℕ, Bool, true, false, ◌||◌, ◌&&◌, List, [], ◌∷◌, ◌++◌, refl, sym, ap, ap₂, ◌∙◌, subst, arith, Option, Some, None, is_some, nat_lt, append-nil, if◌then◌else◌, option_to_list}
 use Rattle.std.proofs.lemmas.List.{map-append}
-use Rattle.obs_epoch.specs.inner.Names.{GatherSetup, Heard, Closed, EpochValue, Timed, is_at, greatest_time, is_closed, taken_at, timed, times, is_shut, closed_times, closed_so_far, epoch_at, values_of, is_pending, closes_first, GathererValue, empty_epoch, take_step, end_step, noted, HasTakenMessages, held_at, option_map_or, list_any}
+use Rattle.obs_epoch.specs.inner.Names.{GatherSetup, Heard, Closed, Timed, is_at, greatest_time, is_closed, taken_at, timed, times, is_shut, closed_times, closed_so_far, values_of, is_pending, closes_first, GathererValue, take_step, end_step, noted, HasTakenMessages, held_at, option_map_or, list_any}
 use Rattle.obs_epoch.specs.inner.Step.{closed_time as closes}
 use Rattle.rtcm_bits.specs.Prefix.{IsPrefix}
-use Rattle.obs_epoch.specs.GathererHistory.{before_closing, closed_at, closed_list, closed_list_at, closed_so_far_of, closed_by, returned_epoch, is_done, whole_list, HasGatheredEpochs}
+use Rattle.obs_epoch.specs.GathererHistory.{closed_at, closed_list, closed_list_at, closed_so_far_of, closed_by, returned_epoch, is_done, whole_list, HasGatheredEpochs}
 use Rattle.obs_epoch.specs.inner.GathererSteps.{thinned_if}
-use Rattle.obs_epoch.specs.GathererHistory.{AreMarks}
 use Rattle.obs_epoch.specs.inner.Names.{State, step_by}
 use Rattle.obs_epoch.proofs.ThinnedLemmas.{Before, closed_one, thinned_gathers}
 use Rattle.obs_epoch.proofs.TimesLemmas.{next, timed-push, greater-absent, none-absent, some_eq}
@@ -15,7 +14,7 @@ use Rattle.obs_epoch.proofs.ClosedLemmas.{taken_follows}
 use Rattle.obs_epoch.proofs.ClosingLemmas.{closing}
 use Rattle.obs_epoch.proofs.OneStepLemmas.{closed_later}
 use Rattle.obs_epoch.proofs.TakeLemmas.{taken, closes_it, ended, Ended, times_taken, time_taken, pending_taken, IsSet, no_point_given, same_values, clock_stepped, counts_stepped, handed_is, ended_is, marks_stepped}
-use Rattle.obs_epoch.proofs.HistoryLemmas.{Each, each_filter, each_front, each_back, list-push, before_all, before-push, pending_open, with_pending}
+use Rattle.obs_epoch.proofs.HistoryLemmas.{each_filter, each_front, each_back, list-push, before_all, before-push, pending_open, with_pending}
 use Rattle.std.proofs.lemmas.Grind.{common_steps}
 use Rattle.rtcm_bits.proofs.SmallLaws.{prefix_self}
 
@@ -29,9 +28,7 @@ open_by : (s : GatherSetup) (xs : List Timed) (t : ℕ) → is_closed s t xs ≡
 open_by s xs t a b = ap₂ (λ (p q : Bool). p || q) a b
 
 open_follows : (s : GatherSetup) (xs : List Timed) (u : ℕ) → Follows s xs u → is_shut s xs u ≡ false
-open_follows s xs u (first e) = open_by s xs u (closed_absent s u xs (none-absent xs u e)) (ap (λ o. option_map_or (λ v. nat_lt u v) o false) e)
-open_follows s xs u (greater g e lt) = grind (arith, common_steps, open_by, closed_absent, greater-absent)
-open_follows s xs u (equal e c) = grind (arith, common_steps, open_by)
+open_follows s xs u h0 = grind (arith, first, open_by, closed_absent, none-absent, greater, greater-absent, equal)
 
 -- An epoch that a step closes wasn't closed before.
 new_open : {g : GathererValue} {s : GatherSetup} {ms : List Heard} (m : Heard) {shut : Bool} → HasTakenMessages g s ms shut → closes_first s (timed s ms) m ≡ shut
@@ -61,28 +58,14 @@ pub keeps : (s : GatherSetup) (ms : List Heard) (m : Heard) (shut : Bool) (o : O
 keeps s ms m shut o early grown = grind (arith, common_steps, append-nil, each_front, each_filter, map-append, list-push, closed_later)
 
 shut_new : (s : GatherSetup) (ys : List Timed) (before : List ℕ) (t : ℕ) → closed_so_far s ys false ≡ before ++ t ∷ [] → is_shut s ys t ≡ true
-shut_new s ys before t grown =
-    let all : closed_times s ys ≡ before ++ t ∷ [] = sym (append-nil (closed_times s ys)) ∙ grown in
-    (each_back (is_shut s ys) before (t ∷ []) (subst (Each (is_shut s ys)) all (each_filter (is_shut s ys) (times ys)))).0
+shut_new s ys before t grown = grind (arith, append-nil, each_back, each_filter, each_filter (is_shut s ys) (times ys))
 
 -- The epoch that a step closes.
 new_closed : {g : GathererValue} {s : GatherSetup} {ms : List Heard} (m : Heard) {shut : Bool} → HasTakenMessages g s ms shut → closes_first s (timed s ms) m ≡ shut → IsSet m
     → (o : Option ℕ) → closes g.clock m ≡ o → (take_step g m).state.just_closed ≡ is_some o
     → closed_one (take_step g m).state ≡ closed_list_at s (ms ++ m ∷ []) (option_to_list o)
 new_closed {g} m h early given None e has = let v = (take_step g m).state in ap (λ b. closed_by (if b then Some (v.epoch) else None) v.values) has
-new_closed {g} {s} {ms} m {shut} h early given (Some t) e has =
-    let v = (take_step g m).state in
-    let ns = ms ++ m ∷ [] in
-    let ys = timed s ns in
-    let t1 = taken g s ms m shut h early in
-    let now = time_taken m h early t e in
-    let open_still = new_open m h early t e in
-    let closed_now = shut_new s ys (closed_so_far s (timed s ms) shut) t (times_taken g s ms m shut h early ∙ ap (λ o. closed_so_far s (timed s ms) shut ++ option_to_list o) e) in
-    let epoch : v.epoch ≡ epoch_at s ys t = t1.closed (ap is_some e) ∙ ap (λ o. option_map_or (epoch_at s ys) o (empty_epoch 0)) now in
-    let values : v.values ≡ values_of s (before_closing s t ns) =
-    t1.after.values ∙ same_values s ms m (no_point_given g.clock m t given e) ∙ ap (values_of s) (sym (before-push s t ms m closed_now ∙ before_all s t ms open_still)) in
-    ap (λ b. closed_by (if b then Some (v.epoch) else None) v.values) has
-    ∙ ap₂ (λ (a : EpochValue) w. record { epoch = a; values = w } ∷ []) epoch values
+new_closed {g} {s} {ms} m {shut} h early given (Some t) e has = grind (arith, shut_new, before-push, before_all, taken g s ms m shut h early, time_taken m h early t e, new_open m h early t e, times_taken g s ms m shut h early, same_values s ms m (no_point_given g.clock m t given e), no_point_given g.clock m t given e)
 
 -- The pending epoch.
 pending_closed : (v : GathererValue) (s : GatherSetup) (ms : List Heard) {t : ℕ} → greatest_time (timed s ms) ≡ Some t → is_pending s (timed s ms) ≡ true
@@ -100,11 +83,7 @@ closed_shut g m closes = grind (arith, common_steps, closes)
 
 before_of : {g : GathererValue} {s : GatherSetup} {ms : List Heard} {es : List Closed} {again : Option Heard} (w : GathererValue) → HasGatheredEpochs g s ms es again → w.marks ≡ g.marks → w.counts ≡ g.counts
     → Before w s (closed_so_far_of g s ms again) es
-before_of {g} {s} {ms} {es} {again} w h marks counts = record {
-  returned = h.returned;
-  marks = subst (λ l. AreMarks s.choice l (closed_so_far_of g s ms again)) (sym marks) h.marks;
-  counts = counts ∙ h.counts;
-}
+before_of {g} {s} {ms} {es} {again} w h marks counts = grind arith
 
 -- A message is processed.
 pub gathers_taken : {g : GathererValue} {s : GatherSetup} {ms : List Heard} {es : List Closed} {again : Option Heard} (m : Heard) → HasGatheredEpochs g s ms es again → g.has_ended ≡ false
@@ -196,8 +175,7 @@ pub end_handed : (b : Bool) (h : GathererValue) → (if b then noted h else h).j
 end_handed b h = grind (arith, common_steps)
 
 end_same : {A : Type 0} (f : GathererValue → A) → ((h : GathererValue) → f (noted h) ≡ f h) → (b : Bool) (h : GathererValue) → f (if b then noted h else h) ≡ f h
-end_same f same true h = same h
-end_same f same false h = refl
+end_same f same b h = grind arith
 
 -- No message follows.
 pub gathers_ended : (g : GathererValue) (s : GatherSetup) (ms : List Heard) (es : List Closed) → HasGatheredEpochs g s ms es None → g.has_ended ≡ false
@@ -248,20 +226,16 @@ gathers_ended g s ms es h going closed is = thinned_gathers v s ms before es Non
   last false p = ap (λ b. closed_by (if b then Some (v.epoch) else None) v.values) (has ∙ p)
   last true p = by (greatest_time xs) refl where
     by : (o : Option ℕ) → greatest_time xs ≡ o → closed_one v ≡ closed_list_at s ms (option_to_list (greatest_time xs))
-    by None e = absurd (grind (arith, e, p))
-    by (Some t) e = pending_closed v s ms e p (f.closed (pending ∙ p)) f.after.values (has ∙ p)
+    by o e = grind (arith, pending_closed, has, pending, f, v)
 
   all : closed_so_far_of v s ms None ≡ closed_list_at s ms (closed_so_far s xs (is_pending s xs))
   all = ap (λ b. closed_list_at s ms (closed_so_far s xs b)) done
 
   list : closed_so_far_of v s ms None ≡ before ++ closed_one v
-  list =
-      all ∙ map-append (closed_at s ms) (closed_times s xs) (if is_pending s xs then option_to_list (greatest_time xs) else [])
-      ∙ ap₂ (λ a b. a ++ b) (sym was) (sym (last (is_pending s xs) refl))
+  list = grind (arith, map-append, all, was, xs, last)
 
   known : closed_so_far_of v s ms None ≡ (if v.has_ended then whole_list s ms else closed_list s ms)
   known = all ∙ ap (closed_list_at s ms) (with_pending s xs) ∙ ap (λ b. if b then whole_list s ms else closed_list s ms) (sym over)
 
 pub thinned_ended : (b : Bool) (w : GathererValue) → (thinned_if b w).has_ended ≡ w.has_ended
-thinned_ended true w = refl
-thinned_ended false w = refl
+thinned_ended b w = grind arith

@@ -1,5 +1,5 @@
 -- Cells are counted signal by signal.
-use Rattle.std.proofs.Common.{◌≡◌, ℕ, zero, suc, ◌+◌, ◌-◌, ◌<◌, ◌≤◌, ◌^◌, ◌==◌, ◌&&◌, ◌||◌, not, nat_le, List, [], ◌∷◌, ◌++◌, length, get_or, filter, Bool, true, false, Option, Some, None, refl, sym, ap, ◌∙◌, subst, arith, is_some, inl, inr, position, if◌then◌else◌, cond, filter_map, option_map, option_and_then, slice_get}
+use Rattle.std.proofs.Common.{◌≡◌, ℕ, zero, suc, ◌+◌, ◌-◌, ◌<◌, ◌≤◌, ◌^◌, ◌==◌, ◌&&◌, ◌||◌, not, List, [], ◌∷◌, ◌++◌, length, get_or, filter, Bool, true, false, Option, Some, None, refl, sym, ap, ◌∙◌, subst, arith, is_some, inl, inr, position, if◌then◌else◌, cond, filter_map, option_map, option_and_then, slice_get}
 use Rattle.std.proofs.lemmas.Bool.{cases_lt, not-true, eqb-true}
 use Rattle.std.proofs.lemmas.Grind.{common_steps}
 use Rattle.std.proofs.lemmas.List.Quantifiers.{position-Some}
@@ -14,18 +14,14 @@ use Rattle.std.proofs.Common.{◌/◌}
 use Rattle.gnss_system.specs.Signals.{most_signals}
 use Rattle.gnss_obs.specs.Channels.{hertz_in}
 use Rattle.obs_epoch.specs.SignalCounts.{every_channel}
-use Rattle.gnss_system.specs.Satellites.{satellites}
 
 -- ---- signals and their IDs
 
 one_way : (a b : Bool) → (a ≡ true → b ≡ true) → (b ≡ true → a ≡ true) → a ≡ b
-one_way true b there back = sym (there refl)
-one_way false true there back = back refl
-one_way false false there back = refl
+one_way a b there back = grind arith
 
 both_of : (a b : Bool) → (a && b) ≡ true → (a ≡ true) × (b ≡ true)
-both_of true b h = (refl, h)
-both_of false b h = grind (arith, h)
+both_of a b h = grind arith
 
 equal_self : (a b : ℕ) → a ≡ b → (a == b) ≡ true
 equal_self a b h = grind (arith, h)
@@ -57,11 +53,7 @@ no_signal system id g listed none = grind (arith, common_steps)
 the_signal : (system : System) (id : ℕ) (g s : SignalAt) → IsSignal g → signal_of_id system id ≡ Some s → (is_system system g.system && (id == id_of g)) ≡ (is_system g.system s.system && (s.index == g.index))
 the_signal system id g s listed some = one_way _ _ there back where
   there : (is_system system g.system && (id == id_of g)) ≡ true → (is_system g.system s.system && (s.index == g.index)) ≡ true
-  there h =
-      let both = both_of (is_system system g.system) (id == id_of g) h in
-      let is : signal_of_id system id ≡ Some g = rw (system_same system g.system both.0, eqb-true id (id_of g) both.1) (id_back g listed) in
-      let e : s ≡ g = some_same s g (signal_of_id system id) some is in
-      rw (system_self g.system s.system (ap (λ (x : SignalAt). x.system) (sym e)), equal_self s.index g.index (ap (λ (x : SignalAt). x.index) e)) refl
+  there h = grind (arith, both_of, system_same, eqb-true, id_back, some_same, system_self, equal_self)
 
   back : (is_system g.system s.system && (s.index == g.index)) ≡ true → (is_system system g.system && (id == id_of g)) ≡ true
   back h =
@@ -83,9 +75,7 @@ same false b = not b
 
 from_same : (a b : Bool) → same a b ≡ true → a ≡ b
 unfolding same
-from_same true b h = sym h
-from_same false true h = h
-from_same false false h = refl
+from_same a b h = grind arith
 
 abbrev is_right : System → ℕ → Bool
 is_right system id = same (is_in (satellite_set system) id) (is_some (satellite_of_id system id))
@@ -97,11 +87,7 @@ in_set system id = elim (cases_lt id 65) [
   | inr above ↦ past system id above (64 - id) (omega (arith, above))
 ] where
   past : (system : System) (id : ℕ) → 65 ≤ id → (n : ℕ) → n ≡ 0 → odd (satellite_set system / 2 ^ n) ≡ is_some (satellite_of_id system id)
-  past system id above n e =
-      let few = each_system (λ s. nat_le (satellites s) 63) system refl in
-      let f : nat_le id (satellites system) ≡ false = grind (arith, above, few) in
-      let g : nat_le 1 id ≡ true = grind (arith, above) in
-      rw (e, f, g) (not-true _ (each_system (λ s. not (odd (satellite_set s / 2 ^ 0))) system refl))
+  past system id above n e = grind (arith, each_system, not-true)
 
 -- ---- the entries of a signal
 
@@ -137,9 +123,7 @@ count_append g xs ys = grind (arith, common_steps)
 
 pub all_entries : (form : Form) (system : System) (es : List Entry) (g : SignalAt) → IsSignal g
     → count_of g (filter brings_value (filter_map (seen_in every_channel form system) es)) ≡ (if is_system system g.system then value_count (satellite_set system) (id_of g) es else 0)
-all_entries form system [] g listed = none (is_system system g.system) where
-  none : (b : Bool) → zero ≡ (if b then zero else zero)
-  none b = grind (arith, common_steps)
+all_entries form system [] g listed = grind arith
 all_entries form system (e ∷ es) g listed =
     ap (count_of g) (sym (one_first (seen_in every_channel form system e) (filter_map (seen_in every_channel form system) es)))
     ∙ (count_append g (filter brings_value (cons_option (seen_in every_channel form system e) [])) (filter brings_value (filter_map (seen_in every_channel form system) es))
@@ -165,9 +149,7 @@ pub record Adds (c c' : SignalCountsValue) (system : System) (left counts : List
 
 -- At the beginning a signal whose ID isn't among those left has no cell.
 pub number_none : (b h : Bool) (m n : ℕ) → (h ≡ false → m ≡ 0) → n ≡ n + (if b && not h then m else 0)
-number_none true false m n f = omega (arith, f refl)
-number_none true true m n f = omega arith
-number_none false h m n f = omega arith
+number_none b h m n f = grind arith
 
 -- ---- one number more
 

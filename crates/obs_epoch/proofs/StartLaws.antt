@@ -1,7 +1,6 @@
 -- The week of the first observations.
 use Rattle.std.proofs.Common.{arith, refl}
 use Rattle.obs_epoch.specs.Starts.{IsGivenWeek, IsNearestFirst, IsWeekOfWeeks, first_week}
-use Rattle.obs_epoch.specs.declared.week.Start.TheVariants.{Week, Near}
 
 pub given : IsGivenWeek
 unfolding first_week
@@ -13,5 +12,4 @@ nearest noon tow = grind arith
 
 pub of_weeks : IsWeekOfWeeks
 unfolding first_week
-of_weeks (Week n) tow h = grind (arith, h)
-of_weeks (Near noon) tow h = grind arith
+of_weeks = grind arith

@@ -1,9 +1,8 @@
 -- The whole step: a property of the list before holds for the list after one more message.
-use Rattle.std.proofs.Common.{◌≡◌, ℕ, Bool, true, false, not, ◌||◌, ◌&&◌, List, [], ◌∷◌, ◌++◌, refl, sym, ap, ap₂, ◌∙◌, subst, arith, append-nil, Option, Some, None, is_some, length, true≢false, ◌⊎◌, inl, inr, if◌then◌else◌, option_to_list}
+use Rattle.std.proofs.Common.{◌≡◌, ℕ, Bool, true, false, not, ◌||◌, ◌&&◌, List, [], ◌∷◌, ◌++◌, refl, sym, ap, ap₂, ◌∙◌, subst, arith, append-nil, Option, Some, None, is_some, length, ◌⊎◌, if◌then◌else◌, option_to_list}
 use Rattle.std.proofs.lemmas.List.Sums.{fold-append}
 use Rattle.obs_epoch.specs.inner.Names.{Message, Kind, CloseFirst, CellCounts, GatherSetup, Heard, heard_by, is_own, ends_epoch, HeardCell, Timed, greatest_time, taken_at, timed, no_counts, with_skipped, offered, counts_of, counts_of_message, epoch_at, closed_so_far, closed_times, values_of, values_after_message, State, HasHeardMessages, is_pending, closes_first, is_close_first, is_accepted, kind_after, with_unlisted, GathererValue, Loaded, empty_epoch, noted, load, loaded_if, loaded_where, outcome_in, load_one, with_time, begun_by, closed_if, closed_noted, epoch_begun, shut_where, ended_where, open_by, take_step, end_step, is_same, KnownLock, held_at, Locked, HasTakenMessages, EpochValue, cells_of, option_map_or}
 use Rattle.obs_epoch.specs.GathererAfter.{HasAsManyCells}
-use Rattle.rtcm_msg.specs.declared.message.Message.TheVariants as message
 use Rattle.obs_epoch.specs.inner.Step.{kind_by, step_by, closed_time, closed_of}
 use Rattle.obs_epoch.proofs.TimesLemmas.{next, timed-push}
 use Rattle.obs_epoch.proofs.ClockLemmas.{standing, same_state, takes, closes, new_time}
@@ -47,13 +46,7 @@ pub record Mid (g : GathererValue) (s : GatherSetup) (ms : List Heard) (shut : B
 pub assemble : {g : GathererValue} {s : GatherSetup} {ms : List Heard} {shut : Bool} {ts : List ℕ} (o : Option ℕ) → Mid g s ms shut ts o
     → ((t : ℕ) → o ≡ Some t → greatest_time (timed s ms) ≡ Some t) → closed_so_far s (timed s ms) shut ≡ ts ++ option_to_list o
     → HasTakenMessages (if is_some o then noted g else g) s ms shut
-assemble {g} {s} {ms} None h at closed = record {
-  clock = h.clock;
-  epoch = h.held.pending;
-  sizes = h.held.sizes;
-  locks = subst (Locked g s (timed s ms)) (sym (closed ∙ append-nil _)) h.locks;
-  values = h.values;
-}
+assemble {g} {s} {ms} None h at closed = grind (arith, append-nil)
 assemble {g} {s} {ms} {ts} (Some t) h at closed = record {
   clock = h.clock;
   epoch = h.held.pending;
@@ -113,12 +106,7 @@ reached g s ms m shut h early = by (taken_at s xs m) refl where
 
   moved : (v : GathererValue) → v.clock ≡ standing s (xs ++ next s xs m ∷ []) false → HasHeld v (held_at s (xs ++ next s xs m ∷ [])) (closed_time g.clock m)
       → Locked v s (xs ++ next s xs m ∷ []) (closed_so_far s xs shut) → v.values ≡ values_of s (ms ++ m ∷ []) → Mid v s (ms ++ m ∷ []) false (closed_so_far s xs shut) (closed_time g.clock m)
-  moved v a b c d = record {
-    clock = clock_has_heard v.clock s (ms ++ m ∷ []) _ false same a;
-    held = subst (λ l. HasHeld v (held_at s l) (closed_time g.clock m)) (sym same) b;
-    locks = subst (λ l. Locked v s l (closed_so_far s xs shut)) (sym same) c;
-    values = d;
-  }
+  moved v a b c d = grind (arith, clock_has_heard, values, same, xs, locks)
 
   by : (o : Option ℕ) → taken_at s xs m ≡ o → Reached (loaded_if (is_accepted (kind_by g.clock no_counts m)) g.clock.latest (with_time g m) m) s ms m shut (closed_time g.clock m)
   by None none =
@@ -169,8 +157,7 @@ pub record Taken (g : GathererValue) (s : GatherSetup) (ms : List Heard) (m : He
 
 -- The closing doesn't change the epoch.
 closed_epoch : (b : Bool) (l : Loaded) → (closed_if b l).state.epoch ≡ l.state.epoch
-closed_epoch true l = refl
-closed_epoch false l = refl
+closed_epoch b l = grind arith
 
 -- A message is processed.
 pub taken : (g : GathererValue) (s : GatherSetup) (ms : List Heard) (m : Heard) (shut : Bool) → HasTakenMessages g s ms shut → closes_first s (timed s ms) m ≡ shut → Taken g s ms m shut
@@ -199,19 +186,13 @@ abbrev pub IsSet : Heard → Type 0
 IsSet m = (m.point ≡ None) ⊎ ((m.tow ≡ None) × (m.more ≡ None))
 
 pub given_alone : (s : GatherSetup) (m : Message) → IsSet (heard_by s m)
-given_alone s (message.Station p) = inr (refl, refl)
-given_alone s (message.Msm4 m) = inl refl
-given_alone s (message.Msm5 m) = inl refl
-given_alone s (message.Msm6 m) = inl refl
-given_alone s (message.Msm7 m) = inl refl
-given_alone s (message.Other number set) = inl refl
+given_alone s m = grind arith
 
 closes_none : (g : State) (m : Heard) → m.tow ≡ None → m.more ≡ None → closed_time g m ≡ None
 closes_none g m tow more = grind (arith, tow, more)
 
 pub no_point_given : (g : State) (m : Heard) (t : ℕ) → IsSet m → closed_time g m ≡ Some t → m.point ≡ None
-no_point_given g m t (inl none) e = none
-no_point_given g m t (inr both) e = grind (arith, common_steps, closes_none)
+no_point_given g m t h0 e = grind (arith, closes_none)
 
 -- A message without a point doesn't change the station values.
 pub same_values : (s : GatherSetup) (ms : List Heard) (m : Heard) → m.point ≡ None → values_of s (ms ++ m ∷ []) ≡ values_of s ms
@@ -285,26 +266,11 @@ stopping g = record g { clock = record g.clock { pending = false }; just_closed 
 ended_by : (g : GathererValue) (s : GatherSetup) (ms : List Heard) (shut : Bool) (b : Bool) → g.clock.pending ≡ b → g.clock.pending ≡ (is_pending s (timed s ms) && not shut)
     → HasTakenMessages (if b then noted (stopping g) else stopping g) s ms (shut || b) → (g.clock.pending ≡ true → g.epoch ≡ held_at s (timed s ms))
     → Ended g s ms shut
-ended_by g s ms shut b is was after held = record {
-  was = was;
-  after = subst (λ c. HasTakenMessages (if c then noted (stopping g) else stopping g) s ms (shut || c)) (sym is) after;
-  closed = λ p. by g.clock.pending ∙ held p;
-} where
-  by : (c : Bool) → (if c then noted (stopping g) else stopping g).epoch ≡ g.epoch
-  by true = refl
-  by false = refl
+ended_by g s ms shut b is was after held = grind arith
 
 -- No epoch was pending.
 ended_none : (g : GathererValue) (s : GatherSetup) (ms : List Heard) (shut : Bool) → HasTakenMessages g s ms shut → g.clock.pending ≡ false → Ended g s ms shut
-ended_none g s ms shut h f = ended_by g s ms shut false f h.clock.pending same h.epoch where
-  same : HasTakenMessages (stopping g) s ms (shut || false)
-  same = record {
-    clock = record { setup = h.clock.setup; latest = h.clock.latest; pending = grind (arith, common_steps, f, h.clock.pending) };
-    epoch = λ p. h.epoch (absurd (true≢false (sym p)));
-    sizes = h.sizes;
-    locks = subst (λ b. Locked (stopping g) s (timed s ms) (closed_so_far s (timed s ms) b)) (sym (or-false shut)) (record { found = h.locks.found; tracks = h.locks.tracks });
-    values = h.values;
-  }
+ended_none g s ms shut h f = grind (arith, ended_by, or-false)
 
 -- The pending epoch is closed.
 ended_some : (g : GathererValue) (s : GatherSetup) (ms : List Heard) → HasTakenMessages g s ms false → g.clock.pending ≡ true → Ended g s ms false
@@ -369,8 +335,7 @@ step_apart f apart g m = closed (is_some (closed_time g.clock m)) (loaded_if acc
   accepted = is_accepted (kind_by g.clock no_counts m)
 
   closed : (b : Bool) (l : Loaded) → f (closed_if b l).state ≡ f l.state
-  closed true l = apart l.state l.state.epoch _
-  closed false l = refl
+  closed b l = grind arith
 
 -- The step of the gatherer, from what its message loads.
 pub noted_is : (g : GathererValue) (m : Heard) → closed_noted (loaded_if (is_accepted (kind_by g.clock no_counts m)) g.clock.latest (with_time g m) m).state ≡ (take_step g m).state
@@ -414,8 +379,7 @@ loaded_standing false p g m = refl
 -- The cells of the message, from the epoch that has begun.
 loaded_begun : (g : GathererValue) (m : Heard) (accepted : Bool) → is_accepted (kind_by g.clock no_counts m) ≡ accepted
     → loaded_where accepted (epoch_begun g.clock.latest (with_time g m)) m ≡ loaded_if accepted g.clock.latest (with_time g m) m
-loaded_begun g m true e = refl
-loaded_begun g m false e = grind (arith, common_steps, same_latest)
+loaded_begun g m accepted e = grind (arith, same_latest)
 
 abbrev pub loads : GathererValue → Heard → Loaded
 loads g m = loaded_if (is_accepted (kind_by g.clock no_counts m)) g.clock.latest (with_time g m) m

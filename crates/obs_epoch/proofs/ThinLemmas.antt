@@ -1,28 +1,24 @@
 -- The epochs that are returned, of all closed ones.
-use Rattle.std.proofs.Common.{◌≡◌, ℕ, suc, ◌+◌, ◌==◌, ◌%◌, Bool, true, false, ◌&&◌, ◌||◌, List, [], ◌∷◌, ◌++◌, map, filter, length, refl, sym, ap, ap₂, ◌∙◌, arith, append_assoc, append-nil, length-append, is_some, if◌then◌else◌, cond}
+use Rattle.std.proofs.Common.{◌≡◌, ℕ, suc, ◌+◌, Bool, true, false, ◌&&◌, ◌||◌, List, [], ◌∷◌, ◌++◌, map, filter, length, refl, sym, ap, ap₂, ◌∙◌, arith, append_assoc, append-nil, length-append, is_some, if◌then◌else◌}
 use Rattle.std.specs.List.{AllByRecursion, list_any}
 use Rattle.std.proofs.lemmas.List.Elements.{filter-append}
 use Rattle.std.proofs.lemmas.Grind.{common_steps}
 use Rattle.rtcm_bits.specs.Prefix.{IsPrefix}
 use Rattle.gnss_system.proofs.SystemLaws.{equal_values, tabulated_same, value_tabulated}
 use Rattle.obs_epoch.specs.declared.choice.Choice.{Choice}
-use Rattle.obs_epoch.specs.declared.choice.EpochCounts.{EpochCounts}
-use Rattle.obs_epoch.specs.Choices.{in_window, is_chosen, on_grid}
+use Rattle.obs_epoch.specs.Choices.{in_window, on_grid}
 use Rattle.obs_epoch.specs.inner.Marks.{counted_epoch}
 use Rattle.obs_epoch.specs.GathererHistory.{capped_counts}
-use Rattle.obs_epoch.specs.inner.Names.{Cell, Closed, EpochValue, System, cells_of, has_listed_key, has_same_key, heard_cell}
+use Rattle.obs_epoch.specs.inner.Names.{Cell, Closed, EpochValue, System, cells_of, has_listed_key, heard_cell}
 use Rattle.gnss_obs.specs.Marked.{with_mark}
-use Rattle.obs_epoch.specs.Thinning.{after_latest, all_cells, counts_among, counts_left_out, ends_carrying, has_cell, has_phase, is_left_out, is_marked, lost_before, mark_if, marked_after, marked_epoch, thin, thin_after, up_to_most}
+use Rattle.obs_epoch.specs.Thinning.{after_latest, counts_left_out, ends_carrying, has_cell, has_phase, is_left_out, is_marked, lost_before, mark_if, marked_epoch, thin, thin_after, up_to_most}
 use Rattle.obs_epoch.proofs.TimesLemmas.{list_any-push}
 
 -- ---- more epochs
 
 pub thin_append : (c : Choice) (earlier a b : List Closed) → thin_after c earlier (a ++ b) ≡ thin_after c earlier a ++ thin_after c (earlier ++ a) b
 thin_append c earlier [] b = ap (λ l. thin_after c l b) (sym (append-nil earlier))
-thin_append c earlier (e ∷ a) b =
-    let one = if is_chosen c e.epoch.time then marked_after c earlier e ∷ [] else [] in
-    ap (λ l. one ++ l) (thin_append c (earlier ++ e ∷ []) a b) ∙ sym (append_assoc one (thin_after c (earlier ++ e ∷ []) a) _)
-    ∙ ap (λ l. (one ++ thin_after c (earlier ++ e ∷ []) a) ++ thin_after c l b) (append_assoc earlier (e ∷ []) a)
+thin_append c earlier (e ∷ a) b = grind (arith, append_assoc, thin_append c (earlier ++ e ∷ []) a b)
 
 pub thin_prefix : (c : Choice) (a b : List Closed) → IsPrefix a b → IsPrefix (thin c a) (thin c b)
 thin_prefix c a b h = (thin_after c a h.0, ap (thin c) h.1 ∙ thin_append c [] a h.0)
@@ -31,48 +27,23 @@ thin_prefix c a b h = (thin_after c a h.0, ap (thin c) h.1 ∙ thin_append c [] 
 
 pub any-append : {A : Type 0} (p : A → Bool) (xs ys : List A) → list_any p (xs ++ ys) ≡ (list_any p xs || list_any p ys)
 any-append p [] ys = refl
-any-append p (x ∷ xs) ys = ap (λ b. p x || b) (any-append p xs ys) ∙ by (p x) where
-  by : (b : Bool) → (b || (list_any p xs || list_any p ys)) ≡ ((b || list_any p xs) || list_any p ys)
-  by true = refl
-  by false = refl
+any-append p (x ∷ xs) ys = grind (arith, any-append p xs ys)
 
 pub after-push : {A : Type 0} (p : A → Bool) (xs : List A) (x : A) → after_latest p (xs ++ x ∷ []) ≡ (if p x then [] else after_latest p xs ++ x ∷ [])
 after-push p [] x = refl
-after-push {A} p (y ∷ xs) x =
-    ap₂ (λ (b : Bool) r. if b then r else (if p y then xs ++ x ∷ [] else y ∷ (xs ++ x ∷ []))) (list_any-push p xs x) (after-push p xs x)
-    ∙ by (list_any p xs) (p x) (p y) where
-      by : (a b c : Bool) → (if (a || b) then (if b then [] else after_latest p xs ++ x ∷ []) else (if c then xs ++ x ∷ [] else y ∷ (xs ++ x ∷ [])))
-          ≡ (if b then [] else (if a then after_latest p xs else (if c then xs else y ∷ xs)) ++ x ∷ [])
-      by true true c = refl
-      by true false c = refl
-      by false true c = refl
-      by false false true = refl
-      by false false false = refl
+after-push {A} p (y ∷ xs) x = grind (arith, list_any-push, after-push p xs x)
 
 pub lost-push : (c : Choice) (es : List Closed) (e : Closed) (x : Cell)
     → lost_before c (es ++ e ∷ []) x ≡ (if ends_carrying c x e then false else lost_before c es x || has_cell is_marked x e)
-lost-push c es e x = ap (list_any (has_cell is_marked x)) (after-push (ends_carrying c x) es e) ∙ by (ends_carrying c x e) where
-  by : (b : Bool) → list_any (has_cell is_marked x) (if b then [] else after_latest (ends_carrying c x) es ++ e ∷ []) ≡ (if b then false else lost_before c es x || has_cell is_marked x e)
-  by true = refl
-  by false = list_any-push (has_cell is_marked x) (after_latest (ends_carrying c x) es) e
+lost-push c es e x = grind (arith, after-push, list_any-push)
 
 -- A marked cell has a phase.
 pub any_less : {A : Type 0} (p q : A → Bool) → ((x : A) → q x ≡ true → p x ≡ true) → (xs : List A) → list_any p xs ≡ false → list_any q xs ≡ false
 any_less p q less [] none = refl
-any_less p q less (x ∷ xs) none = by (p x) (q x) refl refl none (any_less p q less xs) where
-  by : (a b : Bool) → p x ≡ a → q x ≡ b → (a || list_any p xs) ≡ false → (list_any p xs ≡ false → list_any q xs ≡ false) → (b || list_any q xs) ≡ false
-  by true b e f n more = absurd (grind (arith, n))
-  by false true e f n more = absurd (grind (arith, less x f, e))
-  by false false e f n more = more n
+any_less p q less (x ∷ xs) none = grind (arith, any_less p q less xs)
 
 pub no_phase : (x : Cell) (e : Closed) → has_cell has_phase x e ≡ false → has_cell is_marked x e ≡ false
-no_phase x e none = any_less (λ y. has_same_key (heard_cell x) (heard_cell y) && has_phase y) (λ y. has_same_key (heard_cell x) (heard_cell y) && is_marked y) less (all_cells e.epoch) none where
-  less : (y : Cell) → (has_same_key (heard_cell x) (heard_cell y) && is_marked y) ≡ true → (has_same_key (heard_cell x) (heard_cell y) && has_phase y) ≡ true
-  less y h = by (has_same_key (heard_cell x) (heard_cell y)) (has_phase y) (y.lli % 2 == 1) h where
-    by : (a b c : Bool) → (a && (b && c)) ≡ true → (a && b) ≡ true
-    by true true c h = refl
-    by true false c h = h
-    by false b c h = h
+no_phase x e none = grind (arith, any_less)
 
 -- Without an interval, no epoch is off the grid.
 pub none_lost : (c : Choice) (es : List Closed) (x : Cell) → is_some c.interval ≡ false → lost_before c es x ≡ false
@@ -92,9 +63,7 @@ none_lost c es x whole = by es where
 
   step : (e : Closed) (es : List Closed) (a b : Bool) → list_any (ends_carrying c x) es ≡ a → ends_carrying c x e ≡ b → list_any (has_cell is_marked x) (after_latest (ends_carrying c x) es) ≡ false
       → list_any (has_cell is_marked x) (if a then after_latest (ends_carrying c x) es else (if b then es else e ∷ es)) ≡ false
-  step e es true b any one less = less
-  step e es false true any one less = none_here es any
-  step e es false false any one less = ap₂ (λ (a b : Bool). a || b) (no_phase x e (sym (ends e) ∙ one)) (none_here es any)
+  step e es a b any one less = grind (arith, no_phase, ends, none_here)
 
   by : (es : List Closed) → lost_before c es x ≡ false
   by [] = refl
@@ -118,10 +87,7 @@ marks_same f g same e listed = ap (λ cells. record e { cells = cells }) (tabula
 
 map_none : (f : Cell → Bool) → ((x : Cell) → f x ≡ false) → (xs : List Cell) → map (mark_if f) xs ≡ xs
 map_none f none [] = refl
-map_none f none (x ∷ xs) = ap₂ (λ a l. a ∷ l) (one (has_phase x) (none x)) (map_none f none xs) where
-  one : (p : Bool) → f x ≡ false → (if p && f x then with_mark x else x) ≡ x
-  one true n = ap (λ b. if b then with_mark x else x) n
-  one false n = refl
+map_none f none (x ∷ xs) = grind (arith, map_none f none xs)
 
 pub marks_none : (f : Cell → Bool) → ((x : Cell) → f x ≡ false) → (e : EpochValue) → marked_epoch f e ≡ e
 marks_none f none e = ap (λ cells. record e { cells = cells }) (equal_values _ _ (λ s. value_tabulated s (λ t. map (mark_if f) (cells_of t e)) ∙ map_none f none (cells_of s e)))
@@ -136,27 +102,11 @@ marked_length f e s = ap (λ (l : List Cell). length l) (value_tabulated s (λ t
 -- ---- the counts
 
 length_push : {A : Type 0} (p : A → Bool) (xs : List A) (x : A) → length (filter p (xs ++ x ∷ [])) ≡ length (filter p xs) + (if p x then 1 else 0)
-length_push p xs x = ap length (filter-append p xs (x ∷ [])) ∙ length-append (filter p xs) (filter p (x ∷ [])) ∙ ap (λ n. length (filter p xs) + n) (by (p x)) where
-  by : (b : Bool) → length (cond b (x ∷ []) []) ≡ (if b then 1 else 0)
-  by true = refl
-  by false = refl
+length_push p xs x = grind (arith, filter-append, length-append)
 
 cap_step : (n k : ℕ) → up_to_most (n + k) ≡ up_to_most (up_to_most n + k)
 cap_step n k = grind arith
 
-abbrev counts_with : Choice → List Closed → EpochCounts
-counts_with c counted = capped_counts (counts_among c counted)
-
 pub counts_push : (c : Choice) (es : List Closed) (e : Closed)
     → capped_counts (counts_left_out c (es ++ e ∷ [])) ≡ (if is_left_out c e then counted_epoch (in_window c e.epoch.time) (on_grid c e.epoch.time) (capped_counts (counts_left_out c es)) else capped_counts (counts_left_out c es))
-counts_push c es e = ap (counts_with c) (filter-append (is_left_out c) es (e ∷ [])) ∙ by (is_left_out c e) where
-  valued : List Closed
-  valued = filter (is_left_out c) es
-
-  by : (b : Bool) → counts_with c (valued ++ cond b (e ∷ []) []) ≡ (if b then counted_epoch (in_window c e.epoch.time) (on_grid c e.epoch.time) (counts_with c valued) else counts_with c valued)
-  by true = λ i. record {
-    epochs = (ap up_to_most (length-append valued (e ∷ [])) ∙ cap_step (length valued) 1) i;
-    window = (ap up_to_most (length_push (λ f. in_window c f.epoch.time) valued e) ∙ cap_step _ _) i;
-    grid = (ap up_to_most (length_push (λ f. on_grid c f.epoch.time) valued e) ∙ cap_step _ _) i;
-  }
-  by false = ap (counts_with c) (append-nil valued)
+counts_push c es e = grind (arith, filter-append, length-append, cap_step, length_push, append-nil)

@@ -1,5 +1,5 @@
 -- The epoch closed last, as it is returned.
-use Rattle.std.proofs.Common.{◌≡◌, ℕ, Bool, true, false, true≢false, ◌||◌, ◌&&◌, List, [], ◌∷◌, ◌++◌, refl, sym, ap, ap₂, ◌∙◌, subst, Option, Some, None, is_some, IfSome, nat_lt, not, append-nil, if◌then◌else◌, option_to_list}
+use Rattle.std.proofs.Common.{◌≡◌, ℕ, Bool, true, false, ◌||◌, ◌&&◌, List, [], ◌∷◌, ◌++◌, refl, sym, ap, ap₂, ◌∙◌, subst, Option, Some, None, is_some, IfSome, nat_lt, not, append-nil, if◌then◌else◌, option_to_list, arith}
 use Rattle.gnss_system.proofs.SystemLaws.{value_tabulated}
 use Rattle.rtcm_bits.specs.Prefix.{IsPrefix}
 use Rattle.gnss_obs.specs.Values.{satellites_written}
@@ -8,11 +8,11 @@ use Rattle.obs_epoch.specs.Choices.{in_window, is_chosen, on_grid}
 use Rattle.obs_epoch.specs.Clock.{closes_first, is_pending}
 use Rattle.obs_epoch.specs.GathererAfter.{HasAsManyCells}
 use Rattle.obs_epoch.specs.GathererHistory.{closed_by, closed_list, closed_list_at, closed_so_far_of, is_done, known_epochs, returned_epoch, whole_list, HasGatheredEpochs}
-use Rattle.obs_epoch.specs.inner.GathererSteps.{carries, thinned, thinned_if}
+use Rattle.obs_epoch.specs.inner.GathererSteps.{thinned, thinned_if}
 use Rattle.obs_epoch.specs.inner.Marks.{carried_from, carried_to, counted_epoch}
 use Rattle.obs_epoch.specs.GathererHistory.{AreMarks, capped_counts, is_lost_in}
-use Rattle.obs_epoch.specs.inner.Names.{Cell, Closed, EpochValue, GatherSetup, GathererValue, HasTakenMessages, Heard, Timed, cells_at, cells_with_lli, closed_so_far, empty_epoch, epoch_at, greatest_time, held_at, timed, option_map_or}
-use Rattle.obs_epoch.specs.Thinning.{counts_left_out, lost_before, marked_after, marked_epoch, thin, thin_after}
+use Rattle.obs_epoch.specs.inner.Names.{Cell, Closed, GatherSetup, GathererValue, HasTakenMessages, Heard, Timed, closed_so_far, held_at, timed}
+use Rattle.obs_epoch.specs.Thinning.{counts_left_out, lost_before, marked_epoch, thin, thin_after}
 use Rattle.obs_epoch.proofs.LockLemmas.{AllListed, seens}
 use Rattle.obs_epoch.proofs.MarksLemmas.{marks_push}
 use Rattle.obs_epoch.proofs.NotingLemmas.{are_listed}
@@ -26,10 +26,7 @@ listed_cells [] h = tt
 listed_cells (x ∷ xs) h = (h.0, listed_cells xs h.1)
 
 held_listed : (s : GatherSetup) (xs : List Timed) → HasListedCells (held_at s xs)
-held_listed s xs = by (greatest_time xs) where
-  by : (o : Option ℕ) → HasListedCells (option_map_or (epoch_at s xs) o (empty_epoch 0))
-  by None = λ system. subst AllListedCells (sym (value_tabulated system (λ t. []))) tt
-  by (Some t) = λ system. subst AllListedCells (sym (value_tabulated system (λ c. cells_with_lli s xs t (cells_at s t xs c)))) (listed_cells (cells_with_lli s xs t (cells_at s t xs system)) (are_listed s xs t system))
+held_listed s xs = grind (arith, value_tabulated, listed_cells, are_listed)
 
 -- ---- the epoch that a step closes
 
@@ -54,29 +51,14 @@ chosen_at c t h = (and_parts (in_window c t) (on_grid c t) h).1
 
 returned_is : (w : GathererValue) (c : Choice) (before : List Closed) → w.just_closed ≡ true → w.clock.setup.choice ≡ c → HasListedCells w.epoch → AreMarks c w.marks before
     → returned_epoch (thinned w) ≡ thin_after c before (last_of w ∷ [])
-returned_is w c before has same listed h =
-    ap₂ (λ b d. closed_by (if b && is_chosen d w.epoch.time then Some ((thinned w).epoch) else None) w.values) has same ∙ by (is_chosen c w.epoch.time) refl where
-      by : (b : Bool) → is_chosen c w.epoch.time ≡ b
-          → closed_by (if b then Some ((thinned w).epoch) else None) w.values ≡ (if b then marked_after c before (last_of w) ∷ [] else []) ++ []
-      by true e = ap (λ (v : EpochValue). record { epoch = v; values = w.values } ∷ []) (marked_is w c before same listed h (chosen_at c w.epoch.time e))
-      by false e = refl
+returned_is w c before has same listed h = grind (arith, marked_is, chosen_at)
 
 same_sizes : (w : GathererValue) → HasAsManyCells (thinned w).epoch w.epoch
-same_sizes w = by (carries w) (on_grid w.clock.setup.choice w.epoch.time) where
-  by : (a b : Bool) → HasAsManyCells (if a then carried_to b w.marks w.epoch else w.epoch) w.epoch
-  by true true = λ system. marked_length (is_lost_in w.marks) w.epoch system
-  by true false = λ system. refl
-  by false b = λ system. refl
+same_sizes w = grind (arith, marked_length)
 
 -- The gatherer has processed the messages: also after the epoch was marked.
 after_thinned : (w : GathererValue) (s : GatherSetup) (ms : List Heard) (shut : Bool) → w.clock.pending ≡ false → HasTakenMessages w s ms shut → HasTakenMessages (thinned w) s ms shut
-after_thinned w s ms shut closed h = record {
-  clock = h.clock;
-  epoch = λ p. absurd (true≢false (sym p ∙ closed));
-  sizes = λ system. same_sizes w system ∙ h.sizes system;
-  locks = record { found = h.locks.found; tracks = h.locks.tracks };
-  values = h.values;
-}
+after_thinned w s ms shut closed h = grind (arith, same_sizes)
 
 -- ---- the history with one more epoch
 
@@ -96,8 +78,7 @@ pub record Before (w : GathererValue) (s : GatherSetup) (before es : List Closed
   pub counts : w.counts ≡ capped_counts (counts_left_out s.choice before)
 
 thin_known : (s : GatherSetup) (ms : List Heard) (b : Bool) → thin s.choice (if b then whole_list s ms else closed_list s ms) ≡ known_epochs b s ms
-thin_known s ms true = refl
-thin_known s ms false = refl
+thin_known s ms b = grind arith
 
 gathered : (v w : GathererValue) (s : GatherSetup) (ms : List Heard) (before es : List Closed) (again : Option Heard) → Step w s ms before again → v.clock ≡ w.clock → v.has_ended ≡ w.has_ended
     → HasTakenMessages v s ms (is_done w s ms again) → Before v s (before ++ closed_one w) es → HasGatheredEpochs v s ms es again
@@ -147,5 +128,4 @@ thinned_gathers w s ms before es again h b true has =
     }) where
       counted : (c : Choice) → w.clock.setup.choice ≡ c
           → (thinned w).counts ≡ (if not (is_chosen c w.epoch.time) && nat_lt 0 (satellites_written w.epoch) then counted_epoch (in_window c w.epoch.time) (on_grid c w.epoch.time) (capped_counts (counts_left_out s.choice before)) else capped_counts (counts_left_out s.choice before))
-      counted c same =
-          ap₂ (λ (d : Choice) n. if not (is_chosen d w.epoch.time) && nat_lt 0 (satellites_written w.epoch) then counted_epoch (in_window d w.epoch.time) (on_grid d w.epoch.time) n else n) same b.counts
+      counted c same = cc

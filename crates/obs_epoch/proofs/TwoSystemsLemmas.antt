@@ -1,13 +1,10 @@
 -- A conversion of GPS and Galileo alone.
-use Rattle.rtcm_msg.specs.declared.view.Form.TheVariants as forms
-use Rattle.std.proofs.Common.{◌≡◌, ◌∙◌, ◌⊎◌, inl, inr, refl, sym, subst, ap, ℕ, ◌+◌, List, [], ◌∷◌, Bool, true, false, Option, Some, None, option_map, option_and_then, filter_map, is_some, nat_le, ◌&&◌, Result, Ok, Err, if◌then◌else◌}
-use Rattle.std.specs.List.{cons_option}
+use Rattle.std.proofs.Common.{◌≡◌, ◌⊎◌, inl, inr, refl, ap, ℕ, List, [], ◌∷◌, Bool, true, false, Option, Some, None, option_and_then, filter_map, Result, Ok, Err, if◌then◌else◌, arith}
 use Rattle.gnss_system.specs.declared.system.System.{System}
 use Rattle.gnss_system.proofs.SystemLaws.{tabulated_same}
 use Rattle.gnss_system.specs.declared.by_system.BySystem.{BySystem}
 use Rattle.gnss_system.specs.declared.system.System.TheVariants.{Gps, Galileo}
-use Rattle.gnss_system.specs.Satellites.{Satellite, satellites}
-use Rattle.gnss_system.specs.Signals.{signal_of_id}
+use Rattle.gnss_system.specs.Satellites.{Satellite}
 use Rattle.gnss_system.specs.SystemValues.{of_two, value_of}
 use Rattle.gnss_obs.specs.Channels.{ChannelsValue}
 use Rattle.gnss_obs.specs.HeardCells.{HeardCell}
@@ -15,7 +12,6 @@ use Rattle.gnss_obs.specs.Values.{PlanValue}
 use Rattle.rtcm_bits.specs.Bits.{bits_of}
 use Rattle.rtcm_msg.specs.Decoding.{message_at, message_with}
 use Rattle.rtcm_msg.specs.Encoding.{other_of}
-use Rattle.rtcm_msg.specs.Entries.{entries}
 use Rattle.rtcm_msg.specs.Msm.{MsmValue}
 use Rattle.rtcm_msg.specs.Numbers.{default_set}
 use Rattle.rtcm_msg.specs.Sets.{is_in_set, message_by_table}
@@ -23,12 +19,11 @@ use Rattle.rtcm_msg.specs.declared.entry.Entry.{Entry}
 use Rattle.rtcm_msg.specs.declared.view.Form.{Form}
 use Rattle.rtcm_msg.specs.declared.fault.MsgFault.{MsgFault}
 use Rattle.rtcm_msg.specs.declared.message.Message.{Message}
-use Rattle.rtcm_msg.specs.declared.message.Message.TheVariants as message
 use Rattle.rtcm_msg.specs.declared.number.Forms.TheVariants.{FourAndSeven}
 use Rattle.rtcm_msg.specs.declared.number.MsmSet.{MsmSet}
-use Rattle.obs_epoch.specs.Heard.{Heard, heard, heard_in, heard_msm, heard_of, lock_by, observed, seen_in, tow_of, unlisted_in}
+use Rattle.obs_epoch.specs.Heard.{heard, heard_msm, heard_of, seen_in, tow_of, unlisted_in}
 use Rattle.obs_epoch.specs.Sets.{is_always_decoded, is_decoded, set_of}
-use Rattle.obs_epoch.specs.TwoSystems.{AreReadPlainly, PlansTwo, plain_cell, plain_cell_of, plain_heard, plain_msm, plain_of, plain_unlisted}
+use Rattle.obs_epoch.specs.TwoSystems.{AreReadPlainly, PlansTwo, plain_cell_of, plain_heard, plain_msm, plain_of, plain_unlisted}
 use Rattle.std.proofs.lemmas.Bool.{and_parts}
 
 -- What is decoded is the default set.
@@ -36,81 +31,51 @@ pub default_decoded : (plan : PlanValue) → PlansTwo plan → set_of plan FourA
 default_decoded plan two =
     ap (λ (systems : BySystem Bool). record { systems = systems; forms = FourAndSeven }) (tabulated_same (is_decoded plan) is_always_decoded same) where
       same : (s : System) → is_decoded plan s ≡ is_always_decoded s
-      same Gps = refl
-      same Galileo = refl
-      same other = rw (two other (λ e. cc e) (λ e. cc e)) refl
+      same s = grind arith
 
 -- GPS or Galileo.
 abbrev IsOfTwo : System → Type 0
 IsOfTwo s = (s ≡ Gps) ⊎ (s ≡ Galileo)
 
 of_default : (s : System) → value_of s (of_two true true false) ≡ true → IsOfTwo s
-of_default Gps e = inl refl
-of_default Galileo e = inr refl
-of_default other e = absurd (cc e)
+of_default s e = grind arith
 
 -- ---- cells
 
 by_test : (b : Bool) (x : Satellite) (f g : Satellite → Option HeardCell) → f x ≡ g x
     → option_and_then f (if b then Some x else None) ≡ option_and_then g (if b then Some x else None)
-by_test true x f g same = same
-by_test false x f g same = refl
+by_test b x f g same = grind arith
 
 gps_cell : (channels : ChannelsValue) (form : Form) (e : Entry) → seen_in channels form Gps e ≡ plain_cell_of form Gps e
-gps_cell channels form e =
-    by_test (nat_le 1 e.satellite && nat_le e.satellite (satellites Gps)) (record { system = Gps; id = e.satellite })
-    (λ satellite. option_map (observed channels (lock_by form e.lock) e satellite) (signal_of_id Gps e.signal))
-    (λ satellite. option_map (plain_cell (lock_by form e.lock) e satellite) (signal_of_id Gps e.signal)) refl
+gps_cell channels form e = grind (arith, by_test)
 
 galileo_cell : (channels : ChannelsValue) (form : Form) (e : Entry) → seen_in channels form Galileo e ≡ plain_cell_of form Galileo e
-galileo_cell channels form e =
-    by_test (nat_le 1 e.satellite && nat_le e.satellite (satellites Galileo)) (record { system = Galileo; id = e.satellite })
-    (λ satellite. option_map (observed channels (lock_by form e.lock) e satellite) (signal_of_id Galileo e.signal))
-    (λ satellite. option_map (plain_cell (lock_by form e.lock) e satellite) (signal_of_id Galileo e.signal)) refl
+galileo_cell channels form e = grind (arith, by_test)
 
 cell_same : (channels : ChannelsValue) (form : Form) (s : System) (e : Entry) → IsOfTwo s → seen_in channels form s e ≡ plain_cell_of form s e
-cell_same channels form s e (inl is) = subst (λ (t : System). seen_in channels form t e ≡ plain_cell_of form t e) (sym is) (gps_cell channels form e)
-cell_same channels form s e (inr is) = subst (λ (t : System). seen_in channels form t e ≡ plain_cell_of form t e) (sym is) (galileo_cell channels form e)
+cell_same channels form s e h0 = grind (arith, gps_cell, galileo_cell)
 
 cells_same : (channels : ChannelsValue) (form : Form) (s : System) (es : List Entry) → IsOfTwo s
     → filter_map (seen_in channels form s) es ≡ filter_map (plain_cell_of form s) es
 cells_same channels form s [] of = refl
-cells_same channels form s (e ∷ es) of =
-    ap (λ (o : Option HeardCell). cons_option o (filter_map (seen_in channels form s) es)) (cell_same channels form s e of)
-    ∙ ap (cons_option (plain_cell_of form s e)) (cells_same channels form s es of)
+cells_same channels form s (e ∷ es) of = grind (arith, cell_same, cells_same channels form s es of)
 
 unlisted_same : (channels : ChannelsValue) (form : Form) (s : System) (es : List Entry) → IsOfTwo s
     → unlisted_in channels form s es ≡ plain_unlisted form s es
 unlisted_same channels form s [] of = refl
-unlisted_same channels form s (e ∷ es) of =
-    ap (λ (o : Option HeardCell). (if is_some o then 0 else 1) + unlisted_in channels form s es) (cell_same channels form s e of)
-    ∙ ap (λ (n : ℕ). (if is_some (plain_cell_of form s e) then 0 else 1) + n) (unlisted_same channels form s es of)
+unlisted_same channels form s (e ∷ es) of = grind (arith, cell_same, unlisted_same channels form s es of)
 
 -- ---- messages
 
--- an MSM with these cells and this time of week
-abbrev msm_with : MsmValue → (cells : List HeardCell) (unlisted tow : ℕ) → Heard
-msm_with m cells unlisted tow =
-    record { station = Some m.header.station; tow = Some tow; more = Some m.header.more; cells = cells; unlisted = unlisted; point = None }
-
 tow_same : (leap : ℕ) (s : System) (time : ℕ) → IsOfTwo s → tow_of s leap time ≡ time
-tow_same leap s time (inl is) = rw is refl
-tow_same leap s time (inr is) = rw is refl
+tow_same leap s time h0 = grind arith
 
 msm_same : (channels : ChannelsValue) (leap : ℕ) (form : Form) (m : MsmValue) (es : List Entry) → IsOfTwo m.system
     → heard_msm channels leap form m es ≡ plain_msm form m es
-msm_same channels leap form m es of =
-    ap (λ (cells : List HeardCell). msm_with m cells (unlisted_in channels form m.system es) (tow_of m.system leap m.header.time)) (cells_same channels form m.system es of)
-    ∙ (ap (λ (n : ℕ). msm_with m (filter_map (plain_cell_of form m.system) es) n (tow_of m.system leap m.header.time)) (unlisted_same channels form m.system es of)
-    ∙ ap (msm_with m (filter_map (plain_cell_of form m.system) es) (plain_unlisted form m.system es)) (tow_same leap m.system m.header.time of))
+msm_same channels leap form m es of = grind (arith, cells_same, unlisted_same, tow_same)
 
 message_same : (channels : ChannelsValue) (leap : ℕ) (m : Message) → is_in_set default_set m ≡ true → heard channels leap m ≡ plain_heard m
-message_same channels leap (message.Station p) within = refl
-message_same channels leap (message.Msm4 m) within = msm_same channels leap forms.Msm4 m (entries (message.Msm4 m)) (of_default m.system (and_parts (value_of m.system (of_two true true false)) true within).0)
-message_same channels leap (message.Msm5 m) within = msm_same channels leap forms.Msm5 m (entries (message.Msm5 m)) (of_default m.system (and_parts (value_of m.system (of_two true true false)) false within).0)
-message_same channels leap (message.Msm6 m) within = msm_same channels leap forms.Msm6 m (entries (message.Msm6 m)) (of_default m.system (and_parts (value_of m.system (of_two true true false)) false within).0)
-message_same channels leap (message.Msm7 m) within = msm_same channels leap forms.Msm7 m (entries (message.Msm7 m)) (of_default m.system (and_parts (value_of m.system (of_two true true false)) true within).0)
-message_same channels leap (message.Other n set) within = refl
+message_same channels leap m within = grind (arith, msm_same, of_default, and_parts)
 
 -- ---- what is decoded
 
@@ -144,6 +109,4 @@ default_heard laws channels leap bytes = by (message_at bytes) refl where
   ]
 
 pub read_plainly : MessageSets → ((bytes : List ℕ) → message_with default_set bytes ≡ message_by_table bytes) → AreReadPlainly
-read_plainly laws table plan two channels leap bytes =
-    ap (λ (set : MsmSet). heard_in channels leap set bytes) (default_decoded plan two)
-    ∙ (default_heard laws channels leap bytes ∙ ap plain_of (table bytes))
+read_plainly laws table plan two channels leap bytes = grind (arith, default_decoded, default_heard)

@@ -1,14 +1,11 @@
 -- The value of a gatherer: with one more cell, after a message, and when its epoch is closed.
-use Rattle.std.proofs.Common.{◌≡◌, ℕ, ◌+◌, ◌&&◌, Bool, true, false, List, [], ◌∷◌, ◌++◌, map, refl, sym, ap, ap₂, ◌∙◌, subst, arith, length, Option, is_some, if◌then◌else◌, All}
+use Rattle.std.proofs.Common.{◌≡◌, ℕ, ◌+◌, Bool, true, false, List, [], ◌∷◌, ◌++◌, map, refl, sym, ap, ◌∙◌, subst, arith, length, Option, is_some, if◌then◌else◌, All}
 use Rattle.std.proofs.lemmas.List.Elements.{All-nil, All-push}
 use Rattle.obs_epoch.specs.inner.Names.{System, Cell, EpochValue, PlanValue, planned_of, cells_of, CellLists, Closed, KeepsEpoch, KnownLock, place_in, is_planned, GatherSetup, Heard, IsKey, HeardCell, kept_cell, lookup, outcome_of_added, values_after_message, StationValues, is_held, GathererValue, with_more_in, with_more, outcome_in, hold, hold_by, begun_by, HasPlannedCells, IsPlanned, empty_epoch, epoch_in, open_by, is_same, no_cells, time_in, Added, IsAdded, cells_after, epoch_with, outcome_by, sorted_cells, sorted_epoch, State, lli_with}
 use Rattle.obs_epoch.specs.declared.choice.EpochCounts.{EpochCounts}
-use Rattle.gnss_obs.specs.Marked.{with_mark}
-use Rattle.gnss_obs.specs.Order.{SortKeysRise}
 use Rattle.obs_epoch.specs.inner.Names.{AreSortedByPlan, cell_sort_key}
 use Rattle.obs_epoch.specs.inner.Marks.{carried_to}
-use Rattle.obs_epoch.specs.GathererHistory.{is_lost_in}
-use Rattle.obs_epoch.specs.Thinning.{has_phase, mark_if}
+use Rattle.obs_epoch.specs.Thinning.{mark_if}
 use Rattle.gnss_system.specs.SystemValues.{value_of}
 use Rattle.gnss_system.proofs.SystemLaws.{each_after, value_tabulated, with_same as same_after}
 use Rattle.obs_epoch.specs.inner.GathererSteps.{cleared_if}
@@ -55,15 +52,11 @@ epoch_after _ p e m = e
 
 pub sorted_after : (k : Added) (p : PlanValue) (e : EpochValue) (m : Cell)
     → sorted_epoch p (epoch_with m.satellite.system e (cells_after k (cells_of m.satellite.system e) m)) ≡ epoch_after k p (sorted_epoch p e) m
-sorted_after added.Kept p e m = sorted_push m.satellite.system p e m
-sorted_after added.Repeated p e m = ap (sorted_epoch p) (with_same m.satellite.system e)
-sorted_after added.Crowded p e m = ap (sorted_epoch p) (with_same m.satellite.system e)
+sorted_after k p e m = grind (arith, sorted_push, with_same)
 
 hold_after : (k : Added) (g : GathererValue) (x : HeardCell) (lli : ℕ) → lli ≡ lli_with g.epoch.time x (lookup g.locks x)
     → record g { epoch = epoch_after k g.clock.setup.plan g.epoch (kept_cell x lli) } ≡ hold_by (outcome_of_added k) g x
-hold_after added.Kept g x lli e = ap (λ n. record g { epoch = with_more g.clock.setup.plan g.epoch (kept_cell x n) }) e
-hold_after added.Repeated g x lli e = refl
-hold_after added.Crowded g x lli e = refl
+hold_after k g x lli e = grind arith
 
 -- A cell that arrives is held.
 pub held_is : (g : GathererValue) {e : EpochValue} {new : CellLists} (x : HeardCell) {lli : ℕ} {k : Added} → g.epoch ≡ sorted_epoch g.clock.setup.plan e → is_planned g.clock.setup x ≡ true
@@ -116,39 +109,19 @@ shut_is clock pending closed e = ap (λ b. if b then sorted_epoch clock.setup.pl
 -- The held cells are those of one epoch, as the pending one or the one closed last has none.
 pub count_held : (system : System) (clock : State) (pending : CellLists) (closed : Closed) → (clock.pending ≡ false → pending ≡ no_cells) → (clock.pending ≡ true → closed.epoch.cells ≡ no_cells)
     → length (value_of system pending) + length (cells_of system closed.epoch) ≡ length (cells_of system (epoch_in clock pending closed))
-count_held system clock pending closed none empty = by clock.pending refl where
-  zero : {cells : CellLists} → cells ≡ no_cells → length (value_of system cells) ≡ 0
-  zero e = ap (λ cells. length (value_of system cells)) e ∙ ap (λ (l : List Cell). length l) (value_tabulated system (λ s. []))
-
-  by : (b : Bool) → clock.pending ≡ b → length (value_of system pending) + length (cells_of system closed.epoch) ≡ length (cells_of system (epoch_in clock pending closed))
-  by true e =
-      let held = zero (empty e) in
-      let n : length (value_of system pending) + length (cells_of system closed.epoch) ≡ length (value_of system pending) = omega (arith, held) in
-      n ∙ sym (count_same system clock.setup.plan (open_epoch clock pending)) ∙ ap (λ (v : EpochValue). length (cells_of system v)) (sym (open_is clock pending closed e))
-  by false e =
-      let held = zero (none e) in
-      let n : length (value_of system pending) + length (cells_of system closed.epoch) ≡ length (cells_of system closed.epoch) = omega (arith, held) in
-      n ∙ ap (λ (v : EpochValue). length (cells_of system v)) (sym (shut_is clock pending closed e))
+count_held system clock pending closed none empty = grind (arith, count_same system clock.setup.plan (open_epoch clock pending))
 
 -- A marked epoch is in the same order.
 map_keys : (f : Cell → Bool) (planned : List ℕ) (xs : List Cell) → map (cell_sort_key planned) (map (mark_if f) xs) ≡ map (cell_sort_key planned) xs
 map_keys f planned [] = refl
-map_keys f planned (x ∷ xs) = ap₂ (λ k l. k ∷ l) (one (has_phase x && f x)) (map_keys f planned xs) where
-  one : (b : Bool) → cell_sort_key planned (if b then with_mark x else x) ≡ cell_sort_key planned x
-  one true = refl
-  one false = refl
+map_keys f planned (x ∷ xs) = grind (arith, map_keys f planned xs)
 
 pub sorted_carried : (p : PlanValue) (has_interval on_grid : Bool) (marks : List Bool) (e : EpochValue) → AreSortedByPlan p e → AreSortedByPlan p (if has_interval then carried_to on_grid marks e else e)
-sorted_carried p false on_grid marks e h = h
-sorted_carried p true false marks e h = h
-sorted_carried p true true marks e h = λ s.
-    subst (λ cells. SortKeysRise (map (cell_sort_key (planned_of s p)) cells)) (sym (value_tabulated s (λ t. map (mark_if (is_lost_in marks)) (cells_of t e))))
-    (subst SortKeysRise (sym (map_keys (is_lost_in marks) (planned_of s p) (cells_of s e))) (h s))
+sorted_carried p has_interval on_grid marks e h = grind (arith, value_tabulated, map_keys)
 
 -- While an epoch is pending, the one closed last has no cells.
 pub begins_empty : (was is : Bool) (last : Closed) → (was ≡ true → last.epoch.cells ≡ no_cells) → is ≡ true → (cleared_if (not (beq is was)) last).epoch.cells ≡ no_cells
-begins_empty true is last empty e = rw e (empty refl)
-begins_empty false is last empty e = rw e refl
+begins_empty was is last empty e = grind arith
 
 -- The epoch is the same if another one begins, whose cells are not those of the one closed last.
 pub clears_none : {old new : State} (pending : CellLists) (last : Closed) → KeepsEpoch old new

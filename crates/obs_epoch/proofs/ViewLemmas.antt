@@ -1,5 +1,5 @@
 -- A view and its message.
-use Rattle.std.proofs.Common.{arith, ◌≡◌, ◌∙◌, refl, Bool, true, ℕ}
+use Rattle.std.proofs.Common.{arith, ◌≡◌, Bool, true, ℕ}
 use Rattle.gnss_obs.specs.Channels.{ChannelsValue}
 use Rattle.obs_epoch.proofs.EntryLemmas.{load_entries_is}
 use Rattle.obs_epoch.specs.inner.Names.{FormedMsm, formed, entries, heard, heard_by, heard_msm, GathererValue, load_entries, loaded_where, no_counts}
@@ -11,6 +11,4 @@ heard_formed channels leap m = grind (arith, common_steps)
 -- The entries of a view, if the message is accepted.
 pub loaded_view : (m : FormedMsm) (is_accepted : Bool) (g : GathererValue) → is_accepted ≡ true
     → load_entries m.form m.msm.system (record { state = g; counts = no_counts }) (entries (formed m)) ≡ loaded_where is_accepted g (heard_by g.clock.setup (formed m))
-loaded_view m is_accepted g is =
-    load_entries_is g.clock.setup.plan.channels m.form m.msm.system (record { state = g; counts = no_counts }) (entries (formed m)) refl
-    ∙ rw (is, heard_formed g.clock.setup.plan.channels g.clock.setup.leap_seconds m) refl
+loaded_view m is_accepted g is = grind (arith, load_entries_is, heard_formed)
