@@ -1,7 +1,7 @@
 -- A message that closes the epoch is to be passed again; any other is the next one of the list, and its cells are
 -- loaded if it is accepted.
-use Rattle.std.proofs.Common.{◌++◌, ◌∷◌, [], sym, ap, ◌∙◌, subst, Some, None, ◌≡◌, ℕ, Bool, ap₂, is_some}
-use Rattle.obs_epoch.specs.inner.Names.{viewed_message, heard, heard_by, GatherSetup, Heard, heard_summary, without_cells, timed, GathererValue, State, take_step, Loaded, begun_by, ended_where, loaded_where, is_close_first, is_accepted, with_counts, IsCloseFirstExactly, HasGatheredEpochs, returned_epoch, no_counts}
+use Rattle.std.proofs.Common.{◌++◌, ◌∷◌, [], sym, ap, ◌∙◌, subst, Some, None, ◌≡◌, Bool, ap₂, is_some, arith}
+use Rattle.obs_epoch.specs.inner.Names.{viewed_message, heard_by, Heard, heard_summary, without_cells, timed, GathererValue, State, take_step, Loaded, begun_by, ended_where, loaded_where, is_close_first, is_accepted, with_counts, IsCloseFirstExactly, HasGatheredEpochs, returned_epoch, no_counts}
 use Rattle.obs_epoch.proofs.TakeLemmas.{no_point, given_alone, closed_is, ended_is, handed_is, loaded_by, loaded_clock, loads}
 use Rattle.obs_epoch.proofs.HeardLemmas.{opens, closes_open}
 use Rattle.obs_epoch.proofs.ValueLemmas.{heard_setup}
@@ -10,15 +10,13 @@ use Rattle.obs_epoch.proofs.KindLemmas.{counted_kind, exactly_first, again_taken
 use Rattle.obs_epoch.specs.inner.GathererSteps.{closed_noted, shut_where, thinned_if}
 use Rattle.obs_epoch.specs.inner.Step.{kind_by, step_by, closed_time}
 use Rattle.obs_epoch.proofs.gather.Gatherer.take_view.Goals as goal
+use Rattle.std.proofs.lemmas.Grind.{common_steps}
 
 abbrev message : goal.After-has_closed → Heard
 message c = heard_by c.args.self.now.clock.setup (viewed_message c.args.view.now)
 
 said_is : (c : goal.After-has_closed) → heard_summary c.summary_of-said.result ≡ without_cells (message c)
-said_is c =
-    let setup = c.args.self.now.clock.setup in
-    c.summary_of-said.ensures.value setup.plan.channels
-    ∙ ap (λ (leap : ℕ). without_cells (heard setup.plan.channels leap (viewed_message c.args.view.now))) (c.leap_seconds.ensures ∙ ap (λ (g : GathererValue). g.clock.setup.leap_seconds) c.self.view_is)
+said_is c = grind (arith, common_steps)
 
 kind_is : (c : goal.After-has_closed) → c.hear-kind.result.0 ≡ kind_by c.args.self.now.clock no_counts (message c)
 kind_is c = c.hear-kind.ensures.kind ∙ ap (kind_by c.args.self.now.clock no_counts) (said_is c)
@@ -31,11 +29,7 @@ begun_is c = c.hear-kind.ensures.step ∙ ap (begun_by c.args.self.now) (said_is
 
 loaded_is : (c : goal.After-has_closed)
     → record { state = c.load-counts.new.self; counts = c.load-counts.result } ≡ loaded_where (accepted c) (begun_by c.args.self.now (message c)) (message c)
-loaded_is c =
-    c.load-counts.ensures
-    ∙ ap (λ (s : GatherSetup). loaded_where c.is_accepted.result c.hear-kind.new.self (heard_by s (viewed_message c.args.view.now)))
-    (ap (λ (g : GathererValue). g.clock.setup) c.hear-kind.ensures.step ∙ heard_setup c.args.self.now.clock (heard_summary c.summary_of-said.result))
-    ∙ ap₂ (λ b g. loaded_where b g (message c)) (c.is_accepted.ensures ∙ ap is_accepted (kind_is c)) (begun_is c)
+loaded_is c = grind (arith, common_steps, heard_setup, kind_is, begun_is)
 
 counts_are : (c : goal.After-has_closed) → c.load-counts.result ≡ (loads c.args.self.now (message c)).counts
 counts_are c = ap (λ (l : Loaded). l.counts) (loaded_is c ∙ loaded_by c.args.self.now (message c))
@@ -56,9 +50,7 @@ step_is : (c : goal.After-has_closed) → c.note_closed.new.self ≡ thinned_if 
 step_is c = c.note_closed.ensures ∙ ap (thinned_if (closes_now c)) (stepped_is c)
 
 pub load-counts-requires : goal.load-counts-requires
-load-counts-requires c = λ e.
-    ap (λ (g : GathererValue). g.clock.pending) c.hear-kind.ensures.step
-    ∙ opens c.args.self.now.clock (heard_summary c.summary_of-said.result) (ap is_accepted (sym c.hear-kind.ensures.kind) ∙ sym c.is_accepted.ensures ∙ e)
+load-counts-requires c = grind (arith, common_steps, opens)
 
 pub note_closed-requires : goal.note_closed-requires
 note_closed-requires c = λ e.

@@ -3,6 +3,7 @@ use Rattle.obs_epoch.proofs.SignalNumbers.{number_none, Adds, adds_some, adds_no
 use Rattle.gnss_obs.proofs.TableLaws.{ids_within}
 use Rattle.obs_epoch.specs.inner.Names.{entries, formed, value_count, satellite_set, has_id, id_of, signal_in, is_system}
 use Rattle.obs_epoch.proofs.signal_counts.SignalCounts.count_cells.Goals as goal
+use Rattle.std.proofs.lemmas.Grind.{common_steps}
 
 pub loop-id-init : goal.loop-id-init
 loop-id-init c =
@@ -25,15 +26,7 @@ loop-id-init c =
     }
 
 pub loop-id-preserved-in-Some-from_id : goal.loop-id-preserved-in-Some-from_id
-loop-id-preserved-in-Some-from_id c =
-    let same = c.in-Some.ensures.same in
-    let read = c.in-Some.ensures.some.1 ∙ ap (λ (l : List ℕ). get_or l (c.in-Some.id - 1) 0) (sym same) in
-    record {
-      adds = adds_some
-          (subst (λ (l : List ℕ). Adds c.args.self.now c.loop-id.self c.args.system c.loop-id.counts.left l) (sym same) c.loop-id.invariant.adds) c.in-Some.ensures.some.0 (sym c.from_id.ensures ∙ c.in-Some-from_id.is) read (λ i. rw same (c.loop-id.invariant.few i)) c.in-Some.ensures.once c.add.ensures;
-      numbers = λ i h. rw same (c.loop-id.invariant.numbers i h);
-      few = λ i. rw same (c.loop-id.invariant.few i);
-    }
+loop-id-preserved-in-Some-from_id c = grind (arith, common_steps, adds_some)
 
 pub loop-id-preserved : goal.loop-id-preserved
 loop-id-preserved c =
