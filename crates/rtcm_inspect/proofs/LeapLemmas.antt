@@ -5,7 +5,7 @@ use Rattle.rtcm_msg.specs.Sets.{has_msm, is_in_set}
 use Rattle.rtcm_msg.specs.declared.view.Form.TheVariants as form
 use Rattle.obs_epoch.specs.Heard.{tow_of as gps_tow}
 use Rattle.rtcm_inspect.specs.WeekLaws.{IsLeapFree}
-use Rattle.rtcm_inspect.proofs.SetLemmas.{SetLaws, tow_read, tow_refused}
+use Rattle.rtcm_inspect.proofs.SetLemmas.{tow_read, tow_refused}
 use Rattle.rtcm_inspect.proofs.Names.{◌≡◌, ◌∙◌, ◌&&◌, ap, ap₂, sym, subst, refl, ℕ, Bool, true, false, List, [], ◌∷◌, Option, Some, None, Result, Ok, Err, if◌then◌else◌, option_and_then, option_or, MsgFault, Message, Msm4, Msm5, Msm6, Msm7, Form, MsmSet, MsmValue, System, every_channel, have_form, heard, inspected_in, is_of_station, message_at, tow_of}
 
 tow_free : (set : MsmSet) (f : Form) (s : System) (a b time : ℕ) → value_of Glonass set.systems ≡ false → has_msm set f s ≡ true → gps_tow s a time ≡ gps_tow s b time
@@ -25,17 +25,17 @@ message_free set (Msm6 v) wanted a b none within = msm_free set form.Msm6 v want
 message_free set (Msm7 v) wanted a b none within = msm_free set form.Msm7 v wanted (is_of_station wanted (heard every_channel a (Msm7 v))) a b none within
 message_free set other wanted a b none within = refl
 
-frame_free : SetLaws → (set : MsmSet) (bytes : List ℕ) (wanted : Option ℕ) (a b : ℕ) → value_of Glonass set.systems ≡ false
+frame_free : (set : MsmSet) (bytes : List ℕ) (wanted : Option ℕ) (a b : ℕ) → value_of Glonass set.systems ≡ false
     → option_and_then (tow_of wanted) (inspected_in a set bytes) ≡ option_and_then (tow_of wanted) (inspected_in b set bytes)
-frame_free laws set bytes wanted a b none = by (message_at bytes) refl where
+frame_free set bytes wanted a b none = by (message_at bytes) refl where
   by_set : (m : Message) (d : Bool) → is_in_set set m ≡ d → (if d then tow_of wanted (heard every_channel a m) else None) ≡ (if d then tow_of wanted (heard every_channel b m) else None)
   by_set m true is = message_free set m wanted a b none is
   by_set m false is = refl
 
   by : (r : Result Message MsgFault) → message_at bytes ≡ r → option_and_then (tow_of wanted) (inspected_in a set bytes) ≡ option_and_then (tow_of wanted) (inspected_in b set bytes)
-  by (Ok m) read = tow_read laws a set wanted bytes m read ∙ (by_set m (is_in_set set m) refl ∙ sym (tow_read laws b set wanted bytes m read))
-  by (Err e) read = tow_refused laws a set wanted bytes e read ∙ sym (tow_refused laws b set wanted bytes e read)
+  by (Ok m) read = tow_read a set wanted bytes m read ∙ (by_set m (is_in_set set m) refl ∙ sym (tow_read b set wanted bytes m read))
+  by (Err e) read = tow_refused a set wanted bytes e read ∙ sym (tow_refused b set wanted bytes e read)
 
-pub leap_free : SetLaws → IsLeapFree
-leap_free laws set a b wanted [] none = refl
-leap_free laws set a b wanted (f ∷ fs) none = ap₂ option_or (frame_free laws set f.message wanted a b none) (leap_free laws set a b wanted fs none)
+pub leap_free : IsLeapFree
+leap_free set a b wanted [] none = refl
+leap_free set a b wanted (f ∷ fs) none = ap₂ option_or (frame_free set f.message wanted a b none) (leap_free set a b wanted fs none)

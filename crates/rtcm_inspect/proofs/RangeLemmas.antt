@@ -1,5 +1,7 @@
 -- The first time of week and the first station message of a stream are in range.
 use Rattle.gnss_system.specs.declared.system.System.TheVariants.{Glonass, Beidou}
+use Rattle.rtcm_msg.proofs.MessageLaws.{message_value}
+use Rattle.rtcm_msg.proofs.SetLaws.{value_with}
 use Rattle.rtcm_msg.specs.Encoding.{IsMessage}
 use Rattle.rtcm_msg.specs.Msm.{is_time}
 use Rattle.obs_epoch.specs.Heard.{tow_of as gps_tow}
@@ -42,15 +44,14 @@ read_small : (wanted : Option ℕ) (leap : ℕ) (r : Result Message MsgFault) �
 read_small wanted leap (Ok m) value = message_small wanted leap m (value m refl)
 read_small wanted leap (Err e) value = tt
 
-first_small : ((set : MsmSet) (bytes : List ℕ) (m : Message) → message_with set bytes ≡ Ok m → IsMessage m)
-    → (leap : ℕ) (set : MsmSet) (wanted : Option ℕ) (fs : List Framed) → IfSome (first_tow leap set wanted fs) (λ t. t < week)
-first_small value leap set wanted [] = tt
-first_small value leap set wanted (f ∷ fs) =
+first_small : (leap : ℕ) (set : MsmSet) (wanted : Option ℕ) (fs : List Framed) → IfSome (first_tow leap set wanted fs) (λ t. t < week)
+first_small leap set wanted [] = tt
+first_small leap set wanted (f ∷ fs) =
     either (λ t. t < week) (option_and_then (tow_of wanted) (inspected_in leap set f.message)) (first_tow leap set wanted fs)
-    (read_small wanted leap (message_with set f.message) (value set f.message)) (first_small value leap set wanted fs)
+    (read_small wanted leap (message_with set f.message) (value_with set f.message)) (first_small leap set wanted fs)
 
-pub below_week : ((set : MsmSet) (bytes : List ℕ) (m : Message) → message_with set bytes ≡ Ok m → IsMessage m) → IsBelowWeek
-below_week value leap set wanted fs tow is = subst (λ (o : Option ℕ). IfSome o (λ t. t < week)) is (first_small value leap set wanted fs)
+pub below_week : IsBelowWeek
+below_week leap set wanted fs tow is = subst (λ (o : Option ℕ). IfSome o (λ t. t < week)) is (first_small leap set wanted fs)
 
 -- ---- station messages
 
@@ -63,8 +64,8 @@ read_in_range : (wanted : Option ℕ) (r : Result Message MsgFault) → ((m : Me
 read_in_range wanted (Ok m) value = point_in_range wanted m (value m refl)
 read_in_range wanted (Err e) value = tt
 
-pub first_in_range : ((bytes : List ℕ) (m : Message) → message_at bytes ≡ Ok m → IsMessage m) → IsFirstInRange
-first_in_range value wanted [] = tt
-first_in_range value wanted (f ∷ fs) =
+pub first_in_range : IsFirstInRange
+first_in_range wanted [] = tt
+first_in_range wanted (f ∷ fs) =
     either InRange (option_and_then (point_of wanted) (inspected_at f.message)) (first_in inspected_at (point_of wanted) fs)
-    (read_in_range wanted (message_at f.message) (value f.message)) (first_in_range value wanted fs)
+    (read_in_range wanted (message_at f.message) (message_value f.message)) (first_in_range wanted fs)

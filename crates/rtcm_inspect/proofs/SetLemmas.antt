@@ -2,6 +2,7 @@
 use mathlib.Core.Bool.{or-false}
 use Rattle.std.specs.Prelude.{◌⊎◌}
 use Rattle.std.proofs.lemmas.List.Folds.{list_any_at}
+use Rattle.rtcm_msg.proofs.SetLaws.{inside, outside, refused}
 use Rattle.rtcm_msg.specs.Encoding.{other_of}
 use Rattle.rtcm_msg.specs.Sets.{has_msm, is_in_set}
 use Rattle.rtcm_msg.specs.declared.number.Forms.TheVariants as forms
@@ -13,12 +14,6 @@ use Rattle.rtcm_inspect.specs.SignalLaws.{ReadsAll}
 use Rattle.rtcm_inspect.proofs.ValuedLemmas.{valued_system}
 use Rattle.rtcm_inspect.proofs.Names.{false_from_ne_true, or_right, true≢false, get_or, All-head, All-tail, GatherSetup, SignalAt, entries, has_listed_key, is_planned, is_some, place_in, planned_of, ◌≡◌, ◌∙◌, ◌++◌, ◌||◌, ℕ, Bool, true, false, not, List, [], ◌∷◌, Option, Some, None, Result, Ok, Err, All, All-cons, All-nil, ⊤, ◌&&◌, ap, arith, bits_of, inl, inr, length, list_any, list_any-append, nat_lt, option_and_then, option_map_or, refl, subst, sym, if◌then◌else◌, Framed, MsgFault, Message, Station, Msm4, Msm5, Msm6, Msm7, Form, Forms, MsmSet, message_at, message_with, have_form, System, Heard, HeardCell, every_channel, heard, heard_of, inspected, inspected_in, inspected_of, is_of_station, set_of, valued, forms_had, has_other_value, is_of_other, needs_all, tow_of, valued_in, valued_of, with_forms}
 
--- the laws of the messages of a set
-pub record SetLaws : Type 0 where
-  pub inside : (set : MsmSet) (bytes : List ℕ) (m : Message) → message_at bytes ≡ Ok m → is_in_set set m ≡ true → message_with set bytes ≡ Ok m
-  pub outside : (set : MsmSet) (bytes : List ℕ) (m : Message) → message_at bytes ≡ Ok m → is_in_set set m ≡ false → message_with set bytes ≡ Ok (other_of (bits_of bytes))
-  pub refused : (set : MsmSet) (bytes : List ℕ) (e : MsgFault) → message_at bytes ≡ Err e → (message_with set bytes ≡ Err e) ⊎ (message_with set bytes ≡ Ok (other_of (bits_of bytes)))
-
 -- ---- a message that isn't decoded
 
 pub same_none : {A : Type 0} (b : Bool) (x : A) → (if b then x else x) ≡ x
@@ -29,15 +24,15 @@ abbrev found : {A : Type 0} → (leap : ℕ) → (Heard → A) → A → Result 
 found leap has none r = option_map_or has (heard_of every_channel leap r) none
 
 -- what is found in a message of the set, if nothing is in one that isn't decoded
-module _ {A : Type 0} (laws : SetLaws) (leap : ℕ) (set : MsmSet) (bytes : List ℕ) (has : Heard → A) (none : A) (other : has (heard every_channel leap (other_of (bits_of bytes))) ≡ none) where
+module _ {A : Type 0} (leap : ℕ) (set : MsmSet) (bytes : List ℕ) (has : Heard → A) (none : A) (other : has (heard every_channel leap (other_of (bits_of bytes))) ≡ none) where
   pub found_inside : (m : Message) → message_at bytes ≡ Ok m → is_in_set set m ≡ true → option_map_or has (inspected_in leap set bytes) none ≡ has (heard every_channel leap m)
-  found_inside m read is = ap (found leap has none) (laws.inside set bytes m read is)
+  found_inside m read is = ap (found leap has none) (inside set bytes m read is)
 
   pub found_outside : (m : Message) → message_at bytes ≡ Ok m → is_in_set set m ≡ false → option_map_or has (inspected_in leap set bytes) none ≡ none
-  found_outside m read is = ap (found leap has none) (laws.outside set bytes m read is) ∙ other
+  found_outside m read is = ap (found leap has none) (outside set bytes m read is) ∙ other
 
   pub found_refused : (e : MsgFault) → message_at bytes ≡ Err e → option_map_or has (inspected_in leap set bytes) none ≡ none
-  found_refused e read = by (laws.refused set bytes e read) where
+  found_refused e read = by (refused set bytes e read) where
     by : (message_with set bytes ≡ Err e) ⊎ (message_with set bytes ≡ Ok (other_of (bits_of bytes))) → found leap has none (message_with set bytes) ≡ none
     by (inl is) = ap (found leap has none) is
     by (inr is) = ap (found leap has none) is ∙ other
@@ -51,17 +46,17 @@ tow_found wanted (Some m) = refl
 none_of_other : (leap : ℕ) (wanted : Option ℕ) (bytes : List ℕ) → tow_of wanted (heard every_channel leap (other_of (bits_of bytes))) ≡ None
 none_of_other leap wanted bytes = same_none (is_of_station wanted (heard every_channel leap (other_of (bits_of bytes)))) None
 
-pub tow_read : SetLaws → (leap : ℕ) (set : MsmSet) (wanted : Option ℕ) (bytes : List ℕ) (m : Message) → message_at bytes ≡ Ok m
+pub tow_read : (leap : ℕ) (set : MsmSet) (wanted : Option ℕ) (bytes : List ℕ) (m : Message) → message_at bytes ≡ Ok m
     → option_and_then (tow_of wanted) (inspected_in leap set bytes) ≡ (if is_in_set set m then tow_of wanted (heard every_channel leap m) else None)
-tow_read laws leap set wanted bytes m read = tow_found wanted (inspected_in leap set bytes) ∙ by (is_in_set set m) refl where
+tow_read leap set wanted bytes m read = tow_found wanted (inspected_in leap set bytes) ∙ by (is_in_set set m) refl where
   by : (b : Bool) → is_in_set set m ≡ b → option_map_or (tow_of wanted) (inspected_in leap set bytes) None ≡ (if b then tow_of wanted (heard every_channel leap m) else None)
-  by true is = found_inside laws leap set bytes (tow_of wanted) None (none_of_other leap wanted bytes) m read is
-  by false is = found_outside laws leap set bytes (tow_of wanted) None (none_of_other leap wanted bytes) m read is
+  by true is = found_inside leap set bytes (tow_of wanted) None (none_of_other leap wanted bytes) m read is
+  by false is = found_outside leap set bytes (tow_of wanted) None (none_of_other leap wanted bytes) m read is
 
-pub tow_refused : SetLaws → (leap : ℕ) (set : MsmSet) (wanted : Option ℕ) (bytes : List ℕ) (e : MsgFault) → message_at bytes ≡ Err e → option_and_then (tow_of wanted) (inspected_in leap set bytes) ≡ None
-tow_refused laws leap set wanted bytes e read =
+pub tow_refused : (leap : ℕ) (set : MsmSet) (wanted : Option ℕ) (bytes : List ℕ) (e : MsgFault) → message_at bytes ≡ Err e → option_and_then (tow_of wanted) (inspected_in leap set bytes) ≡ None
+tow_refused leap set wanted bytes e read =
     tow_found wanted (inspected_in leap set bytes)
-    ∙ found_refused laws leap set bytes (tow_of wanted) None (none_of_other leap wanted bytes) e read
+    ∙ found_refused leap set bytes (tow_of wanted) None (none_of_other leap wanted bytes) e read
 
 -- ---- the cells that count
 
@@ -115,8 +110,8 @@ no_cell s fs f system (x ∷ xs) of planned out had =
     let none = not_out (value_of system (set_of s.plan fs).systems) (have_form fs f) (nat_lt 0 (length (x ∷ xs))) is out had in
     absurd (grind (arith, none))
 
-kept_frame : SetLaws → (s : GatherSetup) (fs : Forms) (f : Framed) → ArePlanned s (valued_of s.station f) → IsHad fs s.station (message_at f.message) → ReadsAll (set_of s.plan fs) s f
-kept_frame laws s fs f planned had = by (message_at f.message) refl had where
+kept_frame : (s : GatherSetup) (fs : Forms) (f : Framed) → ArePlanned s (valued_of s.station f) → IsHad fs s.station (message_at f.message) → ReadsAll (set_of s.plan fs) s f
+kept_frame s fs f planned had = by (message_at f.message) refl had where
   cells : (m : Message) → message_at f.message ≡ Ok m → valued_of s.station f ≡ valued s.station (inspected m)
   cells m read = ap (λ (r : Result Message MsgFault). option_map_or (valued s.station) (inspected_of r) []) read
 
@@ -128,14 +123,14 @@ kept_frame laws s fs f planned had = by (message_at f.message) refl had where
   none other out had h = cc
 
   by_set : (m : Message) → message_at f.message ≡ Ok m → has_other_value fs s.station m ≡ false → (b : Bool) → is_in_set (set_of s.plan fs) m ≡ b → ReadsAll (set_of s.plan fs) s f
-  by_set m read had true is = found_inside laws 0 (set_of s.plan fs) f.message (valued s.station) [] (none_valued s.station f.message) m read is ∙ sym (cells m read)
+  by_set m read had true is = found_inside 0 (set_of s.plan fs) f.message (valued s.station) [] (none_valued s.station f.message) m read is ∙ sym (cells m read)
   by_set m read had false is =
-      found_outside laws 0 (set_of s.plan fs) f.message (valued s.station) [] (none_valued s.station f.message) m read is ∙ sym (cells m read ∙ none m is had (subst (ArePlanned s) (cells m read) planned))
+      found_outside 0 (set_of s.plan fs) f.message (valued s.station) [] (none_valued s.station f.message) m read is ∙ sym (cells m read ∙ none m is had (subst (ArePlanned s) (cells m read) planned))
 
   by : (r : Result Message MsgFault) → message_at f.message ≡ r → IsHad fs s.station r → ReadsAll (set_of s.plan fs) s f
   by (Ok m) read had = by_set m read had (is_in_set (set_of s.plan fs) m) refl
   by (Err e) read had =
-      found_refused laws 0 (set_of s.plan fs) f.message (valued s.station) [] (none_valued s.station f.message) e read
+      found_refused 0 (set_of s.plan fs) f.message (valued s.station) [] (none_valued s.station f.message) e read
       ∙ sym (ap (λ (r : Result Message MsgFault). option_map_or (valued s.station) (inspected_of r) []) read)
 
 -- no form is another than all
@@ -154,10 +149,10 @@ not_needed wanted (Err e) h = tt
 abbrev needs : Option ℕ → Framed → Bool
 needs wanted f = needs_all wanted (message_at f.message)
 
-pub loses_none : SetLaws → (s : GatherSetup) (fs : List Framed) → ArePlanned s (valued_in s.station fs) → All (ReadsAll (set_of s.plan (forms_had s.station fs)) s) fs
-loses_none laws s fs planned = by (list_any (needs s.station) fs) refl where
+pub loses_none : (s : GatherSetup) (fs : List Framed) → ArePlanned s (valued_in s.station fs) → All (ReadsAll (set_of s.plan (forms_had s.station fs)) s) fs
+loses_none s fs planned = by (list_any (needs s.station) fs) refl where
   kept : (forms : Forms) → All (λ f. IsHad forms s.station (message_at f.message)) fs → All (ReadsAll (set_of s.plan forms) s) fs
-  kept forms had = λ k d within. kept_frame laws s forms (get_or fs k d) (planned_each s fs planned k d within) (had k d within)
+  kept forms had = λ k d within. kept_frame s forms (get_or fs k d) (planned_each s fs planned k d within) (had k d within)
 
   by : (b : Bool) → list_any (needs s.station) fs ≡ b → All (ReadsAll (set_of s.plan (if b then forms.All else forms.FourAndSeven)) s) fs
   by true h = kept forms.All (λ k d within. all_had s.station (message_at (get_or fs k d).message))

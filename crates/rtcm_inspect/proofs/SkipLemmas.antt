@@ -2,7 +2,7 @@
 use Rattle.rtcm_msg.specs.declared.view.Form.TheVariants as forms
 use Rattle.rtcm_msg.specs.Encoding.{other_of}
 use Rattle.rtcm_msg.specs.Sets.{is_in_set}
-use Rattle.rtcm_inspect.proofs.SetLemmas.{ArePlanned, SetLaws, planned_each, found_inside, found_outside, found_refused, none_valued}
+use Rattle.rtcm_inspect.proofs.SetLemmas.{ArePlanned, planned_each, found_inside, found_outside, found_refused, none_valued}
 use Rattle.rtcm_inspect.proofs.WeekLemmas.{own_counts}
 use Rattle.rtcm_inspect.proofs.Names.{get_or, ◌≡◌, ◌∙◌, ◌+◌, ◌≤◌, ◌==◌, ap, ap₂, sym, bits_of, cons_option, every_channel, filter_map, heard_by, heard_msm, if◌then◌else◌, inspected, inspected_in, inspected_of, is_some, lock_by, observed, option_and_then, option_map, satellite_of_id, seen_in, signal_of_id, unlisted_in, ChannelsValue, Entry, MsmValue, Satellite, SignalAt, System, entries, Msm4, Msm5, Msm6, Msm7, message_at, Message, MsgFault, MsmSet, Result, Ok, Err, Bool, true, false, not, ℕ, List, [], ◌∷◌, filter, Option, Some, None, All, refl, subst, arith, cond, count_by, option_map_or, All-nil, All-head, All-tail, sum_by-cons, Framed, counts_of, counts_of_message, is_planned, no_counts, offered, with_skipped, brings_value, is_of_station, valued, GatherSetup, Heard, is_own, HeardCell, Timed, SkipsOnly, valued_in, valued_of, Form}
 
@@ -88,8 +88,8 @@ message_skips s earlier x y same h = by (is_own s x) _ (λ own. omega (arith, sa
   by false time few = omega arith
 
 -- the cells that are read with a set are planned, too
-planned_in : SetLaws → (set : MsmSet) (s : GatherSetup) (f : Framed) → ArePlanned s (valued_of s.station f) → ArePlanned s (option_map_or (valued s.station) (inspected_in 0 set f.message) [])
-planned_in laws set s f h = by (message_at f.message) refl where
+planned_in : (set : MsmSet) (s : GatherSetup) (f : Framed) → ArePlanned s (valued_of s.station f) → ArePlanned s (option_map_or (valued s.station) (inspected_in 0 set f.message) [])
+planned_in set s f h = by (message_at f.message) refl where
   goal : List HeardCell → Type 0
   goal cells = ArePlanned s cells
 
@@ -101,14 +101,14 @@ planned_in laws set s f h = by (message_at f.message) refl where
 
   by_set : (m : Message) → message_at f.message ≡ Ok m → (b : Bool) → is_in_set set m ≡ b → goal (option_map_or (valued s.station) (inspected_in 0 set f.message) [])
   by_set m read true is =
-      subst goal (ap (λ (r : Result Message MsgFault). option_map_or (valued s.station) (inspected_of r) []) read ∙ sym (found_inside laws 0 set f.message (valued s.station) [] other m read is)) h
-  by_set m read false is = none (found_outside laws 0 set f.message (valued s.station) [] other m read is)
+      subst goal (ap (λ (r : Result Message MsgFault). option_map_or (valued s.station) (inspected_of r) []) read ∙ sym (found_inside 0 set f.message (valued s.station) [] other m read is)) h
+  by_set m read false is = none (found_outside 0 set f.message (valued s.station) [] other m read is)
 
   by : (r : Result Message MsgFault) → message_at f.message ≡ r → goal (option_map_or (valued s.station) (inspected_in 0 set f.message) [])
   by (Ok m) read = by_set m read (is_in_set set m) refl
-  by (Err e) read = none (found_refused laws 0 set f.message (valued s.station) [] other e read)
+  by (Err e) read = none (found_refused 0 set f.message (valued s.station) [] other e read)
 
-pub frames_skip : SetLaws → (set : MsmSet) (s : GatherSetup) (earlier : List Timed) (fs : List Framed) → ArePlanned s (valued_in s.station fs) → All (SkipsOnly set s earlier) fs
-frames_skip laws set s earlier fs h = λ k d within m is.
+pub frames_skip : (set : MsmSet) (s : GatherSetup) (earlier : List Timed) (fs : List Framed) → ArePlanned s (valued_in s.station fs) → All (SkipsOnly set s earlier) fs
+frames_skip set s earlier fs h = λ k d within m is.
     message_skips s earlier (heard_by s m) (inspected m) (same_keys s m)
-    (subst (λ (r : Result Message MsgFault). ArePlanned s (option_map_or (valued s.station) (inspected_of r) [])) is (planned_in laws set s (get_or fs k d) (planned_each s fs h k d within)))
+    (subst (λ (r : Result Message MsgFault). ArePlanned s (option_map_or (valued s.station) (inspected_of r) [])) is (planned_in set s (get_or fs k d) (planned_each s fs h k d within)))

@@ -9,7 +9,7 @@ use Rattle.gnss_system.proofs.SystemLaws.{any_system, each_after, index_less, is
 use Rattle.rtcm_msg.specs.Sets.{is_in_set}
 use Rattle.gnss_system.specs.declared.system.System.TheVariants as listed
 use Rattle.rtcm_inspect.proofs.FirstLemmas.{first_more, or_none}
-use Rattle.rtcm_inspect.proofs.SetLemmas.{SetLaws, same_none, tow_read, tow_refused}
+use Rattle.rtcm_inspect.proofs.SetLemmas.{same_none, tow_read, tow_refused}
 use Rattle.gnss_obs.specs.Weeks.{weeks}
 use Rattle.rtcm_inspect.proofs.CountedLemmas.{at_more, greatest_more, none_counted, number_kept, number_new, some_counted}
 use Rattle.rtcm_inspect.specs.CountedTimes.{counted_before, counted_set, counted_tows, greatest_in, greatest_of, with_tow, tow_in as counted_in}
@@ -109,20 +109,20 @@ more_frames : (n : ℕ) (fs : List Framed) (f : Framed) → n ≤ length fs → 
 more_frames n fs f h = omega (arith, h, length-append fs (f ∷ []))
 
 -- the first time of week of a set
-first_after : SetLaws → (leap : ℕ) (set : MsmSet) (wanted : Option ℕ) (fs : List Framed) (f : Framed) (m : Message) → message_at f.message ≡ Ok m
+first_after : (leap : ℕ) (set : MsmSet) (wanted : Option ℕ) (fs : List Framed) (f : Framed) (m : Message) → message_at f.message ≡ Ok m
     → first_tow leap set wanted (fs ++ f ∷ []) ≡ option_or (first_tow leap set wanted fs) (if is_in_set set m then tow_of wanted (heard every_channel leap m) else None)
-first_after laws leap set wanted fs f m read =
-    first_more (inspected_in leap set) (tow_of wanted) fs f ∙ ap (option_or (first_tow leap set wanted fs)) (tow_read laws leap set wanted f.message m read)
+first_after leap set wanted fs f m read =
+    first_more (inspected_in leap set) (tow_of wanted) fs f ∙ ap (option_or (first_tow leap set wanted fs)) (tow_read leap set wanted f.message m read)
 
 -- ---- the greatest time
 
 -- what a frame has for a set
-tow_refused_in : SetLaws → (set : MsmSet) (wanted : Option ℕ) (f : Framed) {e : MsgFault} → message_at f.message ≡ Err e → counted_in set wanted f ≡ None
-tow_refused_in laws set wanted f {e} read = tow_refused laws 0 set wanted f.message e read
+tow_refused_in : (set : MsmSet) (wanted : Option ℕ) (f : Framed) {e : MsgFault} → message_at f.message ≡ Err e → counted_in set wanted f ≡ None
+tow_refused_in set wanted f {e} read = tow_refused 0 set wanted f.message e read
 
-tow_read_in : SetLaws → (set : MsmSet) (wanted : Option ℕ) (f : Framed) {m : Message} → message_at f.message ≡ Ok m
+tow_read_in : (set : MsmSet) (wanted : Option ℕ) (f : Framed) {m : Message} → message_at f.message ≡ Ok m
     → counted_in set wanted f ≡ (if is_in_set set m then tow_of wanted (heard every_channel 0 m) else None)
-tow_read_in laws set wanted f {m} read = tow_read laws 0 set wanted f.message m read
+tow_read_in set wanted f {m} read = tow_read 0 set wanted f.message m read
 
 none_of : (b : Bool) (o : Option ℕ) → o ≡ None → (if b then o else None) ≡ None
 none_of true o none = none
@@ -155,14 +155,14 @@ uncounted : (wanted : Option ℕ) (fs : List Framed) (f : Framed) (set : MsmSet)
 uncounted wanted fs f set o none h = subst (λ (l : List ℕ). AtFirst wanted (fs ++ f ∷ []) l set o) (sym (none_counted wanted fs f none)) h
 
 -- a message that was refused
-pub tows_refused : SetLaws → {x : FirstTows} {wanted : Option ℕ} {fs : List Framed} (f : Framed) {e : MsgFault} → message_at f.message ≡ Err e → AreTows x wanted fs → AreTows x wanted (fs ++ f ∷ [])
-tows_refused laws {x} {wanted} {fs} f {e} read h = record {
+pub tows_refused : {x : FirstTows} {wanted : Option ℕ} {fs : List Framed} (f : Framed) {e : MsgFault} → message_at f.message ≡ Err e → AreTows x wanted fs → AreTows x wanted (fs ++ f ∷ [])
+tows_refused {x} {wanted} {fs} f {e} read h = record {
   few = omega (arith, more_frames x.messages fs f h.few);
   before = h.before;
-  first = λ leap set. h.first leap set ∙ sym (first_more (inspected_in leap set) (tow_of wanted) fs f ∙ ap (option_or (first_tow leap set wanted fs)) (tow_refused laws leap set wanted f.message e read) ∙ or_none (first_tow leap set wanted fs));
-  greatest = h.greatest ∙ ap greatest_of (sym (none_counted wanted fs f (tow_refused_in laws counted_set wanted f read)));
+  first = λ leap set. h.first leap set ∙ sym (first_more (inspected_in leap set) (tow_of wanted) fs f ∙ ap (option_or (first_tow leap set wanted fs)) (tow_refused leap set wanted f.message e read) ∙ or_none (first_tow leap set wanted fs));
+  greatest = h.greatest ∙ ap greatest_of (sym (none_counted wanted fs f (tow_refused_in counted_set wanted f read)));
   settled = h.settled;
-  at_first = λ set. uncounted wanted fs f set (earliest set x.tows systems) (tow_refused_in laws counted_set wanted f read) (at_same f h set);
+  at_first = λ set. uncounted wanted fs f set (earliest set x.tows systems) (tow_refused_in counted_set wanted f read) (at_same f h set);
 }
 
 later : (n m : ℕ) (o : Option PlacedTow) → n ≤ m → IsBefore n o → IsBefore m o
@@ -174,19 +174,19 @@ no_tow true o t none = rw none (or_none o)
 no_tow false o t none = or_none o
 
 -- a message that isn't an MSM of the wanted station
-pub tows_same : SetLaws → {x y : FirstTows} {wanted : Option ℕ} {fs : List Framed} (f : Framed) {m : Message} → message_at f.message ≡ Ok m → y.messages ≡ x.messages + 1 → y ≡ record x { messages = y.messages }
+pub tows_same : {x y : FirstTows} {wanted : Option ℕ} {fs : List Framed} (f : Framed) {m : Message} → message_at f.message ≡ Ok m → y.messages ≡ x.messages + 1 → y ≡ record x { messages = y.messages }
     → ((leap : ℕ) → tow_of wanted (heard every_channel leap m) ≡ None) → AreTows x wanted fs → AreTows y wanted (fs ++ f ∷ [])
-tows_same laws {x} {y} {wanted} {fs} f {m} read count same none h = subst (λ (z : FirstTows). AreTows z wanted (fs ++ f ∷ [])) (sym same) (record {
+tows_same {x} {y} {wanted} {fs} f {m} read count same none h = subst (λ (z : FirstTows). AreTows z wanted (fs ++ f ∷ [])) (sym same) (record {
   few = omega (arith, count, more_frames x.messages fs f h.few);
   before = λ s forms. later x.messages y.messages (tow_in forms (value_of s x.tows)) (omega (arith, count)) (h.before s forms);
-  first = λ leap set. h.first leap set ∙ sym (first_after laws leap set wanted fs f m read ∙ no_tow (is_in_set set m) (first_tow leap set wanted fs) (tow_of wanted (heard every_channel leap m)) (none leap));
+  first = λ leap set. h.first leap set ∙ sym (first_after leap set wanted fs f m read ∙ no_tow (is_in_set set m) (first_tow leap set wanted fs) (tow_of wanted (heard every_channel leap m)) (none leap));
   greatest = h.greatest ∙ ap greatest_of (sym (none_counted wanted fs f none_here));
   settled = h.settled;
   at_first = λ set. uncounted wanted fs f set (earliest set x.tows systems) none_here (at_same f h set);
 })
   where
     none_here : counted_in counted_set wanted f ≡ None
-    none_here = tow_read_in laws counted_set wanted f read ∙ none_of (is_in_set counted_set m) (tow_of wanted (heard every_channel 0 m)) (none 0)
+    none_here = tow_read_in counted_set wanted f read ∙ none_of (is_in_set counted_set m) (tow_of wanted (heard every_channel 0 m)) (none 0)
 
 tow_grown : (leap : ℕ) (b : Bool) (c : PlacedTow) (o : Option PlacedTow) → option_map (placed_by leap) (grown b c o) ≡ option_or (option_map (placed_by leap) o) (if b then Some (placed_by leap c) else None)
 tow_grown leap true c None = refl
@@ -220,10 +220,10 @@ at_grown wanted fs f set c b (Some t) none h new = h
 if_true : (b : Bool) (o : Option ℕ) → b ≡ true → (if b then o else None) ≡ o
 if_true b o e = ap (λ (d : Bool). if d then o else None) e
 
-pub tows_placed : SetLaws → {x y : FirstTows} {wanted : Option ℕ} {fs : List Framed} (f : Framed) {m : Message} (form : Form) (c : PlacedTow) {n : ℕ} → n ≡ x.messages + 1 → message_at f.message ≡ Ok m → c.place ≡ x.messages → c.greatest ≡ None
+pub tows_placed : {x y : FirstTows} {wanted : Option ℕ} {fs : List Framed} (f : Framed) {m : Message} (form : Form) (c : PlacedTow) {n : ℕ} → n ≡ x.messages + 1 → message_at f.message ≡ Ok m → c.place ≡ x.messages → c.greatest ≡ None
     → IsMsmOf m c.system form → ((leap : ℕ) → tow_of wanted (heard every_channel leap m) ≡ Some (later_by c.system leap c.tow))
     → PlacesTow (record x { messages = n }) form c y → AreTows x wanted fs → AreTowsButLast y wanted fs f
-tows_placed laws {x} {y} {wanted} {fs} f {m} form c count read place none is has p h = record {
+tows_placed {x} {y} {wanted} {fs} f {m} form c count read place none is has p h = record {
   few = omega (arith, p.messages, count, more_frames x.messages fs f h.few);
   before = λ s forms. rw (p.messages, count, p.tows.1) (each_after (λ (s : System) (t : SystemTows). (forms : Forms) → IsBefore (x.messages + 1) (tow_in forms t)) c.system x.tows p.tows.0
       (λ s forms. later x.messages (x.messages + 1) (tow_in forms (value_of s x.tows)) (omega arith) (h.before s forms))
@@ -231,12 +231,12 @@ tows_placed laws {x} {y} {wanted} {fs} f {m} form c count read place none is has
   first = λ leap set. ap (option_map (placed_by leap)) (grows set)
       ∙ tow_grown leap (is_in set) c (earliest set x.tows systems)
       ∙ ap (λ (o : Option ℕ). option_or o (if is_in set then Some (placed_by leap c) else None)) (h.first leap set)
-      ∙ sym (first_after laws leap set wanted fs f m read ∙ ap₂ (λ (b : Bool) (t : Option ℕ). option_or (first_tow leap set wanted fs) (if b then t else None)) (is set) (has leap));
+      ∙ sym (first_after leap set wanted fs f m read ∙ ap₂ (λ (b : Bool) (t : Option ℕ). option_or (first_tow leap set wanted fs) (if b then t else None)) (is set) (has leap));
   greatest = p.greatest ∙ h.greatest;
   settled = λ waits. subst AreSettled (sym (p.same waits).1) (h.settled (p.same waits).0);
   at_first = λ set. subst (AtFirst wanted (fs ++ f ∷ []) (counted_tows wanted fs) set) (sym (grows set))
       (at_grown wanted fs f set c (is_in set) (earliest set x.tows systems) none (at_same f h set)
-      (λ within first. number_new set wanted fs f (unknown h set first) (tow_read_in laws set wanted f read ∙ if_true (is_in_set set m) (tow_of wanted (heard every_channel 0 m)) (is set ∙ within) ∙ has 0)));
+      (λ within first. number_new set wanted fs f (unknown h set first) (tow_read_in set wanted f read ∙ if_true (is_in_set set m) (tow_of wanted (heard every_channel 0 m)) (is set ∙ within) ∙ has 0)));
 }
   where
     is_in : MsmSet → Bool
@@ -247,9 +247,9 @@ tows_placed laws {x} {y} {wanted} {fs} f {m} form c count read place none is has
         ∙ first_grown set x.tows c.system form c p.tows.0 p.tows.2 (λ s forms. rw place (h.before s forms))
 
 -- an MSM of GLONASS doesn't count
-pub tows_of_glonass : SetLaws → {y : FirstTows} {wanted : Option ℕ} {fs : List Framed} (f : Framed) {m : Message} (form : Form) → message_at f.message ≡ Ok m → IsMsmOf m listed.Glonass form
+pub tows_of_glonass : {y : FirstTows} {wanted : Option ℕ} {fs : List Framed} (f : Framed) {m : Message} (form : Form) → message_at f.message ≡ Ok m → IsMsmOf m listed.Glonass form
     → AreTowsButLast y wanted fs f → AreTows y wanted (fs ++ f ∷ [])
-tows_of_glonass laws {y} {wanted} {fs} f {m} form read is h = record {
+tows_of_glonass {y} {wanted} {fs} f {m} form read is h = record {
   few = h.few;
   before = h.before;
   first = h.first;
@@ -259,7 +259,7 @@ tows_of_glonass laws {y} {wanted} {fs} f {m} form read is h = record {
 }
   where
     none_here : counted_in counted_set wanted f ≡ None
-    none_here = tow_read_in laws counted_set wanted f read ∙ ap (λ (b : Bool). if b then tow_of wanted (heard every_channel 0 m) else None) (is counted_set)
+    none_here = tow_read_in counted_set wanted f read ∙ ap (λ (b : Bool). if b then tow_of wanted (heard every_channel 0 m) else None) (is counted_set)
 
 -- ---- a first MSM that is given a greatest time
 
@@ -353,9 +353,9 @@ counted_settled x {y} tow t is small same h = record {
 }
 
 -- an MSM of another system is counted
-pub tows_counted : SetLaws → {y z : FirstTows} {wanted : Option ℕ} {fs : List Framed} (f : Framed) {m : Message} (form : Form) {tow : ℕ} → message_at f.message ≡ Ok m
+pub tows_counted : {y z : FirstTows} {wanted : Option ℕ} {fs : List Framed} (f : Framed) {m : Message} (form : Form) {tow : ℕ} → message_at f.message ≡ Ok m
     → is_in_set counted_set m ≡ true → tow_of wanted (heard every_channel 0 m) ≡ Some tow → CountsTow y tow z → AreTowsButLast y wanted fs f → AreTows z wanted (fs ++ f ∷ [])
-tows_counted laws {y} {z} {wanted} {fs} f {m} form {tow} read counts has p h = record {
+tows_counted {y} {z} {wanted} {fs} f {m} form {tow} read counts has p h = record {
   few = omega (arith, p.messages, h.few);
   before = λ s forms. rw (p.messages, all) (subst (IsBefore y.messages) (sym (of_settled t y.tows s forms)) (settled_before y.messages t (tow_in forms (value_of s y.tows)) (h.before s forms)));
   first = λ leap set. ap (λ (tows : BySystem SystemTows). option_map (placed_by leap) (earliest set tows systems)) all
@@ -374,7 +374,7 @@ tows_counted laws {y} {z} {wanted} {fs} f {m} form {tow} read counts has p h = r
     all = p.tows.3 h.settled
 
     here : counted_in counted_set wanted f ≡ Some tow
-    here = tow_read_in laws counted_set wanted f read ∙ if_true (is_in_set counted_set m) (tow_of wanted (heard every_channel 0 m)) counts ∙ has
+    here = tow_read_in counted_set wanted f read ∙ if_true (is_in_set counted_set m) (tow_of wanted (heard every_channel 0 m)) counts ∙ has
 
     now : greatest_of (counted_tows wanted fs ++ tow ∷ []) ≡ Some t
     now = greatest_more (counted_tows wanted fs) tow ∙ ap (λ (o : Option ℕ). with_tow o tow) (sym h.greatest) ∙ sym p.greatest ∙ p.tows.1

@@ -18,7 +18,6 @@ use crate::stream_channels::add_sent_channels;
 use devices::{Counted, DeviceFailed};
 use gnss_obs::Channels;
 use obs_epoch::SignalCounts;
-use rtcm_msg::laws::message_sets;
 use rtcm_msg::{Forms, MsmSet, View, look_in};
 use rtcm_scan::{Frame, FrameSink, Framer, MOST_BYTES, ScanFault, laws};
 use std::alloc::Global;
@@ -54,7 +53,6 @@ impl FrameSink<()> for StreamSignals {
 
     /// Counts the cells of the frame's message, and keeps what it contains if it is a first one.
     fn take(&mut self, frame: &Frame, _out: &mut ()) -> Result<(), DeviceFailed> {
-        message_sets();
         let message = frame.message.as_slice();
         let station = self.station;
         self.weeks.add(self.first.tows.greatest, message);

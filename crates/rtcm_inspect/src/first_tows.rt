@@ -20,7 +20,6 @@ ghost use Rattle.rtcm_inspect.specs.WeekLaws.{tow_of};
 
 use gnss_obs::{GpsTime, WEEK};
 use gnss_system::{BySystem, SYSTEMS, System};
-use rtcm_msg::laws::message_sets;
 use rtcm_msg::{Form, Forms, MsmSet, View};
 
 /// The time of week of an MSM in milliseconds, and the number of messages read before it.
@@ -118,7 +117,6 @@ impl FirstTows {
         ensures { (fs : List Framed) (f : Framed) → message_at f.message ≡ Ok (viewed_message view.now)
             → length fs < 2 ^ 56 → AreTows self.old wanted fs → AreTows self.new wanted (fs ++ f ∷ []) }
     {
-        message_sets();
         let place = self.messages;
         // No stream has 2^64 messages.
         self.messages = self.messages.wrapping_add(1);

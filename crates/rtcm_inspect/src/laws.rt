@@ -16,12 +16,8 @@ pub fn read_back()
     ensures encoded { (vs : List Message) → AreKnown vs → (es : List (List ℕ)) × AreEncoded es vs }
     ensures back { (es : List (List ℕ)) (vs : List Message) → AreEncoded es vs → ReadsBack es vs }
 {
-    rtcm_bits::laws::numbers();
-    rtcm_bits::laws::bytes();
     rtcm_scan::laws::frames();
     rtcm_scan::laws::joined();
-    rtcm_msg::laws::read_back();
-    rtcm_msg::laws::one_value();
 }
 
 /// The lists that `run_options` prints are read as the plan of the signals that they name. A
@@ -37,7 +33,6 @@ pub fn signals()
     ensures carriers { LosesUnknownCarriers }
 {
     gnss_obs::laws::signal_tables();
-    rtcm_msg::laws::message_sets();
 }
 
 /// The week that `run_options` prints for a date. From 1980-01-09 on exactly one week puts a time
@@ -52,9 +47,7 @@ pub fn near()
     ensures dated { IsDatedByStart }
     ensures leap { IsLeapFree }
     ensures small { IsBelowWeek }
-{
-    rtcm_msg::laws::message_sets();
-}
+{}
 
 /// Times that are counted from week 0 along a stream are those of a conversion: its greatest time is
 /// the counted one, after the begin of its start week. So if an ephemeris says which GPS week was
@@ -70,9 +63,7 @@ pub fn lengths()
     ensures positions { ArePositionsRead }
     ensures heights { AreHeightsRead }
     ensures first { IsFirstInRange }
-{
-    rtcm_msg::laws::measures();
-}
+{}
 
 /// The channels that `run_options` prints for a stream are read as these, for every stream. That of
 /// a slot is the first valid one in the stream.

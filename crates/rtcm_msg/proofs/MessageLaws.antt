@@ -68,6 +68,9 @@ message_again bits rest (messages.Other n set) reserved h known small is = cc
 pub read_again : (bits : List Bool) (v : Message) → ReadsMessage bits v → message_by kind_of bits ≡ Ok v
 read_again bits v h = grind (arith, message_again, message_there, other_is)
 
+pub one_value : (bits : List Bool) (v w : Message) → ReadsMessage bits v → ReadsMessage bits w → v ≡ w
+one_value bits v w a b = ok_inj v w (message_by kind_of bits) (read_again bits v a) (read_again bits w b)
+
 -- ---- what was read
 
 pub record Found (bits : List Bool) (v : Message) : Type 0 where

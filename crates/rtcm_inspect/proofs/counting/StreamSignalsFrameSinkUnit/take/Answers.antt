@@ -3,6 +3,7 @@ use Rattle.rtcm_inspect.proofs.FirstLemmas.{first_refused}
 use Rattle.rtcm_inspect.proofs.StreamChannelLemmas.{channels_read, channels_refused}
 use Rattle.rtcm_inspect.proofs.SetLemmas.{forms_read, forms_refused}
 use Rattle.rtcm_inspect.proofs.TowLemmas.{tows_refused}
+use Rattle.rtcm_msg.proofs.SetLaws.{whole_is}
 use Rattle.rtcm_msg.specs.Fields.{GivesViewed}
 use Rattle.rtcm_msg.specs.Numbers.{whole_set}
 use Rattle.rtcm_msg.specs.declared.number.MsmSet.{MsmSet}
@@ -11,16 +12,15 @@ use Rattle.rtcm_inspect.proofs.Names.{subst, List, ℕ, ◌≡◌, ◌++◌, cha
 use Rattle.rtcm_inspect.proofs.counting.StreamSignalsFrameSinkUnit.take.Goals as goal
 
 -- all messages are decoded
-whole : (set : MsmSet) (bytes : List ℕ) (r : Result View MsgFault) → set ≡ whole_set → ((all : List ℕ) → message_with whole_set all ≡ message_at all)
-    → GivesViewed viewed_message r (message_with set bytes) → GivesViewed viewed_message r (message_at bytes)
-whole set bytes r is law read = subst (GivesViewed viewed_message r) (ap (λ (s : MsmSet). message_with s bytes) is ∙ law bytes) read
+whole : (set : MsmSet) (bytes : List ℕ) (r : Result View MsgFault) → set ≡ whole_set → GivesViewed viewed_message r (message_with set bytes) → GivesViewed viewed_message r (message_at bytes)
+whole set bytes r is read = subst (GivesViewed viewed_message r) (ap (λ (s : MsmSet). message_with s bytes) is ∙ whole_is bytes) read
 
 pub returns-in-Ok-clause-whole : goal.returns-in-Ok-clause-whole
 returns-in-Ok-clause-whole c = λ c0 o ps fs took.
     let s = c.args.self.now in
     let f = framed c.args.frame.now in
     let m = viewed_message c.in-Ok.view in
-    let read = subst (λ (r : Result View MsgFault). GivesViewed viewed_message r (message_at c.as_slice-message.result.now)) c.in-Ok.is (whole _ _ _ c.all.ensures c.message_sets.ensures.whole c.look_in.ensures.exact) in
+    let read = subst (λ (r : Result View MsgFault). GivesViewed viewed_message r (message_at c.as_slice-message.result.now)) c.in-Ok.is (whole _ _ _ c.all.ensures c.look_in.ensures.exact) in
     let is = ap message_at (sym c.as_slice-message.ensures.value) ∙ read in
     let channels = c.add_sent_channels.ensures read ∙ ap (λ (bytes : List ℕ). with_sent s.channels (option_to_list (channel_of_1020 bytes) ++ sent_of s.station m)) c.as_slice-message.ensures.value in
     one_more_counted s f refl
@@ -32,8 +32,8 @@ pub returns-in-Err-clause-whole : goal.returns-in-Err-clause-whole
 returns-in-Err-clause-whole c = λ c0 o ps fs took.
     let s = c.args.self.now in
     let f = framed c.args.frame.now in
-    let is = ap message_at (sym c.as_slice-message.ensures.value) ∙ subst (λ (r : Result View MsgFault). GivesViewed viewed_message r (message_at c.as_slice-message.result.now)) c.in-Err.is (whole _ _ _ c.all.ensures c.message_sets.ensures.whole c.look_in.ensures.exact) in
+    let is = ap message_at (sym c.as_slice-message.ensures.value) ∙ subst (λ (r : Result View MsgFault). GivesViewed viewed_message r (message_at c.as_slice-message.result.now)) c.in-Err.is (whole _ _ _ c.all.ensures c.look_in.ensures.exact) in
     one_more_counted s f refl (λ gs few h. refused_counted f is h) (λ gs h. forms_refused s.station gs f _ is h)
     (λ gs h. channels_refused s.station gs f is h)
-    (λ gs few h. first_refused f is (tows_refused (record { inside = c.message_sets.ensures.inside; outside = c.message_sets.ensures.outside; refused = c.message_sets.ensures.refused }) f is) h)
+    (λ gs few h. first_refused f is (tows_refused f is) h)
     (λ gs greatest h. c.add.ensures s.station gs f (sym c.as_slice-message.ensures.value) greatest h) (λ gs few h. c.add_frame-in-Err.ensures gs f (ap is_msm is) few h) took
