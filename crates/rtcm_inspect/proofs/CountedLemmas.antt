@@ -64,20 +64,17 @@ number_new set wanted fs f none is = sym (ap (λ (l : List Framed). length (coun
 
 -- ---- the times of week
 
-one_counted : (F : Framed → Option ℕ) (f : Framed) → filter_map F (f ∷ []) ≡ option_to_list (F f)
-one_counted F f = by (F f) refl where
+pub filter_map-push : (F : Framed → Option ℕ) (fs : List Framed) (f : Framed) → filter_map F (fs ++ f ∷ []) ≡ filter_map F fs ++ option_to_list (F f)
+filter_map-push F fs f = filter_map-append F fs (f ∷ []) ∙ ap (λ (l : List ℕ). filter_map F fs ++ l) (by (F f) refl) where
   by : (o : Option ℕ) → F f ≡ o → filter_map F (f ∷ []) ≡ option_to_list (F f)
   by None e = grind (arith, e)
   by (Some n) e = grind (arith, e)
 
-counted_more : (wanted : Option ℕ) (fs : List Framed) (f : Framed) → counted_tows wanted (fs ++ f ∷ []) ≡ counted_tows wanted fs ++ option_to_list (tow_in counted_set wanted f)
-counted_more wanted fs f = filter_map-append (tow_in counted_set wanted) fs (f ∷ []) ∙ ap (λ (l : List ℕ). counted_tows wanted fs ++ l) (one_counted (tow_in counted_set wanted) f)
-
 pub none_counted : (wanted : Option ℕ) (fs : List Framed) (f : Framed) → tow_in counted_set wanted f ≡ None → counted_tows wanted (fs ++ f ∷ []) ≡ counted_tows wanted fs
-none_counted wanted fs f none = counted_more wanted fs f ∙ ap (λ (o : Option ℕ). counted_tows wanted fs ++ option_to_list o) none ∙ append-nil (counted_tows wanted fs)
+none_counted wanted fs f none = filter_map-push (tow_in counted_set wanted) fs f ∙ ap (λ (o : Option ℕ). counted_tows wanted fs ++ option_to_list o) none ∙ append-nil (counted_tows wanted fs)
 
 pub some_counted : (wanted : Option ℕ) (fs : List Framed) (f : Framed) {tow : ℕ} → tow_in counted_set wanted f ≡ Some tow → counted_tows wanted (fs ++ f ∷ []) ≡ counted_tows wanted fs ++ tow ∷ []
-some_counted wanted fs f some = counted_more wanted fs f ∙ ap (λ (o : Option ℕ). counted_tows wanted fs ++ option_to_list o) some
+some_counted wanted fs f some = filter_map-push (tow_in counted_set wanted) fs f ∙ ap (λ (o : Option ℕ). counted_tows wanted fs ++ option_to_list o) some
 
 pub greatest_more : (tows : List ℕ) (tow : ℕ) → greatest_of (tows ++ tow ∷ []) ≡ with_tow (greatest_of tows) tow
 greatest_more tows tow = fold-append with_tow None tows (tow ∷ [])

@@ -4,6 +4,7 @@ use Rattle.std.specs.Option.{option_or}
 use Rattle.std.proofs.lemmas.Grind.{common_steps}
 use Rattle.std.proofs.lemmas.List.{get_or-replicate, length-replicate}
 use Rattle.rtcm_inspect.specs.ChannelLaws.{AreFirstChannels, first_valid}
+use Rattle.rtcm_inspect.proofs.FirstLemmas.{or_none}
 use Rattle.rtcm_inspect.proofs.Names.{option_map, arith, Bool, ChannelsValue, List, None, Option, Some, [], ap, false, flat_map, if◌then◌else◌, length, most_number, nat_le, nat_tests, no_channels, number_at, refl, sent_in, slot_count, sym, true, with_first, with_sent, ℕ, ◌&&◌, ◌-◌, ◌==◌, ◌∙◌, ◌∷◌, ◌≡◌, ◌≤◌}
 
 abbrev is_first : ℕ → ℕ × ℕ → Bool
@@ -30,13 +31,9 @@ found slot p ps = by (is_first slot p) where
   by true = refl
   by false = refl
 
-none_known : (a : Option ℕ) → option_or a None ≡ a
-none_known None = refl
-none_known (Some x) = refl
-
 after_all : (known : ChannelsValue) (sent : List (ℕ × ℕ)) (slot : ℕ) → length known ≡ slot_count → 1 ≤ slot → slot ≤ slot_count
     → number_at (with_sent known sent) slot ≡ option_or (number_at known slot) (first_valid slot sent)
-after_all known [] slot h low high = sym (none_known (number_at known slot))
+after_all known [] slot h low high = sym (or_none (number_at known slot))
 after_all known (p ∷ ps) slot h low high =
     after_all (with_first known p) ps slot (same_length known p h) low high
     ∙ ap (λ (o : Option ℕ). option_or o (first_valid slot ps)) (step known p slot h low high)

@@ -1,5 +1,6 @@
 -- What the first messages contain, after one more frame.
 use Rattle.rtcm_inspect.specs.declared.first_two.FirstTwo.TheVariants.{Unknown}
+use Rattle.rtcm_inspect.proofs.CountedLemmas.{filter_map-push}
 use Rattle.rtcm_inspect.proofs.Names.{Bool, FirstTwo, if◌then◌else◌, ◌≡◌, ◌∙◌, ◌==◌, ◌++◌, ℕ, true, false, not, List, [], ◌∷◌, Option, Some, None, Result, Ok, Err, IfSome, refl, sym, ap, find, append-nil, arith, option_and_then, option_or, filter_map-append, find-append, Framed, message_at, InRange, StationParts, MsgFault, Message, Heard, inspected, AreFirst, first_in, first_station, option_to_list, point_of, sender, first_two, stations_of, with_other, inspected_at, inspected_of, AreTows, FirstMessages, One, Several}
 
 pub or_more : {A : Type 0} (a b c : Option A) → option_or a (option_or b c) ≡ option_or (option_or a b) c
@@ -20,14 +21,8 @@ first_after : {A : Type 0} (has : Heard → Option A) (fs : List Framed) (f : Fr
     → first_in inspected_at has (fs ++ f ∷ []) ≡ option_or (first_in inspected_at has fs) (option_and_then has (inspected_of r))
 first_after has fs f r is = first_more inspected_at has fs f ∙ ap (λ (r : Result Message MsgFault). option_or (first_in inspected_at has fs) (option_and_then has (inspected_of r))) is
 
-stations_more : (fs : List Framed) (f : Framed) → stations_of (fs ++ f ∷ []) ≡ stations_of fs ++ option_to_list (option_and_then sender (inspected_at f.message))
-stations_more fs f = filter_map-append (λ g. option_and_then sender (inspected_at g.message)) fs (f ∷ []) ∙ ap (λ (l : List ℕ). stations_of fs ++ l) (by (option_and_then sender (inspected_at f.message)) refl) where
-  by : (o : Option ℕ) → option_and_then sender (inspected_at f.message) ≡ o → stations_of (f ∷ []) ≡ option_to_list (option_and_then sender (inspected_at f.message))
-  by None e = grind (arith, e)
-  by (Some n) e = grind (arith, e)
-
 stations_after : (fs : List Framed) (f : Framed) (r : Result Message MsgFault) → message_at f.message ≡ r → stations_of (fs ++ f ∷ []) ≡ stations_of fs ++ option_to_list (option_and_then sender (inspected_of r))
-stations_after fs f r is = stations_more fs f ∙ ap (λ (r : Result Message MsgFault). stations_of fs ++ option_to_list (option_and_then sender (inspected_of r))) is
+stations_after fs f r is = filter_map-push (λ g. option_and_then sender (inspected_at g.message)) fs f ∙ ap (λ (r : Result Message MsgFault). stations_of fs ++ option_to_list (option_and_then sender (inspected_of r))) is
 
 -- a message that was read
 pub first_read : {x y : FirstMessages} {wanted : Option ℕ} {fs : List Framed} (f : Framed) {m : Message} → message_at f.message ≡ Ok m → y.point ≡ option_or x.point (point_of wanted (inspected m))

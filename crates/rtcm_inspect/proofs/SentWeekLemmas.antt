@@ -9,6 +9,7 @@ use Rattle.obs_epoch.specs.declared.week.Start.{Start}
 use Rattle.obs_epoch.proofs.StartLaws.{given}
 use Rattle.rtcm_inspect.specs.SentWeekLaws.{IsCountedFromStart, IsInSentWeek, own_tows}
 use Rattle.rtcm_inspect.specs.SentWeeks.{is_recent, whole_by}
+use Rattle.rtcm_inspect.proofs.WeekLemmas.{not_past, placed}
 use Rattle.rtcm_inspect.proofs.Names.{◌≡◌, ◌∙◌, ◌+◌, ◌-◌, ◌*◌, ◌/◌, ◌<◌, ◌≤◌, ◌==◌, ◌&&◌, ◌||◌, ◌++◌, ℕ, Bool, true, false, List, [], ◌∷◌, Option, Some, None, ahead, ap, arith, cons_option, greatest_time, is_closed, is_own, is_past, max_known, nat_le, nat_lt, nat_tests, option_and_then, option_map, option_map_or, refl, subst, sym, taken_at, timed_after, if◌then◌else◌, GatherSetup, Heard, Timed}
 
 -- ---- the greatest time so far
@@ -50,13 +51,6 @@ at_least u t (tow ∷ tows) e =
 ahead_same : (w u tow : ℕ) → ahead (w * week + u) tow ≡ ahead u tow
 ahead_same w u tow = omega arith
 
--- the time of a message of the station with this time of week, after a greatest time
-abbrev placed : GatherSetup → List Timed → Option ℕ → ℕ → Option ℕ
-placed s earlier greatest tow =
-    if option_map_or (λ t. nat_lt half_week (ahead t tow) || ((ahead t tow == 0) && is_closed s t earlier)) greatest false
-    || is_past (option_map_or (λ t. t + ahead t tow) greatest (first_week s.start tow * week + tow))
-    then None else Some (option_map_or (λ t. t + ahead t tow) greatest (first_week s.start tow * week + tow))
-
 abbrev from_start : ℕ → Option ℕ → Option ℕ
 from_start w o = option_map (λ t. w * week + t) o
 
@@ -71,9 +65,6 @@ step_of t a false false false zero = ap Some (omega arith)
 
 past_more : (n m : ℕ) → is_past n ≡ true → is_past (m + n) ≡ true
 past_more n m h = grind (arith, nat_tests, h)
-
-not_past : (n : ℕ) → n < weeks * week → is_past n ≡ false
-not_past n small = grind (arith, nat_tests, small)
 
 value : (begin u a v : ℕ) (late : Bool) → (if late || is_past (u + a) then Some u else Some (u + a)) ≡ Some v → begin + v < weeks * week → (if late || is_past ((begin + u) + a) then begin + u else (begin + u) + a) ≡ begin + v
 value begin u a v true e small = ap (λ (n : ℕ). begin + n) (some_same u v e)

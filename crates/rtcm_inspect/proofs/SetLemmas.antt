@@ -16,9 +16,9 @@ use Rattle.rtcm_inspect.proofs.Names.{false_from_ne_true, or_right, true≢false
 
 -- ---- a message that isn't decoded
 
-pub same_none : {A : Type 0} (b : Bool) (x : A) → (if b then x else x) ≡ x
-same_none true x = refl
-same_none false x = refl
+pub if_same : {A : Type 0} (b : Bool) {x y : A} → x ≡ y → (if b then x else y) ≡ y
+if_same true same = same
+if_same false same = refl
 
 abbrev found : {A : Type 0} → (leap : ℕ) → (Heard → A) → A → Result Message MsgFault → A
 found leap has none r = option_map_or has (heard_of every_channel leap r) none
@@ -44,7 +44,7 @@ tow_found wanted None = refl
 tow_found wanted (Some m) = refl
 
 none_of_other : (leap : ℕ) (wanted : Option ℕ) (bytes : List ℕ) → tow_of wanted (heard every_channel leap (other_of (bits_of bytes))) ≡ None
-none_of_other leap wanted bytes = same_none (is_of_station wanted (heard every_channel leap (other_of (bits_of bytes)))) None
+none_of_other leap wanted bytes = if_same (is_of_station wanted (heard every_channel leap (other_of (bits_of bytes)))) refl
 
 pub tow_read : (leap : ℕ) (set : MsmSet) (wanted : Option ℕ) (bytes : List ℕ) (m : Message) → message_at bytes ≡ Ok m
     → option_and_then (tow_of wanted) (inspected_in leap set bytes) ≡ (if is_in_set set m then tow_of wanted (heard every_channel leap m) else None)
@@ -61,7 +61,7 @@ tow_refused leap set wanted bytes e read =
 -- ---- the cells that count
 
 pub none_valued : (wanted : Option ℕ) (bytes : List ℕ) → valued wanted (inspected (other_of (bits_of bytes))) ≡ []
-none_valued wanted bytes = same_none (is_of_station wanted (inspected (other_of (bits_of bytes)))) []
+none_valued wanted bytes = if_same (is_of_station wanted (inspected (other_of (bits_of bytes)))) refl
 
 -- a message in these forms, or without such cells
 abbrev IsHad : Forms → Option ℕ → Result Message MsgFault → Type 0
@@ -163,7 +163,7 @@ loses_none s fs planned = by (list_any (needs s.station) fs) refl where
 -- ---- the forms of one more message
 
 either : (wanted : Option ℕ) (m : Message) (b : Bool) → with_forms (if b then forms.All else forms.FourAndSeven) wanted m ≡ (if b || (needs_all wanted (Ok m) || false) then forms.All else forms.FourAndSeven)
-either wanted m true = same_none (has_other_value forms.All wanted m) forms.All
+either wanted m true = if_same (has_other_value forms.All wanted m) refl
 either wanted m false = by (has_other_value forms.FourAndSeven wanted m) where
   by : (c : Bool) → (if c then forms.All else forms.FourAndSeven) ≡ (if c || false then forms.All else forms.FourAndSeven)
   by true = refl

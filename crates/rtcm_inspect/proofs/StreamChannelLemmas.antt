@@ -10,6 +10,7 @@ use Rattle.rtcm_msg.specs.Encoding.{number_of}
 use Rattle.rtcm_msg.specs.Fields.{cursor_at}
 use Rattle.rtcm_msg.specs.Numbers.{kind_of}
 use Rattle.rtcm_msg.proofs.MessageLaws.{message_there}
+use Rattle.rtcm_inspect.proofs.SetLemmas.{if_same}
 use Rattle.rtcm_inspect.proofs.Names.{AreChannels, Bool, ChannelsValue, Err, Form, Framed, IfSome, List, Message, MsgFault, MsmValue, None, Ok, Option, Other, Result, Some, System, [], ap, append-nil, arith, bits_of, channel_of_1020, channels_in, false, flat_map, flat_map-append, if◌then◌else◌, inspected, is_of_station, is_some, is_system, length, message_at, message_in, most_number, nat_le, nat_tests, no_channels, not, number_at, option_to_list, refl, sent_by, sent_channels, sent_in, sent_of, slot_count, sym, true, with_first, with_number, with_sent, ℕ, ◌&&◌, ◌++◌, ◌-◌, ◌==◌, ◌∙◌, ◌∷◌, ◌≡◌, ◌≤◌}
 
 -- ---- only a message 1020 has the channel of one
@@ -45,7 +46,7 @@ msm_isnt_1020 form.Msm5 v = refl
 msm_isnt_1020 form.Msm6 v = refl
 msm_isnt_1020 form.Msm7 v = refl
 
-another_system : (s : System) → (s ≡ Glonass → ⊥) → is_system s Glonass ≡ false
+pub another_system : (s : System) → (s ≡ Glonass → ⊥) → is_system s Glonass ≡ false
 another_system s other = by (is_system s Glonass) refl where
   by : (b : Bool) → is_system s Glonass ≡ b → b ≡ false
   by true e = absurd (other (system_same s Glonass e))
@@ -57,10 +58,6 @@ none_of_another form.Msm5 v other = rw (another_system v.system other) refl
 none_of_another form.Msm6 v other = refl
 none_of_another form.Msm7 v other = rw (another_system v.system other) refl
 
-either_none : {A : Type 0} (b : Bool) (xs : List A) → xs ≡ [] → (if b then xs else []) ≡ []
-either_none true xs none = none
-either_none false xs none = refl
-
 module _ (known : ChannelsValue) (wanted : Option ℕ) (bytes : List ℕ) where
   pub only_sent : (m : Message) → is_1020 (Ok m) ≡ false → message_at bytes ≡ Ok m
       → with_sent known (sent_of wanted m) ≡ with_sent known (option_to_list (channel_of_1020 bytes) ++ sent_of wanted m)
@@ -69,7 +66,7 @@ module _ (known : ChannelsValue) (wanted : Option ℕ) (bytes : List ℕ) where
   pub none_sent : (m : Message) → is_1020 (Ok m) ≡ false → sent_channels m ≡ [] → message_at bytes ≡ Ok m
       → known ≡ with_sent known (option_to_list (channel_of_1020 bytes) ++ sent_of wanted m)
   none_sent m other none read =
-      ap (with_sent known) (sym (either_none (is_of_station wanted (inspected m)) (sent_channels m) none)) ∙ only_sent m other read
+      ap (with_sent known) (sym (if_same (is_of_station wanted (inspected m)) none)) ∙ only_sent m other read
 
 -- ---- one more frame
 

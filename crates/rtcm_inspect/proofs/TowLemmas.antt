@@ -9,7 +9,8 @@ use Rattle.gnss_system.proofs.SystemLaws.{any_system, each_after, index_less, is
 use Rattle.rtcm_msg.specs.Sets.{is_in_set}
 use Rattle.gnss_system.specs.declared.system.System.TheVariants as listed
 use Rattle.rtcm_inspect.proofs.FirstLemmas.{first_more, or_none}
-use Rattle.rtcm_inspect.proofs.SetLemmas.{same_none, tow_read, tow_refused}
+use Rattle.rtcm_inspect.proofs.SetLemmas.{if_same, tow_read, tow_refused}
+use Rattle.rtcm_inspect.proofs.StreamChannelLemmas.{another_system}
 use Rattle.gnss_obs.specs.Weeks.{weeks}
 use Rattle.rtcm_inspect.proofs.CountedLemmas.{at_more, greatest_more, none_counted, number_kept, number_new, some_counted}
 use Rattle.rtcm_inspect.specs.CountedTimes.{counted_before, counted_set, counted_tows, greatest_in, greatest_of, with_tow, tow_in as counted_in}
@@ -38,7 +39,7 @@ grown_none c (Some x) = refl
 
 -- of two, each before the new one
 grown_earlier : (a b : Option PlacedTow) (c : PlacedTow) → IsBefore c.place a → IsBefore c.place b → (p q : Bool) → earlier (grown p c a) (grown q c b) ≡ grown (p || q) c (earlier a b)
-grown_earlier None None c h k true true = same_none (nat_lt c.place c.place) (Some c)
+grown_earlier None None c h k true true = if_same (nat_lt c.place c.place) refl
 grown_earlier None None c h k true false = refl
 grown_earlier None None c h k false q = refl
 grown_earlier None (Some y) c h k true q = ap (λ (b : Bool). if b then Some y else Some c) (lt-ltb y.place c.place k)
@@ -124,10 +125,6 @@ tow_read_in : (set : MsmSet) (wanted : Option ℕ) (f : Framed) {m : Message} �
     → counted_in set wanted f ≡ (if is_in_set set m then tow_of wanted (heard every_channel 0 m) else None)
 tow_read_in set wanted f {m} read = tow_read 0 set wanted f.message m read
 
-none_of : (b : Bool) (o : Option ℕ) → o ≡ None → (if b then o else None) ≡ None
-none_of true o none = none
-none_of false o none = refl
-
 -- the first MSM of a set is known, or there is none
 module _ {x : FirstTows} {wanted : Option ℕ} {fs : List Framed} (h : AreTows x wanted fs) (set : MsmSet) where
   known : {t : PlacedTow} → earliest set x.tows systems ≡ Some t → first_tow 0 set wanted fs ≡ Some (placed_by 0 t)
@@ -186,7 +183,7 @@ tows_same {x} {y} {wanted} {fs} f {m} read count same none h = subst (λ (z : Fi
 })
   where
     none_here : counted_in counted_set wanted f ≡ None
-    none_here = tow_read_in counted_set wanted f read ∙ none_of (is_in_set counted_set m) (tow_of wanted (heard every_channel 0 m)) (none 0)
+    none_here = tow_read_in counted_set wanted f read ∙ if_same (is_in_set counted_set m) (none 0)
 
 tow_grown : (leap : ℕ) (b : Bool) (c : PlacedTow) (o : Option PlacedTow) → option_map (placed_by leap) (grown b c o) ≡ option_or (option_map (placed_by leap) o) (if b then Some (placed_by leap c) else None)
 tow_grown leap true c None = refl
@@ -311,12 +308,6 @@ at_settled n tows tow t None is small h = tt
 at_settled n tows tow t (Some x) is small h = at_more n tows tow t x.greatest is small h
 
 -- an MSM of another system than GLONASS counts, with its time of week
-another_system : (s : System) → (s ≡ listed.Glonass → ⊥) → is_system s listed.Glonass ≡ false
-another_system s other = by (is_system s listed.Glonass) refl where
-  by : (b : Bool) → is_system s listed.Glonass ≡ b → b ≡ false
-  by true e = absurd (other (system_same s listed.Glonass e))
-  by false e = refl
-
 pub counts_tow : (m : Message) (system : System) (form : Form) → IsMsmOf m system form → (system ≡ listed.Glonass → ⊥) → is_in_set counted_set m ≡ true
 counts_tow m system form is other =
     is counted_set ∙ ap (λ (b : Bool). b && have_form All form) (value_tabulated system (λ s. not (is_system s listed.Glonass)) ∙ ap not (another_system system other))

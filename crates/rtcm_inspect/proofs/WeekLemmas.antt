@@ -111,14 +111,14 @@ not_taken : (s : GatherSetup) (earlier : List Timed) (m : Heard) → tow_of s.st
 not_taken s earlier m none = choose (is_own s m) _ m.tow (λ own. no_parts s.station m none (own_counts s m own))
 
 -- the time of an accepted message, by the greatest time before it
-abbrev placed : GatherSetup → List Timed → Option ℕ → ℕ → Option ℕ
+abbrev pub placed : GatherSetup → List Timed → Option ℕ → ℕ → Option ℕ
 placed s earlier greatest tow =
     if option_map_or (λ t. nat_lt half_week (ahead t tow) || ((ahead t tow == 0) && is_closed s t earlier)) greatest false
     || is_past (option_map_or (λ t. t + ahead t tow) greatest (first_week s.start tow * week + tow))
     then None else Some (option_map_or (λ t. t + ahead t tow) greatest (first_week s.start tow * week + tow))
 
-not_past : (w tow : ℕ) → w < weeks → tow < week → is_past (w * week + tow) ≡ false
-not_past w tow within small = let h : w * week + tow < weeks * week = omega (arith, within, small) in grind (arith, h)
+pub not_past : (n : ℕ) → n < weeks * week → is_past n ≡ false
+not_past n small = grind arith
 
 -- the first MSM is accepted in the week of the start
 taken_first : {tow : ℕ} (s : GatherSetup) (earlier : List Timed) (m : Heard) → is_past (first_week s.start tow * week + tow) ≡ false → greatest_time earlier ≡ None → is_own s m ≡ true → m.tow ≡ Some tow
@@ -166,4 +166,4 @@ dated_after set s tow (f ∷ fs) now = λ earlier none first.
     (ap (λ (o : Option ℕ). option_or o (first_tow s.leap_seconds set s.station fs)) (same_tow s.station s.plan.channels every_channel s.leap_seconds (message_with set f.message)) ∙ first)
 
 pub dated : (set : MsmSet) (s : GatherSetup) (fs : List Framed) (tow : ℕ) → is_no_week s.start ≡ false → tow < week → first_tow s.leap_seconds set s.station fs ≡ Some tow → first_time (timed_after s [] (heard_all set s fs)) ≡ Some (first_week s.start tow * week + tow)
-dated set s fs tow within small first = dated_after set s tow fs (not_past (first_week s.start tow) tow (of_weeks s.start tow within) small) [] refl first
+dated set s fs tow within small first = dated_after set s tow fs (not_past (first_week s.start tow * week + tow) (let w = of_weeks s.start tow within in omega arith)) [] refl first
