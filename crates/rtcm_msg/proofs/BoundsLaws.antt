@@ -1,10 +1,9 @@
 -- Bounds of the values of a cell.
-use Rattle.std.proofs.Common.{ℕ, ℤ, pos, ◌^◌, ◌<◌, ◌≤◌, ◌+ℤ◌, ◌*ℤ◌, Bool, List, [], ◌∷◌, map, Option, unsigned_abs, arith}
+use Rattle.std.proofs.Common.{ℕ, ℤ, pos, ◌^◌, ◌<◌, ◌≤◌, ◌+ℤ◌, ◌*ℤ◌, Bool, List, [], ◌∷◌, map, unsigned_abs, arith}
 use Rattle.std.specs.Prelude.{IfSome}
 use Rattle.std.specs.List.{AllByRecursion}
 use Rattle.std.proofs.lemmas.Int.{ints}
-use Rattle.rtcm_msg.specs.inner.Names.{FitsInt, Message, Station, Msm4, Msm5, Msm6, Msm7, Other, Pair, Form, scaled, range_joined, invalid_rough_rate, invalid_fine_rate, rate_joined, strength_of, MsmValue, entry_in, entries, IsMeasured}
-use Rattle.rtcm_msg.specs.declared.view.Form.TheVariants as forms
+use Rattle.rtcm_msg.specs.inner.Names.{FitsInt, Message, Pair, Form, scaled, invalid_rough_rate, invalid_fine_rate, rate_joined, strength_of, MsmValue, entry_in, entries, IsMeasured}
 use Rattle.rtcm_msg.specs.declared.data.Satellite.{Satellite}
 use Rattle.rtcm_msg.specs.declared.data.Cell.{Cell}
 use Rattle.rtcm_msg.specs.Forms.{precision, least, entry, IsSatelliteData, IsCellData, FitsIf}
@@ -17,9 +16,6 @@ abbrev Far : ℤ → Type 0
 Far r = unsigned_abs r ≤ 2 ^ 39
 
 -- ---- fractions
-
-joined_within : (whole fraction : ℕ) (fine : Option ℤ) → whole < 2 ^ 8 → fraction < 2 ^ 10 → IfSome fine Small → IfSome (range_joined whole fraction fine) Far
-joined_within whole fraction fine h k l = grind arith
 
 pub rate_small : (rough fine : ℤ) → unsigned_abs rough ≤ 2 ^ 13 → unsigned_abs fine ≤ 2 ^ 14 → unsigned_abs ((rough *ℤ pos 10000) +ℤ fine) ≤ 10 ^ 8
 rate_small rough fine r f = omega (arith, ints)
@@ -45,16 +41,11 @@ pub fine_rate_small : (there : Bool) (z : ℤ) → FitsIf there 15 invalid_fine_
 fine_rate_small there z h = grind arith
 
 measured : (f : Form) (x : Pair) (s : Satellite) (c : Cell) → IsSatelliteData f s → IsCellData f c → IsMeasured (entry f x s c)
-measured f x s c a b = grind (arith, joined_within, range_small, phase_small, rate_within, rough_rate_small, fine_rate_small, strength_small)
+measured f x s c a b = grind (arith, range_small, phase_small, rate_within, rough_rate_small, fine_rate_small, strength_small)
 
 each : (f : Form) (v : MsmValue) (xs : List (Pair × ℕ)) → AllByRecursion IsMeasured (map (entry_in f v) xs)
 each f v [] = tt
 each f v (x ∷ xs) = (measured f x.0 _ _ (satellite_in_range f _) (cell_in_range f x.1), each f v xs)
 
 pub entries_measured : (m : Message) → AllByRecursion IsMeasured (entries m)
-entries_measured (Station s) = tt
-entries_measured (Msm4 v) = each forms.Msm4 v _
-entries_measured (Msm5 v) = each forms.Msm5 v _
-entries_measured (Msm6 v) = each forms.Msm6 v _
-entries_measured (Msm7 v) = each forms.Msm7 v _
-entries_measured (Other n set) = tt
+entries_measured m = grind (arith, each)

@@ -2,7 +2,7 @@
 use Rattle.std.proofs.Common.{ℕ, ◌≡◌, ◌+◌, ◌^◌, ◌<◌, ◌≤◌, ◌∙◌, Bool, true, false, List, [], length, count_ones, refl, sym, arith}
 use Rattle.rtcm_msg.specs.inner.Names.{FormedMsm, Form, MsmValue, formed, ids, message_in}
 use Rattle.rtcm_msg.specs.Channels.{channels_by, channels_of, has_channels, sent_channels}
-use Rattle.rtcm_msg.specs.Forms.{extended_width, has_rates, satellite_data}
+use Rattle.rtcm_msg.specs.Forms.{satellite_data}
 use Rattle.rtcm_msg.specs.inner.FormLaws.{satellite_in_range}
 use Rattle.rtcm_msg.proofs.PairLaws.{ids_none}
 use Rattle.rtcm_msg.proofs.CountLaws.{ids_count}
@@ -27,7 +27,4 @@ pub all_left : (n m k : ℕ) (rows : List ℕ) → n ≡ m → m < 2 ^ 64 → k 
 all_left n m k rows is fits count set = let size = ids_count 64 m fits in rw is (omega (arith, size, count, set))
 
 pub number_small : (f : Form) (n : ℕ) → (satellite_data f n).extended < 16
-number_small f n = by (has_rates f) _ (satellite_in_range f n).extended where
-  by : (rates : Bool) (x : ℕ) → x < 2 ^ extended_width rates → x < 16
-  by true x h = h
-  by false x h = omega (arith, h)
+number_small f n = grind (arith, satellite_in_range)

@@ -1,4 +1,5 @@
 -- Reading columns: the bits of the columns that were read, reading encoded columns, and the fault.
+use Rattle.std.proofs.lemmas.Grind.{common_steps}
 use Rattle.std.proofs.Common.{ℕ, zero, suc, ◌≡◌, ◌+◌, ◌*◌, ◌/◌, ◌%◌, ◌^◌, Bool, List, [], ◌∷◌, ◌++◌, length, map, Ok, refl, sym, ap, subst, ◌∙◌, arith, append_assoc, replicate, add_comm}
 use Rattle.std.specs.List.{flat_map}
 use Rattle.std.proofs.lemmas.List.{length-map}
@@ -30,10 +31,7 @@ column_consumed w (p ∷ ps) c x e =
     subst (ColumnConsumed w (p ∷ ps) c) (ok_inj _ x _ refl others.2) (join w p ps c here.0 others.0 consumed rest)
   where
     join : (w p : ℕ) (ps : List ℕ) (c : Cursor) (h : ℕ × Cursor) (o : List ℕ × Cursor) → Consumed w c h → ColumnConsumed w ps h.1 o → ColumnConsumed w (p ∷ ps) c ((p * 2 ^ w + h.0) ∷ o.0, o.1)
-    join w p ps c h o t r = record {
-      bits = t.bits ∙ rw (r.bits, uint-low w p h.0) (sym (append_assoc (uint w h.0) (flat_map (uint w) o.0) o.1.rest));
-      high = rw (shr_high p w h.0 t.fits, r.high) refl;
-    }
+    join w p ps c h o h1 h2 = grind (arith, common_steps, uint-low, shr_high)
 
 -- The bits begin with the columns that were read.
 pub record ColumnsConsumed (ws ps : List ℕ) (c : Cursor) (x : List ℕ × Cursor) : Type 0 where
@@ -62,10 +60,7 @@ columns_consumed (w ∷ ws) ps c x e =
     join w ws ps c first.0 x here rest
   where
     join : (w : ℕ) (ws ps : List ℕ) (c : Cursor) (q x : List ℕ × Cursor) → ColumnConsumed w ps c q → ColumnsConsumed ws q.0 q.1 x → ColumnsConsumed (w ∷ ws) ps c x
-    join w ws ps c q x a b = record {
-      bits = a.bits ∙ rw (← b.high, column_of_highs w (total_width ws) x.0, b.bits) (sym (append_assoc (flat_map (λ p. uint w (p / 2 ^ total_width ws)) x.0) (columns ws x.0) x.1.rest));
-      high = sym (highs_highs w (total_width ws) x.0) ∙ (rw b.high a.high);
-    }
+    join w ws ps c q x h1 h2 = grind (arith, common_steps, column_of_highs, highs_highs)
 
 -- ---- reading encoded columns
 

@@ -21,8 +21,7 @@ column_below w a (p ∷ ps) c x e h =
     below p n q r a b = grind arith
 
     each : (b n : ℕ) (ns : List ℕ) → n < 2 ^ b → EachBelow b ns → EachBelow b (n ∷ ns)
-    each b n ns h t zero = h
-    each b n ns h t (suc k) = t k
+    each b n ns h1 h2 = grind arith
 
 pub total-drop : (i : ℕ) (ws : List ℕ) → i < length ws → total_width (drop i ws) ≡ get_or ws i 0 + total_width (drop (i + 1) ws)
 total-drop i ws h = rw (add-one i, drop-cons ws i 0 h) refl

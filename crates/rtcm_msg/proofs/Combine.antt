@@ -1,6 +1,6 @@
 -- Chains of fields: the bits that were read, reading encoded fields, and the fault.
-use Rattle.std.proofs.Common.{ℕ, ◌≡◌, ◌+◌, ◌^◌, ◌<◌, ◌≤◌, Bool, List, ◌∷◌, ◌++◌, length, Result, Ok, Some, refl, ◌∙◌, arith, length-append}
-use Rattle.std.proofs.lemmas.List.{take_at, drop_at}
+use Rattle.std.proofs.lemmas.Grind.{common_steps}
+use Rattle.std.proofs.Common.{ℕ, ◌≡◌, ◌+◌, ◌^◌, ◌<◌, ◌≤◌, Bool, List, ◌∷◌, ◌++◌, Result, Ok, Some, arith, length-append}
 use Rattle.rtcm_msg.specs.inner.Names.{uint, Cursor, MsgFault, number_at, ◌>>=◌, first_past}
 use Rattle.rtcm_bits.proofs.BitLaws.{length-uint, number_of-uint}
 use Rattle.rtcm_msg.proofs.Binds.{number_there}
@@ -21,10 +21,7 @@ abbrev pub cursor : ℕ → List Bool → Cursor
 cursor place rest = record { place = place; rest = rest }
 
 pub number_again : (w n place : ℕ) (rest : List Bool) → n < 2 ^ w → number_at w (cursor place (uint w n ++ rest)) ≡ Ok (n, cursor (place + w) rest)
-number_again w n place rest h =
-    let len = length-uint w n in
-    let room : w ≤ length (uint w n ++ rest) = omega (arith, length-append (uint w n) rest, len) in
-    number_there w (cursor place (uint w n ++ rest)) room ∙ rw (take_at (uint w n) rest w len, drop_at (uint w n) rest w len, number_of-uint w n h) refl
+number_again w n place rest h = grind (arith, common_steps, length-uint, length-append {A = ℕ}, number_there, number_of-uint)
 
 pub bind_bind : {A B D : Type 0} (r : Result A MsgFault) (g : A → Result B MsgFault) (f : B → Result D MsgFault) → ((r >>= g) >>= f) ≡ (r >>= λ x. g x >>= f)
 bind_bind r g f = grind arith

@@ -1,5 +1,5 @@
 -- The data of one satellite or cell, read field by field.
-use Rattle.std.proofs.Common.{ℕ, ℤ, ◌≡◌, ◌+◌, ◌*◌, ◌/◌, ◌%◌, ◌^◌, ◌<◌, ◌≤◌, ◌==◌, Bool, true, List, [], ◌∷◌, length, take, drop, refl, sym, ap, ap₂, subst, ◌∙◌, arith, lit<}
+use Rattle.std.proofs.Common.{ℕ, ℤ, ◌≡◌, ◌+◌, ◌*◌, ◌/◌, ◌%◌, ◌^◌, ◌<◌, ◌==◌, Bool, true, List, [], ◌∷◌, refl, sym, ap, ap₂, subst, ◌∙◌, arith, lit<}
 use Rattle.std.proofs.lemmas.Nat.{mod_low, shr_high, pow-add}
 use Rattle.std.proofs.lemmas.List.{length-take}
 use Rattle.rtcm_bits.proofs.BitLaws.{number-fits, pow_mono}
@@ -23,11 +23,7 @@ contents_at [] n bits p i = tt
 contents_at (f ∷ fs) n bits p i = (content f.1 (field_at bits (p + i * width f.1) (width f.1)), contents_after fs n bits p (width f.1) i)
 
 pub field_fits : (bits : List Bool) (p w : ℕ) → field_at bits p w < 2 ^ w
-field_fits bits p w =
-    let few : length (take w (drop p bits)) ≤ w = omega (arith, length-take w (drop p bits)) in
-    let fits = number-fits (take w (drop p bits)) in
-    let most = pow_mono (length (take w (drop p bits))) w few in
-    omega (arith, fits, most)
+field_fits bits p w = grind (arith, length-take, number-fits, pow_mono)
 
 joined : (m f q t r : ℕ) → (m * q + f) * t + r ≡ m * (q * t) + (f * t + r)
 joined m f q t r = grind arith
@@ -87,8 +83,7 @@ pub cell_read : (f : Form) (w : Precision) (n : ℕ) (bits : List Bool) (p i : �
     → record { range = range; phase = phase; lock = lock; half_cycle = half_cycle; strength = strength; rate = rate } ≡ cell_data f (row_at (cell_widths f) n bits p i 0)
 cell_read f w n bits p i is range phase lock half_cycle strength rate =
     let u = ap (cell_of (is_fine f) (has_rates f)) (unpacked_row (cell_table f) n bits p i 0) in
-    rw (range, phase, lock, half_cycle, strength, ← is, rate)
-    (ap (λ (r : ℤ). record (cell_of (is_fine f) (has_rates f) (contents_at (cell_table f) n bits p i)) { rate = r }) (ap (λ (c : Cell). c.rate) u) ∙ sym u)
+    grind arith
 
 -- Where the fields of the first cell end, up to its rate.
 pub first_ends : (f : Form) (b : LastBits) {w : Precision} → precision (is_fine f) ≡ w → AreLast (cell_widths f) b → AreLast (w.range ∷ w.phase ∷ w.lock ∷ 1 ∷ w.strength ∷ []) b

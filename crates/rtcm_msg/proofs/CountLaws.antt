@@ -1,6 +1,6 @@
 -- The number of IDs, pairs and cells.
-use Rattle.std.proofs.Common.{ℕ, zero, suc, ◌≡◌, ◌+◌, ◌*◌, ◌/◌, ◌%◌, ◌==◌, ◌^◌, ◌<◌, ◌≤◌, Bool, true, false, List, [], ◌∷◌, length, map, refl, ap, ◌∙◌, arith, count_ones, length-append}
-use Rattle.std.proofs.lemmas.Nat.{ones_cat, mod_below, pow_pos}
+use Rattle.std.proofs.Common.{ℕ, zero, suc, ◌≡◌, ◌+◌, ◌*◌, ◌%◌, ◌==◌, ◌^◌, ◌<◌, ◌≤◌, Bool, true, false, List, [], ◌∷◌, length, map, refl, ap, ◌∙◌, arith, count_ones, length-append}
+use Rattle.std.proofs.lemmas.Nat.{ones_cat, mod_below}
 use Rattle.std.specs.Int.Count.{ones, ones_in}
 use Rattle.std.proofs.Math.Nat.{mod-eq_of_lt}
 use Rattle.std.proofs.lemmas.List.{length-map}
@@ -26,10 +26,7 @@ set_or_not a i bits h = grind (arith, ones_zero, ones_one)
 up_count : (w n i : ℕ) → length (up_from i (uint w n)) ≡ count_ones (n % 2 ^ w)
 unfolding up_from uint
 up_count zero n i = let e : n % 2 ^ 0 ≡ 0 = omega arith in rw (e, ones_zero) refl
-up_count (suc w) n i =
-    let a = n / 2 ^ w % 2 in
-    let small : a < 2 = omega arith in
-    set_or_not a i (uint w n) small ∙ rw (up_count w n (i + 1), mod-suc w n, ones_cat w a (n % 2 ^ w) (mod_below n (2 ^ w) (pow_pos w))) refl
+up_count (suc w) n i = grind (arith, set_or_not, mod-suc, ones_cat, mod_below, (up_count w n (i + 1)))
 
 pub ids_count : (w n : ℕ) → n < 2 ^ w → length (ids w n) ≡ count_ones n
 ids_count w n h = up_count w n 1 ∙ ap count_ones (mod-eq_of_lt h)

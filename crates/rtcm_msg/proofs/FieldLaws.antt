@@ -1,8 +1,9 @@
 -- The fields of a table, read as one: the bits that were read, reading encoded fields, and the fault.
+use Rattle.std.proofs.lemmas.Grind.{common_steps}
 use Rattle.std.proofs.Common.{ℕ, true, ◌≡◌, ◌+◌, ◌<◌, ◌≤◌, Bool, List, [], ◌∷◌, ◌++◌, length, drop, Result, Ok, Err, Some, None, refl, sym, ap, subst, ◌∙◌, arith, append_assoc, ◌⊎◌, inl, inr, add_assoc, add-zero}
-use Rattle.std.proofs.lemmas.Bool.{cases_lt}
+use Rattle.std.proofs.lemmas.Bool.{and_parts, cases_lt}
 use Rattle.std.proofs.lemmas.List.{length-drop, drop-drop}
-use Rattle.rtcm_msg.specs.inner.Names.{uint, has_sign, have_signs, FitAll, number-content, content_fits, content-number, number_fits, sign_first, sign_others, Table, width, widths, Contents, content, fields_of, Cursor, advanced, unsigned_at, MsgFault, Short, number_at, ◌>>=◌, field_bits, first_past, reading, total_width}
+use Rattle.rtcm_msg.specs.inner.Names.{uint, has_sign, have_signs, FitAll, number-content, content_fits, content-number, number_fits, Table, width, widths, Contents, content, fields_of, Cursor, advanced, unsigned_at, MsgFault, Short, number_at, ◌>>=◌, field_bits, first_past, reading, total_width}
 use Rattle.rtcm_msg.specs.Layout.{number_of}
 pub use Rattle.rtcm_msg.specs.Fields.{cursor_at, field_at}
 use Rattle.rtcm_msg.proofs.Binds.{ok_inj, number_there, number_short, consumed_at, ok_err}
@@ -19,8 +20,7 @@ reading_is (f ∷ fs) c next = go (λ h. reading_is fs h.1 (λ o. next ((content
   where
     go : ((h : ℕ × Cursor) → reading fs h.1 (λ o. next ((content f.1 h.0, o.0), o.1)) ≡ (fields_at fs h.1 >>= λ o. next ((content f.1 h.0, o.0), o.1)))
         → (r : Result (ℕ × Cursor) MsgFault) → (r >>= λ h. reading fs h.1 (λ o. next ((content f.1 h.0, o.0), o.1))) ≡ ((r >>= λ here. fields_at fs here.1 >>= λ others. Ok ((content f.1 here.0, others.0), others.1)) >>= next)
-    go each (Ok h) = each h ∙ sym (bind_bind (fields_at fs h.1) (λ o. Ok ((content f.1 h.0, o.0), o.1)) next)
-    go each (Err e) = refl
+    go h1 r = grind (arith, bind_bind)
 
 -- ---- what was read
 
@@ -40,26 +40,19 @@ pub record FieldsConsumed (t : Table) (c : Cursor) (x : Contents t × Cursor) : 
 
 fields_there : (t : Table) (c : Cursor) → total_width (widths t) ≤ length c.rest → fields_at t c ≡ Ok (values t c, after t c)
 fields_there [] c room = refl
-fields_there (f ∷ fs) c room =
-    let here = number_there (width f.1) c (omega arith) in
-    let others = fields_there fs (advanced c (width f.1)) (omega (arith, length-drop (width f.1) c.rest)) in
-    rw (here, others) refl
+fields_there (f ∷ fs) c room = grind (arith, number_there, length-drop, (fields_there fs (advanced c (width f.1)) (omega (arith, length-drop (width f.1) c.rest))))
 
 values_consumed : (t : Table) (c : Cursor) → have_signs t ≡ true → total_width (widths t) ≤ length c.rest → FieldsConsumed t c (values t c, after t c)
 unfolding field_bits
 values_consumed [] c signs room = record { room = room; fit = tt; bits = refl }
 values_consumed (f ∷ fs) c signs room =
     let w = width f.1 in
-    let sign = sign_first (has_sign f.1) (have_signs fs) signs in
+    let sign = (and_parts (has_sign f.1) (have_signs fs) signs).0 in
     let consumed = consumed_at w c (omega arith) in
-    let rest = values_consumed fs (advanced c w) (sign_others (has_sign f.1) (have_signs fs) signs) (omega (arith, length-drop w c.rest)) in
+    let rest = values_consumed fs (advanced c w) (and_parts (has_sign f.1) (have_signs fs) signs).1 (omega (arith, length-drop w c.rest)) in
     let n = unsigned_at w c in
     let tail = field_bits (fields_of fs (values fs (advanced c w))) in
-    record {
-      room = room;
-      fit = (content_fits f.1 n sign consumed.fits, rest.fit);
-      bits = consumed.bits ∙ (ap (λ t. uint w n ++ t) rest.bits ∙ (sym (append_assoc (uint w n) tail (after fs (advanced c w)).rest) ∙ ap (λ (k : ℕ). (uint w k ++ tail) ++ (after fs (advanced c w)).rest) (sym (number-content f.1 n sign consumed.fits))));
-    }
+    grind (arith, common_steps, content_fits, number-content)
 
 pub fields_short : (t : Table) (c : Cursor) → length c.rest < total_width (widths t) → (k : ℕ) × (fields_at t c ≡ Err (Short k)) × (first_past (c.place + length c.rest) c.place (widths t) ≡ Some k)
 fields_short [] c h = absurd (omega arith)
@@ -86,9 +79,9 @@ fields_again [] cs place rest signs fit = rw (add-zero place) refl
 fields_again (f ∷ fs) cs place rest signs fit =
     let w = width f.1 in
     let n = number_of f.1 cs.0 in
-    let sign = sign_first (has_sign f.1) (have_signs fs) signs in
+    let sign = (and_parts (has_sign f.1) (have_signs fs) signs).0 in
     let here = number_again w n place (field_bits (fields_of fs cs.1) ++ rest) (number_fits f.1 cs.0 sign fit.0) in
-    let others = fields_again fs cs.1 (place + w) rest (sign_others (has_sign f.1) (have_signs fs) signs) fit.1 in
+    let others = fields_again fs cs.1 (place + w) rest (and_parts (has_sign f.1) (have_signs fs) signs).1 fit.1 in
     rw (append_assoc (uint w n) (field_bits (fields_of fs cs.1)) rest, here, others, content-number f.1 cs.0 sign fit.0, add_assoc place w (total_width (widths fs))) refl
 
 -- ---- the end of fields

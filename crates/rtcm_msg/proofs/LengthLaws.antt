@@ -1,5 +1,5 @@
 -- No message is longer than 1,023 bytes.
-use Rattle.std.proofs.Common.{ℕ, ◌≡◌, ◌+◌, ◌*◌, ◌/◌, ◌^◌, ◌≤◌, List, [], ◌∷◌, ◌++◌, length, refl, ◌∙◌, arith, lit≤, length-append, count_ones, Option, Some, None}
+use Rattle.std.proofs.Common.{ℕ, ◌≡◌, ◌+◌, ◌*◌, ◌/◌, ◌^◌, ◌≤◌, List, [], ◌∷◌, ◌++◌, length, refl, ◌∙◌, arith, lit≤, length-append, count_ones, Option}
 use Rattle.std.specs.List.{flat_map}
 use Rattle.std.proofs.lemmas.Nat.{mul-le, ones-le}
 use Rattle.rtcm_msg.specs.inner.Names.{uint, Message, field_bits, fields_width, total_width, columns, station_fields, MsmValue, IsValue, pair_count, msm_bits, header_fields, mask_fields, IsMessage, message_bits, message_number, satellite_widths, cell_widths, Form}
@@ -49,8 +49,7 @@ pub message_short : (v : Message) → IsMessage v → length (message_bits v 0) 
 message_short (messages.Station s) h = rw (length-field_bits (station_fields s 0)) (by_height s.height)
   where
     by_height : (x : Option ℕ) → fields_width (station_fields (record s { height = x }) 0) ≤ longest_message_bits
-    by_height None = lit≤ tt
-    by_height (Some k) = lit≤ tt
+    by_height x = grind (arith, lit≤)
 message_short (messages.Msm4 m) h = formed_short forms.Msm4 m h
 message_short (messages.Msm5 m) h = formed_short forms.Msm5 m h
 message_short (messages.Msm6 m) h = formed_short forms.Msm6 m h

@@ -1,4 +1,5 @@
 -- No field that is read ends after the first 8,184 bits.
+use Rattle.std.proofs.lemmas.Grind.{common_steps}
 use Rattle.std.proofs.Common.{ℕ, ◌≡◌, ◌+◌, ◌*◌, ◌≤◌, Bool, true, false, List, ◌∷◌, ◌++◌, length, take, drop, Result, Ok, Err, Option, refl, sym, ap, ap₂, ◌∙◌, arith, lit≤, append_assoc, nat_lt, nat_le, count_ones, length-append}
 use Rattle.std.proofs.lemmas.Bool.{cases_lt, le-leb, lt-ltb}
 use Rattle.std.proofs.lemmas.Nat.{ones-le, mul-le}
@@ -20,10 +21,7 @@ field_more a b place w h = ap number (ap (take w) (drop-append-le place a b (ome
 
 -- The first bytes determine the fields in them.
 pub field_in_front : (bytes : List ℕ) (n place w : ℕ) → n ≤ length bytes → place + w ≤ 8 * n → field_at (bits_of (take n bytes)) place w ≡ field_at (bits_of bytes) place w
-field_in_front bytes n place w long fits =
-    let split : bits_of bytes ≡ bits_of (take n bytes) ++ bits_of (drop n bytes) = ap bits_of (sym (take-append-drop n bytes)) ∙ bits_of-append (take n bytes) (drop n bytes) in
-    let room : place + w ≤ length (bits_of (take n bytes)) = let size = length-bits_of (take n bytes) in let taken = length-take-le n bytes long in omega (arith, size, taken, fits) in
-    sym (ap (λ (bits : List Bool). field_at bits place w) split ∙ field_more (bits_of (take n bytes)) (bits_of (drop n bytes)) place w room)
+field_in_front bytes n place w long fits = grind (arith, take-append-drop {A = ℕ}, bits_of-append, length-bits_of, length-take-le {A = ℕ}, field_more)
 
 le_more : (k : ℕ) (a b : List Bool) → k ≤ length a → nat_le k (length (a ++ b)) ≡ nat_le k (length a)
 le_more k a b h = le-leb k (length (a ++ b)) (omega (arith, length-append a b, h)) ∙ sym (le-leb k (length a) h)
@@ -45,10 +43,7 @@ module _ (a b : List Bool) (long : longest_message_bits ≤ length a) where
   few_more = rw (number_more, le_more 169 a b (omega (arith, long)), field_more a b 73 64 (omega (arith, long)), field_more a b 137 32 (omega (arith, long))) refl
 
 ones_few : (bits : List Bool) (place w : ℕ) → w ≤ 64 → place + w ≤ length bits → count_ones (field_at bits place w) ≤ 64
-ones_few bits place w few h =
-    let fits = number-take-fits (drop place bits) w (omega (arith, length-drop place bits)) in
-    let most : count_ones (field_at bits place w) ≤ w = ones-le w (field_at bits place w) fits in
-    omega (arith, most, few)
+ones_few bits place w few h = grind (arith, common_steps, number-take-fits, length-drop {A = ℕ}, ones-le)
 
 pairs_are : (bits : List Bool) → is_read_msm (number_of bits) ≡ true → longest_message_bits ≤ length bits → has_too_many bits ≡ false → pair_count_of bits ≤ 64
 pairs_are bits msm long few = grind (arith, cases_lt, not_true, and_all, nat_le, nat_lt, le-leb, lt-ltb)

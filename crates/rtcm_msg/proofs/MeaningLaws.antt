@@ -86,10 +86,7 @@ sets_one s t h k a g e =
   where
     join : {a b g f m n : ℕ} → a ≡ b → g ≡ f → AreMasks (record { satellites = a; signals = g; cells = m }) → AreMasks (record { satellites = b; signals = f; cells = n })
         → cell_ids (record { satellites = a; signals = g; cells = m }) ≡ cell_ids (record { satellites = b; signals = f; cells = n }) → Path MasksValue (record { satellites = a; signals = g; cells = m }) (record { satellites = b; signals = f; cells = n })
-    join {b = b} {f = f} {m} {n} p q h k e =
-        let h' = rw (p, q) at h in
-        let e' = rw (p, q) at e in
-        rw (p, q) (ap (λ (c : ℕ). record { satellites = b; signals = f; cells = c }) (cells_same b f m n h' k e'))
+    join {a} {b} {g} {f} {m} {n} h1 h2 h3 h4 h5 = grind (arith, cells_same)
 
 -- ---- maps
 

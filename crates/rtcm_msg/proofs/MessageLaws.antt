@@ -239,8 +239,7 @@ message_fault bits e read = go (message_end bits)
     err_same e d r a b = cc
 
     go : MessageEnd bits → IsFault bits e
-    go (faulty d f is) = subst (IsFault bits) (err_same d e (message_by kind_of bits) is read) f
-    go (sound v none is) = absurd (ok_err v e (message_by kind_of bits) is read)
+    go h1 = grind (arith, ok_err)
 
 fault_one : (bits : List Bool) (e f : MsgFault) → IsFault bits e → IsFault bits f → e ≡ f
 fault_one bits e f h k = grind arith
@@ -249,8 +248,7 @@ pub message_only_fault : (bits : List Bool) (f : MsgFault) → IsFault bits f �
 message_only_fault bits f fault = go (message_end bits)
   where
     go : MessageEnd bits → message_by kind_of bits ≡ Err f
-    go (faulty d at_masks is) = is ∙ ap Err (fault_one bits d f at_masks fault)
-    go (sound v none is) = absurd (none f fault)
+    go h1 = grind (arith, fault_one)
 
 -- ---- the encoding
 

@@ -1,5 +1,6 @@
 -- The message numbers.
-use Rattle.std.proofs.Common.{ℕ, ◌≡◌, ◌+◌, ◌*◌, ◌/◌, ◌%◌, ◌==◌, ◌^◌, ◌<◌, Bool, true, false, List, [], ◌∷◌, Option, Some, refl, subst, arith, if◌then◌else◌}
+use Rattle.std.proofs.lemmas.Grind.{common_steps}
+use Rattle.std.proofs.Common.{ℕ, ◌≡◌, ◌/◌, ◌%◌, ◌==◌, ◌^◌, ◌<◌, Bool, true, List, [], ◌∷◌, Option, Some, refl, subst, arith, if◌then◌else◌}
 use Rattle.std.specs.Prelude.{IfSome}
 use Rattle.std.specs.List.{find}
 use Rattle.gnss_system.specs.declared.system.System.{System}
@@ -17,8 +18,7 @@ IsNumber (kinds.Msm form g) n = n ≡ message_number form g
 IsNumber kinds.Other n = Unit {0}
 
 row_is : (b : Bool) (n m : ℕ) (k j : Kind) → (n == m) ≡ b → IsNumber k m → IsNumber j n → IsNumber (if b then k else j) n
-row_is true n m k j e h t = let same : n ≡ m = grind (arith, e) in rw same h
-row_is false n m k j e h t = t
+row_is b n m k j e h t = grind (arith, common_steps)
 
 first_passes : {A : Type 0} (p : A → Bool) (x : A) (o : Option A) (b : Bool) → p x ≡ b → IfSome o (λ x. p x ≡ true) → IfSome (if b then Some x else o) (λ x. p x ≡ true)
 first_passes p x o b h k = grind arith
@@ -36,28 +36,5 @@ number_is n k e = subst (λ (k : Kind). IsNumber k n) e (row_is (n == 1005) n 10
 pub of_station : (has : Bool) → (kind_of (station_number has) ≡ kinds.Station has) × (station_number has < 2 ^ 12)
 of_station has = grind arith
 
-digit_known : (form : Form) → (form_of_digit (digit_of form) ≡ Some form) × (digit_of form < 10)
-digit_known form = grind arith
-
-tens_known : (g : System) → (system_of_tens (msm_tens g) ≡ Some g) × (100 < msm_tens g) × (msm_tens g < 400)
-tens_known g = grind arith
-
 pub of_msm : (form : Form) (g : System) → (kind_of (message_number form g) ≡ kinds.Msm form g) × (message_number form g < 2 ^ 12)
-of_msm form g =
-    let d = digit_known form in
-    let t = tens_known g in
-    let n = message_number form g in
-    let a : (n == 1005) ≡ false = other n 1005 (omega (arith, t.1)) in
-    let b : (n == 1006) ≡ false = other n 1006 (omega (arith, t.1)) in
-    let low : n % 10 ≡ digit_of form = low_ten (msm_tens g) (digit_of form) d.1 in
-    let high : n / 10 ≡ msm_tens g = shr_ten (msm_tens g) (digit_of form) d.1 in
-    (rw (a, b, low, high, d.0, t.0) refl, omega (arith, d.1, t.2))
-  where
-    other : (n m : ℕ) → m < n → (n == m) ≡ false
-    other n m h = grind (arith, h)
-
-    low_ten : (t d : ℕ) → d < 10 → (t * 10 + d) % 10 ≡ d
-    low_ten t d h = omega (arith, h)
-
-    shr_ten : (t d : ℕ) → d < 10 → (t * 10 + d) / 10 ≡ t
-    shr_ten t d h = omega (arith, h)
+of_msm form g = grind (arith, common_steps)

@@ -1,8 +1,7 @@
 -- Iteration over pairs: the first ID is removed from a set.
 use Rattle.std.proofs.Common.{ℕ, zero, suc, ◌≡◌, ◌≢◌, ◌+◌, ◌*◌, ◌-◌, ◌/◌, ◌%◌, ◌^◌, ◌<◌, ◌≤◌, Bool, true, false, List, [], ◌∷◌, ◌++◌, length, map, refl, sym, ap, ◌∙◌, subst, arith, count_ones, inl, inr, zero-add}
 use Rattle.std.specs.Int.Count.{count_leading_zeros}
-use Rattle.std.specs.Int.{bit_at}
-use Rattle.std.specs.Int.Bits.{bit_and, bit_xor, xor_add_and}
+use Rattle.std.specs.Int.Bits.{bit_xor, xor_add_and}
 use Rattle.std.proofs.lemmas.Nat.{leading_top, pow_pos}
 use Rattle.std.proofs.lemmas.Nat.Bits.{and_pow}
 use Rattle.std.proofs.lemmas.Bool.{cases_lt}
@@ -37,10 +36,7 @@ none_part m w h = div-eq_of_lt h
 
 -- The number without its top bit.
 pub without_top : (w m j : ℕ) → Top w m j → bit_xor m (2 ^ j) ≡ m - 2 ^ j
-without_top w m j top =
-    let one : bit_at m j ≡ 1 = ap (λ (n : ℕ). n % 2) (whole_part m j top.low top.high) in
-    let both : bit_and m (2 ^ j) ≡ 1 * 2 ^ j = and_pow m j ∙ ap (λ (n : ℕ). n * 2 ^ j) one in
-    omega (arith, xor_add_and m (2 ^ j), both)
+without_top w m j top = grind (arith, whole_part, and_pow, xor_add_and)
 
 up_split : (w i m j : ℕ) → j < w → 2 ^ j ≤ m → m < 2 ^ suc j → up_from i (uint w m) ≡ (i + (w - 1 - j)) ∷ up_from i (uint w (m - 2 ^ j))
 unfolding up_from uint
@@ -102,9 +98,7 @@ satellite_left k (suc m) left all h = omega arith
 
 -- If pairs are left and no signal was removed, a signal is left.
 pub signal_left : (k : ℕ) (xs : List ℕ) (g : ℕ) → 0 < length (pairs_from k xs (ids 32 g) (ids 32 g)) → 0 < g
-signal_left k xs zero h =
-    let none : pairs_from k xs (ids 32 0) (ids 32 0) ≡ [] = sym (all_pairs_from_is (ids 32 0) k xs) ∙ (ap (λ (gs : List ℕ). all_pairs_from gs k xs) (ids_none 32) ∙ all_pairs_from_none k xs) in
-    absurd (omega (arith, rw none at h))
+signal_left k xs zero h = grind (arith, all_pairs_from_is, ids_none, all_pairs_from_none)
 signal_left k xs (suc g) h = omega arith
 
 -- No signal of the first satellite is left.

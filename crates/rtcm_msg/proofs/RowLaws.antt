@@ -128,8 +128,7 @@ columns_row (w ∷ ws) ps bits {n} place i len h there =
     let room : place + n * w + n * total_width ws ≤ length bits = rw (two_more place n w (total_width ws)) h in
     let read = column_row w ps bits place (rw len (omega (arith, room))) in
     let here = read.2.row i (rw len there) in
-    ap (λ (r : Result (List ℕ × Cursor) MsgFault). get_or (numbers_in r) i 0) (first_read w ws ps bits n place len read)
-    ∙ (columns_row ws read.0.0 bits (place + n * w) i (read.2.len ∙ len) room there ∙ ap (row_at ws n bits (place + n * w) i) here)
+    grind (arith, first_read, (columns_row ws read.0.0 bits (place + n * w) i (read.2.len ∙ len) room there))
 
 columns_length : (ws ps : List ℕ) (bits : List Bool) (n place : ℕ) → length ps ≡ n → place + n * total_width ws ≤ length bits → length (numbers_in (columns_at ws ps (cursor_at bits place))) ≡ n
 unfolding columns_at

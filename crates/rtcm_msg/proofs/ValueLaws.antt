@@ -1,8 +1,8 @@
 -- Cells with a value are counted by signal.
-use Rattle.std.proofs.Common.{ℕ, zero, suc, ◌≡◌, ◌≢◌, ◌+◌, ◌-◌, ◌/◌, ◌%◌, ◌==◌, ◌&&◌, ◌||◌, ◌^◌, ◌<◌, ◌≤◌, Bool, true, false, List, [], ◌∷◌, length, get_or, set, map, drop, filter, drop-cons, replicate, refl, sym, ap, ◌∙◌, subst, arith, count_ones, inl, inr}
+use Rattle.std.proofs.Common.{ℕ, zero, suc, ◌≡◌, ◌≢◌, ◌+◌, ◌-◌, ◌/◌, ◌%◌, ◌==◌, ◌&&◌, ◌||◌, ◌^◌, ◌<◌, ◌≤◌, Bool, true, false, List, [], ◌∷◌, length, get_or, set, map, drop, filter, drop-cons, replicate, refl, sym, ap, ◌∙◌, subst, arith, count_ones}
 use Rattle.std.specs.Prelude.{cond}
 use Rattle.std.specs.List.{zip, flat_map, list_any}
-use Rattle.std.proofs.lemmas.Bool.{cases_eq, and_right}
+use Rattle.std.proofs.lemmas.Bool.{and_right}
 use Rattle.std.proofs.lemmas.List.Folds.{list_any-append}
 use Rattle.std.proofs.lemmas.Grind.{common_steps}
 use Rattle.rtcm_msg.specs.inner.Names.{uint, Entry, Pair, Pairs, CellsLeft, Form, MasksValue, MsmValue, ids, chosen, Rising, entries, pair, all_pairs, cell_pairs, pairs_from, pairs_left, cell_pairs_left, ArePairs, AreAll, HasFirst, IndicesAreBelow, entry_in, FormedMsm, formed, has_listed_value, value_count, has_id, entries_left, AreCells}
@@ -18,14 +18,12 @@ id_within w m n x e = let r : Rising 1 w (x ∷ ids w n) = subst (Rising 1 w) e 
 -- The first pair has a cell.
 pub cell_there : (s : MasksValue) {n l : ℕ} (p q : Pairs) {x : Pair} → n ≡ s.cells → pairs_left p ≡ x ∷ pairs_left q → length (pairs_left p) ≡ l → n / 2 ^ (l - 1) % 2 ≡ 1
     → cell_pairs_left l s p ≡ x ∷ cell_pairs_left (l - 1) s q
-cell_there s {n} {l} p q {x} is first count bit =
-    subst (λ (m : ℕ). chosen (uint l m) (pairs_left p) ≡ x ∷ chosen (uint (l - 1) m) (pairs_left q)) is (found l n (pairs_left p) (pairs_left q) x count first bit)
+cell_there s {n} {l} p q {x} is first count bit = grind (arith, found)
 
 -- The first pair has no cell.
 pub cell_none : (s : MasksValue) {n l : ℕ} (p q : Pairs) {x : Pair} → n ≡ s.cells → pairs_left p ≡ x ∷ pairs_left q → length (pairs_left p) ≡ l → n / 2 ^ (l - 1) % 2 ≢ 1
     → cell_pairs_left l s p ≡ cell_pairs_left (l - 1) s q
-cell_none s {n} {l} p q {x} is first count bit =
-    subst (λ (m : ℕ). chosen (uint l m) (pairs_left p) ≡ chosen (uint (l - 1) m) (pairs_left q)) is (passed l n (pairs_left p) (pairs_left q) x count first bit)
+cell_none s {n} {l} p q {x} is first count bit = grind (arith, passed)
 
 -- ---- the cells that are left
 
@@ -46,8 +44,7 @@ pub after_none : (v : FormedMsm) (c : CellsLeft) (q : Pairs) (x : Pair) → AreC
 after_none v c q x cells first in_range there = after_pair cells first in_range (omega (arith, cells.next, ap length there))
 
 row_index : (n k : ℕ) {xs gs : List ℕ} (all : List ℕ) {x y : ℕ} {ys hs : List ℕ} → xs ≡ x ∷ ys → gs ≡ y ∷ hs → IndicesAreBelow n (pairs_from k xs gs all) → k < n
-row_index n k {gs} all {x} {ys} e f h =
-    (subst (λ (l : List ℕ). IndicesAreBelow n (pairs_from k (x ∷ ys) l all)) f (subst (λ (l : List ℕ). IndicesAreBelow n (pairs_from k l gs all)) e h)).0
+row_index n k {xs} {gs} all {x} {y} {ys} {hs} e f h = grind arith
 
 -- The first satellite of the pairs that are left is one of the message's.
 pub first_below : (n m : ℕ) (p : Pairs) → HasFirst p → ArePairs p → IndicesAreBelow n (pairs_left p) → n ≡ m → p.index < m
@@ -92,16 +89,7 @@ count_first p e es = grind arith
 
 pub counted : (listed : ℕ) {sig : ℕ} (i : ℕ) (old : List ℕ) {e : Entry} {all left : List Entry} → all ≡ e ∷ left → e.signal ≡ sig → 1 ≤ sig → sig ≤ length old → has_listed_value listed e ≡ true
     → get_or old i 0 + value_count listed (i + 1) all ≡ get_or (set old (sig - 1) (get_or old (sig - 1) 0 + 1)) i 0 + value_count listed (i + 1) left
-counted listed {sig} i old {e} {left} is signal low high value = rw (is, count_first (λ e. has_listed_value listed e && (e.signal == i + 1)) e left, value, signal) (elim (cases_eq i (sig - 1)) [
-  | inl here ↦ rw here (here_case (value_count listed (sig - 1 + 1) left))
-  | inr other ↦ other_case other (value_count listed (i + 1) left)
-])
-  where
-    here_case : (n : ℕ) → get_or old (sig - 1) 0 + (cond (sig == sig - 1 + 1) 1 0 + n) ≡ get_or (set old (sig - 1) (get_or old (sig - 1) 0 + 1)) (sig - 1) 0 + n
-    here_case n = grind (arith, common_steps)
-
-    other_case : i ≢ sig - 1 → (n : ℕ) → get_or old i 0 + (cond (sig == i + 1) 1 0 + n) ≡ get_or (set old (sig - 1) (get_or old (sig - 1) 0 + 1)) i 0 + n
-    other_case other n = grind (arith, common_steps)
+counted listed {sig} i old {e} {all} {left} is signal low high value = grind (arith, common_steps, count_first)
 
 pub not_counted : (listed i : ℕ) (old : List ℕ) (e : Entry) (all left : List Entry) → all ≡ e ∷ left → has_listed_value listed e ≡ false
     → get_or old i 0 + value_count listed (i + 1) all ≡ get_or old i 0 + value_count listed (i + 1) left
@@ -137,8 +125,7 @@ none_of listed g form v (x ∷ xs) [] h = refl
 none_of listed g form v (x ∷ xs) (n ∷ cells) h =
     let here : (x.signal == g) ≡ false = grind (arith, common_steps) in
     let later : list_any (is_of g) xs ≡ false = grind (arith, common_steps) in
-    count_first (λ e. has_listed_value listed e && (e.signal == g)) (entry_in form v (x, n)) (map (entry_in form v) (zip xs cells))
-    ∙ rw (and_right (has_listed_value listed (entry_in form v (x, n))) ((entry_in form v (x, n)).signal == g) here, none_of listed g form v xs cells later) refl
+    grind (arith, count_first, and_right, (none_of listed g form v xs cells later))
 
 -- A signal that is not in the message has no cell.
 pub no_cells : (listed g : ℕ) (v : FormedMsm) → has_id g (ids 32 v.msm.sets.signals) ≡ false → value_count listed g (entries (formed v)) ≡ zero
@@ -148,10 +135,7 @@ no_cells listed g v h = rw (entries_are v _ refl) (none_of listed g v.form v.msm
 
 above : (x low high : ℕ) (xs : List ℕ) → x < low → Rising low high xs → has_id x xs ≡ false
 above x low high [] h r = refl
-above x low high (y ∷ ys) h r = let n : (y == x) ≡ false = later y r.0 in rw n (above x (y + 1) high ys (omega (arith, h, r.0)) r.2)
-  where
-    later : (y : ℕ) → low ≤ y → (y == x) ≡ false
-    later y l = grind (arith, h)
+above x low high (y ∷ ys) h r = grind (arith, (above x (y + 1) high ys (omega (arith, h, r.0)) r.2))
 
 -- The first ID is not among the others.
 pub id_once : (w m n x : ℕ) → ids w m ≡ x ∷ ids w n → has_id x (ids w n) ≡ false

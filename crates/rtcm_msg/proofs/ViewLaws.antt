@@ -4,7 +4,6 @@ use Rattle.gnss_system.specs.declared.system.System.{System}
 use Rattle.rtcm_msg.specs.inner.Names.{bits_of, Cursor, MsgFault, MsmHeader, Form, cursor_at, total_width, columns_at, EachBelow, MasksValue, IsHeader, AreMasks, IsValue, header_at, masks_at, msm_at, LastBits, AreLast, rows_at, row_at, end_of_rows, Data, satellite_widths, cell_widths, satellite_rows, cell_rows, message_in, formed_at, AreWithin, AreDataOf}
 use Rattle.rtcm_bits.specs.FrameOf.{longest_message}
 use Rattle.rtcm_bits.proofs.BitLaws.{length-bits_of}
-use Rattle.rtcm_msg.specs.declared.view.Data.TheVariants as datas
 use Rattle.rtcm_msg.proofs.ColumnSteps.{columns_fit}
 use Rattle.rtcm_msg.proofs.RowLaws.{Ends, rows_end, rows_count, end_is, row_is}
 
@@ -138,24 +137,14 @@ whole {form} {g} {bytes} {s} {n} {m} {p} {at} {end} head sizes first room second
 -- The bounds of the data, counted in bytes.
 pub are_within : {form : Form} (bytes : List ℕ) {n place m : ℕ} {b : LastBits} → length bytes ≤ longest_message → 64 ≤ place → place ≤ b.place → place + n * total_width (satellite_widths form) ≤ length (bits_of bytes) → b.place + m * total_width (cell_widths form) ≤ length (bits_of bytes)
     → b.count ≡ m → AreLast (cell_widths form) b → AreWithin form (length bytes) n place m b
-are_within bytes small after order first second count last = record {
-  small = small;
-  satellites_after = after;
-  cells_after = omega (arith, after, order);
-  satellites_there = rw (← length-bits_of bytes) first;
-  cells_there = rw (← length-bits_of bytes) second;
-  cell_count = count;
-  last = last;
-}
+are_within {form} bytes {n} {place} {m} {b} small after order first second count last = grind (arith, length-bits_of)
 
 -- The number of satellites and cells, in either form of the data.
 pub satellites_counted : (form : Form) (n m : ℕ) (d : Data) → AreDataOf form n m d → length (satellite_rows form n d) ≡ n
-satellites_counted form n m (datas.Bits bytes at b) h = rows_counted (satellite_widths form) bytes.now n at h.there.satellites_there
-satellites_counted form n m (datas.Packed s c) h = h.there.0
+satellites_counted form n m d h = grind (arith, rows_counted)
 
 pub cells_counted : (form : Form) (n m : ℕ) (d : Data) → AreDataOf form n m d → length (cell_rows form m d) ≡ m
-cells_counted form n m (datas.Bits bytes at b) h = rows_counted (cell_widths form) bytes.now m b.place h.there.cells_there
-cells_counted form n m (datas.Packed s c) h = h.there.1
+cells_counted form n m d h = grind (arith, rows_counted)
 
 -- The index is less than the number of rows.
 pub below : (i n : ℕ) (xs ys : List ℕ) → length xs ≡ n → xs ≡ ys → i < length ys → i < n

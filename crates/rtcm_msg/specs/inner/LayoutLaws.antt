@@ -1,6 +1,7 @@
 -- Contents and their numbers undo each other, field by field and packed in one number.
 use Rattle.std.proofs.Common.{ℕ, ◌≡◌, ◌+◌, ◌*◌, ◌/◌, ◌%◌, ◌^◌, ◌<◌, ◌==◌, ◌&&◌, Bool, true, false, [], ◌∷◌, refl, sym}
 use Rattle.std.proofs.Common.{◌∙◌, arith, lit<, ◌⊎◌, inl, inr, nat_lt, add_comm}
+use Rattle.std.proofs.lemmas.Bool.{and_parts}
 use Rattle.std.proofs.lemmas.Nat.{mod-pow-add, shr_high, pow-add, pow_pos, mod_below}
 use Rattle.std.proofs.Math.Nat.{add-mul-div_right, add-mul-mod_self_right, mod-eq_of_lt, mul_assoc}
 use Rattle.rtcm_bits.specs.Bits.{bit, FitsInt}
@@ -64,14 +65,6 @@ number_fits Flag true sign fits = lit< tt
 number_fits Flag false sign fits = lit< tt
 number_fits (Reserved w) n sign fits = fits
 
-pub sign_first : (a b : Bool) → (a && b) ≡ true → a ≡ true
-sign_first true b h = refl
-sign_first false b h = cc
-
-pub sign_others : (a b : Bool) → (a && b) ≡ true → b ≡ true
-sign_others true b h = h
-sign_others false b h = cc
-
 -- ---- the fields of a table
 
 abbrev pub FitAll : (t : Table) → Contents t → Type 0
@@ -87,8 +80,8 @@ pub packed_fits : (t : Table) (cs : Contents t) → have_signs t ≡ true → Fi
     → packed t cs < 2 ^ total_width (widths t)
 packed_fits [] cs signs fit = lit< tt
 packed_fits (f ∷ fs) cs signs fit =
-    let n = number_fits f.1 cs.0 (sign_first (has_sign f.1) (have_signs fs) signs) fit.0 in
-    let others = packed_fits fs cs.1 (sign_others (has_sign f.1) (have_signs fs) signs) fit.1 in
+    let n = number_fits f.1 cs.0 (and_parts (has_sign f.1) (have_signs fs) signs).0 fit.0 in
+    let others = packed_fits fs cs.1 (and_parts (has_sign f.1) (have_signs fs) signs).1 fit.1 in
     rw (pow-add 2 (width f.1) (total_width (widths fs)))
     (below_product (number_of f.1 cs.0) (2 ^ width f.1) (2 ^ total_width (widths fs)) (packed fs cs.1) n others)
 
@@ -112,8 +105,7 @@ unpacked_low (f ∷ fs) a r =
 pub unpacked-packed : (t : Table) (cs : Contents t) → have_signs t ≡ true → FitAll t cs → unpacked t (packed t cs) ≡ cs
 unpacked-packed [] cs signs fit = refl
 unpacked-packed (f ∷ fs) cs signs fit =
-    let sign = sign_first (has_sign f.1) (have_signs fs) signs in
-    let signs' = sign_others (has_sign f.1) (have_signs fs) signs in
+    let (sign, signs') = and_parts (has_sign f.1) (have_signs fs) signs in
     let n = number_of f.1 cs.0 in
     let top : (n * 2 ^ total_width (widths fs) + packed fs cs.1) / 2 ^ total_width (widths fs)
     ≡ n = shr_high n (total_width (widths fs)) (packed fs cs.1) (packed_fits fs cs.1 signs' fit.1) in
@@ -130,9 +122,9 @@ pub unpacked_fit : (t : Table) (p : ℕ) → have_signs t ≡ true → FitAll t 
 unpacked_fit [] p signs = tt
 unpacked_fit (f ∷ fs) p signs = (
   content_fits f.1 (p / 2 ^ total_width (widths fs) % 2 ^ width f.1)
-      (sign_first (has_sign f.1) (have_signs fs) signs)
+      (and_parts (has_sign f.1) (have_signs fs) signs).0
       (mod_below (p / 2 ^ total_width (widths fs)) (2 ^ width f.1) (pow_pos (width f.1))),
-  unpacked_fit fs p (sign_others (has_sign f.1) (have_signs fs) signs),
+  unpacked_fit fs p (and_parts (has_sign f.1) (have_signs fs) signs).1,
 )
 
 packed_mod : (t : Table) (p : ℕ) → have_signs t ≡ true → packed t (unpacked t p) ≡ p % 2 ^ total_width (widths t)
@@ -140,9 +132,9 @@ packed_mod [] p signs = omega arith
 packed_mod (f ∷ fs) p signs =
     let w = width f.1 in
     let u = total_width (widths fs) in
-    let one = number-content f.1 (p / 2 ^ u % 2 ^ w) (sign_first (has_sign f.1) (have_signs fs) signs)
+    let one = number-content f.1 (p / 2 ^ u % 2 ^ w) (and_parts (has_sign f.1) (have_signs fs) signs).0
     (mod_below (p / 2 ^ u) (2 ^ w) (pow_pos w)) in
-    rw (one, packed_mod fs p (sign_others (has_sign f.1) (have_signs fs) signs)) (sym (mod-pow-add p w u))
+    rw (one, packed_mod fs p (and_parts (has_sign f.1) (have_signs fs) signs).1) (sym (mod-pow-add p w u))
 
 pub packed-unpacked : (t : Table) (p : ℕ) → have_signs t ≡ true → p < 2 ^ total_width (widths t)
     → packed t (unpacked t p) ≡ p
