@@ -1,5 +1,5 @@
 -- The decision about a candidate.
-use Rattle.rtcm_scan.proofs.Names.{ℕ, ◌≡◌, ◌+◌, ◌*◌, ◌<◌, ◌≤◌, ◌↔◌, Bool, false, cond, List, [], ◌∷◌, ◌++◌, length, take, drop, get_or, slice_index, sym, ap, ◌∙◌, arith, ◌⊎◌, ⊎_elim, take-append-drop, append_assoc, ne_eqb, length-take-le, take_more, crc, message_length, frame_length, has_preamble, sent_check, Candidate, wanted_by, HasTaken, asked, decision, if_missing, Passed, Found, preamble}
+use Rattle.rtcm_scan.proofs.Names.{common_steps, ℕ, ◌≡◌, ◌+◌, ◌*◌, ◌<◌, ◌≤◌, ◌↔◌, Bool, List, [], ◌∷◌, ◌++◌, length, take, get_or, slice_index, arith, ◌⊎◌, take-append-drop, ne_eqb, length-take-le, take_more, crc, message_length, frame_length, sent_check, Candidate, wanted_by, HasTaken, asked, decision, if_missing, Passed, Found, preamble}
 use Rattle.rtcm_scan.proofs.FrameLemmas.{length_stays, preamble_stays}
 use Rattle.rtcm_scan.proofs.CandidateLemmas.{wanted_stays, wanted_bound}
 use Rattle.rtcm_scan.proofs.DecisionLemmas.{decision_without, decision_short, decision_found, decision_wrong}
@@ -16,30 +16,10 @@ pub wanted_cases : (s : List ℕ) → ((slice_index s 0 ≡ preamble) × (wanted
 wanted_cases s = grind arith
 
 wanted_take : (s : List ℕ) (k : ℕ) → k ≤ length s → k ≡ wanted_by s → wanted_by (take k s) ≡ wanted_by s
-wanted_take s k h e =
-    let t : take k s ++ drop k s ≡ s = take-append-drop k s in
-    let m : length (take k s) ≡ k = length-take-le k s h in
-    let b = wanted_bound s in
-    let p : has_preamble s ≡ has_preamble (take k s) = ap has_preamble (sym t) ∙ preamble_stays (take k s) (drop k s) (omega arith) in
-    ⊎_elim
-    (λ (c : (slice_index s 0 ≡ preamble) × (wanted_by s ≡ frame_length s)).
-    let f : message_length s ≡ message_length (take k s) = ap message_length (sym t) ∙ length_stays (take k s) (drop k s) (let d : wanted_by s ≡ frame_length s = c.1 in omega arith) in
-    ap (λ q. cond q (frame_length (take k s)) 1) (sym p) ∙ ap (λ n. cond (has_preamble s) (n + 6) 1) (sym f))
-    (λ (c : (slice_index s 0 ≡ preamble → ⊥) × (wanted_by s ≡ 1)).
-    let q : has_preamble s ≡ false = ne_eqb _ _ c.0 in
-    ap (λ q. cond q (frame_length (take k s)) 1) (sym p ∙ q) ∙ sym c.1)
-    (wanted_cases s)
+wanted_take s k h e = grind (arith, take-append-drop {A = ℕ}, length-take-le {A = ℕ}, wanted_bound, preamble_stays, length_stays, ne_eqb, wanted_cases)
 
 take_three : (s : List ℕ) (n : ℕ) → n + 6 ≤ length s → take (n + 6) s ≡ take (n + 3) s ++ get_or s (n + 3) 0 ∷ get_or s (n + 3 + 1) 0 ∷ get_or s (n + 3 + 2) 0 ∷ []
-take_three s n h =
-    let a : take (n + 3 + 1) s ≡ take (n + 3) s ++ get_or s (n + 3) 0 ∷ [] = take_more s (n + 3) 0 (omega arith) in
-    let b : take (n + 3 + 1 + 1) s ≡ take (n + 3 + 1) s ++ get_or s (n + 3 + 1) 0 ∷ [] = take_more s (n + 3 + 1) 0 (omega arith) in
-    let c : take (n + 3 + 2 + 1) s ≡ take (n + 3 + 2) s ++ get_or s (n + 3 + 2) 0 ∷ [] = take_more s (n + 3 + 2) 0 (omega arith) in
-    let d : n + 3 + 1 + 1 ≡ n + 3 + 2 = omega arith in
-    let e : n + 3 + 2 + 1 ≡ n + 6 = omega arith in
-    ap (λ q. take q s) (sym e) ∙ c ∙ ap (λ q. q ++ get_or s (n + 3 + 2) 0 ∷ []) (ap (λ q. take q s) (sym d) ∙ b ∙ ap (λ q. q ++ get_or s (n + 3 + 1) 0 ∷ []) a)
-    ∙ ap (λ q. q ++ get_or s (n + 3 + 2) 0 ∷ []) (append_assoc (take (n + 3) s) (get_or s (n + 3) 0 ∷ []) (get_or s (n + 3 + 1) 0 ∷ []))
-    ∙ append_assoc (take (n + 3) s) (get_or s (n + 3) 0 ∷ get_or s (n + 3 + 1) 0 ∷ []) (get_or s (n + 3 + 2) 0 ∷ [])
+take_three s n h = grind (arith, common_steps, take_more)
 
 -- the register of a whole candidate is 0 if its CRC is valid
 check_zero : Residue → (s : List ℕ) → AreBytes s → frame_length s ≤ length s → (crc (take (frame_length s) s) ≡ 0) ↔ (sent_check s (message_length s + 3) ≡ crc (take (message_length s + 3) s))
@@ -56,14 +36,7 @@ pub record IsWhole (c : Candidate) (s : List ℕ) : Type 0 where
   pub within : c.count ≤ length s
 
 pub whole : (c : Candidate) (s : List ℕ) → HasTaken c (take c.count s) → c.count ≡ asked s → (c.count < c.wanted → ⊥) → IsWhole c s
-whole c s t a h =
-    let m : length (take c.count s) ≡ c.count = length-take-le c.count s (omega arith) in
-    let w : c.wanted ≡ wanted_by (take c.count s) = t.wanted in
-    let i : length (take c.count s) ≤ wanted_by (take c.count s) = t.within in
-    let x : wanted_by (take c.count s) ≡ length (take c.count s) = omega arith in
-    let y : wanted_by (take c.count s ++ drop c.count s) ≡ wanted_by (take c.count s) = wanted_stays (take c.count s) (drop c.count s) x in
-    let z : wanted_by s ≡ wanted_by (take c.count s) = ap wanted_by (sym (take-append-drop c.count s)) ∙ y in
-    record { taken = t; count = omega arith; wanted = omega arith; within = omega arith }
+whole c s t a h = grind (arith, length-take-le {A = ℕ}, wanted_stays, take-append-drop {A = ℕ})
 
 pub judge_found : Residue → {c : Candidate} (e : Bool) (s : List ℕ) → AreBytes s → IsWhole c s → 1 < c.wanted → c.register ≡ 0 → Found c.count ≡ decision e s
 judge_found law {c} e s b w g r = grind (arith, decision_found, check_zero)

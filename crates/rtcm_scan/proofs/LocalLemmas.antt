@@ -1,5 +1,5 @@
 -- Damage stays local.
-use Rattle.rtcm_scan.proofs.Names.{ℕ, ◌≡◌, ◌+◌, ◌-◌, ◌/◌, ◌%◌, ◌<◌, ◌≤◌, true, List, [], ◌∷◌, ◌++◌, length, take, drop, get_or, refl, sym, ap, ◌∙◌, arith, suc, zero, ⊎_elim, subst, eq-eqb, append_assoc, length-append, take-add, All, Contains, flat_map, cases_lt, and_from, le-leb, append-nil, take_at, drop_at, length-drop, drop_all, get_or-drop, take-append-drop, drop_more, All-head, All-tail, All-drop, Contains-append_right, flat_map-append, crc, frame_bytes, frame_header, three_bytes, begins_frame, message_length, frame_length, sent_check, framed_message, Framed, IsFrameOf, frame_end, frames_from, frames_of, stream_after, frame_place, HasNoOtherFrame, StaysLocal, placed, Scanned, longest_frame, longest_message, most_undecided}
+use Rattle.rtcm_scan.proofs.Names.{common_steps, ℕ, ◌≡◌, ◌+◌, ◌-◌, ◌/◌, ◌%◌, ◌<◌, ◌≤◌, true, List, [], ◌∷◌, ◌++◌, length, take, drop, get_or, refl, sym, ap, ◌∙◌, arith, suc, zero, ⊎_elim, subst, eq-eqb, append_assoc, length-append, take-add, All, Contains, flat_map, cases_lt, and_from, le-leb, append-nil, take_at, drop_at, length-drop, drop_all, get_or-drop, take-append-drop, drop_more, All-head, All-tail, All-drop, Contains-append_right, flat_map-append, crc, frame_bytes, frame_header, three_bytes, begins_frame, message_length, frame_length, sent_check, framed_message, Framed, IsFrameOf, frame_end, frames_from, frames_of, stream_after, frame_place, HasNoOtherFrame, StaysLocal, placed, Scanned, longest_frame, longest_message, most_undecided}
 use Rattle.rtcm_scan.proofs.ScanLemmas.{scanned_frames, scanned_all}
 use Rattle.rtcm_scan.proofs.FrameLemmas.{length-message}
 use Rattle.rtcm_scan.proofs.DecisionLemmas.{frame_length_bound}
@@ -76,8 +76,7 @@ ends b = let d : drop (length b) b ≡ [] = drop_all (length b) b (omega arith) 
 
 -- the scan of all bytes from a place on is unique
 scanned_one : (b : List ℕ) (x : ℕ) (fs gs : List Framed) → Scanned true b x (length b) fs → Scanned true b x (length b) gs → fs ≡ gs
-scanned_one b x fs gs s t =
-    sym (append-nil fs) ∙ ap (λ r. fs ++ r) (sym (ends b)) ∙ sym (scanned_frames true b x (length b) fs (omega arith) s) ∙ scanned_frames true b x (length b) gs (omega arith) t ∙ ap (λ r. gs ++ r) (ends b) ∙ append-nil gs
+scanned_one b x fs gs s t = grind (arith, common_steps, ends, scanned_frames)
 
 -- the frame of each message is in the list
 list_contains : (p i : ℕ) (ms : List (List ℕ)) → i < length ms → Contains (placed p ms) (record { offset = p + length (flat_map frame_bytes (take i ms)); message = get_or ms i [] })

@@ -30,6 +30,7 @@ pub use Rattle.std.proofs.Common.{Bool, List, Option, [], add-one, add-zero, ap,
 pub use Rattle.std.proofs.KnownBytes.{Consumes-nil, Consumes-trans}
 pub use Rattle.std.proofs.Math.Seq.{take-add, take-append-add}
 pub use Rattle.std.proofs.lemmas.Bool.{and_cases, and_from, and_left, and_right, cases_Bool, cases_eq, cases_lt, eq-eqb, le-leb, le-ltb, lt-leb, lt-ltb, ltb-false, ne_eqb, or_left, or_right, true≢false}
+pub use Rattle.std.proofs.lemmas.Grind.{common_steps}
 pub use Rattle.std.proofs.lemmas.List.{append-nil, append_assoc, drop-append-le, drop-drop, drop_all, drop_at, drop_more, get_or-drop, get_or-set_other, get_or-set_same, get_or_append_left, get_or_push, length-drop, length-take-le, length_push, map-append, nil_from_length, take-append-drop, take-append-le, take_at, take_more, take_rest}
 pub use Rattle.std.proofs.lemmas.List.Concat.{flat_map-append}
 pub use Rattle.std.proofs.lemmas.List.Elements.{All-cons, All-contains, All-drop, All-head, All-nil, All-tail, All-weaker, Contains-append_right, filter-append}

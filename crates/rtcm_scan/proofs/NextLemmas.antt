@@ -2,7 +2,7 @@
 use Rattle.rtcm_scan.proofs.Names.{ℕ, ◌≡◌, ◌+◌, ◌-◌, ◌<◌, ◌≤◌, true, false, List, [], ◌∷◌, ◌++◌, length, refl, sym, ap, ◌∙◌, arith, subst, length-drop, nil_from_length, begins_frame, is_open, frame_length, framed_message, Framed, looked_through, without_front, FramerValue, HasFramed, first_held, IsPassed, window_of, with_window, asked, with_candidate_examined, passed, HasExamined, IsCountedTo, message_length, IsDrained}
 use Rattle.rtcm_bits.proofs.WindowLaws.{looked_bytes}
 use Rattle.rtcm_scan.proofs.StepLemmas.{step_examined, step_give_up, step_take}
-use Rattle.rtcm_scan.proofs.KnownLemmas.{AreKnownCounts, counted_empty, counted_open, counted_frame}
+use Rattle.rtcm_scan.proofs.KnownLemmas.{counted_empty, counted_open, counted_frame}
 use Rattle.rtcm_scan.proofs.FrameLemmas.{length-message, begins_parts}
 use Rattle.rtcm_scan.proofs.DecidedLemmas.{none_past}
 use Rattle.rtcm_scan.proofs.HistoryLemmas.{history_ready}
@@ -59,19 +59,10 @@ counts_found {w} {b} {fs} v g z h y t x =
 
 -- marked as drained
 finish : (d w : FramerValue) (b : List ℕ) (fs : List Framed) → w ≡ record d { is_ready = true } → HasExamined d b fs → IsDrained d b fs → HasExamined w b fs × IsDrained w b fs
-finish d w b fs f x r = rw f (
-  record { history = history_ready d b fs true x.history; limit = x.limit; within = x.within; each = x.each; tried = x.tried; counts = x.counts },
-  record { frames = r.frames; held = r.held; skipped = r.skipped; examined = r.examined; most = r.most },
-)
+finish d w b fs f x r = grind (arith, history_ready)
 
 pub finish_empty : {v d w : FramerValue} {b : List ℕ} {fs : List Framed} → d ≡ v → w ≡ record d { is_ready = true } → length v.held ≡ 0 → HasExamined v b fs → HasExamined w b fs × IsDrained w b fs
-finish_empty {v} {d} {w} {b} {fs} e f h x =
-    let x' : HasExamined d b fs = rw e x in
-    let l : length d.held ≡ 0 = ap (λ (y : FramerValue). length y.held) e ∙ h in
-    finish d w b fs f x' (drained_empty d b fs l x'.history (counted_empty d b fs l x'))
-  where
-    drained_empty : (d : FramerValue) (b : List ℕ) (fs : List Framed) → length d.held ≡ 0 → HasFramed d b fs → AreKnownCounts d b → IsDrained d b fs
-    drained_empty d b fs l s n = grind (arith, nil_from_length, drained_ended, drained_waiting)
+finish_empty {v} {d} {w} {b} {fs} e f h x = grind (arith, finish, counted_empty, nil_from_length, drained_ended, drained_waiting)
 
 pub finish_open : {v u d w : FramerValue} {b : List ℕ} {fs : List Framed} → u ≡ with_candidate_examined v → d ≡ u → w ≡ record d { is_ready = true } → v.has_ended ≡ false → 0 < length v.held → is_open v.held ≡ true → v.tried ≤ asked v.held
     → HasExamined v b fs → HasExamined w b fs × IsDrained w b fs

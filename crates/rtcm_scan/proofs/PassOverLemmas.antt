@@ -1,5 +1,5 @@
 -- Bytes that begin no frame are dropped together, as if one by one.
-use Rattle.rtcm_scan.proofs.Names.{ℕ, ◌≡◌, ◌≢◌, ◌+◌, ◌-◌, ◌<◌, ◌≤◌, min, Bool, false, List, [], ◌∷◌, length, take, drop, get_or, refl, sym, ap, ◌∙◌, arith, suc, zero, slice_index, subst, drop-drop, length-drop, get_or-drop, ne_eqb, WindowValue, looked_through, without_front, has_preamble, Candidate, HasTaken, Framed, FramerValue, IsPassed, scan_of, window_of, with_window, with_looks, with_candidate_examined, passed, HasExamined, preamble}
+use Rattle.rtcm_scan.proofs.Names.{common_steps, ℕ, ◌≡◌, ◌≢◌, ◌+◌, ◌-◌, ◌<◌, ◌≤◌, min, Bool, false, List, [], ◌∷◌, length, take, drop, refl, sym, ap, ◌∙◌, arith, suc, zero, slice_index, subst, drop-drop, length-drop, get_or-drop, ne_eqb, WindowValue, looked_through, without_front, has_preamble, Candidate, HasTaken, Framed, FramerValue, IsPassed, scan_of, window_of, with_window, with_looks, with_candidate_examined, passed, HasExamined, preamble}
 use Rattle.rtcm_scan.proofs.FrameLemmas.{none_without}
 use Rattle.rtcm_scan.proofs.CandidateLemmas.{taken_more}
 use Rattle.rtcm_scan.proofs.NextLemmas.{counts_passed}
@@ -87,8 +87,4 @@ passed_on {v} {limit} {skipped} {n} {w} {u} {ended} {ready} place k e h g f l o 
 -- a candidate that has read the preamble after them
 pub taken_preamble : {c : Candidate} {w' : WindowValue} {n : ℕ} (w : WindowValue) (m : ℕ) → w' ≡ without_front (looked_through w 0 m) n → n < length w.bytes → slice_index w.bytes n ≡ preamble → c.count ≡ 1
     → HasTaken c (preamble ∷ []) → HasTaken c (take c.count w'.bytes)
-taken_preamble {c} {w'} {n} w m f l e k t =
-    let b : w'.bytes ≡ drop n w.bytes = ap (λ (y : WindowValue). y.bytes) f ∙ ap (drop n) (looked_bytes w 0 m) in
-    let z : n + 0 ≡ n = omega arith in
-    let x : preamble ≡ get_or w'.bytes 0 0 = sym (ap (λ (s : List ℕ). get_or s 0 0) b ∙ get_or-drop n w.bytes 0 0 ∙ ap (λ (i : ℕ). get_or w.bytes i 0) z ∙ e) in
-    taken_more c w'.bytes 0 preamble t k (omega (arith, looked_left w w' 0 n m f, l)) x
+taken_preamble {c} {w'} {n} w m f l e k t = grind (arith, common_steps, looked_bytes, get_or-drop, taken_more, looked_left)

@@ -1,5 +1,5 @@
 -- Frames that are passed to a sink, piece by piece.
-use Rattle.rtcm_scan.proofs.Names.{◌≡◌, ℕ, ◌+◌, ◌-◌, ◌<◌, ◌≤◌, Bool, true, false, List, [], ◌∷◌, ◌++◌, ◌∙◌, ap, sym, refl, arith, length, take, drop, append_assoc, append-nil, subst, take-append-drop, length-drop, slice_range, length-take, ⊎_elim, cases_lt, take-add, IsPrefix, Framed, frames_of, known_frames, FramerValue, with_bytes, AcceptsBytes, HasExamined, Coming, Breaking, HasPassed, HasPassedAll, PassesPushed, BreaksKnown, Passes, Breaks, Continues, IsSameStream, prefix_self, prefix_trans}
+use Rattle.rtcm_scan.proofs.Names.{common_steps, ◌≡◌, ℕ, ◌+◌, ◌<◌, ◌≤◌, Bool, true, false, List, [], ◌∷◌, ◌++◌, ◌∙◌, ap, sym, refl, arith, length, take, drop, append_assoc, append-nil, subst, take-append-drop, length-drop, slice_range, length-take, take-add, IsPrefix, Framed, frames_of, known_frames, FramerValue, with_bytes, AcceptsBytes, HasExamined, Coming, Breaking, HasPassed, HasPassedAll, PassesPushed, BreaksKnown, Passes, Breaks, Continues, IsSameStream, prefix_self, prefix_trans}
 use Rattle.std.specs.Prelude.{Result, Ok, Err, OnErr, MatchResult}
 use Rattle.std.specs.Result.{IsErrAnd}
 use Rattle.rtcm_scan.proofs.PrefixLemmas.{stays_decided}
@@ -18,14 +18,11 @@ known_later true b (x ∷ t) h = absurd (omega (arith, h refl))
 known_later false b t h = (stays_decided b t).0
 
 pub take_block : (b piece : List ℕ) (n m : ℕ) → (b ++ take n piece) ++ slice_range piece n (n + m) ≡ b ++ take (n + m) piece
-take_block b piece n m =
-    let size : n + m - n ≡ m = omega arith in
-    append_assoc b (take n piece) (slice_range piece n (n + m)) ∙ ap (λ (q : ℕ). b ++ (take n piece ++ take q (drop n piece))) size ∙ ap (λ (l : List ℕ). b ++ l) (sym (take-add n m piece))
+take_block b piece n m = grind (arith, common_steps, take-add {A = ℕ})
 
 -- if there is no room, the limit is reached
 pub at_limit : (taken limit room : ℕ) → (taken < limit → 0 < room) → room ≡ 0 → taken + room ≤ limit → taken ≡ limit
-at_limit taken limit room some none within =
-    ⊎_elim (λ (h : taken < limit). absurd (let k : 0 < room = some h in omega (arith, k, none))) (λ (h : limit ≤ taken). omega (arith, h, none, within)) (cases_lt taken limit)
+at_limit taken limit room some none within = grind arith
 
 -- a prefix of the frames that are known with the first n bytes of a piece is a prefix of those known with the whole
 -- piece

@@ -12,8 +12,7 @@ pub reading_more : {S : Type 0} {can : S → Type 0} {s s' : S} {v v' v2 : Frame
 reading_more i c j e = record { can = c; limit = j.limit ∙ i.limit; ended = j.ended ∙ i.ended; some = λ h. j.some (i.some h); size = e ∙ i.size }
 
 limit_after : (limit taken w : ℕ) (front piece : List ℕ) → w ≡ taken + length front → w ≤ limit → front ++ take (limit - w) piece ≡ take (limit - taken) (front ++ piece)
-limit_after limit taken w front piece e le =
-    let z : limit - taken ≡ length front + (limit - w) = omega (arith, e, le) in sym (ap (λ (m : ℕ). take m (front ++ piece)) z ∙ take-append-add front piece (limit - w))
+limit_after limit taken w front piece e le = grind (arith, take-append-add {A = ℕ})
 
 -- a piece that fits into the buffer beside the held bytes
 near_held : (v : FramerValue) (b : List ℕ) (n most : ℕ) → v.has_ended ≡ false → IsDrained v b (known_frames v.has_ended b) → length v.held + n ≤ max most (length v.held + 1)

@@ -1,5 +1,5 @@
 -- The counts of a framer, step by step.
-use Rattle.rtcm_scan.proofs.Names.{ℕ, ◌≡◌, ◌+◌, ◌-◌, ◌*◌, ◌<◌, ◌≤◌, min, max, Bool, true, false, not, List, [], ◌∷◌, ◌++◌, length, map, drop, set, get_or, refl, sym, ap, ◌∙◌, arith, suc, zero, subst, length-set, length-append, length-drop, filter, list_any, get_or-set_same, map-append, filter-append, WindowValue, looked, looked_through, without_front, begins_frame, message_length, frame_length, framed_message, Framed, IsFrameOf, frame_end, places, is_inside, cost, FramerValue, HasFramed, first_held, IsPassed, Scanned, window_of, with_byte, with_window, with_looks, asked, with_candidate_examined, Span, span, covers, looks_at, all_looks, tried_before, spans_at, CountsLooks, HasExamined, longest_frame, most_looks, most_bytes}
+use Rattle.rtcm_scan.proofs.Names.{common_steps, ℕ, ◌≡◌, ◌+◌, ◌-◌, ◌*◌, ◌<◌, ◌≤◌, min, max, Bool, true, false, not, List, [], ◌∷◌, ◌++◌, length, map, drop, set, get_or, refl, sym, ap, ◌∙◌, arith, suc, zero, subst, length-set, length-append, length-drop, filter, list_any, get_or-set_same, map-append, filter-append, WindowValue, looked, looked_through, without_front, begins_frame, message_length, frame_length, framed_message, Framed, IsFrameOf, frame_end, places, is_inside, cost, FramerValue, HasFramed, first_held, IsPassed, Scanned, window_of, with_byte, with_window, with_looks, asked, with_candidate_examined, Span, span, covers, looks_at, all_looks, tried_before, spans_at, CountsLooks, HasExamined, longest_frame, most_looks, most_bytes}
 use Rattle.std.specs.List.{AllByRecursion as ByRecursion}
 use Rattle.rtcm_bits.proofs.WindowLaws.{looked_bytes, looked_length}
 use Rattle.rtcm_scan.proofs.LooksLemmas.{one_if, looks_push, all_push, counts_look, counts_push, none_cover, greatest_same}
@@ -17,11 +17,7 @@ covers_more : (i p k n : ℕ) → k ≤ n → one_if (covers i (span p k)) ≤ o
 covers_more i p k n h = grind arith
 
 looks_more : (xs : List Span) (q k n i : ℕ) → k ≤ n → looks_at (xs ++ span q k ∷ []) i ≤ looks_at (xs ++ span q n ∷ []) i
-looks_more xs q k n i h =
-    join _ _ _ _ _ (looks_push xs (span q k) i) (looks_push xs (span q n) i) (covers_more i q k n h)
-  where
-    join : (u v x c d : ℕ) → u ≡ x + c → v ≡ x + d → c ≤ d → u ≤ v
-    join u v x c d e f g = omega arith
+looks_more xs q k n i h = grind (arith, common_steps, looks_push, covers_more)
 
 -- the counts fit their types
 record Fit (xs : List Span) : Type 0 where

@@ -1,5 +1,4 @@
-use Rattle.std.proofs.lemmas.Grind.{common_steps}
-use Rattle.rtcm_scan.proofs.Names.{arith}
+use Rattle.rtcm_scan.proofs.Names.{common_steps, arith}
 use Rattle.rtcm_scan.proofs.framer.Framer.read_piece.Goals as goal
 
 pub returns-clause-piece : goal.returns-clause-piece
