@@ -28,10 +28,6 @@ returns-in-Err-feed-clause-fault g c =
     (limit_more g.S.FrameSink.took g.S.FrameSink.broke _ i.same i.came c.in-Ok.ensures.piece c.feed.ensures.same)
     (breaks_more g.S.FrameSink.took g.S.FrameSink.broke (c.requires.going, c.read_piece.ensures.size) i.same i.came c.in-Ok.ensures.piece c.feed.ensures.same) c.in-Err-feed.ensures.fault
 
-pub returns-then-n-eq0-clause-whole : goal.returns-then-n-eq0-clause-whole
-returns-then-n-eq0-clause-whole g c =
-    reads_more g.S.FrameSink.took g.S.FrameSink.broke _ _ _ c.loop-n.invariant.came (take c.in-Ok.n c.read_piece.new.buffer, c.in-Ok.ensures.piece.consumes, (c.in_default.ensures.whole, c.in_default.ensures.taken))
-
 pub loop-n-preserved : goal.loop-n-preserved
 loop-n-preserved g c =
     let i = c.loop-n.invariant in

@@ -4,28 +4,10 @@ use Rattle.rtcm_scan.proofs.Names.{◌≡◌, ◌+◌, ◌∙◌, ap, sym, subst
 use Rattle.rtcm_scan.proofs.PassingLemmas.{at_limit, continues_same, continues_block, part_drained, part_pushed, part_breaks}
 use Rattle.rtcm_scan.proofs.framer.Framer.take_piece.Goals as goal
 
-pub loop-self-init : goal.loop-self-init
-loop-self-init g c = record {
-  passes = λ s o ps b x. (let fs = known_frames c.args.self.now.has_ended b in (
-    fs,
-    prefix_self fs,
-    subst (λ (l : List ℕ). HasPassed g.S.FrameSink.took c.args.self.now s o ps c.args.sink.now c.args.out.now l fs) (sym (append-nil b)) x.passed,
-    λ _. subst (HasPassedAll g.S.FrameSink.took c.args.self.now s o ps c.args.sink.now c.args.out.now) (sym (append-nil b)) x,
-  ));
-  can = c.requires.can;
-  bound = omega arith;
-  taken = omega arith;
-  same = record { least = omega arith; most = omega arith; within = omega (arith, c.taken.ensures.value, c.taken.ensures.within); limit = refl; ended = refl; some = λ h. h };
-}
-
 pub returns-in_err-drain_into-clause-part : goal.returns-in_err-drain_into-clause-part
 returns-in_err-drain_into-clause-part g c =
     let i = c.loop-self.invariant in
     on_failure c.from_residual.result _ (part_breaks g.S.FrameSink.took g.S.FrameSink.broke c.args.piece.now c.loop-self.taken c.requires.going i.same.ended i.passes c.in_err-drain_into.ensures.part)
-
-pub returns-in_err-drain_into-clause-same : goal.returns-in_err-drain_into-clause-same
-returns-in_err-drain_into-clause-same g c =
-    continues_same c.loop-self.invariant.same c.loop-self.invariant.bound c.drain_into.ensures.ended c.drain_into.ensures.same
 
 pub returns-then-next-taken-clause-whole : goal.returns-then-next-taken-clause-whole
 returns-then-next-taken-clause-whole g c =
@@ -39,10 +21,6 @@ returns-then-next-taken-clause-whole g c =
           at_limit _ _ c.room.result (c.room.ensures.some d.ready) none c.room.ensures.within ∙ c.drain_into.ensures.same.limit ∙ i.same.limit);
       ready = d.ready;
     }
-
-pub returns-then-next-taken-clause-same : goal.returns-then-next-taken-clause-same
-returns-then-next-taken-clause-same g c =
-    continues_same c.loop-self.invariant.same c.loop-self.invariant.bound c.drain_into.ensures.ended c.drain_into.ensures.same
 
 pub loop-self-preserved : goal.loop-self-preserved
 loop-self-preserved g c =
