@@ -1,5 +1,5 @@
 -- The decided part of a stream.
-use Rattle.rtcm_scan.proofs.Names.{ℕ, ◌≡◌, ◌+◌, ◌-◌, ◌<◌, ◌≤◌, Bool, true, false, not, cond, ◌&&◌, ◌||◌, ltb, List, [], ◌∷◌, ◌++◌, length, drop, get_or, refl, ap, ◌∙◌, arith, suc, zero, ◌⊎◌, ⊎_elim, inl, inr, filter, list_any, cases_lt, cases_eq, lt-ltb, le-ltb, and_from, and_left, and_right, or_left, or_right, length_push, append-nil, get_or_push, get_or_append_left, prefix_len_is, list_any-append, filter-append, begins_frame, is_open, frame_length, framed_message, Framed, frame_end, frames_from, frames_of, places, is_inside, is_tried, decided, frames_before, decided_frames, Scanned}
+use Rattle.rtcm_scan.proofs.Names.{ℕ, ◌≡◌, ◌+◌, ◌-◌, ◌<◌, ◌≤◌, Bool, true, false, not, ◌&&◌, ◌||◌, ltb, List, [], ◌∷◌, ◌++◌, length, drop, get_or, refl, ap, ◌∙◌, arith, suc, zero, ◌⊎◌, ⊎_elim, inl, inr, filter, list_any, cases_lt, cases_eq, lt-ltb, le-ltb, and_from, and_left, and_right, or_left, or_right, length_push, append-nil, get_or_push, get_or_append_left, prefix_len_is, list_any-append, filter-append, is_open, frame_length, framed_message, Framed, frame_end, frames_from, frames_of, places, is_inside, is_tried, decided, frames_before, decided_frames, Scanned}
 use Rattle.rtcm_scan.proofs.FrameLemmas.{begins_parts, closed_whole}
 use Rattle.rtcm_scan.proofs.ScanLemmas.{scanned_le, scanned_frames}
 
@@ -50,10 +50,7 @@ frames_later t p zero (x ∷ s) h =
     let f : Framed = record { offset = p; message = framed_message (x ∷ s) } in
     let r : List Framed = frames_from (p + 1) (frame_length (x ∷ s) - 1) s in
     let later : (k : ℕ) → _ = λ k. frames_later t (p + 1) k s (λ f l. h f (omega (arith, l))) in
-    elim (begins_frame (x ∷ s)) as (λ v. (list_any t (cond v (f ∷ r) (frames_from (p + 1) 0 s)) ≡ false) × (filter t (cond v (f ∷ r) (frames_from (p + 1) 0 s)) ≡ [])) [
-      | true ↦ rw (h f (omega arith)) (later (frame_length (x ∷ s) - 1))
-      | false ↦ later 0
-    ]
+    grind arith
 
 pub none_later : (to p k : ℕ) (s : List ℕ) → to ≤ p → list_any (is_inside to) (frames_from p k s) ≡ false
 none_later to p k s h = (frames_later (is_inside to) p k s (λ f l. and_left _ _ (le-ltb f.offset to (omega (arith, h, l))))).0

@@ -5,7 +5,6 @@ use Rattle.rtcm_scan.proofs.StepLemmas.{step_examined, step_give_up, step_take}
 use Rattle.rtcm_scan.proofs.KnownLemmas.{counted_empty, counted_open, counted_frame}
 use Rattle.rtcm_scan.proofs.FrameLemmas.{length-message, begins_parts}
 use Rattle.rtcm_scan.proofs.DecidedLemmas.{none_past}
-use Rattle.rtcm_scan.proofs.HistoryLemmas.{history_ready}
 use Rattle.rtcm_scan.proofs.DrainedLemmas.{drained_ended, drained_waiting}
 
 -- the state after take_frame
@@ -57,12 +56,8 @@ counts_found {w} {b} {fs} v g z h y t x =
     let tr : w.tried ≡ 0 = ap (λ (y : FramerValue). y.tried) (sym k) in
     rw y (r', counted_frame w b fs (found v) i tr (none_past v.has_ended b 0 (first_held v) fs s.scanned) r')
 
--- marked as drained
-finish : (d w : FramerValue) (b : List ℕ) (fs : List Framed) → w ≡ record d { is_ready = true } → HasExamined d b fs → IsDrained d b fs → HasExamined w b fs × IsDrained w b fs
-finish d w b fs f x r = grind (arith, history_ready)
-
 pub finish_empty : {v d w : FramerValue} {b : List ℕ} {fs : List Framed} → d ≡ v → w ≡ record d { is_ready = true } → length v.held ≡ 0 → HasExamined v b fs → HasExamined w b fs × IsDrained w b fs
-finish_empty {v} {d} {w} {b} {fs} e f h x = grind (arith, finish, counted_empty, nil_from_length, drained_ended, drained_waiting)
+finish_empty {v} {d} {w} {b} {fs} e f h x = grind (arith, counted_empty, nil_from_length, drained_ended, drained_waiting)
 
 pub finish_open : {v u d w : FramerValue} {b : List ℕ} {fs : List Framed} → u ≡ with_candidate_examined v → d ≡ u → w ≡ record d { is_ready = true } → v.has_ended ≡ false → 0 < length v.held → is_open v.held ≡ true → v.tried ≤ asked v.held
     → HasExamined v b fs → HasExamined w b fs × IsDrained w b fs

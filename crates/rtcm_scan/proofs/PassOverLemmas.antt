@@ -38,8 +38,7 @@ over_counts v zero b fs e l o s = rw (none_over v e) s
 over_counts v (suc n) b fs e l o s =
     let h : has_preamble v.held ≡ false = ne_eqb (slice_index v.held 0) preamble (o 0 (omega arith)) in
     let k : 0 < length v.held = omega (arith, l) in
-    rw (one_more v n e h k) (over_counts (passed (with_candidate_examined v)) n b fs refl (omega (arith, l, length-drop 1 v.held))
-    (λ i j q. o (1 + i) (omega (arith, j)) (sym (get_or-drop 1 v.held i 0) ∙ q)) (counts_passed v refl refl k (all_passed v.held v.has_ended h) (omega (arith, e)) s))
+    grind (arith, one_more, length-drop {A = ℕ}, get_or-drop, counts_passed, all_passed, (over_counts (passed (with_candidate_examined v)) n b fs refl (omega (arith, l, length-drop 1 v.held)) (λ i j q. o (1 + i) (omega (arith, j)) (sym (get_or-drop 1 v.held i 0) ∙ q)) (counts_passed v refl refl k (all_passed v.held v.has_ended h) (omega (arith, e)) s)))
 
 -- a framer that passed over n bytes, and whose next candidate was examined up to k bytes
 abbrev pub passed_to : FramerValue → ℕ → ℕ → FramerValue
@@ -59,8 +58,7 @@ view_over {v} {skipped} {n} {w} place e h =
     let k : skipped ≡ v.skipped = ap (λ (x : FramerValue). x.skipped) e in
     let x : w ≡ window_of v = ap window_of e in
     let d = view_dropped place (looked_through w 0 n) e (looked_bytes w 0 n) refl h in
-    ap (λ (y : FramerValue). let r : FramerValue = record y { skipped = skipped + n } in r) d
-    ∙ ap (λ (q : ℕ). with_given_up v (without_front (looked_through w 0 n) n) (q + n)) k ∙ ap (λ (y : WindowValue). with_given_up v (without_front (looked_through y 0 n) n) (v.skipped + n)) x
+    grind arith
 
 pub view_passed : {v : FramerValue} {limit skipped tried n : ℕ} {w w' : WindowValue} {ended ready : Bool} (place k : ℕ) → scan_of limit place w ended ready skipped tried ≡ v → w' ≡ without_front (looked_through w 0 (n + k)) n
     → n ≤ length w.bytes → scan_of limit (place + n) w' ended ready (skipped + n) k ≡ passed_to v n k

@@ -1,5 +1,5 @@
 -- Decided frames stay decided when bytes follow.
-use Rattle.rtcm_scan.proofs.Names.{ℕ, ◌≡◌, ◌+◌, ◌-◌, ◌*◌, ◌<◌, ◌≤◌, Bool, true, false, List, [], ◌∷◌, ◌++◌, length, drop, refl, sym, ap, ◌∙◌, arith, suc, zero, ⊎_elim, length-append, cases_Bool, cases_lt, begins_frame, is_open, Framed, IsFrameOf, frame_end, frames_of, frames_from, framed_at, decided, decided_frames, frames_before, IsPrefix, known_frames, AllPassed, Scanned, length-drop, longest_frame, most_undecided}
+use Rattle.rtcm_scan.proofs.Names.{ℕ, ◌≡◌, ◌+◌, ◌-◌, ◌*◌, ◌<◌, ◌≤◌, Bool, true, false, List, [], ◌∷◌, ◌++◌, length, drop, refl, sym, ap, ◌∙◌, arith, suc, zero, ⊎_elim, length-append, cases_Bool, cases_lt, begins_frame, is_open, Framed, IsFrameOf, frame_end, frames_of, frames_from, framed_at, decided, decided_frames, frames_before, IsPrefix, known_frames, AllPassed, Scanned, length-drop, most_undecided}
 use Rattle.rtcm_scan.proofs.ScanLemmas.{scanned_none, scanned_le, scanned_longer, frame_within}
 use Rattle.rtcm_scan.proofs.DecidedLemmas.{decided_is, decided_frames_are, frames_split}
 use Rattle.rtcm_scan.proofs.LawLemmas.{scanned_prepend, framed_valid, frames_scanned}
@@ -74,10 +74,7 @@ decided_near b =
     let d : decided b ≡ r.to = decided_is b r.to r.frames r.within r.scanned r.stops in
     let w : r.to ≤ length b = r.within in
     let k : length (drop r.to b) ≡ length b - r.to = length-drop r.to b in
-    let n : length b ≤ r.to + most_undecided = ⊎_elim
-    (λ (l : r.to < length b). let o : length (drop r.to b) < longest_frame = open_bound (drop r.to b) (r.stops l) in omega arith)
-    (λ (l : length b ≤ r.to). omega arith)
-    (cases_lt r.to (length b)) in
+    let n : length b ≤ r.to + most_undecided = grind (arith, open_bound) in
     (omega arith, omega arith)
 
 -- no bytes have no decided frames

@@ -1,14 +1,10 @@
 -- What a framer has accepted after many bytes.
-use Rattle.rtcm_scan.proofs.Names.{common_steps, ℕ, ◌≡◌, ◌+◌, ◌≤◌, Bool, false, List, [], ◌∷◌, ◌++◌, length, arith, length-append, append-nil, append_assoc, WindowValue, pushed_all, Framed, FramerValue, scan_of, with_byte, with_bytes, HasExamined}
+use Rattle.rtcm_scan.proofs.Names.{common_steps, ℕ, ◌≡◌, ◌+◌, ◌≤◌, Bool, false, List, [], ◌∷◌, ◌++◌, length, arith, length-append, append_assoc, WindowValue, pushed_all, Framed, FramerValue, scan_of, with_byte, with_bytes, HasExamined}
 use Rattle.rtcm_scan.proofs.HistoryLemmas.{history_ready}
 use Rattle.rtcm_scan.proofs.StepLemmas.{step_push}
 
--- no bytes; then one byte and those after it
-with_none : (v : FramerValue) → with_bytes v [] ≡ record v { is_ready = false }
-with_none v = grind (arith, append-nil)
-
 pub step_push_all : (v : FramerValue) (b xs : List ℕ) (fs : List Framed) → v.has_ended ≡ false → v.taken + length xs ≤ v.limit → HasExamined v b fs → HasExamined (with_bytes v xs) (b ++ xs) fs
-step_push_all v b [] fs n l h = grind (arith, common_steps, with_none, history_ready)
+step_push_all v b [] fs n l h = grind (arith, common_steps, history_ready)
 step_push_all v b (x ∷ xs) fs n l h = grind (arith, append_assoc, (step_push_all (with_byte v x) (b ++ x ∷ []) xs fs n (omega (arith, l)) (step_push v b fs x n (omega (arith, l)) h)))
 
 -- a framer that has not ended and has room for n bytes

@@ -12,12 +12,8 @@ use Rattle.rtcm_scan.proofs.ScanLemmas.{scanned_le, scanned_frame}
 use Rattle.rtcm_scan.proofs.HistoryLemmas.{history_push, history_give_up, history_take}
 use Rattle.rtcm_scan.proofs.FrameLemmas.{begins_parts, length-message}
 
--- a longer span covers no less
-covers_more : (i p k n : ℕ) → k ≤ n → one_if (covers i (span p k)) ≤ one_if (covers i (span p n))
-covers_more i p k n h = grind arith
-
 looks_more : (xs : List Span) (q k n i : ℕ) → k ≤ n → looks_at (xs ++ span q k ∷ []) i ≤ looks_at (xs ++ span q n ∷ []) i
-looks_more xs q k n i h = grind (arith, common_steps, looks_push, covers_more)
+looks_more xs q k n i h = grind (arith, common_steps, looks_push)
 
 -- the counts fit their types
 record Fit (xs : List Span) : Type 0 where
@@ -27,9 +23,7 @@ record Fit (xs : List Span) : Type 0 where
 fit_less : (xs : List Span) (q k n : ℕ) → k ≤ n → Fit (xs ++ span q n ∷ []) → Fit (xs ++ span q k ∷ [])
 fit_less xs q k n h f = record {
   looks = λ i. (let a : looks_at (xs ++ span q k ∷ []) i ≤ looks_at (xs ++ span q n ∷ []) i = looks_more xs q k n i h in no_more a (f.looks i));
-  all = (let a : all_looks (xs ++ span q k ∷ []) ≡ all_looks xs + k = all_push xs (span q k) in
-      let b : all_looks (xs ++ span q n ∷ []) ≡ all_looks xs + n = all_push xs (span q n) in
-      let c : all_looks (xs ++ span q n ∷ []) ≤ 18446744073709551615 = f.all in le_sum _ _ _ a b c);
+  all = grind (arith, all_push);
 }
   where
     le_sum : (u v x : ℕ) → u ≡ x + k → v ≡ x + n → v ≤ 18446744073709551615 → u ≤ 18446744073709551615
@@ -232,11 +226,4 @@ step_push v b fs x n lt h =
     let d : CountsLooks (spans_at (b ++ x ∷ []) fs (first_held v) v.tried) (first_held v) (length (b ++ x ∷ [])) (v.looks ++ 0 ∷ []) v.examined v.most =
     subst (λ (q : ℕ). CountsLooks (spans_at (b ++ x ∷ []) fs (first_held v) v.tried) (first_held v) q (v.looks ++ 0 ∷ []) v.examined v.most) (sym m)
     (subst (λ (q : List Span). CountsLooks q (first_held v) (length b + 1) (v.looks ++ 0 ∷ []) v.examined v.most) (sym w) c) in
-    record {
-      history = r;
-      limit = h.limit;
-      within = omega arith;
-      each = ll ∙ ap (λ q. q + 1) g ∙ sym l;
-      tried = omega arith;
-      counts = subst (λ (q : ℕ). CountsLooks (spans_at (b ++ x ∷ []) fs q v.tried) q (length (b ++ x ∷ [])) (v.looks ++ 0 ∷ []) v.examined v.most) e d;
-    }
+    grind arith

@@ -1,4 +1,4 @@
-use Rattle.rtcm_scan.proofs.Names.{Bool, List, [], ◌∷◌, ◌++◌, ◌∙◌, refl, subst, frame_at, Framed, IsPrefix, IsDrained, known_frames, HasPassed, prefix_self, on_failure}
+use Rattle.rtcm_scan.proofs.Names.{[], ◌∷◌, ◌++◌, ◌∙◌, frame_at, Framed}
 use Rattle.rtcm_scan.proofs.PassingLemmas.{prefix_one_more}
 use Rattle.rtcm_scan.proofs.framer.Framer.drain_into.Goals as goal
 

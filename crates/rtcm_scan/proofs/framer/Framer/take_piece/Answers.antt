@@ -1,6 +1,6 @@
 -- The frames that the bytes so far decide were passed on before more bytes are pushed, up to the limit of the
 -- framer.
-use Rattle.rtcm_scan.proofs.Names.{◌≡◌, ◌+◌, ◌∙◌, ap, sym, subst, refl, arith, ℕ, List, append-nil, length, slice_range, take, known_frames, FramerValue, HasPassed, HasPassedAll, prefix_self, on_failure}
+use Rattle.rtcm_scan.proofs.Names.{◌≡◌, ◌+◌, ◌∙◌, ap, arith, length, slice_range, take, FramerValue, on_failure}
 use Rattle.rtcm_scan.proofs.PassingLemmas.{at_limit, continues_same, continues_block, part_drained, part_pushed, part_breaks}
 use Rattle.rtcm_scan.proofs.framer.Framer.take_piece.Goals as goal
 
