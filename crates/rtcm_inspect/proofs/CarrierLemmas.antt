@@ -7,7 +7,7 @@ use Rattle.gnss_system.specs.Satellites.{satellites}
 use Rattle.gnss_system.specs.Signals.{band_of, code_of}
 use Rattle.gnss_obs.specs.Channels.{channel_hertz, hertz_in}
 use Rattle.gnss_obs.specs.LockTimes.{LockTime}
-use Rattle.gnss_obs.specs.Observables.{nearest_doppler, nearest_phase, nearest_pseudorange, nearest_strength}
+use Rattle.gnss_obs.specs.Observables.{nearest_pseudorange, nearest_strength}
 use Rattle.rtcm_inspect.specs.SignalLaws.{CellValues, LosesUnknownCarriers, values_by, values_of}
 use Rattle.rtcm_inspect.proofs.Names.{◌≡◌, ◌-◌, ◌<◌, ap, ap₂, cons_option, every_channel, filter_map, if◌then◌else◌, is_some, lock_by, observed, option_and_then, option_map, seen_in, signal_of_id, ChannelsValue, Entry, Satellite, SignalAt, System, entries, Msm4, Msm5, Msm6, Msm7, Bool, true, false, ◌&&◌, nat_le, nat_tests, ℕ, ℤ, List, [], ◌∷◌, Option, Some, None, refl, arith, HeardCell, slot_count, Form}
 
@@ -26,11 +26,7 @@ known_always other id g h = refl
 
 present : (f : ℕ → ℤ → ℤ) (o p : Option ℕ) (x : Option ℤ) → is_some p ≡ true
     → is_some (option_and_then (λ h. option_map (f h) x) o) ≡ (is_some (option_and_then (λ h. option_map (f h) x) p) && is_some o)
-present f o None x e = absurd (cc e)
-present f None (Some h) None e = refl
-present f None (Some h) (Some x) e = refl
-present f (Some k) (Some h) None e = refl
-present f (Some k) (Some h) (Some x) e = refl
+present f o p x e = grind arith
 
 -- the values of an entry, with or without a phase and a shift
 abbrev values_with : Entry → Satellite → SignalAt → (phase shift : Bool) → CellValues
@@ -45,9 +41,7 @@ values_with e u g phase shift = record {
 
 cell_values : (channels : ChannelsValue) (lock : LockTime) (e : Entry) (u : Satellite) (g : SignalAt) → is_some (hertz_in every_channel u g) ≡ true
     → values_of (observed channels lock e u g) ≡ values_by channels (observed every_channel lock e u g)
-cell_values channels lock e u g known =
-    ap₂ (values_with e u g) (present nearest_phase (hertz_in channels u g) (hertz_in every_channel u g) e.phase known)
-    (present nearest_doppler (hertz_in channels u g) (hertz_in every_channel u g) e.rate known)
+cell_values channels lock e u g known = grind (arith, present)
 
 module _ (channels : ChannelsValue) (form : Form) (system : System) where
   abbrev with_channels : Entry → ChannelsValue → Option SignalAt → Option Satellite → Option HeardCell

@@ -2,35 +2,31 @@
 use Rattle.std.specs.List.{before_first, position_or_len}
 use Rattle.std.specs.Prelude.{not}
 use mathlib.Core.Bool.{cond}
-use Rattle.std.proofs.Common.{suc}
 use Rattle.std.proofs.lemmas.List.Sums.{fold-append}
-use Rattle.std.proofs.lemmas.List.{take-append-le, take_all}
+use Rattle.std.proofs.lemmas.List.{take-append-le}
 use Rattle.gnss_obs.specs.Weeks.{week, weeks}
 use Rattle.rtcm_inspect.specs.CountedTimes.{counted_before, counted_set, counted_tows, greatest_in, greatest_of, tow_in, with_tow}
 use Rattle.rtcm_inspect.specs.inner.FirstTows.{IsGreatestAt}
-use Rattle.rtcm_inspect.proofs.Names.{◌≡◌, ◌∙◌, ◌+◌, ◌*◌, ◌<◌, ◌++◌, ℕ, Bool, true, false, List, [], ◌∷◌, Option, Some, None, ap, ap₂, append-nil, arith, filter_map, filter_map-append, first_tow, is_some, length, length-append, option_or, option_to_list, refl, sym, take, if◌then◌else◌, Framed, MsmSet}
+use Rattle.rtcm_inspect.proofs.Names.{common_steps, ◌≡◌, ◌∙◌, ◌+◌, ◌*◌, ◌<◌, ◌++◌, ℕ, Bool, List, [], ◌∷◌, Option, Some, None, ap, ap₂, append-nil, arith, filter_map, filter_map-append, first_tow, is_some, length, length-append, option_or, option_to_list, refl, sym, take, if◌then◌else◌, Framed, MsmSet}
 
 -- ---- the frames before the first MSM of a set
 
 or_parts : {A : Type 0} (a b : Option A) → option_or a b ≡ None → (a ≡ None) × (b ≡ None)
-or_parts None b e = (refl, e)
-or_parts (Some x) b e = cc
+or_parts a b e = grind arith
 
 -- those of a frame and others, by whether it has an MSM of the set
 abbrev from : Option ℕ → Framed → List Framed → List Framed
 from o g l = if is_some o then [] else g ∷ l
 
 cut : (b : Bool) (n : ℕ) (g : Framed) (fs : List Framed) → take (cond (not b) (1 + n) 0) (g ∷ fs) ≡ (if b then [] else g ∷ take n fs)
-cut true n g fs = refl
-cut false n g fs = let next : 1 + n ≡ suc n = omega arith in ap (λ (k : ℕ). take k (g ∷ fs)) next
+cut b n g fs = grind arith
 
 before_more : (set : MsmSet) (wanted : Option ℕ) (g : Framed) (fs : List Framed)
     → before_first (λ f. is_some (tow_in set wanted f)) (g ∷ fs) ≡ from (tow_in set wanted g) g (before_first (λ f. is_some (tow_in set wanted f)) fs)
 before_more set wanted g fs = cut (is_some (tow_in set wanted g)) (position_or_len (λ f. is_some (tow_in set wanted f)) fs) g fs
 
 from_same : (o : Option ℕ) (g : Framed) (a b : List Framed) → (o ≡ None → a ≡ b) → from o g a ≡ from o g b
-from_same None g a b same = ap (λ (l : List Framed). g ∷ l) (same refl)
-from_same (Some t) g a b same = refl
+from_same o g a b same = grind arith
 
 -- one more frame after it
 before_kept : (set : MsmSet) (wanted : Option ℕ) (fs : List Framed) (f : Framed) {t : ℕ} → first_tow 0 set wanted fs ≡ Some t
@@ -65,10 +61,7 @@ number_new set wanted fs f none is = sym (ap (λ (l : List Framed). length (coun
 -- ---- the times of week
 
 pub filter_map-push : (F : Framed → Option ℕ) (fs : List Framed) (f : Framed) → filter_map F (fs ++ f ∷ []) ≡ filter_map F fs ++ option_to_list (F f)
-filter_map-push F fs f = filter_map-append F fs (f ∷ []) ∙ ap (λ (l : List ℕ). filter_map F fs ++ l) (by (F f) refl) where
-  by : (o : Option ℕ) → F f ≡ o → filter_map F (f ∷ []) ≡ option_to_list (F f)
-  by None e = grind (arith, e)
-  by (Some n) e = grind (arith, e)
+filter_map-push F fs f = grind (arith, filter_map-append)
 
 pub none_counted : (wanted : Option ℕ) (fs : List Framed) (f : Framed) → tow_in counted_set wanted f ≡ None → counted_tows wanted (fs ++ f ∷ []) ≡ counted_tows wanted fs
 none_counted wanted fs f none = filter_map-push (tow_in counted_set wanted) fs f ∙ ap (λ (o : Option ℕ). counted_tows wanted fs ++ option_to_list o) none ∙ append-nil (counted_tows wanted fs)
@@ -83,25 +76,12 @@ greatest_more tows tow = fold-append with_tow None tows (tow ∷ [])
 
 -- one more time of week is counted
 pub at_more : (n : ℕ) (tows : List ℕ) (tow t : ℕ) (o : Option ℕ) → greatest_of (tows ++ tow ∷ []) ≡ Some t → t < weeks * week → IsGreatestAt n tows o → IsGreatestAt n (tows ++ tow ∷ []) (option_or o (Some t))
-at_more n tows tow t None is small h =
-    let size : length (tows ++ tow ∷ []) ≡ length tows + 1 = length-append tows (tow ∷ []) in (
-      omega (arith, size, h),
-      ap greatest_of (take_all (n + 1) (tows ++ tow ∷ []) (omega (arith, size, h))) ∙ is,
-      small,
-    )
-at_more n tows tow t (Some u) is small h = (
-  omega (arith, length-append tows (tow ∷ []), h.0),
-  ap greatest_of (take-append-le (n + 1) tows (tow ∷ []) (omega (arith, h.0))) ∙ h.1,
-  h.2,
-)
+at_more n tows tow t o is small h = grind (arith, common_steps, length-append {A = Framed}, take-append-le)
 
 -- at the end of the stream
 pub at_end : (n : ℕ) (tows : List ℕ) (o : Option ℕ) → IsGreatestAt n tows o → option_or o (greatest_of tows) ≡ greatest_of (take (n + 1) tows)
-at_end n tows None h = ap greatest_of (sym (take_all (n + 1) tows (omega (arith, h))))
-at_end n tows (Some t) h = sym h.1
+at_end n tows o h = grind (arith, common_steps)
 
 -- without a first MSM
 pub at_none : (set : MsmSet) (wanted : Option ℕ) (fs : List Framed) → first_tow 0 set wanted fs ≡ None → greatest_of (take (counted_before set wanted fs + 1) (counted_tows wanted fs)) ≡ greatest_in wanted fs
-at_none set wanted fs none =
-    let all : counted_before set wanted fs ≡ length (counted_tows wanted fs) = ap (λ (l : List Framed). length (counted_tows wanted l)) (before_all set wanted fs none) in
-    ap greatest_of (take_all (counted_before set wanted fs + 1) (counted_tows wanted fs) (omega (arith, all)))
+at_none set wanted fs none = grind (arith, common_steps, before_all)

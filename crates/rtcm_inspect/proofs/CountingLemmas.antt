@@ -3,52 +3,32 @@ use Rattle.devices.proofs.PrintingLaws.{Printed}
 use Rattle.rtcm_inspect.specs.CountedTimes.{greatest_in}
 use Rattle.rtcm_inspect.specs.inner.SaidWeeks.{AreSaidIn}
 use Rattle.rtcm_inspect.proofs.StreamLemmas.{Began}
-use Rattle.rtcm_inspect.proofs.Names.{◌≡◌, ◌∙◌, ap, inr, ◌+◌, ◌*◌, ◌<◌, ◌≤◌, ◌^◌, sym, subst, arith, Bool, true, ℕ, List, [], ◌∷◌, ◌++◌, Option, Result, Ok, Err, length, length-append, append-nil, refl, Framed, frames_of, known_frames, Device, Devices, HasFailed, StreamFault, ⊤, InspectFault, ReaderFailures, culprit, stream_fault, AtFault, Passes, BreaksReading, PassesAll, PassesToLimit, Reads, FramerValue, most_bytes, AreSignalCounts, CountsMessage, SignalCountsValue, valued, inspected, HeardCell, inspected_of, message_at, MsgFault, Message, valued_in, valued_of, flat_map-append, AreFirst, EndsStream, ReadsTooMuch, Counts, StopsCounting, HasCounted, IsCounted, AreSignals, NeverFails, option_map_or, StreamSignals, StreamCounts, AreFrameCounts, is_msm, msm_in, stream_counts, cond, filter-append, length-filter, count_by-le-length, piece_bytes, forms_had, channels_in}
+use Rattle.rtcm_inspect.proofs.Names.{common_steps, ◌≡◌, ◌∙◌, inr, ◌+◌, ◌*◌, ◌<◌, ◌≤◌, ◌^◌, sym, subst, arith, Bool, true, ℕ, List, [], ◌∷◌, ◌++◌, Option, Result, Ok, Err, length, length-append, refl, Framed, frames_of, known_frames, Device, Devices, HasFailed, StreamFault, ⊤, InspectFault, ReaderFailures, culprit, stream_fault, AtFault, Passes, BreaksReading, PassesAll, PassesToLimit, Reads, FramerValue, most_bytes, AreSignalCounts, CountsMessage, SignalCountsValue, inspected, HeardCell, message_at, MsgFault, Message, valued_in, valued_of, flat_map-append, AreFirst, EndsStream, ReadsTooMuch, Counts, StopsCounting, HasCounted, IsCounted, AreSignals, NeverFails, StreamSignals, StreamCounts, AreFrameCounts, is_msm, msm_in, stream_counts, cond, filter-append, length-filter, count_by-le-length, piece_bytes, forms_had, channels_in}
 use Rattle.rtcm_inspect.specs.declared.fault.InspectFault.TheVariants as faults
 use Rattle.rtcm_scan.specs.declared.feed.StreamFault.TheVariants as stream
 
 valued_more : (wanted : Option ℕ) (fs : List Framed) (f : Framed) (cells : List HeardCell) → valued_of wanted f ≡ cells → valued_in wanted (fs ++ f ∷ []) ≡ valued_in wanted fs ++ cells
-valued_more wanted fs f cells is =
-    flat_map-append (valued_of wanted) fs (f ∷ []) ∙ ap (λ (l : List HeardCell). valued_in wanted fs ++ l) (append-nil (valued_of wanted f) ∙ is)
+valued_more wanted fs f cells is = grind (arith, common_steps, flat_map-append)
 
 -- the cells of one more message that was read
 pub read_counted : {c c2 : SignalCountsValue} {wanted : Option ℕ} {fs : List Framed} (f : Framed) {m : Message} → message_at f.message ≡ Ok m → CountsMessage c c2 wanted (inspected m)
     → length fs < 2 ^ 56 → IsCounted c wanted fs → IsCounted c2 wanted (fs ++ f ∷ [])
-read_counted {c2} {wanted} {fs} f {m} is step small h =
-    let cells : List HeardCell = valued_in wanted fs in
-    let more : List HeardCell = valued wanted (inspected m) in
-    let own : valued_of wanted f ≡ more = ap (λ (r : Result Message MsgFault). option_map_or (valued wanted) (inspected_of r) []) is in
-    let all = valued_more wanted fs f more own in
-    record {
-      signal_counts = subst (AreSignalCounts c2) (sym all) (step.counts cells (omega (arith, h.few, small)) h.signal_counts);
-      few = omega (arith, h.few, step.few, length-append fs (f ∷ []), ap length all, length-append cells more);
-    }
+read_counted f is step small h = grind (arith, common_steps, valued_more, length-append {A = Framed})
 
 -- a message that was refused has no cells
 pub refused_counted : {c : SignalCountsValue} {wanted : Option ℕ} {fs : List Framed} (f : Framed) {e : MsgFault} → message_at f.message ≡ Err e → IsCounted c wanted fs → IsCounted c wanted (fs ++ f ∷ [])
-refused_counted {c} {wanted} {fs} f is h =
-    let cells : List HeardCell = valued_in wanted fs in
-    let own : valued_of wanted f ≡ [] = ap (λ (r : Result Message MsgFault). option_map_or (valued wanted) (inspected_of r) []) is in
-    let all = valued_more wanted fs f [] own ∙ append-nil cells in
-    record {
-      signal_counts = subst (AreSignalCounts c) (sym all) h.signal_counts;
-      few = omega (arith, h.few, length-append fs (f ∷ []), ap length all);
-    }
+refused_counted f is h = grind (arith, common_steps, valued_more, length-append {A = Framed})
 
 -- the MSMs of one more frame
 pub msm_more : (fs : List Framed) (f : Framed) {has : Bool} → is_msm (message_at f.message) ≡ has → length (msm_in (fs ++ f ∷ [])) ≡ length (msm_in fs) + length (cond has (f ∷ []) [])
-msm_more fs f is =
-    ap length (filter-append (λ g. is_msm (message_at g.message)) fs (f ∷ [])) ∙ length-append (msm_in fs) (msm_in (f ∷ []))
-    ∙ ap (λ (b : Bool). length (msm_in fs) + length (cond b (f ∷ []) [])) is
+msm_more fs f is = grind (arith, filter-append, length-append {A = Framed})
 
 pub msm_few : (fs : List Framed) → length (msm_in fs) ≤ length fs
 msm_few fs = let e = length-filter (λ g. is_msm (message_at g.message)) fs in let few = count_by-le-length (λ g. is_msm (message_at g.message)) fs in omega (arith, e, few)
 
 -- the numbers of a stream, of those of its bytes and of its frames
 pub all_numbers : {c : StreamCounts} (b : List ℕ) → c.bytes ≡ length b → AreFrameCounts c (frames_of b) → c ≡ stream_counts b
-all_numbers {c} b bytes h =
-    ap (λ (n : ℕ). record { bytes = n; frames = c.frames; msm = c.msm }) bytes ∙ ap (λ (n : ℕ). record { bytes = length b; frames = n; msm = c.msm }) h.frames
-    ∙ ap (λ (n : ℕ). record { bytes = length b; frames = length (frames_of b); msm = n }) h.msm
+all_numbers b bytes h = grind arith
 
 -- no frame was counted
 pub none_counted : (c : StreamSignals) (wanted : Option ℕ) → AreSignalCounts c.signal_counts [] → c.forms ≡ forms_had wanted [] → c.channels ≡ channels_in wanted [] → AreFirst c.first wanted [] → AreSaidIn c.weeks wanted [] → AreFrameCounts c.counts [] → AreSignals c wanted []
@@ -66,13 +46,7 @@ pub one_more_counted : {c0 : StreamSignals} (c : StreamSignals) {c2 : StreamSign
     → ((gs : List Framed) → c.first.tows.greatest ≡ greatest_in c.station gs → AreSaidIn c.weeks c.station gs → AreSaidIn c2.weeks c.station (gs ++ f ∷ []))
     → ((gs : List Framed) → length gs < 2 ^ 56 → AreFrameCounts c.counts gs → AreFrameCounts c2.counts (gs ++ f ∷ []))
     → Counts c0 tt ps c tt fs → Counts c0 tt ps c2 tt (fs ++ f ∷ [])
-one_more_counted c {c2} {fs} f kept step forms channels first weeks counts s = record {
-  same = kept ∙ s.same;
-  counts = λ few begun.
-      let fewer : length fs < 2 ^ 56 = omega (arith, length-append fs (f ∷ []), few) in
-      let before : AreSignals c c.station fs = subst (λ (wanted : Option ℕ). AreSignals c wanted fs) (sym s.same) (s.counts fewer begun) in
-      subst (λ (wanted : Option ℕ). AreSignals c2 wanted (fs ++ f ∷ [])) s.same (record { counted = step fs fewer before.counted; forms = forms fs before.forms; channels = channels fs before.channels; first = first fs fewer before.first; weeks = weeks fs before.first.tows.greatest before.weeks; counts = counts fs fewer before.counts });
-}
+one_more_counted c f kept step forms channels first weeks counts s = grind (arith, length-append {A = Framed})
 
 -- with the number of bytes
 abbrev pub with_bytes : StreamSignals → ℕ → StreamSignals
@@ -97,9 +71,7 @@ module _ {v : FramerValue} {c c2 : StreamSignals} {limit : ℕ} (v2 : FramerValu
 
   -- over the limit
   pub counted_too_much : Reads r r2 (PassesToLimit Counts v c tt v2 c2 tt) → ReadsTooMuch limit r r2
-  counted_too_much p =
-      let over : limit < length p.0 = omega (arith, began.limit_is, began.none, p.2.over) in
-      (p.0, p.1, over)
+  counted_too_much p = grind arith
 
   pub counter_fails : {n : ℕ} → BreaksReading Counts NeverFails v c tt c2 tt n r r2 → ⊥
   counter_fails p = (p.breaks c tt [] [] began.new).broken
@@ -114,9 +86,7 @@ counting_stopped left v2 c2 rd rd2 stream.TooLong began passed = counted_too_muc
 counting_stopped left v2 c2 rd rd2 (stream.Sink fault) began broke = absurd (counter_fails v2 (left rd.inner) (left rd2.inner) began broke)
 
 pub counted_reads : {F : Type 0} (fault : StreamFault F) (before after : ℕ) → AtFault fault (HasFailed before after) (after ≡ before) (after ≡ before) → ReaderFailures (culprit (stream_fault fault)) before after
-counted_reads stream.Read before after h = h
-counted_reads stream.TooLong before after h = h
-counted_reads (stream.Sink fault) before after h = h
+counted_reads fault before after h = grind arith
 
 -- the text of a stream was printed, or a part of it
 pub stream_printed : {R W : Type 0} {text : List ℕ} (IsText : List Framed → List ℕ → Type 0) (IsRefused : List ℕ → InspectFault → Type 0) (d d2 : Devices R W) (ended : Result ⊤ InspectFault) {s : StreamSignals} {wanted : Option ℕ}

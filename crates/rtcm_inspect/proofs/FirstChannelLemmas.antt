@@ -1,11 +1,9 @@
 -- The channel of a slot is the first valid one.
-use Rattle.std.specs.Prelude.{find}
 use Rattle.std.specs.Option.{option_or}
-use Rattle.std.proofs.lemmas.Grind.{common_steps}
 use Rattle.std.proofs.lemmas.List.{get_or-replicate, length-replicate}
 use Rattle.rtcm_inspect.specs.ChannelLaws.{AreFirstChannels, first_valid}
 use Rattle.rtcm_inspect.proofs.FirstLemmas.{or_none}
-use Rattle.rtcm_inspect.proofs.Names.{option_map, arith, Bool, ChannelsValue, List, None, Option, Some, [], ap, false, flat_map, if◌then◌else◌, length, most_number, nat_le, nat_tests, no_channels, number_at, refl, sent_in, slot_count, sym, true, with_first, with_sent, ℕ, ◌&&◌, ◌-◌, ◌==◌, ◌∙◌, ◌∷◌, ◌≡◌, ◌≤◌}
+use Rattle.rtcm_inspect.proofs.Names.{common_steps, arith, Bool, ChannelsValue, List, None, Option, Some, [], ap, flat_map, if◌then◌else◌, length, most_number, nat_le, nat_tests, no_channels, number_at, sent_in, slot_count, sym, with_first, with_sent, ℕ, ◌&&◌, ◌-◌, ◌==◌, ◌∙◌, ◌∷◌, ◌≡◌, ◌≤◌}
 
 abbrev is_first : ℕ → ℕ × ℕ → Bool
 is_first slot p = (p.0 == slot) && nat_le p.1 most_number
@@ -21,24 +19,15 @@ step : (known : ChannelsValue) (p : ℕ × ℕ) (slot : ℕ) → length known �
 step known p slot h low high = grind (arith, common_steps, nat_tests, h, low, high)
 
 either : (a : Option ℕ) (b : Bool) (n : ℕ) (rest : Option ℕ) → option_or (option_or a (if b then Some n else None)) rest ≡ option_or a (if b then Some n else rest)
-either None true n rest = refl
-either None false n rest = refl
-either (Some x) b n rest = refl
+either a b n rest = grind arith
 
 found : (slot : ℕ) (p : ℕ × ℕ) (ps : List (ℕ × ℕ)) → first_valid slot (p ∷ ps) ≡ (if is_first slot p then Some p.1 else first_valid slot ps)
-found slot p ps = by (is_first slot p) where
-  by : (b : Bool) → option_map (λ (q : ℕ × ℕ). q.1) (if b then Some p else find (is_first slot) ps) ≡ (if b then Some p.1 else first_valid slot ps)
-  by true = refl
-  by false = refl
+found slot p ps = grind arith
 
 after_all : (known : ChannelsValue) (sent : List (ℕ × ℕ)) (slot : ℕ) → length known ≡ slot_count → 1 ≤ slot → slot ≤ slot_count
     → number_at (with_sent known sent) slot ≡ option_or (number_at known slot) (first_valid slot sent)
 after_all known [] slot h low high = sym (or_none (number_at known slot))
-after_all known (p ∷ ps) slot h low high =
-    after_all (with_first known p) ps slot (same_length known p h) low high
-    ∙ ap (λ (o : Option ℕ). option_or o (first_valid slot ps)) (step known p slot h low high)
-    ∙ either (number_at known slot) (is_first slot p) p.1 (first_valid slot ps)
-    ∙ ap (option_or (number_at known slot)) (sym (found slot p ps))
+after_all known (p ∷ ps) slot h low high = grind (arith, same_length, step, either, found, (after_all (with_first known p) ps slot (same_length known p h) low high))
 
 nothing_known : (slot : ℕ) → 1 ≤ slot → slot ≤ slot_count → number_at no_channels slot ≡ None
 nothing_known slot low high = get_or-replicate slot_count (slot - 1) None None (omega (arith, low, high))

@@ -1,22 +1,13 @@
 -- Lengths that are read back.
-use Rattle.std.proofs.Common.{◌≡◌, ◌∙◌, ◌<◌, ◌+◌, ◌^◌, ◌==◌, ◌++◌, ℕ, ℤ, pos, negsuc, neg_ℤ, suc, true, not, List, ◌∷◌, Option, Some, None, IfSome, option_map, arith, refl, ap}
+use Rattle.std.proofs.Common.{◌≡◌, ◌<◌, ◌^◌, ◌==◌, ◌++◌, ℕ, ℤ, true, not, List, ◌∷◌, Option, Some, IfSome, arith, refl}
 use Rattle.line_texts.proofs.LengthLaws.{cut_first, size_below, size_unsigned, size_whole}
-use Rattle.rtcm_inspect.proofs.Names.{list_all, option_map_or, FitsInt, InRange, StationParts, height_text, position_text, coordinate_by, coordinate_of, cut, length_below, position_of, metres, size_text, coordinate_bound}
+use Rattle.rtcm_inspect.proofs.Names.{list_all, option_map_or, FitsInt, InRange, StationParts, height_text, position_text, coordinate_of, cut, length_below, position_of, metres}
 
 pub coordinate_read : (z : ℤ) → FitsInt 38 z → coordinate_of (metres z) ≡ Some z
-coordinate_read (pos n) fits =
-    let small : n < 10 ^ 12 = omega (arith, fits) in
-    ap (coordinate_by (size_text n)) (size_unsigned n small) ∙ ap (option_map pos) (size_below n small coordinate_bound fits)
-coordinate_read (negsuc n) fits =
-    let small : n + 1 < 10 ^ 12 = omega (arith, fits) in
-    let less : n + 1 < coordinate_bound + 1 = omega (arith, fits) in
-    ap (option_map (λ k. neg_ℤ (pos k))) (size_below (n + 1) small (coordinate_bound + 1) less) ∙ ap (λ (k : ℕ). Some (neg_ℤ (pos k))) (next n) where
-      next : (k : ℕ) → k + 1 ≡ suc k
-      next k = omega arith
+coordinate_read z fits = grind (arith, size_unsigned, size_below)
 
 pub metres_whole : (z : ℤ) → FitsInt 38 z → list_all (λ x. not (x == 0x2C)) (metres z) ≡ true
-metres_whole (pos n) fits = size_whole n (omega (arith, fits))
-metres_whole (negsuc n) fits = size_whole (n + 1) (omega (arith, fits))
+metres_whole z fits = grind (arith, size_whole)
 
 position_by_parts : (text : List ℕ) {rest a b c : List ℕ} {x y z : ℤ} → cut 0x2C text ≡ Some (a, rest) → cut 0x2C rest ≡ Some (b, c) → coordinate_of a ≡ Some x → coordinate_of b ≡ Some y
     → coordinate_of c ≡ Some z → position_of text ≡ Some (x, y, z)
@@ -29,5 +20,4 @@ position_read s are =
     (coordinate_read s.x are.x) (coordinate_read s.y are.y) (coordinate_read s.z are.z)
 
 pub height_read : (h : Option ℕ) → IfSome h (λ n. n < 2 ^ 16) → length_below (2 ^ 16) (height_text h) ≡ Some (option_map_or (λ n. n) h 0)
-height_read None small = refl
-height_read (Some n) small = size_below n (omega (arith, small)) (2 ^ 16) small
+height_read h small = grind (arith, size_below)

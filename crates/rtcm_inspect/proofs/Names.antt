@@ -20,11 +20,10 @@ pub use Rattle.obs_epoch.specs.inner.SignalCounts.{AreSignalCounts, CountsMessag
 pub use Rattle.obs_epoch.specs.Sets.{set_of}
 pub use Rattle.obs_epoch.specs.Times.{Timed, ahead, greatest_time, is_closed, is_past, max_known, taken_at, timed_after}
 pub use Rattle.rinex_file.specs.Blocks.{LeavesRest}
-pub use Rattle.rinex_file.specs.Counting.{AreCounts, HoldsOr, IsSummary, IsTextWith}
+pub use Rattle.rinex_file.specs.Counting.{AreCounts, HoldsOr, IsSummary, IsTextWith, rows_in}
 pub use Rattle.rinex_file.specs.Exact.{IfTextOfFile, IsNoFault, most_lines}
 pub use Rattle.rinex_file.specs.File.{file_lines, file_text}
 pub use Rattle.rinex_file.specs.FileValues.{IsFileValue, time_stamped}
-pub use Rattle.rinex_file.specs.Counting.{rows_in}
 pub use Rattle.rinex_file.specs.inner.Read.EpochSteps.{HasReadEpochs, IsSummaryOf, ReadsEpoch}
 pub use Rattle.rinex_file.specs.Times.{AreTimes, AreTimesOrNone, steps_of}
 pub use Rattle.rinex_file.specs.declared.read.times.EpochTimes.{EpochTimes}
@@ -46,7 +45,7 @@ pub use Rattle.rtcm_inspect.specs.Devices.{culprit, stream_fault}
 pub use Rattle.rtcm_inspect.specs.FirstMessages.{AreFirst, first_station, mixed_of, point_of, sender, stations_of}
 pub use Rattle.rtcm_inspect.specs.FirstTwo.{first_two, with_other}
 pub use Rattle.rtcm_inspect.specs.inner.FirstTows.{AreTows}
-pub use Rattle.rtcm_inspect.specs.WeekLaws.{first_in, first_tow, tow_of}
+pub use Rattle.rtcm_inspect.specs.WeekLaws.{first_in, first_time, first_tow, tow_of}
 unfoldable pub use Rattle.rtcm_inspect.specs.Fitting.{options_line}
 pub use Rattle.rtcm_inspect.specs.Fitting.{antenna_words, forms_words, further_words, height_text, number_start, number_words, options_text, position_text, position_word, station_words}
 unfoldable pub use Rattle.rtcm_inspect.specs.FrameLines.{frame_line, number_word}
@@ -58,7 +57,7 @@ pub use Rattle.obs_epoch.specs.NearWeek.{IsNearestWeek, IsWeekNear, half_week}
 pub use Rattle.rtcm_inspect.specs.NearWeek.{IsWeekFor}
 pub use Rattle.rtcm_inspect.specs.OptionOutput.{AreOptionsOf, AreOptionsRefused}
 pub use Rattle.rtcm_inspect.specs.ReadBack.{AreEncoded, AreKnown, AreReadAs, ReadsBack}
-unfoldable pub use Rattle.rtcm_inspect.specs.ShowLines.{fault_line, msm_line, message_line, station_line}
+unfoldable pub use Rattle.rtcm_inspect.specs.ShowLines.{fault_line, message_line, msm_line, station_line}
 pub use Rattle.rtcm_inspect.specs.ShowLines.{fault_words, height_words, read_for, read_line}
 pub use Rattle.rtcm_inspect.specs.SignalLaws.{SkipsOnly}
 unfoldable pub use Rattle.rtcm_inspect.specs.Signals.{count_line}
@@ -66,7 +65,6 @@ pub use Rattle.rtcm_inspect.specs.Signals.{AreSignalsOf, AreSignalsRefused, code
 pub use Rattle.rtcm_inspect.specs.StreamOutput.{EndsStream, ReadsTooMuch}
 pub use Rattle.rtcm_inspect.specs.StreamCounts.{is_msm, msm_in, stream_counts}
 pub use Rattle.rtcm_inspect.specs.StreamChannels.{channels_in, sent_by, sent_in, sent_of, with_first, with_sent}
-pub use Rattle.rtcm_inspect.specs.WeekLaws.{first_time}
 pub use Rattle.rtcm_inspect.specs.declared.counting.StreamSignals.{StreamSignals}
 pub use Rattle.rtcm_inspect.specs.declared.fault.InspectFault.{InspectFault}
 pub use Rattle.rtcm_inspect.specs.declared.fault.StreamCounts.{StreamCounts}
@@ -75,14 +73,13 @@ pub use Rattle.rtcm_inspect.specs.declared.first_two.FirstTwo.{FirstTwo}
 pub use Rattle.rtcm_inspect.specs.declared.first_two.FirstTwo.TheVariants.{One, Several}
 pub use Rattle.rtcm_inspect.specs.declared.listing.Listing.{Listing}
 pub use Rattle.rtcm_msg.specs.Channels.{channel_of_1020, sent_channels}
-pub use Rattle.rtcm_msg.specs.Decoding.{message_at, message_with}
+pub use Rattle.rtcm_msg.specs.Decoding.{message_at, message_in, message_with}
 pub use Rattle.rtcm_msg.specs.Encoding.{IsEncoding, IsMessage, ReadsMessage, is_other, message_bits}
 pub use Rattle.rtcm_msg.specs.Entries.{entries}
 pub use Rattle.rtcm_msg.specs.Msm.{MasksValue, MsmValue}
 pub use Rattle.rtcm_msg.specs.Station.{InRange}
 pub use Rattle.rtcm_msg.specs.inner.Viewed.{viewed_message}
 pub use Rattle.rtcm_msg.specs.inner.Views.{FormedMsm, formed}
-pub use Rattle.rtcm_msg.specs.Decoding.{message_in}
 pub use Rattle.rtcm_msg.specs.Numbers.{have_form, message_number}
 pub use Rattle.rtcm_msg.specs.declared.entry.Entry.{Entry}
 pub use Rattle.rtcm_msg.specs.declared.fault.MsgFault.{MsgFault}
@@ -119,6 +116,6 @@ pub use Rattle.std.specs.Option.{option_map, option_map_or, option_or}
 pub use Rattle.std.specs.Prelude.{codes, cond, filter_map, if◌then◌else◌, nat_le, nat_lt, option_and_then, option_to_list, position, unwrap_or, ⊤, ◌≢◌}
 pub use Rattle.std.specs.Result.{IsErrAnd}
 pub use Rattle.std.specs.Str.{bytes_eq}
-pub use Rattle.std.proofs.Common.{All, Bool, Err, FitsSigned, IfOk, IfSome, List, MatchResult, None, Ok, OnErr, OnOk, Option, Result, Some, [], ap, append-nil, append_assoc, ap₂, arith, count_ones, decimal, drop, false, filter, find, get_or, inl, inr, is_some, length, length-append, length-drop, length-take, map, nat_eq, negsuc, not, of_z, pos, refl, replicate, rules, subst, suc, sym, take, take-append-drop, to_z, true, w64, zero, ℕ, ℤ, ◌&&◌, ◌%◌, ◌*◌, ◌++◌, ◌+◌, ◌-◌, ◌/◌, ◌<◌, ◌==◌, ◌^◌, ◌||◌, ◌∙◌, ◌∷◌, ◌≡◌, ◌≤◌}
+pub use Rattle.std.proofs.Common.{All, Bool, Err, FitsSigned, IfOk, IfSome, List, MatchResult, None, Ok, OnErr, OnOk, Option, Result, Some, [], ap, append-nil, append_assoc, ap₂, arith, count_ones, decimal, drop, false, filter, find, get_or, inl, inr, is_some, length, length-append, length-drop, length-take, map, nat_eq, negsuc, not, of_z, pos, refl, replicate, rules, subst, suc, sym, take, take-append-drop, to_z, true, w64, zero, ℕ, ℤ, ◌%◌, ◌&&◌, ◌*◌, ◌++◌, ◌+◌, ◌-◌, ◌/◌, ◌<◌, ◌==◌, ◌^◌, ◌||◌, ◌∙◌, ◌∷◌, ◌≡◌, ◌≤◌}
 pub use Rattle.gnss_obs.specs.declared.civil.Civil.{Civil}
 pub use Rattle.line_texts.specs.Lengths.{coordinate_by, coordinate_of, cut, length_below, position_of}

@@ -1,14 +1,11 @@
 -- The plan of the signals of a stream has a column for each of its values, and their line is parsed as that plan.
 use Rattle.line_texts.proofs.LineLaws.{first_code, is_comma, last_code}
 use Rattle.rtcm_inspect.proofs.SignalLemmas.{any_filter, own_signal}
-use Rattle.gnss_system.specs.declared.tables.ListedSignal as tables
-use Rattle.rtcm_inspect.proofs.Names.{None, if◌then◌else◌, lt-ltb, ltb-true, ◌≡◌, ℕ, zero, suc, ◌+◌, ◌<◌, ◌≤◌, ◌==◌, ◌&&◌, ◌||◌, Bool, true, false, not, List, [], ◌∷◌, ◌++◌, length, refl, sym, ap, ap₂, ◌∙◌, subst, arith, filter, map, All, Some, Result, Ok, Err, nat_eq, get_or, append-nil, append_assoc, is_some, ◌≢◌, AllPass-from_list_all, common_steps, list_all, nat_tests, option_map_or, slice_get, slice_get-get_or, cond, nat_lt, position, list_any, position_or_len, bytes_eq, filter-append, list_any-append, System, SignalAt, IsSignal, table, code_of, signal_of_code, PlanFault, RepeatedCode, is_planned, has_listed_key, GatherSetup, HeardCell, IsKey, below, place_in, between_commas, one_signal_more, signals_after, signals_of, plan_of, planned_of, is_of_signal, count_of, signal_in, had, plan_had, plan_with, ChannelsValue, code_list, codes_word}
+use Rattle.rtcm_inspect.proofs.Names.{None, lt-ltb, ltb-true, ◌≡◌, ℕ, zero, suc, ◌+◌, ◌<◌, ◌≤◌, ◌==◌, ◌&&◌, ◌||◌, Bool, true, false, not, List, [], ◌∷◌, ◌++◌, length, refl, sym, ap, ap₂, ◌∙◌, subst, arith, filter, map, All, Some, Result, Ok, Err, nat_eq, get_or, append-nil, append_assoc, is_some, ◌≢◌, AllPass-from_list_all, common_steps, list_all, nat_tests, slice_get-get_or, cond, nat_lt, position, list_any, position_or_len, bytes_eq, filter-append, list_any-append, System, SignalAt, IsSignal, table, code_of, signal_of_code, PlanFault, RepeatedCode, is_planned, has_listed_key, GatherSetup, HeardCell, IsKey, below, place_in, between_commas, one_signal_more, signals_after, signals_of, plan_of, planned_of, is_of_signal, count_of, signal_in, had, plan_had, plan_with, ChannelsValue, code_list, codes_word}
 use Rattle.std.proofs.lemmas.List.Folds.{list_any_at}
-use Rattle.gnss_system.specs.Systems.{systems}
-use Rattle.gnss_system.specs.SystemValues.{tabulate, value_of}
+use Rattle.gnss_system.specs.SystemValues.{tabulate}
 use Rattle.gnss_system.proofs.SystemLaws.{each_system, not_all, tabulated_same, value_tabulated}
-use Rattle.gnss_obs.specs.Plans.{first_fault, is_nil, plan_by, plan_unless, signals_in, signals_or_none}
-use Rattle.gnss_obs.specs.declared.fault.PlanFault.TheVariants.{NothingPlanned}
+use Rattle.gnss_obs.specs.Plans.{first_fault, plan_by, signals_in}
 
 -- ---- rising indices
 
@@ -49,10 +46,7 @@ all_plain : (system : System) → list_all (λ e. is_plain e.1) (table system) �
 all_plain system = each_system (λ s. list_all (λ e. is_plain e.1) (table s)) system refl
 
 plain_at : (system : System) (i : ℕ) → i < length (table system) → is_plain (code_at system i) ≡ true
-plain_at system i within = by (table system) (all_plain system) within where
-  by : (es : List tables.ListedSignal) → list_all (λ e. is_plain e.1) es ≡ true → i < length es → is_plain (option_map_or (λ e. e.1) (slice_get es i) []) ≡ true
-  by [] h less = absurd (omega (arith, less))
-  by (e ∷ es) h less = rw (slice_get-get_or (e ∷ es) i e less) (AllPass-from_list_all (λ e. is_plain e.1) (e ∷ es) h i e less)
+plain_at system i within = grind (arith, all_plain, slice_get-get_or, AllPass-from_list_all)
 
 no_comma : (system : System) (i : ℕ) → i < length (table system) → list_any is_comma (code_at system i) ≡ false
 no_comma system i within = let h = plain_at system i within in grind (arith, h)
@@ -62,8 +56,7 @@ code_low system i within = let h = plain_at system i within in grind (arith, h)
 
 codes_apart : (system : System) (low i : ℕ) (is : List ℕ) → Climbs low (length (table system)) (i ∷ is) → between_commas (code_list system (i ∷ is)) ≡ map (code_at system) (i ∷ is)
 codes_apart system low i [] h = last_code (code_at system i) (no_comma system i h.1)
-codes_apart system low i (j ∷ is) h =
-    first_code (code_at system i) (code_list system (j ∷ is)) (no_comma system i h.1) ∙ ap (λ (l : List (List ℕ)). code_at system i ∷ l) (codes_apart system (i + 1) j is h.2)
+codes_apart system low i (j ∷ is) h = grind (arith, first_code, no_comma, (codes_apart system (i + 1) j is h.2))
 
 -- ---- the signals that codes name
 
@@ -87,18 +80,13 @@ codes_read law system earlier low (i ∷ is) h new =
     newer j le = list_any-append (nat_eq j) earlier (i ∷ []) ∙ ap₂ (λ a b. a || (b || false)) (new j (omega (arith, le, h.0))) (unlike j i le)
 
 low-append : (xs ys : List ℕ) → starts_low xs ≡ true → starts_low (xs ++ ys) ≡ true
-low-append [] ys h = absurd (grind (arith, h))
-low-append (x ∷ xs) ys h = h
+low-append xs ys h = grind arith
 
 list_low : (system : System) (low i : ℕ) (is : List ℕ) → Climbs low (length (table system)) (i ∷ is) → starts_low (code_list system (i ∷ is)) ≡ true
-list_low system low i [] h = code_low system i h.1
-list_low system low i (j ∷ is) h = low-append (code_at system i) (44 ∷ code_list system (j ∷ is)) (code_low system i h.1)
+list_low system low i is h = grind (arith, code_low, low-append)
 
 no_word : (text : List ℕ) (first : ℕ) (rest : List ℕ) → starts_low text ≡ true → 58 ≤ first → bytes_eq text (first ∷ rest) ≡ false
-no_word [] first rest h le = absurd (grind (arith, h))
-no_word (b ∷ bs) first rest h le = ap (λ (c : Bool). c && bytes_eq bs rest) (unlike b first h le) where
-  unlike : (a b : ℕ) → nat_lt a 58 ≡ true → 58 ≤ b → (a == b) ≡ false
-  unlike a b h le = grind (arith, h, le)
+no_word text first rest h le = grind arith
 
 word_read : CodesReadBack → (system : System) (is : List ℕ) → Climbs 0 (length (table system)) is → signals_of system (codes_word system is) ≡ Ok is
 word_read law system [] h = refl
@@ -135,9 +123,7 @@ some_place : (test : ℕ → Bool) (xs : List ℕ) → list_any test xs ≡ true
 some_place test xs h = rw (has_place test xs, h) refl
 
 key_listed : (x : HeardCell) → IsKey x → has_listed_key x ≡ true
-key_listed x key =
-    let listed : x.signal.index < length (table x.satellite.system) = subst (λ (u : System). x.signal.index < length (table u)) key.same key.signal in
-    grind (arith, nat_tests, key.satellite.0, key.satellite.1)
+key_listed x key = grind arith
 
 had_in : (cells : List HeardCell) (channels : ChannelsValue) (system : System) → planned_of system (plan_had cells channels) ≡ had cells system
 had_in cells channels system = value_tabulated system (had cells)
@@ -155,20 +141,14 @@ all_planned channels s cells plan keys = λ k d within. planned_one channels s c
 -- ---- the line is read as the plan
 
 some_had : (xs : List ℕ) (k : ℕ) → list_any (λ i. i == k) xs ≡ true → xs ≡ [] → ⊥
-some_had [] k h e = absurd (grind (arith, h))
-some_had (x ∷ xs) k h e = absurd (let bad : suc (length xs) ≡ 0 = ap length e in omega (arith, bad))
+some_had xs k h e = grind arith
 
 no_fault : (f : System → Result (List ℕ) PlanFault) (g : System → List ℕ) → ((s : System) → f s ≡ Ok (g s)) → (ss : List System) → first_fault f ss ≡ None
 no_fault f g each [] = refl
 no_fault f g each (s ∷ ss) = rw (each s) (no_fault f g each ss)
 
 plan_from : (f : System → Result (List ℕ) PlanFault) (g : System → List ℕ) → ((s : System) → f s ≡ Ok (g s)) → (s : System) → (g s ≡ [] → ⊥) → plan_by f ≡ Ok (plan_with (tabulate g))
-plan_from f g each s some =
-    ap₂ plan_unless (no_fault f g each systems) (tabulated_same (λ s. signals_or_none (f s)) g (λ s. ap signals_or_none (each s)))
-    ∙ ap (λ (b : Bool). if b then Err NothingPlanned else Ok (plan_with (tabulate g))) (not_all (λ t. is_nil (value_of t (tabulate g))) s (ap is_nil (value_tabulated s g) ∙ not_nil (g s) some)) where
-      not_nil : (xs : List ℕ) → (xs ≡ [] → ⊥) → is_nil xs ≡ false
-      not_nil [] some = absurd (some refl)
-      not_nil (x ∷ xs) some = refl
+plan_from f g each s some = grind (arith, no_fault, tabulated_same, not_all, value_tabulated)
 
 pub plan_read : CodesReadBack → (cells : List HeardCell) → 0 < length cells → All IsKey cells → plan_of (tabulate (λ s. codes_word s (had cells s))) ≡ Ok (plan_with (tabulate (had cells)))
 plan_read law [] some keys = absurd (omega (arith, some))

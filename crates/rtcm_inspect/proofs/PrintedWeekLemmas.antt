@@ -11,13 +11,13 @@ use Rattle.rtcm_inspect.specs.OptionOutput.{AreOptionsRefused, HasSignals, IsWee
 use Rattle.rtcm_inspect.specs.declared.fault.InspectFault.{InspectFault}
 use Rattle.rtcm_inspect.specs.declared.fault.InspectFault.TheVariants as faults
 use Rattle.rtcm_inspect.specs.declared.printed_week.WeekSource.{WeekSource}
-use Rattle.rtcm_inspect.specs.declared.printed_week.WeekSource.TheVariants.{Unprinted, Near, Ephemerides}
+use Rattle.rtcm_inspect.specs.declared.printed_week.WeekSource.TheVariants.{Near}
 use Rattle.rtcm_inspect.specs.declared.first_tows.FirstTows.{FirstTows}
 use Rattle.rtcm_inspect.specs.declared.first_tows.PlacedTow.{PlacedTow}
 use Rattle.rtcm_inspect.specs.inner.FirstTows.{AreTows, IsGreatestAt, earliest, greatest_among, placed_by}
 use Rattle.gnss_system.specs.Systems.{systems}
 use Rattle.rtcm_inspect.proofs.CountedLemmas.{at_end, at_none}
-use Rattle.rtcm_inspect.proofs.Names.{◌≡◌, ◌∙◌, ◌+◌, ◌-◌, ◌*◌, ◌/◌, ◌%◌, ◌<◌, ◌≤◌, ℕ, false, true, List, Option, Some, None, IfSome, IsWeekFor, frames_of, ap, ap₂, arith, first_tow, set_had, option_and_then, option_map, option_or, refl, subst, sym, Framed, MsmSet}
+use Rattle.rtcm_inspect.proofs.Names.{◌≡◌, ◌∙◌, ◌+◌, ◌-◌, ◌*◌, ◌/◌, ◌<◌, ◌≤◌, ℕ, false, true, List, Option, Some, None, IfSome, IsWeekFor, frames_of, ap, ap₂, arith, first_tow, set_had, option_and_then, option_map, option_or, refl, subst, sym, Framed, MsmSet}
 
 -- ---- the greatest time at the first MSM of a set
 
@@ -56,39 +56,12 @@ divided n = omega arith
 
 pub nearest : (noon tow rest : ℕ) → rest < 1_024
     → IsNearestRest noon tow rest (rest + 1_024 * min (((noon + half_span - 1) - (rest * week + tow)) / span) ((weeks - 1 - rest) / 1_024))
-nearest noon tow rest small = (omega (arith, small), omega (arith, small), each) where
-  q : ℕ
-  q = ((noon + half_span - 1) - (rest * week + tow)) / span
-
-  m : ℕ
-  m = (weeks - 1 - rest) / 1_024
-
-  each : (v : ℕ) → v < weeks → v % 1_024 ≡ rest → (distance noon ((rest + 1_024 * min q m) * week + tow) ≤ distance noon (v * week + tow)) × (distance noon ((rest + 1_024 * min q m) * week + tow) ≡ distance noon (v * week + tow) → rest + 1_024 * min q m ≤ v)
-  each v less is =
-      let j : ℕ = v / 1_024 in
-      let parts : v ≡ rest + 1_024 * (v / 1_024) = omega (arith, is) in
-      let d = divided ((noon + half_span - 1) - (rest * week + tow)) in
-      let bound : v / 1_024 ≤ m = omega (arith, less, parts) in
-      let few : min q m ≤ q = omega arith in
-      let last : min q m ≤ m = omega arith in
-      let here : (rest + 1_024 * min q m) * week + tow ≡ (rest * week + tow) + min q m * span = time_at rest tow (min q m) in
-      let there : v * week + tow ≡ (rest * week + tow) + v / 1_024 * span = ap (λ (n : ℕ). n * week + tow) parts ∙ time_at rest tow (v / 1_024) in (
-        subst2 here there (nearer noon (rest * week + tow) q (min q m) m (v / 1_024) d.0 d.1 few last refl bound),
-        λ same. omega (arith, parts, earlier noon (rest * week + tow) q (min q m) m (v / 1_024) d.0 d.1 few last refl bound (ap (distance noon) (sym here) ∙ same ∙ ap (distance noon) there)),
-      )
-    where
-      subst2 : {a b c d : ℕ} → a ≡ c → b ≡ d → distance noon c ≤ distance noon d → distance noon a ≤ distance noon b
-      subst2 e f less = rw (e, f) less
+nearest noon tow rest small = grind (arith, divided, time_at, nearer, earlier)
 
 -- ---- a week that is refused
 
 pub week_refused : (source : WeekSource) (wanted : Option ℕ) (b : List ℕ) (fault : InspectFault) → HasSignals wanted (frames_of b) → IsWeekRefused source wanted (frames_of b) fault → AreOptionsRefused source wanted b fault
-week_refused Unprinted wanted b fault signals h = absurd h
-week_refused (Near noon) wanted b (faults.OtherWeek date) signals h = (signals, h)
-week_refused (Near noon) wanted b other signals h = absurd h
-week_refused Ephemerides wanted b faults.NoWeek signals h = (signals, h)
-week_refused Ephemerides wanted b (faults.SeveralWeeks first other) signals h = (signals, h)
-week_refused Ephemerides wanted b other signals h = absurd h
+week_refused source wanted b fault signals h = grind arith
 
 -- ---- a week near a date
 

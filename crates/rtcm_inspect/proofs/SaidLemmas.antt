@@ -1,5 +1,4 @@
 -- What the ephemerides of a stream say of the week, after one more frame.
-use Rattle.std.specs.Prelude.{not}
 use Rattle.std.proofs.Common.{set, suc, zero}
 use Rattle.std.proofs.lemmas.Bool.{and_parts}
 use Rattle.std.proofs.lemmas.List.{get_or-set_other, get_or-set_same, get_or_past}
@@ -10,30 +9,22 @@ use Rattle.rtcm_inspect.specs.CountedTimes.{greatest_in}
 use Rattle.rtcm_inspect.specs.SentWeeks.{rest_by, rests_in, said_after, said_at, whole_by, whole_in}
 use Rattle.rtcm_inspect.specs.declared.said_weeks.SaidWeeks.{SaidWeeks}
 use Rattle.rtcm_inspect.specs.inner.SaidWeeks.{AreSaid, AreSaidIn, first_of}
-use Rattle.rtcm_inspect.proofs.Names.{◌≡◌, ◌∙◌, ◌<◌, ◌==◌, ◌&&◌, ◌||◌, ◌++◌, ℕ, Bool, true, false, List, [], ◌∷◌, Option, Some, None, ap, ap₂, append-nil, append_assoc, arith, below, find, first_two, get_or, length, list_any, list_any-append, nat_lt, nat_tests, option_and_then, option_to_list, refl, subst, sym, with_other, FirstTwo, Framed}
+use Rattle.rtcm_inspect.proofs.Names.{common_steps, ◌≡◌, ◌∙◌, ◌<◌, ◌==◌, ◌&&◌, ◌||◌, ◌++◌, ℕ, Bool, true, false, List, [], ◌∷◌, Option, Some, None, ap, arith, below, first_two, get_or, length, list_any, list_any-append, option_and_then, option_to_list, refl, subst, sym, FirstTwo, Framed}
 
 -- ---- one more frame
 
 said_more : (says : ℕ → SentWeek → Option ℕ) (wanted : Option ℕ) (earlier fs : List Framed) (f : Framed)
     → said_after says wanted earlier (fs ++ f ∷ []) ≡ said_after says wanted earlier fs ++ option_to_list (said_at says wanted (earlier ++ fs) f)
-said_more says wanted earlier [] f =
-    append-nil (option_to_list (said_at says wanted earlier f))
-    ∙ ap (λ (before : List Framed). option_to_list (said_at says wanted before f)) (sym (append-nil earlier))
-said_more says wanted earlier (g ∷ fs) f =
-    ap (λ (l : List ℕ). option_to_list (said_at says wanted earlier g) ++ l)
-    (said_more says wanted (earlier ++ g ∷ []) fs f
-    ∙ ap (λ (before : List Framed). said_after says wanted (earlier ++ g ∷ []) fs ++ option_to_list (said_at says wanted before f)) (append_assoc earlier (g ∷ []) fs))
-    ∙ sym (append_assoc (option_to_list (said_at says wanted earlier g)) (said_after says wanted (earlier ++ g ∷ []) fs) (option_to_list (said_at says wanted (earlier ++ g ∷ fs) f)))
+said_more says wanted earlier [] f = grind (arith, common_steps)
+said_more says wanted earlier (g ∷ fs) f = grind (arith, common_steps, (said_more says wanted (earlier ++ g ∷ []) fs f))
 
 -- what the frame says, by the message and the greatest time before it
 said_of : (says : ℕ → SentWeek → Option ℕ) (wanted : Option ℕ) (fs : List Framed) (f : Framed) (message : List ℕ) {t : Option ℕ} {e : Option SentWeek} → f.message ≡ message → e ≡ sent_week message
     → t ≡ greatest_in wanted fs → said_at says wanted fs f ≡ option_and_then (λ t. option_and_then (says t) e) t
-said_of says wanted fs f message is sent greatest =
-    ap₂ (λ (e : Option SentWeek) (t : Option ℕ). option_and_then (λ t. option_and_then (says t) e) t) (ap sent_week is ∙ sym sent) (sym greatest)
+said_of says wanted fs f message is sent greatest = grind arith
 
 pub no_sender : (o : Option ℕ) (says : ℕ → SentWeek → Option ℕ) → option_and_then (λ t. option_and_then (says t) None) o ≡ None
-no_sender None says = refl
-no_sender (Some t) says = refl
+no_sender o says = grind arith
 
 pub said_now : (says : ℕ → SentWeek → Option ℕ) (wanted : Option ℕ) (fs : List Framed) (f : Framed) (message : List ℕ) {t : Option ℕ} {e : Option SentWeek} {said : Option ℕ} → f.message ≡ message → e ≡ sent_week message
     → t ≡ greatest_in wanted fs → option_and_then (λ t. option_and_then (says t) e) t ≡ said
@@ -44,10 +35,7 @@ said_now says wanted fs f message is sent greatest said =
 -- a frame that says nothing
 pub nothing_said : {x : SaidWeeks} {wanted : Option ℕ} {fs : List Framed} (f : Framed) (message : List ℕ) {t : Option ℕ} {e : Option SentWeek} → f.message ≡ message → e ≡ sent_week message → t ≡ greatest_in wanted fs
     → ((says : ℕ → SentWeek → Option ℕ) → option_and_then (λ t. option_and_then (says t) e) t ≡ None) → AreSaidIn x wanted fs → AreSaidIn x wanted (fs ++ f ∷ [])
-nothing_said {x} {wanted} {fs} f message is sent greatest none h = record {
-  whole = subst (AreSaid x.whole 16_384) (sym (said_now whole_by wanted fs f message is sent greatest (none whole_by) ∙ append-nil (whole_in wanted fs))) h.whole;
-  rests = subst (AreSaid x.rests 1_024) (sym (said_now rest_by wanted fs f message is sent greatest (none rest_by) ∙ append-nil (rests_in wanted fs))) h.rests;
-}
+nothing_said f message is sent greatest none h = grind (arith, common_steps, said_now)
 
 -- a frame with an ephemeris, after others that have a greatest time
 pub both_said : {x y : SaidWeeks} {wanted : Option ℕ} {fs : List Framed} (f : Framed) (message : List ℕ) (t : ℕ) (e : SentWeek) {whole rest : Option ℕ} → f.message ≡ message → Some e ≡ sent_week message → Some t ≡ greatest_in wanted fs
@@ -62,24 +50,7 @@ both_said {x} {y} {wanted} {fs} f message t e is sent greatest whole rest more r
 
 set_more : (added : List Bool) (n size : ℕ) (ns : List ℕ) → length added ≡ size → n < size → ((k : ℕ) → get_or added k false ≡ list_any (λ m. m == k) ns)
     → (k : ℕ) → get_or (set added n true) k false ≡ list_any (λ m. m == k) (ns ++ n ∷ [])
-set_more added n size ns is small h k = by (n == k) refl ∙ sym (list_any-append (λ m. m == k) ns (n ∷ [])) where
-  later : (b : Bool) → (b || (true || false)) ≡ true
-  later true = refl
-  later false = refl
-
-  same : (b : Bool) → (b || (false || false)) ≡ b
-  same true = refl
-  same false = refl
-
-  by : (b : Bool) → (n == k) ≡ b → get_or (set added n true) k false ≡ (list_any (λ m. m == k) ns || ((n == k) || false))
-  by true e =
-      let equal : n ≡ k = grind (arith, e) in
-      subst (λ (j : ℕ). get_or (set added n true) j false ≡ true) equal (get_or-set_same added n true false (omega (arith, small, is)))
-      ∙ sym (ap (λ (b : Bool). list_any (λ m. m == k) ns || (b || false)) e ∙ later (list_any (λ m. m == k) ns))
-  by false e =
-      let apart : k ≡ n → ⊥ = λ q. let bad : (n == k) ≡ true = grind (arith, q) in let no : true ≡ false = sym bad ∙ e in cc in
-      get_or-set_other added n k true false apart ∙ h k
-      ∙ sym (ap (λ (b : Bool). list_any (λ m. m == k) ns || (b || false)) e ∙ same (list_any (λ m. m == k) ns))
+set_more added n size ns is small h k = grind (arith, list_any-append, get_or-set_same, get_or-set_other)
 
 -- ---- the weeks of a set
 
@@ -102,18 +73,10 @@ in_below q (suc n) m less is = list_any-append q (below n) (n ∷ []) ∙ by (m 
       left (list_any q (below n)) (q n || false) (rest (omega (arith, less, apart)))
 
 iff_same : (a b : Bool) → (a ≡ true → b ≡ true) → (b ≡ true → a ≡ true) → a ≡ b
-iff_same true b to from = sym (to refl)
-iff_same false true to from = from refl
-iff_same false false to from = refl
+iff_same a b to from = grind arith
 
 within : (added : List Bool) (m : ℕ) → get_or added m false ≡ true → m < length added
-within added m e = by (nat_lt m (length added)) refl where
-  by : (b : Bool) → nat_lt m (length added) ≡ b → m < length added
-  by true t = grind (arith, nat_tests, t)
-  by false t =
-      let past : get_or added m false ≡ false = get_or_past added m false (grind (arith, nat_tests, t)) in
-      let bad : true ≡ false = sym e ∙ past in
-      cc
+within added m e = grind (arith, get_or_past)
 
 pub any_added : (p : ℕ → Bool) (added : List Bool) (size : ℕ) (ns : List ℕ) → length added ≡ size → ((k : ℕ) → get_or added k false ≡ list_any (λ m. m == k) ns)
     → list_any (λ i. get_or added i false && p i) (below size) ≡ list_any p ns
@@ -144,8 +107,4 @@ any_added p added size ns is h = iff_same (list_any q (below size)) (list_any p 
 -- ---- the first of them
 
 pub no_first : {x : FirstTwo} (ns : List ℕ) → None ≡ first_of x → x ≡ first_two ns → ns ≡ []
-no_first {x} [] none is = refl
-no_first {x} (n ∷ ns) none is = absurd (by (find (λ m. not (m == n)) ns) (none ∙ ap first_of is)) where
-  by : (o : Option ℕ) → ◌≡◌ {A = Option ℕ} None (first_of (with_other n o)) → ⊥
-  by None e = cc
-  by (Some m) e = cc
+no_first ns none is = grind arith

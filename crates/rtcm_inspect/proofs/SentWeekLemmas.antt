@@ -8,25 +8,21 @@ use Rattle.obs_epoch.specs.Starts.{first_week}
 use Rattle.obs_epoch.specs.declared.week.Start.{Start}
 use Rattle.obs_epoch.proofs.StartLaws.{given}
 use Rattle.rtcm_inspect.specs.SentWeekLaws.{IsCountedFromStart, IsInSentWeek, own_tows}
-use Rattle.rtcm_inspect.specs.SentWeeks.{is_recent, whole_by}
+use Rattle.rtcm_inspect.specs.SentWeeks.{whole_by}
 use Rattle.rtcm_inspect.proofs.WeekLemmas.{not_past, placed}
-use Rattle.rtcm_inspect.proofs.Names.{◌≡◌, ◌∙◌, ◌+◌, ◌-◌, ◌*◌, ◌/◌, ◌<◌, ◌≤◌, ◌==◌, ◌&&◌, ◌||◌, ◌++◌, ℕ, Bool, true, false, List, [], ◌∷◌, Option, Some, None, ahead, ap, arith, cons_option, greatest_time, is_closed, is_own, is_past, max_known, nat_le, nat_lt, nat_tests, option_and_then, option_map, option_map_or, refl, subst, sym, taken_at, timed_after, if◌then◌else◌, GatherSetup, Heard, Timed}
+use Rattle.rtcm_inspect.proofs.Names.{◌≡◌, ◌∙◌, ◌+◌, ◌*◌, ◌/◌, ◌<◌, ◌≤◌, ◌==◌, ◌&&◌, ◌||◌, ◌++◌, ℕ, Bool, true, false, List, [], ◌∷◌, Option, Some, None, ahead, ap, arith, cons_option, greatest_time, is_own, is_past, max_known, nat_lt, nat_tests, option_and_then, option_map, refl, sym, taken_at, timed_after, if◌then◌else◌, GatherSetup, Heard, Timed}
 
 -- ---- the greatest time so far
 
 known_again : (a b c : Option ℕ) → max_known a (max_known b c) ≡ max_known (max_known a b) c
-known_again None b c = refl
-known_again (Some x) None c = refl
-known_again (Some x) (Some y) None = refl
-known_again (Some x) (Some y) (Some z) = ap Some (omega arith)
+known_again a b c = grind arith
 
-first_known : (o : Option ℕ) → max_known o None ≡ max_known None o
-first_known None = refl
-first_known (Some t) = refl
+none_known : (o : Option ℕ) → max_known o None ≡ o
+none_known o = grind arith
 
 -- of one more message
 greatest_more : (xs : List Timed) (x : Timed) → greatest_time (xs ++ x ∷ []) ≡ max_known (greatest_time xs) x.time
-greatest_more [] x = first_known x.time
+greatest_more [] x = none_known x.time
 greatest_more (y ∷ ys) x = ap (max_known y.time) (greatest_more ys x) ∙ known_again y.time (greatest_time ys) x.time
 
 -- it doesn't fall
@@ -57,41 +53,20 @@ from_start w o = option_map (λ t. w * week + t) o
 -- the greatest time after it, by the bits of the tests
 step_of : (t a : ℕ) (late again past : Bool) → (again ≡ true → a ≡ 0)
     → max_known (Some t) (if (late || again) || past then None else Some (t + a)) ≡ Some (if late || past then t else t + a)
-step_of t a true again past zero = refl
-step_of t a false true true zero = refl
-step_of t a false true false zero = let none : a ≡ 0 = zero refl in rw none (ap Some (omega arith))
-step_of t a false false true zero = refl
-step_of t a false false false zero = ap Some (omega arith)
+step_of t a late again past zero = grind arith
 
 past_more : (n m : ℕ) → is_past n ≡ true → is_past (m + n) ≡ true
 past_more n m h = grind (arith, nat_tests, h)
 
 value : (begin u a v : ℕ) (late : Bool) → (if late || is_past (u + a) then Some u else Some (u + a)) ≡ Some v → begin + v < weeks * week → (if late || is_past ((begin + u) + a) then begin + u else (begin + u) + a) ≡ begin + v
-value begin u a v true e small = ap (λ (n : ℕ). begin + n) (some_same u v e)
-value begin u a v false e small = by (is_past (u + a)) refl where
-  by : (b : Bool) → is_past (u + a) ≡ b → (if is_past ((begin + u) + a) then begin + u else (begin + u) + a) ≡ begin + v
-  by true p =
-      let same : u ≡ v = some_same u v (sym (ap (λ (b : Bool). if b then Some u else Some (u + a)) p) ∙ e) in
-      let sum : begin + (u + a) ≡ (begin + u) + a = omega arith in
-      ap (λ (b : Bool). if b then begin + u else (begin + u) + a) (subst (λ (n : ℕ). is_past n ≡ true) sum (past_more (u + a) begin p)) ∙ ap (λ (n : ℕ). begin + n) same
-  by false p =
-      let same : u + a ≡ v = some_same (u + a) v (sym (ap (λ (b : Bool). if b then Some u else Some (u + a)) p) ∙ e) in
-      let sum : (begin + u) + a ≡ begin + v = omega (arith, same) in
-      ap (λ (b : Bool). if b then begin + u else (begin + u) + a) (not_past ((begin + u) + a) (omega (arith, sum, small))) ∙ sum
+value begin u a v late e small = grind (arith, some_same, past_more, not_past)
 
 is_zero : (a : ℕ) (b : Bool) → ((a == 0) && b) ≡ true → a ≡ 0
 is_zero a b h = grind (arith, h)
 
 step_some : (s : GatherSetup) (earlier : List Timed) (n u tow v : ℕ) → greatest_time earlier ≡ Some (n * week + u) → with_tow (Some u) tow ≡ Some v → n * week + v < weeks * week
     → max_known (greatest_time earlier) (placed s earlier (greatest_time earlier) tow) ≡ Some (n * week + v)
-step_some s earlier n u tow v is next small =
-    let t : ℕ = n * week + u in
-    let closed : Bool = is_closed s (n * week + u) earlier in
-    let a : ℕ = ahead u tow in
-    ap (λ (g : Option ℕ). max_known g (placed s earlier g tow)) is
-    ∙ ap (λ (a : ℕ). max_known (Some (n * week + u)) (if (nat_lt half_week a || ((a == 0) && is_closed s (n * week + u) earlier)) || is_past (n * week + u + a) then None else Some (n * week + u + a))) (ahead_same n u tow)
-    ∙ step_of (n * week + u) (ahead u tow) (nat_lt half_week (ahead u tow)) ((ahead u tow == 0) && is_closed s (n * week + u) earlier) (is_past (n * week + u + ahead u tow)) (is_zero (ahead u tow) (is_closed s (n * week + u) earlier))
-    ∙ ap Some (value (n * week) u (ahead u tow) v (nat_lt half_week (ahead u tow)) next small)
+step_some s earlier n u tow v is next small = grind (arith, ahead_same, step_of, is_zero, value)
 
 -- ---- all messages
 
@@ -99,39 +74,13 @@ abbrev own : GatherSetup → Heard → Option ℕ
 own s m = if is_own s m then m.tow else None
 
 taken_own : (s : GatherSetup) (earlier : List Timed) (m : Heard) → taken_at s earlier m ≡ option_and_then (placed s earlier (greatest_time earlier)) (own s m)
-taken_own s earlier m = by (is_own s m) where
-  by : (b : Bool) → (if b then option_and_then (placed s earlier (greatest_time earlier)) m.tow else None) ≡ option_and_then (placed s earlier (greatest_time earlier)) (if b then m.tow else None)
-  by true = refl
-  by false = refl
-
-none_known : (o : Option ℕ) → max_known o None ≡ o
-none_known None = refl
-none_known (Some t) = refl
+taken_own s earlier m = grind arith
 
 -- one more message: the greatest time is that which is counted
 one_more : (s : GatherSetup) (earlier : List Timed) (m : Heard) (g : Option ℕ) (o : Option ℕ) (tows : List ℕ) (n t : ℕ) → ((tow : ℕ) → first_week s.start tow ≡ n) → own s m ≡ o → greatest_time earlier ≡ from_start n g → fold with_tow g (cons_option o tows) ≡ Some t
     → n * week + t < weeks * week
     → (h : Option ℕ) × (greatest_time (earlier ++ record { message = m; time = taken_at s earlier m } ∷ []) ≡ from_start n h) × (fold with_tow h tows ≡ Some t)
-one_more s earlier m g None tows n t begins is before all small =
-    (g, greatest_more earlier (record { message = m; time = taken_at s earlier m }) ∙ ap (max_known (greatest_time earlier)) (taken_own s earlier m ∙ ap (option_and_then (placed s earlier (greatest_time earlier))) is) ∙ none_known (greatest_time earlier) ∙ before, all)
-one_more s earlier m None (Some tow) tows n t begins is before all small =
-    let least : tow ≤ t = at_least tow t tows all in (
-      Some tow,
-      greatest_more earlier (record { message = m; time = taken_at s earlier m }) ∙ ap (max_known (greatest_time earlier)) (taken_own s earlier m ∙ ap (option_and_then (placed s earlier (greatest_time earlier))) is)
-          ∙ ap (λ (g : Option ℕ). max_known g (placed s earlier g tow)) before
-          ∙ ap (λ (w : ℕ). if◌then◌else◌ {A = Option ℕ} (is_past (w * week + tow)) None (Some (w * week + tow))) (begins tow)
-          ∙ ap (λ (b : Bool). if◌then◌else◌ {A = Option ℕ} b None (Some (n * week + tow))) (not_past (n * week + tow) (omega (arith, least, small))),
-      all,
-    )
-one_more s earlier m (Some u) (Some tow) tows n t begins is before all small =
-    let (v, next, more) = not_less u tow in
-    let rest : fold with_tow (Some v) tows ≡ Some t = sym (ap (λ (o : Option ℕ). fold with_tow o tows) next) ∙ all in
-    let least : v ≤ t = at_least v t tows rest in (
-      Some v,
-      greatest_more earlier (record { message = m; time = taken_at s earlier m }) ∙ ap (max_known (greatest_time earlier)) (taken_own s earlier m ∙ ap (option_and_then (placed s earlier (greatest_time earlier))) is)
-          ∙ step_some s earlier n u tow v before next (omega (arith, least, small)),
-      rest,
-    )
+one_more s earlier m g o tows n t begins is before all small = grind (arith, greatest_more, taken_own, none_known, at_least, not_past, not_less, step_some)
 
 counted_after : (s : GatherSetup) (ms : List Heard) (earlier : List Timed) (g : Option ℕ) (n t : ℕ) → ((tow : ℕ) → first_week s.start tow ≡ n) → greatest_time earlier ≡ from_start n g → fold with_tow g (own_tows s ms) ≡ Some t → n * week + t < weeks * week
     → greatest_time (timed_after s earlier ms) ≡ Some (n * week + t)
@@ -146,11 +95,7 @@ counted_from_start s ms n t starts all small = counted_after s ms [] None n t (�
 -- ---- an ephemeris
 
 said_parts : (t start : ℕ) (e : SentWeek) → whole_by t e ≡ Some start → e.week ≡ start + t / week
-said_parts t start e h = by (e.is_whole && is_recent t e) (nat_le (t / week) e.week) refl h where
-  by : (a b : Bool) → nat_le (t / week) e.week ≡ b → (if a && b then Some (e.week - t / week) else None) ≡ Some start → e.week ≡ start + t / week
-  by true true le is = let same : e.week - t / week ≡ start = some_same (e.week - t / week) start is in let less : t / week ≤ e.week = grind (arith, nat_tests, le) in omega (arith, same, less)
-  by true false le is = cc
-  by false b le is = cc
+said_parts t start e h = grind (arith, some_same)
 
 in_week : (start t w : ℕ) → w ≡ start + t / week → w < weeks → (start * week + t < weeks * week) × ((start * week + t) / week ≡ w)
 in_week start t w is small = (omega (arith, is, small), omega (arith, is))

@@ -9,16 +9,15 @@ use Rattle.rtcm_msg.specs.declared.number.Forms.TheVariants as forms
 use Rattle.rtcm_msg.specs.declared.view.Form.TheVariants as form
 use Rattle.gnss_system.specs.SystemValues.{value_of}
 use Rattle.gnss_system.proofs.SystemLaws.{value_tabulated}
-use Rattle.obs_epoch.specs.Sets.{is_always_decoded, is_decoded}
+use Rattle.obs_epoch.specs.Sets.{is_decoded}
 use Rattle.rtcm_inspect.specs.SignalLaws.{ReadsAll}
 use Rattle.rtcm_inspect.proofs.ValuedLemmas.{valued_system}
-use Rattle.rtcm_inspect.proofs.Names.{false_from_ne_true, or_right, true≢false, get_or, All-head, All-tail, GatherSetup, SignalAt, entries, has_listed_key, is_planned, is_some, place_in, planned_of, ◌≡◌, ◌∙◌, ◌++◌, ◌||◌, ℕ, Bool, true, false, not, List, [], ◌∷◌, Option, Some, None, Result, Ok, Err, All, All-cons, All-nil, ⊤, ◌&&◌, ap, arith, bits_of, inl, inr, length, list_any, list_any-append, nat_lt, option_and_then, option_map_or, refl, subst, sym, if◌then◌else◌, Framed, MsgFault, Message, Station, Msm4, Msm5, Msm6, Msm7, Form, Forms, MsmSet, message_at, message_with, have_form, System, Heard, HeardCell, every_channel, heard, heard_of, inspected, inspected_in, inspected_of, is_of_station, set_of, valued, forms_had, has_other_value, is_of_other, needs_all, tow_of, valued_in, valued_of, with_forms}
+use Rattle.rtcm_inspect.proofs.Names.{false_from_ne_true, true≢false, All-head, All-tail, GatherSetup, SignalAt, entries, is_planned, is_some, place_in, ◌≡◌, ◌∙◌, ◌++◌, ◌||◌, ℕ, Bool, true, false, not, List, [], ◌∷◌, Option, None, Result, Ok, Err, All, All-cons, All-nil, ⊤, ◌&&◌, ap, arith, bits_of, inl, inr, length, list_any, list_any-append, nat_lt, option_and_then, option_map_or, refl, subst, sym, if◌then◌else◌, Framed, MsgFault, Message, Msm4, Msm5, Msm6, Msm7, Form, Forms, MsmSet, message_at, message_with, have_form, System, Heard, HeardCell, every_channel, heard, heard_of, inspected, inspected_in, inspected_of, is_of_station, set_of, valued, forms_had, has_other_value, is_of_other, needs_all, tow_of, valued_in, valued_of, with_forms}
 
 -- ---- a message that isn't decoded
 
 pub if_same : {A : Type 0} (b : Bool) {x y : A} → x ≡ y → (if b then x else y) ≡ y
-if_same true same = same
-if_same false same = refl
+if_same b same = grind arith
 
 abbrev found : {A : Type 0} → (leap : ℕ) → (Heard → A) → A → Result Message MsgFault → A
 found leap has none r = option_map_or has (heard_of every_channel leap r) none
@@ -40,8 +39,7 @@ module _ {A : Type 0} (leap : ℕ) (set : MsmSet) (bytes : List ℕ) (has : Hear
 -- ---- the time of week
 
 tow_found : (wanted : Option ℕ) (o : Option Heard) → option_and_then (tow_of wanted) o ≡ option_map_or (tow_of wanted) o None
-tow_found wanted None = refl
-tow_found wanted (Some m) = refl
+tow_found wanted o = grind arith
 
 none_of_other : (leap : ℕ) (wanted : Option ℕ) (bytes : List ℕ) → tow_of wanted (heard every_channel leap (other_of (bits_of bytes))) ≡ None
 none_of_other leap wanted bytes = if_same (is_of_station wanted (heard every_channel leap (other_of (bits_of bytes)))) refl
@@ -54,9 +52,7 @@ tow_read leap set wanted bytes m read = tow_found wanted (inspected_in leap set 
   by false is = found_outside leap set bytes (tow_of wanted) None (none_of_other leap wanted bytes) m read is
 
 pub tow_refused : (leap : ℕ) (set : MsmSet) (wanted : Option ℕ) (bytes : List ℕ) (e : MsgFault) → message_at bytes ≡ Err e → option_and_then (tow_of wanted) (inspected_in leap set bytes) ≡ None
-tow_refused leap set wanted bytes e read =
-    tow_found wanted (inspected_in leap set bytes)
-    ∙ found_refused leap set bytes (tow_of wanted) None (none_of_other leap wanted bytes) e read
+tow_refused leap set wanted bytes e read = grind (arith, tow_found, found_refused, none_of_other)
 
 -- ---- the cells that count
 
@@ -86,19 +82,14 @@ planned_each s (f ∷ fs) h =
     All-cons (λ f. ArePlanned s (valued_of s.station f)) f fs (front s (valued_of s.station f) (valued_in s.station fs) h) (planned_each s fs (rest s (valued_of s.station f) (valued_in s.station fs) h))
 
 planned_some : (a : Bool) (g : SignalAt) (is : List ℕ) → (a && is_some (place_in g is)) ≡ true → nat_lt 0 (length is) ≡ true
-planned_some true g [] h = absurd (grind (arith, h))
-planned_some false g [] h = cc
-planned_some a g (i ∷ is) h = grind arith
+planned_some a g is h = grind arith
 
 -- the system of a planned cell is decoded
 decoded : (s : GatherSetup) (x : HeardCell) → is_planned s x ≡ true → is_decoded s.plan x.satellite.system ≡ true
-decoded s x h =
-    or_right (is_always_decoded x.satellite.system) _ (planned_some (has_listed_key x) x.signal (planned_of x.satellite.system s.plan) h)
+decoded s x h = grind (arith, planned_some)
 
 not_out : (a b n : Bool) → a ≡ true → (a && b) ≡ false → (not b && n) ≡ false → n ≡ false
-not_out true true n e out had = cc
-not_out true false n e out had = had
-not_out false b n e out had = cc
+not_out a b n e out had = grind arith
 
 -- an MSM outside the set has no cell that counts
 no_cell : (s : GatherSetup) (fs : Forms) (f : Form) (system : System) (xs : List HeardCell) → All (λ x. x.satellite.system ≡ system) xs → ArePlanned s xs → has_msm (set_of s.plan fs) f system ≡ false
@@ -135,51 +126,32 @@ kept_frame s fs f planned had = by (message_at f.message) refl had where
 
 -- no form is another than all
 none_other : (m : Message) → is_of_other forms.All m ≡ false
-none_other (Station p) = refl
-none_other other = refl
+none_other m = grind arith
 
 all_had : (wanted : Option ℕ) (r : Result Message MsgFault) → IsHad forms.All wanted r
-all_had wanted (Ok m) = ap (λ (b : Bool). b && nat_lt 0 (length (valued wanted (inspected m)))) (none_other m)
-all_had wanted (Err e) = tt
+all_had wanted r = grind (arith, none_other)
 
 not_needed : (wanted : Option ℕ) (r : Result Message MsgFault) → needs_all wanted r ≡ false → IsHad forms.FourAndSeven wanted r
-not_needed wanted (Ok m) h = h
-not_needed wanted (Err e) h = tt
+not_needed wanted r h = grind arith
 
 abbrev needs : Option ℕ → Framed → Bool
 needs wanted f = needs_all wanted (message_at f.message)
 
 pub loses_none : (s : GatherSetup) (fs : List Framed) → ArePlanned s (valued_in s.station fs) → All (ReadsAll (set_of s.plan (forms_had s.station fs)) s) fs
-loses_none s fs planned = by (list_any (needs s.station) fs) refl where
-  kept : (forms : Forms) → All (λ f. IsHad forms s.station (message_at f.message)) fs → All (ReadsAll (set_of s.plan forms) s) fs
-  kept forms had = λ k d within. kept_frame s forms (get_or fs k d) (planned_each s fs planned k d within) (had k d within)
-
-  by : (b : Bool) → list_any (needs s.station) fs ≡ b → All (ReadsAll (set_of s.plan (if b then forms.All else forms.FourAndSeven)) s) fs
-  by true h = kept forms.All (λ k d within. all_had s.station (message_at (get_or fs k d).message))
-  by false h =
-      kept forms.FourAndSeven (λ k d within. not_needed s.station (message_at (get_or fs k d).message)
-      (false_from_ne_true _ (λ e. true≢false (sym (list_any_at (needs s.station) fs k d within e) ∙ h))))
+loses_none s fs planned = grind (arith, kept_frame, planned_each, all_had, not_needed, false_from_ne_true, true≢false, list_any_at)
 
 -- ---- the forms of one more message
 
 either : (wanted : Option ℕ) (m : Message) (b : Bool) → with_forms (if b then forms.All else forms.FourAndSeven) wanted m ≡ (if b || (needs_all wanted (Ok m) || false) then forms.All else forms.FourAndSeven)
-either wanted m true = if_same (has_other_value forms.All wanted m) refl
-either wanted m false = by (has_other_value forms.FourAndSeven wanted m) where
-  by : (c : Bool) → (if c then forms.All else forms.FourAndSeven) ≡ (if c || false then forms.All else forms.FourAndSeven)
-  by true = refl
-  by false = refl
+either wanted m b = grind (arith, if_same)
 
 forms_more : (wanted : Option ℕ) (fs : List Framed) (f : Framed) (r : Result Message MsgFault) → message_at f.message ≡ r
     → forms_had wanted (fs ++ f ∷ []) ≡ (if list_any (needs wanted) fs || (needs_all wanted r || false) then forms.All else forms.FourAndSeven)
-forms_more wanted fs f r read =
-    ap (λ (b : Bool). if b then forms.All else forms.FourAndSeven)
-    (list_any-append (needs wanted) fs (f ∷ []) ∙ ap (λ (r : Result Message MsgFault). list_any (needs wanted) fs || (needs_all wanted r || false)) read)
+forms_more wanted fs f r read = grind (arith, list_any-append)
 
 pub forms_read : {before after : Forms} (wanted : Option ℕ) (fs : List Framed) (f : Framed) (m : Message) → message_at f.message ≡ Ok m → after ≡ with_forms before wanted m → before ≡ forms_had wanted fs
     → after ≡ forms_had wanted (fs ++ f ∷ [])
-forms_read wanted fs f m read new old =
-    new ∙ ap (λ (x : Forms). with_forms x wanted m) old ∙ either wanted m (list_any (needs wanted) fs) ∙ sym (forms_more wanted fs f (Ok m) read)
+forms_read wanted fs f m read new old = grind (arith, either, forms_more)
 
 pub forms_refused : {before : Forms} (wanted : Option ℕ) (fs : List Framed) (f : Framed) (e : MsgFault) → message_at f.message ≡ Err e → before ≡ forms_had wanted fs → before ≡ forms_had wanted (fs ++ f ∷ [])
-forms_refused wanted fs f e read old =
-    old ∙ sym (forms_more wanted fs f (Err e) read ∙ ap (λ (b : Bool). if b then forms.All else forms.FourAndSeven) (or-false (list_any (needs wanted) fs)))
+forms_refused wanted fs f e read old = grind (arith, forms_more, or-false)

@@ -1,6 +1,5 @@
 -- The line of a message.
-use Rattle.rtcm_inspect.proofs.Names.{◌≡◌, ◌∙◌, ap, sym, ℕ, ℤ, pos, negsuc, List, Result, Ok, FitsSigned, w64, to_z, of_z, arith, refl, to_z-of_z, FitsInt, Bool, Framed, MsgFault, Message, read_for, Form, MsmValue, FormedMsm, formed, message_in, message_number, message_line, read_line, msm_line}
-use Rattle.rtcm_msg.specs.declared.view.Form.TheVariants as forms
+use Rattle.rtcm_inspect.proofs.Names.{◌≡◌, ◌∙◌, ap, sym, ℕ, ℤ, List, Result, Ok, w64, to_z, of_z, arith, FitsInt, Bool, Framed, MsgFault, Message, read_for, FormedMsm, formed, message_number, message_line, read_line, msm_line}
 
 pub shown : (all : Bool) (f : Framed) (r : Result Message MsgFault) {bytes : List ℕ} → bytes ≡ f.message → read_for all bytes ≡ r → message_line all f ≡ read_line f r
 unfolding message_line
@@ -11,16 +10,8 @@ shown_value all f v m e h same = shown all f (Ok m) e (h ∙ ap (λ (x : Message
 
 -- the line of an MSM of either form
 pub shown_msm : (f : Framed) (m : FormedMsm) → read_line f (Ok (formed m)) ≡ msm_line f.offset (message_number m.form m.msm.system) m.msm
-shown_msm f m = by_form m.form m.msm
-  where
-    by_form : (form : Form) (v : MsmValue) → read_line f (Ok (message_in form v)) ≡ msm_line f.offset (message_number form v.system) v
-    by_form forms.Msm4 v = refl
-    by_form other v = refl
+shown_msm f m = grind arith
 
 -- a coordinate as a parameter
 pub as_passed : (z : ℤ) → FitsInt 38 z → to_z w64 (of_z w64 z) ≡ z
-as_passed z h = to_z-of_z w64 z (fits z h)
-  where
-    fits : (z : ℤ) → FitsInt 38 z → FitsSigned w64 z
-    fits (pos n) h = omega arith
-    fits (negsuc n) h = omega arith
+as_passed z h = grind arith

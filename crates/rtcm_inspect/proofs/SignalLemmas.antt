@@ -1,7 +1,7 @@
 -- The text of the signals of a stream, signal by signal.
 use mathlib.Core.Bool.{or-false}
-use Rattle.rtcm_inspect.proofs.Names.{le-ltb, lt-ltb, ltb-false, ltb-true, ◌≡◌, ℕ, zero, suc, ◌+◌, ◌<◌, ◌≤◌, ◌==◌, ◌&&◌, ◌||◌, All, Bool, true, false, List, [], ◌∷◌, ◌++◌, length, get_or, refl, sym, ap, ap₂, ◌∙◌, subst, arith, filter, map, append-nil, append_assoc, map-append, flat_map-append, cond, nat_lt, codes, list_any, All-head, filter-append, length-filter, count_by-le-length, flat_map, join_with_byte, System, table, code_of, below, SignalCountsValue, AreSignalCounts, common_steps, counted, signal_counts, has_any, signal_in, count_of, is_of_signal, had_below, had, code_list, codes_word, count_line, lines_below, IsKey, HeardCell, list_any-append, has_counted}
-use Rattle.gnss_system.specs.Systems.{systems, index_of}
+use Rattle.rtcm_inspect.proofs.Names.{le-ltb, lt-ltb, ltb-false, ltb-true, ◌≡◌, ℕ, zero, suc, ◌+◌, ◌<◌, ◌≤◌, ◌||◌, All, Bool, true, false, List, [], ◌∷◌, ◌++◌, length, get_or, refl, sym, ap, ap₂, ◌∙◌, arith, filter, append-nil, append_assoc, flat_map-append, cond, nat_lt, codes, list_any, All-head, filter-append, length-filter, count_by-le-length, flat_map, System, table, code_of, below, SignalCountsValue, AreSignalCounts, common_steps, counted, signal_counts, has_any, signal_in, count_of, is_of_signal, had_below, had, code_list, codes_word, count_line, lines_below, IsKey, HeardCell, list_any-append, has_counted}
+use Rattle.gnss_system.specs.Systems.{systems}
 use Rattle.gnss_system.proofs.SystemLaws.{none_any, some_system}
 use Rattle.line_texts.proofs.LineLaws.{join-push}
 
@@ -25,8 +25,7 @@ pub had_one : {c : SignalCountsValue} {cells : List HeardCell} {system : System}
 had_one {cells = cells} {system} {i} {n} h some = had_more h ∙ ap (λ (b : Bool). had_below cells system i ++ cond b (i ∷ []) []) (lt-ltb 0 n some)
 
 pub had_none : {c : SignalCountsValue} {cells : List HeardCell} {system : System} {i n : ℕ} → IsCount c cells system i n → n ≤ 0 → had_below cells system (i + 1) ≡ had_below cells system i
-had_none {cells = cells} {system} {i} {n} h none =
-    had_more h ∙ ap (λ (b : Bool). had_below cells system i ++ cond b (i ∷ []) []) (le-ltb 0 n none) ∙ append-nil (had_below cells system i)
+had_none h none = grind (arith, common_steps, had_more, le-ltb)
 
 -- ---- the codes of a system
 
@@ -36,29 +35,20 @@ IsPartly start text separator system [] = (text ≡ start) × (separator ≡ 0x2
 IsPartly start text separator system (i ∷ is) = (text ≡ start ++ 0x20 ∷ code_list system (i ∷ is)) × (separator ≡ 0x2C)
 
 codes-push : (system : System) (i : ℕ) (is : List ℕ) (j : ℕ) → code_list system (i ∷ is ++ j ∷ []) ≡ code_list system (i ∷ is) ++ 0x2C ∷ code_of (signal_in system j)
-codes-push system i is j =
-    ap (λ (l : List (List ℕ)). join_with_byte 0x2C (code_of (signal_in system i) ∷ l)) (map-append (λ i. code_of (signal_in system i)) is (j ∷ []))
-    ∙ join-push (code_of (signal_in system i)) (map (λ i. code_of (signal_in system i)) is) (code_of (signal_in system j))
+codes-push system i is j = grind (arith, common_steps, join-push)
 
 -- one more code
 pub partly_more : {more : List ℕ} (start text : List ℕ) (separator : ℕ) (system : System) (is : List ℕ) (j : ℕ) → IsPartly start text separator system is → more ≡ text ++ separator ∷ code_of (signal_in system j)
     → IsPartly start more 0x2C system (is ++ j ∷ [])
-partly_more start text separator system [] j h e = (e ∙ ap₂ (λ (l : List ℕ) (s : ℕ). l ++ s ∷ code_of (signal_in system j)) h.0 h.1, refl)
-partly_more start text separator system (i ∷ is) j h e = (
-  e ∙ ap₂ (λ (l : List ℕ) (s : ℕ). l ++ s ∷ code_of (signal_in system j)) h.0 h.1 ∙ append_assoc start (0x20 ∷ code_list system (i ∷ is)) (0x2C ∷ code_of (signal_in system j))
-      ∙ ap (λ (l : List ℕ). start ++ 0x20 ∷ l) (sym (codes-push system i is j)),
-  refl,
-)
+partly_more start text separator system is j h e = grind (arith, common_steps, codes-push)
 
 -- the word with codes, or the word for none
 pub word_some : (start text : List ℕ) (separator : ℕ) (system : System) (is : List ℕ) → IsPartly start text separator system is → (separator ≡ 0x20 → ⊥) → text ≡ start ++ 0x20 ∷ codes_word system is
-word_some start text separator system [] h other = absurd (other h.1)
-word_some start text separator system (i ∷ is) h other = h.0
+word_some start text separator system is h other = grind arith
 
 pub word_none : (start text : List ℕ) {more : List ℕ} {separator : ℕ} (system : System) (is : List ℕ) → IsPartly start text separator system is → separator ≡ 0x20 → more ≡ text ++ 0x20 ∷ codes "none"
     → more ≡ start ++ 0x20 ∷ codes_word system is
-word_none start text system [] h blank e = e ∙ ap (λ (l : List ℕ). l ++ 0x20 ∷ codes "none") h.0
-word_none start text system (i ∷ is) h blank e = absurd (let bad : 0x2C ≡ 0x20 = sym h.1 ∙ blank in omega (arith, bad))
+word_none start text system is h blank e = grind arith
 
 -- ---- a line for each signal
 
@@ -72,8 +62,7 @@ lines_one {cells = cells} {system} {i} {line = line} start h some before e same 
 
 pub lines_none : {c : SignalCountsValue} {cells : List HeardCell} {system : System} {i n : ℕ} {text : List ℕ} (start : List ℕ) → IsCount c cells system i n → n ≤ 0
     → text ≡ start ++ lines_below cells system i → text ≡ start ++ lines_below cells system (i + 1)
-lines_none {cells = cells} {system} start h none before =
-    before ∙ ap (λ (l : List ℕ). start ++ flat_map (λ (i : ℕ). count_line (signal_in system i) (count_of (signal_in system i) cells)) l) (sym (had_none h none))
+lines_none start h none before = grind (arith, had_none)
 
 -- at the end of the table, all its signals were processed
 pub at_end : (system : System) (cells : List HeardCell) (i n : ℕ) → n ≡ length (table system) → i ≤ n → n ≤ i → had_below cells system i ≡ had cells system
@@ -111,9 +100,7 @@ some_cells c cells h any =
     by s i some false t = absurd (omega (arith, some, h.past s i (ltb-false _ _ t)))
 
 pub own_signal : (x : HeardCell) → is_of_signal x.signal x ≡ true
-own_signal x = same (index_of x.signal.system) x.signal.index where
-  same : (m n : ℕ) → ((m == m) && (n == n)) ≡ true
-  same m n = grind (arith, common_steps)
+own_signal x = grind arith
 
 -- if no signal has a cell, there is no cell
 pub no_cells : (c : SignalCountsValue) (cells : List HeardCell) → AreSignalCounts c cells → All IsKey cells → has_any c ≡ false → cells ≡ []
@@ -129,32 +116,21 @@ no_cells c (x ∷ xs) h keys none = absurd (omega (arith, h.each x.signal.system
   zero = any_none (signal_counts x.signal.system c) (none_any (λ s. list_any (λ n. nat_lt 0 n) (signal_counts s c)) none x.signal.system) x.signal.index
 
 pub any_cells : (c : SignalCountsValue) (cells : List HeardCell) → AreSignalCounts c cells → All IsKey cells → has_any c ≡ nat_lt 0 (length cells)
-any_cells c cells h keys = by (has_any c) refl where
-  by : (b : Bool) → has_any c ≡ b → b ≡ nat_lt 0 (length cells)
-  by true is = sym (lt-ltb 0 (length cells) (some_cells c cells h is))
-  by false is = sym (ap (λ (xs : List HeardCell). nat_lt 0 (length xs)) (no_cells c cells h keys is))
+any_cells c cells h keys = grind (arith, lt-ltb, some_cells, no_cells)
 
 -- ---- whether a system has a cell, by the counts of its signals
 
 -- with one more signal, which has n cells
 pub any_more : (c : SignalCountsValue) (system : System) (i n : ℕ) → n ≡ counted c system i → list_any (λ j. nat_lt 0 (counted c system j)) (below (i + 1)) ≡ (list_any (λ j. nat_lt 0 (counted c system j)) (below i) || nat_lt 0 n)
-any_more c system i n is =
-    ap (list_any (λ j. nat_lt 0 (counted c system j))) (below-more i) ∙ list_any-append (λ j. nat_lt 0 (counted c system j)) (below i) (i ∷ [])
-    ∙ ap (λ (b : Bool). list_any (λ j. nat_lt 0 (counted c system j)) (below i) || b) (or-false (nat_lt 0 (counted c system i)) ∙ ap (nat_lt 0) (sym is))
+any_more c system i n is = grind (arith, below-more, list_any-append, or-false)
 
 pub any_filter : {X : Type 0} (p : X → Bool) (xs : List X) → list_any p xs ≡ nat_lt 0 (length (filter p xs))
 any_filter p [] = refl
-any_filter p (x ∷ xs) = by (p x) (any_filter p xs) where
-  by : (b : Bool) → list_any p xs ≡ nat_lt 0 (length (filter p xs)) → (b || list_any p xs) ≡ nat_lt 0 (length (cond b (x ∷ filter p xs) (filter p xs)))
-  by true h = grind arith
-  by false h = h
+any_filter p (x ∷ xs) = grind (arith, (any_filter p xs))
 
 same_below : (p q : ℕ → Bool) (n : ℕ) → ((i : ℕ) → i < n → p i ≡ q i) → list_any p (below n) ≡ list_any q (below n)
 same_below p q zero same = refl
-same_below p q (suc n) same =
-    let e : n + 1 ≡ suc n = omega arith in
-    let more = λ (r : ℕ → Bool). ap (list_any r) (subst (λ (m : ℕ). below m ≡ below n ++ n ∷ []) e (below-more n)) ∙ list_any-append r (below n) (n ∷ []) in
-    more p ∙ ap₂ (λ (a b : Bool). a || (b || false)) (same_below p q n (λ i less. same i (omega (arith, less)))) (same n (omega arith)) ∙ sym (more q)
+same_below p q (suc n) same = grind (arith, below-more, list_any-append, (same_below p q n (λ i less. same i (omega (arith, less)))))
 
 pub decodes_had : (c : SignalCountsValue) (cells : List HeardCell) → AreSignalCounts c cells → (system : System) → has_counted c system ≡ nat_lt 0 (length (had cells system))
 decodes_had c cells h system =

@@ -4,7 +4,7 @@ use Rattle.rtcm_msg.specs.Encoding.{other_of}
 use Rattle.rtcm_msg.specs.Sets.{is_in_set}
 use Rattle.rtcm_inspect.proofs.SetLemmas.{ArePlanned, planned_each, found_inside, found_outside, found_refused, none_valued}
 use Rattle.rtcm_inspect.proofs.WeekLemmas.{own_counts}
-use Rattle.rtcm_inspect.proofs.Names.{get_or, ◌≡◌, ◌∙◌, ◌+◌, ◌≤◌, ◌==◌, ap, ap₂, sym, bits_of, cons_option, every_channel, filter_map, heard_by, heard_msm, if◌then◌else◌, inspected, inspected_in, inspected_of, is_some, lock_by, observed, option_and_then, option_map, satellite_of_id, seen_in, signal_of_id, unlisted_in, ChannelsValue, Entry, MsmValue, Satellite, SignalAt, System, entries, Msm4, Msm5, Msm6, Msm7, message_at, Message, MsgFault, MsmSet, Result, Ok, Err, Bool, true, false, not, ℕ, List, [], ◌∷◌, filter, Option, Some, None, All, refl, subst, arith, cond, count_by, option_map_or, All-nil, All-head, All-tail, sum_by-cons, Framed, counts_of, counts_of_message, is_planned, no_counts, offered, with_skipped, brings_value, is_of_station, valued, GatherSetup, Heard, is_own, HeardCell, Timed, SkipsOnly, valued_in, valued_of, Form}
+use Rattle.rtcm_inspect.proofs.Names.{common_steps, get_or, ◌≡◌, ◌∙◌, ◌+◌, ◌≤◌, ap, sym, bits_of, cons_option, every_channel, filter_map, heard_by, heard_msm, inspected, inspected_in, inspected_of, is_some, seen_in, unlisted_in, ChannelsValue, Entry, MsmValue, System, entries, Msm4, Msm5, Msm6, Msm7, message_at, Message, MsgFault, MsmSet, Result, Ok, Err, Bool, true, false, not, ℕ, List, [], ◌∷◌, filter, All, refl, subst, arith, cond, count_by, option_map_or, All-nil, All-head, All-tail, sum_by-cons, Framed, counts_of_message, is_planned, brings_value, valued, GatherSetup, Heard, HeardCell, Timed, SkipsOnly, valued_in, valued_of, Form}
 
 abbrev one_unless : Bool → ℕ
 one_unless b = cond (not b) 1 0
@@ -13,12 +13,10 @@ counted : (p : HeardCell → Bool) (x : HeardCell) (xs : List HeardCell) → cou
 counted p x xs = sum_by-cons (λ y. cond (not (p y)) 1 0) x xs
 
 at_most : (p : Bool) (a b : ℕ) → a ≤ b → one_unless p + a ≤ 1 + b
-at_most true a b h = omega (arith, h)
-at_most false a b h = omega (arith, h)
+at_most p a b h = grind arith
 
 planned_kept : (p : Bool) (a b : ℕ) → p ≡ true → a ≤ b → one_unless p + a ≤ 0 + b
-planned_kept true a b e h = omega (arith, h)
-planned_kept false a b e h = cc
+planned_kept p a b e h = grind arith
 
 -- if the cells with a value are planned, at most the others are skipped
 few_skipped : (s : GatherSetup) (xs : List HeardCell) → ArePlanned s (filter brings_value xs) → count_by (λ x. not (is_planned s x)) xs ≤ count_by (λ x. not (brings_value x)) xs
@@ -39,12 +37,7 @@ module _ (s : GatherSetup) (c d : ChannelsValue) (form : Form) (system : System)
 
   -- the key of a cell doesn't depend on the channels
   one_skipped : (e : Entry) (xs ys : List HeardCell) → skipped_among xs ≡ skipped_among ys → skipped_among (cons_option (seen_in c form system e) xs) ≡ skipped_among (cons_option (seen_in d form system e) ys)
-  one_skipped e xs ys same = by (satellite_of_id system e.satellite) (signal_of_id system e.signal) where
-    by : (u : Option Satellite) (g : Option SignalAt)
-        → skipped_among (cons_option (option_and_then (λ u. option_map (observed c (lock_by form e.lock) e u) g) u) xs) ≡ skipped_among (cons_option (option_and_then (λ u. option_map (observed d (lock_by form e.lock) e u) g) u) ys)
-    by (Some u) (Some g) =
-        counted (is_planned s) (observed c (lock_by form e.lock) e u g) xs ∙ ap (λ (n : ℕ). one_unless (is_planned s (observed d (lock_by form e.lock) e u g)) + n) same ∙ sym (counted (is_planned s) (observed d (lock_by form e.lock) e u g) ys)
-    by u g = same
+  one_skipped e xs ys same = grind (arith, common_steps, counted)
 
   skipped_same : (es : List Entry) → skipped_among (filter_map (seen_in c form system) es) ≡ skipped_among (filter_map (seen_in d form system) es)
   skipped_same [] = refl
@@ -52,10 +45,7 @@ module _ (s : GatherSetup) (c d : ChannelsValue) (form : Form) (system : System)
 
   unlisted_same : (es : List Entry) → unlisted_in c form system es ≡ unlisted_in d form system es
   unlisted_same [] = refl
-  unlisted_same (e ∷ es) = ap₂ (λ (b : Bool) (n : ℕ). (if b then 0 else 1) + n) (by (satellite_of_id system e.satellite) (signal_of_id system e.signal)) (unlisted_same es) where
-    by : (u : Option Satellite) (g : Option SignalAt) → is_some (option_and_then (λ u. option_map (observed c (lock_by form e.lock) e u) g) u) ≡ is_some (option_and_then (λ u. option_map (observed d (lock_by form e.lock) e u) g) u)
-    by (Some u) None = refl
-    by u g = refl
+  unlisted_same (e ∷ es) = grind (arith, is_some, (unlisted_same es))
 
 -- what a conversion counts of a message doesn't depend on the channels
 record SameKeys (s : GatherSetup) (x y : Heard) : Type 0 where
@@ -75,17 +65,7 @@ same_keys s other = record { station = refl; unlisted = refl; skipped = refl }
 
 message_skips : (s : GatherSetup) (earlier : List Timed) (x y : Heard) → SameKeys s x y → ArePlanned s (valued s.station y)
     → (counts_of_message s earlier x).skipped ≤ y.unlisted + count_by (λ z. not (brings_value z)) y.cells
-message_skips s earlier x y same h = by (is_own s x) _ (λ own. omega (arith, same.skipped, few_skipped s y.cells (of_own (is_of_station s.station y) (own_counts s y (ap (λ (o : Option ℕ). option_map_or (λ from. option_map_or (λ wanted. from == wanted) s.station true) o false) (sym same.station) ∙ own)) h))) where
-  of_own : (b : Bool) → b ≡ true → ArePlanned s (cond b (filter brings_value y.cells) []) → ArePlanned s (filter brings_value y.cells)
-  of_own true e h = h
-  of_own false e h = cc
-
-  by : (b : Bool) (time : Option ℕ) → (b ≡ true → count_by (λ z. not (is_planned s z)) x.cells ≤ count_by (λ z. not (brings_value z)) y.cells)
-      → (option_map_or (λ u. with_skipped x.unlisted (counts_of s (offered s u earlier) x.cells)) (cond b time None) no_counts).skipped
-      ≤ y.unlisted + count_by (λ z. not (brings_value z)) y.cells
-  by true None few = omega arith
-  by true (Some u) few = omega (arith, same.unlisted, few refl)
-  by false time few = omega arith
+message_skips s earlier x y same h = grind (arith, few_skipped, own_counts)
 
 -- the cells that are read with a set are planned, too
 planned_in : (set : MsmSet) (s : GatherSetup) (f : Framed) → ArePlanned s (valued_of s.station f) → ArePlanned s (option_map_or (valued s.station) (inspected_in 0 set f.message) [])

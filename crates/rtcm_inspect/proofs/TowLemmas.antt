@@ -18,7 +18,7 @@ use Rattle.rtcm_inspect.specs.inner.FirstTows.{AreSettled, AreTows, CountsTow, I
 use Rattle.rtcm_inspect.specs.declared.first_tows.FirstTows.{FirstTows}
 use Rattle.rtcm_inspect.specs.declared.first_tows.PlacedTow.{PlacedTow}
 use Rattle.rtcm_inspect.specs.declared.first_tows.SystemTows.{SystemTows}
-use Rattle.rtcm_inspect.proofs.Names.{option_or, le-ltb, lt-ltb, Framed, Message, MsgFault, Ok, Err, ◌++◌, ◌≤◌, first_tow, every_channel, heard, inspected_in, MsmValue, drop, drop_at, length, length-append, message_at, option_map_or, take, tow_of, week, ◌*◌, ◌==◌, ◌≡◌, ◌∙◌, ◌+◌, ◌<◌, ◌&&◌, ◌||◌, ℕ, Bool, true, false, List, [], ◌∷◌, Option, Some, None, IfSome, ap, ap₂, arith, list_any, nat_lt, option_map, is_some, not, refl, subst, sym, if◌then◌else◌, have_form, Form, Forms, MsmSet, System}
+use Rattle.rtcm_inspect.proofs.Names.{common_steps, option_or, le-ltb, lt-ltb, Framed, Message, MsgFault, Ok, Err, ◌++◌, ◌≤◌, first_tow, every_channel, heard, inspected_in, MsmValue, drop, length, length-append, message_at, option_map_or, tow_of, week, ◌*◌, ◌==◌, ◌≡◌, ◌∙◌, ◌+◌, ◌<◌, ◌&&◌, ◌||◌, ℕ, Bool, true, false, List, [], ◌∷◌, Option, Some, None, IfSome, ap, ap₂, arith, list_any, option_map, is_some, refl, subst, sym, if◌then◌else◌, have_form, Form, Forms, MsmSet, System}
 
 -- a time of week before a place
 abbrev pub IsBefore : ℕ → Option PlacedTow → Type 0
@@ -30,38 +30,21 @@ grown b c None = if b then Some c else None
 grown b c (Some x) = Some x
 
 grown_some : (d b : Bool) (x y c : PlacedTow) → (if b then Some y else Some x) ≡ grown d c (if b then Some y else Some x)
-grown_some d true x y c = refl
-grown_some d false x y c = refl
+grown_some d b x y c = grind arith
 
 grown_none : (c : PlacedTow) (o : Option PlacedTow) → o ≡ grown false c o
-grown_none c None = refl
-grown_none c (Some x) = refl
+grown_none c o = grind arith
 
 -- of two, each before the new one
 grown_earlier : (a b : Option PlacedTow) (c : PlacedTow) → IsBefore c.place a → IsBefore c.place b → (p q : Bool) → earlier (grown p c a) (grown q c b) ≡ grown (p || q) c (earlier a b)
-grown_earlier None None c h k true true = if_same (nat_lt c.place c.place) refl
-grown_earlier None None c h k true false = refl
-grown_earlier None None c h k false q = refl
-grown_earlier None (Some y) c h k true q = ap (λ (b : Bool). if b then Some y else Some c) (lt-ltb y.place c.place k)
-grown_earlier None (Some y) c h k false q = refl
-grown_earlier (Some x) None c h k p true = ap (λ (b : Bool). if b then Some c else Some x) (le-ltb c.place x.place (omega (arith, h)))
-grown_earlier (Some x) None c h k p false = refl
-grown_earlier (Some x) (Some y) c h k p q = grown_some (p || q) (nat_lt y.place x.place) x y c
+grown_earlier a b c h k p q = grind (arith, if_same, lt-ltb, le-ltb, grown_some)
 
 earlier_before : (n : ℕ) (a b : Option PlacedTow) → IsBefore n a → IsBefore n b → IsBefore n (earlier a b)
-earlier_before n None b h k = k
-earlier_before n (Some x) None h k = h
-earlier_before n (Some x) (Some y) h k = by (nat_lt y.place x.place) where
-  by : (b : Bool) → IsBefore n (if b then Some y else Some x)
-  by true = k
-  by false = h
+earlier_before n a b h k = grind arith
 
 module _ (set : MsmSet) (tows : BySystem SystemTows) (n : ℕ) (before : (s : System) (forms : Forms) → IsBefore n (tow_in forms (value_of s tows))) where
   entry_before : (s : System) → IsBefore n (entry set tows s)
-  entry_before s = by (value_of s set.systems) where
-    by : (b : Bool) → IsBefore n (if b then tow_in set.forms (value_of s tows) else None)
-    by true = before s set.forms
-    by false = tt
+  entry_before s = grind arith
 
   earliest_before : (ss : List System) → IsBefore n (earliest set tows ss)
   earliest_before [] = tt
@@ -77,22 +60,10 @@ module _ (set : MsmSet) (tows : BySystem SystemTows) (system : System) (form : F
   after = with_value_of system tows now
 
   entry_same : (b d : Bool) (o : Option PlacedTow) → (if b then (if d then option_or o (Some c) else o) else None) ≡ grown (b && d) c (if b then o else None)
-  entry_same true d None = refl
-  entry_same true true (Some x) = refl
-  entry_same true false (Some x) = refl
-  entry_same false d o = refl
+  entry_same b d o = grind arith
 
   entry_grown : (s : System) → entry set after s ≡ grown (is_system system s && is_in) c (entry set tows s)
-  entry_grown s = by (is_system system s) refl where
-    own : entry set after system ≡ grown is_in c (entry set tows system)
-    own =
-        ap (λ (x : SystemTows). if value_of system set.systems then tow_in set.forms x else None) (value_after system tows now)
-        ∙ ap (λ (o : Option PlacedTow). if value_of system set.systems then o else None) (with_c set.forms)
-        ∙ entry_same (value_of system set.systems) (have_form set.forms form) (tow_in set.forms (value_of system tows))
-
-    by : (b : Bool) → is_system system s ≡ b → entry set after s ≡ grown (b && is_in) c (entry set tows s)
-    by true e = subst (λ (t : System). entry set after t ≡ grown is_in c (entry set tows t)) (system_same system s e) own
-    by false e = ap (λ (x : SystemTows). if value_of s set.systems then tow_in set.forms x else None) (value_of_other system s tows now e) ∙ grown_none c (entry set tows s)
+  entry_grown s = grind (arith, value_after, now, entry_same, system_same, value_of_other, grown_none)
 
   earliest_grown : (ss : List System) → earliest set after ss ≡ grown (list_any (is_system system) ss && is_in) c (earliest set tows ss)
   earliest_grown [] = refl
@@ -163,12 +134,10 @@ tows_refused {x} {wanted} {fs} f {e} read h = record {
 }
 
 later : (n m : ℕ) (o : Option PlacedTow) → n ≤ m → IsBefore n o → IsBefore m o
-later n m None le h = tt
-later n m (Some t) le h = omega (arith, le, h)
+later n m o le h = grind arith
 
 no_tow : (b : Bool) (o : Option ℕ) (t : Option ℕ) → t ≡ None → option_or o (if b then t else None) ≡ o
-no_tow true o t none = rw none (or_none o)
-no_tow false o t none = or_none o
+no_tow b o t none = grind (arith, or_none)
 
 -- a message that isn't an MSM of the wanted station
 pub tows_same : {x y : FirstTows} {wanted : Option ℕ} {fs : List Framed} (f : Framed) {m : Message} → message_at f.message ≡ Ok m → y.messages ≡ x.messages + 1 → y ≡ record x { messages = y.messages }
@@ -186,16 +155,10 @@ tows_same {x} {y} {wanted} {fs} f {m} read count same none h = subst (λ (z : Fi
     none_here = tow_read_in counted_set wanted f read ∙ if_same (is_in_set counted_set m) (none 0)
 
 tow_grown : (leap : ℕ) (b : Bool) (c : PlacedTow) (o : Option PlacedTow) → option_map (placed_by leap) (grown b c o) ≡ option_or (option_map (placed_by leap) o) (if b then Some (placed_by leap c) else None)
-tow_grown leap true c None = refl
-tow_grown leap false c None = refl
-tow_grown leap b c (Some t) = refl
+tow_grown leap b c o = grind arith
 
 with_before : (x y : SystemTows) (form : Form) (c : PlacedTow) (forms : Forms) → IsWith x form c y forms → IsBefore c.place (tow_in forms x) → IsBefore (c.place + 1) (tow_in forms y)
-with_before x y form c forms is h = subst (IsBefore (c.place + 1)) (sym is) (by (have_form forms form) (tow_in forms x) h) where
-  by : (b : Bool) (o : Option PlacedTow) → IsBefore c.place o → IsBefore (c.place + 1) (if b then option_or o (Some c) else o)
-  by true None h = omega arith
-  by true (Some t) h = omega (arith, h)
-  by false o h = later c.place (c.place + 1) o (omega arith) h
+with_before x y form c forms is h = grind (arith, later)
 
 -- an MSM of the wanted station was added to the first ones; its time may still have to be counted
 pub record AreTowsButLast (y : FirstTows) (wanted : Option ℕ) (fs : List Framed) (f : Framed) : Type 0 where
@@ -210,9 +173,7 @@ pub record AreTowsButLast (y : FirstTows) (wanted : Option ℕ) (fs : List Frame
 at_grown : (wanted : Option ℕ) (fs : List Framed) (f : Framed) (set : MsmSet) (c : PlacedTow) (b : Bool) (o : Option PlacedTow) → c.greatest ≡ None
     → AtFirst wanted (fs ++ f ∷ []) (counted_tows wanted fs) set o → (b ≡ true → o ≡ None → length (counted_tows wanted fs) ≡ counted_before set wanted (fs ++ f ∷ []))
     → AtFirst wanted (fs ++ f ∷ []) (counted_tows wanted fs) set (grown b c o)
-at_grown wanted fs f set c true None none h new = subst (IsGreatestAt (counted_before set wanted (fs ++ f ∷ [])) (counted_tows wanted fs)) (sym none) (new refl refl)
-at_grown wanted fs f set c false None none h new = tt
-at_grown wanted fs f set c b (Some t) none h new = h
+at_grown wanted fs f set c b o none h new = grind arith
 
 if_true : (b : Bool) (o : Option ℕ) → b ≡ true → (if b then o else None) ≡ o
 if_true b o e = ap (λ (d : Bool). if d then o else None) e
@@ -261,68 +222,44 @@ tows_of_glonass {y} {wanted} {fs} f {m} form read is h = record {
 -- ---- a first MSM that is given a greatest time
 
 settled_earlier : (t : ℕ) (a b : Option PlacedTow) → earlier (option_map (settled t) a) (option_map (settled t) b) ≡ option_map (settled t) (earlier a b)
-settled_earlier t None b = refl
-settled_earlier t (Some x) None = refl
-settled_earlier t (Some x) (Some y) = by (nat_lt y.place x.place) where
-  by : (b : Bool) → (if b then Some (settled t y) else Some (settled t x)) ≡ option_map (settled t) (if b then Some y else Some x)
-  by true = refl
-  by false = refl
+settled_earlier t a b = grind (arith, settled)
 
 abbrev all_settled : ℕ → BySystem SystemTows → BySystem SystemTows
 all_settled t tows = tabulate (λ s. settled_tows t (value_of s tows))
 
 settled_in : (t : ℕ) (forms : Forms) (x : SystemTows) → tow_in forms (settled_tows t x) ≡ option_map (settled t) (tow_in forms x)
-settled_in t FourAndSeven x = refl
-settled_in t All x = refl
+settled_in t forms x = grind arith
 
 of_settled : (t : ℕ) (tows : BySystem SystemTows) (s : System) (forms : Forms) → tow_in forms (value_of s (all_settled t tows)) ≡ option_map (settled t) (tow_in forms (value_of s tows))
 of_settled t tows s forms = ap (tow_in forms) (value_tabulated s (λ s. settled_tows t (value_of s tows))) ∙ settled_in t forms (value_of s tows)
 
 settled_earliest : (t : ℕ) (set : MsmSet) (tows : BySystem SystemTows) (ss : List System) → earliest set (all_settled t tows) ss ≡ option_map (settled t) (earliest set tows ss)
 settled_earliest t set tows [] = refl
-settled_earliest t set tows (s ∷ ss) =
-    ap₂ earlier (by (value_of s set.systems)) (settled_earliest t set tows ss) ∙ settled_earlier t (entry set tows s) (earliest set tows ss)
-  where
-    by : (b : Bool) → (if b then tow_in set.forms (value_of s (all_settled t tows)) else None) ≡ option_map (settled t) (if b then tow_in set.forms (value_of s tows) else None)
-    by true = of_settled t tows s set.forms
-    by false = refl
+settled_earliest t set tows (s ∷ ss) = grind (arith, settled_earlier, settled, of_settled, (settled_earliest t set tows ss))
 
 settled_before : (n t : ℕ) (o : Option PlacedTow) → IsBefore n o → IsBefore n (option_map (settled t) o)
-settled_before n t None h = tt
-settled_before n t (Some x) h = h
+settled_before n t o h = grind arith
 
 settled_placed : (leap t : ℕ) (o : Option PlacedTow) → option_map (placed_by leap) (option_map (settled t) o) ≡ option_map (placed_by leap) o
-settled_placed leap t None = refl
-settled_placed leap t (Some x) = refl
+settled_placed leap t o = grind arith
 
 settled_some : (t : ℕ) (o : Option PlacedTow) → IfSome (option_map (settled t) o) (λ x. is_some x.greatest ≡ true)
-settled_some t None = tt
-settled_some t (Some x) = by x.greatest where
-  by : (o : Option ℕ) → is_some (option_or o (Some t)) ≡ true
-  by None = refl
-  by (Some u) = refl
+settled_some t o = grind (arith, is_some)
 
 at_settled : (n : ℕ) (tows : List ℕ) (tow t : ℕ) (o : Option PlacedTow) → greatest_of (tows ++ tow ∷ []) ≡ Some t → t < weeks * week → IfSome o (λ x. IsGreatestAt n tows x.greatest)
     → IfSome (option_map (settled t) o) (λ x. IsGreatestAt n (tows ++ tow ∷ []) x.greatest)
-at_settled n tows tow t None is small h = tt
-at_settled n tows tow t (Some x) is small h = at_more n tows tow t x.greatest is small h
+at_settled n tows tow t o is small h = grind (arith, at_more)
 
 -- an MSM of another system than GLONASS counts, with its time of week
 pub counts_tow : (m : Message) (system : System) (form : Form) → IsMsmOf m system form → (system ≡ listed.Glonass → ⊥) → is_in_set counted_set m ≡ true
-counts_tow m system form is other =
-    is counted_set ∙ ap (λ (b : Bool). b && have_form All form) (value_tabulated system (λ s. not (is_system s listed.Glonass)) ∙ ap not (another_system system other))
+counts_tow m system form is other = grind (arith, value_tabulated, another_system)
 
 pub same_later : (system : System) (tow : ℕ) → (system ≡ listed.Glonass → ⊥) → later_by system 0 tow ≡ tow
-same_later listed.Glonass tow other = absurd (other refl)
-same_later system tow other = refl
+same_later system tow other = grind arith
 
 -- a time of week is counted
 same_settled : (t : ℕ) (o : Option PlacedTow) → IfSome o (λ x. is_some x.greatest ≡ true) → o ≡ option_map (settled t) o
-same_settled t None h = refl
-same_settled t (Some x) h = by x.greatest refl h where
-  by : (o : Option ℕ) → x.greatest ≡ o → is_some o ≡ true → Some x ≡ Some (settled t x)
-  by None e h = cc
-  by (Some u) e h = ap (λ (g : Option ℕ). Some (record x { greatest = g })) (e ∙ sym (ap (λ (g : Option ℕ). option_or g (Some t)) e))
+same_settled t o h = grind (arith, is_some, settled)
 
 same_tows : (t : ℕ) (x : SystemTows) → ((forms : Forms) → IfSome (tow_in forms x) (λ t. is_some t.greatest ≡ true)) → x ≡ settled_tows t x
 same_tows t x h = ap₂ pair (same_settled t x.four_and_seven (h FourAndSeven)) (same_settled t x.all (h All)) where
@@ -337,11 +274,7 @@ counted_still x tow t is small still = record {
 }
 
 pub counted_settled : (x : FirstTows) {y : FirstTows} (tow t : ℕ) {u : ℕ} → Some t ≡ with_tow x.greatest tow → t < weeks * week → u ≡ t → SettlesTows (record x { greatest = Some t }) u y → CountsTow x tow y
-counted_settled x {y} tow t is small same h = record {
-  messages = h.messages;
-  greatest = h.greatest ∙ is;
-  tows = (t, h.greatest, small, λ settled. h.tows ∙ ap (λ (u : ℕ). all_settled u x.tows) same);
-}
+counted_settled x tow t is small same h = grind (arith, settled)
 
 -- an MSM of another system is counted
 pub tows_counted : {y z : FirstTows} {wanted : Option ℕ} {fs : List Framed} (f : Framed) {m : Message} (form : Form) {tow : ℕ} → message_at f.message ≡ Ok m
@@ -373,9 +306,7 @@ tows_counted {y} {z} {wanted} {fs} f {m} form {tow} read counts has p h = record
 -- ---- the first MSM of a set, from the last system on
 
 dropped : (n : ℕ) (s : System) → index_of s ≡ n → drop n systems ≡ s ∷ drop (n + 1) systems
-dropped n s e =
-    subst (λ (k : ℕ). drop k systems ≡ s ∷ drop (k + 1) systems) e
-    (ap (drop (index_of s)) (systems_split s) ∙ drop_at (take (index_of s) systems) (s ∷ drop (index_of s + 1) systems) (index_of s) (length-take-le (index_of s) systems (omega (arith, index_less s))))
+dropped n s e = grind (arith, systems_split, length-take-le {A = ℕ}, index_less)
 
 pub one_more : (set : MsmSet) (tows : BySystem SystemTows) (n i : ℕ) (s : System) {first now here : Option PlacedTow} → index_of s ≡ n → i ≡ n + 1 → here ≡ entry set tows s → first ≡ earliest set tows (drop i systems)
     → now ≡ earlier here first → now ≡ earliest set tows (drop n systems)
@@ -396,22 +327,7 @@ none_early set (s ∷ ss) = ap₂ earlier (by (value_of s set.systems) set.forms
   by false forms e = refl
 
 pub no_tows : (wanted : Option ℕ) (tows : BySystem SystemTows) → tows ≡ tabulate (λ s. none_yet) → AreTows (record { messages = 0; tows = tows; greatest = None; is_waiting = false }) wanted []
-no_tows wanted tows is = record {
-  few = omega arith;
-  before = λ s forms. subst (λ (x : SystemTows). IsBefore 0 (tow_in forms x)) (sym (ap (value_of s) is ∙ value_tabulated s (λ s. none_yet))) (by forms);
-  first = λ leap set. ap (λ (tows : BySystem SystemTows). option_map (placed_by leap) (earliest set tows systems)) is ∙ ap (option_map (placed_by leap)) (none_early set systems);
-  greatest = refl;
-  settled = λ waits s forms. subst (λ (x : SystemTows). IfSome (tow_in forms x) (λ t. is_some t.greatest ≡ true)) (sym (ap (value_of s) is ∙ value_tabulated s (λ s. none_yet))) (settled forms);
-  at_first = λ set. subst (AtFirst wanted [] [] set) (sym (ap (λ (tows : BySystem SystemTows). earliest set tows systems) is ∙ none_early set systems)) tt;
-}
-  where
-    by : (forms : Forms) → IsBefore 0 (tow_in forms none_yet)
-    by FourAndSeven = tt
-    by All = tt
-
-    settled : (forms : Forms) → IfSome (tow_in forms none_yet) (λ t. is_some t.greatest ≡ true)
-    settled FourAndSeven = tt
-    settled All = tt
+no_tows wanted tows is = grind (arith, common_steps, value_tabulated, none_early, is_some)
 
 -- ---- the time of week of an MSM
 

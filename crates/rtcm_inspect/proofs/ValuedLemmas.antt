@@ -1,40 +1,20 @@
 -- The cells with a value are of listed satellites and signals.
 use Rattle.rtcm_msg.specs.declared.view.Form.TheVariants as forms
-use Rattle.std.proofs.lemmas.Option.{cond_some, same_Some}
-use Rattle.rtcm_inspect.proofs.Names.{option_and_then, MsmValue, heard_msm, ◌≡◌, ℕ, ◌≤◌, ◌&&◌, Bool, true, false, List, [], ◌∷◌, refl, sym, ◌∙◌, subst, arith, filter, All, Option, Some, None, Result, Ok, Err, filter_map, cond, nat_le, option_map, option_map_or, cons_option, All-nil, All-cons, All-append, All-filter, System, Satellite, IsSatellite, satellites, satellite_of_id, SignalAt, IsSignal, signal_of_id, Entry, Message, Msm4, Msm5, Msm6, Msm7, entries, MsgFault, message_at, Framed, Heard, inspected, every_channel, seen_in, lock_by, observed, HeardCell, IsKey, inspected_of, brings_value, is_of_station, valued, valued_of, valued_in, Form}
+use Rattle.std.proofs.lemmas.Option.{cond_some}
+use Rattle.rtcm_inspect.proofs.Names.{common_steps, MsmValue, heard_msm, ◌≡◌, ℕ, Bool, true, false, List, [], ◌∷◌, arith, filter, All, Option, Some, Result, Ok, Err, filter_map, cond, option_map_or, All-nil, All-cons, All-append, All-filter, System, Satellite, IsSatellite, satellite_of_id, Entry, Message, Msm4, Msm5, Msm6, Msm7, entries, MsgFault, message_at, Framed, Heard, inspected, every_channel, seen_in, HeardCell, IsKey, inspected_of, brings_value, is_of_station, valued, valued_of, valued_in, Form}
 use Rattle.gnss_system.proofs.SystemLaws.{listed_of}
 
 satellite_listed : (system : System) (id : ℕ) (s : Satellite) → satellite_of_id system id ≡ Some s → (s.system ≡ system) × IsSatellite s
-satellite_listed system id s h =
-    let satellite : Satellite = record { system = system; id = id } in
-    let (within, is) = cond_some (nat_le 1 id && nat_le id (satellites system)) satellite s h in
-    (subst (λ (v : Satellite). v.system ≡ system) is refl, subst IsSatellite is (both id (satellites system) within))
-  where
-    both : (a b : ℕ) → (nat_le 1 a && nat_le a b) ≡ true → (1 ≤ a) × (a ≤ b)
-    both a b e = (grind (arith, e), grind (arith, e))
+satellite_listed system id s h = grind (arith, cond_some)
 
 -- a cell that is seen, and its system
 seen_key : (form : Form) (system : System) (e : Entry) (x : HeardCell) → seen_in every_channel form system e ≡ Some x → IsKey x × (x.satellite.system ≡ system)
-seen_key form system e x h = by (satellite_of_id system e.satellite) (signal_of_id system e.signal) (satellite_listed system e.satellite) (listed_of system e.signal) h where
-  seen : Satellite → SignalAt → HeardCell
-  seen s g = observed every_channel (lock_by form e.lock) e s g
-
-  by : (s : Option Satellite) (g : Option SignalAt) → ((v : Satellite) → s ≡ Some v → (v.system ≡ system) × IsSatellite v) → ((v : SignalAt) → g ≡ Some v → (v.system ≡ system) × IsSignal v)
-      → option_and_then (λ s. option_map (seen s) g) s ≡ Some x → IsKey x × (x.satellite.system ≡ system)
-  by (Some s) (Some g) a b h =
-      let (of, satellite) = a s refl in
-      let (same, signal) = b g refl in
-      subst (λ (y : HeardCell). IsKey y × (y.satellite.system ≡ system)) (same_Some (seen s g) x h) (record { satellite = satellite; signal = signal; same = same ∙ sym of }, of)
-  by s g a b h = absurd (grind (arith, h))
+seen_key form system e x h = grind (arith, common_steps, satellite_listed, listed_of)
 
 -- what holds for each cell that is seen, holds for those of entries and for those of them that count
 all_seen : (P : HeardCell → Type 0) (form : Form) (system : System) → ((x : HeardCell) → IsKey x × (x.satellite.system ≡ system) → P x) → (es : List Entry) → All P (filter_map (seen_in every_channel form system) es)
 all_seen P form system each [] = All-nil P
-all_seen P form system each (e ∷ es) = by (seen_in every_channel form system e) (seen_key form system e) (all_seen P form system each es) where
-  by : (o : Option HeardCell) → ((x : HeardCell) → o ≡ Some x → IsKey x × (x.satellite.system ≡ system)) → All P (filter_map (seen_in every_channel form system) es)
-      → All P (cons_option o (filter_map (seen_in every_channel form system) es))
-  by None h rest = rest
-  by (Some x) h rest = All-cons P x (filter_map (seen_in every_channel form system) es) (each x (h x refl)) rest
+all_seen P form system each (e ∷ es) = grind (arith, common_steps, seen_key, All-cons, (all_seen P form system each es))
 
 all_valued : (P : HeardCell → Type 0) (wanted : Option ℕ) (m : Heard) → All P m.cells → All P (valued wanted m)
 all_valued P wanted m h = by (is_of_station wanted m) where

@@ -2,7 +2,7 @@
 use Rattle.obs_epoch.specs.Starts.{first_week, is_no_week}
 use Rattle.obs_epoch.proofs.StartLaws.{of_weeks}
 use Rattle.rtcm_inspect.proofs.FirstLemmas.{or_more, or_none}
-use Rattle.rtcm_inspect.proofs.Names.{◌≡◌, ◌∙◌, ◌+◌, ◌-◌, ◌*◌, ◌/◌, ◌<◌, ◌≤◌, ◌==◌, ◌&&◌, ◌||◌, ◌++◌, ℕ, Bool, true, false, List, [], ◌∷◌, Option, Some, None, Result, Ok, Err, refl, sym, ap, ap₂, arith, cons_option, filter_map, nat_lt, option_and_then, if◌then◌else◌, option_or, option_map_or, week, weeks, Framed, message_with, MsmSet, MsgFault, Message, Station, Msm4, Msm5, Msm6, Msm7, GatherSetup, Heard, is_own, is_of_station, Timed, ahead, greatest_time, is_closed, is_past, max_known, taken_at, timed_after, first_tow, tow_of, ChannelsValue, every_channel, heard_in, heard_of, IsNearestWeek, IsWeekNear, half_week, first_time, inl, inr}
+use Rattle.rtcm_inspect.proofs.Names.{◌≡◌, ◌∙◌, ◌+◌, ◌-◌, ◌*◌, ◌/◌, ◌<◌, ◌≤◌, ◌==◌, ◌&&◌, ◌||◌, ◌++◌, ℕ, Bool, true, false, List, [], ◌∷◌, Option, Some, None, Result, Ok, Err, refl, sym, ap, arith, cons_option, filter_map, nat_lt, option_and_then, if◌then◌else◌, option_or, option_map_or, week, weeks, Framed, message_with, MsmSet, MsgFault, Message, Msm4, Msm5, Msm6, Msm7, GatherSetup, Heard, is_own, is_of_station, Timed, ahead, greatest_time, is_closed, is_past, taken_at, timed_after, first_tow, tow_of, ChannelsValue, every_channel, heard_in, heard_of, IsNearestWeek, IsWeekNear, half_week, first_time}
 
 -- ---- the nearest week, by its quotient q: n = q * week + r
 
@@ -25,27 +25,17 @@ one_week noon tow late small = (q, (omega (arith, d.0, d.1, late, small), omega 
     same v h = omega (arith, d.0, d.1, late, small, h.0, h.1)
 
 pub nearest_printed : (noon tow w v : ℕ) → IsWeekNear noon tow w → v < weeks → IsNearestWeek noon tow v → w ≡ v
-nearest_printed noon tow w v (inl (small, near)) less h = omega (arith, near.0, near.1, h.0, h.1)
-nearest_printed noon tow w v (inr (inl (zero, late))) less h = absurd (omega (arith, late, h.1))
-nearest_printed noon tow w v (inr (inr (last, early))) less h = absurd (omega (arith, last, early, less, h.0))
+nearest_printed noon tow w v near less h = omega arith
 
 -- ---- the first MSM
 
 -- a message of the setup's station is of the station whose messages count
 pub own_counts : (s : GatherSetup) (m : Heard) → is_own s m ≡ true → is_of_station s.station m ≡ true
-own_counts s m h = by s.station m.station h where
-  by : (wanted from : Option ℕ) → option_map_or (λ f. option_map_or (λ w. f == w) wanted true) from false ≡ true → option_map_or (λ n. option_map_or (λ f. f == n) from false) wanted true ≡ true
-  by None from h = refl
-  by (Some w) None h = h
-  by (Some w) (Some f) h = h
+own_counts s m h = grind arith
 
 -- and the other way round, if it has a station
 counts_own : (s : GatherSetup) (m : Heard) (n : ℕ) → m.station ≡ Some n → is_of_station s.station m ≡ true → is_own s m ≡ true
-counts_own s m n is h = by s.station m.station is h where
-  by : (wanted from : Option ℕ) → from ≡ Some n → option_map_or (λ n. option_map_or (λ f. f == n) from false) wanted true ≡ true → option_map_or (λ f. option_map_or (λ w. f == w) wanted true) from false ≡ true
-  by wanted None is h = cc
-  by None (Some f) is h = refl
-  by (Some w) (Some f) is h = h
+counts_own s m n is h = grind arith
 
 abbrev tow_in : Option Heard → Option ℕ
 tow_in o = option_and_then (λ m. m.tow) o
@@ -72,10 +62,7 @@ first_time-append (x ∷ xs) ys = ap (option_or x.time) (first_time-append xs ys
 -- without a first time there is no greatest one
 none_greatest : (xs : List Timed) → first_time xs ≡ None → greatest_time xs ≡ None
 none_greatest [] h = refl
-none_greatest (x ∷ xs) h = by x.time (none_greatest xs) h where
-  by : (t : Option ℕ) → (first_time xs ≡ None → greatest_time xs ≡ None) → option_or t (first_time xs) ≡ None → max_known t (greatest_time xs) ≡ None
-  by None rest h = rest h
-  by (Some t) rest h = cc
+none_greatest (x ∷ xs) h = grind (arith, (none_greatest xs))
 
 -- the first time stays
 first_stays : (s : GatherSetup) (t : ℕ) (earlier : List Timed) (ms : List Heard) → first_time earlier ≡ Some t → first_time (timed_after s earlier ms) ≡ Some t
@@ -86,25 +73,17 @@ first_stays s t earlier (m ∷ ms) h =
 
 -- one more message, the first one whose time may be accepted
 first_or_none : {time : Option ℕ} (earlier : List Timed) (x : Timed) → first_time earlier ≡ None → x.time ≡ time → first_time (earlier ++ x ∷ []) ≡ time
-first_or_none earlier x none is =
-    first_time-append earlier (x ∷ []) ∙ ap (λ (o : Option ℕ). option_or o (first_time (x ∷ []))) none ∙ or_none x.time ∙ is
+first_or_none earlier x none is = grind (arith, first_time-append, or_none)
 
 -- the parts of a time of week that was found
 tow_parts : (wanted : Option ℕ) (m : Heard) (t : ℕ) → tow_of wanted m ≡ Some t → (is_of_station wanted m ≡ true) × (m.tow ≡ Some t)
-tow_parts wanted m t h = by (is_of_station wanted m) refl h where
-  by : (b : Bool) → is_of_station wanted m ≡ b → (if b then m.tow else None) ≡ Some t → (is_of_station wanted m ≡ true) × (m.tow ≡ Some t)
-  by true e h = (e, h)
-  by false e h = absurd (no_tow h)
+tow_parts wanted m t h = grind (arith, no_tow)
 
 no_parts : (wanted : Option ℕ) (m : Heard) → tow_of wanted m ≡ None → is_of_station wanted m ≡ true → m.tow ≡ None
-no_parts wanted m h own = by (is_of_station wanted m) own h where
-  by : (b : Bool) → b ≡ true → (if b then m.tow else None) ≡ None → m.tow ≡ None
-  by true e h = h
-  by false e h = cc
+no_parts wanted m h own = grind arith
 
 choose : (own : Bool) (F : ℕ → Option ℕ) (o : Option ℕ) → (own ≡ true → o ≡ None) → (if own then option_and_then F o else None) ≡ None
-choose false F o h = refl
-choose true F o h = ap (option_and_then F) (h refl)
+choose own F o h = grind arith
 
 -- a message without a time of week of the station isn't accepted
 not_taken : (s : GatherSetup) (earlier : List Timed) (m : Heard) → tow_of s.station m ≡ None → taken_at s earlier m ≡ None
@@ -123,10 +102,7 @@ not_past n small = grind arith
 -- the first MSM is accepted in the week of the start
 taken_first : {tow : ℕ} (s : GatherSetup) (earlier : List Timed) (m : Heard) → is_past (first_week s.start tow * week + tow) ≡ false → greatest_time earlier ≡ None → is_own s m ≡ true → m.tow ≡ Some tow
     → taken_at s earlier m ≡ Some (first_week s.start tow * week + tow)
-taken_first {tow} s earlier m now none own is =
-    ap₂ (λ (b : Bool) (o : Option ℕ). if b then option_and_then (placed s earlier (greatest_time earlier)) o else None) own is
-    ∙ ap (λ (g : Option ℕ). placed s earlier g tow) none
-    ∙ ap (λ (b : Bool). if b then None else Some (first_week s.start tow * week + tow)) now
+taken_first s earlier m now none own is = grind arith
 
 -- if this is the first time of week, these messages have the first time of all
 abbrev Dated : GatherSetup → ℕ → Option ℕ → List Heard → Type 0
@@ -151,8 +127,7 @@ dated_step {tow} {rest} s (Some m) ms now more station earlier none first = by (
 
 -- the time of week doesn't depend on the channels
 same_tow : (wanted : Option ℕ) (c d : ChannelsValue) (leap : ℕ) (r : Result Message MsgFault) → option_and_then (tow_of wanted) (heard_of c leap r) ≡ option_and_then (tow_of wanted) (heard_of d leap r)
-same_tow wanted c d leap (Ok (Station p)) = refl
-same_tow wanted c d leap other = refl
+same_tow wanted c d leap r = grind arith
 
 -- the messages of frames by a setup
 abbrev heard_all : MsmSet → GatherSetup → List Framed → List Heard
