@@ -9,7 +9,7 @@ use Rattle.gnss_obs.specs.Channels.{channel_hertz, hertz_in}
 use Rattle.gnss_obs.specs.LockTimes.{LockTime}
 use Rattle.gnss_obs.specs.Observables.{nearest_pseudorange, nearest_strength}
 use Rattle.rtcm_inspect.specs.SignalLaws.{CellValues, LosesUnknownCarriers, values_by, values_of}
-use Rattle.rtcm_inspect.proofs.Names.{◌≡◌, ◌-◌, ◌<◌, ap, ap₂, cons_option, every_channel, filter_map, if◌then◌else◌, is_some, lock_by, observed, option_and_then, option_map, seen_in, signal_of_id, ChannelsValue, Entry, Satellite, SignalAt, System, entries, Msm4, Msm5, Msm6, Msm7, Bool, true, false, ◌&&◌, nat_le, nat_tests, ℕ, ℤ, List, [], ◌∷◌, Option, Some, None, refl, arith, HeardCell, slot_count, Form}
+use Rattle.rtcm_inspect.proofs.Names.{◌≡◌, ◌-◌, ◌<◌, ap, ap₂, cons_option, every_channel, filter_map, if◌then◌else◌, is_some, lock_by, observed, option_and_then, option_map, seen_in, signal_of_id, ChannelsValue, Entry, Satellite, SignalAt, System, entries, Msm4, Msm5, Msm6, Msm7, Bool, true, false, ◌&&◌, nat_le, nat_tests, ℕ, List, [], ◌∷◌, Option, Some, None, refl, arith, HeardCell, slot_count, Form}
 
 -- ---- with a channel for each slot each carrier is known
 
@@ -24,10 +24,6 @@ known_always other id g h = refl
 
 -- ---- a value at a carrier
 
-present : (f : ℕ → ℤ → ℤ) (o p : Option ℕ) (x : Option ℤ) → is_some p ≡ true
-    → is_some (option_and_then (λ h. option_map (f h) x) o) ≡ (is_some (option_and_then (λ h. option_map (f h) x) p) && is_some o)
-present f o p x e = grind arith
-
 -- the values of an entry, with or without a phase and a shift
 abbrev values_with : Entry → Satellite → SignalAt → (phase shift : Bool) → CellValues
 values_with e u g phase shift = record {
@@ -41,7 +37,7 @@ values_with e u g phase shift = record {
 
 cell_values : (channels : ChannelsValue) (lock : LockTime) (e : Entry) (u : Satellite) (g : SignalAt) → is_some (hertz_in every_channel u g) ≡ true
     → values_of (observed channels lock e u g) ≡ values_by channels (observed every_channel lock e u g)
-cell_values channels lock e u g known = grind (arith, present)
+cell_values channels lock e u g known = grind arith
 
 module _ (channels : ChannelsValue) (form : Form) (system : System) where
   abbrev with_channels : Entry → ChannelsValue → Option SignalAt → Option Satellite → Option HeardCell

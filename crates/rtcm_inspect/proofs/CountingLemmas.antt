@@ -3,21 +3,18 @@ use Rattle.devices.proofs.PrintingLaws.{Printed}
 use Rattle.rtcm_inspect.specs.CountedTimes.{greatest_in}
 use Rattle.rtcm_inspect.specs.inner.SaidWeeks.{AreSaidIn}
 use Rattle.rtcm_inspect.proofs.StreamLemmas.{Began}
-use Rattle.rtcm_inspect.proofs.Names.{common_steps, ◌≡◌, ◌∙◌, inr, ◌+◌, ◌*◌, ◌<◌, ◌≤◌, ◌^◌, sym, subst, arith, Bool, true, ℕ, List, [], ◌∷◌, ◌++◌, Option, Result, Ok, Err, length, length-append, refl, Framed, frames_of, known_frames, Device, Devices, HasFailed, StreamFault, ⊤, InspectFault, ReaderFailures, culprit, stream_fault, AtFault, Passes, BreaksReading, PassesAll, PassesToLimit, Reads, FramerValue, most_bytes, AreSignalCounts, CountsMessage, SignalCountsValue, inspected, HeardCell, message_at, MsgFault, Message, valued_in, valued_of, flat_map-append, AreFirst, EndsStream, ReadsTooMuch, Counts, StopsCounting, HasCounted, IsCounted, AreSignals, NeverFails, StreamSignals, StreamCounts, AreFrameCounts, is_msm, msm_in, stream_counts, cond, filter-append, length-filter, count_by-le-length, piece_bytes, forms_had, channels_in}
+use Rattle.rtcm_inspect.proofs.Names.{common_steps, ◌≡◌, ◌∙◌, inr, ◌+◌, ◌*◌, ◌<◌, ◌≤◌, ◌^◌, sym, subst, arith, Bool, true, ℕ, List, [], ◌∷◌, ◌++◌, Option, Result, Ok, Err, length, length-append, refl, Framed, frames_of, known_frames, Device, Devices, HasFailed, StreamFault, ⊤, InspectFault, ReaderFailures, culprit, stream_fault, AtFault, Passes, BreaksReading, PassesAll, PassesToLimit, Reads, FramerValue, most_bytes, AreSignalCounts, CountsMessage, SignalCountsValue, inspected, message_at, MsgFault, Message, AreFirst, EndsStream, ReadsTooMuch, Counts, StopsCounting, HasCounted, IsCounted, AreSignals, NeverFails, StreamSignals, StreamCounts, AreFrameCounts, is_msm, msm_in, stream_counts, cond, filter-append, length-filter, count_by-le-length, piece_bytes, forms_had, channels_in}
 use Rattle.rtcm_inspect.specs.declared.fault.InspectFault.TheVariants as faults
 use Rattle.rtcm_scan.specs.declared.feed.StreamFault.TheVariants as stream
-
-valued_more : (wanted : Option ℕ) (fs : List Framed) (f : Framed) (cells : List HeardCell) → valued_of wanted f ≡ cells → valued_in wanted (fs ++ f ∷ []) ≡ valued_in wanted fs ++ cells
-valued_more wanted fs f cells is = grind (arith, common_steps, flat_map-append)
 
 -- the cells of one more message that was read
 pub read_counted : {c c2 : SignalCountsValue} {wanted : Option ℕ} {fs : List Framed} (f : Framed) {m : Message} → message_at f.message ≡ Ok m → CountsMessage c c2 wanted (inspected m)
     → length fs < 2 ^ 56 → IsCounted c wanted fs → IsCounted c2 wanted (fs ++ f ∷ [])
-read_counted f is step small h = grind (arith, common_steps, valued_more, length-append {A = Framed})
+read_counted f is step small h = grind (arith, common_steps, length-append {A = Framed})
 
 -- a message that was refused has no cells
 pub refused_counted : {c : SignalCountsValue} {wanted : Option ℕ} {fs : List Framed} (f : Framed) {e : MsgFault} → message_at f.message ≡ Err e → IsCounted c wanted fs → IsCounted c wanted (fs ++ f ∷ [])
-refused_counted f is h = grind (arith, common_steps, valued_more, length-append {A = Framed})
+refused_counted f is h = grind (arith, common_steps, length-append {A = Framed})
 
 -- the MSMs of one more frame
 pub msm_more : (fs : List Framed) (f : Framed) {has : Bool} → is_msm (message_at f.message) ≡ has → length (msm_in (fs ++ f ∷ [])) ≡ length (msm_in fs) + length (cond has (f ∷ []) [])

@@ -1,11 +1,11 @@
 -- The plan of the signals of a stream has a column for each of its values, and their line is parsed as that plan.
 use Rattle.line_texts.proofs.LineLaws.{first_code, is_comma, last_code}
 use Rattle.rtcm_inspect.proofs.SignalLemmas.{any_filter, own_signal}
-use Rattle.rtcm_inspect.proofs.Names.{None, lt-ltb, ltb-true, ◌≡◌, ℕ, zero, suc, ◌+◌, ◌<◌, ◌≤◌, ◌==◌, ◌&&◌, ◌||◌, Bool, true, false, not, List, [], ◌∷◌, ◌++◌, length, refl, sym, ap, ap₂, ◌∙◌, subst, arith, filter, map, All, Some, Result, Ok, Err, nat_eq, get_or, append-nil, append_assoc, is_some, ◌≢◌, AllPass-from_list_all, common_steps, list_all, nat_tests, slice_get-get_or, cond, nat_lt, position, list_any, position_or_len, bytes_eq, filter-append, list_any-append, System, SignalAt, IsSignal, table, code_of, signal_of_code, PlanFault, RepeatedCode, is_planned, has_listed_key, GatherSetup, HeardCell, IsKey, below, place_in, between_commas, one_signal_more, signals_after, signals_of, plan_of, planned_of, is_of_signal, count_of, signal_in, had, plan_had, plan_with, ChannelsValue, code_list, codes_word}
+use Rattle.rtcm_inspect.proofs.Names.{lt-ltb, ltb-true, ◌≡◌, ℕ, zero, suc, ◌+◌, ◌<◌, ◌≤◌, ◌==◌, ◌&&◌, ◌||◌, Bool, true, false, not, List, [], ◌∷◌, ◌++◌, length, refl, sym, ap, ap₂, ◌∙◌, subst, arith, filter, map, All, Some, Result, Ok, Err, nat_eq, get_or, append-nil, append_assoc, is_some, AllPass-from_list_all, common_steps, nat_tests, slice_get-get_or, cond, nat_lt, position, list_any, position_or_len, bytes_eq, filter-append, list_any-append, System, SignalAt, IsSignal, table, code_of, signal_of_code, PlanFault, RepeatedCode, is_planned, has_listed_key, GatherSetup, HeardCell, IsKey, below, place_in, between_commas, one_signal_more, signals_after, signals_of, plan_of, planned_of, is_of_signal, count_of, signal_in, had, plan_had, plan_with, ChannelsValue, code_list, codes_word}
 use Rattle.std.proofs.lemmas.List.Folds.{list_any_at}
 use Rattle.gnss_system.specs.SystemValues.{tabulate}
-use Rattle.gnss_system.proofs.SystemLaws.{each_system, not_all, tabulated_same, value_tabulated}
-use Rattle.gnss_obs.specs.Plans.{first_fault, plan_by, signals_in}
+use Rattle.gnss_system.proofs.SystemLaws.{not_all, tabulated_same, value_tabulated}
+use Rattle.gnss_obs.specs.Plans.{plan_by, signals_in}
 
 -- ---- rising indices
 
@@ -42,17 +42,11 @@ is_plain code = not (list_any is_comma code) && starts_low code
 abbrev code_at : System → ℕ → List ℕ
 code_at system i = code_of (signal_in system i)
 
-all_plain : (system : System) → list_all (λ e. is_plain e.1) (table system) ≡ true
-all_plain system = each_system (λ s. list_all (λ e. is_plain e.1) (table s)) system refl
-
 plain_at : (system : System) (i : ℕ) → i < length (table system) → is_plain (code_at system i) ≡ true
-plain_at system i within = grind (arith, all_plain, slice_get-get_or, AllPass-from_list_all)
+plain_at system i within = grind (arith, slice_get-get_or, AllPass-from_list_all)
 
 no_comma : (system : System) (i : ℕ) → i < length (table system) → list_any is_comma (code_at system i) ≡ false
 no_comma system i within = let h = plain_at system i within in grind (arith, h)
-
-code_low : (system : System) (i : ℕ) → i < length (table system) → starts_low (code_at system i) ≡ true
-code_low system i within = let h = plain_at system i within in grind (arith, h)
 
 codes_apart : (system : System) (low i : ℕ) (is : List ℕ) → Climbs low (length (table system)) (i ∷ is) → between_commas (code_list system (i ∷ is)) ≡ map (code_at system) (i ∷ is)
 codes_apart system low i [] h = last_code (code_at system i) (no_comma system i h.1)
@@ -79,11 +73,8 @@ codes_read law system earlier low (i ∷ is) h new =
     newer : (j : ℕ) → i + 1 ≤ j → list_any (nat_eq j) (earlier ++ i ∷ []) ≡ false
     newer j le = list_any-append (nat_eq j) earlier (i ∷ []) ∙ ap₂ (λ a b. a || (b || false)) (new j (omega (arith, le, h.0))) (unlike j i le)
 
-low-append : (xs ys : List ℕ) → starts_low xs ≡ true → starts_low (xs ++ ys) ≡ true
-low-append xs ys h = grind arith
-
 list_low : (system : System) (low i : ℕ) (is : List ℕ) → Climbs low (length (table system)) (i ∷ is) → starts_low (code_list system (i ∷ is)) ≡ true
-list_low system low i is h = grind (arith, code_low, low-append)
+list_low system low i is h = grind arith
 
 no_word : (text : List ℕ) (first : ℕ) (rest : List ℕ) → starts_low text ≡ true → 58 ≤ first → bytes_eq text (first ∷ rest) ≡ false
 no_word text first rest h le = grind arith
@@ -108,8 +99,7 @@ among_filter p (suc n) k within is =
     ap (list_any (λ i. i == k)) (filter-append p (below n) (n ∷ [])) ∙ list_any-append (λ i. i == k) (filter p (below n)) (filter p (n ∷ [])) ∙ by (n == k) refl (λ lt. among_filter p n k lt is)
   where
     by : (b : Bool) → (n == k) ≡ b → (k < n → list_any (λ i. i == k) (filter p (below n)) ≡ true) → (list_any (λ i. i == k) (filter p (below n)) || list_any (λ i. i == k) (filter p (n ∷ []))) ≡ true
-    by true e more = let same : n ≡ k = grind (arith, nat_tests) in rw (ap p same ∙ is, e) (grind arith)
-    by false e more = let other : n ≢ k = grind (arith, nat_tests) in rw (more (omega (arith, within, other))) refl
+    by b h1 h2 = grind arith
 
 -- a signal that has cells is in the list of those that have
 own_among : (cells : List HeardCell) (g : SignalAt) → IsSignal g → 0 < count_of g cells → list_any (λ i. i == g.index) (had cells g.system) ≡ true
@@ -143,12 +133,8 @@ all_planned channels s cells plan keys = λ k d within. planned_one channels s c
 some_had : (xs : List ℕ) (k : ℕ) → list_any (λ i. i == k) xs ≡ true → xs ≡ [] → ⊥
 some_had xs k h e = grind arith
 
-no_fault : (f : System → Result (List ℕ) PlanFault) (g : System → List ℕ) → ((s : System) → f s ≡ Ok (g s)) → (ss : List System) → first_fault f ss ≡ None
-no_fault f g each [] = refl
-no_fault f g each (s ∷ ss) = rw (each s) (no_fault f g each ss)
-
 plan_from : (f : System → Result (List ℕ) PlanFault) (g : System → List ℕ) → ((s : System) → f s ≡ Ok (g s)) → (s : System) → (g s ≡ [] → ⊥) → plan_by f ≡ Ok (plan_with (tabulate g))
-plan_from f g each s some = grind (arith, no_fault, tabulated_same, not_all, value_tabulated)
+plan_from f g each s some = grind (arith, tabulated_same, not_all, value_tabulated)
 
 pub plan_read : CodesReadBack → (cells : List HeardCell) → 0 < length cells → All IsKey cells → plan_of (tabulate (λ s. codes_word s (had cells s))) ≡ Ok (plan_with (tabulate (had cells)))
 plan_read law [] some keys = absurd (omega (arith, some))

@@ -4,7 +4,7 @@ use Rattle.gnss_obs.specs.Weeks.{week, weeks}
 use Rattle.rtcm_inspect.specs.CountedTimes.{counted_before, counted_tows, greatest_at_first}
 use Rattle.line_texts.specs.LeapSeconds.{leap_at}
 use Rattle.rtcm_inspect.specs.FaultWords.{week_date}
-use Rattle.rtcm_inspect.specs.SentWeeks.{IsNearestRest, IsOtherTime, distance, first_msm, is_denied, rests_in, whole_in}
+use Rattle.rtcm_inspect.specs.SentWeeks.{IsNearestRest, IsOtherTime, first_msm, is_denied, rests_in, whole_in}
 use Rattle.rtcm_inspect.specs.declared.fault.WeekDate.{WeekDate}
 use Rattle.rtcm_inspect.specs.declared.printed_week.FirstMsm.{FirstMsm}
 use Rattle.rtcm_inspect.specs.OptionOutput.{AreOptionsRefused, HasSignals, IsWeekAt, IsWeekRefused, is_denied_at}
@@ -14,10 +14,10 @@ use Rattle.rtcm_inspect.specs.declared.printed_week.WeekSource.{WeekSource}
 use Rattle.rtcm_inspect.specs.declared.printed_week.WeekSource.TheVariants.{Near}
 use Rattle.rtcm_inspect.specs.declared.first_tows.FirstTows.{FirstTows}
 use Rattle.rtcm_inspect.specs.declared.first_tows.PlacedTow.{PlacedTow}
-use Rattle.rtcm_inspect.specs.inner.FirstTows.{AreTows, IsGreatestAt, earliest, greatest_among, placed_by}
+use Rattle.rtcm_inspect.specs.inner.FirstTows.{AreTows, IsGreatestAt, earliest, greatest_among}
 use Rattle.gnss_system.specs.Systems.{systems}
 use Rattle.rtcm_inspect.proofs.CountedLemmas.{at_end, at_none}
-use Rattle.rtcm_inspect.proofs.Names.{◌≡◌, ◌∙◌, ◌+◌, ◌-◌, ◌*◌, ◌/◌, ◌<◌, ◌≤◌, ℕ, false, true, List, Option, Some, None, IfSome, IsWeekFor, frames_of, ap, ap₂, arith, first_tow, set_had, option_and_then, option_map, option_or, refl, subst, sym, Framed, MsmSet}
+use Rattle.rtcm_inspect.proofs.Names.{common_steps, ◌≡◌, ◌∙◌, ◌+◌, ◌-◌, ◌*◌, ◌/◌, ◌<◌, ℕ, false, true, List, Option, Some, IfSome, IsWeekFor, frames_of, ap₂, arith, first_tow, set_had, option_and_then, option_or, refl, subst, Framed, MsmSet}
 
 -- ---- the greatest time at the first MSM of a set
 
@@ -25,12 +25,10 @@ module _ {x : FirstTows} {wanted : Option ℕ} {fs : List Framed} (h : AreTows x
   pub at_first_msm : IfSome (greatest_among set x.tows) (λ t. t < weeks * week) × (option_or (greatest_among set x.tows) x.greatest ≡ greatest_at_first set wanted fs)
   at_first_msm = by (earliest set x.tows systems) refl where
     some : (o : Option ℕ) → IsGreatestAt (counted_before set wanted fs) (counted_tows wanted fs) o → IfSome o (λ t. t < weeks * week) × (option_or o x.greatest ≡ greatest_at_first set wanted fs)
-    some None g = (tt, h.greatest ∙ at_end (counted_before set wanted fs) (counted_tows wanted fs) None g)
-    some (Some t) g = (g.2, at_end (counted_before set wanted fs) (counted_tows wanted fs) (Some t) g)
+    some o h1 = grind (arith, at_end)
 
     by : (o : Option PlacedTow) → earliest set x.tows systems ≡ o → IfSome (option_and_then (λ t. t.greatest) o) (λ t. t < weeks * week) × (option_or (option_and_then (λ t. t.greatest) o) x.greatest ≡ greatest_at_first set wanted fs)
-    by None is = (tt, h.greatest ∙ sym (at_none set wanted fs (sym (h.first 0 set) ∙ ap (option_map (placed_by 0)) is)))
-    by (Some t) is = some t.greatest (subst (λ (o : Option PlacedTow). IfSome o (λ t. IsGreatestAt (counted_before set wanted fs) (counted_tows wanted fs) t.greatest)) is (h.at_first set))
+    by o h1 = grind (arith, common_steps, at_none)
 
 -- ---- the nearest week with a rest
 
@@ -40,23 +38,9 @@ span = 1_024 * week
 abbrev half_span : ℕ
 half_span = 512 * week
 
--- of the times first + j * span up to number m, number k is the nearest
-module _ (noon first q k m j : ℕ) (low : q * span ≤ (noon + half_span - 1) - first) (high : (noon + half_span - 1) - first < q * span + span) (few : k ≤ q) (last : k ≤ m) (one : k ≡ min q m) (within : j ≤ m) where
-  nearer : distance noon (first + k * span) ≤ distance noon (first + j * span)
-  nearer = omega (arith, low, high, few, last, one, within)
-
-  earlier : distance noon (first + k * span) ≡ distance noon (first + j * span) → k ≤ j
-  earlier same = omega (arith, low, high, few, last, one, within, same)
-
-time_at : (rest tow k : ℕ) → (rest + 1_024 * k) * week + tow ≡ (rest * week + tow) + k * span
-time_at rest tow k = omega arith
-
-divided : (n : ℕ) → (n / span * span ≤ n) × (n < n / span * span + span)
-divided n = omega arith
-
 pub nearest : (noon tow rest : ℕ) → rest < 1_024
     → IsNearestRest noon tow rest (rest + 1_024 * min (((noon + half_span - 1) - (rest * week + tow)) / span) ((weeks - 1 - rest) / 1_024))
-nearest noon tow rest small = grind (arith, divided, time_at, nearer, earlier)
+nearest noon tow rest small = grind arith
 
 -- ---- a week that is refused
 

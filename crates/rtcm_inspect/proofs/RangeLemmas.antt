@@ -2,13 +2,10 @@
 use Rattle.rtcm_msg.proofs.MessageLaws.{message_value}
 use Rattle.rtcm_msg.proofs.SetLaws.{value_with}
 use Rattle.rtcm_msg.specs.Encoding.{IsMessage}
-use Rattle.rtcm_msg.specs.Msm.{is_time}
-use Rattle.obs_epoch.specs.Heard.{tow_of as gps_tow}
 use Rattle.rtcm_inspect.specs.FirstMessages.{point_of}
 use Rattle.rtcm_inspect.specs.LengthLaws.{IsFirstInRange}
 use Rattle.rtcm_inspect.specs.WeekLaws.{IsBelowWeek}
-use Rattle.std.specs.Prelude.{IsTrue}
-use Rattle.rtcm_inspect.proofs.Names.{◌≡◌, ◌%◌, ◌<◌, subst, refl, arith, nat_tests, nat_lt, ℕ, Bool, List, [], ◌∷◌, Option, None, IfSome, Result, Ok, Err, if◌then◌else◌, option_and_then, option_or, Framed, MsgFault, Message, MsmSet, System, InRange, every_channel, first_in, first_tow, heard, heard_of, inspected_at, message_at, tow_of, week}
+use Rattle.rtcm_inspect.proofs.Names.{◌≡◌, ◌<◌, subst, refl, arith, ℕ, Bool, List, [], ◌∷◌, Option, None, IfSome, Result, Ok, Err, if◌then◌else◌, option_and_then, option_or, Framed, MsgFault, Message, MsmSet, InRange, every_channel, first_in, first_tow, heard, heard_of, inspected_at, message_at, tow_of, week}
 
 either : {A : Type 0} (P : A → Type 0) (a b : Option A) → IfSome a P → IfSome b P → IfSome (option_or a b) P
 either P a b h k = grind arith
@@ -18,17 +15,8 @@ if_own P own o h = grind arith
 
 -- ---- times of week
 
-rest_small : (n : ℕ) → n % week < week
-rest_small n = omega arith
-
-time_small : (t : ℕ) → IsTrue (nat_lt t week) → t < week
-time_small t h = grind (arith, nat_tests, h)
-
-tow_small : (s : System) (leap time : ℕ) → IsTrue (is_time s time) → gps_tow s leap time < week
-tow_small s leap time h = grind (arith, rest_small, time_small)
-
 message_small : (wanted : Option ℕ) (leap : ℕ) (m : Message) → IsMessage m → IfSome (tow_of wanted (heard every_channel leap m)) (λ t. t < week)
-message_small wanted leap m is = grind (arith, tow_small)
+message_small wanted leap m is = grind arith
 
 read_small : (wanted : Option ℕ) (leap : ℕ) (r : Result Message MsgFault) → ((m : Message) → r ≡ Ok m → IsMessage m)
     → IfSome (option_and_then (tow_of wanted) (heard_of every_channel leap r)) (λ t. t < week)

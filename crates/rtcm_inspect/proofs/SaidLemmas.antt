@@ -1,6 +1,5 @@
 -- What the ephemerides of a stream say of the week, after one more frame.
 use Rattle.std.proofs.Common.{set, suc, zero}
-use Rattle.std.proofs.lemmas.Bool.{and_parts}
 use Rattle.std.proofs.lemmas.List.{get_or-set_other, get_or-set_same, get_or_past}
 use Rattle.std.proofs.lemmas.List.Folds.{Any-from_list_any, list_any_at}
 use Rattle.rtcm_msg.specs.Weeks.{sent_week}
@@ -58,19 +57,13 @@ in_below : (q : ℕ → Bool) (n m : ℕ) → m < n → q m ≡ true → list_an
 in_below q zero m less is = absurd (omega (arith, less))
 in_below q (suc n) m less is = list_any-append q (below n) (n ∷ []) ∙ by (m == n) refl (λ apart. in_below q n m apart is) where
   left : (a b : Bool) → a ≡ true → (a || b) ≡ true
-  left true b e = refl
-  left false b e = cc
+  left a b h1 = grind arith
 
   right : (a b : Bool) → b ≡ true → (a || (b || false)) ≡ true
-  right true b e = refl
-  right false true e = refl
-  right false false e = cc
+  right a b h1 = grind arith
 
   by : (b : Bool) → (m == n) ≡ b → (m < n → list_any q (below n) ≡ true) → (list_any q (below n) || (q n || false)) ≡ true
-  by true e rest = let same : m ≡ n = grind (arith, e) in right (list_any q (below n)) (q n) (subst (λ (k : ℕ). q k ≡ true) same is)
-  by false e rest =
-      let apart : m ≡ n → ⊥ = λ s. let bad : (m == n) ≡ true = grind (arith, s) in let no : true ≡ false = sym bad ∙ e in cc in
-      left (list_any q (below n)) (q n || false) (rest (omega (arith, less, apart)))
+  by b h1 h2 = grind arith
 
 iff_same : (a b : Bool) → (a ≡ true → b ≡ true) → (b ≡ true → a ≡ true) → a ≡ b
 iff_same a b to from = grind arith
@@ -85,16 +78,10 @@ any_added p added size ns is h = iff_same (list_any q (below size)) (list_any p 
   q i = get_or added i false && p i
 
   both : (a b : Bool) → a ≡ true → b ≡ true → (a && b) ≡ true
-  both true b e d = d
-  both false b e d = cc
+  both a b h1 h2 = grind arith
 
   to : list_any q (below size) ≡ true → list_any p ns ≡ true
-  to some =
-      let (k, i, within, at, parts) = Any-from_list_any q (below size) some in
-      let each = and_parts (get_or added i false) (p i) parts in
-      let (j, m, inside, there, equal) = Any-from_list_any (λ m. m == i) ns (sym (h i) ∙ each.0) in
-      let same : m ≡ i = grind (arith, equal) in
-      list_any_at p ns j m inside (subst (λ (n : ℕ). p n ≡ true) (sym (there ∙ same)) each.1)
+  to h1 = grind (arith, within, Any-from_list_any, list_any_at)
 
   from : list_any p ns ≡ true → list_any q (below size) ≡ true
   from some =

@@ -10,7 +10,7 @@ use Rattle.obs_epoch.proofs.StartLaws.{given}
 use Rattle.rtcm_inspect.specs.SentWeekLaws.{IsCountedFromStart, IsInSentWeek, own_tows}
 use Rattle.rtcm_inspect.specs.SentWeeks.{whole_by}
 use Rattle.rtcm_inspect.proofs.WeekLemmas.{not_past, placed}
-use Rattle.rtcm_inspect.proofs.Names.{◌≡◌, ◌∙◌, ◌+◌, ◌*◌, ◌/◌, ◌<◌, ◌≤◌, ◌==◌, ◌&&◌, ◌||◌, ◌++◌, ℕ, Bool, true, false, List, [], ◌∷◌, Option, Some, None, ahead, ap, arith, cons_option, greatest_time, is_own, is_past, max_known, nat_lt, nat_tests, option_and_then, option_map, refl, sym, taken_at, timed_after, if◌then◌else◌, GatherSetup, Heard, Timed}
+use Rattle.rtcm_inspect.proofs.Names.{◌≡◌, ◌∙◌, ◌+◌, ◌*◌, ◌/◌, ◌<◌, ◌≤◌, ◌||◌, ◌++◌, ℕ, Bool, true, false, List, [], ◌∷◌, Option, Some, None, ahead, ap, arith, cons_option, greatest_time, is_own, is_past, max_known, nat_lt, option_map, refl, sym, taken_at, timed_after, if◌then◌else◌, GatherSetup, Heard, Timed}
 
 -- ---- the greatest time so far
 
@@ -44,43 +44,23 @@ at_least u t (tow ∷ tows) e =
 
 -- ---- one more message
 
-ahead_same : (w u tow : ℕ) → ahead (w * week + u) tow ≡ ahead u tow
-ahead_same w u tow = omega arith
-
 abbrev from_start : ℕ → Option ℕ → Option ℕ
 from_start w o = option_map (λ t. w * week + t) o
 
--- the greatest time after it, by the bits of the tests
-step_of : (t a : ℕ) (late again past : Bool) → (again ≡ true → a ≡ 0)
-    → max_known (Some t) (if (late || again) || past then None else Some (t + a)) ≡ Some (if late || past then t else t + a)
-step_of t a late again past zero = grind arith
-
-past_more : (n m : ℕ) → is_past n ≡ true → is_past (m + n) ≡ true
-past_more n m h = grind (arith, nat_tests, h)
-
-value : (begin u a v : ℕ) (late : Bool) → (if late || is_past (u + a) then Some u else Some (u + a)) ≡ Some v → begin + v < weeks * week → (if late || is_past ((begin + u) + a) then begin + u else (begin + u) + a) ≡ begin + v
-value begin u a v late e small = grind (arith, some_same, past_more, not_past)
-
-is_zero : (a : ℕ) (b : Bool) → ((a == 0) && b) ≡ true → a ≡ 0
-is_zero a b h = grind (arith, h)
-
 step_some : (s : GatherSetup) (earlier : List Timed) (n u tow v : ℕ) → greatest_time earlier ≡ Some (n * week + u) → with_tow (Some u) tow ≡ Some v → n * week + v < weeks * week
     → max_known (greatest_time earlier) (placed s earlier (greatest_time earlier) tow) ≡ Some (n * week + v)
-step_some s earlier n u tow v is next small = grind (arith, ahead_same, step_of, is_zero, value)
+step_some s earlier n u tow v is next small = grind arith
 
 -- ---- all messages
 
 abbrev own : GatherSetup → Heard → Option ℕ
 own s m = if is_own s m then m.tow else None
 
-taken_own : (s : GatherSetup) (earlier : List Timed) (m : Heard) → taken_at s earlier m ≡ option_and_then (placed s earlier (greatest_time earlier)) (own s m)
-taken_own s earlier m = grind arith
-
 -- one more message: the greatest time is that which is counted
 one_more : (s : GatherSetup) (earlier : List Timed) (m : Heard) (g : Option ℕ) (o : Option ℕ) (tows : List ℕ) (n t : ℕ) → ((tow : ℕ) → first_week s.start tow ≡ n) → own s m ≡ o → greatest_time earlier ≡ from_start n g → fold with_tow g (cons_option o tows) ≡ Some t
     → n * week + t < weeks * week
     → (h : Option ℕ) × (greatest_time (earlier ++ record { message = m; time = taken_at s earlier m } ∷ []) ≡ from_start n h) × (fold with_tow h tows ≡ Some t)
-one_more s earlier m g o tows n t begins is before all small = grind (arith, greatest_more, taken_own, none_known, at_least, not_past, not_less, step_some)
+one_more s earlier m g o tows n t begins is before all small = grind (arith, greatest_more, none_known, at_least, not_past, not_less, step_some)
 
 counted_after : (s : GatherSetup) (ms : List Heard) (earlier : List Timed) (g : Option ℕ) (n t : ℕ) → ((tow : ℕ) → first_week s.start tow ≡ n) → greatest_time earlier ≡ from_start n g → fold with_tow g (own_tows s ms) ≡ Some t → n * week + t < weeks * week
     → greatest_time (timed_after s earlier ms) ≡ Some (n * week + t)
@@ -95,7 +75,7 @@ counted_from_start s ms n t starts all small = counted_after s ms [] None n t (�
 -- ---- an ephemeris
 
 said_parts : (t start : ℕ) (e : SentWeek) → whole_by t e ≡ Some start → e.week ≡ start + t / week
-said_parts t start e h = grind (arith, some_same)
+said_parts t start e h = grind arith
 
 in_week : (start t w : ℕ) → w ≡ start + t / week → w < weeks → (start * week + t < weeks * week) × ((start * week + t) / week ≡ w)
 in_week start t w is small = (omega (arith, is, small), omega (arith, is))

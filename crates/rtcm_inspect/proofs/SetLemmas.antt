@@ -12,7 +12,7 @@ use Rattle.gnss_system.proofs.SystemLaws.{value_tabulated}
 use Rattle.obs_epoch.specs.Sets.{is_decoded}
 use Rattle.rtcm_inspect.specs.SignalLaws.{ReadsAll}
 use Rattle.rtcm_inspect.proofs.ValuedLemmas.{valued_system}
-use Rattle.rtcm_inspect.proofs.Names.{false_from_ne_true, true≢false, All-head, All-tail, GatherSetup, SignalAt, entries, is_planned, is_some, place_in, ◌≡◌, ◌∙◌, ◌++◌, ◌||◌, ℕ, Bool, true, false, not, List, [], ◌∷◌, Option, None, Result, Ok, Err, All, All-cons, All-nil, ⊤, ◌&&◌, ap, arith, bits_of, inl, inr, length, list_any, list_any-append, nat_lt, option_and_then, option_map_or, refl, subst, sym, if◌then◌else◌, Framed, MsgFault, Message, Msm4, Msm5, Msm6, Msm7, Form, Forms, MsmSet, message_at, message_with, have_form, System, Heard, HeardCell, every_channel, heard, heard_of, inspected, inspected_in, inspected_of, is_of_station, set_of, valued, forms_had, has_other_value, is_of_other, needs_all, tow_of, valued_in, valued_of, with_forms}
+use Rattle.rtcm_inspect.proofs.Names.{false_from_ne_true, true≢false, All-head, All-tail, GatherSetup, entries, is_planned, ◌≡◌, ◌∙◌, ◌++◌, ◌||◌, ℕ, Bool, true, false, not, List, [], ◌∷◌, Option, None, Result, Ok, Err, All, All-cons, All-nil, ⊤, ◌&&◌, ap, arith, bits_of, length, list_any, list_any-append, nat_lt, option_and_then, option_map_or, refl, subst, sym, if◌then◌else◌, Framed, MsgFault, Message, Msm4, Msm5, Msm6, Msm7, Form, Forms, MsmSet, message_at, message_with, have_form, System, Heard, HeardCell, every_channel, heard, heard_of, inspected, inspected_in, inspected_of, is_of_station, set_of, valued, forms_had, has_other_value, needs_all, tow_of, valued_in, valued_of, with_forms}
 
 -- ---- a message that isn't decoded
 
@@ -33,8 +33,7 @@ module _ {A : Type 0} (leap : ℕ) (set : MsmSet) (bytes : List ℕ) (has : Hear
   pub found_refused : (e : MsgFault) → message_at bytes ≡ Err e → option_map_or has (inspected_in leap set bytes) none ≡ none
   found_refused e read = by (refused set bytes e read) where
     by : (message_with set bytes ≡ Err e) ⊎ (message_with set bytes ≡ Ok (other_of (bits_of bytes))) → found leap has none (message_with set bytes) ≡ none
-    by (inl is) = ap (found leap has none) is
-    by (inr is) = ap (found leap has none) is ∙ other
+    by h1 = grind (arith, none)
 
 -- ---- the time of week
 
@@ -48,11 +47,10 @@ pub tow_read : (leap : ℕ) (set : MsmSet) (wanted : Option ℕ) (bytes : List �
     → option_and_then (tow_of wanted) (inspected_in leap set bytes) ≡ (if is_in_set set m then tow_of wanted (heard every_channel leap m) else None)
 tow_read leap set wanted bytes m read = tow_found wanted (inspected_in leap set bytes) ∙ by (is_in_set set m) refl where
   by : (b : Bool) → is_in_set set m ≡ b → option_map_or (tow_of wanted) (inspected_in leap set bytes) None ≡ (if b then tow_of wanted (heard every_channel leap m) else None)
-  by true is = found_inside leap set bytes (tow_of wanted) None (none_of_other leap wanted bytes) m read is
-  by false is = found_outside leap set bytes (tow_of wanted) None (none_of_other leap wanted bytes) m read is
+  by b h1 = grind (arith, found_inside, none_of_other, found_outside)
 
 pub tow_refused : (leap : ℕ) (set : MsmSet) (wanted : Option ℕ) (bytes : List ℕ) (e : MsgFault) → message_at bytes ≡ Err e → option_and_then (tow_of wanted) (inspected_in leap set bytes) ≡ None
-tow_refused leap set wanted bytes e read = grind (arith, tow_found, found_refused, none_of_other)
+tow_refused leap set wanted bytes e read = grind (arith, tow_found, found_refused)
 
 -- ---- the cells that count
 
@@ -81,12 +79,9 @@ planned_each s [] h = All-nil (λ f. ArePlanned s (valued_of s.station f))
 planned_each s (f ∷ fs) h =
     All-cons (λ f. ArePlanned s (valued_of s.station f)) f fs (front s (valued_of s.station f) (valued_in s.station fs) h) (planned_each s fs (rest s (valued_of s.station f) (valued_in s.station fs) h))
 
-planned_some : (a : Bool) (g : SignalAt) (is : List ℕ) → (a && is_some (place_in g is)) ≡ true → nat_lt 0 (length is) ≡ true
-planned_some a g is h = grind arith
-
 -- the system of a planned cell is decoded
 decoded : (s : GatherSetup) (x : HeardCell) → is_planned s x ≡ true → is_decoded s.plan x.satellite.system ≡ true
-decoded s x h = grind (arith, planned_some)
+decoded s x h = grind arith
 
 not_out : (a b n : Bool) → a ≡ true → (a && b) ≡ false → (not b && n) ≡ false → n ≡ false
 not_out a b n e out had = grind arith
@@ -124,13 +119,6 @@ kept_frame s fs f planned had = by (message_at f.message) refl had where
       found_refused 0 (set_of s.plan fs) f.message (valued s.station) [] (none_valued s.station f.message) e read
       ∙ sym (ap (λ (r : Result Message MsgFault). option_map_or (valued s.station) (inspected_of r) []) read)
 
--- no form is another than all
-none_other : (m : Message) → is_of_other forms.All m ≡ false
-none_other m = grind arith
-
-all_had : (wanted : Option ℕ) (r : Result Message MsgFault) → IsHad forms.All wanted r
-all_had wanted r = grind (arith, none_other)
-
 not_needed : (wanted : Option ℕ) (r : Result Message MsgFault) → needs_all wanted r ≡ false → IsHad forms.FourAndSeven wanted r
 not_needed wanted r h = grind arith
 
@@ -138,12 +126,9 @@ abbrev needs : Option ℕ → Framed → Bool
 needs wanted f = needs_all wanted (message_at f.message)
 
 pub loses_none : (s : GatherSetup) (fs : List Framed) → ArePlanned s (valued_in s.station fs) → All (ReadsAll (set_of s.plan (forms_had s.station fs)) s) fs
-loses_none s fs planned = grind (arith, kept_frame, planned_each, all_had, not_needed, false_from_ne_true, true≢false, list_any_at)
+loses_none s fs planned = grind (arith, kept_frame, planned_each, not_needed, false_from_ne_true, true≢false, list_any_at)
 
 -- ---- the forms of one more message
-
-either : (wanted : Option ℕ) (m : Message) (b : Bool) → with_forms (if b then forms.All else forms.FourAndSeven) wanted m ≡ (if b || (needs_all wanted (Ok m) || false) then forms.All else forms.FourAndSeven)
-either wanted m b = grind (arith, if_same)
 
 forms_more : (wanted : Option ℕ) (fs : List Framed) (f : Framed) (r : Result Message MsgFault) → message_at f.message ≡ r
     → forms_had wanted (fs ++ f ∷ []) ≡ (if list_any (needs wanted) fs || (needs_all wanted r || false) then forms.All else forms.FourAndSeven)
@@ -151,7 +136,7 @@ forms_more wanted fs f r read = grind (arith, list_any-append)
 
 pub forms_read : {before after : Forms} (wanted : Option ℕ) (fs : List Framed) (f : Framed) (m : Message) → message_at f.message ≡ Ok m → after ≡ with_forms before wanted m → before ≡ forms_had wanted fs
     → after ≡ forms_had wanted (fs ++ f ∷ [])
-forms_read wanted fs f m read new old = grind (arith, either, forms_more)
+forms_read wanted fs f m read new old = grind (arith, forms_more)
 
 pub forms_refused : {before : Forms} (wanted : Option ℕ) (fs : List Framed) (f : Framed) (e : MsgFault) → message_at f.message ≡ Err e → before ≡ forms_had wanted fs → before ≡ forms_had wanted (fs ++ f ∷ [])
 forms_refused wanted fs f e read old = grind (arith, forms_more, or-false)

@@ -1,6 +1,6 @@
 -- The text of the signals of a stream, signal by signal.
 use mathlib.Core.Bool.{or-false}
-use Rattle.rtcm_inspect.proofs.Names.{le-ltb, lt-ltb, ltb-false, ltb-true, ◌≡◌, ℕ, zero, suc, ◌+◌, ◌<◌, ◌≤◌, ◌||◌, All, Bool, true, false, List, [], ◌∷◌, ◌++◌, length, get_or, refl, sym, ap, ap₂, ◌∙◌, arith, filter, append-nil, append_assoc, flat_map-append, cond, nat_lt, codes, list_any, All-head, filter-append, length-filter, count_by-le-length, flat_map, System, table, code_of, below, SignalCountsValue, AreSignalCounts, common_steps, counted, signal_counts, has_any, signal_in, count_of, is_of_signal, had_below, had, code_list, codes_word, count_line, lines_below, IsKey, HeardCell, list_any-append, has_counted}
+use Rattle.rtcm_inspect.proofs.Names.{le-ltb, lt-ltb, ltb-false, ltb-true, ◌≡◌, ℕ, zero, suc, ◌+◌, ◌<◌, ◌≤◌, ◌||◌, All, Bool, true, false, List, [], ◌∷◌, ◌++◌, length, get_or, refl, sym, ap, ◌∙◌, arith, filter, append-nil, flat_map-append, cond, nat_lt, codes, list_any, All-head, filter-append, length-filter, count_by-le-length, System, table, code_of, below, SignalCountsValue, AreSignalCounts, common_steps, counted, signal_counts, has_any, signal_in, count_of, is_of_signal, had_below, had, code_list, codes_word, count_line, lines_below, IsKey, HeardCell, list_any-append, has_counted}
 use Rattle.gnss_system.specs.Systems.{systems}
 use Rattle.gnss_system.proofs.SystemLaws.{none_any, some_system}
 use Rattle.line_texts.proofs.LineLaws.{join-push}
@@ -57,8 +57,7 @@ pub lines_one : {c : SignalCountsValue} {cells : List HeardCell} {system : Syste
 lines_one {cells = cells} {system} {i} {line = line} start h some before e same =
     let f = λ (i : ℕ). count_line (signal_in system i) (count_of (signal_in system i) cells) in
     let last : line ≡ f i ++ [] = same ∙ ap (count_line (signal_in system i)) (h.is ∙ h.counts.each system i h.within) ∙ sym (append-nil (f i)) in
-    e ∙ ap₂ (λ (a b : List ℕ). a ++ b) before last ∙ append_assoc start (lines_below cells system i) (f i ++ [])
-    ∙ ap (λ (l : List ℕ). start ++ l) (sym (flat_map-append f (had_below cells system i) (i ∷ [])) ∙ ap (flat_map f) (sym (had_one h some)))
+    grind (arith, common_steps, flat_map-append, had_one)
 
 pub lines_none : {c : SignalCountsValue} {cells : List HeardCell} {system : System} {i n : ℕ} {text : List ℕ} (start : List ℕ) → IsCount c cells system i n → n ≤ 0
     → text ≡ start ++ lines_below cells system i → text ≡ start ++ lines_below cells system (i + 1)
@@ -82,9 +81,7 @@ any_none : (xs : List ℕ) → list_any (λ n. nat_lt 0 n) xs ≡ false → (i :
 any_none [] h i = refl
 any_none (x ∷ xs) h i = by (nat_lt 0 x) refl h (λ rest i. any_none xs rest i) i where
   by : (b : Bool) → nat_lt 0 x ≡ b → (b || list_any (λ n. nat_lt 0 n) xs) ≡ false → (list_any (λ n. nat_lt 0 n) xs ≡ false → (i : ℕ) → get_or xs i 0 ≡ 0) → (i : ℕ) → get_or (x ∷ xs) i 0 ≡ 0
-  by true t h more i = absurd (grind (arith, h))
-  by false t h more zero = grind (arith, t)
-  by false t h more (suc i) = more h i
+  by b h1 h2 h3 i = grind (arith, zero)
 
 -- if some signal has a cell, there is a cell
 pub some_cells : (c : SignalCountsValue) (cells : List HeardCell) → AreSignalCounts c cells → has_any c ≡ true → 0 < length cells
@@ -94,10 +91,7 @@ some_cells c cells h any =
     by m.0 n.0 n.2 (nat_lt n.0 (length (table m.0))) refl
   where
     by : (s : System) (i : ℕ) → 0 < counted c s i → (b : Bool) → nat_lt i (length (table s)) ≡ b → 0 < length cells
-    by s i some true t =
-        let within : i < length (table s) = ltb-true _ _ t in
-        omega (arith, h.each s i within, some, length-filter (is_of_signal (signal_in s i)) cells, count_by-le-length (is_of_signal (signal_in s i)) cells)
-    by s i some false t = absurd (omega (arith, some, h.past s i (ltb-false _ _ t)))
+    by s i h1 b h2 = grind (arith, ltb-true, length-filter, count_by-le-length, ltb-false)
 
 pub own_signal : (x : HeardCell) → is_of_signal x.signal x ≡ true
 own_signal x = grind arith

@@ -29,15 +29,9 @@ abbrev pub grown : Bool → PlacedTow → Option PlacedTow → Option PlacedTow
 grown b c None = if b then Some c else None
 grown b c (Some x) = Some x
 
-grown_some : (d b : Bool) (x y c : PlacedTow) → (if b then Some y else Some x) ≡ grown d c (if b then Some y else Some x)
-grown_some d b x y c = grind arith
-
-grown_none : (c : PlacedTow) (o : Option PlacedTow) → o ≡ grown false c o
-grown_none c o = grind arith
-
 -- of two, each before the new one
 grown_earlier : (a b : Option PlacedTow) (c : PlacedTow) → IsBefore c.place a → IsBefore c.place b → (p q : Bool) → earlier (grown p c a) (grown q c b) ≡ grown (p || q) c (earlier a b)
-grown_earlier a b c h k p q = grind (arith, if_same, lt-ltb, le-ltb, grown_some)
+grown_earlier a b c h k p q = grind (arith, if_same, lt-ltb, le-ltb)
 
 earlier_before : (n : ℕ) (a b : Option PlacedTow) → IsBefore n a → IsBefore n b → IsBefore n (earlier a b)
 earlier_before n a b h k = grind arith
@@ -59,11 +53,8 @@ module _ (set : MsmSet) (tows : BySystem SystemTows) (system : System) (form : F
   abbrev after : BySystem SystemTows
   after = with_value_of system tows now
 
-  entry_same : (b d : Bool) (o : Option PlacedTow) → (if b then (if d then option_or o (Some c) else o) else None) ≡ grown (b && d) c (if b then o else None)
-  entry_same b d o = grind arith
-
   entry_grown : (s : System) → entry set after s ≡ grown (is_system system s && is_in) c (entry set tows s)
-  entry_grown s = grind (arith, value_after, now, entry_same, system_same, value_of_other, grown_none)
+  entry_grown s = grind (arith, value_after, system_same, value_of_other)
 
   earliest_grown : (ss : List System) → earliest set after ss ≡ grown (list_any (is_system system) ss && is_in) c (earliest set tows ss)
   earliest_grown [] = refl
@@ -158,7 +149,7 @@ tow_grown : (leap : ℕ) (b : Bool) (c : PlacedTow) (o : Option PlacedTow) → o
 tow_grown leap b c o = grind arith
 
 with_before : (x y : SystemTows) (form : Form) (c : PlacedTow) (forms : Forms) → IsWith x form c y forms → IsBefore c.place (tow_in forms x) → IsBefore (c.place + 1) (tow_in forms y)
-with_before x y form c forms is h = grind (arith, later)
+with_before x y form c forms is h = grind arith
 
 -- an MSM of the wanted station was added to the first ones; its time may still have to be counted
 pub record AreTowsButLast (y : FirstTows) (wanted : Option ℕ) (fs : List Framed) (f : Framed) : Type 0 where
@@ -235,7 +226,7 @@ of_settled t tows s forms = ap (tow_in forms) (value_tabulated s (λ s. settled_
 
 settled_earliest : (t : ℕ) (set : MsmSet) (tows : BySystem SystemTows) (ss : List System) → earliest set (all_settled t tows) ss ≡ option_map (settled t) (earliest set tows ss)
 settled_earliest t set tows [] = refl
-settled_earliest t set tows (s ∷ ss) = grind (arith, settled_earlier, settled, of_settled, (settled_earliest t set tows ss))
+settled_earliest t set tows (s ∷ ss) = grind (arith, settled_earlier, settled, (settled_earliest t set tows ss))
 
 settled_before : (n t : ℕ) (o : Option PlacedTow) → IsBefore n o → IsBefore n (option_map (settled t) o)
 settled_before n t o h = grind arith
@@ -318,16 +309,8 @@ one_more set tows n i s at more is before now =
 abbrev none_yet : SystemTows
 none_yet = record { four_and_seven = None; all = None }
 
-none_early : (set : MsmSet) (ss : List System) → earliest set (tabulate (λ s. none_yet)) ss ≡ None
-none_early set [] = refl
-none_early set (s ∷ ss) = ap₂ earlier (by (value_of s set.systems) set.forms (value_tabulated s (λ s. none_yet))) (none_early set ss) where
-  by : (b : Bool) (forms : Forms) → value_of s (tabulate (λ s. none_yet)) ≡ none_yet → (if b then tow_in forms (value_of s (tabulate (λ s. none_yet))) else None) ≡ None
-  by true FourAndSeven e = ap (λ (x : SystemTows). x.four_and_seven) e
-  by true All e = ap (λ (x : SystemTows). x.all) e
-  by false forms e = refl
-
 pub no_tows : (wanted : Option ℕ) (tows : BySystem SystemTows) → tows ≡ tabulate (λ s. none_yet) → AreTows (record { messages = 0; tows = tows; greatest = None; is_waiting = false }) wanted []
-no_tows wanted tows is = grind (arith, common_steps, value_tabulated, none_early, is_some)
+no_tows wanted tows is = grind (arith, common_steps, value_tabulated, is_some)
 
 -- ---- the time of week of an MSM
 

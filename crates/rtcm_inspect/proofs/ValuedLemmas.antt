@@ -1,20 +1,11 @@
 -- The cells with a value are of listed satellites and signals.
 use Rattle.rtcm_msg.specs.declared.view.Form.TheVariants as forms
-use Rattle.std.proofs.lemmas.Option.{cond_some}
-use Rattle.rtcm_inspect.proofs.Names.{common_steps, MsmValue, heard_msm, ◌≡◌, ℕ, Bool, true, false, List, [], ◌∷◌, arith, filter, All, Option, Some, Result, Ok, Err, filter_map, cond, option_map_or, All-nil, All-cons, All-append, All-filter, System, Satellite, IsSatellite, satellite_of_id, Entry, Message, Msm4, Msm5, Msm6, Msm7, entries, MsgFault, message_at, Framed, Heard, inspected, every_channel, seen_in, HeardCell, IsKey, inspected_of, brings_value, is_of_station, valued, valued_of, valued_in, Form}
-use Rattle.gnss_system.proofs.SystemLaws.{listed_of}
-
-satellite_listed : (system : System) (id : ℕ) (s : Satellite) → satellite_of_id system id ≡ Some s → (s.system ≡ system) × IsSatellite s
-satellite_listed system id s h = grind (arith, cond_some)
-
--- a cell that is seen, and its system
-seen_key : (form : Form) (system : System) (e : Entry) (x : HeardCell) → seen_in every_channel form system e ≡ Some x → IsKey x × (x.satellite.system ≡ system)
-seen_key form system e x h = grind (arith, common_steps, satellite_listed, listed_of)
+use Rattle.rtcm_inspect.proofs.Names.{common_steps, MsmValue, heard_msm, ◌≡◌, ℕ, Bool, true, false, List, [], ◌∷◌, arith, filter, All, Option, Result, Ok, Err, filter_map, cond, option_map_or, All-nil, All-cons, All-append, All-filter, System, Entry, Message, Msm4, Msm5, Msm6, Msm7, entries, MsgFault, message_at, Framed, Heard, inspected, every_channel, seen_in, HeardCell, IsKey, inspected_of, brings_value, is_of_station, valued, valued_of, valued_in, Form}
 
 -- what holds for each cell that is seen, holds for those of entries and for those of them that count
 all_seen : (P : HeardCell → Type 0) (form : Form) (system : System) → ((x : HeardCell) → IsKey x × (x.satellite.system ≡ system) → P x) → (es : List Entry) → All P (filter_map (seen_in every_channel form system) es)
 all_seen P form system each [] = All-nil P
-all_seen P form system each (e ∷ es) = grind (arith, common_steps, seen_key, All-cons, (all_seen P form system each es))
+all_seen P form system each (e ∷ es) = grind (arith, common_steps, All-cons, (all_seen P form system each es))
 
 all_valued : (P : HeardCell → Type 0) (wanted : Option ℕ) (m : Heard) → All P m.cells → All P (valued wanted m)
 all_valued P wanted m h = by (is_of_station wanted m) where
