@@ -1,41 +1,32 @@
 -- Words in which clap's definitions find no fault name a command of the program.
 use Rattle.command_line.proofs.CommandLineLemmas.{is_simple_read}
-use Rattle.command_line.proofs.Names.{◌≡◌, ◌∙◌, ◌&&◌, ◌||◌, ◌++◌, ◌∷◌, [], ℕ, Bool, true, false, not, List, Option, Some, None, Result, Ok, Err, IfOk, is_some, find, fold, inl, inr, refl, sym, subst, ap, codes, if◌then◌else◌, option_map, ⊤, bytes_eq, bytes_eq-Decides, Bor, long_of, short_of, Held, Names, Row, Rule, Step, Text, Waiting, Walk, Outcome, next, trailing, subcommand, value, idle, done, waits, after_flag, after_step, arg_by_index, answers_to, bundle, long_met, arg_by_long, long_or_other, short_or_plain, nothing_held, plain_word, subcommand_met, subcommand_or_other, to_positional, word_met, settled, finished, walk, walk_from, walked, walked_from, Error, ArgMatches, App, HasMatchesOf, Shape, argument_words, built, entered, label_of, names_of, rows_at, subcommand_of, option_map_or, list_any, explicit_source, is_given, FailsBy, Kinds, check_kinds, or_else, settle_fault, defaults_fault, check_fault, entered_fault, is_simple_and_free, fault_of, level_fault, other_fault, step_fault, turn_fault, walk_fault, word_fault, IsCommand, IsFoundIn, IsProgram, program}
-use Rattle.clap.specs.declared.error.kind.ErrorKind.TheVariants as kind
+use Rattle.command_line.proofs.Names.{is_some, ◌≡◌, ◌∙◌, ◌&&◌, ◌++◌, ◌∷◌, [], ℕ, Bool, true, false, not, List, Option, Some, None, Result, Ok, Err, IfOk, find, fold, inl, inr, refl, sym, subst, ap, codes, if◌then◌else◌, option_map, ⊤, bytes_eq, bytes_eq-Decides, long_of, Held, Names, Row, Rule, Step, Text, Waiting, Walk, Outcome, next, trailing, subcommand, value, after_flag, after_step, answers_to, long_or_other, short_or_plain, nothing_held, plain_word, subcommand_or_other, word_met, walk, walk_from, walked, Error, ArgMatches, App, HasMatchesOf, Shape, argument_words, built, entered, label_of, names_of, rows_at, subcommand_of, option_map_or, FailsBy, Kinds, check_kinds, or_else, check_fault, entered_fault, is_simple_and_free, fault_of, level_fault, other_fault, step_fault, turn_fault, walk_fault, word_fault, IsCommand, IsFoundIn, IsProgram, program}
+use Rattle.std.proofs.Common.{arith, map}
+use Rattle.command_line.specs.CommandLine.{commands}
+use Rattle.std.proofs.lemmas.Grind.{common_steps}
+use Rattle.command_line.specs.inner.CommandLine.{IsNameOf}
 
 -- ---- no kind of error of one step after another
 
 first_none : (a b : Kinds) → or_else a b ≡ [] → a ≡ []
-first_none [] b e = refl
-first_none (k ∷ ks) b e = e
+first_none a b e = grind (arith, common_steps)
 
 next_none : (a b : Kinds) → or_else a b ≡ [] → b ≡ []
-next_none [] b e = e
-next_none (k ∷ ks) b e = cc
+next_none a b e = grind (arith, common_steps)
 
 last_none : (a b c d e : Kinds) → or_else a (or_else b (or_else c (or_else d e))) ≡ [] → e ≡ []
 last_none a b c d e none = next_none d e (next_none c (or_else d e) (next_none b (or_else c (or_else d e)) (next_none a (or_else b (or_else c (or_else d e))) none)))
 
 no_subcommand_wanted : (x y z : Bool) → check_kinds x y z ≡ [] → y ≡ false
-no_subcommand_wanted true y z e = cc
-no_subcommand_wanted false true z e = cc
-no_subcommand_wanted false false z e = refl
+no_subcommand_wanted x y z e = grind (arith, common_steps)
 
 unwanted : (s : Shape) (rows : List Row) → check_fault s rows false ≡ [] → s.subcommand_required ≡ false
-unwanted s rows none =
-    no_subcommand_wanted (s.arg_required_else_help && not (list_any (λ r. explicit_source r.source) rows)) s.subcommand_required
-    (not (s.subcommand_negates_reqs && false) && list_any (λ a. a.required && not (is_given a.id rows)) s.rules) none
+unwanted s rows none = grind (arith, common_steps, no_subcommand_wanted)
 
 -- a level that requires a subcommand has one
 enters_wanted : (s : Shape) (names : Names) (h : Held) (words : List Text) (has : Bool) (below : Kinds) → s.subcommand_required ≡ true
     → level_fault s names h words has below ≡ [] → has ≡ true
-enters_wanted s names h words true below wanted none = refl
-enters_wanted s names h words false below wanted none =
-    let end = (walk s.rules names h words).held in
-    let last = last_none (walk_fault s names (walk_from h) words) below (settle_fault s.rules s.args_override_self end)
-    (defaults_fault (settled s.rules end).rows s.rules) (check_fault s (finished s.rules end) false) none in
-    let bad : true ≡ false = sym wanted ∙ unwanted s (finished s.rules end) last in
-    cc
+enters_wanted s names h words has below wanted none = grind (arith, common_steps, last_none, unwanted)
 
 -- ---- the subcommand at which a walk stops isn't clap's own `help`
 
@@ -48,26 +39,20 @@ IsOther value = ⊤
 
 plain_other : (c : List Rule) (w : Waiting) (word : Text) (h : Held) → IsOther (plain_word c w word h).1
 unfolding IsOther
-plain_other c idle word h = tt
-plain_other c other word h = tt
+plain_other c w word h = grind (arith, common_steps)
 
 flag_other : (c : List Rule) (w : Waiting) (word : Text) (h : Held) (o : Outcome) → IsOther (after_flag c w word h o).1
 unfolding IsOther
-flag_other c w word h done = tt
-flag_other c w word h (waits id) = tt
-flag_other c w word h other = plain_other c w word h
+flag_other c w word h o = grind (arith, common_steps, plain_other)
 
 short_other : (c : List Rule) (w : Waiting) (word : Text) (flags : Option Text) (h : Held) → IsOther (short_or_plain c w word flags h).1
-short_other c w word (Some flags) h = flag_other c w word (bundle c flags h).0 (bundle c flags h).1
-short_other c w word None h = plain_other c w word h
+short_other c w word flags h = grind (arith, common_steps, flag_other, plain_other)
 
 long_other : (c : List Rule) (w : Waiting) (word : Text) (long : Option (Text × Option Text)) (h : Held) → IsOther (long_or_other c w word long h).1
-long_other c w word (Some p) h = flag_other c w word (long_met c (arg_by_long c p.0) p.1 h).0 (long_met c (arg_by_long c p.0) p.1 h).1
-long_other c w word None h = short_other c w word (short_of word) h
+long_other c w word long h = grind (arith, common_steps, flag_other, short_other)
 
 either_other : (b : Bool) (x y : Held × Step) → IsOther x.1 → IsOther y.1 → IsOther (if b then x else y).1
-either_other true x y p q = p
-either_other false x y p q = q
+either_other b x y p q = grind (arith, common_steps)
 
 word_other : (c : List Rule) (w : Waiting) (position : ℕ) (word : Text) (h : Held) → IsOther (subcommand_or_other c None w position word h).1
 unfolding IsOther
@@ -75,17 +60,10 @@ word_other c w position word h = either_other (bytes_eq word (45 ∷ 45 ∷ []))
 
 goes_on : (c : List Rule) (word : Text) (w : Walk) (h : Held) (step : Step) → w.stopped ≡ None → IsOther step → (after_step c word w h step).stopped ≡ None
 unfolding IsOther
-goes_on c word w h (next waiting) none is = none
-goes_on c word w h (trailing position) none is = none
-goes_on c word w h (subcommand name) none is = absurd is
-goes_on c word w h value none is = by (arg_by_index c w.position) where
-  by : (o : Option Rule) → (to_positional c o word w h).stopped ≡ None
-  by None = none
-  by (Some a) = refl
+goes_on c word w h step none is = grind (arith, common_steps)
 
 isnt_help : (b : Bool) (kinds : Kinds) → (if b && not false then kinds else []) ≡ [] → (kinds ≡ [] → ⊥) → b ≡ false
-isnt_help true kinds e some = absurd (some e)
-isnt_help false kinds e some = refl
+isnt_help b kinds e some = grind (arith, common_steps)
 
 -- the subcommand at which a walk stops, if it does, isn't `help`
 abbrev IsNotHelp : Option (Text × List Text) → Type 0
@@ -95,18 +73,7 @@ IsNotHelp stop = (p : Text × List Text) → stop ≡ Some p → bytes_eq p.0 (c
 met_name : (s : Shape) (w : Walk) (word : Text) (t : Bool) (m : Option Text) → s.disable_help_subcommand ≡ false → w.stopped ≡ None → (if t then [] else other_fault s m word w.held) ≡ []
     → IsNotHelp (let met = if t then (w.held, value) else subcommand_or_other s.rules m w.waiting w.position word w.held in (after_step s.rules word w met.0 met.1).stopped)
 unfolding IsOther
-met_name s w word true m free none fault p stops =
-    let bad : None ≡ Some p = sym (goes_on s.rules word w w.held value none tt) ∙ stops in
-    cc
-met_name s w word false None free none fault p stops =
-    let met = subcommand_or_other s.rules None w.waiting w.position word w.held in
-    let bad : None ≡ Some p = sym (goes_on s.rules word w met.0 met.1 none (word_other s.rules w.waiting w.position word w.held)) ∙ stops in
-    cc
-met_name s w word false (Some name) free none fault p stops =
-    let same : name ≡ p.0 = ap (λ (o : Option (Text × List Text)). option_map_or (λ q. q.0) o name) stops in
-    let quiet : (if bytes_eq name (codes "help") && not false then kind.DisplayHelp ∷ kind.InvalidSubcommand ∷ [] else []) ≡ [] =
-    subst (λ (b : Bool). (if bytes_eq name (codes "help") && not b then kind.DisplayHelp ∷ kind.InvalidSubcommand ∷ [] else []) ≡ []) free fault in
-    subst (λ (n : Text). bytes_eq n (codes "help") ≡ false) same (isnt_help (bytes_eq name (codes "help")) _ quiet (λ e. cc))
+met_name s w word t m free none fault p stops = grind (arith, common_steps, goes_on, word_other, isnt_help)
 
 -- the faults of a word, by whether a walk has stopped
 TurnFault : (s : Shape) (names : Names) (w : Walk) (word : Text) (stopped : Option (Text × List Text)) → Kinds
@@ -117,25 +84,19 @@ TurnFault s names w word stopped =
 -- one more word
 turn_name : (s : Shape) (names : Names) (w : Walk) (word : Text) → s.disable_help_subcommand ≡ false → w.stopped ≡ None → turn_fault s names w word ≡ [] → IsNotHelp (walked s.rules names w word).stopped
 unfolding walked TurnFault
-turn_name s names w word free none fault p stops =
-    met_name s w word w.is_trailing (subcommand_met names w.waiting word) free none
-    (first_none _ _ (subst (λ (o : Option (Text × List Text)). TurnFault s names w word o ≡ []) none fault)) p
-    (subst (λ (o : Option (Text × List Text)). (walked_from s.rules names o w word).stopped ≡ Some p) none stops)
+turn_name s names w word free none fault p stops = grind (arith, common_steps, met_name, first_none, TurnFault)
 
 -- after a subcommand the walk keeps its name
 pub kept_name : (s : Shape) (names : Names) (words : List Text) (w : Walk) (q p : Text × List Text) → w.stopped ≡ Some q
     → (fold (walked s.rules names) w words).stopped ≡ Some p → q.0 ≡ p.0
 unfolding walked
 kept_name s names [] w q p at stops = ap (λ (o : Option (Text × List Text)). option_map_or (λ x. x.0) o q.0) (sym at ∙ stops)
-kept_name s names (word ∷ rest) w q p at stops =
-    kept_name s names rest (walked s.rules names w word) (q.0, q.1 ++ word ∷ []) p
-    (ap (λ (o : Option (Text × List Text)). (walked_from s.rules names o w word).stopped) at) stops
+kept_name s names (word ∷ rest) w q p at stops = grind (arith, common_steps, kept_name s names rest (walked s.rules names w word) (q.0, q.1 ++ word ∷ []) p)
 
 -- the subcommand after more words isn't `help`, if the walk stopped at none before or at none of that name
 word_name : (s : Shape) (names : Names) (w : Walk) (rest : List Text) (o : Option (Text × List Text)) → w.stopped ≡ o → IsNotHelp w.stopped
     → (w.stopped ≡ None → IsNotHelp (fold (walked s.rules names) w rest).stopped) → IsNotHelp (fold (walked s.rules names) w rest).stopped
-word_name s names w rest None at this later p stops = later at p stops
-word_name s names w rest (Some q) at this later p stops = subst (λ (n : Text). bytes_eq n (codes "help") ≡ false) (kept_name s names rest w q p at stops) (this q at)
+word_name s names w rest o at this later p stops = grind (arith, common_steps, kept_name)
 
 stop_name : (s : Shape) (names : Names) (words : List Text) (w : Walk) → s.disable_help_subcommand ≡ false → w.stopped ≡ None → walk_fault s names w words ≡ []
     → IsNotHelp (fold (walked s.rules names) w words).stopped
@@ -154,10 +115,7 @@ Each P (s ∷ rest) = P s × Each P rest
 found_each : (P : Shape → Type 0) (f : Shape → Bool) (subs : List Shape) (s : Shape) → Each (λ x. f x ≡ true → P x) subs → find f subs ≡ Some s → P s
 unfolding Each
 found_each P f [] s all e = cc
-found_each P f (x ∷ rest) s all e = by (f x) refl e (λ (i : find f rest ≡ Some s). found_each P f rest s all.1 i) where
-  by : (b : Bool) → f x ≡ b → (if b then Some x else find f rest) ≡ Some s → (find f rest ≡ Some s → P s) → P s
-  by true t e later = subst P (ap (λ (o : Option Shape). option_map_or (λ y. y) o x) e) (all.0 t)
-  by false t e later = later e
+found_each P f (x ∷ rest) s all e = grind (arith, common_steps, found_each P f rest s all.1)
 
 -- P holds for the subcommand of this name, if it is one of these
 Answers : (Text → Type 0) → Text → List Shape → Type 0
@@ -185,34 +143,23 @@ name_asked P a words wanted free all none =
     (λ p e. all p.0 (stop_name (built a).top (names_of (built a)) (argument_words a words) (walk_from nothing_held) free refl (first_none _ _ none) p e))
     (enters_wanted (built a).top (names_of (built a)) nothing_held (argument_words a words) (is_some (entered (built a) stop)) (entered_fault (built a) stop) wanted none)
 
-isnt_answered : (name : Text) → bytes_eq name (codes "help") ≡ false → (bytes_eq (codes "help") name || false) ≡ true → ⊥
-isnt_answered name isnt answers = by (bytes_eq (codes "help") name) refl answers where
-  by : (b : Bool) → bytes_eq (codes "help") name ≡ b → (b || false) ≡ true → ⊥
-  by false t e = cc
-  by true t e =
-      let same : codes "help" ≡ name = (bytes_eq-Decides (codes "help") name).0 t in
-      let is : bytes_eq name (codes "help") ≡ true = (bytes_eq-Decides name (codes "help")).1 (sym same) in
-      let bad : true ≡ false = sym is ∙ isnt in
-      cc
-
-of_each : (forms rules : Bor (List (Bor Text))) (name : Text) → bytes_eq name (codes "help") ≡ false → Answers IsCommand name (built (program forms rules)).subs
+-- a subcommand that answers to a name other than `help` is one of these commands, if they and `help` are all
+of_each : (P : Text → Type 0) (cs : List App) (subs : List Shape) (name : Text) → map label_of subs ≡ map (λ c. (c.top.name, [])) cs ++ (codes "help", []) ∷ [] → ((n : Text) → IsNameOf cs n → P n)
+    → bytes_eq name (codes "help") ≡ false → Answers P name subs
 unfolding Answers Each
-of_each forms rules name isnt = (
-  λ t. inl refl,
-  (
-    λ t. inr (inl refl),
-    (
-      λ t. inr (inr (inl refl)),
-      (λ t. inr (inr (inr (inl refl))), (λ t. inr (inr (inr (inr (inl refl)))), (λ t. inr (inr (inr (inr (inr (inl refl))))), (λ t. inr (inr (inr (inr (inr (inr refl))))), (λ t. absurd (isnt_answered name isnt t), tt))))),
-    ),
-  ),
-)
+of_each P cs [] name same named isnt = tt
+of_each P [] (s ∷ []) name same named isnt = grind (arith, common_steps, bytes_eq-Decides)
+of_each P [] (s ∷ r ∷ subs) name same named isnt = absurd cc
+of_each P (c ∷ cs) (s ∷ subs) name same named isnt =
+    let first : label_of s ≡ (c.top.name, []) = cc in
+    let others : map label_of subs ≡ map (λ c. (c.top.name, [])) cs ++ (codes "help", []) ∷ [] = cc in
+    (λ t. named s.name (inl (ap (λ p. p.0) first)), of_each P cs subs name others (λ n h. named n (inr h)) isnt)
 
 pub command_asked : (a : App) (words : List Text) → IsProgram a → fault_of a words ≡ []
     → (name : Text) × (options : List Row) × IsCommand name × (subcommand_of a words ≡ Some (name, options))
 command_asked a words (forms, rules, are, also, is) none =
     subst (λ (x : App). fault_of x words ≡ [] → (name : Text) × (options : List Row) × IsCommand name × (subcommand_of x words ≡ Some (name, options))) (sym is)
-    (name_asked IsCommand (program forms rules) words refl refl (of_each forms rules)) none
+    (name_asked IsCommand (program forms rules) words refl refl (λ name. of_each IsCommand (commands forms rules) (built (program forms rules)).subs name refl (λ n h. (forms, rules, h)))) none
 
 -- two commands have the same faults at these words, and are asked for the same
 abbrev pub FindsSame : App → App → List Text → Type 0

@@ -1,6 +1,8 @@
 -- A command after an option or a command is added.
+use Rattle.std.proofs.Common.{arith}
+use Rattle.std.proofs.lemmas.Grind.{common_steps}
 use Rattle.std.proofs.lemmas.Bool.{and_parts, not-true}
-use Rattle.command_line.proofs.Names.{◌≡◌, ◌+◌, ◌<◌, ◌&&◌, ◌∷◌, [], ℕ, Bool, if◌then◌else◌, Result, Ok, Err, IfErr, List, Option, None, Some, true, false, not, is_some, length, map, take, get_or, refl, sym, ap, ap₂, ◌∙◌, map_more, fold-append, Rule, Text, is_empty, rule_of, App, app_of, built, app_of_fields, is_simple, new_app, on_top, with_rule, with_subcommand, AddsArg, AddsSubcommand, is_free_app, is_simple_and_free, clap_on_literals, FailsBy, HasKind, Kinds, Error, Bor, CommandRow, OptionRow, command_set, is_needed, needed_set, option_set, program, with_commands, with_options, Arg, Command, out-Command}
+use Rattle.command_line.proofs.Names.{◌≡◌, ◌+◌, ◌<◌, ◌&&◌, ◌∷◌, [], ℕ, Bool, if◌then◌else◌, Result, IfErr, List, Option, None, Some, true, false, length, map, take, get_or, refl, ap₂, ◌∙◌, map_more, fold-append, Rule, Text, rule_of, App, app_of, built, is_simple, new_app, on_top, with_rule, with_subcommand, AddsArg, AddsSubcommand, is_free_app, is_simple_and_free, clap_on_literals, FailsBy, HasKind, Kinds, Error, Bor, CommandRow, OptionRow, command_set, is_needed, needed_set, option_set, program, with_commands, with_options, Arg, Command, out-Command}
 use Rattle.clap.specs.declared.builder.value_parser.ValueParser.TheVariants as value
 use Rattle.clap.specs.declared.builder.action.ArgAction.TheVariants as action
 
@@ -9,25 +11,16 @@ second a b e = (and_parts a b e).1
 
 -- an option that clap's definitions read belongs to its command alone
 local : (a : Arg) (r : Rule) → rule_of a ≡ r → r.is_simple ≡ true → a.global ≡ false
-local a r is simple = not-true a.global (second (not a.last) _ (second (not a.require_equals) _
-    (second (not a.allow_negative_numbers) _ (second (not a.allow_hyphen_values) _
-    (second (not (is_some a.terminator)) _ (second (not (is_some a.val_delim)) _
-    (second (is_empty a.groups.items) _ (second (is_empty a.default_vals_ifs.items) _
-    (second (is_empty a.overrides.items) _ (ap (λ (x : Rule). x.is_simple) is ∙ simple))))))))))
+local a r is simple = grind (arith, common_steps, not-true, second)
 
 has_local : (c : Command) (a : App) → app_of c ≡ a → a.top.is_plain ≡ true → (out-Command c).has_globals ≡ false
-has_local c a is plain =
-    let f = out-Command c in
-    not-true f.has_globals (and_parts (not f.has_globals) _ (second (not f.allow_external_subcommands) _
-    (second (is_empty f.groups.items) _ (ap (λ (x : App). x.top.is_plain) is ∙ plain)))).0
+has_local c a is plain = grind (arith, common_steps, not-true, and_parts, second)
 
 -- a command with a version that requires a subcommand
 pub versioned : (c d e : Command) {a : App} {t : Bor Text} → out-Command d ≡ record (out-Command c) { version = Some t }
     → out-Command e ≡ record (out-Command d) { subcommand_required = true } → app_of c ≡ a
     → app_of e ≡ on_top (λ s. record s { subcommand_required = true; has_version = true }) a
-versioned c d e version wants was =
-    ap app_of_fields wants ∙ ap (λ f. app_of_fields (record f { subcommand_required = true })) version
-    ∙ ap (on_top (λ s. record s { subcommand_required = true; has_version = true })) was
+versioned c d e version wants was = grind (arith, common_steps)
 
 -- one more option
 pub with_option : {old new : Command} {a : Arg} {app : App} {r : Rule} → AddsArg old a new → app_of old ≡ app → rule_of a ≡ r → r.is_simple ≡ true
@@ -45,10 +38,7 @@ plain a (r ∷ rs) = plain (with_rule a r) rs
 
 -- the command of a row has only a name, with its options or without
 pub plain_given : (asked : Option Text) (row : CommandRow) → (needed_set asked row).top.is_plain ≡ true
-plain_given asked row = by (is_needed asked (command_set row).top.name) where
-  by : (b : Bool) → (if b then command_set row else new_app (command_set row).top.name).top.is_plain ≡ true
-  by true = plain (new_app row.name.now) (map option_set row.options.now)
-  by false = refl
+plain_given asked row = grind (arith, common_steps, plain)
 
 -- the options of a command don't change its name
 pub named_as : (a : App) (rs : List Rule) → (with_options a rs).top.name ≡ a.top.name
@@ -58,8 +48,7 @@ named_as a (r ∷ rs) = named_as (with_rule a r) rs
 -- one more command
 pub with_command : {old sub new : Command} {app below : App} → AddsSubcommand old sub new → app_of old ≡ app → app_of sub ≡ below → below.top.is_plain ≡ true
     → app_of new ≡ with_subcommand app below.top
-with_command {sub} {below} added was is plain =
-    added.shape (has_local sub below is plain) ∙ ap₂ with_subcommand was (ap (λ (x : App). x.top) is)
+with_command {sub} {below} added was is plain = grind (arith, common_steps, has_local)
 
 -- clap's definitions read the words by these commands and options
 pub is_read : (forms rules : Bor (List (Bor Text))) → is_simple_and_free (program forms rules) ≡ true
@@ -71,8 +60,7 @@ is_simple_read a read = (and_parts (is_simple a) (is_free_app (built a)) read).0
 
 -- the reason why a parse failed, if clap's definitions read the words
 pub why : {T : Type 0} (kinds : Kinds) (r : Result T Error) → FailsBy kinds r → IfErr r (HasKind kinds)
-why kinds (Ok x) h = tt
-why kinds (Err e) h = h
+why kinds r h = grind (arith, common_steps)
 
 abbrev nothing : Bor (List ℕ)
 nothing = record { ref_ptr = (0, 0); now = [] }
@@ -87,18 +75,14 @@ no_command = record { name = nothing; about = nothing; examples = nothing; optio
 -- one more option of the rows
 pub one_option_more : (a : App) (rows : List OptionRow) (n : ℕ) (d : OptionRow) → n < length rows
     → with_rule (with_options a (map option_set (take n rows))) (option_set (get_or rows n d)) ≡ with_options a (map option_set (take (n + 1) rows))
-one_option_more a rows n d lt =
-    sym (ap (with_options a) (map_more option_set rows n d lt) ∙ fold-append with_rule a (map option_set (take n rows)) (option_set (get_or rows n d) ∷ []))
+one_option_more a rows n d lt = grind (arith, common_steps, map_more, fold-append)
 
 -- one more command, of these of the rows
 pub one_command_more : (of : CommandRow → App) (a : App) (rows : List CommandRow) (n : ℕ) (d : CommandRow) → n < length rows
     → with_subcommand (with_commands a (map of (take n rows))) (of (get_or rows n d)).top ≡ with_commands a (map of (take (n + 1) rows))
-one_command_more of a rows n d lt =
-    sym (ap (with_commands a) (map_more of rows n d lt) ∙ fold-append _ a (map of (take n rows)) (of (get_or rows n d) ∷ []))
+one_command_more of a rows n d lt = grind (arith, common_steps, map_more, fold-append)
 
 -- the command of a row, with its options or without
 pub needed_row : (asked : Option Text) (row : CommandRow) (b : Bool) → is_needed asked row.name.now ≡ b
     → (if b then command_set row else new_app row.name.now) ≡ needed_set asked row
-needed_row asked row b e =
-    sym (ap (λ (n : Text). if is_needed asked n then command_set row else new_app n) (named_as (new_app row.name.now) (map option_set row.options.now))
-    ∙ ap (λ (x : Bool). if x then command_set row else new_app row.name.now) e)
+needed_row asked row b e = grind (arith, common_steps, named_as)

@@ -1,8 +1,9 @@
 -- The meaning of the exit status.
+use Rattle.std.proofs.lemmas.Grind.{common_steps}
 use Rattle.std.specs.Prelude.{IfSome, string_bytes}
 use Rattle.std.proofs.Common.{Global, String}
 use Rattle.rtcm_command.specs.Commands.{refusal_line}
-use Rattle.rtcm_command.proofs.Names.{◌≡◌, ◌∙◌, inl, inr, refl, sym, subst, codes, ap, ap₂, option_map, ℕ, List, Option, Some, None, Result, Ok, Err, arith, ⊤, ◌≢◌, IsCommand, box_value, option_map_or, Box, found_of, subcommand_rows, subcommand_rows_of, Row, Text, rows_of, out-SubCommand, SubCommand, kind_of, Error, ArgMatches, AreFine, AreUntouched, Devices, EndsInspection, Reader, Writer, culprit, SelectsCommand, IsFoundIn, RefusesWords, FailsParsing, AreRefused, AreRefusedBy, EndsCommand, EndsFound, HasCommand, HasCompleted, HasDone, HasStopped, HasStoppedEarly, StopsPrinting, fault_status, status_of, error_line, length, lit<, ◌<◌, PrintsLine, PrintsSome, PrintsFault, InspectFault, Ends, of_inspection, EndsOnFile, FileFault, of_file, CommandFault, HaveFailedBy, IsErrAnd, passed}
+use Rattle.rtcm_command.proofs.Names.{◌≡◌, ◌∙◌, inl, inr, refl, sym, subst, codes, ap, option_map, ℕ, List, Option, Some, Result, Ok, Err, arith, ⊤, ◌≢◌, IsCommand, box_value, option_map_or, Box, subcommand_rows, subcommand_rows_of, Row, Text, out-SubCommand, SubCommand, kind_of, Error, ArgMatches, AreFine, AreUntouched, Devices, EndsInspection, Reader, Writer, culprit, SelectsCommand, IsFoundIn, RefusesWords, FailsParsing, AreRefused, AreRefusedBy, EndsCommand, EndsFound, HasCommand, HasCompleted, HasDone, HasStopped, HasStoppedEarly, StopsPrinting, fault_status, status_of, error_line, length, lit<, ◌<◌, PrintsLine, PrintsSome, PrintsFault, InspectFault, Ends, of_inspection, EndsOnFile, FileFault, of_file, CommandFault, HaveFailedBy, IsErrAnd, passed}
 use Rattle.clap.specs.declared.error.kind.ErrorKind.TheVariants as kind
 use Rattle.rinex_inspect.specs.Faults as of_files
 use Rattle.rtcm_inspect.specs.Devices as inspection
@@ -10,48 +11,36 @@ use Rattle.command_faults.specs.declared.fault.CommandFault.TheVariants as fault
 
 -- if the error is the version's text, the words ask for the version
 pub is_version : (words : List Text) (e : Error) → RefusesWords words e → kind_of e ≡ kind.DisplayVersion → FailsParsing words kind.DisplayVersion
-is_version words e (inl memory) version =
-    let bad : kind.OutOfMemory ≡ kind.DisplayVersion = sym memory ∙ version in
-    cc
+is_version words e (inl memory) version = grind (arith, common_steps)
 is_version words e (inr answered) version = subst (FailsParsing words) version answered
 
 one_two : ◌≡◌ {A = ℕ} 1 2 → ⊥
 one_two e = omega (arith, e)
 
 never_zero : (fault : CommandFault) → fault_status fault ≡ 0 → ⊥
-never_zero (faults.BadDate o) e = omega (arith, e)
-never_zero other e = omega (arith, e)
+never_zero fault e = grind (arith, common_steps)
 
 -- the end of a command in other terms
 pub ends_so : {A R W : Type 0} {P Q : A → Type 0} {S T : CommandFault → Type 0} (ended : Result A CommandFault) (d d2 : Devices R W) → ((x : A) → P x → Q x) → ((fault : CommandFault) → S fault → T fault)
     → Ends culprit ended d d2 P S → Ends culprit ended d d2 Q T
-ends_so (Ok x) d d2 done stopped h = (h.0, done x h.1)
-ends_so (Err fault) d d2 done stopped h = (h.0, stopped fault h.1)
+ends_so ended d d2 done stopped h = grind (arith, common_steps)
 
 module _ {R W : Type 0} (n : Text) (o : List Row) (d d2 : Devices R W) where
   inspection_fine : EndsInspection (Ok tt) n o d d2 → AreFine d d2
-  inspection_fine (inl h) = h.1.0
-  inspection_fine (inr (inl h)) = h.1.0
-  inspection_fine (inr (inr (inl h))) = h.1.2.0
-  inspection_fine (inr (inr (inr h))) = h.1.2.2.0
+  inspection_fine h = grind (arith, common_steps)
 
   inspection_failed : (e : InspectFault) → EndsInspection (Err e) n o d d2 → HaveFailedBy (inspection.culprit e) d d2
-  inspection_failed e (inl h) = h.1.0
-  inspection_failed e (inr (inl h)) = h.1.0
-  inspection_failed e (inr (inr (inl h))) = h.1.2.0
-  inspection_failed e (inr (inr (inr h))) = h.1.2.2.0
+  inspection_failed e h = grind (arith, common_steps)
 
   ends_inspected : {E : Type 0} (ended : Result ⊤ InspectFault) (e : Writer E) → EndsInspection ended n o d d2 → EndsCommand (of_inspection ended) n o e e d d2
   ends_inspected (Ok u) e h = (inspection_fine h, inr (inl h, refl))
   ends_inspected (Err f) e h = (inspection_failed f h, (inr (inl (f, refl, h)), refl))
 
   file_fine : EndsOnFile (Ok tt) n o d d2 → AreFine d d2
-  file_fine (inl h) = h.1.2.0
-  file_fine (inr h) = h.1.2.0
+  file_fine h = grind (arith, common_steps)
 
   file_failed : (e : FileFault) → EndsOnFile (Err e) n o d d2 → HaveFailedBy (of_files.culprit e) d d2
-  file_failed e (inl h) = h.1.2.0
-  file_failed e (inr h) = h.1.2.0
+  file_failed e h = grind (arith, common_steps)
 
   ends_on_file : {E : Type 0} (ended : Result ⊤ FileFault) (e : Writer E) → EndsOnFile ended n o d d2 → EndsCommand (of_file ended) n o e e d d2
   ends_on_file (Ok u) e h = (file_fine h, inr (inr h, refl))
@@ -63,20 +52,10 @@ has_command words m found = (found.0, found.1, found.2, found.3)
 -- a subcommand by its name and its options
 pub sub_found : {Z : Type 0} {n : Text} {o : List Row} (sub : Option (Box SubCommand Z)) → Some n ≡ option_map (λ b. (out-SubCommand (box_value b)).name.now) sub
     → Some o ≡ option_map (λ p. p.1) (subcommand_rows sub) → subcommand_rows sub ≡ Some (n, o)
-sub_found None e f = cc
-sub_found {n = n} {o} (Some b) e f =
-    let p : n ≡ (out-SubCommand (box_value b)).name.now = ap (λ (x : Option Text). option_map_or (λ y. y) x n) e in
-    let q : o ≡ rows_of (found_of (out-SubCommand (box_value b)).matches) = ap (λ (x : Option (List Row)). option_map_or (λ y. y) x o) f in
-    sym (ap₂ (λ (x : Text) (y : List Row). Some (x, y)) p q)
+sub_found sub h h' = grind (arith, common_steps)
 
 only_quality : (n : Text) → IsCommand n → (n ≢ codes "frames") → (n ≢ codes "show") → (n ≢ codes "signals") → (n ≢ codes "options") → (n ≢ codes "convert") → (n ≢ codes "check") → n ≡ codes "quality"
-only_quality n (inl e) f s g p v c = absurd (f e)
-only_quality n (inr (inl e)) f s g p v c = absurd (s e)
-only_quality n (inr (inr (inl e))) f s g p v c = absurd (g e)
-only_quality n (inr (inr (inr (inl e)))) f s g p v c = absurd (p e)
-only_quality n (inr (inr (inr (inr (inl e))))) f s g p v c = absurd (v e)
-only_quality n (inr (inr (inr (inr (inr (inl e)))))) f s g p v c = absurd (c e)
-only_quality n (inr (inr (inr (inr (inr (inr e)))))) f s g p v c = e
+only_quality n h f s g p v c = grind (arith, common_steps)
 
 -- the command that was found, if it isn't one of the others
 pub is_quality : {n : Text} {o : List Row} (m : ArgMatches) → HasCommand m → subcommand_rows_of m ≡ Some (n, o) → (n ≢ codes "frames") → (n ≢ codes "show") → (n ≢ codes "signals") → (n ≢ codes "options") → (n ≢ codes "convert")
@@ -86,21 +65,17 @@ is_quality {n} m (name, options, one, found) rows = only_quality n (subst IsComm
 -- how a command that reads a stream and doesn't convert it ended
 pub inspection_found : {R W E : Type 0} {ended : Result ⊤ CommandFault} {rows : Option (Text × List Row)} {n : Text} {o : List Row} (d d2 : Devices R W) (e : Writer E) (inspection : Result ⊤ InspectFault) → ended ≡ of_inspection inspection → rows ≡ Some (n, o)
     → EndsInspection inspection n o d d2 → EndsFound ended rows e e d d2
-inspection_found {n = n} {o} d d2 e inspection same found h =
-    (n, o, found, subst (λ x. EndsCommand x n o e e d d2) (sym same) (ends_inspected n o d d2 inspection e h))
+inspection_found {n = n} {o} d d2 e inspection same found h = grind (arith, common_steps, ends_inspected)
 
 -- how a command that reads a file ended
 pub file_found : {R W E : Type 0} {ended : Result ⊤ CommandFault} {rows : Option (Text × List Row)} {n : Text} {o : List Row} (d d2 : Devices R W) (e : Writer E) (read : Result ⊤ FileFault) → ended ≡ of_file read → rows ≡ Some (n, o)
     → EndsOnFile read n o d d2 → EndsFound ended rows e e d d2
-file_found {n = n} {o} d d2 e read same found h =
-    (n, o, found, subst (λ x. EndsCommand x n o e e d d2) (sym same) (ends_on_file n o d d2 read e h))
+file_found {n = n} {o} d d2 e read same found h = grind (arith, common_steps, ends_on_file)
 
 -- an option of a command is refused, and nothing is read or written
 pub option_refused : {R W E : Type 0} {rows : Option (Text × List Row)} {n : Text} {o : List Row} {fault known : CommandFault} (d : Devices R W) (e : Writer E) (ended : Result ⊤ CommandFault) → IsErrAnd ended (λ y. y ≡ fault) → rows ≡ Some (n, o)
     → fault ≡ known → HaveFailedBy (culprit known) d d → HasStopped n o d d fault → EndsFound ended rows e e d d
-option_refused {n = n} {o} {fault} d e ended is found same none stopped =
-    let failed = subst (λ (f : CommandFault). HaveFailedBy (culprit f) d d) (sym same) none in
-    (n, o, found, passed ended fault (λ x. EndsCommand x n o e e d d) is (failed, (stopped, refl)))
+option_refused {n = n} {o} {fault} d e ended is found same none stopped = grind (arith, common_steps, passed)
 
 -- a command that was found twice is the same
 asked : {found : Option (Text × List Row)} {n n2 : Text} {o o2 : List Row} (words : List Text) → found ≡ Some (n, o) → found ≡ Some (n2, o2) → SelectsCommand words n o → SelectsCommand words n2 o2
@@ -145,8 +120,7 @@ memory_line = lit< tt
 
 -- what is printed of a refusal isn't empty
 refusal_some : (text : Option (String Global)) → IfSome text (λ t. 0 < length (string_bytes t)) → 0 < length (refusal_line (option_map string_bytes text))
-refusal_some None some = memory_line
-refusal_some (Some t) some = some
+refusal_some text some = grind (arith, common_steps, memory_line)
 
 pub refusal_printed : {E : Type 0} (e e2 : Writer E) (text : Option (String Global)) → IfSome text (λ t. 0 < length (string_bytes t))
     → PrintsLine (refusal_line (option_map string_bytes text)) e e2 → PrintsSome e e2
@@ -154,12 +128,7 @@ refusal_printed e e2 text some line = (refusal_line (option_map string_bytes tex
 
 -- a command with status 2 is refused before anything is read
 refused_by : {R W : Type 0} (d d2 : Devices R W) (name : Text) (options : List Row) (fault : CommandFault) → fault_status fault ≡ 2 → HasStopped name options d d2 fault → AreRefusedBy name options fault × AreUntouched d d2
-refused_by d d2 name options fault two (inl (n, inl (refused, untouched))) = (inl (n, refused), untouched)
-refused_by d d2 name options fault two (inl (n, inr (x, start, (e, same, stops)))) = absurd (one_two (sym (ap fault_status same) ∙ two))
-refused_by d d2 name options fault two (inr (inl (e, same, stops))) = absurd (one_two (sym (ap fault_status same) ∙ two))
-refused_by d d2 name options fault two (inr (inr (inl (e, same, stops)))) = absurd (one_two (sym (ap fault_status same) ∙ two))
-refused_by d d2 name options fault two (inr (inr (inr (inl (n, refused, untouched))))) = (inr (inl (n, refused)), untouched)
-refused_by d d2 name options fault two (inr (inr (inr (inr (refused, untouched))))) = (inr (inr refused), untouched)
+refused_by d d2 name options fault two h = grind (arith, common_steps, one_two)
 
 pub refused_at_two : {R W E : Type 0} {d d2 : Devices R W} {e e1 e2 : Writer E} {words : List Text} {m : ArgMatches} {status : ℕ} (ended : Result ⊤ CommandFault) → Served d d2 e e1 e2 words m ended status → status ≡ 2
     → AreRefused words e e2 × AreUntouched d d2

@@ -55,16 +55,18 @@ AreRows program rows = (forms : Choices) × (rules : Choices) × AreChoices (cod
 abbrev pub has_row : List CommandRow → Text → Bool
 has_row rows name = list_any (λ row. bytes_eq row.name.now name) rows
 
+-- the name is that of one of these commands
+abbrev pub IsNameOf : List App → Text → Type 0
+IsNameOf [] name = ⊥
+IsNameOf (command ∷ others) name = (name ≡ command.top.name) ⊎ IsNameOf others name
+
 -- if the command was made, its definition is this one
 abbrev pub Makes : {E : Type 0} → Result Command E → App → Type 0
 Makes command a = IfOk command (λ c. app_of c ≡ a)
 
--- the names of the program's commands
+-- the name is that of one of the program's commands
 abbrev pub IsCommand : Text → Type 0
-IsCommand name =
-    (name ≡ codes "frames") ⊎ (name ≡ codes "show") ⊎ (name ≡ codes "signals") ⊎ (name ≡ codes "options")
-    ⊎ (name ≡ codes "convert")
-    ⊎ (name ≡ codes "check") ⊎ (name ≡ codes "quality")
+IsCommand name = (forms : Choices) × (rules : Choices) × IsNameOf (commands forms rules) name
 
 -- ---- what words ask for, by clap's own definitions
 
