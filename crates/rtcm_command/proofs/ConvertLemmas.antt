@@ -1,6 +1,8 @@
 -- A conversion that is stopped by a fault.
+use Rattle.std.proofs.Common.{arith}
+use Rattle.std.proofs.lemmas.Grind.{common_steps}
 use Rattle.rtcm_command.proofs.OptionLemmas.{bad_choice}
-use Rattle.rtcm_command.proofs.Names.{⊤, AreUntouched, Devices, Writer, EndsConverting, culprit, IsErrAnd, passed, ◌≡◌, ap, sym, subst, refl, ℕ, ℤ, List, Option, Some, None, Result, Err, IsErrOf, IfSome, inl, inr, ◌≢◌, ◌↔◌, IsSentAfter, IsSetupFault, IsMadeEmpty, IsMadeSoFar, IsMadeInPart, IsMadeToLimit, IsBad, Setup, Fault, Memory, BadSetup, TooLong, Read, Write, Failed, Finished, NoEpoch, NoneChosen, Report, CommandFault, Row, StationValues, values_by, HasSetupFault, IsRefusedAfterStart, IsRefusedAfterChannels, IsSetupRefused, IsStartFault, IsStartSet, Start, codes, first_of, values_set, StopsConversion, HaveFailedBy, ChannelsValue, channels_by, channels_set}
+use Rattle.rtcm_command.proofs.Names.{⊤, AreUntouched, Devices, Writer, EndsConverting, culprit, IsErrAnd, passed, ◌≡◌, sym, subst, refl, ℕ, ℤ, List, Option, Some, None, Result, Err, IsErrOf, IfSome, inl, inr, ◌≢◌, ◌↔◌, IsSentAfter, IsSetupFault, IsMadeEmpty, IsMadeSoFar, IsMadeInPart, IsMadeToLimit, IsBad, Setup, Fault, BadSetup, TooLong, Read, Write, Failed, Finished, Report, CommandFault, Row, StationValues, values_by, HasSetupFault, IsRefusedAfterStart, IsRefusedAfterChannels, IsSetupRefused, IsStartFault, IsStartSet, Start, codes, first_of, values_set, StopsConversion, HaveFailedBy, ChannelsValue, channels_by, channels_set}
 use Rattle.rtcm_convert.specs.Faults.{IsOfNone}
 use Rattle.command_faults.specs.declared.fault.CommandFault.TheVariants as faults
 
@@ -19,23 +21,12 @@ pub record Faulted {R W : Type 0} (x : Setup) (d d2 : Devices R W) (fault : Faul
   pub only : (Result-of fault ≢ Err Failed) × (Result-of fault ≢ Err Finished)
 
 pub conversion_stopped : {R W : Type 0} {x : Setup} {d d2 : Devices R W} (fault : Fault) → Faulted x d d2 fault → StopsConversion x d d2 fault
-conversion_stopped Memory s = s.untouched (inr refl)
-conversion_stopped BadSetup s = (s.bad.0 refl, s.untouched (inl refl))
-conversion_stopped TooLong s = (s.long refl, s.sent)
-conversion_stopped Read s = (s.read refl, s.sent)
-conversion_stopped Write s = s.write refl
-conversion_stopped Failed s = absurd (s.only.0 refl)
-conversion_stopped Finished s = absurd (s.only.1 refl)
-conversion_stopped NoEpoch s = (s.empty NoEpoch tt refl, s.sent)
-conversion_stopped (NoneChosen counts) s = (s.empty (NoneChosen counts) tt refl, s.sent)
+conversion_stopped fault s = grind (arith, common_steps)
 
 -- a bad setup is the fault of the conversion and of the command
 pub given_bad : (fault : Fault) (Bad : Type 0) → (◌≡◌ {A = Result Report Fault} (Err fault) (Err BadSetup) ↔ Bad)
     → (◌≡◌ {A = Result Report CommandFault} (Err (faults.Convert fault)) (Err (faults.Convert BadSetup)) ↔ Bad)
-given_bad fault Bad bad = (
-  λ h. bad.0 (let e : fault ≡ BadSetup = cc in ap (λ (f : Fault). Err f) e),
-  λ b. (let h = bad.1 b in let e : fault ≡ BadSetup = cc in ap (λ (f : Fault). Err (faults.Convert f)) e),
-)
+given_bad fault Bad bad = grind (arith, common_steps)
 
 -- ---- a fault of the options, before which nothing is read or written
 
@@ -65,8 +56,7 @@ module _ {R W : Type 0} (d : Devices R W) (options : List Row) where
     by p h c is = subst HasNoneFailed (sym is) (refl, refl)
 
   pub ends_refused : {E : Type 0} (ended : Result ⊤ CommandFault) (fault : CommandFault) (e : Writer E) → IsErrAnd ended (λ y. y ≡ fault) → IsSetupRefused options fault → EndsConverting ended options e e d d
-  ends_refused ended fault e is refused =
-      passed ended fault (λ x. EndsConverting x options e e d d) is (none_failed fault refused, (inl (refused, (refl, refl)), refl))
+  ends_refused ended fault e is refused = grind (arith, common_steps, passed, none_failed)
 
 -- the first fault after a valid start, of results that are known
 pub first_fault : {values : Result StationValues CommandFault} {channels : Result ChannelsValue CommandFault} (fault : CommandFault) (options : List Row) (start : Start) → IsStartSet options start → values_set options ≡ values → channels_set options ≡ channels

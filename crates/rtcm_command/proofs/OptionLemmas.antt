@@ -1,4 +1,6 @@
 -- The values of options.
+use Rattle.std.proofs.Common.{arith}
+use Rattle.std.proofs.lemmas.Grind.{common_steps}
 use Rattle.rtcm_command.specs.SetupOptions.{IsSourceRefused}
 use Rattle.command_faults.specs.declared.fault.DateOption.TheVariants as dated
 use Rattle.devices.specs.Devices.{Culprit, Devices, HaveFailedBy, NoDevice}
@@ -6,9 +8,9 @@ use Rattle.rinex_inspect.specs.declared.gaps.Window.{Window}
 use Rattle.rtcm_command.specs.CompleteOptions.{IsCompleteBy, IsCompleteSet, IsTimeGiven, IsWindowOf, complete_with, is_given, lacks_one, window_with}
 use Rattle.rtcm_command.specs.Devices.{culprit}
 use Rattle.rtcm_command.specs.SetupOptions.{gaps_set}
-use Rattle.std.proofs.Common.{◌%◌, ◌-◌, ◌==◌, ◌&&◌, inl, inr, is_some}
+use Rattle.std.proofs.Common.{is_some}
 use Rattle.command_faults.specs.declared.fault.CommandFault.TheVariants as faults
-use Rattle.rtcm_command.proofs.Names.{◌≡◌, ◌∙◌, ℕ, Bool, true, false, nat_lt, ok_or, if◌then◌else◌, codes, IsChoiceSet, IsFromSet, IsUntilSet, Row, choice_by, choice_with, interval_set, tolerance_set, window_by, List, [], Option, Some, None, Result, Ok, Bor, option_map, unwrap_or, refl, sym, ap, subst, ◌↔◌, ParsesUnsigned, ReadsOne, first_value, one_text, first_of, one_of, rows_of, Found, first_value-rows, one_text-rows, IsHourOf, IsNoonOf, IsNumberOf, IsTimeIn, DateOption, CommandFault, interval_by, interval_in, option_and_then, Err, text_set}
+use Rattle.rtcm_command.proofs.Names.{◌≡◌, ◌∙◌, ℕ, Bool, true, false, ok_or, codes, IsChoiceSet, IsFromSet, IsUntilSet, Row, choice_by, window_by, List, [], Option, Some, None, Result, Ok, Bor, option_map, unwrap_or, refl, sym, ap, subst, ◌↔◌, ParsesUnsigned, ReadsOne, first_value, one_text, first_of, one_of, rows_of, Found, first_value-rows, one_text-rows, IsHourOf, IsNoonOf, IsNumberOf, IsTimeIn, DateOption, CommandFault, interval_by, interval_in, option_and_then, Err, text_set}
 
 -- a typed getter returns the number whose decimal form the text is; P and Q are further properties of the parse
 number_of : {E : Type 0} (P Q : List ℕ → Result ℕ E → Type 0) (bits : ℕ) (text : Option (List ℕ)) (n : Option ℕ) → (text ≡ None → n ≡ None)
@@ -28,18 +30,14 @@ number_given P Q bits f id n none some =
 -- the text of an option, if r is its first value found
 pub text_is : (f : Found) (id : List ℕ) (r o : Option (Bor (List ℕ))) → option_map (λ s. s.now) r ≡ first_value f id → r ≡ o
     → unwrap_or (option_map (λ s. s.now) o) [] ≡ text_set (rows_of f) id
-text_is f id r o is found =
-    ap (λ (x : Option (Bor (List ℕ))). unwrap_or (option_map (λ s. s.now) x) []) (sym found)
-    ∙ ap (λ (t : Option (List ℕ)). unwrap_or t []) (is ∙ first_value-rows f id)
+text_is f id r o is found = grind (arith, common_steps, unwrap_or, option_map, first_value-rows)
 
 -- ---- intervals
 
 -- an interval by the first value found of an option, and by the options as clap's definitions list them
 pub interval_given : (fault : CommandFault) (read : List ℕ → Option ℕ) (f : Found) (id : List ℕ) (r o : Option (Bor (List ℕ))) (interval : Option ℕ) → option_map (λ s. s.now) r ≡ first_value f id → r ≡ o → option_and_then read (option_map (λ s. s.now) o) ≡ interval
     → interval_by fault (option_map (λ s. s.now) o) interval ≡ interval_in fault read (first_of id (rows_of f))
-interval_given fault read f id r o interval is found same =
-    ap (interval_by fault (option_map (λ s. s.now) o)) (sym same)
-    ∙ ap (interval_in fault read) (ap (option_map (λ (s : Bor (List ℕ)). s.now)) (sym found) ∙ is ∙ first_value-rows f id)
+interval_given fault read f id r o interval is found same = grind (arith, common_steps, option_map, first_value-rows)
 
 -- the fault of a text that isn't an interval
 pub bad_interval : {known fault : CommandFault} (text : Option (List ℕ)) (interval : Option ℕ) → interval_by known text interval ≡ Err fault → fault ≡ known
@@ -55,17 +53,12 @@ text_given f id r o is found = ap (option_map (λ (s : Bor (List ℕ)). s.now)) 
 
 pub noon_given : (f : Found) (id : List ℕ) (r o : Option (Bor (List ℕ))) (near : Option ℕ) → option_map (λ s. s.now) r ≡ first_value f id → r ≡ o
     → IsNoonOf (option_map (λ s. s.now) o) near ↔ IsNoonOf (first_of id (rows_of f)) near
-noon_given f id r o near is found =
-    let same = text_given f id r o is found in
-    (subst (λ (t : Option (List ℕ)). IsNoonOf t near) same, subst (λ (t : Option (List ℕ)). IsNoonOf t near) (sym same))
+noon_given f id r o near is found = grind (arith, common_steps, text_given)
 
 -- of two options, by the first values found and by the options as clap's definitions list them
 pub both_given : (P : (a b : Option (List ℕ)) → Type 0) (f : Found) (id other : List ℕ) (r o q p : Option (Bor (List ℕ))) → option_map (λ s. s.now) r ≡ first_value f id → r ≡ o
     → option_map (λ s. s.now) q ≡ first_value f other → q ≡ p → P (option_map (λ s. s.now) o) (option_map (λ s. s.now) p) → P (first_of id (rows_of f)) (first_of other (rows_of f))
-both_given P f id other r o q p is found are had h =
-    let first : option_map (λ (s : Bor (List ℕ)). s.now) o ≡ first_of id (rows_of f) = ap (option_map (λ (s : Bor (List ℕ)). s.now)) (sym found) ∙ is ∙ first_value-rows f id in
-    let second : option_map (λ (s : Bor (List ℕ)). s.now) p ≡ first_of other (rows_of f) = ap (option_map (λ (s : Bor (List ℕ)). s.now)) (sym had) ∙ are ∙ first_value-rows f other in
-    subst (P (first_of id (rows_of f))) second (subst (λ (t : Option (List ℕ)). P t (option_map (λ s. s.now) p)) first h)
+both_given P f id other r o q p is found are had h = grind (arith, common_steps, option_map, first_value-rows)
 
 -- a text of which noon isn't known
 pub no_noon : (text : List ℕ) → ((t : ℕ) → IsHourOf 12 text t → ⊥) → (near : Option ℕ) → IsNoonOf (Some text) near → ⊥
@@ -74,47 +67,32 @@ no_noon text none (Some t) h = none t h
 
 -- what holds of both faults of the source of a week
 pub source_fault : (P : CommandFault → Type 0) (options : List Row) (fault : CommandFault) → P faults.OneOf → P (faults.BadDate dated.Near) → IsSourceRefused options fault → P fault
-source_fault P options fault one date (inl (flag, given, is)) = subst P (sym is) one
-source_fault P options fault one date (inr (flag, refused)) = subst P (sym refused.0) date
+source_fault P options fault one date h = grind (arith, common_steps)
 
 -- ---- the fault of the choice of epochs
 
 bad_tolerance : {fault : CommandFault} (tolerance : Option ℕ) → ok_or tolerance faults.BadTolerance ≡ Err fault → fault ≡ faults.BadTolerance
-bad_tolerance None e = cc
-bad_tolerance (Some n) e = cc
+bad_tolerance tolerance e = grind (arith, common_steps)
 
 -- what holds of the faults of its options holds of its fault
 module _ (P : CommandFault → Type 0) (each_time : (option : DateOption) → P (faults.BadDate option)) (each_window : P faults.BadWindow) (each_interval : P faults.BadInterval) (each_tolerance : P faults.BadTolerance) where
   bad_time : (option : DateOption) (otherwise : ℕ) (text : Option (List ℕ)) (e : CommandFault) → IsTimeIn option otherwise text (Err e) → P e
-  bad_time option otherwise None e h = absurd (let bad : ◌≡◌ {A = Result ℕ CommandFault} (Err e) (Ok otherwise) = h in cc)
-  bad_time option otherwise (Some text) e h = subst P (sym h.0) (each_time option)
+  bad_time option otherwise text e h = grind (arith, common_steps)
 
   bad_window : (options : List Row) (from until : Result ℕ CommandFault) (fault : CommandFault) → IsFromSet options from → IsUntilSet options until → window_by from until ≡ Err fault → P fault
-  bad_window options (Err e) until fault f u h = subst P (let same : e ≡ fault = cc in same) (bad_time dated.From _ (first_of (codes "from") options) e f)
-  bad_window options (Ok a) (Err e) fault f u h = subst P (let same : e ≡ fault = cc in same) (bad_time dated.Until _ (first_of (codes "until") options) e u)
-  bad_window options (Ok a) (Ok b) fault f u h = by (nat_lt a b) h where
-    by : (t : Bool) → if◌then◌else◌ {A = Result (ℕ × ℕ) CommandFault} t (Ok (a, b)) (Err faults.BadWindow) ≡ Err fault → P fault
-    by true e = absurd cc
-    by false e = subst P (let same : faults.BadWindow ≡ fault = cc in same) each_window
+  bad_window options from until fault f u h = grind (arith, common_steps, bad_time)
 
   bad_grid : (window : Result (ℕ × ℕ) CommandFault) (interval : Result (Option ℕ) CommandFault) (tolerance : Option ℕ → Result ℕ CommandFault) (fault : CommandFault) → (window ≡ Err fault → P fault) → (interval ≡ Err fault → fault ≡ faults.BadInterval) → ((i : Option ℕ) → tolerance i ≡ Err fault → fault ≡ faults.BadTolerance)
       → choice_by window interval tolerance ≡ Err fault → P fault
-  bad_grid (Err e) interval tolerance fault w i v h = w (let same : e ≡ fault = cc in ap (λ (x : CommandFault). Err x) same)
-  bad_grid (Ok p) (Err e) tolerance fault w i v h = subst P (sym (i (let same : e ≡ fault = cc in ap (λ (x : CommandFault). Err x) same))) each_interval
-  bad_grid (Ok p) (Ok interval) tolerance fault w i v h = by (tolerance interval) refl h where
-    by : (r : Result ℕ CommandFault) → tolerance interval ≡ r → choice_with p interval r ≡ Err fault → P fault
-    by (Err e) is h = subst P (sym (v interval (is ∙ (let same : e ≡ fault = cc in ap (λ (x : CommandFault). Err x) same)))) each_tolerance
-    by (Ok n) is h = absurd cc
+  bad_grid window interval tolerance fault w i v h = grind (arith, common_steps)
 
   pub bad_choice : (options : List Row) (fault : CommandFault) → IsChoiceSet options (Err fault) → P fault
-  bad_choice options fault (window, (from, until, f, u, is), h) =
-      bad_grid window (interval_set options) (tolerance_set options) fault (λ e. bad_window options from until fault f u (sym is ∙ e)) (bad_interval (first_of (codes "interval") options) _) (λ i. bad_tolerance _) (sym h)
+  bad_choice options fault h = grind (arith, common_steps, bad_grid, bad_window, bad_interval, bad_tolerance)
 
 -- ---- what makes a file complete
 
 given_some : {A B : Type 0} (f : A → B) (r : Option A) → is_some (option_map f r) ≡ is_some r
-given_some f None = refl
-given_some f (Some x) = refl
+given_some f r = grind (arith, common_steps)
 
 pub is_given_by : (f : Found) (id : List ℕ) (r : Option (Bor (List ℕ))) → option_map (λ s. s.now) r ≡ first_value f id → is_some r ≡ is_given id (rows_of f)
 is_given_by f id r is = sym (given_some (λ (s : Bor (List ℕ)). s.now) r) ∙ ap (λ (o : Option (List ℕ)). is_some o) (is ∙ first_value-rows f id)
@@ -122,8 +100,7 @@ is_given_by f id r is = sym (given_some (λ (s : Bor (List ℕ)). s.now) r) ∙ 
 -- a time by the first value found of an option, and by the options as clap's definitions list them
 pub moment_given : (option : DateOption) (f : Found) (id : List ℕ) (r o : Option (Bor (List ℕ))) (time : Result (Option ℕ) CommandFault) → option_map (λ s. s.now) r ≡ first_value f id → r ≡ o → IsTimeGiven option (option_map (λ s. s.now) o) time
     → IsTimeGiven option (first_of id (rows_of f)) time
-moment_given option f id r o time is found h =
-    subst (λ (t : Option (List ℕ)). IsTimeGiven option t time) (ap (option_map (λ (s : Bor (List ℕ)). s.now)) (sym found) ∙ is ∙ first_value-rows f id) h
+moment_given option f id r o time is found h = grind (arith, common_steps, option_map, first_value-rows)
 
 -- the time that is given, or another one
 abbrev pub or_time : (otherwise : ℕ) → Result (Option ℕ) CommandFault → Result ℕ CommandFault
@@ -132,28 +109,15 @@ or_time otherwise (Ok (Some t)) = Ok t
 or_time otherwise (Err e) = Err e
 
 pub time_from : (option : DateOption) (otherwise : ℕ) (text : Option (List ℕ)) (time : Result (Option ℕ) CommandFault) → IsTimeGiven option text time → IsTimeIn option otherwise text (or_time otherwise time)
-time_from option otherwise None (Ok None) h = refl
-time_from option otherwise None (Ok (Some t)) h = absurd cc
-time_from option otherwise None (Err e) h = absurd cc
-time_from option otherwise (Some text) (Ok None) h = absurd h
-time_from option otherwise (Some text) (Ok (Some t)) h = h
-time_from option otherwise (Some text) (Err e) h = h
+time_from option otherwise text time h = grind (arith, common_steps)
 
 -- of these faults no device failed
 refused_time : (option : DateOption) (text : Option (List ℕ)) (fault : CommandFault) → IsTimeGiven option text (Err fault) → culprit fault ≡ NoDevice
-refused_time option None fault h = absurd cc
-refused_time option (Some text) fault h = ap culprit h.0
+refused_time option text fault h = grind (arith, common_steps)
 
 refused_window : (interval : ℕ) (options : List Row) (from until : Result (Option ℕ) CommandFault) (fault : CommandFault) → IsTimeGiven dated.From (first_of (codes "from") options) from
     → IsTimeGiven dated.Until (first_of (codes "until") options) until → Err fault ≡ window_with interval from until → culprit fault ≡ NoDevice
-refused_window interval options (Err e) until fault f u is = refused_time dated.From _ fault (subst (λ (r : Result (Option ℕ) CommandFault). IsTimeGiven dated.From (first_of (codes "from") options) r) (let same : e ≡ fault = cc in ap Err same) f)
-refused_window interval options (Ok from) (Err e) fault f u is = refused_time dated.Until _ fault (subst (λ (r : Result (Option ℕ) CommandFault). IsTimeGiven dated.Until (first_of (codes "until") options) r) (let same : e ≡ fault = cc in ap Err same) u)
-refused_window interval options (Ok None) (Ok until) fault f u is = absurd cc
-refused_window interval options (Ok (Some from)) (Ok None) fault f u is = absurd cc
-refused_window interval options (Ok (Some from)) (Ok (Some until)) fault f u is = by (nat_lt from until && ((until - from) % interval == 0)) is where
-  by : (b : Bool) → ◌≡◌ {A = Result (Option Window) CommandFault} (Err fault) (if b then Ok (Some (record { from = from; until = until })) else Err faults.BadGapsWindow) → culprit fault ≡ NoDevice
-  by true is = absurd cc
-  by false is = let same : fault ≡ faults.BadGapsWindow = cc in ap culprit same
+refused_window interval options from until fault f u is = grind (arith, common_steps, refused_time)
 
 pub refused_complete : (options : List Row) (fault : CommandFault) → IsCompleteSet options (Err fault) → culprit fault ≡ NoDevice
 refused_complete options fault set = by (lacks_one options) (gaps_set options) refl set where

@@ -1,5 +1,6 @@
 -- A conversion with the options that `options` prints for a stream.
-use Rattle.std.specs.Prelude.{◌+◌, ◌*◌, ◌/◌, ◌∷◌, nat_le, false, option_and_then, if◌then◌else◌, nat_lt, true, ◌||◌}
+use Rattle.std.proofs.lemmas.Grind.{common_steps}
+use Rattle.std.specs.Prelude.{◌+◌, ◌*◌, ◌/◌, nat_le, false, option_and_then, if◌then◌else◌, nat_lt, true, ◌||◌}
 use Rattle.std.proofs.Common.{suc}
 use Rattle.std.proofs.lemmas.Bool.{lt-ltb}
 use Rattle.std.proofs.lemmas.List.Sums.{count_by-le-length}
@@ -46,7 +47,7 @@ use Rattle.rtcm_command.specs.PrintedPlan.{ArePrintedWords, IsDatedAsPrinted, Is
 use Rattle.rtcm_command.proofs.PrintedWordsLemmas.{AreAsPrinted, as_printed, channels_option, forms_text, signals_text}
 use Rattle.rtcm_command.specs.SetupOptions.{IsPlanSet}
 use Rattle.rtcm_command.specs.StationLaws.{AreChannelsSet, AreLeapSecondsRead, AreReadAsStation, AreZeroByDefault, IsStationRead, IsWeekRead}
-use Rattle.rtcm_command.proofs.Names.{ChannelsValue, IsNumberOf, IsNumberOr, IsStartSet, Row, Start, Week, not, usual_leap, Setup, StationValues, bytes_eq, channels_set, height_text, no_values, plan_set, position_text, text_set, values_set, option_map_or, ◌<◌, ◌≡◌, Bool, IfSome, List, None, Ok, Option, Result, Some, [], ap, ap₂, arith, codes, decimal, inl, inr, length, option_map, refl, subst, sym, unwrap_or, ℕ, ◌^◌, ◌∙◌}
+use Rattle.rtcm_command.proofs.Names.{ChannelsValue, IsNumberOf, IsNumberOr, IsStartSet, Row, Start, Week, not, usual_leap, Setup, StationValues, bytes_eq, channels_set, height_text, no_values, plan_set, position_text, text_set, values_set, option_map_or, ◌<◌, ◌≡◌, Bool, IfSome, List, None, Ok, Option, Result, Some, [], ap, ap₂, arith, codes, decimal, length, option_map, refl, subst, sym, unwrap_or, ℕ, ◌^◌, ◌∙◌}
 
 -- ---- the signals
 
@@ -54,9 +55,7 @@ some_length : (n : ℕ) → nat_lt 0 (suc n) ≡ true
 some_length n = lt-ltb 0 (suc n) (omega arith)
 
 text_of : (b : Bool) (s : System) (l : List ℕ) → (if b || nat_lt 0 (length l) then codes_word s l else codes "none") ≡ codes_word s l
-text_of true s l = refl
-text_of false s [] = refl
-text_of false s (i ∷ is) = ap (λ (b : Bool). if b then codes_word s (i ∷ is) else codes "none") (some_length (length is))
+text_of b s l = grind (arith, common_steps, some_length)
 
 plan_read : (options : List Row) (wanted : Option ℕ) (fs : List Framed) → AreReadAsPlan → 0 < length (valued_in wanted fs)
     → ((s : System) → text_set options (name_of s) ≡ signals_text (plan_in wanted fs) s)
@@ -72,31 +71,25 @@ same_ok r x y e f = cc
 
 channels_printed : (l : List ℕ) (known : ChannelsValue) → is_nil l ≡ false
     → (if nat_lt 0 (length l) then channels_text (if is_nil l then no_channels else known) else []) ≡ channels_text known
-channels_printed [] known h = absurd (cc h)
-channels_printed (i ∷ is) known h = ap (λ (b : Bool). if b then channels_text known else []) (some_length (length is))
+channels_printed l known h = grind (arith, common_steps, some_length)
 
 chosen : (l : List ℕ) (channels known : ChannelsValue) → (is_nil l ≡ false → channels ≡ known)
     → (if is_nil l then no_channels else channels) ≡ (if is_nil l then no_channels else known)
-chosen [] channels known h = refl
-chosen (i ∷ is) channels known h = h refl
+chosen l channels known h = grind (arith, common_steps)
 
 -- ---- the forms
 
 forms_read : (f : Forms) (text : List ℕ) → text ≡ forms_text f → (if bytes_eq text (codes "all") then forms.All else forms.FourAndSeven) ≡ f
-forms_read forms.All text e = ap (λ (t : List ℕ). if bytes_eq t (codes "all") then forms.All else forms.FourAndSeven) e
-forms_read forms.FourAndSeven text e = ap (λ (t : List ℕ). if bytes_eq t (codes "all") then forms.All else forms.FourAndSeven) e
+forms_read f text e = grind (arith, common_steps)
 
 -- ---- the station, the week and the leap seconds
 
 station_read : (options : List Row) (wanted found : Option ℕ) → IsStationRead → IfSome wanted (λ n. n < 2 ^ 16)
     → one_of (codes "station") options ≡ option_map decimal wanted → IsNumberOf 16 (one_of (codes "station") options) found → found ≡ wanted
-station_read options None found read small is h = subst (λ (t : Option (List ℕ)). IsNumberOf 16 t found) is h
-station_read options (Some n) found read small is h = read options n found small is h
+station_read options wanted found read small is h = grind (arith, common_steps)
 
 near_small : (noon tow n : ℕ) → IsWeekNear noon tow n → n < weeks
-near_small noon tow n (inl (small, near)) = small
-near_small noon tow n (inr (inl (zero, late))) = omega (arith, zero)
-near_small noon tow n (inr (inr (last, early))) = omega (arith, last)
+near_small noon tow n h = grind (arith, common_steps)
 
 within_last : (t : ℕ) → within_weeks t / week < weeks
 within_last t = omega arith
@@ -125,8 +118,7 @@ leap_below Ephemerides w leap wanted fs h = subst (λ (o : Option ℕ). IfSome o
 
 week_read : (options : List Row) (w : Option ℕ) (start : Start) → IsWeekRead → IfSome w (λ n. n < weeks) → IfSome w (λ n. first_of (codes "week") options ≡ Some (decimal n))
     → IsStartSet options start → IfSome w (λ n. start ≡ Week n)
-week_read options None start read small text set = tt
-week_read options (Some n) start read small text set = ((read options n start small text).0 set).1
+week_read options w start read small text set = grind (arith, common_steps)
 
 leap_read : (options : List Row) (b : Bool) (leap : Option ℕ) (m otherwise : ℕ) → AreLeapSecondsRead → IfSome leap (λ n. n < 256)
     → one_of (codes "leap-seconds") options ≡ (if b then option_map decimal leap else None)
@@ -141,8 +133,7 @@ values_read : (options : List Row) (first : Option StationParts) (found : Statio
     → text_set options (codes "position") ≡ option_map_or position_text first (codes "0,0,0")
     → text_set options (codes "antenna-height") ≡ height_text (option_and_then (λ s. s.height) first)
     → values_set options ≡ Ok found → found ≡ option_map_or (λ s. values_from s 0) first no_values
-values_read options None found read zero range position height is = same_ok (values_set options) found no_values is (zero options position height)
-values_read options (Some s) found read zero range position height is = same_ok (values_set options) found (values_from s 0) is (read options s range position height)
+values_read options first found read zero range position height is = grind (arith, common_steps, same_ok)
 
 -- ---- the setup
 
@@ -193,10 +184,7 @@ pub record DateLaws : Type 0 where
 -- without GLONASS the leap seconds don't matter
 same_first : IsLeapFree → (leap used : ℕ) (start : Start) (wanted : Option ℕ) (fs : List Framed) → used ≡ leap_option (Some leap) (plan_in wanted fs) start
     → first_tow used (set_had wanted fs) wanted fs ≡ first_tow leap (set_had wanted fs) wanted fs
-same_first free leap used start wanted fs is = by (is_decoded (plan_in wanted fs) Glonass) refl where
-  by : (b : Bool) → is_decoded (plan_in wanted fs) Glonass ≡ b → first_tow used (set_had wanted fs) wanted fs ≡ first_tow leap (set_had wanted fs) wanted fs
-  by true decoded = ap (λ (n : ℕ). first_tow n (set_had wanted fs) wanted fs) (is ∙ ap (λ (b : Bool). if b then leap else usual_leap start) decoded)
-  by false decoded = free (set_had wanted fs) used leap wanted fs decoded
+same_first free leap used start wanted fs is = grind (arith, common_steps)
 
 -- the first time of a conversion that starts as found
 first_dated : DateLaws → (w leap : ℕ) (wanted : Option ℕ) (fs : List Framed) (x : Setup) → w < weeks → StartsAsFound x (Some w) (Some leap) wanted fs → IsDatedIn w leap x wanted fs

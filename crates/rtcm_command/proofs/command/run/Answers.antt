@@ -3,79 +3,46 @@ use Rattle.rtcm_command.proofs.OptionLemmas.{bad_interval, no_device, refused_co
 use Rattle.rtcm_command.specs.Devices.{culprit}
 use Rattle.devices.specs.Devices.{HaveFailedBy}
 use Rattle.command_faults.specs.declared.fault.CommandFault.{CommandFault}
-use Rattle.rtcm_command.proofs.Names.{◌∙◌, Bool, codes, first_of, inl, inr, refl, subst, sym, devices_of, options_of, writer_of}
-use Rattle.rtcm_scan.specs.Scan.{most_bytes}
-use Rattle.rinex_inspect.specs.Checking.{EndsCheck}
-use Rattle.rtcm_inspect.specs.Listing.{EndsListing}
-use Rattle.rtcm_inspect.specs.ShowLines.{show_lines}
+use Rattle.rtcm_command.proofs.Names.{◌∙◌, codes, first_of, inl, inr, refl, sym, devices_of, options_of, writer_of}
 use Rattle.rtcm_command.proofs.command.run.Goals as goal
 
 pub returns-in-frames : goal.returns-in-frames
 returns-in-frames g c =
-    let at = devices_of g.R.Read.remaining g.W.Write.contents g.W.Deliver.waiting in
-    let d = at c.args.reader.now c.args.writer.now in
-    let d2 = at c.run_frames.new.reader c.run_frames.new.writer in
-    inspection_found d d2 (writer_of g.E.Write.contents g.E.Deliver.waiting c.args.faults.now) c.run_frames.result c.of_inspection.ensures (sub_found _ c.in-Some.ensures.name c.in-Some.ensures.rows) (inl (c.in-frames.is, c.run_frames.ensures))
+    inspection_found _ _ _ c.run_frames.result c.of_inspection.ensures (sub_found _ c.in-Some.ensures.name c.in-Some.ensures.rows) (inl (c.in-frames.is, c.run_frames.ensures))
 
 pub returns-in-show : goal.returns-in-show
 returns-in-show g c =
-    let at = devices_of g.R.Read.remaining g.W.Write.contents g.W.Deliver.waiting in
-    let d = at c.args.reader.now c.args.writer.now in
-    let d2 = at c.list-listed.new.reader c.list-listed.new.writer in
-    let h = subst (λ (b : Bool). EndsListing c.list-listed.result most_bytes (show_lines b) d d2) (sym c.if-has_flag.true ∙ c.has_flag.ensures) c.list-listed.ensures in
-    inspection_found d d2 (writer_of g.E.Write.contents g.E.Deliver.waiting c.args.faults.now) c.list-listed.result c.of_inspection-in-show.ensures (sub_found _ c.in-Some.ensures.name c.in-Some.ensures.rows) (inr (inl (c.in-show.is, h)))
+    inspection_found _ _ _ c.list-listed.result c.of_inspection-in-show.ensures (sub_found _ c.in-Some.ensures.name c.in-Some.ensures.rows)
+    (inr (inl (c.in-show.is, rw (sym c.has_flag.ensures ∙ c.if-has_flag.true) c.list-listed.ensures)))
 
 pub returns-in-show-2 : goal.returns-in-show-2
 returns-in-show-2 g c =
-    let at = devices_of g.R.Read.remaining g.W.Write.contents g.W.Deliver.waiting in
-    let d = at c.args.reader.now c.args.writer.now in
-    let d2 = at c.run_show.new.reader c.run_show.new.writer in
-    let h = subst (λ (b : Bool). EndsListing c.run_show.result most_bytes (show_lines b) d d2) (sym c.if-has_flag.false ∙ c.has_flag.ensures) c.run_show.ensures in
-    inspection_found d d2 (writer_of g.E.Write.contents g.E.Deliver.waiting c.args.faults.now) c.run_show.result c.of_inspection-in-show-2.ensures (sub_found _ c.in-Some.ensures.name c.in-Some.ensures.rows) (inr (inl (c.in-show.is, h)))
+    inspection_found _ _ _ c.run_show.result c.of_inspection-in-show-2.ensures (sub_found _ c.in-Some.ensures.name c.in-Some.ensures.rows)
+    (inr (inl (c.in-show.is, rw (sym c.has_flag.ensures ∙ c.if-has_flag.false) c.run_show.ensures)))
 
 pub returns-in-signals : goal.returns-in-signals
 returns-in-signals g c =
-    let at = devices_of g.R.Read.remaining g.W.Write.contents g.W.Deliver.waiting in
-    let d = at c.args.reader.now c.args.writer.now in
-    let d2 = at c.run_signals.new.reader c.run_signals.new.writer in
-    inspection_found d d2 (writer_of g.E.Write.contents g.E.Deliver.waiting c.args.faults.now) c.run_signals.result c.of_inspection-in-signals.ensures (sub_found _ c.in-Some.ensures.name c.in-Some.ensures.rows) (inr (inr (inl (c.in-signals.is, (c.station_of.result, c.station_of.ensures, c.run_signals.ensures)))))
+    inspection_found _ _ _ c.run_signals.result c.of_inspection-in-signals.ensures (sub_found _ c.in-Some.ensures.name c.in-Some.ensures.rows) (inr (inr (inl (c.in-signals.is, (c.station_of.result, c.station_of.ensures, c.run_signals.ensures)))))
 
 pub returns-in_ok-source-in-options : goal.returns-in_ok-source-in-options
 returns-in_ok-source-in-options g c =
-    let at = devices_of g.R.Read.remaining g.W.Write.contents g.W.Deliver.waiting in
-    let d = at c.args.reader.now c.args.writer.now in
-    let d2 = at c.run_options.new.reader c.run_options.new.writer in
-    inspection_found d d2 (writer_of g.E.Write.contents g.E.Deliver.waiting c.args.faults.now) c.run_options.result c.of_inspection-in-options.ensures (sub_found _ c.in-Some.ensures.name c.in-Some.ensures.rows)
+    inspection_found _ _ _ c.run_options.result c.of_inspection-in-options.ensures (sub_found _ c.in-Some.ensures.name c.in-Some.ensures.rows)
     (inr (inr (inr (c.in-options.is, (c.station_of-in-options.result, c.station_of-in-options.ensures, (c.in_ok-source-in-options.source, c.in_ok-source-in-options.ensures, c.run_options.ensures))))))
 
 pub returns-in-convert : goal.returns-in-convert
 returns-in-convert g c =
-    let at = devices_of g.R.Read.remaining g.W.Write.contents g.W.Deliver.waiting in
-    let d = at c.args.reader.now c.args.writer.now in
-    let d2 = at c.convert.new.reader c.convert.new.writer in (
-      c.in-Some.name.now,
-      options_of c.in-Some.options.now,
-      sub_found _ c.in-Some.ensures.name c.in-Some.ensures.rows,
-      ends_so c.convert.result d d2 (λ x h. inl (c.in-convert.is, h)) (λ f h. (inl (c.in-convert.is, h.0), h.1)) c.convert.ensures,
-    )
+    (_, _, sub_found _ c.in-Some.ensures.name c.in-Some.ensures.rows, ends_so c.convert.result _ _ (λ x h. inl (c.in-convert.is, h)) (λ f h. (inl (c.in-convert.is, h.0), h.1)) c.convert.ensures)
 
 pub returns-in_ok-complete-in-check : goal.returns-in_ok-complete-in-check
 returns-in_ok-complete-in-check g c =
-    let at = devices_of g.R.Read.remaining g.W.Write.contents g.W.Deliver.waiting in
-    let d = at c.args.reader.now c.args.writer.now in
-    let d2 = at c.run_check_with.new.reader c.run_check_with.new.writer in
-    let h = subst (λ (b : Bool). EndsCheck (record { complete = c.in_ok-complete-in-check.complete; times = b }) c.run_check_with.result d d2) c.has_flag-times.ensures c.run_check_with.ensures.ends in
-    file_found d d2 (writer_of g.E.Write.contents g.E.Deliver.waiting c.args.faults.now) c.run_check_with.result c.of_file.ensures (sub_found _ c.in-Some.ensures.name c.in-Some.ensures.rows)
-    (inl (c.in-check.is, (c.in_ok-complete-in-check.complete, c.in_ok-complete-in-check.ensures.set, h)))
+    file_found _ _ _ c.run_check_with.result c.of_file.ensures (sub_found _ c.in-Some.ensures.name c.in-Some.ensures.rows)
+    (inl (c.in-check.is, (c.in_ok-complete-in-check.complete, c.in_ok-complete-in-check.ensures.set, rw (← c.has_flag-times.ensures) c.run_check_with.ensures.ends)))
 
 pub returns-in_ok-every-in_default-name : goal.returns-in_ok-every-in_default-name
 returns-in_ok-every-in_default-name g c =
-    let at = devices_of g.R.Read.remaining g.W.Write.contents g.W.Deliver.waiting in
-    let d = at c.args.reader.now c.args.writer.now in
-    let d2 = at c.run_quality.new.reader c.run_quality.new.writer in
     let found = sub_found _ c.in-Some.ensures.name c.in-Some.ensures.rows in
     let n = is_quality c.args.matches.now c.requires found c.in_default-name.not-frames c.in_default-name.not-show c.in_default-name.not-signals c.in_default-name.not-options c.in_default-name.not-convert c.in_default-name.not-check in
-    file_found d d2 (writer_of g.E.Write.contents g.E.Deliver.waiting c.args.faults.now) c.run_quality.result c.of_file-in_default-name.ensures found
+    file_found _ _ _ c.run_quality.result c.of_file-in_default-name.ensures found
     (inr (n, (c.in_ok-every-in_default-name.every, sym c.in_ok-every-in_default-name.ensures, c.run_quality.ensures.ends)))
 
 pub returns-in_err-source-in-options : goal.returns-in_err-source-in-options
