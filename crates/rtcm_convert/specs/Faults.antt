@@ -50,7 +50,7 @@ FailsWithDevices result r r' w w' = FailsWithReader result r r' × FailsWithWrit
 abbrev pub fault_of_none : EpochCounts → Fault
 fault_of_none counts = if counts.epochs == 0 then NoEpoch else NoneChosen counts
 
--- these faults
+-- the two faults of a file without an epoch, `NoEpoch` and `NoneChosen`
 abbrev pub IsOfNone : Fault → Type 0
 IsOfNone NoEpoch = ⊤
 IsOfNone (NoneChosen counts) = ⊤
