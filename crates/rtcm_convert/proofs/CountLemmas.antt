@@ -1,7 +1,6 @@
 -- Each frame is counted once.
 use Rattle.rtcm_convert.proofs.ExactLemmas.{outcomes_length}
 use Rattle.rtcm_convert.proofs.Names.{◌≡◌, ℕ, ◌+◌, List, [], ◌∷◌, ◌++◌, Bool, false, refl, arith, length, Option, Some, None, sum_by, option_map, sum_by-cons, Framed, frames_of, Kind, GatherSetup, Heard, is_close_first, kind_of, SetupValue, message_of, messages_of, outcomes_after, tally_of_one, report_of, IsCountedOnce, Report}
-use Rattle.obs_epoch.specs.declared.taken.Kind.TheVariants as kind
 use Rattle.std.proofs.lemmas.Grind.{common_steps}
 
 -- the outcome that no frame has
@@ -17,8 +16,7 @@ abbrev Kinds : Type 0
 Kinds = (s : GatherSetup) (ms : List Heard) (m : Heard) → is_close_first (kind_of s ms m) ≡ false
 
 heard_done : Kinds → (s : GatherSetup) (ms : List Heard) (o : Option Heard) → is_first (option_map (λ m. kind_of s ms m) o) ≡ false
-heard_done kinds s ms None = refl
-heard_done kinds s ms (Some m) = kinds s ms m
+heard_done kinds s ms o = grind (arith, common_steps)
 
 outcomes_done : Kinds → (s : SetupValue) (before fs : List Framed) → AreDone (outcomes_after s before fs)
 outcomes_done kinds s before [] = tt
@@ -36,14 +34,7 @@ all_once [] d = refl
 all_once (o ∷ os) d = grind (arith, common_steps, all_once os d.1)
 
 one_frame : (o : Option Kind) → (tally_of_one o).frames ≡ 1
-one_frame None = refl
-one_frame (Some kind.Ignored) = refl
-one_frame (Some kind.Station) = refl
-one_frame (Some kind.OtherStation) = refl
-one_frame (Some kind.Late) = refl
-one_frame (Some kind.PastWeeks) = refl
-one_frame (Some (kind.Kept n)) = refl
-one_frame (Some kind.CloseFirst) = refl
+one_frame o = grind (arith, common_steps)
 
 sum_frames : (os : List (Option Kind)) → sum (λ t. t.frames) os ≡ length os
 sum_frames [] = refl

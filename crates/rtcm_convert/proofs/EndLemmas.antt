@@ -2,7 +2,7 @@
 use Rattle.rtcm_convert.proofs.ExactLemmas.{counts_whole, tally_whole, whole_epochs, epochs_few, outcomes_length}
 use Rattle.rtcm_convert.proofs.PartLemmas.{goes_on-trans, breaks_off-after, breaks_off-before, up_to_whole}
 use Rattle.rtcm_convert.proofs.StreamLemmas.{files_self, so_far-front}
-use Rattle.rtcm_convert.proofs.Names.{◌≡◌, ℕ, List, ◌++◌, true, false, sym, ap, subst, ◌∙◌, Option, append-nil, [], arith, length, ◌*◌, ◌≤◌, most_bytes, Device, HasFailed, IsPrefix, Framed, frames_of, decided_frames, IsDrained, known_frames, PassesKnown, BreaksKnown, HasPassedAll, HasBroken, FramerValue, SetupValue, so_far, file, epochs_in, AppendsBetween, AppendsPrefixBetween, HasFiledFrames, FiledStays, FiledGrows, WrittenStays, WrittenGrows, outcomes, EndsFile, BreaksInRest, BreaksAtEndOf, EndsBytes, Drained, Files, BreaksFiling, AppendsPrefixOfRest, FileWriter}
+use Rattle.rtcm_convert.proofs.Names.{◌≡◌, ℕ, List, ◌++◌, true, false, sym, ap, subst, ◌∙◌, Option, append-nil, [], arith, length, ◌*◌, ◌≤◌, most_bytes, Device, HasFailed, IsPrefix, Framed, frames_of, decided_frames, IsDrained, known_frames, PassesKnown, BreaksKnown, HasPassedAll, HasBroken, FramerValue, SetupValue, so_far, file, epochs_in, AppendsBetween, AppendsPrefixBetween, HasFiledFrames, FiledStays, FiledGrows, WrittenStays, WrittenGrows, outcomes, EndsFile, BreaksInRest, BreaksAtEndOf, EndsBytes, Drained, Files, BreaksFiling, FileWriter}
 
 -- no more bytes were accepted than a stream may have
 within : (v : FramerValue) (w : FileWriter) (s : SetupValue) (bytes : List ℕ) → Drained v w s bytes → length bytes ≤ most_bytes
@@ -18,14 +18,7 @@ module _ {W : Type 0} {c : W → Option (List ℕ)} {v v' : FramerValue} {w w' :
 
   filed_all : v.has_ended ≡ false → v'.has_ended ≡ true → PassesKnown (Files c) v w o v' w' o' → (s : SetupValue) (bytes : List ℕ) → Drained v w s bytes
       → HasFiledFrames w' s (frames_of bytes) × AppendsBetween (c o.inner) (c o'.inner) (so_far s (decided_frames bytes)) (so_far s (frames_of bytes))
-  filed_all before after k s bytes d =
-      let q = (passed_all k s bytes d).passed.taken.files s d.file_writer in
-      let f : known_frames v'.has_ended bytes ≡ frames_of bytes = ap (λ h. known_frames h bytes) after in
-      let j : known_frames v.has_ended bytes ≡ decided_frames bytes = ap (λ h. known_frames h bytes) before in (
-        subst (λ (l : List Framed). HasFiledFrames w' s l) f q.0,
-        subst (λ (l : List Framed). AppendsBetween (c o.inner) (c o'.inner) (so_far s (decided_frames bytes)) (so_far s l)) f
-            (subst (λ (l : List Framed). AppendsBetween (c o.inner) (c o'.inner) (so_far s l) (so_far s (known_frames v'.has_ended bytes))) j q.1),
-      )
+  filed_all before after k s bytes d = rw (before, after) at ((passed_all k s bytes d).passed.taken.files s d.file_writer)
 
   -- then the rest of the file was written
   pub ended : {w2 : FileWriter} {e : Option (List ℕ)} → Few → v.has_ended ≡ false → v'.has_ended ≡ true → v'.limit ≡ v.limit → v'.taken ≡ v.taken → PassesKnown (Files c) v w o v' w' o'
@@ -60,11 +53,11 @@ module _ {W : Type 0} {c : W → Option (List ℕ)} {v v' : FramerValue} {w w' :
   ended_fine k b x = let p = k w o (known_frames v.has_ended b) b (known_frames v.has_ended b) x.passed in (p.passed.taken.fine, p.passed.taken.widest)
 
 so_far-file : FiledStays → (s : SetupValue) (fs : List Framed) → IsPrefix (so_far s fs) (file s fs)
-so_far-file stays s fs = subst (λ (l : List Framed). IsPrefix (so_far s fs) (file s l)) (append-nil fs) (stays s fs [])
+so_far-file stays s fs = rw append-nil at (stays s fs [])
 
 -- the device failed before
 pub drain_part : {W : Type 0} {c : W → Option (List ℕ)} {v : FramerValue} {w w' : FileWriter} {o o' : Device W} → FiledStays → FiledGrows → v.has_ended ≡ false → BreaksKnown (Files c) (BreaksFiling c) true v w o w' o'
-    → (s : SetupValue) (bytes : List ℕ) → Drained v w s bytes → AppendsPrefixOfRest (c o.inner) (c o'.inner) s bytes bytes
+    → BreaksAtEndOf v w (c o.inner) (c o'.inner)
 drain_part {c = c} {v} {w} {w'} {o} {o'} stays grows before k s bytes d =
     let p : HasBroken (BreaksFiling c) true w o (known_frames v.has_ended bytes) w' o' (known_frames v.has_ended bytes) bytes =
     k w o (known_frames v.has_ended bytes) bytes (known_frames v.has_ended bytes) (record { framer = d.scan.framer; taken = files_self c w o (known_frames v.has_ended bytes) }) in
@@ -85,11 +78,7 @@ abbrev pub FramesGrow : Type 0
 FramesGrow = (b t : List ℕ) → IsPrefix (decided_frames b) (decided_frames (b ++ t))
 
 pub written_stays : FiledStays → FramesStay → WrittenStays
-written_stays stays frames s b more =
-    let p = frames b more in
-    subst (λ (l : List Framed). IsPrefix (so_far s (decided_frames b)) (file s l)) (sym p.1) (stays s (decided_frames b) p.0)
+written_stays stays frames s b more = rw (frames b more).1 (stays s (decided_frames b) (frames b more).0)
 
 pub written_grows : FiledGrows → FramesGrow → WrittenGrows
-written_grows grows frames s b more =
-    let p = frames b more in
-    subst (λ (l : List Framed). IsPrefix (so_far s (decided_frames b)) (so_far s l)) (sym p.1) (grows s (decided_frames b) p.0)
+written_grows grows frames s b more = so_far-front grows s (decided_frames b) (decided_frames (b ++ more)) (frames b more)

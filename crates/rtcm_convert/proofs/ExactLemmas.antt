@@ -1,18 +1,16 @@
 -- No count of a stream reaches the greatest number that is counted: a frame has at least six bytes and at most 64
 -- cells.
-use Rattle.std.specs.Prelude.{not}
 use Rattle.rtcm_msg.specs.Entries.{entries_in}
 use Rattle.rtcm_msg.specs.declared.view.Form.{Form}
 use Rattle.rtcm_msg.specs.declared.view.Form.TheVariants as forms
 use Rattle.obs_epoch.proofs.CountLaws.{few_without}
 use Rattle.obs_epoch.specs.declared.choice.Choice.{Choice}
-use Rattle.obs_epoch.specs.Choices.{in_window, is_chosen, on_grid}
 use Rattle.obs_epoch.specs.GathererHistory.{whole_list}
 use Rattle.obs_epoch.specs.GathererHistory.{capped_counts}
-use Rattle.obs_epoch.specs.Thinning.{has_satellite, marked_after, thin, thin_after}
+use Rattle.obs_epoch.specs.Thinning.{thin_after}
 use Rattle.rtcm_convert.specs.Converted.{epoch_counts}
 use Rattle.gnss_obs.specs.Values.{Closed}
-use Rattle.rtcm_convert.proofs.Names.{common_steps, ◌≡◌, ◌||◌, ℕ, ◌+◌, ◌*◌, ◌≤◌, most_bytes, List, [], ◌∷◌, ◌++◌, Bool, true, false, refl, sym, ap, subst, arith, rules, length, length-append, add-zero, suc, nat_lt, Option, Some, None, is_some, count_by, filter, if◌then◌else◌, zip, option_map_or, length-map, length-filter, count_by-le-length, System, Framed, Message, Entry, MasksValue, MsmValue, AreMasks, IsMessage, chosen, cell_pairs, all_pairs, entry_in, Kind, GatherSetup, Heard, heard, heard_by, ChannelsValue, heard_msm, is_own, unlisted_in, HeardCell, Timed, timed, timed_after, taken_at, is_late, is_past, time_of, times, counts_of, counts_of_message, no_counts, with_skipped, is_planned, offered, kind_of, kind_at, closed_at, satellites_written, SetupValue, messages_of, message_of, epochs_in, outcomes_after, capped, capped_tally, sum_of_counts, tally_of, tally_of_one, IsFew, AreFew, Report, CellCounts}
+use Rattle.rtcm_convert.proofs.Names.{common_steps, ◌≡◌, ◌||◌, ℕ, ◌+◌, ◌*◌, ◌≤◌, most_bytes, List, [], ◌∷◌, ◌++◌, Bool, true, false, refl, sym, ap, subst, arith, rules, length, length-append, add-zero, suc, nat_lt, Option, Some, None, is_some, filter, if◌then◌else◌, zip, option_map_or, length-map, length-filter, count_by-le-length, System, Framed, Message, Entry, MasksValue, MsmValue, AreMasks, IsMessage, chosen, cell_pairs, all_pairs, entry_in, Kind, GatherSetup, Heard, heard, heard_by, ChannelsValue, heard_msm, is_own, unlisted_in, HeardCell, Timed, timed, timed_after, taken_at, times, counts_of, counts_of_message, no_counts, with_skipped, is_planned, offered, kind_of, kind_at, SetupValue, messages_of, epochs_in, outcomes_after, capped, capped_tally, sum_of_counts, tally_of, tally_of_one, IsFew, AreFew, Report, CellCounts}
 use Rattle.rtcm_msg.specs.declared.message.Message.TheVariants as message
 use Rattle.obs_epoch.specs.declared.taken.Kind.TheVariants as kind
 use Rattle.rtcm_bits.proofs.SmallLaws.{length-filter-le, length-filter_map-le}
@@ -73,17 +71,11 @@ without_few : (s : GatherSetup) (before : List HeardCell) (m : Heard) → HasFew
 without_few s before m h = omega (arith, few_without s before (filter (is_planned s) m.cells), planned_few s m.cells, h.cells)
 
 counts_few : (s : GatherSetup) (before : List HeardCell) (m : Heard) → HasFew m → CountsFew (with_skipped m.unlisted (counts_of s before m.cells))
-counts_few s before m h = record {
-  skipped = omega (arith, h.cells, h.unlisted, count_by-le-length (λ x. not (is_planned s x)) m.cells);
-  repeated = grind (arith, common_steps, count_by-le-length, planned_few);
-  crowded = grind (arith, common_steps, count_by-le-length, planned_few);
-  without = without_few s before m h;
-}
+counts_few s before m h = grind (arith, common_steps, count_by-le-length, planned_few, without_few)
 
 counts_few_at : (s : GatherSetup) (xs : List Timed) (m : Heard) (o : Option ℕ) → HasFew m
     → CountsFew (option_map_or (λ u. with_skipped m.unlisted (counts_of s (offered s u xs) m.cells)) o no_counts)
-counts_few_at s xs m None h = record { skipped = omega arith; repeated = omega arith; crowded = omega arith; without = omega arith }
-counts_few_at s xs m (Some u) h = counts_few s (offered s u xs) m h
+counts_few_at s xs m o h = grind (arith, common_steps, counts_few)
 
 -- ---- what a frame adds to each count
 
@@ -91,18 +83,13 @@ pub refused_few : IsFew (tally_of_one None)
 refused_few = search rules
 
 timed_few : (late past : Bool) (n : CellCounts) → CountsFew n → IsFew (tally_of_one (Some (if late then kind.Late else (if past then kind.PastWeeks else kind.Kept n))))
-timed_few true past n h = search rules
-timed_few false true n h = search rules
-timed_few false false n h = search rules
+timed_few late past n h = grind (arith, common_steps)
 
 own_few : (s : GatherSetup) (xs : List Timed) (n : CellCounts) (tow : Option ℕ) → CountsFew n → IsFew (tally_of_one (Some (option_map_or (kind_at s xs n) tow kind.Station)))
-own_few s xs n None h = search rules
-own_few s xs n (Some tow) h = timed_few (is_late s xs tow) (is_past (time_of s xs tow)) n h
+own_few s xs n tow h = grind (arith, common_steps, timed_few)
 
 kind_few : (known own : Bool) (k : Kind) → IsFew (tally_of_one (Some k)) → IsFew (tally_of_one (Some (if known then (if own then k else kind.OtherStation) else kind.Ignored)))
-kind_few true true k h = h
-kind_few true false k h = search rules
-kind_few false own k h = search rules
+kind_few known own k h = grind (arith, common_steps)
 
 heard_kind_few : (s : GatherSetup) (ms : List Heard) (m : Heard) → HasFew m → IsFew (tally_of_one (Some (kind_of s ms m)))
 heard_kind_few s ms m h =
@@ -135,8 +122,7 @@ outcomes_length s before (f ∷ fs) = ap (λ n. suc n) (outcomes_length s (befor
 -- ---- at most as many epochs as frames
 
 timed_step : (o : Option ℕ) (ts : List ℕ) (n : ℕ) → length ts ≤ n → length (option_map_or (λ t. t ∷ filter (λ u. nat_lt t u) ts) o ts) ≤ suc n
-timed_step None ts n le = omega arith
-timed_step (Some t) ts n le = let a : length (filter (λ u. nat_lt t u) ts) ≡ count_by (λ u. nat_lt t u) ts = length-filter (λ u. nat_lt t u) ts in let b = count_by-le-length (λ u. nat_lt t u) ts in omega arith
+timed_step o ts n le = grind (arith, common_steps, length-filter, count_by-le-length)
 
 times_few : (xs : List Timed) → length (times xs) ≤ length xs
 times_few [] = omega arith
@@ -153,35 +139,16 @@ timed_length s earlier (m ∷ ms) =
 -- no more epochs are returned than there are
 thin_few : (c : Choice) (earlier es : List Closed) → length (thin_after c earlier es) ≤ length es
 thin_few c earlier [] = omega arith
-thin_few c earlier (e ∷ es) = by (is_chosen c e.epoch.time) (thin_few c (earlier ++ e ∷ []) es) where
-  by : (b : Bool) → length (thin_after c (earlier ++ e ∷ []) es) ≤ length es → length ((if b then marked_after c earlier e ∷ [] else []) ++ thin_after c (earlier ++ e ∷ []) es) ≤ suc (length es)
-  by true h = omega (arith, h)
-  by false h = omega (arith, h)
+thin_few c earlier (e ∷ es) = grind (arith, common_steps, thin_few c (earlier ++ e ∷ []) es)
 
 whole_few : (s : SetupValue) (fs : List Framed) → length (whole_list s.gatherer (messages_of s fs)) ≤ length fs
-whole_few s fs =
-    let ms = messages_of s fs in
-    let g = s.gatherer in
-    omega (arith, length-map (times (timed g ms)) (closed_at g ms), times_few (timed g ms), timed_length g [] ms, length-filter_map-le (message_of s) fs)
+whole_few s fs = grind (arith, common_steps, length-map, times_few, timed_length, length-filter_map-le)
 
 pub epochs_few : (s : SetupValue) (fs : List Framed) → epochs_in s fs ≤ length fs
-epochs_few s fs =
-    let es = whole_list s.gatherer (messages_of s fs) in
-    omega (arith, length-filter-le (λ e. nat_lt 0 (satellites_written e.epoch)) (thin s.gatherer.choice es), thin_few s.gatherer.choice [] es, whole_few s fs)
+epochs_few s fs = grind (arith, common_steps, length-filter-le, thin_few, whole_few)
 
 pub whole_epochs : (n k most : ℕ) → n ≤ k → 6 * k ≤ most → most ≤ most_bytes → capped n ≡ n
 whole_epochs n k most a b c = omega arith
 
 pub counts_whole : (s : SetupValue) (fs : List Framed) (most : ℕ) → 6 * length fs ≤ most → most ≤ most_bytes → capped_counts (epoch_counts s fs) ≡ epoch_counts s fs
-counts_whole s fs most short small =
-    let es = whole_list s.gatherer (messages_of s fs) in
-    let c = s.gatherer.choice in
-    let valued = filter has_satellite es in
-    let n : length valued ≤ length fs = omega (arith, length-filter-le has_satellite es, whole_few s fs) in
-    let w : length (filter (λ e. in_window c e.epoch.time) valued) ≤ length fs = omega (arith, length-filter-le (λ (e : Closed). in_window c e.epoch.time) valued, n) in
-    let g : length (filter (λ e. on_grid c e.epoch.time) valued) ≤ length fs = omega (arith, length-filter-le (λ (e : Closed). on_grid c e.epoch.time) valued, n) in
-    λ i. record {
-      epochs = whole_epochs (length valued) (length fs) most n short small i;
-      window = whole_epochs (length (filter (λ e. in_window c e.epoch.time) valued)) (length fs) most w short small i;
-      grid = whole_epochs (length (filter (λ e. on_grid c e.epoch.time) valued)) (length fs) most g short small i;
-    }
+counts_whole s fs most short small = grind (arith, common_steps, length-filter-le, whole_few, whole_epochs)

@@ -1,6 +1,6 @@
 -- The faults of a call, by the results that it never has.
 use Rattle.rtcm_convert.specs.Faults.{IsOfNone}
-use Rattle.rtcm_convert.proofs.Names.{arith, ◌≡◌, ℕ, Bool, true, false, sym, ap, subst, ◌∙◌, inl, inr, Result, Ok, Err, IfErr, false≢true, IsErrOf, OnErr, OnOk, Device, HasFailed, FailsWith, FailsWithWriter, IsSetupFault, IsPiecesFault, IsRunFault, Fault, BadSetup, Memory, Read, TooLong, Write, NoEpoch, NoneChosen, ⊤}
+use Rattle.rtcm_convert.proofs.Names.{arith, ◌≡◌, ℕ, Bool, true, false, sym, ap, subst, ◌∙◌, Result, Ok, Err, IfErr, false≢true, IsErrOf, OnErr, OnOk, Device, HasFailed, FailsWith, FailsWithWriter, IsSetupFault, IsPiecesFault, IsRunFault, Fault, BadSetup, Memory, Read, TooLong, Write, NoEpoch, NoneChosen, ⊤}
 use Rattle.std.proofs.lemmas.Grind.{common_steps}
 
 abbrev pub of_finish : Fault → Bool
@@ -18,17 +18,10 @@ of_run Read = true
 of_run fault = of_pieces fault
 
 pub pieces_known : (f : Fault) → IsPiecesFault f → of_pieces f ≡ true
-pieces_known f (inl e) = ap of_pieces e
-pieces_known f (inr (inl e)) = ap of_pieces e
-pieces_known f (inr (inr (inl p))) = ap of_pieces p.1
-pieces_known f (inr (inr (inr e))) = ap of_pieces e
+pieces_known f h = grind (arith, common_steps)
 
 pub run_known : (f : Fault) → IsRunFault f → of_run f ≡ true
-run_known f (inl e) = ap of_run e
-run_known f (inr (inl e)) = ap of_run e
-run_known f (inr (inr (inl e))) = ap of_run e
-run_known f (inr (inr (inr (inl p)))) = ap of_run p.1
-run_known f (inr (inr (inr (inr e)))) = ap of_run e
+run_known f h = grind (arith, common_steps)
 
 pub not_err : {A E : Type 0} (x : A) (e : E) → Ok x ≡ Err e → ⊥
 not_err x e h = absurd cc
@@ -39,16 +32,13 @@ apart test f g holds fails e = false≢true (sym fails ∙ ap test (sym e) ∙ h
 -- a call whose faults are of one kind returns no other
 module _ {K : Fault → Type 0} {test : Fault → Bool} (L : Fault → Type 0) (known : (f : Fault) → K f → test f ≡ true) where
   pub never : {A : Type 0} (r : Result A Fault) → IfErr r (λ f. K f × L f) → (g : Fault) → test g ≡ false → IsErrOf r g → ⊥
-  never (Ok x) left g fails e = not_err x g e
-  never (Err f) left g fails e = let same : f ≡ g = cc in apart test f g (known f left.0) fails same
+  never r left g fails e = grind (arith, common_steps, not_err, apart)
 
   not_setup : (f : Fault) → test f ≡ true → test BadSetup ≡ false → test Memory ≡ false → IsSetupFault f → ⊥
-  not_setup f holds bad memory (inl e) = apart test f BadSetup holds bad e
-  not_setup f holds bad memory (inr e) = apart test f Memory holds memory e
+  not_setup f holds bad memory h = grind (arith, common_steps, apart)
 
   pub not_of_setup : {A : Type 0} (P : Type 0) (r : Result A Fault) → IfErr r (λ f. K f × L f) → test BadSetup ≡ false → test Memory ≡ false → IfErr r (λ f. IsSetupFault f → P)
-  not_of_setup P (Ok x) left bad memory = tt
-  not_of_setup P (Err f) left bad memory = λ kind. absurd (not_setup f (known f left.0) bad memory kind)
+  not_of_setup P r left bad memory = grind (arith, common_steps, not_setup)
 
 -- ---- a call after others that did not fail
 
@@ -60,10 +50,8 @@ fails_after r old mid new e d = (subst (λ (n : ℕ). OnErr r (HasFailed n new.f
 
 -- what is known of the fault of a call holds for the one that it returned
 pub fault_given : {A : Type 0} (P : Fault → Type 0) (r : Result A Fault) (fault : Fault) → IsErrOf r fault → IfErr r P → P fault
-fault_given P (Ok x) fault is h = absurd (not_err x fault is)
-fault_given P (Err f) fault is h = let same : f ≡ fault = cc in subst P same h
+fault_given P r fault is h = grind (arith, common_steps, not_err)
 
 -- no file was made with a bad setup
 pub setup_never : (f : Fault) → IsSetupFault f → (fault : Fault) → IsOfNone fault → f ≡ fault → ⊥
-setup_never f (inl e) fault none is = subst IsOfNone (sym is ∙ e) none
-setup_never f (inr e) fault none is = subst IsOfNone (sym is ∙ e) none
+setup_never f h fault none is = grind (arith, common_steps)

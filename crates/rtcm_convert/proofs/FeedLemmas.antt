@@ -1,10 +1,11 @@
 -- A piece that a converter accepts, and the end of its stream.
+use Rattle.std.proofs.lemmas.Grind.{common_steps}
 use Rattle.rtcm_scan.specs.declared.feed.StreamFault.TheVariants.{Read, TooLong}
 use Rattle.rtcm_convert.proofs.StreamLemmas.{piece_whole, piece_part, piece_fine, to_limit}
 use Rattle.rtcm_convert.specs.Faults.{fault_of_none}
 use Rattle.rtcm_convert.specs.declared.fault.Fault.{Fault}
 use Rattle.std.proofs.Common.{ap}
-use Rattle.rtcm_convert.proofs.Names.{FinishesEmptyNow, sym, ◌≡◌, ◌≢◌, ℕ, ◌<◌, ◌++◌, List, length, Bool, true, false, subst, ◌∙◌, [], Option, suc, zero, arith, refl, Device, HasExaminedSome, Passes, Breaks, PassesToLimit, AtFault, up_to_limit, FramerValue, StreamFault, Sink, Conversion, kept_of, KeepsNow, IsGoing, IsFit, HasConverted, HasFinished, TakesPiece, CutsAtLimit, WritesPrefixOfAdded, FinishesNow, SetupValue, IsKeptAtEnd, IsWithinBounds, skipped_before, frames_of, known_place, report_with, Report, FiledGrows, Files, BreaksFiling, EndsBytes, AppendsDecided, FileWriter}
+use Rattle.rtcm_convert.proofs.Names.{FinishesEmptyNow, sym, ◌≡◌, ◌≢◌, ℕ, ◌<◌, ◌++◌, List, length, Bool, true, false, subst, ◌∙◌, [], Option, arith, refl, Device, HasExaminedSome, Passes, Breaks, PassesToLimit, AtFault, up_to_limit, FramerValue, StreamFault, Sink, Conversion, kept_of, KeepsNow, IsGoing, IsFit, HasConverted, HasFinished, TakesPiece, CutsAtLimit, WritesPrefixOfAdded, FinishesNow, SetupValue, IsKeptAtEnd, IsWithinBounds, skipped_before, frames_of, known_place, report_with, Report, FiledGrows, Files, BreaksFiling, EndsBytes, AppendsDecided, FileWriter}
 
 pub read_of : {F : Type 0} (f : StreamFault F) (P Q R : Type 0) → f ≡ Read → AtFault f P Q R → P
 read_of f P Q R e a = subst (λ (x : StreamFault _). AtFault x P Q R) e a
@@ -53,8 +54,7 @@ pub fed_part : {W : Type 0} {failed over : Bool} {v : FramerValue} {w w' : FileW
 fed_part {c = c} piece grows before k s bytes h = piece_part c grows piece before k s bytes h.drained
 
 some : (n m : ℕ) → n ≡ m → (n ≡ 0 → ⊥) → 0 < m
-some zero m e h = absurd (h refl)
-some (suc n) m e h = omega (arith, e)
+some n m e h = grind (arith, common_steps)
 
 -- what is held and was examined after the end
 abbrev pub KeepsAtEnd : Conversion → Type 0

@@ -1,5 +1,5 @@
 -- Bytes that are written one part after the other.
-use Rattle.rtcm_convert.proofs.Names.{arith, ◌≡◌, ℕ, List, [], ◌++◌, sym, ap, ◌∙◌, Option, None, Some, refl, subst, Err, append_assoc, append-nil, IsErrOf, Appends, Keeps, append_cancel_left, Appends-trans, Appends-nil, Appends-kept, AppendsPrefix, IsPrefix, AppendsBetween, AppendsPrefixBetween, AppendsUpTo, Result, Ok, IsErrAnd}
+use Rattle.rtcm_convert.proofs.Names.{arith, ◌≡◌, ℕ, List, [], ◌++◌, sym, ap, ◌∙◌, Option, None, Some, refl, subst, Err, append_assoc, append-nil, IsErrOf, Appends, Keeps, append_cancel_left, Appends-trans, Appends-nil, Appends-kept, AppendsPrefix, IsPrefix, AppendsBetween, AppendsPrefixBetween, AppendsUpTo, Result, IsErrAnd}
 use Rattle.std.proofs.lemmas.Grind.{common_steps}
 
 pub prefix_more : {z : List ℕ} (a b : Option (List ℕ)) (x y : List ℕ) → z ≡ x ++ y → AppendsPrefix a b x → AppendsPrefix a b z
@@ -65,5 +65,4 @@ same_fault x e h = let same : x ≡ e = cc in ap Err same
 
 -- the same by `?`
 pub same_passed : {T U E : Type 0} (r : Result T E) (x e : E) → IsErrAnd r (λ y. y ≡ x) → IsErrOf r e → IsErrOf {T = U} {E = E} (Err x) e
-same_passed (Ok t) x e is h = absurd is
-same_passed (Err y) x e is h = let same : x ≡ e = cc in ap Err same
+same_passed r x e is h = grind (arith, common_steps)

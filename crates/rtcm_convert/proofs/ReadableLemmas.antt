@@ -1,5 +1,5 @@
 -- The bytes written are the text of a file value.
-use Rattle.rtcm_convert.proofs.Names.{◌≡◌, ℕ, ◌<◌, inl, inr, Bool, List, [], ◌∷◌, ◌++◌, length, filter, refl, sym, subst, arith, Option, Some, None, Result, Ok, Err, append-nil, IfSome, AllByRecursion, cons_option, Framed, Message, MsgFault, IsMessage, MsmSet, message_with, PlanValue, Closed, Heard, IsPrefix, all_epochs, closed_epochs, ClosedComeFirst, IsHeard, MessagesAreHeard, EpochsAreGathered, TimesRise, AreGatheredEpochs, HeaderLists, AreTexts, gathered, AreSignals, HasSatellite, IsGatheredFile, SetupValue, heard_of, message_of, messages_of, written_epochs, text_of_epochs, text_with, file, so_far, epochs_in, IsFileText, HasValue, IsReadable, AreSound, AreChannels}
+use Rattle.rtcm_convert.proofs.Names.{◌≡◌, ℕ, ◌<◌, Bool, List, [], ◌∷◌, ◌++◌, length, filter, refl, sym, subst, arith, Option, Some, None, Result, Ok, Err, append-nil, IfSome, AllByRecursion, cons_option, Framed, Message, MsgFault, IsMessage, MsmSet, message_with, PlanValue, Closed, Heard, IsPrefix, all_epochs, closed_epochs, ClosedComeFirst, IsHeard, MessagesAreHeard, EpochsAreGathered, TimesRise, AreGatheredEpochs, HeaderLists, AreTexts, gathered, AreSignals, HasSatellite, IsGatheredFile, SetupValue, heard_of, message_of, messages_of, written_epochs, text_of_epochs, text_with, file, so_far, epochs_in, IsFileText, HasValue, IsReadable, AreSound, AreChannels}
 use Rattle.gnss_obs.specs.Intervals.{IsInterval}
 use Rattle.std.proofs.lemmas.Grind.{common_steps}
 
@@ -11,9 +11,6 @@ pub record Known : Type 0 where
   pub first : ClosedComeFirst
   pub gathered : IsGatheredFile
   pub text : IsFileText
-
-pub known : ((set : MsmSet) (bytes : List ℕ) (m : Message) → message_with set bytes ≡ Ok m → IsMessage m) → MessagesAreHeard → EpochsAreGathered → ClosedComeFirst → IsGatheredFile → IsFileText → Known
-known value heard epochs first gathered text = record { value = value; heard = heard; epochs = epochs; first = first; gathered = gathered; text = text }
 
 -- ---- messages
 
@@ -67,8 +64,7 @@ with_valued k s es sound h = grind (arith, common_steps, text_valued, all_filter
 
 no_text : (texts : HeaderLists) (interval : Option ℕ) (plan : PlanValue) (es : List Closed) → (0 < length es → HasValue (text_of_epochs texts interval plan es)) → IsReadable (text_of_epochs texts interval plan es)
 unfolding text_of_epochs
-no_text texts interval plan [] h = inl refl
-no_text texts interval plan (e ∷ es) h = inr (h (omega arith))
+no_text texts interval plan es h = grind (arith, common_steps)
 
 with_readable : Known → (s : SetupValue) (es : List Closed) → AreSound s → AreGatheredEpochs s.gatherer.plan es → IsReadable (text_with s es)
 with_readable k s es sound h = no_text s.texts s.gatherer.choice.interval s.gatherer.plan (written_epochs es) (with_valued k s es sound h)

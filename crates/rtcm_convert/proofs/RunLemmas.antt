@@ -3,13 +3,11 @@ use Rattle.rtcm_convert.specs.declared.fault.Fault.{Fault}
 use Rattle.rtcm_convert.proofs.FeedLemmas.{with_flags, fed_whole, fed_long}
 use Rattle.rtcm_convert.proofs.PartLemmas.{goes_on-trans, up_to_earlier, up_to_later}
 use Rattle.rtcm_convert.proofs.StreamLemmas.{passed_here, piece_whole, so_far-front}
-use Rattle.rtcm_convert.proofs.Names.{◌≡◌, ℕ, List, ◌++◌, sym, subst, ◌∙◌, Option, append_assoc, refl, Bool, true, false, None, Some, arith, IfSome, if◌then◌else◌, Consumes, IsAtEnd, Consumes-whole, Device, HasFailed, IsPrefix, longest_frame, decided_frames, Framed, known_frames, PassesToLimit, BreaksAfter, Reads, ReadsOn, FramerValue, SetupValue, so_far, AppendsUpTo, FiledGrows, FileWriter, Report, AppendsDecided, AppendsPrefixOfRest, BreaksFiling, Files, HasDrainedSome, Conversion, KeepsNow, IsGoing, refusal, HasConverted, TakesFromReader, CutsAtLimit, RanToFault, RanToLimit, Completed, CompletedEmpty, FinishesNow, FinishesEmptyNow, CompletesFile, CompletesEmptyFile, FailsFeeding, FailsFinishing, Failed, Finished}
+use Rattle.rtcm_convert.proofs.Names.{◌≡◌, ℕ, List, ◌++◌, sym, subst, ◌∙◌, Option, append_assoc, Bool, true, false, None, Some, arith, IfSome, if◌then◌else◌, Consumes, IsAtEnd, Consumes-whole, Device, HasFailed, IsPrefix, longest_frame, decided_frames, Framed, known_frames, PassesToLimit, BreaksAfter, Reads, ReadsOn, FramerValue, SetupValue, so_far, AppendsUpTo, FiledGrows, FileWriter, Report, AppendsDecided, BreaksFiling, Files, HasDrainedSome, Conversion, KeepsNow, IsGoing, refusal, TakesFromReader, CutsAtLimit, RanToFault, RanToLimit, Completed, CompletedEmpty, FinishesNow, FinishesEmptyNow, CompletesFile, CompletesEmptyFile, StopsAtEnd, FailsFeeding, FailsFinishing, Failed, Finished}
 use Rattle.std.proofs.lemmas.Grind.{common_steps}
 
 flags : (ended failed : Bool) → (if ended then Some Finished else if failed then Some Failed else None) ≡ None → (failed ≡ false) × (ended ≡ false)
-flags true failed e = absurd cc
-flags false true e = absurd cc
-flags false false e = (refl, refl)
+flags ended failed e = grind (arith, common_steps)
 
 -- a converter without a refusal has neither failed nor ended
 pub going_on : {x v : Conversion} → x ≡ v → refusal v ≡ None → IsGoing x
@@ -26,8 +24,7 @@ ran_whole {v} {x = x} {n} {a} {c = c} {report} r r' p e f =
     Consumes-whole r r' p.0 (CompletesFile v x n a c report) p.1 e
     (λ s bytes y. let i = p.3 s bytes y in completed_after i.out (f s (bytes ++ p.0) i.converted))
 
-pub run_finishing : {v w : Conversion} (x : Conversion) (r r' : Option (List ℕ)) {a b c : Option (List ℕ)} → TakesFromReader v w r r' a b → IsAtEnd r' → x.scan.taken ≡ w.scan.taken
-    → ((s : SetupValue) (bytes : List ℕ) → HasConverted w s bytes → AppendsPrefixOfRest b c s bytes bytes) → FailsFinishing v x r r' a c
+pub run_finishing : {v w : Conversion} (x : Conversion) (r r' : Option (List ℕ)) {a b c : Option (List ℕ)} → TakesFromReader v w r r' a b → IsAtEnd r' → x.scan.taken ≡ w.scan.taken → StopsAtEnd w b c → FailsFinishing v x r r' a c
 run_finishing x r r' {b} p e same f =
     (p.0, p.1, e, same ∙ p.2, λ s bytes y. let i = p.3 s bytes y in record { mid = b; before = i.out; last = f s (bytes ++ p.0) i.converted })
 
@@ -45,8 +42,7 @@ failing_at : {a b : Option (List ℕ)} {m : List ℕ} {e : Bool} (s : SetupValue
     → IsPrefix (so_far s (known_frames e (bytes ++ front))) m → AppendsUpTo a b (so_far s (known_frames e bytes)) m (so_far s (known_frames e (bytes ++ (front ++ piece))))
     → AppendsUpTo a b (so_far s (decided_frames bytes)) (so_far s (decided_frames (bytes ++ front))) (so_far s (decided_frames ((bytes ++ front) ++ piece)))
 failing_at {a} {b} {m} s bytes front piece before grows first f =
-    let first' : IsPrefix (so_far s (decided_frames (bytes ++ front))) m = subst (λ (e : Bool). IsPrefix (so_far s (known_frames e (bytes ++ front))) m) before first in
-    rw append_assoc (up_to_earlier grows first' (subst (λ (e : Bool). AppendsUpTo a b (so_far s (known_frames e bytes)) m (so_far s (known_frames e (bytes ++ (front ++ piece))))) before f))
+    rw append_assoc (up_to_earlier grows (rw before at first) (rw before at f))
 
 module _ {W : Type 0} {failed over : Bool} {v v' : FramerValue} {w w' : FileWriter} {o o' : Device W} (c : W → Option (List ℕ)) (r r' : Option (List ℕ)) where
   pub rest_taken : KeepsNow (with_flags failed over v' w') → v.has_ended ≡ false → v'.has_ended ≡ false → ReadsOn (Files c) v w o v' w' o' r r' → TakesFromReader (with_flags failed over v w) (with_flags failed over v' w') r r' (c o.inner) (c o'.inner)

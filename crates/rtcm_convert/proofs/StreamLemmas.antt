@@ -1,9 +1,9 @@
 -- The file writer as a sink of frames, and a piece of a stream.
 use Rattle.rtcm_convert.proofs.PartLemmas.{goes_on-refl, goes_on-trans, goes_on-kept, goes_on-front, breaks_off-before, up_to_whole}
-use Rattle.rtcm_convert.proofs.Names.{◌≡◌, ℕ, List, [], ◌∷◌, ◌++◌, ◌+◌, ◌-◌, ◌≤◌, Bool, false, refl, sym, ap, subst, suc, arith, length, take, ◌∙◌, Option, Keeps, Device, HasFailed, IsPrefix, Framed, decided_frames, known_frames, Passes, Breaks, HasPassedAll, up_to_limit, FramerValue, SetupValue, so_far, AppendsBetween, AppendsPrefixBetween, FiledGrows, TakesFrame, BreaksInFrame, Drained, HasDrained, HasDrainedSome, Files, BreaksFiling, AppendsDecided, AppendsPrefixOfDecided, FileWriter}
+use Rattle.rtcm_convert.proofs.Names.{◌≡◌, ℕ, List, [], ◌∷◌, ◌++◌, ◌+◌, ◌-◌, ◌≤◌, false, refl, sym, ap, subst, suc, arith, length, take, ◌∙◌, Option, Keeps, Device, HasFailed, IsPrefix, Framed, known_frames, Passes, Breaks, HasPassedAll, up_to_limit, FramerValue, SetupValue, so_far, FiledGrows, TakesFrame, BreaksInFrame, Drained, HasDrained, HasDrainedSome, Files, BreaksFiling, AppendsDecided, AppendsPrefixOfDecided, FileWriter}
 
 pub so_far-front : FiledGrows → (s : SetupValue) (fs gs : List Framed) → IsPrefix fs gs → IsPrefix (so_far s fs) (so_far s gs)
-so_far-front grows s fs gs p = subst (λ (l : List Framed). IsPrefix (so_far s fs) (so_far s l)) (sym p.1) (grows s fs p.0)
+so_far-front grows s fs gs p = rw p.1 (grows s fs p.0)
 
 module _ {W : Type 0} {c : W → Option (List ℕ)} where
   -- one more frame
@@ -49,8 +49,7 @@ module _ {W : Type 0} (c : W → Option (List ℕ)) where
       let p = k w o (known_frames v.has_ended bytes) bytes (passed_here v w o bytes d.scan) in
       let q = p.passed.taken.files s d.file_writer in (
         record { scan = record { framer = p.passed.framer; drained = p.drained }; file_writer = q.0 },
-        subst (λ (e : Bool). AppendsBetween (c o.inner) (c o'.inner) (so_far s (decided_frames bytes)) (so_far s (known_frames e (bytes ++ piece)))) after
-            (subst (λ (e : Bool). AppendsBetween (c o.inner) (c o'.inner) (so_far s (known_frames e bytes)) (so_far s (known_frames v'.has_ended (bytes ++ piece)))) before q.1),
+        rw (before, after) at q.1,
       )
 
   -- the device failed at it
@@ -59,7 +58,7 @@ module _ {W : Type 0} (c : W → Option (List ℕ)) where
   piece_part {v} {w} {o = o} {o'} grows piece before k s bytes d =
       let p = k w o (known_frames v.has_ended bytes) bytes (passed_here v w o bytes d.scan) in
       let q = breaks_off-before (up_to_whole (p.broken.part s d.file_writer)) (so_far-front grows s p.reached (known_frames v.has_ended (bytes ++ piece)) p.known) in
-      subst (λ (e : Bool). AppendsPrefixBetween (c o.inner) (c o'.inner) (so_far s (known_frames e bytes)) (so_far s (known_frames e (bytes ++ piece)))) before q
+      rw before at q
 
   -- the device after a piece, of which all known frames were passed on
   pub piece_fine : {v v' : FramerValue} {w w' : FileWriter} {o o' : Device W} (piece : List ℕ) → Passes (Files c) v w o v' w' o' piece → HasDrainedSome v

@@ -1,6 +1,8 @@
 -- A message and a frame that are processed whole.
 use Rattle.obs_epoch.specs.GathererHistory.{closed_list_at, whole_list}
+use Rattle.obs_epoch.specs.inner.Calls.{EndsPendingEpoch}
 use Rattle.obs_epoch.specs.Laws.{AllClosed, NoneReturned}
+use Rattle.rtcm_convert.specs.inner.Steps.{BreaksInFrame, BreaksInMessage, BreaksInNext, BreaksInRest, IsFinalKind, IsKindOf, IsKindOfNext, IsTakenAgain, TakesFrame, TakesMessage, TakesNext, WritesFirst}
 use Rattle.obs_epoch.specs.GathererHistory.{capped_counts}
 use Rattle.obs_epoch.specs.Thinning.{counts_left_out}
 use Rattle.rtcm_convert.specs.Filed.{interval_in}
@@ -9,15 +11,11 @@ use Rattle.rtcm_convert.proofs.PartLemmas.{goes_on-refl, goes_on-trans, breaks_o
 use Rattle.rtcm_convert.proofs.TextLemmas.{count, last, text-closed}
 use Rattle.rtcm_convert.proofs.ExactLemmas.{few_more, message_few, refused_few}
 use Rattle.rtcm_convert.proofs.StepLemmas.{Wrote, wrote_all, part_of}
-use Rattle.rtcm_convert.proofs.Names.{◌≡◌, ℕ, List, [], ◌∷◌, ◌++◌, true, false, refl, sym, ap, subst, ◌∙◌, Option, Some, None, Result, Ok, Err, IfOk, OnOk, append-nil, arith, common_steps, filter_map-append, AppendsPrefix, Framed, Message, MsgFault, MsmSet, message_with, IsMessage, Kind, Closed, GatherSetup, Heard, heard_by, is_close_first, kind_of, GathererValue, HasGatheredEpochs, IsAwaited, closed_by, closed_in, plan_in, closed_epochs, all_epochs, known_epochs, SetupValue, text_with, so_far, file, messages_of, outcome, outcomes, outcomes_after, capped_tally, tallies_added, tally_of, tally_of_one, IsFew, AreFew, AppendsBetween, AppendsPrefixBetween, added, HasFiledEpochs, Settled, HasFiledFrames, EndsFile, Report, FileWriter}
+use Rattle.rtcm_convert.proofs.Names.{◌≡◌, ℕ, List, [], ◌∷◌, ◌++◌, true, false, refl, sym, ap, subst, ◌∙◌, Option, Some, None, Result, Ok, Err, IfOk, OnOk, append-nil, arith, common_steps, filter_map-append, AppendsPrefix, Framed, Message, MsgFault, MsmSet, message_with, IsMessage, Kind, Closed, Heard, heard_by, kind_of, GathererValue, HasGatheredEpochs, closed_by, closed_in, plan_in, closed_epochs, all_epochs, known_epochs, SetupValue, text_with, so_far, messages_of, outcome, outcomes, outcomes_after, capped_tally, tallies_added, tally_of, tally_of_one, IsFew, AreFew, AppendsBetween, AppendsPrefixBetween, added, HasFiledEpochs, Settled, HasFiledFrames, EndsFile, Report, FileWriter}
 
 -- the epochs written after these, and their text
 abbrev pub Written : FileWriter → SetupValue → List Heard → Option Heard → Option (List ℕ) → Option (List ℕ) → List Closed → Type 0
 Written w s ms again a b es = (all : List Closed) × HasFiledEpochs w s ms all again × AppendsBetween a b (text_with s es) (text_with s all)
-
-abbrev pub IsPart : FileWriter → Message → Option (List ℕ) → Option (List ℕ) → Type 0
-IsPart v m a b = (s : SetupValue) (ms : List Heard) (es : List Closed) (again : Option Heard) → IsAwaited again (heard_by s.gatherer m) → HasFiledEpochs v s ms es again
-    → AppendsPrefixBetween a b (text_with s es) (text_with s (closed_epochs s.gatherer (ms ++ heard_by s.gatherer m ∷ [])))
 
 abbrev pub Goes : Option (List ℕ) → Option (List ℕ) → SetupValue → List Heard → List Heard → Type 0
 Goes a b s ms ns = AppendsBetween a b (text_with s (closed_epochs s.gatherer ms)) (text_with s (closed_epochs s.gatherer ns))
@@ -35,12 +33,13 @@ settle_again going first p =
     let q = settle first.0 going p in
     (q.0, goes_on-trans first.2 q.1)
 
-pub part_alone : {v : FileWriter} {a b : Option (List ℕ)} (m : Message) → IsPart v m a b → (s : SetupValue) (ms : List Heard) → Settled v s ms → Breaks a b s ms (ms ++ heard_by s.gatherer m ∷ [])
+pub part_alone : {v : FileWriter} {a b : Option (List ℕ)} (m : Message) → BreaksInMessage v m a b → BreaksInNext v m a b
 part_alone m p s ms x = p s ms (closed_epochs s.gatherer ms) None tt x
 
-pub part_again : {w : FileWriter} {a b c : Option (List ℕ)} {s : SetupValue} {ms : List Heard} (m : Message)
-    → Written w s ms (Some (heard_by s.gatherer m)) a b (closed_epochs s.gatherer ms) → IsPart w m b c → Breaks a c s ms (ms ++ heard_by s.gatherer m ∷ [])
-part_again {s = s} {ms} m first p = breaks_off-after first.2 (p s ms first.0 (Some (heard_by s.gatherer m)) refl first.1)
+pub part_again : {v w : FileWriter} {a b c : Option (List ℕ)} (m : Message) → WritesFirst v w m a b → BreaksInMessage w m b c → BreaksInNext v m a c
+part_again m first p s ms x =
+    let one = first s ms (closed_epochs s.gatherer ms) x in
+    breaks_off-after one.2 (p s ms one.0 (Some (heard_by s.gatherer m)) refl one.1)
 
 -- what is read of a frame with the file writer's set is read with that of the settings
 in_set : {v : FileWriter} {s : SetupValue} {fs : List Framed} {r : Result Message MsgFault} → HasFiledFrames v s fs → (f : Framed) → message_with v.set f.message ≡ r → message_with s.set f.message ≡ r
@@ -74,12 +73,9 @@ outcome_ok s fs f m k e is = rw e (ap Some is)
 outcome_err : (s : SetupValue) (fs : List Framed) (f : Framed) (d : MsgFault) → message_with s.set f.message ≡ Err d → None ≡ outcome s fs f
 outcome_err s fs f d e = rw e refl
 
-pub files_more : {v w x : FileWriter} {s : SetupValue} {fs : List Framed} (f : Framed) {m : Message} {k : Kind} {a b : Option (List ℕ)} → message_with v.set f.message ≡ Ok m → IsMessage m
-    → ((s : SetupValue) (ms : List Heard) → Settled v s ms → Settled w s (ms ++ heard_by s.gatherer m ∷ []) × Goes a b s ms (ms ++ heard_by s.gatherer m ∷ []))
-    → ((s : SetupValue) (ms : List Heard) → Settled v s ms → k ≡ kind_of s.gatherer ms (heard_by s.gatherer m))
-    → w.tally ≡ v.tally → x ≡ record w { tally = tallies_added w.tally (tally_of_one (Some k)) }
-    → HasFiledFrames v s fs → HasFiledFrames x s (fs ++ f ∷ []) × AppendsBetween a b (so_far s fs) (so_far s (fs ++ f ∷ []))
-files_more {w} {s} {fs} f {m} {k} {a} {b} read valid t kind same now y =
+pub files_more : {v w x : FileWriter} (f : Framed) {m : Message} {k : Kind} {a b : Option (List ℕ)} → message_with v.set f.message ≡ Ok m → IsMessage m → TakesNext v w m a b → IsKindOfNext v m k
+    → w.tally ≡ v.tally → x ≡ record w { tally = tallies_added w.tally (tally_of_one (Some k)) } → TakesFrame v x f a b
+files_more {w = w} f {m} {k} {a} {b} read valid t kind same now s fs y =
     let e = in_set y f read in
     let p = t s (messages_of s fs) y.settled in
     let ms = sym (messages_more s fs f m e) in
@@ -92,9 +88,8 @@ files_more {w} {s} {fs} f {m} {k} {a} {b} read valid t kind same now y =
       subst (λ (ns : List Heard). Goes a b s (messages_of s fs) ns) ms p.1,
     )
 
-pub files_same : {v x : FileWriter} {s : SetupValue} {fs : List Framed} (f : Framed) {d : MsgFault} {a : Option (List ℕ)} → message_with v.set f.message ≡ Err d → x ≡ record v { tally = tallies_added v.tally (tally_of_one None) }
-    → HasFiledFrames v s fs → HasFiledFrames x s (fs ++ f ∷ []) × AppendsBetween a a (so_far s fs) (so_far s (fs ++ f ∷ []))
-files_same {v} {s} {fs} f {d} {a} read now y =
+pub files_same : {v x : FileWriter} (f : Framed) {d : MsgFault} {a : Option (List ℕ)} → message_with v.set f.message ≡ Err d → x ≡ record v { tally = tallies_added v.tally (tally_of_one None) } → TakesFrame v x f a a
+files_same {v} f {d} {a} read now s fs y =
     let e = in_set y f read in
     let ms = sym (messages_same s fs f d e) in
     let z : Settled v s (messages_of s (fs ++ f ∷ [])) = subst (λ (ms : List Heard). Settled v s ms) ms y.settled in (
@@ -106,20 +101,16 @@ files_same {v} {s} {fs} f {d} {a} read now y =
       subst (λ (ns : List Heard). Goes a a s (messages_of s fs) ns) ms (goes_on-refl a _),
     )
 
-pub files_part : {v : FileWriter} (f : Framed) {m : Message} {a b : Option (List ℕ)} → message_with v.set f.message ≡ Ok m
-    → ((s : SetupValue) (ms : List Heard) → Settled v s ms → Breaks a b s ms (ms ++ heard_by s.gatherer m ∷ []))
-    → (s : SetupValue) (fs : List Framed) → HasFiledFrames v s fs → AppendsPrefixBetween a b (so_far s fs) (so_far s (fs ++ f ∷ []))
+pub files_part : {v : FileWriter} (f : Framed) {m : Message} {a b : Option (List ℕ)} → message_with v.set f.message ≡ Ok m → BreaksInNext v m a b → BreaksInFrame v f a b
 files_part f {m} {a} {b} read t s fs x =
     subst (λ (ns : List Heard). Breaks a b s (messages_of s fs) ns) (sym (messages_more s fs f m (in_set x f read))) (t s (messages_of s fs) x.settled)
 
 -- the rest of the file
-pub file_whole : AllClosed → NoneReturned → (v w : FileWriter) (g : GathererValue) (a b : Option (List ℕ)) → Wrote v w g a b → g.has_ended ≡ true
-    → ((s : GatherSetup) (ms : List Heard) (es : List Closed) → HasGatheredEpochs v.gatherer s ms es None → HasGatheredEpochs g s ms (es ++ closed_by (closed_in g) g.values) None)
-    → EndsFile v w a b
-file_whole all_closed none v w g a b o over t s fs x =
+pub file_whole : AllClosed → NoneReturned → (v w : FileWriter) (g : GathererValue) (a b : Option (List ℕ)) → Wrote v w g a b → v.gatherer.has_ended ≡ false → g.has_ended ≡ true → EndsPendingEpoch v.gatherer g → EndsFile v w a b
+file_whole all_closed none v w g a b o going over t s fs x =
     let ms = messages_of s fs in
     let es = closed_epochs s.gatherer ms in
-    let now = t s.gatherer ms es x.settled.gatherer in
+    let now = t s.gatherer ms es x.settled.gatherer going in
     let p = wrote_all o x.settled now in
     let e : p.0 ≡ all_epochs s.gatherer ms = p.1.gatherer.epochs refl ∙ ap (λ (h : GathererValue). known_epochs h.has_ended s.gatherer ms) o.gatherer ∙ ap (λ h. known_epochs h s.gatherer ms) over in (
       subst (λ (all : List Closed). AppendsBetween a b (so_far s fs) (text_with s all)) e p.2,
@@ -133,33 +124,25 @@ file_whole all_closed none v w g a b o over t s fs x =
       },
     )
 
-pub file_part : {v : FileWriter} {g : GathererValue} {a b : Option (List ℕ)} → AppendsPrefix a b (added v.texts (interval_in g) (plan_in g) v.values (closed_in g) g.values) → g.has_ended ≡ true
-    → ((s : GatherSetup) (ms : List Heard) (es : List Closed) → HasGatheredEpochs v.gatherer s ms es None → HasGatheredEpochs g s ms (es ++ closed_by (closed_in g) g.values) None)
-    → (s : SetupValue) (fs : List Framed) → HasFiledFrames v s fs → AppendsPrefixBetween a b (so_far s fs) (file s fs)
-file_part {g} {a} {b} p over t s fs x =
+pub file_part : {v : FileWriter} {g : GathererValue} {a b : Option (List ℕ)} → AppendsPrefix a b (added v.texts (interval_in g) (plan_in g) v.values (closed_in g) g.values) → v.gatherer.has_ended ≡ false → g.has_ended ≡ true → EndsPendingEpoch v.gatherer g → BreaksInRest v a b
+file_part {g = g} {a} {b} p going over t s fs x =
     let ms = messages_of s fs in
     let es = closed_epochs s.gatherer ms in
-    let now = t s.gatherer ms es x.settled.gatherer in
+    let now = t s.gatherer ms es x.settled.gatherer going in
     let e : es ++ closed_by (closed_in g) g.values ≡ all_epochs s.gatherer ms = now.epochs refl ∙ ap (λ h. known_epochs h s.gatherer ms) over in
     let out : AppendsPrefix a b (added s.texts s.gatherer.choice.interval s.gatherer.plan (last es) (closed_in g) g.values) = part_of g a b x.settled now.standing.clock.setup p in
     subst (λ (all : List Closed). AppendsPrefixBetween a b (so_far s fs) (text_with s all)) e (breaks_off-by a b _ _ _ (text-closed s es (closed_in g) g.values) out)
 
 -- a message that is passed twice
 pub taken_again : {E : Type 0} {v w : FileWriter} (x : FileWriter) (m : Message) {a b : Option (List ℕ)} (c : Option (List ℕ)) (r : Result Kind E) → x.gatherer.has_ended ≡ false
-    → ((s : SetupValue) (ms : List Heard) (es : List Closed) → HasFiledEpochs v s ms es None → Written w s ms (Some (heard_by s.gatherer m)) a b es)
-    → IfOk r (λ k. is_close_first k ≡ false → (s : SetupValue) (ms : List Heard) (es : List Closed) (again : Option Heard) → IsAwaited again (heard_by s.gatherer m) → HasFiledEpochs w s ms es again → Written x s (ms ++ heard_by s.gatherer m ∷ []) None b c es)
-    → IfOk r (λ k. (s : SetupValue) (ms : List Heard) (es : List Closed) → HasFiledEpochs w s ms es (Some (heard_by s.gatherer m)) → is_close_first k ≡ false)
-    → OnOk r ((s : SetupValue) (ms : List Heard) → Settled v s ms → Settled x s (ms ++ heard_by s.gatherer m ∷ []) × Goes a c s ms (ms ++ heard_by s.gatherer m ∷ []))
+    → WritesFirst v w m a b → IfOk r (λ k. IsFinalKind k → TakesMessage w x m b c) → IfOk r (IsTakenAgain w m) → OnOk r (TakesNext v x m a c)
 taken_again {v} {w} x m {a} {b} c (Ok k) going first taken again = λ s ms y.
     let one : Written w s ms (Some (heard_by s.gatherer m)) a b (closed_epochs s.gatherer ms) = first s ms (closed_epochs s.gatherer ms) y in
     settle_again going one (taken (again s ms one.0 one.1) s ms one.0 (Some (heard_by s.gatherer m)) refl one.1)
 taken_again x m c (Err e) going first taken again = tt
 
-pub kind_again : {E : Type 0} {v w : FileWriter} {a b : Option (List ℕ)} (m : Message) (r : Result Kind E)
-    → ((s : SetupValue) (ms : List Heard) (es : List Closed) → HasFiledEpochs v s ms es None → Written w s ms (Some (heard_by s.gatherer m)) a b es)
-    → IfOk r (λ k. is_close_first k ≡ false → (s : SetupValue) (ms : List Heard) (es : List Closed) (again : Option Heard) → IsAwaited again (heard_by s.gatherer m) → HasFiledEpochs w s ms es again → k ≡ kind_of s.gatherer ms (heard_by s.gatherer m))
-    → IfOk r (λ k. (s : SetupValue) (ms : List Heard) (es : List Closed) → HasFiledEpochs w s ms es (Some (heard_by s.gatherer m)) → is_close_first k ≡ false)
-    → IfOk r (λ k. (s : SetupValue) (ms : List Heard) → Settled v s ms → k ≡ kind_of s.gatherer ms (heard_by s.gatherer m))
+pub kind_again : {E : Type 0} {v w : FileWriter} {a b : Option (List ℕ)} (m : Message) (r : Result Kind E) → WritesFirst v w m a b → IfOk r (λ k. IsFinalKind k → IsKindOf w m k) → IfOk r (IsTakenAgain w m)
+    → IfOk r (IsKindOfNext v m)
 kind_again {w = w} {a} {b} m (Ok k) first kind again = λ s ms y.
     let one : Written w s ms (Some (heard_by s.gatherer m)) a b (closed_epochs s.gatherer ms) = first s ms (closed_epochs s.gatherer ms) y in
     kind (again s ms one.0 one.1) s ms one.0 (Some (heard_by s.gatherer m)) refl one.1

@@ -1,5 +1,5 @@
 -- The text of a file, epoch by epoch.
-use Rattle.rtcm_convert.proofs.Names.{Decides-int_eq, ◌≡◌, ℕ, List, [], ◌∷◌, ◌++◌, Bool, true, false, refl, sym, ap, ◌∙◌, arith, Option, Some, None, append_assoc, append-nil, nat_lt, length, length-append, ◌+◌, if◌then◌else◌, filter-append, filter_map-append, Framed, IsPrefix, PlanValue, EpochValue, Closed, same_values, satellites_written, StationValues, GatherSetup, Heard, closed_epochs, all_epochs, closed_by, HeaderLists, header_text, epoch_text, event_text, change_text, closed_text, file_text, gathered, SetupValue, messages_of, written_epochs, text_of_epochs, text_with, so_far, file, capped, opening, added, epochs_after, values_after, values_following_closed, last_values}
+use Rattle.rtcm_convert.proofs.Names.{Decides-int_eq, ◌≡◌, ℕ, List, [], ◌∷◌, ◌++◌, Bool, true, refl, sym, ap, ◌∙◌, arith, Option, Some, append_assoc, append-nil, nat_lt, length, length-append, ◌+◌, if◌then◌else◌, filter-append, filter_map-append, Framed, IsPrefix, PlanValue, EpochValue, Closed, same_values, satellites_written, StationValues, GatherSetup, Heard, closed_epochs, all_epochs, closed_by, HeaderLists, header_text, epoch_text, event_text, change_text, closed_text, file_text, gathered, SetupValue, messages_of, written_epochs, text_of_epochs, text_with, so_far, file, capped, opening, added, epochs_after, values_after, values_following_closed, last_values}
 use Rattle.std.proofs.lemmas.Grind.{common_steps}
 
 -- a capped count that is increased
@@ -35,14 +35,12 @@ text_of-append t i p (e ∷ es) fs = (
 text_of-one : (t : HeaderLists) (i : Option ℕ) (p : PlanValue) (es : List Closed) (c : Closed)
     → text_of_epochs t i p (es ++ c ∷ []) ≡ text_of_epochs t i p es ++ (opening t i p (last_values es) c.epoch c.values ++ epoch_text p c.epoch)
 unfolding text_of_epochs
-text_of-one t i p [] c = grind (arith, common_steps, no_change, append-nil)
-text_of-one t i p (e ∷ es) c = grind (arith, common_steps, closed_text-append, append-nil)
+text_of-one t i p es c = grind (arith, common_steps, no_change, append-nil, closed_text-append)
 
 -- one more epoch, if it is written
 text_of-maybe : (t : HeaderLists) (i : Option ℕ) (p : PlanValue) (es : List Closed) (c : Closed) (b : Bool)
     → text_of_epochs t i p (es ++ (if b then c ∷ [] else [])) ≡ text_of_epochs t i p es ++ (if b then opening t i p (last_values es) c.epoch c.values ++ epoch_text p c.epoch else [])
-text_of-maybe t i p es c true = text_of-one t i p es c
-text_of-maybe t i p es c false = ap (text_of_epochs t i p) (append-nil es) ∙ sym (append-nil (text_of_epochs t i p es))
+text_of-maybe t i p es c b = grind (arith, common_steps, text_of-one, append-nil)
 
 values_following-one : (v : StationValues) (es : List Closed) (c : Closed) → values_following_closed v (es ++ c ∷ []) ≡ c.values
 values_following-one v [] c = refl
@@ -53,12 +51,10 @@ last_values-one [] c = refl
 last_values-one (e ∷ es) c = ap Some (values_following-one e.values es c)
 
 last_values-maybe : (es : List Closed) (c : Closed) (b : Bool) → last_values (es ++ (if b then c ∷ [] else [])) ≡ (if b then Some c.values else last_values es)
-last_values-maybe es c true = last_values-one es c
-last_values-maybe es c false = ap last_values (append-nil es)
+last_values-maybe es c b = grind (arith, common_steps, last_values-one, append-nil)
 
 count-maybe : (es : List Closed) (c : Closed) (b : Bool) → capped (length (es ++ (if b then c ∷ [] else []))) ≡ (if b then capped (capped (length es) + 1) else capped (length es))
-count-maybe es c true = ap capped (length-append es (c ∷ [])) ∙ sym (cap_more (length es) 1)
-count-maybe es c false = ap (λ l. capped (length l)) (append-nil es)
+count-maybe es c b = grind (arith, common_steps, length-append, cap_more, append-nil)
 
 -- the number of epochs in the text, capped
 abbrev pub count : List Closed → ℕ
@@ -69,18 +65,15 @@ abbrev pub last : List Closed → Option StationValues
 last es = last_values (written_epochs es)
 
 pub last-closed : (es : List Closed) (o : Option EpochValue) (v : StationValues) → last (es ++ closed_by o v) ≡ values_after (last es) o v
-last-closed es None v = ap last (append-nil es)
-last-closed es (Some e) v = rw filter-append (last_values-maybe (written_epochs es) (record { epoch = e; values = v }) (nat_lt 0 (satellites_written e)))
+last-closed es o v = grind (arith, common_steps, append-nil, filter-append, last_values-maybe)
 
 -- what the epoch that was closed last adds
 pub text-closed : (s : SetupValue) (es : List Closed) (o : Option EpochValue) (v : StationValues)
     → text_with s (es ++ closed_by o v) ≡ text_with s es ++ added s.texts s.gatherer.choice.interval s.gatherer.plan (last es) o v
-text-closed s es None v = ap (text_with s) (append-nil es) ∙ sym (append-nil (text_with s es))
-text-closed s es (Some e) v = rw filter-append (text_of-maybe s.texts s.gatherer.choice.interval s.gatherer.plan (written_epochs es) (record { epoch = e; values = v }) (nat_lt 0 (satellites_written e)))
+text-closed s es o v = grind (arith, common_steps, append-nil, filter-append, text_of-maybe)
 
 pub count-closed : (es : List Closed) (o : Option EpochValue) (v : StationValues) → count (es ++ closed_by o v) ≡ epochs_after (count es) o
-count-closed es None v = ap count (append-nil es)
-count-closed es (Some e) v = rw filter-append (count-maybe (written_epochs es) (record { epoch = e; values = v }) (nat_lt 0 (satellites_written e)))
+count-closed es o v = grind (arith, common_steps, append-nil, filter-append, count-maybe)
 
 -- more epochs leave the text as a prefix
 pub text-more : (s : SetupValue) (es fs : List Closed) → IsPrefix es fs → IsPrefix (text_with s es) (text_with s fs)

@@ -1,6 +1,6 @@
 -- Whole streams.
 use Rattle.rtcm_convert.specs.declared.fault.Fault.{Fault}
-use Rattle.rtcm_convert.proofs.Names.{◌≡◌, ℕ, ◌+◌, ◌<◌, ◌≤◌, ◌⊎◌, inl, inr, List, [], subst, ◌∙◌, arith, Option, Result, Ok, Err, IfOk, length, take, IfSome, IfSome_then, Vec, Appends, Consumes, frames_of, decided_frames, SetupValue, so_far, file, epochs_in, AppendsBetween, AppendsPrefixBetween, NothingYet, AppendsDecided, Setup, setup_value, HasValue, IsMade, IsMadeEmpty, IsMadeWith, IsMadeToLimit, AreMadeToLimit, StopsInPieces, IsBetween, IsBroken, FailedWriting, FailedWritingAtEnd, BrokeInPieces, joined_pieces, Conversion, HasConverted, WritesAdded, CutsAtLimit, Completed, CompletedEmpty, CompletesFile, CompletesEmptyFile, FailsAtPiece, RanToLimit, FailsFeeding, FailsFinishing, Report}
+use Rattle.rtcm_convert.proofs.Names.{◌≡◌, ℕ, ◌+◌, ◌<◌, ◌≤◌, ◌⊎◌, inl, inr, List, [], subst, ◌∙◌, arith, Option, Result, IfOk, length, take, IfSome, IfSome_then, Vec, Appends, Consumes, frames_of, decided_frames, SetupValue, so_far, file, epochs_in, AppendsBetween, AppendsPrefixBetween, NothingYet, AppendsDecided, Setup, setup_value, HasValue, IsMade, IsMadeEmpty, IsMadeWith, IsMadeToLimit, AreMadeToLimit, StopsInPieces, IsBetween, IsBroken, FailedWriting, FailedWritingAtEnd, BrokeInPieces, joined_pieces, Conversion, HasConverted, WritesAdded, CutsAtLimit, Completed, CompletedEmpty, CompletesFile, CompletesEmptyFile, FailsAtPiece, RanToLimit, FailsFeeding, FailsFinishing, Report}
 use Rattle.std.proofs.lemmas.Grind.{common_steps}
 
 pub from_nothing : {a b : Option (List ℕ)} {y : List ℕ} → NothingYet → (s : SetupValue) → AppendsBetween a b (so_far s (decided_frames [])) y → Appends a b y
@@ -39,8 +39,7 @@ made_empty {x = x} new p = record {
 
 pub run_made : {E : Type 0} {v w : Conversion} {x : Setup} (n : List ℕ) (r a b : Option (List ℕ)) (result : Result Report E) → BeganNew v w x → IsValued x
     → IfOk result (λ report. IfSome r (CompletesFile v w n a b report)) → IfOk result (λ report. IfSome r (IsMadeWith x report a b))
-run_made {x = x} n r a b (Ok report) new valued h = IfSome_then r h (λ l f. let p = f (setup_value x) [] new.history in (made new valued p, p.report_is))
-run_made n r a b (Err d) new valued h = tt
+run_made {x = x} n r a b result h' h'' h = grind (arith, common_steps, made)
 
 pub run_empty : {v w : Conversion} {x : Setup} (fault : Fault) (n : List ℕ) (r a b : Option (List ℕ)) → BeganNew v w x → IfSome r (CompletesEmptyFile v w n a b fault) → IfSome r (IsMadeEmpty x fault a b)
 run_empty {x = x} fault n r a b new h = IfSome_then r h (λ l f. made_empty new (f (setup_value x) [] new.history))

@@ -11,8 +11,7 @@ heard_so v new m taken t x = subst (λ (g : GatherSetup). TakesMessage v.gathere
 
 pub returns-in-Err-clause-part : goal.returns-in-Err-clause-part
 returns-in-Err-clause-part g c = λ s ms es again f x.
-    let t = heard_so c.args.self.now c.take_view-taken.new.self (viewed_message c.args.message.now) c.take_view-taken.result c.take_view-taken.ensures x in
-    wrote_part (record { first = t.first; taken = t.taken; again = t.again; ended = t.going }) c.in-Err.ensures.part s ms es again f x
+    wrote_part (heard_so c.args.self.now c.take_view-taken.new.self (viewed_message c.args.message.now) c.take_view-taken.result c.take_view-taken.ensures x) c.in-Err.ensures.part s ms es again f x
 
 pub returns-in-Ok : goal.returns-in-Ok
 returns-in-Ok g c =

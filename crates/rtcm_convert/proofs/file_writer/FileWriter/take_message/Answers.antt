@@ -26,7 +26,7 @@ returns g c =
       whole = taken_again c.step-2.new.self m _ c.step-2.result n.ended first n.taken n.again;
       kind = kind_again m c.step-2.result first n.kind n.again;
       same = n.same ∙ c.step.ensures.same;
-      part = on_err_weaker c.step-2.result (λ p s ms x. part_again m (first s ms (closed_epochs s.gatherer ms) x) p) n.part;
+      part = on_err_weaker c.step-2.result (part_again m first) n.part;
       device = fails_after c.step-2.result c.args.writer.now c.step.new.writer c.step-2.new.writer c.in_ok-kind.ensures.device n.device;
       ended = n.ended;
     }

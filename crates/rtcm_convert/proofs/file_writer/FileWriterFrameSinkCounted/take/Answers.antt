@@ -6,15 +6,15 @@ use Rattle.rtcm_convert.proofs.file_writer.FileWriterFrameSinkCounted.take.Goals
 pub returns-in-Err-clause-whole : goal.returns-in-Err-clause-whole
 returns-in-Err-clause-whole g c =
     sink.files_more (framed c.args.frame.now)
-    (λ s fs x. writer.files_same (framed c.args.frame.now) (ap (message_with c.args.self.now.set) (sym c.deref.ensures.0) ∙ c.in-Err.ensures.exact)
-    (ap (λ r. record c.args.self.now { tally = r }) c.count.ensures) x) (refl, refl)
+    (writer.files_same (framed c.args.frame.now) (ap (message_with c.args.self.now.set) (sym c.deref.ensures.0) ∙ c.in-Err.ensures.exact)
+    (ap (λ r. record c.args.self.now { tally = r }) c.count.ensures)) (refl, refl)
 
 pub returns-in-Ok-take_message-clause-whole : goal.returns-in-Ok-take_message-clause-whole
 returns-in-Ok-take_message-clause-whole g c =
     let e = c.in-Ok-take_message.ensures in
     sink.files_more (framed c.args.frame.now)
-    (λ s fs x. writer.files_more (framed c.args.frame.now)
-    (ap (message_with c.args.self.now.set) (sym c.deref.ensures.0) ∙ c.in-Ok.ensures.exact) c.in-Ok.ensures.message e.whole e.kind e.same (ap (λ r. record c.take_message.new.self { tally = r }) c.count-in-Ok-take_message.ensures) x)
+    (writer.files_more (framed c.args.frame.now)
+    (ap (message_with c.args.self.now.set) (sym c.deref.ensures.0) ∙ c.in-Ok.ensures.exact) c.in-Ok.ensures.message e.whole e.kind e.same (ap (λ r. record c.take_message.new.self { tally = r }) c.count-in-Ok-take_message.ensures))
     (e.device.1, e.device.2)
 
 pub returns-in-Err-take_message-clause-part : goal.returns-in-Err-take_message-clause-part
