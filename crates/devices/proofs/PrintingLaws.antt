@@ -1,29 +1,21 @@
 -- Texts written in one call, and failed calls.
-use Rattle.devices.proofs.Names.{◌≡◌, ◌∙◌, ◌++◌, ap, sym, append_assoc, List, Option, [], Appends, Keeps}
-use Rattle.devices.specs.Device.{AppendsPrefix, HasFailed}
+use Rattle.devices.proofs.Names.{◌≡◌, ◌∙◌, ◌++◌, ap, sym, append_assoc, List, Option, Appends, Keeps}
+use Rattle.devices.specs.Device.{AppendsPrefix}
 use Rattle.devices.specs.Devices.{Writer}
-use Rattle.devices.specs.Printing.{EndsDelivery, EndsPrinting, IsDelivered, PrintsLine, PrintsText}
+use Rattle.devices.specs.Printing.{EndsDelivery, EndsPrinting, IsDelivered, PrintsText}
 use Rattle.rtcm_bits.specs.Prefix.{IsPrefix}
-use Rattle.std.proofs.KnownBytes.{Appends-kept, Appends-nil, Appends-trans}
-use Rattle.std.proofs.Common.{MatchResult, Err, Ok, Result, ℕ, append-nil, inl, inr, subst}
+use Rattle.std.proofs.KnownBytes.{Appends-kept, Appends-trans}
+use Rattle.std.proofs.lemmas.Grind.{common_steps}
+use Rattle.std.proofs.Common.{arith, MatchResult, Err, Ok, Result, ℕ, append-nil}
 use Rattle.std.specs.Result.{IsErrAnd}
 
 -- a text that was written, and then delivered or not
 pub then_delivered : {A F W : Type 0} (failed : F) (r : Result A F) (w w1 w2 : Writer W) (text : List ℕ) → w1.device.failures ≡ w.device.failures
     → Appends w.written w1.written text → EndsDelivery failed r w1 w2 → EndsPrinting failed r text w w2
-then_delivered failed (Ok u) w w1 w2 text fine went h = (h.0 ∙ fine, h.1.1, Appends-kept _ _ _ text went h.1.0)
-then_delivered failed (Err fault) w w1 w2 text fine went h = (
-  h.0,
-  (subst (λ (n : ℕ). HasFailed n w2.device.failures) fine h.1, ([], (text, sym (append-nil text), Appends-kept _ _ _ text went h.2))),
-)
-
--- a line that was written, in whole or in part
-pub line_printed : {A F E : Type 0} (failed : F) (r : Result A F) (e e2 : Writer E) (text : List ℕ) → EndsPrinting failed r text e e2 → PrintsLine text e e2
-line_printed failed (Ok u) e e2 text h = inl h
-line_printed failed (Err fault) e e2 text h = inr h.1
+then_delivered failed r w w1 w2 text fine went h = grind (arith, common_steps, append-nil, Appends-kept)
 
 pub kept_appends : (a b c : Option (List ℕ)) (text : List ℕ) → Keeps a b → Appends b c text → Appends a c text
-kept_appends a b c text k h = Appends-trans a b c [] text (Appends-kept a a b [] (Appends-nil a) k) h
+kept_appends a b c text k h = grind (arith, common_steps)
 
 -- how the printing of a text ended
 pub record Printed {A F W : Type 0} (failed : F) (r : Result A F) (w w2 : Writer W) (text : List ℕ) : Type 0 where
@@ -32,18 +24,11 @@ pub record Printed {A F W : Type 0} (failed : F) (r : Result A F) (w w2 : Writer
 -- a text, given in other terms, that was written after a delivery
 pub printed_later : {A F W : Type 0} {w : Writer W} {x text : List ℕ} (failed : F) (r : Result A F) (w1 w2 : Writer W)
     → (w1.device.failures ≡ w.device.failures) × IsDelivered w w1 → x ≡ text → EndsPrinting failed r x w1 w2 → Printed failed r w w2 text
-printed_later {A} {F} {text = text} failed (Ok u) w1 w2 kept same x =
-    let h : EndsPrinting {A = A} {F = F} failed (Ok u) text w1 w2 = subst (λ (t : List ℕ). EndsPrinting {A = A} {F = F} failed (Ok u) t w1 w2) same x in
-    record { ends = (h.0 ∙ kept.0, h.1, kept_appends _ _ _ text kept.1.0 h.2) }
-printed_later {A} {text = text} failed (Err fault) w1 w2 kept same x =
-    let h : EndsPrinting {A = A} failed (Err fault) text w1 w2 = subst (λ (t : List ℕ). EndsPrinting {A = A} failed (Err fault) t w1 w2) same x in
-    let prefix = h.1.1 in
-    record { ends = (h.0, (subst (λ (n : ℕ). HasFailed n w2.device.failures) kept.0 h.1.0, (prefix.0, (prefix.1.0, prefix.1.1, kept_appends _ _ _ prefix.1.0 kept.1.0 prefix.1.2)))) }
+printed_later {w = w} failed r w1 w2 kept same h = grind (arith, common_steps, kept_appends)
 
 -- a result whose fault was replaced
 pub unmapped : {T D E : Type 0} (Q : D → E → Type 0) (r : Result T D) (s : Result T E) (t : T) → MatchResult r (λ x. s ≡ Ok x) (λ e. IsErrAnd s (Q e)) → s ≡ Ok t → r ≡ Ok t
-unmapped Q (Ok x) s t is ok = cc
-unmapped Q (Err e) s t is ok = absurd (rw ok at is)
+unmapped Q r s t is ok = grind (arith, common_steps)
 
 part_after : (a b c : Option (List ℕ)) (x y : List ℕ) → Appends a b x → AppendsPrefix b c y → AppendsPrefix a c (x ++ y)
 part_after a b c x y first (rest, (sent, split, went)) = (rest, (x ++ sent, ap (λ l. x ++ l) split ∙ sym (append_assoc x sent rest), Appends-trans a b c x sent first went))
@@ -52,9 +37,8 @@ part_after a b c x y first (rest, (sent, split, went)) = (rest, (x ++ sent, ap (
 pub printed_after : {A F W : Type 0} (failed : F) (r : Result A F) (w w1 w2 : Writer W) (x y : List ℕ) → PrintsText x w w1 → EndsPrinting failed r y w1 w2
     → EndsPrinting failed r (x ++ y) w w2
 printed_after failed (Ok u) w w1 w2 x y first next = (next.0 ∙ first.0, next.1, Appends-trans _ _ _ x y first.2 next.2)
-printed_after failed (Err fault) w w1 w2 x y first next =
-    (next.0, (subst (λ (n : ℕ). HasFailed n w2.device.failures) first.0 next.1.0, part_after _ _ _ x y first.2 next.1.1))
+printed_after failed (Err fault) w w1 w2 x y first next = (next.0, (rw (← first.0) next.1.0, part_after _ _ _ x y first.2 next.1.1))
 
 -- a prefix of a text is one of a longer text
 pub longer_part : (a b : Option (List ℕ)) (x y : List ℕ) → AppendsPrefix a b x → IsPrefix x y → AppendsPrefix a b y
-longer_part a b x y (rest, (sent, split, went)) (more, e) = (rest ++ more, (sent, e ∙ ap (λ l. l ++ more) split ∙ append_assoc sent rest more, went))
+longer_part a b x y h p = grind (arith, common_steps)
