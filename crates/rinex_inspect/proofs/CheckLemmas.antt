@@ -1,30 +1,27 @@
 -- The end of a check of a file.
+use Rattle.std.proofs.Common.{arith}
+use Rattle.std.proofs.lemmas.Grind.{common_steps}
 use Rattle.devices.proofs.PrintingLaws.{Printed}
-use Rattle.rinex_inspect.proofs.Names.{◌≡◌, inl, inr, refl, sym, subst, ℕ, List, Option, Some, None, Result, Ok, Err, IfSome, HasFailed, IsNoFault, FileValue, file_text, IsFileValue, ReadFault, Memory, Read, ⊤, IsErrAnd, Keeps, FileFault, IsCheckedOr, passed, Devices, Writer, EndsCheck, ReaderFailures, WriterFailures, CheckOptions, IsOutput, culprit}
+use Rattle.rinex_inspect.proofs.Names.{◌≡◌, inr, sym, subst, ℕ, List, Option, Result, Ok, Err, IfSome, HasFailed, IsNoFault, FileValue, file_text, IsFileValue, ReadFault, Read, ⊤, IsErrAnd, Keeps, FileFault, IsCheckedOr, passed, Devices, Writer, EndsCheck, ReaderFailures, WriterFailures, CheckOptions, IsOutput, culprit}
 use Rattle.rinex_inspect.specs.Gaps.{AreInside}
 use Rattle.rinex_inspect.specs.CheckOutput.{times_in}
 use Rattle.rinex_inspect.specs.declared.fault.FileFault.TheVariants as faults
 
 -- what holds for all bytes holds for known ones
 pub where_known : (Q : List ℕ → Type 0) (r : Option (List ℕ)) → ((input : List ℕ) → Q input) → IfSome r Q
-where_known Q None step = tt
-where_known Q (Some input) step = step input
+where_known Q r step = grind (arith, common_steps)
 
 -- a fault of reading is one of checking
 pub refused : (o : CheckOptions) (v : FileValue) (e : ReadFault) (w w' : Option (List ℕ)) → IsNoFault e → IsCheckedOr o v (Err (faults.File e)) w w'
-refused o v Memory w w' h = tt
-refused o v Read w w' h = tt
-refused o v other w w' h = absurd h
+refused o v e w w' h = grind (arith, common_steps)
 
 -- the reader failed only at `Read`
 pub read_failures : (e : ReadFault) (before after : ℕ) → (e ≡ Read → HasFailed before after) → ((e ≡ Read → ⊥) → after ≡ before) → ReaderFailures (culprit (faults.File e)) before after
-read_failures Read before after failed same = failed refl
-read_failures other before after failed same = same (λ e. cc)
+read_failures e before after failed same = grind (arith, common_steps)
 
 -- the writer didn't fail
 pub none_written : (e : ReadFault) (before after : ℕ) → after ≡ before → WriterFailures (culprit (faults.File e)) before after
-none_written Read before after same = same
-none_written other before after same = same
+none_written e before after same = grind (arith, common_steps)
 
 -- the output of a file was written, or a part of it
 pub checked : {R W : Type 0} {out : List ℕ} (o : CheckOptions) (d d2 : Devices R W) (ended : Result ⊤ FileFault)
@@ -43,5 +40,4 @@ checked_or {out = out} {w} {w2} o (Err fault) v inside of p = subst (λ (f : Fil
 -- the same if the writer failed before anything was read
 pub kept_first : {fault : FileFault} (o : CheckOptions) (w w2 : Option (List ℕ)) (ended : Result ⊤ FileFault) (v : FileValue) → IsErrAnd ended (λ y. y ≡ fault) → fault ≡ faults.Write → Keeps w w2
     → IsCheckedOr o v ended w w2
-kept_first {fault} o w w2 ended v is write kept =
-    passed ended fault (λ (q : Result ⊤ FileFault). IsCheckedOr o v q w w2) is (subst (λ (f : FileFault). IsCheckedOr o v (Err f) w w2) (sym write) (inl kept))
+kept_first {fault} o w w2 ended v is write kept = grind (arith, common_steps, passed)

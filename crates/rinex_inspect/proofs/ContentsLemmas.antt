@@ -1,6 +1,7 @@
 -- The contents of the table of epochs, and equal contents.
-use Rattle.std.proofs.Common.{◌≡◌, ◌∙◌, ◌+◌, ◌*◌, ◌/◌, ◌%◌, ◌^◌, ◌==◌, ◌&&◌, ◌<◌, ◌≤◌, ◌++◌, ◌∷◌, [], ℕ, ℤ, Bool, true, false, zero, suc, List, Option, Some, None, cond, get_or, length, map, refl, ap, ap₂, sym, subst, arith, add-one, append_assoc, append-nil, is_some, pos, codes, decimal}
-use Rattle.std.specs.Prelude.{All, IfSome, filter, flat_map, nat_lt}
+use Rattle.std.proofs.lemmas.Grind.{common_steps}
+use Rattle.std.proofs.Common.{◌≡◌, ◌∙◌, ◌+◌, ◌*◌, ◌/◌, ◌%◌, ◌^◌, ◌<◌, ◌≤◌, ◌++◌, ◌∷◌, [], ℕ, Bool, true, false, zero, suc, List, cond, get_or, length, map, refl, ap, ap₂, sym, subst, arith, add-one, append_assoc, append-nil, is_some, codes, decimal}
+use Rattle.std.specs.Prelude.{All, filter, flat_map, nat_lt}
 use Rattle.std.specs.List.{count_by, sum_by}
 use Rattle.std.proofs.lemmas.Int.{ints}
 use Rattle.std.proofs.lemmas.List.{length-append, length-map}
@@ -16,11 +17,11 @@ use Rattle.gnss_system.specs.declared.system.System.{System}
 use Rattle.gnss_system.specs.Satellites.{Satellite, letter, satellites}
 use Rattle.line_texts.specs.Lines.{line}
 use Rattle.gnss_system.specs.Signals.{most_signals, table}
-use Rattle.gnss_system.specs.Systems.{is_system, systems}
+use Rattle.gnss_system.specs.Systems.{systems}
 use Rattle.rinex_file.proofs.ReadingLaws.{AreFine}
 use Rattle.rinex_file.specs.Counting.{rows_in}
 use Rattle.rinex_file.specs.Exact.{most_lines}
-use Rattle.rinex_file.specs.FileValues.{AreSatelliteRows, AreSignalValues, IsFrom, IsPlan, IsSatelliteRow, planned_in}
+use Rattle.rinex_file.specs.FileValues.{AreSatelliteRows, AreSignalValues, IsPlan, IsSatelliteRow, planned_in}
 use Rattle.rinex_file.specs.Value.{SatelliteRow, SignalValues, Stamped, no_signal_values}
 use Rattle.rinex_inspect.proofs.TallyLemmas.{tally_is}
 use Rattle.rinex_inspect.proofs.QualityTexts.{few_satellites}
@@ -29,7 +30,7 @@ unfoldable use Rattle.rinex_inspect.specs.QualityOutput.{present_line, signal_li
 use Rattle.rinex_inspect.specs.QualityOutput.{Contents, code_at, contents_of, presence_words, satellite_word, tally_words, lost_in, period_line, period_lines, satellite_line, tally_line, texts_below}
 use Rattle.rinex_inspect.specs.Tallies.{all_rows, has_values, is_half, is_lost, is_row_of, satellite_at, strength_of, tally_of, total, values_in}
 use Rattle.rinex_inspect.specs.declared.quality_lines.Lines.{Lines}
-use Rattle.rinex_inspect.specs.declared.quality_lines.Lines.TheVariants.{Period, Satellites, Signals}
+use Rattle.rinex_inspect.specs.declared.quality_lines.Lines.TheVariants.{Period}
 use Rattle.rinex_inspect.specs.declared.table.Table.{Table}
 use Rattle.rinex_inspect.specs.declared.tally.Presence.{Presence}
 use Rattle.rinex_inspect.specs.declared.tally.Tally.{Tally}
@@ -43,10 +44,7 @@ abbrev pub AreRows : PlanValue → List SatelliteRow → Type 0
 AreRows p rows = All (IsSatelliteRow (planned_in p)) rows
 
 strong : (e : SignalValues) → AreSignalValues e → strength_of e.s ≤ 99999
-strong e fits = by e.s fits.s where
-  by : (s : Option ℤ) → IfSome s (IsFrom (pos 1) (pos 99_999)) → strength_of s ≤ 99999
-  by None h = omega arith
-  by (Some z) h = omega (arith, ints, h.0, h.1)
+strong e fits = grind (arith, common_steps, ints)
 
 strong_at : (es : List SignalValues) (k : ℕ) → All AreSignalValues es → strength_of (get_or es k no_signal_values).s ≤ 99999
 strong_at [] k all = omega arith
@@ -79,15 +77,11 @@ pub record AreFew (p : PlanValue) (es : List Stamped) : Type 0 where
 
 few_filter : (q : Stamped → Bool) (es : List Stamped) → rows_in (filter q es) ≤ rows_in es
 few_filter q [] = omega arith
-few_filter q (e ∷ es) = by (few_filter q es) (q e) where
-  by : rows_in (filter q es) ≤ rows_in es → (b : Bool) → rows_in (cond b (e ∷ filter q es) (filter q es)) ≤ rows_in (e ∷ es)
-  by rest true = let a = sum_by-cons (λ (x : Stamped). length x.rows) e (filter q es) in let b = sum_by-cons (λ (x : Stamped). length x.rows) e es in omega (arith, rest, a, b)
-  by rest false = let b = sum_by-cons (λ (x : Stamped). length x.rows) e es in omega (arith, rest, b)
+few_filter q (e ∷ es) = grind (arith, common_steps, sum_by-cons, few_filter q es)
 
 -- each epoch has a line of its own
 fewer : (es : List Stamped) → length es + rows_in es ≤ most_lines → rows_in es < most_lines
-fewer [] few = omega arith
-fewer (e ∷ es) few = omega (arith, few)
+fewer es few = grind (arith, common_steps)
 
 pub few_of : (p : PlanValue) (q : Stamped → Bool) (es : List Stamped) → AreFine p es → AreFew p (filter q es)
 few_of p q es fine = record {
@@ -98,9 +92,7 @@ few_of p q es fine = record {
 -- a line is one of at most one satellite of a system
 one_satellite : (s : System) (r : SatelliteRow) (n : ℕ) → (sum_by (λ i. cond (is_row_of (satellite_at s i) r) 1 0) (below n) ≤ 1) × (n < r.row.satellite → sum_by (λ i. cond (is_row_of (satellite_at s i) r) 1 0) (below n) ≡ 0)
 one_satellite s r zero = (omega arith, λ less. refl)
-one_satellite s r (suc n) = by (is_system s r.system) (r.row.satellite == n + 1) refl (sum_suc (λ (i : ℕ). cond (is_row_of (satellite_at s i) r) 1 0) n) (one_satellite s r n) where
-  by : {m sum : ℕ} (a b : Bool) → (r.row.satellite == n + 1) ≡ b → sum ≡ m + cond (a && b) 1 0 → (m ≤ 1) × (n < r.row.satellite → m ≡ 0) → (sum ≤ 1) × (suc n < r.row.satellite → sum ≡ 0)
-  by a b e sum before = grind (arith, e, sum, before)
+one_satellite s r (suc n) = grind (arith, common_steps, sum_suc, one_satellite s r n)
 
 -- the lines of all satellites of a system
 lines_of : (s : System) (n : ℕ) (rows : List SatelliteRow) → sum_by (λ i. length (filter (is_row_of (satellite_at s i)) rows)) (below n) ≤ length rows
@@ -169,17 +161,11 @@ abbrev satellite_text : System → ℕ → Presence → ℕ → List ℕ
 satellite_text s i p n = cond (nat_lt 0 p.epochs) (line (codes "satellite" ∷ satellite_word s i ∷ (presence_words p ++ codes "lost" ∷ decimal n ∷ []))) []
 
 some_factor : (m n i : ℕ) → i < m * n → 0 < n
-some_factor m zero i less = absurd (let none : m * 0 ≡ 0 = omega arith in omega (arith, less, none))
-some_factor m (suc n) i less = omega arith
+some_factor m n i less = grind (arith, common_steps)
 
 module _ (plan : PlanValue) (a b : Contents) (same : AreSame a b) (few : (s : System) → planned_in plan s ≤ most_signals) where
   total_same : (s : System) (k : ℕ) → k < most_signals → total (λ i. a.tallies s i k) (satellites s) ≡ total (λ i. b.tallies s i k) (satellites s)
-  total_same s k fits =
-      let each : (i : ℕ) → i < satellites s → a.tallies s i k ≡ b.tallies s i k = λ i less. same.tallies s i k less fits in
-      tally_is (sum_same _ _ (satellites s) (λ i less. ap (λ (t : Tally). t.c) (each i less))) (sum_same _ _ (satellites s) (λ i less. ap (λ (t : Tally). t.l) (each i less)))
-      (sum_same _ _ (satellites s) (λ i less. ap (λ (t : Tally). t.d) (each i less))) (sum_same _ _ (satellites s) (λ i less. ap (λ (t : Tally). t.s) (each i less)))
-      (sum_same _ _ (satellites s) (λ i less. ap (λ (t : Tally). t.lost) (each i less))) (sum_same _ _ (satellites s) (λ i less. ap (λ (t : Tally). t.half) (each i less)))
-      (sum_same _ _ (satellites s) (λ i less. ap (λ (t : Tally). t.strength) (each i less)))
+  total_same s k fits = grind (arith, common_steps, tally_is, sum_same)
 
   signal_same : (s : System) (k : ℕ) → k < planned_in plan s → signal_line plan a s k ≡ signal_line plan b s k
   unfolding signal_line
@@ -199,11 +185,7 @@ module _ (plan : PlanValue) (a b : Contents) (same : AreSame a b) (few : (s : Sy
   period_same start s i k less fits = ap (λ (t : Tally). cond (has_values t) (tally_line plan start t s i k) []) (same.tallies s i k less (omega (arith, fits, few s)))
 
   line_same : (lines : Lines) (s : System) (i : ℕ) → i < line_count lines plan s → line_at lines plan a s i ≡ line_at lines plan b s i
-  line_same Signals s i less = signal_same s i less
-  line_same Satellites s i less = satellite_same s i less
-  line_same (Period start) s i less =
-      let some : 0 < planned_in plan s = some_factor (satellites s) (planned_in plan s) i less in
-      period_same start s (i / planned_in plan s) (i % planned_in plan s) ((div-lt_iff_lt-mul {k = planned_in plan s} {x = i} {y = satellites s} some).1 less) (mod-lt i some)
+  line_same lines s i less = grind (arith, common_steps, signal_same, satellite_same, some_factor, period_same, div-lt_iff_lt-mul, mod-lt)
 
   pub lines_same : (lines : Lines) → all_lines lines plan a ≡ all_lines lines plan b
   lines_same lines = ap (λ (f : System → List ℕ). flat_map f systems) (λ i s. texts_same (line_at lines plan a s) (line_at lines plan b s) (line_count lines plan s) (λ k less. line_same lines s k less) i)

@@ -1,11 +1,12 @@
 -- The end of the command `quality`.
+use Rattle.std.proofs.lemmas.Grind.{common_steps}
 use Rattle.std.proofs.Common.{◌≡◌, ◌∙◌, ◌<◌, ◌≤◌, ◌++◌, ◌∷◌, [], ℕ, Bool, true, false, ◌==◌, List, Option, Some, None, Result, Ok, Err, inl, inr, refl, ap, sym, subst, arith, append_assoc, append-nil}
 use Rattle.std.specs.Bool.{⊤}
 use Rattle.std.specs.List.Sorted.{IsStrictlyIncreasing}
 use Rattle.std.proofs.KnownBytes.{Keeps-trans}
 use Rattle.devices.proofs.PrintingLaws.{kept_appends, longer_part}
 use Rattle.devices.specs.Device.{AppendsPrefix}
-use Rattle.devices.specs.Devices.{Devices, Reader, Writer}
+use Rattle.devices.specs.Devices.{Devices, Writer}
 use Rattle.std.proofs.lemmas.Bool.{eqb-false, eqb-true}
 use Rattle.std.proofs.lemmas.List.{map-append}
 use Rattle.devices.specs.Printing.{EndsPrinting, IsDelivered}
@@ -16,7 +17,6 @@ use Rattle.rinex_file.specs.FileValues.{IsFileValue}
 use Rattle.rinex_file.specs.Value.{FileValue, Stamped}
 use Rattle.rinex_file.specs.declared.read.epochs.EpochReader.{EpochReader}
 use Rattle.rinex_file.specs.declared.read.fault.ReadFault.{ReadFault}
-use Rattle.rinex_file.specs.declared.read.fault.ReadFault.TheVariants as reading
 use Rattle.rtcm_bits.specs.Prefix.{IsPrefix}
 use Rattle.rinex_inspect.proofs.Names.{HasFailed, IfSome, IfSome_then, IsErrAnd, Keeps, WriterFailures, culprit, passed, times_in, time_stamped}
 use Rattle.rinex_inspect.proofs.CheckLemmas.{where_known}
@@ -70,22 +70,16 @@ first_lines (Some n) plan es v is file (more, split) same =
 -- the output of a file was written, or a part of it
 pub ended : {R W : Type 0} (every : Option ℕ) (d d2 : Devices R W) (r : Result ⊤ FileFault) (v : FileValue) → IsFileValue v → IfSome d.reader.unread (λ input. input ≡ file_text v) → d2.reader.device.failures ≡ d.reader.device.failures
     → EndsPrinting faults.Write r (quality_output every v) d.writer d2.writer → EndsQuality every r d d2
-ended every d d2 (Ok u) v is text same p = ((same, p.0, p.1), (v, is, text, p.2))
-ended every d d2 (Err fault) v is text same p =
-    subst (λ (f : FileFault). EndsQuality {A = ⊤} every (Err f) d d2) (sym p.0) ((same, p.1.0), inr (inr (v, is, text, p.1.1)))
+ended every d d2 r v is text same p = grind (arith, common_steps)
 
 pub ended_or : {W : Type 0} (every : Option ℕ) (w w2 : Writer W) (r : Result ⊤ FileFault) (v : FileValue) → EndsPrinting faults.Write r (quality_output every v) w w2 → IsRatedOr every v r w.written w2.written
-ended_or every w w2 (Ok u) v p = p.2
-ended_or every w w2 (Err fault) v p = subst (λ (f : FileFault). IsRatedOr every v (Err f) w.written w2.written) (sym p.0) (inr p.1.1)
+ended_or every w w2 r v p = grind (arith, common_steps)
 
 refused : (every : Option ℕ) (v : FileValue) (e : ReadFault) (w w' : Option (List ℕ)) → IsNoFault e → IsRatedOr every v (Err (faults.File e)) w w'
-refused every v reading.Memory w w' h = tt
-refused every v reading.Read w w' h = tt
-refused every v other w w' h = absurd h
+refused every v e w w' h = grind (arith, common_steps)
 
 both : (input : Option (List ℕ)) (P Q : List ℕ → Type 0) {S : Type 0} → (S → IfSome input P) → IfSome input Q → IfSome input (λ x. (S → P x) × Q x)
-both None P Q f h = tt
-both (Some x) P Q f h = (f, h)
+both input P Q f h = grind (arith, common_steps)
 
 pub ended_early_or : {R W : Type 0} (every : Option ℕ) (new : EpochReader) (t : Tables) (d d2 : Devices R W) (fault : FileFault) → IsEvery every → RatesPeriods every new t (Err fault) d d2 → RatesFiles every (Err fault) d d2
 ended_early_or every new t d d2 (faults.File e) is (es, plan, known, why, none, read, printed, failures) = λ v file few. IfSome_then d.reader.unread (none v file few) (λ input h same. refused every v e _ _ (h same))
@@ -113,12 +107,7 @@ module _ {R W : Type 0} (every : Option ℕ) (d d2 : Devices R W) (w1 : Writer W
   delivered (Err faults.Write) (failed, inr (inr (v, is, text, part))) = ((failed.0, subst (λ (n : ℕ). HasFailed n d2.writer.device.failures) first.0 failed.1), inr (inr (v, is, text, kept_part _ _ _ (quality_output every v) first.1.0 part)))
 
   rated_or : (v : FileValue) (r : Result ⊤ FileFault) → IsRatedOr every v r w1.written d2.writer.written → IsRatedOr every v r d.writer.written d2.writer.written
-  rated_or v (Ok u) h = kept_appends _ _ _ (quality_output every v) first.1.0 h
-  rated_or v (Err faults.Write) (inl same) = inl (Keeps-trans _ _ _ first.1.0 same)
-  rated_or v (Err faults.Write) (inr part) = inr (kept_part _ _ _ (quality_output every v) first.1.0 part)
-  rated_or v (Err (faults.File reading.Memory)) h = tt
-  rated_or v (Err (faults.File reading.Read)) h = tt
-  rated_or v (Err other) h = absurd h
+  rated_or v r h = grind (arith, common_steps, kept_appends, kept_part)
 
   pub delivered_or : (r : Result ⊤ FileFault) → RatesFiles every r after d2 → RatesFiles every r d d2
   delivered_or r h = λ v file few. IfSome_then d.reader.unread (h v file few) (λ input known same. rated_or v r (known same))
@@ -126,6 +115,4 @@ module _ {R W : Type 0} (every : Option ℕ) (d d2 : Devices R W) (w1 : Writer W
 -- the writer failed before anything was read
 pub undelivered : {R W : Type 0} {fault : FileFault} (every : Option ℕ) (d d2 : Devices R W) (r : Result ⊤ FileFault) → IsErrAnd r (λ y. y ≡ fault) → fault ≡ faults.Write → d2.reader ≡ d.reader → HasFailed d.writer.device.failures d2.writer.device.failures → Keeps d.writer.written d2.writer.written
     → EndsQuality every r d d2 × RatesFiles every r d d2
-undelivered {fault = fault} every d d2 r is write same failed keeps =
-    let both : EndsQuality {A = ⊤} every (Err faults.Write) d d2 × RatesFiles every (Err faults.Write) d d2 = (((ap (λ (x : Reader _). x.device.failures) same, failed), inl (ap (λ (x : Reader _). x.device) same, keeps)), λ v file few. where_known _ d.reader.unread (λ input text. inl keeps)) in
-    passed r fault (λ (q : Result ⊤ FileFault). EndsQuality every q d d2 × RatesFiles every q d d2) is (subst (λ (f : FileFault). EndsQuality {A = ⊤} every (Err f) d d2 × RatesFiles every (Err f) d d2) (sym write) both)
+undelivered {fault = fault} every d d2 r is write same failed keeps = grind (arith, common_steps, both, where_known, passed)

@@ -1,4 +1,5 @@
 -- The lines of gaps, with one time more.
+use Rattle.std.proofs.lemmas.Grind.{common_steps}
 use Rattle.rinex_file.specs.declared.read.epochs.EpochReader.{EpochReader}
 use Rattle.rinex_file.specs.declared.read.epochs.NextEpoch.{NextEpoch}
 use Rattle.std.proofs.KnownBytes.{Consumes-nil, Consumes-trans}
@@ -8,14 +9,14 @@ use Rattle.rinex_file.specs.declared.read.epochs.Reading.{Reading}
 use Rattle.rinex_file.specs.inner.Read.EpochSteps.{IsSummaryRead}
 use Rattle.rinex_inspect.specs.Gaps.{AreInside, is_inside}
 use Rattle.rinex_inspect.specs.inner.Reading.{ReadsInside}
-use Rattle.std.proofs.lemmas.List.Elements.{All-append, All-cons, All-head, All-nil, All-tail}
-use Rattle.std.proofs.Common.{All, false, true, min}
+use Rattle.std.proofs.lemmas.List.Elements.{All-head, All-tail}
+use Rattle.std.proofs.Common.{false, true, min}
 use Rattle.std.specs.List.{reduce}
 use Rattle.rinex_inspect.specs.declared.fault.FileFault.TheVariants.{File, OtherDay, Write}
 use Rattle.rinex_inspect.proofs.CheckLemmas.{none_written, refused}
 use Rattle.devices.proofs.PrintingLaws.{longer_part, printed_after, printed_later}
 use Rattle.rinex_inspect.proofs.MissingLemmas.{gaps_next, gaps_prefix, missing_next, missing_small, rise_front}
-use Rattle.rinex_inspect.proofs.Names.{ReaderFailures, culprit, CheckOptions, Completeness, CountsMissing, EndsCheck, IsCompleteness, IsEndOutput, IsOutput, IsSummary, inl, Rise, all_gaps_if, gap_with, gaps_if, inr, missing_if, missing_with, times_in, ⊤, AppendsPrefix, AreTimes, AreTimesOrNone, EpochTimes, FileValue, IfSome, IsCheckedOr, IsFileValue, check_line, complete_if, IfSome_then, IsDelivered, ReadsGaps, append_assoc, file_lines, file_text, length, most_lines, steps_of, times_if, ◌≡◌, ◌∙◌, ◌+◌, ◌<◌, ◌≤◌, ◌∷◌, ◌++◌, [], ap, arith, refl, subst, sym, ℕ, List, Option, Devices, Writer, EndsPrinting, Err, FileSummary, IsSummaryOf, FileFault, IsPrefix, LeavesRest, Ok, PrintsText, Result, Stamped, map, time_stamped, map-append}
+use Rattle.rinex_inspect.proofs.Names.{ReaderFailures, culprit, CheckOptions, Completeness, CountsMissing, EndsCheck, IsCompleteness, IsEndOutput, IsOutput, IsSummary, all_gaps_if, gap_with, gaps_if, inr, missing_with, times_in, ⊤, AppendsPrefix, AreTimes, AreTimesOrNone, EpochTimes, FileValue, IfSome, IsCheckedOr, IsFileValue, check_line, complete_if, IfSome_then, IsDelivered, ReadsGaps, append_assoc, file_lines, file_text, length, most_lines, steps_of, times_if, ◌≡◌, ◌∙◌, ◌+◌, ◌<◌, ◌≤◌, ◌∷◌, ◌++◌, [], ap, arith, refl, subst, sym, ℕ, List, Option, Devices, Writer, EndsPrinting, Err, FileSummary, IsSummaryOf, FileFault, IsPrefix, LeavesRest, Ok, PrintsText, Result, Stamped, map, time_stamped, map-append}
 use Rattle.std.proofs.Common.{◌^◌}
 
 pub leaves_all : (a : Option (List ℕ)) → LeavesRest a a
@@ -35,14 +36,7 @@ printed_more w w1 w2 complete es e before {r = r} first are same end next =
 -- the missing places of the epochs and of one more
 pub counted_more : {time k n m : ℕ} (complete : Option Completeness) (es : List Stamped) (e : Stamped) (before : Option EpochTimes) → IfSome complete IsCompleteness → AreTimesOrNone (times_in es) before → e.time ≡ time
     → CountsMissing complete (times_in es) k → n ≡ missing_with complete before time → (k + n < 2 ^ 64 → m ≡ k + n) → time < 2 ^ 63 → CountsMissing complete (times_in (es ++ e ∷ [])) m
-counted_more {time} {k} {n} {m} complete es e before is are same before_it one sum small rise =
-    let ts = times_in es in
-    let all : times_in (es ++ e ∷ []) ≡ ts ++ time ∷ [] = map-append time_stamped es (e ∷ []) ∙ ap (λ (t : ℕ). ts ++ t ∷ []) same in
-    let rise_all : Rise 0 (ts ++ time ∷ []) = subst (Rise 0) all rise in
-    let first : k ≡ missing_if complete ts = before_it (rise_front 0 ts (time ∷ []) rise_all) in
-    let next : missing_if complete (ts ++ time ∷ []) ≡ missing_if complete ts + missing_with complete before time = missing_next complete ts before time are in
-    let few : missing_if complete (ts ++ time ∷ []) ≤ time + 501 = missing_small complete ts time is rise_all in
-    sum (omega (arith, first, one, next, few, small)) ∙ omega (arith, first, one, next) ∙ ap (missing_if complete) (sym all)
+counted_more {time} {k} {n} {m} complete es e before is are same before_it one sum small rise = grind (arith, common_steps, map-append, rise_front, missing_next, missing_small)
 
 -- a summary, without the plan that was read
 pub without_plan : (r : Reading) (es : List Stamped) (s : FileSummary) (input : Option (List ℕ)) → IsTextWith (IsSummaryRead r es s) input → IfTextOfFile input (IsSummaryRead r es s)
@@ -51,10 +45,7 @@ without_plan r es s input has only = (record { v = has.v; is = has.is; few = has
 
 -- the times of epochs inside of the window, and of one more
 pub inside_more : (complete : Option Completeness) (es : List Stamped) (e : Stamped) {time : ℕ} → AreInside complete (times_in es) → e.time ≡ time → is_inside complete time ≡ true → AreInside complete (times_in (es ++ e ∷ []))
-inside_more complete es e all same one =
-    let p : ℕ → Type 0 = λ (t : ℕ). is_inside complete t ≡ true in
-    subst (λ (l : List ℕ). All p l) (sym (map-append time_stamped es (e ∷ [])))
-    (All-append p (times_in es) (e.time ∷ []) all (All-cons p e.time [] (subst p (sym same) one) (All-nil p)))
+inside_more complete es e all same one = grind (arith, common_steps, map-append)
 
 -- epochs of which one is outside aren't all inside
 pub not_inside : (complete : Option Completeness) (es more : List Stamped) (e : Stamped) {time : ℕ} → e.time ≡ time → is_inside complete time ≡ false → AreInside complete (times_in ((es ++ e ∷ []) ++ more)) → ⊥
@@ -95,11 +86,7 @@ times_of t ts =
 -- the output for a file that was read whole
 pub whole_output : (o : CheckOptions) (s : FileSummary) (v : FileValue) (es : List Stamped) (text : List ℕ) {missing : ℕ} → IsSummaryOf es s v → IsFileValue v → CountsMissing o.complete (times_in es) missing
     → ((v : FileValue) → IsFileValue v → IsSummary s v → CountsMissing o.complete (times_in v.epochs) missing → IsEndOutput o v s.times text) → IsOutput o v (gaps_if o.complete (times_in es) ++ text)
-whole_output o s v es text {missing} (is, same) file counts end = (
-  s.times,
-  is.times,
-  ap (λ (l : List Stamped). gaps_if o.complete (times_in l) ++ text) (sym same) ∙ sym (end v file is (subst (λ (l : List Stamped). CountsMissing o.complete (times_in l) missing) (sym same) counts)),
-)
+whole_output o s v es text {missing} h file counts end = grind (arith, common_steps)
 
 -- the gaps of the first epochs of a file are a part of its output
 first_gaps : (o : CheckOptions) (w w2 : Option (List ℕ)) (v : FileValue) (es : List Stamped) → IsFileValue v → IsPrefix es v.epochs → AppendsPrefix w w2 (gaps_if o.complete (times_in es)) → IsCheckedOr o v (Err Write) w w2
@@ -128,12 +115,4 @@ gaps_refused o d d2 w1 Write v is few kept (es, n, asked, first, part, fine) =
 -- the end of the command at such a fault
 pub gaps_stopped : {R W : Type 0} (o : CheckOptions) (d d2 : Devices R W) (w1 : Writer W) (fault : FileFault) → (w1.device.failures ≡ d.writer.device.failures) × IsDelivered d.writer w1
     → ReadsGaps (Err fault) o.complete (record d { writer = w1 }) d2 → EndsCheck {A = ⊤} o (Err fault) d d2
-gaps_stopped o d d2 w1 (File e) kept (es, why, none, read, printed, failures) =
-    let later = printed_later {A = ⊤} {w = d.writer} Write (Ok tt) w1 d2.writer kept refl printed in
-    ((failures, none_written e _ _ later.ends.0), (es, why, read, later.ends.2, later.ends.1))
-gaps_stopped o d d2 w1 (OtherDay k) kept (es, line, printed, fine) =
-    let later = printed_later {A = ⊤} {w = d.writer} Write (Ok tt) w1 d2.writer kept refl printed in
-    ((fine, later.ends.0), (es, line, later.ends.2, later.ends.1))
-gaps_stopped o d d2 w1 Write kept (es, n, asked, first, part, fine) =
-    let later = printed_later {A = ⊤} {w = d.writer} Write (Err Write) w1 d2.writer kept refl (refl, part) in
-    ((fine, later.ends.1.0), inr (inl (es, n, asked, first, later.ends.1.1)))
+gaps_stopped o d d2 w1 fault kept h = grind (arith, common_steps, printed_later, none_written)

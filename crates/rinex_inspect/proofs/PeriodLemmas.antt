@@ -1,5 +1,6 @@
 -- The periods of epochs, and the lines of those before the last one.
-use Rattle.std.proofs.Common.{◌≡◌, ◌∙◌, ◌+◌, ◌-◌, ◌*◌, ◌/◌, ◌<◌, ◌≤◌, ◌==◌, ◌++◌, ◌∷◌, [], ℕ, false, zero, suc, List, Option, Some, None, min, refl, ap, arith, append-nil}
+use Rattle.std.proofs.lemmas.Grind.{common_steps}
+use Rattle.std.proofs.Common.{◌≡◌, ◌∙◌, ◌+◌, ◌-◌, ◌*◌, ◌<◌, ◌≤◌, ◌==◌, ◌++◌, ◌∷◌, [], ℕ, false, zero, suc, List, Option, Some, None, refl, ap, arith, append-nil}
 use Rattle.std.specs.Prelude.{IfSome}
 use Rattle.std.specs.List.Sorted.{IsStrictlyIncreasing}
 use Rattle.std.proofs.lemmas.Bool.{eq-eqb}
@@ -24,13 +25,11 @@ abbrev pub IsEvery : Option ℕ → Type 0
 IsEvery every = IfSome every IsInterval
 
 period_mono : (every : Option ℕ) (t u : ℕ) → IsEvery every → t ≤ u → period_of every t ≤ period_of every u
-period_mono None t u is h = omega arith
-period_mono (Some n) t u is h = div_mono (min (t + 50) (weeks * week - 1)) (min (u + 50) (weeks * week - 1)) n (let some = is.0 in omega (arith, some)) (omega (arith, h))
+period_mono every t u is h = grind (arith, common_steps, div_mono)
 
 -- the begin of a period is within the weeks
 pub start_within : (every : Option ℕ) (t : ℕ) → IsEvery every → IfSome every (λ n. period_of every t * n < weeks * week)
-start_within None t is = tt
-start_within (Some n) t is = let most = div-mul-le_self (min (t + 50) (weeks * week - 1)) n in omega (arith, most)
+start_within every t is = grind (arith, common_steps, div-mul-le_self)
 
 last_with : (es : List Stamped) (e : Stamped) → last_of (times_in (es ++ e ∷ [])) ≡ e.time
 last_with es e = ap last_of (map-append time_stamped es (e ∷ [])) ∙ last_is (times_in es) e.time
@@ -39,11 +38,7 @@ pub period_with : (every : Option ℕ) (es : List Stamped) (e : Stamped) → las
 period_with every es e = ap (period_of every) (last_with es e)
 
 pub none_first : (every : Option ℕ) → IsEvery every → 0 ≡ last_period every []
-none_first None is = refl
-none_first (Some n) is = let least = is.0 in let most = div-mul-le_self (min (0 + 50) (weeks * week - 1)) n in by (min (0 + 50) (weeks * week - 1) / n) most where
-  by : (m : ℕ) → m * n ≤ min (0 + 50) (weeks * week - 1) → 0 ≡ m
-  by zero h = refl
-  by (suc m) h = absurd (let least = is.0 in let room : suc m * n ≡ m * n + n = grind arith in omega (arith, h, least, room))
+none_first every is = grind (arith, common_steps, div-mul-le_self)
 
 -- the last epoch is in the greatest period
 last_least : (es : List Stamped) (e : Stamped) → IsStrictlyIncreasing (times_in (es ++ e ∷ [])) → last_of (times_in es) ≤ e.time
@@ -98,9 +93,7 @@ texts_end f m (suc d) none =
 
 module _ (plan : PlanValue) (every : Option ℕ) (es : List Stamped) (e : Stamped) (is : IsEvery every) (rise : IsStrictlyIncreasing (times_in (es ++ e ∷ []))) where
   front : lines_before plan every (es ++ e ∷ []) ≡ texts_below (lines_of plan every es) (period_of every e.time)
-  front =
-      ap (texts_below (lines_of plan every (es ++ e ∷ []))) (period_with every es e)
-      ∙ texts_same (lines_of plan every (es ++ e ∷ [])) (lines_of plan every es) (period_of every e.time) (λ p less. of_same plan every (es ++ e ∷ []) es p (period_other every p es e less))
+  front = grind (arith, common_steps, period_with, texts_same, of_same, period_other)
 
   -- an epoch of the same period
   pub before_same : period_of every e.time ≡ last_period every es → lines_before plan every (es ++ e ∷ []) ≡ lines_before plan every es

@@ -1,6 +1,7 @@
 -- The epochs of a satellite after one epoch more.
+use Rattle.std.proofs.lemmas.Grind.{common_steps}
 use Rattle.std.proofs.lemmas.Bool.{or_parts}
-use Rattle.std.proofs.Common.{append-nil, ◌≡◌, ◌∙◌, ◌+◌, ◌<◌, ◌≤◌, ◌||◌, ◌++◌, ◌∷◌, [], ℕ, Bool, true, false, List, cond, length, refl, ap, ap₂, sym, arith, map}
+use Rattle.std.proofs.Common.{append-nil, ◌≡◌, ◌∙◌, ◌+◌, ◌<◌, ◌≤◌, ◌||◌, ◌++◌, ◌∷◌, [], ℕ, Bool, true, false, List, cond, length, refl, ap, ap₂, arith, map}
 use Rattle.std.specs.Prelude.{filter}
 use Rattle.std.specs.List.{list_any}
 use Rattle.std.proofs.lemmas.List.{length-append, length-map}
@@ -17,8 +18,7 @@ last_is (u ∷ []) t = refl
 last_is (u ∷ (v ∷ ts)) t = last_is (v ∷ ts) t
 
 pub first_kept : (ts : List ℕ) (t : ℕ) → 0 < length ts → first_of (ts ++ t ∷ []) ≡ first_of ts
-first_kept [] t some = absurd (omega (arith, some))
-first_kept (u ∷ ts) t some = refl
+first_kept ts t some = grind (arith, common_steps)
 
 module _ {A : Type 0} (p : A → Bool) where
   pub filter_yes : (xs : List A) (x : A) → p x ≡ true → filter p (xs ++ x ∷ []) ≡ filter p xs ++ x ∷ []
@@ -33,10 +33,7 @@ module _ {A : Type 0} (p : A → Bool) where
 
   pub some_filtered : (xs : List A) → list_any p xs ≡ true → 0 < length (filter p xs)
   some_filtered [] h = cc
-  some_filtered (x ∷ xs) h = by (some_filtered xs) (p x) h where
-    by : (list_any p xs ≡ true → 0 < length (filter p xs)) → (b : Bool) → (b || list_any p xs) ≡ true → 0 < length (cond b (x ∷ filter p xs) (filter p xs))
-    by rest true h = omega arith
-    by rest false h = rest h
+  some_filtered (x ∷ xs) h = grind (arith, common_steps, some_filtered xs)
 
   -- ---- the items from the first one on
 
@@ -46,10 +43,7 @@ module _ {A : Type 0} (p : A → Bool) where
 
   pub first_some : (xs ys : List A) → list_any p xs ≡ true → from_first p (xs ++ ys) ≡ from_first p xs ++ ys
   first_some [] ys h = cc
-  first_some (x ∷ xs) ys h = by (first_some xs ys) (p x) h where
-    by : (list_any p xs ≡ true → from_first p (xs ++ ys) ≡ from_first p xs ++ ys) → (b : Bool) → (b || list_any p xs) ≡ true → cond b (x ∷ (xs ++ ys)) (from_first p (xs ++ ys)) ≡ cond b (x ∷ xs) (from_first p xs) ++ ys
-    by rest true h = refl
-    by rest false h = rest h
+  first_some (x ∷ xs) ys h = grind (arith, common_steps, first_some xs ys)
 
   pub first_later : (xs ys : List A) → list_any p xs ≡ false → from_first p (xs ++ ys) ≡ from_first p ys
   first_later [] ys h = refl
@@ -57,10 +51,7 @@ module _ {A : Type 0} (p : A → Bool) where
 
   pub any_last : (ys : List A) (x : A) → p x ≡ true → list_any p (ys ++ x ∷ []) ≡ true
   any_last [] x e = rw e refl
-  any_last (y ∷ ys) x e = by (any_last ys x e) (p y) where
-    by : list_any p (ys ++ x ∷ []) ≡ true → (b : Bool) → (b || list_any p (ys ++ x ∷ [])) ≡ true
-    by rest true = refl
-    by rest false = rest
+  any_last (y ∷ ys) x e = grind (arith, common_steps, any_last ys x e)
 
   pub any_before : (ys : List A) (x : A) → p x ≡ false → list_any p (ys ++ x ∷ []) ≡ list_any p ys
   any_before [] x e = rw e refl
@@ -78,18 +69,10 @@ module _ {A : Type 0} (p : A → Bool) where
 
   -- the number from the first to the last, with one item more that passes, or that doesn't
   pub span_yes : (xs : List A) (x : A) → p x ≡ true → length (up_to_last p (from_first p (xs ++ x ∷ []))) ≡ length (from_first p xs) + 1
-  span_yes xs x e = by (list_any p xs) refl where
-    by : (b : Bool) → list_any p xs ≡ b → length (up_to_last p (from_first p (xs ++ x ∷ []))) ≡ length (from_first p xs) + 1
-    by true h = ap (λ (l : List A). length (up_to_last p l)) (first_some xs (x ∷ []) h) ∙ ap length (last_all (from_first p xs) x e) ∙ length-append (from_first p xs) (x ∷ [])
-    by false h = ap (λ (l : List A). length (up_to_last p l)) (first_later xs (x ∷ []) h) ∙ one e ∙ ap (λ (l : List A). length l + 1) (sym (none_first xs h)) where
-      one : p x ≡ true → length (up_to_last p (from_first p (x ∷ []))) ≡ 1
-      one e = rw e (rw e refl)
+  span_yes xs x e = grind (arith, common_steps, first_some, last_all, length-append, first_later, none_first)
 
   pub span_no : (xs : List A) (x : A) → p x ≡ false → up_to_last p (from_first p (xs ++ x ∷ [])) ≡ up_to_last p (from_first p xs)
-  span_no xs x e = by (list_any p xs) refl where
-    by : (b : Bool) → list_any p xs ≡ b → up_to_last p (from_first p (xs ++ x ∷ [])) ≡ up_to_last p (from_first p xs)
-    by true h = ap (up_to_last p) (first_some xs (x ∷ []) h) ∙ last_before (from_first p xs) x e
-    by false h = ap (up_to_last p) (first_later xs (x ∷ []) h) ∙ rw e refl ∙ ap (up_to_last p) (sym (none_first xs h))
+  span_no xs x e = grind (arith, common_steps, first_some, last_before, first_later, none_first)
 
   -- the number of all from the first one on
   pub length_first : (xs : List A) (x : A) → list_any p xs ≡ true → length (from_first p (xs ++ x ∷ [])) ≡ length (from_first p xs) + 1
@@ -97,16 +80,8 @@ module _ {A : Type 0} (p : A → Bool) where
 
   -- one item in place of another
   pub first_length : (xs : List A) (x y : A) → p x ≡ p y → length (from_first p (xs ++ x ∷ [])) ≡ length (from_first p (xs ++ y ∷ []))
-  first_length [] x y e = by (p x) (p y) e where
-    by : (a b : Bool) → a ≡ b → length (cond a (x ∷ []) []) ≡ length (cond b (y ∷ []) [])
-    by true true e = refl
-    by false false e = refl
-    by true false e = cc
-    by false true e = cc
-  first_length (z ∷ xs) x y e = by (first_length xs x y e) (p z) where
-    by : length (from_first p (xs ++ x ∷ [])) ≡ length (from_first p (xs ++ y ∷ [])) → (b : Bool) → length (cond b (z ∷ (xs ++ x ∷ [])) (from_first p (xs ++ x ∷ []))) ≡ length (cond b (z ∷ (xs ++ y ∷ [])) (from_first p (xs ++ y ∷ [])))
-    by rest true = omega (arith, length-append xs (x ∷ []), length-append xs (y ∷ []))
-    by rest false = rest
+  first_length [] x y e = grind (arith, common_steps, length-append)
+  first_length (z ∷ xs) x y e = grind (arith, common_steps, length-append, first_length xs x y e)
 
   pub one_first : (xs : List A) (x : A) → list_any p xs ≡ false → p x ≡ true → length (from_first p (xs ++ x ∷ [])) ≡ 1
   one_first xs x none e = ap length (first_later xs (x ∷ []) none) ∙ rw e refl

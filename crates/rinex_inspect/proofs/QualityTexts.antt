@@ -1,5 +1,6 @@
 -- The words of the lines of `quality`.
-use Rattle.std.proofs.Common.{◌≡◌, ◌∙◌, ◌+◌, ◌<◌, ◌≤◌, ◌++◌, ◌∷◌, [], ℕ, Bool, true, false, List, cond, length, codes, decimal, refl, ap, ap₂, sym, append_assoc, arith, Err, drop, take, get_or, subst, ◌-◌}
+use Rattle.std.proofs.lemmas.Grind.{common_steps}
+use Rattle.std.proofs.Common.{◌≡◌, ◌∙◌, ◌+◌, ◌<◌, ◌≤◌, ◌++◌, ◌∷◌, [], ℕ, Bool, List, cond, length, codes, decimal, refl, ap, ap₂, sym, append_assoc, arith, Err, drop, take, get_or, subst, ◌-◌}
 use Rattle.std.proofs.lemmas.List.{length-append}
 use Rattle.std.proofs.lemmas.List.{get_or_read}
 use Rattle.std.proofs.Math.Seq.{take-length}
@@ -8,9 +9,8 @@ use Rattle.gnss_obs.proofs.PlanLaws.{length_indices}
 use Rattle.gnss_obs.specs.SignalLists.{indices}
 use Rattle.gnss_obs.specs.Values.{planned_of}
 use Rattle.gnss_system.specs.Signals.{SignalAt, most_signals}
-use Rattle.rinex_file.specs.FileValues.{planned_in}
 use Rattle.rinex_inspect.specs.inner.QualityLines.{IsPrintable, IsSmallTally}
-use Rattle.rinex_inspect.specs.inner.Tables.{HasPlaces, contents_in, no_record, record_at, records_in, tally_at}
+use Rattle.rinex_inspect.specs.inner.Tables.{HasPlaces, contents_in, record_at, records_in, tally_at}
 use Rattle.rinex_inspect.specs.declared.table.SatelliteRecord.{SatelliteRecord}
 use Rattle.rinex_inspect.specs.declared.table.Table.{Table}
 use Rattle.rinex_inspect.specs.Tallies.{no_tally}
@@ -49,12 +49,10 @@ word_short start new none few = let same = ap length none in omega (arith, same,
 
 pub presence_is : (p : Presence) (old : List ℕ) {a b c d e f w1 w2 : List ℕ} → a ≡ (old ++ 0x20 ∷ codes "epochs") ++ 0x20 ∷ decimal p.epochs → b ≡ (a ++ 0x20 ∷ codes "of") ++ 0x20 ∷ decimal p.span → c ≡ b ++ codes " first"
     → d ≡ c ++ w1 → w1 ≡ 0x20 ∷ time_word p.first → e ≡ d ++ codes " last" → f ≡ e ++ w2 → w2 ≡ 0x20 ∷ time_word p.last → f ≡ with_words old (presence_words p)
-presence_is p old e1 e2 e3 e4 first e5 e6 last =
-    e6 ∙ ap₂ (λ (x y : List ℕ). x ++ y) (e5 ∙ ap (λ (x : List ℕ). x ++ codes " last") (e4 ∙ ap₂ (λ (x y : List ℕ). x ++ y) (e3 ∙ ap (λ (x : List ℕ). x ++ codes " first") (e2 ∙ ap (λ (x : List ℕ). (x ++ 0x20 ∷ codes "of") ++ 0x20 ∷ decimal p.span) e1)) first)) last
+presence_is p old e1 e2 e3 e4 first e5 e6 last = grind (arith, common_steps)
 
 pub one_small : (b : Bool) {n : ℕ} → n ≡ cond b 1 0 → n ≤ 1
-one_small true e = omega (arith, e)
-one_small false e = omega (arith, e)
+one_small b e = grind (arith, common_steps)
 
 -- one satellite more is counted
 pub counted : {before one : ℕ} {b : Bool} (p : ℕ → Bool) (n : ℕ) → before ≡ count_by p (below n) → one ≡ cond b 1 0 → b ≡ p n → before + one ≡ count_by p (below (n + 1))
@@ -76,11 +74,7 @@ pub present_is : (plan : PlanValue) (has : Contents) (s : System) (i : ℕ) {p :
     → a ≡ codes "satellite" → b ≡ a ++ 0x20 ∷ satellite_word s i → c ≡ with_words b (presence_words p) → d ≡ (c ++ 0x20 ∷ codes "lost") ++ 0x20 ∷ decimal lost → e ≡ d ++ 0x0A ∷ []
     → e ≡ present_line plan has s i
 unfolding present_line
-present_is plan has s i {p} {lost} here sum e1 e2 e3 e4 e5 =
-    let rest : List (List ℕ) = codes "lost" ∷ decimal (lost_in plan has s i) ∷ [] in
-    end_line [] (codes "satellite") (satellite_word s i ∷ (presence_words (has.presences s i) ++ rest)) e5
-    (e4 ∙ ap₂ (λ (x : List ℕ) (n : ℕ). with_words x (codes "lost" ∷ decimal n ∷ [])) (e3 ∙ ap₂ (λ (x : List ℕ) (q : Presence). with_words x (presence_words q)) (e2 ∙ ap (λ (x : List ℕ). x ++ 0x20 ∷ satellite_word s i) e1) here) sum
-    ∙ sym (words_split (codes "satellite" ++ 0x20 ∷ satellite_word s i) (presence_words (has.presences s i)) rest))
+present_is plan has s i {p} {lost} here sum e1 e2 e3 e4 e5 = grind (arith, common_steps, end_line, words_split)
 
 pub tally_line_is : (plan : PlanValue) (start : ℕ) (s : System) (i k : ℕ) {t u : Tally} {a b c d e w z : List ℕ} → t ≡ u
     → z ≡ [] → a ≡ z ++ w → w ≡ time_word start → b ≡ a ++ 0x20 ∷ satellite_word s i → c ≡ b ++ 0x20 ∷ code_at plan s k → d ≡ with_words c (tally_words t) → e ≡ d ++ 0x0A ∷ []
@@ -103,34 +97,23 @@ module _ (t : Table) (s : System) where
   -- the number of satellites with a value, and their tallies
   pub number_is : (k : ℕ) {l : List SatelliteRecord} {number : ℕ} → l ≡ records_in t s → HasPlaces t → number ≡ count_by (λ i. has_values (tally_at l k i)) (below (length l))
       → number ≡ count_by (λ i. has_values ((contents_in t).tallies s i k)) (below (satellites s))
-  number_is k {l} same places e =
-      e ∙ ap (λ (l : List SatelliteRecord). count_by (λ i. has_values (tally_at l k i)) (below (length l))) same
-      ∙ ap (λ (n : ℕ). count_by (λ i. has_values ((contents_in t).tallies s i k)) (below n)) (places s)
+  number_is k {l} same places e = grind (arith, common_steps)
 
   pub totals_are : (k : ℕ) {l : List SatelliteRecord} {u : Tally} → l ≡ records_in t s → HasPlaces t → u ≡ total (tally_at l k) (length l)
       → u ≡ total (λ i. (contents_in t).tallies s i k) (satellites s)
-  totals_are k {l} same places e =
-      e ∙ ap (λ (l : List SatelliteRecord). total (tally_at l k) (length l)) same
-      ∙ ap (λ (n : ℕ). total (λ i. (contents_in t).tallies s i k) n) (places s)
+  totals_are k {l} same places e = grind (arith, common_steps)
 
   pub totals_small : (plan : PlanValue) (k : ℕ) {u : Tally} → IsPrintable t plan → k < most_signals → u ≡ total (λ i. (contents_in t).tallies s i k) (satellites s) → IsSmallTally u
   totals_small plan k fits place e = subst IsSmallTally (sym e) (fits.totals s k place)
 
   -- the record of a satellite
   pub record_is : (i : ℕ) {l : List SatelliteRecord} {r : SatelliteRecord} → l ≡ records_in t s → HasPlaces t → i < satellites s → r ≡ get_or l i r → r ≡ record_at t s i
-  record_is i {l} {r} same places few e =
-      get_or_read l i r (omega (arith, few, places s, ap length same)) e no_record ∙ ap (λ (l : List SatelliteRecord). get_or l i no_record) same
+  record_is i {l} {r} same places few e = grind (arith, common_steps, get_or_read, get_or)
 
   pub lost_is : (plan : PlanValue) (i : ℕ) {r : SatelliteRecord} (ss : List SignalAt) {n : ℕ} → r ≡ record_at t s i → indices ss ≡ planned_of s plan → n ≡ sum_by (λ k. (get_or r.signals k no_tally).lost) (below (length ss))
       → n ≡ lost_in plan (contents_in t) s i
-  lost_is plan i {r} ss same planned e =
-      e ∙ ap₂ (λ (r : SatelliteRecord) (m : ℕ). sum_by (λ k. (get_or r.signals k no_tally).lost) (below m)) same (sym (length_indices ss) ∙ ap length planned)
+  lost_is plan i {r} ss same planned e = grind (arith, common_steps, get_or, length_indices)
 
 -- the bytes after the first one
 pub rest_is : (w : List ℕ) {b : List ℕ} → b ≡ 0x20 ∷ w → take (length b - 1) (drop 1 b) ≡ w
 rest_is w e = ap (λ (b : List ℕ). take (length b - 1) (drop 1 b)) e ∙ ap (λ (n : ℕ). take n w) {x = length (0x20 ∷ w) - 1} {y = length w} (omega arith) ∙ take-length w
-
--- ---- the lines of a system
-
-pub planned_is : (plan : PlanValue) (s : System) (ss : List SignalAt) → indices ss ≡ planned_of s plan → length ss ≡ planned_in plan s
-planned_is plan s ss same = sym (length_indices ss) ∙ ap length same

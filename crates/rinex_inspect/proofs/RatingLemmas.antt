@@ -1,4 +1,5 @@
 -- The reading of the lines of an epoch into a table.
+use Rattle.std.proofs.lemmas.Grind.{common_steps}
 use Rattle.std.proofs.Common.{◌≡◌, ◌∙◌, ◌+◌, ◌^◌, ◌<◌, ◌≤◌, ◌++◌, ◌∷◌, [], ℕ, Bool, List, Option, Result, Ok, Err, length, refl, ap, ap₂, sym, subst, arith}
 use Rattle.std.proofs.Common.{append-nil, Some, None, zero, suc, ◌==◌, ◌*◌}
 use Rattle.std.specs.Bool.{⊤}
@@ -15,7 +16,7 @@ use Rattle.gnss_system.specs.declared.system.System.{System}
 use Rattle.rinex_file.specs.FileValues.{time_stamped}
 use Rattle.rinex_file.specs.inner.Read.EpochSteps.{HasReadEpochs}
 use Rattle.rinex_inspect.proofs.ContentsLemmas.{AreFew, AreSame, few_of, few_planned, lines_same, period_is, printable, table_contents}
-use Rattle.rinex_inspect.proofs.Names.{IfSome_then, times_in}
+use Rattle.rinex_inspect.proofs.Names.{times_in}
 use Rattle.rinex_file.specs.inner.Read.EpochSteps.{BeginsEpoch}
 use Rattle.rinex_file.specs.declared.read.epochs.NextEpoch.{NextEpoch}
 use Rattle.rinex_file.specs.declared.read.epochs.NextEpoch.TheVariants.{End}
@@ -79,8 +80,7 @@ pub few_in : (every : Option ℕ) (p : ℕ) (es : List Stamped) → length (in_p
 few_in every p es = length-filter-le (λ (x : Stamped). period_of every x.time == p) es
 
 last_some : (es : List Stamped) (e : Stamped) → es ++ e ∷ [] ≡ [] → ⊥
-last_some [] e h = cc
-last_some (x ∷ es) e h = cc
+last_some es e h = grind (arith, common_steps)
 
 pub fine_with : (r : EpochReader) (es : List Stamped) (whole : Stamped) (input left : Option (List ℕ)) → HasReadEpochs r (es ++ whole ∷ []) input left → AreFine (plan_of r) (es ++ whole ∷ [])
 fine_with r es whole input left read = whole_fine r.reading (es ++ whole ∷ []) read (last_some es whole)
@@ -172,8 +172,7 @@ rated_in_part t every old new es time input d d2 write h = subst (λ (f : FileFa
 -- an epoch that was begun
 pub next_rated : {R W : Type 0} (every : Option ℕ) (old mid new : EpochReader) (t t2 : Tables) (es : List Stamped) (time : ℕ) (input : Option (List ℕ)) (d1 d d2 : Devices R W) → old.reading.count < mid.reading.count → HasSamePlan old mid es → d1.writer ≡ d.writer
     → RatesEpoch every mid new t2 es time input (Ok tt) d1 d2 → RatesNext every old new t t2 es input (Ok None) d d2
-next_rated every old mid new t t2 es time input d1 d d2 less keeps same (whole, at, read, least, plan, tables, (text, after, printed)) =
-    (whole, read, omega (arith, less, least), λ some. plan ∙ keeps some, tables, (text, after, subst (λ w. PrintsText text w d2.writer) same printed))
+next_rated every old mid new t t2 es time input d1 d d2 less keeps same x15 = grind (arith, common_steps)
 
 pub next_stopped : {R W : Type 0} (every : Option ℕ) (old mid new : EpochReader) (t t2 : Tables) (es : List Stamped) (time : ℕ) (input : Option (List ℕ)) (d1 d d2 : Devices R W) (fault : FileFault) → HasSamePlan old mid es → d1.writer ≡ d.writer
     → RatesEpoch every mid new t2 es time input (Err fault) d1 d2 → RatesNext every old new t t2 es input (Err fault) d d2
@@ -200,13 +199,7 @@ begins_is old new es input left same h = subst (λ (n : NextEpoch). BeginsEpoch 
 -- the end of the file
 pub next_ended : {R W : Type 0} (every : Option ℕ) (old new : EpochReader) (t : Tables) (es : List Stamped) (input left : Option (List ℕ)) (s : FileSummary) (d d2 : Devices R W) → d2.writer ≡ d.writer → BeginsEpoch old new es input left (Ok (End s))
     → RatesNext every old new t t es input (Ok (Some s.counts)) d d2
-next_ended every old new t es input left s d d2 same (has, only, keeps) = (
-  record { v = has.v; is = has.is; few = has.few; text = has.text; holds = (has.holds.0.0.counts, has.holds.0.1, has.holds.1) },
-  λ v is few. IfSome_then input (only v is few) (λ bytes h text. let r = h text in (r.0.0.counts, r.0.1, r.1)),
-  keeps,
-  refl,
-  same,
-)
+next_ended every old new t es input left s d d2 same x11 = grind (arith, common_steps)
 
 pub next_is : {R W : Type 0} (every : Option ℕ) (old new : EpochReader) (t t2 : Tables) (es : List Stamped) (input : Option (List ℕ)) (d d2 : Devices R W) {n m : Option Counts} → n ≡ m → RatesNext every old new t t2 es input (Ok n) d d2 → RatesNext every old new t t2 es input (Ok m) d d2
 next_is every old new t t2 es input d d2 same h = subst (λ (n : Option Counts). RatesNext every old new t t2 es input (Ok n) d d2) same h

@@ -1,5 +1,6 @@
 -- Sums over the numbers below another one, and texts that are joined.
-use Rattle.std.proofs.Common.{◌≡◌, ◌∙◌, ◌+◌, ◌*◌, ◌^◌, ◌<◌, ◌≤◌, ◌++◌, ◌∷◌, [], ℕ, Bool, zero, suc, List, cond, refl, ap, ap₂, sym, arith, ◌-◌, add-one, append_assoc, append-nil}
+use Rattle.std.proofs.lemmas.Grind.{common_steps}
+use Rattle.std.proofs.Common.{◌≡◌, ◌∙◌, ◌+◌, ◌*◌, ◌^◌, ◌<◌, ◌≤◌, ◌++◌, ◌∷◌, [], ℕ, Bool, zero, suc, List, cond, refl, ap, sym, arith, ◌-◌, add-one, append_assoc, append-nil}
 use Rattle.std.specs.List.{count_by, sum_by}
 use Rattle.std.proofs.lemmas.Grind.{flat_map-append}
 use Rattle.std.proofs.lemmas.List.Sums.{sum_by-append}
@@ -25,12 +26,7 @@ sum_suc f n = ap (λ (k : ℕ). sum_by f (below k)) (sym (add-one n)) ∙ sum_mo
 
 pub sum_bound : (f : ℕ → ℕ) (n bound : ℕ) → ((i : ℕ) → i < n → f i < bound) → sum_by f (below n) ≤ n * bound
 sum_bound f zero bound each = omega arith
-sum_bound f (suc n) bound each =
-    let first = sum_bound f n bound (λ i fits. each i (omega (arith, fits))) in
-    let one = each n (omega arith) in
-    let sum = sum_suc f n in
-    let room : suc n * bound ≡ n * bound + bound = grind arith in
-    omega (arith, first, one, sum, room)
+sum_bound f (suc n) bound each = grind (arith, common_steps, sum_suc, sum_bound f n bound (λ i fits. each i (omega (arith, fits))))
 
 pub sum_add : (f g : ℕ → ℕ) (n : ℕ) → sum_by (λ i. f i + g i) (below n) ≡ sum_by f (below n) + sum_by g (below n)
 sum_add f g zero = refl
@@ -86,8 +82,7 @@ texts_more f n = ap (texts_below f) (add-one n) ∙ flat_map-append f (below n) 
 -- equal texts
 pub texts_same : (f g : ℕ → List ℕ) (n : ℕ) → ((i : ℕ) → i < n → f i ≡ g i) → texts_below f n ≡ texts_below g n
 texts_same f g zero same = refl
-texts_same f g (suc n) same =
-    ap (texts_below f) (sym (add-one n)) ∙ texts_more f n ∙ ap₂ (λ (x y : List ℕ). x ++ y) (texts_same f g n (λ i fits. same i (omega (arith, fits)))) (same n (omega arith)) ∙ sym (texts_more g n) ∙ ap (texts_below g) (add-one n)
+texts_same f g (suc n) same = grind (arith, common_steps, add-one, texts_more, texts_same f g n (λ i fits. same i (omega (arith, fits))))
 
 -- the first texts
 pub texts_front : (f : ℕ → List ℕ) (m n : ℕ) → m ≤ n → (more : List ℕ) × (texts_below f n ≡ texts_below f m ++ more)

@@ -1,4 +1,5 @@
 -- Tables after one epoch or one line more.
+use Rattle.std.proofs.lemmas.Grind.{common_steps}
 use Rattle.std.proofs.Common.{append-nil, ◌≡◌, ◌∙◌, ◌+◌, ◌-◌, ◌^◌, ◌<◌, ◌≤◌, ◌==◌, ◌++◌, ◌∷◌, [], ℕ, Bool, true, false, zero, suc, List, cond, get_or, length, refl, ap, sym, subst, arith, append_assoc, map}
 use Rattle.std.specs.Prelude.{filter}
 use Rattle.std.specs.List.{list_any, sum_by}
@@ -59,12 +60,7 @@ module _ (s : Satellite) (k : ℕ) (xs : List Stamped) (e : Stamped) where
   tally_other r out = ap (λ (l : List SatelliteRow). tally (map (values_in k) (filter (is_row_of s) l))) (rows_more xs e r) ∙ ap (λ (l : List SatelliteRow). tally (map (values_in k) l)) (filter_no (is_row_of s) (all_rows (xs ++ e ∷ [])) r out)
 
   tally_this : (r : SatelliteRow) → is_row_of s r ≡ true → with_values (capped_tally (tally_of s k (xs ++ e ∷ []))) (values_in k r) ≡ capped_tally (tally_of s k (xs ++ with_read e r ∷ []))
-  tally_this r own =
-      tally_more (map (values_in k) (filter (is_row_of s) (all_rows (xs ++ e ∷ [])))) (values_in k r)
-      ∙ ap (λ (l : List SignalValues). capped_tally (tally l)) (sym (
-      ap (λ (l : List SatelliteRow). map (values_in k) (filter (is_row_of s) l)) (rows_more xs e r)
-      ∙ ap (map (values_in k)) (filter_yes (is_row_of s) (all_rows (xs ++ e ∷ [])) r own)
-      ∙ map-append (values_in k) (filter (is_row_of s) (all_rows (xs ++ e ∷ []))) (r ∷ [])))
+  tally_this r own = grind (arith, common_steps, tally_more, rows_more, filter_yes, map-append)
 
 -- ---- the epochs of a satellite
 
@@ -86,10 +82,7 @@ module _ (s : Satellite) (xs : List Stamped) (e : Stamped) where
 
 -- a satellite with an epoch has a line in some of them
 some_any : (s : Satellite) (xs : List Stamped) → 0 < length (times_of s xs) → list_any (has_line s) xs ≡ true
-some_any s xs some = by (list_any (has_line s) xs) refl where
-  by : (b : Bool) → list_any (has_line s) xs ≡ b → list_any (has_line s) xs ≡ true
-  by true e = e
-  by false e = let none = ap (λ (l : List Stamped). length (map time_stamped l)) (none_filtered (has_line s) xs e) in absurd (omega (arith, none, some))
+some_any s xs some = grind (arith, common_steps, none_filtered)
 
 -- ---- records
 
@@ -153,37 +146,10 @@ module _ (q q2 : SatelliteRecord) (s : Satellite) (xs : List Stamped) (e : Stamp
   ff = any_last (is_row_of s) e.rows r own
 
   presence_after : (b : Bool) → list_any (has_line s) xs ≡ b → q2.presence ≡ presence_of s (xs ++ with_read e r ∷ [])
-  presence_after true any =
-      let some : 0 < length (times_of s xs) = length_some (has_line s) xs any in
-      let there : 0 < q.presence.epochs = subst (λ (x : Presence). 0 < x.epochs) (sym was) some in
-      let at = is.before there in
-      let first = length_first (has_line s) xs e any in
-      let epochs = ap (λ (x : Presence). x.epochs) was in
-      add.presence ∙ present_old n e.time q there
-      ∙ presence_is (omega (arith, epochs, few, last, small)) (omega (arith, at, first, last, length-append xs (e ∷ []))) (ap (λ (x : Presence). x.first) was ∙ sym (first_kept (times_of s xs) e.time some)) refl
-      ∙ sym now
-  presence_after false any =
-      let none : times_of s xs ≡ [] = ap (map time_stamped) (none_filtered (has_line s) xs any) in
-      let zero_epochs : q.presence.epochs ≡ 0 = ap (λ (x : Presence). x.epochs) was ∙ ap length none in
-      let nothing = ap length (none_first (has_line s) xs any) in
-      let size = ap length none in
-      add.presence ∙ present_new n e.time q zero_epochs
-      ∙ presence_is (omega (arith, zero_epochs, size)) (omega (arith, last, nothing)) (ap (λ (l : List ℕ). first_of (l ++ e.time ∷ [])) (sym none)) refl
-      ∙ sym now
+  presence_after b any = grind (arith, common_steps, length_some, was, length_first, present_old, presence_is, few, length-append, first_kept, now, none_filtered, none_first, present_new)
 
   before_after : (b : Bool) → list_any (has_line s) xs ≡ b → q2.before + length (from_first (has_line s) (xs ++ with_read e r ∷ [])) ≡ length (xs ++ with_read e r ∷ [])
-  before_after true any =
-      let some : 0 < length (times_of s xs) = length_some (has_line s) xs any in
-      let there : 0 < q.presence.epochs = subst (λ (x : Presence). 0 < x.epochs) (sym was) some in
-      let at = is.before there in
-      let here = add.before ∙ before_old n q there in
-      omega (arith, at, here, length_first (has_line s) xs e any, length_first (has_line s) xs (with_read e r) any, length-append xs (e ∷ []), length-append xs (with_read e r ∷ []))
-  before_after false any =
-      let none : times_of s xs ≡ [] = ap (map time_stamped) (none_filtered (has_line s) xs any) in
-      let zero_epochs : q.presence.epochs ≡ 0 = ap (λ (x : Presence). x.epochs) was ∙ ap length none in
-      let here = add.before ∙ before_new n q zero_epochs in
-      let one = one_first (has_line s) xs (with_read e r) any ff in
-      omega (arith, here, last, one, length-append xs (with_read e r ∷ []))
+  before_after b any = grind (arith, common_steps, length_some, was, before_old, length_first, length-append, none_filtered, before_new, one_first, ff)
 
   pub record_this : IsRecordOf q2 s (xs ++ with_read e r ∷ [])
   record_this = record {
