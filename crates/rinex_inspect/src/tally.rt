@@ -6,8 +6,8 @@ ghost use Rattle.rinex_inspect.specs.inner.Tables.{plus, with_values};
 use gnss_obs::{GpsTime, Thousandths};
 use rinex_file::SignalValues;
 
-/// What a signal of a satellite has, or a signal of all satellites. The numbers have 32 bits, as a
-/// file has at most 2^32 lines: a table has 4,140 tallies.
+/// What a signal of a satellite has, or a signal of all satellites. Of each line a number grows by
+/// at most one, and a file has at most 2^32 lines with its header: 32 bits are enough.
 #[derive(Clone, Copy)]
 pub(crate) struct Tally {
     /// Number of pseudoranges.
