@@ -1,9 +1,5 @@
 -- An epoch has no more satellites than the planned systems.
-use Rattle.rinex_file.proofs.Names.{arith, ◌≡◌, refl, subst, ℕ, suc, ◌+◌, ◌-◌, ◌<◌, ◌≤◌, Bool, true, List, [], ◌∷◌, length, if◌then◌else◌, All, map, nat_lt, slice_index, IsStrictlyIncreasing, lt-ltb, All-head, All-tail, System, satellites, SatelliteRow, IsSatelliteRow, AreSatelliteRows, rank_of, most_rows}
-use Rattle.std.specs.List.{sum_by}
-use Rattle.std.proofs.Common.{◌*◌, le_trans, lit≤}
-use Rattle.gnss_system.specs.Systems.{systems, index_of, is_system}
-use Rattle.gnss_system.proofs.SystemLaws.{sum_at_most, sum_less, system_same}
+use Rattle.rinex_file.proofs.Names.{◌*◌, le_trans, lit≤, systems, index_of, is_system, sum_at_most, sum_less, system_same, sum_by, arith, ◌≡◌, refl, subst, ℕ, suc, ◌+◌, ◌-◌, ◌<◌, ◌≤◌, Bool, true, List, [], ◌∷◌, length, if◌then◌else◌, All, map, nat_lt, slice_index, IsStrictlyIncreasing, lt-ltb, All-head, All-tail, System, satellites, SatelliteRow, IsSatelliteRow, AreSatelliteRows, rank_of, most_rows}
 
 -- the ranks from k on of a system, and those of the planned systems
 ranks : ℕ → System → ℕ

@@ -1,12 +1,11 @@
 -- The lines of a file value are lines, and none is longer than the largest line that is read.
 use Rattle.rinex_file.proofs.Rows.Sizes.{small_value, length-value, strength_fits, few_numbers}
 use Rattle.rinex_file.proofs.Rows.Trimmed.{filled, length-trimmed}
-use Rattle.rinex_columns.proofs.NumberLaws.{has-append, has-right, lacks-padded, length-right, length-padded}
 use Rattle.rinex_file.proofs.FewRows.{few_most, few_rows}
 use Rattle.rinex_file.proofs.PlainTexts.{clean-fixed, IsPlain, plain-append, plain-padded, plain, plain-flat_map, plain-joined, also}
 use Rattle.rinex_file.proofs.Reading.Epochs.{few_signals_of}
 use Rattle.rinex_file.proofs.HeaderRows.Plain.{IsFileLine, as_line, of_80, whole_field, second_field, no_letter, IsShort, short_time, line_of_position, line_of_delta, lines_of_header}
-use Rattle.rinex_file.proofs.Names.{arith, lit≤, ◌≡◌, ◌∙◌, ap, refl, sym, subst, ℕ, ◌+◌, ◌*◌, ◌^◌, ◌<◌, ◌≤◌, ℤ, pos, false, Option, Some, None, IfSome, List, [], ◌∷◌, ◌++◌, length, replicate, decimal, get_or, append_assoc, ◌==◌, ◌||◌, map, flat_map, All, codes, AllByRecursion, or_parts, All-nil, All-head, All-tail, All-cons, All-append, All-map, satellites, System, StationValues, Civil, civil_of, trimmed, IsLine, event_line, stamped_lines, change_lines, file_lines, FitsColumns, AreSignalValues, IsRow, IsSatelliteRow, IsStamped, IsChange, AreChanges, IsFileValue, changed_by, planned_in, header_lines, position_line, delta_line, epoch_line, field, lli_byte, strength_byte, signal_text, letter, row_text, satellite_line, joined, right, padded, fixed, has, SignalValues, Row, SatelliteRow, Stamped, FileValue, most_line, most_signals, number_of, lines_of_parts, shown_of}
+use Rattle.rinex_file.proofs.Names.{has-append, has-right, lacks-padded, length-right, length-padded, arith, lit≤, ◌≡◌, ◌∙◌, ap, refl, sym, subst, ℕ, ◌+◌, ◌*◌, ◌^◌, ◌<◌, ◌≤◌, ℤ, pos, false, Option, Some, None, IfSome, List, [], ◌∷◌, ◌++◌, length, replicate, decimal, get_or, append_assoc, ◌==◌, ◌||◌, map, flat_map, All, codes, AllByRecursion, or_parts, All-nil, All-head, All-tail, All-cons, All-append, All-map, satellites, System, StationValues, Civil, civil_of, trimmed, IsLine, event_line, stamped_lines, change_lines, file_lines, FitsColumns, AreSignalValues, IsRow, IsSatelliteRow, IsStamped, IsChange, AreChanges, IsFileValue, changed_by, planned_in, header_lines, position_line, delta_line, epoch_line, field, lli_byte, strength_byte, signal_text, letter, row_text, satellite_line, joined, right, padded, fixed, has, SignalValues, Row, SatelliteRow, Stamped, FileValue, most_line, most_signals, number_of, lines_of_parts, shown_of}
 
 -- ---- epochs
 

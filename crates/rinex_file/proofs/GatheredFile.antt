@@ -1,13 +1,10 @@
 -- Epochs that were gathered from messages make a file value.
 use Rattle.rinex_file.proofs.HeaderRows.End.{all_same}
-use Rattle.gnss_system.specs.Systems.{systems, index_of}
-use Rattle.gnss_system.specs.Satellites.{satellites as satellites_in}
-use Rattle.gnss_system.proofs.SystemLaws.{index_back, system_at, systems_taken}
 use Rattle.rinex_file.proofs.Rows.Sizes.{few_satellites, if_fits}
 use Rattle.rinex_file.proofs.Rows.Cells.{found_as}
 use Rattle.rinex_file.proofs.FewRows.{rise-tail}
 use Rattle.rinex_file.proofs.Writing.Sent.{length-rows}
-use Rattle.rinex_file.proofs.Names.{common_steps, ◌≡◌, ℕ, zero, suc, ◌+◌, ◌*◌, ◌<◌, ◌≤◌, ◌==◌, Bool, true, false, ◌||◌, ◌&&◌, List, [], ◌∷◌, ◌++◌, map, length, get_or, refl, sym, ap, ◌∙◌, subst, arith, Option, Some, None, is_some, inl, inr, if◌then◌else◌, find, IsTrue, Any, All, option_map_or, AllByRecursion, IsDistinct, IsStrictlyIncreasing, and_parts, eqb-true, cases_Bool, map-append, flat_map-append, append-nil, flat_map, take, get_or-map, length-map, All-from_recursion, All-nil, All-cons, All-head, All-tail, All-append, All-push, All-map, All-weaker, All-filter, All-replicate, filter_passes, IsStrictlyIncreasing-filter, map-map, position-Some, System, Gps, Cell, PlanValue, EpochValue, Closed, same_values, cells_of, planned_of, has_value, is_written, place_in, IsGathered, AreGathered, IsGatheredEpoch, AreGatheredEpochs, TimesRise, AreStationValues, same_place, Decides-int_eq, StationValues, HeaderLists, numbers, written_satellites, no_signal_values, signal_values_of, is_of_key, signal_values_at, row_of, row_among, row_in_epoch, rows_of, change_from, stamped_after, all_stamped, AreTexts, AreValues, has_some_value, AreSignalValues, IsRow, planned_in, rank_of, IsSatelliteRow, IsStamped, IsChange, AreChanges, changed_by, time_stamped, IsFileValue, gathered, AreSignals, HasSatellite, IsInterval, IfSome}
+use Rattle.rinex_file.proofs.Names.{systems, index_of, satellites_in, index_back, system_at, systems_taken, common_steps, ◌≡◌, ℕ, zero, suc, ◌+◌, ◌*◌, ◌<◌, ◌≤◌, ◌==◌, Bool, true, false, ◌||◌, ◌&&◌, List, [], ◌∷◌, ◌++◌, map, length, get_or, refl, sym, ap, ◌∙◌, subst, arith, Option, Some, None, is_some, inl, inr, if◌then◌else◌, find, IsTrue, Any, All, option_map_or, AllByRecursion, IsDistinct, IsStrictlyIncreasing, and_parts, eqb-true, cases_Bool, map-append, flat_map-append, append-nil, flat_map, take, get_or-map, length-map, All-from_recursion, All-nil, All-cons, All-head, All-tail, All-append, All-push, All-map, All-weaker, All-filter, All-replicate, filter_passes, IsStrictlyIncreasing-filter, map-map, position-Some, System, Gps, Cell, PlanValue, EpochValue, Closed, same_values, cells_of, planned_of, has_value, is_written, place_in, IsGathered, AreGathered, IsGatheredEpoch, AreGatheredEpochs, TimesRise, AreStationValues, same_place, Decides-int_eq, StationValues, HeaderLists, numbers, written_satellites, no_signal_values, signal_values_of, is_of_key, signal_values_at, row_of, row_among, row_in_epoch, rows_of, change_from, stamped_after, all_stamped, AreTexts, AreValues, has_some_value, AreSignalValues, IsRow, planned_in, rank_of, IsSatelliteRow, IsStamped, IsChange, AreChanges, changed_by, time_stamped, IsFileValue, gathered, AreSignals, HasSatellite, IsInterval, IfSome}
 
 -- ---- numbers in ascending order
 

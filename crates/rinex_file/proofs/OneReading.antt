@@ -1,11 +1,10 @@
 -- A text is that of one value: of a field, of a signal, and of a satellite.
 use Rattle.rinex_file.proofs.Rows.Trimmed.{fill-trimmed, length-trimmed, trimmed-front}
-use Rattle.rinex_columns.proofs.NumberLaws.{has-append, has-right, length-right, number_in-fixed}
 use Rattle.rinex_file.proofs.Digits.Padded.{two_digits}
 use Rattle.rinex_file.proofs.Fields.Lanes.{lane_is}
 use Rattle.rinex_file.proofs.HeaderRows.Texts.{trimmed-trimmed}
 use Rattle.rinex_file.proofs.Rows.Sizes.{length-value, length-field, length-room, length-signals, small_value, strength_fits, values_fit, all_values_fit, few_numbers, front_line}
-use Rattle.rinex_file.proofs.Names.{common_steps, arith, ◌≡◌, ◌∙◌, sym, ap, ap₂, refl, subst, ℕ, zero, suc, ◌+◌, ◌-◌, ◌*◌, ◌/◌, ◌%◌, ◌<◌, ◌≤◌, List, [], ◌∷◌, ◌++◌, length, take, drop, replicate, get_or, ℤ, unsigned_abs, decimal, true, Option, Some, None, IfSome, flat_map, All, is_negative, sign_text, take_at, drop_at, take_all, drop-drop, get_or_at, get_or-append-add, length_push, All-head, All-tail, take-append_seam, System, SignalValues, SatelliteRow, satellite_row, no_signal_values, FitsColumns, AreSignalValues, trimmed, filled_to, IsEnded, right, padded, fixed, field, signal_text, lli_byte, strength_byte, letter, satellite_line, has, number_in, ReadsExactly, IsRowOf, blanks, number_of, satellites, or_right, same_Some, ◌^◌}
+use Rattle.rinex_file.proofs.Names.{has-append, has-right, length-right, number_in-fixed, common_steps, arith, ◌≡◌, ◌∙◌, sym, ap, ap₂, refl, subst, ℕ, zero, suc, ◌+◌, ◌-◌, ◌*◌, ◌/◌, ◌%◌, ◌<◌, ◌≤◌, List, [], ◌∷◌, ◌++◌, length, take, drop, replicate, get_or, ℤ, unsigned_abs, decimal, true, Option, Some, None, IfSome, flat_map, All, is_negative, sign_text, take_at, drop_at, take_all, drop-drop, get_or_at, get_or-append-add, length_push, All-head, All-tail, take-append_seam, System, SignalValues, SatelliteRow, satellite_row, no_signal_values, FitsColumns, AreSignalValues, trimmed, filled_to, IsEnded, right, padded, fixed, field, signal_text, lli_byte, strength_byte, letter, satellite_line, has, number_in, ReadsExactly, IsRowOf, blanks, number_of, satellites, or_right, same_Some, ◌^◌}
 
 -- ---- a field
 

@@ -1,6 +1,5 @@
 -- Texts without a line feed, and their largest lengths.
-use Rattle.rinex_columns.proofs.NumberLaws.{has-not, lacks-append, lacks-decimal, lacks-padded, length-fixed-le, length-padded-le}
-use Rattle.rinex_file.proofs.Names.{arith, ◌≡◌, ◌∙◌, ap, refl, ℕ, suc, ◌+◌, ◌-◌, ◌*◌, ◌^◌, ◌<◌, ◌≤◌, ℤ, unsigned_abs, Bool, true, false, List, [], ◌∷◌, ◌++◌, length, replicate, decimal, length-append, ◌==◌, ◌||◌, flat_map, All, AllByRecursion, list_all, sign_text, div-le_self, mod-le, length-decimal-le, and_parts, length-replicate, All-from_recursion, All-head, All-tail, joined, left, right, padded, fixed, has, is_printable, IsText}
+use Rattle.rinex_file.proofs.Names.{has-not, lacks-append, lacks-decimal, lacks-padded, length-fixed-le, length-padded-le, arith, ◌≡◌, ◌∙◌, ap, refl, ℕ, suc, ◌+◌, ◌-◌, ◌*◌, ◌^◌, ◌<◌, ◌≤◌, ℤ, unsigned_abs, Bool, true, false, List, [], ◌∷◌, ◌++◌, length, replicate, decimal, length-append, ◌==◌, ◌||◌, flat_map, All, AllByRecursion, list_all, sign_text, div-le_self, mod-le, length-decimal-le, and_parts, length-replicate, All-from_recursion, All-head, All-tail, joined, left, right, padded, fixed, has, is_printable, IsText}
 pub use Rattle.std.proofs.lemmas.Bool.{and_parts as both}
 
 -- ---- no line feed

@@ -1,6 +1,5 @@
 -- Numbers of two digits, in lanes of two bytes.
-use Rattle.rinex_file.proofs.Names.{arith, ◌≡◌, ap, refl, eqb, not, cond, ℕ, zero, suc, ◌+◌, ◌*◌, ◌/◌, ◌%◌, ◌^◌, ◌<◌, ◌≤◌, List, [], ◌∷◌, map, length, take, get_or, ⊤, count_trailing_zeros, under, ne_eqb, length-map, mask_l-mod, length-zip2, leading}
-use lib.Lanes.{number_l, digits_l, mask_l, top, zip2}
+use Rattle.rinex_file.proofs.Names.{number_l, digits_l, mask_l, top, zip2, arith, ◌≡◌, ap, refl, eqb, not, cond, ℕ, zero, suc, ◌+◌, ◌*◌, ◌/◌, ◌%◌, ◌^◌, ◌<◌, ◌≤◌, List, [], ◌∷◌, map, length, take, get_or, ⊤, count_trailing_zeros, under, ne_eqb, length-map, mask_l-mod, length-zip2, leading}
 
 -- a lane with its tens in the upper byte and its ones in the lower
 abbrev pub lane : ℕ → ℕ

@@ -1,8 +1,7 @@
 -- The columns of a value: blanks, a sign, digits, a point and three digits.
-use Rattle.rinex_columns.proofs.NumberLaws.{length-right}
 use Rattle.rinex_file.proofs.Digits.Padded.{empty_columns, three_digits}
 use Rattle.rinex_file.proofs.Rows.Sizes.{length-value}
-use Rattle.rinex_file.proofs.Names.{arith, ◌≡◌, ◌∙◌, sym, ap, ap₂, refl, ℕ, zero, suc, ◌+◌, ◌-◌, ◌/◌, ◌%◌, ◌^◌, ◌<◌, ◌≤◌, List, [], ◌∷◌, ◌++◌, length, replicate, append_assoc, append-nil, length-append, decimal, ℤ, unsigned_abs, true, false, Bool, set, Some, is_negative, sign_text, length-decimal-le, set_at, ints, FitsColumns, padded, right, fixed, field, empty_column}
+use Rattle.rinex_file.proofs.Names.{length-right, arith, ◌≡◌, ◌∙◌, sym, ap, ap₂, refl, ℕ, zero, suc, ◌+◌, ◌-◌, ◌/◌, ◌%◌, ◌^◌, ◌<◌, ◌≤◌, List, [], ◌∷◌, ◌++◌, length, replicate, append_assoc, append-nil, length-append, decimal, ℤ, unsigned_abs, true, false, Bool, set, Some, is_negative, sign_text, length-decimal-le, set_at, ints, FitsColumns, padded, right, fixed, field, empty_column}
 
 -- ---- the size of a value
 

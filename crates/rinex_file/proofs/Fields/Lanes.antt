@@ -1,7 +1,6 @@
 -- The columns of a field as lanes: their digits, and the size of which they are.
 use Rattle.rinex_file.proofs.Fields.Templates.{added}
-use Rattle.rinex_file.proofs.Names.{arith, ◌≡◌, ◌∙◌, ap, refl, subst, ℕ, zero, suc, ◌+◌, ◌-◌, ◌*◌, ◌/◌, ◌%◌, ◌^◌, ◌<◌, ◌≤◌, List, [], ◌∷◌, ◌++◌, length, get_or, replicate, take, drop, Fits, w8, Bool, pow-suc, take-take, get_or-take, get_or-drop, length-drop, length-take-le, AreBelow, AreWithin, digit_columns, template, twos_of, LIMITS}
-use lib.Lanes.{number_l, digits_l, pick_l, zip2, Each1, chunk}
+use Rattle.rinex_file.proofs.Names.{number_l, digits_l, pick_l, zip2, Each1, chunk, arith, ◌≡◌, ◌∙◌, ap, refl, subst, ℕ, zero, suc, ◌+◌, ◌-◌, ◌*◌, ◌/◌, ◌%◌, ◌^◌, ◌<◌, ◌≤◌, List, [], ◌∷◌, ◌++◌, length, get_or, replicate, take, drop, Fits, w8, Bool, pow-suc, take-take, get_or-take, get_or-drop, length-drop, length-take-le, AreBelow, AreWithin, digit_columns, template, twos_of, LIMITS}
 
 -- ---- numbers of two digits
 

@@ -1,13 +1,11 @@
 -- The value in the columns of a field: only its template leaves the digits of a size whose first digit is in its place.
-use Rattle.rinex_columns.proofs.NumberLaws.{not_negative}
 use Rattle.rinex_file.proofs.Digits.Padded.{empty_columns}
 use Rattle.rinex_file.proofs.Fields.Columns.{blank_columns, last_minus, empty_columns_are, field_text, within_columns}
 use Rattle.rinex_file.proofs.Fields.Lanes.{taken, below_at, added_back, taken_back, template_below, tenth_below}
 use Rattle.rinex_file.proofs.Fields.Templates.{added, front, start_is, leading-le, length-template, sign_before, value_columns}
 use Rattle.rinex_file.proofs.OneReading.{field_parts}
-use Rattle.rinex_file.proofs.Names.{common_steps, arith, ◌≡◌, ◌∙◌, sym, ap, ap₂, refl, subst, cond, ℕ, zero, suc, ◌+◌, ◌-◌, ◌*◌, ◌/◌, ◌%◌, ◌^◌, ◌<◌, ◌≤◌, List, [], ◌∷◌, ◌++◌, map, length, get_or, replicate, drop, take, decimal, append_assoc, true, false, eqb, not, inl, inr, ℤ, pos, unsigned_abs, Some, w8, Bool, ◌==◌, if◌then◌else◌, neg_ℤ, nat_lt, prefix_len, is_negative, cases_Bool, eqb-true, ne_eqb, ints, decimal_digit, first_decimal, length-map, prefix_len-le-length, bitmask_splat, first_set_mask_l, mask_l-mod, length-zip2, drop_all, drop_more, get_or-drop, get_or-zip2, add-one, FitsColumns, field, AreBelow, AreWithin, blanks, digit_columns, empty_column, has_minus, leading, template, LIMITS, le-ltb, ltb-false}
+use Rattle.rinex_file.proofs.Names.{not_negative, zip2, mask_l, top, common_steps, arith, ◌≡◌, ◌∙◌, sym, ap, ap₂, refl, subst, cond, ℕ, zero, suc, ◌+◌, ◌-◌, ◌*◌, ◌/◌, ◌%◌, ◌^◌, ◌<◌, ◌≤◌, List, [], ◌∷◌, ◌++◌, map, length, get_or, replicate, drop, take, decimal, append_assoc, true, false, eqb, not, inl, inr, ℤ, pos, unsigned_abs, Some, w8, Bool, ◌==◌, if◌then◌else◌, neg_ℤ, nat_lt, prefix_len, is_negative, cases_Bool, eqb-true, ne_eqb, ints, decimal_digit, first_decimal, length-map, prefix_len-le-length, bitmask_splat, first_set_mask_l, mask_l-mod, length-zip2, drop_all, drop_more, get_or-drop, get_or-zip2, add-one, FitsColumns, field, AreBelow, AreWithin, blanks, digit_columns, empty_column, has_minus, leading, template, LIMITS, le-ltb, ltb-false}
 use lib.Count.{count_trailing_zeros}
-use lib.Lanes.{zip2, mask_l, top}
 
 -- ---- lanes that are not above their limits
 

@@ -1,15 +1,9 @@
 -- The letter of some systems; and which systems may be planned by it.
-use Rattle.std.proofs.lemmas.List.Elements.{filter_agree}
 use Rattle.std.proofs.lemmas.Map.Views.{any-filter_same}
-use Rattle.std.specs.List.{list_any}
-use Rattle.gnss_system.specs.Systems.{is_system}
-use Rattle.gnss_system.proofs.SystemLaws.{any_system, equal_indices, letter_back, system_same, systems_taken}
-use Rattle.gnss_system.specs.Satellites.{system_of_letter}
-use Rattle.std.proofs.lemmas.Bool.{le-leb}
 use Rattle.rinex_file.proofs.HeaderRows.Places.{number_known}
 use Rattle.rinex_file.proofs.HeaderRows.Agree.{less_or}
 use Rattle.rinex_file.proofs.HeaderRows.Texts.{equal_or}
-use Rattle.rinex_file.proofs.Names.{AreUnread, Types, first_types, nat_le, arith, refl, sym, ap, ap₂, subst, ◌≡◌, ◌∙◌, ℕ, ◌+◌, ◌<◌, ◌≤◌, ◌==◌, ◌&&◌, ◌||◌, cond, Bool, true, false, List, [], ◌∷◌, length, nat_lt, nat_tests, lit<, filter, System, letter, PlanValue, planned_of, systems, is_planned, letter_of, flagged_letter, systems_letter, Known, IsShown, Shown, Has, counted, is_chosen, fits, same_Some, if◌then◌else◌, index_of, take, filter-append, append-nil, ◌++◌, All, All-head, filter_passes, eq-eqb, lt-ltb, or_right}
+use Rattle.rinex_file.proofs.Names.{filter_agree, is_system, system_of_letter, any_system, equal_indices, letter_back, system_same, systems_taken, list_any, le-leb, AreUnread, Types, first_types, nat_le, arith, refl, sym, ap, ap₂, subst, ◌≡◌, ◌∙◌, ℕ, ◌+◌, ◌<◌, ◌≤◌, ◌==◌, ◌&&◌, ◌||◌, cond, Bool, true, false, List, [], ◌∷◌, length, nat_lt, nat_tests, lit<, filter, System, letter, PlanValue, planned_of, systems, is_planned, letter_of, flagged_letter, systems_letter, Known, IsShown, Shown, Has, counted, is_chosen, fits, same_Some, if◌then◌else◌, index_of, take, filter-append, append-nil, ◌++◌, All, All-head, filter_passes, eq-eqb, lt-ltb, or_right}
 
 -- ---- letters
 

@@ -1,7 +1,5 @@
 -- The items of a list in lines, before and after one of its lines.
-use Rattle.rinex_file.specs.inner.Read.HeaderSteps.{IsLineOf, TakesItems}
-use Rattle.rinex_file.specs.inner.Read.Progress.{AreSameItems}
-use Rattle.rinex_file.proofs.Names.{header_line, replicate, joined, left, append_assoc, ◌++◌, ◌∷◌, [], ◌-◌, ◌+◌, get_or, drop, drop_at, drop-drop, flat_map, min, length-take, length-drop, get_or-take, get_or-drop, refl, arith, ◌≡◌, ◌∙◌, ap, sym, ℕ, zero, suc, ◌<◌, ◌≤◌, ◌↔◌, List, length, take, take_all, take-take, nil_from_length}
+use Rattle.rinex_file.proofs.Names.{IsLineOf, TakesItems, AreSameItems, header_line, replicate, joined, left, append_assoc, ◌++◌, ◌∷◌, [], ◌-◌, ◌+◌, get_or, drop, drop_at, drop-drop, flat_map, min, length-take, length-drop, get_or-take, get_or-drop, refl, arith, ◌≡◌, ◌∙◌, ap, sym, ℕ, zero, suc, ◌<◌, ◌≤◌, ◌↔◌, List, length, take, take_all, take-take, nil_from_length}
 
 -- items that are the first of others
 pub up_to : {X : Type 0} (n : ℕ) (new all : List X) → new ≡ take n all → take n all ≡ take n new

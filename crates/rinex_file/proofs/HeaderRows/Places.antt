@@ -1,9 +1,7 @@
 -- The rows of types and of slots, and where they are.
-use Rattle.gnss_system.proofs.CheckedLaws.{passes_below}
-use Rattle.gnss_system.proofs.SystemLaws.{each_system, system_same}
 use Rattle.rinex_file.proofs.HeaderRows.Agree.{placed}
 use Rattle.rinex_file.proofs.PlainTexts.{both}
-use Rattle.rinex_file.proofs.Names.{first_types, Has, HasRow, Known, Shown, ap₂, counted, length, lit<, planned_of, subst, arith, ◌≡◌, ◌∙◌, sym, ap, refl, ℕ, zero, suc, ◌<◌, Bool, true, false, ◌==◌, ◌&&◌, nat_lt, System, passes_at, HeaderRow, Types, StrengthUnit, row_at, row_count, row_place, most_type_rows, is_system, is_equal, is_less, Slots}
+use Rattle.rinex_file.proofs.Names.{each_system, system_same, passes_below, first_types, Has, HasRow, Known, Shown, ap₂, counted, length, lit<, planned_of, subst, arith, ◌≡◌, ◌∙◌, sym, ap, refl, ℕ, zero, suc, ◌<◌, Bool, true, false, ◌==◌, ◌&&◌, nat_lt, System, passes_at, HeaderRow, Types, StrengthUnit, row_at, row_count, row_place, most_type_rows, is_system, is_equal, is_less, Slots}
 
 -- a line of a list is one of the first six, or four
 abbrev few_lines : HeaderRow → Bool

@@ -1,14 +1,12 @@
 -- The lines of a header are lines, and none is longer than the largest line that is read.
 use Rattle.gnss_system.specs.declared.tables.ListedSignal.{ListedSignal as TableEntry}
-use Rattle.gnss_obs.specs.Weeks.{day as day_length}
 use Rattle.gnss_obs.proofs.WalkLaws.{date_of_is, hours}
-use Rattle.gnss_obs.specs.Dates.{IsCivil}
 use Rattle.rinex_file.proofs.HeaderRows.Agree.{at_most_a_day}
 use Rattle.rinex_file.proofs.Reading.Epochs.{few_signals_of}
 use Rattle.rinex_file.proofs.HeaderRows.Texts.{each_field, few_columns}
 use Rattle.rinex_file.proofs.HeaderRows.Slots.{slots_are, slots_room}
 use Rattle.rinex_file.proofs.PlainTexts.{both, IsPlain, plain-wider, plain-append, plain-left, plain-right, plain-decimal, plain-fixed, plain-padded, plain, plain-flat_map, plain-joined, also, plain-text}
-use Rattle.rinex_file.proofs.Names.{arith, lit≤, lit<, ◌≡◌, ap, refl, subst, ℕ, zero, suc, ◌+◌, ◌*◌, ◌/◌, ◌%◌, ◌^◌, ◌<◌, ◌≤◌, ℤ, pos, unsigned_abs, Bool, true, false, List, [], ◌∷◌, ◌++◌, length, take, drop, decimal, get_or, append_assoc, length-append, ◌==◌, ◌||◌, ◌&&◌, not, nat_le, flat_map, All, codes, slice_get, AllByRecursion, list_all, option_map_or, cond_both, ints, length-take, All-nil, All-head, All-tail, All-cons, All-append, All-map, All-take, All-drop, All-replicate, code_of, System, StationValues, Civil, civil_of, PlanValue, planned_of, HeaderField, HeaderRow, Version, Texts, Position, Delta, Types, StrengthUnit, First, Shift, End, IsLine, AreTexts, AreValues, IsTime, IsCoordinate, header_line, version_fields, version_line, lengths, first_line, text_columns, texts_line, types_of, type_front, type_columns, codes_of, row_line, row_lines, has_line, all_rows, header_lines, position_line, delta_line, letter, joined, left, right, fixed, has, HeaderLists, width_of, text_of, fields_of, label_of, front_of, common_steps, most_line, most_signals, systems_letter, is_planned, letter_of, systems, filter, padded, most_number, slot_count, nat_tests, AreSlots, SlotNumber, channel_text, slot_text, slots_columns, slots_front, slots_line, slots_of, Slots, Biases, Shown, IsShown, Interval, IsInterval, IfSome, Option, Some, None, unwrap_or, interval_line, at_most, types_line}
+use Rattle.rinex_file.proofs.Names.{day_length, IsCivil, arith, lit≤, lit<, ◌≡◌, ap, refl, subst, ℕ, zero, suc, ◌+◌, ◌*◌, ◌/◌, ◌%◌, ◌^◌, ◌<◌, ◌≤◌, ℤ, pos, unsigned_abs, Bool, true, false, List, [], ◌∷◌, ◌++◌, length, take, drop, decimal, get_or, append_assoc, length-append, ◌==◌, ◌||◌, ◌&&◌, not, nat_le, flat_map, All, codes, slice_get, AllByRecursion, list_all, option_map_or, cond_both, ints, length-take, All-nil, All-head, All-tail, All-cons, All-append, All-map, All-take, All-drop, All-replicate, code_of, System, StationValues, Civil, civil_of, PlanValue, planned_of, HeaderField, HeaderRow, Version, Texts, Position, Delta, Types, StrengthUnit, First, Shift, End, IsLine, AreTexts, AreValues, IsTime, IsCoordinate, header_line, version_fields, version_line, lengths, first_line, text_columns, texts_line, types_of, type_front, type_columns, codes_of, row_line, row_lines, has_line, all_rows, header_lines, position_line, delta_line, letter, joined, left, right, fixed, has, HeaderLists, width_of, text_of, fields_of, label_of, front_of, common_steps, most_line, most_signals, systems_letter, is_planned, letter_of, systems, filter, padded, most_number, slot_count, nat_tests, AreSlots, SlotNumber, channel_text, slot_text, slots_columns, slots_front, slots_line, slots_of, Slots, Biases, Shown, IsShown, Interval, IsInterval, IfSome, Option, Some, None, unwrap_or, interval_line, at_most, types_line}
 
 -- ---- a line of a file
 

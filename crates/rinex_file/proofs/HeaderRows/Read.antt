@@ -1,8 +1,4 @@
 -- What is known after each line of a header.
-use Rattle.rinex_file.specs.inner.Read.HeaderSteps.{IsLineOfTypes, IsThere}
-use Rattle.gnss_system.specs.declared.system.System.TheVariants.{Glonass}
-use Rattle.rinex_file.specs.Slots.{AreSlots}
-use Rattle.gnss_system.proofs.SystemLaws.{value_after, value_of_other}
 use Rattle.rinex_file.proofs.HeaderRows.Agree.{at_most_a_day, interval-back, types_shown}
 use Rattle.rinex_file.proofs.HeaderRows.Lists.{go_on, line_after_same, same_after, same_before}
 use Rattle.rinex_file.proofs.HeaderRows.Slots.{same_slots_line, slots_are}
@@ -10,7 +6,7 @@ use Rattle.rinex_file.proofs.HeaderRows.Types.{same_types_line}
 use Rattle.rinex_file.proofs.HeaderRows.Places.{either, slots_here, types_here}
 use Rattle.rinex_file.proofs.HeaderRows.Steps.{left_over}
 use Rattle.rinex_file.proofs.HeaderRows.Texts.{each_field, field_back, is_apart, same_here, same_line, same_some, kept_texts, same_texts, texts_back}
-use Rattle.rinex_file.proofs.Names.{AreListsAt, IsRowRead, IsRowUnread, arith, ◌≡◌, ◌∙◌, sym, ap, refl, subst, ℕ, suc, ◌+◌, ◌<◌, ◌≤◌, Bool, true, false, List, [], ◌∷◌, length, take, min, ◌↔◌, ◌^◌, Option, Some, None, IsTrue, codes, list_all, take-map, SignalAt, table, System, is_less, is_system, indices, planned_of, civil_of, StationValues, length_indices, Types, Version, Texts, Position, Delta, StrengthUnit, First, Shift, row_line, has_line, type_rows, position_line, row_place, header_line, height_line, first_line, strength_line, version_by, Known, Has, HasRow, AreSameTexts, counted, systems_letter, AreTypes, signals_begun, IsPosition, position_of, Shown, IsShown, TakesTypes, RefusesTypes, with_types, IsHeaderLineRead, RefusesHeaderLine, ReadsOrRefuses, ReadsTexts, RefusesTexts, with_texts, with_values, with_first, with_letter, HeaderField, HeaderRow, HeaderLists, fields_of, front_of, IsTime, letter, ReadsExactly, same_Some, ⊤, Slots, Biases, biases_line, slots_line, slots_with, slots_of, slots_begun, known_slots, with_slots, AreItemsBefore, AreSameItems, types_with, most_type_rows, IsLineOfSlots, TakesSlots, TakesOrRefusesSlots, ChannelsValue, add-one, has_text, is_required, not-true, fields, is_equal, place_of, ◌==◌, ◌||◌, Interval, IsInterval, IfSome, is_some, interval_line, unwrap_or, with_interval, lit≤, digits_in, drop}
+use Rattle.rinex_file.proofs.Names.{value_after, value_of_other, IsLineOfTypes, IsThere, Glonass, AreSlots, AreListsAt, IsRowRead, IsRowUnread, arith, ◌≡◌, ◌∙◌, sym, ap, refl, subst, ℕ, suc, ◌+◌, ◌<◌, ◌≤◌, Bool, true, false, List, [], ◌∷◌, length, take, min, ◌↔◌, ◌^◌, Option, Some, None, IsTrue, codes, list_all, take-map, SignalAt, table, System, is_less, is_system, indices, planned_of, civil_of, StationValues, length_indices, Types, Version, Texts, Position, Delta, StrengthUnit, First, Shift, row_line, has_line, type_rows, position_line, row_place, header_line, height_line, first_line, strength_line, version_by, Known, Has, HasRow, AreSameTexts, counted, systems_letter, AreTypes, signals_begun, IsPosition, position_of, Shown, IsShown, TakesTypes, RefusesTypes, with_types, IsHeaderLineRead, RefusesHeaderLine, ReadsOrRefuses, ReadsTexts, RefusesTexts, with_texts, with_values, with_first, with_letter, HeaderField, HeaderRow, HeaderLists, fields_of, front_of, IsTime, letter, ReadsExactly, same_Some, ⊤, Slots, Biases, biases_line, slots_line, slots_with, slots_of, slots_begun, known_slots, with_slots, AreItemsBefore, AreSameItems, types_with, most_type_rows, IsLineOfSlots, TakesSlots, TakesOrRefusesSlots, ChannelsValue, add-one, has_text, is_required, not-true, fields, is_equal, place_of, ◌==◌, ◌||◌, Interval, IsInterval, IfSome, is_some, interval_line, unwrap_or, with_interval, lit≤, digits_in, drop}
 
 -- ---- types
 

@@ -1,14 +1,11 @@
 -- Some header has what was read.
-use Rattle.gnss_system.proofs.SystemLaws.{value_tabulated}
-use Rattle.gnss_system.specs.SystemValues.{tabulate}
 use Rattle.rinex_file.proofs.HeaderRows.Letters.{flagged, same_flags}
 use Rattle.rinex_file.proofs.HeaderRows.Texts.{equal_or, same_here}
-use Rattle.gnss_system.specs.declared.system.System.TheVariants.{Glonass}
 use Rattle.rinex_file.proofs.HeaderRows.Slots.{More, more_slots, no_channels_are, same_channels}
 use Rattle.rinex_file.proofs.HeaderRows.Agree.{less_or}
 use Rattle.rinex_file.proofs.HeaderRows.Places.{place_at}
 use Rattle.rinex_file.proofs.PlainTexts.{both}
-use Rattle.rinex_file.proofs.Names.{not, nat_le, first_types, slots_begun, IsRowRead, take_at, Types, All, All-cons, All-nil, All-push, Bool, Delta, First, Has, HasRow, HeaderRow, IsDistinct, IsDistinct-push, IsHeadAt, IsShown, Known, List, PlanValue, Position, System, Texts, Version, ap, arith, counted, eqb, false, fields_of, flagged_letter, is_chosen, is_equal, is_less, is_planned, le-length_from_below, length, length-append, letter, list_any, min, nat_eq, nat_eq_equiv, nat_lt, nat_tests, nil_from_length, planned_of, refl, row_at, shown_with, signals_begun, subst, suc, sym, systems_letter, table, take, take-append_seam, take-take, take_all, true, zero, ◌&&◌, ◌++◌, ◌+◌, ◌-◌, ◌<◌, ◌==◌, ◌||◌, ◌∙◌, ◌∷◌, ◌≡◌, ◌≤◌, [], ℕ, lit<, Slots, SlotNumber, known_slots, slots_of, no_channels, lt-ltb, or_right, Interval}
+use Rattle.rinex_file.proofs.Names.{value_tabulated, tabulate, Glonass, not, nat_le, first_types, slots_begun, IsRowRead, take_at, Types, All, All-cons, All-nil, All-push, Bool, Delta, First, Has, HasRow, HeaderRow, IsDistinct, IsDistinct-push, IsHeadAt, IsShown, Known, List, PlanValue, Position, System, Texts, Version, ap, arith, counted, eqb, false, fields_of, flagged_letter, is_chosen, is_equal, is_less, is_planned, le-length_from_below, length, length-append, letter, list_any, min, nat_eq, nat_eq_equiv, nat_lt, nat_tests, nil_from_length, planned_of, refl, row_at, shown_with, signals_begun, subst, suc, sym, systems_letter, table, take, take-append_seam, take-take, take_all, true, zero, ◌&&◌, ◌++◌, ◌+◌, ◌-◌, ◌<◌, ◌==◌, ◌||◌, ◌∙◌, ◌∷◌, ◌≡◌, ◌≤◌, [], ℕ, lit<, Slots, SlotNumber, known_slots, slots_of, no_channels, lt-ltb, or_right, Interval}
 
 -- ---- signals of a system, with others up to a number
 

@@ -4,9 +4,8 @@ use Rattle.rinex_file.specs.declared.read.fault.ReadFault.TheVariants.{Memory}
 use Rattle.rinex_file.proofs.FileLines.{lines_are_lines, lines_are_short}
 use Rattle.rinex_file.proofs.Reading.Header.{text_header, begin_whole, begun_with, row_expected}
 use Rattle.rinex_file.proofs.Reading.Epochs.{sound_open}
-use Rattle.rinex_file.specs.inner.Read.EpochSteps.{HasReadPartAt}
 use Rattle.rinex_file.proofs.Reading.Lines.{both_said, only_faults, said_of, consumed, none_ahead, splits}
-use Rattle.rinex_file.proofs.Names.{append_assoc, inr, is_some, true, ◌+◌, ReadsNextLine, Ok, None, Some, AddsOrEnds, ReadFault, ExpectsHeader, ExpectsRow, Adds, HasReadPart, ExplainsFault, IsFaultAfter, StopsReading, HasPlan, IsEpochLine, Known, StationValues, System, IsSatelliteRow, IsStamped, AreRead, All, All-head, All-tail, plan_in, planned_in, with_read, Read, ◌∙◌, header_lines, Memory, ExplainsStored, HasHeader, IsWhole, shown_text, ◌≡◌, sym, ap, refl, subst, ℕ, List, [], ◌∷◌, ◌++◌, Option, IfSome, AddedRow, NoRow, OneRow, LastRow, Expected, Header, Epoch, EventPosition, EventHeight, EventEpoch, Satellite, ParserState, Reading, Progress, History, HasRead, HasReadTo, stamped_at, IsSoundAt, IsAt, IsSound, HasLinesLeft, progress_at, with_line, SatelliteRow, Stamped, FileValue, stamped, joined, file_lines, AreEpochsRead, AreFirstEpochs, Consumes, Consumes-trans, IsPrefix, false, has, prepend_known}
+use Rattle.rinex_file.proofs.Names.{HasReadPartAt, append_assoc, inr, is_some, true, ◌+◌, ReadsNextLine, Ok, None, Some, AddsOrEnds, ReadFault, ExpectsHeader, ExpectsRow, Adds, HasReadPart, ExplainsFault, IsFaultAfter, StopsReading, HasPlan, IsEpochLine, Known, StationValues, System, IsSatelliteRow, IsStamped, AreRead, All, All-head, All-tail, plan_in, planned_in, with_read, Read, ◌∙◌, header_lines, Memory, ExplainsStored, HasHeader, IsWhole, shown_text, ◌≡◌, sym, ap, refl, subst, ℕ, List, [], ◌∷◌, ◌++◌, Option, IfSome, AddedRow, NoRow, OneRow, LastRow, Expected, Header, Epoch, EventPosition, EventHeight, EventEpoch, Satellite, ParserState, Reading, Progress, History, HasRead, HasReadTo, stamped_at, IsSoundAt, IsAt, IsSound, HasLinesLeft, progress_at, with_line, SatelliteRow, Stamped, FileValue, stamped, joined, file_lines, AreEpochsRead, AreFirstEpochs, Consumes, Consumes-trans, IsPrefix, false, has, prepend_known}
 
 -- a file that continues after what was read begins with the epochs that were read
 at_left : (s : Progress) (expected : Expected) (v : FileValue) (left : List (List ℕ)) → IsSoundAt s expected → IsAt s expected v left → IsPrefix s.epochs v.epochs

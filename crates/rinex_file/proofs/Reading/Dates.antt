@@ -1,8 +1,6 @@
 -- A date and time of day is read back from its columns.
-use Rattle.gnss_obs.specs.Weeks.{day as day_length}
-use Rattle.rinex_columns.proofs.NumberLaws.{length-right, length-padded, length-fixed, not_negative, digits_in-right, digits_in-fixed, digits_in-padded, digits_in-whole}
 use Rattle.rinex_file.proofs.HeaderRows.Types.{content_first}
-use Rattle.rinex_file.proofs.Names.{arith, ◌≡◌, ℕ, zero, suc, ◌+◌, ◌*◌, ◌/◌, ◌%◌, ◌^◌, ◌<◌, ◌≤◌, List, [], ◌∷◌, ◌++◌, refl, sym, ap, ◌∙◌, length, get_or, take, drop, append_assoc, decimal, pos, subst, lit<, codes, min, ⊤, is_negative, sign_text, length-decimal-le, take_at, drop_at, drop-drop, div-add-mod', Civil, IsCivilOf, civil_of, joined, right, padded, fixed, digits_in, epoch_line, first_line}
+use Rattle.rinex_file.proofs.Names.{length-right, length-padded, length-fixed, not_negative, digits_in-right, digits_in-fixed, digits_in-padded, digits_in-whole, day_length, arith, ◌≡◌, ℕ, zero, suc, ◌+◌, ◌*◌, ◌/◌, ◌%◌, ◌^◌, ◌<◌, ◌≤◌, List, [], ◌∷◌, ◌++◌, refl, sym, ap, ◌∙◌, length, get_or, take, drop, append_assoc, decimal, pos, subst, lit<, codes, min, ⊤, is_negative, sign_text, length-decimal-le, take_at, drop_at, drop-drop, div-add-mod', Civil, IsCivilOf, civil_of, joined, right, padded, fixed, digits_in, epoch_line, first_line}
 pub use Rattle.std.proofs.lemmas.Option.{none-some as none_some, same_Some}
 pub use Rattle.gnss_obs.proofs.WalkLaws.{same_civil}
 

@@ -2,9 +2,8 @@
 use Rattle.rinex_file.proofs.Writing.OwnCells.{same_line}
 use Rattle.rinex_file.proofs.Writing.Satellites.{any_from, climb-drop, further, none_above}
 use Rattle.gnss_obs.specs.Order.{AreSorted}
-use Rattle.gnss_obs.specs.Values.{AreHeld}
 use Rattle.rinex_file.proofs.Writing.Sent.{lines_more, not_written}
-use Rattle.rinex_file.proofs.Names.{arith, ◌≡◌, ◌∙◌, sym, ap, refl, subst, ℕ, zero, suc, ◌+◌, ◌-◌, ◌<◌, ◌≤◌, false, List, [], ◌∷◌, ◌++◌, append-nil, length, take, drop, drop_all, drop_more, slice_index_or, Option, Appends, Appends-trans, System, Cell, PlanValue, EpochValue, Above, Climb, Left, satellites, cells_of, is_written, run, sorted_climbs, line_among, lines_up_to, line_or_none, all_above}
+use Rattle.rinex_file.proofs.Names.{AreHeld, arith, ◌≡◌, ◌∙◌, sym, ap, refl, subst, ℕ, zero, suc, ◌+◌, ◌-◌, ◌<◌, ◌≤◌, false, List, [], ◌∷◌, ◌++◌, append-nil, length, take, drop, drop_all, drop_more, slice_index_or, Option, Appends, Appends-trans, System, Cell, PlanValue, EpochValue, Above, Climb, Left, satellites, cells_of, is_written, run, sorted_climbs, line_among, lines_up_to, line_or_none, all_above}
 
 -- the lines of the satellites up to `last` were written, and the cells from `from` on are all of later ones
 pub record AreSent (p : PlanValue) (e : EpochValue) (s : System) (from : ℕ) (cells : List Cell) (a b : Option (List ℕ)) : Type 0 where

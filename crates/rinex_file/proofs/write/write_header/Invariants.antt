@@ -1,5 +1,4 @@
-use Rattle.rinex_file.proofs.Names.{◌≡◌, ◌++◌, List, ℕ, Appends, joined, shown_text}
-use Rattle.rinex_file.specs.inner.Heads.{shown_by}
+use Rattle.rinex_file.proofs.Names.{shown_by, ◌≡◌, ◌++◌, List, ℕ, Appends, joined, shown_text}
 use Rattle.rinex_file.proofs.write.write_header.Given as goal
 
 -- what was written and what is left are the whole text

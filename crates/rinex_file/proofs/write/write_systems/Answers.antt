@@ -1,7 +1,6 @@
 use Rattle.rinex_file.proofs.Rows.Columns.{blank_row}
 use Rattle.rinex_file.proofs.Writing.Sent.{lines_next, lines_after, lines_all, part_after, part_first, where_failed}
-use Rattle.rinex_file.proofs.Names.{arith, refl, Appends-nil, Appends-trans, lines_of_systems, lines_up_to, satellites}
-use Rattle.gnss_system.specs.Systems.{after}
+use Rattle.rinex_file.proofs.Names.{after, arith, refl, Appends-nil, Appends-trans, lines_of_systems, lines_up_to, satellites}
 use Rattle.rinex_file.proofs.write.write_systems.Goals as goal
 
 pub loop-i-init : goal.loop-i-init

@@ -1,5 +1,4 @@
-use Rattle.rinex_file.proofs.Names.{◌≡◌, take, Appends, lines_of_systems, IsBlankBut}
-use Rattle.gnss_system.specs.Systems.{systems}
+use Rattle.rinex_file.proofs.Names.{systems, ◌≡◌, take, Appends, lines_of_systems, IsBlankBut}
 use Rattle.rinex_file.proofs.write.write_systems.Given as goal
 
 -- the lines of the systems so far were written

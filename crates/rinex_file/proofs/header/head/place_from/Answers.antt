@@ -1,6 +1,5 @@
 use Rattle.rinex_file.proofs.HeaderRows.Agree.{line_none}
-use Rattle.rinex_file.specs.inner.Heads.{shown_by}
-use Rattle.rinex_file.proofs.Names.{arith, ◌≡◌, ◌∙◌, ◌+◌, ap, sym, suc, false, row_at, has_line, lines_after}
+use Rattle.rinex_file.proofs.Names.{shown_by, arith, ◌≡◌, ◌∙◌, ◌+◌, ap, sym, suc, false, row_at, has_line, lines_after}
 use Rattle.rinex_file.proofs.header.head.place_from.Goals as goal
 
 pub loop-place-preserved : goal.loop-place-preserved

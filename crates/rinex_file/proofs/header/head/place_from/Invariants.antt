@@ -1,5 +1,4 @@
-use Rattle.rinex_file.specs.inner.Heads.{shown_by}
-use Rattle.rinex_file.proofs.Names.{◌≡◌, lines_after}
+use Rattle.rinex_file.proofs.Names.{shown_by, ◌≡◌, lines_after}
 use Rattle.rinex_file.proofs.header.head.place_from.Given as goal
 
 -- the lines from here on are those that were left

@@ -1,6 +1,5 @@
-use Rattle.gnss_system.specs.SystemValues.{value_of}
 use Rattle.rinex_file.proofs.HeaderRows.Letters.{same_flags}
-use Rattle.rinex_file.proofs.Names.{rules, ◌∙◌, is_planned}
+use Rattle.rinex_file.proofs.Names.{value_of, rules, ◌∙◌, is_planned}
 use Rattle.rinex_file.proofs.header.head.systems_letter.Goals as goal
 
 pub returns : goal.returns

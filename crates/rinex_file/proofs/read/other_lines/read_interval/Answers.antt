@@ -1,7 +1,6 @@
 use Rattle.rinex_file.proofs.Judged.{exactly}
 use Rattle.rinex_file.proofs.HeaderRows.Agree.{at_most_a_day, interval-back}
-use Rattle.rinex_file.proofs.Names.{rules, arith, ◌≡◌, ◌∙◌, sym, ap, ℕ, List, take, drop, Option, IsInterval, interval_line, digits_in, min, none-some, same_Some}
-use Rattle.std.specs.Prelude.{IsSome, IfSome, ◌↔◌, Some}
+use Rattle.rinex_file.proofs.Names.{IsSome, IfSome, ◌↔◌, Some, rules, arith, ◌≡◌, ◌∙◌, sym, ap, ℕ, List, take, drop, Option, IsInterval, interval_line, digits_in, min, none-some, same_Some}
 use Rattle.rinex_file.proofs.read.other_lines.read_interval.Goals as goal
 
 -- the first columns of the line of an interval contain the interval

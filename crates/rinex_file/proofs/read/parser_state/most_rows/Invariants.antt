@@ -1,6 +1,4 @@
-use Rattle.rinex_file.proofs.Names.{◌≡◌, ◌*◌, ◌≤◌, if◌then◌else◌, nat_lt, take, satellites, most_satellites, planned_in}
-use Rattle.std.specs.List.{sum_by}
-use Rattle.gnss_system.specs.Systems.{systems}
+use Rattle.rinex_file.proofs.Names.{systems, sum_by, ◌≡◌, ◌*◌, ◌≤◌, if◌then◌else◌, nat_lt, take, satellites, most_satellites, planned_in}
 use Rattle.rinex_file.proofs.read.parser_state.most_rows.Given as goal
 
 abbrev pub invariant-loop-i : goal.invariant-loop-i

@@ -1,4 +1,4 @@
-use Rattle.std.proofs.Common.{◌∙◌, ap, length}
+use Rattle.rinex_file.proofs.Names.{◌∙◌, ap, length}
 use Rattle.rinex_file.proofs.Rows.Cut.{blank_written, length-signal}
 use Rattle.rinex_file.proofs.OneReading.{blank_read}
 use Rattle.rinex_file.proofs.read.row.written_at.Goals as goal

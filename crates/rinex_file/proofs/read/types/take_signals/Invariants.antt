@@ -1,5 +1,4 @@
-use Rattle.rinex_file.specs.inner.Read.HeaderSteps.{IsLineOfTypes}
-use Rattle.rinex_file.proofs.Names.{ℕ, List, ◌≡◌, ◌≤◌, length, take, indices, IsOf, signals_begun}
+use Rattle.rinex_file.proofs.Names.{IsLineOfTypes, ℕ, List, ◌≡◌, ◌≤◌, length, take, indices, IsOf, signals_begun}
 use Rattle.rinex_file.proofs.read.types.take_signals.Given as goal
 
 -- if the line is that of these signals, those so far were appended

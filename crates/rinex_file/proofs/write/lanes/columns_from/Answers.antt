@@ -1,6 +1,5 @@
 use Rattle.rinex_file.proofs.Fields.Templates.{added, sign_before, value_columns}
-use Rattle.rinex_file.proofs.Names.{◌∙◌, sym, ap, ap₂, subst, ℕ, ◌≤◌, take, length-zip2, leading, template}
-use lib.Lanes.{zip2}
+use Rattle.rinex_file.proofs.Names.{zip2, ◌∙◌, sym, ap, ap₂, subst, ℕ, ◌≤◌, take, length-zip2, leading, template}
 use Rattle.rinex_file.proofs.write.lanes.columns_from.Goals as goal
 
 pub returns-clause-lanes : goal.returns-clause-lanes

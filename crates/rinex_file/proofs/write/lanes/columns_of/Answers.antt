@@ -1,7 +1,6 @@
 use Rattle.rinex_file.proofs.Fields.Columns.{blank_columns, field_text}
-use Rattle.rinex_columns.proofs.NumberLaws.{not_negative}
 use Rattle.rinex_file.proofs.Digits.Padded.{empty_columns, three_digits}
-use Rattle.rinex_file.proofs.Names.{arith, ◌≡◌, ◌∙◌, sym, ap, ap₂, refl, ℕ, List, [], ◌∷◌, ◌++◌, ◌+◌, ◌/◌, ◌%◌, ◌<◌, ◌≤◌, length, replicate, decimal, pos, Some, Bool, true, false, decimal_digit, decimal_step, field, padded}
+use Rattle.rinex_file.proofs.Names.{not_negative, arith, ◌≡◌, ◌∙◌, sym, ap, ap₂, refl, ℕ, List, [], ◌∷◌, ◌++◌, ◌+◌, ◌/◌, ◌%◌, ◌<◌, ◌≤◌, length, replicate, decimal, pos, Some, Bool, true, false, decimal_digit, decimal_step, field, padded}
 use Rattle.rinex_file.proofs.write.lanes.columns_of.Goals as goal
 
 -- a point, the digits of thousandths and two blanks

@@ -1,4 +1,4 @@
-use Rattle.std.proofs.Common.{arith, ◌∙◌, ap, []}
+use Rattle.rinex_file.proofs.Names.{arith, ◌∙◌, ap, []}
 use Rattle.rinex_file.proofs.Digits.Lanes.{four, eight, bytes_of, ones_and_tens}
 use Rattle.rinex_file.proofs.write.lanes.ones.Goals as goal
 

@@ -1,4 +1,4 @@
-use Rattle.std.proofs.Common.{arith}
+use Rattle.rinex_file.proofs.Names.{arith}
 use Rattle.rinex_file.proofs.Digits.Padded.{two_digits}
 use Rattle.rinex_file.proofs.Rows.Cells.{three_set, three_dropped}
 use Rattle.rinex_file.proofs.write.satellite.begin_columns.Goals as goal

@@ -1,6 +1,5 @@
 use Rattle.rinex_file.proofs.Rows.Columns.{feed_replaced}
-use Rattle.rinex_file.proofs.Names.{arith, cases_lt, length-take-le}
-use Rattle.std.proofs.lemmas.List.{get_or-take}
+use Rattle.rinex_file.proofs.Names.{get_or-take, arith, cases_lt, length-take-le}
 use Rattle.rinex_file.proofs.write.satellite.end_columns.Goals as goal
 
 pub returns-clause-blank : goal.returns-clause-blank

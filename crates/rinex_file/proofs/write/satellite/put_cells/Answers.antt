@@ -3,8 +3,7 @@
 use Rattle.rinex_file.proofs.Rows.Cells.{no_place, others_stay, other_stays, cell_put, held_fits}
 use Rattle.rinex_file.proofs.Rows.Columns.{few_with, no_cells, value_put}
 use Rattle.rinex_file.proofs.write.satellite.put_cells.Goals.{After-list-signals, else-id-via-else-id, else-id-via-then-id+in-None-1}
-use Rattle.rinex_file.proofs.Names.{arith, ◌≡◌, ◌∙◌, refl, sym, ap, subst, ◌-◌, ◌<◌, ◌≤◌, ◌∷◌, ℕ, List, length, drop, false, slice_index_or, ◌==◌, nat_eq, IsDistinct, drop_more, length-map, position, position-Some, Some, Cell, SignalAt, IsHeld, planned_of, few_signals, SignalValues, signal_values_at, entries_of, signal_values_of, most_signals, HasColumns, ◌*◌, ◌^◌, ◌%◌, short_table}
-use Rattle.std.specs.Int.RustNames.{bit_or}
+use Rattle.rinex_file.proofs.Names.{bit_or, arith, ◌≡◌, ◌∙◌, refl, sym, ap, subst, ◌-◌, ◌<◌, ◌≤◌, ◌∷◌, ℕ, List, length, drop, false, slice_index_or, ◌==◌, nat_eq, IsDistinct, drop_more, length-map, position, position-Some, Some, Cell, SignalAt, IsHeld, planned_of, few_signals, SignalValues, signal_values_at, entries_of, signal_values_of, most_signals, HasColumns, ◌*◌, ◌^◌, ◌%◌, short_table}
 use Rattle.rinex_file.proofs.write.satellite.put_cells.Goals as goal
 
 more : (cells : List Cell) (at : ℕ) (cell : Cell) → 0 < at → at ≤ length cells → cell ≡ slice_index_or cells (at - 1) cell → drop (at - 1) cells ≡ cell ∷ drop at cells

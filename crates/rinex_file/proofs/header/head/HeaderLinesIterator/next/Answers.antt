@@ -1,7 +1,6 @@
 use Rattle.rinex_file.proofs.HeaderRows.Agree.{line_next}
 use Rattle.rinex_file.proofs.header.head.HeaderLinesIterator.next.Goals.{After-line_of}
-use Rattle.rinex_file.specs.inner.Heads.{shown_by}
-use Rattle.rinex_file.proofs.Names.{arith, ◌≡◌, ◌∙◌, sym, ap, ◌∷◌, ◌+◌, ◌<◌, ℕ, suc, List, length, lines_after, row_line, row_at}
+use Rattle.rinex_file.proofs.Names.{shown_by, arith, ◌≡◌, ◌∙◌, sym, ap, ◌∷◌, ◌+◌, ◌<◌, ℕ, suc, List, length, lines_after, row_line, row_at}
 use Rattle.rinex_file.proofs.header.head.HeaderLinesIterator.next.Goals as goal
 
 pub returns-in_err-place-clause-steps : goal.returns-in_err-place-clause-steps

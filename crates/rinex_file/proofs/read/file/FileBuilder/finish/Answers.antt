@@ -1,12 +1,7 @@
 use Rattle.std.specs.Borrow.{Bor}
-use Rattle.gnss_system.proofs.SystemLaws.{tabulated_same, value_mapped}
-use Rattle.gnss_system.specs.SystemValues.{map_by, value_of}
 use Rattle.gnss_system.specs.declared.by_system.BySystem.{BySystem}
-use Rattle.gnss_system.specs.declared.system.System.TheVariants.{Glonass}
-use Rattle.gnss_obs.specs.Plans.{with_channels}
-use Rattle.gnss_obs.specs.Values.{plan_with}
 use Rattle.rinex_file.specs.declared.read.types.TypesSoFar.{TypesSoFar}
-use Rattle.rinex_file.proofs.Names.{arith, common_steps, rules, ◌≡◌, ◌∙◌, [], ap, indices, no_channels, planned_of, subst, sym, ChannelsValue, Known, List, PlanValue, SignalAt, System, ℕ}
+use Rattle.rinex_file.proofs.Names.{plan_with, tabulated_same, value_mapped, map_by, value_of, Glonass, with_channels, arith, common_steps, rules, ◌≡◌, ◌∙◌, [], ap, indices, no_channels, planned_of, subst, sym, ChannelsValue, Known, List, PlanValue, SignalAt, System, ℕ}
 use Rattle.rinex_file.proofs.read.file.FileBuilder.finish.Goals as goal
 
 abbrev made : BySystem (List ℕ) → ChannelsValue → PlanValue

@@ -1,5 +1,4 @@
-use Rattle.std.proofs.Common.{refl}
-use Rattle.gnss_system.specs.SystemValues.{value_of}
+use Rattle.rinex_file.proofs.Names.{refl, value_of}
 use Rattle.rinex_file.proofs.HeaderRows.End.{valid_by}
 use Rattle.rinex_file.proofs.read.head_so_far.HeadSoFar.are_valid.Goals as goal
 

@@ -1,6 +1,5 @@
-use Rattle.gnss_system.specs.SystemValues.{value_of}
 use Rattle.rinex_file.proofs.HeaderRows.Letters.{same_flags}
-use Rattle.rinex_file.proofs.Names.{arith, rules, ◌∙◌, is_chosen}
+use Rattle.rinex_file.proofs.Names.{value_of, arith, rules, ◌∙◌, is_chosen}
 use Rattle.rinex_file.proofs.read.head_so_far.HeadSoFar.fits.Goals as goal
 
 pub returns-then-flagged_letter-self : goal.returns-then-flagged_letter-self

@@ -1,6 +1,5 @@
-use Rattle.gnss_system.proofs.SystemLaws.{each_after}
 use Rattle.rinex_file.proofs.HeaderRows.Steps.{types_labelled}
-use Rattle.rinex_file.proofs.Names.{◌≡◌, ◌∙◌, sym, ap, true, false, is_of_types, ◌≤◌, length, table, IsOf}
+use Rattle.rinex_file.proofs.Names.{each_after, ◌≡◌, ◌∙◌, sym, ap, true, false, is_of_types, ◌≤◌, length, table, IsOf}
 use Rattle.rinex_file.proofs.read.head_so_far.HeadSoFar.take_types.Goals as goal
 
 pub invariant_of-self : goal.invariant_of-self

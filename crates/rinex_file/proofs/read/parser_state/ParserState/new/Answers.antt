@@ -1,4 +1,4 @@
-use Rattle.std.proofs.Common.{refl}
+use Rattle.rinex_file.proofs.Names.{refl}
 use Rattle.rinex_file.proofs.Reading.Header.{header_starts}
 use Rattle.rinex_file.proofs.read.parser_state.ParserState.new.Goals as goal
 
