@@ -58,7 +58,4 @@ low_first signals [] each h = absurd (omega (arith, h))
 low_first signals (s ∷ rows) each h = some_rank signals s (All-head (IsSatelliteRow signals) s rows each)
 
 pub few_rows : (signals : System → ℕ) (rows : List SatelliteRow) → AreSatelliteRows signals rows → length rows ≤ most_rows signals
-few_rows signals rows are =
-    let few = few_from signals 1 rows are.each are.rise (low_first signals rows are.each) in
-    let most = from_one signals in
-    omega (arith, few, most)
+few_rows signals rows are = omega (arith, few_from signals 1 rows are.each are.rise (low_first signals rows are.each), from_one signals)

@@ -14,8 +14,7 @@ below_all m [] ys h k r s i less = s i less
 below_all m (x ∷ []) ys h k r s zero less = let low = All-head (λ x. x < m) x [] h in let high = k 0 0 (omega (arith, less)) in omega (arith, low, high)
 below_all m (x ∷ []) ys h k r s (suc j) less = grind (arith, (s j (omega (arith, less))))
 below_all m (x ∷ y ∷ xs) ys h k r s zero less = r 0 (omega arith)
-below_all m (x ∷ y ∷ xs) ys h k r s (suc j) less =
-    grind (arith, (below_all m (y ∷ xs) ys (All-tail (λ x. x < m) x (y ∷ xs) h) k (rise-tail x (y ∷ xs) r) s j (omega (arith, less))))
+below_all m (x ∷ y ∷ xs) ys h k r s (suc j) less = grind (arith, common_steps, All-tail, rise-tail, (below_all m (y ∷ xs) ys (All-tail (λ x. x < m) x (y ∷ xs) h) k (rise-tail x (y ∷ xs) r) s j (omega (arith, less))))
 
 -- ---- the numbers of satellites
 
@@ -64,8 +63,7 @@ speaker P (c ∷ cells) id h d e =
 -- ---- rows
 
 some_at : (o : Option ℕ) → is_some o ≡ true → (k : ℕ) × (o ≡ Some k)
-some_at None h = cc
-some_at (Some k) h = (k, refl)
+some_at o h = grind (arith, common_steps)
 
 one_says : (signals : List ℕ) (cells : List Cell) (id : ℕ) (c : Cell) → is_some (place_in c.signal signals) ≡ true → has_value c ≡ true
     → find (is_of_key id c.signal.index) cells ≡ Some c → Any (λ e. IsTrue (has_some_value e)) (map (signal_values_at cells id) signals)

@@ -47,8 +47,7 @@ value_once v w a b h k e = same_Some v w (field_once a b a b h k e)
 -- columns that are not all blank are those of a value
 pub value_of : {xs : List ℕ} (w : Option ℤ) (lost strength : ℕ) {n : ℕ} → IfSome w FitsColumns → xs ≡ field w lost strength → n ≡ blanks xs → (n ≡ 16 → ⊥)
     → (v : ℤ) × FitsColumns v × (xs ≡ field (Some v) lost strength) × (get_or xs 14 0 ≡ lost) × (get_or xs 15 0 ≡ strength)
-value_of None lost strength h is count some = absurd (some (count ∙ ap blanks (is ∙ sym (no_field lost strength))))
-value_of (Some v) lost strength h is count some = grind (arith, field_parts)
+value_of w lost strength h is count some = grind (arith, common_steps, no_field, field_parts)
 
 -- ---- a signal
 

@@ -5,7 +5,7 @@ use Rattle.rinex_file.proofs.FileLines.{lines_are_lines}
 use Rattle.rinex_file.proofs.Reading.Accepted.{are_read, not_pushed, plan_read}
 use Rattle.rinex_file.proofs.Reading.Epochs.{sound_open}
 use Rattle.rinex_file.proofs.Reading.Lines.{consumed, splits}
-use Rattle.rinex_file.proofs.Names.{IsStrictlyIncreasing, All-append, All-cons, All-head, All-nil, All-tail, map-append, sum_by-append, PlanValue, rows_in, most_lines, file_text, AreSatelliteRows, IsFileValue, IsPlan, IsTime, time_stamped, HasReadPartAt, open_epochs, HasPlan, HasLinesLeft, HasReadPart, IsAt, IsSoundAt, IsStamped, All, plan_in, planned_in, ◌∙◌, ◌≡◌, sym, ap, refl, subst, ℕ, List, [], ◌∷◌, ◌++◌, ◌+◌, Option, IfSome, Expected, Header, Epoch, EventPosition, EventHeight, EventEpoch, Satellite, Reading, Progress, HasReadTo, progress_at, Stamped, FileValue, joined, file_lines}
+use Rattle.rinex_file.proofs.Names.{IsStrictlyIncreasing, All-append, All-cons, All-head, All-nil, All-tail, map-append, sum_by-append, PlanValue, rows_in, most_lines, file_text, AreSatelliteRows, IsFileValue, IsPlan, IsTime, time_stamped, HasReadPartAt, common_steps, open_epochs, HasPlan, HasLinesLeft, HasReadPart, IsAt, IsSoundAt, IsStamped, All, plan_in, planned_in, ◌∙◌, ◌≡◌, sym, ap, refl, subst, ℕ, List, [], ◌∷◌, ◌++◌, ◌+◌, Option, IfSome, Expected, Header, Epoch, EventPosition, EventHeight, EventEpoch, Satellite, Reading, Progress, HasReadTo, progress_at, Stamped, FileValue, joined, file_lines}
 
 -- epochs of a file with this plan, which don't have more lines than a file has
 pub record AreFine (p : PlanValue) (es : List Stamped) : Type 0 where
@@ -25,18 +25,7 @@ all_times p (e ∷ es) all = All-cons (λ (e : Stamped). IsTime e.time) e es (Al
 
 -- whole epochs
 pub whole_fine : (r : Reading) (es : List Stamped) {input left : Option (List ℕ)} → HasReadTo r es input left → (es ≡ [] → ⊥) → AreFine (plan_in r) es
-whole_fine r es read some =
-    let s = progress_at r.parser_state (record { epochs = es; rows = [] }) in
-    let are = are_read s s.expected read.0.history.sound some in
-    let counted = read.0.history.counted in
-    let (room, within) = read.0.within in
-    record {
-      plan = are.shown.plan;
-      rows = all_rows (plan_in r) es are.epochs;
-      rising = are.rising;
-      times = all_times (plan_in r) es are.epochs;
-      few = omega (arith, counted.epochs, counted.satellites, room.0, within);
-    }
+whole_fine r es read some = grind (arith, common_steps, are_read, all_rows, all_times)
 
 -- whole epochs, and one that was begun
 pub part_fine : (r : Reading) (es : List Stamped) (e : Stamped) (input left : Option (List ℕ)) → HasReadPart r es e input left → AreFine (plan_in r) (es ++ e ∷ [])

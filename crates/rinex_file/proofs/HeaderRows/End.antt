@@ -8,7 +8,7 @@ use Rattle.rinex_file.proofs.HeaderRows.Places.{known_at, types_early, types_her
 use Rattle.rinex_file.proofs.HeaderRows.Steps.{left_over, rest_next}
 use Rattle.rinex_file.proofs.HeaderRows.Texts.{each_field, field_back, place_back, same_at, same_rows}
 use Rattle.rinex_file.proofs.PlainTexts.{both}
-use Rattle.rinex_file.proofs.Names.{equal_values, value_tabulated, short_table, tabulate, value_of, few_below, listed_by, is_alike, AreListsAt, first_types, nat_le, letter, is_chosen, last_slot, slot_count, ◌+◌, ◌≤◌, ◌||◌, arith, ◌≡◌, ◌∙◌, sym, ap, ap₂, map, refl, subst, ℕ, pos, suc, lit<, lit≤, ◌<◌, true, List, [], ◌∷◌, ◌++◌, length, get_or, replicate, All, nat_eq, AllOfLen, IsDistinct, take_all, ext_get_or, SignalAt, table, System, indices, IsOf, planned_of, StationValues, HeaderField, Texts, Position, Delta, First, End, trimmed, HeaderLists, text_count, text_of, width_of, fields, fields_of, AntType, IsText, AreTexts, AreValues, IsTime, row_line, row_place, end_line, Known, Shown, IsShown, AreValid, IsHeadAt, shown_with, lines_before, RefusesHeaderLine, EndsHeader, none_of, row_at, AreSameTexts, Has, HasRow, fits, counted, StrengthUnit, SameFrom, position_of, PlanValue, Slots, Types, AreChannels, known_slots, no_channels, slots_of, is_given, HeaderRow, false, is_equal, is_less, nat_lt, ◌==◌, ◌&&◌, place_of, nil_from_length, has_text, not, not-true, flat_map, AreUnread, Interval, IfSome, IsInterval, None}
+use Rattle.rinex_file.proofs.Names.{equal_values, value_tabulated, short_table, tabulate, value_of, few_below, listed_by, is_alike, common_steps, AreListsAt, nat_le, ◌+◌, ◌≤◌, ◌||◌, arith, ◌≡◌, ◌∙◌, sym, ap, ap₂, map, refl, subst, ℕ, pos, suc, lit<, lit≤, ◌<◌, true, List, [], ◌∷◌, ◌++◌, length, get_or, replicate, All, nat_eq, AllOfLen, IsDistinct, take_all, ext_get_or, SignalAt, table, System, indices, IsOf, planned_of, StationValues, HeaderField, Texts, Position, Delta, First, End, trimmed, HeaderLists, text_count, text_of, width_of, fields, fields_of, AntType, IsText, AreTexts, AreValues, IsTime, row_line, row_place, end_line, Known, Shown, IsShown, AreValid, IsHeadAt, shown_with, lines_before, RefusesHeaderLine, EndsHeader, none_of, row_at, AreSameTexts, Has, HasRow, fits, counted, StrengthUnit, SameFrom, position_of, PlanValue, Slots, Types, AreChannels, known_slots, no_channels, slots_of, is_given, HeaderRow, false, is_equal, is_less, nat_lt, ◌==◌, ◌&&◌, nil_from_length, has_text, not, not-true, flat_map, AreUnread, Interval, IfSome, IsInterval, None}
 
 -- ---- a header with all that was read is the one that was read
 
@@ -22,8 +22,7 @@ same_shown : (g h : Shown) → g.texts ≡ h.texts → g.interval ≡ h.interval
 same_shown g h a i b c d = grind arith
 
 alike_texts : (f : HeaderField) (r : HeaderRow) → is_alike (Texts f) r ≡ true → r ≡ Texts f
-alike_texts f (Texts g) e = ap Texts (field_back g f (sym (is_equal (place_of f) (place_of g) e)))
-alike_texts f r e = cc
+alike_texts f r e = grind (arith, common_steps, field_back)
 
 -- the texts of a row are before the last one, if there are any
 text_here : (r : HeaderField) → (fields_of r ≡ [] → ⊥) → (row_at (row_place (Texts r)) ≡ Texts r) × (row_place (Texts r) < row_place End)
@@ -81,9 +80,7 @@ both_after a b n low high = grind arith
 
 -- what fits at a row after the types fits at the last
 still_fits : (k : Known) (from : ℕ) → row_place StrengthUnit < from → fits k from ≡ true → fits k (row_place End) ≡ true
-still_fits k from far e = ap (λ m. (m == k.letter) && nat_lt 0 k.letter) (same_flags (is_chosen k (row_place End)) (is_chosen k from) (λ s. ap (λ b. nat_lt 0 (counted k s) || (b && (k.letter == 77 || k.letter == letter s))) (late s))) ∙ e where
-  late : (s : System) → nat_le (row_place End) (first_types s) ≡ nat_le from (first_types s)
-  late s = let early = types_early s in both_after (row_place End) from (first_types s) (omega (arith, early)) (omega (arith, early, far))
+still_fits k from far e = grind (arith, common_steps, same_flags, types_early, both_after)
 
 module _ (k : Known) (line : List ℕ) (from : ℕ) (at : IsHeadAt k from) (same : SameFrom k line from (row_place End)) where
   at_end : IsHeadAt k (row_place End)
@@ -144,8 +141,7 @@ no_text : (r : HeaderField) → has_text (replicate text_count []) r ≡ false
 no_text r = not-true (has_text (replicate text_count []) r) (each_field (λ r. not (has_text (replicate text_count []) r)) refl r)
 
 no_value : (r : HeaderRow) → is_given (replicate text_count []) None r ≡ false
-no_value (Texts r) = no_text r
-no_value r = refl
+no_value r = grind (arith, common_steps, no_text)
 
 -- nothing was read
 module _ (k : Known) (valid : AreValid k) (blank : k.shown.texts ≡ replicate text_count []) (none : k.shown.interval ≡ None) (counts : (s : System) → counted k s ≡ 0) (planned : (s : System) → planned_of s k.shown.plan ≡ []) (no_count : k.slots ≡ 0)
@@ -154,18 +150,10 @@ module _ (k : Known) (valid : AreValid k) (blank : k.shown.texts ≡ replicate t
   no_known = ap slots_of no_channel ∙ no_slots
 
   unread : AreUnread k 0
-  unread (Types s row) far = (let none = ap length (planned s) in omega (arith, none), λ e. counts s)
-  unread (Slots row) far = (let none = ap length no_known in omega (arith, none), λ e. no_count)
-  unread r far = ap₂ (λ x i. is_given x i r) blank none ∙ no_value r
+  unread = grind (arith, common_steps, no_known, no_value)
 
   lists : AreListsAt k
-  lists = record {
-    read = λ s. let none = ap length (planned s) in omega (arith, none);
-    few = λ s. let none = counts s in omega (arith, none);
-    slots_read = let none = ap length no_known in omega (arith, none);
-    room = subst (λ ss. k.slots + last_slot 0 ss ≤ length ss + slot_count) (sym no_known) (omega (arith, no_count));
-    unplanned = λ e. no_count;
-  }
+  lists = grind (arith, common_steps, no_known)
 
   pub begins : IsHeadAt k 0
   begins = record { valid = valid; lists = lists; read = λ i less. absurd (omega (arith, less)); unread = unread; fitting = λ less. absurd (omega (arith, less)); expected = lit< tt }

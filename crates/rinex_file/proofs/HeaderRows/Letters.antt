@@ -3,7 +3,7 @@ use Rattle.std.proofs.lemmas.Map.Views.{any-filter_same}
 use Rattle.rinex_file.proofs.HeaderRows.Places.{number_known}
 use Rattle.rinex_file.proofs.HeaderRows.Agree.{less_or}
 use Rattle.rinex_file.proofs.HeaderRows.Texts.{equal_or}
-use Rattle.rinex_file.proofs.Names.{filter_agree, is_system, system_of_letter, any_system, equal_indices, letter_back, system_same, systems_taken, list_any, le-leb, AreUnread, Types, first_types, nat_le, arith, refl, sym, ap, ap₂, subst, ◌≡◌, ◌∙◌, ℕ, ◌+◌, ◌<◌, ◌≤◌, ◌==◌, ◌&&◌, ◌||◌, cond, Bool, true, false, List, [], ◌∷◌, length, nat_lt, nat_tests, lit<, filter, System, letter, PlanValue, planned_of, systems, is_planned, letter_of, flagged_letter, systems_letter, Known, IsShown, Shown, Has, counted, is_chosen, fits, same_Some, if◌then◌else◌, index_of, take, filter-append, append-nil, ◌++◌, All, All-head, filter_passes, eq-eqb, lt-ltb, or_right}
+use Rattle.rinex_file.proofs.Names.{filter_agree, is_system, system_of_letter, any_system, equal_indices, letter_back, system_same, systems_taken, list_any, le-leb, common_steps, AreUnread, Types, first_types, nat_le, arith, refl, sym, ap, ap₂, subst, ◌≡◌, ◌∙◌, ℕ, ◌+◌, ◌<◌, ◌≤◌, ◌==◌, ◌&&◌, ◌||◌, cond, Bool, true, false, List, [], ◌∷◌, length, nat_lt, nat_tests, lit<, filter, System, letter, PlanValue, planned_of, systems, is_planned, letter_of, flagged_letter, systems_letter, Known, IsShown, Shown, Has, counted, is_chosen, fits, same_Some, if◌then◌else◌, index_of, take, filter-append, append-nil, ◌++◌, filter_passes, eq-eqb, lt-ltb, or_right}
 
 -- ---- letters
 
@@ -37,10 +37,7 @@ same_flags f g same = ap letter_of (filter_agree f g same systems)
 
 -- some system has a flag
 pub flagged : (f : System → Bool) → 0 < flagged_letter f → (s : System) × (f s ≡ true)
-flagged f = by (filter f systems) (filter_passes f systems) where
-  by : (ss : List System) → All (λ s. f s ≡ true) ss → 0 < letter_of ss → (s : System) × (f s ≡ true)
-  by [] are some = absurd (omega (arith, some))
-  by (s ∷ ss) are some = (s, All-head (λ s. f s ≡ true) s ss are)
+flagged f h1 = grind (arith, common_steps, filter_passes)
 
 -- a system with a flag is one of those with a flag
 has_flag : (f : System → Bool) (s : System) → f s ≡ true → list_any (is_system s) (filter f systems) ≡ true

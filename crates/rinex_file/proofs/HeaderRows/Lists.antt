@@ -1,5 +1,5 @@
 -- The items of a list in lines, before and after one of its lines.
-use Rattle.rinex_file.proofs.Names.{IsLineOf, TakesItems, AreSameItems, header_line, replicate, joined, left, append_assoc, ◌++◌, ◌∷◌, [], ◌-◌, ◌+◌, get_or, drop, drop_at, drop-drop, flat_map, min, length-take, length-drop, get_or-take, get_or-drop, refl, arith, ◌≡◌, ◌∙◌, ap, sym, ℕ, zero, suc, ◌<◌, ◌≤◌, ◌↔◌, List, length, take, take_all, take-take, nil_from_length}
+use Rattle.rinex_file.proofs.Names.{IsLineOf, TakesItems, AreSameItems, common_steps, header_line, replicate, joined, left, append_assoc, ◌++◌, ◌∷◌, [], ◌-◌, ◌+◌, get_or, drop, drop_at, drop-drop, flat_map, min, length-take, length-drop, get_or-take, get_or-drop, refl, arith, ◌≡◌, ◌∙◌, ap, sym, ℕ, zero, suc, ◌<◌, ◌≤◌, ◌↔◌, List, length, take, take_all, take-take, nil_from_length}
 
 -- items that are the first of others
 pub up_to : {X : Type 0} (n : ℕ) (new all : List X) → new ≡ take n all → take n all ≡ take n new
@@ -13,9 +13,7 @@ go_on begun (suc i) count old all none size same = let s = same i refl in (λ l.
 
 -- all items begin before a line that isn't there
 pub still_same : {X : Type 0} (begun : ℕ → ℕ) (row : ℕ) {count : ℕ} (read all : List X) → count ≡ length all → length read ≤ count → count ≤ begun row → take (begun row) all ≡ take (begun row) read → AreSameItems begun row count read all
-still_same begun row read all number few none same =
-    let whole : all ≡ read = sym (take_all (begun row) all (omega (arith, number, none))) ∙ same ∙ take_all (begun row) read (omega (arith, few, none)) in
-    record { number = number; same = ap (take (begun (suc row))) whole }
+still_same begun row read all number few none same = grind (arith, common_steps)
 
 module _ {X : Type 0} (Are : List X → Type 0) (begun : ℕ → ℕ) (shown : ℕ → List X → ℕ → List ℕ) {row before count : ℕ} {line : List ℕ} {old new : List X} (t : TakesItems Are begun shown row line before old count new) (all : List X) where
   pub same_after : IsLineOf Are begun shown row line before old all → AreSameItems begun row count new all
@@ -27,12 +25,7 @@ module _ {X : Type 0} (Are : List X → Type 0) (begun : ℕ → ℕ) (shown : �
 
   -- what the lines before said
   pub same_before : (i : ℕ) → i < row → begun (suc i) ≤ begun row → AreSameItems begun i before old all ↔ AreSameItems begun i count new all
-  same_before i less few =
-      let same : before ≡ count = t.later (omega (arith, less)) in
-      let first : take (begun (suc i)) old ≡ take (begun (suc i)) new = ap (take (begun (suc i))) (sym t.grows) ∙ take-take (begun (suc i)) (begun row) new few in (
-        λ s. record { number = sym same ∙ s.number; same = s.same ∙ first },
-        λ s. record { number = same ∙ s.number; same = s.same ∙ sym first },
-      )
+  same_before i less few = grind (arith, common_steps, take-take)
 
 -- ---- the columns of an item
 

@@ -1,7 +1,6 @@
 -- The rows of types and of slots, and where they are.
 use Rattle.rinex_file.proofs.HeaderRows.Agree.{placed}
-use Rattle.rinex_file.proofs.PlainTexts.{both}
-use Rattle.rinex_file.proofs.Names.{each_system, system_same, passes_below, first_types, Has, HasRow, Known, Shown, ap₂, counted, length, lit<, planned_of, subst, arith, ◌≡◌, ◌∙◌, sym, ap, refl, ℕ, zero, suc, ◌<◌, Bool, true, false, ◌==◌, ◌&&◌, nat_lt, System, passes_at, HeaderRow, Types, StrengthUnit, row_at, row_count, row_place, most_type_rows, is_system, is_equal, is_less, Slots}
+use Rattle.rinex_file.proofs.Names.{each_system, system_same, passes_below, common_steps, first_types, Has, HasRow, Known, Shown, counted, length, lit<, planned_of, subst, arith, ◌≡◌, ◌∙◌, sym, ap, refl, ℕ, zero, suc, ◌<◌, Bool, true, false, ◌==◌, ◌&&◌, nat_lt, System, passes_at, HeaderRow, Types, StrengthUnit, row_at, row_count, row_place, most_type_rows, is_system, is_less, Slots}
 
 -- a line of a list is one of the first six, or four
 abbrev few_lines : HeaderRow → Bool
@@ -16,8 +15,7 @@ pub slots_here : (row : ℕ) → row < 4 → row_at (row_place (Slots row)) ≡ 
 slots_here zero few = refl
 slots_here (suc zero) few = refl
 slots_here (suc (suc zero)) few = refl
-slots_here (suc (suc (suc zero))) few = refl
-slots_here (suc (suc (suc (suc row)))) few = absurd (omega (arith, few))
+slots_here row few = grind (arith, common_steps)
 
 -- a row is this one of a system's types
 abbrev is_row_of : System → ℕ → HeaderRow → Bool
@@ -25,8 +23,7 @@ is_row_of s row (Types t i) = is_system t s && (i == row)
 is_row_of s row other = false
 
 row_of : (s : System) (row : ℕ) (r : HeaderRow) → is_row_of s row r ≡ true → r ≡ Types s row
-row_of s row (Types t i) e = let two = both (is_system t s) (i == row) e in ap₂ Types (system_same t s two.0) (is_equal i row two.1)
-row_of s row r e = cc
+row_of s row r e = grind (arith, common_steps, system_same)
 
 abbrev types_at : System → ℕ → Bool
 types_at s row = is_row_of s row (row_at (row_place (Types s row)))
@@ -57,10 +54,7 @@ earlier_types {n} less s row at =
     (types_here s row (omega (arith, few)), omega (arith, e))
 
 pub earlier_slots : {n : ℕ} → n < row_count → (row : ℕ) → row_at n ≡ Slots (suc row) → (row_at (row_place (Slots row)) ≡ Slots row) × (row_place (Slots row) < n)
-earlier_slots {n} less row at =
-    let few = is_less (suc row) 4 (few_rows less (Slots (suc row)) at) in
-    let e = place_at n (Slots (suc row)) less at in
-    (slots_here row (omega (arith, few)), omega (arith, e))
+earlier_slots {n} less row at = grind (arith, common_steps, place_at n (Slots (suc row)) less at, slots_here)
 
 -- the same system, or another
 pub either : (P : Type 0) (s t : System) → (t ≡ s → P) → (is_system s t ≡ false → P) → P

@@ -6,7 +6,7 @@ use Rattle.rinex_file.proofs.Reading.Epochs.{few_signals_of}
 use Rattle.rinex_file.proofs.HeaderRows.Texts.{each_field, few_columns}
 use Rattle.rinex_file.proofs.HeaderRows.Slots.{slots_are, slots_room}
 use Rattle.rinex_file.proofs.PlainTexts.{both, IsPlain, plain-wider, plain-append, plain-left, plain-right, plain-decimal, plain-fixed, plain-padded, plain, plain-flat_map, plain-joined, also, plain-text}
-use Rattle.rinex_file.proofs.Names.{day_length, IsCivil, arith, lit≤, lit<, ◌≡◌, ap, refl, subst, ℕ, zero, suc, ◌+◌, ◌*◌, ◌/◌, ◌%◌, ◌^◌, ◌<◌, ◌≤◌, ℤ, pos, unsigned_abs, Bool, true, false, List, [], ◌∷◌, ◌++◌, length, take, drop, decimal, get_or, append_assoc, length-append, ◌==◌, ◌||◌, ◌&&◌, not, nat_le, flat_map, All, codes, slice_get, AllByRecursion, list_all, option_map_or, cond_both, ints, length-take, All-nil, All-head, All-tail, All-cons, All-append, All-map, All-take, All-drop, All-replicate, code_of, System, StationValues, Civil, civil_of, PlanValue, planned_of, HeaderField, HeaderRow, Version, Texts, Position, Delta, Types, StrengthUnit, First, Shift, End, IsLine, AreTexts, AreValues, IsTime, IsCoordinate, header_line, version_fields, version_line, lengths, first_line, text_columns, texts_line, types_of, type_front, type_columns, codes_of, row_line, row_lines, has_line, all_rows, header_lines, position_line, delta_line, letter, joined, left, right, fixed, has, HeaderLists, width_of, text_of, fields_of, label_of, front_of, common_steps, most_line, most_signals, systems_letter, is_planned, letter_of, systems, filter, padded, most_number, slot_count, nat_tests, AreSlots, SlotNumber, channel_text, slot_text, slots_columns, slots_front, slots_line, slots_of, Slots, Biases, Shown, IsShown, Interval, IsInterval, IfSome, Option, Some, None, unwrap_or, interval_line, at_most, types_line}
+use Rattle.rinex_file.proofs.Names.{day_length, IsCivil, arith, lit≤, lit<, ◌≡◌, ap, refl, subst, ℕ, zero, suc, ◌+◌, ◌*◌, ◌/◌, ◌%◌, ◌^◌, ◌<◌, ◌≤◌, ℤ, pos, unsigned_abs, Bool, true, false, List, [], ◌∷◌, ◌++◌, length, take, drop, decimal, get_or, append_assoc, length-append, ◌==◌, ◌||◌, ◌&&◌, not, nat_le, flat_map, All, codes, slice_get, AllByRecursion, list_all, option_map_or, cond_both, ints, length-take, All-nil, All-head, All-tail, All-cons, All-append, All-map, All-take, All-drop, All-replicate, code_of, System, StationValues, Civil, civil_of, PlanValue, planned_of, HeaderField, HeaderRow, Version, Texts, Position, Delta, Types, StrengthUnit, First, Shift, End, IsLine, AreTexts, AreValues, IsTime, IsCoordinate, header_line, version_fields, version_line, lengths, first_line, text_columns, texts_line, types_of, type_front, type_columns, codes_of, row_line, row_lines, has_line, all_rows, header_lines, position_line, delta_line, letter, joined, left, right, fixed, has, HeaderLists, width_of, text_of, fields_of, label_of, front_of, common_steps, most_line, most_signals, systems_letter, is_planned, letter_of, systems, filter, padded, most_number, slot_count, nat_tests, AreSlots, SlotNumber, channel_text, slot_text, slots_columns, slots_front, slots_line, slots_of, Slots, Biases, Shown, IsShown, Interval, IsInterval, IfSome, Option, Some, None, unwrap_or, interval_line, types_line}
 
 -- ---- a line of a file
 
@@ -54,11 +54,7 @@ record IsPlainRow (r : HeaderField) : Type 0 where
   label : IsPlain 20 (label_of r)
 
 plain_row : (r : HeaderField) → IsPlainRow r
-plain_row r = record {
-  few = at_most (length (fields_of r)) 3 (each_field (λ r. nat_le (length (fields_of r)) 3) refl r);
-  front = plain_text 20 (front_of r) (each_field (λ r. is_plain 20 (front_of r)) refl r);
-  label = plain_text 20 (label_of r) (each_field (λ r. is_plain 20 (label_of r)) refl r);
-}
+plain_row r = grind (arith, common_steps, each_field, plain_text)
 
 line_of_texts : (x : HeaderLists) → AreTexts x → (r : HeaderField) → IsFileLine (texts_line x r)
 line_of_texts x are r =

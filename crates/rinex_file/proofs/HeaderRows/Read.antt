@@ -6,7 +6,7 @@ use Rattle.rinex_file.proofs.HeaderRows.Types.{same_types_line}
 use Rattle.rinex_file.proofs.HeaderRows.Places.{either, slots_here, types_here}
 use Rattle.rinex_file.proofs.HeaderRows.Steps.{left_over}
 use Rattle.rinex_file.proofs.HeaderRows.Texts.{each_field, field_back, is_apart, same_here, same_line, same_some, kept_texts, same_texts, texts_back}
-use Rattle.rinex_file.proofs.Names.{value_after, value_of_other, IsLineOfTypes, IsThere, Glonass, AreSlots, AreListsAt, IsRowRead, IsRowUnread, arith, ◌≡◌, ◌∙◌, sym, ap, refl, subst, ℕ, suc, ◌+◌, ◌<◌, ◌≤◌, Bool, true, false, List, [], ◌∷◌, length, take, min, ◌↔◌, ◌^◌, Option, Some, None, IsTrue, codes, list_all, take-map, SignalAt, table, System, is_less, is_system, indices, planned_of, civil_of, StationValues, length_indices, Types, Version, Texts, Position, Delta, StrengthUnit, First, Shift, row_line, has_line, type_rows, position_line, row_place, header_line, height_line, first_line, strength_line, version_by, Known, Has, HasRow, AreSameTexts, counted, systems_letter, AreTypes, signals_begun, IsPosition, position_of, Shown, IsShown, TakesTypes, RefusesTypes, with_types, IsHeaderLineRead, RefusesHeaderLine, ReadsOrRefuses, ReadsTexts, RefusesTexts, with_texts, with_values, with_first, with_letter, HeaderField, HeaderRow, HeaderLists, fields_of, front_of, IsTime, letter, ReadsExactly, same_Some, ⊤, Slots, Biases, biases_line, slots_line, slots_with, slots_of, slots_begun, known_slots, with_slots, AreItemsBefore, AreSameItems, types_with, most_type_rows, IsLineOfSlots, TakesSlots, TakesOrRefusesSlots, ChannelsValue, add-one, has_text, is_required, not-true, fields, is_equal, place_of, ◌==◌, ◌||◌, Interval, IsInterval, IfSome, is_some, interval_line, unwrap_or, with_interval, lit≤, digits_in, drop}
+use Rattle.rinex_file.proofs.Names.{value_after, value_of_other, IsLineOfTypes, IsThere, Glonass, AreSlots, common_steps, AreListsAt, IsRowRead, IsRowUnread, arith, ◌≡◌, ◌∙◌, sym, ap, refl, subst, ℕ, suc, ◌+◌, ◌<◌, ◌≤◌, Bool, true, false, List, [], ◌∷◌, length, take, min, ◌↔◌, ◌^◌, Option, Some, None, IsTrue, codes, list_all, take-map, SignalAt, table, System, is_less, is_system, indices, planned_of, civil_of, StationValues, length_indices, Types, Version, Texts, Position, Delta, StrengthUnit, First, Shift, row_line, has_line, type_rows, position_line, row_place, header_line, height_line, first_line, strength_line, version_by, Known, Has, HasRow, AreSameTexts, counted, systems_letter, AreTypes, signals_begun, IsPosition, position_of, Shown, IsShown, TakesTypes, RefusesTypes, with_types, IsHeaderLineRead, RefusesHeaderLine, ReadsOrRefuses, ReadsTexts, RefusesTexts, with_texts, with_values, with_first, with_letter, HeaderField, HeaderRow, HeaderLists, fields_of, front_of, IsTime, letter, ReadsExactly, same_Some, ⊤, Slots, Biases, biases_line, slots_line, slots_with, slots_of, slots_begun, known_slots, with_slots, AreItemsBefore, AreSameItems, types_with, most_type_rows, IsLineOfSlots, TakesSlots, TakesOrRefusesSlots, ChannelsValue, add-one, has_text, is_required, not-true, Interval, IsInterval, IfSome, is_some, interval_line, unwrap_or, with_interval, lit≤}
 
 -- ---- types
 
@@ -130,9 +130,7 @@ exact {text = text} r w is = (λ e. r.2 w is (sym e), λ e. ap text e ∙ sym r.
 
 -- no text is in two rows
 rows_apart : (q r : HeaderField) → (q ≡ r → ⊥) → list_all (is_apart (fields_of r)) (fields_of q) ≡ true
-rows_apart q r other =
-    let test = λ (q r : HeaderField). (place_of q == place_of r) || list_all (is_apart (fields_of r)) (fields_of q) in
-    left_over (place_of q == place_of r) (list_all (is_apart (fields_of r)) (fields_of q)) (each_field (test q) (each_field (λ q. list_all (test q) fields) refl q) r) (λ e. other (field_back q r (is_equal (place_of q) (place_of r) e)))
+rows_apart q r other = grind (arith, common_steps, left_over, each_field, field_back)
 
 turned : (x y : HeaderLists) (fs : List HeaderField) → AreSameTexts x y fs → AreSameTexts y x fs
 turned x y fs a = same_texts x y x fs a (same_here x fs)
@@ -207,13 +205,7 @@ abbrev IntervalIn : List ℕ → Option ℕ → Type 0
 IntervalIn line r = ReadsExactly IsInterval interval_line line r
 
 same_interval : (i : Option ℕ) (n : ℕ) (line : List ℕ) → IfSome i IsInterval → IntervalIn line (Some n) → (interval_line (unwrap_or i 0) ≡ line) ↔ (i ≡ Some n)
-same_interval None n line is r = (
-  λ e.
-      let zero = sym (interval-back 0 (lit≤ tt)) ∙ ap (λ l. digits_in (take 10 (drop 0 l))) (e ∙ r.1) ∙ interval-back n (at_most_a_day n r.0) in
-      let some = r.0.0 in absurd (omega (arith, zero, some)),
-  λ e. cc,
-)
-same_interval (Some m) n line is r = let e = exact {Is = IsInterval} {text = interval_line} r m is in (λ f. ap Some (e.0 f), λ f. e.1 (same_Some m n f))
+same_interval i n line is r = grind (arith, common_steps, interval-back, lit≤, at_most_a_day, exact)
 
 pub line_interval : (k : Known) (n : ℕ) (line : List ℕ) → IntervalIn line (Some n) → IsHeaderLineRead Interval line k (with_interval k n)
 unfolding row_line
@@ -231,10 +223,7 @@ line_interval k n line r = record { lists = λ w. w; read = tt; early = λ q les
 
 pub refuse_interval : (k : Known) (line : List ℕ) → IntervalIn line None → RefusesHeaderLine k Interval line
 unfolding row_line
-refuse_interval k line r h is before there e = by h.interval is.interval there e where
-  by : (i : Option ℕ) → IfSome i IsInterval → is_some i ≡ true → interval_line (unwrap_or i 0) ≡ line → ⊥
-  by None is some e = cc
-  by (Some n) is some e = r n is (sym e)
+refuse_interval k line r = grind (arith, common_steps, is_some)
 
 -- ---- the first epoch
 

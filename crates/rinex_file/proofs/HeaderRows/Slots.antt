@@ -4,7 +4,7 @@ use Rattle.rinex_file.proofs.HeaderRows.Lists.{item_in_line, up_to}
 use Rattle.rinex_file.proofs.Judged.{refused}
 use Rattle.rinex_file.proofs.Digits.Padded.{two_digits}
 use Rattle.rinex_file.proofs.HeaderRows.Types.{content_first}
-use Rattle.rinex_file.proofs.Names.{All-set, length-filter, digits_in-padded, digits_in-whole, length-right, count_by, IsLineOfSlots, TakesOrRefusesSlots, AreSlots, SlotNumber, channel_text, last_slot, slot_text, slots_columns, slots_from, slots_front, slots_in_line, slots_of, AreChannels, ChannelsValue, most_number, no_channels, number_at, slot_count, with_number, slots_line, slots_with, true, false, common_steps, All, All-head, All-replicate, All-tail, IfSome, List, None, Option, Some, [], ap, append-nil, append_assoc, arith, codes, decimal, digits_in, drop, drop-append-le, drop-cons, drop-drop, drop-take, header_line, IsTrue, ◌↔◌, drop_all, flat_map, flat_map-append, get_or, length, length-append, length-decimal-le, length-drop, length-set, min, padded, refl, right, set, suc, sym, take, take-append-le, take_all, take_at, take_more, filter, is_some, zero, ◌*◌, ◌++◌, ◌+◌, ◌-◌, ◌/◌, ◌%◌, ◌<◌, ◌∙◌, ◌∷◌, ◌≡◌, ◌≤◌, ℕ, Bool, if◌then◌else◌, subst, lt-ltb, le-ltb}
+use Rattle.rinex_file.proofs.Names.{All-set, length-filter, digits_in-padded, digits_in-whole, length-right, count_by, IsLineOfSlots, TakesOrRefusesSlots, AreSlots, SlotNumber, channel_text, last_slot, slot_text, slots_columns, slots_from, slots_front, slots_in_line, slots_of, AreChannels, ChannelsValue, most_number, no_channels, number_at, slot_count, with_number, slots_line, slots_with, common_steps, All, All-head, All-replicate, All-tail, IfSome, List, None, Option, Some, [], ap, append-nil, append_assoc, arith, codes, decimal, digits_in, drop, drop-append-le, drop-cons, drop-drop, drop-take, header_line, IsTrue, ◌↔◌, drop_all, flat_map, flat_map-append, get_or, length, length-append, length-decimal-le, length-drop, length-set, min, padded, refl, right, set, suc, sym, take, take-append-le, take_all, take_at, take_more, filter, is_some, zero, ◌*◌, ◌++◌, ◌+◌, ◌-◌, ◌/◌, ◌%◌, ◌<◌, ◌∙◌, ◌∷◌, ◌≡◌, ◌≤◌, ℕ, Bool, if◌then◌else◌, subst, lt-ltb, le-ltb}
 
 -- ---- slots that follow others
 
@@ -326,7 +326,4 @@ no_room {end = end} l size few is at more =
 pub line_judged : {row before count : ℕ} {line again : List ℕ} {old new : List SlotNumber} (b : Bool) → (IsTrue b ↔ (line ≡ again)) → again ≡ slots_with count new row → (0 < row → before ≡ count)
     → length new ≡ min (8 * suc row) count → count + last_slot 0 new ≤ length new + slot_count → take (8 * row) new ≡ old
     → ((all : List SlotNumber) → IsLineOfSlots row line before old all → (length all ≡ count) × (new ≡ take (8 * suc row) all)) → TakesOrRefusesSlots row line before old count new b
-line_judged true compared shown later size room grows taken = record { items = record { later = later; size = size; grows = grows; is = compared.0 refl ∙ shown; taken = taken }; room = room }
-line_judged {row} {line = line} {new = new} false compared shown later size room grows taken = λ all l.
-    let both = taken all l in
-    refused false _ compared refl (l.is ∙ ap (λ (n : ℕ). slots_with n all row) both.0 ∙ same_slots_line row _ all new (up_to (8 * suc row) new all both.1) ∙ sym shown)
+line_judged b compared shown later size room grows taken = grind (arith, common_steps, refused, same_slots_line, up_to)

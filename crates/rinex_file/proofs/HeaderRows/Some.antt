@@ -2,10 +2,9 @@
 use Rattle.rinex_file.proofs.HeaderRows.Letters.{flagged, same_flags}
 use Rattle.rinex_file.proofs.HeaderRows.Texts.{equal_or, same_here}
 use Rattle.rinex_file.proofs.HeaderRows.Slots.{More, more_slots, no_channels_are, same_channels}
-use Rattle.rinex_file.proofs.HeaderRows.Agree.{less_or}
 use Rattle.rinex_file.proofs.HeaderRows.Places.{place_at}
 use Rattle.rinex_file.proofs.PlainTexts.{both}
-use Rattle.rinex_file.proofs.Names.{value_tabulated, tabulate, Glonass, not, nat_le, first_types, slots_begun, IsRowRead, take_at, Types, All, All-cons, All-nil, All-push, Bool, Delta, First, Has, HasRow, HeaderRow, IsDistinct, IsDistinct-push, IsHeadAt, IsShown, Known, List, PlanValue, Position, System, Texts, Version, ap, arith, counted, eqb, false, fields_of, flagged_letter, is_chosen, is_equal, is_less, is_planned, le-length_from_below, length, length-append, letter, list_any, min, nat_eq, nat_eq_equiv, nat_lt, nat_tests, nil_from_length, planned_of, refl, row_at, shown_with, signals_begun, subst, suc, sym, systems_letter, table, take, take-append_seam, take-take, take_all, true, zero, ◌&&◌, ◌++◌, ◌+◌, ◌-◌, ◌<◌, ◌==◌, ◌||◌, ◌∙◌, ◌∷◌, ◌≡◌, ◌≤◌, [], ℕ, lit<, Slots, SlotNumber, known_slots, slots_of, no_channels, lt-ltb, or_right, Interval}
+use Rattle.rinex_file.proofs.Names.{value_tabulated, tabulate, Glonass, common_steps, not, nat_le, first_types, slots_begun, IsRowRead, take_at, Types, All, All-cons, All-nil, All-push, Bool, Delta, First, Has, HasRow, HeaderRow, IsDistinct, IsDistinct-push, IsHeadAt, IsShown, Known, List, PlanValue, Position, System, Texts, ap, arith, counted, eqb, false, fields_of, flagged_letter, is_chosen, is_equal, is_less, is_planned, le-length_from_below, length, length-append, letter, list_any, min, nat_eq, nat_eq_equiv, nat_lt, nat_tests, nil_from_length, planned_of, refl, row_at, shown_with, signals_begun, subst, suc, sym, systems_letter, table, take, take-append_seam, take-take, take_all, true, zero, ◌&&◌, ◌++◌, ◌+◌, ◌-◌, ◌<◌, ◌==◌, ◌||◌, ◌∙◌, ◌∷◌, ◌≡◌, ◌≤◌, [], ℕ, lit<, Slots, SlotNumber, known_slots, slots_of, no_channels, lt-ltb, or_right, Interval}
 
 -- ---- signals of a system, with others up to a number
 
@@ -100,9 +99,7 @@ choose s true true count signals below apart read few unread may none =
 
 -- the first items are those that were read, if these are all or enough
 same_begun : {X : Type 0} (n : ℕ) (read all : List X) → read ≡ take (length read) all → min n (length all) ≤ length read → take n all ≡ take n read
-same_begun n read all begins enough = less_or (take n all ≡ take n read) (length read) n
-    (λ few. let whole : read ≡ all = begins ∙ take_all (length read) all (omega (arith, few, enough)) in ap (take n) (sym whole))
-    (λ more. sym (take-take n (length read) all more) ∙ ap (take n) (sym begins))
+same_begun n read all begins enough = grind (arith, common_steps, take-take)
 
 -- ---- some header has what was read
 
@@ -117,7 +114,6 @@ module _ (k : Known) (n : ℕ) (at : IsHeadAt k n) (p : PlanValue) (letter_is : 
   slots_number = let read = at.lists.slots_read in omega (arith, size, read, ap length slots, length-append (known_slots k) more)
 
   own_row : (i : ℕ) → i < n → (r : HeaderRow) → row_at i ≡ r → HasRow k (shown_with k p) r
-  own_row i less Version here = letter_is (omega (arith, less))
   own_row i less (Texts row) here = same_here k.shown.texts (fields_of row)
   own_row i less Position here = refl
   own_row i less Delta here = refl
@@ -131,7 +127,7 @@ module _ (k : Known) (n : ℕ) (at : IsHeadAt k n) (p : PlanValue) (letter_is : 
       let place = place_at i (Types s row) (let few = at.expected in omega (arith, less, few)) here in
       let same = number s (omega (arith, place, less)) in
       record { number = same; same = same_begun (signals_begun (suc row)) (planned_of s k.shown.plan) (planned_of s p) (begins s) (subst (λ c. min (signals_begun (suc row)) c ≤ length (planned_of s k.shown.plan)) same read) }
-  own_row i less other here = tt
+  own_row i less other here = grind (arith, common_steps, letter_is)
 
 module _ (k : Known) (n : ℕ) (at : IsHeadAt k n) (flags : System → Bool) (same : 0 < n → flagged_letter flags ≡ k.letter) (some : 0 < flagged_letter flags)
     (may : (s : System) → flags s ≡ true → (nat_le n (first_types s) || nat_lt 0 (counted k s)) ≡ true) (none : (s : System) → (counted k s == 0 || flags s) ≡ true) where

@@ -8,7 +8,7 @@ use Rattle.rinex_file.proofs.HeaderRows.Types.{content_first}
 use Rattle.rinex_file.proofs.HeaderRows.Slots.{no_slots}
 use Rattle.rinex_file.proofs.PlainTexts.{both}
 use Rattle.rinex_file.proofs.HeaderRows.Places.{place_at, earlier_slots, earlier_types, few_rows, known_at, number_known, types_early}
-use Rattle.rinex_file.proofs.Names.{each_system, Glonass, not-false, bytes_eq, label_columns, types_line, is_of_types, Result, Refusal, TakesHeaderLine, expected_if, drop, all_rows, arith, ◌≡◌, ◌∙◌, sym, ap, refl, subst, ℕ, zero, suc, ◌+◌, ◌<◌, ◌≤◌, Bool, true, false, List, [], ◌∷◌, ◌++◌, length, append-nil, not, ◌≢◌, ◌==◌, ◌&&◌, ◌↔◌, nat_lt, nat_tests, System, planned_of, Known, IsShown, AreValid, Shown, IsHeadAt, row_lines, row_line, lines_before, lines_after, signals_begun, HeaderRow, Types, StrengthUnit, Shift, End, Expected, has_line, row_at, row_count, row_place, type_rows, known_line, RefusesHeaderLine, NoneGoesOn, SameFrom, Has, HasRow, counted, fits, begins_with, IsHeaderLineRead, GoesOn, Takes, flat_map, header_line, letter, codes, is_less, nil_from_length, Slots, Biases, slots_of, slot_rows, known_slots, not-true, ltb-false, add-one, eq-eqb, Texts, First, HeaderField, is_given, is_optional, is_required, has_text, label_of, left, AreUnread, append_assoc, ap₂, or_parts, or_right, has_label, fields_of, drop_at, length-append, ◌-◌, ◌||◌, nat_le, Interval, row_label, is_some, Option, lit≤, Version, Position, Delta, at_most, most_type_rows, AreListsAt, AreReadAt, IsRowRead, IsRowUnread, slots_begun, lt-ltb, AreItemsBefore}
+use Rattle.rinex_file.proofs.Names.{each_system, Glonass, not-false, bytes_eq, label_columns, common_steps, types_line, is_of_types, Result, Refusal, TakesHeaderLine, expected_if, drop, all_rows, arith, ◌≡◌, ◌∙◌, sym, ap, refl, subst, ℕ, zero, suc, ◌+◌, ◌<◌, ◌≤◌, Bool, true, false, List, [], ◌∷◌, ◌++◌, length, append-nil, not, ◌≢◌, ◌==◌, ◌&&◌, ◌↔◌, nat_lt, nat_tests, System, planned_of, Known, IsShown, AreValid, Shown, IsHeadAt, row_lines, row_line, lines_before, lines_after, signals_begun, HeaderRow, Types, StrengthUnit, Shift, End, Expected, has_line, row_at, row_count, row_place, type_rows, known_line, RefusesHeaderLine, NoneGoesOn, SameFrom, Has, HasRow, counted, fits, begins_with, IsHeaderLineRead, GoesOn, Takes, flat_map, header_line, letter, codes, is_less, nil_from_length, Slots, Biases, slots_of, slot_rows, known_slots, not-true, ltb-false, add-one, eq-eqb, Texts, First, HeaderField, is_given, is_optional, is_required, has_text, label_of, left, AreUnread, append_assoc, ap₂, or_parts, has_label, fields_of, length-append, ◌-◌, ◌||◌, nat_le, Interval, row_label, is_some, Option, lit≤, Version, Position, Delta, at_most, most_type_rows, AreListsAt, AreReadAt, IsRowRead, IsRowUnread, slots_begun, lt-ltb, AreItemsBefore}
 use Rattle.rinex_file.proofs.HeaderRows.Lists.{still_same}
 
 -- ---- the items before an expected line
@@ -56,10 +56,7 @@ module _ {n : ℕ} (less : n < row_count) (k : Known) (line : List ℕ) (lists :
 
   -- a line of slots is expected only if signals of GLONASS are planned
   some_planned : (row : ℕ) → known_line k line (Slots row) ≡ true → 0 < counted k Glonass
-  some_planned zero has = is_less 0 (counted k Glonass) has
-  some_planned (suc row) has =
-      let some = begun_slots (suc row) k.slots (is_less (suc row) (slot_rows k.slots) has) in
-      less_or (0 < counted k Glonass) 0 (counted k Glonass) (λ l. l) (λ m. let none = lists.unplanned (omega (arith, m)) in absurd (omega (arith, none, some)))
+  some_planned row has = grind (arith, common_steps, begun_slots)
 
   pub items_expected : (r : HeaderRow) → row_at n ≡ r → known_line k line r ≡ true → AreItemsBefore k r
   items_expected (Types s row) at has = (is_less row most_type_rows (few_rows less (Types s row) at), size_types s row at has, rows_there k line s row has)
@@ -117,7 +114,6 @@ is_first other = false
 
 -- apart from first lines of types and optional rows, what is known says it
 pub plain_present : {n : ℕ} (less : n < row_count) (r : HeaderRow) → row_at n ≡ r → is_first r ≡ false → is_optional r ≡ false → (k : Known) (line : List ℕ) (h : Shown) → Has k n h → has_line h r ≡ known_line k line r
-plain_present less (Texts row) at plain fixed k line h has = let must = not-false (is_required row) fixed in ap (λ b. b || has_text h.texts row) must ∙ sym (ap (λ b. b || has_label (label_of row) line) must)
 plain_present less Interval at plain fixed k line h has = cc
 plain_present less (Types s zero) at plain fixed k line h has = cc
 plain_present less (Types s (suc row)) at plain fixed k line h has = ap (λ m. nat_lt (suc row) (type_rows m)) (sym (types_known less s row k h at has).number)
@@ -125,7 +121,7 @@ plain_present {n} less (Shift s) at plain fixed k line h has = let e = place_at 
 plain_present {n} less (Slots zero) at plain fixed k line h has = planned_known n (far_slots n 0 (place_at n (Slots 0) less at)) Glonass k h has
 plain_present less (Slots (suc row)) at plain fixed k line h has = ap (λ m. nat_lt (suc row) (slot_rows m)) (sym (slots_known less row k h at has).number)
 plain_present {n} less Biases at plain fixed k line h has = let e = place_at n Biases less at in planned_known n (omega (arith, e)) Glonass k h has
-plain_present less other at plain fixed k line h has = refl
+plain_present less other at plain fixed k line h has = grind (arith, common_steps, not-false)
 
 -- ---- which line comes next
 
@@ -141,8 +137,7 @@ is_always End = true
 is_always other = false
 
 always_there : (h : Shown) (r : HeaderRow) → is_always r ≡ true → has_line h r ≡ true
-always_there h (Texts row) e = ap (λ b. b || has_text h.texts row) e
-always_there h r e = grind arith
+always_there h r e = grind (arith, common_steps)
 
 -- up to the first that each header has, these rows pass a test
 abbrev all_up_to : (HeaderRow → Bool) → List HeaderRow → Bool
@@ -151,8 +146,7 @@ all_up_to fails (r ∷ rows) = fails r && (is_always r || all_up_to fails rows)
 
 one_fails : (h : Shown) (test : List ℕ → Bool) (r : HeaderRow) (rest left : List (List ℕ)) (line : List ℕ) → test (row_line h r) ≡ false → (has_line h r ≡ false → rest ≡ line ∷ left → test line ≡ false)
     → (b : Bool) → has_line h r ≡ b → row_lines h r ++ rest ≡ line ∷ left → test line ≡ false
-one_fails h test r rest left line own more true has same = ap test (cons_parts line (row_line h r) left rest (sym same ∙ ap (λ l. l ++ rest) (rows_when h r true has))).0 ∙ own
-one_fails h test r rest left line own more false has same = more has (sym (ap (λ l. l ++ rest) (rows_when h r false has)) ∙ same)
+one_fails h test r rest left line own more b has same = grind (arith, common_steps, cons_parts, rows_when)
 
 pub left_over : (b c : Bool) → (b || c) ≡ true → (b ≡ true → ⊥) → c ≡ true
 left_over b c e no_b = grind arith
@@ -193,14 +187,11 @@ types_byte h s zero byte = first_byte _ (codes "SYS / # / OBS TYPES") (letter s)
 types_byte h s (suc row) byte = first_byte _ (codes "SYS / # / OBS TYPES") 32 byte _ refl
 
 byte_law : (h : Shown) (byte : ℕ) (r : HeaderRow) → other_byte byte r ≡ true → begins_with byte (row_line h r) ≡ false
-byte_law h byte (Types s row) e = types_byte h s row byte ∙ not-true (byte_of (Types s row) == byte) e
-byte_law h byte StrengthUnit e = unit_byte h byte ∙ not-true (68 == byte) e
-byte_law h byte r e = cc
+byte_law h byte r e = grind (arith, common_steps, types_byte, not-true, unit_byte)
 
 -- no line of the rows after a system's first line of types begins with its letter, up to the unit's
 after_types : (n : ℕ) (s : System) → n < row_count → row_at n ≡ Types s 0 → all_up_to (other_byte (letter s)) (drop (suc n) all_rows) ≡ true
-after_types n s less at = let place = place_at n (Types s 0) less at in subst (λ m. all_up_to (other_byte (letter s)) (drop (suc m) all_rows) ≡ true) (sym place)
-    (each_system (λ s. all_up_to (other_byte (letter s)) (drop (suc (row_place (Types s 0))) all_rows)) s refl)
+after_types n s less at = grind (arith, common_steps, place_at n (Types s 0) less at, each_system)
 
 -- ---- the label
 
@@ -212,11 +203,7 @@ length-label_end label short = length-append (left label_columns label) (10 ∷ 
 
 label_shown : (a content label : List ℕ) → length a ≤ label_columns → length label ≤ label_columns → has_label a (header_line content label) ≡ bytes_eq (label_end a) (label_end label)
 unfolding header_line
-label_shown a content label short fits =
-    let front = left 60 content in
-    let own = length-label_end a short in
-    let size : length (front ++ label_end label) ≡ length front + 21 = length-append front (label_end label) ∙ ap (λ n. length front + n) (length-label_end label fits) in
-    ap (bytes_eq (label_end a)) (drop_at front (label_end label) (length (front ++ label_end label) - length (label_end a)) (omega (arith, own, size)))
+label_shown a content label short fits = grind (arith, common_steps, length-label_end, length-append)
 
 -- a line of types has their label
 pub types_labelled : (system : System) (all : List ℕ) (row : ℕ) → is_of_types (types_line system all row) ≡ true
@@ -226,8 +213,7 @@ short_label : (row : HeaderField) → length (label_of row) ≤ label_columns
 short_label row = at_most (length (label_of row)) label_columns (each_field (λ r. nat_le (length (label_of r)) label_columns) refl row)
 
 short_row : (r : HeaderRow) → length (row_label r) ≤ label_columns
-short_row (Texts row) = short_label row
-short_row r = grind (arith, lit≤)
+short_row r = grind (arith, common_steps, short_label, lit≤)
 
 -- what a row's line shows of a label
 row_shown : (h : Shown) (a : List ℕ) (r : HeaderRow) → length a ≤ label_columns → has_label a (row_line h r) ≡ bytes_eq (label_end a) (label_end (row_label r))
@@ -256,33 +242,25 @@ abbrev after_ok : HeaderRow → Bool
 after_ok r = not (is_optional r) || all_up_to (other_label r) (drop (suc (row_place r)) all_rows)
 
 after_row : (r : HeaderRow) → after_ok r ≡ true
-after_row (Texts row) = each_field (λ f. after_ok (Texts f)) refl row
-after_row r = refl
+after_row r = grind (arith, common_steps, each_field)
 
 same_or : (b t l : Bool) → (not b ≡ true → (b || t) ≡ l) → (b || t) ≡ (b || l)
-same_or true t l same = refl
-same_or false t l same = same refl
+same_or b t l same = grind (arith, common_steps)
 
 -- ---- values of optional rows
 
 same_value : (k : Known) (h : Shown) (r : HeaderRow) → HasRow k h r → is_given h.texts h.interval r ≡ is_given k.shown.texts k.shown.interval r
-same_value k h (Texts row) same = same_some h.texts k.shown.texts (fields_of row) same
-same_value k h Interval same = ap is_some same
-same_value k h r same = refl
+same_value k h r same = grind (arith, common_steps, same_some, is_some)
 
 value_there : (h : Shown) (r : HeaderRow) → is_optional r ≡ true → is_given h.texts h.interval r ≡ true → has_line h r ≡ true
-value_there h (Texts row) optional some = or_right (is_required row) (has_text h.texts row) some
-value_there h Interval optional some = some
-value_there h r optional some = cc
+value_there h r optional some = grind (arith, common_steps)
 
 module _ {n : ℕ} (less : n < row_count) {k : Known} {line : List ℕ} {h : Shown} {others left : List (List ℕ)} (on : GoesOn k n h others (line ∷ left)) where
   pub shows_next : has_line h (row_at n) ≡ true → row_line h (row_at n) ≡ line
-  shows_next has = let next = line_next h n less has in
-      sym (cons_parts line (row_line h (row_at n)) left (lines_after h (suc n) ++ others) (sym on.rest ∙ ap (λ l. l ++ others) next)).0
+  shows_next has = grind (arith, common_steps, line_next, cons_parts)
 
   pub rest_next : has_line h (row_at n) ≡ true → lines_after h (suc n) ++ others ≡ left
-  rest_next has = let next = line_next h n less has in
-      sym (cons_parts line (row_line h (row_at n)) left (lines_after h (suc n) ++ others) (sym on.rest ∙ ap (λ l. l ++ others) next)).1
+  rest_next has = grind (arith, common_steps, line_next, cons_parts)
 
   rest_skipped : has_line h (row_at n) ≡ false → lines_after h (suc n) ++ others ≡ line ∷ left
   rest_skipped lacks = sym (ap (λ l. l ++ others) (line_none h n less lacks)) ∙ on.rest
@@ -334,8 +312,7 @@ module _ (k : Known) (line : List ℕ) {n : ℕ} (less : n < row_count) (lacks :
   no_types s (suc row) at = all_begun (suc row) (counted k s) (here_lacks (Types s (suc row)) at)
 
   no_slots_left : (row : ℕ) → row_at n ≡ Slots row → k.slots ≤ slots_begun row
-  no_slots_left zero at = let none = (blank_at (Slots 0) at).1 refl in omega (arith, none)
-  no_slots_left (suc row) at = let more : slot_rows k.slots ≤ suc row = ltb-false (suc row) (slot_rows k.slots) (here_lacks (Slots (suc row)) at) in omega (arith, more)
+  no_slots_left row at = grind (arith, common_steps, blank_at, ltb-false, here_lacks)
 
   slots_same : (row : ℕ) → row_at n ≡ Slots row → (h : Shown) → IsShown h → Has k n h → HasRow k h (Slots row)
   slots_same zero at h is has =
@@ -355,9 +332,8 @@ module _ (k : Known) (line : List ℕ) {n : ℕ} (less : n < row_count) (lacks :
   row_skipped : (r : HeaderRow) → row_at n ≡ r → IsRowRead k r
   row_skipped (Types s zero) at = let left = no_types s 0 at in omega (arith, left)
   row_skipped (Types s (suc row)) at = let left = no_types s (suc row) at in let before = before_types less k s row at read in omega (arith, left, before)
-  row_skipped (Slots zero) at = let left = no_slots_left 0 at in omega (arith, left)
   row_skipped (Slots (suc row)) at = let left = no_slots_left (suc row) at in let before = before_slots less k row at read in omega (arith, left, before)
-  row_skipped r at = grind arith
+  row_skipped r at = grind (arith, common_steps, no_slots_left)
 
   nothing_known : (r : HeaderRow) → row_at n ≡ r → (h : Shown) → IsShown h → Has k n h → has_line h r ≡ false → HasRow k h r
   nothing_known (Texts row) at h is has none = none_same h.texts k.shown.texts (fields_of row) (or_parts (is_required row) (has_text h.texts row) none).1 (blank_at (Texts row) at)
@@ -442,11 +418,7 @@ single x y e = cc
 
 -- a row with what was read of its line has a line
 line_there : {n : ℕ} (less : n < row_count) (r : HeaderRow) {line : List ℕ} {old new : Known} → row_at n ≡ r → known_line old line r ≡ true → IsHeaderLineRead r line old new → (h : Shown) → Has old n h → HasRow new h r → has_line h r ≡ true
-line_there less (Types s row) at has row_read h a own = lt-ltb row (type_rows (length (planned_of s h.plan))) (subst (λ m. row < type_rows m) own.number row_read.there)
-line_there less r {line} {old} {new} at has row_read h a own = by (is_optional r) refl where
-  by : (o : Bool) → is_optional r ≡ o → has_line h r ≡ true
-  by true optional = value_there h r optional (same_value new h r own ∙ row_read.there optional)
-  by false fixed = plain_present less r at refl fixed old line h a ∙ has
+line_there less r at has row_read h a own = grind (arith, common_steps, lt-ltb, value_there, same_value, plain_present)
 
 pub row_law : {n : ℕ} {r : HeaderRow} {line : List ℕ} {old new : Known} → n < row_count → row_at n ≡ r → known_line old line (row_at n) ≡ true → IsHeaderLineRead r line old new → Law old n line new
 row_law {n} {r} {line} {old} {new} less at has row_read h is = (to, from) where

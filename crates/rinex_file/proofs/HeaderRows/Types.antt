@@ -2,7 +2,7 @@
 use Rattle.std.proofs.lemmas.Str.Ascii.{IsAscii-from_all}
 use Rattle.std.proofs.lemmas.List.{get_or-map}
 use Rattle.std.proofs.lemmas.Grind.{flat_map-append}
-use Rattle.rinex_file.proofs.Names.{AllPass-from_list_all, length-right, digits_in-whole, each_system, few_below, passes_below, get_or-flat_map, ◌-◌, length-take, length-drop, arith, rules, ◌≡◌, ◌∙◌, ap, refl, ℕ, zero, suc, ◌+◌, ◌<◌, ◌≤◌, ◌==◌, Bool, true, false, List, [], ◌∷◌, length, take, drop, Some, Option, nat_lt, sym, ◌*◌, ◌/◌, ◌%◌, ◌++◌, get_or, append_assoc, append-nil, ap₂, subst, ◌^◌, ◌||◌, decimal, nat_eq, IsAscii, IsUtf8, flat_map, slice_index, codes, list_any, IsDistinct, IsUtf8-from_ascii, cases_lt, length-map, take_more, get_or-drop, take_all, take_at, take-take, take-map, drop-drop, drop-take, All-get_or, apart_from_distinct, IsDistinct-tail, length-decimal-le, System, SignalAt, IsSignal, table, code_of, signal_of_code, passes_at, is_less, is_equal, indices, IsOf, any_index, indices-push, type_of, types_of, codes_of, type_columns, header_line, type_front, right, letter, digits_in, AreTypes, types_line, signals_begun, HasSignalAt, same_Some, list_all, All-weaker, most_signals, both_ways, flip_false, types_with, add-one}
+use Rattle.rinex_file.proofs.Names.{AllPass-from_list_all, length-right, digits_in-whole, each_system, few_below, passes_below, get_or-flat_map, common_steps, ◌-◌, length-take, length-drop, arith, rules, ◌≡◌, ◌∙◌, ap, refl, ℕ, zero, suc, ◌+◌, ◌<◌, ◌≤◌, ◌==◌, Bool, true, false, List, [], ◌∷◌, length, take, drop, Some, Option, nat_lt, sym, ◌*◌, ◌/◌, ◌%◌, ◌++◌, get_or, append_assoc, ap₂, subst, ◌||◌, decimal, nat_eq, IsAscii, IsUtf8, flat_map, slice_index, codes, list_any, IsDistinct, IsUtf8-from_ascii, cases_lt, length-map, take_more, get_or-drop, take_all, take_at, take-take, take-map, drop-drop, drop-take, All-get_or, apart_from_distinct, IsDistinct-tail, length-decimal-le, System, SignalAt, IsSignal, table, code_of, signal_of_code, passes_at, is_less, is_equal, indices, IsOf, any_index, indices-push, type_of, types_of, codes_of, type_columns, header_line, type_front, right, letter, digits_in, AreTypes, types_line, signals_begun, HasSignalAt, same_Some, list_all, All-weaker, most_signals, both_ways, flip_false, types_with, add-one}
 pub use Rattle.rinex_file.proofs.HeaderRows.Lists.{content_first}
 use Rattle.rinex_file.proofs.HeaderRows.Lists.{item_in_line}
 
@@ -92,15 +92,7 @@ next_place start i h = omega (arith, h)
 pub type_more : (types : List (List ℕ)) {start i : ℕ} {x : List ℕ} (front : List ℕ) {text new : List ℕ} → start ≤ i → i < length types → x ≡ get_or types i []
     → text ≡ front ++ columns (take (i - start) (drop start types)) → new ≡ text ++ 32 ∷ x
     → new ≡ front ++ columns (take ((i + 1) - start) (drop start types))
-type_more types {start} {i} {x} front low high is before more =
-    let k = i - start in
-    let rest = drop start types in
-    let less : k < length rest = simp length-drop (omega (arith, low, high)) in
-    let here : get_or rest k [] ≡ x = get_or-drop start types k [] ∙ ap (λ n. get_or types n []) (place_of start i low) ∙ sym is in
-    let all : take ((i + 1) - start) rest ≡ take k rest ++ x ∷ [] = ap (λ n. take n rest) (next_place start i low) ∙ take_more rest k [] less ∙ ap (λ y. take k rest ++ y ∷ []) here in
-    let grown : columns (take ((i + 1) - start) rest) ≡ columns (take k rest) ++ 32 ∷ x =
-    ap columns all ∙ flat_map-append (λ t. 32 ∷ t) (take k rest) (x ∷ []) ∙ ap (λ l. columns (take k rest) ++ l) (append-nil (32 ∷ x)) in
-    more ∙ ap (λ l. l ++ 32 ∷ x) before ∙ append_assoc front (columns (take k rest)) (32 ∷ x) ∙ ap (λ l. front ++ l) (sym grown)
+type_more types front low high is before more = grind (arith, common_steps, length-drop, get_or-drop, place_of, next_place, take_more, flat_map-append)
 
 same_take : (types : List (List ℕ)) (m n : ℕ) → length types ≤ m → length types ≤ n → take m types ≡ take n types
 same_take types m n a b = take_all m types a ∙ sym (take_all n types b)
@@ -141,9 +133,7 @@ type_at system all i less = sym (signal_type system all (signal_at system all (i
 
 -- a blank and three bytes
 four_columns : (system : System) (all : List ℕ) → AreTypes system all → (i : ℕ) → i < length (types_of (codes_of system all)) → length (32 ∷ get_or (types_of (codes_of system all)) i []) ≡ 4
-four_columns system all are i less =
-    let few : i < 4 * length all = subst (λ (n : ℕ). i < n) (length-system_types system all) less in
-    ap (λ t. length (32 ∷ t)) (type_at system all i few) ∙ ap (λ n. suc (suc n)) (length-code system (slice_index all (i / 4)) (listed_at system all (i / 4) are (quarter i (length all) few)))
+four_columns system all are i less = grind (arith, length-system_types, type_at, length-code, listed_at, quarter)
 
 -- the code of a signal is in the line in which its types begin
 code_in_line : {system : System} {all : List ℕ} (row q k : ℕ) → AreTypes system all → 4 * length all < 1000 → q < 13 → 13 * row + q ≡ 4 * k → k < length all
@@ -194,9 +184,6 @@ not_before (x ∷ all) (suc k) apart less =
     ap₂ (λ a b. a || b) other (not_before all k (IsDistinct-tail nat_eq x all apart) (omega (arith, less)))
 
 -- ---- one more signal
-
-same_place : (row place : ℕ) → (13 * row + 3) / 4 ≤ place → 13 * row + (4 * place - 13 * row) ≡ 4 * place
-same_place row place low = omega (arith, low)
 
 in_row : (row place : ℕ) → place < (13 * (row + 1) + 3) / 4 → 4 * place - 13 * row < 13
 in_row row place high = omega (arith, high)
@@ -261,10 +248,7 @@ count_shown system all line are bound is =
 
 pub count_read : (system : System) (all line : List ℕ) → AreTypes system all → length (table system) ≤ most_signals → line ≡ types_line system all 0
     → digits_in (take 3 (drop 3 line)) / 4 ≡ length all
-count_read system all line are bound is =
-    let few = few_types system all are in
-    let fits : 4 * length all < 2 ^ 64 = omega (arith, few, bound) in
-    ap (λ t. digits_in t / 4) (count_shown system all line are bound is) ∙ ap (λ (n : ℕ). n / 4) (digits_in-whole 3 (4 * length all) fits) ∙ fourth (length all)
+count_read system all line are bound is = grind (arith, common_steps, few_types, count_shown, digits_in-whole, fourth)
 
 shorter_still : {X : Type 0} (n : ℕ) (xs : List X) → length (take n xs) ≤ length xs
 shorter_still n xs = simp length-take (omega arith)

@@ -5,7 +5,7 @@ use Rattle.rinex_file.proofs.FileLines.{lines_are_lines, lines_are_short}
 use Rattle.rinex_file.proofs.Reading.Header.{text_header, begin_whole, begun_with, row_expected}
 use Rattle.rinex_file.proofs.Reading.Epochs.{sound_open}
 use Rattle.rinex_file.proofs.Reading.Lines.{both_said, only_faults, said_of, consumed, none_ahead, splits}
-use Rattle.rinex_file.proofs.Names.{HasReadPartAt, append_assoc, inr, is_some, true, ◌+◌, ReadsNextLine, Ok, None, Some, AddsOrEnds, ReadFault, ExpectsHeader, ExpectsRow, Adds, HasReadPart, ExplainsFault, IsFaultAfter, StopsReading, HasPlan, IsEpochLine, Known, StationValues, System, IsSatelliteRow, IsStamped, AreRead, All, All-head, All-tail, plan_in, planned_in, with_read, Read, ◌∙◌, header_lines, Memory, ExplainsStored, HasHeader, IsWhole, shown_text, ◌≡◌, sym, ap, refl, subst, ℕ, List, [], ◌∷◌, ◌++◌, Option, IfSome, AddedRow, NoRow, OneRow, LastRow, Expected, Header, Epoch, EventPosition, EventHeight, EventEpoch, Satellite, ParserState, Reading, Progress, History, HasRead, HasReadTo, stamped_at, IsSoundAt, IsAt, IsSound, HasLinesLeft, progress_at, with_line, SatelliteRow, Stamped, FileValue, stamped, joined, file_lines, AreEpochsRead, AreFirstEpochs, Consumes, Consumes-trans, IsPrefix, false, has, prepend_known}
+use Rattle.rinex_file.proofs.Names.{HasReadPartAt, arith, common_steps, append_assoc, inr, is_some, true, ◌+◌, ReadsNextLine, Ok, None, Some, AddsOrEnds, ReadFault, ExpectsHeader, ExpectsRow, Adds, HasReadPart, ExplainsFault, IsFaultAfter, StopsReading, HasPlan, IsEpochLine, System, IsSatelliteRow, IsStamped, AreRead, All, All-head, All-tail, plan_in, planned_in, with_read, Read, ◌∙◌, header_lines, Memory, ExplainsStored, HasHeader, IsWhole, shown_text, ◌≡◌, sym, ap, refl, subst, ℕ, List, [], ◌∷◌, ◌++◌, Option, IfSome, AddedRow, NoRow, Expected, Header, Epoch, EventPosition, EventHeight, EventEpoch, Satellite, ParserState, Reading, Progress, History, HasRead, HasReadTo, IsSoundAt, IsAt, IsSound, HasLinesLeft, progress_at, with_line, SatelliteRow, Stamped, FileValue, stamped, joined, file_lines, AreEpochsRead, AreFirstEpochs, Consumes, IsPrefix, false, has, prepend_known}
 
 -- a file that continues after what was read begins with the epochs that were read
 at_left : (s : Progress) (expected : Expected) (v : FileValue) (left : List (List ℕ)) → IsSoundAt s expected → IsAt s expected v left → IsPrefix s.epochs v.epochs
@@ -40,23 +40,12 @@ first_epochs {r} {h} {input} read =
 -- the same of the bytes that were read, if the reader failed in a line
 pub epochs_read : {r : Reading} {h : History} {input before : Option (List ℕ)} (left : Option (List ℕ)) {ahead : List ℕ} (line : List ℕ) → HasRead r h input before → Consumes (prepend_known r.lines.ahead before) (prepend_known ahead left) line → ahead ≡ []
     → has 10 line ≡ false → AreEpochsRead h.epochs input left
-epochs_read {r} {h} {input} {before} left {ahead} line read next none endless =
-    let s = progress_at r.parser_state h in
-    let t = read.taken in
-    record {
-      lines = t.lines;
-      rest = line;
-      read = subst (λ (a : Option (List ℕ)). Consumes input a (joined t.lines ++ line)) (none_ahead left ahead none) (Consumes-trans input (prepend_known r.lines.ahead before) (prepend_known ahead left) (joined t.lines) line t.taken next);
-      are = t.are;
-      last = endless;
-      begun = begun_with s s.expected t.lines read.history.sound t.history.are;
-    }
+epochs_read left line read next none endless = grind (arith, common_steps, none_ahead, begun_with)
 
 -- ---- the lines of epochs
 
 pub header_expected : (expected : Expected) → ExpectsHeader expected → ExpectsRow expected → ⊥
-header_expected (Header place) header inside = inside
-header_expected other header inside = header
+header_expected expected header inside = grind (arith, common_steps)
 
 pub adds_some : (old new : Reading) {o : Option AddedRow} {added : AddedRow} → o ≡ Some added → AddsOrEnds old new (Ok o) → Adds added old.parser_state new.parser_state
 adds_some old new e adds = subst (λ (x : Option AddedRow). AddsOrEnds old new (Ok x)) e adds
@@ -67,25 +56,21 @@ adds_none old new e adds = subst (λ (x : Option AddedRow). AddsOrEnds old new (
 -- a line that isn't that of a satellite adds nothing
 pub none_added : (old new : ParserState) (h : History) (added : AddedRow) → Adds added old new → (ExpectsRow old.expected → ⊥)
     → (with_line added new h ≡ h) × ((ExpectsHeader old.expected → ⊥) → new.head ≡ old.head)
-none_added old new h NoRow adds outside = (refl, adds.1)
-none_added old new h other adds outside = absurd (outside adds.0)
+none_added old new h added adds outside = grind (arith, common_steps)
 
 -- a satellite of an epoch is expected
 pub open_part : {r : Reading} {es : List Stamped} {e : Stamped} {input left : Option (List ℕ)} (expected : Expected) → ExpectsRow expected → HasReadPartAt expected r es e input left
     → HasRead r (record { epochs = es; rows = e.rows }) input left × (r.parser_state.change ≡ e.change) × (r.parser_state.time ≡ e.time)
-open_part (Satellite n) inside part = part
-open_part other inside part = absurd inside
+open_part expected inside part = grind (arith, common_steps)
 
 pub is_part : {r : Reading} {es : List Stamped} {e : Stamped} {input left : Option (List ℕ)} (expected : Expected) → ExpectsRow expected → HasRead r (record { epochs = es; rows = e.rows }) input left
     → r.parser_state.change ≡ e.change → r.parser_state.time ≡ e.time → HasReadPartAt expected r es e input left
-is_part (Satellite n) inside read change time = (read, change, time)
-is_part other inside read change time = absurd inside
+is_part expected inside read change time = grind (arith, common_steps)
 
 -- none is expected
 pub whole_part : {r : Reading} (es : List Stamped) (e : Stamped) {input left : Option (List ℕ)} (expected : Expected) → (ExpectsRow expected → ⊥) → HasReadPartAt expected r es e input left
     → HasReadTo r (es ++ e ∷ []) input left
-whole_part es e (Satellite n) outside part = absurd (outside tt)
-whole_part es e other outside part = part
+whole_part es e expected outside part = grind (arith, common_steps)
 
 is_whole : (r : Reading) (es : List Stamped) (e : Stamped) {input left : Option (List ℕ)} (expected : Expected) → expected ≡ Epoch → HasReadTo r (es ++ e ∷ []) input left → HasReadPartAt expected r es e input left
 is_whole r es e {input} {left} expected is read = subst (λ (d : Expected). HasReadPartAt d r es e input left) (sym is) read
@@ -94,27 +79,13 @@ is_whole r es e {input} {left} expected is read = subst (λ (d : Expected). HasR
 pub row_added : (old new : Reading) (es : List Stamped) (e : Stamped) {input left : Option (List ℕ)} (added : AddedRow) → Adds added old.parser_state new.parser_state → ExpectsRow old.parser_state.expected
     → old.parser_state.change ≡ e.change → old.parser_state.time ≡ e.time → HasRead new (with_line added new.parser_state (record { epochs = es; rows = e.rows })) input left
     → HasReadPart new es (with_read e new.parser_state.last_read) input left × (plan_in new ≡ plan_in old)
-row_added old new es e NoRow adds inside change time read = absurd (adds.0 inside)
-row_added old new es e OneRow adds inside change time read =
-    let (head, same, at) = adds.2 in
-    (is_part new.parser_state.expected adds.1 read (same ∙ change) (at ∙ time), ap (λ (k : Known). k.shown.plan) head)
-row_added old new es e {input} {left} LastRow adds inside change time read =
-    let (head, same, at) = adds.2 in
-    let c = new.parser_state in
-    let whole = stamped_at_as (e.rows ++ c.last_read ∷ []) (same ∙ change) (at ∙ time) in
-    (is_whole new es (with_read e c.last_read) c.expected adds.1 (subst (λ (x : Stamped). HasRead new (record { epochs = es ++ x ∷ []; rows = [] }) input left) whole read, λ row. subst ExpectsRow adds.1 row), ap (λ (k : Known). k.shown.plan) head) where
-      stamped_at_as : {a b : Option StationValues} {s t : ℕ} (rows : List SatelliteRow) → a ≡ b → s ≡ t → stamped_at a s rows ≡ stamped_at b t rows
-      stamped_at_as rows change time = cc
+row_added old new es e added adds inside change time read = grind (arith, common_steps, is_part, is_whole)
 
 pub not_pushed : {A : Type 0} (xs : List A) (x : A) → xs ++ x ∷ [] ≡ [] → ⊥
-not_pushed [] x e = cc
-not_pushed (y ∷ ys) x e = cc
+not_pushed xs x e = grind (arith, common_steps)
 
 pub are_read : (s : Progress) (expected : Expected) → IsSoundAt s expected → (s.epochs ≡ [] → ⊥) → AreRead s
-are_read s (Header place) sound some = absurd (some sound.0)
-are_read s (EventHeight p) sound some = sound.0.0
-are_read s (EventEpoch w) sound some = sound.0.0
-are_read s other sound some = sound.0
+are_read s expected sound some = grind (arith, common_steps)
 
 -- the line of a satellite is read
 pub row_read : (old new : Reading) (es : List Stamped) (e : Stamped) (input before left : Option (List ℕ)) (o : Option AddedRow) → ExpectsRow old.parser_state.expected → HasReadPart old es e input before
@@ -210,9 +181,7 @@ whole_header {input = input} read some = said_of input _ _ (λ bytes has. has.0)
 
 -- a line that adds a satellite
 pub some_read : (added : AddedRow) (c : ParserState) (h : History) → (added ≡ NoRow → ⊥) → (with_line added c h).epochs ≡ [] → (with_line added c h).rows ≡ [] → ⊥
-some_read NoRow c h other none rows = other refl
-some_read OneRow c h other none rows = not_pushed h.rows c.last_read rows
-some_read LastRow c h other none rows = not_pushed h.epochs (stamped_at c.change c.time (h.rows ++ c.last_read ∷ [])) none
+some_read added c h other none rows = grind (arith, common_steps, not_pushed)
 
 -- memory for the epochs that were read may run out
 pub stored_memory : {c : ParserState} {h : History} {input : Option (List ℕ)} → IsWhole c h input → IfSome input (λ bytes. ExplainsStored bytes Memory)

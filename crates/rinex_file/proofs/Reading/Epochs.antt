@@ -1,13 +1,11 @@
 -- The steps of a reading from one line of an epoch to the next.
 use Rattle.rinex_file.proofs.FewRows.{few_most, few_rows}
-use Rattle.rinex_file.proofs.Names.{le_trans, few_below, open_epochs, Ok, ExpectsHeader, ExpectsRow, ok_or, MayRunOut, Err, Memory, arith, ◌≡◌, refl, ℕ, ◌<◌, List, [], ◌∷◌, ◌++◌, length, length-append, suc, ◌+◌, ◌≤◌, sym, ap, ap₂, subst, ◌∙◌, append_assoc, append-nil, zero-add, drop, get_or, Option, Some, None, Expected, IsStrictlyIncreasing, All, map, flat_map, Result, IsErrAnd, get_or_append_left, map-append, common_steps, All-head, All-tail, All-nil, All-push, flat_map-append, System, PlanValue, planned_of, civil_of, StationValues, Stamped, SatelliteRow, FileValue, time_stamped, IsFileValue, IsPlan, IsStamped, IsSatelliteRow, AreSatelliteRows, IsTime, IsChange, AreChanges, IsFirstSame, changed_by, values_following, rank_of, most_rows, planned_in, Epoch, Satellite, epoch_line, satellite_line, stamped_lines, change_lines, event_line, Progress, file_with, stamped, StartsAt, IsAt, IsAtEpoch, IsInEvent, IsInEpoch, HasLinesLeft, epoch_after, begun_at, with_row, with_epoch, AreRead, IsBegun, IsSoundAt, IsSound, MayBegin, values_now, AreLinesAt, header_lines, whole_lines, part_lines, AddedRow, Refusal, Bad, ParserState, History, FollowsHistory, GoesOnWithLine, ShowsLine, RefusesLine, TakesLine, progress_at, Known, NoRow, IsNext, most_signals, table, short_table}
+use Rattle.rinex_file.proofs.Names.{le_trans, few_below, open_epochs, ExpectsHeader, ExpectsRow, ok_or, MayRunOut, Err, Memory, arith, ◌≡◌, refl, ℕ, ◌<◌, List, [], ◌∷◌, ◌++◌, length, length-append, suc, ◌+◌, ◌≤◌, sym, ap, ap₂, subst, ◌∙◌, append_assoc, append-nil, zero-add, drop, get_or, Option, Some, None, Expected, IsStrictlyIncreasing, All, map, flat_map, Result, IsErrAnd, get_or_append_left, map-append, common_steps, All-head, All-tail, All-nil, All-push, flat_map-append, System, PlanValue, planned_of, civil_of, StationValues, Stamped, SatelliteRow, FileValue, time_stamped, IsFileValue, IsPlan, IsStamped, IsSatelliteRow, AreSatelliteRows, IsTime, IsChange, AreChanges, IsFirstSame, changed_by, values_following, rank_of, most_rows, planned_in, Epoch, Satellite, epoch_line, satellite_line, stamped_lines, change_lines, event_line, Progress, file_with, stamped, StartsAt, IsAt, IsAtEpoch, IsInEvent, IsInEpoch, HasLinesLeft, epoch_after, begun_at, with_row, with_epoch, AreRead, IsBegun, IsSoundAt, IsSound, MayBegin, values_now, AreLinesAt, header_lines, whole_lines, part_lines, AddedRow, Refusal, Bad, ParserState, History, FollowsHistory, GoesOnWithLine, ShowsLine, RefusesLine, TakesLine, progress_at, Known, NoRow, IsNext, most_signals, table, short_table}
 
 -- a line was refused: memory ran out, or no file continues with it
 pub passed : {Q : Refusal → Type 0} (old new : ParserState) (line : List ℕ) (r : Result AddedRow Refusal) → IsErrAnd r Q → ((e : Refusal) → Q e → e ≡ Bad → (h : History) → FollowsHistory old h → RefusesLine (progress_at old h) line)
     → ((e : Refusal) → Q e → e ≡ Memory → MayRunOut old.expected line) → TakesLine old new line r
-passed old new line (Ok added) is bad run = absurd is
-passed old new line (Err Bad) is bad run = bad Bad is refl
-passed old new line (Err Memory) is bad run = run Memory is refl
+passed old new line r is bad run = grind (arith, common_steps)
 
 -- a line was refused since nothing was read in it
 pub stopped : {Q : Refusal → Type 0} (old new : ParserState) (line : List ℕ) (r : Result AddedRow Refusal) → IsErrAnd r Q → ((e : Refusal) → Q e → e ≡ Bad)
@@ -344,11 +342,7 @@ few_at s n expected sound = few_signals_of s.known.shown.plan (sound_open s n ex
 
 seen_more : (signals : System → ℕ) (rows : List SatelliteRow) (row : SatelliteRow) → AreSatelliteRows signals rows → IsSatelliteRow signals row → IsStrictlyIncreasing (map rank_of rows ++ rank_of row ∷ [])
     → AreSatelliteRows signals (rows ++ row ∷ [])
-seen_more signals rows row these is rise =
-    record {
-      each = All-push (IsSatelliteRow signals) rows row these.each is;
-      rise = subst IsStrictlyIncreasing (sym (map-append rank_of rows (row ∷ []))) rise;
-    }
+seen_more signals rows row these is rise = grind (arith, common_steps, All-push)
 
 starts_more : (first : ℕ) (es : List Stamped) (x : Stamped) → StartsAt first es → (es ≡ [] → first ≡ x.time) → StartsAt first (es ++ x ∷ [])
 starts_more first v1 x starts none = grind arith
@@ -406,5 +400,4 @@ goes_on e k change t history sound follows shows outside same = let few = few_op
 
 -- another line is expected than that of a satellite
 pub outside_after : (expected : Expected) (change : Option StationValues) → expected ≡ epoch_after change → ExpectsRow expected → ⊥
-outside_after expected None is inside = subst ExpectsRow is inside
-outside_after expected (Some values) is inside = subst ExpectsRow is inside
+outside_after expected change is inside = grind (arith, common_steps)

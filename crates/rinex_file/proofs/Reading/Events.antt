@@ -1,7 +1,7 @@
 -- The steps of a reading from one line of an event to the next.
 use Rattle.rinex_file.proofs.OneReading.{has-point}
 use Rattle.rinex_file.proofs.Reading.Epochs.{lines_with, lines_are, changes_midst, sound_between, at_expected, file_value, cons_parts}
-use Rattle.rinex_file.proofs.Names.{has-append, common_steps, arith, lit<, ◌≡◌, ◌≢◌, ℕ, zero, suc, ◌<◌, ◌^◌, get_or, List, [], ◌∷◌, ◌++◌, refl, sym, ap, subst, ◌∙◌, length, drop, append_assoc, Option, Some, None, true, false, ⊤, ◌||◌, flat_map, civil_of, Civil, StationValues, Expected, Epoch, EventPosition, EventHeight, EventEpoch, Stamped, FileValue, IsFileValue, IsChange, position_line, height_line, epoch_line, joined, has, stamped_lines, event_line, whole_lines, GoesOnWithLine, ShowsLine, Progress, file_with, StartsAt, IsAt, IsAtEpoch, IsInEvent, IsPosition, position_of, HasLinesLeft, expected_next, IsSound, AreLinesAt, values_now, drop-cons}
+use Rattle.rinex_file.proofs.Names.{has-append, common_steps, arith, lit<, ◌≡◌, ◌≢◌, ℕ, zero, suc, ◌<◌, ◌^◌, get_or, List, [], ◌∷◌, ◌++◌, refl, sym, ap, subst, ◌∙◌, length, drop, append_assoc, Option, Some, None, true, false, ⊤, ◌||◌, flat_map, civil_of, Civil, StationValues, Expected, Epoch, EventPosition, EventHeight, EventEpoch, Stamped, FileValue, IsFileValue, IsChange, position_line, height_line, epoch_line, joined, has, stamped_lines, event_line, GoesOnWithLine, ShowsLine, Progress, file_with, StartsAt, IsAt, IsAtEpoch, IsInEvent, IsPosition, position_of, HasLinesLeft, expected_next, IsSound, values_now, drop-cons}
 
 -- ---- an event's line isn't that of an epoch, which has a point
 
@@ -68,9 +68,7 @@ event_taken s line expected shown v left on =
     (on.0, event_begins s here.others shown here.value here.starts here.rest)
 
 pub event_shows : (s : Progress) (line : List ℕ) → s.expected ≡ Epoch → line ≡ event_line → ShowsLine s (expected_next s EventPosition) line
-event_shows s line expected shown taken are =
-    let here : taken ≡ whole_lines s.known.shown s.epochs = subst (λ d. AreLinesAt s d taken) expected are in
-    ap (λ l. l ++ line ∷ []) here ∙ ap (λ l. whole_lines s.known.shown s.epochs ++ l ∷ []) shown
+event_shows s line expected shown = grind (arith, common_steps)
 
 -- the lines with another one
 lines_more : (whole taken before : List (List ℕ)) (line shown : List ℕ) → taken ≡ whole ++ before → line ≡ shown → taken ++ line ∷ [] ≡ whole ++ (before ++ shown ∷ [])
@@ -123,8 +121,7 @@ position_taken s p line expected only v left on =
     )
 
 pub position_shows : (s : Progress) (p : StationValues) (line : List ℕ) → s.expected ≡ EventPosition → line ≡ position_line p → ShowsLine s (expected_next s (EventHeight p)) line
-position_shows s p line expected shown taken are =
-    lines_more (whole_lines s.known.shown s.epochs) taken (event_line ∷ []) line (position_line p) (subst (λ d. AreLinesAt s d taken) expected are) shown
+position_shows s p line expected shown = grind (arith, common_steps, lines_more)
 
 -- ---- the height
 
@@ -162,8 +159,7 @@ module _ (s : Progress) (p : StationValues) (line : List ℕ) (expected : s.expe
         (on.0, event_with next.event (same_next d v left next) next.event.rest)
 
 pub height_shows : (s : Progress) (p : StationValues) (h : ℕ) (line : List ℕ) → s.expected ≡ EventHeight p → line ≡ height_line h → ShowsLine s (expected_next s (EventEpoch (with_height p h))) line
-height_shows s p h line expected shown taken are =
-    lines_more (whole_lines s.known.shown s.epochs) taken (event_line ∷ position_line p ∷ []) line (height_line h) (subst (λ d. AreLinesAt s d taken) expected are) shown
+height_shows s p h line expected shown = grind (arith, common_steps, lines_more)
 
 -- ---- what holds after a line of an event is accepted
 

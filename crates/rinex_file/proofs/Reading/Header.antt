@@ -85,8 +85,7 @@ row_expected s other lines sound are inside = absurd inside
 
 -- the header is whole if an epoch was read
 pub past_header : (s : Progress) (expected : Expected) → IsSoundAt s expected → (s.epochs ≡ [] → ⊥) → ExpectsHeader expected → ⊥
-past_header s (Header place) sound some inside = some sound.0
-past_header s other sound some inside = absurd inside
+past_header s expected sound some inside = grind (arith, common_steps)
 
 are_begun : (expected : Expected) (lines : List (List ℕ)) → AreBefore expected lines → AreBegun lines
 are_begun v0 lines h = grind arith
@@ -105,8 +104,7 @@ run_out s (Header place) lines line sound are run = (are_before s (Header place)
 run_out s other lines line sound are run = absurd run
 
 pub no_epochs_yet : (s : Progress) (expected : Expected) (line : List ℕ) → IsSoundAt s expected → MayRunOut expected line → s.epochs ≡ []
-no_epochs_yet s (Header place) line sound run = sound.0
-no_epochs_yet s other line sound run = absurd run
+no_epochs_yet s expected line sound run = grind (arith, common_steps)
 
 -- the lines that were read begin with the header if a satellite was read
 pub begin_whole : (s : Progress) (expected : Expected) (lines : List (List ℕ)) → IsSoundAt s expected → AreLinesAt s expected lines → (s.epochs ≡ [] → s.rows ≡ [] → ⊥)
@@ -190,9 +188,7 @@ module _ (s : Progress) {place : ℕ} (line : List ℕ) (expected : s.expected �
     header_ended v left on = let here = in_header s place v (line ∷ left) expected on in (here.0, ended v left here.0 here.1)
 
     pub ended_shows : ShowsLine s (known_as s k Epoch) line
-    ended_shows taken are =
-        ap (λ l. l ++ line ∷ []) (subst (λ d. AreLinesAt s d taken) expected are k.shown end.is end.has) ∙ sym end.lines
-        ∙ sym (append-nil (header_lines k.shown)) ∙ ap (λ (es : List Stamped). whole_lines k.shown es) (sym none)
+    ended_shows = grind (arith, common_steps)
 
 -- the header was read, and nothing more
 pub sound_start : (s : Progress) (k : Known) → IsShown k.shown → s.epochs ≡ [] → AreRead (known_as s k Epoch)

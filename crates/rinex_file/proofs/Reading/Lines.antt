@@ -1,7 +1,7 @@
 -- Bytes that were read ahead and the lines among them; a file that is read line by line.
 use Rattle.rinex_file.specs.declared.read.fault.ReadFault.TheVariants.{Memory}
 use Rattle.rinex_file.proofs.Writing.Sent.{joined-append}
-use Rattle.rinex_file.proofs.Names.{has-append, lacks-append, inr, common_steps, arith, ◌≡◌, ◌∙◌, sym, ap, subst, refl, ℕ, zero, suc, ◌+◌, ◌-◌, ◌<◌, ◌≤◌, true, false, List, [], ◌∷◌, ◌++◌, length, take, drop, get_or, length-append, take-add, append_assoc, append-nil, Option, Some, IfSome, inl, is_some, ◌||◌, ◌==◌, nat_eq, nat_lt, min, All, ⊤, Bool, Ok, Consumes, IsAtEnd, prepend_known, min-eq_left, min-eq_right, min-le_left, min-le_right, le-min, false_from_ne_true, or_parts, or_right, append_cancel_left, length-take-le, take-append-drop, length_push, drop-take, drop-drop, take-take, Consumes-nil, Consumes-trans, All-head, All-tail, All-push, IsHeaderBegun, IsAtTypes, is_of_types, ExplainsStored, ExplainsAny, HasHeader, has, LeavesRest, AreMoved, MovesBytes, IsLine, IsTextOf, NoFileBegins, IsCutShort, IsTooLong, IsFaulty, ExplainsFault, IsNoFault, most_lines, ParserState, AddedRow, Reading, FileValue, IsFileValue, file_text, file_lines, History, with_line, GoesOnWithLine, ShowsLine, RefusesLine, ReadsNextLine, HasRead, IsWhole, IsTextOfOnly, file_at, IsTaken, FileBuilder, history_of, HasReadWhole, joined, ReadFault, Read, CutShort, TooLong, AreBegun, Progress, HasLinesLeft, AreLinesOf, HasReadLines, most_line}
+use Rattle.rinex_file.proofs.Names.{has-append, lacks-append, common_steps, arith, ◌≡◌, ◌∙◌, sym, ap, subst, refl, ℕ, zero, suc, ◌+◌, ◌-◌, ◌<◌, ◌≤◌, true, false, List, [], ◌∷◌, ◌++◌, length, take, drop, get_or, length-append, take-add, append_assoc, append-nil, Option, Some, IfSome, inl, is_some, ◌||◌, ◌==◌, nat_eq, nat_lt, min, All, ⊤, Bool, Ok, Consumes, IsAtEnd, prepend_known, min-eq_left, min-eq_right, min-le_left, min-le_right, le-min, false_from_ne_true, or_parts, or_right, append_cancel_left, length-take-le, take-append-drop, length_push, drop-take, drop-drop, take-take, Consumes-nil, Consumes-trans, All-head, All-tail, All-push, IsHeaderBegun, IsAtTypes, is_of_types, ExplainsStored, ExplainsAny, HasHeader, has, LeavesRest, AreMoved, MovesBytes, IsLine, IsTextOf, NoFileBegins, IsCutShort, IsTooLong, IsFaulty, ExplainsFault, IsNoFault, most_lines, ParserState, AddedRow, Reading, FileValue, IsFileValue, file_text, file_lines, History, with_line, GoesOnWithLine, ShowsLine, RefusesLine, ReadsNextLine, HasRead, IsWhole, IsTextOfOnly, file_at, IsTaken, FileBuilder, history_of, HasReadWhole, joined, ReadFault, Read, CutShort, TooLong, AreBegun, Progress, HasLinesLeft, AreLinesOf, HasReadLines, most_line}
 
 -- ---- bytes that are moved to a line
 
@@ -184,14 +184,7 @@ over_long c bytes t size endless next = grind (arith, consumed, Consumes-trans, 
 
 -- a byte follows the largest number of lines
 pub too_long : {s : Progress} {n : ℕ} {a b : Option (List ℕ)} (c : Option (List ℕ)) (bytes : List ℕ) → IsTaken s n a b → n ≡ most_lines → 0 < length bytes → Consumes b c bytes → IfSome a IsTooLong
-too_long {a} {b} c bytes t most some next =
-    consumed a c (joined t.lines ++ bytes) IsTooLong (Consumes-trans a b c (joined t.lines) bytes t.taken next) (λ rest. record {
-      lines = t.lines;
-      rest = bytes ++ rest;
-      first = record { are = t.are; first = append_assoc (joined t.lines) bytes rest };
-      count = t.many ∙ most;
-      more = simp length-append (omega (arith, some));
-    })
+too_long c bytes t most some next = grind (arith, common_steps, length-append)
 
 -- the next line is one of types in a header
 pub at_types : {s : Progress} {n : ℕ} {a b : Option (List ℕ)} (c : Option (List ℕ)) (line : List ℕ) (t : IsTaken s n a b) → IsLine line → Consumes b c line → IsHeaderBegun t.lines → is_of_types line ≡ true → IfSome a IsAtTypes
@@ -303,19 +296,12 @@ both_said a P Q R h p q = grind arith
 pub said_of : (a : Option (List ℕ)) (P Q : List ℕ → Type 0) → ((input : List ℕ) → P input → Q input) → IfSome a P → IfSome a Q
 said_of a P Q h p = grind arith
 
--- what explains a fault explains it if epochs are stored
-stored_of : (input : List ℕ) (fault : ReadFault) → ExplainsFault input fault → ExplainsStored input fault
-stored_of input Memory why = inl why
-stored_of input other why = why
-
 pub explained : (b : Bool) (a : Option (List ℕ)) (fault : ReadFault) → IfSome a (λ input. ExplainsFault input fault) → IfSome a (λ input. ExplainsAny b input fault)
-explained false a fault why = why
-explained true a fault why = said_of a _ _ (λ input e. stored_of input fault e) why
+explained b a fault why = grind (arith, common_steps)
 
 -- memory for an epoch ran out
 pub out_of_memory : (b : Bool) (a : Option (List ℕ)) → b ≡ true → IfSome a HasHeader → IfSome a (λ input. ExplainsAny b input Memory)
-out_of_memory true a is has = said_of a _ _ (λ input header. inr header) has
-out_of_memory false a is has = cc
+out_of_memory b a is has = grind (arith, common_steps)
 
 -- a memory fault has nothing to explain
 pub no_reason : (a : Option (List ℕ)) (v : FileValue) → IfSome a (λ input. input ≡ file_text v → ⊤)

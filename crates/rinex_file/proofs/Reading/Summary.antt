@@ -30,7 +30,4 @@ ended r es s whole is = (text_with whole (IsSummaryRead r es s) ((is, refl), ref
 -- the same without the plan
 pub without_plan : (r : Reading) (es : List Stamped) (s : FileSummary) (input : Option (List ℕ)) → IsTextWith (IsSummaryRead r es s) input → IfTextOfFile input (IsSummaryRead r es s)
     → IsTextWith (IsSummaryOf es s) input × IfTextOfFile input (IsSummaryOf es s)
-without_plan r es s input has only = (
-  record { v = has.v; is = has.is; few = has.few; text = has.text; holds = has.holds.0 },
-  λ v is few. said_of input _ _ (λ bytes holds same. (holds same).0) (only v is few),
-)
+without_plan r es s input has only = grind (arith, common_steps)

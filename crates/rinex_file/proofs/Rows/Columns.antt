@@ -169,9 +169,7 @@ text_filled : (some all : List SignalValues) → Fills some all → (k : ℕ) ×
 text_filled some all (k, is) = (64 * k, ap (flat_map signal_text) is ∙ flat_map-append signal_text some (replicate k no_signal_values) ∙ ap (λ t. flat_map signal_text some ++ t) (none_text k))
 
 trimmed_filled : (front : List ℕ) (some all : List SignalValues) → Fills some all → trimmed (front ++ flat_map signal_text all) ≡ trimmed (front ++ flat_map signal_text some)
-trimmed_filled front some all f =
-    let (k, is) = text_filled some all f in
-    ap (λ t. trimmed (front ++ t)) is ∙ ap trimmed (sym (append_assoc front (flat_map signal_text some) (replicate k 32))) ∙ trimmed-blanks k (front ++ flat_map signal_text some)
+trimmed_filled front some all f = grind (arith, common_steps, (text_filled some all f).0, (text_filled some all f).1, trimmed-blanks)
 
 none_at : (n p : ℕ) → values_at (replicate n no_signal_values) p ≡ no_signal_values
 none_at zero p = refl

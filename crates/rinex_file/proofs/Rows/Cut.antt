@@ -1,7 +1,7 @@
 -- Columns of a text whose blanks at the end were cut.
 use Rattle.rinex_file.proofs.OneReading.{signals_once}
 use Rattle.rinex_file.proofs.Rows.Written.{line_is, text_is}
-use Rattle.rinex_file.proofs.Names.{common_steps, arith, ◌≡◌, ◌∙◌, sym, ap, refl, ℕ, ◌+◌, ◌-◌, ◌*◌, ◌/◌, ◌%◌, ◌<◌, ◌≤◌, List, [], ◌∷◌, ◌++◌, length, take, drop, replicate, get_or, append-nil, length-append, inl, inr, flat_map, All, Bool, true, false, list_any, cases_lt, length-drop, length-take, length-take-le, length_push, take_all, drop_all, take-append-le, drop-append-le, take-replicate, drop-replicate, length-replicate, Any-from_list_any, list_any-from_Any, min-le_left, take-append-add, drop-append-add, take-append_seam, SignalValues, SatelliteRow, no_signal_values, AreSignalValues, has_some_value, AreEntries, IsEnded, filled_to, padded, field, signal_text, satellite_line, letter, row_text, ReadsExactly, some_if, number_of}
+use Rattle.rinex_file.proofs.Names.{common_steps, arith, ◌≡◌, ◌∙◌, sym, ap, refl, ℕ, ◌+◌, ◌-◌, ◌*◌, ◌/◌, ◌%◌, ◌<◌, ◌≤◌, List, [], ◌∷◌, ◌++◌, length, take, drop, replicate, get_or, append-nil, length-append, inl, inr, flat_map, All, Bool, true, false, list_any, cases_lt, length-drop, length-take, length-take-le, length_push, take_all, drop_all, take-append-le, drop-append-le, take-replicate, drop-replicate, length-replicate, Any-from_list_any, list_any-from_Any, take-append-add, drop-append-add, take-append_seam, SignalValues, SatelliteRow, no_signal_values, AreSignalValues, has_some_value, AreEntries, IsEnded, filled_to, padded, field, signal_text, satellite_line, letter, row_text, ReadsExactly, some_if, number_of}
 
 -- a text of the whole width is not padded
 pub filled_whole : (n : ℕ) (text : List ℕ) → length text ≡ n → filled_to n text ≡ text
@@ -82,10 +82,7 @@ length-filled : (n : ℕ) (text : List ℕ) → length text ≤ n → length (fi
 length-filled n text short = length-append text (replicate (n - length text) 32) ∙ ap (λ (k : ℕ). length text + k) (length-replicate (n - length text) 32) ∙ omega (arith, short)
 
 pub length-signal : (at : ℕ) (text : List ℕ) → length (filled_to 64 (take 64 (drop at text))) ≡ 64
-length-signal at text =
-    let size = length-take 64 (drop at text) in
-    let low = min-le_left 64 (length (drop at text)) in
-    length-filled 64 (take 64 (drop at text)) (omega (arith, size, low))
+length-signal at text = grind (arith, common_steps, length-take 64 (drop at text), length-filled)
 
 -- entries in the columns in which they are written
 entries_read : (n : ℕ) (text : List ℕ) (values : List SignalValues) (some : Bool) → length values ≡ n → All AreSignalValues values → some ≡ list_any has_some_value values → text ≡ flat_map signal_text values

@@ -1,6 +1,6 @@
 -- The text of a file is that of its header and its epochs, one after the other.
 use Rattle.rinex_file.proofs.Writing.Sent.{joined-append}
-use Rattle.rinex_file.proofs.Names.{◌≡◌, ◌≢◌, ◌∙◌, sym, ap, ap₂, refl, append_assoc, Bool, true, false, Option, Some, None, ℕ, List, [], ◌∷◌, ◌++◌, drop, flat_map, if◌then◌else◌, StationValues, PlanValue, Closed, same_values, joined, left, HeaderLists, stamped_of, stamped_after, all_stamped, header_line, header_lines, row_line, version_line, header_text, shown_text, epoch_text, event_text, event_lines, change_lines, change_text, closed_text, stamped_lines, file_text, gathered, Shown}
+use Rattle.rinex_file.proofs.Names.{arith, common_steps, ◌≡◌, ◌≢◌, ◌∙◌, sym, ap, ap₂, refl, append_assoc, Bool, true, false, Option, Some, None, ℕ, List, [], ◌∷◌, ◌++◌, drop, flat_map, if◌then◌else◌, StationValues, PlanValue, Closed, same_values, joined, left, HeaderLists, stamped_of, stamped_after, all_stamped, header_line, header_lines, row_line, version_line, header_text, shown_text, epoch_text, event_text, event_lines, change_lines, change_text, closed_text, stamped_lines, file_text, gathered, Shown}
 
 -- the lines of an epoch that was closed after others
 stamped_text : (p : PlanValue) (v : StationValues) (c : Closed) → joined (stamped_lines (stamped_after p v c)) ≡ change_text v c.values ++ epoch_text p c.epoch
@@ -30,8 +30,7 @@ file_text-gathered x i p v c cs =
 -- a line ends in a line feed
 some_line : (a b rest : List ℕ) → (a ++ (b ++ (10 ∷ []))) ++ rest ≢ []
 some_line [] [] rest e = cc
-some_line [] (x ∷ b) rest e = cc
-some_line (x ∷ a) b rest e = cc
+some_line x0 b rest e = grind (arith, common_steps)
 
 header_line-some : (content label rest : List ℕ) → header_line content label ++ rest ≢ []
 unfolding header_line

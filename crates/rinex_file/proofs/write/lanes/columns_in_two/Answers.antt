@@ -1,8 +1,5 @@
-use Rattle.rinex_file.proofs.Names.{arith, ◌∙◌, ap, unsigned_abs, ℤ, ◌<◌, ◌^◌, to_z-of_z, ints, FitsColumns, digit_columns}
+use Rattle.rinex_file.proofs.Names.{arith, ◌∙◌, ap, unsigned_abs, to_z-of_z, digit_columns}
 use Rattle.rinex_file.proofs.write.lanes.columns_in_two.Goals as goal
-
-fits : (v : ℤ) → unsigned_abs v < 10 ^ 8 → FitsColumns v
-fits v h = grind (arith, ints)
 
 pub returns-clause-first : goal.returns-clause-first
 returns-clause-first c = grind (arith, c.columns_with-shift.ensures.text, c.requires.first, c.digits_of_two.ensures.first, c.unsigned_abs.ensures.value, to_z-of_z)
