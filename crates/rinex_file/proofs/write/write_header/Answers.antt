@@ -1,12 +1,10 @@
 use Rattle.rinex_file.proofs.Writing.Sent.{part_after, part_first, where_failed}
-use Rattle.rinex_file.proofs.Names.{arith, ◌∙◌, sym, ap, subst, refl, [], ◌++◌, append_assoc, append-nil, Appends, Appends-nil, Appends-trans, AppendsPrefix, joined, shown_text}
+use Rattle.rinex_file.proofs.Names.{common_steps, arith, ◌∙◌, sym, ap, subst, refl, ◌++◌, append_assoc, append-nil, Appends, Appends-trans, AppendsPrefix, joined, shown_text}
 use Rattle.rinex_file.proofs.write.write_header.Goals as goal
 
 pub loop-line-init : goal.loop-line-init
 unfolding shown_text
-loop-line-init g c =
-    let same = c.into_iter-line-iterator.ensures.into_iter_gives in
-    (tt, tt, ([], sym (ap joined (same ∙ c.header_lines-line-items.ensures)), Appends-nil (g.W.Write.contents c.args.writer.now.inner)), refl, refl)
+loop-line-init g c = grind (arith, common_steps, c.into_iter-line-iterator.ensures, c.header_lines-line-items.ensures)
 
 pub loop-line-preserved : goal.loop-line-preserved
 loop-line-preserved g c =

@@ -1,7 +1,7 @@
 -- The lines of the satellites before the cell at `from` are written.
 use Rattle.rinex_file.proofs.Writing.Skipped.{all_sent, next_sent, one_sent}
-use Rattle.rinex_file.proofs.Writing.Sent.{failed, no_lines, lines_around, part_after, part_first, where_failed, not_written, is_shown}
-use Rattle.rinex_file.proofs.Names.{arith, ◌∙◌, sym, subst, refl, take, drop, ◌-◌, Appends, Appends-nil, satellites, AppendsPrefix, HasFailed, left_all}
+use Rattle.rinex_file.proofs.Writing.Sent.{no_lines, lines_around, part_after, part_first, where_failed, not_written, is_shown}
+use Rattle.rinex_file.proofs.Names.{common_steps, arith, ◌∙◌, sym, subst, refl, take, drop, ◌-◌, Appends, Appends-nil, satellites, AppendsPrefix, left_all}
 use Rattle.rinex_file.proofs.write.write_system.Goals as goal
 
 pub loop-from-init : goal.loop-from-init
@@ -64,10 +64,7 @@ pub returns-clause-whole : goal.returns-clause-whole
 returns-clause-whole g c = all_sent c.loop-from.invariant.out c.cells-cells.ensures.cells (omega (arith, c.loop-from-test.false))
 
 pub returns-in_err-write_whole-clause-device : goal.returns-in_err-write_whole-clause-device
-returns-in_err-write_whole-clause-device g c =
-    let inv = c.loop-from.invariant in
-    let device = c.in_err-write_whole.ensures.device in
-    (where_failed c.from_residual.result _ (subst (λ n. HasFailed n c.write_whole.new.self.failures) inv.fine device.0), failed _ c.from_residual.result _ c.from_residual.ensures.1, device.2 ∙ inv.widest)
+returns-in_err-write_whole-clause-device g c = grind (arith, common_steps, c.loop-from.invariant, c.in_err-write_whole.ensures, c.from_residual.ensures)
 
 pub returns-clause-device : goal.returns-clause-device
 returns-clause-device g c = (tt, c.loop-from.invariant.fine, c.loop-from.invariant.widest)

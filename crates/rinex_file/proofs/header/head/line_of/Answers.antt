@@ -1,5 +1,5 @@
 -- Each row's line is the one that the row's own function makes; a row that has no line for this plan has none here.
-use Rattle.rinex_file.proofs.Names.{shown_by, types_line, types_with, unwrap_or, ◌∙◌, sym, ap, ℕ, [], ◌∷◌, codes, row_line, header_line, version_by, indices, length_indices, few_signals, arith, true, length, ◌≡◌, ◌≤◌, Shown, has_line, is_less, Slots, slot_count, slots_line, slots_of, slots_with, interval_line}
+use Rattle.rinex_file.proofs.Names.{common_steps, shown_by, types_with, unwrap_or, ◌∙◌, sym, ap, ℕ, [], ◌∷◌, codes, row_line, header_line, version_by, length_indices, few_signals, arith, true, length, ◌≡◌, ◌≤◌, Shown, has_line, is_less, Slots, slot_count, slots_of, slots_with, interval_line}
 use Rattle.rinex_file.proofs.header.head.line_of.Goals as goal
 
 few_rows : (h : Shown) (row n : ℕ) → has_line h (Slots row) ≡ true → n ≡ length (slots_of h.plan.channels) → n ≤ slot_count → row ≤ 100
@@ -7,9 +7,7 @@ few_rows h row n has e few = grind (arith, is_less)
 
 pub returns-in-Version : goal.returns-in-Version
 unfolding row_line
-returns-in-Version c =
-    let h = shown_by c.args.head.now in
-    c.version_by.ensures ∙ ap version_by c.systems_letter.ensures ∙ ap (row_line h) (sym c.in-Version.is)
+returns-in-Version c = grind (arith, common_steps, c.version_by.ensures, c.systems_letter.ensures, c.in-Version.is)
 
 pub returns-in-Texts : goal.returns-in-Texts
 unfolding row_line
@@ -28,14 +26,7 @@ types_with-requires-clause-count c = few_signals c.in-Types.system c.of-signals.
 
 pub returns-in-Types : goal.returns-in-Types
 unfolding row_line
-returns-in-Types c =
-    let h = shown_by c.args.head.now in
-    let system = c.in-Types.system in
-    let row = c.in-Types.row in
-    let signals = c.of-signals.result.now in
-    c.types_with.ensures ∙ ap (λ (n : ℕ). types_with system n (indices signals) row) (sym (length_indices signals))
-    ∙ ap (λ l. types_line system l row) c.of-signals.ensures.indices
-    ∙ ap (row_line h) (sym c.in-Types.is)
+returns-in-Types c = grind (arith, common_steps, c.types_with.ensures, c.of-signals.ensures, c.in-Types.is, length_indices)
 
 pub returns-in-StrengthUnit : goal.returns-in-StrengthUnit
 unfolding row_line
@@ -58,11 +49,7 @@ slots_with-requires c = grind (arith, c.in-Slots.is, c.requires, c.slots_in.ensu
 
 pub returns-in-Slots : goal.returns-in-Slots
 unfolding row_line
-returns-in-Slots c =
-    let h = shown_by c.args.head.now in
-    let row = c.in-Slots.row in
-    c.slots_with.ensures ∙ ap (λ n. slots_with n (slots_of c.channels-channels.result.now) row) c.slots_in.ensures.value ∙ ap (λ x. slots_line (slots_of x) row) c.channels-channels.ensures
-    ∙ ap (row_line h) (sym c.in-Slots.is)
+returns-in-Slots c = grind (arith, common_steps, c.slots_with.ensures, c.slots_in.ensures, c.channels-channels.ensures, c.in-Slots.is)
 
 pub returns-in-Biases : goal.returns-in-Biases
 unfolding row_line

@@ -1,7 +1,7 @@
 use Rattle.rinex_file.proofs.Reading.Accepted.{first_epochs, open_part, row_read, stopped, whole_part}
 use Rattle.rinex_file.proofs.Reading.Lines.{leaves_all, leaves_more}
 use Rattle.rinex_file.proofs.Judged.{refused}
-use Rattle.rinex_file.proofs.Names.{◌∙◌, ap, arith, refl, Err}
+use Rattle.rinex_file.proofs.Names.{common_steps, ◌∙◌, ap, arith, refl, Err}
 use Rattle.rinex_file.proofs.read.epochs.finish_epoch.Goals as goal
 
 pub loop-reading-init : goal.loop-reading-init
@@ -13,10 +13,7 @@ loop-reading-init g c = record {
 }
 
 pub next-requires : goal.next-requires
-next-requires g c =
-    let (es, e, input, before) = c.loop-reading.invariant.some in
-    let (more, time, part, least, plan) = c.loop-reading.invariant.read es e input before in
-    (_, input, (open_part _ (c.expects_row.ensures.0 c.loop-reading-test.true) part).0)
+next-requires g c = grind (arith, common_steps, c.loop-reading.invariant, c.expects_row.ensures, c.loop-reading-test.true, open_part)
 
 pub loop-reading-smaller : goal.loop-reading-smaller
 loop-reading-smaller g c =

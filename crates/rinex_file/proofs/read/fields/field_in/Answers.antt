@@ -4,7 +4,7 @@ use Rattle.rinex_file.proofs.Fields.Lanes.{lanes_are, lane_is, sixteen_long}
 use Rattle.rinex_file.proofs.Fields.Values.{few_before, sixteen_blank}
 use Rattle.rinex_file.proofs.OneReading.{no_field, field_once, value_of}
 use Rattle.rinex_file.proofs.read.fields.field_in.Goals.{After-blanks_in-empty, then-text-at-via-then-text-at, then-text-at-via-else-text-at+then-text-at-2}
-use Rattle.rinex_file.proofs.Names.{arith, ◌≡◌, ◌∙◌, ap, ap₂, sym, ℤ, ℕ, ◌+◌, take, drop, Option, Some, get_or, IfSome, FitsColumns, blanks, field}
+use Rattle.rinex_file.proofs.Names.{common_steps, arith, ◌≡◌, ◌∙◌, ap, ap₂, sym, ℤ, ◌+◌, take, drop, Option, Some, get_or, IfSome, FitsColumns, blanks, field}
 use Rattle.rinex_file.proofs.read.fields.field_in.Goals as goal
 
 counted : (c : After-blanks_in-empty) → c.blanks_in-empty.result ≡ blanks (take 16 (drop c.args.at c.args.text.now))
@@ -42,9 +42,7 @@ pub value_in-requires-clause-sign : goal.value_in-requires-clause-sign
 value_in-requires-clause-sign c = grind (arith, c.if-empty-gt9.false, c.blanks_in-empty.ensures.count, lanes_are, lane_is)
 
 pub value_in-requires-clause-first : goal.value_in-requires-clause-first
-value_in-requires-clause-first c =
-    let start : ℕ = c.blanks_in-empty.result + c.from.result in
-    sym (ap (λ r. get_or r start 0) (lanes_are c.args.text.now c.args.at) ∙ lane_is c.args.text.now c.args.at start (grind (arith, c.from.ensures, c.if-empty-gt9.false)))
+value_in-requires-clause-first c = grind (arith, common_steps, c.from.ensures, c.if-empty-gt9.false, lanes_are, lane_is)
 
 pub returns-in-Some : goal.returns-in-Some
 returns-in-Some c = grind (arith, c.if-text-at.false, c.if-text-at-2.false, c.in-Some.ensures.1, c.in-Some.ensures.0, lanes_are, lane_is, field_once)

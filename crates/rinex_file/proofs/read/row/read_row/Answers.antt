@@ -1,6 +1,6 @@
 use Rattle.rinex_file.proofs.HeaderRows.Letters.{one_letter}
 use Rattle.rinex_file.proofs.Rows.Sizes.{front_line}
-use Rattle.rinex_file.proofs.Names.{system_of_letter, letter_back, letter_found, value_of, arith, ◌≡◌, ◌∙◌, sym, ap, subst, ℕ, ◌<◌, List, Option, Some, None, is_some, slice_get, System, Row, SatelliteRow, IsSatelliteRow, IsRow, satellites, satellite_line, letter, ReadsExactly, some_if, IsRowOf, same_Some}
+use Rattle.rinex_file.proofs.Names.{value_of, letter_back, letter_found, system_of_letter, arith, ◌≡◌, ◌∙◌, sym, ap, subst, ℕ, ◌<◌, List, Option, Some, None, is_some, slice_get, System, Row, SatelliteRow, IsSatelliteRow, IsRow, satellites, satellite_line, letter, ReadsExactly, some_if, IsRowOf, same_Some}
 use Rattle.rinex_file.proofs.read.row.read_row.Goals as goal
 
 -- a row with a value has a signal

@@ -1,12 +1,11 @@
+use Rattle.rinex_file.proofs.Names.{common_steps}
 use Rattle.std.proofs.Common.{arith, ◌∙◌, sym, ◌≤◌}
 use Rattle.rinex_file.proofs.OneReading.{number_once}
 use Rattle.rinex_file.proofs.Rows.Written.{digits_shown, number_shown}
 use Rattle.rinex_file.proofs.read.row.two_digits_in.Goals as goal
 
 pub returns-then-not-is_ascii_digit : goal.returns-then-not-is_ascii_digit
-returns-then-not-is_ascii_digit c = λ v h e.
-    let (least, most, low, high) = digits_shown c.args.tens c.args.ones v h e in
-    grind (arith, least, most, low, high)
+returns-then-not-is_ascii_digit c = grind (arith, common_steps, digits_shown)
 
 pub returns : goal.returns
 returns c =

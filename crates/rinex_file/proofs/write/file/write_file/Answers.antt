@@ -1,5 +1,5 @@
 use Rattle.rinex_file.proofs.Writing.Stored.{lines_have_room, all_written, one_more}
-use Rattle.rinex_file.proofs.Names.{◌∙◌, sym, ap, ◌++◌, append-nil, subst, All, Stamped, FileValue, shown_text, HaveRowsRoom, stamped_text, shown_of}
+use Rattle.rinex_file.proofs.Names.{arith, common_steps, sym, subst, All, HaveRowsRoom}
 use Rattle.rinex_file.proofs.write.file.write_file.Goals as goal
 
 pub write_stored-requires : goal.write_stored-requires
@@ -14,14 +14,7 @@ returns c =
     c.loop-epoch-test.false written
 
 pub loop-epoch-init : goal.loop-epoch-init
-loop-epoch-init c =
-    let file = c.args.file.now in
-    let time = ap (λ (e : Stamped). shown_text (shown_of file e.time)) c.first.view_is in
-    let head = ap (λ (v : FileValue). shown_text (shown_of v c.first.inside.time)) c.file.view_is ∙ time in
-    (c.index-epochs-0.result, c.index-epochs-0.is, c.in_ok-write_header.ensures.whole ∙ ap (λ t. c.args.text.now.inner.items ++ t) head ∙ sym (append-nil _))
+loop-epoch-init c = grind (arith, common_steps, c.index-epochs-0.is, c.in_ok-write_header.ensures)
 
 pub loop-epoch-preserved : goal.loop-epoch-preserved
-loop-epoch-preserved c =
-    let (first, at, written) = c.loop-epoch.invariant in
-    let epochs = c.as_slice-epochs.result.now in
-    (first, at, one_more stamped_text epochs c.loop-epoch.epoch-index _ c.loop-epoch-test.true c.epoch-item.is written c.in_ok-write_stored.ensures)
+loop-epoch-preserved c = grind (arith, common_steps, c.loop-epoch.invariant, c.loop-epoch-test.true, c.epoch-item.is, c.in_ok-write_stored.ensures, one_more)

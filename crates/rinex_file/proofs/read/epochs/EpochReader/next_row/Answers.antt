@@ -1,6 +1,6 @@
 use Rattle.rinex_file.proofs.Reading.Accepted.{first_epochs, open_part, row_planned, row_read, stopped, whole_part}
 use Rattle.rinex_file.proofs.Judged.{refused}
-use Rattle.rinex_file.proofs.Names.{◌∙◌, Bool, Ok, arith, ap, refl, subst, sym, Err, ReadsNextRow}
+use Rattle.rinex_file.proofs.Names.{common_steps, ◌∙◌, Bool, Ok, arith, ap, refl, subst, sym, Err, ReadsNextRow}
 use Rattle.rinex_file.proofs.read.epochs.EpochReader.next_row.Goals as goal
 
 pub returns-then-not-expects_row-clause-rows : goal.returns-then-not-expects_row-clause-rows
@@ -9,9 +9,7 @@ returns-then-not-expects_row-clause-rows g c = λ es e input part.
     (whole, first_epochs whole.0, omega arith, refl)
 
 pub next-requires : goal.next-requires
-next-requires g c =
-    let (es, e, input, part) = c.requires in
-    (_, input, (open_part c.args.self.now.reading.parser_state.expected (c.expects_row.ensures.0 c.if-not-expects_row.false) part).0)
+next-requires g c = grind (arith, common_steps, c.requires, c.expects_row.ensures, c.if-not-expects_row.false, open_part)
 
 pub returns-in-Ok-clause-rows : goal.returns-in-Ok-clause-rows
 returns-in-Ok-clause-rows g c = λ es e input part.

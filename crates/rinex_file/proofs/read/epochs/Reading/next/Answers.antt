@@ -7,7 +7,7 @@ use Rattle.rinex_file.proofs.Reading.Accepted.{epochs_read}
 use Rattle.rinex_file.proofs.Reading.Header.{no_epochs_yet, run_out, unfinished, file_shown, only_file, file_read, sound_rows, begun, expected_at}
 use Rattle.rinex_file.proofs.Reading.Lines.{at_types, one_more, refused, over_long, cut, whole, both_said, too_long, line_some, is_empty, not_empty}
 use Rattle.rinex_file.proofs.read.epochs.Reading.next.Goals.{then-self-eq-MOST_LINES+else-not-is_empty, else-self-eq-MOST_LINES}
-use Rattle.rinex_file.proofs.Names.{is_of_types, refl, Option, Found, Line, Long, Failed, IsFound, ◌≡◌, ◌∙◌, sym, ap, subst, ℕ, List, ◌^◌, ◌+◌, ◌<◌, ◌≤◌, length, Err, arith, Refusal, GoesOnWithLine, ShowsLine, RefusesLine, TakesLine, progress_at, with_line}
+use Rattle.rinex_file.proofs.Names.{common_steps, is_of_types, refl, Option, Found, Line, Long, Failed, IsFound, ◌≡◌, ◌∙◌, sym, ap, subst, ℕ, List, ◌^◌, ◌+◌, ◌<◌, ◌≤◌, length, Err, arith, Refusal, GoesOnWithLine, ShowsLine, RefusesLine, TakesLine, progress_at, with_line}
 use Rattle.rinex_file.proofs.read.epochs.Reading.next.Goals as goal
 
 few_lines : (lines taken : List (List ℕ)) (n : ℕ) → lines ≡ taken → length taken ≡ n → n ≤ 2 ^ 32 → length lines ≤ 2 ^ 32
@@ -113,7 +113,4 @@ returns-in-Err-Memory-clause-goes g c = λ h input read.
     at_types _ c.next.new.self.line read.taken c.in-Line.ensures.found.0 c.in-Line.ensures.taken.0 begun (sym (ap is_of_types c.line.ensures.line) ∙ types)
 
 pub returns-in-Err-Memory-clause-memory : goal.returns-in-Err-Memory-clause-memory
-returns-in-Err-Memory-clause-memory g c = λ is h history.
-    let s = progress_at c.args.self.now.parser_state h in
-    let may = subst (λ (r : Refusal). TakesLine c.args.self.now.parser_state c.take.new.self c.line.result.now (Err r)) c.in-Err-Memory.field-0-is c.in-Err-Memory.ensures in
-    no_epochs_yet s s.expected c.line.result.now history.sound may
+returns-in-Err-Memory-clause-memory g c = grind (arith, common_steps, c.in-Err-Memory.field-0-is, c.in-Err-Memory.ensures, no_epochs_yet)

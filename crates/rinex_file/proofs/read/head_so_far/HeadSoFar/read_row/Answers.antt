@@ -1,6 +1,6 @@
 -- A line of types is read by its own function, and each other one as its row is.
 use Rattle.rinex_file.proofs.HeaderRows.Read.{refuse_types, types_read}
-use Rattle.rinex_file.proofs.Names.{AreItemsBefore, HeaderRow, IsHeaderLineRead, Known, List, OnOk, Refusal, RefusesHeaderLine, Result, Ok, Err, System, TakesTypes, Types, counted, planned_of, subst, sym, with_types, ℕ, ⊤, ◌≡◌}
+use Rattle.rinex_file.proofs.Names.{arith, common_steps, AreItemsBefore, HeaderRow, IsHeaderLineRead, Known, List, OnOk, Refusal, RefusesHeaderLine, Result, Ok, Err, System, TakesTypes, Types, counted, planned_of, subst, sym, with_types, ℕ, ⊤, ◌≡◌}
 use Rattle.rinex_file.proofs.read.head_so_far.HeadSoFar.read_row.Goals as goal
 
 types_taken : (r : Result ⊤ Refusal) {q : HeaderRow} (s : System) (row : ℕ) (line : List ℕ) (k new : Known) → q ≡ Types s row → AreItemsBefore k (Types s row)
@@ -11,8 +11,7 @@ types_taken (Ok x) s row line k new is before kept taken =
 types_taken (Err e) s row line k new is before kept taken = tt
 
 pub returns-in-Types-clause-read : goal.returns-in-Types-clause-read
-returns-in-Types-clause-read c = types_taken c.take_types.result c.in-Types.system c.in-Types.row c.args.line.now c.args.self.now c.take_types.new.self c.in-Types.is
-    (subst (AreItemsBefore c.args.self.now) c.in-Types.is c.requires.before) c.take_types.ensures.kept c.take_types.ensures.taken
+returns-in-Types-clause-read c = grind (arith, common_steps, c.in-Types.is, c.requires, c.take_types.ensures, types_taken)
 
 pub returns-in-Types-clause-bad : goal.returns-in-Types-clause-bad
 returns-in-Types-clause-bad c = λ bad.

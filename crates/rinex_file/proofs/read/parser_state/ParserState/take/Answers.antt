@@ -1,7 +1,7 @@
 use Rattle.rinex_file.proofs.Reading.Epochs.{bad_of, goes_on, passed, stopped}
 use Rattle.rinex_file.proofs.Reading.Events.{event_taken, event_shows, sound_event, position_taken, position_shows, no_position, sound_position}
 use Rattle.rinex_file.proofs.Reading.Header.{no_header, header_taken, header_shows, header_ended, ended_shows, sound_start, sound_header}
-use Rattle.rinex_file.proofs.Names.{MayRunOut, IsPosition, Option, ReadsExactly, StationValues, position_line, ◌≡◌, ◌<◌, ℕ, List, subst, sym, ◌∙◌, Err, ParserState, NoRow, Expected, Header, Epoch, EventPosition, EventHeight, Refusal, History, FollowsHistory, IsNext, progress_at, Known, StepsTo, TakesHeaderLine, ExpectsRow, ExpectsHeader, refl}
+use Rattle.rinex_file.proofs.Names.{arith, common_steps, MayRunOut, IsPosition, Option, ReadsExactly, StationValues, position_line, ◌≡◌, ◌<◌, ℕ, List, subst, sym, ◌∙◌, Err, ParserState, NoRow, Expected, Header, Epoch, EventPosition, EventHeight, Refusal, History, FollowsHistory, IsNext, progress_at, Known, StepsTo, TakesHeaderLine, ExpectsRow, ExpectsHeader, refl}
 use Rattle.rinex_file.proofs.read.parser_state.ParserState.take.Goals as goal
 
 pub returns-in_err-self-in-Header : goal.returns-in_err-self-in-Header
@@ -45,8 +45,7 @@ abbrev Reads : List ℕ → Option StationValues → Type 0
 Reads line r = ReadsExactly IsPosition position_line line r
 
 pub returns-in_err-position-in-EventPosition : goal.returns-in_err-position-in-EventPosition
-returns-in_err-position-in-EventPosition c = stopped c.args.self.now _ c.args.line.now _ c.from_residual-in_err-position-in-EventPosition.ensures.1 (λ e same. same ∙ bad_of c.in_err-position-in-EventPosition.ensures.value c.in_err-position-in-EventPosition.ensures.ok_part) (λ h history.
-    no_position (progress_at c.args.self.now h) c.args.line.now c.in-EventPosition.is (subst (Reads c.args.line.now) c.in_err-position-in-EventPosition.ensures.ok_part c.read_position.ensures))
+returns-in_err-position-in-EventPosition c = grind (arith, common_steps, c.from_residual-in_err-position-in-EventPosition.ensures, c.in_err-position-in-EventPosition.ensures, c.in-EventPosition.is, c.read_position.ensures, stopped, bad_of, no_position)
 
 pub returns-in_ok-position-in-EventPosition : goal.returns-in_ok-position-in-EventPosition
 returns-in_ok-position-in-EventPosition c = λ h history.
