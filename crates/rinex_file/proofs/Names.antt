@@ -91,7 +91,7 @@ pub use Rattle.rinex_file.specs.declared.read.epochs.Reading.{Reading}
 pub use Rattle.rinex_file.specs.declared.read.times.EpochTimes.{EpochTimes}
 pub use Rattle.rinex_file.specs.declared.write.lanes.TheConstants.{PAIRS}
 pub use Rattle.devices.specs.Device.{AppendsPrefix, HasFailed}
-pub use Rattle.std.proofs.Common.{Fits, List, None, OnErr, Option, [], add-one, ap, append-nil, append_assoc, ap₂, arith, decimal, drop, eqb, filter, get_or, inl, inr, length, length-append, lit<, lit≤, negsuc, of_z, refl, replicate, rules, slice_index_or, subst, suc, sym, take, to_z, unsigned_abs, w64, w8, zero, zero-add, ℕ, ℤ, ◌%◌, ◌*◌, ◌++◌, ◌+◌, ◌/◌, ◌<◌, ◌^◌, ◌∙◌, ◌∷◌, ◌≡◌, IsOk, le_trans}
+pub use Rattle.std.proofs.Common.{Fits, List, None, OnErr, Option, [], add-one, ap, append-nil, append_assoc, ap₂, arith, decimal, drop, eqb, filter, get_or, inl, inr, length, length-append, lit<, lit≤, negsuc, of_z, refl, replicate, rules, slice_index_or, subst, suc, sym, take, to_z, unsigned_abs, w64, w8, zero, zero-add, ℕ, ℤ, ◌%◌, ◌*◌, ◌++◌, ◌+◌, ◌/◌, ◌<◌, ◌^◌, ◌∙◌, ◌∷◌, ◌≡◌, IsOk, le_trans, ◌<ℤ◌, ◌≤ℤ◌, max, pow_mono}
 pub use Rattle.std.proofs.KnownBytes.{Appends-nil, Appends-trans, Consumes-nil, Consumes-trans}
 pub use Rattle.std.proofs.Math.Nat.{div-le_self, le-min, min-eq_left, min-eq_right, min-le_left, min-le_right, mod-le, pow-suc, mod-eq_of_lt}
 pub use Rattle.std.proofs.Math.Seq.{drop-append-add, drop-cons, take-add, take-append-add, take-append_seam}
@@ -120,7 +120,7 @@ pub use Rattle.std.specs.Array.{AllOfLen}
 pub use Rattle.std.specs.Bool.{then_some}
 unfoldable pub use Rattle.std.specs.Fmt.{digits}
 pub use Rattle.std.specs.Fmt.{sign_text}
-pub use Rattle.std.specs.Int.{is_negative}
+pub use Rattle.std.specs.Int.{is_negative, bit_at, trailing_zeros, bit_not, leading_zeros}
 unfoldable pub use Rattle.std.specs.Int.Count.{count_trailing_zeros}
 pub use Rattle.std.specs.Int.Count.{under}
 pub use Rattle.std.specs.Int.RustNames.{bit_and, bit_or}

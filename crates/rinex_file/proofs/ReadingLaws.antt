@@ -1,11 +1,9 @@
 -- What is known of the epochs that an `EpochReader` has read.
-use Rattle.std.proofs.lemmas.List.{length-append}
-use Rattle.std.proofs.Common.{◌≤◌, arith, length, map}
 use Rattle.rinex_file.proofs.FileLines.{lines_are_lines}
 use Rattle.rinex_file.proofs.Reading.Accepted.{are_read, not_pushed, plan_read}
 use Rattle.rinex_file.proofs.Reading.Epochs.{sound_open}
 use Rattle.rinex_file.proofs.Reading.Lines.{consumed, splits}
-use Rattle.rinex_file.proofs.Names.{IsStrictlyIncreasing, All-append, All-cons, All-head, All-nil, All-tail, map-append, sum_by-append, PlanValue, rows_in, most_lines, file_text, AreSatelliteRows, IsFileValue, IsPlan, IsTime, time_stamped, HasReadPartAt, common_steps, open_epochs, HasPlan, HasLinesLeft, HasReadPart, IsAt, IsSoundAt, IsStamped, All, plan_in, planned_in, ◌∙◌, ◌≡◌, sym, ap, refl, subst, ℕ, List, [], ◌∷◌, ◌++◌, ◌+◌, Option, IfSome, Expected, Header, Epoch, EventPosition, EventHeight, EventEpoch, Satellite, Reading, Progress, HasReadTo, progress_at, Stamped, FileValue, joined, file_lines}
+use Rattle.rinex_file.proofs.Names.{length-append, ◌≤◌, arith, length, map, IsStrictlyIncreasing, All-append, All-cons, All-head, All-nil, All-tail, map-append, sum_by-append, PlanValue, rows_in, most_lines, file_text, AreSatelliteRows, IsFileValue, IsPlan, IsTime, time_stamped, HasReadPartAt, common_steps, open_epochs, HasPlan, HasLinesLeft, HasReadPart, IsAt, IsSoundAt, IsStamped, All, plan_in, planned_in, ◌∙◌, ◌≡◌, sym, ap, refl, subst, ℕ, List, [], ◌∷◌, ◌++◌, ◌+◌, Option, IfSome, Expected, Header, Epoch, EventPosition, EventHeight, EventEpoch, Satellite, Reading, Progress, HasReadTo, progress_at, Stamped, FileValue, joined, file_lines}
 
 -- epochs of a file with this plan, which don't have more lines than a file has
 pub record AreFine (p : PlanValue) (es : List Stamped) : Type 0 where

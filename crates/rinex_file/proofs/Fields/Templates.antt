@@ -1,8 +1,7 @@
 -- Digits in lanes, added to the columns of a field.
 use Rattle.rinex_file.proofs.Fields.Columns.{field_text, nine_digits, within_columns}
 use Rattle.rinex_file.proofs.Digits.Padded.{IsSpaced, empty_columns, spaced, spaced_is, padded_digits, three_digits}
-use Rattle.rinex_file.proofs.Names.{not_negative, zip2, ints, arith, ◌≡◌, ◌∙◌, sym, ap, ap₂, refl, subst, ℕ, ℤ, zero, suc, ◌+◌, ◌-◌, ◌/◌, ◌%◌, ◌^◌, ◌<◌, ◌≤◌, List, [], ◌∷◌, ◌++◌, map, length, decimal, append_assoc, append-nil, length-append, inl, inr, true, false, unsigned_abs, Bool, Some, is_negative, cases_lt, decimal_digit, decimal_step, first_decimal, length-decimal-le, padded, FitsColumns, field, AreBelow, digit_columns, digits_onto, empty_column, leading, template}
-use Rattle.std.proofs.Common.{◌<ℤ◌, ◌≤ℤ◌, pos, false}
+use Rattle.rinex_file.proofs.Names.{◌<ℤ◌, ◌≤ℤ◌, pos, false, not_negative, zip2, ints, arith, ◌≡◌, ◌∙◌, sym, ap, ap₂, refl, subst, ℕ, ℤ, zero, suc, ◌+◌, ◌-◌, ◌/◌, ◌%◌, ◌^◌, ◌<◌, ◌≤◌, List, [], ◌∷◌, ◌++◌, map, length, decimal, append_assoc, append-nil, length-append, inl, inr, true, unsigned_abs, Bool, Some, is_negative, cases_lt, decimal_digit, decimal_step, first_decimal, length-decimal-le, padded, FitsColumns, field, AreBelow, digit_columns, digits_onto, empty_column, leading, template}
 
 abbrev pub added : ℕ → ℕ → ℕ
 added a b = (a + b) % 2 ^ 8

@@ -1,8 +1,7 @@
 -- Version, position and height are read back from their lines; the lines of a header up to a row and from it on.
-use Rattle.std.proofs.lemmas.Grind.{flat_map-append}
 use Rattle.rinex_file.proofs.Reading.Dates.{IsField, AreFields, field_at}
 use Rattle.rinex_file.proofs.HeaderRows.Types.{content_first}
-use Rattle.rinex_file.proofs.Names.{number_in-fixed, digits_in-right, digits_in-fixed, length-fixed, length-right, length-sign, mod-eq_of_lt, IsInterval, arith, ◌≡◌, ◌∙◌, refl, sym, ap, ℕ, ◌+◌, ◌/◌, ◌<◌, ◌≤◌, ◌^◌, List, [], ◌∷◌, ◌++◌, length, take, drop, append-nil, length-append, Bool, true, false, ℤ, pos, unsigned_abs, suc, lit<, ◌==◌, codes, if◌then◌else◌, flat_map, slice_get, unwrap_or, is_negative, digits, ints, take_more, take-append-drop, drop-cons, System, passes_at, is_equal, planned_of, joined, right, fixed, digits_in, number_in, header_line, lengths, height_line, row_line, row_lines, has_line, header_lines, all_rows, row_count, row_at, row_place, lines_after, version_by, Shown, lines_before, IsShown, AreTypes, IsCoordinate, End, HeaderRow, drop-append-le, interval_line}
+use Rattle.rinex_file.proofs.Names.{flat_map-append, number_in-fixed, digits_in-right, digits_in-fixed, length-fixed, length-right, length-sign, mod-eq_of_lt, IsInterval, arith, ◌≡◌, ◌∙◌, refl, sym, ap, ℕ, ◌+◌, ◌/◌, ◌<◌, ◌≤◌, ◌^◌, List, [], ◌∷◌, ◌++◌, length, take, drop, append-nil, length-append, Bool, true, false, ℤ, pos, unsigned_abs, suc, lit<, ◌==◌, codes, if◌then◌else◌, flat_map, slice_get, unwrap_or, is_negative, digits, ints, take_more, take-append-drop, drop-cons, System, passes_at, is_equal, planned_of, joined, right, fixed, digits_in, number_in, header_line, lengths, height_line, row_line, row_lines, has_line, header_lines, all_rows, row_count, row_at, row_place, lines_after, version_by, Shown, lines_before, IsShown, AreTypes, IsCoordinate, End, HeaderRow, drop-append-le, interval_line}
 
 -- ---- version
 

@@ -2,10 +2,8 @@
 use Rattle.rinex_file.proofs.HeaderRows.Texts.{trimmed-blanks}
 use Rattle.rinex_file.proofs.Rows.Cells.{none_fit, none_put, none_text, replaced}
 use Rattle.rinex_file.proofs.Rows.Sizes.{length-signals}
-use Rattle.rinex_file.proofs.Names.{All-replicate, All-set, All-take, length-map, get_or-drop, get_or-set_same, get_or-set_other, take-append-drop, take-take, bit_at-lt, bit_at_above, bit_at_and, bit_at_clear_other, bit_at_clear_same, bit_at_not, bit_at_set_other, bit_at_set_same, bit_and, bit_or, and_le_l, leading_length, one_shl, or_lt, common_steps, arith, ◌≡◌, ◌≢◌, ◌∙◌, sym, ap, ap₂, refl, subst, ℕ, zero, suc, ◌+◌, ◌*◌, ◌-◌, ◌<◌, ◌≤◌, ◌%◌, ◌^◌, Bool, true, false, List, [], ◌∷◌, ◌++◌, take, drop, length, replicate, get_or, append_assoc, length-append, slice_set, nat_eq, flat_map, All, length-drop, length-take-le, length-replicate, length-set, take-append-le, drop-append-le, drop-drop, drop-take, take_at, flat_map-append, map, drop_all, Cell, signal_values_at, SignalValues, no_signal_values, HaveRoom, trimmed, signal_text, most_signals, AreApart, HasColumns, IsBlankBut, values_at}
+use Rattle.rinex_file.proofs.Names.{max, pow_mono, nat_lt, take-add, bit_at, bit_not, leading_zeros, w64, All-replicate, All-set, All-take, length-map, get_or-drop, get_or-set_same, get_or-set_other, take-append-drop, take-take, bit_at-lt, bit_at_above, bit_at_and, bit_at_clear_other, bit_at_clear_same, bit_at_not, bit_at_set_other, bit_at_set_same, bit_and, bit_or, and_le_l, leading_length, one_shl, or_lt, common_steps, arith, ◌≡◌, ◌≢◌, ◌∙◌, sym, ap, ap₂, refl, subst, ℕ, zero, suc, ◌+◌, ◌*◌, ◌-◌, ◌<◌, ◌≤◌, ◌%◌, ◌^◌, Bool, true, false, List, [], ◌∷◌, ◌++◌, take, drop, length, replicate, get_or, append_assoc, length-append, slice_set, nat_eq, flat_map, All, length-drop, length-take-le, length-replicate, length-set, take-append-le, drop-append-le, drop-drop, drop-take, take_at, flat_map-append, map, drop_all, Cell, signal_values_at, SignalValues, no_signal_values, HaveRoom, trimmed, signal_text, most_signals, AreApart, HasColumns, IsBlankBut, values_at}
 use Rattle.std.proofs.Math.Pow.{pow-lt}
-use Rattle.std.proofs.Common.{max, pow_mono, nat_lt, take-add}
-use Rattle.std.specs.Int.{bit_at, bit_not, leading_zeros, w64}
 
 -- ---- the columns of one signal are replaced
 

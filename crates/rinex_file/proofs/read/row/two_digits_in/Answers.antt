@@ -1,5 +1,4 @@
-use Rattle.rinex_file.proofs.Names.{common_steps}
-use Rattle.std.proofs.Common.{arith, ◌∙◌, sym, ◌≤◌}
+use Rattle.rinex_file.proofs.Names.{arith, ◌∙◌, sym, ◌≤◌, common_steps}
 use Rattle.rinex_file.proofs.OneReading.{number_once}
 use Rattle.rinex_file.proofs.Rows.Written.{digits_shown, number_shown}
 use Rattle.rinex_file.proofs.read.row.two_digits_in.Goals as goal

@@ -1,6 +1,5 @@
 use Rattle.rinex_file.proofs.Rows.Columns.{is_signal, few_without, less_without, apart_without, value_blanked}
-use Rattle.rinex_file.proofs.Names.{bit_at-trailing_zeros, arith, ◌≡◌, ◌∙◌, ◌<◌, ◌^◌, ℕ, refl}
-use Rattle.std.specs.Int.{bit_at, trailing_zeros, w64}
+use Rattle.rinex_file.proofs.Names.{bit_at, trailing_zeros, w64, bit_at-trailing_zeros, arith, ◌≡◌, ◌∙◌, ◌<◌, ◌^◌, ℕ, refl}
 use Rattle.rinex_file.proofs.write.satellite.blank_columns.Goals as goal
 
 is_left : (left : ℕ) → (left ≡ 0 → ⊥) → left < 2 ^ 64 → bit_at left (trailing_zeros w64 left) ≡ 1

@@ -1,9 +1,8 @@
 -- The line is refused unless it is the text of a row whose rank rises. One row more keeps the history of the file;
 -- with the last one expected, the epoch is complete, and its counts, times and station values go on.
-use Rattle.std.specs.Option.{is_some}
 use Rattle.rinex_file.proofs.Reading.Epochs.{bad_of, stopped, rise_after, rise_last, values_more, row_taken, row_shows, last_shows, no_row, bad_row, last_taken, sound_open, few_at, sound_row, sound_closed}
 use Rattle.rinex_file.proofs.FewRows.{some_rank}
-use Rattle.rinex_file.proofs.Names.{open_epochs, arith, ◌≡◌, ◌∙◌, ◌+◌, ◌-◌, ◌<◌, ◌∷◌, ◌++◌, [], ℕ, suc, List, sym, ap, subst, refl, length, length-append, Bool, Option, Some, None, IfSome, option_or, map, ◌≤◌, ◌↔◌, IsStrictlyIncreasing, map-append, sum_by-append, System, Satellite, SatelliteRow, Stamped, StationValues, IsSatelliteRow, changed_by, rank_of, time_stamped, satellite_line, Progress, ReadsExactly, some_if, EpochTimes, AreTimes, AreTimesOrNone, IsLast, changes_of, stamped_at, events_in, progress_at, rows_in, ExpectsRow}
+use Rattle.rinex_file.proofs.Names.{is_some, open_epochs, arith, ◌≡◌, ◌∙◌, ◌+◌, ◌-◌, ◌<◌, ◌∷◌, ◌++◌, [], ℕ, suc, List, sym, ap, subst, refl, length, length-append, Bool, Option, Some, None, IfSome, option_or, map, ◌≤◌, ◌↔◌, IsStrictlyIncreasing, map-append, sum_by-append, System, Satellite, SatelliteRow, Stamped, StationValues, IsSatelliteRow, changed_by, rank_of, time_stamped, satellite_line, Progress, ReadsExactly, some_if, EpochTimes, AreTimes, AreTimesOrNone, IsLast, changes_of, stamped_at, events_in, progress_at, rows_in, ExpectsRow}
 use mir.Val.{bool_byte}
 use Rattle.rinex_file.proofs.read.parser_state.ParserState.take_satellite.Goals as goal
 
