@@ -157,12 +157,9 @@ pub record IsSatelliteText (text : List ℕ) (signals : ℕ) (v : SatelliteRow) 
 feed_cut : (line text : List ℕ) → line ≡ text ++ 10 ∷ [] → take (length line - 1) line ≡ text
 feed_cut line text is = grind (arith, common_steps, length_push, take-append_seam)
 
-not_blank : (b : ℕ) → 48 ≤ b → b ≡ 32 → ⊥
-not_blank b h e = omega (arith, h, e)
-
 -- the first three columns are not blank
 three_kept : (id : ℕ) (columns : List ℕ) → id < 100 → trimmed (padded 2 id ++ columns) ≡ (48 + id / 10) ∷ (48 + id % 10) ∷ trimmed columns
-three_kept id columns h = grind (arith, two_digits, trimmed-front, not_blank)
+three_kept id columns h = grind (arith, two_digits, trimmed-front)
 
 pub text_of_line : (system : System) (signals : ℕ) (v : SatelliteRow) (line : List ℕ) → IsRowOf system signals v → line ≡ satellite_line v → IsSatelliteText (take (length line - 1) line) signals v
 text_of_line system signals v line (same, is) e =

@@ -1,5 +1,5 @@
 -- Texts without a line feed, and their largest lengths.
-use Rattle.rinex_file.proofs.Names.{has-not, lacks-append, lacks-decimal, lacks-padded, length-fixed-le, length-padded-le, arith, ◌≡◌, ◌∙◌, ap, refl, ℕ, suc, ◌+◌, ◌-◌, ◌*◌, ◌^◌, ◌<◌, ◌≤◌, ℤ, unsigned_abs, Bool, true, false, List, [], ◌∷◌, ◌++◌, length, replicate, decimal, length-append, ◌==◌, ◌||◌, flat_map, All, AllByRecursion, list_all, sign_text, div-le_self, mod-le, length-decimal-le, and_parts, length-replicate, All-from_recursion, All-head, All-tail, joined, left, right, padded, fixed, has, is_printable, IsText}
+use Rattle.rinex_file.proofs.Names.{has-not, lacks-append, lacks-decimal, lacks-padded, length-fixed-le, length-padded-le, arith, ◌≡◌, ◌∙◌, ap, refl, ℕ, suc, ◌+◌, ◌-◌, ◌*◌, ◌^◌, ◌<◌, ◌≤◌, ℤ, unsigned_abs, true, false, List, [], ◌∷◌, ◌++◌, length, replicate, decimal, length-append, ◌==◌, ◌||◌, flat_map, All, AllByRecursion, list_all, div-le_self, mod-le, length-decimal-le, and_parts, length-replicate, All-from_recursion, All-head, All-tail, joined, left, right, padded, fixed, has, is_printable, IsText}
 pub use Rattle.std.proofs.lemmas.Bool.{and_parts as both}
 
 -- ---- no line feed
@@ -7,11 +7,8 @@ pub use Rattle.std.proofs.lemmas.Bool.{and_parts as both}
 abbrev pub Clean : List ℕ → Type 0
 Clean text = has 10 text ≡ false
 
-clean-sign : (b : Bool) → Clean (sign_text b)
-clean-sign b = grind arith
-
 pub clean-fixed : (places : ℕ) (z : ℤ) → unsigned_abs z < 2 ^ 64 → Clean (fixed places z)
-clean-fixed places z fits = grind (arith, div-le_self, mod-le, lacks-append, clean-sign, lacks-decimal, lacks-padded)
+clean-fixed places z fits = grind (arith, div-le_self, mod-le, lacks-append, lacks-decimal, lacks-padded)
 
 -- ---- at most this number of bytes as well
 

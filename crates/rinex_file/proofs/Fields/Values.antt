@@ -131,8 +131,7 @@ few_before columns v lost strength fits is =
     let less = at_least (is_negative v) (blanks (field (Some v) lost strength)) in
     omega (arith, ap blanks is, start, few, less) where
       at_least : (b : Bool) (n : ℕ) → n ≤ (if b then n + 1 else n)
-      at_least true n = omega arith
-      at_least false n = omega arith
+      at_least b n = grind (arith, common_steps)
 
 -- the digits that are left of the columns of a value
 pub record IsShown (ds : List ℕ) (start : ℕ) (b : Bool) (v : ℤ) : Type 0 where
@@ -194,10 +193,6 @@ IsValue columns v = FitsColumns v × (columns ≡ field (Some v) (get_or columns
 begin_as : (b : Bool) (start : ℕ) (columns : List ℕ) → length columns ≡ 16 → blanks columns ≤ 9 → Begins columns b start → columns ≡ empty_columns b start ++ drop start columns
 begin_as b start columns size few h2 = grind (arith, blanks_first, blank_columns, eqb-true, drop_more, append_assoc, last_minus, add-one)
 
--- their leading zeros end where the first digit is, if that is not a zero or is the last
-empty_taken : (b : Bool) (n : ℕ) → taken (empty_column n b) (empty_column n b) ≡ 0
-empty_taken b n = grind arith
-
 no_leading : (d : ℕ) (ds : List ℕ) → (d ≡ 0 → ⊥) → leading (d ∷ ds) ≡ 0
 no_leading d ds some = grind arith
 
@@ -206,7 +201,7 @@ zeros_before : (b : Bool) (n start : ℕ) (rest : List ℕ) → start ≤ n → 
 zeros_before b zero start rest few small some = omega (arith, few)
 zeros_before b (suc n) zero [] few small some = refl
 zeros_before b (suc n) zero (x ∷ rest) few small some = no_leading (taken x 48) (take n (zip2 taken rest (template b n 0))) (λ none. some (omega arith) (omega (arith, none, small)))
-zeros_before b (suc n) (suc start) rest few small some = grind (arith, empty_taken, (zeros_before b n start rest (omega (arith, few)) small (λ h. some (omega (arith, h)))))
+zeros_before b (suc n) (suc start) rest few small some = grind (arith, (zeros_before b n start rest (omega (arith, few)) small (λ h. some (omega (arith, h)))))
 
 -- sixteen columns of a field, of which at most nine are blank before the value
 pub record AreColumns (columns : List ℕ) : Type 0 where
@@ -245,8 +240,7 @@ no_zero_first b (suc n) zero (x ∷ xs) small none is =
 no_zero_first b (suc n) (suc start) (x ∷ xs) small none is =
     no_zero_first b n start xs (omega (arith, small)) none (one_less (taken x (empty_column start b)) (take n (zip2 taken xs (template b n start))) start is) where
       one_less : (d : ℕ) (ds : List ℕ) (k : ℕ) → leading (d ∷ ds) ≡ suc k → leading ds ≡ k
-      one_less zero ds k is = omega (arith, is)
-      one_less (suc d) ds k is = absurd (omega (arith, is))
+      one_less d ds k h1 = grind (arith, common_steps)
 
 -- the value of a size and a sign
 signed_is : (s : ℕ) (b : Bool) → s < 10 ^ 13 → (b ≡ true → 1 ≤ leading (front s)) → (b ≡ true → s ≡ 0 → ⊥)

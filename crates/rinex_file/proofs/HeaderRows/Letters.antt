@@ -3,32 +3,25 @@ use Rattle.std.proofs.lemmas.Map.Views.{any-filter_same}
 use Rattle.rinex_file.proofs.HeaderRows.Places.{number_known}
 use Rattle.rinex_file.proofs.HeaderRows.Agree.{less_or}
 use Rattle.rinex_file.proofs.HeaderRows.Texts.{equal_or}
-use Rattle.rinex_file.proofs.Names.{filter_agree, is_system, system_of_letter, any_system, equal_indices, letter_back, system_same, systems_taken, list_any, le-leb, common_steps, AreUnread, Types, first_types, nat_le, arith, refl, sym, ap, ap₂, subst, ◌≡◌, ◌∙◌, ℕ, ◌+◌, ◌<◌, ◌≤◌, ◌==◌, ◌&&◌, ◌||◌, cond, Bool, true, false, List, [], ◌∷◌, length, nat_lt, nat_tests, lit<, filter, System, letter, PlanValue, planned_of, systems, is_planned, letter_of, flagged_letter, systems_letter, Known, IsShown, Shown, Has, counted, is_chosen, fits, same_Some, if◌then◌else◌, index_of, take, filter-append, append-nil, ◌++◌, filter_passes, eq-eqb, lt-ltb, or_right}
+use Rattle.rinex_file.proofs.Names.{filter_agree, is_system, system_of_letter, any_system, equal_indices, letter_back, system_same, systems_taken, list_any, le-leb, common_steps, AreUnread, Types, first_types, nat_le, arith, refl, sym, ap, ap₂, subst, ◌≡◌, ◌∙◌, ℕ, ◌+◌, ◌<◌, ◌≤◌, ◌==◌, ◌&&◌, ◌||◌, cond, Bool, true, List, [], ◌∷◌, length, nat_lt, nat_tests, lit<, filter, System, letter, PlanValue, planned_of, systems, is_planned, letter_of, flagged_letter, systems_letter, Known, IsShown, Shown, Has, counted, is_chosen, fits, same_Some, if◌then◌else◌, index_of, take, filter-append, ◌++◌, filter_passes, eq-eqb, lt-ltb, or_right}
 
 -- ---- letters
 
 pub one_letter : (s t : System) → letter s ≡ letter t → s ≡ t
 one_letter s t e = same_Some s t (sym (letter_back s) ∙ ap system_of_letter e ∙ letter_back t)
 
-some_letter : (s : System) → (letter s == 0) ≡ false
-some_letter s = grind arith
-
-not_several : (s : System) → letter s ≡ 77 → ⊥
-not_several s e = grind arith
-
 -- ---- the letter of a list
 
 -- with one system more
 joined_letter : (ss : List System) (s : System) → letter_of (ss ++ s ∷ []) ≡ (if letter_of ss == 0 then letter s else 77)
-joined_letter ss s = grind (arith, some_letter)
+joined_letter ss s = grind arith
 
 -- of the systems before an index, with the one at it
 pub letter_next : (f : System → Bool) (n : ℕ) (s : System) → index_of s ≡ n
     → letter_of (filter f (take (n + 1) systems)) ≡ (if f s then (if letter_of (filter f (take n systems)) == 0 then letter s else 77) else letter_of (filter f (take n systems)))
 letter_next f n s at = ap (λ ss. letter_of (filter f ss)) (systems_taken n s at) ∙ ap letter_of (filter-append f (take n systems) (s ∷ [])) ∙ by (f s) where
   by : (b : Bool) → letter_of (filter f (take n systems) ++ cond b (s ∷ []) []) ≡ (if b then (if letter_of (filter f (take n systems)) == 0 then letter s else 77) else letter_of (filter f (take n systems)))
-  by true = joined_letter (filter f (take n systems)) s
-  by false = ap letter_of (append-nil (filter f (take n systems)))
+  by b = grind (arith, common_steps, joined_letter)
 
 -- ---- flags
 
@@ -48,7 +41,7 @@ own_letter : (f : System → Bool) (m : ℕ) → (m ≡ 77 → ⊥) → flagged_
 own_letter f m far is s e = grind (arith, has_flag, equal_indices)
 
 several_size : (ss : List System) → letter_of ss ≡ 77 → 2 ≤ length ss
-several_size ss e = grind (arith, not_several)
+several_size ss e = grind arith
 
 several_from : (ss : List System) → 2 ≤ length ss → letter_of ss ≡ 77
 several_from ss l = grind arith
@@ -68,15 +61,10 @@ chosen_letter : (f some may : System → Bool) (m : ℕ) → flagged_letter f �
     → flagged_letter (chosen_by m some may) ≡ m
 chosen_letter f some may m is positive sub sup = equal_or (flagged_letter (chosen_by m some may) ≡ m) m 77 several one where
   widened : (c b e : Bool) → (b || c) ≡ true → e ≡ true → (c || (b && e)) ≡ true
-  widened true b e p q = refl
-  widened false true e p q = q
-  widened false false e p q = p
+  widened c b e h1 h2 = grind (arith, common_steps)
 
   several : m ≡ 77 → flagged_letter (chosen_by m some may) ≡ m
-  several e =
-      let more = more_flags f (chosen_by m some may) (λ s h. widened (some s) (may s) (m == 77 || m == letter s) (sup s h) (ap (λ n. n == 77 || n == letter s) e)) systems in
-      let two = several_size (filter f systems) (is ∙ e) in
-      several_from (filter (chosen_by m some may) systems) (omega (arith, two, more)) ∙ sym e
+  several h1 = grind (arith, common_steps, more_flags, several_size, several_from)
 
   one : (m ≡ 77 → ⊥) → flagged_letter (chosen_by m some may) ≡ m
   one far = same_flags (chosen_by m some may) f (λ s. by (f s) (some s) (may s) (m == 77 || m == letter s) (sub s) (sup s) (λ h. here s (own_letter f m far is s h)) (λ h. again s h)) ∙ is where
@@ -84,18 +72,10 @@ chosen_letter f some may m is positive sub sup = equal_or (flagged_letter (chose
     here s e = grind (arith, nat_tests, e)
 
     again : (s : System) → (m == 77 || m == letter s) ≡ true → f s ≡ true
-    again s h =
-        let (a, flag) = flagged f (subst (λ n. 0 < n) (sym is) positive) in
-        ap f (sym (one_letter a s (own_letter f m far is a flag ∙ other (letter s) h))) ∙ flag where
-          other : (n : ℕ) → (m == 77 || m == n) ≡ true → m ≡ n
-          other n h = grind (arith, nat_tests, h, far)
+    again s h1 = grind (arith, common_steps, one_letter, own_letter)
 
     by : (a c b e : Bool) → (c ≡ true → a ≡ true) → (a ≡ true → (b || c) ≡ true) → (a ≡ true → e ≡ true) → (e ≡ true → a ≡ true) → (c || (b && e)) ≡ a
-    by true c b e sub sup to back = widened c b e (sup refl) (to refl)
-    by false true b e sub sup to back = sym (sub refl)
-    by false false true true sub sup to back = sym (back refl)
-    by false false true false sub sup to back = refl
-    by false false false e sub sup to back = refl
+    by a c b e h1 h2 h3 h4 = grind (arith, common_steps)
 
 -- ---- a header with what was read has a plan that fits
 

@@ -130,11 +130,8 @@ one_of_types system signals row few =
 
 -- ---- slots
 
-no_feed : (n : ℕ) → (48 + n == 10) ≡ false
-no_feed n = grind (arith, nat_tests)
-
 plain_channel : (n : ℕ) → n ≤ most_number → IsPlain 2 (channel_text n)
-plain_channel n few = grind (arith, no_feed, lit≤)
+plain_channel n few = grind (arith, nat_tests, lit≤)
 
 plain_slot : (s : SlotNumber) → s.slot ≤ slot_count → s.number ≤ most_number → IsPlain 27 (slot_text s)
 plain_slot s few number =
@@ -207,9 +204,7 @@ version p =
     )
     (lit≤ tt) (plain 20 _ refl (lit≤ tt)) where
       plain_letter : (ss : List System) → IsPlain 80 (letter_of ss ∷ [])
-      plain_letter [] = plain 80 _ refl (lit≤ tt)
-      plain_letter (s ∷ []) = plain 80 _ (ap (λ c. c || false) (no_letter s)) (lit≤ tt)
-      plain_letter (s ∷ t ∷ ss) = plain 80 _ refl (lit≤ tt)
+      plain_letter ss = grind (arith, common_steps, plain, lit≤, no_letter)
 
 -- ---- station
 

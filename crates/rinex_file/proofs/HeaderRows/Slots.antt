@@ -116,13 +116,7 @@ more_slots (suc count) c are room =
     let added = slot_added c slot 0 are (omega arith) (omega (arith, room)) in
     let last : last_slot 0 (slots_of (with_number c slot 0)) ≡ slot = ap (last_slot 0) added ∙ last_push 0 (slots_of c) (at slot 0) in
     let next = more_slots count (with_number c slot 0) (number_set c (slot - 1) 0 are (omega arith)) (omega (arith, room, last)) in
-    record {
-      channels = next.channels;
-      are = next.are;
-      more = at slot 0 ∷ next.more;
-      is = next.is ∙ ap (λ (l : List SlotNumber). l ++ next.more) added ∙ append_assoc (slots_of c) (at slot 0 ∷ []) next.more;
-      size = ap suc next.size;
-    }
+    grind (arith, common_steps)
 
 -- ---- slot by slot
 
@@ -163,15 +157,12 @@ in_line row ss = take slots_in_line (drop (slots_in_line * row) ss)
 line_more : (row : ℕ) (ss : List SlotNumber) (s : SlotNumber) → length ss / 8 ≡ row → in_line row (ss ++ s ∷ []) ≡ in_line row ss ++ s ∷ []
 line_more row ss s here = grind (arith, common_steps, length-drop, length-append, drop-append-le, take_all)
 
-line_before : (row : ℕ) (ss : List SlotNumber) (s : SlotNumber) → length ss < 8 * row → in_line row (ss ++ s ∷ []) ≡ in_line row ss
-line_before row ss s less = grind (arith, length-append, drop_all)
-
 line_after : (row : ℕ) (ss : List SlotNumber) (s : SlotNumber) → 8 * row + 8 ≤ length ss → in_line row (ss ++ s ∷ []) ≡ in_line row ss
 line_after row ss s more = grind (arith, common_steps, length-drop, drop-append-le, take-append-le)
 
 -- a slot of another line
 line_other : (row : ℕ) (ss : List SlotNumber) (s : SlotNumber) → (length ss / 8 ≡ row → ⊥) → in_line row (ss ++ s ∷ []) ≡ in_line row ss
-line_other row ss s other = grind (arith, less_or, line_before, line_after)
+line_other row ss s other = grind (arith, less_or, length-append, drop_all, line_after)
 
 -- these columns follow others
 abbrev pub ArePut : ℕ → List SlotNumber → List ℕ → List ℕ → Type 0
@@ -197,9 +188,6 @@ same_slots_line row count a b e = ap (λ (l : List SlotNumber). header_line (slo
 pub length-channel : (n : ℕ) → length (channel_text n) ≡ 2
 length-channel n = grind arith
 
-channel_first : (n : ℕ) (rest : List ℕ) → take 2 ((channel_text n ++ 32 ∷ []) ++ rest) ≡ channel_text n
-channel_first n rest = grind arith
-
 pub length-slot : (s : SlotNumber) → s.slot < 100 → length (slot_text s) ≡ 7
 length-slot s few = grind (arith, two_digits, length-append, length-channel)
 
@@ -217,7 +205,7 @@ abbrev ShowsSlot : SlotNumber → List ℕ → Type 0
 ShowsSlot s text = (take 2 (drop 1 text) ≡ padded 2 s.slot) × (take 2 (drop 4 text) ≡ channel_text s.number)
 
 slot_shown : (s : SlotNumber) (rest : List ℕ) → s.slot < 100 → ShowsSlot s (slot_text s ++ rest)
-slot_shown s rest few = grind (arith, two_digits, channel_first)
+slot_shown s rest few = grind (arith, two_digits)
 
 each_slot : (last : ℕ) (ss : List SlotNumber) (i : ℕ) (d : SlotNumber) → AreSlots last ss → i < length ss → ((get_or ss i d).slot ≤ slot_count) × ((get_or ss i d).number ≤ most_number)
 each_slot last [] i d are less = absurd (omega (arith, less))

@@ -62,8 +62,7 @@ module _ {n : ℕ} (less : n < row_count) (k : Known) (line : List ℕ) (lists :
   items_expected (Types s row) at has = (is_less row most_type_rows (few_rows less (Types s row) at), size_types s row at has, rows_there k line s row has)
   items_expected (Slots row) at has = (is_less row 4 (few_rows less (Slots row) at), size_slots row at has, more row has, some_planned row has) where
     more : (row : ℕ) → known_line k line (Slots row) ≡ true → 0 < row → slots_begun row < k.slots
-    more zero has far = absurd (omega (arith, far))
-    more (suc row) has far = begun_slots (suc row) k.slots (is_less (suc row) (slot_rows k.slots) has)
+    more row h1 h2 = grind (arith, common_steps, begun_slots)
   items_expected r at has = grind arith
 
 -- ---- a row whose line was read
@@ -252,9 +251,6 @@ same_or b t l same = grind (arith, common_steps)
 same_value : (k : Known) (h : Shown) (r : HeaderRow) → HasRow k h r → is_given h.texts h.interval r ≡ is_given k.shown.texts k.shown.interval r
 same_value k h r same = grind (arith, common_steps, same_some, is_some)
 
-value_there : (h : Shown) (r : HeaderRow) → is_optional r ≡ true → is_given h.texts h.interval r ≡ true → has_line h r ≡ true
-value_there h r optional some = grind (arith, common_steps)
-
 module _ {n : ℕ} (less : n < row_count) {k : Known} {line : List ℕ} {h : Shown} {others left : List (List ℕ)} (on : GoesOn k n h others (line ∷ left)) where
   pub shows_next : has_line h (row_at n) ≡ true → row_line h (row_at n) ≡ line
   shows_next has = grind (arith, common_steps, line_next, cons_parts)
@@ -418,7 +414,7 @@ single x y e = cc
 
 -- a row with what was read of its line has a line
 line_there : {n : ℕ} (less : n < row_count) (r : HeaderRow) {line : List ℕ} {old new : Known} → row_at n ≡ r → known_line old line r ≡ true → IsHeaderLineRead r line old new → (h : Shown) → Has old n h → HasRow new h r → has_line h r ≡ true
-line_there less r at has row_read h a own = grind (arith, common_steps, lt-ltb, value_there, same_value, plain_present)
+line_there less r at has row_read h a own = grind (arith, common_steps, lt-ltb, same_value, plain_present)
 
 pub row_law : {n : ℕ} {r : HeaderRow} {line : List ℕ} {old new : Known} → n < row_count → row_at n ≡ r → known_line old line (row_at n) ≡ true → IsHeaderLineRead r line old new → Law old n line new
 row_law {n} {r} {line} {old} {new} less at has row_read h is = (to, from) where

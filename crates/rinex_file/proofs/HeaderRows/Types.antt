@@ -83,26 +83,19 @@ columns types = flat_map (λ t. 32 ∷ t) types
 place_of : (start i : ℕ) → start ≤ i → start + (i - start) ≡ i
 place_of start i h = omega (arith, h)
 
-next_place : (start i : ℕ) → start ≤ i → (i + 1) - start ≡ (i - start) + 1
-next_place start i h = omega (arith, h)
-
 -- one more type
 pub type_more : (types : List (List ℕ)) {start i : ℕ} {x : List ℕ} (front : List ℕ) {text new : List ℕ} → start ≤ i → i < length types → x ≡ get_or types i []
     → text ≡ front ++ columns (take (i - start) (drop start types)) → new ≡ text ++ 32 ∷ x
     → new ≡ front ++ columns (take ((i + 1) - start) (drop start types))
-type_more types front low high is before more = grind (arith, common_steps, length-drop, get_or-drop, place_of, next_place, take_more, flat_map-append)
+type_more types front low high is before more = grind (arith, common_steps, length-drop, get_or-drop, place_of, take_more, flat_map-append)
 
 same_take : (types : List (List ℕ)) (m n : ℕ) → length types ≤ m → length types ≤ n → take m types ≡ take n types
 same_take types m n a b = take_all m types a ∙ sym (take_all n types b)
 
-full_or_all : (types : List (List ℕ)) (row i : ℕ) → 13 * row ≤ i → i ≤ 13 * row + 13 → (i < 13 * row + 13 → length types ≤ i)
-    → take (i - 13 * row) (drop (13 * row) types) ≡ take 13 (drop (13 * row) types)
-full_or_all types row i low high end = grind (arith, cases_lt, length-drop, same_take)
-
 -- the line is full, or all types are in it
 pub types_done : (types : List (List ℕ)) (row i : ℕ) (front : List ℕ) {text : List ℕ} → 13 * row ≤ i → i ≤ 13 * row + 13 → (i < 13 * row + 13 → length types ≤ i)
     → text ≡ front ++ columns (take (i - 13 * row) (drop (13 * row) types)) → text ≡ front ++ type_columns types row
-types_done types row i front low high end is = grind (arith, full_or_all)
+types_done types row i front low high end is = grind (arith, cases_lt, length-drop, same_take)
 
 -- ---- signals of a system, at their indices
 
@@ -183,9 +176,6 @@ not_before (x ∷ all) (suc k) apart less =
 
 -- ---- one more signal
 
-in_row : (row place : ℕ) → place < (13 * (row + 1) + 3) / 4 → 4 * place - 13 * row < 13
-in_row row place high = omega (arith, high)
-
 -- the column of the code of the signal at an index, in a line of types
 abbrev pub column_of : ℕ → ℕ → ℕ
 column_of row place = 6 + 4 * (4 * place - 13 * row) + 2
@@ -200,7 +190,7 @@ pub record IsInLine (system : System) (all line : List ℕ) (row place : ℕ) : 
   pub less : place < length all
 
 pub code_here : {system : System} {all line : List ℕ} {row place : ℕ} → IsInLine system all line row place → take 2 (drop (column_of row place) line) ≡ code_of (signal_at system all place)
-code_here at = grind (arith, code_in_line, in_row)
+code_here at = grind (arith, code_in_line)
 
 -- the signal that is read from its column
 pub read_here : {system : System} {all line : List ℕ} {row place : ℕ} {found : Option SignalAt} → IsInLine system all line row place

@@ -1,7 +1,7 @@
 -- Bytes that were read ahead and the lines among them; a file that is read line by line.
 use Rattle.rinex_file.specs.declared.read.fault.ReadFault.TheVariants.{Memory}
 use Rattle.rinex_file.proofs.Writing.Sent.{joined-append}
-use Rattle.rinex_file.proofs.Names.{has-append, lacks-append, common_steps, arith, ◌≡◌, ◌∙◌, sym, ap, subst, refl, ℕ, zero, suc, ◌+◌, ◌-◌, ◌<◌, ◌≤◌, true, false, List, [], ◌∷◌, ◌++◌, length, take, drop, get_or, length-append, take-add, append_assoc, append-nil, Option, Some, IfSome, inl, is_some, ◌||◌, ◌==◌, nat_eq, nat_lt, min, All, ⊤, Bool, Ok, Consumes, IsAtEnd, prepend_known, min-eq_left, min-eq_right, min-le_left, min-le_right, le-min, false_from_ne_true, or_parts, or_right, append_cancel_left, length-take-le, take-append-drop, length_push, drop-take, drop-drop, take-take, Consumes-nil, Consumes-trans, All-head, All-tail, All-push, IsHeaderBegun, IsAtTypes, is_of_types, ExplainsStored, ExplainsAny, HasHeader, has, LeavesRest, AreMoved, MovesBytes, IsLine, IsTextOf, NoFileBegins, IsCutShort, IsTooLong, IsFaulty, ExplainsFault, IsNoFault, most_lines, ParserState, AddedRow, Reading, FileValue, IsFileValue, file_text, file_lines, History, with_line, GoesOnWithLine, ShowsLine, RefusesLine, ReadsNextLine, HasRead, IsWhole, IsTextOfOnly, file_at, IsTaken, FileBuilder, history_of, HasReadWhole, joined, ReadFault, Read, CutShort, TooLong, AreBegun, Progress, HasLinesLeft, AreLinesOf, HasReadLines, most_line}
+use Rattle.rinex_file.proofs.Names.{has-append, lacks-append, common_steps, arith, ◌≡◌, ◌∙◌, sym, ap, subst, refl, ℕ, zero, suc, ◌+◌, ◌-◌, ◌<◌, ◌≤◌, true, false, List, [], ◌∷◌, ◌++◌, length, take, drop, get_or, length-append, take-add, append_assoc, append-nil, Option, Some, IfSome, inl, is_some, ◌||◌, ◌==◌, nat_eq, nat_lt, min, All, ⊤, Bool, Ok, Consumes, IsAtEnd, prepend_known, min-eq_left, min-eq_right, min-le_left, min-le_right, le-min, false_from_ne_true, or_parts, or_right, append_cancel_left, length-take-le, take-append-drop, length_push, drop-take, drop-drop, take-take, Consumes-nil, Consumes-trans, All-head, All-tail, All-push, IsHeaderBegun, IsAtTypes, is_of_types, ExplainsStored, ExplainsAny, HasHeader, has, LeavesRest, MovesBytes, IsLine, IsTextOf, NoFileBegins, IsCutShort, IsTooLong, IsFaulty, ExplainsFault, IsNoFault, most_lines, ParserState, AddedRow, Reading, FileValue, IsFileValue, file_text, file_lines, History, with_line, GoesOnWithLine, ShowsLine, RefusesLine, ReadsNextLine, HasRead, IsWhole, IsTextOfOnly, file_at, IsTaken, FileBuilder, history_of, HasReadWhole, joined, ReadFault, Read, CutShort, TooLong, AreBegun, Progress, HasLinesLeft, AreLinesOf, HasReadLines, most_line}
 
 -- ---- bytes that are moved to a line
 
@@ -11,12 +11,9 @@ pub record IsFeed (near : List ℕ) (feed : ℕ) : Type 0 where
   pub none : has 10 (take feed near) ≡ false
   pub found : feed < length near → take 1 (drop feed near) ≡ 10 ∷ []
 
-moved_are : {near : List ℕ} {feed count room : ℕ} (b : Bool) → IsFeed near feed → nat_lt feed room ≡ b → length near ≡ room → count ≡ min (feed + 1) room → AreMoved b (take count near)
-moved_are b at is size e = grind (arith, min-eq_left, take-add, min-eq_right)
-
 pub moved : {held near new line line' : List ℕ} {room feed count : ℕ} → IsFeed near feed → near ≡ take room held → room ≡ min (length held) (most_line - length line)
     → count ≡ min (feed + 1) room → new ≡ drop count held → line' ≡ line ++ take count near → length line ≤ most_line → MovesBytes (nat_lt feed room) held new line line'
-moved at is most e rest pushed short = grind (arith, min-le_left, min-le_right, length-take-le, take-take, take-append-drop, moved_are, le-min, length-append)
+moved at is most e rest pushed short = grind (arith, min-le_left, min-le_right, length-take-le, take-take, take-append-drop, min-eq_left, take-add, min-eq_right, le-min, length-append)
 
 pub moved_of : (b : Bool) (held old new line line' : List ℕ) → held ≡ old → MovesBytes b held new line line' → MovesBytes b old new line line'
 moved_of b held old new line line' e m = subst (λ (o : List ℕ). MovesBytes b o new line line') e m
@@ -139,16 +136,9 @@ after_all P (l ∷ ls) more all = after_all P ls more (All-tail P l (ls ++ more)
 abbrev IsShort : List ℕ → Type 0
 IsShort l = length l ≤ most_line
 
-not_front : (m x long rest : List ℕ) → IsLine m → length m ≤ length long → has 10 long ≡ false → m ++ x ≡ long ++ rest → ⊥
-not_front m x long rest (body, e, endless) short none same = grind (arith, length-append, not_within, append_assoc)
-
 not_first : (more : List (List ℕ)) (long rest : List ℕ) → All IsLine more → All IsShort more → length long ≡ most_line → has 10 long ≡ false → long ++ rest ≡ joined more → ⊥
 not_first [] long rest are short size endless e = grind (arith, length-append, (ap length e), (length-append long rest))
-not_first (m ∷ ms) long rest are short size endless e = grind (arith, not_front, All-head)
-
--- bytes after the largest number of lines are no lines of a file
-no_more : (lines more : List (List ℕ)) {all : List (List ℕ)} {rest : List ℕ} → all ≡ lines ++ more → rest ≡ joined more → length lines ≡ most_lines → length all ≤ most_lines → 0 < length rest → ⊥
-no_more lines more split text many few some = grind (arith, common_steps, length-append)
+not_first (m ∷ ms) long rest are short size endless e = grind (arith, length-append, not_within, append_assoc, All-head)
 
 -- ---- what a reader returned
 
@@ -169,13 +159,10 @@ taken_more a b c taken line first next = subst (Consumes a c) (sym (joined-appen
 pub start : (s : Progress) (a : Option (List ℕ)) → ((v : FileValue) → IsFileValue v → HasLinesLeft s v (file_lines v)) → AreLinesOf s [] → IsTaken s 0 a a
 start s a new are = grind (arith, Consumes-nil)
 
-history_more : (old new : Progress) (taken : List (List ℕ)) (line : List ℕ) → HasReadLines old taken → GoesOnWithLine old new line → ShowsLine old new line → HasReadLines new (taken ++ line ∷ [])
-history_more old new taken line history more shows = grind (arith, append_assoc)
-
 -- one more line was read
 pub one_more : {old new : Progress} {n : ℕ} {a b c : Option (List ℕ)} (line : List ℕ) → IsTaken old n a b → IsLine line → Consumes b c line → GoesOnWithLine old new line → ShowsLine old new line
     → IsTaken new (n + 1) a c
-one_more line t is next more shows = grind (arith, are_more, length_push, taken_more, history_more)
+one_more line t is next more shows = grind (arith, are_more, length_push, taken_more, append_assoc)
 
 -- the next line has too many bytes
 pub over_long : {s : Progress} {n : ℕ} {a b : Option (List ℕ)} (c : Option (List ℕ)) (bytes : List ℕ) → IsTaken s n a b → length bytes ≡ most_line → has 10 bytes ≡ false → Consumes b c bytes
@@ -263,7 +250,7 @@ module _ (are_lines : (v : FileValue) → IsFileValue v → All IsLine (file_lin
 
     not_many : {v : FileValue} (lines : List (List ℕ)) (rest : List ℕ) → IsFileValue v → All IsLine lines → length lines ≡ most_lines → 0 < length rest → length (file_lines v) ≤ most_lines
         → file_text v ≡ joined lines ++ rest → ⊥
-    not_many {v} lines rest is are many some few e = grind (arith, splits, no_more, (splits (file_lines v) lines rest (are_lines v is) are e))
+    not_many {v} lines rest is are many some few e = grind (arith, common_steps, splits, length-append, (splits (file_lines v) lines rest (are_lines v is) are e))
 
     faulty_not : (v : FileValue) (input : List ℕ) (k : ℕ) → IsFileValue v → IsFaulty input k → input ≡ file_text v → ⊥
     faulty_not v input k is h1 e = grind (arith, not_long)

@@ -1,6 +1,6 @@
 -- A satellite's cells, each stored at its signal's index in the plan.
 use Rattle.rinex_file.proofs.Rows.Sizes.{if_fits, length-room}
-use Rattle.rinex_file.proofs.Names.{arith, ◌≡◌, ◌∙◌, sym, ap, ap₂, refl, ℕ, zero, suc, ◌+◌, ◌*◌, ◌<◌, ◌≤◌, List, [], ◌∷◌, ◌++◌, map, take, drop, length, replicate, get_or, append_assoc, length-append, false, ◌==◌, Some, None, slice_set, ◌≢◌, nat_eq, find, flat_map, position, All, if◌then◌else◌, option_map_or, IsDistinct, take_at, drop_at, length-take-le, replicate-append-replicate, cond_both, and_from, and_right, eq-eqb, ne_eqb, eqb-true, eqb-false, position-Some, All-from_recursion, All-head, All-tail, fails_before_first, System, Cell, IsHeld, SignalValues, signal_values_of, no_signal_values, signal_values_at, is_of_key, HaveRoom, field, signal_text, take-append-add, drop-append-add}
+use Rattle.rinex_file.proofs.Names.{common_steps, arith, ◌≡◌, ◌∙◌, sym, ap, ap₂, refl, ℕ, zero, suc, ◌+◌, ◌*◌, ◌<◌, ◌≤◌, List, [], ◌∷◌, ◌++◌, map, take, drop, length, replicate, get_or, append_assoc, length-append, false, ◌==◌, Some, None, slice_set, ◌≢◌, nat_eq, find, flat_map, position, All, if◌then◌else◌, option_map_or, IsDistinct, take_at, drop_at, length-take-le, replicate-append-replicate, cond_both, and_from, and_right, eq-eqb, ne_eqb, eqb-true, eqb-false, position-Some, All-from_recursion, All-head, All-tail, fails_before_first, System, Cell, IsHeld, SignalValues, signal_values_of, no_signal_values, signal_values_at, is_of_key, HaveRoom, field, signal_text, take-append-add, drop-append-add}
 
 -- ---- what a cell before others changes
 
@@ -68,10 +68,7 @@ replaced (x ∷ values) zero v all h = ap (λ t. signal_text v ++ t) (drop_at (s
 replaced (x ∷ values) (suc p) v all h =
     let l = length-room x (All-head HaveRoom x values all) in
     let size : 64 * suc p ≡ length (signal_text x) + 64 * p = omega (arith, l) in
-    ap (λ n. take n (signal_text x ++ flat_map signal_text values) ++ (signal_text v ++ drop 64 (drop n (signal_text x ++ flat_map signal_text values)))) size
-    ∙ ap₂ (λ a b. a ++ (signal_text v ++ drop 64 b)) (take-append-add (signal_text x) (flat_map signal_text values) (64 * p)) (drop-append-add (signal_text x) (flat_map signal_text values) (64 * p))
-    ∙ append_assoc (signal_text x) (take (64 * p) (flat_map signal_text values)) (signal_text v ++ drop 64 (drop (64 * p) (flat_map signal_text values)))
-    ∙ ap (λ t. signal_text x ++ t) (replaced values p v (All-tail HaveRoom x values all) (omega (arith, h)))
+    grind (arith, common_steps, take-append-add, drop-append-add, All-tail, (replaced values p v (All-tail HaveRoom x values all) (omega (arith, h))))
 
 -- ---- the beginning of a line
 

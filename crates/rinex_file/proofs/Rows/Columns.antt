@@ -21,9 +21,7 @@ columns_put row text p {k} all v wide width is room less columns =
     let b : drop s row ≡ drop n t ++ 32 ∷ [] = sym (drop-drop n 3 row) ∙ ap (drop n) columns ∙ drop-append-le n t (32 ∷ []) (omega (arith, size, less)) in
     let far : 64 ≤ length (drop n t) = rw length-drop (omega (arith, size, less)) in
     let c : drop k (drop s row) ≡ drop 64 (drop n t) ++ 32 ∷ [] = ap₂ drop width b ∙ drop-append-le 64 (drop n t) (32 ∷ []) far in
-    drop-append-le 3 (take s row) (text ++ drop k (drop s row)) (omega (arith, long))
-    ∙ ap₂ (λ x y. x ++ y) a (ap₂ (λ x y. x ++ y) is c ∙ sym (append_assoc (signal_text v) (drop 64 (drop n t)) (32 ∷ [])))
-    ∙ sym (append_assoc (take n t) (signal_text v ++ drop 64 (drop n t)) (32 ∷ [])) ∙ ap (λ x. x ++ 32 ∷ []) (replaced all p v room less)
+    grind (arith, common_steps, drop-append-le, replaced)
 
 pub front_kept : (row rest : List ℕ) (n : ℕ) → 3 + n ≤ length row → take 3 (take (3 + n) row ++ rest) ≡ take 3 row
 front_kept row rest n h = grind (arith, length-take-le, take-append-le, take-take)

@@ -2,7 +2,7 @@
 use Rattle.rinex_file.proofs.Rows.Trimmed.{uncut, cut_last, length-trimmed}
 use Rattle.rinex_file.proofs.Digits.Padded.{two_digits}
 use Rattle.rinex_file.proofs.HeaderRows.Texts.{trimmed-blanks}
-use Rattle.rinex_file.proofs.Names.{arith, ◌≡◌, ◌≢◌, ◌∙◌, sym, ap, ap₂, refl, ℕ, ◌+◌, ◌-◌, ◌*◌, ◌≤◌, ◌<◌, List, [], ◌∷◌, ◌++◌, length, take, drop, replicate, get_or, append-nil, take-append-drop, Bool, flat_map, ◌||◌, IsTrue, ◌↔◌, not, nat_eq, list_any, take-add, drop-drop, take_all, take_more, length-drop, length-take-le, length_push, get_or-take, get_or_append_left, ne_eqb, flat_map-append, list_any-append, SignalValues, SatelliteRow, has_some_value, trimmed, IsEnded, padded, field, signal_text, lli_byte, strength_byte, row_text, satellite_line, letter, number_of}
+use Rattle.rinex_file.proofs.Names.{common_steps, arith, ◌≡◌, ◌≢◌, ◌∙◌, sym, ap, ap₂, refl, ℕ, ◌+◌, ◌-◌, ◌*◌, ◌≤◌, ◌<◌, List, [], ◌∷◌, ◌++◌, length, take, drop, replicate, get_or, take-append-drop, Bool, flat_map, ◌||◌, IsTrue, ◌↔◌, not, nat_eq, list_any, take-add, drop-drop, take_all, take_more, length-drop, length-take-le, length_push, get_or-take, get_or_append_left, ne_eqb, flat_map-append, list_any-append, SignalValues, SatelliteRow, has_some_value, trimmed, IsEnded, padded, field, signal_text, lli_byte, strength_byte, row_text, satellite_line, letter, number_of}
 use Rattle.std.proofs.Math.Bool.{or-false}
 
 -- ---- the columns of a signal
@@ -28,8 +28,7 @@ pub signals_more : (text : List ℕ) (i : ℕ) (es : List SignalValues) {new : L
     → flat_map signal_text es ≡ take (64 * i) text → take 64 (drop (64 * i) text) ≡ signal_text e → flat_map signal_text new ≡ take (64 * (i + 1)) text
 signals_more text i es e pushed before here =
     let next : 64 * i + 64 ≡ 64 * (i + 1) = omega arith in
-    ap (flat_map signal_text) pushed ∙ flat_map-append signal_text es (e ∷ []) ∙ ap₂ (λ a b. a ++ b) before (append-nil (signal_text e) ∙ sym here)
-    ∙ sym (take-add (64 * i) 64 text) ∙ ap (λ n. take n text) next
+    grind (arith, common_steps, flat_map-append, take-add)
 
 pub some_more : (es new : List SignalValues) (e : SignalValues) (a b : Bool) → new ≡ es ++ e ∷ [] → a ≡ list_any has_some_value es → b ≡ has_some_value e
     → (a || b) ≡ list_any has_some_value new

@@ -1,5 +1,5 @@
 -- Lines that were written, and a part of them.
-use Rattle.rinex_file.proofs.Names.{IsErrAnd, flat_map-append, sum_by-cons, systems, index_of, before, after, satellites_in, systems_split, systems_taken, sum_by, common_steps, arith, ◌≡◌, ◌∙◌, sym, ap, refl, subst, ℕ, zero, suc, ◌+◌, ◌-◌, ◌≤◌, List, [], ◌∷◌, ◌++◌, length, append_assoc, append-nil, length-append, Option, Bool, true, false, Result, OnOk, OnErr, map, if◌then◌else◌, IfErr, Appends, Appends-trans, map-append, length-map, filter-append, AppendsPrefix, HasFailed, System, Cell, cells_of, flat_map, take, take_all, civil_of, PlanValue, EpochValue, is_written, written_among, satellites_written, joined, written_satellites, row_among, row_in_epoch, rows_of, satellite_line, epoch_line, StationValues, position_line, delta_line, event_line, event_text, line_among, line_or_none, lines_up_to, lines_of_systems, epoch_text}
+use Rattle.rinex_file.proofs.Names.{IsErrAnd, flat_map-append, sum_by-cons, systems, index_of, before, after, satellites_in, systems_split, systems_taken, sum_by, common_steps, arith, ◌≡◌, ◌∙◌, sym, ap, refl, subst, ℕ, zero, suc, ◌+◌, ◌-◌, ◌≤◌, List, [], ◌∷◌, ◌++◌, length, append_assoc, append-nil, length-append, Option, true, false, Result, OnOk, OnErr, map, if◌then◌else◌, IfErr, Appends, Appends-trans, map-append, length-map, filter-append, AppendsPrefix, HasFailed, System, Cell, cells_of, flat_map, take, take_all, civil_of, PlanValue, EpochValue, is_written, written_among, satellites_written, joined, written_satellites, row_among, rows_of, satellite_line, epoch_line, StationValues, position_line, delta_line, event_line, event_text, line_among, line_or_none, lines_up_to, lines_of_systems, epoch_text}
 pub use Rattle.rtcm_bits.proofs.SmallLaws.{on_failure as where_failed}
 
 -- a part of the first is a part of both
@@ -37,13 +37,9 @@ module _ (v : StationValues) (a b c d : Option (List ℕ)) where
 
 -- ---- satellite by satellite
 
-one_part : (p : PlanValue) (e : EpochValue) (s : System) (n : ℕ) (b : Bool)
-    → joined (map satellite_line (map (row_in_epoch p e s) (if b then suc n ∷ [] else []))) ≡ (if b then satellite_line (row_in_epoch p e s (suc n)) else [])
-one_part p e s n b = grind (arith, append-nil)
-
 lines_suc : (p : PlanValue) (e : EpochValue) (s : System) (n : ℕ) → lines_up_to p e s (suc n) ≡ lines_up_to p e s n ++ line_or_none p e s (suc n)
 unfolding lines_up_to line_among
-lines_suc p e s n = grind (arith, filter-append, map-append, joined-append, one_part)
+lines_suc p e s n = grind (arith, filter-append, map-append, joined-append, append-nil)
 
 pub lines_more : (p : PlanValue) (e : EpochValue) (s : System) (n m : ℕ) → m ≡ suc n → lines_up_to p e s m ≡ lines_up_to p e s n ++ line_or_none p e s m
 lines_more p e s n m is = subst (λ k. lines_up_to p e s k ≡ lines_up_to p e s n ++ line_or_none p e s k) (sym is) (lines_suc p e s n)
@@ -80,13 +76,10 @@ lines_around p e s {n} {m} most is h =
 
 -- ---- an epoch
 
-one_more : (n : ℕ) (b : Bool) → length (if b then suc n ∷ [] else []) ≡ (if b then 1 else 0)
-one_more n b = grind arith
-
 length-written : (cells : List Cell) (n : ℕ) → length (written_satellites cells n) ≡ written_among cells n
 unfolding written_among
 length-written cells zero = refl
-length-written cells (suc n) = grind (arith, filter-append, length-append, one_more, (length-written cells n))
+length-written cells (suc n) = grind (arith, filter-append, length-append, (length-written cells n))
 
 length-over : (p : PlanValue) (e : EpochValue) (ss : List System) → length (flat_map (rows_of p e) ss) ≡ sum_by (λ s. written_among (cells_of s e) (satellites_in s)) ss
 length-over p e [] = refl

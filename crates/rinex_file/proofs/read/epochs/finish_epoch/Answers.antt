@@ -1,16 +1,11 @@
 use Rattle.rinex_file.proofs.Reading.Accepted.{first_epochs, open_part, row_read, stopped, whole_part}
-use Rattle.rinex_file.proofs.Reading.Lines.{leaves_all, leaves_more}
+use Rattle.rinex_file.proofs.Reading.Lines.{leaves_more}
 use Rattle.rinex_file.proofs.Judged.{refused}
-use Rattle.rinex_file.proofs.Names.{common_steps, ◌∙◌, ap, arith, refl, Err}
+use Rattle.rinex_file.proofs.Names.{common_steps, ◌∙◌, ap, arith, Err}
 use Rattle.rinex_file.proofs.read.epochs.finish_epoch.Goals as goal
 
 pub loop-reading-init : goal.loop-reading-init
-loop-reading-init g c = record {
-  read = λ es e input part. (e, refl, part, omega arith, refl);
-  some = c.requires;
-  left = leaves_all _;
-  same = refl;
-}
+loop-reading-init g c = grind (arith, common_steps, c.requires)
 
 pub next-requires : goal.next-requires
 next-requires g c = grind (arith, common_steps, c.loop-reading.invariant, c.expects_row.ensures, c.loop-reading-test.true, open_part)
