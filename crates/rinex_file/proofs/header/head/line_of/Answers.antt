@@ -1,5 +1,5 @@
 -- Each row's line is the one that the row's own function makes; a row that has no line for this plan has none here.
-use Rattle.rinex_file.proofs.Names.{common_steps, shown_by, types_with, unwrap_or, ◌∙◌, sym, ap, ℕ, [], ◌∷◌, codes, row_line, header_line, version_by, length_indices, few_signals, arith, true, length, ◌≡◌, ◌≤◌, Shown, has_line, is_less, Slots, slot_count, slots_of, slots_with, interval_line}
+use Rattle.rinex_file.proofs.Names.{common_steps, shown_by, unwrap_or, ◌∙◌, sym, ap, ℕ, [], ◌∷◌, codes, row_line, header_line, length_indices, few_signals, arith, true, length, ◌≡◌, ◌≤◌, Shown, has_line, is_less, Slots, slot_count, slots_of, interval_line}
 use Rattle.rinex_file.proofs.header.head.line_of.Goals as goal
 
 few_rows : (h : Shown) (row n : ℕ) → has_line h (Slots row) ≡ true → n ≡ length (slots_of h.plan.channels) → n ≤ slot_count → row ≤ 100

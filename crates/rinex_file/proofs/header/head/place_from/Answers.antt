@@ -1,5 +1,5 @@
 use Rattle.rinex_file.proofs.HeaderRows.Agree.{line_none}
-use Rattle.rinex_file.proofs.Names.{common_steps, arith, false, row_at, has_line}
+use Rattle.rinex_file.proofs.Names.{common_steps, arith}
 use Rattle.rinex_file.proofs.header.head.place_from.Goals as goal
 
 pub loop-place-preserved : goal.loop-place-preserved

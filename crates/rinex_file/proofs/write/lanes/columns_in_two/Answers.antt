@@ -1,4 +1,4 @@
-use Rattle.rinex_file.proofs.Names.{arith, ◌∙◌, ap, unsigned_abs, to_z-of_z, digit_columns}
+use Rattle.rinex_file.proofs.Names.{arith, ◌∙◌, ap, to_z-of_z, digit_columns}
 use Rattle.rinex_file.proofs.write.lanes.columns_in_two.Goals as goal
 
 pub returns-clause-first : goal.returns-clause-first
