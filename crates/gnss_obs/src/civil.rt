@@ -1,7 +1,6 @@
 //! GPS time as a calendar date and a time of day.
 ghost use Rattle.std.specs.Prelude.{◌≡◌, ◌<◌, ◌*◌, ◌+◌, ℕ, IfSome, IfNone, pos, ◌*ℤ◌};
-ghost use Rattle.gnss_obs.specs.Weeks.{week};
-ghost use Rattle.gnss_obs.specs.Weeks.{weeks};
+ghost use Rattle.gnss_obs.specs.Weeks.{week, weeks};
 ghost use Rattle.gnss_obs.specs.Dates.{IsCivil, IsCivilOf, civil_of, nanoseconds_of};
 ghost use Rattle.jiff.specs.Words.{civil_nanos};
 

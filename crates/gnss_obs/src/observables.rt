@@ -2,9 +2,8 @@
 ghost use Rattle.std.specs.Prelude.{◌≡◌, ◌+◌, ◌*◌, ◌/◌, ◌^◌, ◌<◌, ◌≤◌, ◌*ℤ◌, ◌-ℤ◌, ◌≤ℤ◌, ◌<ℤ◌, unsigned_abs, pos, IfSome};
 ghost use Rattle.std.specs.Option.{option_map, ForSome};
 ghost use Rattle.gnss_obs.specs.Rounding.{IsRounded, nearest};
-ghost use Rattle.gnss_obs.specs.Observables.{light, nearest_pseudorange, nearest_phase, nearest_doppler};
-ghost use Rattle.gnss_obs.specs.Observables.{phase_by, doppler_by};
-ghost use Rattle.gnss_obs.specs.Observables.{nearest_strength, strength_digit};
+ghost use Rattle.gnss_obs.specs.Observables.{light, nearest_pseudorange, nearest_phase, nearest_doppler, phase_by};
+ghost use Rattle.gnss_obs.specs.Observables.{doppler_by, nearest_strength, strength_digit};
 ghost use Rattle.gnss_system.specs.Signals.{hertz_of, most_hertz};
 
 use crate::{Signal, Thousandths};

@@ -1,7 +1,6 @@
 //! GPS time.
 ghost use Rattle.std.specs.Prelude.{◌≡◌, ◌<◌, ◌*◌, ◌↔◌, IsSome, IfSome};
-ghost use Rattle.gnss_obs.specs.Weeks.{week};
-ghost use Rattle.gnss_obs.specs.Weeks.{weeks};
+ghost use Rattle.gnss_obs.specs.Weeks.{week, weeks};
 
 use std::marker::Model;
 

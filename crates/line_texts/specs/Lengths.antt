@@ -1,7 +1,6 @@
 -- Lengths in metres, read from text in units of 0.0001 m, and intervals and tolerances in seconds, in milliseconds.
-use Rattle.std.specs.Prelude.{ℕ, ℤ, pos, neg_ℤ, nat_le, nat_lt, ◌+◌, ◌-◌, ◌*◌, ◌^◌, ◌%◌, ◌==◌, ◌&&◌, Bool, List, [], ◌∷◌}
-use Rattle.std.specs.Prelude.{take, drop}
-use Rattle.std.specs.Prelude.{length, Option, Some, None, option_map, option_and_then, position}
+use Rattle.std.specs.Prelude.{ℕ, ℤ, pos, neg_ℤ, nat_le, nat_lt, ◌+◌, ◌-◌, ◌*◌, ◌^◌, ◌%◌, ◌==◌, ◌&&◌, Bool, List, []}
+use Rattle.std.specs.Prelude.{◌∷◌, take, drop, length, Option, Some, None, option_map, option_and_then, position}
 use Rattle.std.specs.Prelude.{if◌then◌else◌}
 use Rattle.std.specs.List.{list_all}
 use Rattle.gnss_obs.specs.GatheredEpochs.{coordinate_bound}

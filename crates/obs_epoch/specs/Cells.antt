@@ -6,18 +6,16 @@ use Rattle.std.specs.List.{list_any}
 use Rattle.gnss_system.specs.declared.system.System.{System}
 use Rattle.gnss_system.specs.declared.system.System.TheVariants.{Glonass}
 use Rattle.gnss_obs.specs.Channels.{hertz_in}
-use Rattle.gnss_system.specs.Systems.{systems}
+use Rattle.gnss_system.specs.Systems.{systems, is_system}
 use Rattle.gnss_system.specs.Satellites.{satellites}
 use Rattle.gnss_system.specs.Signals.{table}
 use Rattle.gnss_obs.specs.Values.{planned_of, most_cells}
 use Rattle.gnss_obs.specs.Plans.{place_in}
 use Rattle.gnss_obs.specs.Order.{sorted}
 use Rattle.obs_epoch.specs.Heard.{GatherSetup, Heard}
-use Rattle.gnss_obs.specs.HeardCells.{HeardCell}
+use Rattle.gnss_obs.specs.HeardCells.{HeardCell, has_same_key}
 use Rattle.obs_epoch.specs.Times.{Timed, is_at, taken_at}
 use Rattle.obs_epoch.specs.declared.taken.CellCounts.{CellCounts}
-use Rattle.gnss_obs.specs.HeardCells.{has_same_key}
-use Rattle.gnss_system.specs.Systems.{is_system}
 
 abbrev pub is_of_system : System → HeardCell → Bool
 is_of_system system x = is_system system x.satellite.system

@@ -1,38 +1,22 @@
 -- The value of a gatherer after a list of messages.
-use Rattle.std.specs.Prelude.{ℕ, ◌≡◌, Bool, true, List, filter, flat_map, length}
+use Rattle.std.specs.Prelude.{ℕ, ◌≡◌, Bool, true, List, filter, flat_map, length, if◌then◌else◌, Option, ◌+◌, ◌-◌, ◌*◌}
+use Rattle.std.specs.Prelude.{get_or, count_by, None, is_some}
 use Rattle.std.specs.Option.{option_map_or}
 use Rattle.gnss_system.specs.Systems.{systems}
 use Rattle.obs_epoch.specs.Heard.{GatherSetup, Heard}
 use Rattle.gnss_obs.specs.HeardCells.{HeardCell}
 use Rattle.obs_epoch.specs.Times.{Timed, greatest_time, timed}
-use Rattle.obs_epoch.specs.Cells.{cells_at}
+use Rattle.obs_epoch.specs.Cells.{cells_at, is_among, firsts, has_listed_key}
 use Rattle.obs_epoch.specs.Loss.{is_locked, latest_in}
 use Rattle.obs_epoch.specs.Epochs.{epoch_at, closed_so_far, values_of}
-use Rattle.obs_epoch.specs.Clock.{HasHeardMessages}
+use Rattle.obs_epoch.specs.Clock.{HasHeardMessages, State}
 use Rattle.gnss_system.specs.declared.system.System.{System}
-use Rattle.gnss_obs.specs.Values.{EpochValue, cells_of, empty_epoch}
-use Rattle.std.specs.Prelude.{if◌then◌else◌}
-use Rattle.std.specs.Prelude.{Option}
+use Rattle.gnss_obs.specs.Values.{EpochValue, cells_of, empty_epoch, CellLists, Closed}
 use Rattle.gnss_obs.specs.declared.cell.StationValues.{StationValues}
-use Rattle.gnss_obs.specs.Values.{CellLists}
-use Rattle.gnss_obs.specs.Values.{Closed}
 use Rattle.obs_epoch.specs.declared.choice.EpochCounts.{EpochCounts}
 use Rattle.gnss_obs.specs.Arriving.{sorted_lists}
-use Rattle.obs_epoch.specs.Clock.{State}
 use Rattle.obs_epoch.specs.declared.locks.KnownLock.{KnownLock}
-use Rattle.std.specs.Prelude.{◌+◌}
-use Rattle.std.specs.Prelude.{◌-◌}
-use Rattle.std.specs.Prelude.{◌*◌}
-use Rattle.std.specs.Prelude.{get_or}
-use Rattle.std.specs.Prelude.{count_by}
-use Rattle.std.specs.Prelude.{None}
-use Rattle.std.specs.Prelude.{is_some}
-use Rattle.gnss_system.specs.Signals.{table}
-use Rattle.gnss_system.specs.Signals.{first_key}
-use Rattle.gnss_system.specs.Signals.{key_count}
-use Rattle.obs_epoch.specs.Cells.{is_among}
-use Rattle.obs_epoch.specs.Cells.{firsts}
-use Rattle.obs_epoch.specs.Cells.{has_listed_key}
+use Rattle.gnss_system.specs.Signals.{table, first_key, key_count}
 
 -- The greatest time, 0 before the first.
 abbrev pub time_in : State → ℕ

@@ -1,6 +1,6 @@
 -- The history of a gatherer: its messages, the epochs that it returned, and a message that is expected again.
 use Rattle.std.specs.Prelude.{ℕ, ◌≡◌, ◌&&◌, ◌||◌, Bool, true, List, [], ◌∷◌, ◌++◌, map, if◌then◌else◌, Option, Some}
-use Rattle.std.specs.Prelude.{None, is_some, option_to_list}
+use Rattle.std.specs.Prelude.{None, is_some, option_to_list, false, get_or, length}
 use Rattle.std.specs.Option.{IfSome, option_map_or}
 use Rattle.rtcm_bits.specs.Prefix.{IsPrefix}
 use Rattle.gnss_obs.specs.declared.cell.StationValues.{StationValues}
@@ -9,22 +9,14 @@ use Rattle.gnss_obs.specs.Values.{EpochValue, PlanValue, Closed}
 use Rattle.obs_epoch.specs.Times.{timed}
 use Rattle.obs_epoch.specs.Loss.{times}
 use Rattle.obs_epoch.specs.Epochs.{epoch_at, is_shut, closed_times, closed_so_far, values_of}
-use Rattle.obs_epoch.specs.Thinning.{counts_left_out, thin}
+use Rattle.obs_epoch.specs.Thinning.{counts_left_out, thin, lost_before, up_to_most}
 use Rattle.obs_epoch.specs.Clock.{is_pending, closes_first}
-use Rattle.obs_epoch.specs.GathererAfter.{GathererValue}
-use Rattle.obs_epoch.specs.GathererAfter.{HasTakenMessages}
-use Rattle.std.specs.Prelude.{false}
-use Rattle.std.specs.Prelude.{get_or}
-use Rattle.std.specs.Prelude.{length}
+use Rattle.obs_epoch.specs.GathererAfter.{GathererValue, HasTakenMessages, lock_place, most_locks}
 use Rattle.gnss_obs.specs.declared.cell.Cell.{Cell}
 use Rattle.gnss_obs.specs.HeardCells.{heard_cell}
 use Rattle.obs_epoch.specs.declared.choice.Choice.{Choice}
 use Rattle.obs_epoch.specs.declared.choice.EpochCounts.{EpochCounts}
 use Rattle.obs_epoch.specs.Cells.{has_listed_key}
-use Rattle.obs_epoch.specs.GathererAfter.{lock_place}
-use Rattle.obs_epoch.specs.GathererAfter.{most_locks}
-use Rattle.obs_epoch.specs.Thinning.{lost_before}
-use Rattle.obs_epoch.specs.Thinning.{up_to_most}
 
 abbrev pub is_lost_in : List Bool → Cell → Bool
 is_lost_in marks x = get_or marks (lock_place (heard_cell x)) false

@@ -1,14 +1,12 @@
 -- The outcome of a message.
-use Rattle.std.specs.Prelude.{ℕ, ◌||◌, Bool, true, false, List, Option, None, is_some, if◌then◌else◌}
+use Rattle.std.specs.Prelude.{ℕ, ◌||◌, Bool, true, false, List, Option, None, is_some, if◌then◌else◌, nat_lt}
 use Rattle.obs_epoch.specs.declared.taken.Kind.{Kind}
 use Rattle.obs_epoch.specs.declared.taken.Kind.TheVariants as kinds
-use Rattle.std.specs.Prelude.{nat_lt}
 use Rattle.std.specs.Option.{option_map_or}
 use Rattle.obs_epoch.specs.declared.setup.Gather.TheVariants as gathers
 use Rattle.obs_epoch.specs.declared.week.Start.TheVariants.{Week}
-use Rattle.gnss_obs.specs.Values.{PlanValue}
+use Rattle.gnss_obs.specs.Values.{PlanValue, no_values}
 use Rattle.obs_epoch.specs.Heard.{GatherSetup, Heard, is_own}
-use Rattle.gnss_obs.specs.Values.{no_values}
 use Rattle.obs_epoch.specs.Choices.{every_epoch}
 use Rattle.obs_epoch.specs.Times.{Timed, is_late, is_past, time_of, timed}
 use Rattle.obs_epoch.specs.Cells.{counts_of_message}

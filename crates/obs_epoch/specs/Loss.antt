@@ -4,10 +4,9 @@ use Rattle.std.specs.Prelude.{unwrap_or, if◌then◌else◌, Option, Some, None
 use Rattle.std.specs.Option.{option_map_or}
 use Rattle.gnss_obs.specs.LockTimes.{lost}
 use Rattle.obs_epoch.specs.Heard.{GatherSetup}
-use Rattle.gnss_obs.specs.HeardCells.{HeardCell}
+use Rattle.gnss_obs.specs.HeardCells.{HeardCell, has_same_key}
 use Rattle.obs_epoch.specs.Times.{Timed}
 use Rattle.obs_epoch.specs.Cells.{cells_at}
-use Rattle.gnss_obs.specs.HeardCells.{has_same_key}
 use Rattle.obs_epoch.specs.declared.locks.KnownLock.{KnownLock}
 
 -- The cell has a valid phase and a known lock.

@@ -1,7 +1,6 @@
 -- The number of cells with a value in messages, by signal.
-use Rattle.std.specs.Prelude.{ℕ, ◌==◌, ◌&&◌, ◌||◌, Bool, true, false, List}
-use Rattle.std.specs.Prelude.{[], length, filter, Option, is_some, if◌then◌else◌}
-use Rattle.std.specs.Prelude.{Some, replicate}
+use Rattle.std.specs.Prelude.{ℕ, ◌==◌, ◌&&◌, ◌||◌, Bool, true, false, List, [], length, filter, Option, is_some}
+use Rattle.std.specs.Prelude.{if◌then◌else◌, Some, replicate}
 use Rattle.std.specs.Option.{option_map_or}
 use Rattle.gnss_system.specs.declared.system.System.{System}
 use Rattle.gnss_system.specs.Signals.{SignalAt}

@@ -1,10 +1,8 @@
 //! Lock records: for each satellite and signal, the latest known lock in a closed epoch. The loss
 //! of lock indicators of the next epoch are computed from them.
 ghost use Rattle.std.specs.Prelude.{◌≡◌, ◌+◌, ◌<◌, ◌≤◌, ◌%◌, ◌==◌, is_some, length, IfOk};
-ghost use Rattle.obs_epoch.specs.inner.Held.{AreKeysOf, no_locks, note, note_all};
-ghost use Rattle.obs_epoch.specs.GathererAfter.{lock_place, lookup, most_locks};
-ghost use Rattle.obs_epoch.specs.inner.Held.{note_systems};
-ghost use Rattle.obs_epoch.specs.GathererAfter.{recorded};
+ghost use Rattle.obs_epoch.specs.inner.Held.{AreKeysOf, no_locks, note, note_all, note_systems};
+ghost use Rattle.obs_epoch.specs.GathererAfter.{lock_place, lookup, most_locks, recorded};
 ghost use Rattle.gnss_obs.specs.HeardCells.{IsKey, heard_cell};
 ghost use Rattle.obs_epoch.specs.Loss.{lli_with};
 ghost use Rattle.gnss_obs.specs.Values.{AreHeld};

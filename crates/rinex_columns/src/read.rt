@@ -1,6 +1,5 @@
 //! Numbers in the columns of a line, read without validation.
-ghost use Rattle.std.specs.Prelude.{◌≡◌, ◌↔◌, ◌≤◌, ◌<◌, ◌^◌, IsTrue};
-ghost use Rattle.std.specs.Prelude.{length, take, drop, pos, neg_ℤ, if◌then◌else◌};
+ghost use Rattle.std.specs.Prelude.{◌≡◌, ◌↔◌, ◌≤◌, ◌<◌, ◌^◌, IsTrue, length, take, drop, pos, neg_ℤ, if◌then◌else◌};
 ghost use Rattle.rinex_columns.specs.Read.{digits_in};
 
 /// Returns whether two texts are byte-identical.

@@ -1,23 +1,18 @@
 -- Lines that a file may begin with: a part of a header; or a header, whole epochs, and a part of an event or of an
 -- epoch.
 use Rattle.std.specs.Prelude.{◌≡◌, ◌≢◌, ◌⊎◌, ℕ, ◌<◌, ◌≤◌, List, [], ◌∷◌, ◌++◌, length, take, map, flat_map, All, Some}
-use Rattle.std.specs.Prelude.{None}
+use Rattle.std.specs.Prelude.{None, IfSome, ⊤}
 use Rattle.std.specs.List.Sorted.{IsStrictlyIncreasing}
 use Rattle.gnss_obs.specs.declared.cell.StationValues.{StationValues}
 use Rattle.gnss_obs.specs.Dates.{civil_of}
 use Rattle.rinex_file.specs.Value.{Stamped}
 use Rattle.rinex_file.specs.FileValues.{IsTime, IsStamped, AreSatelliteRows, IsChange, AreChanges, IsFirstSame}
-use Rattle.rinex_file.specs.FileValues.{values_following, time_stamped, most_rows, planned_in}
-use Rattle.rinex_file.specs.Header.{header_lines}
+use Rattle.rinex_file.specs.FileValues.{values_following, time_stamped, most_rows, planned_in, AreTexts, IsPlan}
+use Rattle.rinex_file.specs.FileValues.{AreValues}
+use Rattle.rinex_file.specs.Header.{header_lines, Shown}
 use Rattle.rinex_file.specs.Lines.{epoch_line, satellite_line}
 use Rattle.rinex_file.specs.File.{stamped_lines, change_lines, event_lines}
-use Rattle.rinex_file.specs.Header.{Shown}
-use Rattle.std.specs.Prelude.{IfSome}
-use Rattle.std.specs.Prelude.{⊤}
 use Rattle.gnss_obs.specs.Intervals.{IsInterval}
-use Rattle.rinex_file.specs.FileValues.{AreTexts}
-use Rattle.rinex_file.specs.FileValues.{IsPlan}
-use Rattle.rinex_file.specs.FileValues.{AreValues}
 
 pub record IsShown (h : Shown) : Type 0 where
   pub texts : AreTexts h.texts

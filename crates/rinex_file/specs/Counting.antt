@@ -1,19 +1,14 @@
 -- The counts of a file, and the times of its epochs.
-use Rattle.std.specs.Prelude.{◌≡◌, ◌≤◌, ℕ, List, length, map, Option, Result, Ok, Err, IfSome}
+use Rattle.std.specs.Prelude.{◌≡◌, ◌≤◌, ℕ, List, length, map, Option, Result, Ok, Err, IfSome, [], Some, None}
 use Rattle.rinex_file.specs.declared.read.file.Counts.{Counts}
 use Rattle.rinex_file.specs.declared.read.file.FileSummary.{FileSummary}
 use Rattle.rinex_file.specs.declared.read.fault.ReadFault.{ReadFault}
-use Rattle.rinex_file.specs.Value.{FileValue}
+use Rattle.rinex_file.specs.Value.{FileValue, SatelliteRow, Stamped}
 use Rattle.rinex_file.specs.FileValues.{IsFileValue, time_stamped}
 use Rattle.rinex_file.specs.File.{file_text, file_lines}
 use Rattle.rinex_file.specs.Exact.{IsNoFault, most_lines}
 use Rattle.rinex_file.specs.Times.{AreTimes}
-use Rattle.std.specs.Prelude.{[]}
-use Rattle.std.specs.Prelude.{Some}
-use Rattle.std.specs.Prelude.{None}
 use Rattle.std.specs.List.{sum_by}
-use Rattle.rinex_file.specs.Value.{SatelliteRow}
-use Rattle.rinex_file.specs.Value.{Stamped}
 use Rattle.gnss_obs.specs.declared.cell.StationValues.{StationValues}
 
 -- what was read of a file after its header: epochs, and the satellites of an epoch that was begun

@@ -17,8 +17,7 @@ use Rattle.rinex_file.specs.Value.{FileValue}
 use Rattle.rinex_file.specs.FileValues.{IsFileValue}
 use Rattle.rinex_file.specs.File.{file_text, file_lines, shown_text}
 use Rattle.rinex_file.specs.Header.{Shown, is_of_types}
-use Rattle.rinex_file.specs.Begun.{IsShown}
-use Rattle.rinex_file.specs.Begun.{IsHeaderBegun, IsBetweenEpochs, IsEventBegun, IsEpochBegun, AreBegun}
+use Rattle.rinex_file.specs.Begun.{IsShown, IsHeaderBegun, IsBetweenEpochs, IsEventBegun, IsEpochBegun, AreBegun}
 use Rattle.rinex_columns.specs.Limits.{most_line}
 
 -- a line: bytes that end in their only line feed

@@ -22,8 +22,7 @@ use Rattle.rinex_columns.specs.Limits.{label_columns}
 use Rattle.rinex_columns.specs.Numbers.{joined, left, right, fixed}
 use Rattle.rinex_file.specs.Slots.{SlotNumber, slots_of, slots_columns, slot_rows}
 use Rattle.rinex_file.specs.Limits.{types_in_line}
-use Rattle.rinex_file.specs.Texts.{HeaderLists, width_of, text_of, fields_of, front_of, label_of}
-use Rattle.rinex_file.specs.Texts.{has_row}
+use Rattle.rinex_file.specs.Texts.{HeaderLists, width_of, text_of, fields_of, front_of, label_of, has_row}
 
 -- the contents of a header
 pub record Shown : Type 0 where

@@ -1,7 +1,6 @@
 -- What the command `check` has read and written: the devices were d and are d'.
-use Rattle.std.specs.Prelude.{◌≡◌, ◌⊎◌, ◌≤◌, ℕ, List, [], length, Option, Result}
-use Rattle.std.specs.Prelude.{is_some, true, false}
-use Rattle.std.specs.Prelude.{Ok, Err, IfSome, ⊤}
+use Rattle.std.specs.Prelude.{◌≡◌, ◌⊎◌, ◌≤◌, ℕ, List, [], length, Option, Result, is_some, true, false, Ok, Err, IfSome}
+use Rattle.std.specs.Prelude.{⊤}
 use Rattle.std.specs.Io.KnownBytes.{Appends, Keeps}
 use Rattle.devices.specs.Device.{AppendsPrefix}
 use Rattle.devices.specs.Devices.{Devices, Ends}

@@ -1,8 +1,7 @@
 -- The epochs of a complete file, which are at one interval, and the gaps between those of a file. Times and intervals
 -- are in milliseconds.
-use Rattle.std.specs.Prelude.{◌≡◌, ◌&&◌, nat_le, true, All, ◌==◌, ℕ, ◌+◌, ◌-◌, ◌/◌, ◌<◌, ◌≤◌, nat_lt, min, Bool, List, []}
-use Rattle.std.specs.Prelude.{◌∷◌, ◌++◌, map, codes}
-use Rattle.std.specs.Prelude.{if◌then◌else◌, Option, Some, None, IfSome}
+use Rattle.std.specs.Prelude.{◌≡◌, ◌&&◌, nat_le, true, All, ◌==◌, ℕ, ◌+◌, ◌-◌, ◌/◌, ◌<◌, ◌≤◌, nat_lt, min, Bool, List}
+use Rattle.std.specs.Prelude.{[], ◌∷◌, ◌++◌, map, codes, if◌then◌else◌, Option, Some, None, IfSome}
 use Rattle.std.specs.List.{count_by, list_any}
 use Rattle.gnss_obs.specs.Plans.{below}
 use Rattle.line_texts.specs.Lengths.{longest_interval}

@@ -2,8 +2,7 @@
 ghost use Rattle.std.specs.Prelude.{◌≡◌, ◌<◌, ◌≤◌, ◌*◌, option_to_list};
 ghost use Rattle.gnss_obs.specs.Weeks.{week, weeks};
 ghost use Rattle.rinex_inspect.specs.CheckOutput.{size_of};
-ghost use Rattle.rinex_inspect.specs.Gaps.{capped, early, ends_in, is_in_window, origin_in, placed};
-ghost use Rattle.rinex_inspect.specs.Gaps.{window_size};
+ghost use Rattle.rinex_inspect.specs.Gaps.{capped, early, ends_in, is_in_window, origin_in, placed, window_size};
 ghost use Rattle.rinex_inspect.specs.inner.Missing.{last_with};
 
 use gnss_obs::GpsTime;

@@ -1,5 +1,5 @@
 //! The lines of `quality`.
-ghost use Rattle.std.specs.Prelude.{◌≡◌, ◌<◌, ◌≤◌, ◌+◌, ◌++◌, ◌∷◌, [], length};
+ghost use Rattle.std.specs.Prelude.{◌≡◌, ◌<◌, ◌≤◌, ◌+◌, ◌++◌, ◌∷◌, [], length, ℕ, get_or, ◌^◌};
 ghost use Rattle.std.specs.List.{count_by, sum_by};
 ghost use Rattle.devices.specs.Devices.{Writes};
 ghost use Rattle.devices.specs.Printing.{EndsPrinting};
@@ -15,7 +15,6 @@ ghost use Rattle.rinex_inspect.specs.Tallies.{has_values, no_tally, total};
 ghost use Rattle.rinex_inspect.specs.inner.QualityLines.{AreSmallTallies, IsPrintable, IsSmallTally, all_lines};
 ghost use Rattle.rinex_inspect.specs.inner.QualityLines.{line_at, line_count, longest_tally, system_lines};
 ghost use Rattle.rinex_inspect.specs.inner.Tables.{contents_in, no_record, tally_at};
-ghost use Rattle.std.specs.Prelude.{ℕ, get_or, ◌^◌};
 
 use crate::check::add_instant;
 use crate::fault::FileFault;

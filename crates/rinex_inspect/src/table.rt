@@ -1,10 +1,9 @@
 //! The table of what each satellite and signal has in some epochs.
-ghost use Rattle.std.specs.Prelude.{◌≡◌, ◌<◌, ◌≤◌, ◌-◌, ◌+◌, IfOk, length};
+ghost use Rattle.std.specs.Prelude.{◌≡◌, ◌<◌, ◌≤◌, ◌-◌, ◌+◌, IfOk, length, ℕ, get_or, set};
 ghost use Rattle.gnss_system.specs.Satellites.{satellites};
 ghost use Rattle.gnss_system.specs.Signals.{most_signals};
 ghost use Rattle.rinex_inspect.specs.inner.Tables.{HasAdded, HasAddedRow, HasPlaces, IsBlankRecord, IsBlankTable};
 ghost use Rattle.rinex_inspect.specs.inner.Tables.{AreBlank, added, begun, no_record, records_in};
-ghost use Rattle.std.specs.Prelude.{ℕ, get_or, set};
 
 use crate::tally::{Presence, Tally};
 use gnss_obs::GpsTime;

@@ -20,7 +20,7 @@ use Rattle.command_line.specs.CommandLine as rules
 use Rattle.line_texts.specs.LeapSeconds.{leap_at}
 use Rattle.line_texts.specs.Lines.{line}
 use Rattle.rtcm_inspect.specs.FirstMessages.{first_station}
-use Rattle.rtcm_inspect.specs.WeekLaws.{first_tow}
+use Rattle.rtcm_inspect.specs.WeekLaws.{first_tow, first_time}
 use Rattle.rtcm_inspect.specs.Fitting.{option_words, options_text}
 use Rattle.obs_epoch.specs.NearWeek.{IsWeekNear}
 use Rattle.rtcm_inspect.specs.FirstTwo.{first_two}
@@ -30,7 +30,6 @@ use Rattle.rtcm_inspect.specs.declared.first_two.FirstTwo.TheVariants.{One}
 use Rattle.rtcm_inspect.specs.declared.printed_week.WeekSource.{WeekSource}
 use Rattle.rtcm_inspect.specs.declared.printed_week.WeekSource.TheVariants.{Near, Ephemerides}
 use Rattle.rtcm_inspect.specs.Signals.{forms_had, plan_in, set_had, valued_in}
-use Rattle.rtcm_inspect.specs.WeekLaws.{first_time}
 use Rattle.rtcm_convert.specs.Converted.{messages_of}
 use Rattle.rtcm_convert.specs.SetupValues.{setup_value}
 use Rattle.rtcm_convert.specs.declared.setup.Setup.{Setup}

@@ -15,8 +15,7 @@ use Rattle.rtcm_convert.specs.Kept.{IsWithinBounds, IsKeptAtEnd}
 use Rattle.rtcm_convert.specs.declared.converter.Kept.{Kept}
 use Rattle.rtcm_convert.specs.Filed.{HasGathered}
 use Rattle.rtcm_convert.specs.Outcomes.{report_of}
-use Rattle.rtcm_convert.specs.Stream.{Drained, AppendsDecided, AppendsPrefixOfDecided, AppendsRest}
-use Rattle.rtcm_convert.specs.Stream.{AppendsPrefixOfRest}
+use Rattle.rtcm_convert.specs.Stream.{Drained, AppendsDecided, AppendsPrefixOfDecided, AppendsRest, AppendsPrefixOfRest}
 use Rattle.rtcm_convert.specs.declared.file_writer.FileWriter.{FileWriter}
 use Rattle.rtcm_convert.specs.declared.report.Report.{Report}
 use Rattle.rtcm_convert.specs.declared.fault.Fault.{Fault}

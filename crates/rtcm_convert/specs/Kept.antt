@@ -6,16 +6,14 @@ use Rattle.rtcm_bits.specs.FrameOf.{longest_frame}
 use Rattle.rtcm_scan.specs.Decided.{decided, decided_frames}
 use Rattle.rtcm_scan.specs.Frames.{Framed, frames_of}
 use Rattle.rtcm_scan.specs.Looks.{examined, examined_now, most, most_looks, most_now}
-use Rattle.gnss_obs.specs.Values.{most_cells}
+use Rattle.gnss_obs.specs.Values.{most_cells, cells_of}
 use Rattle.rtcm_convert.specs.declared.converter.Kept.{Kept}
 use Rattle.obs_epoch.specs.Times.{Timed, timed}
 use Rattle.obs_epoch.specs.Cells.{firsts}
 use Rattle.obs_epoch.specs.Loss.{times}
 use Rattle.obs_epoch.specs.Epochs.{closed_times}
-use Rattle.obs_epoch.specs.GathererAfter.{most_locks}
-use Rattle.obs_epoch.specs.GathererAfter.{locked_in, held_at}
+use Rattle.obs_epoch.specs.GathererAfter.{most_locks, locked_in, held_at}
 use Rattle.rtcm_convert.specs.Converted.{SetupValue, messages_of}
-use Rattle.gnss_obs.specs.Values.{cells_of}
 
 -- the messages of these frames with their times
 abbrev pub timed_of : SetupValue → List Framed → List Timed

@@ -3,8 +3,7 @@ use Rattle.std.specs.Prelude.{◌≡◌, ◌<◌, ◌⊎◌, ℕ, true}
 use Rattle.gnss_obs.specs.Values.{PlanValue}
 use Rattle.rtcm_scan.specs.Scan.{most_bytes}
 use Rattle.rtcm_msg.specs.declared.number.Forms.TheVariants.{FourAndSeven}
-use Rattle.obs_epoch.specs.Kinds.{is_no_station}
-use Rattle.obs_epoch.specs.Kinds.{default_setup as default_gatherer}
+use Rattle.obs_epoch.specs.Kinds.{is_no_station, default_setup as default_gatherer}
 use Rattle.obs_epoch.specs.Starts.{is_no_week}
 use Rattle.obs_epoch.specs.Sets.{set_of}
 use Rattle.gnss_obs.specs.GatheredEpochs.{AreStationValues}

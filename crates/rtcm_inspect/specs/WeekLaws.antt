@@ -1,20 +1,18 @@
 -- The week that `options` prints dates the first MSM of a conversion.
-use Rattle.std.specs.Prelude.{◌≡◌, ◌↔◌, ℕ, ◌+◌, ◌*◌, ◌<◌, ◌≤◌, false, List, [], ◌∷◌, Option, Some, None, decimal, filter_map}
+use Rattle.std.specs.Prelude.{◌≡◌, ◌↔◌, ℕ, ◌+◌, ◌*◌, ◌<◌, ◌≤◌, false, List, [], ◌∷◌, Option, Some, None, decimal}
+use Rattle.std.specs.Prelude.{filter_map, option_and_then, if◌then◌else◌}
 use Rattle.std.specs.Option.{option_or}
 use Rattle.gnss_obs.specs.Weeks.{week, weeks}
 use Rattle.gnss_system.specs.declared.system.System.TheVariants.{Glonass}
 use Rattle.gnss_system.specs.SystemValues.{value_of}
 use Rattle.rtcm_scan.specs.Frames.{Framed}
 use Rattle.rtcm_msg.specs.declared.number.MsmSet.{MsmSet}
-use Rattle.obs_epoch.specs.Heard.{heard_in}
+use Rattle.obs_epoch.specs.Heard.{heard_in, Heard}
 use Rattle.obs_epoch.specs.declared.setup.GatherSetup.{GatherSetup}
 use Rattle.obs_epoch.specs.Times.{Timed, timed}
 use Rattle.line_texts.specs.Dates.{IsWeekOf}
 use Rattle.obs_epoch.specs.NearWeek.{IsNearestWeek, IsWeekNear, half_week}
 use Rattle.obs_epoch.specs.Starts.{first_week, is_no_week}
-use Rattle.std.specs.Prelude.{option_and_then}
-use Rattle.std.specs.Prelude.{if◌then◌else◌}
-use Rattle.obs_epoch.specs.Heard.{Heard}
 use Rattle.obs_epoch.specs.SignalCounts.{is_of_station}
 use Rattle.rtcm_inspect.specs.Inspected.{inspected_in}
 

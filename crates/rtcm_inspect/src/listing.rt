@@ -10,12 +10,11 @@ ghost use Rattle.rtcm_msg.specs.Numbers.{message_number};
 ghost use Rattle.rtcm_inspect.specs.FrameLines.{frame_line, frame_lines, number_word};
 ghost use Rattle.line_texts.specs.Lines.{with_words};
 ghost use Rattle.rtcm_inspect.specs.inner.Lines.{longest_prefix};
-ghost use Rattle.rtcm_inspect.specs.ShowLines.{fault_words};
+ghost use Rattle.rtcm_inspect.specs.ShowLines.{fault_words, read_for, message_line, msm_line, show_line, show_lines};
+ghost use Rattle.rtcm_inspect.specs.ShowLines.{station_line};
 ghost use Rattle.rtcm_msg.specs.Fields.{GivesViewed};
 ghost use Rattle.rtcm_msg.specs.inner.Viewed.{viewed_message};
-ghost use Rattle.rtcm_inspect.specs.ShowLines.{read_for};
 ghost use Rattle.rtcm_inspect.specs.EquipmentLines.{equipment_line};
-ghost use Rattle.rtcm_inspect.specs.ShowLines.{message_line, msm_line, show_line, show_lines, station_line};
 ghost use Rattle.rtcm_inspect.specs.Listing.{EndsListing, WritesLine, listing_lines};
 
 use crate::equipment::{add_equipment_fault, equipment_text};

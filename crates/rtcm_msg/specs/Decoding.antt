@@ -16,10 +16,8 @@ use Rattle.rtcm_msg.specs.Numbers.{kind_of, kind_with}
 use Rattle.gnss_system.specs.declared.system.System.{System}
 use Rattle.rtcm_msg.specs.declared.view.Form.{Form}
 use Rattle.rtcm_msg.specs.declared.view.Form.TheVariants as forms
-use Rattle.rtcm_msg.specs.Msm.{MsmValue}
-use Rattle.rtcm_msg.specs.Msm.{msm_at}
-use Rattle.rtcm_msg.specs.Forms.{satellite_widths}
-use Rattle.rtcm_msg.specs.Forms.{cell_widths}
+use Rattle.rtcm_msg.specs.Msm.{MsmValue, msm_at}
+use Rattle.rtcm_msg.specs.Forms.{satellite_widths, cell_widths}
 
 abbrev pub message_in : Form → MsmValue → Message
 message_in forms.Msm4 v = messages.Msm4 v

@@ -1,6 +1,5 @@
 -- The forms of multiple signal messages: the fields of a satellite and of a cell, and their meaning.
-use Rattle.std.specs.Prelude.{◌≡◌, ℕ, ℤ, negsuc, ◌^◌, ◌-◌, ◌<◌, List, [], ◌∷◌, Bool, true, false, Option}
-use Rattle.std.specs.Prelude.{if◌then◌else◌}
+use Rattle.std.specs.Prelude.{◌≡◌, ℕ, ℤ, negsuc, ◌^◌, ◌-◌, ◌<◌, List, [], ◌∷◌, Bool, true, false, Option, if◌then◌else◌}
 use Rattle.rtcm_bits.specs.Bits.{FitsInt}
 use Rattle.rtcm_msg.specs.Layout.{Table, Uint, Int, Flag, Contents, widths, ◌▸◌}
 use Rattle.rtcm_msg.specs.Fractions.{scaled, range_joined, rate_joined, invalid_rough_rate, invalid_fine_rate}

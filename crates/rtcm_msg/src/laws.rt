@@ -1,17 +1,15 @@
 //! Laws of the definitions, each the contract of a function without a body.
 ghost use Rattle.rtcm_msg.specs.Entries.{ids, Rising};
 ghost use Rattle.std.specs.Prelude.{◌≤◌, length, ◌<◌, ◌^◌, ◌≡◌, List, Bool, ℕ, Ok, Err, true, false, map, ◌⊎◌};
-ghost use Rattle.rtcm_bits.specs.Bits.{filled};
+ghost use Rattle.rtcm_bits.specs.Bits.{filled, bits_of};
 ghost use Rattle.rtcm_bits.specs.FrameOf.{longest_message_bits};
 ghost use Rattle.rtcm_msg.specs.declared.message.Message.{Message};
-ghost use Rattle.rtcm_msg.specs.Encoding.{message_bits, is_other, ReadsMessage, IsMessage, IsEncoding};
+ghost use Rattle.rtcm_msg.specs.Encoding.{message_bits, is_other, ReadsMessage, IsMessage, IsEncoding, other_of};
 ghost use Rattle.rtcm_msg.specs.Decoding.{message_at, message_with};
-ghost use Rattle.rtcm_msg.specs.Encoding.{other_of};
 ghost use Rattle.rtcm_msg.specs.Numbers.{default_set, kind_with, whole_set};
 ghost use Rattle.rtcm_msg.specs.Sets.{is_in_set, kind_in, kind_table, message_by_table};
 ghost use Rattle.rtcm_msg.specs.declared.number.MsmSet.{MsmSet};
 ghost use Rattle.rtcm_msg.specs.declared.fault.MsgFault.{MsgFault};
-ghost use Rattle.rtcm_bits.specs.Bits.{bits_of};
 ghost use Rattle.rtcm_msg.specs.Bounds.{EntriesAreMeasured, PointsAreInRange};
 ghost use Rattle.rtcm_msg.specs.Msm.{MsmValue, MasksValue, IsValue, satellite_mask_bits};
 ghost use Rattle.rtcm_msg.specs.Meaning.{Meaning, IsMeaning, meaning, keys};

@@ -2,10 +2,9 @@
 ghost use Rattle.std.specs.Prelude.{◌≡◌, ◌+◌, ◌≤◌, ◌<◌, ⊤, true, false, max, length, OnOk, OnErr, IfOk, IfErr, MatchResult};
 ghost use Rattle.std.specs.Io.KnownBytes.{Keeps, IsAtEnd};
 ghost use Rattle.devices.specs.Device.{failures_after_read, moved};
-ghost use Rattle.rtcm_scan.specs.inner.Passing.{PassesKnown, PassesPushed, BreaksKnown};
-ghost use Rattle.rtcm_scan.specs.inner.Passing.{Passes, Breaks, PassesToLimit, PassesAll};
-ghost use Rattle.rtcm_scan.specs.inner.Passing.{BreaksAfter, BreaksReading, HasReadPiece, Reads, ReadsOn, CountsReads};
-ghost use Rattle.rtcm_scan.specs.inner.Passing.{TakesPiece, Continues, IsSameStream, IsReadingOn, AtFault};
+ghost use Rattle.rtcm_scan.specs.inner.Passing.{PassesKnown, PassesPushed, BreaksKnown, Passes, Breaks, PassesToLimit};
+ghost use Rattle.rtcm_scan.specs.inner.Passing.{PassesAll, BreaksAfter, BreaksReading, HasReadPiece, Reads, ReadsOn};
+ghost use Rattle.rtcm_scan.specs.inner.Passing.{CountsReads, TakesPiece, Continues, IsSameStream, IsReadingOn, AtFault};
 ghost use Rattle.rtcm_scan.specs.inner.Passing.{UnlessBroken};
 
 use crate::framer::{Frame, Framer};

@@ -1,10 +1,9 @@
 -- The signals of a plan.
-use Rattle.std.specs.Prelude.{◌≡◌, ℕ, ◌<◌, ◌≤◌, List, [], ◌∷◌, ◌++◌, length, All, Option, None, true, false}
-use Rattle.std.specs.Prelude.{◌==◌, ◌⊎◌, get_or, position, Result, Ok, Err, IsOk, MatchResult}
+use Rattle.std.specs.Prelude.{◌≡◌, ℕ, ◌<◌, ◌≤◌, List, [], ◌∷◌, ◌++◌, length, All, Option, None, true, false, ◌==◌, ◌⊎◌}
+use Rattle.std.specs.Prelude.{get_or, position, Result, Ok, Err, IsOk, MatchResult, nat_eq}
 use Rattle.gnss_system.specs.declared.system.System.{System}
 use Rattle.gnss_system.specs.Signals.{SignalAt, IsSignal, table, most_signals, signal_of_code, signal_at, greatest_signal_id}
 use Rattle.std.specs.List.{IsDistinct, list_any, sum_by}
-use Rattle.std.specs.Prelude.{nat_eq}
 use Rattle.gnss_obs.specs.Plans.{below, planned_signal, IsTaken, IsRefused, is_none_planned, signals_in}
 use Rattle.gnss_system.specs.Systems.{systems, index_of}
 use Rattle.gnss_system.specs.SystemValues.{value_of, map_by}

@@ -9,12 +9,10 @@ use Rattle.obs_epoch.specs.Times.{timed}
 use Rattle.obs_epoch.specs.Cells.{firsts}
 use Rattle.obs_epoch.specs.Epochs.{closed_so_far}
 use Rattle.obs_epoch.specs.Clock.{closes_first}
-use Rattle.obs_epoch.specs.GathererAfter.{GathererValue}
-use Rattle.obs_epoch.specs.GathererAfter.{held_at, locked_in}
+use Rattle.obs_epoch.specs.GathererAfter.{GathererValue, held_at, locked_in}
 use Rattle.obs_epoch.specs.Kinds.{is_close_first, kind_of}
 use Rattle.obs_epoch.specs.GathererHistory.{HasGatheredEpochs, IsAwaited, closed_so_far_of, returned_epoch, closed_in}
-use Rattle.obs_epoch.specs.GathererHistory.{is_done}
-use Rattle.obs_epoch.specs.GathererHistory.{capped_counts}
+use Rattle.obs_epoch.specs.GathererHistory.{is_done, capped_counts}
 use Rattle.obs_epoch.specs.Thinning.{counts_left_out}
 use Rattle.obs_epoch.specs.declared.choice.EpochCounts.{EpochCounts}
 

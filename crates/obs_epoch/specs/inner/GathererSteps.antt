@@ -7,7 +7,7 @@ use Rattle.gnss_system.specs.declared.system.System.TheVariants.{Gps, Galileo}
 use Rattle.gnss_system.specs.Systems.{systems}
 use Rattle.gnss_obs.specs.declared.cell.StationValues.{StationValues}
 use Rattle.obs_epoch.specs.inner.Held.{CellOutcome, Kept, count_in, note_systems, outcome_of}
-use Rattle.obs_epoch.specs.GathererAfter.{lookup}
+use Rattle.obs_epoch.specs.GathererAfter.{lookup, GathererValue}
 use Rattle.rtcm_msg.specs.declared.entry.Entry.{Entry}
 use Rattle.rtcm_msg.specs.declared.view.Form.{Form}
 use Rattle.obs_epoch.specs.Heard.{Heard, seen_in}
@@ -29,7 +29,6 @@ use Rattle.obs_epoch.specs.Clock.{State}
 use Rattle.obs_epoch.specs.inner.Step.{kind_by, step_by, open_by, ended_where, is_same, closed_time}
 use Rattle.gnss_obs.specs.declared.cell.Cell.{Cell}
 use Rattle.obs_epoch.specs.declared.taken.CellCounts.{CellCounts}
-use Rattle.obs_epoch.specs.GathererAfter.{GathererValue}
 
 -- ---- the pending epoch, and the one closed last
 

@@ -1,11 +1,10 @@
 -- The loss of lock that is carried to the next epoch on the grid, and one step of it.
-use Rattle.std.specs.Prelude.{ℕ, zero, suc, ◌+◌, ◌==◌, ◌%◌, ◌&&◌, ◌||◌, Bool, false, not, List, [], ◌∷◌}
-use Rattle.std.specs.Prelude.{set, replicate, fold, if◌then◌else◌}
+use Rattle.std.specs.Prelude.{ℕ, zero, suc, ◌+◌, ◌==◌, ◌%◌, ◌&&◌, ◌||◌, Bool, false, not, List, [], ◌∷◌, set, replicate}
+use Rattle.std.specs.Prelude.{fold, if◌then◌else◌, map}
 use Rattle.std.specs.List.{list_any}
 use Rattle.gnss_system.specs.declared.system.System.{System}
 use Rattle.gnss_system.specs.Systems.{systems}
 use Rattle.gnss_system.specs.SystemValues.{with_value_of}
-use Rattle.std.specs.Prelude.{map}
 use Rattle.gnss_obs.specs.declared.cell.Cell.{Cell}
 use Rattle.gnss_obs.specs.HeardCells.{heard_cell}
 use Rattle.gnss_obs.specs.Values.{EpochValue, cells_of}

@@ -6,8 +6,7 @@ use Rattle.gnss_system.specs.declared.system.System.{System}
 use Rattle.rinex_file.specs.declared.header.rows.HeaderRow.{HeaderRow}
 use Rattle.rinex_file.specs.declared.header.rows.HeaderRow.TheVariants.{Version, Texts, Position, Delta, Types}
 use Rattle.rinex_file.specs.declared.header.rows.HeaderRow.TheVariants.{StrengthUnit, Interval, First, Shift, Slots, Biases, End}
-use Rattle.rinex_file.specs.Texts.{HeaderLists, place_of}
-use Rattle.rinex_file.specs.Texts.{has_text, is_required}
+use Rattle.rinex_file.specs.Texts.{HeaderLists, place_of, has_text, is_required}
 use Rattle.rinex_file.specs.Header.{Shown, row_lines, all_rows}
 
 -- ---- the rows, each of one line or none

@@ -1,9 +1,8 @@
 //! A header, line by line.
 ghost use Rattle.std.specs.Prelude.{◌≡◌, ◌<◌, [], true, IfNone, IfSome};
 ghost use Rattle.std.specs.Iterator.{YieldsFirstBy, item_count};
-ghost use Rattle.rinex_file.specs.Header.{row_line, has_line, header_lines};
+ghost use Rattle.rinex_file.specs.Header.{row_line, has_line, header_lines, systems_letter};
 ghost use Rattle.rinex_file.specs.inner.Header.{row_at, row_count, lines_after};
-ghost use Rattle.rinex_file.specs.Header.{systems_letter};
 ghost use Rattle.rinex_file.specs.inner.Heads.{shown_by};
 
 use crate::header::lines::{

@@ -5,8 +5,7 @@ ghost use Rattle.std.specs.Prelude.{length, take, drop, replicate, slice_index, 
 ghost use Rattle.rinex_file.specs.FileValues.{FitsColumns};
 ghost use Rattle.rinex_file.specs.Lines.{field};
 ghost use Rattle.rinex_columns.specs.Read.{ReadsExactly};
-ghost use Rattle.rinex_file.specs.inner.Words.{AreBelow, AreWithin, digit_columns};
-ghost use Rattle.rinex_file.specs.inner.Words.{blanks, has_minus, twos_of};
+ghost use Rattle.rinex_file.specs.inner.Words.{AreBelow, AreWithin, digit_columns, blanks, has_minus, twos_of};
 
 use crate::write::lanes::template;
 use gnss_obs::Thousandths;

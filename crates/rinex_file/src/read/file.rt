@@ -3,10 +3,9 @@ ghost use Rattle.std.specs.Prelude.{◌≡◌, Err, IsOk, IfOk, IfErr, IfSome, O
 ghost use Rattle.devices.specs.Device.{HasFailed};
 ghost use Rattle.rinex_file.specs.Exact.{ExplainsFault, ExplainsStored, IfTextOfFile, IsReadOr, IsTextOf};
 ghost use Rattle.rinex_file.specs.Blocks.{LeavesRest};
-ghost use Rattle.rinex_file.specs.Counting.{AreCounts, IsSummary, IsTextWith, HoldsOr};
+ghost use Rattle.rinex_file.specs.Counting.{AreCounts, IsSummary, IsTextWith, HoldsOr, nothing};
 ghost use Rattle.rinex_file.specs.FileValues.{IsFileValue};
 ghost use Rattle.rinex_file.specs.inner.ParserState.{FollowsHistory, with_line};
-ghost use Rattle.rinex_file.specs.Counting.{nothing};
 ghost use Rattle.rinex_file.specs.inner.Read.Steps.{file_at, HasRead};
 ghost use Rattle.rinex_file.specs.inner.Read.Keeping.{ExplainsAny, history_of, HasReadWhole};
 

@@ -8,10 +8,9 @@ ghost use Rattle.rinex_file.specs.inner.Header.{row_at};
 ghost use Rattle.rinex_columns.specs.Limits.{label_columns};
 ghost use Rattle.rinex_file.specs.inner.Read.Progress.{AreValid, IsHeadAt, counted, signals_begun, is_chosen, fits};
 ghost use Rattle.rinex_file.specs.inner.Read.HeaderSteps.{begins_with, expected_if, known_line, SameFrom};
-ghost use Rattle.rinex_file.specs.inner.Read.HeaderSteps.{TakesHeaderLine};
-ghost use Rattle.rinex_file.specs.inner.Read.HeaderSteps.{TakesTypes, RefusesTypes, with_types, AreItemsBefore};
-ghost use Rattle.rinex_file.specs.inner.Read.HeaderSteps.{IsHeaderLineRead};
-ghost use Rattle.rinex_file.specs.inner.Read.HeaderSteps.{IsOnly, ReadsOrRefuses, RefusesHeaderLine};
+ghost use Rattle.rinex_file.specs.inner.Read.HeaderSteps.{TakesHeaderLine, TakesTypes, RefusesTypes, with_types};
+ghost use Rattle.rinex_file.specs.inner.Read.HeaderSteps.{AreItemsBefore, IsHeaderLineRead, IsOnly, ReadsOrRefuses};
+ghost use Rattle.rinex_file.specs.inner.Read.HeaderSteps.{RefusesHeaderLine};
 
 use crate::header::lines::{BIASES, END, INTERVAL, SHIFT, STRENGTH_UNIT, UNIT, flagged_letter};
 use crate::header::lists::{TYPES, slot_rows, type_rows};

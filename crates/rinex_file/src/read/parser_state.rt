@@ -8,10 +8,8 @@ ghost use Rattle.gnss_obs.specs.declared.cell.StationValues.{StationValues};
 ghost use Rattle.rinex_file.specs.FileValues.{IsFileValue, most_rows, planned_in, rank_of};
 ghost use Rattle.rinex_file.specs.File.{event_line, file_lines};
 ghost use Rattle.rinex_file.specs.inner.Read.Progress.{HasLinesLeft, epoch_after};
-ghost use Rattle.rinex_file.specs.inner.ParserState.{ExpectsHeader, HasRoom, FollowsHistory, TakesLine};
-ghost use Rattle.rinex_file.specs.Counting.{History};
-ghost use Rattle.rinex_file.specs.inner.ParserState.{progress_at};
-ghost use Rattle.rinex_file.specs.Counting.{nothing};
+ghost use Rattle.rinex_file.specs.inner.ParserState.{ExpectsHeader, HasRoom, FollowsHistory, TakesLine, progress_at};
+ghost use Rattle.rinex_file.specs.Counting.{History, nothing};
 ghost use Rattle.rinex_file.specs.inner.Read.Sound.{AreLinesOf, AreRead, MayBegin};
 
 use crate::read::file::Counts;

@@ -1,7 +1,6 @@
 -- The reading of a file and the writing of the lines of its periods: the devices were d and are d'.
-use Rattle.std.specs.Prelude.{◌≡◌, ◌≢◌, ℕ, ◌*◌, ◌<◌, ◌≤◌, List, [], ◌∷◌, ◌++◌, length, Option, Some, None, Result}
-use Rattle.std.specs.Prelude.{Ok, Err}
-use Rattle.std.specs.Prelude.{IfSome, ⊤}
+use Rattle.std.specs.Prelude.{◌≡◌, ◌≢◌, ℕ, ◌*◌, ◌<◌, ◌≤◌, List, [], ◌∷◌, ◌++◌, length, Option, Some, None, Result, Ok}
+use Rattle.std.specs.Prelude.{Err, IfSome, ⊤}
 use Rattle.devices.specs.Devices.{Devices, ReaderFailures}
 use Rattle.devices.specs.Printing.{PrintsPart, PrintsText}
 use Rattle.gnss_obs.specs.Values.{PlanValue}

@@ -1,13 +1,11 @@
 -- The state of a converter that contracts cite, and the bytes that it may have accepted.
-use Rattle.std.specs.Prelude.{◌≡◌, ℕ, ◌+◌, ◌<◌, ◌≤◌, List, ◌++◌, length}
-use Rattle.std.specs.Prelude.{true, false, Option}
+use Rattle.std.specs.Prelude.{◌≡◌, ℕ, ◌+◌, ◌<◌, ◌≤◌, List, ◌++◌, length, true, false, Option}
 use Rattle.std.specs.Io.KnownBytes.{Consumes}
 use Rattle.rtcm_convert.specs.Converted.{SetupValue}
 use Rattle.rtcm_convert.specs.Kept.{IsWithinBounds, IsKeptNow}
 use Rattle.rtcm_scan.specs.Examined.{HasExaminedSome}
-use Rattle.rtcm_convert.specs.Stream.{AppendsDecided, AppendsPrefixOfDecided}
+use Rattle.rtcm_convert.specs.Stream.{AppendsDecided, AppendsPrefixOfDecided, AppendsPrefixOfRest}
 use Rattle.rtcm_convert.specs.inner.Stream.{HasDrainedSome}
-use Rattle.rtcm_convert.specs.Stream.{AppendsPrefixOfRest}
 use Rattle.rtcm_convert.specs.declared.report.Report.{Report}
 use Rattle.rtcm_convert.specs.declared.fault.Fault.{Fault}
 use Rattle.rtcm_convert.specs.Conversion.{Conversion, IsGoing, HasConverted, kept_of, Completed, CompletedEmpty}

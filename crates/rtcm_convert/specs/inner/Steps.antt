@@ -6,9 +6,8 @@ use Rattle.rtcm_msg.specs.declared.message.Message.{Message}
 use Rattle.obs_epoch.specs.Heard.{Heard, heard_by}
 use Rattle.obs_epoch.specs.Kinds.{is_close_first, kind_of}
 use Rattle.obs_epoch.specs.declared.taken.Kind.{Kind}
-use Rattle.obs_epoch.specs.GathererHistory.{IsAwaited, closed_epochs}
+use Rattle.obs_epoch.specs.GathererHistory.{IsAwaited, closed_epochs, capped_counts}
 use Rattle.rtcm_convert.specs.Converted.{SetupValue, text_with, so_far, file, epoch_counts, epochs_in}
-use Rattle.obs_epoch.specs.GathererHistory.{capped_counts}
 use Rattle.rtcm_convert.specs.Outcomes.{capped}
 use Rattle.rtcm_convert.specs.Fed.{AppendsBetween, AppendsPrefixBetween}
 use Rattle.rtcm_convert.specs.Filed.{HasFiledEpochs, Settled, HasFiledFrames, HasGathered}

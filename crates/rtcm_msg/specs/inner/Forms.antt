@@ -1,6 +1,5 @@
 -- The forms of multiple signal messages: the fields of a satellite and of a cell, and their meaning.
-use Rattle.std.specs.Prelude.{◌==◌, ℕ, ℤ, ◌^◌, List, [], ◌∷◌, Bool, true, false, not, nat_le, Option}
-use Rattle.std.specs.Prelude.{if◌then◌else◌}
+use Rattle.std.specs.Prelude.{◌==◌, ℕ, ℤ, ◌^◌, List, [], ◌∷◌, Bool, true, false, not, nat_le, Option, if◌then◌else◌}
 use Rattle.std.specs.Ordering.{int_eq}
 use Rattle.std.specs.List.{find, list_any}
 use Rattle.rtcm_msg.specs.inner.Ranges.{fits_int}

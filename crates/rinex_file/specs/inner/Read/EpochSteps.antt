@@ -1,7 +1,6 @@
 -- What the reading of a file epoch by epoch means for its input.
 use Rattle.std.specs.Prelude.{◌≡◌, ◌≢◌, ℕ, ◌<◌, ◌≤◌, Bool, true, false, List, [], ◌∷◌, ◌++◌, map, Option, Some, None}
-use Rattle.std.specs.Prelude.{Result, Ok, Err}
-use Rattle.std.specs.Prelude.{⊤, IfSome}
+use Rattle.std.specs.Prelude.{Result, Ok, Err, ⊤, IfSome}
 use Rattle.gnss_obs.specs.Values.{PlanValue}
 use Rattle.rinex_file.specs.declared.read.epochs.EpochReader.{EpochReader}
 use Rattle.rinex_file.specs.declared.read.epochs.NextEpoch.{NextEpoch}

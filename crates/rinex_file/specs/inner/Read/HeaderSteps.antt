@@ -1,7 +1,6 @@
 -- From one line of a header to the next while its lines are read.
 use Rattle.std.specs.Prelude.{◌≡◌, ℕ, zero, suc, ◌+◌, ◌<◌, ◌≤◌, ◌==◌, nat_lt, Bool, true, false, List, [], ◌∷◌, ◌++◌}
-use Rattle.std.specs.Prelude.{length}
-use Rattle.std.specs.Prelude.{codes, ◌||◌, set, take, drop, min, Option, Some, None, Result, Ok, Err, ⊤, ◌↔◌}
+use Rattle.std.specs.Prelude.{length, codes, ◌||◌, set, take, drop, min, Option, Some, None, Result, Ok, Err, ⊤, ◌↔◌}
 use Rattle.gnss_obs.specs.declared.cell.StationValues.{StationValues}
 use Rattle.gnss_system.specs.Signals.{SignalAt, IsSignal, code_of, table}
 use Rattle.gnss_system.specs.declared.system.System.{System}
@@ -25,18 +24,14 @@ use Rattle.rinex_file.specs.Blanks.{trimmed}
 use Rattle.rinex_file.specs.Texts.{HeaderLists, place_of, width_of, fault_of, fields_of, front_of, text_count}
 use Rattle.rinex_file.specs.Texts.{has_row, is_required, label_of}
 use Rattle.rinex_file.specs.FileValues.{AreTexts}
-use Rattle.rinex_file.specs.Header.{header_lines, row_line, texts_line, type_rows}
-use Rattle.rinex_file.specs.inner.Header.{row_at, row_place, row_count}
-use Rattle.rinex_file.specs.Header.{types_with}
-use Rattle.rinex_file.specs.inner.Header.{most_type_rows}
-use Rattle.rinex_file.specs.Header.{slots_with, has_line, has_label, is_of_types}
-use Rattle.rinex_file.specs.inner.Header.{is_given, is_optional}
+use Rattle.rinex_file.specs.Header.{header_lines, row_line, texts_line, type_rows, types_with, slots_with, has_line}
+use Rattle.rinex_file.specs.Header.{has_label, is_of_types}
+use Rattle.rinex_file.specs.inner.Header.{row_at, row_place, row_count, most_type_rows, is_given, is_optional}
 use Rattle.rinex_file.specs.Slots.{SlotNumber, AreSlots, last_slot, slot_rows}
 use Rattle.rinex_file.specs.inner.Read.Progress.{Known, Shown, IsHeadAt, Has, HasRow, IsRowRead, IsRowUnread}
+use Rattle.rinex_file.specs.inner.Read.Progress.{lines_after, AreUnread, lines_before, AreListsAt, AreReadAt, counted}
+use Rattle.rinex_file.specs.inner.Read.Progress.{known_slots, AreTypes, signals_begun, slots_begun}
 use Rattle.rinex_file.specs.Begun.{IsShown}
-use Rattle.rinex_file.specs.inner.Read.Progress.{lines_after}
-use Rattle.rinex_file.specs.inner.Read.Progress.{AreUnread, lines_before, AreListsAt, AreReadAt, counted, known_slots}
-use Rattle.rinex_file.specs.inner.Read.Progress.{AreTypes, signals_begun, slots_begun}
 
 -- a row other than those of types and the last
 abbrev pub IsOnly : HeaderRow → Type 0

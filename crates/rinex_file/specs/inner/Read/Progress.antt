@@ -1,8 +1,7 @@
 -- What is known of a file while it is read line by line, and which files are still possible.
 use Rattle.std.specs.Prelude.{◌≡◌, ℕ, suc, ◌+◌, ◌*◌, ◌/◌, ◌<◌, ◌≤◌, ◌==◌, ◌||◌, ◌&&◌, true, false, min, Bool, nat_lt}
-use Rattle.std.specs.Prelude.{nat_le}
-use Rattle.std.specs.Prelude.{List, [], ◌∷◌, ◌++◌, length, take, drop, map, All, nat_eq}
-use Rattle.std.specs.Prelude.{flat_map, Option, Some, None, IfSome, ⊤}
+use Rattle.std.specs.Prelude.{nat_le, List, [], ◌∷◌, ◌++◌, length, take, drop, map, All, nat_eq, flat_map, Option, Some}
+use Rattle.std.specs.Prelude.{None, IfSome, ⊤}
 use Rattle.gnss_system.specs.declared.system.System.{System}
 use Rattle.gnss_system.specs.declared.system.System.TheVariants.{Glonass}
 use Rattle.gnss_obs.specs.declared.cell.StationValues.{StationValues}
@@ -21,12 +20,11 @@ use Rattle.rinex_file.specs.Value as file
 use Rattle.rinex_file.specs.Value.{SatelliteRow, Stamped, FileValue}
 use Rattle.gnss_obs.specs.GatheredEpochs.{IsCoordinate}
 use Rattle.rinex_file.specs.FileValues.{AreTexts, AreValues, IsTime, IsFileValue}
-use Rattle.rinex_file.specs.Header.{flagged_letter}
+use Rattle.rinex_file.specs.Header.{flagged_letter, systems_letter}
 use Rattle.rinex_file.specs.inner.Header.{row_at, row_place, row_count, is_given, first_types}
 pub use Rattle.rinex_file.specs.Header.{Shown}
 pub use Rattle.rinex_file.specs.inner.Header.{lines_before, lines_after}
 use Rattle.rinex_file.specs.Slots.{SlotNumber, slots_of, last_slot, slots_in_line}
-use Rattle.rinex_file.specs.Header.{systems_letter}
 use Rattle.rinex_file.specs.Limits.{types_in_line}
 use Rattle.rinex_file.specs.Lines.{satellite_line}
 use Rattle.gnss_system.specs.Satellites.{letter}

@@ -5,12 +5,11 @@ use Rattle.rinex_file.specs.declared.read.parser_state.Expected.{Expected}
 use Rattle.rinex_file.specs.declared.read.parser_state.Expected.TheVariants.{Header, Epoch, EventPosition, EventHeight}
 use Rattle.rinex_file.specs.declared.read.parser_state.Expected.TheVariants.{EventEpoch, Satellite}
 use Rattle.gnss_obs.specs.declared.cell.StationValues.{StationValues}
-use Rattle.rinex_file.specs.FileValues.{IsChange, values_following, time_stamped, most_rows, planned_in}
+use Rattle.rinex_file.specs.FileValues.{IsChange, values_following, time_stamped, most_rows, planned_in, IsFileValue}
 use Rattle.rinex_file.specs.Begun.{AreWhole, IsPartOfNext, whole_lines, part_lines}
 use Rattle.rinex_file.specs.File.{file_lines, event_line, event_lines}
 use Rattle.rinex_file.specs.Header.{position_line}
 use Rattle.rinex_file.specs.Value.{FileValue}
-use Rattle.rinex_file.specs.FileValues.{IsFileValue}
 use Rattle.rinex_file.specs.inner.Read.Progress.{Progress, stamped, HasLinesLeft, IsHeadAt, AreHeadLines, IsPosition}
 
 -- the header and the epochs are those of a file
