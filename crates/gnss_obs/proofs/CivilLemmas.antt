@@ -1,19 +1,9 @@
 -- Dates and times of day in the calendar of the library.
-use Rattle.std.proofs.Common.{◌≡◌, ◌<◌, ◌≤◌, ◌+◌, ◌*◌, ◌/◌, ◌%◌, ◌∙◌, ℕ, ℤ, pos, ◌+ℤ◌, ◌-ℤ◌, ◌*ℤ◌, neg_ℤ, ◌≤ℤ◌, refl, sym, subst, arith, nat_abs, to_z, of_z, to_z-of_z, FitsSigned, w8, w16, w32, w64, ap, ap₂, T, Fits, true, false, Result, IsOk, IfOk, Option, IfSome, IfNone, int_div, int_lt}
-use lib.Signed.{non_neg}
-use Rattle.std.specs.Int.{w128}
-use Rattle.jiff_core.specs.declared.civil.date.Date.{Date}
+use Rattle.gnss_obs.proofs.Names.{◌≡◌, ◌<◌, ◌≤◌, ◌+◌, ◌*◌, ◌/◌, ◌%◌, ◌∙◌, ℕ, ℤ, pos, ◌+ℤ◌, ◌-ℤ◌, ◌*ℤ◌, neg_ℤ, ◌≤ℤ◌, refl, sym, subst, arith, nat_abs, to_z, of_z, to_z-of_z, FitsSigned, w8, w16, w32, w64, ap, ap₂, T, Fits, true, false, Result, IsOk, IfOk, Option, IfSome, IfNone, int_div, int_lt, non_neg, w128, Date, days_from_civil, IsCivilDate, IsDate, epoch_day, IsYmd, civil_nanos, signed_arith, valid_date, epoch_day_range, IsCivil, IsCivilOf, clock_of, Civil, common_steps}
 use Rattle.jiff_core.specs.declared.civil.time.Time.{Time}
 use Rattle.jiff_core.specs.declared.civil.datetime.DateTime.{DateTime}
-use Rattle.jiff_core.specs.Calendar.{days_from_civil, IsCivilDate, IsDate}
-use Rattle.jiff_core.specs.Date.{epoch_day, IsYmd}
-use Rattle.jiff_core.specs.DateTime.{civil_nanos}
 use Rattle.jiff_core.specs.Time.{time_nanos, IsHms, IsTime}
-use Rattle.jiff_core.proofs.SignedLemmas.{signed_arith}
-use Rattle.jiff_core.proofs.DateLemmas.{civil as valid_date, epoch_day_range}
-use Rattle.gnss_obs.specs.inner.Names.{IsCivil, IsCivilOf, clock_of, Civil}
 use Rattle.gnss_obs.proofs.Days.{first_day}
-use Rattle.std.proofs.lemmas.Grind.{common_steps}
 use Rattle.std.specs.Result.{result_ok}
 
 abbrev pub day_nanos : ℕ

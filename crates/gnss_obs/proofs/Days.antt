@@ -1,13 +1,5 @@
 -- The days since 1980-01-06.
-use Rattle.std.proofs.Common.{◌≡◌, inl, inr, refl, arith, rules, ℤ, pos, ◌≤ℤ◌}
-use Rattle.std.proofs.Common.{Fits, w16, to_z, of_z, to_z-of_z, nat_abs, T}
-use lib.Signed.{non_neg}
-use Rattle.jiff_core.specs.declared.civil.date.Date.{Date}
-use Rattle.std.specs.Int.{IsInRange}
-use Rattle.jiff_core.specs.Calendar.{IsYear, days_in_month, day_count, days_from_civil, days_of_years, days_of_months}
-use Rattle.jiff_core.specs.Date.{epoch_day}
-use Rattle.jiff_core.proofs.SignedLemmas.{signed_arith}
-use Rattle.jiff_core.proofs.DateLemmas.{cases_date, epoch_day-lt}
+use Rattle.gnss_obs.proofs.Names.{◌≡◌, inl, inr, refl, arith, rules, ℤ, pos, ◌≤ℤ◌, Fits, w16, to_z, of_z, to_z-of_z, nat_abs, T, non_neg, Date, IsInRange, IsYear, days_in_month, day_count, days_from_civil, days_of_years, days_of_months, epoch_day, signed_arith, cases_date, epoch_day-lt}
 
 pub first_day : days_from_civil (pos 1980) 1 6 ≡ pos 3657
 unfolding days_from_civil day_count days_of_years days_of_months

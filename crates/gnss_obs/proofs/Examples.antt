@@ -1,7 +1,5 @@
 -- Values worked out by hand, which the definitions compute.
-use Rattle.std.proofs.Common.{pos, negsuc, ◌≡◌, refl, Some, None, true, false}
-use Rattle.gnss_obs.specs.Channels.{channel_hertz}
-use Rattle.gnss_obs.specs.inner.Names.{nearest_pseudorange, nearest_phase, nearest_doppler, nearest_strength, strength_digit, times4, times7, lost}
+use Rattle.gnss_obs.proofs.Names.{pos, negsuc, ◌≡◌, refl, Some, None, true, false, channel_hertz, nearest_pseudorange, nearest_phase, nearest_doppler, nearest_strength, strength_digit, times4, times7, lost}
 
 -- 70 ms, and the next range that MSM7 encodes
 range : nearest_pseudorange (pos 150323855360) ≡ pos 20985472060

@@ -1,10 +1,6 @@
 -- Signals that fit a plan, and those that don't.
-use Rattle.std.proofs.Common.{◌≡◌, ℕ, zero, suc, ◌<◌, ◌==◌, false, List, [], ◌∷◌, ◌++◌, length, take, drop, get_or, All, nat_eq, refl, sym, ap, ◌∙◌, subst, arith, inl, inr}
+use Rattle.gnss_obs.proofs.Names.{◌≡◌, ℕ, zero, suc, ◌<◌, ◌==◌, false, List, [], ◌∷◌, ◌++◌, length, take, drop, get_or, All, nat_eq, refl, sym, ap, ◌∙◌, subst, arith, inl, inr, apart_from_distinct, IsDistinct-tail, All-head, All-tail, System, SignalAt, IsSignal, PlanFault, indices, IsOf, IsUnfitAfter, IsUnfit, IsMemoryFaultOr, MayAdd, BeginsWithOwn, list_any, IsDistinct, flip_false}
 use Rattle.std.proofs.Math.Seq.{split_at}
-use Rattle.std.proofs.lemmas.Map.Keys.{apart_from_distinct, IsDistinct-tail}
-use Rattle.std.proofs.lemmas.List.Elements.{All-head, All-tail}
-use Rattle.gnss_obs.specs.inner.Names.{System, SignalAt, IsSignal, PlanFault, indices, IsOf, IsUnfitAfter, IsUnfit, IsMemoryFaultOr, MayAdd, BeginsWithOwn, list_any, IsDistinct}
-use Rattle.gnss_system.proofs.CheckedLaws.{flip_false}
 
 -- The first signal is of the system if those before one are, and this one.
 begin_own : (system : System) (ss : List SignalAt) (k : ℕ) (s : SignalAt) → k < length ss → s ≡ get_or ss k s → IsOf system (take k ss) → s.system ≡ system → BeginsWithOwn system ss

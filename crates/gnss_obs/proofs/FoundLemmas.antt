@@ -1,10 +1,6 @@
 -- The table that finds the cell of a key.
-use Rattle.std.proofs.Common.{◌≡◌, ℕ, suc, zero, ◌<◌, ◌≤◌, Bool, true, false, List, [], ◌∷◌, ◌++◌, map, set, sym, ap, ◌∙◌, arith, length, get_or, nat_eq}
-use Rattle.std.specs.List.{AllByRecursion}
-use Rattle.std.proofs.lemmas.List.{get_or-set_same, get_or-set_other, get_or_append_left, get_or-append-add, get_or-map, length-map, length-append, map-append}
-use Rattle.gnss_obs.specs.declared.cell.Cell.{Cell}
-use Rattle.gnss_obs.specs.inner.Arriving.{slot, has_slot, IsFound, AreFound}
-use Rattle.std.proofs.lemmas.Grind.{common_steps}
+use Rattle.gnss_obs.proofs.Names.{◌≡◌, ℕ, suc, zero, ◌<◌, ◌≤◌, Bool, true, false, List, [], ◌∷◌, ◌++◌, map, set, sym, ap, ◌∙◌, arith, length, get_or, nat_eq, AllByRecursion, get_or-set_same, get_or-set_other, get_or_append_left, get_or-append-add, get_or-map, length-map, length-append, map-append, Cell, slot, has_slot, IsFound, common_steps}
+use Rattle.gnss_obs.specs.inner.Arriving.{AreFound}
 
 -- ---- whether a key is kept
 

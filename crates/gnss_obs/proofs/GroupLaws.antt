@@ -1,11 +1,5 @@
 -- The cells of one satellite, in a list in the order of satellites.
-use Rattle.std.proofs.Common.{◌≡◌, ℕ, zero, suc, ◌+◌, ◌<◌, ◌≤◌, ◌==◌, Bool, true, false, ◌||◌, ◌&&◌, List, [], ◌∷◌, map, filter, drop, refl, sym, ap, ap₂, ◌∙◌, subst, arith, length, not, if◌then◌else◌, nat_lt}
-use Rattle.std.proofs.lemmas.List.Elements.{recursion_from_All}
-use Rattle.gnss_obs.specs.inner.Names.{System, Cell, is_before, SortKeysRise, cell_sort_key, AreSorted, AllByRecursion, list_any}
-use Rattle.gnss_system.specs.Satellites.{satellites as satellites_in}
-use Rattle.gnss_obs.specs.Values.{AreHeld, has_value, is_written, written_among, is_of_satellite}
-use Rattle.std.proofs.lemmas.Grind.{common_steps}
-use Rattle.std.proofs.lemmas.Bool.{eqb-true}
+use Rattle.gnss_obs.proofs.Names.{◌≡◌, ℕ, zero, suc, ◌+◌, ◌<◌, ◌≤◌, ◌==◌, Bool, true, false, ◌||◌, ◌&&◌, List, [], ◌∷◌, map, filter, drop, refl, sym, ap, ap₂, ◌∙◌, subst, arith, length, not, if◌then◌else◌, nat_lt, recursion_from_All, System, Cell, is_before, SortKeysRise, cell_sort_key, AreSorted, AllByRecursion, list_any, satellites_in, AreHeld, has_value, is_written, written_among, is_of_satellite, common_steps, eqb-true}
 
 -- ---- cells in the order of satellites
 

@@ -1,20 +1,7 @@
 -- Kept cells of a system as they arrive.
-use Rattle.std.proofs.Common.{Box, Global, ◌≡◌, ℕ, ◌+◌, ◌*◌, ◌<◌, ◌==◌, ◌&&◌, ◌||◌, false, nat_eq, List, [], ◌∷◌, map, refl, sym, ap, ap₂, ◌∙◌, subst, arith, rules, length, All}
-use Rattle.std.proofs.lemmas.List.Elements.{All-head, All-nil, All-push, All-tail}
-use Rattle.std.proofs.lemmas.List.Sorted.{All-permutation, IsPermutation-map, length_permutation}
-use Rattle.std.proofs.lemmas.List.{map-append}
-use Rattle.std.proofs.lemmas.Map.Keys.{IsDistinct-IsPermutation, IsDistinct-push}
-use Rattle.std.proofs.lemmas.Cmp.{nat_eq_equiv}
-use Rattle.std.specs.List.{IsDistinct}
+use Rattle.gnss_obs.proofs.Names.{Box, Global, ◌≡◌, ℕ, ◌+◌, ◌*◌, ◌<◌, ◌==◌, ◌&&◌, ◌||◌, false, nat_eq, List, [], ◌∷◌, map, refl, sym, ap, ap₂, ◌∙◌, subst, arith, rules, length, All, All-head, All-nil, All-push, All-tail, All-permutation, IsPermutation-map, length_permutation, map-append, IsDistinct-IsPermutation, IsDistinct-push, nat_eq_equiv, IsDistinct, AreSorted, each_system, equal_values, value_mapped, value_tabulated, value_of, with_value_of, map_by, BySystem, Cells, System, Cell, Added, Satellite, SignalAt, IsSignal, AreHeld, AreKept, CellLists, IsHeld, list_any, no_cells, IsObserved, heard_cell, same_key, cell_sort_key, is_held, AddsCell, IsAdded, slot, has_slot, sorted_cells, outcome_by, common_steps}
 use Rattle.gnss_obs.proofs.OrderLaws.{sort_moves}
-use Rattle.gnss_obs.specs.Order.{AreSorted}
 use Rattle.gnss_obs.specs.declared.epoch_cells.Added.TheVariants.{Kept}
-use Rattle.gnss_system.proofs.SystemLaws.{each_system, equal_values, value_mapped, value_tabulated}
-use Rattle.gnss_system.specs.SystemValues.{value_of, with_value_of, map_by}
-use Rattle.gnss_system.specs.declared.by_system.BySystem.{BySystem}
-use Rattle.gnss_obs.specs.declared.cells.Cells.{Cells}
-use Rattle.gnss_obs.specs.inner.Names.{System, Cell, Added, Satellite, SignalAt, IsSignal, AreHeld, AreKept, CellLists, IsHeld, list_any, no_cells, IsObserved, heard_cell, same_key, cell_sort_key, is_held, AddsCell, IsAdded, slot, has_slot, sorted_cells, outcome_by}
-use Rattle.std.proofs.lemmas.Grind.{common_steps}
 
 -- ---- sorted cells
 

@@ -1,9 +1,6 @@
 -- The test for a loss of lock.
-use Rattle.std.proofs.Common.{ℕ, ◌≡◌, ◌<◌, ◌≤◌, arith, refl, get_or, ◌+◌, ◌*◌, ◌==◌, ◌||◌, nat_lt, Bool, true, false, Option, Some, None}
-use Rattle.gnss_obs.specs.LockTimes.{least4, least7, time_of, times7}
+use Rattle.gnss_obs.proofs.Names.{ℕ, ◌≡◌, ◌<◌, ◌≤◌, arith, refl, get_or, ◌+◌, ◌*◌, ◌==◌, ◌||◌, nat_lt, Bool, true, false, Option, Some, None, least4, least7, time_of, times7, passes_at, unless_less, ltb-true, eqb-true}
 use Rattle.gnss_obs.specs.declared.lock.TheConstants.{LEAST7}
-use Rattle.gnss_system.proofs.CheckedLaws.{passes_at, unless_less}
-use Rattle.std.proofs.lemmas.Bool.{ltb-true, eqb-true}
 
 -- the steps of the indicators, each computed
 pub rising4 : (i : ℕ) → i < 15 → least4 i < least4 (i + 1)

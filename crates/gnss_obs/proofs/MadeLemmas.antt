@@ -1,16 +1,6 @@
 -- The plan of lists of signals, or its fault.
-use Rattle.std.proofs.Common.{◌≡◌, ℕ, ◌<◌, true, false, List, length, refl, sym, ap, ◌∙◌, subst, arith, ◌⊎◌, inl, inr, Result, Ok, Err, IfErr, MatchResult, if◌then◌else◌, is_ok, nat_lt}
-use Rattle.std.specs.List.{sum_by}
-use Rattle.gnss_system.specs.Systems.{systems, index_of}
-use Rattle.gnss_system.specs.SystemValues.{value_of, map_by}
-use Rattle.gnss_system.specs.declared.by_system.BySystem.{BySystem}
-use Rattle.gnss_obs.specs.Plans.{has_signal, HasSignal, plan_by, signals_in, is_none_planned}
-use Rattle.gnss_obs.specs.inner.SignalLists.{AreRead, AreAdded}
-use Rattle.gnss_obs.specs.Values.{plan_with}
-use Rattle.gnss_obs.specs.inner.Names.{System, PlanFault, UnknownCode, RepeatedCode, NothingPlanned, Memory, SignalAt, PlanValue, plan_of, indices, IsOf, DoneOr, IsDefined, IsMade, IsMemoryFaultOr, IsPlanResult, IsUnplanned, HasOwn}
-use Rattle.gnss_system.proofs.SystemLaws.{Below, value_mapped, sum_none}
+use Rattle.gnss_obs.proofs.Names.{◌≡◌, ℕ, ◌<◌, true, false, List, length, refl, sym, ap, ◌∙◌, subst, arith, ◌⊎◌, inl, inr, Result, Ok, Err, IfErr, MatchResult, if◌then◌else◌, is_ok, nat_lt, sum_by, systems, index_of, value_of, map_by, BySystem, has_signal, HasSignal, plan_by, signals_in, is_none_planned, AreRead, AreAdded, plan_with, System, PlanFault, UnknownCode, RepeatedCode, NothingPlanned, Memory, SignalAt, PlanValue, plan_of, indices, IsOf, DoneOr, IsDefined, IsMade, IsMemoryFaultOr, IsPlanResult, IsUnplanned, HasOwn, Below, value_mapped, sum_none, common_steps}
 use Rattle.gnss_obs.proofs.FitLemmas.{unfit_not_of}
-use Rattle.std.proofs.lemmas.Grind.{common_steps}
 
 abbrev fault_of : {A : Type 0} → Result A PlanFault → PlanFault
 fault_of (Ok u) = Memory

@@ -1,9 +1,5 @@
 -- A marked cell is of the same satellite and signal, and has a loss of lock indicator.
-use Rattle.std.proofs.Common.{◌≡◌, ℕ, zero, suc, ◌+◌, ◌*◌, ◌/◌, ◌<◌, ◌≤◌, List, [], ◌∷◌, map, refl, ap, arith, length, get_or, set, All, nat_eq, sym, subst}
-use Rattle.std.proofs.lemmas.List.Elements.{All-head, All-cons, All-tail}
-use Rattle.std.specs.List.{IsDistinct}
-use Rattle.gnss_obs.specs.Marked.{marked_at, with_mark}
-use Rattle.gnss_obs.specs.inner.Names.{System, Cell, AreHeld, AreKept, AreSorted, IsHeld, SortKeysRise, cell_sort_key, slot}
+use Rattle.gnss_obs.proofs.Names.{◌≡◌, ℕ, zero, suc, ◌+◌, ◌*◌, ◌/◌, ◌<◌, ◌≤◌, List, [], ◌∷◌, map, refl, ap, arith, length, get_or, set, All, nat_eq, sym, subst, All-head, All-cons, All-tail, IsDistinct, marked_at, with_mark, System, Cell, AreHeld, AreKept, AreSorted, IsHeld, SortKeysRise, cell_sort_key, slot}
 
 pub mark_set : (xs : List Cell) (at : ℕ) (d : Cell) → at < length xs → set xs at (with_mark (get_or xs at d)) ≡ marked_at at xs
 mark_set [] at d h = refl

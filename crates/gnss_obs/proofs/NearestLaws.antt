@@ -1,10 +1,5 @@
 -- Rounding a product.
-use Rattle.std.proofs.Common.{ℕ, ℤ, pos, negsuc, ◌≡◌, ◌+◌, ◌*◌, ◌/◌, ◌^◌, ◌<◌, ◌≤◌, ◌-ℤ◌, ◌*ℤ◌, ◌<ℤ◌, ◌≤ℤ◌, unsigned_abs, arith, w64, to_z, of_z, add-one}
-use Rattle.std.proofs.Math.IntN.{negsuc-*ℤ-pos}
-use Rattle.std.proofs.lemmas.Int.{ints, unsigned_abs-mul}
-use Rattle.std.specs.Prelude.{Option, option_map}
-use Rattle.gnss_obs.specs.Rounding.{IsNearest, IsRounded, nearest, nearest_size}
-use Rattle.std.proofs.lemmas.Grind.{common_steps}
+use Rattle.gnss_obs.proofs.Names.{ℕ, ℤ, pos, negsuc, ◌≡◌, ◌+◌, ◌*◌, ◌/◌, ◌^◌, ◌<◌, ◌≤◌, ◌-ℤ◌, ◌*ℤ◌, ◌<ℤ◌, ◌≤ℤ◌, unsigned_abs, arith, w64, to_z, of_z, add-one, negsuc-*ℤ-pos, ints, unsigned_abs-mul, Option, option_map, IsNearest, IsRounded, nearest, nearest_size, common_steps}
 
 -- the distance of the product from the fraction
 pub size_bounds : (n q : ℕ) → 0 < q → (2 * (nearest_size n q * q) ≤ 2 * n + q) × (2 * n + q < 2 * (nearest_size n q * q) + 2 * q)

@@ -1,9 +1,5 @@
 -- Sort keys, and items in their order.
-use Rattle.std.proofs.Common.{◌≡◌, Bool, true, false, List, [], ◌∷◌, ◌++◌, map, refl, sym, subst, arith, append-nil, fold, if◌then◌else◌, IsPermutation}
-use Rattle.std.specs.List.{AllByRecursion}
-use Rattle.std.proofs.lemmas.List.Sorted.{IsPermutation-refl, IsPermutation-sym, IsPermutation-trans, IsPermutation-cons, IsPermutation-middle, IsPermutation-append_right}
-use Rattle.gnss_obs.specs.Order.{SortKey, SortKeysRise, is_before, insert_by}
-use Rattle.std.proofs.lemmas.Grind.{common_steps}
+use Rattle.gnss_obs.proofs.Names.{◌≡◌, Bool, true, false, List, [], ◌∷◌, ◌++◌, map, refl, sym, subst, arith, append-nil, fold, if◌then◌else◌, IsPermutation, AllByRecursion, IsPermutation-refl, IsPermutation-sym, IsPermutation-trans, IsPermutation-cons, IsPermutation-middle, IsPermutation-append_right, SortKey, SortKeysRise, is_before, insert_by, common_steps}
 
 -- ---- sort keys
 

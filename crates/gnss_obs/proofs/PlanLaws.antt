@@ -1,19 +1,8 @@
 -- Codes separated by commas, and the signals of a plan.
+use Rattle.gnss_obs.proofs.Names.{bytes_eq, is_some, ◌⊎◌, ◌≡◌, ℕ, suc, zero, ◌+◌, ◌<◌, ◌≤◌, ◌==◌, ◌||◌, Bool, true, false, List, [], ◌∷◌, ◌++◌, length, All, nat_eq, refl, sym, ap, ap₂, ◌∙◌, subst, arith, Option, Some, None, Result, Ok, Err, rules, true≢false, if◌then◌else◌, codes, is_err, Bor, nat_eq_equiv, IsDistinct-push, All-push, All-head, All-map, All-tail, All-weaker, MayTakeCode, ListedSignal, RepeatedCode, System, SignalAt, IsSignal, table, signal_of_code, signal_where, signal_at, PlanFault, between_commas, one_signal_more, below, signals_of, signals_after, IsTaken, indices, IsMemoryFaultOr, IsOf, ArePlanned, DoneOr, RefusesCode, TakesCode, list_any, position_or_len, before_first, after_first, IsDistinct, common_steps, Glonass, ChannelsValue, no_channels, has_signal, signals_coded, is_first_listed, is_nil, with_channels, PlanValue, planned_of}
 use Rattle.std.proofs.lemmas.Slice.Eq.{bytes_eq-Decides}
-use Rattle.std.proofs.Common.{bytes_eq, is_some, ◌⊎◌, ◌≡◌, ℕ, suc, zero, ◌+◌, ◌<◌, ◌≤◌, ◌==◌, ◌||◌, Bool, true, false, List, [], ◌∷◌, ◌++◌, length, All, nat_eq, refl, sym, ap, ap₂, ◌∙◌, subst, arith, Option, Some, None, Result, Ok, Err, rules, true≢false, if◌then◌else◌, codes, is_err}
-use Rattle.std.proofs.Common.{Bor}
-use Rattle.std.proofs.lemmas.Cmp.{nat_eq_equiv}
-use Rattle.std.proofs.lemmas.Map.Keys.{IsDistinct-push}
 use Rattle.std.proofs.lemmas.Map.Steps.{length-le_from_distinct_below}
-use Rattle.std.proofs.lemmas.List.Elements.{All-push, All-head, All-map, All-tail, All-weaker}
 use Rattle.std.proofs.lemmas.Str.Pattern.{IsSplitOnceResult, split_once_first}
-use Rattle.gnss_obs.specs.inner.Names.{MayTakeCode, ListedSignal, RepeatedCode, System, SignalAt, IsSignal, table, signal_of_code, signal_where, signal_at, PlanFault, between_commas, one_signal_more, below, signals_of, signals_after, IsTaken, indices, IsMemoryFaultOr, IsOf, ArePlanned, DoneOr, RefusesCode, TakesCode}
-use Rattle.std.specs.List.{list_any, position_or_len, before_first, after_first, IsDistinct}
-use Rattle.std.proofs.lemmas.Grind.{common_steps}
-use Rattle.gnss_system.specs.declared.system.System.TheVariants.{Glonass}
-use Rattle.gnss_obs.specs.Channels.{ChannelsValue, no_channels}
-use Rattle.gnss_obs.specs.Plans.{has_signal, signals_coded, is_first_listed, is_nil, with_channels}
-use Rattle.gnss_obs.specs.inner.Names.{PlanValue, planned_of}
 
 abbrev comma : ℕ → Bool
 comma b = b == 44

@@ -1,15 +1,8 @@
 -- Satellites as the bits of a set.
-use Rattle.std.proofs.Common.{◌≡◌, ℕ, zero, suc, ◌+◌, ◌*◌, ◌<◌, ◌≤◌, ◌^◌, ◌%◌, Bool, true, false, List, [], ◌∷◌, ◌++◌, refl, sym, ap, ◌∙◌, subst, arith, length, All, nat_lt, nat_eq, max, take, get_or, rules}
-use Rattle.std.proofs.lemmas.List.{take_more}
-use Rattle.std.proofs.lemmas.Nat.{and_le_l}
-use Rattle.std.specs.Int.{bit_at, bit_not, trailing_zeros, w64}
+use Rattle.gnss_obs.proofs.Names.{◌≡◌, ℕ, zero, suc, ◌+◌, ◌*◌, ◌<◌, ◌≤◌, ◌^◌, ◌%◌, Bool, true, false, List, [], ◌∷◌, ◌++◌, refl, sym, ap, ◌∙◌, subst, arith, length, All, nat_lt, nat_eq, max, take, get_or, rules, take_more, and_le_l, bit_at, bit_not, trailing_zeros, w64, All-push, All-weaker, HasSatellites, AreBelow, AreHeld, Cell, IsHeld, System, cell_number, satellites, sorted_cells, common_steps}
 use Rattle.std.specs.Int.RustNames.{bit_and, bit_or}
 use Rattle.std.specs.Int.Count.{trailing_of_zero}
-use Rattle.std.proofs.lemmas.List.Elements.{All-push, All-weaker}
 use Rattle.std.proofs.lemmas.Nat.Bits.{bit_at_and, bit_at_or, bit_at-lt, bit_at-zero, bit_at_set_same, bit_at_set_other, bit_at_clear_same, bit_at_clear_other, bit_at-trailing_zeros}
-use Rattle.gnss_obs.specs.inner.Arriving.{HasSatellites}
-use Rattle.gnss_obs.specs.inner.Names.{AreBelow, AreHeld, Cell, IsHeld, System, cell_number, satellites, sorted_cells}
-use Rattle.std.proofs.lemmas.Grind.{common_steps}
 use Rattle.gnss_obs.proofs.SortLemmas.{Gap, IsFrom, below_all, below_first, below_skip, place_less}
 
 -- ---- the set of the satellites of cells

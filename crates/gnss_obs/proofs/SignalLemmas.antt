@@ -1,21 +1,8 @@
 -- Signals in a set, and the indices of a table's signals in it.
-use Rattle.std.proofs.Common.{◌≡◌, ◌≢◌, ℕ, ◌+◌, ◌<◌, ◌≤◌, ◌==◌, ◌||◌, Bool, true, false, not, List, [], ◌∷◌, ◌++◌, length, All, set, get_or, nat_eq, nat_lt, refl, sym, ap, ap₂, ◌∙◌, subst, arith, Option, Some, None, if◌then◌else◌, cond, position, is_some, option_map, option_and_then, rules}
-use Rattle.std.proofs.lemmas.List.{get_or-set_other, length_push}
+use Rattle.gnss_obs.proofs.Names.{◌≡◌, ◌≢◌, ℕ, ◌+◌, ◌<◌, ◌≤◌, ◌==◌, ◌||◌, Bool, true, false, not, List, [], ◌∷◌, ◌++◌, length, All, set, get_or, nat_eq, nat_lt, refl, sym, ap, ap₂, ◌∙◌, subst, arith, Option, Some, None, if◌then◌else◌, cond, position, is_some, option_map, option_and_then, rules, get_or-set_other, length_push, get_or-set_at, All-head, All-tail, list_any, position_or_len, IsDistinct, SignalAt, IsSignal, most_signals, AreFound, AreRows, IsOf, common_steps, position-Some, slice_get-get_or, each_system, System, ListedSignal, table, id_of, indices, signal_at, signal_of_id, option_map_or, if_planned, planned_signal, eqb-true, not-true, not-false}
 use Rattle.std.proofs.lemmas.List.Folds.{position_or_len_push}
-use Rattle.std.proofs.lemmas.Grind.{get_or-set_at}
-use Rattle.std.proofs.lemmas.List.Elements.{All-head, All-tail}
-use Rattle.std.specs.List.{list_any, position_or_len, IsDistinct}
-use Rattle.gnss_system.specs.Signals.{SignalAt, IsSignal, most_signals}
-use Rattle.gnss_obs.specs.inner.SignalLists.{AreFound, AreRows, IsOf}
 use Rattle.gnss_obs.proofs.PlanLaws.{indices-push, is_of-push}
-use Rattle.std.proofs.lemmas.Grind.{common_steps}
-use Rattle.std.proofs.lemmas.List.Quantifiers.{position-Some}
-use Rattle.std.proofs.lemmas.Option.{slice_get-get_or}
-use Rattle.gnss_system.proofs.SystemLaws.{each_system}
-use Rattle.gnss_obs.specs.inner.Names.{System, ListedSignal, table, id_of, indices, signal_at, signal_of_id, option_map_or}
-use Rattle.gnss_obs.specs.Plans.{if_planned, planned_signal}
 use Rattle.gnss_obs.proofs.TableLaws.{id_back}
-use Rattle.std.proofs.lemmas.Bool.{eqb-true, not-true, not-false}
 
 pub none_before : {X : Type 0} (p : X → Bool) (xs : List X) → list_any p xs ≡ false → position_or_len p xs ≡ length xs
 none_before p [] h = refl

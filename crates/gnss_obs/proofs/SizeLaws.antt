@@ -1,12 +1,5 @@
 -- The range of the values of a message.
-use Rattle.std.proofs.Common.{ℕ, ℤ, ◌≡◌, ◌^◌, ◌<◌, ◌≤◌, unsigned_abs, arith, w64, to_z, of_z}
-use Rattle.std.proofs.lemmas.Int.{ints}
-use Rattle.gnss_system.specs.Signals.{most_hertz}
-use Rattle.std.specs.Prelude.{IfSome}
-use Rattle.gnss_system.specs.Satellites.{Satellite}
-use Rattle.gnss_obs.specs.Channels.{AreChannels, ChannelsValue, hertz_in}
-use Rattle.gnss_obs.specs.inner.Names.{SignalAt, nearest_pseudorange, nearest_phase}
-use Rattle.std.proofs.lemmas.Grind.{common_steps}
+use Rattle.gnss_obs.proofs.Names.{ℕ, ℤ, ◌≡◌, ◌^◌, ◌<◌, ◌≤◌, unsigned_abs, arith, w64, to_z, of_z, ints, most_hertz, IfSome, Satellite, AreChannels, ChannelsValue, hertz_in, SignalAt, nearest_pseudorange, nearest_phase, common_steps}
 
 -- ---- carriers
 

@@ -1,17 +1,8 @@
 -- Cells sorted by numbers, and cells that are in order.
-use Rattle.std.proofs.Common.{◌≡◌, ℕ, zero, suc, ◌+◌, ◌*◌, ◌<◌, ◌≤◌, ◌==◌, Bool, true, false, ◌||◌, List, [], ◌∷◌, ◌++◌, map, drop, refl, sym, ap, ap₂, ◌∙◌, subst, arith, length, get_or, Option, Some, All, nat_eq, is_some}
-use Rattle.std.specs.Prelude.{◌&&◌, fold, nat_lt, position}
-use Rattle.std.proofs.lemmas.List.{append_assoc, append-nil, get_or-map, length-append}
-use Rattle.std.proofs.lemmas.List.Elements.{All-append, All-cons, All-get_or, All-head, All-nil, All-push, All-tail, All-weaker}
-use Rattle.std.proofs.lemmas.List.Quantifiers.{position-Some}
-use Rattle.std.proofs.lemmas.List.Sorted.{All-permutation, IsPermutation-sym, length_permutation}
-use Rattle.std.proofs.lemmas.Map.Keys.{apart_from_distinct, IsDistinct-head, IsDistinct-tail}
-use Rattle.gnss_obs.specs.Order.{Rise, RiseTo}
-use Rattle.gnss_obs.specs.inner.Names.{AreBelow, AreHeld, AreKept, AreOrderedBy, IsPlanned, Cell, IsHeld, IsOf, IsSignal, SignalAt, System, has_slot, indices, IsDistinct, slot, table, place_in, SortKey, is_before, SortKeysRise, insert_by, cell_sort_key, sorted_cells, cell_number, option_map_or, AllByRecursion}
+use Rattle.gnss_obs.proofs.Names.{◌≡◌, ℕ, zero, suc, ◌+◌, ◌*◌, ◌<◌, ◌≤◌, ◌==◌, Bool, true, false, ◌||◌, List, [], ◌∷◌, ◌++◌, map, drop, refl, sym, ap, ap₂, ◌∙◌, subst, arith, length, get_or, Option, Some, All, nat_eq, is_some, ◌&&◌, fold, nat_lt, position, append_assoc, append-nil, get_or-map, length-append, All-append, All-cons, All-get_or, All-head, All-nil, All-push, All-tail, All-weaker, position-Some, All-permutation, IsPermutation-sym, length_permutation, apart_from_distinct, IsDistinct-head, IsDistinct-tail, Rise, RiseTo, AreBelow, AreHeld, AreKept, AreOrderedBy, IsPlanned, Cell, IsHeld, IsOf, IsSignal, SignalAt, System, has_slot, indices, IsDistinct, slot, table, place_in, SortKey, is_before, SortKeysRise, insert_by, cell_sort_key, sorted_cells, cell_number, option_map_or, AllByRecursion, common_steps}
 use Rattle.gnss_obs.proofs.HeldLemmas.{low_index}
 use Rattle.gnss_obs.proofs.OrderLaws.{Before, Differ, sort_moves, sorted_rise}
 use Rattle.gnss_obs.proofs.PlanLaws.{few_signals, length_indices}
-use Rattle.std.proofs.lemmas.Grind.{common_steps}
 
 -- ---- numbers of cells
 

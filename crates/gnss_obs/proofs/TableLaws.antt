@@ -1,15 +1,7 @@
 -- The signal tables: their IDs rise row by row, each ID and each code has one row, and each ID the row that is listed
 -- for it.
-use Rattle.std.proofs.Common.{ℕ, ◌≡◌, ◌+◌, ◌-◌, ◌<◌, ◌≤◌, ◌==◌, ◌&&◌, Bool, true, false, nat_lt, length, position, List, Option, Some, None, Bor, slice_index_or, refl, ap, ◌∙◌, arith, slice_get, unwrap_or, option_copied, option_map, is_some, IfSome}
-use Rattle.std.proofs.lemmas.Option.{slice_get_past, slice_get_read}
-use Rattle.std.specs.List.{list_all}
-use Rattle.gnss_system.specs.Systems.{systems}
-use Rattle.gnss_system.proofs.SystemLaws.{each_system}
-use Rattle.gnss_obs.specs.inner.Names.{System, SignalAt, IsSignal, after, greatest_signal_id, id_of, signal_of_id, table, rows}
-use Rattle.std.proofs.lemmas.Grind.{common_steps}
+use Rattle.gnss_obs.proofs.Names.{ℕ, ◌≡◌, ◌+◌, ◌-◌, ◌<◌, ◌≤◌, ◌==◌, ◌&&◌, Bool, true, false, nat_lt, length, position, List, Option, Some, None, Bor, slice_index_or, refl, ap, ◌∙◌, arith, slice_get, unwrap_or, option_copied, option_map, is_some, IfSome, slice_get_past, slice_get_read, list_all, systems, each_system, System, SignalAt, IsSignal, after, greatest_signal_id, id_of, signal_of_id, table, rows, common_steps, passes_at, passes_below, and_parts, ltb-true, eqb-true}
 use Rattle.gnss_obs.proofs.SortLemmas.{table_few}
-use Rattle.gnss_system.proofs.CheckedLaws.{passes_at, passes_below}
-use Rattle.std.proofs.lemmas.Bool.{and_parts, ltb-true, eqb-true}
 
 -- the ID of a row is below the next one
 abbrev rises_at : System → ℕ → Bool

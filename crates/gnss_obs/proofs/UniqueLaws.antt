@@ -1,9 +1,5 @@
 -- The nearest whole number is unique.
-use Rattle.std.proofs.Common.{ℕ, suc, ℤ, pos, negsuc, ◌≡◌, ◌+◌, ◌*◌, ◌<◌, ◌≤◌, ◌-ℤ◌, ◌+ℤ◌, ◌*ℤ◌, ◌<ℤ◌, ◌≤ℤ◌, unsigned_abs, arith, ◌⊎◌, inl, inr, rules}
-use Rattle.std.proofs.Math.IntN.{neg_ℤ, negsuc-*ℤ-pos}
-use Rattle.std.proofs.lemmas.Int.{ints}
-use Rattle.std.proofs.lemmas.Nat.{mul-le}
-use Rattle.gnss_obs.specs.Rounding.{IsNearest}
+use Rattle.gnss_obs.proofs.Names.{ℕ, suc, ℤ, pos, negsuc, ◌≡◌, ◌+◌, ◌*◌, ◌<◌, ◌≤◌, ◌-ℤ◌, ◌+ℤ◌, ◌*ℤ◌, ◌<ℤ◌, ◌≤ℤ◌, unsigned_abs, arith, ◌⊎◌, inl, inr, rules, neg_ℤ, negsuc-*ℤ-pos, ints, mul-le, IsNearest}
 
 negative : (m q : ℕ) → negsuc m *ℤ pos q ≡ pos 0 -ℤ pos (suc m * q)
 negative m q = grind (arith, negsuc-*ℤ-pos, neg_ℤ, ints)

@@ -2,4 +2,3 @@
 pub mod SignalLists
 pub mod PlanOrder
 pub mod Arriving
-pub mod Names

@@ -1,10 +1,7 @@
 -- The kept cells of a list after one more cell.
-use Rattle.std.proofs.Common.{[], ◌≡◌, ℕ, Bool, true, false, not, ◌||◌, ◌&&◌, List, ◌∷◌, ◌++◌, refl, sym, ap, ◌∙◌, arith, take, length, filter, append_assoc, append-nil, nat_le, if◌then◌else◌}
+use Rattle.obs_epoch.proofs.Names.{[], ◌≡◌, ℕ, Bool, true, false, not, ◌||◌, ◌&&◌, List, ◌∷◌, ◌++◌, refl, sym, ap, ◌∙◌, arith, take, length, filter, append_assoc, append-nil, nat_le, if◌then◌else◌, filter-append, System, firsts, firsts_after, is_among, is_of_system, kept, add, has_same_key, most_cells, HeardCell, common_steps}
 use Rattle.std.specs.Cmp.{IsEquivalence}
 use Rattle.std.proofs.lemmas.Map.Views.{any-filter_same}
-use Rattle.std.proofs.lemmas.List.Elements.{filter-append}
-use Rattle.obs_epoch.specs.inner.Names.{System, firsts, firsts_after, is_among, is_of_system, kept, add, has_same_key, most_cells, HeardCell}
-use Rattle.std.proofs.lemmas.Grind.{common_steps}
 
 abbrev pub new_key : List HeardCell → HeardCell → List HeardCell
 new_key earlier x = if is_among earlier x then [] else x ∷ []

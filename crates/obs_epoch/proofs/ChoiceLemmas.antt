@@ -1,18 +1,7 @@
 -- Laws of the choice of epochs.
-use Rattle.std.proofs.Common.{◌≡◌, ℕ, zero, suc, ◌+◌, length, map, ◌<◌, ◌≤◌, ◌*◌, Bool, true, false, ◌&&◌, List, [], ◌∷◌, ◌++◌, filter, refl, sym, ap, ap₂, arith, Option, None, IfSome, nat_le, nat_lt, not, cond, if◌then◌else◌}
-use Rattle.std.specs.List.{AllByRecursion}
-use Rattle.std.proofs.lemmas.Grind.{common_steps}
-use Rattle.rtcm_msg.specs.Msm.{week}
-use Rattle.gnss_obs.specs.GatheredEpochs.{TimesRise}
-use Rattle.obs_epoch.specs.declared.choice.Choice.{Choice}
-use Rattle.obs_epoch.specs.Choices.{every_epoch, in_window}
-use Rattle.obs_epoch.specs.GathererHistory.{closed_list_at}
+use Rattle.obs_epoch.proofs.Names.{◌≡◌, ℕ, zero, suc, ◌+◌, length, map, ◌<◌, ◌≤◌, ◌*◌, Bool, true, false, ◌&&◌, List, [], ◌∷◌, ◌++◌, filter, refl, sym, ap, ap₂, arith, Option, None, IfSome, nat_le, nat_lt, not, cond, if◌then◌else◌, AllByRecursion, common_steps, week, TimesRise, Choice, every_epoch, in_window, closed_list_at, Cell, Closed, EpochValue, GatherSetup, Heard, Timed, taken_at, timed_after, times, weeks, counts_among, has_satellite, is_left_out, mark_if, marked_epoch, thin, thin_after, is_written, satellites_written, written_among, value_tabulated}
 use Rattle.obs_epoch.specs.Laws.{IsThinnedByChoice, IsWholeByEvery, NoneReturned, ReturnsEvery, WindowsAreApart, WindowsJoin, with_window}
-use Rattle.obs_epoch.specs.inner.Names.{Cell, Closed, EpochValue, GatherSetup, Heard, Timed, taken_at, timed_after, times, weeks}
-use Rattle.obs_epoch.specs.Thinning.{counts_among, has_satellite, is_left_out, mark_if, marked_epoch, thin, thin_after}
 use Rattle.obs_epoch.proofs.ReachLemmas.{IsWithin, all_append, all_filter, taken_within}
-use Rattle.gnss_obs.specs.Values.{is_written, satellites_written, written_among}
-use Rattle.gnss_system.proofs.SystemLaws.{value_tabulated}
 use Rattle.obs_epoch.proofs.ThinLemmas.{marks_none, none_lost}
 
 -- ---- every epoch

@@ -1,10 +1,6 @@
 -- A step of the clock adds one message to the list.
-use Rattle.std.proofs.Common.{◌≡◌, ℕ, zero, suc, ◌+◌, ◌*◌, ◌/◌, ◌<◌, Bool, true, false, not, ◌||◌, ◌&&◌, List, [], ◌∷◌, ◌++◌, refl, ap, ap₂, ◌∙◌, subst, arith, Option, Some, None, nat_lt, ◌==◌}
-use Rattle.obs_epoch.specs.inner.Names.{CloseFirst, CellCounts, GatherSetup, Heard, ends_epoch, is_own, Timed, greatest_time, is_closed, taken_at, ahead, is_late, is_past, time_of, State, is_pending, closes_first, kind_after, kind_by, step_by, is_late_at, is_first_at, ended_where, option_map_or}
-use Rattle.obs_epoch.specs.Starts.{first_week}
-use Rattle.rtcm_msg.specs.Msm.{week}
+use Rattle.obs_epoch.proofs.Names.{◌≡◌, ℕ, zero, suc, ◌+◌, ◌*◌, ◌/◌, ◌<◌, Bool, true, false, not, ◌||◌, ◌&&◌, List, [], ◌∷◌, ◌++◌, refl, ap, ap₂, ◌∙◌, subst, arith, Option, Some, None, nat_lt, ◌==◌, CloseFirst, CellCounts, GatherSetup, Heard, ends_epoch, is_own, Timed, greatest_time, is_closed, taken_at, ahead, is_late, is_past, time_of, State, is_pending, closes_first, kind_after, kind_by, step_by, is_late_at, is_first_at, ended_where, option_map_or, first_week, week, common_steps}
 use Rattle.obs_epoch.proofs.TimesLemmas.{next, greatest-push, greatest-present, greater-absent, none-absent, closed-push, closed-new}
-use Rattle.std.proofs.lemmas.Grind.{common_steps}
 
 -- A message that isn't accepted changes no time, and may close the pending epoch.
 pub same_time : (s : GatherSetup) (xs : List Timed) (x : Timed) → x.time ≡ None

@@ -1,11 +1,7 @@
 -- The closed epochs of a list after one more message.
-use Rattle.std.proofs.Common.{◌≡◌, ℕ, ◌<◌, ◌≤◌, ◌⊎◌, inl, inr, Bool, true, false, not, ◌||◌, ◌&&◌, List, [], ◌∷◌, ◌++◌, filter, refl, sym, ap, ap₂, ◌∙◌, subst, arith, Option, Some, None, nat_lt, append_assoc, append-nil, if◌then◌else◌, cond}
-use Rattle.std.proofs.lemmas.List.Elements.{filter-append}
-use Rattle.std.proofs.lemmas.Bool.{cases_Bool, lt-ltb, le-ltb}
-use Rattle.obs_epoch.specs.inner.Names.{GatherSetup, Heard, ends_epoch, Timed, max_known, greatest_time, is_closed, taken_at, timed, time_of, is_late, times, is_shut, closed_times, option_map_or}
+use Rattle.obs_epoch.proofs.Names.{◌≡◌, ℕ, ◌<◌, ◌≤◌, ◌⊎◌, inl, inr, Bool, true, false, not, ◌||◌, ◌&&◌, List, [], ◌∷◌, ◌++◌, filter, refl, sym, ap, ap₂, ◌∙◌, subst, arith, Option, Some, None, nat_lt, append_assoc, append-nil, if◌then◌else◌, cond, filter-append, cases_Bool, lt-ltb, le-ltb, GatherSetup, Heard, ends_epoch, Timed, max_known, greatest_time, is_closed, taken_at, timed, time_of, is_late, times, is_shut, closed_times, option_map_or, common_steps}
 use Rattle.obs_epoch.proofs.TimesLemmas.{or_true, some_eq, greatest-push, max_known-none, greatest-present, greater-absent, none-absent, closed-push, closed-new, next, timed-push}
 use Rattle.obs_epoch.proofs.ClockLemmas.{at_self, Follows, follows, first, greater, equal}
-use Rattle.std.proofs.lemmas.Grind.{common_steps}
 
 -- All are less than g.
 abbrev pub Below : ℕ → List ℕ → Type 0

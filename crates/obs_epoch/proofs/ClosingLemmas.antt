@@ -1,11 +1,8 @@
 -- The epoch that a step closes is the one that the longer list closes.
-use Rattle.std.proofs.Common.{◌≡◌, ℕ, Bool, true, false, not, ◌&&◌, List, [], ◌∷◌, ◌++◌, refl, sym, ap, ap₂, ◌∙◌, arith, Option, Some, None, nat_lt, append-nil, if◌then◌else◌, option_to_list}
-use Rattle.obs_epoch.specs.inner.Names.{Kind, CellCounts, GatherSetup, Heard, ends_epoch, is_own, Timed, greatest_time, is_closed, taken_at, State, is_pending, closes_first, no_counts, is_close_first, is_accepted, kind_after, closed_times, closed_so_far, option_map_or}
-use Rattle.obs_epoch.specs.inner.Step.{closed_of, closed_time}
+use Rattle.obs_epoch.proofs.Names.{◌≡◌, ℕ, Bool, true, false, not, ◌&&◌, List, [], ◌∷◌, ◌++◌, refl, sym, ap, ap₂, ◌∙◌, arith, Option, Some, None, nat_lt, append-nil, if◌then◌else◌, option_to_list, Kind, CellCounts, GatherSetup, Heard, ends_epoch, is_own, Timed, greatest_time, is_closed, taken_at, State, is_pending, closes_first, no_counts, is_close_first, is_accepted, kind_after, closed_times, closed_so_far, option_map_or, closed_of, closed_time, common_steps}
 use Rattle.obs_epoch.proofs.TimesLemmas.{next}
 use Rattle.obs_epoch.proofs.ClockLemmas.{standing, takes, same_time, Follows, first, greater, equal, new_time}
 use Rattle.obs_epoch.proofs.ClosedLemmas.{when, no_greatest, taken_follows, closed-push_none, closed-push_greater, closed-push_same, closed-push_first}
-use Rattle.std.proofs.lemmas.Grind.{common_steps}
 
 either : (m c : Bool) (g : ℕ) → when (not c && m) g ≡ option_to_list (if m && not c then Some g else None)
 either m c g = grind (arith, common_steps)

@@ -1,17 +1,10 @@
 -- Counting cell by cell gives the counts of the whole message.
-use Rattle.std.proofs.Common.{◌≡◌, ℕ, ◌+◌, ◌≤◌, Bool, true, false, not, ◌||◌, ◌&&◌, List, [], ◌∷◌, ◌++◌, filter, refl, sym, ap, ap₂, ◌∙◌, subst, arith, length, append_assoc, append-nil, length-append, nat_le, if◌then◌else◌, cond, count_by, length-take-le, take_all, flat_map}
+use Rattle.obs_epoch.proofs.Names.{◌≡◌, ℕ, ◌+◌, ◌≤◌, Bool, true, false, not, ◌||◌, ◌&&◌, List, [], ◌∷◌, ◌++◌, filter, refl, sym, ap, ap₂, ◌∙◌, subst, arith, length, append_assoc, append-nil, length-append, nat_le, if◌then◌else◌, cond, count_by, length-take-le, take_all, flat_map, systems, Glonass, system_same, any_system, sum_grown, sum_by-cons, System, is_system, list_any, Crowded, Kept, Repeated, Skipped, count_in, GatherSetup, HeardCell, no_counts, counts_of, is_of_system, is_among, kept, kept_of_all, kept_without, lacks_channel, is_planned, has_same_key, most_cells, CellCounts, common_steps, or-false}
 use Rattle.std.proofs.lemmas.List.Concat.{length-flat_map}
-use Rattle.gnss_system.specs.Systems.{systems}
-use Rattle.gnss_system.specs.declared.system.System.TheVariants.{Glonass}
-use Rattle.gnss_system.proofs.SystemLaws.{system_same, any_system, sum_grown}
-use Rattle.std.proofs.lemmas.List.Sums.{sum_by-cons}
 use Rattle.std.proofs.lemmas.List.Folds.{list_any-append}
-use Rattle.obs_epoch.specs.inner.Names.{System, is_system, list_any, Crowded, Kept, Repeated, Skipped, count_in, GatherSetup, HeardCell, no_counts, counts_of, is_of_system, is_among, kept, kept_of_all, kept_without, lacks_channel, is_planned, has_same_key, most_cells, CellCounts}
 use Rattle.obs_epoch.proofs.CellsLemmas.{kept-add, mine, mine-among, among-push, same_key_laws, key_system}
 use Rattle.obs_epoch.proofs.NotingLemmas.{kept_apart}
 use Rattle.obs_epoch.proofs.LoadLemmas.{counts_after, outcome_after, planned_one}
-use Rattle.std.proofs.lemmas.Grind.{common_steps}
-use Rattle.std.proofs.Math.Bool.{or-false}
 
 -- A key is among the kept cells of all systems exactly if it is among those of its system.
 among_over : (ss : List System) (xs : List HeardCell) (p : HeardCell) → is_among (flat_map (λ s. kept s xs) ss) p ≡ (list_any (is_system p.satellite.system) ss && is_among (kept p.satellite.system xs) p)

@@ -1,13 +1,5 @@
 -- The cells of a message, one by one: those that are listed, and the number of others.
-use Rattle.gnss_obs.specs.Channels.{ChannelsValue}
-use Rattle.gnss_obs.specs.Observables.{phase_by}
-use Rattle.obs_epoch.specs.Heard.{GatherSetup}
-use Rattle.obs_epoch.specs.inner.GathererSteps.{load_entry, planned_cell}
-use Rattle.obs_epoch.specs.Clock.{State}
-use Rattle.obs_epoch.specs.GathererAfter.{GathererValue}
-use Rattle.obs_epoch.specs.inner.Names.{System, Entry, Cell, cells_counted, heard_cell, CellOutcome, count_in, lacks_channel, seen_in, unlisted_in, HeardCell, with_skipped, Loaded, load, load_one, load_entries, with_unlisted, outcome_in, hold, hold_by, CellCounts, option_map_or, cons_option, Form}
-use Rattle.std.proofs.Common.{◌≡◌, ℕ, ◌+◌, ◌≤◌, ℤ, ◌&&◌, not, Bool, List, [], ◌∷◌, refl, ap, ◌∙◌, arith, Option, Some, None, is_some, filter_map, cond, option_and_then}
-use Rattle.std.proofs.lemmas.Grind.{common_steps}
+use Rattle.obs_epoch.proofs.Names.{ChannelsValue, phase_by, GatherSetup, load_entry, planned_cell, State, GathererValue, System, Entry, Cell, cells_counted, heard_cell, CellOutcome, count_in, lacks_channel, seen_in, unlisted_in, HeardCell, with_skipped, Loaded, load, load_one, load_entries, with_unlisted, outcome_in, hold, hold_by, CellCounts, option_map_or, cons_option, Form, ◌≡◌, ℕ, ◌+◌, ◌≤◌, ℤ, ◌&&◌, not, Bool, List, [], ◌∷◌, refl, ap, ◌∙◌, arith, Option, Some, None, is_some, filter_map, cond, option_and_then, common_steps}
 
 later_count : (b : Bool) (k : CellOutcome) (n : ℕ) (c : CellCounts) → count_in b k (with_skipped n c) ≡ with_skipped n (count_in b k c)
 later_count b k n c = grind (arith, common_steps)

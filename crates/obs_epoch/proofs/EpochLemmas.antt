@@ -1,11 +1,7 @@
 -- A closed epoch is the same after every message.
-use Rattle.std.proofs.Common.{◌≡◌, ℕ, ◌<◌, Bool, List, [], ◌∷◌, ◌++◌, filter, refl, sym, ap, ◌∙◌, subst, arith, Option, Some, None, nat_lt, append-nil, cond, filter_map}
-use Rattle.std.proofs.lemmas.List.Elements.{filter-append}
-use Rattle.obs_epoch.specs.inner.Names.{System, GatherSetup, HeardCell, Timed, greatest_time, offered, kept, cells_at, sorted, planned_of, times, locked_at, previous, lli_of, cells_with_lli, epoch_at, closed_times, is_closed, is_shut}
+use Rattle.obs_epoch.proofs.Names.{◌≡◌, ℕ, ◌<◌, Bool, List, [], ◌∷◌, ◌++◌, filter, refl, sym, ap, ◌∙◌, subst, arith, Option, Some, None, nat_lt, append-nil, cond, filter_map, filter-append, System, GatherSetup, HeardCell, Timed, greatest_time, offered, kept, cells_at, sorted, planned_of, times, locked_at, previous, lli_of, cells_with_lli, epoch_at, closed_times, is_closed, is_shut, common_steps, le-ltb}
 use Rattle.obs_epoch.proofs.ClockLemmas.{Follows, first, greater, equal}
 use Rattle.obs_epoch.proofs.ClosedLemmas.{Below, IsLess, when, one_fails, times-push_new, times-push_same, times-push_none, no_times, ends, closed_is}
-use Rattle.std.proofs.lemmas.Grind.{common_steps}
-use Rattle.std.proofs.lemmas.Bool.{le-ltb}
 
 -- The message isn't accepted, or has a later time.
 abbrev pub IsLater : ℕ → Option ℕ → Type 0

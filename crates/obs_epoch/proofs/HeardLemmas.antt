@@ -1,9 +1,6 @@
 -- A step of the clock, when the epoch that it closes is still pending.
-use Rattle.std.proofs.Common.{◌≡◌, true, false, ◌||◌, ◌&&◌, arith, Option, is_some, ℕ}
-use Rattle.obs_epoch.specs.inner.Names.{Heard, KeepsEpoch, State, ends_epoch, ended_where, open_by, is_accepted, is_close_first, is_same, kind_by, no_counts, step_by}
-use Rattle.obs_epoch.specs.inner.Step.{closed_time}
+use Rattle.obs_epoch.proofs.Names.{◌≡◌, true, false, ◌||◌, ◌&&◌, arith, Option, is_some, ℕ, Heard, KeepsEpoch, State, ends_epoch, ended_where, open_by, is_accepted, is_close_first, is_same, kind_by, no_counts, step_by, closed_time, common_steps}
 use Rattle.obs_epoch.proofs.ClockLemmas.{same_state}
-use Rattle.std.proofs.lemmas.Grind.{common_steps}
 
 -- A pending epoch has a time.
 abbrev pub IsKnown : State → Type 0

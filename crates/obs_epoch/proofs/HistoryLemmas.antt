@@ -1,14 +1,8 @@
 -- The epochs of a list after one more message, with their station values.
-use Rattle.std.proofs.Common.{◌≡◌, ℕ, Bool, true, false, not, List, [], ◌∷◌, ◌++◌, filter, refl, sym, ap, ap₂, ◌∙◌, subst, arith, Option, Some, None, nat_lt, append_assoc, append-nil, if◌then◌else◌, cond, option_to_list}
-use Rattle.std.proofs.lemmas.List.{map-append}
-use Rattle.obs_epoch.specs.inner.Names.{GatherSetup, Heard, ends_epoch, Timed, max_known, greatest_time, is_closed, taken_at, timed, times, is_shut, closed_times, epoch_at, values_of, is_pending, EpochValue, option_map_or, list_any}
-use Rattle.rtcm_bits.specs.Prefix.{IsPrefix}
-use Rattle.obs_epoch.specs.GathererHistory.{open_after, before_closing, closed_at, closed_list, closed_list_at, whole_list}
+use Rattle.obs_epoch.proofs.Names.{◌≡◌, ℕ, Bool, true, false, not, List, [], ◌∷◌, ◌++◌, filter, refl, sym, ap, ap₂, ◌∙◌, subst, arith, Option, Some, None, nat_lt, append_assoc, append-nil, if◌then◌else◌, cond, option_to_list, map-append, GatherSetup, Heard, ends_epoch, Timed, max_known, greatest_time, is_closed, taken_at, timed, times, is_shut, closed_times, epoch_at, values_of, is_pending, EpochValue, option_map_or, list_any, IsPrefix, open_after, before_closing, closed_at, closed_list, closed_list_at, whole_list, common_steps, prefix_self}
 use Rattle.obs_epoch.proofs.TimesLemmas.{next, timed-push, greatest-push}
 use Rattle.obs_epoch.proofs.ClosedLemmas.{ends, no_times, closed_is, when, taken_follows, grows_by}
 use Rattle.obs_epoch.proofs.EpochLemmas.{AllLater, IsLater, epoch_at-push, times_before, all_later}
-use Rattle.std.proofs.lemmas.Grind.{common_steps}
-use Rattle.rtcm_bits.proofs.SmallLaws.{prefix_self}
 
 -- ---- a closed epoch stays closed
 

@@ -1,9 +1,7 @@
 -- The outcome of a message: whether it is expected again.
-use Rattle.std.proofs.Common.{◌≡◌, Bool, true, false, List, refl, sym, ap, ◌∙◌, subst, arith, Option, Some, None, is_some}
-use Rattle.obs_epoch.specs.inner.Names.{GatherSetup, Heard, Closed, timed, State, closes_first, kind_by, is_close_first, kind_of, with_counts, no_counts, GathererValue, take_step, HasTakenMessages, HasGatheredEpochs, IsAwaited, CellCounts}
+use Rattle.obs_epoch.proofs.Names.{◌≡◌, Bool, true, false, List, refl, sym, ap, ◌∙◌, subst, arith, Option, Some, None, is_some, GatherSetup, Heard, Closed, timed, State, closes_first, kind_by, is_close_first, kind_of, with_counts, no_counts, GathererValue, take_step, HasTakenMessages, HasGatheredEpochs, IsAwaited, CellCounts, common_steps}
 use Rattle.obs_epoch.proofs.TakeLemmas.{taken, closes_it, not_first}
 use Rattle.obs_epoch.proofs.ReturnedLemmas.{not_done}
-use Rattle.std.proofs.lemmas.Grind.{common_steps}
 
 -- The counts are only in the outcome of an accepted message.
 pub counted_kind : (g : State) (n : CellCounts) (m : Heard) → with_counts n (kind_by g no_counts m) ≡ kind_by g n m

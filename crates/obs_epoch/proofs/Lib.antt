@@ -1,3 +1,4 @@
+pub mod Names
 pub mod ClosingLemmas
 pub mod LoadLemmas
 pub mod EpochLemmas

@@ -1,12 +1,8 @@
 -- The cells of one more message, kept one by one, are the kept cells of the longer list.
-use Rattle.std.proofs.Common.{[], ◌≡◌, ℕ, suc, Bool, true, false, not, ◌||◌, ◌&&◌, List, ◌∷◌, ◌++◌, filter, refl, sym, ap, ap₂, ◌∙◌, arith, length, append_assoc, append-nil, Option, nat_le, if◌then◌else◌, cond}
-use Rattle.obs_epoch.specs.inner.Names.{System, CellOutcome, Crowded, Kept, Repeated, Skipped, count_in, lookup, outcome_by, outcome_of, outcome_of_added, is_held, GatherSetup, HeardCell, kept_cell, is_of_system, is_among, kept, add, is_planned, lacks_channel, has_same_key, lli_with, GathererValue, with_more, outcome_in, hold, hold_by, load, PlanValue, planned_of, most_cells, EpochValue, cells_of, insert_by, sort_key_of, sorted, cell_sort_key, Cell, KnownLock, CellCounts}
+use Rattle.obs_epoch.proofs.Names.{[], ◌≡◌, ℕ, suc, Bool, true, false, not, ◌||◌, ◌&&◌, List, ◌∷◌, ◌++◌, filter, refl, sym, ap, ap₂, ◌∙◌, arith, length, append_assoc, append-nil, Option, nat_le, if◌then◌else◌, cond, System, CellOutcome, Crowded, Kept, Repeated, Skipped, count_in, lookup, outcome_by, outcome_of, outcome_of_added, is_held, GatherSetup, HeardCell, kept_cell, is_of_system, is_among, kept, add, is_planned, lacks_channel, has_same_key, lli_with, GathererValue, with_more, outcome_in, hold, hold_by, load, PlanValue, planned_of, most_cells, EpochValue, cells_of, insert_by, sort_key_of, sorted, cell_sort_key, Cell, KnownLock, CellCounts, tabulate, value_tabulated, system_same, system_self, common_steps}
 use Rattle.gnss_obs.specs.declared.epoch_cells.Added.TheVariants as added
-use Rattle.gnss_system.specs.SystemValues.{tabulate}
-use Rattle.gnss_system.proofs.SystemLaws.{value_tabulated, system_same, system_self}
 use Rattle.obs_epoch.proofs.CellsLemmas.{kept-add}
 use Rattle.obs_epoch.proofs.OrderLemmas.{sorted-push, among-sorted, length-sorted}
-use Rattle.std.proofs.lemmas.Grind.{common_steps}
 
 -- Cells with their loss of lock indicators, from the earlier locks of their keys.
 abbrev pub with_lli_by : (HeardCell → Option KnownLock) → ℕ → List HeardCell → List Cell

@@ -1,22 +1,7 @@
 -- The entries of lost lock after one more epoch.
-use Rattle.std.proofs.Common.{◌≡◌, ℕ, zero, suc, ◌+◌, ◌==◌, ◌%◌, ◌<◌, Bool, true, false, not, ◌&&◌, ◌||◌, List, [], ◌∷◌, ◌++◌, map, flat_map, length, get_or, set, replicate, refl, sym, ap, ◌∙◌, subst, arith, is_some, if◌then◌else◌, length-set}
-use Rattle.std.specs.List.{list_any}
-use Rattle.std.proofs.lemmas.List.{length-replicate}
-use Rattle.std.proofs.lemmas.Grind.{common_steps}
-use Rattle.gnss_system.proofs.SystemLaws.{value_after, value_tabulated}
-use Rattle.gnss_system.specs.Systems.{systems}
-use Rattle.obs_epoch.specs.declared.choice.Choice.{Choice}
-use Rattle.obs_epoch.specs.Choices.{on_grid}
-use Rattle.obs_epoch.specs.inner.Marks.{any_loss, carried_from, has_loss, mark_at, no_marks, note_losses, note_lost, note_systems_lost, with_mark_in}
-use Rattle.obs_epoch.specs.GathererHistory.{AreMarks, is_lost_in}
-use Rattle.obs_epoch.specs.inner.Names.{Cell, Closed, EpochValue, System, cells_of, has_listed_key, has_same_key, heard_cell, lock_place, most_locks}
-use Rattle.obs_epoch.specs.Thinning.{all_cells, has_cell, has_phase, is_marked, lost_before, mark_if, marked_epoch}
+use Rattle.obs_epoch.proofs.Names.{◌≡◌, ℕ, zero, suc, ◌+◌, ◌==◌, ◌%◌, ◌<◌, Bool, true, false, not, ◌&&◌, ◌||◌, List, [], ◌∷◌, ◌++◌, map, flat_map, length, get_or, set, replicate, refl, sym, ap, ◌∙◌, subst, arith, is_some, if◌then◌else◌, length-set, list_any, length-replicate, common_steps, value_after, value_tabulated, systems, Choice, on_grid, any_loss, carried_from, has_loss, mark_at, no_marks, note_losses, note_lost, note_systems_lost, with_mark_in, AreMarks, is_lost_in, Cell, Closed, EpochValue, System, cells_of, has_listed_key, has_same_key, heard_cell, lock_place, most_locks, all_cells, has_cell, has_phase, is_marked, lost_before, mark_if, marked_epoch, marked_at, marked_in, with_mark, with_value_of, BySystem, or-false}
 use Rattle.obs_epoch.proofs.PlaceLemmas.{listed_from, place_one, place_within, same_place}
-use Rattle.gnss_obs.specs.Marked.{marked_at, marked_in, with_mark}
-use Rattle.gnss_system.specs.SystemValues.{with_value_of}
-use Rattle.gnss_system.specs.declared.by_system.BySystem.{BySystem}
 use Rattle.obs_epoch.proofs.ThinLemmas.{AllListedCells, HasListedCells, any-append, lost-push, no_phase, none_lost}
-use Rattle.std.proofs.Math.Bool.{or-false}
 
 abbrev same_cell : Cell → Cell → Bool
 same_cell x y = has_same_key (heard_cell x) (heard_cell y)

@@ -1,11 +1,6 @@
 -- Cells in order.
-use Rattle.std.proofs.Common.{◌≡◌, ℕ, List, [], ◌∷◌, ◌++◌, sym, arith, length, fold}
-use Rattle.std.proofs.lemmas.Map.Keys.{IsDistinct-IsPermutation}
-use Rattle.std.proofs.lemmas.List.Sorted.{list_any-IsPermutation, length_permutation}
-use Rattle.gnss_obs.proofs.OrderLaws.{all-insert_by, sort_moves}
-use Rattle.obs_epoch.specs.inner.Names.{is_among, has_same_key, insert_by, sort_key_of, sorted, HeardCell, AllByRecursion, IsDistinct}
+use Rattle.obs_epoch.proofs.Names.{◌≡◌, ℕ, List, [], ◌∷◌, ◌++◌, sym, arith, length, fold, IsDistinct-IsPermutation, list_any-IsPermutation, length_permutation, all-insert_by, sort_moves, is_among, has_same_key, insert_by, sort_key_of, sorted, HeardCell, AllByRecursion, IsDistinct, common_steps}
 use Rattle.obs_epoch.proofs.CellsLemmas.{same_key_laws}
-use Rattle.std.proofs.lemmas.Grind.{common_steps}
 
 -- ---- the same cells
 

@@ -1,11 +1,5 @@
 -- The places of the lock records: within the total, and different for different keys.
-use Rattle.std.proofs.Common.{◌≡◌, ◌+◌, ◌<◌, ◌≤◌, true, nat_le, length, refl, arith}
-use Rattle.std.proofs.lemmas.Grind.{common_steps}
-use Rattle.gnss_system.specs.Satellites.{satellites}
-use Rattle.gnss_system.proofs.SystemLaws.{each_system}
-use Rattle.gnss_system.specs.Signals.{first_key, keys_of}
-use Rattle.obs_epoch.specs.inner.Names.{System, table, has_listed_key, has_same_key, lock_place, most_locks, HeardCell}
-use Rattle.std.proofs.lemmas.Bool.{leb-true}
+use Rattle.obs_epoch.proofs.Names.{◌≡◌, ◌+◌, ◌<◌, ◌≤◌, true, nat_le, length, refl, arith, common_steps, satellites, each_system, first_key, keys_of, System, table, has_listed_key, has_same_key, lock_place, most_locks, HeardCell, leb-true}
 
 -- ---- the range of a system
 

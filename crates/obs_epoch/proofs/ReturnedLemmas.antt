@@ -1,12 +1,5 @@
 -- A call of the gatherer returns the epoch that the longer list closes.
-use Rattle.std.proofs.Common.{◌≡◌, ℕ, Bool, true, false, ◌||◌, ◌&&◌, List, [], ◌∷◌, ◌++◌, refl, sym, ap, ap₂, ◌∙◌, subst, arith, Option, Some, None, is_some, nat_lt, append-nil, if◌then◌else◌, option_to_list}
-use Rattle.std.proofs.lemmas.List.{map-append}
-use Rattle.obs_epoch.specs.inner.Names.{GatherSetup, Heard, Closed, Timed, is_at, greatest_time, is_closed, taken_at, timed, times, is_shut, closed_times, closed_so_far, values_of, is_pending, closes_first, GathererValue, take_step, end_step, noted, HasTakenMessages, held_at, option_map_or, list_any}
-use Rattle.obs_epoch.specs.inner.Step.{closed_time as closes}
-use Rattle.rtcm_bits.specs.Prefix.{IsPrefix}
-use Rattle.obs_epoch.specs.GathererHistory.{closed_at, closed_list, closed_list_at, closed_so_far_of, closed_by, returned_epoch, is_done, whole_list, HasGatheredEpochs}
-use Rattle.obs_epoch.specs.inner.GathererSteps.{thinned_if}
-use Rattle.obs_epoch.specs.inner.Names.{State, step_by}
+use Rattle.obs_epoch.proofs.Names.{◌≡◌, ℕ, Bool, true, false, ◌||◌, ◌&&◌, List, [], ◌∷◌, ◌++◌, refl, sym, ap, ap₂, ◌∙◌, subst, arith, Option, Some, None, is_some, nat_lt, append-nil, if◌then◌else◌, option_to_list, map-append, GatherSetup, Heard, Closed, Timed, is_at, greatest_time, is_closed, taken_at, timed, times, is_shut, closed_times, closed_so_far, values_of, is_pending, closes_first, GathererValue, take_step, end_step, noted, HasTakenMessages, held_at, option_map_or, list_any, closes, IsPrefix, closed_at, closed_list, closed_list_at, closed_so_far_of, closed_by, returned_epoch, is_done, whole_list, HasGatheredEpochs, thinned_if, State, step_by, common_steps, prefix_self}
 use Rattle.obs_epoch.proofs.ThinnedLemmas.{Before, closed_one, thinned_gathers}
 use Rattle.obs_epoch.proofs.TimesLemmas.{next, timed-push, greater-absent, none-absent, some_eq}
 use Rattle.obs_epoch.proofs.ClockLemmas.{Follows, first, greater, equal, new_time, same_time, standing as standing_at}
@@ -15,8 +8,6 @@ use Rattle.obs_epoch.proofs.ClosingLemmas.{closing}
 use Rattle.obs_epoch.proofs.OneStepLemmas.{closed_later}
 use Rattle.obs_epoch.proofs.TakeLemmas.{taken, closes_it, ended, Ended, times_taken, time_taken, pending_taken, IsSet, no_point_given, same_values, clock_stepped, counts_stepped, handed_is, ended_is, marks_stepped}
 use Rattle.obs_epoch.proofs.HistoryLemmas.{each_filter, each_front, each_back, list-push, before_all, before-push, pending_open, with_pending}
-use Rattle.std.proofs.lemmas.Grind.{common_steps}
-use Rattle.rtcm_bits.proofs.SmallLaws.{prefix_self}
 
 -- ---- which epoch is new
 

@@ -1,16 +1,7 @@
 -- The definitions computed on small lists.
 use Rattle.obs_epoch.specs.declared.setup.Gather.TheVariants as gathers
+use Rattle.obs_epoch.proofs.Names.{Glonass, tow_of, ◌≡◌, ℕ, ◌+◌, ◌*◌, ◌^◌, Bool, true, false, List, [], ◌∷◌, map, refl, Option, Some, None, pos, ℤ, Gps, GatherSetup, Heard, HeardCell, timed, counts_of, no_values, EpochValue, Cell, of_two, plan_with, week, first_week, every_epoch, closed_times, epoch_at, epochs}
 use Rattle.obs_epoch.specs.declared.week.Start.TheVariants.{Week}
-use Rattle.gnss_system.specs.declared.system.System.TheVariants.{Glonass}
-use Rattle.obs_epoch.specs.Heard.{tow_of}
-use Rattle.std.proofs.Common.{◌≡◌, ℕ, ◌+◌, ◌*◌, ◌^◌, Bool, true, false, List, [], ◌∷◌, map, refl, Option, Some, None, pos, ℤ}
-use Rattle.obs_epoch.specs.inner.Names.{Gps, GatherSetup, Heard, HeardCell, timed, counts_of, no_values, EpochValue, Cell}
-use Rattle.gnss_system.specs.SystemValues.{of_two}
-use Rattle.gnss_obs.specs.Values.{plan_with}
-use Rattle.rtcm_msg.specs.Msm.{week}
-use Rattle.obs_epoch.specs.Starts.{first_week}
-use Rattle.obs_epoch.specs.Choices.{every_epoch}
-use Rattle.obs_epoch.specs.Epochs.{closed_times, epoch_at, epochs}
 
 abbrev setup : GatherSetup
 setup = record { plan = plan_with (of_two (2 ∷ []) (2 ∷ []) []); start = Week 2300; station = Some 7; gather = gathers.Bit; initial = no_values; leap_seconds = 18; choice = every_epoch }

@@ -1,18 +1,6 @@
 -- The counts of the cells with a value, and of those of a message.
-use Rattle.obs_epoch.specs.inner.Names.{System, Satellite, SignalAt, LockTime, Entry, Heard, seen_in, observed, HeardCell, SignalCountsValue, brings_value, valued, is_of_signal, count_of, AreSignalCounts, cons_option, Form}
-use Rattle.obs_epoch.specs.inner.Names.{satellite_of_id}
-use Rattle.obs_epoch.specs.SignalCounts.{every_channel}
-use Rattle.gnss_obs.specs.Channels.{hertz_by, hertz_in, number_at, slot_count}
-use Rattle.gnss_system.specs.Satellites.{IsSatellite, satellites}
-use Rattle.gnss_system.specs.declared.system.System.TheVariants.{Glonass}
-use Rattle.std.proofs.Common.{◌<◌, ◌-◌, None, true, refl}
+use Rattle.obs_epoch.proofs.Names.{System, Satellite, SignalAt, LockTime, Entry, Heard, seen_in, observed, HeardCell, SignalCountsValue, brings_value, valued, is_of_signal, count_of, AreSignalCounts, cons_option, Form, satellite_of_id, every_channel, hertz_by, hertz_in, number_at, slot_count, IsSatellite, satellites, Glonass, ◌<◌, ◌-◌, None, true, refl, get_or-replicate, length-replicate, most_signals, value_of, ◌≡◌, ◌∙◌, ap, get_or, replicate, ℕ, ◌≤◌, List, [], ◌++◌, length, sym, subst, arith, Option, Some, filter, is_some, filter_map, unwrap_or, common_steps, length-filter-le, length-filter_map-le}
 use Rattle.rtcm_msg.specs.inner.Presences.{has_value}
-use Rattle.std.proofs.lemmas.List.{get_or-replicate, length-replicate}
-use Rattle.gnss_system.specs.Signals.{most_signals}
-use Rattle.gnss_system.specs.SystemValues.{value_of}
-use Rattle.std.proofs.Common.{◌≡◌, ◌∙◌, ap, get_or, replicate, ℕ, ◌≤◌, List, [], ◌++◌, length, sym, subst, arith, Option, Some, filter, is_some, filter_map, unwrap_or}
-use Rattle.std.proofs.lemmas.Grind.{common_steps}
-use Rattle.rtcm_bits.proofs.SmallLaws.{length-filter-le, length-filter_map-le}
 
 -- ---- the cells of a signal
 

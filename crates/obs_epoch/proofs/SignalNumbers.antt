@@ -1,19 +1,9 @@
 -- Cells are counted signal by signal.
-use Rattle.std.proofs.Common.{◌≡◌, ℕ, zero, suc, ◌+◌, ◌-◌, ◌<◌, ◌≤◌, ◌^◌, ◌==◌, ◌&&◌, ◌||◌, not, List, [], ◌∷◌, ◌++◌, length, get_or, filter, Bool, true, false, Option, Some, None, refl, sym, ap, ◌∙◌, subst, arith, is_some, inl, inr, position, if◌then◌else◌, cond, filter_map, option_map, option_and_then, slice_get}
-use Rattle.std.proofs.lemmas.Bool.{cases_lt, not-true, eqb-true}
-use Rattle.std.proofs.lemmas.Grind.{common_steps}
+use Rattle.obs_epoch.proofs.Names.{◌≡◌, ℕ, zero, suc, ◌+◌, ◌-◌, ◌<◌, ◌≤◌, ◌^◌, ◌==◌, ◌&&◌, ◌||◌, not, List, [], ◌∷◌, ◌++◌, length, get_or, filter, Bool, true, false, Option, Some, None, refl, sym, ap, ◌∙◌, subst, arith, is_some, inl, inr, position, if◌then◌else◌, cond, filter_map, option_map, option_and_then, slice_get, cases_lt, not-true, eqb-true, common_steps, System, ListedSignal, Satellite, is_system, satellite_of_id, SignalAt, IsSignal, id_of, table, signal_of_id, HeardCell, Entry, has_id, is_in, has_listed_value, value_count, seen_in, lock_by, observed, SignalCountsValue, signal_counts, counted, signal_in, counted_more, satellite_set, brings_value, is_of_signal, count_of, CountsEntries, cons_option, option_map_or, Form, id_back, ids_within, system_self, each_system, system_same, short_table, listed_of, odd, ◌/◌, most_signals, hertz_in, every_channel}
 use Rattle.std.proofs.lemmas.List.Quantifiers.{position-Some}
-use Rattle.obs_epoch.specs.inner.Names.{System, ListedSignal, Satellite, is_system, satellite_of_id, SignalAt, IsSignal, id_of, table, signal_of_id, HeardCell, Entry, has_id, is_in, has_listed_value, value_count, seen_in, lock_by, observed, SignalCountsValue, signal_counts, counted, signal_in, counted_more, satellite_set, brings_value, is_of_signal, count_of, CountsEntries, cons_option, option_map_or, Form}
 use Rattle.gnss_system.proofs.CheckedLaws.{passes_at, passes_below}
-use Rattle.gnss_obs.proofs.TableLaws.{id_back, ids_within}
 use Rattle.rtcm_msg.proofs.ValueLaws.{count_first}
 use Rattle.obs_epoch.proofs.SignalCountsLemmas.{every_hertz, value_same, one_first, few_of}
-use Rattle.gnss_system.proofs.SystemLaws.{system_self, each_system, system_same, short_table, listed_of}
-use Rattle.rtcm_bits.specs.Bits.{odd}
-use Rattle.std.proofs.Common.{◌/◌}
-use Rattle.gnss_system.specs.Signals.{most_signals}
-use Rattle.gnss_obs.specs.Channels.{hertz_in}
-use Rattle.obs_epoch.specs.SignalCounts.{every_channel}
 
 -- ---- signals and their IDs
 

@@ -1,6 +1,5 @@
 -- The week of the first observations.
-use Rattle.std.proofs.Common.{arith, refl}
-use Rattle.obs_epoch.specs.Starts.{IsGivenWeek, IsNearestFirst, IsWeekOfWeeks, first_week}
+use Rattle.obs_epoch.proofs.Names.{arith, refl, IsGivenWeek, IsNearestFirst, IsWeekOfWeeks, first_week}
 
 pub given : IsGivenWeek
 unfolding first_week

@@ -1,9 +1,5 @@
 -- The whole step: a property of the list before holds for the list after one more message.
-use Rattle.std.proofs.Common.{◌≡◌, ℕ, Bool, true, false, not, ◌||◌, ◌&&◌, List, [], ◌∷◌, ◌++◌, refl, sym, ap, ap₂, ◌∙◌, subst, arith, append-nil, Option, Some, None, is_some, length, ◌⊎◌, if◌then◌else◌, option_to_list}
-use Rattle.std.proofs.lemmas.List.Sums.{fold-append}
-use Rattle.obs_epoch.specs.inner.Names.{Message, Kind, CloseFirst, CellCounts, GatherSetup, Heard, heard_by, is_own, ends_epoch, HeardCell, Timed, greatest_time, taken_at, timed, no_counts, with_skipped, offered, counts_of, counts_of_message, epoch_at, closed_so_far, closed_times, values_of, values_after_message, State, HasHeardMessages, is_pending, closes_first, is_close_first, is_accepted, kind_after, with_unlisted, GathererValue, Loaded, empty_epoch, noted, load, loaded_if, loaded_where, outcome_in, load_one, with_time, begun_by, closed_if, closed_noted, epoch_begun, shut_where, ended_where, open_by, take_step, end_step, is_same, KnownLock, held_at, Locked, HasTakenMessages, EpochValue, cells_of, option_map_or}
-use Rattle.obs_epoch.specs.GathererAfter.{HasAsManyCells}
-use Rattle.obs_epoch.specs.inner.Step.{kind_by, step_by, closed_time, closed_of}
+use Rattle.obs_epoch.proofs.Names.{◌≡◌, ℕ, Bool, true, false, not, ◌||◌, ◌&&◌, List, [], ◌∷◌, ◌++◌, refl, sym, ap, ap₂, ◌∙◌, subst, arith, append-nil, Option, Some, None, is_some, length, ◌⊎◌, if◌then◌else◌, option_to_list, fold-append, Message, Kind, CloseFirst, CellCounts, GatherSetup, Heard, heard_by, is_own, ends_epoch, HeardCell, Timed, greatest_time, taken_at, timed, no_counts, with_skipped, offered, counts_of, counts_of_message, epoch_at, closed_so_far, closed_times, values_of, values_after_message, State, HasHeardMessages, is_pending, closes_first, is_close_first, is_accepted, kind_after, with_unlisted, GathererValue, Loaded, empty_epoch, noted, load, loaded_if, loaded_where, outcome_in, load_one, with_time, begun_by, closed_if, closed_noted, epoch_begun, shut_where, ended_where, open_by, take_step, end_step, is_same, KnownLock, held_at, Locked, HasTakenMessages, EpochValue, cells_of, option_map_or, HasAsManyCells, kind_by, step_by, closed_time, closed_of, common_steps, or-false, and_parts}
 use Rattle.obs_epoch.proofs.TimesLemmas.{next, timed-push}
 use Rattle.obs_epoch.proofs.ClockLemmas.{standing, same_state, takes, closes, new_time}
 use Rattle.obs_epoch.proofs.ClosedLemmas.{taken_follows}
@@ -13,9 +9,6 @@ use Rattle.obs_epoch.proofs.HeardLemmas.{heard_step, same_latest}
 use Rattle.obs_epoch.proofs.LoadLemmas.{hold_is}
 use Rattle.obs_epoch.proofs.NotingLemmas.{noted_locked}
 use Rattle.obs_epoch.proofs.OneStepLemmas.{locked-push, closed_later, loaded_taken, held_same}
-use Rattle.std.proofs.lemmas.Grind.{common_steps}
-use Rattle.std.proofs.Math.Bool.{or-false}
-use Rattle.std.proofs.lemmas.Bool.{and_parts}
 
 pub clock_is : (g : State) (s : GatherSetup) (ms : List Heard) (shut : Bool) → HasHeardMessages g s ms shut → g ≡ standing s (timed s ms) shut
 clock_is g s ms shut h = same_state g s _ _ h.setup h.latest h.pending

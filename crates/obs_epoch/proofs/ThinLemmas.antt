@@ -1,17 +1,5 @@
 -- The epochs that are returned, of all closed ones.
-use Rattle.std.proofs.Common.{◌≡◌, ℕ, suc, ◌+◌, Bool, true, false, ◌&&◌, ◌||◌, List, [], ◌∷◌, ◌++◌, map, filter, length, refl, sym, ap, ap₂, ◌∙◌, arith, append_assoc, append-nil, length-append, is_some, if◌then◌else◌}
-use Rattle.std.specs.List.{AllByRecursion, list_any}
-use Rattle.std.proofs.lemmas.List.Elements.{filter-append}
-use Rattle.std.proofs.lemmas.Grind.{common_steps}
-use Rattle.rtcm_bits.specs.Prefix.{IsPrefix}
-use Rattle.gnss_system.proofs.SystemLaws.{equal_values, tabulated_same, value_tabulated}
-use Rattle.obs_epoch.specs.declared.choice.Choice.{Choice}
-use Rattle.obs_epoch.specs.Choices.{in_window, on_grid}
-use Rattle.obs_epoch.specs.inner.Marks.{counted_epoch}
-use Rattle.obs_epoch.specs.GathererHistory.{capped_counts}
-use Rattle.obs_epoch.specs.inner.Names.{Cell, Closed, EpochValue, System, cells_of, has_listed_key, heard_cell}
-use Rattle.gnss_obs.specs.Marked.{with_mark}
-use Rattle.obs_epoch.specs.Thinning.{after_latest, counts_left_out, ends_carrying, has_cell, has_phase, is_left_out, is_marked, lost_before, mark_if, marked_epoch, thin, thin_after, up_to_most}
+use Rattle.obs_epoch.proofs.Names.{◌≡◌, ℕ, suc, ◌+◌, Bool, true, false, ◌&&◌, ◌||◌, List, [], ◌∷◌, ◌++◌, map, filter, length, refl, sym, ap, ap₂, ◌∙◌, arith, append_assoc, append-nil, length-append, is_some, if◌then◌else◌, AllByRecursion, list_any, filter-append, common_steps, IsPrefix, equal_values, tabulated_same, value_tabulated, Choice, in_window, on_grid, counted_epoch, capped_counts, Cell, Closed, EpochValue, System, cells_of, has_listed_key, heard_cell, with_mark, after_latest, counts_left_out, ends_carrying, has_cell, has_phase, is_left_out, is_marked, lost_before, mark_if, marked_epoch, thin, thin_after, up_to_most}
 use Rattle.obs_epoch.proofs.TimesLemmas.{list_any-push}
 
 -- ---- more epochs

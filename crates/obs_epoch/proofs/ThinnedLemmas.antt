@@ -1,23 +1,9 @@
 -- The epoch closed last, as it is returned.
-use Rattle.std.proofs.Common.{◌≡◌, ℕ, Bool, true, false, ◌||◌, ◌&&◌, List, [], ◌∷◌, ◌++◌, refl, sym, ap, ap₂, ◌∙◌, subst, Option, Some, None, is_some, IfSome, nat_lt, not, append-nil, if◌then◌else◌, option_to_list, arith}
-use Rattle.gnss_system.proofs.SystemLaws.{value_tabulated}
-use Rattle.rtcm_bits.specs.Prefix.{IsPrefix}
-use Rattle.gnss_obs.specs.Values.{satellites_written}
-use Rattle.obs_epoch.specs.declared.choice.Choice.{Choice}
-use Rattle.obs_epoch.specs.Choices.{in_window, is_chosen, on_grid}
-use Rattle.obs_epoch.specs.Clock.{closes_first, is_pending}
-use Rattle.obs_epoch.specs.GathererAfter.{HasAsManyCells}
-use Rattle.obs_epoch.specs.GathererHistory.{closed_by, closed_list, closed_list_at, closed_so_far_of, is_done, known_epochs, returned_epoch, whole_list, HasGatheredEpochs}
-use Rattle.obs_epoch.specs.inner.GathererSteps.{thinned, thinned_if}
-use Rattle.obs_epoch.specs.inner.Marks.{carried_from, carried_to, counted_epoch}
-use Rattle.obs_epoch.specs.GathererHistory.{AreMarks, capped_counts, is_lost_in}
-use Rattle.obs_epoch.specs.inner.Names.{Cell, Closed, GatherSetup, GathererValue, HasTakenMessages, Heard, Timed, closed_so_far, held_at, timed}
-use Rattle.obs_epoch.specs.Thinning.{counts_left_out, lost_before, marked_epoch, thin, thin_after}
+use Rattle.obs_epoch.proofs.Names.{◌≡◌, ℕ, Bool, true, false, ◌||◌, ◌&&◌, List, [], ◌∷◌, ◌++◌, refl, sym, ap, ap₂, ◌∙◌, subst, Option, Some, None, is_some, IfSome, nat_lt, not, append-nil, if◌then◌else◌, option_to_list, arith, value_tabulated, IsPrefix, satellites_written, Choice, in_window, is_chosen, on_grid, closes_first, is_pending, HasAsManyCells, closed_by, closed_list, closed_list_at, closed_so_far_of, is_done, known_epochs, returned_epoch, whole_list, HasGatheredEpochs, thinned, thinned_if, carried_from, carried_to, counted_epoch, AreMarks, capped_counts, is_lost_in, Cell, Closed, GatherSetup, GathererValue, HasTakenMessages, Heard, Timed, closed_so_far, held_at, timed, counts_left_out, lost_before, marked_epoch, thin, thin_after, and_parts}
 use Rattle.obs_epoch.proofs.LockLemmas.{AllListed, seens}
 use Rattle.obs_epoch.proofs.MarksLemmas.{marks_push}
 use Rattle.obs_epoch.proofs.NotingLemmas.{are_listed}
 use Rattle.obs_epoch.proofs.ThinLemmas.{AllListedCells, HasListedCells, counts_push, marked_length, marks_none, marks_same, none_lost, thin_append, thin_prefix}
-use Rattle.std.proofs.lemmas.Bool.{and_parts}
 
 -- ---- the cells of an epoch are listed
 

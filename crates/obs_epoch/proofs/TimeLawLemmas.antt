@@ -1,8 +1,6 @@
 -- The times of GLONASS in GPS time.
-use Rattle.std.proofs.Common.{◌≡◌, ℕ, ◌+◌, ◌-◌, ◌*◌, ◌%◌, ◌<◌, arith}
-use Rattle.rtcm_msg.specs.Msm.{time_of_week, week}
+use Rattle.obs_epoch.proofs.Names.{◌≡◌, ℕ, ◌+◌, ◌-◌, ◌*◌, ◌%◌, ◌<◌, arith, time_of_week, week, Glonass}
 use Rattle.obs_epoch.specs.TimeLaws.{IsGlonassTime}
-use Rattle.gnss_system.specs.declared.system.System.TheVariants.{Glonass}
 
 three_hours_later : (n leap : ℕ) → ((n + (week - 10_800_000) + 1000 * leap) % week < week)
     × (((n + (week - 10_800_000) + 1000 * leap) % week + 10_800_000) % week ≡ (n + 1000 * leap) % week)

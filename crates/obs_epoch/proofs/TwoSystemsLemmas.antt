@@ -1,30 +1,11 @@
 -- A conversion of GPS and Galileo alone.
-use Rattle.std.proofs.Common.{◌≡◌, ◌⊎◌, inl, inr, refl, ap, ℕ, List, [], ◌∷◌, Bool, true, false, Option, Some, None, option_and_then, filter_map, Result, Ok, Err, if◌then◌else◌, arith}
-use Rattle.gnss_system.specs.declared.system.System.{System}
-use Rattle.gnss_system.proofs.SystemLaws.{tabulated_same}
-use Rattle.gnss_system.specs.declared.by_system.BySystem.{BySystem}
-use Rattle.gnss_system.specs.declared.system.System.TheVariants.{Gps, Galileo}
-use Rattle.gnss_system.specs.Satellites.{Satellite}
-use Rattle.gnss_system.specs.SystemValues.{of_two, value_of}
-use Rattle.gnss_obs.specs.Channels.{ChannelsValue}
-use Rattle.gnss_obs.specs.HeardCells.{HeardCell}
-use Rattle.gnss_obs.specs.Values.{PlanValue}
-use Rattle.rtcm_bits.specs.Bits.{bits_of}
-use Rattle.rtcm_msg.specs.Decoding.{message_at, message_with}
-use Rattle.rtcm_msg.specs.Encoding.{other_of}
-use Rattle.rtcm_msg.specs.Msm.{MsmValue}
+use Rattle.obs_epoch.proofs.Names.{◌≡◌, ◌⊎◌, inl, inr, refl, ap, ℕ, List, [], ◌∷◌, Bool, true, false, Option, Some, None, option_and_then, filter_map, Result, Ok, Err, if◌then◌else◌, arith, System, tabulated_same, BySystem, Gps, Galileo, Satellite, of_two, value_of, ChannelsValue, HeardCell, PlanValue, bits_of, message_at, message_with, other_of, MsmValue, Entry, Form, Message, heard, heard_msm, heard_of, seen_in, tow_of, unlisted_in, is_always_decoded, is_decoded, set_of, and_parts}
 use Rattle.rtcm_msg.specs.Numbers.{default_set}
 use Rattle.rtcm_msg.specs.Sets.{is_in_set, message_by_table}
-use Rattle.rtcm_msg.specs.declared.entry.Entry.{Entry}
-use Rattle.rtcm_msg.specs.declared.view.Form.{Form}
 use Rattle.rtcm_msg.specs.declared.fault.MsgFault.{MsgFault}
-use Rattle.rtcm_msg.specs.declared.message.Message.{Message}
 use Rattle.rtcm_msg.specs.declared.number.Forms.TheVariants.{FourAndSeven}
 use Rattle.rtcm_msg.specs.declared.number.MsmSet.{MsmSet}
-use Rattle.obs_epoch.specs.Heard.{heard, heard_msm, heard_of, seen_in, tow_of, unlisted_in}
-use Rattle.obs_epoch.specs.Sets.{is_always_decoded, is_decoded, set_of}
 use Rattle.obs_epoch.specs.TwoSystems.{AreReadPlainly, PlansTwo, plain_cell_of, plain_heard, plain_msm, plain_of, plain_unlisted}
-use Rattle.std.proofs.lemmas.Bool.{and_parts}
 
 -- What is decoded is the default set.
 pub default_decoded : (plan : PlanValue) → PlansTwo plan → set_of plan FourAndSeven ≡ default_set

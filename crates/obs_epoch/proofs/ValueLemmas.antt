@@ -1,20 +1,9 @@
 -- The value of a gatherer: with one more cell, after a message, and when its epoch is closed.
-use Rattle.std.proofs.Common.{◌≡◌, ℕ, ◌+◌, Bool, true, false, List, [], ◌∷◌, ◌++◌, map, refl, sym, ap, ◌∙◌, subst, arith, length, Option, is_some, if◌then◌else◌, All}
-use Rattle.std.proofs.lemmas.List.Elements.{All-nil, All-push}
-use Rattle.obs_epoch.specs.inner.Names.{System, Cell, EpochValue, PlanValue, planned_of, cells_of, CellLists, Closed, KeepsEpoch, KnownLock, place_in, is_planned, GatherSetup, Heard, IsKey, HeardCell, kept_cell, lookup, outcome_of_added, values_after_message, StationValues, is_held, GathererValue, with_more_in, with_more, outcome_in, hold, hold_by, begun_by, HasPlannedCells, IsPlanned, empty_epoch, epoch_in, open_by, is_same, no_cells, time_in, Added, IsAdded, cells_after, epoch_with, outcome_by, sorted_cells, sorted_epoch, State, lli_with}
+use Rattle.obs_epoch.proofs.Names.{◌≡◌, ℕ, ◌+◌, Bool, true, false, List, [], ◌∷◌, ◌++◌, map, refl, sym, ap, ◌∙◌, subst, arith, length, Option, is_some, if◌then◌else◌, All, All-nil, All-push, System, Cell, EpochValue, PlanValue, planned_of, cells_of, CellLists, Closed, KeepsEpoch, KnownLock, place_in, is_planned, GatherSetup, Heard, IsKey, HeardCell, kept_cell, lookup, outcome_of_added, values_after_message, StationValues, is_held, GathererValue, with_more_in, with_more, outcome_in, hold, hold_by, begun_by, HasPlannedCells, IsPlanned, empty_epoch, epoch_in, open_by, is_same, no_cells, time_in, Added, IsAdded, cells_after, epoch_with, outcome_by, sorted_cells, sorted_epoch, State, lli_with, AreSortedByPlan, cell_sort_key, carried_to, mark_if, value_of, each_after, value_tabulated, same_after, cleared_if, beq, list_any-IsPermutation, length_permutation, sort_moves, common_steps}
 use Rattle.obs_epoch.specs.declared.choice.EpochCounts.{EpochCounts}
-use Rattle.obs_epoch.specs.inner.Names.{AreSortedByPlan, cell_sort_key}
-use Rattle.obs_epoch.specs.inner.Marks.{carried_to}
-use Rattle.obs_epoch.specs.Thinning.{mark_if}
-use Rattle.gnss_system.specs.SystemValues.{value_of}
-use Rattle.gnss_system.proofs.SystemLaws.{each_after, value_tabulated, with_same as same_after}
-use Rattle.obs_epoch.specs.inner.GathererSteps.{cleared_if}
-use mathlib.Core.Bool.{beq, not}
+use mathlib.Core.Bool.{not}
 use Rattle.obs_epoch.proofs.HeardLemmas.{heard_step}
 use Rattle.gnss_obs.specs.declared.epoch_cells.Added.TheVariants as added
-use Rattle.std.proofs.lemmas.List.Sorted.{list_any-IsPermutation, length_permutation}
-use Rattle.gnss_obs.proofs.OrderLaws.{sort_moves}
-use Rattle.std.proofs.lemmas.Grind.{common_steps}
 
 -- ---- one more cell
 

@@ -1,9 +1,6 @@
 -- A view and its message.
-use Rattle.std.proofs.Common.{arith, ◌≡◌, Bool, true, ℕ}
-use Rattle.gnss_obs.specs.Channels.{ChannelsValue}
+use Rattle.obs_epoch.proofs.Names.{arith, ◌≡◌, Bool, true, ℕ, ChannelsValue, FormedMsm, formed, entries, heard, heard_by, heard_msm, GathererValue, load_entries, loaded_where, no_counts, common_steps}
 use Rattle.obs_epoch.proofs.EntryLemmas.{load_entries_is}
-use Rattle.obs_epoch.specs.inner.Names.{FormedMsm, formed, entries, heard, heard_by, heard_msm, GathererValue, load_entries, loaded_where, no_counts}
-use Rattle.std.proofs.lemmas.Grind.{common_steps}
 
 pub heard_formed : (channels : ChannelsValue) (leap : ℕ) (m : FormedMsm) → heard channels leap (formed m) ≡ heard_msm channels leap m.form m.msm (entries (formed m))
 heard_formed channels leap m = grind (arith, common_steps)

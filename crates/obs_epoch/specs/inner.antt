@@ -5,4 +5,3 @@ pub mod Step
 pub mod GathererSteps
 pub mod Calls
 pub mod SignalCounts
-pub mod Names

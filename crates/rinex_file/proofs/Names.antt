@@ -2,7 +2,7 @@
 pub use Rattle.arrayvec.specs.ArrayVec.{array_vec_len}
 pub use Rattle.gnss_system.proofs.CheckedLaws.{flip_false, passes_at, passes_below}
 pub use Rattle.gnss_system.proofs.SystemLaws.{short_table, any_system, each_after, each_system, equal_indices, equal_values, index_back, letter_back, letter_found, sum_at_most, sum_less, system_at, system_same, systems_split, systems_taken, tabulated_same, value_after, value_mapped, value_of_other, value_tabulated}
-pub use Rattle.std.proofs.lemmas.Bool.{eqb-true as is_equal, leb-true as at_most, ltb-true as is_less, le-leb, not-false}
+pub use Rattle.std.proofs.lemmas.Bool.{eqb-true as is_equal, leb-true as at_most, ltb-true as is_less, le-leb, not-false, agree_below_at, and_from, and_parts, and_right, both_ways, cases_Bool, cases_lt, cond_both, eq-eqb, eqb-false, eqb-true, false_from_ne_true, le-ltb, leb-true, lt-ltb, ltb-false, ltb-true, ne_eqb, not-true, or_parts, or_right}
 pub use Rattle.gnss_obs.proofs.GroupLaws.{Above, Climb, Left, all_above, left_all, sorted_climbs}
 pub use Rattle.gnss_obs.proofs.PlanLaws.{any_index, few_signals, indices-push, length_indices, none_of, few_below, listed_by}
 pub use Rattle.gnss_obs.specs.Channels.{AreChannels, ChannelsValue, most_number, no_channels, slot_count, with_number, number_at}
@@ -27,15 +27,14 @@ pub use Rattle.gnss_system.specs.declared.system.System.TheVariants.{Gps, Glonas
 pub use Rattle.memchr.specs.Find.{IsFirstByte, is_byte}
 pub use Rattle.rtcm_bits.specs.Prefix.{IsPrefix}
 pub use Rattle.rinex_file.specs.Accepted.{AreBegunWith, AreEpochsRead, AreFirstEpochs, HasPlan, IsEpochLine, IsFaultAfter}
-pub use Rattle.rinex_file.specs.Begun.{AreBegun, IsEpochBegun, IsHeaderBegun, IsEventBegun, part_lines, whole_lines}
+pub use Rattle.rinex_file.specs.Begun.{AreBegun, IsEpochBegun, IsHeaderBegun, IsEventBegun, part_lines, whole_lines, IsShown, StartsAt}
 unfoldable pub use Rattle.rinex_file.specs.Blanks.{trimmed}
 pub use Rattle.rinex_file.specs.Blanks.{IsEnded, before_cut, filled_to}
 pub use Rattle.rinex_file.specs.Blocks.{AreMoved, LeavesRest, LinesRead, MovesBytes, last_line}
-pub use Rattle.rinex_file.specs.Counting.{IsSummary, IsTextWith}
+pub use Rattle.rinex_file.specs.Counting.{IsSummary, IsTextWith, History, changes_of, events_in, nothing, rows_in}
 pub use Rattle.rinex_file.specs.Exact.{IfTextOfFile, AreBefore, ExplainsFault, ExplainsStored, HasHeader, IsAtTypes, IsCutShort, IsExpectedAt, IsFaulty, IsFound, IsLine, IsNoFault, IsReadOr, IsTextOf, IsTooLong, NoFileBegins, most_lines}
 unfoldable pub use Rattle.rinex_file.specs.File.{epoch_text, event_line, event_text, line_among, shown_text, lines_up_to}
-pub use Rattle.rinex_file.specs.File.{shown_of, change_lines, change_text, header_text, closed_text, event_lines, file_lines, file_text, gathered, line_or_none, lines_of_parts, stamped_lines}
-pub use Rattle.rinex_file.specs.File.{lines_of_systems}
+pub use Rattle.rinex_file.specs.File.{shown_of, change_lines, change_text, header_text, closed_text, event_lines, file_lines, file_text, gathered, line_or_none, lines_of_parts, stamped_lines, lines_of_systems}
 pub use Rattle.rinex_file.specs.FileValues.{AreChanges, AreSatelliteRows, AreSignalValues, AreTexts, AreValues, FitsColumns, HaveRoom, IsChange, IsFileValue, IsFirstSame, IsFrom, IsPlan, IsRow, IsSatelliteRow, IsStamped, IsText, IsTime, changed_by, has_some_value, most_rows, planned_in, rank_of, time_stamped, values_following}
 pub use Rattle.rinex_file.specs.Gathered.{AreSignals, HasSatellite}
 unfoldable pub use Rattle.rinex_file.specs.Header.{header_lines, row_line}
@@ -49,7 +48,6 @@ unfoldable pub use Rattle.rinex_file.specs.Lines.{epoch_line, field, satellite_l
 pub use Rattle.rinex_file.specs.Lines.{epoch_fields, lli_byte, row_text, strength_byte}
 pub use Rattle.rinex_columns.specs.Numbers.{fixed, joined, left, padded, right}
 pub use Rattle.rinex_file.specs.inner.ParserState.{FollowsHistory, open_epochs, MayRunOut, ExpectsHeader, ExpectsRow, Adds, GoesOnWithLine, IsLast, IsNext, RefusesLine, ShowsLine, TakesLine, progress_at, stamped_at, with_line}
-pub use Rattle.rinex_file.specs.Counting.{History, changes_of, events_in, nothing, rows_in}
 pub use Rattle.rinex_file.specs.inner.Read.EpochSteps.{AddsOrEnds, HasReadPart, HasReadTo, IsStart, IsSummaryOf, IsSummaryRead, ReadsNextEpoch, ReadsNextRow, BeginsNextEpoch, EndsEpoch, StopsReading, plan_in, with_read, HasReadPartAt}
 pub use Rattle.rinex_columns.specs.Read.{ReadsExactly, digits_in, has, number_in, some_if}
 pub use Rattle.rinex_file.specs.inner.Read.HeaderSteps.{AreItemsBefore, EndsHeader, IsLineOfSlots, TakesOrRefusesSlots, TakesSlots, with_slots, GoesOn, GoesTo, HasSignalAt, IsHeaderLineRead, IsOnly, NoneGoesOn, ReadsOrRefuses, ReadsOrRefusesTexts, ReadsTexts, RefusesHeaderLine, RefusesTexts, RefusesTypes, SameFrom, StepsTo, Takes, TakesHeaderLine, TakesTypes, begins_with, row_label, with_interval, expected_if, if_fine, known_line, texts_in, with_first, with_letter, with_texts, with_types, with_values, IsLineOf, IsLineOfTypes, IsThere, TakesItems}
@@ -57,7 +55,6 @@ unfoldable pub use Rattle.rinex_file.specs.inner.Read.Keeping.{stamped_text}
 pub use Rattle.rinex_file.specs.inner.Read.Keeping.{ExplainsAny, HasReadWhole, HasRoom, HaveRowsRoom, Stores, history_of}
 unfoldable pub use Rattle.rinex_file.specs.inner.Read.Progress.{HasLinesLeft}
 pub use Rattle.rinex_file.specs.inner.Read.Progress.{AreListsAt, AreReadAt, IsRowRead, IsRowUnread, AreUnread, AreSameTexts, AreTypes, AreSameItems, slots_begun, AreValid, Has, HasRow, IsAt, IsAtEpoch, IsHeadAt, IsInEpoch, IsInEvent, IsInHeader, IsPosition, Known, Progress, counted, fits, is_chosen, begun_at, epoch_after, expected_next, file_with, position_of, shown_with, signals_begun, stamped, with_epoch, with_row, known_slots}
-pub use Rattle.rinex_file.specs.Begun.{IsShown, StartsAt}
 pub use Rattle.rinex_file.specs.inner.Read.Row.{AreEntries, IsRowOf}
 pub use Rattle.rinex_file.specs.inner.Read.Sound.{AreLinesAt, AreLinesOf, AreRead, HasReadLines, IsBegun, IsEventExpected, IsSound, IsSoundAt, MayBegin, values_now}
 pub use Rattle.rinex_file.specs.inner.Read.Steps.{HasRead, IsTaken, IsTextOfOnly, IsWhole, ReadsNextLine, file_at}
@@ -95,7 +92,6 @@ pub use Rattle.std.proofs.Common.{Fits, List, None, OnErr, Option, [], add-one, 
 pub use Rattle.std.proofs.KnownBytes.{Appends-nil, Appends-trans, Consumes-nil, Consumes-trans}
 pub use Rattle.std.proofs.Math.Nat.{div-le_self, le-min, min-eq_left, min-eq_right, min-le_left, min-le_right, mod-le, pow-suc, mod-eq_of_lt}
 pub use Rattle.std.proofs.Math.Seq.{drop-append-add, drop-cons, take-add, take-append-add, take-append_seam}
-pub use Rattle.std.proofs.lemmas.Bool.{agree_below_at, and_from, and_parts, and_right, both_ways, cases_Bool, cases_lt, cond_both, eq-eqb, eqb-false, eqb-true, false_from_ne_true, le-ltb, leb-true, lt-ltb, ltb-false, ltb-true, ne_eqb, not-true, or_parts, or_right}
 pub use Rattle.std.proofs.lemmas.Bool.Decides.{Decides-int_eq, nat_tests}
 pub use Rattle.std.proofs.lemmas.Cmp.{nat_eq_equiv}
 pub use Rattle.std.proofs.lemmas.Fmt.{decimal_digit, decimal_step, first_decimal, length-decimal-le}

@@ -1,10 +1,5 @@
 -- The end of a check of a file.
-use Rattle.std.proofs.Common.{arith}
-use Rattle.std.proofs.lemmas.Grind.{common_steps}
-use Rattle.devices.proofs.PrintingLaws.{Printed}
-use Rattle.rinex_inspect.proofs.Names.{◌≡◌, inr, sym, subst, ℕ, List, Option, Result, Ok, Err, IfSome, HasFailed, IsNoFault, FileValue, file_text, IsFileValue, ReadFault, Read, ⊤, IsErrAnd, Keeps, FileFault, IsCheckedOr, passed, Devices, Writer, EndsCheck, ReaderFailures, WriterFailures, CheckOptions, IsOutput, culprit}
-use Rattle.rinex_inspect.specs.Gaps.{AreInside}
-use Rattle.rinex_inspect.specs.CheckOutput.{times_in}
+use Rattle.rinex_inspect.proofs.Names.{arith, common_steps, Printed, ◌≡◌, inr, sym, subst, ℕ, List, Option, Result, Ok, Err, IfSome, HasFailed, IsNoFault, FileValue, file_text, IsFileValue, ReadFault, Read, ⊤, IsErrAnd, Keeps, FileFault, IsCheckedOr, passed, Devices, Writer, EndsCheck, ReaderFailures, WriterFailures, CheckOptions, IsOutput, culprit, AreInside, times_in}
 use Rattle.rinex_inspect.specs.declared.fault.FileFault.TheVariants as faults
 
 -- what holds for all bytes holds for known ones

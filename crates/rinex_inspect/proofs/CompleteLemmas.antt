@@ -1,11 +1,6 @@
 -- The number of indexes among those below a bound, by the missing places.
-use Rattle.rinex_inspect.specs.Gaps.{is_among, number_among}
+use Rattle.rinex_inspect.proofs.Names.{is_among, number_among, sum_by-append, ◌≡◌, ◌∙◌, ◌+◌, ◌-◌, ◌<◌, ◌≤◌, ◌∷◌, ◌++◌, [], ap, ap₂, arith, refl, subst, sym, ℕ, List, Bool, cond, All, ◌==◌, ◌||◌, false, true, zero, suc, inl, inr, All-cons, All-head, All-nil, All-tail, ◌≢◌, ◌⊎◌}
 use Rattle.std.proofs.lemmas.List.Folds.{list_any-append}
-use Rattle.std.proofs.lemmas.List.Sums.{sum_by-append}
-use Rattle.rinex_inspect.proofs.Names.{◌≡◌, ◌∙◌, ◌+◌, ◌-◌, ◌<◌, ◌≤◌, ◌∷◌, ◌++◌, [], ap, ap₂, arith, refl, subst, sym, ℕ, List, Bool, cond}
-use Rattle.std.proofs.Common.{All, ◌==◌, ◌||◌, false, true, zero, suc, inl, inr}
-use Rattle.std.proofs.lemmas.List.Elements.{All-cons, All-head, All-nil, All-tail}
-use Rattle.std.specs.Prelude.{◌≢◌, ◌⊎◌}
 
 abbrev one_if : Bool → ℕ
 one_if b = cond b 1 0

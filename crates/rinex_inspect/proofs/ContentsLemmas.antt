@@ -1,41 +1,12 @@
 -- The contents of the table of epochs, and equal contents.
-use Rattle.std.proofs.lemmas.Grind.{common_steps}
-use Rattle.std.proofs.Common.{◌≡◌, ◌∙◌, ◌+◌, ◌*◌, ◌/◌, ◌%◌, ◌^◌, ◌<◌, ◌≤◌, ◌++◌, ◌∷◌, [], ℕ, Bool, true, false, zero, suc, List, cond, get_or, length, map, refl, ap, ap₂, sym, subst, arith, add-one, append_assoc, append-nil, is_some, codes, decimal}
-use Rattle.std.specs.Prelude.{All, filter, flat_map, nat_lt}
-use Rattle.std.specs.List.{count_by, sum_by}
+use Rattle.rinex_inspect.proofs.Names.{common_steps, ◌≡◌, ◌∙◌, ◌+◌, ◌*◌, ◌/◌, ◌%◌, ◌^◌, ◌<◌, ◌≤◌, ◌++◌, ◌∷◌, [], ℕ, Bool, true, false, zero, suc, List, cond, get_or, length, map, refl, ap, ap₂, sym, subst, arith, add-one, append_assoc, append-nil, is_some, codes, decimal, All, filter, flat_map, nat_lt, count_by, sum_by, length-append, length-map, All-append, All-filter, All-head, All-nil, All-tail, count_by-le-length, sum_by-cons, div-lt_iff_lt-mul, mod-lt, few_below, below, PlanValue, planned_of, System, Satellite, letter, satellites, line, most_signals, table, systems, AreFine, rows_in, most_lines, AreSatelliteRows, AreSignalValues, IsPlan, IsSatelliteRow, planned_in, SatelliteRow, SignalValues, Stamped, no_signal_values, present_line, signal_line, Contents, code_at, contents_of, presence_words, satellite_word, tally_words, lost_in, period_line, period_lines, satellite_line, tally_line, texts_below, all_rows, has_values, is_half, is_lost, is_row_of, satellite_at, strength_of, tally_of, total, values_in, Period, Table, Presence, Tally, IsPrintable, IsSmallTally, all_lines, line_at, line_count, IsTableOf, capped_tally, contents_in}
 use Rattle.std.proofs.lemmas.Int.{ints}
-use Rattle.std.proofs.lemmas.List.{length-append, length-map}
 use Rattle.std.proofs.lemmas.List.Concat.{flat_map-cons}
-use Rattle.std.proofs.lemmas.List.Elements.{All-append, All-filter, All-head, All-nil, All-tail}
-use Rattle.std.proofs.lemmas.List.Sums.{count_by-le-length, sum_by-cons}
 use Rattle.std.proofs.lemmas.Nat.{div-mul-add, mod-mul-add}
-use Rattle.std.proofs.Math.Nat.{div-lt_iff_lt-mul, mod-lt}
-use Rattle.gnss_obs.proofs.PlanLaws.{few_below}
-use Rattle.gnss_obs.specs.Plans.{below}
-use Rattle.gnss_obs.specs.Values.{PlanValue, planned_of}
-use Rattle.gnss_system.specs.declared.system.System.{System}
-use Rattle.gnss_system.specs.Satellites.{Satellite, letter, satellites}
-use Rattle.line_texts.specs.Lines.{line}
-use Rattle.gnss_system.specs.Signals.{most_signals, table}
-use Rattle.gnss_system.specs.Systems.{systems}
-use Rattle.rinex_file.proofs.ReadingLaws.{AreFine}
-use Rattle.rinex_file.specs.Counting.{rows_in}
-use Rattle.rinex_file.specs.Exact.{most_lines}
-use Rattle.rinex_file.specs.FileValues.{AreSatelliteRows, AreSignalValues, IsPlan, IsSatelliteRow, planned_in}
-use Rattle.rinex_file.specs.Value.{SatelliteRow, SignalValues, Stamped, no_signal_values}
 use Rattle.rinex_inspect.proofs.TallyLemmas.{tally_is}
 use Rattle.rinex_inspect.proofs.QualityTexts.{few_satellites}
 use Rattle.rinex_inspect.proofs.SumLemmas.{one_small_of, sum_add, sum_bound, sum_mono, sum_same, sum_suc, texts_more, texts_same}
-unfoldable use Rattle.rinex_inspect.specs.QualityOutput.{present_line, signal_line}
-use Rattle.rinex_inspect.specs.QualityOutput.{Contents, code_at, contents_of, presence_words, satellite_word, tally_words, lost_in, period_line, period_lines, satellite_line, tally_line, texts_below}
-use Rattle.rinex_inspect.specs.Tallies.{all_rows, has_values, is_half, is_lost, is_row_of, satellite_at, strength_of, tally_of, total, values_in}
 use Rattle.rinex_inspect.specs.declared.quality_lines.Lines.{Lines}
-use Rattle.rinex_inspect.specs.declared.quality_lines.Lines.TheVariants.{Period}
-use Rattle.rinex_inspect.specs.declared.table.Table.{Table}
-use Rattle.rinex_inspect.specs.declared.tally.Presence.{Presence}
-use Rattle.rinex_inspect.specs.declared.tally.Tally.{Tally}
-use Rattle.rinex_inspect.specs.inner.QualityLines.{IsPrintable, IsSmallTally, all_lines, line_at, line_count}
-use Rattle.rinex_inspect.specs.inner.Tables.{IsTableOf, capped_tally, contents_in}
 
 -- ---- no tally is great
 

@@ -1,34 +1,11 @@
 -- The end of the command `quality`.
-use Rattle.std.proofs.lemmas.Grind.{common_steps}
-use Rattle.std.proofs.Common.{◌≡◌, ◌∙◌, ◌<◌, ◌≤◌, ◌++◌, ◌∷◌, [], ℕ, Bool, true, false, ◌==◌, List, Option, Some, None, Result, Ok, Err, inl, inr, refl, ap, sym, subst, arith, append_assoc, append-nil}
-use Rattle.std.specs.Bool.{⊤}
-use Rattle.std.specs.List.Sorted.{IsStrictlyIncreasing}
-use Rattle.std.proofs.KnownBytes.{Keeps-trans}
-use Rattle.devices.proofs.PrintingLaws.{kept_appends, longer_part}
-use Rattle.devices.specs.Device.{AppendsPrefix}
-use Rattle.devices.specs.Devices.{Devices, Writer}
-use Rattle.std.proofs.lemmas.Bool.{eqb-false, eqb-true}
-use Rattle.std.proofs.lemmas.List.{map-append}
-use Rattle.devices.specs.Printing.{EndsPrinting, IsDelivered}
-use Rattle.gnss_obs.specs.Values.{PlanValue}
-use Rattle.rinex_file.specs.Exact.{IsNoFault}
-use Rattle.rinex_file.specs.File.{file_text}
-use Rattle.rinex_file.specs.FileValues.{IsFileValue}
-use Rattle.rinex_file.specs.Value.{FileValue, Stamped}
-use Rattle.rinex_file.specs.declared.read.epochs.EpochReader.{EpochReader}
-use Rattle.rinex_file.specs.declared.read.fault.ReadFault.{ReadFault}
-use Rattle.rtcm_bits.specs.Prefix.{IsPrefix}
-use Rattle.rinex_inspect.proofs.Names.{HasFailed, IfSome, IfSome_then, IsErrAnd, Keeps, WriterFailures, culprit, passed, times_in, time_stamped}
+use Rattle.rinex_inspect.proofs.Names.{common_steps, ◌≡◌, ◌∙◌, ◌<◌, ◌≤◌, ◌++◌, ◌∷◌, [], ℕ, Bool, true, false, ◌==◌, List, Option, Some, None, Result, Ok, Err, inl, inr, refl, ap, sym, subst, arith, append_assoc, append-nil, ⊤, IsStrictlyIncreasing, Keeps-trans, kept_appends, longer_part, AppendsPrefix, Devices, Writer, eqb-false, eqb-true, map-append, EndsPrinting, IsDelivered, PlanValue, IsNoFault, file_text, IsFileValue, FileValue, Stamped, EpochReader, ReadFault, IsPrefix, HasFailed, IfSome, IfSome_then, IsErrAnd, Keeps, WriterFailures, culprit, passed, times_in, time_stamped, last_period, lines_before, lines_of, period_of, quality_output, FileFault, Tables, RatesPeriods}
 use Rattle.rinex_inspect.proofs.CheckLemmas.{where_known}
 use Rattle.rinex_inspect.proofs.PeriodLemmas.{IsEvery, before_later, before_same, period_rises}
 use Rattle.rinex_inspect.proofs.RatingLemmas.{before_plan, rise_init, rising_front}
 use Rattle.rinex_inspect.proofs.SumLemmas.{texts_more}
 use Rattle.rinex_inspect.specs.Quality.{EndsQuality, IsRatedOr, RatesFiles}
-use Rattle.rinex_inspect.specs.QualityOutput.{last_period, lines_before, lines_of, period_of, quality_output}
-use Rattle.rinex_inspect.specs.declared.fault.FileFault.{FileFault}
 use Rattle.rinex_inspect.specs.declared.fault.FileFault.TheVariants as faults
-use Rattle.rinex_inspect.specs.declared.quality.Tables.{Tables}
-use Rattle.rinex_inspect.specs.inner.Rating.{RatesPeriods}
 
 -- ---- the lines of the first epochs are the first lines
 

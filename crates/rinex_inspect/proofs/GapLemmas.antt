@@ -1,23 +1,7 @@
 -- The lines of gaps, with one time more.
-use Rattle.std.proofs.lemmas.Grind.{common_steps}
-use Rattle.rinex_file.specs.declared.read.epochs.EpochReader.{EpochReader}
-use Rattle.rinex_file.specs.declared.read.epochs.NextEpoch.{NextEpoch}
-use Rattle.std.proofs.KnownBytes.{Consumes-nil, Consumes-trans}
-use Rattle.rinex_file.specs.Counting.{IsTextWith}
-use Rattle.rinex_file.specs.Exact.{IfTextOfFile}
-use Rattle.rinex_file.specs.declared.read.epochs.Reading.{Reading}
-use Rattle.rinex_file.specs.inner.Read.EpochSteps.{IsSummaryRead}
-use Rattle.rinex_inspect.specs.Gaps.{AreInside, is_inside}
-use Rattle.rinex_inspect.specs.inner.Reading.{ReadsInside}
-use Rattle.std.proofs.lemmas.List.Elements.{All-head, All-tail}
-use Rattle.std.proofs.Common.{false, true, min}
-use Rattle.std.specs.List.{reduce}
-use Rattle.rinex_inspect.specs.declared.fault.FileFault.TheVariants.{File, OtherDay, Write}
+use Rattle.rinex_inspect.proofs.Names.{common_steps, EpochReader, NextEpoch, Consumes-nil, Consumes-trans, IsTextWith, IfTextOfFile, Reading, IsSummaryRead, AreInside, is_inside, ReadsInside, All-head, All-tail, false, true, min, reduce, File, OtherDay, Write, longer_part, printed_after, printed_later, ReaderFailures, culprit, CheckOptions, Completeness, CountsMissing, EndsCheck, IsCompleteness, IsEndOutput, IsOutput, IsSummary, all_gaps_if, gap_with, gaps_if, inr, missing_with, times_in, ⊤, AppendsPrefix, AreTimes, AreTimesOrNone, EpochTimes, FileValue, IfSome, IsCheckedOr, IsFileValue, check_line, complete_if, IfSome_then, IsDelivered, ReadsGaps, append_assoc, file_lines, file_text, length, most_lines, steps_of, times_if, ◌≡◌, ◌∙◌, ◌+◌, ◌<◌, ◌≤◌, ◌∷◌, ◌++◌, [], ap, arith, refl, subst, sym, ℕ, List, Option, Devices, Writer, EndsPrinting, Err, FileSummary, IsSummaryOf, FileFault, IsPrefix, LeavesRest, Ok, PrintsText, Result, Stamped, map, time_stamped, map-append, ◌^◌}
 use Rattle.rinex_inspect.proofs.CheckLemmas.{none_written, refused}
-use Rattle.devices.proofs.PrintingLaws.{longer_part, printed_after, printed_later}
 use Rattle.rinex_inspect.proofs.MissingLemmas.{gaps_next, gaps_prefix, missing_next, missing_small, rise_front}
-use Rattle.rinex_inspect.proofs.Names.{ReaderFailures, culprit, CheckOptions, Completeness, CountsMissing, EndsCheck, IsCompleteness, IsEndOutput, IsOutput, IsSummary, all_gaps_if, gap_with, gaps_if, inr, missing_with, times_in, ⊤, AppendsPrefix, AreTimes, AreTimesOrNone, EpochTimes, FileValue, IfSome, IsCheckedOr, IsFileValue, check_line, complete_if, IfSome_then, IsDelivered, ReadsGaps, append_assoc, file_lines, file_text, length, most_lines, steps_of, times_if, ◌≡◌, ◌∙◌, ◌+◌, ◌<◌, ◌≤◌, ◌∷◌, ◌++◌, [], ap, arith, refl, subst, sym, ℕ, List, Option, Devices, Writer, EndsPrinting, Err, FileSummary, IsSummaryOf, FileFault, IsPrefix, LeavesRest, Ok, PrintsText, Result, Stamped, map, time_stamped, map-append}
-use Rattle.std.proofs.Common.{◌^◌}
 
 pub leaves_all : (a : Option (List ℕ)) → LeavesRest a a
 leaves_all a = ([], Consumes-nil a)

@@ -1,30 +1,8 @@
 -- The gaps and the missing places of epochs, with one epoch more, and of a whole file.
-use Rattle.std.specs.List.Sorted.{IsStrictlyIncreasing}
-use Rattle.std.proofs.Math.Nat.{zero-add, div-le_self, div-mul-le_self, le-div_iff_mul-le}
+use Rattle.rinex_inspect.proofs.Names.{IsStrictlyIncreasing, zero-add, div-le_self, div-mul-le_self, le-div_iff_mul-le, IsCompleteness, all_gaps, all_placed, early, ends_in, first_of, gap_between, gap_line, gaps_before, gaps_from, indexes_of, intervals_to, number_among, origin_in, origin_of, placed, start, window_size, all_gaps_if, gaps_if, size_of, times_in, size_in, end_line, line, with_words, moment_words, CheckOptions, complete_but, end_gap_if, end_missing_if, line_but, CountsMissing, IsEndOutput, codes, decimal, events_in, rows_in, Counts, AreCounts, FileValue, length, lt-ltb, IsFileValue, check_line, complete_if, complete_line, times_if, ltb-false, ltb-true, Rise, first_with, gap_with, gaps_to_end, last_with, missing_before, missing_between, missing_from, missing_if, missing_to_end, missing_with, origin_with, Completeness, Placed, Window, ◌≡◌, ◌∙◌, ◌+◌, ◌-◌, ◌<◌, ◌≤◌, ◌∷◌, ◌++◌, [], ap, ap₂, append-nil, append_assoc, arith, refl, subst, sym, ℕ, List, Bool, Option, Some, None, cond, map, map-append, AreTimes, AreTimesOrNone, EpochTimes, IfSome, ◌/◌, false, true, suc, nat_lt}
 use Rattle.rinex_inspect.proofs.CompleteLemmas.{Covered, covered_more, none_covered}
-use Rattle.rinex_inspect.specs.Gaps.{IsCompleteness, all_gaps, all_placed, capped, early, ends_in, first_of, gap_between, gap_line, gaps_before, gaps_from, index_of, indexes_of, intervals_to, number_among, origin_in, origin_of, placed, start, window_size}
-use Rattle.rinex_inspect.specs.CheckOutput.{all_gaps_if, gaps_if, size_of, times_in}
+use Rattle.rinex_inspect.specs.Gaps.{capped, index_of}
 use Rattle.rinex_inspect.specs.CheckLaws.{CountsWhatIsThere}
-use Rattle.rinex_inspect.specs.Gaps.{size_in}
-use Rattle.line_texts.proofs.LineLaws.{end_line}
-use Rattle.line_texts.specs.Lines.{line, with_words}
-use Rattle.rinex_inspect.specs.DateTexts.{moment_words}
-use Rattle.rinex_inspect.specs.declared.check.CheckOptions.{CheckOptions}
-use Rattle.rinex_inspect.specs.inner.Missing.{complete_but, end_gap_if, end_missing_if}
-unfoldable use Rattle.rinex_inspect.specs.inner.Missing.{line_but}
-use Rattle.rinex_inspect.specs.inner.Reading.{CountsMissing, IsEndOutput}
-use Rattle.std.proofs.Common.{codes, decimal}
-use Rattle.rinex_file.specs.Counting.{events_in, rows_in}
-use Rattle.rinex_file.specs.declared.read.file.Counts.{Counts}
-use Rattle.rinex_inspect.proofs.Names.{AreCounts, FileValue, length, lt-ltb, IsFileValue, check_line, complete_if, complete_line, times_if}
-use Rattle.std.proofs.lemmas.Bool.{ltb-false, ltb-true}
-use Rattle.rinex_inspect.specs.inner.Missing.{Rise, first_with, gap_with, gaps_to_end, last_with, missing_before, missing_between, missing_from, missing_if, missing_to_end, missing_with, origin_with}
-use Rattle.rinex_inspect.specs.declared.gaps.Completeness.{Completeness}
-use Rattle.rinex_inspect.specs.declared.gaps.Placed.{Placed}
-use Rattle.rinex_inspect.specs.declared.gaps.Window.{Window}
-use Rattle.rinex_inspect.proofs.Names.{◌≡◌, ◌∙◌, ◌+◌, ◌-◌, ◌<◌, ◌≤◌, ◌∷◌, ◌++◌, [], ap, ap₂, append-nil, append_assoc, arith, refl, subst, sym, ℕ, List, Bool, Option, Some, None, cond, map, map-append, AreTimes, AreTimesOrNone, EpochTimes, IfSome}
-use Rattle.std.proofs.Common.{◌/◌, false, true, suc}
-use Rattle.std.specs.Prelude.{nat_lt}
 
 -- ---- one more
 

@@ -1,24 +1,11 @@
 -- The periods of epochs, and the lines of those before the last one.
-use Rattle.std.proofs.lemmas.Grind.{common_steps}
-use Rattle.std.proofs.Common.{◌≡◌, ◌∙◌, ◌+◌, ◌-◌, ◌*◌, ◌<◌, ◌≤◌, ◌==◌, ◌++◌, ◌∷◌, [], ℕ, false, zero, suc, List, Option, Some, None, refl, ap, arith, append-nil}
-use Rattle.std.specs.Prelude.{IfSome}
-use Rattle.std.specs.List.Sorted.{IsStrictlyIncreasing}
-use Rattle.std.proofs.lemmas.Bool.{eq-eqb}
-use Rattle.std.proofs.lemmas.List.{map-append}
-use Rattle.std.proofs.Math.Nat.{div-mul-le_self}
+use Rattle.rinex_inspect.proofs.Names.{common_steps, ◌≡◌, ◌∙◌, ◌+◌, ◌-◌, ◌*◌, ◌<◌, ◌≤◌, ◌==◌, ◌++◌, ◌∷◌, [], ℕ, false, zero, suc, List, Option, Some, None, refl, ap, arith, append-nil, IfSome, IsStrictlyIncreasing, eq-eqb, map-append, div-mul-le_self, PlanValue, week, weeks, time_stamped, Stamped, times_in, contents_of, in_period, last_period, lines_before, lines_of, period_lines, period_of, texts_below, last_of}
 use Rattle.gnss_obs.specs.Intervals.{IsInterval}
-use Rattle.gnss_obs.specs.Values.{PlanValue}
-use Rattle.gnss_obs.specs.Weeks.{week, weeks}
-use Rattle.rinex_file.specs.FileValues.{time_stamped}
-use Rattle.rinex_file.specs.Value.{Stamped}
 use Rattle.rinex_inspect.proofs.ContentsLemmas.{none_in_period}
 use Rattle.rinex_inspect.proofs.MissingLemmas.{div_mono}
-use Rattle.rinex_inspect.proofs.Names.{times_in}
 use Rattle.rinex_inspect.proofs.PresenceLemmas.{filter_no, filter_yes, last_is}
 use Rattle.rinex_inspect.proofs.SumLemmas.{texts_more, texts_same}
 use Rattle.rinex_inspect.proofs.TableSteps.{rise_tail}
-use Rattle.rinex_inspect.specs.QualityOutput.{contents_of, in_period, last_period, lines_before, lines_of, period_lines, period_of, texts_below}
-use Rattle.rinex_inspect.specs.Tallies.{last_of}
 
 -- a length of periods, if there is one
 abbrev pub IsEvery : Option ℕ → Type 0

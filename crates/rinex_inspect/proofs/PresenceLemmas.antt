@@ -1,16 +1,5 @@
 -- The epochs of a satellite after one epoch more.
-use Rattle.std.proofs.lemmas.Grind.{common_steps}
-use Rattle.std.proofs.lemmas.Bool.{or_parts}
-use Rattle.std.proofs.Common.{append-nil, ◌≡◌, ◌∙◌, ◌+◌, ◌<◌, ◌≤◌, ◌||◌, ◌++◌, ◌∷◌, [], ℕ, Bool, true, false, List, cond, length, refl, ap, ap₂, arith, map}
-use Rattle.std.specs.Prelude.{filter}
-use Rattle.std.specs.List.{list_any}
-use Rattle.std.proofs.lemmas.List.{length-append, length-map}
-use Rattle.rtcm_bits.proofs.SmallLaws.{length-filter-le}
-use Rattle.std.proofs.lemmas.List.Elements.{filter-append}
-use Rattle.rinex_file.specs.FileValues.{time_stamped}
-use Rattle.rinex_file.specs.Value.{Stamped}
-use Rattle.rinex_inspect.specs.Gaps.{first_of}
-use Rattle.rinex_inspect.specs.Tallies.{from_first, last_of, up_to_last}
+use Rattle.rinex_inspect.proofs.Names.{common_steps, or_parts, append-nil, ◌≡◌, ◌∙◌, ◌+◌, ◌<◌, ◌≤◌, ◌||◌, ◌++◌, ◌∷◌, [], ℕ, Bool, true, false, List, cond, length, refl, ap, ap₂, arith, map, filter, list_any, length-append, length-map, length-filter-le, filter-append, time_stamped, Stamped, first_of, from_first, last_of, up_to_last}
 
 pub last_is : (ts : List ℕ) (t : ℕ) → last_of (ts ++ t ∷ []) ≡ t
 last_is [] t = refl

@@ -1,38 +1,9 @@
 -- The words of the lines of `quality`.
-use Rattle.std.proofs.lemmas.Grind.{common_steps}
-use Rattle.std.proofs.Common.{◌≡◌, ◌∙◌, ◌+◌, ◌<◌, ◌≤◌, ◌++◌, ◌∷◌, [], ℕ, Bool, List, cond, length, codes, decimal, refl, ap, ap₂, sym, append_assoc, arith, Err, drop, take, get_or, subst, ◌-◌}
-use Rattle.std.proofs.lemmas.List.{length-append}
-use Rattle.std.proofs.lemmas.List.{get_or_read}
+use Rattle.rinex_inspect.proofs.Names.{common_steps, ◌≡◌, ◌∙◌, ◌+◌, ◌<◌, ◌≤◌, ◌++◌, ◌∷◌, [], ℕ, Bool, List, cond, length, codes, decimal, refl, ap, ap₂, sym, append_assoc, arith, Err, drop, take, get_or, subst, ◌-◌, length-append, get_or_read, count_by, sum_by, length_indices, planned_of, SignalAt, most_signals, IsPrintable, IsSmallTally, HasPlaces, contents_in, record_at, records_in, tally_at, SatelliteRecord, Table, no_tally, Writer, EndsPrinting, longer_part, below, PlanValue, System, letter, satellites, end_line, with_words, IsPrefix, clock_text, date_text, present_line, signal_line, tally_line, time_word, Contents, code_at, lost_in, presence_words, satellite_word, tally_words, has_values, total, Presence, Tally}
 use Rattle.std.proofs.Math.Seq.{take-length}
-use Rattle.std.specs.List.{count_by, sum_by}
-use Rattle.gnss_obs.proofs.PlanLaws.{length_indices}
 use Rattle.gnss_obs.specs.SignalLists.{indices}
-use Rattle.gnss_obs.specs.Values.{planned_of}
-use Rattle.gnss_system.specs.Signals.{SignalAt, most_signals}
-use Rattle.rinex_inspect.specs.inner.QualityLines.{IsPrintable, IsSmallTally}
-use Rattle.rinex_inspect.specs.inner.Tables.{HasPlaces, contents_in, record_at, records_in, tally_at}
-use Rattle.rinex_inspect.specs.declared.table.SatelliteRecord.{SatelliteRecord}
-use Rattle.rinex_inspect.specs.declared.table.Table.{Table}
-use Rattle.rinex_inspect.specs.Tallies.{no_tally}
-use Rattle.devices.specs.Devices.{Writer}
-use Rattle.devices.specs.Printing.{EndsPrinting}
-use Rattle.devices.proofs.PrintingLaws.{longer_part}
 use Rattle.gnss_obs.specs.Dates.{civil_of}
-use Rattle.gnss_obs.specs.Plans.{below}
-use Rattle.gnss_obs.specs.Values.{PlanValue}
-use Rattle.gnss_system.specs.declared.system.System.{System}
-use Rattle.gnss_system.specs.Satellites.{letter}
-use Rattle.gnss_system.specs.Satellites.{satellites}
-use Rattle.line_texts.proofs.LineLaws.{end_line}
-use Rattle.line_texts.specs.Lines.{with_words}
-use Rattle.rtcm_bits.specs.Prefix.{IsPrefix}
 use Rattle.rinex_inspect.proofs.SumLemmas.{count_more}
-use Rattle.rinex_inspect.specs.DateTexts.{clock_text, date_text}
-unfoldable use Rattle.rinex_inspect.specs.QualityOutput.{present_line, signal_line, tally_line, time_word}
-use Rattle.rinex_inspect.specs.QualityOutput.{Contents, code_at, lost_in, presence_words, satellite_word, tally_words}
-use Rattle.rinex_inspect.specs.Tallies.{has_values, total}
-use Rattle.rinex_inspect.specs.declared.tally.Presence.{Presence}
-use Rattle.rinex_inspect.specs.declared.tally.Tally.{Tally}
 
 pub size : {new : List ℕ} (old part : List ℕ) → new ≡ old ++ part → length new ≡ length old + length part
 size old part e = ap length e ∙ length-append old part

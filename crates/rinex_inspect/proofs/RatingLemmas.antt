@@ -1,56 +1,11 @@
 -- The reading of the lines of an epoch into a table.
-use Rattle.std.proofs.lemmas.Grind.{common_steps}
-use Rattle.std.proofs.Common.{◌≡◌, ◌∙◌, ◌+◌, ◌^◌, ◌<◌, ◌≤◌, ◌++◌, ◌∷◌, [], ℕ, Bool, List, Option, Result, Ok, Err, length, refl, ap, ap₂, sym, subst, arith}
-use Rattle.std.proofs.Common.{append-nil, Some, None, zero, suc, ◌==◌, ◌*◌}
-use Rattle.std.specs.Bool.{⊤}
-use Rattle.std.specs.List.Sorted.{IsStrictlyIncreasing}
-use Rattle.std.proofs.KnownBytes.{Appends-nil}
-use Rattle.std.proofs.lemmas.List.{length-append, map-append}
-use Rattle.rtcm_bits.proofs.SmallLaws.{length-filter-le}
-use Rattle.devices.specs.Devices.{Devices, Writer}
-use Rattle.devices.proofs.PrintingLaws.{printed_after}
-use Rattle.devices.specs.Printing.{EndsPrinting, PrintsPart, PrintsText}
-use Rattle.gnss_obs.specs.Values.{PlanValue}
-use Rattle.gnss_system.specs.Signals.{most_signals}
-use Rattle.gnss_system.specs.declared.system.System.{System}
-use Rattle.rinex_file.specs.FileValues.{time_stamped}
-use Rattle.rinex_file.specs.inner.Read.EpochSteps.{HasReadEpochs}
+use Rattle.rinex_inspect.proofs.Names.{common_steps, ◌≡◌, ◌∙◌, ◌+◌, ◌^◌, ◌<◌, ◌≤◌, ◌++◌, ◌∷◌, [], ℕ, Bool, List, Option, Result, Ok, Err, length, refl, ap, ap₂, sym, subst, arith, append-nil, Some, None, zero, suc, ◌==◌, ◌*◌, ⊤, IsStrictlyIncreasing, Appends-nil, length-append, map-append, length-filter-le, Devices, Writer, printed_after, EndsPrinting, PrintsPart, PrintsText, PlanValue, most_signals, System, time_stamped, HasReadEpochs, times_in, BeginsEpoch, NextEpoch, FileSummary, check_line, FileValue, end_text, Contents, quality_output, satellite_lines, signal_lines, contents_of, in_period, last_period, lines_before, lines_of, period_of, texts_below, FileFault, Tables, Period, Satellites, Signals, IsPrintable, AreTables, HasSamePlan, IsPrintedAfter, RatesEpoch, RatesNext, ReadsRows, period_text, IsBlankTable, contents_in, All-head, All-tail, All, AreFine, one_plan, part_fine, plan_known, whole_fine, Counts, culprit, ReaderFailures, RatesPeriods, AreSatelliteRows, IsSatelliteRow, planned_in, SatelliteRow, Stamped, EpochReader, ReadFault, HasReadRows, ReadsRow, plan_of, with_read, Table, HasAddedRow, IsTableOf}
 use Rattle.rinex_inspect.proofs.ContentsLemmas.{AreFew, AreSame, few_of, few_planned, lines_same, period_is, printable, table_contents}
-use Rattle.rinex_inspect.proofs.Names.{times_in}
-use Rattle.rinex_file.specs.inner.Read.EpochSteps.{BeginsEpoch}
-use Rattle.rinex_file.specs.declared.read.epochs.NextEpoch.{NextEpoch}
 use Rattle.rinex_file.specs.declared.read.epochs.NextEpoch.TheVariants.{End}
-use Rattle.rinex_file.specs.declared.read.file.FileSummary.{FileSummary}
 use Rattle.rinex_inspect.proofs.PeriodLemmas.{IsEvery, before_later, before_same, none_first, none_later, period_other, period_rises, period_same, period_with}
-use Rattle.rinex_inspect.proofs.TableSteps.{rise_tail}
-use Rattle.rinex_inspect.proofs.Names.{check_line}
+use Rattle.rinex_inspect.proofs.TableSteps.{rise_tail, none_same, table_added}
 use Rattle.rinex_inspect.proofs.SumLemmas.{texts_more}
-use Rattle.rinex_file.specs.Value.{FileValue}
-use Rattle.rinex_inspect.specs.inner.Rating.{end_text}
-use Rattle.rinex_inspect.specs.QualityOutput.{Contents, quality_output, satellite_lines, signal_lines}
-use Rattle.rinex_inspect.specs.QualityOutput.{contents_of, in_period, last_period, lines_before, lines_of, period_of, texts_below}
-use Rattle.rinex_inspect.specs.declared.fault.FileFault.{FileFault}
 use Rattle.rinex_inspect.specs.declared.fault.FileFault.TheVariants as faults
-use Rattle.rinex_inspect.specs.declared.quality.Tables.{Tables}
-use Rattle.rinex_inspect.specs.declared.quality_lines.Lines.TheVariants.{Period, Satellites, Signals}
-use Rattle.rinex_inspect.specs.inner.QualityLines.{IsPrintable}
-use Rattle.rinex_inspect.specs.inner.Rating.{AreTables, HasSamePlan, IsPrintedAfter, RatesEpoch, RatesNext, ReadsRows, period_text}
-use Rattle.rinex_inspect.specs.inner.Tables.{IsBlankTable, contents_in}
-use Rattle.std.proofs.lemmas.List.Elements.{All-head, All-tail}
-use Rattle.std.specs.Prelude.{All}
-use Rattle.rinex_file.proofs.ReadingLaws.{AreFine, one_plan, part_fine, plan_known, whole_fine}
-use Rattle.rinex_file.specs.declared.read.file.Counts.{Counts}
-use Rattle.rinex_inspect.specs.Faults.{culprit}
-use Rattle.devices.specs.Devices.{ReaderFailures}
-use Rattle.rinex_inspect.specs.inner.Rating.{RatesPeriods}
-use Rattle.rinex_file.specs.FileValues.{AreSatelliteRows, IsSatelliteRow, planned_in}
-use Rattle.rinex_file.specs.Value.{SatelliteRow, Stamped}
-use Rattle.rinex_file.specs.declared.read.epochs.EpochReader.{EpochReader}
-use Rattle.rinex_file.specs.declared.read.fault.ReadFault.{ReadFault}
-use Rattle.rinex_file.specs.inner.Read.EpochSteps.{HasReadRows, ReadsRow, plan_of, with_read}
-use Rattle.rinex_inspect.proofs.TableSteps.{none_same, table_added}
-use Rattle.rinex_inspect.specs.declared.table.Table.{Table}
-use Rattle.rinex_inspect.specs.inner.Tables.{HasAddedRow, IsTableOf}
 
 -- the epochs are few
 pub few_epochs : (r : EpochReader) (es : List Stamped) (e : Stamped) (input left : Option (List ℕ)) (xs : List Stamped) → HasReadRows r es e input left → length xs ≤ length es → length xs < 2 ^ 62

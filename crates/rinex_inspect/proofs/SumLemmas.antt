@@ -1,16 +1,6 @@
 -- Sums over the numbers below another one, and texts that are joined.
-use Rattle.std.proofs.lemmas.Grind.{common_steps}
-use Rattle.std.proofs.Common.{◌≡◌, ◌∙◌, ◌+◌, ◌*◌, ◌^◌, ◌<◌, ◌≤◌, ◌++◌, ◌∷◌, [], ℕ, Bool, zero, suc, List, cond, refl, ap, sym, arith, ◌-◌, add-one, append_assoc, append-nil}
-use Rattle.std.specs.List.{count_by, sum_by}
-use Rattle.std.proofs.lemmas.Grind.{flat_map-append}
-use Rattle.std.proofs.lemmas.List.Sums.{sum_by-append}
-use Rattle.gnss_obs.specs.Plans.{below}
+use Rattle.rinex_inspect.proofs.Names.{common_steps, ◌≡◌, ◌∙◌, ◌+◌, ◌*◌, ◌^◌, ◌<◌, ◌≤◌, ◌++◌, ◌∷◌, [], ℕ, Bool, zero, suc, List, cond, refl, ap, sym, arith, ◌-◌, add-one, append_assoc, append-nil, count_by, sum_by, flat_map-append, sum_by-append, below, texts_below, total, Tally, IsSmallTally, capped, plus}
 use Rattle.rinex_inspect.proofs.TallyLemmas.{tally_is}
-use Rattle.rinex_inspect.specs.QualityOutput.{texts_below}
-use Rattle.rinex_inspect.specs.Tallies.{total}
-use Rattle.rinex_inspect.specs.declared.tally.Tally.{Tally}
-use Rattle.rinex_inspect.specs.inner.QualityLines.{IsSmallTally}
-use Rattle.rinex_inspect.specs.inner.Tables.{capped, plus}
 
 one_of : (f : ℕ → ℕ) (n : ℕ) → sum_by f (n ∷ []) ≡ f n
 one_of f n = omega arith

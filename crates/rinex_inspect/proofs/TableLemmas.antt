@@ -1,23 +1,7 @@
 -- Tables after one epoch or one line more.
-use Rattle.std.proofs.lemmas.Grind.{common_steps}
-use Rattle.std.proofs.Common.{append-nil, ◌≡◌, ◌∙◌, ◌+◌, ◌-◌, ◌^◌, ◌<◌, ◌≤◌, ◌==◌, ◌++◌, ◌∷◌, [], ℕ, Bool, true, false, zero, suc, List, cond, get_or, length, refl, ap, sym, subst, arith, append_assoc, map}
-use Rattle.std.specs.Prelude.{filter}
-use Rattle.std.specs.List.{list_any, sum_by}
-use Rattle.std.proofs.lemmas.Grind.{flat_map-append}
-use Rattle.std.proofs.lemmas.List.{length-append, map-append}
-use Rattle.std.proofs.lemmas.List.Sums.{sum_by-append}
-use Rattle.gnss_system.specs.Satellites.{Satellite}
-use Rattle.rinex_file.specs.FileValues.{time_stamped}
-use Rattle.rinex_file.specs.Value.{SatelliteRow, SignalValues, Stamped, no_signal_values}
-use Rattle.rinex_file.specs.inner.Read.EpochSteps.{with_read}
+use Rattle.rinex_inspect.proofs.Names.{common_steps, append-nil, ◌≡◌, ◌∙◌, ◌+◌, ◌-◌, ◌^◌, ◌<◌, ◌≤◌, ◌==◌, ◌++◌, ◌∷◌, [], ℕ, Bool, true, false, zero, suc, List, cond, get_or, length, refl, ap, sym, subst, arith, append_assoc, map, filter, list_any, sum_by, flat_map-append, length-append, map-append, sum_by-append, Satellite, time_stamped, SatelliteRow, SignalValues, Stamped, no_signal_values, with_read, first_of, all_rows, from_first, has_line, is_row_of, last_of, no_tally, presence_of, tally, tally_of, times_of, values_in, SatelliteRecord, Presence, Tally, HasAdded, IsRecordOf, added, before_with, capped, capped_tally, present_with, with_values}
 use Rattle.rinex_inspect.proofs.PresenceLemmas.{any_before, any_last, first_length, length-filtered, length_some, one_first, filter_no, filter_yes, first_kept, last_is, length_first, none_filtered, none_first, span_no, span_yes}
 use Rattle.rinex_inspect.proofs.TallyLemmas.{length_added, tally_is}
-use Rattle.rinex_inspect.specs.Gaps.{first_of}
-use Rattle.rinex_inspect.specs.Tallies.{all_rows, from_first, has_line, is_row_of, last_of, no_tally, presence_of, tally, tally_of, times_of, values_in}
-use Rattle.rinex_inspect.specs.declared.table.SatelliteRecord.{SatelliteRecord}
-use Rattle.rinex_inspect.specs.declared.tally.Presence.{Presence}
-use Rattle.rinex_inspect.specs.declared.tally.Tally.{Tally}
-use Rattle.rinex_inspect.specs.inner.Tables.{HasAdded, IsRecordOf, added, before_with, capped, capped_tally, present_with, with_values}
 
 -- ---- tallies
 

@@ -1,26 +1,7 @@
 -- Tables of epochs: none, one more, and one line more.
-use Rattle.std.proofs.Common.{◌≡◌, ◌∙◌, ◌+◌, ◌-◌, ◌^◌, ◌<◌, ◌≤◌, ◌&&◌, ◌==◌, ◌++◌, ◌∷◌, [], ℕ, Bool, true, false, zero, suc, List, get_or, set, length, refl, ap, sym, subst, arith, map}
-use Rattle.std.specs.List.{list_any}
-use Rattle.std.specs.List.Sorted.{IsStrictlyIncreasing}
-use Rattle.std.proofs.lemmas.Bool.{and_from, and_parts, eq-eqb, eqb-false, eqb-true}
-use Rattle.std.proofs.Common.{◌||◌, length-set}
-use Rattle.rinex_inspect.specs.inner.Tables.{HasAdded}
-use Rattle.std.proofs.lemmas.List.{length-append, map-append}
-use Rattle.gnss_system.proofs.SystemLaws.{system_same, system_self}
-use Rattle.gnss_system.specs.declared.system.System.{System}
-use Rattle.gnss_system.specs.Satellites.{Satellite, satellites}
-use Rattle.gnss_system.specs.Systems.{index_of, is_system}
-use Rattle.rinex_file.specs.FileValues.{rank_of, time_stamped}
-use Rattle.rinex_file.specs.Value.{SatelliteRow, Stamped}
-use Rattle.rinex_file.specs.inner.Read.EpochSteps.{with_read}
-use Rattle.rinex_inspect.proofs.Names.{times_in}
+use Rattle.rinex_inspect.proofs.Names.{◌≡◌, ◌∙◌, ◌+◌, ◌-◌, ◌^◌, ◌<◌, ◌≤◌, ◌&&◌, ◌==◌, ◌++◌, ◌∷◌, [], ℕ, Bool, true, false, zero, suc, List, get_or, set, length, refl, ap, sym, subst, arith, map, list_any, IsStrictlyIncreasing, and_from, and_parts, eq-eqb, eqb-false, eqb-true, ◌||◌, length-set, HasAdded, length-append, map-append, system_same, system_self, System, Satellite, satellites, index_of, is_system, rank_of, time_stamped, SatelliteRow, Stamped, with_read, times_in, has_line, is_row_of, last_of, satellite_at, SatelliteRecord, Table, Presence, HasAddedRow, IsBlankRecord, IsBlankTable, IsRecordOf, IsTableOf, begun, no_record, record_at, records_in}
 use Rattle.rinex_inspect.proofs.PresenceLemmas.{last_is}
 use Rattle.rinex_inspect.proofs.TableLemmas.{record_begun, record_other, record_this}
-use Rattle.rinex_inspect.specs.Tallies.{has_line, is_row_of, last_of, satellite_at}
-use Rattle.rinex_inspect.specs.declared.table.SatelliteRecord.{SatelliteRecord}
-use Rattle.rinex_inspect.specs.declared.table.Table.{Table}
-use Rattle.rinex_inspect.specs.declared.tally.Presence.{Presence}
-use Rattle.rinex_inspect.specs.inner.Tables.{HasAddedRow, IsBlankRecord, IsBlankTable, IsRecordOf, IsTableOf, begun, no_record, record_at, records_in}
 
 -- ---- no epoch
 

@@ -1,8 +1,5 @@
 -- The tallies of a satellite after one line more, and equal tallies.
-use Rattle.std.proofs.Common.{◌≡◌, ◌∙◌, ◌+◌, ◌<◌, ◌∷◌, [], ℕ, zero, suc, List, length, get_or, set, take, refl, ap, ap₂, sym, arith, add-one}
-use Rattle.rinex_file.specs.Value.{SignalValues}
-use Rattle.rinex_inspect.specs.declared.tally.Tally.{Tally}
-use Rattle.rinex_inspect.specs.inner.Tables.{added, with_values}
+use Rattle.rinex_inspect.proofs.Names.{◌≡◌, ◌∙◌, ◌+◌, ◌<◌, ◌∷◌, [], ℕ, zero, suc, List, length, get_or, set, take, refl, ap, ap₂, sym, arith, add-one, SignalValues, Tally, added, with_values}
 
 pub added_none : (ts : List Tally) → added ts [] ≡ ts
 added_none [] = refl

@@ -1,6 +1,5 @@
 -- Small laws of lists and results, for the proofs of the crates above.
-use Rattle.std.proofs.Common.{◌≡◌, ◌≤◌, ◌∙◌, Bool, List, [], ◌∷◌, ◌++◌, length, filter, filter_map, append_assoc, ap, sym}
-use Rattle.std.proofs.Common.{append-nil, arith, Option, Result, Ok, Err, IfOk, OnOk, OnErr, MatchResult}
+use Rattle.std.proofs.Common.{◌≡◌, ◌≤◌, ◌∙◌, Bool, List, [], ◌∷◌, ◌++◌, length, filter, filter_map, append_assoc, ap, sym, append-nil, arith, Option, Result, Ok, Err, IfOk, OnOk, OnErr, MatchResult}
 use Rattle.std.proofs.lemmas.List.Sums.{length-filter, count_by-le-length}
 use Rattle.std.proofs.lemmas.Grind.{common_steps}
 use Rattle.std.specs.Result.{IsErrAnd}

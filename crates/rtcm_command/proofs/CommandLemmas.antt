@@ -1,9 +1,5 @@
 -- The meaning of the exit status.
-use Rattle.std.proofs.lemmas.Grind.{common_steps}
-use Rattle.std.specs.Prelude.{IfSome, string_bytes}
-use Rattle.std.proofs.Common.{Global, String}
-use Rattle.rtcm_command.specs.Commands.{refusal_line}
-use Rattle.rtcm_command.proofs.Names.{◌≡◌, ◌∙◌, inl, inr, refl, sym, subst, codes, ap, option_map, ℕ, List, Option, Some, Result, Ok, Err, arith, ⊤, ◌≢◌, IsCommand, box_value, option_map_or, Box, subcommand_rows, subcommand_rows_of, Row, Text, out-SubCommand, SubCommand, kind_of, Error, ArgMatches, AreFine, AreUntouched, Devices, EndsInspection, Reader, Writer, culprit, SelectsCommand, IsFoundIn, RefusesWords, FailsParsing, AreRefused, AreRefusedBy, EndsCommand, EndsFound, HasCommand, HasCompleted, HasDone, HasStopped, HasStoppedEarly, StopsPrinting, fault_status, status_of, error_line, length, lit<, ◌<◌, PrintsLine, PrintsSome, PrintsFault, InspectFault, Ends, of_inspection, EndsOnFile, FileFault, of_file, CommandFault, HaveFailedBy, IsErrAnd, passed}
+use Rattle.rtcm_command.proofs.Names.{common_steps, IfSome, string_bytes, Global, String, refusal_line, ◌≡◌, ◌∙◌, inl, inr, refl, sym, subst, codes, ap, option_map, ℕ, List, Option, Some, Result, Ok, Err, arith, ⊤, ◌≢◌, IsCommand, box_value, option_map_or, Box, subcommand_rows, subcommand_rows_of, Row, Text, out-SubCommand, SubCommand, kind_of, Error, ArgMatches, AreFine, AreUntouched, Devices, EndsInspection, Reader, Writer, culprit, SelectsCommand, IsFoundIn, RefusesWords, FailsParsing, AreRefused, AreRefusedBy, EndsCommand, EndsFound, HasCommand, HasCompleted, HasDone, HasStopped, HasStoppedEarly, StopsPrinting, fault_status, status_of, error_line, length, lit<, ◌<◌, PrintsLine, PrintsSome, PrintsFault, InspectFault, Ends, of_inspection, EndsOnFile, FileFault, of_file, CommandFault, HaveFailedBy, IsErrAnd, passed}
 use Rattle.clap.specs.declared.error.kind.ErrorKind.TheVariants as kind
 use Rattle.rinex_inspect.specs.Faults as of_files
 use Rattle.rtcm_inspect.specs.Devices as inspection

@@ -1,9 +1,6 @@
 -- A conversion that is stopped by a fault.
-use Rattle.std.proofs.Common.{arith}
-use Rattle.std.proofs.lemmas.Grind.{common_steps}
+use Rattle.rtcm_command.proofs.Names.{arith, common_steps, ⊤, AreUntouched, Devices, Writer, EndsConverting, culprit, IsErrAnd, passed, ◌≡◌, sym, subst, refl, ℕ, ℤ, List, Option, Some, None, Result, Err, IsErrOf, IfSome, inl, inr, ◌≢◌, ◌↔◌, IsSentAfter, IsSetupFault, IsMadeEmpty, IsMadeSoFar, IsMadeInPart, IsMadeToLimit, IsBad, Setup, Fault, BadSetup, TooLong, Read, Write, Failed, Finished, Report, CommandFault, Row, StationValues, values_by, HasSetupFault, IsRefusedAfterStart, IsRefusedAfterChannels, IsSetupRefused, IsStartFault, IsStartSet, Start, codes, first_of, values_set, StopsConversion, HaveFailedBy, ChannelsValue, channels_by, channels_set, IsOfNone}
 use Rattle.rtcm_command.proofs.OptionLemmas.{bad_choice}
-use Rattle.rtcm_command.proofs.Names.{⊤, AreUntouched, Devices, Writer, EndsConverting, culprit, IsErrAnd, passed, ◌≡◌, sym, subst, refl, ℕ, ℤ, List, Option, Some, None, Result, Err, IsErrOf, IfSome, inl, inr, ◌≢◌, ◌↔◌, IsSentAfter, IsSetupFault, IsMadeEmpty, IsMadeSoFar, IsMadeInPart, IsMadeToLimit, IsBad, Setup, Fault, BadSetup, TooLong, Read, Write, Failed, Finished, Report, CommandFault, Row, StationValues, values_by, HasSetupFault, IsRefusedAfterStart, IsRefusedAfterChannels, IsSetupRefused, IsStartFault, IsStartSet, Start, codes, first_of, values_set, StopsConversion, HaveFailedBy, ChannelsValue, channels_by, channels_set}
-use Rattle.rtcm_convert.specs.Faults.{IsOfNone}
 use Rattle.command_faults.specs.declared.fault.CommandFault.TheVariants as faults
 
 abbrev Result-of : Fault → Result Report Fault

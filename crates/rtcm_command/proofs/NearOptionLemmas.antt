@@ -1,12 +1,7 @@
 -- A conversion with `--near`.
-use Rattle.clap.specs.Walk.{first_of}
-use Rattle.obs_epoch.specs.NearWeek.{IsWeekNear}
-use Rattle.obs_epoch.specs.Starts.{IsNearestFirst, first_week, is_no_week}
-use Rattle.rtcm_inspect.specs.WeekLaws.{IsBelowWeek, IsDatedByStart}
-use Rattle.rtcm_convert.specs.SetupValues.{setup_value}
+use Rattle.rtcm_command.proofs.Names.{first_of, IsWeekNear, IsNearestFirst, first_week, is_no_week, IsBelowWeek, IsDatedByStart, setup_value, ◌≡◌, ◌∙◌, ℕ, List, Option, Some, None, ap, codes, subst, sym, IsHourOf, IsNumberOr, IsStartOf, Near, Start, usual_leap}
 use Rattle.rtcm_command.specs.NearOption.{IsDatedByNear}
 use Rattle.rtcm_command.proofs.PrintedPlanLemmas.{usual_read}
-use Rattle.rtcm_command.proofs.Names.{◌≡◌, ◌∙◌, ℕ, List, Option, Some, None, ap, codes, subst, sym, IsHourOf, IsNumberOr, IsStartOf, Near, Start, usual_leap}
 
 -- with the text of a date the start is noon of that date
 near_set : (week near : Option (List ℕ)) (text : List ℕ) (start : Start) → near ≡ Some text → IsStartOf week near start → (noon : ℕ) × IsHourOf 12 text noon × (start ≡ Near noon)

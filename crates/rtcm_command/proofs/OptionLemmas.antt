@@ -1,16 +1,8 @@
 -- The values of options.
-use Rattle.std.proofs.Common.{arith}
-use Rattle.std.proofs.lemmas.Grind.{common_steps}
-use Rattle.rtcm_command.specs.SetupOptions.{IsSourceRefused}
+use Rattle.rtcm_command.proofs.Names.{arith, common_steps, IsSourceRefused, Culprit, Devices, HaveFailedBy, NoDevice, IsCompleteBy, IsCompleteSet, IsTimeGiven, IsWindowOf, complete_with, is_given, lacks_one, window_with, culprit, gaps_set, is_some, ◌≡◌, ◌∙◌, ℕ, Bool, true, false, ok_or, codes, IsChoiceSet, IsFromSet, IsUntilSet, Row, choice_by, window_by, List, [], Option, Some, None, Result, Ok, Bor, option_map, unwrap_or, refl, sym, ap, subst, ◌↔◌, ParsesUnsigned, ReadsOne, first_value, one_text, first_of, one_of, rows_of, Found, first_value-rows, one_text-rows, IsHourOf, IsNoonOf, IsNumberOf, IsTimeIn, DateOption, CommandFault, interval_by, interval_in, option_and_then, Err, text_set}
 use Rattle.command_faults.specs.declared.fault.DateOption.TheVariants as dated
-use Rattle.devices.specs.Devices.{Culprit, Devices, HaveFailedBy, NoDevice}
 use Rattle.rinex_inspect.specs.declared.gaps.Window.{Window}
-use Rattle.rtcm_command.specs.CompleteOptions.{IsCompleteBy, IsCompleteSet, IsTimeGiven, IsWindowOf, complete_with, is_given, lacks_one, window_with}
-use Rattle.rtcm_command.specs.Devices.{culprit}
-use Rattle.rtcm_command.specs.SetupOptions.{gaps_set}
-use Rattle.std.proofs.Common.{is_some}
 use Rattle.command_faults.specs.declared.fault.CommandFault.TheVariants as faults
-use Rattle.rtcm_command.proofs.Names.{◌≡◌, ◌∙◌, ℕ, Bool, true, false, ok_or, codes, IsChoiceSet, IsFromSet, IsUntilSet, Row, choice_by, window_by, List, [], Option, Some, None, Result, Ok, Bor, option_map, unwrap_or, refl, sym, ap, subst, ◌↔◌, ParsesUnsigned, ReadsOne, first_value, one_text, first_of, one_of, rows_of, Found, first_value-rows, one_text-rows, IsHourOf, IsNoonOf, IsNumberOf, IsTimeIn, DateOption, CommandFault, interval_by, interval_in, option_and_then, Err, text_set}
 
 -- a typed getter returns the number whose decimal form the text is; P and Q are further properties of the parse
 number_of : {E : Type 0} (P Q : List ℕ → Result ℕ E → Type 0) (bits : ℕ) (text : Option (List ℕ)) (n : Option ℕ) → (text ≡ None → n ≡ None)

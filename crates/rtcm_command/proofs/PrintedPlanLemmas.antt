@@ -1,35 +1,15 @@
 -- A conversion with the options that `options` prints for a stream.
-use Rattle.std.proofs.lemmas.Grind.{common_steps}
-use Rattle.std.specs.Prelude.{◌+◌, ◌*◌, ◌/◌, nat_le, false, option_and_then, if◌then◌else◌, nat_lt, true, ◌||◌}
-use Rattle.std.proofs.Common.{suc}
+use Rattle.rtcm_command.proofs.Names.{common_steps, ◌+◌, ◌*◌, ◌/◌, nat_le, false, option_and_then, if◌then◌else◌, nat_lt, true, ◌||◌, suc, first_of, one_of, System, Glonass, name_of, tabulate, no_channels, is_nil, plan_of, with_channels, PlanValue, plan_with, planned_of, Forms, StationParts, Framed, is_always_decoded, is_decoded, set_of, channels_text, first_station, first_tow, options_line, IsWeekNear, first_week, is_no_week, codes_word, forms_had, had, plan_in, set_had, valued_in, IsDatedByStart, IsLeapFree, setup_value, ArePrintedWords, IsDatedAsPrinted, IsDatedAsSent, IsDatedIn, IsStartedAsFound, StartsAsFound, leap_option, IsPlanSet, ChannelsValue, IsNumberOf, IsNumberOr, IsStartSet, Row, Start, Week, not, usual_leap, Setup, StationValues, bytes_eq, channels_set, height_text, no_values, plan_set, position_text, text_set, values_set, option_map_or, ◌<◌, ◌≡◌, Bool, IfSome, List, None, Ok, Option, Result, Some, [], ap, ap₂, arith, codes, decimal, length, option_map, refl, subst, sym, unwrap_or, ℕ, ◌^◌, ◌∙◌}
 use Rattle.std.proofs.lemmas.Bool.{lt-ltb}
 use Rattle.std.proofs.lemmas.List.Sums.{count_by-le-length}
-use Rattle.clap.specs.Walk.{first_of, one_of}
-use Rattle.gnss_system.specs.declared.system.System.{System}
-use Rattle.gnss_system.specs.declared.system.System.TheVariants.{Glonass}
-use Rattle.gnss_system.specs.Satellites.{name_of}
-use Rattle.gnss_system.specs.SystemValues.{tabulate}
-use Rattle.gnss_obs.specs.Channels.{no_channels}
-use Rattle.gnss_obs.specs.Plans.{is_nil, plan_of, with_channels}
-use Rattle.gnss_obs.specs.Values.{PlanValue, plan_with, planned_of}
 use Rattle.gnss_obs.specs.Weeks.{week, weeks}
 use Rattle.rtcm_msg.specs.Station.{InRange}
-use Rattle.rtcm_msg.specs.declared.number.Forms.{Forms}
 use Rattle.rtcm_msg.specs.declared.number.Forms.TheVariants as forms
 use Rattle.rtcm_msg.specs.declared.number.MsmSet.{MsmSet}
-use Rattle.rtcm_msg.specs.declared.station.StationParts.{StationParts}
-use Rattle.rtcm_scan.specs.Frames.{Framed}
 use Rattle.obs_epoch.specs.Epochs.{values_from}
-use Rattle.obs_epoch.specs.Sets.{is_always_decoded, is_decoded, set_of}
-use Rattle.line_texts.specs.ChannelTexts.{channels_text}
 use Rattle.line_texts.specs.LeapSeconds.{leap_at, leap_months, month_number}
 use Rattle.gnss_obs.specs.Dates.{civil_of}
 use Rattle.rtcm_inspect.specs.ChannelLaws.{HasChannels}
-use Rattle.rtcm_inspect.specs.FirstMessages.{first_station}
-use Rattle.rtcm_inspect.specs.WeekLaws.{first_tow}
-use Rattle.rtcm_inspect.specs.Fitting.{options_line}
-use Rattle.obs_epoch.specs.NearWeek.{IsWeekNear}
-use Rattle.obs_epoch.specs.Starts.{first_week, is_no_week}
 use Rattle.obs_epoch.proofs.StartLaws.{given}
 use Rattle.rtcm_inspect.specs.NearWeek.{IsWeekFor}
 use Rattle.rtcm_inspect.specs.OptionOutput.{IsPrinted}
@@ -39,15 +19,9 @@ use Rattle.rtcm_inspect.specs.declared.first_two.FirstTwo.TheVariants.{One}
 use Rattle.rtcm_inspect.specs.declared.printed_week.WeekSource.{WeekSource}
 use Rattle.rtcm_inspect.specs.declared.printed_week.WeekSource.TheVariants.{Unprinted, Near, Ephemerides}
 use Rattle.rtcm_inspect.specs.SignalLaws.{AreReadAsPlan}
-use Rattle.rtcm_inspect.specs.Signals.{codes_word, forms_had, had, plan_in, set_had, valued_in}
 use Rattle.rtcm_inspect.specs.StreamChannels.{channels_in}
-use Rattle.rtcm_inspect.specs.WeekLaws.{IsDatedByStart, IsLeapFree}
-use Rattle.rtcm_convert.specs.SetupValues.{setup_value}
-use Rattle.rtcm_command.specs.PrintedPlan.{ArePrintedWords, IsDatedAsPrinted, IsDatedAsSent, IsDatedIn, IsStartedAsFound, StartsAsFound, leap_option}
 use Rattle.rtcm_command.proofs.PrintedWordsLemmas.{AreAsPrinted, as_printed, channels_option, forms_text, signals_text}
-use Rattle.rtcm_command.specs.SetupOptions.{IsPlanSet}
 use Rattle.rtcm_command.specs.StationLaws.{AreChannelsSet, AreLeapSecondsRead, AreReadAsStation, AreZeroByDefault, IsStationRead, IsWeekRead}
-use Rattle.rtcm_command.proofs.Names.{ChannelsValue, IsNumberOf, IsNumberOr, IsStartSet, Row, Start, Week, not, usual_leap, Setup, StationValues, bytes_eq, channels_set, height_text, no_values, plan_set, position_text, text_set, values_set, option_map_or, ◌<◌, ◌≡◌, Bool, IfSome, List, None, Ok, Option, Result, Some, [], ap, ap₂, arith, codes, decimal, length, option_map, refl, subst, sym, unwrap_or, ℕ, ◌^◌, ◌∙◌}
 
 -- ---- the signals
 

@@ -1,26 +1,8 @@
 -- The values that the words of the printed options give.
-use Rattle.std.specs.Prelude.{◌&&◌, ◌∷◌, ◌++◌, false, flat_map, if◌then◌else◌, nat_lt, option_and_then, true}
-use Rattle.std.specs.Option.{option_or}
-use Rattle.std.proofs.Common.{append_assoc, append-nil}
-use Rattle.gnss_system.specs.declared.system.System.{System}
-use Rattle.gnss_system.specs.declared.system.System.TheVariants.{Gps, Galileo, Glonass, Beidou, Qzss, Sbas}
-use Rattle.gnss_system.specs.Satellites.{name_of}
+use Rattle.rtcm_command.proofs.Names.{◌&&◌, ◌∷◌, ◌++◌, false, flat_map, if◌then◌else◌, nat_lt, option_and_then, true, option_or, append_assoc, append-nil, System, Gps, Galileo, Glonass, Beidou, Qzss, Sbas, name_of, PlanValue, planned_of, Forms, StationParts, is_always_decoded, is_decoded, channels_text, antenna_words, channel_words, forms_words, further_words, number_words, option_words, other_words, position_word, station_words, codes_word, first_of, one_of, first_station, forms_had, plan_in, Framed, HaveValues, after_prefix, default_of, given, has_equals, printed_words, ChannelsValue, IfSome, Row, text_set, subst, bytes_eq, height_text, not, position_text, option_map_or, ◌≡◌, Bool, List, None, Option, Some, [], ap, codes, decimal, length, option_map, refl, sym, unwrap_or, ℕ, ◌∙◌}
 use Rattle.gnss_system.specs.Systems.{systems}
-use Rattle.gnss_obs.specs.Values.{PlanValue, planned_of}
-use Rattle.rtcm_msg.specs.declared.number.Forms.{Forms}
 use Rattle.rtcm_msg.specs.declared.number.Forms.TheVariants as forms
-use Rattle.rtcm_msg.specs.declared.station.StationParts.{StationParts}
-use Rattle.obs_epoch.specs.Sets.{is_always_decoded, is_decoded}
-use Rattle.line_texts.specs.ChannelTexts.{channels_text}
-use Rattle.rtcm_inspect.specs.Fitting.{antenna_words, channel_words, forms_words, further_words, number_words, option_words, other_words, position_word, station_words}
-use Rattle.rtcm_inspect.specs.Signals.{codes_word}
-use Rattle.clap.specs.Walk.{first_of, one_of}
-use Rattle.rtcm_inspect.specs.FirstMessages.{first_station}
-use Rattle.rtcm_inspect.specs.Signals.{forms_had, plan_in}
-use Rattle.rtcm_scan.specs.Frames.{Framed}
 use Rattle.command_line.specs.CommandLine as rules
-use Rattle.rtcm_command.specs.PrintedPlan.{HaveValues, after_prefix, default_of, given, has_equals, printed_words}
-use Rattle.rtcm_command.proofs.Names.{ChannelsValue, IfSome, Row, text_set, subst, bytes_eq, height_text, not, position_text, option_map_or, ◌≡◌, Bool, List, None, Option, Some, [], ap, codes, decimal, length, option_map, refl, sym, unwrap_or, ℕ, ◌∙◌}
 
 -- the signals of a system: those printed, which are of GPS, of Galileo and of a system with a signal; else the default
 abbrev pub signals_text : PlanValue → System → List ℕ

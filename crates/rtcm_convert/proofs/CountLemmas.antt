@@ -1,7 +1,6 @@
 -- Each frame is counted once.
 use Rattle.rtcm_convert.proofs.ExactLemmas.{outcomes_length}
-use Rattle.rtcm_convert.proofs.Names.{◌≡◌, ℕ, ◌+◌, List, [], ◌∷◌, ◌++◌, Bool, false, refl, arith, length, Option, Some, None, sum_by, option_map, sum_by-cons, Framed, frames_of, Kind, GatherSetup, Heard, is_close_first, kind_of, SetupValue, message_of, messages_of, outcomes_after, tally_of_one, report_of, IsCountedOnce, Report}
-use Rattle.std.proofs.lemmas.Grind.{common_steps}
+use Rattle.rtcm_convert.proofs.Names.{◌≡◌, ℕ, ◌+◌, List, [], ◌∷◌, ◌++◌, Bool, false, refl, arith, length, Option, Some, None, sum_by, option_map, sum_by-cons, Framed, frames_of, Kind, GatherSetup, Heard, is_close_first, kind_of, SetupValue, message_of, messages_of, outcomes_after, tally_of_one, report_of, IsCountedOnce, Report, common_steps}
 
 -- the outcome that no frame has
 abbrev is_first : Option Kind → Bool

@@ -1,19 +1,11 @@
 -- No count of a stream reaches the greatest number that is counted: a frame has at least six bytes and at most 64
 -- cells.
-use Rattle.rtcm_msg.specs.Entries.{entries_in}
+use Rattle.rtcm_convert.proofs.Names.{entries_in, Choice, whole_list, capped_counts, thin_after, epoch_counts, Closed, common_steps, ◌≡◌, ◌||◌, ℕ, ◌+◌, ◌*◌, ◌≤◌, most_bytes, List, [], ◌∷◌, ◌++◌, Bool, true, false, refl, sym, ap, subst, arith, rules, length, length-append, add-zero, suc, nat_lt, Option, Some, None, is_some, filter, if◌then◌else◌, zip, option_map_or, length-map, length-filter, count_by-le-length, System, Framed, Message, Entry, MasksValue, MsmValue, AreMasks, IsMessage, chosen, cell_pairs, all_pairs, entry_in, Kind, GatherSetup, Heard, heard, heard_by, ChannelsValue, heard_msm, is_own, unlisted_in, HeardCell, Timed, timed, timed_after, taken_at, times, counts_of, counts_of_message, no_counts, with_skipped, is_planned, offered, kind_of, kind_at, SetupValue, messages_of, epochs_in, outcomes_after, capped, capped_tally, sum_of_counts, tally_of, tally_of_one, IsFew, AreFew, Report, CellCounts, length-filter-le, length-filter_map-le}
 use Rattle.rtcm_msg.specs.declared.view.Form.{Form}
 use Rattle.rtcm_msg.specs.declared.view.Form.TheVariants as forms
 use Rattle.obs_epoch.proofs.CountLaws.{few_without}
-use Rattle.obs_epoch.specs.declared.choice.Choice.{Choice}
-use Rattle.obs_epoch.specs.GathererHistory.{whole_list}
-use Rattle.obs_epoch.specs.GathererHistory.{capped_counts}
-use Rattle.obs_epoch.specs.Thinning.{thin_after}
-use Rattle.rtcm_convert.specs.Converted.{epoch_counts}
-use Rattle.gnss_obs.specs.Values.{Closed}
-use Rattle.rtcm_convert.proofs.Names.{common_steps, ◌≡◌, ◌||◌, ℕ, ◌+◌, ◌*◌, ◌≤◌, most_bytes, List, [], ◌∷◌, ◌++◌, Bool, true, false, refl, sym, ap, subst, arith, rules, length, length-append, add-zero, suc, nat_lt, Option, Some, None, is_some, filter, if◌then◌else◌, zip, option_map_or, length-map, length-filter, count_by-le-length, System, Framed, Message, Entry, MasksValue, MsmValue, AreMasks, IsMessage, chosen, cell_pairs, all_pairs, entry_in, Kind, GatherSetup, Heard, heard, heard_by, ChannelsValue, heard_msm, is_own, unlisted_in, HeardCell, Timed, timed, timed_after, taken_at, times, counts_of, counts_of_message, no_counts, with_skipped, is_planned, offered, kind_of, kind_at, SetupValue, messages_of, epochs_in, outcomes_after, capped, capped_tally, sum_of_counts, tally_of, tally_of_one, IsFew, AreFew, Report, CellCounts}
 use Rattle.rtcm_msg.specs.declared.message.Message.TheVariants as message
 use Rattle.obs_epoch.specs.declared.taken.Kind.TheVariants as kind
-use Rattle.rtcm_bits.proofs.SmallLaws.{length-filter-le, length-filter_map-le}
 use Rattle.rtcm_bits.proofs.BitLaws.{length-uint}
 
 -- ---- the cells of a message

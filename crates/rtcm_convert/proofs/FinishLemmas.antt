@@ -1,10 +1,6 @@
 -- The end of the stream, after calls that did not fail.
-use Rattle.std.proofs.Common.{arith}
-use Rattle.std.proofs.lemmas.Grind.{common_steps}
-use Rattle.std.specs.Prelude.{max}
-use Rattle.rtcm_convert.specs.Faults.{FailsWithReader, IsFinishFault, IsSentAfter}
+use Rattle.rtcm_convert.proofs.Names.{arith, common_steps, max, FailsWithReader, IsFinishFault, IsSentAfter, ◌≡◌, ℕ, ◌≤◌, List, true, false, Result, IfErr, IsErrOf, Device, Fault, longest_frame}
 use Rattle.rtcm_convert.proofs.FaultLemmas.{never, of_finish}
-use Rattle.rtcm_convert.proofs.Names.{◌≡◌, ℕ, ◌≤◌, List, true, false, Result, IfErr, IsErrOf, Device, Fault, longest_frame}
 
 finish_known : (f : Fault) → IsFinishFault f → of_finish f ≡ true
 finish_known f h = grind (arith, common_steps, of_finish)

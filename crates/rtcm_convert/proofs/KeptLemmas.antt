@@ -1,8 +1,6 @@
 -- What a converter holds.
-use Rattle.rtcm_convert.proofs.Names.{◌≡◌, ℕ, List, true, ap, ◌∙◌, Option, None, length, frames_of, Closed, GatherSetup, Heard, timed, times, closed_so_far, GathererValue, locked_in, firsts, HasGatheredEpochs, is_done, SetupValue, messages_of, locks_at, locks_in_all, Conversion, HasFinished}
-use Rattle.std.specs.Prelude.{◌&&◌}
+use Rattle.rtcm_convert.proofs.Names.{◌≡◌, ℕ, List, true, ap, ◌∙◌, Option, None, length, frames_of, Closed, GatherSetup, Heard, timed, times, closed_so_far, GathererValue, locked_in, firsts, HasGatheredEpochs, is_done, SetupValue, messages_of, locks_at, locks_in_all, Conversion, HasFinished, ◌&&◌, AllClosed}
 use Rattle.obs_epoch.specs.Clock.{is_pending}
-use Rattle.obs_epoch.specs.Laws.{AllClosed}
 
 -- when the stream has ended, all epochs are closed
 pub closed_all : AllClosed → (v : GathererValue) (s : GatherSetup) (ms : List Heard) → v.has_ended ≡ true → closed_so_far s (timed s ms) (is_done v s ms None) ≡ times (timed s ms)

@@ -1,6 +1,5 @@
 -- Bytes that are written one part after the other.
-use Rattle.rtcm_convert.proofs.Names.{arith, ◌≡◌, ℕ, List, [], ◌++◌, sym, ap, ◌∙◌, Option, None, Some, refl, subst, Err, append_assoc, append-nil, IsErrOf, Appends, Keeps, append_cancel_left, Appends-trans, Appends-nil, Appends-kept, AppendsPrefix, IsPrefix, AppendsBetween, AppendsPrefixBetween, AppendsUpTo, Result, IsErrAnd}
-use Rattle.std.proofs.lemmas.Grind.{common_steps}
+use Rattle.rtcm_convert.proofs.Names.{arith, ◌≡◌, ℕ, List, [], ◌++◌, sym, ap, ◌∙◌, Option, None, Some, refl, subst, Err, append_assoc, append-nil, IsErrOf, Appends, Keeps, append_cancel_left, Appends-trans, Appends-nil, Appends-kept, AppendsPrefix, IsPrefix, AppendsBetween, AppendsPrefixBetween, AppendsUpTo, Result, IsErrAnd, common_steps}
 
 pub prefix_more : {z : List ℕ} (a b : Option (List ℕ)) (x y : List ℕ) → z ≡ x ++ y → AppendsPrefix a b x → AppendsPrefix a b z
 prefix_more a b x y e p = (p.0 ++ y, (p.1.0, e ∙ ap (λ l. l ++ y) p.1.1 ∙ append_assoc p.1.0 p.0 y, p.1.2))

@@ -1,9 +1,7 @@
 -- Pieces that a converter accepts up to the end of its stream.
-use Rattle.rtcm_convert.specs.declared.fault.Fault.{Fault}
+use Rattle.rtcm_convert.proofs.Names.{Fault, ◌≡◌, ℕ, ◌+◌, ◌<◌, ◌≤◌, inl, inr, List, ◌++◌, sym, ap, subst, ◌∙◌, arith, Option, append_assoc, length, length-append, take, drop, get_or, flat_map, Vec, take-append-drop, take-append-le, flat_map-append, take-length, joined_pieces, SetupValue, AppendsDecided, AppendsPrefixOfDecided, Conversion, HasConverted, TakesPiece, CutsAtLimit, WritesPrefixOfAdded, StopsAtEnd, FinishesNow, FinishesEmptyNow, CompletesFile, CompletesEmptyFile, FailsAtEnd, StopsInPieces, Report, common_steps}
 use Rattle.rtcm_convert.proofs.PartLemmas.{goes_on-trans}
 use Rattle.rtcm_convert.proofs.RunLemmas.{completed_after, empty_after}
-use Rattle.rtcm_convert.proofs.Names.{◌≡◌, ℕ, ◌+◌, ◌<◌, ◌≤◌, inl, inr, List, ◌++◌, sym, ap, subst, ◌∙◌, arith, Option, append_assoc, length, length-append, take, drop, get_or, flat_map, Vec, take-append-drop, take-append-le, flat_map-append, take-length, joined_pieces, SetupValue, AppendsDecided, AppendsPrefixOfDecided, Conversion, HasConverted, TakesPiece, CutsAtLimit, WritesPrefixOfAdded, StopsAtEnd, FinishesNow, FinishesEmptyNow, CompletesFile, CompletesEmptyFile, FailsAtEnd, StopsInPieces, Report}
-use Rattle.std.proofs.lemmas.Grind.{common_steps}
 
 -- ---- the first pieces
 

@@ -1,12 +1,7 @@
 -- One message passed to the gatherer, and what it adds to the file.
-use Rattle.std.proofs.Common.{arith}
-use Rattle.std.proofs.lemmas.Grind.{common_steps}
-use Rattle.obs_epoch.specs.inner.Calls.{TakesMessage}
-use Rattle.obs_epoch.specs.declared.taken.Taken.{Taken}
-use Rattle.rtcm_convert.specs.Filed.{interval_in}
+use Rattle.rtcm_convert.proofs.Names.{arith, common_steps, TakesMessage, Taken, interval_in, ◌≡◌, ℕ, List, [], ◌∷◌, ◌++◌, Bool, false, append-nil, sym, ap, subst, Option, Some, None, inl, inr, option_to_list, Appends, cases_Bool, AppendsPrefix, IsPrefix, Closed, GatherSetup, Heard, is_close_first, GathererValue, HasGatheredEpochs, IsAwaited, closed_by, closed_in, plan_in, closed_epochs, known_epochs, SetupValue, text_with, AppendsBetween, AppendsPrefixBetween, added, epochs_after, values_after, HasFiledEpochs, FileWriter}
 use Rattle.rtcm_convert.proofs.PartLemmas.{goes_on-by, breaks_off-by, breaks_off-before}
 use Rattle.rtcm_convert.proofs.TextLemmas.{last, text-closed, count-closed, last-closed, text-more}
-use Rattle.rtcm_convert.proofs.Names.{◌≡◌, ℕ, List, [], ◌∷◌, ◌++◌, Bool, false, append-nil, sym, ap, subst, Option, Some, None, inl, inr, option_to_list, Appends, cases_Bool, AppendsPrefix, IsPrefix, Closed, GatherSetup, Heard, is_close_first, GathererValue, HasGatheredEpochs, IsAwaited, closed_by, closed_in, plan_in, closed_epochs, known_epochs, SetupValue, text_with, AppendsBetween, AppendsPrefixBetween, added, epochs_after, values_after, HasFiledEpochs, FileWriter}
 
 -- what the file writer wrote for the epoch that was closed
 pub record Wrote (old new : FileWriter) (now : GathererValue) (a b : Option (List ℕ)) : Type 0 where

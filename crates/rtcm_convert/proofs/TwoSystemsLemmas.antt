@@ -1,13 +1,6 @@
 -- A conversion of GPS and Galileo alone.
-use Rattle.std.proofs.Common.{arith}
-use Rattle.std.proofs.lemmas.Grind.{common_steps}
-use Rattle.std.proofs.Common.{◌≡◌, refl, ℕ, List, [], ◌∷◌}
-use Rattle.std.specs.List.{filter_map}
-use Rattle.rtcm_scan.specs.Frames.{Framed}
-use Rattle.obs_epoch.specs.Heard.{heard_in}
+use Rattle.rtcm_convert.proofs.Names.{arith, common_steps, ◌≡◌, refl, ℕ, List, [], ◌∷◌, filter_map, Framed, heard_in, SetupValue, messages_of, AreMessagesPlain}
 use Rattle.obs_epoch.specs.TwoSystems.{AreReadPlainly, plain_in}
-use Rattle.rtcm_convert.specs.Converted.{SetupValue, messages_of}
-use Rattle.rtcm_convert.specs.Laws.{AreMessagesPlain}
 
 -- the same of each frame, so of all
 same_messages : (s : SetupValue) → ((bytes : List ℕ) → heard_in s.gatherer.plan.channels s.gatherer.leap_seconds s.set bytes ≡ plain_in bytes) → (fs : List Framed)

@@ -1,13 +1,6 @@
 -- Times counted along a stream, and the greatest time at a first MSM, after one more frame.
-use Rattle.std.specs.List.{before_first, position_or_len}
-use Rattle.std.specs.Prelude.{not}
+use Rattle.rtcm_inspect.proofs.Names.{before_first, position_or_len, not, fold-append, take-append-le, week, weeks, counted_before, counted_set, counted_tows, greatest_in, greatest_of, tow_in, with_tow, IsGreatestAt, common_steps, ◌≡◌, ◌∙◌, ◌+◌, ◌*◌, ◌<◌, ◌++◌, ℕ, Bool, List, [], ◌∷◌, Option, Some, None, ap, ap₂, append-nil, arith, filter_map, filter_map-append, first_tow, is_some, length, length-append, option_or, option_to_list, refl, sym, take, if◌then◌else◌, Framed, MsmSet}
 use mathlib.Core.Bool.{cond}
-use Rattle.std.proofs.lemmas.List.Sums.{fold-append}
-use Rattle.std.proofs.lemmas.List.{take-append-le}
-use Rattle.gnss_obs.specs.Weeks.{week, weeks}
-use Rattle.rtcm_inspect.specs.CountedTimes.{counted_before, counted_set, counted_tows, greatest_in, greatest_of, tow_in, with_tow}
-use Rattle.rtcm_inspect.specs.inner.FirstTows.{IsGreatestAt}
-use Rattle.rtcm_inspect.proofs.Names.{common_steps, ◌≡◌, ◌∙◌, ◌+◌, ◌*◌, ◌<◌, ◌++◌, ℕ, Bool, List, [], ◌∷◌, Option, Some, None, ap, ap₂, append-nil, arith, filter_map, filter_map-append, first_tow, is_some, length, length-append, option_or, option_to_list, refl, sym, take, if◌then◌else◌, Framed, MsmSet}
 
 -- ---- the frames before the first MSM of a set
 

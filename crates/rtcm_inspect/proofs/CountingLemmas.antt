@@ -1,9 +1,6 @@
 -- Signal counts as a consumer of frames.
-use Rattle.devices.proofs.PrintingLaws.{Printed}
-use Rattle.rtcm_inspect.specs.CountedTimes.{greatest_in}
-use Rattle.rtcm_inspect.specs.inner.SaidWeeks.{AreSaidIn}
+use Rattle.rtcm_inspect.proofs.Names.{Printed, greatest_in, AreSaidIn, common_steps, ◌≡◌, ◌∙◌, inr, ◌+◌, ◌*◌, ◌<◌, ◌≤◌, ◌^◌, sym, subst, arith, Bool, true, ℕ, List, [], ◌∷◌, ◌++◌, Option, Result, Ok, Err, length, length-append, refl, Framed, frames_of, known_frames, Device, Devices, HasFailed, StreamFault, ⊤, InspectFault, ReaderFailures, culprit, stream_fault, AtFault, Passes, BreaksReading, PassesAll, PassesToLimit, Reads, FramerValue, most_bytes, AreSignalCounts, CountsMessage, SignalCountsValue, inspected, message_at, MsgFault, Message, AreFirst, EndsStream, ReadsTooMuch, Counts, StopsCounting, HasCounted, IsCounted, AreSignals, NeverFails, StreamSignals, StreamCounts, AreFrameCounts, is_msm, msm_in, stream_counts, cond, filter-append, length-filter, count_by-le-length, piece_bytes, forms_had, channels_in}
 use Rattle.rtcm_inspect.proofs.StreamLemmas.{Began}
-use Rattle.rtcm_inspect.proofs.Names.{common_steps, ◌≡◌, ◌∙◌, inr, ◌+◌, ◌*◌, ◌<◌, ◌≤◌, ◌^◌, sym, subst, arith, Bool, true, ℕ, List, [], ◌∷◌, ◌++◌, Option, Result, Ok, Err, length, length-append, refl, Framed, frames_of, known_frames, Device, Devices, HasFailed, StreamFault, ⊤, InspectFault, ReaderFailures, culprit, stream_fault, AtFault, Passes, BreaksReading, PassesAll, PassesToLimit, Reads, FramerValue, most_bytes, AreSignalCounts, CountsMessage, SignalCountsValue, inspected, message_at, MsgFault, Message, AreFirst, EndsStream, ReadsTooMuch, Counts, StopsCounting, HasCounted, IsCounted, AreSignals, NeverFails, StreamSignals, StreamCounts, AreFrameCounts, is_msm, msm_in, stream_counts, cond, filter-append, length-filter, count_by-le-length, piece_bytes, forms_had, channels_in}
 use Rattle.rtcm_inspect.specs.declared.fault.InspectFault.TheVariants as faults
 use Rattle.rtcm_scan.specs.declared.feed.StreamFault.TheVariants as stream
 

@@ -1,9 +1,5 @@
 -- Texts in quotation marks, one after the other.
-use Rattle.std.proofs.Common.{◌≡◌, ◌+◌, ◌<◌, ◌∷◌, ◌++◌, ◌∙◌, [], ℕ, List, length, take, get_or, map, ap, sym}
-use Rattle.std.proofs.lemmas.List.{map-append, map_more}
-use Rattle.std.specs.Borrow.{Bor}
-use Rattle.line_texts.specs.Lines.{with_words}
-use Rattle.rtcm_inspect.specs.EquipmentLines.{quoted}
+use Rattle.rtcm_inspect.proofs.Names.{◌≡◌, ◌+◌, ◌<◌, ◌∷◌, ◌++◌, ◌∙◌, [], ℕ, List, length, take, get_or, map, ap, sym, map-append, map_more, Bor, with_words, quoted}
 use Rattle.rtcm_inspect.proofs.OptionLemmas.{words_more}
 
 -- one more text

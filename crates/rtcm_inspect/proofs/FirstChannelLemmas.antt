@@ -1,9 +1,7 @@
 -- The channel of a slot is the first valid one.
-use Rattle.std.specs.Option.{option_or}
-use Rattle.std.proofs.lemmas.List.{get_or-replicate, length-replicate}
+use Rattle.rtcm_inspect.proofs.Names.{option_or, get_or-replicate, length-replicate, common_steps, arith, Bool, ChannelsValue, List, None, Option, Some, [], ap, flat_map, if◌then◌else◌, length, most_number, nat_le, nat_tests, no_channels, number_at, sent_in, slot_count, sym, with_first, with_sent, ℕ, ◌&&◌, ◌-◌, ◌==◌, ◌∙◌, ◌∷◌, ◌≡◌, ◌≤◌}
 use Rattle.rtcm_inspect.specs.ChannelLaws.{AreFirstChannels, first_valid}
 use Rattle.rtcm_inspect.proofs.FirstLemmas.{or_none}
-use Rattle.rtcm_inspect.proofs.Names.{common_steps, arith, Bool, ChannelsValue, List, None, Option, Some, [], ap, flat_map, if◌then◌else◌, length, most_number, nat_le, nat_tests, no_channels, number_at, sent_in, slot_count, sym, with_first, with_sent, ℕ, ◌&&◌, ◌-◌, ◌==◌, ◌∙◌, ◌∷◌, ◌≡◌, ◌≤◌}
 
 abbrev is_first : ℕ → ℕ × ℕ → Bool
 is_first slot p = (p.0 == slot) && nat_le p.1 most_number

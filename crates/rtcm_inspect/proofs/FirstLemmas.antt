@@ -1,7 +1,6 @@
 -- What the first messages contain, after one more frame.
-use Rattle.rtcm_inspect.specs.declared.first_two.FirstTwo.TheVariants.{Unknown}
+use Rattle.rtcm_inspect.proofs.Names.{Unknown, common_steps, FirstTwo, if◌then◌else◌, ◌≡◌, ◌∙◌, ◌==◌, ◌++◌, ℕ, List, [], ◌∷◌, Option, None, Result, Ok, Err, IfSome, ap, arith, option_and_then, option_or, find-append, Framed, message_at, InRange, MsgFault, Message, Heard, inspected, AreFirst, first_in, option_to_list, point_of, sender, first_two, stations_of, inspected_at, inspected_of, AreTows, FirstMessages, One, Several}
 use Rattle.rtcm_inspect.proofs.CountedLemmas.{filter_map-push}
-use Rattle.rtcm_inspect.proofs.Names.{common_steps, FirstTwo, if◌then◌else◌, ◌≡◌, ◌∙◌, ◌==◌, ◌++◌, ℕ, List, [], ◌∷◌, Option, None, Result, Ok, Err, IfSome, ap, arith, option_and_then, option_or, find-append, Framed, message_at, InRange, MsgFault, Message, Heard, inspected, AreFirst, first_in, option_to_list, point_of, sender, first_two, stations_of, inspected_at, inspected_of, AreTows, FirstMessages, One, Several}
 
 pub or_more : {A : Type 0} (a b c : Option A) → option_or a (option_or b c) ≡ option_or (option_or a b) c
 or_more a b c = grind arith

@@ -1,12 +1,7 @@
 -- The time of week of the first MSM of a set without GLONASS.
-use Rattle.gnss_system.specs.SystemValues.{value_of}
-use Rattle.gnss_system.specs.declared.system.System.TheVariants.{Glonass}
-use Rattle.rtcm_msg.specs.Sets.{has_msm, is_in_set}
+use Rattle.rtcm_inspect.proofs.Names.{value_of, Glonass, has_msm, is_in_set, gps_tow, IsLeapFree, ◌≡◌, ◌∙◌, ◌&&◌, ap, ap₂, sym, subst, refl, ℕ, Bool, true, false, List, [], ◌∷◌, Option, Some, None, Result, Ok, Err, if◌then◌else◌, option_and_then, option_or, MsgFault, Message, Msm4, Msm5, Msm6, Msm7, Form, MsmSet, MsmValue, System, every_channel, have_form, heard, inspected_in, is_of_station, message_at, tow_of}
 use Rattle.rtcm_msg.specs.declared.view.Form.TheVariants as form
-use Rattle.obs_epoch.specs.Heard.{tow_of as gps_tow}
-use Rattle.rtcm_inspect.specs.WeekLaws.{IsLeapFree}
 use Rattle.rtcm_inspect.proofs.SetLemmas.{tow_read, tow_refused}
-use Rattle.rtcm_inspect.proofs.Names.{◌≡◌, ◌∙◌, ◌&&◌, ap, ap₂, sym, subst, refl, ℕ, Bool, true, false, List, [], ◌∷◌, Option, Some, None, Result, Ok, Err, if◌then◌else◌, option_and_then, option_or, MsgFault, Message, Msm4, Msm5, Msm6, Msm7, Form, MsmSet, MsmValue, System, every_channel, have_form, heard, inspected_in, is_of_station, message_at, tow_of}
 
 tow_free : (set : MsmSet) (f : Form) (s : System) (a b time : ℕ) → value_of Glonass set.systems ≡ false → has_msm set f s ≡ true → gps_tow s a time ≡ gps_tow s b time
 tow_free set f Glonass a b time none within = absurd (let e : (false && have_form set.forms f) ≡ true = subst (λ (d : Bool). (d && have_form set.forms f) ≡ true) none within in cc e)

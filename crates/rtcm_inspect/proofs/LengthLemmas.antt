@@ -1,7 +1,5 @@
 -- Lengths that are read back.
-use Rattle.std.proofs.Common.{◌≡◌, ◌<◌, ◌^◌, ◌==◌, ◌++◌, ℕ, ℤ, true, not, List, ◌∷◌, Option, Some, IfSome, arith, refl}
-use Rattle.line_texts.proofs.LengthLaws.{cut_first, size_below, size_unsigned, size_whole}
-use Rattle.rtcm_inspect.proofs.Names.{list_all, option_map_or, FitsInt, InRange, StationParts, height_text, position_text, coordinate_of, cut, length_below, position_of, metres}
+use Rattle.rtcm_inspect.proofs.Names.{◌≡◌, ◌<◌, ◌^◌, ◌==◌, ◌++◌, ℕ, ℤ, true, not, List, ◌∷◌, Option, Some, IfSome, arith, refl, cut_first, size_below, size_unsigned, size_whole, list_all, option_map_or, FitsInt, InRange, StationParts, height_text, position_text, coordinate_of, cut, length_below, position_of, metres}
 
 pub coordinate_read : (z : ℤ) → FitsInt 38 z → coordinate_of (metres z) ≡ Some z
 coordinate_read z fits = grind (arith, size_unsigned, size_below)

@@ -1,8 +1,7 @@
 -- A listing as a consumer of frames.
 use Rattle.rtcm_inspect.proofs.StreamLemmas.{Began}
-use Rattle.rtcm_inspect.proofs.Names.{Err, Ok, OnErr, Result, DeviceFailed, WritesLine, ◌≡◌, ◌∙◌, ◌-◌, ◌<◌, ap, sym, subst, refl, arith, Bool, true, false, ℕ, List, [], ◌∷◌, ◌++◌, Option, append_assoc, append-nil, length, take, Appends, Keeps, flat_map-append, Appends-nil, Appends-trans, Appends-kept, AppendsPrefix, Device, HasFailed, IsPrefix, Framed, decided_frames, known_frames, ⊤, StreamFault, Devices, EndsListing, devices_of, stream_fault, AtFault, BreaksReading, Passes, PassesAll, PassesToLimit, Reads, FramerValue, Listing, Lists, ListsAll, ListsDecided, ListsPart, ListsToLimit, ListsUpTo, listing_line, listing_lines, piece_bytes}
+use Rattle.rtcm_inspect.proofs.Names.{Err, Ok, OnErr, Result, DeviceFailed, WritesLine, ◌≡◌, ◌∙◌, ◌-◌, ◌<◌, ap, sym, subst, refl, arith, Bool, true, false, ℕ, List, [], ◌∷◌, ◌++◌, Option, append_assoc, append-nil, length, take, Appends, Keeps, flat_map-append, Appends-nil, Appends-trans, Appends-kept, AppendsPrefix, Device, HasFailed, IsPrefix, Framed, decided_frames, known_frames, ⊤, StreamFault, Devices, EndsListing, devices_of, stream_fault, AtFault, BreaksReading, Passes, PassesAll, PassesToLimit, Reads, FramerValue, Listing, Lists, ListsAll, ListsDecided, ListsPart, ListsToLimit, ListsUpTo, listing_line, listing_lines, piece_bytes, prefix_self, prefix_trans}
 use Rattle.rtcm_scan.specs.declared.feed.StreamFault.TheVariants as stream
-use Rattle.rtcm_bits.proofs.SmallLaws.{prefix_self, prefix_trans}
 
 -- the lines of one more frame
 lines_more : (k : Listing) (fs : List Framed) (f : Framed) → listing_lines k (fs ++ f ∷ []) ≡ listing_lines k fs ++ listing_line k f

@@ -1,8 +1,5 @@
 -- The line of the options, of its parts.
-use Rattle.line_texts.proofs.LineLaws.{end_line, words_after}
-use Rattle.rtcm_inspect.proofs.Names.{◌≡◌, ◌∙◌, [], ◌∷◌, ◌++◌, ℕ, List, Option, Some, None, ap, sym, append_assoc, append-nil, codes, refl, flat_map, flat_map-append, PlanValue, Gps, Galileo, System, StationParts, codes_word, Forms, forms_words, number_start, number_words, options_line, station_words, line, with_words}
-use Rattle.gnss_system.specs.Systems.{systems}
-use Rattle.rtcm_inspect.specs.Fitting.{first_words, other_words}
+use Rattle.rtcm_inspect.proofs.Names.{end_line, words_after, ◌≡◌, ◌∙◌, [], ◌∷◌, ◌++◌, ℕ, List, Option, Some, None, ap, sym, append_assoc, append-nil, codes, refl, flat_map, flat_map-append, PlanValue, Gps, Galileo, System, StationParts, codes_word, Forms, forms_words, number_start, number_words, options_line, station_words, line, with_words, systems, first_words, other_words}
 
 -- an option with a number before the words of a line
 first_option : (name : List ℕ) (n : Option ℕ) (w : List ℕ) (ws : List (List ℕ)) → number_start name n ++ line (w ∷ ws) ≡ line (number_words name n ++ w ∷ ws)

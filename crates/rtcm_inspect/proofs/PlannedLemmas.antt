@@ -1,11 +1,6 @@
 -- The plan of the signals of a stream has a column for each of its values, and their line is parsed as that plan.
-use Rattle.line_texts.proofs.LineLaws.{first_code, is_comma, last_code}
+use Rattle.rtcm_inspect.proofs.Names.{first_code, is_comma, last_code, lt-ltb, ltb-true, ◌≡◌, ℕ, zero, suc, ◌+◌, ◌<◌, ◌≤◌, ◌==◌, ◌&&◌, ◌||◌, Bool, true, false, not, List, [], ◌∷◌, ◌++◌, length, refl, sym, ap, ap₂, ◌∙◌, subst, arith, filter, map, All, Some, Result, Ok, Err, nat_eq, get_or, append-nil, append_assoc, is_some, AllPass-from_list_all, common_steps, nat_tests, slice_get-get_or, cond, nat_lt, position, list_any, position_or_len, bytes_eq, filter-append, list_any-append, System, SignalAt, IsSignal, table, code_of, signal_of_code, PlanFault, RepeatedCode, is_planned, has_listed_key, GatherSetup, HeardCell, IsKey, below, place_in, between_commas, one_signal_more, signals_after, signals_of, plan_of, planned_of, is_of_signal, count_of, signal_in, had, plan_had, plan_with, ChannelsValue, code_list, codes_word, list_any_at, tabulate, not_all, tabulated_same, value_tabulated, plan_by, signals_in}
 use Rattle.rtcm_inspect.proofs.SignalLemmas.{any_filter, own_signal}
-use Rattle.rtcm_inspect.proofs.Names.{lt-ltb, ltb-true, ◌≡◌, ℕ, zero, suc, ◌+◌, ◌<◌, ◌≤◌, ◌==◌, ◌&&◌, ◌||◌, Bool, true, false, not, List, [], ◌∷◌, ◌++◌, length, refl, sym, ap, ap₂, ◌∙◌, subst, arith, filter, map, All, Some, Result, Ok, Err, nat_eq, get_or, append-nil, append_assoc, is_some, AllPass-from_list_all, common_steps, nat_tests, slice_get-get_or, cond, nat_lt, position, list_any, position_or_len, bytes_eq, filter-append, list_any-append, System, SignalAt, IsSignal, table, code_of, signal_of_code, PlanFault, RepeatedCode, is_planned, has_listed_key, GatherSetup, HeardCell, IsKey, below, place_in, between_commas, one_signal_more, signals_after, signals_of, plan_of, planned_of, is_of_signal, count_of, signal_in, had, plan_had, plan_with, ChannelsValue, code_list, codes_word}
-use Rattle.std.proofs.lemmas.List.Folds.{list_any_at}
-use Rattle.gnss_system.specs.SystemValues.{tabulate}
-use Rattle.gnss_system.proofs.SystemLaws.{not_all, tabulated_same, value_tabulated}
-use Rattle.gnss_obs.specs.Plans.{plan_by, signals_in}
 
 -- ---- rising indices
 

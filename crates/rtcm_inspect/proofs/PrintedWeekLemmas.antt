@@ -1,23 +1,10 @@
 -- The week of the options.
-use Rattle.std.specs.Prelude.{min}
-use Rattle.gnss_obs.specs.Weeks.{week, weeks}
-use Rattle.rtcm_inspect.specs.CountedTimes.{counted_before, counted_tows, greatest_at_first}
-use Rattle.line_texts.specs.LeapSeconds.{leap_at}
+use Rattle.rtcm_inspect.proofs.Names.{min, week, weeks, counted_before, counted_tows, greatest_at_first, leap_at, IsNearestRest, IsOtherTime, first_msm, is_denied, rests_in, whole_in, WeekDate, FirstMsm, AreOptionsRefused, HasSignals, IsWeekAt, IsWeekRefused, is_denied_at, InspectFault, FirstTows, PlacedTow, AreTows, IsGreatestAt, earliest, greatest_among, systems, common_steps, ◌≡◌, ◌∙◌, ◌+◌, ◌-◌, ◌*◌, ◌/◌, ◌<◌, ℕ, false, true, List, Option, Some, IfSome, IsWeekFor, frames_of, ap₂, arith, first_tow, set_had, option_and_then, option_or, refl, subst, Framed, MsmSet}
 use Rattle.rtcm_inspect.specs.FaultWords.{week_date}
-use Rattle.rtcm_inspect.specs.SentWeeks.{IsNearestRest, IsOtherTime, first_msm, is_denied, rests_in, whole_in}
-use Rattle.rtcm_inspect.specs.declared.fault.WeekDate.{WeekDate}
-use Rattle.rtcm_inspect.specs.declared.printed_week.FirstMsm.{FirstMsm}
-use Rattle.rtcm_inspect.specs.OptionOutput.{AreOptionsRefused, HasSignals, IsWeekAt, IsWeekRefused, is_denied_at}
-use Rattle.rtcm_inspect.specs.declared.fault.InspectFault.{InspectFault}
 use Rattle.rtcm_inspect.specs.declared.fault.InspectFault.TheVariants as faults
 use Rattle.rtcm_inspect.specs.declared.printed_week.WeekSource.{WeekSource}
 use Rattle.rtcm_inspect.specs.declared.printed_week.WeekSource.TheVariants.{Near}
-use Rattle.rtcm_inspect.specs.declared.first_tows.FirstTows.{FirstTows}
-use Rattle.rtcm_inspect.specs.declared.first_tows.PlacedTow.{PlacedTow}
-use Rattle.rtcm_inspect.specs.inner.FirstTows.{AreTows, IsGreatestAt, earliest, greatest_among}
-use Rattle.gnss_system.specs.Systems.{systems}
 use Rattle.rtcm_inspect.proofs.CountedLemmas.{at_end, at_none}
-use Rattle.rtcm_inspect.proofs.Names.{common_steps, ◌≡◌, ◌∙◌, ◌+◌, ◌-◌, ◌*◌, ◌/◌, ◌<◌, ℕ, false, true, List, Option, Some, IfSome, IsWeekFor, frames_of, ap₂, arith, first_tow, set_had, option_and_then, option_or, refl, subst, Framed, MsmSet}
 
 -- ---- the greatest time at the first MSM of a set
 

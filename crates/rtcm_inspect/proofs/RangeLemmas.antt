@@ -1,11 +1,6 @@
 -- The first time of week and the first station message of a stream are in range.
-use Rattle.rtcm_msg.proofs.MessageLaws.{message_value}
-use Rattle.rtcm_msg.proofs.SetLaws.{value_with}
-use Rattle.rtcm_msg.specs.Encoding.{IsMessage}
-use Rattle.rtcm_inspect.specs.FirstMessages.{point_of}
+use Rattle.rtcm_inspect.proofs.Names.{message_value, value_with, IsMessage, point_of, IsBelowWeek, ◌≡◌, ◌<◌, subst, refl, arith, ℕ, Bool, List, [], ◌∷◌, Option, None, IfSome, Result, Ok, Err, if◌then◌else◌, option_and_then, option_or, Framed, MsgFault, Message, MsmSet, InRange, every_channel, first_in, first_tow, heard, heard_of, inspected_at, message_at, tow_of, week}
 use Rattle.rtcm_inspect.specs.LengthLaws.{IsFirstInRange}
-use Rattle.rtcm_inspect.specs.WeekLaws.{IsBelowWeek}
-use Rattle.rtcm_inspect.proofs.Names.{◌≡◌, ◌<◌, subst, refl, arith, ℕ, Bool, List, [], ◌∷◌, Option, None, IfSome, Result, Ok, Err, if◌then◌else◌, option_and_then, option_or, Framed, MsgFault, Message, MsmSet, InRange, every_channel, first_in, first_tow, heard, heard_of, inspected_at, message_at, tow_of, week}
 
 either : {A : Type 0} (P : A → Type 0) (a b : Option A) → IfSome a P → IfSome b P → IfSome (option_or a b) P
 either P a b h k = grind arith

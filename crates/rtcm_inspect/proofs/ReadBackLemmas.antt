@@ -1,9 +1,8 @@
 -- Messages, their encodings in frames, and the messages read back.
+use Rattle.rtcm_inspect.proofs.Names.{one_value, zero_read, ◌≡◌, ◌∙◌, sym, ap, subst, refl, arith, ℕ, suc, zero, ◌+◌, ◌*◌, ◌/◌, ◌<◌, ◌≤◌, Bool, false, List, [], ◌∷◌, ◌++◌, length, take, drop, map, replicate, All, get_or, flat_map, length-append, length-take, length-drop, take-append-drop, bits_of, filled, missing, uint, number, frame_bytes, longest_message, longest_message_bits, Framed, AreFrames, frames_of, placed, Message, IsEncoding, IsMessage, ReadsMessage, message_bits, AreEncoded, AreReadAs, ReadsBack, AreKnown}
 use lib.ListN.{length-replicate}
 use Rattle.rtcm_bits.proofs.BitLaws.{length-bits_of, uint-number}
 use Rattle.rtcm_msg.proofs.LengthLaws.{message_short}
-use Rattle.rtcm_msg.proofs.MessageLaws.{one_value, zero_read}
-use Rattle.rtcm_inspect.proofs.Names.{◌≡◌, ◌∙◌, sym, ap, subst, refl, arith, ℕ, suc, zero, ◌+◌, ◌*◌, ◌/◌, ◌<◌, ◌≤◌, Bool, false, List, [], ◌∷◌, ◌++◌, length, take, drop, map, replicate, All, get_or, flat_map, length-append, length-take, length-drop, take-append-drop, bits_of, filled, missing, uint, number, frame_bytes, longest_message, longest_message_bits, Framed, AreFrames, frames_of, placed, Message, IsEncoding, IsMessage, ReadsMessage, message_bits, AreEncoded, AreReadAs, ReadsBack, AreKnown}
 
 length-filled : (bits : List Bool) → length (filled bits) ≡ length bits + missing (length bits)
 length-filled bits = length-append bits (replicate (missing (length bits)) false) ∙ ap (λ (n : ℕ). length bits + n) (length-replicate (missing (length bits)) false)

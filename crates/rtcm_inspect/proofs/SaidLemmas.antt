@@ -1,14 +1,7 @@
 -- What the ephemerides of a stream say of the week, after one more frame.
-use Rattle.std.proofs.Common.{set, suc, zero}
-use Rattle.std.proofs.lemmas.List.{get_or-set_other, get_or-set_same, get_or_past}
-use Rattle.std.proofs.lemmas.List.Folds.{Any-from_list_any, list_any_at}
+use Rattle.rtcm_inspect.proofs.Names.{set, suc, zero, get_or-set_other, get_or-set_same, get_or_past, Any-from_list_any, list_any_at, SentWeek, greatest_in, rest_by, rests_in, said_after, said_at, whole_by, whole_in, AreSaid, AreSaidIn, first_of, common_steps, ◌≡◌, ◌∙◌, ◌<◌, ◌==◌, ◌&&◌, ◌||◌, ◌++◌, ℕ, Bool, true, false, List, [], ◌∷◌, Option, Some, None, ap, arith, below, first_two, get_or, length, list_any, list_any-append, option_and_then, option_to_list, refl, subst, sym, FirstTwo, Framed}
 use Rattle.rtcm_msg.specs.Weeks.{sent_week}
-use Rattle.rtcm_msg.specs.declared.weeks.SentWeek.{SentWeek}
-use Rattle.rtcm_inspect.specs.CountedTimes.{greatest_in}
-use Rattle.rtcm_inspect.specs.SentWeeks.{rest_by, rests_in, said_after, said_at, whole_by, whole_in}
 use Rattle.rtcm_inspect.specs.declared.said_weeks.SaidWeeks.{SaidWeeks}
-use Rattle.rtcm_inspect.specs.inner.SaidWeeks.{AreSaid, AreSaidIn, first_of}
-use Rattle.rtcm_inspect.proofs.Names.{common_steps, ◌≡◌, ◌∙◌, ◌<◌, ◌==◌, ◌&&◌, ◌||◌, ◌++◌, ℕ, Bool, true, false, List, [], ◌∷◌, Option, Some, None, ap, arith, below, first_two, get_or, length, list_any, list_any-append, option_and_then, option_to_list, refl, subst, sym, FirstTwo, Framed}
 
 -- ---- one more frame
 

@@ -1,16 +1,8 @@
 -- Times of a conversion are those counted from week 0, after the begin of the start week.
-use Rattle.std.specs.Prelude.{fold}
-use Rattle.gnss_obs.specs.Weeks.{week, weeks}
-use Rattle.rtcm_msg.specs.declared.weeks.SentWeek.{SentWeek}
-use Rattle.rtcm_inspect.specs.CountedTimes.{with_tow}
-use Rattle.obs_epoch.specs.NearWeek.{half_week}
-use Rattle.obs_epoch.specs.Starts.{first_week}
+use Rattle.rtcm_inspect.proofs.Names.{fold, week, weeks, SentWeek, with_tow, half_week, first_week, given, whole_by, ◌≡◌, ◌∙◌, ◌+◌, ◌*◌, ◌/◌, ◌<◌, ◌≤◌, ◌||◌, ◌++◌, ℕ, Bool, true, false, List, [], ◌∷◌, Option, Some, None, ahead, ap, arith, cons_option, greatest_time, is_own, is_past, max_known, nat_lt, option_map, refl, sym, taken_at, timed_after, if◌then◌else◌, GatherSetup, Heard, Timed}
 use Rattle.obs_epoch.specs.declared.week.Start.{Start}
-use Rattle.obs_epoch.proofs.StartLaws.{given}
 use Rattle.rtcm_inspect.specs.SentWeekLaws.{IsCountedFromStart, IsInSentWeek, own_tows}
-use Rattle.rtcm_inspect.specs.SentWeeks.{whole_by}
 use Rattle.rtcm_inspect.proofs.WeekLemmas.{not_past, placed}
-use Rattle.rtcm_inspect.proofs.Names.{◌≡◌, ◌∙◌, ◌+◌, ◌*◌, ◌/◌, ◌<◌, ◌≤◌, ◌||◌, ◌++◌, ℕ, Bool, true, false, List, [], ◌∷◌, Option, Some, None, ahead, ap, arith, cons_option, greatest_time, is_own, is_past, max_known, nat_lt, option_map, refl, sym, taken_at, timed_after, if◌then◌else◌, GatherSetup, Heard, Timed}
 
 -- ---- the greatest time so far
 

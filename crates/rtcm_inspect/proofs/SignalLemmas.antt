@@ -1,9 +1,5 @@
 -- The text of the signals of a stream, signal by signal.
-use mathlib.Core.Bool.{or-false}
-use Rattle.rtcm_inspect.proofs.Names.{le-ltb, lt-ltb, ltb-false, ltb-true, ◌≡◌, ℕ, zero, suc, ◌+◌, ◌<◌, ◌≤◌, ◌||◌, All, Bool, true, false, List, [], ◌∷◌, ◌++◌, length, get_or, refl, sym, ap, ◌∙◌, arith, filter, append-nil, flat_map-append, cond, nat_lt, codes, list_any, All-head, filter-append, length-filter, count_by-le-length, System, table, code_of, below, SignalCountsValue, AreSignalCounts, common_steps, counted, signal_counts, has_any, signal_in, count_of, is_of_signal, had_below, had, code_list, codes_word, count_line, lines_below, IsKey, HeardCell, list_any-append, has_counted}
-use Rattle.gnss_system.specs.Systems.{systems}
-use Rattle.gnss_system.proofs.SystemLaws.{none_any, some_system}
-use Rattle.line_texts.proofs.LineLaws.{join-push}
+use Rattle.rtcm_inspect.proofs.Names.{or-false, le-ltb, lt-ltb, ltb-false, ltb-true, ◌≡◌, ℕ, zero, suc, ◌+◌, ◌<◌, ◌≤◌, ◌||◌, All, Bool, true, false, List, [], ◌∷◌, ◌++◌, length, get_or, refl, sym, ap, ◌∙◌, arith, filter, append-nil, flat_map-append, cond, nat_lt, codes, list_any, All-head, filter-append, length-filter, count_by-le-length, System, table, code_of, below, SignalCountsValue, AreSignalCounts, common_steps, counted, signal_counts, has_any, signal_in, count_of, is_of_signal, had_below, had, code_list, codes_word, count_line, lines_below, IsKey, HeardCell, list_any-append, has_counted, systems, none_any, some_system, join-push}
 
 below-more : (i : ℕ) → below (i + 1) ≡ below i ++ i ∷ []
 below-more i = let e : i + 1 ≡ suc i = omega arith in rw e refl

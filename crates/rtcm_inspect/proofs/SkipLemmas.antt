@@ -1,10 +1,8 @@
 -- The cells that a conversion skips with the plan of a stream's signals.
 use Rattle.rtcm_msg.specs.declared.view.Form.TheVariants as forms
-use Rattle.rtcm_msg.specs.Encoding.{other_of}
-use Rattle.rtcm_msg.specs.Sets.{is_in_set}
+use Rattle.rtcm_inspect.proofs.Names.{other_of, is_in_set, common_steps, get_or, ◌≡◌, ◌∙◌, ◌+◌, ◌≤◌, ap, sym, bits_of, cons_option, every_channel, filter_map, heard_by, heard_msm, inspected, inspected_in, inspected_of, is_some, seen_in, unlisted_in, ChannelsValue, Entry, MsmValue, System, entries, Msm4, Msm5, Msm6, Msm7, message_at, Message, MsgFault, MsmSet, Result, Ok, Err, Bool, true, false, not, ℕ, List, [], ◌∷◌, filter, All, refl, subst, arith, cond, count_by, option_map_or, All-nil, All-head, All-tail, sum_by-cons, Framed, counts_of_message, is_planned, brings_value, valued, GatherSetup, Heard, HeardCell, Timed, SkipsOnly, valued_in, valued_of, Form}
 use Rattle.rtcm_inspect.proofs.SetLemmas.{ArePlanned, planned_each, found_inside, found_outside, found_refused, none_valued}
 use Rattle.rtcm_inspect.proofs.WeekLemmas.{own_counts}
-use Rattle.rtcm_inspect.proofs.Names.{common_steps, get_or, ◌≡◌, ◌∙◌, ◌+◌, ◌≤◌, ap, sym, bits_of, cons_option, every_channel, filter_map, heard_by, heard_msm, inspected, inspected_in, inspected_of, is_some, seen_in, unlisted_in, ChannelsValue, Entry, MsmValue, System, entries, Msm4, Msm5, Msm6, Msm7, message_at, Message, MsgFault, MsmSet, Result, Ok, Err, Bool, true, false, not, ℕ, List, [], ◌∷◌, filter, All, refl, subst, arith, cond, count_by, option_map_or, All-nil, All-head, All-tail, sum_by-cons, Framed, counts_of_message, is_planned, brings_value, valued, GatherSetup, Heard, HeardCell, Timed, SkipsOnly, valued_in, valued_of, Form}
 
 abbrev one_unless : Bool → ℕ
 one_unless b = cond (not b) 1 0

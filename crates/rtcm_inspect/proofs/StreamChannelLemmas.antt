@@ -1,15 +1,6 @@
 -- The channels of one more frame.
-use Rattle.std.proofs.lemmas.List.{length-set}
-use Rattle.std.proofs.lemmas.List.Elements.{All-replicate, All-set}
-use Rattle.std.proofs.lemmas.List.Sums.{fold-append}
-use Rattle.gnss_system.specs.declared.system.System.TheVariants.{Glonass}
-use Rattle.gnss_system.proofs.SystemLaws.{system_same}
-use Rattle.rtcm_msg.specs.Decoding.{message_by}
-use Rattle.rtcm_msg.specs.Encoding.{number_of}
-use Rattle.rtcm_msg.specs.Numbers.{kind_of}
-use Rattle.rtcm_msg.proofs.MessageLaws.{message_there}
+use Rattle.rtcm_inspect.proofs.Names.{length-set, All-replicate, All-set, fold-append, Glonass, system_same, message_by, number_of, kind_of, message_there, common_steps, AreChannels, Bool, ChannelsValue, Err, Form, Framed, IfSome, List, Message, MsgFault, MsmValue, None, Ok, Option, Other, Result, System, [], ap, arith, channel_of_1020, channels_in, false, flat_map, flat_map-append, is_some, is_system, length, message_at, message_in, most_number, nat_le, no_channels, option_to_list, refl, sent_by, sent_channels, sent_in, sent_of, slot_count, sym, true, with_first, with_sent, ℕ, ◌++◌, ◌==◌, ◌∷◌, ◌≡◌, ◌≤◌}
 use Rattle.rtcm_inspect.proofs.SetLemmas.{if_same}
-use Rattle.rtcm_inspect.proofs.Names.{common_steps, AreChannels, Bool, ChannelsValue, Err, Form, Framed, IfSome, List, Message, MsgFault, MsmValue, None, Ok, Option, Other, Result, System, [], ap, arith, channel_of_1020, channels_in, false, flat_map, flat_map-append, is_some, is_system, length, message_at, message_in, most_number, nat_le, no_channels, option_to_list, refl, sent_by, sent_channels, sent_in, sent_of, slot_count, sym, true, with_first, with_sent, ℕ, ◌++◌, ◌==◌, ◌∷◌, ◌≡◌, ◌≤◌}
 
 -- ---- only a message 1020 has the channel of one
 

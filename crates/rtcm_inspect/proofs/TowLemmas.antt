@@ -1,24 +1,12 @@
 -- The first MSMs of each system, after one more message.
-use mathlib.Core.Bool.{and-or_distrib_right}
-use Rattle.gnss_system.specs.Systems.{systems, index_of, is_system}
-use Rattle.std.proofs.lemmas.List.{length-take-le}
-use Rattle.gnss_system.specs.SystemValues.{tabulate, value_of, with_value_of}
-use Rattle.rtcm_msg.specs.declared.number.Forms.TheVariants.{FourAndSeven, All}
-use Rattle.gnss_system.specs.declared.by_system.BySystem.{BySystem}
-use Rattle.gnss_system.proofs.SystemLaws.{any_system, each_after, index_less, is_tabulated, system_same, systems_split, value_after, value_of_other, value_tabulated}
-use Rattle.rtcm_msg.specs.Sets.{is_in_set}
+use Rattle.rtcm_inspect.proofs.Names.{and-or_distrib_right, systems, index_of, is_system, length-take-le, tabulate, value_of, with_value_of, FourAndSeven, BySystem, any_system, each_after, index_less, is_tabulated, system_same, systems_split, value_after, value_of_other, value_tabulated, is_in_set, weeks, counted_before, counted_set, counted_tows, greatest_in, greatest_of, with_tow, counted_in, AreSettled, AreTows, CountsTow, IsGreatestAt, IsMsmOf, IsWith, PlacesTow, SettlesTows, earlier, earliest, entry, later_by, placed_by, settled, settled_tows, FirstTows, PlacedTow, SystemTows, common_steps, option_or, le-ltb, lt-ltb, Framed, Message, MsgFault, Ok, Err, ◌++◌, ◌≤◌, first_tow, every_channel, heard, inspected_in, MsmValue, drop, length, length-append, message_at, option_map_or, tow_of, week, ◌*◌, ◌==◌, ◌≡◌, ◌∙◌, ◌+◌, ◌<◌, ◌&&◌, ◌||◌, ℕ, Bool, true, false, List, [], ◌∷◌, Option, Some, None, IfSome, ap, ap₂, arith, list_any, option_map, is_some, refl, subst, sym, if◌then◌else◌, have_form, Form, Forms, MsmSet, System}
+use Rattle.rtcm_msg.specs.declared.number.Forms.TheVariants.{All}
 use Rattle.gnss_system.specs.declared.system.System.TheVariants as listed
 use Rattle.rtcm_inspect.proofs.FirstLemmas.{first_more, or_none}
 use Rattle.rtcm_inspect.proofs.SetLemmas.{if_same, tow_read, tow_refused}
 use Rattle.rtcm_inspect.proofs.StreamChannelLemmas.{another_system}
-use Rattle.gnss_obs.specs.Weeks.{weeks}
 use Rattle.rtcm_inspect.proofs.CountedLemmas.{at_more, greatest_more, none_counted, number_kept, number_new, some_counted}
-use Rattle.rtcm_inspect.specs.CountedTimes.{counted_before, counted_set, counted_tows, greatest_in, greatest_of, with_tow, tow_in as counted_in}
-use Rattle.rtcm_inspect.specs.inner.FirstTows.{AreSettled, AreTows, CountsTow, IsGreatestAt, IsMsmOf, IsWith, PlacesTow, SettlesTows, earlier, earliest, entry, later_by, placed_by, settled, settled_tows, tow_in}
-use Rattle.rtcm_inspect.specs.declared.first_tows.FirstTows.{FirstTows}
-use Rattle.rtcm_inspect.specs.declared.first_tows.PlacedTow.{PlacedTow}
-use Rattle.rtcm_inspect.specs.declared.first_tows.SystemTows.{SystemTows}
-use Rattle.rtcm_inspect.proofs.Names.{common_steps, option_or, le-ltb, lt-ltb, Framed, Message, MsgFault, Ok, Err, ◌++◌, ◌≤◌, first_tow, every_channel, heard, inspected_in, MsmValue, drop, length, length-append, message_at, option_map_or, tow_of, week, ◌*◌, ◌==◌, ◌≡◌, ◌∙◌, ◌+◌, ◌<◌, ◌&&◌, ◌||◌, ℕ, Bool, true, false, List, [], ◌∷◌, Option, Some, None, IfSome, ap, ap₂, arith, list_any, option_map, is_some, refl, subst, sym, if◌then◌else◌, have_form, Form, Forms, MsmSet, System}
+use Rattle.rtcm_inspect.specs.inner.FirstTows.{tow_in}
 
 -- a time of week before a place
 abbrev pub IsBefore : ℕ → Option PlacedTow → Type 0

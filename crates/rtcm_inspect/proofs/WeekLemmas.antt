@@ -1,8 +1,6 @@
 -- The nearest week, and the time of the first MSM.
-use Rattle.obs_epoch.specs.Starts.{first_week, is_no_week}
-use Rattle.obs_epoch.proofs.StartLaws.{of_weeks}
+use Rattle.rtcm_inspect.proofs.Names.{first_week, is_no_week, of_weeks, ◌≡◌, ◌∙◌, ◌+◌, ◌-◌, ◌*◌, ◌/◌, ◌<◌, ◌≤◌, ◌==◌, ◌&&◌, ◌||◌, ◌++◌, ℕ, Bool, true, false, List, [], ◌∷◌, Option, Some, None, Result, Ok, Err, refl, sym, ap, arith, cons_option, filter_map, nat_lt, option_and_then, if◌then◌else◌, option_or, option_map_or, week, weeks, Framed, message_with, MsmSet, MsgFault, Message, Msm4, Msm5, Msm6, Msm7, GatherSetup, Heard, is_own, is_of_station, Timed, ahead, greatest_time, is_closed, is_past, taken_at, timed_after, first_tow, tow_of, ChannelsValue, every_channel, heard_in, heard_of, IsNearestWeek, IsWeekNear, half_week, first_time}
 use Rattle.rtcm_inspect.proofs.FirstLemmas.{or_more, or_none}
-use Rattle.rtcm_inspect.proofs.Names.{◌≡◌, ◌∙◌, ◌+◌, ◌-◌, ◌*◌, ◌/◌, ◌<◌, ◌≤◌, ◌==◌, ◌&&◌, ◌||◌, ◌++◌, ℕ, Bool, true, false, List, [], ◌∷◌, Option, Some, None, Result, Ok, Err, refl, sym, ap, arith, cons_option, filter_map, nat_lt, option_and_then, if◌then◌else◌, option_or, option_map_or, week, weeks, Framed, message_with, MsmSet, MsgFault, Message, Msm4, Msm5, Msm6, Msm7, GatherSetup, Heard, is_own, is_of_station, Timed, ahead, greatest_time, is_closed, is_past, taken_at, timed_after, first_tow, tow_of, ChannelsValue, every_channel, heard_in, heard_of, IsNearestWeek, IsWeekNear, half_week, first_time}
 
 -- ---- the nearest week, by its quotient q: n = q * week + r
 

@@ -1,9 +1,5 @@
 -- The steps of a chain of reads that succeeded or failed.
-use Rattle.std.proofs.Common.{ℕ, ◌≡◌, ◌+◌, ◌^◌, ◌<◌, ◌≤◌, ◌++◌, length, take, drop, Result, Ok, Err, refl, inl, inr, arith, subst, ◌∙◌, sym, ap}
-use Rattle.std.proofs.lemmas.Bool.{cases_lt}
-use Rattle.std.proofs.lemmas.List.{take-append-drop, length-take-le}
-use Rattle.rtcm_msg.specs.inner.Names.{uint, number, Cursor, advanced, unsigned_at, MsgFault, Short, ◌>>=◌, number_at}
-use Rattle.rtcm_bits.proofs.BitLaws.{number-take-fits, uint-number}
+use Rattle.rtcm_msg.proofs.Names.{ℕ, ◌≡◌, ◌+◌, ◌^◌, ◌<◌, ◌≤◌, ◌++◌, length, take, drop, Result, Ok, Err, refl, inl, inr, arith, subst, ◌∙◌, sym, ap, cases_lt, take-append-drop, length-take-le, uint, number, Cursor, advanced, unsigned_at, MsgFault, Short, ◌>>=◌, number_at, number-take-fits, uint-number}
 
 pub bind_ok : {A B : Type 0} (r : Result A MsgFault) (f : A → Result B MsgFault) (y : B) → (r >>= f) ≡ Ok y → (x : A) × (r ≡ Ok x) × (f x ≡ Ok y)
 bind_ok r f y h = grind arith

@@ -1,13 +1,5 @@
 -- Bounds of the values of a cell.
-use Rattle.std.proofs.Common.{ℕ, ℤ, pos, ◌^◌, ◌<◌, ◌≤◌, ◌+ℤ◌, ◌*ℤ◌, Bool, List, [], ◌∷◌, map, unsigned_abs, arith}
-use Rattle.std.specs.Prelude.{IfSome}
-use Rattle.std.specs.List.{AllByRecursion}
-use Rattle.std.proofs.lemmas.Int.{ints}
-use Rattle.rtcm_msg.specs.inner.Names.{FitsInt, Message, Pair, Form, scaled, invalid_rough_rate, invalid_fine_rate, rate_joined, strength_of, MsmValue, entry_in, entries, IsMeasured}
-use Rattle.rtcm_msg.specs.declared.data.Satellite.{Satellite}
-use Rattle.rtcm_msg.specs.declared.data.Cell.{Cell}
-use Rattle.rtcm_msg.specs.Forms.{precision, least, entry, IsSatelliteData, IsCellData, FitsIf}
-use Rattle.rtcm_msg.specs.inner.FormLaws.{satellite_in_range, cell_in_range}
+use Rattle.rtcm_msg.proofs.Names.{ℕ, ℤ, pos, ◌^◌, ◌<◌, ◌≤◌, ◌+ℤ◌, ◌*ℤ◌, Bool, List, [], ◌∷◌, map, unsigned_abs, arith, IfSome, AllByRecursion, ints, FitsInt, Message, Pair, Form, scaled, invalid_rough_rate, invalid_fine_rate, rate_joined, strength_of, MsmValue, entry_in, entries, IsMeasured, Satellite, Cell, precision, least, entry, IsSatelliteData, IsCellData, FitsIf, satellite_in_range, cell_in_range}
 
 abbrev Small : ℤ → Type 0
 Small z = unsigned_abs z ≤ 2 ^ 26

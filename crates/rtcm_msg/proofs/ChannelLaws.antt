@@ -1,9 +1,5 @@
 -- The channels in a message, one satellite after the other.
-use Rattle.std.proofs.Common.{ℕ, ◌≡◌, ◌+◌, ◌^◌, ◌<◌, ◌≤◌, ◌∙◌, Bool, true, false, List, [], length, count_ones, refl, sym, arith}
-use Rattle.rtcm_msg.specs.inner.Names.{FormedMsm, Form, MsmValue, formed, ids, message_in}
-use Rattle.rtcm_msg.specs.Channels.{channels_by, channels_of, has_channels, sent_channels}
-use Rattle.rtcm_msg.specs.Forms.{satellite_data}
-use Rattle.rtcm_msg.specs.inner.FormLaws.{satellite_in_range}
+use Rattle.rtcm_msg.proofs.Names.{ℕ, ◌≡◌, ◌+◌, ◌^◌, ◌<◌, ◌≤◌, ◌∙◌, Bool, true, false, List, [], length, count_ones, refl, sym, arith, FormedMsm, Form, MsmValue, formed, ids, message_in, channels_by, channels_of, has_channels, sent_channels, satellite_data, satellite_in_range}
 use Rattle.rtcm_msg.proofs.PairLaws.{ids_none}
 use Rattle.rtcm_msg.proofs.CountLaws.{ids_count}
 

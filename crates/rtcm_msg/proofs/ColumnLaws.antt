@@ -1,12 +1,5 @@
 -- Reading columns: the bits of the columns that were read, reading encoded columns, and the fault.
-use Rattle.std.proofs.lemmas.Grind.{common_steps}
-use Rattle.std.proofs.Common.{ℕ, zero, suc, ◌≡◌, ◌+◌, ◌*◌, ◌/◌, ◌%◌, ◌^◌, Bool, List, [], ◌∷◌, ◌++◌, length, map, Ok, refl, sym, ap, subst, ◌∙◌, arith, append_assoc, replicate, add_comm}
-use Rattle.std.specs.List.{flat_map}
-use Rattle.std.proofs.lemmas.List.{length-map}
-use Rattle.std.proofs.Math.Nat.{div-eq_of_lt}
-use Rattle.std.proofs.lemmas.Nat.{shr_high, shr-shr, div-add-mod', mod_below, pow_pos}
-use Rattle.rtcm_msg.specs.inner.Names.{uint, Cursor, number_at, total_width, columns, column_at, columns_at, EachBelow}
-use Rattle.rtcm_bits.proofs.BitLaws.{uint-low}
+use Rattle.rtcm_msg.proofs.Names.{common_steps, ℕ, zero, suc, ◌≡◌, ◌+◌, ◌*◌, ◌/◌, ◌%◌, ◌^◌, Bool, List, [], ◌∷◌, ◌++◌, length, map, Ok, refl, sym, ap, subst, ◌∙◌, arith, append_assoc, replicate, add_comm, flat_map, length-map, div-eq_of_lt, shr_high, shr-shr, div-add-mod', mod_below, pow_pos, uint, Cursor, number_at, total_width, columns, column_at, columns_at, EachBelow, uint-low}
 use Rattle.rtcm_msg.proofs.Binds.{bind_ok, ok_inj, number_consumed, Consumed}
 use Rattle.rtcm_msg.proofs.Combine.{cursor, number_again}
 

@@ -1,8 +1,5 @@
 -- Bounds of the numbers in columns.
-use Rattle.std.proofs.Common.{[], ℕ, zero, suc, subst, ◌≡◌, ◌+◌, ◌*◌, ◌^◌, ◌<◌, List, ◌∷◌, length, drop, get_or, Ok, refl, ap, arith, add-one, add-zero, zero-add, add_assoc, replicate}
-use Rattle.std.proofs.Math.Seq.{drop-cons}
-use Rattle.std.proofs.lemmas.Nat.{pow-add, pow_pos}
-use Rattle.rtcm_msg.specs.inner.Names.{Cursor, number_at, total_width, column_at, columns_at, EachBelow}
+use Rattle.rtcm_msg.proofs.Names.{[], ℕ, zero, suc, subst, ◌≡◌, ◌+◌, ◌*◌, ◌^◌, ◌<◌, List, ◌∷◌, length, drop, get_or, Ok, refl, ap, arith, add-one, add-zero, zero-add, add_assoc, replicate, drop-cons, pow-add, pow_pos, Cursor, number_at, total_width, column_at, columns_at, EachBelow}
 use Rattle.rtcm_msg.proofs.Binds.{bind_ok, ok_inj, number_consumed}
 
 -- One more field in each.

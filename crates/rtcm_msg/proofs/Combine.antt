@@ -1,8 +1,5 @@
 -- Chains of fields: the bits that were read, reading encoded fields, and the fault.
-use Rattle.std.proofs.lemmas.Grind.{common_steps}
-use Rattle.std.proofs.Common.{ℕ, ◌≡◌, ◌+◌, ◌^◌, ◌<◌, ◌≤◌, Bool, List, ◌∷◌, ◌++◌, Result, Ok, Some, arith, length-append}
-use Rattle.rtcm_msg.specs.inner.Names.{uint, Cursor, MsgFault, number_at, ◌>>=◌, first_past}
-use Rattle.rtcm_bits.proofs.BitLaws.{length-uint, number_of-uint}
+use Rattle.rtcm_msg.proofs.Names.{common_steps, ℕ, ◌≡◌, ◌+◌, ◌^◌, ◌<◌, ◌≤◌, Bool, List, ◌∷◌, ◌++◌, Result, Ok, Some, arith, length-append, uint, Cursor, MsgFault, number_at, ◌>>=◌, first_past, length-uint, number_of-uint}
 use Rattle.rtcm_msg.proofs.Binds.{number_there}
 
 -- ---- the fault

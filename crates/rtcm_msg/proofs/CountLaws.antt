@@ -1,13 +1,6 @@
 -- The number of IDs, pairs and cells.
-use Rattle.std.proofs.Common.{ℕ, zero, suc, ◌≡◌, ◌+◌, ◌*◌, ◌%◌, ◌==◌, ◌^◌, ◌<◌, ◌≤◌, Bool, true, false, List, [], ◌∷◌, length, map, refl, ap, ◌∙◌, arith, count_ones, length-append}
-use Rattle.std.proofs.lemmas.Nat.{ones_cat, mod_below}
-use Rattle.std.specs.Int.Count.{ones, ones_in}
-use Rattle.std.proofs.Math.Nat.{mod-eq_of_lt}
-use Rattle.std.proofs.lemmas.List.{length-map}
+use Rattle.rtcm_msg.proofs.Names.{ℕ, zero, suc, ◌≡◌, ◌+◌, ◌*◌, ◌%◌, ◌==◌, ◌^◌, ◌<◌, ◌≤◌, Bool, true, false, List, [], ◌∷◌, length, map, refl, ap, ◌∙◌, arith, count_ones, length-append, ones_cat, mod_below, ones, ones_in, mod-eq_of_lt, length-map, flat_map, enumerate_from, Pair, MasksValue, AreMasks, pair_count, uint, up_from, ids, chosen, pair, all_pairs, cell_pairs, length-uint, mod-suc}
 use Rattle.std.proofs.lemmas.List.FromFn.{length-enumerate_from}
-use Rattle.std.specs.List.{flat_map, enumerate_from}
-use Rattle.rtcm_msg.specs.inner.Names.{Pair, MasksValue, AreMasks, pair_count, uint, up_from, ids, chosen, pair, all_pairs, cell_pairs}
-use Rattle.rtcm_bits.proofs.BitLaws.{length-uint, mod-suc}
 
 -- ---- the number of IDs
 

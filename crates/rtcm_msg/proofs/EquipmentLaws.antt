@@ -1,8 +1,5 @@
 -- Texts of the equipment that follow each other.
-use Rattle.std.proofs.Common.{ℕ, ◌≡◌, ◌+◌, ◌∷◌, ◌++◌, [], List, length, Result, Ok, Err, suc, refl}
-use Rattle.std.proofs.lemmas.List.{append_assoc}
-use Rattle.rtcm_msg.specs.Fields.{◌>>=◌}
-use Rattle.rtcm_msg.specs.Equipment.{text_at, texts_at}
+use Rattle.rtcm_msg.proofs.Names.{ℕ, ◌≡◌, ◌+◌, ◌∷◌, ◌++◌, [], List, length, Result, Ok, Err, suc, refl, append_assoc, ◌>>=◌, text_at, texts_at}
 use Rattle.rtcm_msg.specs.declared.fault.EquipmentFault.{EquipmentFault}
 
 -- what was read before, and then this

@@ -1,9 +1,5 @@
 -- The result of reading bits: the value, or the fault.
-use Rattle.std.proofs.Common.{ℕ, zero, suc, ◌≡◌, ◌+◌, ◌*◌, ◌^◌, ◌<◌, ◌≤◌, Bool, true, false, List, [], ◌∷◌, ◌++◌, length, Result, Ok, Err, None, refl, ap, ◌∙◌, arith, ◌⊎◌, inl, inr, replicate, count_ones}
-use Rattle.std.proofs.lemmas.Bool.{cases_lt, cases_Bool}
-use Rattle.std.proofs.lemmas.List.{length-replicate, length-drop}
-use Rattle.gnss_system.specs.declared.system.System.{System}
-use Rattle.rtcm_msg.specs.inner.Names.{Cursor, MsgFault, BadTime, TooManyCells, Short, MsmHeader, number_at, ◌>>=◌, first_past, total_width, column_at, columns_at, repeated, time_table, header_table, mask_table, header_of, header_at, masks_at, msm_at, is_time, MsmValue, pair_count}
+use Rattle.rtcm_msg.proofs.Names.{ℕ, zero, suc, ◌≡◌, ◌+◌, ◌*◌, ◌^◌, ◌<◌, ◌≤◌, Bool, true, false, List, [], ◌∷◌, ◌++◌, length, Result, Ok, Err, None, refl, ap, ◌∙◌, arith, ◌⊎◌, inl, inr, replicate, count_ones, cases_lt, cases_Bool, length-replicate, length-drop, System, Cursor, MsgFault, BadTime, TooManyCells, Short, MsmHeader, number_at, ◌>>=◌, first_past, total_width, column_at, columns_at, repeated, time_table, header_table, mask_table, header_of, header_at, masks_at, msm_at, is_time, MsmValue, pair_count}
 use Rattle.rtcm_msg.proofs.FieldLaws.{contents_at, fields_at, cursor_at, field_at, number_there_at, ShortAt, short_at_more, short_at_after, fields_read, past_none, past_through}
 use Rattle.rtcm_msg.proofs.Binds.{number_short}
 use Rattle.rtcm_msg.proofs.Combine.{past_here, past_next}

@@ -1,9 +1,5 @@
 -- The fields of a table, read as one: the bits that were read, reading encoded fields, and the fault.
-use Rattle.std.proofs.lemmas.Grind.{common_steps}
-use Rattle.std.proofs.Common.{ℕ, true, ◌≡◌, ◌+◌, ◌<◌, ◌≤◌, Bool, List, [], ◌∷◌, ◌++◌, length, drop, Result, Ok, Err, Some, None, refl, sym, ap, subst, ◌∙◌, arith, append_assoc, ◌⊎◌, inl, inr, add_assoc, add-zero}
-use Rattle.std.proofs.lemmas.Bool.{and_parts, cases_lt}
-use Rattle.std.proofs.lemmas.List.{length-drop, drop-drop}
-use Rattle.rtcm_msg.specs.inner.Names.{uint, has_sign, have_signs, FitAll, number-content, content_fits, content-number, number_fits, Table, width, widths, Contents, content, fields_of, Cursor, advanced, unsigned_at, MsgFault, Short, number_at, ◌>>=◌, field_bits, first_past, reading, total_width}
+use Rattle.rtcm_msg.proofs.Names.{common_steps, ℕ, true, ◌≡◌, ◌+◌, ◌<◌, ◌≤◌, Bool, List, [], ◌∷◌, ◌++◌, length, drop, Result, Ok, Err, Some, None, refl, sym, ap, subst, ◌∙◌, arith, append_assoc, ◌⊎◌, inl, inr, add_assoc, add-zero, and_parts, cases_lt, length-drop, drop-drop, uint, has_sign, have_signs, FitAll, number-content, content_fits, content-number, number_fits, Table, width, widths, Contents, content, fields_of, Cursor, advanced, unsigned_at, MsgFault, Short, number_at, ◌>>=◌, field_bits, first_past, reading, total_width}
 use Rattle.rtcm_msg.specs.Layout.{number_of}
 pub use Rattle.rtcm_msg.specs.Fields.{cursor_at, field_at}
 use Rattle.rtcm_msg.proofs.Binds.{ok_inj, number_there, number_short, consumed_at, ok_err}

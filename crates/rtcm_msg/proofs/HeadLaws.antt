@@ -1,11 +1,5 @@
 -- Fields at known positions: the check that they are within the bits, and the result of reading them.
-use Rattle.std.proofs.Common.{ℕ, ◌≡◌, ◌+◌, ◌-◌, ◌*◌, ◌%◌, ◌<◌, ◌≤◌, nat_lt, Bool, true, false, List, [], ◌∷◌, ◌++◌, length, Result, Ok, Err, Option, Some, None, refl, sym, ap, ◌∙◌, arith, inl, inr, ◌⊎◌}
-use Rattle.std.proofs.Math.Nat.{mod-eq_of_lt}
-use Rattle.std.proofs.lemmas.Bool.{cases_lt}
-use Rattle.std.proofs.lemmas.List.{length-drop}
-use Rattle.gnss_system.specs.declared.system.System.{System}
-use Rattle.rtcm_msg.specs.inner.Names.{bits_of, MsgFault, BadTime, TooManyCells, Short, Table, widths, ◌>>=◌, first_past, number_at, total_width, end_of_rows, time_table, header_table, mask_table, header_of, header_in, header_at, masks_at, is_time, pair_count, field_widths, parts_in, station_at, station_table}
-use Rattle.rtcm_bits.proofs.BitLaws.{length-bits_of}
+use Rattle.rtcm_msg.proofs.Names.{ℕ, ◌≡◌, ◌+◌, ◌-◌, ◌*◌, ◌%◌, ◌<◌, ◌≤◌, nat_lt, Bool, true, false, List, [], ◌∷◌, ◌++◌, length, Result, Ok, Err, Option, Some, None, refl, sym, ap, ◌∙◌, arith, inl, inr, ◌⊎◌, mod-eq_of_lt, cases_lt, length-drop, System, bits_of, MsgFault, BadTime, TooManyCells, Short, Table, widths, ◌>>=◌, first_past, number_at, total_width, end_of_rows, time_table, header_table, mask_table, header_of, header_in, header_at, masks_at, is_time, pair_count, field_widths, parts_in, station_at, station_table, length-bits_of}
 use Rattle.rtcm_msg.proofs.Binds.{number_short, ok_err}
 use Rattle.rtcm_msg.proofs.Combine.{past_here}
 use Rattle.rtcm_msg.proofs.FieldLaws.{contents_at, fields_at, cursor_at, field_at, number_there_at, ShortAt, fields_read, past_none}

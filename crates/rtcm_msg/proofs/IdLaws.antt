@@ -1,8 +1,5 @@
 -- Masks and rising lists of IDs correspond one to one.
-use Rattle.std.proofs.Common.{ℕ, zero, suc, ◌≡◌, ◌+◌, ◌==◌, ◌^◌, ◌<◌, ◌≤◌, Bool, true, false, List, [], ◌∷◌, length, refl, sym, ap, subst, ◌∙◌, arith, if◌then◌else◌, inl, inr}
-use Rattle.std.proofs.lemmas.Bool.{cases_eq}
-use Rattle.rtcm_msg.specs.inner.Names.{uint, number, up_from, ids, Rising}
-use Rattle.rtcm_bits.proofs.BitLaws.{length-uint, uint-number, number-fits, number_of-uint}
+use Rattle.rtcm_msg.proofs.Names.{ℕ, zero, suc, ◌≡◌, ◌+◌, ◌==◌, ◌^◌, ◌<◌, ◌≤◌, Bool, true, false, List, [], ◌∷◌, length, refl, sym, ap, subst, ◌∙◌, arith, if◌then◌else◌, inl, inr, cases_eq, uint, number, up_from, ids, Rising, length-uint, uint-number, number-fits, number_of-uint}
 
 pub weaken : (low more high : ℕ) (xs : List ℕ) → low ≤ more → Rising more high xs → Rising low high xs
 weaken low more high [] h r = tt

@@ -1,13 +1,7 @@
 -- No message is longer than 1,023 bytes.
-use Rattle.std.proofs.Common.{ℕ, ◌≡◌, ◌+◌, ◌*◌, ◌/◌, ◌^◌, ◌≤◌, List, [], ◌∷◌, ◌++◌, length, refl, ◌∙◌, arith, lit≤, length-append, count_ones, Option}
-use Rattle.std.specs.List.{flat_map}
-use Rattle.std.proofs.lemmas.Nat.{mul-le, ones-le}
-use Rattle.rtcm_msg.specs.inner.Names.{uint, Message, field_bits, fields_width, total_width, columns, station_fields, MsmValue, IsValue, pair_count, msm_bits, header_fields, mask_fields, IsMessage, message_bits, message_number, satellite_widths, cell_widths, Form}
-use Rattle.rtcm_bits.specs.FrameOf.{longest_message_bits}
-use Rattle.rtcm_bits.proofs.BitLaws.{length-uint}
+use Rattle.rtcm_msg.proofs.Names.{ℕ, ◌≡◌, ◌+◌, ◌*◌, ◌/◌, ◌^◌, ◌≤◌, List, [], ◌∷◌, ◌++◌, length, refl, ◌∙◌, arith, lit≤, length-append, count_ones, Option, flat_map, mul-le, ones-le, uint, Message, field_bits, fields_width, total_width, columns, station_fields, MsmValue, IsValue, pair_count, msm_bits, header_fields, mask_fields, IsMessage, message_bits, message_number, satellite_widths, cell_widths, Form, longest_message_bits, length-uint, narrow}
 use Rattle.rtcm_msg.specs.declared.message.Message.TheVariants as messages
 use Rattle.rtcm_msg.specs.declared.view.Form.TheVariants as forms
-use Rattle.rtcm_msg.specs.inner.FormLaws.{narrow}
 
 length-field_bits : (fs : List (ℕ × ℕ)) → length (field_bits fs) ≡ fields_width fs
 unfolding field_bits

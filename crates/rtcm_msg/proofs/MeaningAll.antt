@@ -1,10 +1,5 @@
 -- Each meaning is that of a value.
-use Rattle.std.proofs.Common.{ℕ, suc, ◌≡◌, ◌+◌, ◌==◌, ◌^◌, ◌<◌, ◌≤◌, Bool, true, false, List, [], ◌∷◌, ◌++◌, length, map, refl, sym, ap, subst, ◌∙◌, arith, count_ones, if◌then◌else◌, ◌⊎◌, inl, inr}
-use Rattle.std.specs.List.{flat_map, zip, enumerate_from}
-use Rattle.std.proofs.lemmas.List.{length-map, map-append}
-use Rattle.std.proofs.lemmas.Nat.{pow_pos}
-use Rattle.rtcm_msg.specs.inner.Names.{uint, number, Pair, MsmValue, MasksValue, AreMasks, IsValue, pair_count, ids, chosen, pair, all_pairs, cell_pairs, Rising, Meaning, meaning, ids_of, pair_number, cell_ids, IsMeaning, IsIn, Each, keys, data_of}
-use Rattle.rtcm_bits.proofs.BitLaws.{uint-number, number-fits}
+use Rattle.rtcm_msg.proofs.Names.{ℕ, suc, ◌≡◌, ◌+◌, ◌==◌, ◌^◌, ◌<◌, ◌≤◌, Bool, true, false, List, [], ◌∷◌, ◌++◌, length, map, refl, sym, ap, subst, ◌∙◌, arith, count_ones, if◌then◌else◌, ◌⊎◌, inl, inr, flat_map, zip, enumerate_from, length-map, map-append, pow_pos, uint, number, Pair, MsmValue, MasksValue, AreMasks, IsValue, pair_count, ids, chosen, pair, all_pairs, cell_pairs, Rising, Meaning, meaning, ids_of, pair_number, cell_ids, IsMeaning, IsIn, Each, keys, data_of, uint-number, number-fits}
 use Rattle.rtcm_msg.proofs.IdLaws.{weaken, ids_all}
 use Rattle.rtcm_msg.proofs.CountLaws.{ids_count, pairs_count, cell_pairs_count}
 use Rattle.rtcm_msg.proofs.MeaningLaws.{map-map, all_rising}

@@ -1,10 +1,6 @@
 -- A value and its meaning correspond one to one.
-use Rattle.std.proofs.Common.{ℕ, ◌≡◌, ◌+◌, ◌*◌, ◌≤◌, Bool, true, false, List, [], ◌∷◌, ◌++◌, length, map, refl, sym, ap, subst, ◌∙◌, arith}
-use Rattle.std.specs.List.{flat_map, zip, enumerate_from}
+use Rattle.rtcm_msg.proofs.Names.{ℕ, ◌≡◌, ◌+◌, ◌*◌, ◌≤◌, Bool, true, false, List, [], ◌∷◌, ◌++◌, length, map, refl, sym, ap, subst, ◌∙◌, arith, flat_map, zip, enumerate_from, length-map, map-append, uint, number, Pair, MsmValue, MasksValue, AreMasks, IsValue, pair_count, ids, chosen, pair, all_pairs, cell_pairs, Rising, Meaning, meaning, ids_of, pair_number, cell_ids, length-uint, number_of-uint}
 use Rattle.std.proofs.lemmas.Slice.Zip.{firsts-zip, seconds-zip}
-use Rattle.std.proofs.lemmas.List.{length-map, map-append}
-use Rattle.rtcm_msg.specs.inner.Names.{uint, number, Pair, MsmValue, MasksValue, AreMasks, IsValue, pair_count, ids, chosen, pair, all_pairs, cell_pairs, Rising, Meaning, meaning, ids_of, pair_number, cell_ids}
-use Rattle.rtcm_bits.proofs.BitLaws.{length-uint, number_of-uint}
 use Rattle.rtcm_msg.proofs.IdLaws.{weaken, ids_rising, ids_one, cons_tail}
 use Rattle.rtcm_msg.proofs.CountLaws.{ids_count, pairs_count, cell_pairs_count}
 

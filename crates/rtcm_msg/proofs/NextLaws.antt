@@ -1,7 +1,5 @@
 -- What an iterator over the cells of a message keeps.
-use Rattle.std.proofs.Common.{ℕ, ◌≡◌, ◌+◌, ◌<◌, ◌≤◌, List, [], ◌∷◌, length, map, ap, arith}
-use Rattle.std.specs.List.{zip}
-use Rattle.rtcm_msg.specs.inner.Names.{Pair}
+use Rattle.rtcm_msg.proofs.Names.{ℕ, ◌≡◌, ◌+◌, ◌<◌, ◌≤◌, List, [], ◌∷◌, length, map, ap, arith, zip, Pair}
 
 pub index_below : (i n m k : ℕ) → i < n → k ≡ m → k ≡ n → i < m
 index_below i n m k h e f = omega arith

@@ -1,13 +1,6 @@
 -- The message numbers.
-use Rattle.std.proofs.lemmas.Grind.{common_steps}
-use Rattle.std.proofs.Common.{ℕ, ◌≡◌, ◌/◌, ◌%◌, ◌==◌, ◌^◌, ◌<◌, Bool, true, List, [], ◌∷◌, Option, Some, refl, subst, arith, if◌then◌else◌}
-use Rattle.std.specs.Prelude.{IfSome}
-use Rattle.std.specs.List.{find}
-use Rattle.gnss_system.specs.declared.system.System.{System}
+use Rattle.rtcm_msg.proofs.Names.{common_steps, ℕ, ◌≡◌, ◌/◌, ◌%◌, ◌==◌, ◌^◌, ◌<◌, Bool, true, List, [], ◌∷◌, Option, Some, refl, subst, arith, if◌then◌else◌, IfSome, find, System, Kind, kind_of, station_number, message_number, Form, msm_tens, system_of_tens, digit_of, form_of_digit, msm_kind}
 use Rattle.gnss_system.specs.Systems.{systems}
-use Rattle.rtcm_msg.specs.inner.Names.{Kind, kind_of, station_number, message_number, Form}
-use Rattle.gnss_system.specs.Satellites.{msm_tens, system_of_tens}
-use Rattle.rtcm_msg.specs.Numbers.{digit_of, form_of_digit, msm_kind}
 use Rattle.rtcm_msg.specs.declared.view.Form.TheVariants as forms
 use Rattle.rtcm_msg.specs.declared.number.Kind.TheVariants as kinds
 

@@ -1,8 +1,5 @@
 -- Lists of packed numbers, one after the other.
-use Rattle.std.proofs.Common.{ℕ, zero, suc, ◌≡◌, ◌^◌, ◌<◌, List, [], ◌∷◌, length, map, take, All, arith, ap, ◌∙◌, subst, sym}
-use Rattle.std.proofs.Math.Seq.{take-length}
-use Rattle.std.proofs.lemmas.Nat.{pow_pos}
-use Rattle.rtcm_msg.specs.inner.Names.{EachBelow}
+use Rattle.rtcm_msg.proofs.Names.{ℕ, zero, suc, ◌≡◌, ◌^◌, ◌<◌, List, [], ◌∷◌, length, map, take, All, arith, ap, ◌∙◌, subst, sym, take-length, pow_pos, EachBelow}
 
 pub map_below : {X : Type 0} (f : X → ℕ) (P : X → Type 0) (b : ℕ) (xs : List X) → All P xs → ((x : X) → P x → f x < 2 ^ b) → EachBelow b (map f xs)
 map_below f P b [] h law k = pow_pos b

@@ -1,10 +1,5 @@
 -- Data read from their position in the bits are those read in order.
-use Rattle.std.proofs.Common.{[], ℕ, zero, suc, ◌≡◌, ◌+◌, ◌*◌, ◌-◌, ◌%◌, ◌^◌, ◌<◌, ◌≤◌, nat_lt, Bool, true, false, List, ◌∷◌, length, drop, get_or, Result, Ok, Err, refl, sym, ap, ◌∙◌, arith, add-one, replicate, inl, inr}
-use Rattle.std.proofs.Math.Seq.{drop-cons, drop-length}
-use Rattle.std.proofs.Math.Nat.{mod-eq_of_lt, add-mod_right}
-use Rattle.std.proofs.lemmas.Bool.{cases_lt}
-use Rattle.std.proofs.lemmas.List.{length-replicate, length-drop, get_or-replicate}
-use Rattle.rtcm_msg.specs.inner.Names.{Cursor, MsgFault, Short, cursor_at, field_at, total_width, column_at, columns_at, numbers_in, rows_at, end_of_rows, row_at}
+use Rattle.rtcm_msg.proofs.Names.{[], ℕ, zero, suc, ◌≡◌, ◌+◌, ◌*◌, ◌-◌, ◌%◌, ◌^◌, ◌<◌, ◌≤◌, nat_lt, Bool, true, false, List, ◌∷◌, length, drop, get_or, Result, Ok, Err, refl, sym, ap, ◌∙◌, arith, add-one, replicate, inl, inr, drop-cons, drop-length, mod-eq_of_lt, add-mod_right, cases_lt, length-replicate, length-drop, get_or-replicate, Cursor, MsgFault, Short, cursor_at, field_at, total_width, column_at, columns_at, numbers_in, rows_at, end_of_rows, row_at}
 use Rattle.rtcm_msg.proofs.Binds.{ok_inj, number_short, ok_err}
 use Rattle.rtcm_msg.proofs.FieldLaws.{number_there_at}
 

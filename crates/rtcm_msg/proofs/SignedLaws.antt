@@ -1,8 +1,7 @@
 -- Numbers with a sign whose width is changed.
+use Rattle.rtcm_msg.proofs.Names.{ℕ, ℤ, ◌≡◌, ◌<◌, ◌≤◌, ◌^◌, arith, to_z, of_z, FitsSigned, to_z-of_z}
 use mir.Syntax.{Width}
 use mir.Val.{hbits}
-use Rattle.std.proofs.Common.{ℕ, ℤ, ◌≡◌, ◌<◌, ◌≤◌, ◌^◌, arith, to_z, of_z, FitsSigned}
-use Rattle.std.proofs.lemmas.Int.{to_z-of_z}
 
 abbrev raised : (n a b : ℕ) → n < a → a ≤ b → n < b
 raised n a b h k = omega (arith, h, k)

@@ -1,9 +1,5 @@
 -- The message of a view is the one that `decode` returns.
-use Rattle.std.proofs.Common.{ℕ, ◌≡◌, ◌+◌, ◌*◌, ◌^◌, ◌<◌, ◌≤◌, Bool, List, length, slice_index, Result, Ok, Err, refl, sym, ap, subst, ◌∙◌, arith, replicate, count_ones}
-use Rattle.gnss_system.specs.declared.system.System.{System}
-use Rattle.rtcm_msg.specs.inner.Names.{bits_of, Cursor, MsgFault, MsmHeader, Form, cursor_at, total_width, columns_at, EachBelow, MasksValue, IsHeader, AreMasks, IsValue, header_at, masks_at, msm_at, LastBits, AreLast, rows_at, row_at, end_of_rows, Data, satellite_widths, cell_widths, satellite_rows, cell_rows, message_in, formed_at, AreWithin, AreDataOf}
-use Rattle.rtcm_bits.specs.FrameOf.{longest_message}
-use Rattle.rtcm_bits.proofs.BitLaws.{length-bits_of}
+use Rattle.rtcm_msg.proofs.Names.{ℕ, ◌≡◌, ◌+◌, ◌*◌, ◌^◌, ◌<◌, ◌≤◌, Bool, List, length, slice_index, Result, Ok, Err, refl, sym, ap, subst, ◌∙◌, arith, replicate, count_ones, System, bits_of, Cursor, MsgFault, MsmHeader, Form, cursor_at, total_width, columns_at, EachBelow, MasksValue, IsHeader, AreMasks, IsValue, header_at, masks_at, msm_at, LastBits, AreLast, rows_at, row_at, end_of_rows, Data, satellite_widths, cell_widths, satellite_rows, cell_rows, message_in, formed_at, AreWithin, AreDataOf, longest_message, length-bits_of}
 use Rattle.rtcm_msg.proofs.ColumnSteps.{columns_fit}
 use Rattle.rtcm_msg.proofs.RowLaws.{Ends, rows_end, rows_count, end_is, row_is}
 

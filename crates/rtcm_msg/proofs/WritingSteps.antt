@@ -1,10 +1,5 @@
 -- The loops that write fields and columns.
-use Rattle.std.proofs.Common.{ℕ, suc, ◌≡◌, ◌+◌, ◌*◌, ◌/◌, ◌%◌, ◌^◌, ◌<◌, ◌≤◌, Bool, List, [], ◌∷◌, ◌++◌, length, drop, get_or, refl, sym, ap, ◌∙◌, arith, append_assoc, add-one}
-use Rattle.std.proofs.Math.Seq.{drop-cons}
-use Rattle.std.proofs.lemmas.Nat.{one_shl, div-add-mod'}
-use Rattle.std.specs.List.{flat_map}
-use Rattle.rtcm_msg.specs.inner.Names.{uint, field_bits, fields_width, columns, total_width}
-use Rattle.rtcm_bits.proofs.BitLaws.{uint-low}
+use Rattle.rtcm_msg.proofs.Names.{ℕ, suc, ◌≡◌, ◌+◌, ◌*◌, ◌/◌, ◌%◌, ◌^◌, ◌<◌, ◌≤◌, Bool, List, [], ◌∷◌, ◌++◌, length, drop, get_or, refl, sym, ap, ◌∙◌, arith, append_assoc, add-one, drop-cons, one_shl, div-add-mod', flat_map, uint, field_bits, fields_width, columns, total_width, uint-low}
 
 pub field_bits-append : (fs gs : List (ℕ × ℕ)) → field_bits (fs ++ gs) ≡ field_bits fs ++ field_bits gs
 unfolding field_bits

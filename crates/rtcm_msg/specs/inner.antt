@@ -12,4 +12,3 @@ pub mod Viewed
 pub mod Presences
 pub mod ValueCounts
 pub mod Summaries
-pub mod Names

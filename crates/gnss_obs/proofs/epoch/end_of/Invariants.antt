@@ -1,5 +1,4 @@
-use Rattle.std.proofs.Common.{◌≡◌, ◌+◌, ◌≤◌, drop, length}
-use Rattle.gnss_obs.specs.Values.{run}
+use Rattle.gnss_obs.proofs.Names.{◌≡◌, ◌+◌, ◌≤◌, drop, length, run}
 use Rattle.gnss_obs.proofs.epoch.end_of.Given as goal
 
 -- The cells so far are of that satellite.

@@ -1,5 +1,4 @@
-use Rattle.std.proofs.Common.{◌≡◌, ◌≤◌, ◌∙◌, arith, length, subst, sym}
-use Rattle.gnss_system.specs.Satellites.{satellites as satellites_in}
+use Rattle.gnss_obs.proofs.Names.{◌≡◌, ◌≤◌, ◌∙◌, arith, length, subst, sym, satellites_in}
 use Rattle.gnss_obs.proofs.GroupLaws.{all_counted, counted_after, counted_all}
 use Rattle.gnss_obs.proofs.epoch.written.Goals as goal
 

@@ -1,6 +1,4 @@
-use Rattle.std.proofs.Common.{◌≡◌, []}
-use Rattle.gnss_system.specs.SystemValues.{value_of}
-use Rattle.gnss_system.proofs.SystemLaws.{Passed}
+use Rattle.gnss_obs.proofs.Names.{◌≡◌, [], value_of, Passed}
 use Rattle.gnss_obs.proofs.epoch_cells.clear_all.Given as goal
 
 -- The systems so far have no cells.

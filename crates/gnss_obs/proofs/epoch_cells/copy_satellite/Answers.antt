@@ -1,5 +1,4 @@
-use Rattle.std.proofs.Common.{◌+◌, ◌*◌, ◌∙◌, sym, ap, arith, subst, get_or, is_some, map}
-use Rattle.gnss_obs.specs.inner.Names.{AreBelow, has_slot, indices, slot}
+use Rattle.gnss_obs.proofs.Names.{◌+◌, ◌*◌, ◌∙◌, sym, ap, arith, subst, get_or, is_some, map, AreBelow, has_slot, indices, slot}
 use Rattle.gnss_obs.proofs.SortLemmas.{entries_end, entry_found, entry_none}
 use Rattle.gnss_obs.proofs.epoch_cells.copy_satellite.Goals.{in-Some, in_default}
 use Rattle.gnss_obs.proofs.epoch_cells.copy_satellite.Goals as goal

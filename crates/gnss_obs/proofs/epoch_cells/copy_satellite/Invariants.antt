@@ -1,5 +1,4 @@
-use Rattle.std.proofs.Common.{◌+◌, ◌*◌}
-use Rattle.gnss_obs.specs.inner.Names.{AreBelow, indices}
+use Rattle.gnss_obs.proofs.Names.{◌+◌, ◌*◌, AreBelow, indices}
 use Rattle.gnss_obs.proofs.epoch_cells.copy_satellite.Given as goal
 
 abbrev pub invariant-loop-i : goal.invariant-loop-i

@@ -1,5 +1,4 @@
-use Rattle.std.proofs.Common.{◌<◌, length, subst, sym}
-use Rattle.gnss_obs.specs.Values.{planned_of}
+use Rattle.gnss_obs.proofs.Names.{◌<◌, length, subst, sym, planned_of}
 use Rattle.gnss_obs.proofs.SortLemmas.{few_sorted, slots_sorted}
 use Rattle.gnss_obs.proofs.epoch_cells.is_sorted.Goals as goal
 

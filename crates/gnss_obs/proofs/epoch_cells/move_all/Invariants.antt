@@ -1,8 +1,4 @@
-use Rattle.std.proofs.Common.{◌≡◌, []}
-use Rattle.gnss_obs.specs.Arriving.{sorted_cells}
-use Rattle.gnss_system.specs.SystemValues.{value_of}
-use Rattle.gnss_obs.specs.Values.{planned_of}
-use Rattle.gnss_system.proofs.SystemLaws.{Passed}
+use Rattle.gnss_obs.proofs.Names.{◌≡◌, [], sorted_cells, value_of, planned_of, Passed}
 use Rattle.gnss_obs.proofs.epoch_cells.move_all.Given as goal
 
 -- The cells of the systems so far are moved, the others as they were.

@@ -1,5 +1,4 @@
-use Rattle.std.proofs.Common.{◌∙◌, ap, sym}
-use Rattle.gnss_obs.specs.inner.Names.{Cell}
+use Rattle.gnss_obs.proofs.Names.{◌∙◌, ap, sym, Cell}
 use Rattle.gnss_obs.proofs.SetLemmas.{one_satellite_more}
 use Rattle.gnss_obs.proofs.epoch_cells.satellites_of.Goals as goal
 

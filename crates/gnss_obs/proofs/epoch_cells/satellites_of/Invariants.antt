@@ -1,6 +1,4 @@
-use Rattle.std.proofs.Common.{take}
-use Rattle.gnss_obs.specs.inner.Arriving.{HasSatellites}
-use Rattle.gnss_obs.specs.inner.Names.{satellites}
+use Rattle.gnss_obs.proofs.Names.{take, HasSatellites, satellites}
 use Rattle.gnss_obs.proofs.epoch_cells.satellites_of.Given as goal
 
 abbrev pub invariant-loop-i : goal.invariant-loop-i

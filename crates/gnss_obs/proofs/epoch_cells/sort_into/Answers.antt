@@ -1,10 +1,7 @@
-use Rattle.std.proofs.Common.{◌≡◌, ◌≤◌, ◌+◌, ◌*◌, sym, arith, subst, length}
-use Rattle.gnss_obs.specs.inner.Names.{AreBelow, planned_of, satellites}
-use Rattle.gnss_obs.specs.inner.Arriving.{HasSatellites}
+use Rattle.gnss_obs.proofs.Names.{◌≡◌, ◌≤◌, ◌+◌, ◌*◌, sym, arith, subst, length, AreBelow, planned_of, satellites, HasSatellites, common_steps}
 use Rattle.gnss_obs.proofs.SetLemmas.{AreSortedTo, all_sorted, few_satellites, lowest, lowest_bit, lowest_rises, lowest_sorted, none_sorted}
 use Rattle.gnss_obs.proofs.SortLemmas.{few_planned}
 use Rattle.gnss_obs.proofs.epoch_cells.sort_into.Goals as goal
-use Rattle.std.proofs.lemmas.Grind.{common_steps}
 
 pub loop-left-init : goal.loop-left-init
 loop-left-init c =

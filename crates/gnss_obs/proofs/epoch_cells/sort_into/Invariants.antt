@@ -1,5 +1,4 @@
-use Rattle.std.proofs.Common.{◌-◌}
-use Rattle.gnss_obs.specs.inner.Names.{planned_of, satellites}
+use Rattle.gnss_obs.proofs.Names.{◌-◌, planned_of, satellites}
 use Rattle.gnss_obs.proofs.SetLemmas.{AreSortedTo, lowest}
 use Rattle.gnss_obs.proofs.epoch_cells.sort_into.Given as goal
 

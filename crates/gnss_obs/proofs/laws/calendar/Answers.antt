@@ -1,9 +1,6 @@
-use Rattle.std.proofs.Common.{arith, ◌≡◌, ℕ, ◌+◌, ◌*◌, ◌/◌, ◌%◌, ◌≤◌, pos}
-use Rattle.jiff_core.specs.Calendar.{IsCivilDate}
-use Rattle.gnss_obs.specs.Dates.{date_of}
+use Rattle.gnss_obs.proofs.Names.{arith, ◌≡◌, ℕ, ◌+◌, ◌*◌, ◌/◌, ◌%◌, ◌≤◌, pos, IsCivilDate, date_of, common_steps}
 use Rattle.gnss_obs.proofs.WalkLaws.{date_of_is, hours}
 use Rattle.gnss_obs.proofs.laws.calendar.Goals as goal
-use Rattle.std.proofs.lemmas.Grind.{common_steps}
 
 clock_is : (c : ℕ) → c / 3_600_000 * 3_600_000 + c / 60_000 % 60 * 60_000 + c % 60_000 ≡ c
 clock_is c = omega arith

@@ -1,13 +1,8 @@
 -- The signals that a text of codes adds to earlier ones are those that its codes name, each once; a plan is the two
 -- lists that are added to none.
-use Rattle.std.proofs.Common.{◌≡◌, ℕ, length, Bool, true, false, List, [], ◌∷◌, ◌++◌, nat_eq, refl, sym, ap, ◌∙◌, subst, arith, append_assoc, append-nil, Option, Some, None, Result, Ok, Err, if◌then◌else◌}
-use Rattle.std.specs.List.{list_any, IsDistinct}
-use Rattle.std.proofs.lemmas.Cmp.{nat_eq_equiv}
-use Rattle.std.proofs.lemmas.Map.Keys.{IsDistinct-push}
-use Rattle.gnss_obs.specs.inner.Names.{System, SignalAt, signal_of_code, PlanFault, RepeatedCode, signals_after, one_signal_more, CodesNameSignals}
+use Rattle.gnss_obs.proofs.Names.{◌≡◌, ℕ, length, Bool, true, false, List, [], ◌∷◌, ◌++◌, nat_eq, refl, sym, ap, ◌∙◌, subst, arith, append_assoc, append-nil, Option, Some, None, Result, Ok, Err, if◌then◌else◌, list_any, IsDistinct, nat_eq_equiv, IsDistinct-push, System, SignalAt, signal_of_code, PlanFault, RepeatedCode, signals_after, one_signal_more, CodesNameSignals, common_steps}
 use Rattle.gnss_obs.proofs.PlanLaws.{of_where}
 use Rattle.gnss_obs.proofs.laws.plans.Goals as goal
-use Rattle.std.proofs.lemmas.Grind.{common_steps}
 
 -- These signals after the earlier ones.
 record Read (system : System) (earlier : List ℕ) (codes : List (List ℕ)) (all : List ℕ) : Type 0 where

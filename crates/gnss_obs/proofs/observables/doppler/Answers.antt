@@ -1,7 +1,4 @@
-use Rattle.std.proofs.Common.{◌≡◌, ◌*◌, ◌*ℤ◌, ◌-ℤ◌, ◌∙◌, ap, pos, sym, subst, lit<, Some}
-use Rattle.gnss_obs.specs.Rounding.{IsRounded}
-use Rattle.gnss_obs.specs.Observables.{doppler_by, light}
-use Rattle.gnss_obs.specs.inner.Names.{hertz_of}
+use Rattle.gnss_obs.proofs.Names.{◌≡◌, ◌*◌, ◌*ℤ◌, ◌-ℤ◌, ◌∙◌, ap, pos, sym, subst, lit<, Some, IsRounded, doppler_by, light, hertz_of}
 use Rattle.gnss_obs.proofs.NearestLaws.{rounded}
 use Rattle.gnss_obs.proofs.observables.doppler.Goals as goal
 

@@ -1,10 +1,6 @@
-use Rattle.std.proofs.Common.{◌≡◌, ◌^◌, ◌*ℤ◌, ◌∙◌, ap, pos, sym, subst, lit<}
-use Rattle.gnss_obs.specs.Rounding.{IsRounded}
-use Rattle.gnss_obs.specs.Observables.{phase_by}
-use Rattle.gnss_obs.specs.inner.Names.{hertz_of}
+use Rattle.gnss_obs.proofs.Names.{◌≡◌, ◌^◌, ◌*ℤ◌, ◌∙◌, ap, pos, sym, subst, lit<, IsRounded, phase_by, hertz_of, Some}
 use Rattle.gnss_obs.proofs.NearestLaws.{rounded}
 use Rattle.gnss_obs.proofs.observables.phase.Goals as goal
-use Rattle.std.proofs.Common.{Some}
 
 value_is : (c : goal.After-phase_at) → c.phase_at.result ≡ phase_by (Some (hertz_of c.args.signal)) c.args.phase
 value_is c = c.phase_at.ensures.value ∙ ap (λ h. phase_by (Some h) c.args.phase) c.hertz.ensures.value

@@ -1,9 +1,6 @@
-use Rattle.std.proofs.Common.{◌≡◌, ◌^◌, ◌<◌, unsigned_abs, arith, sym, subst}
-use Rattle.std.proofs.lemmas.Int.{ints}
-use Rattle.gnss_obs.specs.inner.Names.{nearest_phase}
+use Rattle.gnss_obs.proofs.Names.{◌≡◌, ◌^◌, ◌<◌, unsigned_abs, arith, sym, subst, ints, nearest_phase, common_steps}
 use Rattle.gnss_obs.proofs.SizeLaws.{cycles_small, kept}
 use Rattle.gnss_obs.proofs.observables.phase_at.Goals as goal
-use Rattle.std.proofs.lemmas.Grind.{common_steps}
 
 value_is : (c : goal.After-new) → c.new.result ≡ nearest_phase c.in-Some-Some.h c.in-Some-Some.p
 value_is c = grind (arith, common_steps, ints, kept)

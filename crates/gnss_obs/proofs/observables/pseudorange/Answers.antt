@@ -1,6 +1,4 @@
-use Rattle.std.proofs.Common.{arith}
-use Rattle.std.proofs.lemmas.Grind.{common_steps}
-use Rattle.std.proofs.lemmas.Int.{ints}
+use Rattle.gnss_obs.proofs.Names.{arith, common_steps, ints}
 use Rattle.gnss_obs.proofs.SizeLaws.{metres_small}
 use Rattle.gnss_obs.proofs.observables.pseudorange.Goals as goal
 

@@ -1,7 +1,4 @@
-use Rattle.std.proofs.Common.{◌≡◌, ◌∙◌, [], sym, subst, arith}
-use Rattle.gnss_system.specs.SystemValues.{value_of}
-use Rattle.gnss_obs.specs.inner.SignalLists.{IsOf}
-use Rattle.gnss_system.proofs.SystemLaws.{equal_values, value_mapped, passed_all}
+use Rattle.gnss_obs.proofs.Names.{◌≡◌, ◌∙◌, [], sym, subst, arith, value_of, IsOf, equal_values, value_mapped, passed_all}
 use Rattle.gnss_obs.proofs.plan.add_all.Goals as goal
 
 pub returns : goal.returns

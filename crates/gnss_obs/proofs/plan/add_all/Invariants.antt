@@ -1,7 +1,4 @@
-use Rattle.std.proofs.Common.{◌≡◌, []}
-use Rattle.gnss_system.specs.SystemValues.{value_of}
-use Rattle.gnss_obs.specs.inner.SignalLists.{IsOf}
-use Rattle.gnss_system.proofs.SystemLaws.{Passed}
+use Rattle.gnss_obs.proofs.Names.{◌≡◌, [], value_of, IsOf, Passed}
 use Rattle.gnss_obs.proofs.plan.add_all.Given as goal
 
 -- The lists of the systems so far are those given, and fit; the others are empty.

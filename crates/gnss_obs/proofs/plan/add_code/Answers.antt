@@ -1,10 +1,7 @@
-use Rattle.std.proofs.Common.{◌≡◌, ◌++◌, ◌∷◌, [], ℕ, List, inl, inr, sym, ◌∙◌, Result, Ok, Err, Some, MatchResult}
-use Rattle.gnss_obs.specs.inner.Names.{System, SignalAt, signal_of_code, PlanFault, UnknownCode, RepeatedCode, IsOf, TakesCode, RefusesCode, IsMemoryFaultOr, IsUnfitAfter, MayAdd, MayTakeCode, indices}
+use Rattle.gnss_obs.proofs.Names.{◌≡◌, ◌++◌, ◌∷◌, [], ℕ, List, inl, inr, sym, ◌∙◌, Result, Ok, Err, Some, MatchResult, System, SignalAt, signal_of_code, PlanFault, UnknownCode, RepeatedCode, IsOf, TakesCode, RefusesCode, IsMemoryFaultOr, IsUnfitAfter, MayAdd, MayTakeCode, indices, arith, common_steps}
 use Rattle.gnss_obs.proofs.FitLemmas.{not_before}
 use Rattle.gnss_obs.proofs.PlanLaws.{repeated, accepted, of_where}
 use Rattle.gnss_obs.proofs.plan.add_code.Goals as goal
-use Rattle.std.proofs.Common.{arith}
-use Rattle.std.proofs.lemmas.Grind.{common_steps}
 
 -- The fault of a code's signal is that of the code.
 refused : (system : System) (code : List ℕ) (ss : List SignalAt) (s : SignalAt) (e : PlanFault) → signal_of_code system code ≡ Some s → IsUnfitAfter system ss s e

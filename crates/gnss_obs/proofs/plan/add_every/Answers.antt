@@ -1,6 +1,4 @@
-use Rattle.std.proofs.Common.{◌∙◌, sym, ap, subst, rules}
-use Rattle.gnss_obs.specs.SignalLists.{indices}
-use Rattle.gnss_obs.specs.inner.SignalLists.{IsOf}
+use Rattle.gnss_obs.proofs.Names.{◌∙◌, sym, ap, subst, rules, indices, IsOf}
 use Rattle.gnss_obs.proofs.PlanLaws.{none_of, index_added}
 use Rattle.gnss_obs.proofs.plan.add_every.Goals as goal
 

@@ -1,5 +1,4 @@
-use Rattle.std.proofs.Common.{◌≡◌}
-use Rattle.gnss_obs.specs.inner.Names.{indices, IsOf, below}
+use Rattle.gnss_obs.proofs.Names.{◌≡◌, indices, IsOf, below}
 use Rattle.gnss_obs.proofs.plan.add_every.Given as goal
 
 abbrev pub invariant-loop-index : goal.invariant-loop-index

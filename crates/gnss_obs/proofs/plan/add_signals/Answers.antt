@@ -1,9 +1,7 @@
-use Rattle.std.proofs.lemmas.Result.{err_from_is_err_and}
+use Rattle.gnss_obs.proofs.Names.{err_from_is_err_and, arith, common_steps}
 use Rattle.gnss_obs.proofs.PlanLaws.{none_of}
 use Rattle.gnss_obs.proofs.FitLemmas.{unfit_at}
 use Rattle.gnss_obs.proofs.plan.add_signals.Goals as goal
-use Rattle.std.proofs.Common.{arith}
-use Rattle.std.proofs.lemmas.Grind.{common_steps}
 
 pub loop-i-init : goal.loop-i-init
 loop-i-init c = (c.requires, none_of c.args.system)

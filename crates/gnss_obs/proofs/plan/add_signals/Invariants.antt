@@ -1,5 +1,4 @@
-use Rattle.std.proofs.Common.{◌≡◌, take}
-use Rattle.gnss_obs.specs.inner.SignalLists.{IsOf}
+use Rattle.gnss_obs.proofs.Names.{◌≡◌, take, IsOf}
 use Rattle.gnss_obs.proofs.plan.add_signals.Given as goal
 
 -- The signals so far fit.

@@ -1,5 +1,4 @@
-use Rattle.std.proofs.Common.{[], rules}
-use Rattle.gnss_system.proofs.SystemLaws.{is_tabulated}
+use Rattle.gnss_obs.proofs.Names.{[], rules, is_tabulated}
 use Rattle.gnss_obs.proofs.plan.no_signals.Goals as goal
 
 pub returns : goal.returns

@@ -1,9 +1,4 @@
-use Rattle.std.proofs.Common.{ℕ, List, Bor, ◌≡◌, ◌∙◌, Err, true, is_ok, sym, ap, subst}
-use Rattle.std.proofs.lemmas.Result.{err_from_is_err_and}
-use Rattle.gnss_system.specs.SystemValues.{map_by}
-use Rattle.gnss_obs.specs.Plans.{has_signal, signals_of}
-use Rattle.gnss_obs.specs.inner.SignalLists.{IsMemoryFaultOr}
-use Rattle.gnss_system.proofs.SystemLaws.{value_mapped}
+use Rattle.gnss_obs.proofs.Names.{ℕ, List, Bor, ◌≡◌, ◌∙◌, Err, true, is_ok, sym, ap, subst, err_from_is_err_and, map_by, has_signal, signals_of, IsMemoryFaultOr, value_mapped}
 use Rattle.gnss_obs.proofs.MadeLemmas.{refused_at}
 use Rattle.gnss_obs.proofs.plan.read_all.Goals as goal
 

@@ -1,8 +1,4 @@
-use Rattle.std.proofs.Common.{◌≡◌, []}
-use Rattle.gnss_system.specs.SystemValues.{map_by}
-use Rattle.gnss_obs.specs.Plans.{signals_in}
-use Rattle.gnss_obs.specs.inner.SignalLists.{ArePlanned}
-use Rattle.gnss_system.proofs.SystemLaws.{Passed}
+use Rattle.gnss_obs.proofs.Names.{◌≡◌, [], map_by, signals_in, ArePlanned, Passed}
 use Rattle.gnss_obs.proofs.plan.read_all.Given as goal
 
 -- The lists of the systems so far are those of their texts, the others are empty.

@@ -1,6 +1,4 @@
-use Rattle.std.proofs.Common.{inl, inr, refl, sym, ap, subst, rules, ◌∙◌}
-use Rattle.std.proofs.lemmas.Result.{err_from_is_err_and}
-use Rattle.gnss_obs.specs.inner.Names.{indices, IsOf, signals_after, between_commas}
+use Rattle.gnss_obs.proofs.Names.{inl, inr, refl, sym, ap, subst, rules, ◌∙◌, err_from_is_err_and, indices, IsOf, signals_after, between_commas}
 use Rattle.gnss_obs.proofs.PlanLaws.{first_read, listed_code, first_some, first_none, next_code, code_fault, last_code, none_of}
 use Rattle.gnss_obs.proofs.plan.read_codes.Goals as goal
 

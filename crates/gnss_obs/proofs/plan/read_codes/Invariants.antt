@@ -1,7 +1,6 @@
+use Rattle.gnss_obs.proofs.Names.{◌≡◌, [], length, indices, IsOf, signals_after, between_commas}
 use denote.Shadow.{shadow}
 use denote.Text.{Utf8}
-use Rattle.std.proofs.Common.{◌≡◌, [], length}
-use Rattle.gnss_obs.specs.inner.Names.{indices, IsOf, signals_after, between_commas}
 use Rattle.gnss_obs.proofs.PlanLaws.{IsFirstRead}
 use Rattle.gnss_obs.proofs.plan.read_codes.Given as goal
 

@@ -1,7 +1,6 @@
-use Rattle.std.proofs.Common.{◌++◌}
+use Rattle.obs_epoch.proofs.Names.{◌++◌, prefix_trans}
 use Rattle.obs_epoch.proofs.HistoryLemmas.{epochs-more, all-prefix, with_pending}
 use Rattle.obs_epoch.proofs.ThinLemmas.{thin_prefix}
-use Rattle.rtcm_bits.proofs.SmallLaws.{prefix_trans}
 use Rattle.obs_epoch.proofs.laws.closed_stay.Goals as goal
 
 pub returns-clause-stay : goal.returns-clause-stay

@@ -1,7 +1,4 @@
-use Rattle.std.proofs.Common.{◌≡◌, ◌||◌, All, drop}
-use Rattle.std.specs.List.{list_any}
-use Rattle.obs_epoch.specs.inner.Marks.{has_loss}
-use Rattle.obs_epoch.specs.inner.Names.{note_all, IsHeld}
+use Rattle.obs_epoch.proofs.Names.{◌≡◌, ◌||◌, All, drop, list_any, has_loss, note_all, IsHeld}
 use Rattle.obs_epoch.proofs.locks.note_cells.Given as goal
 
 abbrev pub invariant-loop-i : goal.invariant-loop-i

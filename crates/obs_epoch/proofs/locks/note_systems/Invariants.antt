@@ -1,7 +1,4 @@
-use Rattle.std.proofs.Common.{◌≡◌, take}
-use Rattle.gnss_system.specs.Systems.{systems}
-use Rattle.obs_epoch.specs.inner.Held.{note_systems}
-use Rattle.obs_epoch.specs.inner.Marks.{any_loss}
+use Rattle.obs_epoch.proofs.Names.{◌≡◌, take, systems, note_systems, any_loss}
 use Rattle.obs_epoch.proofs.locks.note_systems.Given as goal
 
 abbrev pub invariant-loop-i : goal.invariant-loop-i

@@ -1,5 +1,4 @@
-use Rattle.std.proofs.Common.{◌∙◌, sym, arith}
-use Rattle.gnss_system.specs.Systems.{systems}
+use Rattle.obs_epoch.proofs.Names.{◌∙◌, sym, arith, systems}
 use Rattle.obs_epoch.proofs.MarksLemmas.{none_carried}
 use Rattle.obs_epoch.proofs.marks.carry.Goals as goal
 

@@ -1,6 +1,4 @@
-use Rattle.std.proofs.Common.{◌&&◌, ◌∙◌, List, sym, ap, ap₂, Bool, true, false, get_or}
-use Rattle.obs_epoch.specs.GathererHistory.{is_lost_in}
-use Rattle.obs_epoch.specs.inner.Names.{Cell, EpochValue}
+use Rattle.obs_epoch.proofs.Names.{◌&&◌, ◌∙◌, List, sym, ap, ap₂, Bool, true, false, get_or, is_lost_in, Cell, EpochValue}
 use Rattle.obs_epoch.proofs.MarksLemmas.{marked_in_is}
 use Rattle.obs_epoch.proofs.marks.mark_cell.Goals as goal
 

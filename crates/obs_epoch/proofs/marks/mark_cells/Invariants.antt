@@ -1,7 +1,4 @@
-use Rattle.std.proofs.Common.{◌≡◌, length}
-use Rattle.gnss_system.specs.SystemValues.{with_value_of}
-use Rattle.obs_epoch.specs.GathererHistory.{is_lost_in}
-use Rattle.obs_epoch.specs.inner.Names.{cells_of}
+use Rattle.obs_epoch.proofs.Names.{◌≡◌, length, with_value_of, is_lost_in, cells_of}
 use Rattle.obs_epoch.proofs.MarksLemmas.{mark_first}
 use Rattle.obs_epoch.proofs.marks.mark_cells.Given as goal
 

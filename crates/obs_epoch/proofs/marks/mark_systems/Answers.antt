@@ -1,10 +1,4 @@
-use Rattle.std.proofs.Common.{◌≡◌, ◌≤◌, ◌∙◌, ap, arith, length, map}
-use Rattle.gnss_system.specs.Systems.{systems}
-use Rattle.gnss_system.specs.SystemValues.{value_of}
-use Rattle.gnss_system.proofs.SystemLaws.{is_tabulated, passed_all}
-use Rattle.obs_epoch.specs.GathererHistory.{is_lost_in}
-use Rattle.obs_epoch.specs.inner.Names.{CellLists, cells_of}
-use Rattle.obs_epoch.specs.Thinning.{mark_if}
+use Rattle.obs_epoch.proofs.Names.{◌≡◌, ◌≤◌, ◌∙◌, ap, arith, length, map, systems, value_of, is_tabulated, passed_all, is_lost_in, CellLists, cells_of, mark_if}
 use Rattle.obs_epoch.proofs.marks.mark_systems.Goals as goal
 
 pub returns : goal.returns

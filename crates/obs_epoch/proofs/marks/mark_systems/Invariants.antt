@@ -1,8 +1,4 @@
-use Rattle.std.proofs.Common.{◌≡◌, map}
-use Rattle.gnss_system.specs.SystemValues.{value_of}
-use Rattle.gnss_system.proofs.SystemLaws.{Passed}
-use Rattle.obs_epoch.specs.GathererHistory.{is_lost_in}
-use Rattle.obs_epoch.specs.Thinning.{mark_if}
+use Rattle.obs_epoch.proofs.Names.{◌≡◌, map, value_of, Passed, is_lost_in, mark_if}
 use Rattle.obs_epoch.proofs.marks.mark_systems.Given as goal
 
 -- The cells of the systems so far are marked.

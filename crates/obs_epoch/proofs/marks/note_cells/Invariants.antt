@@ -1,6 +1,4 @@
-use Rattle.std.proofs.Common.{◌≡◌, All, drop}
-use Rattle.obs_epoch.specs.inner.Marks.{note_losses}
-use Rattle.obs_epoch.specs.inner.Names.{IsHeld}
+use Rattle.obs_epoch.proofs.Names.{◌≡◌, All, drop, note_losses, IsHeld}
 use Rattle.obs_epoch.proofs.marks.note_cells.Given as goal
 
 abbrev pub invariant-loop-i : goal.invariant-loop-i

@@ -1,6 +1,4 @@
-use Rattle.std.proofs.Common.{◌≡◌, take}
-use Rattle.gnss_system.specs.Systems.{systems}
-use Rattle.obs_epoch.specs.inner.Marks.{note_systems_lost}
+use Rattle.obs_epoch.proofs.Names.{◌≡◌, take, systems, note_systems_lost}
 use Rattle.obs_epoch.proofs.marks.note_systems.Given as goal
 
 abbrev pub invariant-loop-i : goal.invariant-loop-i

@@ -1,5 +1,4 @@
-use Rattle.std.proofs.Common.{arith}
-use Rattle.std.proofs.lemmas.Grind.{common_steps}
+use Rattle.obs_epoch.proofs.Names.{arith, common_steps}
 use Rattle.obs_epoch.proofs.observe.observe.Goals as goal
 
 pub returns-clause-value : goal.returns-clause-value

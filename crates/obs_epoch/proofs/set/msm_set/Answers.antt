@@ -1,6 +1,4 @@
-use Rattle.std.proofs.Common.{rules, refl}
-use Rattle.gnss_system.proofs.SystemLaws.{is_tabulated}
-use Rattle.obs_epoch.specs.Sets.{is_decoded}
+use Rattle.obs_epoch.proofs.Names.{rules, refl, is_tabulated, is_decoded}
 use Rattle.obs_epoch.proofs.set.msm_set.Goals as goal
 
 pub returns : goal.returns

@@ -1,5 +1,4 @@
-use Rattle.rinex_inspect.specs.inner.Missing.{line_but}
-use Rattle.rinex_inspect.proofs.Names.{append_assoc}
+use Rattle.rinex_inspect.proofs.Names.{line_but, append_assoc}
 use Rattle.rinex_inspect.proofs.check.add_complete.Goals as goal
 
 pub returns-in-Some : goal.returns-in-Some

@@ -1,6 +1,5 @@
 use Rattle.rinex_inspect.proofs.MissingLemmas.{gap_is}
-use Rattle.std.proofs.Common.{codes}
-use Rattle.rinex_inspect.proofs.Names.{◌≡◌, ◌∙◌, ◌+◌, [], ◌∷◌, ◌++◌, ℕ, List, ap, arith, length, length-append}
+use Rattle.rinex_inspect.proofs.Names.{codes, ◌≡◌, ◌∙◌, ◌+◌, [], ◌∷◌, ◌++◌, ℕ, List, ap, arith, length, length-append}
 use Rattle.rinex_inspect.proofs.check.add_gap.Goals as goal
 
 size : {new : List ℕ} (old part : List ℕ) → new ≡ old ++ part → length new ≡ length old + length part

@@ -1,5 +1,4 @@
-use Rattle.line_texts.proofs.LineLaws.{add_text, end_line}
-use Rattle.rinex_inspect.proofs.Names.{◌≡◌, ◌∙◌, ◌+◌, [], ◌∷◌, ◌++◌, ℕ, List, ap, arith, length, length-append, refl, moment_words, time_line, with_words}
+use Rattle.rinex_inspect.proofs.Names.{add_text, end_line, ◌≡◌, ◌∙◌, ◌+◌, [], ◌∷◌, ◌++◌, ℕ, List, ap, arith, length, length-append, refl, moment_words, time_line, with_words}
 use Rattle.rinex_inspect.proofs.check.add_time.Goals as goal
 
 size : {new : List ℕ} (old part : List ℕ) → new ≡ old ++ part → length new ≡ length old + length part

@@ -1,11 +1,7 @@
-use Rattle.rinex_file.specs.declared.read.epochs.NextEpoch.{NextEpoch}
-use Rattle.rinex_file.specs.inner.Read.EpochSteps.{BeginsNextEpoch}
-use Rattle.rinex_file.specs.declared.read.epochs.Reading.{Reading}
+use Rattle.rinex_inspect.proofs.Names.{NextEpoch, BeginsNextEpoch, Reading, ◌≡◌, ◌∙◌, arith, subst, sym, ap, List, ℕ, Option, Stamped, IfSome, Ok, Err, ReaderFailures, culprit, File}
 use Rattle.rinex_inspect.proofs.CheckLemmas.{read_failures}
 use Rattle.rinex_inspect.proofs.GapLemmas.{isnt_err, leaves_more, without_plan}
-use Rattle.rinex_inspect.proofs.Names.{◌≡◌, ◌∙◌, arith, subst, sym, ap, List, ℕ, Option, Stamped, IfSome, Ok, Err, ReaderFailures, culprit}
 use Rattle.rinex_file.specs.Accepted.{IsEpochLine}
-use Rattle.rinex_inspect.specs.declared.fault.FileFault.TheVariants.{File}
 use Rattle.rinex_inspect.proofs.check.next_inside.Goals as goal
 
 -- what follows in the file

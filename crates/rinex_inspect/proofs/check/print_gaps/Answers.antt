@@ -1,9 +1,6 @@
 use Rattle.rinex_inspect.proofs.MissingLemmas.{none_missed, none_printed}
 use Rattle.rinex_inspect.proofs.GapLemmas.{counted_more, inside_is, inside_more, leaves_all, leaves_more, printed_more, stopped_inside}
-use Rattle.rinex_inspect.specs.Gaps.{is_inside}
-use Rattle.std.proofs.Common.{true}
-use Rattle.std.proofs.lemmas.List.Elements.{All-nil}
-use Rattle.rinex_inspect.proofs.Names.{◌≡◌, Appends, ◌∙◌, ◌++◌, ◌∷◌, [], arith, refl, subst, sym, Appends-nil, Err, FileFault, ReadsGaps, ℕ, passed, ReaderFailures, culprit, devices_of, writer_of}
+use Rattle.rinex_inspect.proofs.Names.{is_inside, true, All-nil, ◌≡◌, Appends, ◌∙◌, ◌++◌, ◌∷◌, [], arith, refl, subst, sym, Appends-nil, Err, FileFault, ReadsGaps, ℕ, passed, ReaderFailures, culprit, devices_of, writer_of}
 use Rattle.rinex_inspect.proofs.check.print_gaps.Goals as goal
 
 pub loop-before-init : goal.loop-before-init

@@ -1,8 +1,6 @@
-use Rattle.rinex_inspect.specs.declared.fault.FileFault.TheVariants.{Write}
+use Rattle.rinex_inspect.proofs.Names.{Write, printed_after, printed_later, AreInside, Completeness, FileSummary, FileValue, IsSummaryOf, Option, Stamped, subst, sym, ◌++◌, ap, List, ℕ, IfSome_then, devices_of, gaps_if, times_in, writer_of}
 use Rattle.rinex_inspect.proofs.CheckLemmas.{checked, checked_or, kept_first, where_known}
 use Rattle.rinex_inspect.proofs.GapLemmas.{gaps_refused, gaps_stopped, leaves_all, whole_output}
-use Rattle.devices.proofs.PrintingLaws.{printed_after, printed_later}
-use Rattle.rinex_inspect.proofs.Names.{AreInside, Completeness, FileSummary, FileValue, IsSummaryOf, Option, Stamped, subst, sym, ◌++◌, ap, List, ℕ, IfSome_then, devices_of, gaps_if, times_in, writer_of}
 use Rattle.rinex_inspect.proofs.check.run_check_with.Goals as goal
 
 -- the epochs of a file that was read are inside of the window

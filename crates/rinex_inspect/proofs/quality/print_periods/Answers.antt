@@ -1,10 +1,5 @@
-use Rattle.std.proofs.Common.{◌∙◌, ◌++◌, ◌∷◌, [], ℕ, arith, refl, subst, sym, Ok}
-use Rattle.std.specs.Bool.{⊤}
-use Rattle.std.proofs.KnownBytes.{Appends-nil}
-use Rattle.devices.specs.Devices.{ReaderFailures, devices_of, writer_of}
-use Rattle.rinex_file.specs.inner.Read.EpochSteps.{plan_of}
+use Rattle.rinex_inspect.proofs.Names.{◌∙◌, ◌++◌, ◌∷◌, [], ℕ, arith, refl, subst, sym, Ok, ⊤, Appends-nil, ReaderFailures, devices_of, writer_of, plan_of, Appends, culprit}
 use Rattle.rinex_inspect.proofs.GapLemmas.{leaves_all, leaves_more}
-use Rattle.rinex_inspect.proofs.Names.{Appends, culprit}
 use Rattle.rinex_inspect.proofs.RatingLemmas.{all_rated, next_is, none_before, printed_with, stopped_periods}
 use Rattle.rinex_inspect.proofs.quality.print_periods.Goals as goal
 

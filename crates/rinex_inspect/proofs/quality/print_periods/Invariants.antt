@@ -1,12 +1,4 @@
-use Rattle.std.proofs.Common.{◌≡◌, ◌-◌, ◌+◌, List}
-use Rattle.devices.specs.Devices.{writer_of}
-use Rattle.devices.specs.Printing.{PrintsText}
-use Rattle.rinex_file.specs.Blocks.{LeavesRest}
-use Rattle.rinex_file.specs.Exact.{most_lines}
-use Rattle.rinex_file.specs.Value.{Stamped}
-use Rattle.rinex_file.specs.inner.Read.EpochSteps.{HasReadEpochs, plan_of}
-use Rattle.rinex_inspect.specs.QualityOutput.{lines_before}
-use Rattle.rinex_inspect.specs.inner.Rating.{AreTables}
+use Rattle.rinex_inspect.proofs.Names.{◌≡◌, ◌-◌, ◌+◌, List, writer_of, PrintsText, LeavesRest, most_lines, Stamped, HasReadEpochs, plan_of, lines_before, AreTables}
 use Rattle.rinex_inspect.proofs.quality.print_periods.Given as goal
 
 -- the lines of the periods before that of the last epoch were written

@@ -1,16 +1,5 @@
-use Rattle.std.specs.Bool.{⊤}
-use Rattle.std.proofs.Common.{◌≡◌, ◌∙◌, ◌++◌, ap, sym, subst, append_assoc, refl, List, ℕ, Ok, Err}
-use Rattle.devices.proofs.PrintingLaws.{printed_after}
-use Rattle.devices.specs.Devices.{writer_of}
-use Rattle.devices.specs.Printing.{PrintsText}
-use Rattle.rinex_file.specs.inner.Read.EpochSteps.{plan_of}
-use Rattle.rinex_inspect.proofs.Names.{check_line}
+use Rattle.rinex_inspect.proofs.Names.{⊤, ◌≡◌, ◌∙◌, ◌++◌, ap, sym, subst, append_assoc, refl, List, ℕ, Ok, Err, printed_after, writer_of, PrintsText, plan_of, check_line, Write, Satellites, Signals, all_lines, whole_text, contents_in}
 use Rattle.rinex_inspect.proofs.QualityTexts.{part_of_more}
-use Rattle.rinex_inspect.specs.declared.fault.FileFault.TheVariants.{Write}
-use Rattle.rinex_inspect.specs.declared.quality_lines.Lines.TheVariants.{Satellites, Signals}
-use Rattle.rinex_inspect.specs.inner.QualityLines.{all_lines}
-use Rattle.rinex_inspect.specs.inner.Rating.{whole_text}
-use Rattle.rinex_inspect.specs.inner.Tables.{contents_in}
 use Rattle.rinex_inspect.proofs.quality.print_whole.Goals as goal
 
 pub returns-in-Err : goal.returns-in-Err

@@ -1,16 +1,6 @@
-use Rattle.std.proofs.Common.{◌*◌, ◌<◌, ℕ, List, subst, sym}
-use Rattle.devices.proofs.PrintingLaws.{printed_after}
-use Rattle.devices.specs.Devices.{devices_of, writer_of}
-use Rattle.devices.specs.Printing.{EndsPrinting}
-use Rattle.gnss_obs.specs.Weeks.{week, weeks}
-use Rattle.rinex_file.specs.inner.Read.EpochSteps.{plan_of}
+use Rattle.rinex_inspect.proofs.Names.{◌*◌, ◌<◌, ℕ, List, subst, sym, printed_after, devices_of, writer_of, EndsPrinting, week, weeks, plan_of, IfSome, IfSome_then, times_in, lines_before, last_of, Write, end_text}
 use Rattle.rinex_inspect.proofs.EndLemmas.{ended, ended_early_or, ended_or}
-use Rattle.rinex_inspect.proofs.Names.{IfSome, IfSome_then, times_in}
 use Rattle.rinex_inspect.proofs.PeriodLemmas.{start_within}
-use Rattle.rinex_inspect.specs.QualityOutput.{lines_before}
-use Rattle.rinex_inspect.specs.Tallies.{last_of}
-use Rattle.rinex_inspect.specs.declared.fault.FileFault.TheVariants.{Write}
-use Rattle.rinex_inspect.specs.inner.Rating.{end_text}
 use Rattle.rinex_inspect.proofs.quality.rate.Goals as goal
 
 pub print_end-requires-clause-within : goal.print_end-requires-clause-within

@@ -1,5 +1,4 @@
-use Rattle.std.proofs.Common.{refl}
-use Rattle.devices.specs.Devices.{devices_of}
+use Rattle.rinex_inspect.proofs.Names.{refl, devices_of}
 use Rattle.rinex_inspect.proofs.GapLemmas.{leaves_more}
 use Rattle.rinex_inspect.proofs.RatingLemmas.{begins_is, next_ended, next_rated, next_stopped}
 use Rattle.rinex_inspect.proofs.quality.rate_next.Goals as goal

@@ -1,11 +1,7 @@
-use Rattle.std.proofs.Common.{◌∙◌, ◌≤◌, ◌++◌, ◌∷◌, [], ap, arith, length, refl, sym, subst, Ok}
-use Rattle.rinex_file.specs.Value.{SatelliteRow}
-use Rattle.rinex_file.specs.inner.Read.EpochSteps.{row_of, with_read}
+use Rattle.rinex_inspect.proofs.Names.{◌∙◌, ◌≤◌, ◌++◌, ◌∷◌, [], ap, arith, length, refl, sym, subst, Ok, SatelliteRow, row_of, with_read, Table, HasAddedRow, IsTableOf, records_in}
 use Rattle.rinex_inspect.proofs.GapLemmas.{leaves_all, leaves_more}
 use Rattle.rinex_inspect.proofs.RatingLemmas.{few_epochs, row_is, row_step}
 use Rattle.rinex_inspect.proofs.TableSteps.{table_begun}
-use Rattle.rinex_inspect.specs.declared.table.Table.{Table}
-use Rattle.rinex_inspect.specs.inner.Tables.{HasAddedRow, IsTableOf, records_in}
 use Rattle.rinex_inspect.proofs.quality.read_rows.Goals as goal
 
 pub loop-table-init : goal.loop-table-init

@@ -1,9 +1,4 @@
-use Rattle.std.proofs.Common.{◌≡◌, ◌-◌, ◌+◌, ◌≤◌, ◌++◌, ◌∷◌, [], List, ℕ, Option, length}
-use Rattle.rinex_file.specs.Blocks.{LeavesRest}
-use Rattle.rinex_file.specs.Exact.{most_lines}
-use Rattle.rinex_file.specs.Value.{Stamped}
-use Rattle.rinex_file.specs.inner.Read.EpochSteps.{HasReadRows, IsStart, plan_of}
-use Rattle.rinex_inspect.specs.inner.Tables.{IsTableOf}
+use Rattle.rinex_inspect.proofs.Names.{◌≡◌, ◌-◌, ◌+◌, ◌≤◌, ◌++◌, ◌∷◌, [], List, ℕ, Option, length, LeavesRest, most_lines, Stamped, HasReadRows, IsStart, plan_of, IsTableOf}
 use Rattle.rinex_inspect.proofs.quality.read_rows.Given as goal
 
 -- the lines that were read of the epoch were added to the table

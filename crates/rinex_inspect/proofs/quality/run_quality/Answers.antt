@@ -1,7 +1,6 @@
-use Rattle.devices.specs.Devices.{devices_of, writer_of}
+use Rattle.rinex_inspect.proofs.Names.{devices_of, writer_of, refl}
 use Rattle.rinex_inspect.proofs.CheckLemmas.{where_known}
 use Rattle.rinex_inspect.proofs.EndLemmas.{delivered, delivered_or, undelivered}
-use Rattle.std.proofs.Common.{refl}
 use Rattle.rinex_inspect.proofs.quality.run_quality.Goals as goal
 
 pub returns-in_err-deliver_waiting-clause-only : goal.returns-in_err-deliver_waiting-clause-only

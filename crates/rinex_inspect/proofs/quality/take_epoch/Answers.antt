@@ -1,16 +1,7 @@
-use Rattle.std.proofs.Common.{◌∙◌, ◌∷◌, [], ap, arith, refl, sym, subst, ℕ, ◌*◌, ◌<◌}
-use Rattle.devices.specs.Devices.{devices_of}
+use Rattle.rinex_inspect.proofs.Names.{◌∙◌, ◌∷◌, [], ap, arith, refl, sym, subst, ℕ, ◌*◌, ◌<◌, devices_of, times_in, IfSome, week, weeks, plan_of, last_of, Table, period_text, IsBlankTable, IsTableOf, in_period, last_period, period_of}
 use Rattle.rinex_inspect.proofs.RatingLemmas.{few_in, fine_with, later, later_tables, rated_in_part, rated_same}
 use Rattle.rinex_inspect.proofs.PeriodLemmas.{start_within}
-use Rattle.rinex_inspect.proofs.Names.{times_in, IfSome}
-use Rattle.gnss_obs.specs.Weeks.{week, weeks}
-use Rattle.rinex_file.specs.inner.Read.EpochSteps.{plan_of}
-use Rattle.rinex_inspect.specs.Tallies.{last_of}
-use Rattle.rinex_inspect.specs.declared.table.Table.{Table}
-use Rattle.rinex_inspect.specs.inner.Rating.{period_text}
-use Rattle.rinex_inspect.specs.inner.Tables.{IsBlankTable, IsTableOf}
 use Rattle.rinex_inspect.proofs.TableSteps.{blank_table}
-use Rattle.rinex_inspect.specs.QualityOutput.{in_period, last_period, period_of}
 use Rattle.rinex_inspect.proofs.quality.take_epoch.Goals as goal
 
 pub read_rows-requires : goal.read_rows-requires

@@ -1,7 +1,4 @@
-use Rattle.std.proofs.Common.{◌≡◌, ◌≤◌, ◌*◌, ◌^◌, get_or}
-use Rattle.std.specs.List.{sum_by}
-use Rattle.gnss_obs.specs.Plans.{below}
-use Rattle.rinex_inspect.specs.Tallies.{no_tally}
+use Rattle.rinex_inspect.proofs.Names.{◌≡◌, ◌≤◌, ◌*◌, ◌^◌, get_or, sum_by, below, no_tally}
 use Rattle.rinex_inspect.proofs.quality_lines.lost_of.Given as goal
 
 abbrev pub invariant-loop-k : goal.invariant-loop-k

@@ -1,11 +1,5 @@
-use Rattle.std.proofs.Common.{◌≡◌, ◌∙◌, ap, sym, Bool, true, List, [], cond}
-use Rattle.rinex_file.specs.inner.Read.EpochSteps.{plan_of}
+use Rattle.rinex_inspect.proofs.Names.{◌≡◌, ◌∙◌, ap, sym, Bool, true, List, [], cond, plan_of, tally_line, time_word, has_values, SatelliteRecord, Tally, contents_in, tally_at}
 use Rattle.rinex_inspect.proofs.QualityTexts.{rest_is, tally_line_is}
-use Rattle.rinex_inspect.specs.QualityOutput.{tally_line, time_word}
-use Rattle.rinex_inspect.specs.Tallies.{has_values}
-use Rattle.rinex_inspect.specs.declared.table.SatelliteRecord.{SatelliteRecord}
-use Rattle.rinex_inspect.specs.declared.tally.Tally.{Tally}
-use Rattle.rinex_inspect.specs.inner.Tables.{contents_in, tally_at}
 use Rattle.rinex_inspect.proofs.quality_lines.period_line.Goals as goal
 
 pub returns-then-has_values : goal.returns-then-has_values

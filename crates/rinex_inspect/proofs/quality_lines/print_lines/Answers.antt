@@ -1,18 +1,5 @@
-use Rattle.std.specs.Bool.{⊤}
-use Rattle.std.specs.Prelude.{flat_map}
-use Rattle.std.proofs.Common.{◌≡◌, ◌∙◌, ◌+◌, ◌++◌, ◌∷◌, [], ap, sym, drop, take, append-nil, List, ℕ, Err}
-use Rattle.std.proofs.lemmas.Grind.{flat_map-append}
-use Rattle.std.proofs.lemmas.List.{take-append-drop}
-use Rattle.devices.proofs.PrintingLaws.{printed_after}
-use Rattle.devices.specs.Devices.{writer_of}
-use Rattle.gnss_system.proofs.SystemLaws.{systems_taken}
-use Rattle.gnss_system.specs.Systems.{systems}
-use Rattle.gnss_system.specs.declared.system.System.{System}
-use Rattle.rinex_file.specs.inner.Read.EpochSteps.{plan_of}
+use Rattle.rinex_inspect.proofs.Names.{⊤, flat_map, ◌≡◌, ◌∙◌, ◌+◌, ◌++◌, ◌∷◌, [], ap, sym, drop, take, append-nil, List, ℕ, Err, flat_map-append, take-append-drop, printed_after, writer_of, systems_taken, systems, System, plan_of, Write, system_lines, contents_in}
 use Rattle.rinex_inspect.proofs.QualityTexts.{part_of_more}
-use Rattle.rinex_inspect.specs.declared.fault.FileFault.TheVariants.{Write}
-use Rattle.rinex_inspect.specs.inner.QualityLines.{system_lines}
-use Rattle.rinex_inspect.specs.inner.Tables.{contents_in}
 use Rattle.rinex_inspect.proofs.quality_lines.print_lines.Goals as goal
 
 pub returns-in-Err : goal.returns-in-Err

@@ -1,11 +1,4 @@
-use Rattle.std.proofs.Common.{take}
-use Rattle.std.specs.Prelude.{flat_map}
-use Rattle.devices.specs.Devices.{writer_of}
-use Rattle.devices.specs.Printing.{PrintsText}
-use Rattle.gnss_system.specs.Systems.{systems}
-use Rattle.rinex_file.specs.inner.Read.EpochSteps.{plan_of}
-use Rattle.rinex_inspect.specs.inner.QualityLines.{system_lines}
-use Rattle.rinex_inspect.specs.inner.Tables.{contents_in}
+use Rattle.rinex_inspect.proofs.Names.{take, flat_map, writer_of, PrintsText, systems, plan_of, system_lines, contents_in}
 use Rattle.rinex_inspect.proofs.quality_lines.print_lines.Given as goal
 
 abbrev pub invariant-loop-i : goal.invariant-loop-i

@@ -1,15 +1,6 @@
-use Rattle.std.specs.Bool.{⊤}
-use Rattle.std.proofs.Common.{◌∙◌, ◌+◌, ◌++◌, ap, arith, sym, subst, List, ℕ, Ok, Err}
-use Rattle.devices.proofs.PrintingLaws.{printed_after}
-use Rattle.devices.specs.Devices.{writer_of}
-use Rattle.devices.specs.Printing.{PrintsText}
-use Rattle.rinex_file.specs.inner.Read.EpochSteps.{plan_of}
+use Rattle.rinex_inspect.proofs.Names.{⊤, ◌∙◌, ◌+◌, ◌++◌, ap, arith, sym, subst, List, ℕ, Ok, Err, printed_after, writer_of, PrintsText, plan_of, texts_below, Write, line_at, system_lines, contents_in}
 use Rattle.rinex_inspect.proofs.QualityTexts.{part_of_more}
 use Rattle.rinex_inspect.proofs.SumLemmas.{texts_front, texts_more}
-use Rattle.rinex_inspect.specs.QualityOutput.{texts_below}
-use Rattle.rinex_inspect.specs.declared.fault.FileFault.TheVariants.{Write}
-use Rattle.rinex_inspect.specs.inner.QualityLines.{line_at, system_lines}
-use Rattle.rinex_inspect.specs.inner.Tables.{contents_in}
 use Rattle.rinex_inspect.proofs.quality_lines.print_system.Goals as goal
 
 pub loop-index-preserved : goal.loop-index-preserved

@@ -1,9 +1,4 @@
-use Rattle.devices.specs.Devices.{writer_of}
-use Rattle.devices.specs.Printing.{PrintsText}
-use Rattle.rinex_file.specs.inner.Read.EpochSteps.{plan_of}
-use Rattle.rinex_inspect.specs.QualityOutput.{texts_below}
-use Rattle.rinex_inspect.specs.inner.QualityLines.{line_at}
-use Rattle.rinex_inspect.specs.inner.Tables.{contents_in}
+use Rattle.rinex_inspect.proofs.Names.{writer_of, PrintsText, plan_of, texts_below, line_at, contents_in}
 use Rattle.rinex_inspect.proofs.quality_lines.print_system.Given as goal
 
 abbrev pub invariant-loop-index : goal.invariant-loop-index

@@ -1,11 +1,5 @@
-use Rattle.std.proofs.Common.{◌≡◌, ◌∙◌, ◌<◌, ap, sym, subst, Bool, true, List, [], ℕ, cond, codes, ◌++◌}
-use Rattle.std.specs.Prelude.{nat_lt}
-use Rattle.rinex_file.specs.inner.Read.EpochSteps.{plan_of}
-use Rattle.rinex_inspect.proofs.Names.{lt-ltb}
+use Rattle.rinex_inspect.proofs.Names.{◌≡◌, ◌∙◌, ◌<◌, ap, sym, subst, Bool, true, List, [], ℕ, cond, codes, ◌++◌, nat_lt, plan_of, lt-ltb, present_line, SatelliteRecord, contents_in, record_at}
 use Rattle.rinex_inspect.proofs.QualityTexts.{lost_is, present_is, record_is}
-use Rattle.rinex_inspect.specs.QualityOutput.{present_line}
-use Rattle.rinex_inspect.specs.declared.table.SatelliteRecord.{SatelliteRecord}
-use Rattle.rinex_inspect.specs.inner.Tables.{contents_in, record_at}
 use Rattle.rinex_inspect.proofs.quality_lines.satellite_line.Goals as goal
 
 pub returns-then-record-gt0 : goal.returns-then-record-gt0

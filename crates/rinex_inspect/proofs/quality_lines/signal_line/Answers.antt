@@ -1,8 +1,5 @@
-use Rattle.std.proofs.Common.{refl, length, ◌≡◌, ◌∙◌, ◌++◌, ◌∷◌, [], ap, arith, codes, List, ℕ}
-use Rattle.rinex_file.specs.inner.Read.EpochSteps.{plan_of}
+use Rattle.rinex_inspect.proofs.Names.{refl, length, ◌≡◌, ◌∙◌, ◌++◌, ◌∷◌, [], ap, arith, codes, List, ℕ, plan_of, total, contents_in, records_in, tally_at}
 use Rattle.rinex_inspect.proofs.QualityTexts.{number_is, signal_is, totals_are, totals_small}
-use Rattle.rinex_inspect.specs.Tallies.{total}
-use Rattle.rinex_inspect.specs.inner.Tables.{contents_in, records_in, tally_at}
 use Rattle.rinex_inspect.proofs.quality_lines.signal_line.Goals as goal
 
 pub total_of-satellites-requires-clause-fits : goal.total_of-satellites-requires-clause-fits

@@ -1,9 +1,6 @@
-use Rattle.std.proofs.Common.{◌∙◌, ℕ, ap, ap₂, arith, length}
+use Rattle.rinex_inspect.proofs.Names.{◌∙◌, ℕ, ap, ap₂, arith, length, has_values, Tally, plus, tally_at}
 use Rattle.rinex_inspect.proofs.QualityTexts.{counted, one_small}
 use Rattle.rinex_inspect.proofs.SumLemmas.{total_more}
-use Rattle.rinex_inspect.specs.Tallies.{has_values}
-use Rattle.rinex_inspect.specs.declared.tally.Tally.{Tally}
-use Rattle.rinex_inspect.specs.inner.Tables.{plus, tally_at}
 use Rattle.rinex_inspect.proofs.quality_lines.total_of.Goals as goal
 
 pub loop-i-preserved : goal.loop-i-preserved

@@ -1,8 +1,4 @@
-use Rattle.std.proofs.Common.{◌≡◌, ◌≤◌}
-use Rattle.std.specs.List.{count_by}
-use Rattle.gnss_obs.specs.Plans.{below}
-use Rattle.rinex_inspect.specs.Tallies.{has_values, total}
-use Rattle.rinex_inspect.specs.inner.Tables.{tally_at}
+use Rattle.rinex_inspect.proofs.Names.{◌≡◌, ◌≤◌, count_by, below, has_values, total, tally_at}
 use Rattle.rinex_inspect.proofs.quality_lines.total_of.Given as goal
 
 abbrev pub invariant-loop-i : goal.invariant-loop-i

@@ -1,6 +1,5 @@
-use Rattle.std.proofs.Common.{arith, sym}
+use Rattle.rinex_inspect.proofs.Names.{arith, sym, no_tally}
 use Rattle.rinex_inspect.proofs.TallyLemmas.{added_none, added_step}
-use Rattle.rinex_inspect.specs.Tallies.{no_tally}
 use Rattle.rinex_inspect.proofs.table.add_values.Goals as goal
 
 pub loop-k-init : goal.loop-k-init

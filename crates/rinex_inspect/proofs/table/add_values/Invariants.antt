@@ -1,5 +1,4 @@
-use Rattle.std.proofs.Common.{◌≡◌, take}
-use Rattle.rinex_inspect.specs.inner.Tables.{added}
+use Rattle.rinex_inspect.proofs.Names.{◌≡◌, take, added}
 use Rattle.rinex_inspect.proofs.table.add_values.Given as goal
 
 abbrev pub invariant-loop-k : goal.invariant-loop-k

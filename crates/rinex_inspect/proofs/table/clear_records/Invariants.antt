@@ -1,5 +1,4 @@
-use Rattle.std.proofs.Common.{◌≡◌, ◌<◌, ℕ, get_or, length}
-use Rattle.rinex_inspect.specs.inner.Tables.{IsBlankRecord, no_record}
+use Rattle.rinex_inspect.proofs.Names.{◌≡◌, ◌<◌, ℕ, get_or, length, IsBlankRecord, no_record}
 use Rattle.rinex_inspect.proofs.table.clear_records.Given as goal
 
 abbrev pub invariant-loop-i : goal.invariant-loop-i

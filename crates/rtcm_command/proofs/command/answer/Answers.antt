@@ -1,6 +1,5 @@
-use Rattle.std.proofs.Common.{rules}
+use Rattle.rtcm_command.proofs.Names.{rules, writer_of}
 use Rattle.rtcm_command.proofs.CommandLemmas.{refusal_printed}
-use Rattle.rtcm_command.proofs.Names.{writer_of}
 use Rattle.rtcm_command.proofs.command.answer.Goals as goal
 
 pub returns-in_default : goal.returns-in_default

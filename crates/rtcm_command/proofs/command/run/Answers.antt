@@ -1,9 +1,6 @@
 use Rattle.rtcm_command.proofs.CommandLemmas.{ends_so, file_found, inspection_found, is_quality, option_refused, sub_found}
 use Rattle.rtcm_command.proofs.OptionLemmas.{bad_interval, no_device, refused_complete, source_fault}
-use Rattle.rtcm_command.specs.Devices.{culprit}
-use Rattle.devices.specs.Devices.{HaveFailedBy}
-use Rattle.command_faults.specs.declared.fault.CommandFault.{CommandFault}
-use Rattle.rtcm_command.proofs.Names.{◌∙◌, codes, first_of, inl, inr, refl, sym, devices_of, options_of, writer_of}
+use Rattle.rtcm_command.proofs.Names.{culprit, HaveFailedBy, CommandFault, ◌∙◌, codes, first_of, inl, inr, refl, sym, devices_of, options_of, writer_of}
 use Rattle.rtcm_command.proofs.command.run.Goals as goal
 
 pub returns-in-frames : goal.returns-in-frames

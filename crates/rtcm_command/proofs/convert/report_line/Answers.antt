@@ -1,9 +1,7 @@
 -- The counts in the order of the line: `add_count-K` adds the K-th after `bytes`, so that a new count moves the
 -- numbers after it by one.
-use Rattle.std.specs.Prelude.{◌∷◌, ◌++◌}
+use Rattle.rtcm_command.proofs.Names.{◌∷◌, ◌++◌, channel_count, ◌≡◌, ◌∙◌, ap, sym, ℕ, List, [], codes, decimal, refl, counts_named, report_line, add_count, add_text, add_word, end_line}
 use Rattle.line_texts.specs.Lines.{with_words}
-use Rattle.rtcm_command.specs.Reports.{channel_count}
-use Rattle.rtcm_command.proofs.Names.{◌≡◌, ◌∙◌, ap, sym, ℕ, List, [], codes, decimal, refl, counts_named, report_line, add_count, add_text, add_word, end_line}
 use Rattle.rtcm_command.proofs.convert.report_line.Goals as goal
 
 words_split : (text : List ℕ) (first last : List (List ℕ)) → with_words text (first ++ last) ≡ with_words (with_words text first) last

@@ -1,5 +1,5 @@
-use Rattle.std.proofs.lemmas.Fmt.{parse-decimal}
 use Rattle.rtcm_command.proofs.Names.{◌≡◌, ◌↔◌, ◌<◌, ◌^◌, ⊤, ap, unwrap_or, ℕ, List, Option, Some, None, Result, Ok, Err, arith, decimal, refl, subst, sym, ◌∙◌, IsNumberOf, IsNumberOr, IsStartOf, IsWeekOf, Start, Week, codes, first_of}
+use Rattle.std.proofs.lemmas.Fmt.{parse-decimal}
 use Rattle.rtcm_command.proofs.laws.numbers.Goals as goal
 
 number_read : (bits n : ℕ) (found : Option ℕ) → n < 2 ^ bits → n < 2 ^ 64 → IsNumberOf bits (Some (decimal n)) found → found ≡ Some n

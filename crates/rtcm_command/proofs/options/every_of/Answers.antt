@@ -1,7 +1,6 @@
 use Rattle.command_faults.specs.declared.fault.CommandFault.TheVariants as faults
-use Rattle.rtcm_command.specs.SetupOptions.{period_length_of}
+use Rattle.rtcm_command.proofs.Names.{period_length_of, ◌∙◌, codes, refl, sym, None, Some, found_of}
 use Rattle.rtcm_command.proofs.OptionLemmas.{interval_given}
-use Rattle.rtcm_command.proofs.Names.{◌∙◌, codes, refl, sym, None, Some, found_of}
 use Rattle.rtcm_command.proofs.options.every_of.Goals as goal
 
 pub returns-in-Some-period_length_of : goal.returns-in-Some-period_length_of

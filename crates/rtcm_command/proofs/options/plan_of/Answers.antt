@@ -1,10 +1,6 @@
+use Rattle.rtcm_command.proofs.Names.{name_of, map_by, HasSignal, plan_of, IsDefined, ◌∙◌, ℕ, List, rules, subst, options_of, plan_set, text_set}
 use Rattle.gnss_system.specs.declared.by_system.BySystem.{BySystem}
-use Rattle.gnss_system.specs.Satellites.{name_of}
-use Rattle.gnss_system.specs.SystemValues.{map_by}
 use Rattle.gnss_system.proofs.SystemLaws.{is_tabulated, value_mapped}
-use Rattle.gnss_obs.specs.Plans.{HasSignal, plan_of}
-use Rattle.gnss_obs.specs.inner.SignalLists.{IsDefined}
-use Rattle.rtcm_command.proofs.Names.{◌∙◌, ℕ, List, rules, subst, options_of, plan_set, text_set}
 use Rattle.rtcm_command.proofs.options.plan_of.Goals as goal
 
 pub returns : goal.returns

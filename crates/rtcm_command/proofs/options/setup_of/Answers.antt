@@ -1,8 +1,7 @@
-use Rattle.gnss_obs.specs.inner.SignalLists.{IsDefined}
+use Rattle.rtcm_command.proofs.Names.{IsDefined, ◌≡◌, ◌∙◌, ℕ, List, Result, Ok, Err, IfOk, ap, codes, not, bytes_eq, HasUnsignedDigitsIfOk, ExplainsUnsignedError, found_of, wrapped}
 use Rattle.gnss_obs.specs.declared.fault.PlanFault.{PlanFault}
 use Rattle.rinex_file.specs.Texts.{trimmed_texts}
 use Rattle.rtcm_command.proofs.OptionLemmas.{number_given}
-use Rattle.rtcm_command.proofs.Names.{◌≡◌, ◌∙◌, ℕ, List, Result, Ok, Err, IfOk, ap, codes, not, bytes_eq, HasUnsignedDigitsIfOk, ExplainsUnsignedError, found_of, wrapped}
 use Rattle.rtcm_command.proofs.options.setup_of.Goals as goal
 
 -- a value that is the defined one, if there is one

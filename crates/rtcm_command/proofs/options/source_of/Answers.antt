@@ -1,6 +1,5 @@
-use Rattle.std.specs.Prelude.{is_some}
+use Rattle.rtcm_command.proofs.Names.{is_some, ◌∙◌, ap, codes, inl, refl, sym, None, Some, found_of}
 use Rattle.rtcm_command.proofs.OptionLemmas.{text_given}
-use Rattle.rtcm_command.proofs.Names.{◌∙◌, ap, codes, inl, refl, sym, None, Some, found_of}
 use Rattle.rtcm_command.proofs.options.source_of.Goals as goal
 
 pub returns-in-Some : goal.returns-in-Some

@@ -1,6 +1,5 @@
 use Rattle.rtcm_command.proofs.OptionLemmas.{time_from}
-use Rattle.rtcm_command.specs.CompleteOptions.{IsTimeGiven}
-use Rattle.rtcm_command.proofs.Names.{Option, subst, sym, ℕ, None, Some, Ok, Err, IsTimeIn, first_of, options_of}
+use Rattle.rtcm_command.proofs.Names.{IsTimeGiven, Option, subst, sym, ℕ, None, Some, Ok, Err, IsTimeIn, first_of, options_of}
 use Rattle.rtcm_command.proofs.options.time_of.Goals as goal
 
 pub returns-in-Ok-Some : goal.returns-in-Ok-Some

@@ -1,7 +1,4 @@
-use Rattle.std.proofs.Common.{◌∙◌, ap}
-use Rattle.obs_epoch.specs.GathererHistory.{all_epochs}
-use Rattle.obs_epoch.specs.declared.choice.Choice.{Choice}
-use Rattle.rtcm_convert.specs.Converted.{messages_of, text_with}
+use Rattle.rtcm_convert.proofs.Names.{◌∙◌, ap, all_epochs, Choice, messages_of, text_with}
 use Rattle.rtcm_convert.proofs.laws.every_epoch.Goals as goal
 
 pub returns : goal.returns

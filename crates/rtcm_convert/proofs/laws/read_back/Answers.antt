@@ -1,8 +1,4 @@
-use Rattle.std.proofs.Common.{ℕ, Option, IfSome, subst}
-use Rattle.gnss_obs.specs.GatheredEpochs.{AreStationValues}
-use Rattle.gnss_obs.specs.Intervals.{IsInterval}
-use Rattle.rtcm_convert.specs.Readable.{AreSound}
-use Rattle.rtcm_convert.proofs.Names.{frames_of, decided_frames, setup_value}
+use Rattle.rtcm_convert.proofs.Names.{ℕ, Option, IfSome, subst, AreStationValues, IsInterval, AreSound, frames_of, decided_frames, setup_value}
 use Rattle.rtcm_convert.proofs.laws.read_back.Goals as goal
 
 pub returns : goal.returns

@@ -1,7 +1,6 @@
-use Rattle.rtcm_msg.specs.declared.number.Forms.TheVariants.{FourAndSeven}
+use Rattle.rtcm_inspect.proofs.Names.{FourAndSeven, refl, sym, subst, Counts, StopsCounting, ReaderFailures, culprit, StreamSignals, InspectFault}
 use Rattle.rtcm_inspect.proofs.StreamLemmas.{started}
 use Rattle.rtcm_inspect.proofs.CountingLemmas.{counted_all, counted_reads, counting_stopped, new_counts, none_counted}
-use Rattle.rtcm_inspect.proofs.Names.{refl, sym, subst, Counts, StopsCounting, ReaderFailures, culprit, StreamSignals, InspectFault}
 use Rattle.rtcm_inspect.proofs.counting.read_signals.Goals as goal
 
 pub returns-in-Ok-read-clause-whole : goal.returns-in-Ok-read-clause-whole

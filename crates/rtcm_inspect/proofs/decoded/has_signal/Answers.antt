@@ -1,7 +1,6 @@
-use mathlib.Core.Bool.{or-false}
+use Rattle.rtcm_inspect.proofs.Names.{or-false, ◌≡◌, ◌∙◌, ◌||◌, ap, arith, le-ltb, length, lt-ltb, or_right, sym, table, Bool, ℕ, below, counted, list_any, nat_lt}
 use Rattle.rtcm_inspect.proofs.SignalLemmas.{any_more}
 use Rattle.rtcm_inspect.proofs.decoded.has_signal.Goals.{then-count-gt0, else-count-gt0}
-use Rattle.rtcm_inspect.proofs.Names.{◌≡◌, ◌∙◌, ◌||◌, ap, arith, le-ltb, length, lt-ltb, or_right, sym, table, Bool, ℕ, below, counted, list_any, nat_lt}
 use Rattle.rtcm_inspect.proofs.decoded.has_signal.Goals as goal
 
 pub loop-index-preserved : goal.loop-index-preserved

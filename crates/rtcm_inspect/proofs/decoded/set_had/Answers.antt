@@ -1,7 +1,5 @@
-use Rattle.gnss_system.proofs.SystemLaws.{is_tabulated, tabulated_same, value_tabulated}
-use Rattle.obs_epoch.specs.Sets.{is_always_decoded, is_decoded}
+use Rattle.rtcm_inspect.proofs.Names.{is_tabulated, tabulated_same, value_tabulated, is_always_decoded, is_decoded, ◌∙◌, ◌||◌, Bool, List, ℕ, ap, decodes, had, length, nat_lt, plan_in, refl, rules, sym, valued_in}
 use Rattle.rtcm_inspect.proofs.SignalLemmas.{decodes_had}
-use Rattle.rtcm_inspect.proofs.Names.{◌∙◌, ◌||◌, Bool, List, ℕ, ap, decodes, had, length, nat_lt, plan_in, refl, rules, sym, valued_in}
 use Rattle.rtcm_inspect.proofs.decoded.set_had.Goals as goal
 
 pub returns : goal.returns

@@ -1,10 +1,5 @@
-use Rattle.std.proofs.Common.{◌++◌, ◌∙◌, ℕ, List, length, map, arith, ap}
-use Rattle.std.proofs.lemmas.List.{take_all}
-use Rattle.std.specs.Borrow.{Bor}
-use Rattle.line_texts.specs.Lines.{with_words}
-use Rattle.rtcm_inspect.specs.EquipmentLines.{quoted}
+use Rattle.rtcm_inspect.proofs.Names.{◌++◌, ◌∙◌, ℕ, List, length, map, arith, ap, take_all, Bor, with_words, quoted, of_ok}
 use Rattle.rtcm_inspect.proofs.EquipmentLemmas.{text_more}
-use Rattle.rtcm_inspect.proofs.Names.{of_ok}
 use Rattle.rtcm_inspect.proofs.equipment.add_texts.Goals as goal
 
 pub loop-i-preserved : goal.loop-i-preserved

@@ -1,7 +1,4 @@
-use Rattle.std.proofs.Common.{◌≡◌, ◌+◌, ◌*◌, ◌≤◌, length, map, take}
-use Rattle.line_texts.specs.Lines.{with_words}
-use Rattle.rtcm_inspect.specs.EquipmentLines.{quoted}
-use Rattle.rtcm_inspect.specs.inner.Lines.{longest_head, longest_quoted}
+use Rattle.rtcm_inspect.proofs.Names.{◌≡◌, ◌+◌, ◌*◌, ◌≤◌, length, map, take, with_words, quoted, longest_head, longest_quoted}
 use Rattle.rtcm_inspect.proofs.equipment.add_texts.Given as goal
 
 -- the texts so far

@@ -1,10 +1,5 @@
-use Rattle.std.proofs.Common.{◌∷◌, ◌++◌, ◌∙◌, [], ℕ, List, map, ap, decimal}
-use Rattle.std.specs.Borrow.{Bor}
-use Rattle.line_texts.proofs.LineLaws.{end_line}
-use Rattle.line_texts.specs.Lines.{with_words}
-use Rattle.rtcm_inspect.specs.EquipmentLines.{quoted}
+use Rattle.rtcm_inspect.proofs.Names.{◌∷◌, ◌++◌, ◌∙◌, [], ℕ, List, map, ap, decimal, Bor, end_line, with_words, quoted, of_ok}
 use Rattle.rtcm_inspect.proofs.OptionLemmas.{words_more}
-use Rattle.rtcm_inspect.proofs.Names.{of_ok}
 use Rattle.rtcm_inspect.proofs.equipment.equipment_text.Goals as goal
 
 pub returns : goal.returns

@@ -1,7 +1,4 @@
-use Rattle.std.proofs.Common.{◌∷◌, ◌++◌, ◌∙◌, [], ℕ, List, take, get_or, arith, ap, sym}
-use Rattle.std.specs.List.{flat_map}
-use Rattle.std.proofs.lemmas.List.{flat_map_more, take_all, take_more}
-use Rattle.rtcm_inspect.specs.EquipmentLines.{escaped, quoted}
+use Rattle.rtcm_inspect.proofs.Names.{◌∷◌, ◌++◌, ◌∙◌, [], ℕ, List, take, get_or, arith, ap, sym, flat_map, flat_map_more, take_all, take_more, escaped, quoted}
 use Rattle.rtcm_inspect.proofs.equipment.quoted.Goals as goal
 
 pub loop-i-preserved : goal.loop-i-preserved

@@ -1,6 +1,4 @@
-use Rattle.std.proofs.Common.{◌≡◌, ◌+◌, ◌*◌, ◌≤◌, ◌∷◌, length, take}
-use Rattle.std.specs.List.{flat_map}
-use Rattle.rtcm_inspect.specs.EquipmentLines.{escaped}
+use Rattle.rtcm_inspect.proofs.Names.{◌≡◌, ◌+◌, ◌*◌, ◌≤◌, ◌∷◌, length, take, flat_map, escaped}
 use Rattle.rtcm_inspect.proofs.equipment.quoted.Given as goal
 
 -- the bytes so far

@@ -1,6 +1,5 @@
-use Rattle.line_texts.proofs.LineLaws.{add_word, end_line}
+use Rattle.rtcm_inspect.proofs.Names.{add_word, end_line, ◌∙◌, ◌∷◌, ◌++◌, ap, sym, refl, append-nil, decimal, ℕ, List, Err, framed, viewed_message, formed, Station, Other, number_word, with_words, station_line, fault_line, fault_words}
 use Rattle.rtcm_inspect.proofs.ShowLemmas.{shown, shown_value, shown_msm}
-use Rattle.rtcm_inspect.proofs.Names.{◌∙◌, ◌∷◌, ◌++◌, ap, sym, refl, append-nil, decimal, ℕ, List, Err, framed, viewed_message, formed, Station, Other, number_word, with_words, station_line, fault_line, fault_words}
 use Rattle.rtcm_inspect.proofs.listing.add_message.Goals as goal
 
 pub returns-in-Station : goal.returns-in-Station

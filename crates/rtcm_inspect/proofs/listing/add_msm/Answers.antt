@@ -1,7 +1,5 @@
+use Rattle.rtcm_inspect.proofs.Names.{time_of_week, add_word, end_line, System, ◌∙◌, [], ◌∷◌, ap, decimal, count_ones, bit, MsmHeader, MasksValue, msm_line}
 use Rattle.rtcm_msg.specs.Numbers.{message_number as number_of}
-use Rattle.rtcm_msg.specs.Msm.{time_of_week}
-use Rattle.line_texts.proofs.LineLaws.{add_word, end_line}
-use Rattle.rtcm_inspect.proofs.Names.{System, ◌∙◌, [], ◌∷◌, ap, decimal, count_ones, bit, MsmHeader, MasksValue, msm_line}
 use Rattle.rtcm_inspect.proofs.listing.add_msm.Goals as goal
 
 pub returns : goal.returns

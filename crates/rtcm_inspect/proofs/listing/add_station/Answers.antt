@@ -1,6 +1,5 @@
-use Rattle.line_texts.proofs.LineLaws.{add_word, end_line}
+use Rattle.rtcm_inspect.proofs.Names.{add_word, end_line, ◌≡◌, ◌∙◌, ◌∷◌, ◌++◌, ap, pos, refl, rules, sym, ℕ, List, Option, decimal, is_some, if◌then◌else◌, with_words, metres, station_line, height_words}
 use Rattle.rtcm_inspect.proofs.ShowLemmas.{as_passed}
-use Rattle.rtcm_inspect.proofs.Names.{◌≡◌, ◌∙◌, ◌∷◌, ◌++◌, ap, pos, refl, rules, sym, ℕ, List, Option, decimal, is_some, if◌then◌else◌, with_words, metres, station_line, height_words}
 use Rattle.rtcm_inspect.proofs.listing.add_station.Goals.{in-Some, in_default}
 use Rattle.rtcm_inspect.proofs.listing.add_station.Goals as goal
 

@@ -1,7 +1,5 @@
-use Rattle.rtcm_msg.specs.Equipment.{equipment_in, values_of}
-use Rattle.rtcm_inspect.specs.ShowLines.{line_with, show_line}
+use Rattle.rtcm_inspect.proofs.Names.{equipment_in, values_of, line_with, show_line, Bool, true, rules, ◌≡◌, ◌∙◌, ap, sym, Some, option_map, framed}
 use Rattle.rtcm_inspect.proofs.ListingLemmas.{written_as}
-use Rattle.rtcm_inspect.proofs.Names.{Bool, true, rules, ◌≡◌, ◌∙◌, ap, sym, Some, option_map, framed}
 use Rattle.rtcm_inspect.proofs.listing.write_any.Goals as goal
 
 pub returns-in-Some : goal.returns-in-Some

@@ -1,9 +1,5 @@
-use Rattle.line_texts.proofs.LineLaws.{add_text, add_word, end_line}
-use Rattle.line_texts.specs.Lines.{with_words}
-use Rattle.rtcm_msg.specs.Equipment.{values_of}
-use Rattle.rtcm_inspect.specs.EquipmentLines.{equipment_fault_words, equipment_line}
+use Rattle.rtcm_inspect.proofs.Names.{add_text, add_word, end_line, with_words, values_of, equipment_fault_words, equipment_line, ◌∙◌, ◌∷◌, [], ap, sym, refl, ℕ, List, decimal, framed, number_word}
 use Rattle.rtcm_inspect.proofs.ListingLemmas.{written_as}
-use Rattle.rtcm_inspect.proofs.Names.{◌∙◌, ◌∷◌, [], ap, sym, refl, ℕ, List, decimal, framed, number_word}
 use Rattle.rtcm_inspect.proofs.listing.write_equipment.Goals as goal
 
 pub returns-in-Ok : goal.returns-in-Ok

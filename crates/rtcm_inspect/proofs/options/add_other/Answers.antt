@@ -1,12 +1,6 @@
 use Rattle.rtcm_inspect.proofs.SignalLemmas.{decodes_had}
-use Rattle.line_texts.proofs.LineLaws.{words_after}
-use Rattle.rtcm_inspect.proofs.Names.{◌≡◌, ◌∙◌, ◌&&◌, ◌++◌, ◌∷◌, [], ℕ, Bool, true, false, ChannelsValue, List, Option, append-nil, ap, ap₂, arith, codes, further_words, if◌then◌else◌, length, nat_lt, not, refl, sym, codes_word, had, plan_had, System, with_words, HeardCell}
+use Rattle.rtcm_inspect.proofs.Names.{words_after, ◌≡◌, ◌∙◌, ◌&&◌, ◌++◌, ◌∷◌, [], ℕ, Bool, true, false, ChannelsValue, List, Option, append-nil, ap, ap₂, arith, codes, further_words, if◌then◌else◌, length, nat_lt, not, refl, sym, codes_word, had, plan_had, System, with_words, HeardCell, name_of, value_tabulated, is_nil, is_always_decoded, other_words}
 use Rattle.gnss_system.specs.declared.system.System.TheVariants as system
-use Rattle.gnss_system.specs.Satellites.{name_of}
-use Rattle.gnss_system.proofs.SystemLaws.{value_tabulated}
-use Rattle.gnss_obs.specs.Plans.{is_nil}
-use Rattle.obs_epoch.specs.Sets.{is_always_decoded}
-use Rattle.rtcm_inspect.specs.Fitting.{other_words}
 use Rattle.rtcm_inspect.proofs.options.add_other.Goals as goal
 
 some_signal : (is : List ℕ) → nat_lt 0 (length is) ≡ true → is_nil is ≡ false

@@ -1,8 +1,4 @@
-use Rattle.rtcm_inspect.proofs.Names.{take, ◌∙◌, ℕ, List, ap, arith, flat_map, sym, plan_had, with_words}
-use Rattle.std.proofs.lemmas.List.{take_all}
-use Rattle.gnss_system.specs.Systems.{systems}
-use Rattle.gnss_system.proofs.SystemLaws.{systems_taken}
-use Rattle.rtcm_inspect.specs.Fitting.{other_words}
+use Rattle.rtcm_inspect.proofs.Names.{take, ◌∙◌, ℕ, List, ap, arith, flat_map, sym, plan_had, with_words, take_all, systems, systems_taken, other_words}
 use Rattle.rtcm_inspect.proofs.OptionLemmas.{others_more}
 use Rattle.rtcm_inspect.proofs.options.add_others.Goals as goal
 

@@ -1,8 +1,4 @@
-use Rattle.rtcm_inspect.proofs.Names.{◌≡◌, ◌+◌, ◌*◌, ◌≤◌, List, length, flat_map, take, HeardCell, AreSignalCounts, plan_had, with_words}
-use Rattle.gnss_system.specs.Systems.{systems}
-use Rattle.rtcm_inspect.specs.Fitting.{other_words}
-use Rattle.line_texts.specs.Lines.{longest_line}
-use Rattle.rtcm_inspect.specs.inner.Lines.{longest_plan}
+use Rattle.rtcm_inspect.proofs.Names.{◌≡◌, ◌+◌, ◌*◌, ◌≤◌, List, length, flat_map, take, HeardCell, AreSignalCounts, plan_had, with_words, systems, other_words, longest_line, longest_plan}
 use Rattle.rtcm_inspect.proofs.options.add_others.Given as goal
 
 abbrev pub invariant-loop-i : goal.invariant-loop-i

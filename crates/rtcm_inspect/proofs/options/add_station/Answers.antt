@@ -1,6 +1,5 @@
-use Rattle.line_texts.proofs.LineLaws.{add_word}
+use Rattle.rtcm_inspect.proofs.Names.{add_word, append_assoc, ◌≡◌, ◌∙◌, ◌∷◌, ◌++◌, ap, sym, subst, refl, rules, ℕ, pos, List, Option, Some, None, IfSome, codes, w64, to_z, of_z, InRange, StationParts, antenna_words, position_word, station_words, with_words, metres}
 use Rattle.rtcm_inspect.proofs.ShowLemmas.{as_passed}
-use Rattle.rtcm_inspect.proofs.Names.{append_assoc, ◌≡◌, ◌∙◌, ◌∷◌, ◌++◌, ap, sym, subst, refl, rules, ℕ, pos, List, Option, Some, None, IfSome, codes, w64, to_z, of_z, InRange, StationParts, antenna_words, position_word, station_words, with_words, metres}
 use Rattle.rtcm_inspect.proofs.options.add_station.Goals as goal
 
 -- the option of the position

@@ -1,5 +1,4 @@
-use Rattle.line_texts.proofs.LineLaws.{add_text, add_word}
-use Rattle.rtcm_inspect.proofs.Names.{◌∙◌, ◌++◌, ℕ, Option, ap, codes, refl, rules, valued_in, number_start}
+use Rattle.rtcm_inspect.proofs.Names.{add_text, add_word, ◌∙◌, ◌++◌, ℕ, Option, ap, codes, refl, rules, valued_in, number_start}
 use Rattle.rtcm_inspect.proofs.options.first_words.Goals as goal
 
 pub returns-clause-text : goal.returns-clause-text

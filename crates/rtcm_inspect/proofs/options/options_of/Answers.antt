@@ -1,8 +1,7 @@
 use Rattle.rtcm_inspect.proofs.SignalLemmas.{no_cells, some_cells}
 use Rattle.rtcm_inspect.proofs.PrintedWeekLemmas.{week_refused}
 use Rattle.rtcm_inspect.proofs.ValuedLemmas.{valued_keys}
-use Rattle.rtcm_inspect.proofs.Names.{◌∙◌, ap, sym, mixed_of, passed, valued_in, AreOptionsRefused, FirstTwo, frames_of}
-use Rattle.std.specs.Prelude.{IfErr}
+use Rattle.rtcm_inspect.proofs.Names.{◌∙◌, ap, sym, mixed_of, passed, valued_in, AreOptionsRefused, FirstTwo, frames_of, IfErr}
 use Rattle.rtcm_inspect.proofs.options.options_of.Goals as goal
 
 pub returns-in-None-clause-refused : goal.returns-in-None-clause-refused

@@ -1,7 +1,5 @@
-use Rattle.rtcm_inspect.specs.declared.fault.InspectFault.TheVariants.{Write}
+use Rattle.rtcm_inspect.proofs.Names.{Write, printed_later, sym, subst, Option, ℕ, frames_of, AreOptionsOf, AreOptionsRefused, AreSignals, devices_of, writer_of}
 use Rattle.rtcm_inspect.proofs.CountingLemmas.{stream_printed}
-use Rattle.devices.proofs.PrintingLaws.{printed_later}
-use Rattle.rtcm_inspect.proofs.Names.{sym, subst, Option, ℕ, frames_of, AreOptionsOf, AreOptionsRefused, AreSignals, devices_of, writer_of}
 use Rattle.rtcm_inspect.proofs.options.run_options.Goals as goal
 
 pub returns : goal.returns

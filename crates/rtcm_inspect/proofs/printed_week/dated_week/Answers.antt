@@ -1,7 +1,5 @@
-use Rattle.rtcm_inspect.specs.OptionOutput.{IsWeekAt, is_denied_at}
-use Rattle.rtcm_inspect.specs.SentWeeks.{first_msm, rests_in, whole_in}
+use Rattle.rtcm_inspect.proofs.Names.{IsWeekAt, is_denied_at, first_msm, rests_in, whole_in, ◌≡◌, ◌∙◌, ℕ, IfSome, Option, Some, ap, false, subst, sym}
 use Rattle.rtcm_inspect.proofs.PrintedWeekLemmas.{at_noon, not_denied, other_said}
-use Rattle.rtcm_inspect.proofs.Names.{◌≡◌, ◌∙◌, ℕ, IfSome, Option, Some, ap, false, subst, sym}
 use Rattle.rtcm_inspect.proofs.printed_week.dated_week.Goals as goal
 
 pub returns-in-Some-other_time-clause-refused : goal.returns-in-Some-other_time-clause-refused

@@ -1,7 +1,5 @@
-use Rattle.rtcm_inspect.specs.CountedTimes.{greatest_at_first}
-use Rattle.rtcm_inspect.specs.declared.printed_week.FirstMsm.{FirstMsm}
+use Rattle.rtcm_inspect.proofs.Names.{greatest_at_first, FirstMsm, ◌∙◌, ℕ, Option, ap, ap₂, first_tow, unwrap_or, MsmSet}
 use Rattle.rtcm_inspect.proofs.PrintedWeekLemmas.{at_first_msm}
-use Rattle.rtcm_inspect.proofs.Names.{◌∙◌, ℕ, Option, ap, ap₂, first_tow, unwrap_or, MsmSet}
 use Rattle.rtcm_inspect.proofs.printed_week.first_msm.Goals as goal
 
 made : ℕ → ℕ → FirstMsm

@@ -1,6 +1,5 @@
-use Rattle.rtcm_inspect.specs.SentWeeks.{is_in}
+use Rattle.rtcm_inspect.proofs.Names.{is_in, ◌≡◌, ◌∙◌, ◌&&◌, ℕ, ap, arith, below, false, get_or, list_any}
 use Rattle.rtcm_inspect.proofs.SaidLemmas.{any_added}
-use Rattle.rtcm_inspect.proofs.Names.{◌≡◌, ◌∙◌, ◌&&◌, ℕ, ap, arith, below, false, get_or, list_any}
 use Rattle.rtcm_inspect.proofs.printed_week.has_week.Goals as goal
 
 pub returns : goal.returns

@@ -1,5 +1,4 @@
-use Rattle.rtcm_inspect.specs.SentWeeks.{is_in}
-use Rattle.rtcm_inspect.proofs.Names.{◌≡◌, ◌&&◌, below, false, get_or, list_any}
+use Rattle.rtcm_inspect.proofs.Names.{is_in, ◌≡◌, ◌&&◌, below, false, get_or, list_any}
 use Rattle.rtcm_inspect.proofs.printed_week.has_week.Given as goal
 
 abbrev pub invariant-loop-zero : goal.invariant-loop-zero

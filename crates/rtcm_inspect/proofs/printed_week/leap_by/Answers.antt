@@ -1,6 +1,4 @@
-use Rattle.line_texts.specs.LeapSeconds.{leap_at}
-use Rattle.rtcm_inspect.specs.SentWeeks.{time_in, within_weeks}
-use Rattle.rtcm_inspect.proofs.Names.{◌∙◌, ap, ap₂}
+use Rattle.rtcm_inspect.proofs.Names.{leap_at, time_in, within_weeks, ◌∙◌, ap, ap₂}
 use Rattle.rtcm_inspect.proofs.printed_week.leap_by.Goals as goal
 
 pub returns : goal.returns

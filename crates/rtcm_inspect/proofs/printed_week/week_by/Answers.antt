@@ -1,5 +1,4 @@
-use Rattle.rtcm_inspect.specs.SentWeeks.{first_msm, time_in, within_weeks}
-use Rattle.rtcm_inspect.proofs.Names.{◌∙◌, ◌/◌, ℕ, ap, ap₂, week}
+use Rattle.rtcm_inspect.proofs.Names.{first_msm, time_in, within_weeks, ◌∙◌, ◌/◌, ℕ, ap, ap₂, week}
 use Rattle.rtcm_inspect.proofs.printed_week.week_by.Goals as goal
 
 pub returns : goal.returns

@@ -1,5 +1,4 @@
-use Rattle.rtcm_inspect.specs.declared.fault.WeekDate.{WeekDate}
-use Rattle.rtcm_inspect.proofs.Names.{◌/◌, ap₂, ℕ, Civil, week}
+use Rattle.rtcm_inspect.proofs.Names.{WeekDate, ◌/◌, ap₂, ℕ, Civil, week}
 use Rattle.rtcm_inspect.proofs.printed_week.week_date.Goals as goal
 
 dated : ℕ → Civil → WeekDate

@@ -1,13 +1,4 @@
-use Rattle.std.proofs.Common.{◌≡◌, ◌∙◌, ◌+◌, ◌*◌, ◌≤◌, ◌++◌, ◌∷◌, [], ℕ, List, length, ap, ap₂, sym, subst, refl, arith, flat_map, append-nil}
-use Rattle.rtcm_inspect.proofs.Names.{flat_map-append, System, table, HeardCell, count_lines}
-use Rattle.std.specs.Prelude.{take, nat_le}
-use Rattle.std.specs.List.{sum_by}
-use Rattle.std.proofs.lemmas.List.{take_all}
-use Rattle.std.proofs.lemmas.List.Sums.{sum_by-append}
-use Rattle.gnss_system.specs.Systems.{systems, before}
-use Rattle.gnss_system.proofs.SystemLaws.{each_system, systems_taken}
-use Rattle.rtcm_inspect.specs.inner.Lines.{longest_signals}
-use Rattle.std.proofs.lemmas.Bool.{leb-true}
+use Rattle.rtcm_inspect.proofs.Names.{◌≡◌, ◌∙◌, ◌+◌, ◌*◌, ◌≤◌, ◌++◌, ◌∷◌, [], ℕ, List, length, ap, ap₂, sym, subst, refl, arith, flat_map, append-nil, flat_map-append, System, table, HeardCell, count_lines, take, nat_le, sum_by, take_all, sum_by-append, systems, before, each_system, systems_taken, longest_signals, leb-true}
 use Rattle.rtcm_inspect.proofs.signals.add_systems.Goals as goal
 
 -- the bytes of the lines of systems

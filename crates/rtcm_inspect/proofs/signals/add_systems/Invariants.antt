@@ -1,7 +1,4 @@
-use Rattle.rtcm_inspect.proofs.Names.{◌≡◌, ◌*◌, ◌≤◌, List, length, flat_map, table, AreSignalCounts, HeardCell, count_lines}
-use Rattle.std.specs.Prelude.{take}
-use Rattle.std.specs.List.{sum_by}
-use Rattle.gnss_system.specs.Systems.{systems}
+use Rattle.rtcm_inspect.proofs.Names.{◌≡◌, ◌*◌, ◌≤◌, List, length, flat_map, table, AreSignalCounts, HeardCell, count_lines, take, sum_by, systems}
 use Rattle.rtcm_inspect.proofs.signals.add_systems.Given as goal
 
 abbrev pub invariant-loop-i : goal.invariant-loop-i

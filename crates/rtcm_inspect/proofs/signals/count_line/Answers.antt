@@ -1,6 +1,4 @@
-use Rattle.gnss_system.specs.Satellites.{letter}
-use Rattle.line_texts.proofs.LineLaws.{add_text, add_word, end_line}
-use Rattle.rtcm_inspect.proofs.Names.{[], ◌∷◌, ℕ, ap, refl, decimal, ◌∙◌, code_of, signal_in, count_line}
+use Rattle.rtcm_inspect.proofs.Names.{letter, add_text, add_word, end_line, [], ◌∷◌, ℕ, ap, refl, decimal, ◌∙◌, code_of, signal_in, count_line}
 use Rattle.rtcm_inspect.proofs.signals.count_line.Goals as goal
 
 pub returns-clause-text : goal.returns-clause-text

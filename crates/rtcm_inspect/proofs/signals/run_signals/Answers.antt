@@ -1,9 +1,7 @@
-use Rattle.rtcm_inspect.specs.declared.fault.InspectFault.TheVariants.{Write}
+use Rattle.rtcm_inspect.proofs.Names.{Write, printed_later, ◌∙◌, refl, sym, AreSignalsOf, AreSignalsRefused, devices_of, frames_of, valued_in, writer_of}
 use Rattle.rtcm_inspect.proofs.CountingLemmas.{stream_printed}
-use Rattle.devices.proofs.PrintingLaws.{printed_later}
 use Rattle.rtcm_inspect.proofs.SignalLemmas.{no_cells, some_cells}
 use Rattle.rtcm_inspect.proofs.ValuedLemmas.{valued_keys}
-use Rattle.rtcm_inspect.proofs.Names.{◌∙◌, refl, sym, AreSignalsOf, AreSignalsRefused, devices_of, frames_of, valued_in, writer_of}
 use Rattle.rtcm_inspect.proofs.signals.run_signals.Goals as goal
 
 pub returns-then-not-has_any : goal.returns-then-not-has_any

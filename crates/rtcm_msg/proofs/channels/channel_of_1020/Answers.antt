@@ -1,7 +1,4 @@
-use Rattle.std.proofs.Common.{ℕ, ◌≡◌, ◌≢◌, ◌+◌, ◌<◌, ◌≤◌, ◌==◌, ◌∙◌, true, false, List, length, take, nat_le, Some, None, refl, sym, arith, lit≤}
-use Rattle.rtcm_bits.proofs.BitLaws.{length-bits_of}
-use Rattle.rtcm_msg.specs.inner.Names.{bits_of, field_at}
-use Rattle.rtcm_msg.specs.Channels.{channel_of_1020}
+use Rattle.rtcm_msg.proofs.Names.{ℕ, ◌≡◌, ◌≢◌, ◌+◌, ◌<◌, ◌≤◌, ◌==◌, ◌∙◌, true, false, List, length, take, nat_le, Some, None, refl, sym, arith, lit≤, length-bits_of, bits_of, field_at, channel_of_1020}
 use Rattle.rtcm_msg.proofs.LongLaws.{field_in_front}
 use Rattle.rtcm_msg.proofs.channels.channel_of_1020.Goals as goal
 

@@ -1,5 +1,4 @@
-use Rattle.std.proofs.Common.{ℕ, ℤ, pos, ◌≡◌, ◌+◌, ◌*◌, ◌^◌, ◌<◌, ◌≤◌, ◌≢◌, ◌+ℤ◌, unsigned_abs, Some, ap, arith, w64, to_z, of_z, FitsSigned, false, ◌==◌}
-use Rattle.std.proofs.lemmas.Int.{ints}
+use Rattle.rtcm_msg.proofs.Names.{ℕ, ℤ, pos, ◌≡◌, ◌+◌, ◌*◌, ◌^◌, ◌<◌, ◌≤◌, ◌≢◌, ◌+ℤ◌, unsigned_abs, Some, ap, arith, w64, to_z, of_z, FitsSigned, false, ◌==◌, ints}
 use Rattle.rtcm_msg.proofs.data.range_joined.Goals as goal
 
 abbrev rough : ℕ → ℕ → ℕ

@@ -1,7 +1,5 @@
-use Rattle.std.proofs.Common.{ℤ, pos, ◌≡◌, ◌*ℤ◌, ◌+ℤ◌, arith, rules, w16, w32, to_z, of_z, FitsSigned, lit≤}
-use Rattle.std.proofs.lemmas.Int.{ints, to_z-of_z}
+use Rattle.rtcm_msg.proofs.Names.{ℤ, pos, ◌≡◌, ◌*ℤ◌, ◌+ℤ◌, arith, rules, w16, w32, to_z, of_z, FitsSigned, lit≤, ints, to_z-of_z, has_rates}
 use Rattle.rtcm_msg.proofs.BoundsLaws.{rate_small, rough_rate_small, fine_rate_small}
-use Rattle.rtcm_msg.specs.Forms.{has_rates}
 use Rattle.rtcm_msg.proofs.SignedLaws.{wider}
 use Rattle.rtcm_msg.proofs.data.rate.Goals as goal
 

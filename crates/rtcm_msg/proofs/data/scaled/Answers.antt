@@ -1,9 +1,7 @@
-use Rattle.std.proofs.Common.{ℕ, ℤ, pos, ◌≡◌, ◌==◌, ◌∙◌, sym, ap, ◌*◌, ◌*ℤ◌, ◌≤◌, ◌^◌, Bool, not, if◌then◌else◌, Option, Some, None, unsigned_abs, arith, w32, w64, to_z, of_z, FitsSigned, lit<, lit≤}
-use Rattle.std.specs.Prelude.{IfSome}
+use Rattle.rtcm_msg.proofs.Names.{ℕ, ℤ, pos, ◌≡◌, ◌==◌, ◌∙◌, sym, ap, ◌*◌, ◌*ℤ◌, ◌≤◌, ◌^◌, Bool, not, if◌then◌else◌, Option, Some, None, unsigned_abs, arith, w32, w64, to_z, of_z, FitsSigned, lit<, lit≤, IfSome, ints, to_z-of_z, fits_signed_mul, unsigned_abs-mul}
 use Rattle.std.specs.Bool.{then_some}
 use Rattle.std.specs.Ordering.{int_eq}
 use Rattle.std.proofs.lemmas.Bool.Decides.{same_from_decides, Decides-like, Decides-eqb, Decides-int_eq}
-use Rattle.std.proofs.lemmas.Int.{ints, to_z-of_z, fits_signed_mul, unsigned_abs-mul}
 use Rattle.rtcm_msg.proofs.SignedLaws.{wider}
 use Rattle.rtcm_msg.proofs.data.scaled.Goals as goal
 

@@ -1,8 +1,5 @@
-use Rattle.std.proofs.Common.{Err, sym, subst, ◌≤◌, ◌≡◌, ◌+◌, ◌-◌, ◌∷◌, ◌++◌, ◌∙◌, [], ℕ, List, length, map, arith, ap, suc}
-use Rattle.std.proofs.lemmas.List.{append_assoc, map-append}
+use Rattle.rtcm_msg.proofs.Names.{Err, sym, subst, ◌≤◌, ◌≡◌, ◌+◌, ◌-◌, ◌∷◌, ◌++◌, ◌∙◌, [], ℕ, List, length, map, arith, ap, suc, append_assoc, map-append, err_from_is_err_and, AreShort, texts_at}
 use Rattle.std.proofs.lemmas.List.Elements.{All-push}
-use Rattle.std.proofs.lemmas.Result.{err_from_is_err_and}
-use Rattle.rtcm_msg.specs.Equipment.{AreShort, texts_at}
 use Rattle.rtcm_msg.proofs.EquipmentLaws.{followed, none_more, one_more}
 use Rattle.rtcm_msg.proofs.equipment.add_texts.Goals as goal
 

@@ -1,5 +1,4 @@
-use Rattle.std.proofs.Common.{◌≡◌, ◌+◌, ◌-◌, ◌*◌, ◌≤◌, ◌++◌, ℕ, List, length, map}
-use Rattle.rtcm_msg.specs.Equipment.{AreShort, texts_at}
+use Rattle.rtcm_msg.proofs.Names.{◌≡◌, ◌+◌, ◌-◌, ◌*◌, ◌≤◌, ◌++◌, ℕ, List, length, map, AreShort, texts_at}
 use Rattle.rtcm_msg.proofs.EquipmentLaws.{followed}
 use Rattle.rtcm_msg.proofs.equipment.add_texts.Given as goal
 

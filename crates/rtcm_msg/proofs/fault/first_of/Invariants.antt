@@ -1,5 +1,4 @@
-use Rattle.std.proofs.Common.{◌≡◌, drop}
-use Rattle.rtcm_msg.specs.inner.Names.{first_of}
+use Rattle.rtcm_msg.proofs.Names.{◌≡◌, drop, first_of}
 use Rattle.rtcm_msg.proofs.fault.first_of.Given as goal
 
 abbrev pub invariant-loop-is_bad : goal.invariant-loop-is_bad

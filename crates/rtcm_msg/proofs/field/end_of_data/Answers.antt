@@ -1,5 +1,4 @@
-use Rattle.std.proofs.Common.{◌∙◌, ◌+◌, ◌*◌, ◌≤◌, ℕ, length, ap, sym, subst}
-use Rattle.std.specs.Prelude.{Ok}
+use Rattle.rtcm_msg.proofs.Names.{◌∙◌, ◌+◌, ◌*◌, ◌≤◌, ℕ, length, ap, sym, subst, Ok}
 use Rattle.rtcm_msg.proofs.RowLaws.{end_there}
 use Rattle.rtcm_msg.proofs.field.end_of_data.Goals as goal
 

@@ -1,5 +1,4 @@
-use Rattle.std.proofs.Common.{◌≡◌, ◌*◌, ◌≤◌, length, drop}
-use Rattle.rtcm_msg.specs.inner.Names.{end_of_rows}
+use Rattle.rtcm_msg.proofs.Names.{◌≡◌, ◌*◌, ◌≤◌, length, drop, end_of_rows}
 use Rattle.rtcm_msg.proofs.field.end_of_fields.Given as goal
 
 abbrev pub invariant-loop-width : goal.invariant-loop-width

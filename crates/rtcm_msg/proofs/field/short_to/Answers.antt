@@ -1,5 +1,4 @@
-use Rattle.std.proofs.Common.{◌+◌, ◌*◌, ◌-◌, ◌/◌, ◌%◌, ap, ◌∙◌, arith, drop, take}
-use Rattle.rtcm_msg.specs.inner.Names.{bits_of, number}
+use Rattle.rtcm_msg.proofs.Names.{◌+◌, ◌*◌, ◌-◌, ◌/◌, ◌%◌, ap, ◌∙◌, arith, drop, take, bits_of, number}
 use Rattle.rtcm_bits.proofs.WordLaws.{within_word}
 use Rattle.rtcm_msg.proofs.ContentLaws.{field_fits}
 use Rattle.rtcm_msg.proofs.field.short_to.Goals as goal

@@ -1,8 +1,5 @@
 -- Each failed test gives the fault with which reading field by field ends (HeadLaws), for either form and system.
-use Rattle.std.proofs.Common.{ℕ, ◌≡◌, ◌+◌, ◌*◌, ◌≤◌, ◌∙◌, Bool, true, false, length, count_ones, sym, ap, arith, inl, inr}
-use Rattle.std.proofs.lemmas.Result.{err_from_is_err_and}
-use Rattle.gnss_system.specs.declared.system.System.{System}
-use Rattle.rtcm_msg.specs.inner.Names.{is_time}
+use Rattle.rtcm_msg.proofs.Names.{ℕ, ◌≡◌, ◌+◌, ◌*◌, ◌≤◌, ◌∙◌, Bool, true, false, length, count_ones, sym, ap, arith, inl, inr, err_from_is_err_and, System, is_time}
 use Rattle.rtcm_msg.proofs.HeadLaws.{time_missing, time_late, head_missing, header_whole, masks_many, cells_missing, masks_whole}
 use Rattle.rtcm_msg.proofs.ViewLaws.{no_header, no_masks}
 use Rattle.rtcm_msg.proofs.header.read_head.Goals as goal

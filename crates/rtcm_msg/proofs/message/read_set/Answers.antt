@@ -1,8 +1,4 @@
-use Rattle.std.proofs.Common.{ℕ, ◌/◌, ◌%◌, true, false, nat_le, ◌≡◌, ◌*◌, ◌<◌, ◌≤◌, ◌==◌, length, List, arith, refl, ◌∙◌, sym, Some, None, Option, is_some}
-use Rattle.gnss_system.specs.declared.system.System.{System}
-use Rattle.gnss_system.specs.Satellites.{system_of_tens}
-use Rattle.rtcm_msg.specs.inner.Names.{bits_of, Cursor, cursor_at, field_at, set_at, set_in, is_any_msm}
-use Rattle.rtcm_bits.proofs.BitLaws.{length-bits_of}
+use Rattle.rtcm_msg.proofs.Names.{ℕ, ◌/◌, ◌%◌, true, false, nat_le, ◌≡◌, ◌*◌, ◌<◌, ◌≤◌, ◌==◌, length, List, arith, refl, ◌∙◌, sym, Some, None, Option, is_some, System, system_of_tens, bits_of, Cursor, cursor_at, field_at, set_at, set_in, is_any_msm, length-bits_of}
 use Rattle.rtcm_msg.proofs.MessageLaws.{other_set}
 use Rattle.rtcm_msg.proofs.message.read_set.Goals as goal
 

@@ -1,5 +1,4 @@
-use Rattle.std.proofs.Common.{ℕ, List, Bool, ◌≡◌, ◌++◌, ◌∙◌, append_assoc, ap}
-use Rattle.rtcm_msg.specs.inner.Names.{field_bits}
+use Rattle.rtcm_msg.proofs.Names.{ℕ, List, Bool, ◌≡◌, ◌++◌, ◌∙◌, append_assoc, ap, field_bits}
 use Rattle.rtcm_msg.proofs.WritingSteps.{field_bits-append}
 use Rattle.rtcm_msg.proofs.msm.write_msm.Goals as goal
 

@@ -1,5 +1,4 @@
-use Rattle.std.proofs.Common.{◌∙◌, arith, sym}
-use Rattle.rtcm_msg.specs.inner.Names.{pairs_left}
+use Rattle.rtcm_msg.proofs.Names.{◌∙◌, arith, sym, pairs_left}
 use Rattle.rtcm_msg.proofs.PairLaws.{found, passed, over, one_less, first_index}
 use Rattle.rtcm_msg.proofs.pairs.split_cells.Goals as goal
 

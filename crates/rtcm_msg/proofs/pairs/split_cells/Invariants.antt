@@ -1,5 +1,4 @@
-use Rattle.std.proofs.Common.{ℕ, ◌≡◌, ◌≤◌, length}
-use Rattle.rtcm_msg.specs.inner.Names.{uint, chosen, pairs_left, ArePairs, IndicesAreBelow}
+use Rattle.rtcm_msg.proofs.Names.{ℕ, ◌≡◌, ◌≤◌, length, uint, chosen, pairs_left, ArePairs, IndicesAreBelow}
 use Rattle.rtcm_msg.proofs.pairs.split_cells.Given as goal
 
 abbrev pub invariant-loop-left : goal.invariant-loop-left

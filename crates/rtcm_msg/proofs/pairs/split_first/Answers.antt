@@ -1,8 +1,4 @@
-use Rattle.std.proofs.Common.{ℕ, ◌≡◌, ◌-◌, ◌*◌, ◌^◌, ◌%◌, ◌<◌, ◌≤◌, ap, ◌∙◌, arith}
-use Rattle.std.specs.Int.Bits.{bit_xor}
-use Rattle.std.specs.Int.Count.{count_leading_zeros}
-use Rattle.std.proofs.lemmas.Nat.{one_shl}
-use Rattle.std.proofs.Math.Nat.{mod-eq_of_lt}
+use Rattle.rtcm_msg.proofs.Names.{ℕ, ◌≡◌, ◌-◌, ◌*◌, ◌^◌, ◌%◌, ◌<◌, ◌≤◌, ap, ◌∙◌, arith, bit_xor, count_leading_zeros, one_shl, mod-eq_of_lt}
 use Rattle.rtcm_msg.proofs.PairLaws.{Top, top_of, without_top, ids_split}
 use Rattle.rtcm_msg.proofs.pairs.split_first.Goals as goal
 

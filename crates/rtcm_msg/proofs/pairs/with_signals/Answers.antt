@@ -1,5 +1,4 @@
-use Rattle.std.proofs.Common.{◌≡◌, ◌+◌, ◌<◌, length, arith, List}
-use Rattle.rtcm_msg.specs.inner.Names.{Pair, ids}
+use Rattle.rtcm_msg.proofs.Names.{◌≡◌, ◌+◌, ◌<◌, length, arith, List, Pair, ids}
 use Rattle.rtcm_msg.proofs.PairLaws.{satellite_left, signal_left, next_row}
 use Rattle.rtcm_msg.proofs.pairs.with_signals.Goals as goal
 

@@ -1,5 +1,4 @@
-use Rattle.std.proofs.Common.{refl, rules, w64}
-use Rattle.std.proofs.lemmas.Int.{to_z-of_z}
+use Rattle.rtcm_msg.proofs.Names.{refl, rules, w64, to_z-of_z}
 use Rattle.rtcm_msg.proofs.station.parts_in.Goals as goal
 
 pub returns-then-has_height-clause-value : goal.returns-then-has_height-clause-value

@@ -1,6 +1,4 @@
-use Rattle.std.proofs.Common.{ℕ, List, Bool, refl, ◌≡◌, ◌+◌, ◌*◌, ◌≤◌, ◌∙◌, ap, arith, length}
-use Rattle.std.proofs.lemmas.Result.{err_from_is_err_and}
-use Rattle.rtcm_msg.specs.inner.Names.{total_width, end_of_rows, field_widths}
+use Rattle.rtcm_msg.proofs.Names.{ℕ, List, Bool, refl, ◌≡◌, ◌+◌, ◌*◌, ◌≤◌, ◌∙◌, ap, arith, length, err_from_is_err_and, total_width, end_of_rows, field_widths}
 use Rattle.rtcm_msg.proofs.HeadLaws.{station_missing, station_whole}
 use Rattle.rtcm_msg.proofs.station.view_station.Goals as goal
 

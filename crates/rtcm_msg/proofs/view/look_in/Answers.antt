@@ -1,6 +1,4 @@
-use Rattle.std.proofs.Common.{arith, ◌≡◌, ◌∙◌, sym}
-use Rattle.rtcm_msg.specs.inner.Names.{bits_of, message_with, kind_with}
-use Rattle.rtcm_bits.proofs.BitLaws.{length-bits_of}
+use Rattle.rtcm_msg.proofs.Names.{arith, ◌≡◌, ◌∙◌, sym, bits_of, message_with, kind_with, length-bits_of}
 use Rattle.rtcm_msg.proofs.MessageLaws.{message_none, message_there}
 use Rattle.rtcm_msg.proofs.LongLaws.{with_prefix}
 use Rattle.rtcm_msg.proofs.view.look_in.Goals as goal

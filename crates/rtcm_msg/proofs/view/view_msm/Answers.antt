@@ -1,8 +1,4 @@
-use Rattle.std.proofs.Common.{ℕ, ◌≡◌, Bool, List, arith, sym, subst}
-use Rattle.std.proofs.lemmas.Nat.{ones-le}
-use Rattle.std.proofs.lemmas.Result.{err_from_is_err_and}
-use Rattle.gnss_system.specs.declared.system.System.{System}
-use Rattle.rtcm_msg.specs.inner.Names.{Cursor, MsmHeader, Form, MasksValue, pair_count}
+use Rattle.rtcm_msg.proofs.Names.{ℕ, ◌≡◌, Bool, List, arith, sym, subst, ones-le, err_from_is_err_and, System, Cursor, MsmHeader, Form, MasksValue, pair_count}
 use Rattle.rtcm_msg.proofs.ViewLaws.{AfterMasks, Found, first_short, second_short, whole, are_within}
 use Rattle.rtcm_msg.proofs.view.view_msm.Goals as goal
 

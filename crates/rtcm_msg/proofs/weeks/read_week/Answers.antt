@@ -1,9 +1,4 @@
-use Rattle.std.proofs.Common.{ℕ, ◌≡◌, ◌≢◌, ◌+◌, ◌-◌, ◌*◌, ◌^◌, ◌<◌, ◌≤◌, ◌==◌, ◌∙◌, false, true, List, None, Some, length, take, refl, ap, arith}
-use Rattle.std.proofs.lemmas.Bool.{le-leb}
-use Rattle.std.proofs.Math.Nat.{mul-le-mul}
-use Rattle.rtcm_bits.proofs.BitLaws.{pow_mono}
-use Rattle.rtcm_msg.specs.inner.Names.{bits_of, field_at}
-use Rattle.rtcm_msg.specs.Weeks.{week_by, week_place}
+use Rattle.rtcm_msg.proofs.Names.{ℕ, ◌≡◌, ◌≢◌, ◌+◌, ◌-◌, ◌*◌, ◌^◌, ◌<◌, ◌≤◌, ◌==◌, ◌∙◌, false, true, List, None, Some, length, take, refl, ap, arith, le-leb, mul-le-mul, pow_mono, bits_of, field_at, week_by, week_place}
 use Rattle.rtcm_msg.specs.declared.weeks.WeekFields.{WeekFields}
 use Rattle.rtcm_msg.proofs.LongLaws.{field_in_front}
 use Rattle.rtcm_msg.proofs.weeks.read_week.Goals as goal

@@ -1,6 +1,4 @@
-use Rattle.std.proofs.Common.{ℕ, ◌≡◌, ◌≤◌, ◌∙◌, List, option_and_then, length, take, ap, lit≤}
-use Rattle.rtcm_msg.specs.inner.Names.{bits_of, field_at}
-use Rattle.rtcm_msg.specs.Weeks.{sent_week, week_by, week_fields}
+use Rattle.rtcm_msg.proofs.Names.{ℕ, ◌≡◌, ◌≤◌, ◌∙◌, List, option_and_then, length, take, ap, lit≤, bits_of, field_at, sent_week, week_by, week_fields}
 use Rattle.rtcm_msg.proofs.LongLaws.{field_in_front}
 use Rattle.rtcm_msg.proofs.weeks.sent_week.Goals as goal
 

@@ -1,5 +1,4 @@
-use Rattle.std.proofs.Common.{◌/◌, ◌^◌, get_or, arith}
-use Rattle.rtcm_msg.specs.inner.Names.{uint}
+use Rattle.rtcm_msg.proofs.Names.{◌/◌, ◌^◌, get_or, arith, uint}
 use Rattle.rtcm_msg.proofs.WritingSteps.{column_put, column_next}
 use Rattle.rtcm_msg.proofs.writing.write_column.Goals as goal
 

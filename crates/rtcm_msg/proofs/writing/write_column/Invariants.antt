@@ -1,6 +1,4 @@
-use Rattle.std.proofs.Common.{◌≡◌, ◌++◌, ◌+◌, ◌*◌, ◌/◌, ◌^◌, drop, length}
-use Rattle.std.specs.List.{flat_map}
-use Rattle.rtcm_msg.specs.inner.Names.{uint}
+use Rattle.rtcm_msg.proofs.Names.{◌≡◌, ◌++◌, ◌+◌, ◌*◌, ◌/◌, ◌^◌, drop, length, flat_map, uint}
 use Rattle.rtcm_msg.proofs.writing.write_column.Given as goal
 
 abbrev pub invariant-loop-number : goal.invariant-loop-number

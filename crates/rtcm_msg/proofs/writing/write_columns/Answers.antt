@@ -1,6 +1,4 @@
-use Rattle.std.proofs.Common.{◌≡◌, ◌+◌, ◌-◌, length, drop, get_or, arith, sym, ◌∙◌, append-nil}
-use Rattle.std.proofs.Math.Seq.{drop-length}
-use Rattle.rtcm_msg.specs.inner.Names.{columns, total_width}
+use Rattle.rtcm_msg.proofs.Names.{◌≡◌, ◌+◌, ◌-◌, length, drop, get_or, arith, sym, ◌∙◌, append-nil, drop-length, columns, total_width}
 use Rattle.rtcm_msg.proofs.ColumnSteps.{total-drop}
 use Rattle.rtcm_msg.proofs.WritingSteps.{columns_next}
 use Rattle.rtcm_msg.proofs.writing.write_columns.Goals as goal

@@ -1,5 +1,4 @@
-use Rattle.std.proofs.Common.{◌≡◌, ◌++◌, ◌+◌, ◌*◌, ◌<◌, drop, length}
-use Rattle.rtcm_msg.specs.inner.Names.{columns, total_width}
+use Rattle.rtcm_msg.proofs.Names.{◌≡◌, ◌++◌, ◌+◌, ◌*◌, ◌<◌, drop, length, columns, total_width}
 use Rattle.rtcm_msg.proofs.writing.write_columns.Given as goal
 
 abbrev pub invariant-loop-width : goal.invariant-loop-width

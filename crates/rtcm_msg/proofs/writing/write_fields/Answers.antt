@@ -1,6 +1,4 @@
-use Rattle.std.proofs.Common.{◌≡◌, length, arith, ◌∙◌, sym, append-nil}
-use Rattle.std.proofs.Math.Seq.{drop-length}
-use Rattle.rtcm_msg.specs.inner.Names.{field_bits}
+use Rattle.rtcm_msg.proofs.Names.{◌≡◌, length, arith, ◌∙◌, sym, append-nil, drop-length, field_bits}
 use Rattle.rtcm_msg.proofs.WritingSteps.{fields_next, width_next}
 use Rattle.rtcm_msg.proofs.writing.write_fields.Goals as goal
 

@@ -1,5 +1,4 @@
-use Rattle.std.proofs.Common.{◌≡◌, ◌++◌, ◌+◌, drop, length}
-use Rattle.rtcm_msg.specs.inner.Names.{field_bits, fields_width}
+use Rattle.rtcm_msg.proofs.Names.{◌≡◌, ◌++◌, ◌+◌, drop, length, field_bits, fields_width}
 use Rattle.rtcm_msg.proofs.writing.write_fields.Given as goal
 
 abbrev pub invariant-loop-width : goal.invariant-loop-width

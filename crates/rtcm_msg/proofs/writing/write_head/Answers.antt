@@ -1,5 +1,4 @@
-use Rattle.std.proofs.Common.{refl}
-use Rattle.rtcm_bits.proofs.BitLaws.{byte-bit}
+use Rattle.rtcm_msg.proofs.Names.{refl, byte-bit}
 use Rattle.rtcm_msg.proofs.writing.write_head.Goals as goal
 
 pub returns-clause-bits : goal.returns-clause-bits

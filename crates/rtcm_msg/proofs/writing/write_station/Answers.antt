@@ -1,8 +1,4 @@
-use Rattle.std.proofs.Common.{ℕ, List, Bool, Some, [], ◌∷◌, ◌≡◌, ◌++◌, ◌∙◌, refl, rules, sym, ap, append_assoc, w64}
-use Rattle.std.proofs.lemmas.Int.{to_z-of_z}
-use Rattle.std.proofs.lemmas.List.{append-nil}
-use Rattle.rtcm_msg.specs.inner.Names.{uint, StationParts, field_bits, common_fields, station_fields}
-use Rattle.rtcm_bits.proofs.BitLaws.{byte-bit}
+use Rattle.rtcm_msg.proofs.Names.{ℕ, List, Bool, Some, [], ◌∷◌, ◌≡◌, ◌++◌, ◌∙◌, refl, rules, sym, ap, append_assoc, w64, to_z-of_z, append-nil, uint, StationParts, field_bits, common_fields, station_fields, byte-bit}
 use Rattle.rtcm_msg.proofs.WritingSteps.{field_bits-append}
 use Rattle.rtcm_msg.proofs.writing.write_station.Goals as goal
 

@@ -1,9 +1,7 @@
-use Rattle.std.proofs.Common.{◌≡◌, arith, Bool, true, false, refl, ℕ}
+use Rattle.gnss_obs.proofs.Names.{◌≡◌, arith, Bool, true, false, refl, ℕ, is_some, common_steps}
 use Rattle.std.specs.Bool.{then_some}
-use Rattle.std.specs.Option.{is_some}
 use Rattle.gnss_obs.proofs.FoundLemmas.{found_here, found_none}
 use Rattle.gnss_obs.proofs.cells.Cells.find.Goals as goal
-use Rattle.std.proofs.lemmas.Grind.{common_steps}
 
 some_then : (b : Bool) (n : ℕ) → is_some (then_some b n) ≡ b
 some_then true n = refl

@@ -1,6 +1,4 @@
-use Rattle.std.proofs.Common.{◌<◌, map, subst, arith}
-use Rattle.gnss_obs.specs.inner.Arriving.{slot}
-use Rattle.gnss_obs.specs.Order.{RiseTo, unsorted}
+use Rattle.gnss_obs.proofs.Names.{◌<◌, map, subst, arith, slot, RiseTo, unsorted}
 use Rattle.gnss_obs.proofs.cells.Cells.is_in_table_order.Goals as goal
 
 pub returns : goal.returns

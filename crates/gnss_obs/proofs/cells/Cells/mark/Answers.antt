@@ -1,8 +1,6 @@
-use Rattle.std.proofs.Common.{◌≡◌, ◌∙◌, ap, slice_set, arith}
-use Rattle.gnss_obs.specs.Marked.{marked_at, with_mark}
+use Rattle.gnss_obs.proofs.Names.{◌≡◌, ◌∙◌, ap, slice_set, arith, marked_at, with_mark, common_steps}
 use Rattle.gnss_obs.proofs.MarkLemmas.{mark_length, mark_set, mark_slots}
 use Rattle.gnss_obs.proofs.cells.Cells.mark.Goals as goal
-use Rattle.std.proofs.lemmas.Grind.{common_steps}
 
 marked_is : (c : goal.After-self-1) → slice_set c.self.inside.list.items c.args.at (with_mark c.index-x.result.now) ≡ marked_at c.args.at c.self.inside.list.items
 marked_is c = grind (arith, common_steps, mark_set)

@@ -1,6 +1,4 @@
-use Rattle.std.proofs.Common.{ℕ, ◌≤◌, Option, None, IfSome, refl}
-use Rattle.std.proofs.lemmas.List.Elements.{All-replicate}
-use Rattle.gnss_obs.specs.Channels.{most_number, slot_count}
+use Rattle.gnss_obs.proofs.Names.{ℕ, ◌≤◌, Option, None, IfSome, refl, All-replicate, most_number, slot_count}
 use Rattle.gnss_obs.proofs.channels.Channels.none.Goals as goal
 
 pub invariant_of-result : goal.invariant_of-result

@@ -1,5 +1,4 @@
-use Rattle.std.proofs.Common.{sym, subst}
-use Rattle.gnss_obs.specs.Order.{AreSorted}
+use Rattle.gnss_obs.proofs.Names.{sym, subst, AreSorted}
 use Rattle.gnss_obs.proofs.epoch.Epoch.cells.Goals as goal
 
 pub returns-clause-order : goal.returns-clause-order

@@ -1,11 +1,6 @@
-use Rattle.std.proofs.Common.{ℕ, ◌≡◌, ◌∙◌, false, nat_lt, sym, arith}
-use Rattle.gnss_obs.specs.inner.Names.{cells_of}
-use Rattle.gnss_obs.specs.Values.{written_among}
-use Rattle.gnss_system.specs.Satellites.{satellites as satellites_in}
+use Rattle.gnss_obs.proofs.Names.{ℕ, ◌≡◌, ◌∙◌, false, nat_lt, sym, arith, cells_of, written_among, satellites_in, below_next, below_all, sum_none, sum_some, common_steps}
 use Rattle.gnss_obs.proofs.GroupLaws.{some_counted}
-use Rattle.gnss_system.proofs.SystemLaws.{below_next, below_all, sum_none, sum_some}
 use Rattle.gnss_obs.proofs.epoch.Epoch.has_satellites.Goals as goal
-use Rattle.std.proofs.lemmas.Grind.{common_steps}
 
 pub returns-then-has_value : goal.returns-then-has_value
 returns-then-has_value c =

@@ -1,7 +1,4 @@
-use Rattle.std.proofs.Common.{◌≡◌, false, nat_lt}
-use Rattle.gnss_obs.specs.Values.{cells_of, written_among}
-use Rattle.gnss_system.specs.Satellites.{satellites as satellites_in}
-use Rattle.gnss_system.proofs.SystemLaws.{Below}
+use Rattle.gnss_obs.proofs.Names.{◌≡◌, false, nat_lt, cells_of, written_among, satellites_in, Below}
 use Rattle.gnss_obs.proofs.epoch.Epoch.has_satellites.Given as goal
 
 -- The systems so far have no satellite to write.

@@ -1,9 +1,5 @@
-use Rattle.std.proofs.Common.{subst, sym}
-use Rattle.gnss_obs.specs.Marked.{marked_at}
-use Rattle.gnss_obs.specs.inner.Names.{AreSorted, CellLists}
-use Rattle.gnss_system.specs.SystemValues.{value_of}
+use Rattle.gnss_obs.proofs.Names.{subst, sym, marked_at, AreSorted, CellLists, value_of, each_after}
 use Rattle.gnss_obs.proofs.MarkLemmas.{mark_sorted}
-use Rattle.gnss_system.proofs.SystemLaws.{each_after}
 use Rattle.gnss_obs.proofs.epoch.Epoch.mark.Goals as goal
 
 pub invariant_of-self : goal.invariant_of-self

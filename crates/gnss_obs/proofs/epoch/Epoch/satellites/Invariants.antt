@@ -1,8 +1,4 @@
-use Rattle.std.proofs.Common.{◌≡◌, ◌≤◌, take}
-use Rattle.std.specs.List.{sum_by}
-use Rattle.gnss_obs.specs.Values.{cells_of, written_among}
-use Rattle.gnss_system.specs.Satellites.{satellites as satellites_in}
-use Rattle.gnss_system.specs.Systems.{systems}
+use Rattle.gnss_obs.proofs.Names.{◌≡◌, ◌≤◌, take, sum_by, cells_of, written_among, satellites_in, systems}
 use Rattle.gnss_obs.proofs.epoch.Epoch.satellites.Given as goal
 
 abbrev pub invariant-loop-i : goal.invariant-loop-i

@@ -1,10 +1,5 @@
-use Rattle.gnss_system.specs.declared.by_system.BySystem.{BySystem}
-use Rattle.gnss_obs.specs.declared.cells.Cells.{Cells}
-use Rattle.std.proofs.Common.{Box, Global, ◌∙◌, refl, sym, ap, subst}
-use Rattle.gnss_system.specs.SystemValues.{value_of, map_by}
-use Rattle.gnss_obs.specs.inner.Names.{AreHeld, AreKept, IsAdded}
+use Rattle.gnss_obs.proofs.Names.{BySystem, Cells, Box, Global, ◌∙◌, refl, sym, ap, subst, value_of, map_by, AreHeld, AreKept, IsAdded, each_after, value_mapped, mapped_after}
 use Rattle.gnss_obs.proofs.HeldLemmas.{kept_added, is_added}
-use Rattle.gnss_system.proofs.SystemLaws.{each_after, value_mapped, mapped_after}
 use Rattle.gnss_obs.proofs.epoch_cells.EpochCells.add.Goals as goal
 
 pub returns : goal.returns

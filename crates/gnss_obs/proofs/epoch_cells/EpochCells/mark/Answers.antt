@@ -1,12 +1,6 @@
-use Rattle.gnss_system.specs.declared.by_system.BySystem.{BySystem}
-use Rattle.gnss_obs.specs.declared.cells.Cells.{Cells}
-use Rattle.std.proofs.Common.{Box, Global, sym, subst, arith}
-use Rattle.gnss_system.specs.SystemValues.{value_of}
-use Rattle.gnss_obs.specs.inner.Names.{AreKept}
+use Rattle.gnss_obs.proofs.Names.{BySystem, Cells, Box, Global, sym, subst, arith, value_of, AreKept, each_after, value_mapped, mapped_after, common_steps}
 use Rattle.gnss_obs.proofs.MarkLemmas.{mark_kept}
-use Rattle.gnss_system.proofs.SystemLaws.{each_after, value_mapped, mapped_after}
 use Rattle.gnss_obs.proofs.epoch_cells.EpochCells.mark.Goals as goal
-use Rattle.std.proofs.lemmas.Grind.{common_steps}
 
 pub mark_in-requires : goal.mark_in-requires
 mark_in-requires c = grind (arith, common_steps, value_mapped)

@@ -1,11 +1,6 @@
-use Rattle.std.proofs.Common.{Box, Global, ◌≡◌, ◌∙◌, All, sym, ap, subst}
-use Rattle.gnss_system.specs.declared.by_system.BySystem.{BySystem}
-use Rattle.gnss_obs.specs.inner.Names.{System, AreKept, AreOrderedBy, CellLists, IsPlanned, planned_of, sorted_cells}
+use Rattle.gnss_obs.proofs.Names.{Box, Global, ◌≡◌, ◌∙◌, All, sym, ap, subst, BySystem, System, AreKept, AreOrderedBy, CellLists, IsPlanned, planned_of, sorted_cells, equal_values, value_tabulated, value_mapped, value_of, map_by, Cells}
 use Rattle.gnss_obs.proofs.HeldLemmas.{all_empty, kept_sorted, none_mapped}
 use Rattle.gnss_obs.proofs.SortLemmas.{cells_rise}
-use Rattle.gnss_system.proofs.SystemLaws.{equal_values, value_tabulated, value_mapped}
-use Rattle.gnss_system.specs.SystemValues.{value_of, map_by}
-use Rattle.gnss_obs.specs.declared.cells.Cells.{Cells}
 use Rattle.gnss_obs.proofs.epoch_cells.EpochCells.move_sorted.Goals as goal
 
 cells_are : (s : System) (lists : BySystem (Box Cells Global)) {v : CellLists} → map_by (λ c. c.value) lists ≡ v → (value_of s lists).value ≡ value_of s v

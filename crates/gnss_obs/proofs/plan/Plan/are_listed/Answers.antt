@@ -1,11 +1,6 @@
-use Rattle.std.proofs.Common.{◌<◌, ◌≡◌, ◌∙◌, All, ap, length, nat_eq, subst, sym, arith}
-use Rattle.std.specs.List.{IsDistinct}
-use Rattle.gnss_system.specs.SystemValues.{value_of}
-use Rattle.gnss_system.proofs.SystemLaws.{value_mapped}
-use Rattle.gnss_obs.specs.inner.Names.{System, indices, planned_of, table}
+use Rattle.gnss_obs.proofs.Names.{◌<◌, ◌≡◌, ◌∙◌, All, ap, length, nat_eq, subst, sym, arith, IsDistinct, value_of, value_mapped, System, indices, planned_of, table, common_steps}
 use Rattle.gnss_obs.proofs.PlanLaws.{listed_by, none_planned}
 use Rattle.gnss_obs.proofs.plan.Plan.are_listed.Goals as goal
-use Rattle.std.proofs.lemmas.Grind.{common_steps}
 
 here : (c : goal.After-are_channels) (s : System) → indices (value_of s c.self.inside.signals) ≡ planned_of s c.args.self.now
 here c s = sym (value_mapped s indices c.self.inside.signals) ∙ ap (planned_of s) c.self.view_is

@@ -1,7 +1,4 @@
-use Rattle.std.proofs.Common.{sym, subst}
-use Rattle.gnss_system.specs.SystemValues.{map_by}
-use Rattle.gnss_obs.specs.inner.SignalLists.{IsOf}
-use Rattle.gnss_system.proofs.SystemLaws.{value_mapped}
+use Rattle.gnss_obs.proofs.Names.{sym, subst, map_by, IsOf, value_mapped}
 use Rattle.gnss_obs.proofs.MadeLemmas.{memory_alone, plan_added}
 use Rattle.gnss_obs.proofs.plan.Plan.from_lists.Goals as goal
 

@@ -1,10 +1,6 @@
-use Rattle.std.proofs.Common.{◌≡◌, ◌∙◌, [], ap, sym, true≢false, arith}
-use Rattle.gnss_system.specs.declared.system.System.TheVariants.{Glonass}
-use Rattle.gnss_system.proofs.SystemLaws.{value_mapped}
-use Rattle.gnss_obs.specs.inner.Names.{indices, planned_of}
+use Rattle.gnss_obs.proofs.Names.{◌≡◌, ◌∙◌, [], ap, sym, true≢false, arith, Glonass, value_mapped, indices, planned_of, common_steps}
 use Rattle.gnss_obs.proofs.PlanLaws.{channelled, none_planned, some_planned}
 use Rattle.gnss_obs.proofs.plan.Plan.with_channels.Goals as goal
-use Rattle.std.proofs.lemmas.Grind.{common_steps}
 
 not_empty : (c : goal.Else-is_empty) → c.list.result.now ≡ [] → ⊥
 not_empty c none = true≢false (sym (c.is_empty.ensures.1 none) ∙ c.if-is_empty.false)

@@ -1,12 +1,6 @@
-use Rattle.std.proofs.Common.{arith, ℕ, List, ◌≡◌, ◌+◌, ◌<◌, Bool, cond, Some, None, length, get_or, drop, drop-cons, add-one}
-use Rattle.std.specs.List.{position_from}
-use Rattle.std.proofs.lemmas.List.{drop_all}
+use Rattle.gnss_obs.proofs.Names.{arith, ℕ, List, ◌≡◌, ◌+◌, ◌<◌, Bool, cond, Some, None, length, get_or, drop, drop-cons, add-one, position_from, drop_all, Option, option_map, if◌then◌else◌, nat_lt, System, SignalAt, common_steps}
 use Rattle.std.proofs.lemmas.Iterator.Adapters.{position_from-zero}
-use Rattle.std.specs.Prelude.{Option, option_map, if◌then◌else◌, nat_lt}
-use Rattle.gnss_system.specs.declared.system.System.{System}
-use Rattle.gnss_system.specs.Signals.{SignalAt}
 use Rattle.gnss_obs.proofs.signal.Signal.from_code.Goals as goal
-use Rattle.std.proofs.lemmas.Grind.{common_steps}
 
 -- What the test of row i says of the search from there.
 tried : {A : Type 0} (p : A → Bool) (xs : List A) (i : ℕ) (d : A) (b : Bool) → i < length xs → p (get_or xs i d) ≡ b

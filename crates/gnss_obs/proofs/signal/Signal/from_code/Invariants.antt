@@ -1,6 +1,4 @@
-use Rattle.std.proofs.Common.{◌≡◌, drop, position, bytes_eq}
-use Rattle.std.specs.List.{position_from}
-use Rattle.gnss_system.specs.Signals.{table}
+use Rattle.gnss_obs.proofs.Names.{◌≡◌, drop, position, bytes_eq, position_from, table}
 use Rattle.gnss_obs.proofs.signal.Signal.from_code.Given as goal
 
 -- None of the rows so far has the code.

@@ -1,8 +1,4 @@
-use Rattle.std.proofs.Common.{refl, Err, OnErr, Ok, Result, ◌≡◌, ℕ, nat_eq, ◌==◌, ◌++◌, ◌∷◌, [], ◌≤◌, true, false, List, length, sym, ap, ◌∙◌, subst, arith, rules}
-use Rattle.gnss_obs.specs.Order.{IsLeastNext}
-use Rattle.gnss_obs.specs.inner.SignalLists.{AreFound, AreRows}
-use Rattle.gnss_system.specs.Signals.{most_signals}
-use Rattle.gnss_obs.specs.inner.Names.{SignalAt, indices, IsOf, list_any}
+use Rattle.gnss_obs.proofs.Names.{refl, Err, OnErr, Ok, Result, ◌≡◌, ℕ, nat_eq, ◌==◌, ◌++◌, ◌∷◌, [], ◌≤◌, true, false, List, length, sym, ap, ◌∙◌, subst, arith, rules, IsLeastNext, AreFound, AreRows, most_signals, SignalAt, indices, IsOf, list_any}
 use Rattle.gnss_obs.proofs.PlanLaws.{any_index, indices-push, length_indices}
 use Rattle.gnss_obs.proofs.SignalLemmas.{is_absent, was_new, was_there, found_more, rows_more}
 use Rattle.gnss_obs.proofs.signals.Signals.add.Goals as goal

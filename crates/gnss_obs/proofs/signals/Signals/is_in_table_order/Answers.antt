@@ -1,6 +1,4 @@
-use Rattle.std.proofs.Common.{◌<◌, subst, arith}
-use Rattle.gnss_obs.specs.Order.{RiseTo, unsorted}
-use Rattle.gnss_obs.specs.SignalLists.{indices}
+use Rattle.gnss_obs.proofs.Names.{◌<◌, subst, arith, RiseTo, unsorted, indices}
 use Rattle.gnss_obs.proofs.signals.Signals.is_in_table_order.Goals as goal
 
 pub returns : goal.returns

@@ -1,7 +1,4 @@
-use Rattle.std.proofs.Common.{◌∙◌, sym, ap, arith, rules}
-use Rattle.std.proofs.lemmas.List.{get_or-replicate}
-use Rattle.gnss_obs.specs.inner.Names.{indices, signal_at}
-use Rattle.gnss_obs.specs.Plans.{planned_signal}
+use Rattle.gnss_obs.proofs.Names.{◌∙◌, sym, ap, arith, rules, get_or-replicate, indices, signal_at, planned_signal}
 use Rattle.gnss_obs.proofs.SignalLemmas.{no_signal, none_planned}
 use Rattle.gnss_obs.proofs.signals.Signals.new.Goals as goal
 

@@ -1,7 +1,4 @@
-use Rattle.std.proofs.Common.{◌≤ℤ◌, ◌<◌, pos, arith, ◌∙◌, sym, subst}
-use Rattle.std.proofs.lemmas.Result.{IfOk-at_ok}
-use Rattle.jiff_core.proofs.SignedLemmas.{signed_arith}
-use Rattle.jiff_core.specs.Date.{epoch_day}
+use Rattle.gnss_obs.proofs.Names.{◌≤ℤ◌, ◌<◌, pos, arith, ◌∙◌, sym, subst, IfOk-at_ok, signed_arith, epoch_day}
 use Rattle.gnss_obs.proofs.WalkLaws.{walk_is}
 use Rattle.gnss_obs.proofs.Days.{year_from, plain_year, casts}
 use Rattle.gnss_obs.proofs.CivilLemmas.{moment_of, parts_of, made_of, back, back_thousands, day_below}

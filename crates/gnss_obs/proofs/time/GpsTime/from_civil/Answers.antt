@@ -1,12 +1,7 @@
-use Rattle.std.proofs.Common.{◌≡◌, ◌-ℤ◌, ◌<◌, ◌*◌, ◌↔◌, ℕ, pos, arith, ◌∙◌, sym, ap, ap₂, rules, Option, Some, None, IsSome, IfSome, IfNone}
-use Rattle.jiff_core.specs.Calendar.{days_from_civil}
-use Rattle.jiff_core.specs.DateTime.{civil_nanos}
-use Rattle.gnss_obs.specs.Weeks.{week}
-use Rattle.gnss_obs.specs.inner.Names.{weeks, civil_of, clock_of, IsCivilOf, Civil}
+use Rattle.gnss_obs.proofs.Names.{◌≡◌, ◌-ℤ◌, ◌<◌, ◌*◌, ◌↔◌, ℕ, pos, arith, ◌∙◌, sym, ap, ap₂, rules, Option, Some, None, IsSome, IfSome, IfNone, days_from_civil, civil_nanos, week, weeks, civil_of, clock_of, IsCivilOf, Civil, common_steps}
 use Rattle.gnss_obs.proofs.WalkLaws.{walk_is, same_number}
 use Rattle.gnss_obs.proofs.CivilLemmas.{since_of, since_range, is_of, only_one, not_below, below_none, cast_fits, cast_is}
 use Rattle.gnss_obs.proofs.time.GpsTime.from_civil.Goals as goal
-use Rattle.std.proofs.lemmas.Grind.{common_steps}
 
 none_of : (r : Option ℕ) (ms : ℕ) (civil : Civil) → (IsSome r ↔ (ms < 100_000 * 604_800_000)) → ((t : ℕ) → IsCivilOf t civil → t ≡ ms)
     → IfNone r ((t : ℕ) → t < 100_000 * 604_800_000 → ¬ IsCivilOf t civil)

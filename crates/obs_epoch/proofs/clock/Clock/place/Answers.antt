@@ -1,5 +1,4 @@
-use Rattle.std.proofs.Common.{arith}
-use Rattle.std.proofs.lemmas.Grind.{common_steps}
+use Rattle.obs_epoch.proofs.Names.{arith, common_steps}
 use Rattle.obs_epoch.proofs.clock.Clock.place.Goals as goal
 
 pub returns-then-self : goal.returns-then-self

@@ -1,6 +1,4 @@
-use Rattle.std.proofs.Common.{◌≡◌, ◌∙◌, ◌||◌, ◌&&◌, ap, ap₂, is_some, subst, sym}
-use Rattle.obs_epoch.specs.inner.Names.{KeepsEpoch, State, ends_epoch, ended_where, heard_summary, is_close_first, kind_by, no_counts, open_by}
-use Rattle.obs_epoch.specs.inner.Step.{closed_time}
+use Rattle.obs_epoch.proofs.Names.{◌≡◌, ◌∙◌, ◌||◌, ◌&&◌, ap, ap₂, is_some, subst, sym, KeepsEpoch, State, ends_epoch, ended_where, heard_summary, is_close_first, kind_by, no_counts, open_by, closed_time}
 use Rattle.obs_epoch.proofs.HeardLemmas.{closes, done, keeps}
 use Rattle.obs_epoch.proofs.clock.Clock.step.Goals.{then-is_close_first, else-is_close_first+then-ends, else-is_close_first+else-ends}
 use Rattle.obs_epoch.proofs.clock.Clock.step.Goals as goal

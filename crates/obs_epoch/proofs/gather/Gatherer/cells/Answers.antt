@@ -1,7 +1,6 @@
-use Rattle.std.proofs.Common.{◌∙◌, arith}
+use Rattle.obs_epoch.proofs.Names.{◌∙◌, arith, common_steps}
 use Rattle.obs_epoch.proofs.ValueLemmas.{count_held}
 use Rattle.obs_epoch.proofs.gather.Gatherer.cells.Goals as goal
-use Rattle.std.proofs.lemmas.Grind.{common_steps}
 
 pub returns-clause-count : goal.returns-clause-count
 returns-clause-count c = grind (arith, common_steps, count_held)

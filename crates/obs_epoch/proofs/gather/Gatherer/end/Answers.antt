@@ -1,7 +1,4 @@
-use Rattle.std.proofs.Common.{◌≡◌, ◌++◌, None, true, false, sym, ◌∙◌, subst, arith, ap}
-use Rattle.std.proofs.lemmas.Grind.{common_steps}
-use Rattle.obs_epoch.specs.inner.Names.{GathererValue, State, closed_noted, end_step, ended_where, HasGatheredEpochs, returned_epoch, shut_where}
-use Rattle.obs_epoch.specs.inner.GathererSteps.{thinned_if}
+use Rattle.obs_epoch.proofs.Names.{◌≡◌, ◌++◌, None, true, false, sym, ◌∙◌, subst, arith, ap, common_steps, GathererValue, State, closed_noted, end_step, ended_where, HasGatheredEpochs, returned_epoch, shut_where, thinned_if}
 use Rattle.obs_epoch.proofs.ReturnedLemmas.{gathers_ended}
 use Rattle.obs_epoch.proofs.ValueLemmas.{gathered_of}
 use Rattle.obs_epoch.proofs.gather.Gatherer.end.Goals.{then-not-self, else-not-self}

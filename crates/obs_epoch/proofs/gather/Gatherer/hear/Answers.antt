@@ -1,7 +1,5 @@
-use Rattle.std.proofs.Common.{◌≡◌, ◌∙◌, sym, ap, ap₂, subst, refl, false}
-use mathlib.Core.Bool.{beq, not}
-use Rattle.obs_epoch.specs.inner.GathererSteps.{cleared_if}
-use Rattle.obs_epoch.specs.inner.Names.{Closed, HasPlannedCells, State, values_after_message, GathererValue, begun_by, epoch_in, heard_summary}
+use Rattle.obs_epoch.proofs.Names.{◌≡◌, ◌∙◌, sym, ap, ap₂, subst, refl, false, beq, cleared_if, Closed, HasPlannedCells, State, values_after_message, GathererValue, begun_by, epoch_in, heard_summary}
+use mathlib.Core.Bool.{not}
 use Rattle.obs_epoch.proofs.ValueLemmas.{begins_empty, clears_none, gathered_of, heard_is, heard_setup, never_both}
 use Rattle.obs_epoch.proofs.gather.Gatherer.hear.Goals as goal
 

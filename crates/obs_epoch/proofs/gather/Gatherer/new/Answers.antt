@@ -1,5 +1,4 @@
-use Rattle.std.proofs.Common.{length, refl, sym, ap, subst, rules, ◌∙◌}
-use Rattle.obs_epoch.specs.inner.Names.{Closed, EpochValue, cells_of, HasPlannedCells, GatherSetup}
+use Rattle.obs_epoch.proofs.Names.{length, refl, sym, ap, subst, rules, ◌∙◌, Closed, EpochValue, cells_of, HasPlannedCells, GatherSetup}
 use Rattle.obs_epoch.proofs.MarksLemmas.{none_marked}
 use Rattle.obs_epoch.proofs.OneStepLemmas.{none_locked}
 use Rattle.obs_epoch.proofs.ValueLemmas.{none_planned, shut_is}

@@ -1,6 +1,4 @@
-use Rattle.std.proofs.Common.{sym, arith, subst}
-use Rattle.std.proofs.lemmas.Grind.{common_steps}
-use Rattle.obs_epoch.specs.inner.Names.{HasPlannedCells}
+use Rattle.obs_epoch.proofs.Names.{sym, arith, subst, common_steps, HasPlannedCells}
 use Rattle.obs_epoch.proofs.ValueLemmas.{gathered_of, never_both, none_planned, open_is, shut_is}
 use Rattle.obs_epoch.proofs.gather.Gatherer.note_closed.Goals as goal
 

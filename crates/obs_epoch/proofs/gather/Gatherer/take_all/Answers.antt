@@ -1,8 +1,4 @@
-use Rattle.std.proofs.Common.{◌≡◌, ◌∙◌, sym, ap, subst, arith}
-use Rattle.obs_epoch.specs.GathererAfter.{time_in}
-use Rattle.obs_epoch.specs.Clock.{State}
-use Rattle.obs_epoch.specs.inner.Names.{Loaded}
-use Rattle.obs_epoch.specs.inner.GathererSteps.{load_entry}
+use Rattle.obs_epoch.proofs.Names.{◌≡◌, ◌∙◌, sym, ap, subst, arith, time_in, State, Loaded, load_entry}
 use Rattle.obs_epoch.proofs.EntryLemmas.{OneMore, one_more}
 use Rattle.obs_epoch.proofs.gather.Gatherer.take_all.Goals as goal
 

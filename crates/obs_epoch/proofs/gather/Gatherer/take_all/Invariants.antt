@@ -1,6 +1,4 @@
-use Rattle.std.proofs.Common.{◌≡◌, ◌+◌, ◌≤◌, true, length}
-use Rattle.obs_epoch.specs.GathererAfter.{time_in}
-use Rattle.obs_epoch.specs.inner.Names.{cells_counted, no_counts, load_entries}
+use Rattle.obs_epoch.proofs.Names.{◌≡◌, ◌+◌, ◌≤◌, true, length, time_in, cells_counted, no_counts, load_entries}
 use Rattle.obs_epoch.proofs.gather.Gatherer.take_all.Given as goal
 
 abbrev pub invariant-loop-entry : goal.invariant-loop-entry

@@ -1,8 +1,4 @@
-use Rattle.std.proofs.Common.{◌≡◌, ◌∙◌, sym, ap, ap₂, subst, not, Bool, true, false, is_some}
-use Rattle.gnss_obs.specs.Channels.{ChannelsValue, hertz_in}
-use Rattle.gnss_obs.specs.Values.{PlanValue}
-use Rattle.obs_epoch.specs.GathererAfter.{time_in}
-use Rattle.obs_epoch.specs.inner.Names.{Cell, lacks_channel, planned_of, heard_cell, kept_cell, place_in, GathererValue, hold, outcome_in, count_in, lli_with}
+use Rattle.obs_epoch.proofs.Names.{◌≡◌, ◌∙◌, sym, ap, ap₂, subst, not, Bool, true, false, is_some, ChannelsValue, hertz_in, PlanValue, time_in, Cell, lacks_channel, planned_of, heard_cell, kept_cell, place_in, GathererValue, hold, outcome_in, count_in, lli_with}
 use Rattle.obs_epoch.proofs.ValueLemmas.{gathered_of, held_is, never_both, open_is, outcome_is, planned_added, planned_is}
 use Rattle.obs_epoch.proofs.gather.Gatherer.take_cell.Goals as goal
 

@@ -1,5 +1,4 @@
-use Rattle.std.proofs.Common.{arith}
-use Rattle.std.proofs.lemmas.Grind.{common_steps}
+use Rattle.obs_epoch.proofs.Names.{arith, common_steps}
 use Rattle.obs_epoch.proofs.EntryLemmas.{has_phase_of}
 use Rattle.obs_epoch.proofs.gather.Gatherer.take_entry.Goals as goal
 

@@ -1,16 +1,12 @@
 -- A message that closes the epoch is to be passed again; any other is the next one of the list, and its cells are
 -- loaded if it is accepted.
-use Rattle.std.proofs.Common.{◌++◌, ◌∷◌, [], sym, ap, ◌∙◌, subst, Some, None, ◌≡◌, Bool, ap₂, is_some, arith}
-use Rattle.obs_epoch.specs.inner.Names.{viewed_message, heard_by, Heard, heard_summary, without_cells, timed, GathererValue, State, take_step, Loaded, begun_by, ended_where, loaded_where, is_close_first, is_accepted, with_counts, IsCloseFirstExactly, HasGatheredEpochs, returned_epoch, no_counts}
+use Rattle.obs_epoch.proofs.Names.{◌++◌, ◌∷◌, [], sym, ap, ◌∙◌, subst, Some, None, ◌≡◌, Bool, ap₂, is_some, arith, viewed_message, heard_by, Heard, heard_summary, without_cells, timed, GathererValue, State, take_step, Loaded, begun_by, ended_where, loaded_where, is_close_first, is_accepted, with_counts, IsCloseFirstExactly, HasGatheredEpochs, returned_epoch, no_counts, closed_noted, shut_where, thinned_if, kind_by, step_by, closed_time, common_steps}
 use Rattle.obs_epoch.proofs.TakeLemmas.{no_point, given_alone, closed_is, ended_is, handed_is, loaded_by, loaded_clock, loads}
 use Rattle.obs_epoch.proofs.HeardLemmas.{opens, closes_open}
 use Rattle.obs_epoch.proofs.ValueLemmas.{heard_setup}
 use Rattle.obs_epoch.proofs.ReturnedLemmas.{gathers_first, gathers_taken, thinned_ended}
 use Rattle.obs_epoch.proofs.KindLemmas.{counted_kind, exactly_first, again_taken, fits_now, kind_taken}
-use Rattle.obs_epoch.specs.inner.GathererSteps.{closed_noted, shut_where, thinned_if}
-use Rattle.obs_epoch.specs.inner.Step.{kind_by, step_by, closed_time}
 use Rattle.obs_epoch.proofs.gather.Gatherer.take_view.Goals as goal
-use Rattle.std.proofs.lemmas.Grind.{common_steps}
 
 abbrev message : goal.After-has_closed → Heard
 message c = heard_by c.args.self.now.clock.setup (viewed_message c.args.view.now)

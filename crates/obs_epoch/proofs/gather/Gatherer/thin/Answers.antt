@@ -1,7 +1,6 @@
-use Rattle.std.proofs.Common.{arith}
+use Rattle.obs_epoch.proofs.Names.{arith, common_steps}
 use Rattle.obs_epoch.proofs.ValueLemmas.{never_both, sorted_carried}
 use Rattle.obs_epoch.proofs.gather.Gatherer.thin.Goals as goal
-use Rattle.std.proofs.lemmas.Grind.{common_steps}
 
 pub invariant_of-self : goal.invariant_of-self
 invariant_of-self c = grind (arith, common_steps, never_both, sorted_carried)

@@ -1,5 +1,4 @@
-use Rattle.std.proofs.Common.{arith}
-use Rattle.std.proofs.lemmas.Grind.{common_steps}
+use Rattle.obs_epoch.proofs.Names.{arith, common_steps}
 use Rattle.obs_epoch.proofs.locks.Locks.note.Goals as goal
 
 pub invariant_of-self : goal.invariant_of-self

@@ -1,9 +1,6 @@
-use Rattle.std.proofs.Common.{◌≡◌, ◌+◌, ◌<◌, false, arith, refl, rules, ℕ, ◌-◌, ◌∙◌, List, get_or, ap, sym, subst}
+use Rattle.obs_epoch.proofs.Names.{◌≡◌, ◌+◌, ◌<◌, false, arith, refl, rules, ℕ, ◌-◌, ◌∙◌, List, get_or, ap, sym, subst, ids_within, entries, formed, value_count, satellite_set, has_id, id_of, signal_in, is_system, common_steps}
 use Rattle.obs_epoch.proofs.SignalNumbers.{number_none, Adds, adds_some, adds_none, finished}
-use Rattle.gnss_obs.proofs.TableLaws.{ids_within}
-use Rattle.obs_epoch.specs.inner.Names.{entries, formed, value_count, satellite_set, has_id, id_of, signal_in, is_system}
 use Rattle.obs_epoch.proofs.signal_counts.SignalCounts.count_cells.Goals as goal
-use Rattle.std.proofs.lemmas.Grind.{common_steps}
 
 pub loop-id-init : goal.loop-id-init
 loop-id-init c =

@@ -1,5 +1,4 @@
-use Rattle.std.proofs.Common.{ℕ, ◌≡◌, ◌+◌, ◌<◌, ◌≤◌, length, get_or}
-use Rattle.obs_epoch.specs.inner.Names.{entries, formed, value_count, satellite_set}
+use Rattle.obs_epoch.proofs.Names.{ℕ, ◌≡◌, ◌+◌, ◌<◌, ◌≤◌, length, get_or, entries, formed, value_count, satellite_set}
 use Rattle.obs_epoch.proofs.SignalNumbers.{Adds}
 use Rattle.obs_epoch.proofs.signal_counts.SignalCounts.count_cells.Given as goal
 

@@ -1,8 +1,7 @@
-use Rattle.std.proofs.Common.{◌≤◌, ◌<◌, ◌+◌, ◌^◌, ℕ, arith}
+use Rattle.obs_epoch.proofs.Names.{◌≤◌, ◌<◌, ◌+◌, ◌^◌, ℕ, arith, common_steps}
 use Rattle.obs_epoch.proofs.SignalCountsLemmas.{wanted_cells, message_counted, few_valued}
 use Rattle.obs_epoch.proofs.ViewLemmas.{heard_formed}
 use Rattle.obs_epoch.proofs.signal_counts.SignalCounts.count_view.Goals as goal
-use Rattle.std.proofs.lemmas.Grind.{common_steps}
 
 room : (a b : ℕ) → a < 2 ^ 62 → b ≤ 64 → a + b < 2 ^ 63
 room a b x y = omega (arith, x, y)

@@ -1,9 +1,5 @@
-use Rattle.std.proofs.Common.{◌≡◌, false, nat_lt, sym, arith}
-use Rattle.gnss_system.specs.Systems.{systems}
-use Rattle.gnss_system.proofs.SystemLaws.{any_none, below_all, below_next, one_any}
-use Rattle.obs_epoch.specs.inner.Names.{list_any, signal_counts}
+use Rattle.obs_epoch.proofs.Names.{◌≡◌, false, nat_lt, sym, arith, systems, any_none, below_all, below_next, one_any, list_any, signal_counts, common_steps}
 use Rattle.obs_epoch.proofs.signal_counts.SignalCounts.has_any.Goals as goal
-use Rattle.std.proofs.lemmas.Grind.{common_steps}
 
 pub returns-then-has_one : goal.returns-then-has_one
 returns-then-has_one c = grind (arith, common_steps, one_any)

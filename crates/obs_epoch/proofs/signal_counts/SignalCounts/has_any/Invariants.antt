@@ -1,6 +1,4 @@
-use Rattle.std.proofs.Common.{◌≡◌, false, nat_lt}
-use Rattle.obs_epoch.specs.inner.Names.{signal_counts, list_any}
-use Rattle.gnss_system.proofs.SystemLaws.{Below}
+use Rattle.obs_epoch.proofs.Names.{◌≡◌, false, nat_lt, signal_counts, list_any, Below}
 use Rattle.obs_epoch.proofs.signal_counts.SignalCounts.has_any.Given as goal
 
 -- The systems so far have no counted cell.

@@ -1,7 +1,6 @@
-use Rattle.rinex_file.proofs.Reading.Lines.{out_of_memory}
+use Rattle.rinex_file.proofs.Reading.Lines.{out_of_memory, explained, added_more, the_end, leaves_all, leaves_more}
 use Rattle.rinex_file.proofs.Reading.Accepted.{some_read, whole_header}
 use Rattle.rinex_file.proofs.Judged.{same_fault}
-use Rattle.rinex_file.proofs.Reading.Lines.{explained, added_more, the_end, leaves_all, leaves_more}
 use Rattle.rinex_file.proofs.read.file.read_lines.Goals.{else-is_stored-via-then-is_stored+else-is_err, else-is_stored-via-else-is_stored}
 use Rattle.rinex_file.proofs.Names.{IsOk, arith, ◌≡◌, ◌∙◌, sym, ap, subst, HasFailed, true, false, is_some, Result, OnOk, is_err, history_of, with_line}
 use Rattle.rinex_file.proofs.read.file.read_lines.Goals as goal

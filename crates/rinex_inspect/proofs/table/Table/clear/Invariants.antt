@@ -1,7 +1,4 @@
-use Rattle.std.proofs.Common.{◌<◌}
-use Rattle.gnss_system.specs.declared.system.System.{System}
-use Rattle.gnss_system.specs.Systems.{index_of}
-use Rattle.rinex_inspect.specs.inner.Tables.{AreBlank, HasPlaces, records_in}
+use Rattle.rinex_inspect.proofs.Names.{◌<◌, System, index_of, AreBlank, HasPlaces, records_in}
 use Rattle.rinex_inspect.proofs.table.Table.clear.Given as goal
 
 abbrev pub invariant-loop-i : goal.invariant-loop-i

@@ -1,6 +1,5 @@
+use Rattle.rtcm_convert.proofs.Names.{rules, refl, ◌∙◌, length, sym, ap, cells_of}
 use Rattle.gnss_system.proofs.SystemLaws.{is_tabulated, value_tabulated}
-use Rattle.rtcm_convert.proofs.Names.{rules, refl, ◌∙◌, length, sym, ap}
-use Rattle.gnss_obs.specs.Values.{cells_of}
 use Rattle.rtcm_convert.proofs.converter.Converter.kept.Goals as goal
 
 pub returns-clause-value : goal.returns-clause-value

@@ -1,7 +1,5 @@
 use Rattle.rtcm_convert.proofs.StepLemmas.{Wrote, wrote_all, wrote_part}
-use Rattle.obs_epoch.specs.inner.Calls.{TakesMessage}
-use Rattle.obs_epoch.specs.declared.taken.Taken.{Taken}
-use Rattle.rtcm_convert.proofs.Names.{ap, subst, ◌∙◌, Closed, FileWriter, GatherSetup, GathererValue, HasFiledEpochs, Heard, List, Message, Option, SetupValue, heard_by, viewed_message}
+use Rattle.rtcm_convert.proofs.Names.{TakesMessage, Taken, ap, subst, ◌∙◌, Closed, FileWriter, GatherSetup, GathererValue, HasFiledEpochs, Heard, List, Message, Option, SetupValue, heard_by, viewed_message}
 use Rattle.rtcm_convert.proofs.file_writer.FileWriter.step.Goals as goal
 
 -- what the gatherer does with a message, by the settings

@@ -1,7 +1,6 @@
 use Rattle.rtcm_convert.proofs.PartLemmas.{prefix_more, prefix_after}
 use Rattle.rtcm_convert.proofs.TextLemmas.{added_lent}
-use Rattle.rtcm_convert.specs.Filed.{interval_in}
-use Rattle.rtcm_convert.proofs.Names.{◌∙◌, refl, sym, closed_in, on_failure}
+use Rattle.rtcm_convert.proofs.Names.{interval_in, ◌∙◌, refl, sym, closed_in, on_failure}
 use Rattle.rtcm_convert.proofs.file_writer.FileWriter.write_closed.Goals as goal
 
 pub returns-in_err-open-clause-part : goal.returns-in_err-open-clause-part

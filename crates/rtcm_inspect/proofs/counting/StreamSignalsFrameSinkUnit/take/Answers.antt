@@ -3,12 +3,9 @@ use Rattle.rtcm_inspect.proofs.FirstLemmas.{first_refused}
 use Rattle.rtcm_inspect.proofs.StreamChannelLemmas.{channels_read, channels_refused}
 use Rattle.rtcm_inspect.proofs.SetLemmas.{forms_read, forms_refused}
 use Rattle.rtcm_inspect.proofs.TowLemmas.{tows_refused}
-use Rattle.rtcm_msg.proofs.SetLaws.{whole_is}
+use Rattle.rtcm_inspect.proofs.Names.{whole_is, whole_set, MsmSet, subst, List, ℕ, ◌≡◌, ◌++◌, channel_of_1020, option_to_list, sent_of, with_sent, Result, MsgFault, ◌∙◌, ap, refl, sym, message_at, message_with, viewed_message, framed, is_msm}
 use Rattle.rtcm_msg.specs.Fields.{GivesViewed}
-use Rattle.rtcm_msg.specs.Numbers.{whole_set}
-use Rattle.rtcm_msg.specs.declared.number.MsmSet.{MsmSet}
 use Rattle.rtcm_msg.specs.declared.view.View.{View}
-use Rattle.rtcm_inspect.proofs.Names.{subst, List, ℕ, ◌≡◌, ◌++◌, channel_of_1020, option_to_list, sent_of, with_sent, Result, MsgFault, ◌∙◌, ap, refl, sym, message_at, message_with, viewed_message, framed, is_msm}
 use Rattle.rtcm_inspect.proofs.counting.StreamSignalsFrameSinkUnit.take.Goals as goal
 
 -- all messages are decoded

@@ -1,6 +1,5 @@
 use Rattle.rtcm_inspect.proofs.TowLemmas.{counts_tow, same_later, tows_counted, tows_of_glonass, tows_placed, tows_same}
-use Rattle.rtcm_inspect.specs.inner.FirstTows.{IsMsmOf}
-use Rattle.rtcm_inspect.proofs.Names.{◌∙◌, ap, arith, viewed_message, refl, subst, None, Some, System}
+use Rattle.rtcm_inspect.proofs.Names.{IsMsmOf, ◌∙◌, ap, arith, viewed_message, refl, subst, None, Some, System}
 use Rattle.rtcm_inspect.proofs.first_tows.FirstTows.add.Goals as goal
 
 pub returns-in-Glonass : goal.returns-in-Glonass

@@ -1,10 +1,5 @@
 use Rattle.rtcm_inspect.proofs.TowLemmas.{one_more}
-use Rattle.gnss_system.specs.Systems.{systems}
-use Rattle.gnss_system.specs.declared.by_system.BySystem.{BySystem}
-use Rattle.rtcm_inspect.specs.inner.FirstTows.{earliest}
-use Rattle.rtcm_inspect.specs.declared.first_tows.PlacedTow.{PlacedTow}
-use Rattle.rtcm_inspect.specs.declared.first_tows.SystemTows.{SystemTows}
-use Rattle.rtcm_inspect.proofs.Names.{◌≡◌, ◌∙◌, ◌≤◌, ℕ, Option, ap, arith, drop, MsmSet}
+use Rattle.rtcm_inspect.proofs.Names.{systems, BySystem, earliest, PlacedTow, SystemTows, ◌≡◌, ◌∙◌, ◌≤◌, ℕ, Option, ap, arith, drop, MsmSet}
 use Rattle.rtcm_inspect.proofs.first_tows.FirstTows.earliest.Goals as goal
 
 pub loop-i-preserved : goal.loop-i-preserved

@@ -1,6 +1,4 @@
-use Rattle.gnss_system.specs.Systems.{systems}
-use Rattle.rtcm_inspect.specs.inner.FirstTows.{earliest}
-use Rattle.rtcm_inspect.proofs.Names.{◌≡◌, ◌≤◌, drop, length}
+use Rattle.rtcm_inspect.proofs.Names.{systems, earliest, ◌≡◌, ◌≤◌, drop, length}
 use Rattle.rtcm_inspect.proofs.first_tows.FirstTows.earliest.Given as goal
 
 abbrev pub invariant-loop-i : goal.invariant-loop-i

@@ -1,6 +1,5 @@
-use Rattle.gnss_system.proofs.SystemLaws.{is_tabulated}
+use Rattle.rtcm_inspect.proofs.Names.{is_tabulated, None, rules}
 use Rattle.rtcm_inspect.proofs.TowLemmas.{no_tows}
-use Rattle.rtcm_inspect.proofs.Names.{None, rules}
 use Rattle.rtcm_inspect.proofs.first_tows.FirstTows.new.Goals as goal
 
 pub returns : goal.returns

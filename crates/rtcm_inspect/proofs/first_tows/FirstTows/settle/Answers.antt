@@ -1,7 +1,4 @@
-use Rattle.gnss_system.proofs.SystemLaws.{is_tabulated}
-use Rattle.gnss_system.specs.SystemValues.{value_of}
-use Rattle.rtcm_inspect.specs.inner.FirstTows.{settled_tows}
-use Rattle.rtcm_inspect.proofs.Names.{refl, rules}
+use Rattle.rtcm_inspect.proofs.Names.{is_tabulated, value_of, settled_tows, refl, rules}
 use Rattle.rtcm_inspect.proofs.first_tows.FirstTows.settle.Goals as goal
 
 pub returns : goal.returns

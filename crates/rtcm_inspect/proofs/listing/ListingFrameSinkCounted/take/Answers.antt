@@ -1,8 +1,6 @@
-use Rattle.std.specs.Prelude.{◌⊎◌}
+use Rattle.rtcm_inspect.proofs.Names.{◌⊎◌, ap, sym, refl, ◌≡◌, inl, inr, Bool, false, Framed, framed, Listing, listing_line, show_line}
 use Rattle.rtcm_inspect.proofs.ListingLemmas.{part_line}
-use Rattle.rtcm_inspect.proofs.Names.{ap, sym, refl, ◌≡◌, inl, inr, Bool, false, Framed, framed, Listing, listing_line}
 use Rattle.rtcm_inspect.specs.declared.listing.Listing.TheVariants.{Messages, AllMessages}
-use Rattle.rtcm_inspect.specs.ShowLines.{show_line}
 use Rattle.rtcm_inspect.proofs.listing.ListingFrameSinkCounted.take.Goals.{in-AllMessages, in_default}
 use Rattle.rtcm_inspect.proofs.listing.ListingFrameSinkCounted.take.Goals as goal
 

@@ -1,6 +1,5 @@
 use Rattle.rtcm_inspect.proofs.SaidLemmas.{both_said, no_sender, nothing_said}
-use Rattle.rtcm_inspect.specs.SentWeeks.{rests_in, whole_in}
-use Rattle.rtcm_inspect.proofs.Names.{◌∙◌, refl, sym}
+use Rattle.rtcm_inspect.proofs.Names.{rests_in, whole_in, ◌∙◌, refl, sym}
 use Rattle.rtcm_inspect.proofs.said_weeks.SaidWeeks.add.Goals as goal
 
 pub returns-in_default : goal.returns-in_default

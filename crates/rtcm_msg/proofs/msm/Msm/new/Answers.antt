@@ -1,9 +1,5 @@
-use Rattle.std.proofs.Common.{ℕ, ◌≡◌, ◌∙◌, true, Option, count_ones, length, ap, arith}
+use Rattle.rtcm_msg.proofs.Names.{ℕ, ◌≡◌, ◌∙◌, true, Option, count_ones, length, ap, arith, System, Form, MasksValue, MsmHeader, is_time, satellite_fault, cell_fault, header_fault, msm_refusal, out_of_range}
 use Rattle.std.specs.Option.{option_or}
-use Rattle.gnss_system.specs.declared.system.System.{System}
-use Rattle.rtcm_msg.specs.inner.Names.{Form, MasksValue, MsmHeader, is_time}
-use Rattle.rtcm_msg.specs.inner.Forms.{satellite_fault, cell_fault}
-use Rattle.rtcm_msg.specs.inner.Refusals.{header_fault, msm_refusal, out_of_range}
 use Rattle.rtcm_msg.specs.declared.fault.Field.{Field}
 use Rattle.rtcm_msg.proofs.msm.Msm.new.Goals as goal
 

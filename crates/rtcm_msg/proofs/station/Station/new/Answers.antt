@@ -1,5 +1,4 @@
-use Rattle.std.proofs.Common.{ℕ, ℤ, pos, negsuc, None, true, false, nat_le, ◌≡◌, ◌<◌, arith, refl}
-use Rattle.rtcm_msg.specs.inner.Names.{FitsInt, StationParts, fits_int, station_fault, InRange}
+use Rattle.rtcm_msg.proofs.Names.{ℕ, ℤ, pos, negsuc, None, true, false, nat_le, ◌≡◌, ◌<◌, arith, refl, FitsInt, StationParts, fits_int, station_fault, InRange}
 use Rattle.rtcm_msg.proofs.station.Station.new.Goals as goal
 
 below : (a b : ℕ) → b < a → nat_le a b ≡ false

@@ -1,10 +1,5 @@
 -- The first pair with a cell and the next cell give the first entry; the invariant holds for what is left after them.
-use Rattle.std.proofs.Common.{ℕ, ◌≡◌, ◌<◌, ◌∙◌, List, count_ones, length, ap, sym, subst}
-use Rattle.std.specs.Prelude.{slice_index}
-use Rattle.rtcm_msg.specs.Forms.{satellite_data}
-use Rattle.rtcm_msg.specs.inner.Names.{Form, MasksValue}
-use Rattle.rtcm_msg.specs.inner.Viewed.{IsCached}
-use Rattle.rtcm_msg.specs.declared.data.Satellite.{Satellite}
+use Rattle.rtcm_msg.proofs.Names.{ℕ, ◌≡◌, ◌<◌, ◌∙◌, List, count_ones, length, ap, sym, subst, slice_index, satellite_data, Form, MasksValue, IsCached, Satellite}
 use Rattle.rtcm_msg.proofs.NextLaws.{index_below, one_less}
 use Rattle.rtcm_msg.proofs.view.Entries.next_in.Goals as goal
 use Rattle.rtcm_msg.proofs.view.Entries.next_in.Goals.{then-pair-self, else-pair-self}

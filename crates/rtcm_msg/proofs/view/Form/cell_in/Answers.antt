@@ -1,8 +1,4 @@
-use Rattle.std.proofs.Common.{ℕ, List, ◌≡◌, ◌≤◌, ◌<◌, ◌+◌, ◌*◌, ◌==◌, ◌∙◌, [], ◌∷◌, arith, ap, sym, rules, suc, w16, w32, w64, lit<, lit≤, mul-add, mul-le-mul, le_refl}
-use Rattle.std.proofs.lemmas.Int.{to_z-of_z}
-use Rattle.rtcm_msg.specs.inner.Names.{bits_of, AreLast, Form, LastBits, cell_widths, total_width}
-use Rattle.rtcm_msg.specs.inner.LastBits.{EndWith}
-use Rattle.rtcm_msg.specs.Forms.{Precision, precision, is_fine}
+use Rattle.rtcm_msg.proofs.Names.{ℕ, List, ◌≡◌, ◌≤◌, ◌<◌, ◌+◌, ◌*◌, ◌==◌, ◌∙◌, [], ◌∷◌, arith, ap, sym, rules, suc, w16, w32, w64, lit<, lit≤, mul-add, mul-le-mul, le_refl, to_z-of_z, bits_of, AreLast, Form, LastBits, cell_widths, total_width, EndWith, Precision, precision, is_fine}
 use Rattle.rtcm_msg.proofs.ContentLaws.{first_ends, cell_read}
 use Rattle.rtcm_msg.proofs.SignedLaws.{narrower}
 use Rattle.rtcm_msg.proofs.view.Form.cell_in.Goals as goal

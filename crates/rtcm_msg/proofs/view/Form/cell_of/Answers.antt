@@ -1,5 +1,4 @@
-use Rattle.std.proofs.Common.{◌∙◌, sym, rules, w16, w32, w64, lit≤}
-use Rattle.std.proofs.lemmas.Int.{to_z-of_z}
+use Rattle.rtcm_msg.proofs.Names.{◌∙◌, sym, rules, w16, w32, w64, lit≤, to_z-of_z}
 use Rattle.rtcm_msg.proofs.ContentLaws.{cell_unpacked}
 use Rattle.rtcm_msg.proofs.SignedLaws.{narrower}
 use Rattle.rtcm_msg.proofs.view.Form.cell_of.Goals as goal

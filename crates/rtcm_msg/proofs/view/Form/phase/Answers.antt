@@ -1,5 +1,4 @@
-use Rattle.std.proofs.Common.{◌∙◌, ap}
-use Rattle.rtcm_msg.specs.Fractions.{range_joined}
+use Rattle.rtcm_msg.proofs.Names.{◌∙◌, ap, range_joined}
 use Rattle.rtcm_msg.proofs.view.Form.phase.Goals as goal
 
 pub returns-clause-value : goal.returns-clause-value

@@ -1,5 +1,4 @@
-use Rattle.std.proofs.Common.{◌∙◌, sym, rules, w16, w64, lit≤}
-use Rattle.rtcm_msg.specs.inner.Names.{bits_of}
+use Rattle.rtcm_msg.proofs.Names.{◌∙◌, sym, rules, w16, w64, lit≤, bits_of}
 use Rattle.rtcm_msg.proofs.ContentLaws.{rate_ends, rate_read}
 use Rattle.rtcm_msg.proofs.SignedLaws.{narrower}
 use Rattle.rtcm_msg.proofs.view.Form.rate_in.Goals as goal

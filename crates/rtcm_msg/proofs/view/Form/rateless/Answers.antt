@@ -1,5 +1,4 @@
-use Rattle.std.proofs.Common.{◌∙◌, true, false, sym, refl, rules, w32, w64, lit≤}
-use Rattle.std.proofs.Math.Nat.{div-one}
+use Rattle.rtcm_msg.proofs.Names.{◌∙◌, true, false, sym, refl, rules, w32, w64, lit≤, div-one}
 use Rattle.rtcm_msg.proofs.ContentLaws.{rateless_is}
 use Rattle.rtcm_msg.proofs.SignedLaws.{narrower}
 use Rattle.rtcm_msg.proofs.view.Form.rateless.Goals as goal

@@ -1,7 +1,4 @@
-use Rattle.std.proofs.Common.{ℕ, ℤ, pos, negsuc, ◌≡◌, ◌-◌, ◌^◌, ◌≤◌, ◌∙◌, Bool, true, false, sym, subst, arith, rules, w32, w64, to_z, of_z, lit≤}
-use Rattle.rtcm_bits.specs.Bits.{FitsInt}
-use Rattle.rtcm_msg.specs.declared.data.Cell.{Cell}
-use Rattle.rtcm_msg.specs.Forms.{FitsCell}
+use Rattle.rtcm_msg.proofs.Names.{ℕ, ℤ, pos, negsuc, ◌≡◌, ◌-◌, ◌^◌, ◌≤◌, ◌∙◌, Bool, true, false, sym, subst, arith, rules, w32, w64, to_z, of_z, lit≤, FitsInt, Cell, FitsCell}
 use Rattle.rtcm_msg.proofs.ContentLaws.{rateless_packed}
 use Rattle.rtcm_msg.proofs.SignedLaws.{wider}
 use Rattle.rtcm_msg.proofs.view.Form.rateless_number.Goals as goal

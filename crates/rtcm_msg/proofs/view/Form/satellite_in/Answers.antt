@@ -1,5 +1,4 @@
-use Rattle.std.proofs.Common.{◌+◌, ◌*◌, ◌∙◌, arith, sym, refl, rules, w16, w64, lit≤, true, false}
-use Rattle.rtcm_msg.specs.inner.Names.{bits_of}
+use Rattle.rtcm_msg.proofs.Names.{◌+◌, ◌*◌, ◌∙◌, arith, sym, refl, rules, w16, w64, lit≤, true, false, bits_of}
 use Rattle.rtcm_msg.proofs.ContentLaws.{satellite_read}
 use Rattle.rtcm_msg.proofs.SignedLaws.{narrower}
 use Rattle.rtcm_msg.proofs.view.Form.satellite_in.Goals as goal

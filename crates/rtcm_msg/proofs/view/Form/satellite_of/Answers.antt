@@ -1,5 +1,4 @@
-use Rattle.std.proofs.Common.{◌∙◌, true, false, sym, refl, rules, w16, w64, lit≤}
-use Rattle.std.proofs.Math.Nat.{div-one}
+use Rattle.rtcm_msg.proofs.Names.{◌∙◌, true, false, sym, refl, rules, w16, w64, lit≤, div-one}
 use Rattle.rtcm_msg.proofs.ContentLaws.{satellite_unpacked}
 use Rattle.rtcm_msg.proofs.SignedLaws.{narrower}
 use Rattle.rtcm_msg.proofs.view.Form.satellite_of.Goals as goal

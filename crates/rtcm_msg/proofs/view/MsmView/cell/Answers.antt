@@ -1,7 +1,4 @@
-use Rattle.std.proofs.Common.{ℕ, ◌≡◌, ◌∙◌, ap, sym, subst, slice_index}
-use Rattle.rtcm_msg.specs.inner.Names.{bits_of, row_at, Data, FormedMsm, AreDataOf, cell_widths, cell_rows}
-use Rattle.rtcm_msg.specs.Forms.{cell_data, cell_number, IsCellData}
-use Rattle.rtcm_msg.specs.inner.FormLaws.{cell_in_range, cell_same}
+use Rattle.rtcm_msg.proofs.Names.{ℕ, ◌≡◌, ◌∙◌, ap, sym, subst, slice_index, bits_of, row_at, Data, FormedMsm, AreDataOf, cell_widths, cell_rows, cell_data, cell_number, IsCellData, cell_in_range, cell_same}
 use Rattle.rtcm_msg.proofs.ViewLaws.{row_value, below, fits, cells_counted}
 use Rattle.rtcm_msg.proofs.view.MsmView.cell.Goals as goal
 

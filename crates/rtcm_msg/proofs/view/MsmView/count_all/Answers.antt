@@ -1,7 +1,4 @@
-use Rattle.std.proofs.Common.{◌≡◌, ◌+◌, ◌∙◌, ℕ, List, ap, sym, subst, refl, arith}
-use Rattle.std.specs.Prelude.{slice_index}
-use Rattle.rtcm_msg.specs.Entries.{chosen}
-use Rattle.rtcm_msg.specs.inner.Names.{AreAll, AreCells, Entry, MasksValue, Pair, uint, value_count}
+use Rattle.rtcm_msg.proofs.Names.{◌≡◌, ◌+◌, ◌∙◌, ℕ, List, ap, sym, subst, refl, arith, slice_index, chosen, AreAll, AreCells, Entry, MasksValue, Pair, uint, value_count}
 use Rattle.rtcm_msg.proofs.ValueLaws.{after_none, all_entries, all_cells, cell_none, entries_same, none_left, zeros}
 use Rattle.rtcm_msg.proofs.view.MsmView.count_all.Goals as goal
 

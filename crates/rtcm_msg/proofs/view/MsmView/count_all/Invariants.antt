@@ -1,6 +1,4 @@
-use Rattle.std.proofs.Common.{◌≡◌, ◌<◌, ℕ, ◌+◌}
-use Rattle.std.specs.Prelude.{slice_index}
-use Rattle.rtcm_msg.specs.inner.Names.{entries, formed, entries_left, value_count, AreCells, AreAtMost}
+use Rattle.rtcm_msg.proofs.Names.{◌≡◌, ◌<◌, ℕ, ◌+◌, slice_index, entries, formed, entries_left, value_count, AreCells, AreAtMost}
 use Rattle.rtcm_msg.proofs.view.MsmView.count_all.Given as goal
 
 abbrev pub invariant-loop-cells : goal.invariant-loop-cells

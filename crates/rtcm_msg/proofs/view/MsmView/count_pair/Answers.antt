@@ -1,6 +1,4 @@
-use Rattle.std.proofs.Common.{◌∙◌, ap, sym, refl, arith}
-use Rattle.std.specs.Prelude.{slice_index}
-use Rattle.rtcm_msg.specs.inner.Names.{MasksValue, entry_in}
+use Rattle.rtcm_msg.proofs.Names.{◌∙◌, ap, sym, refl, arith, slice_index, MasksValue, entry_in}
 use Rattle.rtcm_msg.proofs.ValueLaws.{cell_there, cell_none, next_there, after_cell, after_none, entries_first, entries_same, counted, not_counted}
 use Rattle.rtcm_msg.proofs.view.MsmView.count_pair.Goals as goal
 use Rattle.rtcm_msg.proofs.view.MsmView.count_pair.Goals.{then-has_listed_value, else-has_listed_value}

@@ -1,5 +1,4 @@
-use Rattle.std.proofs.Common.{◌≡◌, ◌<◌}
-use Rattle.rtcm_msg.specs.inner.Names.{entries_left, AreCells, AreAtMost, AddsCounts}
+use Rattle.rtcm_msg.proofs.Names.{◌≡◌, ◌<◌, entries_left, AreCells, AreAtMost, AddsCounts}
 use Rattle.rtcm_msg.proofs.view.MsmView.count_row.Given as goal
 
 abbrev pub invariant-loop-cells : goal.invariant-loop-cells

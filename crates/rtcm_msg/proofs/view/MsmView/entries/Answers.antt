@@ -1,5 +1,4 @@
-use Rattle.std.proofs.Common.{List, ap, subst}
-use Rattle.rtcm_msg.specs.inner.Names.{Entry, MasksValue, AreAll, Unread}
+use Rattle.rtcm_msg.proofs.Names.{List, ap, subst, Entry, MasksValue, AreAll, Unread}
 use Rattle.rtcm_msg.proofs.ValueLaws.{all_entries, few_entries}
 use Rattle.rtcm_msg.proofs.view.MsmView.entries.Goals as goal
 

@@ -1,7 +1,4 @@
-use Rattle.std.proofs.Common.{◌≡◌, ◌∙◌, ap, sym, subst, slice_index}
-use Rattle.rtcm_msg.specs.inner.Names.{Data, FormedMsm, AreDataOf, satellite_widths, satellite_rows}
-use Rattle.rtcm_msg.specs.Forms.{satellite_data, satellite_number, IsSatelliteData}
-use Rattle.rtcm_msg.specs.inner.FormLaws.{satellite_in_range, satellite_same}
+use Rattle.rtcm_msg.proofs.Names.{◌≡◌, ◌∙◌, ap, sym, subst, slice_index, Data, FormedMsm, AreDataOf, satellite_widths, satellite_rows, satellite_data, satellite_number, IsSatelliteData, satellite_in_range, satellite_same}
 use Rattle.rtcm_msg.proofs.ViewLaws.{row_value, below, fits, satellites_counted}
 use Rattle.rtcm_msg.proofs.view.MsmView.satellite.Goals as goal
 

@@ -1,5 +1,4 @@
-use Rattle.std.proofs.Common.{◌∙◌, ap, sym, length, count_ones}
-use Rattle.rtcm_msg.specs.inner.Names.{FormedMsm}
+use Rattle.rtcm_msg.proofs.Names.{◌∙◌, ap, sym, length, count_ones, FormedMsm}
 use Rattle.rtcm_msg.proofs.ViewLaws.{satellites_counted}
 use Rattle.rtcm_msg.proofs.view.MsmView.satellites.Goals as goal
 

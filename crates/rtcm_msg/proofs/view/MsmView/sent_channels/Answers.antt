@@ -1,5 +1,4 @@
-use Rattle.std.proofs.Common.{◌∙◌, ap}
-use Rattle.rtcm_msg.specs.inner.Names.{MasksValue}
+use Rattle.rtcm_msg.proofs.Names.{◌∙◌, ap, MasksValue}
 use Rattle.rtcm_msg.proofs.ChannelLaws.{all_left, all_sent, none_left, none_sent}
 use Rattle.rtcm_msg.proofs.view.MsmView.sent_channels.Goals.{then-has_channels, else-has_channels}
 use Rattle.rtcm_msg.proofs.view.MsmView.sent_channels.Goals as goal
