@@ -1,5 +1,5 @@
 -- An epoch has no more satellites than the planned systems.
-use Rattle.rinex_file.proofs.Names.{◌*◌, le_trans, lit≤, systems, index_of, is_system, sum_at_most, sum_less, system_same, sum_by, arith, ◌≡◌, refl, subst, ℕ, suc, ◌+◌, ◌-◌, ◌<◌, ◌≤◌, Bool, true, List, [], ◌∷◌, length, if◌then◌else◌, All, map, nat_lt, slice_index, IsStrictlyIncreasing, lt-ltb, All-head, All-tail, System, satellites, SatelliteRow, IsSatelliteRow, AreSatelliteRows, rank_of, most_rows}
+use Rattle.rinex_file.proofs.Names.{◌*◌, le_trans, lit≤, systems, index_of, is_system, sum_at_most, sum_less, system_same, sum_by, arith, ◌≡◌, refl, subst, ℕ, suc, ◌+◌, ◌-◌, ◌<◌, ◌≤◌, true, List, [], ◌∷◌, length, if◌then◌else◌, All, map, nat_lt, slice_index, IsStrictlyIncreasing, lt-ltb, All-head, All-tail, System, satellites, SatelliteRow, IsSatelliteRow, AreSatelliteRows, rank_of, most_rows}
 
 -- the ranks from k on of a system, and those of the planned systems
 ranks : ℕ → System → ℕ
@@ -8,16 +8,12 @@ ranks k s = satellites s - (k - (100 * index_of s + 1))
 abbrev room : (System → ℕ) → ℕ → ℕ
 room signals k = sum_by (λ s. if nat_lt 0 (signals s) then ranks k s else 0) systems
 
-fewer : (b own : Bool) (i j r k m : ℕ) → (own ≡ true → (b ≡ true) × (i ≡ j) × (r ≤ m)) → 1 ≤ r → k ≤ 100 * j + r
-    → (if b then m - ((100 * j + r) + 1 - (100 * i + 1)) else 0) + (if own then 1 else 0) ≤ (if b then m - (k - (100 * i + 1)) else 0)
-fewer b own i j r k m f some low = grind arith
-
 -- a satellite has one of the ranks that are left
 one_less : {signals : System → ℕ} (k n : ℕ) {s : SatelliteRow} → IsSatelliteRow signals s → k ≤ rank_of s → n ≤ room signals (rank_of s + 1) → suc n ≤ room signals k
 unfolding ranks
 one_less {signals} k n {s} is low h =
     let less = sum_less (λ t. if nat_lt 0 (signals t) then ranks (rank_of s + 1) t else 0) (λ t. if nat_lt 0 (signals t) then ranks k t else 0) s.system
-    (λ t. fewer (nat_lt 0 (signals t)) (is_system s.system t) (index_of t) (index_of s.system) s.row.satellite k (satellites t) (own t) is.row.satellite.0 low) in
+    (λ t. grind (arith, own t, is.row.satellite.0)) in
     omega (arith, less, h)
   where
     own : (t : System) → is_system s.system t ≡ true → (nat_lt 0 (signals t) ≡ true) × (index_of t ≡ index_of s.system) × (s.row.satellite ≤ satellites t)
@@ -36,10 +32,9 @@ few_from : (signals : System → ℕ) (k : ℕ) (rows : List SatelliteRow) → A
 unfolding FromFirst
 few_from signals k [] each rise low = omega arith
 few_from signals k (s ∷ rows) each rise low =
-    let is = All-head (IsSatelliteRow signals) s rows each in
     let others = few_from signals (rank_of s + 1) rows (All-tail (IsSatelliteRow signals) s rows each) (rise-tail (rank_of s) (map rank_of rows) rise)
     (λ h. let less : rank_of s < slice_index (map rank_of rows) 0 = rise 0 (omega (arith, h)) in omega (arith, less)) in
-    one_less k (length rows) is (low (omega arith)) others
+    one_less k (length rows) (All-head (IsSatelliteRow signals) s rows each) (low (omega arith)) others
 
 from_one : (signals : System → ℕ) → room signals 1 ≤ most_rows signals
 unfolding ranks

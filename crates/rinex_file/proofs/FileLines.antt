@@ -39,13 +39,10 @@ line_of_epoch t n is few =
 plain_value : (v : ℤ) → FitsColumns v → IsPlain 14 (right 14 (fixed 3 v))
 plain_value v h = grind (arith, has-right, clean-fixed, small_value, length-right, length-value)
 
-two_columns : (a b : ℕ) → (a ≡ 10 → ⊥) → (b ≡ 10 → ⊥) → IsPlain 2 (a ∷ b ∷ [])
-two_columns a b h k = grind arith
-
 plain_field : (v : Option ℤ) (lost strength : ℕ) → IfSome v FitsColumns → (lost ≡ 10 → ⊥) → (strength ≡ 10 → ⊥) → IsPlain 16 (field v lost strength)
 unfolding field
 plain_field None lost strength h a b = record { clean = refl; short = lit≤ tt }
-plain_field (Some v) lost strength h a b = plain-append 14 2 (right 14 (fixed 3 v)) (lost ∷ strength ∷ []) (plain_value v h) (two_columns lost strength a b)
+plain_field (Some v) lost strength h a b = plain-append 14 2 (right 14 (fixed 3 v)) (lost ∷ strength ∷ []) (plain_value v h) (grind arith)
 
 mark_other : (m : ℕ) → m < 4 → lli_byte m ≡ 10 → ⊥
 mark_other m h e = grind arith
@@ -75,11 +72,10 @@ plain_number n h = grind (arith, length-padded, lacks-padded)
 
 line_of_row : (letter number signals most : ℕ) (r : Row) → IsRow most signals r → (letter == 10) ≡ false → number < 100 → signals ≤ most_signals → IsFileLine (trimmed (row_text letter number r.signal_values) ++ 10 ∷ [])
 line_of_row letter number signals most r is other small less =
-    let count = is.whole in
     let columns = plain-append 2 (length r.signal_values * 64) (padded 2 number) (flat_map signal_text r.signal_values) (plain_number number small) (plain-flat_map 64 signal_text r.signal_values (λ k d h. plain_entry (get_or r.signal_values k d) (is.signal_values k d h))) in
     let all = plain-append 1 (2 + length r.signal_values * 64) (letter ∷ []) (padded 2 number ++ flat_map signal_text r.signal_values)
     (record { clean = ap (λ c. c || false) other; short = lit≤ tt }) columns in
-    as_line (1 + (2 + length r.signal_values * 64)) (trimmed (row_text letter number r.signal_values)) (plain_trimmed (1 + (2 + length r.signal_values * 64)) (row_text letter number r.signal_values) all) (omega (arith, count, less))
+    as_line (1 + (2 + length r.signal_values * 64)) (trimmed (row_text letter number r.signal_values)) (plain_trimmed (1 + (2 + length r.signal_values * 64)) (row_text letter number r.signal_values) all) (omega (arith, less))
 
 line_of_seen : (signals : System → ℕ) (s : SatelliteRow) → IsSatelliteRow signals s → ((t : System) → signals t ≤ most_signals) → IsFileLine (satellite_line s)
 unfolding satellite_line
@@ -99,8 +95,7 @@ lines_of_change v (Some w) is =
 lines_of_stamped : (signals : System → ℕ) (v : StationValues) (e : Stamped) → IsStamped signals e → IsChange v e.change → ((t : System) → signals t ≤ most_signals) → All IsFileLine (stamped_lines e)
 lines_of_stamped signals v e is change few =
     let rows = few_rows signals e.rows is.rows in
-    let top = few_most signals in
-    let count : length e.rows < 2 ^ 64 = omega (arith, rows, top) in
+    let count : length e.rows < 2 ^ 64 = omega (arith, rows, few_most signals) in
     All-append IsFileLine (change_lines e.change) (epoch_line (civil_of e.time) (length e.rows) ∷ map satellite_line e.rows) (lines_of_change v e.change change)
     (All-cons IsFileLine (epoch_line (civil_of e.time) (length e.rows)) (map satellite_line e.rows) (line_of_epoch (civil_of e.time) (length e.rows) (short_time e.time is.time) count)
     (All-map IsFileLine satellite_line e.rows (λ k d h. line_of_seen signals (get_or e.rows k d) (is.rows.each k d h) few)))

@@ -43,12 +43,6 @@ record IsFoundIn (P : Cell → Type 0) (cells : List Cell) (id : ℕ) : Type 0 w
   is : P cell
   found : find (is_of_key id cell.signal.index) cells ≡ Some cell
 
-at_head : (P : Cell → Type 0) (c : Cell) (cells : List Cell) (id : ℕ) → P c → ((c.satellite.id == id) && has_value c) ≡ true → IsFoundIn P (c ∷ cells) id
-at_head P c cells id p h = grind (arith, and_parts)
-
-after : (P : Cell → Type 0) (c : Cell) (cells : List Cell) (id : ℕ) → IsFoundIn (λ d. P d × (same_place c d ≡ false)) cells id → IsFoundIn P (c ∷ cells) id
-after P c cells id f = grind (arith, eqb-true)
-
 speaker : (P : Cell → Type 0) (cells : List Cell) (id : ℕ) → All P cells → IsDistinct same_place cells → is_written cells id ≡ true → IsFoundIn P cells id
 unfolding IsDistinct
 speaker P [] id h d e = cc
@@ -56,8 +50,8 @@ speaker P (c ∷ cells) id h d e =
     let apart = All-from_recursion (λ x. same_place c x ≡ false) cells d.0 in
     let next = speaker (λ x. P x × (same_place c x ≡ false)) cells id (λ k x less. (All-tail P c cells h k x less, apart k x less)) d.1 in
     elim (cases_Bool ((c.satellite.id == id) && has_value c)) [
-      | inl f ↦ at_head P c cells id (All-head P c cells h) f
-      | inr f ↦ after P c cells id (next (sym (ap (λ b. b || is_written cells id) f) ∙ e))
+      | inl f ↦ grind (arith, and_parts, All-head P c cells h)
+      | inr f ↦ grind (arith, eqb-true, next (sym (ap (λ b. b || is_written cells id) f) ∙ e))
     ]
 
 -- ---- rows
@@ -74,9 +68,6 @@ one_says signals cells id c planned value found =
     get_or-map (signal_values_at cells id) signals at.0 0 (signal_values_of c) within ∙ ap (signal_values_at cells id) (eqb-true _ _ here) ∙ ap (λ o. option_map_or signal_values_of o no_signal_values) found in
     (at.0, signal_values_of c, rw length-map within, is, value)
 
-some_planned : (signals : List ℕ) (c : Cell) → is_some (place_in c.signal signals) ≡ true → 0 < length signals
-some_planned signals c planned = grind (arith, some_at, position-Some)
-
 -- a written satellite
 abbrev IsNumber : List Cell → ℕ → ℕ → Type 0
 IsNumber cells most id = IsUpTo most id × (is_written cells id ≡ true)
@@ -87,7 +78,7 @@ row_is system signals cells id h n =
     let each = All-from_recursion (IsGathered system signals) cells h.each in
     let s = speaker (IsGathered system signals) cells id each h.apart n.1 in
     let none : AreSignalValues no_signal_values = record { c = tt; l = tt; d = tt; s = tt; lli = omega arith; without_phase = λ e. refl } in (
-      some_planned signals s.cell s.is.planned,
+      (grind (arith, some_at, position-Some, s.is.planned)),
       record {
         satellite = n.0;
         signal_values = All-map AreSignalValues (signal_values_at cells id) signals (λ k d less. found_as (IsGathered system signals) AreSignalValues id (get_or signals k d) (cell_entry system signals) none cells each);
@@ -119,10 +110,9 @@ all_seen plan c h (s ∷ ss) = All-append (IsSatelliteRow (planned_in plan)) (ro
 rise_higher : (base : ℕ) (ids : List ℕ) → IsStrictlyIncreasing ids → IsStrictlyIncreasing (map (λ id. base + id) ids)
 rise_higher base ids h k less =
     let size : length (map (λ id. base + id) ids) ≡ length ids = length-map ids (λ id. base + id) in
-    let low = get_or-map (λ id. base + id) ids k 0 0 (omega (arith, size, less)) in
     let high = get_or-map (λ id. base + id) ids (k + 1) 0 0 (omega (arith, size, less)) in
     let more = h k (omega (arith, size, less)) in
-    omega (arith, low, high, more)
+    omega (arith, get_or-map (λ id. base + id) ids k 0 0 (omega (arith, size, less)), high, more)
 
 abbrev ranks : PlanValue → EpochValue → List System → List ℕ
 ranks plan e ss = map rank_of (flat_map (rows_of plan e) ss)
@@ -145,13 +135,12 @@ ranks_below plan e zero few = (All-nil (λ x. x < 1), λ k less. absurd (omega (
 ranks_below plan e (suc n) few =
     let less : n < length systems = omega (arith, few) in
     let s = system_at n in
-    let at = index_back n less in
     let cells = cells_of s e in
     let ids = written_satellites cells (satellites_in s) in
     let before = ranks_below plan e n (omega (arith, few)) in
     let number = numbers_of cells (satellites_in s) in
     let most = few_satellites s in
-    let is = sym (ranks_next plan e n s at) in (
+    let is = sym (ranks_next plan e n s (index_back n less)) in (
       subst (All (λ x. x < 100 * suc n + 1)) is (All-append (λ x. x < 100 * suc n + 1) (ranks plan e (take n systems)) (map (λ id. 100 * n + id) ids)
           (All-weaker (λ x. x < 100 * n + 1) (λ x. x < 100 * suc n + 1) (λ x h. omega (arith, h)) (ranks plan e (take n systems)) before.0)
           (All-map (λ x. x < 100 * suc n + 1) (λ id. 100 * n + id) ids (λ k d h. let last = (number k d h).0.1 in omega (arith, last, most)))),
@@ -159,15 +148,12 @@ ranks_below plan e (suc n) few =
           (All-map (λ y. 100 * n + 1 ≤ y) (λ id. 100 * n + id) ids (λ k d h. let first = (number k d h).0.0 in omega (arith, first))) before.1 (rise_higher (100 * n) ids (IsStrictlyIncreasing-filter (is_written cells) (numbers (satellites_in s)) (numbers_rise (satellites_in s))))),
     )
 
-ranks_rise : (plan : PlanValue) (e : EpochValue) → IsStrictlyIncreasing (ranks plan e systems)
-ranks_rise plan e = (ranks_below plan e (length systems) (omega arith)).1
-
 -- ---- epochs
 
 epoch_is : (plan : PlanValue) (v : StationValues) (c : Closed) → IsGatheredEpoch plan c → HasSatellite c → IsStamped (planned_in plan) (stamped_after plan v c)
 epoch_is plan v c h some = record {
   time = h.time;
-  rows = record { each = all_seen plan c h systems; rise = ranks_rise plan c.epoch };
+  rows = record { each = all_seen plan c h systems; rise = (ranks_below plan c.epoch (length systems) (omega arith)).1 };
   some = subst (λ n. 0 < n) (sym (length-rows plan c.epoch)) some;
 }
 
@@ -188,16 +174,13 @@ times_rise plan v (e ∷ f ∷ es) h (suc k) less = grind (arith, (times_rise pl
 same_self : (v : StationValues) → same_values v v ≡ true
 same_self v = grind (arith, Decides-int_eq)
 
-same_are : (v w : StationValues) → same_values v w ≡ true → v ≡ w
-same_are v w h = grind (arith, and_parts, all_same, Decides-int_eq, eqb-true)
-
 values_fit : (v : StationValues) → AreStationValues v → AreValues v
 values_fit v h = record { x = h.x; y = h.y; z = h.z; height = h.height }
 
 changes : (v w : StationValues) → AreStationValues w → IsChange v (change_from v w) × (changed_by v (change_from v w) ≡ w)
 changes v w h = by (same_values v w) refl where
   by : (b : Bool) → same_values v w ≡ b → IsChange v (if b then None else Some w) × (changed_by v (if b then None else Some w) ≡ w)
-  by true e = (tt, same_are v w e)
+  by true e = (tt, grind (arith, and_parts, all_same, Decides-int_eq, eqb-true))
   by false e = ((values_fit w h, λ same. absurd (let is : same_values v w ≡ true = ap (same_values v) same ∙ same_self v in grind (arith, is, e))), refl)
 
 changes_are : (plan : PlanValue) (v : StationValues) (es : List Closed) → AllByRecursion (IsGatheredEpoch plan) es → AreChanges v (all_stamped plan v es)

@@ -2,7 +2,7 @@
 pub use Rattle.arrayvec.specs.ArrayVec.{array_vec_len}
 pub use Rattle.gnss_system.proofs.CheckedLaws.{flip_false, passes_at, passes_below}
 pub use Rattle.gnss_system.proofs.SystemLaws.{short_table, any_system, each_after, each_system, equal_indices, equal_values, index_back, letter_back, letter_found, sum_at_most, sum_less, system_at, system_same, systems_split, systems_taken, tabulated_same, value_after, value_mapped, value_of_other, value_tabulated}
-pub use Rattle.std.proofs.lemmas.Bool.{eqb-true as is_equal, leb-true as at_most, ltb-true as is_less, le-leb, not-false, agree_below_at, and_from, and_parts, and_right, both_ways, cases_Bool, cases_lt, cond_both, eq-eqb, eqb-false, eqb-true, false_from_ne_true, le-ltb, leb-true, lt-ltb, ltb-false, ltb-true, ne_eqb, not-true, or_parts, or_right}
+pub use Rattle.std.proofs.lemmas.Bool.{eqb-true as is_equal, leb-true as at_most, ltb-true as is_less, le-leb, not-false, agree_below_at, and_from, and_parts, and_right, both_ways, cases_Bool, cases_lt, cond_both, eq-eqb, eqb-false, eqb-true, false_from_ne_true, le-ltb, lt-ltb, ltb-false, ltb-true, ne_eqb, not-true, or_parts, or_right}
 pub use Rattle.gnss_obs.proofs.GroupLaws.{Above, Climb, Left, all_above, left_all, sorted_climbs}
 pub use Rattle.gnss_obs.proofs.PlanLaws.{any_index, few_signals, indices-push, length_indices, none_of, few_below, listed_by}
 pub use Rattle.gnss_obs.specs.Channels.{AreChannels, ChannelsValue, most_number, no_channels, slot_count, with_number, number_at}
@@ -30,8 +30,8 @@ pub use Rattle.rinex_file.specs.Accepted.{AreBegunWith, AreEpochsRead, AreFirstE
 pub use Rattle.rinex_file.specs.Begun.{AreBegun, IsEpochBegun, IsHeaderBegun, IsEventBegun, part_lines, whole_lines, IsShown, StartsAt}
 unfoldable pub use Rattle.rinex_file.specs.Blanks.{trimmed}
 pub use Rattle.rinex_file.specs.Blanks.{IsEnded, before_cut, filled_to}
-pub use Rattle.rinex_file.specs.Blocks.{AreMoved, LeavesRest, LinesRead, MovesBytes, last_line}
-pub use Rattle.rinex_file.specs.Counting.{IsSummary, IsTextWith, History, changes_of, events_in, nothing, rows_in}
+pub use Rattle.rinex_file.specs.Blocks.{LeavesRest, MovesBytes}
+pub use Rattle.rinex_file.specs.Counting.{IsSummary, IsTextWith, History, changes_of, rows_in}
 pub use Rattle.rinex_file.specs.Exact.{IfTextOfFile, AreBefore, ExplainsFault, ExplainsStored, HasHeader, IsAtTypes, IsCutShort, IsExpectedAt, IsFaulty, IsFound, IsLine, IsNoFault, IsReadOr, IsTextOf, IsTooLong, NoFileBegins, most_lines}
 unfoldable pub use Rattle.rinex_file.specs.File.{epoch_text, event_line, event_text, line_among, shown_text, lines_up_to}
 pub use Rattle.rinex_file.specs.File.{shown_of, change_lines, change_text, header_text, closed_text, event_lines, file_lines, file_text, gathered, line_or_none, lines_of_parts, stamped_lines, lines_of_systems}
@@ -45,12 +45,12 @@ pub use Rattle.rinex_file.specs.inner.Header.{is_given, is_optional, first_types
 pub use Rattle.rinex_file.specs.inner.Heads.{shown_by}
 pub use Rattle.rinex_columns.specs.Limits.{most_line, label_columns}
 unfoldable pub use Rattle.rinex_file.specs.Lines.{epoch_line, field, satellite_line, signal_text}
-pub use Rattle.rinex_file.specs.Lines.{epoch_fields, lli_byte, row_text, strength_byte}
+pub use Rattle.rinex_file.specs.Lines.{lli_byte, row_text, strength_byte}
 pub use Rattle.rinex_columns.specs.Numbers.{fixed, joined, left, padded, right}
 pub use Rattle.rinex_file.specs.inner.ParserState.{FollowsHistory, open_epochs, MayRunOut, ExpectsHeader, ExpectsRow, Adds, GoesOnWithLine, IsLast, IsNext, RefusesLine, ShowsLine, TakesLine, progress_at, stamped_at, with_line}
-pub use Rattle.rinex_file.specs.inner.Read.EpochSteps.{AddsOrEnds, HasReadPart, HasReadTo, IsStart, IsSummaryOf, IsSummaryRead, ReadsNextEpoch, ReadsNextRow, BeginsNextEpoch, EndsEpoch, StopsReading, plan_in, with_read, HasReadPartAt}
+pub use Rattle.rinex_file.specs.inner.Read.EpochSteps.{AddsOrEnds, HasReadPart, HasReadTo, IsSummaryOf, IsSummaryRead, ReadsNextRow, BeginsNextEpoch, StopsReading, plan_in, with_read, HasReadPartAt}
 pub use Rattle.rinex_columns.specs.Read.{ReadsExactly, digits_in, has, number_in, some_if}
-pub use Rattle.rinex_file.specs.inner.Read.HeaderSteps.{AreItemsBefore, EndsHeader, IsLineOfSlots, TakesOrRefusesSlots, TakesSlots, with_slots, GoesOn, GoesTo, HasSignalAt, IsHeaderLineRead, IsOnly, NoneGoesOn, ReadsOrRefuses, ReadsOrRefusesTexts, ReadsTexts, RefusesHeaderLine, RefusesTexts, RefusesTypes, SameFrom, StepsTo, Takes, TakesHeaderLine, TakesTypes, begins_with, row_label, with_interval, expected_if, if_fine, known_line, texts_in, with_first, with_letter, with_texts, with_types, with_values, IsLineOf, IsLineOfTypes, IsThere, TakesItems}
+pub use Rattle.rinex_file.specs.inner.Read.HeaderSteps.{AreItemsBefore, EndsHeader, IsLineOfSlots, TakesOrRefusesSlots, TakesSlots, with_slots, GoesOn, GoesTo, HasSignalAt, IsHeaderLineRead, NoneGoesOn, ReadsOrRefuses, ReadsOrRefusesTexts, ReadsTexts, RefusesHeaderLine, RefusesTexts, RefusesTypes, SameFrom, StepsTo, Takes, TakesHeaderLine, TakesTypes, begins_with, row_label, with_interval, expected_if, if_fine, known_line, texts_in, with_first, with_letter, with_texts, with_types, with_values, IsLineOf, IsLineOfTypes, IsThere, TakesItems}
 unfoldable pub use Rattle.rinex_file.specs.inner.Read.Keeping.{stamped_text}
 pub use Rattle.rinex_file.specs.inner.Read.Keeping.{ExplainsAny, HasReadWhole, HasRoom, HaveRowsRoom, Stores, history_of}
 unfoldable pub use Rattle.rinex_file.specs.inner.Read.Progress.{HasLinesLeft}
@@ -71,7 +71,7 @@ pub use Rattle.rinex_file.specs.declared.header.fields.HeaderField.TheVariants.{
 pub use Rattle.rinex_file.specs.declared.header.rows.HeaderRow.{HeaderRow}
 pub use Rattle.rinex_file.specs.declared.header.rows.HeaderRow.TheVariants.{Biases, Delta, End, First, Interval, Position, Shift, Slots, StrengthUnit, Texts, Types, Version}
 pub use Rattle.rinex_file.specs.declared.read.parser_state.AddedRow.{AddedRow}
-pub use Rattle.rinex_file.specs.declared.read.parser_state.AddedRow.TheVariants.{LastRow, NoRow, OneRow}
+pub use Rattle.rinex_file.specs.declared.read.parser_state.AddedRow.TheVariants.{NoRow}
 pub use Rattle.rinex_file.specs.declared.read.parser_state.Expected.{Expected}
 pub use Rattle.rinex_file.specs.declared.read.parser_state.Expected.TheVariants.{Epoch, EventEpoch, EventHeight, EventPosition, Header, Satellite}
 pub use Rattle.rinex_file.specs.declared.read.parser_state.Refusal.{Refusal}
@@ -82,13 +82,13 @@ pub use Rattle.rinex_file.specs.declared.read.fields.TheConstants.{LIMITS}
 pub use Rattle.rinex_file.specs.declared.read.file.FileBuilder.{FileBuilder}
 pub use Rattle.rinex_file.specs.declared.read.file.FileSummary.{FileSummary}
 pub use Rattle.rinex_file.specs.declared.read.lines.Found.{Found}
-pub use Rattle.rinex_file.specs.declared.read.lines.Found.TheVariants.{Failed, Line, Long}
+pub use Rattle.rinex_file.specs.declared.read.lines.Found.TheVariants.{Failed}
 pub use Rattle.rinex_file.specs.declared.read.parser_state.ParserState.{ParserState}
 pub use Rattle.rinex_file.specs.declared.read.epochs.Reading.{Reading}
 pub use Rattle.rinex_file.specs.declared.read.times.EpochTimes.{EpochTimes}
 pub use Rattle.rinex_file.specs.declared.write.lanes.TheConstants.{PAIRS}
 pub use Rattle.devices.specs.Device.{AppendsPrefix, HasFailed}
-pub use Rattle.std.proofs.Common.{Fits, List, None, OnErr, Option, [], add-one, ap, append-nil, append_assoc, ap₂, arith, decimal, drop, eqb, filter, get_or, inl, inr, length, length-append, lit<, lit≤, negsuc, of_z, refl, replicate, rules, slice_index_or, subst, suc, sym, take, to_z, unsigned_abs, w64, w8, zero, zero-add, ℕ, ℤ, ◌%◌, ◌*◌, ◌++◌, ◌+◌, ◌/◌, ◌<◌, ◌^◌, ◌∙◌, ◌∷◌, ◌≡◌, IsOk, le_trans, ◌<ℤ◌, ◌≤ℤ◌, max, pow_mono}
+pub use Rattle.std.proofs.Common.{Fits, List, None, OnErr, Option, [], add-one, ap, append-nil, append_assoc, ap₂, arith, decimal, drop, eqb, filter, get_or, inl, inr, length, length-append, lit<, lit≤, negsuc, of_z, refl, replicate, rules, slice_index_or, subst, suc, sym, take, to_z, unsigned_abs, w64, w8, zero, zero-add, ℕ, ℤ, ◌%◌, ◌*◌, ◌++◌, ◌+◌, ◌/◌, ◌<◌, ◌^◌, ◌∙◌, ◌∷◌, ◌≡◌, le_trans, ◌<ℤ◌, ◌≤ℤ◌, max, pow_mono}
 pub use Rattle.std.proofs.KnownBytes.{Appends-nil, Appends-trans, Consumes-nil, Consumes-trans}
 pub use Rattle.std.proofs.Math.Nat.{div-le_self, le-min, min-eq_left, min-eq_right, min-le_left, min-le_right, mod-le, pow-suc, mod-eq_of_lt}
 pub use Rattle.std.proofs.Math.Seq.{drop-append-add, drop-cons, take-add, take-append-add, take-append_seam}
@@ -122,10 +122,10 @@ pub use Rattle.std.specs.Int.Count.{under}
 pub use Rattle.std.specs.Int.RustNames.{bit_and, bit_or}
 pub use Rattle.std.specs.Io.KnownBytes.{Appends, Consumes, IsAtEnd, prepend_known}
 unfoldable pub use Rattle.std.specs.List.{IsDistinct}
-pub use Rattle.std.specs.List.{AllByRecursion, list_all, list_any, position_or_len, prefix_len, reduce, sum_by}
+pub use Rattle.std.specs.List.{AllByRecursion, list_all, list_any, prefix_len, reduce, sum_by}
 pub use Rattle.std.specs.List.Sorted.{IsStrictlyIncreasing}
-pub use Rattle.std.specs.Option.{ok_or, option_map_or, option_or}
-pub use Rattle.std.specs.Prelude.{All, Any, Bool, Err, IfErr, IfNone, IfOk, IfSome, IsTrue, Ok, OnOk, Result, Some, codes, cond, false, find, flat_map, if◌then◌else◌, is_some, leb, map, min, nat_eq, nat_le, nat_lt, neg_ℤ, not, option_copied, pos, position, set, slice_get, slice_index, slice_set, true, unwrap_or, ⊤, ◌&&◌, ◌-◌, ◌==◌, ◌||◌, ◌↔◌, ◌≢◌, ◌≤◌, IsSome, count_by}
+pub use Rattle.std.specs.Option.{ok_or, option_map_or}
+pub use Rattle.std.specs.Prelude.{All, Any, Bool, Err, IfErr, IfNone, IfOk, IfSome, IsTrue, Ok, OnOk, Result, Some, codes, cond, false, find, flat_map, if◌then◌else◌, is_some, map, min, nat_eq, nat_le, nat_lt, neg_ℤ, not, pos, position, set, slice_get, slice_index, slice_set, true, unwrap_or, ⊤, ◌&&◌, ◌-◌, ◌==◌, ◌||◌, ◌↔◌, ◌≢◌, ◌≤◌, IsSome, count_by}
 pub use Rattle.std.specs.Result.{IsErrAnd, is_err, result_err}
 pub use Rattle.std.specs.Str.{IsAscii, IsUtf8, bytes_eq}
 pub use lib.Lanes.{Each1, chunk, digits_l, mask_l, number_l, pick_l, top, zip2}

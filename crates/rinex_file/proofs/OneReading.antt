@@ -12,9 +12,6 @@ pub no_field : (lost strength : ℕ) → replicate 16 32 ≡ field None lost str
 unfolding field
 no_field lost strength = refl
 
-second_end : (text : List ℕ) (a b : ℕ) → length text ≡ 14 → get_or (text ++ a ∷ b ∷ []) 15 0 ≡ b
-second_end text a b size = grind (arith, common_steps, get_or-append-add)
-
 -- the columns of a value, and its LLI and SSI columns
 pub field_parts : (v : ℤ) (lost strength : ℕ) → FitsColumns v
     → (take 14 (field (Some v) lost strength) ≡ right 14 (fixed 3 v)) × (get_or (field (Some v) lost strength) 14 0 ≡ lost) × (get_or (field (Some v) lost strength) 15 0 ≡ strength)
@@ -22,7 +19,7 @@ unfolding field
 field_parts v lost strength h =
     let text = right 14 (fixed 3 v) in
     let size = length-right 14 (fixed 3 v) (length-value v h) in
-    (take_at text (lost ∷ strength ∷ []) 14 size, get_or_at text lost (strength ∷ []) 0 14 size, second_end text lost strength size)
+    (take_at text (lost ∷ strength ∷ []) 14 size, get_or_at text lost (strength ∷ []) 0 14 size, grind (arith, common_steps, get_or-append-add))
 
 -- a value has a point
 pub has-point : (places : ℕ) (z : ℤ) → has 46 (fixed places z) ≡ true
@@ -79,9 +76,6 @@ pub lli_column : (text : List ℕ) (e : SignalValues) → AreSignalValues e → 
 lli_column text e is fields =
     sym (lane_is text 16 14 (omega arith)) ∙ ap (λ r. get_or r 14 0) fields.1 ∙ lli_at e.l e.lli (strength_byte e.s) is.l is.without_phase
 
-pub lli_once : (m n : ℕ) → m < 4 → n < 4 → lli_byte m ≡ lli_byte n → m ≡ n
-lli_once m n h k e = grind arith
-
 pub same_values : (x y : SignalValues) → x.c ≡ y.c → x.l ≡ y.l → x.d ≡ y.d → x.s ≡ y.s → x.lli ≡ y.lli → x ≡ y
 same_values x y c l d s m = grind arith
 
@@ -95,7 +89,7 @@ signal_once e f is also same =
     (field_once (lli_byte e.lli) (strength_byte e.s) (lli_byte f.lli) (strength_byte f.s) is.l also.l (sym a.1 ∙ b.1))
     (field_once 32 32 32 32 is.d also.d (sym a.2 ∙ b.2))
     (field_once 32 32 32 32 (strength_fits e.s is.s) (strength_fits f.s also.s) (sym a.3 ∙ b.3))
-    (lli_once e.lli f.lli is.lli also.lli (sym (lli_column text e is a) ∙ lli_column text f also b))
+    (grind (arith, is.lli, also.lli, sym (lli_column text e is a) ∙ lli_column text f also b))
 
 -- these values are read, and no others
 pub signal_read : (text : List ℕ) (e : SignalValues) → AreSignalValues e → text ≡ signal_text e → ReadsExactly AreSignalValues signal_text text (Some e)
@@ -169,11 +163,10 @@ text_of_line system signals v line (same, is) e =
     let first = letter v.system in
     let text = first ∷ (48 + id / 10) ∷ (48 + id % 10) ∷ trimmed columns in
     let size : length columns ≡ 64 * signals = length-signals v.row.signal_values (all_values_fit v.row.signal_values is.signal_values) ∙ ap (λ (n : ℕ). 64 * n) is.whole in
-    let less = length-trimmed columns in
     subst (λ (t : List ℕ). IsSatelliteText t signals v) (sym (feed_cut line text (e ∙ front_line v ∙ ap (λ t. first ∷ (t ++ 10 ∷ [])) (three_kept id columns small)))) (record {
       small = small;
       long = omega arith;
-      short = omega (arith, size, less);
+      short = omega (arith, size, length-trimmed columns);
       letter = refl;
       number = sym (two_digits id small);
       columns = fill-trimmed (64 * signals) columns size;

@@ -70,6 +70,5 @@ first_flag (suc n) k (suc d ∷ xs) rest h small = grind (arith, ne_eqb, odd)
 pub few_flags : (xs ys : List ℕ) → length xs ≡ length ys → length xs ≤ 64 → flags xs ys % 2 ^ 64 ≡ flags xs ys
 few_flags xs ys same few =
     let differ = λ (a b : ℕ). cond (not (eqb a b)) 255 0 in
-    let lanes_are = length-map (zip2 differ xs ys) (top 7) in
     let size = length-zip2 differ xs ys same in
-    mask_l-mod (map (top 7) (zip2 differ xs ys)) 64 (omega (arith, lanes_are, size, few))
+    mask_l-mod (map (top 7) (zip2 differ xs ys)) 64 (omega (arith, length-map (zip2 differ xs ys) (top 7), size, few))

@@ -1,5 +1,5 @@
 -- Digits of a number as columns, with blanks or zeros before them.
-use Rattle.rinex_file.proofs.Names.{arith, ◌≡◌, ◌∙◌, sym, ap, ap₂, refl, ℕ, zero, suc, ◌+◌, ◌-◌, ◌*◌, ◌/◌, ◌%◌, ◌^◌, ◌<◌, ◌≤◌, List, [], ◌∷◌, ◌++◌, map, length, drop, replicate, get_or, append_assoc, append-nil, length-append, inl, inr, Bool, cases_lt, pow-suc, decimal_digit, decimal_step, replicate_next, padded, digits_onto, empty_column, leading}
+use Rattle.rinex_file.proofs.Names.{arith, ◌≡◌, ◌∙◌, sym, ap, ap₂, refl, ℕ, zero, suc, ◌+◌, ◌-◌, ◌*◌, ◌/◌, ◌%◌, ◌^◌, ◌<◌, List, [], ◌∷◌, ◌++◌, map, length, drop, replicate, get_or, append_assoc, append-nil, length-append, inl, inr, Bool, cases_lt, pow-suc, decimal_digit, decimal_step, replicate_next, padded, digits_onto, empty_column, leading}
 
 -- digits as columns, without leading zeros
 abbrev pub spaced : Bool → List ℕ → List ℕ
@@ -29,19 +29,14 @@ spaced_is b (suc d ∷ ds) (suc z) text e h = absurd (let low : 48 + suc d ≡ 4
 padded_one : (k n : ℕ) → n < 10 → padded (suc k) n ≡ replicate k 48 ++ (48 + n) ∷ []
 padded_one k n small = grind (arith, decimal_digit)
 
-padded_big : (k n : ℕ) → 10 ≤ n → n < 2 ^ 64 → padded (suc (suc k)) n ≡ padded (suc k) (n / 10) ++ (48 + n % 10) ∷ []
-padded_big k n big fits = grind (arith, decimal_step, length-append, append_assoc)
-
 padded_more : (k n : ℕ) → n < 2 ^ 64 → padded (suc (suc k)) n ≡ padded (suc k) (n / 10) ++ (48 + n % 10) ∷ []
 padded_more k n fits =
     elim (cases_lt n 10) [
       | inl small ↦
-          let tens : n / 10 ≡ 0 = omega (arith, small) in
-          let ones : n % 10 ≡ n = omega (arith, small) in
           let next : suc k ≡ k + 1 = omega arith in
           padded_one (suc k) n small ∙ ap (λ t. t ++ (48 + n) ∷ []) (ap (λ j. replicate {A = ℕ} j 48) next ∙ replicate_next k 48 ∙ sym (padded_one k 0 (omega arith)))
-          ∙ sym (ap₂ (λ t x. padded (suc k) t ++ (48 + x) ∷ []) tens ones)
-      | inr big ↦ padded_big k n big fits
+          ∙ sym (ap₂ (λ t x. padded (suc k) t ++ (48 + x) ∷ []) (omega (arith, small)) (omega (arith, small)))
+      | inr big ↦ grind (arith, decimal_step, length-append, append_assoc)
     ]
 
 tenth : (k n : ℕ) → n < 10 ^ suc k → n / 10 < 10 ^ k

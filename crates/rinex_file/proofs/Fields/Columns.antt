@@ -1,29 +1,18 @@
 -- The columns of a value: blanks, a sign, digits, a point and three digits.
 use Rattle.rinex_file.proofs.Digits.Padded.{empty_columns, three_digits}
 use Rattle.rinex_file.proofs.Rows.Sizes.{length-value}
-use Rattle.rinex_file.proofs.Names.{length-right, arith, ◌≡◌, ◌∙◌, sym, ap, ap₂, refl, ℕ, zero, suc, ◌+◌, ◌-◌, ◌/◌, ◌%◌, ◌^◌, ◌<◌, ◌≤◌, List, [], ◌∷◌, ◌++◌, length, replicate, append_assoc, append-nil, length-append, decimal, ℤ, unsigned_abs, true, false, Bool, set, Some, is_negative, sign_text, length-decimal-le, set_at, ints, FitsColumns, padded, right, fixed, field, empty_column}
+use Rattle.rinex_file.proofs.Names.{length-right, arith, ◌≡◌, ◌∙◌, sym, ap, ap₂, refl, ℕ, zero, suc, ◌+◌, ◌-◌, ◌/◌, ◌%◌, ◌^◌, ◌<◌, ◌≤◌, List, [], ◌∷◌, ◌++◌, length, replicate, append_assoc, append-nil, length-append, decimal, ℤ, unsigned_abs, true, false, Bool, set, Some, is_negative, sign_text, set_at, ints, FitsColumns, padded, right, fixed, field}
 
 -- ---- the size of a value
-
--- ten digits before the point, or nine and a minus
-pub within_signed : (v : ℤ) → FitsColumns v → is_negative v ≡ true → unsigned_abs v < 10 ^ 12
-within_signed v h negative = grind (arith, ints)
 
 pub within_columns : (v : ℤ) → FitsColumns v → unsigned_abs v < 10 ^ 13
 within_columns v h = grind (arith, ints)
 
-pub nine_digits : (v : ℤ) → FitsColumns v → is_negative v ≡ true → length (decimal (unsigned_abs v / 1000)) ≤ 9
-nine_digits v h negative = grind (arith, within_signed, length-decimal-le)
-
 -- ---- the field of a value
-
--- blanks and the sign
-other_column : (n : ℕ) → empty_column n false ≡ 32
-other_column n = grind arith
 
 pub blank_columns : (n : ℕ) → empty_columns false n ≡ replicate n 32
 blank_columns zero = refl
-blank_columns (suc n) = ap₂ (λ a l. a ∷ l) (other_column n) (blank_columns n)
+blank_columns (suc n) = ap₂ (λ a l. a ∷ l) (grind arith) (blank_columns n)
 
 pub last_minus : (n : ℕ) → empty_columns true (suc n) ≡ replicate n 32 ++ 45 ∷ []
 last_minus zero = refl

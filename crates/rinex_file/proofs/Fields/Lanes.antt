@@ -30,10 +30,7 @@ fours_are k xs l h = pairs_by {byte = 65536} {base = 100} {width = 4294967296} {
 -- the bytes of a number
 bytes_of : (k n : ℕ) → n < 256 ^ k → number_l 256 (digits_l 256 k n) ≡ n
 bytes_of zero n h = omega (arith, h)
-bytes_of (suc k) n h =
-    let p : 256 ^ suc k ≡ 256 ^ k * 256 = pow-suc 256 k in
-    let more = bytes_of k (n / 256) (omega (arith, h, p)) in
-    omega (arith, more)
+bytes_of (suc k) n h = omega (arith, bytes_of k (n / 256) (omega (arith, h, pow-suc 256 k)))
 
 number_below : (xs : List ℕ) → AreBelow 100 xs → number_l 65536 xs < 65536 ^ length xs
 number_below [] h = omega arith
@@ -67,12 +64,6 @@ twos_below base n small [] h = tt
 twos_below base n small (a ∷ []) h = tt
 twos_below base n small (a ∷ b ∷ xs) h = (small a b h.0 h.1.0, twos_below base n small xs h.1.1)
 
--- the digits of a number
-digits_are : {s a b c d e f g h i j k l m n y z : ℕ} → AreBelow 10 (a ∷ b ∷ c ∷ d ∷ e ∷ f ∷ g ∷ h ∷ i ∷ j ∷ l ∷ m ∷ n ∷ []) → k ≡ 0
-    → s ≡ a * 1_000_000_000_000 + b * 100_000_000_000 + c * 10_000_000_000 + d * 1_000_000_000 + e * 100_000_000 + f * 10_000_000 + g * 1_000_000 + h * 100_000 + i * 10_000 + j * 1000 + l * 100 + m * 10 + n
-    → (a ∷ b ∷ c ∷ d ∷ e ∷ f ∷ g ∷ h ∷ i ∷ j ∷ k ∷ l ∷ m ∷ n ∷ y ∷ z ∷ [] ≡ digit_columns s y z) × (s < 10 ^ 13)
-digits_are h0 point is = grind arith
-
 -- the size of the digits in lanes
 abbrev pub size_l : List ℕ → ℕ
 size_l ds = let es = twos_of 10_000 (twos_of 100 (twos_of 10 (ordered ds))) in get_or es 0 0 * 100_000_000 + get_or es 1 0
@@ -81,7 +72,7 @@ abbrev pub IsSize : List ℕ → Type 0
 IsSize ds = AreWithin LIMITS ds → (s : ℕ) → s ≡ size_l ds → (ds ≡ digit_columns s (get_or ds 14 0) (get_or ds 15 0)) × (s < 10 ^ 13)
 
 pub size_is : (ds : List ℕ) → length ds ≡ 16 → IsSize ds
-size_is ds size = sixteen IsSize (λ a b c d e f g h i j k l m n y z are s is. digits_are (omega (arith, are)) (omega (arith, are)) (omega (arith, is))) ds size
+size_is ds size = sixteen IsSize (λ a b c d e f g h i j k l m n y z are s is. grind arith) ds size
 
 -- ---- columns of which digits are taken
 

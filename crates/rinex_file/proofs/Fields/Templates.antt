@@ -1,7 +1,7 @@
 -- Digits in lanes, added to the columns of a field.
-use Rattle.rinex_file.proofs.Fields.Columns.{field_text, nine_digits, within_columns}
+use Rattle.rinex_file.proofs.Fields.Columns.{field_text, within_columns}
 use Rattle.rinex_file.proofs.Digits.Padded.{IsSpaced, empty_columns, spaced, spaced_is, padded_digits, three_digits}
-use Rattle.rinex_file.proofs.Names.{◌<ℤ◌, ◌≤ℤ◌, pos, false, not_negative, zip2, ints, arith, ◌≡◌, ◌∙◌, sym, ap, ap₂, refl, subst, ℕ, ℤ, zero, suc, ◌+◌, ◌-◌, ◌/◌, ◌%◌, ◌^◌, ◌<◌, ◌≤◌, List, [], ◌∷◌, ◌++◌, map, length, decimal, append_assoc, append-nil, length-append, inl, inr, true, unsigned_abs, Bool, Some, is_negative, cases_lt, decimal_digit, decimal_step, first_decimal, length-decimal-le, padded, FitsColumns, field, AreBelow, digit_columns, digits_onto, empty_column, leading, template}
+use Rattle.rinex_file.proofs.Names.{◌<ℤ◌, ◌≤ℤ◌, pos, false, not_negative, zip2, ints, arith, ◌≡◌, ◌∙◌, sym, ap, ap₂, refl, subst, ℕ, ℤ, zero, suc, ◌+◌, ◌-◌, ◌/◌, ◌%◌, ◌^◌, ◌<◌, ◌≤◌, List, [], ◌∷◌, ◌++◌, map, length, decimal, append_assoc, append-nil, length-append, inl, inr, true, unsigned_abs, Bool, Some, is_negative, cases_lt, decimal_digit, decimal_step, first_decimal, length-decimal-le, padded, FitsColumns, field, AreBelow, digit_columns, digits_onto, leading, template}
 
 abbrev pub added : ℕ → ℕ → ℕ
 added a b = (a + b) % 2 ^ 8
@@ -12,12 +12,9 @@ all_added : (b : Bool) (ds xs : List ℕ) → AreBelow 10 ds → zip2 added (ds 
 all_added b [] xs h = refl
 all_added b (d ∷ ds) xs h = let one : (d + 48) % 2 ^ 8 ≡ 48 + d = omega (arith, h.0) in ap₂ (λ a l. a ∷ l) one (all_added b ds xs h.1)
 
-empty_added : (n : ℕ) (b : Bool) → added 0 (empty_column n b) ≡ empty_column n b
-empty_added n b = grind arith
-
 digits_added : (b : Bool) (ds xs : List ℕ) → AreBelow 10 ds → zip2 added (ds ++ xs) (template b (length ds) (leading ds)) ≡ spaced b ds ++ zip2 added xs (template b 0 0)
 digits_added b [] xs h = refl
-digits_added b (zero ∷ ds) xs h = ap₂ (λ x l. x ∷ l) (empty_added (leading ds) b) (digits_added b ds xs h.1)
+digits_added b (zero ∷ ds) xs h = ap₂ (λ x l. x ∷ l) (grind arith) (digits_added b ds xs h.1)
 digits_added b (suc d ∷ ds) xs h = all_added b (suc d ∷ ds) xs h
 
 pub leading-le : (ds : List ℕ) → leading ds ≤ length ds
@@ -40,24 +37,20 @@ nine_spaced b n some small =
 abbrev IsWhole : Bool → List ℕ → ℕ → Type 0
 IsWhole b ds w = (leading ds + length (decimal w) ≡ 10) × (spaced b ds ++ (48 + w % 10) ∷ [] ≡ empty_columns b (leading ds) ++ decimal w)
 
-one_digit : (b : Bool) (w : ℕ) → w < 10 → IsWhole b (digits_onto 8 0 []) w
-one_digit b w h = grind (arith, decimal_digit)
-
 more_digits : (b : Bool) (w : ℕ) → 10 ≤ w → w < 10 ^ 10 → IsWhole b (digits_onto 8 (w / 10) []) w
 more_digits b w big small =
     let n : ℕ = w / 10 in
     let (columns, zeros) = nine_spaced b n (omega (arith, big)) (omega (arith, small)) in
-    let short = length-decimal-le 9 n (omega arith) (omega (arith, small)) (omega (arith, small)) in
     let d = decimal_step w big (omega (arith, small)) in
     let size : length (decimal w) ≡ length (decimal n) + 1 = ap length d ∙ length-append (decimal n) ((48 + w % 10) ∷ []) in (
-      omega (arith, zeros, short, size),
+      omega (arith, zeros, length-decimal-le 9 n (omega arith) (omega (arith, small)) (omega (arith, small)), size),
       ap (λ t. t ++ (48 + w % 10) ∷ []) columns ∙ append_assoc (empty_columns b (9 - length (decimal n))) (decimal n) ((48 + w % 10) ∷ []) ∙ ap₂ (λ k t. empty_columns b k ++ t) (sym zeros) (sym d),
     )
 
 whole : (b : Bool) (w : ℕ) → w < 10 ^ 10 → IsWhole b (digits_onto 8 (w / 10) []) w
 whole b w small =
     elim (cases_lt w 10) [
-      | inl less ↦ let none : w / 10 ≡ 0 = omega (arith, less) in subst (λ (n : ℕ). IsWhole b (digits_onto 8 n []) w) (sym none) (one_digit b w less)
+      | inl less ↦ let none : w / 10 ≡ 0 = omega (arith, less) in subst (λ (n : ℕ). IsWhole b (digits_onto 8 n []) w) (sym none) (grind (arith, decimal_digit))
       | inr big ↦ more_digits b w big small
     ]
 
@@ -72,9 +65,6 @@ back s y z = s / 1000 % 10 ∷ 0 ∷ s / 100 % 10 ∷ s / 10 % 10 ∷ s % 10 ∷
 
 front_is : (s : ℕ) → digits_onto 8 (s / 1000 / 10) [] ≡ front s
 front_is s = grind arith
-
-front_below : (s : ℕ) → s < 10 ^ 13 → AreBelow 10 (front s)
-front_below s h = omega (arith, h)
 
 -- what follows the columns without a digit
 abbrev pub rest_with : ℕ → ℕ → ℕ → List ℕ
@@ -110,13 +100,13 @@ eight_whole v least below = grind (arith, not_negative, leading_at, ints)
 columns_with : (b : Bool) (s y z : ℕ) → s < 10 ^ 13 → zip2 added (digit_columns s y z) (template b 9 (leading (front s))) ≡ empty_columns b (leading (front s)) ++ rest_with s (added y 32) (added z 32)
 columns_with b s y z h =
     let t : List ℕ = 46 ∷ padded 3 (s % 1000) ++ added y 32 ∷ added z 32 ∷ [] in
-    digits_added b (front s) (back s y z) (front_below s h)
+    digits_added b (front s) (back s y z) (omega (arith, h))
     ∙ ap (λ l. spaced b (front s) ++ l) (last_columns b s y z) ∙ sym (append_assoc (spaced b (front s)) ((48 + s / 1000 % 10) ∷ []) t) ∙ ap (λ l. l ++ t) (front_whole b s h).1
     ∙ append_assoc (empty_columns b (leading (front s))) (decimal (s / 1000)) t
 
 -- before the digits of a value is a column for its sign
 pub sign_before : (v : ℤ) → FitsColumns v → is_negative v ≡ true → 1 ≤ leading (front (unsigned_abs v))
-sign_before v fits negative = grind (arith, start_is, within_columns, nine_digits)
+sign_before v fits negative = grind (arith, start_is, within_columns)
 
 pub value_columns : (v : ℤ) (y z : ℕ) → FitsColumns v
     → zip2 added (digit_columns (unsigned_abs v) y z) (template (is_negative v) 9 (leading (front (unsigned_abs v)))) ≡ field (Some v) (added y 32) (added z 32)

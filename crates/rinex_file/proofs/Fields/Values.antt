@@ -1,10 +1,10 @@
 -- The value in the columns of a field: only its template leaves the digits of a size whose first digit is in its place.
 use Rattle.rinex_file.proofs.Digits.Padded.{empty_columns}
 use Rattle.rinex_file.proofs.Fields.Columns.{blank_columns, last_minus, empty_columns_are, field_text, within_columns}
-use Rattle.rinex_file.proofs.Fields.Lanes.{taken, below_at, added_back, taken_back, template_below, tenth_below}
+use Rattle.rinex_file.proofs.Fields.Lanes.{taken, below_at, added_back, taken_back, template_below}
 use Rattle.rinex_file.proofs.Fields.Templates.{added, front, start_is, leading-le, length-template, sign_before, value_columns}
 use Rattle.rinex_file.proofs.OneReading.{field_parts}
-use Rattle.rinex_file.proofs.Names.{not_negative, zip2, mask_l, top, common_steps, arith, ◌≡◌, ◌∙◌, sym, ap, ap₂, refl, subst, cond, ℕ, zero, suc, ◌+◌, ◌-◌, ◌*◌, ◌/◌, ◌%◌, ◌^◌, ◌<◌, ◌≤◌, List, [], ◌∷◌, ◌++◌, map, length, get_or, replicate, drop, take, decimal, append_assoc, true, false, eqb, not, inl, inr, ℤ, pos, unsigned_abs, Some, w8, Bool, ◌==◌, if◌then◌else◌, neg_ℤ, nat_lt, prefix_len, is_negative, cases_Bool, eqb-true, ne_eqb, ints, decimal_digit, first_decimal, length-map, prefix_len-le-length, bitmask_splat, first_set_mask_l, mask_l-mod, length-zip2, drop_all, drop_more, get_or-drop, get_or-zip2, add-one, FitsColumns, field, AreBelow, AreWithin, blanks, digit_columns, empty_column, has_minus, leading, template, LIMITS, le-ltb, ltb-false}
+use Rattle.rinex_file.proofs.Names.{not_negative, zip2, mask_l, top, common_steps, arith, ◌≡◌, ◌∙◌, sym, ap, ap₂, refl, subst, cond, ℕ, zero, suc, ◌+◌, ◌-◌, ◌*◌, ◌/◌, ◌%◌, ◌^◌, ◌<◌, ◌≤◌, List, [], ◌∷◌, ◌++◌, map, length, get_or, replicate, drop, take, decimal, append_assoc, true, false, eqb, not, inl, inr, ℤ, pos, unsigned_abs, Some, w8, Bool, ◌==◌, if◌then◌else◌, neg_ℤ, nat_lt, prefix_len, is_negative, cases_Bool, eqb-true, ne_eqb, ints, decimal_digit, first_decimal, length-map, prefix_len-le-length, bitmask_splat, first_set_mask_l, mask_l-mod, length-zip2, drop_all, drop_more, get_or-drop, get_or-zip2, add-one, FitsColumns, field, AreBelow, AreWithin, blanks, digit_columns, has_minus, leading, template, LIMITS, le-ltb, ltb-false}
 use lib.Count.{count_trailing_zeros}
 
 -- ---- lanes that are not above their limits
@@ -24,8 +24,7 @@ all_within (l ∷ ls) (d ∷ ds) e =
     elim (cases_Bool (nat_lt l d)) [
       | inl over ↦ let one : 1 + 2 * above ls ds ≡ 0 = ap (λ b. cond (top 7 (cond b 255 0)) 1 0 + 2 * above ls ds) (sym over) ∙ e in absurd (omega (arith, one))
       | inr low ↦
-          let rest : 0 + 2 * above ls ds ≡ 0 = ap (λ b. cond (top 7 (cond b 255 0)) 1 0 + 2 * above ls ds) (sym low) ∙ e in
-          (ltb-false l d low, all_within ls ds (omega (arith, rest)))
+          (ltb-false l d low, all_within ls ds (omega arith))
     ]
 
 -- no digit is above its limit if and only if no lane of the comparison is set
@@ -39,12 +38,9 @@ limits ds size =
 
 -- ---- the blanks before other columns
 
-not_not : (b : Bool) → not (not b) ≡ b
-not_not b = grind arith
-
 blanks_counted : (xs : List ℕ) → prefix_len (λ x. not (not (eqb x 32))) xs ≡ blanks xs
 blanks_counted [] = refl
-blanks_counted (x ∷ xs) = ap₂ (λ b n. cond b (1 + n) 0) (not_not (eqb x 32)) (blanks_counted xs)
+blanks_counted (x ∷ xs) = ap₂ (λ b n. cond b (1 + n) 0) (grind arith) (blanks_counted xs)
 
 -- which columns are not blank
 abbrev written : List ℕ → ℕ
@@ -91,12 +87,9 @@ begins_with columns rest k b is other = grind (arith, blanks_before)
 abbrev BeginsWithDigit : List ℕ → Type 0
 BeginsWithDigit text = (b : ℕ) × (rest : List ℕ) × (text ≡ b ∷ rest) × (48 ≤ b)
 
-begins : (text : List ℕ) → 48 < get_or text 0 0 → BeginsWithDigit text
-begins text h = grind (arith, common_steps)
-
 decimal_begins : (w : ℕ) → w < 2 ^ 64 → BeginsWithDigit (decimal w)
 decimal_begins zero h = (48, [], decimal_digit 0 (omega arith), omega arith)
-decimal_begins (suc n) h = begins (decimal (suc n)) (first_decimal (suc n) (omega arith) h)
+decimal_begins (suc n) h = grind (arith, common_steps, first_decimal (suc n) (omega arith) h)
 
 digit_is : (b : ℕ) → 48 ≤ b → ((b == 32) ≡ false) × ((b == 45) ≡ false)
 digit_is b h = (grind arith, grind arith)
@@ -114,9 +107,8 @@ begins_by false start w columns rest small some is =
     let (count, sign) = begins_with columns (more ++ rest) start d (is ∙ ap₂ (λ a t. a ++ (t ++ rest)) (blank_columns start) text) blank in
     (sign ∙ minus, count)
 begins_by true start w columns rest small some is =
-    let one = some refl in
     let (count, sign) = begins_with columns (decimal w ++ rest) (start - 1) 45 (is ∙ ap (λ a. a ++ (decimal w ++ rest)) (empty_columns_are true start some) ∙ append_assoc (replicate (start - 1) 32) (45 ∷ []) (decimal w ++ rest)) refl in
-    (sign, ap (λ n. n + 1) count ∙ omega (arith, one))
+    (sign, ap (λ n. n + 1) count ∙ omega (arith, some refl))
 
 value_begins : (v : ℤ) (lost strength : ℕ) → FitsColumns v → Begins (field (Some v) lost strength) (is_negative v) (leading (front (unsigned_abs v)))
 value_begins v lost strength fits =
@@ -127,9 +119,8 @@ value_begins v lost strength fits =
 pub few_before : (columns : List ℕ) (v : ℤ) (lost strength : ℕ) → FitsColumns v → columns ≡ field (Some v) lost strength → blanks columns ≤ 9
 few_before columns v lost strength fits is =
     let (sign, start) = value_begins v lost strength fits in
-    let few = leading-le (front (unsigned_abs v)) in
     let less = at_least (is_negative v) (blanks (field (Some v) lost strength)) in
-    omega (arith, ap blanks is, start, few, less) where
+    omega (arith, ap blanks is, start, leading-le (front (unsigned_abs v)), less) where
       at_least : (b : Bool) (n : ℕ) → n ≤ (if b then n + 1 else n)
       at_least b n = grind (arith, common_steps)
 
@@ -146,9 +137,6 @@ pub record IsShown (ds : List ℕ) (start : ℕ) (b : Bool) (v : ℤ) : Type 0 w
 -- the last columns with and without the blanks of the template
 end_back : (y : ℕ) → y < 256 → added (taken y 32) 32 ≡ y
 end_back y h = omega (arith, h)
-
-digits_below : (s y z : ℕ) → s < 10 ^ 13 → y < 256 → z < 256 → AreBelow 256 (digit_columns s y z)
-digits_below s y z h k l = omega (arith, h, k, l)
 
 pub shown : {columns ts : List ℕ} {start : ℕ} {b : Bool} {v : ℤ} → AreBelow 256 columns → FitsColumns v → columns ≡ field (Some v) (get_or columns 14 0) (get_or columns 15 0)
     → b ≡ has_minus columns → start ≡ (if b then blanks columns + 1 else blanks columns) → (start ≤ 9 → (b ≡ true → 1 ≤ start) → ts ≡ template b 9 start) → IsShown (zip2 taken columns ts) start b v
@@ -170,7 +158,7 @@ shown {columns} {ts} {start} {b} {v} below fits is minus at rows =
     record {
       lost = taken y 32;
       strength = taken z 32;
-      digits = ap₂ (zip2 taken) whole ts_is ∙ taken_back ds (template b 9 start) (sym (length-template b 9 start)) (digits_below n (taken y 32) (taken z 32) small low.0 low.1) (template_below b 9 start);
+      digits = ap₂ (zip2 taken) whole ts_is ∙ taken_back ds (template b 9 start) (sym (length-template b 9 start)) (omega (arith, small, low.0, low.1)) (template_below b 9 start);
       ends = low;
       size = small;
       lead = lead;
@@ -193,14 +181,11 @@ IsValue columns v = FitsColumns v × (columns ≡ field (Some v) (get_or columns
 begin_as : (b : Bool) (start : ℕ) (columns : List ℕ) → length columns ≡ 16 → blanks columns ≤ 9 → Begins columns b start → columns ≡ empty_columns b start ++ drop start columns
 begin_as b start columns size few h2 = grind (arith, blanks_first, blank_columns, eqb-true, drop_more, append_assoc, last_minus, add-one)
 
-no_leading : (d : ℕ) (ds : List ℕ) → (d ≡ 0 → ⊥) → leading (d ∷ ds) ≡ 0
-no_leading d ds some = grind arith
-
 zeros_before : (b : Bool) (n start : ℕ) (rest : List ℕ) → start ≤ n → get_or rest 0 0 < 256 → (start < n → get_or rest 0 0 ≡ 48 → ⊥)
     → leading (take n (zip2 taken (empty_columns b start ++ rest) (template b n start))) ≡ start
 zeros_before b zero start rest few small some = omega (arith, few)
 zeros_before b (suc n) zero [] few small some = refl
-zeros_before b (suc n) zero (x ∷ rest) few small some = no_leading (taken x 48) (take n (zip2 taken rest (template b n 0))) (λ none. some (omega arith) (omega (arith, none, small)))
+zeros_before b (suc n) zero (x ∷ rest) few small some = grind arith
 zeros_before b (suc n) (suc start) rest few small some = grind (arith, (zeros_before b n start rest (omega (arith, few)) small (λ h. some (omega (arith, h)))))
 
 -- sixteen columns of a field, of which at most nine are blank before the value
@@ -223,8 +208,7 @@ within_nine ts start false are long (sign, at) last within = omega (arith, at, a
 within_nine {columns} ts start true are long (sign, at) last within =
     let minus : start ≡ 10 → get_or (zip2 taken columns ts) 9 0 ≡ 253 = λ ten. get_or-zip2 taken columns ts 9 0 0 0 (omega (arith, are.size)) (omega (arith, long))
     ∙ ap₂ taken (ap (λ n. get_or columns n 0) (omega (arith, at, ten)) ∙ eqb-true (get_or columns (blanks columns) 0) 45 sign) (last ten) in
-    let digit = tenth_below (zip2 taken columns ts) (length-zip2 taken columns ts (are.size ∙ sym long) ∙ are.size) within in
-    grind (arith, at, are.few, minus, digit)
+    grind (arith, at, are.few, minus)
 
 -- the digits of a zero begin with one
 pub zero_first : {columns ts : List ℕ} (b : Bool) {start s y z : ℕ} → AreColumns columns → start ≡ leading (front s) → ts ≡ template b 9 start → zip2 taken columns ts ≡ digit_columns s y z → s ≡ 0 → get_or columns start 0 ≡ 48
@@ -235,12 +219,9 @@ pub no_zero_first : (b : Bool) (n start : ℕ) (xs : List ℕ) → start < n →
 no_zero_first b n start [] small none is = absurd (omega (arith, none))
 no_zero_first b zero start (x ∷ xs) small none is = omega (arith, small)
 no_zero_first b (suc n) zero (x ∷ xs) small none is =
-    let one : suc (leading (take n (zip2 taken xs (template b n 0)))) ≡ 0 = ap (λ d. leading (taken d 48 ∷ take n (zip2 taken xs (template b n 0)))) (sym none) ∙ is in
-    omega (arith, one)
+    omega (arith, ap (λ d. leading (taken d 48 ∷ take n (zip2 taken xs (template b n 0)))) (sym none) ∙ is)
 no_zero_first b (suc n) (suc start) (x ∷ xs) small none is =
-    no_zero_first b n start xs (omega (arith, small)) none (one_less (taken x (empty_column start b)) (take n (zip2 taken xs (template b n start))) start is) where
-      one_less : (d : ℕ) (ds : List ℕ) (k : ℕ) → leading (d ∷ ds) ≡ suc k → leading ds ≡ k
-      one_less d ds k h1 = grind (arith, common_steps)
+    no_zero_first b n start xs (omega (arith, small)) none (grind (arith, common_steps))
 
 -- the value of a size and a sign
 signed_is : (s : ℕ) (b : Bool) → s < 10 ^ 13 → (b ≡ true → 1 ≤ leading (front s)) → (b ≡ true → s ≡ 0 → ⊥)
@@ -255,11 +236,10 @@ value_is {columns} {ts} s {start} b are small lead minus is digits =
     let y = added (get_or (zip2 taken columns ts) 14 0) 32 in
     let z = added (get_or (zip2 taken columns ts) 15 0) 32 in
     let (fits, sign, size) = signed_is s b small (λ is. subst (λ (n : ℕ). 1 ≤ n) lead (minus is).0) (λ is. (minus is).1) in
-    let long : length ts ≡ 16 = ap length is ∙ length-template b 9 start in
     let below : AreBelow 256 ts = subst (AreBelow 256) (sym is) (template_below b 9 start) in
     let shown = value_columns v (get_or (zip2 taken columns ts) 14 0) (get_or (zip2 taken columns ts) 15 0) fits in
     let text : columns ≡ field (Some v) y z =
-    sym (added_back columns ts (are.size ∙ sym long) are.below below)
+    sym (added_back columns ts (are.size ∙ sym (ap length is ∙ length-template b 9 start)) are.below below)
     ∙ ap₂ (zip2 added) (digits ∙ ap (λ n. digit_columns n (get_or (zip2 taken columns ts) 14 0) (get_or (zip2 taken columns ts) 15 0)) (sym size))
     (is ∙ ap₂ (λ t n. template t 9 n) (sym sign) (lead ∙ ap (λ n. leading (front n)) (sym size))) ∙ shown in
     let (_, lost, strength) = field_parts v y z fits in

@@ -8,7 +8,7 @@ use Rattle.rinex_file.proofs.HeaderRows.Places.{known_at, types_early, types_her
 use Rattle.rinex_file.proofs.HeaderRows.Steps.{left_over, rest_next}
 use Rattle.rinex_file.proofs.HeaderRows.Texts.{each_field, field_back, place_back, same_at, same_rows}
 use Rattle.rinex_file.proofs.PlainTexts.{both}
-use Rattle.rinex_file.proofs.Names.{equal_values, value_tabulated, short_table, tabulate, value_of, few_below, listed_by, is_alike, common_steps, AreListsAt, nat_le, ◌||◌, arith, ◌≡◌, ◌∙◌, sym, ap, ap₂, map, refl, subst, ℕ, pos, suc, lit<, lit≤, ◌<◌, true, List, [], ◌∷◌, ◌++◌, length, get_or, replicate, All, nat_eq, AllOfLen, IsDistinct, take_all, ext_get_or, SignalAt, table, System, indices, IsOf, planned_of, StationValues, HeaderField, Texts, Position, Delta, First, End, trimmed, HeaderLists, text_count, text_of, width_of, fields, fields_of, AntType, IsText, AreTexts, AreValues, IsTime, row_line, row_place, end_line, Known, Shown, IsShown, AreValid, IsHeadAt, shown_with, lines_before, RefusesHeaderLine, EndsHeader, none_of, row_at, AreSameTexts, Has, HasRow, fits, counted, StrengthUnit, SameFrom, position_of, PlanValue, Slots, Types, AreChannels, known_slots, no_channels, slots_of, HeaderRow, false, is_equal, is_less, nat_lt, ◌==◌, ◌&&◌, nil_from_length, has_text, not, not-true, flat_map, AreUnread, Interval, IfSome, IsInterval, None}
+use Rattle.rinex_file.proofs.Names.{equal_values, value_tabulated, short_table, tabulate, value_of, few_below, listed_by, is_alike, common_steps, AreListsAt, nat_le, ◌||◌, arith, ◌≡◌, ◌∙◌, sym, ap, ap₂, map, refl, subst, ℕ, pos, suc, lit<, lit≤, ◌<◌, true, List, [], ◌∷◌, ◌++◌, length, get_or, replicate, All, nat_eq, AllOfLen, IsDistinct, take_all, ext_get_or, SignalAt, table, System, indices, IsOf, planned_of, StationValues, HeaderField, Texts, Position, Delta, First, End, trimmed, HeaderLists, text_count, text_of, width_of, fields, fields_of, AntType, IsText, AreTexts, AreValues, IsTime, row_line, row_place, end_line, Known, Shown, IsShown, AreValid, IsHeadAt, shown_with, lines_before, RefusesHeaderLine, EndsHeader, none_of, row_at, AreSameTexts, Has, HasRow, fits, counted, StrengthUnit, SameFrom, position_of, PlanValue, Slots, Types, AreChannels, known_slots, no_channels, slots_of, HeaderRow, is_equal, is_less, nat_lt, ◌==◌, ◌&&◌, nil_from_length, not-true, flat_map, AreUnread, Interval, IfSome, IsInterval, None}
 
 -- ---- a header with all that was read is the one that was read
 
@@ -51,8 +51,7 @@ module _ (k : Known) (h : Shown) (is : IsShown h) (valid : AreValid k) (has : Ha
 
   signals : (s : System) → planned_of s h.plan ≡ planned_of s k.shown.plan
   signals s =
-      let early = types_early s in
-      let row = known_at has (Types s 5) (types_here s 5 (lit< tt)) (omega (arith, early)) in
+      let row = known_at has (Types s 5) (types_here s 5 (lit< tt)) (omega (arith, types_early s)) in
       let few = few_signals_of h.plan is.plan s in
       let read = few_below (length (table s)) (planned_of s k.shown.plan) (valid.listed s) (valid.apart s) in
       let most = short_table s in
@@ -78,10 +77,6 @@ module _ (k : Known) (h : Shown) (is : IsShown h) (valid : AreValid k) (has : Ha
 both_after : (a b n : ℕ) → n < a → n < b → nat_le a n ≡ nat_le b n
 both_after a b n low high = grind arith
 
--- what fits at a row after the types fits at the last
-still_fits : (k : Known) (from : ℕ) → row_place StrengthUnit < from → fits k from ≡ true → fits k (row_place End) ≡ true
-still_fits k from far e = grind (arith, common_steps, same_flags, types_early, both_after)
-
 module _ (k : Known) (line : List ℕ) (from : ℕ) (at : IsHeadAt k from) (same : SameFrom k line from (row_place End)) where
   at_end : IsHeadAt k (row_place End)
   at_end = record {
@@ -90,7 +85,7 @@ module _ (k : Known) (line : List ℕ) (from : ℕ) (at : IsHeadAt k from) (same
     read = same.read;
     unread = same.unread;
     fitting = λ l. less_or (fits k (row_place End) ≡ true) (row_place StrengthUnit) from
-        (λ far. still_fits k from far (at.fitting (omega (arith, far)))) (λ low. let e = same.none (row_place StrengthUnit) low (lit< tt) in cc);
+        (λ far. grind (arith, common_steps, same_flags, types_early, both_after)) (λ low. let e = same.none (row_place StrengthUnit) low (lit< tt) in cc);
     expected = lit< tt;
   }
 
@@ -137,9 +132,6 @@ valid_by {made = made} signals e texts interval channels values first of plan = 
   here : (s : System) → indices (signals s) ≡ planned_of s made.shown.plan
   here s = sym (ap (value_of s) plan ∙ value_tabulated s (λ t. indices (signals t)))
 
-no_text : (r : HeaderField) → has_text (replicate text_count []) r ≡ false
-no_text r = not-true (has_text (replicate text_count []) r) (each_field (λ r. not (has_text (replicate text_count []) r)) refl r)
-
 -- nothing was read
 module _ (k : Known) (valid : AreValid k) (blank : k.shown.texts ≡ replicate text_count []) (none : k.shown.interval ≡ None) (counts : (s : System) → counted k s ≡ 0) (planned : (s : System) → planned_of s k.shown.plan ≡ []) (no_count : k.slots ≡ 0)
     (no_channel : k.shown.plan.channels ≡ no_channels) where
@@ -147,7 +139,7 @@ module _ (k : Known) (valid : AreValid k) (blank : k.shown.texts ≡ replicate t
   no_known = ap slots_of no_channel ∙ no_slots
 
   unread : AreUnread k 0
-  unread = grind (arith, common_steps, no_known, no_text)
+  unread = grind (arith, common_steps, no_known, not-true, each_field)
 
   lists : AreListsAt k
   lists = grind (arith, common_steps, no_known)

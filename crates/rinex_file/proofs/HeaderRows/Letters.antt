@@ -60,9 +60,6 @@ chosen_by m some may s = some s || (may s && (m == 77 || m == letter s))
 chosen_letter : (f some may : System → Bool) (m : ℕ) → flagged_letter f ≡ m → 0 < m → ((s : System) → some s ≡ true → f s ≡ true) → ((s : System) → f s ≡ true → (may s || some s) ≡ true)
     → flagged_letter (chosen_by m some may) ≡ m
 chosen_letter f some may m is positive sub sup = equal_or (flagged_letter (chosen_by m some may) ≡ m) m 77 several one where
-  widened : (c b e : Bool) → (b || c) ≡ true → e ≡ true → (c || (b && e)) ≡ true
-  widened c b e h1 h2 = grind (arith, common_steps)
-
   several : m ≡ 77 → flagged_letter (chosen_by m some may) ≡ m
   several h1 = grind (arith, common_steps, more_flags, several_size, several_from)
 

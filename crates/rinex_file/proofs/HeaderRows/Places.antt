@@ -22,14 +22,11 @@ abbrev is_row_of : System → ℕ → HeaderRow → Bool
 is_row_of s row (Types t i) = is_system t s && (i == row)
 is_row_of s row other = false
 
-row_of : (s : System) (row : ℕ) (r : HeaderRow) → is_row_of s row r ≡ true → r ≡ Types s row
-row_of s row r e = grind (arith, common_steps, system_same)
-
 abbrev types_at : System → ℕ → Bool
 types_at s row = is_row_of s row (row_at (row_place (Types s row)))
 
 pub types_here : (s : System) (row : ℕ) → row < most_type_rows → row_at (row_place (Types s row)) ≡ Types s row
-types_here s row few = row_of s row (row_at (row_place (Types s row))) (passes_at (types_at s) most_type_rows row (each_system (λ s. passes_below (types_at s) most_type_rows) s refl) few)
+types_here s row few = grind (arith, common_steps, system_same, passes_at (types_at s) most_type_rows row (each_system (λ s. passes_below (types_at s) most_type_rows) s refl) few)
 
 -- the types of a system are before the rows after them
 pub types_early : (s : System) → row_place (Types s 5) < row_place StrengthUnit
@@ -50,8 +47,7 @@ place_at n r less at = sym (placed n less) ∙ ap row_place at
 pub earlier_types : {n : ℕ} → n < row_count → (s : System) (row : ℕ) → row_at n ≡ Types s (suc row) → (row_at (row_place (Types s row)) ≡ Types s row) × (row_place (Types s row) < n)
 earlier_types {n} less s row at =
     let few = is_less (suc row) most_type_rows (few_rows less (Types s (suc row)) at) in
-    let e = place_at n (Types s (suc row)) less at in
-    (types_here s row (omega (arith, few)), omega (arith, e))
+    (types_here s row (omega (arith, few)), omega (arith, place_at n (Types s (suc row)) less at))
 
 pub earlier_slots : {n : ℕ} → n < row_count → (row : ℕ) → row_at n ≡ Slots (suc row) → (row_at (row_place (Slots row)) ≡ Slots row) × (row_place (Slots row) < n)
 earlier_slots {n} less row at = grind (arith, common_steps, place_at n (Slots (suc row)) less at, slots_here)

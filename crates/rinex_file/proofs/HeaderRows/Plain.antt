@@ -6,7 +6,7 @@ use Rattle.rinex_file.proofs.Reading.Epochs.{few_signals_of}
 use Rattle.rinex_file.proofs.HeaderRows.Texts.{each_field, few_columns}
 use Rattle.rinex_file.proofs.HeaderRows.Slots.{slots_are, slots_room}
 use Rattle.rinex_file.proofs.PlainTexts.{both, IsPlain, plain-wider, plain-append, plain-left, plain-right, plain-decimal, plain-fixed, plain-padded, plain, plain-flat_map, plain-joined, also, plain-text}
-use Rattle.rinex_file.proofs.Names.{day_length, IsCivil, arith, lit≤, lit<, ◌≡◌, ap, refl, subst, ℕ, zero, suc, ◌+◌, ◌*◌, ◌/◌, ◌%◌, ◌^◌, ◌<◌, ◌≤◌, ℤ, pos, unsigned_abs, Bool, true, false, List, [], ◌∷◌, ◌++◌, length, take, drop, decimal, get_or, append_assoc, length-append, ◌==◌, ◌||◌, ◌&&◌, not, nat_le, flat_map, All, codes, slice_get, AllByRecursion, list_all, option_map_or, cond_both, ints, length-take, All-nil, All-head, All-tail, All-cons, All-append, All-map, All-take, All-drop, All-replicate, code_of, System, StationValues, Civil, civil_of, PlanValue, planned_of, HeaderField, HeaderRow, Version, Texts, Position, Delta, Types, StrengthUnit, First, Shift, End, IsLine, AreTexts, AreValues, IsTime, IsCoordinate, header_line, version_fields, version_line, lengths, first_line, text_columns, texts_line, types_of, type_front, type_columns, codes_of, row_line, row_lines, has_line, all_rows, header_lines, position_line, delta_line, letter, joined, left, right, fixed, has, HeaderLists, width_of, text_of, fields_of, label_of, front_of, common_steps, most_line, most_signals, systems_letter, is_planned, letter_of, systems, filter, padded, most_number, slot_count, nat_tests, AreSlots, SlotNumber, channel_text, slot_text, slots_columns, slots_front, slots_line, slots_of, Slots, Biases, Shown, IsShown, Interval, IsInterval, IfSome, Option, Some, None, unwrap_or, interval_line, types_line}
+use Rattle.rinex_file.proofs.Names.{day_length, IsCivil, arith, lit≤, lit<, ◌≡◌, ap, refl, subst, ℕ, zero, suc, ◌+◌, ◌*◌, ◌/◌, ◌%◌, ◌^◌, ◌<◌, ◌≤◌, ℤ, pos, unsigned_abs, Bool, true, false, List, [], ◌∷◌, ◌++◌, length, take, drop, decimal, get_or, append_assoc, length-append, ◌==◌, ◌||◌, ◌&&◌, not, nat_le, flat_map, All, codes, slice_get, AllByRecursion, list_all, option_map_or, cond_both, ints, length-take, All-nil, All-head, All-tail, All-cons, All-append, All-map, All-take, All-drop, All-replicate, code_of, System, StationValues, Civil, civil_of, PlanValue, planned_of, HeaderField, HeaderRow, Version, Texts, Position, Delta, Types, StrengthUnit, First, Shift, End, IsLine, AreTexts, AreValues, IsTime, IsCoordinate, header_line, version_fields, version_line, lengths, first_line, text_columns, texts_line, types_of, type_front, type_columns, codes_of, row_line, row_lines, has_line, all_rows, header_lines, position_line, delta_line, letter, joined, left, right, fixed, has, HeaderLists, width_of, text_of, fields_of, label_of, front_of, common_steps, most_line, most_signals, systems_letter, padded, most_number, slot_count, nat_tests, AreSlots, SlotNumber, channel_text, slot_text, slots_columns, slots_front, slots_line, slots_of, Slots, Biases, Shown, IsShown, Interval, IsInterval, IfSome, Option, Some, None, unwrap_or, interval_line, types_line}
 
 -- ---- a line of a file
 
@@ -95,12 +95,9 @@ code_of_signal : (system : System) (i : ℕ) → IsPlain 2 (code_of (record { sy
 unfolding plain_code
 code_of_signal v0 i = grind (arith, code_at)
 
-plain_type : (b : ℕ) (code : List ℕ) → IsPlain 2 code → (b == 10) ≡ false → IsPlain 3 (b ∷ code)
-plain_type b code is other = plain-append 1 2 (b ∷ []) code (record { clean = ap (λ c. c || false) other; short = lit≤ tt }) is
-
 types_are_plain : (cs : List (List ℕ)) → All (IsPlain 2) cs → All (IsPlain 3) (types_of cs)
 types_are_plain [] are = All-nil (IsPlain 3)
-types_are_plain (c ∷ cs) are = grind (arith, All-head, All-tail, All-cons, plain_type, (All-head (IsPlain 2) c cs are), (types_are_plain cs (All-tail (IsPlain 2) c cs are)))
+types_are_plain (c ∷ cs) are = grind (arith, All-head, All-tail, All-cons, (All-head (IsPlain 2) c cs are), (types_are_plain cs (All-tail (IsPlain 2) c cs are)))
 
 front_of_types : (letter types line : ℕ) → (letter == 10) ≡ false → types < 2 ^ 64 → IsPlain 26 (type_front letter types line)
 front_of_types letter types zero other few =
@@ -200,11 +197,9 @@ version : (p : PlanValue) → IsFileLine (version_line p)
 version p =
     header_fields (version_fields (systems_letter p)) (codes "RINEX VERSION / TYPE") (
       of_80 (9 + 44) (right 9 (fixed 2 (pos 305))) (plain-right 9 44 (fixed 2 (pos 305)) (plain-fixed 2 (pos 305) (lit< tt))) (lit≤ tt),
-      (record { clean = refl; short = lit≤ tt }, (record { clean = refl; short = lit≤ tt }, (plain_letter (filter (is_planned p) systems), tt))),
+      (record { clean = refl; short = lit≤ tt }, (record { clean = refl; short = lit≤ tt }, (grind (arith, common_steps, plain, lit≤, no_letter), tt))),
     )
-    (lit≤ tt) (plain 20 _ refl (lit≤ tt)) where
-      plain_letter : (ss : List System) → IsPlain 80 (letter_of ss ∷ [])
-      plain_letter ss = grind (arith, common_steps, plain, lit≤, no_letter)
+    (lit≤ tt) (plain 20 _ refl (lit≤ tt))
 
 -- ---- station
 

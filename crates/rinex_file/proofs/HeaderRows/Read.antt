@@ -6,13 +6,9 @@ use Rattle.rinex_file.proofs.HeaderRows.Types.{same_types_line}
 use Rattle.rinex_file.proofs.HeaderRows.Places.{either, slots_here, types_here}
 use Rattle.rinex_file.proofs.HeaderRows.Steps.{left_over}
 use Rattle.rinex_file.proofs.HeaderRows.Texts.{each_field, field_back, is_apart, same_here, same_line, same_some, kept_texts, same_texts, texts_back}
-use Rattle.rinex_file.proofs.Names.{value_after, value_of_other, IsLineOfTypes, IsThere, Glonass, AreSlots, common_steps, AreListsAt, IsRowRead, IsRowUnread, arith, ◌≡◌, ◌∙◌, sym, ap, refl, subst, ℕ, suc, ◌+◌, ◌<◌, ◌≤◌, Bool, true, false, List, [], ◌∷◌, length, take, min, ◌↔◌, ◌^◌, Option, Some, None, IsTrue, codes, list_all, take-map, SignalAt, table, System, is_less, is_system, indices, planned_of, civil_of, StationValues, length_indices, Types, Version, Texts, Position, Delta, StrengthUnit, First, Shift, row_line, has_line, type_rows, position_line, row_place, header_line, height_line, first_line, strength_line, version_by, Known, Has, HasRow, AreSameTexts, counted, systems_letter, AreTypes, signals_begun, IsPosition, position_of, Shown, IsShown, TakesTypes, RefusesTypes, with_types, IsHeaderLineRead, RefusesHeaderLine, ReadsOrRefuses, ReadsTexts, RefusesTexts, with_texts, with_values, with_first, with_letter, HeaderField, HeaderRow, HeaderLists, fields_of, front_of, IsTime, letter, ReadsExactly, same_Some, ⊤, Slots, Biases, biases_line, slots_line, slots_with, slots_of, slots_begun, known_slots, with_slots, AreItemsBefore, AreSameItems, types_with, most_type_rows, IsLineOfSlots, TakesSlots, TakesOrRefusesSlots, ChannelsValue, add-one, has_text, is_required, not-true, Interval, IsInterval, IfSome, is_some, interval_line, unwrap_or, with_interval, lit≤}
+use Rattle.rinex_file.proofs.Names.{value_after, value_of_other, IsLineOfTypes, IsThere, Glonass, AreSlots, common_steps, AreListsAt, IsRowRead, IsRowUnread, arith, ◌≡◌, ◌∙◌, sym, ap, refl, subst, ℕ, suc, ◌+◌, ◌<◌, ◌≤◌, Bool, true, false, List, [], ◌∷◌, length, take, min, ◌↔◌, ◌^◌, Option, Some, None, IsTrue, codes, list_all, take-map, SignalAt, table, System, is_less, is_system, indices, planned_of, civil_of, StationValues, length_indices, Types, Version, Texts, Position, Delta, StrengthUnit, First, Shift, row_line, has_line, type_rows, position_line, row_place, header_line, height_line, first_line, strength_line, version_by, Known, Has, HasRow, AreSameTexts, counted, systems_letter, AreTypes, signals_begun, IsPosition, position_of, Shown, IsShown, TakesTypes, RefusesTypes, with_types, IsHeaderLineRead, RefusesHeaderLine, ReadsOrRefuses, ReadsTexts, RefusesTexts, with_texts, with_values, with_first, with_letter, HeaderField, HeaderRow, HeaderLists, fields_of, front_of, IsTime, letter, ReadsExactly, same_Some, ⊤, Slots, Biases, biases_line, slots_line, slots_with, slots_of, slots_begun, known_slots, with_slots, AreItemsBefore, AreSameItems, types_with, most_type_rows, IsLineOfSlots, TakesSlots, TakesOrRefusesSlots, ChannelsValue, add-one, has_text, is_required, not-true, Interval, IsInterval, is_some, interval_line, with_interval, lit≤}
 
 -- ---- types
-
--- the signals that were read before a line of types are the first of those after it
-grows_indices : (old new : List SignalAt) (row : ℕ) → length old ≡ signals_begun row → take (length old) new ≡ old → take (signals_begun row) (indices new) ≡ indices old
-grows_indices old new row size e = ap (λ n. take n (indices new)) (sym size) ∙ take-map _ (length old) new ∙ ap indices e
 
 -- a line of types was read, by the signals before and after it
 pub row_taken : {system : System} {count before row : ℕ} {line : List ℕ} {old : List SignalAt} (new : List SignalAt) → count ≤ length (table system) → row < type_rows count → (0 < row → before ≡ count)
@@ -22,7 +18,7 @@ row_taken {count = count} {row = row} {old = old} new few rows later grows begun
   items = record {
     later = later;
     size = length_indices new ∙ size ∙ ap (λ n. min (signals_begun n) count) (add-one row);
-    grows = grows_indices old new row begun grows;
+    grows = ap (λ n. take n (indices new)) (sym begun) ∙ take-map _ (length old) new ∙ ap indices grows;
     is = is;
     taken = λ all l. let (number, first) = taken all l in (number, first ∙ ap (λ n. take (signals_begun n) all) (add-one row));
   };
@@ -67,9 +63,6 @@ module _ (s : System) (row : ℕ) (line : List ℕ) (k : Known) (before : AreIte
     size : length signals ≡ min (signals_begun (suc row)) count
     size = t.items.size
 
-    some_count : 0 < count
-    some_count = let rows = t.rows in omega (arith, rows)
-
     lists : AreListsAt k → AreListsAt after
     lists w = record {
       read = each_made (λ u c xs. length xs ≤ c) (omega (arith, size)) w.read;
@@ -79,27 +72,17 @@ module _ (s : System) (row : ℕ) (line : List ℕ) (k : Known) (before : AreIte
       unplanned = λ none. w.unplanned (none_planned none);
     } where
       none_planned : counted after Glonass ≡ 0 → counted k Glonass ≡ 0
-      none_planned none = either (counted k Glonass ≡ 0) s Glonass
-          (λ e. let own = value_after s k.counts count in let here = subst (λ u. counted after u ≡ 0) e none in absurd (omega (arith, own, here, some_count)))
-          (λ other. sym (value_of_other s Glonass k.counts count other) ∙ none)
+      none_planned none = grind (arith, common_steps, either, value_after, value_of_other)
 
     pub types_read : IsHeaderLineRead (Types s row) line k after
     unfolding row_line
     types_read = record { lists = lists; read = (own_made (λ c xs. min (signals_begun (suc row)) c ≤ length xs)).0 (omega (arith, size)); early = early; later = later; there = subst (λ c. row < type_rows c) (sym (value_after s k.counts count)) t.rows; own = own; kept = kept } where
-      -- a row of this system, or of another
-      by_system : (P Q : System → Type 0) (u : System) → (u ≡ s → P s → Q s) → (is_system s u ≡ false → P u → Q u) → P u → Q u
-      by_system P Q u mine others = either (P u → Q u) s u (λ e. subst (λ v. P v → Q v) (sym e) (mine e)) others
-
       early : (q : HeaderRow) → row_place q < row_place (Types s row) → IsRowRead k q → IsRowRead after q
-      early (Types u i) less before = by_system (λ v. IsRowRead k (Types v i)) (λ v. IsRowRead after (Types v i)) u
-          (λ e before. (own_made (λ c xs. min (signals_begun (suc i)) c ≤ length xs)).0 (let low = subst (λ v. row_place (Types v i) < row_place (Types s row)) e less in omega (arith, low, size)))
-          (λ other. (other_made (λ c xs. min (signals_begun (suc i)) c ≤ length xs) u other).0) before
+      early (Types u i) less before = grind (arith, common_steps, own_made, size, other_made)
       early q less before = before
 
       later : (q : HeaderRow) → row_place (Types s row) < row_place q → IsRowUnread k q → IsRowUnread after q
-      later (Types u i) less before = by_system (λ v. IsRowUnread k (Types v i)) (λ v. IsRowUnread after (Types v i)) u
-          (λ e before. (own_made (λ c xs. (length xs ≤ signals_begun i) × (i ≡ 0 → c ≡ 0))).0 (let far = subst (λ v. row_place (Types s row) < row_place (Types v i)) e less in (omega (arith, far, size), λ none. absurd (omega (arith, far, none)))))
-          (λ other. (other_made (λ c xs. (length xs ≤ signals_begun i) × (i ≡ 0 → c ≡ 0)) u other).0) before
+      later (Types u i) less before = grind (arith, common_steps, own_made, size, other_made)
       later q less before = before
 
       own : (h : Shown) → IsShown h → Has k (row_place (Types s row)) h → has_line h (Types s row) ≡ true → (row_line h (Types s row) ≡ line) ↔ HasRow after h (Types s row)
@@ -180,8 +163,7 @@ line_position k v line r = record { lists = λ w. w; read = tt; early = λ q les
       (λ f. e.0 f ∙ no_height v r.0.3, λ f. e.1 (f ∙ sym (no_height v r.0.3)))
 
   kept : (h : Shown) (q : HeaderRow) → row_place q < row_place Position → HasRow k h q ↔ HasRow (with_values k (record v { height = k.shown.values.height })) h q
-  kept h Position less = absurd (omega (arith, less))
-  kept h other less = (λ e. e, λ e. e)
+  kept h other less = grind (arith, common_steps)
 
 pub refuse_position : (k : Known) (line : List ℕ) → ReadsExactly IsPosition position_line line None → RefusesHeaderLine k Position line
 unfolding row_line
@@ -204,22 +186,17 @@ refuse_delta k line r h is before there e = r h.values.height is.values.height (
 abbrev IntervalIn : List ℕ → Option ℕ → Type 0
 IntervalIn line r = ReadsExactly IsInterval interval_line line r
 
-same_interval : (i : Option ℕ) (n : ℕ) (line : List ℕ) → IfSome i IsInterval → IntervalIn line (Some n) → (interval_line (unwrap_or i 0) ≡ line) ↔ (i ≡ Some n)
-same_interval i n line is r = grind (arith, common_steps, interval-back, lit≤, at_most_a_day, exact)
-
 pub line_interval : (k : Known) (n : ℕ) (line : List ℕ) → IntervalIn line (Some n) → IsHeaderLineRead Interval line k (with_interval k n)
 unfolding row_line
 line_interval k n line r = record { lists = λ w. w; read = tt; early = λ q less before. before; later = later; there = λ o. refl; own = own; kept = kept } where
   later : (q : HeaderRow) → row_place Interval < row_place q → IsRowUnread k q → IsRowUnread (with_interval k n) q
-  later Interval less blank = absurd (omega (arith, less))
-  later q less blank = blank
+  later q less blank = grind (arith, common_steps)
 
   own : (h : Shown) → IsShown h → Has k (row_place Interval) h → has_line h Interval ≡ true → (row_line h Interval ≡ line) ↔ (h.interval ≡ Some n)
-  own h is before there = same_interval h.interval n line is.interval r
+  own h is before there = grind (arith, common_steps, interval-back, lit≤, at_most_a_day, exact, is.interval)
 
   kept : (h : Shown) (q : HeaderRow) → row_place q < row_place Interval → HasRow k h q ↔ HasRow (with_interval k n) h q
-  kept h Interval less = absurd (omega (arith, less))
-  kept h other less = (λ e. e, λ e. e)
+  kept h other less = grind (arith, common_steps)
 
 pub refuse_interval : (k : Known) (line : List ℕ) → IntervalIn line None → RefusesHeaderLine k Interval line
 unfolding row_line
@@ -245,8 +222,7 @@ refuse_first k line r h is before there e = r h.first is.first (sym e)
 
 line_fixed : (r : HeaderRow) {text line : List ℕ} (k : Known) (b : Bool) → IsRowRead k r → IsThere k r → ((h : Shown) → row_line h r ≡ text) → ((h : Shown) → HasRow k h r)
     → (IsTrue b ↔ (line ≡ text)) → ReadsOrRefuses r line k k b
-line_fixed r k true read there shows said is = record { lists = λ w. w; read = read; early = λ q less before. before; later = λ q less blank. blank; there = there; own = λ h shown before has. (λ e. said h, λ e. shows h ∙ sym (is.0 refl)); kept = λ h q less. (λ e. e, λ e. e) }
-line_fixed r k false read there shows said is = λ h shown before there l. let e = is.1 (sym l ∙ shows h) in cc
+line_fixed r k b read there shows said is = grind (arith, common_steps)
 
 pub line_unit : (k : Known) (line : List ℕ) (b : Bool) → (IsTrue b ↔ (line ≡ strength_line)) → ReadsOrRefuses StrengthUnit line k k b
 unfolding row_line
@@ -278,23 +254,17 @@ module _ (row : ℕ) (line : List ℕ) (k : Known) (before : AreItemsBefore k (S
     size : length (slots_of channels) ≡ min (slots_begun (suc row)) count
     size = t.items.size
 
-    planned : 0 < counted k Glonass
-    planned = before.3
-
     lists : AreListsAt k → AreListsAt (with_slots k count channels)
-    lists w = record { read = w.read; few = w.few; slots_read = omega (arith, size); room = t.room; unplanned = λ none. absurd (omega (arith, none, planned)) }
+    lists w = record { read = w.read; few = w.few; slots_read = omega (arith, size); room = t.room; unplanned = λ none. absurd (omega (arith, none)) }
 
     early : (q : HeaderRow) → row_place q < row_place (Slots row) → IsRowRead k q → IsRowRead (with_slots k count channels) q
-    early (Slots i) less before = omega (arith, less, size)
-    early q less before = before
+    early q less before = grind (arith, common_steps, size)
 
     later : (q : HeaderRow) → row_place (Slots row) < row_place q → IsRowUnread k q → IsRowUnread (with_slots k count channels) q
-    later (Slots i) less before = (omega (arith, less, size), λ none. absurd (omega (arith, less, none)))
-    later q less before = before
+    later q less before = grind (arith, common_steps, size)
 
     kept : (h : Shown) (q : HeaderRow) → row_place q < row_place (Slots row) → HasRow k h q ↔ HasRow (with_slots k count channels) h q
-    kept h (Slots i) less = let low : i < row = omega (arith, less) in same_before (AreSlots 0) slots_begun slots_with t.items (slots_of h.plan.channels) i low (omega (arith, low))
-    kept h other less = (λ e. e, λ e. e)
+    kept h other less = grind (arith, common_steps, same_before)
 
   pub line_slots : (count : ℕ) (channels : ChannelsValue) (b : Bool) → TakesOrRefusesSlots row line k.slots (known_slots k) count (slots_of channels) b → ReadsOrRefuses (Slots row) line k (with_slots k count channels) b
   unfolding row_line

@@ -157,12 +157,9 @@ in_line row ss = take slots_in_line (drop (slots_in_line * row) ss)
 line_more : (row : ℕ) (ss : List SlotNumber) (s : SlotNumber) → length ss / 8 ≡ row → in_line row (ss ++ s ∷ []) ≡ in_line row ss ++ s ∷ []
 line_more row ss s here = grind (arith, common_steps, length-drop, length-append, drop-append-le, take_all)
 
-line_after : (row : ℕ) (ss : List SlotNumber) (s : SlotNumber) → 8 * row + 8 ≤ length ss → in_line row (ss ++ s ∷ []) ≡ in_line row ss
-line_after row ss s more = grind (arith, common_steps, length-drop, drop-append-le, take-append-le)
-
 -- a slot of another line
 line_other : (row : ℕ) (ss : List SlotNumber) (s : SlotNumber) → (length ss / 8 ≡ row → ⊥) → in_line row (ss ++ s ∷ []) ≡ in_line row ss
-line_other row ss s other = grind (arith, less_or, length-append, drop_all, line_after)
+line_other row ss s other = grind (arith, less_or, length-append, drop_all, common_steps, length-drop, drop-append-le, take-append-le)
 
 -- these columns follow others
 abbrev pub ArePut : ℕ → List SlotNumber → List ℕ → List ℕ → Type 0
@@ -185,12 +182,6 @@ same_slots_line row count a b e = ap (λ (l : List SlotNumber). header_line (slo
 
 -- ---- the columns of a slot
 
-pub length-channel : (n : ℕ) → length (channel_text n) ≡ 2
-length-channel n = grind arith
-
-pub length-slot : (s : SlotNumber) → s.slot < 100 → length (slot_text s) ≡ 7
-length-slot s few = grind (arith, two_digits, length-append, length-channel)
-
 slot_columns : (slot : ℕ) (channel : List ℕ) → slot ≤ slot_count → 82 ∷ (padded 2 slot ++ 32 ∷ (channel ++ 32 ∷ [])) ≡ 82 ∷ (48 + slot / 10) ∷ (48 + slot % 10) ∷ 32 ∷ (channel ++ 32 ∷ [])
 slot_columns slot channel few = ap (λ (p : List ℕ). 82 ∷ (p ++ 32 ∷ (channel ++ 32 ∷ []))) (two_digits slot (omega (arith, few)))
 
@@ -204,9 +195,6 @@ slot_high slot n few high = sym (slot_columns slot (channel_text n) few ∙ ap (
 abbrev ShowsSlot : SlotNumber → List ℕ → Type 0
 ShowsSlot s text = (take 2 (drop 1 text) ≡ padded 2 s.slot) × (take 2 (drop 4 text) ≡ channel_text s.number)
 
-slot_shown : (s : SlotNumber) (rest : List ℕ) → s.slot < 100 → ShowsSlot s (slot_text s ++ rest)
-slot_shown s rest few = grind (arith, two_digits)
-
 each_slot : (last : ℕ) (ss : List SlotNumber) (i : ℕ) (d : SlotNumber) → AreSlots last ss → i < length ss → ((get_or ss i d).slot ≤ slot_count) × ((get_or ss i d).number ≤ most_number)
 each_slot last [] i d are less = absurd (omega (arith, less))
 each_slot last (s ∷ ss) zero d are less = let room = slots_room s.slot ss are.2 in (omega (arith, room), are.1)
@@ -215,8 +203,7 @@ each_slot last (s ∷ ss) (suc i) d are less = each_slot s.slot ss i d are.2 (om
 length-front : (count row : ℕ) → count < 1000 → length (slots_front count row) ≡ 4
 length-front count zero few =
     let size = length-right 3 (decimal count) (length-decimal-le 3 count (omega arith) (omega (arith, few)) (omega (arith, few))) in
-    let more = length-append (right 3 (decimal count)) (32 ∷ []) in
-    omega (arith, size, more)
+    omega (arith, size, length-append (right 3 (decimal count)) (32 ∷ []))
 length-front count (suc row) few = refl
 
 -- ---- what a line of slots has
@@ -254,8 +241,8 @@ module _ {row before : ℕ} {line : List ℕ} {old all : List SlotNumber} (l : I
         let count = few_slots in
         let low = λ (i : ℕ) (h : i < length all). let bound = (each_slot 0 all i d l.are h).0 in lower (get_or all i d).slot bound in
         let item = item_in_line slot_text 7 4 8 (λ q. 7 * q) refl (λ q. omega arith) (slots_front (length all) row) (codes "GLONASS SLOT / FRQ #") all (8 * row) q d (length-front (length all) row (omega (arith, count)))
-        (λ i h. length-slot (get_or all i d) (low i h)) few less in
-        subst (ShowsSlot slot_here) (sym (ap (drop (4 + 7 * q)) l.is ∙ item.1)) (slot_shown slot_here item.0 (low (8 * row + q) less)) where
+        (λ i h. grind (arith, two_digits, length-append, low i h)) few less in
+        subst (ShowsSlot slot_here) (sym (ap (drop (4 + 7 * q)) l.is ∙ item.1)) (grind (arith, two_digits, low (8 * row + q) less)) where
           lower : (slot : ℕ) → slot ≤ slot_count → slot < 100
           lower slot few = omega (arith, few)
 
@@ -307,9 +294,7 @@ too_many l size more = let room = slots_room 0 _ l.are in omega (arith, room, si
 
 pub no_room : {row before n last end : ℕ} {line : List ℕ} {old all new : List SlotNumber} → IsLineOfSlots row line before old all → length all ≡ n → end ≤ n → new ≡ take end all → last ≡ last_slot 0 new → slot_count < n - end + last → ⊥
 no_room {end = end} l size few is at more =
-    let room = room_left l end (omega (arith, size, few)) in
-    let same = at ∙ ap (last_slot 0) is in
-    omega (arith, room, same, size, more)
+    omega (arith, room_left l end (omega (arith, size, few)), at ∙ ap (last_slot 0) is, size, more)
 
 pub line_judged : {row before count : ℕ} {line again : List ℕ} {old new : List SlotNumber} (b : Bool) → (IsTrue b ↔ (line ≡ again)) → again ≡ slots_with count new row → (0 < row → before ≡ count)
     → length new ≡ min (8 * suc row) count → count + last_slot 0 new ≤ length new + slot_count → take (8 * row) new ≡ old

@@ -20,9 +20,7 @@ fresh_unless zero xs some = absurd (some (λ i less. absurd (omega (arith, less)
 fresh_unless (suc n) xs some = by (list_any (eqb n) xs) refl (fresh_unless n xs) where
   by : (t : Bool) → list_any (eqb n) xs ≡ t → ((((i : ℕ) → i < n → list_any (eqb i) xs ≡ true) → ⊥) → Fresh n xs) → Fresh (suc n) xs
   by false e rest = record { i = n; below = omega arith; isnt = e }
-  by true e rest =
-      let one = rest (λ all. some (λ i less. equal_or (list_any (eqb i) xs ≡ true) i n (λ same. subst (λ j. list_any (eqb j) xs ≡ true) (sym same) e) (λ other. all i (omega (arith, less, other))))) in
-      let less = one.below in record { i = one.i; below = omega (arith, less); isnt = one.isnt }
+  by true e rest = grind (arith, common_steps, equal_or)
 
 fresh : (n : ℕ) (xs : List ℕ) → length xs < n → Fresh n xs
 fresh n xs few = fresh_unless n xs (λ all. let many = le-length_from_below xs n all in omega (arith, few, many))
@@ -58,9 +56,6 @@ record Choice (s : System) (known : Bool) (count : ℕ) (signals : List ℕ) (ch
   number : known ≡ true → count ≡ length all
   begins : signals ≡ take (length signals) all
 
-table_some : (s : System) → 0 < length (table s)
-table_some s = grind arith
-
 choose : (s : System) (chosen known : Bool) (count : ℕ) (signals : List ℕ) → AreBelow (length (table s)) signals → IsDistinct nat_eq signals → length signals ≤ count → count ≤ length (table s)
     → (known ≡ false → count ≡ 0) → (chosen ≡ true → (not known || nat_lt 0 count) ≡ true) → (count == 0 || chosen) ≡ true → Choice s known count signals chosen
 unfolding IsDistinct
@@ -73,12 +68,10 @@ choose s false known count signals below apart read few unread may none = record
   begins = nil_from_length signals (omega (arith, read, zero_count)) ∙ sym (take_all (length signals) [] (omega arith));
 } where
   zero_count : count ≡ 0
-  zero_count = zero_from count none where
-    zero_from : (n : ℕ) → (n == 0 || false) ≡ true → n ≡ 0
-    zero_from n e = grind (arith, nat_tests, e)
+  zero_count = grind (arith, nat_tests, none)
 choose s true false count signals below apart read few unread may none = record {
   all = 0 ∷ [];
-  below = All-cons (λ i. i < length (table s)) 0 [] (table_some s) (All-nil (λ i. i < length (table s)));
+  below = All-cons (λ i. i < length (table s)) 0 [] (grind arith) (All-nil (λ i. i < length (table s)));
   apart = (tt, tt);
   some = refl;
   number = λ l. cc;
@@ -87,15 +80,7 @@ choose s true false count signals below apart read few unread may none = record 
 choose s true true count signals below apart read few unread may none =
     let some : 0 < count = is_less 0 count (may refl) in
     let made = complete (count - length signals) (length (table s)) count signals below apart (omega (arith, read)) few in
-    let made_size = made.size in
-    record {
-      all = made.all;
-      below = made.below;
-      apart = made.apart;
-      some = lt-ltb 0 (length made.all) (omega (arith, made_size, some));
-      number = λ l. sym made_size;
-      begins = made.begins;
-    }
+    grind (arith, common_steps, made, lt-ltb)
 
 -- the first items are those that were read, if these are all or enough
 same_begun : {X : Type 0} (n : ℕ) (read all : List X) → read ≡ take (length read) all → min n (length all) ≤ length read → take n all ≡ take n read
@@ -157,9 +142,6 @@ module _ (k : Known) (n : ℕ) (at : IsHeadAt k n) (flags : System → Bool) (sa
   letter_is : systems_letter p ≡ flagged_letter flags
   letter_is = same_flags (is_planned p) flags (λ s. ap (λ xs. nat_lt 0 (length xs)) (value_tabulated s all) ∙ (choice s).some)
 
-  some_signals : (s : System) × (0 < length (planned_of s p))
-  some_signals = let (s, flag) = flagged (is_planned p) (subst (λ m. 0 < m) (sym letter_is) some) in (s, is_less 0 (length (planned_of s p)) flag)
-
   made : SomeShown k n
   made = record {
     p = p;
@@ -171,7 +153,7 @@ module _ (k : Known) (n : ℕ) (at : IsHeadAt k n) (flags : System → Bool) (sa
       plan = record {
         listed = λ s. subst (AreBelow (length (table s))) (sym (value_tabulated s all)) (choice s).below;
         apart = λ s. subst (IsDistinct nat_eq) (sym (value_tabulated s all)) (choice s).apart;
-        some = some_signals;
+        some = let (s, flag) = flagged (is_planned p) (subst (λ m. 0 < m) (sym letter_is) some) in (s, is_less 0 (length (planned_of s p)) flag);
         channels = more.are;
         unplanned = unplanned;
       };
@@ -193,9 +175,6 @@ some_shown k (suc n) at =
     let fit = both (flagged_letter (is_chosen k (suc n)) == k.letter) (nat_lt 0 k.letter) (at.fitting (omega arith)) in
     let same = is_equal (flagged_letter (is_chosen k (suc n))) k.letter fit.0 in
     made k (suc n) at (is_chosen k (suc n)) (λ l. same) (subst (λ m. 0 < m) (sym same) (is_less 0 k.letter fit.1))
-    (λ s e. may (nat_lt 0 (counted k s)) (nat_le (suc n) (first_types s)) (k.letter == 77 || k.letter == letter s) e) (λ s. counts (counted k s) (nat_le (suc n) (first_types s) && (k.letter == 77 || k.letter == letter s))) where
+    (λ s e. may (nat_lt 0 (counted k s)) (nat_le (suc n) (first_types s)) (k.letter == 77 || k.letter == letter s) e) (λ s. grind (arith, nat_tests)) where
       may : (a b c : Bool) → (a || (b && c)) ≡ true → (b || a) ≡ true
       may a b c e = grind (arith, e)
-
-      counts : (c : ℕ) (b : Bool) → (c == 0 || (nat_lt 0 c || b)) ≡ true
-      counts c b = grind (arith, nat_tests)

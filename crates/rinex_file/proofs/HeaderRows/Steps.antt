@@ -8,13 +8,10 @@ use Rattle.rinex_file.proofs.HeaderRows.Types.{content_first}
 use Rattle.rinex_file.proofs.HeaderRows.Slots.{no_slots}
 use Rattle.rinex_file.proofs.PlainTexts.{both}
 use Rattle.rinex_file.proofs.HeaderRows.Places.{place_at, earlier_slots, earlier_types, few_rows, known_at, number_known, types_early}
-use Rattle.rinex_file.proofs.Names.{each_system, Glonass, not-false, bytes_eq, label_columns, common_steps, types_line, is_of_types, Result, Refusal, TakesHeaderLine, expected_if, drop, all_rows, arith, ◌≡◌, ◌∙◌, sym, ap, refl, subst, ℕ, zero, suc, ◌+◌, ◌<◌, ◌≤◌, Bool, true, false, List, [], ◌∷◌, ◌++◌, length, append-nil, not, ◌≢◌, ◌==◌, ◌&&◌, ◌↔◌, nat_lt, nat_tests, System, planned_of, Known, IsShown, AreValid, Shown, IsHeadAt, row_lines, row_line, lines_before, lines_after, signals_begun, HeaderRow, Types, StrengthUnit, Shift, End, Expected, has_line, row_at, row_count, row_place, type_rows, known_line, RefusesHeaderLine, NoneGoesOn, SameFrom, Has, HasRow, counted, fits, begins_with, IsHeaderLineRead, GoesOn, Takes, flat_map, header_line, letter, codes, is_less, nil_from_length, Slots, Biases, slots_of, slot_rows, known_slots, not-true, ltb-false, add-one, eq-eqb, Texts, First, HeaderField, is_given, is_optional, is_required, has_text, label_of, left, AreUnread, append_assoc, ap₂, or_parts, has_label, fields_of, length-append, ◌||◌, nat_le, Interval, row_label, is_some, Option, lit≤, Version, Position, Delta, at_most, most_type_rows, AreListsAt, AreReadAt, IsRowRead, IsRowUnread, slots_begun, lt-ltb, AreItemsBefore}
+use Rattle.rinex_file.proofs.Names.{each_system, Glonass, not-false, bytes_eq, label_columns, common_steps, types_line, is_of_types, Result, Refusal, TakesHeaderLine, expected_if, drop, all_rows, arith, ◌≡◌, ◌∙◌, sym, ap, refl, subst, ℕ, zero, suc, ◌+◌, ◌<◌, ◌≤◌, Bool, true, false, List, [], ◌∷◌, ◌++◌, length, append-nil, not, ◌≢◌, ◌==◌, ◌&&◌, ◌↔◌, nat_lt, nat_tests, System, planned_of, Known, IsShown, AreValid, Shown, IsHeadAt, row_lines, row_line, lines_before, lines_after, signals_begun, HeaderRow, Types, StrengthUnit, Shift, End, Expected, has_line, row_at, row_count, row_place, type_rows, known_line, RefusesHeaderLine, NoneGoesOn, SameFrom, Has, HasRow, counted, fits, begins_with, IsHeaderLineRead, GoesOn, Takes, flat_map, header_line, letter, codes, is_less, nil_from_length, Slots, Biases, slots_of, slot_rows, known_slots, not-true, ltb-false, add-one, eq-eqb, Texts, First, is_given, is_optional, is_required, has_text, label_of, left, AreUnread, append_assoc, ap₂, or_parts, has_label, fields_of, length-append, ◌||◌, Interval, row_label, is_some, lit≤, Version, Position, Delta, at_most, most_type_rows, AreListsAt, AreReadAt, IsRowRead, IsRowUnread, slots_begun, lt-ltb, AreItemsBefore}
 use Rattle.rinex_file.proofs.HeaderRows.Lists.{still_same}
 
 -- ---- the items before an expected line
-
-is_none : (n : ℕ) → nat_lt 0 n ≡ false → n ≡ 0
-is_none n e = grind (arith, e, nat_tests)
 
 -- the lines of a list before this one were read
 before_types : {n : ℕ} (less : n < row_count) (k : Known) (s : System) (row : ℕ) → row_at n ≡ Types s (suc row) → AreReadAt k n → IsRowRead k (Types s row)
@@ -41,18 +38,14 @@ module _ {n : ℕ} (less : n < row_count) (k : Known) (line : List ℕ) (lists :
   size_types : (s : System) (row : ℕ) → row_at n ≡ Types s row → known_line k line (Types s row) ≡ true → length (planned_of s k.shown.plan) ≡ signals_begun row
   size_types s zero at has = let none = (unread_at (Types s 0) at).0 in omega (arith, none)
   size_types s (suc row) at has =
-      let few = (unread_at (Types s (suc row)) at).0 in
-      let before = before_types less k s row at read in
       let some = begun_types (suc row) (counted k s) (rows_there k line s (suc row) has (omega arith)) in
-      omega (arith, few, before, some)
+      omega (arith, (unread_at (Types s (suc row)) at).0, before_types less k s row at read, some)
 
   size_slots : (row : ℕ) → row_at n ≡ Slots row → known_line k line (Slots row) ≡ true → length (known_slots k) ≡ slots_begun row
   size_slots zero at has = let none = (unread_at (Slots 0) at).0 in omega (arith, none)
   size_slots (suc row) at has =
-      let few = (unread_at (Slots (suc row)) at).0 in
-      let before = before_slots less k row at read in
       let some = begun_slots (suc row) k.slots (is_less (suc row) (slot_rows k.slots) has) in
-      omega (arith, few, before, some)
+      omega (arith, (unread_at (Slots (suc row)) at).0, before_slots less k row at read, some)
 
   -- a line of slots is expected only if signals of GLONASS are planned
   some_planned : (row : ℕ) → known_line k line (Slots row) ≡ true → 0 < counted k Glonass
@@ -197,22 +190,16 @@ after_types n s less at = grind (arith, common_steps, place_at n (Types s 0) les
 abbrev label_end : List ℕ → List ℕ
 label_end label = left label_columns label ++ 10 ∷ []
 
-length-label_end : (label : List ℕ) → length label ≤ label_columns → length (label_end label) ≡ 21
-length-label_end label short = length-append (left label_columns label) (10 ∷ []) ∙ ap (λ n. n + 1) (length-left label_columns label short)
-
 label_shown : (a content label : List ℕ) → length a ≤ label_columns → length label ≤ label_columns → has_label a (header_line content label) ≡ bytes_eq (label_end a) (label_end label)
 unfolding header_line
-label_shown a content label short fits = grind (arith, common_steps, length-label_end, length-append)
+label_shown a content label short fits = grind (arith, common_steps, length-left, length-append)
 
 -- a line of types has their label
 pub types_labelled : (system : System) (all : List ℕ) (row : ℕ) → is_of_types (types_line system all row) ≡ true
 types_labelled system all row = label_shown (codes "SYS / # / OBS TYPES") _ (codes "SYS / # / OBS TYPES") (lit≤ tt) (lit≤ tt)
 
-short_label : (row : HeaderField) → length (label_of row) ≤ label_columns
-short_label row = at_most (length (label_of row)) label_columns (each_field (λ r. nat_le (length (label_of r)) label_columns) refl row)
-
 short_row : (r : HeaderRow) → length (row_label r) ≤ label_columns
-short_row r = grind (arith, common_steps, short_label, lit≤)
+short_row r = grind (arith, common_steps, at_most, each_field, lit≤)
 
 -- what a row's line shows of a label
 row_shown : (h : Shown) (a : List ℕ) (r : HeaderRow) → length a ≤ label_columns → has_label a (row_line h r) ≡ bytes_eq (label_end a) (label_end (row_label r))
@@ -242,9 +229,6 @@ after_ok r = not (is_optional r) || all_up_to (other_label r) (drop (suc (row_pl
 
 after_row : (r : HeaderRow) → after_ok r ≡ true
 after_row r = grind (arith, common_steps, each_field)
-
-same_or : (b t l : Bool) → (not b ≡ true → (b || t) ≡ l) → (b || t) ≡ (b || l)
-same_or b t l same = grind (arith, common_steps)
 
 -- ---- values of optional rows
 
@@ -279,7 +263,7 @@ module _ {n : ℕ} (less : n < row_count) {k : Known} {line : List ℕ} {h : Sho
       first : (b : Bool) → has_line h (Types s 0) ≡ b → has_line h (Types s 0) ≡ begins_with (letter s) line
       first true has = has ∙ sym (sym (ap (begins_with (letter s)) (sym (ap (row_line h) at) ∙ shows_next (ap (has_line h) at ∙ has))) ∙ types_byte h s 0 (letter s) ∙ eq-eqb (letter s) (letter s) refl)
       first false lacks = lacks ∙ sym (next_fails h (begins_with (letter s)) (other_byte (letter s)) (byte_law h (letter s)) (drop (suc n) all_rows) others left line (after_types n s less at) (rest_skipped (ap (has_line h) at ∙ lacks)))
-    by (Texts row) at = ap (has_line h) at ∙ same_or (is_required row) (has_text h.texts row) (has_label (label_of row) line) (optional_there (Texts row) at) ∙ sym (ap (known_line k line) at)
+    by (Texts row) at = ap (has_line h) at ∙ (grind (arith, common_steps, optional_there (Texts row) at)) ∙ sym (ap (known_line k line) at)
     by Interval at = ap (has_line h) at ∙ optional_there Interval at refl ∙ sym (ap (known_line k line) at)
     by r at = ap (has_line h) at ∙ plain_present less r at refl refl k line h on.has ∙ sym (ap (known_line k line) at)
 
@@ -288,12 +272,6 @@ module _ {n : ℕ} (less : n < row_count) {k : Known} {line : List ℕ} {h : Sho
 -- all signals begin before a line of types that isn't there
 all_begun : (row : ℕ) (count : ℕ) → nat_lt row (type_rows count) ≡ false → count ≤ signals_begun row
 all_begun row count lacks = let more : type_rows count ≤ row = grind (arith, lacks, nat_tests) in omega (arith, more)
-
-both_none : (a b : Option ℕ) → is_some a ≡ false → is_some b ≡ false → a ≡ b
-both_none a b p q = grind arith
-
-not_last : (n : ℕ) (k : Known) (line : List ℕ) → n < row_count → known_line k line (row_at n) ≡ false → suc n < row_count
-not_last n k line less lacks = grind (arith, less_or)
 
 module _ (k : Known) (line : List ℕ) {n : ℕ} (less : n < row_count) (lacks : known_line k line (row_at n) ≡ false) (lists : AreListsAt k) (read : AreReadAt k n) (unread : AreUnread k n) where
   here_lacks : (r : HeaderRow) → row_at n ≡ r → known_line k line r ≡ false
@@ -313,7 +291,7 @@ module _ (k : Known) (line : List ℕ) {n : ℕ} (less : n < row_count) (lacks :
   slots_same : (row : ℕ) → row_at n ≡ Slots row → (h : Shown) → IsShown h → Has k n h → HasRow k h (Slots row)
   slots_same zero at h is has =
       let unplanned = planned_known n (far_slots n 0 (place_at n (Slots 0) less at)) Glonass k h has ∙ here_lacks (Slots 0) at in
-      let none : slots_of h.plan.channels ≡ [] = ap slots_of (is.plan.unplanned (nil_from_length (planned_of Glonass h.plan) (is_none (length (planned_of Glonass h.plan)) unplanned))) ∙ no_slots in
+      let none : slots_of h.plan.channels ≡ [] = ap slots_of (is.plan.unplanned (nil_from_length (planned_of Glonass h.plan) (grind (arith, unplanned, nat_tests)))) ∙ no_slots in
       still_same slots_begun 0 (known_slots k) (slots_of h.plan.channels) (let left = no_slots_left 0 at in omega (arith, left, ap length none)) lists.slots_read (no_slots_left 0 at) refl
   slots_same (suc row) at h is has = let s = slots_known less row k h at has in still_same slots_begun (suc row) (known_slots k) (slots_of h.plan.channels) s.number lists.slots_read (no_slots_left (suc row) at) s.same
 
@@ -333,7 +311,7 @@ module _ (k : Known) (line : List ℕ) {n : ℕ} (less : n < row_count) (lacks :
 
   nothing_known : (r : HeaderRow) → row_at n ≡ r → (h : Shown) → IsShown h → Has k n h → has_line h r ≡ false → HasRow k h r
   nothing_known (Texts row) at h is has none = none_same h.texts k.shown.texts (fields_of row) (or_parts (is_required row) (has_text h.texts row) none).1 (blank_at (Texts row) at)
-  nothing_known Interval at h is has none = both_none h.interval k.shown.interval none (blank_at Interval at)
+  nothing_known Interval at h is has none = grind (arith, blank_at Interval at)
   nothing_known (Slots row) at h is has none = slots_same row at h is has
   nothing_known (Types s row) at h is has none = types_same s row at h has none
   nothing_known r at h is has none = grind arith
@@ -363,7 +341,7 @@ module _ (k : Known) (line : List ℕ) {n : ℕ} (less : n < row_count) (lacks :
     none = λ i low high. let e : i ≡ n = omega (arith, low, high) in ap (λ j. known_line k line (row_at j)) e ∙ lacks;
     read = λ i l. equal_or (IsRowRead k (row_at i)) i n (λ same. row_skipped (row_at i) (ap row_at (sym same))) (λ far. read i (omega (arith, l, far)));
     unread = λ q far. unread q (omega (arith, far));
-    expected = not_last n k line less lacks;
+    expected = grind (arith, less_or);
   }
 
 pub same_on : (k : Known) (line : List ℕ) (a b c : ℕ) → SameFrom k line a b → SameFrom k line b c → SameFrom k line a c
@@ -409,9 +387,6 @@ pub none_at : {k : Known} {line : List ℕ} {n : ℕ} (r : HeaderRow) → n < ro
 none_at {k} {line} {n} r less has at refuses h others left on =
     refuses h on.is (subst (λ m. Has k m h) (place_at n r less at) on.has) (sym (ap (has_line h) at) ∙ present less on ∙ has) (ap (row_line h) (sym at) ∙ shows_next less on (present less on ∙ has))
 
-pub single : (x y : List ℕ) → ◌≡◌ {A = List (List ℕ)} (x ∷ []) (y ∷ []) → x ≡ y
-single x y e = cc
-
 -- a row with what was read of its line has a line
 line_there : {n : ℕ} (less : n < row_count) (r : HeaderRow) {line : List ℕ} {old new : Known} → row_at n ≡ r → known_line old line r ≡ true → IsHeaderLineRead r line old new → (h : Shown) → Has old n h → HasRow new h r → has_line h r ≡ true
 line_there less r at has row_read h a own = grind (arith, common_steps, lt-ltb, same_value, plain_present)
@@ -421,7 +396,7 @@ row_law {n} {r} {line} {old} {new} less at has row_read h is = (to, from) where
   to : Has old n h × (row_lines h (row_at n) ≡ line ∷ []) → Has new (suc n) h
   to (a, e) = has_after less at row_read h a (by (has_line h r) refl) where
     by : (b : Bool) → has_line h r ≡ b → HasRow new h r
-    by true there = (row_read.own h is (placed_at less at row_read h a) there).0 (single (row_line h r) line (ap (λ q. row_line h q ∷ []) (sym at) ∙ sym (rows_when h (row_at n) true (ap (has_line h) at ∙ there)) ∙ e))
+    by true there = (row_read.own h is (placed_at less at row_read h a) there).0 (cc (ap (λ q. row_line h q ∷ []) (sym at) ∙ sym (rows_when h (row_at n) true (ap (has_line h) at ∙ there)) ∙ e))
     by false lacks = let none : ◌≡◌ {A = List (List ℕ)} [] (line ∷ []) = sym (rows_when h (row_at n) false (ap (has_line h) at ∙ lacks)) ∙ e in cc
 
   from : Has new (suc n) h → Has old n h × (row_lines h (row_at n) ≡ line ∷ [])

@@ -3,7 +3,7 @@ use Rattle.rinex_file.proofs.Rows.Trimmed.{filled, trimmed-blank}
 use Rattle.rinex_file.proofs.PlainTexts.{both}
 use Rattle.rinex_file.proofs.HeaderRows.Types.{content_first}
 use Rattle.std.proofs.Math.ListN.{get_or-map, set, length-set}
-use Rattle.rinex_file.proofs.Names.{common_steps, AreSameTexts, arith, ◌≡◌, ◌∙◌, refl, sym, ap, ap₂, subst, ℕ, Option, suc, ◌+◌, ◌<◌, ◌≤◌, ◌≢◌, List, [], ◌∷◌, length, drop, get_or, add-one, true, Some, None, zero, ◌-◌, ◌++◌, take, replicate, append_assoc, append-nil, length-append, if◌then◌else◌, ◌==◌, map, flat_map, list_all, drop-cons, length-map, length-replicate, take_at, drop_at, get_or-set_same, get_or-set_other, get_or_default, ext_get_or, list_all-append, passes_at, is_equal, HeaderField, HeadFault, AntType, trimmed, before_cut, HeaderLists, text_count, width_of, text_of, is_printable, fault_of, first_fault, fields, fields_of, trimmed_texts, place_of, front_of, label_of, IsText, AreTexts, left, header_line, text_columns, texts_line, texts_in, if_fine, RefusesTexts, same_Some, not, list_any, nat_lt, or_parts, ◌||◌, nat_tests, false, Bool, has_row, is_required, both_ways, nil_from_length, nat_le, at_most}
+use Rattle.rinex_file.proofs.Names.{common_steps, AreSameTexts, arith, ◌≡◌, ◌∙◌, refl, sym, ap, ap₂, subst, ℕ, Option, suc, ◌+◌, ◌<◌, ◌≤◌, ◌≢◌, List, [], ◌∷◌, length, drop, get_or, add-one, true, Some, None, zero, ◌-◌, ◌++◌, take, replicate, append_assoc, append-nil, length-append, ◌==◌, map, flat_map, list_all, drop-cons, length-map, length-replicate, take_at, drop_at, get_or-set_same, get_or-set_other, get_or_default, ext_get_or, list_all-append, passes_at, is_equal, HeaderField, HeadFault, AntType, trimmed, HeaderLists, text_count, width_of, text_of, is_printable, fault_of, first_fault, fields, fields_of, trimmed_texts, place_of, front_of, label_of, IsText, AreTexts, left, header_line, text_columns, texts_line, texts_in, if_fine, RefusesTexts, same_Some, not, list_any, nat_lt, or_parts, ◌||◌, nat_tests, false, Bool, has_row, is_required, both_ways, nil_from_length, nat_le, at_most}
 
 pub trimmed-blanks : (k : ℕ) (text : List ℕ) → trimmed (text ++ replicate k 32) ≡ trimmed text
 trimmed-blanks zero text = ap trimmed (append-nil text)
@@ -138,15 +138,12 @@ pub same_some : (x y : HeaderLists) (fs : List HeaderField) → AreSameTexts x y
 same_some x y [] same = refl
 same_some x y (f ∷ fs) same = ap₂ (λ t b. nat_lt 0 (length t) || b) same.0 (same_some x y fs same.1)
 
-empty_same : (a b : List ℕ) → nat_lt 0 (length a) ≡ false → nat_lt 0 (length b) ≡ false → a ≡ b
-empty_same a b p q = grind (arith, nat_tests, nil_from_length)
-
 pub none_same : (x y : HeaderLists) (fs : List HeaderField) → list_any (λ f. nat_lt 0 (length (text_of x f))) fs ≡ false → list_any (λ f. nat_lt 0 (length (text_of y f))) fs ≡ false → AreSameTexts x y fs
 none_same x y [] p q = tt
 none_same x y (f ∷ fs) p q =
     let own = or_parts _ (list_any (λ f. nat_lt 0 (length (text_of x f))) fs) p in
     let other = or_parts _ (list_any (λ f. nat_lt 0 (length (text_of y f))) fs) q in
-    (empty_same (text_of x f) (text_of y f) own.0 other.0, none_same x y fs own.1 other.1)
+    (grind (arith, nat_tests, nil_from_length, own.0, other.0), none_same x y fs own.1 other.1)
 
 -- ---- read
 
@@ -166,9 +163,6 @@ no_line r line old new size read none x are some e =
     let same = subst (λ y. AreSameTexts y x (fields_of r)) (same_Some back.new new (sym back.read ∙ read)) back.same in
     absurd (both_ways (has_row new r) none (ap (λ b. is_required r || b) (same_some new x (fields_of r) same) ∙ some))
 
-not_fine : (fault : Option HeadFault) (r : Option HeaderLists) → (fault ≡ None → ⊥) → if_fine fault r ≡ None
-not_fine fault r some = grind arith
-
 -- the field at an index and those after it
 pub fields_from : {items fs : List HeaderField} (i : ℕ) (d : HeaderField) → items ≡ fs → i < length items → drop i fs ≡ get_or items i d ∷ drop (i + 1) fs
 fields_from {items} i d same less = subst (λ l. drop i l ≡ get_or items i d ∷ drop (i + 1) l) same (rw (add-one i) (drop-cons items i d less))
@@ -176,16 +170,13 @@ fields_from {items} i d same less = subst (λ l. drop i l ≡ get_or items i d �
 -- a text that is left has a fault
 pub refused_text : {fs rest : List HeaderField} {f : HeaderField} {width : ℕ} {columns : List ℕ} (column : ℕ) (line : List ℕ) (x : HeaderLists) → fs ≡ f ∷ rest
     → width ≡ width_of f → columns ≡ take width (drop column line) → (fault_of f columns ≡ None → ⊥) → texts_in fs column line x ≡ None
-refused_text column line x next w at some = grind (arith, not_fine)
-
-fine : (fault : Option HeadFault) (r : Option HeaderLists) → fault ≡ None → if_fine fault r ≡ r
-fine fault r none = grind arith
+refused_text column line x next w at some = grind arith
 
 -- the texts from one without a fault on are it and those after it
 pub added_text : {fs rest : List HeaderField} {f : HeaderField} {width : ℕ} {columns : List ℕ} {new : HeaderLists} (column : ℕ) (line : List ℕ) (x : HeaderLists) → fs ≡ f ∷ rest
     → width ≡ width_of f → columns ≡ take width (drop column line) → None ≡ fault_of f columns → new ≡ set x (place_of f) (trimmed columns)
     → texts_in rest (column + width) line new ≡ texts_in fs column line x
-added_text column line x next w at is set_is = grind (arith, fine)
+added_text column line x next w at is set_is = grind arith
 
 fine_read : (fault : Option HeadFault) (r : Option HeaderLists) (new : HeaderLists) → if_fine fault r ≡ Some new → r ≡ Some new
 fine_read fault r new e = grind arith
@@ -199,9 +190,7 @@ kept_text [] column line old {new} g all read = ap (λ x. text_of x g) (sym (sam
 kept_text (f ∷ fs) column line old {new} g all read =
     let parts = both (not (place_of f == place_of g)) (is_apart fs g) all in
     kept_text fs (column + width_of f) line _ g parts.1 (fine_read _ _ new read)
-    ∙ get_or-set_other old (place_of f) (place_of g) (trimmed (take (width_of f) (drop column line))) [] (far_place (place_of g) (place_of f) parts.0) where
-      far_place : (i n : ℕ) → not (n == i) ≡ true → i ≢ n
-      far_place i n far = grind (arith, nat_tests, far)
+    ∙ get_or-set_other old (place_of f) (place_of g) (trimmed (take (width_of f) (drop column line))) [] (grind (arith, nat_tests, parts.0))
 
 pub kept_texts : (fs : List HeaderField) (column : ℕ) (line : List ℕ) (old : HeaderLists) {new : HeaderLists} → texts_in fs column line old ≡ Some new → (gs : List HeaderField) → list_all (is_apart fs) gs ≡ true → AreSameTexts new old gs
 kept_texts fs column line old read [] all = tt
@@ -211,18 +200,12 @@ kept_texts fs column line old read (g ∷ gs) all =
 
 -- ---- texts are printable without trailing blanks
 
-last_printable : (b : ℕ) → is_printable b ≡ true → list_all is_printable (if b == 32 then [] else b ∷ []) ≡ true
-last_printable b p = grind arith
-
-kept_printable : (b : ℕ) (part : List ℕ) → is_printable b ≡ true → list_all is_printable part ≡ true → list_all is_printable (before_cut b part) ≡ true
-kept_printable b v1 p h = grind (arith, last_printable)
-
 printable_cut : (text : List ℕ) → list_all is_printable text ≡ true → list_all is_printable (trimmed text) ≡ true
 unfolding trimmed
 printable_cut [] h = refl
 printable_cut (b ∷ bs) h =
     let parts = both (is_printable b) (list_all is_printable bs) h in
-    kept_printable b (trimmed bs) parts.0 (printable_cut bs parts.1)
+    (grind (arith, parts.0, printable_cut bs parts.1))
 
 pub cut_text : (f : HeaderField) (text : List ℕ) → list_all is_printable text ≡ true → length (trimmed text) ≤ width_of f → IsText (width_of f) (trimmed text)
 cut_text f text printable short = record { short = short; printable = printable_cut text printable; cut = trimmed-trimmed text }
@@ -249,12 +232,9 @@ module _ (t : HeaderLists) (i : ℕ) (d : HeaderField) (less : i < text_count) w
 abbrev pub AreCut : ℕ → HeaderLists → HeaderLists → Type 0
 AreCut i t x = (j : ℕ) → j < i → get_or x j [] ≡ trimmed (get_or t j [])
 
-pub one_cut : (i : ℕ) (t x : HeaderLists) → length x ≡ text_count → i < text_count → AreCut i t x → AreCut (i + 1) t (set x i (trimmed (get_or t i [])))
-one_cut i t x size few cut = grind (arith, equal_or, get_or-set_same, get_or-set_other)
-
 pub one_stored : (t x : HeaderLists) {new : HeaderLists} {i : ℕ} (d : HeaderField) {text : List ℕ} → i < text_count → length x ≡ text_count → AreCut i t x
     → text ≡ text_of t (get_or fields i d) → new ≡ set x (place_of (get_or fields i d)) (trimmed text) → AreCut (i + 1) t new × (length new ≡ text_count)
-one_stored t x d less size cut is value = grind (arith, get_or_default, place_back, one_cut, length-set)
+one_stored t x d less size cut is value = grind (arith, get_or_default, place_back, equal_or, get_or-set_same, get_or-set_other, length-set)
 
 pub all_cut : (t x : HeaderLists) → length t ≡ text_count → length x ≡ text_count → AreCut text_count t x → x ≡ trimmed_texts t
 unfolding trimmed

@@ -37,21 +37,15 @@ code_reads_back s h = search rules
 pub code_of_one : (system : System) (s : SignalAt) (code : List ℕ) → IsSignal s → s.system ≡ system → code ≡ code_of s → signal_of_code system code ≡ Some s
 code_of_one system s code listed same is = grind (arith, code_reads_back)
 
-four_more : (m : ℕ) → suc (suc (suc (suc (4 * m)))) ≡ 4 * suc m
-four_more m = omega arith
-
 pub length-types_of : (cs : List (List ℕ)) → length (types_of cs) ≡ 4 * length cs
 length-types_of [] = refl
-length-types_of (c ∷ cs) = ap (λ n. suc (suc (suc (suc n)))) (length-types_of cs) ∙ four_more (length cs)
-
-first_four : (c : List ℕ) (rest : List (List ℕ)) (r : ℕ) (e : List ℕ) → r < 4 → get_or (type_of 0 c ∷ type_of 1 c ∷ type_of 2 c ∷ type_of 3 c ∷ rest) r e ≡ type_of r c
-first_four c rest r e h = grind arith
+length-types_of (c ∷ cs) = ap (λ n. suc (suc (suc (suc n)))) (length-types_of cs) ∙ (omega arith)
 
 pub types_at : (cs : List (List ℕ)) (q r : ℕ) (d e : List ℕ) → q < length cs → r < 4 → get_or (types_of cs) (4 * q + r) e ≡ type_of r (get_or cs q d)
 types_at cs q r d e h k =
     let four = λ (c : List ℕ). type_of 0 c ∷ type_of 1 c ∷ type_of 2 c ∷ type_of 3 c ∷ [] in
     let before : length (types_of (take q cs)) ≡ 4 * q = length-types_of (take q cs) ∙ ap (λ n. 4 * n) (simp length-take (omega (arith, h))) in
-    ap (λ n. get_or (types_of cs) (n + r) e) (sym before) ∙ get_or-flat_map four cs q r d e h k ∙ first_four (get_or cs q d) [] r e k
+    ap (λ n. get_or (types_of cs) (n + r) e) (sym before) ∙ get_or-flat_map four cs q r d e h k ∙ (grind arith)
 
 quarter : (i n : ℕ) → i < 4 * n → i / 4 < n
 quarter i n h = omega (arith, h)
@@ -59,19 +53,13 @@ quarter i n h = omega (arith, h)
 fourth : (k : ℕ) → 4 * k / 4 ≡ k
 fourth k = omega arith
 
-split : (i : ℕ) → i ≡ 4 * (i / 4) + i % 4
-split i = omega arith
-
 pub type_here : (cs : List (List ℕ)) (i : ℕ) (e : List ℕ) → i < 4 * length cs → get_or (types_of cs) i e ≡ type_of (i % 4) (get_or cs (i / 4) [])
-type_here cs i e h = ap (λ n. get_or (types_of cs) n e) (split i) ∙ types_at cs (i / 4) (i % 4) [] e (quarter i (length cs) h) (omega arith)
-
-same_code : (s : SignalAt) (system : System) (index : ℕ) → s.index ≡ index → s.system ≡ system → code_of s ≡ code_of (record { system = system; index = index })
-same_code s system index p q = ap (λ x. code_of (record { system = x; index = s.index })) q ∙ ap (λ x. code_of (record { system = system; index = x })) p
+type_here cs i e h = ap (λ n. get_or (types_of cs) n e) (omega arith) ∙ types_at cs (i / 4) (i % 4) [] e (quarter i (length cs) h) (omega arith)
 
 -- the type at an index of a system's types
 pub signal_type : (system : System) (signals : List ℕ) (s : SignalAt) (i : ℕ) → i < 4 * length signals → s.index ≡ slice_index signals (i / 4) → s.system ≡ system
     → type_of (i % 4) (code_of s) ≡ get_or (types_of (codes_of system signals)) i []
-signal_type system signals s i h p q = grind (arith, length-map, same_code, get_or-map, quarter, type_here)
+signal_type system signals s i h p q = grind (arith, length-map, get_or-map, quarter, type_here)
 
 -- the number of a system's types
 pub length-system_types : (system : System) (signals : List ℕ) → length (types_of (codes_of system signals)) ≡ 4 * length signals
@@ -89,13 +77,10 @@ pub type_more : (types : List (List ℕ)) {start i : ℕ} {x : List ℕ} (front 
     → new ≡ front ++ columns (take ((i + 1) - start) (drop start types))
 type_more types front low high is before more = grind (arith, common_steps, length-drop, get_or-drop, place_of, take_more, flat_map-append)
 
-same_take : (types : List (List ℕ)) (m n : ℕ) → length types ≤ m → length types ≤ n → take m types ≡ take n types
-same_take types m n a b = take_all m types a ∙ sym (take_all n types b)
-
 -- the line is full, or all types are in it
 pub types_done : (types : List (List ℕ)) (row i : ℕ) (front : List ℕ) {text : List ℕ} → 13 * row ≤ i → i ≤ 13 * row + 13 → (i < 13 * row + 13 → length types ≤ i)
     → text ≡ front ++ columns (take (i - 13 * row) (drop (13 * row) types)) → text ≡ front ++ type_columns types row
-types_done types row i front low high end is = grind (arith, cases_lt, length-drop, same_take)
+types_done types row i front low high end is = grind (arith, cases_lt, length-drop, take_all)
 
 -- ---- signals of a system, at their indices
 
@@ -161,9 +146,7 @@ row_shown system all row =
     let m = signals_begun (row + 1) in
     ap (λ cs. columns (take 13 (drop (13 * row) (types_of cs)))) (sym (take-map f m all))
     ∙ ap (λ ts. columns (take 13 (drop (13 * row) ts))) (types_take m (codes_of system all))
-    ∙ ap columns (row_take (types_of (codes_of system all)) (13 * row) (4 * m) (enough row)) where
-      enough : (row : ℕ) → 13 * row + 13 ≤ 4 * ((13 * (row + 1) + 3) / 4)
-      enough row = omega arith
+    ∙ ap columns (row_take (types_of (codes_of system all)) (13 * row) (4 * m) (omega arith))
 
 -- ---- none comes twice
 
@@ -238,9 +221,6 @@ pub count_read : (system : System) (all line : List ℕ) → AreTypes system all
     → digits_in (take 3 (drop 3 line)) / 4 ≡ length all
 count_read system all line are bound is = grind (arith, common_steps, few_types, count_shown, digits_in-whole, fourth)
 
-shorter_still : {X : Type 0} (n : ℕ) (xs : List X) → length (take n xs) ≤ length xs
-shorter_still n xs = simp length-take (omega arith)
-
 -- the items that were read first are still the first
 pub still_grows : {X : Type 0} (old xs ys : List X) → take (length old) xs ≡ old → take (length xs) ys ≡ xs → take (length old) ys ≡ old
-still_grows old xs ys e f = grind (arith, shorter_still, take-take)
+still_grows old xs ys e f = grind (arith, length-take, take-take)

@@ -72,15 +72,6 @@ pub whole_part : {r : Reading} (es : List Stamped) (e : Stamped) {input left : O
     → HasReadTo r (es ++ e ∷ []) input left
 whole_part es e expected outside part = grind (arith, common_steps)
 
-is_whole : (r : Reading) (es : List Stamped) (e : Stamped) {input left : Option (List ℕ)} (expected : Expected) → expected ≡ Epoch → HasReadTo r (es ++ e ∷ []) input left → HasReadPartAt expected r es e input left
-is_whole r es e {input} {left} expected is read = subst (λ (d : Expected). HasReadPartAt d r es e input left) (sym is) read
-
--- a line adds a satellite to the epoch
-pub row_added : (old new : Reading) (es : List Stamped) (e : Stamped) {input left : Option (List ℕ)} (added : AddedRow) → Adds added old.parser_state new.parser_state → ExpectsRow old.parser_state.expected
-    → old.parser_state.change ≡ e.change → old.parser_state.time ≡ e.time → HasRead new (with_line added new.parser_state (record { epochs = es; rows = e.rows })) input left
-    → HasReadPart new es (with_read e new.parser_state.last_read) input left × (plan_in new ≡ plan_in old)
-row_added old new es e added adds inside change time read = grind (arith, common_steps, is_part, is_whole)
-
 pub not_pushed : {A : Type 0} (xs : List A) (x : A) → xs ++ x ∷ [] ≡ [] → ⊥
 not_pushed xs x e = grind (arith, common_steps)
 
@@ -91,11 +82,7 @@ are_read s expected sound some = grind (arith, common_steps)
 pub row_read : (old new : Reading) (es : List Stamped) (e : Stamped) (input before left : Option (List ℕ)) (o : Option AddedRow) → ExpectsRow old.parser_state.expected → HasReadPart old es e input before
     → ReadsNextLine old new (record { epochs = es; rows = e.rows }) input left (Ok o) → AddsOrEnds old new (Ok o)
     → HasReadPart new es (with_read e new.parser_state.last_read) input left × (plan_in new ≡ plan_in old) × (new.count ≡ old.count + 1) × (is_some o ≡ true)
-row_read old new es e input before left None inside part goes adds = absurd (subst ExpectsRow adds.0 inside)
-row_read old new es e input before left (Some added) inside part goes adds =
-    let (read, change, time) = open_part old.parser_state.expected inside part in
-    let (more, plan) = row_added old new es e added adds inside change time goes.0 in
-    (more, plan, goes.1, refl)
+row_read old new es e input before left added inside part goes adds = grind (arith, common_steps, open_part, is_part)
 
 last_of : {A : Type 0} (P : A → Type 0) (xs : List A) (x : A) → All P (xs ++ x ∷ []) → P x
 last_of P [] x all = All-head P x [] all

@@ -1,6 +1,6 @@
 -- A date and time of day is read back from its columns.
 use Rattle.rinex_file.proofs.HeaderRows.Types.{content_first}
-use Rattle.rinex_file.proofs.Names.{length-right, length-padded, length-fixed, not_negative, digits_in-right, digits_in-fixed, digits_in-padded, digits_in-whole, day_length, arith, ◌≡◌, ℕ, zero, suc, ◌+◌, ◌*◌, ◌/◌, ◌%◌, ◌^◌, ◌<◌, ◌≤◌, List, [], ◌∷◌, ◌++◌, refl, sym, ap, ◌∙◌, length, get_or, take, drop, append_assoc, decimal, pos, subst, lit<, codes, min, ⊤, is_negative, sign_text, length-decimal-le, take_at, drop_at, drop-drop, div-add-mod', Civil, IsCivilOf, civil_of, joined, right, padded, fixed, digits_in, epoch_line, first_line}
+use Rattle.rinex_file.proofs.Names.{length-right, length-padded, length-fixed, not_negative, digits_in-right, digits_in-fixed, digits_in-padded, digits_in-whole, arith, ◌≡◌, ℕ, zero, suc, ◌+◌, ◌*◌, ◌/◌, ◌^◌, ◌<◌, ◌≤◌, List, [], ◌∷◌, ◌++◌, refl, sym, ap, ◌∙◌, length, get_or, take, drop, append_assoc, decimal, pos, subst, lit<, codes, min, ⊤, is_negative, sign_text, length-decimal-le, take_at, drop_at, drop-drop, div-add-mod', Civil, IsCivilOf, civil_of, joined, right, padded, fixed, digits_in, epoch_line, first_line}
 pub use Rattle.std.proofs.lemmas.Option.{none-some as none_some, same_Some}
 pub use Rattle.gnss_obs.proofs.WalkLaws.{same_civil}
 
@@ -51,10 +51,6 @@ is_whole width n some few fits = (length-right width (decimal n) (length-decimal
 is_six : (n : ℕ) → n < 10_000 → IsField digits_in (right 6 (decimal n)) (6, n)
 is_six n few = is_whole 6 n (omega arith) (omega (arith, few)) (omega (arith, few))
 
--- a blank and a number with a leading zero
-is_two : (n : ℕ) → n < 100 → IsField digits_in (32 ∷ padded 2 n) (3, n)
-is_two n h = (ap suc (length-padded 2 n (omega arith) (omega (arith, h)) (omega (arith, h))), digits_in-padded 2 n (omega arith) (omega (arith, h)) (omega (arith, h)))
-
 -- seconds in 11 columns or more
 is_second : (width s : ℕ) → 11 ≤ width → s < 60_000 → IsField digits_in (right width (fixed 7 (pos (s * 10_000)))) (width, s * 10_000)
 is_second width s wide h =
@@ -100,7 +96,7 @@ epoch_parts t n =
 
 epoch_are : (t : Civil) (n : ℕ) → HasColumns t → n < 1000 → AreFields digits_in (epoch_parts t n) (date_fields t 3 11 ((3, 0) ∷ (3, n) ∷ []))
 unfolding epoch_parts
-epoch_are t n is few = grind (arith, is_whole, is_two, is_second)
+epoch_are t n is few = grind (arith, is_whole, length-padded, digits_in-padded, is_second)
 
 in_parts : (t : Civil) (n : ℕ) → epoch_line t n ≡ joined (epoch_parts t n) ++ (10 ∷ [])
 unfolding epoch_line epoch_parts
@@ -133,11 +129,8 @@ first_shown t line is e =
 
 -- ---- one time has a date and time of day
 
-by_parts : (t u : ℕ) → t / day_length ≡ u / day_length → t % day_length ≡ u % day_length → t ≡ u
-by_parts t u d c = sym (div-add-mod' t day_length) ∙ ap (λ q. q * day_length + t % day_length) d ∙ ap (λ r. u / day_length * day_length + r) c ∙ div-add-mod' u day_length
-
 pub one_time : (t u : ℕ) (c : Civil) → IsCivilOf t c → IsCivilOf u c → t ≡ u
-one_time t u c is also = grind (arith, by_parts)
+one_time t u c is also = grind (arith, div-add-mod')
 
 -- ---- the date and time of day of the numbers that were read
 

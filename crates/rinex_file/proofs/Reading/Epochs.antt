@@ -62,9 +62,6 @@ pub values_more : (v : StationValues) (es : List Stamped) (x : Stamped) → valu
 values_more v [] x = refl
 values_more v (e ∷ es) x = values_more (changed_by v e.change) es x
 
-first_more : (es : List Stamped) (x : Stamped) → IsFirstSame es → (es ≡ [] → x.change ≡ None) → IsFirstSame (es ++ x ∷ [])
-first_more v0 x h k = grind arith
-
 -- ---- a file that continues with these lines
 
 pub file_value : (s : Progress) (v : FileValue) (left : List (List ℕ)) → HasLinesLeft s v left → IsFileValue v
@@ -124,9 +121,8 @@ from_others {s} {v} {line} {left} (e ∷ es) never is value starts rest = by e.c
   by : (c : Option StationValues) → e.change ≡ c → EpochNext s None v line left
   by None h = next_with e es is value starts h (rest ∙ ap (λ l. l ++ flat_map stamped_lines es) (lines_are e None h))
   by (Some w) h =
-      let valid : IsFileValue (file_with s (s.epochs ++ e ∷ es)) = subst IsFileValue value is in
       let text : line ∷ left ≡ lines_with (Some w) e ++ flat_map stamped_lines es = rest ∙ ap (λ l. l ++ flat_map stamped_lines es) (lines_are e (Some w) h) in
-      absurd (never (some_epochs s.epochs es e w valid.first h, (cons_parts _ _ _ _ text).0))
+      absurd (never (some_epochs s.epochs es e w (subst IsFileValue value is).first h, (cons_parts _ _ _ _ text).0))
 
 pub epoch_next : (s : Progress) (c : Option StationValues) (v : FileValue) (line : List ℕ) (left : List (List ℕ)) → s.expected ≡ epoch_after c → (c ≡ None → NoEvent s line) → HasLinesLeft s v (line ∷ left) → EpochNext s c v line left
 unfolding HasLinesLeft
@@ -207,9 +203,6 @@ epoch_shows s (Some w) t n line expected none shown taken are =
 
 -- ---- what holds after the first line of an epoch is accepted
 
-no_rows : (signals : System → ℕ) → AreSatelliteRows signals []
-no_rows signals = record { each = All-nil (IsSatelliteRow signals); rise = λ k h. absurd (omega (arith, h)) }
-
 pub sound_between : (s : Progress) → s.expected ≡ Epoch → IsSound s → AreRead s × (s.rows ≡ [])
 sound_between s expected sound = subst (λ d. IsSoundAt s d) expected sound
 
@@ -217,12 +210,9 @@ sound_between s expected sound = subst (λ d. IsSoundAt s d) expected sound
 pub sound_epoch : (s : Progress) (c : Option StationValues) → s.expected ≡ epoch_after c → IsSound s → AreRead s × (s.rows ≡ []) × IsChange (values_now s) c × (s.epochs ≡ [] → c ≡ None)
 sound_epoch s c expected sound = grind (arith, sound_between)
 
-room_left : (rows : List SatelliteRow) (n most : ℕ) → rows ≡ [] → n ≤ most → length rows + n ≤ most
-room_left rows n most none room = let size : length rows ≡ 0 = ap length none in omega (arith, size, room)
-
 pub sound_begun : {s : Progress} {c : Option StationValues} {t n : ℕ} → AreRead s → s.rows ≡ [] → MayBegin s t n → IsTime t → IsChange (values_now s) c → (s.epochs ≡ [] → c ≡ None)
     → IsSound (begun_at s c t n)
-sound_begun read none may time change same = grind (arith, no_rows, room_left)
+sound_begun read none may time change same = grind (arith, All-nil)
 
 -- ---- the line of a satellite
 
@@ -324,11 +314,6 @@ last_shows s line expected row shown taken are =
     all ∙ ap (λ (m : ℕ). whole_lines s.known.shown s.epochs ++ part_lines e m) n ∙ append_assoc head (flat_map stamped_lines s.epochs) (stamped_lines e)
     ∙ ap (λ l. head ++ l) (ap (λ l. flat_map stamped_lines s.epochs ++ l) (sym (append-nil (stamped_lines e))) ∙ sym (flat_map-append stamped_lines s.epochs (e ∷ [])))
 
-from_none : (s : Progress) {v : FileValue} {left : List (List ℕ)} (more : List SatelliteRow) (others : List Stamped) → length more ≡ 0
-    → v ≡ file_with s (s.epochs ++ stamped s (s.rows ++ more) ∷ others) → StartsAt s.known.shown.first (s.epochs ++ stamped s (s.rows ++ more) ∷ others)
-    → left ≡ map satellite_line more ++ flat_map stamped_lines others → IsAtEpoch (with_epoch s) v left
-from_none s more others count value starts rest = grind (arith, common_steps, append-nil, append_assoc)
-
 -- ---- what holds after the line of a satellite is accepted
 
 pub sound_open : (s : Progress) (n : ℕ) → s.expected ≡ Satellite n → IsSound s → AreRead s × IsBegun s × (0 < n) × (length s.rows + n ≤ most_rows (planned_in s.known.shown.plan))
@@ -343,9 +328,6 @@ few_at s n expected sound = few_signals_of s.known.shown.plan (sound_open s n ex
 seen_more : (signals : System → ℕ) (rows : List SatelliteRow) (row : SatelliteRow) → AreSatelliteRows signals rows → IsSatelliteRow signals row → IsStrictlyIncreasing (map rank_of rows ++ rank_of row ∷ [])
     → AreSatelliteRows signals (rows ++ row ∷ [])
 seen_more signals rows row these is rise = grind (arith, common_steps, All-push)
-
-starts_more : (first : ℕ) (es : List Stamped) (x : Stamped) → StartsAt first es → (es ≡ [] → first ≡ x.time) → StartsAt first (es ++ x ∷ [])
-starts_more first v1 x starts none = grind arith
 
 module _ (s : Progress) (n : ℕ) {left : ℕ} (expected : s.expected ≡ Satellite left) (sound : IsSound s) {row : SatelliteRow}
     (is : IsSatelliteRow (planned_in s.known.shown.plan) row) (rise : IsStrictlyIncreasing (map rank_of s.rows ++ rank_of row ∷ [])) where
@@ -367,8 +349,8 @@ module _ (s : Progress) (n : ℕ) {left : ℕ} (expected : s.expected ≡ Satell
             some = omega (arith, size);
           });
           rising = subst IsStrictlyIncreasing (sym (map-append time_stamped s.epochs (stamped s (s.rows ++ row ∷ []) ∷ []))) begun.later;
-          starts = starts_more s.known.shown.first s.epochs (stamped s (s.rows ++ row ∷ [])) read.starts begun.first;
-          first = first_more s.epochs (stamped s (s.rows ++ row ∷ [])) read.first begun.same;
+          starts = grind (arith, read.starts, begun.first);
+          first = grind (arith, read.first, begun.same);
           changes = changes_more s.known.shown.values s.epochs (stamped s (s.rows ++ row ∷ [])) read.changes begun.change;
         },
         refl,
@@ -381,7 +363,7 @@ pub last_taken : (s : Progress) (line : List ℕ) → s.expected ≡ Satellite 1
 unfolding HasLinesLeft
 last_taken s line expected row shown only v left on =
     let here : IsInEpoch (with_row s row 0) 0 v left = (row_taken s 0 line expected row shown only v left on).1 in
-    (on.0, from_none (with_row s row 0) here.more here.others here.count here.value here.starts here.rest)
+    (on.0, grind (arith, common_steps, append-nil, append_assoc, here.count, here.value, here.starts, here.rest))
 
 -- ---- a line that adds nothing
 

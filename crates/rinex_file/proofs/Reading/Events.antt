@@ -1,19 +1,16 @@
 -- The steps of a reading from one line of an event to the next.
 use Rattle.rinex_file.proofs.OneReading.{has-point}
 use Rattle.rinex_file.proofs.Reading.Epochs.{lines_with, lines_are, changes_midst, sound_between, at_expected, file_value, cons_parts}
-use Rattle.rinex_file.proofs.Names.{has-append, common_steps, arith, lit<, ◌≡◌, ◌≢◌, ℕ, zero, suc, ◌<◌, ◌^◌, get_or, List, [], ◌∷◌, ◌++◌, refl, sym, ap, subst, ◌∙◌, length, drop, append_assoc, Option, Some, None, true, false, ⊤, ◌||◌, flat_map, civil_of, Civil, StationValues, Expected, Epoch, EventPosition, EventHeight, EventEpoch, Stamped, FileValue, IsFileValue, IsChange, position_line, height_line, epoch_line, joined, has, stamped_lines, event_line, GoesOnWithLine, ShowsLine, Progress, file_with, StartsAt, IsAt, IsAtEpoch, IsInEvent, IsPosition, position_of, HasLinesLeft, expected_next, IsSound, values_now, drop-cons}
+use Rattle.rinex_file.proofs.Names.{has-append, common_steps, arith, lit<, ◌≡◌, ℕ, zero, suc, ◌<◌, ◌^◌, get_or, List, [], ◌∷◌, ◌++◌, refl, sym, ap, subst, ◌∙◌, length, drop, append_assoc, Option, Some, None, true, false, ⊤, ◌||◌, flat_map, civil_of, Civil, StationValues, Expected, Epoch, EventPosition, EventHeight, EventEpoch, Stamped, FileValue, IsFileValue, IsChange, position_line, height_line, epoch_line, joined, has, stamped_lines, event_line, GoesOnWithLine, ShowsLine, Progress, file_with, StartsAt, IsAt, IsAtEpoch, IsInEvent, IsPosition, position_of, HasLinesLeft, expected_next, IsSound, values_now, drop-cons}
 
 -- ---- an event's line isn't that of an epoch, which has a point
 
 has_after : (a b : List ℕ) → has 46 b ≡ true → has 46 (a ++ b) ≡ true
 has_after a b h = grind (arith, has-append)
 
-has_front : (a b : List ℕ) → has 46 a ≡ true → has 46 (a ++ b) ≡ true
-has_front a b h = has-append 46 a b ∙ ap (λ x. x || has 46 b) h
-
 has_field : (fs : List (List ℕ)) (k : ℕ) → k < length fs → has 46 (get_or fs k []) ≡ true → has 46 (joined fs) ≡ true
 has_field [] k less h = absurd (omega (arith, less))
-has_field (f ∷ fs) zero less h = has_front f (joined fs) h
+has_field (f ∷ fs) zero less h = has-append 46 f (joined fs) ∙ ap (λ x. x || has 46 (joined fs)) h
 has_field (f ∷ fs) (suc k) less h = has_after f (joined fs) (has_field fs k (omega (arith, less)) h)
 
 has_point : (t : Civil) (n : ℕ) → has 46 (epoch_line t n) ≡ true
@@ -39,11 +36,9 @@ event_begins s {v} {line} {left} (e ∷ es) shown value starts rest = by e.chang
   by : (c : Option StationValues) → e.change ≡ c → IsInEvent (expected_next s EventPosition) 1 (λ w. ⊤) v left
   by None h =
       let text : line ∷ left ≡ lines_with None e ++ Others es = rest ∙ ap (λ l. l ++ Others es) (lines_are e None h) in
-      let same : line ≡ epoch_line (civil_of e.time) (length e.rows) = cc in
-      absurd (not_epoch (civil_of e.time) (length e.rows) (sym shown ∙ same))
+      absurd (not_epoch (civil_of e.time) (length e.rows) (sym shown ∙ cc))
   by (Some w) h =
       let text : line ∷ left ≡ lines_with (Some w) e ++ Others es = rest ∙ ap (λ l. l ++ Others es) (lines_are e (Some w) h) in
-      let after : left ≡ drop 1 (lines_with (Some w) e) ++ Others es = ap (drop 1) text in
       record {
         next = e;
         values = w;
@@ -52,7 +47,7 @@ event_begins s {v} {line} {left} (e ∷ es) shown value starts rest = by e.chang
         starts = starts;
         change = h;
         shown = tt;
-        rest = after ∙ ap (λ l. drop 1 l ++ Others es) (sym (lines_are e (Some w) h));
+        rest = (ap (drop 1) text) ∙ ap (λ l. drop 1 l ++ Others es) (sym (lines_are e (Some w) h));
       }
 
 -- the event with another line expected and other knowledge of its station values
@@ -113,8 +108,7 @@ pub position_taken : (s : Progress) (p : StationValues) (line : List ℕ) → s.
     → GoesOnWithLine s (expected_next s (EventHeight p)) line
 unfolding HasLinesLeft
 position_taken s p line expected only v left on =
-    let d = EventHeight p in
-    let next = position_next s d v line left expected on in
+    let next = position_next s (EventHeight p) v line left expected on in
     let here = next.event in (
       on.0,
       event_with here (only (position_of here.values) (let are = next.change.0 in (are.x, are.y, are.z, refl)) next.shown) here.rest,
@@ -163,11 +157,8 @@ height_shows s p h line expected shown = grind (arith, common_steps, lines_more)
 
 -- ---- what holds after a line of an event is accepted
 
-some_read : (es : List Stamped) → 0 < length es → es ≢ []
-some_read es some none = let size : length es ≡ 0 = ap length none in omega (arith, size, some)
-
 pub sound_event : (s : Progress) → s.expected ≡ Epoch → IsSound s → 0 < length s.epochs → IsSound (expected_next s EventPosition)
-sound_event s expected sound some = grind (arith, sound_between, some_read)
+sound_event s expected sound some = grind (arith, sound_between)
 
 pub sound_position : (s : Progress) (p : StationValues) → s.expected ≡ EventPosition → IsSound s → IsPosition p → IsSound (expected_next s (EventHeight p))
 sound_position s p expected sound is = grind arith

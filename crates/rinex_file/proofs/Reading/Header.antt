@@ -7,9 +7,6 @@ use Rattle.rinex_file.proofs.Reading.Lines.{consumed}
 use Rattle.rinex_file.proofs.Reading.Epochs.{lines_with, lines_are, sound_open, sound_between, at_expected, file_value}
 use Rattle.rinex_file.proofs.Names.{joined, ExpectsHeader, ExpectsRow, IsEpochBegun, true, file_text, is_of_types, HasHeader, IsHeaderBegun, shown_text, append_assoc, MayRunOut, common_steps, Has, GoesOn, shown_of, arith, ◌≡◌, ◌∙◌, sym, ap, refl, ℕ, zero, suc, ◌+◌, ◌<◌, pos, List, [], ◌∷◌, ◌++◌, length, Option, IfSome, lit<, subst, take, drop, append-nil, inl, inr, AreBegunWith, None, Some, ⊤, map, flat_map, All-head, All-nil, length-map, nil_from_length, StationValues, ParserState, Expected, Header, Epoch, EventPosition, EventHeight, EventEpoch, Satellite, IsChange, IsFileValue, AreBegun, IsEventBegun, header_lines, whole_lines, AreBefore, IsExpectedAt, Progress, IsPosition, shown_with, lines_after, stamped, Known, Shown, IsShown, IsHeadAt, file_with, StartsAt, IsInHeader, IsAt, IsAtEpoch, IsInEvent, position_of, HasLinesLeft, RefusesLine, IsSound, IsSoundAt, IsEventExpected, AreLinesAt, values_now, AreRead, AreLinesOf, History, FollowsHistory, progress_at, GoesOnWithLine, ShowsLine, IsTaken, SatelliteRow, Stamped, FileValue, satellite_line, event_lines, stamped_lines, file_lines, lines_of_parts, GoesTo, EndsHeader, NoneGoesOn}
 
-some_lines : (xs : List (List ℕ)) → (xs ≡ [] → ⊥) → 0 < length xs
-some_lines xs some = grind (arith, common_steps)
-
 -- ---- station values of a position that aren't these
 
 abbrev other_height : ℕ → ℕ
@@ -19,14 +16,8 @@ other_height (suc n) = 0
 abbrev other_values : StationValues → StationValues → StationValues
 other_values v p = record p { height = other_height v.height }
 
-small_height : (n : ℕ) → other_height n < 65_536
-small_height n = grind arith
-
-no_height : (n : ℕ) → other_height n ≡ n → ⊥
-no_height n e = grind arith
-
 is_change : (v p : StationValues) → IsPosition p → IsChange v (Some (other_values v p))
-is_change v p is = (record { x = is.0; y = is.1; z = is.2; height = small_height v.height }, λ e. no_height v.height (ap (λ (w : StationValues). w.height) e))
+is_change v p is = (record { x = is.0; y = is.1; z = is.2; height = grind arith }, λ e. grind (arith, ap (λ (w : StationValues). w.height) e))
 
 abbrev no_values : StationValues
 no_values = record { x = pos 0; y = pos 0; z = pos 0; height = 0 }
@@ -39,14 +30,13 @@ event_before s k values lines sound change are = record { h = s.known.shown; es 
 
 are_before : (s : Progress) (expected : Expected) (lines : List (List ℕ)) → IsSoundAt s expected → AreLinesAt s expected lines → AreBefore expected lines
 are_before s (Header place) lines sound are =
-    let at = sound.2 in
-    let one = some_shown s.known place at in
+    let one = some_shown s.known place sound.2 in
     let h = shown_with s.known one.p in
     record {
       h = h;
       left = lines_after h place;
       is = one.is;
-      some = some_lines (lines_after h place) (some_after h place at.expected);
+      some = grind (arith, common_steps, some_after h place sound.2.expected);
       are = split_at h place ∙ ap (λ l. l ++ lines_after h place) (sym (are h one.is one.has));
     }
 are_before s Epoch lines sound are = record { h = s.known.shown; es = s.epochs; whole = sound.0; are = are }
@@ -250,9 +240,6 @@ pub only_file : (s : Progress) → s.expected ≡ Epoch → (v : FileValue) → 
 unfolding HasLinesLeft
 only_file s expected v (is, at) = grind (arith, none_left, append-nil)
 
-pub no_file : (s : Progress) → s.expected ≡ Epoch → s.epochs ≡ [] → (v : FileValue) → HasLinesLeft s v [] → ⊥
-no_file s expected none v on = grind (arith, only_file, file_value)
-
 pub file_read : (s : Progress) → s.expected ≡ Epoch → IsSound s → 0 < length s.epochs → IsFileValue (file_with s s.epochs)
 file_read s expected sound some = grind arith
 
@@ -273,7 +260,7 @@ no_epochs es n size never = nil_from_length es (omega (arith, size, never))
 -- lines are missing
 pub unfinished : (c : ParserState) (h : History) (expected : Expected) → c.expected ≡ expected → FollowsHistory c h → ((expected ≡ Epoch) × (0 < c.counts.epochs) → ⊥) → (v : FileValue) → HasLinesLeft (progress_at c h) v [] → ⊥
 unfinished c h (Header place) same history never v on = header_unfinished (progress_at c h) place same history.sound v on
-unfinished c h Epoch same history never v on = no_file (progress_at c h) same (no_epochs h.epochs c.counts.epochs history.counted.epochs (λ some. never (refl, some))) v on
+unfinished c h Epoch same history never v on = grind (arith, only_file, file_value)
 unfinished c h EventPosition same history never v on = event_unfinished (progress_at c h) 1 (λ w. ⊤) (lit< tt) v (at_expected (progress_at c h) EventPosition same v [] on)
 unfinished c h (EventHeight p) same history never v on = event_unfinished (progress_at c h) 2 (λ w. position_of w ≡ p) (lit< tt) v (at_expected (progress_at c h) (EventHeight p) same v [] on)
 unfinished c h (EventEpoch w) same history never v on = event_unfinished (progress_at c h) 3 (λ x. x ≡ w) (lit< tt) v (at_expected (progress_at c h) (EventEpoch w) same v [] on)

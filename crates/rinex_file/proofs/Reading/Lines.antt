@@ -57,11 +57,8 @@ none_ahead r block e = grind arith
 
 -- ---- the bytes of a line if no more is read
 
-pub is_full : (n most : ℕ) → true ≡ nat_eq n most → n ≡ most
-is_full n most same = grind arith
-
 pub is_empty : (xs : List ℕ) → true ≡ nat_eq (length xs) 0 → xs ≡ []
-is_empty xs same = grind (arith, common_steps, is_full)
+is_empty xs same = grind (arith, common_steps)
 
 pub not_empty : (n : ℕ) → false ≡ nat_eq n 0 → 0 < n
 not_empty n other = grind arith
@@ -83,8 +80,7 @@ same_body [] [] x y h k e = (refl, cc)
 same_body [] (b ∷ bs) x y h k e = grind (arith, or_parts)
 same_body (a ∷ us) [] x y h k e = grind (arith, or_parts)
 same_body (a ∷ us) (b ∷ bs) x y h k e =
-    let rest : us ++ 10 ∷ x ≡ bs ++ 10 ∷ y = cc in
-    let more = same_body us bs x y (or_parts (a == 10) (has 10 us) h).1 (or_parts (b == 10) (has 10 bs) k).1 rest in
+    let more = same_body us bs x y (or_parts (a == 10) (has 10 us) h).1 (or_parts (b == 10) (has 10 bs) k).1 cc in
     (cc, more.1)
 
 shape : (l body x : List ℕ) → l ≡ body ++ 10 ∷ [] → l ++ x ≡ body ++ 10 ∷ x
@@ -124,8 +120,7 @@ not_within : (body x long rest : List ℕ) → has 10 long ≡ false → length 
 not_within body x [] rest endless less e = absurd (omega (arith, less))
 not_within [] x (b ∷ bs) rest endless less e = grind (arith, or_parts)
 not_within (a ∷ us) x (b ∷ bs) rest endless less e =
-    let tail : us ++ 10 ∷ x ≡ bs ++ rest = cc in
-    not_within us x bs rest (or_parts (b == 10) (has 10 bs) endless).1 (omega (arith, less)) tail
+    not_within us x bs rest (or_parts (b == 10) (has 10 bs) endless).1 (omega (arith, less)) cc
 
 -- ---- lines after lines
 

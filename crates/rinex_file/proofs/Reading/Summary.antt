@@ -1,9 +1,6 @@
 -- The counts of a file that was read whole, and the times of its epochs.
 use Rattle.rinex_file.proofs.Reading.Lines.{said_of}
-use Rattle.rinex_file.proofs.Names.{refl, Reading, IfTextOfFile, IsSummaryOf, IsSummaryRead, common_steps, arith, ◌≡◌, sym, ap, subst, ℕ, ◌+◌, ◌<◌, List, [], length, Option, Some, IfSome, map, is_some, true, ParserState, EpochTimes, FileSummary, SatelliteRow, Stamped, FileValue, IsFileValue, time_stamped, file_text, History, AreTimesOrNone, IsSummary, IsTextWith, IsWhole, file_at}
-
-no_rows_more : (n m : ℕ) (rows : List SatelliteRow) → n ≡ m + length rows → rows ≡ [] → n ≡ m
-no_rows_more n m rows e none = let zero : length rows ≡ 0 = ap length none in omega (arith, e, zero)
+use Rattle.rinex_file.proofs.Names.{refl, Reading, IfTextOfFile, IsSummaryOf, IsSummaryRead, common_steps, arith, ◌≡◌, sym, subst, ℕ, ◌<◌, List, [], length, Option, Some, IfSome, map, is_some, true, ParserState, EpochTimes, FileSummary, Stamped, FileValue, IsFileValue, time_stamped, file_text, History, AreTimesOrNone, IsSummary, IsTextWith, IsWhole, file_at}
 
 some_times : (es : List Stamped) (times : Option EpochTimes) → AreTimesOrNone (map time_stamped es) times → 0 < length es → is_some times ≡ true
 some_times es times are some = grind (arith, common_steps)
@@ -12,7 +9,7 @@ pub has_times : (c : ParserState) (h : History) (input : Option (List ℕ)) → 
 has_times c h input whole = some_times h.epochs c.times whole.history.counted.times whole.is.some
 
 pub summed : {c : ParserState} (s : FileSummary) → s.counts ≡ c.counts → c.times ≡ Some s.times → {h : History} {input : Option (List ℕ)} → IsWhole c h input → IsSummary s (file_at c h)
-summed s counts times {h} whole = let counted = whole.history.counted in grind (arith, no_rows_more, subst (AreTimesOrNone (map time_stamped h.epochs)) times counted.times)
+summed s counts times {h} whole = let counted = whole.history.counted in grind (arith, subst (AreTimesOrNone (map time_stamped h.epochs)) times counted.times)
 
 -- what holds of the file that was read whole
 module _ {c : ParserState} {h : History} {input : Option (List ℕ)} (whole : IsWhole c h input) (Holds : FileValue → Type 0) (holds : Holds (file_at c h)) where

@@ -2,7 +2,7 @@
 use Rattle.rinex_file.proofs.HeaderRows.Texts.{trimmed-blanks}
 use Rattle.rinex_file.proofs.Rows.Cells.{none_fit, none_put, none_text, replaced}
 use Rattle.rinex_file.proofs.Rows.Sizes.{length-signals}
-use Rattle.rinex_file.proofs.Names.{max, pow_mono, nat_lt, take-add, bit_at, bit_not, leading_zeros, w64, All-replicate, All-set, All-take, length-map, get_or-drop, get_or-set_same, get_or-set_other, take-append-drop, take-take, bit_at-lt, bit_at_above, bit_at_and, bit_at_clear_other, bit_at_clear_same, bit_at_not, bit_at_set_other, bit_at_set_same, bit_and, bit_or, and_le_l, leading_length, one_shl, or_lt, common_steps, arith, ◌≡◌, ◌≢◌, ◌∙◌, sym, ap, ap₂, refl, subst, ℕ, zero, suc, ◌+◌, ◌*◌, ◌-◌, ◌<◌, ◌≤◌, ◌%◌, ◌^◌, Bool, true, false, List, [], ◌∷◌, ◌++◌, take, drop, length, replicate, get_or, append_assoc, length-append, slice_set, nat_eq, flat_map, All, length-drop, length-take-le, length-replicate, length-set, take-append-le, drop-append-le, drop-drop, drop-take, take_at, flat_map-append, map, drop_all, Cell, signal_values_at, SignalValues, no_signal_values, HaveRoom, trimmed, signal_text, most_signals, AreApart, HasColumns, IsBlankBut, values_at}
+use Rattle.rinex_file.proofs.Names.{max, pow_mono, nat_lt, take-add, bit_at, bit_not, leading_zeros, w64, All-replicate, All-set, All-take, length-map, get_or-drop, get_or-set_same, get_or-set_other, take-append-drop, take-take, bit_at-lt, bit_at_above, bit_at_and, bit_at_clear_other, bit_at_clear_same, bit_at_not, bit_at_set_other, bit_at_set_same, bit_and, bit_or, and_le_l, leading_length, one_shl, or_lt, common_steps, arith, ◌≡◌, ◌≢◌, ◌∙◌, sym, ap, ap₂, refl, subst, ℕ, zero, suc, ◌+◌, ◌*◌, ◌-◌, ◌<◌, ◌≤◌, ◌%◌, ◌^◌, Bool, true, false, List, [], ◌∷◌, ◌++◌, take, drop, length, replicate, get_or, append_assoc, slice_set, nat_eq, flat_map, All, length-drop, length-take-le, length-replicate, length-set, take-append-le, drop-append-le, drop-drop, drop-take, take_at, flat_map-append, map, drop_all, Cell, signal_values_at, SignalValues, no_signal_values, HaveRoom, trimmed, signal_text, most_signals, AreApart, HasColumns, IsBlankBut, values_at}
 use Rattle.std.proofs.Math.Pow.{pow-lt}
 
 -- ---- the columns of one signal are replaced
@@ -15,12 +15,9 @@ columns_put row text p {k} all v wide width is room less columns =
     let n = 64 * p in
     let s = 3 + 64 * p in
     let size = length-signals all room in
-    let rest : length row - 3 ≡ 64 * length all + 1 = sym (length-drop 3 row) ∙ ap length columns ∙ length-append t (32 ∷ []) ∙ ap (λ j. j + 1) size in
-    let long : length (take s row) ≡ s = length-take-le s row (omega (arith, rest, less)) in
     let a : drop 3 (take s row) ≡ take n t = drop-take 3 n row ∙ ap (take n) columns ∙ take-append-le n t (32 ∷ []) (omega (arith, size, less)) in
     let b : drop s row ≡ drop n t ++ 32 ∷ [] = sym (drop-drop n 3 row) ∙ ap (drop n) columns ∙ drop-append-le n t (32 ∷ []) (omega (arith, size, less)) in
     let far : 64 ≤ length (drop n t) = rw length-drop (omega (arith, size, less)) in
-    let c : drop k (drop s row) ≡ drop 64 (drop n t) ++ 32 ∷ [] = ap₂ drop width b ∙ drop-append-le 64 (drop n t) (32 ∷ []) far in
     grind (arith, common_steps, drop-append-le, replaced)
 
 pub front_kept : (row rest : List ℕ) (n : ℕ) → 3 + n ≤ length row → take 3 (take (3 + n) row ++ rest) ≡ take 3 row
@@ -96,9 +93,8 @@ less_without left p low is = by (nat_lt (without left p) left) refl where
   by : (b : Bool) → nat_lt (without left p) left ≡ b → without left p < left
   by true x = grind (arith, x)
   by false x =
-      let le = and_le_l left (bit_not w64 (1 * 2 ^ p % 2 ^ 64)) in
       let least : left ≤ without left p = grind (arith, x) in
-      let same : without left p ≡ left = omega (arith, le, least) in
+      let same : without left p ≡ left = omega (arith, and_le_l left (bit_not w64 (1 * 2 ^ p % 2 ^ 64)), least) in
       absurd (omega (arith, bit_at_clear_same w64 left p low, subst (λ n. bit_at n p ≡ 1) (sym same) is))
 
 -- those of a signal were blanked
@@ -109,7 +105,7 @@ value_blanked {left} {own} {p} {all} {row} {new} is apart columns h = record {
   shown = slice_set h.shown p no_signal_values;
   size = length-set h.shown p no_signal_values ∙ h.size;
   room = All-set HaveRoom h.shown p no_signal_values none_fit h.room;
-  columns = columns h.shown h.room within h.columns;
+  columns = columns h.shown h.room (omega (arith, h.size, low)) h.columns;
   few = few_without left p h.few;
   short = h.short;
   same = λ q covers. same q (nat_eq q p) refl covers;
@@ -118,13 +114,8 @@ value_blanked {left} {own} {p} {all} {row} {new} is apart columns h = record {
   low : p < most_signals
   low = is_signal left p h.few is
 
-  within : p < length h.shown
-  within = omega (arith, h.size, low)
-
   same : (q : ℕ) (b : Bool) → nat_eq q p ≡ b → bit_at (without left p) q ≤ bit_at own q → values_at (slice_set h.shown p no_signal_values) q ≡ values_at all q
-  same q true at covers =
-      let here = is_at p q at in
-      set_same h.shown p q no_signal_values at within ∙ sym (ap (values_at all) here ∙ h.only p (apart p is))
+  same q true at covers = grind (arith, common_steps, is_at, set_same)
   same q false at covers = set_other h.shown p q no_signal_values at ∙ h.same q (still (nat_lt q most_signals) refl) where
     still : (b : Bool) → nat_lt q most_signals ≡ b → bit_at left q ≤ bit_at own q
     still true x = let few : q < most_signals = grind (arith, x) in subst (λ n. n ≤ bit_at own q) (bit_at_clear_other w64 left p (omega (arith, low)) q (omega (arith, few)) (apart_at p q at)) covers
@@ -139,9 +130,8 @@ recast h few short same only = record { shown = h.shown; size = h.size; room = h
 
 over : (used own q : ℕ) → own < 2 ^ most_signals → q < most_signals → bit_at (bit_and used (bit_not w64 own)) q + bit_at own q ≡ max (bit_at used q) (bit_at own q)
 over used own q few low =
-    let both = bit_at_and used (bit_not w64 own) q in
     let not = bit_at_not w64 own q (omega (arith, few)) (omega (arith, low)) in
-    omega (arith, both, not, bit_at-lt used q, bit_at-lt own q)
+    omega (arith, bit_at_and used (bit_not w64 own) q, not, bit_at-lt used q, bit_at-lt own q)
 
 pub left_over : {used own : ℕ} {all : List SignalValues} {row : List ℕ} → own < 2 ^ most_signals → HasColumns used own all row → HasColumns (bit_and used (bit_not w64 own)) own all row
 left_over few h = grind (arith, recast, and_le_l, over, bit_at-lt, none_above)

@@ -1,11 +1,7 @@
 -- Columns of a text whose blanks at the end were cut.
 use Rattle.rinex_file.proofs.OneReading.{signals_once}
 use Rattle.rinex_file.proofs.Rows.Written.{line_is, text_is}
-use Rattle.rinex_file.proofs.Names.{common_steps, arith, ◌≡◌, ◌∙◌, sym, ap, refl, ℕ, ◌+◌, ◌-◌, ◌*◌, ◌/◌, ◌%◌, ◌<◌, ◌≤◌, List, [], ◌∷◌, ◌++◌, length, take, drop, replicate, get_or, append-nil, length-append, inl, inr, flat_map, All, Bool, true, false, list_any, cases_lt, length-drop, length-take, length-take-le, length_push, take_all, drop_all, take-append-le, drop-append-le, take-replicate, drop-replicate, length-replicate, Any-from_list_any, list_any-from_Any, take-append-add, drop-append-add, take-append_seam, SignalValues, SatelliteRow, no_signal_values, AreSignalValues, has_some_value, AreEntries, IsEnded, filled_to, padded, field, signal_text, satellite_line, letter, row_text, ReadsExactly, some_if, number_of}
-
--- a text of the whole width is not padded
-pub filled_whole : (n : ℕ) (text : List ℕ) → length text ≡ n → filled_to n text ≡ text
-filled_whole n text size = let none : n - length text ≡ 0 = omega (arith, size) in ap (λ (k : ℕ). text ++ replicate k 32) none ∙ append-nil text
+use Rattle.rinex_file.proofs.Names.{common_steps, arith, ◌≡◌, ◌∙◌, sym, ap, refl, ℕ, ◌+◌, ◌-◌, ◌*◌, ◌/◌, ◌%◌, ◌<◌, ◌≤◌, List, [], ◌∷◌, ◌++◌, length, take, drop, replicate, get_or, append-nil, length-append, inl, inr, flat_map, All, Bool, true, false, list_any, cases_lt, length-drop, length-take, length-take-le, length_push, take_all, drop_all, take-append-le, drop-append-le, take-replicate, drop-replicate, length-replicate, Any-from_list_any, list_any-from_Any, take-append-add, drop-append-add, take-append_seam, SignalValues, SatelliteRow, no_signal_values, AreSignalValues, has_some_value, AreEntries, IsEnded, filled_to, padded, field, signal_text, satellite_line, letter, ReadsExactly, some_if, number_of}
 
 -- the blanks after a text that was written over the first ones
 pub filled_over : (n : ℕ) (text blanks : List ℕ) → blanks ≡ replicate n 32 → text ++ drop (length text) blanks ≡ filled_to n text
@@ -19,7 +15,7 @@ filled_blank n at text end = grind (arith, drop_all, take_all)
 
 -- within the text
 pub filled_within : (n at : ℕ) (text : List ℕ) → at + n ≤ length text → filled_to n (take n (drop at text)) ≡ take n (drop at text)
-filled_within n at text less = grind (arith, length-drop, filled_whole, length-take-le)
+filled_within n at text less = grind (arith, length-drop, append-nil, length-take-le)
 
 -- at its end
 pub filled_end : (n at : ℕ) (text : List ℕ) → length text ≤ at + n → filled_to n (take n (drop at text)) ≡ filled_to n (drop at text)
@@ -50,12 +46,11 @@ filled_part_end n at k text fits short less size =
     let all = length-drop at text in
     let rest = drop at text in
     let blanks : List ℕ = replicate (n - length text) 32 in
-    let missing : k ≡ 64 - length rest = omega (arith, size) in
     ap (take 64) (drop-append-le at text blanks less)
     ∙ ap (λ (m : ℕ). take m (rest ++ blanks)) (sym size)
     ∙ take-append-add rest blanks k
     ∙ ap (λ l. rest ++ l) (take-replicate k (n - length text) 32 (omega (arith, fits, less, size, all)))
-    ∙ ap (λ (m : ℕ). rest ++ replicate m 32) missing
+    ∙ ap (λ (m : ℕ). rest ++ replicate m 32) (omega (arith, size))
     ∙ sym (filled_end 64 at text (omega (arith, size, all)))
 
 filled_part_after : (n at k : ℕ) (text : List ℕ) → at + 64 ≤ n → length text + k ≡ at → take 64 (drop at (filled_to n text)) ≡ filled_to 64 (take 64 (drop at text))
@@ -104,17 +99,8 @@ all_read text values size end short each is shown = grind (arith, take_all, leng
 
 -- ---- the line
 
--- the padded text of a line without its line feed
-pub filled_line : (line text : List ℕ) (n : ℕ) (t : List ℕ) → text ≡ take (length line - 1) line → line ≡ t ++ 10 ∷ [] → filled_to n text ≡ t ++ replicate (n - length t) 32
-filled_line line text n t cut is = grind (arith, common_steps, length_push, take-append_seam)
-
--- letter, number and signals
-row_is : (text : List ℕ) {letter : ℕ} (id n : ℕ) (es : List SignalValues) → 3 ≤ length text → get_or text 0 0 ≡ letter → padded 2 id ≡ get_or text 1 0 ∷ get_or text 2 0 ∷ []
-    → filled_to n (drop 3 text) ≡ flat_map signal_text es → filled_to (3 + n) text ≡ row_text letter id es
-row_is text id n es long first number signals = grind (arith, text_is)
-
 pub cut_line_is : (v : SatelliteRow) {line text : List ℕ} (n : ℕ) → IsEnded line → text ≡ take (length line - 1) line → 3 ≤ length text
     → get_or text 0 0 ≡ letter v.system → padded 2 (number_of v.system v.row.satellite) ≡ get_or text 1 0 ∷ get_or text 2 0 ∷ []
     → filled_to n (drop 3 text) ≡ flat_map signal_text v.row.signal_values → line ≡ satellite_line v
 cut_line_is v {line} {text} n ended cut long first number signals =
-    line_is v line (filled_to (3 + n) text) (3 + n) ended (λ t is. filled_line line text (3 + n) t cut is) (row_is text (number_of v.system v.row.satellite) n v.row.signal_values long first number signals)
+    line_is v line (filled_to (3 + n) text) (3 + n) ended (λ t is. grind (arith, common_steps, length_push, take-append_seam)) (grind (arith, text_is))

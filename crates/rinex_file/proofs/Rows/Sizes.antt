@@ -26,12 +26,9 @@ small_value v h = grind (arith, ints, most, least)
 pub stays : (v : ℤ) → FitsColumns v → to_z w64 (of_z w64 v) ≡ v
 stays v h = to_z-of_z w64 v (fits_signed_from_abs w64 v (grind (arith, ints, most, least)))
 
-two_after : (xs : List ℕ) (a b : ℕ) → length xs ≡ 14 → length (xs ++ a ∷ b ∷ []) ≡ 16
-two_after xs a b l = simp length-append (omega (arith, l))
-
 pub length-field : (v : Option ℤ) (lost strength : ℕ) → IfSome v FitsColumns → length (field v lost strength) ≡ 16
 unfolding field
-length-field v lost strength h = grind (arith, two_after, length-right, length-value)
+length-field v lost strength h = grind (arith, length-append, length-right, length-value)
 
 -- ---- the four fields of a signal
 
@@ -45,12 +42,9 @@ values_fit e is = record { c = is.c; l = is.l; d = is.d; s = strength_fits e.s i
 pub all_values_fit : (es : List SignalValues) → All AreSignalValues es → All HaveRoom es
 all_values_fit es all = All-weaker AreSignalValues HaveRoom values_fit es all
 
-four_lengths : (a b c d : List ℕ) → length a ≡ 16 → length b ≡ 16 → length c ≡ 16 → length d ≡ 16 → length (a ++ (b ++ (c ++ d))) ≡ 64
-four_lengths a b c d k l m n = simp length-append (omega (arith, k, l, m, n))
-
 pub length-room : (e : SignalValues) → HaveRoom e → length (signal_text e) ≡ 64
 unfolding signal_text
-length-room e h = grind (arith, four_lengths, length-field, h.c, h.l, h.d, h.s)
+length-room e h = grind (arith, length-append, length-field, h.c, h.l, h.d, h.s)
 
 pub length-signals : (es : List SignalValues) → All HaveRoom es → length (flat_map signal_text es) ≡ 64 * length es
 length-signals [] all = refl

@@ -1,5 +1,5 @@
 -- A text whose trailing blanks were cut is restored by padding it.
-use Rattle.rinex_file.proofs.Names.{common_steps, arith, ◌≡◌, ℕ, suc, ◌+◌, ◌-◌, ◌<◌, ◌≤◌, List, [], ◌∷◌, ◌++◌, length, replicate, take, get_or, refl, sym, ap, ◌∙◌, true, false, length-append, ◌==◌, if◌then◌else◌, length-replicate, take_all, take_more, eqb-true, trimmed, before_cut}
+use Rattle.rinex_file.proofs.Names.{common_steps, arith, ◌≡◌, ℕ, suc, ◌+◌, ◌-◌, ◌<◌, ◌≤◌, List, [], ◌∷◌, ◌++◌, length, replicate, take, get_or, refl, sym, ap, ◌∙◌, true, false, length-append, ◌==◌, if◌then◌else◌, length-replicate, take_more, eqb-true, trimmed, before_cut}
 
 -- some blanks make the text whole
 abbrev FilledTo : List ℕ → List ℕ → Type 0
@@ -37,9 +37,6 @@ unfolding trimmed
 trimmed-blank [] = refl
 trimmed-blank (b ∷ bs) = ap (before_cut b) (trimmed-blank bs)
 
-keeps : (b : ℕ) (xs : List ℕ) (c : ℕ) → before_cut b (xs ++ c ∷ []) ≡ b ∷ (xs ++ c ∷ [])
-keeps b xs c = grind (arith, common_steps)
-
 before_cut-other : (b : ℕ) → (b ≡ 32 → ⊥) → before_cut b [] ≡ b ∷ []
 before_cut-other b other = grind arith
 
@@ -47,7 +44,7 @@ before_cut-other b other = grind arith
 pub trimmed-other : (text : List ℕ) (b : ℕ) → (b ≡ 32 → ⊥) → trimmed (text ++ b ∷ []) ≡ text ++ b ∷ []
 unfolding trimmed
 trimmed-other [] b other = before_cut-other b other
-trimmed-other (x ∷ xs) b other = ap (before_cut x) (trimmed-other xs b other) ∙ keeps x xs b
+trimmed-other (x ∷ xs) b other = ap (before_cut x) (trimmed-other xs b other) ∙ (grind (arith, common_steps))
 
 -- the steps of a cut from the end
 pub cut_more : (text : List ℕ) (n : ℕ) → n < length text → get_or text n 0 ≡ 32 → trimmed (take (n + 1) text) ≡ trimmed (take n text)
@@ -56,17 +53,7 @@ cut_more text n h e = ap trimmed (take_more text n 0 h ∙ ap (λ b. take n text
 pub cut_enough : (text : List ℕ) (n : ℕ) → n < length text → (get_or text n 0 ≡ 32 → ⊥) → take (n + 1) text ≡ trimmed (take (n + 1) text)
 cut_enough text n h other = take_more text n 0 h ∙ sym (trimmed-other (take n text) (get_or text n 0) other) ∙ ap trimmed (sym (take_more text n 0 h))
 
--- and those on the whole text
-pub cut_last : (text rest : List ℕ) (n : ℕ) → n ≡ length text → 0 < n → get_or text (n - 1) 0 ≡ 32 → rest ≡ take (n - 1) text → trimmed rest ≡ trimmed text
-cut_last text rest n size some blank is = grind (arith, common_steps, cut_more, take_all)
-
-pub uncut : (text : List ℕ) (n : ℕ) → n ≡ length text → 0 < n → (get_or text (n - 1) 0 ≡ 32 → ⊥) → text ≡ trimmed text
-uncut text n size some other = grind (arith, common_steps, take_all, cut_enough)
-
-in_front : (b : ℕ) (l : List ℕ) → (b ≡ 32 → ⊥) → before_cut b l ≡ b ∷ l
-in_front b l other = grind (arith, before_cut-other)
-
 -- a first byte other than a blank is kept
 pub trimmed-front : (b : ℕ) (bs : List ℕ) → (b ≡ 32 → ⊥) → trimmed (b ∷ bs) ≡ b ∷ trimmed bs
 unfolding trimmed
-trimmed-front b bs other = in_front b (trimmed bs) other
+trimmed-front b bs other = grind (arith, before_cut-other)

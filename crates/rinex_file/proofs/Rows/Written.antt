@@ -1,8 +1,8 @@
 -- A line whose columns are those in which its values are written.
-use Rattle.rinex_file.proofs.Rows.Trimmed.{uncut, cut_last, length-trimmed}
+use Rattle.rinex_file.proofs.Rows.Trimmed.{length-trimmed, cut_more, cut_enough}
 use Rattle.rinex_file.proofs.Digits.Padded.{two_digits}
 use Rattle.rinex_file.proofs.HeaderRows.Texts.{trimmed-blanks}
-use Rattle.rinex_file.proofs.Names.{common_steps, arith, ◌≡◌, ◌≢◌, ◌∙◌, sym, ap, ap₂, refl, ℕ, ◌+◌, ◌-◌, ◌*◌, ◌≤◌, ◌<◌, List, [], ◌∷◌, ◌++◌, length, take, drop, replicate, get_or, take-append-drop, Bool, flat_map, ◌||◌, IsTrue, ◌↔◌, not, nat_eq, list_any, take-add, drop-drop, take_all, take_more, length-drop, length-take-le, length_push, get_or-take, get_or_append_left, ne_eqb, flat_map-append, list_any-append, SignalValues, SatelliteRow, has_some_value, trimmed, IsEnded, padded, field, signal_text, lli_byte, strength_byte, row_text, satellite_line, letter, number_of}
+use Rattle.rinex_file.proofs.Names.{common_steps, arith, ◌≡◌, ◌≢◌, ◌∙◌, sym, ap, ap₂, ℕ, ◌+◌, ◌-◌, ◌*◌, ◌≤◌, ◌<◌, List, [], ◌∷◌, ◌++◌, length, take, drop, replicate, get_or, take-append-drop, Bool, flat_map, ◌||◌, IsTrue, ◌↔◌, not, nat_eq, list_any, take-add, drop-drop, take_all, take_more, length-drop, length-take-le, length_push, get_or-take, get_or_append_left, ne_eqb, flat_map-append, list_any-append, SignalValues, SatelliteRow, has_some_value, trimmed, IsEnded, padded, field, signal_text, lli_byte, strength_byte, row_text, satellite_line, letter, number_of}
 use Rattle.std.proofs.Math.Bool.{or-false}
 
 -- ---- the columns of a signal
@@ -55,7 +55,7 @@ ended line long feed other =
       t,
       all ∙ take_more line n 0 (omega (arith, long)) ∙ ap (λ b. t ++ b ∷ []) feed,
       omega (arith, size, long),
-      sym (uncut t (length t) refl (omega (arith, size, long)) (λ blank. other (sym last ∙ blank))),
+      sym (grind (arith, common_steps, take_all, cut_enough)),
     )
 
 -- a line that is ended has no blank before its line feed
@@ -65,10 +65,8 @@ blank_end line (text, is, some, whole) blank =
     let size : length line ≡ n + 1 = ap length is ∙ length_push text 10 in
     let at : get_or text (n - 1) 0 ≡ 32 =
     sym (get_or_append_left text (10 ∷ []) 0 (n - 1) (omega (arith, some))) ∙ ap₂ (λ (l : List ℕ) (k : ℕ). get_or l k 0) (sym is) (omega (arith, size)) ∙ blank in
-    let shorter : length (trimmed (take (n - 1) text)) ≡ n = ap length (cut_last text (take (n - 1) text) n refl some at refl ∙ whole) in
-    let less = length-trimmed (take (n - 1) text) in
-    let part = length-take-le (n - 1) text (omega arith) in
-    omega (arith, shorter, less, part, some)
+    let shorter : length (trimmed (take (n - 1) text)) ≡ n = ap length ((grind (arith, common_steps, cut_more, take_all)) ∙ whole) in
+    omega (arith, shorter, length-trimmed (take (n - 1) text), length-take-le (n - 1) text (omega arith), some)
 
 other_byte : (b : ℕ) → IsTrue (not (nat_eq b 32)) → b ≡ 32 → ⊥
 other_byte b held e = grind arith

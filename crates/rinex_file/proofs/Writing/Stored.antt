@@ -2,14 +2,11 @@
 use Rattle.rinex_file.proofs.Reading.Epochs.{few_signals_of}
 use Rattle.rinex_file.proofs.Rows.Sizes.{few_numbers}
 use Rattle.rinex_file.proofs.Writing.Sent.{joined-append}
-use Rattle.rinex_file.proofs.Names.{common_steps, arith, ◌≡◌, ◌∙◌, sym, ap, ap₂, refl, ℕ, ◌+◌, ◌<◌, ◌≤◌, List, [], ◌∷◌, ◌++◌, length, take, get_or, append_assoc, append-nil, All, map, flat_map, take_all, take_more, flat_map-append, flat_map-map, System, civil_of, SatelliteRow, Stamped, FileValue, IsSatelliteRow, IsFileValue, header_lines, joined, epoch_line, satellite_line, shown_text, change_lines, stamped_lines, file_text, lines_of_parts, HasRoom, HaveRowsRoom, stamped_text, most_signals, shown_of}
-
-has_room : (signals : System → ℕ) (s : SatelliteRow) → ((t : System) → signals t ≤ most_signals) → IsSatelliteRow signals s → HasRoom s
-has_room signals s few is = (few_numbers s.system s.row.satellite is.row.satellite.1, is.row.signal_values, let whole = is.row.whole in omega (arith, whole, few s.system))
+use Rattle.rinex_file.proofs.Names.{common_steps, arith, ◌≡◌, ◌∙◌, sym, ap, ap₂, refl, ℕ, ◌+◌, ◌<◌, ◌≤◌, List, [], ◌∷◌, ◌++◌, length, take, get_or, append_assoc, append-nil, All, map, flat_map, take_all, take_more, flat_map-append, flat_map-map, civil_of, SatelliteRow, Stamped, FileValue, IsFileValue, header_lines, joined, epoch_line, satellite_line, shown_text, change_lines, stamped_lines, file_text, lines_of_parts, HaveRowsRoom, stamped_text, shown_of}
 
 -- each line has room for its satellite
 pub lines_have_room : (v : FileValue) → IsFileValue v → All HaveRowsRoom v.epochs
-lines_have_room v is = grind (arith, has_room, few_signals_of)
+lines_have_room v is = grind (arith, few_numbers, few_signals_of)
 
 joined_parts : (es : List Stamped) → joined (flat_map stamped_lines es) ≡ flat_map stamped_text es
 unfolding stamped_text

@@ -9,22 +9,17 @@ pub returns-in_err-write_whole-clause-part : goal.returns-in_err-write_whole-cla
 returns-in_err-write_whole-clause-part g c =
     let contents = g.W.Write.contents in
     let line = first_line c.as_slice.ensures.value c.epoch_line.ensures c.time.ensures c.satellites.ensures.count in
-    let b = contents c.write_whole.new.self.inner in
-    where_failed c.from_residual.result _ (epoch_first c.args.plan.now c.args.epoch.now.epoch (contents c.args.writer.now.inner) b line c.in_err-write_whole.ensures.part)
+    where_failed c.from_residual.result _ (epoch_first c.args.plan.now c.args.epoch.now.epoch (contents c.args.writer.now.inner) _ line c.in_err-write_whole.ensures.part)
 
 pub returns-in_err-write_systems-clause-part : goal.returns-in_err-write_systems-clause-part
 returns-in_err-write_systems-clause-part g c =
     let contents = g.W.Write.contents in
     let line = first_line c.as_slice.ensures.value c.epoch_line.ensures c.time.ensures c.satellites.ensures.count in
-    let b = contents c.write_whole.new.self.inner in
-    let d = contents c.write_systems.new.writer.inner in
     where_failed c.from_residual-in_err-write_systems.result _
-    (epoch_second c.args.plan.now c.args.epoch.now.epoch (contents c.args.writer.now.inner) b d line c.in_ok-write_whole.ensures.whole c.in_err-write_systems.ensures.part)
+    (epoch_second c.args.plan.now c.args.epoch.now.epoch (contents c.args.writer.now.inner) _ _ line c.in_ok-write_whole.ensures.whole c.in_err-write_systems.ensures.part)
 
 pub returns-clause-whole : goal.returns-clause-whole
 returns-clause-whole g c =
     let contents = g.W.Write.contents in
     let line = first_line c.as_slice.ensures.value c.epoch_line.ensures c.time.ensures c.satellites.ensures.count in
-    let a = contents c.args.writer.now.inner in
-    let b = contents c.write_whole.new.self.inner in
-    epoch_whole c.args.plan.now c.args.epoch.now.epoch a b (contents c.write_systems.new.writer.inner) line c.in_ok-write_whole.ensures.whole c.in_ok-write_systems.ensures.whole
+    epoch_whole c.args.plan.now c.args.epoch.now.epoch _ _ (contents c.write_systems.new.writer.inner) line c.in_ok-write_whole.ensures.whole c.in_ok-write_systems.ensures.whole

@@ -1,5 +1,5 @@
 use Rattle.rinex_file.proofs.Writing.Sent.{part_after, part_first, where_failed}
-use Rattle.rinex_file.proofs.Names.{common_steps, arith, ◌∙◌, sym, ap, subst, refl, ◌++◌, append_assoc, append-nil, Appends, Appends-trans, AppendsPrefix, joined, shown_text}
+use Rattle.rinex_file.proofs.Names.{common_steps, arith, ◌∙◌, sym, ap, subst, refl, ◌++◌, append_assoc, Appends, Appends-trans, AppendsPrefix, joined, shown_text}
 use Rattle.rinex_file.proofs.write.write_header.Goals as goal
 
 pub loop-line-init : goal.loop-line-init
@@ -26,7 +26,6 @@ loop-line-preserved g c =
 pub returns-in_err-write_whole-clause-part : goal.returns-in_err-write_whole-clause-part
 returns-in_err-write_whole-clause-part g c =
     let contents = g.W.Write.contents in
-    let h = c.args.head.now in
     let (can, ends, (done, text, out), fine, widest) = c.loop-line.invariant in
     let line = c.in-Some.line.items in
     let a = contents c.args.writer.now.inner in
@@ -34,6 +33,3 @@ returns-in_err-write_whole-clause-part g c =
     let d = contents c.write_whole.new.self.inner in
     where_failed c.from_residual.result _ (part_after a b d done (line ++ joined c.next.new.self) (text ∙ ap (λ l. done ++ joined l) c.in-Some.ensures.steps) out
     (part_first b d line (joined c.next.new.self) refl (subst (λ l. AppendsPrefix b d l) c.as_slice.ensures.value c.in_err-write_whole.ensures.part)))
-
-pub returns-clause-whole : goal.returns-clause-whole
-returns-clause-whole g c = grind (arith, append-nil)

@@ -1,7 +1,7 @@
 -- The lines of the satellites before the cell at `from` are written.
 use Rattle.rinex_file.proofs.Writing.Skipped.{all_sent, next_sent, one_sent}
 use Rattle.rinex_file.proofs.Writing.Sent.{no_lines, lines_around, part_after, part_first, where_failed, not_written, is_shown}
-use Rattle.rinex_file.proofs.Names.{common_steps, arith, ◌∙◌, sym, subst, refl, take, drop, ◌-◌, Appends, Appends-nil, satellites, AppendsPrefix, left_all}
+use Rattle.rinex_file.proofs.Names.{arith, ◌∙◌, sym, subst, refl, take, drop, ◌-◌, Appends, Appends-nil, satellites, AppendsPrefix, left_all}
 use Rattle.rinex_file.proofs.write.write_system.Goals as goal
 
 pub loop-from-init : goal.loop-from-init
@@ -24,9 +24,8 @@ loop-from-preserved-in_ok-write_whole g c =
     let contents = g.W.Write.contents in
     let inv = c.loop-from.invariant in
     let cells = c.cells-cells in
-    let id = c.id-id.result in
     let next = next_sent c.index-cells-from.result inv.out cells.ensures.cells cells.ensures.held cells.ensures.order c.loop-from-test.true c.id-id.ensures.value c.end_of-to.ensures.end c.end_of-to.ensures.bound in
-    let shown = is_shown c.args.plan.now c.args.system (take (c.end_of-to.result - c.loop-from.from) (drop c.loop-from.from cells.result.now)) id (sym c.is_written.ensures ∙ c.if-is_written.true) in
+    let shown = is_shown c.args.plan.now c.args.system (take (c.end_of-to.result - c.loop-from.from) (drop c.loop-from.from cells.result.now)) _ (sym c.is_written.ensures ∙ c.if-is_written.true) in
     record {
       out = one_sent next (subst (λ l. Appends (contents c.loop-from.writer.inner) (contents c.write_whole.new.self.inner) l) (sym shown) (grind (arith, c.in_ok-write_whole.ensures, c.put_satellite_line-size.ensures.text)));
       fine = grind (arith, c.in_ok-write_whole.ensures, inv.fine);
@@ -50,10 +49,9 @@ returns-in_err-write_whole-clause-part g c =
     let p = c.args.plan.now in
     let system = c.args.system in
     let cells = c.cells-cells in
-    let id = c.id-id.result in
     let own = take (c.end_of-to.result - c.loop-from.from) (drop c.loop-from.from cells.result.now) in
     let next = next_sent c.index-cells-from.result c.loop-from.invariant.out cells.ensures.cells cells.ensures.held cells.ensures.order c.loop-from-test.true c.id-id.ensures.value c.end_of-to.ensures.end c.end_of-to.ensures.bound in
-    let shown = is_shown p system own id (sym c.is_written.ensures ∙ c.if-is_written.true) in
+    let shown = is_shown p system own c.id-id.result (sym c.is_written.ensures ∙ c.if-is_written.true) in
     let b = contents c.loop-from.writer.inner in
     let d = contents c.write_whole.new.self.inner in
     let (rest, split) = lines_around p c.args.epoch.now.epoch system (satellites system) next.next next.most in
@@ -62,9 +60,3 @@ returns-in_err-write_whole-clause-part g c =
 
 pub returns-clause-whole : goal.returns-clause-whole
 returns-clause-whole g c = all_sent c.loop-from.invariant.out c.cells-cells.ensures.cells (omega (arith, c.loop-from-test.false))
-
-pub returns-in_err-write_whole-clause-device : goal.returns-in_err-write_whole-clause-device
-returns-in_err-write_whole-clause-device g c = grind (arith, common_steps, c.loop-from.invariant, c.in_err-write_whole.ensures, c.from_residual.ensures)
-
-pub returns-clause-device : goal.returns-clause-device
-returns-clause-device g c = (tt, c.loop-from.invariant.fine, c.loop-from.invariant.widest)

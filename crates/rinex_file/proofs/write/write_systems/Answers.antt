@@ -12,14 +12,8 @@ loop-i-preserved g c = grind (arith, c.loop-i.invariant, c.at.ensures, c.in_ok-w
 pub returns-in_err-write_system-clause-part : goal.returns-in_err-write_system-clause-part
 returns-in_err-write_system-clause-part g c =
     let contents = g.W.Write.contents in
-    let a = contents c.args.writer.now.inner in
-    let b = contents c.loop-i.writer.inner in
-    let d = contents c.write_system.new.writer.inner in
-    let p = c.args.plan.now in
-    let e = c.args.epoch.now.epoch in
-    let s = c.at.result in
-    where_failed c.from_residual.result _ (part_after a b d _ _ (lines_after p e c.loop-i.i s c.at.ensures) c.loop-i.invariant.out
-    (part_first b d (lines_up_to p e s (satellites s)) (lines_of_systems p e (after s)) refl c.in_err-write_system.ensures.part))
+    where_failed c.from_residual.result _ (part_after _ _ _ _ _ (lines_after _ _ c.loop-i.i _ c.at.ensures) c.loop-i.invariant.out
+    (part_first _ _ (lines_up_to _ _ _ (satellites _)) (lines_of_systems _ _ (after _)) refl c.in_err-write_system.ensures.part))
 
 pub returns-clause-whole : goal.returns-clause-whole
 returns-clause-whole g c = grind (arith, c.loop-i-test.false, c.loop-i.invariant.out, lines_all)

@@ -1,9 +1,6 @@
 -- Each row's line is the one that the row's own function makes; a row that has no line for this plan has none here.
-use Rattle.rinex_file.proofs.Names.{common_steps, shown_by, unwrap_or, ◌∙◌, sym, ap, ℕ, [], ◌∷◌, codes, row_line, header_line, length_indices, few_signals, arith, true, length, ◌≡◌, ◌≤◌, Shown, has_line, is_less, Slots, slot_count, slots_of, interval_line}
+use Rattle.rinex_file.proofs.Names.{common_steps, shown_by, unwrap_or, ◌∙◌, sym, ap, [], ◌∷◌, codes, row_line, header_line, length_indices, few_signals, arith, interval_line}
 use Rattle.rinex_file.proofs.header.head.line_of.Goals as goal
-
-few_rows : (h : Shown) (row n : ℕ) → has_line h (Slots row) ≡ true → n ≡ length (slots_of h.plan.channels) → n ≤ slot_count → row ≤ 100
-few_rows h row n has e few = grind (arith, is_less)
 
 pub returns-in-Version : goal.returns-in-Version
 unfolding row_line
@@ -45,7 +42,7 @@ unfolding row_line
 returns-in-End c = let h = shown_by c.args.head.now in c.labelled-in-End.ensures ∙ ap (row_line h) (sym c.in-End.is)
 
 pub slots_with-requires : goal.slots_with-requires
-slots_with-requires c = grind (arith, c.in-Slots.is, c.requires, c.slots_in.ensures.value, c.channels-channels.ensures, c.slots_in.ensures.bound, few_rows)
+slots_with-requires c = grind (arith, c.in-Slots.is, c.requires, c.slots_in.ensures.value, c.channels-channels.ensures, c.slots_in.ensures.bound)
 
 pub returns-in-Slots : goal.returns-in-Slots
 unfolding row_line
@@ -58,6 +55,5 @@ returns-in-Biases c = let h = shown_by c.args.head.now in c.labelled-in-Biases.e
 pub returns-in-Shift : goal.returns-in-Shift
 unfolding row_line
 returns-in-Shift c =
-    let h = shown_by c.args.head.now in
     c.labelled-in-Shift.ensures ∙ ap (λ b. header_line (b ∷ []) (codes "SYS / PHASE SHIFT")) c.letter.ensures
-    ∙ ap (row_line h) (sym c.in-Shift.is)
+    ∙ ap (row_line (shown_by c.args.head.now)) (sym c.in-Shift.is)

@@ -1,5 +1,4 @@
 use Rattle.rinex_file.proofs.HeaderRows.Slots.{at, slot_low, slot_high}
-use Rattle.rinex_file.proofs.header.lists.put_slot.Goals.{then-number-lt7, else-number-lt7}
 use Rattle.rinex_file.proofs.Names.{arith, ◌≡◌, ◌∙◌, ◌++◌, ◌∷◌, [], ◌+◌, ◌-◌, ◌/◌, ◌%◌, ◌<◌, ◌≤◌, ℕ, List, ap, ap₂, slot_count, slot_text}
 use Rattle.rinex_file.proofs.header.lists.put_slot.Goals as goal
 
@@ -14,6 +13,6 @@ above slot n few high sign size = ap₂ (shown slot) sign (size ∙ omega (arith
 
 pub returns-clause-text : goal.returns-clause-text
 returns-clause-text c = c.put.ensures.text ∙ ap (λ t. c.args.content.now.items ++ t) (elim c.if-number-lt7.branch [
-  | then-number-lt7 w ↦ below c.args.slot c.args.number c.requires.slot w.if-number-lt7.true w.sign-is (ap (λ k. 48 + k) c.abs_diff-size.ensures)
-  | else-number-lt7 w ↦ above c.args.slot c.args.number c.requires.slot w.if-number-lt7.false w.sign-is (ap (λ k. 48 + k) c.abs_diff-size.ensures)
+  | goal.then-number-lt7 w ↦ below c.args.slot c.args.number c.requires.slot w.if-number-lt7.true w.sign-is (ap (λ k. 48 + k) c.abs_diff-size.ensures)
+  | goal.else-number-lt7 w ↦ above c.args.slot c.args.number c.requires.slot w.if-number-lt7.false w.sign-is (ap (λ k. 48 + k) c.abs_diff-size.ensures)
 ])

@@ -1,10 +1,6 @@
 use Rattle.rinex_file.proofs.HeaderRows.Slots.{at, one_slot, put_elsewhere, put_here, slots_taken}
-use Rattle.rinex_file.proofs.header.lists.put_slots.Goals.{in-Some, in_default, then-before-row, else-before-row}
-use Rattle.rinex_file.proofs.Names.{arith, ◌≡◌, ◌∙◌, ◌∷◌, ◌++◌, ◌+◌, ◌/◌, ◌<◌, [], sym, ap, append-nil, length, length-append, slots_of, take, Option, ℕ}
+use Rattle.rinex_file.proofs.Names.{arith, ◌≡◌, ◌∙◌, ◌∷◌, ◌++◌, ◌+◌, ◌/◌, ◌<◌, [], sym, ap, append-nil, length, length-append, slots_of, take, Option, ℕ, common_steps}
 use Rattle.rinex_file.proofs.header.lists.put_slots.Goals as goal
-
-pub overflow_add-before : goal.overflow_add-before
-overflow_add-before c = let few = c.loop-i.invariant.few in omega (arith, few, c.loop-i-test.true)
 
 pub loop-i-preserved : goal.loop-i-preserved
 loop-i-preserved c =
@@ -19,19 +15,19 @@ loop-i-preserved c =
     let number = sym c.number.ensures.value in
     let next = λ (o : Option ℕ) (e : c.number.result ≡ o). slots_taken channels i less ∙ ap (λ (o : Option ℕ). slots_of (take i channels) ++ one_slot (i + 1) o) (number ∙ e) in
     elim c.match-number.branch [
-      | in-Some w ↦
+      | goal.in-Some w ↦
           let s = at (i + 1) w.in-Some.number in
           let grown : slots_of (take (i + 1) channels) ≡ slots_of (take i channels) ++ s ∷ [] = next _ w.in-Some.is in
           let more = ap length grown ∙ length-append (slots_of (take i channels)) (s ∷ []) in
           elim w.if-before-row.branch [
-            | then-before-row v ↦ record {
+            | goal.then-before-row v ↦ record {
               range = omega (arith, c.loop-i-test.true);
               few = omega (arith, w.before-is, few);
               before = omega (arith, w.before-is, before, more);
               text = rw (w.content-is, v.content-is, grown) (put_here (slots_of (take i channels)) s c.args.content.now.items inv.text v.put_slot.ensures.text (ap (λ (k : ℕ). k / 8) (sym before) ∙ v.if-before-row.true));
               size = rw (w.content-is, v.content-is) (let put = v.put_slot.ensures.size in omega (arith, put, size));
             }
-            | else-before-row v ↦ record {
+            | goal.else-before-row v ↦ record {
               range = omega (arith, c.loop-i-test.true);
               few = omega (arith, w.before-is, few);
               before = omega (arith, w.before-is, before, more);
@@ -39,13 +35,7 @@ loop-i-preserved c =
               size = rw (w.content-is, v.content-is) (omega (arith, size));
             }
           ]
-      | in_default w ↦
+      | goal.in_default w ↦
           let same : slots_of (take (i + 1) channels) ≡ slots_of (take i channels) = next _ w.in_default.is ∙ append-nil (slots_of (take i channels)) in
-          record {
-            range = omega (arith, c.loop-i-test.true);
-            few = omega (arith, w.before-is, few);
-            before = w.before-is ∙ before ∙ ap length (sym same);
-            text = rw (w.content-is, same) inv.text;
-            size = rw w.content-is (omega (arith, size));
-          }
+          grind (arith, common_steps, c.loop-i-test.true)
     ]

@@ -2,7 +2,7 @@ use Rattle.rinex_file.proofs.Reading.Accepted.{adds_none, adds_some, epoch_begun
 use Rattle.rinex_file.proofs.Reading.Header.{past_header}
 use Rattle.rinex_file.proofs.Reading.Lines.{added_more, leaves_more, the_end}
 use Rattle.rinex_file.proofs.Reading.Summary.{ended, has_times, summed}
-use Rattle.rinex_file.proofs.Names.{AreTimesOrNone, Bool, IsTrue, ◌↔◌, true, false, map, time_stamped, ◌≡◌, ◌∙◌, ◌+◌, [], ℕ, List, Option, Some, arith, ap, refl, subst, is_some, Err, HasRead, HasReadTo, History, Known, ParserState, progress_at, ReadsNextLine, Reading, Stamped, stamped_at, AddedRow, AddsOrEnds, Ok}
+use Rattle.rinex_file.proofs.Names.{Bool, IsTrue, ◌↔◌, true, false, ◌≡◌, ◌∙◌, ◌+◌, [], ℕ, List, Option, Some, arith, ap, refl, subst, is_some, Err, HasRead, HasReadTo, History, Known, ParserState, progress_at, ReadsNextLine, Reading, Stamped, stamped_at, AddedRow, AddsOrEnds, Ok}
 use Rattle.rinex_file.proofs.read.epochs.begin_epoch.Goals as goal
 
 pub next-requires : goal.next-requires
@@ -27,8 +27,7 @@ loop-state-smaller g c =
     let (es, input, before) = c.loop-state.invariant.some in
     let (read, least, head) = c.loop-state.invariant.read es input before in
     let (more, counted, same) = one_line c.loop-state.reading c.next.new.self es {left = g.R.Read.remaining c.next.new.reader.inner} read c.in-Ok-Some.field-0-is (c.in-Ok-Some.ensures.goes _ _ read.0) c.in-Ok-Some.ensures.adds in
-    let few = read.0.within.1 in
-    omega (arith, counted, few)
+    omega (arith, counted, read.0.within.1)
 
 -- the line isn't that of an epoch
 not_expected : (b : Bool) (P : Type 0) → (IsTrue b ↔ P) → b ≡ false → P → ⊥
@@ -47,10 +46,6 @@ loop-state-preserved g c =
       same = c.in-Ok-Some.ensures.same (λ e. cc) ∙ inv.same;
     }
 
--- the times of the epochs that were read before
-times_before : (r : Reading) (es : List Stamped) {input left : Option (List ℕ)} → HasReadTo r es input left → AreTimesOrNone (map time_stamped es) r.parser_state.times
-times_before r es read = read.0.history.counted.times
-
 pub returns-then-expects_row-clause-epochs : goal.returns-then-expects_row-clause-epochs
 returns-then-expects_row-clause-epochs g c = λ es input before.
     let (read, least, head) = c.loop-state.invariant.read es input before in
@@ -60,7 +55,7 @@ returns-then-expects_row-clause-epochs g c = λ es input before.
     let inside = c.expects_row.ensures.0 c.if-expects_row.true in (
       stamped_at new.parser_state.change new.parser_state.time [],
       (refl, refl),
-      times_before c.args.reading.now es before,
+      before.0.history.counted.times,
       is_part new.parser_state.expected inside more refl refl,
       epoch_begun new es inside more,
       omega (arith, counted, least),

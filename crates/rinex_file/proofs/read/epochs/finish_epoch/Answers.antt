@@ -4,9 +4,6 @@ use Rattle.rinex_file.proofs.Judged.{refused}
 use Rattle.rinex_file.proofs.Names.{common_steps, ◌∙◌, ap, arith, Err}
 use Rattle.rinex_file.proofs.read.epochs.finish_epoch.Goals as goal
 
-pub loop-reading-init : goal.loop-reading-init
-loop-reading-init g c = grind (arith, common_steps, c.requires)
-
 pub next-requires : goal.next-requires
 next-requires g c = grind (arith, common_steps, c.loop-reading.invariant, c.expects_row.ensures, c.loop-reading-test.true, open_part)
 
@@ -17,8 +14,7 @@ loop-reading-smaller g c =
     let inside = c.expects_row.ensures.0 c.loop-reading-test.true in
     let read = (open_part c.loop-reading.reading.parser_state.expected inside part).0 in
     let (next, same, counted, some) = row_read c.loop-reading.reading c.next.new.self es more _ _ (g.R.Read.remaining c.next.new.reader.inner) _ inside part (c.in-Ok.ensures.goes _ _ read) c.in-Ok.ensures.adds in
-    let few = read.within.1 in
-    omega (arith, counted, few)
+    omega (arith, counted, read.within.1)
 
 pub loop-reading-preserved : goal.loop-reading-preserved
 loop-reading-preserved g c =

@@ -3,8 +3,8 @@
 use Rattle.rinex_file.proofs.Fields.Lanes.{lanes_are, lane_is, sixteen_long}
 use Rattle.rinex_file.proofs.Fields.Values.{few_before, sixteen_blank}
 use Rattle.rinex_file.proofs.OneReading.{no_field, field_once, value_of}
-use Rattle.rinex_file.proofs.read.fields.field_in.Goals.{After-blanks_in-empty, then-text-at-via-then-text-at, then-text-at-via-else-text-at+then-text-at-2}
 use Rattle.rinex_file.proofs.Names.{common_steps, arith, ◌≡◌, ◌∙◌, ap, ap₂, sym, ℤ, ◌+◌, take, drop, Option, Some, get_or, IfSome, FitsColumns, blanks, field}
+use Rattle.rinex_file.proofs.read.fields.field_in.Goals.{After-blanks_in-empty}
 use Rattle.rinex_file.proofs.read.fields.field_in.Goals as goal
 
 counted : (c : After-blanks_in-empty) → c.blanks_in-empty.result ≡ blanks (take 16 (drop c.args.at c.args.text.now))
@@ -27,16 +27,12 @@ pub returns-else-empty-eq16 : goal.returns-else-empty-eq16
 returns-else-empty-eq16 c = λ w fits is.
     let at = (goal.at.returns-else-empty-eq16 c).After-blanks_in-empty in
     let (v, small, shows, lost, strength) = value at c.if-empty-eq16.false w fits is in
-    let few = few_before _ v _ _ small shows in
-    omega (arith, few, counted at, c.if-empty-gt9.true)
+    omega (arith, few_before _ v _ _ small shows, counted at, c.if-empty-gt9.true)
 
 pub returns-then-text-at : goal.returns-then-text-at
 returns-then-text-at c = λ w fits is.
     let (v, small, shows, lost, strength) = value ((goal.at.returns-then-text-at c).After-blanks_in-empty) (λ all. omega (arith, all, c.if-empty-gt9.false)) w fits is in
-    elim c.then-text-at.branch [
-      | then-text-at-via-then-text-at u ↦ u.if-text-at.true lost
-      | then-text-at-via-else-text-at+then-text-at-2 u ↦ u.if-text-at-2.true strength
-    ]
+    grind (arith, common_steps, c.then-text-at.branch)
 
 pub value_in-requires-clause-sign : goal.value_in-requires-clause-sign
 value_in-requires-clause-sign c = grind (arith, c.if-empty-gt9.false, c.blanks_in-empty.ensures.count, lanes_are, lane_is)

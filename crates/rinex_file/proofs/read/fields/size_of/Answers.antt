@@ -1,6 +1,6 @@
 use Rattle.rinex_file.proofs.Fields.Lanes.{below_at, ordered, ordered_below, size_is, size_l, twos_below}
-use Rattle.rinex_file.proofs.read.fields.size_of.Goals.{After-twos, After-fours, After-eights}
 use Rattle.rinex_file.proofs.Names.{arith, ◌≡◌, ◌∙◌, ap, subst, sym, ◌+◌, ◌*◌, ◌<◌, ◌^◌, ℕ, get_or, AreBelow, twos_of}
+use Rattle.rinex_file.proofs.read.fields.size_of.Goals.{After-twos, After-fours, After-eights}
 use Rattle.rinex_file.proofs.read.fields.size_of.Goals as goal
 
 pub twos-requires : goal.twos-requires

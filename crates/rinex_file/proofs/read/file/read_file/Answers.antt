@@ -3,21 +3,18 @@ use Rattle.rinex_file.specs.declared.read.fault.ReadFault.TheVariants.{Memory}
 use Rattle.rinex_file.proofs.FileLines.{lines_are_lines, lines_are_short}
 use Rattle.rinex_file.proofs.Reading.Lines.{only_stored, no_reason, file_found, file_only, stored_whole}
 use Rattle.rinex_file.proofs.Reading.Accepted.{stored_memory}
-use Rattle.rinex_file.proofs.Names.{◌≡◌, Option, Some, None, IfSome, IfOk, IfErr, Result, Ok, Err, ok_or, ReadFault, ExplainsStored, IsReadOr, IsTextOf, file_text, FileValue}
+use Rattle.rinex_file.proofs.Names.{◌≡◌, Option, IfSome, IfOk, IfErr, Result, Ok, Err, ok_or, ReadFault, ExplainsStored, IsReadOr, IsTextOf, file_text, FileValue, common_steps, arith}
 use Rattle.rinex_file.proofs.read.file.read_file.Goals as goal
 
 pub read_lines-requires-clause-read : goal.read_lines-requires-clause-read
 read_lines-requires-clause-read g c = (c.new-reading.ensures _).0
 
 pub finish-requires : goal.finish-requires
-finish-requires g c =
-    let whole = stored_whole c.read_lines.new.reading.parser_state c.read_lines.new.builder _ c.in-Ok.ensures.found in
-    record { none = whole.none; value = whole.is; history = whole.history }
+finish-requires g c = grind (arith, common_steps, c.in-Ok.ensures.found, stored_whole)
 
 -- the file, or a fault if memory ran out
 or_memory : (o : Option FileValue) (file : FileValue) (P : Result FileValue ReadFault → Type 0) → IfSome o (λ f. f ≡ file) → ((f : FileValue) → f ≡ file → P (Ok f)) → P (Err Memory) → P (ok_or o Memory)
-or_memory None file P is some none = none
-or_memory (Some f) file P is some none = some f is
+or_memory found file P is some none = grind (arith, common_steps)
 
 pub returns-in-Ok-clause-found : goal.returns-in-Ok-clause-found
 returns-in-Ok-clause-found g c =

@@ -1,16 +1,8 @@
 use Rattle.rinex_file.proofs.Reading.Lines.{out_of_memory, explained, added_more, the_end, leaves_all, leaves_more}
 use Rattle.rinex_file.proofs.Reading.Accepted.{some_read, whole_header}
 use Rattle.rinex_file.proofs.Judged.{same_fault}
-use Rattle.rinex_file.proofs.read.file.read_lines.Goals.{else-is_stored-via-then-is_stored+else-is_err, else-is_stored-via-else-is_stored}
-use Rattle.rinex_file.proofs.Names.{IsOk, arith, ◌≡◌, ◌∙◌, sym, ap, subst, HasFailed, true, false, is_some, Result, OnOk, is_err, history_of, with_line}
+use Rattle.rinex_file.proofs.Names.{arith, ◌≡◌, ◌∙◌, sym, ap, subst, HasFailed, true, is_some, history_of, with_line, common_steps}
 use Rattle.rinex_file.proofs.read.file.read_lines.Goals as goal
-
-no_error : {A E : Type 0} (r : Result A E) → is_err r ≡ true → IsOk r → ⊥
-no_error r failed fine = grind arith
-
--- a fact that holds if there was no error
-kept : {A E : Type 0} (r : Result A E) (P : Type 0) → is_err r ≡ false → OnOk r P → P
-kept r P fine p = grind arith
 
 pub loop-added-init : goal.loop-added-init
 loop-added-init g c = grind (arith, c.requires.read, c.requires.none, leaves_all)
@@ -20,10 +12,7 @@ loop-added-preserved g c =
     let inv = c.loop-added.invariant in
     let (h, read, stores) = inv.read in
     let k = with_line c.in-Ok-Some.added c.next.new.self.parser_state h in
-    let stored : c.args.is_stored ≡ true → history_of c.else-is_stored.builder ≡ k = λ on. elim c.else-is_stored.branch [
-      | else-is_stored-via-then-is_stored+else-is_err w ↦ ap history_of w.builder-is ∙ kept w.keep.result _ (sym w.is_err.ensures.value ∙ w.if-is_err.false) w.keep.ensures.kept ∙ ap (with_line c.in-Ok-Some.added c.next.new.self.parser_state) (stores on)
-      | else-is_stored-via-else-is_stored w ↦ let e : true ≡ false = sym on ∙ w.if-is_stored.false in cc
-    ] in
+    let stored : c.args.is_stored ≡ true → history_of c.else-is_stored.builder ≡ k = grind (arith, common_steps, c.else-is_stored.branch) in
     record {
       read = (k, (added_more c.loop-added.reading c.next.new.self h _ _ c.in-Ok-Some.field-0-is (c.in-Ok-Some.ensures.goes h _ read)).0, stored);
       left = leaves_more _ _ _ inv.left c.in-Ok-Some.ensures.left;
@@ -34,8 +23,7 @@ pub loop-added-smaller : goal.loop-added-smaller
 loop-added-smaller g c =
     let (h, read, stores) = c.loop-added.invariant.read in
     let counted = (added_more c.loop-added.reading c.next.new.self h _ _ c.in-Ok-Some.field-0-is (c.in-Ok-Some.ensures.goes h _ read)).1 in
-    let few = read.within.1 in
-    omega (arith, counted, few)
+    omega (arith, counted, read.within.1)
 
 pub returns-in-Ok-None-clause-found : goal.returns-in-Ok-None-clause-found
 returns-in-Ok-None-clause-found g c =
@@ -56,13 +44,10 @@ returns-then-is_err-clause-fault g c =
     let (h, read, stores) = c.loop-added.invariant.read in
     let next = (added_more c.loop-added.reading c.next.new.self h _ _ c.in-Ok-Some.field-0-is (c.in-Ok-Some.ensures.goes h _ read)).0 in
     out_of_memory c.args.is_stored _ c.if-is_stored.true
-    (whole_header next (some_read c.in-Ok-Some.added c.next.new.self.parser_state h (λ e. no_error c.keep.result (sym c.is_err.ensures.value ∙ c.if-is_err.true) (c.keep.ensures.some e))))
+    (whole_header next (some_read c.in-Ok-Some.added c.next.new.self.parser_state h (λ e. grind (arith, sym c.is_err.ensures.value ∙ c.if-is_err.true, c.keep.ensures.some e))))
 
 pub returns-in-Err-clause-left : goal.returns-in-Err-clause-left
 returns-in-Err-clause-left g c = leaves_more _ _ _ c.loop-added.invariant.left c.in-Err.ensures.left
-
-pub next-requires : goal.next-requires
-next-requires g c = let (h, read, stores) = c.loop-added.invariant.read in (h, _, read)
 
 pub returns-in-Err-clause-failed : goal.returns-in-Err-clause-failed
 returns-in-Err-clause-failed g c = λ e. subst (λ n. HasFailed n c.next.new.reader.failures) c.loop-added.invariant.same (c.in-Err.ensures.failed (same_fault e))

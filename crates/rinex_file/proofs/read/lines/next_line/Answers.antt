@@ -1,17 +1,10 @@
-use Rattle.rinex_file.specs.declared.read.lines.Found.TheVariants.{End}
 use Rattle.rinex_file.proofs.Reading.Lines.{not_nil, consumed_none, moved_taken, line_whole, still_endless, leaves_more, leaves_all}
-use Rattle.rinex_file.proofs.Names.{arith, ◌≡◌, ◌∙◌, refl, subst, ℕ, ◌≤◌, ◌<◌, [], Bool, false, nat_eq, List, length, Option, HasFailed, Found, Line, Long, Failed, IsFound, has, MovesBytes, Consumes-nil, most_line}
+use Rattle.rinex_file.proofs.Names.{arith, ◌≡◌, ◌∙◌, subst, ℕ, ◌<◌, [], Bool, false, List, length, Option, Found, IsFound, has, MovesBytes, Consumes-nil, most_line, common_steps}
 use Rattle.rinex_file.proofs.read.lines.next_line.Goals as goal
 
 -- what was found in the place of more bytes is found after those so far
 found_after : (f : Found) (bytes : List ℕ) (left : Option (List ℕ)) {first old : ℕ} (new : ℕ) → has 10 bytes ≡ false → length bytes < most_line → old ≡ first → IsFound f [] left old new → IsFound f bytes left first new
-found_after Line bytes left new endless few same ((body, shape, none), fine) = absurd (not_nil _ [] (body, shape, none) refl)
-found_after End bytes left new endless few same (none, end, fine, empty) = (endless, end, fine ∙ same, few)
-found_after Long bytes left new endless few same (size, none, fine) = absurd (omega (arith, size))
-found_after Failed bytes left new endless few same (failed, none) = (subst (λ (n : ℕ). HasFailed n new) same failed, endless)
-
-not_full : (n m : ℕ) → false ≡ nat_eq n m → n ≤ m → n < m
-not_full n m h most = grind arith
+found_after f bytes left new endless few same found = grind (arith, common_steps, not_nil)
 
 pub returns-in-Some-clause-taken : goal.returns-in-Some-clause-taken
 returns-in-Some-clause-taken g c = (consumed_none _ _ _ _ c.loop-block.invariant.taken c.fill.ensures.same, leaves_more _ _ _ c.loop-block.invariant.left c.fill.ensures.left)
@@ -39,7 +32,4 @@ pub loop-block-init : goal.loop-block-init
 loop-block-init g c = grind (arith, Consumes-nil, leaves_all)
 
 pub returns-in-Some-clause-found : goal.returns-in-Some-clause-found
-returns-in-Some-clause-found g c = grind (arith, c.loop-block.invariant.endless, c.loop-block-test.true, c.is_full.ensures.value, c.loop-block.invariant.within, c.loop-block.invariant.same, c.in-Some.ensures.none, found_after, not_full)
-
-pub returns-clause-taken : goal.returns-clause-taken
-returns-clause-taken g c = (c.loop-block.invariant.taken, c.loop-block.invariant.left)
+returns-in-Some-clause-found g c = grind (arith, c.loop-block.invariant.endless, c.loop-block-test.true, c.is_full.ensures.value, c.loop-block.invariant.within, c.loop-block.invariant.same, c.in-Some.ensures.none, found_after)

@@ -1,7 +1,7 @@
 use Rattle.rinex_file.proofs.Judged.{exactly}
 use Rattle.rinex_file.proofs.Reading.Dates.{epoch_shown, has_columns}
-use Rattle.rinex_file.proofs.read.other_lines.read_epoch_line.Goals.{After-is_same}
 use Rattle.rinex_file.proofs.Names.{arith, rules, ◌≡◌, ◌∙◌, ◌≤◌, ◌<◌, ◌^◌, ap, sym, refl, suc, ℕ, none-some, same_Some, civil_of, IsTime, epoch_line, digits_in}
+use Rattle.rinex_file.proofs.read.other_lines.read_epoch_line.Goals.{After-is_same}
 use Rattle.rinex_file.proofs.read.other_lines.read_epoch_line.Goals as goal
 
 same_pair : (w : ℕ × ℕ) (t n : ℕ) → w.0 ≡ t → n ≡ w.1 → w ≡ (t, n)

@@ -1,6 +1,6 @@
 use Rattle.rinex_file.proofs.Judged.{exactly}
 use Rattle.rinex_file.proofs.HeaderRows.Agree.{lengths-back, coordinate-fits, number_at}
-use Rattle.rinex_file.proofs.Names.{arith, refl, ◌≡◌, ◌∙◌, sym, ap, subst, ℤ, ℕ, List, w64, to_z, of_z, fits_signed_from_abs, to_z-of_z, codes, then_some, StationValues, IsCoordinate, position_line, IsPosition}
+use Rattle.rinex_file.proofs.Names.{arith, refl, ◌≡◌, ◌∙◌, sym, ap, subst, ℤ, ℕ, List, w64, to_z, of_z, fits_signed_from_abs, to_z-of_z, codes, then_some, StationValues, IsCoordinate, position_line, IsPosition, common_steps}
 use Rattle.rinex_file.proofs.read.other_lines.read_position.Goals as goal
 
 abbrev at : ℤ → ℤ → ℤ → StationValues
@@ -14,15 +14,8 @@ there line w is e = grind (arith, lengths-back, coordinate-fits, (lengths-back w
 same_in : (x there w : ℤ) → (IsCoordinate there → x ≡ there) → there ≡ w → IsCoordinate w → w ≡ x
 same_in x there w read is fits = sym (read (subst IsCoordinate (sym is) fits) ∙ is)
 
-same_at : (x y z : ℤ) (w : StationValues) → w.x ≡ x → w.y ≡ y → w.z ≡ z → w.height ≡ 0 → w ≡ at x y z
-same_at x y z w a b c d = grind arith
-
--- a coordinate fits 64 bits
-stays : (z : ℤ) → IsCoordinate z → to_z w64 (of_z w64 z) ≡ z
-stays z is = grind (arith, to_z-of_z, fits_signed_from_abs, coordinate-fits)
-
 all_stay : (x y z : ℤ) → IsCoordinate x → IsCoordinate y → IsCoordinate z → at (to_z w64 (of_z w64 x)) (to_z w64 (of_z w64 y)) (to_z w64 (of_z w64 z)) ≡ at x y z
-all_stay x y z a b c = grind (arith, stays)
+all_stay x y z a b c = grind (arith, to_z-of_z, fits_signed_from_abs, coordinate-fits, common_steps)
 
 pub returns : goal.returns
 returns c =
@@ -34,5 +27,5 @@ returns c =
     (x.fits, y.fits, z.fits, refl)
     (λ w is e.
     let all = there c.args.line.now w is e in
-    same_at _ _ _ w (same_in _ _ w.x x.value all.0 is.0) (same_in _ _ w.y y.value all.1 is.1) (same_in _ _ w.z z.value all.2 is.2) is.3)
+    (grind (arith, is.3)))
     (c.as_slice.ensures.value ∙ c.position_line.ensures ∙ ap position_line kept) c.is_same.ensures

@@ -1,18 +1,15 @@
 use Rattle.rinex_file.proofs.HeaderRows.Texts.{no_line, not_same, not_printable, fields_from, refused_text, added_text, few_columns}
 use Rattle.rinex_file.proofs.Judged.{refused}
 use Rattle.rinex_file.proofs.Taken.{taken}
-use Rattle.rinex_file.proofs.Names.{arith, ◌≡◌, ◌≤◌, ◌+◌, ◌*◌, ℕ, List, Bool, IsTrue, ◌↔◌, Some, length, drop_all, HeaderField, HeaderLists, fields_of, front_of, text_count, width_of, texts_line, ReadsOrRefusesTexts, texts_in, has_row, true}
+use Rattle.rinex_file.proofs.Names.{arith, ◌≡◌, ℕ, List, Bool, IsTrue, ◌↔◌, Some, length, drop_all, HeaderField, HeaderLists, fields_of, front_of, text_count, texts_line, ReadsOrRefusesTexts, texts_in, has_row, true}
 use Rattle.rinex_file.proofs.read.other_lines.read_texts.Goals as goal
 
 compared : (r : HeaderField) {line again : List ℕ} (old : HeaderLists) {new : HeaderLists} (b : Bool) → length old ≡ text_count → texts_in (fields_of r) (length (front_of r)) line old ≡ Some new → has_row new r ≡ true
     → again ≡ texts_line new r → (IsTrue b ↔ (line ≡ again)) → ReadsOrRefusesTexts r line old new b
 compared r old b size read some is says = grind (arith, not_same, refused)
 
-few_more : (column width i : ℕ) (f : HeaderField) → column ≤ 20 + 60 * i → width ≡ width_of f → column + width ≤ 20 + 60 * (i + 1)
-few_more column width i f few w = let most = few_columns f in omega (arith, few, w, most)
-
 pub loop-field-preserved : goal.loop-field-preserved
-loop-field-preserved c = grind (arith, c.fields-field-items.ensures.value, c.loop-field-test.true, c.width-width.ensures.value, c.columns.ensures.value, c.in-Ok.ensures.fault, c.in-Ok.ensures.value, c.loop-field.invariant.read, c.loop-field.invariant.few, few_columns, added_text, fields_from, few_more)
+loop-field-preserved c = grind (arith, c.fields-field-items.ensures.value, c.loop-field-test.true, c.width-width.ensures.value, c.columns.ensures.value, c.in-Ok.ensures.fault, c.in-Ok.ensures.value, c.loop-field.invariant.read, c.loop-field.invariant.few, few_columns, added_text, fields_from)
 
 pub returns-in-Err : goal.returns-in-Err
 returns-in-Err c = grind (arith, c.are_texts.ensures.count, c.loop-field.invariant.read, c.fields-field-items.ensures.value, c.loop-field-test.true, c.width-width.ensures.value, c.columns.ensures.value, c.in-Err.ensures.fault, not_printable, refused_text, fields_from)

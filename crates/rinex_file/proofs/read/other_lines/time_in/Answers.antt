@@ -1,6 +1,6 @@
 use Rattle.rinex_file.proofs.Reading.Dates.{ShowDate, HasColumns, epoch_shown, first_shown, has_columns, kept, kept_second, same_civil, of_numbers, found, one_time}
-use Rattle.rinex_file.proofs.read.other_lines.time_in.Goals.{After-from_civil}
 use Rattle.rinex_file.proofs.Names.{arith, ◌≡◌, ◌∙◌, ◌<◌, ◌*◌, ap, subst, sym, ℕ, Option, Some, None, IfSome, IfNone, Civil, IsCivilOf, civil_of, week, weeks, IsTime, digits_in}
+use Rattle.rinex_file.proofs.read.other_lines.time_in.Goals.{After-from_civil}
 use Rattle.rinex_file.proofs.read.other_lines.time_in.Goals as goal
 
 room : (c : After-from_civil) (t : ℕ) → IsTime t → HasColumns (civil_of t)

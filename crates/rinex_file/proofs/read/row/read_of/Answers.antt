@@ -4,8 +4,8 @@ use Rattle.rinex_file.proofs.Judged.{refused}
 use Rattle.rinex_file.proofs.Taken.{is_taken}
 use Rattle.rinex_file.proofs.Rows.Cut.{cut_line_is, filled_over}
 use Rattle.rinex_file.proofs.OneReading.{IsSatelliteText, line_ended, line_once, text_of_line}
+use Rattle.rinex_file.proofs.Names.{◌/◌, arith, ◌≡◌, ◌∙◌, sym, ap, refl, subst, ℕ, ◌*◌, ◌≤◌, List, Bool, ◌-◌, ◌++◌, append-nil, length, take, drop, replicate, flat_map, SignalValues, drop_all, take_all, take_rest, System, satellites, SatelliteRow, satellite_line, signal_text, filled_to, ReadsExactly, some_if, AreEntries, IsRowOf, number_of, padded, common_steps}
 use Rattle.rinex_file.proofs.read.row.read_of.Goals.{After-saturating_sub, then-not-is_ended-via-then-not-is_ended, then-not-is_ended-via-else-not-is_ended+then-text-lt3, then-not-is_ended-via-else-not-is_ended+else-text-lt3+then-text-signals}
-use Rattle.rinex_file.proofs.Names.{◌∷◌, [], zero, suc, Some, slice_get, get_or, arith, ◌≡◌, ◌∙◌, sym, ap, refl, subst, ℕ, ◌*◌, ◌≤◌, List, Bool, ◌-◌, ◌++◌, append-nil, length, take, drop, replicate, ◌/◌, flat_map, SignalValues, drop_all, take_all, take_rest, System, satellites, SatelliteRow, satellite_line, signal_text, filled_to, ReadsExactly, some_if, AreEntries, IsRowOf, number_of, padded}
 use Rattle.rinex_file.proofs.read.row.read_of.Goals as goal
 
 -- the parts of the line of a satellite
@@ -43,16 +43,6 @@ row_read : (all : Bool) {system : System} (signals : ℕ) {line columns : List �
     → ReadsExactly (AreEntries signals) (flat_map signal_text) columns (some_if all seen.row.signal_values) → ReadsExactly (IsRowOf system signals) satellite_line line (some_if all seen)
 row_read all signals seen same number shown columns_of none = grind (arith, line_once)
 
--- a list after all its elements were lent
-lent : (old new : List SignalValues) → length new ≡ length old → take (length old) (new ++ drop (length new) old) ≡ new
-lent old new size = grind (arith, drop_all, append-nil, take_all)
-
--- the first byte of a line is that of a part of it
-first_kept : (n : ℕ) (line : List ℕ) {b : ℕ} → 3 ≤ length (take n line) → slice_get line 0 ≡ Some b → get_or (take n line) 0 0 ≡ b
-first_kept n [] long is = cc
-first_kept zero (x ∷ line) long is = absurd (omega (arith, long))
-first_kept (suc n) (x ∷ line) long is = cc
-
 pub put_each_in-requires-clause-last : goal.put_each_in-requires-clause-last
 put_each_in-requires-clause-last c =
     let text = take c.saturating_sub.result c.args.line.now in
@@ -73,7 +63,7 @@ returns c =
     let read = subst (λ (k : ℕ). ReadsExactly (AreEntries k) (flat_map signal_text) (filled_to (64 * k) (take (length text - 3) (drop 3 text))) (some_if all new)) count c.put_each_in.ensures.read in
     rw (is_taken all c.then_some.result c.then_some.ensures) (row_read all c.args.signals _ refl c.in_ok-row-inside.ensures.found.0
     (λ is. cut_line_is _ {text = text} n (c.is_ended.ensures.0 c.if-not-is_ended.false) (ap (λ (k : ℕ). take k line) c.saturating_sub.ensures) (omega arith)
-    (first_kept c.saturating_sub.result line (omega arith) c.requires.first) (ap (padded 2) c.in_ok-row-inside.ensures.found.1 ∙ sym c.in_ok-number.ensures.1) (ap (filled_to n) (sym rest) ∙ is))
+    (grind (arith, common_steps)) (ap (padded 2) c.in_ok-row-inside.ensures.found.1 ∙ sym c.in_ok-number.ensures.1) (ap (filled_to n) (sym rest) ∙ is))
     (λ v is e. ap (filled_to n) rest ∙ (parts ((goal.at.returns c).After-saturating_sub) v is e).columns)
     (subst (λ (es : List SignalValues). ReadsExactly (AreEntries c.args.signals) (flat_map signal_text) (filled_to n (take (length text - 3) (drop 3 text))) (some_if all es))
-    (sym (lent c.resize.new.values.items new (c.put_each_in.ensures.size ∙ ap length c.as_mut_slice.ensures.value))) read))
+    (sym (grind (arith, drop_all, append-nil, take_all, c.put_each_in.ensures.size ∙ ap length c.as_mut_slice.ensures.value))) read))

@@ -1,14 +1,7 @@
 use Rattle.rinex_file.proofs.HeaderRows.Letters.{one_letter}
 use Rattle.rinex_file.proofs.Rows.Sizes.{front_line}
-use Rattle.rinex_file.proofs.Names.{value_of, letter_back, letter_found, system_of_letter, arith, ◌≡◌, ◌∙◌, sym, ap, subst, ℕ, ◌<◌, List, Option, Some, None, is_some, slice_get, System, Row, SatelliteRow, IsSatelliteRow, IsRow, satellites, satellite_line, letter, ReadsExactly, some_if, IsRowOf, same_Some}
+use Rattle.rinex_file.proofs.Names.{value_of, letter_back, letter_found, system_of_letter, arith, ◌≡◌, ◌∙◌, sym, ap, subst, ℕ, List, Option, Some, None, is_some, slice_get, System, SatelliteRow, IsSatelliteRow, IsRow, satellites, satellite_line, letter, ReadsExactly, some_if, IsRowOf, same_Some, common_steps}
 use Rattle.rinex_file.proofs.read.row.read_row.Goals as goal
-
--- a row with a value has a signal
-has_signal : (most signals : ℕ) (r : Row) → IsRow most signals r → 0 < signals
-has_signal most signals r is = let (k, d, less, at, value) = is.some in omega (arith, less, is.whole)
-
-is_seen : (signals : System → ℕ) (system : System) (s : SatelliteRow) → IsRowOf system (signals system) s → IsSatelliteRow signals s
-is_seen signals system s (same, is) = grind (arith, has_signal)
 
 is_of : (signals : System → ℕ) (system : System) (s : SatelliteRow) → s.system ≡ system → IsSatelliteRow signals s → IsRowOf system (signals system) s
 is_of signals system s same is = (same, subst (λ (r : System). IsRow (satellites r) (signals r) s.row) same is.row)
@@ -20,10 +13,7 @@ first_is line v e = ap (λ l. slice_get l 0) (e ∙ front_line v)
 -- if the line begins with the letter of a system, each satellite is one of this system
 of_all : (signals : System → ℕ) (system : System) (line : List ℕ) (r : Option SatelliteRow) → slice_get line 0 ≡ Some (letter system)
     → ReadsExactly (IsRowOf system (signals system)) satellite_line line r → ReadsExactly (IsSatelliteRow signals) satellite_line line r
-of_all signals system line None letter read =
-    λ v is e. read v (is_of signals system v (one_letter v.system system (same_Some _ _ (sym (first_is line v e) ∙ letter))) is) e
-of_all signals system line (Some s) letter (is, text, only) =
-    (is_seen signals system s is, text, λ v also e. only v (is_of signals system v (one_letter v.system system (same_Some _ _ (sym (first_is line v e) ∙ letter))) also) e)
+of_all signals system line found letter read = grind (arith, common_steps, is_of, one_letter, same_Some, first_is)
 
 -- a line with another first byte is that of no satellite
 no_letter : (line : List ℕ) (b : ℕ) (v : SatelliteRow) → Some b ≡ slice_get line 0 → system_of_letter b ≡ None → line ≡ satellite_line v → ⊥

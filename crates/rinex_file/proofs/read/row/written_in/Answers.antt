@@ -2,8 +2,8 @@ use Rattle.rinex_file.proofs.Judged.{refused}
 use Rattle.rinex_file.proofs.OneReading.{has_fields, lli_column, signal_read, blank_read, none_read}
 use Rattle.rinex_file.proofs.Rows.Sizes.{strength_fits}
 use Rattle.rinex_file.proofs.Rows.Written.{signal_is}
-use Rattle.rinex_file.proofs.read.row.written_in.Goals.{After-strength_column-strength}
 use Rattle.rinex_file.proofs.Names.{◌≡◌, ◌∙◌, sym, ap, ap₂, subst, [], ◌∷◌, get_or, ℤ, pos, Option, IfSome, SignalValues, AreSignalValues, IsFrom, field, strength_byte, signal_text}
+use Rattle.rinex_file.proofs.read.row.written_in.Goals.{After-strength_column-strength}
 use Rattle.rinex_file.proofs.read.row.written_in.Goals as goal
 
 -- the strength column of values that are written here

@@ -1,6 +1,5 @@
 use Rattle.rinex_file.proofs.HeaderRows.Slots.{at, has_slot, last_bound, last_push, no_slot, number_set, slot_added, slots_are}
-use Rattle.rinex_file.proofs.Names.{AreChannels, arith, ◌≡◌, ◌∙◌, ◌∷◌, ◌++◌, ◌-◌, ◌*◌, ◌<◌, [], sym, ap, ap₂, digits_in, get_or, last_slot, length, length-append, none-some, same_Some, slots_of, subst, take, take-append-le, with_number, List, SlotNumber}
-use Rattle.rinex_file.proofs.read.slots.take_slots.Goals.{then-slot-last-via-then-slot-last, then-slot-last-via-else-slot-last+then-slot}
+use Rattle.rinex_file.proofs.Names.{AreChannels, arith, ◌≡◌, ◌∙◌, ◌∷◌, ◌++◌, ◌-◌, ◌*◌, ◌<◌, [], sym, ap, ap₂, digits_in, get_or, last_slot, length, length-append, none-some, same_Some, slots_of, subst, take, take-append-le, with_number, List, SlotNumber, common_steps}
 use Rattle.rinex_file.proofs.read.slots.take_slots.Goals as goal
 
 pub returns-in_err-number-clause-none : goal.returns-in_err-number-clause-none
@@ -13,10 +12,7 @@ returns-then-slot-last-clause-none c = λ refused count all l few.
     let s = has_slot l c.loop-index.invariant.from c.loop-index-test.true c.requires.end.1 few in
     let slot = c.digits_in-slot.ensures.value ∙ ap digits_in c.columns.ensures.value ∙ s.slot in
     let last = c.loop-index.invariant.last ∙ ap (last_slot 0) (c.loop-index.invariant.read count all l few) in
-    elim c.then-slot-last.branch [
-      | then-slot-last-via-then-slot-last w ↦ absurd (omega (arith, s.low, slot, last, w.if-slot-last.true))
-      | then-slot-last-via-else-slot-last+then-slot w ↦ absurd (omega (arith, s.high, slot, w.if-slot.true))
-    ]
+    grind (arith, common_steps, c.then-slot-last.branch)
 
 pub loop-index-preserved : goal.loop-index-preserved
 loop-index-preserved c =
@@ -49,6 +45,5 @@ returns-clause-bound c = grind (arith, c.loop-index.invariant, last_bound, slots
 
 pub returns-clause-taken : goal.returns-clause-taken
 returns-clause-taken c = λ count all l few.
-    let inv = c.loop-index.invariant in
-    let to = inv.to in
-    inv.read count all l few ∙ ap (λ n. take n all) (omega (arith, to, c.loop-index-test.false))
+    let to = c.loop-index.invariant.to in
+    c.loop-index.invariant.read count all l few ∙ ap (λ n. take n all) (omega (arith, to, c.loop-index-test.false))

@@ -1,6 +1,6 @@
 use Rattle.rinex_file.proofs.Judged.{at_some}
 use Rattle.rinex_file.proofs.HeaderRows.Types.{IsInLine, still_grows, read_here, index_read, taken_more, taken_before}
-use Rattle.rinex_file.proofs.Names.{arith, ◌≡◌, ◌∙◌, sym, ap, refl, subst, none-some, ℕ, List, [], ◌∷◌, length, take, min, ◌+◌, ◌<◌, ◌≤◌, Ok, take_at, take_min, common_steps, System, SignalAt, IsSignal, AreTypes, types_line, signals_begun, table, indices, IsAdded, IsOf, length_push, short_table}
+use Rattle.rinex_file.proofs.Names.{arith, ◌≡◌, ◌∙◌, sym, ap, refl, subst, none-some, ℕ, List, [], ◌∷◌, length, take, min, ◌+◌, ◌<◌, ◌≤◌, Ok, take_at, take_min, System, SignalAt, IsSignal, AreTypes, types_line, signals_begun, table, indices, IsAdded, IsOf, length_push, short_table}
 use Rattle.rinex_file.proofs.read.types.take_signals.Goals as goal
 
 -- the index of the signal is below that of the first one of the next line, and there are that many
@@ -22,27 +22,20 @@ returns-in-Ok-false-clause-bad c = λ refused before all l size.
 pub loop-place-preserved : goal.loop-place-preserved
 loop-place-preserved c =
     let inv = c.loop-place.invariant in
-    let s = c.in_ok-signal.signal in
-    let added : IsAdded c.loop-place.signals s c.add.new.self = c.add.ensures.new (c.in-Ok-true.is ∙ ap Ok c.in-Ok-true.field-0-test) in
+    let added : IsAdded c.loop-place.signals _ c.add.new.self = c.add.ensures.new (c.in-Ok-true.is ∙ ap Ok c.in-Ok-true.field-0-test) in
     record {
-      of = subst (λ (t : System). IsOf t c.add.new.self) (at_some _ s (λ (t : SignalAt). (t.system ≡ c.args.system) × IsSignal t) c.in_ok-signal.ensures.ok_part c.signal_in.ensures.system).0 added.2;
-      grows = still_grows c.args.signals.now c.loop-place.signals c.add.new.self inv.grows (ap (take (length c.loop-place.signals)) added.0 ∙ take_at c.loop-place.signals (s ∷ []) (length c.loop-place.signals) refl);
-      size = ap length added.0 ∙ length_push c.loop-place.signals s ∙ ap (λ n. n + 1) inv.size;
+      of = subst (λ (t : System). IsOf t c.add.new.self) (at_some _ _ (λ (t : SignalAt). (t.system ≡ c.args.system) × IsSignal t) c.in_ok-signal.ensures.ok_part c.signal_in.ensures.system).0 added.2;
+      grows = still_grows c.args.signals.now c.loop-place.signals c.add.new.self inv.grows (ap (take (length c.loop-place.signals)) added.0 ∙ take_at c.loop-place.signals (_ ∷ []) (length c.loop-place.signals) refl);
+      size = ap length added.0 ∙ length_push c.loop-place.signals _ ∙ ap (λ n. n + 1) inv.size;
       from = omega (arith, inv.from);
       to = omega arith;
       read = λ before all l size.
           let here = there l.are l.is inv.from c.loop-place-test.true c.min-end.ensures c.signals_begun.ensures size c.requires.count in
-          ap indices added.0 ∙ taken_more all c.loop-place.place s c.loop-place.signals (index_read (read_here here c.signal_in.ensures.read) c.in_ok-signal.ensures.ok_part) here.less (inv.read before all l size);
+          ap indices added.0 ∙ taken_more all c.loop-place.place _ c.loop-place.signals (index_read (read_here here c.signal_in.ensures.read) c.in_ok-signal.ensures.ok_part) here.less (inv.read before all l size);
     }
-
-whole : (all : List ℕ) (place : ℕ) {end a next count : ℕ} → place ≤ end → end ≤ place → end ≡ min a count → a ≡ next → length all ≡ count → take place all ≡ take next all
-whole all place low high is same size = grind (arith, take_min)
 
 pub returns-clause-taken : goal.returns-clause-taken
 returns-clause-taken c = λ before all l size.
     let inv = c.loop-place.invariant in
     let to = inv.to in
-    inv.read before all l size ∙ whole all c.loop-place.place to c.loop-place-test.false c.min-end.ensures c.signals_begun.ensures size
-
-pub loop-place-init : goal.loop-place-init
-loop-place-init c = grind (arith, common_steps)
+    inv.read before all l size ∙ grind (arith, take_min, c.loop-place-test.false, c.min-end.ensures, c.signals_begun.ensures)

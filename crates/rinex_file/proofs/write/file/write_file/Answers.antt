@@ -13,8 +13,5 @@ returns c =
     all_written c.args.text.now.inner.items c.loop-epoch.epoch-index c.file.view_is c.file.invariant.0 c.as_slice-epochs.ensures.value at
     c.loop-epoch-test.false written
 
-pub loop-epoch-init : goal.loop-epoch-init
-loop-epoch-init c = grind (arith, common_steps, c.index-epochs-0.is, c.in_ok-write_header.ensures)
-
 pub loop-epoch-preserved : goal.loop-epoch-preserved
 loop-epoch-preserved c = grind (arith, common_steps, c.loop-epoch.invariant, c.loop-epoch-test.true, c.epoch-item.is, c.in_ok-write_stored.ensures, one_more)

@@ -1,7 +1,7 @@
 use Rattle.rinex_file.proofs.Writing.Stored.{epoch_whole, one_more}
 use Rattle.rinex_file.proofs.Rows.Sizes.{all_values_fit}
+use Rattle.rinex_file.proofs.Names.{◌∙◌, ◌++◌, refl, ap, ap₂, subst, sym, length, append-nil, List, All, flat_map, take_all, civil_of, joined, change_lines, AreSignalValues, epoch_line, satellite_line, HasRoom, SignalValues, SatelliteRow, Stamped, satellite_row, common_steps, arith}
 use Rattle.rinex_file.proofs.write.file.write_stored.Goals.{After-as_slice-values}
-use Rattle.rinex_file.proofs.Names.{◌∙◌, ◌++◌, refl, ap, ap₂, ◌≤◌, subst, sym, length, append-nil, List, All, flat_map, take_all, civil_of, joined, change_lines, AreSignalValues, epoch_line, satellite_line, HasRoom, SignalValues, SatelliteRow, Stamped, satellite_row, most_signals}
 use Rattle.rinex_file.proofs.write.file.write_stored.Goals as goal
 
 pub loop-stored-init : goal.loop-stored-init
@@ -26,9 +26,7 @@ put_values-size-requires-clause-room c =
     all_values_fit _ (subst (All AreSignalValues) (sym c.as_slice-values.ensures.value) values)
 
 pub put_values-size-requires-clause-few : goal.put_values-size-requires-clause-few
-put_values-size-requires-clause-few c =
-    let (id, values, few) = room ((goal.at.put_values-size-requires-clause-few c).After-as_slice-values) in
-    subst (λ (es : List SignalValues). length es ≤ most_signals) (sym c.as_slice-values.ensures.value) few
+put_values-size-requires-clause-few c = grind (arith, common_steps, c.as_slice-values.ensures.value, room)
 
 pub loop-stored-preserved : goal.loop-stored-preserved
 loop-stored-preserved c =

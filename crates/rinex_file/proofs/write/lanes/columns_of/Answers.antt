@@ -1,6 +1,6 @@
 use Rattle.rinex_file.proofs.Fields.Columns.{blank_columns, field_text}
 use Rattle.rinex_file.proofs.Digits.Padded.{empty_columns, three_digits}
-use Rattle.rinex_file.proofs.Names.{not_negative, arith, ◌≡◌, ◌∙◌, sym, ap, ap₂, refl, ℕ, List, [], ◌∷◌, ◌++◌, ◌+◌, ◌/◌, ◌%◌, ◌<◌, ◌≤◌, length, replicate, decimal, pos, Some, Bool, true, false, decimal_digit, decimal_step, field, padded}
+use Rattle.rinex_file.proofs.Names.{not_negative, arith, ◌≡◌, ◌∙◌, sym, ap, ap₂, refl, ℕ, List, [], ◌∷◌, ◌++◌, ◌+◌, ◌/◌, ◌%◌, ◌<◌, ◌≤◌, length, replicate, decimal, pos, Some, Bool, decimal_digit, decimal_step, field, padded}
 use Rattle.rinex_file.proofs.write.lanes.columns_of.Goals as goal
 
 -- a point, the digits of thousandths and two blanks
@@ -16,9 +16,7 @@ whole : (n start : ℕ) (d : List ℕ) → decimal (n / 1000) ≡ d → start + 
 whole n start d is size =
     ap₂ (λ a r. a ++ (d ++ r)) (sym (blank_columns start)) (end_is n)
     ∙ ap₂ (λ (b : Bool) l. empty_columns b start ++ (l ++ (46 ∷ padded 3 (n % 1000) ++ 32 ∷ 32 ∷ []))) (sym (not_negative n)) (sym is)
-    ∙ sym (field_text (pos n) start 32 32 (ap (λ l. start + length l) is ∙ size) (λ minus. no_minus (sym (not_negative n) ∙ minus))) where
-      no_minus : false ≡ true → 1 ≤ start
-      no_minus e = cc
+    ∙ sym (field_text (pos n) start 32 32 (ap (λ l. start + length l) is ∙ size) (λ minus. cc (sym (not_negative n) ∙ minus)))
 
 one_digit : (n : ℕ) → n < 10_000 → replicate 9 32 ++ (48 + n / 1000 % 10) ∷ end n ≡ field (Some (pos n)) 32 32
 one_digit n h = whole n 9 _ (decimal_digit (n / 1000) (omega (arith, h)) ∙ ap (λ k. (48 + k) ∷ []) (omega (arith, h))) refl

@@ -1,12 +1,9 @@
 use Rattle.rinex_file.proofs.Rows.Columns.{is_signal, few_without, less_without, apart_without, value_blanked}
-use Rattle.rinex_file.proofs.Names.{bit_at, trailing_zeros, w64, bit_at-trailing_zeros, arith, ◌≡◌, ◌∙◌, ◌<◌, ◌^◌, ℕ, refl}
+use Rattle.rinex_file.proofs.Names.{bit_at, trailing_zeros, w64, bit_at-trailing_zeros, arith, ◌≡◌, ◌∙◌, ◌<◌, ◌^◌, ℕ}
 use Rattle.rinex_file.proofs.write.satellite.blank_columns.Goals as goal
 
 is_left : (left : ℕ) → (left ≡ 0 → ⊥) → left < 2 ^ 64 → bit_at left (trailing_zeros w64 left) ≡ 1
 is_left left some fits = (bit_at-trailing_zeros w64 left (omega (arith, some)) fits).1
-
-pub loop-left-init : goal.loop-left-init
-loop-left-init c = record { columns = λ own values apart h. h; apart = λ own h. h; front = refl; few = c.requires }
 
 pub put_columns-requires-clause-few : goal.put_columns-requires-clause-few
 put_columns-requires-clause-few c =
@@ -19,11 +16,10 @@ loop-left-smaller c = grind (arith, c.loop-left-test.true, c.loop-left.invariant
 pub loop-left-preserved : goal.loop-left-preserved
 loop-left-preserved c =
     let left = c.loop-left.left in
-    let p = trailing_zeros w64 left in
     let inv = c.loop-left.invariant in
     record {
       columns = λ own values apart h. value_blanked (is_left left c.loop-left-test.true (omega arith)) (inv.apart own apart) c.put_columns.ensures.columns (inv.columns own values apart h);
-      apart = λ own h. apart_without left p own (inv.apart own h);
+      apart = λ own h. apart_without left _ own (inv.apart own h);
       front = c.put_columns.ensures.front ∙ inv.front;
-      few = few_without left p inv.few;
+      few = few_without left _ inv.few;
     }

@@ -2,8 +2,8 @@
 -- first is written.
 use Rattle.rinex_file.proofs.Rows.Cells.{no_place, others_stay, other_stays, cell_put, held_fits}
 use Rattle.rinex_file.proofs.Rows.Columns.{few_with, no_cells, value_put}
+use Rattle.rinex_file.proofs.Names.{bit_or, arith, ◌≡◌, ◌∙◌, refl, sym, ap, subst, ◌-◌, ◌<◌, ◌≤◌, ◌∷◌, ℕ, List, length, drop, slice_index_or, ◌==◌, nat_eq, IsDistinct, drop_more, length-map, position, position-Some, Some, Cell, SignalAt, IsHeld, planned_of, few_signals, SignalValues, signal_values_at, entries_of, signal_values_of, most_signals, HasColumns, ◌*◌, ◌^◌, ◌%◌, short_table}
 use Rattle.rinex_file.proofs.write.satellite.put_cells.Goals.{After-list-signals, else-id-via-else-id, else-id-via-then-id+in-None-1}
-use Rattle.rinex_file.proofs.Names.{bit_or, arith, ◌≡◌, ◌∙◌, refl, sym, ap, subst, ◌-◌, ◌<◌, ◌≤◌, ◌∷◌, ℕ, List, length, drop, false, slice_index_or, ◌==◌, nat_eq, IsDistinct, drop_more, length-map, position, position-Some, Some, Cell, SignalAt, IsHeld, planned_of, few_signals, SignalValues, signal_values_at, entries_of, signal_values_of, most_signals, HasColumns, ◌*◌, ◌^◌, ◌%◌, short_table}
 use Rattle.rinex_file.proofs.write.satellite.put_cells.Goals as goal
 
 more : (cells : List Cell) (at : ℕ) (cell : Cell) → 0 < at → at ≤ length cells → cell ≡ slice_index_or cells (at - 1) cell → drop (at - 1) cells ≡ cell ∷ drop at cells
@@ -11,11 +11,9 @@ more cells at cell some within is = grind (arith, drop_more)
 
 few : (c : After-list-signals) → length (planned_of c.args.system c.args.plan.now) ≤ most_signals
 few c =
-    let size = ap length c.list-signals.ensures.indices in
     let own = length-map c.list-signals.result.now (λ (s : SignalAt). s.index) in
     let most = few_signals c.args.system _ c.list-signals.ensures.system in
-    let table = short_table c.args.system in
-    omega (arith, size, own, most, table)
+    omega (arith, ap length c.list-signals.ensures.indices, own, most, short_table c.args.system)
 
 in_plan : (index : ℕ) {signals planned : List ℕ} {p : ℕ} → signals ≡ planned → position (λ i. i == index) signals ≡ Some p → position (λ i. i == index) planned ≡ Some p
 in_plan index {signals} {planned} {p} is at = subst (λ l. position (λ i. i == index) l ≡ Some p) is at
@@ -71,8 +69,7 @@ loop-at-preserved c =
     let signals = planned_of c.args.system c.args.plan.now in
     let same : entries_of c.args.plan.now c.args.system id (cell ∷ rest) ≡ entries_of c.args.plan.now c.args.system id rest = elim c.else-id.branch [
       | else-id-via-else-id w ↦
-          let other : (cell.satellite.id == id) ≡ false = grind (arith, w, c.id.ensures.value) in
-          other_stays cell rest id signals other
+          other_stays cell rest id signals (grind (arith, w, c.id.ensures.value))
       | else-id-via-then-id+in-None-1 w ↦
           no_place cell.signal.index signals (signal_values_at (cell ∷ rest) id) (signal_values_at rest id) (grind (arith, w)) (others_stay cell rest id)
     ] in

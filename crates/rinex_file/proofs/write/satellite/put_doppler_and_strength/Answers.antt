@@ -1,11 +1,5 @@
-use Rattle.rinex_file.proofs.Names.{arith, to_z-of_z, put_chunk_whole, common_steps}
+use Rattle.rinex_file.proofs.Names.{arith, to_z-of_z, put_chunk_whole}
 use Rattle.rinex_file.proofs.write.satellite.put_doppler_and_strength.Goals as goal
 
 pub returns-then-unsigned_abs-lt100000000-clause-text : goal.returns-then-unsigned_abs-lt100000000-clause-text
 returns-then-unsigned_abs-lt100000000-clause-text c = grind (arith, c.requires.room, to_z-of_z, put_chunk_whole)
-
-pub returns-then-density-lt100000-clause-text : goal.returns-then-density-lt100000-clause-text
-returns-then-density-lt100000-clause-text c = grind (arith, common_steps)
-
-pub returns-clause-text : goal.returns-clause-text
-returns-clause-text c = grind (arith, common_steps)

@@ -7,9 +7,8 @@ use Rattle.rinex_file.proofs.write.satellite.put_satellite_line.Goals as goal
 shown : (c : After-blank_columns) → HasColumns 0 c.put_cells-own.result (entries_of c.args.plan.now c.args.system c.args.id c.args.cells.now) c.blank_columns.new.row
 shown c =
     let used = c.args.used.now in
-    let own = c.put_cells-own.result in
     let few = c.put_cells-own.ensures.few in
-    c.blank_columns.ensures.columns own _ (apart_over used own c.requires.blank.few few) (left_over few (c.put_cells-own.ensures.columns used (same_columns c.begin_columns.ensures.rest c.requires.blank)))
+    c.blank_columns.ensures.columns _ _ (apart_over used _ c.requires.blank.few few) (left_over few (c.put_cells-own.ensures.columns used (same_columns c.begin_columns.ensures.rest c.requires.blank)))
 
 pub end_columns-requires : goal.end_columns-requires
 end_columns-requires c = let places = places_are c.put_cells-own.result c.put_cells-own.ensures.few in omega (arith, places.1)

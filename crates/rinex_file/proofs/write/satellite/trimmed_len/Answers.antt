@@ -1,5 +1,5 @@
 use Rattle.rinex_file.proofs.Rows.Trimmed.{cut_more, cut_enough}
-use Rattle.rinex_file.proofs.Names.{arith, common_steps, trimmed}
+use Rattle.rinex_file.proofs.Names.{arith, trimmed}
 use Rattle.rinex_file.proofs.write.satellite.trimmed_len.Goals as goal
 
 pub loop-end-preserved : goal.loop-end-preserved
@@ -11,6 +11,3 @@ returns-else-text-end-eq32-clause-text c = grind (arith, cut_enough)
 pub returns-after-loop-end-clause-text : goal.returns-after-loop-end-clause-text
 unfolding trimmed
 returns-after-loop-end-clause-text c = grind arith
-
-pub loop-end-init : goal.loop-end-init
-loop-end-init c = grind (arith, common_steps)

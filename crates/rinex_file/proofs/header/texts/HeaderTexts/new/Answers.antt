@@ -1,5 +1,5 @@
 use Rattle.rinex_file.proofs.HeaderRows.Texts.{fault_here, fine_here, one_stored, all_cut}
-use Rattle.rinex_file.proofs.Names.{arith, ◌∙◌, sym, ap, refl, Err, result_err, err_from_is_err_and, fault_of, lists_of, common_steps}
+use Rattle.rinex_file.proofs.Names.{arith, ◌∙◌, sym, ap, refl, Err, result_err, err_from_is_err_and, fault_of, lists_of}
 use Rattle.rinex_file.proofs.header.texts.HeaderTexts.new.Goals as goal
 
 pub loop-field-preserved : goal.loop-field-preserved
@@ -25,6 +25,3 @@ pub returns-clause-texts : goal.returns-clause-texts
 returns-clause-texts c =
     let far = c.loop-field-test.false in
     all_cut (lists_of c.args.texts.now) c.loop-field.taken refl c.are_texts.ensures.count (λ j less. c.loop-field.invariant.cut j (omega (arith, less, far)))
-
-pub returns-clause-fault : goal.returns-clause-fault
-returns-clause-fault c = grind (arith, common_steps)

@@ -1,6 +1,6 @@
 use Rattle.rinex_file.proofs.HeaderRows.Texts.{set_text, cut_text}
-use Rattle.rinex_file.proofs.header.texts.HeaderTexts.set.Goals.{After-put}
 use Rattle.rinex_file.proofs.Names.{arith, ◌≡◌, ◌∙◌, sym, ap, ◌≤◌, ◌++◌, length, take, length-take, map-set, trimmed, width_of}
+use Rattle.rinex_file.proofs.header.texts.HeaderTexts.set.Goals.{After-put}
 use Rattle.rinex_file.proofs.header.texts.HeaderTexts.set.Goals as goal
 
 kept : (c : After-put) → c.put.new.line.items ≡ trimmed c.args.text.now

@@ -1,17 +1,12 @@
 -- What the next line is decides the end of the step: the end of the input, a line that is too long, or a line that
 -- the parser takes or refuses. The lines taken so far go on by one.
-use Rattle.rinex_file.specs.declared.read.lines.Found.TheVariants.{End}
 use Rattle.rinex_file.proofs.FileLines.{lines_are_lines}
 use Rattle.rinex_file.proofs.Judged.{refused as judged}
 use Rattle.rinex_file.proofs.Reading.Accepted.{epochs_read}
 use Rattle.rinex_file.proofs.Reading.Header.{no_epochs_yet, run_out, unfinished, file_shown, only_file, file_read, sound_rows, begun, expected_at}
 use Rattle.rinex_file.proofs.Reading.Lines.{at_types, one_more, refused, over_long, cut, whole, both_said, too_long, line_some, is_empty, not_empty}
-use Rattle.rinex_file.proofs.read.epochs.Reading.next.Goals.{then-self-eq-MOST_LINES+else-not-is_empty, else-self-eq-MOST_LINES}
-use Rattle.rinex_file.proofs.Names.{common_steps, is_of_types, refl, Option, Found, Line, Long, Failed, IsFound, ◌≡◌, ◌∙◌, sym, ap, subst, ℕ, List, ◌^◌, ◌+◌, ◌<◌, ◌≤◌, length, Err, arith, Refusal, GoesOnWithLine, ShowsLine, RefusesLine, TakesLine, progress_at, with_line}
+use Rattle.rinex_file.proofs.Names.{common_steps, is_of_types, refl, ◌∙◌, sym, ap, subst, ℕ, ◌^◌, ◌+◌, ◌<◌, ◌≤◌, length, Err, arith, Refusal, GoesOnWithLine, ShowsLine, RefusesLine, TakesLine, progress_at, with_line}
 use Rattle.rinex_file.proofs.read.epochs.Reading.next.Goals as goal
-
-few_lines : (lines taken : List (List ℕ)) (n : ℕ) → lines ≡ taken → length taken ≡ n → n ≤ 2 ^ 32 → length lines ≤ 2 ^ 32
-few_lines lines taken n same size few = subst (λ (k : ℕ). k ≤ 2 ^ 32) (sym (ap length same ∙ size)) few
 
 pub returns-in_default-clause-goes : goal.returns-in_default-clause-goes
 returns-in_default-clause-goes g c = λ h input read.
@@ -19,17 +14,16 @@ returns-in_default-clause-goes g c = λ h input read.
 
 pub returns-in-End-clause-goes : goal.returns-in-End-clause-goes
 returns-in-End-clause-goes g c = λ h input read.
-    let s = progress_at c.args.self.now.parser_state h in
     let end = c.in-End.ensures in
     let (expected, counted) = c.may_end.ensures.0 c.if-may_end.true in
     let some : 0 < length h.epochs = subst (λ (n : ℕ). 0 < n) read.history.counted.epochs counted in
-    let lines = file_shown s read.taken.lines expected read.history.sound some read.taken.history.are in
+    let lines = file_shown _ read.taken.lines expected read.history.sound some read.taken.history.are in
     record {
-      is = file_read s expected read.history.sound some;
-      few = few_lines _ read.taken.lines _ lines read.taken.many read.within.1;
-      text = whole lines_are_lines _ read.taken lines (is_empty _ c.if-is_empty.ensures) end.found.1 end.taken.0 (only_file s expected);
+      is = file_read _ expected read.history.sound some;
+      few = subst (λ (k : ℕ). k ≤ 2 ^ 32) (sym (ap length lines ∙ read.taken.many)) read.within.1;
+      text = whole lines_are_lines _ read.taken lines (is_empty _ c.if-is_empty.ensures) end.found.1 end.taken.0 (only_file _ expected);
       history = read.history;
-      none = sound_rows s expected read.history.sound;
+      none = sound_rows _ expected read.history.sound;
     }
 
 pub returns-in-End-2-clause-goes : goal.returns-in-End-2-clause-goes
@@ -58,11 +52,8 @@ returns-in-Ok-clause-goes g c = λ h input read.
     let next = c.in-Ok.ensures h read.history in
     let (room, few) = read.within in
     let less : c.args.self.now.count + 1 ≤ 2 ^ 32 = elim c.if-self-eq-MOST_LINES.branch [
-      | then-self-eq-MOST_LINES+else-not-is_empty w ↦
-          let empty = ap length (is_empty _ (sym w.if-not-is_empty.false ∙ w.is_empty.ensures)) in
-          let some = line_some _ c.in-Line.ensures.found.0 in
-          absurd (omega (arith, empty, some))
-      | else-self-eq-MOST_LINES w ↦ omega (arith, few, w.if-self-eq-MOST_LINES.false)
+      | goal.then-self-eq-MOST_LINES+else-not-is_empty w ↦ grind (arith, common_steps, c.in-Line.ensures.found, is_empty, line_some)
+      | goal.else-self-eq-MOST_LINES w ↦ omega (arith, few, w.if-self-eq-MOST_LINES.false)
     ] in (
       record {
         taken = one_more line read.taken c.in-Line.ensures.found.0 c.in-Line.ensures.taken.0 (subst (GoesOnWithLine old new) c.line.ensures.line next.follows)
@@ -75,34 +66,17 @@ returns-in-Ok-clause-goes g c = λ h input read.
 
 pub returns-in-Err-Bad-clause-goes : goal.returns-in-Err-Bad-clause-goes
 returns-in-Err-Bad-clause-goes g c = λ h input read.
-    let s = progress_at c.args.self.now.parser_state h in
     let takes = subst (λ (r : Refusal). TakesLine c.args.self.now.parser_state c.take.new.self c.line.result.now (Err r)) c.in-Err-Bad.field-0-is c.in-Err-Bad.ensures in
     both_said input _ _ _ c.fault_at-fault.ensures.faulty
-    (refused lines_are_lines _ c.next.new.self.line read.taken c.in-Line.ensures.found.0 c.in-Line.ensures.taken.0 (subst (RefusesLine s) c.line.ensures.line (takes h read.history)))
+    (refused lines_are_lines _ c.next.new.self.line read.taken c.in-Line.ensures.found.0 c.in-Line.ensures.taken.0 (subst (RefusesLine _) c.line.ensures.line (takes h read.history)))
     (expected_at read.taken refl read.history)
 
 pub returns-in-Failed-clause-decided : goal.returns-in-Failed-clause-decided
 returns-in-Failed-clause-decided g c = λ is h input read.
     epochs_read (g.R.Read.remaining c.next.new.reader.inner) c.next.new.self.line read c.in-Failed.ensures.taken.0 (c.in-Failed.ensures.failed refl) c.in-Failed.ensures.found.1
 
-pub overflow_add-number : goal.overflow_add-number
-overflow_add-number g c = let (h, input, read) = c.requires in let few = read.within.1 in omega (arith, few)
-
-pub take-requires-clause-history : goal.take-requires-clause-history
-take-requires-clause-history g c = let (h, input, read) = c.requires in (h, read.history)
-
-pub take-requires-clause-room : goal.take-requires-clause-room
-take-requires-clause-room g c = grind (arith, c.requires)
-
--- no failure is counted unless the reader failed
-none_counted : (found : Found) (bytes : List ℕ) (left : Option (List ℕ)) {old new : ℕ} → IsFound found bytes left old new → (found ≡ Failed → ⊥) → new ≡ old
-none_counted Line bytes left is other = is.1
-none_counted End bytes left is other = is.2
-none_counted Long bytes left is other = is.2
-none_counted Failed bytes left is other = absurd (other refl)
-
 pub returns-in_default-clause-same : goal.returns-in_default-clause-same
-returns-in_default-clause-same g c = λ other. none_counted c.next.result _ _ c.next.ensures.found c.in_default.not-Failed
+returns-in_default-clause-same g c = λ other. grind (arith, common_steps, c.next.ensures.found, c.in_default.not-Failed)
 
 -- memory runs out at a line of types in the header
 pub returns-in-Err-Memory-clause-goes : goal.returns-in-Err-Memory-clause-goes

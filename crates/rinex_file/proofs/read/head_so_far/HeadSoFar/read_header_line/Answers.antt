@@ -1,7 +1,7 @@
 -- Each kind of row is read by its own function: what it takes is kept, and a line that it refuses is no line of the
 -- row, so that the header so far is as it was.
 use Rattle.rinex_file.proofs.HeaderRows.Read.{line_interval, refuse_interval, line_version, refuse_version, line_texts, refuse_texts, line_position, refuse_position, line_delta, refuse_delta, line_unit, line_first, refuse_first, line_shift, line_slots, line_biases}
-use Rattle.rinex_file.proofs.Names.{arith, common_steps, ap, Option, Some, ◌≡◌, subst, refl, ℕ, List, Bool, true, false, is_some, ⊤, HeaderField, HeaderRow, Texts, HeaderLists, Known, ReadsOrRefuses, ReadsOrRefusesTexts, with_texts, AreItemsBefore, Slots, sym}
+use Rattle.rinex_file.proofs.Names.{ap, Option, Some, ◌≡◌, subst, refl, ℕ, List, Bool, true, false, is_some, ⊤, HeaderField, HeaderRow, Texts, HeaderLists, Known, ReadsOrRefuses, ReadsOrRefusesTexts, with_texts, AreItemsBefore, Slots, sym}
 use Rattle.rinex_file.proofs.read.head_so_far.HeadSoFar.read_header_line.Goals as goal
 
 -- the row, what was known before it and what was returned, by other names
@@ -57,6 +57,3 @@ returns-in-Slots c = of_row c.args.line.now _ _ refl c.in-Slots.is c.self.view_i
 
 pub returns-in-Biases : goal.returns-in-Biases
 returns-in-Biases c = of_row c.args.line.now c.args.self.now _ refl c.in-Biases.is refl (line_biases c.args.self.now c.args.line.now _ c.read_labelled-in-Biases.ensures)
-
-pub returns-in-Types : goal.returns-in-Types
-returns-in-Types c = grind (arith, common_steps, c.in-Types.is, c.requires)

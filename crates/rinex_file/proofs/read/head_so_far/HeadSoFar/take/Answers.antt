@@ -3,7 +3,7 @@ use Rattle.rinex_file.proofs.HeaderRows.End.{ends, no_end_line}
 use Rattle.rinex_file.proofs.HeaderRows.Steps.{decided, items_expected, none_at, none_from, read_next, row_law, takes_from, takes_row, unread_next}
 use Rattle.rinex_file.proofs.HeaderRows.Places.{place_at}
 use Rattle.rinex_file.proofs.Judged.{refused}
-use Rattle.rinex_file.proofs.Names.{arith, common_steps, is_of_types, is_some, ◌≡◌, ◌∙◌, sym, ap, subst, refl, ℕ, List, Result, Ok, Err, IsErrAnd, HeaderRow, Expected, Refusal, Memory, Bad, End, end_line, row_place, Known, IsHeadAt, SameFrom, known_line, EndsHeader, NoneGoesOn, TakesHeaderLine, true}
+use Rattle.rinex_file.proofs.Names.{arith, common_steps, is_of_types, is_some, ◌≡◌, ◌∙◌, sym, ap, subst, refl, ℕ, List, Result, Ok, Err, IsErrAnd, Expected, Refusal, Memory, Bad, End, end_line, row_place, Known, IsHeadAt, SameFrom, EndsHeader, NoneGoesOn, TakesHeaderLine, true}
 use Rattle.rinex_file.proofs.read.head_so_far.HeadSoFar.take.Goals as goal
 
 -- a refusal that was passed on
@@ -28,14 +28,8 @@ returns-in-End c =
     at_end c.args.self.now c.place_from-place.result c.args.from c.args.line.now (place_at c.place_from-place.result End same.expected (sym c.row_at.ensures ∙ c.in-End.is)) c.requires same
     (c.read_labelled.ensures.0 (sym c.is_some.ensures ∙ c.if-is_some.true))
 
-here_known : (k : Known) (line : List ℕ) {r q : HeaderRow} → r ≡ q → known_line k line q ≡ true → known_line k line r ≡ true
-here_known k line e known = ap (known_line k line) e ∙ known
-
-pub read_row-requires-clause-other : goal.read_row-requires-clause-other
-read_row-requires-clause-other c = c.in_default.not-End
-
 pub read_row-requires-clause-before : goal.read_row-requires-clause-before
-read_row-requires-clause-before c = grind (arith, common_steps, c.place_from-place.ensures, c.requires, c.row_at.ensures, items_expected, here_known)
+read_row-requires-clause-before c = grind (arith, common_steps, c.place_from-place.ensures, c.requires, c.row_at.ensures, items_expected)
 
 pub returns-in_err-read_row-in_default : goal.returns-in_err-read_row-in_default
 returns-in_err-read_row-in_default c = stopped c.args.self.now _ c.args.from c.args.line.now _ c.from_residual.ensures.1

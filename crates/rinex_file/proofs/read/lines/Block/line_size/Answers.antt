@@ -1,5 +1,5 @@
 use Rattle.rinex_file.proofs.Reading.Lines.{no_feed}
-use Rattle.rinex_file.proofs.Names.{arith, ◌≡◌, ◌∙◌, sym, ap, ℕ, ◌+◌, ◌≤◌, take, length, subst, List, [], ◌∷◌, ◌++◌, Option, Some, min, min-le_left, eqb-true, take_more, take-take, length-take-le, IsFirstByte, is_byte, IsLine, most_line}
+use Rattle.rinex_file.proofs.Names.{arith, ◌∙◌, sym, ap, ℕ, ◌+◌, ◌≤◌, take, length, subst, List, [], ◌∷◌, ◌++◌, Some, min-le_left, eqb-true, take_more, take-take, length-take-le, IsFirstByte, is_byte, IsLine}
 use Rattle.rinex_file.proofs.read.lines.Block.line_size.Goals as goal
 
 -- the bytes up to the first line feed
@@ -12,9 +12,6 @@ line_at held room n within (none, feed) =
       no_feed near n (λ k less. none.before k (omega arith) less) (omega (arith, none.high)),
     )
 
-line_of : (held : List ℕ) (r : Option ℕ) (most room n : ℕ) → room ≡ min (length held) most → IsFirstByte (is_byte 10) (take room held) r → r ≡ Some n → IsLine (take (n + 1) held)
-line_of held r most room n least first is = grind (arith, min-le_left, line_at)
-
 pub returns-in-Some-clause-whole : goal.returns-in-Some-clause-whole
 returns-in-Some-clause-whole c = λ some.
-    subst (λ (l : List ℕ). IsLine (take (c.in-Some.feed + 1) l)) c.self.view_is (line_of _ c.memchr.result most_line c.min.result c.in-Some.feed c.min.ensures c.memchr.ensures c.in-Some.is)
+    subst (λ (l : List ℕ). IsLine (take (c.in-Some.feed + 1) l)) c.self.view_is (grind (arith, min-le_left, line_at, c.min.ensures, c.memchr.ensures, c.in-Some.is))

@@ -6,8 +6,7 @@ use Rattle.rinex_file.proofs.read.parser_state.ParserState.take.Goals as goal
 
 pub returns-in_err-self-in-Header : goal.returns-in_err-self-in-Header
 returns-in_err-self-in-Header c = passed c.args.self.now _ c.args.line.now _ c.from_residual.ensures.1 (λ e same bad h history.
-    let s = progress_at c.args.self.now h in
-    no_header s c.args.line.now c.in-Header.is (subst (λ (r : Refusal). TakesHeaderLine c.args.self.now.head c.in-Header.place c.args.line.now c.take.new.self (Err r)) (sym same ∙ bad) c.in_err-self-in-Header.ensures))
+    no_header _ c.args.line.now c.in-Header.is (subst (λ (r : Refusal). TakesHeaderLine c.args.self.now.head c.in-Header.place c.args.line.now c.take.new.self (Err r)) (sym same ∙ bad) c.in_err-self-in-Header.ensures))
     (λ e same run. subst (λ (d : Expected). MayRunOut d c.args.line.now) (sym c.in-Header.is)
     (subst (λ (r : Refusal). TakesHeaderLine c.args.self.now.head c.in-Header.place c.args.line.now c.take.new.self (Err r)) (sym same ∙ run) c.in_err-self-in-Header.ensures))
 

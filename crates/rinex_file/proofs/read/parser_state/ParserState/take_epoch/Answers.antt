@@ -16,9 +16,8 @@ Reads line r = ReadsExactly (λ (e : ℕ × ℕ). IsTime e.0 × e.1 ≤ 999) (λ
 
 pub returns-in_err-time : goal.returns-in_err-time
 returns-in_err-time c = stopped c.args.self.now _ c.args.line.now _ c.from_residual.ensures.1 (λ e same. same ∙ bad_of c.in_err-time.ensures.value c.in_err-time.ensures.ok_part) (λ h history.
-    let s = progress_at c.args.self.now h in
-    no_epoch s c.args.change c.args.line.now c.requires.expected (λ none both. c.requires.event none (subst (λ (n : ℕ). 0 < n) (sym history.counted.epochs) both.0, both.1))
-    (λ w is. (subst (Reads c.args.line.now) c.in_err-time.ensures.ok_part c.read_epoch_line.ensures) w (fits s w is)))
+    no_epoch _ c.args.change c.args.line.now c.requires.expected (λ none both. c.requires.event none (subst (λ (n : ℕ). 0 < n) (sym history.counted.epochs) both.0, both.1))
+    (λ w is. (subst (Reads c.args.line.now) c.in_err-time.ensures.ok_part c.read_epoch_line.ensures) w (fits _ w is)))
 
 pub returns-then-not-may_begin : goal.returns-then-not-may_begin
 returns-then-not-may_begin c = λ h history.
@@ -33,9 +32,8 @@ returns c = λ h history.
     let (read, rows, change, same) = sound_epoch s c.args.change c.requires.expected history.sound in
     let (is, shown, only) = subst (Reads c.args.line.now) c.in_ok-time.ensures.ok_part c.read_epoch_line.ensures in
     let time = c.in_ok-time.time in
-    let n = c.in_ok-time.satellites in
     let may = (c.may_begin.ensures h history).0 c.if-not-may_begin.false in
-    goes_on (Satellite n) c.args.self.now.head c.args.change time history (sound_begun read rows may is.0 change same)
+    goes_on (Satellite _) c.args.self.now.head c.args.change time history (sound_begun read rows may is.0 change same)
     (epoch_taken s c.args.change rows shown (λ w begins. only w (fits s w begins)) c.requires.expected
     (λ none both. c.requires.event none (subst (λ (k : ℕ). 0 < k) (sym history.counted.epochs) both.0, both.1)))
-    (epoch_shows s c.args.change time n c.args.line.now c.requires.expected rows shown) (outside_after c.args.self.now.expected c.args.change c.requires.expected) (λ other. refl)
+    (epoch_shows s c.args.change time _ c.args.line.now c.requires.expected rows shown) (outside_after c.args.self.now.expected c.args.change c.requires.expected) (λ other. refl)

@@ -1,16 +1,12 @@
 use Rattle.rinex_file.proofs.Judged.{refused}
 use Rattle.rinex_file.proofs.Reading.Epochs.{bad_of, goes_on, stopped}
 use Rattle.rinex_file.proofs.Reading.Events.{height_taken, height_shows, no_height, same_height, sound_height}
-use Rattle.rinex_file.proofs.Names.{◌≡◌, ◌∙◌, ◌<◌, ◌^◌, ReadsExactly, height_line, sym, ap, subst, refl, ℕ, List, Option, Some, None, unwrap_or, StationValues, changed_by, ParserState, NoRow, Expected, EventEpoch, History, IsNext, ExpectsRow, progress_at}
+use Rattle.rinex_file.proofs.Names.{◌≡◌, ◌∙◌, ◌<◌, ◌^◌, ReadsExactly, height_line, sym, ap, subst, refl, ℕ, List, Option, unwrap_or, StationValues, changed_by, ParserState, NoRow, Expected, EventEpoch, History, IsNext, ExpectsRow, progress_at, common_steps, arith}
 use Rattle.rinex_file.proofs.read.parser_state.ParserState.take_height.Goals as goal
-
-unwrapped : (o : Option StationValues) (v : StationValues) → unwrap_or o v ≡ changed_by v o
-unwrapped None v = refl
-unwrapped (Some w) v = refl
 
 -- the current station values, by those that changed last
 current : (k s : ParserState) (result : StationValues) → k ≡ s → result ≡ unwrap_or k.values k.head.shown.values → result ≡ changed_by s.head.shown.values s.values
-current k s result same is = is ∙ unwrapped k.values k.head.shown.values ∙ ap (λ (t : ParserState). changed_by t.head.shown.values t.values) same
+current k s result same is = is ∙ grind (arith, common_steps) ∙ ap (λ (t : ParserState). changed_by t.head.shown.values t.values) same
 
 abbrev then : ParserState → Expected → ParserState
 then k expected = record k { expected = expected }

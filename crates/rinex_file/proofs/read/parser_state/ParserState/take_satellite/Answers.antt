@@ -2,7 +2,7 @@
 -- with the last one expected, the epoch is complete, and its counts, times and station values go on.
 use Rattle.rinex_file.proofs.Reading.Epochs.{bad_of, stopped, rise_after, rise_last, values_more, row_taken, row_shows, last_shows, no_row, bad_row, last_taken, sound_open, few_at, sound_row, sound_closed}
 use Rattle.rinex_file.proofs.FewRows.{some_rank}
-use Rattle.rinex_file.proofs.Names.{is_some, open_epochs, arith, ◌≡◌, ◌∙◌, ◌+◌, ◌-◌, ◌<◌, ◌∷◌, ◌++◌, [], ℕ, suc, List, sym, ap, subst, refl, length, length-append, Bool, Option, Some, None, IfSome, option_or, map, ◌≤◌, ◌↔◌, IsStrictlyIncreasing, map-append, sum_by-append, System, Satellite, SatelliteRow, Stamped, StationValues, IsSatelliteRow, changed_by, rank_of, time_stamped, satellite_line, Progress, ReadsExactly, some_if, EpochTimes, AreTimes, AreTimesOrNone, IsLast, changes_of, stamped_at, events_in, progress_at, rows_in, ExpectsRow}
+use Rattle.rinex_file.proofs.Names.{is_some, open_epochs, arith, ◌≡◌, ◌∙◌, ◌+◌, ◌-◌, ◌<◌, ◌∷◌, ◌++◌, [], ℕ, suc, List, sym, ap, subst, refl, length, length-append, Bool, Option, Some, None, IfSome, map, ◌↔◌, IsStrictlyIncreasing, map-append, sum_by-append, System, Satellite, SatelliteRow, Stamped, StationValues, IsSatelliteRow, changed_by, rank_of, time_stamped, satellite_line, Progress, ReadsExactly, some_if, EpochTimes, AreTimes, AreTimesOrNone, IsLast, changes_of, stamped_at, progress_at, rows_in, ExpectsRow}
 use mir.Val.{bool_byte}
 use Rattle.rinex_file.proofs.read.parser_state.ParserState.take_satellite.Goals as goal
 
@@ -47,9 +47,8 @@ returns-then-rank-self c = λ h history.
     let s = progress_at c.args.self.now h in
     let seen = c.read_row.new.row in
     let (read, begun, some, room) = sound_open s c.args.left c.requires.expected history.sound in
-    let one = one_expected c.args.left s c.requires.expected some in
     let shown = shows c.args.line.now seen c.planned_signals-planned.ensures (ap is_some c.in_ok-ok_or.ensures.ok_part) c.read_row.ensures in
-    bad_row s (c.args.left - 1) c.args.line.now one seen shown.2
+    bad_row s (c.args.left - 1) c.args.line.now (one_expected c.args.left s c.requires.expected some) seen shown.2
     (λ rise. let more = (increasing h.rows _ history.counted.rank shown.0 c.rank_of-rank.ensures).1 rise in omega (arith, more, c.if-rank-self.true))
 
 last_before : (all : List ℕ) (times : Option EpochTimes) (time : ℕ) → AreTimesOrNone all times → IsStrictlyIncreasing (all ++ time ∷ []) → IfSome times (λ t. t.last < time)
@@ -65,21 +64,14 @@ with_later-requires c =
 row_counted : (es : List Stamped) (rows : List SatelliteRow) (seen : SatelliteRow) (n : ℕ) → n ≡ rows_in es + length rows → n + 1 ≡ rows_in es + length (rows ++ seen ∷ [])
 row_counted es rows seen n e = let size : length (rows ++ seen ∷ []) ≡ length rows + 1 = length-append rows (seen ∷ []) in omega (arith, e, size)
 
-epoch_counted : (es : List Stamped) (e : Stamped) (rows : List SatelliteRow) (seen : SatelliteRow) (n : ℕ) → e.rows ≡ rows ++ seen ∷ [] → n ≡ rows_in es + length rows → n + 1 ≡ rows_in (es ++ e ∷ []) + 0
-epoch_counted es e rows seen n same all = grind (arith, length-append, sum_by-append)
-
 one_longer : (es : List Stamped) (e : Stamped) (n : ℕ) → n ≡ length es → n + 1 ≡ length (es ++ e ∷ [])
 one_longer es e n all = let size : length (es ++ e ∷ []) ≡ length es + 1 = length-append es (e ∷ []) in omega (arith, all, size)
-
-event_counted : (es : List Stamped) (e : Stamped) (n k : ℕ) → k ≡ changes_of e.change → n ≡ events_in es → n + k ≡ events_in (es ++ e ∷ [])
-event_counted es e n k one all = grind (arith, sum_by-append)
 
 pub returns-then-left-gt1 : goal.returns-then-left-gt1
 returns-then-left-gt1 c = λ h history.
     let s = progress_at c.args.self.now h in
-    let seen = c.read_row.new.row in
     let (read, begun, some, room) = sound_open s c.args.left c.requires.expected history.sound in
-    let shown = shows c.args.line.now seen c.planned_signals-planned.ensures (ap is_some c.in_ok-ok_or.ensures.ok_part) c.read_row.ensures in
+    let shown = shows c.args.line.now _ c.planned_signals-planned.ensures (ap is_some c.in_ok-ok_or.ensures.ok_part) c.read_row.ensures in
     let rise = (increasing h.rows _ history.counted.rank shown.0 c.rank_of-rank.ensures).0 c.if-rank-self.false in
     let more : 0 < c.args.left - 1 = let n = c.if-left-gt1.true in omega (arith, n) in
     record {
@@ -89,55 +81,46 @@ returns-then-left-gt1 c = λ h history.
             let old = history.counted in
             record {
               times = old.times;
-              rank = last_rank h.rows seen c.rank_of-rank.result c.rank_of-rank.ensures rise;
+              rank = last_rank h.rows _ c.rank_of-rank.result c.rank_of-rank.ensures rise;
               values = old.values;
               epochs = old.epochs;
-              satellites = row_counted h.epochs h.rows seen c.args.self.now.counts.satellites old.satellites;
+              satellites = row_counted h.epochs h.rows _ c.args.self.now.counts.satellites old.satellites;
               events = old.events;
             };
       };
-      follows = row_taken s (c.args.left - 1) c.args.line.now (one_expected c.args.left s c.requires.expected some) seen shown.1 shown.2;
-      shows = row_shows s (c.args.left - 1) c.args.line.now (one_expected c.args.left s c.requires.expected some) seen shown.1;
+      follows = row_taken s (c.args.left - 1) c.args.line.now (one_expected c.args.left s c.requires.expected some) _ shown.1 shown.2;
+      shows = row_shows s (c.args.left - 1) c.args.line.now (one_expected c.args.left s c.requires.expected some) _ shown.1;
       room = λ n few. let begun = ap open_epochs c.requires.expected in (omega (arith, begun, few.0), omega (arith, few.1));
       adds = (subst ExpectsRow (sym c.requires.expected) tt, tt, (refl, refl, refl));
     }
-
--- the station values that changed last, after a change or none
-changed_or : (result change before : Option StationValues) (v : StationValues) → result ≡ option_or change before → changed_by v result ≡ changed_by (changed_by v before) change
-changed_or result change before v e = grind arith
-
--- at most one event is counted
-event_room : (k : ℕ) (b : Bool) (n : ℕ) → k ≤ n → k + bool_byte b ≤ n + 1
-event_room k b n few = grind arith
 
 changed : (o : Option StationValues) (b : Bool) → b ≡ is_some o → bool_byte b ≡ changes_of o
 changed o b is = grind arith
 
 pub returns : goal.returns
 returns c = λ h history.
-    let s = progress_at c.args.self.now h in
     let seen = c.read_row.new.row in
-    let (read, begun, some, room) = sound_open s c.args.left c.requires.expected history.sound in
+    let (read, begun, some, room) = sound_open _ c.args.left c.requires.expected history.sound in
     let shown = shows c.args.line.now seen c.planned_signals-planned.ensures (ap is_some c.in_ok-ok_or.ensures.ok_part) c.read_row.ensures in
     let rise = (increasing h.rows _ history.counted.rank shown.0 c.rank_of-rank.ensures).0 c.if-rank-self.false in
     let last : c.args.left ≡ suc 0 = let n = c.if-left-gt1.false in omega (arith, n, some) in
     let epoch = stamped_at c.args.self.now.change c.args.self.now.time (h.rows ++ seen ∷ []) in
     record {
       history = record {
-        sound = sound_closed s 0 c.requires.expected history.sound shown.0 rise;
+        sound = sound_closed _ 0 c.requires.expected history.sound shown.0 rise;
         counted =
             let old = history.counted in
             record {
               times = subst (λ (ts : List ℕ). AreTimes ts c.with_later.result) (sym (map-append time_stamped h.epochs (epoch ∷ []))) (c.with_later.ensures _ old.times);
               rank = λ n some. (λ less k room. absurd (omega (arith, room)), λ rise. some);
-              values = λ v. changed_or c.or-self.result c.args.self.now.change c.args.self.now.values v c.or-self.ensures ∙ ap (λ (w : StationValues). changed_by w c.args.self.now.change) (old.values v) ∙ sym (values_more v h.epochs epoch);
+              values = λ v. (grind (arith, c.or-self.ensures)) ∙ ap (λ (w : StationValues). changed_by w c.args.self.now.change) (old.values v) ∙ sym (values_more v h.epochs epoch);
               epochs = one_longer h.epochs epoch c.args.self.now.counts.epochs old.epochs;
-              satellites = epoch_counted h.epochs epoch h.rows seen c.args.self.now.counts.satellites refl old.satellites;
-              events = event_counted h.epochs epoch c.args.self.now.counts.events _ (changed c.args.self.now.change c.is_some.result c.is_some.ensures) old.events;
+              satellites = grind (arith, length-append, sum_by-append, old.satellites);
+              events = grind (arith, sum_by-append, changed c.args.self.now.change c.is_some.result c.is_some.ensures, old.events);
             };
       };
-      follows = last_taken s c.args.line.now (c.requires.expected ∙ ap Satellite last) seen shown.1 shown.2;
-      shows = last_shows s c.args.line.now (c.requires.expected ∙ ap Satellite last) seen shown.1;
-      room = λ n few. let begun = ap open_epochs c.requires.expected in (omega (arith, begun, few.0), event_room _ _ n few.1);
+      follows = last_taken _ c.args.line.now (c.requires.expected ∙ ap Satellite last) seen shown.1 shown.2;
+      shows = last_shows _ c.args.line.now (c.requires.expected ∙ ap Satellite last) seen shown.1;
+      room = λ n few. let begun = ap open_epochs c.requires.expected in (omega (arith, begun, few.0), grind (arith, few.1));
       adds = (subst ExpectsRow (sym c.requires.expected) tt, refl, (refl, refl, refl));
     }

@@ -6,9 +6,6 @@ use Rattle.rinex_file.proofs.read.slots.SlotsSoFar.take.Goals as goal
 pub returns-then-count : goal.returns-then-count
 returns-then-count c = λ all l. too_many l (count_is l c.read_count-count.ensures.later c.read_count-count.ensures.first) c.if-count.true
 
-pub overflow_add-most : goal.overflow_add-most
-overflow_add-most c = let last = c.in_ok-last.ensures.bound in omega (arith, last, c.if-count.false)
-
 pub returns-in_err-last : goal.returns-in_err-last
 returns-in_err-last c = rw c.from_residual.ensures (λ all l.
     let size = count_is l c.read_count-count.ensures.later c.read_count-count.ensures.first in

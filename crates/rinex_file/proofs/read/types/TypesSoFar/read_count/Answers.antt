@@ -1,6 +1,5 @@
 use Rattle.rinex_file.proofs.HeaderRows.Types.{few_types, count_read}
-use Rattle.rinex_file.proofs.read.types.TypesSoFar.read_count.Goals.{then-count-eq0-via-then-count-eq0, then-count-eq0-via-else-count-eq0+then-count-signals}
-use Rattle.rinex_file.proofs.Names.{arith, ◌≡◌, ◌∙◌, ap, ℕ, List, ◌/◌, ◌≤◌, Some, System, digits_in, types_line, short_table}
+use Rattle.rinex_file.proofs.Names.{arith, ◌≡◌, ◌∙◌, ap, ℕ, List, ◌/◌, ◌≤◌, Some, System, digits_in, types_line, short_table, common_steps}
 use Rattle.rinex_file.proofs.read.types.TypesSoFar.read_count.Goals as goal
 
 first_row : (system : System) (all line : List ℕ) (row : ℕ) → row ≤ 0 → line ≡ types_line system all row → line ≡ types_line system all 0
@@ -10,10 +9,7 @@ pub returns-then-count-eq0-clause-count : goal.returns-then-count-eq0-clause-cou
 returns-then-count-eq0-clause-count c = λ old all l.
     let read = ap (λ n. n / 4) (c.digits_in-types.ensures.value ∙ ap digits_in c.columns.ensures.value) ∙ count_read c.args.system all c.args.line.now l.are (short_table c.args.system) (first_row c.args.system all c.args.line.now c.args.row c.if-row-gt0.false l.is) in
     let few = few_types c.args.system all l.are in let are = l.are in
-    elim c.then-count-eq0.branch [
-      | then-count-eq0-via-then-count-eq0 w ↦ absurd (omega (arith, w.if-count-eq0.true, read, are.some))
-      | then-count-eq0-via-else-count-eq0+then-count-signals w ↦ absurd (omega (arith, w.if-count-signals.true, w.signals.ensures.value, read, few))
-    ]
+    grind (arith, common_steps, c.then-count-eq0.branch)
 
 pub returns-clause-count : goal.returns-clause-count
 returns-clause-count c = λ old all l.
