@@ -16,18 +16,8 @@ firsts-push xs y = firsts_after-push [] xs y
 
 -- ---- keys
 
--- A cell has its own key.
-key_refl : (x : HeardCell) → has_same_key x x ≡ true
-key_refl x = grind (arith, common_steps)
-
-key_symm : (x y : HeardCell) → has_same_key x y ≡ has_same_key y x
-key_symm x y = grind (arith, common_steps)
-
-key_congr : (x y z : HeardCell) → has_same_key x y ≡ true → has_same_key x z ≡ has_same_key y z
-key_congr x y z h = grind (arith, common_steps)
-
 pub same_key_laws : IsEquivalence has_same_key
-same_key_laws = record { refl = key_refl; symm = key_symm; congr = key_congr }
+same_key_laws = record { refl = λ x. grind (arith, common_steps); symm = λ x y. grind (arith, common_steps); congr = λ x y z h. grind (arith, common_steps) }
 
 -- Cells of the same key are of the same system.
 pub key_system : (system : System) (x y : HeardCell) → has_same_key x y ≡ true → is_of_system system x ≡ is_of_system system y
@@ -47,9 +37,6 @@ firsts_after-among : (earlier xs : List HeardCell) (y : HeardCell) → (is_among
 firsts_after-among earlier [] y = refl
 firsts_after-among earlier (x ∷ xs) y = among_after earlier xs x y (firsts_after-among (earlier ++ x ∷ []) xs y)
 
-pub firsts-among : (xs : List HeardCell) (y : HeardCell) → is_among (firsts xs) y ≡ is_among xs y
-firsts-among xs y = firsts_after-among [] xs y
-
 -- ---- the kept cells, cell by cell
 
 -- The first cells of a system, kept or not.
@@ -58,11 +45,7 @@ mine system xs = filter (is_of_system system) (firsts xs)
 
 pub mine-among : (system : System) (xs : List HeardCell) (y : HeardCell) → is_of_system system y ≡ true → is_among (mine system xs) y ≡ is_among xs y
 mine-among system xs y of =
-    any-filter_same (has_same_key y) (is_of_system system) true (λ k same. sym (key_system system y k same) ∙ of) (firsts xs) ∙ firsts-among xs y
-
--- The first cells of a system after one more cell.
-pub mine-push : (system : System) (xs : List HeardCell) (y : HeardCell) → mine system (xs ++ y ∷ []) ≡ mine system xs ++ (if is_of_system system y && not (is_among xs y) then y ∷ [] else [])
-mine-push system xs y = grind (arith, common_steps, firsts-push, filter-append)
+    any-filter_same (has_same_key y) (is_of_system system) true (λ k same. sym (key_system system y k same) ∙ of) (firsts xs) ∙ firsts_after-among [] xs y
 
 abbrev add_to : ℕ → List HeardCell → HeardCell → List HeardCell
 add_to n ks y = if is_among ks y || nat_le n (length ks) then ks else ks ++ y ∷ []
@@ -73,7 +56,7 @@ added_to n l y among is = grind (arith, common_steps)
 
 -- The kept cells after one more cell are those before, with that cell added.
 pub kept-add : (system : System) (xs : List HeardCell) (y : HeardCell) → kept system (xs ++ y ∷ []) ≡ add system (kept system xs) y
-kept-add system xs y = ap (take most_cells) (mine-push system xs y) ∙ by (is_of_system system y) refl where
+kept-add system xs y = ap (take most_cells) (grind (arith, common_steps, firsts-push, filter-append)) ∙ by (is_of_system system y) refl where
   by : (of : Bool) → is_of_system system y ≡ of
       → take most_cells (mine system xs ++ (if of && not (is_among xs y) then y ∷ [] else []))
       ≡ (if of && not (is_among (kept system xs) y || nat_le most_cells (length (kept system xs))) then kept system xs ++ y ∷ [] else kept system xs)

@@ -1,7 +1,7 @@
 -- Laws of the choice of epochs.
-use Rattle.obs_epoch.proofs.Names.{◌≡◌, ℕ, zero, suc, ◌+◌, length, map, ◌<◌, ◌≤◌, ◌*◌, Bool, true, false, ◌&&◌, List, [], ◌∷◌, ◌++◌, filter, refl, sym, ap, ap₂, arith, Option, None, IfSome, nat_le, nat_lt, not, cond, if◌then◌else◌, AllByRecursion, common_steps, week, TimesRise, Choice, every_epoch, in_window, closed_list_at, Cell, Closed, EpochValue, GatherSetup, Heard, Timed, taken_at, timed_after, times, weeks, counts_among, has_satellite, is_left_out, mark_if, marked_epoch, thin, thin_after, is_written, satellites_written, written_among, value_tabulated}
+use Rattle.obs_epoch.proofs.Names.{◌≡◌, ℕ, zero, suc, ◌+◌, length, map, ◌<◌, ◌≤◌, Bool, true, false, ◌&&◌, List, [], ◌∷◌, ◌++◌, filter, refl, sym, ap, ap₂, arith, None, nat_le, nat_lt, not, cond, if◌then◌else◌, AllByRecursion, common_steps, TimesRise, Choice, every_epoch, in_window, closed_list_at, Cell, Closed, GatherSetup, Heard, counts_among, has_satellite, is_left_out, mark_if, thin, thin_after, is_written, written_among, value_tabulated, all_filter}
 use Rattle.obs_epoch.specs.Laws.{IsThinnedByChoice, IsWholeByEvery, NoneReturned, ReturnsEvery, WindowsAreApart, WindowsJoin, with_window}
-use Rattle.obs_epoch.proofs.ReachLemmas.{IsWithin, all_append, all_filter, taken_within}
+use Rattle.obs_epoch.proofs.ReachLemmas.{IsWithin, all_within}
 use Rattle.obs_epoch.proofs.ThinLemmas.{marks_none, none_lost}
 
 -- ---- every epoch
@@ -44,34 +44,12 @@ apart c from middle until t h = grind arith
 
 -- ---- the default
 
-every_window : (t : ℕ) → t < weeks * week → in_window every_epoch t ≡ true
-every_window t h = grind (arith, h)
-
-some_within : (o : Option ℕ) → IfSome o IsWithin → IfSome o (λ t. in_window every_epoch t ≡ true)
-some_within o h = grind (arith, every_window)
-
-abbrev IsInWindow : Timed → Type 0
-IsInWindow x = IfSome x.time (λ t. in_window every_epoch t ≡ true)
-
-timed_within : (s : GatherSetup) (earlier : List Timed) (ms : List Heard) → AllByRecursion IsInWindow earlier → AllByRecursion IsInWindow (timed_after s earlier ms)
-timed_within s earlier [] h = h
-timed_within s earlier (m ∷ ms) h =
-    let x : Timed = record { message = m; time = taken_at s earlier m } in
-    timed_within s (earlier ++ x ∷ []) ms (all_append IsInWindow earlier (x ∷ []) h (some_within (taken_at s earlier m) (taken_within s earlier m), tt))
-
-abbrev AreInWindow : List ℕ → Type 0
-AreInWindow ts = AllByRecursion (λ t. in_window every_epoch t ≡ true) ts
-
-times_within : (xs : List Timed) → AllByRecursion IsInWindow xs → AreInWindow (times xs)
-times_within [] h = tt
-times_within (x ∷ xs) h = grind (arith, all_filter, times_within xs h.1)
-
-list_within : (s : GatherSetup) (ms : List Heard) (ts : List ℕ) → AreInWindow ts → AllByRecursion (λ e. in_window every_epoch e.epoch.time ≡ true) (closed_list_at s ms ts)
+list_within : (s : GatherSetup) (ms : List Heard) (ts : List ℕ) → AllByRecursion IsWithin ts → AllByRecursion (λ e. in_window every_epoch e.epoch.time ≡ true) (closed_list_at s ms ts)
 list_within s ms [] h = tt
-list_within s ms (t ∷ ts) h = (h.0, list_within s ms ts h.1)
+list_within s ms (t ∷ ts) h = (grind (arith, h.0), list_within s ms ts h.1)
 
 pub whole : IsWholeByEvery
-whole s ms = grind (arith, times_within, timed_within, every, list_within, all_filter)
+whole s ms = grind (arith, all_within, every, list_within, all_filter)
 
 pub thinned : IsThinnedByChoice
 thinned s ms = record { all = ap (thin s.choice) (sym (whole s ms).all); closed = ap (thin s.choice) (sym (whole s ms).closed) }
@@ -88,9 +66,6 @@ unfolding written_among
 marks_among lost xs zero = refl
 marks_among lost xs (suc n) = ap₂ (λ (a : ℕ) (b : Bool). a + (if b then 1 else 0)) (marks_among lost xs n) (marks_written lost xs (suc n))
 
-marks_satellites : (lost : Cell → Bool) (e : EpochValue) → satellites_written (marked_epoch lost e) ≡ satellites_written e
-marks_satellites lost e = grind (arith, value_tabulated, marks_among)
-
 -- One more epoch, by whether it is chosen, whether it has a value, and whether it has one when it is marked.
 one_more : (chosen valued marked : Bool) (e m : Closed) (kept left all : List Closed) → marked ≡ valued → (length kept ≡ 0 → left ≡ all)
     → length ((if chosen then cond marked (m ∷ []) [] else []) ++ kept) ≡ 0 → cond (not chosen && valued) (e ∷ left) left ≡ cond valued (e ∷ all) all
@@ -98,7 +73,7 @@ one_more chosen valued marked e m kept left all same more h = grind arith
 
 none_after : (c : Choice) (earlier es : List Closed) → length (filter has_satellite (thin_after c earlier es)) ≡ 0 → filter (is_left_out c) es ≡ filter has_satellite es
 none_after c earlier [] h = refl
-none_after c earlier (e ∷ es) h = grind (arith, one_more, marks_satellites, none_after c (earlier ++ e ∷ []) es)
+none_after c earlier (e ∷ es) h = grind (arith, one_more, value_tabulated, marks_among, none_after c (earlier ++ e ∷ []) es)
 
 pub none : NoneReturned
 none c es h = ap (counts_among c) (none_after c [] es h)

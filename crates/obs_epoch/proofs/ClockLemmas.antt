@@ -1,5 +1,5 @@
 -- A step of the clock adds one message to the list.
-use Rattle.obs_epoch.proofs.Names.{◌≡◌, ℕ, zero, suc, ◌+◌, ◌*◌, ◌/◌, ◌<◌, Bool, true, false, not, ◌||◌, ◌&&◌, List, [], ◌∷◌, ◌++◌, refl, ap, ap₂, ◌∙◌, subst, arith, Option, Some, None, nat_lt, ◌==◌, CloseFirst, CellCounts, GatherSetup, Heard, ends_epoch, is_own, Timed, greatest_time, is_closed, taken_at, ahead, is_late, is_past, time_of, State, is_pending, closes_first, kind_after, kind_by, step_by, is_late_at, is_first_at, ended_where, option_map_or, first_week, week, common_steps}
+use Rattle.obs_epoch.proofs.Names.{◌≡◌, ℕ, zero, suc, ◌+◌, ◌*◌, ◌/◌, ◌<◌, Bool, true, false, not, ◌||◌, ◌&&◌, List, ◌∷◌, ◌++◌, refl, ap, ap₂, ◌∙◌, subst, arith, Option, Some, None, nat_lt, ◌==◌, CloseFirst, CellCounts, GatherSetup, Heard, ends_epoch, is_own, Timed, greatest_time, is_closed, taken_at, ahead, is_late, is_past, time_of, State, is_pending, closes_first, kind_after, kind_by, step_by, is_late_at, is_first_at, ended_where, option_map_or, first_week, week, common_steps, []}
 use Rattle.obs_epoch.proofs.TimesLemmas.{next, greatest-push, greatest-present, greater-absent, none-absent, closed-push, closed-new}
 
 -- A message that isn't accepted changes no time, and may close the pending epoch.
@@ -24,60 +24,34 @@ new_time s xs x u e f = grind (arith, common_steps, at_self, greatest-push, clos
 abbrev pub standing : GatherSetup → List Timed → Bool → State
 standing s xs shut = record { setup = s; latest = greatest_time xs; pending = is_pending s xs && not shut }
 
-pub same_state : (g : State) (s : GatherSetup) (latest : Option ℕ) (pending : Bool) → g.setup ≡ s → g.latest ≡ latest → g.pending ≡ pending
-    → g ≡ record { setup = s; latest = latest; pending = pending }
-same_state g s latest pending a b c = grind (arith, common_steps)
-
 -- The message is one more of the list.
 abbrev pub Takes : GatherSetup → List Timed → CellCounts → Heard → Bool → Type 0
 Takes s xs n m shut = (kind_by (standing s xs shut) n m ≡ kind_after s xs n m) × (step_by (standing s xs shut) m ≡ standing s (xs ++ next s xs m ∷ []) false)
 
 -- The message isn't of the station.
 not_own : (s : GatherSetup) (xs : List Timed) (n : CellCounts) (m : Heard) (shut : Bool) → is_own s m ≡ false → closes_first s xs m ≡ shut → Takes s xs n m shut
-not_own s xs n m shut own closes = grind (arith, common_steps, same_time, next, same_state)
-
-pub and_true : (a : Bool) → a ≡ (a && true)
-and_true a = grind (arith, common_steps)
+not_own s xs n m shut own closes = grind (arith, common_steps, same_time, next)
 
 and_false : (a : Bool) → false ≡ (a && false)
 and_false a = grind (arith, common_steps)
 
--- A message that ends its epoch closes the pending epoch.
-ended-is : (b : Bool) (s : GatherSetup) (latest : Option ℕ) (pending : Bool)
-    → ended_where b (record { setup = s; latest = latest; pending = pending }) ≡ record { setup = s; latest = latest; pending = pending && not b }
-ended-is b s latest pending = grind (arith, and_false, and_true)
-
 abbrev state : GatherSetup → Option ℕ → Bool → State
 state s latest pending = record { setup = s; latest = latest; pending = pending }
-
-same_fields : (s : GatherSetup) (a b : Option ℕ) (p q : Bool) → a ≡ b → p ≡ q → state s a p ≡ state s b q
-same_fields s a b p q e f = ap₂ (state s) e f
-
--- From the value after the message's time to that after a message that ends its epoch.
-ended_to : (s : GatherSetup) (xs : List Timed) (m : Heard) (latest : Option ℕ) (pending : Bool)
-    → greatest_time (xs ++ next s xs m ∷ []) ≡ latest
-    → is_pending s (xs ++ next s xs m ∷ []) ≡ (pending && not (ends_epoch s m))
-    → ended_where (ends_epoch s m) (record { setup = s; latest = latest; pending = pending }) ≡ standing s (xs ++ next s xs m ∷ []) false
-ended_to s xs m latest pending at is = grind (arith, common_steps)
 
 -- An own message without a time.
 no_time : (s : GatherSetup) (xs : List Timed) (n : CellCounts) (m : Heard) (shut : Bool) → is_own s m ≡ true → m.tow ≡ None → closes_first s xs m ≡ shut
     → Takes s xs n m shut
-no_time s xs n m shut own none closes = grind (arith, common_steps, same_time, next, ended_to)
-
-not_later : (s : GatherSetup) (xs : List Timed) (m : Heard) {tow t : ℕ} {shut : Bool} → m.tow ≡ Some tow → greatest_time xs ≡ Some t
-    → closes_first s xs m ≡ shut → ahead t tow ≡ 0 → shut ≡ false
-not_later s xs m some at closes none = grind (arith, some, at, closes, none)
+no_time s xs n m shut own none closes = grind (arith, common_steps, same_time, next)
 
 late_same : (s : GatherSetup) (xs : List Timed) (m : Heard) (tow : ℕ) (shut : Bool) → m.tow ≡ Some tow → closes_first s xs m ≡ shut
     → is_late_at (standing s xs shut) tow ≡ is_late s xs tow
-late_same s xs m tow shut some closes = grind (arith, common_steps, not_later)
+late_same s xs m tow shut some closes = grind (arith, common_steps)
 
 -- An own message that is late or after the last week.
 not_taken : (s : GatherSetup) (xs : List Timed) (n : CellCounts) (m : Heard) {tow : ℕ} {shut : Bool} → is_own s m ≡ true → m.tow ≡ Some tow → closes_first s xs m ≡ shut
     → (is_late s xs tow || is_past (time_of s xs tow)) ≡ true
     → Takes s xs n m shut
-not_taken s xs n m own some closes bad = grind (arith, common_steps, same_time, next, late_same, closes, and_true)
+not_taken s xs n m own some closes bad = grind (arith, common_steps, same_time, next, late_same, closes)
 
 pub follows : (s : GatherSetup) (xs : List Timed) (tow : ℕ) → is_late s xs tow ≡ false → Follows s xs (time_of s xs tow)
 follows s xs tow early = by (greatest_time xs) refl early where
@@ -108,7 +82,7 @@ takes s xs n m shut closes = by_own (is_own s m) m.tow refl refl where
       let none_first = no_first s xs m own some closes early within in
       let step : step_by (standing s xs shut) m ≡ ended_where (ends_epoch s m) (record { setup = s; latest = Some u; pending = true }) =
       grind (arith, own, some, late, early, within, none_first) in
-      (grind (arith, own, some, late, early, within, none_first), step ∙ ended_to s xs m (Some u) true new.0 new.1)
+      (grind (arith, own, some, late, early, within, none_first), step ∙ (grind (arith, common_steps)))
 
   by_own : (own : Bool) (tow : Option ℕ) → is_own s m ≡ own → m.tow ≡ tow → Takes s xs n m shut
   by_own false tow own some = not_own s xs n m shut own closes
@@ -118,4 +92,4 @@ takes s xs n m shut closes = by_own (is_own s m) m.tow refl refl where
 -- A message that closes first isn't.
 pub closes : (s : GatherSetup) (xs : List Timed) (n : CellCounts) (m : Heard) → closes_first s xs m ≡ true
     → (kind_by (standing s xs false) n m ≡ CloseFirst) × (step_by (standing s xs false) m ≡ standing s xs true)
-closes s xs n m h = grind (arith, common_steps, ended-is, same_fields, and_false)
+closes s xs n m h = grind (arith, common_steps, and_false)

@@ -1,19 +1,11 @@
 -- The closed epochs of a list after one more message.
-use Rattle.obs_epoch.proofs.Names.{◌≡◌, ℕ, ◌<◌, ◌≤◌, ◌⊎◌, inl, inr, Bool, true, false, not, ◌||◌, ◌&&◌, List, [], ◌∷◌, ◌++◌, filter, refl, sym, ap, ap₂, ◌∙◌, subst, arith, Option, Some, None, nat_lt, append_assoc, append-nil, if◌then◌else◌, cond, filter-append, cases_Bool, lt-ltb, le-ltb, GatherSetup, Heard, ends_epoch, Timed, max_known, greatest_time, is_closed, taken_at, timed, time_of, is_late, times, is_shut, closed_times, option_map_or, common_steps}
-use Rattle.obs_epoch.proofs.TimesLemmas.{or_true, some_eq, greatest-push, max_known-none, greatest-present, greater-absent, none-absent, closed-push, closed-new, next, timed-push}
+use Rattle.obs_epoch.proofs.Names.{◌≡◌, ℕ, ◌<◌, ◌≤◌, ◌⊎◌, inl, inr, Bool, true, false, not, ◌||◌, ◌&&◌, List, ◌∷◌, ◌++◌, filter, refl, sym, ap, ap₂, ◌∙◌, subst, arith, Option, Some, None, nat_lt, append_assoc, append-nil, if◌then◌else◌, cond, filter-append, lt-ltb, le-ltb, GatherSetup, Heard, ends_epoch, Timed, max_known, greatest_time, is_closed, taken_at, timed, time_of, is_late, times, is_shut, closed_times, option_map_or, common_steps, AllByRecursion, all_filter, cases_lt, or_right, same_Some, []}
+use Rattle.obs_epoch.proofs.TimesLemmas.{greatest-push, greatest-present, greater-absent, none-absent, closed-push, closed-new, next, timed-push}
 use Rattle.obs_epoch.proofs.ClockLemmas.{at_self, Follows, follows, first, greater, equal}
 
 -- All are less than g.
 abbrev pub Below : ℕ → List ℕ → Type 0
-Below g [] = Unit {0}
-Below g (t ∷ ts) = (t < g) × Below g ts
-
-below_cond : (g : ℕ) (t : ℕ) (ts : List ℕ) (b : Bool) → t < g → Below g ts → Below g (cond b (t ∷ ts) ts)
-below_cond g t ts b lt h = grind arith
-
-pub Below-filter : (g : ℕ) (p : ℕ → Bool) (ts : List ℕ) → Below g ts → Below g (filter p ts)
-Below-filter g p [] h = tt
-Below-filter g p (t ∷ ts) h = below_cond g t (filter p ts) (p t) h.0 (Below-filter g p ts h.1)
+Below g ts = AllByRecursion (λ t. t < g) ts
 
 passes_none : (p : ℕ → Bool) (g : ℕ) (ts : List ℕ) → ((t : ℕ) → t < g → p t ≡ false) → Below g ts → filter p ts ≡ []
 passes_none p g [] all h = refl
@@ -22,9 +14,6 @@ passes_none p g (t ∷ ts) all h = ap (λ b. cond b (t ∷ filter p ts) (filter 
 pub passes_all : (p : ℕ → Bool) (g : ℕ) (ts : List ℕ) → ((t : ℕ) → t < g → p t ≡ true) → Below g ts → filter p ts ≡ ts
 passes_all p g [] all h = refl
 passes_all p g (t ∷ ts) all h = ap (λ b. cond b (t ∷ filter p ts) (filter p ts)) (all t h.0) ∙ ap (λ l. t ∷ l) (passes_all p g ts all h.1)
-
-one_passes : (p : ℕ → Bool) (t : ℕ) → p t ≡ true → filter p (t ∷ []) ≡ t ∷ []
-one_passes p t e = ap (λ b. cond b (t ∷ []) []) e
 
 pub one_fails : (p : ℕ → Bool) (t : ℕ) → p t ≡ false → filter p (t ∷ []) ≡ []
 one_fails p t e = ap (λ b. cond b (t ∷ []) []) e
@@ -35,17 +24,14 @@ pub record Ends (ts : List ℕ) (g : ℕ) : Type 0 where
   pub is : ts ≡ init ++ g ∷ []
   pub below : Below g init
 
-by_less : (t u : ℕ) → (t < u) ⊎ (u ≤ t)
-by_less t u = elim (cases_Bool (nat_lt t u)) [ inl e ↦ inl (grind arith) | inr e ↦ inr (grind arith) ]
-
 abbrev pub front : Option ℕ → List ℕ → List ℕ
 front time ts = option_map_or (λ t. t ∷ filter (λ u. nat_lt t u) ts) time ts
 
 ends_step : (time rest : Option ℕ) (ts : List ℕ) (g : ℕ) → max_known time rest ≡ Some g → ((h : ℕ) → rest ≡ Some h → Ends ts h) → (rest ≡ None → ts ≡ [])
     → Ends (front time ts) g
 ends_step None rest ts g e some none = some g e
-ends_step (Some t) None ts g e some none = grind (arith, common_steps, some_eq)
-ends_step (Some t) (Some h) ts g e some none = by (by_less t h) where
+ends_step (Some t) None ts g e some none = grind (arith, common_steps, same_Some)
+ends_step (Some t) (Some h) ts g e some none = by (cases_lt t h) where
   last : Ends ts h
   last = some h refl
 
@@ -54,14 +40,14 @@ ends_step (Some t) (Some h) ts g e some none = by (by_less t h) where
 
   by : (t < h) ⊎ (h ≤ t) → Ends (t ∷ filter (λ u. nat_lt t u) ts) g
   by (inl lt) =
-      let same : h ≡ g = omega (arith, some_eq _ _ e, lt) in
+      let same : h ≡ g = omega (arith, same_Some _ _ e, lt) in
       subst (λ v. Ends (t ∷ filter (λ u. nat_lt t u) ts) v) same (record {
         init = t ∷ filter (λ u. nat_lt t u) last.init;
-        is = ap (λ l. t ∷ l) (cut ∙ ap (λ l. filter (λ u. nat_lt t u) last.init ++ l) (one_passes (λ u. nat_lt t u) h (lt-ltb t h lt)));
-        below = (lt, Below-filter h (λ u. nat_lt t u) last.init last.below);
+        is = ap (λ l. t ∷ l) (cut ∙ ap (λ l. filter (λ u. nat_lt t u) last.init ++ l) (ap (λ b. cond b (h ∷ []) []) (lt-ltb t h lt)));
+        below = (lt, all_filter (λ v. v < h) (λ u. nat_lt t u) last.init last.below);
       })
   by (inr le) =
-      let same : t ≡ g = omega (arith, some_eq _ _ e, le) in
+      let same : t ≡ g = omega (arith, same_Some _ _ e, le) in
       let nothing : filter (λ u. nat_lt t u) ts ≡ [] =
       cut ∙ ap₂ (λ a b. a ++ b) (passes_none (λ u. nat_lt t u) h last.init (λ u lt. le-ltb t u (omega arith)) last.below) (one_fails (λ u. nat_lt t u) h (le-ltb t h le)) in
       record { init = []; is = ap₂ (λ a l. a ∷ l) same nothing; below = tt }
@@ -88,7 +74,7 @@ IsLess u None = Unit {0}
 IsLess u (Some g) = g < u
 
 push_step : (time rest : Option ℕ) (u : ℕ) (ts new : List ℕ) → IsLess u (max_known time rest) → (IsLess u rest → new ≡ ts ++ u ∷ []) → front time new ≡ front time ts ++ u ∷ []
-push_step time rest u ts new h r = grind (arith, filter-append, one_passes, lt-ltb)
+push_step time rest u ts new h r = grind (arith, filter-append, lt-ltb)
 
 pub times-push_new : (xs : List Timed) (x : Timed) (u : ℕ) → x.time ≡ Some u → IsLess u (greatest_time xs) → times (xs ++ x ∷ []) ≡ times xs ++ u ∷ []
 times-push_new [] x u e h = ap (λ t. front t []) e
@@ -96,7 +82,7 @@ times-push_new (y ∷ ys) x u e h = push_step y.time (greatest_time ys) u (times
 
 same_step : (time rest : Option ℕ) (u : ℕ) (ts new : List ℕ) → max_known time rest ≡ Some u → (rest ≡ Some u → new ≡ ts) → (IsLess u rest → new ≡ ts ++ u ∷ [])
     → front time new ≡ front time ts
-same_step time rest u ts new e same more = grind (arith, filter-append, one_fails, le-ltb, append-nil, some_eq)
+same_step time rest u ts new e same more = grind (arith, filter-append, one_fails, le-ltb, append-nil, same_Some)
 
 pub times-push_same : (xs : List Timed) (x : Timed) (u : ℕ) → x.time ≡ Some u → greatest_time xs ≡ Some u → times (xs ++ x ∷ []) ≡ times xs
 times-push_same [] x u e h = absurd (grind arith)
@@ -104,14 +90,8 @@ times-push_same (y ∷ ys) x u e h = grind (arith, same_step y.time (greatest_ti
 
 -- ---- which epochs are closed
 
-or_false : (a b : Bool) → b ≡ false → (a || b) ≡ a
-or_false a b h = grind (arith, common_steps, h)
-
-shut_below : (s : GatherSetup) (ys : List Timed) (g t : ℕ) → greatest_time ys ≡ Some g → t < g → is_shut s ys t ≡ true
-shut_below s ys g t e lt = or_true (is_closed s t ys) _ (ap (λ o. option_map_or (λ u. nat_lt t u) o false) e ∙ lt-ltb t g lt)
-
 shut_at : (s : GatherSetup) (ys : List Timed) (g : ℕ) → greatest_time ys ≡ Some g → is_shut s ys g ≡ is_closed s g ys
-shut_at s ys g e = or_false (is_closed s g ys) _ (ap (λ o. option_map_or (λ u. nat_lt g u) o false) e ∙ le-ltb g g (omega arith))
+shut_at s ys g e = grind (arith, common_steps, (ap (λ o. option_map_or (λ u. nat_lt g u) o false) e ∙ le-ltb g g (omega arith)))
 
 abbrev pub when : Bool → ℕ → List ℕ
 when b g = if b then g ∷ [] else []
@@ -119,7 +99,7 @@ when b g = if b then g ∷ [] else []
 -- The closed epochs are all but the last, and the last if it is closed.
 pub closed_is : (s : GatherSetup) (ys : List Timed) (g : ℕ) (init : List ℕ) → greatest_time ys ≡ Some g → times ys ≡ init ++ g ∷ [] → Below g init
     → closed_times s ys ≡ init ++ when (is_closed s g ys) g
-closed_is s ys g init e is below = grind (arith, common_steps, filter-append, passes_all, shut_below, shut_at)
+closed_is s ys g init e is below = grind (arith, common_steps, filter-append, passes_all, or_right, lt-ltb, shut_at)
 
 pub Below-more : (u g : ℕ) (ts : List ℕ) → g < u → Below g ts → Below u (ts ++ g ∷ [])
 Below-more u g [] lt h = (lt, tt)
@@ -130,7 +110,7 @@ pub closed-push_none : (s : GatherSetup) (xs : List Timed) (x : Timed) (g : ℕ)
     → closed_times s (xs ++ x ∷ []) ≡ closed_times s xs ++ when (not (is_closed s g xs) && ends_epoch s x.message) g
 closed-push_none s xs x g none e =
     let last = ends xs g e in
-    let latest : greatest_time (xs ++ x ∷ []) ≡ Some g = greatest-push xs x ∙ ap (max_known (greatest_time xs)) none ∙ max_known-none _ ∙ e in
+    let latest : greatest_time (xs ++ x ∷ []) ≡ Some g = greatest-push xs x ∙ ap (max_known (greatest_time xs)) none ∙ (grind (arith, common_steps)) ∙ e in
     closed_is s (xs ++ x ∷ []) g last.init latest (times-push_none xs x none ∙ last.is) last.below
     ∙ ap (λ b. last.init ++ when b g) (closed-push s g xs x (greatest-present xs g e))
     ∙ either last.init (is_closed s g xs) (ends_epoch s x.message) g
@@ -166,9 +146,6 @@ pub closed-push_first : (s : GatherSetup) (xs : List Timed) (x : Timed) (u : ℕ
     → closed_times s (xs ++ x ∷ []) ≡ closed_times s xs ++ when (ends_epoch s x.message) u
 closed-push_first s xs x u some e = grind (arith, times-push_new, greatest-push xs x, closed_is s (xs ++ x ∷ []) u, no_times xs e, closed-new s u xs x (none-absent xs u e) (at_self u x.time some))
 
-pub no_greatest : (s : GatherSetup) (xs : List Timed) (x : Timed) → x.time ≡ None → greatest_time xs ≡ None → closed_times s (xs ++ x ∷ []) ≡ closed_times s xs ++ []
-no_greatest s xs x none e = grind (arith, common_steps, times-push_none, no_times, append-nil)
-
 -- After any message the closed epochs are the same, and more may follow.
 pub grows : (s : GatherSetup) (xs : List Timed) (x : Timed) → ((u : ℕ) → x.time ≡ Some u → Follows s xs u)
     → (more : List ℕ) × (closed_times s (xs ++ x ∷ []) ≡ closed_times s xs ++ more)
@@ -182,7 +159,7 @@ grows s xs x follow = by_time x.time (greatest_time xs) refl refl where
   by_follows u some (equal e c) = (when (ends_epoch s x.message) u, closed-push_same s xs x u some e c)
 
   by_time : (time g : Option ℕ) → x.time ≡ time → greatest_time xs ≡ g → (more : List ℕ) × (closed_times s (xs ++ x ∷ []) ≡ closed_times s xs ++ more)
-  by_time None None none e = ([], no_greatest s xs x none e)
+  by_time None None none e = ([], grind (arith, common_steps, times-push_none, no_times, append-nil))
   by_time None (Some g) none e = (when (not (is_closed s g xs) && ends_epoch s x.message) g, closed-push_none s xs x g none e)
   by_time (Some u) g some e = by_follows u some (follow u some)
 

@@ -2,7 +2,7 @@
 use Rattle.obs_epoch.proofs.Names.{◌≡◌, ℕ, Bool, true, false, not, ◌&&◌, List, [], ◌∷◌, ◌++◌, refl, sym, ap, ap₂, ◌∙◌, arith, Option, Some, None, nat_lt, append-nil, if◌then◌else◌, option_to_list, Kind, CellCounts, GatherSetup, Heard, ends_epoch, is_own, Timed, greatest_time, is_closed, taken_at, State, is_pending, closes_first, no_counts, is_close_first, is_accepted, kind_after, closed_times, closed_so_far, option_map_or, closed_of, closed_time, common_steps}
 use Rattle.obs_epoch.proofs.TimesLemmas.{next}
 use Rattle.obs_epoch.proofs.ClockLemmas.{standing, takes, same_time, Follows, first, greater, equal, new_time}
-use Rattle.obs_epoch.proofs.ClosedLemmas.{when, no_greatest, taken_follows, closed-push_none, closed-push_greater, closed-push_same, closed-push_first}
+use Rattle.obs_epoch.proofs.ClosedLemmas.{when, taken_follows, closed-push_none, closed-push_greater, closed-push_same, closed-push_first, times-push_none, no_times}
 
 either : (m c : Bool) (g : ℕ) → when (not c && m) g ≡ option_to_list (if m && not c then Some g else None)
 either m c g = grind (arith, common_steps)
@@ -16,7 +16,7 @@ pub untaken : (s : GatherSetup) (xs : List Timed) (x : Timed) → x.time ≡ Non
 untaken s xs x none = by (greatest_time xs) refl where
   by : (g : Option ℕ) → greatest_time xs ≡ g
       → closed_times s (xs ++ x ∷ []) ≡ closed_times s xs ++ option_to_list (if ends_epoch s x.message && option_map_or (λ t. not (is_closed s t xs)) g false then g else None)
-  by None e = no_greatest s xs x none e ∙ ap (λ l. closed_times s xs ++ l) (neither (ends_epoch s x.message) None)
+  by None e = grind (arith, common_steps, times-push_none, no_times, append-nil) ∙ ap (λ l. closed_times s xs ++ l) (neither (ends_epoch s x.message) None)
   by (Some g) e = closed-push_none s xs x g none e ∙ ap (λ l. closed_times s xs ++ l) (either (ends_epoch s x.message) (is_closed s g xs) g)
 
 plain : (s : GatherSetup) (ys : List Timed) → closed_so_far s ys false ≡ closed_times s ys

@@ -1,8 +1,8 @@
 -- Counting cell by cell gives the counts of the whole message.
-use Rattle.obs_epoch.proofs.Names.{◌≡◌, ℕ, ◌+◌, ◌≤◌, Bool, true, false, not, ◌||◌, ◌&&◌, List, [], ◌∷◌, ◌++◌, filter, refl, sym, ap, ap₂, ◌∙◌, subst, arith, length, append_assoc, append-nil, length-append, nat_le, if◌then◌else◌, cond, count_by, length-take-le, take_all, flat_map, systems, Glonass, system_same, any_system, sum_grown, sum_by-cons, System, is_system, list_any, Crowded, Kept, Repeated, Skipped, count_in, GatherSetup, HeardCell, no_counts, counts_of, is_of_system, is_among, kept, kept_of_all, kept_without, lacks_channel, is_planned, has_same_key, most_cells, CellCounts, common_steps, or-false}
+use Rattle.obs_epoch.proofs.Names.{◌≡◌, ℕ, ◌+◌, ◌≤◌, Bool, true, false, not, ◌||◌, ◌&&◌, List, [], ◌∷◌, ◌++◌, filter, refl, sym, ap, ap₂, ◌∙◌, subst, arith, length, append_assoc, append-nil, length-append, nat_le, if◌then◌else◌, cond, count_by, length-take-le, take_all, flat_map, systems, system_same, any_system, sum_grown, sum_by-cons, System, is_system, list_any, Crowded, Kept, Repeated, Skipped, count_in, GatherSetup, HeardCell, no_counts, counts_of, is_of_system, is_among, kept, kept_of_all, kept_without, lacks_channel, is_planned, has_same_key, most_cells, CellCounts, common_steps, or-false, sum_by_push}
 use Rattle.std.proofs.lemmas.List.Concat.{length-flat_map}
 use Rattle.std.proofs.lemmas.List.Folds.{list_any-append}
-use Rattle.obs_epoch.proofs.CellsLemmas.{kept-add, mine, mine-among, among-push, same_key_laws, key_system}
+use Rattle.obs_epoch.proofs.CellsLemmas.{kept-add, mine, mine-among, among-push, key_system, same_key_laws}
 use Rattle.obs_epoch.proofs.NotingLemmas.{kept_apart}
 use Rattle.obs_epoch.proofs.LoadLemmas.{counts_after, outcome_after, planned_one}
 
@@ -16,8 +16,7 @@ among_over (c ∷ ss) xs p =
       once a b = grind (arith, common_steps)
 
       by : (a b : Bool) → is_system p.satellite.system c ≡ a → (is_among (kept c xs) p || (b && is_among (kept p.satellite.system xs) p)) ≡ ((a || b) && is_among (kept p.satellite.system xs) p)
-      by true b e =
-          ap (λ (d : System). is_among (kept d xs) p || (b && is_among (kept p.satellite.system xs) p)) (sym (system_same p.satellite.system c e)) ∙ once (is_among (kept p.satellite.system xs) p) b
+      by true b e = cc (system_same p.satellite.system c e, once (is_among (kept p.satellite.system xs) p) b)
       by false b e = ap (λ a. a || (b && is_among (kept p.satellite.system xs) p)) (kept_apart c xs p (grind (arith, e)))
 
 both-among : (xs : List HeardCell) (p : HeardCell) → is_among (kept_of_all xs) p ≡ is_among (kept p.satellite.system xs) p
@@ -65,18 +64,10 @@ both-length xs y a n e f =
       by t true h = own_length t (system_same y.satellite.system t h)
       by t false h = other_length t (grind (arith, h))
 
--- A cell that lacks a channel is of GLONASS.
-lacks_own : (s : GatherSetup) (y : HeardCell) → is_of_system Glonass y ≡ false → lacks_channel s y ≡ false
-lacks_own s y other = grind arith
-
-count_push : (p : HeardCell → Bool) (ks : List HeardCell) (y : HeardCell) → count_by p (ks ++ y ∷ []) ≡ count_by p ks + (if p y then 1 else 0)
-count_push p [] y = omega (arith, sum_by-cons (λ y. cond (p y) 1 0) y [])
-count_push p (k ∷ ks) y = omega (arith, sum_by-cons (λ y. cond (p y) 1 0) k (ks ++ y ∷ []), sum_by-cons (λ y. cond (p y) 1 0) k ks, count_push p ks y)
-
 -- The number of kept cells without a channel after one more cell.
 pub without-push : (s : GatherSetup) (xs : List HeardCell) (y : HeardCell) (a n : Bool) → is_among (kept y.satellite.system xs) y ≡ a → nat_le most_cells (length (kept y.satellite.system xs)) ≡ n
     → kept_without s (xs ++ y ∷ []) ≡ kept_without s xs + (if not (a || n) then (if lacks_channel s y then 1 else 0) else 0)
-without-push s xs y a n e f = grind (arith, kept-add, lacks_own, system_same, count_push)
+without-push s xs y a n e f = grind (arith, kept-add, system_same, sum_by_push)
 
 self_system : (y : HeardCell) → is_of_system y.satellite.system y ≡ true
 self_system y = grind (arith, common_steps)
@@ -105,19 +96,15 @@ record Sums (N n : CellCounts) (b a l m skipped known crowded : ℕ) : Type 0 wh
   pub knows : N.repeated + N.kept ≡ (n.repeated + n.kept) + known
   pub crowds : N.crowded ≡ n.crowded + crowded
 
--- Counts that are added in two steps are added at once.
-both_sums : {N m n : CellCounts} {b b' e l l' k s r c skipped known crowded : ℕ} → Sums N m b' e l' k skipped known crowded → Sums m n b b' l l' s r c → Sums N n b e l k (s + skipped) (r + known) (c + crowded)
-both_sums h g = grind (arith, common_steps)
-
 -- One more cell at the beginning.
 one_sum : {N n : CellCounts} (p a f g : Bool) {b b' e l l' k skipped known crowded : ℕ} → Sums N (count_in g (if p then (if a then Repeated else (if f then Crowded else Kept)) else Skipped) n) b' e l' k skipped known crowded
     → b' ≡ b + (if p then (if not (a || f) then 1 else 0) else 0)
     → l' ≡ l + (if p then (if not (a || f) then (if g then 1 else 0) else 0) else 0)
     → Sums N n b e l k ((if not p then 1 else 0) + skipped) ((if p then (if (a || not f) then 1 else 0) else 0) + known) ((if p then (if not (a || not f) then 1 else 0) else 0) + crowded)
-one_sum false a f g h i j = both_sums h (record { kept = omega (arith, i); lacks = omega (arith, j); skips = refl; knows = omega arith; crowds = omega arith })
-one_sum true true f g h i j = both_sums h (record { kept = omega (arith, i); lacks = omega (arith, j); skips = omega arith; knows = omega arith; crowds = omega arith })
-one_sum true false true g h i j = both_sums h (record { kept = omega (arith, i); lacks = omega (arith, j); skips = omega arith; knows = omega arith; crowds = refl })
-one_sum true false false g h i j = both_sums h (record { kept = omega (arith, i); lacks = omega (arith, j); skips = omega arith; knows = omega arith; crowds = omega arith })
+one_sum false a f g h i j = grind (arith, common_steps)
+one_sum true true f g h i j = grind (arith, common_steps)
+one_sum true false true g h i j = grind (arith, common_steps)
+one_sum true false false g h i j = grind (arith, common_steps)
 
 change : {N n : CellCounts} {b e l k u v w u' v' w' : ℕ} → u ≡ u' → v ≡ v' → w ≡ w' → Sums N n b e l k u v w → Sums N n b e l k u' v' w'
 change {n} p q r h = record { kept = h.kept; lacks = h.lacks; skips = h.skips ∙ ap (λ k. n.skipped + k) p; knows = h.knows ∙ ap (λ k. (n.repeated + n.kept) + k) q; crowds = h.crowds ∙ ap (λ k. n.crowded + k) r }
@@ -154,7 +141,7 @@ tally_step s xs n y ys h =
 
       lacking : (b : Bool) → kept_without s (xs ++ (if b then y ∷ [] else [])) ≡ kept_without s xs + (if b then (if not (a || f) then (if lacks_channel s y then 1 else 0) else 0) else 0)
       lacking true = without-push s xs y a f refl refl
-      lacking false = ap (kept_without s) (append-nil xs) ∙ (let none : kept_without s xs ≡ kept_without s xs + 0 = omega arith in none)
+      lacking false = ap (kept_without s) (append-nil xs) ∙ let none : kept_without s xs ≡ kept_without s xs + 0 = omega arith in none
 
       skips : count_by (λ x. not (is_planned s x)) (y ∷ ys) ≡ (if not (is_planned s y) then 1 else 0) + count_by (λ x. not (is_planned s x)) ys
       skips = count_cons (λ x. not (is_planned s x)) y ys
@@ -164,16 +151,12 @@ tally_step s xs n y ys h =
 
       knows : (b : Bool) → count_by (is_among (kept_of_all (xs ++ cond b (y ∷ planned s ys) (planned s ys)))) (cond b (y ∷ planned s ys) (planned s ys))
           ≡ (if b then (if (a || not f) then 1 else 0) else 0) + count_by (is_among (kept_of_all (xs ++ cond b (y ∷ planned s ys) (planned s ys)))) (planned s ys)
-      knows true =
-          count_cons (is_among (kept_of_all (xs ++ y ∷ planned s ys))) y (planned s ys)
-          ∙ ap (λ b. (if b then 1 else 0) + count_by (is_among (kept_of_all (xs ++ y ∷ planned s ys))) (planned s ys)) now
+      knows true = cc (count_cons (is_among (kept_of_all (xs ++ y ∷ planned s ys))) y (planned s ys), now)
       knows false = let none : (n : ℕ) → n ≡ 0 + n = λ n. omega arith in none _
 
       crowds : (b : Bool) → count_by (λ x. not (is_among (kept_of_all (xs ++ cond b (y ∷ planned s ys) (planned s ys))) x)) (cond b (y ∷ planned s ys) (planned s ys))
           ≡ (if b then (if not (a || not f) then 1 else 0) else 0) + count_by (λ x. not (is_among (kept_of_all (xs ++ cond b (y ∷ planned s ys) (planned s ys))) x)) (planned s ys)
-      crowds true =
-          count_cons (λ x. not (is_among (kept_of_all (xs ++ y ∷ planned s ys)) x)) y (planned s ys)
-          ∙ ap (λ b. (if not b then 1 else 0) + count_by (λ x. not (is_among (kept_of_all (xs ++ y ∷ planned s ys)) x)) (planned s ys)) now
+      crowds true = grind (arith, count_cons (λ x. not (is_among (kept_of_all (xs ++ y ∷ planned s ys)) x)) y (planned s ys), now)
       crowds false = let none : (n : ℕ) → n ≡ 0 + n = λ n. omega arith in none _
 
 tally : (s : GatherSetup) (xs : List HeardCell) (n : CellCounts) (ys : List HeardCell) → Tally s xs n ys

@@ -1,15 +1,9 @@
 -- The cells of a message, one by one: those that are listed, and the number of others.
-use Rattle.obs_epoch.proofs.Names.{ChannelsValue, phase_by, GatherSetup, load_entry, planned_cell, State, GathererValue, System, Entry, Cell, cells_counted, heard_cell, CellOutcome, count_in, lacks_channel, seen_in, unlisted_in, HeardCell, with_skipped, Loaded, load, load_one, load_entries, with_unlisted, outcome_in, hold, hold_by, CellCounts, option_map_or, cons_option, Form, ◌≡◌, ℕ, ◌+◌, ◌≤◌, ℤ, ◌&&◌, not, Bool, List, [], ◌∷◌, refl, ap, ◌∙◌, arith, Option, Some, None, is_some, filter_map, cond, option_and_then, common_steps}
-
-later_count : (b : Bool) (k : CellOutcome) (n : ℕ) (c : CellCounts) → count_in b k (with_skipped n c) ≡ with_skipped n (count_in b k c)
-later_count b k n c = grind (arith, common_steps)
-
-later_one : (n : ℕ) (l : Loaded) (x : HeardCell) → load_one (with_unlisted n l) x ≡ with_unlisted n (load_one l x)
-later_one n l x = ap (λ c. record { state = hold l.state x; counts = c }) (later_count (lacks_channel l.state.clock.setup x) (outcome_in l.state x) n l.counts)
+use Rattle.obs_epoch.proofs.Names.{ChannelsValue, GatherSetup, load_entry, planned_cell, State, GathererValue, System, Entry, Cell, cells_counted, heard_cell, CellOutcome, count_in, lacks_channel, seen_in, unlisted_in, HeardCell, Loaded, load, load_one, load_entries, with_unlisted, outcome_in, hold, hold_by, CellCounts, option_map_or, cons_option, Form, ◌≡◌, ℕ, ◌+◌, ◌≤◌, ◌&&◌, not, Bool, List, ◌∷◌, refl, ap, ◌∙◌, arith, Option, Some, None, is_some, filter_map, cond, option_and_then, common_steps, []}
 
 later : (n : ℕ) (l : Loaded) (xs : List HeardCell) → load (with_unlisted n l) xs ≡ with_unlisted n (load l xs)
 later n l [] = refl
-later n l (x ∷ xs) = ap (λ v. load v xs) (later_one n l x) ∙ later n (load_one l x) xs
+later n l (x ∷ xs) = ap (λ v. load v xs) (ap (λ c. record { state = hold l.state x; counts = c }) (grind (arith, common_steps))) ∙ later n (load_one l x) xs
 
 twice : (n m : ℕ) (l : Loaded) → with_unlisted n (with_unlisted m l) ≡ with_unlisted (m + n) l
 twice n m l = grind (arith, common_steps)
@@ -36,8 +30,7 @@ load_entries_is channels form system l (e ∷ es) same =
           → load_entries form system (option_map_or (load_one l) o (with_unlisted 1 l)) es
           ≡ with_unlisted (cond (is_some o) 0 1 + others channels form system es) (load l (cons_option o (listed channels form system es)))
       by None more =
-          more (with_unlisted 1 l) same ∙ ap (with_unlisted (others channels form system es)) (later 1 l (listed channels form system es))
-          ∙ twice (others channels form system es) 1 (load l (listed channels form system es))
+          cc (more (with_unlisted 1 l) same, later 1 l (listed channels form system es), twice (others channels form system es) 1 (load l (listed channels form system es)))
       by (Some x) more =
           more (load_one l x) (ap (λ (c : State). c.setup.plan.channels) (kept_setup (outcome_in l.state x) l.state x) ∙ same)
           ∙ ap (λ n. with_unlisted n (load (load_one l x) (listed channels form system es))) (zero-plus (others channels form system es)) where
@@ -51,20 +44,14 @@ pub record OneMore (l m : Loaded) : Type 0 where
   pub one : cells_counted m.counts ≡ cells_counted l.counts + 1
   pub less : l.counts.without_channel ≤ l.counts.kept → m.counts.without_channel ≤ m.counts.kept
 
-one_counted : (b : Bool) (k : CellOutcome) (n : CellCounts) → cells_counted (count_in b k n) ≡ cells_counted n + 1
-one_counted b k n = grind (arith, common_steps)
-
 one_less : (b : Bool) (k : CellOutcome) (n : CellCounts) → n.without_channel ≤ n.kept → (count_in b k n).without_channel ≤ (count_in b k n).kept
 one_less b k n h = grind (arith, common_steps)
 
 pub one_more : (form : Form) (system : System) (l : Loaded) (e : Entry) → OneMore l (load_entry form system l e)
-one_more form system l e = grind (arith, common_steps, kept_setup, one_counted, one_less)
+one_more form system l e = grind (arith, common_steps, kept_setup, one_less)
 
 -- ---- the phase of a cell is that of its entry, if there is a carrier
 
-phase_known : (h : Option ℕ) (p : Option ℤ) → is_some (phase_by h p) ≡ (is_some p && not (not (is_some h)))
-phase_known h p = grind (arith, common_steps)
-
 pub has_phase_of : (s : GatherSetup) (form : Form) (system : System) (e : Entry) (x : Cell)
     → Some x ≡ option_and_then (planned_cell s.plan) (seen_in s.plan.channels form system e) → is_some x.l ≡ (is_some e.phase && not (lacks_channel s (heard_cell x)))
-has_phase_of s form system e x is = grind (arith, common_steps, phase_known)
+has_phase_of s form system e x is = grind (arith, common_steps)

@@ -1,18 +1,11 @@
 -- A closed epoch is the same after every message.
-use Rattle.obs_epoch.proofs.Names.{◌≡◌, ℕ, ◌<◌, Bool, List, [], ◌∷◌, ◌++◌, filter, refl, sym, ap, ◌∙◌, subst, arith, Option, Some, None, nat_lt, append-nil, cond, filter_map, filter-append, System, GatherSetup, HeardCell, Timed, greatest_time, offered, kept, cells_at, sorted, planned_of, times, locked_at, previous, lli_of, cells_with_lli, epoch_at, closed_times, is_closed, is_shut, common_steps, le-ltb}
+use Rattle.obs_epoch.proofs.Names.{◌≡◌, ℕ, ◌<◌, List, ◌∷◌, ◌++◌, filter, refl, sym, ap, ◌∙◌, subst, arith, Option, Some, None, nat_lt, append-nil, filter_map, filter-append, GatherSetup, HeardCell, Timed, greatest_time, times, locked_at, cells_with_lli, epoch_at, closed_times, is_shut, common_steps, le-ltb, IfSome, AllByRecursion, all_passed, all_filter, []}
 use Rattle.obs_epoch.proofs.ClockLemmas.{Follows, first, greater, equal}
-use Rattle.obs_epoch.proofs.ClosedLemmas.{Below, IsLess, when, one_fails, times-push_new, times-push_same, times-push_none, no_times, ends, closed_is}
+use Rattle.obs_epoch.proofs.ClosedLemmas.{Below, IsLess, when, one_fails, times-push_new, times-push_same, times-push_none, no_times, ends, closed_is, Below-more}
 
 -- The message isn't accepted, or has a later time.
 abbrev pub IsLater : ℕ → Option ℕ → Type 0
-IsLater t None = Unit {0}
-IsLater t (Some u) = t < u
-
-pub offered-push : (s : GatherSetup) (t : ℕ) (xs : List Timed) (x : Timed) → IsLater t x.time → offered s t (xs ++ x ∷ []) ≡ offered s t xs
-offered-push s t xs x h = grind (arith, common_steps)
-
-pub cells_at-push : (s : GatherSetup) (t : ℕ) (xs : List Timed) (x : Timed) (system : System) → IsLater t x.time → cells_at s t (xs ++ x ∷ []) system ≡ cells_at s t xs system
-cells_at-push s t xs x system h = ap (λ l. sorted (planned_of system s.plan) (kept system l)) (offered-push s t xs x h)
+IsLater t time = IfSome time (λ u. t < u)
 
 earlier : (u t : ℕ) (time : Option ℕ) → u < t → IsLater t time → IsLater u time
 earlier u t time lt h = grind arith
@@ -20,32 +13,20 @@ earlier u t time lt h = grind arith
 locked_all : (s : GatherSetup) (xs : List Timed) (x : Timed) (key : HeardCell) (t : ℕ) (us : List ℕ) → IsLater t x.time → Below t us
     → filter_map (locked_at s (xs ++ x ∷ []) key) us ≡ filter_map (locked_at s xs key) us
 locked_all s xs x key t [] h b = refl
-locked_all s xs x key t (u ∷ us) h b = grind (arith, common_steps, cells_at-push, earlier, locked_all s xs x key t us h b.1)
-
-below_cond : (t u : ℕ) (us : List ℕ) (b : Bool) → nat_lt u t ≡ b → Below t us → Below t (cond b (u ∷ us) us)
-below_cond t u us b e h = grind arith
+locked_all s xs x key t (u ∷ us) h b = grind (arith, common_steps, earlier, locked_all s xs x key t us h b.1)
 
 below_filter : (t : ℕ) (us : List ℕ) → Below t (filter (λ u. nat_lt u t) us)
-below_filter t [] = tt
-below_filter t (u ∷ us) = below_cond t u (filter (λ v. nat_lt v t) us) (nat_lt u t) refl (below_filter t us)
-
-previous-push : (s : GatherSetup) (xs : List Timed) (x : Timed) (t : ℕ) (key : HeardCell) → IsLater t x.time
-    → filter (λ u. nat_lt u t) (times (xs ++ x ∷ [])) ≡ filter (λ u. nat_lt u t) (times xs) → previous s (xs ++ x ∷ []) t key ≡ previous s xs t key
-previous-push s xs x t key h same = grind (arith, common_steps, locked_all, below_filter)
-
-lli_of-push : (s : GatherSetup) (xs : List Timed) (x : Timed) (t : ℕ) (c : HeardCell) → IsLater t x.time
-    → filter (λ u. nat_lt u t) (times (xs ++ x ∷ [])) ≡ filter (λ u. nat_lt u t) (times xs) → lli_of s (xs ++ x ∷ []) t c ≡ lli_of s xs t c
-lli_of-push s xs x t c h same = grind (arith, common_steps, previous-push)
+below_filter t us = all_passed (λ u. u < t) (λ u. nat_lt u t) (λ u e. grind (arith, common_steps, e)) us
 
 with_lli-push : (s : GatherSetup) (xs : List Timed) (x : Timed) (t : ℕ) (cs : List HeardCell) → IsLater t x.time
     → filter (λ u. nat_lt u t) (times (xs ++ x ∷ [])) ≡ filter (λ u. nat_lt u t) (times xs) → cells_with_lli s (xs ++ x ∷ []) t cs ≡ cells_with_lli s xs t cs
 with_lli-push s xs x t [] h same = refl
-with_lli-push s xs x t (c ∷ cs) h same = grind (arith, common_steps, lli_of-push, with_lli-push s xs x t cs h same)
+with_lli-push s xs x t (c ∷ cs) h same = grind (arith, common_steps, locked_all, below_filter, with_lli-push s xs x t cs h same)
 
 -- The epoch of time t doesn't change.
 pub epoch_at-push : (s : GatherSetup) (xs : List Timed) (x : Timed) (t : ℕ) → IsLater t x.time
     → filter (λ u. nat_lt u t) (times (xs ++ x ∷ [])) ≡ filter (λ u. nat_lt u t) (times xs) → epoch_at s (xs ++ x ∷ []) t ≡ epoch_at s xs t
-epoch_at-push s xs x t h same = grind (arith, common_steps, cells_at-push, with_lli-push)
+epoch_at-push s xs x t h same = grind (arith, common_steps, with_lli-push)
 
 -- ---- all closed epochs
 
@@ -69,33 +50,17 @@ times_before s xs x t follow h = by x.time refl where
   by (Some u) some = by_follows u some (follow u some)
 
 abbrev pub AllLater : Option ℕ → List ℕ → Type 0
-AllLater time [] = Unit {0}
-AllLater time (t ∷ ts) = IsLater t time × AllLater time ts
+AllLater time ts = AllByRecursion (λ t. IsLater t time) ts
 
 pub all_none : (ts : List ℕ) → AllLater None ts
 all_none [] = tt
 all_none (t ∷ ts) = (tt, all_none ts)
 
-pub all_below : (u : ℕ) (ts : List ℕ) → Below u ts → AllLater (Some u) ts
-all_below u [] b = tt
-all_below u (t ∷ ts) b = (b.0, all_below u ts b.1)
-
-pub Below-append : (u : ℕ) (a b : List ℕ) → Below u a → Below u b → Below u (a ++ b)
-Below-append u [] b h k = k
-Below-append u (t ∷ a) b h k = (h.0, Below-append u a b h.1 k)
-
-below_when : (u g : ℕ) (init : List ℕ) (c : Bool) → g < u → Below u init → Below u (init ++ when c g)
-below_when u g init c lt b = grind (arith, Below-append)
-
-below_less : (u g : ℕ) (ts : List ℕ) → g < u → Below g ts → Below u ts
-below_less u g [] lt h = tt
-below_less u g (t ∷ ts) lt h = (omega (arith, lt, h.0), below_less u g ts lt h.1)
-
 pub closed_below : (s : GatherSetup) (xs : List Timed) (u : ℕ) → Follows s xs u → Below u (closed_times s xs)
 closed_below s xs u (first e) = subst (λ l. Below u (filter (is_shut s xs) l)) (sym (no_times xs e)) tt
 closed_below s xs u (greater g e lt) =
     let last = ends xs g e in
-    subst (Below u) (sym (closed_is s xs g last.init e last.is last.below)) (below_when u g last.init (is_closed s g xs) lt (below_less u g last.init lt last.below))
+    all_filter (λ t. t < u) (is_shut s xs) (times xs) (subst (Below u) (sym last.is) (Below-more u g last.init lt last.below))
 closed_below s xs u (equal e c) =
     let last = ends xs u e in
     subst (Below u) (sym (closed_is s xs u last.init e last.is last.below ∙ ap (λ b. last.init ++ when b u) c ∙ append-nil last.init)) last.below
@@ -104,4 +69,4 @@ pub all_later : (s : GatherSetup) (xs : List Timed) (x : Timed) → Known s xs x
 all_later s xs x follow = by x.time refl where
   by : (time : Option ℕ) → x.time ≡ time → AllLater x.time (closed_times s xs)
   by None none = subst (λ o. AllLater o (closed_times s xs)) (sym none) (all_none (closed_times s xs))
-  by (Some u) some = subst (λ o. AllLater o (closed_times s xs)) (sym some) (all_below u (closed_times s xs) (closed_below s xs u (follow u some)))
+  by (Some u) some = subst (λ o. AllLater o (closed_times s xs)) (sym some) (closed_below s xs u (follow u some))

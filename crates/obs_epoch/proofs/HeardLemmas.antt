@@ -1,6 +1,5 @@
 -- A step of the clock, when the epoch that it closes is still pending.
-use Rattle.obs_epoch.proofs.Names.{◌≡◌, true, false, ◌||◌, ◌&&◌, arith, Option, is_some, ℕ, Heard, KeepsEpoch, State, ends_epoch, ended_where, open_by, is_accepted, is_close_first, is_same, kind_by, no_counts, step_by, closed_time, common_steps}
-use Rattle.obs_epoch.proofs.ClockLemmas.{same_state}
+use Rattle.obs_epoch.proofs.Names.{◌≡◌, true, ◌||◌, ◌&&◌, arith, Option, is_some, ℕ, Heard, KeepsEpoch, State, ends_epoch, ended_where, open_by, is_accepted, is_close_first, is_same, kind_by, no_counts, step_by, closed_time, common_steps}
 
 -- A pending epoch has a time.
 abbrev pub IsKnown : State → Type 0
@@ -26,11 +25,7 @@ done g m known = grind (arith, common_steps, known)
 
 -- It is the step, but for an epoch that is still pending.
 pub heard_step : (g : State) (m : Heard) → open_by g m ≡ record (step_by g m) { pending = (open_by g m).pending }
-heard_step g m = grind (arith, common_steps, same_state)
+heard_step g m = grind (arith, common_steps)
 
 pub same_itself : (l : Option ℕ) → is_same l l ≡ true
 same_itself l = grind (arith, common_steps)
-
--- A message that isn't accepted has no time.
-pub same_latest : (g : State) (m : Heard) → is_accepted (kind_by g no_counts m) ≡ false → is_same g.latest (step_by g m).latest ≡ true
-same_latest g m refused = grind (arith, common_steps, same_itself)

@@ -1,26 +1,17 @@
 -- The epochs of a list after one more message, with their station values.
-use Rattle.obs_epoch.proofs.Names.{◌≡◌, ℕ, Bool, true, false, not, List, [], ◌∷◌, ◌++◌, filter, refl, sym, ap, ap₂, ◌∙◌, subst, arith, Option, Some, None, nat_lt, append_assoc, append-nil, if◌then◌else◌, cond, option_to_list, map-append, GatherSetup, Heard, ends_epoch, Timed, max_known, greatest_time, is_closed, taken_at, timed, times, is_shut, closed_times, epoch_at, values_of, is_pending, EpochValue, option_map_or, list_any, IsPrefix, open_after, before_closing, closed_at, closed_list, closed_list_at, whole_list, common_steps, prefix_self}
+use Rattle.obs_epoch.proofs.Names.{◌≡◌, ℕ, Bool, true, false, not, List, ◌∷◌, ◌++◌, filter, refl, sym, ap, ap₂, ◌∙◌, subst, arith, Option, Some, None, append_assoc, append-nil, if◌then◌else◌, option_to_list, map-append, GatherSetup, Heard, Timed, greatest_time, is_closed, taken_at, timed, times, is_shut, closed_times, is_pending, option_map_or, IsPrefix, open_after, before_closing, closed_at, closed_list, closed_list_at, whole_list, common_steps, prefix_self, AllByRecursion, all_passed, both_ways, []}
 use Rattle.obs_epoch.proofs.TimesLemmas.{next, timed-push, greatest-push}
-use Rattle.obs_epoch.proofs.ClosedLemmas.{ends, no_times, closed_is, when, taken_follows, grows_by}
+use Rattle.obs_epoch.proofs.ClosedLemmas.{ends, no_times, closed_is, taken_follows, grows_by}
 use Rattle.obs_epoch.proofs.EpochLemmas.{AllLater, IsLater, epoch_at-push, times_before, all_later}
 
 -- ---- a closed epoch stays closed
 
-any-more : (s : GatherSetup) (ys : List Timed) (x : Timed) → list_any (λ (y : Timed). ends_epoch s y.message) ys ≡ true → list_any (λ (y : Timed). ends_epoch s y.message) (ys ++ x ∷ []) ≡ true
-any-more s ys x h = grind (arith, common_steps)
-
 closed-more : (s : GatherSetup) (t : ℕ) (xs : List Timed) (x : Timed) → is_closed s t xs ≡ true → is_closed s t (xs ++ x ∷ []) ≡ true
 closed-more s t [] x h = absurd (grind (arith, h))
-closed-more s t (y ∷ ys) x h = grind (arith, common_steps, any-more, closed-more s t ys x)
-
-later_known : (t : ℕ) (a b : Option ℕ) → option_map_or (λ u. nat_lt t u) a false ≡ true → option_map_or (λ u. nat_lt t u) (max_known a b) false ≡ true
-later_known t a b h = grind (arith, common_steps, h)
-
-pub shut-more : (s : GatherSetup) (t : ℕ) (xs : List Timed) (x : Timed) → is_shut s xs t ≡ true → is_shut s (xs ++ x ∷ []) t ≡ true
-shut-more s t xs x h = grind (arith, common_steps, closed-more, greatest-push, later_known)
+closed-more s t (y ∷ ys) x h = grind (arith, common_steps, closed-more s t ys x)
 
 pub shut-push : (s : GatherSetup) (t : ℕ) (ms : List Heard) (m : Heard) → is_shut s (timed s ms) t ≡ true → is_shut s (timed s (ms ++ m ∷ [])) t ≡ true
-shut-push s t ms m h = ap (λ l. is_shut s l t) (timed-push s ms m) ∙ shut-more s t (timed s ms) (next s (timed s ms) m) h
+shut-push s t ms m h = ap (λ l. is_shut s l t) (timed-push s ms m) ∙ (grind (arith, common_steps, closed-more, greatest-push))
 
 shut-append : (s : GatherSetup) (t : ℕ) (ms more : List Heard) → is_shut s (timed s ms) t ≡ true → is_shut s (timed s (ms ++ more)) t ≡ true
 shut-append s t ms [] h = ap (λ l. is_shut s (timed s l) t) (append-nil ms) ∙ h
@@ -28,11 +19,8 @@ shut-append s t ms (m ∷ more) h = grind (arith, common_steps, (shut-append s t
 
 -- ---- the messages before a closing
 
-not_both : (b : Bool) → b ≡ true → b ≡ false → ⊥
-not_both b e f = grind (arith, common_steps, e, f)
-
 still_open : (s : GatherSetup) (t : ℕ) (ms more : List Heard) → is_shut s (timed s (ms ++ more)) t ≡ false → is_shut s (timed s ms) t ≡ false
-still_open s t ms more h = grind (arith, common_steps, not_both, shut-append)
+still_open s t ms more h = grind (arith, common_steps, shut-append)
 
 -- If the epoch isn't closed: all messages.
 open_all : (s : GatherSetup) (t : ℕ) (earlier ms : List Heard) → is_shut s (timed s (earlier ++ ms)) t ≡ false → open_after s t earlier ms ≡ earlier ++ ms
@@ -40,8 +28,7 @@ open_all s t earlier [] h = sym (append-nil earlier)
 open_all s t earlier (m ∷ ms) h =
     let same = append_assoc earlier (m ∷ []) ms in
     let h2 : is_shut s (timed s ((earlier ++ m ∷ []) ++ ms)) t ≡ false = ap (λ l. is_shut s (timed s l) t) same ∙ h in
-    ap (λ b. if b then earlier else open_after s t (earlier ++ m ∷ []) ms) (still_open s t (earlier ++ m ∷ []) ms h2)
-    ∙ open_all s t (earlier ++ m ∷ []) ms h2 ∙ same
+    cc (still_open s t (earlier ++ m ∷ []) ms h2, open_all s t (earlier ++ m ∷ []) ms h2, same)
 
 -- If the last message closes the epoch: all messages but that.
 open_last : (s : GatherSetup) (t : ℕ) (earlier ms : List Heard) (m : Heard) → is_shut s (timed s (earlier ++ ms)) t ≡ false → is_shut s (timed s ((earlier ++ ms) ++ m ∷ [])) t ≡ true
@@ -51,13 +38,12 @@ open_last s t earlier (n ∷ ms) m h k =
     let same = append_assoc earlier (n ∷ []) ms in
     let h2 : is_shut s (timed s ((earlier ++ n ∷ []) ++ ms)) t ≡ false = ap (λ l. is_shut s (timed s l) t) same ∙ h in
     let k2 : is_shut s (timed s (((earlier ++ n ∷ []) ++ ms) ++ m ∷ [])) t ≡ true = ap (λ l. is_shut s (timed s (l ++ m ∷ [])) t) same ∙ k in
-    ap (λ b. if b then earlier else open_after s t (earlier ++ n ∷ []) (ms ++ m ∷ [])) (still_open s t (earlier ++ n ∷ []) ms h2)
-    ∙ open_last s t (earlier ++ n ∷ []) ms m h2 k2 ∙ same
+    cc (still_open s t (earlier ++ n ∷ []) ms h2, open_last s t (earlier ++ n ∷ []) ms m h2 k2, same)
 
 -- If the epoch was closed before: the same messages as before.
 open_same : (s : GatherSetup) (t : ℕ) (earlier ms : List Heard) (m : Heard) → is_shut s (timed s earlier) t ≡ false → is_shut s (timed s (earlier ++ ms)) t ≡ true
     → open_after s t earlier (ms ++ m ∷ []) ≡ open_after s t earlier ms
-open_same s t earlier [] m h k = absurd (not_both _ (ap (λ l. is_shut s (timed s l) t) (sym (append-nil earlier)) ∙ k) h)
+open_same s t earlier [] m h k = absurd (both_ways _ h (ap (λ l. is_shut s (timed s l) t) (sym (append-nil earlier)) ∙ k))
 open_same s t earlier (n ∷ ms) m h k = by (is_shut s (timed s (earlier ++ n ∷ [])) t) refl (λ e. open_same s t (earlier ++ n ∷ []) ms m e k2) where
   k2 : is_shut s (timed s ((earlier ++ n ∷ []) ++ ms)) t ≡ true
   k2 = ap (λ l. is_shut s (timed s l) t) (append_assoc earlier (n ∷ []) ms) ∙ k
@@ -76,15 +62,10 @@ before-push s t ms m k = grind (arith, common_steps, open_same, open_last, befor
 -- ---- the closed epochs stay
 
 abbrev pub Each : (ℕ → Bool) → List ℕ → Type 0
-Each p [] = Unit {0}
-Each p (t ∷ ts) = (p t ≡ true) × Each p ts
-
-each_cond : (p : ℕ → Bool) (t : ℕ) (ts : List ℕ) (b : Bool) → p t ≡ b → Each p ts → Each p (cond b (t ∷ ts) ts)
-each_cond p t ts b e h = grind arith
+Each p ts = AllByRecursion (λ t. p t ≡ true) ts
 
 pub each_filter : (p : ℕ → Bool) (ts : List ℕ) → Each p (filter p ts)
-each_filter p [] = tt
-each_filter p (t ∷ ts) = each_cond p t (filter p ts) (p t) refl (each_filter p ts)
+each_filter p ts = all_passed (λ t. p t ≡ true) p (λ t e. e) ts
 
 pub each_front : (p : ℕ → Bool) (xs ys : List ℕ) → Each p (xs ++ ys) → Each p xs
 each_front p [] ys h = tt
@@ -98,9 +79,7 @@ pub closed_at-push : (s : GatherSetup) (ms : List Heard) (m : Heard) (t : ℕ) �
     → closed_at s (ms ++ m ∷ []) t ≡ closed_at s ms t
 closed_at-push s ms m t later shut =
     let xs = timed s ms in
-    ap₂ (λ (e : EpochValue) l. record { epoch = e; values = values_of s l })
-    (ap (λ l. epoch_at s l t) (timed-push s ms m) ∙ epoch_at-push s xs (next s xs m) t later (times_before s xs (next s xs m) t (taken_follows s xs m) later))
-    (before-push s t ms m shut)
+    cc (timed-push s ms m, epoch_at-push s xs (next s xs m) t later (times_before s xs (next s xs m) t (taken_follows s xs m) later), before-push s t ms m shut)
 
 pub list-push : (s : GatherSetup) (ms : List Heard) (m : Heard) (ts : List ℕ) → AllLater (taken_at s (timed s ms) m) ts → Each (is_shut s (timed s (ms ++ m ∷ []))) ts
     → closed_list_at s (ms ++ m ∷ []) ts ≡ closed_list_at s ms ts
@@ -127,9 +106,6 @@ epochs-more s ms (m ∷ more) = grind (arith, append_assoc, epochs-push s ms m, 
 
 -- ---- with the pending epoch, these are all epochs
 
-when_not : (c : Bool) (g : ℕ) (init : List ℕ) → (init ++ when c g) ++ when (not c) g ≡ init ++ g ∷ []
-when_not c g init = grind (arith, append-nil)
-
 -- The time of the pending epoch.
 abbrev pub pending_in : GatherSetup → List Timed → List ℕ
 pending_in s xs = if is_pending s xs then option_to_list (greatest_time xs) else []
@@ -137,13 +113,11 @@ pending_in s xs = if is_pending s xs then option_to_list (greatest_time xs) else
 pub with_pending : (s : GatherSetup) (xs : List Timed) → closed_times s xs ++ pending_in s xs ≡ times xs
 with_pending s xs = by (greatest_time xs) refl where
   by : (o : Option ℕ) → greatest_time xs ≡ o → closed_times s xs ++ pending_in s xs ≡ times xs
-  by None e =
-      ap₂ (λ l (o : Option ℕ). filter (is_shut s xs) l ++ (if option_map_or (λ t. not (is_closed s t xs)) o false then option_to_list o else [])) (no_times xs e) e
-      ∙ sym (no_times xs e)
+  by None e = cc (no_times xs e, e, no_times xs e)
   by (Some g) e =
       let last = ends xs g e in
       ap₂ (λ l (o : Option ℕ). l ++ (if option_map_or (λ t. not (is_closed s t xs)) o false then option_to_list o else [])) (closed_is s xs g last.init e last.is last.below) e
-      ∙ when_not (is_closed s g xs) g last.init ∙ sym last.is
+      ∙ (grind (arith, append-nil)) ∙ sym last.is
 
 pub all-prefix : (s : GatherSetup) (ms : List Heard) → IsPrefix (closed_list s ms) (whole_list s ms)
 all-prefix s ms =

@@ -1,13 +1,12 @@
 -- The cells of one more message, kept one by one, are the kept cells of the longer list.
-use Rattle.obs_epoch.proofs.Names.{[], ◌≡◌, ℕ, suc, Bool, true, false, not, ◌||◌, ◌&&◌, List, ◌∷◌, ◌++◌, filter, refl, sym, ap, ap₂, ◌∙◌, arith, length, append_assoc, append-nil, Option, nat_le, if◌then◌else◌, cond, System, CellOutcome, Crowded, Kept, Repeated, Skipped, count_in, lookup, outcome_by, outcome_of, outcome_of_added, is_held, GatherSetup, HeardCell, kept_cell, is_of_system, is_among, kept, add, is_planned, lacks_channel, has_same_key, lli_with, GathererValue, with_more, outcome_in, hold, hold_by, load, PlanValue, planned_of, most_cells, EpochValue, cells_of, insert_by, sort_key_of, sorted, cell_sort_key, Cell, KnownLock, CellCounts, tabulate, value_tabulated, system_same, system_self, common_steps}
+use Rattle.obs_epoch.proofs.Names.{[], ◌≡◌, ℕ, Bool, true, false, ◌||◌, List, ◌∷◌, ◌++◌, filter, refl, sym, ap, ap₂, ◌∙◌, arith, length, append_assoc, append-nil, Option, nat_le, if◌then◌else◌, cond, System, CellOutcome, Crowded, Kept, Repeated, Skipped, count_in, lookup, outcome_by, outcome_of, outcome_of_added, is_held, GatherSetup, HeardCell, kept_cell, is_among, kept, is_planned, lacks_channel, has_same_key, lli_with, GathererValue, with_more, outcome_in, hold, hold_by, load, PlanValue, planned_of, most_cells, EpochValue, cells_of, insert_by, sort_key_of, sorted, cell_sort_key, Cell, KnownLock, CellCounts, tabulate, value_tabulated, system_same, system_self, common_steps, map, length-map}
 use Rattle.gnss_obs.specs.declared.epoch_cells.Added.TheVariants as added
 use Rattle.obs_epoch.proofs.CellsLemmas.{kept-add}
-use Rattle.obs_epoch.proofs.OrderLemmas.{sorted-push, among-sorted, length-sorted}
+use Rattle.obs_epoch.proofs.OrderLemmas.{among-sorted, length-sorted}
 
 -- Cells with their loss of lock indicators, from the earlier locks of their keys.
 abbrev pub with_lli_by : (HeardCell → Option KnownLock) → ℕ → List HeardCell → List Cell
-with_lli_by f t [] = []
-with_lli_by f t (x ∷ xs) = kept_cell x (lli_with t x (f x)) ∷ with_lli_by f t xs
+with_lli_by f t xs = map (λ x. kept_cell x (lli_with t x (f x))) xs
 
 with_lli_by-insert : (planned : List ℕ) (f : HeardCell → Option KnownLock) (t : ℕ) (xs : List HeardCell) (x : HeardCell)
     → with_lli_by f t (insert_by (sort_key_of planned) x xs) ≡ insert_by (cell_sort_key planned) (kept_cell x (lli_with t x (f x))) (with_lli_by f t xs)
@@ -17,11 +16,7 @@ with_lli_by-insert planned f t (y ∷ xs) x = grind (arith, common_steps, with_l
 -- A kept cell is inserted at its index in the order.
 with_lli_by-push : (planned : List ℕ) (f : HeardCell → Option KnownLock) (t : ℕ) (xs : List HeardCell) (x : HeardCell)
     → with_lli_by f t (sorted planned (xs ++ x ∷ [])) ≡ insert_by (cell_sort_key planned) (kept_cell x (lli_with t x (f x))) (with_lli_by f t (sorted planned xs))
-with_lli_by-push planned f t xs x = ap (with_lli_by f t) (sorted-push planned xs x) ∙ with_lli_by-insert planned f t (sorted planned xs) x
-
-with_lli_by-length : (f : HeardCell → Option KnownLock) (t : ℕ) (xs : List HeardCell) → length (with_lli_by f t xs) ≡ length xs
-with_lli_by-length f t [] = refl
-with_lli_by-length f t (x ∷ xs) = ap suc (with_lli_by-length f t xs)
+with_lli_by-push planned f t xs x = ap (with_lli_by f t) (grind (arith, common_steps)) ∙ with_lli_by-insert planned f t (sorted planned xs) x
 
 with_lli_by-held : (f : HeardCell → Option KnownLock) (t : ℕ) (xs : List HeardCell) (y : HeardCell) → is_held (with_lli_by f t xs) y ≡ is_among xs y
 with_lli_by-held f t [] y = refl
@@ -46,7 +41,7 @@ pub outcome_is : (s : GatherSetup) (f : HeardCell → Option KnownLock) (t : ℕ
 outcome_is s f t xs x =
     ap₂ (λ a n. if is_planned s x then outcome_of_added (outcome_by a n) else Skipped)
     (ap (λ (l : List Cell). is_held l x) (cells_in_of system s.plan f t xs) ∙ with_lli_by-held f t (sorted planned (kept system xs)) x ∙ among-sorted planned (kept system xs) x)
-    (ap (λ (l : List Cell). length l) (cells_in_of system s.plan f t xs) ∙ with_lli_by-length f t (sorted planned (kept system xs)) ∙ length-sorted planned (kept system xs))
+    (ap (λ (l : List Cell). length l) (cells_in_of system s.plan f t xs) ∙ length-map (sorted planned (kept system xs)) (λ y. kept_cell y (lli_with t y (f y))) ∙ length-sorted planned (kept system xs))
     ∙ by (is_planned s x) (is_among (kept system xs) x) (nat_le most_cells (length (kept system xs))) where
       system : System
       system = x.satellite.system
@@ -56,13 +51,6 @@ outcome_is s f t xs x =
 
       by : (p a c : Bool) → (if p then outcome_of_added (if a then added.Repeated else (if c then added.Crowded else added.Kept)) else Skipped) ≡ (if p then (if a then Repeated else (if c then Crowded else Kept)) else Skipped)
       by p a c = grind arith
-
--- The cells of another system don't change.
-add_other : (system : System) (ks : List HeardCell) (x : HeardCell) → is_of_system system x ≡ false → add system ks x ≡ ks
-add_other system ks x h = ap (λ b. if b && not (is_among ks x || nat_le most_cells (length ks)) then ks ++ x ∷ [] else ks) h
-
-add_own : (system : System) (ks : List HeardCell) (x : HeardCell) → is_of_system system x ≡ true → add system ks x ≡ (if is_among ks x || nat_le most_cells (length ks) then ks else ks ++ x ∷ [])
-add_own system ks x h = grind (arith, common_steps)
 
 abbrev pub epoch_by : PlanValue → CellOutcome → (HeardCell → Option KnownLock) → EpochValue → HeardCell → EpochValue
 epoch_by p Kept f e x = with_more p e (kept_cell x (lli_with e.time x (f x)))
@@ -74,12 +62,7 @@ same_epoch p f t xs ys same = grind (arith, common_steps)
 
 -- A cell that isn't kept changes no system's kept cells.
 kept_same : (xs : List HeardCell) (x : HeardCell) → (is_among (kept x.satellite.system xs) x || nat_le most_cells (length (kept x.satellite.system xs))) ≡ true → (system : System) → kept system xs ≡ kept system (xs ++ x ∷ [])
-kept_same xs x full system = grind (arith, common_steps, kept-add, system_same, add_own, system_self, add_other)
-
--- A cell that is kept is inserted into the cells of its system.
-kept_more : (p : PlanValue) (f : HeardCell → Option KnownLock) (t : ℕ) (xs : List HeardCell) (x : HeardCell) → (is_among (kept x.satellite.system xs) x || nat_le most_cells (length (kept x.satellite.system xs))) ≡ false
-    → epoch_by p Kept f (epoch_of p f t xs) x ≡ epoch_of p f t (xs ++ x ∷ [])
-kept_more p f t xs x room = grind (arith, with_lli_by-push, kept-add)
+kept_same xs x full system = grind (arith, common_steps, kept-add, system_same, system_self)
 
 -- After one more cell, the pending epoch is that of the longer list.
 one_more : (s : GatherSetup) (f : HeardCell → Option KnownLock) (t : ℕ) (xs : List HeardCell) (x : HeardCell)
@@ -90,7 +73,7 @@ one_more s f t xs x = by (is_planned s x) (is_among (kept x.satellite.system xs)
   by false a n h k = ap (epoch_of s.plan f t) (sym (append-nil xs))
   by true true n h k = same_epoch s.plan f t xs (xs ++ x ∷ []) (kept_same xs x (ap (λ b. b || nat_le most_cells (length (kept x.satellite.system xs))) h))
   by true false true h k = same_epoch s.plan f t xs (xs ++ x ∷ []) (kept_same xs x (ap₂ (λ a b. a || b) h k))
-  by true false false h k = kept_more s.plan f t xs x (ap₂ (λ a b. a || b) h k)
+  by true false false h k = grind (arith, with_lli_by-push, kept-add)
 
 -- The counts after these cells, one by one.
 abbrev pub counts_after : GatherSetup → List HeardCell → CellCounts → List HeardCell → CellCounts

@@ -1,5 +1,5 @@
 -- The lock records: their values after a closing, and their number.
-use Rattle.obs_epoch.proofs.Names.{[], ◌≡◌, ℕ, zero, suc, ◌+◌, Bool, true, false, ◌||◌, List, ◌∷◌, ◌++◌, map, filter, refl, sym, ap, ◌∙◌, subst, arith, length, append_assoc, append-nil, length-append, Option, Some, None, is_some, get_or, replicate, if◌then◌else◌, cond, find, option_and_then, length-set, option_or, IsDistinct-head, IsDistinct-tail, sum_by-cons, is_among, has_listed_key, firsts, has_same_key, lock_of, is_locked, lookup, put, note, note_all, lock_place, most_locks, no_locks, recorded, TracksLocks, HeardCell, heard_cell, KnownLock, Cell, IsDistinct, AllByRecursion, common_steps}
+use Rattle.obs_epoch.proofs.Names.{[], ◌≡◌, ℕ, zero, suc, ◌+◌, Bool, true, false, ◌||◌, List, ◌∷◌, ◌++◌, map, filter, refl, sym, ap, ◌∙◌, subst, arith, length, append_assoc, append-nil, length-append, Option, Some, None, is_some, replicate, if◌then◌else◌, cond, find, option_and_then, length-set, option_or, IsDistinct-head, IsDistinct-tail, sum_by-cons, is_among, has_listed_key, has_same_key, lock_of, is_locked, lookup, put, note, note_all, lock_place, most_locks, no_locks, recorded, TracksLocks, HeardCell, heard_cell, KnownLock, Cell, IsDistinct, AllByRecursion, common_steps, get_or-same}
 use Rattle.std.proofs.lemmas.Map.Steps.{list_any_congr}
 use Rattle.obs_epoch.proofs.CellsLemmas.{same_key_laws, firsts-push, new_key, among-push}
 
@@ -8,17 +8,8 @@ use Rattle.obs_epoch.proofs.CellsLemmas.{same_key_laws, firsts-push, new_key, am
 abbrev answer : Bool → KnownLock → Option KnownLock → Option KnownLock
 answer same l o = if same then Some l else o
 
-pub lookup-put : (ts : List (Option KnownLock)) (x key : HeardCell) (l : KnownLock) → has_listed_key x ≡ true → length ts ≡ most_locks
-    → lookup (put ts x l) key ≡ answer (has_same_key key x) l (lookup ts key)
-lookup-put ts x key l k size = grind (arith, common_steps)
-
 abbrev lock_for : HeardCell → ℕ → HeardCell → Option KnownLock
 lock_for key t x = if has_same_key key x then lock_of t x else None
-
--- The records after a cell is recorded.
-pub lookup-note : (t : ℕ) (ts : List (Option KnownLock)) (x key : HeardCell) → has_listed_key x ≡ true → length ts ≡ most_locks
-    → lookup (note t ts x) key ≡ option_or (lock_for key t x) (lookup ts key)
-lookup-note t ts x key k size = grind (arith, common_steps)
 
 pub note_size : (t : ℕ) (ts : List (Option KnownLock)) (x : HeardCell) → length (note t ts x) ≡ length ts
 note_size t ts x = grind (arith, common_steps)
@@ -50,7 +41,7 @@ pub lookup-note_all : (t : ℕ) (ts : List (Option KnownLock)) (ms : List Cell) 
 lookup-note_all t ts [] key d k size = refl
 lookup-note_all t ts (m ∷ ms) key d k size =
     lookup-note_all t (note t ts (heard_cell m)) ms key (IsDistinct-tail has_same_key (heard_cell m) (seens ms) d) k.1 (note_size t ts (heard_cell m) ∙ size)
-    ∙ ap (λ o. option_or (option_and_then (lock_of t) (find (has_same_key key) (seens ms))) o) (lookup-note t ts (heard_cell m) key k.0 size)
+    ∙ ap (λ o. option_or (option_and_then (lock_of t) (find (has_same_key key) (seens ms))) o) (grind (arith, common_steps))
     ∙ by (has_same_key key (heard_cell m)) refl where
       by : (b : Bool) → has_same_key key (heard_cell m) ≡ b
           → option_or (option_and_then (lock_of t) (find (has_same_key key) (seens ms))) (option_or (if b then lock_of t (heard_cell m) else None) (lookup ts key))
@@ -66,14 +57,11 @@ lookup-note_all t ts (m ∷ ms) key d k size =
 abbrev is_new : List HeardCell → HeardCell → ℕ
 is_new xs y = if is_among xs y then 0 else 1
 
-length_firsts-push : (xs : List HeardCell) (y : HeardCell) → length (firsts (xs ++ y ∷ [])) ≡ length (firsts xs) + is_new xs y
-length_firsts-push xs y = grind (arith, common_steps, firsts-push, length-append, new_key)
-
 recorded-put : (ts : List (Option KnownLock)) (x : HeardCell) (l : KnownLock) → has_listed_key x ≡ true → length ts ≡ most_locks → recorded (put ts x l) ≡ recorded ts + (if is_some (lookup ts x) then 0 else 1)
 recorded-put ts x l k size = grind (arith, common_steps)
 
 pub tracks_put : (ts : List (Option KnownLock)) (noted : List HeardCell) (x : HeardCell) (l : KnownLock) → has_listed_key x ≡ true → TracksLocks ts noted → TracksLocks (put ts x l) (noted ++ x ∷ [])
-tracks_put ts noted x l k h = grind (arith, common_steps, lookup-put, among-push, recorded-put, length_firsts-push, length-set)
+tracks_put ts noted x l k h = grind (arith, common_steps, among-push, recorded-put, firsts-push, length-append, new_key, length-set)
 
 -- The locked ones of these cells.
 abbrev pub locked : List HeardCell → List HeardCell
@@ -95,10 +83,5 @@ no_recorded (suc n) = sum_by-cons (λ o. cond (is_some {T = KnownLock} o) 1 0) N
 pub none_recorded : recorded no_locks ≡ 0
 none_recorded = no_recorded most_locks
 
-no_entry : (n i : ℕ) → get_or {A = Option KnownLock} (replicate n None) i None ≡ None
-no_entry zero i = refl
-no_entry (suc n) zero = refl
-no_entry (suc n) (suc i) = no_entry n i
-
 pub none_found : (key : HeardCell) → lookup no_locks key ≡ None
-none_found key = grind (arith, no_entry most_locks (lock_place key))
+none_found key = grind (arith, get_or-same {A = Option KnownLock} None most_locks (lock_place key))

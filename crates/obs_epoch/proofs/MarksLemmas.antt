@@ -1,22 +1,11 @@
 -- The entries of lost lock after one more epoch.
-use Rattle.obs_epoch.proofs.Names.{◌≡◌, ℕ, zero, suc, ◌+◌, ◌==◌, ◌%◌, ◌<◌, Bool, true, false, not, ◌&&◌, ◌||◌, List, [], ◌∷◌, ◌++◌, map, flat_map, length, get_or, set, replicate, refl, sym, ap, ◌∙◌, subst, arith, is_some, if◌then◌else◌, length-set, list_any, length-replicate, common_steps, value_after, value_tabulated, systems, Choice, on_grid, any_loss, carried_from, has_loss, mark_at, no_marks, note_losses, note_lost, note_systems_lost, with_mark_in, AreMarks, is_lost_in, Cell, Closed, EpochValue, System, cells_of, has_listed_key, has_same_key, heard_cell, lock_place, most_locks, all_cells, has_cell, has_phase, is_marked, lost_before, mark_if, marked_epoch, marked_at, marked_in, with_mark, with_value_of, BySystem, or-false}
+use Rattle.obs_epoch.proofs.Names.{◌≡◌, ℕ, zero, suc, ◌+◌, ◌==◌, ◌%◌, ◌<◌, Bool, true, false, not, ◌&&◌, ◌||◌, List, ◌∷◌, ◌++◌, map, flat_map, length, get_or, set, refl, sym, ap, ◌∙◌, subst, arith, is_some, if◌then◌else◌, length-set, list_any, length-replicate, common_steps, value_after, value_tabulated, systems, Choice, on_grid, any_loss, carried_from, has_loss, mark_at, no_marks, note_losses, note_lost, note_systems_lost, with_mark_in, AreMarks, is_lost_in, Cell, Closed, EpochValue, System, cells_of, has_listed_key, has_same_key, heard_cell, lock_place, most_locks, all_cells, has_cell, has_phase, is_marked, lost_before, mark_if, marked_epoch, marked_at, marked_in, with_mark, with_value_of, or-false, all_append, get_or-set_same, get_or-set_other, list_any-append, get_or-same, []}
 use Rattle.obs_epoch.proofs.PlaceLemmas.{listed_from, place_one, place_within, same_place}
-use Rattle.obs_epoch.proofs.ThinLemmas.{AllListedCells, HasListedCells, any-append, lost-push, no_phase, none_lost}
+use Rattle.obs_epoch.proofs.ThinLemmas.{AllListedCells, HasListedCells, no_phase, none_lost, after-push}
+use Rattle.obs_epoch.proofs.TimesLemmas.{list_any-push}
 
 abbrev same_cell : Cell → Cell → Bool
 same_cell x y = has_same_key (heard_cell x) (heard_cell y)
-
-set_same : (xs : List Bool) (i : ℕ) (b : Bool) → i < length xs → get_or (set xs i b) i false ≡ b
-set_same [] i b h = absurd (grind (arith, h))
-set_same (x ∷ xs) zero b h = refl
-set_same (x ∷ xs) (suc i) b h = set_same xs i b (omega (arith, h))
-
-set_other : (xs : List Bool) (i j : ℕ) (b : Bool) → (j ≡ i → ⊥) → get_or (set xs i b) j false ≡ get_or xs j false
-set_other [] i j b h = refl
-set_other (x ∷ xs) zero zero b h = absurd (h refl)
-set_other (x ∷ xs) zero (suc j) b h = refl
-set_other (x ∷ xs) (suc i) zero b h = refl
-set_other (x ∷ xs) (suc i) (suc j) b h = set_other xs i j b (λ e. h (ap suc e))
 
 -- The entry of a cell's key after that of another cell is set.
 lost_set : (marks : List Bool) (x y : Cell) (b : Bool) → has_listed_key (heard_cell x) ≡ true → has_listed_key (heard_cell y) ≡ true → length marks ≡ most_locks
@@ -26,11 +15,9 @@ lost_set marks x y b k l size = by (same_cell x y) refl where
   within = subst (λ n. lock_place (heard_cell y) < n) (sym size) (place_within (heard_cell y) (listed_from (heard_cell y) l))
 
   by : (c : Bool) → same_cell x y ≡ c → is_lost_in (set marks (lock_place (heard_cell y)) b) x ≡ (if c then b else is_lost_in marks x)
-  by true e =
-      ap (λ i. get_or (set marks (lock_place (heard_cell y)) b) i false) (same_place (heard_cell x) (heard_cell y) e).0
-      ∙ set_same marks (lock_place (heard_cell y)) b within
+  by true e = cc ((same_place (heard_cell x) (heard_cell y) e).0, get_or-set_same marks (lock_place (heard_cell y)) b false within)
   by false e =
-      set_other marks (lock_place (heard_cell y)) (lock_place (heard_cell x)) b
+      get_or-set_other marks (lock_place (heard_cell y)) (lock_place (heard_cell x)) b false
       (λ same. grind (arith, e, place_one (heard_cell x) (heard_cell y) (listed_from (heard_cell x) k) (listed_from (heard_cell y) l) same))
 
 -- A cell that changes the entry of its key.
@@ -39,10 +26,6 @@ changes at y = has_phase y && (at || (y.lli % 2 == 1))
 
 abbrev any_changes : Bool → Cell → List Cell → Bool
 any_changes at x ys = list_any (λ y. same_cell x y && changes at y) ys
-
-lost_note : (at : Bool) (marks : List Bool) (x y : Cell) → has_listed_key (heard_cell x) ≡ true → has_listed_key (heard_cell y) ≡ true → length marks ≡ most_locks
-    → is_lost_in (note_lost at marks y) x ≡ (if same_cell x y && changes at y then not at else is_lost_in marks x)
-lost_note at marks x y k l size = grind (arith, lost_set marks x y (not at) k l size)
 
 note_size : (at : Bool) (marks : List Bool) (y : Cell) → length (note_lost at marks y) ≡ length marks
 note_size at marks y = grind (arith, length-set)
@@ -56,7 +39,7 @@ lost_losses : (at : Bool) (marks : List Bool) (x : Cell) (ys : List Cell) → ha
 lost_losses at marks x [] k l size = refl
 lost_losses at marks x (y ∷ ys) k l size =
     lost_losses at (note_lost at marks y) x ys k l.1 (note_size at marks y ∙ size)
-    ∙ ap (λ b. if any_changes at x ys then not at else b) (lost_note at marks x y k l.0 size)
+    ∙ ap (λ b. if any_changes at x ys then not at else b) (grind (arith, lost_set marks x y (not at) k l.0 size))
     ∙ by (same_cell x y && changes at y) (any_changes at x ys) where
       by : (a b : Bool) → (if b then not at else (if a then not at else is_lost_in marks x)) ≡ (if (a || b) then not at else is_lost_in marks x)
       by a b = grind arith
@@ -71,13 +54,9 @@ systems_are : (at : Bool) (e : EpochValue) (marks : List Bool) (ss : List System
 systems_are at e marks [] = refl
 systems_are at e marks (s ∷ ss) = systems_are at e (note_losses at marks (cells_of s e)) ss ∙ losses_append at marks (cells_of s e) (flat_map (λ s. cells_of s e) ss)
 
-listed_append : (xs ys : List Cell) → AllListedCells xs → AllListedCells ys → AllListedCells (xs ++ ys)
-listed_append [] ys h k = k
-listed_append (x ∷ xs) ys h k = (h.0, listed_append xs ys h.1 k)
-
 all_listed : (e : EpochValue) (ss : List System) → HasListedCells e → AllListedCells (flat_map (λ s. cells_of s e) ss)
 all_listed e [] h = tt
-all_listed e (s ∷ ss) h = listed_append (cells_of s e) (flat_map (λ s. cells_of s e) ss) (h s) (all_listed e ss h)
+all_listed e (s ∷ ss) h = all_append (λ x. has_listed_key (heard_cell x) ≡ true) (cells_of s e) (flat_map (λ s. cells_of s e) ss) (h s) (all_listed e ss h)
 
 lost_systems : (at : Bool) (e : EpochValue) (marks : List Bool) (x : Cell) → has_listed_key (heard_cell x) ≡ true → HasListedCells e → length marks ≡ most_locks
     → is_lost_in (note_systems_lost at e marks systems) x ≡ (if any_changes at x (all_cells e) then not at else is_lost_in marks x)
@@ -94,7 +73,7 @@ marked_changes f x (y ∷ ys) = grind (arith, marked_changes f x ys)
 
 marked_all : (f : Cell → Bool) (x : Cell) (e : EpochValue) (ss : List System) → any_changes true x (flat_map (λ s. cells_of s (marked_epoch f e)) ss) ≡ any_changes true x (flat_map (λ s. cells_of s e) ss)
 marked_all f x e [] = refl
-marked_all f x e (s ∷ ss) = grind (arith, any-append, value_tabulated, marked_changes, marked_all f x e ss)
+marked_all f x e (s ∷ ss) = grind (arith, list_any-append, value_tabulated, marked_changes, marked_all f x e ss)
 
 marked_listed : (f : Cell → Bool) (e : EpochValue) → HasListedCells e → HasListedCells (marked_epoch f e)
 marked_listed f e h = λ s. subst AllListedCells (sym (value_tabulated s (λ t. map (mark_if f) (cells_of t e)))) (by (cells_of s e) (h s)) where
@@ -124,7 +103,7 @@ marks_push c marks es e listed h = by (is_some c.interval) refl where
       ∙ ap (λ b. if b then false else is_lost_in marks x) (marked_all (is_lost_in marks) x e.epoch systems ∙ phase_changes x (all_cells e.epoch))
       ∙ ap (λ b. if has_cell has_phase x e then false else b) (h.each x k)
       ∙ some (has_cell has_phase x e) refl
-      ∙ ap (λ a. if a && has_cell has_phase x e then false else lost_before c es x || has_cell is_marked x e) (sym at) ∙ sym (lost-push c es e x) where
+      ∙ ap (λ a. if a && has_cell has_phase x e then false else lost_before c es x || has_cell is_marked x e) (sym at) ∙ sym (grind (arith, after-push, list_any-push)) where
         some : (p : Bool) → has_cell has_phase x e ≡ p → (if p then false else lost_before c es x) ≡ (if p then false else lost_before c es x || has_cell is_marked x e)
         some p q = grind (arith, or-false, no_phase)
 
@@ -133,7 +112,7 @@ marks_push c marks es e listed h = by (is_some c.interval) refl where
       lost_systems false e.epoch marks x k listed h.size
       ∙ ap (λ b. if has_cell is_marked x e then true else b) (h.each x k)
       ∙ some (has_cell is_marked x e) (lost_before c es x)
-      ∙ ap (λ a. if a && has_cell has_phase x e then false else lost_before c es x || has_cell is_marked x e) (sym at) ∙ sym (lost-push c es e x) where
+      ∙ ap (λ a. if a && has_cell has_phase x e then false else lost_before c es x || has_cell is_marked x e) (sym at) ∙ sym (grind (arith, after-push, list_any-push)) where
         some : (a b : Bool) → (if a then true else b) ≡ (b || a)
         some a b = grind arith
 
@@ -147,13 +126,8 @@ marks_push c marks es e listed h = by (is_some c.interval) refl where
 
 -- ---- no epochs
 
-no_entry : (n i : ℕ) → get_or (replicate n false) i false ≡ false
-no_entry zero i = refl
-no_entry (suc n) zero = refl
-no_entry (suc n) (suc i) = no_entry n i
-
 pub none_marked : (c : Choice) {marks : List Bool} → marks ≡ no_marks → AreMarks c marks []
-none_marked c e = record { size = ap (λ (l : List Bool). length l) e ∙ length-replicate most_locks false; each = λ x k. ap (λ l. is_lost_in l x) e ∙ no_entry most_locks (lock_place (heard_cell x)) }
+none_marked c e = record { size = ap (λ (l : List Bool). length l) e ∙ length-replicate most_locks false; each = λ x k. ap (λ l. is_lost_in l x) e ∙ get_or-same false most_locks (lock_place (heard_cell x)) }
 
 -- ---- the cells of a system, one by one
 
@@ -198,11 +172,8 @@ first_in marks system i e = record e { cells = with_value_of system e.cells (mar
 pub first_in_length : (marks : List Bool) (system : System) (i : ℕ) (e : EpochValue) → length (cells_of system (first_in marks system i e)) ≡ length (cells_of system e)
 first_in_length marks system i e = grind (arith, value_after, first_length)
 
-with_twice : {A : Type 0} (s : System) (values : BySystem A) (x y : A) → with_value_of s (with_value_of s values x) y ≡ with_value_of s values y
-with_twice s values x y = grind (arith, common_steps)
-
 pub first_in_step : (marks : List Bool) (system : System) (i : ℕ) (e : EpochValue) → with_mark_in marks system i (first_in marks system i e) ≡ first_in marks system (i + 1) e
-first_in_step marks system i e = grind (arith, value_after, with_twice, first_step)
+first_in_step marks system i e = grind (arith, common_steps, value_after, first_step)
 
 -- ---- an epoch without a loss of lock
 

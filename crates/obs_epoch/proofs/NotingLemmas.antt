@@ -1,5 +1,5 @@
 -- A closing: the locks of the pending epoch are recorded.
-use Rattle.obs_epoch.proofs.Names.{◌≡◌, ℕ, true, false, List, [], ◌∷◌, ◌++◌, filter, refl, sym, ap, ap₂, ◌∙◌, subst, arith, length, append_assoc, append-nil, Option, Some, None, flat_map, find, option_and_then, filter_map, unwrap_or, fold, ◌||◌, Bool, if◌then◌else◌, option_or, IsDistinct, cons_option, list_any, systems, system_same, any_system, note_systems, filter-append, flat_map-append, IsDistinct-push, System, is_system, GatherSetup, HeardCell, Timed, is_at, is_of_system, has_listed_key, is_planned, is_among, kept, cells_at, add, offered, has_same_key, planned_of, EpochValue, lock_of, locked_at, latest_in, last_of, is_locked, cells_with_lli, epoch_at, lookup, note_all, most_locks, TracksLocks, GathererValue, noted, locked_in, Locked, Cell, KnownLock, common_steps}
+use Rattle.obs_epoch.proofs.Names.{◌≡◌, ℕ, true, false, List, [], ◌∷◌, ◌++◌, filter, refl, sym, ap, ap₂, ◌∙◌, subst, arith, length, append_assoc, append-nil, Option, Some, None, flat_map, find, option_and_then, filter_map, unwrap_or, fold, ◌||◌, Bool, if◌then◌else◌, option_or, IsDistinct, cons_option, list_any, systems, system_same, any_system, note_systems, filter-append, flat_map-append, IsDistinct-push, System, is_system, GatherSetup, HeardCell, Timed, is_at, is_of_system, has_listed_key, is_planned, is_among, kept, cells_at, add, offered, has_same_key, planned_of, EpochValue, lock_of, locked_at, latest_in, last_of, is_locked, cells_with_lli, epoch_at, lookup, note_all, most_locks, TracksLocks, GathererValue, noted, locked_in, Locked, Cell, KnownLock, common_steps, all_append, all_passed, filter_map-append}
 use Rattle.obs_epoch.proofs.OrderLemmas.{among-sorted, all-sorted, distinct-sorted}
 use Rattle.obs_epoch.proofs.CellsLemmas.{kept-add, same_key_laws}
 use Rattle.obs_epoch.proofs.LockLemmas.{seens, lookup-note_all, note_all_size, tracks_all, locked, find_none, AllListed}
@@ -39,17 +39,11 @@ at_apart s t xs system key o = among-sorted (planned_of system s.plan) (kept sys
 
 -- ---- the kept cells are listed
 
-listed_append : (xs ys : List HeardCell) → AllListed xs → AllListed ys → AllListed (xs ++ ys)
-listed_append [] ys h k = k
-listed_append (x ∷ xs) ys h k = (h.0, listed_append xs ys h.1 k)
-
-listed_planned : (s : GatherSetup) (xs : List HeardCell) → AllListed (filter (is_planned s) xs)
-listed_planned s [] = tt
-listed_planned s (x ∷ xs) = grind (arith, common_steps, AllListed, listed_planned s xs)
-
 listed_offered : (s : GatherSetup) (xs : List Timed) → AllListed (flat_map (λ (x : Timed). filter (is_planned s) x.message.cells) xs)
 listed_offered s [] = tt
-listed_offered s (x ∷ xs) = listed_append (filter (is_planned s) x.message.cells) _ (listed_planned s x.message.cells) (listed_offered s xs)
+listed_offered s (x ∷ xs) =
+    all_append (λ y. has_listed_key y ≡ true) (filter (is_planned s) x.message.cells) _
+    (all_passed (λ y. has_listed_key y ≡ true) (is_planned s) (λ y e. grind (arith, common_steps, e)) x.message.cells) (listed_offered s xs)
 
 add_listed : (system : System) (ks : List HeardCell) (y : HeardCell) → has_listed_key y ≡ true → AllListed ks → AllListed (add system ks y)
 add_listed system ks y l h = grind (arith, common_steps)
@@ -69,13 +63,10 @@ last_push [] (Some l) = refl
 last_push (x ∷ xs) None = ap last_of (append-nil (x ∷ xs))
 last_push (x ∷ xs) (Some l) = ap (λ o. Some (unwrap_or o x)) (last_push xs (Some l))
 
-filter_map_push : (f : ℕ → Option KnownLock) (ts : List ℕ) (t : ℕ) → filter_map f (ts ++ t ∷ []) ≡ filter_map f ts ++ cons_option (f t) []
-filter_map_push f [] t = refl
-filter_map_push f (u ∷ ts) t = grind (arith, common_steps, filter_map_push f ts t)
-
 pub latest_in-push : (s : GatherSetup) (xs : List Timed) (ts : List ℕ) (t : ℕ) (key : HeardCell)
     → latest_in s xs (ts ++ t ∷ []) key ≡ option_or (locked_at s xs key t) (latest_in s xs ts key)
-latest_in-push s xs ts t key = ap last_of (filter_map_push (locked_at s xs key) ts t) ∙ last_push (filter_map (locked_at s xs key) ts) (locked_at s xs key t)
+latest_in-push s xs ts t key =
+    ap last_of (filter_map-append (locked_at s xs key) ts (t ∷ [])) ∙ last_push (filter_map (locked_at s xs key) ts) (locked_at s xs key t)
 
 seens_with_lli : (s : GatherSetup) (xs : List Timed) (t : ℕ) (ks : List HeardCell) → seens (cells_with_lli s xs t ks) ≡ ks
 seens_with_lli s xs t [] = refl
@@ -107,12 +98,8 @@ found_over s xs t key rs (c ∷ ss) size =
       by : (a b : Bool) → is_system key.satellite.system c ≡ a
           → option_or (if b then locked_at s xs key t else None) (option_or (option_and_then (lock_of t) (find (has_same_key key) (cells_at s t xs c))) (lookup rs key))
           ≡ option_or (if (a || b) then locked_at s xs key t else None) (lookup rs key)
-      by true b e =
-          ap (λ (d : System). option_or (if b then locked_at s xs key t else None) (option_or (option_and_then (lock_of t) (find (has_same_key key) (cells_at s t xs d))) (lookup rs key))) (sym (system_same key.satellite.system c e))
-          ∙ twice b (locked_at s xs key t) (lookup rs key)
-      by false b e =
-          ap (λ o. option_or (if b then locked_at s xs key t else None) (option_or (option_and_then (lock_of t) o) (lookup rs key)))
-          (find_none key (cells_at s t xs c) (at_apart s t xs c key (grind (arith, e))))
+      by true b e = cc (system_same key.satellite.system c e, twice b (locked_at s xs key t) (lookup rs key))
+      by false b e = grind (arith, find_none key (cells_at s t xs c) (at_apart s t xs c key (grind (arith, e))))
 
 tracks_over : (s : GatherSetup) (xs : List Timed) (t : ℕ) (rs : List (Option KnownLock)) (noted : List HeardCell) (ss : List System) → TracksLocks rs noted
     → TracksLocks (noting s xs t rs ss) (noted ++ filter is_locked (flat_map (cells_at s t xs) ss))

@@ -1,11 +1,11 @@
 -- A step of the gatherer adds one message to the list.
-use Rattle.obs_epoch.proofs.Names.{◌≡◌, ℕ, ◌<◌, Bool, true, false, not, ◌&&◌, List, [], ◌∷◌, ◌++◌, filter, refl, sym, ap, ap₂, ◌∙◌, subst, arith, append-nil, Option, Some, None, nat_lt, if◌then◌else◌, filter_map, flat_map, length-replicate, filter-append, GatherSetup, Heard, ends_epoch, HeardCell, kept_cell, Timed, is_at, greatest_time, is_closed, taken_at, no_counts, offered, is_planned, locked_at, latest_in, previous, times, lli_with, cells_with_lli, epoch_at, closed_so_far, lookup, no_locks, State, closes_first, is_pending, GathererValue, empty_epoch, load, epoch_begun, is_same, locked_in, held_at, Locked, KnownLock, option_map_or, list_any, equal_values, value_tabulated, common_steps, lt-ltb, le-ltb}
+use Rattle.obs_epoch.proofs.Names.{◌≡◌, ℕ, Bool, true, false, not, ◌&&◌, List, [], ◌∷◌, ◌++◌, filter, refl, sym, ap, ap₂, ◌∙◌, subst, arith, append-nil, Option, Some, None, nat_lt, if◌then◌else◌, filter_map, flat_map, length-replicate, filter-append, GatherSetup, Heard, ends_epoch, HeardCell, kept_cell, Timed, is_at, greatest_time, is_closed, taken_at, no_counts, offered, is_planned, locked_at, latest_in, previous, times, lli_with, cells_with_lli, epoch_at, closed_so_far, lookup, no_locks, State, closes_first, is_pending, GathererValue, empty_epoch, load, epoch_begun, is_same, locked_in, held_at, Locked, KnownLock, option_map_or, list_any, equal_values, value_tabulated, common_steps, lt-ltb, le-ltb, append_cancel_right}
 use Rattle.obs_epoch.proofs.TimesLemmas.{next, greater-absent, none-absent}
 use Rattle.obs_epoch.proofs.ClockLemmas.{standing, same_time, Follows, first, greater, equal, new_time}
 use Rattle.obs_epoch.proofs.HeardLemmas.{same_itself}
 use Rattle.obs_epoch.proofs.ClosedLemmas.{Below, when, ends, closed_is, passes_all, one_fails, taken_follows, times-push_same}
 use Rattle.obs_epoch.proofs.ClosingLemmas.{first_is, not_less, own_of, taken_by}
-use Rattle.obs_epoch.proofs.EpochLemmas.{IsLater, AllLater, all_none, all_below, cells_at-push, times_before, epoch_at-push}
+use Rattle.obs_epoch.proofs.EpochLemmas.{IsLater, AllLater, all_none, times_before, epoch_at-push}
 use Rattle.obs_epoch.proofs.LockLemmas.{none_found, none_recorded}
 use Rattle.obs_epoch.proofs.LoadLemmas.{with_lli_by, epoch_of, load_is, counts_after}
 
@@ -13,22 +13,19 @@ use Rattle.obs_epoch.proofs.LoadLemmas.{with_lli_by, epoch_of, load_is, counts_a
 
 latest-push : (s : GatherSetup) (xs : List Timed) (x : Timed) (ts : List ℕ) (key : HeardCell) → AllLater x.time ts → filter_map (locked_at s (xs ++ x ∷ []) key) ts ≡ filter_map (locked_at s xs key) ts
 latest-push s xs x [] key h = refl
-latest-push s xs x (t ∷ ts) key h = grind (arith, common_steps, cells_at-push, latest-push s xs x ts key h.1)
+latest-push s xs x (t ∷ ts) key h = grind (arith, common_steps, latest-push s xs x ts key h.1)
 
 locked_in-push : (s : GatherSetup) (xs : List Timed) (x : Timed) (ts : List ℕ) → AllLater x.time ts → locked_in s (xs ++ x ∷ []) ts ≡ locked_in s xs ts
 locked_in-push s xs x [] h = refl
-locked_in-push s xs x (t ∷ ts) h = grind (arith, common_steps, cells_at-push, locked_in-push s xs x ts h.1)
+locked_in-push s xs x (t ∷ ts) h = grind (arith, common_steps, locked_in-push s xs x ts h.1)
 
 pub locked-push : (g : GathererValue) (s : GatherSetup) (xs : List Timed) (x : Timed) (ts : List ℕ) → AllLater x.time ts → Locked g s xs ts → Locked g s (xs ++ x ∷ []) ts
 locked-push g s xs x ts later h = grind (arith, common_steps, latest-push, locked_in-push)
 
 -- ---- an accepted message: the closed epochs are those before its time
 
-cancel : (a b : List ℕ) (u : ℕ) → a ++ u ∷ [] ≡ b ++ u ∷ [] → a ≡ b
-cancel a b u e = grind (arith, common_steps)
-
 cancel_when : (a b : List ℕ) (c : Bool) (u : ℕ) → a ++ when c u ≡ b ++ when c u → a ≡ b
-cancel_when a b c u e = grind (arith, cancel, append-nil)
+cancel_when a b c u e = grind (arith, append_cancel_right a b (u ∷ []), append-nil)
 
 not_same : (a b : Bool) → not a ≡ not b → a ≡ b
 not_same a b e = grind (arith, common_steps, e)
@@ -58,7 +55,7 @@ pub closed_later : (s : GatherSetup) (xs : List Timed) (m : Heard) (shut : Bool)
 closed_later s xs m shut h = by (taken_at s xs m) refl where
   by : (o : Option ℕ) → taken_at s xs m ≡ o → AllLater o (closed_so_far s xs shut)
   by None e = all_none (closed_so_far s xs shut)
-  by (Some u) e = all_below u (closed_so_far s xs shut) (before_taken s xs m u shut e h).1
+  by (Some u) e = (before_taken s xs m u shut e h).1
 
 -- ---- loss of lock indicators from the lock records
 
@@ -76,12 +73,6 @@ none_at : (u : ℕ) (xs : List Timed) → list_any (is_at u) xs ≡ false → fi
 none_at u [] h = refl
 none_at u (x ∷ xs) h = grind (arith, common_steps, none_at u xs)
 
-none_offered : (s : GatherSetup) (xs : List Timed) (u : ℕ) → list_any (is_at u) xs ≡ false → offered s u xs ≡ []
-none_offered s xs u h = ap (flat_map (λ (x : Timed). filter (is_planned s) x.message.cells)) (none_at u xs h)
-
-not_known : (t u : ℕ) → t < u → is_same (Some t) (Some u) ≡ false
-not_known t u h = grind arith
-
 -- The epoch in which the cells of an accepted message are kept.
 begun_is : {g : GathererValue} {s : GatherSetup} {xs : List Timed} (m : Heard) {u : ℕ} {shut : Bool} → taken_at s xs m ≡ Some u → closes_first s xs m ≡ shut
     → ((is_pending s xs && not shut) ≡ true → g.epoch ≡ held_at s xs) → Locked g s xs (closed_so_far s xs shut) → g.clock.latest ≡ Some u
@@ -93,11 +84,11 @@ begun_is {g} {s} {xs} m {u} {shut} some h held locks now = ap (λ o. begun_to (g
   fresh : is_same (greatest_time xs) (Some u) ≡ false → list_any (is_at u) xs ≡ false → begun_to (greatest_time xs) (Some u) ≡ record g { epoch = epoch_of s.plan (lookup g.locks) u (offered s u xs) }
   fresh other none =
       ap (λ b. if b then g else record g { epoch = empty_epoch u }) other
-      ∙ ap (λ l. record g { epoch = epoch_of s.plan (lookup g.locks) u l }) (sym (none_offered s xs u none))
+      ∙ ap (λ l. record g { epoch = epoch_of s.plan (lookup g.locks) u l }) (sym (ap (flat_map (λ (x : Timed). filter (is_planned s) x.message.cells)) (none_at u xs none)))
 
   by : Follows s xs u → begun_to (greatest_time xs) (Some u) ≡ record g { epoch = epoch_of s.plan (lookup g.locks) u (offered s u xs) }
   by (first e) = fresh (ap (λ o. is_same o (Some u)) e) (none-absent xs u e)
-  by (greater t e lt) = fresh (ap (λ o. is_same o (Some u)) e ∙ not_known t u lt) (greater-absent xs t u e lt)
+  by (greater t e lt) = fresh (ap (λ o. is_same o (Some u)) e ∙ (grind arith)) (greater-absent xs t u e lt)
   by (equal e c) =
       let same : is_same (greatest_time xs) (Some u) ≡ true = ap (λ o. is_same o (Some u)) e ∙ same_itself (Some u) in
       let at : filter (λ v. nat_lt v u) (times xs) ≡ closed_so_far s xs shut =

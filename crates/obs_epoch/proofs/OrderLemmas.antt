@@ -1,11 +1,8 @@
 -- Cells in order.
-use Rattle.obs_epoch.proofs.Names.{◌≡◌, ℕ, List, [], ◌∷◌, ◌++◌, sym, arith, length, fold, IsDistinct-IsPermutation, list_any-IsPermutation, length_permutation, all-insert_by, sort_moves, is_among, has_same_key, insert_by, sort_key_of, sorted, HeardCell, AllByRecursion, IsDistinct, common_steps}
+use Rattle.obs_epoch.proofs.Names.{◌≡◌, ℕ, List, [], ◌∷◌, sym, length, fold, IsDistinct-IsPermutation, list_any-IsPermutation, length_permutation, all-insert_by, sort_moves, is_among, has_same_key, insert_by, sort_key_of, sorted, HeardCell, AllByRecursion, IsDistinct}
 use Rattle.obs_epoch.proofs.CellsLemmas.{same_key_laws}
 
 -- ---- the same cells
-
-pub sorted-push : (planned : List ℕ) (xs : List HeardCell) (x : HeardCell) → sorted planned (xs ++ x ∷ []) ≡ insert_by (sort_key_of planned) x (sorted planned xs)
-sorted-push planned xs x = grind (arith, common_steps)
 
 abbrev onto : List ℕ → List HeardCell → List HeardCell → List HeardCell
 onto planned ys xs = fold (λ zs z. insert_by (sort_key_of planned) z zs) ys xs

@@ -1,23 +1,16 @@
 -- Bounds of the values of epochs.
 use Rattle.rtcm_msg.specs.declared.view.Form.TheVariants as forms
-use Rattle.obs_epoch.proofs.Names.{System, Satellite, satellite_of_id, SignalAt, signal_of_id, nearest_pseudorange, nearest_phase, nearest_doppler, nearest_strength, LockTime, Entry, Message, Station, Msm4, Msm5, Msm6, Msm7, Other, IsMessage, IsMeasured, EntriesAreMeasured, PointsAreInRange, entries, StationValues, weeks, Closed, HasTwelveDigits, cells_of, planned_of, most_cells, GatherSetup, Heard, heard, observed, seen_in, lock_by, HeardCell, kept_cell, Timed, is_at, timed, timed_after, taken_at, is_of_system, is_planned, offered, firsts_after, firsts, kept, cells_at, has_same_key, times, lli_with, lli_of, has_lost, cells_with_lli, epoch_at, values_after_message, open_after, before_closing, closed_list_at, all_epochs, IsHeardCell, IsHeard, IsGathered, same_place, AreGathered, AreStationValues, IsGatheredEpoch, TimesRise, AreGatheredEpochs, KnownLock, Form, ◌≡◌, ℕ, zero, suc, ℤ, pos, ◌+◌, ◌*◌, ◌^◌, ◌<◌, ◌≤◌, ◌≤ℤ◌, Bool, true, false, List, [], ◌∷◌, ◌++◌, filter, take, ap, arith, Option, Some, None, nat_lt, is_some, unsigned_abs, if◌then◌else◌, flat_map, filter_map, option_map, option_and_then, IfSome, fold, AllByRecursion, IsDistinct, week, most_hertz, AreChannels, ChannelsValue, hertz_in, common_steps, value_tabulated, ◌&&◌, ◌/◌, ◌∙◌, map, refl, subst, sym, with_mark, Choice, whole_list, Cell, PlanValue, has_phase, lost_before, mark_if, marked_after, thin_after}
+use Rattle.obs_epoch.proofs.Names.{System, Satellite, satellite_of_id, SignalAt, signal_of_id, nearest_pseudorange, nearest_phase, nearest_doppler, nearest_strength, Entry, Message, Station, Msm4, Msm5, Msm6, Msm7, Other, IsMessage, IsMeasured, EntriesAreMeasured, PointsAreInRange, entries, StationValues, weeks, Closed, cells_of, planned_of, most_cells, GatherSetup, Heard, heard, observed, seen_in, lock_by, HeardCell, kept_cell, Timed, is_at, timed, timed_after, taken_at, is_of_system, is_planned, offered, firsts_after, firsts, kept, cells_at, has_same_key, times, lli_with, lli_of, has_lost, cells_with_lli, epoch_at, values_after_message, open_after, before_closing, closed_list_at, all_epochs, IsHeardCell, IsHeard, IsGathered, same_place, AreGathered, AreStationValues, IsGatheredEpoch, TimesRise, AreGatheredEpochs, KnownLock, Form, ◌≡◌, ℕ, zero, suc, ℤ, pos, ◌+◌, ◌*◌, ◌^◌, ◌<◌, ◌≤◌, ◌≤ℤ◌, Bool, true, false, List, [], ◌∷◌, ◌++◌, filter, take, ap, arith, Option, Some, None, nat_lt, is_some, unsigned_abs, if◌then◌else◌, flat_map, filter_map, option_map, option_and_then, IfSome, fold, AllByRecursion, IsDistinct, week, most_hertz, AreChannels, ChannelsValue, hertz_in, common_steps, value_tabulated, ◌&&◌, ◌∙◌, map, refl, subst, sym, with_mark, Choice, Cell, PlanValue, has_phase, lost_before, mark_if, marked_after, thin_after, all_append, all_filter, all_passed}
 use Rattle.obs_epoch.proofs.OrderLemmas.{all-sorted, distinct-sorted}
 use Rattle.obs_epoch.proofs.NotingLemmas.{kept_distinct}
+use Rattle.obs_epoch.proofs.TimesLemmas.{next}
 
 -- ---- properties of each item
 
-pub all_append : {X : Type 0} (P : X → Type 0) (xs ys : List X) → AllByRecursion P xs → AllByRecursion P ys → AllByRecursion P (xs ++ ys)
-all_append P [] ys h k = k
-all_append P (x ∷ xs) ys h k = (h.0, all_append P xs ys h.1 k)
-
-pub all_filter : {X : Type 0} (P : X → Type 0) (p : X → Bool) (xs : List X) → AllByRecursion P xs → AllByRecursion P (filter p xs)
-all_filter P p [] h = tt
-all_filter P p (x ∷ xs) h = grind (arith, common_steps, all_filter P p xs h.1)
-
 -- Each item of a filtered list passes the test.
-all_passed : {X : Type 0} (P : X → Type 0) (p : X → Bool) (xs : List X) → AllByRecursion P xs → AllByRecursion (λ x. P x × (p x ≡ true)) (filter p xs)
-all_passed P p [] h = tt
-all_passed P p (x ∷ xs) h = grind (arith, common_steps, all_passed P p xs h.1)
+all_both : {X : Type 0} (P : X → Type 0) (p : X → Bool) (xs : List X) → AllByRecursion P xs → AllByRecursion (λ x. P x × (p x ≡ true)) (filter p xs)
+all_both P p [] h = tt
+all_both P p (x ∷ xs) h = grind (arith, common_steps, all_both P p xs h.1)
 
 all_take : {X : Type 0} (P : X → Type 0) (n : ℕ) (xs : List X) → AllByRecursion P xs → AllByRecursion P (take n xs)
 all_take P zero xs h = tt
@@ -37,21 +30,12 @@ pub record AreSizes : Type 0 where
 mapped : {A B : Type 0} (f : A → B) (P : A → Type 0) (Q : B → Type 0) → ((x : A) → P x → Q (f x)) → (o : Option A) → IfSome o P → IfSome (option_map f o) Q
 mapped f P Q h o k = grind arith
 
--- A value at a known carrier.
-at_carrier : (f : ℕ → ℤ → ℤ) (m : ℕ) → ((h : ℕ) (x : ℤ) → h ≤ most_hertz → unsigned_abs x ≤ m → unsigned_abs (f h x) < 10 ^ 12) → (hertz : Option ℕ) (o : Option ℤ)
-    → IfSome hertz (λ h. h ≤ most_hertz) → IfSome o (λ x. unsigned_abs x ≤ m) → IfSome (option_and_then (λ h. option_map (f h) o) hertz) HasTwelveDigits
-at_carrier f m small hertz o within h = grind (arith, mapped)
-
-observed_given : AreSizes → (channels : ChannelsValue) (lock : LockTime) (e : Entry) (satellite : Satellite) (signal : SignalAt) → AreChannels channels → IsMeasured e
-    → IsHeardCell (observed channels lock e satellite signal)
-observed_given z channels lock e satellite signal valid h = grind (arith, common_steps, mapped, at_carrier)
-
 seen_given : AreSizes → (channels : ChannelsValue) (form : Form) (system : System) (e : Entry) → AreChannels channels → IsMeasured e → IfSome (seen_in channels form system e) IsHeardCell
 seen_given z channels form system e valid h = by (satellite_of_id system e.satellite) (signal_of_id system e.signal) where
   by : (a : Option Satellite) (b : Option SignalAt) → IfSome (option_and_then (λ satellite. option_map (observed channels (lock_by form e.lock) e satellite) b) a) IsHeardCell
   by None b = tt
   by (Some satellite) None = tt
-  by (Some satellite) (Some signal) = observed_given z channels (lock_by form e.lock) e satellite signal valid h
+  by (Some satellite) (Some signal) = grind (arith, common_steps, mapped)
 
 cells_given : AreSizes → (channels : ChannelsValue) (form : Form) (system : System) (es : List Entry) → AreChannels channels → AllByRecursion IsMeasured es
     → AllByRecursion IsHeardCell (filter_map (seen_in channels form system) es)
@@ -71,20 +55,24 @@ message_heard z all points channels leap (Other n set) v h = record { cells = tt
 abbrev pub IsWithin : ℕ → Type 0
 IsWithin t = t < weeks * week
 
--- A decoded message, whose time is within the weeks if it was accepted.
-record IsTimed (x : Timed) : Type 0 where
-  heard : IsHeard x.message
-  time : IfSome x.time IsWithin
+-- A decoded message, and one whose time is within the weeks if it was accepted.
+abbrev IsTimed : Timed → Type 0
+IsTimed x = IsHeard x.message
 
-pub taken_within : (s : GatherSetup) (earlier : List Timed) (m : Heard) → IfSome (taken_at s earlier m) IsWithin
+abbrev IsInTime : Timed → Type 0
+IsInTime x = IfSome x.time IsWithin
+
+taken_within : (s : GatherSetup) (earlier : List Timed) (m : Heard) → IfSome (taken_at s earlier m) IsWithin
 taken_within s earlier m = grind (arith, common_steps)
 
 timed_more : (s : GatherSetup) (earlier : List Timed) (ms : List Heard) → AllByRecursion IsTimed earlier → AllByRecursion IsHeard ms → AllByRecursion IsTimed (timed_after s earlier ms)
 timed_more s earlier [] h k = h
-timed_more s earlier (m ∷ ms) h k = grind (arith, all_append, taken_within, timed_more s (earlier ++ record { message = m; time = taken_at s earlier m } ∷ []) ms)
+timed_more s earlier (m ∷ ms) h k = timed_more s (earlier ++ next s earlier m ∷ []) ms (all_append IsTimed earlier (next s earlier m ∷ []) h (k.0, tt)) k.1
 
-timed_all : (s : GatherSetup) (ms : List Heard) → AllByRecursion IsHeard ms → AllByRecursion IsTimed (timed s ms)
-timed_all s ms h = timed_more s [] ms tt h
+timed_within : (s : GatherSetup) (earlier : List Timed) (ms : List Heard) → AllByRecursion IsInTime earlier → AllByRecursion IsInTime (timed_after s earlier ms)
+timed_within s earlier [] h = h
+timed_within s earlier (m ∷ ms) h =
+    timed_within s (earlier ++ next s earlier m ∷ []) ms (all_append IsInTime earlier (next s earlier m ∷ []) h (taken_within s earlier m, tt))
 
 -- Each is less than all after it.
 abbrev Rise : List ℕ → Type 0
@@ -96,16 +84,18 @@ rise_filter p [] h = tt
 rise_filter p (t ∷ ts) h = grind (arith, common_steps, all_filter, rise_filter p ts h.1)
 
 all_less : (t : ℕ) (ts : List ℕ) → AllByRecursion (λ u. t < u) (filter (λ u. nat_lt t u) ts)
-all_less t [] = tt
-all_less t (u ∷ ts) = grind (arith, common_steps, all_less t ts)
+all_less t ts = all_passed (λ u. t < u) (λ u. nat_lt t u) (λ u e. grind (arith, common_steps, e)) ts
 
 times_rise : (xs : List Timed) → Rise (times xs)
 times_rise [] = tt
 times_rise (x ∷ xs) = grind (arith, common_steps, all_less, rise_filter, times_rise xs)
 
-times_within : (xs : List Timed) → AllByRecursion IsTimed xs → AllByRecursion IsWithin (times xs)
+times_within : (xs : List Timed) → AllByRecursion IsInTime xs → AllByRecursion IsWithin (times xs)
 times_within [] h = tt
 times_within (x ∷ xs) h = grind (arith, common_steps, all_filter, times_within xs h.1)
+
+pub all_within : (s : GatherSetup) (ms : List Heard) → AllByRecursion IsWithin (times (timed s ms))
+all_within s ms = times_within (timed s ms) (timed_within s [] ms tt)
 
 -- ---- cells
 
@@ -115,7 +105,7 @@ IsOffered s x = IsHeardCell x × (is_planned s x ≡ true)
 
 all_offered : (s : GatherSetup) (xs : List Timed) → AllByRecursion IsTimed xs → AllByRecursion (IsOffered s) (flat_map (λ (x : Timed). filter (is_planned s) x.message.cells) xs)
 all_offered s [] h = tt
-all_offered s (x ∷ xs) h = all_append (IsOffered s) (filter (is_planned s) x.message.cells) _ (all_passed IsHeardCell (is_planned s) x.message.cells h.0.heard.cells) (all_offered s xs h.1)
+all_offered s (x ∷ xs) h = all_append (IsOffered s) (filter (is_planned s) x.message.cells) _ (all_both IsHeardCell (is_planned s) x.message.cells h.0.cells) (all_offered s xs h.1)
 
 all_firsts : (P : HeardCell → Type 0) (earlier xs : List HeardCell) → AllByRecursion P xs → AllByRecursion P (firsts_after earlier xs)
 all_firsts P earlier [] h = tt
@@ -129,7 +119,7 @@ all_kept : (s : GatherSetup) (t : ℕ) (xs : List Timed) (system : System) → A
 all_kept s t xs system h =
     all-sorted (IsKept s system) (planned_of system s.plan) (kept system (offered s t xs))
     (all_take (IsKept s system) most_cells (filter (is_of_system system) (firsts (offered s t xs)))
-    (all_passed (IsOffered s) (is_of_system system) (firsts (offered s t xs))
+    (all_both (IsOffered s) (is_of_system system) (firsts (offered s t xs))
     (all_firsts (IsOffered s) [] (offered s t xs) (all_offered s (filter (is_at t) xs) (all_filter IsTimed (is_at t) xs h)))))
 
 small_lli : (t : ℕ) (x : HeardCell) (before : Option KnownLock) → lli_with t x before < 4
@@ -147,10 +137,6 @@ each_gathered : (s : GatherSetup) (xs : List Timed) (t : ℕ) (system : System) 
 each_gathered s xs t system [] h = tt
 each_gathered s xs t system (c ∷ cs) h = grind (arith, common_steps, gathered, small_lli, no_lli, each_gathered s xs t system cs h.1)
 
-other_place : (system : System) (x y : HeardCell) (m n : ℕ) → is_of_system system x ≡ true → is_of_system system y ≡ true → has_same_key x y ≡ false
-    → same_place (kept_cell x m) (kept_cell y n) ≡ false
-other_place system x y m n h k other = grind (arith, common_steps)
-
 places_apart : (s : GatherSetup) (xs : List Timed) (t : ℕ) (system : System) (cs : List HeardCell) → AllByRecursion (IsKept s system) cs → IsDistinct has_same_key cs
     → IsDistinct same_place ((cells_with_lli s xs t cs))
 unfolding IsDistinct
@@ -159,7 +145,7 @@ places_apart s xs t system (c ∷ cs) h d = (all_other cs h.1 d.0, places_apart 
   all_other : (ys : List HeardCell) → AllByRecursion (IsKept s system) ys → AllByRecursion (λ y. has_same_key c y ≡ false) ys
       → AllByRecursion (λ y. same_place (kept_cell c (lli_of s xs t c)) y ≡ false) (cells_with_lli s xs t ys)
   all_other [] k other = tt
-  all_other (y ∷ ys) k other = (other_place system c y (lli_of s xs t c) (lli_of s xs t y) h.0.1 k.0.1 other.0, all_other ys k.1 other.1)
+  all_other (y ∷ ys) k other = (grind (arith, common_steps), all_other ys k.1 other.1)
 
 cells_gathered : (s : GatherSetup) (xs : List Timed) (t : ℕ) (system : System) → AllByRecursion IsTimed xs
     → AreGathered system (planned_of system s.plan) ((cells_with_lli s xs t (cells_at s t xs system)))
@@ -185,7 +171,7 @@ open_heard s t earlier (m ∷ ms) h k = grind (arith, open_heard s t (earlier ++
 
 each_epoch : (s : GatherSetup) (ms : List Heard) (ts : List ℕ) → AreStationValues s.initial → AllByRecursion IsHeard ms → AllByRecursion IsWithin ts → AllByRecursion (IsGatheredEpoch s.plan) (closed_list_at s ms ts)
 each_epoch s ms [] v h w = tt
-each_epoch s ms (t ∷ ts) v h w = grind (arith, gathered_at s (timed s ms) t (timed_all s ms h), values_from s s.initial (before_closing s t ms) (open_heard s t [] ms tt h) v, each_epoch s ms ts v h w.1)
+each_epoch s ms (t ∷ ts) v h w = grind (arith, gathered_at s (timed s ms) t (timed_more s [] ms tt h), values_from s s.initial (before_closing s t ms) (open_heard s t [] ms tt h) v, each_epoch s ms ts v h w.1)
 
 all_later : (s : GatherSetup) (ms : List Heard) (t : ℕ) (ts : List ℕ) → AllByRecursion (λ u. t < u) ts → AllByRecursion (λ (f : Closed). t < f.epoch.time) (closed_list_at s ms ts)
 all_later s ms t [] h = tt
@@ -195,13 +181,7 @@ epochs_rise : (s : GatherSetup) (ms : List Heard) (ts : List ℕ) → Rise ts �
 epochs_rise s ms [] h = tt
 epochs_rise s ms (t ∷ ts) h = (all_later s ms t ts h.0, epochs_rise s ms ts h.1)
 
-whole_gathered : (s : GatherSetup) (ms : List Heard) → AreStationValues s.initial → AllByRecursion IsHeard ms → AreGatheredEpochs s.plan (whole_list s ms)
-whole_gathered s ms v h = grind (arith, common_steps, each_epoch, times_within, timed_all, epochs_rise, times_rise)
-
 -- ---- the chosen ones, marked
-
-low_mark : (n : ℕ) → n < 4 → n / 2 * 2 + 1 < 4
-low_mark n h = grind (arith, h)
 
 mark_gathered : (lost : Cell → Bool) (system : System) (signals : List ℕ) (x : Cell) → IsGathered system signals x → IsGathered system signals (mark_if lost x)
 mark_gathered lost system signals x h = by x.l refl (lost x) where
@@ -218,7 +198,7 @@ mark_gathered lost system signals x h = by x.l refl (lost x) where
     l = h.l;
     d = h.d;
     s = h.s;
-    lli = low_mark x.lli h.lli;
+    lli = grind (arith, h.lli);
     without_phase = λ none. absurd (some_none (sym e ∙ none));
   }
 
@@ -262,4 +242,4 @@ thin_rise c earlier [] h = tt
 thin_rise c earlier (e ∷ es) h = grind (arith, thin_later e.epoch.time c (earlier ++ e ∷ []) es h.0, thin_rise c (earlier ++ e ∷ []) es h.1)
 
 pub epochs_gathered : (s : GatherSetup) (ms : List Heard) → AreStationValues s.initial → AllByRecursion IsHeard ms → AreGatheredEpochs s.plan (all_epochs s ms)
-epochs_gathered s ms v h = grind (arith, whole_gathered, thin_each, thin_rise)
+epochs_gathered s ms v h = grind (arith, common_steps, each_epoch, all_within, epochs_rise, times_rise, thin_each, thin_rise)

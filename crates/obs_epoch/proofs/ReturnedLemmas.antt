@@ -1,13 +1,13 @@
 -- A call of the gatherer returns the epoch that the longer list closes.
-use Rattle.obs_epoch.proofs.Names.{◌≡◌, ℕ, Bool, true, false, ◌||◌, ◌&&◌, List, [], ◌∷◌, ◌++◌, refl, sym, ap, ap₂, ◌∙◌, subst, arith, Option, Some, None, is_some, nat_lt, append-nil, if◌then◌else◌, option_to_list, map-append, GatherSetup, Heard, Closed, Timed, is_at, greatest_time, is_closed, taken_at, timed, times, is_shut, closed_times, closed_so_far, values_of, is_pending, closes_first, GathererValue, take_step, end_step, noted, HasTakenMessages, held_at, option_map_or, list_any, closes, IsPrefix, closed_at, closed_list, closed_list_at, closed_so_far_of, closed_by, returned_epoch, is_done, whole_list, HasGatheredEpochs, thinned_if, State, step_by, common_steps, prefix_self}
+use Rattle.obs_epoch.proofs.Names.{◌≡◌, ℕ, Bool, true, false, ◌||◌, ◌&&◌, List, [], ◌∷◌, ◌++◌, refl, sym, ap, ap₂, ◌∙◌, subst, arith, Option, Some, None, is_some, nat_lt, append-nil, if◌then◌else◌, option_to_list, map-append, GatherSetup, Heard, Closed, Timed, is_at, greatest_time, is_closed, taken_at, timed, times, is_shut, closed_times, closed_so_far, values_of, is_pending, closes_first, GathererValue, take_step, end_step, noted, HasTakenMessages, held_at, option_map_or, list_any, closes, IsPrefix, closed_at, closed_list, closed_list_at, closed_so_far_of, closed_by, returned_epoch, is_done, whole_list, HasGatheredEpochs, thinned_if, State, step_by, common_steps, prefix_self, same_Some, and_parts}
 use Rattle.obs_epoch.proofs.ThinnedLemmas.{Before, closed_one, thinned_gathers}
-use Rattle.obs_epoch.proofs.TimesLemmas.{next, timed-push, greater-absent, none-absent, some_eq}
-use Rattle.obs_epoch.proofs.ClockLemmas.{Follows, first, greater, equal, new_time, same_time, standing as standing_at}
+use Rattle.obs_epoch.proofs.TimesLemmas.{next, timed-push, greater-absent, none-absent}
+use Rattle.obs_epoch.proofs.ClockLemmas.{Follows, first, greater, equal, new_time, same_time, standing as standing_at, takes}
 use Rattle.obs_epoch.proofs.ClosedLemmas.{taken_follows}
-use Rattle.obs_epoch.proofs.ClosingLemmas.{closing}
+use Rattle.obs_epoch.proofs.ClosingLemmas.{closing, refused}
 use Rattle.obs_epoch.proofs.OneStepLemmas.{closed_later}
-use Rattle.obs_epoch.proofs.TakeLemmas.{taken, closes_it, ended, Ended, times_taken, time_taken, pending_taken, IsSet, no_point_given, same_values, clock_stepped, counts_stepped, handed_is, ended_is, marks_stepped}
-use Rattle.obs_epoch.proofs.HistoryLemmas.{each_filter, each_front, each_back, list-push, before_all, before-push, pending_open, with_pending}
+use Rattle.obs_epoch.proofs.TakeLemmas.{taken, closes_it, ended, Ended, times_taken, time_taken, IsSet, no_point_given, same_values, clock_stepped, counts_stepped, handed_is, ended_is, marks_stepped, clock_is}
+use Rattle.obs_epoch.proofs.HistoryLemmas.{each_filter, each_front, each_back, list-push, before_all, before-push, pending_open, with_pending, Each}
 
 -- ---- which epoch is new
 
@@ -34,10 +34,10 @@ new_open {g} {s} {ms} m {shut} h early t e = by (taken_at s xs m) refl where
   by : (o : Option ℕ) → taken_at s xs m ≡ o → is_shut s xs t ≡ false
   by None none =
       let same : greatest_time xs ≡ Some t = sym (same_time s xs (next s xs m) none).0 ∙ ap greatest_time (sym (timed-push s ms m)) ∙ now in
-      pending_open s xs t same (pending_taken m h early none t e)
+      pending_open s xs t same (grind (arith, common_steps, clock_is, takes, refused, and_parts))
   by (Some u) some =
       let follow = taken_follows s xs m u some in
-      let is : u ≡ t = some_eq u t (sym (new_time s xs (next s xs m) u some follow).0 ∙ ap greatest_time (sym (timed-push s ms m)) ∙ now) in
+      let is : u ≡ t = same_Some u t (sym (new_time s xs (next s xs m) u some follow).0 ∙ ap greatest_time (sym (timed-push s ms m)) ∙ now) in
       subst (λ v. is_shut s xs v ≡ false) is (open_follows s xs u follow)
 
 -- ---- the list that was returned
@@ -46,7 +46,11 @@ new_open {g} {s} {ms} m {shut} h early t e = by (taken_at s xs m) refl where
 pub keeps : (s : GatherSetup) (ms : List Heard) (m : Heard) (shut : Bool) (o : Option ℕ) → closes_first s (timed s ms) m ≡ shut
     → closed_so_far s (timed s (ms ++ m ∷ [])) false ≡ closed_so_far s (timed s ms) shut ++ option_to_list o
     → closed_list_at s (ms ++ m ∷ []) (closed_so_far s (timed s (ms ++ m ∷ [])) false) ≡ closed_list_at s ms (closed_so_far s (timed s ms) shut) ++ closed_list_at s (ms ++ m ∷ []) (option_to_list o)
-keeps s ms m shut o early grown = grind (arith, common_steps, append-nil, each_front, each_filter, map-append, list-push, closed_later)
+keeps s ms m shut o early grown =
+    let ys = timed s (ms ++ m ∷ []) in
+    let before = closed_so_far s (timed s ms) shut in
+    let all = subst (Each (is_shut s ys)) (sym (append-nil (closed_times s ys)) ∙ grown) (each_filter (is_shut s ys) (times ys)) in
+    grind (arith, common_steps, map-append, list-push, closed_later, each_front)
 
 shut_new : (s : GatherSetup) (ys : List Timed) (before : List ℕ) (t : ℕ) → closed_so_far s ys false ≡ before ++ t ∷ [] → is_shut s ys t ≡ true
 shut_new s ys before t grown = grind (arith, append-nil, each_back, each_filter, each_filter (is_shut s ys) (times ys))
@@ -159,12 +163,6 @@ gathers_first {g} {s} {ms} {es} m h going early point closed is = by (greatest_t
         fits = early;
       }) (before_of v h (marks_stepped g m) (counts_stepped g m)) closed is
 
-pub end_ended : (b : Bool) (h : GathererValue) → h.has_ended ≡ true → (if b then noted h else h).has_ended ≡ true
-end_ended b h e = grind (arith, common_steps, e)
-
-pub end_handed : (b : Bool) (h : GathererValue) → (if b then noted h else h).just_closed ≡ h.just_closed
-end_handed b h = grind (arith, common_steps)
-
 end_same : {A : Type 0} (f : GathererValue → A) → ((h : GathererValue) → f (noted h) ≡ f h) → (b : Bool) (h : GathererValue) → f (if b then noted h else h) ≡ f h
 end_same f same b h = grind arith
 
@@ -177,12 +175,12 @@ gathers_ended g s ms es h going closed is = thinned_gathers v s ms before es Non
   list = list;
   closed = λ b. (
     end_same (λ v. v.clock.pending) (λ h. refl) g.clock.pending _,
-    f.closed (sym (end_handed g.clock.pending _) ∙ b),
+    f.closed (sym (grind (arith, common_steps)) ∙ b),
   );
   known = λ _. known;
   first = subst (λ l. IsPrefix (closed_so_far_of v s ms None) (if v.has_ended then whole_list s l else closed_list s l)) (sym (append-nil ms)) (subst (IsPrefix (closed_so_far_of v s ms None)) known (prefix_self (closed_so_far_of v s ms None)));
   fits = tt;
-}) (before_of v h (end_same (λ v. v.marks) (λ h. refl) g.clock.pending _) (end_same (λ v. v.counts) (λ h. refl) g.clock.pending _)) closed (end_handed g.clock.pending _ ∙ is) where
+}) (before_of v h (end_same (λ v. v.marks) (λ h. refl) g.clock.pending _) (end_same (λ v. v.counts) (λ h. refl) g.clock.pending _)) closed ((grind (arith, common_steps)) ∙ is) where
   xs : List Timed
   xs = timed s ms
 
@@ -205,13 +203,13 @@ gathers_ended g s ms es h going closed is = thinned_gathers v s ms before es Non
   pending = f.was ∙ grind (arith, common_steps)
 
   over : v.has_ended ≡ true
-  over = end_ended g.clock.pending _ refl
+  over = grind (arith, common_steps, refl)
 
   done : is_done v s ms None ≡ is_pending s xs
   done = ap (λ b. b && is_pending s xs) over
 
   has : v.just_closed ≡ is_pending s xs
-  has = end_handed g.clock.pending _ ∙ pending
+  has = grind (arith, common_steps) ∙ pending
 
   last : (p : Bool) → is_pending s xs ≡ p → closed_one v ≡ closed_list_at s ms (if p then option_to_list (greatest_time xs) else [])
   last false p = ap (λ b. closed_by (if b then Some (v.epoch) else None) v.values) (has ∙ p)

@@ -1,5 +1,5 @@
 -- The counts of the cells with a value, and of those of a message.
-use Rattle.obs_epoch.proofs.Names.{System, Satellite, SignalAt, LockTime, Entry, Heard, seen_in, observed, HeardCell, SignalCountsValue, brings_value, valued, is_of_signal, count_of, AreSignalCounts, cons_option, Form, satellite_of_id, every_channel, hertz_by, hertz_in, number_at, slot_count, IsSatellite, satellites, Glonass, ◌<◌, ◌-◌, None, true, refl, get_or-replicate, length-replicate, most_signals, value_of, ◌≡◌, ◌∙◌, ap, get_or, replicate, ℕ, ◌≤◌, List, [], ◌++◌, length, sym, subst, arith, Option, Some, filter, is_some, filter_map, unwrap_or, common_steps, length-filter-le, length-filter_map-le}
+use Rattle.obs_epoch.proofs.Names.{System, Satellite, SignalAt, LockTime, Entry, Heard, seen_in, observed, HeardCell, SignalCountsValue, brings_value, valued, is_of_signal, count_of, AreSignalCounts, cons_option, Form, satellite_of_id, every_channel, hertz_by, hertz_in, number_at, slot_count, IsSatellite, satellites, Glonass, ◌<◌, ◌-◌, None, true, refl, get_or-replicate, length-replicate, most_signals, value_of, ◌≡◌, ◌∙◌, ap, get_or, replicate, ℕ, ◌≤◌, List, [], ◌++◌, length, sym, subst, arith, Option, Some, filter, is_some, filter_map, unwrap_or, common_steps, length-filter-le, length-filter_map-le, get_or-same}
 use Rattle.rtcm_msg.specs.inner.Presences.{has_value}
 
 -- ---- the cells of a signal
@@ -51,8 +51,5 @@ none_counted c none = record {
   each = λ s i listed. zero_at s i;
   past = λ s i past. zero_at s i;
 } where
-  zero : (i : ℕ) → get_or no_cells i 0 ≡ 0
-  zero i = grind (arith, common_steps)
-
   zero_at : (s : System) (i : ℕ) → get_or (value_of s c) i 0 ≡ 0
-  zero_at s i = ap (λ (l : List ℕ). get_or l i 0) (none s) ∙ zero i
+  zero_at s i = ap (λ (l : List ℕ). get_or l i 0) (none s) ∙ get_or-same 0 most_signals i

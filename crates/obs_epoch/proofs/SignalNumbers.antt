@@ -1,5 +1,5 @@
 -- Cells are counted signal by signal.
-use Rattle.obs_epoch.proofs.Names.{◌≡◌, ℕ, zero, suc, ◌+◌, ◌-◌, ◌<◌, ◌≤◌, ◌^◌, ◌==◌, ◌&&◌, ◌||◌, not, List, [], ◌∷◌, ◌++◌, length, get_or, filter, Bool, true, false, Option, Some, None, refl, sym, ap, ◌∙◌, subst, arith, is_some, inl, inr, position, if◌then◌else◌, cond, filter_map, option_map, option_and_then, slice_get, cases_lt, not-true, eqb-true, common_steps, System, ListedSignal, Satellite, is_system, satellite_of_id, SignalAt, IsSignal, id_of, table, signal_of_id, HeardCell, Entry, has_id, is_in, has_listed_value, value_count, seen_in, lock_by, observed, SignalCountsValue, signal_counts, counted, signal_in, counted_more, satellite_set, brings_value, is_of_signal, count_of, CountsEntries, cons_option, option_map_or, Form, id_back, ids_within, system_self, each_system, system_same, short_table, listed_of, odd, ◌/◌, most_signals, hertz_in, every_channel}
+use Rattle.obs_epoch.proofs.Names.{◌≡◌, ℕ, zero, suc, ◌+◌, ◌-◌, ◌<◌, ◌≤◌, ◌^◌, ◌==◌, ◌&&◌, ◌||◌, not, List, ◌∷◌, ◌++◌, length, get_or, filter, Bool, true, false, Option, Some, None, refl, sym, ap, ◌∙◌, subst, arith, is_some, inl, inr, position, if◌then◌else◌, cond, filter_map, option_map, option_and_then, slice_get, cases_lt, not-true, eqb-true, common_steps, System, ListedSignal, Satellite, is_system, satellite_of_id, SignalAt, IsSignal, id_of, table, signal_of_id, HeardCell, Entry, has_id, is_in, has_listed_value, value_count, seen_in, lock_by, observed, SignalCountsValue, signal_counts, counted, signal_in, counted_more, satellite_set, brings_value, is_of_signal, count_of, CountsEntries, cons_option, option_map_or, Form, id_back, ids_within, system_self, each_system, system_same, short_table, listed_of, odd, ◌/◌, most_signals, hertz_in, every_channel, and_parts, eq-eqb, []}
 use Rattle.std.proofs.lemmas.List.Quantifiers.{position-Some}
 use Rattle.gnss_system.proofs.CheckedLaws.{passes_at, passes_below}
 use Rattle.rtcm_msg.proofs.ValueLaws.{count_first}
@@ -9,15 +9,6 @@ use Rattle.obs_epoch.proofs.SignalCountsLemmas.{every_hertz, value_same, one_fir
 
 one_way : (a b : Bool) → (a ≡ true → b ≡ true) → (b ≡ true → a ≡ true) → a ≡ b
 one_way a b there back = grind arith
-
-both_of : (a b : Bool) → (a && b) ≡ true → (a ≡ true) × (b ≡ true)
-both_of a b h = grind arith
-
-equal_self : (a b : ℕ) → a ≡ b → (a == b) ≡ true
-equal_self a b h = grind (arith, h)
-
-none_some : {X : Type 0} (x : X) (o : Option X) → o ≡ None → o ≡ Some x → ⊥
-none_some x o e f = grind (arith, e, f)
 
 some_same : {X : Type 0} (x y : X) (o : Option X) → o ≡ Some x → o ≡ Some y → x ≡ y
 some_same x y o e f = cc
@@ -31,7 +22,7 @@ get_is (x ∷ xs) (suc i) id below is = get_is xs i id (omega (arith, below)) is
 id_forth : (system : System) (id : ℕ) (g : SignalAt) → signal_of_id system id ≡ Some g → id_of g ≡ id
 id_forth system id g h = by (position (λ (e : ListedSignal). e.0 == id) (table system)) refl h where
   by : (o : Option ℕ) → o ≡ position (λ (e : ListedSignal). e.0 == id) (table system) → option_map (signal_in system) o ≡ Some g → id_of g ≡ id
-  by None e h = absurd (none_some g None refl h)
+  by None e h = absurd (grind (arith, refl, h))
   by (Some i) e h =
       let p = position-Some (λ (e : ListedSignal). e.0 == id) (table system) i (0, (0 ∷ 0 ∷ []), 0) (sym e) in
       subst (λ (x : SignalAt). id_of x ≡ id) (some_same (signal_in system i) g (Some (signal_in system i)) refl h) (get_is (table system) i id p.0 p.1)
@@ -43,16 +34,16 @@ no_signal system id g listed none = grind (arith, common_steps)
 the_signal : (system : System) (id : ℕ) (g s : SignalAt) → IsSignal g → signal_of_id system id ≡ Some s → (is_system system g.system && (id == id_of g)) ≡ (is_system g.system s.system && (s.index == g.index))
 the_signal system id g s listed some = one_way _ _ there back where
   there : (is_system system g.system && (id == id_of g)) ≡ true → (is_system g.system s.system && (s.index == g.index)) ≡ true
-  there h = grind (arith, both_of, system_same, eqb-true, id_back, some_same, system_self, equal_self)
+  there h = grind (arith, and_parts, system_same, eqb-true, id_back, some_same, system_self, eq-eqb)
 
   back : (is_system g.system s.system && (s.index == g.index)) ≡ true → (is_system system g.system && (id == id_of g)) ≡ true
   back h =
-      let both = both_of (is_system g.system s.system) (s.index == g.index) h in
+      let both = and_parts (is_system g.system s.system) (s.index == g.index) h in
       let of : s.system ≡ system = (listed_of system id s some).0 in
       let e : g.system ≡ s.system = system_same g.system s.system both.0 in
       let i : s.index ≡ g.index = eqb-true s.index g.index both.1 in
       let same : id_of s ≡ id_of g = alike s g (sym e) i in
-      rw (system_self system g.system (sym of ∙ sym e), equal_self id (id_of g) (sym (id_forth system id s some) ∙ same)) refl
+      rw (system_self system g.system (sym of ∙ sym e), eq-eqb id (id_of g) (sym (id_forth system id s some) ∙ same)) refl
     where
       alike : (a b : SignalAt) → a.system ≡ b.system → a.index ≡ b.index → id_of a ≡ id_of b
       alike a b e f = rw (e, f) refl
@@ -87,9 +78,6 @@ in_middle a b c = grind (arith, common_steps)
 abbrev is_for : System → SignalAt → Entry → Bool
 is_for system g e = is_system system g.system && (has_listed_value (satellite_set system) e && (e.signal == id_of g))
 
-zero_case : (b c : Bool) → c ≡ false → zero ≡ cond (b && c) 1 0
-zero_case b c h = grind (arith, common_steps, h)
-
 one_cell : (p q : HeardCell → Bool) (y : HeardCell) → length (filter p (filter q (y ∷ []))) ≡ cond (q y && p y) 1 0
 one_cell p q y = grind (arith, common_steps)
 
@@ -101,9 +89,9 @@ one_entry form system e g listed =
     by : (s : Option Satellite) (o : Option SignalAt) → ((t : Satellite) (x : SignalAt) → s ≡ Some t → is_some (hertz_in every_channel t x) ≡ true) → (o ≡ None → (is_system system g.system && (e.signal == id_of g)) ≡ false)
         → ((x : SignalAt) → o ≡ Some x → (is_system system g.system && (e.signal == id_of g)) ≡ (is_system g.system x.system && (x.index == g.index)))
         → count_of g (filter brings_value (cons_option (option_and_then (λ s. option_map (observed every_channel (lock_by form e.lock) e s) o) s) [])) ≡ cond (is_system system g.system && ((is_some s && (is_some e.range || (is_some e.phase || is_some e.rate || is_some e.strength))) && (e.signal == id_of g))) 1 0
-    by None o at none some = zero_case (is_system system g.system) false refl
+    by None o at none some = grind (arith, common_steps, refl)
     by (Some s) None at none some =
-        rw (in_middle (is_system system g.system) (is_some e.range || (is_some e.phase || is_some e.rate || is_some e.strength)) (e.signal == id_of g)) (zero_case (is_some e.range || (is_some e.phase || is_some e.rate || is_some e.strength)) _ (none refl))
+        rw (in_middle (is_system system g.system) (is_some e.range || (is_some e.phase || is_some e.rate || is_some e.strength)) (e.signal == id_of g)) (grind (arith, common_steps, (none refl)))
     by (Some s) (Some x) at none some =
         one_cell (is_of_signal g) brings_value (observed every_channel (lock_by form e.lock) e s x)
         ∙ rw (value_same (lock_by form e.lock) e s x (at s x refl), in_middle (is_system system g.system) (is_some e.range || (is_some e.phase || is_some e.rate || is_some e.strength)) (e.signal == id_of g), some x refl) refl
@@ -147,13 +135,6 @@ more_at : (g : SignalAt) (n : ℕ) (c : SignalCountsValue) (s : System) (i : ℕ
     → counted (counted_more g n c) s i ≡ counted c s i + (if is_system s g.system && (g.index == i) then n else 0)
 more_at g n c s i within few = grind (arith, common_steps)
 
-more_size : (g : SignalAt) (n : ℕ) (c : SignalCountsValue) (s : System) → length (signal_counts s (counted_more g n c)) ≡ length (signal_counts s c)
-more_size g n c s = grind (arith, common_steps)
-
--- The counts past the end of a table don't change.
-more_past : (g : SignalAt) (n : ℕ) (c : SignalCountsValue) (s : System) (i : ℕ) → IsSignal g → length (table s) ≤ i → counted (counted_more g n c) s i ≡ counted c s i
-more_past g n c s i listed past = grind (arith, common_steps)
-
 number_few : (b : Bool) (m : ℕ) → m ≤ 64 → (if b then m else 0) ≤ 64
 number_few b m h = grind (arith, common_steps, h)
 
@@ -171,8 +152,8 @@ room b c e n x y z w = omega (arith, x, y, z, w)
 pub adds_some : {c c' after : SignalCountsValue} {system : System} {all left counts : List ℕ} {x n : ℕ} {g : SignalAt} → Adds c c' system all counts → all ≡ x ∷ left → signal_of_id system x ≡ Some g → n ≡ get_or counts (x - 1) 0 → ((i : ℕ) → get_or counts i 0 ≤ 64)
     → has_id x left ≡ false → after ≡ counted_more g n c' → Adds c after system left counts
 adds_some {c} {c'} {system} {left} {counts} {x} {n} {g} a split some is few once made = rw made (record {
-  size = λ s. more_size g n c' s ∙ a.size s;
-  past = λ s i out. more_past g n c' s i (listed_of system x g some).1 out ∙ a.past s i out;
+  size = λ s. (grind (arith, common_steps)) ∙ a.size s;
+  past = λ s i out. (grind (arith, common_steps)) ∙ a.past s i out;
   each = λ s i listed len small.
       let r = signal_in s i in
       let before : counted c' s i ≡ counted c s i + number system (x ∷ left) counts r = subst (λ (l : List ℕ). counted c' s i ≡ counted c s i + number system l counts r) split (a.each s i listed len small) in

@@ -1,23 +1,20 @@
 -- The whole step: a property of the list before holds for the list after one more message.
-use Rattle.obs_epoch.proofs.Names.{◌≡◌, ℕ, Bool, true, false, not, ◌||◌, ◌&&◌, List, [], ◌∷◌, ◌++◌, refl, sym, ap, ap₂, ◌∙◌, subst, arith, append-nil, Option, Some, None, is_some, length, ◌⊎◌, if◌then◌else◌, option_to_list, fold-append, Message, Kind, CloseFirst, CellCounts, GatherSetup, Heard, heard_by, is_own, ends_epoch, HeardCell, Timed, greatest_time, taken_at, timed, no_counts, with_skipped, offered, counts_of, counts_of_message, epoch_at, closed_so_far, closed_times, values_of, values_after_message, State, HasHeardMessages, is_pending, closes_first, is_close_first, is_accepted, kind_after, with_unlisted, GathererValue, Loaded, empty_epoch, noted, load, loaded_if, loaded_where, outcome_in, load_one, with_time, begun_by, closed_if, closed_noted, epoch_begun, shut_where, ended_where, open_by, take_step, end_step, is_same, KnownLock, held_at, Locked, HasTakenMessages, EpochValue, cells_of, option_map_or, HasAsManyCells, kind_by, step_by, closed_time, closed_of, common_steps, or-false, and_parts}
+use Rattle.obs_epoch.proofs.Names.{◌≡◌, ℕ, Bool, true, false, not, ◌||◌, ◌&&◌, List, [], ◌∷◌, ◌++◌, refl, sym, ap, ap₂, ◌∙◌, subst, arith, append-nil, Option, Some, None, is_some, length, ◌⊎◌, if◌then◌else◌, option_to_list, fold-append, Message, Kind, CloseFirst, CellCounts, GatherSetup, Heard, heard_by, is_own, ends_epoch, HeardCell, Timed, greatest_time, taken_at, timed, no_counts, with_skipped, offered, counts_of, counts_of_message, epoch_at, closed_so_far, closed_times, values_of, values_after_message, State, HasHeardMessages, is_pending, closes_first, is_close_first, is_accepted, kind_after, with_unlisted, GathererValue, Loaded, empty_epoch, noted, load, loaded_if, loaded_where, outcome_in, load_one, with_time, begun_by, closed_if, closed_noted, epoch_begun, shut_where, ended_where, open_by, take_step, end_step, is_same, KnownLock, held_at, Locked, HasTakenMessages, EpochValue, cells_of, option_map_or, HasAsManyCells, kind_by, step_by, closed_time, closed_of, common_steps, or-false}
 use Rattle.obs_epoch.proofs.TimesLemmas.{next, timed-push}
-use Rattle.obs_epoch.proofs.ClockLemmas.{standing, same_state, takes, closes, new_time}
+use Rattle.obs_epoch.proofs.ClockLemmas.{standing, takes, closes, new_time}
 use Rattle.obs_epoch.proofs.ClosedLemmas.{taken_follows}
 use Rattle.obs_epoch.proofs.ClosingLemmas.{accepted, closing, refused}
 use Rattle.obs_epoch.proofs.CountsLemmas.{counts_are}
-use Rattle.obs_epoch.proofs.HeardLemmas.{heard_step, same_latest}
+use Rattle.obs_epoch.proofs.HeardLemmas.{heard_step, same_itself}
 use Rattle.obs_epoch.proofs.LoadLemmas.{hold_is}
 use Rattle.obs_epoch.proofs.NotingLemmas.{noted_locked}
 use Rattle.obs_epoch.proofs.OneStepLemmas.{locked-push, closed_later, loaded_taken, held_same}
 
 pub clock_is : (g : State) (s : GatherSetup) (ms : List Heard) (shut : Bool) → HasHeardMessages g s ms shut → g ≡ standing s (timed s ms) shut
-clock_is g s ms shut h = same_state g s _ _ h.setup h.latest h.pending
+clock_is g s ms shut h = grind (arith, common_steps)
 
 pub clock_has_heard : (g : State) (s : GatherSetup) (ms : List Heard) (xs : List Timed) (shut : Bool) → timed s ms ≡ xs → g ≡ standing s xs shut → HasHeardMessages g s ms shut
 clock_has_heard g s ms xs shut same e = grind (arith, common_steps)
-
-values-push : (s : GatherSetup) (ms : List Heard) (m : Heard) → values_of s (ms ++ m ∷ []) ≡ values_after_message s (values_of s ms) m
-values-push s ms m = fold-append (values_after_message s) s.initial ms (m ∷ [])
 
 -- The epoch is this one while it is pending, and when it is closed; afterwards it has as many cells.
 pub record HasHeld (g : GathererValue) (held : EpochValue) (o : Option ℕ) : Type 0 where
@@ -61,10 +58,6 @@ pub record Reached (l : Loaded) (s : GatherSetup) (ms : List Heard) (m : Heard) 
   pub mid : Mid l.state s (ms ++ m ∷ []) false (closed_so_far s (timed s ms) shut) o
   pub counts : l.counts ≡ counts_of_message s (timed s ms) m
 
--- An epoch that is pending after a message that isn't accepted was pending before, and so was one that it closes.
-stays_pending : (g : State) (m : Heard) → is_accepted (kind_by g no_counts m) ≡ false → (step_by g m).pending ≡ true → g.pending ≡ true
-stays_pending g m untaken p = grind (arith, common_steps, untaken, p)
-
 pending_before : (g : State) (m : Heard) → is_close_first (kind_by g no_counts m) ≡ false → is_accepted (kind_by g no_counts m) ≡ false → is_some (closed_time g m) ≡ true → g.pending ≡ true
 pending_before g m other untaken p = grind (arith, common_steps, other, untaken, p)
 
@@ -87,7 +80,7 @@ reached g s ms m shut h early = by (taken_at s xs m) refl where
   kind = ap (λ c. kind_by c no_counts m) was ∙ (takes s xs no_counts m shut early).0
 
   values : (with_time g m).values ≡ values_of s (ms ++ m ∷ [])
-  values = ap₂ (λ c v. values_after_message c v m) h.clock.setup h.values ∙ sym (values-push s ms m)
+  values = ap₂ (λ c v. values_after_message c v m) h.clock.setup h.values ∙ sym (fold-append (values_after_message s) s.initial ms (m ∷ []))
 
   locks : Locked (with_time g m) s (xs ++ next s xs m ∷ []) (closed_so_far s xs shut)
   locks =
@@ -106,7 +99,7 @@ reached g s ms m shut h early = by (taken_at s xs m) refl where
       let not_taken = ap is_accepted kind ∙ (refused s xs no_counts m none).1 in
       let not_early = ap is_close_first kind ∙ (refused s xs no_counts m none).0 in
       let still : HasHeld (with_time g m) (held_at s (xs ++ next s xs m ∷ [])) (closed_time g.clock m) = record {
-        pending = λ p. h.epoch (stays_pending g.clock m not_taken p) ∙ sym (held_same s xs m none);
+        pending = λ p. h.epoch (grind (arith, common_steps, not_taken, p)) ∙ sym (held_same s xs m none);
         closing = λ p. h.epoch (pending_before g.clock m not_early not_taken p) ∙ sym (held_same s xs m none);
         sizes = λ system. h.sizes system ∙ ap (λ (v : EpochValue). length (cells_of system v)) (sym (held_same s xs m none));
       } in
@@ -139,18 +132,13 @@ time_taken {g} {s} {ms} m {shut} h early t e =
     let was = clock_is g.clock s ms shut h.clock in
     let kind : (n : CellCounts) → kind_by g.clock n m ≡ kind_after s xs n m = λ n. ap (λ c. kind_by c n m) was ∙ (takes s xs n m shut early).0 in
     let now : step_by g.clock m ≡ standing s (xs ++ next s xs m ∷ []) false = ap (λ c. step_by c m) was ∙ (takes s xs no_counts m shut early).1 in
-    ap greatest_time (timed-push s ms m) ∙ ap (λ (c : State). c.latest) (sym now)
-    ∙ after_closed (kind_by g.clock no_counts m) _ _ _ _ t (ap is_close_first (kind no_counts) ∙ not_first s xs no_counts m) e
+    cc (timed-push s ms m, now, after_closed (kind_by g.clock no_counts m) _ _ _ _ t (ap is_close_first (kind no_counts) ∙ not_first s xs no_counts m) e)
 
 pub record Taken (g : GathererValue) (s : GatherSetup) (ms : List Heard) (m : Heard) (shut : Bool) : Type 0 where
   pub kind : (n : CellCounts) → kind_by g.clock n m ≡ kind_after s (timed s ms) n m
   pub counts : (take_step g m).counts ≡ counts_of_message s (timed s ms) m
   pub after : HasTakenMessages (take_step g m).state s (ms ++ m ∷ []) false
   pub closed : is_some (closed_time g.clock m) ≡ true → (take_step g m).state.epoch ≡ held_at s (timed s (ms ++ m ∷ []))
-
--- The closing doesn't change the epoch.
-closed_epoch : (b : Bool) (l : Loaded) → (closed_if b l).state.epoch ≡ l.state.epoch
-closed_epoch b l = grind arith
 
 -- A message is processed.
 pub taken : (g : GathererValue) (s : GatherSetup) (ms : List Heard) (m : Heard) (shut : Bool) → HasTakenMessages g s ms shut → closes_first s (timed s ms) m ≡ shut → Taken g s ms m shut
@@ -163,16 +151,8 @@ taken g s ms m shut h early =
       kind = kind;
       counts = r.counts;
       after = assemble (closed_time g.clock m) r.mid (time_taken m h early) (times_taken g s ms m shut h early);
-      closed = λ has. closed_epoch _ (loaded_if (is_accepted (kind_by g.clock no_counts m)) g.clock.latest (with_time g m) m) ∙ r.mid.held.closing has;
+      closed = λ has. (grind arith) ∙ r.mid.held.closing has;
     }
-
--- An epoch that a message closes that isn't accepted was pending.
-was_pending : (k : Kind) (b : Bool) {p : Bool} (before after : Option ℕ) {t : ℕ} → is_close_first k ≡ false → is_accepted k ≡ false → closed_of k b p before after ≡ Some t → p ≡ true
-was_pending k b before after other untaken e = grind (arith, common_steps)
-
-pub pending_taken : {g : GathererValue} {s : GatherSetup} {ms : List Heard} (m : Heard) {shut : Bool} → HasTakenMessages g s ms shut → closes_first s (timed s ms) m ≡ shut
-    → taken_at s (timed s ms) m ≡ None → (t : ℕ) → closed_time g.clock m ≡ Some t → is_pending s (timed s ms) ≡ true
-pending_taken {g} {s} {ms} m {shut} h early none t e = grind (arith, common_steps, clock_is, takes, was_pending, refused, and_parts)
 
 -- A message with a point has neither a time nor a multiple message bit.
 abbrev pub IsSet : Heard → Type 0
@@ -181,11 +161,8 @@ IsSet m = (m.point ≡ None) ⊎ ((m.tow ≡ None) × (m.more ≡ None))
 pub given_alone : (s : GatherSetup) (m : Message) → IsSet (heard_by s m)
 given_alone s m = grind arith
 
-closes_none : (g : State) (m : Heard) → m.tow ≡ None → m.more ≡ None → closed_time g m ≡ None
-closes_none g m tow more = grind (arith, tow, more)
-
 pub no_point_given : (g : State) (m : Heard) (t : ℕ) → IsSet m → closed_time g m ≡ Some t → m.point ≡ None
-no_point_given g m t h0 e = grind (arith, closes_none)
+no_point_given g m t h0 e = grind arith
 
 -- A message without a point doesn't change the station values.
 pub same_values : (s : GatherSetup) (ms : List Heard) (m : Heard) → m.point ≡ None → values_of s (ms ++ m ∷ []) ≡ values_of s ms
@@ -240,13 +217,7 @@ closes_it g s ms m h early none = by (greatest_time (timed s ms)) refl where
       } in
       let more : closed_so_far s xs true ≡ closed_so_far s xs false ++ t ∷ [] =
       ap (λ o. closed_times s xs ++ option_to_list o) e ∙ ap (λ l. l ++ t ∷ []) (sym (append-nil (closed_times s xs))) in
-      record {
-        kind = kind;
-        has = ap is_some is;
-        after = subst (λ (l : Loaded). HasTakenMessages l.state s ms true) (sym to)
-            (assemble (Some t) mid (λ u f. e ∙ f) more);
-        closed = ap (λ (l : Loaded). l.state.epoch) to ∙ held;
-      }
+      grind (arith, common_steps, kind, assemble, held)
 
 pub record Ended (g : GathererValue) (s : GatherSetup) (ms : List Heard) (shut : Bool) : Type 0 where
   pub was : g.clock.pending ≡ (is_pending s (timed s ms) && not shut)
@@ -260,10 +231,6 @@ ended_by : (g : GathererValue) (s : GatherSetup) (ms : List Heard) (shut : Bool)
     → HasTakenMessages (if b then noted (stopping g) else stopping g) s ms (shut || b) → (g.clock.pending ≡ true → g.epoch ≡ held_at s (timed s ms))
     → Ended g s ms shut
 ended_by g s ms shut b is was after held = grind arith
-
--- No epoch was pending.
-ended_none : (g : GathererValue) (s : GatherSetup) (ms : List Heard) (shut : Bool) → HasTakenMessages g s ms shut → g.clock.pending ≡ false → Ended g s ms shut
-ended_none g s ms shut h f = grind (arith, ended_by, or-false)
 
 -- The pending epoch is closed.
 ended_some : (g : GathererValue) (s : GatherSetup) (ms : List Heard) → HasTakenMessages g s ms false → g.clock.pending ≡ true → Ended g s ms false
@@ -282,16 +249,15 @@ ended_some g s ms h f = by (greatest_time (timed s ms)) refl where
       } in
       let more : closed_so_far s xs true ≡ closed_so_far s xs false ++ t ∷ [] =
       ap (λ o. closed_times s xs ++ option_to_list o) e ∙ ap (λ l. l ++ t ∷ []) (sym (append-nil (closed_times s xs))) in
-      ended_by g s ms false true f h.clock.pending
-      (assemble (Some t) mid (λ u q. e ∙ q) more) h.epoch
+      grind (arith, ended_by g s ms false true f h.clock.pending (assemble (Some t) mid (λ u q. e ∙ q) more) h.epoch)
 
 -- No message follows.
 pub ended : (g : GathererValue) (s : GatherSetup) (ms : List Heard) (shut : Bool) → HasTakenMessages g s ms shut → Ended g s ms shut
-ended g s ms true h = grind (arith, common_steps, ended_none)
+ended g s ms true h = grind (arith, common_steps, ended_by, or-false)
 ended g s ms false h = by g.clock.pending refl where
   by : (p : Bool) → g.clock.pending ≡ p → Ended g s ms false
   by true f = ended_some g s ms h f
-  by false f = ended_none g s ms false h f
+  by false f = grind (arith, ended_by, or-false)
 
 -- A message with a time has no point.
 pub no_point : (s own : GatherSetup) (xs : List Timed) (m : Message) → closes_first s xs (heard_by own m) ≡ true → (heard_by own m).point ≡ None
@@ -358,12 +324,9 @@ standing_by p g = record g { clock = record g.clock { pending = p }; just_closed
 abbrev standing_loaded : Bool → Loaded → Loaded
 standing_loaded p l = record { state = standing_by p l.state; counts = l.counts }
 
-one_standing : (p : Bool) (l : Loaded) (x : HeardCell) → load_one (standing_loaded p l) x ≡ standing_loaded p (load_one l x)
-one_standing p l x = grind (arith, common_steps)
-
 load_standing : (p : Bool) (l : Loaded) (xs : List HeardCell) → load (standing_loaded p l) xs ≡ standing_loaded p (load l xs)
 load_standing p l [] = refl
-load_standing p l (x ∷ xs) = ap (λ v. load v xs) (one_standing p l x) ∙ load_standing p (load_one l x) xs
+load_standing p l (x ∷ xs) = ap (λ v. load v xs) (grind (arith, common_steps)) ∙ load_standing p (load_one l x) xs
 
 loaded_standing : (accepted p : Bool) (g : GathererValue) (m : Heard) → loaded_where accepted (standing_by p g) m ≡ standing_loaded p (loaded_where accepted g m)
 loaded_standing true p g m = ap (with_unlisted m.unlisted) (load_standing p (record { state = g; counts = no_counts }) m.cells)
@@ -372,7 +335,7 @@ loaded_standing false p g m = refl
 -- The cells of the message, from the epoch that has begun.
 loaded_begun : (g : GathererValue) (m : Heard) (accepted : Bool) → is_accepted (kind_by g.clock no_counts m) ≡ accepted
     → loaded_where accepted (epoch_begun g.clock.latest (with_time g m)) m ≡ loaded_if accepted g.clock.latest (with_time g m) m
-loaded_begun g m accepted e = grind (arith, same_latest)
+loaded_begun g m accepted e = grind (arith, common_steps, same_itself)
 
 abbrev pub loads : GathererValue → Heard → Loaded
 loads g m = loaded_if (is_accepted (kind_by g.clock no_counts m)) g.clock.latest (with_time g m) m
@@ -402,5 +365,4 @@ closed_is g m l closed e is ended =
     let shut : ended_where closed (record v.clock { pending = (open_by g.clock m).pending }) ≡ v.clock =
     ap (λ (c : State). ended_where closed (record c { pending = (open_by g.clock m).pending })) clock
     ∙ ap (ended_where closed) (sym (heard_step g.clock m)) ∙ ended ∙ sym clock in
-    ap (λ (k : Loaded). closed_noted (shut_where closed k.state)) (e ∙ loaded_by g m)
-    ∙ ap₂ (λ c b. closed_noted (record v { clock = c; just_closed = b })) shut (is ∙ sym (closed_loaded accepted g.clock.latest g m)) ∙ noted_is g m
+    grind (arith, e, loaded_by g m, shut, is, closed_loaded accepted g.clock.latest g m, noted_is g m)

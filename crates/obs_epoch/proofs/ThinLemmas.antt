@@ -1,5 +1,5 @@
 -- The epochs that are returned, of all closed ones.
-use Rattle.obs_epoch.proofs.Names.{◌≡◌, ℕ, suc, ◌+◌, Bool, true, false, ◌&&◌, ◌||◌, List, [], ◌∷◌, ◌++◌, map, filter, length, refl, sym, ap, ap₂, ◌∙◌, arith, append_assoc, append-nil, length-append, is_some, if◌then◌else◌, AllByRecursion, list_any, filter-append, common_steps, IsPrefix, equal_values, tabulated_same, value_tabulated, Choice, in_window, on_grid, counted_epoch, capped_counts, Cell, Closed, EpochValue, System, cells_of, has_listed_key, heard_cell, with_mark, after_latest, counts_left_out, ends_carrying, has_cell, has_phase, is_left_out, is_marked, lost_before, mark_if, marked_epoch, thin, thin_after, up_to_most}
+use Rattle.obs_epoch.proofs.Names.{◌≡◌, ℕ, ◌+◌, Bool, true, false, ◌&&◌, ◌||◌, List, ◌∷◌, ◌++◌, map, filter, length, refl, sym, ap, ap₂, ◌∙◌, arith, append_assoc, append-nil, length-append, is_some, if◌then◌else◌, AllByRecursion, list_any, filter-append, common_steps, IsPrefix, equal_values, tabulated_same, value_tabulated, Choice, in_window, on_grid, counted_epoch, capped_counts, Cell, Closed, EpochValue, System, cells_of, has_listed_key, heard_cell, with_mark, after_latest, counts_left_out, ends_carrying, has_cell, has_phase, is_left_out, is_marked, lost_before, mark_if, marked_epoch, thin, thin_after, length-map, []}
 use Rattle.obs_epoch.proofs.TimesLemmas.{list_any-push}
 
 -- ---- more epochs
@@ -13,17 +13,9 @@ thin_prefix c a b h = (thin_after c a h.0, ap (thin c) h.1 ∙ thin_append c [] 
 
 -- ---- lock that was lost before
 
-pub any-append : {A : Type 0} (p : A → Bool) (xs ys : List A) → list_any p (xs ++ ys) ≡ (list_any p xs || list_any p ys)
-any-append p [] ys = refl
-any-append p (x ∷ xs) ys = grind (arith, any-append p xs ys)
-
 pub after-push : {A : Type 0} (p : A → Bool) (xs : List A) (x : A) → after_latest p (xs ++ x ∷ []) ≡ (if p x then [] else after_latest p xs ++ x ∷ [])
 after-push p [] x = refl
 after-push {A} p (y ∷ xs) x = grind (arith, list_any-push, after-push p xs x)
-
-pub lost-push : (c : Choice) (es : List Closed) (e : Closed) (x : Cell)
-    → lost_before c (es ++ e ∷ []) x ≡ (if ends_carrying c x e then false else lost_before c es x || has_cell is_marked x e)
-lost-push c es e x = grind (arith, after-push, list_any-push)
 
 -- A marked cell has a phase.
 pub any_less : {A : Type 0} (p q : A → Bool) → ((x : A) → q x ≡ true → p x ≡ true) → (xs : List A) → list_any p xs ≡ false → list_any q xs ≡ false
@@ -80,21 +72,14 @@ map_none f none (x ∷ xs) = grind (arith, map_none f none xs)
 pub marks_none : (f : Cell → Bool) → ((x : Cell) → f x ≡ false) → (e : EpochValue) → marked_epoch f e ≡ e
 marks_none f none e = ap (λ cells. record e { cells = cells }) (equal_values _ _ (λ s. value_tabulated s (λ t. map (mark_if f) (cells_of t e)) ∙ map_none f none (cells_of s e)))
 
-map_length : (f : Cell → Cell) (xs : List Cell) → length (map f xs) ≡ length xs
-map_length f [] = refl
-map_length f (x ∷ xs) = ap suc (map_length f xs)
-
 pub marked_length : (f : Cell → Bool) (e : EpochValue) (s : System) → length (cells_of s (marked_epoch f e)) ≡ length (cells_of s e)
-marked_length f e s = ap (λ (l : List Cell). length l) (value_tabulated s (λ t. map (mark_if f) (cells_of t e))) ∙ map_length (mark_if f) (cells_of s e)
+marked_length f e s = ap (λ (l : List Cell). length l) (value_tabulated s (λ t. map (mark_if f) (cells_of t e))) ∙ length-map (cells_of s e) (mark_if f)
 
 -- ---- the counts
 
 length_push : {A : Type 0} (p : A → Bool) (xs : List A) (x : A) → length (filter p (xs ++ x ∷ [])) ≡ length (filter p xs) + (if p x then 1 else 0)
 length_push p xs x = grind (arith, filter-append, length-append)
 
-cap_step : (n k : ℕ) → up_to_most (n + k) ≡ up_to_most (up_to_most n + k)
-cap_step n k = grind arith
-
 pub counts_push : (c : Choice) (es : List Closed) (e : Closed)
     → capped_counts (counts_left_out c (es ++ e ∷ [])) ≡ (if is_left_out c e then counted_epoch (in_window c e.epoch.time) (on_grid c e.epoch.time) (capped_counts (counts_left_out c es)) else capped_counts (counts_left_out c es))
-counts_push c es e = grind (arith, filter-append, length-append, cap_step, length_push, append-nil)
+counts_push c es e = grind (arith, filter-append, length-append, length_push, append-nil)

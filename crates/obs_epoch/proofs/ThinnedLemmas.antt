@@ -1,5 +1,5 @@
 -- The epoch closed last, as it is returned.
-use Rattle.obs_epoch.proofs.Names.{◌≡◌, ℕ, Bool, true, false, ◌||◌, ◌&&◌, List, [], ◌∷◌, ◌++◌, refl, sym, ap, ap₂, ◌∙◌, subst, Option, Some, None, is_some, IfSome, nat_lt, not, append-nil, if◌then◌else◌, option_to_list, arith, value_tabulated, IsPrefix, satellites_written, Choice, in_window, is_chosen, on_grid, closes_first, is_pending, HasAsManyCells, closed_by, closed_list, closed_list_at, closed_so_far_of, is_done, known_epochs, returned_epoch, whole_list, HasGatheredEpochs, thinned, thinned_if, carried_from, carried_to, counted_epoch, AreMarks, capped_counts, is_lost_in, Cell, Closed, GatherSetup, GathererValue, HasTakenMessages, Heard, Timed, closed_so_far, held_at, timed, counts_left_out, lost_before, marked_epoch, thin, thin_after, and_parts}
+use Rattle.obs_epoch.proofs.Names.{◌≡◌, ℕ, Bool, true, false, ◌||◌, ◌&&◌, List, [], ◌∷◌, ◌++◌, refl, sym, ap, ap₂, ◌∙◌, subst, Option, Some, None, is_some, IfSome, nat_lt, not, append-nil, if◌then◌else◌, option_to_list, arith, value_tabulated, IsPrefix, satellites_written, Choice, in_window, is_chosen, on_grid, closes_first, is_pending, closed_by, closed_list, closed_list_at, closed_so_far_of, is_done, known_epochs, returned_epoch, whole_list, HasGatheredEpochs, thinned, thinned_if, carried_from, carried_to, counted_epoch, AreMarks, capped_counts, is_lost_in, Cell, Closed, GatherSetup, GathererValue, HasTakenMessages, Heard, Timed, closed_so_far, held_at, timed, counts_left_out, lost_before, marked_epoch, thin, and_parts}
 use Rattle.obs_epoch.proofs.LockLemmas.{AllListed, seens}
 use Rattle.obs_epoch.proofs.MarksLemmas.{marks_push}
 use Rattle.obs_epoch.proofs.NotingLemmas.{are_listed}
@@ -35,17 +35,6 @@ marked_is w c before same listed h at =
 chosen_at : (c : Choice) (t : ℕ) → is_chosen c t ≡ true → on_grid c t ≡ true
 chosen_at c t h = (and_parts (in_window c t) (on_grid c t) h).1
 
-returned_is : (w : GathererValue) (c : Choice) (before : List Closed) → w.just_closed ≡ true → w.clock.setup.choice ≡ c → HasListedCells w.epoch → AreMarks c w.marks before
-    → returned_epoch (thinned w) ≡ thin_after c before (last_of w ∷ [])
-returned_is w c before has same listed h = grind (arith, marked_is, chosen_at)
-
-same_sizes : (w : GathererValue) → HasAsManyCells (thinned w).epoch w.epoch
-same_sizes w = grind (arith, marked_length)
-
--- The gatherer has processed the messages: also after the epoch was marked.
-after_thinned : (w : GathererValue) (s : GatherSetup) (ms : List Heard) (shut : Bool) → w.clock.pending ≡ false → HasTakenMessages w s ms shut → HasTakenMessages (thinned w) s ms shut
-after_thinned w s ms shut closed h = grind (arith, same_sizes)
-
 -- ---- the history with one more epoch
 
 -- What a step has done before the epoch that it closed is marked, counted and chosen.
@@ -63,9 +52,6 @@ pub record Before (w : GathererValue) (s : GatherSetup) (before es : List Closed
   pub marks : AreMarks s.choice w.marks before
   pub counts : w.counts ≡ capped_counts (counts_left_out s.choice before)
 
-thin_known : (s : GatherSetup) (ms : List Heard) (b : Bool) → thin s.choice (if b then whole_list s ms else closed_list s ms) ≡ known_epochs b s ms
-thin_known s ms b = grind arith
-
 gathered : (v w : GathererValue) (s : GatherSetup) (ms : List Heard) (before es : List Closed) (again : Option Heard) → Step w s ms before again → v.clock ≡ w.clock → v.has_ended ≡ w.has_ended
     → HasTakenMessages v s ms (is_done w s ms again) → Before v s (before ++ closed_one w) es → HasGatheredEpochs v s ms es again
 gathered v w s ms before es again h clock ended standing b =
@@ -76,9 +62,9 @@ gathered v w s ms before es again h clock ended standing b =
     record {
       standing = subst (HasTakenMessages v s ms) (sym done) standing;
       returned = returned ∙ ap (thin s.choice) (sym list);
-      epochs = λ none. returned ∙ ap (thin s.choice) (h.known none) ∙ thin_known s ms w.has_ended ∙ ap (λ e. known_epochs e s ms) (sym ended);
+      epochs = λ none. returned ∙ ap (thin s.choice) (h.known none) ∙ (grind arith) ∙ ap (λ e. known_epochs e s ms) (sym ended);
       first = subst (λ l. IsPrefix l (known_epochs v.has_ended s (ms ++ option_to_list again))) (sym returned)
-          (subst (IsPrefix (thin s.choice all)) (thin_known s (ms ++ option_to_list again) w.has_ended ∙ ap (λ e. known_epochs e s (ms ++ option_to_list again)) (sym ended)) (thin_prefix s.choice all _ h.first));
+          (subst (IsPrefix (thin s.choice all)) ((grind arith) ∙ ap (λ e. known_epochs e s (ms ++ option_to_list again)) (sym ended)) (thin_prefix s.choice all _ h.first));
       fits = h.fits;
       plan = ap (λ (u : GatherSetup). u.plan) standing.clock.setup;
       marks = subst (AreMarks s.choice v.marks) (sym (list ∙ h.list)) b.marks;
@@ -105,8 +91,8 @@ thinned_gathers w s ms before es again h b true has =
     let listed : HasListedCells w.epoch = subst HasListedCells (sym shut.1) (held_listed s (timed s ms)) in
     let one : closed_one w ≡ last_of w ∷ [] = ap (λ k. closed_by (if k then Some (w.epoch) else None) w.values) has in
     let more : before ++ last_of w ∷ [] ≡ before ++ closed_one w = ap (λ l. before ++ l) (sym one) in
-    gathered v w s ms before (es ++ returned_epoch v) again h refl refl (after_thinned w s ms (is_done w s ms again) shut.0 h.standing) (record {
-      returned = ap₂ (λ a l. a ++ l) b.returned (returned_is w c before has choice listed b.marks) ∙ sym (thin_append c [] before (last_of w ∷ [])) ∙ ap (thin c) more;
+    gathered v w s ms before (es ++ returned_epoch v) again h refl refl (grind (arith, marked_length)) (record {
+      returned = ap₂ (λ a l. a ++ l) b.returned (grind (arith, marked_is, chosen_at)) ∙ sym (thin_append c [] before (last_of w ∷ [])) ∙ ap (thin c) more;
       marks = subst (AreMarks c v.marks) more (
           subst (λ (d : Choice). AreMarks c (if is_some d.interval then carried_from (on_grid d w.epoch.time) w.marks w.epoch else w.marks) (before ++ last_of w ∷ [])) (sym choice) (marks_push c w.marks before (last_of w) listed b.marks)
           );

@@ -1,5 +1,5 @@
 -- The value of a gatherer: with one more cell, after a message, and when its epoch is closed.
-use Rattle.obs_epoch.proofs.Names.{◌≡◌, ℕ, ◌+◌, Bool, true, false, List, [], ◌∷◌, ◌++◌, map, refl, sym, ap, ◌∙◌, subst, arith, length, Option, is_some, if◌then◌else◌, All, All-nil, All-push, System, Cell, EpochValue, PlanValue, planned_of, cells_of, CellLists, Closed, KeepsEpoch, KnownLock, place_in, is_planned, GatherSetup, Heard, IsKey, HeardCell, kept_cell, lookup, outcome_of_added, values_after_message, StationValues, is_held, GathererValue, with_more_in, with_more, outcome_in, hold, hold_by, begun_by, HasPlannedCells, IsPlanned, empty_epoch, epoch_in, open_by, is_same, no_cells, time_in, Added, IsAdded, cells_after, epoch_with, outcome_by, sorted_cells, sorted_epoch, State, lli_with, AreSortedByPlan, cell_sort_key, carried_to, mark_if, value_of, each_after, value_tabulated, same_after, cleared_if, beq, list_any-IsPermutation, length_permutation, sort_moves, common_steps}
+use Rattle.obs_epoch.proofs.Names.{◌≡◌, ℕ, ◌+◌, Bool, true, false, List, ◌∷◌, map, refl, sym, ap, ◌∙◌, subst, arith, length, Option, is_some, if◌then◌else◌, All, All-nil, All-push, System, Cell, EpochValue, PlanValue, planned_of, cells_of, CellLists, Closed, KeepsEpoch, KnownLock, place_in, is_planned, GatherSetup, Heard, IsKey, HeardCell, kept_cell, lookup, outcome_of_added, values_after_message, StationValues, is_held, GathererValue, with_more, outcome_in, hold, begun_by, HasPlannedCells, IsPlanned, empty_epoch, epoch_in, open_by, is_same, no_cells, time_in, Added, IsAdded, cells_after, epoch_with, sorted_epoch, State, lli_with, AreSortedByPlan, cell_sort_key, carried_to, mark_if, value_of, each_after, value_tabulated, same_after, cleared_if, beq, list_any-IsPermutation, length_permutation, sort_moves, common_steps, []}
 use Rattle.obs_epoch.specs.declared.choice.EpochCounts.{EpochCounts}
 use mathlib.Core.Bool.{not}
 use Rattle.obs_epoch.proofs.HeardLemmas.{heard_step}
@@ -13,23 +13,11 @@ planned_is s x key h = grind (arith, common_steps)
 
 -- ---- cells as they arrive
 
-cells_sorted : (system : System) (p : PlanValue) (e : EpochValue) → cells_of system (sorted_epoch p e) ≡ sorted_cells (planned_of system p) (cells_of system e)
-cells_sorted system p e = value_tabulated system (λ s. sorted_cells (planned_of s p) (cells_of s e))
-
 held_any : (system : System) (p : PlanValue) (e : EpochValue) (x : HeardCell) → is_held (cells_of system (sorted_epoch p e)) x ≡ is_held (cells_of system e) x
-held_any system p e x = grind (arith, common_steps, cells_sorted, list_any-IsPermutation, sort_moves)
+held_any system p e x = grind (arith, common_steps, value_tabulated, list_any-IsPermutation, sort_moves)
 
 pub count_same : (system : System) (p : PlanValue) (e : EpochValue) → length (cells_of system (sorted_epoch p e)) ≡ length (cells_of system e)
-count_same system p e = grind (arith, common_steps, cells_sorted, length_permutation, sort_moves)
-
--- The outcome of a planned cell.
-outcome_added : (g : GathererValue) (p : PlanValue) (e : EpochValue) (x : HeardCell) → g.epoch ≡ sorted_epoch p e → is_planned g.clock.setup x ≡ true
-    → outcome_in g x ≡ outcome_of_added (outcome_by (is_held (cells_of x.satellite.system e) x) (length (cells_of x.satellite.system e)))
-outcome_added g p e x is planned = grind (arith, common_steps, held_any, count_same)
-
--- Sorting a list with one more cell is inserting it into the sorted one.
-sorted_push : (system : System) (p : PlanValue) (e : EpochValue) (m : Cell) → sorted_epoch p (epoch_with system e (cells_of system e ++ m ∷ [])) ≡ with_more_in system p (sorted_epoch p e) m
-sorted_push system p e m = grind (arith, common_steps)
+count_same system p e = grind (arith, common_steps, value_tabulated, length_permutation, sort_moves)
 
 with_same : (system : System) (e : EpochValue) → epoch_with system e (cells_of system e) ≡ e
 with_same system e = ap (λ cells. record { time = e.time; cells = cells }) (same_after system e.cells)
@@ -41,23 +29,18 @@ epoch_after _ p e m = e
 
 pub sorted_after : (k : Added) (p : PlanValue) (e : EpochValue) (m : Cell)
     → sorted_epoch p (epoch_with m.satellite.system e (cells_after k (cells_of m.satellite.system e) m)) ≡ epoch_after k p (sorted_epoch p e) m
-sorted_after k p e m = grind (arith, sorted_push, with_same)
-
-hold_after : (k : Added) (g : GathererValue) (x : HeardCell) (lli : ℕ) → lli ≡ lli_with g.epoch.time x (lookup g.locks x)
-    → record g { epoch = epoch_after k g.clock.setup.plan g.epoch (kept_cell x lli) } ≡ hold_by (outcome_of_added k) g x
-hold_after k g x lli e = grind arith
+sorted_after k p e m = grind (arith, common_steps, with_same)
 
 -- A cell that arrives is held.
 pub held_is : (g : GathererValue) {e : EpochValue} {new : CellLists} (x : HeardCell) {lli : ℕ} {k : Added} → g.epoch ≡ sorted_epoch g.clock.setup.plan e → is_planned g.clock.setup x ≡ true
     → lli ≡ lli_with g.epoch.time x (lookup g.locks x) → IsAdded e.cells (kept_cell x lli) k new → record g { epoch = sorted_epoch g.clock.setup.plan (record e { cells = new }) } ≡ hold g x
 held_is g {e} x {lli} {k} is planned mark added =
     let p = g.clock.setup.plan in
-    ap (λ v. record g { epoch = v }) (ap (λ cells. sorted_epoch p (record e { cells = cells })) added.lists ∙ sorted_after k p e (kept_cell x lli) ∙ ap (λ v. epoch_after k p v (kept_cell x lli)) (sym is))
-    ∙ hold_after k g x lli mark ∙ ap (λ o. hold_by o g x) (ap outcome_of_added added.outcome ∙ sym (outcome_added g p e x is planned))
+    grind (arith, common_steps, sorted_after, held_any, count_same)
 
 pub outcome_is : (g : GathererValue) {e : EpochValue} {new : CellLists} (x : HeardCell) (lli : ℕ) {k : Added} → g.epoch ≡ sorted_epoch g.clock.setup.plan e → is_planned g.clock.setup x ≡ true
     → IsAdded e.cells (kept_cell x lli) k new → outcome_of_added k ≡ outcome_in g x
-outcome_is g {e} x lli is planned added = ap outcome_of_added added.outcome ∙ sym (outcome_added g g.clock.setup.plan e x is planned)
+outcome_is g {e} x lli is planned added = ap outcome_of_added added.outcome ∙ sym (grind (arith, common_steps, held_any, count_same))
 
 -- The cells are still planned.
 pub planned_added : (p : PlanValue) (old new : CellLists) (x : Cell) {k : Added} → IsPlanned (planned_of x.satellite.system p) x → HasPlannedCells p old → IsAdded old x k new → HasPlannedCells p new
@@ -76,9 +59,6 @@ pub heard_setup : (g : State) (m : Heard) → (open_by g m).setup ≡ g.setup
 heard_setup g m = grind (arith, common_steps)
 
 -- ---- the value of the gatherer
-
-pub never_both : (b : Bool) → b ≡ false → b ≡ true → ⊥
-never_both b e f = cc
 
 -- The value of a gatherer with these parts inside.
 abbrev pub gathered_of : State → CellLists → Closed → StationValues → List (Option KnownLock) → List Bool → EpochCounts → Bool → Bool → Bool → GathererValue

@@ -1,6 +1,7 @@
 -- The counts of looks of a window. Only the first ones are stored.
 use Rattle.rtcm_bits.proofs.Names.{◌≡◌, ℕ, ◌+◌, ◌-◌, ◌<◌, ◌≤◌, min, max, List, [], ◌∷◌, ◌++◌, length, drop, replicate, slice_index, slice_set, refl, sym, ap, ◌∙◌, arith, suc, zero, length-append, length-drop, append_assoc, ⊎_elim, drop-append-le, drop-replicate, drop-set-lt, get_or-append-add, get_or-append_right, get_or_append_left, get_or-replicate, get_or-set_other, length-replicate, replicate-append-replicate, set-append_left, cases_lt, drop-append-add, get_or-append_seam, set-append_seam, Buffer, buffer, WindowValue, held_of, filled_up, counts_alone, looked_through, pushed_all, without_front, common_steps, rules}
 use Rattle.rtcm_bits.proofs.WindowLaws.{AgreeFrom, looked_length, shifted, through_counts}
+use Rattle.rtcm_bits.proofs.SmallLaws.{get_or-same}
 
 -- the sums of a window before and after looks at k bytes: e and e' count all looks, m is the largest count after them
 pub record AreSums (e e' k m largest : ℕ) : Type 0 where
@@ -144,13 +145,8 @@ seen_twice xs m s (suc k) f g = search (rules, same_at, seen_twice xs m s k f g)
 at_once : (xs : List ℕ) (o z j : ℕ) → j < o → slice_index (xs ++ (replicate o 1 ++ replicate z 0)) (length xs + j) ≡ 1
 at_once xs o z j h = grind (arith, get_or-append-add, get_or_append_left, length-replicate, get_or-replicate)
 
-zeros_at : (z i : ℕ) → slice_index (replicate z 0) i ≡ 0
-zeros_at zero i = refl
-zeros_at (suc z) zero = refl
-zeros_at (suc z) (suc i) = zeros_at z i
-
 not_once : (xs : List ℕ) (o z j : ℕ) → o ≤ j → slice_index (xs ++ (replicate o 1 ++ replicate z 0)) (length xs + j) ≡ 0
-not_once xs o z j h = grind (arith, get_or-append-add, get_or-append_right, length-replicate, zeros_at)
+not_once xs o z j h = grind (arith, get_or-append-add, get_or-append_right, length-replicate, get_or-same)
 
 at_most_once : (xs : List ℕ) (o z j : ℕ) → slice_index (xs ++ (replicate o 1 ++ replicate z 0)) (length xs + j) ≤ 1
 at_most_once xs o z j = grind (arith, at_once, not_once, cases_lt)

@@ -1,9 +1,13 @@
 -- Small laws of lists and results, for the proofs of the crates above.
-use Rattle.std.proofs.Common.{◌≡◌, ◌≤◌, ◌∙◌, Bool, List, [], ◌∷◌, ◌++◌, length, filter, filter_map, append_assoc, ap, sym, append-nil, arith, Option, Result, Ok, Err, IfOk, OnOk, OnErr, MatchResult}
+use Rattle.std.proofs.Common.{◌≡◌, ◌≤◌, ◌∙◌, Bool, List, [], ◌∷◌, ◌++◌, length, filter, filter_map, append_assoc, ap, sym, append-nil, arith, Option, Result, Ok, Err, IfOk, OnOk, OnErr, MatchResult, true, ℕ, get_or, replicate, inl, inr}
 use Rattle.std.proofs.lemmas.List.Sums.{length-filter, count_by-le-length}
 use Rattle.std.proofs.lemmas.Grind.{common_steps}
 use Rattle.std.specs.Result.{IsErrAnd}
 use Rattle.rtcm_bits.specs.Prefix.{IsPrefix}
+use Rattle.std.specs.List.{AllByRecursion}
+use Rattle.std.proofs.lemmas.List.Elements.{All-append, All-filter, All-from_recursion, All-weaker, filter_passes, recursion_from_All}
+use Rattle.std.proofs.lemmas.Bool.{cases_lt}
+use Rattle.std.proofs.lemmas.List.{get_or-replicate, get_or_past, length-replicate}
 
 -- ---- prefixes
 
@@ -21,6 +25,23 @@ length-filter-le p xs = omega (arith, length-filter p xs, count_by-le-length p x
 pub length-filter_map-le : {A B : Type 0} (f : A → Option B) (xs : List A) → length (filter_map f xs) ≤ length xs
 length-filter_map-le f [] = omega arith
 length-filter_map-le f (x ∷ xs) = grind (arith, common_steps, length-filter_map-le f xs)
+
+-- ---- properties of each item
+
+pub all_append : {X : Type 0} (P : X → Type 0) (xs ys : List X) → AllByRecursion P xs → AllByRecursion P ys → AllByRecursion P (xs ++ ys)
+all_append P xs ys h k = recursion_from_All P (xs ++ ys) (All-append P xs ys (All-from_recursion P xs h) (All-from_recursion P ys k))
+
+pub all_filter : {X : Type 0} (P : X → Type 0) (p : X → Bool) (xs : List X) → AllByRecursion P xs → AllByRecursion P (filter p xs)
+all_filter P p xs h = recursion_from_All P (filter p xs) (All-filter p P xs (All-from_recursion P xs h))
+
+-- of the items that pass a test
+pub all_passed : {X : Type 0} (P : X → Type 0) (p : X → Bool) → ((x : X) → p x ≡ true → P x) → (xs : List X) → AllByRecursion P (filter p xs)
+all_passed P p h xs = recursion_from_All P (filter p xs) (All-weaker (λ x. p x ≡ true) P h (filter p xs) (filter_passes p xs))
+
+-- ---- a list of one item, at that default
+
+pub get_or-same : {A : Type 0} (x : A) (n i : ℕ) → get_or (replicate n x) i x ≡ x
+get_or-same x n i = elim (cases_lt i n) [ inl h ↦ get_or-replicate n i x x h | inr h ↦ get_or_past (replicate n x) i x (omega (arith, length-replicate n x)) ]
 
 -- ---- what a call promises
 

@@ -1,6 +1,6 @@
-use Rattle.obs_epoch.proofs.Names.{◌≡◌, ◌∙◌, sym, ap, ap₂, subst, refl, false, beq, cleared_if, Closed, HasPlannedCells, State, values_after_message, GathererValue, begun_by, epoch_in, heard_summary}
+use Rattle.obs_epoch.proofs.Names.{◌≡◌, ◌∙◌, sym, ap, ap₂, subst, refl, false, beq, cleared_if, Closed, HasPlannedCells, State, values_after_message, GathererValue, begun_by, epoch_in, heard_summary, both_ways}
 use mathlib.Core.Bool.{not}
-use Rattle.obs_epoch.proofs.ValueLemmas.{begins_empty, clears_none, gathered_of, heard_is, heard_setup, never_both}
+use Rattle.obs_epoch.proofs.ValueLemmas.{begins_empty, clears_none, gathered_of, heard_is, heard_setup}
 use Rattle.obs_epoch.proofs.gather.Gatherer.hear.Goals as goal
 
 -- The epoch closed last, by the clock before and after the message.
@@ -17,7 +17,7 @@ invariant_of-self c =
       empty = λ e.
           ap (λ (l : Closed). l.epoch.cells) (c.clear_if.ensures ∙ cleared_as c)
           ∙ begins_empty c.self.inside.clock.pending c.step-step.new.self.pending c.self.inside.closed c.self.invariant.empty e;
-      closed = λ e. absurd (never_both false refl e);
+      closed = λ e. absurd (both_ways false refl e);
     }
 
 pub returns-clause-step : goal.returns-clause-step

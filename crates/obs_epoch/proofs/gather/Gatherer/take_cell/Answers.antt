@@ -1,5 +1,5 @@
-use Rattle.obs_epoch.proofs.Names.{◌≡◌, ◌∙◌, sym, ap, ap₂, subst, not, Bool, true, false, is_some, ChannelsValue, hertz_in, PlanValue, time_in, Cell, lacks_channel, planned_of, heard_cell, kept_cell, place_in, GathererValue, hold, outcome_in, count_in, lli_with}
-use Rattle.obs_epoch.proofs.ValueLemmas.{gathered_of, held_is, never_both, open_is, outcome_is, planned_added, planned_is}
+use Rattle.obs_epoch.proofs.Names.{◌≡◌, ◌∙◌, sym, ap, ap₂, subst, not, Bool, true, false, is_some, ChannelsValue, hertz_in, PlanValue, time_in, Cell, lacks_channel, planned_of, heard_cell, kept_cell, place_in, GathererValue, hold, outcome_in, count_in, lli_with, both_ways}
+use Rattle.obs_epoch.proofs.ValueLemmas.{gathered_of, held_is, open_is, outcome_is, planned_added, planned_is}
 use Rattle.obs_epoch.proofs.gather.Gatherer.take_cell.Goals as goal
 
 pub invariant_of-self : goal.invariant_of-self
@@ -9,9 +9,9 @@ invariant_of-self c =
     let going : c.self.inside.clock.pending ≡ true = ap (λ (v : GathererValue). v.clock.pending) c.self.view_is ∙ c.requires.pending in
     record {
       planned = planned_added c.self.inside.clock.setup.plan c.self.inside.pending c.add.new.self m planned c.self.invariant.planned c.add.ensures;
-      none = λ e. absurd (never_both _ e going);
+      none = λ e. absurd (both_ways _ e going);
       empty = c.self.invariant.empty;
-      closed = λ e. absurd (never_both _ (c.self.invariant.closed e).0 going);
+      closed = λ e. absurd (both_ways _ (c.self.invariant.closed e).0 going);
     }
 
 pub returns-clause-step : goal.returns-clause-step
