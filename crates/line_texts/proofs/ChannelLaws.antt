@@ -1,11 +1,7 @@
 -- Channels that are read from text, and those that were written.
-use Rattle.std.proofs.lemmas.Fmt.{first_decimal}
-use Rattle.std.proofs.lemmas.List.{length-take-le, set_at, take_more}
-use Rattle.std.proofs.lemmas.List.Elements.{All-take}
 use Rattle.line_texts.proofs.LengthLaws.{cut_first, decimal_read, no_byte, own}
 use Rattle.line_texts.proofs.LineLaws.{first_code, is_comma, join-push, last_code}
-use Rattle.line_texts.specs.ChannelTexts.{after_comma, channel_of, channel_text, channels_after, channels_of, channels_text, slot_channel_of, slot_of, slot_text, slot_texts, with_entry}
-use Rattle.line_texts.proofs.Names.{AreChannels, ChannelsValue, most_number, no_channels, number_at, slot_count, le-leb, ◌≡◌, ◌∙◌, ◌+◌, ◌-◌, ◌<◌, ◌≤◌, ◌^◌, ◌++◌, ◌∷◌, [], ℕ, true, false, List, Option, Some, None, All, All-head, All-tail, IfSome, ⊤, ap, append-nil, append_assoc, arith, between_commas, decimal, decimal_digit, digits_decimal, get_or, get_or_at, is_digit, join_with_byte, length, length-append, length-decimal-le, list_all, list_any, list_any-append, nat_tests, option_and_then, refl, replicate, sym, take, common_steps}
+use Rattle.line_texts.proofs.Names.{AreChannels, ChannelsValue, most_number, no_channels, number_at, slot_count, le-leb, ◌≡◌, ◌∙◌, ◌+◌, ◌-◌, ◌<◌, ◌≤◌, ◌^◌, ◌++◌, ◌∷◌, [], ℕ, true, false, List, Option, Some, None, All, All-head, All-tail, IfSome, ⊤, ap, append-nil, append_assoc, arith, between_commas, decimal, decimal_digit, digits_decimal, get_or, get_or_at, is_digit, join_with_byte, length, length-append, length-decimal-le, list_all, list_any, list_any-append, nat_tests, option_and_then, refl, replicate, sym, take, common_steps, first_decimal, length-take-le, set_at, take_more, All-take, after_comma, channel_of, channel_text, channels_after, channels_of, channels_text, slot_channel_of, slot_of, slot_text, slot_texts, with_entry}
 
 -- ---- a slot and its channel
 

@@ -1,7 +1,6 @@
 -- Everything that can be decided is decided.
-use Rattle.rtcm_scan.proofs.Names.{ℕ, ◌≡◌, ◌+◌, ◌<◌, true, false, List, [], length, ap, arith, sum_by, drop_all, is_open, Framed, FramerValue, HasFramed, first_held, Scanned, IsDrained}
+use Rattle.rtcm_scan.proofs.Names.{ℕ, ◌≡◌, ◌+◌, true, List, [], length, ap, arith, sum_by, drop_all, Framed, FramerValue, HasFramed, first_held, Scanned, IsDrained}
 use Rattle.rtcm_scan.proofs.ScanLemmas.{scanned_all}
-use Rattle.rtcm_scan.proofs.DecidedLemmas.{decided_is, decided_frames_are}
 use Rattle.rtcm_scan.proofs.SkippedLemmas.{given_up_is}
 use Rattle.rtcm_scan.proofs.KnownLemmas.{AreKnownCounts}
 
@@ -13,6 +12,3 @@ drained_ended v b fs e h s n =
     let c : Scanned v.has_ended b 0 (length b) fs = (let k = s.scanned in rw p at k) in
     let k : v.skipped + sum_by (λ f. length f.message + 6) fs ≡ first_held v = s.skipped in
     grind (arith, scanned_all, drop_all, given_up_is)
-
-pub drained_waiting : (v : FramerValue) (b : List ℕ) (fs : List Framed) → v.has_ended ≡ false → (0 < length v.held → is_open v.held ≡ true) → HasFramed v b fs → AreKnownCounts v b → IsDrained v b fs
-drained_waiting v b fs e h s n = grind (arith, decided_is, decided_frames_are, given_up_is)

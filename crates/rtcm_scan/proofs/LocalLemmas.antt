@@ -2,12 +2,7 @@
 use Rattle.rtcm_scan.proofs.Names.{common_steps, ℕ, ◌≡◌, ◌+◌, ◌-◌, ◌/◌, ◌%◌, ◌<◌, ◌≤◌, true, List, [], ◌∷◌, ◌++◌, length, take, drop, get_or, refl, sym, ap, ◌∙◌, arith, suc, zero, ⊎_elim, subst, eq-eqb, append_assoc, length-append, take-add, All, Contains, flat_map, cases_lt, and_from, le-leb, append-nil, take_at, drop_at, length-drop, drop_all, get_or-drop, take-append-drop, drop_more, All-head, All-tail, All-drop, Contains-append_right, flat_map-append, crc, frame_bytes, frame_header, three_bytes, begins_frame, message_length, frame_length, sent_check, framed_message, Framed, IsFrameOf, frame_end, frames_from, frames_of, stream_after, frame_place, HasNoOtherFrame, StaysLocal, placed, Scanned, longest_frame, longest_message, most_undecided}
 use Rattle.rtcm_scan.proofs.ScanLemmas.{scanned_frames, scanned_all}
 use Rattle.rtcm_scan.proofs.FrameLemmas.{length-message}
-use Rattle.rtcm_scan.proofs.DecisionLemmas.{frame_length_bound}
 use Rattle.rtcm_scan.proofs.LawLemmas.{frames_scanned, same_frame}
-
--- the parts of a list: header, message, CRC and the rest
-spread : (m rest : List ℕ) → frame_bytes m ++ rest ≡ (frame_header m ++ m) ++ (three_bytes (crc (frame_header m ++ m)) ++ rest)
-spread m rest = append_assoc (frame_header m ++ m) (three_bytes (crc (frame_header m ++ m))) rest
 
 length_claimed : (m rest : List ℕ) → length m ≤ longest_message → message_length (frame_bytes m ++ rest) ≡ length m
 length_claimed m rest h = omega arith
@@ -18,7 +13,7 @@ frame_begins m rest h =
     let s : List ℕ = frame_bytes m ++ rest in
     let c : ℕ = crc (frame_header m ++ m) in
     let l : message_length (frame_bytes m ++ rest) ≡ length m = length_claimed m rest h in
-    let e = spread m rest in
+    let e = append_assoc (frame_header m ++ m) (three_bytes (crc (frame_header m ++ m))) rest in
     let n : length (frame_header m ++ m) ≡ length m + 3 = omega arith in
     let t : take (length m + 3) (frame_bytes m ++ rest) ≡ frame_header m ++ m = ap (take (length m + 3)) e ∙ take_at (frame_header m ++ m) (three_bytes (crc (frame_header m ++ m)) ++ rest) (length m + 3) n in
     let d : drop (length m + 3) (frame_bytes m ++ rest) ≡ three_bytes (crc (frame_header m ++ m)) ++ rest = ap (drop (length m + 3)) e ∙ drop_at (frame_header m ++ m) (three_bytes (crc (frame_header m ++ m)) ++ rest) (length m + 3) n in
@@ -35,14 +30,11 @@ frame_begins m rest h =
         rw (a, b, e) (omega arith)
 
 pub frame_message : (m rest : List ℕ) → length m ≤ longest_message → framed_message (frame_bytes m ++ rest) ≡ m
-frame_message m rest h = grind (arith, spread, take_at)
+frame_message m rest h = grind (arith, append_assoc, take_at)
 
 -- ---- a list of frames after bytes
 length-frame : (m : List ℕ) → length (frame_bytes m) ≡ length m + 6
-length-frame m = length-append (frame_header m ++ m) (three_bytes (crc (frame_header m ++ m))) ∙ (omega arith)
-
-frame_here : (pre m : List ℕ) (rest : List ℕ) → length m ≤ longest_message → IsFrameOf (pre ++ (frame_bytes m ++ rest)) (record { offset = length pre; message = m })
-frame_here pre m rest h = grind (arith, drop_at, frame_begins, frame_message)
+length-frame m = length-append (frame_header m ++ m) (three_bytes (crc (frame_header m ++ m))) ∙ omega arith
 
 scanned_list : (pre : List ℕ) (ms : List (List ℕ)) {b : List ℕ} {p n : ℕ} → b ≡ pre ++ flat_map frame_bytes ms → p ≡ length pre → n ≡ length b → All (λ m. length m ≤ longest_message) ms → Scanned true b p n (placed p ms)
 scanned_list pre [] {b} e q r a = (let l : length b ≡ length pre = ap length (e ∙ append-nil pre) in omega arith, λ k i j. (let l : length b ≡ length pre = ap length (e ∙ append-nil pre) in absurd (omega arith)))
@@ -51,7 +43,7 @@ scanned_list pre (m ∷ ms) {b} {p} {n} e q r a =
     let l : p + (length m + 6) ≡ length (pre ++ frame_bytes m) = (let x = length-append pre (frame_bytes m) in let y = length-frame m in omega (arith, x, y)) in (
       omega arith,
       (λ k i j. absurd (omega arith)),
-      (rw (e, q) (frame_here pre m (flat_map frame_bytes ms) h)),
+      (rw (e, q) (grind (arith, drop_at, frame_begins, frame_message))),
       scanned_list (pre ++ frame_bytes m) ms (e ∙ sym (append_assoc pre (frame_bytes m) (flat_map frame_bytes ms))) l r (All-tail (λ x. length x ≤ longest_message) m ms a),
     )
 
@@ -104,7 +96,7 @@ frame_number : (bytes : List ℕ) (ms : List (List ℕ)) (i : ℕ) → i < lengt
 frame_number bytes ms i h a =
     let d : drop i ms ≡ get_or ms i [] ∷ drop (i + 1) ms = drop_more ms i [] h in
     let e : stream_after bytes ms ≡ stream_after bytes (take i ms) ++ (frame_bytes (get_or ms i []) ++ flat_map frame_bytes (drop (i + 1) ms)) = cut_at bytes ms i ∙ ap (λ x. stream_after bytes (take i ms) ++ flat_map frame_bytes x) d in
-    subst (λ (x : List ℕ). IsFrameOf x (record { offset = frame_place bytes ms i; message = get_or ms i [] })) (sym e) (frame_here (stream_after bytes (take i ms)) (get_or ms i []) (flat_map frame_bytes (drop (i + 1) ms)) (a i [] h))
+    subst (λ (x : List ℕ). IsFrameOf x (record { offset = frame_place bytes ms i; message = get_or ms i [] })) (sym e) (grind (arith, drop_at, frame_begins, frame_message))
 
 -- a frame ends at the offset of the next, and so before each later one begins
 frame_ends : (bytes : List ℕ) (ms : List (List ℕ)) (i k : ℕ) → i < k → k < length ms → frame_place bytes ms i + (length (get_or ms i []) + 6) ≤ frame_place bytes ms k
@@ -125,7 +117,7 @@ none_across : (bytes : List ℕ) (ms : List (List ℕ)) (k : ℕ) → All (λ m.
 none_across bytes ms k a l far quiet f v h c = ⊎_elim
     (λ (x : f.offset < length bytes).
     let m : length f.message ≡ message_length (drop f.offset (stream_after bytes ms)) = ap length v.message ∙ length-message (drop f.offset (stream_after bytes ms)) v.begins in
-    short m (frame_length_bound (drop f.offset (stream_after bytes ms))) x far c)
+    short m (omega arith) x far c)
     (λ (x : length bytes ≤ f.offset).
     let w = quiet f.offset x h v.begins in
     let g = frame_number bytes ms w.0 (omega (arith, w.1, l)) a in

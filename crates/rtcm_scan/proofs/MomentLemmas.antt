@@ -2,7 +2,6 @@
 use Rattle.rtcm_scan.proofs.Names.{ℕ, ◌≡◌, ◌*◌, ◌≤◌, true, false, List, [], length, refl, arith, Framed, frames_of, frames_from, WindowValue, nothing_held, FramerValue, scan_of, HasFramed, first_held, new_scan, places, tried, decided, decided_frames, frames_before, IsDrained, greatest_below, spans_now, looks_at, spans_at, tried_before, HasExamined, longest_frame, most_looks, most_bytes, Bool}
 use Rattle.rtcm_scan.proofs.BoundLemmas.{looks_bound, all_bound, greatest_bound}
 use Rattle.rtcm_scan.proofs.HistoryLemmas.{history_end, history_from}
-use Rattle.rtcm_scan.proofs.ScanLemmas.{scanned_none}
 
 -- the bound on the bytes of the window is one of the held bytes
 pub held_within : {v : FramerValue} {limit skipped tried : ℕ} {w : WindowValue} {ended ready : Bool} (place : ℕ) → scan_of limit place w ended ready skipped tried ≡ v → length w.bytes ≤ longest_frame → length v.held ≤ longest_frame
@@ -22,7 +21,7 @@ pub counts_end : (v : FramerValue) (b : List ℕ) (fs : List Framed) → HasExam
 counts_end v b fs x = record { history = history_end v b fs x.history; limit = x.limit; within = x.within; each = x.each; tried = x.tried; counts = x.counts }
 
 history_new : (limit : ℕ) → HasFramed (new_scan limit) [] []
-history_new limit = history_from (new_scan limit) [] [] refl refl (omega arith) (scanned_none false [] 0) refl
+history_new limit = history_from (new_scan limit) [] [] refl refl (omega arith) ((omega arith, λ q h k. absurd (omega arith))) refl
 
 counts_empty : (limit : ℕ) → limit ≤ most_bytes → HasFramed (new_scan limit) [] [] → HasExamined (new_scan limit) [] []
 unfolding tried_before places greatest_below

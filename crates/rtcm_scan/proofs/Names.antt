@@ -3,7 +3,7 @@ unfoldable pub use Rattle.rtcm_bits.specs.Bits.{bits_of, number_from, uint}
 unfoldable pub use Rattle.rtcm_bits.specs.Crc.{add_front, bits_remainder, crc, generator, remainder}
 pub use Rattle.rtcm_bits.specs.FrameOf.{frame_bytes, frame_header, longest_frame, longest_message, preamble, three_bytes}
 pub use Rattle.rtcm_bits.specs.Prefix.{IsPrefix}
-pub use Rattle.rtcm_bits.proofs.SmallLaws.{on_failure, prefix_self, prefix_trans, wrapped}
+pub use Rattle.rtcm_bits.proofs.SmallLaws.{on_failure, prefix_self, prefix_trans, wrapped, all_append}
 pub use Rattle.rtcm_bits.specs.Window.{WindowValue, looked, looked_through, nothing_held, pushed, pushed_all, without_front}
 pub use Rattle.rtcm_scan.specs.inner.Candidate.{HasTaken, wanted_by}
 unfoldable pub use Rattle.rtcm_scan.specs.Decided.{decided, decided_frames, frames_before, is_tried, places, tried}
@@ -40,3 +40,4 @@ pub use Rattle.std.proofs.lemmas.List.Sums.{prefix_len_is, sum_by-append, sum_by
 pub use Rattle.std.proofs.lemmas.Result.{on_err_weaker, on_ok_weaker}
 pub use Rattle.std.specs.Io.KnownBytes.{Consumes, IsAtEnd}
 pub use Rattle.std.specs.List.{All, AllPairs, Any, Contains, count_by, filter, flat_map, list_any}
+pub use Rattle.rtcm_bits.proofs.WindowLaws.{looked_on, looked_bytes, looked_left, looked_past, looked_to, looked_length}

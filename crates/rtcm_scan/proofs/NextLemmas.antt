@@ -1,11 +1,11 @@
 -- The state after the steps of `next`.
-use Rattle.rtcm_scan.proofs.Names.{ℕ, ◌≡◌, ◌+◌, ◌-◌, ◌<◌, ◌≤◌, true, false, List, [], ◌∷◌, ◌++◌, length, refl, sym, ap, ◌∙◌, arith, subst, length-drop, nil_from_length, begins_frame, is_open, frame_length, framed_message, Framed, looked_through, without_front, FramerValue, HasFramed, first_held, IsPassed, window_of, with_window, asked, with_candidate_examined, passed, HasExamined, IsCountedTo, message_length, IsDrained}
-use Rattle.rtcm_bits.proofs.WindowLaws.{looked_bytes}
+use Rattle.rtcm_scan.proofs.Names.{ℕ, ◌≡◌, ◌+◌, ◌-◌, ◌<◌, ◌≤◌, true, false, List, [], ◌∷◌, ◌++◌, length, refl, sym, ap, ◌∙◌, arith, subst, length-drop, nil_from_length, begins_frame, is_open, frame_length, framed_message, Framed, looked_through, without_front, FramerValue, HasFramed, first_held, IsPassed, window_of, with_window, asked, with_candidate_examined, passed, HasExamined, IsCountedTo, message_length, IsDrained, looked_bytes}
 use Rattle.rtcm_scan.proofs.StepLemmas.{step_examined, step_give_up, step_take}
 use Rattle.rtcm_scan.proofs.KnownLemmas.{counted_empty, counted_open, counted_frame}
 use Rattle.rtcm_scan.proofs.FrameLemmas.{length-message, begins_parts}
-use Rattle.rtcm_scan.proofs.DecidedLemmas.{none_past}
-use Rattle.rtcm_scan.proofs.DrainedLemmas.{drained_ended, drained_waiting}
+use Rattle.rtcm_scan.proofs.DecidedLemmas.{none_past, decided_frames_are, decided_is}
+use Rattle.rtcm_scan.proofs.DrainedLemmas.{drained_ended}
+use Rattle.rtcm_scan.proofs.SkippedLemmas.{given_up_is}
 
 -- the state after take_frame
 abbrev frame_taken : FramerValue → ℕ → FramerValue
@@ -57,8 +57,8 @@ counts_found {w} {b} {fs} v g z h y t x =
     rw y (r', counted_frame w b fs (found v) i tr (none_past v.has_ended b 0 (first_held v) fs s.scanned) r')
 
 pub finish_empty : {v d w : FramerValue} {b : List ℕ} {fs : List Framed} → d ≡ v → w ≡ record d { is_ready = true } → length v.held ≡ 0 → HasExamined v b fs → HasExamined w b fs × IsDrained w b fs
-finish_empty {v} {d} {w} {b} {fs} e f h x = grind (arith, counted_empty, nil_from_length, drained_ended, drained_waiting)
+finish_empty {v} {d} {w} {b} {fs} e f h x = grind (arith, counted_empty, nil_from_length, drained_ended, decided_is, decided_frames_are, given_up_is)
 
 pub finish_open : {v u d w : FramerValue} {b : List ℕ} {fs : List Framed} → u ≡ with_candidate_examined v → d ≡ u → w ≡ record d { is_ready = true } → v.has_ended ≡ false → 0 < length v.held → is_open v.held ≡ true → v.tried ≤ asked v.held
     → HasExamined v b fs → HasExamined w b fs × IsDrained w b fs
-finish_open {v} {d} {w} {b} {fs} e g f t l o k x = grind (arith, step_examined, counted_open, drained_waiting)
+finish_open {v} {d} {w} {b} {fs} e g f t l o k x = grind (arith, step_examined, counted_open, decided_is, decided_frames_are, given_up_is)

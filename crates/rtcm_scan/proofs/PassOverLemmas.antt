@@ -1,10 +1,9 @@
 -- Bytes that begin no frame are dropped together, as if one by one.
-use Rattle.rtcm_scan.proofs.Names.{common_steps, ℕ, ◌≡◌, ◌≢◌, ◌+◌, ◌-◌, ◌<◌, ◌≤◌, min, Bool, false, List, [], ◌∷◌, length, take, drop, refl, sym, ap, ◌∙◌, arith, suc, zero, slice_index, subst, drop-drop, length-drop, get_or-drop, ne_eqb, WindowValue, looked_through, without_front, has_preamble, Candidate, HasTaken, Framed, FramerValue, IsPassed, scan_of, window_of, with_window, with_looks, with_candidate_examined, passed, HasExamined, preamble}
+use Rattle.rtcm_scan.proofs.Names.{common_steps, ℕ, ◌≡◌, ◌≢◌, ◌+◌, ◌-◌, ◌<◌, ◌≤◌, min, Bool, false, List, [], ◌∷◌, length, take, drop, refl, sym, ap, ◌∙◌, arith, suc, zero, slice_index, subst, drop-drop, length-drop, get_or-drop, ne_eqb, WindowValue, looked_through, without_front, has_preamble, Candidate, HasTaken, Framed, FramerValue, IsPassed, scan_of, window_of, with_window, with_looks, with_candidate_examined, passed, HasExamined, preamble, looked_bytes, looked_left, looked_on, looked_past, looked_to}
 use Rattle.rtcm_scan.proofs.FrameLemmas.{none_without}
 use Rattle.rtcm_scan.proofs.CandidateLemmas.{taken_more}
 use Rattle.rtcm_scan.proofs.NextLemmas.{counts_passed}
 use Rattle.rtcm_scan.proofs.HistoryLemmas.{view_dropped}
-use Rattle.rtcm_bits.proofs.WindowLaws.{looked_bytes, looked_left, looked_on, looked_past, looked_to}
 use Rattle.rtcm_scan.proofs.StepLemmas.{step_examined_to}
 
 -- the first byte by itself, and then the others
@@ -13,8 +12,7 @@ front_once w n =
     let a : 1 + n ≡ suc n = omega arith in
     let u : WindowValue = looked_through (looked_through w 0 1) 1 n in
     let d : without_front (without_front u 1) n ≡ without_front u (1 + n) = rw (drop-drop n 1 u.bytes, drop-drop n 1 u.looks) refl in
-    ap (λ (k : ℕ). without_front (looked_through w 0 k) k) (sym a) ∙ ap (λ (v : WindowValue). without_front v (1 + n)) (sym (looked_on w 0 1 n)) ∙ sym d
-    ∙ ap (λ (v : WindowValue). without_front v n) (sym (looked_past (looked_through w 0 1) 1 0 n refl))
+    cc (a, looked_on w 0 1 n, d, looked_past (looked_through w 0 1) 1 0 n refl)
 
 -- a framer whose first bytes were looked at once and dropped
 abbrev with_given_up : FramerValue → WindowValue → ℕ → FramerValue
@@ -64,9 +62,7 @@ pub view_passed : {v : FramerValue} {limit skipped tried n : ℕ} {w w' : Window
     → n ≤ length w.bytes → scan_of limit (place + n) w' ended ready (skipped + n) k ≡ passed_to v n k
 view_passed {limit} {skipped} {n} {w} {ended} {ready} place k e f h =
     let u : WindowValue = without_front (looked_through w 0 n) n in
-    ap (λ (y : WindowValue). scan_of limit (place + n) y ended ready (skipped + n) k) (f ∙ sym (looked_to w u n k refl))
-    ∙ ap (λ (bs : List ℕ). let r : FramerValue = record (scan_of limit (place + n) (looked_through u 0 k) ended ready (skipped + n) k) { taken = place + n + length bs; held = bs } in r) (looked_bytes u 0 k)
-    ∙ ap (λ (y : FramerValue). with_looks y (looked_through (window_of y) 0 k) k) (view_over place e h)
+    cc (f, looked_to w u n k refl, looked_bytes u 0 k, view_over place e h)
 
 -- the same after the byte at the front, which is in no frame
 pub passed_on : {v : FramerValue} {limit skipped tried n : ℕ} {w u w' : WindowValue} {ended ready : Bool} (place k : ℕ) → scan_of limit place w ended ready skipped tried ≡ v → 0 < length v.held

@@ -1,6 +1,6 @@
 -- Decided frames stay decided when bytes follow.
 use Rattle.rtcm_scan.proofs.Names.{ℕ, ◌≡◌, ◌+◌, ◌-◌, ◌*◌, ◌<◌, ◌≤◌, Bool, true, false, List, [], ◌∷◌, ◌++◌, length, drop, refl, sym, ap, ◌∙◌, arith, suc, zero, ⊎_elim, length-append, cases_Bool, cases_lt, begins_frame, is_open, Framed, IsFrameOf, frame_end, frames_of, frames_from, framed_at, decided, decided_frames, frames_before, IsPrefix, known_frames, AllPassed, Scanned, length-drop, most_undecided}
-use Rattle.rtcm_scan.proofs.ScanLemmas.{scanned_none, scanned_le, scanned_longer, frame_within}
+use Rattle.rtcm_scan.proofs.ScanLemmas.{scanned_le, scanned_longer, frame_within}
 use Rattle.rtcm_scan.proofs.DecidedLemmas.{decided_is, decided_frames_are, frames_split}
 use Rattle.rtcm_scan.proofs.LawLemmas.{scanned_prepend, framed_valid, frames_scanned}
 use Rattle.rtcm_scan.proofs.DecisionLemmas.{open_bound}
@@ -14,10 +14,10 @@ record ScannedOn (b : List ℕ) (from : ℕ) : Type 0 where
   pub stops : to < length b → is_open (drop to b) ≡ true
 
 scan_on : (d : ℕ) (b : List ℕ) (from : ℕ) → length b - from ≤ d → from ≤ length b → ScannedOn b from
-scan_on zero b from k h = record { to = from; frames = []; scanned = scanned_none false b from; within = h; stops = λ l. absurd (omega arith) }
+scan_on zero b from k h = record { to = from; frames = []; scanned = (omega arith, λ q h k. absurd (omega arith)); within = h; stops = λ l. absurd (omega arith) }
 scan_on (suc d) b from k h = ⊎_elim
     (λ (l : from < length b). ⊎_elim
-    (λ (o : is_open (drop from b) ≡ true). let r : ScannedOn b from = record { to = from; frames = []; scanned = scanned_none false b from; within = h; stops = λ l. o } in r)
+    (λ (o : is_open (drop from b) ≡ true). let r : ScannedOn b from = record { to = from; frames = []; scanned = (omega arith, λ q h k. absurd (omega arith)); within = h; stops = λ l. o } in r)
     (λ (o : is_open (drop from b) ≡ false). ⊎_elim
     (λ (e : begins_frame (drop from b) ≡ true).
     let v : IsFrameOf b (framed_at b from) = framed_valid b from e in
@@ -29,7 +29,7 @@ scan_on (suc d) b from k h = ⊎_elim
     let x : ScannedOn b from = record { to = r.to; frames = r.frames; scanned = scanned_prepend false b from r.to r.frames (record { none = e; closed = λ z. o }) r.scanned; within = r.within; stops = r.stops } in x)
     (cases_Bool (begins_frame (drop from b))))
     (cases_Bool (is_open (drop from b))))
-    (λ (g : length b ≤ from). let r : ScannedOn b from = record { to = from; frames = []; scanned = scanned_none false b from; within = h; stops = λ l. absurd (omega arith) } in r)
+    (λ (g : length b ≤ from). let r : ScannedOn b from = record { to = from; frames = []; scanned = (omega arith, λ q h k. absurd (omega arith)); within = h; stops = λ l. absurd (omega arith) } in r)
     (cases_lt from (length b))
 
 passed_join : (b : List ℕ) (from mid to : ℕ) → AllPassed false b from mid → AllPassed false b mid to → AllPassed false b from to

@@ -25,11 +25,6 @@ none_ahead e b from to q (f ∷ fs) s l = grind (arith, (none_ahead e b (frame_e
 none_from : (q p k : ℕ) (s : List ℕ) → q < p → list_any (is_within q) (frames_from p k s) ≡ false
 none_from q p k s h = (frames_later (is_within q) p k s (λ f l. and_left _ _ (lt-leb f.offset q (omega (arith, h, l))))).0
 
--- both counts over one frame
-over_frame : {inside from offset to : ℕ} (before after bytes size : ℕ) → inside ≡ before + (offset - from) → after + bytes ≡ inside + (to - (offset + size))
-    → from ≤ offset → offset + size ≤ to → after + (size + bytes) ≡ before + (to - from)
-over_frame before after bytes size a c e f = omega arith
-
 -- between two places, those in none of the frames there
 count_left : (e : Bool) (b : List ℕ) (from to : ℕ) (fs : List Framed) (t : ℕ → Bool) → Scanned e b from to fs → ((q : ℕ) → from ≤ q → q < to → t q ≡ not (list_any (is_within q) fs))
     → count_by t (places to) + sum_by (λ f. length f.message + 6) fs ≡ count_by t (places from) + (to - from)
@@ -54,7 +49,7 @@ count_left e b from to (f ∷ fs) t s h =
     let n : (leb f.offset q && ltb q (frame_end f)) ≡ false = and_right (leb f.offset q) _ (le-ltb q (frame_end f) j) in
     h q (omega arith) k ∙ rw n refl) in
     ap (λ n. count_by t (places to) + n) (sum_by-cons (λ f. length f.message + 6) f fs)
-    ∙ over_frame (count_by t (places from)) (count_by t (places to)) (sum_by (λ f. length f.message + 6) fs) (length f.message + 6) (c ∙ a') r i l
+    ∙ omega arith
 
 pub given_up_is : (e : Bool) (b : List ℕ) (p : ℕ) (fs : List Framed) → p ≤ length b → Scanned e b 0 p fs → skipped_before p (frames_of b) + sum_by (λ f. length f.message + 6) fs ≡ p
 unfolding places

@@ -1,7 +1,6 @@
 -- The counts of a framer, step by step.
-use Rattle.rtcm_scan.proofs.Names.{common_steps, ℕ, ◌≡◌, ◌+◌, ◌-◌, ◌*◌, ◌<◌, ◌≤◌, min, max, Bool, true, false, not, List, [], ◌∷◌, ◌++◌, length, map, drop, set, get_or, refl, sym, ap, ◌∙◌, arith, suc, zero, subst, length-set, length-append, length-drop, filter, list_any, get_or-set_same, map-append, filter-append, WindowValue, looked, looked_through, without_front, begins_frame, message_length, frame_length, framed_message, Framed, IsFrameOf, frame_end, places, is_inside, cost, FramerValue, HasFramed, first_held, IsPassed, Scanned, window_of, with_byte, with_window, with_looks, asked, with_candidate_examined, Span, span, covers, looks_at, all_looks, tried_before, spans_at, CountsLooks, HasExamined, longest_frame, most_looks, most_bytes}
+use Rattle.rtcm_scan.proofs.Names.{common_steps, ℕ, ◌≡◌, ◌+◌, ◌-◌, ◌*◌, ◌<◌, ◌≤◌, min, max, Bool, true, false, not, List, [], ◌∷◌, ◌++◌, length, map, drop, set, get_or, refl, sym, ap, ◌∙◌, arith, suc, zero, subst, length-set, length-append, length-drop, filter, list_any, get_or-set_same, map-append, filter-append, WindowValue, looked, looked_through, without_front, begins_frame, message_length, frame_length, framed_message, Framed, IsFrameOf, frame_end, places, is_inside, cost, FramerValue, HasFramed, first_held, IsPassed, Scanned, window_of, with_byte, with_window, with_looks, asked, with_candidate_examined, Span, span, covers, looks_at, all_looks, tried_before, spans_at, CountsLooks, HasExamined, longest_frame, most_looks, most_bytes, all_append, looked_bytes, looked_length}
 use Rattle.std.specs.List.{AllByRecursion as ByRecursion}
-use Rattle.rtcm_bits.proofs.WindowLaws.{looked_bytes, looked_length}
 use Rattle.rtcm_scan.proofs.LooksLemmas.{one_if, looks_push, all_push, counts_look, counts_push, none_cover, greatest_same}
 use Rattle.rtcm_scan.proofs.TriedLemmas.{sum_empty, counts_skip, counts_frame, looks_frame, all_frame, empty_covers}
 use Rattle.rtcm_scan.proofs.CostLemmas.{spans_longer}
@@ -12,9 +11,6 @@ use Rattle.rtcm_scan.proofs.ScanLemmas.{scanned_le, scanned_frame}
 use Rattle.rtcm_scan.proofs.HistoryLemmas.{history_push, history_give_up, history_take}
 use Rattle.rtcm_scan.proofs.FrameLemmas.{begins_parts, length-message}
 
-looks_more : (xs : List Span) (q k n i : ℕ) → k ≤ n → looks_at (xs ++ span q k ∷ []) i ≤ looks_at (xs ++ span q n ∷ []) i
-looks_more xs q k n i h = grind (arith, common_steps, looks_push)
-
 -- the counts fit their types
 record Fit (xs : List Span) : Type 0 where
   pub looks : (i : ℕ) → looks_at xs i ≤ 65535
@@ -22,7 +18,7 @@ record Fit (xs : List Span) : Type 0 where
 
 fit_less : (xs : List Span) (q k n : ℕ) → k ≤ n → Fit (xs ++ span q n ∷ []) → Fit (xs ++ span q k ∷ [])
 fit_less xs q k n h f = record {
-  looks = λ i. (let a : looks_at (xs ++ span q k ∷ []) i ≤ looks_at (xs ++ span q n ∷ []) i = looks_more xs q k n i h in no_more a (f.looks i));
+  looks = λ i. (let a : looks_at (xs ++ span q k ∷ []) i ≤ looks_at (xs ++ span q n ∷ []) i = grind (arith, common_steps, looks_push) in no_more a (f.looks i));
   all = grind (arith, all_push);
 }
   where
@@ -122,14 +118,7 @@ step_give_up v b fs h a p x =
     let e : first_held v + 1 ≡ v.taken - length (drop 1 v.held) = omega (arith, l, h, s.fits) in
     let d : CountsLooks (spans_at b fs (first_held v + 1) 0) (first_held v + 1) (length b) (drop 1 v.looks) v.examined v.most =
     counts_skip v.has_ended b fs (first_held v) s.scanned (omega (arith, h, x.each)) (counts_whole v b fs h a x) in
-    record {
-      history = record { taken = n.taken; held = n.held; fits = n.fits; scanned = n.scanned; first = n.first; skipped = n.skipped };
-      limit = x.limit;
-      within = x.within;
-      each = length-drop 1 v.looks ∙ ap (λ q. q - 1) x.each ∙ sym l;
-      tried = omega arith;
-      counts = subst (λ (q : ℕ). CountsLooks (spans_at b fs q 0) q (length b) (drop 1 v.looks) v.examined v.most) e d;
-    }
+    grind (arith, common_steps, length-drop)
 
 -- spans with equal looks
 pub counts_same : {p n : ℕ} {looks : List ℕ} {all most : ℕ} (xs ys : List Span) → ((i : ℕ) → looks_at xs i ≡ looks_at ys i) → all_looks xs ≡ all_looks ys → CountsLooks xs p n looks all most → CountsLooks ys p n looks all most
@@ -188,15 +177,11 @@ step_take v b fs h a x =
           (subst (λ (y : List ℕ). CountsLooks (spans_at b (fs ++ g ∷ []) (frame_end g) 0) (frame_end g) (length b) y u.examined u.most) (ap (λ y. drop (y + 6) u.looks) q) m);
     }
 
-rec_both : (P : Span → Type 0) (xs ys : List Span) → ByRecursion P xs → ByRecursion P ys → ByRecursion P (xs ++ ys)
-rec_both P [] ys a c = c
-rec_both P (x ∷ xs) ys a c = (a.0, rec_both P xs ys a.1 c)
-
 -- a byte follows
 spans_end : (b : List ℕ) (t : ℕ → Bool) (n : ℕ) → n ≤ length b → ByRecursion (λ (s : Span). s.start + s.size ≤ length b) (map (λ q. span q (cost b q)) (filter t (places n)))
 unfolding places
 spans_end b t zero l = tt
-spans_end b t (suc n) l = grind (arith, length-drop, filter-append, map-append, rec_both, (spans_end b t n (omega arith)))
+spans_end b t (suc n) l = grind (arith, length-drop, filter-append, map-append, all_append, (spans_end b t n (omega arith)))
 
 messages_end : (e : Bool) (b : List ℕ) (from to : ℕ) (fs : List Framed) → Scanned e b from to fs → to ≤ length b → ByRecursion (λ (s : Span). s.start + s.size ≤ length b) (map (λ (f : Framed). span (f.offset + 3) (length f.message)) fs)
 messages_end e b from to [] s h = tt
@@ -219,7 +204,7 @@ step_push v b fs x n lt h =
     let ll : length (v.looks ++ 0 ∷ []) ≡ length v.looks + 1 = length-append v.looks (0 ∷ []) in
     let e : first_held v ≡ v.taken + 1 - length (v.held ++ x ∷ []) = omega arith in
     let z : looks_at (spans_at b fs (first_held v) v.tried) (length b) ≡ 0 = none_cover (spans_at b fs (first_held v) v.tried) (length b)
-    (rec_both _ _ _ (rec_both _ _ _ (spans_end b (λ q. not (list_any (is_inside q) fs)) (first_held v) (omega arith)) (messages_end false b 0 (first_held v) fs sc (omega arith))) (omega arith, tt)) in
+    (all_append _ _ _ (all_append _ _ _ (spans_end b (λ q. not (list_any (is_inside q) fs)) (first_held v) (omega arith)) (messages_end false b 0 (first_held v) fs sc (omega arith))) (omega arith, tt)) in
     let c : CountsLooks (spans_at b fs (first_held v) v.tried) (first_held v) (length b + 1) (v.looks ++ 0 ∷ []) v.examined v.most =
     counts_push (spans_at b fs (first_held v) v.tried) (omega arith) z h.counts in
     let w : spans_at (b ++ x ∷ []) fs (first_held v) v.tried ≡ spans_at b fs (first_held v) v.tried = spans_longer b (x ∷ []) (first_held v) v.tried fs (omega arith) sc in

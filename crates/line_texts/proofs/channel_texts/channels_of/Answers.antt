@@ -1,9 +1,7 @@
 use Rattle.gnss_obs.proofs.PlanLaws.{first_none, first_some}
 use Rattle.line_texts.proofs.ChannelLaws.{entry_last, entry_refused, entry_taken}
-use Rattle.line_texts.proofs.Names.{◌∙◌, rules, sym}
+use Rattle.line_texts.proofs.Names.{◌∙◌, rules, sym, arith, common_steps}
 use Rattle.line_texts.proofs.channel_texts.channels_of.Goals as goal
-use Rattle.std.proofs.Common.{arith}
-use Rattle.std.proofs.lemmas.Grind.{common_steps}
 
 pub loop-entry-preserved : goal.loop-entry-preserved
 loop-entry-preserved c =

@@ -1,7 +1,6 @@
 use denote.Shadow.{shadow}
 use denote.Text.{Utf8}
-use Rattle.line_texts.specs.ChannelTexts.{channels_after}
-use Rattle.line_texts.proofs.Names.{no_channels, ◌≡◌, between_commas, length}
+use Rattle.line_texts.proofs.Names.{no_channels, ◌≡◌, between_commas, length, channels_after}
 use Rattle.line_texts.proofs.channel_texts.channels_of.Given as goal
 
 -- The rest of the text gives what the whole text does.

@@ -1,10 +1,7 @@
-use Rattle.std.proofs.lemmas.List.{take_all}
-use Rattle.line_texts.specs.ChannelTexts.{channels_text}
 use Rattle.line_texts.proofs.ChannelLaws.{number_here, slot_none, slot_short, slot_some}
 use Rattle.line_texts.proofs.channel_texts.channels_text.Goals.{in-Some, in_default}
-use Rattle.line_texts.proofs.Names.{◌∙◌, ap, arith}
+use Rattle.line_texts.proofs.Names.{◌∙◌, ap, arith, take_all, channels_text, common_steps}
 use Rattle.line_texts.proofs.channel_texts.channels_text.Goals as goal
-use Rattle.std.proofs.lemmas.Grind.{common_steps}
 
 pub loop-i-preserved : goal.loop-i-preserved
 loop-i-preserved c = grind (arith, common_steps, in-Some, number_here, slot_short, slot_some, in_default, slot_none)

@@ -1,5 +1,4 @@
-use Rattle.line_texts.specs.ChannelTexts.{channels_text}
-use Rattle.line_texts.proofs.Names.{◌≡◌, ◌*◌, ◌≤◌, length, take}
+use Rattle.line_texts.proofs.Names.{◌≡◌, ◌*◌, ◌≤◌, length, take, channels_text}
 use Rattle.line_texts.proofs.channel_texts.channels_text.Given as goal
 
 abbrev pub invariant-loop-i : goal.invariant-loop-i

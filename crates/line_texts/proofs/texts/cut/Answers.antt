@@ -1,5 +1,4 @@
-use Rattle.std.proofs.Common.{◌≡◌, ◌<◌, ◌==◌, arith, refl, ℕ, List, Option, Some, None, Bor, length}
-use Rattle.line_texts.proofs.Names.{le-ltb, lt-ltb, MatchOption, position_or_len, before_first, after_first, cut}
+use Rattle.line_texts.proofs.Names.{le-ltb, lt-ltb, MatchOption, position_or_len, before_first, after_first, cut, ◌≡◌, ◌<◌, ◌==◌, arith, refl, ℕ, List, Option, Some, None, Bor, length}
 use Rattle.line_texts.proofs.texts.cut.Goals as goal
 
 cut_is : (c : ℕ) (bs : List ℕ) (r : Option (Bor (List ℕ) × Bor (List ℕ)))

@@ -1,5 +1,4 @@
-use Rattle.rtcm_scan.proofs.Names.{◌≡◌, ◌+◌, ◌-◌, ◌<◌, ◌≤◌, ℕ, min, length, ap, ◌∙◌, arith, looked_through, without_front}
-use Rattle.rtcm_bits.proofs.WindowLaws.{looked_left}
+use Rattle.rtcm_scan.proofs.Names.{◌≡◌, ◌+◌, ◌-◌, ◌<◌, ◌≤◌, ℕ, min, length, ap, ◌∙◌, arith, looked_through, without_front, looked_left}
 use Rattle.rtcm_scan.proofs.PassOverLemmas.{taken_preamble}
 use Rattle.rtcm_scan.proofs.front.pass_others.Goals as goal
 

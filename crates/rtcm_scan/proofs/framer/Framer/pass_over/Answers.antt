@@ -1,5 +1,4 @@
-use Rattle.rtcm_scan.proofs.Names.{◌≡◌, ◌+◌, ◌-◌, ◌≤◌, ◌<◌, ap, ◌∙◌, length, drop, refl, arith, length-drop, FramerValue, passed, longest_frame}
-use Rattle.rtcm_bits.proofs.WindowLaws.{looked_left}
+use Rattle.rtcm_scan.proofs.Names.{◌≡◌, ◌+◌, ◌-◌, ◌≤◌, ◌<◌, ap, ◌∙◌, length, drop, refl, arith, length-drop, FramerValue, passed, longest_frame, looked_left}
 use Rattle.rtcm_scan.proofs.PassOverLemmas.{to_counts, passed_on}
 use Rattle.rtcm_scan.proofs.framer.Framer.pass_over.Goals as goal
 
