@@ -2,7 +2,6 @@
 use Rattle.rtcm_msg.specs.declared.view.Form.TheVariants as forms
 use Rattle.rtcm_inspect.proofs.Names.{map, get_or-replicate, Glonass, satellites, band_of, code_of, channel_hertz, hertz_in, CellValues, LosesUnknownCarriers, values_by, ◌≡◌, ◌-◌, ◌<◌, ap, ap₂, cons_option, every_channel, filter_map, if◌then◌else◌, is_some, lock_by, observed, option_and_then, option_map, seen_in, signal_of_id, ChannelsValue, Entry, Satellite, SignalAt, System, entries, Msm4, Msm5, Msm6, Msm7, Bool, true, false, ◌&&◌, nat_le, nat_tests, ℕ, List, [], ◌∷◌, Option, Some, None, refl, arith, HeardCell, slot_count, Form}
 use Rattle.gnss_obs.specs.LockTimes.{LockTime}
-use Rattle.gnss_obs.specs.Observables.{nearest_pseudorange, nearest_strength}
 use Rattle.rtcm_inspect.specs.SignalLaws.{values_of}
 
 -- ---- with a channel for each slot each carrier is known
@@ -17,17 +16,6 @@ known_always Glonass id g h =
 known_always other id g h = refl
 
 -- ---- a value at a carrier
-
--- the values of an entry, with or without a phase and a shift
-abbrev values_with : Entry → Satellite → SignalAt → (phase shift : Bool) → CellValues
-values_with e u g phase shift = record {
-  satellite = u;
-  signal = g;
-  has_pseudorange = is_some (option_map nearest_pseudorange e.range);
-  has_phase = phase;
-  has_shift = shift;
-  has_strength = is_some (option_map nearest_strength e.strength);
-}
 
 cell_values : (channels : ChannelsValue) (lock : LockTime) (e : Entry) (u : Satellite) (g : SignalAt) → is_some (hertz_in every_channel u g) ≡ true
     → values_of (observed channels lock e u g) ≡ values_by channels (observed every_channel lock e u g)

@@ -71,10 +71,6 @@ greatest_more tows tow = fold-append with_tow None tows (tow ∷ [])
 pub at_more : (n : ℕ) (tows : List ℕ) (tow t : ℕ) (o : Option ℕ) → greatest_of (tows ++ tow ∷ []) ≡ Some t → t < weeks * week → IsGreatestAt n tows o → IsGreatestAt n (tows ++ tow ∷ []) (option_or o (Some t))
 at_more n tows tow t o is small h = grind (arith, common_steps, length-append {A = Framed}, take-append-le)
 
--- at the end of the stream
-pub at_end : (n : ℕ) (tows : List ℕ) (o : Option ℕ) → IsGreatestAt n tows o → option_or o (greatest_of tows) ≡ greatest_of (take (n + 1) tows)
-at_end n tows o h = grind (arith, common_steps)
-
 -- without a first MSM
 pub at_none : (set : MsmSet) (wanted : Option ℕ) (fs : List Framed) → first_tow 0 set wanted fs ≡ None → greatest_of (take (counted_before set wanted fs + 1) (counted_tows wanted fs)) ≡ greatest_in wanted fs
 at_none set wanted fs none = grind (arith, common_steps, before_all)

@@ -1,5 +1,5 @@
 -- Signal counts as a consumer of frames.
-use Rattle.rtcm_inspect.proofs.Names.{Printed, greatest_in, AreSaidIn, common_steps, ◌≡◌, ◌∙◌, inr, ◌+◌, ◌*◌, ◌<◌, ◌≤◌, ◌^◌, sym, subst, arith, Bool, true, ℕ, List, [], ◌∷◌, ◌++◌, Option, Result, Ok, Err, length, length-append, refl, Framed, frames_of, known_frames, Device, Devices, HasFailed, StreamFault, ⊤, InspectFault, ReaderFailures, culprit, stream_fault, AtFault, Passes, BreaksReading, PassesAll, PassesToLimit, Reads, FramerValue, most_bytes, AreSignalCounts, CountsMessage, SignalCountsValue, inspected, message_at, MsgFault, Message, AreFirst, EndsStream, ReadsTooMuch, Counts, StopsCounting, HasCounted, IsCounted, AreSignals, NeverFails, StreamSignals, StreamCounts, AreFrameCounts, is_msm, msm_in, stream_counts, cond, filter-append, length-filter, count_by-le-length, piece_bytes, forms_had, channels_in}
+use Rattle.rtcm_inspect.proofs.Names.{Printed, greatest_in, AreSaidIn, common_steps, ◌≡◌, ◌∙◌, inr, ◌+◌, ◌*◌, ◌<◌, ◌≤◌, ◌^◌, sym, subst, arith, Bool, true, ℕ, List, [], ◌∷◌, ◌++◌, Option, Result, Ok, Err, length, length-append, refl, Framed, frames_of, known_frames, Device, Devices, StreamFault, ⊤, InspectFault, stream_fault, AtFault, Passes, BreaksReading, PassesAll, PassesToLimit, Reads, FramerValue, most_bytes, AreSignalCounts, CountsMessage, SignalCountsValue, inspected, message_at, MsgFault, Message, AreFirst, EndsStream, ReadsTooMuch, Counts, StopsCounting, HasCounted, IsCounted, AreSignals, NeverFails, StreamSignals, StreamCounts, AreFrameCounts, is_msm, msm_in, stream_counts, cond, filter-append, length-filter, count_by-le-length, piece_bytes, forms_had, channels_in}
 use Rattle.rtcm_inspect.proofs.StreamLemmas.{Began}
 use Rattle.rtcm_inspect.specs.declared.fault.InspectFault.TheVariants as faults
 use Rattle.rtcm_scan.specs.declared.feed.StreamFault.TheVariants as stream
@@ -78,9 +78,6 @@ pub counting_stopped : {R F : Type 0} {v : FramerValue} {c : StreamSignals} (lef
 counting_stopped left v2 c2 rd rd2 stream.Read began passed = tt
 counting_stopped left v2 c2 rd rd2 stream.TooLong began passed = counted_too_much v2 (left rd.inner) (left rd2.inner) began passed
 counting_stopped left v2 c2 rd rd2 (stream.Sink fault) began broke = absurd (counter_fails v2 (left rd.inner) (left rd2.inner) began broke)
-
-pub counted_reads : {F : Type 0} (fault : StreamFault F) (before after : ℕ) → AtFault fault (HasFailed before after) (after ≡ before) (after ≡ before) → ReaderFailures (culprit (stream_fault fault)) before after
-counted_reads fault before after h = grind arith
 
 -- the text of a stream was printed, or a part of it
 pub stream_printed : {R W : Type 0} {text : List ℕ} (IsText : List Framed → List ℕ → Type 0) (IsRefused : List ℕ → InspectFault → Type 0) (d d2 : Devices R W) (ended : Result ⊤ InspectFault) {s : StreamSignals} {wanted : Option ℕ}

@@ -23,4 +23,3 @@ pub mod CarrierLemmas
 pub mod LeapLemmas
 pub mod RangeLemmas
 pub mod FirstChannelLemmas
-mod EquipmentLemmas

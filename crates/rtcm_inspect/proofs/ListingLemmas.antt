@@ -1,6 +1,6 @@
 -- A listing as a consumer of frames.
 use Rattle.rtcm_inspect.proofs.StreamLemmas.{Began}
-use Rattle.rtcm_inspect.proofs.Names.{Err, Ok, OnErr, Result, DeviceFailed, WritesLine, ◌≡◌, ◌∙◌, ◌-◌, ◌<◌, ap, sym, subst, refl, arith, Bool, true, false, ℕ, List, [], ◌∷◌, ◌++◌, Option, append_assoc, append-nil, length, take, Appends, Keeps, flat_map-append, Appends-nil, Appends-trans, Appends-kept, AppendsPrefix, Device, HasFailed, IsPrefix, Framed, decided_frames, known_frames, ⊤, StreamFault, Devices, EndsListing, devices_of, stream_fault, AtFault, BreaksReading, Passes, PassesAll, PassesToLimit, Reads, FramerValue, Listing, Lists, ListsAll, ListsDecided, ListsPart, ListsToLimit, ListsUpTo, listing_line, listing_lines, piece_bytes, prefix_self, prefix_trans}
+use Rattle.rtcm_inspect.proofs.Names.{Err, Ok, OnErr, Result, DeviceFailed, WritesLine, ◌≡◌, ◌∙◌, ◌-◌, ◌<◌, ap, sym, subst, refl, arith, Bool, true, false, ℕ, List, [], ◌∷◌, ◌++◌, Option, append_assoc, append-nil, length, take, Appends, flat_map-append, Appends-nil, Appends-trans, AppendsPrefix, Device, HasFailed, IsPrefix, Framed, decided_frames, known_frames, ⊤, StreamFault, Devices, EndsListing, devices_of, stream_fault, AtFault, BreaksReading, Passes, PassesAll, PassesToLimit, Reads, FramerValue, Listing, Lists, ListsAll, ListsDecided, ListsPart, ListsToLimit, ListsUpTo, listing_line, listing_lines, piece_bytes, prefix_trans}
 use Rattle.rtcm_scan.specs.declared.feed.StreamFault.TheVariants as stream
 
 -- the lines of one more frame
@@ -28,19 +28,6 @@ module _ {W : Type 0} {held : W → Option (List ℕ)} {k0 k : Listing} {o0 o o2
         };
         failed = subst (λ (n : ℕ). HasFailed n o2.failures) s.fine failed;
       }
-
-  -- the writer couldn't be flushed
-  pub unsent_listed : Keeps (held o.inner) (held o2.inner) → HasFailed o.failures o2.failures → Lists held k0 o0 ps k o fs
-      → ListsUpTo held k0 o0 ps k o2 fs fs
-  unsent_listed kept failed s = record {
-    out = λ w a. record {
-      out = listing_lines k0 fs;
-      went = Appends-kept w (held o.inner) (held o2.inner) (listing_lines k0 fs) (s.out w a) kept;
-      least = prefix_self (listing_lines k0 fs);
-      most = prefix_self (listing_lines k0 fs);
-    };
-    failed = subst (λ (n : ℕ). HasFailed n o2.failures) s.fine failed;
-  }
 
 -- a text, given in other terms, was written or not
 pub written_as : {W : Type 0} {text same : List ℕ} (held : W → Option (List ℕ)) (o o2 : Device W) (r : Result ⊤ DeviceFailed) → text ≡ same → WritesLine r held o o2 text

@@ -1,7 +1,7 @@
 -- The names that proofs cite, passed on from one place. Declares nothing.
 pub use Rattle.devices.proofs.PrintingLaws.{Printed, printed_later}
 pub use Rattle.devices.specs.Device.{AppendsPrefix, Device, HasFailed}
-pub use Rattle.devices.specs.Devices.{Devices, ReaderFailures, devices_of, writer_of}
+pub use Rattle.devices.specs.Devices.{Devices, devices_of, writer_of}
 pub use Rattle.devices.specs.declared.counted.DeviceFailed.{DeviceFailed}
 pub use Rattle.gnss_obs.specs.Channels.{AreChannels, ChannelsValue, channel_hertz, hertz_in, most_number, no_channels, number_at, slot_count}
 pub use Rattle.gnss_obs.specs.HeardCells.{HeardCell, IsKey}
@@ -11,11 +11,11 @@ pub use Rattle.gnss_obs.specs.Weeks.{week, weeks}
 pub use Rattle.gnss_obs.specs.declared.civil.Civil.{Civil}
 pub use Rattle.gnss_obs.specs.declared.fault.PlanFault.{PlanFault}
 pub use Rattle.gnss_obs.specs.declared.fault.PlanFault.TheVariants.{RepeatedCode}
-pub use Rattle.gnss_system.proofs.SystemLaws.{any_system, each_after, each_system, index_less, is_tabulated, none_any, not_all, some_system, system_same, systems_split, systems_taken, tabulated_same, value_after, value_of_other, value_tabulated}
-pub use Rattle.gnss_system.specs.Satellites.{Satellite, letter, name_of, satellites}
+pub use Rattle.gnss_system.proofs.SystemLaws.{any_system, each_after, index_less, is_tabulated, none_any, not_all, some_system, system_same, systems_split, systems_taken, tabulated_same, value_after, value_of_other, value_tabulated}
+pub use Rattle.gnss_system.specs.Satellites.{Satellite, name_of, satellites}
 pub use Rattle.gnss_system.specs.Signals.{IsSignal, SignalAt, band_of, code_of, signal_of_code, signal_of_id, table}
 pub use Rattle.gnss_system.specs.SystemValues.{tabulate, value_of, with_value_of}
-pub use Rattle.gnss_system.specs.Systems.{before, index_of, is_system, systems}
+pub use Rattle.gnss_system.specs.Systems.{index_of, is_system, systems}
 pub use Rattle.gnss_system.specs.declared.by_system.BySystem.{BySystem}
 pub use Rattle.gnss_system.specs.declared.system.System.{System}
 pub use Rattle.gnss_system.specs.declared.system.System.TheVariants.{Galileo, Glonass, Gps}
@@ -35,14 +35,13 @@ pub use Rattle.obs_epoch.specs.Starts.{first_week, is_no_week}
 pub use Rattle.obs_epoch.specs.Times.{Timed, ahead, greatest_time, is_closed, is_past, max_known, taken_at, timed_after}
 pub use Rattle.obs_epoch.specs.declared.setup.GatherSetup.{GatherSetup}
 pub use Rattle.obs_epoch.specs.inner.SignalCounts.{AreSignalCounts, CountsMessage, SignalCountsValue, counted, has_any, signal_counts}
-pub use Rattle.rtcm_bits.proofs.SmallLaws.{of_ok, passed, prefix_self, prefix_trans}
+pub use Rattle.rtcm_bits.proofs.SmallLaws.{of_ok, passed, prefix_trans}
 unfoldable pub use Rattle.rtcm_bits.specs.Bits.{bits_of}
 pub use Rattle.rtcm_bits.specs.Bits.{FitsInt, bit, filled, missing, number, uint}
-pub use Rattle.rtcm_bits.specs.Cursors.{Cursor}
 pub use Rattle.rtcm_bits.specs.FrameOf.{frame_bytes, longest_message, longest_message_bits}
 pub use Rattle.rtcm_bits.specs.Prefix.{IsPrefix}
 pub use Rattle.rtcm_inspect.specs.CountedTimes.{counted_before, counted_set, counted_tows, greatest_at_first, greatest_in, greatest_of, tow_in as counted_in, tow_in, with_tow}
-pub use Rattle.rtcm_inspect.specs.Devices.{culprit, stream_fault}
+pub use Rattle.rtcm_inspect.specs.Devices.{stream_fault}
 unfoldable pub use Rattle.rtcm_inspect.specs.EquipmentLines.{equipment_line, quoted}
 pub use Rattle.rtcm_inspect.specs.EquipmentLines.{equipment_fault_words, escaped}
 pub use Rattle.rtcm_inspect.specs.FirstMessages.{AreFirst, mixed_of, point_of, sender, stations_of}
@@ -57,7 +56,7 @@ pub use Rattle.rtcm_inspect.specs.OptionOutput.{AreOptionsOf, AreOptionsRefused,
 pub use Rattle.rtcm_inspect.specs.ReadBack.{AreEncoded, AreKnown, AreReadAs, ReadsBack}
 pub use Rattle.rtcm_inspect.specs.SentWeeks.{IsNearestRest, IsOtherTime, first_msm, is_denied, is_in, rest_by, rests_in, said_after, said_at, time_in, whole_by, whole_in, within_weeks}
 unfoldable pub use Rattle.rtcm_inspect.specs.ShowLines.{fault_line, message_line, msm_line, station_line}
-pub use Rattle.rtcm_inspect.specs.ShowLines.{fault_words, height_words, line_with, read_for, read_line, show_line}
+pub use Rattle.rtcm_inspect.specs.ShowLines.{height_words, line_with, read_for, read_line, show_line}
 pub use Rattle.rtcm_inspect.specs.SignalLaws.{CellValues, LosesUnknownCarriers, ReadsAll, SkipsOnly, values_by}
 unfoldable pub use Rattle.rtcm_inspect.specs.Signals.{count_line}
 pub use Rattle.rtcm_inspect.specs.Signals.{AreSignalsOf, AreSignalsRefused, code_list, codes_word, count_lines, decodes, forms_had, had, had_below, has_counted, has_other_value, lines_below, needs_all, plan_had, plan_in, set_had, valued_in, valued_of, with_forms}
@@ -79,9 +78,9 @@ pub use Rattle.rtcm_inspect.specs.declared.first_two.FirstTwo.TheVariants.{One, 
 pub use Rattle.rtcm_inspect.specs.declared.listing.Listing.{Listing}
 pub use Rattle.rtcm_inspect.specs.declared.printed_week.FirstMsm.{FirstMsm}
 pub use Rattle.rtcm_inspect.specs.inner.Counting.{AreFrameCounts, AreSignals, Counts, HasCounted, IsCounted, NeverFails, StopsCounting}
-pub use Rattle.rtcm_inspect.specs.inner.FirstTows.{AreSettled, AreTows, CountsTow, IsGreatestAt, IsMsmOf, IsWith, PlacesTow, SettlesTows, earlier, earliest, entry, greatest_among, later_by, placed_by, settled, settled_tows}
-pub use Rattle.rtcm_inspect.specs.inner.Lines.{longest_head, longest_plan, longest_quoted, longest_signals}
-pub use Rattle.rtcm_inspect.specs.inner.SaidWeeks.{AreSaid, AreSaidIn, first_of}
+pub use Rattle.rtcm_inspect.specs.inner.FirstTows.{AreSettled, AreTows, CountsTow, IsGreatestAt, IsMsmOf, IsWith, PlacesTow, earlier, earliest, entry, greatest_among, later_by, placed_by, settled, settled_tows}
+pub use Rattle.rtcm_inspect.specs.inner.Lines.{longest_head, longest_plan, longest_quoted}
+pub use Rattle.rtcm_inspect.specs.inner.SaidWeeks.{AreSaid, AreSaidIn}
 pub use Rattle.rtcm_msg.proofs.MessageLaws.{message_there, message_value, one_value, zero_read}
 pub use Rattle.rtcm_msg.proofs.SetLaws.{inside, outside, refused, value_with, whole_is}
 pub use Rattle.rtcm_msg.specs.Channels.{channel_of_1020, sent_channels}
@@ -116,20 +115,20 @@ pub use Rattle.rtcm_scan.specs.Scan.{FramerValue, most_bytes}
 pub use Rattle.rtcm_scan.specs.declared.feed.StreamFault.{StreamFault}
 pub use Rattle.rtcm_scan.specs.inner.Passing.{AtFault, BreaksReading, Coming, HasPassedAll, Passes, PassesAll, PassesToLimit, Reads}
 pub use Rattle.rtcm_scan.specs.inner.Results.{framed, new_scan}
-pub use Rattle.std.proofs.Common.{All, Bool, Err, IfSome, List, None, Ok, OnErr, Option, Result, Some, [], ap, append-nil, append_assoc, ap₂, arith, count_ones, decimal, drop, false, filter, get_or, inl, inr, is_some, length, length-append, length-drop, length-take, map, nat_eq, not, of_z, pos, refl, replicate, rules, set, subst, suc, sym, take, take-append-drop, to_z, true, w64, zero, ℕ, ℤ, ◌&&◌, ◌*◌, ◌++◌, ◌+◌, ◌-◌, ◌/◌, ◌<◌, ◌==◌, ◌^◌, ◌||◌, ◌∙◌, ◌∷◌, ◌≡◌, ◌≤◌}
-pub use Rattle.std.proofs.KnownBytes.{Appends-kept, Appends-nil, Appends-trans}
-pub use Rattle.std.proofs.lemmas.Bool.{false_from_ne_true, le-leb, le-ltb, leb-true, lt-leb, lt-ltb, ltb-false, ltb-true, or_right, true≢false}
+pub use Rattle.std.proofs.Common.{All, Bool, Err, IfSome, List, None, Ok, OnErr, Option, Result, Some, [], ap, append-nil, append_assoc, ap₂, arith, count_ones, decimal, drop, false, filter, get_or, inl, inr, is_some, length, length-append, length-drop, length-take, map, nat_eq, not, of_z, pos, refl, replicate, rules, subst, suc, sym, take, take-append-drop, to_z, true, w64, zero, ℕ, ℤ, ◌&&◌, ◌*◌, ◌++◌, ◌+◌, ◌-◌, ◌/◌, ◌<◌, ◌==◌, ◌^◌, ◌||◌, ◌∙◌, ◌∷◌, ◌≡◌, ◌≤◌}
+pub use Rattle.std.proofs.KnownBytes.{Appends-nil, Appends-trans}
+pub use Rattle.std.proofs.lemmas.Bool.{false_from_ne_true, le-leb, le-ltb, lt-leb, lt-ltb, ltb-false, ltb-true, true≢false}
 pub use Rattle.std.proofs.lemmas.Bool.Decides.{nat_tests}
 pub use Rattle.std.proofs.lemmas.Grind.{common_steps, flat_map-append}
-pub use Rattle.std.proofs.lemmas.List.{flat_map_more, get_or-replicate, get_or-set_other, get_or-set_same, get_or_past, length-replicate, length-set, length-take-le, map-append, map_more, take-append-le, take_all, take_more}
+pub use Rattle.std.proofs.lemmas.List.{get_or-replicate, get_or_past, length-replicate, length-set, length-take-le, take-append-le, take_all}
 pub use Rattle.std.proofs.lemmas.List.Elements.{All-append, All-cons, All-filter, All-head, All-nil, All-replicate, All-set, All-tail, filter-append, filter_map-append}
 pub use Rattle.std.proofs.lemmas.List.Folds.{Any-from_list_any, find-append, list_any-append, list_any_at}
 pub use Rattle.std.proofs.lemmas.List.Sums.{AllPass-from_list_all, count_by-le-length, fold-append, length-filter, sum_by-append, sum_by-cons}
 pub use Rattle.std.proofs.lemmas.Option.{slice_get-get_or}
 pub use Rattle.std.specs.Borrow.{Bor}
-pub use Rattle.std.specs.Io.KnownBytes.{Appends, Keeps}
+pub use Rattle.std.specs.Io.KnownBytes.{Appends}
 pub use Rattle.std.specs.List.{before_first, cons_option, count_by, flat_map, list_all, list_any, position_or_len, sum_by}
 pub use Rattle.std.specs.Option.{option_map, option_map_or, option_or}
-pub use Rattle.std.specs.Prelude.{IfErr, codes, cond, filter_map, fold, if◌then◌else◌, min, nat_le, nat_lt, option_and_then, option_to_list, position, unwrap_or, ⊤, ◌⊎◌}
+pub use Rattle.std.specs.Prelude.{codes, cond, filter_map, fold, if◌then◌else◌, min, nat_le, nat_lt, option_and_then, option_to_list, position, unwrap_or, ⊤, ◌⊎◌}
 pub use Rattle.std.specs.Str.{bytes_eq}
 pub use mathlib.Core.Bool.{and-or_distrib_right, or-false}

@@ -1,12 +1,9 @@
 -- The first time of week and the first station message of a stream are in range.
-use Rattle.rtcm_inspect.proofs.Names.{message_value, value_with, IsMessage, point_of, IsBelowWeek, ◌≡◌, ◌<◌, subst, refl, arith, ℕ, Bool, List, [], ◌∷◌, Option, None, IfSome, Result, Ok, Err, if◌then◌else◌, option_and_then, option_or, Framed, MsgFault, Message, MsmSet, InRange, every_channel, first_in, first_tow, heard, heard_of, inspected_at, message_at, tow_of, week}
+use Rattle.rtcm_inspect.proofs.Names.{message_value, value_with, IsMessage, point_of, IsBelowWeek, ◌≡◌, ◌<◌, subst, refl, arith, ℕ, List, [], ◌∷◌, Option, IfSome, Result, Ok, Err, option_and_then, option_or, Framed, MsgFault, Message, MsmSet, InRange, every_channel, first_in, first_tow, heard, heard_of, inspected_at, message_at, tow_of, week}
 use Rattle.rtcm_inspect.specs.LengthLaws.{IsFirstInRange}
 
 either : {A : Type 0} (P : A → Type 0) (a b : Option A) → IfSome a P → IfSome b P → IfSome (option_or a b) P
 either P a b h k = grind arith
-
-if_own : {A : Type 0} (P : A → Type 0) (own : Bool) (o : Option A) → IfSome o P → IfSome (if own then o else None) P
-if_own P own o h = grind arith
 
 -- ---- times of week
 

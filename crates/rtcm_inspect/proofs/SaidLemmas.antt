@@ -1,5 +1,5 @@
 -- What the ephemerides of a stream say of the week, after one more frame.
-use Rattle.rtcm_inspect.proofs.Names.{set, suc, zero, get_or-set_other, get_or-set_same, get_or_past, Any-from_list_any, list_any_at, SentWeek, greatest_in, rest_by, rests_in, said_after, said_at, whole_by, whole_in, AreSaid, AreSaidIn, first_of, common_steps, ◌≡◌, ◌∙◌, ◌<◌, ◌==◌, ◌&&◌, ◌||◌, ◌++◌, ℕ, Bool, true, false, List, [], ◌∷◌, Option, Some, None, ap, arith, below, first_two, get_or, length, list_any, list_any-append, option_and_then, option_to_list, refl, subst, sym, FirstTwo, Framed}
+use Rattle.rtcm_inspect.proofs.Names.{suc, zero, get_or_past, Any-from_list_any, list_any_at, SentWeek, greatest_in, rest_by, rests_in, said_after, said_at, whole_by, whole_in, AreSaid, AreSaidIn, common_steps, ◌≡◌, ◌∙◌, ◌<◌, ◌==◌, ◌&&◌, ◌||◌, ◌++◌, ℕ, Bool, true, false, List, [], ◌∷◌, Option, Some, None, ap, arith, below, get_or, length, list_any, list_any-append, option_and_then, option_to_list, refl, subst, sym, Framed}
 use Rattle.rtcm_msg.specs.Weeks.{sent_week}
 use Rattle.rtcm_inspect.specs.declared.said_weeks.SaidWeeks.{SaidWeeks}
 
@@ -38,23 +38,11 @@ both_said {x} {y} {wanted} {fs} f message t e is sent greatest whole rest more r
   rests = subst (AreSaid y.rests 1_024) (sym (said_now rest_by wanted fs f message is sent greatest (sym rest))) (rests h.rests);
 }
 
--- ---- one more week of a set
-
-set_more : (added : List Bool) (n size : ℕ) (ns : List ℕ) → length added ≡ size → n < size → ((k : ℕ) → get_or added k false ≡ list_any (λ m. m == k) ns)
-    → (k : ℕ) → get_or (set added n true) k false ≡ list_any (λ m. m == k) (ns ++ n ∷ [])
-set_more added n size ns is small h k = grind (arith, list_any-append, get_or-set_same, get_or-set_other)
-
 -- ---- the weeks of a set
 
 in_below : (q : ℕ → Bool) (n m : ℕ) → m < n → q m ≡ true → list_any q (below n) ≡ true
 in_below q zero m less is = absurd (omega (arith, less))
 in_below q (suc n) m less is = list_any-append q (below n) (n ∷ []) ∙ by (m == n) refl (λ apart. in_below q n m apart is) where
-  left : (a b : Bool) → a ≡ true → (a || b) ≡ true
-  left a b h1 = grind arith
-
-  right : (a b : Bool) → b ≡ true → (a || (b || false)) ≡ true
-  right a b h1 = grind arith
-
   by : (b : Bool) → (m == n) ≡ b → (m < n → list_any q (below n) ≡ true) → (list_any q (below n) || (q n || false)) ≡ true
   by b h1 h2 = grind arith
 
@@ -83,8 +71,3 @@ any_added p added size ns is h = iff_same (list_any q (below size)) (list_any p 
       let added_m : get_or added m false ≡ true = h m ∙ list_any_at (λ k. k == m) ns j m inside (subst (λ (n : ℕ). (n == m) ≡ true) (sym there) itself) in
       let less : m < size = subst (λ (n : ℕ). m < n) is (within added m added_m) in
       in_below q size m less (both (get_or added m false) (p m) added_m holds)
-
--- ---- the first of them
-
-pub no_first : {x : FirstTwo} (ns : List ℕ) → None ≡ first_of x → x ≡ first_two ns → ns ≡ []
-no_first ns none is = grind arith

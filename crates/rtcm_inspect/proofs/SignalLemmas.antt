@@ -1,5 +1,5 @@
 -- The text of the signals of a stream, signal by signal.
-use Rattle.rtcm_inspect.proofs.Names.{or-false, le-ltb, lt-ltb, ltb-false, ltb-true, ◌≡◌, ℕ, zero, suc, ◌+◌, ◌<◌, ◌≤◌, ◌||◌, All, Bool, true, false, List, [], ◌∷◌, ◌++◌, length, get_or, refl, sym, ap, ◌∙◌, arith, filter, append-nil, flat_map-append, cond, nat_lt, codes, list_any, All-head, filter-append, length-filter, count_by-le-length, System, table, code_of, below, SignalCountsValue, AreSignalCounts, common_steps, counted, signal_counts, has_any, signal_in, count_of, is_of_signal, had_below, had, code_list, codes_word, count_line, lines_below, IsKey, HeardCell, list_any-append, has_counted, systems, none_any, some_system, join-push}
+use Rattle.rtcm_inspect.proofs.Names.{le-ltb, lt-ltb, ltb-false, ltb-true, ◌≡◌, ℕ, zero, suc, ◌+◌, ◌<◌, ◌≤◌, ◌||◌, All, Bool, true, false, List, [], ◌∷◌, ◌++◌, length, get_or, refl, sym, ap, ◌∙◌, arith, filter, append-nil, flat_map-append, cond, nat_lt, list_any, All-head, filter-append, length-filter, count_by-le-length, System, table, code_of, below, SignalCountsValue, AreSignalCounts, common_steps, counted, signal_counts, has_any, signal_in, count_of, is_of_signal, had_below, had, code_list, count_line, lines_below, IsKey, HeardCell, list_any-append, has_counted, systems, none_any, some_system, join-push}
 
 below-more : (i : ℕ) → below (i + 1) ≡ below i ++ i ∷ []
 below-more i = let e : i + 1 ≡ suc i = omega arith in rw e refl
@@ -38,14 +38,6 @@ pub partly_more : {more : List ℕ} (start text : List ℕ) (separator : ℕ) (s
     → IsPartly start more 0x2C system (is ++ j ∷ [])
 partly_more start text separator system is j h e = grind (arith, common_steps, codes-push)
 
--- the word with codes, or the word for none
-pub word_some : (start text : List ℕ) (separator : ℕ) (system : System) (is : List ℕ) → IsPartly start text separator system is → (separator ≡ 0x20 → ⊥) → text ≡ start ++ 0x20 ∷ codes_word system is
-word_some start text separator system is h other = grind arith
-
-pub word_none : (start text : List ℕ) {more : List ℕ} {separator : ℕ} (system : System) (is : List ℕ) → IsPartly start text separator system is → separator ≡ 0x20 → more ≡ text ++ 0x20 ∷ codes "none"
-    → more ≡ start ++ 0x20 ∷ codes_word system is
-word_none start text system is h blank e = grind arith
-
 -- ---- a line for each signal
 
 pub lines_one : {c : SignalCountsValue} {cells : List HeardCell} {system : System} {i n : ℕ} {text more line : List ℕ} (start : List ℕ) → IsCount c cells system i n → 0 < n
@@ -58,10 +50,6 @@ lines_one {cells = cells} {system} {i} {line = line} start h some before e same 
 pub lines_none : {c : SignalCountsValue} {cells : List HeardCell} {system : System} {i n : ℕ} {text : List ℕ} (start : List ℕ) → IsCount c cells system i n → n ≤ 0
     → text ≡ start ++ lines_below cells system i → text ≡ start ++ lines_below cells system (i + 1)
 lines_none start h none before = grind (arith, had_none)
-
--- at the end of the table, all its signals were processed
-pub at_end : (system : System) (cells : List HeardCell) (i n : ℕ) → n ≡ length (table system) → i ≤ n → n ≤ i → had_below cells system i ≡ had cells system
-at_end system cells i n is within end = let e : i ≡ length (table system) = omega (arith, is, within, end) in ap (had_below cells system) e
 
 -- ---- whether there is a cell of any signal
 
@@ -109,10 +97,6 @@ pub any_cells : (c : SignalCountsValue) (cells : List HeardCell) → AreSignalCo
 any_cells c cells h keys = grind (arith, lt-ltb, some_cells, no_cells)
 
 -- ---- whether a system has a cell, by the counts of its signals
-
--- with one more signal, which has n cells
-pub any_more : (c : SignalCountsValue) (system : System) (i n : ℕ) → n ≡ counted c system i → list_any (λ j. nat_lt 0 (counted c system j)) (below (i + 1)) ≡ (list_any (λ j. nat_lt 0 (counted c system j)) (below i) || nat_lt 0 n)
-any_more c system i n is = grind (arith, below-more, list_any-append, or-false)
 
 pub any_filter : {X : Type 0} (p : X → Bool) (xs : List X) → list_any p xs ≡ nat_lt 0 (length (filter p xs))
 any_filter p [] = refl

@@ -1,5 +1,5 @@
 -- The first MSMs of each system, after one more message.
-use Rattle.rtcm_inspect.proofs.Names.{and-or_distrib_right, systems, index_of, is_system, length-take-le, tabulate, value_of, with_value_of, FourAndSeven, BySystem, any_system, each_after, index_less, is_tabulated, system_same, systems_split, value_after, value_of_other, value_tabulated, is_in_set, weeks, counted_before, counted_set, counted_tows, greatest_in, greatest_of, with_tow, counted_in, AreSettled, AreTows, CountsTow, IsGreatestAt, IsMsmOf, IsWith, PlacesTow, SettlesTows, earlier, earliest, entry, later_by, placed_by, settled, settled_tows, FirstTows, PlacedTow, SystemTows, common_steps, option_or, le-ltb, lt-ltb, Framed, Message, MsgFault, Ok, Err, ◌++◌, ◌≤◌, first_tow, every_channel, heard, inspected_in, MsmValue, drop, length, length-append, message_at, option_map_or, tow_of, week, ◌*◌, ◌==◌, ◌≡◌, ◌∙◌, ◌+◌, ◌<◌, ◌&&◌, ◌||◌, ℕ, Bool, true, false, List, [], ◌∷◌, Option, Some, None, IfSome, ap, ap₂, arith, list_any, option_map, is_some, refl, subst, sym, if◌then◌else◌, have_form, Form, Forms, MsmSet, System}
+use Rattle.rtcm_inspect.proofs.Names.{and-or_distrib_right, systems, index_of, is_system, length-take-le, tabulate, value_of, with_value_of, FourAndSeven, BySystem, any_system, each_after, index_less, is_tabulated, system_same, systems_split, value_after, value_of_other, value_tabulated, is_in_set, weeks, counted_before, counted_set, counted_tows, greatest_in, greatest_of, with_tow, counted_in, AreSettled, AreTows, CountsTow, IsGreatestAt, IsMsmOf, IsWith, PlacesTow, earlier, earliest, entry, later_by, placed_by, settled, settled_tows, FirstTows, PlacedTow, SystemTows, common_steps, option_or, le-ltb, lt-ltb, Framed, Message, MsgFault, Ok, Err, ◌++◌, ◌≤◌, first_tow, every_channel, heard, inspected_in, drop, length, length-append, message_at, tow_of, week, ◌*◌, ◌≡◌, ◌∙◌, ◌+◌, ◌<◌, ◌&&◌, ◌||◌, ℕ, Bool, true, false, List, [], ◌∷◌, Option, Some, None, IfSome, ap, ap₂, arith, list_any, option_map, is_some, refl, subst, sym, if◌then◌else◌, have_form, Form, Forms, MsmSet, System}
 use Rattle.rtcm_msg.specs.declared.number.Forms.TheVariants.{All}
 use Rattle.gnss_system.specs.declared.system.System.TheVariants as listed
 use Rattle.rtcm_inspect.proofs.FirstLemmas.{first_more, or_none}
@@ -252,9 +252,6 @@ counted_still x tow t is small still = record {
   tows = (t, refl, small, λ settled. is_tabulated x.tows (λ s. settled_tows t (value_of s x.tows)) (λ s. same_tows t (value_of s x.tows) (settled still s)));
 }
 
-pub counted_settled : (x : FirstTows) {y : FirstTows} (tow t : ℕ) {u : ℕ} → Some t ≡ with_tow x.greatest tow → t < weeks * week → u ≡ t → SettlesTows (record x { greatest = Some t }) u y → CountsTow x tow y
-counted_settled x tow t is small same h = grind (arith, settled)
-
 -- an MSM of another system is counted
 pub tows_counted : {y z : FirstTows} {wanted : Option ℕ} {fs : List Framed} (f : Framed) {m : Message} (form : Form) {tow : ℕ} → message_at f.message ≡ Ok m
     → is_in_set counted_set m ≡ true → tow_of wanted (heard every_channel 0 m) ≡ Some tow → CountsTow y tow z → AreTowsButLast y wanted fs f → AreTows z wanted (fs ++ f ∷ [])
@@ -299,9 +296,3 @@ none_yet = record { four_and_seven = None; all = None }
 
 pub no_tows : (wanted : Option ℕ) (tows : BySystem SystemTows) → tows ≡ tabulate (λ s. none_yet) → AreTows (record { messages = 0; tows = tows; greatest = None; is_waiting = false }) wanted []
 no_tows wanted tows is = grind (arith, common_steps, value_tabulated, is_some)
-
--- ---- the time of week of an MSM
-
--- the time of week of a message of the wanted station
-abbrev if_own : Option ℕ → MsmValue → Option ℕ → Option ℕ
-if_own wanted v tow = if option_map_or (λ n. v.header.station == n) wanted true then tow else None

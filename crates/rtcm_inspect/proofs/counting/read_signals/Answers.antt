@@ -1,6 +1,6 @@
-use Rattle.rtcm_inspect.proofs.Names.{FourAndSeven, refl, sym, subst, Counts, StopsCounting, ReaderFailures, culprit, StreamSignals, InspectFault}
+use Rattle.rtcm_inspect.proofs.Names.{FourAndSeven, refl, sym, subst, Counts, StopsCounting, StreamSignals}
 use Rattle.rtcm_inspect.proofs.StreamLemmas.{started}
-use Rattle.rtcm_inspect.proofs.CountingLemmas.{counted_all, counted_reads, counting_stopped, new_counts, none_counted}
+use Rattle.rtcm_inspect.proofs.CountingLemmas.{counted_all, counting_stopped, new_counts, none_counted}
 use Rattle.rtcm_inspect.proofs.counting.read_signals.Goals as goal
 
 pub returns-in-Ok-read-clause-whole : goal.returns-in-Ok-read-clause-whole
@@ -15,8 +15,3 @@ returns-in-Err-clause-fault g c =
     let began = started Counts c.in-Ok.ensures.new c.prefix.ensures.empty c.in-Ok.ensures.history c.in-Ok.ensures.drained (new_counts signals) in
     subst (StopsCounting g.R.Read.remaining c.args.reader.now c.read_frames-read.new.reader) (sym c.from.ensures)
     (counting_stopped g.R.Read.remaining c.read_frames-read.new.self c.read_frames-read.new.sink c.args.reader.now c.read_frames-read.new.reader c.in-Err.fault began c.in-Err.ensures.fault)
-
-pub returns-in-Err-clause-reader : goal.returns-in-Err-clause-reader
-returns-in-Err-clause-reader g c =
-    subst (λ (f : InspectFault). ReaderFailures (culprit f) c.args.reader.now.failures c.read_frames-read.new.reader.failures) (sym c.from.ensures)
-    (counted_reads c.in-Err.fault _ _ c.in-Err.ensures.reader.0)

@@ -1,4 +1,4 @@
-use Rattle.rtcm_inspect.proofs.Names.{add_word, end_line, ◌∙◌, ◌∷◌, ◌++◌, ap, sym, refl, append-nil, decimal, ℕ, List, Err, framed, viewed_message, formed, Station, Other, number_word, with_words, station_line, fault_line, fault_words}
+use Rattle.rtcm_inspect.proofs.Names.{arith, common_steps, add_word, end_line, ◌∙◌, ◌++◌, ap, sym, append-nil, ℕ, List, framed, viewed_message, formed, Station, Other, station_line, fault_line}
 use Rattle.rtcm_inspect.proofs.ShowLemmas.{shown, shown_value, shown_msm}
 use Rattle.rtcm_inspect.proofs.listing.add_message.Goals as goal
 
@@ -24,12 +24,4 @@ returns-in-Other c =
 
 pub returns-in-Err : goal.returns-in-Err
 unfolding fault_line
-returns-in-Err c =
-    let f = framed c.args.frame.now in
-    let message = c.as_slice-message.result.now in
-    let words = fault_words c.in-Err.fault in
-    let number = add_word c.add_message_number.ensures.text c.put_number.ensures.text refl in
-    let fault = c.add_fault.ensures.text ∙ ap (λ (t : List ℕ). with_words t words) number in
-    end_line c.args.line.now (decimal f.offset) (number_word message ∷ words) c.finish.ensures fault
-    ∙ ap (λ (l : List ℕ). c.args.line.now ++ l)
-    (ap (λ m. fault_line f.offset m c.in-Err.fault) c.as_slice-message.ensures.value ∙ sym (shown c.args.all f (Err c.in-Err.fault) c.as_slice-message.ensures.value c.in-Err.ensures))
+returns-in-Err c = grind (arith, common_steps, add_word, end_line, shown)

@@ -1,6 +1,6 @@
 use Rattle.rtcm_inspect.proofs.StreamLemmas.{started}
 use Rattle.rtcm_inspect.proofs.ListingLemmas.{Stopped, listed_all, listing_stopped, new_listing}
-use Rattle.rtcm_inspect.proofs.Names.{Err, refl, subst, sym, ⊤, InspectFault, EndsListing, Lists, devices_of, listing_lines}
+use Rattle.rtcm_inspect.proofs.Names.{Err, subst, sym, ⊤, InspectFault, EndsListing, Lists, devices_of, listing_lines}
 use Rattle.rtcm_inspect.proofs.listing.list.Goals as goal
 
 pub returns-in-Ok-read : goal.returns-in-Ok-read
@@ -24,6 +24,3 @@ returns-in-Err g c =
     let at = devices_of remaining contents waiting in
     subst (λ (f : InspectFault). EndsListing {A = ⊤} (Err f) c.args.limit (listing_lines c.args.listing) (at c.args.reader.now c.args.writer.now) (at c.read_frames-read.new.reader c.read_frames-read.new.out)) (sym c.from.ensures)
     (listing_stopped c.in-Err.fault began stopped)
-
-pub returns-in_default : goal.returns-in_default
-returns-in_default g c = ((refl, refl), (refl, refl))

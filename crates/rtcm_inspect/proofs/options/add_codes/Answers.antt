@@ -1,6 +1,6 @@
-use Rattle.rtcm_inspect.proofs.SignalLemmas.{IsCount, partly_more, had_one, had_none, word_some, word_none, at_end}
+use Rattle.rtcm_inspect.proofs.SignalLemmas.{IsCount, partly_more, had_one, had_none}
 use Rattle.rtcm_inspect.proofs.options.add_codes.Goals.{then-count-gt0, else-count-gt0}
-use Rattle.rtcm_inspect.proofs.Names.{◌∙◌, ◌<◌, ◌∷◌, ◌++◌, ap, sym, arith, ℕ, List, length, table, had_below}
+use Rattle.rtcm_inspect.proofs.Names.{common_steps, ◌∙◌, ◌<◌, ◌∷◌, ◌++◌, ap, arith, ℕ, List, length, table, had_below}
 use Rattle.rtcm_inspect.proofs.options.add_codes.Goals as goal
 
 pub loop-index-preserved : goal.loop-index-preserved
@@ -16,19 +16,5 @@ loop-index-preserved c =
             rw (w.line-is, w.separator-is, had_one count w.if-count-gt0.true) more)
         | else-count-gt0 w ↦ rw (w.line-is, w.separator-is, had_none count w.if-count-gt0.false) (c.loop-index.invariant.text cells h)
       ]);
-      short = elim c.if-count-gt0.branch [
-        | then-count-gt0 w ↦ rw w.line-is (omega (arith, w.add_part.ensures.short, ap length w.as_slice.ensures, w.code_at.ensures.short, c.loop-index.invariant.short))
-        | else-count-gt0 w ↦ rw w.line-is (omega (arith, c.loop-index.invariant.short))
-      ];
+      short = grind (arith, common_steps, then-count-gt0, partly_more, had_one, else-count-gt0, had_none);
     }
-
-pub returns-then-separator-eq32-clause-text : goal.returns-then-separator-eq32-clause-text
-returns-then-separator-eq32-clause-text c = λ cells h.
-    let all = at_end c.args.system cells c.loop-index.index c.signals-index-end.result c.signals-index-end.ensures.value c.loop-index.auto.index-end c.loop-index-test.false in
-    rw (sym all) (word_none c.args.line.now c.loop-index.line c.args.system (had_below cells c.args.system c.loop-index.index) (c.loop-index.invariant.text cells h)
-    c.if-separator-eq32.true c.add_word.ensures.text)
-
-pub returns-else-separator-eq32-clause-text : goal.returns-else-separator-eq32-clause-text
-returns-else-separator-eq32-clause-text c = λ cells h.
-    let all = at_end c.args.system cells c.loop-index.index c.signals-index-end.result c.signals-index-end.ensures.value c.loop-index.auto.index-end c.loop-index-test.false in
-    rw (sym all) (word_some c.args.line.now c.loop-index.line c.loop-index.separator c.args.system (had_below cells c.args.system c.loop-index.index) (c.loop-index.invariant.text cells h) c.if-separator-eq32.false)

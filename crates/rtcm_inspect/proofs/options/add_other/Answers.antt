@@ -23,11 +23,6 @@ shown leap cells channels s b false always some = rw (value_tabulated s (had cel
   none true = refl
   none false = refl
 
-pub returns-then-is_always_decoded-clause-text : goal.returns-then-is_always_decoded-clause-text
-returns-then-is_always_decoded-clause-text c = λ cells h.
-    let s = c.args.signals.now in
-    ap (with_words c.args.text.now.items) (sym (shown c.args.leap cells s.channels c.args.system true (nat_lt 0 (length (had cells c.args.system))) (sym c.is_always_decoded.ensures ∙ c.if-is_always_decoded.true) refl))
-
 pub returns-then-not-has_signal-clause-text : goal.returns-then-not-has_signal-clause-text
 returns-then-not-has_signal-clause-text c = λ cells h.
     let s = c.args.signals.now in

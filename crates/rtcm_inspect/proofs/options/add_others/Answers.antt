@@ -1,4 +1,4 @@
-use Rattle.rtcm_inspect.proofs.Names.{take, ◌∙◌, ℕ, List, ap, arith, flat_map, sym, plan_had, with_words, take_all, systems, systems_taken, other_words}
+use Rattle.rtcm_inspect.proofs.Names.{common_steps, take, ◌∙◌, ℕ, List, ap, arith, flat_map, sym, plan_had, with_words, take_all, systems, systems_taken, other_words}
 use Rattle.rtcm_inspect.proofs.OptionLemmas.{others_more}
 use Rattle.rtcm_inspect.proofs.options.add_others.Goals as goal
 
@@ -15,5 +15,4 @@ loop-i-preserved c =
     }
 
 pub returns-clause-text : goal.returns-clause-text
-returns-clause-text c = λ cells h. c.loop-i.invariant.text cells h
-    ∙ ap (λ ss. with_words c.args.text.now.items (flat_map (other_words c.args.leap (plan_had cells c.args.signals.now.channels)) ss)) (take_all c.loop-i.i systems (let end = c.loop-i-test.false in omega (arith, end)))
+returns-clause-text c = λ cells h. grind (arith, common_steps, take_all)

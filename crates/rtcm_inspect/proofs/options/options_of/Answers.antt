@@ -1,17 +1,11 @@
 use Rattle.rtcm_inspect.proofs.SignalLemmas.{no_cells, some_cells}
 use Rattle.rtcm_inspect.proofs.PrintedWeekLemmas.{week_refused}
 use Rattle.rtcm_inspect.proofs.ValuedLemmas.{valued_keys}
-use Rattle.rtcm_inspect.proofs.Names.{◌∙◌, ap, sym, mixed_of, passed, valued_in, AreOptionsRefused, FirstTwo, frames_of, IfErr}
+use Rattle.rtcm_inspect.proofs.Names.{arith, common_steps, ◌∙◌, ap, sym, mixed_of, passed, valued_in, FirstTwo}
 use Rattle.rtcm_inspect.proofs.options.options_of.Goals as goal
 
 pub returns-in-None-clause-refused : goal.returns-in-None-clause-refused
-returns-in-None-clause-refused c = λ b h counts.
-    let s = c.args.signals.now in
-    let fs = frames_of b in (
-      ap (λ (x : FirstTwo). mixed_of s.station x) (sym h.first.stations) ∙ sym c.mixed.ensures ∙ c.in-None.is,
-      no_cells _ (valued_in s.station fs) h.counted.signal_counts (valued_keys s.station fs) (sym c.has_any.ensures ∙ c.if-not-has_any.true),
-      counts,
-    )
+returns-in-None-clause-refused c = λ b h counts. grind (arith, common_steps, no_cells, valued_keys)
 
 pub returns-in_ok-printed-in-None-2-clause-line : goal.returns-in_ok-printed-in-None-2-clause-line
 returns-in_ok-printed-in-None-2-clause-line c = λ fs h.
@@ -24,11 +18,4 @@ returns-in_ok-printed-in-None-2-clause-line c = λ fs h.
     )
 
 pub returns-in_err-printed-in-None-2-clause-refused : goal.returns-in_err-printed-in-None-2-clause-refused
-returns-in_err-printed-in-None-2-clause-refused c = λ b h counts.
-    let s = c.args.signals.now in
-    let fs = frames_of b in
-    passed c.from_residual.result c.in_err-printed-in-None-2.field-0.0 (λ r. IfErr r (AreOptionsRefused c.args.source s.station b)) c.from_residual.ensures.1
-    (week_refused c.args.source s.station b c.in_err-printed-in-None-2.field-0.0 (
-      ap (λ (x : FirstTwo). mixed_of s.station x) (sym h.first.stations) ∙ sym c.mixed.ensures ∙ c.in-None.is,
-      some_cells _ (valued_in s.station fs) h.counted.signal_counts (sym c.has_any.ensures ∙ c.if-not-has_any.false),
-    ) (c.in_err-printed-in-None-2.ensures.refused fs h))
+returns-in_err-printed-in-None-2-clause-refused c = λ b h counts. grind (arith, common_steps, passed, week_refused, some_cells)

@@ -1,6 +1,6 @@
 use Rattle.rtcm_inspect.proofs.SignalLemmas.{IsCount, lines_one, lines_none}
 use Rattle.rtcm_inspect.proofs.signals.add_lines.Goals.{then-count-gt0, else-count-gt0}
-use Rattle.rtcm_inspect.proofs.Names.{◌∙◌, ◌<◌, ap, arith, ℕ, List, length, table, of_ok}
+use Rattle.rtcm_inspect.proofs.Names.{common_steps, ◌∙◌, ◌<◌, arith, ℕ, List, length, table, of_ok}
 use Rattle.rtcm_inspect.proofs.signals.add_lines.Goals as goal
 
 pub loop-index-preserved : goal.loop-index-preserved
@@ -15,14 +15,5 @@ loop-index-preserved c =
             (w.as_bytes.ensures.text ∙ w.count_line-line.ensures.text))
         | else-count-gt0 w ↦ rw w.text-is (lines_none start count w.if-count-gt0.false (c.loop-index.invariant.text cells h))
       ]);
-      short = elim c.if-count-gt0.branch [
-        | then-count-gt0 w ↦ rw w.text-is (omega (
-          arith,
-          of_ok w.unwrap.ensures w.try_extend_from_slice.ensures.len,
-          ap length w.as_bytes.ensures.text,
-          w.count_line-line.ensures.short,
-          c.loop-index.invariant.short,
-        ))
-        | else-count-gt0 w ↦ rw w.text-is (omega (arith, c.loop-index.invariant.short))
-      ];
+      short = grind (arith, common_steps, then-count-gt0, lines_one, of_ok, else-count-gt0, lines_none);
     }

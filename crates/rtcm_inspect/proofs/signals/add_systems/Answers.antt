@@ -1,29 +1,19 @@
-use Rattle.rtcm_inspect.proofs.Names.{◌≡◌, ◌∙◌, ◌+◌, ◌*◌, ◌≤◌, ◌++◌, ◌∷◌, [], ℕ, List, length, ap, ap₂, sym, subst, refl, arith, flat_map, append-nil, flat_map-append, System, table, HeardCell, count_lines, take, nat_le, sum_by, take_all, sum_by-append, systems, before, each_system, systems_taken, longest_signals, leb-true}
+use Rattle.rtcm_inspect.proofs.Names.{common_steps, ◌≡◌, ◌∙◌, ◌+◌, ◌*◌, ◌≤◌, ◌++◌, ◌∷◌, [], ℕ, List, length, ap, sym, subst, arith, flat_map, append-nil, flat_map-append, System, table, HeardCell, count_lines, take, sum_by, take_all, sum_by-append, systems, systems_taken}
 use Rattle.rtcm_inspect.proofs.signals.add_systems.Goals as goal
 
 -- the bytes of the lines of systems
 abbrev room : List System → ℕ
 room ss = 26 * sum_by (λ s. length (table s)) ss
 
-fits : (s : System) → room (before s) + 26 * length (table s) ≤ longest_signals
-fits s = leb-true _ _ (each_system (λ s. nat_le (room (before s) + 26 * length (table s)) longest_signals) s refl)
-
 grown : (ss : List System) (s : System) → room (ss ++ s ∷ []) ≡ room ss + 26 * length (table s)
 grown ss s = let e = sum_by-append (λ s. length (table s)) ss (s ∷ []) in omega (arith, e)
-
-pub add_lines-requires : goal.add_lines-requires
-add_lines-requires c =
-    let short = subst (λ (n : ℕ). length c.loop-i.text.items ≤ room (take n systems)) (sym c.at.ensures) c.loop-i.invariant.short in
-    let f = fits c.at.result in
-    omega (arith, short, f)
 
 pub loop-i-preserved : goal.loop-i-preserved
 loop-i-preserved c =
     let n : ℕ = c.loop-i.i in
     let e = systems_taken n c.at.result c.at.ensures in
     record {
-      text = λ cells h. c.add_lines.ensures.text cells h ∙ ap₂ (λ (a b : List ℕ). a ++ b) (c.loop-i.invariant.text cells h) (sym (append-nil (count_lines cells c.at.result)))
-          ∙ sym (flat_map-append (count_lines cells) (take n systems) (c.at.result ∷ [])) ∙ ap (flat_map (count_lines cells)) (sym e);
+      text = grind (arith, common_steps, systems_taken, append-nil, flat_map-append, grown);
       short = subst (λ (ss : List System). length c.add_lines.new.text.items ≤ room ss) (sym e) (let g = grown (take n systems) c.at.result in let s = c.add_lines.ensures.short in let b = c.loop-i.invariant.short in omega (arith, g, s, b));
     }
 

@@ -1,8 +1,5 @@
-use Rattle.rtcm_inspect.proofs.TowLemmas.{counted_settled, counted_still}
+use Rattle.rtcm_inspect.proofs.TowLemmas.{counted_still}
 use Rattle.rtcm_inspect.proofs.first_tows.FirstTows.count.Goals as goal
-
-pub returns-then-self : goal.returns-then-self
-returns-then-self c = counted_settled c.args.self.now c.args.tow c.greatest_with-time.result c.greatest_with-time.ensures.value c.greatest_with-time.ensures.bound c.milliseconds.ensures.value c.settle.ensures
 
 pub returns-else-self : goal.returns-else-self
 returns-else-self c = counted_still c.args.self.now c.args.tow c.greatest_with-time.result c.greatest_with-time.ensures.value c.greatest_with-time.ensures.bound c.if-self.false
