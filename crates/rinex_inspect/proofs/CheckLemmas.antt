@@ -1,5 +1,5 @@
 -- The end of a check of a file.
-use Rattle.rinex_inspect.proofs.Names.{arith, common_steps, Printed, ◌≡◌, inr, sym, subst, ℕ, List, Option, Result, Ok, Err, IfSome, HasFailed, IsNoFault, FileValue, file_text, IsFileValue, ReadFault, Read, ⊤, IsErrAnd, Keeps, FileFault, IsCheckedOr, passed, Devices, Writer, EndsCheck, ReaderFailures, WriterFailures, CheckOptions, IsOutput, culprit, AreInside, times_in}
+use Rattle.rinex_inspect.proofs.Names.{arith, common_steps, Printed, ◌≡◌, inr, sym, subst, ℕ, List, Option, Result, Ok, Err, IfSome, IsNoFault, FileValue, file_text, IsFileValue, ReadFault, ⊤, IsErrAnd, Keeps, FileFault, IsCheckedOr, passed, Devices, Writer, EndsCheck, WriterFailures, CheckOptions, IsOutput, culprit, AreInside, times_in}
 use Rattle.rinex_inspect.specs.declared.fault.FileFault.TheVariants as faults
 
 -- what holds for all bytes holds for known ones
@@ -9,10 +9,6 @@ where_known Q r step = grind (arith, common_steps)
 -- a fault of reading is one of checking
 pub refused : (o : CheckOptions) (v : FileValue) (e : ReadFault) (w w' : Option (List ℕ)) → IsNoFault e → IsCheckedOr o v (Err (faults.File e)) w w'
 refused o v e w w' h = grind (arith, common_steps)
-
--- the reader failed only at `Read`
-pub read_failures : (e : ReadFault) (before after : ℕ) → (e ≡ Read → HasFailed before after) → ((e ≡ Read → ⊥) → after ≡ before) → ReaderFailures (culprit (faults.File e)) before after
-read_failures e before after failed same = grind (arith, common_steps)
 
 -- the writer didn't fail
 pub none_written : (e : ReadFault) (before after : ℕ) → after ≡ before → WriterFailures (culprit (faults.File e)) before after

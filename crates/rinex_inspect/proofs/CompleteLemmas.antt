@@ -1,5 +1,5 @@
 -- The number of indexes among those below a bound, by the missing places.
-use Rattle.rinex_inspect.proofs.Names.{is_among, number_among, sum_by-append, ◌≡◌, ◌∙◌, ◌+◌, ◌-◌, ◌<◌, ◌≤◌, ◌∷◌, ◌++◌, [], ap, ap₂, arith, refl, subst, sym, ℕ, List, Bool, cond, All, ◌==◌, ◌||◌, false, true, zero, suc, inl, inr, All-cons, All-head, All-nil, All-tail, ◌≢◌, ◌⊎◌}
+use Rattle.rinex_inspect.proofs.Names.{All-push, All-weaker, is_among, number_among, sum_by-append, ◌≡◌, ◌∙◌, ◌+◌, ◌-◌, ◌<◌, ◌≤◌, ◌∷◌, ◌++◌, [], ap, ap₂, arith, refl, subst, sym, ℕ, List, Bool, cond, All, ◌==◌, ◌||◌, false, true, zero, suc, inl, inr, All-head, All-nil, All-tail, ◌≢◌, ◌⊎◌}
 use Rattle.std.proofs.lemmas.List.Folds.{list_any-append}
 
 abbrev one_if : Bool → ℕ
@@ -75,10 +75,7 @@ not_among [] j h = refl
 not_among (x ∷ xs) j h = grind (arith, All-head (λ i. i < j) x xs h, not_among xs j (All-tail (λ i. i < j) x xs h))
 
 under_more : (xs : List ℕ) (p j : ℕ) → p ≤ j + 1 → All (λ i. i < p) xs → All (λ i. i < j + 1) (xs ++ j ∷ [])
-under_more [] p j h all = All-cons (λ i. i < j + 1) j [] (omega arith) (All-nil (λ i. i < j + 1))
-under_more (x ∷ xs) p j h all =
-    let first : x < p = All-head (λ i. i < p) x xs all in
-    All-cons (λ i. i < j + 1) x (xs ++ j ∷ []) (omega (arith, first, h)) (under_more xs p j h (All-tail (λ i. i < p) x xs all))
+under_more xs p j h all = All-push (λ i. i < j + 1) xs j (All-weaker (λ i. i < p) (λ i. i < j + 1) (λ x e. omega (arith, e, h)) xs all) (omega arith)
 
 last_more : (xs : List ℕ) (j : ℕ) → is_among (xs ++ j ∷ []) ((j + 1) - 1) ≡ true
 last_more xs j = grind (arith, among_more)
@@ -108,13 +105,8 @@ covered_more {xs} {p} {k} j c h = record {
       let all : number_among xs m + k ≡ p = c.sum m (omega (arith, same, fits)) in
       omega (arith, one, all, same)
   by m fits (inr other) =
-      let all_under : All (λ i. i < j) xs = under_of xs c.under in
+      let all_under : All (λ i. i < j) xs = All-weaker (λ i. i < p) (λ i. i < j) (λ x e. omega (arith, e, h, other)) xs c.under in
       let one : number_among (xs ++ j ∷ []) m + 0 ≡ number_among xs m + 1 = subst (λ (b : Bool). number_among (xs ++ j ∷ []) m + one_if b ≡ number_among xs m + 1) (not_among xs j all_under) (number_more xs j m (omega (arith, fits))) in
       let all : number_among xs m + k ≡ p = c.sum m (omega (arith, h, fits)) in
       let less : p ≤ j = omega (arith, h, other) in
-      omega (arith, one, all, less) where
-        under_of : (ys : List ℕ) → All (λ i. i < p) ys → All (λ i. i < j) ys
-        under_of [] all = All-nil (λ i. i < j)
-        under_of (y ∷ ys) all =
-            let first : y < p = All-head (λ i. i < p) y ys all in
-            All-cons (λ i. i < j) y ys (omega (arith, first, h, other)) (under_of ys (All-tail (λ i. i < p) y ys all))
+      omega (arith, one, all, less)

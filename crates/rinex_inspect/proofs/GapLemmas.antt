@@ -52,10 +52,6 @@ stopped_inside complete d d2 (File e) old new es h inside printed failures = (es
 stopped_inside complete d d2 (OtherDay k) old new es (t, out, line) inside printed failures = (es, IfSome_then d.reader.unread line (λ input at. (t, out, inside, at)), printed, failures)
 stopped_inside complete d d2 Write old new es h inside printed failures = absurd h
 
--- a value is no fault
-pub isnt_err : {A E : Type 0} {x : A} {e : E} → ◌≡◌ {A = Result A E} (Ok x) (Err e) → ⊥
-isnt_err h = cc
-
 -- ---- the end of the command
 
 -- nonempty times have a first, a last and a smallest step

@@ -27,7 +27,6 @@ pub use Rattle.rinex_file.specs.declared.read.epochs.EpochReader.{EpochReader}
 pub use Rattle.rinex_file.specs.declared.read.epochs.NextEpoch.{NextEpoch}
 pub use Rattle.rinex_file.specs.declared.read.epochs.Reading.{Reading}
 pub use Rattle.rinex_file.specs.declared.read.fault.ReadFault.{ReadFault}
-pub use Rattle.rinex_file.specs.declared.read.fault.ReadFault.TheVariants.{Read}
 pub use Rattle.rinex_file.specs.declared.read.file.Counts.{Counts}
 pub use Rattle.rinex_file.specs.declared.read.file.FileSummary.{FileSummary}
 pub use Rattle.rinex_file.specs.declared.read.times.EpochTimes.{EpochTimes}
@@ -68,8 +67,8 @@ pub use Rattle.std.proofs.KnownBytes.{Appends-nil, Consumes-nil, Consumes-trans,
 pub use Rattle.std.proofs.Math.Nat.{div-le_self, div-lt_iff_lt-mul, div-mul-le_self, le-div_iff_mul-le, mod-lt, zero-add}
 pub use Rattle.std.proofs.lemmas.Bool.{and_from, and_parts, eq-eqb, eqb-false, eqb-true, lt-ltb, ltb-false, ltb-true, or_parts}
 pub use Rattle.std.proofs.lemmas.Grind.{common_steps, flat_map-append}
-pub use Rattle.std.proofs.lemmas.List.{get_or_read, length-append, length-map, map-append, take-append-drop}
-pub use Rattle.std.proofs.lemmas.List.Elements.{All-append, All-cons, All-filter, All-head, All-nil, All-tail, filter-append}
+pub use Rattle.std.proofs.lemmas.List.{get_or-set_other, get_or-set_same, get_or_read, length-append, length-map, map-append, take-append-drop}
+pub use Rattle.std.proofs.lemmas.List.Elements.{All-append, All-filter, All-head, All-nil, All-pop, All-push, All-tail, All-weaker, filter-append}
 pub use Rattle.std.proofs.lemmas.List.Sums.{count_by-le-length, sum_by-append, sum_by-cons}
 pub use Rattle.std.proofs.lemmas.Option.{IfSome_then}
 pub use Rattle.std.specs.Bool.{⊤}

@@ -1,5 +1,5 @@
 -- The reading of the lines of an epoch into a table.
-use Rattle.rinex_inspect.proofs.Names.{common_steps, ◌≡◌, ◌∙◌, ◌+◌, ◌^◌, ◌<◌, ◌≤◌, ◌++◌, ◌∷◌, [], ℕ, Bool, List, Option, Result, Ok, Err, length, refl, ap, ap₂, sym, subst, arith, append-nil, Some, None, zero, suc, ◌==◌, ◌*◌, ⊤, IsStrictlyIncreasing, Appends-nil, length-append, map-append, length-filter-le, Devices, Writer, printed_after, EndsPrinting, PrintsPart, PrintsText, PlanValue, most_signals, System, time_stamped, HasReadEpochs, times_in, BeginsEpoch, NextEpoch, FileSummary, check_line, FileValue, end_text, Contents, quality_output, satellite_lines, signal_lines, contents_of, in_period, last_period, lines_before, lines_of, period_of, texts_below, FileFault, Tables, Period, Satellites, Signals, IsPrintable, AreTables, HasSamePlan, IsPrintedAfter, RatesEpoch, RatesNext, ReadsRows, period_text, IsBlankTable, contents_in, All-head, All-tail, All, AreFine, one_plan, part_fine, plan_known, whole_fine, Counts, culprit, ReaderFailures, RatesPeriods, AreSatelliteRows, IsSatelliteRow, planned_in, SatelliteRow, Stamped, EpochReader, ReadFault, HasReadRows, ReadsRow, plan_of, with_read, Table, HasAddedRow, IsTableOf}
+use Rattle.rinex_inspect.proofs.Names.{All-pop, common_steps, ◌≡◌, ◌∙◌, ◌+◌, ◌^◌, ◌<◌, ◌≤◌, ◌++◌, ◌∷◌, [], ℕ, Bool, List, Option, Result, Ok, Err, length, refl, ap, ap₂, sym, subst, arith, append-nil, Some, None, zero, suc, ◌==◌, ◌*◌, ⊤, IsStrictlyIncreasing, Appends-nil, length-append, map-append, length-filter-le, Devices, Writer, printed_after, EndsPrinting, PrintsPart, PrintsText, PlanValue, most_signals, System, time_stamped, HasReadEpochs, times_in, BeginsEpoch, NextEpoch, FileSummary, check_line, FileValue, end_text, Contents, quality_output, satellite_lines, signal_lines, contents_of, in_period, last_period, lines_before, lines_of, period_of, texts_below, FileFault, Tables, Period, Satellites, Signals, IsPrintable, AreTables, HasSamePlan, IsPrintedAfter, RatesEpoch, RatesNext, ReadsRows, period_text, IsBlankTable, contents_in, AreFine, one_plan, part_fine, plan_known, whole_fine, Counts, culprit, ReaderFailures, RatesPeriods, AreSatelliteRows, IsSatelliteRow, planned_in, SatelliteRow, Stamped, EpochReader, ReadFault, HasReadRows, ReadsRow, plan_of, with_read, Table, HasAddedRow, IsTableOf}
 use Rattle.rinex_inspect.proofs.ContentsLemmas.{AreFew, AreSame, few_of, few_planned, lines_same, period_is, printable, table_contents}
 use Rattle.rinex_file.specs.declared.read.epochs.NextEpoch.TheVariants.{End}
 use Rattle.rinex_inspect.proofs.PeriodLemmas.{IsEvery, before_later, before_same, none_first, none_later, period_other, period_rises, period_same, period_with}
@@ -11,16 +11,13 @@ use Rattle.rinex_inspect.specs.declared.fault.FileFault.TheVariants as faults
 pub few_epochs : (r : EpochReader) (es : List Stamped) (e : Stamped) (input left : Option (List ℕ)) (xs : List Stamped) → HasReadRows r es e input left → length xs ≤ length es → length xs < 2 ^ 62
 few_epochs r es e input left xs part few = let all = (part_fine r.reading es e input left part).few in omega (arith, all, few, length-append es (e ∷ []))
 
-last_of : {A : Type 0} (P : A → Type 0) (xs : List A) (x : A) → All P (xs ++ x ∷ []) → P x
-last_of P [] x all = All-head P x [] all
-last_of P (y ∷ ys) x all = last_of P ys x (All-tail P y (ys ++ x ∷ []) all)
-
 -- the next line of an epoch was added
 pub row_step : (r : EpochReader) (es : List Stamped) (e : Stamped) (input left : Option (List ℕ)) (row : SatelliteRow) (xs : List Stamped) (t t2 : Table) → HasReadRows r es (with_read e row) input left → IsSatelliteRow (planned_in (plan_of r)) row
     → length xs ≤ length es → HasAddedRow row t t2 → IsTableOf t (xs ++ e ∷ []) → IsTableOf t2 (xs ++ with_read e row ∷ [])
 row_step r es e input left row xs t t2 part fits few add is =
     let fine = part_fine r.reading es (with_read e row) input left part in
-    let rows : AreSatelliteRows (planned_in (plan_of r)) (e.rows ++ row ∷ []) = last_of (λ (x : Stamped). AreSatelliteRows (planned_in (plan_of r)) x.rows) es (with_read e row) fine.rows in
+    let rows : AreSatelliteRows (planned_in (plan_of r)) (e.rows ++ row ∷ []) =
+    (All-pop (λ (x : Stamped). AreSatelliteRows (planned_in (plan_of r)) x.rows) (es ++ with_read e row ∷ []) es (Some (with_read e row)) refl fine.rows).1 in
     table_added t t2 row add fits.row.satellite.0 xs e (few_epochs r es (with_read e row) input left xs part few) fits.row.satellite.1 (none_same e.rows row rows.rise) is
 
 pub row_is : (old new : EpochReader) (es : List Stamped) (e : Stamped) (input left : Option (List ℕ)) {r s : Result Bool ReadFault} → r ≡ s → ReadsRow old new es e input left r → ReadsRow old new es e input left s

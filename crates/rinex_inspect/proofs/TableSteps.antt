@@ -1,5 +1,5 @@
 -- Tables of epochs: none, one more, and one line more.
-use Rattle.rinex_inspect.proofs.Names.{◌≡◌, ◌∙◌, ◌+◌, ◌-◌, ◌^◌, ◌<◌, ◌≤◌, ◌&&◌, ◌==◌, ◌++◌, ◌∷◌, [], ℕ, Bool, true, false, zero, suc, List, get_or, set, length, refl, ap, sym, subst, arith, map, list_any, IsStrictlyIncreasing, and_from, and_parts, eq-eqb, eqb-false, eqb-true, ◌||◌, length-set, HasAdded, length-append, map-append, system_same, system_self, System, Satellite, satellites, index_of, is_system, rank_of, time_stamped, SatelliteRow, Stamped, with_read, times_in, has_line, is_row_of, last_of, satellite_at, SatelliteRecord, Table, Presence, HasAddedRow, IsBlankRecord, IsBlankTable, IsRecordOf, IsTableOf, begun, no_record, record_at, records_in}
+use Rattle.rinex_inspect.proofs.Names.{get_or-set_other, get_or-set_same, ◌≡◌, ◌∙◌, ◌+◌, ◌-◌, ◌^◌, ◌<◌, ◌≤◌, ◌&&◌, ◌==◌, ◌++◌, ◌∷◌, [], ℕ, Bool, true, false, suc, List, get_or, length, refl, ap, sym, subst, arith, map, list_any, IsStrictlyIncreasing, and_from, and_parts, eq-eqb, eqb-false, eqb-true, ◌||◌, length-set, HasAdded, length-append, map-append, system_same, system_self, System, Satellite, satellites, index_of, is_system, rank_of, time_stamped, SatelliteRow, Stamped, with_read, times_in, has_line, is_row_of, last_of, satellite_at, SatelliteRecord, Table, Presence, HasAddedRow, IsBlankRecord, IsBlankTable, IsRecordOf, IsTableOf, begun, no_record, record_at, records_in}
 use Rattle.rinex_inspect.proofs.PresenceLemmas.{last_is}
 use Rattle.rinex_inspect.proofs.TableLemmas.{record_begun, record_other, record_this}
 
@@ -36,18 +36,6 @@ table_begun t xs e few none same is = record {
 
 -- ---- one line more
 
-set_this : (rs : List SatelliteRecord) (i : ℕ) (r : SatelliteRecord) → i < length rs → get_or (set rs i r) i no_record ≡ r
-set_this [] i r h = absurd (omega (arith, h))
-set_this (x ∷ rs) zero r h = refl
-set_this (x ∷ rs) (suc i) r h = set_this rs i r (omega (arith, h))
-
-set_apart : (rs : List SatelliteRecord) (i j : ℕ) (r : SatelliteRecord) → (j ≡ i → ⊥) → get_or (set rs i r) j no_record ≡ get_or rs j no_record
-set_apart [] i j r h = refl
-set_apart (x ∷ rs) zero zero r h = absurd (h refl)
-set_apart (x ∷ rs) zero (suc j) r h = refl
-set_apart (x ∷ rs) (suc i) zero r h = refl
-set_apart (x ∷ rs) (suc i) (suc j) r h = set_apart rs i j r (λ e. h (ap suc e))
-
 abbrev pub own : SatelliteRow → Satellite
 own row = record { system = row.system; id = row.row.satellite }
 
@@ -60,7 +48,7 @@ module _ (t t2 : Table) (row : SatelliteRow) (add : HasAddedRow row t t2) (some 
     by true e out =
         let same : s ≡ row.system = system_same s row.system e in
         let at : get_or (records_in t2 row.system) i no_record ≡ get_or (records_in t row.system) i no_record =
-        ap (λ (l : List SatelliteRecord). get_or l i no_record) add.this.1 ∙ set_apart (records_in t row.system) (row.row.satellite - 1) i add.this.0 (λ here. apart here out) in
+        ap (λ (l : List SatelliteRecord). get_or l i no_record) add.this.1 ∙ get_or-set_other (records_in t row.system) (row.row.satellite - 1) i add.this.0 no_record (λ here. apart here out) in
         ap (λ (x : System). record_at t2 x i) same ∙ at ∙ ap (λ (x : System). record_at t x i) (sym same) where
           apart : i ≡ row.row.satellite - 1 → (row.row.satellite == i + 1) ≡ false → ⊥
           apart here out = eqb-false row.row.satellite (i + 1) out (omega (arith, here, some))
@@ -96,7 +84,7 @@ module _ (t t2 : Table) (row : SatelliteRow) (add : HasAddedRow row t t2) (some 
         let q = record_at t row.system j in
         let s : Satellite = satellite_at row.system j in
         let same : s ≡ own row = ap (λ (n : ℕ). record { system = row.system; id = n }) number in
-        let at : record_at t2 row.system j ≡ add.this.0 = ap (λ (l : List SatelliteRecord). get_or l j no_record) add.this.1 ∙ set_this (records_in t row.system) j add.this.0 (omega (arith, is.size row.system, most, some)) in
+        let at : record_at t2 row.system j ≡ add.this.0 = ap (λ (l : List SatelliteRecord). get_or l j no_record) add.this.1 ∙ get_or-set_same (records_in t row.system) j add.this.0 no_record (omega (arith, is.size row.system, most, some)) in
         let times : t.time ≡ e.time = is.time ∙ last_time xs e in
         let last : t.epochs ≡ length xs + 1 = is.epochs ∙ length-append xs (e ∷ []) in
         let step : HasAdded t.epochs e.time row.row.signal_values q add.this.0 = subst (λ (n : ℕ). HasAdded t.epochs n row.row.signal_values q add.this.0) times add.this.2 in

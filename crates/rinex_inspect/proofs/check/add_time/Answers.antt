@@ -4,9 +4,6 @@ use Rattle.rinex_inspect.proofs.check.add_time.Goals as goal
 size : {new : List ℕ} (old part : List ℕ) → new ≡ old ++ part → length new ≡ length old + length part
 size old part e = ap length e ∙ length-append old part
 
-pub add_moment-requires : goal.add_moment-requires
-add_moment-requires c = omega (arith, size c.args.text.now c.as_bytes.result.now c.put.ensures, ap length c.as_bytes.ensures.value, c.requires.room, c.requires.short)
-
 pub finish-requires : goal.finish-requires
 finish-requires c =
     omega (arith, size c.args.text.now c.as_bytes.result.now c.put.ensures, ap length c.as_bytes.ensures.value, c.requires.room, c.requires.short, c.add_moment.ensures.short)

@@ -1,6 +1,5 @@
-use Rattle.rinex_inspect.proofs.Names.{NextEpoch, BeginsNextEpoch, Reading, ◌≡◌, ◌∙◌, arith, subst, sym, ap, List, ℕ, Option, Stamped, IfSome, Ok, Err, ReaderFailures, culprit, File}
-use Rattle.rinex_inspect.proofs.CheckLemmas.{read_failures}
-use Rattle.rinex_inspect.proofs.GapLemmas.{isnt_err, leaves_more, without_plan}
+use Rattle.rinex_inspect.proofs.Names.{NextEpoch, BeginsNextEpoch, Reading, ◌≡◌, ◌∙◌, arith, subst, sym, List, ℕ, Option, Stamped, IfSome, Ok}
+use Rattle.rinex_inspect.proofs.GapLemmas.{leaves_more, without_plan}
 use Rattle.rinex_file.specs.Accepted.{IsEpochLine}
 use Rattle.rinex_inspect.proofs.check.next_inside.Goals as goal
 
@@ -20,9 +19,6 @@ returns-in-Ok-clause-epochs g c = λ es input before.
     let (whole, time, read, first, least, same) = c.in-Ok.ensures.rows es e input part in
     ((whole, time ∙ start.0, times, read, first, omega (arith, counted, least)), sym c.is_inside.ensures ∙ c.if-not-is_inside.false)
 
-pub returns-in-Ok-clause-failed : goal.returns-in-Ok-clause-failed
-returns-in-Ok-clause-failed g c = c.in-Ok.ensures.same isnt_err ∙ c.in-Ok-Epoch.ensures.same isnt_err
-
 pub returns-in-Ok-clause-left : goal.returns-in-Ok-clause-left
 returns-in-Ok-clause-left g c = leaves_more _ _ _ c.in-Ok-Epoch.ensures.left c.in-Ok.ensures.left
 
@@ -31,21 +27,10 @@ returns-then-not-is_inside-clause-epochs g c = λ es input before.
     let (e, start, times, part, line, counted, plan) = begun_as c.args.file.now.reading c.begin.new.self.reading es input (g.R.Read.remaining c.begin.new.reader.inner) c.in-Ok-Epoch.field-0-is (c.in-Ok-Epoch.ensures.epochs es input before) in
     (c.in-Ok-Epoch.time, sym c.is_inside.ensures ∙ c.if-not-is_inside.true, subst (λ (k : ℕ). IfSome input (IsEpochLine es c.in-Ok-Epoch.time k)) (sym c.line.ensures) line)
 
-pub returns-then-not-is_inside-clause-failed : goal.returns-then-not-is_inside-clause-failed
-returns-then-not-is_inside-clause-failed g c = c.in-Ok-Epoch.ensures.same isnt_err
-
-pub returns-then-not-is_inside-clause-left : goal.returns-then-not-is_inside-clause-left
-returns-then-not-is_inside-clause-left g c = c.in-Ok-Epoch.ensures.left
-
 pub returns-in-Err-finish-clause-epochs : goal.returns-in-Err-finish-clause-epochs
 returns-in-Err-finish-clause-epochs g c = λ es input before.
     let (e, start, times, part, line, counted, plan) = begun_as c.args.file.now.reading c.begin.new.self.reading es input (g.R.Read.remaining c.begin.new.reader.inner) c.in-Ok-Epoch.field-0-is (c.in-Ok-Epoch.ensures.epochs es input before) in
     c.in-Err-finish.ensures.rows es e input part
-
-pub returns-in-Err-finish-clause-failed : goal.returns-in-Err-finish-clause-failed
-returns-in-Err-finish-clause-failed g c =
-    let failures = read_failures c.in-Err-finish.fault c.begin.new.reader.failures _ (λ e. c.in-Err-finish.ensures.failed (ap Err e)) (λ isnt. c.in-Err-finish.ensures.same (λ e. isnt cc)) in
-    subst (λ (n : ℕ). ReaderFailures (culprit (File c.in-Err-finish.fault)) n c.finish.new.reader.failures) (c.in-Ok-Epoch.ensures.same isnt_err) failures
 
 pub returns-in-Err-finish-clause-left : goal.returns-in-Err-finish-clause-left
 returns-in-Err-finish-clause-left g c = leaves_more _ _ _ c.in-Ok-Epoch.ensures.left c.in-Err-finish.ensures.left
@@ -54,13 +39,3 @@ pub returns-in-Ok-End-clause-epochs : goal.returns-in-Ok-End-clause-epochs
 returns-in-Ok-End-clause-epochs g c = λ es input before.
     let (has, only, plan) = begun_as c.args.file.now.reading c.begin.new.self.reading es input (g.R.Read.remaining c.begin.new.reader.inner) c.in-Ok-End.field-0-is (c.in-Ok-End.ensures.epochs es input before) in
     without_plan c.begin.new.self.reading es c.in-Ok-End.summary input has only
-
-pub returns-in-Ok-End-clause-failed : goal.returns-in-Ok-End-clause-failed
-returns-in-Ok-End-clause-failed g c = c.in-Ok-End.ensures.same isnt_err
-
-pub returns-in-Ok-End-clause-left : goal.returns-in-Ok-End-clause-left
-returns-in-Ok-End-clause-left g c = c.in-Ok-End.ensures.left
-
-pub returns-in-Err-clause-failed : goal.returns-in-Err-clause-failed
-returns-in-Err-clause-failed g c =
-    read_failures c.in-Err.fault c.args.reader.now.failures _ (λ e. c.in-Err.ensures.failed (ap Err e)) (λ isnt. c.in-Err.ensures.same (λ e. isnt cc))

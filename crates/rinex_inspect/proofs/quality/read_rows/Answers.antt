@@ -1,4 +1,4 @@
-use Rattle.rinex_inspect.proofs.Names.{◌∙◌, ◌≤◌, ◌++◌, ◌∷◌, [], ap, arith, length, refl, sym, subst, Ok, SatelliteRow, row_of, with_read, Table, HasAddedRow, IsTableOf, records_in}
+use Rattle.rinex_inspect.proofs.Names.{◌∙◌, ◌++◌, ◌∷◌, [], ap, arith, refl, sym, subst, Ok, SatelliteRow, row_of, with_read, Table, HasAddedRow, IsTableOf}
 use Rattle.rinex_inspect.proofs.GapLemmas.{leaves_all, leaves_more}
 use Rattle.rinex_inspect.proofs.RatingLemmas.{few_epochs, row_is, row_step}
 use Rattle.rinex_inspect.proofs.TableSteps.{table_begun}
@@ -20,31 +20,6 @@ loop-table-init g c = record {
   left = leaves_all _;
   same = refl;
 }
-
-pub next_row-requires : goal.next_row-requires
-next_row-requires g c =
-    let inv = c.loop-table.invariant in
-    let (es, e, input, xs, start, rows, is, few) = inv.some in
-    let (more, time, part, least, plan, added) = inv.read es e input start rows in
-    (es, more, input, part)
-
-pub add-requires-clause-some : goal.add-requires-clause-some
-add-requires-clause-some g c =
-    let inv = c.loop-table.invariant in
-    let (es, e, input, xs, start, rows, is, few) = inv.some in
-    let (more, time, part, least, plan, added) = inv.read es e input start rows in
-    let (next, fits, counted, same) = row_is c.loop-table.file c.next_row.new.self es more input (g.R.Read.remaining c.next_row.new.reader.inner) (ap Ok c.in-Ok-true.field-0-test) (c.in-Ok-true.ensures.rows es more input part) in
-    subst (λ (r : SatelliteRow). 1 ≤ r.row.satellite) (sym c.row.ensures) fits.row.satellite.0
-
-pub add-requires-clause-place : goal.add-requires-clause-place
-add-requires-clause-place g c =
-    let inv = c.loop-table.invariant in
-    let (es, e, input, xs, start, rows, is, few) = inv.some in
-    let (more, time, part, least, plan, added) = inv.read es e input start rows in
-    let (next, fits, counted, same) = row_is c.loop-table.file c.next_row.new.self es more input (g.R.Read.remaining c.next_row.new.reader.inner) (ap Ok c.in-Ok-true.field-0-test) (c.in-Ok-true.ensures.rows es more input part) in
-    let row : SatelliteRow = row_of c.next_row.new.self in
-    let size = (added xs few is).size row.system in
-    subst (λ (r : SatelliteRow). r.row.satellite ≤ length (records_in c.loop-table.table r.system)) (sym c.row.ensures) (omega (arith, fits.row.satellite.1, size))
 
 pub loop-table-preserved : goal.loop-table-preserved
 loop-table-preserved g c =
