@@ -3,7 +3,7 @@ use Rattle.gnss_obs.proofs.Names.{◌≡◌, ◌<◌, ◌≤◌, ◌+◌, ◌*�
 use Rattle.jiff_core.specs.declared.civil.time.Time.{Time}
 use Rattle.jiff_core.specs.declared.civil.datetime.DateTime.{DateTime}
 use Rattle.jiff_core.specs.Time.{time_nanos, IsHms, IsTime}
-use Rattle.gnss_obs.proofs.Days.{first_day}
+use Rattle.gnss_obs.proofs.Days.{first_day, year_from}
 use Rattle.std.specs.Result.{result_ok}
 
 abbrev pub day_nanos : ℕ
@@ -29,8 +29,10 @@ pub parts_of : (at : DateTime) (t : ℕ) → civil_nanos at ≡ pos 3657 *ℤ po
 unfolding civil_nanos
 parts_of at t e = days_by (epoch_day at.date) (time_nanos at.time) t (time_below at.time) e
 
-days_same : {a b : ℤ} {m n d e : ℕ} → b ≡ a → n ≡ m → e ≡ d → days_from_civil b n e ≡ days_from_civil a m d
-days_same y k l = rw (y, k, l) refl
+-- From the first time on, the year is one that fits when cast to a signed number and back.
+pub year_in : (at : DateTime) (t : ℕ) (z : ℤ) → civil_nanos at ≡ pos 3657 *ℤ pos day_nanos +ℤ pos t *ℤ pos 1_000_000
+    → z ≡ at.date.year → (pos 1980 ≤ℤ z) × (z ≤ℤ pos 9999)
+year_in at t z e is = let parts = parts_of at t e in rw is (year_from at.date (omega (arith, signed_arith, parts.0)), at.date.year_in.1)
 
 -- ---- the parts of a time
 
@@ -68,7 +70,7 @@ made_of at {t} {year} {month} {day} {hour} {minute} {second} e is h i s f =
     } where
       same_days : {year month day : ℕ} (date : Date) → IsDateOf date year month day → (t : ℕ) → epoch_day date -ℤ pos 3657 ≡ pos (t / 86_400_000)
           → days_from_civil (pos year) month day -ℤ days_from_civil (pos 1980) 1 6 ≡ pos (t / 86_400_000)
-      same_days date h0 t h1 = grind (arith, days_same, first_day)
+      same_days date h0 t h1 = grind (arith, first_day)
 
 pub day_below : (d : Date) → d.day < 128
 day_below d = grind (arith, common_steps)
@@ -80,11 +82,8 @@ pub since_of : (w since z : ℤ) (clock : ℕ) → w ≡ (z *ℤ pos day_nanos +
     → since ≡ (z -ℤ pos 3657) *ℤ pos 86_400_000 +ℤ pos clock
 since_of w since z clock e is = omega (arith, signed_arith, e, is)
 
-clock_below : (c : Civil) → IsCivil c → clock_of c < 86_400_000
-clock_below c is = omega (arith, is.hour, is.minute, is.millisecond)
-
 pub is_of : (c : Civil) (t : ℕ) (since : ℤ) → IsCivil c → since ≡ (days_from_civil (pos c.year) c.month c.day -ℤ pos 3657) *ℤ pos 86_400_000 +ℤ pos (clock_of c) → since ≡ pos t → IsCivilOf t c
-is_of c t since valid e is = grind (arith, common_steps, clock_below, signed_arith, first_day)
+is_of c t since valid e is = grind (arith, common_steps, signed_arith, first_day)
 
 pub only_one : (c : Civil) (t : ℕ) (since : ℤ) → since ≡ (days_from_civil (pos c.year) c.month c.day -ℤ pos 3657) *ℤ pos 86_400_000 +ℤ pos (clock_of c) → IsCivilOf t c → since ≡ pos t
 only_one c t since e is = grind (arith, common_steps, first_day, signed_arith)
@@ -97,9 +96,6 @@ pub since_range : (at : DateTime) (w since : ℤ) → w ≡ civil_nanos at -ℤ 
 unfolding civil_nanos
 since_range at w since e is = let days = epoch_day_range at.date in let time = time_below at.time in omega (arith, signed_arith, days.0, days.1, time, e, is)
 
-pub back_wide : (z : ℤ) (n : ℕ) → z ≡ pos n → n ≤ 1_000_000_000_000_000 → to_z w128 (of_z w128 z) ≡ pos n
-back_wide z n e small = let fits : FitsSigned w128 (pos n) = omega (arith, signed_arith, small) in rw (e, to_z-of_z fits) refl
-
 -- A number of milliseconds that isn't negative.
 pub record IsSince (z : ℤ) (n : ℕ) : Type 0 where
   pub is : z ≡ pos n
@@ -107,7 +103,7 @@ pub record IsSince (z : ℤ) (n : ℕ) : Type 0 where
   pub small : n ≤ 1_000_000_000_000_000
 
 pub not_below : (z : ℤ) → (neg_ℤ (pos 1_000_000_000_000_000) ≤ℤ z) × (z ≤ℤ pos 1_000_000_000_000_000) → int_lt (to_z w128 (of_z w128 z)) (pos 0) ≡ false → (n : ℕ) × IsSince z n
-not_below z range h = grind (arith, signed_arith, back, back_wide)
+not_below z range h = grind (arith, signed_arith, back)
 
 pub below_none : (z : ℤ) (t : ℕ) → z ≡ pos t → t < 60_480_000_000_000 → int_lt (to_z w128 (of_z w128 z)) (pos 0) ≡ true → ⊥
 below_none z t e small h = grind (arith, common_steps)

@@ -1,5 +1,5 @@
 -- The days since 1980-01-06.
-use Rattle.gnss_obs.proofs.Names.{◌≡◌, inl, inr, refl, arith, rules, ℤ, pos, ◌≤ℤ◌, Fits, w16, to_z, of_z, to_z-of_z, nat_abs, T, non_neg, Date, IsInRange, IsYear, days_in_month, day_count, days_from_civil, days_of_years, days_of_months, epoch_day, signed_arith, cases_date, epoch_day-lt}
+use Rattle.gnss_obs.proofs.Names.{◌≡◌, refl, arith, rules, ℤ, pos, ◌≤ℤ◌, Fits, w16, to_z, of_z, to_z-of_z, nat_abs, T, non_neg, Date, IsInRange, IsYear, days_in_month, day_count, days_from_civil, days_of_years, days_of_months, epoch_day, signed_arith, cases_date, epoch_day-lt}
 
 pub first_day : days_from_civil (pos 1980) 1 6 ≡ pos 3657
 unfolding days_from_civil day_count days_of_years days_of_months
@@ -19,13 +19,7 @@ first = record { year = pos 1980; month = 1; day = 6; year_in = first_year; mont
 
 -- From that day on, the year is 1980 or later.
 pub year_from : (d : Date) → pos 3657 ≤ℤ epoch_day d → pos 1980 ≤ℤ d.year
-year_from d h =
-    elim (cases_date d first) [
-      | inl earlier ↦ let less = epoch_day-lt d first earlier in absurd (omega (arith, signed_arith, first_day))
-      | inr (inl (inl year)) ↦ omega (arith, signed_arith)
-      | inr (inl (inr same)) ↦ omega (arith, signed_arith)
-      | inr (inr same) ↦ omega (arith, signed_arith)
-    ]
+year_from d h = let c = cases_date d first in let e = epoch_day-lt d first in grind (arith, signed_arith, first_day, c, e)
 
 -- The year of such a date, cast to a signed number and back.
 pub plain_year : (z : ℤ) → pos 1980 ≤ℤ z → z ≤ℤ pos 9999 → pos (nat_abs (to_z w16 (of_z w16 z))) ≡ z

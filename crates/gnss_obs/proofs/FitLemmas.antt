@@ -38,7 +38,7 @@ pub not_before : (before rest : List SignalAt) (s : SignalAt) → IsDistinct nat
 not_before [] rest s h = refl
 not_before (x ∷ before) rest s h = grind (arith, unlike_first, IsDistinct-tail, not_before before rest s (IsDistinct-tail nat_eq x.index (indices (before ++ s ∷ rest)) h))
 
-of_system : (system : System) (before rest : List SignalAt) (s : SignalAt) → All (λ (r : SignalAt). (r.system ≡ system) × IsSignal r) (before ++ s ∷ rest) → s.system ≡ system
+pub of_system : (system : System) (before rest : List SignalAt) (s : SignalAt) → All (λ (r : SignalAt). (r.system ≡ system) × IsSignal r) (before ++ s ∷ rest) → s.system ≡ system
 of_system system [] rest s h = (All-head (λ (r : SignalAt). (r.system ≡ system) × IsSignal r) s rest h).0
 of_system system (x ∷ before) rest s h = of_system system before rest s (All-tail (λ (r : SignalAt). (r.system ≡ system) × IsSignal r) x (before ++ s ∷ rest) h)
 

@@ -18,12 +18,9 @@ found_is : (table slots : List ℕ) (s : ℕ) → AllByRecursion (IsFound table 
     → ((get_or table s 0 < length slots) × (get_or slots (get_or table s 0) 0 ≡ s) → b ≡ true) × (b ≡ true → (get_or table s 0 < length slots) × (get_or slots (get_or table s 0) 0 ≡ s))
 found_is table slots s all b e = ((λ h. sym e ∙ any_get slots (get_or table s 0) s h.0 h.1), λ h. found_any table slots s slots all (e ∙ h))
 
-same_at : (a b : ℕ) (held : Bool) → (a ≡ b → held ≡ true) → (held ≡ true → a ≡ b) → nat_eq a b ≡ held
-same_at a b held h k = grind arith
-
 pub found_here : (table : List ℕ) (cells : List Cell) (s : ℕ) {c : Cell} → AreFound table cells → get_or table s 0 < length cells
     → c ≡ get_or cells (get_or table s 0) c → nat_eq (slot c) s ≡ has_slot s (map slot cells)
-found_here table cells s {c} all less is = grind (arith, get_or-map, found_is, same_at, length-map)
+found_here table cells s {c} all less is = grind (arith, get_or-map, found_is, length-map)
 
 pub found_none : (table : List ℕ) (cells : List Cell) (s : ℕ) → AreFound table cells → length cells ≤ get_or table s 0 → false ≡ has_slot s (map slot cells)
 found_none table cells s all none = grind (arith, found_any, length-map)
@@ -33,13 +30,10 @@ found_none table cells s all none = grind (arith, found_any, length-map)
 found_one : (table slots : List ℕ) (s : ℕ) → s < length table → IsFound (set table s (length slots)) (slots ++ s ∷ []) s
 found_one table slots s h = grind (arith, common_steps, get_or-set_same, length-append, get_or-append-add)
 
-found_other : (table slots : List ℕ) (s r : ℕ) → (r ≡ s → ⊥) → IsFound table slots r → IsFound (set table s (length slots)) (slots ++ s ∷ []) r
-found_other table slots s r other h = grind (arith, get_or-set_other, length-append, get_or_append_left)
-
 found_more : (table slots : List ℕ) (s : ℕ) → s < length table → (rs : List ℕ) → AllByRecursion (IsFound table slots) rs
     → AllByRecursion (IsFound (set table s (length slots)) (slots ++ s ∷ [])) (rs ++ s ∷ [])
 found_more table slots s h [] all = (found_one table slots s h, tt)
-found_more table slots s h (r ∷ rs) all = grind (arith, found_one, found_other, found_more table slots s h rs all.1)
+found_more table slots s h (r ∷ rs) all = grind (arith, found_one, found_more table slots s h rs all.1, get_or-set_other, length-append, get_or_append_left)
 
 pub slots_push : (cells : List Cell) (s : ℕ) (x : Cell) → s ≡ slot x → map slot (cells ++ x ∷ []) ≡ map slot cells ++ s ∷ []
 slots_push cells s x is = map-append slot cells (x ∷ []) ∙ ap (λ k. map slot cells ++ k ∷ []) (sym is)

@@ -69,21 +69,14 @@ unfolding written_among
 lower c cells zero lt = refl
 lower c cells (suc n) lt = grind (arith, lower c cells n (omega (arith, lt)))
 
+one_or_other : (k : ℕ) (a : Bool) → k + one_if a + one_if (not a) ≡ k + 1
+one_or_other k a = grind (arith, common_steps)
+
 one_more : (c : Cell) (cells : List Cell) (n : ℕ) → 1 ≤ c.satellite.id → c.satellite.id ≤ n → has_value c ≡ true
     → written_among (c ∷ cells) n ≡ written_among cells n + one_if (not (is_written cells c.satellite.id))
 unfolding written_among
 one_more c cells zero low high h = absurd (omega (arith, low, high))
-one_more c cells (suc n) low high h = by (c.satellite.id == suc n) refl (λ less. one_more c cells n low less h) where
-  sum : (k : ℕ) (a : Bool) → k + 1 ≡ k + one_if a + one_if (not a)
-  sum k a = grind (arith, common_steps)
-
-  swap : (k a b : ℕ) → k + a + b ≡ k + b + a
-  swap k a b = omega arith
-
-  by : (b : Bool) → (c.satellite.id == suc n) ≡ b
-      → (c.satellite.id ≤ n → written_among (c ∷ cells) n ≡ written_among cells n + one_if (not (is_written cells c.satellite.id)))
-      → written_among (c ∷ cells) (suc n) ≡ written_among cells (suc n) + one_if (not (is_written cells c.satellite.id))
-  by b h0 h1 = grind (arith, lower, sum, swap)
+one_more c cells (suc n) low high h = grind (arith, common_steps, lower, one_more c cells n low)
 
 none_among : (n : ℕ) → written_among [] n ≡ 0
 unfolding written_among
@@ -102,9 +95,7 @@ counted_is n last (c ∷ cells) up within above from = by (has_value c) (c.satel
   by false false e f more = no_value c cells n e ∙ more last from.1
   by true true e f more =
       one_more c cells n above.0 within.0 e ∙ ap₂ (λ k m. k + one_if (not (is_written cells m))) (more last from.1) (eqb-true c.satellite.id last f)
-      ∙ sum (counted_after last cells) (is_written cells last) where
-        sum : (k : ℕ) (a : Bool) → k + one_if a + one_if (not a) ≡ k + 1
-        sum k a = grind (arith, common_steps)
+      ∙ one_or_other (counted_after last cells) (is_written cells last)
   by true false e f more =
       let later : last < c.satellite.id = grind (arith, f, from.0) in
       one_more c cells n above.0 within.0 e ∙ ap (λ k. k + one_if (not (is_written cells c.satellite.id))) (more c.satellite.id up.0)
@@ -135,9 +126,7 @@ counted_all system cells held sorted = (is, subst (λ k. k ≤ satellites_in sys
   is =
       let sum = counted_is (satellites_in system) 0 cells (sorted_climbs cells sorted) within all (recursion_from_All (λ (c : Cell). 0 ≤ c.satellite.id) cells (λ i d less. omega arith)) in
       let none = none_written 0 cells all in
-      sym (sum ∙ ap (λ b. counted_after 0 cells + one_if b) none ∙ plus (counted_after 0 cells)) where
-        plus : (k : ℕ) → k + 0 ≡ k
-        plus k = omega arith
+      sym (sum ∙ ap (λ b. counted_after 0 cells + one_if b) none ∙ omega arith)
 
 -- A satellite of kept cells is written if one of the cells has a value.
 pub some_counted : (system : System) (cells kept : List Cell) → cells ≡ kept → AreHeld system cells → AreSorted cells

@@ -14,10 +14,6 @@ kept_sorted system planned cells h =
       apart = IsDistinct-IsPermutation nat_eq nat_eq_equiv.symm (map slot cells) (map slot (sorted_cells planned cells)) (IsPermutation-map slot cells (sorted_cells planned cells) moved) h.apart;
     }
 
-none_kept : (system : System) {cells : List Cell} → cells ≡ [] → AreKept system cells
-unfolding IsDistinct
-none_kept system none = subst (AreKept system) (sym none) (record { held = record { each = All-nil (IsHeld system); few = omega arith }; apart = tt })
-
 pub none_mapped : (lists : BySystem (Box Cells Global)) → ((s : System) → (value_of s lists).value ≡ []) → map_by (λ c. c.value) lists ≡ no_cells
 none_mapped lists none = equal_values _ _ (λ s. value_mapped s (λ c. c.value) lists ∙ none s ∙ sym (value_tabulated s (λ s. [])))
 
@@ -26,7 +22,8 @@ pub none_sorted : {cells : CellLists} → cells ≡ no_cells → (s : System) �
 none_sorted none = λ s. subst AreSorted (sym (ap (value_of s) none ∙ value_tabulated s (λ s. []))) ([], tt)
 
 pub all_empty : (lists : BySystem (Box Cells Global)) → ((s : System) → (value_of s lists).value ≡ []) → (s : System) → AreKept s (value_of s lists).value
-all_empty lists none s = none_kept s (none s)
+unfolding IsDistinct
+all_empty lists none s = subst (AreKept s) (sym (none s)) (record { held = record { each = All-nil (IsHeld s); few = omega arith }; apart = tt })
 
 -- ---- one more cell
 

@@ -1,10 +1,6 @@
 -- The plan of lists of signals, or its fault.
-use Rattle.gnss_obs.proofs.Names.{◌≡◌, ℕ, ◌<◌, true, false, List, length, refl, sym, ap, ◌∙◌, subst, arith, ◌⊎◌, inl, inr, Result, Ok, Err, IfErr, MatchResult, if◌then◌else◌, is_ok, nat_lt, sum_by, systems, index_of, value_of, map_by, BySystem, has_signal, HasSignal, plan_by, signals_in, is_none_planned, AreRead, AreAdded, plan_with, System, PlanFault, UnknownCode, RepeatedCode, NothingPlanned, Memory, SignalAt, PlanValue, plan_of, indices, IsOf, DoneOr, IsDefined, IsMade, IsMemoryFaultOr, IsPlanResult, IsUnplanned, HasOwn, Below, value_mapped, sum_none, common_steps}
+use Rattle.gnss_obs.proofs.Names.{◌≡◌, ℕ, ◌<◌, true, false, List, length, refl, sym, ap, ◌∙◌, subst, arith, ◌⊎◌, inl, inr, Result, Ok, Err, IfErr, MatchResult, if◌then◌else◌, is_ok, sum_by, systems, index_of, value_of, map_by, BySystem, has_signal, HasSignal, plan_by, signals_in, is_none_planned, AreRead, AreAdded, plan_with, System, PlanFault, UnknownCode, RepeatedCode, NothingPlanned, Memory, SignalAt, PlanValue, plan_of, indices, IsOf, DoneOr, IsDefined, IsMade, IsMemoryFaultOr, IsPlanResult, IsUnplanned, HasOwn, Below, value_mapped, sum_none, common_steps}
 use Rattle.gnss_obs.proofs.FitLemmas.{unfit_not_of}
-
-abbrev fault_of : {A : Type 0} → Result A PlanFault → PlanFault
-fault_of (Ok u) = Memory
-fault_of (Err e) = e
 
 made : {A : Type 0} (May : Type 0) (P : PlanFault → Type 0) (Done : Type 0) (added : Result A PlanFault) (lists : BySystem (List SignalAt)) (result : Result PlanValue PlanFault) → DoneOr May P Done added
     → IsMade added lists result
@@ -60,7 +56,5 @@ memory_alone lists (Err e) (inr bad) each some = absurd (by e bad) where
   by : (e : PlanFault) → IsUnplanned lists e → ⊥
   by (UnknownCode s place) u = unfit_not_of s (value_of s lists) _ u.1 (each s)
   by (RepeatedCode s place) u = unfit_not_of s (value_of s lists) _ u.1 (each s)
-  by NothingPlanned u = clash _ some (sum_none (λ s. length (value_of s lists)) (λ s. ap length (u s))) where
-    clash : (n : ℕ) → 0 < n → nat_lt 0 n ≡ false → ⊥
-    clash n h e = absurd (grind (arith, h, e))
+  by NothingPlanned u = let none = sum_none (λ s. length (value_of s lists)) (λ s. ap length (u s)) in absurd (grind (arith, some, none))
   by _ u = u

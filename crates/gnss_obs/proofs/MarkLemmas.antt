@@ -1,5 +1,5 @@
 -- A marked cell is of the same satellite and signal, and has a loss of lock indicator.
-use Rattle.gnss_obs.proofs.Names.{◌≡◌, ℕ, zero, suc, ◌+◌, ◌*◌, ◌/◌, ◌<◌, ◌≤◌, List, [], ◌∷◌, map, refl, ap, arith, length, get_or, set, All, nat_eq, sym, subst, All-head, All-cons, All-tail, IsDistinct, marked_at, with_mark, System, Cell, AreHeld, AreKept, AreSorted, IsHeld, SortKeysRise, cell_sort_key, slot}
+use Rattle.gnss_obs.proofs.Names.{◌≡◌, ℕ, zero, suc, ◌<◌, ◌≤◌, List, [], ◌∷◌, map, refl, ap, arith, length, get_or, set, All, nat_eq, sym, subst, All-head, All-cons, All-tail, IsDistinct, marked_at, with_mark, System, Cell, AreHeld, AreKept, AreSorted, IsHeld, SortKeysRise, cell_sort_key, slot}
 
 pub mark_set : (xs : List Cell) (at : ℕ) (d : Cell) → at < length xs → set xs at (with_mark (get_or xs at d)) ≡ marked_at at xs
 mark_set [] at d h = refl
@@ -23,11 +23,8 @@ mark_slots at xs = mark_same slot (λ x. refl) at xs
 pub mark_sorted : (at : ℕ) (xs : List Cell) → AreSorted xs → AreSorted (marked_at at xs)
 mark_sorted at xs h = (h.0, subst SortKeysRise (sym (mark_same (cell_sort_key h.0) (λ x. refl) at xs)) h.1)
 
-low : (n : ℕ) → n < 4 → n / 2 * 2 + 1 < 4
-low n h = grind (arith, h)
-
 pub one_held : (system : System) (x : Cell) → IsHeld system x → IsHeld system (with_mark x)
-one_held system x h = grind (arith, low)
+one_held system x h = grind (arith)
 
 all_held : (system : System) (at : ℕ) (xs : List Cell) → All (IsHeld system) xs → All (IsHeld system) (marked_at at xs)
 all_held system at [] h = h

@@ -1,33 +1,18 @@
 -- Rounding a product.
-use Rattle.gnss_obs.proofs.Names.{ℕ, ℤ, pos, negsuc, ◌≡◌, ◌+◌, ◌*◌, ◌/◌, ◌^◌, ◌<◌, ◌≤◌, ◌-ℤ◌, ◌*ℤ◌, ◌<ℤ◌, ◌≤ℤ◌, unsigned_abs, arith, w64, to_z, of_z, add-one, negsuc-*ℤ-pos, ints, unsigned_abs-mul, Option, option_map, IsNearest, IsRounded, nearest, nearest_size, common_steps}
+use Rattle.gnss_obs.proofs.Names.{ℕ, ℤ, pos, ◌≡◌, ◌+◌, ◌*◌, ◌/◌, ◌<◌, ◌≤◌, ◌-ℤ◌, ◌*ℤ◌, ◌<ℤ◌, ◌≤ℤ◌, unsigned_abs, arith, negsuc-*ℤ-pos, ints, unsigned_abs-mul, Option, option_map, IsNearest, IsRounded, nearest, nearest_size, common_steps}
 
 -- the distance of the product from the fraction
 pub size_bounds : (n q : ℕ) → 0 < q → (2 * (nearest_size n q * q) ≤ 2 * n + q) × (2 * n + q < 2 * (nearest_size n q * q) + 2 * q)
 size_bounds n q some = grind (arith, common_steps)
 
-pub neg_casts : (t : ℕ) → t < 2 ^ 62 → to_z w64 (of_z w64 (pos 0 -ℤ to_z w64 t)) ≡ pos 0 -ℤ pos t
-neg_casts t h = omega (arith, ints)
-
-pub pos_casts : (t : ℕ) → t < 2 ^ 62 → to_z w64 t ≡ pos t
-pos_casts t h = omega (arith, ints)
-
-pub nearest_neg : (a : ℤ) (q : ℕ) → a <ℤ pos 0 → nearest a q ≡ pos 0 -ℤ pos (nearest_size (unsigned_abs a) q)
-nearest_neg a q h = grind (arith, ints, add-one)
-
 -- the difference of two numbers, by its size
-apart : (s n q : ℕ) → 2 * s ≤ 2 * n + q → 2 * n + q < 2 * s + 2 * q → 2 * unsigned_abs (pos s -ℤ pos n) ≤ q
-apart s n q a b = omega (arith, ints)
-
-tied : (s n q : ℕ) → 2 * n + q < 2 * s + 2 * q → 2 * unsigned_abs (pos s -ℤ pos n) ≡ q → n < s
-tied s n q b e = omega (arith, ints)
 
 -- the product with a number turned negative
 mirrored : (t q : ℕ) → (pos 0 -ℤ pos t) *ℤ pos q ≡ pos 0 -ℤ pos (t * q)
 mirrored t q = grind arith
 
 pub nearest_is : (a : ℤ) (q : ℕ) → 0 < q → IsNearest a q (nearest a q)
-nearest_is (pos n) q some = grind (arith, common_steps, size_bounds, apart, tied)
-nearest_is (negsuc n) q some = grind (arith, common_steps, size_bounds, mirrored)
+nearest_is a q some = grind (arith, common_steps, size_bounds, mirrored)
 
 pub rounded : {A : Type 0} (above : A → ℤ) (q : ℕ) (x : Option A) → 0 < q → IsRounded above q x (option_map (λ a. nearest (above a) q) x)
 rounded above q x some = grind (arith, nearest_is)
@@ -38,7 +23,7 @@ halved n h = grind (arith, common_steps)
 
 -- the number nearest to a product
 pub nearest_below : (x : ℤ) (f h : ℕ) → x <ℤ pos 0 → 0 < f → nearest (x *ℤ pos f) (2 * h) ≡ pos 0 -ℤ pos ((unsigned_abs x * f + h) / (2 * h))
-nearest_below x f h neg some = grind (arith, common_steps, nearest_neg, unsigned_abs-mul, halved, negsuc-*ℤ-pos)
+nearest_below x f h neg some = grind (arith, common_steps, unsigned_abs-mul, halved, negsuc-*ℤ-pos)
 
 pub nearest_above : (x : ℤ) (f h : ℕ) → pos 0 ≤ℤ x → nearest (x *ℤ pos f) (2 * h) ≡ pos ((unsigned_abs x * f + h) / (2 * h))
 nearest_above x f h up = grind (arith, halved, ints)

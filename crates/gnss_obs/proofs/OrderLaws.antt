@@ -13,9 +13,6 @@ pub before_all : (a b : SortKey) (ts : List SortKey) → is_before a b ≡ true 
 before_all a b [] h k = tt
 before_all a b (t ∷ ts) h k = (before_trans a b t h k.0, before_all a b ts h k.1)
 
-before_other : (a b : SortKey) → is_before a b ≡ false → (a ≡ b → ⊥) → is_before b a ≡ true
-before_other a b h other = grind (arith, common_steps)
-
 -- ---- one more item
 
 map-insert_by : {X : Type 0} (at : X → SortKey) (x : X) (ys : List X) → map at (insert_by at x ys) ≡ insert_by (λ (s : SortKey). s) (at x) (map at ys)
@@ -29,7 +26,7 @@ all-insert_by P at x (y ∷ ys) h k = grind (arith, common_steps, all-insert_by 
 -- An item with a sort key of its own is inserted in order.
 pub rise-insert_by : {X : Type 0} (at : X → SortKey) (x : X) (ys : List X) → SortKeysRise (map at ys) → AllByRecursion (λ y. at x ≡ at y → ⊥) ys → SortKeysRise (map at (insert_by at x ys))
 rise-insert_by at x [] r other = (tt, tt)
-rise-insert_by at x (y ∷ ys) r other = grind (arith, before_all, before_other, all-insert_by, map-insert_by, rise-insert_by at x ys r.1 other.1)
+rise-insert_by at x (y ∷ ys) r other = grind (arith, before_all, all-insert_by, map-insert_by, rise-insert_by at x ys r.1 other.1)
 
 -- No two items have the same sort key.
 abbrev pub Differ : {X : Type 0} → (X → SortKey) → List X → Type 0
@@ -47,13 +44,14 @@ rise_onto : {X : Type 0} (at : X → SortKey) (ys xs : List X) → SortKeysRise 
 rise_onto at ys [] r all d = r
 rise_onto at ys (x ∷ xs) r all d = rise_onto at (insert_by at x ys) xs (rise-insert_by at x ys r all.0) (differ_more at x ys xs d.0 all.1) d.1
 
-differ_none : {X : Type 0} (at : X → SortKey) (xs : List X) → AllByRecursion (DifferFrom at []) xs
-differ_none at [] = tt
-differ_none at (x ∷ xs) = (tt, differ_none at xs)
+-- Nothing is asked of the items.
+pub none_each : {X : Type 0} (xs : List X) → AllByRecursion (λ x. Unit {0}) xs
+none_each [] = tt
+none_each (x ∷ xs) = (tt, none_each xs)
 
 -- The sort keys of sorted items rise if no two are the same.
 pub sorted_rise : {X : Type 0} (at : X → SortKey) (xs : List X) → Differ at xs → SortKeysRise (map at (fold (λ zs z. insert_by at z zs) [] xs))
-sorted_rise at xs d = rise_onto at [] xs tt (differ_none at xs) d
+sorted_rise at xs d = rise_onto at [] xs tt (none_each xs) d
 
 -- Sorting only moves items.
 insert_moves : {X : Type 0} (at : X → SortKey) (x : X) (ys : List X) → IsPermutation (x ∷ ys) (insert_by at x ys)

@@ -1,7 +1,8 @@
 -- Codes separated by commas, and the signals of a plan.
-use Rattle.gnss_obs.proofs.Names.{bytes_eq, is_some, ◌⊎◌, ◌≡◌, ℕ, suc, zero, ◌+◌, ◌<◌, ◌≤◌, ◌==◌, ◌||◌, Bool, true, false, List, [], ◌∷◌, ◌++◌, length, All, nat_eq, refl, sym, ap, ap₂, ◌∙◌, subst, arith, Option, Some, None, Result, Ok, Err, rules, true≢false, if◌then◌else◌, codes, is_err, Bor, nat_eq_equiv, IsDistinct-push, All-push, All-head, All-map, All-tail, All-weaker, MayTakeCode, ListedSignal, RepeatedCode, System, SignalAt, IsSignal, table, signal_of_code, signal_where, signal_at, PlanFault, between_commas, one_signal_more, below, signals_of, signals_after, IsTaken, indices, IsMemoryFaultOr, IsOf, ArePlanned, DoneOr, RefusesCode, TakesCode, list_any, position_or_len, before_first, after_first, IsDistinct, common_steps, Glonass, ChannelsValue, no_channels, has_signal, signals_coded, is_first_listed, is_nil, with_channels, PlanValue, planned_of}
+use Rattle.gnss_obs.proofs.Names.{is_some, ◌⊎◌, ◌≡◌, ℕ, suc, zero, ◌+◌, ◌<◌, ◌≤◌, ◌==◌, ◌||◌, Bool, true, false, List, [], ◌∷◌, ◌++◌, length, length-map, map-append, All, nat_eq, refl, sym, ap, ap₂, ◌∙◌, subst, arith, Option, Some, None, Result, Ok, Err, rules, true≢false, codes, is_err, Bor, nat_eq_equiv, IsDistinct-push, All-push, All-head, All-map, All-tail, All-weaker, MayTakeCode, ListedSignal, RepeatedCode, System, SignalAt, IsSignal, table, signal_of_code, signal_where, signal_at, PlanFault, between_commas, one_signal_more, below, signals_of, signals_after, IsTaken, indices, IsMemoryFaultOr, IsOf, ArePlanned, DoneOr, RefusesCode, TakesCode, list_any, position_or_len, before_first, after_first, IsDistinct, common_steps, has_signal, signals_coded, is_first_listed, is_nil}
 use Rattle.std.proofs.lemmas.Slice.Eq.{bytes_eq-Decides}
 use Rattle.std.proofs.lemmas.Map.Steps.{length-le_from_distinct_below}
+use Rattle.std.proofs.lemmas.List.Folds.{list_any-append}
 use Rattle.std.proofs.lemmas.Str.Pattern.{IsSplitOnceResult, split_once_first}
 
 abbrev comma : ℕ → Bool
@@ -31,12 +32,10 @@ any_index n [] = refl
 any_index n (s ∷ ss) = ap (λ b. (n == s.index) || b) (any_index n ss)
 
 pub length_indices : (ss : List SignalAt) → length (indices ss) ≡ length ss
-length_indices [] = refl
-length_indices (s ∷ ss) = ap suc (length_indices ss)
+length_indices ss = length-map ss (λ s. s.index)
 
 pub indices-push : (ss : List SignalAt) (s : SignalAt) → indices (ss ++ s ∷ []) ≡ indices ss ++ s.index ∷ []
-indices-push [] s = refl
-indices-push (r ∷ ss) s = ap (λ l. r.index ∷ l) (indices-push ss s)
+indices-push ss s = map-append (λ s. s.index) ss (s ∷ [])
 
 abbrev OfSystem : System → SignalAt → Type 0
 OfSystem system s = (s.system ≡ system) × IsSignal s
@@ -77,24 +76,15 @@ pub some_planned : (ss : List SignalAt) {planned : List ℕ} → indices ss ≡ 
 some_planned [] same h = absurd (h refl)
 some_planned (s ∷ ss) same h = sym (ap is_nil same)
 
-pub channelled : (p : PlanValue) (channels : ChannelsValue) → is_nil (planned_of Glonass p) ≡ false → record p { channels = channels } ≡ with_channels p channels
-channelled p channels h = ap (λ (b : Bool). record p { channels = if b then no_channels else channels }) (sym h)
-
 -- ---- one more code
 
 pub repeated : (system : System) (ss : List SignalAt) (o : Option SignalAt) (s : SignalAt) (rest : List ℕ → Result (List ℕ) PlanFault) → o ≡ Some s
     → list_any (λ (r : SignalAt). s.index == r.index) ss ≡ true → one_signal_more system (indices ss) o rest ≡ Err (RepeatedCode system (length ss))
-repeated system ss o s rest is has =
-    ap (λ o. one_signal_more system (indices ss) o rest) is
-    ∙ ap (λ b. if b then Err (RepeatedCode system (length (indices ss))) else rest (indices ss ++ s.index ∷ [])) (sym (any_index s.index ss) ∙ has)
-    ∙ ap (λ n. Err (RepeatedCode system n)) (length_indices ss)
+repeated system ss o s rest is has = rw (is, ← any_index s.index ss, has, length_indices ss) refl
 
 pub accepted : (system : System) (ss : List SignalAt) (o : Option SignalAt) (s : SignalAt) (rest : List ℕ → Result (List ℕ) PlanFault) → o ≡ Some s
     → list_any (λ (r : SignalAt). s.index == r.index) ss ≡ false → one_signal_more system (indices ss) o rest ≡ rest (indices (ss ++ s ∷ []))
-accepted system ss o s rest is has =
-    ap (λ o. one_signal_more system (indices ss) o rest) is
-    ∙ ap (λ b. if b then Err (RepeatedCode system (length (indices ss))) else rest (indices ss ++ s.index ∷ [])) (sym (any_index s.index ss) ∙ has)
-    ∙ ap rest (sym (indices-push ss s))
+accepted system ss o s rest is has = rw (is, ← any_index s.index ss, has, indices-push ss s) refl
 
 pub next_code : (system : System) (before after : List SignalAt) (text code rest : List ℕ) → between_commas text ≡ code ∷ between_commas rest
     → IsTaken system (indices before) (signal_of_code system code) (indices after)
@@ -136,13 +126,9 @@ of_where system test s h = grind (arith, common_steps)
 pub at_index : (system : System) (i : ℕ) (s : SignalAt) → signal_at system i ≡ Some s → (s.system ≡ system) × IsSignal s × (s.index ≡ i)
 at_index system i s h = grind (arith, common_steps)
 
-any-append : (q : ℕ) (xs ys : List ℕ) → list_any (nat_eq q) (xs ++ ys) ≡ (list_any (nat_eq q) xs || list_any (nat_eq q) ys)
-any-append q [] ys = refl
-any-append q (x ∷ xs) ys = grind (arith, common_steps, any-append q xs ys)
-
 none_below : (m n : ℕ) → m ≤ n → list_any (nat_eq n) (below m) ≡ false
 none_below zero n le = refl
-none_below (suc m) n le = grind (arith, common_steps, any-append, none_below m n (omega (arith, le)))
+none_below (suc m) n le = grind (arith, common_steps, list_any-append, none_below m n (omega (arith, le)))
 
 below-more : (i : ℕ) → below (i + 1) ≡ below i ++ i ∷ []
 below-more i = let e : i + 1 ≡ suc i = omega arith in rw e refl
@@ -171,11 +157,8 @@ pub when_none : (system : System) (text : List ℕ) (r : List SignalAt) → text
     → (signals_of system text ≡ Ok (indices r)) × IsOf system r
 when_none system text r is e = rw (is, e) (refl, none_of system)
 
-unlike : (xs ys : List ℕ) → (xs ≡ ys → ⊥) → bytes_eq xs ys ≡ false
-unlike xs ys other = grind (arith, bytes_eq-Decides)
-
 -- The signals of a text other than `all` and `none` are those of its codes.
 pub when_codes : {A : Type 0} (system : System) (text : List ℕ) (after : List SignalAt) (result : Result A PlanFault) → (text ≡ codes "all" → ⊥) → (text ≡ codes "none" → ⊥)
     → DoneOr (is_first_listed system (between_commas text) ≡ true) (λ e. signals_coded system text ≡ Err e) (ArePlanned system (signals_coded system text) after) result
     → DoneOr (has_signal system text ≡ true) (λ e. signals_of system text ≡ Err e) (ArePlanned system (signals_of system text) after) result
-when_codes system text after result every none h = grind (arith, unlike)
+when_codes system text after result every none h = grind (arith, bytes_eq-Decides)

@@ -55,10 +55,7 @@ without set id = bit_and set (bit_not w64 (1 * 2 ^ id % 2 ^ 64))
 
 lowest_least : (set n : ℕ) → set < 2 ^ 64 → bit_at set n ≡ 1 → lowest set ≤ n
 lowest_least zero n small e = absurd (omega (arith, bit_at-zero n, e))
-lowest_least (suc m) n small e = by (nat_lt n (lowest (suc m))) refl where
-  by : (b : Bool) → nat_lt n (lowest (suc m)) ≡ b → lowest (suc m) ≤ n
-  by false x = grind (arith, x)
-  by true x = let none = (bit_at-trailing_zeros w64 (suc m) (omega arith) small).2 n (grind (arith, x)) in absurd (omega (arith, none, e))
+lowest_least (suc m) n small e = let none = bit_at-trailing_zeros w64 (suc m) (omega arith) small in grind (arith, common_steps, none.1, e)
 
 still_set : (set id n : ℕ) → bit_at (without set id) n ≡ 1 → bit_at set n ≡ 1
 still_set set id n e = grind (arith, common_steps, bit_at-lt, bit_at_and)
@@ -78,9 +75,7 @@ lowest_rises set some small = by (without set id) refl where
   low = (lowest_bit set some small).0
 
   above : (n : ℕ) → id ≤ n → (n ≡ id → ⊥) → id + 1 ≤ n
-  above n h other = step (nat_lt id n) refl where
-    step : (b : Bool) → nat_lt id n ≡ b → id + 1 ≤ n
-    step b h0 = omega arith
+  above n h other = omega arith
 
   by : (now : ℕ) → without set id ≡ now → id + 1 ≤ lowest now
   by zero is = let end = trailing_of_zero 64 in omega (arith, low, end)

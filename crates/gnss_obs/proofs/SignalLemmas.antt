@@ -1,6 +1,7 @@
 -- Signals in a set, and the indices of a table's signals in it.
-use Rattle.gnss_obs.proofs.Names.{◌≡◌, ◌≢◌, ℕ, ◌+◌, ◌<◌, ◌≤◌, ◌==◌, ◌||◌, Bool, true, false, not, List, [], ◌∷◌, ◌++◌, length, All, set, get_or, nat_eq, nat_lt, refl, sym, ap, ap₂, ◌∙◌, subst, arith, Option, Some, None, if◌then◌else◌, cond, position, is_some, option_map, option_and_then, rules, get_or-set_other, length_push, get_or-set_at, All-head, All-tail, list_any, position_or_len, IsDistinct, SignalAt, IsSignal, most_signals, AreFound, AreRows, IsOf, common_steps, position-Some, slice_get-get_or, each_system, System, ListedSignal, table, id_of, indices, signal_at, signal_of_id, option_map_or, if_planned, planned_signal, eqb-true, not-true, not-false}
+use Rattle.gnss_obs.proofs.Names.{◌≡◌, ◌≢◌, ℕ, ◌+◌, ◌<◌, ◌≤◌, ◌==◌, ◌||◌, Bool, true, false, not, List, [], ◌∷◌, ◌++◌, length, All, set, get_or, nat_eq, nat_lt, refl, sym, ap, ap₂, ◌∙◌, subst, arith, Option, Some, None, if◌then◌else◌, cond, position, is_some, option_map, option_and_then, rules, get_or-set_other, length_push, get_or-set_at, All-head, All-tail, list_any, position_or_len, IsDistinct, SignalAt, IsSignal, most_signals, AreFound, AreRows, IsOf, common_steps, position-Some, slice_get-get_or, each_system, System, ListedSignal, table, id_of, indices, signal_at, signal_of_id, option_map_or, if_planned, planned_signal, eq-eqb, eqb-true, ne_eqb, not-true, not-false}
 use Rattle.std.proofs.lemmas.List.Folds.{position_or_len_push}
+use Rattle.gnss_obs.proofs.FitLemmas.{of_system}
 use Rattle.gnss_obs.proofs.PlanLaws.{indices-push, is_of-push}
 use Rattle.gnss_obs.proofs.TableLaws.{id_back}
 
@@ -85,20 +86,13 @@ no_signal system = grind (arith, each_system)
 pub none_planned : (system : System) (id : ℕ) → planned_signal system [] id ≡ None
 none_planned system id = grind arith
 
-last_of : (system : System) (ss : List SignalAt) (s : SignalAt) → All (λ (r : SignalAt). (r.system ≡ system) × IsSignal r) (ss ++ s ∷ []) → s.system ≡ system
-last_of system [] s h = (All-head (λ (r : SignalAt). (r.system ≡ system) × IsSignal r) s [] h).0
-last_of system (r ∷ ss) s h = last_of system ss s (All-tail (λ (r : SignalAt). (r.system ≡ system) × IsSignal r) r (ss ++ s ∷ []) h)
-
 -- One more signal.
 module _ (s : SignalAt) (listed : IsSignal s) (ss : List SignalAt) (apart : list_any (nat_eq s.index) (indices ss) ≡ false) where
   own_row : planned_signal s.system (indices (ss ++ s ∷ [])) (id_of s) ≡ Some s
   own_row =
-      let placed = ap is_some (first_here (λ i. i == s.index) (indices ss) s.index (same s.index) (any_flip s.index (indices ss) ∙ apart)) in
+      let placed = ap is_some (first_here (λ i. i == s.index) (indices ss) s.index (eq-eqb s.index s.index refl) (any_flip s.index (indices ss) ∙ apart)) in
       ap (option_and_then (if_planned (indices (ss ++ s ∷ [])))) (id_back s listed)
       ∙ ap (λ l. if_planned l s) (indices-push ss s) ∙ ap (λ b. if b then Some s else None) placed
-    where
-      same : (n : ℕ) → (n == n) ≡ true
-      same n = grind (arith)
 
   other_row : (id : ℕ) → id ≢ id_of s → planned_signal s.system (indices (ss ++ s ∷ [])) id ≡ planned_signal s.system (indices ss) id
   other_row id apart = ap (λ l. planned_signal s.system l id) (indices-push ss s) ∙ by (signal_of_id s.system id) refl where
@@ -106,19 +100,16 @@ module _ (s : SignalAt) (listed : IsSignal s) (ss : List SignalAt) (apart : list
     by None e = refl
     by (Some t) e =
         let found = id_found s.system id t e in
-        let other : (s.index == t.index) ≡ false = unlike (λ i. apart (sym found.2 ∙ ap id_of (alike t found.0 i))) in
+        let other : (s.index == t.index) ≡ false = ne_eqb s.index t.index (λ i. apart (sym found.2 ∙ ap id_of (alike t found.0 i))) in
         ap (λ o. if is_some o then Some t else None) (first_skip (λ i. i == t.index) (indices ss) s.index other)
       where
         alike : (t : SignalAt) → t.system ≡ s.system → s.index ≡ t.index → t ≡ s
         alike t a b = ap₂ (λ (c : System) (i : ℕ). record { system = c; index = i }) a (sym b)
 
-        unlike : {m n : ℕ} → (m ≡ n → ⊥) → (m == n) ≡ false
-        unlike h = grind (arith, h)
-
   pub rows_more : (rows : List ℕ) {new : List SignalAt} {row id : ℕ} → AreRows rows ss → IsOf s.system ss → length rows ≡ 33 → row ≡ s.index → id ≡ id_of s → new ≡ ss ++ s ∷ []
       → AreRows (set rows id row) new
   rows_more rows {new} {row} {id} all of size at own is = subst (AreRows (set rows id row)) (sym is) (λ system more n small.
-      rw (← last_of system ss s more.each) (by n small (nat_eq id n) refl)) where
+      rw (← of_system system ss [] s more.each) (by n small (nat_eq id n) refl)) where
         by : (n : ℕ) → n ≤ 32 → (b : Bool) → nat_eq id n ≡ b → signal_at s.system (get_or (set rows id row) n 0) ≡ planned_signal s.system (indices (ss ++ s ∷ [])) n
         by n small true e =
             let same : n ≡ id = grind (arith, e) in

@@ -1,10 +1,5 @@
 -- The range of the values of a message.
-use Rattle.gnss_obs.proofs.Names.{ℕ, ℤ, ◌≡◌, ◌^◌, ◌<◌, ◌≤◌, unsigned_abs, arith, w64, to_z, of_z, ints, most_hertz, IfSome, Satellite, AreChannels, ChannelsValue, hertz_in, SignalAt, nearest_pseudorange, nearest_phase, common_steps}
-
--- ---- carriers
-
-pub channels_within : (channels : ChannelsValue) (satellite : Satellite) (s : SignalAt) → AreChannels channels → IfSome (hertz_in channels satellite s) (λ h. h ≤ most_hertz)
-channels_within channels satellite s h = grind (arith, common_steps)
+use Rattle.gnss_obs.proofs.Names.{ℕ, ℤ, ◌≡◌, ◌^◌, ◌<◌, ◌≤◌, unsigned_abs, arith, w64, to_z, of_z, ints, most_hertz, nearest_pseudorange, nearest_phase, common_steps}
 
 -- ---- values
 

@@ -1,7 +1,7 @@
 -- Cells sorted by numbers, and cells that are in order.
-use Rattle.gnss_obs.proofs.Names.{◌≡◌, ℕ, zero, suc, ◌+◌, ◌*◌, ◌<◌, ◌≤◌, ◌==◌, Bool, true, false, ◌||◌, List, [], ◌∷◌, ◌++◌, map, drop, refl, sym, ap, ap₂, ◌∙◌, subst, arith, length, get_or, Option, Some, All, nat_eq, is_some, ◌&&◌, fold, nat_lt, position, append_assoc, append-nil, get_or-map, length-append, All-append, All-cons, All-get_or, All-head, All-nil, All-push, All-tail, All-weaker, position-Some, All-permutation, IsPermutation-sym, length_permutation, apart_from_distinct, IsDistinct-head, IsDistinct-tail, Rise, RiseTo, AreBelow, AreHeld, AreKept, AreOrderedBy, IsPlanned, Cell, IsHeld, IsOf, IsSignal, SignalAt, System, has_slot, indices, IsDistinct, slot, table, place_in, SortKey, is_before, SortKeysRise, insert_by, cell_sort_key, sorted_cells, cell_number, option_map_or, AllByRecursion, common_steps}
+use Rattle.gnss_obs.proofs.Names.{◌≡◌, ℕ, zero, suc, ◌+◌, ◌*◌, ◌<◌, ◌≤◌, ◌==◌, Bool, true, false, ◌||◌, List, [], ◌∷◌, ◌++◌, map, drop, refl, sym, ap, ap₂, ◌∙◌, subst, arith, length, get_or, Option, Some, All, nat_eq, is_some, fold, nat_lt, position, append_assoc, append-nil, get_or-append-add, get_or-map, length-append, All-append, All-cons, All-get_or, All-head, All-nil, All-push, All-tail, All-weaker, position-Some, All-permutation, IsPermutation-sym, length_permutation, apart_from_distinct, IsDistinct-head, IsDistinct-tail, Rise, RiseTo, AreBelow, AreHeld, AreKept, AreOrderedBy, IsPlanned, Cell, IsHeld, IsOf, IsSignal, SignalAt, System, has_slot, indices, IsDistinct, slot, table, place_in, SortKey, is_before, SortKeysRise, insert_by, cell_sort_key, sorted_cells, cell_number, option_map_or, AllByRecursion, common_steps, recursion_from_All, All-from_recursion}
 use Rattle.gnss_obs.proofs.HeldLemmas.{low_index}
-use Rattle.gnss_obs.proofs.OrderLaws.{Before, Differ, sort_moves, sorted_rise}
+use Rattle.gnss_obs.proofs.OrderLaws.{Before, Differ, none_each, sort_moves, sorted_rise}
 use Rattle.gnss_obs.proofs.PlanLaws.{few_signals, length_indices}
 
 -- ---- numbers of cells
@@ -15,8 +15,7 @@ table_few system = grind (arith, common_steps)
 -- ---- the sorted cells, one key after another
 
 rest_of : {X : Type 0} (P : X → Type 0) (xs ys : List X) → All P (xs ++ ys) → All P ys
-rest_of P [] ys h = h
-rest_of P (x ∷ xs) ys h = rest_of P xs ys (All-tail P x (xs ++ ys) h)
+rest_of P xs ys h = λ i d less. rw (get_or-append-add xs ys i d) at (h (length xs + i) d (omega (arith, length-append xs ys, less)))
 
 -- What is true of each sorted cell is true of each cell, and the other way round.
 of_sorted : (P : Cell → Type 0) (planned : List ℕ) (cells : List Cell) → All P (sorted_cells planned cells) → All P cells
@@ -109,14 +108,10 @@ number_is : (planned : List ℕ) (c : Cell) (p : ℕ) → place_in c.signal plan
 number_is planned c p e = ap (λ o. 64 * c.satellite.id + option_map_or (λ n. n) o 0) e
 
 same_place : (planned : List ℕ) (i p : ℕ) {a : ℕ} → IsDistinct nat_eq planned → i < length planned → p < length planned → get_or planned i 0 ≡ a → get_or planned p 0 ≡ a → p ≡ i
-same_place planned i p {a} apart h k e f = by (nat_lt i p) (nat_lt p i) refl refl where
-  clash : (b : Bool) → nat_eq a a ≡ b → b ≡ false → ⊥
-  clash b h0 h1 = grind arith
-
-  by : (b c : Bool) → nat_lt i p ≡ b → nat_lt p i ≡ c → p ≡ i
-  by true c x y = absurd (clash (nat_eq a a) refl (sym (ap₂ (λ n m. nat_eq n m) e f) ∙ apart_from_distinct nat_eq planned i p 0 apart (let l : i < p = grind (arith, x) in l) k))
-  by false true x y = absurd (clash (nat_eq a a) refl (sym (ap₂ (λ n m. nat_eq n m) f e) ∙ apart_from_distinct nat_eq planned p i 0 apart (let l : p < i = grind (arith, y) in l) h))
-  by false false x y = grind (arith, x, y)
+same_place planned i p apart h k e f =
+    let a = apart_from_distinct nat_eq planned i p 0 apart in
+    let b = apart_from_distinct nat_eq planned p i 0 apart in
+    grind (arith, common_steps, a, b)
 
 -- Cells of the same sort key have the same slot.
 same_slot : (planned : List ℕ) (c d : Cell) → IsPlanned planned c → IsPlanned planned d → cell_sort_key planned c ≡ cell_sort_key planned d → slot c ≡ slot d
@@ -254,25 +249,20 @@ Last at ys x = AllByRecursion (λ y. is_before (at x) (at y) ≡ false) ys
 not_after : (a b : SortKey) → is_before a b ≡ true → is_before b a ≡ false
 not_after a b h = grind (arith, h)
 
-last_push : {X : Type 0} (at : X → SortKey) (ys : List X) (x z : X) → Last at ys z → is_before (at x) (at z) ≡ true → Last at (ys ++ x ∷ []) z
-last_push at [] x z all h = (not_after (at x) (at z) h, tt)
-last_push at (y ∷ ys) x z all h = (all.0, last_push at ys x z all.1 h)
+all_push : {X : Type 0} (P : X → Type 0) (xs : List X) (x : X) → AllByRecursion P xs → P x → AllByRecursion P (xs ++ x ∷ [])
+all_push P xs x all h = recursion_from_All P (xs ++ x ∷ []) (All-push P xs x (All-from_recursion P xs all) h)
 
 last_all : {X : Type 0} (at : X → SortKey) (ys : List X) (x : X) (zs : List X) → AllByRecursion (Last at ys) zs → AllByRecursion (λ t. is_before (at x) t ≡ true) (map at zs) → AllByRecursion (Last at (ys ++ x ∷ [])) zs
 last_all at ys x [] all h = tt
-last_all at ys x (z ∷ zs) all h = (last_push at ys x z all.0 h.0, last_all at ys x zs all.1 h.1)
+last_all at ys x (z ∷ zs) all h = (all_push (λ y. is_before (at z) (at y) ≡ false) ys x all.0 (not_after (at x) (at z) h.0), last_all at ys x zs all.1 h.1)
 
 rise_onto : {X : Type 0} (at : X → SortKey) (ys xs : List X) → AllByRecursion (Last at ys) xs → SortKeysRise (map at xs) → fold (λ zs x. insert_by at x zs) ys xs ≡ ys ++ xs
 rise_onto at ys [] all rise = sym (append-nil ys)
 rise_onto at ys (x ∷ xs) all rise = grind (arith, insert_last, last_all, append_assoc, rise_onto at (ys ++ x ∷ []) xs (last_all at ys x xs all.1 rise.0) rise.1)
 
-none_before : {X : Type 0} (at : X → SortKey) (xs : List X) → AllByRecursion (Last at []) xs
-none_before at [] = tt
-none_before at (x ∷ xs) = (tt, none_before at xs)
-
 -- Cells in order are their own sorted list.
 pub sorted_same : (planned : List ℕ) (cells : List Cell) → SortKeysRise (map (cell_sort_key planned) cells) → sorted_cells planned cells ≡ cells
-sorted_same planned cells rise = rise_onto (cell_sort_key planned) [] cells (none_before (cell_sort_key planned) cells) rise
+sorted_same planned cells rise = rise_onto (cell_sort_key planned) [] cells (none_each cells) rise
 
 -- A list of fewer than two cells is sorted.
 pub few_sorted : (planned : List ℕ) (cells : List Cell) → length cells < 2 → sorted_cells planned cells ≡ cells
@@ -282,24 +272,15 @@ few_sorted planned (c ∷ d ∷ cells) h = absurd (omega (arith, h))
 
 -- ---- cells in the order of their slots
 
-all_push : (n x : ℕ) (ns : List ℕ) → n < x → AllByRecursion (λ m. n < m) ns → AllByRecursion (λ m. n < m) (ns ++ x ∷ [])
-all_push n x [] h all = (h, tt)
-all_push n x (m ∷ ns) h all = (all.0, all_push n x ns h all.1)
-
 -- One more number, of at least the bound.
 pub rise_push : (bound x : ℕ) (ns : List ℕ) → bound ≤ x → RiseTo bound ns → RiseTo (x + 1) (ns ++ x ∷ [])
 rise_push bound x [] h r = (omega arith, tt, tt)
-rise_push bound x (n ∷ ns) h r = let l = r.0 in (omega (arith, h, l), all_push n x ns (omega (arith, h, l)) r.1, rise_push bound x ns h r.2)
-
-all_at : (n : ℕ) (ns : List ℕ) (i : ℕ) → AllByRecursion (λ m. n < m) ns → i < length ns → n < get_or ns i 0
-all_at n [] i all h = absurd (omega (arith, h))
-all_at n (m ∷ ns) zero all h = all.0
-all_at n (m ∷ ns) (suc i) all h = all_at n ns i all.1 (omega (arith, h))
+rise_push bound x (n ∷ ns) h r = let l = r.0 in (omega (arith, h, l), all_push (λ m. n < m) ns x r.1 (omega (arith, h, l)), rise_push bound x ns h r.2)
 
 rise_at : (bound : ℕ) (ns : List ℕ) (i j : ℕ) → RiseTo bound ns → i < j → j < length ns → get_or ns i 0 < get_or ns j 0
 rise_at bound [] i j r h k = absurd (omega (arith, k))
 rise_at bound (n ∷ ns) i zero r h k = absurd (omega (arith, h))
-rise_at bound (n ∷ ns) zero (suc j) r h k = all_at n ns j r.1 (omega (arith, k))
+rise_at bound (n ∷ ns) zero (suc j) r h k = All-get_or (λ m. n < m) ns j 0 (omega (arith, k)) (All-from_recursion (λ m. n < m) ns r.1)
 rise_at bound (n ∷ ns) (suc i) (suc j) r h k = rise_at bound ns i j r.2 (omega (arith, h)) (omega (arith, k))
 
 abbrev IsPlannedCell : List ℕ → Cell → Type 0
@@ -321,9 +302,7 @@ before_slot bound planned c d r h k less =
         by false false x y = let same : p ≡ q = grind (arith, x, y) in let e = ap (λ n. get_or planned n 0) same in absurd (omega (arith, e, at.2, bt.2, l))
 
       compare : (p q : ℕ) → (c.signal.index < d.signal.index → p < q) → is_before (record { satellite = c.satellite.id; place = p }) (record { satellite = d.satellite.id; place = q }) ≡ true
-      compare p q more = by (nat_lt c.satellite.id d.satellite.id) refl where
-        by : (e : Bool) → nat_lt c.satellite.id d.satellite.id ≡ e → (e || ((c.satellite.id == d.satellite.id) && nat_lt p q)) ≡ true
-        by e h0 = grind arith
+      compare p q more = grind arith
 
 slots_first : (bound : ℕ) (planned : List ℕ) (c : Cell) (cells : List Cell) → RiseTo bound planned → IsPlannedCell planned c → All (IsPlannedCell planned) cells
     → AllByRecursion (λ n. slot c < n) (map slot cells) → Before (cell_sort_key planned c) (map (cell_sort_key planned) cells)

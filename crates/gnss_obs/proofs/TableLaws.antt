@@ -1,6 +1,6 @@
 -- The signal tables: their IDs rise row by row, each ID and each code has one row, and each ID the row that is listed
 -- for it.
-use Rattle.gnss_obs.proofs.Names.{ℕ, ◌≡◌, ◌+◌, ◌-◌, ◌<◌, ◌≤◌, ◌==◌, ◌&&◌, Bool, true, false, nat_lt, length, position, List, Option, Some, None, Bor, slice_index_or, refl, ap, ◌∙◌, arith, slice_get, unwrap_or, option_copied, option_map, is_some, IfSome, slice_get_past, slice_get_read, list_all, systems, each_system, System, SignalAt, IsSignal, after, greatest_signal_id, id_of, signal_of_id, table, rows, common_steps, passes_at, passes_below, and_parts, ltb-true, eqb-true}
+use Rattle.gnss_obs.proofs.Names.{ℕ, ◌≡◌, ◌+◌, ◌-◌, ◌<◌, ◌≤◌, ◌==◌, ◌&&◌, Bool, true, false, nat_lt, length, position, List, Option, Some, None, Bor, slice_index_or, refl, ap, ◌∙◌, arith, slice_get, unwrap_or, option_copied, option_map, option_map_or, is_some, IfSome, slice_get_past, slice_get_read, list_all, systems, each_system, System, SignalAt, IsSignal, after, greatest_signal_id, id_of, signal_of_id, table, rows, common_steps, passes_at, passes_below, and_parts, ltb-true, eqb-true, ne_eqb}
 use Rattle.gnss_obs.proofs.SortLemmas.{table_few}
 
 -- the ID of a row is below the next one
@@ -28,19 +28,13 @@ pub ids_within : (s : SignalAt) → IsSignal s → (1 ≤ id_of s) × (id_of s �
 ids_within s listed = grind (arith, common_steps)
 
 -- the first row that passes a test
-is_at : Option ℕ → ℕ → Bool
-is_at None i = false
-is_at (Some j) i = j == i
-
-from_at : (o : Option ℕ) (i : ℕ) → is_at o i ≡ true → o ≡ Some i
-unfolding is_at
+from_at : (o : Option ℕ) (i : ℕ) → option_map_or (λ j. j == i) o false ≡ true → o ≡ Some i
 from_at o i h = grind (arith, eqb-true)
 
 abbrev has_first_id : System → ℕ → Bool
-has_first_id system i = is_at (position (λ e. e.0 == id_of (signal system i)) (table system)) i
+has_first_id system i = option_map_or (λ j. j == i) (position (λ e. e.0 == id_of (signal system i)) (table system)) false
 
 pub id_back : (s : SignalAt) → IsSignal s → signal_of_id s.system (id_of s) ≡ Some s
-unfolding is_at
 id_back s listed = ap (option_map (signal s.system)) (from_at _ s.index (at_each has_first_id refl s.system s.index listed))
 
 -- a listed row is the first one with the ID
@@ -74,7 +68,4 @@ pub row_is : (system : System) (id : ℕ) (o : Option (Bor ℕ)) → id < 256 �
 unfolding row_at
 row_is system id o below some here row is =
     let fits = rw (← (is ∙ read_at (rows system) id o some here)) at (rows_fit system id below) in
-    (λ none. no_row (length (table system)) _ row fits none (table_few system), λ other. same_row (length (table system)) _ row fits (unlike row other))
-  where
-    unlike : (n : ℕ) → (n ≡ 255 → ⊥) → (n == 255) ≡ false
-    unlike n other = grind (arith, other)
+    (λ none. no_row (length (table system)) _ row fits none (table_few system), λ other. same_row (length (table system)) _ row fits (ne_eqb row 255 other))

@@ -91,17 +91,12 @@ walk_is t c lt is =
     let there = date_of_is (t / 86_400_000) (omega (arith, lt)) in
     let same = epoch_day_injective (date (pos c.year) c.month c.day is.valid.date) (date (pos (date_of (t / 86_400_000)).year) (date_of (t / 86_400_000)).month (date_of (t / 86_400_000)).day there.0)
     (same_days _ _ _ _ is.days there.1) in
-    same_civil c (civil_of t) (same_number _ _ same.0) same.1 same.2
-    (hour_of c (t % 86_400_000) is.valid is.clock) (minute_of c (t % 86_400_000) is.valid is.clock) (millisecond_of c (t % 86_400_000) is.valid is.clock)
+    let clock = parts_of_day c (t % 86_400_000) is.valid is.clock in
+    same_civil c (civil_of t) (same_number _ _ same.0) same.1 same.2 clock.0 clock.1 clock.2
   where
     same_days : (a b first : ℤ) (n : ℕ) → a -ℤ first ≡ pos n → b -ℤ first ≡ pos n → a ≡ b
     same_days a b first n e f = omega (arith, signed_arith, e, f)
 
-    hour_of : (c : Civil) (clock : ℕ) → IsCivil c → clock_of c ≡ clock → c.hour ≡ clock / 3_600_000
-    hour_of c clock valid e = omega (arith, e, valid.minute, valid.millisecond)
-
-    minute_of : (c : Civil) (clock : ℕ) → IsCivil c → clock_of c ≡ clock → c.minute ≡ clock / 60_000 % 60
-    minute_of c clock valid e = omega (arith, e, valid.minute, valid.millisecond)
-
-    millisecond_of : (c : Civil) (clock : ℕ) → IsCivil c → clock_of c ≡ clock → c.millisecond ≡ clock % 60_000
-    millisecond_of c clock valid e = omega (arith, e, valid.minute, valid.millisecond)
+    parts_of_day : (c : Civil) (clock : ℕ) → IsCivil c → clock_of c ≡ clock
+        → (c.hour ≡ clock / 3_600_000) × (c.minute ≡ clock / 60_000 % 60) × (c.millisecond ≡ clock % 60_000)
+    parts_of_day c clock valid e = omega (arith, e, valid.minute, valid.millisecond)

@@ -1,9 +1,9 @@
 -- The systems by their indices, and the values of one system after a change of another's.
-use Rattle.std.proofs.Common.{ℕ, ◌≡◌, ◌+◌, ◌<◌, ◌==◌, Bool, true, false, true≢false, List, [], ◌∷◌, ◌++◌, length, get_or, refl, sym, ap, ◌∙◌, subst, arith}
+use Rattle.std.proofs.Common.{ℕ, ◌≡◌, ◌+◌, ◌<◌, ◌==◌, Bool, true, false, true≢false, List, [], ◌∷◌, ◌++◌, length, get_or, refl, sym, ap, ◌∙◌, arith}
 use Rattle.std.specs.List.{list_all, list_any, sum_by}
 use Rattle.std.specs.Option.{option_map_or}
-use Rattle.std.specs.Prelude.{suc, ◌≤◌, find, Option, None, Some, take, nat_lt, if◌then◌else◌}
-use Rattle.std.proofs.lemmas.List.Sums.{sum_by-cons}
+use Rattle.std.specs.Prelude.{suc, ◌≤◌, find, Option, Some, take, nat_lt, if◌then◌else◌}
+use Rattle.std.proofs.lemmas.List.Sums.{sum_by-cons, sum_by-le-sum_by}
 use Rattle.gnss_system.proofs.CheckedLaws.{passes_at}
 use Rattle.std.proofs.lemmas.Grind.{common_steps}
 use Rattle.gnss_system.specs.declared.system.System.{System}
@@ -41,8 +41,7 @@ each_system p s h = grind (arith, common_steps, h)
 
 -- A search finds a system if its outcome is that system for each of them.
 pub found_same : (o : Option System) (s : System) → option_map_or (λ t. is_system t s) o false ≡ true → o ≡ Some s
-found_same None s h = absurd (true≢false (sym h))
-found_same (Some t) s h = ap Some (system_same t s h)
+found_same o s h = grind (arith, system_same)
 
 pub letter_back : (s : System) → system_of_letter (letter s) ≡ Some s
 letter_back s = found_same _ s (each_system (λ s. option_map_or (λ t. is_system t s) (system_of_letter (letter s)) false) s refl)
@@ -113,10 +112,7 @@ with_same s values = grind (arith, common_steps)
 -- ---- a change of the value of a system
 
 pub each_after : {A : Type 0} (P : System → A → Type 0) (s : System) (values : BySystem A) (x : A) → ((t : System) → P t (value_of t values)) → P s x → (t : System) → P t (value_of t (with_value_of s values x))
-each_after {A} P s values x each own t = by (is_system s t) refl where
-  by : (b : Bool) → is_system s t ≡ b → P t (value_of t (with_value_of s values x))
-  by true e = subst (λ (r : System). P r (value_of r (with_value_of s values x))) (system_same s t e) (subst (P s) (sym (value_after s values x)) own)
-  by false e = subst (P t) (sym (value_of_other s t values x e)) (each t)
+each_after P s values x each own t = grind (arith, common_steps)
 
 -- ---- what is true of the systems below an index
 
@@ -163,8 +159,7 @@ pub sum_grown : (f g : System → ℕ) (s : System) (d : ℕ) → ((t : System) 
 sum_grown f g s d each = sum_parts f g (λ t. if is_system s t then d else 0) each systems ∙ ap (λ n. sum_by f systems + n) (one_of_all s d)
 
 pub sum_at_most : (f g : System → ℕ) → ((t : System) → f t ≤ g t) → (ss : List System) → sum_by f ss ≤ sum_by g ss
-sum_at_most f g each [] = omega arith
-sum_at_most f g each (t ∷ ss) = grind (arith, common_steps, sum_by-cons, sum_at_most f g each ss)
+sum_at_most f g each ss = sum_by-le-sum_by f g ss each
 
 -- A sum is smaller if no part is greater, and that of one system is smaller.
 pub sum_less : (f g : System → ℕ) (s : System) → ((t : System) → f t + (if is_system s t then 1 else 0) ≤ g t) → suc (sum_by f systems) ≤ sum_by g systems

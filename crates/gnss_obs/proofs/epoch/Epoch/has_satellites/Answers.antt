@@ -1,4 +1,4 @@
-use Rattle.gnss_obs.proofs.Names.{ℕ, ◌≡◌, ◌∙◌, false, nat_lt, sym, arith, cells_of, written_among, satellites_in, below_next, below_all, sum_none, sum_some, common_steps}
+use Rattle.gnss_obs.proofs.Names.{ltb-false, ◌≡◌, ◌∙◌, false, nat_lt, sym, arith, cells_of, written_among, satellites_in, below_next, below_all, sum_none, sum_some, common_steps}
 use Rattle.gnss_obs.proofs.GroupLaws.{some_counted}
 use Rattle.gnss_obs.proofs.epoch.Epoch.has_satellites.Goals as goal
 
@@ -13,6 +13,5 @@ loop-i-preserved c = grind (arith, common_steps, below_next, some_counted)
 pub returns : goal.returns
 returns c =
     sym (sum_none (λ s. written_among (cells_of s c.args.self.now.epoch) (satellites_in s)) (λ s.
-    zero_from _ (below_all (λ s. nat_lt 0 (written_among (cells_of s c.args.self.now.epoch) (satellites_in s)) ≡ false) c.loop-i.i (omega (arith, c.loop-i-test.false)) c.loop-i.invariant s))) where
-      zero_from : (n : ℕ) → nat_lt 0 n ≡ false → n ≡ 0
-      zero_from n h = grind (arith, h)
+    let none = ltb-false 0 _ (below_all (λ s. nat_lt 0 (written_among (cells_of s c.args.self.now.epoch) (satellites_in s)) ≡ false) c.loop-i.i (omega (arith, c.loop-i-test.false)) c.loop-i.invariant s) in
+    omega (arith, none)))

@@ -1,5 +1,5 @@
 use Rattle.gnss_obs.proofs.Names.{◌≡◌, ◌∙◌, [], ap, sym, true≢false, arith, Glonass, value_mapped, indices, planned_of, common_steps}
-use Rattle.gnss_obs.proofs.PlanLaws.{channelled, none_planned, some_planned}
+use Rattle.gnss_obs.proofs.PlanLaws.{none_planned, some_planned}
 use Rattle.gnss_obs.proofs.plan.Plan.with_channels.Goals as goal
 
 not_empty : (c : goal.Else-is_empty) → c.list.result.now ≡ [] → ⊥
@@ -13,4 +13,4 @@ invariant_of-result-2 c = (
 )
 
 pub returns : goal.returns
-returns c = grind (arith, common_steps, channelled, some_planned, not_empty)
+returns c = grind (arith, common_steps, some_planned, not_empty)

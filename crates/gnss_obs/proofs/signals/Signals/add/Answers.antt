@@ -1,4 +1,4 @@
-use Rattle.gnss_obs.proofs.Names.{refl, Err, OnErr, Ok, Result, ◌≡◌, ℕ, nat_eq, ◌==◌, ◌++◌, ◌∷◌, [], ◌≤◌, true, false, List, length, sym, ap, ◌∙◌, subst, arith, rules, IsLeastNext, AreFound, AreRows, most_signals, SignalAt, indices, IsOf, list_any}
+use Rattle.gnss_obs.proofs.Names.{refl, Err, OnErr, Ok, Result, ◌≡◌, ℕ, nat_eq, ◌==◌, ◌++◌, ◌∷◌, [], ◌≤◌, true, false, List, length, sym, ap, ◌∙◌, subst, arith, rules, IsLeastNext, most_signals, SignalAt, indices, IsOf, list_any}
 use Rattle.gnss_obs.proofs.PlanLaws.{any_index, indices-push, length_indices}
 use Rattle.gnss_obs.proofs.SignalLemmas.{is_absent, was_new, was_there, found_more, rows_more}
 use Rattle.gnss_obs.proofs.signals.Signals.add.Goals as goal
@@ -18,15 +18,6 @@ invariant_of-self-then-is_new c =
       search rules,
       rows_more s c.index-index.ensures.listed keys (sym (any_index s.index keys) ∙ a.1) c.self.inside.rows_by_id c.self.invariant.3 of c.self.invariant.2 c.index-index.ensures.value c.id.ensures.value a.0,
     )
-
-pub invariant_of-self-else-is_new : goal.invariant_of-self-else-is_new
-invariant_of-self-else-is_new c =
-    let inside = c.self.inside in
-    let of = subst (IsOf c.args.signal.system) (sym c.self.view_is) c.requires in
-    let a = was_there (λ a b e. grind arith) c.args.signal c.in-Ok.ensures.unique of c.in-Ok.ensures.keys (sym c.in-Ok.ensures.added ∙ c.if-is_new.false) in
-    subst
-    (λ (keys : List SignalAt). AreFound inside.places (indices keys) × IsLeastNext inside.least_next (indices keys) × (length inside.rows_by_id ≡ 33) × AreRows inside.rows_by_id keys)
-    (sym a.0) c.self.invariant
 
 pub returns-then-is_new-clause-new : goal.returns-then-is_new-clause-new
 returns-then-is_new-clause-new c = λ e.
