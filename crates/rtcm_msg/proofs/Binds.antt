@@ -1,5 +1,5 @@
 -- The steps of a chain of reads that succeeded or failed.
-use Rattle.rtcm_msg.proofs.Names.{ℕ, ◌≡◌, ◌+◌, ◌^◌, ◌<◌, ◌≤◌, ◌++◌, length, take, drop, Result, Ok, Err, refl, inl, inr, arith, subst, ◌∙◌, sym, ap, cases_lt, take-append-drop, length-take-le, uint, number, Cursor, advanced, unsigned_at, MsgFault, Short, ◌>>=◌, number_at, number-take-fits, uint-number}
+use Rattle.rtcm_msg.proofs.Names.{ℕ, ◌≡◌, ◌+◌, ◌^◌, ◌<◌, ◌≤◌, ◌++◌, length, take, drop, Result, Ok, Err, refl, arith, subst, ◌∙◌, sym, ap, cases_lt, take-append-drop, length-take-le, uint, number, Cursor, advanced, unsigned_at, MsgFault, Short, ◌>>=◌, number_at, number-take-fits, uint-number}
 
 pub bind_ok : {A B : Type 0} (r : Result A MsgFault) (f : A → Result B MsgFault) (y : B) → (r >>= f) ≡ Ok y → (x : A) × (r ≡ Ok x) × (f x ≡ Ok y)
 bind_ok r f y h = grind arith
@@ -41,7 +41,4 @@ consumed_at w c h = record {
 }
 
 pub number_consumed : (w : ℕ) (c : Cursor) (x : ℕ × Cursor) → number_at w c ≡ Ok x → Consumed w c x
-number_consumed w c x e = elim (cases_lt (length c.rest) w) [
-  | inl short ↦ absurd (ok_err x (Short c.place) (number_at w c) e (number_short w c short))
-  | inr there ↦ let is = ok_inj (unsigned_at w c, advanced c w) x (number_at w c) (number_there w c there) e in subst (Consumed w c) is (consumed_at w c there)
-]
+number_consumed w c x e = grind (arith, cases_lt, ok_err, number_short, ok_inj, number_there, consumed_at)

@@ -1,5 +1,6 @@
 -- Reading columns: the bits of the columns that were read, reading encoded columns, and the fault.
-use Rattle.rtcm_msg.proofs.Names.{common_steps, ℕ, zero, suc, ◌≡◌, ◌+◌, ◌*◌, ◌/◌, ◌%◌, ◌^◌, Bool, List, [], ◌∷◌, ◌++◌, length, map, Ok, refl, sym, ap, subst, ◌∙◌, arith, append_assoc, replicate, add_comm, flat_map, length-map, div-eq_of_lt, shr_high, shr-shr, div-add-mod', mod_below, pow_pos, uint, Cursor, number_at, total_width, columns, column_at, columns_at, EachBelow, uint-low}
+use Rattle.rtcm_msg.proofs.Names.{common_steps, ℕ, zero, suc, ◌≡◌, ◌+◌, ◌*◌, ◌/◌, ◌%◌, ◌^◌, Bool, List, [], ◌∷◌, ◌++◌, length, map, Ok, refl, sym, ap, subst, ◌∙◌, arith, append_assoc, replicate, add_comm, flat_map, length-map, map-id, map-map, div-eq_of_lt, div-one, shr_high, shr-shr, div-add-mod', mod_below, pow_pos, uint, Cursor, number_at, total_width, columns, column_at, columns_at, EachBelow, uint-low}
+use Rattle.std.proofs.lemmas.List.Folds.{flat_map-map}
 use Rattle.rtcm_msg.proofs.Binds.{bind_ok, ok_inj, number_consumed, Consumed}
 use Rattle.rtcm_msg.proofs.Combine.{cursor, number_again}
 
@@ -31,17 +32,11 @@ pub record ColumnsConsumed (ws ps : List ℕ) (c : Cursor) (x : List ℕ × Curs
   pub bits : c.rest ≡ columns ws x.0 ++ x.1.rest
   pub high : highs (total_width ws) x.0 ≡ ps
 
-column_of_highs : (w t : ℕ) (ns : List ℕ) → flat_map (uint w) (highs t ns) ≡ flat_map (λ p. uint w (p / 2 ^ t)) ns
-column_of_highs w t [] = refl
-column_of_highs w t (n ∷ ns) = ap (λ r. uint w (n / 2 ^ t) ++ r) (column_of_highs w t ns)
-
 highs_highs : (w t : ℕ) (ns : List ℕ) → highs w (highs t ns) ≡ highs (w + t) ns
-highs_highs w t [] = refl
-highs_highs w t (n ∷ ns) = rw (shr-shr n t w, add_comm t w, highs_highs w t ns) refl
+highs_highs w t ns = simp (map-map, shr-shr, add_comm t w)
 
 highs_none : (ns : List ℕ) → highs 0 ns ≡ ns
-highs_none [] = refl
-highs_none (n ∷ ns) = let e : n / 2 ^ 0 ≡ n = omega arith in rw (e, highs_none ns) refl
+highs_none ns = simp (div-one, map-id)
 
 pub columns_consumed : (ws ps : List ℕ) (c : Cursor) (x : List ℕ × Cursor) → columns_at ws ps c ≡ Ok x → ColumnsConsumed ws ps c x
 unfolding columns_at columns
@@ -53,7 +48,7 @@ columns_consumed (w ∷ ws) ps c x e =
     join w ws ps c first.0 x here rest
   where
     join : (w : ℕ) (ws ps : List ℕ) (c : Cursor) (q x : List ℕ × Cursor) → ColumnConsumed w ps c q → ColumnsConsumed ws q.0 q.1 x → ColumnsConsumed (w ∷ ws) ps c x
-    join w ws ps c q x h1 h2 = grind (arith, common_steps, column_of_highs, highs_highs)
+    join w ws ps c q x h1 h2 = grind (arith, common_steps, flat_map-map, highs_highs)
 
 -- ---- reading encoded columns
 
@@ -65,11 +60,8 @@ column_again w (n ∷ ns) place rest =
     let here = number_again w (n % 2 ^ w) place (flat_map (uint w) ns ++ rest) (mod_below n (2 ^ w) (pow_pos w)) in
     let others = column_again w ns (place + w) rest in
     let whole : n / 2 ^ w * 2 ^ w + n % 2 ^ w ≡ n = div-add-mod' n (2 ^ w) in
-    let places : place + w + w * length ns ≡ place + w * suc (length ns) = far place w (length ns) in
+    let places : place + w + w * length ns ≡ place + w * suc (length ns) = omega arith in
     rw (append_assoc (uint w n) (flat_map (uint w) ns) rest, low, here, others, whole, places) refl
-  where
-    far : (place w k : ℕ) → place + w + w * k ≡ place + w * suc k
-    far place w k = omega arith
 
 pub columns_again : (ws ns : List ℕ) (place : ℕ) (rest : List Bool) → columns_at ws (highs (total_width ws) ns) (cursor place (columns ws ns ++ rest)) ≡ Ok (ns, cursor (place + total_width ws * length ns) rest)
 unfolding columns_at columns
@@ -77,11 +69,9 @@ columns_again [] ns place rest = let e : place + 0 * length ns ≡ place = omega
 columns_again (w ∷ ws) ns place rest =
     let here = column_again w (highs (total_width ws) ns) place (columns ws ns ++ rest) in
     let others = columns_again ws ns (place + w * length (highs (total_width ws) ns)) rest in
-    let places : place + w * length (highs (total_width ws) ns) + total_width ws * length ns ≡ place + (w + total_width ws) * length ns = far place w (total_width ws) (length ns) (length (highs (total_width ws) ns)) (length-map ns (λ n. n / 2 ^ total_width ws)) in
-    rw (append_assoc (flat_map (λ p. uint w (p / 2 ^ total_width ws)) ns) (columns ws ns) rest, ← column_of_highs w (total_width ws) ns, ← highs_highs w (total_width ws) ns, here, others, places) refl
-  where
-    far : (place w t k m : ℕ) → m ≡ k → place + w * m + t * k ≡ place + (w + t) * k
-    far place w t k m e = rw e (omega arith)
+    let places : place + w * length (highs (total_width ws) ns) + total_width ws * length ns ≡ place + (w + total_width ws) * length ns =
+    rw (length-map ns (λ n. n / 2 ^ total_width ws)) (omega arith) in
+    rw (append_assoc (flat_map (λ p. uint w (p / 2 ^ total_width ws)) ns) (columns ws ns) rest, ← flat_map-map (uint w) (λ n. n / 2 ^ total_width ws) ns, ← highs_highs w (total_width ws) ns, here, others, places) refl
 
 -- Numbers below the width have high parts of 0.
 pub highs_zero : (t : ℕ) (ns : List ℕ) → EachBelow t ns → highs t ns ≡ replicate (length ns) 0

@@ -1,5 +1,5 @@
 -- Bounds of the numbers in columns.
-use Rattle.rtcm_msg.proofs.Names.{[], ℕ, zero, suc, subst, ◌≡◌, ◌+◌, ◌*◌, ◌^◌, ◌<◌, List, ◌∷◌, length, drop, get_or, Ok, refl, ap, arith, add-one, add-zero, zero-add, add_assoc, replicate, drop-cons, pow-add, pow_pos, Cursor, number_at, total_width, column_at, columns_at, EachBelow}
+use Rattle.rtcm_msg.proofs.Names.{common_steps, [], ℕ, zero, suc, subst, ◌≡◌, ◌+◌, ◌*◌, ◌^◌, ◌<◌, List, ◌∷◌, length, drop, get_or, Ok, refl, ap, arith, add-one, add-zero, zero-add, add_assoc, replicate, drop-cons, pow-add, pow_pos, Cursor, number_at, total_width, column_at, columns_at, EachBelow}
 use Rattle.rtcm_msg.proofs.Binds.{bind_ok, ok_inj, number_consumed}
 
 -- One more field in each.
@@ -25,15 +25,8 @@ total-drop i ws h = rw (add-one i, drop-cons ws i 0 h) refl
 
 pub columns_below : (ws : List ℕ) (a : ℕ) (ps : List ℕ) (c : Cursor) (x : List ℕ × Cursor) → columns_at ws ps c ≡ Ok x → EachBelow a ps → EachBelow (a + total_width ws) x.0
 unfolding columns_at
-columns_below [] a ps c x e h =
-    let is : ps ≡ x.0 = ap (λ (y : List ℕ × Cursor). y.0) (ok_inj (ps, c) x (columns_at [] ps c) refl e) in
-    rw (add-zero a, ← is) h
-columns_below (w ∷ ws) a ps c x e h =
-    let next = bind_ok (column_at w ps c) _ x e in
-    let more = column_below w a ps c next.0 next.1 h in
-    let rest = columns_below ws (a + w) next.0.0 next.0.1 x next.2 more in
-    let P : ℕ → Type 0 = λ n. EachBelow n x.0 in
-    subst P (add_assoc a w (total_width ws)) rest
+columns_below [] a ps c x e h = grind (arith, common_steps, ok_inj, add-zero)
+columns_below (w ∷ ws) a ps c x e h = grind (arith, bind_ok, column_below, add_assoc, columns_below ws (a + w))
 
 -- Zeros are below every bound.
 pub zeros_below : (a n : ℕ) → EachBelow a (replicate n 0)

@@ -1,5 +1,5 @@
 -- Chains of fields: the bits that were read, reading encoded fields, and the fault.
-use Rattle.rtcm_msg.proofs.Names.{common_steps, ℕ, ◌≡◌, ◌+◌, ◌^◌, ◌<◌, ◌≤◌, Bool, List, ◌∷◌, ◌++◌, Result, Ok, Some, arith, length-append, uint, Cursor, MsgFault, number_at, ◌>>=◌, first_past, length-uint, number_of-uint}
+use Rattle.rtcm_msg.proofs.Names.{common_steps, ℕ, ◌≡◌, ◌+◌, ◌^◌, ◌<◌, ◌≤◌, Bool, List, ◌∷◌, ◌++◌, Ok, Some, arith, length-append, uint, Cursor, number_at, first_past, length-uint, number_of-uint}
 use Rattle.rtcm_msg.proofs.Binds.{number_there}
 
 -- ---- the fault
@@ -19,6 +19,3 @@ cursor place rest = record { place = place; rest = rest }
 
 pub number_again : (w n place : ℕ) (rest : List Bool) → n < 2 ^ w → number_at w (cursor place (uint w n ++ rest)) ≡ Ok (n, cursor (place + w) rest)
 number_again w n place rest h = grind (arith, common_steps, length-uint, length-append {A = ℕ}, number_there, number_of-uint)
-
-pub bind_bind : {A B D : Type 0} (r : Result A MsgFault) (g : A → Result B MsgFault) (f : B → Result D MsgFault) → ((r >>= g) >>= f) ≡ (r >>= λ x. g x >>= f)
-bind_bind r g f = grind arith

@@ -81,11 +81,6 @@ first_ends f b e ends = rw (← e) (ends.0, (ends.1.0, (ends.1.1.0, (ends.1.1.1.
 rate_by : (rates : Bool) (n : ℕ) (bits : List Bool) (p k i : ℕ) → rates ≡ true → signed 15 (field_at bits (p + n * k + i * 15) 15) ≡ rate_in rates (contents_after (rate_table rates) n bits p k i)
 rate_by rates n bits p k i h = cc
 
--- Where the rate of the first cell ends.
-pub rate_ends : (f : Form) (b : LastBits) → has_rates f ≡ true → AreLast (cell_widths f) b
-    → b.rate + 1 ≡ b.place + b.count * ((precision (is_fine f)).range + (precision (is_fine f)).phase + (precision (is_fine f)).lock + 1 + (precision (is_fine f)).strength) + 15
-rate_ends f b has ends = grind arith
-
 pub rate_read : (f : Form) (n : ℕ) (bits : List Bool) (p i : ℕ) {rate : ℤ} → has_rates f ≡ true
     → rate ≡ signed 15 (field_at bits (p + n * ((precision (is_fine f)).range + (precision (is_fine f)).phase + (precision (is_fine f)).lock + 1 + (precision (is_fine f)).strength) + i * 15) 15)
     → rate ≡ (cell_data f (row_at (cell_widths f) n bits p i 0)).rate

@@ -1,5 +1,5 @@
 -- The number of IDs, pairs and cells.
-use Rattle.rtcm_msg.proofs.Names.{ℕ, zero, suc, ◌≡◌, ◌+◌, ◌*◌, ◌%◌, ◌==◌, ◌^◌, ◌<◌, ◌≤◌, Bool, true, false, List, [], ◌∷◌, length, map, refl, ap, ◌∙◌, arith, count_ones, length-append, ones_cat, mod_below, ones, ones_in, mod-eq_of_lt, length-map, flat_map, enumerate_from, Pair, MasksValue, AreMasks, pair_count, uint, up_from, ids, chosen, pair, all_pairs, cell_pairs, length-uint, mod-suc}
+use Rattle.rtcm_msg.proofs.Names.{ℕ, zero, suc, ◌≡◌, ◌+◌, ◌*◌, ◌%◌, ◌^◌, ◌<◌, ◌≤◌, Bool, List, [], ◌∷◌, length, map, refl, ap, ◌∙◌, arith, count_ones, length-append, ones_cat, mod_below, ones, ones_in, mod-eq_of_lt, length-map, flat_map, enumerate_from, Pair, MasksValue, AreMasks, pair_count, uint, up_from, ids, chosen, pair, all_pairs, cell_pairs, length-uint, mod-suc}
 use Rattle.std.proofs.lemmas.List.FromFn.{length-enumerate_from}
 
 -- ---- the number of IDs
@@ -12,14 +12,10 @@ ones_one : count_ones 1 ≡ 1
 unfolding ones ones_in
 ones_one = refl
 
-set_or_not : (a i : ℕ) (bits : List Bool) → a < 2 → length (up_from i ((a == 1) ∷ bits)) ≡ count_ones a + length (up_from (i + 1) bits)
-unfolding up_from
-set_or_not a i bits h = grind (arith, ones_zero, ones_one)
-
 up_count : (w n i : ℕ) → length (up_from i (uint w n)) ≡ count_ones (n % 2 ^ w)
 unfolding up_from uint
 up_count zero n i = let e : n % 2 ^ 0 ≡ 0 = omega arith in rw (e, ones_zero) refl
-up_count (suc w) n i = grind (arith, set_or_not, mod-suc, ones_cat, mod_below, (up_count w n (i + 1)))
+up_count (suc w) n i = grind (arith, mod-suc, ones_cat, mod_below, (up_count w n (i + 1)), ones_zero, ones_one)
 
 pub ids_count : (w n : ℕ) → n < 2 ^ w → length (ids w n) ≡ count_ones n
 ids_count w n h = up_count w n 1 ∙ ap count_ones (mod-eq_of_lt h)
@@ -39,8 +35,7 @@ chosen_count : (i : ℕ) (bits : List Bool) (xs : List Pair) → length bits ≤
 unfolding chosen up_from
 chosen_count i [] xs h = refl
 chosen_count i (b ∷ bits) [] h = absurd (omega (arith, h))
-chosen_count i (true ∷ bits) (x ∷ xs) h = ap suc (chosen_count (i + 1) bits xs (omega (arith, h)))
-chosen_count i (false ∷ bits) (x ∷ xs) h = chosen_count (i + 1) bits xs (omega (arith, h))
+chosen_count i (b ∷ bits) (x ∷ xs) h = grind (arith, chosen_count (i + 1) bits xs)
 
 pub cell_pairs_count : (s : MasksValue) → AreMasks s → length (cell_pairs s) ≡ count_ones s.cells
 cell_pairs_count s h =

@@ -1,5 +1,5 @@
 -- Texts of the equipment that follow each other.
-use Rattle.rtcm_msg.proofs.Names.{ℕ, ◌≡◌, ◌+◌, ◌∷◌, ◌++◌, [], List, length, Result, Ok, Err, suc, refl, append_assoc, ◌>>=◌, text_at, texts_at}
+use Rattle.rtcm_msg.proofs.Names.{arith, ℕ, ◌≡◌, ◌+◌, ◌∷◌, ◌++◌, [], List, length, Result, Ok, Err, suc, refl, append_assoc, text_at, texts_at}
 use Rattle.rtcm_msg.specs.declared.fault.EquipmentFault.{EquipmentFault}
 
 -- what was read before, and then this
@@ -10,11 +10,7 @@ followed done (Err e) = Err e
 -- one more text
 pub one_more : (bytes : List ℕ) (at n : ℕ) (t : List ℕ) (done : List (List ℕ)) → text_at bytes at ≡ Ok t
     → followed done (texts_at bytes at (suc n)) ≡ followed (done ++ t ∷ []) (texts_at bytes (at + (1 + length t)) n)
-one_more bytes at n t done e = rw e (by (texts_at bytes (at + (1 + length t)) n))
-  where
-    by : (rest : Result (List (List ℕ)) EquipmentFault) → followed done (rest >>= λ ts. Ok (t ∷ ts)) ≡ followed (done ++ t ∷ []) rest
-    by (Ok ts) = rw (append_assoc done (t ∷ []) ts) refl
-    by (Err f) = refl
+one_more bytes at n t done e = grind (arith, append_assoc)
 
 -- or its fault
 pub none_more : (bytes : List ℕ) (at n : ℕ) (f : EquipmentFault) (done : List (List ℕ)) → text_at bytes at ≡ Err f

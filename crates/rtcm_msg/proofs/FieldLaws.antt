@@ -1,9 +1,8 @@
 -- The fields of a table, read as one: the bits that were read, reading encoded fields, and the fault.
-use Rattle.rtcm_msg.proofs.Names.{common_steps, ℕ, true, ◌≡◌, ◌+◌, ◌<◌, ◌≤◌, Bool, List, [], ◌∷◌, ◌++◌, length, drop, Result, Ok, Err, Some, None, refl, sym, ap, subst, ◌∙◌, arith, append_assoc, ◌⊎◌, inl, inr, add_assoc, add-zero, and_parts, cases_lt, length-drop, drop-drop, uint, has_sign, have_signs, FitAll, number-content, content_fits, content-number, number_fits, Table, width, widths, Contents, content, fields_of, Cursor, advanced, unsigned_at, MsgFault, Short, number_at, ◌>>=◌, field_bits, first_past, reading, total_width}
-use Rattle.rtcm_msg.specs.Layout.{number_of}
+use Rattle.rtcm_msg.proofs.Names.{common_steps, ℕ, true, ◌≡◌, ◌+◌, ◌<◌, ◌≤◌, Bool, List, [], ◌∷◌, ◌++◌, length, drop, Result, Ok, Err, Some, None, refl, subst, ◌∙◌, arith, append_assoc, ◌⊎◌, inl, inr, add_assoc, add-zero, and_parts, cases_lt, length-drop, drop-drop, has_sign, have_signs, FitAll, number-content, content_fits, content-number, number_fits, Table, width, widths, Contents, content, fields_of, Cursor, advanced, unsigned_at, MsgFault, Short, number_at, ◌>>=◌, field_bits, first_past, reading, total_width}
 pub use Rattle.rtcm_msg.specs.Fields.{cursor_at, field_at}
 use Rattle.rtcm_msg.proofs.Binds.{ok_inj, number_there, number_short, consumed_at, ok_err}
-use Rattle.rtcm_msg.proofs.Combine.{past_here, past_next, cursor, number_again, bind_bind}
+use Rattle.rtcm_msg.proofs.Combine.{past_here, past_next, cursor, number_again}
 
 -- Reads the fields as one.
 abbrev pub fields_at : (t : Table) → Cursor → Result (Contents t × Cursor) MsgFault
@@ -16,7 +15,7 @@ reading_is (f ∷ fs) c next = go (λ h. reading_is fs h.1 (λ o. next ((content
   where
     go : ((h : ℕ × Cursor) → reading fs h.1 (λ o. next ((content f.1 h.0, o.0), o.1)) ≡ (fields_at fs h.1 >>= λ o. next ((content f.1 h.0, o.0), o.1)))
         → (r : Result (ℕ × Cursor) MsgFault) → (r >>= λ h. reading fs h.1 (λ o. next ((content f.1 h.0, o.0), o.1))) ≡ ((r >>= λ here. fields_at fs here.1 >>= λ others. Ok ((content f.1 here.0, others.0), others.1)) >>= next)
-    go h1 r = grind (arith, bind_bind)
+    go h1 r = grind arith
 
 -- ---- what was read
 
@@ -73,22 +72,14 @@ pub fields_again : (t : Table) (cs : Contents t) (place : ℕ) (rest : List Bool
 unfolding field_bits
 fields_again [] cs place rest signs fit = rw (add-zero place) refl
 fields_again (f ∷ fs) cs place rest signs fit =
-    let w = width f.1 in
-    let n = number_of f.1 cs.0 in
-    let sign = (and_parts (has_sign f.1) (have_signs fs) signs).0 in
-    let here = number_again w n place (field_bits (fields_of fs cs.1) ++ rest) (number_fits f.1 cs.0 sign fit.0) in
-    let others = fields_again fs cs.1 (place + w) rest (and_parts (has_sign f.1) (have_signs fs) signs).1 fit.1 in
-    rw (append_assoc (uint w n) (field_bits (fields_of fs cs.1)) rest, here, others, content-number f.1 cs.0 sign fit.0, add_assoc place w (total_width (widths fs))) refl
+    grind (arith, common_steps, and_parts, number_again, number_fits, append_assoc, content-number, add_assoc, fields_again fs cs.1 (place + width f.1) rest)
 
 -- ---- the end of fields
 
 pub past_more : (ws vs : List ℕ) (len place k : ℕ) → first_past len place ws ≡ Some k → first_past len place (ws ++ vs) ≡ Some k
 unfolding first_past
 past_more [] vs len place k h = cc
-past_more (w ∷ ws) vs len place k h = elim (cases_lt len (place + w)) [
-  | inl short ↦ past_here w (ws ++ vs) len place short ∙ (sym (past_here w ws len place short) ∙ h)
-  | inr there ↦ past_next w (ws ++ vs) len place there ∙ past_more ws vs len (place + w) k (sym (past_next w ws len place there) ∙ h)
-]
+past_more (w ∷ ws) vs len place k h = grind (arith, cases_lt, past_here, past_next, past_more ws vs len (place + w) k)
 
 pub past_through : (ws vs : List ℕ) (len place : ℕ) → place + total_width ws ≤ len → first_past len place (ws ++ vs) ≡ first_past len (place + total_width ws) vs
 past_through [] vs len place h = rw (add-zero place) refl
@@ -105,11 +96,8 @@ abbrev pub contents_at : (t : Table) → List Bool → ℕ → Contents t
 contents_at [] bits place = tt
 contents_at (f ∷ fs) bits place = (content f.1 (field_at bits place (width f.1)), contents_at fs bits (place + width f.1))
 
-pub step_on : (w : ℕ) (bits : List Bool) (place : ℕ) → advanced (cursor_at bits place) w ≡ cursor_at bits (place + w)
-step_on w bits place = ap (cursor (place + w)) (drop-drop w place bits)
-
 pub number_there_at : (w : ℕ) (bits : List Bool) (place : ℕ) → place + w ≤ length bits → number_at w (cursor_at bits place) ≡ Ok (field_at bits place w, cursor_at bits (place + w))
-number_there_at w bits place h = number_there w (cursor_at bits place) (omega (arith, length-drop place bits)) ∙ rw (step_on w bits place) refl
+number_there_at w bits place h = number_there w (cursor_at bits place) (omega (arith, length-drop place bits)) ∙ rw (drop-drop w place bits) refl
 
 -- The first of these fields that does not end within the bits.
 pub record ShortAt (bits : List Bool) (place : ℕ) (ws : List ℕ) (e : MsgFault) : Type 0 where

@@ -1,5 +1,5 @@
 -- Fields at known positions: the check that they are within the bits, and the result of reading them.
-use Rattle.rtcm_msg.proofs.Names.{ℕ, ◌≡◌, ◌+◌, ◌-◌, ◌*◌, ◌%◌, ◌<◌, ◌≤◌, nat_lt, Bool, true, false, List, [], ◌∷◌, ◌++◌, length, Result, Ok, Err, Option, Some, None, refl, sym, ap, ◌∙◌, arith, inl, inr, ◌⊎◌, mod-eq_of_lt, cases_lt, length-drop, System, bits_of, MsgFault, BadTime, TooManyCells, Short, Table, widths, ◌>>=◌, first_past, number_at, total_width, end_of_rows, time_table, header_table, mask_table, header_of, header_in, header_at, masks_at, is_time, pair_count, field_widths, parts_in, station_at, station_table, length-bits_of}
+use Rattle.rtcm_msg.proofs.Names.{common_steps, ℕ, ◌≡◌, ◌+◌, ◌*◌, ◌<◌, ◌≤◌, Bool, true, false, List, [], ◌∷◌, ◌++◌, length, Result, Ok, Err, Option, Some, None, refl, sym, ap, ◌∙◌, arith, inl, inr, ◌⊎◌, mod-eq_of_lt, cases_lt, length-drop, System, bits_of, MsgFault, BadTime, TooManyCells, Short, Table, widths, ◌>>=◌, first_past, number_at, total_width, end_of_rows, time_table, header_table, mask_table, header_of, header_in, header_at, masks_at, is_time, pair_count, field_widths, parts_in, station_at, station_table, length-bits_of}
 use Rattle.rtcm_msg.proofs.Binds.{number_short, ok_err}
 use Rattle.rtcm_msg.proofs.Combine.{past_here}
 use Rattle.rtcm_msg.proofs.FieldLaws.{contents_at, fields_at, cursor_at, field_at, number_there_at, ShortAt, fields_read, past_none}
@@ -16,19 +16,7 @@ short_or_end end (Some k) = Err (Short k)
 end_once : (ws : List ℕ) (len place : ℕ) → place ≤ len → end_of_rows ws 1 len place ≡ short_or_end (place + total_width ws) (first_past len place ws)
 unfolding end_of_rows first_past
 end_once [] len place h = ap Ok (omega arith)
-end_once (w ∷ ws) len place h = elim (cases_lt len (place + w)) [
-  | inl short ↦
-      let less : nat_lt len (place + w) ≡ true = grind (arith, short) in
-      let rest : (len - place) % w ≡ len - place = mod-eq_of_lt (omega (arith, h, short)) in
-      let here : len - (len - place) ≡ place = omega (arith, h) in
-      rw (one w, less, rest, here) refl
-  | inr there ↦
-      let more : nat_lt len (place + w) ≡ false = grind (arith, there) in
-      rw (one w, more) (end_once ws len (place + w) there ∙ ap (λ (k : ℕ). short_or_end k (first_past len (place + w) ws)) (omega arith))
-]
-  where
-    one : (w : ℕ) → 1 * w ≡ w
-    one w = omega arith
+end_once (w ∷ ws) len place h = grind (arith, common_steps, cases_lt, mod-eq_of_lt, end_once ws len (place + w))
 
 -- A failed check is the fault of the first field that does not end within the bits.
 same_short : (ws : List ℕ) (bits : List Bool) (place : ℕ) (e f : MsgFault) → place ≤ length bits → Err e ≡ end_of_rows ws 1 (length bits) place → ShortAt bits place ws f → f ≡ e
@@ -59,17 +47,7 @@ check_split : (vs ws : List ℕ) (len place : ℕ) (e : MsgFault) → place ≤ 
     → (Err e ≡ end_of_rows vs 1 len place) ⊎ ((place + total_width vs ≤ len) × (Err e ≡ end_of_rows ws 1 len (place + total_width vs)))
 unfolding end_of_rows
 check_split [] ws len place e h check = inr (omega (arith, h), check ∙ ap (λ (k : ℕ). end_of_rows ws 1 len k) (omega arith))
-check_split (w ∷ vs) ws len place e h check = elim (cases_lt len (place + 1 * w)) [
-  | inl short ↦
-      let less : nat_lt len (place + 1 * w) ≡ true = grind (arith, short) in
-      inl (rw less at check ∙ sym (rw less refl))
-  | inr there ↦
-      let more : nat_lt len (place + 1 * w) ≡ false = grind (arith, there) in
-      elim (check_split vs ws len (place + 1 * w) e there (rw more at check)) [
-        | inl first ↦ inl (rw more first)
-        | inr second ↦ inr (omega (arith, second.0), second.1 ∙ ap (λ (k : ℕ). end_of_rows ws 1 len k) (omega arith))
-      ]
-]
+check_split (w ∷ vs) ws len place e h check = grind (arith, common_steps, cases_lt, check_split vs ws len (place + w) e)
 
 -- ---- messages
 

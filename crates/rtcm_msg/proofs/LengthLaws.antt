@@ -15,26 +15,17 @@ length-column w t (n ∷ ns) = length-append (uint w (n / 2 ^ t)) (flat_map (λ 
 length-columns : (ws ns : List ℕ) → length (columns ws ns) ≡ total_width ws * length ns
 unfolding columns
 length-columns [] ns = omega arith
-length-columns (w ∷ ws) ns = length-append (flat_map (λ p. uint w (p / 2 ^ total_width ws)) ns) (columns ws ns) ∙ rw (length-column w (total_width ws) ns, length-columns ws ns) (both w (total_width ws) (length ns))
-  where
-    both : (w t n : ℕ) → w * n + t * n ≡ (w + t) * n
-    both w t n = omega arith
+length-columns (w ∷ ws) ns = length-append (flat_map (λ p. uint w (p / 2 ^ total_width ws)) ns) (columns ws ns) ∙ rw (length-column w (total_width ws) ns, length-columns ws ns) (omega arith)
 
 msm_short : (sw cw : List ℕ) (number : ℕ) (v : MsmValue) → total_width sw + total_width cw ≤ 124 → IsValue sw cw v → length (msm_bits sw cw number v 0) ≤ longest_message_bits
 msm_short sw cw number v few h =
     let p = pair_count v.sets.satellites v.sets.signals in
     let head : length (field_bits (header_fields number v.header 0)) ≡ 73 = length-field_bits (header_fields number v.header 0) in
-    let sets : length (field_bits (mask_fields v.sets)) ≡ 96 + p = length-field_bits (mask_fields v.sets) ∙ wide p in
+    let sets : length (field_bits (mask_fields v.sets)) ≡ 96 + p = length-field_bits (mask_fields v.sets) ∙ omega arith in
     let satellites : length (columns sw v.satellites) ≤ total_width sw * 64 = rw (length-columns sw v.satellites, h.satellite_count) (mul-le (total_width sw) (count_ones v.sets.satellites) (total_width sw) 64 (omega arith) (ones-le 64 v.sets.satellites h.sets.satellites)) in
-    let cells : length (columns cw v.cells) ≤ total_width cw * 64 = rw (length-columns cw v.cells, h.cell_count) (mul-le (total_width cw) (count_ones v.sets.cells) (total_width cw) 64 (omega arith) (few_cells p v.sets.cells h.sets.few (ones-le p v.sets.cells h.sets.cells))) in
+    let cells : length (columns cw v.cells) ≤ total_width cw * 64 = rw (length-columns cw v.cells, h.cell_count) (mul-le (total_width cw) (count_ones v.sets.cells) (total_width cw) 64 (omega arith) (let few = ones-le p v.sets.cells h.sets.cells in omega (arith, h.sets.few, few))) in
     rw (length-append (field_bits (header_fields number v.header 0)) (field_bits (mask_fields v.sets) ++ (columns sw v.satellites ++ columns cw v.cells)), length-append (field_bits (mask_fields v.sets)) (columns sw v.satellites ++ columns cw v.cells), length-append (columns sw v.satellites) (columns cw v.cells), head, sets)
     (omega (arith, h.sets.few, satellites, cells, few))
-  where
-    wide : (p : ℕ) → 64 + (32 + (p + 0)) ≡ 96 + p
-    wide p = omega arith
-
-    few_cells : (p c : ℕ) → p ≤ 64 → count_ones c ≤ p → count_ones c ≤ 64
-    few_cells p c h k = omega (arith, h, k)
 
 formed_short : (form : Form) (m : MsmValue) → IsValue (satellite_widths form) (cell_widths form) m → length (msm_bits (satellite_widths form) (cell_widths form) (message_number form m.system) m 0) ≤ longest_message_bits
 formed_short form m h = let few = narrow form in msm_short (satellite_widths form) (cell_widths form) (message_number form m.system) m (omega (arith, few.0, few.1)) h

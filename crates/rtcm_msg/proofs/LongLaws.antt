@@ -2,7 +2,7 @@
 use Rattle.rtcm_msg.proofs.Names.{common_steps, ℕ, ◌≡◌, ◌+◌, ◌*◌, ◌≤◌, Bool, true, false, List, ◌∷◌, ◌++◌, length, take, drop, Result, Ok, Err, Option, refl, sym, ap, ap₂, ◌∙◌, arith, lit≤, append_assoc, nat_lt, nat_le, count_ones, length-append, cases_lt, le-leb, lt-ltb, ones-le, mul-le, length-drop, take-append-le, drop-append-le, take-append-drop, length-take-le, bits_of, number, MsgFault, Message, total_width, message_by, message_with, MsmSet, kind_with, ReadsMessage, IsFault, is_read_msm, set_of, layout_by, Kind, kind_of, is_msm_kind, has_bad_time, has_too_many, repeated, Form, satellite_widths, cell_widths, longest_message, longest_message_bits, bits_of-append, length-bits_of, number-take-fits, number_of, narrow}
 use Rattle.rtcm_msg.proofs.FieldLaws.{past_none, field_at}
 use Rattle.rtcm_msg.proofs.FaultLaws.{total-append, total-repeated, pair_count_of}
-use Rattle.rtcm_msg.proofs.MessageLaws.{read_again, message_found, message_fault, message_only_fault, and_all, not_true, some_none}
+use Rattle.rtcm_msg.proofs.MessageLaws.{read_again, message_found, message_fault, message_only_fault, and_all, some_none}
 use Rattle.rtcm_msg.specs.declared.number.Kind.TheVariants as kinds
 use Rattle.rtcm_msg.proofs.SetLaws.{by_set, message_known, message_other}
 
@@ -37,7 +37,7 @@ ones_few : (bits : List Bool) (place w : ℕ) → w ≤ 64 → place + w ≤ len
 ones_few bits place w few h = grind (arith, common_steps, number-take-fits, length-drop {A = ℕ}, ones-le)
 
 pairs_are : (bits : List Bool) → is_read_msm (number_of bits) ≡ true → longest_message_bits ≤ length bits → has_too_many bits ≡ false → pair_count_of bits ≤ 64
-pairs_are bits msm long few = grind (arith, cases_lt, not_true, and_all, nat_le, nat_lt, le-leb, lt-ltb)
+pairs_are bits msm long few = grind (arith, cases_lt, and_all, nat_le, nat_lt, le-leb, lt-ltb)
 
 -- The largest number of bits of a message.
 total_few : (form : Form) (s c p : ℕ) → s ≤ 64 → c ≤ 64 → p ≤ 64 → total_width (12 ∷ 12 ∷ 30 ∷ 1 ∷ 3 ∷ 7 ∷ 2 ∷ 2 ∷ 1 ∷ 3 ∷ 64 ∷ 32 ∷ p ∷ (repeated s (satellite_widths form) ++ repeated c (cell_widths form))) ≤ longest_message_bits
@@ -49,8 +49,7 @@ total_few form s c p hs hc hp =
     rw (total-append (repeated s sw) (repeated c cw), total-repeated s sw, total-repeated c cw) (omega (arith, one, two, hp))
 
 layout_few : (bits : List Bool) (k : Kind) → kind_of (number_of bits) ≡ k → longest_message_bits ≤ length bits → has_too_many bits ≡ false → total_width (layout_by k bits) ≤ longest_message_bits
-layout_few bits (kinds.Station true) e long few = lit≤ tt
-layout_few bits (kinds.Station false) e long few = lit≤ tt
+layout_few bits (kinds.Station has) e long few = grind (arith, lit≤)
 layout_few bits (kinds.Msm form g) e long few =
     let pairs_few = pairs_are bits (ap is_msm_kind e) long few in
     total_few form (count_ones (field_at bits 73 64)) (count_ones (field_at bits 169 (pair_count_of bits))) (pair_count_of bits) (ones_few bits 73 64 (lit≤ tt) (omega (arith, long))) (ones_few bits 169 (pair_count_of bits) pairs_few (omega (arith, long, pairs_few))) pairs_few
@@ -68,10 +67,7 @@ message_more a b long = go (message_by kind_of a) refl
 
 -- The first 1,023 bytes determine the message, and if the MSMs of a set are decoded.
 prefix_bits : (bytes : List ℕ) → longest_message ≤ length bytes → (longest_message_bits ≤ length (bits_of (take longest_message bytes))) × (bits_of bytes ≡ bits_of (take longest_message bytes) ++ bits_of (drop longest_message bytes))
-prefix_bits bytes h = (exact_long _ (length-bits_of (take longest_message bytes) ∙ ap (λ (n : ℕ). 8 * n) (length-take-le longest_message bytes h)), ap bits_of (sym (take-append-drop longest_message bytes)) ∙ bits_of-append (take longest_message bytes) (drop longest_message bytes))
-  where
-    exact_long : (n : ℕ) → n ≡ 8 * longest_message → longest_message_bits ≤ n
-    exact_long n e = omega arith
+prefix_bits bytes h = (let n = length-bits_of (take longest_message bytes) ∙ ap (λ (n : ℕ). 8 * n) (length-take-le longest_message bytes h) in omega (arith, n), ap bits_of (sym (take-append-drop longest_message bytes)) ∙ bits_of-append (take longest_message bytes) (drop longest_message bytes))
 
 with_more : (set : MsmSet) (a b : List Bool) → longest_message_bits ≤ length a → message_by (kind_with set) a ≡ message_by (kind_with set) (a ++ b)
 with_more set a b long = grind (arith, length-append, number_more, by_set, message_known, message_more, message_other, ap₂, set_more)

@@ -1,95 +1,32 @@
 -- Each meaning is that of a value.
-use Rattle.rtcm_msg.proofs.Names.{ℕ, suc, ◌≡◌, ◌+◌, ◌==◌, ◌^◌, ◌<◌, ◌≤◌, Bool, true, false, List, [], ◌∷◌, ◌++◌, length, map, refl, sym, ap, subst, ◌∙◌, arith, count_ones, if◌then◌else◌, ◌⊎◌, inl, inr, flat_map, zip, enumerate_from, length-map, map-append, pow_pos, uint, number, Pair, MsmValue, MasksValue, AreMasks, IsValue, pair_count, ids, chosen, pair, all_pairs, cell_pairs, Rising, Meaning, meaning, ids_of, pair_number, cell_ids, IsMeaning, IsIn, Each, keys, data_of, uint-number, number-fits}
-use Rattle.rtcm_msg.proofs.IdLaws.{weaken, ids_all}
+use Rattle.rtcm_msg.proofs.Names.{arith, ℕ, ◌≡◌, ◌+◌, ◌^◌, ◌<◌, ◌≤◌, Bool, List, [], ◌∷◌, ◌++◌, length, map, refl, sym, ap, subst, ◌∙◌, count_ones, ◌⊎◌, inl, inr, flat_map, zip, enumerate_from, length-map, map-append, map-map, pow_pos, uint, number, Pair, MsmValue, MasksValue, AreMasks, IsValue, pair_count, ids, chosen, pair, all_pairs, cell_pairs, Rising, Meaning, meaning, ids_of, pair_number, cell_ids, IsMeaning, IsIn, Each, keys, data_of, uint-number, number-fits}
+use Rattle.rtcm_msg.proofs.IdLaws.{ids_all, pick, picked}
 use Rattle.rtcm_msg.proofs.CountLaws.{ids_count, pairs_count, cell_pairs_count}
-use Rattle.rtcm_msg.proofs.MeaningLaws.{map-map, all_rising}
+use Rattle.rtcm_msg.proofs.MeaningLaws.{all_rising}
 
 -- The pairs of two lists.
 abbrev cross : List ℕ → List ℕ → List (ℕ × ℕ)
 cross xs gs = flat_map (λ a. map (λ g. (a, g)) gs) xs
 
-row_pairs : (k a : ℕ) (gs : List ℕ) → map ids_of (map (pair (k, a)) gs) ≡ map (λ g. (a, g)) gs
-row_pairs k a [] = refl
-row_pairs k a (g ∷ gs) = ap (λ t. (a, g) ∷ t) (row_pairs k a gs)
-
 all_are_cross : (k : ℕ) (xs gs : List ℕ) → map ids_of (flat_map (λ x. map (pair x) gs) (enumerate_from k xs)) ≡ cross xs gs
 all_are_cross k [] gs = refl
-all_are_cross k (x ∷ xs) gs = map-append ids_of (map (pair (k, x)) gs) (flat_map (λ y. map (pair y) gs) (enumerate_from (k + 1) xs)) ∙ rw (row_pairs k x gs, all_are_cross (k + 1) xs gs) refl
+all_are_cross k (x ∷ xs) gs = map-append ids_of (map (pair (k, x)) gs) (flat_map (λ y. map (pair y) gs) (enumerate_from (k + 1) xs)) ∙ rw (map-map ids_of (pair (k, x)) gs, all_are_cross (k + 1) xs gs) refl
 
 chosen-map : (bits : List Bool) (xs : List Pair) → map ids_of (chosen bits xs) ≡ chosen bits (map ids_of xs)
 unfolding chosen
 chosen-map [] xs = refl
 chosen-map (b ∷ bits) [] = refl
-chosen-map (true ∷ bits) (x ∷ xs) = ap (λ t. ids_of x ∷ t) (chosen-map bits xs)
-chosen-map (false ∷ bits) (x ∷ xs) = chosen-map bits xs
-
--- ---- the pairs that are chosen from all pairs
-
-pick : List (ℕ × ℕ) → List (ℕ × ℕ) → List Bool
-pick [] ys = []
-pick (x ∷ xs) [] = false ∷ pick xs []
-pick (x ∷ xs) (y ∷ ys) = if pair_number x == pair_number y then true ∷ pick xs ys else false ∷ pick xs (y ∷ ys)
-
-pick_here : (x y : ℕ × ℕ) (xs ys : List (ℕ × ℕ)) → y ≡ x → pick (x ∷ xs) (y ∷ ys) ≡ true ∷ pick xs ys
-unfolding pick
-pick_here x y xs ys e = grind arith
-
-pick_later : (x y : ℕ × ℕ) (xs ys : List (ℕ × ℕ)) → pair_number x < pair_number y → pick (x ∷ xs) (y ∷ ys) ≡ false ∷ pick xs (y ∷ ys)
-unfolding pick
-pick_later x y xs ys h = grind arith
-
-in_above : (low high : ℕ) (y : ℕ × ℕ) (xs : List (ℕ × ℕ)) → Rising low high (map pair_number xs) → IsIn y xs → low ≤ pair_number y
-in_above low high y [] r i = absurd i
-in_above low high y (x ∷ xs) r (inl e) = rw e r.0
-in_above low high y (x ∷ xs) r (inr i) = omega (arith, (in_above (pair_number x + 1) high y xs r.2 i))
-
-more : (m n : ℕ) → m + 1 ≤ n → m + 1 ≤ n + 1
-more m n h = omega arith
-
--- Pairs after the first one are among the others.
-others_in : (high : ℕ) (x : ℕ × ℕ) (xs ys : List (ℕ × ℕ)) → Rising (pair_number x + 1) high (map pair_number ys) → Each (λ y. IsIn y (x ∷ xs)) ys → Each (λ y. IsIn y xs) ys
-others_in high x xs [] r h = tt
-others_in high x xs (y ∷ ys) r h = grind (arith, (others_in high x xs ys (weaken (pair_number x + 1) (pair_number y + 1) high (map pair_number ys) (more (pair_number x) (pair_number y) r.0) r.2) h.1))
-
-over : (m n : ℕ) → m + 1 ≤ n → m < n
-over m n h = omega arith
-
-record Picked (xs ys : List (ℕ × ℕ)) : Type 0 where
-  back : chosen (pick xs ys) xs ≡ ys
-  len : length (pick xs ys) ≡ length xs
-
-picked : (low high start : ℕ) (xs ys : List (ℕ × ℕ)) → Rising low high (map pair_number xs) → Rising start high (map pair_number ys) → Each (λ y. IsIn y xs) ys → Picked xs ys
-unfolding pick chosen
-picked low high start [] [] r s h = record { back = refl; len = refl }
-picked low high start [] (y ∷ ys) r s h = absurd h.0
-picked low high start (x ∷ xs) [] r s h = let p = picked (pair_number x + 1) high start xs [] r.2 tt tt in record { back = p.back; len = ap suc p.len }
-picked low high start (x ∷ xs) (y ∷ ys) r s h = elim h.0 [
-  | inl e ↦
-      let above : Rising (pair_number x + 1) high (map pair_number ys) = subst (λ (n : ℕ). Rising (n + 1) high (map pair_number ys)) (ap pair_number e) s.2 in
-      let p = picked (pair_number x + 1) high (pair_number x + 1) xs ys r.2 above (others_in high x xs ys above h.1) in
-      let here = pick_here x y xs ys e in
-      record { back = rw here (ap (λ t. x ∷ t) p.back ∙ ap (λ (z : ℕ × ℕ). z ∷ ys) (sym e)); len = rw here (ap suc p.len) }
-  | inr i ↦
-      let up : pair_number x + 1 ≤ pair_number y = in_above (pair_number x + 1) high y xs r.2 i in
-      let above : Rising (pair_number x + 1) high (map pair_number ys) = weaken (pair_number x + 1) (pair_number y + 1) high (map pair_number ys) (more (pair_number x) (pair_number y) up) s.2 in
-      let p = picked (pair_number x + 1) high (pair_number y) xs (y ∷ ys) r.2 (omega arith, s.1, s.2) (i, others_in high x xs ys above h.1) in
-      let here = pick_later x y xs ys (over (pair_number x) (pair_number y) up) in
-      record { back = rw here p.back; len = rw here (ap suc p.len) }
-]
+chosen-map (b ∷ bits) (x ∷ xs) = grind (arith, chosen-map bits xs)
 
 -- ---- the pairs of the lists are among all pairs
 
 in_append : (y : ℕ × ℕ) (xs ys : List (ℕ × ℕ)) → IsIn y xs ⊎ IsIn y ys → IsIn y (xs ++ ys)
-in_append y [] ys (inl i) = absurd i
-in_append y [] ys (inr i) = i
-in_append y (x ∷ xs) ys (inl (inl e)) = inl e
-in_append y (x ∷ xs) ys (inl (inr i)) = inr (in_append y xs ys (inl i))
-in_append y (x ∷ xs) ys (inr i) = inr (in_append y xs ys (inr i))
+in_append y [] ys h = grind arith
+in_append y (x ∷ xs) ys h = grind (arith, in_append y xs ys)
 
 in_row : (a b g : ℕ) (gs : List ℕ) → a ≡ b → IsIn g gs → IsIn {A = ℕ × ℕ} (a, g) (map (λ h. (b, h)) gs)
 in_row a b g [] e i = absurd i
-in_row a b g (h ∷ gs) e (inl f) = inl (rw (e, f) refl)
-in_row a b g (h ∷ gs) e (inr i) = inr (in_row a b g gs e i)
+in_row a b g (h ∷ gs) e i = grind (arith, in_row a b g gs e)
 
 in_cross : (p : ℕ × ℕ) (xs gs : List ℕ) → IsIn p.0 xs → IsIn p.1 gs → IsIn p (cross xs gs)
 in_cross p [] gs i j = absurd i
@@ -117,9 +54,9 @@ masked a g ps fa fg few s h =
     let all = cross (ids 64 a) (ids 32 g) in
     let t : MasksValue = record { satellites = a; signals = g; cells = 0 } in
     let is_all : map ids_of (all_pairs t) ≡ all = all_are_cross 0 (ids 64 a) (ids 32 g) in
-    let r : Rising 65 4128 (map pair_number all) = rw is_all at (rw (← map-map (all_pairs t)) at (all_rising t)) in
-    let p = picked 65 4128 65 all ps r s h in
-    let bits = pick all ps in
+    let r : Rising 65 4128 (map pair_number all) = rw is_all at (rw (← map-map pair_number ids_of (all_pairs t)) at (all_rising t)) in
+    let p = picked pair_number 65 4128 65 all ps r s h in
+    let bits = pick pair_number all ps in
     let count : length bits ≡ pair_count a g = p.len ∙ (ap length (sym is_all) ∙ (length-map (all_pairs t) ids_of ∙ pairs_count t (record { satellites = fa; signals = fg; few = few; cells = pow_pos (pair_count a g) }))) in
     let P : ℕ → Type 0 = λ n. number bits < 2 ^ n in
     let Q : ℕ → Type 0 = λ n. uint n (number bits) ≡ bits in

@@ -1,7 +1,7 @@
 -- A value and its meaning correspond one to one.
-use Rattle.rtcm_msg.proofs.Names.{ℕ, ◌≡◌, ◌+◌, ◌*◌, ◌≤◌, Bool, true, false, List, [], ◌∷◌, ◌++◌, length, map, refl, sym, ap, subst, ◌∙◌, arith, flat_map, zip, enumerate_from, length-map, map-append, uint, number, Pair, MsmValue, MasksValue, AreMasks, IsValue, pair_count, ids, chosen, pair, all_pairs, cell_pairs, Rising, Meaning, meaning, ids_of, pair_number, cell_ids, length-uint, number_of-uint}
+use Rattle.rtcm_msg.proofs.Names.{ℕ, ◌≡◌, ◌+◌, ◌*◌, ◌≤◌, List, [], ◌∷◌, ◌++◌, length, map, refl, sym, ap, ◌∙◌, arith, flat_map, zip, enumerate_from, length-map, map-append, map-map, uint, number, Pair, MsmValue, MasksValue, AreMasks, IsValue, pair_count, ids, pair, all_pairs, cell_pairs, Rising, Meaning, meaning, ids_of, pair_number, cell_ids, length-uint, number_of-uint}
 use Rattle.std.proofs.lemmas.Slice.Zip.{firsts-zip, seconds-zip}
-use Rattle.rtcm_msg.proofs.IdLaws.{weaken, ids_rising, ids_one, cons_tail}
+use Rattle.rtcm_msg.proofs.IdLaws.{weaken, ids_rising, ids_one, chosen_rising, chosen_one}
 use Rattle.rtcm_msg.proofs.CountLaws.{ids_count, pairs_count, cell_pairs_count}
 
 -- ---- the pairs rise
@@ -31,36 +31,9 @@ rows_rising gs k low (x ∷ xs) g h r =
 pub all_rising : (s : MasksValue) → Rising (64 * 1 + 1) (64 * 64 + 32) (map key (all_pairs s))
 all_rising s = rows_rising (ids 32 s.signals) 0 1 (ids 64 s.satellites) (ids_rising 32 s.signals) (omega arith) (ids_rising 64 s.satellites)
 
-chosen_rising : (low high : ℕ) (bits : List Bool) (xs : List Pair) → Rising low high (map key xs) → Rising low high (map key (chosen bits xs))
-unfolding chosen
-chosen_rising low high [] xs r = tt
-chosen_rising low high (b ∷ bits) [] r = tt
-chosen_rising low high (true ∷ bits) (x ∷ xs) r = (r.0, r.1, chosen_rising (key x + 1) high bits xs r.2)
-chosen_rising low high (false ∷ bits) (x ∷ xs) r = weaken low (key x + 1) high (map key (chosen bits xs)) (omega (arith, r.0)) (chosen_rising (key x + 1) high bits xs r.2)
-
-pub map-map : (xs : List Pair) → map pair_number (map ids_of xs) ≡ map key xs
-map-map [] = refl
-map-map (x ∷ xs) = ap (λ t. key x ∷ t) (map-map xs)
-
 pub pairs_rising : (s : MasksValue) → Rising 65 4128 (map pair_number (cell_ids s))
-pairs_rising s = rw (map-map (cell_pairs s)) (chosen_rising 65 4128 (uint (pair_count s.satellites s.signals) s.cells) (all_pairs s) (all_rising s))
-
--- ---- the pairs determine one mask
-
-not_above : (n high : ℕ) (xs ys : List ℕ) → Rising (n + 1) high ys → n ∷ xs ≡ ys → ⊥
-not_above n high xs ys r e = let s : Rising (n + 1) high (n ∷ xs) = subst (Rising (n + 1) high) (sym e) r in omega (arith, s.0)
-
--- The greatest number of a pair is 64 * 64 + 32 = 4128.
-chosen_one : (low : ℕ) (bs cs : List Bool) (xs : List Pair) → length bs ≡ length xs → length cs ≡ length xs → Rising low 4128 (map key xs) → map key (chosen bs xs) ≡ map key (chosen cs xs) → bs ≡ cs
-unfolding chosen
-chosen_one low [] [] xs a b r e = refl
-chosen_one low [] (c ∷ cs) xs a b r e = absurd (omega (arith, a, b))
-chosen_one low (b ∷ bs) [] xs a c r e = absurd (omega (arith, a, c))
-chosen_one low (b ∷ bs) (c ∷ cs) [] l m r e = absurd (omega (arith, l))
-chosen_one low (true ∷ bs) (true ∷ cs) (x ∷ xs) l m r e = ap (λ t. true ∷ t) (chosen_one (key x + 1) bs cs xs (omega (arith, l)) (omega (arith, m)) r.2 (cons_tail (key x) (key x) (map key (chosen bs xs)) (map key (chosen cs xs)) e))
-chosen_one low (false ∷ bs) (false ∷ cs) (x ∷ xs) l m r e = ap (λ t. false ∷ t) (chosen_one (key x + 1) bs cs xs (omega (arith, l)) (omega (arith, m)) r.2 e)
-chosen_one low (true ∷ bs) (false ∷ cs) (x ∷ xs) l m r e = absurd (not_above (key x) 4128 (map key (chosen bs xs)) (map key (chosen cs xs)) (chosen_rising (key x + 1) 4128 cs xs r.2) e)
-chosen_one low (false ∷ bs) (true ∷ cs) (x ∷ xs) l m r e = absurd (not_above (key x) 4128 (map key (chosen cs xs)) (map key (chosen bs xs)) (chosen_rising (key x + 1) 4128 bs xs r.2) (sym e))
+pairs_rising s =
+    rw (map-map pair_number ids_of (cell_pairs s)) (chosen_rising key 65 4128 (uint (pair_count s.satellites s.signals) s.cells) (all_pairs s) (all_rising s))
 
 -- Masks with the same satellites, signals and pairs.
 cells_same : (a g m n : ℕ) → AreMasks (record { satellites = a; signals = g; cells = m }) → AreMasks (record { satellites = a; signals = g; cells = n })
@@ -70,8 +43,8 @@ cells_same a g m n h k e =
     let s : MasksValue = record { satellites = a; signals = g; cells = m } in
     let t : MasksValue = record { satellites = a; signals = g; cells = n } in
     let count = pairs_count s h in
-    let keys : map key (cell_pairs s) ≡ map key (cell_pairs t) = sym (map-map (cell_pairs s)) ∙ (ap (map pair_number) e ∙ map-map (cell_pairs t)) in
-    let bits = chosen_one 65 (uint p m) (uint p n) (all_pairs s) (length-uint p m ∙ sym count) (length-uint p n ∙ sym count) (all_rising s) keys in
+    let keys : map key (cell_pairs s) ≡ map key (cell_pairs t) = sym (map-map pair_number ids_of (cell_pairs s)) ∙ (ap (map pair_number) e ∙ map-map pair_number ids_of (cell_pairs t)) in
+    let bits = chosen_one key 65 4128 (uint p m) (uint p n) (all_pairs s) (length-uint p m ∙ sym count) (length-uint p n ∙ sym count) (all_rising s) keys in
     sym (number_of-uint p m h.cells) ∙ (ap number bits ∙ number_of-uint p n k.cells)
 
 pub sets_one : (s t : MasksValue) → AreMasks s → AreMasks t → ids 64 s.satellites ≡ ids 64 t.satellites → ids 32 s.signals ≡ ids 32 t.signals → cell_ids s ≡ cell_ids t → s ≡ t

@@ -113,9 +113,7 @@ body_found bits v h (kinds.Station has) e read =
 body_found bits v h (kinds.Msm form g) e read =
     let body = bind_ok (msm_at (satellite_widths form) (cell_widths form) g (cursor_at bits 12)) _ v read in
     of_read (Found bits) (message_in form body.0.0) v body.2 (found_msm form bits g body.0.0 body.0.1 (begins_with_number bits h ∙ ap (λ (k : ℕ). uint 12 k ++ drop 12 bits) (number_is _ _ e)) (msm_consumed (satellite_widths form) (cell_widths form) g (cursor_at bits 12) body.0 body.1))
-body_found bits v h kinds.Other e read =
-    let value : v ≡ other_of bits = ok_inj v _ _ refl (sym read) ∙ other_is bits h in
-    subst (Found bits) (sym value) (record { is_message = tt; reads = inr (record { number_there = h; unread = e; value = refl }) })
+body_found bits v h kinds.Other e read = grind (arith, ok_inj, other_is)
 
 pub message_found : (bits : List Bool) (v : Message) → message_by kind_of bits ≡ Ok v → Found bits v
 message_found bits v read = elim (cases_lt (length bits) 12) [
@@ -134,9 +132,6 @@ and_second a b c h = and_left (a && b) c (and_right a b h)
 
 pub and_all : (a b c : Bool) → a ≡ true → b ≡ true → c ≡ true → IsTrue (a && b && c)
 and_all a b c e f g = rw (e, f, g) refl
-
-pub not_true : (b : Bool) → b ≡ false → IsTrue b → ⊥
-not_true b e h = cc
 
 pub some_none : (r : Option ℕ) (k : ℕ) → r ≡ Some k → r ≡ None → ⊥
 some_none r k e f = cc
@@ -236,14 +231,11 @@ message_fault bits e read = go (message_end bits)
     go : MessageEnd bits → IsFault bits e
     go h1 = grind (arith, ok_err)
 
-fault_one : (bits : List Bool) (e f : MsgFault) → IsFault bits e → IsFault bits f → e ≡ f
-fault_one bits e f h k = grind arith
-
 pub message_only_fault : (bits : List Bool) (f : MsgFault) → IsFault bits f → message_by kind_of bits ≡ Err f
 message_only_fault bits f fault = go (message_end bits)
   where
     go : MessageEnd bits → message_by kind_of bits ≡ Err f
-    go h1 = grind (arith, fault_one)
+    go h1 = grind arith
 
 -- ---- the encoding
 

@@ -1,5 +1,5 @@
 -- Reading a multiple signal message: the bits that were read, reading an encoding, and the fault.
-use Rattle.rtcm_msg.proofs.Names.{ℕ, ◌≡◌, ◌+◌, ◌*◌, ◌^◌, ◌<◌, ◌≤◌, Bool, true, false, List, [], ◌∷◌, ◌++◌, length, Result, Ok, Err, refl, sym, ap, ◌∙◌, arith, inl, inr, append_assoc, replicate, count_ones, ◌/◌, cases_lt, cases_Bool, length-map, length-replicate, System, uint, Cursor, MsgFault, BadTime, TooManyCells, MsmHeader, number_at, reading, ◌>>=◌, field_bits, total_width, columns, columns_at, EachBelow, masks_after, header_at, masks_at, msm_at, checked_time, is_time, IsHeader, AreMasks, IsValue, MasksValue, MsmValue, pair_count, mask_fields, time_table, header_table, mask_table, time_contents, header_contents, header_of, widths, Contents, fields_of}
+use Rattle.rtcm_msg.proofs.Names.{ℕ, ◌≡◌, ◌+◌, ◌*◌, ◌^◌, ◌<◌, ◌≤◌, Bool, true, false, List, [], ◌∷◌, ◌++◌, length, Result, Ok, Err, refl, sym, ap, ◌∙◌, arith, inl, inr, append_assoc, append-nil, replicate, count_ones, ◌/◌, cases_lt, cases_Bool, length-map, length-replicate, System, uint, Cursor, MsgFault, BadTime, TooManyCells, MsmHeader, number_at, reading, ◌>>=◌, field_bits, total_width, columns, columns_at, EachBelow, masks_after, header_at, masks_at, msm_at, checked_time, is_time, IsHeader, AreMasks, IsValue, MasksValue, MsmValue, pair_count, mask_fields, time_table, header_table, mask_table, time_contents, header_contents, header_of, widths, Contents, fields_of}
 use Rattle.rtcm_msg.proofs.Binds.{of_read, bind_ok, number_consumed, ok_err}
 use Rattle.rtcm_msg.proofs.Combine.{cursor, number_again}
 use Rattle.rtcm_msg.proofs.WritingSteps.{field_bits-append}
@@ -102,10 +102,6 @@ pub record AreSetsRead (v : MasksValue) (c d : Cursor) : Type 0 where
   pub are_sets : AreMasks v
   pub bits : c.rest ≡ field_bits (mask_fields v) ++ d.rest
 
--- One field is a list of one.
-alone : (bits all rest : List Bool) → all ≡ bits ++ rest → all ≡ (bits ++ []) ++ rest
-alone bits all rest e = e ∙ sym (append_assoc bits [] rest)
-
 pub sets_consumed : (c : Cursor) (v : MasksValue × Cursor) → masks_at c ≡ Ok v → AreSetsRead v.0 c v.1
 unfolding field_bits
 sets_consumed c v e =
@@ -121,7 +117,7 @@ sets_consumed c v e =
           let x : MasksValue × Cursor = (record { satellites = a; signals = b; cells = cells.0.0 }, cells.0.1) in
           of_read (λ (w : MasksValue × Cursor). AreSetsRead w.0 c w.1) x v cells.2 (record {
             are_sets = record { satellites = consumed.fit.0; signals = consumed.fit.1.0; few = few; cells = read.fits };
-            bits = both (fields_of mask_table masks.0.0) ((pair_count a b, cells.0.0) ∷ []) _ _ _ consumed.bits (alone (uint (pair_count a b) cells.0.0) masks.0.1.rest cells.0.1.rest read.bits);
+            bits = both (fields_of mask_table masks.0.0) ((pair_count a b, cells.0.0) ∷ []) _ _ _ consumed.bits (rw (append-nil (uint (pair_count a b) cells.0.0)) read.bits);
           })
     ]
 

@@ -18,8 +18,8 @@ pub use Rattle.rtcm_msg.specs.Entries.{Rising, all_pairs, cell_pairs, entries, e
 pub use Rattle.rtcm_msg.specs.Equipment.{AreShort, text_at, texts_at}
 unfoldable pub use Rattle.rtcm_msg.specs.Fields.{field_bits, first_past, number_at}
 pub use Rattle.rtcm_msg.specs.Fields.{cursor_at, field_at, fields_width, reading, ◌>>=◌}
-pub use Rattle.rtcm_msg.specs.Forms.{FitsCell, FitsIf, IsCellData, IsSatelliteData, Precision, cell_contents, cell_data, cell_number, cell_of, cell_table, cell_table_by, cell_widths, entry, has_rates, is_fine, least, precision, rate_in, rate_table, satellite_contents, satellite_data, satellite_number, satellite_of, satellite_table_by, satellite_widths}
-pub use Rattle.rtcm_msg.specs.Fractions.{invalid_fine_rate, invalid_rough_rate, range_joined, rate_joined, scaled, strength_of}
+pub use Rattle.rtcm_msg.specs.Forms.{FitsIf, IsCellData, IsSatelliteData, Precision, cell_contents, cell_data, cell_number, cell_of, cell_table, cell_table_by, cell_widths, entry, has_rates, is_fine, precision, rate_in, rate_table, satellite_contents, satellite_data, satellite_number, satellite_of, satellite_table_by, satellite_widths}
+pub use Rattle.rtcm_msg.specs.Fractions.{invalid_fine_rate, invalid_rough_rate, rate_joined}
 pub use Rattle.rtcm_msg.specs.Layout.{Contents, FieldKind, Table, content, fields_of, width, widths}
 pub use Rattle.rtcm_msg.specs.Meaning.{Each, IsIn, IsMeaning, Meaning, cell_ids, data_of, ids_of, keys, meaning, pair_number}
 unfoldable pub use Rattle.rtcm_msg.specs.Msm.{header_at, masks_at, msm_at}
@@ -48,7 +48,7 @@ pub use Rattle.rtcm_msg.specs.declared.view.Data.{Data}
 pub use Rattle.rtcm_msg.specs.declared.view.Form.{Form}
 pub use Rattle.rtcm_msg.specs.inner.FormLaws.{cell_in_range, cell_same, narrow, satellite_in_range, satellite_same}
 pub use Rattle.rtcm_msg.specs.inner.Forms.{cell_fault, rateless, rateless_number, satellite_fault}
-pub use Rattle.rtcm_msg.specs.inner.LastBits.{AreLast, EndWith}
+pub use Rattle.rtcm_msg.specs.inner.LastBits.{AreLast}
 pub use Rattle.rtcm_msg.specs.inner.LayoutLaws.{FitAll, below_product, content-number, content_fits, has_sign, have_signs, number-content, number_fits}
 pub use Rattle.rtcm_msg.specs.inner.Pairs.{AreAll, ArePairs, HasFirst, IndicesAreBelow, all_pairs_from, cell_pairs_left, pairs_from, pairs_left}
 pub use Rattle.rtcm_msg.specs.inner.Ranges.{fits_int}
@@ -58,15 +58,16 @@ pub use Rattle.rtcm_msg.specs.inner.Rows.{numbers_in, rows_at}
 pub use Rattle.rtcm_msg.specs.inner.ValueCounts.{AddsCounts, AreAtMost, AreCells, entries_left, has_id, has_listed_value, value_count}
 pub use Rattle.rtcm_msg.specs.inner.Viewed.{IsCached, Unread}
 pub use Rattle.rtcm_msg.specs.inner.Views.{AreDataOf, AreWithin, FormedMsm, cell_rows, formed, satellite_rows}
-pub use Rattle.std.proofs.Common.{All, Bool, Err, FitsSigned, IsTrue, List, None, Ok, Option, Result, Some, [], add-one, add-zero, add_assoc, add_comm, ap, append-nil, append_assoc, ap₂, arith, count_ones, drop, false, filter, get_or, if◌then◌else◌, inl, inr, is_some, le_refl, length, length-append, lit<, lit≤, map, mul-add, mul-le-mul, nat_le, nat_lt, negsuc, not, of_z, option_and_then, pos, refl, replicate, rules, set, subst, suc, sym, take, to_z, true, unsigned_abs, w16, w32, w64, zero, zero-add, ℕ, ℤ, ◌%◌, ◌&&◌, ◌*ℤ◌, ◌*◌, ◌++◌, ◌+ℤ◌, ◌+◌, ◌-◌, ◌/◌, ◌<◌, ◌==◌, ◌^◌, ◌||◌, ◌∙◌, ◌∷◌, ◌≡◌, ◌≢◌, ◌≤◌, ◌⊎◌}
+pub use Rattle.std.proofs.Common.{All, Bool, Err, FitsSigned, IsTrue, List, None, Ok, Option, Result, Some, [], add-one, add-zero, add_assoc, add_comm, ap, append-nil, append_assoc, ap₂, arith, count_ones, drop, false, filter, get_or, if◌then◌else◌, inl, inr, is_some, length, length-append, lit<, lit≤, map, mul-le-mul, nat_le, nat_lt, not, of_z, option_and_then, pos, refl, replicate, rules, set, subst, suc, sym, take, to_z, true, unsigned_abs, w16, w32, w64, zero, zero-add, ℕ, ℤ, ◌%◌, ◌&&◌, ◌*ℤ◌, ◌*◌, ◌++◌, ◌+ℤ◌, ◌+◌, ◌-◌, ◌/◌, ◌<◌, ◌==◌, ◌^◌, ◌||◌, ◌∙◌, ◌∷◌, ◌≡◌, ◌≢◌, ◌≤◌, ◌⊎◌}
 pub use Rattle.std.proofs.Math.Nat.{add-mod_right, div-div-eq-div-mul, div-eq_of_lt, div-one, mod-eq_of_lt}
 pub use Rattle.std.proofs.Math.Seq.{drop-cons, drop-length, take-length}
-pub use Rattle.std.proofs.lemmas.Bool.{and_left, and_parts, and_right, cases_Bool, cases_eq, cases_lt, le-leb, le-ltb, lt-leb, lt-ltb}
+pub use Rattle.std.proofs.lemmas.Bool.{and_left, and_parts, and_right, cases_Bool, cases_eq, cases_lt, eq-eqb, le-leb, le-ltb, lt-leb, lt-ltb, ne_eqb}
 pub use Rattle.std.proofs.lemmas.Grind.{common_steps}
-pub use Rattle.std.proofs.lemmas.Int.{fits_signed_mul, ints, to_z-of_z, unsigned_abs-mul}
-pub use Rattle.std.proofs.lemmas.List.{drop-append-le, drop-drop, get_or-replicate, length-drop, length-map, length-replicate, length-take, length-take-le, map-append, take-append-drop, take-append-le}
+pub use Rattle.std.proofs.lemmas.Int.{ints, to_z-of_z}
+pub use Rattle.std.proofs.lemmas.List.{drop-append-le, drop-drop, get_or-replicate, length-drop, length-map, length-replicate, length-take, length-take-le, map-append, map-id, take-append-drop, take-append-le}
 pub use Rattle.std.proofs.lemmas.Nat.{div-add-mod', leading_top, mod_below, mod_low, mul-le, one_shl, ones-le, ones_cat, pow-add, pow_pos, shr-shr, shr_high}
 pub use Rattle.std.proofs.lemmas.Result.{err_from_is_err_and}
+pub use Rattle.std.proofs.lemmas.Simd.{map-map}
 pub use Rattle.std.specs.Int.Bits.{bit_xor, xor_add_and}
 unfoldable pub use Rattle.std.specs.Int.Count.{ones, ones_in}
 pub use Rattle.std.specs.Int.Count.{count_leading_zeros}

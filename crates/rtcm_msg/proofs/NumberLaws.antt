@@ -1,5 +1,5 @@
 -- The message numbers.
-use Rattle.rtcm_msg.proofs.Names.{common_steps, ℕ, ◌≡◌, ◌/◌, ◌%◌, ◌==◌, ◌^◌, ◌<◌, Bool, true, List, [], ◌∷◌, Option, Some, refl, subst, arith, if◌then◌else◌, IfSome, find, System, Kind, kind_of, station_number, message_number, Form, msm_tens, system_of_tens, digit_of, form_of_digit, msm_kind}
+use Rattle.rtcm_msg.proofs.Names.{common_steps, ℕ, ◌≡◌, ◌/◌, ◌%◌, ◌==◌, ◌^◌, ◌<◌, Bool, true, List, [], ◌∷◌, Option, refl, subst, arith, if◌then◌else◌, IfSome, find, System, Kind, kind_of, station_number, message_number, Form, msm_tens, system_of_tens, digit_of, form_of_digit, msm_kind}
 use Rattle.gnss_system.specs.Systems.{systems}
 use Rattle.rtcm_msg.specs.declared.view.Form.TheVariants as forms
 use Rattle.rtcm_msg.specs.declared.number.Kind.TheVariants as kinds
@@ -13,12 +13,9 @@ IsNumber kinds.Other n = Unit {0}
 row_is : (b : Bool) (n m : ℕ) (k j : Kind) → (n == m) ≡ b → IsNumber k m → IsNumber j n → IsNumber (if b then k else j) n
 row_is b n m k j e h t = grind (arith, common_steps)
 
-first_passes : {A : Type 0} (p : A → Bool) (x : A) (o : Option A) (b : Bool) → p x ≡ b → IfSome o (λ x. p x ≡ true) → IfSome (if b then Some x else o) (λ x. p x ≡ true)
-first_passes p x o b h k = grind arith
-
 found_passes : {A : Type 0} (p : A → Bool) (xs : List A) → IfSome (find p xs) (λ x. p x ≡ true)
 found_passes p [] = tt
-found_passes p (x ∷ xs) = first_passes p x (find p xs) (p x) refl (found_passes p xs)
+found_passes p (x ∷ xs) = grind (arith, common_steps, found_passes p xs)
 
 msm_number : (n : ℕ) (f : Option Form) (g : Option System) → IfSome f (λ f. (digit_of f == n % 10) ≡ true) → IfSome g (λ g. (msm_tens g == n / 10) ≡ true) → IsNumber (msm_kind f g) n
 msm_number n f g h k = grind arith

@@ -1,5 +1,5 @@
 -- Iteration over pairs: the first ID is removed from a set.
-use Rattle.rtcm_msg.proofs.Names.{ℕ, zero, suc, ◌≡◌, ◌≢◌, ◌+◌, ◌*◌, ◌-◌, ◌/◌, ◌%◌, ◌^◌, ◌<◌, ◌≤◌, Bool, true, false, List, [], ◌∷◌, ◌++◌, length, map, refl, sym, ap, ◌∙◌, subst, arith, count_ones, inl, inr, zero-add, count_leading_zeros, bit_xor, xor_add_and, leading_top, pow_pos, cases_lt, div-eq_of_lt, uint, Pair, up_from, ids, pair, chosen, MasksValue, AreMasks, pair_count, all_pairs_from, pairs_from, IndicesAreBelow, AreAll, uint-low, pow_mono, length-uint}
+use Rattle.rtcm_msg.proofs.Names.{ℕ, zero, suc, ◌≡◌, ◌≢◌, ◌+◌, ◌*◌, ◌-◌, ◌/◌, ◌%◌, ◌^◌, ◌<◌, ◌≤◌, Bool, List, [], ◌∷◌, ◌++◌, length, map, refl, sym, ap, ◌∙◌, subst, arith, count_ones, inl, inr, zero-add, count_leading_zeros, bit_xor, xor_add_and, leading_top, pow_pos, cases_lt, div-eq_of_lt, uint, Pair, up_from, ids, pair, chosen, MasksValue, AreMasks, pair_count, all_pairs_from, pairs_from, IndicesAreBelow, AreAll, uint-low, pow_mono, length-uint}
 use Rattle.std.proofs.lemmas.Nat.Bits.{and_pow}
 use Rattle.rtcm_msg.proofs.CountLaws.{ids_count, pairs_count, cell_pairs_count}
 
@@ -69,8 +69,7 @@ ids_none w = up_none w 1
 up_few : (i : ℕ) (bits : List Bool) → length (up_from i bits) ≤ length bits
 unfolding up_from
 up_few i [] = omega arith
-up_few i (true ∷ bits) = omega (arith, up_few (i + 1) bits)
-up_few i (false ∷ bits) = omega (arith, up_few (i + 1) bits)
+up_few i (b ∷ bits) = grind (arith, up_few (i + 1) bits)
 
 pub ids_few : (w m : ℕ) → length (ids w m) ≤ w
 ids_few w m = let few = up_few 1 (uint w m) in omega (arith, few, length-uint w m)

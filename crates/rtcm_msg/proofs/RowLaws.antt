@@ -1,5 +1,5 @@
 -- Data read from their position in the bits are those read in order.
-use Rattle.rtcm_msg.proofs.Names.{[], ℕ, zero, suc, ◌≡◌, ◌+◌, ◌*◌, ◌-◌, ◌%◌, ◌^◌, ◌<◌, ◌≤◌, nat_lt, Bool, true, false, List, ◌∷◌, length, drop, get_or, Result, Ok, Err, refl, sym, ap, ◌∙◌, arith, add-one, replicate, inl, inr, drop-cons, drop-length, mod-eq_of_lt, add-mod_right, cases_lt, length-replicate, length-drop, get_or-replicate, Cursor, MsgFault, Short, cursor_at, field_at, total_width, column_at, columns_at, numbers_in, rows_at, end_of_rows, row_at}
+use Rattle.rtcm_msg.proofs.Names.{common_steps, [], ℕ, zero, suc, ◌≡◌, ◌+◌, ◌*◌, ◌-◌, ◌%◌, ◌^◌, ◌<◌, ◌≤◌, nat_lt, Bool, true, false, List, ◌∷◌, length, drop, get_or, Result, Ok, Err, refl, sym, ap, ◌∙◌, arith, add-one, replicate, inl, inr, drop-cons, drop-length, mod-eq_of_lt, add-mod_right, cases_lt, length-replicate, length-drop, get_or-replicate, Cursor, MsgFault, Short, cursor_at, field_at, total_width, column_at, columns_at, numbers_in, rows_at, end_of_rows, row_at}
 use Rattle.rtcm_msg.proofs.Binds.{ok_inj, number_short, ok_err}
 use Rattle.rtcm_msg.proofs.FieldLaws.{number_there_at}
 
@@ -53,14 +53,11 @@ column_row w (p ∷ ps) bits place h =
     let rest = column_row w ps bits (place + w) more in
     (((p * 2 ^ w + field_at bits place w) ∷ rest.0.0, rest.0.1), rw (here, rest.1) refl, join p rest.0 rest.2)
   where
-    first : (p : ℕ) (xs : List ℕ) → get_or ((p * 2 ^ w + field_at bits place w) ∷ xs) 0 0 ≡ p * 2 ^ w + field_at bits (place + 0 * w) w
-    first p xs = let e : place ≡ place + 0 * w = omega arith in ap (λ (k : ℕ). p * 2 ^ w + field_at bits k w) e
-
     join : (p : ℕ) (x : List ℕ × Cursor) → ColumnRow w ps bits (place + w) x → ColumnRow w (p ∷ ps) bits place ((p * 2 ^ w + field_at bits place w) ∷ x.0, x.1)
     join p x r = record { after = r.after ∙ ap (cursor_at bits) (one_more place (length ps) w); len = ap suc r.len; row = each }
       where
         each : (i : ℕ) → i < length (p ∷ ps) → get_or ((p * 2 ^ w + field_at bits place w) ∷ x.0) i 0 ≡ get_or (p ∷ ps) i 0 * 2 ^ w + field_at bits (place + i * w) w
-        each zero h = first p x.0
+        each zero h = ap (λ (k : ℕ). p * 2 ^ w + field_at bits k w) (omega arith)
         each (suc k) h = r.row k (omega (arith, h)) ∙ ap (λ (m : ℕ). get_or ps k 0 * 2 ^ w + field_at bits m w) (one_more place k w)
 
 -- ---- all columns
@@ -94,19 +91,13 @@ rows_end ws bits n place h = columns_end ws (replicate n 0) bits n place (length
 pub end_is : (ws : List ℕ) (n len place end : ℕ) → end_of_rows ws n len place ≡ Ok end → end ≡ place + n * total_width ws
 unfolding end_of_rows
 end_is [] n len place end e = let same : place ≡ place + n * 0 = omega arith in sym (ok_inj place end (end_of_rows [] n len place) refl e) ∙ same
-end_is (w ∷ ws) n len place end e = elim (cases_lt len (place + n * w)) [
-  | inl few ↦ let less : nat_lt len (place + n * w) ≡ true = grind (arith, few) in absurd (ok_err end (Short (len - (len - place) % w)) (end_of_rows (w ∷ ws) n len place) e (rw less refl))
-  | inr there ↦ let more : nat_lt len (place + n * w) ≡ false = grind (arith, there) in end_is ws n len (place + n * w) end (rw more at e) ∙ two_more place n w (total_width ws)
-]
+end_is (w ∷ ws) n len place end e = grind (arith, common_steps, cases_lt, ok_err, two_more, end_is ws n len (place + n * w) end)
 
 -- Data that are within the bits end where the sum of the widths says.
 pub end_there : (ws : List ℕ) (n len place : ℕ) → place + n * total_width ws ≤ len → end_of_rows ws n len place ≡ Ok (place + n * total_width ws)
 unfolding end_of_rows
 end_there [] n len place h = let same : place ≡ place + n * 0 = omega arith in ap Ok same
-end_there (w ∷ ws) n len place h =
-    let room : place + n * w + n * total_width ws ≤ len = rw (two_more place n w (total_width ws)) h in
-    let more : nat_lt len (place + n * w) ≡ false = grind (arith, room) in
-    rw more (end_there ws n len (place + n * w) room) ∙ ap Ok (two_more place n w (total_width ws))
+end_there (w ∷ ws) n len place h = grind (arith, common_steps, two_more, end_there ws n len (place + n * w))
 
 columns_next : (w : ℕ) (ws ps xs : List ℕ) (c d : Cursor) → column_at w ps c ≡ Ok (xs, d) → columns_at (w ∷ ws) ps c ≡ columns_at ws xs d
 unfolding columns_at

@@ -1,5 +1,5 @@
 -- Reading a station message: the bits that were read, reading an encoding, and the fault.
-use Rattle.rtcm_msg.proofs.Names.{ℕ, ◌≡◌, ◌+◌, ◌^◌, ◌<◌, Bool, true, false, List, [], ◌++◌, Ok, Option, Some, None, refl, sym, ap, ◌∙◌, is_some, subst, append_assoc, IfSome, add-zero, uint, Cursor, StationParts, number_at, ◌>>=◌, field_bits, total_width, station_at, height_at, InRange, height_fields, station_table, height_table, station_contents, station_parts, widths, Contents, fields_of, FitAll}
+use Rattle.rtcm_msg.proofs.Names.{common_steps, arith, ℕ, ◌≡◌, ◌+◌, ◌^◌, ◌<◌, Bool, true, false, List, [], ◌++◌, Ok, Option, Some, None, refl, sym, ap, ◌∙◌, is_some, subst, append_assoc, IfSome, add-zero, uint, Cursor, StationParts, number_at, ◌>>=◌, field_bits, total_width, station_at, height_at, InRange, height_fields, station_table, height_table, station_contents, station_parts, widths, Contents, fields_of, FitAll}
 use Rattle.rtcm_msg.proofs.Binds.{bind_ok, ok_inj, number_consumed}
 use Rattle.rtcm_msg.proofs.Combine.{cursor, number_again}
 use Rattle.rtcm_msg.proofs.WritingSteps.{field_bits-append}
@@ -31,18 +31,14 @@ pub record IsRead (s : StationParts) (has : Bool) (c d : Cursor) : Type 0 where
   pub height : is_some s.height ≡ has
   pub bits : c.rest ≡ field_bits (station_tail s reserved) ++ d.rest
 
-abbrev reserved_of : Contents station_table → ℕ
-reserved_of cs = cs.1.1.1.1.1.1.1.1.0
-
 in_range_of : (cs : Contents station_table) (h : Option ℕ) → FitAll station_table cs → IfSome h (λ k. k < 2 ^ 16) → InRange (station_parts cs h)
-in_range_of cs h (station, (realization, (gps, (glonass, (galileo, (reference, (x, (oscillator, (reserved, (y, (quarter, (z, end)))))))))))) height =
-    record { station = station; realization = realization; x = x; y = y; quarter = quarter; z = z; height = height }
+in_range_of cs h fit height = grind (arith, common_steps)
 
 -- The bits of the fields that were read, with those of the height.
 consumed_bits : (has : Bool) (c : Cursor) (n : Contents station_table × Cursor) (h : Option ℕ × Cursor) → FieldsConsumed station_table c n → IfSome h.0 (λ k. k < 2 ^ 16) → is_some h.0 ≡ has → n.1.rest ≡ field_bits (height_fields h.0) ++ h.1.rest
     → IsRead (station_parts n.0 h.0) has c h.1
 consumed_bits has c n h consumed fits is bits = record {
-  reserved = reserved_of n.0;
+  reserved = n.0.1.1.1.1.1.1.1.1.0;
   one = consumed.fit.1.1.1.1.1.1.1.1.0;
   in_range = in_range_of n.0 h.0 consumed.fit fits;
   height = is;
@@ -70,8 +66,7 @@ station_consumed has c v e =
 
 height_again : (h : Option ℕ) (place : ℕ) (rest : List Bool) → IfSome h (λ k. k < 2 ^ 16) → height_at (is_some h) (cursor place (field_bits (height_fields h) ++ rest)) ≡ Ok (h, cursor (place + total_width (height_widths (is_some h))) rest)
 unfolding field_bits
-height_again None place rest fits = rw (add-zero place) refl
-height_again (Some h) place rest fits = rw (append_assoc (uint 16 h) [] rest, number_again 16 h place rest fits) refl
+height_again h place rest fits = grind (arith, add-zero, append_assoc, number_again)
 
 pub station_again : (s : StationParts) (reserved place : ℕ) (rest : List Bool) → InRange s → reserved < 2
     → station_at (is_some s.height) (cursor place (field_bits (station_tail s reserved) ++ rest)) ≡ Ok (s, cursor (place + total_width station_widths + total_width (height_widths (is_some s.height))) rest)

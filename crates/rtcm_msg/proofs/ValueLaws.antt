@@ -69,9 +69,7 @@ pub all_cells : (v : FormedMsm) (c : CellsLeft) (n : ℕ) → AreAll v.msm.sets 
 all_cells v c n all none count set = record { left = all.left; next = omega (arith, ap length all.cells, all.count, none, count, set) }
 
 pub zeros : (n i : ℕ) → get_or (replicate n zero) i zero ≡ zero
-zeros zero i = refl
-zeros (suc n) zero = refl
-zeros (suc n) (suc i) = zeros n i
+zeros n i = grind (arith, common_steps)
 
 pub entries_first : (f : Pair × ℕ → Entry) (ps qs : List Pair) (x : Pair) (cells : List ℕ) (next : ℕ) → ps ≡ x ∷ qs → next < length cells
     → map f (zip ps (drop next cells)) ≡ f (x, get_or cells next 0) ∷ map f (zip qs (drop (next + 1) cells))
@@ -103,8 +101,7 @@ chosen_none : (q : Pair → Bool) (bits : List Bool) (xs : List Pair) → list_a
 unfolding chosen
 chosen_none q [] xs h = refl
 chosen_none q (b ∷ bits) [] h = refl
-chosen_none q (true ∷ bits) (x ∷ xs) h = grind (arith, chosen_none q bits xs)
-chosen_none q (false ∷ bits) (x ∷ xs) h = grind (arith, chosen_none q bits xs)
+chosen_none q (b ∷ bits) (x ∷ xs) h = grind (arith, chosen_none q bits xs)
 
 row_none : (g : ℕ) (x : ℕ × ℕ) (gs : List ℕ) → list_any (is_of g) (map (pair x) gs) ≡ has_id g gs
 row_none g x [] = refl
@@ -117,10 +114,7 @@ rows_none g gs (x ∷ xs) h = list_any-append (is_of g) (map (pair x) gs) (flat_
 none_of : (listed g : ℕ) (form : Form) (v : MsmValue) (xs : List Pair) (cells : List ℕ) → list_any (is_of g) xs ≡ false → value_count listed g (map (entry_in form v) (zip xs cells)) ≡ zero
 none_of listed g form v [] cells h = refl
 none_of listed g form v (x ∷ xs) [] h = refl
-none_of listed g form v (x ∷ xs) (n ∷ cells) h =
-    let here : (x.signal == g) ≡ false = grind (arith, common_steps) in
-    let later : list_any (is_of g) xs ≡ false = grind (arith, common_steps) in
-    grind (arith, count_first, and_right, (none_of listed g form v xs cells later))
+none_of listed g form v (x ∷ xs) (n ∷ cells) h = grind (arith, common_steps, count_first, and_right, none_of listed g form v xs cells)
 
 -- A signal that is not in the message has no cell.
 pub no_cells : (listed g : ℕ) (v : FormedMsm) → has_id g (ids 32 v.msm.sets.signals) ≡ false → value_count listed g (entries (formed v)) ≡ zero

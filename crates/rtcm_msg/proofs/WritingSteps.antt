@@ -17,9 +17,6 @@ width_next fs i h = rw (add-one i, drop-cons fs i (0, 0) h) refl
 pub column_put : (old new : List Bool) (w s n : ℕ) → w ≤ 64 → s < 128 → new ≡ old ++ uint w (n / ((1 * 2 ^ s) % 2 ^ 128) % ((1 * 2 ^ w) % 2 ^ 128)) → new ≡ old ++ uint w (n / 2 ^ s)
 column_put old new w s n few h put = rw (one_shl s 128 h, one_shl w 128 (omega arith), sym (uint-low w (n / 2 ^ s / 2 ^ w) (n / 2 ^ s % 2 ^ w)) ∙ ap (uint w) (div-add-mod' (n / 2 ^ s) (2 ^ w))) at put
 
-pub column_next : (f : ℕ → List Bool) (ns : List ℕ) (i : ℕ) (old : List Bool) {new whole : List Bool} → i < length ns → new ≡ old ++ f (get_or ns i 0) → old ++ flat_map f (drop i ns) ≡ whole → new ++ flat_map f (drop (i + 1) ns) ≡ whole
-column_next f ns i old h put inv = grind (arith, drop-cons, append_assoc)
-
 pub columns_next : (ws ns : List ℕ) (i : ℕ) (old : List Bool) {new whole : List Bool} → i < length ws → new ≡ old ++ flat_map (λ p. uint (get_or ws i 0) (p / 2 ^ total_width (drop (i + 1) ws))) ns → old ++ columns (drop i ws) ns ≡ whole → new ++ columns (drop (i + 1) ws) ns ≡ whole
 unfolding columns
 columns_next ws ns i old h put inv =

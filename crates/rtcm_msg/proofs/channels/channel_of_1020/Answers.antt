@@ -1,4 +1,4 @@
-use Rattle.rtcm_msg.proofs.Names.{ℕ, ◌≡◌, ◌≢◌, ◌+◌, ◌<◌, ◌≤◌, ◌==◌, ◌∙◌, true, false, List, length, take, nat_le, Some, None, refl, sym, arith, lit≤, length-bits_of, bits_of, field_at, channel_of_1020}
+use Rattle.rtcm_msg.proofs.Names.{common_steps, eq-eqb, ne_eqb, ℕ, ◌≡◌, ◌≢◌, ◌+◌, ◌<◌, ◌≤◌, ◌==◌, ◌∙◌, true, false, List, length, take, nat_le, Some, None, refl, sym, arith, lit≤, length-bits_of, bits_of, field_at, channel_of_1020}
 use Rattle.rtcm_msg.proofs.LongLaws.{field_in_front}
 use Rattle.rtcm_msg.proofs.channels.channel_of_1020.Goals as goal
 
@@ -17,24 +17,17 @@ module _ (bytes : List ℕ) (long : 3 ≤ length bytes) where
 
   another : (n : ℕ) → n ≡ field_at (bits_of (take 3 bytes)) 0 12 → n ≢ 1020 → channel_of_1020 bytes ≡ None
   another n is not_it =
-      let no : (field_at (bits_of bytes) 0 12 == 1020) ≡ false = apart n _ (is ∙ same 0 12 (lit≤ tt)) not_it in
+      let no : (field_at (bits_of bytes) 0 12 == 1020) ≡ false = ne_eqb _ _ (λ it. not_it (is ∙ same 0 12 (lit≤ tt) ∙ it)) in
       rw (there, no) refl
-    where
-      apart : (n m : ℕ) → n ≡ m → n ≢ 1020 → (m == 1020) ≡ false
-      apart n m e h = grind (arith, e, h)
 
   whole : (n slot channel : ℕ) → n ≡ field_at (bits_of (take 3 bytes)) 0 12 → n ≡ 1020 → slot ≡ field_at (bits_of (take 3 bytes)) 12 6 → channel ≡ field_at (bits_of (take 3 bytes)) 18 5
       → channel_of_1020 bytes ≡ Some (slot, channel)
   whole n slot channel is it s k =
-      let yes : (field_at (bits_of bytes) 0 12 == 1020) ≡ true = equal n _ (is ∙ same 0 12 (lit≤ tt)) it in
+      let yes : (field_at (bits_of bytes) 0 12 == 1020) ≡ true = eq-eqb _ _ (sym (is ∙ same 0 12 (lit≤ tt)) ∙ it) in
       rw (there, yes, s, k, same 12 6 (lit≤ tt), same 18 5 (lit≤ tt)) refl
-    where
-      equal : (n m : ℕ) → n ≡ m → n ≡ 1020 → (m == 1020) ≡ true
-      equal n m e h = grind (arith, e, h)
 
 pub returns-in_err-bytes-clause-value : goal.returns-in_err-bytes-clause-value
-returns-in_err-bytes-clause-value c =
-    let few : length c.args.bytes.now < 3 = grind (arith, c.in_err-bytes.ensures.lookup.0) in c.from_residual.ensures ∙ sym (too_short c.args.bytes.now few)
+returns-in_err-bytes-clause-value c = grind (arith, common_steps, too_short)
 
 pub returns-then-number_at-ne1020-clause-value : goal.returns-then-number_at-ne1020-clause-value
 returns-then-number_at-ne1020-clause-value c =

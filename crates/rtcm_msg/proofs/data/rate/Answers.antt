@@ -1,5 +1,5 @@
-use Rattle.rtcm_msg.proofs.Names.{ℤ, pos, ◌≡◌, ◌*ℤ◌, ◌+ℤ◌, arith, rules, w16, w32, to_z, of_z, FitsSigned, lit≤, ints, to_z-of_z, has_rates}
-use Rattle.rtcm_msg.proofs.BoundsLaws.{rate_small, rough_rate_small, fine_rate_small}
+use Rattle.rtcm_msg.proofs.Names.{common_steps, ℤ, pos, ◌≡◌, ◌*ℤ◌, ◌+ℤ◌, arith, w16, w32, to_z, of_z, FitsSigned, lit≤, ints, to_z-of_z}
+use Rattle.rtcm_msg.proofs.BoundsLaws.{rough_rate_small, fine_rate_small}
 use Rattle.rtcm_msg.proofs.SignedLaws.{wider}
 use Rattle.rtcm_msg.proofs.data.rate.Goals as goal
 
@@ -14,9 +14,4 @@ sum_is : (s c : ℤ) → FitsSigned w16 s → FitsSigned w16 c
 sum_is s c f g = rw (wider w16 w32 s f (lit≤ tt), wider w16 w32 c g (lit≤ tt), to_z-of_z w32 (s *ℤ pos 10000) (product_fits s f)) (to_z-of_z w32 ((s *ℤ pos 10000) +ℤ c) (sum_fits s c f g))
 
 pub returns-clause-bound : goal.returns-clause-bound
-returns-clause-bound c = λ form hs hc.
-    let s = c.args.satellite.now.rate in
-    let f = c.args.cell.now.rate in
-    let a : FitsSigned w16 s = search rules in
-    let b : FitsSigned w16 f = search rules in
-    rw (sum_is s f a b) (rate_small s f (rough_rate_small (has_rates form) s hs.rate) (fine_rate_small (has_rates form) f hc.rate))
+returns-clause-bound c = grind (arith, common_steps, sum_is, rough_rate_small, fine_rate_small, ints)

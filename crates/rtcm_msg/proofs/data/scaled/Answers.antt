@@ -1,4 +1,5 @@
-use Rattle.rtcm_msg.proofs.Names.{ℕ, ℤ, pos, ◌≡◌, ◌==◌, ◌∙◌, sym, ap, ◌*◌, ◌*ℤ◌, ◌≤◌, ◌^◌, Bool, not, if◌then◌else◌, Option, Some, None, unsigned_abs, arith, w32, w64, to_z, of_z, FitsSigned, lit<, lit≤, IfSome, ints, to_z-of_z, fits_signed_mul, unsigned_abs-mul}
+use Rattle.rtcm_msg.proofs.Names.{ℕ, ℤ, pos, ◌≡◌, ◌==◌, ◌∙◌, sym, ap, ◌*◌, ◌*ℤ◌, ◌≤◌, ◌^◌, Bool, not, if◌then◌else◌, Option, Some, None, arith, w32, w64, to_z, of_z, FitsSigned, lit<, lit≤, ints, to_z-of_z}
+use Rattle.std.proofs.lemmas.Int.{fits_signed_mul}
 use Rattle.std.specs.Bool.{then_some}
 use Rattle.std.specs.Ordering.{int_eq}
 use Rattle.std.proofs.lemmas.Bool.Decides.{same_from_decides, Decides-like, Decides-eqb, Decides-int_eq}
@@ -14,26 +15,6 @@ product_fits z k f h = fits_signed_mul w64 z (pos k) (2 ^ 31) 128 (omega (arith,
 product_is : (z : ℤ) (k : ℕ) → FitsSigned w32 z → k ≤ 128
     → to_z w64 (of_z w64 (to_z w64 (of_z w64 (to_z w32 (of_z w32 z))) *ℤ to_z w64 k)) ≡ z *ℤ pos k
 product_is z k f h = rw (wider w32 w64 z f (lit≤ tt), whole k h) (to_z-of_z w64 (z *ℤ pos k) (product_fits z k f h))
-
-within : (o : Option ℤ) (b : Bool) (z : ℤ) (k m : ℕ) {v : ℤ} → o ≡ then_some b v → v ≡ z *ℤ pos k
-    → unsigned_abs z * k ≤ m → IfSome o (λ z. unsigned_abs z ≤ m)
-within o b z k m e f h =
-    let size : unsigned_abs (z *ℤ pos k) ≤ m = rw (unsigned_abs-mul z (pos k)) h in grind (arith, e, f, size)
-
-pub overflow_mul-number : goal.overflow_mul-number
-overflow_mul-number c =
-    rw (wider w32 w64 c.args.number c.ranges.number (lit≤ tt), whole c.args.unit c.requires.few)
-    (product_fits c.args.number c.args.unit c.ranges.number c.requires.few)
-
-pub returns-clause-fits : goal.returns-clause-fits
-returns-clause-fits c =
-    within _ _ c.args.number c.args.unit _ c.then_some.ensures
-    (product_is c.args.number c.args.unit c.ranges.number c.requires.few)
-
-pub returns-clause-small : goal.returns-clause-small
-returns-clause-small c =
-    within _ _ c.args.number c.args.unit _ c.then_some.ensures
-    (product_is c.args.number c.args.unit c.ranges.number c.requires.few)
 
 picked : (o : Option ℤ) (b d : Bool) (v w : ℤ) → o ≡ then_some (not b) v → b ≡ d → v ≡ w
     → o ≡ (if d then None else Some w)

@@ -1,4 +1,4 @@
-use Rattle.rtcm_msg.proofs.Names.{◌+◌, ◌*◌, ◌-◌, ◌/◌, ◌%◌, ap, ◌∙◌, arith, drop, take, bits_of, number}
+use Rattle.rtcm_msg.proofs.Names.{common_steps, ◌+◌, ◌*◌, ◌-◌, ◌/◌, ◌%◌, ap, ◌∙◌, arith, drop, take, bits_of, number}
 use Rattle.rtcm_bits.proofs.WordLaws.{within_word}
 use Rattle.rtcm_msg.proofs.ContentLaws.{field_fits}
 use Rattle.rtcm_msg.proofs.field.short_to.Goals as goal
@@ -13,6 +13,4 @@ returns-clause-value c =
     ∙ ap number (within_word (bits_of c.args.bytes.now) (8 * (end - 8)) skip c.args.width (at + c.args.i * c.args.width) (omega arith) (omega (arith, e)))
 
 pub returns-clause-fits : goal.returns-clause-fits
-returns-clause-fits c =
-    let at = c.args.last + 1 - c.args.width in
-    rw (returns-clause-value c at (omega arith)) (field_fits (bits_of c.args.bytes.now) (at + c.args.i * c.args.width) c.args.width)
+returns-clause-fits c = grind (arith, common_steps, field_fits)

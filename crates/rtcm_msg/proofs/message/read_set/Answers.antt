@@ -1,4 +1,4 @@
-use Rattle.rtcm_msg.proofs.Names.{ℕ, ◌/◌, ◌%◌, true, false, nat_le, ◌≡◌, ◌*◌, ◌<◌, ◌≤◌, ◌==◌, length, List, arith, refl, ◌∙◌, sym, Some, None, Option, is_some, System, system_of_tens, bits_of, Cursor, cursor_at, field_at, set_at, set_in, is_any_msm, length-bits_of}
+use Rattle.rtcm_msg.proofs.Names.{common_steps, ℕ, ◌/◌, ◌%◌, true, false, nat_le, ◌≡◌, ◌*◌, ◌<◌, ◌≤◌, ◌==◌, length, List, arith, refl, ◌∙◌, Some, None, Option, is_some, System, system_of_tens, bits_of, Cursor, cursor_at, field_at, set_at, set_in, is_any_msm, length-bits_of}
 use Rattle.rtcm_msg.proofs.MessageLaws.{other_set}
 use Rattle.rtcm_msg.proofs.message.read_set.Goals as goal
 
@@ -16,10 +16,7 @@ is_set : (n : ℕ) (c : Cursor) (found : Option System) → found ≡ system_of_
 is_set n c found e some d f = let any : is_any_msm n ≡ true = grind (arith, e, some, d, f) in rw any refl
 
 pub returns-then-bytes-lt7 : goal.returns-then-bytes-lt7
-returns-then-bytes-lt7 c =
-    sym (set_short c.args.bytes.now c.requires.number c.if-bytes-lt7.true) ∙ is_set c.args.number (cursor_at (bits_of c.args.bytes.now) 12) _ c.from_msm_tens.ensures (grind (arith, c.is_none.ensures, c.if-is_none.false)) c.if-number-lt1.false c.if-number-gt7.false
+returns-then-bytes-lt7 c = grind (arith, common_steps, set_short, is_set)
 
 pub returns : goal.returns
-returns c =
-    rw (c.number_at.ensures.value, c.flag_at.ensures)
-    (sym (set_there c.args.bytes.now c.requires.number c.if-bytes-lt7.false) ∙ is_set c.args.number (cursor_at (bits_of c.args.bytes.now) 12) _ c.from_msm_tens.ensures (grind (arith, c.is_none.ensures, c.if-is_none.false)) c.if-number-lt1.false c.if-number-gt7.false)
+returns c = grind (arith, common_steps, set_there, is_set)

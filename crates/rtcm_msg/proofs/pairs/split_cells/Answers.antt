@@ -1,15 +1,9 @@
-use Rattle.rtcm_msg.proofs.Names.{◌∙◌, arith, sym, pairs_left}
+use Rattle.rtcm_msg.proofs.Names.{common_steps, ◌∙◌, arith, sym, pairs_left}
 use Rattle.rtcm_msg.proofs.PairLaws.{found, passed, over, one_less, first_index}
 use Rattle.rtcm_msg.proofs.pairs.split_cells.Goals as goal
 
 pub returns-then-cells-left-eq1-clause-some : goal.returns-then-cells-left-eq1-clause-some
-returns-then-cells-left-eq1-clause-some c =
-    let first = sym c.with_signals.ensures.same ∙ c.split_signal.ensures.first in (
-      c.loop-left.invariant.same ∙ found c.loop-left.left c.args.cells (pairs_left c.loop-left.pairs) (pairs_left c.split_signal.result.1) c.split_signal.result.0 c.loop-left.invariant.count first c.if-cells-left-eq1.true,
-      one_less c.loop-left.left (pairs_left c.loop-left.pairs) (pairs_left c.split_signal.result.1) c.split_signal.result.0 c.loop-left.invariant.count first,
-      omega (arith, c.loop-left.invariant.few),
-      c.split_signal.ensures.in_range,
-    )
+returns-then-cells-left-eq1-clause-some c = grind (arith, common_steps, found, one_less)
 
 pub returns-then-cells-left-eq1-clause-indices : goal.returns-then-cells-left-eq1-clause-indices
 returns-then-cells-left-eq1-clause-indices c = λ n h. first_index n (pairs_left c.loop-left.pairs) (pairs_left c.split_signal.result.1) c.split_signal.result.0 (sym c.with_signals.ensures.same ∙ c.split_signal.ensures.first) (c.loop-left.invariant.indices n h)

@@ -1,4 +1,4 @@
-use Rattle.rtcm_msg.proofs.Names.{ℕ, ◌≡◌, ◌-◌, ◌*◌, ◌^◌, ◌%◌, ◌<◌, ◌≤◌, ap, ◌∙◌, arith, bit_xor, count_leading_zeros, one_shl, mod-eq_of_lt}
+use Rattle.rtcm_msg.proofs.Names.{common_steps, ℕ, ◌≡◌, ◌-◌, ◌*◌, ◌^◌, ◌%◌, ◌<◌, ◌≤◌, ap, ◌∙◌, arith, bit_xor, one_shl, mod-eq_of_lt}
 use Rattle.rtcm_msg.proofs.PairLaws.{Top, top_of, without_top, ids_split}
 use Rattle.rtcm_msg.proofs.pairs.split_first.Goals as goal
 
@@ -14,7 +14,4 @@ pub overflow_sub-result : goal.overflow_sub-result
 overflow_sub-result c = let top = top_of c.args.width c.args.mask c.requires.some c.requires.within c.requires.few in omega (arith, top.within)
 
 pub returns : goal.returns
-returns c =
-    let top = top_of c.args.width c.args.mask c.requires.some c.requires.within c.requires.few in
-    let rest = removed c.args.width c.args.mask (63 - count_leading_zeros 64 c.args.mask) c.requires.few top in
-    record { first = rw rest (ids_split c.args.width c.args.mask (63 - count_leading_zeros 64 c.args.mask) top); fits = rw rest (omega (arith, c.requires.within)) }
+returns c = grind (arith, common_steps, top_of, removed, ids_split)

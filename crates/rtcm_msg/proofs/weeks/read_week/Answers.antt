@@ -1,4 +1,4 @@
-use Rattle.rtcm_msg.proofs.Names.{ℕ, ◌≡◌, ◌≢◌, ◌+◌, ◌-◌, ◌*◌, ◌^◌, ◌<◌, ◌≤◌, ◌==◌, ◌∙◌, false, true, List, None, Some, length, take, refl, ap, arith, le-leb, mul-le-mul, pow_mono, bits_of, field_at, week_by, week_place}
+use Rattle.rtcm_msg.proofs.Names.{common_steps, eq-eqb, ne_eqb, sym, ℕ, ◌≡◌, ◌≢◌, ◌+◌, ◌-◌, ◌*◌, ◌^◌, ◌<◌, ◌≤◌, ◌==◌, ◌∙◌, false, true, List, None, Some, length, take, refl, ap, arith, le-leb, mul-le-mul, pow_mono, bits_of, field_at, week_by, week_place}
 use Rattle.rtcm_msg.specs.declared.weeks.WeekFields.{WeekFields}
 use Rattle.rtcm_msg.proofs.LongLaws.{field_in_front}
 use Rattle.rtcm_msg.proofs.weeks.read_week.Goals as goal
@@ -11,23 +11,17 @@ module _ (bytes : List ℕ) (f : WeekFields) (enough : 61 ≤ f.bytes) (long : f
 
   no_week : (n : ℕ) → f.week_bits ≤ 13 → n ≡ field_at (bits_of (take (f.bytes - 0) bytes)) week_place f.week_bits → n ≡ 0 → None ≡ week_by bytes f
   no_week n few is none =
-      let zero : (field_at (bits_of bytes) week_place f.week_bits == 0) ≡ true = equal n _ (is ∙ front week_place f.week_bits (omega (arith, few))) none in
+      let zero : (field_at (bits_of bytes) week_place f.week_bits == 0) ≡ true = eq-eqb _ _ (sym (is ∙ front week_place f.week_bits (omega (arith, few))) ∙ none) in
       rw (le-leb f.bytes (length bytes) long, zero) refl
-    where
-      equal : (n m : ℕ) → n ≡ m → n ≡ 0 → (m == 0) ≡ true
-      equal n m e h = grind (arith, e, h)
 
   some_week : (n clock : ℕ) → f.week_bits ≤ 13 → f.clock_place + f.clock_bits ≤ 76 → n ≡ field_at (bits_of (take (f.bytes - 0) bytes)) week_place f.week_bits → n ≢ 0
       → clock ≡ field_at (bits_of (take (f.bytes - 0) bytes)) f.clock_place f.clock_bits
       → Some (record { week = n + f.added; is_whole = f.is_whole; clock = clock * f.clock_unit }) ≡ week_by bytes f
   some_week n clock few within is other at =
       let week = is ∙ front week_place f.week_bits (omega (arith, few)) in
-      let some : (field_at (bits_of bytes) week_place f.week_bits == 0) ≡ false = apart n _ week other in
+      let some : (field_at (bits_of bytes) week_place f.week_bits == 0) ≡ false = ne_eqb _ _ (λ none. other (week ∙ none)) in
       let toc : clock ≡ field_at (bits_of bytes) f.clock_place f.clock_bits = at ∙ front f.clock_place f.clock_bits within in
       rw (le-leb f.bytes (length bytes) long, some, week, toc) (grind arith)
-    where
-      apart : (n m : ℕ) → n ≡ m → n ≢ 0 → (m == 0) ≡ false
-      apart n m e h = grind (arith, e, h)
 
 pub returns-then-week-eq0-clause-value : goal.returns-then-week-eq0-clause-value
 returns-then-week-eq0-clause-value c =
@@ -51,8 +45,7 @@ product n u bits fits few small =
     omega (arith, all)
 
 pub overflow_mul-result : goal.overflow_mul-result
-overflow_mul-result c =
-    let small = product c.number_at-clock.result c.args.fields.now.clock_unit c.args.fields.now.clock_bits c.number_at-clock.ensures.fits c.requires.clock.1 c.requires.unit in omega (arith, small)
+overflow_mul-result c = grind (arith, common_steps, product)
 
 pub returns-clause-bounds : goal.returns-clause-bounds
 returns-clause-bounds c = (

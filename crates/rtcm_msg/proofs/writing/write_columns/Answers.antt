@@ -1,4 +1,4 @@
-use Rattle.rtcm_msg.proofs.Names.{◌≡◌, ◌+◌, ◌-◌, length, drop, get_or, arith, sym, ◌∙◌, append-nil, drop-length, columns, total_width}
+use Rattle.rtcm_msg.proofs.Names.{common_steps, ◌≡◌, ◌+◌, ◌-◌, drop, get_or, arith, append-nil, drop-length, columns, total_width}
 use Rattle.rtcm_msg.proofs.ColumnSteps.{total-drop}
 use Rattle.rtcm_msg.proofs.WritingSteps.{columns_next}
 use Rattle.rtcm_msg.proofs.writing.write_columns.Goals as goal
@@ -17,6 +17,4 @@ loop-width-preserved c =
 
 pub returns-clause-bits : goal.returns-clause-bits
 unfolding columns
-returns-clause-bits c =
-    let end : c.loop-width.width-index ≡ length c.args.widths.now = omega arith in
-    sym (append-nil c.loop-width.writer) ∙ (rw (end, drop-length c.args.widths.now) at c.loop-width.invariant.bits)
+returns-clause-bits c = grind (arith, common_steps, append-nil, drop-length)

@@ -1,4 +1,4 @@
-use Rattle.rtcm_msg.proofs.Names.{◌≡◌, length, arith, ◌∙◌, sym, append-nil, drop-length, field_bits}
+use Rattle.rtcm_msg.proofs.Names.{common_steps, arith, append-nil, drop-length, field_bits}
 use Rattle.rtcm_msg.proofs.WritingSteps.{fields_next, width_next}
 use Rattle.rtcm_msg.proofs.writing.write_fields.Goals as goal
 
@@ -12,6 +12,4 @@ loop-width-preserved c =
 
 pub returns-clause-bits : goal.returns-clause-bits
 unfolding field_bits
-returns-clause-bits c =
-    let end : c.loop-width.width-index ≡ length c.args.fields.now = omega arith in
-    sym (append-nil c.loop-width.writer) ∙ (rw (end, drop-length c.args.fields.now) at c.loop-width.invariant.bits)
+returns-clause-bits c = grind (arith, common_steps, append-nil, drop-length)

@@ -1,12 +1,10 @@
-use Rattle.rtcm_msg.proofs.Names.{◌∙◌, ap, sym, refl, arith, slice_index, MasksValue, entry_in}
+use Rattle.rtcm_msg.proofs.Names.{common_steps, ◌∙◌, ap, sym, refl, arith, MasksValue, entry_in}
 use Rattle.rtcm_msg.proofs.ValueLaws.{cell_there, cell_none, next_there, after_cell, after_none, entries_first, entries_same, counted, not_counted}
 use Rattle.rtcm_msg.proofs.view.MsmView.count_pair.Goals as goal
 use Rattle.rtcm_msg.proofs.view.MsmView.count_pair.Goals.{then-has_listed_value, else-has_listed_value}
 
 pub has_listed_value-requires-clause-cell : goal.has_listed_value-requires-clause-cell
-has_listed_value-requires-clause-cell g c =
-    let there = cell_there c.args.self.now.msm.sets c.args.cells.pairs c.split_signal.result.1 (c.cells-2.ensures.value ∙ ap (λ (s : MasksValue). s.cells) c.masks.ensures) c.split_signal.ensures.first c.requires.cells.left.0 c.if-cells-left-eq1.true in
-    next_there c.args.cells.next _ _ _ _ there c.requires.cells.next
+has_listed_value-requires-clause-cell g c = grind (arith, common_steps, cell_there, next_there)
 
 pub returns-after-has_listed_value-clause-cells : goal.returns-after-has_listed_value-clause-cells
 returns-after-has_listed_value-clause-cells g c =
@@ -31,6 +29,4 @@ returns-after-has_listed_value-clause-counts g c = λ i h.
     ]
 
 pub returns-else-cells-left-eq1-clause-counts : goal.returns-else-cells-left-eq1-clause-counts
-returns-else-cells-left-eq1-clause-counts g c = λ i h.
-    let none = cell_none c.args.self.now.msm.sets c.args.cells.pairs c.split_signal.result.1 (c.cells-2.ensures.value ∙ ap (λ (s : MasksValue). s.cells) c.masks.ensures) c.split_signal.ensures.first c.requires.cells.left.0 c.if-cells-left-eq1.false in
-    entries_same c.args.listed i (slice_index c.args.counts.now i) c.args.self.now _ _ c.args.cells.next none
+returns-else-cells-left-eq1-clause-counts g c = grind (arith, common_steps, cell_none, entries_same)
