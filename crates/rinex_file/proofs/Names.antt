@@ -31,8 +31,8 @@ pub use Rattle.rinex_file.specs.Begun.{AreBegun, IsEpochBegun, IsHeaderBegun, Is
 unfoldable pub use Rattle.rinex_file.specs.Blanks.{trimmed}
 pub use Rattle.rinex_file.specs.Blanks.{IsEnded, before_cut, filled_to}
 pub use Rattle.rinex_file.specs.Blocks.{LeavesRest, MovesBytes}
-pub use Rattle.rinex_file.specs.Counting.{IsSummary, IsTextWith, History, changes_of, rows_in}
-pub use Rattle.rinex_file.specs.Exact.{IfTextOfFile, AreBefore, ExplainsFault, ExplainsStored, HasHeader, IsAtTypes, IsCutShort, IsExpectedAt, IsFaulty, IsFound, IsLine, IsNoFault, IsReadOr, IsTextOf, IsTooLong, NoFileBegins, most_lines}
+pub use Rattle.rinex_file.specs.Counting.{AreCounts, IsSummary, IsTextWith, History, changes_of, rows_in}
+pub use Rattle.rinex_file.specs.Exact.{IfTextOfFile, AreBefore, ExplainsFault, ExplainsStored, HasHeader, IsAtTypes, IsCutShort, IsExpectedAt, IsFaulty, IsFound, IsLine, IsNoFault, IsReadOr, IsTooLong, NoFileBegins, most_lines}
 unfoldable pub use Rattle.rinex_file.specs.File.{epoch_text, event_line, event_text, line_among, shown_text, lines_up_to}
 pub use Rattle.rinex_file.specs.File.{shown_of, change_lines, change_text, header_text, closed_text, event_lines, file_lines, file_text, gathered, line_or_none, lines_of_parts, stamped_lines, lines_of_systems}
 pub use Rattle.rinex_file.specs.FileValues.{AreChanges, AreSatelliteRows, AreSignalValues, AreTexts, AreValues, FitsColumns, HaveRoom, IsChange, IsFileValue, IsFirstSame, IsFrom, IsPlan, IsRow, IsSatelliteRow, IsStamped, IsText, IsTime, changed_by, has_some_value, most_rows, planned_in, rank_of, time_stamped, values_following}
@@ -47,17 +47,17 @@ pub use Rattle.rinex_columns.specs.Limits.{most_line, label_columns}
 unfoldable pub use Rattle.rinex_file.specs.Lines.{epoch_line, field, satellite_line, signal_text}
 pub use Rattle.rinex_file.specs.Lines.{lli_byte, row_text, strength_byte}
 pub use Rattle.rinex_columns.specs.Numbers.{fixed, joined, left, padded, right}
-pub use Rattle.rinex_file.specs.inner.ParserState.{FollowsHistory, open_epochs, MayRunOut, ExpectsHeader, ExpectsRow, Adds, GoesOnWithLine, IsLast, IsNext, RefusesLine, ShowsLine, TakesLine, progress_at, stamped_at, with_line}
-pub use Rattle.rinex_file.specs.inner.Read.EpochSteps.{AddsOrEnds, HasReadPart, HasReadTo, IsSummaryOf, IsSummaryRead, ReadsNextRow, BeginsNextEpoch, StopsReading, plan_in, with_read, HasReadPartAt}
+pub use Rattle.rinex_file.specs.inner.ParserState.{FollowsHistory, open_epochs, MayRunOut, ExpectsHeader, ExpectsRow, AddsAt, GoesOnWithLine, IsLast, IsNext, RefusesLine, ShowsLine, TakesLine, progress_at, stamped_at, with_last_read, with_satellite, with_whole_epoch}
+pub use Rattle.rinex_file.specs.inner.Read.EpochSteps.{HasReadRows, HasReadEpochs, IsSummaryOf, IsSummaryRead, ReadsRow, BeginsEpoch, plan_of, with_read, with_rows, HasReadRowsAt, ReadsEpoch, StopsStoring, file_of, begun_in, row_of as read_row}
 pub use Rattle.rinex_columns.specs.Read.{ReadsExactly, digits_in, has, number_in, some_if}
 pub use Rattle.rinex_file.specs.inner.Read.HeaderSteps.{AreItemsBefore, EndsHeader, IsLineOfSlots, TakesOrRefusesSlots, TakesSlots, with_slots, GoesOn, GoesTo, HasSignalAt, IsHeaderLineRead, NoneGoesOn, ReadsOrRefuses, ReadsOrRefusesTexts, ReadsTexts, RefusesHeaderLine, RefusesTexts, RefusesTypes, SameFrom, StepsTo, Takes, TakesHeaderLine, TakesTypes, begins_with, row_label, with_interval, expected_if, if_fine, known_line, texts_in, with_first, with_letter, with_texts, with_types, with_values, IsLineOf, IsLineOfTypes, IsThere, TakesItems}
-unfoldable pub use Rattle.rinex_file.specs.inner.Read.Keeping.{stamped_text}
-pub use Rattle.rinex_file.specs.inner.Read.Keeping.{ExplainsAny, HasReadWhole, HasRoom, HaveRowsRoom, Stores, history_of}
+unfoldable pub use Rattle.rinex_file.specs.inner.Stored.{stamped_text}
+pub use Rattle.rinex_file.specs.inner.Stored.{HasRoom, HaveRowsRoom}
 unfoldable pub use Rattle.rinex_file.specs.inner.Read.Progress.{HasLinesLeft}
 pub use Rattle.rinex_file.specs.inner.Read.Progress.{AreListsAt, AreReadAt, IsRowRead, IsRowUnread, AreUnread, AreSameTexts, AreTypes, AreSameItems, slots_begun, AreValid, Has, HasRow, IsAt, IsAtEpoch, IsHeadAt, IsInEpoch, IsInEvent, IsInHeader, IsPosition, Known, Progress, counted, fits, is_chosen, begun_at, epoch_after, expected_next, file_with, position_of, shown_with, signals_begun, stamped, with_epoch, with_row, known_slots}
 pub use Rattle.rinex_file.specs.inner.Read.Row.{AreEntries, IsRowOf}
 pub use Rattle.rinex_file.specs.inner.Read.Sound.{AreLinesAt, AreLinesOf, AreRead, HasReadLines, IsBegun, IsEventExpected, IsSound, IsSoundAt, MayBegin, values_now}
-pub use Rattle.rinex_file.specs.inner.Read.Steps.{HasRead, IsTaken, IsTextOfOnly, IsWhole, ReadsNextLine, file_at}
+pub use Rattle.rinex_file.specs.inner.Read.Steps.{HasRead, IsTaken, IsTextOfOnly, IsWhole, ReadsNextLine, StopsReading, file_at}
 pub use Rattle.rinex_file.specs.Slots.{AreSlots, SlotNumber, channel_text, last_slot, slot_rows, slot_text, slots_columns, slots_front, slots_in_line, slots_of, slots_from}
 pub use Rattle.rinex_file.specs.inner.Rows.{AreApart, HasColumns, IsBlankBut, values_at}
 pub use Rattle.rinex_file.specs.Texts.{HeaderLists, fault_of, fields, fields_of, first_fault, front_of, has_row, has_text, is_required, is_printable, label_of, place_of, text_count, text_of, trimmed_texts, width_of}
@@ -70,8 +70,6 @@ pub use Rattle.rinex_file.specs.declared.header.fields.HeaderField.{HeaderField}
 pub use Rattle.rinex_file.specs.declared.header.fields.HeaderField.TheVariants.{AntType}
 pub use Rattle.rinex_file.specs.declared.header.rows.HeaderRow.{HeaderRow}
 pub use Rattle.rinex_file.specs.declared.header.rows.HeaderRow.TheVariants.{Biases, Delta, End, First, Interval, Position, Shift, Slots, StrengthUnit, Texts, Types, Version}
-pub use Rattle.rinex_file.specs.declared.read.parser_state.AddedRow.{AddedRow}
-pub use Rattle.rinex_file.specs.declared.read.parser_state.AddedRow.TheVariants.{NoRow}
 pub use Rattle.rinex_file.specs.declared.read.parser_state.Expected.{Expected}
 pub use Rattle.rinex_file.specs.declared.read.parser_state.Expected.TheVariants.{Epoch, EventEpoch, EventHeight, EventPosition, Header, Satellite}
 pub use Rattle.rinex_file.specs.declared.read.parser_state.Refusal.{Refusal}
@@ -79,12 +77,11 @@ pub use Rattle.rinex_file.specs.declared.read.parser_state.Refusal.TheVariants.{
 pub use Rattle.rinex_file.specs.declared.read.fault.ReadFault.{ReadFault}
 pub use Rattle.rinex_file.specs.declared.read.fault.ReadFault.TheVariants.{CutShort, Read, TooLong}
 pub use Rattle.rinex_file.specs.declared.read.fields.TheConstants.{LIMITS}
-pub use Rattle.rinex_file.specs.declared.read.file.FileBuilder.{FileBuilder}
+pub use Rattle.rinex_file.specs.declared.read.epochs.NextEpoch.{NextEpoch}
 pub use Rattle.rinex_file.specs.declared.read.file.FileSummary.{FileSummary}
 pub use Rattle.rinex_file.specs.declared.read.lines.Found.{Found}
-pub use Rattle.rinex_file.specs.declared.read.lines.Found.TheVariants.{Failed}
 pub use Rattle.rinex_file.specs.declared.read.parser_state.ParserState.{ParserState}
-pub use Rattle.rinex_file.specs.declared.read.epochs.Reading.{Reading}
+pub use Rattle.rinex_file.specs.declared.read.epochs.EpochReader.{EpochReader}
 pub use Rattle.rinex_file.specs.declared.read.times.EpochTimes.{EpochTimes}
 pub use Rattle.rinex_file.specs.declared.write.lanes.TheConstants.{PAIRS}
 pub use Rattle.devices.specs.Device.{AppendsPrefix, HasFailed}
@@ -125,7 +122,7 @@ unfoldable pub use Rattle.std.specs.List.{IsDistinct}
 pub use Rattle.std.specs.List.{AllByRecursion, list_all, list_any, prefix_len, reduce, sum_by}
 pub use Rattle.std.specs.List.Sorted.{IsStrictlyIncreasing}
 pub use Rattle.std.specs.Option.{ok_or, option_map_or}
-pub use Rattle.std.specs.Prelude.{All, Any, Bool, Err, IfErr, IfNone, IfOk, IfSome, IsTrue, Ok, OnOk, Result, Some, codes, cond, false, find, flat_map, if◌then◌else◌, is_some, map, min, nat_eq, nat_le, nat_lt, neg_ℤ, not, pos, position, set, slice_get, slice_index, slice_set, true, unwrap_or, ⊤, ◌&&◌, ◌-◌, ◌==◌, ◌||◌, ◌↔◌, ◌≢◌, ◌≤◌, IsSome, count_by}
-pub use Rattle.std.specs.Result.{IsErrAnd, is_err, result_err}
+pub use Rattle.std.specs.Prelude.{All, Any, Bool, Err, IfErr, IfNone, IfSome, IsTrue, Ok, OnOk, Result, Some, codes, cond, false, find, flat_map, if◌then◌else◌, is_some, map, min, nat_eq, nat_le, nat_lt, neg_ℤ, not, pos, position, set, slice_get, slice_index, slice_set, true, unwrap_or, ⊤, ◌&&◌, ◌-◌, ◌==◌, ◌||◌, ◌↔◌, ◌≢◌, ◌≤◌, IsSome, count_by}
+pub use Rattle.std.specs.Result.{IsErrAnd, result_err}
 pub use Rattle.std.specs.Str.{IsAscii, IsUtf8, bytes_eq}
 pub use lib.Lanes.{Each1, chunk, digits_l, mask_l, number_l, pick_l, top, zip2}

@@ -4,5 +4,6 @@ pub mod Rows
 pub mod Header
 pub mod Heads
 pub mod TextsOf
+pub mod Stored
 pub mod ParserState
 pub mod Read

@@ -2,10 +2,9 @@
 //!
 //! A [`Head`] has the contents of a header; its texts are validated by [`HeaderTexts`].
 //! [`header_lines`], [`epoch_line`] and [`satellite_line`] format lines; [`write_header`],
-//! [`write_event`] and [`write_epoch`] write them. None of these allocates memory. [`read_file`]
-//! reads a file back, [`check_file`] only counts its contents, [`check_file_times`] also returns
-//! the times of its epochs, an [`EpochReader`] returns epoch by epoch and row by row, and
-//! [`file_bytes`] returns the text of a file that was read.
+//! [`write_event`] and [`write_epoch`] write them. None of these allocates memory. An
+//! [`EpochReader`] reads a file back epoch by epoch and row by row, [`check_file`] only counts its
+//! contents, [`read_file`] stores it, and [`file_bytes`] returns the text of a file that was read.
 //!
 //! ```
 //! /// The numbers of epochs, satellite lines and events of an observation file.
@@ -28,7 +27,7 @@ pub use header::head::{Head, HeaderLines, header_lines};
 pub use header::texts::{HeaderTexts, Texts};
 pub use read::epochs::{EpochReader, NextEpoch};
 pub use read::fault::ReadFault;
-pub use read::file::{Counts, FileSummary, check_file, check_file_times, read_file};
+pub use read::file::{Counts, FileSummary, check_file, read_file};
 pub use read::times::EpochTimes;
 pub use values::{ObsFile, SatelliteRow, SignalValues};
 pub use write::file::file_bytes;

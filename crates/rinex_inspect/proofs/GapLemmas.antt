@@ -1,5 +1,5 @@
 -- The lines of gaps, with one time more.
-use Rattle.rinex_inspect.proofs.Names.{common_steps, EpochReader, NextEpoch, Consumes-nil, Consumes-trans, IsTextWith, IfTextOfFile, Reading, IsSummaryRead, AreInside, is_inside, ReadsInside, All-head, All-tail, false, true, min, reduce, File, OtherDay, Write, longer_part, printed_after, printed_later, ReaderFailures, culprit, CheckOptions, Completeness, CountsMissing, EndsCheck, IsCompleteness, IsEndOutput, IsOutput, IsSummary, all_gaps_if, gap_with, gaps_if, inr, missing_with, times_in, ⊤, AppendsPrefix, AreTimes, AreTimesOrNone, EpochTimes, FileValue, IfSome, IsCheckedOr, IsFileValue, check_line, complete_if, IfSome_then, IsDelivered, ReadsGaps, append_assoc, file_lines, file_text, length, most_lines, steps_of, times_if, ◌≡◌, ◌∙◌, ◌+◌, ◌<◌, ◌≤◌, ◌∷◌, ◌++◌, [], ap, arith, refl, subst, sym, ℕ, List, Option, Devices, Writer, EndsPrinting, Err, FileSummary, IsSummaryOf, FileFault, IsPrefix, LeavesRest, Ok, PrintsText, Result, Stamped, map, time_stamped, map-append, ◌^◌}
+use Rattle.rinex_inspect.proofs.Names.{common_steps, EpochReader, NextEpoch, BeginsEpoch, Consumes-nil, Consumes-trans, IsTextWith, IfTextOfFile, IsSummaryRead, AreInside, is_inside, ReadsInside, All-head, All-tail, false, true, min, reduce, File, OtherDay, Write, longer_part, printed_after, printed_later, ReaderFailures, culprit, CheckOptions, Completeness, CountsMissing, EndsCheck, IsCompleteness, IsEndOutput, IsOutput, IsSummary, all_gaps_if, gap_with, gaps_if, inr, missing_with, times_in, ⊤, AppendsPrefix, AreTimes, AreTimesOrNone, EpochTimes, FileValue, IfSome, IsCheckedOr, IsFileValue, check_line, complete_if, IfSome_then, IsDelivered, ReadsGaps, append_assoc, file_lines, file_text, length, most_lines, steps_of, times_if, ◌≡◌, ◌∙◌, ◌+◌, ◌<◌, ◌≤◌, ◌∷◌, ◌++◌, [], ap, arith, refl, subst, sym, ℕ, List, Option, Devices, Writer, EndsPrinting, Err, FileSummary, IsSummaryOf, FileFault, IsPrefix, LeavesRest, Ok, PrintsText, Result, Stamped, map, time_stamped, map-append, ◌^◌}
 use Rattle.rinex_inspect.proofs.CheckLemmas.{none_written, refused}
 use Rattle.rinex_inspect.proofs.MissingLemmas.{gaps_next, gaps_prefix, missing_next, missing_small, rise_front}
 
@@ -22,10 +22,15 @@ pub counted_more : {time k n m : ℕ} (complete : Option Completeness) (es : Lis
     → CountsMissing complete (times_in es) k → n ≡ missing_with complete before time → (k + n < 2 ^ 64 → m ≡ k + n) → time < 2 ^ 63 → CountsMissing complete (times_in (es ++ e ∷ [])) m
 counted_more {time} {k} {n} {m} complete es e before is are same before_it one sum small rise = grind (arith, common_steps, map-append, rise_front, missing_next, missing_small)
 
--- a summary, without the plan that was read
-pub without_plan : (r : Reading) (es : List Stamped) (s : FileSummary) (input : Option (List ℕ)) → IsTextWith (IsSummaryRead r es s) input → IfTextOfFile input (IsSummaryRead r es s)
+-- a summary, without the header that was read
+pub without_header : (r : EpochReader) (es : List Stamped) (s : FileSummary) (input : Option (List ℕ)) → IsTextWith (IsSummaryRead r es s) input → IfTextOfFile input (IsSummaryRead r es s)
     → IsTextWith (IsSummaryOf es s) input × IfTextOfFile input (IsSummaryOf es s)
-without_plan r es s input has only = (record { v = has.v; is = has.is; few = has.few; text = has.text; holds = has.holds.0 }, λ v is few. IfSome_then input (only v is few) (λ bytes h same. (h same).0))
+without_header r es s input has only = (
+  record { v = has.v; is = has.is; few = has.few; text = has.text; holds = of_file has.v has.holds },
+  λ v is few. IfSome_then input (only v is few) (λ bytes h same. of_file v (h same)),
+) where
+  of_file : (v : FileValue) → IsSummaryRead r es s v → IsSummaryOf es s v
+  of_file v h = (h.0, ap (λ (f : FileValue). f.epochs) h.1)
 
 -- the times of epochs inside of the window, and of one more
 pub inside_more : (complete : Option Completeness) (es : List Stamped) (e : Stamped) {time : ℕ} → AreInside complete (times_in es) → e.time ≡ time → is_inside complete time ≡ true → AreInside complete (times_in (es ++ e ∷ []))
@@ -40,6 +45,10 @@ not_inside complete es more e {time} same out all =
       one_of : (es : List Stamped) → AreInside complete (times_in ((es ++ e ∷ []) ++ more)) → is_inside complete e.time ≡ true
       one_of [] all = All-head (λ (t : ℕ). is_inside complete t ≡ true) e.time (times_in more) all
       one_of (x ∷ es) all = one_of es (All-tail (λ (t : ℕ). is_inside complete t ≡ true) x.time (times_in ((es ++ e ∷ []) ++ more)) all)
+
+-- the line of the next epoch, or the end
+pub begins_is : (old new : EpochReader) (es : List Stamped) (input left : Option (List ℕ)) {n m : NextEpoch} → n ≡ m → BeginsEpoch old new es input left (Ok n) → BeginsEpoch old new es input left (Ok m)
+begins_is old new es input left same h = subst (λ (n : NextEpoch). BeginsEpoch old new es input left (Ok n)) same h
 
 -- the next epoch inside of the window, or the end
 pub inside_is : (complete : Option Completeness) (old new : EpochReader) (es : List Stamped) (input left : Option (List ℕ)) {n m : NextEpoch} → n ≡ m → ReadsInside complete old new es input left (Ok n) → ReadsInside complete old new es input left (Ok m)

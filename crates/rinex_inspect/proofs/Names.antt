@@ -25,12 +25,11 @@ pub use Rattle.rinex_file.specs.Times.{AreTimes, AreTimesOrNone, steps_of}
 pub use Rattle.rinex_file.specs.Value.{FileValue, SatelliteRow, SignalValues, Stamped, no_signal_values}
 pub use Rattle.rinex_file.specs.declared.read.epochs.EpochReader.{EpochReader}
 pub use Rattle.rinex_file.specs.declared.read.epochs.NextEpoch.{NextEpoch}
-pub use Rattle.rinex_file.specs.declared.read.epochs.Reading.{Reading}
 pub use Rattle.rinex_file.specs.declared.read.fault.ReadFault.{ReadFault}
 pub use Rattle.rinex_file.specs.declared.read.file.Counts.{Counts}
 pub use Rattle.rinex_file.specs.declared.read.file.FileSummary.{FileSummary}
 pub use Rattle.rinex_file.specs.declared.read.times.EpochTimes.{EpochTimes}
-pub use Rattle.rinex_file.specs.inner.Read.EpochSteps.{BeginsEpoch, BeginsNextEpoch, HasReadEpochs, HasReadRows, IsStart, IsSummaryOf, IsSummaryRead, ReadsRow, plan_of, row_of, with_read}
+pub use Rattle.rinex_file.specs.inner.Read.EpochSteps.{BeginsEpoch, KeepsPlan, begun_in, HasReadEpochs, HasReadRows, IsSummaryOf, IsSummaryRead, ReadsRow, plan_of, row_of, with_read}
 unfoldable pub use Rattle.rinex_inspect.specs.CheckOutput.{check_line, complete_line}
 pub use Rattle.rinex_inspect.specs.CheckOutput.{IsOutput, all_gaps_if, complete_if, gaps_if, size_of, times_if, times_in}
 pub use Rattle.rinex_inspect.specs.Checking.{EndsCheck, IsCheckedOr}
@@ -57,7 +56,7 @@ pub use Rattle.rinex_inspect.specs.declared.tally.Tally.{Tally}
 unfoldable pub use Rattle.rinex_inspect.specs.inner.Missing.{line_but}
 pub use Rattle.rinex_inspect.specs.inner.Missing.{Rise, complete_but, end_gap_if, end_missing_if, first_with, gap_with, gaps_to_end, last_with, missing_before, missing_between, missing_from, missing_if, missing_to_end, missing_with, origin_with}
 pub use Rattle.rinex_inspect.specs.inner.QualityLines.{IsPrintable, IsSmallTally, all_lines, line_at, line_count, system_lines}
-pub use Rattle.rinex_inspect.specs.inner.Rating.{AreTables, HasSamePlan, IsPrintedAfter, RatesEpoch, RatesNext, RatesPeriods, ReadsRows, end_text, period_text, whole_text}
+pub use Rattle.rinex_inspect.specs.inner.Rating.{IsStart, AreTables, IsPrintedAfter, RatesEpoch, RatesNext, RatesPeriods, ReadsRows, end_text, period_text, whole_text}
 pub use Rattle.rinex_inspect.specs.inner.Reading.{CountsMissing, IsEndOutput, ReadsGaps, ReadsInside}
 pub use Rattle.rinex_inspect.specs.inner.Tables.{AreBlank, HasAdded, HasAddedRow, HasPlaces, IsBlankRecord, IsBlankTable, IsRecordOf, IsTableOf, added, before_with, begun, capped, capped_tally, contents_in, no_record, plus, present_with, record_at, records_in, tally_at, with_values}
 pub use Rattle.rtcm_bits.proofs.SmallLaws.{length-filter-le, passed}

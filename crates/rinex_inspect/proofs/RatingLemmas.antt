@@ -1,5 +1,5 @@
 -- The reading of the lines of an epoch into a table.
-use Rattle.rinex_inspect.proofs.Names.{All-pop, common_steps, ◌≡◌, ◌∙◌, ◌+◌, ◌^◌, ◌<◌, ◌≤◌, ◌++◌, ◌∷◌, [], ℕ, Bool, List, Option, Result, Ok, Err, length, refl, ap, ap₂, sym, subst, arith, append-nil, Some, None, zero, suc, ◌==◌, ◌*◌, ⊤, IsStrictlyIncreasing, Appends-nil, length-append, map-append, length-filter-le, Devices, Writer, printed_after, EndsPrinting, PrintsPart, PrintsText, PlanValue, most_signals, System, time_stamped, HasReadEpochs, times_in, BeginsEpoch, NextEpoch, FileSummary, check_line, FileValue, end_text, Contents, quality_output, satellite_lines, signal_lines, contents_of, in_period, last_period, lines_before, lines_of, period_of, texts_below, FileFault, Tables, Period, Satellites, Signals, IsPrintable, AreTables, HasSamePlan, IsPrintedAfter, RatesEpoch, RatesNext, ReadsRows, period_text, IsBlankTable, contents_in, AreFine, one_plan, part_fine, plan_known, whole_fine, Counts, culprit, ReaderFailures, RatesPeriods, AreSatelliteRows, IsSatelliteRow, planned_in, SatelliteRow, Stamped, EpochReader, ReadFault, HasReadRows, ReadsRow, plan_of, with_read, Table, HasAddedRow, IsTableOf}
+use Rattle.rinex_inspect.proofs.Names.{All-pop, common_steps, ◌≡◌, ◌∙◌, ◌+◌, ◌^◌, ◌<◌, ◌≤◌, ◌++◌, ◌∷◌, [], ℕ, Bool, List, Option, Result, Ok, Err, length, refl, ap, ap₂, sym, subst, arith, append-nil, Some, None, zero, suc, ◌==◌, ◌*◌, ⊤, IsStrictlyIncreasing, Appends-nil, length-append, map-append, length-filter-le, Devices, Writer, printed_after, EndsPrinting, PrintsPart, PrintsText, PlanValue, most_signals, System, time_stamped, HasReadEpochs, times_in, BeginsEpoch, FileSummary, check_line, FileValue, end_text, Contents, quality_output, satellite_lines, signal_lines, contents_of, in_period, last_period, lines_before, lines_of, period_of, texts_below, FileFault, Tables, Period, Satellites, Signals, IsPrintable, AreTables, KeepsPlan, IsPrintedAfter, RatesEpoch, RatesNext, ReadsRows, period_text, IsBlankTable, contents_in, AreFine, one_plan, part_fine, plan_known, whole_fine, Counts, culprit, ReaderFailures, RatesPeriods, AreSatelliteRows, IsSatelliteRow, planned_in, SatelliteRow, Stamped, EpochReader, ReadFault, HasReadRows, ReadsRow, plan_of, with_read, Table, HasAddedRow, IsTableOf}
 use Rattle.rinex_inspect.proofs.ContentsLemmas.{AreFew, AreSame, few_of, few_planned, lines_same, period_is, printable, table_contents}
 use Rattle.rinex_file.specs.declared.read.epochs.NextEpoch.TheVariants.{End}
 use Rattle.rinex_inspect.proofs.PeriodLemmas.{IsEvery, before_later, before_same, none_first, none_later, period_other, period_rises, period_same, period_with}
@@ -9,13 +9,13 @@ use Rattle.rinex_inspect.specs.declared.fault.FileFault.TheVariants as faults
 
 -- the epochs are few
 pub few_epochs : (r : EpochReader) (es : List Stamped) (e : Stamped) (input left : Option (List ℕ)) (xs : List Stamped) → HasReadRows r es e input left → length xs ≤ length es → length xs < 2 ^ 62
-few_epochs r es e input left xs part few = let all = (part_fine r.reading es e input left part).few in omega (arith, all, few, length-append es (e ∷ []))
+few_epochs r es e input left xs part few = let all = (part_fine r es e input left part).few in omega (arith, all, few, length-append es (e ∷ []))
 
 -- the next line of an epoch was added
 pub row_step : (r : EpochReader) (es : List Stamped) (e : Stamped) (input left : Option (List ℕ)) (row : SatelliteRow) (xs : List Stamped) (t t2 : Table) → HasReadRows r es (with_read e row) input left → IsSatelliteRow (planned_in (plan_of r)) row
     → length xs ≤ length es → HasAddedRow row t t2 → IsTableOf t (xs ++ e ∷ []) → IsTableOf t2 (xs ++ with_read e row ∷ [])
 row_step r es e input left row xs t t2 part fits few add is =
-    let fine = part_fine r.reading es (with_read e row) input left part in
+    let fine = part_fine r es (with_read e row) input left part in
     let rows : AreSatelliteRows (planned_in (plan_of r)) (e.rows ++ row ∷ []) =
     (All-pop (λ (x : Stamped). AreSatelliteRows (planned_in (plan_of r)) x.rows) (es ++ with_read e row ∷ []) es (Some (with_read e row)) refl fine.rows).1 in
     table_added t t2 row add fits.row.satellite.0 xs e (few_epochs r es (with_read e row) input left xs part few) fits.row.satellite.1 (none_same e.rows row rows.rise) is
@@ -35,7 +35,7 @@ last_some : (es : List Stamped) (e : Stamped) → es ++ e ∷ [] ≡ [] → ⊥
 last_some es e h = grind (arith, common_steps)
 
 pub fine_with : (r : EpochReader) (es : List Stamped) (whole : Stamped) (input left : Option (List ℕ)) → HasReadEpochs r (es ++ whole ∷ []) input left → AreFine (plan_of r) (es ++ whole ∷ [])
-fine_with r es whole input left read = whole_fine r.reading (es ++ whole ∷ []) read (last_some es whole)
+fine_with r es whole input left read = whole_fine r (es ++ whole ∷ []) read (last_some es whole)
 
 -- an epoch of the same period
 pub rated_same : {R W : Type 0} (every : Option ℕ) (old new : EpochReader) (t : Tables) (now : Table) (es : List Stamped) (time : ℕ) (input : Option (List ℕ)) (d d2 : Devices R W) (r : Result ⊤ FileFault) → IsEvery every → AreTables every t es
@@ -122,11 +122,11 @@ rated_in_part t every old new es time input d d2 write h = subst (λ (f : FileFa
 -- ---- one epoch after the other
 
 -- an epoch that was begun
-pub next_rated : {R W : Type 0} (every : Option ℕ) (old mid new : EpochReader) (t t2 : Tables) (es : List Stamped) (time : ℕ) (input : Option (List ℕ)) (d1 d d2 : Devices R W) → old.reading.count < mid.reading.count → HasSamePlan old mid es → d1.writer ≡ d.writer
+pub next_rated : {R W : Type 0} (every : Option ℕ) (old mid new : EpochReader) (t t2 : Tables) (es : List Stamped) (time : ℕ) (input : Option (List ℕ)) (d1 d d2 : Devices R W) → old.count < mid.count → KeepsPlan old mid es → d1.writer ≡ d.writer
     → RatesEpoch every mid new t2 es time input (Ok tt) d1 d2 → RatesNext every old new t t2 es input (Ok None) d d2
 next_rated every old mid new t t2 es time input d1 d d2 less keeps same x15 = grind (arith, common_steps)
 
-pub next_stopped : {R W : Type 0} (every : Option ℕ) (old mid new : EpochReader) (t t2 : Tables) (es : List Stamped) (time : ℕ) (input : Option (List ℕ)) (d1 d d2 : Devices R W) (fault : FileFault) → HasSamePlan old mid es → d1.writer ≡ d.writer
+pub next_stopped : {R W : Type 0} (every : Option ℕ) (old mid new : EpochReader) (t t2 : Tables) (es : List Stamped) (time : ℕ) (input : Option (List ℕ)) (d1 d d2 : Devices R W) (fault : FileFault) → KeepsPlan old mid es → d1.writer ≡ d.writer
     → RatesEpoch every mid new t2 es time input (Err fault) d1 d2 → RatesNext every old new t t2 es input (Err fault) d d2
 next_stopped every old mid new t t2 es time input d1 d d2 (faults.File e) keeps same h = (h.0, h.1 ∙ same)
 next_stopped every old mid new t t2 es time input d1 d d2 (faults.OtherDay k) keeps same h = absurd h
@@ -144,9 +144,6 @@ pub printed_with : {A W : Type 0} (every : Option ℕ) (p q : PlanValue) (es : L
 printed_with every p q es whole text r w w1 w2 is same after printed next =
     subst (λ (l : List ℕ). EndsPrinting faults.Write r l w w2) (ap (λ (l : List ℕ). l ++ text) (before_plan every p q es is (λ some. sym (same some))) ∙ sym after)
     (printed_after faults.Write r w w1 w2 (lines_before p every es) text printed next)
-
-pub begins_is : (old new : EpochReader) (es : List Stamped) (input left : Option (List ℕ)) {n m : NextEpoch} → n ≡ m → BeginsEpoch old new es input left (Ok n) → BeginsEpoch old new es input left (Ok m)
-begins_is old new es input left same h = subst (λ (n : NextEpoch). BeginsEpoch old new es input left (Ok n)) same h
 
 -- the end of the file
 pub next_ended : {R W : Type 0} (every : Option ℕ) (old new : EpochReader) (t : Tables) (es : List Stamped) (input left : Option (List ℕ)) (s : FileSummary) (d d2 : Devices R W) → d2.writer ≡ d.writer → BeginsEpoch old new es input left (Ok (End s))
@@ -199,7 +196,7 @@ pub all_rated : {R W : Type 0} (every : Option ℕ) (old new : EpochReader) (t t
 all_rated every old new t t2 es n d d1 d2 is read tables printed (has, only, keeps, same, writer) fine =
     let text = before_plan every (plan_of old) (plan_of new) es is (λ some. sym (keeps some)) in
     let some : es ≡ [] → ⊥ = some_of has.v.epochs es has.holds.1 has.is.some in
-    let fine_old : AreFine (plan_of old) es = whole_fine old.reading es read some in
+    let fine_old : AreFine (plan_of old) es = whole_fine old es read some in
     let fine_new : AreFine (plan_of new) es = subst (λ (p : PlanValue). AreFine p es) (sym (keeps some)) fine_old in
     let now : AreTables every t2 es = subst (λ (x : Tables). AreTables every x es) (sym same) tables in
     (es, has, only, now, subst (λ w. PrintsText (lines_before (plan_of new) every es) d.writer w) (sym writer) (subst (λ (l : List ℕ). PrintsText l d.writer d1.writer) text printed), fine, fits_last every (plan_of new) t2 es now fine_new, λ v rated. output_is every (plan_of new) t2 es v now fine_new rated.1 rated.2)
@@ -209,8 +206,8 @@ pub stopped_periods : {R W : Type 0} (every : Option ℕ) (old new : EpochReader
     → PrintsText (lines_before (plan_of old) every es) d.writer d1.writer → RatesNext every old new t t2 es d.reader.unread (Err fault) d1 d2 → ReaderFailures (culprit fault) d.reader.device.failures d2.reader.device.failures
     → RatesPeriods every new t2 (Err fault) d d2
 stopped_periods every old new t t2 es d d1 d2 (faults.File e) is read printed (stops, writer) failures =
-    (es, plan_of old, λ some. plan_known old.reading es read some, stops.0, stops.1, stops.2, subst (λ w. PrintsText (lines_before (plan_of old) every es) d.writer w) (sym writer) printed, failures)
+    (es, plan_of old, λ some. plan_known old es read some, stops.0, stops.1, stops.2, subst (λ w. PrintsText (lines_before (plan_of old) every es) d.writer w) (sym writer) printed, failures)
 stopped_periods every old new t t2 es d d1 d2 (faults.OtherDay k) is read printed h failures = absurd h
 stopped_periods every old new t t2 es d d1 d2 faults.Write is read printed (whole, next, first, keeps, (text, after, part)) failures =
     let all = printed_with {A = ⊤} every (plan_of old) (plan_of new) es whole text (Err faults.Write) d.writer d1.writer d2.writer is keeps after printed (refl, part) in
-    (es ++ whole ∷ [], plan_of new, new.reading.count, λ some. plan_known new.reading (es ++ whole ∷ []) next some, λ some. one_plan new.reading (es ++ whole ∷ []) next some, first, all.1, failures)
+    (es ++ whole ∷ [], plan_of new, new.count, λ some. plan_known new (es ++ whole ∷ []) next some, λ some. one_plan new (es ++ whole ∷ []) next some, first, all.1, failures)

@@ -3,11 +3,9 @@ use super::joined;
 use super::parts::Part;
 use devices::Counted;
 use devices_for_tests::{PieceReader, ReadEnd};
-use rinex_file::{EpochTimes, FileSummary, ReadFault, check_file_times};
+use rinex_file::ReadFault;
+use rinex_inspect::{CheckOptions, FileFault, run_check_with};
 use std::alloc::Global;
-
-/// The GPS time 2024-02-04 00:00:00, the begin of week 2300, in milliseconds.
-const MIDNIGHT: u64 = 1_391_040_000_000;
 
 const AT_31: &str = "\
 > 2024 02 04 00 00 31.0000000  0  1\n\
@@ -21,29 +19,20 @@ const A_DAY_LATER: &str = "\
 > 2024 02 05 00 00 31.2490000  0  1\n\
 G05  20985472.060 7 110279400.000 7      -525.504          45.063\n";
 
-/// Times of the first and the last epoch and the smallest step, in milliseconds.
-struct Times {
-    first: u64,
-    last: u64,
-    step: Option<u64>,
-}
-
-static FILES: [(&[Part], Times); 4] = [
+/// Files, and what is printed of their counts and times.
+static FILES: [(&[Part], &str); 4] = [
     (
         &[Part::Header, Part::Epoch],
-        Times {
-            first: MIDNIGHT + 1_000,
-            last: MIDNIGHT + 1_000,
-            step: None,
-        },
+        "epochs 1 satellites 1 events 0\n\
+         first 2024-02-04 00:00:01.000\n\
+         last 2024-02-04 00:00:01.000\n",
     ),
     (
         &[Part::Header, Part::Epoch, Part::Event, Part::Second],
-        Times {
-            first: MIDNIGHT + 1_000,
-            last: MIDNIGHT + 2_000,
-            step: Some(1_000),
-        },
+        "epochs 2 satellites 2 events 1\n\
+         first 2024-02-04 00:00:01.000\n\
+         last 2024-02-04 00:00:02.000\n\
+         step 1.000\n",
     ),
     (
         &[
@@ -52,11 +41,10 @@ static FILES: [(&[Part], Times); 4] = [
             Part::Own(AT_31),
             Part::Own(AT_31_250),
         ],
-        Times {
-            first: MIDNIGHT + 1_000,
-            last: MIDNIGHT + 31_250,
-            step: Some(250),
-        },
+        "epochs 3 satellites 3 events 0\n\
+         first 2024-02-04 00:00:01.000\n\
+         last 2024-02-04 00:00:31.250\n\
+         step 0.250\n",
     ),
     (
         &[
@@ -66,48 +54,47 @@ static FILES: [(&[Part], Times); 4] = [
             Part::Own(AT_31_250),
             Part::Own(A_DAY_LATER),
         ],
-        Times {
-            first: MIDNIGHT + 1_000,
-            last: MIDNIGHT + 86_431_249,
-            step: Some(250),
-        },
+        "epochs 4 satellites 4 events 0\n\
+         first 2024-02-04 00:00:01.000\n\
+         last 2024-02-05 00:00:31.249\n\
+         step 0.250\n",
     ),
 ];
 
 static SEVEN: [usize; 1] = [7];
 
-/// Checks a file of these parts, seven bytes at a time.
-fn summary_of(alloc: Global, parts: &[Part]) -> Result<FileSummary, ReadFault> {
+/// What is printed of a file of these parts, which is read seven bytes at a time.
+fn printed_of(alloc: Global, parts: &[Part]) -> Result<Vec<u8>, FileFault> {
     let text = joined(parts);
     let mut reader = Counted::new(PieceReader::new(text.as_slice(), &SEVEN, ReadEnd::Ends));
-    check_file_times(alloc, &mut reader)
+    let mut writer = Counted::new(Vec::new(alloc));
+    let asked = CheckOptions {
+        complete: None,
+        times: true,
+    };
+    let ended = run_check_with(alloc, asked, &mut reader, &mut writer);
+    let printed = writer.into_inner();
+    ended.map(|_| printed)
 }
 
-/// Whether these are the times.
-fn are(found: &EpochTimes, times: &Times) -> bool {
-    found.first.milliseconds() == times.first
-        && found.last.milliseconds() == times.last
-        && found.step == times.step
-}
-
-/// Whether a file of these parts has these times.
-fn has_times(alloc: Global, parts: &[Part], times: &Times) -> bool {
-    match summary_of(alloc, parts) {
-        Ok(summary) => are(&summary.times, times),
+/// Whether this is printed of a file of these parts.
+fn is_printed(alloc: Global, parts: &[Part], expected: &str) -> bool {
+    match printed_of(alloc, parts) {
+        Ok(printed) => printed.as_slice() == expected.as_bytes(),
         Err(_) => false,
     }
 }
 
 #[test]
-fn the_times_of_a_file_are_returned(rt: HostRuntime) {
+fn the_times_of_a_file_are_printed(rt: HostRuntime) {
     let alloc = rt.alloc();
-    for (parts, times) in &FILES {
-        assert!(rt; has_times(alloc, *parts, times));
+    for (parts, expected) in &FILES {
+        assert!(rt; is_printed(alloc, *parts, *expected));
     }
 }
 
 #[test]
 fn a_file_without_an_epoch_has_no_times(rt: HostRuntime) {
-    let fault = summary_of(rt.alloc(), &[Part::Header]).err();
-    assert!(rt; fault == Some(ReadFault::CutShort(15)));
+    let fault = printed_of(rt.alloc(), &[Part::Header]).err();
+    assert!(rt; fault == Some(FileFault::File(ReadFault::CutShort(15))));
 }

@@ -55,9 +55,6 @@ pub ordered_below : (ds : List ℕ) → length ds ≡ 16 → AreWithin LIMITS ds
 ordered_below ds size h =
     sixteen (λ xs. AreWithin LIMITS xs → AreBelow 10 (ordered xs)) (λ a b c d e f g h i j k l m n o p are. omega (arith, are)) ds size h
 
-pub tenth_below : (ds : List ℕ) → length ds ≡ 16 → AreWithin LIMITS ds → get_or ds 9 0 < 10
-tenth_below ds size h = sixteen (λ xs. AreWithin LIMITS xs → get_or xs 9 0 < 10) (λ a b c d e f g h i j k l m n o p are. omega (arith, are)) ds size h
-
 -- numbers of two digits to a base are below its square
 pub twos_below : (base n : ℕ) → ((a b : ℕ) → a < base → b < base → a * base + b < n) → (xs : List ℕ) → AreBelow base xs → AreBelow n (twos_of base xs)
 twos_below base n small [] h = tt

@@ -1,14 +1,14 @@
 -- The steps of a reading from one line of an epoch to the next.
 use Rattle.rinex_file.proofs.FewRows.{few_most, few_rows}
-use Rattle.rinex_file.proofs.Names.{le_trans, few_below, open_epochs, ExpectsHeader, ExpectsRow, ok_or, MayRunOut, Err, Memory, arith, ◌≡◌, refl, ℕ, ◌<◌, List, [], ◌∷◌, ◌++◌, length, length-append, suc, ◌+◌, ◌≤◌, sym, ap, ap₂, subst, ◌∙◌, append_assoc, append-nil, zero-add, drop, get_or, Option, Some, None, Expected, IsStrictlyIncreasing, All, map, flat_map, Result, IsErrAnd, get_or_append_left, map-append, common_steps, All-head, All-tail, All-nil, All-push, flat_map-append, System, PlanValue, planned_of, civil_of, StationValues, Stamped, SatelliteRow, FileValue, time_stamped, IsFileValue, IsPlan, IsStamped, IsSatelliteRow, AreSatelliteRows, IsTime, IsChange, AreChanges, IsFirstSame, changed_by, values_following, rank_of, most_rows, planned_in, Epoch, Satellite, epoch_line, satellite_line, stamped_lines, change_lines, event_line, Progress, file_with, stamped, StartsAt, IsAt, IsAtEpoch, IsInEvent, IsInEpoch, HasLinesLeft, epoch_after, begun_at, with_row, with_epoch, AreRead, IsBegun, IsSoundAt, IsSound, MayBegin, values_now, AreLinesAt, header_lines, whole_lines, part_lines, AddedRow, Refusal, Bad, ParserState, History, FollowsHistory, GoesOnWithLine, ShowsLine, RefusesLine, TakesLine, progress_at, Known, NoRow, IsNext, most_signals, table, short_table}
+use Rattle.rinex_file.proofs.Names.{AddsAt, ⊤, le_trans, few_below, open_epochs, ExpectsHeader, ExpectsRow, ok_or, MayRunOut, Err, Memory, arith, ◌≡◌, refl, ℕ, ◌<◌, List, [], ◌∷◌, ◌++◌, length, length-append, suc, ◌+◌, ◌≤◌, sym, ap, ap₂, subst, ◌∙◌, append_assoc, append-nil, zero-add, drop, get_or, Option, Some, None, Expected, IsStrictlyIncreasing, All, map, flat_map, Result, IsErrAnd, get_or_append_left, map-append, common_steps, All-head, All-tail, All-nil, All-push, flat_map-append, System, PlanValue, planned_of, civil_of, StationValues, Stamped, SatelliteRow, FileValue, time_stamped, IsFileValue, IsPlan, IsStamped, IsSatelliteRow, AreSatelliteRows, IsTime, IsChange, AreChanges, IsFirstSame, changed_by, values_following, rank_of, most_rows, planned_in, Epoch, Satellite, epoch_line, satellite_line, stamped_lines, change_lines, event_line, Progress, file_with, stamped, StartsAt, IsAt, IsAtEpoch, IsInEvent, IsInEpoch, HasLinesLeft, epoch_after, begun_at, with_row, with_epoch, AreRead, IsBegun, IsSoundAt, IsSound, MayBegin, values_now, AreLinesAt, header_lines, whole_lines, part_lines, Refusal, Bad, ParserState, History, FollowsHistory, GoesOnWithLine, ShowsLine, RefusesLine, TakesLine, progress_at, Known, IsNext, most_signals, table, short_table}
 
 -- a line was refused: memory ran out, or no file continues with it
-pub passed : {Q : Refusal → Type 0} (old new : ParserState) (line : List ℕ) (r : Result AddedRow Refusal) → IsErrAnd r Q → ((e : Refusal) → Q e → e ≡ Bad → (h : History) → FollowsHistory old h → RefusesLine (progress_at old h) line)
+pub passed : {Q : Refusal → Type 0} (old new : ParserState) (line : List ℕ) (r : Result ⊤ Refusal) → IsErrAnd r Q → ((e : Refusal) → Q e → e ≡ Bad → (h : History) → FollowsHistory old h → RefusesLine (progress_at old h) line)
     → ((e : Refusal) → Q e → e ≡ Memory → MayRunOut old.expected line) → TakesLine old new line r
 passed old new line r is bad run = grind (arith, common_steps)
 
 -- a line was refused since nothing was read in it
-pub stopped : {Q : Refusal → Type 0} (old new : ParserState) (line : List ℕ) (r : Result AddedRow Refusal) → IsErrAnd r Q → ((e : Refusal) → Q e → e ≡ Bad)
+pub stopped : {Q : Refusal → Type 0} (old new : ParserState) (line : List ℕ) (r : Result ⊤ Refusal) → IsErrAnd r Q → ((e : Refusal) → Q e → e ≡ Bad)
     → ((h : History) → FollowsHistory old h → RefusesLine (progress_at old h) line) → TakesLine old new line r
 stopped old new line r is bad refuses = passed old new line r is (λ e q same. refuses) (λ e q same. let other : Bad ≡ Memory = sym (bad e q) ∙ same in cc)
 
@@ -377,8 +377,11 @@ few_open e = grind arith
 pub goes_on : {c : ParserState} {h : History} (e : Expected) (k : Known) (change : Option StationValues) (t : ℕ) {line : List ℕ} → FollowsHistory c h
     → IsSound (progress_at (state_with c e k change t) h) → GoesOnWithLine (progress_at c h) (progress_at (state_with c e k change t) h) line
     → ShowsLine (progress_at c h) (progress_at (state_with c e k change t) h) line → (ExpectsRow c.expected → ⊥) → ((ExpectsHeader c.expected → ⊥) → k ≡ c.head)
-    → IsNext c (state_with c e k change t) NoRow line h
-goes_on e k change t history sound follows shows outside same = let few = few_open e in grind (arith, few)
+    → (after : History) × IsNext c (state_with c e k change t) line h after
+goes_on {c} {h} e k change t history sound follows shows outside same =
+    let few = few_open e in
+    let adds : AddsAt c.expected c (state_with c e k change t) h h = grind (arith, common_steps, outside, same) in
+    (h, grind (arith, few, adds))
 
 -- another line is expected than that of a satellite
 pub outside_after : (expected : Expected) (change : Option StationValues) → expected ≡ epoch_after change → ExpectsRow expected → ⊥

@@ -1,7 +1,7 @@
 -- Bytes that were read ahead and the lines among them; a file that is read line by line.
 use Rattle.rinex_file.specs.declared.read.fault.ReadFault.TheVariants.{Memory}
 use Rattle.rinex_file.proofs.Writing.Sent.{joined-append}
-use Rattle.rinex_file.proofs.Names.{has-append, lacks-append, common_steps, arith, ◌≡◌, ◌∙◌, sym, ap, subst, refl, ℕ, zero, suc, ◌+◌, ◌-◌, ◌<◌, ◌≤◌, true, false, List, [], ◌∷◌, ◌++◌, length, take, drop, get_or, length-append, take-add, append_assoc, append-nil, Option, Some, IfSome, inl, is_some, ◌||◌, ◌==◌, nat_eq, nat_lt, min, All, ⊤, Bool, Ok, Consumes, IsAtEnd, prepend_known, min-eq_left, min-eq_right, min-le_left, min-le_right, le-min, false_from_ne_true, or_parts, or_right, append_cancel_left, length-take-le, take-append-drop, length_push, drop-take, drop-drop, take-take, Consumes-nil, Consumes-trans, All-head, All-tail, All-push, IsHeaderBegun, IsAtTypes, is_of_types, ExplainsStored, ExplainsAny, HasHeader, has, LeavesRest, MovesBytes, IsLine, IsTextOf, NoFileBegins, IsCutShort, IsTooLong, IsFaulty, ExplainsFault, IsNoFault, most_lines, ParserState, AddedRow, Reading, FileValue, IsFileValue, file_text, file_lines, History, with_line, GoesOnWithLine, ShowsLine, RefusesLine, ReadsNextLine, HasRead, IsWhole, IsTextOfOnly, file_at, IsTaken, FileBuilder, history_of, HasReadWhole, joined, ReadFault, Read, CutShort, TooLong, AreBegun, Progress, HasLinesLeft, AreLinesOf, HasReadLines, most_line}
+use Rattle.rinex_file.proofs.Names.{has-append, lacks-append, common_steps, arith, ◌≡◌, ◌∙◌, sym, ap, subst, refl, ℕ, zero, suc, ◌+◌, ◌-◌, ◌<◌, ◌≤◌, true, false, List, [], ◌∷◌, ◌++◌, length, take, drop, get_or, length-append, take-add, append_assoc, append-nil, Option, IfSome, inl, ◌||◌, ◌==◌, nat_eq, nat_lt, min, All, Bool, Consumes, IsAtEnd, prepend_known, min-eq_left, min-eq_right, min-le_left, min-le_right, le-min, false_from_ne_true, or_parts, or_right, append_cancel_left, length-take-le, take-append-drop, length_push, drop-take, drop-drop, take-take, Consumes-nil, Consumes-trans, All-head, All-tail, All-push, IsHeaderBegun, IsAtTypes, is_of_types, ExplainsStored, StopsStoring, StopsReading, inr, Stamped, HasHeader, has, LeavesRest, MovesBytes, IsLine, NoFileBegins, IsCutShort, IsTooLong, IsFaulty, ExplainsFault, IsNoFault, most_lines, FileValue, IsFileValue, file_text, file_lines, GoesOnWithLine, ShowsLine, RefusesLine, IsTextOfOnly, IsTaken, joined, ReadFault, Read, CutShort, TooLong, AreBegun, Progress, HasLinesLeft, AreLinesOf, HasReadLines, most_line}
 
 -- ---- bytes that are moved to a line
 
@@ -278,37 +278,18 @@ both_said a P Q R h p q = grind arith
 pub said_of : (a : Option (List ℕ)) (P Q : List ℕ → Type 0) → ((input : List ℕ) → P input → Q input) → IfSome a P → IfSome a Q
 said_of a P Q h p = grind arith
 
-pub explained : (b : Bool) (a : Option (List ℕ)) (fault : ReadFault) → IfSome a (λ input. ExplainsFault input fault) → IfSome a (λ input. ExplainsAny b input fault)
-explained b a fault why = grind (arith, common_steps)
+-- a fault of the file is one of its storing
+stored_fault : (fault : ReadFault) (input : List ℕ) → ExplainsFault input fault → ExplainsStored input fault
+stored_fault Memory input why = inl why
+stored_fault other input why = why
+
+pub explained : {es : List Stamped} {input left : Option (List ℕ)} {fault : ReadFault} → StopsReading es input left fault → StopsStoring input fault
+explained {input = input} {fault = fault} stops = said_of input _ _ (λ bytes h. stored_fault fault bytes h.0) stops.0
 
 -- memory for an epoch ran out
-pub out_of_memory : (b : Bool) (a : Option (List ℕ)) → b ≡ true → IfSome a HasHeader → IfSome a (λ input. ExplainsAny b input Memory)
-out_of_memory b a is has = grind (arith, common_steps)
-
--- a memory fault has nothing to explain
-pub no_reason : (a : Option (List ℕ)) (v : FileValue) → IfSome a (λ input. input ≡ file_text v → ⊤)
-no_reason a v = grind arith
+pub out_of_memory : (input : Option (List ℕ)) → IfSome input HasHeader → StopsStoring input Memory
+out_of_memory input has = said_of input _ _ (λ bytes h. inr h) has
 
 -- a line has its line feed
 pub line_some : (bytes : List ℕ) → IsLine bytes → 0 < length bytes
 line_some bytes (body, is, endless) = let size = ap length is ∙ length-append body (10 ∷ []) in omega (arith, size)
-
--- ---- a step, by its result
-
-pub added_more : (old new : Reading) (h : History) (input left : Option (List ℕ)) {o : Option AddedRow} {added : AddedRow} → o ≡ Some added → ReadsNextLine old new h input left (Ok o)
-    → HasRead new (with_line added new.parser_state h) input left × (new.count ≡ old.count + 1)
-added_more old new h input left e goes = subst (λ (x : Option AddedRow). ReadsNextLine old new h input left (Ok x)) e goes
-
-pub the_end : (old new : Reading) (h : History) (input left : Option (List ℕ)) (o : Option AddedRow) → is_some o ≡ false → ReadsNextLine old new h input left (Ok o) → IsWhole new.parser_state h input
-the_end old new h input left o none goes = grind arith
-
-pub file_found : (c : ParserState) (h : History) (input : Option (List ℕ)) (f : FileValue) → IsWhole c h input → f ≡ file_at c h → IsTextOf f input
-file_found c h input f whole same = grind (arith, said_of)
-
-pub file_only : (c : ParserState) (h : History) (input : Option (List ℕ)) (f v : FileValue) → IsWhole c h input → f ≡ file_at c h → IsFileValue v
-    → IfSome input (λ bytes. bytes ≡ file_text v → f ≡ v)
-file_only c h input f v whole same is = said_of input (IsTextOfOnly (file_at c h)) _ (λ bytes text e. same ∙ sym (text.only v is e)) whole.text
-
--- what is stored of a file that was read whole is its history
-pub stored_whole : (c : ParserState) (k : FileBuilder) (input : Option (List ℕ)) → HasReadWhole true c k input → IsWhole c (history_of k) input
-stored_whole c k input (h, whole, stores) = subst (λ (x : History). IsWhole c x input) (sym (stores refl)) whole

@@ -6,10 +6,8 @@ use Rattle.rinex_file.specs.declared.read.parser_state.ParserState.{ParserState}
 use Rattle.rinex_file.specs.declared.read.file.Counts.{Counts}
 use Rattle.rinex_file.specs.declared.read.times.EpochTimes.{EpochTimes}
 use Rattle.rinex_file.specs.Times.{AreTimesOrNone}
-use Rattle.rinex_file.specs.declared.read.parser_state.AddedRow.{AddedRow}
-use Rattle.rinex_file.specs.declared.read.parser_state.AddedRow.TheVariants.{NoRow, OneRow, LastRow}
 use Rattle.rinex_file.specs.declared.read.parser_state.Expected.{Expected}
-use Rattle.rinex_file.specs.declared.read.parser_state.Expected.TheVariants.{Header, Epoch, Satellite}
+use Rattle.rinex_file.specs.declared.read.parser_state.Expected.TheVariants.{Header, Satellite}
 use Rattle.rinex_file.specs.declared.read.parser_state.Refusal.{Refusal}
 use Rattle.rinex_file.specs.declared.read.parser_state.Refusal.TheVariants.{Memory, Bad}
 use Rattle.rinex_file.specs.Value.{SatelliteRow, Stamped, FileValue}
@@ -56,11 +54,10 @@ with_satellite h row = record { epochs = h.epochs; rows = h.rows ++ row ∷ [] }
 abbrev pub with_whole_epoch : History → Option StationValues → ℕ → History
 with_whole_epoch h change time = record { epochs = h.epochs ++ stamped_at change time h.rows ∷ []; rows = [] }
 
--- the history with what a line added
-abbrev pub with_line : AddedRow → ParserState → History → History
-with_line NoRow c h = h
-with_line OneRow c h = with_satellite h c.last_read
-with_line LastRow c h = with_whole_epoch (with_satellite h c.last_read) c.change c.time
+-- a history with the satellite that was read, and with its epoch if no more are expected
+abbrev pub with_last_read : Expected → ParserState → History → History
+with_last_read (Satellite n) c h = with_satellite h c.last_read
+with_last_read other c h = with_whole_epoch (with_satellite h c.last_read) c.change c.time
 
 -- a file that has the line next has these lines left after it
 abbrev pub GoesOnWithLine : Progress → Progress → List ℕ → Type 0
@@ -97,21 +94,21 @@ ExpectsRow other = ⊥
 abbrev pub AreSame : (old new : ParserState) → Type 0
 AreSame old new = (new.head ≡ old.head) × (new.change ≡ old.change) × (new.time ≡ old.time)
 
--- what a line adds: a satellite, the last one or another, only if one is expected; and it leaves the header as it is,
--- unless it is a line of the header
-abbrev pub Adds : AddedRow → (old new : ParserState) → Type 0
-Adds NoRow old new = (ExpectsRow old.expected → ⊥) × ((ExpectsHeader old.expected → ⊥) → new.head ≡ old.head)
-Adds OneRow old new = ExpectsRow old.expected × ExpectsRow new.expected × AreSame old new
-Adds LastRow old new = ExpectsRow old.expected × (new.expected ≡ Epoch) × AreSame old new
+-- what a line adds to a history if this is expected: a satellite if one is; and it leaves the header as it is, unless it
+-- is a line of the header
+abbrev pub AddsAt : Expected → (old new : ParserState) → (h after : History) → Type 0
+AddsAt (Satellite n) old new h after = AreSame old new × (after ≡ with_last_read new.expected new h)
+AddsAt (Header place) old new h after = after ≡ h
+AddsAt other old new h after = (after ≡ h) × (new.head ≡ old.head)
 
 -- a line was accepted: it may follow what was read, the state has the history with what the line adds, and no count grows
 -- by more than one
-pub record IsNext (old new : ParserState) (added : AddedRow) (line : List ℕ) (h : History) : Type 0 where
-  pub history : FollowsHistory new (with_line added new h)
-  pub follows : GoesOnWithLine (progress_at old h) (progress_at new (with_line added new h)) line
-  pub shows : ShowsLine (progress_at old h) (progress_at new (with_line added new h)) line
+pub record IsNext (old new : ParserState) (line : List ℕ) (h after : History) : Type 0 where
+  pub history : FollowsHistory new after
+  pub follows : GoesOnWithLine (progress_at old h) (progress_at new after) line
+  pub shows : ShowsLine (progress_at old h) (progress_at new after) line
   pub room : (n : ℕ) → HasRoom old n → HasRoom new (n + 1)
-  pub adds : Adds added old new
+  pub adds : AddsAt old.expected old new h after
 
 -- memory may run out where this is expected and this line is read: only at a line of types
 abbrev pub MayRunOut : Expected → List ℕ → Type 0
@@ -119,7 +116,7 @@ MayRunOut (Header place) line = is_of_types line ≡ true
 MayRunOut other line = ⊥
 
 -- the result of a line
-abbrev pub TakesLine : ParserState → ParserState → List ℕ → Result AddedRow Refusal → Type 0
-TakesLine old new line (Ok added) = (h : History) → FollowsHistory old h → IsNext old new added line h
+abbrev pub TakesLine : ParserState → ParserState → List ℕ → Result ⊤ Refusal → Type 0
+TakesLine old new line (Ok u) = (h : History) → FollowsHistory old h → (after : History) × IsNext old new line h after
 TakesLine old new line (Err Bad) = (h : History) → FollowsHistory old h → RefusesLine (progress_at old h) line
 TakesLine old new line (Err Memory) = MayRunOut old.expected line

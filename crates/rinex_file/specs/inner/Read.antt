@@ -4,5 +4,4 @@ pub mod HeaderSteps
 pub mod Progress
 pub mod Sound
 pub mod Steps
-pub mod Keeping
 pub mod EpochSteps

@@ -1,23 +1,22 @@
 //! Reading a file line by line, and epoch by epoch.
-ghost use Rattle.std.specs.Prelude.{◌≡◌, ◌==◌, ◌+◌, [], List, Option, ℕ, Err, IfErr, IsTrue, ◌↔◌};
+ghost use Rattle.std.specs.Prelude.{◌≡◌, ◌==◌, ◌+◌, [], List, Option, ℕ, Err, IsTrue, ◌↔◌};
 ghost use Rattle.devices.specs.Device.{HasFailed};
-ghost use Rattle.rinex_file.specs.Accepted.{AreEpochsRead, IsFaultAfter};
+ghost use Rattle.rinex_file.specs.Accepted.{IsFaultAfter};
 ghost use Rattle.rinex_file.specs.Exact.{ExplainsFault, IsFaulty, IsExpectedAt};
 ghost use Rattle.rinex_file.specs.Blocks.{LeavesRest};
-ghost use Rattle.rinex_file.specs.inner.ParserState.{ExpectsRow, FollowsHistory};
+ghost use Rattle.rinex_file.specs.inner.ParserState.{ExpectsRow};
 ghost use Rattle.rinex_file.specs.Counting.{History};
 ghost use Rattle.rinex_file.specs.Value.{Stamped};
 ghost use Rattle.rinex_file.specs.inner.Read.Steps.{GoesOnReading, HasRead};
 ghost use Rattle.gnss_obs.specs.SignalLists.{indices};
 ghost use Rattle.gnss_obs.specs.Values.{planned_of};
-ghost use Rattle.rinex_file.specs.inner.Read.EpochSteps.{AddsOrEnds, BeginsEpoch, BeginsNextEpoch, EndsEpoch};
-ghost use Rattle.rinex_file.specs.inner.Read.EpochSteps.{FinishesEpoch, HasReadEpochs, HasReadPart, HasReadRows};
-ghost use Rattle.rinex_file.specs.inner.Read.EpochSteps.{HasReadTo, ReadsEpoch, ReadsRow, plan_of, row_of};
+ghost use Rattle.rinex_file.specs.inner.Read.EpochSteps.{BeginsEpoch, FinishesEpoch, HasReadEpochs, HasReadRows};
+ghost use Rattle.rinex_file.specs.inner.Read.EpochSteps.{ReadsEpoch, ReadsRow, plan_of, row_of};
 
 use crate::read::fault::ReadFault;
 use crate::read::file::FileSummary;
 use crate::read::lines::{Found, Lines};
-use crate::read::parser_state::{AddedRow, Expected, ParserState, Refusal};
+use crate::read::parser_state::{Expected, ParserState, Refusal};
 use crate::read::times::EpochTimes;
 use crate::values::SatelliteRow;
 use devices::Counted;
@@ -29,15 +28,6 @@ use std::io::Read;
 
 /// Largest number of lines of a file.
 const MOST_LINES: u64 = 1 << 32;
-
-/// The reading of a file: its parser state, the number of lines that were accepted, and buffers.
-#[derive(Drop)]
-pub(crate) struct Reading {
-    pub(crate) parser_state: ParserState,
-    pub(crate) count: u64,
-    pub(crate) lines: Lines,
-    again: Line,
-}
 
 /// Returns the fault of a line that isn't of the kind that was expected.
 fn fault_at(expected: Expected, number: u64) -> ReadFault
@@ -52,63 +42,6 @@ fn fault_at(expected: Expected, number: u64) -> ReadFault
         Expected::Epoch | Expected::EventEpoch(_) => ReadFault::BadEpoch(number),
         Expected::EventPosition | Expected::EventHeight(_) => ReadFault::BadEvent(number),
         Expected::Satellite(_) => ReadFault::BadSatellite(number),
-    }
-}
-
-impl Reading {
-    /// Returns the reading of a file of which nothing was read.
-    pub(crate) fn new(alloc: Global) -> Reading
-        ensures { (input : Option (List ℕ)) → HasReadTo result [] input input }
-    {
-        Reading {
-            parser_state: ParserState::new(alloc),
-            count: 0,
-            lines: Lines::new(),
-            again: Line::new(),
-        }
-    }
-
-    /// Reads the next line and returns what it adds, or None at the end of the file.
-    // Two loops call it, and a call for each line would cost 30 instructions.
-    #[inline(always)]
-    pub(crate) fn next<R: Read>(
-        &mut self,
-        reader: &mut Counted<R>,
-    ) -> Result<Option<AddedRow>, ReadFault>
-        requires { (h : History) × (input : Option (List ℕ)) × HasRead self.old h input (R.remaining reader.old.inner) }
-        ensures goes { GoesOnReading self.old (R.remaining reader.old.inner) self.new (R.remaining reader.new.inner)
-            result }
-        ensures decided { result ≡ Err ReadFault.Read → (h : History) → (input : Option (List ℕ))
-            → HasRead self.old h input (R.remaining reader.old.inner)
-            → AreEpochsRead h.epochs input (R.remaining reader.new.inner) }
-        ensures number { IfErr result (λ e. IsFaultAfter e self.old.count) }
-        ensures memory { result ≡ Err ReadFault.Memory → (h : History) → FollowsHistory self.old.parser_state h
-            → h.epochs ≡ [] }
-        ensures left { LeavesRest (R.remaining reader.old.inner) (R.remaining reader.new.inner) }
-        ensures failed { result ≡ Err ReadFault.Read → HasFailed reader.old.failures reader.new.failures }
-        ensures same { (result ≡ Err ReadFault.Read → ⊥) → reader.new.failures ≡ reader.old.failures }
-        ensures adds { AddsOrEnds self.old self.new result }
-    {
-        let number = self.count + 1;
-        let fault = fault_at(self.parser_state.expected, number);
-        match self.lines.next(reader) {
-            Found::Failed => return Err(ReadFault::Read),
-            _ if self.count == MOST_LINES && !self.lines.is_empty() => {
-                return Err(ReadFault::TooLong);
-            }
-            Found::Line => {}
-            Found::End if self.lines.is_empty() && self.parser_state.may_end() => return Ok(None),
-            Found::End => return Err(ReadFault::CutShort(number)),
-            Found::Long => return Err(fault),
-        }
-        match self.parser_state.take(self.lines.line(), &mut self.again) {
-            Ok(added) => {
-                self.count = number;
-                Ok(Some(added))
-            }
-            Err(Refusal::Memory) => Err(ReadFault::Memory),
-            Err(Refusal::Bad) => Err(fault),
-        }
     }
 }
 
@@ -129,7 +62,11 @@ pub enum NextEpoch {
 /// The reading of a file epoch by epoch. Its size doesn't grow with the file.
 #[derive(Drop)]
 pub struct EpochReader {
-    reading: Reading,
+    pub(crate) parser_state: ParserState,
+    // The number of lines that were accepted.
+    pub(crate) count: u64,
+    pub(crate) lines: Lines,
+    again: Line,
 }
 
 impl EpochReader {
@@ -138,8 +75,42 @@ impl EpochReader {
         ensures { (input : Option (List ℕ)) → HasReadEpochs result [] input input }
     {
         EpochReader {
-            reading: Reading::new(alloc),
+            parser_state: ParserState::new(alloc),
+            count: 0,
+            lines: Lines::new(),
+            again: Line::new(),
         }
+    }
+
+    /// Reads the next line, and returns true; or false at the end of the file.
+    // Three loops call it, and a call for each line would cost 30 instructions.
+    #[inline(always)]
+    pub(crate) fn next_line<R: Read>(&mut self, reader: &mut Counted<R>) -> Result<bool, ReadFault>
+        requires { (h : History) × (input : Option (List ℕ)) × HasRead self.old h input (R.remaining reader.old.inner) }
+        ensures goes { GoesOnReading self.old (R.remaining reader.old.inner) self.new (R.remaining reader.new.inner)
+            result }
+        ensures left { LeavesRest (R.remaining reader.old.inner) (R.remaining reader.new.inner) }
+        ensures failed { result ≡ Err ReadFault.Read → HasFailed reader.old.failures reader.new.failures }
+        ensures same { (result ≡ Err ReadFault.Read → ⊥) → reader.new.failures ≡ reader.old.failures }
+    {
+        let number = self.count + 1;
+        let fault = fault_at(self.parser_state.expected, number);
+        match self.lines.next(reader) {
+            Found::Failed => return Err(ReadFault::Read),
+            _ if self.count == MOST_LINES && !self.lines.is_empty() => {
+                return Err(ReadFault::TooLong);
+            }
+            Found::Line => {}
+            Found::End if self.lines.is_empty() && self.parser_state.may_end() => return Ok(false),
+            Found::End => return Err(ReadFault::CutShort(number)),
+            Found::Long => return Err(fault),
+        }
+        match self.parser_state.take(self.lines.line(), &mut self.again) {
+            Ok(()) => self.count = number,
+            Err(Refusal::Memory) => return Err(ReadFault::Memory),
+            Err(Refusal::Bad) => return Err(fault),
+        }
+        Ok(true)
     }
 
     /// Reads the lines up to that of the next epoch, or to the end of the file. The epoch is whole
@@ -159,7 +130,22 @@ impl EpochReader {
         ensures same { (result ≡ Err ReadFault.Read → ⊥) → reader.new.failures ≡ reader.old.failures }
         ensures left { LeavesRest (R.remaining reader.old.inner) (R.remaining reader.new.inner) }
     {
-        begin_epoch(&mut self.reading, reader)
+        let before = self.parser_state.times;
+        loop {
+            match self.next_line(reader) {
+                Ok(true) => {}
+                Ok(false) => {
+                    let state = &self.parser_state;
+                    let (counts, times) = (state.counts, state.times.unwrap());
+                    return Ok(NextEpoch::End(FileSummary { counts, times }));
+                }
+                Err(fault) => return Err(fault),
+            }
+            if self.expects_row() {
+                let time = self.parser_state.time;
+                return Ok(NextEpoch::Epoch { before, time });
+            }
+        }
     }
 
     /// Reads the line of the next satellite of the epoch that was begun, and returns true; or false
@@ -168,6 +154,8 @@ impl EpochReader {
     /// # Errors
     ///
     /// As for [`check_file`](crate::check_file).
+    // Inlined in the loops over rows, as `next_line` is.
+    #[inline(always)]
     pub fn next_row<R: Read>(&mut self, reader: &mut Counted<R>) -> Result<bool, ReadFault>
         requires { (es : List Stamped) × (e : Stamped) × (input : Option (List ℕ))
             × HasReadRows self.old es e input (R.remaining reader.old.inner) }
@@ -178,13 +166,10 @@ impl EpochReader {
         ensures same { (result ≡ Err ReadFault.Read → ⊥) → reader.new.failures ≡ reader.old.failures }
         ensures left { LeavesRest (R.remaining reader.old.inner) (R.remaining reader.new.inner) }
     {
-        if !expects_row(&self.reading) {
+        if !self.expects_row() {
             return Ok(false);
         }
-        match self.reading.next(reader) {
-            Ok(added) => Ok(added.is_some()),
-            Err(fault) => Err(fault),
-        }
+        self.next_line(reader)
     }
 
     /// Reads the lines of the satellites that are left of the epoch that was begun.
@@ -202,21 +187,34 @@ impl EpochReader {
         ensures same { (result ≡ Err ReadFault.Read → ⊥) → reader.new.failures ≡ reader.old.failures }
         ensures left { LeavesRest (R.remaining reader.old.inner) (R.remaining reader.new.inner) }
     {
-        finish_epoch(&mut self.reading, reader)
+        loop {
+            match self.next_row(reader) {
+                Ok(true) => {}
+                Ok(false) => return Ok(()),
+                Err(fault) => return Err(fault),
+            }
+        }
+    }
+
+    /// Returns whether the line of a satellite is expected.
+    fn expects_row(&self) -> bool
+        ensures { IsTrue result ↔ ExpectsRow self.now.parser_state.expected }
+    {
+        matches!(self.parser_state.expected, Expected::Satellite(_))
     }
 
     /// Returns the row that was read last.
     pub fn row(&self) -> &SatelliteRow
         ensures { result.now ≡ row_of self.now }
     {
-        &self.reading.parser_state.last_read
+        &self.parser_state.last_read
     }
 
     /// Returns the number of the line that was read last, counted from 1; 0 before any line.
     pub fn line(&self) -> u64
-        ensures { result ≡ self.now.reading.count }
+        ensures { result ≡ self.now.count }
     {
-        self.reading.count
+        self.count
     }
 
     /// Returns the planned signals of a system, in the order of the file. They are read with the
@@ -224,7 +222,7 @@ impl EpochReader {
     pub fn signals(&self, system: System) -> &[Signal]
         ensures { indices result.now ≡ planned_of system (plan_of self.now) }
     {
-        self.reading.parser_state.head.signals(system)
+        self.parser_state.head.signals(system)
     }
 
     /// Reads the lines of the next epoch, or the end of the file. It accepts the files that
@@ -254,63 +252,4 @@ impl EpochReader {
             Err(fault) => Err(fault),
         }
     }
-}
-
-/// Returns whether the line of a satellite is expected.
-fn expects_row(reading: &Reading) -> bool
-    ensures { IsTrue result ↔ ExpectsRow reading.now.parser_state.expected }
-{
-    matches!(reading.parser_state.expected, Expected::Satellite(_))
-}
-
-/// Reads lines up to that of the next epoch, or to the end of the file.
-fn begin_epoch<R: Read>(
-    reading: &mut Reading,
-    reader: &mut Counted<R>,
-) -> Result<NextEpoch, ReadFault>
-    requires { (es : List Stamped) × (input : Option (List ℕ))
-        × HasReadTo reading.old es input (R.remaining reader.old.inner) }
-    ensures epochs { (es : List Stamped) → (input : Option (List ℕ))
-        → HasReadTo reading.old es input (R.remaining reader.old.inner)
-        → BeginsNextEpoch reading.old reading.new es input (R.remaining reader.new.inner) result }
-    ensures failed { result ≡ Err ReadFault.Read → HasFailed reader.old.failures reader.new.failures }
-    ensures same { (result ≡ Err ReadFault.Read → ⊥) → reader.new.failures ≡ reader.old.failures }
-    ensures left { LeavesRest (R.remaining reader.old.inner) (R.remaining reader.new.inner) }
-{
-    let before = reading.parser_state.times;
-    loop {
-        match reading.next(reader) {
-            Ok(Some(_)) => {}
-            Ok(None) => {
-                let state = &reading.parser_state;
-                let (counts, times) = (state.counts, state.times.unwrap());
-                return Ok(NextEpoch::End(FileSummary { counts, times }));
-            }
-            Err(fault) => return Err(fault),
-        }
-        if expects_row(reading) {
-            let time = reading.parser_state.time;
-            return Ok(NextEpoch::Epoch { before, time });
-        }
-    }
-}
-
-/// Reads the lines of the satellites that are left of an epoch that was begun.
-fn finish_epoch<R: Read>(reading: &mut Reading, reader: &mut Counted<R>) -> Result<(), ReadFault>
-    requires { (es : List Stamped) × (e : Stamped) × (input : Option (List ℕ))
-        × HasReadPart reading.old es e input (R.remaining reader.old.inner) }
-    ensures rows { (es : List Stamped) → (e : Stamped) → (input : Option (List ℕ))
-        → HasReadPart reading.old es e input (R.remaining reader.old.inner)
-        → EndsEpoch reading.old reading.new es e input (R.remaining reader.new.inner) result }
-    ensures failed { result ≡ Err ReadFault.Read → HasFailed reader.old.failures reader.new.failures }
-    ensures same { (result ≡ Err ReadFault.Read → ⊥) → reader.new.failures ≡ reader.old.failures }
-    ensures left { LeavesRest (R.remaining reader.old.inner) (R.remaining reader.new.inner) }
-{
-    while expects_row(reading) {
-        match reading.next(reader) {
-            Ok(_) => {}
-            Err(fault) => return Err(fault),
-        }
-    }
-    Ok(())
 }

@@ -1,26 +1,23 @@
 //! Reading a file whole, and storing its epochs while it is read.
-ghost use Rattle.std.specs.Prelude.{◌≡◌, Err, IsOk, IfOk, IfErr, IfSome, OnOk, []};
+ghost use Rattle.std.specs.Prelude.{◌≡◌, ◌++◌, ◌∷◌, [], Err, IfErr, IfOk, IfSome, List, OnOk, Option, ℕ};
 ghost use Rattle.devices.specs.Device.{HasFailed};
-ghost use Rattle.rinex_file.specs.Exact.{ExplainsFault, ExplainsStored, IfTextOfFile, IsReadOr, IsTextOf};
 ghost use Rattle.rinex_file.specs.Blocks.{LeavesRest};
-ghost use Rattle.rinex_file.specs.Counting.{AreCounts, IsSummary, IsTextWith, HoldsOr, nothing};
+ghost use Rattle.rinex_file.specs.Counting.{AreCounts, HoldsOr, IsTextWith};
+ghost use Rattle.rinex_file.specs.Exact.{ExplainsFault, ExplainsStored, IfTextOfFile, IsReadOr, IsTextOf};
 ghost use Rattle.rinex_file.specs.FileValues.{IsFileValue};
-ghost use Rattle.rinex_file.specs.inner.ParserState.{FollowsHistory, with_line};
-ghost use Rattle.rinex_file.specs.inner.Read.Steps.{file_at, HasRead};
-ghost use Rattle.rinex_file.specs.inner.Read.Keeping.{ExplainsAny, history_of, HasReadWhole};
+ghost use Rattle.rinex_file.specs.Value.{Stamped};
+ghost use Rattle.rinex_file.specs.inner.Read.EpochSteps.{HasReadEpochs, HasReadRows, StoresEpochs, StoresRows};
+ghost use Rattle.rinex_file.specs.inner.Read.EpochSteps.{begun_in, file_of};
 
-use crate::read::epochs::Reading;
+use crate::read::epochs::{EpochReader, NextEpoch};
 use crate::read::fault::ReadFault;
-use crate::read::head_so_far::HeadSoFar;
-use crate::read::parser_state::{AddedRow, ParserState};
 use crate::read::times::EpochTimes;
-use crate::values::{ObsFile, StoredEpoch, StoredRow};
+use crate::values::{ObsFile, SatelliteRow, StoredEpoch, StoredRow};
 use devices::Counted;
 use gnss_obs::Plan;
 use gnss_system::BySystem;
 use std::alloc::{AllocError, Global};
 use std::io::Read;
-use std::mem;
 
 /// Counts of a file.
 #[derive(Clone, Copy, Debug, Default, PartialEq, Eq)]
@@ -42,112 +39,109 @@ pub struct FileSummary {
     pub times: EpochTimes,
 }
 
-/// The epochs of a file that were read, and the satellites of one that was begun.
-#[derive(Drop)]
-pub(crate) struct FileBuilder {
+/// Adds a row to those that are stored.
+fn store_row(alloc: Global, row: &SatelliteRow, rows: &mut Vec<StoredRow>) -> Result<(), AllocError>
+    ensures { OnOk result (rows.new.items ≡ rows.old.items ++ row.now ∷ []) }
+{
+    let signal_values = Vec::from_slice(alloc, row.signal_values.as_slice())?;
+    rows.push(StoredRow {
+        system: row.system,
+        satellite: row.satellite,
+        signal_values,
+    })?;
+    Ok(())
+}
+
+/// Reads the lines of the satellites of an epoch that was begun, and stores them.
+fn read_rows<R: Read>(
     alloc: Global,
-    pub(crate) epochs: Vec<StoredEpoch>,
-    pub(crate) rows: Vec<StoredRow>,
-}
-
-impl FileBuilder {
-    /// Returns a builder without epochs.
-    pub(crate) fn new(alloc: Global) -> FileBuilder
-        ensures { history_of result ≡ nothing }
-    {
-        FileBuilder {
-            alloc,
-            epochs: Vec::new(alloc),
-            rows: Vec::new(alloc),
-        }
-    }
-
-    /// Stores what a line added.
-    pub(crate) fn keep(
-        &mut self,
-        added: AddedRow,
-        parser_state: &ParserState,
-    ) -> Result<(), AllocError>
-        ensures kept { OnOk result (history_of self.new ≡ with_line added parser_state.now (history_of self.old)) }
-        ensures some { added ≡ AddedRow.NoRow → IsOk result }
-    {
-        if let AddedRow::NoRow = added {
-            return Ok(());
-        }
-        let row = &parser_state.last_read;
-        let signal_values = Vec::from_slice(self.alloc, row.signal_values.as_slice())?;
-        self.rows.push(StoredRow {
-            system: row.system,
-            satellite: row.satellite,
-            signal_values,
-        })?;
-        if let AddedRow::LastRow = added {
-            let rows = mem::replace(&mut self.rows, Vec::new(self.alloc));
-            self.epochs.push(StoredEpoch {
-                change: parser_state.change,
-                time: parser_state.time,
-                rows,
-            })?;
-        }
-        Ok(())
-    }
-
-    /// Returns the file that was read, or None if memory for its plan runs out.
-    pub(crate) fn finish(self, parser_state: ParserState) -> Option<ObsFile>
-        requires none { (history_of self).rows ≡ [] }
-        requires value { IsFileValue (file_at parser_state (history_of self)) }
-        requires history { FollowsHistory parser_state (history_of self) }
-        ensures { IfSome result (λ f. f ≡ file_at parser_state (history_of self)) }
-    {
-        let head = parser_state.head;
-        let lists = BySystem::each(|system| head.types.of(system).signals.as_slice());
-        let plan = Plan::from_lists(self.alloc, &lists);
-        // Calls drop them with less proof than each exit.
-        drop(parser_state.last_read);
-        drop(head.types);
-        drop(self.rows);
-        let Ok(plan) = plan else {
-            drop(self.epochs);
-            return None;
-        };
-        Some(ObsFile {
-            texts: head.texts,
-            interval: head.interval,
-            plan: plan.with_channels(head.slots.channels),
-            values: head.values,
-            epochs: self.epochs,
-            counts: parser_state.counts,
-        })
-    }
-}
-
-/// Reads the lines of a file to its end, and stores what each adds if `is_stored`.
-fn read_lines<R: Read>(
+    file: &mut EpochReader,
     reader: &mut Counted<R>,
-    reading: &mut Reading,
-    builder: &mut FileBuilder,
-    is_stored: bool,
-) -> Result<(), ReadFault>
-    requires read { HasRead reading.old nothing (R.remaining reader.old.inner) (R.remaining reader.old.inner) }
-    requires none { history_of builder.old ≡ nothing }
-    ensures found { OnOk result
-        (HasReadWhole is_stored reading.new.parser_state builder.new (R.remaining reader.old.inner)) }
-    ensures fault { IfErr result
-        (λ e. IfSome (R.remaining reader.old.inner) (λ input. ExplainsAny is_stored input e)) }
+) -> Result<Vec<StoredRow>, ReadFault>
+    requires { (es : List Stamped) × (input : Option (List ℕ))
+        × HasReadRows file.old es (begun_in file.old) input (R.remaining reader.old.inner) }
+    ensures rows { (es : List Stamped) → (input : Option (List ℕ))
+        → HasReadRows file.old es (begun_in file.old) input (R.remaining reader.old.inner)
+        → StoresRows file.old file.new es input (R.remaining reader.new.inner) result }
+    ensures failed { result ≡ Err ReadFault.Read → HasFailed reader.old.failures reader.new.failures }
+    ensures same { (result ≡ Err ReadFault.Read → ⊥) → reader.new.failures ≡ reader.old.failures }
+    ensures left { LeavesRest (R.remaining reader.old.inner) (R.remaining reader.new.inner) }
+{
+    let mut rows = Vec::new(alloc);
+    loop {
+        match file.next_row(reader) {
+            Ok(true) => {}
+            Ok(false) => return Ok(rows),
+            Err(fault) => return Err(fault),
+        }
+        if store_row(alloc, file.row(), &mut rows).is_err() {
+            return Err(ReadFault::Memory);
+        }
+    }
+}
+
+/// Reads a file to its end, and stores its epochs.
+fn read_epochs<R: Read>(
+    alloc: Global,
+    epochs: &mut Vec<StoredEpoch>,
+    file: &mut EpochReader,
+    reader: &mut Counted<R>,
+) -> Result<FileSummary, ReadFault>
+    requires start { (input : Option (List ℕ)) → HasReadEpochs file.old [] input input }
+    requires none { epochs.old.items ≡ [] }
+    ensures epochs { StoresEpochs file.new epochs.new.items (R.remaining reader.old.inner) result }
     ensures failed { result ≡ Err ReadFault.Read → HasFailed reader.old.failures reader.new.failures }
     ensures same { (result ≡ Err ReadFault.Read → ⊥) → reader.new.failures ≡ reader.old.failures }
     ensures left { LeavesRest (R.remaining reader.old.inner) (R.remaining reader.new.inner) }
 {
     loop {
-        let added = match reading.next(reader) {
-            Ok(Some(added)) => added,
-            Ok(None) => return Ok(()),
+        match file.begin(reader) {
+            Ok(NextEpoch::Epoch { .. }) => {}
+            Ok(NextEpoch::End(summary)) => return Ok(summary),
+            Err(fault) => return Err(fault),
+        }
+        let (change, time) = (file.parser_state.change, file.parser_state.time);
+        let rows = match read_rows(alloc, file, reader) {
+            Ok(rows) => rows,
             Err(fault) => return Err(fault),
         };
-        if is_stored && builder.keep(added, &reading.parser_state).is_err() {
+        let epoch = StoredEpoch { change, time, rows };
+        if epochs.push(epoch).is_err() {
             return Err(ReadFault::Memory);
         }
     }
+}
+
+/// Returns the file with these epochs and the header that was read, or None if memory for its plan
+/// runs out.
+fn file_of(
+    alloc: Global,
+    file: EpochReader,
+    epochs: Vec<StoredEpoch>,
+    counts: Counts,
+) -> Option<ObsFile>
+    requires value { IsFileValue (file_of file epochs.items) }
+    requires counts { AreCounts counts (file_of file epochs.items) }
+    ensures { IfSome result (λ f. f ≡ file_of file epochs.items) }
+{
+    let head = file.parser_state.head;
+    let lists = BySystem::each(|system| head.types.of(system).signals.as_slice());
+    let plan = Plan::from_lists(alloc, &lists);
+    // Calls drop them with less proof than each exit.
+    drop(file.parser_state.last_read);
+    drop(head.types);
+    let Ok(plan) = plan else {
+        drop(epochs);
+        return None;
+    };
+    Some(ObsFile {
+        texts: head.texts,
+        interval: head.interval,
+        plan: plan.with_channels(head.slots.channels),
+        values: head.values,
+        epochs,
+        counts,
+    })
 }
 
 /// Reads a file to its end and returns its counts. A file is accepted if and only if it is exactly
@@ -172,48 +166,12 @@ pub fn check_file<R: Read>(alloc: Global, reader: &mut Counted<R>) -> Result<Cou
     // A prefix of the input was read.
     ensures left { LeavesRest (R.remaining reader.old.inner) (R.remaining reader.new.inner) }
 {
-    match check_file_times(alloc, reader) {
-        Ok(summary) => Ok(summary.counts),
-        Err(fault) => Err(fault),
-    }
-}
-
-/// Reads a file to its end and returns its counts and the times of its epochs. Accepts the same
-/// files as [`check_file`]. Memory doesn't grow with the file.
-///
-/// # Errors
-///
-/// As for [`check_file`].
-pub fn check_file_times<R: Read>(
-    alloc: Global,
-    reader: &mut Counted<R>,
-) -> Result<FileSummary, ReadFault>
-    // The counts and the times are those of the file whose text is the whole input.
-    ensures found { IfOk result (λ s. IsTextWith (IsSummary s) (R.remaining reader.old.inner)) }
-    // The fault explains why nothing was returned.
-    ensures fault { IfErr result (λ e. IfSome (R.remaining reader.old.inner) (λ input. ExplainsFault input e)) }
-    // The text of each file value is accepted.
-    ensures only { IfTextOfFile (R.remaining reader.old.inner) (λ v. HoldsOr (λ s. IsSummary s v) result) }
-    // It fails with its reader: nothing is read again after a failed read.
-    ensures failed { result ≡ Err ReadFault.Read → HasFailed reader.old.failures reader.new.failures }
-    ensures same { (result ≡ Err ReadFault.Read → ⊥) → reader.new.failures ≡ reader.old.failures }
-    // A prefix of the input was read.
-    ensures left { LeavesRest (R.remaining reader.old.inner) (R.remaining reader.new.inner) }
-{
-    let mut reading = Reading::new(alloc);
-    let mut builder = FileBuilder::new(alloc);
-    match read_lines(reader, &mut reading, &mut builder, false) {
-        Ok(()) => {
-            let state = &reading.parser_state;
-            let (counts, times) = (state.counts, state.times.unwrap());
-            drop(builder);
-            drop(reading.parser_state);
-            Ok(FileSummary { counts, times })
-        }
-        Err(fault) => {
-            drop(builder);
-            drop(reading.parser_state);
-            Err(fault)
+    let mut file = EpochReader::new(alloc);
+    loop {
+        match file.next_line(reader) {
+            Ok(true) => {}
+            Ok(false) => return Ok(file.parser_state.counts),
+            Err(fault) => return Err(fault),
         }
     }
 }
@@ -240,15 +198,13 @@ pub fn read_file<R: Read>(alloc: Global, reader: &mut Counted<R>) -> Result<ObsF
     // A prefix of the input was read.
     ensures left { LeavesRest (R.remaining reader.old.inner) (R.remaining reader.new.inner) }
 {
-    let mut reading = Reading::new(alloc);
-    let mut builder = FileBuilder::new(alloc);
-    match read_lines(reader, &mut reading, &mut builder, true) {
-        Ok(()) => builder
-            .finish(reading.parser_state)
-            .ok_or(ReadFault::Memory),
+    let mut file = EpochReader::new(alloc);
+    let mut epochs = Vec::new(alloc);
+    match read_epochs(alloc, &mut epochs, &mut file, reader) {
+        Ok(summary) => file_of(alloc, file, epochs, summary.counts).ok_or(ReadFault::Memory),
         Err(fault) => {
-            drop(builder);
-            drop(reading.parser_state);
+            drop(file);
+            drop(epochs);
             Err(fault)
         }
     }

@@ -51,17 +51,6 @@ pub(crate) enum Refusal {
     Bad,
 }
 
-/// What an accepted line adds to the epochs of a file.
-#[derive(Clone, Copy)]
-pub(crate) enum AddedRow {
-    /// Nothing: it is a line of the header or of an event, or begins an epoch.
-    NoRow,
-    /// A satellite of the epoch.
-    OneRow,
-    /// The last satellite of the epoch.
-    LastRow,
-}
-
 /// The state of the parser of a file.
 #[derive(Drop)]
 pub(crate) struct ParserState {
@@ -138,7 +127,7 @@ impl ParserState {
     /// Processes the next line; the buffer is for the line as it would be written.
     // Inlined in each of the two loops over lines, 12 instructions a line are saved.
     #[inline(always)]
-    pub(crate) fn take(&mut self, line: &[u8], again: &mut Line) -> Result<AddedRow, Refusal>
+    pub(crate) fn take(&mut self, line: &[u8], again: &mut Line) -> Result<(), Refusal>
         requires history { (h : History) × FollowsHistory self.old h }
         requires room { HasRoom self.old (2 ^ 40) }
         ensures { TakesLine self.old self.new line.now result }
@@ -146,18 +135,18 @@ impl ParserState {
         match self.expected {
             Expected::Header(place) => {
                 self.expected = self.head.take(place, line)?;
-                Ok(AddedRow::NoRow)
+                Ok(())
             }
             // No event precedes the first epoch.
             Expected::Epoch if self.counts.epochs > 0 && is_same(line, event_line()) => {
                 self.expected = Expected::EventPosition;
-                Ok(AddedRow::NoRow)
+                Ok(())
             }
             Expected::Epoch => self.take_epoch(None, line, again),
             Expected::EventPosition => {
                 let position = read_position(line).ok_or(Refusal::Bad)?;
                 self.expected = Expected::EventHeight(position);
-                Ok(AddedRow::NoRow)
+                Ok(())
             }
             Expected::EventHeight(position) => self.take_height(position, line),
             Expected::EventEpoch(values) => self.take_epoch(Some(values), line, again),
@@ -186,7 +175,7 @@ impl ParserState {
         change: Option<StationValues>,
         line: &[u8],
         again: &mut Line,
-    ) -> Result<AddedRow, Refusal>
+    ) -> Result<(), Refusal>
         requires expected { self.old.expected ≡ epoch_after change }
         requires event { change ≡ None → (0 < self.old.counts.epochs) × (line.now ≡ event_line) → ⊥ }
         ensures { TakesLine self.old self.new line.now result }
@@ -198,12 +187,12 @@ impl ParserState {
         self.change = change;
         self.time = time;
         self.expected = Expected::Satellite(satellites);
-        Ok(AddedRow::NoRow)
+        Ok(())
     }
 
     /// Processes the height in an event, after this position. Refuses the line if neither differs
     /// from the current station values.
-    fn take_height(&mut self, position: StationValues, line: &[u8]) -> Result<AddedRow, Refusal>
+    fn take_height(&mut self, position: StationValues, line: &[u8]) -> Result<(), Refusal>
         requires expected { self.old.expected ≡ Expected.EventHeight position }
         ensures { TakesLine self.old self.new line.now result }
     {
@@ -214,11 +203,11 @@ impl ParserState {
             return Err(Refusal::Bad);
         }
         self.expected = Expected::EventEpoch(values);
-        Ok(AddedRow::NoRow)
+        Ok(())
     }
 
     /// Processes the line of a satellite, of which this number is left.
-    fn take_satellite(&mut self, left: usize, line: &[u8]) -> Result<AddedRow, Refusal>
+    fn take_satellite(&mut self, left: usize, line: &[u8]) -> Result<(), Refusal>
         requires history { (h : History) × FollowsHistory self.old h }
         requires room { HasRoom self.old (2 ^ 40) }
         requires expected { self.old.expected ≡ Expected.Satellite left }
@@ -234,7 +223,7 @@ impl ParserState {
         if left > 1 {
             self.rank = rank;
             self.expected = Expected::Satellite(left - 1);
-            return Ok(AddedRow::OneRow);
+            return Ok(());
         }
         self.counts.epochs += 1;
         self.counts.events += self.change.is_some() as u64;
@@ -242,7 +231,7 @@ impl ParserState {
         self.times = Some(with_later(self.times, self.time));
         self.rank = 0;
         self.expected = Expected::Epoch;
-        Ok(AddedRow::LastRow)
+        Ok(())
     }
 
     /// Returns whether the file may end here.

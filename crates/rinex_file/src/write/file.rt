@@ -2,7 +2,7 @@
 ghost use Rattle.std.specs.Prelude.{◌≡◌, ◌++◌, OnOk, IfOk};
 ghost use Rattle.rinex_columns.specs.Numbers.{joined};
 ghost use Rattle.rinex_file.specs.File.{change_lines, file_text};
-ghost use Rattle.rinex_file.specs.inner.Read.Keeping.{HaveRowsRoom, stamped_text};
+ghost use Rattle.rinex_file.specs.inner.Stored.{HaveRowsRoom, stamped_text};
 
 use crate::header::fault::HeadFault;
 use crate::header::head::Head;

@@ -13,7 +13,8 @@ use Rattle.rinex_file.specs.Value.{FileValue, Stamped}
 use Rattle.rinex_file.specs.declared.read.epochs.EpochReader.{EpochReader}
 use Rattle.rinex_file.specs.declared.read.fault.ReadFault.TheVariants as reading
 use Rattle.rinex_file.specs.declared.read.file.Counts.{Counts}
-use Rattle.rinex_file.specs.inner.Read.EpochSteps.{HasReadEpochs, StopsReading, plan_of}
+use Rattle.rinex_file.specs.inner.Read.EpochSteps.{HasReadEpochs, KeepsPlan, plan_of}
+use Rattle.rinex_file.specs.inner.Read.Steps.{StopsReading}
 use Rattle.rinex_inspect.specs.CheckOutput.{check_line}
 use Rattle.rinex_inspect.specs.Faults.{culprit}
 use Rattle.rinex_inspect.specs.Quality.{IsPlanBefore}
@@ -32,12 +33,16 @@ pub record AreTables (every : Option ℕ) (t : Tables) (es : List Stamped) : Typ
   pub current : IsTableOf t.current (in_period every (last_period every es) es)
   pub next : IsBlankTable t.next
 
+-- an epoch at this time, of which no satellite was read
+abbrev pub IsStart : ℕ → Stamped → Type 0
+IsStart time e = (e.time ≡ time) × (e.rows ≡ [])
+
 -- the epoch is whole, and was added to the epochs of a table; or there is a fault
 abbrev pub ReadsRows : (old new : EpochReader) → (t t' : Table) → List Stamped → (time : ℕ)
     → (input left : Option (List ℕ)) → Result ⊤ FileFault → Type 0
 ReadsRows old new t t' es time input left (Ok u) =
     (whole : Stamped) × (whole.time ≡ time) × HasReadEpochs new (es ++ whole ∷ []) input left
-    × IfSome input (AreFirstEpochs (es ++ whole ∷ []) new.reading.count) × (old.reading.count ≤ new.reading.count)
+    × IfSome input (AreFirstEpochs (es ++ whole ∷ []) new.count) × (old.count ≤ new.count)
     × (plan_of new ≡ plan_of old)
     × ((xs : List Stamped) → length xs ≤ length es → IsTableOf t xs → IsTableOf t' (xs ++ whole ∷ []))
 ReadsRows old new t t' es time input left (Err (faults.File e)) = StopsReading es input left e
@@ -53,19 +58,15 @@ abbrev pub RatesEpoch : {R W : Type 0} → Option ℕ → (old new : EpochReader
     → (time : ℕ) → (input : Option (List ℕ)) → Result ⊤ FileFault → (d d' : Devices R W) → Type 0
 RatesEpoch every old new t' es time input (Ok u) d d' =
     (whole : Stamped) × (whole.time ≡ time) × HasReadEpochs new (es ++ whole ∷ []) input d'.reader.unread
-    × (old.reading.count ≤ new.reading.count) × (plan_of new ≡ plan_of old) × AreTables every t' (es ++ whole ∷ [])
+    × (old.count ≤ new.count) × (plan_of new ≡ plan_of old) × AreTables every t' (es ++ whole ∷ [])
     × ((text : List ℕ) × IsPrintedAfter every (plan_of new) es whole text × PrintsText text d.writer d'.writer)
 RatesEpoch every old new t' es time input (Err (faults.File e)) d d' =
     StopsReading es input d'.reader.unread e × (d'.writer ≡ d.writer)
 RatesEpoch every old new t' es time input (Err (faults.OtherDay k)) d d' = ⊥
 RatesEpoch every old new t' es time input (Err faults.Write) d d' =
     (whole : Stamped) × HasReadEpochs new (es ++ whole ∷ []) input d'.reader.unread
-    × IfSome input (AreFirstEpochs (es ++ whole ∷ []) new.reading.count) × (plan_of new ≡ plan_of old)
+    × IfSome input (AreFirstEpochs (es ++ whole ∷ []) new.count) × (plan_of new ≡ plan_of old)
     × ((text : List ℕ) × IsPrintedAfter every (plan_of new) es whole text × PrintsPart text d.writer d'.writer)
-
--- the plan isn't read again after an epoch
-abbrev pub HasSamePlan : (old new : EpochReader) → List Stamped → Type 0
-HasSamePlan old new es = es ≢ [] → plan_of new ≡ plan_of old
 
 -- the file has these epochs, these counts and this plan
 abbrev pub IsRated : List Stamped → Counts → PlanValue → FileValue → Type 0
@@ -77,17 +78,17 @@ abbrev pub RatesNext : {R W : Type 0} → Option ℕ → (old new : EpochReader)
     → (input : Option (List ℕ)) → Result (Option Counts) FileFault → (d d' : Devices R W) → Type 0
 RatesNext every old new t t' es input (Ok None) d d' =
     (whole : Stamped) × HasReadEpochs new (es ++ whole ∷ []) input d'.reader.unread
-    × (old.reading.count < new.reading.count) × HasSamePlan old new es × AreTables every t' (es ++ whole ∷ [])
+    × (old.count < new.count) × KeepsPlan old new es × AreTables every t' (es ++ whole ∷ [])
     × ((text : List ℕ) × IsPrintedAfter every (plan_of new) es whole text × PrintsText text d.writer d'.writer)
 RatesNext every old new t t' es input (Ok (Some n)) d d' =
     IsTextWith (IsRated es n (plan_of new)) input × IfTextOfFile input (IsRated es n (plan_of new))
-    × HasSamePlan old new es × (t' ≡ t) × (d'.writer ≡ d.writer)
+    × KeepsPlan old new es × (t' ≡ t) × (d'.writer ≡ d.writer)
 RatesNext every old new t t' es input (Err (faults.File e)) d d' =
     StopsReading es input d'.reader.unread e × (d'.writer ≡ d.writer)
 RatesNext every old new t t' es input (Err (faults.OtherDay k)) d d' = ⊥
 RatesNext every old new t t' es input (Err faults.Write) d d' =
     (whole : Stamped) × HasReadEpochs new (es ++ whole ∷ []) input d'.reader.unread
-    × IfSome input (AreFirstEpochs (es ++ whole ∷ []) new.reading.count) × HasSamePlan old new es
+    × IfSome input (AreFirstEpochs (es ++ whole ∷ []) new.count) × KeepsPlan old new es
     × ((text : List ℕ) × IsPrintedAfter every (plan_of new) es whole text × PrintsPart text d.writer d'.writer)
 
 -- each file value with this text has this plan, if the input has one of these epochs

@@ -37,7 +37,7 @@ returns-in_err-print_gap-in-Ok-Epoch-clause-gaps g c =
     let d2 = both c.next_inside.new.reader c.print_gap.new.writer in
     passed c.from_residual.result _ (λ r. ReadsGaps r c.args.complete.now d d2) c.from_residual.ensures.1
     (subst (λ (f : FileFault). ReadsGaps (Err f) c.args.complete.now d d2) (sym write)
-    (es ++ e ∷ [], c.next_inside.new.file.reading.count, asked, first, part, c.in-Ok-Epoch.ensures.failed ∙ inv.same))
+    (es ++ e ∷ [], c.next_inside.new.file.count, asked, first, part, c.in-Ok-Epoch.ensures.failed ∙ inv.same))
 
 pub returns-in_err-print_gap-in-Ok-Epoch-clause-left : goal.returns-in_err-print_gap-in-Ok-Epoch-clause-left
 returns-in_err-print_gap-in-Ok-Epoch-clause-left g c = leaves_more _ _ _ c.loop-before.invariant.left c.in-Ok-Epoch.ensures.left

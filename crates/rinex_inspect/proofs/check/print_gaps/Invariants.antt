@@ -15,4 +15,4 @@ invariant-loop-before g l =
     }
 
 abbrev pub decreases-loop-before : goal.decreases-loop-before
-decreases-loop-before g l = most_lines + 1 - l.file.reading.count
+decreases-loop-before g l = most_lines + 1 - l.file.count

@@ -14,4 +14,4 @@ invariant-loop-counts g l =
     }
 
 abbrev pub decreases-loop-counts : goal.decreases-loop-counts
-decreases-loop-counts g l = most_lines + 1 - l.file.reading.count
+decreases-loop-counts g l = most_lines + 1 - l.file.count

@@ -8,7 +8,7 @@ invariant-loop-table g l =
     record {
       read : (es : List Stamped) (e : Stamped) (input : Option (List ℕ)) → IsStart l.fn.time e → HasReadRows l.fn.file es e input (remaining l.fn.reader.inner)
           → (more : Stamped) × (more.time ≡ l.fn.time) × HasReadRows l.file es more input (remaining l.reader.inner)
-          × (l.fn.file.reading.count ≤ l.file.reading.count) × (plan_of l.file ≡ plan_of l.fn.file)
+          × (l.fn.file.count ≤ l.file.count) × (plan_of l.file ≡ plan_of l.fn.file)
           × ((xs : List Stamped) → length xs ≤ length es → IsTableOf l.fn.table xs → IsTableOf l.table (xs ++ more ∷ []));
       some : (es : List Stamped) × (e : Stamped) × (input : Option (List ℕ)) × (xs : List Stamped) × IsStart l.fn.time e × HasReadRows l.fn.file es e input (remaining l.fn.reader.inner)
           × IsTableOf l.fn.table xs × (length xs ≤ length es);
@@ -17,4 +17,4 @@ invariant-loop-table g l =
     }
 
 abbrev pub decreases-loop-table : goal.decreases-loop-table
-decreases-loop-table g l = most_lines + 1 - l.file.reading.count
+decreases-loop-table g l = most_lines + 1 - l.file.count

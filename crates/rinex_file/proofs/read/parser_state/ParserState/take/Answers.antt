@@ -1,7 +1,7 @@
 use Rattle.rinex_file.proofs.Reading.Epochs.{bad_of, goes_on, passed, stopped}
 use Rattle.rinex_file.proofs.Reading.Events.{event_taken, event_shows, sound_event, position_taken, position_shows, no_position, sound_position}
 use Rattle.rinex_file.proofs.Reading.Header.{no_header, header_taken, header_shows, header_ended, ended_shows, sound_start, sound_header}
-use Rattle.rinex_file.proofs.Names.{arith, common_steps, MayRunOut, IsPosition, Option, ReadsExactly, StationValues, position_line, ◌≡◌, ◌<◌, ℕ, List, subst, sym, ◌∙◌, Err, ParserState, NoRow, Expected, Header, Epoch, EventPosition, EventHeight, Refusal, History, FollowsHistory, IsNext, progress_at, Known, StepsTo, TakesHeaderLine, ExpectsRow, ExpectsHeader, refl}
+use Rattle.rinex_file.proofs.Names.{arith, common_steps, MayRunOut, IsPosition, Option, ReadsExactly, StationValues, position_line, ◌≡◌, ◌<◌, ℕ, List, subst, sym, ◌∙◌, Err, ParserState, Expected, Header, Epoch, EventPosition, EventHeight, Refusal, History, FollowsHistory, IsNext, progress_at, Known, StepsTo, TakesHeaderLine, ExpectsRow, ExpectsHeader, refl}
 use Rattle.rinex_file.proofs.read.parser_state.ParserState.take.Goals as goal
 
 pub returns-in_err-self-in-Header : goal.returns-in_err-self-in-Header
@@ -15,7 +15,7 @@ at_head c k expected = record c { expected = expected; head = k }
 
 -- the header continues, or it ends
 headed : {c : ParserState} {h : History} {place : ℕ} {line : List ℕ} (k : Known) (next : Expected) → c.expected ≡ Header place → FollowsHistory c h → StepsTo c.head place line k next
-    → IsNext c (at_head c k next) NoRow line h
+    → (after : History) × IsNext c (at_head c k next) line h after
 headed {c} {h} {place} {line} k (Header next) expected history goes =
     let s = progress_at c h in
     let (epochs, rows, here) = sound_header s place expected history.sound in

@@ -1,7 +1,7 @@
 use Rattle.rinex_file.proofs.Judged.{refused}
 use Rattle.rinex_file.proofs.Reading.Epochs.{bad_of, goes_on, stopped}
 use Rattle.rinex_file.proofs.Reading.Events.{height_taken, height_shows, no_height, same_height, sound_height}
-use Rattle.rinex_file.proofs.Names.{◌≡◌, ◌∙◌, ◌<◌, ◌^◌, ReadsExactly, height_line, sym, ap, subst, refl, ℕ, List, Option, unwrap_or, StationValues, changed_by, ParserState, NoRow, Expected, EventEpoch, History, IsNext, ExpectsRow, progress_at, common_steps, arith}
+use Rattle.rinex_file.proofs.Names.{◌≡◌, ◌∙◌, ◌<◌, ◌^◌, ReadsExactly, height_line, sym, ap, subst, refl, ℕ, List, Option, unwrap_or, StationValues, changed_by, ParserState, Expected, EventEpoch, History, IsNext, ExpectsRow, progress_at, common_steps, arith}
 use Rattle.rinex_file.proofs.read.parser_state.ParserState.take_height.Goals as goal
 
 -- the current station values, by those that changed last
@@ -11,8 +11,8 @@ current k s result same is = is ∙ grind (arith, common_steps) ∙ ap (λ (t : 
 abbrev then : ParserState → Expected → ParserState
 then k expected = record k { expected = expected }
 
-next_of : (k s : ParserState) (expected : Expected) (line : List ℕ) (h : History) → k ≡ s → IsNext s (then s expected) NoRow line h → IsNext s (then k expected) NoRow line h
-next_of k s expected line h same is = subst (λ (t : ParserState). IsNext s (then t expected) NoRow line h) (sym same) is
+next_of : (k s : ParserState) (expected : Expected) (line : List ℕ) (h : History) → k ≡ s → (after : History) × IsNext s (then s expected) line h after → (after : History) × IsNext s (then k expected) line h after
+next_of k s expected line h same is = subst (λ (t : ParserState). (after : History) × IsNext s (then t expected) line h after) (sym same) is
 
 -- what is read of the line
 abbrev Reads : List ℕ → Option ℕ → Type 0

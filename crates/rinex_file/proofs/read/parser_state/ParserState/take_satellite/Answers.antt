@@ -2,7 +2,7 @@
 -- with the last one expected, the epoch is complete, and its counts, times and station values go on.
 use Rattle.rinex_file.proofs.Reading.Epochs.{bad_of, stopped, rise_after, rise_last, values_more, row_taken, row_shows, last_shows, no_row, bad_row, last_taken, sound_open, few_at, sound_row, sound_closed}
 use Rattle.rinex_file.proofs.FewRows.{some_rank}
-use Rattle.rinex_file.proofs.Names.{is_some, open_epochs, arith, ◌≡◌, ◌∙◌, ◌+◌, ◌-◌, ◌<◌, ◌∷◌, ◌++◌, [], ℕ, suc, List, sym, ap, subst, refl, length, length-append, Bool, Option, Some, None, IfSome, map, ◌↔◌, IsStrictlyIncreasing, map-append, sum_by-append, System, Satellite, SatelliteRow, Stamped, StationValues, IsSatelliteRow, changed_by, rank_of, time_stamped, satellite_line, Progress, ReadsExactly, some_if, EpochTimes, AreTimes, AreTimesOrNone, IsLast, changes_of, stamped_at, progress_at, rows_in, ExpectsRow}
+use Rattle.rinex_file.proofs.Names.{is_some, open_epochs, arith, ◌≡◌, ◌∙◌, ◌+◌, ◌-◌, ◌<◌, ◌∷◌, ◌++◌, [], ℕ, suc, List, sym, ap, subst, length, length-append, Bool, Option, Some, None, IfSome, map, ◌↔◌, IsStrictlyIncreasing, map-append, sum_by-append, System, Satellite, SatelliteRow, Stamped, StationValues, IsSatelliteRow, changed_by, rank_of, time_stamped, satellite_line, Progress, ReadsExactly, some_if, EpochTimes, AreTimes, AreTimesOrNone, IsLast, changes_of, stamped_at, progress_at, rows_in, common_steps, with_satellite, with_whole_epoch}
 use mir.Val.{bool_byte}
 use Rattle.rinex_file.proofs.read.parser_state.ParserState.take_satellite.Goals as goal
 
@@ -73,26 +73,28 @@ returns-then-left-gt1 c = λ h history.
     let (read, begun, some, room) = sound_open s c.args.left c.requires.expected history.sound in
     let shown = shows c.args.line.now _ c.planned_signals-planned.ensures (ap is_some c.in_ok-ok_or.ensures.ok_part) c.read_row.ensures in
     let rise = (increasing h.rows _ history.counted.rank shown.0 c.rank_of-rank.ensures).0 c.if-rank-self.false in
-    let more : 0 < c.args.left - 1 = let n = c.if-left-gt1.true in omega (arith, n) in
-    record {
-      history = record {
-        sound = sound_row s (c.args.left - 1) c.requires.expected history.sound shown.0 rise more (omega (arith, some));
-        counted =
-            let old = history.counted in
-            record {
-              times = old.times;
-              rank = last_rank h.rows _ c.rank_of-rank.result c.rank_of-rank.ensures rise;
-              values = old.values;
-              epochs = old.epochs;
-              satellites = row_counted h.epochs h.rows _ c.args.self.now.counts.satellites old.satellites;
-              events = old.events;
-            };
-      };
-      follows = row_taken s (c.args.left - 1) c.args.line.now (one_expected c.args.left s c.requires.expected some) _ shown.1 shown.2;
-      shows = row_shows s (c.args.left - 1) c.args.line.now (one_expected c.args.left s c.requires.expected some) _ shown.1;
-      room = λ n few. let begun = ap open_epochs c.requires.expected in (omega (arith, begun, few.0), omega (arith, few.1));
-      adds = (subst ExpectsRow (sym c.requires.expected) tt, tt, (refl, refl, refl));
-    }
+    let more : 0 < c.args.left - 1 = let n = c.if-left-gt1.true in omega (arith, n) in (
+      with_satellite h c.read_row.new.row,
+      record {
+        history = record {
+          sound = sound_row s (c.args.left - 1) c.requires.expected history.sound shown.0 rise more (omega (arith, some));
+          counted =
+              let old = history.counted in
+              record {
+                times = old.times;
+                rank = last_rank h.rows _ c.rank_of-rank.result c.rank_of-rank.ensures rise;
+                values = old.values;
+                epochs = old.epochs;
+                satellites = row_counted h.epochs h.rows _ c.args.self.now.counts.satellites old.satellites;
+                events = old.events;
+              };
+        };
+        follows = row_taken s (c.args.left - 1) c.args.line.now (one_expected c.args.left s c.requires.expected some) _ shown.1 shown.2;
+        shows = row_shows s (c.args.left - 1) c.args.line.now (one_expected c.args.left s c.requires.expected some) _ shown.1;
+        room = λ n few. let begun = ap open_epochs c.requires.expected in (omega (arith, begun, few.0), omega (arith, few.1));
+        adds = grind (arith, common_steps, c.requires.expected);
+      },
+    )
 
 changed : (o : Option StationValues) (b : Bool) → b ≡ is_some o → bool_byte b ≡ changes_of o
 changed o b is = grind arith
@@ -104,23 +106,25 @@ returns c = λ h history.
     let shown = shows c.args.line.now seen c.planned_signals-planned.ensures (ap is_some c.in_ok-ok_or.ensures.ok_part) c.read_row.ensures in
     let rise = (increasing h.rows _ history.counted.rank shown.0 c.rank_of-rank.ensures).0 c.if-rank-self.false in
     let last : c.args.left ≡ suc 0 = let n = c.if-left-gt1.false in omega (arith, n, some) in
-    let epoch = stamped_at c.args.self.now.change c.args.self.now.time (h.rows ++ seen ∷ []) in
-    record {
-      history = record {
-        sound = sound_closed _ 0 c.requires.expected history.sound shown.0 rise;
-        counted =
-            let old = history.counted in
-            record {
-              times = subst (λ (ts : List ℕ). AreTimes ts c.with_later.result) (sym (map-append time_stamped h.epochs (epoch ∷ []))) (c.with_later.ensures _ old.times);
-              rank = λ n some. (λ less k room. absurd (omega (arith, room)), λ rise. some);
-              values = λ v. (grind (arith, c.or-self.ensures)) ∙ ap (λ (w : StationValues). changed_by w c.args.self.now.change) (old.values v) ∙ sym (values_more v h.epochs epoch);
-              epochs = one_longer h.epochs epoch c.args.self.now.counts.epochs old.epochs;
-              satellites = grind (arith, length-append, sum_by-append, old.satellites);
-              events = grind (arith, sum_by-append, changed c.args.self.now.change c.is_some.result c.is_some.ensures, old.events);
-            };
-      };
-      follows = last_taken _ c.args.line.now (c.requires.expected ∙ ap Satellite last) seen shown.1 shown.2;
-      shows = last_shows _ c.args.line.now (c.requires.expected ∙ ap Satellite last) seen shown.1;
-      room = λ n few. let begun = ap open_epochs c.requires.expected in (omega (arith, begun, few.0), grind (arith, few.1));
-      adds = (subst ExpectsRow (sym c.requires.expected) tt, refl, (refl, refl, refl));
-    }
+    let epoch = stamped_at c.args.self.now.change c.args.self.now.time (h.rows ++ seen ∷ []) in (
+      with_whole_epoch (with_satellite h seen) c.args.self.now.change c.args.self.now.time,
+      record {
+        history = record {
+          sound = sound_closed _ 0 c.requires.expected history.sound shown.0 rise;
+          counted =
+              let old = history.counted in
+              record {
+                times = subst (λ (ts : List ℕ). AreTimes ts c.with_later.result) (sym (map-append time_stamped h.epochs (epoch ∷ []))) (c.with_later.ensures _ old.times);
+                rank = λ n some. (λ less k room. absurd (omega (arith, room)), λ rise. some);
+                values = λ v. (grind (arith, c.or-self.ensures)) ∙ ap (λ (w : StationValues). changed_by w c.args.self.now.change) (old.values v) ∙ sym (values_more v h.epochs epoch);
+                epochs = one_longer h.epochs epoch c.args.self.now.counts.epochs old.epochs;
+                satellites = grind (arith, length-append, sum_by-append, old.satellites);
+                events = grind (arith, sum_by-append, changed c.args.self.now.change c.is_some.result c.is_some.ensures, old.events);
+              };
+        };
+        follows = last_taken _ c.args.line.now (c.requires.expected ∙ ap Satellite last) seen shown.1 shown.2;
+        shows = last_shows _ c.args.line.now (c.requires.expected ∙ ap Satellite last) seen shown.1;
+        room = λ n few. let begun = ap open_epochs c.requires.expected in (omega (arith, begun, few.0), grind (arith, few.1));
+        adds = grind (arith, common_steps, c.requires.expected);
+      },
+    )

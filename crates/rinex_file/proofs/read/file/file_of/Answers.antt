@@ -2,7 +2,7 @@ use Rattle.std.specs.Borrow.{Bor}
 use Rattle.gnss_system.specs.declared.by_system.BySystem.{BySystem}
 use Rattle.rinex_file.specs.declared.read.types.TypesSoFar.{TypesSoFar}
 use Rattle.rinex_file.proofs.Names.{map_by, value_of, tabulated_same, value_mapped, Glonass, with_channels, plan_with, arith, common_steps, rules, ◌≡◌, ◌∙◌, [], ap, indices, no_channels, planned_of, subst, sym, ChannelsValue, Known, List, PlanValue, SignalAt, System, ℕ}
-use Rattle.rinex_file.proofs.read.file.FileBuilder.finish.Goals as goal
+use Rattle.rinex_file.proofs.read.file.file_of.Goals as goal
 
 abbrev made : BySystem (List ℕ) → ChannelsValue → PlanValue
 made signals channels = record { signals = signals; channels = channels }

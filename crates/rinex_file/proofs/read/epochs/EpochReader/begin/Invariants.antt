@@ -1,0 +1,18 @@
+use Rattle.rinex_file.proofs.Names.{◌≡◌, ◌-◌, ◌+◌, ◌≤◌, [], List, ℕ, Option, LeavesRest, HasReadEpochs, Stamped, most_lines}
+use Rattle.rinex_file.proofs.read.epochs.EpochReader.begin.Given as goal
+
+-- the epochs that were read before
+abbrev pub invariant-loop-state : goal.invariant-loop-state
+invariant-loop-state g l =
+    let remaining = g.R.Read.remaining in
+    record {
+      read : (es : List Stamped) (input : Option (List ℕ)) → HasReadEpochs l.fn.self es input (remaining l.fn.reader.inner)
+          → HasReadEpochs l.self es input (remaining l.reader.inner) × (l.fn.self.count ≤ l.self.count)
+          × ((es ≡ [] → ⊥) → l.self.parser_state.head ≡ l.fn.self.parser_state.head);
+      some : (es : List Stamped) × (input : Option (List ℕ)) × HasReadEpochs l.fn.self es input (remaining l.fn.reader.inner);
+      left : LeavesRest (remaining l.fn.reader.inner) (remaining l.reader.inner);
+      same : l.reader.failures ≡ l.fn.reader.failures;
+    }
+
+abbrev pub decreases-loop-state : goal.decreases-loop-state
+decreases-loop-state g l = most_lines + 1 - l.self.count

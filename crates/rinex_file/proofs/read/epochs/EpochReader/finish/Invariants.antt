@@ -1,0 +1,18 @@
+use Rattle.rinex_file.proofs.Names.{◌≡◌, ◌-◌, ◌+◌, ◌≤◌, List, ℕ, Option, LeavesRest, HasReadRows, Stamped, most_lines, plan_of}
+use Rattle.rinex_file.proofs.read.epochs.EpochReader.finish.Given as goal
+
+-- satellites of the epoch that was begun
+abbrev pub invariant-loop-fault : goal.invariant-loop-fault
+invariant-loop-fault g l =
+    let remaining = g.R.Read.remaining in
+    record {
+      read : (es : List Stamped) (e : Stamped) (input : Option (List ℕ)) → HasReadRows l.fn.self es e input (remaining l.fn.reader.inner)
+          → (more : Stamped) × (more.time ≡ e.time) × HasReadRows l.self es more input (remaining l.reader.inner)
+          × (l.fn.self.count ≤ l.self.count) × (plan_of l.self ≡ plan_of l.fn.self);
+      some : (es : List Stamped) × (e : Stamped) × (input : Option (List ℕ)) × HasReadRows l.fn.self es e input (remaining l.fn.reader.inner);
+      left : LeavesRest (remaining l.fn.reader.inner) (remaining l.reader.inner);
+      same : l.reader.failures ≡ l.fn.reader.failures;
+    }
+
+abbrev pub decreases-loop-fault : goal.decreases-loop-fault
+decreases-loop-fault g l = most_lines + 1 - l.self.count

@@ -1,0 +1,15 @@
+use Rattle.rinex_file.proofs.Names.{◌≡◌, ◌-◌, ◌+◌, LeavesRest, HasReadEpochs, most_lines}
+use Rattle.rinex_file.proofs.read.file.read_epochs.Given as goal
+
+-- the epochs that were read are stored
+abbrev pub invariant-loop-summary : goal.invariant-loop-summary
+invariant-loop-summary g l =
+    let remaining = g.R.Read.remaining in
+    record {
+      read : HasReadEpochs l.file l.epochs.items (remaining l.fn.reader.inner) (remaining l.reader.inner);
+      left : LeavesRest (remaining l.fn.reader.inner) (remaining l.reader.inner);
+      same : l.reader.failures ≡ l.fn.reader.failures;
+    }
+
+abbrev pub decreases-loop-summary : goal.decreases-loop-summary
+decreases-loop-summary g l = most_lines + 1 - l.file.count
