@@ -71,7 +71,8 @@ file_found {n = n} {o} d d2 e read same found h = grind (arith, common_steps, en
 -- an option of a command is refused, and nothing is read or written
 pub option_refused : {R W E : Type 0} {rows : Option (Text × List Row)} {n : Text} {o : List Row} {fault known : CommandFault} (d : Devices R W) (e : Writer E) (ended : Result ⊤ CommandFault) → IsErrAnd ended (λ y. y ≡ fault) → rows ≡ Some (n, o)
     → fault ≡ known → HaveFailedBy (culprit known) d d → HasStopped n o d d fault → EndsFound ended rows e e d d
-option_refused {n = n} {o} {fault} d e ended is found same none stopped = grind (arith, common_steps, passed)
+option_refused {n = n} {o} {fault} d e ended is found same none stopped =
+    (n, o, found, passed ended fault (λ r. EndsCommand r n o e e d d) is (subst (λ (f : CommandFault). HaveFailedBy (culprit f) d d) (sym same) none, (stopped, refl)))
 
 -- a command that was found twice is the same
 asked : {found : Option (Text × List Row)} {n n2 : Text} {o o2 : List Row} (words : List Text) → found ≡ Some (n, o) → found ≡ Some (n2, o2) → SelectsCommand words n o → SelectsCommand words n2 o2

@@ -29,8 +29,8 @@ pub use Rattle.gnss_system.specs.declared.system.System.{System}
 pub use Rattle.gnss_system.specs.declared.system.System.TheVariants.{Beidou, Galileo, Glonass, Gps, Qzss, Sbas}
 pub use Rattle.line_texts.proofs.LineLaws.{add_count, add_text, add_word, end_line}
 pub use Rattle.line_texts.specs.ChannelTexts.{channels_of, channels_text}
-pub use Rattle.line_texts.specs.Dates.{IsHourOf, IsWeekOf}
-pub use Rattle.line_texts.specs.Lengths.{epoch_interval_of, interval_of, length_below, position_of}
+pub use Rattle.line_texts.specs.Dates.{IsHourOf, IsTimeOf, IsWeekOf}
+pub use Rattle.line_texts.specs.Lengths.{length_below, position_of}
 pub use Rattle.obs_epoch.specs.NearWeek.{IsWeekNear}
 pub use Rattle.obs_epoch.specs.Sets.{is_always_decoded, is_decoded, set_of}
 pub use Rattle.obs_epoch.specs.Starts.{IsNearestFirst, first_week, is_no_week}
@@ -39,14 +39,14 @@ pub use Rattle.obs_epoch.specs.declared.week.Start.TheVariants.{Near, Week}
 pub use Rattle.rinex_inspect.specs.declared.fault.FileFault.{FileFault}
 pub use Rattle.rtcm_bits.proofs.SmallLaws.{passed, wrapped}
 pub use Rattle.rtcm_command.specs.Commands.{AreRefused, AreRefusedBy, EndsCommand, EndsFound, EndsInspection, EndsOnFile, HasCommand, HasCompleted, HasDone, HasStopped, HasStoppedEarly, StopsPrinting, refusal_line}
-pub use Rattle.rtcm_command.specs.CompleteOptions.{IsCompleteBy, IsCompleteSet, IsTimeGiven, IsWindowOf, complete_with, is_given, lacks_one, window_with}
+pub use Rattle.rtcm_command.specs.CompleteOptions.{IsCompleteBy, IsCompleteSet, IsWindowOf, complete_with, is_given, lacks_one, window_with}
 pub use Rattle.rtcm_command.specs.Converting.{EndsConverting, StopsConversion}
 pub use Rattle.rtcm_command.specs.Devices.{culprit, of_file, of_inspection}
 pub use Rattle.rtcm_command.specs.PrintedPlan.{ArePrintedWords, HaveValues, IsDatedAsPrinted, IsDatedAsSent, IsDatedIn, IsStartedAsFound, StartsAsFound, after_prefix, default_of, given, has_equals, leap_option, printed_words}
 unfoldable pub use Rattle.rtcm_command.specs.Reports.{report_line}
 pub use Rattle.rtcm_command.specs.Reports.{channel_count, counts_named}
 unfoldable pub use Rattle.rtcm_command.specs.SetupOptions.{plan_set}
-pub use Rattle.rtcm_command.specs.SetupOptions.{HasSetupFault, IsChoiceSet, IsFromSet, IsNoonOf, IsNumberOf, IsNumberOr, IsPlanSet, IsRefusedAfterChannels, IsRefusedAfterStart, IsSetupRefused, IsSourceRefused, IsStartFault, IsStartOf, IsStartSet, IsTimeIn, IsUntilSet, channels_by, channels_set, choice_by, gaps_set, interval_by, interval_in, options_of, period_length_of, text_set, usual_leap, values_by, values_in, values_set, window_by}
+pub use Rattle.rtcm_command.specs.SetupOptions.{HasSetupFault, IsChoiceSet, IsFromSet, IsGapsSet, IsGiven, IsIntervalSet, IsNumberOf, IsNumberOr, IsPlanSet, IsRefusedAfterChannels, IsRefusedAfterStart, IsSetupRefused, IsSourceRefused, IsStartFault, IsStartOf, IsStartSet, IsTimeBy, IsUntilSet, channels_by, channels_set, choice_by, options_of, text_set, tolerance_set, usual_leap, values_by, values_in, values_set, window_by}
 pub use Rattle.rtcm_convert.specs.Faults.{IsOfNone, IsSentAfter, IsSetupFault}
 pub use Rattle.rtcm_convert.specs.Made.{IsMadeEmpty, IsMadeInPart, IsMadeSoFar, IsMadeToLimit}
 pub use Rattle.rtcm_convert.specs.SetupValues.{IsBad, setup_value}

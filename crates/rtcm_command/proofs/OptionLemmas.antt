@@ -1,5 +1,5 @@
 -- The values of options.
-use Rattle.rtcm_command.proofs.Names.{arith, common_steps, IsSourceRefused, Culprit, Devices, HaveFailedBy, NoDevice, IsCompleteBy, IsCompleteSet, IsTimeGiven, IsWindowOf, complete_with, is_given, lacks_one, window_with, culprit, gaps_set, is_some, ◌≡◌, ◌∙◌, ℕ, Bool, true, false, ok_or, codes, IsChoiceSet, IsFromSet, IsUntilSet, Row, choice_by, window_by, List, [], Option, Some, None, Result, Ok, Bor, option_map, unwrap_or, refl, sym, ap, subst, ◌↔◌, ParsesUnsigned, ReadsOne, first_value, one_text, first_of, one_of, rows_of, Found, first_value-rows, one_text-rows, IsHourOf, IsNoonOf, IsNumberOf, IsTimeIn, DateOption, CommandFault, interval_by, interval_in, option_and_then, Err, text_set}
+use Rattle.rtcm_command.proofs.Names.{arith, common_steps, IsSourceRefused, Culprit, Devices, HaveFailedBy, NoDevice, IsCompleteBy, IsCompleteSet, IsWindowOf, complete_with, is_given, lacks_one, window_with, culprit, IsGiven, IsGapsSet, is_some, ◌≡◌, ◌∙◌, ℕ, Bool, true, false, ok_or, IsChoiceSet, IsFromSet, IsUntilSet, Row, choice_by, window_by, List, [], Option, Some, None, Result, Ok, Bor, option_map, unwrap_or, refl, sym, ap, subst, ParsesUnsigned, ReadsOne, first_value, one_text, first_of, one_of, rows_of, Found, first_value-rows, one_text-rows, IsIntervalSet, IsNumberOf, IsTimeBy, IsTimeOf, inl, inr, tolerance_set, DateOption, CommandFault, Err, text_set}
 use Rattle.command_faults.specs.declared.fault.DateOption.TheVariants as dated
 use Rattle.rinex_inspect.specs.declared.gaps.Window.{Window}
 use Rattle.command_faults.specs.declared.fault.CommandFault.TheVariants as faults
@@ -24,42 +24,53 @@ pub text_is : (f : Found) (id : List ℕ) (r o : Option (Bor (List ℕ))) → op
     → unwrap_or (option_map (λ s. s.now) o) [] ≡ text_set (rows_of f) id
 text_is f id r o is found = grind (arith, common_steps, unwrap_or, option_map, first_value-rows)
 
--- ---- intervals
+-- ---- options that are read if they are given
 
--- an interval by the first value found of an option, and by the options as clap's definitions list them
-pub interval_given : (fault : CommandFault) (read : List ℕ → Option ℕ) (f : Found) (id : List ℕ) (r o : Option (Bor (List ℕ))) (interval : Option ℕ) → option_map (λ s. s.now) r ≡ first_value f id → r ≡ o → option_and_then read (option_map (λ s. s.now) o) ≡ interval
-    → interval_by fault (option_map (λ s. s.now) o) interval ≡ interval_in fault read (first_of id (rows_of f))
-interval_given fault read f id r o interval is found same = grind (arith, common_steps, option_map, first_value-rows)
-
--- the fault of a text that isn't an interval
-pub bad_interval : {known fault : CommandFault} (text : Option (List ℕ)) (interval : Option ℕ) → interval_by known text interval ≡ Err fault → fault ≡ known
-bad_interval None interval e = cc
-bad_interval (Some text) None e = cc
-bad_interval (Some text) (Some n) e = cc
-
--- ---- dates and times
-
--- noon by the first value found of an option, and by the options as clap's definitions list them
+-- a text by the first value found of an option, and by the options as clap's definitions list them
 pub text_given : (f : Found) (id : List ℕ) (r o : Option (Bor (List ℕ))) → option_map (λ s. s.now) r ≡ first_value f id → r ≡ o → option_map (λ (s : Bor (List ℕ)). s.now) o ≡ first_of id (rows_of f)
 text_given f id r o is found = ap (option_map (λ (s : Bor (List ℕ)). s.now)) (sym found) ∙ is ∙ first_value-rows f id
 
-pub noon_given : (f : Found) (id : List ℕ) (r o : Option (Bor (List ℕ))) (near : Option ℕ) → option_map (λ s. s.now) r ≡ first_value f id → r ≡ o
-    → IsNoonOf (option_map (λ s. s.now) o) near ↔ IsNoonOf (first_of id (rows_of f)) near
-noon_given f id r o near is found = grind (arith, common_steps, text_given)
+-- an option without a text, and with one, by the first value found
+pub none_given : {A : Type 0} (Reads : List ℕ → Option A → Type 0) (fault : CommandFault) (f : Found) (id : List ℕ) (r : Option (Bor (List ℕ))) → option_map (λ s. s.now) r ≡ first_value f id → r ≡ None → IsGiven Reads fault (first_of id (rows_of f)) (Ok None)
+none_given Reads fault f id r is found =
+    let none = text_given f id r None is found in
+    record { none = λ e. refl; some = λ t e. absurd (let bad : ◌≡◌ {A = Option (List ℕ)} None (Some t) = none ∙ e in cc) }
+
+pub some_given : {A : Type 0} (Reads : List ℕ → Option A → Type 0) (fault : CommandFault) (f : Found) (id : List ℕ) (r : Option (Bor (List ℕ))) (text : Bor (List ℕ)) (read : Option A) → option_map (λ s. s.now) r ≡ first_value f id → r ≡ Some text
+    → ((t : List ℕ) → text.now ≡ t → Reads t read) → IsGiven Reads fault (first_of id (rows_of f)) (ok_or (option_map Some read) fault)
+some_given Reads fault f id r text read is found reads =
+    let some = text_given f id r (Some text) is found in
+    record {
+      none = λ e. absurd (let bad : ◌≡◌ {A = Option (List ℕ)} (Some text.now) None = some ∙ e in cc);
+      some = λ t e. (read, reads t (let same : ◌≡◌ {A = Option (List ℕ)} (Some text.now) (Some t) = some ∙ e in cc), refl);
+    }
+
+-- what was read by one relation was read by a weaker one
+pub given_so : {A : Type 0} {Reads Finds : List ℕ → Option A → Type 0} {fault : CommandFault} {text : Option (List ℕ)} {value : Result (Option A) CommandFault} → IsGiven Reads fault text value → ((t : List ℕ) (x : Option A) → Reads t x → Finds t x) → IsGiven Finds fault text value
+given_so h so = record { none = h.none; some = λ t is. (let found = h.some t is in (found.0, so t found.0 found.1, found.2)) }
+
+-- the fault of a text in which nothing was found
+pub bad_text : {A : Type 0} {Reads : List ℕ → Option A → Type 0} {known fault : CommandFault} {text : Option (List ℕ)} → IsGiven Reads known text (Err fault) → fault ≡ known
+bad_text {A = A} {Reads} {known} {fault} {text} h = by text refl where
+  of : (read : Option A) → ◌≡◌ {A = Result (Option A) CommandFault} (Err fault) (ok_or (option_map Some read) known) → fault ≡ known
+  of None e = cc
+  of (Some x) e = cc
+
+  by : (t : Option (List ℕ)) → text ≡ t → fault ≡ known
+  by None is = let bad : ◌≡◌ {A = Result (Option A) CommandFault} (Err fault) (Ok None) = h.none is in cc
+  by (Some t) is = let found = h.some t is in of found.0 found.2
+
+-- ---- dates and times
 
 -- of two options, by the first values found and by the options as clap's definitions list them
 pub both_given : (P : (a b : Option (List ℕ)) → Type 0) (f : Found) (id other : List ℕ) (r o q p : Option (Bor (List ℕ))) → option_map (λ s. s.now) r ≡ first_value f id → r ≡ o
     → option_map (λ s. s.now) q ≡ first_value f other → q ≡ p → P (option_map (λ s. s.now) o) (option_map (λ s. s.now) p) → P (first_of id (rows_of f)) (first_of other (rows_of f))
 both_given P f id other r o q p is found are had h = grind (arith, common_steps, option_map, first_value-rows)
 
--- a text of which noon isn't known
-pub no_noon : (text : List ℕ) → ((t : ℕ) → IsHourOf 12 text t → ⊥) → (near : Option ℕ) → IsNoonOf (Some text) near → ⊥
-no_noon text none None h = h
-no_noon text none (Some t) h = none t h
-
 -- what holds of both faults of the source of a week
 pub source_fault : (P : CommandFault → Type 0) (options : List Row) (fault : CommandFault) → P faults.OneOf → P (faults.BadDate dated.Near) → IsSourceRefused options fault → P fault
-source_fault P options fault one date h = grind (arith, common_steps)
+source_fault P options fault one date (inl (week, near, is)) = subst P (sym is) one
+source_fault P options fault one date (inr (week, near)) = subst P (sym (bad_text near)) date
 
 -- ---- the fault of the choice of epochs
 
@@ -68,10 +79,10 @@ bad_tolerance tolerance e = grind (arith, common_steps)
 
 -- what holds of the faults of its options holds of its fault
 module _ (P : CommandFault → Type 0) (each_time : (option : DateOption) → P (faults.BadDate option)) (each_window : P faults.BadWindow) (each_interval : P faults.BadInterval) (each_tolerance : P faults.BadTolerance) where
-  bad_time : (option : DateOption) (otherwise : ℕ) (text : Option (List ℕ)) (e : CommandFault) → IsTimeIn option otherwise text (Err e) → P e
-  bad_time option otherwise text e h = grind (arith, common_steps)
+  bad_time : (option : DateOption) (text : Option (List ℕ)) (e : CommandFault) → IsGiven (IsTimeBy IsTimeOf) (faults.BadDate option) text (Err e) → P e
+  bad_time option text e h = subst P (sym (bad_text h)) (each_time option)
 
-  bad_window : (options : List Row) (from until : Result ℕ CommandFault) (fault : CommandFault) → IsFromSet options from → IsUntilSet options until → window_by from until ≡ Err fault → P fault
+  bad_window : (options : List Row) (from until : Result (Option ℕ) CommandFault) (fault : CommandFault) → IsFromSet options from → IsUntilSet options until → window_by from until ≡ Err fault → P fault
   bad_window options from until fault f u h = grind (arith, common_steps, bad_time)
 
   bad_grid : (window : Result (ℕ × ℕ) CommandFault) (interval : Result (Option ℕ) CommandFault) (tolerance : Option ℕ → Result ℕ CommandFault) (fault : CommandFault) → (window ≡ Err fault → P fault) → (interval ≡ Err fault → fault ≡ faults.BadInterval) → ((i : Option ℕ) → tolerance i ≡ Err fault → fault ≡ faults.BadTolerance)
@@ -79,7 +90,9 @@ module _ (P : CommandFault → Type 0) (each_time : (option : DateOption) → P 
   bad_grid window interval tolerance fault w i v h = grind (arith, common_steps)
 
   pub bad_choice : (options : List Row) (fault : CommandFault) → IsChoiceSet options (Err fault) → P fault
-  bad_choice options fault h = grind (arith, common_steps, bad_grid, bad_window, bad_interval, bad_tolerance)
+  bad_choice options fault (window, interval, (from, until, f, u, w), i, is) =
+      bad_grid window interval (tolerance_set options) fault (λ e. bad_window options from until fault f u (sym w ∙ e))
+      (λ e. bad_text (subst (λ (r : Result (Option ℕ) CommandFault). IsIntervalSet options r) e i)) (λ n t. bad_tolerance _ t) (sym is)
 
 -- ---- what makes a file complete
 
@@ -89,39 +102,24 @@ given_some f r = grind (arith, common_steps)
 pub is_given_by : (f : Found) (id : List ℕ) (r : Option (Bor (List ℕ))) → option_map (λ s. s.now) r ≡ first_value f id → is_some r ≡ is_given id (rows_of f)
 is_given_by f id r is = sym (given_some (λ (s : Bor (List ℕ)). s.now) r) ∙ ap (λ (o : Option (List ℕ)). is_some o) (is ∙ first_value-rows f id)
 
--- a time by the first value found of an option, and by the options as clap's definitions list them
-pub moment_given : (option : DateOption) (f : Found) (id : List ℕ) (r o : Option (Bor (List ℕ))) (time : Result (Option ℕ) CommandFault) → option_map (λ s. s.now) r ≡ first_value f id → r ≡ o → IsTimeGiven option (option_map (λ s. s.now) o) time
-    → IsTimeGiven option (first_of id (rows_of f)) time
-moment_given option f id r o time is found h = grind (arith, common_steps, option_map, first_value-rows)
-
--- the time that is given, or another one
-abbrev pub or_time : (otherwise : ℕ) → Result (Option ℕ) CommandFault → Result ℕ CommandFault
-or_time otherwise (Ok None) = Ok otherwise
-or_time otherwise (Ok (Some t)) = Ok t
-or_time otherwise (Err e) = Err e
-
-pub time_from : (option : DateOption) (otherwise : ℕ) (text : Option (List ℕ)) (time : Result (Option ℕ) CommandFault) → IsTimeGiven option text time → IsTimeIn option otherwise text (or_time otherwise time)
-time_from option otherwise text time h = grind (arith, common_steps)
-
 -- of these faults no device failed
-refused_time : (option : DateOption) (text : Option (List ℕ)) (fault : CommandFault) → IsTimeGiven option text (Err fault) → culprit fault ≡ NoDevice
-refused_time option text fault h = grind (arith, common_steps)
+refused_time : (option : DateOption) (text : Option (List ℕ)) (fault : CommandFault) → IsGiven (IsTimeBy IsTimeOf) (faults.BadDate option) text (Err fault) → culprit fault ≡ NoDevice
+refused_time option text fault h = ap culprit (bad_text h)
 
-refused_window : (interval : ℕ) (options : List Row) (from until : Result (Option ℕ) CommandFault) (fault : CommandFault) → IsTimeGiven dated.From (first_of (codes "from") options) from
-    → IsTimeGiven dated.Until (first_of (codes "until") options) until → Err fault ≡ window_with interval from until → culprit fault ≡ NoDevice
+refused_window : (interval : ℕ) (options : List Row) (from until : Result (Option ℕ) CommandFault) (fault : CommandFault) → IsFromSet options from → IsUntilSet options until → Err fault ≡ window_with interval from until → culprit fault ≡ NoDevice
 refused_window interval options from until fault f u is = grind (arith, common_steps, refused_time)
 
 pub refused_complete : (options : List Row) (fault : CommandFault) → IsCompleteSet options (Err fault) → culprit fault ≡ NoDevice
-refused_complete options fault set = by (lacks_one options) (gaps_set options) refl set where
+refused_complete options fault (gaps, set, is) = by (lacks_one options) gaps set is where
   of : (interval : ℕ) (window : Result (Option Window) CommandFault) → IsWindowOf interval options window → Err fault ≡ complete_with interval window → culprit fault ≡ NoDevice
   of interval (Err e) (from, until, f, u, is) same = refused_window interval options from until fault f u (let e_is : e ≡ fault = cc in ap Err (sym e_is) ∙ is)
   of interval (Ok w) h same = absurd cc
 
-  by : (b : Bool) (gaps : Result (Option ℕ) CommandFault) → gaps_set options ≡ gaps → IsCompleteBy b gaps options (Err fault) → culprit fault ≡ NoDevice
-  by true gaps e same = let is : fault ≡ faults.AllOf = cc in ap culprit is
-  by false (Err x) e same = let is : fault ≡ faults.BadGaps = (let known : x ≡ faults.BadGaps = bad_interval (first_of (codes "gaps") options) _ e in cc) in ap culprit is
-  by false (Ok None) e same = absurd cc
-  by false (Ok (Some interval)) e (window, is, same) = of interval window is same
+  by : (b : Bool) (gaps : Result (Option ℕ) CommandFault) → IsGapsSet options gaps → IsCompleteBy b gaps options (Err fault) → culprit fault ≡ NoDevice
+  by true gaps set same = let is : fault ≡ faults.AllOf = cc in ap culprit is
+  by false (Err x) set same = let is : fault ≡ faults.BadGaps = (let known : x ≡ faults.BadGaps = bad_text set in cc) in ap culprit is
+  by false (Ok None) set same = absurd cc
+  by false (Ok (Some interval)) set (window, is, same) = of interval window is same
 
 pub no_device : {R W : Type 0} (fault : CommandFault) (d : Devices R W) → culprit fault ≡ NoDevice → HaveFailedBy (culprit fault) d d
 no_device fault d none = subst (λ (c : Culprit). HaveFailedBy c d d) (sym none) (refl, refl)

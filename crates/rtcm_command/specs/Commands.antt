@@ -23,7 +23,7 @@ use Rattle.command_line.specs.inner.CommandLine.{IsCommand}
 use Rattle.rtcm_command.specs.Devices.{IsInspected, IsOfFile, culprit}
 use Rattle.command_faults.specs.ErrorLines.{error_line}
 use Rattle.command_faults.specs.Status.{fault_status}
-use Rattle.rtcm_command.specs.SetupOptions.{IsNumberOf, IsSetupRefused, IsSourceRefused, IsSourceSet, every_set}
+use Rattle.rtcm_command.specs.SetupOptions.{IsNumberOf, IsSetupRefused, IsSourceRefused, IsSourceSet, IsEverySet}
 use Rattle.rtcm_command.specs.SetupOptions.{has_flag}
 use Rattle.rtcm_command.specs.CompleteOptions.{IsCompleteSet}
 use Rattle.rtcm_inspect.specs.declared.printed_week.WeekSource.{WeekSource}
@@ -62,7 +62,7 @@ EndsInspection result name options d d' =
 
 -- for the length of the periods, if it is given
 abbrev pub OfEvery : List Row → (Option ℕ → Type 0) → Type 0
-OfEvery options Does = (every : Option ℕ) × (every_set options ≡ Ok every) × Does every
+OfEvery options Does = (every : Option ℕ) × IsEverySet options (Ok every) × Does every
 
 -- how a command that reads a file ended with these options: the file was read back, or its values were counted
 abbrev pub EndsOnFile : {R W : Type 0} → Result ⊤ FileFault → Text → List Row → (d d' : Devices R W) → Type 0
@@ -75,7 +75,7 @@ EndsOnFile result name options d d' =
 abbrev pub AreFileOptionsRefused : Text → List Row → CommandFault → Type 0
 AreFileOptionsRefused name options fault =
     ((name ≡ codes "check") × IsCompleteSet options (Err fault))
-    ⊎ ((name ≡ codes "quality") × (every_set options ≡ Err fault))
+    ⊎ ((name ≡ codes "quality") × IsEverySet options (Err fault))
 
 -- The command of this name completed: the file of the stream was written, which has an epoch, and its report was
 -- printed; or any other command, and nothing was written to standard error.

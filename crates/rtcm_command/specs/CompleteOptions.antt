@@ -2,14 +2,11 @@
 use Rattle.std.specs.Prelude.{◌≡◌, ◌==◌, ◌-◌, ◌%◌, nat_lt, ℕ, List, Bool, true, false, ◌&&◌, ◌||◌, not, codes, is_some}
 use Rattle.std.specs.Prelude.{if◌then◌else◌, Option, Some, None, Result, Ok, Err}
 use Rattle.clap.specs.Walk.{Row, first_of}
-use Rattle.line_texts.specs.Dates.{IsTimeOf}
 use Rattle.rinex_inspect.specs.declared.gaps.Completeness.{Completeness}
 use Rattle.rinex_inspect.specs.declared.gaps.Window.{Window}
-use Rattle.command_faults.specs.declared.fault.DateOption.{DateOption}
-use Rattle.command_faults.specs.declared.fault.DateOption.TheVariants as dated
 use Rattle.command_faults.specs.declared.fault.CommandFault.{CommandFault}
 use Rattle.command_faults.specs.declared.fault.CommandFault.TheVariants as faults
-use Rattle.rtcm_command.specs.SetupOptions.{gaps_set}
+use Rattle.rtcm_command.specs.SetupOptions.{IsFromSet, IsGapsSet, IsUntilSet}
 
 -- the option of this name is given
 abbrev pub is_given : List ℕ → List Row → Bool
@@ -19,14 +16,6 @@ is_given name options = is_some (first_of name options)
 abbrev pub lacks_one : List Row → Bool
 lacks_one options = (is_given (codes "from") options || is_given (codes "until") options)
     && not (is_given (codes "from") options && is_given (codes "until") options && is_given (codes "gaps") options)
-
--- the time in a text, if there is a text, or the fault of its option
-abbrev pub IsTimeGiven : DateOption → Option (List ℕ) → Result (Option ℕ) CommandFault → Type 0
-IsTimeGiven option None time = time ≡ Ok None
-IsTimeGiven option (Some text) (Ok None) = ⊥
-IsTimeGiven option (Some text) (Ok (Some t)) = IsTimeOf text t
-IsTimeGiven option (Some text) (Err fault) =
-    (fault ≡ faults.BadDate option) × ((t : ℕ) → IsTimeOf text t → ⊥)
 
 -- the window from a time until one that is a whole number of intervals later, or the fault of another one
 abbrev pub whole_window : (interval from until : ℕ) → Result (Option Window) CommandFault
@@ -44,8 +33,7 @@ window_with interval (Ok from) (Ok until) = Ok None
 
 abbrev pub IsWindowOf : (interval : ℕ) → List Row → Result (Option Window) CommandFault → Type 0
 IsWindowOf interval options window = (from until : Result (Option ℕ) CommandFault)
-    × IsTimeGiven dated.From (first_of (codes "from") options) from
-    × IsTimeGiven dated.Until (first_of (codes "until") options) until × (window ≡ window_with interval from until)
+    × IsFromSet options from × IsUntilSet options until × (window ≡ window_with interval from until)
 
 abbrev pub complete_with : (interval : ℕ) → Result (Option Window) CommandFault
     → Result (Option Completeness) CommandFault
@@ -63,4 +51,5 @@ IsCompleteBy false (Ok (Some interval)) options complete = (window : Result (Opt
     × IsWindowOf interval options window × (complete ≡ complete_with interval window)
 
 abbrev pub IsCompleteSet : List Row → Result (Option Completeness) CommandFault → Type 0
-IsCompleteSet options complete = IsCompleteBy (lacks_one options) (gaps_set options) options complete
+IsCompleteSet options complete = (gaps : Result (Option ℕ) CommandFault) × IsGapsSet options gaps
+    × IsCompleteBy (lacks_one options) gaps options complete

@@ -1,7 +1,7 @@
 -- The values that the options of the commands give.
 use Rattle.std.specs.Prelude.{◌≡◌, ◌<◌, ◌^◌, nat_lt, ℕ, ℤ, List, [], ◌∷◌, map, Option, Some, None, Result, Ok, Err, codes}
 use Rattle.std.specs.Prelude.{Bool, true, false, is_some, nat_le, option_and_then, ok_or, unwrap_or, not, ◌⊎◌}
-use Rattle.std.specs.Prelude.{if◌then◌else◌}
+use Rattle.std.specs.Prelude.{if◌then◌else◌, MatchOption, option_map}
 use Rattle.std.specs.Str.{bytes_eq}
 use Rattle.std.specs.Str.Parse.{IsNumeral, digits_value, without_leading_plus}
 use Rattle.clap.specs.Walk.{Row, first_of, one_of, rows_of}
@@ -69,6 +69,21 @@ IsNumberOf bits (Some text) (Some n) = IsDecimalForm bits text × (n ≡ digits_
 abbrev pub IsNumberOr : ℕ → ℕ → Option (List ℕ) → ℕ → Type 0
 IsNumberOr bits otherwise text n = (found : Option ℕ) × IsNumberOf bits text found × (n ≡ unwrap_or found otherwise)
 
+-- The value that was read from the text of an option, if it is given; or this fault, if none was read.
+pub record IsGiven {A : Type 0} (Reads : List ℕ → Option A → Type 0) (fault : CommandFault) (text : Option (List ℕ))
+    (value : Result (Option A) CommandFault) : Type 0 where
+  pub none : text ≡ None → value ≡ Ok None
+  pub some : (t : List ℕ) → text ≡ Some t
+      → (read : Option A) × Reads t read × (value ≡ ok_or (option_map Some read) fault)
+
+-- this function reads the value in a text
+abbrev pub IsReadBy : {A : Type 0} → (read : List ℕ → Option A) → List ℕ → Option A → Type 0
+IsReadBy read text value = value ≡ read text
+
+-- the time that a text is, or that it isn't one
+abbrev pub IsTimeBy : (IsTime : List ℕ → ℕ → Type 0) → List ℕ → Option ℕ → Type 0
+IsTimeBy IsTime text time = MatchOption time ((t : ℕ) → IsTime text t → ⊥) (IsTime text)
+
 -- what the texts of `--week` and `--near` give: one of them has to be given
 abbrev pub IsStartOf : (week near : Option (List ℕ)) → Start → Type 0
 IsStartOf (Some text) None start = (n : ℕ) × IsWeekOf text n × (start ≡ Week n)
@@ -89,19 +104,9 @@ IsStartSet options = IsStartOf (first_of (codes "week") options) (first_of (code
 abbrev pub IsStartRefused : List Row → CommandFault → Type 0
 IsStartRefused options = IsStartFault (first_of (codes "week") options) (first_of (codes "near") options)
 
--- noon of the date in a text, if there is a text
-abbrev pub IsNoonOf : Option (List ℕ) → Option ℕ → Type 0
-IsNoonOf None near = near ≡ None
-IsNoonOf (Some text) None = ⊥
-IsNoonOf (Some text) (Some t) = IsHourOf 12 text t
-
--- noon of the date that `--near` of `options` gives, if it is given
-abbrev pub IsNearSet : List Row → Option ℕ → Type 0
-IsNearSet options near = IsNoonOf (first_of (codes "near") options) near
-
--- its text isn't a date, which is this fault
-abbrev pub IsNearRefused : List Row → CommandFault → Type 0
-IsNearRefused options fault = (fault ≡ faults.BadDate dated.Near) × ((near : Option ℕ) → IsNearSet options near → ⊥)
+-- noon of the date that `--near` of `options` gives, if it is given, or its fault
+abbrev pub IsNearSet : List Row → Result (Option ℕ) CommandFault → Type 0
+IsNearSet options = IsGiven (IsTimeBy (IsHourOf 12)) (faults.BadDate dated.Near) (first_of (codes "near") options)
 
 -- the flag of this name is given
 abbrev pub has_flag : List ℕ → List Row → Bool
@@ -117,69 +122,59 @@ IsSourceSet options source =
     ((has_flag (codes "week") options ≡ true) × (first_of (codes "near") options ≡ None)
     × (source ≡ sources.Ephemerides))
     ⊎ ((has_flag (codes "week") options ≡ false)
-    × ((near : Option ℕ) × IsNearSet options near × (source ≡ source_near near)))
+    × ((near : Option ℕ) × IsNearSet options (Ok near) × (source ≡ source_near near)))
 
 -- both are given, or the text of `--near` isn't a date, which is this fault
 abbrev pub IsSourceRefused : List Row → CommandFault → Type 0
 IsSourceRefused options fault =
     ((has_flag (codes "week") options ≡ true) × (is_some (first_of (codes "near") options) ≡ true)
     × (fault ≡ faults.OneOf))
-    ⊎ ((has_flag (codes "week") options ≡ false) × IsNearRefused options fault)
+    ⊎ ((has_flag (codes "week") options ≡ false) × IsNearSet options (Err fault))
 
 -- the forms of MSM that are read
 abbrev pub forms_set : List Row → Forms
 forms_set options = if bytes_eq (text_set options (codes "msm")) (codes "all") then All else FourAndSeven
 
--- the interval that was read from a text, if there is a text, or this fault
-abbrev pub interval_by : CommandFault → Option (List ℕ) → Option ℕ → Result (Option ℕ) CommandFault
-interval_by fault None interval = Ok None
-interval_by fault (Some text) None = Err fault
-interval_by fault (Some text) (Some n) = Ok (Some n)
-
-abbrev pub interval_in : CommandFault → (List ℕ → Option ℕ) → Option (List ℕ) → Result (Option ℕ) CommandFault
-interval_in fault read text = interval_by fault text (option_and_then read text)
-
 -- the interval that `--gaps` gives, if it is given, or its fault
-abbrev pub gaps_set : List Row → Result (Option ℕ) CommandFault
-gaps_set options = interval_in faults.BadGaps interval_of (first_of (codes "gaps") options)
+abbrev pub IsGapsSet : List Row → Result (Option ℕ) CommandFault → Type 0
+IsGapsSet options = IsGiven (IsReadBy interval_of) faults.BadGaps (first_of (codes "gaps") options)
 
 -- the length of a period: an interval of epochs of 1 s or more
 abbrev pub period_length_of : List ℕ → Option ℕ
 period_length_of text = option_and_then (λ n. if nat_le 1000 n then Some n else None) (epoch_interval_of text)
 
 -- the length of the periods that `--every` gives, if it is given, or its fault
-abbrev pub every_set : List Row → Result (Option ℕ) CommandFault
-every_set options = interval_in faults.BadEvery period_length_of (first_of (codes "every") options)
+abbrev pub IsEverySet : List Row → Result (Option ℕ) CommandFault → Type 0
+IsEverySet options = IsGiven (IsReadBy period_length_of) faults.BadEvery (first_of (codes "every") options)
 
 -- ---- the choice of epochs
 
--- the time in a text, or this fault; without a text it is `otherwise`
-abbrev pub IsTimeIn : DateOption → (otherwise : ℕ) → Option (List ℕ) → Result ℕ CommandFault → Type 0
-IsTimeIn option otherwise None time = time ≡ Ok otherwise
-IsTimeIn option otherwise (Some text) (Ok t) = IsTimeOf text t
-IsTimeIn option otherwise (Some text) (Err fault) =
-    (fault ≡ faults.BadDate option) × ((t : ℕ) → IsTimeOf text t → ⊥)
+-- the time that an option gives, if it is given, or its fault
+abbrev pub IsTimeSet : DateOption → (name : List ℕ) → List Row → Result (Option ℕ) CommandFault → Type 0
+IsTimeSet option name options = IsGiven (IsTimeBy IsTimeOf) (faults.BadDate option) (first_of name options)
 
--- the times that `--from` and `--until` give; without them the window is that of every epoch
-abbrev pub IsFromSet : List Row → Result ℕ CommandFault → Type 0
-IsFromSet options = IsTimeIn dated.From every_epoch.from (first_of (codes "from") options)
+abbrev pub IsFromSet : List Row → Result (Option ℕ) CommandFault → Type 0
+IsFromSet = IsTimeSet dated.From (codes "from")
 
-abbrev pub IsUntilSet : List Row → Result ℕ CommandFault → Type 0
-IsUntilSet options = IsTimeIn dated.Until every_epoch.until (first_of (codes "until") options)
+abbrev pub IsUntilSet : List Row → Result (Option ℕ) CommandFault → Type 0
+IsUntilSet = IsTimeSet dated.Until (codes "until")
 
--- the window from a time until a later one, or the fault of a time
-abbrev pub window_by : (from until : Result ℕ CommandFault) → Result (ℕ × ℕ) CommandFault
+-- the window from a time until a later one, without them that of every epoch, or the fault of a time
+abbrev pub window_between : (from until : ℕ) → Result (ℕ × ℕ) CommandFault
+window_between from until = if nat_lt from until then Ok (from, until) else Err faults.BadWindow
+
+abbrev pub window_by : (from until : Result (Option ℕ) CommandFault) → Result (ℕ × ℕ) CommandFault
 window_by (Err e) until = Err e
 window_by (Ok from) (Err e) = Err e
-window_by (Ok from) (Ok until) = if nat_lt from until then Ok (from, until) else Err faults.BadWindow
+window_by (Ok from) (Ok until) = window_between (unwrap_or from every_epoch.from) (unwrap_or until every_epoch.until)
 
 abbrev pub IsWindowSet : List Row → Result (ℕ × ℕ) CommandFault → Type 0
-IsWindowSet options window = (from : Result ℕ CommandFault) × (until : Result ℕ CommandFault) × IsFromSet options from
+IsWindowSet options window = (from until : Result (Option ℕ) CommandFault) × IsFromSet options from
     × IsUntilSet options until × (window ≡ window_by from until)
 
 -- the interval that `--interval` gives, if it is given, or its fault
-abbrev pub interval_set : List Row → Result (Option ℕ) CommandFault
-interval_set options = interval_in faults.BadInterval epoch_interval_of (first_of (codes "interval") options)
+abbrev pub IsIntervalSet : List Row → Result (Option ℕ) CommandFault → Type 0
+IsIntervalSet options = IsGiven (IsReadBy epoch_interval_of) faults.BadInterval (first_of (codes "interval") options)
 
 -- the tolerance that `--tolerance` gives at an interval, or its fault
 abbrev pub tolerance_set : List Row → Option ℕ → Result ℕ CommandFault
@@ -200,8 +195,9 @@ choice_by (Ok window) (Ok interval) tolerance = choice_with window interval (tol
 
 -- the choice of epochs that the options give, or the fault of the first option that is invalid
 abbrev pub IsChoiceSet : List Row → Result Choice CommandFault → Type 0
-IsChoiceSet options choice = (window : Result (ℕ × ℕ) CommandFault) × IsWindowSet options window
-    × (choice ≡ choice_by window (interval_set options) (tolerance_set options))
+IsChoiceSet options choice = (window : Result (ℕ × ℕ) CommandFault) × (interval : Result (Option ℕ) CommandFault)
+    × IsWindowSet options window × IsIntervalSet options interval
+    × (choice ≡ choice_by window interval (tolerance_set options))
 
 -- ---- the setup
 

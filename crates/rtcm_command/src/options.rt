@@ -1,21 +1,22 @@
 //! The values of the options of the commands.
-ghost use Rattle.std.specs.Prelude.{◌≡◌, ◌+◌, ◌<◌, ◌≤◌, IfOk, IfSome, MatchResult, Ok, codes, not};
+ghost use Rattle.std.specs.Prelude.{◌≡◌, ◌+◌, ◌<◌, ◌≤◌, IfOk, IfSome, MatchResult, Ok, codes, not, unwrap_or};
+ghost use Rattle.std.specs.Fn.{FnOnceReturnsAt};
 ghost use Rattle.clap.specs.Walk.{first_of, one_of};
 ghost use Rattle.std.specs.Str.{bytes_eq};
 ghost use Rattle.gnss_obs.specs.Plans.{HasSignal};
 ghost use Rattle.gnss_obs.specs.inner.SignalLists.{IsDefined};
 ghost use Rattle.obs_epoch.specs.Heard.{is_by_bit};
 ghost use Rattle.rinex_file.specs.inner.TextsOf.{lists_of};
+ghost use Rattle.line_texts.specs.Dates.{IsHourOf, IsTimeOf};
 ghost use Rattle.line_texts.specs.Lengths.{longest_interval};
-ghost use Rattle.rtcm_command.specs.SetupOptions.{HasSetupFault, IsChoiceSet, IsNearRefused, IsNearSet, IsNumberOf};
-ghost use Rattle.rtcm_command.specs.SetupOptions.{IsNumberOr, IsTimeIn, IsWindowSet, channels_set, interval_set};
-ghost use Rattle.rtcm_command.specs.SetupOptions.{plan_texts, tolerance_set};
+ghost use Rattle.rtcm_command.specs.SetupOptions.{HasSetupFault, IsChoiceSet, IsEverySet, IsGapsSet, IsGiven};
+ghost use Rattle.rtcm_command.specs.SetupOptions.{IsIntervalSet, IsNearSet, IsNumberOf, IsNumberOr, IsTimeSet};
 ghost use Rattle.rtcm_command.specs.SetupOptions.{IsSetupOf, IsSourceRefused, IsSourceSet, IsStartRefused, IsStartSet};
-ghost use Rattle.rtcm_command.specs.SetupOptions.{every_set, gaps_set, has_flag, period_length_of, usual_leap};
+ghost use Rattle.rtcm_command.specs.SetupOptions.{IsTimeBy, IsWindowSet, channels_set, forms_set, has_flag, options_of};
+ghost use Rattle.rtcm_command.specs.SetupOptions.{period_length_of, plan_set, plan_texts, text_set, texts_set};
+ghost use Rattle.rtcm_command.specs.SetupOptions.{tolerance_set, usual_leap, values_set};
 ghost use Rattle.rinex_inspect.specs.Gaps.{IsCompleteness};
-ghost use Rattle.rtcm_command.specs.CompleteOptions.{IsCompleteSet, IsTimeGiven, IsWindowOf, is_given, lacks_one};
-ghost use Rattle.rtcm_command.specs.CompleteOptions.{whole_window};
-ghost use Rattle.rtcm_command.specs.SetupOptions.{forms_set, options_of, plan_set, text_set, texts_set, values_set};
+ghost use Rattle.rtcm_command.specs.CompleteOptions.{IsCompleteSet, IsWindowOf, is_given, lacks_one, whole_window};
 
 use clap::ArgMatches;
 use command_faults::{CommandFault, DateOption};
@@ -63,12 +64,38 @@ pub fn start_of(options: &ArgMatches) -> Result<Start, CommandFault>
 ///
 /// `BadDate` if the text isn't a date.
 fn near_of(options: &ArgMatches) -> Result<Option<GpsTime>, CommandFault>
-    ensures { MatchResult result (IsNearSet (options_of options.now)) (IsNearRefused (options_of options.now)) }
+    ensures { IsNearSet (options_of options.now) result }
 {
-    match options.get_str("near") {
-        Some(text) => match hour_of(text, 12) {
-            Some(noon) => Ok(Some(noon)),
-            None => Err(CommandFault::BadDate(DateOption::Near)),
+    let fault = CommandFault::BadDate(DateOption::Near);
+    if_given(options, "near", noon_of, fault)
+}
+
+/// Returns noon of the date in a text.
+fn noon_of(text: &str) -> Option<GpsTime>
+    ensures { IsTimeBy (IsHourOf 12) text.now result }
+{
+    hour_of(text, 12)
+}
+
+/// Returns what `read` finds in the text of the option of this name, or `None` if the option isn't
+/// given.
+///
+/// # Errors
+///
+/// `fault` if nothing is found in the text.
+fn if_given<T, F: FnOnce(&str) -> Option<T>>(
+    options: &ArgMatches,
+    name: &str,
+    read: F,
+    fault: CommandFault,
+) -> Result<Option<T>, CommandFault>
+    requires { F.IsAlwaysCallable read }
+    ensures { IsGiven (FnOnceReturnsAt F.FnOnce read) fault (first_of name.now (options_of options.now)) result }
+{
+    match options.get_str(name) {
+        Some(text) => match read(text) {
+            Some(found) => Ok(Some(found)),
+            None => Err(fault),
         },
         None => Ok(None),
     }
@@ -101,16 +128,11 @@ pub fn source_of(options: &ArgMatches) -> Result<WeekSource, CommandFault>
 ///
 /// `BadGaps` if the text isn't an interval.
 fn gaps_of(options: &ArgMatches) -> Result<Option<u64>, CommandFault>
-    ensures value { result ≡ gaps_set (options_of options.now) }
+    ensures set { IsGapsSet (options_of options.now) result }
     ensures fits { IfOk result (λ gap. IfSome gap (λ n. (0 < n) × (n ≤ longest_interval))) }
 {
-    match options.get_str("gaps") {
-        Some(text) => match interval_of(text) {
-            Some(interval) => Ok(Some(interval)),
-            None => Err(CommandFault::BadGaps),
-        },
-        None => Ok(None),
-    }
+    let fault = CommandFault::BadGaps;
+    if_given(options, "gaps", |text| interval_of(text), fault)
 }
 
 /// Returns what makes the file complete that `check` reads, or `None` if no interval is given.
@@ -123,10 +145,11 @@ pub fn complete_of(options: &ArgMatches) -> Result<Option<Completeness>, Command
     ensures set { IsCompleteSet (options_of options.now) result }
     ensures fits { IfOk result (λ complete. IfSome complete IsCompleteness) }
 {
+    let gaps = gaps_of(options);
     if lacks_one(options) {
         return Err(CommandFault::AllOf);
     }
-    let Some(interval) = gaps_of(options)? else {
+    let Some(interval) = gaps? else {
         return Ok(None);
     };
     match whole_window_of(options, interval) {
@@ -170,15 +193,16 @@ fn moment_of(
     name: &str,
     option: DateOption,
 ) -> Result<Option<GpsTime>, CommandFault>
-    ensures { IsTimeGiven option (first_of name.now (options_of options.now)) result }
+    ensures { IsTimeSet option name.now (options_of options.now) result }
 {
-    match options.get_str(name) {
-        Some(text) => match line_texts::time_of(text) {
-            Some(time) => Ok(Some(time)),
-            None => Err(CommandFault::BadDate(option)),
-        },
-        None => Ok(None),
-    }
+    if_given(options, name, time_of, CommandFault::BadDate(option))
+}
+
+/// Returns the time in a text.
+fn time_of(text: &str) -> Option<GpsTime>
+    ensures { IsTimeBy IsTimeOf text.now result }
+{
+    line_texts::time_of(text)
 }
 
 /// Returns the window of these times, which are to be a whole number of intervals apart.
@@ -205,15 +229,9 @@ fn whole_window(
 ///
 /// `BadEvery` if the text isn't the length of a period.
 pub fn every_of(options: &ArgMatches) -> Result<Option<Interval>, CommandFault>
-    ensures { result ≡ every_set (options_of options.now) }
+    ensures { IsEverySet (options_of options.now) result }
 {
-    match options.get_str("every") {
-        Some(text) => match period_length_of(text) {
-            Some(every) => Ok(Some(every)),
-            None => Err(CommandFault::BadEvery),
-        },
-        None => Ok(None),
-    }
+    if_given(options, "every", period_length_of, CommandFault::BadEvery)
 }
 
 /// Returns the interval of epochs in a text if it is 1 s or more.
@@ -235,8 +253,8 @@ fn period_length_of(text: &str) -> Option<Interval>
 pub fn choice_of(options: &ArgMatches) -> Result<Choice, CommandFault>
     ensures { IsChoiceSet (options_of options.now) result }
 {
-    let (from, until) = window_of(options)?;
-    let interval = epochs_of(options)?;
+    let (window, interval) = (window_of(options), epochs_of(options));
+    let ((from, until), interval) = (window?, interval?);
     let tolerance = tolerance_of(options, &interval)?;
     Ok(Choice {
         from,
@@ -250,9 +268,10 @@ pub fn choice_of(options: &ArgMatches) -> Result<Choice, CommandFault>
 fn window_of(options: &ArgMatches) -> Result<(u64, u64), CommandFault>
     ensures { IsWindowSet (options_of options.now) result }
 {
-    let from = time_of(options, "from", DateOption::From, 0);
-    let until = time_of(options, "until", DateOption::Until, u64::MAX);
+    let from = moment_of(options, "from", DateOption::From);
+    let until = moment_of(options, "until", DateOption::Until);
     let (from, until) = (from?, until?);
+    let (from, until) = (time_or(from, 0), time_or(until, u64::MAX));
     if from < until {
         Ok((from, until))
     } else {
@@ -260,33 +279,22 @@ fn window_of(options: &ArgMatches) -> Result<(u64, u64), CommandFault>
     }
 }
 
-/// Returns the time of the option of this name in milliseconds, or `otherwise` if it isn't given.
-fn time_of(
-    options: &ArgMatches,
-    name: &str,
-    option: DateOption,
-    otherwise: u64,
-) -> Result<u64, CommandFault>
-    ensures { IsTimeIn option otherwise (first_of name.now (options_of options.now)) result }
+/// Returns a time in milliseconds, or `otherwise` without a time.
+fn time_or(time: Option<GpsTime>, otherwise: u64) -> u64
+    ensures { result ≡ unwrap_or time otherwise }
 {
-    match moment_of(options, name, option) {
-        Ok(Some(time)) => Ok(time.milliseconds()),
-        Ok(None) => Ok(otherwise),
-        Err(fault) => Err(fault),
+    match time {
+        Some(time) => time.milliseconds(),
+        None => otherwise,
     }
 }
 
 /// Returns the interval of the epochs that are written, or `None` if the option isn't given.
 fn epochs_of(options: &ArgMatches) -> Result<Option<Interval>, CommandFault>
-    ensures { result ≡ interval_set (options_of options.now) }
+    ensures { IsIntervalSet (options_of options.now) result }
 {
-    match options.get_str("interval") {
-        Some(text) => match epoch_interval_of(text) {
-            Some(interval) => Ok(Some(interval)),
-            None => Err(CommandFault::BadInterval),
-        },
-        None => Ok(None),
-    }
+    let fault = CommandFault::BadInterval;
+    if_given(options, "interval", |text| epoch_interval_of(text), fault)
 }
 
 /// Returns the tolerance of the times of epochs in milliseconds, at this interval.

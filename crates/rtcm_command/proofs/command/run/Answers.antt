@@ -1,6 +1,6 @@
 use Rattle.rtcm_command.proofs.CommandLemmas.{ends_so, file_found, inspection_found, is_quality, option_refused, sub_found}
-use Rattle.rtcm_command.proofs.OptionLemmas.{bad_interval, no_device, refused_complete, source_fault}
-use Rattle.rtcm_command.proofs.Names.{culprit, HaveFailedBy, CommandFault, ◌∙◌, codes, first_of, inl, inr, refl, sym, devices_of, options_of, writer_of}
+use Rattle.rtcm_command.proofs.OptionLemmas.{bad_text, no_device, refused_complete, source_fault}
+use Rattle.rtcm_command.proofs.Names.{culprit, HaveFailedBy, CommandFault, ◌∙◌, inl, inr, refl, sym, devices_of, options_of, writer_of}
 use Rattle.rtcm_command.proofs.command.run.Goals as goal
 
 pub returns-in-frames : goal.returns-in-frames
@@ -40,7 +40,7 @@ returns-in_ok-every-in_default-name g c =
     let found = sub_found _ c.in-Some.ensures.name c.in-Some.ensures.rows in
     let n = is_quality c.args.matches.now c.requires found c.in_default-name.not-frames c.in_default-name.not-show c.in_default-name.not-signals c.in_default-name.not-options c.in_default-name.not-convert c.in_default-name.not-check in
     file_found _ _ _ c.run_quality.result c.of_file-in_default-name.ensures found
-    (inr (n, (c.in_ok-every-in_default-name.every, sym c.in_ok-every-in_default-name.ensures, c.run_quality.ensures.ends)))
+    (inr (n, (c.in_ok-every-in_default-name.every, c.in_ok-every-in_default-name.ensures, c.run_quality.ensures.ends)))
 
 pub returns-in_err-source-in-options : goal.returns-in_err-source-in-options
 returns-in_err-source-in-options g c =
@@ -60,5 +60,5 @@ returns-in_err-every-in_default-name g c =
     let found = sub_found _ c.in-Some.ensures.name c.in-Some.ensures.rows in
     let n = is_quality c.args.matches.now c.requires found c.in_default-name.not-frames c.in_default-name.not-show c.in_default-name.not-signals c.in_default-name.not-options c.in_default-name.not-convert c.in_default-name.not-check in
     let d = devices_of g.R.Read.remaining g.W.Write.contents g.W.Deliver.waiting c.args.reader.now c.args.writer.now in
-    let set = sym c.in_err-every-in_default-name.ensures in
-    option_refused d (writer_of g.E.Write.contents g.E.Deliver.waiting c.args.faults.now) c.from_residual-in_err-every-in_default-name.result c.from_residual-in_err-every-in_default-name.ensures.1 found (bad_interval (first_of (codes "every") (options_of c.in-Some.options.now)) _ set) (refl, refl) (inr (inr (inr (inr (inr (n, set), (refl, refl))))))
+    let set = c.in_err-every-in_default-name.ensures in
+    option_refused d (writer_of g.E.Write.contents g.E.Deliver.waiting c.args.faults.now) c.from_residual-in_err-every-in_default-name.result c.from_residual-in_err-every-in_default-name.ensures.1 found (bad_text set) (refl, refl) (inr (inr (inr (inr (inr (n, set), (refl, refl))))))
