@@ -50,13 +50,13 @@ pub sub_found : {Z : Type 0} {n : Text} {o : List Row} (sub : Option (Box SubCom
     → Some o ≡ option_map (λ p. p.1) (subcommand_rows sub) → subcommand_rows sub ≡ Some (n, o)
 sub_found sub h h' = grind (arith, common_steps)
 
-only_quality : (n : Text) → IsCommand n → (n ≢ codes "frames") → (n ≢ codes "show") → (n ≢ codes "signals") → (n ≢ codes "options") → (n ≢ codes "convert") → (n ≢ codes "check") → n ≡ codes "quality"
-only_quality n h f s g p v c = grind (arith, common_steps)
+no_other : (n : Text) → IsCommand n → (n ≢ codes "frames") → (n ≢ codes "show") → (n ≢ codes "signals") → (n ≢ codes "options") → (n ≢ codes "convert") → (n ≢ codes "check") → (n ≢ codes "quality") → ⊥
+no_other n h f s g p v c q = grind (arith, common_steps)
 
--- the command that was found, if it isn't one of the others
-pub is_quality : {n : Text} {o : List Row} (m : ArgMatches) → HasCommand m → subcommand_rows_of m ≡ Some (n, o) → (n ≢ codes "frames") → (n ≢ codes "show") → (n ≢ codes "signals") → (n ≢ codes "options") → (n ≢ codes "convert")
-    → (n ≢ codes "check") → n ≡ codes "quality"
-is_quality {n} m (name, options, one, found) rows = only_quality n (subst IsCommand (ap (λ (x : Option (Text × List Row)). option_map_or (λ p. p.0) x n) (sym found ∙ rows)) one)
+-- the command that was found is one of these
+pub is_named : {n : Text} {o : List Row} (m : ArgMatches) → HasCommand m → subcommand_rows_of m ≡ Some (n, o) → (n ≢ codes "frames") → (n ≢ codes "show") → (n ≢ codes "signals") → (n ≢ codes "options") → (n ≢ codes "convert")
+    → (n ≢ codes "check") → (n ≢ codes "quality") → ⊥
+is_named {n} m (name, options, one, found) rows = no_other n (subst IsCommand (ap (λ (x : Option (Text × List Row)). option_map_or (λ p. p.0) x n) (sym found ∙ rows)) one)
 
 -- how a command that reads a stream and doesn't convert it ended
 pub inspection_found : {R W E : Type 0} {ended : Result ⊤ CommandFault} {rows : Option (Text × List Row)} {n : Text} {o : List Row} (d d2 : Devices R W) (e : Writer E) (inspection : Result ⊤ InspectFault) → ended ≡ of_inspection inspection → rows ≡ Some (n, o)

@@ -108,10 +108,11 @@ fn run<R: Read, W: Deliver, E: Deliver>(
             let asked = CheckOptions { complete, times };
             of_file(run_check_with(alloc, asked, reader, writer))
         }
-        _ => {
+        "quality" => {
             let every = every_of(options)?;
             of_file(run_quality(alloc, every, reader, writer))
         }
+        _ => unreachable!(),
     }
 }
 

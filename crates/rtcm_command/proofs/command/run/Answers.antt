@@ -1,4 +1,4 @@
-use Rattle.rtcm_command.proofs.CommandLemmas.{ends_so, file_found, inspection_found, is_quality, option_refused, sub_found}
+use Rattle.rtcm_command.proofs.CommandLemmas.{ends_so, file_found, inspection_found, is_named, option_refused, sub_found}
 use Rattle.rtcm_command.proofs.OptionLemmas.{bad_text, no_device, refused_complete, source_fault}
 use Rattle.rtcm_command.proofs.Names.{culprit, HaveFailedBy, CommandFault, ◌∙◌, inl, inr, refl, sym, devices_of, options_of, writer_of}
 use Rattle.rtcm_command.proofs.command.run.Goals as goal
@@ -35,12 +35,11 @@ returns-in_ok-complete-in-check g c =
     file_found _ _ _ c.run_check_with.result c.of_file.ensures (sub_found _ c.in-Some.ensures.name c.in-Some.ensures.rows)
     (inl (c.in-check.is, (c.in_ok-complete-in-check.complete, c.in_ok-complete-in-check.ensures.set, rw (← c.has_flag-times.ensures) c.run_check_with.ensures.ends)))
 
-pub returns-in_ok-every-in_default-name : goal.returns-in_ok-every-in_default-name
-returns-in_ok-every-in_default-name g c =
+pub returns-in_ok-every-in-quality : goal.returns-in_ok-every-in-quality
+returns-in_ok-every-in-quality g c =
     let found = sub_found _ c.in-Some.ensures.name c.in-Some.ensures.rows in
-    let n = is_quality c.args.matches.now c.requires found c.in_default-name.not-frames c.in_default-name.not-show c.in_default-name.not-signals c.in_default-name.not-options c.in_default-name.not-convert c.in_default-name.not-check in
-    file_found _ _ _ c.run_quality.result c.of_file-in_default-name.ensures found
-    (inr (n, (c.in_ok-every-in_default-name.every, c.in_ok-every-in_default-name.ensures, c.run_quality.ensures.ends)))
+    file_found _ _ _ c.run_quality.result c.of_file-in-quality.ensures found
+    (inr (c.in-quality.is, (c.in_ok-every-in-quality.every, c.in_ok-every-in-quality.ensures, c.run_quality.ensures.ends)))
 
 pub returns-in_err-source-in-options : goal.returns-in_err-source-in-options
 returns-in_err-source-in-options g c =
@@ -55,10 +54,12 @@ returns-in_err-complete-in-check g c =
     let set = c.in_err-complete-in-check.ensures.set in
     option_refused d (writer_of g.E.Write.contents g.E.Deliver.waiting c.args.faults.now) c.from_residual-in_err-complete-in-check.result c.from_residual-in_err-complete-in-check.ensures.1 (sub_found _ c.in-Some.ensures.name c.in-Some.ensures.rows) refl (no_device c.in_err-complete-in-check.field-0.0 d (refused_complete (options_of c.in-Some.options.now) c.in_err-complete-in-check.field-0.0 set)) (inr (inr (inr (inr (inl (c.in-check.is, set), (refl, refl))))))
 
-pub returns-in_err-every-in_default-name : goal.returns-in_err-every-in_default-name
-returns-in_err-every-in_default-name g c =
+pub returns-in_err-every-in-quality : goal.returns-in_err-every-in-quality
+returns-in_err-every-in-quality g c =
     let found = sub_found _ c.in-Some.ensures.name c.in-Some.ensures.rows in
-    let n = is_quality c.args.matches.now c.requires found c.in_default-name.not-frames c.in_default-name.not-show c.in_default-name.not-signals c.in_default-name.not-options c.in_default-name.not-convert c.in_default-name.not-check in
     let d = devices_of g.R.Read.remaining g.W.Write.contents g.W.Deliver.waiting c.args.reader.now c.args.writer.now in
-    let set = c.in_err-every-in_default-name.ensures in
-    option_refused d (writer_of g.E.Write.contents g.E.Deliver.waiting c.args.faults.now) c.from_residual-in_err-every-in_default-name.result c.from_residual-in_err-every-in_default-name.ensures.1 found (bad_text set) (refl, refl) (inr (inr (inr (inr (inr (n, set), (refl, refl))))))
+    let set = c.in_err-every-in-quality.ensures in
+    option_refused d (writer_of g.E.Write.contents g.E.Deliver.waiting c.args.faults.now) c.from_residual-in_err-every-in-quality.result c.from_residual-in_err-every-in-quality.ensures.1 found (bad_text set) (refl, refl) (inr (inr (inr (inr (inr (c.in-quality.is, set), (refl, refl))))))
+
+pub unreachable-requires-in_default-name : goal.unreachable-requires-in_default-name
+unreachable-requires-in_default-name g c = is_named c.args.matches.now c.requires (sub_found _ c.in-Some.ensures.name c.in-Some.ensures.rows) c.in_default-name.not-frames c.in_default-name.not-show c.in_default-name.not-signals c.in_default-name.not-options c.in_default-name.not-convert c.in_default-name.not-check c.in_default-name.not-quality
