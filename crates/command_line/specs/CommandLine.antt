@@ -39,30 +39,16 @@ flag name = record (read_by value.Bool (named name)) { action = Some action.SetT
 abbrev pub required : Rule → Rule
 required a = record a { required = true }
 
--- what gives the week of the first observations: one of them has to be given
-abbrev pub week : Rule
-week = option (codes "week")
-
+-- noon of a date, to which the first observations are near
 abbrev pub near : Rule
 near = option (codes "near")
 
-abbrev pub date : Rule
-date = required (option (codes "date"))
-
--- the times from which on and before which epochs are written
+-- the times from which on and before which epochs are written, or expected
 abbrev pub from : Rule
 from = option (codes "from")
 
 abbrev pub until : Rule
 until = option (codes "until")
-
--- the interval of the epochs that are written
-abbrev pub interval : Rule
-interval = option (codes "interval")
-
--- how far an epoch may be from its nominal time
-abbrev pub tolerance : Rule
-tolerance = or_else (codes "0.005") (option (codes "tolerance"))
 
 -- the option of the planned signals of a system: without it, all of GPS and Galileo, and none of another system
 abbrev pub signals_otherwise : System → Text
@@ -77,34 +63,13 @@ planned s = or_else (signals_otherwise s) (option (name_of s))
 abbrev pub channels : Rule
 channels = or_else [] (option (codes "glonass-channels"))
 
-abbrev pub leap_seconds : Rule
-leap_seconds = read_by (value.Unsigned 0 255) (option (codes "leap-seconds"))
-
 abbrev pub planned_with : System → List Rule
-planned_with Glonass = planned Glonass ∷ channels ∷ leap_seconds ∷ []
+planned_with Glonass =
+    planned Glonass ∷ channels ∷ read_by (value.Unsigned 0 255) (option (codes "leap-seconds")) ∷ []
 planned_with other = planned other ∷ []
 
 abbrev pub station : Rule
 station = read_by (value.Signed (pos 0) (pos 4095)) (option (codes "station"))
-
--- whether the week is printed by the ephemerides
-abbrev pub by_ephemerides : Rule
-by_ephemerides = flag (codes "week")
-
-abbrev pub times : Rule
-times = flag (codes "times")
-
--- an interval of epochs
-abbrev pub gaps : Rule
-gaps = option (codes "gaps")
-
--- the length of the periods of which values are counted
-abbrev pub every : Rule
-every = option (codes "every")
-
--- whether all messages are shown
-abbrev pub all : Rule
-all = flag (codes "all")
 
 -- the position that holds until a station message has another
 abbrev pub position : Rule
@@ -123,17 +88,6 @@ AreChoices texts names = map (λ s. s.now) names.now ≡ texts
 abbrev pub choice : Text → Text → Choices → Rule
 choice name first names = read_by (value.Names names) (or_else first (option name))
 
--- the forms of MSM that are read, and the rule of gathering
-abbrev pub msm : Choices → Rule
-msm names = choice (codes "msm") (codes "4,7") names
-
-abbrev pub gather : Choices → Rule
-gather names = choice (codes "gather") (codes "bit") names
-
--- at most the largest number of bytes of a stream
-abbrev pub limit : Rule
-limit = read_by (value.Unsigned 0 most_bytes) (or_else (codes "281474976710656") (option (codes "limit")))
-
 abbrev pub text : Text → Rule
 text name = or_else [] (option name)
 
@@ -150,25 +104,15 @@ texts =
 abbrev pub with_options : App → List Rule → App
 with_options a rules = fold with_rule a rules
 
-abbrev pub of_station : Text → App
-of_station name = with_options (new_app name) (station ∷ [])
-
-abbrev pub fitting : App
-fitting = with_options (of_station (codes "options")) (by_ephemerides ∷ near ∷ [])
-
-abbrev pub show : App
-show = with_options (new_app (codes "show")) (all ∷ [])
-
-abbrev pub check : App
-check = with_options (new_app (codes "check")) (times ∷ gaps ∷ from ∷ until ∷ [])
-
-abbrev pub quality : App
-quality = with_options (new_app (codes "quality")) (every ∷ [])
-
+-- of `--week` and `--near` one has to be given
 abbrev pub convert : (forms rules : Choices) → App
 convert forms rules = with_options (with_options (new_app (codes "convert"))
-    (week ∷ near ∷ date ∷ from ∷ until ∷ interval ∷ tolerance
-    ∷ (flat_map planned_with systems ++ msm forms ∷ station ∷ position ∷ height ∷ gather rules ∷ limit ∷ [])))
+    (option (codes "week") ∷ near ∷ required (option (codes "date"))
+    ∷ from ∷ until ∷ option (codes "interval") ∷ or_else (codes "0.005") (option (codes "tolerance"))
+    ∷ (flat_map planned_with systems
+    ++ choice (codes "msm") (codes "4,7") forms ∷ station ∷ position ∷ height
+    ∷ choice (codes "gather") (codes "bit") rules
+    ∷ read_by (value.Unsigned 0 most_bytes) (or_else (codes "281474976710656") (option (codes "limit"))) ∷ [])))
     texts
 
 -- a command is required, and `--version` is accepted
@@ -180,7 +124,13 @@ start = start_of (codes "rtcm2rinex")
 
 abbrev pub commands : (forms rules : Choices) → List App
 commands forms rules =
-    new_app (codes "frames") ∷ show ∷ of_station (codes "signals") ∷ fitting ∷ convert forms rules ∷ check ∷ quality ∷ []
+    new_app (codes "frames")
+    ∷ with_options (new_app (codes "show")) (flag (codes "all") ∷ [])
+    ∷ with_options (new_app (codes "signals")) (station ∷ [])
+    ∷ with_options (new_app (codes "options")) (station ∷ flag (codes "week") ∷ near ∷ [])
+    ∷ convert forms rules
+    ∷ with_options (new_app (codes "check")) (flag (codes "times") ∷ option (codes "gaps") ∷ from ∷ until ∷ [])
+    ∷ with_options (new_app (codes "quality")) (option (codes "every") ∷ []) ∷ []
 
 abbrev pub with_commands : App → List App → App
 with_commands a commands = fold (λ (program : App) (command : App). with_subcommand program command.top) a commands

@@ -55,14 +55,13 @@ fn asked<'a>(words: &[&'a str], rows: &[CommandRow]) -> Option<&'a str>
 /// for, or none is.
 fn with_commands<'a>(
     alloc: Global,
-    program: Command<'a>,
+    mut program: Command<'a>,
     rows: &[CommandRow<'a>],
     asked: Option<&str>,
 ) -> Result<Command<'a>, AllocError>
     ensures { inner_line.Makes result (line.with_commands (app_of program.entry)
         (map (needed_set (option_map (λ a. a.now) asked.entry)) rows.now)) }
 {
-    let mut program = program;
     for row in rows {
         program = program.subcommand(command(alloc, row, asked)?)?;
     }
@@ -90,21 +89,17 @@ fn command<'a>(
 fn needs_options(asked: Option<&str>, name: &str) -> bool
     ensures { result ≡ is_needed (option_map (λ a. a.now) asked.entry) name.now }
 {
-    match asked {
-        Some(asked) => asked == name,
-        None => true,
-    }
+    asked.is_none_or(|asked| asked == name)
 }
 
 /// Returns the command with an option for each of these rows.
 fn with_options<'a>(
     alloc: Global,
-    command: Command<'a>,
+    mut command: Command<'a>,
     rows: &[OptionRow<'a>],
 ) -> Result<Command<'a>, AllocError>
     ensures { inner_line.Makes result (line.with_options (app_of command.entry) (map option_set rows.now)) }
 {
-    let mut command = command;
     for row in rows {
         command = command.arg(option(alloc, row))?;
     }
