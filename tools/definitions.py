@@ -13,7 +13,10 @@ SIGNATURE = re.compile(
     r"^(?:(?:abbrev|unfoldable|pub) )*(?:(?:record|data) (?P<type>[^\s:(]+)|(?P<name>[^\s:(]+) :(?:\s|$))"
 )
 CONSTRUCTOR = re.compile(r"^\s+(?:pub )?(\S+) : ")
-# What ends a word. A field `x.name` isn't a word of its own, and neither is a comment.
+# What cites nothing. A text may have a `--`, as the name of an option.
+STRING = re.compile(r'"[^"]*"')
+COMMENT = re.compile(r"--.*$")
+# What ends a word. A field `x.name` isn't a word of its own.
 WORD = re.compile(r"[^\s(){}\[\],;.λ]+")
 QUALIFIED = re.compile(r"(?<![^\s(){}\[\],;])([^\s(){}\[\],;.λ]+)\.([^\s(){}\[\],;.]+)")
 PROJECTION = re.compile(r"(?<=[\w)'])\.[^\s(){}\[\],;]+")
@@ -208,7 +211,7 @@ class Definitions:
         names = set()
         words, variables = set(), set()
         for line in lines:
-            line = re.sub(r"--.*$", "", line)
+            line = COMMENT.sub("", STRING.sub("", line))
             names |= {(scope.modules[alias], name) for alias, name in QUALIFIED.findall(line) if alias in scope.modules}
             line = FIELD_VALUE.sub(" ", PROJECTION.sub("", line))
             variables |= {name for found in VARIABLES.findall(line) for name in "".join(found).split()}
