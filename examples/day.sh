@@ -2,25 +2,30 @@
 # day.sh STATION DAY: converts the raw logs of a station's day to its RINEX file of an epoch every 30 seconds, and
 # checks it. It prints one line if the day lacks something, and then fails. In the current folder are
 #
-#   raw/STATION/    the raw logs, RTCM 3, also compressed by gzip, whose names begin with the day (UTC), and all with the
-#                   time of the day if it has several: 2024-02-04.rtcm3, or 2024-02-04-130000.rtcm3.gz and others
+#   raw/STATION/    the raw logs, RTCM 3, also compressed by gzip, whose names begin with the day, of GPS time or UTC, and
+#                   all with the time of the day if it has several: 2024-02-04.rtcm3, or 2024-02-04-130000.rtcm3.gz and
+#                   others
 #   headers/STATION options of `rtcm2rinex convert`, one a line, if there is such a file: --rec-type=SEPT POLARX5. They
 #                   are the header texts and others that this script and the plan of `options` don't give; --station
 #                   is given to `options`
-#   obs/STATION/    the file with its RINEX name, the report of the conversion, and the values of the signals of the file
+#   obs/STATION/    the file with its RINEX name, the values of the signals of the file, and last, by which days.sh knows
+#                   that the day is done, the report of the conversion
 #
 # A STATION has nine characters for the RINEX name, as KIRU00SWE: site, monument, receiver and country. SKIPPED is the
 # largest percentage of bytes in no frame that isn't reported, 1 by default: more if the logs have other data too.
 set -eu
 export LC_ALL=C
+: "${2:?usage: day.sh STATION DAY}"
 station=$1 day=$2
 before=$(date -u -d "$day - 1 day" +%F)
 after=$(date -u -d "$day + 1 day" +%F)
 made=obs/$station/${station}_S_$(date -u -d "$day" +%Y%j)0000_01D_30S_MO.rnx
 kept=obs/$station/$day
-part=$made.$$.part raw=$kept.$$.raw
+part=$made.$$.part raw=$kept.$$.raw note=$kept.$$.part
 mkdir -p "obs/$station"
-trap 'rm -f "$part" "$raw"' EXIT
+# what a power cut left
+find "obs/$station" \( -name '????-??-??.[0-9]*.raw' -o -name '*.[0-9]*.part' \) -mtime +1 -exec rm -f {} +
+trap 'rm -f "$part" "$raw" "$note"' EXIT
 trap 'exit 1' HUP INT TERM
 
 # shellcheck disable=SC2048,SC2086 # split into words, the lines of an error become one
@@ -51,7 +56,7 @@ for log in "raw/$station/$day"*.rtcm3*; do
 done
 
 # The first and the last seconds of the day may be in the logs beside it: those of UTC begin 18 seconds after the GPS
-# day. If such a log is damaged, its own day says so.
+# day. If such a log is damaged or of another day, its own day says so, and this one is made without it.
 for last in "raw/$station/$before"*.rtcm3*; do :; done
 for next in "raw/$station/$after"*.rtcm3*; do break; done
 logs() {
@@ -60,27 +65,22 @@ logs() {
     test ! -e "$next" || gzip -cdf "$next" 2> /dev/null | head -c 2000000
 }
 
-# the options that fit them; a date that their ephemerides contradict is an error
-# shellcheck disable=SC2086 # there may be no station
-plan=$(logs | rtcm2rinex options --near "$day" $wanted 2>&1) || say "no file: $plan"
-
-# Recordings have no hurry: an epoch is closed by a later one, so that repeated messages can't end it.
-# shellcheck disable=SC2086 # the shell has to split a plan into options
-report=$(logs | rtcm2rinex convert --gather time --interval 30 --from "$day" --until "$after" \
-    --date "$(date -u '+%Y%m%d %H%M%S UTC')" $plan "$@" 2>&1 > "$part") || say "no file: $report"
+# The options that fit them, of which a date that their ephemerides contradict is an error, and the file. Recordings have
+# no hurry: an epoch is closed by a later one, so that repeated messages can't end it.
+# shellcheck disable=SC2086 # there may be no station, and the shell has to split a plan into options
+convert() {
+    plan=$(logs | rtcm2rinex options --near "$day" $wanted 2>&1) || { errors=$plan && return 1; }
+    report=$(logs | rtcm2rinex convert --gather time --interval 30 --from "$day" --until "$after" \
+        --date "$(date -u '+%Y%m%d %H%M%S UTC')" $plan "$@" 2>&1 > "$part") || { errors=$report && return 1; }
+}
+alone() {
+    { test -e "$last" || test -e "$next"; } && last='' next='' && convert "$@"
+}
+convert "$@" || alone "$@" || say "no file: $errors"
 gaps=$(rtcm2rinex check --gaps 30 --from "$day" --until "$after" < "$part" 2>&1) || say "no file: $gaps"
 values=$(rtcm2rinex quality < "$part" | grep '^signal ') || :
 # shellcheck disable=SC2086 # there may be no station
 heard=$(logs | rtcm2rinex signals $wanted)
-
-# A file that was made of more logs is kept.
-epochs() { rtcm2rinex check 2> /dev/null < "$1" | cut -d ' ' -f 2; }
-if test -e "$made"; then
-    had=$(epochs "$made") has=$(epochs "$part")
-    test "${had:-0}" -le "$has" || say "$has epochs, and $had in the file that there is, which is kept"
-fi
-echo "$report" > "$kept.report"
-echo "$values" > "$kept.signals"
 
 # Logs that overlap repeat messages, which are counted as late. Lost is a message of an earlier time than one before it,
 # if it comes for the first time. Times of BeiDou are 14 seconds behind GPS time, those of GLONASS are of Moscow, without
@@ -101,7 +101,22 @@ case $report in
         END { print late + 0 }')
     ;;
 esac
-mv "$part" "$made"
+
+# A file that was made of more logs is kept.
+epochs() { rtcm2rinex check 2> /dev/null < "$1" | cut -d ' ' -f 2; }
+if test -e "$made"; then
+    had=$(epochs "$made") has=$(epochs "$part")
+    test "${had:-0}" -le "$has" || say "$has epochs, and $had in the file that there is, which is kept"
+fi
+
+# Each file has its name only when it is complete; where this is interrupted, there is no report.
+rm -f "$kept.report"
+errors=$(mv "$part" "$made" 2>&1) || say "no file: $errors"
+keep() {
+    errors=$({ echo "$2" > "$note" && mv "$note" "$1"; } 2>&1) || say "no report: $errors"
+}
+keep "$kept.signals" "$values"
+keep "$kept.report" "$report"
 
 # What the day lacks, in one line: epochs, bytes, messages, and half of the values of a signal of the day before.
 previous=obs/$station/$before.signals

@@ -1,10 +1,11 @@
 #!/bin/sh
 # days.sh STATION [N]: converts yesterday by day.sh in this folder, and before it each of the N days before, by default 6,
-# that has raw logs and no report, as after the machine was off. It prints a line for each day that lacks something, and
-# then fails.
+# that has raw logs and no report, as after the machine was off or had no room. It prints a line for each day that lacks
+# something, and then fails.
 set -eu
+: "${1:?usage: days.sh STATION [N]}"
 station=$1 status=0 n=$((${2:-6} + 1))
-scripts=$(cd "$(dirname "$0")" && pwd)
+scripts=$(CDPATH='' cd -- "$(dirname -- "$0")" && pwd)
 while test "$n" -gt 0; do
     day=$(date -u -d "$n days ago" +%F)
     set -- "raw/$station/$day"*
