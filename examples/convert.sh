@@ -5,11 +5,12 @@
 #   DAY=2024-02-04 sh convert.sh s.rtcm3 s.obs
 # Further options are those of `rtcm2rinex convert`, such as --interval 30. The report is printed.
 set -eu
-raw=$1 obs=$2
+: "${2:?usage: convert.sh RAW OBS [OPTION ..]}"
+raw=$1 obs=$2 part=$2.$$.part
 shift 2
 # shellcheck disable=SC3013 # -ef is in POSIX.1-2024
-if test -d "$obs" || test "$raw" -ef "$obs" || test "$raw" -ef "$obs.part"; then
-    echo "$obs: a folder, or the recording" >&2
+if { test -e "$obs" && test ! -f "$obs"; } || test "$raw" -ef "$obs"; then
+    echo "$obs: a folder, a device or the like, or the recording" >&2
     exit 1
 fi
 
@@ -21,9 +22,9 @@ else
 fi
 
 # The file has its name only when it is complete. Not every shell runs the trap of EXIT at a signal.
-trap 'rm -f -- "$obs.part"' EXIT
+trap 'rm -f -- "$part"' EXIT
 trap 'exit 1' HUP INT TERM
 # Recordings have no hurry: an epoch is closed by a later one, so that repeated messages can't end it.
 # shellcheck disable=SC2086 # the shell has to split a plan into options
-rtcm2rinex convert --gather time --date "$(date -u '+%Y%m%d %H%M%S UTC')" $plan "$@" < "$raw" > "$obs.part"
-mv -- "$obs.part" "$obs"
+rtcm2rinex convert --gather time --date "$(date -u '+%Y%m%d %H%M%S UTC')" $plan "$@" < "$raw" > "$part"
+mv -- "$part" "$obs"
