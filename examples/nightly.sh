@@ -8,8 +8,9 @@
 # under the same names, and have rtcm2rinex and GNU parallel in the PATH of their shells.
 set -eu
 day=${1:-$(date -u -d yesterday +%F)}
-scripts=$(cd "$(dirname "$0")" && pwd)
-list=$(grep -sv -e '^#' -e '^[[:blank:]]*$' stations) || {
+scripts=$(CDPATH='' cd -- "$(dirname -- "$0")" && pwd)
+# also of a list whose lines end as those of Windows
+list=$({ tr -d '\r' < stations | grep -v -e '^#' -e '^[[:blank:]]*$'; } 2> /dev/null) || {
     echo "stations: missing or empty" >&2
     exit 1
 }
