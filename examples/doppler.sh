@@ -4,6 +4,7 @@
 # if there is no such line.
 # doppler.sh --turn OBS: prints the file with the other sign of each D.
 set -eu
+: "${1:?usage: doppler.sh [--turn] OBS}"
 # some awks read and print decimals with the comma of the locale
 export LC_ALL=C
 # awk has the file as its input, since it takes names with = for assignments

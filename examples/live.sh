@@ -7,6 +7,7 @@
 # nothing. The last epoch is kept at Ctrl-C, at SIGTERM to all processes, and when the terminal is closed, after which
 # the conversion goes on. For an archive keep the raw stream (rtcm2rinex-log@.service) and convert it a day at a time.
 set -eu
+: "${3:?usage: live.sh PLAN STREAM NAME [OPTION ..]}"
 plan=$(cat "$1")
 test "$plan" || {
     echo "$1: no plan" >&2

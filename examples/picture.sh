@@ -6,6 +6,7 @@
 # A column of the pictures is a period of SECONDS, a divisor of a day; by default the shortest of which there are at
 # most 400. A gap is one by `rtcm2rinex check --gaps`, at the smallest step between epochs.
 set -eu
+: "${2:?usage: picture.sh OBS NAME [SECONDS]}"
 obs=$1 name=$2 every=${3-}
 # some awks read and print decimals with the comma of the locale
 export LC_ALL=C

@@ -2,6 +2,7 @@
 # read-back.sh FILE ..: checks observation files, also compressed by gzip, and prints the number of epochs, the first
 # and the last time of each, or why it isn't accepted. It fails if one isn't.
 set -eu
+: "${1:?usage: read-back.sh FILE ..}"
 status=0
 for file; do
     # read twice, since a pipe doesn't have the status of gzip
