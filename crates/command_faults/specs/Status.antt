@@ -3,22 +3,16 @@ use Rattle.std.specs.Prelude.{ℕ, Result, Ok, Err}
 use Rattle.command_faults.specs.declared.fault.CommandFault.{CommandFault}
 use Rattle.command_faults.specs.declared.fault.CommandFault.TheVariants as faults
 
--- the exit status of a fault: 2 for two options of which not one is given, or three of which not all are, and for an
--- invalid date, position, height, list of channels, window, interval or tolerance
+-- the exit status of a fault: 1 if memory ran out, for a text of the header or a plan that is refused, and if the command
+-- stopped; 2 if not one of two options or not all of three are given, and for any other invalid option
 abbrev pub fault_status : CommandFault → ℕ
-fault_status faults.OneOf = 2
-fault_status (faults.BadDate option) = 2
-fault_status faults.BadPosition = 2
-fault_status faults.BadHeight = 2
-fault_status faults.BadChannels = 2
-fault_status faults.BadWindow = 2
-fault_status faults.BadInterval = 2
-fault_status faults.BadTolerance = 2
-fault_status faults.BadGaps = 2
-fault_status faults.BadEvery = 2
-fault_status faults.AllOf = 2
-fault_status faults.BadGapsWindow = 2
-fault_status other = 1
+fault_status faults.Memory = 1
+fault_status (faults.Header e) = 1
+fault_status (faults.Plan e) = 1
+fault_status (faults.Convert e) = 1
+fault_status (faults.Inspect e) = 1
+fault_status (faults.File e) = 1
+fault_status other = 2
 
 -- the exit status of a command with this result
 abbrev pub status_of : {A : Type 0} → Result A CommandFault → ℕ

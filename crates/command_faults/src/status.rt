@@ -20,18 +20,12 @@ pub fn exit_status<E: Deliver>(ended: Result<(), CommandFault>, faults: &mut Cou
     let Err(fault) = ended else { return 0 };
     print_line(error_line(fault).as_bytes(), faults);
     match fault {
-        CommandFault::OneOf
-        | CommandFault::BadDate(_)
-        | CommandFault::BadPosition
-        | CommandFault::BadHeight
-        | CommandFault::BadChannels
-        | CommandFault::BadWindow
-        | CommandFault::BadInterval
-        | CommandFault::BadTolerance
-        | CommandFault::BadGaps
-        | CommandFault::BadEvery
-        | CommandFault::AllOf
-        | CommandFault::BadGapsWindow => 2,
-        _ => 1,
+        CommandFault::Memory
+        | CommandFault::Header(_)
+        | CommandFault::Plan(_)
+        | CommandFault::Convert(_)
+        | CommandFault::Inspect(_)
+        | CommandFault::File(_) => 1,
+        _ => 2,
     }
 }
