@@ -1,5 +1,5 @@
 //! The values of the options of the commands.
-ghost use Rattle.std.specs.Prelude.{◌≡◌, ◌+◌, ◌<◌, ◌≤◌, IfOk, IfSome, MatchResult, Ok, codes, not, unwrap_or};
+ghost use Rattle.std.specs.Prelude.{◌≡◌, ◌+◌, ◌<◌, ◌≤◌, IfOk, IfSome, MatchResult, Ok, codes, not};
 ghost use Rattle.std.specs.Fn.{FnOnceReturnsAt};
 ghost use Rattle.clap.specs.Walk.{first_of, one_of};
 ghost use Rattle.std.specs.Str.{bytes_eq};
@@ -109,16 +109,10 @@ fn if_given<T, F: FnOnce(&str) -> Option<T>>(
 pub fn source_of(options: &ArgMatches) -> Result<WeekSource, CommandFault>
     ensures { MatchResult result (IsSourceSet (options_of options.now)) (IsSourceRefused (options_of options.now)) }
 {
-    if has_flag(options, "week") {
-        match options.get_str("near") {
-            Some(_) => Err(CommandFault::OneOf),
-            None => Ok(WeekSource::Ephemerides),
-        }
-    } else {
-        match near_of(options)? {
-            Some(noon) => Ok(WeekSource::Near(noon)),
-            None => Ok(WeekSource::Unprinted),
-        }
+    match (has_flag(options, "week"), options.get_str("near")) {
+        (true, Some(_)) => Err(CommandFault::OneOf),
+        (true, None) => Ok(WeekSource::Ephemerides),
+        (false, _) => Ok(near_of(options)?.map_or(WeekSource::Unprinted, WeekSource::Near)),
     }
 }
 
@@ -152,10 +146,8 @@ pub fn complete_of(options: &ArgMatches) -> Result<Option<Completeness>, Command
     let Some(interval) = gaps? else {
         return Ok(None);
     };
-    match whole_window_of(options, interval) {
-        Ok(window) => Ok(Some(Completeness { interval, window })),
-        Err(fault) => Err(fault),
-    }
+    let window = whole_window_of(options, interval)?;
+    Ok(Some(Completeness { interval, window }))
 }
 
 /// Returns whether the begin or the end of a window is given, but not both with the interval.
@@ -238,11 +230,7 @@ pub fn every_of(options: &ArgMatches) -> Result<Option<Interval>, CommandFault>
 fn period_length_of(text: &str) -> Option<Interval>
     ensures { result ≡ period_length_of text.now }
 {
-    let every = epoch_interval_of(text)?;
-    if every.milliseconds() < 1_000 {
-        return None;
-    }
-    Some(every)
+    epoch_interval_of(text).filter(|every| every.milliseconds() >= 1_000)
 }
 
 /// Returns the choice of the epochs that are written.
@@ -270,22 +258,12 @@ fn window_of(options: &ArgMatches) -> Result<(u64, u64), CommandFault>
 {
     let from = moment_of(options, "from", DateOption::From);
     let until = moment_of(options, "until", DateOption::Until);
-    let (from, until) = (from?, until?);
-    let (from, until) = (time_or(from, 0), time_or(until, u64::MAX));
+    let from = from?.map_or(0, |time| time.milliseconds());
+    let until = until?.map_or(u64::MAX, |time| time.milliseconds());
     if from < until {
         Ok((from, until))
     } else {
         Err(CommandFault::BadWindow)
-    }
-}
-
-/// Returns a time in milliseconds, or `otherwise` without a time.
-fn time_or(time: Option<GpsTime>, otherwise: u64) -> u64
-    ensures { result ≡ unwrap_or time otherwise }
-{
-    match time {
-        Some(time) => time.milliseconds(),
-        None => otherwise,
     }
 }
 
