@@ -1,5 +1,5 @@
 -- A conversion that is stopped by a fault.
-use Rattle.rtcm_command.proofs.Names.{arith, common_steps, ⊤, AreUntouched, Devices, Writer, EndsConverting, culprit, IsErrAnd, passed, ◌≡◌, sym, subst, refl, ℕ, ℤ, List, Option, Some, None, Result, Err, IsErrOf, IfSome, inl, inr, ◌≢◌, ◌↔◌, IsSentAfter, IsSetupFault, IsMadeEmpty, IsMadeSoFar, IsMadeInPart, IsMadeToLimit, IsBad, Setup, Fault, BadSetup, TooLong, Read, Write, Failed, Finished, Report, CommandFault, Row, StationValues, values_by, HasSetupFault, IsRefusedAfterStart, IsRefusedAfterChannels, IsSetupRefused, IsStartFault, IsStartSet, Start, codes, first_of, values_set, StopsConversion, HaveFailedBy, ChannelsValue, channels_by, channels_set, IsOfNone}
+use Rattle.rtcm_command.proofs.Names.{arith, common_steps, ⊤, AreUntouched, Devices, Writer, EndsConverting, culprit, IsErrAnd, passed, ◌≡◌, sym, subst, refl, ℕ, ℤ, List, Option, Some, None, Result, Err, IsErrOf, IfSome, inl, inr, ◌≢◌, ◌↔◌, IsSentAfter, IsSetupFault, IsMadeEmpty, IsMadeSoFar, IsMadeInPart, IsMadeToLimit, IsBad, Setup, Fault, BadSetup, TooLong, Read, Write, Failed, Finished, Report, CommandFault, Row, StationValues, values_by, HasSetupFault, IsRefusedAfterStart, IsRefusedAfterChannels, IsSetupRefused, IsStartFault, IsStartSet, Start, codes, first_of, values_set, StopsConversion, HaveFailedBy, ChannelsValue, ok_or, channels_set, IsOfNone}
 use Rattle.rtcm_command.proofs.OptionLemmas.{bad_choice}
 use Rattle.command_faults.specs.declared.fault.CommandFault.TheVariants as faults
 
@@ -48,7 +48,7 @@ module _ {R W : Type 0} (d : Devices R W) (options : List Row) where
     last (inl choice) = bad_choice HasNoneFailed (λ o. (refl, refl)) (refl, refl) (refl, refl) (refl, refl) options e choice
     last (inr (choice, is, fault)) = made e fault
 
-    by : (p : Option (ℤ × ℤ × ℤ)) (h : Option ℕ) (c : Option ChannelsValue) → IsRefusedAfterStart (values_by p h) (channels_by c) options e → HasNoneFailed e
+    by : (p : Option (ℤ × ℤ × ℤ)) (h : Option ℕ) (c : Option ChannelsValue) → IsRefusedAfterStart (values_by p h) (ok_or c faults.BadChannels) options e → HasNoneFailed e
     by (Some (x, y, z)) (Some h) (Some c) is = last is
     by p h c is = subst HasNoneFailed (sym is) (refl, refl)
 

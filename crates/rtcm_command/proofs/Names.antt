@@ -46,7 +46,7 @@ pub use Rattle.rtcm_command.specs.PrintedPlan.{ArePrintedWords, HaveValues, IsDa
 unfoldable pub use Rattle.rtcm_command.specs.Reports.{report_line}
 pub use Rattle.rtcm_command.specs.Reports.{channel_count, counts_named}
 unfoldable pub use Rattle.rtcm_command.specs.SetupOptions.{plan_set}
-pub use Rattle.rtcm_command.specs.SetupOptions.{HasSetupFault, IsChoiceSet, IsFromSet, IsGapsSet, IsGiven, IsIntervalSet, IsNumberOf, IsNumberOr, IsPlanSet, IsRefusedAfterChannels, IsRefusedAfterStart, IsSetupRefused, IsSourceRefused, IsStartFault, IsStartOf, IsStartSet, IsTimeBy, IsUntilSet, channels_by, channels_set, choice_by, options_of, text_set, tolerance_set, usual_leap, values_by, values_in, values_set, window_by}
+pub use Rattle.rtcm_command.specs.SetupOptions.{HasSetupFault, IsChoiceSet, IsFromSet, IsGapsSet, IsGiven, IsIntervalSet, IsNumberOf, IsNumberOr, IsPlanSet, IsRefusedAfterChannels, IsRefusedAfterStart, IsSetupRefused, IsSourceRefused, IsStartFault, IsStartOf, IsStartSet, IsTimeBy, IsUntilSet, channels_set, choice_by, options_of, text_set, tolerance_set, usual_leap, values_by, values_in, values_set, window_by}
 pub use Rattle.rtcm_convert.specs.Faults.{IsOfNone, IsSentAfter, IsSetupFault}
 pub use Rattle.rtcm_convert.specs.Made.{IsMadeEmpty, IsMadeInPart, IsMadeSoFar, IsMadeToLimit}
 pub use Rattle.rtcm_convert.specs.SetupValues.{IsBad, setup_value}

@@ -20,7 +20,7 @@ use Rattle.rinex_inspect.specs.Quality.{EndsQuality}
 use Rattle.rtcm_command.specs.Converting.{IsConverted, StopsConverting}
 use Rattle.command_line.specs.CommandLine.{SelectsCommand, FailsParsing}
 use Rattle.command_line.specs.inner.CommandLine.{IsCommand}
-use Rattle.rtcm_command.specs.Devices.{IsInspected, IsOfFile, culprit}
+use Rattle.rtcm_command.specs.Devices.{culprit}
 use Rattle.command_faults.specs.ErrorLines.{error_line}
 use Rattle.command_faults.specs.Status.{fault_status}
 use Rattle.rtcm_command.specs.SetupOptions.{IsNumberOf, IsSetupRefused, IsSourceRefused, IsSourceSet, IsEverySet}
@@ -39,15 +39,6 @@ use Rattle.command_line.specs.declared.cli.TheConstants.{VERSION}
 abbrev pub OfStation : List Row → (Option ℕ → Type 0) → Type 0
 OfStation options Does = (wanted : Option ℕ) × IsNumberOf 16 (one_of (codes "station") options) wanted × Does wanted
 
--- for the station and the week
-abbrev pub OfSource : List Row → (WeekSource → (wanted : Option ℕ) → Type 0) → Type 0
-OfSource options Does =
-    OfStation options (λ wanted. (source : WeekSource) × IsSourceSet options source × Does source wanted)
-
--- for what makes the file complete
-abbrev pub OfComplete : List Row → (Option Completeness → Type 0) → Type 0
-OfComplete options Does = (complete : Option Completeness) × IsCompleteSet options (Ok complete) × Does complete
-
 -- How a command that reads a stream and doesn't convert it ended with these options: the stream was listed, or its
 -- signals or the options that fit it were printed.
 abbrev pub EndsInspection : {R W : Type 0} → Result ⊤ InspectFault → Text → List Row → (d d' : Devices R W) → Type 0
@@ -57,19 +48,16 @@ EndsInspection result name options d d' =
     ⊎ ((name ≡ codes "signals")
     × OfStation options (λ wanted. EndsStream result (AreSignalsOf wanted) (AreSignalsRefused wanted) d d'))
     ⊎ ((name ≡ codes "options")
-    × OfSource options (λ source wanted.
-    EndsStream result (AreOptionsOf source wanted) (AreOptionsRefused source wanted) d d'))
-
--- for the length of the periods, if it is given
-abbrev pub OfEvery : List Row → (Option ℕ → Type 0) → Type 0
-OfEvery options Does = (every : Option ℕ) × IsEverySet options (Ok every) × Does every
+    × OfStation options (λ wanted. (source : WeekSource) × IsSourceSet options source
+    × EndsStream result (AreOptionsOf source wanted) (AreOptionsRefused source wanted) d d'))
 
 -- how a command that reads a file ended with these options: the file was read back, or its values were counted
 abbrev pub EndsOnFile : {R W : Type 0} → Result ⊤ FileFault → Text → List Row → (d d' : Devices R W) → Type 0
 EndsOnFile result name options d d' =
-    ((name ≡ codes "check") × OfComplete options (λ complete.
-    EndsCheck (record { complete = complete; times = has_flag (codes "times") options }) result d d'))
-    ⊎ ((name ≡ codes "quality") × OfEvery options (λ every. EndsQuality every result d d'))
+    ((name ≡ codes "check") × ((complete : Option Completeness) × IsCompleteSet options (Ok complete)
+    × EndsCheck (record { complete = complete; times = has_flag (codes "times") options }) result d d'))
+    ⊎ ((name ≡ codes "quality")
+    × ((every : Option ℕ) × IsEverySet options (Ok every) × EndsQuality every result d d'))
 
 -- the options of a command that reads a file are refused with this fault
 abbrev pub AreFileOptionsRefused : Text → List Row → CommandFault → Type 0
@@ -89,8 +77,8 @@ HasDone name options e e' d d' =
 abbrev pub HasStopped : {R W : Type 0} → Text → List Row → (d d' : Devices R W) → CommandFault → Type 0
 HasStopped name options d d' fault =
     ((name ≡ codes "convert") × StopsConverting options d d' fault)
-    ⊎ IsInspected (λ e. EndsInspection (Err e) name options d d') fault
-    ⊎ IsOfFile (λ e. EndsOnFile (Err e) name options d d') fault
+    ⊎ ((e : InspectFault) × (fault ≡ faults.Inspect e) × EndsInspection (Err e) name options d d')
+    ⊎ ((e : FileFault) × (fault ≡ faults.File e) × EndsOnFile (Err e) name options d d')
     ⊎ ((name ≡ codes "options") × IsSourceRefused options fault × AreUntouched d d')
     ⊎ (AreFileOptionsRefused name options fault × AreUntouched d d')
 

@@ -21,14 +21,6 @@ abbrev pub of_file : {A : Type 0} → Result A FileFault → Result A CommandFau
 of_file (Ok x) = Ok x
 of_file (Err e) = Err (faults.File e)
 
--- a command that reads a stream and doesn't convert it was stopped by this fault
-abbrev pub IsInspected : (InspectFault → Type 0) → CommandFault → Type 0
-IsInspected Stops fault = (e : InspectFault) × (fault ≡ faults.Inspect e) × Stops e
-
--- a command that reads a file was stopped by this fault
-abbrev pub IsOfFile : (FileFault → Type 0) → CommandFault → Type 0
-IsOfFile Stops fault = (e : FileFault) × (fault ≡ faults.File e) × Stops e
-
 -- a conversion was stopped by this fault
 abbrev pub IsOfConversion : (Fault → Type 0) → CommandFault → Type 0
 IsOfConversion Stops fault = (e : Fault) × (fault ≡ faults.Convert e) × Stops e

@@ -22,7 +22,6 @@ use Rattle.line_texts.specs.Lines.{line}
 use Rattle.rtcm_inspect.specs.FirstMessages.{first_station}
 use Rattle.rtcm_inspect.specs.WeekLaws.{first_tow, first_time}
 use Rattle.rtcm_inspect.specs.Fitting.{option_words, options_text}
-use Rattle.obs_epoch.specs.NearWeek.{IsWeekNear}
 use Rattle.rtcm_inspect.specs.FirstTwo.{first_two}
 use Rattle.rtcm_inspect.specs.OptionOutput.{IsPrinted}
 use Rattle.rtcm_inspect.specs.SentWeeks.{leap_by, week_by, whole_in}
@@ -33,6 +32,7 @@ use Rattle.rtcm_inspect.specs.Signals.{forms_had, plan_in, set_had, valued_in}
 use Rattle.rtcm_convert.specs.Converted.{messages_of}
 use Rattle.rtcm_convert.specs.SetupValues.{setup_value}
 use Rattle.rtcm_convert.specs.declared.setup.Setup.{Setup}
+use Rattle.rtcm_command.specs.NearOption.{StartsNear}
 use Rattle.rtcm_command.specs.SetupOptions.{IsSetupOf, text_set, usual_leap}
 
 -- ---- the options that words give
@@ -96,12 +96,6 @@ abbrev pub IsDatedIn : (w : ℕ) → (leap : ℕ) → Setup → (wanted : Option
 IsDatedIn w leap x wanted fs = (tow : ℕ) → first_tow leap (set_had wanted fs) wanted fs ≡ Some tow
     → first_time (timed (setup_value x).gatherer (messages_of (setup_value x) fs)) ≡ Some (w * week + tow)
 
--- in the week nearest to the noon of the date
-abbrev pub IsDatedNear : (noon : ℕ) → Setup → (wanted : Option ℕ) → List Framed → Type 0
-IsDatedNear noon x wanted fs = (tow : ℕ) → first_tow (leap_at noon) (set_had wanted fs) wanted fs ≡ Some tow
-    → (n : ℕ) × IsWeekNear noon tow n
-    × (first_time (timed (setup_value x).gatherer (messages_of (setup_value x) fs)) ≡ Some (n * week + tow))
-
 -- These are the week and the leap seconds that `options` prints, and the options are as printed.
 pub record AreOptionsPrinted (options : List Row) (source : WeekSource) (w leap wanted : Option ℕ)
     (fs : List Framed) : Type 0 where
@@ -121,9 +115,11 @@ abbrev pub IsStartedAsFound : Type 0
 IsStartedAsFound = (options : List Row) (source : WeekSource) (w leap wanted : Option ℕ) (fs : List Framed) (x : Setup)
     → AreOptionsPrinted options source w leap wanted fs → IsSetupOf options x → StartsAsFound x w leap wanted fs
 
+-- in the week in which its first MSM is nearest to the noon of the date
 abbrev pub IsDatedAsPrinted : Type 0
 IsDatedAsPrinted = (options : List Row) (noon : ℕ) (w leap wanted : Option ℕ) (fs : List Framed) (x : Setup)
-    → AreOptionsPrinted options (Near noon) w leap wanted fs → IsSetupOf options x → IsDatedNear noon x wanted fs
+    → AreOptionsPrinted options (Near noon) w leap wanted fs → IsSetupOf options x
+    → StartsNear noon (first_tow (leap_at noon) (set_had wanted fs) wanted fs) x fs
 
 -- by the ephemerides, which all say that GPS week d was counted as week 0
 abbrev pub IsDatedAsSent : Type 0

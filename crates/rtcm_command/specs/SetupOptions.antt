@@ -210,12 +210,8 @@ unfoldable pub plan_set : List Row → Result PlanValue PlanFault
 plan_set options = plan_of (plan_texts options)
 
 -- the channels that the options give, or the fault of their text
-abbrev pub channels_by : Option ChannelsValue → Result ChannelsValue CommandFault
-channels_by None = Err faults.BadChannels
-channels_by (Some channels) = Ok channels
-
 abbrev pub channels_set : List Row → Result ChannelsValue CommandFault
-channels_set options = channels_by (channels_of (text_set options (codes "glonass-channels")))
+channels_set options = ok_or (channels_of (text_set options (codes "glonass-channels"))) faults.BadChannels
 
 -- the plan with the channels that the options give
 abbrev pub IsPlanSet : List Row → PlanValue → Type 0

@@ -1,5 +1,6 @@
-use Rattle.rtcm_command.proofs.Names.{◌∙◌, ap, channels_by, channels_of}
+use Rattle.command_faults.specs.declared.fault.CommandFault.TheVariants.{BadChannels}
+use Rattle.rtcm_command.proofs.Names.{◌∙◌, ap, ok_or, channels_of}
 use Rattle.rtcm_command.proofs.laws.channels.Goals as goal
 
 pub returns : goal.returns
-returns c = λ options channels are text. ap (λ t. channels_by (channels_of t)) text ∙ ap channels_by (c.channels.ensures.read channels are)
+returns c = λ options channels are text. ap (λ t. ok_or (channels_of t) BadChannels) text ∙ ap (λ c. ok_or c BadChannels) (c.channels.ensures.read channels are)
