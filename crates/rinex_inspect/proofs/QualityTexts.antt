@@ -1,5 +1,5 @@
 -- The words of the lines of `quality`.
-use Rattle.rinex_inspect.proofs.Names.{common_steps, ◌≡◌, ◌∙◌, ◌+◌, ◌<◌, ◌≤◌, ◌++◌, ◌∷◌, [], ℕ, Bool, List, cond, length, codes, decimal, refl, ap, ap₂, sym, append_assoc, arith, Err, drop, take, get_or, subst, ◌-◌, length-append, get_or_read, count_by, sum_by, length_indices, planned_of, SignalAt, most_signals, IsPrintable, IsSmallTally, HasPlaces, contents_in, record_at, records_in, tally_at, SatelliteRecord, Table, no_tally, Writer, EndsPrinting, longer_part, below, PlanValue, System, letter, satellites, end_line, with_words, IsPrefix, clock_text, date_text, present_line, signal_line, tally_line, time_word, Contents, code_at, lost_in, presence_words, satellite_word, tally_words, has_values, total, Presence, Tally}
+use Rattle.rinex_inspect.proofs.Names.{IsErrAnd, passed, Result, common_steps, ◌≡◌, ◌∙◌, ◌+◌, ◌<◌, ◌≤◌, ◌++◌, ◌∷◌, [], ℕ, Bool, List, cond, length, codes, decimal, refl, ap, ap₂, sym, append_assoc, arith, Err, drop, take, get_or, subst, ◌-◌, length-append, get_or_read, count_by, sum_by, length_indices, planned_of, SignalAt, most_signals, IsPrintable, IsSmallTally, HasPlaces, contents_in, record_at, records_in, tally_at, SatelliteRecord, Table, no_tally, Writer, EndsPrinting, longer_part, below, PlanValue, System, letter, satellites, end_line, with_words, IsPrefix, clock_text, date_text, present_line, signal_line, tally_line, time_word, Contents, code_at, lost_in, presence_words, satellite_word, tally_words, has_values, total, Presence, Tally}
 use Rattle.std.proofs.Math.Seq.{take-length}
 use Rattle.gnss_obs.specs.SignalLists.{indices}
 use Rattle.gnss_obs.specs.Dates.{civil_of}
@@ -56,8 +56,8 @@ tally_line_is plan start s i k {t} {u} {w = w} same none e1 word e2 e3 e4 e5 =
     (e4 ∙ ap₂ (λ (x : List ℕ) (v : Tally). with_words x (tally_words v)) (e3 ∙ ap (λ (x : List ℕ). x ++ 0x20 ∷ code_at plan s k) (e2 ∙ ap (λ (x : List ℕ). x ++ 0x20 ∷ satellite_word s i) (e1 ∙ ap (λ (x : List ℕ). x ++ w) none ∙ word))) same)
 
 -- a text that was written in part is a part of a longer one
-pub part_of_more : (A : Type 0) {F W : Type 0} (failed fault : F) (w w2 : Writer W) (x y : List ℕ) → EndsPrinting {A = A} failed (Err fault) x w w2 → IsPrefix x y → EndsPrinting {A = A} failed (Err fault) y w w2
-part_of_more A failed fault w w2 x y (same, (fails, part)) more = (same, (fails, longer_part _ _ x y part more))
+pub part_of_more : {A F W : Type 0} (B : Type 0) {failed fault : F} (r : Result A F) (w w2 : Writer W) (x y : List ℕ) → IsErrAnd r (λ e. e ≡ fault) → EndsPrinting {A = B} failed (Err fault) x w w2 → IsPrefix x y → EndsPrinting failed r y w w2
+part_of_more B {failed} {fault} r w w2 x y is (same, (fails, part)) more = passed r fault (λ r. EndsPrinting failed r y w w2) is (same, (fails, longer_part _ _ x y part more))
 
 -- ---- what the records of a table have
 

@@ -1,5 +1,5 @@
 -- The reading of the lines of an epoch into a table.
-use Rattle.rinex_inspect.proofs.Names.{All-pop, common_steps, ◌≡◌, ◌∙◌, ◌+◌, ◌^◌, ◌<◌, ◌≤◌, ◌++◌, ◌∷◌, [], ℕ, Bool, List, Option, Result, Ok, Err, length, refl, ap, ap₂, sym, subst, arith, append-nil, Some, None, zero, suc, ◌==◌, ◌*◌, ⊤, IsStrictlyIncreasing, Appends-nil, length-append, map-append, length-filter-le, Devices, Writer, printed_after, EndsPrinting, PrintsPart, PrintsText, PlanValue, most_signals, System, time_stamped, HasReadEpochs, times_in, BeginsEpoch, FileSummary, check_line, FileValue, end_text, Contents, quality_output, satellite_lines, signal_lines, contents_of, in_period, last_period, lines_before, lines_of, period_of, texts_below, FileFault, Tables, Period, Satellites, Signals, IsPrintable, AreTables, KeepsPlan, IsPrintedAfter, RatesEpoch, RatesNext, ReadsRows, period_text, IsBlankTable, contents_in, AreFine, one_plan, part_fine, plan_known, whole_fine, Counts, culprit, ReaderFailures, RatesPeriods, AreSatelliteRows, IsSatelliteRow, planned_in, SatelliteRow, Stamped, EpochReader, ReadFault, HasReadRows, ReadsRow, plan_of, with_read, Table, HasAddedRow, IsTableOf}
+use Rattle.rinex_inspect.proofs.Names.{IsErrAnd, passed, All-pop, common_steps, ◌≡◌, ◌∙◌, ◌+◌, ◌^◌, ◌<◌, ◌≤◌, ◌++◌, ◌∷◌, [], ℕ, Bool, List, Option, Result, Ok, Err, length, refl, ap, ap₂, sym, subst, arith, append-nil, Some, None, zero, suc, ◌==◌, ◌*◌, ⊤, IsStrictlyIncreasing, Appends-nil, length-append, map-append, length-filter-le, Devices, Writer, printed_after, EndsPrinting, PrintsPart, PrintsText, PlanValue, most_signals, System, time_stamped, HasReadEpochs, times_in, BeginsEpoch, FileSummary, check_line, FileValue, end_text, Contents, quality_output, satellite_lines, signal_lines, contents_of, in_period, last_period, lines_before, lines_of, period_of, texts_below, FileFault, Tables, Period, Satellites, Signals, IsPrintable, AreTables, KeepsPlan, IsPrintedAfter, RatesEpoch, RatesNext, ReadsRows, period_text, IsBlankTable, contents_in, AreFine, one_plan, part_fine, plan_known, whole_fine, Counts, culprit, ReaderFailures, RatesPeriods, AreSatelliteRows, IsSatelliteRow, planned_in, SatelliteRow, Stamped, EpochReader, ReadFault, HasReadRows, ReadsRow, plan_of, with_read, Table, HasAddedRow, IsTableOf}
 use Rattle.rinex_inspect.proofs.ContentsLemmas.{AreFew, AreSame, few_of, few_planned, lines_same, period_is, printable, table_contents}
 use Rattle.rinex_file.specs.declared.read.epochs.NextEpoch.TheVariants.{End}
 use Rattle.rinex_inspect.proofs.PeriodLemmas.{IsEvery, before_later, before_same, none_first, none_later, period_other, period_rises, period_same, period_with}
@@ -115,9 +115,9 @@ later_tables every es whole t is rise less at current next =
     record { period = at ∙ sym last; current = subst (IsTableOf t.current) (sym epochs) current; next = next }
 
 -- the writer failed in the lines of a period
-pub rated_in_part : {R W : Type 0} (t : Tables) {fault : FileFault} (every : Option ℕ) (old new : EpochReader) (es : List Stamped) (time : ℕ) (input : Option (List ℕ)) (d d2 : Devices R W) → fault ≡ faults.Write
-    → RatesEpoch every old new t es time input (Err faults.Write) d d2 → RatesEpoch every old new t es time input (Err fault) d d2
-rated_in_part t every old new es time input d d2 write h = subst (λ (f : FileFault). RatesEpoch every old new t es time input (Err f) d d2) (sym write) h
+pub rated_in_part : {R W : Type 0} (t : Tables) {fault : FileFault} (every : Option ℕ) (old new : EpochReader) (es : List Stamped) (time : ℕ) (input : Option (List ℕ)) (d d2 : Devices R W) (r : Result ⊤ FileFault) → IsErrAnd r (λ f. f ≡ fault) → fault ≡ faults.Write
+    → RatesEpoch every old new t es time input (Err faults.Write) d d2 → RatesEpoch every old new t es time input r d d2
+rated_in_part t every old new es time input d d2 r is write h = passed r faults.Write (λ r. RatesEpoch every old new t es time input r d d2) (subst (λ (f : FileFault). IsErrAnd r (λ g. g ≡ f)) write is) h
 
 -- ---- one epoch after the other
 

@@ -225,10 +225,8 @@ fn print_gap<W: Deliver>(
     if missing == 0 {
         return Ok(0);
     }
-    match print_text(line.as_bytes(), writer, FileFault::Write) {
-        Ok(()) => Ok(missing),
-        Err(fault) => Err(fault),
-    }
+    print_text(line.as_bytes(), writer, FileFault::Write)?;
+    Ok(missing)
 }
 
 /// Returns the time of the first epoch: that of an epoch, or of those before it.

@@ -65,17 +65,14 @@ pub fn run_quality<R: Read, W: Deliver>(
 {
     deliver_waiting(writer, FileFault::Write)?;
     note_interval(&every);
-    match Tables::new(alloc) {
-        Ok(tables) => {
-            let mut tables = tables;
-            let mut file = EpochReader::new(alloc);
-            let ended = rate(&every, &mut tables, &mut file, reader, writer);
-            drop(file);
-            drop(tables);
-            ended
-        }
-        Err(_) => Err(FileFault::File(ReadFault::Memory)),
-    }
+    let Ok(mut tables) = Tables::new(alloc) else {
+        return Err(FileFault::File(ReadFault::Memory));
+    };
+    let mut file = EpochReader::new(alloc);
+    let ended = rate(&every, &mut tables, &mut file, reader, writer);
+    drop(file);
+    drop(tables);
+    ended
 }
 
 /// States what every interval is, which a proof knows only after a call.
@@ -105,10 +102,8 @@ fn rate<R: Read, W: Deliver>(
     ensures only { Changes R.remaining reader.old reader.new W.contents W.waiting writer.old writer.new
         (RatesFiles every.now result) }
 {
-    match print_periods(every, tables, file, reader, writer) {
-        Ok(counts) => print_end(every, tables, file, &counts, writer),
-        Err(fault) => Err(fault),
-    }
+    let counts = print_periods(every, tables, file, reader, writer)?;
+    print_end(every, tables, file, &counts, writer)
 }
 
 impl Tables {
@@ -148,10 +143,8 @@ fn print_periods<R: Read, W: Deliver>(
     ensures left { LeavesRest (R.remaining reader.old.inner) (R.remaining reader.new.inner) }
 {
     loop {
-        match rate_next(every, tables, file, reader, writer) {
-            Ok(None) => {}
-            Ok(Some(counts)) => return Ok(counts),
-            Err(fault) => return Err(fault),
+        if let Some(counts) = rate_next(every, tables, file, reader, writer)? {
+            return Ok(counts);
         }
     }
 }
@@ -180,10 +173,8 @@ fn rate_next<R: Read, W: Deliver>(
         Ok(NextEpoch::Epoch { before, time }) => {
             // The proof of this arm needs the name of each field.
             let _ = before.is_some();
-            match take_epoch(every, time, tables, file, reader, writer) {
-                Ok(()) => Ok(None),
-                Err(fault) => Err(fault),
-            }
+            take_epoch(every, time, tables, file, reader, writer)?;
+            Ok(None)
         }
         Ok(NextEpoch::End(summary)) => Ok(Some(summary.counts)),
         Err(fault) => Err(FileFault::File(fault)),
@@ -215,14 +206,8 @@ fn take_epoch<R: Read, W: Deliver>(
     if period == tables.period {
         return read_rows(time, &mut tables.current, file, reader);
     }
-    match read_rows(time, &mut tables.next, file, reader) {
-        Ok(()) => {}
-        Err(fault) => return Err(fault),
-    }
-    match print_period(every, &tables.current, tables.period, file, writer) {
-        Ok(()) => {}
-        Err(fault) => return Err(fault),
-    }
+    read_rows(time, &mut tables.next, file, reader)?;
+    print_period(every, &tables.current, tables.period, file, writer)?;
     tables.current.clear();
     mem::swap(&mut tables.current, &mut tables.next);
     tables.period = period;
@@ -329,12 +314,7 @@ fn print_whole<W: Deliver>(
 {
     let mut line = OutputLine::new();
     add_counts(&mut line, counts);
-    match print_text(line.as_bytes(), writer, FileFault::Write) {
-        Ok(()) => {}
-        Err(fault) => return Err(fault),
-    }
-    match print_lines(&Lines::Signals, table, file, writer) {
-        Ok(()) => print_lines(&Lines::Satellites, table, file, writer),
-        Err(fault) => Err(fault),
-    }
+    print_text(line.as_bytes(), writer, FileFault::Write)?;
+    print_lines(&Lines::Signals, table, file, writer)?;
+    print_lines(&Lines::Satellites, table, file, writer)
 }

@@ -50,10 +50,7 @@ pub(crate) fn print_lines<W: Deliver>(
         (EndsPrinting FileFault.Write result (all_lines lines.now (plan_of file.now) (contents_in table.now))) }
 {
     for i in 0..SYSTEMS.len() {
-        match print_system(lines, table, file, System::at(i), writer) {
-            Ok(()) => {}
-            Err(fault) => return Err(fault),
-        }
+        print_system(lines, table, file, System::at(i), writer)?;
     }
     Ok(())
 }
@@ -72,11 +69,7 @@ fn print_system<W: Deliver>(
         (EndsPrinting FileFault.Write result (system_lines lines.now (plan_of file.now) (contents_in table.now) system)) }
 {
     for index in 0..line_count(lines, file, system) {
-        let text = line_at(lines, table, file, system, index);
-        match print_if(&text, writer) {
-            Ok(()) => {}
-            Err(fault) => return Err(fault),
-        }
+        print_if(&line_at(lines, table, file, system, index), writer)?;
     }
     Ok(())
 }
@@ -262,9 +255,8 @@ fn add_code(line: &mut OutputLine, file: &EpochReader, system: System, k: usize)
 {
     let index = file.signals(system)[k].index();
     line.put(b" ");
-    match Signal::from_index(system, index) {
-        Some(signal) => line.put(&signal.code()),
-        None => {}
+    if let Some(signal) = Signal::from_index(system, index) {
+        line.put(&signal.code());
     }
 }
 

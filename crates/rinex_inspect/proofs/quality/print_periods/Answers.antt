@@ -1,4 +1,4 @@
-use Rattle.rinex_inspect.proofs.Names.{◌∙◌, ◌++◌, ◌∷◌, [], ℕ, arith, refl, subst, sym, Ok, ⊤, Appends-nil, ReaderFailures, devices_of, writer_of, plan_of, Appends, culprit}
+use Rattle.rinex_inspect.proofs.Names.{◌∙◌, ◌++◌, ◌∷◌, [], ℕ, arith, refl, subst, sym, Ok, ⊤, Appends-nil, ReaderFailures, devices_of, writer_of, plan_of, Appends, culprit, passed, RatesPeriods}
 use Rattle.rinex_inspect.proofs.GapLemmas.{leaves_all, leaves_more}
 use Rattle.rinex_inspect.proofs.RatingLemmas.{all_rated, next_is, none_before, printed_with, stopped_periods}
 use Rattle.rinex_inspect.proofs.quality.print_periods.Goals as goal
@@ -19,7 +19,7 @@ loop-counts-smaller g c =
     let at = devices_of g.R.Read.remaining g.W.Write.contents g.W.Deliver.waiting in
     let (es, read, tables, printed) = c.loop-counts.invariant.read in
     let input = g.R.Read.remaining c.args.reader.now.inner in
-    let (whole, next, less, keeps, tables2, more) = next_is c.args.every.now c.loop-counts.file c.rate_next.new.file c.loop-counts.tables c.rate_next.new.tables es input (at c.loop-counts.reader c.loop-counts.writer) (at c.rate_next.new.reader c.rate_next.new.writer) c.in-Ok-None.field-0-is (c.in-Ok-None.ensures.rates es input read tables) in
+    let (whole, next, less, keeps, tables2, more) = next_is c.args.every.now c.loop-counts.file c.rate_next.new.file c.loop-counts.tables c.rate_next.new.tables es input (at c.loop-counts.reader c.loop-counts.writer) (at c.rate_next.new.reader c.rate_next.new.writer) c.in_default.is (c.in_ok-counts.ensures.rates es input read tables) in
     let few = read.0.within.1 in
     omega (arith, less, few)
 
@@ -30,35 +30,38 @@ loop-counts-preserved g c =
     let inv = c.loop-counts.invariant in
     let (es, read, tables, printed) = inv.read in
     let input = g.R.Read.remaining c.args.reader.now.inner in
-    let (whole, next, less, keeps, tables2, (text, after, more)) = next_is c.args.every.now c.loop-counts.file c.rate_next.new.file c.loop-counts.tables c.rate_next.new.tables es input (at c.loop-counts.reader c.loop-counts.writer) (at c.rate_next.new.reader c.rate_next.new.writer) c.in-Ok-None.field-0-is (c.in-Ok-None.ensures.rates es input read tables) in
+    let (whole, next, less, keeps, tables2, (text, after, more)) = next_is c.args.every.now c.loop-counts.file c.rate_next.new.file c.loop-counts.tables c.rate_next.new.tables es input (at c.loop-counts.reader c.loop-counts.writer) (at c.rate_next.new.reader c.rate_next.new.writer) c.in_default.is (c.in_ok-counts.ensures.rates es input read tables) in
     record {
       read = (es ++ whole ∷ [], next, tables2, printed_with {A = ⊤} c.args.every.now (plan_of c.loop-counts.file) (plan_of c.rate_next.new.file) es whole text (Ok tt) (w c.args.writer.now) (w c.loop-counts.writer) (w c.rate_next.new.writer) c.requires.every keeps after printed more);
-      left = leaves_more _ _ _ inv.left c.in-Ok-None.ensures.left;
-      same = c.in-Ok-None.ensures.failed ∙ inv.same;
+      left = leaves_more _ _ _ inv.left c.in_ok-counts.ensures.left;
+      same = c.in_ok-counts.ensures.failed ∙ inv.same;
     }
 
-pub returns-in-Ok-Some-clause-rates : goal.returns-in-Ok-Some-clause-rates
-returns-in-Ok-Some-clause-rates g c =
+pub returns-in-Some-clause-rates : goal.returns-in-Some-clause-rates
+returns-in-Some-clause-rates g c =
     let at = devices_of g.R.Read.remaining g.W.Write.contents g.W.Deliver.waiting in
     let inv = c.loop-counts.invariant in
     let (es, read, tables, printed) = inv.read in
     let input = g.R.Read.remaining c.args.reader.now.inner in
-    all_rated c.args.every.now c.loop-counts.file c.rate_next.new.file c.loop-counts.tables c.rate_next.new.tables es c.in-Ok-Some.counts (at c.args.reader.now c.args.writer.now) (at c.loop-counts.reader c.loop-counts.writer) (at c.rate_next.new.reader c.rate_next.new.writer) c.requires.every read tables printed
-    (next_is c.args.every.now c.loop-counts.file c.rate_next.new.file c.loop-counts.tables c.rate_next.new.tables es input (at c.loop-counts.reader c.loop-counts.writer) (at c.rate_next.new.reader c.rate_next.new.writer) c.in-Ok-Some.field-0-is (c.in-Ok-Some.ensures.rates es input read tables))
-    (c.in-Ok-Some.ensures.failed ∙ inv.same)
+    all_rated c.args.every.now c.loop-counts.file c.rate_next.new.file c.loop-counts.tables c.rate_next.new.tables es c.in-Some.counts (at c.args.reader.now c.args.writer.now) (at c.loop-counts.reader c.loop-counts.writer) (at c.rate_next.new.reader c.rate_next.new.writer) c.requires.every read tables printed
+    (next_is c.args.every.now c.loop-counts.file c.rate_next.new.file c.loop-counts.tables c.rate_next.new.tables es input (at c.loop-counts.reader c.loop-counts.writer) (at c.rate_next.new.reader c.rate_next.new.writer) c.in-Some.is (c.in_ok-counts.ensures.rates es input read tables))
+    (c.in_ok-counts.ensures.failed ∙ inv.same)
 
-pub returns-in-Ok-Some-clause-left : goal.returns-in-Ok-Some-clause-left
-returns-in-Ok-Some-clause-left g c = leaves_more _ _ _ c.loop-counts.invariant.left c.in-Ok-Some.ensures.left
+pub returns-in-Some-clause-left : goal.returns-in-Some-clause-left
+returns-in-Some-clause-left g c = leaves_more _ _ _ c.loop-counts.invariant.left c.in_ok-counts.ensures.left
 
-pub returns-in-Err-clause-rates : goal.returns-in-Err-clause-rates
-returns-in-Err-clause-rates g c =
+pub returns-in_err-counts-clause-rates : goal.returns-in_err-counts-clause-rates
+returns-in_err-counts-clause-rates g c =
     let at = devices_of g.R.Read.remaining g.W.Write.contents g.W.Deliver.waiting in
     let inv = c.loop-counts.invariant in
     let (es, read, tables, printed) = inv.read in
     let input = g.R.Read.remaining c.args.reader.now.inner in
-    stopped_periods c.args.every.now c.loop-counts.file c.rate_next.new.file c.loop-counts.tables c.rate_next.new.tables es (at c.args.reader.now c.args.writer.now) (at c.loop-counts.reader c.loop-counts.writer) (at c.rate_next.new.reader c.rate_next.new.writer) c.in-Err.fault c.requires.every read printed
-    (c.in-Err.ensures.rates es input read tables)
-    (subst (λ (n : ℕ). ReaderFailures (culprit c.in-Err.fault) n c.rate_next.new.reader.failures) inv.same c.in-Err.ensures.failed)
+    let d = at c.args.reader.now c.args.writer.now in
+    let d2 = at c.rate_next.new.reader c.rate_next.new.writer in
+    passed c.from_residual.result _ (λ r. RatesPeriods c.args.every.now c.rate_next.new.file c.rate_next.new.tables r d d2) c.from_residual.ensures.1
+    (stopped_periods c.args.every.now c.loop-counts.file c.rate_next.new.file c.loop-counts.tables c.rate_next.new.tables es d (at c.loop-counts.reader c.loop-counts.writer) d2 c.in_err-counts.field-0.0 c.requires.every read printed
+    (c.in_err-counts.ensures.rates es input read tables)
+    (subst (λ (n : ℕ). ReaderFailures (culprit c.in_err-counts.field-0.0) n c.rate_next.new.reader.failures) inv.same c.in_err-counts.ensures.failed))
 
-pub returns-in-Err-clause-left : goal.returns-in-Err-clause-left
-returns-in-Err-clause-left g c = leaves_more _ _ _ c.loop-counts.invariant.left c.in-Err.ensures.left
+pub returns-in_err-counts-clause-left : goal.returns-in_err-counts-clause-left
+returns-in_err-counts-clause-left g c = leaves_more _ _ _ c.loop-counts.invariant.left c.in_err-counts.ensures.left

@@ -9,15 +9,15 @@ returns-in_err-deliver_waiting-clause-only g c =
     let end = c.in_err-deliver_waiting.ensures in
     (undelivered c.args.every (at c.args.reader.now c.args.writer.now) (at c.args.reader.now c.deliver_waiting.new.writer) c.from_residual.result c.from_residual.ensures.1 end.0 refl end.1 end.2).1
 
-pub returns-in-Ok-clause-ends : goal.returns-in-Ok-clause-ends
-returns-in-Ok-clause-ends g c =
+pub returns-clause-ends : goal.returns-clause-ends
+returns-clause-ends g c =
     let at = devices_of g.R.Read.remaining g.W.Write.contents g.W.Deliver.waiting in
     delivered c.args.every (at c.args.reader.now c.args.writer.now) (at c.rate-ended.new.reader c.rate-ended.new.writer) (writer_of g.W.Write.contents g.W.Deliver.waiting c.deliver_waiting.new.writer) c.in_ok-deliver_waiting.ensures c.rate-ended.result c.rate-ended.ensures.ends
 
-pub returns-in-Ok-clause-only : goal.returns-in-Ok-clause-only
-returns-in-Ok-clause-only g c =
+pub returns-clause-only : goal.returns-clause-only
+returns-clause-only g c =
     let at = devices_of g.R.Read.remaining g.W.Write.contents g.W.Deliver.waiting in
     delivered_or c.args.every (at c.args.reader.now c.args.writer.now) (at c.rate-ended.new.reader c.rate-ended.new.writer) (writer_of g.W.Write.contents g.W.Deliver.waiting c.deliver_waiting.new.writer) c.in_ok-deliver_waiting.ensures c.rate-ended.result c.rate-ended.ensures.only
 
-pub returns-in-Err-clause-only : goal.returns-in-Err-clause-only
-returns-in-Err-clause-only g c = λ v file few. where_known _ (g.R.Read.remaining c.args.reader.now.inner) (λ input same. tt)
+pub returns-in_default-clause-only : goal.returns-in_default-clause-only
+returns-in_default-clause-only g c = λ v file few. where_known _ (g.R.Read.remaining c.args.reader.now.inner) (λ input same. tt)

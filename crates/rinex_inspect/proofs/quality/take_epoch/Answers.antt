@@ -22,7 +22,7 @@ read_rows-requires-2 g c =
 pub print_period-requires-clause-fits : goal.print_period-requires-clause-fits
 print_period-requires-clause-fits g c =
     let (es, e, input, start, rows, tables) = c.requires.begun in
-    let (whole, at, read, first, least, plan, added) = c.in-Ok.ensures.rows es e input start rows in
+    let (whole, at, read, first, least, plan, added) = c.in_ok-read_rows.ensures.rows es e input start rows in
     let new = c.read_rows-2.new.file in
     (later c.args.every.now (plan_of new) c.args.tables.now es whole c.requires.every tables (fine_with new es whole input (g.R.Read.remaining c.read_rows-2.new.reader.inner) read)
     (λ same. c.if-period-tables.false (c.period_of-period.ensures ∙ sym (ap (period_of c.args.every.now) at) ∙ same))).fits
@@ -32,19 +32,19 @@ print_period-requires-clause-within g c =
     let (es, e, input, start, rows, tables) = c.requires.begun in
     subst (λ (p : ℕ). IfSome c.args.every.now (λ n. p * n < weeks * week)) (sym tables.period) (start_within c.args.every.now (last_of (times_in es)) c.requires.every)
 
-pub returns-in-Err-print_period-clause-rates : goal.returns-in-Err-print_period-clause-rates
-returns-in-Err-print_period-clause-rates g c = λ es e input start rows tables.
+pub returns-in_err-print_period-clause-rates : goal.returns-in_err-print_period-clause-rates
+returns-in_err-print_period-clause-rates g c = λ es e input start rows tables.
     let at_devices = devices_of g.R.Read.remaining g.W.Write.contents g.W.Deliver.waiting in
-    let (whole, at, read, first, least, plan, added) = c.in-Ok.ensures.rows es e input start rows in
+    let (whole, at, read, first, least, plan, added) = c.in_ok-read_rows.ensures.rows es e input start rows in
     let new = c.read_rows-2.new.file in
     let after = later c.args.every.now (plan_of new) c.args.tables.now es whole c.requires.every tables (fine_with new es whole input (g.R.Read.remaining c.read_rows-2.new.reader.inner) read)
     (λ same. c.if-period-tables.false (c.period_of-period.ensures ∙ sym (ap (period_of c.args.every.now) at) ∙ same)) in
-    rated_in_part (record { period = c.args.tables.now.period; current = c.args.tables.now.current; next = c.read_rows-2.new.table }) c.args.every.now c.args.file.now new es c.args.time input (at_devices c.args.reader.now c.args.writer.now) (at_devices c.read_rows-2.new.reader c.print_period.new.writer) c.in-Err-print_period.ensures.0
-    (whole, read, first, plan, (period_text c.args.every.now (plan_of new) c.args.tables.now.current c.args.tables.now.period, after.lines, c.in-Err-print_period.ensures.1))
+    rated_in_part (record { period = c.args.tables.now.period; current = c.args.tables.now.current; next = c.read_rows-2.new.table }) c.args.every.now c.args.file.now new es c.args.time input (at_devices c.args.reader.now c.args.writer.now) (at_devices c.read_rows-2.new.reader c.print_period.new.writer) c.from_residual-in_err-print_period.result c.from_residual-in_err-print_period.ensures.1 c.in_err-print_period.ensures.0
+    (whole, read, first, plan, (period_text c.args.every.now (plan_of new) c.args.tables.now.current c.args.tables.now.period, after.lines, c.in_err-print_period.ensures.1))
 
 pub returns-clause-rates : goal.returns-clause-rates
 returns-clause-rates g c = λ es e input start rows tables.
-    let (whole, at, read, first, least, plan, added) = c.in-Ok.ensures.rows es e input start rows in
+    let (whole, at, read, first, least, plan, added) = c.in_ok-read_rows.ensures.rows es e input start rows in
     let new = c.read_rows-2.new.file in
     let fine = fine_with new es whole input (g.R.Read.remaining c.read_rows-2.new.reader.inner) read in
     let after = later c.args.every.now (plan_of new) c.args.tables.now es whole c.requires.every tables fine
@@ -57,5 +57,5 @@ returns-clause-rates g c = λ es e input start rows tables.
       least,
       plan,
       later_tables c.args.every.now es whole (record { period = c.period_of-period.result; current = c.swap.new.x; next = c.swap.new.y }) c.requires.every fine.rising after.less (c.period_of-period.ensures ∙ sym (ap (period_of c.args.every.now) at)) current next,
-      (period_text c.args.every.now (plan_of new) c.args.tables.now.current c.args.tables.now.period, after.lines, c.in-Ok-print_period.ensures),
+      (period_text c.args.every.now (plan_of new) c.args.tables.now.current c.args.tables.now.period, after.lines, c.in_ok-print_period.ensures),
     )
