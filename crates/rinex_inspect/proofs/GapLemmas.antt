@@ -1,5 +1,6 @@
 -- The lines of gaps, with one time more.
-use Rattle.rinex_inspect.proofs.Names.{common_steps, EpochReader, NextEpoch, BeginsEpoch, Consumes-nil, Consumes-trans, IsTextWith, IfTextOfFile, IsSummaryRead, AreInside, is_inside, ReadsInside, All-head, All-tail, false, true, min, reduce, File, OtherDay, Write, longer_part, printed_after, printed_later, ReaderFailures, culprit, CheckOptions, Completeness, CountsMissing, EndsCheck, IsCompleteness, IsEndOutput, IsOutput, IsSummary, all_gaps_if, gap_with, gaps_if, inr, missing_with, times_in, ⊤, AppendsPrefix, AreTimes, AreTimesOrNone, EpochTimes, FileValue, IfSome, IsCheckedOr, IsFileValue, check_line, complete_if, IfSome_then, IsDelivered, ReadsGaps, append_assoc, file_lines, file_text, length, most_lines, steps_of, times_if, ◌≡◌, ◌∙◌, ◌+◌, ◌<◌, ◌≤◌, ◌∷◌, ◌++◌, [], ap, arith, refl, subst, sym, ℕ, List, Option, Devices, Writer, EndsPrinting, Err, FileSummary, IsSummaryOf, FileFault, IsPrefix, LeavesRest, Ok, PrintsText, Result, Stamped, map, time_stamped, map-append, ◌^◌}
+use Rattle.rinex_inspect.proofs.Names.{common_steps, EpochReader, NextEpoch, BeginsEpoch, StopsReading, ReadFault, HasFailed, Consumes-nil, Consumes-trans, IsSummaryRead, AreInside, is_inside, All-head, All-tail, false, true, min, reduce, File, OtherDay, Write, longer_part, printed_after, printed_later, CheckOptions, Completeness, CountsMissing, EndsCheck, IsCompleteness, IsEndOutput, IsOutput, IsSummary, all_gaps_if, gap_with, gaps_if, inr, missing_with, times_in, ⊤, AppendsPrefix, AreTimes, AreTimesOrNone, EpochTimes, FileValue, IfSome, IsCheckedOr, IsFileValue, check_line, complete_if, IfSome_then, IsDelivered, ReadsGaps, append_assoc, file_lines, file_text, length, most_lines, steps_of, times_if, ◌≡◌, ◌∙◌, ◌+◌, ◌<◌, ◌≤◌, ◌∷◌, ◌++◌, [], ap, arith, refl, subst, sym, ℕ, List, Option, Devices, Writer, EndsPrinting, Err, FileSummary, FileFault, IsPrefix, LeavesRest, Ok, PrintsText, Result, Stamped, map, time_stamped, map-append, ◌^◌}
+use Rattle.rinex_file.specs.declared.read.fault.ReadFault.TheVariants as reading
 use Rattle.rinex_inspect.proofs.CheckLemmas.{none_written, refused}
 use Rattle.rinex_inspect.proofs.MissingLemmas.{gaps_next, gaps_prefix, missing_next, missing_small, rise_front}
 
@@ -22,16 +23,6 @@ pub counted_more : {time k n m : ℕ} (complete : Option Completeness) (es : Lis
     → CountsMissing complete (times_in es) k → n ≡ missing_with complete before time → (k + n < 2 ^ 64 → m ≡ k + n) → time < 2 ^ 63 → CountsMissing complete (times_in (es ++ e ∷ [])) m
 counted_more {time} {k} {n} {m} complete es e before is are same before_it one sum small rise = grind (arith, common_steps, map-append, rise_front, missing_next, missing_small)
 
--- a summary, without the header that was read
-pub without_header : (r : EpochReader) (es : List Stamped) (s : FileSummary) (input : Option (List ℕ)) → IsTextWith (IsSummaryRead r es s) input → IfTextOfFile input (IsSummaryRead r es s)
-    → IsTextWith (IsSummaryOf es s) input × IfTextOfFile input (IsSummaryOf es s)
-without_header r es s input has only = (
-  record { v = has.v; is = has.is; few = has.few; text = has.text; holds = of_file has.v has.holds },
-  λ v is few. IfSome_then input (only v is few) (λ bytes h same. of_file v (h same)),
-) where
-  of_file : (v : FileValue) → IsSummaryRead r es s v → IsSummaryOf es s v
-  of_file v h = (h.0, ap (λ (f : FileValue). f.epochs) h.1)
-
 -- the times of epochs inside of the window, and of one more
 pub inside_more : (complete : Option Completeness) (es : List Stamped) (e : Stamped) {time : ℕ} → AreInside complete (times_in es) → e.time ≡ time → is_inside complete time ≡ true → AreInside complete (times_in (es ++ e ∷ []))
 inside_more complete es e all same one = grind (arith, common_steps, map-append)
@@ -50,16 +41,10 @@ not_inside complete es more e {time} same out all =
 pub begins_is : (old new : EpochReader) (es : List Stamped) (input left : Option (List ℕ)) {n m : NextEpoch} → n ≡ m → BeginsEpoch old new es input left (Ok n) → BeginsEpoch old new es input left (Ok m)
 begins_is old new es input left same h = subst (λ (n : NextEpoch). BeginsEpoch old new es input left (Ok n)) same h
 
--- the next epoch inside of the window, or the end
-pub inside_is : (complete : Option Completeness) (old new : EpochReader) (es : List Stamped) (input left : Option (List ℕ)) {n m : NextEpoch} → n ≡ m → ReadsInside complete old new es input left (Ok n) → ReadsInside complete old new es input left (Ok m)
-inside_is complete old new es input left is reads = subst (λ (n : NextEpoch). ReadsInside complete old new es input left (Ok n)) is reads
-
--- a fault after these epochs, the gaps of which were printed
-pub stopped_inside : {R W : Type 0} (complete : Option Completeness) (d d2 : Devices R W) (fault : FileFault) (old new : EpochReader) (es : List Stamped) → ReadsInside complete old new es d.reader.unread d2.reader.unread (Err fault) → AreInside complete (times_in es)
-    → PrintsText (gaps_if complete (times_in es)) d.writer d2.writer → ReaderFailures (culprit fault) d.reader.device.failures d2.reader.device.failures → ReadsGaps (Err fault) complete d d2
-stopped_inside complete d d2 (File e) old new es h inside printed failures = (es, h.0, h.1, h.2, printed, failures)
-stopped_inside complete d d2 (OtherDay k) old new es (t, out, line) inside printed failures = (es, IfSome_then d.reader.unread line (λ input at. (t, out, inside, at)), printed, failures)
-stopped_inside complete d d2 Write old new es h inside printed failures = absurd h
+-- a fault of reading after these epochs, the gaps of which were printed
+pub stopped_reading : {A R W : Type 0} (q : Result A ReadFault) (r : EpochReader) (complete : Option Completeness) (d d2 : Devices R W) {e : ReadFault} {n : ℕ} (es : List Stamped) → q ≡ Err e → StopsReading es d.reader.unread d2.reader.unread e
+    → PrintsText (gaps_if complete (times_in es)) d.writer d2.writer → (q ≡ Err reading.Read → HasFailed n d2.reader.device.failures) → ((q ≡ Err reading.Read → ⊥) → d2.reader.device.failures ≡ n) → n ≡ d.reader.device.failures → ReadsGaps r (Err (File e)) complete d d2
+stopped_reading q r complete d d2 {e} {n} es is h printed failed same before = (es, h, printed, grind (arith, common_steps, is, failed, same, before))
 
 -- ---- the end of the command
 
@@ -73,9 +58,9 @@ times_of t ts =
       ends t (u ∷ ts) = let (others, last, is) = ends u ts in (t ∷ others, last, ap (λ l. t ∷ l) is)
 
 -- the output for a file that was read whole
-pub whole_output : (o : CheckOptions) (s : FileSummary) (v : FileValue) (es : List Stamped) (text : List ℕ) {missing : ℕ} → IsSummaryOf es s v → IsFileValue v → CountsMissing o.complete (times_in es) missing
+pub whole_output : (r : EpochReader) (o : CheckOptions) (s : FileSummary) (v : FileValue) (es : List Stamped) (text : List ℕ) {missing : ℕ} → IsSummaryRead r es s v → IsFileValue v → CountsMissing o.complete (times_in es) missing
     → ((v : FileValue) → IsFileValue v → IsSummary s v → CountsMissing o.complete (times_in v.epochs) missing → IsEndOutput o v s.times text) → IsOutput o v (gaps_if o.complete (times_in es) ++ text)
-whole_output o s v es text {missing} h file counts end = grind (arith, common_steps)
+whole_output r o s v es text {missing} h file counts end = grind (arith, common_steps)
 
 -- the gaps of the first epochs of a file are a part of its output
 first_gaps : (o : CheckOptions) (w w2 : Option (List ℕ)) (v : FileValue) (es : List Stamped) → IsFileValue v → IsPrefix es v.epochs → AppendsPrefix w w2 (gaps_if o.complete (times_in es)) → IsCheckedOr o v (Err Write) w w2
@@ -90,18 +75,18 @@ first_gaps o w w2 v es is (more, split) part =
       some_times (e ∷ es) some = times_of e.time (times_in es)
 
 -- a fault of a file's text, of which nothing was read before w1: memory ran out or a device failed
-pub gaps_refused : {R W : Type 0} (o : CheckOptions) (d d2 : Devices R W) (w1 : Writer W) (fault : FileFault) (v : FileValue) → IsFileValue v → length (file_lines v) ≤ most_lines
-    → (w1.device.failures ≡ d.writer.device.failures) × IsDelivered d.writer w1 → ReadsGaps (Err fault) o.complete (record d { writer = w1 }) d2
+pub gaps_refused : {R W : Type 0} (r : EpochReader) (o : CheckOptions) (d d2 : Devices R W) (w1 : Writer W) (fault : FileFault) (v : FileValue) → IsFileValue v → length (file_lines v) ≤ most_lines
+    → (w1.device.failures ≡ d.writer.device.failures) × IsDelivered d.writer w1 → ReadsGaps r (Err fault) o.complete (record d { writer = w1 }) d2
     → IfSome d.reader.unread (λ input. input ≡ file_text v → IsCheckedOr o v (Err fault) d.writer.written d2.writer.written)
-gaps_refused o d d2 w1 (File e) v is few kept (es, why, none, read, printed, failures) = IfSome_then d.reader.unread (none v is few) (λ input h same. refused o v e _ _ (h same))
-gaps_refused o d d2 w1 (OtherDay k) v is few kept (es, line, printed, fine) =
+gaps_refused r o d d2 w1 (File e) v is few kept (es, stops, printed, failures) = IfSome_then d.reader.unread (stops.1 v is few) (λ input h same. refused o v e _ _ (h same))
+gaps_refused r o d d2 w1 (OtherDay k) v is few kept (es, line, printed, fine) =
     IfSome_then d.reader.unread line
     (λ input h same all. let (t, out, inside, at) = h in let (e, time, (more, split)) = at.only v is same in not_inside o.complete es more e time out (subst (λ (l : List Stamped). AreInside o.complete (times_in l)) split all))
-gaps_refused o d d2 w1 Write v is few kept (es, n, asked, first, part, fine) =
+gaps_refused r o d d2 w1 Write v is few kept (es, n, asked, first, part, fine) =
     let later = printed_later {A = ⊤} {w = d.writer} Write (Err Write) w1 d2.writer kept refl (refl, part) in
     IfSome_then d.reader.unread first (λ input f same. first_gaps o _ _ v es is (f.only v is same) later.ends.1.1)
 
 -- the end of the command at such a fault
-pub gaps_stopped : {R W : Type 0} (o : CheckOptions) (d d2 : Devices R W) (w1 : Writer W) (fault : FileFault) → (w1.device.failures ≡ d.writer.device.failures) × IsDelivered d.writer w1
-    → ReadsGaps (Err fault) o.complete (record d { writer = w1 }) d2 → EndsCheck {A = ⊤} o (Err fault) d d2
-gaps_stopped o d d2 w1 fault kept h = grind (arith, common_steps, printed_later, none_written)
+pub gaps_stopped : {R W : Type 0} (r : EpochReader) (o : CheckOptions) (d d2 : Devices R W) (w1 : Writer W) (fault : FileFault) → (w1.device.failures ≡ d.writer.device.failures) × IsDelivered d.writer w1
+    → ReadsGaps r (Err fault) o.complete (record d { writer = w1 }) d2 → EndsCheck {A = ⊤} o (Err fault) d d2
+gaps_stopped r o d d2 w1 fault kept h = grind (arith, common_steps, printed_later, none_written)

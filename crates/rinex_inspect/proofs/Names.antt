@@ -17,8 +17,8 @@ pub use Rattle.line_texts.proofs.LineLaws.{add_text, end_line}
 pub use Rattle.line_texts.specs.Lines.{line, with_words}
 pub use Rattle.rinex_file.proofs.ReadingLaws.{AreFine, one_plan, part_fine, plan_known, whole_fine}
 pub use Rattle.rinex_file.specs.Blocks.{LeavesRest}
-pub use Rattle.rinex_file.specs.Counting.{AreCounts, IsSummary, IsTextWith, events_in, rows_in}
-pub use Rattle.rinex_file.specs.Exact.{IfTextOfFile, IsNoFault, most_lines}
+pub use Rattle.rinex_file.specs.Counting.{AreCounts, IsSummary, events_in, rows_in}
+pub use Rattle.rinex_file.specs.Exact.{IsNoFault, most_lines}
 pub use Rattle.rinex_file.specs.File.{file_lines, file_text}
 pub use Rattle.rinex_file.specs.FileValues.{AreSatelliteRows, AreSignalValues, IsFileValue, IsPlan, IsSatelliteRow, planned_in, rank_of, time_stamped}
 pub use Rattle.rinex_file.specs.Times.{AreTimes, AreTimesOrNone, steps_of}
@@ -29,8 +29,9 @@ pub use Rattle.rinex_file.specs.declared.read.fault.ReadFault.{ReadFault}
 pub use Rattle.rinex_file.specs.declared.read.file.Counts.{Counts}
 pub use Rattle.rinex_file.specs.declared.read.file.FileSummary.{FileSummary}
 pub use Rattle.rinex_file.specs.declared.read.times.EpochTimes.{EpochTimes}
-pub use Rattle.rinex_file.specs.inner.Read.EpochSteps.{BeginsEpoch, KeepsPlan, begun_in, HasReadEpochs, HasReadRows, IsSummaryOf, IsSummaryRead, ReadsRow, plan_of, row_of, with_read}
+pub use Rattle.rinex_file.specs.inner.Read.EpochSteps.{BeginsEpoch, KeepsPlan, begun_in, HasReadEpochs, HasReadRows, IsSummaryRead, ReadsRow, plan_of, row_of, with_read}
 unfoldable pub use Rattle.rinex_inspect.specs.CheckOutput.{check_line, complete_line}
+pub use Rattle.rinex_file.specs.inner.Read.Steps.{StopsReading}
 pub use Rattle.rinex_inspect.specs.CheckOutput.{IsOutput, all_gaps_if, complete_if, gaps_if, size_of, times_if, times_in}
 pub use Rattle.rinex_inspect.specs.Checking.{EndsCheck, IsCheckedOr}
 unfoldable pub use Rattle.rinex_inspect.specs.DateTexts.{time_line}
@@ -57,7 +58,7 @@ unfoldable pub use Rattle.rinex_inspect.specs.inner.Missing.{line_but}
 pub use Rattle.rinex_inspect.specs.inner.Missing.{Rise, complete_but, end_gap_if, end_missing_if, first_with, gap_with, gaps_to_end, last_with, missing_before, missing_between, missing_from, missing_if, missing_to_end, missing_with, origin_with}
 pub use Rattle.rinex_inspect.specs.inner.QualityLines.{IsPrintable, IsSmallTally, all_lines, line_at, line_count, system_lines}
 pub use Rattle.rinex_inspect.specs.inner.Rating.{IsStart, AreTables, IsPrintedAfter, RatesEpoch, RatesNext, RatesPeriods, ReadsRows, end_text, period_text, whole_text}
-pub use Rattle.rinex_inspect.specs.inner.Reading.{CountsMissing, IsEndOutput, ReadsGaps, ReadsInside}
+pub use Rattle.rinex_inspect.specs.inner.Reading.{CountsMissing, IsEndOutput, ReadsGaps}
 pub use Rattle.rinex_inspect.specs.inner.Tables.{AreBlank, HasAdded, HasAddedRow, HasPlaces, IsBlankRecord, IsBlankTable, IsRecordOf, IsTableOf, added, before_with, begun, capped, capped_tally, contents_in, no_record, plus, present_with, record_at, records_in, tally_at, with_values}
 pub use Rattle.rtcm_bits.proofs.SmallLaws.{length-filter-le, passed}
 pub use Rattle.rtcm_bits.specs.Prefix.{IsPrefix}

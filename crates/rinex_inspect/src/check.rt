@@ -18,7 +18,7 @@ ghost use Rattle.rinex_inspect.specs.DateTexts.{step_line, time_line, times_line
 ghost use Rattle.rinex_inspect.specs.Gaps.{IsCompleteness, gap_between, is_inside};
 ghost use Rattle.rinex_inspect.specs.inner.Missing.{complete_but, end_gap_if, end_missing_if, first_with, gap_with};
 ghost use Rattle.rinex_inspect.specs.inner.Missing.{longest_gap, missing_between, missing_with};
-ghost use Rattle.rinex_inspect.specs.inner.Reading.{CountsMissing, FailsByReader, IsEndOutput, ReadsGaps, ReadsInside};
+ghost use Rattle.rinex_inspect.specs.inner.Reading.{CountsMissing, FailsByReader, IsEndOutput, ReadsGaps};
 ghost use Rattle.line_texts.specs.Lines.{with_words};
 
 use crate::fault::FileFault;
@@ -78,7 +78,7 @@ pub fn run_check<R: Read, W: Deliver>(
 ///
 /// # Errors
 ///
-/// `File` with the fault of [`EpochReader::next`], `OtherDay` with the number of the line of the
+/// `File` with the fault of [`EpochReader::begin`], `OtherDay` with the number of the line of the
 /// first epoch that is outside of the window, judged before the lines of its satellites, and
 /// `Write` if the writer failed.
 // Not inlined, so that the parser's block of bytes isn't in the stack frame of every command.
@@ -104,13 +104,9 @@ pub fn run_check_with<R: Read, W: Deliver>(
     let mut file = EpochReader::new(alloc);
     let read = print_gaps(&options.complete, &mut file, reader, writer);
     drop(file);
-    match read {
-        Ok((summary, missing)) => {
-            let text = summary_text(&options, &summary, missing);
-            print_text(text.as_bytes(), writer, FileFault::Write)
-        }
-        Err(fault) => Err(fault),
-    }
+    let (summary, missing) = read?;
+    let text = summary_text(&options, &summary, missing);
+    print_text(text.as_bytes(), writer, FileFault::Write)
 }
 
 /// Returns what is written at the end of a file with this number of missing epochs before its last
@@ -131,6 +127,11 @@ fn summary_text(options: &CheckOptions, summary: &FileSummary, missing: u64) -> 
 
 /// Reads a file to its end, and writes a line for each gap before and between its epochs, if it is
 /// asked whether it is complete. Returns the summary and the number of missing epochs.
+///
+/// # Errors
+///
+/// `OtherDay` with the number of the line of an epoch outside of the window, whose satellites aren't
+/// read, `File`, and `Write`.
 fn print_gaps<R: Read, W: Deliver>(
     complete: &Option<Completeness>,
     file: &mut EpochReader,
@@ -141,51 +142,25 @@ fn print_gaps<R: Read, W: Deliver>(
     requires start { (input : Option (List ℕ)) → HasReadEpochs file.old [] input input }
     requires sent { W.waiting writer.old.inner ≡ [] }
     ensures gaps { Changes R.remaining reader.old reader.new W.contents W.waiting writer.old writer.new
-        (ReadsGaps result complete.now) }
+        (ReadsGaps file.new result complete.now) }
     ensures left { LeavesRest (R.remaining reader.old.inner) (R.remaining reader.new.inner) }
 {
     let mut missing = 0u64;
     loop {
-        match next_inside(complete, file, reader) {
+        match file.begin(reader) {
             Ok(NextEpoch::Epoch { before, time }) => {
+                if !is_inside(complete, time) {
+                    return Err(FileFault::OtherDay(file.line()));
+                }
+                match file.finish(reader) {
+                    Ok(()) => {}
+                    Err(fault) => return Err(FileFault::File(fault)),
+                }
                 missing = missing.saturating_add(print_gap(complete, before, time, writer)?);
             }
             Ok(NextEpoch::End(summary)) => return Ok((summary, missing)),
-            Err(fault) => return Err(fault),
+            Err(fault) => return Err(FileFault::File(fault)),
         }
-    }
-}
-
-/// Reads the lines of the next epoch, which is to be inside of the window, or the end of the file.
-///
-/// # Errors
-///
-/// `OtherDay` with the number of the line of an epoch outside of the window, and `File`.
-fn next_inside<R: Read>(
-    complete: &Option<Completeness>,
-    file: &mut EpochReader,
-    reader: &mut Counted<R>,
-) -> Result<NextEpoch, FileFault>
-    requires { (es : List Stamped) × (input : Option (List ℕ))
-        × HasReadEpochs file.old es input (R.remaining reader.old.inner) }
-    ensures epochs { (es : List Stamped) → (input : Option (List ℕ))
-        → HasReadEpochs file.old es input (R.remaining reader.old.inner)
-        → ReadsInside complete.now file.old file.new es input (R.remaining reader.new.inner) result }
-    ensures failed { FailsByReader result reader.old.failures reader.new.failures }
-    ensures left { LeavesRest (R.remaining reader.old.inner) (R.remaining reader.new.inner) }
-{
-    match file.begin(reader) {
-        Ok(NextEpoch::Epoch { before, time }) => {
-            if !is_inside(complete, time) {
-                return Err(FileFault::OtherDay(file.line()));
-            }
-            match file.finish(reader) {
-                Ok(()) => Ok(NextEpoch::Epoch { before, time }),
-                Err(fault) => Err(FileFault::File(fault)),
-            }
-        }
-        Ok(NextEpoch::End(summary)) => Ok(NextEpoch::End(summary)),
-        Err(fault) => Err(FileFault::File(fault)),
     }
 }
 

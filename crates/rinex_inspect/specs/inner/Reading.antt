@@ -1,22 +1,20 @@
 -- The reading of a file and the writing of its gaps: the devices were d and are d'.
-use Rattle.std.specs.Prelude.{◌≡◌, ◌++◌, ℕ, List, Option, Result, Ok, Err, IfSome, is_some, true, false}
+use Rattle.std.specs.Prelude.{◌≡◌, ◌++◌, ℕ, List, Option, Result, Ok, Err, IfSome, is_some, true}
 use Rattle.devices.specs.Devices.{Devices, ReaderFailures}
 use Rattle.devices.specs.Printing.{PrintsPart, PrintsText}
-use Rattle.rinex_file.specs.Accepted.{AreEpochsBefore, AreEpochsRead, AreFirstEpochs, IsEpochLine}
+use Rattle.rinex_file.specs.Accepted.{AreFirstEpochs}
 use Rattle.rinex_file.specs.Counting.{IsTextWith}
-use Rattle.rinex_file.specs.Exact.{ExplainsFault, IfTextOfFile, IsNoFault}
+use Rattle.rinex_file.specs.Exact.{IfTextOfFile}
 use Rattle.rinex_file.specs.Value.{FileValue, Stamped}
 use Rattle.rinex_file.specs.declared.read.times.EpochTimes.{EpochTimes}
 use Rattle.rinex_file.specs.declared.read.epochs.EpochReader.{EpochReader}
-use Rattle.rinex_file.specs.declared.read.epochs.NextEpoch.{NextEpoch}
-use Rattle.rinex_file.specs.declared.read.epochs.NextEpoch.TheVariants.{Epoch}
-use Rattle.rinex_file.specs.declared.read.fault.ReadFault.TheVariants as reading
 use Rattle.rinex_file.specs.declared.read.file.FileSummary.{FileSummary}
-use Rattle.rinex_file.specs.inner.Read.EpochSteps.{IsSummaryOf, ReadsEpoch}
+use Rattle.rinex_file.specs.inner.Read.EpochSteps.{IsSummaryRead}
+use Rattle.rinex_file.specs.inner.Read.Steps.{StopsReading}
 use Rattle.rinex_inspect.specs.CheckOutput.{all_gaps_if, check_line, complete_if, gaps_if, times_if, times_in}
 use Rattle.rinex_inspect.specs.Checking.{IsOtherDay}
 use Rattle.rinex_inspect.specs.Faults.{culprit}
-use Rattle.rinex_inspect.specs.Gaps.{AreInside, is_inside}
+use Rattle.rinex_inspect.specs.Gaps.{AreInside}
 use Rattle.rinex_inspect.specs.declared.check.CheckOptions.{CheckOptions}
 use Rattle.rinex_inspect.specs.declared.fault.FileFault.{FileFault}
 use Rattle.rinex_inspect.specs.declared.fault.FileFault.TheVariants as faults
@@ -27,43 +25,29 @@ use Rattle.rinex_inspect.specs.inner.Missing.{Rise, missing_if}
 abbrev pub CountsMissing : Option Completeness → List ℕ → ℕ → Type 0
 CountsMissing complete ts n = Rise 0 ts → n ≡ missing_if complete ts
 
--- One epoch more was read, which is inside of the window; or the file ends; or the line of an epoch outside of it was
--- read; or there is another fault.
-abbrev pub ReadsInside : Option Completeness → (old new : EpochReader) → List Stamped → (input left : Option (List ℕ))
-    → Result NextEpoch FileFault → Type 0
-ReadsInside complete old new es input left (Ok (Epoch before time)) =
-    ReadsEpoch old new es input left (Ok (Epoch before time)) × (is_inside complete time ≡ true)
-ReadsInside complete old new es input left (Ok end) = ReadsEpoch old new es input left (Ok end)
-ReadsInside complete old new es input left (Err (faults.File e)) = ReadsEpoch old new es input left (Err e)
-ReadsInside complete old new es input left (Err (faults.OtherDay k)) =
-    (t : ℕ) × (is_inside complete t ≡ false) × IfSome input (IsEpochLine es t k)
-ReadsInside complete old new es input left (Err faults.Write) = ⊥
-
 -- the reader failed at its fault, and no more than that
 abbrev pub FailsByReader : {A : Type 0} → Result A FileFault → (before after : ℕ) → Type 0
 FailsByReader (Ok x) before after = after ≡ before
 FailsByReader (Err fault) before after = ReaderFailures (culprit fault) before after
 
 -- The gaps of all epochs were written; or of those before a fault; or the writer failed in those of the first epochs.
-abbrev pub ReadsGaps : {R W : Type 0} → Result (FileSummary × ℕ) FileFault → Option Completeness
+abbrev pub ReadsGaps : {R W : Type 0} → EpochReader → Result (FileSummary × ℕ) FileFault → Option Completeness
     → (d d' : Devices R W) → Type 0
-ReadsGaps (Ok (s, missing)) complete d d' =
-    (es : List Stamped) × IsTextWith (IsSummaryOf es s) d.reader.unread
-    × IfTextOfFile d.reader.unread (IsSummaryOf es s)
+ReadsGaps r (Ok (s, missing)) complete d d' =
+    (es : List Stamped) × IsTextWith (IsSummaryRead r es s) d.reader.unread
+    × IfTextOfFile d.reader.unread (IsSummaryRead r es s)
     × PrintsText (gaps_if complete (times_in es)) d.writer d'.writer
     × (d'.reader.device.failures ≡ d.reader.device.failures)
     × CountsMissing complete (times_in es) missing × AreInside complete (times_in es)
-ReadsGaps (Err (faults.File e)) complete d d' =
-    (es : List Stamped) × IfSome d.reader.unread (λ input. ExplainsFault input e × AreEpochsBefore es e input)
-    × IfTextOfFile d.reader.unread (λ v. IsNoFault e)
-    × (e ≡ reading.Read → AreEpochsRead es d.reader.unread d'.reader.unread)
+ReadsGaps r (Err (faults.File e)) complete d d' =
+    (es : List Stamped) × StopsReading es d.reader.unread d'.reader.unread e
     × PrintsText (gaps_if complete (times_in es)) d.writer d'.writer
     × ReaderFailures (culprit (faults.File e)) d.reader.device.failures d'.reader.device.failures
-ReadsGaps (Err (faults.OtherDay k)) complete d d' =
+ReadsGaps r (Err (faults.OtherDay k)) complete d d' =
     (es : List Stamped) × IfSome d.reader.unread (IsOtherDay complete es k)
     × PrintsText (gaps_if complete (times_in es)) d.writer d'.writer
     × (d'.reader.device.failures ≡ d.reader.device.failures)
-ReadsGaps (Err faults.Write) complete d d' =
+ReadsGaps r (Err faults.Write) complete d d' =
     (es : List Stamped) × (n : ℕ) × (is_some complete ≡ true) × IfSome d.reader.unread (AreFirstEpochs es n)
     × PrintsPart (gaps_if complete (times_in es)) d.writer d'.writer
     × (d'.reader.device.failures ≡ d.reader.device.failures)
