@@ -168,10 +168,9 @@ fn print_gaps<R: Read, W: Deliver>(
 fn is_inside(complete: &Option<Completeness>, time: GpsTime) -> bool
     ensures { result ≡ is_inside complete.now time }
 {
-    match complete {
-        Some(complete) => complete.is_inside(time),
-        None => true,
-    }
+    complete
+        .as_ref()
+        .is_none_or(|complete| complete.is_inside(time))
 }
 
 /// Writes the line of the gap before an epoch, if there is one and it is asked for. Returns the
@@ -208,10 +207,7 @@ fn print_gap<W: Deliver>(
 fn first_with(before: &Option<EpochTimes>, time: GpsTime) -> GpsTime
     ensures { result ≡ first_with before.now time }
 {
-    match before {
-        Some(times) => times.first,
-        None => time,
-    }
+    before.as_ref().map_or(time, |times| times.first)
 }
 
 /// Adds the line of the gap between two epochs, if there is one, and returns the number of missing

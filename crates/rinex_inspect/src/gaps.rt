@@ -52,10 +52,7 @@ impl Completeness {
     pub(crate) fn origin(&self, first: GpsTime) -> GpsTime
         ensures { result ≡ origin_in self.now.window first }
     {
-        match self.window {
-            Some(window) => window.from,
-            None => first,
-        }
+        self.window.map_or(first, |window| window.from)
     }
 
     /// Returns whether the window, if there is one, has an epoch at this time.

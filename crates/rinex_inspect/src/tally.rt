@@ -123,8 +123,5 @@ fn is_half(values: &SignalValues) -> bool
 fn strength_of(strength: Option<Thousandths>) -> u64
     ensures { result ≡ strength_of strength }
 {
-    match strength {
-        Some(strength) => strength.value().unsigned_abs(),
-        None => 0,
-    }
+    strength.map_or(0, |strength| strength.value().unsigned_abs())
 }
