@@ -131,21 +131,15 @@ impl EpochReader {
         ensures left { LeavesRest (R.remaining reader.old.inner) (R.remaining reader.new.inner) }
     {
         let before = self.parser_state.times;
-        loop {
-            match self.next_line(reader) {
-                Ok(true) => {}
-                Ok(false) => {
-                    let state = &self.parser_state;
-                    let (counts, times) = (state.counts, state.times.unwrap());
-                    return Ok(NextEpoch::End(FileSummary { counts, times }));
-                }
-                Err(fault) => return Err(fault),
-            }
+        while self.next_line(reader)? {
             if self.expects_row() {
                 let time = self.parser_state.time;
                 return Ok(NextEpoch::Epoch { before, time });
             }
         }
+        let state = &self.parser_state;
+        let (counts, times) = (state.counts, state.times.unwrap());
+        Ok(NextEpoch::End(FileSummary { counts, times }))
     }
 
     /// Reads the line of the next satellite of the epoch that was begun, and returns true; or false
@@ -187,13 +181,8 @@ impl EpochReader {
         ensures same { (result ≡ Err ReadFault.Read → ⊥) → reader.new.failures ≡ reader.old.failures }
         ensures left { LeavesRest (R.remaining reader.old.inner) (R.remaining reader.new.inner) }
     {
-        loop {
-            match self.next_row(reader) {
-                Ok(true) => {}
-                Ok(false) => return Ok(()),
-                Err(fault) => return Err(fault),
-            }
-        }
+        while self.next_row(reader)? {}
+        Ok(())
     }
 
     /// Returns whether the line of a satellite is expected.

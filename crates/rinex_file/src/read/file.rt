@@ -68,16 +68,12 @@ fn read_rows<R: Read>(
     ensures left { LeavesRest (R.remaining reader.old.inner) (R.remaining reader.new.inner) }
 {
     let mut rows = Vec::new(alloc);
-    loop {
-        match file.next_row(reader) {
-            Ok(true) => {}
-            Ok(false) => return Ok(rows),
-            Err(fault) => return Err(fault),
-        }
+    while file.next_row(reader)? {
         if store_row(alloc, file.row(), &mut rows).is_err() {
             return Err(ReadFault::Memory);
         }
     }
+    Ok(rows)
 }
 
 /// Reads a file to its end, and stores its epochs.
@@ -95,16 +91,12 @@ fn read_epochs<R: Read>(
     ensures left { LeavesRest (R.remaining reader.old.inner) (R.remaining reader.new.inner) }
 {
     loop {
-        match file.begin(reader) {
-            Ok(NextEpoch::Epoch { .. }) => {}
-            Ok(NextEpoch::End(summary)) => return Ok(summary),
-            Err(fault) => return Err(fault),
+        match file.begin(reader)? {
+            NextEpoch::Epoch { .. } => {}
+            NextEpoch::End(summary) => return Ok(summary),
         }
         let (change, time) = (file.parser_state.change, file.parser_state.time);
-        let rows = match read_rows(alloc, file, reader) {
-            Ok(rows) => rows,
-            Err(fault) => return Err(fault),
-        };
+        let rows = read_rows(alloc, file, reader)?;
         let epoch = StoredEpoch { change, time, rows };
         if epochs.push(epoch).is_err() {
             return Err(ReadFault::Memory);
@@ -167,13 +159,8 @@ pub fn check_file<R: Read>(alloc: Global, reader: &mut Counted<R>) -> Result<Cou
     ensures left { LeavesRest (R.remaining reader.old.inner) (R.remaining reader.new.inner) }
 {
     let mut file = EpochReader::new(alloc);
-    loop {
-        match file.next_line(reader) {
-            Ok(true) => {}
-            Ok(false) => return Ok(file.parser_state.counts),
-            Err(fault) => return Err(fault),
-        }
-    }
+    while file.next_line(reader)? {}
+    Ok(file.parser_state.counts)
 }
 
 /// Reads a file to its end and returns it. A file is accepted if and only if it is exactly what

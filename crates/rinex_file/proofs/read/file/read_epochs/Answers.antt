@@ -1,6 +1,6 @@
 use Rattle.rinex_file.proofs.Reading.Accepted.{begins_is, not_pushed, whole_header}
 use Rattle.rinex_file.proofs.Reading.Lines.{explained, leaves_all, leaves_more, out_of_memory}
-use Rattle.rinex_file.proofs.Names.{◌∙◌, arith, common_steps, refl, subst, sym, List, HasReadEpochs, Stamped}
+use Rattle.rinex_file.proofs.Names.{◌∙◌, arith, common_steps, refl, subst, sym, List, HasReadEpochs, Stamped, err_from_is_err_and}
 use Rattle.rinex_file.proofs.read.file.read_epochs.Goals as goal
 
 pub loop-summary-init : goal.loop-summary-init
@@ -18,54 +18,57 @@ begin-requires g c = (c.loop-summary.epochs.items, _, c.loop-summary.invariant.r
 pub read_rows-requires : goal.read_rows-requires
 read_rows-requires g c =
     let read = c.loop-summary.invariant.read in
-    let (start, times, part, line, counted, kept) = begins_is c.loop-summary.file c.begin.new.self _ _ (g.R.Read.remaining c.begin.new.reader.inner) c.in-Ok-Epoch.field-0-is (c.in-Ok-Epoch.ensures.epochs _ _ read) in
+    let (start, times, part, line, counted, kept) = begins_is c.loop-summary.file c.begin.new.self _ _ (g.R.Read.remaining c.begin.new.reader.inner) c.in-Epoch.is (c.in_ok-begin.ensures.epochs _ _ read) in
     (c.loop-summary.epochs.items, _, part)
 
 pub loop-summary-smaller : goal.loop-summary-smaller
 loop-summary-smaller g c =
     let read = c.loop-summary.invariant.read in
-    let (start, times, part, line, counted, kept) = begins_is c.loop-summary.file c.begin.new.self _ _ (g.R.Read.remaining c.begin.new.reader.inner) c.in-Ok-Epoch.field-0-is (c.in-Ok-Epoch.ensures.epochs _ _ read) in
-    let (whole, most) = c.in-Ok.ensures.rows _ _ part in
+    let (start, times, part, line, counted, kept) = begins_is c.loop-summary.file c.begin.new.self _ _ (g.R.Read.remaining c.begin.new.reader.inner) c.in-Epoch.is (c.in_ok-begin.ensures.epochs _ _ read) in
+    let (whole, most) = c.in_ok-rows.ensures.rows _ _ part in
     omega (arith, counted, most, read.0.within.1)
 
 pub loop-summary-preserved : goal.loop-summary-preserved
 loop-summary-preserved g c =
     let inv = c.loop-summary.invariant in
-    let (start, times, part, line, counted, kept) = begins_is c.loop-summary.file c.begin.new.self _ _ (g.R.Read.remaining c.begin.new.reader.inner) c.in-Ok-Epoch.field-0-is (c.in-Ok-Epoch.ensures.epochs _ _ inv.read) in
-    let (whole, most) = c.in-Ok.ensures.rows _ _ part in
+    let (start, times, part, line, counted, kept) = begins_is c.loop-summary.file c.begin.new.self _ _ (g.R.Read.remaining c.begin.new.reader.inner) c.in-Epoch.is (c.in_ok-begin.ensures.epochs _ _ inv.read) in
+    let (whole, most) = c.in_ok-rows.ensures.rows _ _ part in
     record {
       read = grind (arith, common_steps, whole, c.push.ensures, c.is_err.ensures, c.if-is_err.false);
-      left = leaves_more _ _ _ (leaves_more _ _ _ inv.left c.in-Ok-Epoch.ensures.left) c.in-Ok.ensures.left;
-      same = c.in-Ok.ensures.same (λ e. cc) ∙ c.in-Ok-Epoch.ensures.same (λ e. cc) ∙ inv.same;
+      left = leaves_more _ _ _ (leaves_more _ _ _ inv.left c.in_ok-begin.ensures.left) c.in_ok-rows.ensures.left;
+      same = c.in_ok-rows.ensures.same (λ e. cc) ∙ c.in_ok-begin.ensures.same (λ e. cc) ∙ inv.same;
     }
 
-pub returns-in-Ok-End-clause-epochs : goal.returns-in-Ok-End-clause-epochs
-returns-in-Ok-End-clause-epochs g c =
-    let (has, only, kept) = begins_is c.loop-summary.file c.begin.new.self _ _ (g.R.Read.remaining c.begin.new.reader.inner) c.in-Ok-End.field-0-is (c.in-Ok-End.ensures.epochs _ _ c.loop-summary.invariant.read) in
+pub returns-in-End-clause-epochs : goal.returns-in-End-clause-epochs
+returns-in-End-clause-epochs g c =
+    let (has, only, kept) = begins_is c.loop-summary.file c.begin.new.self _ _ (g.R.Read.remaining c.begin.new.reader.inner) c.in-End.is (c.in_ok-begin.ensures.epochs _ _ c.loop-summary.invariant.read) in
     (has, only)
 
-pub returns-in-Ok-End-clause-left : goal.returns-in-Ok-End-clause-left
-returns-in-Ok-End-clause-left g c = leaves_more _ _ _ c.loop-summary.invariant.left c.in-Ok-End.ensures.left
+pub returns-in-End-clause-left : goal.returns-in-End-clause-left
+returns-in-End-clause-left g c = leaves_more _ _ _ c.loop-summary.invariant.left c.in_ok-begin.ensures.left
 
-pub returns-in-Err-clause-epochs : goal.returns-in-Err-clause-epochs
-returns-in-Err-clause-epochs g c = explained (c.in-Err.ensures.epochs _ _ c.loop-summary.invariant.read)
+pub returns-in_err-begin-clause-epochs : goal.returns-in_err-begin-clause-epochs
+returns-in_err-begin-clause-epochs g c =
+    let p = err_from_is_err_and c.from_residual.result c.from_residual.ensures.1 in
+    rw (p.1, p.2) (explained (c.in_err-begin.ensures.epochs _ _ c.loop-summary.invariant.read))
 
-pub returns-in-Err-clause-left : goal.returns-in-Err-clause-left
-returns-in-Err-clause-left g c = leaves_more _ _ _ c.loop-summary.invariant.left c.in-Err.ensures.left
+pub returns-in_err-begin-clause-left : goal.returns-in_err-begin-clause-left
+returns-in_err-begin-clause-left g c = leaves_more _ _ _ c.loop-summary.invariant.left c.in_err-begin.ensures.left
 
-pub returns-in-Err-read_rows-clause-epochs : goal.returns-in-Err-read_rows-clause-epochs
-returns-in-Err-read_rows-clause-epochs g c =
-    let (start, times, part, line, counted, kept) = begins_is c.loop-summary.file c.begin.new.self _ _ (g.R.Read.remaining c.begin.new.reader.inner) c.in-Ok-Epoch.field-0-is (c.in-Ok-Epoch.ensures.epochs _ _ c.loop-summary.invariant.read) in
-    c.in-Err-read_rows.ensures.rows _ _ part
+pub returns-in_err-rows-clause-epochs : goal.returns-in_err-rows-clause-epochs
+returns-in_err-rows-clause-epochs g c =
+    let (start, times, part, line, counted, kept) = begins_is c.loop-summary.file c.begin.new.self _ _ (g.R.Read.remaining c.begin.new.reader.inner) c.in-Epoch.is (c.in_ok-begin.ensures.epochs _ _ c.loop-summary.invariant.read) in
+    let p = err_from_is_err_and c.from_residual-in_err-rows.result c.from_residual-in_err-rows.ensures.1 in
+    rw (p.1, p.2) (c.in_err-rows.ensures.rows _ _ part)
 
-pub returns-in-Err-read_rows-clause-left : goal.returns-in-Err-read_rows-clause-left
-returns-in-Err-read_rows-clause-left g c = leaves_more _ _ _ (leaves_more _ _ _ c.loop-summary.invariant.left c.in-Ok-Epoch.ensures.left) c.in-Err-read_rows.ensures.left
+pub returns-in_err-rows-clause-left : goal.returns-in_err-rows-clause-left
+returns-in_err-rows-clause-left g c = leaves_more _ _ _ (leaves_more _ _ _ c.loop-summary.invariant.left c.in_ok-begin.ensures.left) c.in_err-rows.ensures.left
 
 pub returns-then-is_err-clause-epochs : goal.returns-then-is_err-clause-epochs
 returns-then-is_err-clause-epochs g c =
-    let (start, times, part, line, counted, kept) = begins_is c.loop-summary.file c.begin.new.self _ _ (g.R.Read.remaining c.begin.new.reader.inner) c.in-Ok-Epoch.field-0-is (c.in-Ok-Epoch.ensures.epochs _ _ c.loop-summary.invariant.read) in
-    let (whole, most) = c.in-Ok.ensures.rows _ _ part in
+    let (start, times, part, line, counted, kept) = begins_is c.loop-summary.file c.begin.new.self _ _ (g.R.Read.remaining c.begin.new.reader.inner) c.in-Epoch.is (c.in_ok-begin.ensures.epochs _ _ c.loop-summary.invariant.read) in
+    let (whole, most) = c.in_ok-rows.ensures.rows _ _ part in
     out_of_memory _ (whole_header whole.0 (λ none rows. not_pushed _ _ none))
 
 pub returns-then-is_err-clause-left : goal.returns-then-is_err-clause-left
-returns-then-is_err-clause-left g c = leaves_more _ _ _ (leaves_more _ _ _ c.loop-summary.invariant.left c.in-Ok-Epoch.ensures.left) c.in-Ok.ensures.left
+returns-then-is_err-clause-left g c = leaves_more _ _ _ (leaves_more _ _ _ c.loop-summary.invariant.left c.in_ok-begin.ensures.left) c.in_ok-rows.ensures.left

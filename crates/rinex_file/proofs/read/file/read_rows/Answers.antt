@@ -1,6 +1,6 @@
 use Rattle.rinex_file.proofs.Reading.Accepted.{few_lines, not_pushed, row_header, row_is}
 use Rattle.rinex_file.proofs.Reading.Lines.{explained, leaves_all, leaves_more, out_of_memory}
-use Rattle.rinex_file.proofs.Names.{◌∙◌, ap, arith, common_steps, refl, subst, sym, List, Ok, HasReadRows, SatelliteRow, begun_in, read_row, with_rows}
+use Rattle.rinex_file.proofs.Names.{◌∙◌, ap, arith, common_steps, refl, subst, sym, List, Ok, HasReadRows, SatelliteRow, begun_in, err_from_is_err_and, read_row, with_rows}
 use Rattle.rinex_file.proofs.read.file.read_rows.Goals as goal
 
 pub loop-rows-init : goal.loop-rows-init
@@ -20,7 +20,7 @@ pub loop-rows-smaller : goal.loop-rows-smaller
 loop-rows-smaller g c =
     let (es, input, before) = c.loop-rows.invariant.some in
     let (part, least) = c.loop-rows.invariant.read es input before in
-    let (next, fits, counted, same) = row_is c.loop-rows.file c.next_row.new.self es _ input (g.R.Read.remaining c.next_row.new.reader.inner) (ap Ok c.in-Ok-true.field-0-test) (c.in-Ok-true.ensures.rows es _ input part) in
+    let (next, fits, counted, same) = row_is c.loop-rows.file c.next_row.new.self es _ input (g.R.Read.remaining c.next_row.new.reader.inner) (ap Ok c.if-branch.true) (c.in_ok-next_row.ensures.rows es _ input part) in
     let few = few_lines c.loop-rows.file es _ input _ part in
     omega (arith, counted, few)
 
@@ -30,33 +30,35 @@ loop-rows-preserved g c =
     record {
       read = λ es input before.
           let (part, least) = inv.read es input before in
-          let (next, fits, counted, same) = row_is c.loop-rows.file c.next_row.new.self es _ input (g.R.Read.remaining c.next_row.new.reader.inner) (ap Ok c.in-Ok-true.field-0-test) (c.in-Ok-true.ensures.rows es _ input part) in
+          let (next, fits, counted, same) = row_is c.loop-rows.file c.next_row.new.self es _ input (g.R.Read.remaining c.next_row.new.reader.inner) (ap Ok c.if-branch.true) (c.in_ok-next_row.ensures.rows es _ input part) in
           (grind (arith, common_steps, next, c.row.ensures, c.store_row.ensures, c.is_err.ensures, c.if-is_err.false), omega (arith, counted, least));
       some = inv.some;
-      left = leaves_more _ _ _ inv.left c.in-Ok-true.ensures.left;
-      same = c.in-Ok-true.ensures.same (λ e. cc) ∙ inv.same;
+      left = leaves_more _ _ _ inv.left c.in_ok-next_row.ensures.left;
+      same = c.in_ok-next_row.ensures.same (λ e. cc) ∙ inv.same;
     }
 
-pub returns-in-Ok-false-clause-rows : goal.returns-in-Ok-false-clause-rows
-returns-in-Ok-false-clause-rows g c = λ es input before.
+pub returns-clause-rows : goal.returns-clause-rows
+returns-clause-rows g c = λ es input before.
     let (part, least) = c.loop-rows.invariant.read es input before in
-    let (whole, first, most, same) = row_is c.loop-rows.file c.next_row.new.self es _ input (g.R.Read.remaining c.next_row.new.reader.inner) (ap Ok c.in-Ok-false.field-0-test) (c.in-Ok-false.ensures.rows es _ input part) in
+    let (whole, first, most, same) = row_is c.loop-rows.file c.next_row.new.self es _ input (g.R.Read.remaining c.next_row.new.reader.inner) (ap Ok c.if-branch.false) (c.in_ok-next_row.ensures.rows es _ input part) in
     (whole, omega (arith, least, most))
 
-pub returns-in-Ok-false-clause-left : goal.returns-in-Ok-false-clause-left
-returns-in-Ok-false-clause-left g c = leaves_more _ _ _ c.loop-rows.invariant.left c.in-Ok-false.ensures.left
+pub returns-clause-left : goal.returns-clause-left
+returns-clause-left g c = leaves_more _ _ _ c.loop-rows.invariant.left c.in_ok-next_row.ensures.left
 
-pub returns-in-Err-clause-rows : goal.returns-in-Err-clause-rows
-returns-in-Err-clause-rows g c = λ es input before. explained (c.in-Err.ensures.rows es _ input (c.loop-rows.invariant.read es input before).0)
+pub returns-in_err-next_row-clause-rows : goal.returns-in_err-next_row-clause-rows
+returns-in_err-next_row-clause-rows g c = λ es input before.
+    let p = err_from_is_err_and c.from_residual.result c.from_residual.ensures.1 in
+    rw (p.1, p.2) (explained (c.in_err-next_row.ensures.rows es _ input (c.loop-rows.invariant.read es input before).0))
 
-pub returns-in-Err-clause-left : goal.returns-in-Err-clause-left
-returns-in-Err-clause-left g c = leaves_more _ _ _ c.loop-rows.invariant.left c.in-Err.ensures.left
+pub returns-in_err-next_row-clause-left : goal.returns-in_err-next_row-clause-left
+returns-in_err-next_row-clause-left g c = leaves_more _ _ _ c.loop-rows.invariant.left c.in_err-next_row.ensures.left
 
 pub returns-then-is_err-clause-rows : goal.returns-then-is_err-clause-rows
 returns-then-is_err-clause-rows g c = λ es input before.
     let (part, least) = c.loop-rows.invariant.read es input before in
-    let (next, fits, counted, same) = row_is c.loop-rows.file c.next_row.new.self es _ input (g.R.Read.remaining c.next_row.new.reader.inner) (ap Ok c.in-Ok-true.field-0-test) (c.in-Ok-true.ensures.rows es _ input part) in
+    let (next, fits, counted, same) = row_is c.loop-rows.file c.next_row.new.self es _ input (g.R.Read.remaining c.next_row.new.reader.inner) (ap Ok c.if-branch.true) (c.in_ok-next_row.ensures.rows es _ input part) in
     out_of_memory _ (row_header c.next_row.new.self es _ input _ next (not_pushed c.loop-rows.rows.items (read_row c.next_row.new.self)))
 
 pub returns-then-is_err-clause-left : goal.returns-then-is_err-clause-left
-returns-then-is_err-clause-left g c = leaves_more _ _ _ c.loop-rows.invariant.left c.in-Ok-true.ensures.left
+returns-then-is_err-clause-left g c = leaves_more _ _ _ c.loop-rows.invariant.left c.in_ok-next_row.ensures.left

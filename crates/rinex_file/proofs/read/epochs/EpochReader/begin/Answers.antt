@@ -2,13 +2,13 @@ use Rattle.rinex_file.proofs.Reading.Accepted.{epoch_begun, is_part, line_is, no
 use Rattle.rinex_file.proofs.Reading.Header.{past_header}
 use Rattle.rinex_file.proofs.Reading.Lines.{leaves_more}
 use Rattle.rinex_file.proofs.Reading.Summary.{ended, has_times, summed}
-use Rattle.rinex_file.proofs.Names.{Bool, IsTrue, ◌↔◌, true, false, ◌≡◌, ◌∙◌, ◌+◌, [], ℕ, List, Option, arith, ap, refl, subst, HasRead, HasReadEpochs, History, Known, ParserState, progress_at, ReadsNextLine, EpochReader, Stamped, Ok}
+use Rattle.rinex_file.proofs.Names.{Bool, IsTrue, ◌↔◌, true, false, ◌≡◌, ◌∙◌, ◌+◌, [], ℕ, List, Option, arith, ap, refl, subst, HasRead, HasReadEpochs, History, Known, ParserState, progress_at, ReadsNextLine, EpochReader, Stamped, Ok, err_from_is_err_and}
 use Rattle.rinex_file.proofs.read.epochs.EpochReader.begin.Goals as goal
 
 pub next_line-requires : goal.next_line-requires
 next_line-requires g c =
-    let (es, input, before) = c.loop-state.invariant.some in
-    let (read, least, head) = c.loop-state.invariant.read es input before in
+    let (es, input, before) = c.loop-self.invariant.some in
+    let (read, least, head) = c.loop-self.invariant.read es input before in
     (_, input, read.0)
 
 -- one line more was read, which adds nothing
@@ -20,36 +20,36 @@ one_line old new es {input} {before} {left} read is goes =
     let (same, head) = none_added old.parser_state.expected old.parser_state new.parser_state h after adds read.1 in
     (subst (λ (x : History). HasRead new x input left) same more, counted, λ some. head (past_header (progress_at old.parser_state h) old.parser_state.expected read.0.history.sound some))
 
-pub loop-state-smaller : goal.loop-state-smaller
-loop-state-smaller g c =
-    let (es, input, before) = c.loop-state.invariant.some in
-    let (read, least, head) = c.loop-state.invariant.read es input before in
-    let (more, counted, same) = one_line c.loop-state.self c.next_line.new.self es {left = g.R.Read.remaining c.next_line.new.reader.inner} read c.in-Ok-true.field-0-test (c.in-Ok-true.ensures.goes _ _ read.0) in
+pub loop-self-smaller : goal.loop-self-smaller
+loop-self-smaller g c =
+    let (es, input, before) = c.loop-self.invariant.some in
+    let (read, least, head) = c.loop-self.invariant.read es input before in
+    let (more, counted, same) = one_line c.loop-self.self c.next_line.new.self es {left = g.R.Read.remaining c.next_line.new.reader.inner} read c.if-branch.true (c.in_ok-next_line.ensures.goes _ _ read.0) in
     omega (arith, counted, read.0.within.1)
 
 -- the line isn't that of an epoch
 not_expected : (b : Bool) (P : Type 0) → (IsTrue b ↔ P) → b ≡ false → P → ⊥
 not_expected b P is isnt p = let held : b ≡ true = is.1 p in cc
 
-pub loop-state-preserved : goal.loop-state-preserved
-loop-state-preserved g c =
-    let inv = c.loop-state.invariant in
+pub loop-self-preserved : goal.loop-self-preserved
+loop-self-preserved g c =
+    let inv = c.loop-self.invariant in
     record {
       read = λ es input before.
           let (read, least, head) = inv.read es input before in
-          let (more, counted, same) = one_line c.loop-state.self c.next_line.new.self es {left = g.R.Read.remaining c.next_line.new.reader.inner} read c.in-Ok-true.field-0-test (c.in-Ok-true.ensures.goes _ _ read.0) in
+          let (more, counted, same) = one_line c.loop-self.self c.next_line.new.self es {left = g.R.Read.remaining c.next_line.new.reader.inner} read c.if-branch.true (c.in_ok-next_line.ensures.goes _ _ read.0) in
           ((more, not_expected c.expects_row.result _ c.expects_row.ensures c.if-expects_row.false), omega (arith, counted, least), λ some. same some ∙ head some);
       some = inv.some;
-      left = leaves_more _ _ _ inv.left c.in-Ok-true.ensures.left;
-      same = c.in-Ok-true.ensures.same (λ e. cc) ∙ inv.same;
+      left = leaves_more _ _ _ inv.left c.in_ok-next_line.ensures.left;
+      same = c.in_ok-next_line.ensures.same (λ e. cc) ∙ inv.same;
     }
 
 pub returns-then-expects_row-clause-epochs : goal.returns-then-expects_row-clause-epochs
 returns-then-expects_row-clause-epochs g c = λ es input before.
-    let (read, least, head) = c.loop-state.invariant.read es input before in
+    let (read, least, head) = c.loop-self.invariant.read es input before in
     let new = c.next_line.new.self in
     let left = g.R.Read.remaining c.next_line.new.reader.inner in
-    let (more, counted, same) = one_line c.loop-state.self new es {left = left} read c.in-Ok-true.field-0-test (c.in-Ok-true.ensures.goes _ _ read.0) in
+    let (more, counted, same) = one_line c.loop-self.self new es {left = left} read c.if-branch.true (c.in_ok-next_line.ensures.goes _ _ read.0) in
     let inside = c.expects_row.ensures.0 c.if-expects_row.true in (
       refl,
       before.0.history.counted.times,
@@ -60,26 +60,28 @@ returns-then-expects_row-clause-epochs g c = λ es input before.
     )
 
 pub returns-then-expects_row-clause-left : goal.returns-then-expects_row-clause-left
-returns-then-expects_row-clause-left g c = leaves_more _ _ _ c.loop-state.invariant.left c.in-Ok-true.ensures.left
+returns-then-expects_row-clause-left g c = leaves_more _ _ _ c.loop-self.invariant.left c.in_ok-next_line.ensures.left
 
 pub unwrap-times-requires : goal.unwrap-times-requires
 unwrap-times-requires g c =
-    let (es, input, before) = c.loop-state.invariant.some in
-    let (read, least, head) = c.loop-state.invariant.read es input before in
-    has_times _ _ _ (line_is c.loop-state.self c.next_line.new.self _ _ _ (ap Ok c.in-Ok-false.field-0-test) (c.in-Ok-false.ensures.goes _ _ read.0)).0
+    let (es, input, before) = c.loop-self.invariant.some in
+    let (read, least, head) = c.loop-self.invariant.read es input before in
+    has_times _ _ _ (line_is c.loop-self.self c.next_line.new.self _ _ _ (ap Ok c.if-branch.false) (c.in_ok-next_line.ensures.goes _ _ read.0)).0
 
-pub returns-in-Ok-false-clause-epochs : goal.returns-in-Ok-false-clause-epochs
-returns-in-Ok-false-clause-epochs g c = λ es input before.
-    let (read, least, head) = c.loop-state.invariant.read es input before in
-    let (whole, expected, same) = line_is c.loop-state.self c.next_line.new.self _ _ _ (ap Ok c.in-Ok-false.field-0-test) (c.in-Ok-false.ensures.goes _ _ read.0) in
+pub returns-clause-epochs : goal.returns-clause-epochs
+returns-clause-epochs g c = λ es input before.
+    let (read, least, head) = c.loop-self.invariant.read es input before in
+    let (whole, expected, same) = line_is c.loop-self.self c.next_line.new.self _ _ _ (ap Ok c.if-branch.false) (c.in_ok-next_line.ensures.goes _ _ read.0) in
     let (has, only) = ended c.next_line.new.self es (record { counts = c.next_line.new.self.parser_state.counts; times = c.unwrap-times.result }) whole (summed _ refl c.unwrap-times.ensures whole) in
     (has, only, λ some. ap (λ (p : ParserState). p.head.shown.plan) same ∙ ap (λ (k : Known). k.shown.plan) (head some))
 
-pub returns-in-Ok-false-clause-left : goal.returns-in-Ok-false-clause-left
-returns-in-Ok-false-clause-left g c = leaves_more _ _ _ c.loop-state.invariant.left c.in-Ok-false.ensures.left
+pub returns-clause-left : goal.returns-clause-left
+returns-clause-left g c = leaves_more _ _ _ c.loop-self.invariant.left c.in_ok-next_line.ensures.left
 
-pub returns-in-Err-clause-epochs : goal.returns-in-Err-clause-epochs
-returns-in-Err-clause-epochs g c = λ es input before. c.in-Err.ensures.goes _ _ (c.loop-state.invariant.read es input before).0.0
+pub returns-in_err-next_line-clause-epochs : goal.returns-in_err-next_line-clause-epochs
+returns-in_err-next_line-clause-epochs g c = λ es input before.
+    let p = err_from_is_err_and c.from_residual.result c.from_residual.ensures.1 in
+    rw (p.1, p.2) (c.in_err-next_line.ensures.goes _ _ (c.loop-self.invariant.read es input before).0.0)
 
-pub returns-in-Err-clause-left : goal.returns-in-Err-clause-left
-returns-in-Err-clause-left g c = leaves_more _ _ _ c.loop-state.invariant.left c.in-Err.ensures.left
+pub returns-in_err-next_line-clause-left : goal.returns-in_err-next_line-clause-left
+returns-in_err-next_line-clause-left g c = leaves_more _ _ _ c.loop-self.invariant.left c.in_err-next_line.ensures.left

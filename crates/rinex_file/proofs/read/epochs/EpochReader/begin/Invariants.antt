@@ -2,8 +2,8 @@ use Rattle.rinex_file.proofs.Names.{◌≡◌, ◌-◌, ◌+◌, ◌≤◌, [], 
 use Rattle.rinex_file.proofs.read.epochs.EpochReader.begin.Given as goal
 
 -- the epochs that were read before
-abbrev pub invariant-loop-state : goal.invariant-loop-state
-invariant-loop-state g l =
+abbrev pub invariant-loop-self : goal.invariant-loop-self
+invariant-loop-self g l =
     let remaining = g.R.Read.remaining in
     record {
       read : (es : List Stamped) (input : Option (List ℕ)) → HasReadEpochs l.fn.self es input (remaining l.fn.reader.inner)
@@ -14,5 +14,5 @@ invariant-loop-state g l =
       same : l.reader.failures ≡ l.fn.reader.failures;
     }
 
-abbrev pub decreases-loop-state : goal.decreases-loop-state
-decreases-loop-state g l = most_lines + 1 - l.self.count
+abbrev pub decreases-loop-self : goal.decreases-loop-self
+decreases-loop-self g l = most_lines + 1 - l.self.count

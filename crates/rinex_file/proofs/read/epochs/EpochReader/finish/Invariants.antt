@@ -2,8 +2,8 @@ use Rattle.rinex_file.proofs.Names.{◌≡◌, ◌-◌, ◌+◌, ◌≤◌, List
 use Rattle.rinex_file.proofs.read.epochs.EpochReader.finish.Given as goal
 
 -- satellites of the epoch that was begun
-abbrev pub invariant-loop-fault : goal.invariant-loop-fault
-invariant-loop-fault g l =
+abbrev pub invariant-loop : goal.invariant-loop
+invariant-loop g l =
     let remaining = g.R.Read.remaining in
     record {
       read : (es : List Stamped) (e : Stamped) (input : Option (List ℕ)) → HasReadRows l.fn.self es e input (remaining l.fn.reader.inner)
@@ -14,5 +14,5 @@ invariant-loop-fault g l =
       same : l.reader.failures ≡ l.fn.reader.failures;
     }
 
-abbrev pub decreases-loop-fault : goal.decreases-loop-fault
-decreases-loop-fault g l = most_lines + 1 - l.self.count
+abbrev pub decreases-loop : goal.decreases-loop
+decreases-loop g l = most_lines + 1 - l.self.count
