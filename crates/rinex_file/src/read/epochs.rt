@@ -11,7 +11,7 @@ ghost use Rattle.rinex_file.specs.inner.Read.Steps.{GoesOnReading, HasRead};
 ghost use Rattle.gnss_obs.specs.SignalLists.{indices};
 ghost use Rattle.gnss_obs.specs.Values.{planned_of};
 ghost use Rattle.rinex_file.specs.inner.Read.EpochSteps.{BeginsEpoch, FinishesEpoch, HasReadEpochs, HasReadRows};
-ghost use Rattle.rinex_file.specs.inner.Read.EpochSteps.{ReadsEpoch, ReadsRow, plan_of, row_of};
+ghost use Rattle.rinex_file.specs.inner.Read.EpochSteps.{ReadsRow, plan_of, row_of};
 
 use crate::read::fault::ReadFault;
 use crate::read::file::FileSummary;
@@ -59,7 +59,8 @@ pub enum NextEpoch {
     End(FileSummary),
 }
 
-/// The reading of a file epoch by epoch. Its size doesn't grow with the file.
+/// The reading of a file epoch by epoch. It accepts the files that
+/// [`check_file`](crate::check_file) accepts, and its size doesn't grow with the file.
 #[derive(Drop)]
 pub struct EpochReader {
     pub(crate) parser_state: ParserState,
@@ -212,33 +213,5 @@ impl EpochReader {
         ensures { indices result.now ≡ planned_of system (plan_of self.now) }
     {
         self.parser_state.head.signals(system)
-    }
-
-    /// Reads the lines of the next epoch, or the end of the file. It accepts the files that
-    /// [`check_file`](crate::check_file) accepts. Not to be called after the end or an error.
-    ///
-    /// # Errors
-    ///
-    /// As for [`check_file`](crate::check_file).
-    pub fn next<R: Read>(&mut self, reader: &mut Counted<R>) -> Result<NextEpoch, ReadFault>
-        requires { (es : List Stamped) × (input : Option (List ℕ))
-            × HasReadEpochs self.old es input (R.remaining reader.old.inner) }
-        ensures epochs { (es : List Stamped) → (input : Option (List ℕ))
-            → HasReadEpochs self.old es input (R.remaining reader.old.inner)
-            → ReadsEpoch self.old self.new es input (R.remaining reader.new.inner) result }
-        // It fails with its reader: nothing is read again after a failed read.
-        ensures failed { result ≡ Err ReadFault.Read → HasFailed reader.old.failures reader.new.failures }
-        ensures same { (result ≡ Err ReadFault.Read → ⊥) → reader.new.failures ≡ reader.old.failures }
-        // A prefix of the input was read.
-        ensures left { LeavesRest (R.remaining reader.old.inner) (R.remaining reader.new.inner) }
-    {
-        match self.begin(reader) {
-            Ok(NextEpoch::Epoch { before, time }) => match self.finish(reader) {
-                Ok(()) => Ok(NextEpoch::Epoch { before, time }),
-                Err(fault) => Err(fault),
-            },
-            Ok(NextEpoch::End(summary)) => Ok(NextEpoch::End(summary)),
-            Err(fault) => Err(fault),
-        }
     }
 }
