@@ -25,6 +25,7 @@ pub use Rattle.gnss_obs.specs.declared.civil.Civil.{Civil}
 pub use Rattle.gnss_system.specs.declared.system.System.{System}
 pub use Rattle.gnss_system.specs.declared.system.System.TheVariants.{Gps, Glonass}
 pub use Rattle.memchr.specs.Find.{IsFirstByte, is_byte}
+pub use Rattle.devices.proofs.PrintingLaws.{unmapped}
 pub use Rattle.rtcm_bits.specs.Prefix.{IsPrefix}
 pub use Rattle.rinex_file.specs.Accepted.{AreBegunWith, AreEpochsRead, AreFirstEpochs, HasPlan, IsEpochLine, IsFaultAfter}
 pub use Rattle.rinex_file.specs.Begun.{AreBegun, IsEpochBegun, IsHeaderBegun, IsEventBegun, part_lines, whole_lines, IsShown, StartsAt}

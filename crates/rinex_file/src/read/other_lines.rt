@@ -84,10 +84,8 @@ pub(crate) fn read_texts(texts: &mut HeaderTexts, row: HeaderField, line: &[u8])
     let mut column = row.front().len();
     for field in row.fields() {
         let width = field.width();
-        match texts.set(*field, columns(line, column, width)) {
-            Ok(()) => column += width,
-            Err(_) => return None,
-        }
+        texts.set(*field, columns(line, column, width)).ok()?;
+        column += width;
     }
     if !texts.has_row(row) {
         return None;

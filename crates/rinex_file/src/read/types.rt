@@ -110,10 +110,8 @@ fn take_signals(
         // first of a signal's four types is the one at `4 * place` among all types.
         let column = 6 + 4 * (4 * place - TYPES_IN_LINE * row) + 2;
         let signal = signal_in(line, system, column).ok_or(Refusal::Bad)?;
-        match signals.add(signal) {
-            Ok(true) => {}
-            Ok(false) => return Err(Refusal::Bad),
-            Err(_) => return Err(Refusal::Memory),
+        if !signals.add(signal).map_err(|_| Refusal::Memory)? {
+            return Err(Refusal::Bad);
         }
     }
     Ok(())
@@ -133,8 +131,6 @@ fn signal_in(line: &[u8], system: System, column: usize) -> Option<Signal>
     ensures system { IfSome result (λ s. (s.system ≡ system) × IsSignal s) }
     ensures read { (s : SignalAt) → HasSignalAt system line.now column s → result ≡ Some s }
 {
-    match str::from_utf8(columns(line, column, 2)) {
-        Ok(code) => Signal::from_code(system, code),
-        Err(_) => None,
-    }
+    let code = str::from_utf8(columns(line, column, 2)).ok()?;
+    Signal::from_code(system, code)
 }

@@ -84,8 +84,6 @@ pub fn file_bytes(alloc: Global, file: &ObsFile) -> Result<Vec<u8>, AllocError>
     ensures { IfOk result (λ text. text.items ≡ file_text file.now) }
 {
     let mut text = Counted::new(Vec::new(alloc));
-    match write_file(file, &mut text) {
-        Ok(()) => Ok(text.into_inner()),
-        Err(_) => Err(AllocError),
-    }
+    write_file(file, &mut text).map_err(|_| AllocError)?;
+    Ok(text.into_inner())
 }

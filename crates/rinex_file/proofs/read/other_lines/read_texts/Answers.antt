@@ -9,10 +9,10 @@ compared : (r : HeaderField) {line again : List ℕ} (old : HeaderLists) {new : 
 compared r old b size read some is says = grind (arith, not_same, refused)
 
 pub loop-field-preserved : goal.loop-field-preserved
-loop-field-preserved c = grind (arith, c.fields-field-items.ensures.value, c.loop-field-test.true, c.width-width.ensures.value, c.columns.ensures.value, c.in-Ok.ensures.fault, c.in-Ok.ensures.value, c.loop-field.invariant.read, c.loop-field.invariant.few, few_columns, added_text, fields_from)
+loop-field-preserved c = grind (arith, c.fields-field-items.ensures.value, c.loop-field-test.true, c.width-width.ensures.value, c.columns.ensures.value, c.set.ensures.fault, c.set.ensures.value, c.ok.ensures.value, c.in_ok-ok.was, c.loop-field.invariant.read, c.loop-field.invariant.few, few_columns, added_text, fields_from)
 
-pub returns-in-Err : goal.returns-in-Err
-returns-in-Err c = grind (arith, c.are_texts.ensures.count, c.loop-field.invariant.read, c.fields-field-items.ensures.value, c.loop-field-test.true, c.width-width.ensures.value, c.columns.ensures.value, c.in-Err.ensures.fault, not_printable, refused_text, fields_from)
+pub returns-in_err-ok : goal.returns-in_err-ok
+returns-in_err-ok c = grind (arith, c.are_texts.ensures.count, c.loop-field.invariant.read, c.fields-field-items.ensures.value, c.loop-field-test.true, c.width-width.ensures.value, c.columns.ensures.value, c.set.ensures.fault, c.ok.ensures.value, c.in_err-ok.was, c.from_residual.ensures, not_printable, refused_text, fields_from)
 
 pub returns : goal.returns
 returns c = taken c.is_same.result c.then_some.result (ReadsOrRefusesTexts c.args.row c.args.line.now c.args.texts.now c.loop-field.texts) c.then_some.ensures
