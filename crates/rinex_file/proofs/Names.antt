@@ -49,7 +49,7 @@ unfoldable pub use Rattle.rinex_file.specs.Lines.{epoch_line, field, satellite_l
 pub use Rattle.rinex_file.specs.Lines.{lli_byte, row_text, strength_byte}
 pub use Rattle.rinex_columns.specs.Numbers.{fixed, joined, left, padded, right}
 pub use Rattle.rinex_file.specs.inner.ParserState.{FollowsHistory, open_epochs, MayRunOut, ExpectsHeader, ExpectsRow, AddsAt, GoesOnWithLine, IsLast, IsNext, RefusesLine, ShowsLine, TakesLine, progress_at, stamped_at, with_last_read, with_satellite, with_whole_epoch}
-pub use Rattle.rinex_file.specs.inner.Read.EpochSteps.{HasReadRows, HasReadEpochs, IsSummaryOf, IsSummaryRead, ReadsRow, BeginsEpoch, plan_of, with_read, with_rows, HasReadRowsAt, ReadsEpoch, StopsStoring, file_of, begun_in, row_of as read_row}
+pub use Rattle.rinex_file.specs.inner.Read.EpochSteps.{HasReadRows, HasReadEpochs, IsSummaryRead, ReadsRow, BeginsEpoch, plan_of, with_read, with_rows, HasReadRowsAt, StopsStoring, file_of, begun_in, row_of as read_row}
 pub use Rattle.rinex_columns.specs.Read.{ReadsExactly, digits_in, has, number_in, some_if}
 pub use Rattle.rinex_file.specs.inner.Read.HeaderSteps.{AreItemsBefore, EndsHeader, IsLineOfSlots, TakesOrRefusesSlots, TakesSlots, with_slots, GoesOn, GoesTo, HasSignalAt, IsHeaderLineRead, NoneGoesOn, ReadsOrRefuses, ReadsOrRefusesTexts, ReadsTexts, RefusesHeaderLine, RefusesTexts, RefusesTypes, SameFrom, StepsTo, Takes, TakesHeaderLine, TakesTypes, begins_with, row_label, with_interval, expected_if, if_fine, known_line, texts_in, with_first, with_letter, with_texts, with_types, with_values, IsLineOf, IsLineOfTypes, IsThere, TakesItems}
 unfoldable pub use Rattle.rinex_file.specs.inner.Stored.{stamped_text}

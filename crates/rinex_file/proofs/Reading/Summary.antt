@@ -1,6 +1,6 @@
 -- The counts of a file that was read whole, and the times of its epochs.
 use Rattle.rinex_file.proofs.Reading.Lines.{said_of}
-use Rattle.rinex_file.proofs.Names.{AreCounts, ap, file_of, refl, EpochReader, IfTextOfFile, IsSummaryOf, IsSummaryRead, common_steps, arith, ◌≡◌, sym, subst, ℕ, ◌<◌, List, [], length, Option, Some, IfSome, map, is_some, true, ParserState, EpochTimes, FileSummary, Stamped, FileValue, IsFileValue, time_stamped, file_text, History, AreTimesOrNone, IsSummary, IsTextWith, IsWhole, file_at}
+use Rattle.rinex_file.proofs.Names.{AreCounts, file_of, refl, EpochReader, IfTextOfFile, IsSummaryRead, common_steps, arith, ◌≡◌, sym, subst, ℕ, ◌<◌, List, [], length, Option, Some, IfSome, map, is_some, true, ParserState, EpochTimes, FileSummary, Stamped, FileValue, IsFileValue, time_stamped, file_text, History, AreTimesOrNone, IsSummary, IsTextWith, IsWhole, file_at}
 
 some_times : (es : List Stamped) (times : Option EpochTimes) → AreTimesOrNone (map time_stamped es) times → 0 < length es → is_some times ≡ true
 some_times es times are some = grind (arith, common_steps)
@@ -26,13 +26,3 @@ module _ {c : ParserState} {h : History} {input : Option (List ℕ)} (whole : Is
 pub ended : (r : EpochReader) (es : List Stamped) (s : FileSummary) {input : Option (List ℕ)} → (whole : IsWhole r.parser_state (record { epochs = es; rows = [] }) input)
     → IsSummary s (file_of r es) → IsTextWith (IsSummaryRead r es s) input × IfTextOfFile input (IsSummaryRead r es s)
 ended r es s whole is = (text_with whole (IsSummaryRead r es s) (is, refl), λ v value few. only_with whole (IsSummaryRead r es s) (is, refl) v value)
-
--- the same without the header
-pub without_header : (r : EpochReader) (es : List Stamped) (s : FileSummary) (input : Option (List ℕ)) → IsTextWith (IsSummaryRead r es s) input → IfTextOfFile input (IsSummaryRead r es s)
-    → IsTextWith (IsSummaryOf es s) input × IfTextOfFile input (IsSummaryOf es s)
-without_header r es s input has only = (
-  record { v = has.v; is = has.is; few = has.few; text = has.text; holds = of_file has.v has.holds },
-  λ v is few. said_of input _ _ (λ bytes h same. of_file v (h same)) (only v is few),
-) where
-  of_file : (v : FileValue) → IsSummaryRead r es s v → IsSummaryOf es s v
-  of_file v h = (h.0, ap (λ (f : FileValue). f.epochs) h.1)

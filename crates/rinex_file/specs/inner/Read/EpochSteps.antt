@@ -45,24 +45,9 @@ row_of r = r.parser_state.last_read
 abbrev pub file_of : EpochReader → List Stamped → FileValue
 file_of r es = file_at r.parser_state (record { epochs = es; rows = [] })
 
--- the file has this summary and these epochs
-abbrev pub IsSummaryOf : List Stamped → FileSummary → FileValue → Type 0
-IsSummaryOf es s v = IsSummary s v × (v.epochs ≡ es)
-
 -- it is the file that was read, and has this summary
 abbrev pub IsSummaryRead : EpochReader → List Stamped → FileSummary → FileValue → Type 0
 IsSummaryRead r es s v = IsSummary s v × (v ≡ file_of r es)
-
--- One epoch more was read; or the input is the text of a file of the epochs that were read; or there is a fault.
-abbrev pub ReadsEpoch : (old new : EpochReader) → List Stamped → (input left : Option (List ℕ))
-    → Result NextEpoch ReadFault → Type 0
-ReadsEpoch old new es input left (Ok (Epoch before time)) =
-    (e : Stamped) × (e.time ≡ time) × AreTimesOrNone (map time_stamped es) before
-    × HasReadEpochs new (es ++ e ∷ []) input left × IfSome input (AreFirstEpochs (es ++ e ∷ []) new.count)
-    × (old.count < new.count)
-ReadsEpoch old new es input left (Ok (End s)) =
-    IsTextWith (IsSummaryOf es s) input × IfTextOfFile input (IsSummaryOf es s)
-ReadsEpoch old new es input left (Err fault) = StopsReading es input left fault
 
 -- the epoch whose line was read last, without satellites
 abbrev pub begun_in : EpochReader → Stamped
