@@ -38,60 +38,32 @@ pub enum HeaderField {
     AntType,
 }
 
+/// Returns rows, one a line.
+macro_rules! field_rows {
+    ($($name:expr, $width:expr, $label:expr, $front:expr, [$($text:ident),*], $always:expr;)*) => {
+        &[$(($name, $width, $label, $front, &[$($text),*], $always)),*]
+    };
+}
+
 /// The texts, in the order in which they are validated: the name in [`Texts`](crate::Texts) and the
 /// width in columns; and, if a row begins with the text, the row's label, the columns before its
 /// texts, its texts, and whether each header has it. Another row is there if some text in it isn't
 /// empty.
-const FIELDS: &[(&str, usize, &[u8], &[u8], &[HeaderField], bool)] = &[
-    (
-        "run_by",
-        20,
-        b"PGM / RUN BY / DATE",
-        b"rtcm2rinex          ",
-        &[RunBy, Date],
-        true,
-    ),
-    ("date", 20, b"", b"", &[], true),
-    ("comment", 60, b"COMMENT", b"", &[Comment], false),
-    ("marker", 60, b"MARKER NAME", b"", &[Marker], true),
-    (
-        "marker_number",
-        20,
-        b"MARKER NUMBER",
-        b"",
-        &[MarkerNumber],
-        false,
-    ),
-    ("marker_type", 20, b"MARKER TYPE", b"", &[MarkerType], true),
-    (
-        "observer",
-        20,
-        b"OBSERVER / AGENCY",
-        b"",
-        &[Observer, Agency],
-        true,
-    ),
-    ("agency", 40, b"", b"", &[], true),
-    (
-        "rec_number",
-        20,
-        b"REC # / TYPE / VERS",
-        b"",
-        &[RecNumber, RecType, RecVersion],
-        true,
-    ),
-    ("rec_type", 20, b"", b"", &[], true),
-    ("rec_version", 20, b"", b"", &[], true),
-    (
-        "ant_number",
-        20,
-        b"ANT # / TYPE",
-        b"",
-        &[AntNumber, AntType],
-        true,
-    ),
-    ("ant_type", 20, b"", b"", &[], true),
-];
+const FIELDS: &[(&str, usize, &[u8], &[u8], &[HeaderField], bool)] = field_rows! {
+    "run_by", 20, b"PGM / RUN BY / DATE", b"rtcm2rinex          ", [RunBy, Date], true;
+    "date", 20, b"", b"", [], true;
+    "comment", 60, b"COMMENT", b"", [Comment], false;
+    "marker", 60, b"MARKER NAME", b"", [Marker], true;
+    "marker_number", 20, b"MARKER NUMBER", b"", [MarkerNumber], false;
+    "marker_type", 20, b"MARKER TYPE", b"", [MarkerType], true;
+    "observer", 20, b"OBSERVER / AGENCY", b"", [Observer, Agency], true;
+    "agency", 40, b"", b"", [], true;
+    "rec_number", 20, b"REC # / TYPE / VERS", b"", [RecNumber, RecType, RecVersion], true;
+    "rec_type", 20, b"", b"", [], true;
+    "rec_version", 20, b"", b"", [], true;
+    "ant_number", 20, b"ANT # / TYPE", b"", [AntNumber, AntType], true;
+    "ant_type", 20, b"", b"", [], true;
+};
 
 impl HeaderField {
     /// All fields, in the order in which they are validated.
