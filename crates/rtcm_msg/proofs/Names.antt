@@ -58,9 +58,9 @@ pub use Rattle.rtcm_msg.specs.inner.Rows.{numbers_in, rows_at}
 pub use Rattle.rtcm_msg.specs.inner.ValueCounts.{AddsCounts, AreAtMost, AreCells, entries_left, has_id, has_listed_value, value_count}
 pub use Rattle.rtcm_msg.specs.inner.Viewed.{IsCached, Unread}
 pub use Rattle.rtcm_msg.specs.inner.Views.{AreDataOf, AreWithin, FormedMsm, cell_rows, formed, satellite_rows}
-pub use Rattle.std.proofs.Common.{All, Bool, Err, FitsSigned, IsTrue, List, None, Ok, Option, Result, Some, [], add-one, add-zero, add_assoc, add_comm, ap, append-nil, append_assoc, ap₂, arith, count_ones, drop, false, filter, get_or, if◌then◌else◌, inl, inr, is_some, length, length-append, lit<, lit≤, map, mul-le-mul, nat_le, nat_lt, not, of_z, option_and_then, pos, refl, replicate, rules, set, subst, suc, sym, take, to_z, true, unsigned_abs, w16, w32, w64, zero, zero-add, ℕ, ℤ, ◌%◌, ◌&&◌, ◌*ℤ◌, ◌*◌, ◌++◌, ◌+ℤ◌, ◌+◌, ◌-◌, ◌/◌, ◌<◌, ◌==◌, ◌^◌, ◌||◌, ◌∙◌, ◌∷◌, ◌≡◌, ◌≢◌, ◌≤◌, ◌⊎◌}
+pub use Rattle.std.proofs.Common.{Bool, Err, FitsSigned, IsTrue, List, None, Ok, Option, Result, Some, [], add-one, add-zero, add_assoc, add_comm, ap, append-nil, append_assoc, ap₂, arith, count_ones, drop, false, filter, get_or, if◌then◌else◌, inl, inr, is_some, length, length-append, lit<, lit≤, map, mul-le-mul, nat_le, nat_lt, not, of_z, option_and_then, pos, refl, replicate, rules, set, subst, suc, sym, take, to_z, true, unsigned_abs, w16, w32, w64, zero, zero-add, ℕ, ℤ, ◌%◌, ◌&&◌, ◌*ℤ◌, ◌*◌, ◌++◌, ◌+ℤ◌, ◌+◌, ◌-◌, ◌/◌, ◌<◌, ◌==◌, ◌^◌, ◌||◌, ◌∙◌, ◌∷◌, ◌≡◌, ◌≢◌, ◌≤◌, ◌⊎◌}
 pub use Rattle.std.proofs.Math.Nat.{add-mod_right, div-div-eq-div-mul, div-eq_of_lt, div-one, mod-eq_of_lt}
-pub use Rattle.std.proofs.Math.Seq.{drop-cons, drop-length, take-length}
+pub use Rattle.std.proofs.Math.Seq.{drop-cons, drop-length}
 pub use Rattle.std.proofs.lemmas.Bool.{and_left, and_parts, and_right, cases_Bool, cases_eq, cases_lt, eq-eqb, le-leb, le-ltb, lt-leb, lt-ltb, ne_eqb}
 pub use Rattle.std.proofs.lemmas.Grind.{common_steps}
 pub use Rattle.std.proofs.lemmas.Int.{ints, to_z-of_z}

@@ -13,7 +13,6 @@ ghost use Rattle.rtcm_msg.specs.inner.Forms as inner_forms;
 ghost use Rattle.rtcm_msg.specs.Forms.{IsSatelliteData, IsCellData, satellite_number, satellite_data};
 ghost use Rattle.rtcm_msg.specs.Forms.{cell_number, cell_data, fine_range, fine_phase, precision};
 ghost use Rattle.rtcm_msg.specs.inner.Forms.{has_range};
-ghost use Rattle.rtcm_msg.specs.inner.FormLaws as laws;
 ghost use Rattle.rtcm_msg.specs.Entries.{IsEntry};
 ghost use Rattle.rtcm_msg.specs.Fractions.{range_joined, scaled};
 ghost use Rattle.rtcm_msg.specs.declared.fault.Field.{Field};
@@ -400,9 +399,8 @@ pub(crate) trait HasFields {
     /// Returns the fields in one number, the first field in the most significant bits.
     fn number(&self, form: Form) -> u128
         requires { fit form self.now }
-        ensures { result ≡ number form self.now };
-
-    ghost number_fits: { (f : Form) → (x : Self) → fit f x → number f x < 2 ^ width f };
+        ensures value { result ≡ number form self.now }
+        ensures fits { result < 2 ^ width form };
 }
 
 impl HasFields for Satellite {
@@ -414,11 +412,10 @@ impl HasFields for Satellite {
 
     ghost width = { λ f. total_width (forms.satellite_widths f) };
 
+    #[tactic(auto, using(crate::specs::inner::FormLaws::satellite_fits))]
     fn number(&self, form: Form) -> u128 {
         form.satellite_number(self) as u128
     }
-
-    ghost number_fits = { laws.satellite_fits };
 
     // The first test never succeeds. It brings the bound of a `u8` into the proof.
     fn is_bad(&self, form: Form, field: Field) -> bool {
@@ -442,11 +439,10 @@ impl HasFields for Cell {
 
     ghost width = { λ f. total_width (forms.cell_widths f) };
 
+    #[tactic(auto, using(crate::specs::inner::FormLaws::cell_fits))]
     fn number(&self, form: Form) -> u128 {
         form.cell_number(self)
     }
-
-    ghost number_fits = { laws.cell_fits };
 
     fn is_bad(&self, form: Form, field: Field) -> bool {
         let fine = form.is_fine();
