@@ -1,4 +1,4 @@
-use Rattle.rtcm_msg.proofs.Names.{ℕ, ℤ, pos, ◌≡◌, ◌==◌, ◌∙◌, sym, ap, ◌*◌, ◌*ℤ◌, ◌≤◌, ◌^◌, Bool, not, if◌then◌else◌, Option, Some, None, arith, w32, w64, to_z, of_z, FitsSigned, lit<, lit≤, ints, to_z-of_z}
+use Rattle.rtcm_msg.proofs.Names.{ℕ, ℤ, pos, ◌≡◌, ◌==◌, ◌∙◌, sym, ap, ◌*ℤ◌, ◌≤◌, ◌^◌, Bool, not, if◌then◌else◌, Option, Some, None, arith, w32, w64, to_z, of_z, FitsSigned, lit<, lit≤, ints, to_z-of_z}
 use Rattle.std.proofs.lemmas.Int.{fits_signed_mul}
 use Rattle.std.specs.Bool.{then_some}
 use Rattle.std.specs.Ordering.{int_eq}
