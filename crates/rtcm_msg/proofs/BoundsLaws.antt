@@ -1,5 +1,6 @@
 -- Bounds of the values of a cell.
-use Rattle.rtcm_msg.proofs.Names.{ℕ, ℤ, ◌^◌, ◌≤◌, Bool, List, [], ◌∷◌, map, unsigned_abs, arith, IfSome, AllByRecursion, Message, Pair, Form, invalid_rough_rate, invalid_fine_rate, rate_joined, MsmValue, entry_in, entries, IsMeasured, Satellite, Cell, entry, IsSatelliteData, IsCellData, FitsIf, satellite_in_range, cell_in_range}
+use Rattle.rtcm_msg.proofs.Names.{ℕ, ℤ, ◌^◌, ◌≤◌, Bool, List, [], ◌∷◌, map, unsigned_abs, arith, IfSome, AllByRecursion, Message, Pair, Form, invalid_rough_rate, invalid_fine_rate, rate_joined, MsmValue, entry_in, entries, IsMeasured, Satellite, Cell, entry, IsSatelliteData, IsCellData, FitsIf}
+use Rattle.rtcm_msg.proofs.FormLaws.{satellite_in_range, cell_in_range}
 
 -- ---- fractions
 

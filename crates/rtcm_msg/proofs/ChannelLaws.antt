@@ -1,5 +1,6 @@
 -- The channels in a message, one satellite after the other.
-use Rattle.rtcm_msg.proofs.Names.{ℕ, ◌≡◌, ◌+◌, ◌^◌, ◌<◌, ◌≤◌, ◌∙◌, Bool, true, false, List, [], length, count_ones, refl, sym, arith, FormedMsm, Form, MsmValue, formed, ids, message_in, channels_by, channels_of, has_channels, sent_channels, satellite_data, satellite_in_range}
+use Rattle.rtcm_msg.proofs.Names.{ℕ, ◌≡◌, ◌+◌, ◌^◌, ◌<◌, ◌≤◌, ◌∙◌, Bool, true, false, List, [], length, count_ones, refl, sym, arith, FormedMsm, Form, MsmValue, formed, ids, message_in, channels_by, channels_of, has_channels, sent_channels, satellite_data}
+use Rattle.rtcm_msg.proofs.FormLaws.{satellite_in_range}
 use Rattle.rtcm_msg.proofs.PairLaws.{ids_none}
 use Rattle.rtcm_msg.proofs.CountLaws.{ids_count}
 

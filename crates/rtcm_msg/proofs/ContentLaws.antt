@@ -1,5 +1,6 @@
 -- The data of one satellite or cell, read field by field.
-use Rattle.rtcm_msg.proofs.Names.{ℕ, ℤ, ◌≡◌, ◌+◌, ◌*◌, ◌/◌, ◌%◌, ◌^◌, ◌<◌, ◌==◌, Bool, true, List, [], ◌∷◌, refl, sym, ap, ap₂, subst, ◌∙◌, arith, lit<, mod_low, shr_high, pow-add, length-take, number-fits, pow_mono, signed, raw, div-div-eq-div-mul, div-one, Table, FieldKind, width, widths, Contents, content, total_width, unpacked, field_at, row_at, Form, LastBits, AreLast, satellite_widths, cell_widths, packed, below_product, Satellite, Cell, Precision, precision, is_fine, has_rates, satellite_table_by, satellite_of, satellite_data, satellite_contents, satellite_number, cell_table, cell_of, cell_data, cell_number, rate_table, rate_in, cell_table_by, cell_contents, rateless, rateless_number}
+use Rattle.rtcm_msg.proofs.Names.{ℕ, ℤ, ◌≡◌, ◌+◌, ◌*◌, ◌/◌, ◌%◌, ◌^◌, ◌<◌, ◌==◌, Bool, true, List, [], ◌∷◌, refl, sym, ap, ap₂, subst, ◌∙◌, arith, lit<, mod_low, shr_high, pow-add, length-take, number-fits, pow_mono, signed, raw, div-div-eq-div-mul, div-one, Table, FieldKind, width, widths, Contents, content, total_width, unpacked, field_at, row_at, Form, LastBits, AreLast, satellite_widths, cell_widths, packed, Satellite, Cell, Precision, precision, is_fine, has_rates, satellite_table_by, satellite_of, satellite_data, satellite_contents, satellite_number, cell_table, cell_of, cell_data, cell_number, rate_table, rate_in, cell_table_by, cell_contents, rateless, rateless_number}
+use Rattle.rtcm_msg.proofs.LayoutLaws.{below_product}
 
 -- The contents of item i, when the data of n items begin at a bit; the fields before them have k bits.
 abbrev pub contents_after : (t : Table) → ℕ → List Bool → ℕ → ℕ → ℕ → Contents t

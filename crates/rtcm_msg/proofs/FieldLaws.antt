@@ -1,5 +1,6 @@
 -- The fields of a table, read as one: the bits that were read, reading encoded fields, and the fault.
-use Rattle.rtcm_msg.proofs.Names.{common_steps, ℕ, true, ◌≡◌, ◌+◌, ◌<◌, ◌≤◌, Bool, List, [], ◌∷◌, ◌++◌, length, drop, Result, Ok, Err, Some, None, refl, subst, ◌∙◌, arith, append_assoc, ◌⊎◌, inl, inr, add_assoc, add-zero, and_parts, cases_lt, length-drop, drop-drop, has_sign, have_signs, FitAll, number-content, content_fits, content-number, number_fits, Table, width, widths, Contents, content, fields_of, Cursor, advanced, unsigned_at, MsgFault, Short, number_at, ◌>>=◌, field_bits, first_past, reading, total_width}
+use Rattle.rtcm_msg.proofs.Names.{common_steps, ℕ, true, ◌≡◌, ◌+◌, ◌<◌, ◌≤◌, Bool, List, [], ◌∷◌, ◌++◌, length, drop, Result, Ok, Err, Some, None, refl, subst, ◌∙◌, arith, append_assoc, ◌⊎◌, inl, inr, add_assoc, add-zero, and_parts, cases_lt, length-drop, drop-drop, Table, width, widths, Contents, content, fields_of, Cursor, advanced, unsigned_at, MsgFault, Short, number_at, ◌>>=◌, field_bits, first_past, reading, total_width}
+use Rattle.rtcm_msg.proofs.LayoutLaws.{has_sign, have_signs, FitAll, number-content, content_fits, content-number, number_fits}
 pub use Rattle.rtcm_msg.specs.Fields.{cursor_at, field_at}
 use Rattle.rtcm_msg.proofs.Binds.{ok_inj, number_there, number_short, consumed_at, ok_err}
 use Rattle.rtcm_msg.proofs.Combine.{past_here, past_next, cursor, number_again}

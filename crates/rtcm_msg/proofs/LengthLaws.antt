@@ -1,5 +1,6 @@
 -- No message is longer than 1,023 bytes.
-use Rattle.rtcm_msg.proofs.Names.{ℕ, ◌≡◌, ◌+◌, ◌*◌, ◌/◌, ◌^◌, ◌≤◌, List, [], ◌∷◌, ◌++◌, length, refl, ◌∙◌, arith, lit≤, length-append, count_ones, Option, flat_map, mul-le, ones-le, uint, Message, field_bits, fields_width, total_width, columns, station_fields, MsmValue, IsValue, pair_count, msm_bits, header_fields, mask_fields, IsMessage, message_bits, message_number, satellite_widths, cell_widths, Form, longest_message_bits, length-uint, narrow}
+use Rattle.rtcm_msg.proofs.Names.{ℕ, ◌≡◌, ◌+◌, ◌*◌, ◌/◌, ◌^◌, ◌≤◌, List, [], ◌∷◌, ◌++◌, length, refl, ◌∙◌, arith, lit≤, length-append, count_ones, Option, flat_map, mul-le, ones-le, uint, Message, field_bits, fields_width, total_width, columns, station_fields, MsmValue, IsValue, pair_count, msm_bits, header_fields, mask_fields, IsMessage, message_bits, message_number, satellite_widths, cell_widths, Form, longest_message_bits, length-uint}
+use Rattle.rtcm_msg.proofs.FormLaws.{narrow}
 use Rattle.rtcm_msg.specs.declared.message.Message.TheVariants as messages
 use Rattle.rtcm_msg.specs.declared.view.Form.TheVariants as forms
 

@@ -1,5 +1,6 @@
 -- No field that is read ends after the first 8,184 bits.
-use Rattle.rtcm_msg.proofs.Names.{common_steps, ℕ, ◌≡◌, ◌+◌, ◌*◌, ◌≤◌, Bool, true, false, List, ◌∷◌, ◌++◌, length, take, drop, Result, Ok, Err, Option, refl, sym, ap, ap₂, ◌∙◌, arith, lit≤, append_assoc, nat_lt, nat_le, count_ones, length-append, cases_lt, le-leb, lt-ltb, ones-le, mul-le, length-drop, take-append-le, drop-append-le, take-append-drop, length-take-le, bits_of, number, MsgFault, Message, total_width, message_by, message_with, MsmSet, kind_with, ReadsMessage, IsFault, is_read_msm, set_of, layout_by, Kind, kind_of, is_msm_kind, has_bad_time, has_too_many, repeated, Form, satellite_widths, cell_widths, longest_message, longest_message_bits, bits_of-append, length-bits_of, number-take-fits, number_of, narrow}
+use Rattle.rtcm_msg.proofs.Names.{common_steps, ℕ, ◌≡◌, ◌+◌, ◌*◌, ◌≤◌, Bool, true, false, List, ◌∷◌, ◌++◌, length, take, drop, Result, Ok, Err, Option, refl, sym, ap, ap₂, ◌∙◌, arith, lit≤, append_assoc, nat_lt, nat_le, count_ones, length-append, cases_lt, le-leb, lt-ltb, ones-le, mul-le, length-drop, take-append-le, drop-append-le, take-append-drop, length-take-le, bits_of, number, MsgFault, Message, total_width, message_by, message_with, MsmSet, kind_with, ReadsMessage, IsFault, is_read_msm, set_of, layout_by, Kind, kind_of, is_msm_kind, has_bad_time, has_too_many, repeated, Form, satellite_widths, cell_widths, longest_message, longest_message_bits, bits_of-append, length-bits_of, number-take-fits, number_of}
+use Rattle.rtcm_msg.proofs.FormLaws.{narrow}
 use Rattle.rtcm_msg.proofs.FieldLaws.{past_none, field_at}
 use Rattle.rtcm_msg.proofs.FaultLaws.{total-append, total-repeated, pair_count_of}
 use Rattle.rtcm_msg.proofs.MessageLaws.{read_again, message_found, message_fault, message_only_fault, and_all, some_none}

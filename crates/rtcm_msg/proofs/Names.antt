@@ -46,10 +46,8 @@ pub use Rattle.rtcm_msg.specs.declared.pairs.Pairs.{Pairs}
 pub use Rattle.rtcm_msg.specs.declared.station.StationParts.{StationParts}
 pub use Rattle.rtcm_msg.specs.declared.view.Data.{Data}
 pub use Rattle.rtcm_msg.specs.declared.view.Form.{Form}
-pub use Rattle.rtcm_msg.specs.inner.FormLaws.{cell_in_range, cell_same, narrow, satellite_in_range, satellite_same}
 pub use Rattle.rtcm_msg.specs.inner.Forms.{cell_fault, rateless, rateless_number, satellite_fault}
 pub use Rattle.rtcm_msg.specs.inner.LastBits.{AreLast}
-pub use Rattle.rtcm_msg.specs.inner.LayoutLaws.{FitAll, below_product, content-number, content_fits, has_sign, have_signs, number-content, number_fits}
 pub use Rattle.rtcm_msg.specs.inner.Pairs.{AreAll, ArePairs, HasFirst, IndicesAreBelow, all_pairs_from, cell_pairs_left, pairs_from, pairs_left}
 pub use Rattle.rtcm_msg.specs.inner.Ranges.{fits_int}
 pub use Rattle.rtcm_msg.specs.inner.Refusals.{first_of, header_fault, msm_refusal, out_of_range, station_fault}

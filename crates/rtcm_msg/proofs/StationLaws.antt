@@ -1,5 +1,6 @@
 -- Reading a station message: the bits that were read, reading an encoding, and the fault.
-use Rattle.rtcm_msg.proofs.Names.{common_steps, arith, ℕ, ◌≡◌, ◌+◌, ◌^◌, ◌<◌, Bool, true, false, List, [], ◌++◌, Ok, Option, Some, None, refl, sym, ap, ◌∙◌, is_some, subst, append_assoc, IfSome, add-zero, uint, Cursor, StationParts, number_at, ◌>>=◌, field_bits, total_width, station_at, height_at, InRange, height_fields, station_table, height_table, station_contents, station_parts, widths, Contents, fields_of, FitAll}
+use Rattle.rtcm_msg.proofs.Names.{common_steps, arith, ℕ, ◌≡◌, ◌+◌, ◌^◌, ◌<◌, Bool, true, false, List, [], ◌++◌, Ok, Option, Some, None, refl, sym, ap, ◌∙◌, is_some, subst, append_assoc, IfSome, add-zero, uint, Cursor, StationParts, number_at, ◌>>=◌, field_bits, total_width, station_at, height_at, InRange, height_fields, station_table, height_table, station_contents, station_parts, widths, Contents, fields_of}
+use Rattle.rtcm_msg.proofs.LayoutLaws.{FitAll}
 use Rattle.rtcm_msg.proofs.Binds.{bind_ok, ok_inj, number_consumed}
 use Rattle.rtcm_msg.proofs.Combine.{cursor, number_again}
 use Rattle.rtcm_msg.proofs.WritingSteps.{field_bits-append}

@@ -1,10 +1,8 @@
 -- Definitions that no promise to a user reaches: the vocabulary of private contracts and of proofs.
 pub mod LastBits
-pub mod LayoutLaws
 pub mod Rows
 pub mod Ranges
 pub mod Forms
-pub mod FormLaws
 pub mod Refusals
 pub mod Pairs
 pub mod Views

@@ -412,7 +412,7 @@ impl HasFields for Satellite {
 
     ghost width = { λ f. total_width (forms.satellite_widths f) };
 
-    #[tactic(auto, using(crate::specs::inner::FormLaws::satellite_fits))]
+    #[tactic(auto, using(crate::proofs::FormLaws::satellite_fits))]
     fn number(&self, form: Form) -> u128 {
         form.satellite_number(self) as u128
     }
@@ -439,7 +439,7 @@ impl HasFields for Cell {
 
     ghost width = { λ f. total_width (forms.cell_widths f) };
 
-    #[tactic(auto, using(crate::specs::inner::FormLaws::cell_fits))]
+    #[tactic(auto, using(crate::proofs::FormLaws::cell_fits))]
     fn number(&self, form: Form) -> u128 {
         form.cell_number(self)
     }

@@ -144,7 +144,7 @@ impl<G: Grid> Msm<G> {
     }
 
     /// Returns the data of satellite `i`, counted from 0 in rising order of the IDs.
-    #[tactic(auto, using(crate::specs::inner::FormLaws::satellite_in_range))]
+    #[tactic(auto, using(crate::proofs::FormLaws::satellite_in_range))]
     pub fn satellite(&self, i: usize) -> Satellite
         requires { i < length self.now.satellites }
         ensures value { result ≡ satellite_data G.form (slice_index self.now.satellites i) }
@@ -154,7 +154,7 @@ impl<G: Grid> Msm<G> {
     }
 
     /// Returns the data of cell `i`, counted from 0 in the order of the cell mask.
-    #[tactic(auto, using(crate::specs::inner::FormLaws::cell_in_range))]
+    #[tactic(auto, using(crate::proofs::FormLaws::cell_in_range))]
     pub fn cell(&self, i: usize) -> Cell
         requires { i < length self.now.cells }
         ensures value { result ≡ cell_data G.form (slice_index self.now.cells i) }

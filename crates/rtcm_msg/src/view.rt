@@ -273,7 +273,7 @@ impl<'a> MsmView<'a> {
 
     /// Returns the entry of cell `i`, which is of the satellite and the signal of `pair`.
     #[inline(always)]
-    #[tactic(auto, using(crate::specs::inner::FormLaws::satellite_in_range))]
+    #[tactic(auto, using(crate::proofs::FormLaws::satellite_in_range))]
     pub(crate) fn entry(&self, form: Form, pair: Pair, satellite: &Satellite, i: usize) -> Entry
         requires form { form ≡ self.now.form }
         requires satellite { satellite.now ≡ satellite_data self.now.form (slice_index self.now.msm.satellites pair.index) }

@@ -1,4 +1,5 @@
-use Rattle.rtcm_msg.proofs.Names.{arith, common_steps, cell_in_range, cell_same}
+use Rattle.rtcm_msg.proofs.Names.{arith, common_steps}
+use Rattle.rtcm_msg.proofs.FormLaws.{cell_in_range, cell_same}
 use Rattle.rtcm_msg.proofs.ViewLaws.{row_value, below, fits, cells_counted}
 use Rattle.rtcm_msg.proofs.view.MsmView.cell.Goals as goal
 

@@ -1,4 +1,5 @@
-use Rattle.rtcm_msg.proofs.Names.{arith, common_steps, ap, FormedMsm, satellite_in_range, satellite_same}
+use Rattle.rtcm_msg.proofs.Names.{arith, common_steps, ap, FormedMsm}
+use Rattle.rtcm_msg.proofs.FormLaws.{satellite_in_range, satellite_same}
 use Rattle.rtcm_msg.proofs.ViewLaws.{row_value, below, fits, satellites_counted}
 use Rattle.rtcm_msg.proofs.view.MsmView.satellite.Goals as goal
 

@@ -1,14 +1,10 @@
 -- Contents and their numbers undo each other, field by field and packed in one number.
-use Rattle.std.proofs.Common.{ℕ, ◌≡◌, ◌+◌, ◌*◌, ◌/◌, ◌%◌, ◌^◌, ◌<◌, ◌==◌, ◌&&◌, Bool, true, false, [], ◌∷◌, refl, sym}
-use Rattle.std.proofs.Common.{◌∙◌, arith, lit<, ◌⊎◌, inl, inr, nat_lt, add_comm}
-use Rattle.std.proofs.lemmas.Bool.{and_parts}
-use Rattle.std.proofs.lemmas.Nat.{mod-pow-add, shr_high, pow-add, pow_pos, mod_below}
-use Rattle.std.proofs.Math.Nat.{add-mul-div_right, add-mul-mod_self_right, mod-eq_of_lt, mul_assoc}
-use Rattle.rtcm_bits.specs.Bits.{bit, FitsInt}
+use Rattle.rtcm_msg.proofs.Names.{ℕ, ◌≡◌, ◌+◌, ◌*◌, ◌/◌, ◌%◌, ◌^◌, ◌<◌, ◌==◌, ◌&&◌, Bool, true, false, [], ◌∷◌, refl, sym, ◌∙◌, arith, lit<, ◌⊎◌, inl, inr, nat_lt, add_comm, and_parts, shr_high, pow-add, pow_pos, mod_below, mod-eq_of_lt, FitsInt, FieldKind, Table, width, widths, Contents, content, total_width, packed, unpacked}
+use Rattle.std.proofs.lemmas.Nat.{mod-pow-add}
+use Rattle.std.proofs.Math.Nat.{add-mul-div_right, add-mul-mod_self_right, mul_assoc}
+use Rattle.rtcm_bits.specs.Bits.{bit}
 use Rattle.rtcm_bits.proofs.BitLaws.{raw_fits, raw-signed, signed-raw, signed-fits}
-use Rattle.rtcm_msg.specs.Layout.{FieldKind, Uint, Int, Flag, Reserved, Table, width, widths, Content, Contents}
-use Rattle.rtcm_msg.specs.Layout.{number_of, content}
-use Rattle.rtcm_msg.specs.Packed.{total_width, packed, unpacked}
+use Rattle.rtcm_msg.specs.Layout.{Uint, Int, Flag, Reserved, Content, number_of}
 
 -- ---- the content of one field
 

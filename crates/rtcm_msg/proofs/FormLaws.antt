@@ -1,17 +1,8 @@
 -- Packing and unpacking undo each other.
-use Rattle.std.proofs.Common.{ap, ◌<◌, ℕ, ℤ, Bool, true, false, lit≤, ◌≡◌, ◌^◌, ◌≤◌, ◌∙◌, refl, arith}
-use Rattle.rtcm_msg.specs.declared.view.Form.{Form}
+use Rattle.rtcm_msg.proofs.Names.{ap, ◌<◌, ℕ, ℤ, Bool, true, false, lit≤, ◌≡◌, ◌^◌, ◌≤◌, ◌∙◌, refl, arith, Form, Satellite, Cell, Contents, total_width, packed, unpacked, invalid_rough_rate, invalid_fine_rate, is_fine, has_rates, satellite_table_by, rate_table, cell_table_by, cell_table, satellite_contents, FitsIf, satellite_of, rate_in, cell_contents, cell_of, satellite_widths, cell_widths, IsSatelliteData, IsCellData, satellite_number, satellite_data, cell_number, cell_data}
+use Rattle.rtcm_msg.proofs.LayoutLaws.{FitAll, have_signs, packed_fits, unpacked_fit, packed-unpacked}
+use Rattle.rtcm_msg.specs.Forms.{satellite_table, FitsSatellite, rate_contents}
 use Rattle.rtcm_msg.specs.declared.view.Form.TheVariants as forms
-use Rattle.rtcm_msg.specs.declared.data.Satellite.{Satellite}
-use Rattle.rtcm_msg.specs.declared.data.Cell.{Cell}
-use Rattle.rtcm_msg.specs.Layout.{Contents}
-use Rattle.rtcm_msg.specs.inner.LayoutLaws.{FitAll, have_signs, packed_fits, unpacked_fit, packed-unpacked}
-use Rattle.rtcm_msg.specs.Packed.{total_width, packed, unpacked}
-use Rattle.rtcm_msg.specs.Fractions.{invalid_rough_rate, invalid_fine_rate}
-use Rattle.rtcm_msg.specs.Forms.{is_fine, has_rates, satellite_table_by, satellite_table, rate_table, cell_table_by}
-use Rattle.rtcm_msg.specs.Forms.{cell_table, satellite_contents, FitsIf, FitsSatellite, satellite_of, rate_contents}
-use Rattle.rtcm_msg.specs.Forms.{rate_in, cell_contents, cell_of, satellite_widths, cell_widths, IsSatelliteData}
-use Rattle.rtcm_msg.specs.Forms.{IsCellData, satellite_number, satellite_data, cell_number, cell_data}
 
 satellite_signs : (rates : Bool) → have_signs (satellite_table_by rates) ≡ true
 satellite_signs false = refl
