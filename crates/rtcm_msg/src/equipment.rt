@@ -74,16 +74,14 @@ fn equipment_of(bytes: &[u8], number: u16, further: usize) -> Result<Equipment<'
     let station = number_at(bytes, 12, 12) as u16;
     let antenna = text_at(bytes, 3)?;
     let at = 4 + antenna.len();
-    let Some(setup) = bytes.get(at) else {
-        return Err(EquipmentFault::Short(8 * at));
-    };
+    let setup = *bytes.get(at).ok_or(EquipmentFault::Short(8 * at))?;
     let mut texts = ArrayVec::new();
     texts.push(antenna);
     add_texts(bytes, at + 1, further, &mut texts)?;
     Ok(Equipment {
         number,
         station,
-        setup: *setup,
+        setup,
         texts,
     })
 }
@@ -126,15 +124,11 @@ fn text_at(bytes: &[u8], at: usize) -> Result<&[u8], EquipmentFault>
     ensures short { IfOk result (λ t. length t.now ≤ 31) }
     ensures refused { IfErr result (λ e. equipment.text_at bytes.now at ≡ Err e) }
 {
-    let Some(count) = bytes.get(at) else {
-        return Err(EquipmentFault::Short(8 * at));
-    };
-    if *count > LONGEST_TEXT {
+    let count = *bytes.get(at).ok_or(EquipmentFault::Short(8 * at))?;
+    if count > LONGEST_TEXT {
         return Err(EquipmentFault::BadCounter(8 * at));
     }
     let first = at + 1;
-    match bytes.get(first..first + usize::from(*count)) {
-        Some(text) => Ok(text),
-        None => Err(EquipmentFault::Short(8 * first)),
-    }
+    let text = bytes.get(first..first + usize::from(count));
+    text.ok_or(EquipmentFault::Short(8 * first))
 }
