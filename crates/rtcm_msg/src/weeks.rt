@@ -42,6 +42,17 @@ const WEEK_PLACE: usize = 18;
 /// Least number of bytes of all ephemerides.
 const LEAST_BYTES: usize = 61;
 
+/// The fields of message 1045. Message 1046 has them at the same bits, and ends a byte later.
+const GALILEO: WeekFields = WeekFields {
+    bytes: 62,
+    week_bits: 12,
+    added: 1_024,
+    is_whole: true,
+    clock_place: 62,
+    clock_bits: 14,
+    clock_unit: 60,
+};
+
 /// Returns the week and the clock reference time of an ephemeris: a message 1019, 1042, 1045 or
 /// 1046. `None` for another message, if it has not all of its fields, or if its week field is 0.
 pub fn sent_week(bytes: &[u8]) -> Option<SentWeek>
@@ -77,23 +88,10 @@ fn week_fields(number: u64) -> Option<WeekFields>
             clock_bits: 17,
             clock_unit: 8,
         }),
-        1045 => Some(WeekFields {
-            bytes: 62,
-            week_bits: 12,
-            added: 1_024,
-            is_whole: true,
-            clock_place: 62,
-            clock_bits: 14,
-            clock_unit: 60,
-        }),
+        1045 => Some(GALILEO),
         1046 => Some(WeekFields {
             bytes: 63,
-            week_bits: 12,
-            added: 1_024,
-            is_whole: true,
-            clock_place: 62,
-            clock_bits: 14,
-            clock_unit: 60,
+            ..GALILEO
         }),
         _ => None,
     }
