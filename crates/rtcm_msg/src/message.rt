@@ -50,10 +50,8 @@ pub(crate) fn read_set(number: u16, bytes: &[u8]) -> Option<(u16, bool)>
     requires small { length bytes.now ≤ longest_message }
     ensures { result ≡ set_in number (cursor_at (bits_of bytes.now) 12) }
 {
-    if System::from_msm_tens(number / 10).is_none() || number % 10 < 1 || number % 10 > 7 {
-        return None;
-    }
-    if bytes.len() < 7 {
+    System::from_msm_tens(number / 10)?;
+    if number % 10 < 1 || number % 10 > 7 || bytes.len() < 7 {
         return None;
     }
     Some((number_at(bytes, 12, 12) as u16, flag_at(bytes, 54)))

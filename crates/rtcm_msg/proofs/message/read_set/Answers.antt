@@ -15,8 +15,8 @@ set_there bytes h many =
 is_set : (n : ℕ) (c : Cursor) (found : Option System) → found ≡ system_of_tens (n / 10) → is_some found ≡ true → 1 ≤ n % 10 → n % 10 ≤ 7 → set_at c ≡ set_in n c
 is_set n c found e some d f = let any : is_any_msm n ≡ true = grind (arith, e, some, d, f) in rw any refl
 
-pub returns-then-bytes-lt7 : goal.returns-then-bytes-lt7
-returns-then-bytes-lt7 c = grind (arith, common_steps, set_short, is_set)
+pub returns-then-number-lt1 : goal.returns-then-number-lt1
+returns-then-number-lt1 c = grind (arith, common_steps, set_short, is_set)
 
 pub returns : goal.returns
 returns c = grind (arith, common_steps, set_there, is_set)
