@@ -180,15 +180,7 @@ impl Plan {
     pub fn place(&self, signal: Signal) -> Option<usize>
         ensures place { result ≡ place_in signal (planned_of signal.system self.now) }
     {
-        self.place_among(signal.system(), signal)
-    }
-
-    /// Returns the result of `place` for a signal of this system. This is faster if the system is
-    /// the same for many signals.
-    pub fn place_among(&self, system: System, signal: Signal) -> Option<usize>
-        ensures { result ≡ place_in signal (planned_of system self.now) }
-    {
-        self.list(system).place(signal)
+        self.list(signal.system()).place(signal)
     }
 
     /// Returns the wanted signal of a system with this ID, or `None` if there is none.
