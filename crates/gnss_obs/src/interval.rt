@@ -35,14 +35,10 @@ impl Interval {
         ensures some { IsSome result ↔ IsInterval milliseconds }
         ensures value { IfSome result (λ i. i ≡ milliseconds) }
     {
-        if milliseconds < SHORTEST {
+        if milliseconds < SHORTEST || DAY % milliseconds != 0 {
             return None;
         }
-        if DAY % milliseconds == 0 {
-            Some(Interval(milliseconds))
-        } else {
-            None
-        }
+        Some(Interval(milliseconds))
     }
 
     /// Returns the number of milliseconds.
