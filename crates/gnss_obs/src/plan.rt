@@ -257,8 +257,8 @@ fn add_signals(added: &mut Signals, system: System, signals: &[Signal]) -> Added
     ensures { DoneOr (BeginsWithOwn system signals.now) (IsUnfit system signals.now)
         ((added.new ≡ signals.now) × IsOf system signals.now) result }
 {
-    for i in 0..signals.len() {
-        add_signal(added, system, signals[i])?;
+    for signal in signals {
+        add_signal(added, system, *signal)?;
     }
     Ok(())
 }
