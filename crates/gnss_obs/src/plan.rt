@@ -326,8 +326,7 @@ fn add_code(signals: &mut Signals, system: System, code: &str) -> Added
     ensures { DoneOr (MayTakeCode system code.now signals.old) (RefusesCode system code.now signals.old)
         (TakesCode system code.now signals.old signals.new) result }
 {
-    match Signal::from_code(system, code) {
-        Some(signal) => add_signal(signals, system, signal),
-        None => Err(PlanFault::UnknownCode(system, signals.len())),
-    }
+    let unknown = PlanFault::UnknownCode(system, signals.len());
+    let signal = Signal::from_code(system, code).ok_or(unknown)?;
+    add_signal(signals, system, signal)
 }

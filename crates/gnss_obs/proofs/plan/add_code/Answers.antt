@@ -1,4 +1,4 @@
-use Rattle.gnss_obs.proofs.Names.{◌≡◌, ◌++◌, ◌∷◌, [], ℕ, List, inl, inr, sym, ◌∙◌, Result, Ok, Err, Some, MatchResult, System, SignalAt, signal_of_code, PlanFault, UnknownCode, RepeatedCode, IsOf, TakesCode, RefusesCode, IsMemoryFaultOr, IsUnfitAfter, MayAdd, MayTakeCode, indices, arith, common_steps}
+use Rattle.gnss_obs.proofs.Names.{◌≡◌, ◌++◌, ◌∷◌, [], ℕ, List, inl, inr, Result, Ok, Err, Some, MatchResult, System, SignalAt, signal_of_code, PlanFault, UnknownCode, RepeatedCode, IsOf, TakesCode, RefusesCode, IsMemoryFaultOr, IsUnfitAfter, MayAdd, MayTakeCode, indices, arith, common_steps}
 use Rattle.gnss_obs.proofs.FitLemmas.{not_before}
 use Rattle.gnss_obs.proofs.PlanLaws.{repeated, accepted, of_where}
 use Rattle.gnss_obs.proofs.plan.add_code.Goals as goal
@@ -17,5 +17,5 @@ added system code ss new (Ok u) is h = grind (arith, common_steps, accepted, not
 added system code ss new {s} (Err e) is (inl m) = inl (m.0, (indices (ss ++ s ∷ []), λ rest. accepted system ss (signal_of_code system code) s rest is m.1.1))
 added system code ss new {s} (Err e) is (inr u) = inr (refused system code ss s e is u)
 
-pub returns-in-Some : goal.returns-in-Some
-returns-in-Some c = added c.args.system c.args.code.now c.args.signals.now _ c.add_signal.result (sym c.from_code.ensures ∙ c.in-Some.is) c.add_signal.ensures
+pub returns : goal.returns
+returns c = added c.args.system c.args.code.now c.args.signals.now _ c.add_signal.result (grind (arith, common_steps)) c.add_signal.ensures
