@@ -32,10 +32,7 @@ impl Start {
     pub(crate) fn is_no_week(self) -> bool
         ensures { result ≡ is_no_week self }
     {
-        match self {
-            Start::Week(week) => week as u64 >= WEEKS,
-            Start::Near(_) => false,
-        }
+        matches!(self, Start::Week(week) if week as u64 >= WEEKS)
     }
 }
 
