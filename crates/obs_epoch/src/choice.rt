@@ -28,10 +28,7 @@ impl Choice {
         ensures value { result ≡ self.now.interval }
         ensures bound { IfSome result IsInterval }
     {
-        match self.interval {
-            None => None,
-            Some(interval) => Some(interval.milliseconds()),
-        }
+        self.interval.map(|interval| interval.milliseconds())
     }
 
     /// Returns whether the epoch of this time is in the window.
