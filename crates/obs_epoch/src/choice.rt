@@ -44,13 +44,10 @@ impl Choice {
         ensures { result ≡ on_grid self.now time }
     {
         let tolerance = self.tolerance as u64;
-        match self.interval {
-            None => true,
-            Some(interval) => {
-                let nominal = time.milliseconds() + tolerance;
-                nominal % interval.milliseconds() as u64 <= 2 * tolerance
-            }
-        }
+        let nominal = time.milliseconds() + tolerance;
+        self.interval.is_none_or(|interval| {
+            nominal % interval.milliseconds() as u64 <= 2 * tolerance
+        })
     }
 }
 
