@@ -17,7 +17,7 @@ pub use Rattle.gnss_obs.specs.declared.cell.StationValues.{StationValues}
 pub use Rattle.gnss_obs.specs.declared.epoch_cells.Added.{Added}
 pub use Rattle.gnss_obs.specs.inner.Arriving.{IsAdded, cells_after, outcome_by, sorted_epoch}
 pub use Rattle.gnss_obs.specs.inner.PlanOrder.{HasPlannedCells, IsPlanned, is_held}
-pub use Rattle.gnss_system.proofs.SystemLaws.{Below, Passed, any_none, any_system, below_all, each_after, each_system, equal_values, is_tabulated, listed_of, passed_all, short_table, sum_grown, system_same, system_self, tabulated_same, value_after, value_tabulated, with_same as same_after}
+pub use Rattle.gnss_system.proofs.SystemLaws.{Below, Passed, any_system, each_after, each_system, equal_values, is_tabulated, listed_of, passed_all, short_table, sum_grown, system_same, system_self, tabulated_same, value_after, value_tabulated, with_same as same_after}
 pub use Rattle.gnss_system.specs.Satellites.{IsSatellite, Satellite, satellite_of_id, satellite_set, satellites}
 pub use Rattle.gnss_system.specs.Signals.{IsSignal, SignalAt, first_key, id_of, keys_of, most_hertz, most_signals, signal_of_id, table}
 pub use Rattle.gnss_system.specs.SystemValues.{of_two, tabulate, value_of, with_value_of}

@@ -52,12 +52,7 @@ impl SignalCounts {
     pub fn has_any(&self) -> bool
         ensures { result ≡ has_any self.now }
     {
-        for i in 0..SYSTEMS.len() {
-            if has_one(self.0.of(System::at(i))) {
-                return true;
-            }
-        }
-        false
+        SYSTEMS.iter().any(|system| has_one(self.0.of(*system)))
     }
 
     /// Counts the cells of a message of this station; with `None`, of any station.
