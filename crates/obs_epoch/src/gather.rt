@@ -18,7 +18,7 @@ ghost use Rattle.obs_epoch.specs.inner.Held.{count_in};
 ghost use Rattle.obs_epoch.specs.GathererAfter.{most_locks, recorded, time_in};
 ghost use Rattle.obs_epoch.specs.inner.Step.{kind_by, closed_time, ended_where, step_by};
 ghost use Rattle.gnss_obs.specs.Values.{Closed, cells_of, most_cells, planned_of};
-ghost use Rattle.obs_epoch.specs.Kinds.{is_no_station, with_counts};
+ghost use Rattle.obs_epoch.specs.Kinds.{is_accepted, is_no_station, with_counts};
 ghost use Rattle.obs_epoch.specs.Starts.{is_no_week};
 ghost use Rattle.obs_epoch.specs.GathererHistory.{HasGatheredEpochs, closed_by, closed_in, plan_in};
 ghost use Rattle.obs_epoch.specs.inner.Calls.{TakesMessage, EndsPendingEpoch, StaysEnded, HoldsCells, HoldsLockedKeys};
@@ -148,10 +148,10 @@ impl Gatherer {
     {
         let said = summary_of(view, self.clock.leap_seconds());
         let (kind, closed) = self.hear(&said);
-        let counts = self.load(kind.is_accepted(), view);
+        let kind = self.load(kind, view);
         self.note_closed(closed);
         Taken {
-            kind: kind.with_counts(counts),
+            kind,
             closed: self.has_closed(),
         }
     }
@@ -326,19 +326,20 @@ impl Gatherer {
         }
     }
 
-    // Processes the cells of a message if it is accepted, and returns their outcomes.
+    // Processes the cells of a message of this outcome if it is accepted, and returns the outcome
+    // with their counts.
     #[inline(never)]
-    fn load(&mut self, is_accepted: bool, view: &View<'_>) -> CellCounts
-        requires { is_accepted ≡ true → self.old.clock.pending ≡ true }
-        ensures { record { state = self.new; counts = result }
-            ≡ loaded_where is_accepted self.old (heard_by self.old.clock.setup (viewed_message view.now)) }
+    fn load(&mut self, kind: Kind, view: &View<'_>) -> Kind
+        requires { is_accepted kind ≡ true → self.old.clock.pending ≡ true }
+        ensures state { self.new ≡ (loaded_where (is_accepted kind) self.old
+            (heard_by self.old.clock.setup (viewed_message view.now))).state }
+        ensures kind { result ≡ with_counts (loaded_where (is_accepted kind) self.old
+            (heard_by self.old.clock.setup (viewed_message view.now))).counts kind }
     {
+        let Kind::Kept(_) = kind else { return kind };
         let mut counts = CellCounts::default();
-        if !is_accepted {
-            return counts;
-        }
         self.load_view(view, &mut counts);
-        counts
+        Kind::Kept(counts)
     }
 
     // Processes the cells of an accepted message, and counts their outcomes.

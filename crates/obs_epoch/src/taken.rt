@@ -2,7 +2,7 @@
 ghost use Rattle.std.specs.Prelude.{◌≡◌, ◌<◌, ◌≤◌};
 ghost use Rattle.obs_epoch.specs.Cells.{cells_counted};
 ghost use Rattle.obs_epoch.specs.inner.Held.{count_in, outcome_of_added};
-ghost use Rattle.obs_epoch.specs.Kinds.{is_accepted, is_close_first, with_counts};
+ghost use Rattle.obs_epoch.specs.Kinds.{is_close_first};
 
 use gnss_obs::Added;
 
@@ -77,22 +77,5 @@ impl Kind {
         ensures { result ≡ is_close_first self }
     {
         matches!(self, Kind::CloseFirst)
-    }
-
-    /// Returns whether the message was accepted.
-    pub(crate) fn is_accepted(self) -> bool
-        ensures { result ≡ is_accepted self }
-    {
-        matches!(self, Kind::Kept(_))
-    }
-
-    /// Returns the outcome with these counts if the message was accepted.
-    pub(crate) fn with_counts(self, n: CellCounts) -> Kind
-        ensures { result ≡ with_counts n self }
-    {
-        match self {
-            Kind::Kept(_) => Kind::Kept(n),
-            _ => self,
-        }
     }
 }

@@ -17,22 +17,22 @@ said_is c = grind (arith, common_steps)
 kind_is : (c : goal.After-has_closed) → c.hear-kind.result.0 ≡ kind_by c.args.self.now.clock no_counts (message c)
 kind_is c = c.hear-kind.ensures.kind ∙ ap (kind_by c.args.self.now.clock no_counts) (said_is c)
 
-abbrev accepted : goal.After-has_closed → Bool
-accepted c = is_accepted (kind_by c.args.self.now.clock no_counts (message c))
-
 begun_is : (c : goal.After-has_closed) → c.hear-kind.new.self ≡ begun_by c.args.self.now (message c)
 begun_is c = c.hear-kind.ensures.step ∙ ap (begun_by c.args.self.now) (said_is c)
 
-loaded_is : (c : goal.After-has_closed)
-    → record { state = c.load-counts.new.self; counts = c.load-counts.result } ≡ loaded_where (accepted c) (begun_by c.args.self.now (message c)) (message c)
+abbrev loaded : goal.After-has_closed → Loaded
+loaded c = loaded_where (is_accepted c.hear-kind.result.0) c.hear-kind.new.self (heard_by c.hear-kind.new.self.clock.setup (viewed_message c.args.view.now))
+
+loaded_is : (c : goal.After-has_closed) → loaded c ≡ loaded_where (is_accepted (kind_by c.args.self.now.clock no_counts (message c))) (begun_by c.args.self.now (message c)) (message c)
 loaded_is c = grind (arith, common_steps, heard_setup, kind_is, begun_is)
 
-counts_are : (c : goal.After-has_closed) → c.load-counts.result ≡ (loads c.args.self.now (message c)).counts
+counts_are : (c : goal.After-has_closed) → (loaded c).counts ≡ (loads c.args.self.now (message c)).counts
 counts_are c = ap (λ (l : Loaded). l.counts) (loaded_is c ∙ loaded_by c.args.self.now (message c))
 
-stepped_is : (c : goal.After-has_closed) → closed_noted (shut_where c.hear-kind.result.1 c.load-counts.new.self) ≡ (take_step c.args.self.now (message c)).state
+stepped_is : (c : goal.After-has_closed) → closed_noted (shut_where c.hear-kind.result.1 c.load-kind.new.self) ≡ (take_step c.args.self.now (message c)).state
 stepped_is c =
-    closed_is c.args.self.now (message c) (record { state = c.load-counts.new.self; counts = c.load-counts.result }) c.hear-kind.result.1 (loaded_is c)
+    ap (λ (g : GathererValue). closed_noted (shut_where c.hear-kind.result.1 g)) c.load-kind.ensures.state
+    ∙ closed_is c.args.self.now (message c) (loaded c) c.hear-kind.result.1 (loaded_is c)
     (c.hear-kind.ensures.closed ∙ ap (λ m. is_some (closed_time c.args.self.now.clock m)) (said_is c))
     (ap (ended_where c.hear-kind.result.1) (sym (ap (λ (g : GathererValue). g.clock) (begun_is c))) ∙ c.hear-kind.ensures.ended ∙ ap (step_by c.args.self.now.clock) (said_is c))
 
@@ -45,13 +45,13 @@ has_closed_is c = handed_is c.args.self.now (message c) ∙ sym (c.hear-kind.ens
 step_is : (c : goal.After-has_closed) → c.note_closed.new.self ≡ thinned_if (closes_now c) (take_step c.args.self.now (message c)).state
 step_is c = c.note_closed.ensures ∙ ap (thinned_if (closes_now c)) (stepped_is c)
 
-pub load-counts-requires : goal.load-counts-requires
-load-counts-requires c = grind (arith, common_steps, opens)
+pub load-kind-requires : goal.load-kind-requires
+load-kind-requires c = grind (arith, common_steps, opens)
 
 pub note_closed-requires : goal.note_closed-requires
 note_closed-requires c = λ e.
-    ap (λ (l : Loaded). l.state.clock.pending) c.load-counts.ensures
-    ∙ ap (λ (k : State). k.pending) (loaded_clock c.is_accepted.result c.hear-kind.new.self (heard_by c.hear-kind.new.self.clock.setup (viewed_message c.args.view.now)))
+    ap (λ (g : GathererValue). g.clock.pending) c.load-kind.ensures.state
+    ∙ ap (λ (k : State). k.pending) (loaded_clock (is_accepted c.hear-kind.result.0) c.hear-kind.new.self (heard_by c.hear-kind.new.self.clock.setup (viewed_message c.args.view.now)))
     ∙ ap (λ (g : GathererValue). g.clock.pending) c.hear-kind.ensures.step
     ∙ closes_open c.args.self.now.clock (heard_summary c.summary_of-said.result) (sym c.hear-kind.ensures.closed ∙ e)
 
@@ -60,10 +60,10 @@ returns c =
     let read = viewed_message c.args.view.now in
     let m = message c in
     let now = c.args.self.now in
-    let kind = c.with_counts.ensures ∙ ap₂ with_counts (counts_are c) (kind_is c) ∙ counted_kind now.clock (take_step now m).counts m in
+    let kind = c.load-kind.ensures.kind ∙ ap₂ with_counts (counts_are c) (kind_is c) ∙ counted_kind now.clock (take_step now m).counts m in
     let step = step_is c in
     let same = ap is_close_first kind in
-    let exactly : IsCloseFirstExactly now m c.with_counts.result = λ s ms es h.
+    let exactly : IsCloseFirstExactly now m c.load-kind.result = λ s ms es h.
     same ∙ exactly_first m (take_step now m).counts h c.requires (no_point s now.clock.setup (timed s ms) read) in
     record {
       exactly = exactly;
