@@ -1,6 +1,6 @@
 //! The times of week of the first MSMs of a stream, and the times counted along it.
 ghost use Rattle.std.specs.Prelude.{◌≡◌, ◌*◌, ◌<◌, ◌^◌, ◌∷◌, ◌++◌, [], ℕ, List, Option, Some, None, Ok, IfNone, IfSome, false};
-ghost use Rattle.std.specs.Prelude.{length, option_and_then, option_map};
+ghost use Rattle.std.specs.Prelude.{length, option_map};
 ghost use Rattle.std.specs.Option.{option_or};
 ghost use Rattle.gnss_system.specs.Systems.{systems};
 ghost use Rattle.rtcm_msg.specs.Decoding.{message_at};
@@ -36,7 +36,7 @@ pub struct PlacedTow {
 }
 
 /// The first MSMs of a system.
-#[derive(Clone, Copy)]
+#[derive(Clone, Copy, Default)]
 pub struct SystemTows {
     /// The first MSM4 or MSM7.
     pub four_and_seven: Option<PlacedTow>,
@@ -102,10 +102,7 @@ impl FirstTows {
     {
         FirstTows {
             messages: 0,
-            tows: BySystem::each(|_| SystemTows {
-                four_and_seven: None,
-                all: None,
-            }),
+            tows: BySystem::each(|_| SystemTows::default()),
             greatest: None,
             is_waiting: false,
         }
@@ -180,17 +177,10 @@ impl FirstTows {
         ensures { IfSome (greatest_among set.now self.now.tows) (λ t. t < weeks * week)
             → result ≡ option_or (greatest_among set.now self.now.tows) self.now.greatest }
     {
-        match self.greatest_among(set) {
+        match self.earliest(set).and_then(|first| first.greatest) {
             Some(time) => GpsTime::new(time),
             None => self.greatest,
         }
-    }
-
-    /// Returns the greatest time that the first MSM of a set has.
-    fn greatest_among(&self, set: &MsmSet) -> Option<u64>
-        ensures { result ≡ greatest_among set.now self.now.tows }
-    {
-        self.earliest(set)?.greatest
     }
 
     /// Returns the first MSM of a set.

@@ -1,5 +1,5 @@
 //! The command `options`: the options of `convert` that fit a stream.
-ghost use Rattle.std.specs.Prelude.{◌≡◌, ◌+◌, ◌*◌, ◌<◌, ◌≤◌, ◌∷◌, ◌++◌, [], codes, flat_map, List, Option, IfOk, IfErr};
+ghost use Rattle.std.specs.Prelude.{◌≡◌, ◌+◌, ◌*◌, ◌<◌, ◌≤◌, ◌∷◌, ◌++◌, [], flat_map, List, Option, IfOk, IfErr};
 ghost use Rattle.std.specs.Prelude.{ℕ, IfSome, Some, length};
 ghost use Rattle.gnss_obs.specs.Channels.{slot_count};
 ghost use Rattle.gnss_obs.specs.HeardCells.{HeardCell};
@@ -9,10 +9,10 @@ ghost use Rattle.rtcm_msg.specs.Station.{InRange};
 ghost use Rattle.rtcm_scan.specs.Frames.{Framed, frames_of};
 ghost use Rattle.obs_epoch.specs.inner.SignalCounts.{AreSignalCounts};
 ghost use Rattle.line_texts.specs.ChannelTexts.{channels_text};
-ghost use Rattle.line_texts.specs.Lines.{longest_line, longest_number, with_words};
+ghost use Rattle.line_texts.specs.Lines.{longest_line, with_words};
 ghost use Rattle.rtcm_inspect.specs.inner.Counting.{AreSignals};
 ghost use Rattle.rtcm_inspect.specs.Fitting.{channel_words, first_words, forms_words, further_words, number_start};
-ghost use Rattle.rtcm_inspect.specs.Fitting.{number_words, options_text, other_words, station_words};
+ghost use Rattle.rtcm_inspect.specs.Fitting.{options_text, other_words, station_words};
 ghost use Rattle.rtcm_inspect.specs.inner.Lines.{longest_codes, longest_name, longest_option, longest_options};
 ghost use Rattle.rtcm_inspect.specs.inner.Lines.{longest_plan};
 ghost use Rattle.rtcm_inspect.specs.OptionOutput.{AreOptionsOf, AreOptionsRefused};
@@ -181,7 +181,9 @@ fn add_further(line: &mut OutputLine, channels: &Channels, leap: Option<u8>, sys
 {
     if let System::Glonass = system {
         add_channels(line, channels);
-        add_leap(line, leap);
+        if let Some(leap) = leap {
+            line.add_count("--leap-seconds", u64::from(leap));
+        }
     }
 }
 
@@ -195,17 +197,6 @@ fn add_channels(line: &mut OutputLine, channels: &Channels)
     if !text.as_bytes().is_empty() {
         line.add_word("--glonass-channels");
         line.add_part(b' ', text.as_bytes());
-    }
-}
-
-/// Adds the option of the leap seconds, if they are known.
-fn add_leap(line: &mut OutputLine, leap: Option<u8>)
-    requires { length line.old ≤ longest_plan }
-    ensures text { line.new ≡ with_words line.old (number_words (codes "--leap-seconds") leap) }
-    ensures short { length line.new ≤ length line.old + 16 + longest_number }
-{
-    if let Some(leap) = leap {
-        line.add_count("--leap-seconds", u64::from(leap));
     }
 }
 

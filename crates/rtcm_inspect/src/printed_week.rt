@@ -34,7 +34,7 @@ pub enum WeekSource {
 }
 
 /// The week and the leap seconds of the options.
-#[derive(Clone, Copy)]
+#[derive(Clone, Copy, Default)]
 pub struct PrintedWeek {
     /// The week of the first MSM that is converted.
     pub week: Option<u32>,
@@ -75,10 +75,7 @@ pub fn printed_week(
         → IfErr result (IsWeekRefused source signals.now.station fs) }
 {
     match source {
-        WeekSource::Unprinted => Ok(PrintedWeek {
-            week: None,
-            leap: None,
-        }),
+        WeekSource::Unprinted => Ok(PrintedWeek::default()),
         WeekSource::Near(noon) => dated_week(signals, noon),
         WeekSource::Ephemerides => sent_week(signals),
     }

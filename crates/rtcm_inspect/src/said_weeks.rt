@@ -47,9 +47,8 @@ impl WeekSet {
     fn new(alloc: Global, weeks: usize) -> Result<WeekSet, AllocError>
         ensures { IfOk result (λ x. AreSaid x weeks []) }
     {
-        let added = vec![in alloc; false; weeks]?;
         Ok(WeekSet {
-            added,
+            added: vec![in alloc; false; weeks]?,
             first: FirstTwo::Unknown,
         })
     }
