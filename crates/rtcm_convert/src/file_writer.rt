@@ -12,11 +12,11 @@ ghost use Rattle.rtcm_convert.specs.inner.Steps.{EndsFile, BreaksInRest};
 ghost use Rattle.rtcm_scan.specs.Examined.{HasExaminedSome};
 ghost use Rattle.rtcm_convert.specs.inner.Stream.{Files, BreaksFiling, HasDrainedSome, EndsBytes, BreaksAtEndOf};
 
-use crate::fault::{Fault, WriteFault};
+use crate::fault::Fault;
 use crate::laws;
 use crate::report::Report;
 use crate::setup::Setup;
-use devices::{Counted, Deliver};
+use devices::{Counted, Deliver, DeviceFailed};
 use gnss_obs::{Epoch, PlanFault, StationValues};
 use obs_epoch::{Gatherer, Kind, msm_set};
 use rinex_file::{Head, HeadFault, HeaderTexts, write_epoch, write_event, write_header};
@@ -131,7 +131,7 @@ impl FileWriter {
         &mut self,
         message: &View<'_>,
         writer: &mut Counted<W>,
-    ) -> Result<Kind, WriteFault>
+    ) -> Result<Kind, DeviceFailed>
         requires { self.old.gatherer.has_ended ≡ false }
         // The message is to be passed again.
         ensures first { IfOk result
@@ -154,7 +154,7 @@ impl FileWriter {
         let taken = self.gatherer.take_view(message);
         match self.write_closed(writer) {
             Ok(()) => Ok(taken.kind),
-            Err(_) => Err(WriteFault),
+            Err(_) => Err(DeviceFailed),
         }
     }
 
@@ -163,7 +163,7 @@ impl FileWriter {
         &mut self,
         message: &View<'_>,
         writer: &mut Counted<W>,
-    ) -> Result<Kind, WriteFault>
+    ) -> Result<Kind, DeviceFailed>
         requires { self.old.gatherer.has_ended ≡ false }
         ensures whole { OnOk result
             (TakesNext self.old self.new (viewed_message message.now) (W.contents writer.old.inner)
@@ -184,7 +184,7 @@ impl FileWriter {
     }
 
     /// Writes the rest of the file, and delivers it.
-    pub(crate) fn end<W: Deliver>(&mut self, writer: &mut Counted<W>) -> Result<(), WriteFault>
+    pub(crate) fn end<W: Deliver>(&mut self, writer: &mut Counted<W>) -> Result<(), DeviceFailed>
         requires { self.old.gatherer.has_ended ≡ false }
         ensures whole { OnOk result
             (EndsFile self.old self.new (W.contents writer.old.inner) (W.contents writer.new.inner)) }
@@ -199,17 +199,15 @@ impl FileWriter {
         obs_epoch::laws::choices();
         self.gatherer.end();
         if let Err(_) = self.write_closed(writer) {
-            return Err(WriteFault);
+            return Err(DeviceFailed);
         }
-        if let Err(_) = writer.flush_whole() {
-            return Err(WriteFault);
-        }
-        Ok(())
+        writer.flush_whole()
     }
 }
 
 impl<W: Deliver> FrameSink<Counted<W>> for FileWriter {
-    type Fault = WriteFault;
+    // It is returned for each frame, and a `Fault` with its numbers would be copied each time.
+    type Fault = DeviceFailed;
 
     ghost can_take = { λ v. v.gatherer.has_ended ≡ false };
 
@@ -219,27 +217,22 @@ impl<W: Deliver> FrameSink<Counted<W>> for FileWriter {
 
     ghost broke = { BreaksFiling W.contents };
 
-    fn take(&mut self, frame: &Frame, out: &mut Counted<W>) -> Result<(), WriteFault> {
+    fn take(&mut self, frame: &Frame, out: &mut Counted<W>) -> Result<(), DeviceFailed> {
         match look_in(&self.set, &frame.message) {
             Err(_) => {
                 self.tally.count(None);
                 Ok(())
             }
-            Ok(message) => match self.take_message(&message, out) {
-                Ok(kind) => {
-                    self.tally.count(Some(kind));
-                    Ok(())
-                }
-                Err(fault) => Err(fault),
-            },
+            Ok(message) => {
+                let kind = self.take_message(&message, out)?;
+                self.tally.count(Some(kind));
+                Ok(())
+            }
         }
     }
 
-    fn send(&self, out: &mut Counted<W>) -> Result<(), WriteFault> {
-        match out.flush_whole() {
-            Ok(()) => Ok(()),
-            Err(_) => Err(WriteFault),
-        }
+    fn send(&self, out: &mut Counted<W>) -> Result<(), DeviceFailed> {
+        out.flush_whole()
     }
 }
 
@@ -248,7 +241,7 @@ pub(crate) fn end_stream<W: Deliver>(
     framer: &mut Framer,
     file_writer: &mut FileWriter,
     writer: &mut Counted<W>,
-) -> Result<(), WriteFault>
+) -> Result<(), DeviceFailed>
     requires going { file_writer.old.gatherer.has_ended ≡ false }
     requires listening { framer.old.has_ended ≡ false }
     requires some { HasDrainedSome framer.old }
@@ -264,8 +257,6 @@ pub(crate) fn end_stream<W: Deliver>(
 {
     laws::filed();
     rtcm_scan::laws::prefix();
-    match framer.finish(file_writer, writer) {
-        Ok(()) => file_writer.end(writer),
-        Err(_) => Err(WriteFault),
-    }
+    framer.finish(file_writer, writer)?;
+    file_writer.end(writer)
 }

@@ -1,4 +1,4 @@
-use Rattle.rtcm_convert.proofs.Names.{sym, ap, refl, ◌∙◌, message_with, framed}
+use Rattle.rtcm_convert.proofs.Names.{sym, ap, refl, ◌∙◌, message_with, framed, on_failure}
 use Rattle.rtcm_convert.proofs.StreamLemmas as sink
 use Rattle.rtcm_convert.proofs.TakeLemmas as writer
 use Rattle.rtcm_convert.proofs.file_writer.FileWriterFrameSinkCounted.take.Goals as goal
@@ -9,17 +9,17 @@ returns-in-Err-clause-whole g c =
     (writer.files_same (framed c.args.frame.now) (ap (message_with c.args.self.now.set) (sym c.deref.ensures.0) ∙ c.in-Err.ensures.exact)
     (ap (λ r. record c.args.self.now { tally = r }) c.count.ensures)) (refl, refl)
 
-pub returns-in-Ok-take_message-clause-whole : goal.returns-in-Ok-take_message-clause-whole
-returns-in-Ok-take_message-clause-whole g c =
-    let e = c.in-Ok-take_message.ensures in
+pub returns-in_ok-kind-in-Ok-clause-whole : goal.returns-in_ok-kind-in-Ok-clause-whole
+returns-in_ok-kind-in-Ok-clause-whole g c =
+    let e = c.in_ok-kind-in-Ok.ensures in
     sink.files_more (framed c.args.frame.now)
     (writer.files_more (framed c.args.frame.now)
-    (ap (message_with c.args.self.now.set) (sym c.deref.ensures.0) ∙ c.in-Ok.ensures.exact) c.in-Ok.ensures.message e.whole e.kind e.same (ap (λ r. record c.take_message.new.self { tally = r }) c.count-in-Ok-take_message.ensures))
+    (ap (message_with c.args.self.now.set) (sym c.deref.ensures.0) ∙ c.in-Ok.ensures.exact) c.in-Ok.ensures.message e.whole e.kind e.same (ap (λ r. record c.take_message.new.self { tally = r }) c.count-in-Ok.ensures))
     (e.device.1, e.device.2)
 
-pub returns-in-Err-take_message-clause-part : goal.returns-in-Err-take_message-clause-part
-returns-in-Err-take_message-clause-part g c =
-    let e = c.in-Err-take_message.ensures in
-    sink.files_part (framed c.args.frame.now)
+pub returns-in_err-kind-in-Ok-clause-part : goal.returns-in_err-kind-in-Ok-clause-part
+returns-in_err-kind-in-Ok-clause-part g c =
+    let e = c.in_err-kind-in-Ok.ensures in
+    on_failure _ _ (sink.files_part (framed c.args.frame.now)
     (writer.files_part (framed c.args.frame.now) (ap (message_with c.args.self.now.set) (sym c.deref.ensures.0) ∙ c.in-Ok.ensures.exact) e.part)
-    (e.device.0, e.device.2)
+    (e.device.0, e.device.2))
