@@ -64,8 +64,8 @@ module _ {W : Type 0} {failed over : Bool} {v v' : FramerValue} {w w' : FileWrit
         let here = passed_here c v w o bytes h.drained.scan in
         let k = p.breaks w o ps bytes here in
         let f = up_to_later (so_far-front grows s k.reached (known_frames v.has_ended (bytes ++ (p.front ++ p.piece))) k.known) (k.broken.part s h.drained.file_writer) in
-        let g = failing_at s bytes p.front p.piece before (so_far-front grows s (decided_frames bytes) (decided_frames (bytes ++ p.front)) (frames bytes p.front)) (so_far-front grows s (known_frames v.has_ended (bytes ++ p.front)) k.taken k.first) f in
-        record { mid = g.mid; before = g.before; last = g.last; near = p.near w o ps bytes here },
+        let out = failing_at s bytes p.front p.piece before (so_far-front grows s (decided_frames bytes) (decided_frames (bytes ++ p.front)) (frames bytes p.front)) (so_far-front grows s (known_frames v.has_ended (bytes ++ p.front)) k.taken k.first) f in
+        record { out = out; near = p.near w o ps bytes here },
   )
 
 pub rest_device : {W : Type 0} {c : W → Option (List ℕ)} {v v' : FramerValue} {w w' : FileWriter} {o o' : Device W} {r r' : Option (List ℕ)} → BreaksAfter (Files c) (BreaksFiling c) v w o v' w' o' longest_frame r r' → HasDrainedSome v

@@ -62,7 +62,7 @@ between : {a b c : Option (List ℕ)} {upper : List ℕ} (s : SetupValue) (front
 between {a} {b} {c} s front nothing before last = grind (arith, common_steps)
 
 broken : {a b : Option (List ℕ)} {s : SetupValue} {front piece : List ℕ} → NothingYet → FailsAtPiece a b s [] piece front → IsBroken a b s front piece
-broken {s = s} {front} nothing p = record { between = between s front nothing p.before p.last; near = p.near }
+broken {s = s} {front} nothing p = record { between = between s front nothing p.out.before p.out.last; near = p.near }
 
 pub run_write : {v w : Conversion} {x : Setup} {a b : Option (List ℕ)} (r r' : Option (List ℕ)) → BeganNew v w x → (FailsFeeding v w r r' a b ⊎ FailsFinishing v w r r' a b)
     → FailedWriting r r' a b (setup_value x) ⊎ FailedWritingAtEnd r r' a b (setup_value x)

@@ -4,10 +4,10 @@ use Rattle.std.specs.Prelude.{Bool, true, false, Option, Some, None, IfSome, if�
 use Rattle.std.specs.Io.KnownBytes.{Consumes, IsAtEnd}
 use Rattle.rtcm_bits.specs.FrameOf.{longest_frame}
 use Rattle.rtcm_scan.specs.Frames.{frames_of}
-use Rattle.rtcm_scan.specs.Decided.{decided}
+use Rattle.rtcm_scan.specs.Decided.{decided, decided_frames}
 use Rattle.rtcm_scan.specs.Scan.{FramerValue}
 use Rattle.rtcm_scan.specs.Drained.{IsDrained}
-use Rattle.rtcm_convert.specs.Converted.{SetupValue, epoch_counts, epochs_in}
+use Rattle.rtcm_convert.specs.Converted.{SetupValue, epoch_counts, epochs_in, file, so_far}
 use Rattle.gnss_system.specs.SystemValues.{tabulate}
 use Rattle.gnss_obs.specs.Values.{cells_of}
 use Rattle.obs_epoch.specs.GathererAfter.{recorded}
@@ -15,7 +15,8 @@ use Rattle.rtcm_convert.specs.Kept.{IsWithinBounds, IsKeptAtEnd}
 use Rattle.rtcm_convert.specs.declared.converter.Kept.{Kept}
 use Rattle.rtcm_convert.specs.Filed.{HasGathered}
 use Rattle.rtcm_convert.specs.Outcomes.{report_of}
-use Rattle.rtcm_convert.specs.Stream.{Drained, AppendsDecided, AppendsPrefixOfDecided, AppendsRest, AppendsPrefixOfRest}
+use Rattle.rtcm_convert.specs.Fed.{AppendsUpTo}
+use Rattle.rtcm_convert.specs.Stream.{Drained, AppendsDecided, AppendsRest}
 use Rattle.rtcm_convert.specs.declared.file_writer.FileWriter.{FileWriter}
 use Rattle.rtcm_convert.specs.declared.report.Report.{Report}
 use Rattle.rtcm_convert.specs.declared.fault.Fault.{Fault}
@@ -54,6 +55,10 @@ pub record HasFinished (v : Conversion) (s : SetupValue) (b : List ℕ) : Type 0
   pub drained : IsDrained v.scan b (frames_of b)
   pub gathered : HasGathered v.file_writer s (frames_of b)
 
+-- this holds for all bytes that it may have accepted
+abbrev pub ForAccepted : Conversion → (SetupValue → List ℕ → Type 0) → Type 0
+ForAccepted v P = (s : SetupValue) (bytes : List ℕ) → HasConverted v s bytes → P s bytes
+
 -- what a converter holds and has examined
 abbrev pub kept_of : Conversion → Kept
 kept_of v = record {
@@ -65,9 +70,8 @@ kept_of v = record {
 }
 
 -- it accepted these bytes up to its limit, and what they add was written
-abbrev pub TakesToLimit : Conversion → Option (List ℕ) → Option (List ℕ) → List ℕ → Type 0
-TakesToLimit v a b piece = (s : SetupValue) (bytes : List ℕ) → HasConverted v s bytes
-    → AppendsDecided a b s bytes (take v.scan.limit (bytes ++ piece))
+abbrev pub TakesToLimit : Conversion → (a b : Option (List ℕ)) → List ℕ → Type 0
+TakesToLimit v a b piece = ForAccepted v (λ s bytes. AppendsDecided a b s bytes (take v.scan.limit (bytes ++ piece)))
 
 -- these bytes go over the limit; they were accepted up to it, and what they add was written
 pub record CutsAtLimit (v w : Conversion) (a b : Option (List ℕ)) (piece : List ℕ) : Type 0 where
@@ -75,18 +79,12 @@ pub record CutsAtLimit (v w : Conversion) (a b : Option (List ℕ)) (piece : Lis
   pub full : w.scan.taken ≡ v.scan.limit
   pub over : v.scan.limit < v.scan.taken + length piece
 
--- with these further bytes, the stream is longer than the limit
-abbrev pub IsPastLimit : Conversion → List ℕ → Type 0
-IsPastLimit v rest = (s : SetupValue) (bytes : List ℕ) → HasConverted v s bytes → v.scan.limit < length (bytes ++ rest)
-
 -- what these bytes add was written
-abbrev pub WritesAdded : Conversion → Option (List ℕ) → Option (List ℕ) → List ℕ → Type 0
-WritesAdded v a b front =
-    (s : SetupValue) (bytes : List ℕ) → HasConverted v s bytes → AppendsDecided a b s bytes (bytes ++ front)
+abbrev pub WritesAdded : Conversion → (a b : Option (List ℕ)) → List ℕ → Type 0
+WritesAdded v a b front = ForAccepted v (λ s bytes. AppendsDecided a b s bytes (bytes ++ front))
 
 -- some further bytes were read and accepted, and what they add was written; then the reader failed
-abbrev pub RanToFault : Conversion → Conversion → Option (List ℕ) → Option (List ℕ) → Option (List ℕ) → Option (List ℕ)
-    → Type 0
+abbrev pub RanToFault : (v w : Conversion) (r r' a b : Option (List ℕ)) → Type 0
 RanToFault v w r r' a b =
     (front : List ℕ) × Consumes r r' front × (w.scan.taken ≡ v.scan.taken + length front) × WritesAdded v a b front
 
@@ -96,21 +94,19 @@ pub record RanToLimit (v w : Conversion) (r r' a b : Option (List ℕ)) : Type 0
   pub consumes : Consumes r r' front
   pub adds : TakesToLimit v a b front
   pub full : w.scan.taken ≡ v.scan.limit
-  pub over : IfSome r (IsPastLimit v)
+  pub over : IfSome r (λ rest. ForAccepted v (λ s bytes. v.scan.limit < length (bytes ++ rest)))
 
--- What these bytes add was written, up to `mid`, and a prefix of what a last piece adds; the piece fits beside the
--- undecided bytes.
+-- What these bytes add was written, and then a prefix of what a last piece adds; the piece fits beside the undecided
+-- bytes.
 pub record FailsAtPiece (a b : Option (List ℕ)) (s : SetupValue) (bytes piece : List ℕ) (all : List ℕ) : Type 0 where
-  pub mid : Option (List ℕ)
-  pub before : AppendsDecided a mid s bytes all
-  pub last : AppendsPrefixOfDecided mid b s all (all ++ piece)
+  pub out : AppendsUpTo a b (so_far s (decided_frames bytes)) (so_far s (decided_frames all))
+      (so_far s (decided_frames (all ++ piece)))
   pub near : (length all - decided all) + length piece ≤ longest_frame
 
--- What these bytes add was written, up to `mid`, and then a prefix of the rest of their file.
-pub record FailsAtEnd (a b : Option (List ℕ)) (s : SetupValue) (bytes all : List ℕ) : Type 0 where
-  pub mid : Option (List ℕ)
-  pub before : AppendsDecided a mid s bytes all
-  pub last : AppendsPrefixOfRest mid b s all all
+-- what these bytes add was written, and then a prefix of the rest of their file
+abbrev pub FailsAtEnd : (a b : Option (List ℕ)) → SetupValue → (bytes all : List ℕ) → Type 0
+FailsAtEnd a b s bytes all =
+    AppendsUpTo a b (so_far s (decided_frames bytes)) (so_far s (decided_frames all)) (file s (frames_of all))
 
 -- at least n more bytes were accepted, and at most m
 pub record IsTakenFrom (v w : Conversion) (n m : ℕ) : Type 0 where
@@ -118,22 +114,19 @@ pub record IsTakenFrom (v w : Conversion) (n m : ℕ) : Type 0 where
   pub most : w.scan.taken ≤ v.scan.taken + m
 
 -- the bytes read split into those accepted and a last piece at which the writer failed
-abbrev pub FailsFeeding : Conversion → Conversion → Option (List ℕ) → Option (List ℕ) → Option (List ℕ)
-    → Option (List ℕ) → Type 0
+abbrev pub FailsFeeding : (v w : Conversion) (r r' a b : Option (List ℕ)) → Type 0
 FailsFeeding v w r r' a b = (front : List ℕ) × (piece : List ℕ) × Consumes r r' (front ++ piece)
     × IsTakenFrom v w (length front) (length front + length piece)
-    × ((s : SetupValue) (bytes : List ℕ) → HasConverted v s bytes → FailsAtPiece a b s bytes piece (bytes ++ front))
+    × ForAccepted v (λ s bytes. FailsAtPiece a b s bytes piece (bytes ++ front))
 
 -- all was read, and the writer failed in the rest of the file
-abbrev pub FailsFinishing : Conversion → Conversion → Option (List ℕ) → Option (List ℕ) → Option (List ℕ)
-    → Option (List ℕ) → Type 0
+abbrev pub FailsFinishing : (v w : Conversion) (r r' a b : Option (List ℕ)) → Type 0
 FailsFinishing v w r r' a b =
     (front : List ℕ) × Consumes r r' front × IsAtEnd r' × (w.scan.taken ≡ v.scan.taken + length front)
-    × ((s : SetupValue) (bytes : List ℕ) → HasConverted v s bytes → FailsAtEnd a b s bytes (bytes ++ front))
+    × ForAccepted v (λ s bytes. FailsAtEnd a b s bytes (bytes ++ front))
 
 -- the writer failed at one of the pieces, or when all was read
-abbrev pub StopsRunning : Conversion → Conversion → Option (List ℕ) → Option (List ℕ) → Option (List ℕ)
-    → Option (List ℕ) → Type 0
+abbrev pub StopsRunning : (v w : Conversion) (r r' a b : Option (List ℕ)) → Type 0
 StopsRunning v w r r' a b = FailsFeeding v w r r' a b ⊎ FailsFinishing v w r r' a b
 
 -- The rest of the file of all these bytes, which has an epoch, was written, and none of it waits in the writer;
@@ -162,27 +155,21 @@ pub record CompletedEmpty (w : Conversion) (waiting : List ℕ) (a b : Option (L
   pub bounds : IsWithinBounds (length all) (kept_of w)
 
 -- with these further bytes, the file was completed
-abbrev pub CompletesFile : Conversion → Conversion → List ℕ → Option (List ℕ) → Option (List ℕ) → Report → List ℕ
-    → Type 0
+abbrev pub CompletesFile : (v w : Conversion) → List ℕ → (a b : Option (List ℕ)) → Report → List ℕ → Type 0
 CompletesFile v w waiting a b report rest =
-    (s : SetupValue) (bytes : List ℕ) → HasConverted v s bytes
-    → Completed w waiting a b s bytes (bytes ++ rest) report
+    ForAccepted v (λ s bytes. Completed w waiting a b s bytes (bytes ++ rest) report)
 
 -- with these further bytes, the file was completed and is empty
-abbrev pub CompletesEmptyFile : Conversion → Conversion → List ℕ → Option (List ℕ) → Option (List ℕ) → Fault → List ℕ
-    → Type 0
+abbrev pub CompletesEmptyFile : (v w : Conversion) → List ℕ → (a b : Option (List ℕ)) → Fault → List ℕ → Type 0
 CompletesEmptyFile v w waiting a b fault rest =
-    (s : SetupValue) (bytes : List ℕ) → HasConverted v s bytes
-    → CompletedEmpty w waiting a b fault s bytes (bytes ++ rest)
+    ForAccepted v (λ s bytes. CompletedEmpty w waiting a b fault s bytes (bytes ++ rest))
 
 -- with the rest of the stream, the file was completed
-abbrev pub CompletesFileOfAll : Conversion → Conversion → List ℕ → Report → Option (List ℕ) → Option (List ℕ)
-    → Option (List ℕ) → Option (List ℕ) → Type 0
+abbrev pub CompletesFileOfAll : (v w : Conversion) → List ℕ → Report → (r r' a b : Option (List ℕ)) → Type 0
 CompletesFileOfAll v w waiting report r r' a b = IfSome r (CompletesFile v w waiting a b report)
 
 -- with the rest of the stream, the file was completed and is empty
-abbrev pub CompletesEmptyFileOfAll : Conversion → Conversion → List ℕ → Fault → Option (List ℕ) → Option (List ℕ)
-    → Option (List ℕ) → Option (List ℕ) → Type 0
+abbrev pub CompletesEmptyFileOfAll : (v w : Conversion) → List ℕ → Fault → (r r' a b : Option (List ℕ)) → Type 0
 CompletesEmptyFileOfAll v w waiting fault r r' a b = IfSome r (CompletesEmptyFile v w waiting a b fault)
 
 -- the state of a converter after a fault of a call, if it had neither failed nor ended before: finished after

@@ -1,9 +1,10 @@
 -- The file written of a whole stream.
-use Rattle.std.specs.Prelude.{◌≡◌, ℕ, ◌<◌, ◌≤◌, List, length, Option, IfSome, Vec}
-use Rattle.std.specs.Io.KnownBytes.{Appends}
+use Rattle.std.specs.Prelude.{◌≡◌, ◌⊎◌, ℕ, ◌<◌, ◌≤◌, List, length, take, Option, IfSome, Vec}
+use Rattle.std.specs.Io.KnownBytes.{Appends, Consumes}
+use Rattle.rtcm_scan.specs.Decided.{decided_frames}
 use Rattle.rtcm_scan.specs.Frames.{frames_of}
-use Rattle.rtcm_convert.specs.Broken.{WroteSoFar, WroteToLimit, BrokeReading, WrotePieces, joined_pieces}
-use Rattle.rtcm_convert.specs.Converted.{file, epoch_counts, epochs_in}
+use Rattle.rtcm_convert.specs.Broken.{FailedWriting, FailedWritingAtEnd, joined_pieces}
+use Rattle.rtcm_convert.specs.Converted.{file, so_far, epoch_counts, epochs_in}
 use Rattle.rtcm_convert.specs.Faults.{fault_of_none}
 use Rattle.rtcm_convert.specs.declared.fault.Fault.{Fault}
 use Rattle.rtcm_convert.specs.Outcomes.{report_of}
@@ -32,25 +33,23 @@ pub record IsMadeEmpty (x : Setup) (fault : Fault) (a b : Option (List ℕ)) (by
 -- close.
 pub record IsMadeToLimit (x : Setup) (r r' a b : Option (List ℕ)) : Type 0 where
   pub over : IfSome r (λ bytes. x.limit < length bytes)
-  pub out : WroteToLimit r r' a b (setup_value x) x.limit
+  pub out : (front : List ℕ) × Consumes r r' front
+      × Appends a b (so_far (setup_value x) (decided_frames (take x.limit front)))
 
 -- The same for pieces.
 pub record AreMadeToLimit {Z : Type 0} (x : Setup) (a b : Option (List ℕ)) (pieces : List (Vec ℕ Z)) : Type 0 where
   pub over : x.limit < length (joined_pieces pieces)
-  pub out : WrotePieces a b (setup_value x) x.limit pieces
+  pub out : Appends a b (so_far (setup_value x) (decided_frames (take x.limit (joined_pieces pieces))))
 
 -- the bytes written are the file of the epochs that the bytes read close
-abbrev pub IsMadeSoFar : Setup → Option (List ℕ) → Option (List ℕ) → Option (List ℕ) → Option (List ℕ) → Type 0
-IsMadeSoFar x r r' a b = WroteSoFar r r' a b (setup_value x)
+abbrev pub IsMadeSoFar : Setup → (r r' a b : Option (List ℕ)) → Type 0
+IsMadeSoFar x r r' a b =
+    (front : List ℕ) × Consumes r r' front × Appends a b (so_far (setup_value x) (decided_frames front))
 
 -- the writer failed at one of the pieces read or after all was read, and a part of the file was written
-abbrev pub IsMadeInPart : Setup → Option (List ℕ) → Option (List ℕ) → Option (List ℕ) → Option (List ℕ) → Type 0
-IsMadeInPart x r r' a b = BrokeReading r r' a b (setup_value x)
-
--- `report` is the report of these bytes
-abbrev pub IsReportOf : Setup → Report → List ℕ → Type 0
-IsReportOf x report bytes = report ≡ report_of (setup_value x) bytes
+abbrev pub IsMadeInPart : Setup → (r r' a b : Option (List ℕ)) → Type 0
+IsMadeInPart x r r' a b = FailedWriting r r' a b (setup_value x) ⊎ FailedWritingAtEnd r r' a b (setup_value x)
 
 -- the file of these bytes was written, and `report` is its report
-abbrev pub IsMadeWith : Setup → Report → Option (List ℕ) → Option (List ℕ) → List ℕ → Type 0
-IsMadeWith x report a b bytes = IsMade x a b bytes × IsReportOf x report bytes
+abbrev pub IsMadeWith : Setup → Report → (a b : Option (List ℕ)) → List ℕ → Type 0
+IsMadeWith x report a b bytes = IsMade x a b bytes × (report ≡ report_of (setup_value x) bytes)

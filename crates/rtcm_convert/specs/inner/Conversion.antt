@@ -8,7 +8,8 @@ use Rattle.rtcm_convert.specs.Stream.{AppendsDecided, AppendsPrefixOfDecided, Ap
 use Rattle.rtcm_convert.specs.inner.Stream.{HasDrainedSome}
 use Rattle.rtcm_convert.specs.declared.report.Report.{Report}
 use Rattle.rtcm_convert.specs.declared.fault.Fault.{Fault}
-use Rattle.rtcm_convert.specs.Conversion.{Conversion, IsGoing, HasConverted, kept_of, Completed, CompletedEmpty}
+use Rattle.rtcm_convert.specs.Conversion.{Conversion, ForAccepted, IsGoing, HasConverted, kept_of, Completed}
+use Rattle.rtcm_convert.specs.Conversion.{CompletedEmpty}
 
 -- a converter that has neither failed nor ended can accept bytes; at every moment the framer has examined some list of
 -- bytes
@@ -22,7 +23,7 @@ pub record IsFit (v : Conversion) : Type 0 where
 -- they are the values for the bytes that it accepted, within the bounds
 pub record KeepsNow (v : Conversion) : Type 0 where
   pub bounds : IsWithinBounds v.scan.taken (kept_of v)
-  pub values : (s : SetupValue) (b : List ℕ) → HasConverted v s b → IsKeptNow s b (kept_of v)
+  pub values : ForAccepted v (λ s b. IsKeptNow s b (kept_of v))
 
 -- it accepted n more bytes, within the same limit, and neither failed nor ended
 abbrev pub GoesOnBy : Conversion → Conversion → ℕ → Type 0
@@ -38,31 +39,26 @@ pub record Continued (w : Conversion) (a b : Option (List ℕ)) (s : SetupValue)
   pub bounds : IsWithinBounds (length all) (kept_of w)
 
 -- it accepted these further bytes
-abbrev pub TakesPiece : Conversion → Conversion → Option (List ℕ) → Option (List ℕ) → List ℕ → Type 0
-TakesPiece v w a b piece =
-    (s : SetupValue) (bytes : List ℕ) → HasConverted v s bytes → Continued w a b s bytes (bytes ++ piece)
+abbrev pub TakesPiece : (v w : Conversion) (a b : Option (List ℕ)) → List ℕ → Type 0
+TakesPiece v w a b piece = ForAccepted v (λ s bytes. Continued w a b s bytes (bytes ++ piece))
 
 -- a prefix of what these bytes add was written
-abbrev pub WritesPrefixOfAdded : Conversion → Option (List ℕ) → Option (List ℕ) → List ℕ → Type 0
-WritesPrefixOfAdded v a b piece =
-    (s : SetupValue) (bytes : List ℕ) → HasConverted v s bytes → AppendsPrefixOfDecided a b s bytes (bytes ++ piece)
+abbrev pub WritesPrefixOfAdded : Conversion → (a b : Option (List ℕ)) → List ℕ → Type 0
+WritesPrefixOfAdded v a b piece = ForAccepted v (λ s bytes. AppendsPrefixOfDecided a b s bytes (bytes ++ piece))
 
 -- the stream ends here, and a prefix of the rest of its file was written
-abbrev pub StopsAtEnd : Conversion → Option (List ℕ) → Option (List ℕ) → Type 0
-StopsAtEnd v a b = (s : SetupValue) (bytes : List ℕ) → HasConverted v s bytes → AppendsPrefixOfRest a b s bytes bytes
+abbrev pub StopsAtEnd : Conversion → (a b : Option (List ℕ)) → Type 0
+StopsAtEnd v a b = ForAccepted v (λ s bytes. AppendsPrefixOfRest a b s bytes bytes)
 
 -- some further bytes were read and accepted, and what they add was written
-abbrev pub TakesFromReader : Conversion → Conversion → Option (List ℕ) → Option (List ℕ) → Option (List ℕ)
-    → Option (List ℕ) → Type 0
+abbrev pub TakesFromReader : (v w : Conversion) (r r' a b : Option (List ℕ)) → Type 0
 TakesFromReader v w r r' a b =
     (front : List ℕ) × Consumes r r' front × (w.scan.taken ≡ v.scan.taken + length front) × TakesPiece v w a b front
 
 -- the stream ends here, and the file was completed
-abbrev pub FinishesNow : Conversion → Conversion → List ℕ → Option (List ℕ) → Option (List ℕ) → Report → Type 0
-FinishesNow v w waiting a b report =
-    (s : SetupValue) (bytes : List ℕ) → HasConverted v s bytes → Completed w waiting a b s bytes bytes report
+abbrev pub FinishesNow : (v w : Conversion) → List ℕ → (a b : Option (List ℕ)) → Report → Type 0
+FinishesNow v w waiting a b report = ForAccepted v (λ s bytes. Completed w waiting a b s bytes bytes report)
 
 -- the stream ends here, and the file was completed and is empty
-abbrev pub FinishesEmptyNow : Conversion → Conversion → List ℕ → Option (List ℕ) → Option (List ℕ) → Fault → Type 0
-FinishesEmptyNow v w waiting a b fault =
-    (s : SetupValue) (bytes : List ℕ) → HasConverted v s bytes → CompletedEmpty w waiting a b fault s bytes bytes
+abbrev pub FinishesEmptyNow : (v w : Conversion) → List ℕ → (a b : Option (List ℕ)) → Fault → Type 0
+FinishesEmptyNow v w waiting a b fault = ForAccepted v (λ s bytes. CompletedEmpty w waiting a b fault s bytes bytes)
