@@ -23,7 +23,7 @@ made=obs/$station/${station}_S_$(date -u -d "$day" +%Y%j)0000_01D_30S_MO.rnx
 kept=obs/$station/$day
 part=$made.$$.part raw=$kept.$$.raw note=$kept.$$.part
 mkdir -p "obs/$station"
-# what a power cut left
+# What a power cut left of earlier runs: files of the names above, two days old.
 find "obs/$station" \( -name '????-??-??.[0-9]*.raw' -o -name '*.[0-9]*.part' \) -mtime +1 -exec rm -f {} +
 trap 'rm -f "$part" "$raw" "$note"' EXIT
 trap 'exit 1' HUP INT TERM
