@@ -4,7 +4,7 @@ use Rattle.rinex_file.proofs.Rows.Sizes.{few_satellites, if_fits}
 use Rattle.rinex_file.proofs.Rows.Cells.{found_as}
 use Rattle.rinex_file.proofs.FewRows.{rise-tail}
 use Rattle.rinex_file.proofs.Writing.Sent.{length-rows}
-use Rattle.rinex_file.proofs.Names.{systems, index_of, satellites_in, index_back, system_at, systems_taken, common_steps, ◌≡◌, ℕ, zero, suc, ◌+◌, ◌*◌, ◌<◌, ◌≤◌, ◌==◌, Bool, true, false, ◌||◌, ◌&&◌, List, [], ◌∷◌, ◌++◌, map, length, get_or, refl, sym, ap, ◌∙◌, subst, arith, Option, Some, None, is_some, inl, inr, if◌then◌else◌, find, IsTrue, Any, All, option_map_or, AllByRecursion, IsDistinct, IsStrictlyIncreasing, and_parts, eqb-true, cases_Bool, map-append, flat_map-append, append-nil, flat_map, take, get_or-map, length-map, All-from_recursion, All-nil, All-cons, All-head, All-tail, All-append, All-push, All-map, All-weaker, All-filter, All-replicate, filter_passes, IsStrictlyIncreasing-filter, map-map, position-Some, System, Gps, Cell, PlanValue, EpochValue, Closed, same_values, cells_of, planned_of, has_value, is_written, place_in, IsGathered, AreGathered, IsGatheredEpoch, AreGatheredEpochs, TimesRise, AreStationValues, same_place, Decides-int_eq, StationValues, HeaderLists, numbers, written_satellites, no_signal_values, signal_values_of, is_of_key, signal_values_at, row_of, row_among, row_in_epoch, rows_of, change_from, stamped_after, all_stamped, AreTexts, AreValues, has_some_value, AreSignalValues, IsRow, planned_in, rank_of, IsSatelliteRow, IsStamped, IsChange, AreChanges, changed_by, time_stamped, IsFileValue, gathered, AreSignals, HasSatellite, IsInterval, IfSome}
+use Rattle.rinex_file.proofs.Names.{systems, index_of, satellites_in, index_back, system_at, systems_taken, common_steps, ◌≡◌, ℕ, zero, suc, ◌+◌, ◌*◌, ◌<◌, ◌≤◌, ◌==◌, Bool, true, false, ◌||◌, ◌&&◌, List, [], ◌∷◌, ◌++◌, map, length, get_or, refl, sym, ap, ◌∙◌, subst, arith, Option, Some, None, is_some, inl, inr, if◌then◌else◌, find, IsTrue, Any, All, option_map_or, AllByRecursion, IsDistinct, IsStrictlyIncreasing, and_parts, eqb-true, cases_Bool, map-append, flat_map-append, append-nil, flat_map, take, get_or-map, length-map, All-from_recursion, All-nil, All-cons, All-head, All-tail, All-append, All-push, All-map, All-weaker, All-filter, All-replicate, filter_passes, IsStrictlyIncreasing-filter, map-map, position-Some, System, Gps, Cell, PlanValue, EpochValue, Closed, same_values, cells_of, planned_of, has_value, is_written, place_in, IsGathered, AreGathered, IsGatheredEpoch, AreGatheredEpochs, TimesRise, AreStationValues, same_place, Decides-int_eq, StationValues, HeaderLists, numbers, written_satellites, no_signal_values, signal_values_of, is_of_key, signal_values_at, row_of, row_among, row_in_epoch, rows_of, change_from, stamped_after, all_stamped, AreTexts, has_some_value, AreSignalValues, IsRow, planned_in, rank_of, IsSatelliteRow, IsStamped, IsChange, AreChanges, changed_by, time_stamped, IsFileValue, gathered, AreSignals, HasSatellite, IsInterval, IfSome}
 
 -- ---- numbers in ascending order
 
@@ -174,14 +174,11 @@ times_rise plan v (e ∷ f ∷ es) h (suc k) less = grind (arith, (times_rise pl
 same_self : (v : StationValues) → same_values v v ≡ true
 same_self v = grind (arith, Decides-int_eq)
 
-values_fit : (v : StationValues) → AreStationValues v → AreValues v
-values_fit v h = record { x = h.x; y = h.y; z = h.z; height = h.height }
-
 changes : (v w : StationValues) → AreStationValues w → IsChange v (change_from v w) × (changed_by v (change_from v w) ≡ w)
 changes v w h = by (same_values v w) refl where
   by : (b : Bool) → same_values v w ≡ b → IsChange v (if b then None else Some w) × (changed_by v (if b then None else Some w) ≡ w)
   by true e = (tt, grind (arith, and_parts, all_same, Decides-int_eq, eqb-true))
-  by false e = ((values_fit w h, λ same. absurd (let is : same_values v w ≡ true = ap (same_values v) same ∙ same_self v in grind (arith, is, e))), refl)
+  by false e = ((h, λ same. absurd (let is : same_values v w ≡ true = ap (same_values v) same ∙ same_self v in grind (arith, is, e))), refl)
 
 changes_are : (plan : PlanValue) (v : StationValues) (es : List Closed) → AllByRecursion (IsGatheredEpoch plan) es → AreChanges v (all_stamped plan v es)
 changes_are plan v [] h = tt
@@ -195,7 +192,7 @@ gathered_file texts interval plan e es x i p h some =
       texts = x;
       interval = i;
       plan = record { listed = p.listed; apart = p.apart; some = (_, seen.planned); channels = p.channels; unplanned = p.unplanned };
-      values = values_fit e.values h.each.0.values;
+      values = h.each.0.values;
       some = omega arith;
       epochs = epochs_are plan e.values (e ∷ es) h.each some;
       rising = times_rise plan e.values (e ∷ es) h.rise;

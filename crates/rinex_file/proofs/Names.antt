@@ -36,7 +36,7 @@ pub use Rattle.rinex_file.specs.Counting.{AreCounts, IsSummary, IsTextWith, Hist
 pub use Rattle.rinex_file.specs.Exact.{IfTextOfFile, AreBefore, ExplainsFault, ExplainsStored, HasHeader, IsAtTypes, IsCutShort, IsExpectedAt, IsFaulty, IsFound, IsLine, IsNoFault, IsReadOr, IsTooLong, NoFileBegins, most_lines}
 unfoldable pub use Rattle.rinex_file.specs.File.{epoch_text, event_line, event_text, line_among, shown_text, lines_up_to}
 pub use Rattle.rinex_file.specs.File.{shown_of, change_lines, change_text, header_text, closed_text, event_lines, file_lines, file_text, gathered, line_or_none, lines_of_parts, stamped_lines, lines_of_systems}
-pub use Rattle.rinex_file.specs.FileValues.{AreChanges, AreSatelliteRows, AreSignalValues, AreTexts, AreValues, FitsColumns, HaveRoom, IsChange, IsFileValue, IsFirstSame, IsFrom, IsPlan, IsRow, IsSatelliteRow, IsStamped, IsText, IsTime, changed_by, has_some_value, most_rows, planned_in, rank_of, time_stamped, values_following}
+pub use Rattle.rinex_file.specs.FileValues.{AreChanges, AreSatelliteRows, AreSignalValues, AreTexts, FitsColumns, HaveRoom, IsChange, IsFileValue, IsFirstSame, IsFrom, IsPlan, IsRow, IsSatelliteRow, IsStamped, IsText, IsTime, changed_by, has_some_value, most_rows, planned_in, rank_of, time_stamped, values_following}
 pub use Rattle.rinex_file.specs.Gathered.{AreSignals, HasSatellite}
 unfoldable pub use Rattle.rinex_file.specs.Header.{header_lines, row_line}
 unfoldable pub use Rattle.rinex_columns.specs.HeaderLine.{header_line}

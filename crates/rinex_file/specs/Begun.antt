@@ -8,7 +8,7 @@ use Rattle.gnss_obs.specs.Dates.{civil_of}
 use Rattle.rinex_file.specs.Value.{Stamped}
 use Rattle.rinex_file.specs.FileValues.{IsTime, IsStamped, AreSatelliteRows, IsChange, AreChanges, IsFirstSame}
 use Rattle.rinex_file.specs.FileValues.{values_following, time_stamped, most_rows, planned_in, AreTexts, IsPlan}
-use Rattle.rinex_file.specs.FileValues.{AreValues}
+use Rattle.gnss_obs.specs.GatheredEpochs.{AreStationValues}
 use Rattle.rinex_file.specs.Header.{header_lines, Shown}
 use Rattle.rinex_file.specs.Lines.{epoch_line, satellite_line}
 use Rattle.rinex_file.specs.File.{stamped_lines, change_lines, event_lines}
@@ -18,7 +18,7 @@ pub record IsShown (h : Shown) : Type 0 where
   pub texts : AreTexts h.texts
   pub interval : IfSome h.interval IsInterval
   pub plan : IsPlan h.plan
-  pub values : AreValues h.values
+  pub values : AreStationValues h.values
   pub first : IsTime h.first
 
 -- the first epoch, if there is one, is at this time

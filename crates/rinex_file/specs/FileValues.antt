@@ -10,7 +10,7 @@ use Rattle.gnss_system.specs.Systems.{systems, index_of}
 use Rattle.gnss_system.specs.Satellites.{satellites}
 use Rattle.gnss_system.specs.Signals.{table}
 use Rattle.gnss_obs.specs.declared.cell.StationValues.{StationValues}
-use Rattle.gnss_obs.specs.GatheredEpochs.{IsCoordinate}
+use Rattle.gnss_obs.specs.GatheredEpochs.{AreStationValues}
 use Rattle.gnss_obs.specs.Channels.{AreChannels, no_channels}
 use Rattle.gnss_obs.specs.Intervals.{IsInterval}
 use Rattle.gnss_obs.specs.Values.{PlanValue, planned_of}
@@ -44,12 +44,6 @@ pub record IsPlan (p : PlanValue) : Type 0 where
 -- z is at least `low` and at most `high`
 abbrev pub IsFrom : ℤ → ℤ → ℤ → Type 0
 IsFrom low high z = (low ≤ℤ z) × (z ≤ℤ high)
-
-pub record AreValues (v : StationValues) : Type 0 where
-  pub x : IsCoordinate v.x
-  pub y : IsCoordinate v.y
-  pub z : IsCoordinate v.z
-  pub height : v.height < 2 ^ 16
 
 abbrev pub IsTime : ℕ → Type 0
 IsTime t = t < weeks * week
@@ -129,7 +123,7 @@ changed_by v (Some w) = w
 -- no change of these station values, or one to others
 abbrev pub IsChange : StationValues → Option StationValues → Type 0
 IsChange v None = ⊤
-IsChange v (Some w) = AreValues w × (w ≢ v)
+IsChange v (Some w) = AreStationValues w × (w ≢ v)
 
 -- epochs each of which leaves the station values before it as they are, or changes them
 abbrev pub AreChanges : StationValues → List Stamped → Type 0
@@ -152,7 +146,7 @@ pub record IsFileValue (v : FileValue) : Type 0 where
   pub texts : AreTexts v.texts
   pub interval : IfSome v.interval IsInterval
   pub plan : IsPlan v.plan
-  pub values : AreValues v.values
+  pub values : AreStationValues v.values
   pub some : 0 < length v.epochs
   pub epochs : All (IsStamped (planned_in v.plan)) v.epochs
   pub rising : IsStrictlyIncreasing (map time_stamped v.epochs)

@@ -2,6 +2,7 @@
 use Rattle.std.specs.Prelude.{ℕ, ◌&&◌, ◌||◌, Bool, nat_le, nat_lt, List, [], ◌∷◌, length, get_or, map}
 use Rattle.std.specs.Prelude.{true, false, codes, Option, Some, None, if◌then◌else◌}
 use Rattle.std.specs.List.{list_all, list_any}
+use Rattle.std.specs.Option.{option_or}
 use Rattle.rinex_file.specs.declared.header.fields.HeaderField.{HeaderField}
 use Rattle.rinex_file.specs.declared.header.fields.HeaderField.TheVariants.{RunBy, Date, Comment, Marker, MarkerNumber}
 use Rattle.rinex_file.specs.declared.header.fields.HeaderField.TheVariants.{MarkerType, Observer, Agency, RecNumber, RecType, RecVersion}
@@ -113,15 +114,10 @@ fault_of field text =
     then (if nat_lt (width_of field) (length (trimmed text)) then Some (TooLong field) else None)
     else Some (NotPrintable field)
 
--- the fault that was found, or else a later one
-abbrev pub or_later : Option HeadFault → Option HeadFault → Option HeadFault
-or_later None later = later
-or_later (Some fault) later = Some fault
-
 -- the fault that was found, or else the first fault of these fields
 abbrev pub first_fault : HeaderLists → Option HeadFault → List HeaderField → Option HeadFault
 first_fault t found [] = found
-first_fault t found (field ∷ rest) = first_fault t (or_later found (fault_of field (text_of t field))) rest
+first_fault t found (field ∷ rest) = first_fault t (option_or found (fault_of field (text_of t field))) rest
 
 -- each text without trailing blanks
 abbrev pub trimmed_texts : HeaderLists → HeaderLists

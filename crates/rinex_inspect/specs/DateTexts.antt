@@ -20,9 +20,9 @@ clock_text c =
 abbrev pub clock_bytes : ℕ
 clock_bytes = 3 * (1 + 2) + 1 + 3
 
--- a number of milliseconds, in seconds with three decimals
-abbrev pub seconds_text : ℕ → List ℕ
-seconds_text n = decimal (n / 1000) ++ codes "." ++ three_digits n
+-- a number of thousandths, as milliseconds in seconds, with three decimals
+abbrev pub thousandths_text : ℕ → List ℕ
+thousandths_text n = decimal (n / 1000) ++ codes "." ++ three_digits n
 
 -- the date and the time of day of a time
 abbrev pub moment_words : ℕ → List (List ℕ)
@@ -39,7 +39,7 @@ time_line name t = line (name ∷ moment_words t)
 -- the smallest step between epochs, if there are two
 abbrev pub step_line : Option ℕ → List ℕ
 step_line None = []
-step_line (Some n) = line (codes "step" ∷ seconds_text n ∷ [])
+step_line (Some n) = line (codes "step" ∷ thousandths_text n ∷ [])
 
 -- the most bytes of the lines of the times
 abbrev pub longest_times : ℕ

@@ -11,12 +11,12 @@ use Rattle.gnss_system.specs.declared.system.System.{System}
 use Rattle.gnss_system.specs.Satellites.{letter, number_of, satellites}
 use Rattle.gnss_system.specs.Signals.{code_of}
 use Rattle.gnss_system.specs.Systems.{systems}
-use Rattle.line_texts.specs.Digits.{three_digits, two_digits}
+use Rattle.line_texts.specs.Digits.{two_digits}
 use Rattle.line_texts.specs.Lines.{line}
 use Rattle.rinex_file.specs.FileValues.{planned_in}
 use Rattle.rinex_file.specs.Value.{FileValue, Stamped}
 use Rattle.rinex_inspect.specs.CheckOutput.{check_line, times_in}
-use Rattle.rinex_inspect.specs.DateTexts.{clock_text, date_text}
+use Rattle.rinex_inspect.specs.DateTexts.{clock_text, date_text, thousandths_text}
 use Rattle.rinex_inspect.specs.Tallies.{has_values, last_of, presence_of, satellite_at, tally_of, total}
 use Rattle.rinex_inspect.specs.declared.tally.Presence.{Presence}
 use Rattle.rinex_inspect.specs.declared.tally.Tally.{Tally}
@@ -34,10 +34,6 @@ satellite_word s i = letter s ∷ two_digits (number_of s (i + 1))
 -- the code of the planned signal at index k
 abbrev pub code_at : PlanValue → System → ℕ → List ℕ
 code_at plan s k = code_of (record { system = s; index = get_or (planned_of s plan) k 0 })
-
--- a number of thousandths
-abbrev pub thousandths_text : ℕ → List ℕ
-thousandths_text n = decimal (n / 1000) ++ codes "." ++ three_digits n
 
 -- the mean strength in dB-Hz, rounded to the nearest thousandth, ties up
 abbrev pub mean_text : Tally → List ℕ

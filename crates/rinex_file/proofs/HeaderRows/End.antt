@@ -8,7 +8,7 @@ use Rattle.rinex_file.proofs.HeaderRows.Places.{known_at, types_early, types_her
 use Rattle.rinex_file.proofs.HeaderRows.Steps.{left_over, rest_next}
 use Rattle.rinex_file.proofs.HeaderRows.Texts.{each_field, field_back, place_back, same_at, same_rows}
 use Rattle.rinex_file.proofs.PlainTexts.{both}
-use Rattle.rinex_file.proofs.Names.{equal_values, value_tabulated, short_table, tabulate, value_of, few_below, listed_by, is_alike, common_steps, AreListsAt, nat_le, ◌||◌, arith, ◌≡◌, ◌∙◌, sym, ap, ap₂, map, refl, subst, ℕ, pos, suc, lit<, lit≤, ◌<◌, true, List, [], ◌∷◌, ◌++◌, length, get_or, replicate, All, nat_eq, AllOfLen, IsDistinct, take_all, ext_get_or, SignalAt, table, System, indices, IsOf, planned_of, StationValues, HeaderField, Texts, Position, Delta, First, End, trimmed, HeaderLists, text_count, text_of, width_of, fields, fields_of, AntType, IsText, AreTexts, AreValues, IsTime, row_line, row_place, end_line, Known, Shown, IsShown, AreValid, IsHeadAt, shown_with, lines_before, RefusesHeaderLine, EndsHeader, none_of, row_at, AreSameTexts, Has, HasRow, fits, counted, StrengthUnit, SameFrom, position_of, PlanValue, Slots, Types, AreChannels, known_slots, no_channels, slots_of, HeaderRow, is_equal, is_less, nat_lt, ◌==◌, ◌&&◌, nil_from_length, not-true, flat_map, AreUnread, Interval, IfSome, IsInterval, None}
+use Rattle.rinex_file.proofs.Names.{equal_values, value_tabulated, short_table, tabulate, value_of, few_below, listed_by, is_alike, common_steps, AreListsAt, nat_le, ◌||◌, arith, ◌≡◌, ◌∙◌, sym, ap, ap₂, map, refl, subst, ℕ, pos, suc, lit<, lit≤, ◌<◌, true, List, [], ◌∷◌, ◌++◌, length, get_or, replicate, All, nat_eq, AllOfLen, IsDistinct, take_all, ext_get_or, SignalAt, table, System, indices, IsOf, planned_of, StationValues, HeaderField, Texts, Position, Delta, First, End, trimmed, HeaderLists, text_count, text_of, width_of, fields, fields_of, AntType, IsText, AreTexts, AreStationValues, IsTime, row_line, row_place, end_line, Known, Shown, IsShown, AreValid, IsHeadAt, shown_with, lines_before, RefusesHeaderLine, EndsHeader, none_of, row_at, AreSameTexts, Has, HasRow, fits, counted, StrengthUnit, SameFrom, position_of, PlanValue, Slots, Types, AreChannels, known_slots, no_channels, slots_of, HeaderRow, is_equal, is_less, nat_lt, ◌==◌, ◌&&◌, nil_from_length, not-true, flat_map, AreUnread, Interval, IfSome, IsInterval, None}
 
 -- ---- a header with all that was read is the one that was read
 
@@ -118,7 +118,7 @@ no_end_line k line never h is has there e = never (sym e)
 
 -- ---- the start
 
-pub valid_by : {k made : Known} (signals : System → List SignalAt) → made ≡ k → AreTexts made.shown.texts → IfSome made.shown.interval IsInterval → AreChannels made.shown.plan.channels → AreValues made.shown.values → IsTime made.shown.first → ((s : System) → IsOf s (signals s))
+pub valid_by : {k made : Known} (signals : System → List SignalAt) → made ≡ k → AreTexts made.shown.texts → IfSome made.shown.interval IsInterval → AreChannels made.shown.plan.channels → AreStationValues made.shown.values → IsTime made.shown.first → ((s : System) → IsOf s (signals s))
     → made.shown.plan.signals ≡ tabulate (λ s. indices (signals s)) → AreValid k
 valid_by {made = made} signals e texts interval channels values first of plan = subst AreValid e (record {
   texts = texts;
@@ -166,5 +166,5 @@ none_read system ss e = subst (IsOf system) (sym e) (none_of system)
 pub zero_time : (t : ℕ) → t ≡ 0 → IsTime t
 zero_time t e = subst IsTime (sym e) (lit≤ tt)
 
-pub zero_values : AreValues (record { x = pos 0; y = pos 0; z = pos 0; height = 0 })
+pub zero_values : AreStationValues (record { x = pos 0; y = pos 0; z = pos 0; height = 0 })
 zero_values = grind arith

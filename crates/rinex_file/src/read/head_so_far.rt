@@ -53,7 +53,8 @@ impl Model for HeadSoFar {
     ghost use Rattle.gnss_system.specs.SystemValues.{value_of, map_by};
     ghost use Rattle.rinex_file.specs.inner.Read.Progress.{Known};
     ghost use Rattle.std.specs.Prelude.{IfSome};
-    ghost use Rattle.rinex_file.specs.FileValues.{AreValues, IsTime};
+    ghost use Rattle.gnss_obs.specs.GatheredEpochs.{AreStationValues};
+    ghost use Rattle.rinex_file.specs.FileValues.{IsTime};
     ghost use Rattle.gnss_obs.specs.Intervals.{IsInterval};
 
     ghost Value = { Known };
@@ -72,7 +73,7 @@ impl Model for HeadSoFar {
       slots = h.slots.count;
     } };
 
-    ghost invariant = { λ h. AreValues h.values × IsTime h.first × ((s : System) →
+    ghost invariant = { λ h. AreStationValues h.values × IsTime h.first × ((s : System) →
         IsOf s (value_of s h.types).signals × ((value_of s h.types).count ≤ length (table s)))
         × IfSome h.interval IsInterval };
 }

@@ -18,8 +18,8 @@ use Rattle.rinex_file.specs.Texts.{HeaderLists, text_of, fields_of}
 use Rattle.rinex_file.specs.declared.header.fields.HeaderField.{HeaderField}
 use Rattle.rinex_file.specs.Value as file
 use Rattle.rinex_file.specs.Value.{SatelliteRow, Stamped, FileValue}
-use Rattle.gnss_obs.specs.GatheredEpochs.{IsCoordinate}
-use Rattle.rinex_file.specs.FileValues.{AreTexts, AreValues, IsTime, IsFileValue}
+use Rattle.gnss_obs.specs.GatheredEpochs.{AreStationValues, IsCoordinate}
+use Rattle.rinex_file.specs.FileValues.{AreTexts, IsTime, IsFileValue}
 use Rattle.rinex_file.specs.Header.{flagged_letter, systems_letter}
 use Rattle.rinex_file.specs.inner.Header.{row_at, row_place, row_count, is_given, first_types}
 pub use Rattle.rinex_file.specs.Header.{Shown}
@@ -80,7 +80,7 @@ pub record AreValid (k : Known) : Type 0 where
   pub listed : (system : System) → All (λ i. i < length (table system)) (planned_of system k.shown.plan)
   pub apart : (system : System) → IsDistinct nat_eq (planned_of system k.shown.plan)
   pub channels : AreChannels k.shown.plan.channels
-  pub values : AreValues k.shown.values
+  pub values : AreStationValues k.shown.values
   pub first : IsTime k.shown.first
 
 -- these texts are the same in these fields

@@ -1,6 +1,6 @@
 use Rattle.rinex_file.proofs.Judged.{at_some}
 use Rattle.rinex_file.proofs.HeaderRows.End.{begins, none_read, zero_time, zero_values}
-use Rattle.rinex_file.proofs.Names.{value_of, value_mapped, arith, rules, ◌≡◌, ◌∙◌, [], ap, subst, sym, indices, AreValues, refl}
+use Rattle.rinex_file.proofs.Names.{value_of, value_mapped, arith, rules, ◌≡◌, ◌∙◌, [], ap, subst, sym, indices, AreStationValues, refl}
 use Rattle.rinex_file.proofs.read.head_so_far.HeadSoFar.new.Goals as goal
 
 pub returns : goal.returns
@@ -11,7 +11,7 @@ returns c =
 
 pub invariant_of-head : goal.invariant_of-head
 invariant_of-head c = (
-  subst AreValues (sym c.zero.ensures) zero_values,
+  subst AreStationValues (sym c.zero.ensures) zero_values,
   zero_time c.unwrap.result (at_some _ _ (λ t. t ≡ 0) c.unwrap.ensures c.new-2.ensures.value),
   λ s.
       let none : (value_of s c.each.result).count ≡ 0 = let given = c.each.ensures s in search rules in
