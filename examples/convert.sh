@@ -1,7 +1,8 @@
 #!/bin/sh
 # convert.sh RAW OBS [OPTION ..]: converts a recording to an observation file with its signals and its position.
 #
-# The week is the one that the recording's ephemerides have. For a recording without ephemerides give its date:
+# The week is the one that the recording's ephemerides have. For a recording without ephemerides give the date of its
+# begin:
 #   DAY=2024-02-04 sh convert.sh s.rtcm3 s.obs
 # Further options are those of `rtcm2rinex convert`, such as --interval 30. The report is printed.
 set -eu
@@ -27,4 +28,4 @@ trap 'exit 1' HUP INT TERM
 # Recordings have no hurry: an epoch is closed by a later one, so that repeated messages can't end it.
 # shellcheck disable=SC2086 # the shell has to split a plan into options
 rtcm2rinex convert --gather time --date "$(date -u '+%Y%m%d %H%M%S UTC')" $plan "$@" < "$raw" > "$part"
-mv -- "$part" "$obs"
+mv -f -- "$part" "$obs"

@@ -23,8 +23,9 @@ made=obs/$station/${station}_S_$(date -u -d "$day" +%Y%j)0000_01D_30S_MO.rnx
 kept=obs/$station/$day
 part=$made.$$.part raw=$kept.$$.raw note=$kept.$$.part
 mkdir -p "obs/$station"
-# What a power cut left of earlier runs: files of the names above, two days old.
-find "obs/$station" \( -name '????-??-??.[0-9]*.raw' -o -name '*.[0-9]*.part' \) -mtime +1 -exec rm -f {} +
+# What a power cut left of earlier runs: files of the names above, two days old. It may fail: other runs are at work.
+find "obs/$station" \( -name '????-??-??.[0-9]*.raw' -o -name '*.[0-9]*.part' \) -mtime +1 \
+    -exec rm -f {} + 2> /dev/null || :
 trap 'rm -f "$part" "$raw" "$note"' EXIT
 trap 'exit 1' HUP INT TERM
 
@@ -37,50 +38,86 @@ say() {
 
 # the options of the station
 header=headers/$station wanted=
+end=$(printf '\r')
 set --
 if test -e "$header" || test -L "$header"; then
     { test -f "$header" && test -r "$header"; } || say "no file: $header is not readable"
     while IFS= read -r option || test -n "$option"; do
+        # also of a file whose lines end as those of Windows
+        option=${option%"$end"}
         case $option in
-        "") ;;
+        "" | "#"*) ;;
         --station=*) wanted=$option ;;
         *) set -- "$@" "$option" ;;
         esac
     done < "$header"
 fi
 
+# By its name, as any bytes may be the first ones of a log.
+plain() {
+    case $1 in
+    *.gz) gzip -cd "$1" ;;
+    *) cat "$1" ;;
+    esac
+}
+
 # the logs of the day
-for log in "raw/$station/$day"*.rtcm3*; do
-    test -e "$log" || say "no log"
-    errors=$(gzip -cdf "$log" 2>&1 >> "$raw") || say "no file: $errors"
+folder=raw/$station
+test ! -d "$folder" || { test -r "$folder" && test -x "$folder"; } || say "no file: $folder is not readable"
+: > "$raw"
+for log in "$folder/$day"*.rtcm3*; do
+    test "$log" != "$folder/$day*.rtcm3*" || say "no log"
+    errors=$(plain "$log" 2>&1 >> "$raw") || say "no file: $errors"
 done
 
 # The first and the last seconds of the day may be in the logs beside it: those of UTC begin 18 seconds after the GPS
 # day. If such a log is damaged or of another day, its own day says so, and this one is made without it.
-for last in "raw/$station/$before"*.rtcm3*; do :; done
-for next in "raw/$station/$after"*.rtcm3*; do break; done
+for last in "$folder/$before"*.rtcm3*; do :; done
+for next in "$folder/$after"*.rtcm3*; do break; done
+has_neighbour() { test -e "$last" || test -e "$next"; }
 logs() {
-    test ! -e "$last" || gzip -cdf "$last" 2> /dev/null | tail -c 2000000
+    test ! -e "$last" || plain "$last" 2> /dev/null | tail -c 2000000
     cat "$raw"
-    test ! -e "$next" || gzip -cdf "$next" 2> /dev/null | head -c 2000000
+    test ! -e "$next" || plain "$next" 2> /dev/null | head -c 2000000
 }
 
 # The options that fit them, of which a date that their ephemerides contradict is an error, and the file. Recordings have
 # no hurry: an epoch is closed by a later one, so that repeated messages can't end it.
 # shellcheck disable=SC2086 # there may be no station, and the shell has to split a plan into options
 convert() {
+    to=$1
+    shift
     plan=$(logs | rtcm2rinex options --near "$day" $wanted 2>&1) || { errors=$plan && return 1; }
     report=$(logs | rtcm2rinex convert --gather time --interval 30 --from "$day" --until "$after" \
-        --date "$(date -u '+%Y%m%d %H%M%S UTC')" $plan "$@" 2>&1 > "$part") || { errors=$report && return 1; }
+        --date "$(date -u '+%Y%m%d %H%M%S UTC')" $plan "$@" 2>&1 > "$to") || { errors=$report && return 1; }
 }
-alone() {
-    { test -e "$last" || test -e "$next"; } && last='' next='' && convert "$@"
-}
-convert "$@" || alone "$@" || say "no file: $errors"
+alone() { has_neighbour && last='' next='' && convert "$@"; }
+epochs() { rtcm2rinex check < "$1" | cut -d ' ' -f 2; }
+convert "$part" "$@" || alone "$part" "$@" || say "no file: $errors"
+# Messages of the day are late after a log beside it that runs far into the day: then the file without it has more.
+if has_neighbour && test "$(epochs "$part")" -lt 2880; then
+    more=$(alone "$note" "$@" && epochs "$note") || more=0
+    test "$more" -le "$(epochs "$part")" || alone "$part" "$@" || say "no file: $errors"
+fi
 gaps=$(rtcm2rinex check --gaps 30 --from "$day" --until "$after" < "$part" 2>&1) || say "no file: $gaps"
-values=$(rtcm2rinex quality < "$part" | grep '^signal ') || :
+has=$(rtcm2rinex quality < "$part")
+values=$(echo "$has" | grep '^signal ') || :
 # shellcheck disable=SC2086 # there may be no station
-heard=$(logs | rtcm2rinex signals $wanted)
+heard=$(rtcm2rinex signals $wanted < "$raw" 2> /dev/null) || :
+# A log of another week beside those of this one: their ephemerides have several.
+# shellcheck disable=SC2086 # there may be no station
+weeks=$(logs | rtcm2rinex options --week $wanted 2>&1) || :
+case $weeks in
+*SeveralWeeks*) weeks=${weeks##*SeveralWeeks } ;;
+*) weeks= ;;
+esac
+
+# the bytes of the day's own logs that are in no frame, which has six besides its message
+size=$(wc -c < "$raw") lost=0
+case $report in
+*" skipped_bytes 0 "*) ;;
+*) lost=$(rtcm2rinex frames < "$raw" | awk -v size="$size" '{ size -= $2 + 6 } END { print size + 0 }') ;;
+esac
 
 # Logs that overlap repeat messages, which are counted as late. Lost is a message of an earlier time than one before it,
 # if it comes for the first time. Times of BeiDou are 14 seconds behind GPS time, those of GLONASS are of Moscow, without
@@ -102,18 +139,35 @@ case $report in
     ;;
 esac
 
-# A file that was made of more logs is kept.
-epochs() { rtcm2rinex check 2> /dev/null < "$1" | cut -d ' ' -f 2; }
-if test -e "$made"; then
-    had=$(epochs "$made") has=$(epochs "$part")
-    test "${had:-0}" -le "$has" || say "$has epochs, and $had in the file that there is, which is kept"
+# A file that was made of more is kept, also if it is compressed by now, and one that isn't as this script writes them.
+# One that is cut, as by a power cut, is made again.
+there=$made
+test -e "$made" || there=$made.gz
+if test -s "$there"; then
+    if had=$(plain "$there" | rtcm2rinex quality 2>&1); then
+        sizes() {
+            echo "$1" | awk '
+                $1 == "epochs" { counts = $2 " " $4 }
+                $1 == "signal" { values += $7 + $9 + $11 + $13 }
+                END { print counts, values + 0 }'
+        }
+        # shellcheck disable=SC2046 # the numbers of epochs, satellites and values of both
+        set -- $(sizes "$has") $(sizes "$had")
+        { test "$1" -ge "$4" && test "$2" -ge "$5" && test "$3" -ge "$6"; } ||
+            say "$1 epochs with $2 satellites and $3 values, and $4 with $5 and $6 in the file that there is, which is kept"
+    else
+        case $had in
+        *CutShort*) ;;
+        *) say "$there is kept, which is no file of this script: $had" ;;
+        esac
+    fi
 fi
 
-# Each file has its name only when it is complete; where this is interrupted, there is no report.
+# Each file has its name only when it is complete and on the disk; where this is interrupted, there is no report.
 rm -f "$kept.report"
-errors=$(mv "$part" "$made" 2>&1) || say "no file: $errors"
+errors=$({ sync "$part" && mv -fT "$part" "$made" && rm -f "$made.gz"; } 2>&1) || say "no file: $errors"
 keep() {
-    errors=$({ echo "$2" > "$note" && mv "$note" "$1"; } 2>&1) || say "no report: $errors"
+    errors=$({ echo "$2" > "$note" && mv -fT "$note" "$1"; } 2>&1) || say "no report: $errors"
 }
 keep "$kept.signals" "$values"
 keep "$kept.report" "$report"
@@ -121,7 +175,8 @@ keep "$kept.report" "$report"
 # What the day lacks, in one line: epochs, bytes, messages, and half of the values of a signal of the day before.
 previous=obs/$station/$before.signals
 test -e "$previous" || previous=/dev/null
-lacks=$(gaps=$gaps report=$report heard=$heard awk -v late="$late" -v size="$(wc -c < "$raw")" -v skipped="${SKIPPED:-1}" '
+lacks=$(gaps=$gaps report=$report heard=$heard awk -v late="$late" -v weeks="$weeks" \
+    -v lost="$lost" -v size="$size" -v skipped="${SKIPPED:-1}" '
     { signal = $2 " " $3; count = $7 + $9 + $11 + $13 }
     when == "before" { was[signal] = count; order[++signals] = signal }
     when == "now" { now[signal] = count }
@@ -135,8 +190,9 @@ lacks=$(gaps=$gaps report=$report heard=$heard awk -v late="$late" -v size="$(wc
         }
         count = split(ENVIRON["report"], words, " ")
         for (i = 1; i < count; i += 2) of[words[i]] = words[i + 1]
-        if (100 * of["skipped_bytes"] > skipped * size)
-            add(int(100 * of["skipped_bytes"] / size + 0.5) " % of the bytes are in no frame")
+        if (weeks) add("the ephemerides have several weeks for the first message, " weeks)
+        if (100 * lost > skipped * size)
+            add(int(100 * lost / size + 0.5) " % of the bytes are in no frame")
         if (of["repeated"] > of["taken"])
             add(of["repeated"] " cells are repeated in " of["taken"] " messages, as by two receivers of one number")
         if (late) add(late " late messages are lost")

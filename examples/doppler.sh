@@ -7,6 +7,12 @@ set -eu
 : "${1:?usage: doppler.sh [--turn] OBS}"
 # some awks read and print decimals with the comma of the locale
 export LC_ALL=C
+test "$1" = --turn && obs=${2:?usage: doppler.sh --turn OBS} || obs=$1
+# a file that is cut isn't to become a whole one
+rtcm2rinex check < "$obs" > /dev/null || {
+    echo "$obs: no whole observation file" >&2
+    exit 1
+}
 # awk has the file as its input, since it takes names with = for assignments
 if test "$1" = --turn; then
     awk '
@@ -16,11 +22,7 @@ if test "$1" = --turn; then
                 if (substr($0, n, 14) * 1)
                     $0 = substr($0, 1, n - 1) sprintf("%14.3f", -substr($0, n, 14)) substr($0, n + 14)
         }
-        { print }
-        END { exit !body }' < "$2" || {
-        echo "$2: no observation file" >&2
-        exit 1
-    }
+        { print }' < "$obs"
     exit
 fi
 awk '
@@ -40,7 +42,7 @@ awk '
     END {
         if (!(right + wrong)) exit 1
         print right + 0 " fit, " wrong + 0 " have the wrong sign"
-    }' < "$1" || {
-    echo "$1: no line to compare" >&2
+    }' < "$obs" || {
+    echo "$obs: no line to compare" >&2
     exit 1
 }

@@ -11,7 +11,7 @@ day=${1:-$(date -u -d yesterday +%F)}
 scripts=$(CDPATH='' cd -- "$(dirname -- "$0")" && pwd)
 # also of a list whose lines end as those of Windows
 list=$({ tr -d '\r' < stations | grep -v -e '^#' -e '^[[:blank:]]*$'; } 2> /dev/null) || {
-    echo "stations: missing or empty" >&2
+    echo "stations: missing, unreadable or empty" >&2
     exit 1
 }
 if test $# -gt 1; then

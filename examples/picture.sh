@@ -7,7 +7,7 @@
 # most 400. A gap is one by `rtcm2rinex check --gaps`, at the smallest step between epochs.
 set -eu
 : "${2:?usage: picture.sh OBS NAME [SECONDS]}"
-obs=$1 name=$2 every=${3-}
+obs=$1 name=$2 every=${3-} part=$2.$$.part
 # some awks read and print decimals with the comma of the locale
 export LC_ALL=C
 # it fails here if gzip does, whose status a pipe doesn't have
@@ -119,6 +119,9 @@ data=$(printf '%s\n' "$whole" "$periods" "$gaps" | awk -v every="$every" -v step
         return 86400 * days + 3600 * substr(time, 12, 2) + 60 * substr(time, 15, 2) + substr(time, 18)
     }')
 
+# gnuplot doesn't fail where its output does, as on a full disk: a picture has its name when it is whole.
+trap 'rm -f -- "$part-satellites.png" "$part-strength.png"' EXIT
+trap 'exit 1' HUP INT TERM
 # shellcheck disable=SC2016 # gnuplot has the names from the environment
 {
     echo "$data"
@@ -162,4 +165,13 @@ set tics font "Sans,11"
 plot for [n = 0:lines - 1] $strength index n using 1:2 with linespoints lw 2 dt n / 8 + 1 pt 7 ps 0.3 \
     title columnheader(1)
 END
-} | NAME=$name FILE=${obs##*/} gnuplot -e 'name = system("echo \"$NAME\""); file = system("echo \"$FILE\"")' -
+} | NAME=$part FILE=${obs##*/} gnuplot -e 'name = system("echo \"$NAME\""); file = system("echo \"$FILE\"")' -
+for kind in satellites strength; do
+    # without a strength there is no picture of it
+    test "$kind" = satellites || test -e "$part-$kind.png" || break
+    tail -c 8 -- "$part-$kind.png" | grep -q IEND || {
+        echo "$name-$kind.png: not written as a whole" >&2
+        exit 1
+    }
+    mv -f -- "$part-$kind.png" "$name-$kind.png"
+done

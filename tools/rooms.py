@@ -9,7 +9,7 @@ from collections.abc import Callable, Iterator
 from datetime import date, datetime, timedelta
 from pathlib import Path
 
-from reference_impl.stream import PLAIN, System, frame_of, station_message
+from reference_impl.stream import PLAIN, Form, System, frame_of, station_message
 
 TOP = Path(__file__).resolve().parent.parent
 RECORDED = TOP / "samples/zed-f9t-2019-10-17.rtcm3"
@@ -58,10 +58,10 @@ def at(moment: str) -> int:
     return (datetime.fromisoformat(moment) - START) // timedelta(milliseconds=1)
 
 
-def messages_of(moments: list[int]) -> list[bytes]:
-    """Returns the messages of a station: its 1005, then a 1077 and a 1097 of each time."""
+def messages_of(moments: list[int], form: Form = PLAIN) -> list[bytes]:
+    """Returns the messages of a station: its 1005, then an MSM7 of each system at each time."""
     draw = random.Random(1)
-    systems = [System(system, PLAIN, draw) for system in ("G", "E")]
+    systems = [System(system, form, draw) for system in form.satellites]
     observed = [
         system.message(part, moment, system.system == "G")
         for moment in moments
