@@ -130,6 +130,7 @@ def first_rows() -> list[dict]:
     """First MSMs that don't count, or come after others that count but aren't converted."""
     this, early, day = ephemeris(1045, NOW), ephemeris(1045, NOW, 0), ephemeris(1045, NOW, DAY // 60_000)
     saturday = ephemeris(1045, NOW, (WEEK - HOUR) // 60_000)
+    last = (WEEK - HOUR) // 60_000
     values = {"whole": 255, "strength": 0}
     return [
         *both("a-first-msm-of-glonass", [glonass(NOON), at(NOON), this]),
@@ -146,11 +147,13 @@ def first_rows() -> list[dict]:
         *both("a-late-msm-of-this-week-that-is-first", [unplanned(NOON), at(NOON - HOUR), this]),
         *both("an-msm-that-is-not-converted-a-week-before", [unplanned(WEEK - 1000), unplanned(DAY), at(DAY), day]),
         *both("msm5-without-a-value", [msm(1075, WEEK - 1000, **values), at(0), early]),
-        row("leap-seconds-of-2016", SENT, [glonass(0, 17), at(0), ephemeris(1045, 1930, 0)]),
+        row("leap-seconds-of-2016", SENT, [glonass(WEEK - 1000, 17), at(WEEK - 1000), ephemeris(1045, 1929, last)]),
+        # 17 seconds before the leap second
+        row("leap-seconds-of-the-begin-of-2017", SENT, [glonass(0, 17), at(0), ephemeris(1045, 1930, 0)]),
         row("leap-seconds-of-2017", SENT, [glonass(0, 18), at(0), ephemeris(1045, 1931, 0)]),
         row("leap-seconds-of-1999", SENT, [glonass(0, 13), at(0), ephemeris(1045, 1025, 0)]),
         row("leap-seconds-without-glonass", SENT, [at(0), ephemeris(1045, 1930, 0)]),
-        row("leap-seconds-of-a-week-that-begins-in-the-year-before", SENT, [glonass(0, 17), at(HOUR), ephemeris(1045, 1930, 60)]),
+        row("leap-seconds-of-the-begin-of-2017-by-a-later-time", SENT, [glonass(0, 17), at(HOUR), ephemeris(1045, 1930, 60)]),
     ]
 
 

@@ -98,7 +98,8 @@ class First:
         return min(self.time(zero, leap_seconds), LAST_WEEK * WEEK - 1)
 
     def leap_seconds(self, zero: int) -> int:
-        return leap_seconds_at(self.within(zero, 0))
+        """Returns those of its date, which by its time without leap seconds may be the day before."""
+        return leap_seconds_at(self.within(zero, leap_seconds_at(self.within(zero, 0))))
 
     def week(self, zero: int) -> int:
         return self.within(zero, self.leap_seconds(zero)) // WEEK

@@ -13,7 +13,7 @@ use Rattle.rtcm_inspect.specs.ChannelLaws.{HasChannels}
 use Rattle.obs_epoch.proofs.StartLaws.{given}
 use Rattle.rtcm_inspect.specs.NearWeek.{IsWeekFor}
 use Rattle.rtcm_inspect.specs.OptionOutput.{IsPrinted}
-use Rattle.rtcm_inspect.specs.SentWeeks.{first_msm, leap_by, time_in, week_by, within_weeks}
+use Rattle.rtcm_inspect.specs.SentWeeks.{first_msm, leap_by, leap_with, time_in, week_by, within_weeks}
 use Rattle.rtcm_inspect.specs.declared.first_two.FirstTwo.{FirstTwo}
 use Rattle.rtcm_inspect.specs.declared.first_two.FirstTwo.TheVariants.{One}
 use Rattle.rtcm_inspect.specs.declared.printed_week.WeekSource.{WeekSource}
@@ -88,7 +88,7 @@ leap_small t = omega (arith, count_by-le-length (λ m. nat_le m (month_number (c
 leap_below : (source : WeekSource) (w leap wanted : Option ℕ) (fs : List Framed) → IsPrinted source wanted fs w leap → IfSome leap (λ n. n < 256)
 leap_below Unprinted w leap wanted fs h = subst (λ (o : Option ℕ). IfSome o (λ n. n < 256)) (sym h.1) tt
 leap_below (Near noon) w leap wanted fs h = subst (λ (o : Option ℕ). IfSome o (λ n. n < 256)) (sym h.2) (leap_small noon)
-leap_below Ephemerides w leap wanted fs h = subst (λ (o : Option ℕ). IfSome o (λ n. n < 256)) (sym h.3) (leap_small (within_weeks (time_in h.0 (first_msm 0 wanted fs))))
+leap_below Ephemerides w leap wanted fs h = subst (λ (o : Option ℕ). IfSome o (λ n. n < 256)) (sym h.3) (leap_small (within_weeks (time_in h.0 (first_msm (leap_with wanted fs h.0 0) wanted fs))))
 
 week_read : (options : List Row) (w : Option ℕ) (start : Start) → IsWeekRead → IfSome w (λ n. n < weeks) → IfSome w (λ n. first_of (codes "week") options ≡ Some (decimal n))
     → IsStartSet options start → IfSome w (λ n. start ≡ Week n)

@@ -54,7 +54,7 @@ pub use Rattle.rtcm_inspect.specs.Listing.{EndsListing, Lists, ListsAll, ListsDe
 pub use Rattle.rtcm_inspect.specs.NearWeek.{IsWeekFor}
 pub use Rattle.rtcm_inspect.specs.OptionOutput.{AreOptionsOf, AreOptionsRefused, HasSignals, IsWeekAt, IsWeekRefused, is_denied_at}
 pub use Rattle.rtcm_inspect.specs.ReadBack.{AreEncoded, AreKnown, AreReadAs, ReadsBack}
-pub use Rattle.rtcm_inspect.specs.SentWeeks.{IsNearestRest, IsOtherTime, first_msm, is_denied, is_in, rest_by, rests_in, said_after, said_at, time_in, whole_by, whole_in, within_weeks}
+pub use Rattle.rtcm_inspect.specs.SentWeeks.{IsNearestRest, IsOtherTime, first_msm, is_denied, is_in, leap_with, rest_by, rests_in, said_after, said_at, time_in, whole_by, whole_in, within_weeks}
 unfoldable pub use Rattle.rtcm_inspect.specs.ShowLines.{fault_line, message_line, msm_line, station_line}
 pub use Rattle.rtcm_inspect.specs.ShowLines.{height_words, line_with, read_for, read_line, show_line}
 pub use Rattle.rtcm_inspect.specs.SignalLaws.{CellValues, LosesUnknownCarriers, ReadsAll, SkipsOnly, values_by}

@@ -70,9 +70,13 @@ time_in d x = time_near (d * week + x.greatest) x.tow
 abbrev pub within_weeks : ℕ → ℕ
 within_weeks t = min (weeks * week - 1) t
 
--- the leap seconds of its date, which is that of its time without leap seconds
+-- the leap seconds of its date, if its time is that by these leap seconds
+abbrev pub leap_with : Option ℕ → List Framed → (d leap : ℕ) → ℕ
+leap_with wanted fs d leap = leap_at (within_weeks (time_in d (first_msm leap wanted fs)))
+
+-- the leap seconds of its date, which by its time without leap seconds may be the day before
 abbrev pub leap_by : Option ℕ → List Framed → (d : ℕ) → ℕ
-leap_by wanted fs d = leap_at (within_weeks (time_in d (first_msm 0 wanted fs)))
+leap_by wanted fs d = leap_with wanted fs d (leap_with wanted fs d 0)
 
 -- its week by these leap seconds
 abbrev pub week_by : Option ℕ → List Framed → (d : ℕ) → ℕ

@@ -8,7 +8,7 @@ ghost use Rattle.rtcm_inspect.specs.FaultWords.{week_date};
 ghost use Rattle.rtcm_inspect.specs.NearWeek.{IsWeekFor};
 ghost use Rattle.rtcm_inspect.specs.OptionOutput.{IsPrinted, IsWeekRefused};
 ghost use Rattle.rtcm_inspect.specs.SentWeeks.{IsNearestRest, IsOtherTime, first_msm, is_denied, is_in};
-ghost use Rattle.rtcm_inspect.specs.SentWeeks.{leap_by, rest_of, time_in, week_by, within_weeks};
+ghost use Rattle.rtcm_inspect.specs.SentWeeks.{leap_by, leap_with, rest_of, time_in, week_by, within_weeks};
 ghost use Rattle.rtcm_inspect.specs.inner.Counting.{AreSignals};
 ghost use Rattle.rtcm_inspect.specs.inner.SaidWeeks.{AreSaid, first_of};
 
@@ -106,7 +106,16 @@ fn leap_by(signals: &StreamSignals, zero: u16) -> u8
     ensures { (fs : List Framed) → AreSignals signals.now signals.now.station fs
         → result ≡ leap_by signals.now.station fs zero }
 {
-    leap_at(within_weeks(time_in(u64::from(zero), &first_msm(signals, 0))))
+    leap_with(signals, zero, leap_with(signals, zero, 0))
+}
+
+/// Returns the leap seconds on the date of the first MSM, if its time is that by these leap seconds,
+/// which one of GLONASS depends on.
+fn leap_with(signals: &StreamSignals, zero: u16, leap: u8) -> u8
+    ensures { (fs : List Framed) → AreSignals signals.now signals.now.station fs
+        → result ≡ leap_with signals.now.station fs zero leap }
+{
+    leap_at(within_weeks(time_in(u64::from(zero), &first_msm(signals, leap))))
 }
 
 /// Returns the week of the first MSM, if this GPS week was counted as week 0.

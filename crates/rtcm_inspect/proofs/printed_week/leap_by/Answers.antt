@@ -1,7 +1,5 @@
-use Rattle.rtcm_inspect.proofs.Names.{leap_at, time_in, within_weeks, ◌∙◌, ap, ap₂}
+use Rattle.rtcm_inspect.proofs.Names.{leap_with, ◌∙◌, ap}
 use Rattle.rtcm_inspect.proofs.printed_week.leap_by.Goals as goal
 
 pub returns : goal.returns
-returns c = λ fs h.
-    c.leap_at.ensures.value
-    ∙ ap leap_at (c.within_weeks.ensures ∙ ap within_weeks (c.time_in.ensures ∙ ap₂ time_in c.from.ensures (c.first_msm.ensures fs h)))
+returns c = λ fs h. c.leap_with-2.ensures fs h ∙ ap (leap_with c.args.signals.now.station fs c.args.zero) (c.leap_with.ensures fs h)
