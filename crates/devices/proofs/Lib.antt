@@ -2,3 +2,4 @@ pub mod Names
 pub mod DeviceLemmas
 pub mod BufferLemmas
 pub mod PrintingLaws
+pub mod WritingLaws

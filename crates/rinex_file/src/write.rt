@@ -1,7 +1,6 @@
 //! Writing a file, one line at a time.
-ghost use Rattle.std.specs.Prelude.{◌≡◌, ◌<◌, OnOk, OnErr, IfErr};
-ghost use Rattle.std.specs.Io.KnownBytes.{Appends};
-ghost use Rattle.devices.specs.Device.{AppendsPrefix, FailsWith};
+ghost use Rattle.std.specs.Prelude.{◌≡◌, ◌<◌, OnOk, IfErr};
+ghost use Rattle.devices.specs.Device.{WritesText};
 ghost use Rattle.gnss_system.specs.Satellites.{satellites};
 ghost use Rattle.gnss_system.specs.Systems.{systems};
 ghost use Rattle.rinex_file.specs.File.{event_text, epoch_text, lines_of_systems, lines_up_to};
@@ -31,12 +30,8 @@ use std::io::Write;
 /// [`HeadFault::Write`] if the writer fails; the bytes written are then a prefix of the header.
 #[tactic(auto, using(crate::proofs::Writing::Sent::failures))]
 pub fn write_header<W: Write>(head: &Head, writer: &mut Counted<W>) -> Result<(), HeadFault>
-    ensures whole { OnOk result
-        (Appends (W.contents writer.old.inner) (W.contents writer.new.inner) (head_text head.now)) }
-    ensures part { OnErr result
-        (AppendsPrefix (W.contents writer.old.inner) (W.contents writer.new.inner) (head_text head.now)) }
+    ensures written { WritesText result W.contents writer.old writer.new (head_text head.now) }
     ensures only { IfErr result (λ fault. fault ≡ HeadFault.Write) }
-    ensures device { FailsWith result writer.old writer.new }
 {
     for line in header_lines(head) {
         writer.write_whole(line.as_slice())?;
@@ -54,12 +49,8 @@ pub fn write_event<W: Write>(
     values: StationValues,
     writer: &mut Counted<W>,
 ) -> Result<(), HeadFault>
-    ensures whole { OnOk result
-        (Appends (W.contents writer.old.inner) (W.contents writer.new.inner) (event_text values)) }
-    ensures part { OnErr result
-        (AppendsPrefix (W.contents writer.old.inner) (W.contents writer.new.inner) (event_text values)) }
+    ensures written { WritesText result W.contents writer.old writer.new (event_text values) }
     ensures only { IfErr result (λ fault. fault ≡ HeadFault.Write) }
-    ensures device { FailsWith result writer.old writer.new }
 {
     writer.write_whole(event_line())?;
     writer.write_whole(position_line(&values).as_slice())?;
@@ -78,11 +69,8 @@ fn write_system<W: Write>(
     writer: &mut Counted<W>,
 ) -> Result<(), DeviceFailed>
     requires { IsBlankBut used.old row.old }
-    ensures whole { OnOk result (Appends (W.contents writer.old.inner) (W.contents writer.new.inner)
-        (lines_up_to plan.now epoch.now.epoch system (satellites system))) }
-    ensures part { OnErr result (AppendsPrefix (W.contents writer.old.inner) (W.contents writer.new.inner)
-        (lines_up_to plan.now epoch.now.epoch system (satellites system))) }
-    ensures device { FailsWith result writer.old writer.new }
+    ensures written { WritesText result W.contents writer.old writer.new
+        (lines_up_to plan.now epoch.now.epoch system (satellites system)) }
     ensures blank { OnOk result (IsBlankBut used.new row.new) }
 {
     let cells = epoch.cells(system);
@@ -108,11 +96,7 @@ fn write_systems<W: Write>(
     plan: &Plan,
     writer: &mut Counted<W>,
 ) -> Result<(), DeviceFailed>
-    ensures whole { OnOk result (Appends (W.contents writer.old.inner) (W.contents writer.new.inner)
-        (lines_of_systems plan.now epoch.now.epoch systems)) }
-    ensures part { OnErr result (AppendsPrefix (W.contents writer.old.inner) (W.contents writer.new.inner)
-        (lines_of_systems plan.now epoch.now.epoch systems)) }
-    ensures device { FailsWith result writer.old writer.new }
+    ensures { WritesText result W.contents writer.old writer.new (lines_of_systems plan.now epoch.now.epoch systems) }
 {
     let mut row = [b' '; MOST_LINE];
     let mut used = 0;
@@ -134,13 +118,8 @@ pub fn write_epoch<W: Write>(
     plan: &Plan,
     writer: &mut Counted<W>,
 ) -> Result<(), HeadFault>
-    ensures whole { OnOk result
-        (Appends (W.contents writer.old.inner) (W.contents writer.new.inner) (epoch_text plan.now epoch.now.epoch)) }
-    ensures part { OnErr result
-        (AppendsPrefix (W.contents writer.old.inner) (W.contents writer.new.inner)
-        (epoch_text plan.now epoch.now.epoch)) }
+    ensures written { WritesText result W.contents writer.old writer.new (epoch_text plan.now epoch.now.epoch) }
     ensures only { IfErr result (λ fault. fault ≡ HeadFault.Write) }
-    ensures device { FailsWith result writer.old writer.new }
 {
     let mut line = Line::new();
     epoch_line(epoch.time(), epoch.satellites(), &mut line);

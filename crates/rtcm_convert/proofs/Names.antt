@@ -1,5 +1,5 @@
 -- The names that proofs cite, passed on from one place. Declares nothing.
-pub use Rattle.devices.specs.Device.{AppendsPrefix, Device, FailsWith, HasFailed, IsBetween}
+pub use Rattle.devices.specs.Device.{AppendsPrefix, Device, FailsWith, HasFailed, IsBetween, WritesText}
 pub use Rattle.gnss_obs.specs.Channels.{AreChannels, ChannelsValue}
 pub use Rattle.gnss_obs.specs.GatheredEpochs.{AreGatheredEpochs, AreStationValues, TimesRise}
 pub use Rattle.gnss_obs.specs.HeardCells.{HeardCell}

@@ -1,11 +1,5 @@
 -- Bytes that are written one part after the other.
-use Rattle.rtcm_convert.proofs.Names.{arith, ◌≡◌, ℕ, List, [], ◌++◌, sym, ap, ◌∙◌, Option, None, Some, refl, subst, Err, append_assoc, append-nil, IsErrOf, Appends, Keeps, append_cancel_left, Appends-trans, Appends-nil, Appends-kept, AppendsPrefix, IsPrefix, AppendsBetween, AppendsPrefixBetween, AppendsUpTo, Result, IsErrAnd, common_steps}
-
-pub prefix_more : {z : List ℕ} (a b : Option (List ℕ)) (x y : List ℕ) → z ≡ x ++ y → AppendsPrefix a b x → AppendsPrefix a b z
-prefix_more a b x y e p = (p.0 ++ y, (p.1.0, e ∙ ap (λ l. l ++ y) p.1.1 ∙ append_assoc p.1.0 p.0 y, p.1.2))
-
-pub prefix_after : {z : List ℕ} (a b c : Option (List ℕ)) (x y : List ℕ) → z ≡ x ++ y → Appends a b x → AppendsPrefix b c y → AppendsPrefix a c z
-prefix_after a b c x y e f p = (p.0, (x ++ p.1.0, e ∙ ap (λ l. x ++ l) p.1.1 ∙ sym (append_assoc x p.1.0 p.0), Appends-trans a b c x p.1.0 f p.1.2))
+use Rattle.rtcm_convert.proofs.Names.{arith, ◌≡◌, ℕ, List, [], ◌++◌, sym, ap, ◌∙◌, Option, None, Some, refl, subst, Err, append_assoc, append-nil, IsErrOf, Appends, Keeps, append_cancel_left, Appends-nil, Appends-kept, AppendsPrefix, IsPrefix, AppendsBetween, AppendsPrefixBetween, AppendsUpTo, Result, IsErrAnd, common_steps}
 
 pub goes_on-refl : (a : Option (List ℕ)) (x : List ℕ) → AppendsBetween a a x x
 goes_on-refl a x = record { part = []; text = sym (append-nil x); out = Appends-nil a }

@@ -1,7 +1,6 @@
 //! From frames to the bytes of a file, and the end of a stream.
 ghost use Rattle.std.specs.Prelude.{◌≡◌, ◌↔◌, [], false, true, Err, OnOk, OnErr, IfOk, IfErr};
-ghost use Rattle.std.specs.Io.KnownBytes.{Appends};
-ghost use Rattle.devices.specs.Device.{AppendsPrefix, FailsWith};
+ghost use Rattle.devices.specs.Device.{FailsWith, WritesText};
 ghost use Rattle.rtcm_msg.specs.inner.Viewed.{viewed_message};
 ghost use Rattle.rtcm_convert.specs.Faults.{IsSetupFault};
 ghost use Rattle.rtcm_convert.specs.SetupValues.{setup_value, IsBadStart};
@@ -76,12 +75,7 @@ impl FileWriter {
     /// Writes the header if the file has no epoch, or else an event if the epoch's station values
     /// differ from those written last.
     fn open<W: Write>(&self, epoch: &Epoch, writer: &mut Counted<W>) -> Result<(), HeadFault>
-        ensures whole { OnOk result
-            (Appends (W.contents writer.old.inner) (W.contents writer.new.inner) (opening_of self.now epoch.now)) }
-        ensures part { OnErr result
-            (AppendsPrefix (W.contents writer.old.inner) (W.contents writer.new.inner)
-            (opening_of self.now epoch.now)) }
-        ensures device { FailsWith result writer.old writer.new }
+        ensures { WritesText result W.contents writer.old writer.new (opening_of self.now epoch.now) }
     {
         let values = epoch.station_values();
         match self.values {
@@ -103,11 +97,7 @@ impl FileWriter {
     /// Writes the epoch that the gatherer closed last, if a satellite in it has a value, after the
     /// header or the event that it needs.
     fn write_closed<W: Write>(&mut self, writer: &mut Counted<W>) -> Result<(), HeadFault>
-        ensures whole { OnOk result
-            (Appends (W.contents writer.old.inner) (W.contents writer.new.inner) (added_by self.old)) }
-        ensures part { OnErr result
-            (AppendsPrefix (W.contents writer.old.inner) (W.contents writer.new.inner) (added_by self.old)) }
-        ensures device { FailsWith result writer.old writer.new }
+        ensures written { WritesText result W.contents writer.old writer.new (added_by self.old) }
         ensures now { OnOk result (HasCountedClosed self.old self.new) }
         ensures same { (self.new.gatherer ≡ self.old.gatherer) × (self.new.texts ≡ self.old.texts)
             × (self.new.set ≡ self.old.set) × (self.new.tally ≡ self.old.tally) }

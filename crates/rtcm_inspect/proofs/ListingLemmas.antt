@@ -1,6 +1,6 @@
 -- A listing as a consumer of frames.
 use Rattle.rtcm_inspect.proofs.StreamLemmas.{Began}
-use Rattle.rtcm_inspect.proofs.Names.{Err, Ok, OnErr, Result, DeviceFailed, WritesLine, ◌≡◌, ◌∙◌, ◌-◌, ◌<◌, ap, sym, subst, refl, arith, Bool, true, false, ℕ, List, [], ◌∷◌, ◌++◌, Option, append_assoc, append-nil, length, take, Appends, flat_map-append, Appends-nil, Appends-trans, AppendsPrefix, Device, HasFailed, IsPrefix, Framed, decided_frames, known_frames, ⊤, StreamFault, Devices, EndsListing, devices_of, stream_fault, AtFault, BreaksReading, Passes, PassesAll, PassesToLimit, Reads, FramerValue, Listing, Lists, ListsAll, ListsDecided, ListsPart, ListsToLimit, ListsUpTo, listing_line, listing_lines, piece_bytes, prefix_trans}
+use Rattle.rtcm_inspect.proofs.Names.{Err, Ok, OnErr, Result, WritesText, ◌≡◌, ◌∙◌, ◌-◌, ◌<◌, ap, sym, subst, refl, arith, Bool, true, false, ℕ, List, [], ◌∷◌, ◌++◌, Option, append_assoc, append-nil, length, take, Appends, flat_map-append, Appends-nil, Appends-trans, AppendsPrefix, Device, HasFailed, IsPrefix, Framed, decided_frames, known_frames, ⊤, StreamFault, Devices, EndsListing, devices_of, stream_fault, AtFault, BreaksReading, Passes, PassesAll, PassesToLimit, Reads, FramerValue, Listing, Lists, ListsAll, ListsDecided, ListsPart, ListsToLimit, ListsUpTo, listing_line, listing_lines, piece_bytes, prefix_trans}
 use Rattle.rtcm_scan.specs.declared.feed.StreamFault.TheVariants as stream
 
 -- the lines of one more frame
@@ -30,15 +30,14 @@ module _ {W : Type 0} {held : W → Option (List ℕ)} {k0 k : Listing} {o0 o o2
       }
 
 -- a text, given in other terms, was written or not
-pub written_as : {W : Type 0} {text same : List ℕ} (held : W → Option (List ℕ)) (o o2 : Device W) (r : Result ⊤ DeviceFailed) → text ≡ same → WritesLine r held o o2 text
-    → WritesLine r held o o2 same
-written_as held o o2 r e w = subst (WritesLine r held o o2) e w
+pub written_as : {W A E : Type 0} {text same : List ℕ} {held : W → Option (List ℕ)} {o o2 : Device W} {r : Result A E} → text ≡ same → WritesText r held o o2 text → WritesText r held o o2 same
+written_as {held = held} {o} {o2} {r} e w = subst (λ (l : List ℕ). WritesText r held o o2 l) e w
 
 -- a frame's line, given in other terms, was written in part
-pub part_line : {W : Type 0} {text : List ℕ} (held : W → Option (List ℕ)) (k : Listing) (o o2 : Device W) (f : Framed) (r : Result ⊤ DeviceFailed) → text ≡ listing_line k f → WritesLine r held o o2 text
+pub part_line : {W A E : Type 0} {text : List ℕ} {held : W → Option (List ℕ)} {o o2 : Device W} (k : Listing) (f : Framed) (r : Result A E) → text ≡ listing_line k f → WritesText r held o o2 text
     → OnErr r ((k0 : Listing) (o0 : Device W) (ps fs : List Framed) → Lists held k0 o0 ps k o fs → ListsUpTo held k0 o0 ps k o2 fs (fs ++ f ∷ []))
-part_line held k o o2 f (Ok u) is w = tt
-part_line held k o o2 f (Err e) is w = λ k0 o0 ps fs. stopped_at_line f (subst (AppendsPrefix (held o.inner) (held o2.inner)) is w.1) w.2.0
+part_line k f (Ok u) is w = tt
+part_line {held = held} {o} {o2} k f (Err e) is w = λ k0 o0 ps fs. stopped_at_line f (subst (AppendsPrefix (held o.inner) (held o2.inner)) is w.part) w.device.0
 
 -- ---- a stream that is listed from its start
 

@@ -1,8 +1,7 @@
 -- The names that proofs cite, passed on from one place. Declares nothing.
 pub use Rattle.devices.proofs.PrintingLaws.{Printed, printed_later}
-pub use Rattle.devices.specs.Device.{AppendsPrefix, Device, HasFailed}
+pub use Rattle.devices.specs.Device.{AppendsPrefix, Device, HasFailed, WritesText}
 pub use Rattle.devices.specs.Devices.{Devices, devices_of, writer_of}
-pub use Rattle.devices.specs.declared.counted.DeviceFailed.{DeviceFailed}
 pub use Rattle.gnss_obs.specs.Channels.{AreChannels, ChannelsValue, channel_hertz, hertz_in, most_number, no_channels, number_at, slot_count}
 pub use Rattle.gnss_obs.specs.HeardCells.{HeardCell, IsKey}
 pub use Rattle.gnss_obs.specs.Plans.{below, between_commas, is_nil, one_signal_more, place_in, plan_by, plan_of, signals_after, signals_in, signals_of}
@@ -50,7 +49,7 @@ unfoldable pub use Rattle.rtcm_inspect.specs.Fitting.{options_line}
 pub use Rattle.rtcm_inspect.specs.Fitting.{antenna_words, first_words, forms_words, further_words, height_text, number_start, number_words, other_words, position_text, position_word, station_words}
 unfoldable pub use Rattle.rtcm_inspect.specs.FrameLines.{frame_line, number_word}
 pub use Rattle.rtcm_inspect.specs.Inspected.{inspected, inspected_at, inspected_in, inspected_of}
-pub use Rattle.rtcm_inspect.specs.Listing.{EndsListing, Lists, ListsAll, ListsDecided, ListsPart, ListsToLimit, ListsUpTo, WritesLine, listing_line, listing_lines, piece_bytes}
+pub use Rattle.rtcm_inspect.specs.Listing.{EndsListing, Lists, ListsAll, ListsDecided, ListsPart, ListsToLimit, ListsUpTo, listing_line, listing_lines, piece_bytes}
 pub use Rattle.rtcm_inspect.specs.NearWeek.{IsWeekFor}
 pub use Rattle.rtcm_inspect.specs.OptionOutput.{AreOptionsOf, AreOptionsRefused, HasSignals, IsWeekAt, IsWeekRefused, is_denied_at}
 pub use Rattle.rtcm_inspect.specs.ReadBack.{AreEncoded, AreKnown, AreReadAs, ReadsBack}

@@ -1,10 +1,8 @@
 -- What a command that lists a stream's frames has read and written.
-use Rattle.std.specs.Prelude.{◌≡◌, ◌<◌, ◌≤◌, ℕ, Bool, true, false, List, ◌++◌, take, length, Option, Result, OnOk, OnErr, ⊤}
-use Rattle.std.specs.Prelude.{[]}
+use Rattle.std.specs.Prelude.{◌≡◌, ◌<◌, ◌≤◌, ℕ, Bool, true, false, List, ◌++◌, take, length, Option, Result, []}
 use Rattle.std.specs.List.{flat_map}
 use Rattle.std.specs.Io.KnownBytes.{Appends, Consumes, IsAtEnd}
-use Rattle.devices.specs.Device.{AppendsPrefix, Device, FailsWith, HasFailed, IsBetween}
-use Rattle.devices.specs.declared.counted.DeviceFailed.{DeviceFailed}
+use Rattle.devices.specs.Device.{Device, HasFailed, IsBetween}
 use Rattle.rtcm_scan.specs.Frames.{Framed, frames_of}
 use Rattle.rtcm_scan.specs.Decided.{decided_frames}
 use Rattle.rtcm_scan.specs.Known.{known_frames}
@@ -75,13 +73,6 @@ EndsListing result limit lines d d' =
     Ends culprit result d d' (λ _. ListsAll lines d d') (StopsListing limit lines d d')
 
 -- ---- a listing as a consumer of frames
-
--- the line was written, or a prefix of it by the call that failed
-abbrev pub WritesLine : {W : Type 0} → Result ⊤ DeviceFailed → (W → Option (List ℕ)) → (w w' : Device W) → List ℕ
-    → Type 0
-WritesLine result held w w' text =
-    OnOk result (Appends (held w.inner) (held w'.inner) text)
-    × OnErr result (AppendsPrefix (held w.inner) (held w'.inner) text) × FailsWith result w w'
 
 -- The device o0 after the frames ps became o after the frames fs: the lines of the frames between were written, and no
 -- call failed.

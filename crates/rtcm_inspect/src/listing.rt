@@ -1,5 +1,6 @@
 //! The commands `frames` and `show`: a line for each frame, or for each message, of a stream.
 ghost use Rattle.std.specs.Prelude.{◌≡◌, ◌+◌, ◌≤◌, ◌∷◌, ◌++◌, IfOk, true, false, length};
+ghost use Rattle.devices.specs.Device.{WritesText};
 ghost use Rattle.devices.specs.Devices.{Changes};
 ghost use Rattle.rtcm_bits.specs.FrameOf.{longest_message};
 ghost use Rattle.rtcm_scan.specs.inner.Results.{framed};
@@ -15,7 +16,7 @@ ghost use Rattle.rtcm_inspect.specs.ShowLines.{station_line};
 ghost use Rattle.rtcm_msg.specs.Fields.{GivesViewed};
 ghost use Rattle.rtcm_msg.specs.inner.Viewed.{viewed_message};
 ghost use Rattle.rtcm_inspect.specs.EquipmentLines.{equipment_line};
-ghost use Rattle.rtcm_inspect.specs.Listing.{EndsListing, WritesLine, listing_lines};
+ghost use Rattle.rtcm_inspect.specs.Listing.{EndsListing, listing_lines};
 
 use crate::equipment::{add_equipment_fault, equipment_text};
 use crate::fault::InspectFault;
@@ -74,7 +75,7 @@ impl<W: Deliver> FrameSink<Counted<W>> for Listing {
 
 /// Writes the line of a frame.
 fn write_frame<W: Deliver>(frame: &Frame, out: &mut Counted<W>) -> Result<(), DeviceFailed>
-    ensures { WritesLine result W.contents out.old out.new (frame_line (framed frame.now)) }
+    ensures { WritesText result W.contents out.old out.new (frame_line (framed frame.now)) }
 {
     let mut line = OutputLine::new();
     add_frame(&mut line, frame);
@@ -89,7 +90,7 @@ fn write_message<W: Deliver>(
     frame: &Frame,
     out: &mut Counted<W>,
 ) -> Result<(), DeviceFailed>
-    ensures { WritesLine result W.contents out.old out.new (message_line all (framed frame.now)) }
+    ensures { WritesText result W.contents out.old out.new (message_line all (framed frame.now)) }
 {
     let mut line = OutputLine::new();
     add_message(&mut line, all, frame);
@@ -100,7 +101,7 @@ fn write_message<W: Deliver>(
 /// antenna or a receiver.
 #[inline(never)]
 fn write_any<W: Deliver>(all: bool, frame: &Frame, out: &mut Counted<W>) -> Result<(), DeviceFailed>
-    ensures { WritesLine result W.contents out.old out.new (show_line all (framed frame.now)) }
+    ensures { WritesText result W.contents out.old out.new (show_line all (framed frame.now)) }
 {
     if !all {
         return write_message(false, frame, out);
@@ -119,7 +120,7 @@ fn write_equipment<W: Deliver>(
     out: &mut Counted<W>,
 ) -> Result<(), DeviceFailed>
     requires { IfOk read.now (λ e. AreShort e.texts.items) }
-    ensures { WritesLine result W.contents out.old out.new (equipment_line (framed frame.now) (values_of read.now)) }
+    ensures { WritesText result W.contents out.old out.new (equipment_line (framed frame.now) (values_of read.now)) }
 {
     match read {
         Ok(equipment) => out.write_whole(equipment_text(frame.offset, equipment).as_slice()),

@@ -1,14 +1,5 @@
--- Lines that were written, and a part of them.
-use Rattle.rinex_file.proofs.Names.{IsErrAnd, flat_map-append, sum_by-cons, systems, index_of, before, after, satellites_in, systems_split, systems_taken, sum_by, common_steps, arith, ◌≡◌, ◌∙◌, sym, ap, refl, subst, ℕ, zero, suc, ◌+◌, ◌-◌, ◌≤◌, List, [], ◌∷◌, ◌++◌, length, append_assoc, append-nil, length-append, Option, true, false, Result, OnOk, OnErr, map, if◌then◌else◌, IfErr, Appends, Appends-trans, map-append, length-map, filter-append, AppendsPrefix, HasFailed, System, Cell, cells_of, flat_map, take, take_all, civil_of, PlanValue, EpochValue, is_written, written_among, satellites_written, joined, written_satellites, row_among, rows_of, satellite_line, epoch_line, StationValues, position_line, delta_line, event_line, event_text, line_among, line_or_none, lines_up_to, lines_of_systems, epoch_text}
-pub use Rattle.rtcm_bits.proofs.SmallLaws.{on_failure as where_failed}
-
--- a part of the first is a part of both
-pub part_first : (a c : Option (List ℕ)) {text : List ℕ} (next rest : List ℕ) → text ≡ next ++ rest → AppendsPrefix a c next → AppendsPrefix a c text
-part_first a c next rest is (left, (sent, split, more)) = grind (arith, append_assoc)
-
--- a part of the rest, after what was written
-pub part_after : (a b c : Option (List ℕ)) {text : List ℕ} (done rest : List ℕ) → text ≡ done ++ rest → Appends a b done → AppendsPrefix b c rest → AppendsPrefix a c text
-part_after a b c done rest is out (left, (sent, split, more)) = grind (arith, append_assoc, Appends-trans)
+-- Lines that are written.
+use Rattle.rinex_file.proofs.Names.{IsErrAnd, flat_map-append, sum_by-cons, systems, index_of, before, after, satellites_in, systems_split, systems_taken, sum_by, common_steps, arith, ◌≡◌, ◌∙◌, sym, ap, refl, subst, ℕ, zero, suc, ◌+◌, ◌-◌, ◌≤◌, List, [], ◌∷◌, ◌++◌, length, append_assoc, append-nil, length-append, true, false, Result, OnOk, map, if◌then◌else◌, IfErr, map-append, length-map, filter-append, System, Cell, cells_of, flat_map, take, take_all, civil_of, PlanValue, EpochValue, is_written, written_among, satellites_written, joined, written_satellites, row_among, rows_of, satellite_line, epoch_line, StationValues, position_line, delta_line, event_line, event_text, line_among, line_or_none, lines_up_to, lines_of_systems, epoch_text}
 
 pub joined-append : (xs ys : List (List ℕ)) → joined (xs ++ ys) ≡ joined xs ++ joined ys
 joined-append xs ys = flat_map-append (λ l. l) xs ys
@@ -18,22 +9,6 @@ joined-append xs ys = flat_map-append (λ l. l) xs ys
 pub event_parts : (v : StationValues) → event_text v ≡ event_line ++ (position_line v ++ (delta_line v ++ []))
 unfolding event_text
 event_parts v = refl
-
--- its lines, one after the other
-module _ (v : StationValues) (a b c d : Option (List ℕ)) where
-  pub event_first : AppendsPrefix a b event_line → AppendsPrefix a b (event_text v)
-  event_first part = part_first a b event_line (position_line v ++ (delta_line v ++ [])) (event_parts v) part
-
-  pub event_second : Appends a b event_line → AppendsPrefix b c (position_line v) → AppendsPrefix a c (event_text v)
-  event_second first part = part_after a b c event_line (position_line v ++ (delta_line v ++ [])) (event_parts v) first (part_first b c (position_line v) (delta_line v ++ []) refl part)
-
-  pub event_third : Appends a b event_line → Appends b c (position_line v) → AppendsPrefix c d (delta_line v) → AppendsPrefix a d (event_text v)
-  event_third first second part =
-      part_after a c d (event_line ++ position_line v) (delta_line v ++ []) (event_parts v ∙ sym (append_assoc event_line (position_line v) (delta_line v ++ [])))
-      (Appends-trans a b c event_line (position_line v) first second) (part_first c d (delta_line v) [] refl part)
-
-  pub event_whole : Appends a b event_line → Appends b c (position_line v) → Appends c d (delta_line v) → Appends a d (event_text v)
-  event_whole first second third = grind (arith, event_parts, append-nil, Appends-trans)
 
 -- ---- satellite by satellite
 
@@ -100,7 +75,7 @@ epoch_parts p e =
     ap (λ n. epoch_line (civil_of e.time) n ++ joined (map satellite_line (flat_map (rows_of p e) systems))) (length-rows p e)
     ∙ ap (λ l. epoch_line (civil_of e.time) (satellites_written e) ++ l) (lines_over p e systems)
 
--- its lines, one after the other
+-- its systems, one after the other
 module _ (p : PlanValue) (e : EpochValue) where
   -- those of one more system, and those of the others after them
   pub lines_next : (n : ℕ) (s : System) → index_of s ≡ n → lines_of_systems p e (take (n + 1) systems) ≡ lines_of_systems p e (take n systems) ++ lines_up_to p e s (satellites_in s)
@@ -112,18 +87,6 @@ module _ (p : PlanValue) (e : EpochValue) where
   pub lines_all : (n : ℕ) → length systems ≤ n → lines_of_systems p e (take n systems) ≡ lines_of_systems p e systems
   lines_all n h = ap (lines_of_systems p e) (take_all n systems h)
 
-  parts : {line : List ℕ} → line ≡ epoch_line (civil_of e.time) (satellites_written e) → epoch_text p e ≡ line ++ lines_of_systems p e systems
-  parts is = epoch_parts p e ∙ ap (λ l. l ++ lines_of_systems p e systems) (sym is)
-
-  pub epoch_first : (a b : Option (List ℕ)) {line : List ℕ} → line ≡ epoch_line (civil_of e.time) (satellites_written e) → AppendsPrefix a b line → AppendsPrefix a b (epoch_text p e)
-  epoch_first a b {line} is part = part_first a b line (lines_of_systems p e systems) (parts is) part
-
-  pub epoch_second : (a b c : Option (List ℕ)) {line : List ℕ} → line ≡ epoch_line (civil_of e.time) (satellites_written e) → Appends a b line → AppendsPrefix b c (lines_of_systems p e systems) → AppendsPrefix a c (epoch_text p e)
-  epoch_second a b c {line} is first part = part_after a b c line (lines_of_systems p e systems) (parts is) first part
-
-  pub epoch_whole : (a b c : Option (List ℕ)) {line : List ℕ} → line ≡ epoch_line (civil_of e.time) (satellites_written e) → Appends a b line → Appends b c (lines_of_systems p e systems) → Appends a c (epoch_text p e)
-  epoch_whole a b c {line} is first last = subst (λ l. Appends a c l) (sym (parts is)) (Appends-trans a b c line (lines_of_systems p e systems) first last)
-
 -- ---- what holds of a call that failed
 
 -- nothing is promised of it
@@ -133,8 +96,4 @@ failed Q r P h = grind arith
 pub only_fault : {A E : Type 0} (Q : E → Type 0) (r : Result A E) → IsErrAnd r Q → IfErr r Q
 only_fault Q r h = grind arith
 
--- the device failed after calls that didn't
-pub failed_after : {A E : Type 0} (Q : E → Type 0) (r : Result A E) (first before after : ℕ) → IsErrAnd r Q → before ≡ first → HasFailed before after → OnErr r (HasFailed first after)
-failed_after Q r first before after h fine more = where_failed r _ (subst (λ n. HasFailed n after) fine more)
-
-pub ruleset failures = (failed, only_fault, failed_after)
+pub ruleset failures = (failed, only_fault)

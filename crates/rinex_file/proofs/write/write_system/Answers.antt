@@ -1,7 +1,8 @@
 -- The lines of the satellites before the cell at `from` are written.
 use Rattle.rinex_file.proofs.Writing.Skipped.{all_sent, next_sent, one_sent}
-use Rattle.rinex_file.proofs.Writing.Sent.{no_lines, lines_around, part_after, part_first, where_failed, not_written, is_shown}
-use Rattle.rinex_file.proofs.Names.{arith, ◌∙◌, sym, subst, refl, take, drop, ◌-◌, Appends, Appends-nil, satellites, AppendsPrefix, left_all}
+use Rattle.devices.proofs.WritingLaws.{part_written}
+use Rattle.rinex_file.proofs.Writing.Sent.{no_lines, lines_around, not_written, is_shown}
+use Rattle.rinex_file.proofs.Names.{arith, ◌∙◌, ◌++◌, ap, sym, subst, refl, take, drop, ◌-◌, Appends, Appends-nil, satellites, left_all}
 use Rattle.rinex_file.proofs.write.write_system.Goals as goal
 
 pub loop-from-init : goal.loop-from-init
@@ -27,10 +28,10 @@ loop-from-preserved-in_ok-write_whole g c =
     let next = next_sent c.index-cells-from.result inv.out cells.ensures.cells cells.ensures.held cells.ensures.order c.loop-from-test.true c.id-id.ensures.value c.end_of-to.ensures.end c.end_of-to.ensures.bound in
     let shown = is_shown c.args.plan.now c.args.system (take (c.end_of-to.result - c.loop-from.from) (drop c.loop-from.from cells.result.now)) _ (sym c.is_written.ensures ∙ c.if-is_written.true) in
     record {
-      out = one_sent next (subst (λ l. Appends (contents c.loop-from.writer.inner) (contents c.write_whole.new.self.inner) l) (sym shown) (grind (arith, c.in_ok-write_whole.ensures, c.put_satellite_line-size.ensures.text)));
-      fine = grind (arith, c.in_ok-write_whole.ensures, inv.fine);
+      out = one_sent next (subst (λ l. Appends (contents c.loop-from.writer.inner) (contents c.write_whole.new.self.inner) l) (sym shown) (grind (arith, c.in_ok-write_whole.ensures.written, c.put_satellite_line-size.ensures.text)));
+      fine = c.in_ok-write_whole.ensures.written.device.1 ∙ inv.fine;
       blank = c.put_satellite_line-size.ensures.blank;
-      widest = grind (arith, c.in_ok-write_whole.ensures, inv.widest);
+      widest = c.in_ok-write_whole.ensures.written.device.2 ∙ inv.widest;
     }
 
 pub loop-from-preserved : goal.loop-from-preserved
@@ -43,20 +44,20 @@ loop-from-preserved g c =
     let none = not_written c.args.plan.now c.args.system (take (c.end_of-to.result - c.loop-from.from) (drop c.loop-from.from cells.result.now)) id (sym c.is_written.ensures ∙ c.if-is_written.false) in
     record { out = one_sent next (subst (λ l. Appends b b l) (sym none) (Appends-nil b)); fine = inv.fine; blank = inv.blank; widest = inv.widest }
 
-pub returns-in_err-write_whole-clause-part : goal.returns-in_err-write_whole-clause-part
-returns-in_err-write_whole-clause-part g c =
-    let contents = g.W.Write.contents in
+pub returns-in_err-write_whole-clause-written : goal.returns-in_err-write_whole-clause-written
+returns-in_err-write_whole-clause-written g c =
     let p = c.args.plan.now in
     let system = c.args.system in
     let cells = c.cells-cells in
+    let inv = c.loop-from.invariant in
     let own = take (c.end_of-to.result - c.loop-from.from) (drop c.loop-from.from cells.result.now) in
-    let next = next_sent c.index-cells-from.result c.loop-from.invariant.out cells.ensures.cells cells.ensures.held cells.ensures.order c.loop-from-test.true c.id-id.ensures.value c.end_of-to.ensures.end c.end_of-to.ensures.bound in
+    let next = next_sent c.index-cells-from.result inv.out cells.ensures.cells cells.ensures.held cells.ensures.order c.loop-from-test.true c.id-id.ensures.value c.end_of-to.ensures.end c.end_of-to.ensures.bound in
     let shown = is_shown p system own c.id-id.result (sym c.is_written.ensures ∙ c.if-is_written.true) in
-    let b = contents c.loop-from.writer.inner in
-    let d = contents c.write_whole.new.self.inner in
     let (rest, split) = lines_around p c.args.epoch.now.epoch system (satellites system) next.next next.most in
-    where_failed c.from_residual.result _ (part_after (contents c.args.writer.now.inner) b d _ _ split next.out
-    (part_first b d _ rest refl (subst (λ l. AppendsPrefix b d l) next.line (subst (λ l. AppendsPrefix b d l) (sym shown) (grind (arith, c.in_err-write_whole.ensures, c.put_satellite_line-size.ensures.text))))))
+    part_written rest _ c.from_residual.result c.from_residual.ensures.1 (record { done = _; is = split; out = next.out; fine = inv.fine; widest = inv.widest })
+    (ap (λ l. l ++ rest) (sym next.line ∙ shown)) c.put_satellite_line-size.ensures.text c.in_err-write_whole.ensures.written
 
-pub returns-clause-whole : goal.returns-clause-whole
-returns-clause-whole g c = all_sent c.loop-from.invariant.out c.cells-cells.ensures.cells (omega (arith, c.loop-from-test.false))
+pub returns-clause-written : goal.returns-clause-written
+returns-clause-written g c =
+    let inv = c.loop-from.invariant in
+    record { whole = all_sent inv.out c.cells-cells.ensures.cells (omega (arith, c.loop-from-test.false)); part = tt; device = (tt, inv.fine, inv.widest) }

@@ -8,4 +8,4 @@ returns-in-Some g c =
     let is : Some (values_of c.in-Some.read) ≡ equipment_in f.message =
     sym (ap (option_map values_of) c.in-Some.is) ∙ c.equipment_in.ensures.value ∙ ap equipment_in c.as_slice.ensures.value in
     let all : c.args.all ≡ true = search rules in
-    written_as g.W.Write.contents c.args.out.now c.write_equipment.new.out c.write_equipment.result (ap (line_with f) is ∙ sym (ap (λ (b : Bool). show_line b f) all)) c.write_equipment.ensures
+    written_as (ap (line_with f) is ∙ sym (ap (λ (b : Bool). show_line b f) all)) c.write_equipment.ensures

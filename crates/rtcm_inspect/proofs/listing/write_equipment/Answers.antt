@@ -7,8 +7,7 @@ unfolding equipment_line
 returns-in-Ok g c =
     let f = framed c.args.frame.now in
     let text = c.as_slice.ensures.value ∙ c.equipment_text.ensures ∙ ap (λ r. equipment_line f (values_of r)) (sym c.in-Ok.is) in
-    written_as g.W.Write.contents c.args.out.now c.write_whole.new.self c.write_whole.result text
-    (c.write_whole.ensures.whole, c.write_whole.ensures.part, c.write_whole.ensures.device)
+    written_as text c.write_whole.ensures.written
 
 pub returns-in-Err : goal.returns-in-Err
 unfolding equipment_line
@@ -20,5 +19,4 @@ returns-in-Err g c =
     let fault = c.add_equipment_fault.ensures.text ∙ ap (λ (t : List ℕ). with_words t words) number in
     let text = c.as_bytes.ensures.text ∙ end_line [] (decimal f.offset) (number_word f.message ∷ words) c.finish.ensures fault
     ∙ ap (λ r. equipment_line f (values_of r)) (sym c.in-Err.is) in
-    written_as g.W.Write.contents c.args.out.now c.write_whole-in-Err.new.self c.write_whole-in-Err.result text
-    (c.write_whole-in-Err.ensures.whole, c.write_whole-in-Err.ensures.part, c.write_whole-in-Err.ensures.device)
+    written_as text c.write_whole-in-Err.ensures.written

@@ -8,7 +8,7 @@ pub loop-stored-init : goal.loop-stored-init
 loop-stored-init c =
     let old = c.args.text.now.inner.items in
     let rows = c.as_slice-rows.result.now in
-    c.in_ok-write_whole.ensures.whole ∙ ap₂ (λ a b. a ++ b) c.in_ok-write_change.ensures (c.as_slice.ensures.value ∙ c.epoch_line.ensures)
+    c.in_ok-write_whole.ensures.written.whole ∙ ap₂ (λ a b. a ++ b) c.in_ok-write_change.ensures (c.as_slice.ensures.value ∙ c.epoch_line.ensures)
     ∙ ap (λ (e : Stamped). (old ++ joined (change_lines e.change)) ++ epoch_line (civil_of e.time) (length rows)) c.epoch.view_is ∙ sym (append-nil _)
 
 -- the line has room for the satellite
@@ -32,7 +32,7 @@ pub loop-stored-preserved : goal.loop-stored-preserved
 loop-stored-preserved c =
     let row = ap (λ (es : List SignalValues). satellite_line (satellite_row c.stored.inside.system c.stored.inside.satellite es)) c.as_slice-values.ensures.value ∙ ap satellite_line c.stored.view_is in
     one_more satellite_line c.as_slice-rows.result.now c.loop-stored.stored-index _ c.loop-stored-test.true c.stored-item.is c.loop-stored.invariant
-    (c.in_ok-write_whole-2.ensures.whole ∙ ap (λ l. c.loop-stored.text.inner.items ++ l) (c.put_values-size.ensures.text ∙ row))
+    (c.in_ok-write_whole-2.ensures.written.whole ∙ ap (λ l. c.loop-stored.text.inner.items ++ l) (c.put_values-size.ensures.text ∙ row))
 
 pub returns : goal.returns
 returns c =

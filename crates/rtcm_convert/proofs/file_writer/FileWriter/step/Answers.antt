@@ -9,12 +9,12 @@ heard_so v new m taken t x = subst (λ (g : GatherSetup). TakesMessage v.gathere
 
 pub returns-in-Err-clause-part : goal.returns-in-Err-clause-part
 returns-in-Err-clause-part g c = λ s ms es again f x.
-    wrote_part (heard_so c.args.self.now c.take_view-taken.new.self (viewed_message c.args.message.now) c.take_view-taken.result c.take_view-taken.ensures x) c.in-Err.ensures.part s ms es again f x
+    wrote_part (heard_so c.args.self.now c.take_view-taken.new.self (viewed_message c.args.message.now) c.take_view-taken.result c.take_view-taken.ensures x) c.in-Err.ensures.written.part s ms es again f x
 
 pub returns-in-Ok : goal.returns-in-Ok
 returns-in-Ok g c =
     let e = c.in-Ok.ensures in
-    let o : Wrote c.args.self.now c.write_closed.new.self c.take_view-taken.new.self _ _ = record { gatherer = e.same.0; texts = e.same.1; set = e.same.2; epochs = e.now.0; values = e.now.1; out = e.whole } in
+    let o : Wrote c.args.self.now c.write_closed.new.self c.take_view-taken.new.self _ _ = record { gatherer = e.same.0; texts = e.same.1; set = e.same.2; epochs = e.now.0; values = e.now.1; out = e.written.whole } in
     record {
       first = λ shut s ms es x. wrote_all o x ((heard_so c.args.self.now c.take_view-taken.new.self (viewed_message c.args.message.now) c.take_view-taken.result c.take_view-taken.ensures x).first s.gatherer ms es x.gatherer shut);
       taken = λ stays s ms es again f x. wrote_all o x ((heard_so c.args.self.now c.take_view-taken.new.self (viewed_message c.args.message.now) c.take_view-taken.result c.take_view-taken.ensures x).taken s.gatherer ms es again x.gatherer f stays);
@@ -22,6 +22,6 @@ returns-in-Ok g c =
       kind = λ stays s ms es again f x. (heard_so c.args.self.now c.take_view-taken.new.self (viewed_message c.args.message.now) c.take_view-taken.result c.take_view-taken.ensures x).kind s.gatherer ms es again x.gatherer f stays;
       same = e.same.3;
       part = tt;
-      device = e.device;
+      device = e.written.device;
       ended = ap (λ (v : GathererValue). v.has_ended) e.same.0 ∙ c.take_view-taken.ensures.going;
     }

@@ -6,7 +6,7 @@ use Rattle.rtcm_inspect.proofs.listing.ListingFrameSinkCounted.take.Goals as goa
 
 pub returns-in-Frames-clause-part : goal.returns-in-Frames-clause-part
 returns-in-Frames-clause-part g c =
-    part_line g.W.Write.contents c.args.self.now c.args.out.now c.write_frame.new.out (framed c.args.frame.now) c.write_frame.result
+    part_line c.args.self.now (framed c.args.frame.now) c.write_frame.result
     (ap (λ (k : Listing). listing_line k (framed c.args.frame.now)) (sym c.in-Frames.is)) c.write_frame.ensures
 
 -- those of messages alone
@@ -21,4 +21,4 @@ returns-after-matches-clause-part g c =
       | in-AllMessages w ↦ rw (w.matches-is, w.in-AllMessages.is) refl
       | in_default w ↦ of_messages c.args.self.now f w.matches-is c.in-Messages.is w.in_default.not-AllMessages
     ] in
-    part_line g.W.Write.contents c.args.self.now c.args.out.now c.write_any.new.out f c.write_any.result line c.write_any.ensures
+    part_line c.args.self.now f c.write_any.result line c.write_any.ensures
