@@ -1,5 +1,6 @@
 pub mod Names
 pub mod ReadingLaws
+pub mod ReaderLaws
 mod Digits
 mod Fields
 mod Rows

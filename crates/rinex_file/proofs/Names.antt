@@ -31,7 +31,7 @@ pub use Rattle.rinex_file.specs.Accepted.{AreBegunWith, AreEpochsRead, AreFirstE
 pub use Rattle.rinex_file.specs.Begun.{AreBegun, IsEpochBegun, IsHeaderBegun, IsEventBegun, part_lines, whole_lines, IsShown, StartsAt}
 unfoldable pub use Rattle.rinex_file.specs.Blanks.{trimmed}
 pub use Rattle.rinex_file.specs.Blanks.{IsEnded, before_cut, filled_to}
-pub use Rattle.rinex_file.specs.Blocks.{LeavesRest, MovesBytes}
+pub use Rattle.rinex_file.specs.Blocks.{LeavesRest, MovesBytes, ReadsPrefix}
 pub use Rattle.rinex_file.specs.Counting.{AreCounts, IsSummary, IsTextWith, History, changes_of, rows_in}
 pub use Rattle.rinex_file.specs.Exact.{IfTextOfFile, AreBefore, ExplainsFault, ExplainsStored, HasHeader, IsAtTypes, IsCutShort, IsExpectedAt, IsFaulty, IsFound, IsLine, IsNoFault, IsReadOr, IsTooLong, NoFileBegins, most_lines}
 unfoldable pub use Rattle.rinex_file.specs.File.{epoch_text, event_line, event_text, line_among, shown_text, lines_up_to}

@@ -1,12 +1,22 @@
 -- Bytes that were read ahead.
 use Rattle.std.specs.Prelude.{◌≡◌, ℕ, zero, suc, ◌<◌, ◌≤◌, Bool, true, false, List, [], ◌∷◌, ◌++◌, length, take, Option}
+use Rattle.std.specs.Prelude.{Err, Result}
 use Rattle.std.specs.Io.KnownBytes.{Consumes}
+use Rattle.devices.specs.Device.{Device, HasFailed}
 use Rattle.rinex_columns.specs.Read.{has}
 use Rattle.rinex_columns.specs.Limits.{most_line}
 
 -- the remaining bytes follow some of the bytes that were there
 abbrev pub LeavesRest : Option (List ℕ) → Option (List ℕ) → Type 0
 LeavesRest old new = (bytes : List ℕ) × Consumes old new bytes
+
+-- a call that reads, and fails with its reader: a prefix of the remaining bytes was read; exactly one failure was
+-- counted if the call returned this fault, and otherwise none
+pub record ReadsPrefix {A E R : Type 0} (fault : E) (result : Result A E) (remaining : R → Option (List ℕ))
+    (r r' : Device R) : Type 0 where
+  pub failed : result ≡ Err fault → HasFailed r.failures r'.failures
+  pub same : (result ≡ Err fault → ⊥) → r'.failures ≡ r.failures
+  pub left : LeavesRest (remaining r.inner) (remaining r'.inner)
 
 -- the bytes that were moved: up to the line feed, or without a line feed
 abbrev pub AreMoved : Bool → List ℕ → Type 0

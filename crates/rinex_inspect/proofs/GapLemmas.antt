@@ -1,14 +1,18 @@
 -- The lines of gaps, with one time more.
-use Rattle.rinex_inspect.proofs.Names.{common_steps, EpochReader, NextEpoch, BeginsEpoch, StopsReading, ReadFault, HasFailed, Consumes-nil, Consumes-trans, IsSummaryRead, AreInside, is_inside, All-head, All-tail, false, true, min, reduce, File, OtherDay, Write, longer_part, printed_after, printed_later, CheckOptions, Completeness, CountsMissing, EndsCheck, IsCompleteness, IsEndOutput, IsOutput, IsSummary, all_gaps_if, gap_with, gaps_if, inr, missing_with, times_in, ⊤, AppendsPrefix, AreTimes, AreTimesOrNone, EpochTimes, FileValue, IfSome, IsCheckedOr, IsFileValue, check_line, complete_if, IfSome_then, IsDelivered, ReadsGaps, append_assoc, file_lines, file_text, length, most_lines, steps_of, times_if, ◌≡◌, ◌∙◌, ◌+◌, ◌<◌, ◌≤◌, ◌∷◌, ◌++◌, [], ap, arith, refl, subst, sym, ℕ, List, Option, Devices, Writer, EndsPrinting, Err, FileSummary, FileFault, IsPrefix, LeavesRest, Ok, PrintsText, Result, Stamped, map, time_stamped, map-append, ◌^◌}
+use Rattle.rinex_inspect.proofs.Names.{Device, ReadsPrefix, ReaderFailures, culprit, common_steps, EpochReader, NextEpoch, BeginsEpoch, ReadFault, IsSummaryRead, AreInside, is_inside, All-head, All-tail, false, true, min, reduce, File, OtherDay, Write, longer_part, printed_after, printed_later, CheckOptions, Completeness, CountsMissing, EndsCheck, IsCompleteness, IsEndOutput, IsOutput, IsSummary, all_gaps_if, gap_with, gaps_if, inr, missing_with, times_in, ⊤, AppendsPrefix, AreTimes, AreTimesOrNone, EpochTimes, FileValue, IfSome, IsCheckedOr, IsFileValue, check_line, complete_if, IfSome_then, IsDelivered, ReadsGaps, append_assoc, file_lines, file_text, length, most_lines, steps_of, times_if, ◌≡◌, ◌∙◌, ◌+◌, ◌<◌, ◌≤◌, ◌∷◌, ◌++◌, [], ap, arith, refl, subst, sym, ℕ, List, Option, Devices, Writer, EndsPrinting, Err, FileSummary, FileFault, IsPrefix, Ok, PrintsText, Result, Stamped, map, time_stamped, map-append, ◌^◌}
+use Rattle.rinex_file.proofs.ReaderLaws.{HasReadOn, fault_read}
 use Rattle.rinex_file.specs.declared.read.fault.ReadFault.TheVariants as reading
 use Rattle.rinex_inspect.proofs.CheckLemmas.{none_written, refused}
 use Rattle.rinex_inspect.proofs.MissingLemmas.{gaps_next, gaps_prefix, missing_next, missing_small, rise_front}
 
-pub leaves_all : (a : Option (List ℕ)) → LeavesRest a a
-leaves_all a = ([], Consumes-nil a)
+-- a fault of reading, as that of the command
+pub file_read : {A B R : Type 0} {e : ReadFault} {remaining : R → Option (List ℕ)} {a b c : Device R} → HasReadOn remaining a b → ReadsPrefix {A = A} reading.Read (Err e) remaining b c
+    → ReadsPrefix {A = B} (File reading.Read) (Err (File e)) remaining a c
+file_read {e = e} before next = fault_read (λ is. ap File is) (λ is. let same : e ≡ reading.Read = cc in same) before next
 
-pub leaves_more : (a b c : Option (List ℕ)) → LeavesRest a b → LeavesRest b c → LeavesRest a c
-leaves_more a b c (xs, first) (ys, next) = (xs ++ ys, Consumes-trans a b c xs ys first next)
+pub reader_failed : {A R : Type 0} {remaining : R → Option (List ℕ)} {a b c : Device R} (fault : FileFault) → HasReadOn remaining a b → ReadsPrefix {A = A} (File reading.Read) (Err fault) remaining b c
+    → ReaderFailures (culprit fault) a.failures c.failures
+reader_failed fault before next = grind (arith, common_steps, before.same, next.failed, next.same)
 
 -- the gaps of the epochs and of one more
 pub printed_more : {A W : Type 0} (w w1 w2 : Writer W) (complete : Option Completeness) (es : List Stamped) (e : Stamped) (before : Option EpochTimes) {time : ℕ} {r ended : Result A FileFault}
@@ -40,11 +44,6 @@ not_inside complete es more e {time} same out all =
 -- the line of the next epoch, or the end
 pub begins_is : (old new : EpochReader) (es : List Stamped) (input left : Option (List ℕ)) {n m : NextEpoch} → n ≡ m → BeginsEpoch old new es input left (Ok n) → BeginsEpoch old new es input left (Ok m)
 begins_is old new es input left same h = subst (λ (n : NextEpoch). BeginsEpoch old new es input left (Ok n)) same h
-
--- a fault of reading after these epochs, the gaps of which were printed
-pub stopped_reading : {A R W : Type 0} (q : Result A ReadFault) (r : EpochReader) (complete : Option Completeness) (d d2 : Devices R W) {e : ReadFault} {n : ℕ} (es : List Stamped) → q ≡ Err e → StopsReading es d.reader.unread d2.reader.unread e
-    → PrintsText (gaps_if complete (times_in es)) d.writer d2.writer → (q ≡ Err reading.Read → HasFailed n d2.reader.device.failures) → ((q ≡ Err reading.Read → ⊥) → d2.reader.device.failures ≡ n) → n ≡ d.reader.device.failures → ReadsGaps r (Err (File e)) complete d d2
-stopped_reading q r complete d d2 {e} {n} es is h printed failed same before = (es, h, printed, grind (arith, common_steps, is, failed, same, before))
 
 -- ---- the end of the command
 

@@ -1,6 +1,6 @@
 -- The names that proofs cite, passed on from one place. Declares nothing.
 pub use Rattle.devices.proofs.PrintingLaws.{Printed, kept_appends, longer_part, printed_after, printed_later}
-pub use Rattle.devices.specs.Device.{AppendsPrefix, HasFailed}
+pub use Rattle.devices.specs.Device.{AppendsPrefix, Device, HasFailed}
 pub use Rattle.devices.specs.Devices.{Devices, ReaderFailures, Writer, WriterFailures, devices_of, writer_of}
 pub use Rattle.devices.specs.Printing.{EndsPrinting, IsDelivered, PrintsPart, PrintsText}
 pub use Rattle.gnss_obs.proofs.PlanLaws.{few_below, length_indices}
@@ -16,7 +16,7 @@ pub use Rattle.gnss_system.specs.declared.system.System.{System}
 pub use Rattle.line_texts.proofs.LineLaws.{add_text, end_line}
 pub use Rattle.line_texts.specs.Lines.{line, with_words}
 pub use Rattle.rinex_file.proofs.ReadingLaws.{AreFine, one_plan, part_fine, plan_known, whole_fine}
-pub use Rattle.rinex_file.specs.Blocks.{LeavesRest}
+pub use Rattle.rinex_file.specs.Blocks.{ReadsPrefix}
 pub use Rattle.rinex_file.specs.Counting.{AreCounts, IsSummary, events_in, rows_in}
 pub use Rattle.rinex_file.specs.Exact.{IsNoFault, most_lines}
 pub use Rattle.rinex_file.specs.File.{file_lines, file_text}
@@ -31,7 +31,6 @@ pub use Rattle.rinex_file.specs.declared.read.file.FileSummary.{FileSummary}
 pub use Rattle.rinex_file.specs.declared.read.times.EpochTimes.{EpochTimes}
 pub use Rattle.rinex_file.specs.inner.Read.EpochSteps.{BeginsEpoch, KeepsPlan, begun_in, HasReadEpochs, HasReadRows, IsSummaryRead, ReadsRow, plan_of, row_of, with_read}
 unfoldable pub use Rattle.rinex_inspect.specs.CheckOutput.{check_line, complete_line}
-pub use Rattle.rinex_file.specs.inner.Read.Steps.{StopsReading}
 pub use Rattle.rinex_inspect.specs.CheckOutput.{IsOutput, all_gaps_if, complete_if, gaps_if, size_of, times_if, times_in}
 pub use Rattle.rinex_inspect.specs.Checking.{EndsCheck, IsCheckedOr}
 unfoldable pub use Rattle.rinex_inspect.specs.DateTexts.{time_line}
@@ -63,7 +62,7 @@ pub use Rattle.rinex_inspect.specs.inner.Tables.{AreBlank, HasAdded, HasAddedRow
 pub use Rattle.rtcm_bits.proofs.SmallLaws.{length-filter-le, passed}
 pub use Rattle.rtcm_bits.specs.Prefix.{IsPrefix}
 pub use Rattle.std.proofs.Common.{Bool, Err, IfSome, List, None, Ok, Option, Result, Some, [], add-one, ap, append-nil, append_assoc, ap₂, arith, codes, cond, decimal, drop, false, get_or, inl, inr, is_some, length, length-set, map, min, refl, set, subst, suc, sym, take, true, zero, ℕ, ◌%◌, ◌&&◌, ◌*◌, ◌++◌, ◌+◌, ◌-◌, ◌/◌, ◌<◌, ◌==◌, ◌^◌, ◌||◌, ◌∙◌, ◌∷◌, ◌≡◌, ◌≤◌}
-pub use Rattle.std.proofs.KnownBytes.{Appends-nil, Consumes-nil, Consumes-trans, Keeps-trans}
+pub use Rattle.std.proofs.KnownBytes.{Appends-nil, Keeps-trans}
 pub use Rattle.std.proofs.Math.Nat.{div-le_self, div-lt_iff_lt-mul, div-mul-le_self, le-div_iff_mul-le, mod-lt, zero-add}
 pub use Rattle.std.proofs.lemmas.Bool.{and_from, and_parts, eq-eqb, eqb-false, eqb-true, lt-ltb, ltb-false, ltb-true, or_parts}
 pub use Rattle.std.proofs.lemmas.Grind.{common_steps, flat_map-append}

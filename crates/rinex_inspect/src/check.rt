@@ -18,7 +18,7 @@ ghost use Rattle.rinex_inspect.specs.DateTexts.{step_line, time_line, times_line
 ghost use Rattle.rinex_inspect.specs.Gaps.{IsCompleteness, gap_between, is_inside};
 ghost use Rattle.rinex_inspect.specs.inner.Missing.{complete_but, end_gap_if, end_missing_if, first_with, gap_with};
 ghost use Rattle.rinex_inspect.specs.inner.Missing.{longest_gap, missing_between, missing_with};
-ghost use Rattle.rinex_inspect.specs.inner.Reading.{CountsMissing, FailsByReader, IsEndOutput, ReadsGaps};
+ghost use Rattle.rinex_inspect.specs.inner.Reading.{CountsMissing, IsEndOutput, ReadsGaps};
 ghost use Rattle.line_texts.specs.Lines.{with_words};
 
 use crate::fault::FileFault;

@@ -3,7 +3,7 @@ ghost use Rattle.std.specs.Prelude.{◌≡◌, ◌≤◌, ◌<◌, ◌*◌, ◌+
 ghost use Rattle.devices.specs.Devices.{Changes, Writes};
 ghost use Rattle.devices.specs.Printing.{EndsPrinting};
 ghost use Rattle.gnss_obs.specs.Weeks.{week, weeks};
-ghost use Rattle.rinex_file.specs.Blocks.{LeavesRest};
+ghost use Rattle.rinex_file.specs.Blocks.{LeavesRest, ReadsPrefix};
 ghost use Rattle.rinex_file.specs.Counting.{AreCounts};
 ghost use Rattle.rinex_file.specs.Value.{FileValue, Stamped};
 ghost use Rattle.rinex_file.specs.inner.Read.EpochSteps.{HasReadEpochs, HasReadRows, plan_of};
@@ -13,7 +13,6 @@ ghost use Rattle.rinex_inspect.specs.inner.QualityLines.{IsPrintable};
 ghost use Rattle.rinex_inspect.specs.inner.Rating.{AreTables, IsStart, RatesEpoch, RatesNext, RatesPeriods, ReadsRows, end_text};
 ghost use Rattle.rinex_inspect.specs.inner.Rating.{period_text, whole_text};
 ghost use Rattle.gnss_obs.specs.Intervals.{IsInterval};
-ghost use Rattle.rinex_inspect.specs.inner.Reading.{FailsByReader};
 ghost use Rattle.rinex_inspect.specs.inner.Tables.{IsTableOf};
 
 use crate::check::add_counts;
@@ -166,8 +165,7 @@ fn rate_next<R: Read, W: Deliver>(
         → HasReadEpochs file.old es input (R.remaining reader.old.inner) → AreTables every.now tables.old es
         → Changes R.remaining reader.old reader.new W.contents W.waiting writer.old writer.new
         (RatesNext every.now file.old file.new tables.old tables.new es input result) }
-    ensures failed { FailsByReader result reader.old.failures reader.new.failures }
-    ensures left { LeavesRest (R.remaining reader.old.inner) (R.remaining reader.new.inner) }
+    ensures reads { ReadsPrefix (FileFault.File ReadFault.Read) result R.remaining reader.old reader.new }
 {
     match file.begin(reader) {
         Ok(NextEpoch::Epoch { before, time }) => {
@@ -199,8 +197,7 @@ fn take_epoch<R: Read, W: Deliver>(
         → HasReadRows file.old es e input (R.remaining reader.old.inner) → AreTables every.now tables.old es
         → Changes R.remaining reader.old reader.new W.contents W.waiting writer.old writer.new
         (RatesEpoch every.now file.old file.new tables.new es time input result) }
-    ensures failed { FailsByReader result reader.old.failures reader.new.failures }
-    ensures left { LeavesRest (R.remaining reader.old.inner) (R.remaining reader.new.inner) }
+    ensures reads { ReadsPrefix (FileFault.File ReadFault.Read) result R.remaining reader.old reader.new }
 {
     let period = period_of(every, time);
     if period == tables.period {
@@ -227,8 +224,7 @@ fn read_rows<R: Read>(
     ensures rows { (es : List Stamped) → (e : Stamped) → (input : Option (List ℕ)) → IsStart time e
         → HasReadRows file.old es e input (R.remaining reader.old.inner)
         → ReadsRows file.old file.new table.old table.new es time input (R.remaining reader.new.inner) result }
-    ensures failed { FailsByReader result reader.old.failures reader.new.failures }
-    ensures left { LeavesRest (R.remaining reader.old.inner) (R.remaining reader.new.inner) }
+    ensures reads { ReadsPrefix (FileFault.File ReadFault.Read) result R.remaining reader.old reader.new }
 {
     table.begin(time);
     loop {

@@ -1,7 +1,7 @@
 -- Bytes that were read ahead and the lines among them; a file that is read line by line.
 use Rattle.rinex_file.specs.declared.read.fault.ReadFault.TheVariants.{Memory}
 use Rattle.rinex_file.proofs.Writing.Sent.{joined-append}
-use Rattle.rinex_file.proofs.Names.{has-append, lacks-append, common_steps, arith, ◌≡◌, ◌∙◌, sym, ap, subst, refl, ℕ, zero, suc, ◌+◌, ◌-◌, ◌<◌, ◌≤◌, true, false, List, [], ◌∷◌, ◌++◌, length, take, drop, get_or, length-append, take-add, append_assoc, append-nil, Option, IfSome, inl, ◌||◌, ◌==◌, nat_eq, nat_lt, min, All, Bool, Consumes, IsAtEnd, prepend_known, min-eq_left, min-eq_right, min-le_left, min-le_right, le-min, false_from_ne_true, or_parts, or_right, append_cancel_left, length-take-le, take-append-drop, length_push, drop-take, drop-drop, take-take, Consumes-nil, Consumes-trans, All-head, All-tail, All-push, IsHeaderBegun, IsAtTypes, is_of_types, ExplainsStored, StopsStoring, StopsReading, inr, Stamped, HasHeader, has, LeavesRest, MovesBytes, IsLine, NoFileBegins, IsCutShort, IsTooLong, IsFaulty, ExplainsFault, IsNoFault, most_lines, FileValue, IsFileValue, file_text, file_lines, GoesOnWithLine, ShowsLine, RefusesLine, IsTextOfOnly, IsTaken, joined, ReadFault, Read, CutShort, TooLong, AreBegun, Progress, HasLinesLeft, AreLinesOf, HasReadLines, most_line}
+use Rattle.rinex_file.proofs.Names.{has-append, lacks-append, common_steps, arith, ◌≡◌, ◌∙◌, sym, ap, subst, refl, ℕ, zero, suc, ◌+◌, ◌-◌, ◌<◌, ◌≤◌, true, false, List, [], ◌∷◌, ◌++◌, length, take, drop, get_or, length-append, take-add, append_assoc, append-nil, Option, IfSome, inl, ◌||◌, ◌==◌, nat_eq, nat_lt, min, All, Bool, Consumes, IsAtEnd, prepend_known, min-eq_left, min-eq_right, min-le_left, min-le_right, le-min, false_from_ne_true, or_parts, or_right, append_cancel_left, length-take-le, take-append-drop, length_push, drop-take, drop-drop, take-take, Consumes-nil, Consumes-trans, All-head, All-tail, All-push, IsHeaderBegun, IsAtTypes, is_of_types, ExplainsStored, StopsStoring, StopsReading, inr, Stamped, HasHeader, has, MovesBytes, IsLine, NoFileBegins, IsCutShort, IsTooLong, IsFaulty, ExplainsFault, IsNoFault, most_lines, FileValue, IsFileValue, file_text, file_lines, GoesOnWithLine, ShowsLine, RefusesLine, IsTextOfOnly, IsTaken, joined, ReadFault, Read, CutShort, TooLong, AreBegun, Progress, HasLinesLeft, AreLinesOf, HasReadLines, most_line}
 
 -- ---- bytes that are moved to a line
 
@@ -44,12 +44,6 @@ line_whole old new line line' endless m =
 
 pub still_endless : (old new line line' : List ℕ) → has 10 line ≡ false → MovesBytes false old new line line' → has 10 line' ≡ false
 still_endless old new line line' endless m = ap (has 10) m.to ∙ lacks-append 10 line m.bytes endless m.are
-
-pub leaves_more : (a b c : Option (List ℕ)) → LeavesRest a b → LeavesRest b c → LeavesRest a c
-leaves_more a b c (xs, first) (ys, next) = (xs ++ ys, Consumes-trans a b c xs ys first next)
-
-pub leaves_all : (a : Option (List ℕ)) → LeavesRest a a
-leaves_all a = ([], Consumes-nil a)
 
 -- nothing was read ahead
 pub none_ahead : (r : Option (List ℕ)) (block : List ℕ) → block ≡ [] → prepend_known block r ≡ r

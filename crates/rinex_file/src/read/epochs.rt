@@ -1,9 +1,8 @@
 //! Reading a file line by line, and epoch by epoch.
-ghost use Rattle.std.specs.Prelude.{◌≡◌, ◌==◌, ◌+◌, [], List, Option, ℕ, Err, IsTrue, ◌↔◌};
-ghost use Rattle.devices.specs.Device.{HasFailed};
+ghost use Rattle.std.specs.Prelude.{◌≡◌, ◌==◌, ◌+◌, [], List, Option, ℕ, IsTrue, ◌↔◌};
 ghost use Rattle.rinex_file.specs.Accepted.{IsFaultAfter};
 ghost use Rattle.rinex_file.specs.Exact.{ExplainsFault, IsFaulty, IsExpectedAt};
-ghost use Rattle.rinex_file.specs.Blocks.{LeavesRest};
+ghost use Rattle.rinex_file.specs.Blocks.{ReadsPrefix};
 ghost use Rattle.rinex_file.specs.inner.ParserState.{ExpectsRow};
 ghost use Rattle.rinex_file.specs.Counting.{History};
 ghost use Rattle.rinex_file.specs.Value.{Stamped};
@@ -90,9 +89,7 @@ impl EpochReader {
         requires { (h : History) × (input : Option (List ℕ)) × HasRead self.old h input (R.remaining reader.old.inner) }
         ensures goes { GoesOnReading self.old (R.remaining reader.old.inner) self.new (R.remaining reader.new.inner)
             result }
-        ensures left { LeavesRest (R.remaining reader.old.inner) (R.remaining reader.new.inner) }
-        ensures failed { result ≡ Err ReadFault.Read → HasFailed reader.old.failures reader.new.failures }
-        ensures same { (result ≡ Err ReadFault.Read → ⊥) → reader.new.failures ≡ reader.old.failures }
+        ensures reads { ReadsPrefix ReadFault.Read result R.remaining reader.old reader.new }
     {
         let number = self.count + 1;
         let fault = fault_at(self.parser_state.expected, number);
@@ -127,9 +124,7 @@ impl EpochReader {
         ensures epochs { (es : List Stamped) → (input : Option (List ℕ))
             → HasReadEpochs self.old es input (R.remaining reader.old.inner)
             → BeginsEpoch self.old self.new es input (R.remaining reader.new.inner) result }
-        ensures failed { result ≡ Err ReadFault.Read → HasFailed reader.old.failures reader.new.failures }
-        ensures same { (result ≡ Err ReadFault.Read → ⊥) → reader.new.failures ≡ reader.old.failures }
-        ensures left { LeavesRest (R.remaining reader.old.inner) (R.remaining reader.new.inner) }
+        ensures reads { ReadsPrefix ReadFault.Read result R.remaining reader.old reader.new }
     {
         let before = self.parser_state.times;
         while self.next_line(reader)? {
@@ -157,9 +152,7 @@ impl EpochReader {
         ensures rows { (es : List Stamped) → (e : Stamped) → (input : Option (List ℕ))
             → HasReadRows self.old es e input (R.remaining reader.old.inner)
             → ReadsRow self.old self.new es e input (R.remaining reader.new.inner) result }
-        ensures failed { result ≡ Err ReadFault.Read → HasFailed reader.old.failures reader.new.failures }
-        ensures same { (result ≡ Err ReadFault.Read → ⊥) → reader.new.failures ≡ reader.old.failures }
-        ensures left { LeavesRest (R.remaining reader.old.inner) (R.remaining reader.new.inner) }
+        ensures reads { ReadsPrefix ReadFault.Read result R.remaining reader.old reader.new }
     {
         if !self.expects_row() {
             return Ok(false);
@@ -178,9 +171,7 @@ impl EpochReader {
         ensures rows { (es : List Stamped) → (e : Stamped) → (input : Option (List ℕ))
             → HasReadRows self.old es e input (R.remaining reader.old.inner)
             → FinishesEpoch self.old self.new es e input (R.remaining reader.new.inner) result }
-        ensures failed { result ≡ Err ReadFault.Read → HasFailed reader.old.failures reader.new.failures }
-        ensures same { (result ≡ Err ReadFault.Read → ⊥) → reader.new.failures ≡ reader.old.failures }
-        ensures left { LeavesRest (R.remaining reader.old.inner) (R.remaining reader.new.inner) }
+        ensures reads { ReadsPrefix ReadFault.Read result R.remaining reader.old reader.new }
     {
         while self.next_row(reader)? {}
         Ok(())

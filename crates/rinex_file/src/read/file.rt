@@ -1,7 +1,6 @@
 //! Reading a file whole, and storing its epochs while it is read.
-ghost use Rattle.std.specs.Prelude.{◌≡◌, ◌++◌, ◌∷◌, [], Err, IfErr, IfOk, IfSome, List, OnOk, Option, ℕ};
-ghost use Rattle.devices.specs.Device.{HasFailed};
-ghost use Rattle.rinex_file.specs.Blocks.{LeavesRest};
+ghost use Rattle.std.specs.Prelude.{◌≡◌, ◌++◌, ◌∷◌, [], IfErr, IfOk, IfSome, List, OnOk, Option, ℕ};
+ghost use Rattle.rinex_file.specs.Blocks.{ReadsPrefix};
 ghost use Rattle.rinex_file.specs.Counting.{AreCounts, HoldsOr, IsTextWith};
 ghost use Rattle.rinex_file.specs.Exact.{ExplainsFault, ExplainsStored, IfTextOfFile, IsReadOr, IsTextOf};
 ghost use Rattle.rinex_file.specs.FileValues.{IsFileValue};
@@ -63,9 +62,7 @@ fn read_rows<R: Read>(
     ensures rows { (es : List Stamped) → (input : Option (List ℕ))
         → HasReadRows file.old es (begun_in file.old) input (R.remaining reader.old.inner)
         → StoresRows file.old file.new es input (R.remaining reader.new.inner) result }
-    ensures failed { result ≡ Err ReadFault.Read → HasFailed reader.old.failures reader.new.failures }
-    ensures same { (result ≡ Err ReadFault.Read → ⊥) → reader.new.failures ≡ reader.old.failures }
-    ensures left { LeavesRest (R.remaining reader.old.inner) (R.remaining reader.new.inner) }
+    ensures reads { ReadsPrefix ReadFault.Read result R.remaining reader.old reader.new }
 {
     let mut rows = Vec::new(alloc);
     while file.next_row(reader)? {
@@ -86,9 +83,7 @@ fn read_epochs<R: Read>(
     requires start { (input : Option (List ℕ)) → HasReadEpochs file.old [] input input }
     requires none { epochs.old.items ≡ [] }
     ensures epochs { StoresEpochs file.new epochs.new.items (R.remaining reader.old.inner) result }
-    ensures failed { result ≡ Err ReadFault.Read → HasFailed reader.old.failures reader.new.failures }
-    ensures same { (result ≡ Err ReadFault.Read → ⊥) → reader.new.failures ≡ reader.old.failures }
-    ensures left { LeavesRest (R.remaining reader.old.inner) (R.remaining reader.new.inner) }
+    ensures reads { ReadsPrefix ReadFault.Read result R.remaining reader.old reader.new }
 {
     loop {
         match file.begin(reader)? {
@@ -152,11 +147,8 @@ pub fn check_file<R: Read>(alloc: Global, reader: &mut Counted<R>) -> Result<Cou
     ensures fault { IfErr result (λ e. IfSome (R.remaining reader.old.inner) (λ input. ExplainsFault input e)) }
     // The text of each file value is accepted.
     ensures only { IfTextOfFile (R.remaining reader.old.inner) (λ v. HoldsOr (λ n. AreCounts n v) result) }
-    // It fails with its reader: nothing is read again after a failed read.
-    ensures failed { result ≡ Err ReadFault.Read → HasFailed reader.old.failures reader.new.failures }
-    ensures same { (result ≡ Err ReadFault.Read → ⊥) → reader.new.failures ≡ reader.old.failures }
-    // A prefix of the input was read.
-    ensures left { LeavesRest (R.remaining reader.old.inner) (R.remaining reader.new.inner) }
+    // A prefix of the input was read. It fails with its reader: nothing is read again after a failed read.
+    ensures reads { ReadsPrefix ReadFault.Read result R.remaining reader.old reader.new }
 {
     let mut file = EpochReader::new(alloc);
     while file.next_line(reader)? {}
@@ -179,11 +171,8 @@ pub fn read_file<R: Read>(alloc: Global, reader: &mut Counted<R>) -> Result<ObsF
     ensures fault { IfErr result (λ e. IfSome (R.remaining reader.old.inner) (λ input. ExplainsStored input e)) }
     // The text of each file value is read.
     ensures only { IfTextOfFile (R.remaining reader.old.inner) (λ v. IsReadOr v result) }
-    // It fails with its reader: nothing is read again after a failed read.
-    ensures failed { result ≡ Err ReadFault.Read → HasFailed reader.old.failures reader.new.failures }
-    ensures same { (result ≡ Err ReadFault.Read → ⊥) → reader.new.failures ≡ reader.old.failures }
-    // A prefix of the input was read.
-    ensures left { LeavesRest (R.remaining reader.old.inner) (R.remaining reader.new.inner) }
+    // A prefix of the input was read. It fails with its reader: nothing is read again after a failed read.
+    ensures reads { ReadsPrefix ReadFault.Read result R.remaining reader.old reader.new }
 {
     let mut file = EpochReader::new(alloc);
     let mut epochs = Vec::new(alloc);

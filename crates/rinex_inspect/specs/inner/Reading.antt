@@ -25,11 +25,6 @@ use Rattle.rinex_inspect.specs.inner.Missing.{Rise, missing_if}
 abbrev pub CountsMissing : Option Completeness → List ℕ → ℕ → Type 0
 CountsMissing complete ts n = Rise 0 ts → n ≡ missing_if complete ts
 
--- the reader failed at its fault, and no more than that
-abbrev pub FailsByReader : {A : Type 0} → Result A FileFault → (before after : ℕ) → Type 0
-FailsByReader (Ok x) before after = after ≡ before
-FailsByReader (Err fault) before after = ReaderFailures (culprit fault) before after
-
 -- The gaps of all epochs were written; or of those before a fault; or the writer failed in those of the first epochs.
 abbrev pub ReadsGaps : {R W : Type 0} → EpochReader → Result (FileSummary × ℕ) FileFault → Option Completeness
     → (d d' : Devices R W) → Type 0

@@ -1,4 +1,5 @@
-use Rattle.rinex_inspect.proofs.Names.{◌≡◌, ◌+◌, ◌-◌, List, gaps_if, times_in, AreInside, CountsMissing, PrintsText, Stamped, LeavesRest, HasReadEpochs, most_lines, writer_of}
+use Rattle.rinex_file.proofs.ReaderLaws.{HasReadOn}
+use Rattle.rinex_inspect.proofs.Names.{◌+◌, ◌-◌, List, gaps_if, times_in, AreInside, CountsMissing, PrintsText, Stamped, HasReadEpochs, most_lines, writer_of}
 use Rattle.rinex_inspect.proofs.check.print_gaps.Given as goal
 
 -- the gaps of the epochs that were read were written
@@ -10,8 +11,7 @@ invariant-loop-before g l =
       read : (es : List Stamped) × HasReadEpochs l.file es (remaining l.fn.reader.inner) (remaining l.reader.inner)
           × PrintsText (gaps_if l.complete (times_in es)) (at l.fn.writer) (at l.writer)
           × CountsMissing l.complete (times_in es) l.missing × AreInside l.complete (times_in es);
-      left : LeavesRest (remaining l.fn.reader.inner) (remaining l.reader.inner);
-      same : l.reader.failures ≡ l.fn.reader.failures;
+      reads : HasReadOn remaining l.fn.reader l.reader;
     }
 
 abbrev pub decreases-loop-before : goal.decreases-loop-before

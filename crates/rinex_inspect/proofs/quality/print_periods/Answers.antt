@@ -1,10 +1,11 @@
-use Rattle.rinex_inspect.proofs.Names.{◌∙◌, ◌++◌, ◌∷◌, [], ℕ, arith, refl, subst, sym, Ok, ⊤, Appends-nil, ReaderFailures, devices_of, writer_of, plan_of, Appends, culprit, passed, RatesPeriods}
-use Rattle.rinex_inspect.proofs.GapLemmas.{leaves_all, leaves_more}
+use Rattle.rinex_inspect.proofs.Names.{◌++◌, ◌∷◌, [], arith, refl, subst, sym, Ok, ⊤, Appends-nil, devices_of, writer_of, plan_of, Appends, passed, RatesPeriods}
+use Rattle.rinex_file.proofs.ReaderLaws.{leaves_more, more_read, none_read}
+use Rattle.rinex_inspect.proofs.GapLemmas.{reader_failed}
 use Rattle.rinex_inspect.proofs.RatingLemmas.{all_rated, next_is, none_before, printed_with, stopped_periods}
 use Rattle.rinex_inspect.proofs.quality.print_periods.Goals as goal
 
 pub loop-counts-init : goal.loop-counts-init
-loop-counts-init g c = record { read = ([], c.requires.start _, c.requires.tables, (refl, c.requires.sent, subst (Appends _ _) (sym (none_before c.args.every.now (plan_of c.args.file.now) c.requires.every)) (Appends-nil _))); left = leaves_all _; same = refl }
+loop-counts-init g c = record { read = ([], c.requires.start _, c.requires.tables, (refl, c.requires.sent, subst (Appends _ _) (sym (none_before c.args.every.now (plan_of c.args.file.now) c.requires.every)) (Appends-nil _))); reads = none_read _ _ }
 
 pub rate_next-requires-clause-sent : goal.rate_next-requires-clause-sent
 rate_next-requires-clause-sent g c = c.loop-counts.invariant.read.3.1
@@ -33,8 +34,7 @@ loop-counts-preserved g c =
     let (whole, next, less, keeps, tables2, (text, after, more)) = next_is c.args.every.now c.loop-counts.file c.rate_next.new.file c.loop-counts.tables c.rate_next.new.tables es input (at c.loop-counts.reader c.loop-counts.writer) (at c.rate_next.new.reader c.rate_next.new.writer) c.in_default.is (c.in_ok-counts.ensures.rates es input read tables) in
     record {
       read = (es ++ whole ∷ [], next, tables2, printed_with {A = ⊤} c.args.every.now (plan_of c.loop-counts.file) (plan_of c.rate_next.new.file) es whole text (Ok tt) (w c.args.writer.now) (w c.loop-counts.writer) (w c.rate_next.new.writer) c.requires.every keeps after printed more);
-      left = leaves_more _ _ _ inv.left c.in_ok-counts.ensures.left;
-      same = c.in_ok-counts.ensures.failed ∙ inv.same;
+      reads = more_read inv.reads c.in_ok-counts.ensures.reads;
     }
 
 pub returns-in-Some-clause-rates : goal.returns-in-Some-clause-rates
@@ -45,10 +45,10 @@ returns-in-Some-clause-rates g c =
     let input = g.R.Read.remaining c.args.reader.now.inner in
     all_rated c.args.every.now c.loop-counts.file c.rate_next.new.file c.loop-counts.tables c.rate_next.new.tables es c.in-Some.counts (at c.args.reader.now c.args.writer.now) (at c.loop-counts.reader c.loop-counts.writer) (at c.rate_next.new.reader c.rate_next.new.writer) c.requires.every read tables printed
     (next_is c.args.every.now c.loop-counts.file c.rate_next.new.file c.loop-counts.tables c.rate_next.new.tables es input (at c.loop-counts.reader c.loop-counts.writer) (at c.rate_next.new.reader c.rate_next.new.writer) c.in-Some.is (c.in_ok-counts.ensures.rates es input read tables))
-    (c.in_ok-counts.ensures.failed ∙ inv.same)
+    (more_read inv.reads c.in_ok-counts.ensures.reads).same
 
 pub returns-in-Some-clause-left : goal.returns-in-Some-clause-left
-returns-in-Some-clause-left g c = leaves_more _ _ _ c.loop-counts.invariant.left c.in_ok-counts.ensures.left
+returns-in-Some-clause-left g c = (more_read c.loop-counts.invariant.reads c.in_ok-counts.ensures.reads).left
 
 pub returns-in_err-counts-clause-rates : goal.returns-in_err-counts-clause-rates
 returns-in_err-counts-clause-rates g c =
@@ -61,7 +61,7 @@ returns-in_err-counts-clause-rates g c =
     passed c.from_residual.result _ (λ r. RatesPeriods c.args.every.now c.rate_next.new.file c.rate_next.new.tables r d d2) c.from_residual.ensures.1
     (stopped_periods c.args.every.now c.loop-counts.file c.rate_next.new.file c.loop-counts.tables c.rate_next.new.tables es d (at c.loop-counts.reader c.loop-counts.writer) d2 c.in_err-counts.field-0.0 c.requires.every read printed
     (c.in_err-counts.ensures.rates es input read tables)
-    (subst (λ (n : ℕ). ReaderFailures (culprit c.in_err-counts.field-0.0) n c.rate_next.new.reader.failures) inv.same c.in_err-counts.ensures.failed))
+    (reader_failed c.in_err-counts.field-0.0 inv.reads c.in_err-counts.ensures.reads))
 
 pub returns-in_err-counts-clause-left : goal.returns-in_err-counts-clause-left
-returns-in_err-counts-clause-left g c = leaves_more _ _ _ c.loop-counts.invariant.left c.in_err-counts.ensures.left
+returns-in_err-counts-clause-left g c = leaves_more _ _ _ c.loop-counts.invariant.reads.left c.in_err-counts.ensures.reads.left

@@ -1,4 +1,5 @@
-use Rattle.rinex_inspect.proofs.Names.{◌≡◌, ◌-◌, ◌+◌, List, writer_of, PrintsText, LeavesRest, most_lines, Stamped, HasReadEpochs, plan_of, lines_before, AreTables}
+use Rattle.rinex_file.proofs.ReaderLaws.{HasReadOn}
+use Rattle.rinex_inspect.proofs.Names.{◌-◌, ◌+◌, List, writer_of, PrintsText, most_lines, Stamped, HasReadEpochs, plan_of, lines_before, AreTables}
 use Rattle.rinex_inspect.proofs.quality.print_periods.Given as goal
 
 -- the lines of the periods before that of the last epoch were written
@@ -9,8 +10,7 @@ invariant-loop-counts g l =
     record {
       read : (es : List Stamped) × HasReadEpochs l.file es (remaining l.fn.reader.inner) (remaining l.reader.inner) × AreTables l.every l.tables es
           × PrintsText (lines_before (plan_of l.file) l.every es) (at l.fn.writer) (at l.writer);
-      left : LeavesRest (remaining l.fn.reader.inner) (remaining l.reader.inner);
-      same : l.reader.failures ≡ l.fn.reader.failures;
+      reads : HasReadOn remaining l.fn.reader l.reader;
     }
 
 abbrev pub decreases-loop-counts : goal.decreases-loop-counts

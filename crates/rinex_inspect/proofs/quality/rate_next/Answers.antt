@@ -1,5 +1,6 @@
 use Rattle.rinex_inspect.proofs.Names.{RatesNext, begun_in, passed, refl, devices_of}
-use Rattle.rinex_inspect.proofs.GapLemmas.{begins_is, leaves_more}
+use Rattle.rinex_file.proofs.ReaderLaws.{failed_read, fine_read, more_read, none_read}
+use Rattle.rinex_inspect.proofs.GapLemmas.{begins_is}
 use Rattle.rinex_inspect.proofs.RatingLemmas.{next_ended, next_rated, next_stopped}
 use Rattle.rinex_inspect.proofs.quality.rate_next.Goals as goal
 
@@ -16,8 +17,8 @@ returns-in_ok-take_epoch-in-Ok-Epoch-clause-rates g c = λ es input read tables.
     next_rated c.args.every.now c.args.file.now c.begin.new.self c.take_epoch.new.file c.args.tables.now c.take_epoch.new.tables es c.in-Ok-Epoch.time input (at c.begin.new.reader c.args.writer.now) (at c.args.reader.now c.args.writer.now) (at c.take_epoch.new.reader c.take_epoch.new.writer) less keeps refl
     (c.in_ok-take_epoch-in-Ok-Epoch.ensures.rates es _ input (start, refl) part tables)
 
-pub returns-in_ok-take_epoch-in-Ok-Epoch-clause-left : goal.returns-in_ok-take_epoch-in-Ok-Epoch-clause-left
-returns-in_ok-take_epoch-in-Ok-Epoch-clause-left g c = leaves_more _ _ _ c.in-Ok-Epoch.ensures.left c.in_ok-take_epoch-in-Ok-Epoch.ensures.left
+pub returns-in_ok-take_epoch-in-Ok-Epoch-clause-reads : goal.returns-in_ok-take_epoch-in-Ok-Epoch-clause-reads
+returns-in_ok-take_epoch-in-Ok-Epoch-clause-reads g c = fine_read _ (λ e. cc) (more_read (more_read (none_read _ _) c.in-Ok-Epoch.ensures.reads) c.in_ok-take_epoch-in-Ok-Epoch.ensures.reads)
 
 pub returns-in_err-take_epoch-in-Ok-Epoch-clause-rates : goal.returns-in_err-take_epoch-in-Ok-Epoch-clause-rates
 returns-in_err-take_epoch-in-Ok-Epoch-clause-rates g c = λ es input read tables.
@@ -29,8 +30,8 @@ returns-in_err-take_epoch-in-Ok-Epoch-clause-rates g c = λ es input read tables
     (next_stopped c.args.every.now c.args.file.now c.begin.new.self c.take_epoch.new.file c.args.tables.now c.take_epoch.new.tables es c.in-Ok-Epoch.time input (at c.begin.new.reader c.args.writer.now) d d2 _ keeps refl
     (c.in_err-take_epoch-in-Ok-Epoch.ensures.rates es _ input (start, refl) part tables))
 
-pub returns-in_err-take_epoch-in-Ok-Epoch-clause-left : goal.returns-in_err-take_epoch-in-Ok-Epoch-clause-left
-returns-in_err-take_epoch-in-Ok-Epoch-clause-left g c = leaves_more _ _ _ c.in-Ok-Epoch.ensures.left c.in_err-take_epoch-in-Ok-Epoch.ensures.left
+pub returns-in_err-take_epoch-in-Ok-Epoch-clause-reads : goal.returns-in_err-take_epoch-in-Ok-Epoch-clause-reads
+returns-in_err-take_epoch-in-Ok-Epoch-clause-reads g c = failed_read c.from_residual.result c.from_residual.ensures.1 (more_read (none_read _ _) c.in-Ok-Epoch.ensures.reads) c.in_err-take_epoch-in-Ok-Epoch.ensures.reads
 
 pub returns-in-Ok-End-clause-rates : goal.returns-in-Ok-End-clause-rates
 returns-in-Ok-End-clause-rates g c = λ es input read tables.

@@ -1,5 +1,6 @@
 use Rattle.rinex_inspect.proofs.Names.{◌∙◌, ◌++◌, ◌∷◌, [], ap, arith, refl, sym, subst, Ok, SatelliteRow, row_of, with_read, Table, HasAddedRow, IsTableOf}
-use Rattle.rinex_inspect.proofs.GapLemmas.{leaves_all, leaves_more}
+use Rattle.rinex_file.proofs.ReaderLaws.{fine_read, more_read, none_read}
+use Rattle.rinex_inspect.proofs.GapLemmas.{file_read}
 use Rattle.rinex_inspect.proofs.RatingLemmas.{few_epochs, row_is, row_step}
 use Rattle.rinex_inspect.proofs.TableSteps.{table_begun}
 use Rattle.rinex_inspect.proofs.quality.read_rows.Goals as goal
@@ -17,8 +18,7 @@ loop-table-init g c = record {
         (table_begun c.args.table.now xs e (few_epochs c.args.file.now es e input _ xs rows few) start.1 start.0 is),
   );
   some = c.requires;
-  left = leaves_all _;
-  same = refl;
+  reads = none_read _ _;
 }
 
 pub loop-table-preserved : goal.loop-table-preserved
@@ -32,12 +32,11 @@ loop-table-preserved g c =
           let add : HasAddedRow row c.loop-table.table c.add.new.self = subst (λ (r : SatelliteRow). HasAddedRow r c.loop-table.table c.add.new.self) c.row.ensures c.add.ensures in
           (with_read more row, time, next, omega (arith, least, counted), same ∙ plan, λ xs few is. row_step c.next_row.new.self es more input (g.R.Read.remaining c.next_row.new.reader.inner) row xs c.loop-table.table c.add.new.self next fits few add (added xs few is));
       some = inv.some;
-      left = leaves_more _ _ _ inv.left c.in-Ok-true.ensures.left;
-      same = c.in-Ok-true.ensures.same (λ e. cc) ∙ inv.same;
+      reads = more_read inv.reads c.in-Ok-true.ensures.reads;
     }
 
-pub returns-in-Ok-false-clause-left : goal.returns-in-Ok-false-clause-left
-returns-in-Ok-false-clause-left g c = leaves_more _ _ _ c.loop-table.invariant.left c.in-Ok-false.ensures.left
+pub returns-in-Ok-false-clause-reads : goal.returns-in-Ok-false-clause-reads
+returns-in-Ok-false-clause-reads g c = fine_read _ (λ e. cc) (more_read c.loop-table.invariant.reads c.in-Ok-false.ensures.reads)
 
-pub returns-in-Err-clause-left : goal.returns-in-Err-clause-left
-returns-in-Err-clause-left g c = leaves_more _ _ _ c.loop-table.invariant.left c.in-Err.ensures.left
+pub returns-in-Err-clause-reads : goal.returns-in-Err-clause-reads
+returns-in-Err-clause-reads g c = file_read c.loop-table.invariant.reads c.in-Err.ensures.reads

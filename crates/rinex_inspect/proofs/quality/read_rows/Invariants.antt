@@ -1,4 +1,5 @@
-use Rattle.rinex_inspect.proofs.Names.{◌≡◌, ◌-◌, ◌+◌, ◌≤◌, ◌++◌, ◌∷◌, [], List, ℕ, Option, length, LeavesRest, most_lines, Stamped, HasReadRows, IsStart, plan_of, IsTableOf}
+use Rattle.rinex_file.proofs.ReaderLaws.{HasReadOn}
+use Rattle.rinex_inspect.proofs.Names.{◌≡◌, ◌-◌, ◌+◌, ◌≤◌, ◌++◌, ◌∷◌, [], List, ℕ, Option, length, most_lines, Stamped, HasReadRows, IsStart, plan_of, IsTableOf}
 use Rattle.rinex_inspect.proofs.quality.read_rows.Given as goal
 
 -- the lines that were read of the epoch were added to the table
@@ -12,8 +13,7 @@ invariant-loop-table g l =
           × ((xs : List Stamped) → length xs ≤ length es → IsTableOf l.fn.table xs → IsTableOf l.table (xs ++ more ∷ []));
       some : (es : List Stamped) × (e : Stamped) × (input : Option (List ℕ)) × (xs : List Stamped) × IsStart l.fn.time e × HasReadRows l.fn.file es e input (remaining l.fn.reader.inner)
           × IsTableOf l.fn.table xs × (length xs ≤ length es);
-      left : LeavesRest (remaining l.fn.reader.inner) (remaining l.reader.inner);
-      same : l.reader.failures ≡ l.fn.reader.failures;
+      reads : HasReadOn remaining l.fn.reader l.reader;
     }
 
 abbrev pub decreases-loop-table : goal.decreases-loop-table

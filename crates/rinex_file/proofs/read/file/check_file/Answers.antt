@@ -1,11 +1,12 @@
+use Rattle.rinex_file.proofs.ReaderLaws.{failed_read, fine_read, more_read, none_read}
 use Rattle.rinex_file.proofs.Reading.Accepted.{line_is}
-use Rattle.rinex_file.proofs.Reading.Lines.{leaves_all, leaves_more, said_of}
+use Rattle.rinex_file.proofs.Reading.Lines.{said_of}
 use Rattle.rinex_file.proofs.Reading.Summary.{counted, only_with, text_with}
-use Rattle.rinex_file.proofs.Names.{◌∙◌, AreCounts, Err, Ok, ap, arith, err_from_is_err_and, refl}
+use Rattle.rinex_file.proofs.Names.{AreCounts, Ok, ap, arith, err_from_is_err_and}
 use Rattle.rinex_file.proofs.read.file.check_file.Goals as goal
 
 pub loop-file-init : goal.loop-file-init
-loop-file-init g c = record { read = (_, (c.new-file.ensures _).0); left = leaves_all _; same = refl }
+loop-file-init g c = record { read = (_, (c.new-file.ensures _).0); reads = none_read _ _ }
 
 pub loop-file-smaller : goal.loop-file-smaller
 loop-file-smaller g c =
@@ -20,8 +21,7 @@ loop-file-preserved g c =
     let (after, more, one, adds) = line_is c.loop-file.file c.next_line.new.self h _ (g.R.Read.remaining c.next_line.new.reader.inner) (ap Ok c.if-branch.true) (c.in_ok-next_line.ensures.goes h _ read) in
     record {
       read = (after, more);
-      left = leaves_more _ _ _ inv.left c.in_ok-next_line.ensures.left;
-      same = c.in_ok-next_line.ensures.same (λ e. cc) ∙ inv.same;
+      reads = more_read inv.reads c.in_ok-next_line.ensures.reads;
     }
 
 pub returns-clause-found : goal.returns-clause-found
@@ -36,8 +36,8 @@ returns-clause-only g c = λ v is few.
     let (whole, expected, same) = line_is c.loop-file.file c.next_line.new.self h _ (g.R.Read.remaining c.next_line.new.reader.inner) (ap Ok c.if-branch.false) (c.in_ok-next_line.ensures.goes h _ read) in
     only_with whole (AreCounts _) (counted whole) v is
 
-pub returns-clause-left : goal.returns-clause-left
-returns-clause-left g c = leaves_more _ _ _ c.loop-file.invariant.left c.in_ok-next_line.ensures.left
+pub returns-clause-reads : goal.returns-clause-reads
+returns-clause-reads g c = fine_read _ (λ e. cc) (more_read c.loop-file.invariant.reads c.in_ok-next_line.ensures.reads)
 
 pub returns-in_err-next_line-clause-fault : goal.returns-in_err-next_line-clause-fault
 returns-in_err-next_line-clause-fault g c =
@@ -51,10 +51,5 @@ returns-in_err-next_line-clause-only g c =
     let p = err_from_is_err_and c.from_residual.result c.from_residual.ensures.1 in
     rw (p.1, p.2) (c.in_err-next_line.ensures.goes h _ read).1
 
-pub returns-in_err-next_line-clause-same : goal.returns-in_err-next_line-clause-same
-returns-in_err-next_line-clause-same g c =
-    let p = err_from_is_err_and c.from_residual.result c.from_residual.ensures.1 in
-    rw (p.1, p.2) (λ other. c.in_err-next_line.ensures.same (λ e. other (ap Err (cc e))) ∙ c.loop-file.invariant.same)
-
-pub returns-in_err-next_line-clause-left : goal.returns-in_err-next_line-clause-left
-returns-in_err-next_line-clause-left g c = leaves_more _ _ _ c.loop-file.invariant.left c.in_err-next_line.ensures.left
+pub returns-in_err-next_line-clause-reads : goal.returns-in_err-next_line-clause-reads
+returns-in_err-next_line-clause-reads g c = failed_read c.from_residual.result c.from_residual.ensures.1 c.loop-file.invariant.reads c.in_err-next_line.ensures.reads

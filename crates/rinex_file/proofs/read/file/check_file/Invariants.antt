@@ -1,4 +1,5 @@
-use Rattle.rinex_file.proofs.Names.{◌≡◌, ◌-◌, ◌+◌, History, LeavesRest, HasRead, most_lines}
+use Rattle.rinex_file.proofs.ReaderLaws.{HasReadOn}
+use Rattle.rinex_file.proofs.Names.{◌-◌, ◌+◌, History, HasRead, most_lines}
 use Rattle.rinex_file.proofs.read.file.check_file.Given as goal
 
 -- a history was read
@@ -7,8 +8,7 @@ invariant-loop-file g l =
     let remaining = g.R.Read.remaining in
     record {
       read : (h : History) × HasRead l.file h (remaining l.fn.reader.inner) (remaining l.reader.inner);
-      left : LeavesRest (remaining l.fn.reader.inner) (remaining l.reader.inner);
-      same : l.reader.failures ≡ l.fn.reader.failures;
+      reads : HasReadOn remaining l.fn.reader l.reader;
     }
 
 abbrev pub decreases-loop-file : goal.decreases-loop-file

@@ -1,6 +1,7 @@
+use Rattle.rinex_file.proofs.ReaderLaws.{failed_read, fine_read, more_read, none_read}
 use Rattle.rinex_file.proofs.Reading.Accepted.{begins_is, not_pushed, whole_header}
-use Rattle.rinex_file.proofs.Reading.Lines.{explained, leaves_all, leaves_more, out_of_memory}
-use Rattle.rinex_file.proofs.Names.{◌∙◌, arith, common_steps, refl, subst, sym, List, HasReadEpochs, Stamped, err_from_is_err_and}
+use Rattle.rinex_file.proofs.Reading.Lines.{explained, out_of_memory}
+use Rattle.rinex_file.proofs.Names.{arith, common_steps, subst, sym, List, HasReadEpochs, Stamped, err_from_is_err_and}
 use Rattle.rinex_file.proofs.read.file.read_epochs.Goals as goal
 
 pub loop-summary-init : goal.loop-summary-init
@@ -8,8 +9,7 @@ loop-summary-init g c = record {
   read =
       let input = g.R.Read.remaining c.args.reader.now.inner in
       subst (λ (es : List Stamped). HasReadEpochs c.args.file.now es input input) (sym c.requires.none) (c.requires.start input);
-  left = leaves_all _;
-  same = refl;
+  reads = none_read _ _;
 }
 
 pub begin-requires : goal.begin-requires
@@ -35,8 +35,7 @@ loop-summary-preserved g c =
     let (whole, most) = c.in_ok-rows.ensures.rows _ _ part in
     record {
       read = grind (arith, common_steps, whole, c.push.ensures, c.is_err.ensures, c.if-is_err.false);
-      left = leaves_more _ _ _ (leaves_more _ _ _ inv.left c.in_ok-begin.ensures.left) c.in_ok-rows.ensures.left;
-      same = c.in_ok-rows.ensures.same (λ e. cc) ∙ c.in_ok-begin.ensures.same (λ e. cc) ∙ inv.same;
+      reads = more_read (more_read inv.reads c.in_ok-begin.ensures.reads) c.in_ok-rows.ensures.reads;
     }
 
 pub returns-in-End-clause-epochs : goal.returns-in-End-clause-epochs
@@ -44,16 +43,16 @@ returns-in-End-clause-epochs g c =
     let (has, only, kept) = begins_is c.loop-summary.file c.begin.new.self _ _ (g.R.Read.remaining c.begin.new.reader.inner) c.in-End.is (c.in_ok-begin.ensures.epochs _ _ c.loop-summary.invariant.read) in
     (has, only)
 
-pub returns-in-End-clause-left : goal.returns-in-End-clause-left
-returns-in-End-clause-left g c = leaves_more _ _ _ c.loop-summary.invariant.left c.in_ok-begin.ensures.left
+pub returns-in-End-clause-reads : goal.returns-in-End-clause-reads
+returns-in-End-clause-reads g c = fine_read _ (λ e. cc) (more_read c.loop-summary.invariant.reads c.in_ok-begin.ensures.reads)
 
 pub returns-in_err-begin-clause-epochs : goal.returns-in_err-begin-clause-epochs
 returns-in_err-begin-clause-epochs g c =
     let p = err_from_is_err_and c.from_residual.result c.from_residual.ensures.1 in
     rw (p.1, p.2) (explained (c.in_err-begin.ensures.epochs _ _ c.loop-summary.invariant.read))
 
-pub returns-in_err-begin-clause-left : goal.returns-in_err-begin-clause-left
-returns-in_err-begin-clause-left g c = leaves_more _ _ _ c.loop-summary.invariant.left c.in_err-begin.ensures.left
+pub returns-in_err-begin-clause-reads : goal.returns-in_err-begin-clause-reads
+returns-in_err-begin-clause-reads g c = failed_read c.from_residual.result c.from_residual.ensures.1 c.loop-summary.invariant.reads c.in_err-begin.ensures.reads
 
 pub returns-in_err-rows-clause-epochs : goal.returns-in_err-rows-clause-epochs
 returns-in_err-rows-clause-epochs g c =
@@ -61,8 +60,8 @@ returns-in_err-rows-clause-epochs g c =
     let p = err_from_is_err_and c.from_residual-in_err-rows.result c.from_residual-in_err-rows.ensures.1 in
     rw (p.1, p.2) (c.in_err-rows.ensures.rows _ _ part)
 
-pub returns-in_err-rows-clause-left : goal.returns-in_err-rows-clause-left
-returns-in_err-rows-clause-left g c = leaves_more _ _ _ (leaves_more _ _ _ c.loop-summary.invariant.left c.in_ok-begin.ensures.left) c.in_err-rows.ensures.left
+pub returns-in_err-rows-clause-reads : goal.returns-in_err-rows-clause-reads
+returns-in_err-rows-clause-reads g c = failed_read c.from_residual-in_err-rows.result c.from_residual-in_err-rows.ensures.1 (more_read c.loop-summary.invariant.reads c.in_ok-begin.ensures.reads) c.in_err-rows.ensures.reads
 
 pub returns-then-is_err-clause-epochs : goal.returns-then-is_err-clause-epochs
 returns-then-is_err-clause-epochs g c =
@@ -70,5 +69,5 @@ returns-then-is_err-clause-epochs g c =
     let (whole, most) = c.in_ok-rows.ensures.rows _ _ part in
     out_of_memory _ (whole_header whole.0 (λ none rows. not_pushed _ _ none))
 
-pub returns-then-is_err-clause-left : goal.returns-then-is_err-clause-left
-returns-then-is_err-clause-left g c = leaves_more _ _ _ (leaves_more _ _ _ c.loop-summary.invariant.left c.in_ok-begin.ensures.left) c.in_ok-rows.ensures.left
+pub returns-then-is_err-clause-reads : goal.returns-then-is_err-clause-reads
+returns-then-is_err-clause-reads g c = fine_read _ (λ e. cc) (more_read (more_read c.loop-summary.invariant.reads c.in_ok-begin.ensures.reads) c.in_ok-rows.ensures.reads)

@@ -1,4 +1,5 @@
-use Rattle.rinex_file.proofs.Names.{◌≡◌, ◌-◌, ◌+◌, LeavesRest, HasReadEpochs, most_lines}
+use Rattle.rinex_file.proofs.ReaderLaws.{HasReadOn}
+use Rattle.rinex_file.proofs.Names.{◌-◌, ◌+◌, HasReadEpochs, most_lines}
 use Rattle.rinex_file.proofs.read.file.read_epochs.Given as goal
 
 -- the epochs that were read are stored
@@ -7,8 +8,7 @@ invariant-loop-summary g l =
     let remaining = g.R.Read.remaining in
     record {
       read : HasReadEpochs l.file l.epochs.items (remaining l.fn.reader.inner) (remaining l.reader.inner);
-      left : LeavesRest (remaining l.fn.reader.inner) (remaining l.reader.inner);
-      same : l.reader.failures ≡ l.fn.reader.failures;
+      reads : HasReadOn remaining l.fn.reader l.reader;
     }
 
 abbrev pub decreases-loop-summary : goal.decreases-loop-summary

@@ -1,14 +1,14 @@
+use Rattle.rinex_file.proofs.ReaderLaws.{failed_read, fine_read, more_read, none_read}
 use Rattle.rinex_file.proofs.Reading.Accepted.{few_lines, not_pushed, row_header, row_is}
-use Rattle.rinex_file.proofs.Reading.Lines.{explained, leaves_all, leaves_more, out_of_memory}
-use Rattle.rinex_file.proofs.Names.{◌∙◌, ap, arith, common_steps, refl, subst, sym, List, Ok, HasReadRows, SatelliteRow, begun_in, err_from_is_err_and, read_row, with_rows}
+use Rattle.rinex_file.proofs.Reading.Lines.{explained, out_of_memory}
+use Rattle.rinex_file.proofs.Names.{ap, arith, common_steps, subst, sym, List, Ok, HasReadRows, SatelliteRow, begun_in, err_from_is_err_and, read_row, with_rows}
 use Rattle.rinex_file.proofs.read.file.read_rows.Goals as goal
 
 pub loop-rows-init : goal.loop-rows-init
 loop-rows-init g c = record {
   read = λ es input part. (subst (λ (rows : List SatelliteRow). HasReadRows c.args.file.now es (with_rows (begun_in c.args.file.now) rows) input (g.R.Read.remaining c.args.reader.now.inner)) (sym c.new-rows.ensures.items) part, omega arith);
   some = c.requires;
-  left = leaves_all _;
-  same = refl;
+  reads = none_read _ _;
 }
 
 pub next_row-requires : goal.next_row-requires
@@ -33,8 +33,7 @@ loop-rows-preserved g c =
           let (next, fits, counted, same) = row_is c.loop-rows.file c.next_row.new.self es _ input (g.R.Read.remaining c.next_row.new.reader.inner) (ap Ok c.if-branch.true) (c.in_ok-next_row.ensures.rows es _ input part) in
           (grind (arith, common_steps, next, c.row.ensures, c.store_row.ensures, c.is_err.ensures, c.if-is_err.false), omega (arith, counted, least));
       some = inv.some;
-      left = leaves_more _ _ _ inv.left c.in_ok-next_row.ensures.left;
-      same = c.in_ok-next_row.ensures.same (λ e. cc) ∙ inv.same;
+      reads = more_read inv.reads c.in_ok-next_row.ensures.reads;
     }
 
 pub returns-clause-rows : goal.returns-clause-rows
@@ -43,16 +42,16 @@ returns-clause-rows g c = λ es input before.
     let (whole, first, most, same) = row_is c.loop-rows.file c.next_row.new.self es _ input (g.R.Read.remaining c.next_row.new.reader.inner) (ap Ok c.if-branch.false) (c.in_ok-next_row.ensures.rows es _ input part) in
     (whole, omega (arith, least, most))
 
-pub returns-clause-left : goal.returns-clause-left
-returns-clause-left g c = leaves_more _ _ _ c.loop-rows.invariant.left c.in_ok-next_row.ensures.left
+pub returns-clause-reads : goal.returns-clause-reads
+returns-clause-reads g c = fine_read _ (λ e. cc) (more_read c.loop-rows.invariant.reads c.in_ok-next_row.ensures.reads)
 
 pub returns-in_err-next_row-clause-rows : goal.returns-in_err-next_row-clause-rows
 returns-in_err-next_row-clause-rows g c = λ es input before.
     let p = err_from_is_err_and c.from_residual.result c.from_residual.ensures.1 in
     rw (p.1, p.2) (explained (c.in_err-next_row.ensures.rows es _ input (c.loop-rows.invariant.read es input before).0))
 
-pub returns-in_err-next_row-clause-left : goal.returns-in_err-next_row-clause-left
-returns-in_err-next_row-clause-left g c = leaves_more _ _ _ c.loop-rows.invariant.left c.in_err-next_row.ensures.left
+pub returns-in_err-next_row-clause-reads : goal.returns-in_err-next_row-clause-reads
+returns-in_err-next_row-clause-reads g c = failed_read c.from_residual.result c.from_residual.ensures.1 c.loop-rows.invariant.reads c.in_err-next_row.ensures.reads
 
 pub returns-then-is_err-clause-rows : goal.returns-then-is_err-clause-rows
 returns-then-is_err-clause-rows g c = λ es input before.
@@ -60,5 +59,5 @@ returns-then-is_err-clause-rows g c = λ es input before.
     let (next, fits, counted, same) = row_is c.loop-rows.file c.next_row.new.self es _ input (g.R.Read.remaining c.next_row.new.reader.inner) (ap Ok c.if-branch.true) (c.in_ok-next_row.ensures.rows es _ input part) in
     out_of_memory _ (row_header c.next_row.new.self es _ input _ next (not_pushed c.loop-rows.rows.items (read_row c.next_row.new.self)))
 
-pub returns-then-is_err-clause-left : goal.returns-then-is_err-clause-left
-returns-then-is_err-clause-left g c = leaves_more _ _ _ c.loop-rows.invariant.left c.in_ok-next_row.ensures.left
+pub returns-then-is_err-clause-reads : goal.returns-then-is_err-clause-reads
+returns-then-is_err-clause-reads g c = fine_read _ (λ e. cc) (more_read c.loop-rows.invariant.reads c.in_ok-next_row.ensures.reads)

@@ -1,4 +1,5 @@
-use Rattle.rinex_file.proofs.Names.{◌≡◌, ◌-◌, ◌+◌, ◌≤◌, List, ℕ, Option, LeavesRest, HasReadRows, Stamped, begun_in, most_lines, with_rows}
+use Rattle.rinex_file.proofs.ReaderLaws.{HasReadOn}
+use Rattle.rinex_file.proofs.Names.{◌-◌, ◌+◌, ◌≤◌, List, ℕ, Option, HasReadRows, Stamped, begun_in, most_lines, with_rows}
 use Rattle.rinex_file.proofs.read.file.read_rows.Given as goal
 
 -- the satellites that were read are stored
@@ -9,8 +10,7 @@ invariant-loop-rows g l =
       read : (es : List Stamped) (input : Option (List ℕ)) → HasReadRows l.fn.file es (begun_in l.fn.file) input (remaining l.fn.reader.inner)
           → HasReadRows l.file es (with_rows (begun_in l.fn.file) l.rows.items) input (remaining l.reader.inner) × (l.fn.file.count ≤ l.file.count);
       some : (es : List Stamped) × (input : Option (List ℕ)) × HasReadRows l.fn.file es (begun_in l.fn.file) input (remaining l.fn.reader.inner);
-      left : LeavesRest (remaining l.fn.reader.inner) (remaining l.reader.inner);
-      same : l.reader.failures ≡ l.fn.reader.failures;
+      reads : HasReadOn remaining l.fn.reader l.reader;
     }
 
 abbrev pub decreases-loop-rows : goal.decreases-loop-rows

@@ -1,6 +1,6 @@
+use Rattle.rinex_file.proofs.ReaderLaws.{failed_read, fine_read, more_read}
 use Rattle.rinex_file.proofs.Reading.Accepted.{epoch_begun, is_part, line_is, none_added}
 use Rattle.rinex_file.proofs.Reading.Header.{past_header}
-use Rattle.rinex_file.proofs.Reading.Lines.{leaves_more}
 use Rattle.rinex_file.proofs.Reading.Summary.{ended, has_times, summed}
 use Rattle.rinex_file.proofs.Names.{Bool, IsTrue, ◌↔◌, true, false, ◌≡◌, ◌∙◌, ◌+◌, [], ℕ, List, Option, arith, ap, refl, subst, HasRead, HasReadEpochs, History, Known, ParserState, progress_at, ReadsNextLine, EpochReader, Stamped, Ok, err_from_is_err_and}
 use Rattle.rinex_file.proofs.read.epochs.EpochReader.begin.Goals as goal
@@ -40,8 +40,7 @@ loop-self-preserved g c =
           let (more, counted, same) = one_line c.loop-self.self c.next_line.new.self es {left = g.R.Read.remaining c.next_line.new.reader.inner} read c.if-branch.true (c.in_ok-next_line.ensures.goes _ _ read.0) in
           ((more, not_expected c.expects_row.result _ c.expects_row.ensures c.if-expects_row.false), omega (arith, counted, least), λ some. same some ∙ head some);
       some = inv.some;
-      left = leaves_more _ _ _ inv.left c.in_ok-next_line.ensures.left;
-      same = c.in_ok-next_line.ensures.same (λ e. cc) ∙ inv.same;
+      reads = more_read inv.reads c.in_ok-next_line.ensures.reads;
     }
 
 pub returns-then-expects_row-clause-epochs : goal.returns-then-expects_row-clause-epochs
@@ -59,8 +58,8 @@ returns-then-expects_row-clause-epochs g c = λ es input before.
       λ some. ap (λ (k : Known). k.shown.plan) (same some ∙ head some),
     )
 
-pub returns-then-expects_row-clause-left : goal.returns-then-expects_row-clause-left
-returns-then-expects_row-clause-left g c = leaves_more _ _ _ c.loop-self.invariant.left c.in_ok-next_line.ensures.left
+pub returns-then-expects_row-clause-reads : goal.returns-then-expects_row-clause-reads
+returns-then-expects_row-clause-reads g c = fine_read _ (λ e. cc) (more_read c.loop-self.invariant.reads c.in_ok-next_line.ensures.reads)
 
 pub unwrap-times-requires : goal.unwrap-times-requires
 unwrap-times-requires g c =
@@ -75,13 +74,13 @@ returns-clause-epochs g c = λ es input before.
     let (has, only) = ended c.next_line.new.self es (record { counts = c.next_line.new.self.parser_state.counts; times = c.unwrap-times.result }) whole (summed _ refl c.unwrap-times.ensures whole) in
     (has, only, λ some. ap (λ (p : ParserState). p.head.shown.plan) same ∙ ap (λ (k : Known). k.shown.plan) (head some))
 
-pub returns-clause-left : goal.returns-clause-left
-returns-clause-left g c = leaves_more _ _ _ c.loop-self.invariant.left c.in_ok-next_line.ensures.left
+pub returns-clause-reads : goal.returns-clause-reads
+returns-clause-reads g c = fine_read _ (λ e. cc) (more_read c.loop-self.invariant.reads c.in_ok-next_line.ensures.reads)
 
 pub returns-in_err-next_line-clause-epochs : goal.returns-in_err-next_line-clause-epochs
 returns-in_err-next_line-clause-epochs g c = λ es input before.
     let p = err_from_is_err_and c.from_residual.result c.from_residual.ensures.1 in
     rw (p.1, p.2) (c.in_err-next_line.ensures.goes _ _ (c.loop-self.invariant.read es input before).0.0)
 
-pub returns-in_err-next_line-clause-left : goal.returns-in_err-next_line-clause-left
-returns-in_err-next_line-clause-left g c = leaves_more _ _ _ c.loop-self.invariant.left c.in_err-next_line.ensures.left
+pub returns-in_err-next_line-clause-reads : goal.returns-in_err-next_line-clause-reads
+returns-in_err-next_line-clause-reads g c = failed_read c.from_residual.result c.from_residual.ensures.1 c.loop-self.invariant.reads c.in_err-next_line.ensures.reads

@@ -1,4 +1,5 @@
-use Rattle.rinex_file.proofs.Names.{◌≡◌, ◌-◌, ◌+◌, ◌≤◌, [], List, ℕ, Option, LeavesRest, HasReadEpochs, Stamped, most_lines}
+use Rattle.rinex_file.proofs.ReaderLaws.{HasReadOn}
+use Rattle.rinex_file.proofs.Names.{◌≡◌, ◌-◌, ◌+◌, ◌≤◌, [], List, ℕ, Option, HasReadEpochs, Stamped, most_lines}
 use Rattle.rinex_file.proofs.read.epochs.EpochReader.begin.Given as goal
 
 -- the epochs that were read before
@@ -10,8 +11,7 @@ invariant-loop-self g l =
           → HasReadEpochs l.self es input (remaining l.reader.inner) × (l.fn.self.count ≤ l.self.count)
           × ((es ≡ [] → ⊥) → l.self.parser_state.head ≡ l.fn.self.parser_state.head);
       some : (es : List Stamped) × (input : Option (List ℕ)) × HasReadEpochs l.fn.self es input (remaining l.fn.reader.inner);
-      left : LeavesRest (remaining l.fn.reader.inner) (remaining l.reader.inner);
-      same : l.reader.failures ≡ l.fn.reader.failures;
+      reads : HasReadOn remaining l.fn.reader l.reader;
     }
 
 abbrev pub decreases-loop-self : goal.decreases-loop-self

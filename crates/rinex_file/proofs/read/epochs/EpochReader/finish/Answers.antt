@@ -1,4 +1,4 @@
-use Rattle.rinex_file.proofs.Reading.Lines.{leaves_more}
+use Rattle.rinex_file.proofs.ReaderLaws.{failed_read, fine_read, more_read}
 use Rattle.rinex_file.proofs.Reading.Accepted.{few_lines, row_is}
 use Rattle.rinex_file.proofs.Names.{◌∙◌, ap, arith, Ok, err_from_is_err_and}
 use Rattle.rinex_file.proofs.read.epochs.EpochReader.finish.Goals as goal
@@ -26,8 +26,7 @@ loop-preserved g c =
           let (next, fits, counted, same) = row_is c.loop.self c.next_row.new.self es more input (g.R.Read.remaining c.next_row.new.reader.inner) (ap Ok c.if-branch.true) (c.in_ok-next_row.ensures.rows es more input part) in
           (_, time, next, omega (arith, counted, least), same ∙ plan);
       some = inv.some;
-      left = leaves_more _ _ _ inv.left c.in_ok-next_row.ensures.left;
-      same = c.in_ok-next_row.ensures.same (λ e. cc) ∙ inv.same;
+      reads = more_read inv.reads c.in_ok-next_row.ensures.reads;
     }
 
 pub returns-clause-rows : goal.returns-clause-rows
@@ -36,8 +35,8 @@ returns-clause-rows g c = λ es e input before.
     let (whole, first, most, same) = row_is c.loop.self c.next_row.new.self es more input (g.R.Read.remaining c.next_row.new.reader.inner) (ap Ok c.if-branch.false) (c.in_ok-next_row.ensures.rows es more input part) in
     (more, time, whole, first, omega (arith, least, most), same ∙ plan)
 
-pub returns-clause-left : goal.returns-clause-left
-returns-clause-left g c = leaves_more _ _ _ c.loop.invariant.left c.in_ok-next_row.ensures.left
+pub returns-clause-reads : goal.returns-clause-reads
+returns-clause-reads g c = fine_read _ (λ e. cc) (more_read c.loop.invariant.reads c.in_ok-next_row.ensures.reads)
 
 pub returns-in_err-next_row-clause-rows : goal.returns-in_err-next_row-clause-rows
 returns-in_err-next_row-clause-rows g c = λ es e input before.
@@ -45,5 +44,5 @@ returns-in_err-next_row-clause-rows g c = λ es e input before.
     let p = err_from_is_err_and c.from_residual.result c.from_residual.ensures.1 in
     rw (p.1, p.2) (c.in_err-next_row.ensures.rows es more input part)
 
-pub returns-in_err-next_row-clause-left : goal.returns-in_err-next_row-clause-left
-returns-in_err-next_row-clause-left g c = leaves_more _ _ _ c.loop.invariant.left c.in_err-next_row.ensures.left
+pub returns-in_err-next_row-clause-reads : goal.returns-in_err-next_row-clause-reads
+returns-in_err-next_row-clause-reads g c = failed_read c.from_residual.result c.from_residual.ensures.1 c.loop.invariant.reads c.in_err-next_row.ensures.reads

@@ -1,4 +1,5 @@
-use Rattle.rinex_file.proofs.Names.{◌≡◌, ◌-◌, ◌+◌, ◌≤◌, List, ℕ, Option, LeavesRest, HasReadRows, Stamped, most_lines, plan_of}
+use Rattle.rinex_file.proofs.ReaderLaws.{HasReadOn}
+use Rattle.rinex_file.proofs.Names.{◌≡◌, ◌-◌, ◌+◌, ◌≤◌, List, ℕ, Option, HasReadRows, Stamped, most_lines, plan_of}
 use Rattle.rinex_file.proofs.read.epochs.EpochReader.finish.Given as goal
 
 -- satellites of the epoch that was begun
@@ -10,8 +11,7 @@ invariant-loop g l =
           → (more : Stamped) × (more.time ≡ e.time) × HasReadRows l.self es more input (remaining l.reader.inner)
           × (l.fn.self.count ≤ l.self.count) × (plan_of l.self ≡ plan_of l.fn.self);
       some : (es : List Stamped) × (e : Stamped) × (input : Option (List ℕ)) × HasReadRows l.fn.self es e input (remaining l.fn.reader.inner);
-      left : LeavesRest (remaining l.fn.reader.inner) (remaining l.reader.inner);
-      same : l.reader.failures ≡ l.fn.reader.failures;
+      reads : HasReadOn remaining l.fn.reader l.reader;
     }
 
 abbrev pub decreases-loop : goal.decreases-loop

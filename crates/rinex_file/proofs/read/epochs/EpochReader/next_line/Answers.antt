@@ -1,5 +1,6 @@
 -- What the next line is decides the end of the step: the end of the input, a line that is too long, or a line that
 -- the parser takes or refuses. The lines taken so far go on by one.
+use Rattle.rinex_file.proofs.ReaderLaws.{fine_read}
 use Rattle.rinex_file.proofs.FileLines.{lines_are_lines}
 use Rattle.rinex_file.proofs.Judged.{refused as judged}
 use Rattle.rinex_file.proofs.Reading.Accepted.{epochs_read, stopped}
@@ -96,8 +97,11 @@ pub returns-in-Failed-clause-goes : goal.returns-in-Failed-clause-goes
 returns-in-Failed-clause-goes g c = λ h input read. stopped _ Read read (unexplained input) tt (λ e. cc)
     (λ e. epochs_read (g.R.Read.remaining c.next.new.reader.inner) c.next.new.self.line read c.in-Failed.ensures.taken.0 (c.in-Failed.ensures.failed refl) c.in-Failed.ensures.found.1)
 
-pub returns-in_default-clause-same : goal.returns-in_default-clause-same
-returns-in_default-clause-same g c = λ other. grind (arith, common_steps, c.next.ensures.found, c.in_default.not-Failed)
+pub returns-in_default-clause-reads : goal.returns-in_default-clause-reads
+returns-in_default-clause-reads g c = fine_read _ (λ e. cc) (record { left = c.next.ensures.taken.1; same = grind (arith, common_steps, c.next.ensures.found, c.in_default.not-Failed) })
+
+pub returns-clause-reads : goal.returns-clause-reads
+returns-clause-reads g c = fine_read _ (λ e. cc) (record { left = c.next.ensures.taken.1; same = c.in-Line.ensures.found.1 })
 
 -- memory runs out at a line of types in the header
 pub returns-in-Err-Memory-clause-goes : goal.returns-in-Err-Memory-clause-goes
