@@ -51,7 +51,7 @@ pub use Rattle.obs_epoch.specs.inner.Calls.{IsCloseFirstExactly}
 pub use Rattle.obs_epoch.specs.inner.GathererSteps.{Loaded, begun_by, cleared_if, closed_if, closed_noted, end_step, epoch_begun, epoch_with, hold, hold_by, load, load_entries, load_entry, load_one, loaded_if, loaded_where, noted, outcome_in, planned_cell, shut_where, take_step, thinned, thinned_if, with_more, with_time, with_unlisted}
 pub use Rattle.obs_epoch.specs.inner.Held.{CellOutcome, Crowded, Kept, Repeated, Skipped, count_in, no_locks, note, note_all, note_systems, outcome_of, outcome_of_added, put}
 pub use Rattle.obs_epoch.specs.inner.Marks.{any_loss, carried_from, carried_to, counted_epoch, has_loss, mark_at, no_marks, note_losses, note_lost, note_systems_lost, with_mark_in}
-pub use Rattle.obs_epoch.specs.inner.SignalCounts.{AreSignalCounts, CountsEntries, SignalCountsValue, counted, counted_more, signal_counts}
+pub use Rattle.obs_epoch.specs.inner.SignalCounts.{AreSignalCounts, CountsMessage, SignalCountsValue, counted, counted_more, signal_counts}
 pub use Rattle.obs_epoch.specs.inner.Step.{KeepsEpoch, closed_of, closed_time, closed_time as closes, ended_where, is_first_at, is_late_at, is_same, kind_by, open_by, step_by}
 pub use Rattle.rtcm_bits.proofs.SmallLaws.{length-filter-le, length-filter_map-le, prefix_self, prefix_trans, all_append, all_filter, all_passed, get_or-same}
 pub use Rattle.rtcm_bits.specs.Bits.{bits_of, odd}
@@ -70,7 +70,7 @@ pub use Rattle.rtcm_msg.specs.inner.Viewed.{viewed_message}
 pub use Rattle.rtcm_msg.specs.inner.Views.{FormedMsm, formed}
 pub use Rattle.std.proofs.Common.{All, Bool, Err, IfSome, List, None, Ok, Option, Result, Some, [], ap, append-nil, append_assoc, ap₂, arith, cond, count_by, drop, false, filter, filter_map, find, flat_map, fold, get_or, if◌then◌else◌, inl, inr, is_some, length, length-append, length-set, length-take-le, map, nat_le, nat_lt, not, option_and_then, option_map, option_to_list, pos, position, refl, replicate, rules, set, slice_get, subst, suc, sym, take, take_all, true, unsigned_abs, unwrap_or, zero, ℕ, ℤ, ◌%◌, ◌&&◌, ◌*◌, ◌++◌, ◌+◌, ◌-◌, ◌/◌, ◌<◌, ◌==◌, ◌^◌, ◌||◌, ◌∙◌, ◌∷◌, ◌≡◌, ◌≤ℤ◌, ◌≤◌, ◌⊎◌}
 pub use Rattle.std.proofs.Math.Bool.{or-false}
-pub use Rattle.std.proofs.lemmas.Bool.{and_parts, cases_lt, eqb-true, le-ltb, leb-true, lt-ltb, not-true, or_parts, or_right, both_ways, eq-eqb}
+pub use Rattle.std.proofs.lemmas.Bool.{and_parts, cases_lt, eqb-true, le-ltb, leb-true, lt-ltb, ltb-false, ltb-true, true≢false, not-true, or_parts, or_right, both_ways, eq-eqb}
 pub use Rattle.std.proofs.lemmas.Grind.{common_steps, flat_map-append}
 pub use Rattle.std.proofs.lemmas.List.{get_or-replicate, length-replicate, map-append, append_cancel_right, get_or-set_same, get_or-set_other, length-map}
 pub use Rattle.std.proofs.lemmas.List.Elements.{All-nil, All-push, filter-append, filter_map-append}

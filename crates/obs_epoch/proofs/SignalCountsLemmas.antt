@@ -1,5 +1,5 @@
 -- The counts of the cells with a value, and of those of a message.
-use Rattle.obs_epoch.proofs.Names.{System, Satellite, SignalAt, LockTime, Entry, Heard, seen_in, observed, HeardCell, SignalCountsValue, brings_value, valued, is_of_signal, count_of, AreSignalCounts, cons_option, Form, satellite_of_id, every_channel, hertz_by, hertz_in, number_at, slot_count, IsSatellite, satellites, Glonass, ◌<◌, ◌-◌, None, true, refl, get_or-replicate, length-replicate, most_signals, value_of, ◌≡◌, ◌∙◌, ap, get_or, replicate, ℕ, ◌≤◌, List, [], ◌++◌, length, sym, subst, arith, Option, Some, filter, is_some, filter_map, unwrap_or, common_steps, length-filter-le, length-filter_map-le, get_or-same}
+use Rattle.obs_epoch.proofs.Names.{System, Satellite, SignalAt, LockTime, Entry, Heard, seen_in, observed, HeardCell, SignalCountsValue, brings_value, is_of_signal, count_of, AreSignalCounts, cons_option, Form, satellite_of_id, every_channel, hertz_by, hertz_in, number_at, slot_count, IsSatellite, satellites, Glonass, ◌<◌, ◌-◌, None, true, refl, get_or-replicate, length-replicate, most_signals, value_of, ◌≡◌, ◌∙◌, ap, get_or, replicate, ℕ, ◌≤◌, List, [], ◌++◌, length, arith, Option, Some, filter, is_some, filter_map, unwrap_or, common_steps, length-filter-le, length-filter_map-le, get_or-same, CountsMessage}
 use Rattle.rtcm_msg.specs.inner.Presences.{has_value}
 
 -- ---- the cells of a signal
@@ -31,12 +31,9 @@ one_first o xs = grind (arith, common_steps)
 
 -- ---- the cells of a message
 
--- All cells of a message of the wanted station.
-pub wanted_cells : (wanted : Option ℕ) (station : ℕ) (m : Heard) → m.station ≡ Some station → unwrap_or wanted station ≡ station → valued wanted m ≡ filter brings_value m.cells
-wanted_cells wanted station m at is = grind (arith, common_steps)
-
-pub message_counted : (after : SignalCountsValue) (cells front : List HeardCell) (wanted : Option ℕ) (m : Heard) → valued wanted m ≡ front → AreSignalCounts after (cells ++ front) → AreSignalCounts after (cells ++ valued wanted m)
-message_counted after cells front wanted m same h = subst (λ (l : List HeardCell). AreSignalCounts after (cells ++ l)) (sym same) h
+-- The wanted station is that of the message.
+pub own_counted : {c c' : SignalCountsValue} (wanted : Option ℕ) (station : ℕ) (m : Heard) → m.station ≡ Some station → unwrap_or wanted station ≡ station → CountsMessage c c' None m → CountsMessage c c' wanted m
+own_counted wanted station m at is h = grind (arith, common_steps)
 
 pub few_valued : (form : Form) (system : System) (es : List Entry) (cells : List HeardCell) → cells ≡ filter brings_value (filter_map (seen_in every_channel form system) es) → length es ≤ 64 → length cells ≤ 64
 few_valued form system es cells is few = grind (arith, common_steps, length-filter-le, length-filter_map-le)

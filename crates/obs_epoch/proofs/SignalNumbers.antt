@@ -1,9 +1,10 @@
 -- Cells are counted signal by signal.
-use Rattle.obs_epoch.proofs.Names.{◌≡◌, ℕ, zero, suc, ◌+◌, ◌-◌, ◌<◌, ◌≤◌, ◌^◌, ◌==◌, ◌&&◌, ◌||◌, not, List, ◌∷◌, ◌++◌, length, get_or, filter, Bool, true, false, Option, Some, None, refl, sym, ap, ◌∙◌, subst, arith, is_some, inl, inr, position, if◌then◌else◌, cond, filter_map, option_map, option_and_then, slice_get, cases_lt, not-true, eqb-true, common_steps, System, ListedSignal, Satellite, is_system, satellite_of_id, SignalAt, IsSignal, id_of, table, signal_of_id, HeardCell, Entry, has_id, is_in, has_listed_value, value_count, seen_in, lock_by, observed, SignalCountsValue, signal_counts, counted, signal_in, counted_more, satellite_set, brings_value, is_of_signal, count_of, CountsEntries, cons_option, option_map_or, Form, id_back, ids_within, system_self, each_system, system_same, short_table, listed_of, odd, ◌/◌, most_signals, hertz_in, every_channel, and_parts, eq-eqb, []}
+use Rattle.obs_epoch.proofs.Names.{◌≡◌, ℕ, zero, suc, ◌+◌, ◌-◌, ◌<◌, ◌≤◌, ◌^◌, ◌==◌, ◌&&◌, ◌||◌, not, List, ◌∷◌, ◌++◌, length, get_or, filter, Bool, true, false, Option, Some, None, refl, sym, ap, ◌∙◌, subst, arith, is_some, inl, inr, position, if◌then◌else◌, cond, filter_map, option_map, option_and_then, slice_get, cases_lt, not-true, eqb-true, common_steps, System, ListedSignal, Satellite, is_system, satellite_of_id, SignalAt, IsSignal, id_of, table, signal_of_id, HeardCell, Entry, has_id, is_in, has_listed_value, value_count, seen_in, lock_by, observed, SignalCountsValue, signal_counts, counted, signal_in, counted_more, satellite_set, brings_value, is_of_signal, count_of, cons_option, option_map_or, Form, id_back, ids_within, system_self, each_system, system_same, short_table, listed_of, odd, ◌/◌, most_signals, hertz_in, every_channel, and_parts, eq-eqb, [], IfSome, nat_lt, AreSignalCounts, lt-ltb, ltb-true, ltb-false, ap₂, FormedMsm, formed, entries, heard, valued}
 use Rattle.std.proofs.lemmas.List.Quantifiers.{position-Some}
 use Rattle.gnss_system.proofs.CheckedLaws.{passes_at, passes_below}
 use Rattle.rtcm_msg.proofs.ValueLaws.{count_first}
 use Rattle.obs_epoch.proofs.SignalCountsLemmas.{every_hertz, value_same, one_first, few_of}
+use Rattle.obs_epoch.proofs.ViewLemmas.{heard_formed}
 
 -- ---- signals and their IDs
 
@@ -126,8 +127,8 @@ pub record Adds (c c' : SignalCountsValue) (system : System) (left counts : List
   pub past : (s : System) (i : ℕ) → length (table s) ≤ i → counted c' s i ≡ counted c s i
 
 -- At the beginning a signal whose ID isn't among those left has no cell.
-pub number_none : (b h : Bool) (m n : ℕ) → (h ≡ false → m ≡ 0) → n ≡ n + (if b && not h then m else 0)
-number_none b h m n f = grind arith
+pub number_none : (b h : Bool) (m : ℕ) → (h ≡ false → m ≡ 0) → (if b && not h then m else 0) ≡ 0
+number_none b h m f = grind arith
 
 -- ---- one number more
 
@@ -174,29 +175,97 @@ adds_none {c} {c'} {system} {left} {counts} {x} {n} a split none is once = recor
       omega (arith, before, step);
 }
 
+-- ---- whether there is a cell
+
+-- Whether one of the signals that aren't left has a cell.
+abbrev pub IsAny : System → (left counts : List ℕ) → (any : Bool) → Type 0
+IsAny system left counts true = (g : SignalAt) × IsSignal g × (0 < number system left counts g)
+IsAny system left counts false = (g : SignalAt) → IsSignal g → number system left counts g ≡ 0
+
+pub any_some : (system : System) (counts : List ℕ) (any : Bool) {all left : List ℕ} {x n : ℕ} {g : SignalAt} → IsAny system all counts any → all ≡ x ∷ left → signal_of_id system x ≡ Some g → n ≡ get_or counts (x - 1) 0 → has_id x left ≡ false
+    → IsAny system left counts (any || nat_lt 0 n)
+any_some system counts any {left = left} {x} {n} {g} a split some is once = by any (subst (λ (l : List ℕ). IsAny system l counts any) split a) (nat_lt 0 n) refl where
+  step : (r : SignalAt) → number system left counts r ≡ number system (x ∷ left) counts r + (if is_system system r.system && (x == id_of r) then n else 0)
+  step r = first_number system left counts x n r is once
+
+  listed : IsSignal g
+  listed = (listed_of system x g some).1
+
+  own : number system left counts g ≡ number system (x ∷ left) counts g + n
+  own = step g ∙ rw (the_signal system x g g listed some, system_self g.system g.system refl, eq-eqb g.index g.index refl) refl
+
+  by : (any : Bool) → IsAny system (x ∷ left) counts any → (more : Bool) → nat_lt 0 n ≡ more → IsAny system left counts (any || more)
+  by true m more e = (m.0, m.1, omega (arith, m.2, step m.0))
+  by false none true e = (g, listed, omega (arith, own, ltb-true 0 n e))
+  by false none false e = λ r is. step r ∙ (let zero = none r is in grind (arith, ltb-false))
+
+pub any_same : (system : System) (counts : List ℕ) (any : Bool) {all left : List ℕ} {x n : ℕ} → IsAny system all counts any → all ≡ x ∷ left → signal_of_id system x ≡ None → n ≡ get_or counts (x - 1) 0 → has_id x left ≡ false → IsAny system left counts any
+any_same system counts any {left = left} {x} {n} a split none is once = by any (subst (λ (l : List ℕ). IsAny system l counts any) split a) where
+  same : (r : SignalAt) → IsSignal r → number system left counts r ≡ number system (x ∷ left) counts r + 0
+  same r listed = first_number system left counts x n r is once ∙ rw (no_signal system x r listed none) refl
+
+  by : (any : Bool) → IsAny system (x ∷ left) counts any → IsAny system left counts any
+  by true m = (m.0, m.1, omega (arith, m.2, same m.0 m.1))
+  by false none = λ r listed. omega (arith, same r listed, none r listed)
+
 -- ---- all numbers
 
-pub finished : {c c' : SignalCountsValue} {system : System} {left counts : List ℕ} (es : List Entry) → Adds c c' system left counts → left ≡ [] → ((i : ℕ) → i < 32 → get_or counts i 0 ≡ value_count (satellite_set system) (i + 1) es) → CountsEntries c c' system es
-finished {c} {c'} {system} {counts} es a none numbers = λ form cells few h. record {
-  size = λ s. a.size s ∙ h.size s;
-  past = λ s i out. a.past s i out ∙ h.past s i out;
-  each = λ s i listed.
-      let r = signal_in s i in
-      let more : List HeardCell = filter brings_value (filter_map (seen_in every_channel form system) es) in
-      let start : counted c s i ≡ count_of r cells = h.each s i listed in
-      let small : counted c s i < 2 ^ 63 = below _ _ _ (length es) start (few_of r cells) few in
-      let before : counted c' s i ≡ counted c s i + number system [] counts r = subst (λ (l : List ℕ). counted c' s i ≡ counted c s i + number system l counts r) none (a.each s i listed (h.size s) small) in
-      let total : count_of r more ≡ number system [] counts r = all_entries form system es r listed ∙ sym (last r listed (is_system system s)) in
-      ended before start (count_append r cells more) total;
-} where
-  below : (a b l n : ℕ) → a ≡ b → b ≤ l → l + n < 2 ^ 63 → a < 2 ^ 63
-  below a b l n x y z = omega (arith, x, y, z)
+abbrev pub listed_cells : Form → System → List Entry → List HeardCell
+listed_cells form system es = filter brings_value (filter_map (seen_in every_channel form system) es)
 
-  ended : {a b c d e f : ℕ} → a ≡ b + c → b ≡ d → e ≡ d + f → f ≡ c → a ≡ e
-  ended x y z w = omega (arith, x, y, z, w)
+-- Those of an MSM.
+pub valued_msm : (v : FormedMsm) {system : System} → system ≡ v.msm.system → valued None (heard every_channel 0 (formed v)) ≡ listed_cells v.form system (entries (formed v))
+valued_msm v is = ap (valued None) (heard_formed every_channel 0 v) ∙ ap (λ (s : System). listed_cells v.form s (entries (formed v))) (sym is)
 
-  last : (r : SignalAt) → IsSignal r → (b : Bool) → (if b && true then get_or counts (id_of r - 1) 0 else 0) ≡ (if b then value_count (satellite_set system) (id_of r) es else 0)
-  last r listed true =
-      let within = ids_within r listed in
-      numbers (id_of r - 1) (omega (arith, within.0, within.1)) ∙ ap (λ (k : ℕ). value_count (satellite_set system) k es) (omega (arith, within.0))
-  last r listed false = refl
+-- Each cell is of a signal.
+no_front : (o : Option HeardCell) → IfSome o (λ y. IsSignal y.signal) → ((g : SignalAt) → IsSignal g → count_of g (filter brings_value (cons_option o [])) ≡ 0) → filter brings_value (cons_option o []) ≡ []
+no_front None listed none = refl
+no_front (Some y) listed none = by (brings_value y) (none y.signal listed) where
+  own : is_of_signal y.signal y ≡ true
+  own = rw (system_self y.signal.system y.signal.system refl, eq-eqb y.signal.index y.signal.index refl) refl
+
+  by : (b : Bool) → count_of y.signal (cond b (y ∷ []) []) ≡ 0 → cond b (y ∷ []) [] ≡ []
+  by true e = absurd (omega (arith, sym e ∙ ap (λ (b : Bool). length (cond b (y ∷ []) [])) own))
+  by false e = refl
+
+seen_signal : (form : Form) (system : System) (e : Entry) → IfSome (seen_in every_channel form system e) (λ y. IsSignal y.signal)
+seen_signal form system e = grind (arith, common_steps, listed_of)
+
+no_listed : (form : Form) (system : System) (es : List Entry) → ((g : SignalAt) → IsSignal g → count_of g (listed_cells form system es) ≡ 0) → listed_cells form system es ≡ []
+no_listed form system [] none = refl
+no_listed form system (e ∷ es) none =
+    let o = seen_in every_channel form system e in
+    let parts : (g : SignalAt) → IsSignal g → count_of g (filter brings_value (cons_option o [])) + count_of g (listed_cells form system es) ≡ 0 = λ g listed.
+    sym (count_append g (filter brings_value (cons_option o [])) (listed_cells form system es)) ∙ ap (count_of g) (one_first o (filter_map (seen_in every_channel form system) es)) ∙ none g listed in
+    sym (one_first o (filter_map (seen_in every_channel form system) es))
+    ∙ ap₂ (λ (a b : List HeardCell). a ++ b) (no_front o (seen_signal form system e) (λ g listed. omega (arith, parts g listed))) (no_listed form system es (λ g listed. omega (arith, parts g listed)))
+
+-- The numbers of all signals.
+module _ (system : System) (left counts : List ℕ) (form : Form) (es : List Entry) (none : left ≡ []) (numbers : (i : ℕ) → i < 32 → get_or counts i 0 ≡ value_count (satellite_set system) (i + 1) es) where
+  total : (r : SignalAt) → IsSignal r → count_of r (listed_cells form system es) ≡ number system left counts r
+  total r listed = all_entries form system es r listed ∙ sym (rw none (last (is_system system r.system))) where
+    last : (b : Bool) → (if b && true then get_or counts (id_of r - 1) 0 else 0) ≡ (if b then value_count (satellite_set system) (id_of r) es else 0)
+    last true =
+        let within = ids_within r listed in
+        numbers (id_of r - 1) (omega (arith, within.0, within.1)) ∙ ap (λ (k : ℕ). value_count (satellite_set system) k es) (omega (arith, within.0))
+    last false = refl
+
+  pub all_any : (any : Bool) → IsAny system left counts any → any ≡ nat_lt 0 (length (listed_cells form system es))
+  all_any true m = sym (lt-ltb 0 (length (listed_cells form system es)) (omega (arith, m.2, total m.0 m.1, few_of m.0 (listed_cells form system es))))
+  all_any false zeros = sym (ap (λ (l : List HeardCell). nat_lt 0 (length l)) (no_listed form system es (λ g listed. total g listed ∙ zeros g listed)))
+
+  pub finished : {c c' : SignalCountsValue} → Adds c c' system left counts → (cells : List HeardCell) → length cells + length es < 2 ^ 63 → AreSignalCounts c cells → AreSignalCounts c' (cells ++ listed_cells form system es)
+  finished {c} {c'} a cells few h = record {
+    size = λ s. a.size s ∙ h.size s;
+    past = λ s i out. a.past s i out ∙ h.past s i out;
+    each = λ s i listed.
+        let r = signal_in s i in
+        let start : counted c s i ≡ count_of r cells = h.each s i listed in
+        let small : counted c s i < 2 ^ 63 = below _ _ _ (length es) start (few_of r cells) few in
+        ended (a.each s i listed (h.size s) small) start (count_append r cells (listed_cells form system es)) (total r listed);
+  } where
+    below : (a b l n : ℕ) → a ≡ b → b ≤ l → l + n < 2 ^ 63 → a < 2 ^ 63
+    below a b l n x y z = omega (arith, x, y, z)
+
+    ended : {a b c d e f : ℕ} → a ≡ b + c → b ≡ d → e ≡ d + f → f ≡ c → a ≡ e
+    ended x y z w = omega (arith, x, y, z, w)

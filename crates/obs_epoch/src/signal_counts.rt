@@ -1,15 +1,13 @@
 //! The number of cells with a value, by signal.
-ghost use Rattle.std.specs.Prelude.{◌≡◌, ◌<◌, ◌≤◌, [], length, nat_lt, replicate};
+ghost use Rattle.std.specs.Prelude.{◌≡◌, ◌<◌, [], None, length, nat_lt, replicate};
 ghost use Rattle.std.specs.List.{list_any};
 ghost use Rattle.gnss_system.specs.Signals.{table, most_signals};
 ghost use Rattle.obs_epoch.specs.Heard.{heard};
-ghost use Rattle.obs_epoch.specs.SignalCounts.{every_channel};
-ghost use Rattle.obs_epoch.specs.inner.SignalCounts.{counted, has_any, counted_more, up_by, CountsEntries};
+ghost use Rattle.obs_epoch.specs.SignalCounts.{every_channel, valued};
+ghost use Rattle.obs_epoch.specs.inner.SignalCounts.{counted, has_any, counted_more, up_by};
 ghost use Rattle.obs_epoch.specs.inner.SignalCounts.{CountsMessage, AreSignalCounts};
-ghost use Rattle.rtcm_msg.specs.Entries.{entries};
-ghost use Rattle.rtcm_msg.specs.Msm.{most_pairs};
 ghost use Rattle.rtcm_msg.specs.inner.Viewed.{viewed_message};
-ghost use Rattle.rtcm_msg.specs.inner.Views as views;
+ghost use Rattle.rtcm_msg.specs.inner.Views.{formed};
 
 use gnss_obs::Signal;
 use gnss_system::{BySystem, MOST_SIGNALS, SYSTEMS, System};
@@ -59,25 +57,29 @@ impl SignalCounts {
     pub fn count_view(&mut self, station: Option<u16>, view: &View<'_>)
         ensures { CountsMessage self.old self.new station (heard every_channel 0 (viewed_message view.now)) }
     {
-        if let View::Msm(m) = view {
-            let own = m.header().station;
+        if let View::Msm(msm) = view {
+            let own = msm.header().station;
             if station.unwrap_or(own) == own {
-                self.count_cells(m.system(), m);
+                self.count_msm(msm);
             }
         }
     }
 
-    // Counts the cells of listed satellites and signals that have a value.
-    fn count_cells(&mut self, system: System, view: &MsmView<'_>)
-        ensures counts { CountsEntries self.old self.new system (entries (views.formed view.now)) }
-        ensures few { length (entries (views.formed view.now)) ≤ most_pairs }
+    /// Counts the cells of an MSM, and returns whether one was counted.
+    pub fn count_msm(&mut self, msm: &MsmView<'_>) -> bool
+        ensures counts { CountsMessage self.old self.new None (heard every_channel 0 (formed msm.now)) }
+        ensures any { result ≡ nat_lt 0 (length (valued None (heard every_channel 0 (formed msm.now)))) }
     {
-        let mut counts = view.value_counts(system.satellite_mask());
+        let system = msm.system();
+        let mut counts = msm.value_counts(system.satellite_mask());
+        let mut any = false;
         while let Some((id, count)) = counts.next() {
             if let Some(signal) = Signal::from_id(system, id) {
                 self.add(signal, count as u64);
+                any |= count > 0;
             }
         }
+        any
     }
 
     // Adds a number of cells to those of a signal.

@@ -1,6 +1,6 @@
 -- The number of cells with a value in messages, by signal.
 use Rattle.std.specs.Prelude.{◌≡◌, ℕ, ◌+◌, ◌-◌, ◌<◌, ◌≤◌, ◌^◌, Bool, min, nat_lt, List}
-use Rattle.std.specs.Prelude.{◌++◌, length, get_or, set, filter, filter_map, Option}
+use Rattle.std.specs.Prelude.{◌++◌, length, get_or, set, Option}
 use Rattle.std.specs.List.{list_any}
 use Rattle.gnss_system.specs.declared.system.System.{System}
 use Rattle.gnss_system.specs.Systems.{systems}
@@ -8,11 +8,9 @@ use Rattle.gnss_system.specs.SystemValues.{value_of, with_value_of}
 use Rattle.gnss_system.specs.declared.by_system.BySystem.{BySystem}
 use Rattle.gnss_system.specs.Signals.{SignalAt, table, most_signals}
 use Rattle.rtcm_msg.specs.Msm.{most_pairs}
-use Rattle.rtcm_msg.specs.declared.entry.Entry.{Entry}
-use Rattle.rtcm_msg.specs.declared.view.Form.{Form}
-use Rattle.obs_epoch.specs.Heard.{Heard, seen_in}
+use Rattle.obs_epoch.specs.Heard.{Heard}
 use Rattle.gnss_obs.specs.HeardCells.{HeardCell}
-use Rattle.obs_epoch.specs.SignalCounts.{every_channel, brings_value, valued, count_of, signal_in}
+use Rattle.obs_epoch.specs.SignalCounts.{valued, count_of, signal_in}
 
 -- ---- the counts by signal: the number of counted cells of each signal, by its index in its system's table
 
@@ -49,13 +47,6 @@ pub record AreSignalCounts (c : SignalCountsValue) (cells : List HeardCell) : Ty
   pub each : (system : System) (i : ℕ) → i < length (table system)
       → counted c system i ≡ count_of (signal_in system i) cells
   pub past : (system : System) (i : ℕ) → length (table system) ≤ i → counted c system i ≡ 0
-
--- From c to c' the cells of these entries that have a value were counted, regardless of the earlier cells and for every
--- lock form.
-abbrev pub CountsEntries : (c c' : SignalCountsValue) → System → List Entry → Type 0
-CountsEntries c c' system entries =
-    (form : Form) (cells : List HeardCell) → length cells + length entries < 2 ^ 63 → AreSignalCounts c cells
-    → AreSignalCounts c' (cells ++ filter brings_value (filter_map (seen_in every_channel form system) entries))
 
 -- From c to c' the cells of a message that have a value were counted.
 pub record CountsMessage (c c' : SignalCountsValue) (wanted : Option ℕ) (m : Heard) : Type 0 where
