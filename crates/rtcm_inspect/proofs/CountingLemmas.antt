@@ -1,24 +1,178 @@
 -- Signal counts as a consumer of frames.
-use Rattle.rtcm_inspect.proofs.Names.{Printed, greatest_in, AreSaidIn, common_steps, ◌≡◌, ◌∙◌, inr, ◌+◌, ◌*◌, ◌<◌, ◌≤◌, ◌^◌, sym, subst, arith, Bool, true, ℕ, List, [], ◌∷◌, ◌++◌, Option, Result, Ok, Err, length, length-append, refl, Framed, frames_of, known_frames, Device, Devices, StreamFault, ⊤, InspectFault, stream_fault, AtFault, Passes, BreaksReading, PassesAll, PassesToLimit, Reads, FramerValue, most_bytes, AreSignalCounts, CountsMessage, SignalCountsValue, inspected, message_at, MsgFault, Message, AreFirst, EndsStream, ReadsTooMuch, Counts, StopsCounting, HasCounted, IsCounted, AreSignals, NeverFails, StreamSignals, StreamCounts, AreFrameCounts, is_msm, msm_in, stream_counts, cond, filter-append, length-filter, count_by-le-length, piece_bytes, forms_had, channels_in}
+use Rattle.rtcm_inspect.proofs.Names.{Printed, greatest_in, AreSaidIn, common_steps, ◌≡◌, ◌∙◌, inr, ◌+◌, ◌*◌, ◌<◌, ◌≤◌, ◌^◌, ap, sym, subst, arith, Bool, true, false, not, ◌&&◌, nat_lt, ℕ, List, [], ◌∷◌, ◌++◌, Option, Some, None, Result, Ok, Err, length, length-append, append-nil, refl, Framed, frames_of, known_frames, Device, Devices, StreamFault, ⊤, InspectFault, stream_fault, AtFault, Passes, BreaksReading, PassesAll, PassesToLimit, Reads, FramerValue, most_bytes, AreSignalCounts, CountsMessage, SignalCountsValue, inspected, message_at, MsgFault, Message, AreFirst, EndsStream, ReadsTooMuch, Counts, StopsCounting, HasCounted, IsCounted, AreSignals, NeverFails, StreamSignals, StreamCounts, AreFrameCounts, is_msm, msm_in, stream_counts, filter-append, length-filter, count_by-le-length, piece_bytes, forms_had, channels_in, HeardCell, Takes, StationParts, option_or, option_and_then, option_to_list, if◌then◌else◌, IfSome, InRange, point_of, sender, stations_of, first_two, inspected_at, inspected_in, inspected_of, option_map_or, valued, valued_of, tow_of, heard, every_channel, needs_all, MsmSet, is_in_set, FirstTwo, FirstTows, AreTows, ChannelsValue, channel_of_1020, sent_by, sent_channels, with_sent, Other, Station, FormedMsm, MsmHeader, formed, is_of_station, Forms, have_form, cond}
+use Rattle.std.specs.Prelude.{◌%◌}
+use Rattle.rtcm_msg.specs.Msm.{most_pairs}
+use Rattle.rtcm_msg.specs.declared.number.Forms.TheVariants as forms
+use Rattle.rtcm_inspect.proofs.CountedLemmas.{filter_map-push}
+use Rattle.rtcm_inspect.proofs.FirstLemmas.{first_more, or_none}
+use Rattle.rtcm_inspect.proofs.SetLemmas.{forms_kept, forms_more, if_same, tow_read, tow_refused}
+use Rattle.rtcm_inspect.proofs.StreamChannelLemmas.{channels_more, msm_isnt_1020, sent_without_1020}
 use Rattle.rtcm_inspect.proofs.StreamLemmas.{Began}
+use Rattle.rtcm_inspect.proofs.TowLemmas.{tows_none}
+use Rattle.rtcm_inspect.specs.Signals.{is_of_other}
+use Rattle.rtcm_inspect.specs.declared.said_weeks.SaidWeeks.{SaidWeeks}
 use Rattle.rtcm_inspect.specs.declared.fault.InspectFault.TheVariants as faults
 use Rattle.rtcm_scan.specs.declared.feed.StreamFault.TheVariants as stream
 
--- the cells of one more message that was read
-pub read_counted : {c c2 : SignalCountsValue} {wanted : Option ℕ} {fs : List Framed} (f : Framed) {m : Message} → message_at f.message ≡ Ok m → CountsMessage c c2 wanted (inspected m)
+-- ---- one more frame
+
+counted_more : {c c2 : SignalCountsValue} {wanted : Option ℕ} {fs : List Framed} (f : Framed) → ((cells : List HeardCell) → length cells < 2 ^ 62 → AreSignalCounts c cells → AreSignalCounts c2 (cells ++ valued_of wanted f)) → length (valued_of wanted f) ≤ most_pairs
     → length fs < 2 ^ 56 → IsCounted c wanted fs → IsCounted c2 wanted (fs ++ f ∷ [])
-read_counted f is step small h = grind (arith, common_steps, length-append {A = Framed})
+counted_more f step small few h = grind (arith, common_steps, length-append {A = Framed})
 
--- a message that was refused has no cells
-pub refused_counted : {c : SignalCountsValue} {wanted : Option ℕ} {fs : List Framed} (f : Framed) {e : MsgFault} → message_at f.message ≡ Err e → IsCounted c wanted fs → IsCounted c wanted (fs ++ f ∷ [])
-refused_counted f is h = grind (arith, common_steps, length-append {A = Framed})
-
--- the MSMs of one more frame
-pub msm_more : (fs : List Framed) (f : Framed) {has : Bool} → is_msm (message_at f.message) ≡ has → length (msm_in (fs ++ f ∷ [])) ≡ length (msm_in fs) + length (cond has (f ∷ []) [])
-msm_more fs f is = grind (arith, filter-append, length-append {A = Framed})
-
-pub msm_few : (fs : List Framed) → length (msm_in fs) ≤ length fs
+msm_few : (fs : List Framed) → length (msm_in fs) ≤ length fs
 msm_few fs = let e = length-filter (λ g. is_msm (message_at g.message)) fs in let few = count_by-le-length (λ g. is_msm (message_at g.message)) fs in omega (arith, e, few)
+
+numbers_more : {x y : StreamCounts} (fs : List Framed) (f : Framed) → y.frames ≡ (x.frames + 1) % 2 ^ 64 → y.msm ≡ (if is_msm (message_at f.message) then (x.msm + 1) % 2 ^ 64 else x.msm) → length fs < 2 ^ 56 → AreFrameCounts x fs → AreFrameCounts y (fs ++ f ∷ [])
+numbers_more {x} {y} fs f frames msm few h = record { frames = frames ∙ omega (arith, h.frames, few, length-append fs (f ∷ [])); msm = by (is_msm (message_at f.message)) refl msm } where
+  msm_more : {has : Bool} → is_msm (message_at f.message) ≡ has → length (msm_in (fs ++ f ∷ [])) ≡ length (msm_in fs) + length (cond has (f ∷ []) [])
+  msm_more is = grind (arith, filter-append, length-append {A = Framed})
+
+  by : (has : Bool) → is_msm (message_at f.message) ≡ has → y.msm ≡ (if has then (x.msm + 1) % 2 ^ 64 else x.msm) → y.msm ≡ length (msm_in (fs ++ f ∷ []))
+  by true is e = e ∙ omega (arith, h.msm, few, msm_few fs, msm_more is)
+  by false is e = e ∙ omega (arith, h.msm, msm_more is)
+
+-- a frame was counted; its message is read after what it says of the week
+abbrev begun : StreamSignals → SaidWeeks → ℕ → StreamSignals
+begun c weeks n = record c { weeks = weeks; counts = record c.counts { frames = n } }
+
+signals_more : (c : StreamSignals) {c2 : StreamSignals} (weeks : SaidWeeks) (n : ℕ) {fs : List Framed} (f : Framed) → n ≡ (c.counts.frames + 1) % 2 ^ 64 → (c.first.tows.greatest ≡ greatest_in c.station fs → AreSaidIn c.weeks c.station fs → AreSaidIn weeks c.station (fs ++ f ∷ []))
+    → Takes (begun c weeks n) c2 f (message_at f.message) → length fs < 2 ^ 56 → AreSignals c c.station fs → AreSignals c2 c.station (fs ++ f ∷ [])
+signals_more c weeks n {fs} f frames said t few h = record {
+  counted = counted_more f t.counted t.few few h.counted;
+  forms = forms_more c.station fs f t.forms h.forms;
+  channels = channels_more c.station fs f t.channels h.channels;
+  first = record {
+    point = t.point ∙ ap (λ (o : Option StationParts). option_or o (option_and_then (point_of c.station) (inspected_at f.message))) h.first.point ∙ sym (first_more inspected_at (point_of c.station) fs f);
+    tows = t.tows fs few h.first.tows;
+    stations = t.stations (stations_of fs) h.first.stations ∙ ap first_two (sym (filter_map-push (λ g. option_and_then sender (inspected_at g.message)) fs f));
+    in_range = t.in_range h.first.in_range;
+  };
+  weeks = subst (λ (w : SaidWeeks). AreSaidIn w c.station (fs ++ f ∷ [])) (sym t.weeks) (said h.first.tows.greatest h.weeks);
+  counts = numbers_more fs f (t.frames ∙ frames) t.msm few h.counts;
+}
+
+pub one_more_counted : {c0 : StreamSignals} (c : StreamSignals) {c2 : StreamSignals} (weeks : SaidWeeks) (n : ℕ) {ps fs : List Framed} (f : Framed) → n ≡ (c.counts.frames + 1) % 2 ^ 64
+    → ((gs : List Framed) → c.first.tows.greatest ≡ greatest_in c.station gs → AreSaidIn c.weeks c.station gs → AreSaidIn weeks c.station (gs ++ f ∷ []))
+    → Takes (begun c weeks n) c2 f (message_at f.message) → Counts c0 tt ps c tt fs → Counts c0 tt ps c2 tt (fs ++ f ∷ [])
+one_more_counted c {c2} weeks n {fs = fs} f frames said t s = record {
+  same = t.station ∙ s.same;
+  counts = λ few begun.
+      let small : length fs < 2 ^ 56 = omega (arith, few, length-append fs (f ∷ [])) in
+      subst (λ (w : Option ℕ). AreSignals c2 w (fs ++ f ∷ [])) s.same (signals_more c weeks n f frames (said fs) t small (subst (λ (w : Option ℕ). AreSignals c w fs) (sym s.same) (s.counts small begun)));
+}
+
+-- ---- the message of a frame
+
+-- no cell of it counts, and no time of week
+abbrev pub HasNone : Option ℕ → Result Message MsgFault → Type 0
+HasNone wanted (Ok m) = (valued wanted (inspected m) ≡ []) × ((leap : ℕ) → tow_of wanted (heard every_channel leap m) ≡ None)
+HasNone wanted (Err e) = ⊤
+
+no_valued : (wanted : Option ℕ) (r : Result Message MsgFault) → HasNone wanted r → (option_map_or (valued wanted) (inspected_of r) [] ≡ []) × (needs_all wanted r ≡ false)
+no_valued wanted r none = grind (arith, common_steps)
+
+no_tow : (wanted : Option ℕ) (f : Framed) (r : Result Message MsgFault) → message_at f.message ≡ r → HasNone wanted r → (leap : ℕ) (set : MsmSet) → option_and_then (tow_of wanted) (inspected_in leap set f.message) ≡ None
+no_tow wanted f (Ok m) is none leap set = tow_read leap set wanted f.message m is ∙ if_same (is_in_set set m) (none.1 leap)
+no_tow wanted f (Err e) is none leap set = tow_refused leap set wanted f.message e is
+
+takes_none : (x : StreamSignals) {point : Option StationParts} {stations : FirstTwo} {channels : ChannelsValue} {msm : ℕ} (f : Framed) (r : Result Message MsgFault) → message_at f.message ≡ r → HasNone x.station r
+    → msm ≡ (if is_msm r then (x.counts.msm + 1) % 2 ^ 64 else x.counts.msm) → channels ≡ with_sent x.channels (option_to_list (channel_of_1020 f.message) ++ sent_by x.station r)
+    → point ≡ option_or x.first.point (option_and_then (point_of x.station) (inspected_of r)) → (IfSome x.first.point InRange → IfSome point InRange)
+    → ((ns : List ℕ) → x.first.stations ≡ first_two ns → stations ≡ first_two (ns ++ option_to_list (option_and_then sender (inspected_of r))))
+    → Takes x (record x { channels = channels; first = record x.first { point = point; stations = stations }; counts = record x.counts { msm = msm } }) f (message_at f.message)
+takes_none x f r is none msm channels point range stations =
+    let no = no_valued x.station r none in
+    rw is (record {
+      station = refl;
+      weeks = refl;
+      frames = refl;
+      msm = msm;
+      counted = λ cells few h. subst (AreSignalCounts x.signal_counts) (sym (ap (λ (l : List HeardCell). cells ++ l) no.0 ∙ append-nil cells)) h;
+      few = rw no.0 (omega arith);
+      forms = sym (ap (λ (b : Bool). if b then forms.All else x.forms) no.1);
+      channels = channels;
+      point = point;
+      in_range = range;
+      stations = stations;
+      tows = λ fs few h. tows_none f (no_tow x.station f r is none) h;
+    })
+
+-- one that was refused
+pub takes_refused : (x : StreamSignals) (f : Framed) {e : MsgFault} → message_at f.message ≡ Err e → Takes x x f (message_at f.message)
+takes_refused x f {e} is =
+    takes_none x f (Err e) is tt refl (ap (with_sent x.channels) (sym (sent_without_1020 x.station f (Err e) is refl))) (sym (or_none x.first.point)) (λ h. h) (λ ns h. h ∙ ap first_two (sym (append-nil ns)))
+
+-- one that is neither an MSM nor a station message
+pub takes_other : (x : StreamSignals) {channels : ChannelsValue} (f : Framed) {number : ℕ} {set : Option (ℕ × Bool)} → message_at f.message ≡ Ok (Other number set) → channels ≡ with_sent x.channels (option_to_list (channel_of_1020 f.message))
+    → Takes x (record x { channels = channels }) f (message_at f.message)
+takes_other x f {number} {set} is now =
+    let m = Other number set in
+    let own = is_of_station x.station (inspected m) in
+    let sent = option_to_list (channel_of_1020 f.message) in
+    takes_none x f (Ok m) is (if_same own refl, λ leap. if_same own refl) refl (now ∙ ap (with_sent x.channels) (sym (ap (λ (l : List (ℕ × ℕ)). sent ++ l) (if_same own refl) ∙ append-nil sent)))
+    (sym (ap (option_or x.first.point) (if_same own refl) ∙ or_none x.first.point)) (λ h. h) (λ ns h. h ∙ ap first_two (sym (append-nil ns)))
+
+pub takes_station : (x : StreamSignals) {point : Option StationParts} {stations : FirstTwo} (f : Framed) (p : StationParts) → message_at f.message ≡ Ok (Station p) → point ≡ option_or x.first.point (if is_of_station x.station (inspected (Station p)) then Some p else None)
+    → (IfSome x.first.point InRange → IfSome point InRange) → ((ns : List ℕ) → x.first.stations ≡ first_two ns → stations ≡ first_two (ns ++ p.station ∷ []))
+    → Takes x (record x { first = record x.first { point = point; stations = stations } }) f (message_at f.message)
+takes_station x f p is point range stations =
+    let own = is_of_station x.station (inspected (Station p)) in
+    takes_none x f (Ok (Station p)) is (if_same own refl, λ leap. if_same own refl) refl (ap (with_sent x.channels) (sym (sent_without_1020 x.station f (Ok (Station p)) is refl ∙ if_same own refl))) point range stations
+
+-- an MSM
+pub msm_station : (v : FormedMsm) {header : MsmHeader} → header ≡ v.msm.header → (inspected (formed v)).station ≡ Some header.station
+msm_station v same = grind arith
+
+module _ (x : StreamSignals) (f : Framed) (v : FormedMsm) (is : message_at f.message ≡ Ok (formed v)) {header : MsmHeader} (same : header ≡ v.msm.header) where
+  only_msm : is_msm (Ok (formed v)) ≡ true
+  only_msm = grind arith
+
+  msm_number : (x.counts.msm + 1) % 2 ^ 64 ≡ (if is_msm (Ok (formed v)) then (x.counts.msm + 1) % 2 ^ 64 else x.counts.msm)
+  msm_number = sym (ap (λ (b : Bool). if b then (x.counts.msm + 1) % 2 ^ 64 else x.counts.msm) only_msm)
+
+  msm_point : x.first.point ≡ option_or x.first.point (point_of x.station (inspected (formed v)))
+  msm_point = grind (arith, if_same, or_none)
+
+  msm_sent : {own : Bool} → is_of_station x.station (inspected (formed v)) ≡ own → option_to_list (channel_of_1020 f.message) ++ sent_by x.station (Ok (formed v)) ≡ (if own then sent_channels (formed v) else [])
+  msm_sent own = sent_without_1020 x.station f (Ok (formed v)) is (msm_isnt_1020 v.form v.msm) ∙ ap (λ (b : Bool). if b then sent_channels (formed v) else []) own
+
+  msm_sender : {stations : FirstTwo} → ((ns : List ℕ) → x.first.stations ≡ first_two ns → stations ≡ first_two (ns ++ header.station ∷ [])) → (ns : List ℕ) → x.first.stations ≡ first_two ns → stations ≡ first_two (ns ++ option_to_list (sender (inspected (formed v))))
+  msm_sender stations ns h =
+      let is_sender : option_to_list (sender (inspected (formed v))) ≡ header.station ∷ [] = grind (arith, same) in
+      stations ns h ∙ ap (λ (l : List ℕ). first_two (ns ++ l)) (sym is_sender)
+
+  pub takes_another : {stations : FirstTwo} → is_of_station x.station (inspected (formed v)) ≡ false → ((ns : List ℕ) → x.first.stations ≡ first_two ns → stations ≡ first_two (ns ++ header.station ∷ []))
+      → Takes x (record x { first = record x.first { stations = stations }; counts = record x.counts { msm = (x.counts.msm + 1) % 2 ^ 64 } }) f (message_at f.message)
+  takes_another other stations = takes_none x f (Ok (formed v)) is (grind (arith, common_steps)) msm_number (ap (with_sent x.channels) (sym (msm_sent other))) msm_point (λ h. h) (msm_sender stations)
+
+  pub takes_msm : {counts : SignalCountsValue} {had : Forms} {channels : ChannelsValue} {tows : FirstTows} {stations : FirstTwo} {any : Bool} → is_of_station x.station (inspected (formed v)) ≡ true
+      → ((ns : List ℕ) → x.first.stations ≡ first_two ns → stations ≡ first_two (ns ++ header.station ∷ [])) → CountsMessage x.signal_counts counts None (inspected (formed v)) → any ≡ nat_lt 0 (length (valued None (inspected (formed v))))
+      → had ≡ (if any && not (have_form x.forms v.form) then forms.All else x.forms) → channels ≡ with_sent x.channels (sent_channels (formed v))
+      → ((fs : List Framed) → length fs < 2 ^ 56 → AreTows x.first.tows x.station fs → AreTows tows x.station (fs ++ f ∷ []))
+      → Takes x (record x { signal_counts = counts; forms = had; channels = channels; first = record x.first { tows = tows; stations = stations }; counts = record x.counts { msm = (x.counts.msm + 1) % 2 ^ 64 } }) f (message_at f.message)
+  takes_msm {counts} {any = any} own stations counted is_any had channels tows = rw is (record {
+    station = refl;
+    weeks = refl;
+    frames = refl;
+    msm = msm_number;
+    counted = λ cells few h. subst (λ (l : List HeardCell). AreSignalCounts counts (cells ++ l)) (sym cells_own) (counted.counts cells few h);
+    few = subst (λ (l : List HeardCell). length l ≤ most_pairs) (sym cells_own) counted.few;
+    forms = had ∙ forms_kept x.forms any v.form ∙ ap (λ (b : Bool). if b then forms.All else x.forms) (sym needs);
+    channels = channels ∙ ap (with_sent x.channels) (sym (msm_sent own));
+    point = msm_point;
+    in_range = λ h. h;
+    stations = msm_sender stations;
+    tows = tows;
+  }) where
+    cells_own : valued x.station (inspected (formed v)) ≡ valued None (inspected (formed v))
+    cells_own = ap (λ (b : Bool). if b then valued None (inspected (formed v)) else []) own
+
+    other : is_of_other forms.FourAndSeven (formed v) ≡ not (have_form forms.FourAndSeven v.form)
+    other = grind arith
+
+    needs : needs_all x.station (Ok (formed v)) ≡ (not (have_form forms.FourAndSeven v.form) && any)
+    needs = rw (other, own, is_any) refl
 
 -- the numbers of a stream, of those of its bytes and of its frames
 pub all_numbers : {c : StreamCounts} (b : List ℕ) → c.bytes ≡ length b → AreFrameCounts c (frames_of b) → c ≡ stream_counts b
@@ -30,17 +184,6 @@ none_counted c wanted signal_counts forms channels first weeks counts = record {
 
 pub new_counts : (c : StreamSignals) → Counts c tt [] c tt []
 new_counts c = record { same = refl; counts = λ few begun. begun }
-
--- one more frame was counted
-pub one_more_counted : {c0 : StreamSignals} (c : StreamSignals) {c2 : StreamSignals} {ps fs : List Framed} (f : Framed) → c2.station ≡ c.station
-    → ((gs : List Framed) → length gs < 2 ^ 56 → IsCounted c.signal_counts c.station gs → IsCounted c2.signal_counts c.station (gs ++ f ∷ []))
-    → ((gs : List Framed) → c.forms ≡ forms_had c.station gs → c2.forms ≡ forms_had c.station (gs ++ f ∷ []))
-    → ((gs : List Framed) → c.channels ≡ channels_in c.station gs → c2.channels ≡ channels_in c.station (gs ++ f ∷ []))
-    → ((gs : List Framed) → length gs < 2 ^ 56 → AreFirst c.first c.station gs → AreFirst c2.first c.station (gs ++ f ∷ []))
-    → ((gs : List Framed) → c.first.tows.greatest ≡ greatest_in c.station gs → AreSaidIn c.weeks c.station gs → AreSaidIn c2.weeks c.station (gs ++ f ∷ []))
-    → ((gs : List Framed) → length gs < 2 ^ 56 → AreFrameCounts c.counts gs → AreFrameCounts c2.counts (gs ++ f ∷ []))
-    → Counts c0 tt ps c tt fs → Counts c0 tt ps c2 tt (fs ++ f ∷ [])
-one_more_counted c f kept step forms channels first weeks counts s = grind (arith, length-append {A = Framed})
 
 -- with the number of bytes
 abbrev pub with_bytes : StreamSignals → ℕ → StreamSignals

@@ -58,7 +58,7 @@ unfoldable pub use Rattle.rtcm_inspect.specs.ShowLines.{fault_line, message_line
 pub use Rattle.rtcm_inspect.specs.ShowLines.{height_words, line_with, read_for, read_line, show_line}
 pub use Rattle.rtcm_inspect.specs.SignalLaws.{CellValues, LosesUnknownCarriers, ReadsAll, SkipsOnly, values_by}
 unfoldable pub use Rattle.rtcm_inspect.specs.Signals.{count_line}
-pub use Rattle.rtcm_inspect.specs.Signals.{AreSignalsOf, AreSignalsRefused, code_list, codes_word, count_lines, decodes, forms_had, had, had_below, has_counted, has_other_value, lines_below, needs_all, plan_had, plan_in, set_had, valued_in, valued_of, with_forms}
+pub use Rattle.rtcm_inspect.specs.Signals.{AreSignalsOf, AreSignalsRefused, code_list, codes_word, count_lines, decodes, forms_had, had, had_below, has_counted, has_other_value, lines_below, needs_all, plan_had, plan_in, set_had, valued_in, valued_of}
 pub use Rattle.rtcm_inspect.specs.StreamChannels.{channels_in, sent_by, sent_in, sent_of, with_first, with_sent}
 pub use Rattle.rtcm_inspect.specs.StreamCounts.{is_msm, msm_in, stream_counts}
 pub use Rattle.rtcm_inspect.specs.StreamOutput.{EndsStream, ReadsTooMuch}
@@ -76,7 +76,7 @@ pub use Rattle.rtcm_inspect.specs.declared.first_two.FirstTwo.{FirstTwo}
 pub use Rattle.rtcm_inspect.specs.declared.first_two.FirstTwo.TheVariants.{One, Several, Unknown}
 pub use Rattle.rtcm_inspect.specs.declared.listing.Listing.{Listing}
 pub use Rattle.rtcm_inspect.specs.declared.printed_week.FirstMsm.{FirstMsm}
-pub use Rattle.rtcm_inspect.specs.inner.Counting.{AreFrameCounts, AreSignals, Counts, HasCounted, IsCounted, NeverFails, StopsCounting}
+pub use Rattle.rtcm_inspect.specs.inner.Counting.{AreFrameCounts, AreSignals, Counts, HasCounted, IsCounted, NeverFails, StopsCounting, Takes}
 pub use Rattle.rtcm_inspect.specs.inner.FirstTows.{AreSettled, AreTows, CountsTow, IsGreatestAt, IsMsmOf, IsWith, PlacesTow, earlier, earliest, entry, greatest_among, later_by, placed_by, settled, settled_tows}
 pub use Rattle.rtcm_inspect.specs.inner.Lines.{longest_head, longest_plan, longest_quoted}
 pub use Rattle.rtcm_inspect.specs.inner.SaidWeeks.{AreSaid, AreSaidIn}

@@ -1,5 +1,5 @@
 -- What is read of messages if only the MSMs of a set are decoded.
-use Rattle.rtcm_inspect.proofs.Names.{or-false, ◌⊎◌, list_any_at, inside, outside, refused, other_of, has_msm, is_in_set, value_of, value_tabulated, is_decoded, ReadsAll, false_from_ne_true, true≢false, All-head, All-tail, GatherSetup, entries, is_planned, ◌≡◌, ◌∙◌, ◌++◌, ◌||◌, ℕ, Bool, true, false, not, List, [], ◌∷◌, Option, None, Result, Ok, Err, All, All-cons, All-nil, ⊤, ◌&&◌, ap, arith, bits_of, length, list_any, list_any-append, nat_lt, option_and_then, option_map_or, refl, subst, sym, if◌then◌else◌, Framed, MsgFault, Message, Msm4, Msm5, Msm6, Msm7, Form, Forms, MsmSet, message_at, message_with, have_form, System, Heard, HeardCell, every_channel, heard, heard_of, inspected, inspected_in, inspected_of, is_of_station, set_of, valued, forms_had, has_other_value, needs_all, tow_of, valued_in, valued_of, with_forms}
+use Rattle.rtcm_inspect.proofs.Names.{or-false, ◌⊎◌, list_any_at, inside, outside, refused, other_of, has_msm, is_in_set, value_of, value_tabulated, is_decoded, ReadsAll, false_from_ne_true, true≢false, All-head, All-tail, GatherSetup, entries, is_planned, ◌≡◌, ◌∙◌, ◌++◌, ℕ, Bool, true, false, not, List, [], ◌∷◌, Option, None, Result, Ok, Err, All, All-cons, All-nil, ⊤, ◌&&◌, ap, arith, bits_of, length, list_any-append, nat_lt, option_and_then, option_map_or, refl, subst, sym, if◌then◌else◌, Framed, MsgFault, Message, Msm4, Msm5, Msm6, Msm7, Form, Forms, MsmSet, message_at, message_with, have_form, System, Heard, HeardCell, every_channel, heard, heard_of, inspected, inspected_in, inspected_of, is_of_station, set_of, valued, forms_had, has_other_value, needs_all, tow_of, valued_in, valued_of}
 use Rattle.rtcm_msg.specs.declared.number.Forms.TheVariants as forms
 use Rattle.rtcm_msg.specs.declared.view.Form.TheVariants as form
 use Rattle.rtcm_inspect.proofs.ValuedLemmas.{valued_system}
@@ -120,13 +120,10 @@ loses_none s fs planned = grind (arith, kept_frame, planned_each, not_needed, fa
 
 -- ---- the forms of one more message
 
-forms_more : (wanted : Option ℕ) (fs : List Framed) (f : Framed) (r : Result Message MsgFault) → message_at f.message ≡ r
-    → forms_had wanted (fs ++ f ∷ []) ≡ (if list_any (needs wanted) fs || (needs_all wanted r || false) then forms.All else forms.FourAndSeven)
-forms_more wanted fs f r read = grind (arith, list_any-append)
+pub forms_more : {before after : Forms} (wanted : Option ℕ) (fs : List Framed) (f : Framed) → after ≡ (if needs_all wanted (message_at f.message) then forms.All else before) → before ≡ forms_had wanted fs → after ≡ forms_had wanted (fs ++ f ∷ [])
+forms_more wanted fs f new old = grind (arith, list_any-append, or-false)
 
-pub forms_read : {before after : Forms} (wanted : Option ℕ) (fs : List Framed) (f : Framed) (m : Message) → message_at f.message ≡ Ok m → after ≡ with_forms before wanted m → before ≡ forms_had wanted fs
-    → after ≡ forms_had wanted (fs ++ f ∷ [])
-forms_read wanted fs f m read new old = grind (arith, forms_more)
-
-pub forms_refused : {before : Forms} (wanted : Option ℕ) (fs : List Framed) (f : Framed) (e : MsgFault) → message_at f.message ≡ Err e → before ≡ forms_had wanted fs → before ≡ forms_had wanted (fs ++ f ∷ [])
-forms_refused wanted fs f e read old = grind (arith, forms_more, or-false)
+-- those of one more MSM, by whether it has a cell
+pub forms_kept : (had : Forms) (any : Bool) (f : Form) → (if any && not (have_form had f) then forms.All else had) ≡ (if not (have_form forms.FourAndSeven f) && any then forms.All else had)
+forms_kept forms.FourAndSeven any f = grind arith
+forms_kept forms.All any f = grind arith

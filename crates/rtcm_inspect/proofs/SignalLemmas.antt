@@ -93,9 +93,6 @@ no_cells c (x ∷ xs) h keys none = absurd (omega (arith, h.each x.signal.system
   zero : counted c x.signal.system x.signal.index ≡ 0
   zero = any_none (signal_counts x.signal.system c) (none_any (λ s. list_any (λ n. nat_lt 0 n) (signal_counts s c)) none x.signal.system) x.signal.index
 
-pub any_cells : (c : SignalCountsValue) (cells : List HeardCell) → AreSignalCounts c cells → All IsKey cells → has_any c ≡ nat_lt 0 (length cells)
-any_cells c cells h keys = grind (arith, lt-ltb, some_cells, no_cells)
-
 -- ---- whether a system has a cell, by the counts of its signals
 
 pub any_filter : {X : Type 0} (p : X → Bool) (xs : List X) → list_any p xs ≡ nat_lt 0 (length (filter p xs))

@@ -1,6 +1,5 @@
 -- The channels of one more frame.
-use Rattle.rtcm_inspect.proofs.Names.{length-set, All-replicate, All-set, fold-append, Glonass, system_same, message_by, number_of, kind_of, message_there, common_steps, AreChannels, Bool, ChannelsValue, Err, Form, Framed, IfSome, List, Message, MsgFault, MsmValue, None, Ok, Option, Other, Result, System, [], ap, arith, channel_of_1020, channels_in, false, flat_map, flat_map-append, is_some, is_system, length, message_at, message_in, most_number, nat_le, no_channels, option_to_list, refl, sent_by, sent_channels, sent_in, sent_of, slot_count, sym, true, with_first, with_sent, ℕ, ◌++◌, ◌==◌, ◌∷◌, ◌≡◌, ◌≤◌}
-use Rattle.rtcm_inspect.proofs.SetLemmas.{if_same}
+use Rattle.rtcm_inspect.proofs.Names.{length-set, All-replicate, All-set, fold-append, Glonass, system_same, message_by, number_of, kind_of, message_there, common_steps, AreChannels, Bool, ChannelsValue, Err, Form, Framed, IfSome, List, Message, MsgFault, MsmValue, None, Ok, Option, Other, Result, System, [], arith, channel_of_1020, channels_in, false, flat_map, flat_map-append, is_some, is_system, length, message_at, message_in, most_number, nat_le, no_channels, refl, sent_by, sent_channels, sent_in, slot_count, true, with_first, with_sent, ℕ, ◌++◌, ◌==◌, ◌∷◌, ◌≡◌, ◌≤◌, option_to_list, ap}
 
 -- ---- only a message 1020 has the channel of one
 
@@ -29,28 +28,14 @@ another_system s other = grind (arith, system_same)
 pub none_of_another : (f : Form) (v : MsmValue) → (v.system ≡ Glonass → ⊥) → sent_channels (message_in f v) ≡ []
 none_of_another f v other = grind (arith, another_system)
 
-module _ (known : ChannelsValue) (wanted : Option ℕ) (bytes : List ℕ) where
-  pub only_sent : (m : Message) → is_1020 (Ok m) ≡ false → message_at bytes ≡ Ok m
-      → with_sent known (sent_of wanted m) ≡ with_sent known (option_to_list (channel_of_1020 bytes) ++ sent_of wanted m)
-  only_sent m other read = ap (λ (o : Option (ℕ × ℕ)). with_sent known (option_to_list o ++ sent_of wanted m)) (sym (no_1020 bytes (Ok m) read other))
-
-  pub none_sent : (m : Message) → is_1020 (Ok m) ≡ false → sent_channels m ≡ [] → message_at bytes ≡ Ok m
-      → known ≡ with_sent known (option_to_list (channel_of_1020 bytes) ++ sent_of wanted m)
-  none_sent m other none read = grind (arith, if_same, only_sent)
+-- those of a frame with another message
+pub sent_without_1020 : (wanted : Option ℕ) (f : Framed) (r : Result Message MsgFault) → message_at f.message ≡ r → is_1020 r ≡ false → option_to_list (channel_of_1020 f.message) ++ sent_by wanted r ≡ sent_by wanted r
+sent_without_1020 wanted f r is other = ap (λ (o : Option (ℕ × ℕ)). option_to_list o ++ sent_by wanted r) (no_1020 f.message r is other)
 
 -- ---- one more frame
 
--- the channels after those of the frames before
-channels_more : (wanted : Option ℕ) (fs : List Framed) (f : Framed) (r : Result Message MsgFault) → message_at f.message ≡ r
-    → channels_in wanted (fs ++ f ∷ []) ≡ with_sent (channels_in wanted fs) (option_to_list (channel_of_1020 f.message) ++ sent_by wanted r)
-channels_more wanted fs f r is = grind (arith, flat_map-append, fold-append)
-
-pub channels_read : {x y : ChannelsValue} (wanted : Option ℕ) (fs : List Framed) (f : Framed) {m : Message} → message_at f.message ≡ Ok m
-    → y ≡ with_sent x (option_to_list (channel_of_1020 f.message) ++ sent_of wanted m) → x ≡ channels_in wanted fs → y ≡ channels_in wanted (fs ++ f ∷ [])
-channels_read wanted fs f is now before = grind (arith, channels_more)
-
-pub channels_refused : {x : ChannelsValue} (wanted : Option ℕ) (fs : List Framed) (f : Framed) {e : MsgFault} → message_at f.message ≡ Err e → x ≡ channels_in wanted fs → x ≡ channels_in wanted (fs ++ f ∷ [])
-channels_refused wanted fs f is before = grind (arith, channels_more, no_1020)
+pub channels_more : {x y : ChannelsValue} (wanted : Option ℕ) (fs : List Framed) (f : Framed) → y ≡ with_sent x (sent_in wanted f) → x ≡ channels_in wanted fs → y ≡ channels_in wanted (fs ++ f ∷ [])
+channels_more wanted fs f now before = grind (arith, flat_map-append, fold-append)
 
 -- ---- the numbers are those of channels
 

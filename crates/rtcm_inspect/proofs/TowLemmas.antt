@@ -1,9 +1,9 @@
 -- The first MSMs of each system, after one more message.
-use Rattle.rtcm_inspect.proofs.Names.{and-or_distrib_right, systems, index_of, is_system, length-take-le, tabulate, value_of, with_value_of, FourAndSeven, BySystem, any_system, each_after, index_less, is_tabulated, system_same, systems_split, value_after, value_of_other, value_tabulated, is_in_set, weeks, counted_before, counted_set, counted_tows, greatest_in, greatest_of, with_tow, counted_in, AreSettled, AreTows, CountsTow, IsGreatestAt, IsMsmOf, IsWith, PlacesTow, earlier, earliest, entry, later_by, placed_by, settled, settled_tows, FirstTows, PlacedTow, SystemTows, common_steps, option_or, le-ltb, lt-ltb, Framed, Message, MsgFault, Ok, Err, ◌++◌, ◌≤◌, first_tow, every_channel, heard, inspected_in, drop, length, length-append, message_at, tow_of, week, ◌*◌, ◌≡◌, ◌∙◌, ◌+◌, ◌<◌, ◌&&◌, ◌||◌, ℕ, Bool, true, false, List, [], ◌∷◌, Option, Some, None, IfSome, ap, ap₂, arith, list_any, option_map, is_some, refl, subst, sym, if◌then◌else◌, have_form, Form, Forms, MsmSet, System}
+use Rattle.rtcm_inspect.proofs.Names.{and-or_distrib_right, systems, index_of, is_system, length-take-le, tabulate, value_of, with_value_of, FourAndSeven, BySystem, any_system, each_after, index_less, is_tabulated, system_same, systems_split, value_after, value_of_other, value_tabulated, is_in_set, weeks, counted_before, counted_set, counted_tows, greatest_in, greatest_of, with_tow, counted_in, AreSettled, AreTows, CountsTow, IsGreatestAt, IsMsmOf, IsWith, PlacesTow, earlier, earliest, entry, later_by, placed_by, settled, settled_tows, FirstTows, PlacedTow, SystemTows, common_steps, option_or, le-ltb, lt-ltb, Framed, Message, Ok, ◌++◌, ◌≤◌, first_tow, every_channel, heard, inspected_in, drop, length, length-append, message_at, tow_of, week, ◌*◌, ◌≡◌, ◌∙◌, ◌+◌, ◌<◌, ◌&&◌, ◌||◌, ℕ, Bool, true, false, List, [], ◌∷◌, Option, Some, None, IfSome, ap, ap₂, arith, list_any, option_map, is_some, refl, subst, sym, if◌then◌else◌, have_form, Form, Forms, MsmSet, System, option_and_then, FormedMsm, MsmHeader, formed, inspected, is_of_station, gps_tow}
 use Rattle.rtcm_msg.specs.declared.number.Forms.TheVariants.{All}
 use Rattle.gnss_system.specs.declared.system.System.TheVariants as listed
 use Rattle.rtcm_inspect.proofs.FirstLemmas.{first_more, or_none}
-use Rattle.rtcm_inspect.proofs.SetLemmas.{if_same, tow_read, tow_refused}
+use Rattle.rtcm_inspect.proofs.SetLemmas.{if_same, tow_read}
 use Rattle.rtcm_inspect.proofs.StreamChannelLemmas.{another_system}
 use Rattle.rtcm_inspect.proofs.CountedLemmas.{at_more, greatest_more, none_counted, number_kept, number_new, some_counted}
 use Rattle.rtcm_inspect.specs.inner.FirstTows.{tow_in}
@@ -68,9 +68,6 @@ first_after leap set wanted fs f m read =
 -- ---- the greatest time
 
 -- what a frame has for a set
-tow_refused_in : (set : MsmSet) (wanted : Option ℕ) (f : Framed) {e : MsgFault} → message_at f.message ≡ Err e → counted_in set wanted f ≡ None
-tow_refused_in set wanted f {e} read = tow_refused 0 set wanted f.message e read
-
 tow_read_in : (set : MsmSet) (wanted : Option ℕ) (f : Framed) {m : Message} → message_at f.message ≡ Ok m
     → counted_in set wanted f ≡ (if is_in_set set m then tow_of wanted (heard every_channel 0 m) else None)
 tow_read_in set wanted f {m} read = tow_read 0 set wanted f.message m read
@@ -101,37 +98,19 @@ uncounted : (wanted : Option ℕ) (fs : List Framed) (f : Framed) (set : MsmSet)
     → AtFirst wanted (fs ++ f ∷ []) (counted_tows wanted fs) set o → AtFirst wanted (fs ++ f ∷ []) (counted_tows wanted (fs ++ f ∷ [])) set o
 uncounted wanted fs f set o none h = subst (λ (l : List ℕ). AtFirst wanted (fs ++ f ∷ []) l set o) (sym (none_counted wanted fs f none)) h
 
--- a message that was refused
-pub tows_refused : {x : FirstTows} {wanted : Option ℕ} {fs : List Framed} (f : Framed) {e : MsgFault} → message_at f.message ≡ Err e → AreTows x wanted fs → AreTows x wanted (fs ++ f ∷ [])
-tows_refused {x} {wanted} {fs} f {e} read h = record {
+-- a frame without an MSM of the wanted station
+pub tows_none : {x : FirstTows} {wanted : Option ℕ} {fs : List Framed} (f : Framed) → ((leap : ℕ) (set : MsmSet) → option_and_then (tow_of wanted) (inspected_in leap set f.message) ≡ None) → AreTows x wanted fs → AreTows x wanted (fs ++ f ∷ [])
+tows_none {x} {wanted} {fs} f none h = record {
   few = omega (arith, more_frames x.messages fs f h.few);
   before = h.before;
-  first = λ leap set. h.first leap set ∙ sym (first_more (inspected_in leap set) (tow_of wanted) fs f ∙ ap (option_or (first_tow leap set wanted fs)) (tow_refused leap set wanted f.message e read) ∙ or_none (first_tow leap set wanted fs));
-  greatest = h.greatest ∙ ap greatest_of (sym (none_counted wanted fs f (tow_refused_in counted_set wanted f read)));
+  first = λ leap set. h.first leap set ∙ sym (first_more (inspected_in leap set) (tow_of wanted) fs f ∙ ap (option_or (first_tow leap set wanted fs)) (none leap set) ∙ or_none (first_tow leap set wanted fs));
+  greatest = h.greatest ∙ ap greatest_of (sym (none_counted wanted fs f (none 0 counted_set)));
   settled = h.settled;
-  at_first = λ set. uncounted wanted fs f set (earliest set x.tows systems) (tow_refused_in counted_set wanted f read) (at_same f h set);
+  at_first = λ set. uncounted wanted fs f set (earliest set x.tows systems) (none 0 counted_set) (at_same f h set);
 }
 
 later : (n m : ℕ) (o : Option PlacedTow) → n ≤ m → IsBefore n o → IsBefore m o
 later n m o le h = grind arith
-
-no_tow : (b : Bool) (o : Option ℕ) (t : Option ℕ) → t ≡ None → option_or o (if b then t else None) ≡ o
-no_tow b o t none = grind (arith, or_none)
-
--- a message that isn't an MSM of the wanted station
-pub tows_same : {x y : FirstTows} {wanted : Option ℕ} {fs : List Framed} (f : Framed) {m : Message} → message_at f.message ≡ Ok m → y.messages ≡ x.messages + 1 → y ≡ record x { messages = y.messages }
-    → ((leap : ℕ) → tow_of wanted (heard every_channel leap m) ≡ None) → AreTows x wanted fs → AreTows y wanted (fs ++ f ∷ [])
-tows_same {x} {y} {wanted} {fs} f {m} read count same none h = subst (λ (z : FirstTows). AreTows z wanted (fs ++ f ∷ [])) (sym same) (record {
-  few = omega (arith, count, more_frames x.messages fs f h.few);
-  before = λ s forms. later x.messages y.messages (tow_in forms (value_of s x.tows)) (omega (arith, count)) (h.before s forms);
-  first = λ leap set. h.first leap set ∙ sym (first_after leap set wanted fs f m read ∙ no_tow (is_in_set set m) (first_tow leap set wanted fs) (tow_of wanted (heard every_channel leap m)) (none leap));
-  greatest = h.greatest ∙ ap greatest_of (sym (none_counted wanted fs f none_here));
-  settled = h.settled;
-  at_first = λ set. uncounted wanted fs f set (earliest set x.tows systems) none_here (at_same f h set);
-})
-  where
-    none_here : counted_in counted_set wanted f ≡ None
-    none_here = tow_read_in counted_set wanted f read ∙ if_same (is_in_set counted_set m) (none 0)
 
 tow_grown : (leap : ℕ) (b : Bool) (c : PlacedTow) (o : Option PlacedTow) → option_map (placed_by leap) (grown b c o) ≡ option_or (option_map (placed_by leap) o) (if b then Some (placed_by leap c) else None)
 tow_grown leap b c o = grind arith
@@ -156,6 +135,14 @@ at_grown wanted fs f set c b o none h new = grind arith
 
 if_true : (b : Bool) (o : Option ℕ) → b ≡ true → (if b then o else None) ≡ o
 if_true b o e = ap (λ (d : Bool). if d then o else None) e
+
+-- the system, the form and the time of week of an MSM
+pub msm_is : (v : FormedMsm) {system : System} {form : Form} → system ≡ v.msm.system → form ≡ v.form → IsMsmOf (formed v) system form
+msm_is v system form set = grind arith
+
+pub msm_tow : (wanted : Option ℕ) (v : FormedMsm) {system : System} {header : MsmHeader} {tow : ℕ} → is_of_station wanted (inspected (formed v)) ≡ true → system ≡ v.msm.system → header ≡ v.msm.header → tow ≡ gps_tow system 0 header.time → (leap : ℕ)
+    → tow_of wanted (heard every_channel leap (formed v)) ≡ Some (later_by system leap tow)
+msm_tow wanted v own system header tow leap = grind (arith, common_steps)
 
 pub tows_placed : {x y : FirstTows} {wanted : Option ℕ} {fs : List Framed} (f : Framed) {m : Message} (form : Form) (c : PlacedTow) {n : ℕ} → n ≡ x.messages + 1 → message_at f.message ≡ Ok m → c.place ≡ x.messages → c.greatest ≡ None
     → IsMsmOf m c.system form → ((leap : ℕ) → tow_of wanted (heard every_channel leap m) ≡ Some (later_by c.system leap c.tow))

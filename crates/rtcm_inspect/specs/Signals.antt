@@ -68,10 +68,6 @@ is_of_other forms v = by_message (λ s. false) (λ f m. not (have_form forms f))
 abbrev pub has_other_value : Forms → Option ℕ → Message → Bool
 has_other_value forms wanted m = is_of_other forms m && nat_lt 0 (length (valued wanted (inspected m)))
 
--- the forms with that of one more message
-abbrev pub with_forms : Forms → Option ℕ → Message → Forms
-with_forms forms wanted m = if has_other_value forms wanted m then All else forms
-
 abbrev pub needs_all : Option ℕ → Result Message MsgFault → Bool
 needs_all wanted (Ok m) = has_other_value FourAndSeven wanted m
 needs_all wanted (Err e) = false

@@ -1,24 +1,23 @@
 //! The signals of a stream, counted while it is read.
-ghost use Rattle.std.specs.Prelude.{◌≡◌, ◌<◌, ◌^◌, ◌++◌, ◌∷◌, [], List, Ok, IfOk, IfErr, length, nat_lt};
+ghost use Rattle.std.specs.Prelude.{◌≡◌, ℕ, Some, List, Ok, IfOk, IfErr};
 ghost use Rattle.rtcm_msg.specs.Decoding.{message_at};
+ghost use Rattle.rtcm_msg.specs.Fields.{GivesViewed};
 ghost use Rattle.rtcm_msg.specs.inner.Viewed.{viewed_message};
 ghost use Rattle.rtcm_scan.specs.Frames.{Framed};
-ghost use Rattle.obs_epoch.specs.SignalCounts.{valued};
-ghost use Rattle.rtcm_inspect.specs.Inspected.{inspected};
-ghost use Rattle.rtcm_inspect.specs.Signals.{with_forms};
-ghost use Rattle.rtcm_inspect.specs.StreamCounts.{is_msm};
-ghost use Rattle.rtcm_inspect.specs.inner.Counting.{AreFrameCounts, HasCounted, StopsCounting};
+ghost use Rattle.obs_epoch.specs.Heard.{Heard};
+ghost use Rattle.obs_epoch.specs.SignalCounts.{is_of_station};
+ghost use Rattle.rtcm_inspect.specs.inner.Counting.{HasCounted, StopsCounting, Takes};
 ghost use Rattle.rtcm_inspect.specs.Devices.{CountsReader};
 
 use crate::fault::{InspectFault, StreamCounts};
-use crate::first_messages::{FirstMessages, is_of_other};
+use crate::first_messages::FirstMessages;
 use crate::listing::PIECE_BYTES;
 use crate::said_weeks::SaidWeeks;
-use crate::stream_channels::add_sent_channels;
+use crate::stream_channels::{add_1020, add_channels};
 use devices::{Counted, DeviceFailed};
 use gnss_obs::Channels;
 use obs_epoch::SignalCounts;
-use rtcm_msg::{Forms, MsmSet, View, look_in};
+use rtcm_msg::{Forms, MsgFault, MsmSet, MsmView, Station, View, look_in};
 use rtcm_scan::{Frame, FrameSink, Framer, MOST_BYTES, ScanFault, laws};
 use std::alloc::Global;
 use std::io::Read;
@@ -54,24 +53,12 @@ impl FrameSink<()> for StreamSignals {
     /// Counts the cells of the frame's message, and keeps what it contains if it is a first one.
     fn take(&mut self, frame: &Frame, _out: &mut ()) -> Result<(), DeviceFailed> {
         let message = frame.message.as_slice();
-        let station = self.station;
         self.weeks.add(self.first.tows.greatest, message);
+        // No stream has 2^64 frames.
+        self.counts.frames = self.counts.frames.wrapping_add(1);
         // Not `look`, which would copy the view for each message.
-        match &look_in(&MsmSet::all(), message) {
-            Ok(view) => {
-                self.counts.add_frame(is_msm(view));
-                self.signal_counts.count_view(station, view);
-                add_form(&mut self.forms, station, view);
-                add_sent_channels(&mut self.channels, station, message, view);
-                self.first.add(station, view);
-                Ok(())
-            }
-            // A refused message has no cells.
-            Err(_) => {
-                self.counts.add_frame(false);
-                Ok(())
-            }
-        }
+        self.take_message(message, &look_in(&MsmSet::all(), message));
+        Ok(())
     }
 
     fn send(&self, _out: &mut ()) -> Result<(), DeviceFailed> {
@@ -79,45 +66,56 @@ impl FrameSink<()> for StreamSignals {
     }
 }
 
-impl StreamCounts {
-    /// Adds one more frame.
-    fn add_frame(&mut self, has_msm: bool)
-        ensures { (fs : List Framed) (f : Framed) → is_msm (message_at f.message) ≡ has_msm
-            → length fs < 2 ^ 56 → AreFrameCounts self.old fs → AreFrameCounts self.new (fs ++ f ∷ []) }
+impl StreamSignals {
+    /// Adds a message. A refused one adds nothing.
+    fn take_message(&mut self, message: &[u8], view: &Result<View<'_>, MsgFault>)
+        ensures { (f : Framed) → f.message ≡ message.now
+            → GivesViewed viewed_message view.now (message_at message.now)
+            → Takes self.old self.new f (message_at f.message) }
     {
-        // No stream has 2^64 frames.
-        self.frames = self.frames.wrapping_add(1);
-        if has_msm {
-            self.msm = self.msm.wrapping_add(1);
+        match view {
+            Ok(View::Msm(msm)) => self.take_msm(msm),
+            Ok(View::Station(station)) => self.take_station(station),
+            Ok(View::Other { .. }) => add_1020(&mut self.channels, message),
+            Err(_) => {}
         }
     }
-}
 
-/// Returns whether a message is an MSM.
-fn is_msm(view: &View<'_>) -> bool
-    ensures { result ≡ is_msm (Ok (viewed_message view.now)) }
-{
-    matches!(view, View::Msm(_))
-}
-
-/// Adds one more message to the forms: they are all, if it is an MSM in another form, and has a cell
-/// with a value.
-fn add_form(forms: &mut Forms, station: Option<u16>, view: &View<'_>)
-    ensures { forms.new ≡ with_forms forms.old station (viewed_message view.now) }
-{
-    if is_of_other(*forms, view) && has_value(station, view) {
-        *forms = Forms::All;
+    /// Adds an MSM. Of that of another station, only the station is kept.
+    fn take_msm(&mut self, msm: &MsmView<'_>)
+        ensures { (f : Framed) → message_at f.message ≡ Ok (viewed_message (View.Msm msm.now))
+            → Takes self.old self.new f (message_at f.message) }
+    {
+        let station = msm.header().station;
+        self.counts.msm = self.counts.msm.wrapping_add(1);
+        self.first.stations.add(station);
+        if self.is_wanted(station) {
+            add_channels(&mut self.channels, msm);
+            self.first.tows.add(msm);
+            if self.signal_counts.count_msm(msm) && !self.forms.have(msm.form()) {
+                self.forms = Forms::All;
+            }
+        }
     }
-}
 
-/// Returns whether a cell of a message of this station has a value; if none is given, of any.
-#[inline(never)]
-fn has_value(station: Option<u16>, view: &View<'_>) -> bool
-    ensures { result ≡ nat_lt 0 (length (valued station (inspected (viewed_message view.now)))) }
-{
-    let mut signal_counts = SignalCounts::new();
-    signal_counts.count_view(station, view);
-    signal_counts.has_any()
+    /// Adds a station message. Of that of another station, only the station is kept.
+    fn take_station(&mut self, message: &Station)
+        ensures { (f : Framed) → message_at f.message ≡ Ok (viewed_message (View.Station message.now))
+            → Takes self.old self.new f (message_at f.message) }
+    {
+        let parts = message.parts();
+        self.first.stations.add(parts.station);
+        if self.is_wanted(parts.station) && self.first.point.is_none() {
+            self.first.point = Some(parts);
+        }
+    }
+
+    /// Returns whether the messages of a station count.
+    fn is_wanted(&self, station: u16) -> bool
+        ensures { (m : Heard) → m.station ≡ Some station → result ≡ is_of_station self.now.station m }
+    {
+        self.station.unwrap_or(station) == station
+    }
 }
 
 /// Counts the signals of a stream of at most 2^48 bytes that have a cell with a value, for one

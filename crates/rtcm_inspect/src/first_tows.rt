@@ -1,30 +1,30 @@
 //! The times of week of the first MSMs of a stream, and the times counted along it.
-ghost use Rattle.std.specs.Prelude.{◌≡◌, ◌*◌, ◌<◌, ◌^◌, ◌∷◌, ◌++◌, [], ℕ, List, Option, Some, None, Ok, IfNone, IfSome, false};
+ghost use Rattle.std.specs.Prelude.{◌≡◌, ◌*◌, ◌<◌, ◌^◌, ◌∷◌, ◌++◌, [], ℕ, List, Option, Some, Ok, IfSome, false, true};
 ghost use Rattle.std.specs.Prelude.{length, option_map};
 ghost use Rattle.std.specs.Option.{option_or};
 ghost use Rattle.gnss_system.specs.Systems.{systems};
 ghost use Rattle.rtcm_msg.specs.Decoding.{message_at};
-ghost use Rattle.rtcm_msg.specs.inner.Viewed.{viewed_message};
+ghost use Rattle.rtcm_msg.specs.inner.Views.{formed};
 ghost use Rattle.rtcm_msg.specs.declared.number.Forms.{Forms};
 ghost use Rattle.rtcm_scan.specs.Frames.{Framed};
-ghost use Rattle.obs_epoch.specs.Heard.{heard};
-ghost use Rattle.obs_epoch.specs.SignalCounts.{every_channel};
+ghost use Rattle.obs_epoch.specs.SignalCounts.{is_of_station};
 ghost use Rattle.obs_epoch.specs.Times.{ahead};
 ghost use Rattle.gnss_obs.specs.Weeks.{week, weeks};
-ghost use Rattle.rtcm_inspect.specs.inner.FirstTows.{AreTows, IsMsmOf, IsWith, earlier, earliest, entry, CountsTow};
+ghost use Rattle.rtcm_inspect.specs.Inspected.{inspected};
+ghost use Rattle.rtcm_inspect.specs.inner.FirstTows.{AreTows, IsWith, earlier, earliest, entry, CountsTow};
 ghost use Rattle.rtcm_inspect.specs.inner.FirstTows.{PlacesTow, SettlesTows, greatest_among, later_by, placed_by};
 ghost use Rattle.rtcm_inspect.specs.inner.FirstTows.{settled, settled_tows, tow_in};
 ghost use Rattle.rtcm_inspect.specs.CountedTimes.{with_tow};
-ghost use Rattle.rtcm_inspect.specs.WeekLaws.{tow_of};
 
 use gnss_obs::{GpsTime, WEEK};
 use gnss_system::{BySystem, SYSTEMS, System};
-use rtcm_msg::{Form, Forms, MsmSet, View};
+use obs_epoch::tow_of;
+use rtcm_msg::{Form, Forms, MsmSet, MsmView};
 
-/// The time of week of an MSM in milliseconds, and the number of messages read before it.
+/// The time of week of an MSM in milliseconds, and the number of MSMs before it.
 #[derive(Clone, Copy)]
 pub struct PlacedTow {
-    /// The number of messages read before it.
+    /// The number of MSMs of the wanted station before it.
     pub place: u64,
     /// The system.
     pub system: System,
@@ -47,7 +47,7 @@ pub struct SystemTows {
 /// The first MSMs of each system.
 #[derive(Clone, Copy)]
 pub struct FirstTows {
-    /// The number of messages read.
+    /// The number of MSMs of the wanted station.
     pub messages: u64,
     /// The first MSMs.
     pub tows: BySystem<SystemTows>,
@@ -108,28 +108,29 @@ impl FirstTows {
         }
     }
 
-    /// Adds one more message.
-    pub fn add(&mut self, wanted: Option<u16>, view: &View<'_>)
-        ensures { (fs : List Framed) (f : Framed) → message_at f.message ≡ Ok (viewed_message view.now)
-            → length fs < 2 ^ 56 → AreTows self.old wanted fs → AreTows self.new wanted (fs ++ f ∷ []) }
+    /// Adds one more MSM.
+    pub fn add(&mut self, msm: &MsmView<'_>)
+        ensures { (wanted : Option ℕ) (fs : List Framed) (f : Framed) → message_at f.message ≡ Ok (formed msm.now)
+            → is_of_station wanted (inspected (formed msm.now)) ≡ true → length fs < 2 ^ 56
+            → AreTows self.old wanted fs → AreTows self.new wanted (fs ++ f ∷ []) }
     {
+        let system = msm.system();
+        let tow = tow_of(system, 0, msm.header().time);
         let place = self.messages;
         // No stream has 2^64 messages.
         self.messages = self.messages.wrapping_add(1);
-        if let Some((system, form, tow)) = tow_of(wanted, view) {
-            self.place(
-                form,
-                PlacedTow {
-                    place,
-                    system,
-                    tow,
-                    greatest: None,
-                },
-            );
-            match system {
-                System::Glonass => {}
-                _ => self.count(tow),
-            }
+        self.place(
+            msm.form(),
+            PlacedTow {
+                place,
+                system,
+                tow,
+                greatest: None,
+            },
+        );
+        match system {
+            System::Glonass => {}
+            _ => self.count(tow),
         }
     }
 
@@ -205,34 +206,6 @@ impl FirstTows {
         } else {
             None
         }
-    }
-}
-
-/// Returns the system, the form and the time of week of an MSM of the wanted station, if GPS time
-/// were UTC; if no station is given, of any.
-fn tow_of(wanted: Option<u16>, view: &View<'_>) -> Option<(System, Form, u32)>
-    ensures some { IfSome result (λ x. IsMsmOf (viewed_message view.now) x.0 x.1
-        × ((leap : ℕ)
-        → tow_of wanted (heard every_channel leap (viewed_message view.now)) ≡ Some (later_by x.0 leap x.2))) }
-    ensures none { IfNone result
-        ((leap : ℕ) → tow_of wanted (heard every_channel leap (viewed_message view.now)) ≡ None) }
-{
-    // One exit at the end: early returns cost 3 instructions a message.
-    match view {
-        View::Msm(message) => {
-            let header = message.header();
-            if wanted.unwrap_or(header.station) == header.station {
-                let system = message.system();
-                Some((
-                    system,
-                    message.form(),
-                    obs_epoch::tow_of(system, 0, header.time),
-                ))
-            } else {
-                None
-            }
-        }
-        _ => None,
     }
 }
 

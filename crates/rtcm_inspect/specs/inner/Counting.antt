@@ -1,17 +1,29 @@
 -- The counts of the cells of a stream, by signal, while the stream is read.
-use Rattle.std.specs.Prelude.{◌≡◌, ℕ, ◌*◌, ◌<◌, ◌≤◌, ◌^◌, List, length, Option, ⊤}
+use Rattle.std.specs.Prelude.{◌≡◌, ℕ, ◌+◌, ◌*◌, ◌%◌, ◌<◌, ◌≤◌, ◌^◌, List, [], ◌∷◌, ◌++◌, length, Option, Result, ⊤}
+use Rattle.std.specs.Prelude.{IfSome, option_and_then, option_to_list, if◌then◌else◌}
+use Rattle.std.specs.Option.{option_map_or, option_or}
 use Rattle.std.specs.Io.KnownBytes.{Consumes, IsAtEnd}
 use Rattle.devices.specs.Device.{Device}
+use Rattle.gnss_obs.specs.HeardCells.{HeardCell}
 use Rattle.rtcm_scan.specs.Frames.{Framed, frames_of}
 use Rattle.rtcm_scan.specs.Scan.{most_bytes}
 use Rattle.rtcm_scan.specs.declared.framer.ScanFault.TheVariants as scan
+use Rattle.rtcm_msg.specs.Channels.{channel_of_1020}
+use Rattle.rtcm_msg.specs.declared.fault.MsgFault.{MsgFault}
+use Rattle.rtcm_msg.specs.declared.message.Message.{Message}
 use Rattle.rtcm_msg.specs.Msm.{most_pairs}
+use Rattle.rtcm_msg.specs.Station.{InRange}
+use Rattle.rtcm_msg.specs.declared.number.Forms.TheVariants.{All}
+use Rattle.obs_epoch.specs.SignalCounts.{valued}
 use Rattle.obs_epoch.specs.inner.SignalCounts.{SignalCountsValue, AreSignalCounts}
-use Rattle.rtcm_inspect.specs.FirstMessages.{AreFirst}
+use Rattle.rtcm_inspect.specs.FirstMessages.{AreFirst, point_of, sender}
+use Rattle.rtcm_inspect.specs.FirstTwo.{first_two}
+use Rattle.rtcm_inspect.specs.Inspected.{inspected_of}
+use Rattle.rtcm_inspect.specs.inner.FirstTows.{AreTows}
 use Rattle.rtcm_inspect.specs.inner.SaidWeeks.{AreSaidIn}
-use Rattle.rtcm_inspect.specs.Signals.{forms_had, valued_in}
-use Rattle.rtcm_inspect.specs.StreamChannels.{channels_in}
-use Rattle.rtcm_inspect.specs.StreamCounts.{msm_in, stream_counts}
+use Rattle.rtcm_inspect.specs.Signals.{forms_had, needs_all, valued_in}
+use Rattle.rtcm_inspect.specs.StreamChannels.{channels_in, sent_by, with_sent}
+use Rattle.rtcm_inspect.specs.StreamCounts.{is_msm, msm_in, stream_counts}
 use Rattle.rtcm_inspect.specs.StreamOutput.{ReadsTooMuch}
 use Rattle.rtcm_inspect.specs.declared.fault.InspectFault.{InspectFault}
 use Rattle.rtcm_inspect.specs.declared.fault.InspectFault.TheVariants as faults
@@ -36,6 +48,24 @@ pub record AreSignals (s : StreamSignals) (wanted : Option ℕ) (fs : List Frame
   pub first : AreFirst s.first wanted fs
   pub weeks : AreSaidIn s.weeks wanted fs
   pub counts : AreFrameCounts s.counts fs
+
+-- x became y by the message of a frame, which may be refused; what it says of the week isn't in them
+pub record Takes (x y : StreamSignals) (f : Framed) (r : Result Message MsgFault) : Type 0 where
+  pub station : y.station ≡ x.station
+  pub weeks : y.weeks ≡ x.weeks
+  pub frames : y.counts.frames ≡ x.counts.frames
+  pub msm : y.counts.msm ≡ (if is_msm r then (x.counts.msm + 1) % 2 ^ 64 else x.counts.msm)
+  pub counted : (cells : List HeardCell) → length cells < 2 ^ 62 → AreSignalCounts x.signal_counts cells
+      → AreSignalCounts y.signal_counts (cells ++ option_map_or (valued x.station) (inspected_of r) [])
+  pub few : length (option_map_or (valued x.station) (inspected_of r) []) ≤ most_pairs
+  pub forms : y.forms ≡ (if needs_all x.station r then All else x.forms)
+  pub channels : y.channels ≡ with_sent x.channels (option_to_list (channel_of_1020 f.message) ++ sent_by x.station r)
+  pub point : y.first.point ≡ option_or x.first.point (option_and_then (point_of x.station) (inspected_of r))
+  pub in_range : IfSome x.first.point InRange → IfSome y.first.point InRange
+  pub stations : (ns : List ℕ) → x.first.stations ≡ first_two ns
+      → y.first.stations ≡ first_two (ns ++ option_to_list (option_and_then sender (inspected_of r)))
+  pub tows : (fs : List Framed) → length fs < 2 ^ 56 → AreTows x.first.tows x.station fs
+      → AreTows y.first.tows x.station (fs ++ f ∷ [])
 
 -- The stream was read to its end, and its signals were counted.
 abbrev pub HasCounted : StreamSignals → Option ℕ → (r r' : Option (List ℕ)) → Type 0
