@@ -1,10 +1,6 @@
 -- Words in which clap's definitions find no fault name a command of the program.
 use Rattle.command_line.proofs.CommandLineLemmas.{is_simple_read}
-use Rattle.command_line.proofs.Names.{is_some, ◌≡◌, ◌∙◌, ◌&&◌, ◌++◌, ◌∷◌, [], ℕ, Bool, true, false, not, List, Option, Some, None, Result, Ok, Err, IfOk, find, fold, inl, inr, refl, sym, subst, ap, codes, if◌then◌else◌, option_map, ⊤, bytes_eq, bytes_eq-Decides, long_of, Held, Names, Row, Rule, Step, Text, Waiting, Walk, Outcome, next, trailing, subcommand, value, after_flag, after_step, answers_to, long_or_other, short_or_plain, nothing_held, plain_word, subcommand_or_other, word_met, walk, walk_from, walked, Error, ArgMatches, App, HasMatchesOf, Shape, argument_words, built, entered, label_of, names_of, rows_at, subcommand_of, option_map_or, FailsBy, Kinds, check_kinds, or_else, check_fault, entered_fault, is_simple_and_free, fault_of, level_fault, other_fault, step_fault, turn_fault, walk_fault, word_fault, IsCommand, IsFoundIn, IsProgram, program}
-use Rattle.std.proofs.Common.{arith, map}
-use Rattle.command_line.specs.CommandLine.{commands}
-use Rattle.std.proofs.lemmas.Grind.{common_steps}
-use Rattle.command_line.specs.inner.CommandLine.{IsNameOf}
+use Rattle.command_line.proofs.Names.{is_some, ◌≡◌, ◌∙◌, ◌&&◌, ◌++◌, ◌∷◌, [], ℕ, Bool, true, false, not, List, Option, Some, None, Result, Ok, Err, IfOk, find, fold, inl, inr, refl, sym, subst, ap, codes, if◌then◌else◌, option_map, ⊤, bytes_eq, bytes_eq-Decides, long_of, Held, Names, Row, Rule, Step, Text, Waiting, Walk, Outcome, next, trailing, subcommand, value, after_flag, after_step, answers_to, long_or_other, short_or_plain, nothing_held, plain_word, subcommand_or_other, word_met, walk, walk_from, walked, Error, ArgMatches, App, HasMatchesOf, Shape, argument_words, built, entered, label_of, names_of, rows_at, subcommand_of, option_map_or, FailsBy, Kinds, check_kinds, or_else, check_fault, entered_fault, is_simple_and_free, fault_of, level_fault, other_fault, step_fault, turn_fault, walk_fault, word_fault, IsCommand, IsFoundIn, IsProgram, program, arith, map, commands, common_steps, IsNameOf}
 
 -- ---- no kind of error of one step after another
 

@@ -1,8 +1,5 @@
 -- A command after an option or a command is added.
-use Rattle.std.proofs.Common.{arith}
-use Rattle.std.proofs.lemmas.Grind.{common_steps}
-use Rattle.std.proofs.lemmas.Bool.{and_parts, not-true}
-use Rattle.command_line.proofs.Names.{◌≡◌, ◌+◌, ◌<◌, ◌&&◌, ◌∷◌, [], ℕ, Bool, if◌then◌else◌, Result, IfErr, List, Option, None, Some, true, false, length, map, take, get_or, refl, ap₂, ◌∙◌, map_more, fold-append, Rule, Text, rule_of, App, app_of, built, is_simple, new_app, on_top, with_rule, with_subcommand, AddsArg, AddsSubcommand, is_free_app, is_simple_and_free, clap_on_literals, FailsBy, HasKind, Kinds, Error, Bor, CommandRow, OptionRow, command_set, is_needed, needed_set, option_set, program, with_commands, with_options, Arg, Command, out-Command}
+use Rattle.command_line.proofs.Names.{◌≡◌, ◌+◌, ◌<◌, ◌&&◌, ◌∷◌, [], ℕ, Bool, if◌then◌else◌, Result, IfErr, List, Option, None, Some, true, false, length, map, take, get_or, refl, ap₂, ◌∙◌, map_more, fold-append, Rule, Text, rule_of, App, app_of, built, is_simple, new_app, on_top, with_rule, with_subcommand, AddsArg, AddsSubcommand, is_free_app, is_simple_and_free, clap_on_literals, FailsBy, HasKind, Kinds, Error, Bor, CommandRow, OptionRow, command_set, is_needed, needed_set, option_set, program, with_commands, with_options, Arg, Command, out-Command, arith, common_steps, and_parts, not-true}
 use Rattle.clap.specs.declared.builder.value_parser.ValueParser.TheVariants as value
 use Rattle.clap.specs.declared.builder.action.ArgAction.TheVariants as action
 

@@ -17,7 +17,7 @@ pub use Rattle.clap.specs.declared.builder.command.Command.TheViews.{out-Command
 pub use Rattle.clap.specs.declared.error.Error.{Error}
 pub use Rattle.clap.specs.declared.parser.matches.ArgMatches.{ArgMatches}
 pub use Rattle.command_line.specs.CommandLine.{Choices, IsProgram, commands, program, start, start_of, with_commands, with_options}
-pub use Rattle.command_line.specs.inner.CommandLine.{AreRows, IsCommand, IsFoundIn, Makes, command_set, has_row, is_needed, needed, needed_set, option_set}
+pub use Rattle.command_line.specs.inner.CommandLine.{AreRows, IsCommand, IsFoundIn, IsNameOf, Makes, command_set, has_row, is_needed, needed, needed_set, option_set}
 pub use Rattle.command_line.specs.declared.commands.CommandRow.{CommandRow}
 pub use Rattle.command_line.specs.declared.commands.OptionRow.{OptionRow}
 pub use Rattle.std.proofs.lemmas.List.{map_more}
@@ -29,4 +29,7 @@ pub use Rattle.std.specs.List.{list_any}
 pub use Rattle.std.specs.Option.{option_map_or}
 pub use Rattle.std.specs.Prelude.{Err, IfSome, if◌then◌else◌, not, slice_get, ⊤, ◌<◌, ◌≡◌}
 pub use Rattle.std.specs.Str.{bytes_eq}
-pub use Rattle.std.proofs.Common.{Bool, IfErr, IfOk, List, None, Ok, Option, Result, Some, [], ap, ap₂, codes, false, find, fold, get_or, inl, inr, is_some, length, map, option_map, refl, subst, sym, take, true, ℕ, ◌&&◌, ◌++◌, ◌+◌, ◌||◌, ◌∙◌, ◌∷◌}
+pub use Rattle.std.proofs.Common.{Bool, IfErr, IfOk, List, None, Ok, Option, Result, Some, [], ap, ap₂, arith, codes, false, find, fold, get_or, inl, inr, is_some, length, map, option_map, refl, rules, subst, sym, take, true, ℕ, ◌&&◌, ◌++◌, ◌+◌, ◌||◌, ◌∙◌, ◌∷◌}
+pub use Rattle.command_line.specs.Words.{joined}
+pub use Rattle.std.proofs.lemmas.Bool.{and_parts, not-true}
+pub use Rattle.std.proofs.lemmas.Grind.{common_steps}

@@ -1,10 +1,7 @@
 -- With the options of the asked command alone, words come to what they come to with those of all commands.
 use Rattle.command_line.proofs.AcceptedLemmas.{FindsSame, kept_name}
 use Rattle.command_line.proofs.CommandLineLemmas.{is_read, named_as}
-use Rattle.std.proofs.lemmas.Grind.{common_steps}
-use Rattle.std.proofs.Common.{arith, rules}
-use Rattle.command_line.specs.inner.CommandLine.{IsNameOf}
-use Rattle.command_line.proofs.Names.{is_some, ◌≡◌, ◌∙◌, ◌∷◌, Bor, [], Bool, true, List, Option, Some, None, IfSome, find, map, option_map, refl, sym, subst, ap, ap₂, bytes_eq-Decides, slice_get, clap_on_literals, walked, Names, Row, Shape, Text, App, Kinds, answers_to, idle, nothing_held, subcommand_met, walk, label_of, built, built_fault, entered, entered_fault, level_fault, is_simple_and_free, stop_after, Choices, CommandRow, IsCommand, command_set, commands, has_row, needed, needed_set, program, start, with_commands}
+use Rattle.command_line.proofs.Names.{is_some, ◌≡◌, ◌∙◌, ◌∷◌, Bor, [], Bool, true, List, Option, Some, None, IfSome, find, map, option_map, refl, sym, subst, ap, ap₂, bytes_eq-Decides, slice_get, clap_on_literals, walked, Names, Row, Shape, Text, App, Kinds, answers_to, idle, nothing_held, subcommand_met, walk, label_of, built, built_fault, entered, entered_fault, level_fault, is_simple_and_free, stop_after, Choices, CommandRow, IsCommand, command_set, commands, has_row, needed, needed_set, program, start, with_commands, common_steps, arith, rules, IsNameOf}
 
 -- the walk stops, if it does, at a subcommand of the first word's name, if there is one
 stops_at : (s : Shape) (names : Names) (n : Text) (rest : List Text) (p : Text × List Text) → subcommand_met names idle n ≡ Some n

@@ -1,13 +1,5 @@
 -- Texts written in one call, and failed calls.
-use Rattle.devices.proofs.Names.{◌≡◌, ◌∙◌, ◌++◌, ap, sym, append_assoc, List, Option, Appends, Keeps}
-use Rattle.devices.specs.Device.{AppendsPrefix}
-use Rattle.devices.specs.Devices.{Writer}
-use Rattle.devices.specs.Printing.{EndsDelivery, EndsPrinting, IsDelivered, PrintsText}
-use Rattle.rtcm_bits.specs.Prefix.{IsPrefix}
-use Rattle.std.proofs.KnownBytes.{Appends-kept, Appends-trans}
-use Rattle.std.proofs.lemmas.Grind.{common_steps}
-use Rattle.std.proofs.Common.{arith, MatchResult, Err, Ok, Result, ℕ, append-nil}
-use Rattle.std.specs.Result.{IsErrAnd}
+use Rattle.devices.proofs.Names.{◌≡◌, ◌∙◌, ◌++◌, ap, sym, append_assoc, List, Option, Appends, Keeps, AppendsPrefix, Writer, EndsDelivery, EndsPrinting, IsDelivered, PrintsText, IsPrefix, Appends-kept, Appends-trans, common_steps, arith, MatchResult, Err, Ok, Result, ℕ, append-nil, IsErrAnd}
 
 -- a text that was written, and then delivered or not
 pub then_delivered : {A F W : Type 0} (failed : F) (r : Result A F) (w w1 w2 : Writer W) (text : List ℕ) → w1.device.failures ≡ w.device.failures

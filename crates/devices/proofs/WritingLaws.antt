@@ -1,9 +1,5 @@
 -- A text that is written by several calls, one after the other.
-use Rattle.devices.proofs.Names.{◌≡◌, ◌∙◌, ◌++◌, [], ℕ, ap, sym, append_assoc, List, Option, Appends, Appends-trans}
-use Rattle.devices.specs.Device.{AppendsPrefix, Device, HasFailed, WritesText}
-use Rattle.std.proofs.KnownBytes.{Appends-nil}
-use Rattle.std.proofs.Common.{Err, Ok, Result, append-nil, refl, subst}
-use Rattle.std.specs.Result.{IsErrAnd}
+use Rattle.devices.proofs.Names.{◌≡◌, ◌∙◌, ◌++◌, [], ℕ, ap, sym, append_assoc, List, Option, Appends, Appends-trans, AppendsPrefix, Device, HasFailed, WritesText, Appends-nil, Err, Ok, Result, append-nil, refl, subst, IsErrAnd}
 
 -- the text was written but for its last bytes, which are left, and no call failed
 pub record HasWrittenBut {T : Type 0} (held : T → Option (List ℕ)) (w w' : Device T) (text left : List ℕ) : Type 0 where

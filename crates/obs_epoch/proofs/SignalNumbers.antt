@@ -261,11 +261,6 @@ module _ (system : System) (left counts : List ℕ) (form : Form) (es : List Ent
     each = λ s i listed.
         let r = signal_in s i in
         let start : counted c s i ≡ count_of r cells = h.each s i listed in
-        let small : counted c s i < 2 ^ 63 = below _ _ _ (length es) start (few_of r cells) few in
-        ended (a.each s i listed (h.size s) small) start (count_append r cells (listed_cells form system es)) (total r listed);
-  } where
-    below : (a b l n : ℕ) → a ≡ b → b ≤ l → l + n < 2 ^ 63 → a < 2 ^ 63
-    below a b l n x y z = omega (arith, x, y, z)
-
-    ended : {a b c d e f : ℕ} → a ≡ b + c → b ≡ d → e ≡ d + f → f ≡ c → a ≡ e
-    ended x y z w = omega (arith, x, y, z, w)
+        let small : counted c s i < 2 ^ 63 = omega (arith, start, few_of r cells, few) in
+        omega (arith, a.each s i listed (h.size s) small, start, count_append r cells (listed_cells form system es), total r listed);
+  }

@@ -1,6 +1,5 @@
 -- The number of indexes among those below a bound, by the missing places.
-use Rattle.rinex_inspect.proofs.Names.{All-push, All-weaker, is_among, number_among, sum_by-append, ◌≡◌, ◌∙◌, ◌+◌, ◌-◌, ◌<◌, ◌≤◌, ◌∷◌, ◌++◌, [], ap, ap₂, arith, refl, subst, sym, ℕ, List, Bool, cond, All, ◌==◌, ◌||◌, false, true, zero, suc, inl, inr, All-head, All-nil, All-tail, ◌≢◌, ◌⊎◌}
-use Rattle.std.proofs.lemmas.List.Folds.{list_any-append}
+use Rattle.rinex_inspect.proofs.Names.{All-push, All-weaker, is_among, number_among, sum_by-append, ◌≡◌, ◌∙◌, ◌+◌, ◌-◌, ◌<◌, ◌≤◌, ◌∷◌, ◌++◌, [], ap, ap₂, arith, refl, subst, sym, ℕ, List, Bool, cond, All, ◌==◌, ◌||◌, false, true, zero, suc, inl, inr, All-head, All-nil, All-tail, ◌≢◌, ◌⊎◌, list_any-append}
 
 abbrev one_if : Bool → ℕ
 one_if b = cond b 1 0

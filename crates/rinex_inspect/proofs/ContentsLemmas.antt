@@ -1,12 +1,8 @@
 -- The contents of the table of epochs, and equal contents.
-use Rattle.rinex_inspect.proofs.Names.{common_steps, ◌≡◌, ◌∙◌, ◌+◌, ◌*◌, ◌/◌, ◌%◌, ◌^◌, ◌<◌, ◌≤◌, ◌++◌, ◌∷◌, [], ℕ, Bool, true, false, zero, suc, List, cond, get_or, length, map, refl, ap, ap₂, sym, subst, arith, add-one, append_assoc, append-nil, is_some, codes, decimal, All, filter, flat_map, nat_lt, count_by, sum_by, length-append, length-map, All-append, All-filter, All-head, All-nil, All-tail, count_by-le-length, sum_by-cons, div-lt_iff_lt-mul, mod-lt, few_below, below, PlanValue, planned_of, System, Satellite, letter, satellites, line, most_signals, table, systems, AreFine, rows_in, most_lines, AreSatelliteRows, AreSignalValues, IsPlan, IsSatelliteRow, planned_in, SatelliteRow, SignalValues, Stamped, no_signal_values, present_line, signal_line, Contents, code_at, contents_of, presence_words, satellite_word, tally_words, lost_in, period_line, period_lines, satellite_line, tally_line, texts_below, all_rows, has_values, is_half, is_lost, is_row_of, satellite_at, strength_of, tally_of, total, values_in, Period, Table, Presence, Tally, IsPrintable, IsSmallTally, all_lines, line_at, line_count, IsTableOf, capped_tally, contents_in}
-use Rattle.std.proofs.lemmas.Int.{ints}
-use Rattle.std.proofs.lemmas.List.Concat.{flat_map-cons}
-use Rattle.std.proofs.lemmas.Nat.{div-mul-add, mod-mul-add}
+use Rattle.rinex_inspect.proofs.Names.{common_steps, ◌≡◌, ◌∙◌, ◌+◌, ◌*◌, ◌/◌, ◌%◌, ◌^◌, ◌<◌, ◌≤◌, ◌++◌, ◌∷◌, [], ℕ, Bool, true, false, zero, suc, List, cond, get_or, length, map, refl, ap, ap₂, sym, subst, arith, add-one, append_assoc, append-nil, is_some, codes, decimal, All, filter, flat_map, nat_lt, count_by, sum_by, length-append, length-map, All-append, All-filter, All-head, All-nil, All-tail, count_by-le-length, sum_by-cons, div-lt_iff_lt-mul, mod-lt, few_below, below, PlanValue, planned_of, System, Satellite, letter, satellites, line, most_signals, table, systems, AreFine, rows_in, most_lines, AreSatelliteRows, AreSignalValues, IsPlan, IsSatelliteRow, planned_in, SatelliteRow, SignalValues, Stamped, no_signal_values, present_line, signal_line, Contents, code_at, contents_of, presence_words, satellite_word, tally_words, lost_in, period_line, period_lines, satellite_line, tally_line, texts_below, all_rows, has_values, is_half, is_lost, is_row_of, satellite_at, strength_of, tally_of, total, values_in, Period, Table, Presence, Tally, IsPrintable, IsSmallTally, all_lines, line_at, line_count, IsTableOf, capped_tally, contents_in, ints, flat_map-cons, div-mul-add, mod-mul-add, Lines}
 use Rattle.rinex_inspect.proofs.TallyLemmas.{tally_is}
 use Rattle.rinex_inspect.proofs.QualityTexts.{few_satellites}
 use Rattle.rinex_inspect.proofs.SumLemmas.{one_small_of, sum_add, sum_bound, sum_mono, sum_same, sum_suc, texts_more, texts_same}
-use Rattle.rinex_inspect.specs.declared.quality_lines.Lines.{Lines}
 
 -- ---- no tally is great
 

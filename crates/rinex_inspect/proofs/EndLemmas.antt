@@ -1,10 +1,9 @@
 -- The end of the command `quality`.
-use Rattle.rinex_inspect.proofs.Names.{common_steps, ◌≡◌, ◌∙◌, ◌<◌, ◌≤◌, ◌++◌, ◌∷◌, [], ℕ, Bool, true, false, ◌==◌, List, Option, Some, None, Result, Ok, Err, inl, inr, refl, ap, sym, subst, arith, append_assoc, append-nil, ⊤, IsStrictlyIncreasing, Keeps-trans, kept_appends, longer_part, AppendsPrefix, Devices, Writer, eqb-false, eqb-true, map-append, EndsPrinting, IsDelivered, PlanValue, IsNoFault, file_text, IsFileValue, FileValue, Stamped, EpochReader, ReadFault, IsPrefix, HasFailed, IfSome, IfSome_then, IsErrAnd, Keeps, WriterFailures, culprit, passed, times_in, time_stamped, last_period, lines_before, lines_of, period_of, quality_output, FileFault, Tables, RatesPeriods}
+use Rattle.rinex_inspect.proofs.Names.{common_steps, ◌≡◌, ◌∙◌, ◌<◌, ◌≤◌, ◌++◌, ◌∷◌, [], ℕ, Bool, true, false, ◌==◌, List, Option, Some, None, Result, Ok, Err, inl, inr, refl, ap, sym, subst, arith, append_assoc, append-nil, ⊤, IsStrictlyIncreasing, Keeps-trans, kept_appends, longer_part, AppendsPrefix, Devices, Writer, eqb-false, eqb-true, map-append, EndsPrinting, IsDelivered, PlanValue, IsNoFault, file_text, IsFileValue, FileValue, Stamped, EpochReader, ReadFault, IsPrefix, HasFailed, IfSome, IfSome_then, IsErrAnd, Keeps, WriterFailures, culprit, passed, times_in, time_stamped, last_period, lines_before, lines_of, period_of, quality_output, FileFault, Tables, RatesPeriods, EndsQuality, IsRatedOr, RatesFiles}
 use Rattle.rinex_inspect.proofs.CheckLemmas.{where_known}
 use Rattle.rinex_inspect.proofs.PeriodLemmas.{IsEvery, before_later, before_same, period_rises}
 use Rattle.rinex_inspect.proofs.RatingLemmas.{before_plan, rise_init, rising_front}
 use Rattle.rinex_inspect.proofs.SumLemmas.{texts_more}
-use Rattle.rinex_inspect.specs.Quality.{EndsQuality, IsRatedOr, RatesFiles}
 use Rattle.rinex_inspect.specs.declared.fault.FileFault.TheVariants as faults
 
 -- ---- the lines of the first epochs are the first lines

@@ -1,8 +1,7 @@
 -- The gaps and the missing places of epochs, with one epoch more, and of a whole file.
-use Rattle.rinex_inspect.proofs.Names.{IsStrictlyIncreasing, zero-add, div-le_self, div-mul-le_self, le-div_iff_mul-le, IsCompleteness, all_gaps, all_placed, early, ends_in, first_of, gap_between, gap_line, gaps_before, gaps_from, indexes_of, intervals_to, number_among, origin_in, origin_of, placed, start, window_size, all_gaps_if, gaps_if, size_of, times_in, size_in, end_line, line, with_words, moment_words, CheckOptions, complete_but, end_gap_if, end_missing_if, line_but, CountsMissing, IsEndOutput, codes, decimal, events_in, rows_in, Counts, AreCounts, FileValue, length, lt-ltb, IsFileValue, check_line, complete_if, complete_line, times_if, ltb-false, ltb-true, Rise, first_with, gap_with, gaps_to_end, last_with, missing_before, missing_between, missing_from, missing_if, missing_to_end, missing_with, origin_with, Completeness, Placed, Window, ◌≡◌, ◌∙◌, ◌+◌, ◌-◌, ◌<◌, ◌≤◌, ◌∷◌, ◌++◌, [], ap, ap₂, append-nil, append_assoc, arith, refl, subst, sym, ℕ, List, Bool, Option, Some, None, cond, map, map-append, AreTimes, AreTimesOrNone, EpochTimes, IfSome, ◌/◌, false, true, suc, nat_lt}
+use Rattle.rinex_inspect.proofs.Names.{IsStrictlyIncreasing, zero-add, div-le_self, div-mul-le_self, le-div_iff_mul-le, IsCompleteness, all_gaps, all_placed, early, ends_in, first_of, gap_between, gap_line, gaps_before, gaps_from, indexes_of, intervals_to, number_among, origin_in, origin_of, placed, start, window_size, all_gaps_if, gaps_if, size_of, times_in, size_in, end_line, line, with_words, moment_words, CheckOptions, complete_but, end_gap_if, end_missing_if, line_but, CountsMissing, IsEndOutput, codes, decimal, events_in, rows_in, Counts, AreCounts, FileValue, length, lt-ltb, IsFileValue, check_line, complete_if, complete_line, times_if, ltb-false, ltb-true, Rise, first_with, gap_with, gaps_to_end, last_with, missing_before, missing_between, missing_from, missing_if, missing_to_end, missing_with, origin_with, Completeness, Placed, Window, ◌≡◌, ◌∙◌, ◌+◌, ◌-◌, ◌<◌, ◌≤◌, ◌∷◌, ◌++◌, [], ap, ap₂, append-nil, append_assoc, arith, refl, subst, sym, ℕ, List, Bool, Option, Some, None, cond, map, map-append, AreTimes, AreTimesOrNone, EpochTimes, IfSome, ◌/◌, false, true, suc, nat_lt, CountsWhatIsThere}
 use Rattle.rinex_inspect.proofs.CompleteLemmas.{Covered, covered_more, none_covered}
 use Rattle.rinex_inspect.specs.Gaps.{capped, index_of}
-use Rattle.rinex_inspect.specs.CheckLaws.{CountsWhatIsThere}
 
 -- ---- one more
 

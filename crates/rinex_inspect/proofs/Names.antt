@@ -32,7 +32,7 @@ pub use Rattle.rinex_file.specs.declared.read.times.EpochTimes.{EpochTimes}
 pub use Rattle.rinex_file.specs.inner.Read.EpochSteps.{BeginsEpoch, KeepsPlan, begun_in, HasReadEpochs, HasReadRows, IsSummaryRead, ReadsRow, plan_of, row_of, with_read}
 unfoldable pub use Rattle.rinex_inspect.specs.CheckOutput.{check_line, complete_line}
 pub use Rattle.rinex_inspect.specs.CheckOutput.{IsOutput, all_gaps_if, complete_if, gaps_if, size_of, times_if, times_in}
-pub use Rattle.rinex_inspect.specs.Checking.{EndsCheck, IsCheckedOr}
+pub use Rattle.rinex_inspect.specs.Checking.{AcceptsFiles, EndsCheck, IsCheckedOr}
 unfoldable pub use Rattle.rinex_inspect.specs.DateTexts.{time_line}
 pub use Rattle.rinex_inspect.specs.DateTexts.{clock_text, date_text, moment_words}
 pub use Rattle.rinex_inspect.specs.Faults.{culprit}
@@ -76,3 +76,14 @@ pub use Rattle.std.specs.List.{count_by, list_any, reduce, sum_by}
 pub use Rattle.std.specs.List.Sorted.{IsStrictlyIncreasing}
 pub use Rattle.std.specs.Prelude.{All, filter, flat_map, nat_lt, ◌≢◌, ◌⊎◌}
 pub use Rattle.std.specs.Result.{IsErrAnd}
+pub use Rattle.gnss_obs.specs.Dates.{civil_of}
+pub use Rattle.gnss_obs.specs.Intervals.{IsInterval}
+pub use Rattle.gnss_obs.specs.SignalLists.{indices}
+pub use Rattle.rinex_inspect.specs.CheckLaws.{CountsWhatIsThere}
+pub use Rattle.rinex_inspect.specs.Quality.{EndsQuality, IsRatedOr, RatesFiles}
+pub use Rattle.rinex_inspect.specs.declared.quality_lines.Lines.{Lines}
+pub use Rattle.std.proofs.Math.Seq.{take-length}
+pub use Rattle.std.proofs.lemmas.Int.{ints}
+pub use Rattle.std.proofs.lemmas.List.Concat.{flat_map-cons}
+pub use Rattle.std.proofs.lemmas.List.Folds.{list_any-append}
+pub use Rattle.std.proofs.lemmas.Nat.{div-mul-add, mod-mul-add}

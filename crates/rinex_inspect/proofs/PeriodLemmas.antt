@@ -1,6 +1,5 @@
 -- The periods of epochs, and the lines of those before the last one.
-use Rattle.rinex_inspect.proofs.Names.{common_steps, ◌≡◌, ◌∙◌, ◌+◌, ◌-◌, ◌*◌, ◌<◌, ◌≤◌, ◌==◌, ◌++◌, ◌∷◌, [], ℕ, false, zero, suc, List, Option, Some, None, refl, ap, arith, append-nil, IfSome, IsStrictlyIncreasing, eq-eqb, map-append, div-mul-le_self, PlanValue, week, weeks, time_stamped, Stamped, times_in, contents_of, in_period, last_period, lines_before, lines_of, period_lines, period_of, texts_below, last_of}
-use Rattle.gnss_obs.specs.Intervals.{IsInterval}
+use Rattle.rinex_inspect.proofs.Names.{common_steps, ◌≡◌, ◌∙◌, ◌+◌, ◌-◌, ◌*◌, ◌<◌, ◌≤◌, ◌==◌, ◌++◌, ◌∷◌, [], ℕ, false, zero, suc, List, Option, Some, None, refl, ap, arith, append-nil, IfSome, IsStrictlyIncreasing, eq-eqb, map-append, div-mul-le_self, PlanValue, week, weeks, time_stamped, Stamped, times_in, contents_of, in_period, last_period, lines_before, lines_of, period_lines, period_of, texts_below, last_of, IsInterval}
 use Rattle.rinex_inspect.proofs.ContentsLemmas.{none_in_period}
 use Rattle.rinex_inspect.proofs.MissingLemmas.{div_mono}
 use Rattle.rinex_inspect.proofs.PresenceLemmas.{filter_no, filter_yes, last_is}

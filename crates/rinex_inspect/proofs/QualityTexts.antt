@@ -1,8 +1,5 @@
 -- The words of the lines of `quality`.
-use Rattle.rinex_inspect.proofs.Names.{IsErrAnd, passed, Result, common_steps, ◌≡◌, ◌∙◌, ◌+◌, ◌<◌, ◌≤◌, ◌++◌, ◌∷◌, [], ℕ, Bool, List, cond, length, codes, decimal, refl, ap, ap₂, sym, append_assoc, arith, Err, drop, take, get_or, subst, ◌-◌, length-append, get_or_read, count_by, sum_by, length_indices, planned_of, SignalAt, most_signals, IsPrintable, IsSmallTally, HasPlaces, contents_in, record_at, records_in, tally_at, SatelliteRecord, Table, no_tally, Writer, EndsPrinting, longer_part, below, PlanValue, System, letter, satellites, end_line, with_words, IsPrefix, clock_text, date_text, present_line, signal_line, tally_line, time_word, Contents, code_at, lost_in, presence_words, satellite_word, tally_words, has_values, total, Presence, Tally}
-use Rattle.std.proofs.Math.Seq.{take-length}
-use Rattle.gnss_obs.specs.SignalLists.{indices}
-use Rattle.gnss_obs.specs.Dates.{civil_of}
+use Rattle.rinex_inspect.proofs.Names.{IsErrAnd, passed, Result, common_steps, ◌≡◌, ◌∙◌, ◌+◌, ◌<◌, ◌≤◌, ◌++◌, ◌∷◌, [], ℕ, Bool, List, cond, length, codes, decimal, refl, ap, ap₂, sym, append_assoc, arith, Err, drop, take, get_or, subst, ◌-◌, length-append, get_or_read, count_by, sum_by, length_indices, planned_of, SignalAt, most_signals, IsPrintable, IsSmallTally, HasPlaces, contents_in, record_at, records_in, tally_at, SatelliteRecord, Table, no_tally, Writer, EndsPrinting, longer_part, below, PlanValue, System, letter, satellites, end_line, with_words, IsPrefix, clock_text, date_text, present_line, signal_line, tally_line, time_word, Contents, code_at, lost_in, presence_words, satellite_word, tally_words, has_values, total, Presence, Tally, take-length, indices, civil_of}
 use Rattle.rinex_inspect.proofs.SumLemmas.{count_more}
 
 pub size : {new : List ℕ} (old part : List ℕ) → new ≡ old ++ part → length new ≡ length old + length part

@@ -1,7 +1,6 @@
 -- The values of a cell with and without its carrier.
 use Rattle.rtcm_msg.specs.declared.view.Form.TheVariants as forms
-use Rattle.rtcm_inspect.proofs.Names.{map, get_or-replicate, Glonass, satellites, band_of, code_of, channel_hertz, hertz_in, CellValues, LosesUnknownCarriers, values_by, ◌≡◌, ◌-◌, ◌<◌, ap, ap₂, cons_option, every_channel, filter_map, if◌then◌else◌, is_some, lock_by, observed, option_and_then, option_map, seen_in, signal_of_id, ChannelsValue, Entry, Satellite, SignalAt, System, entries, Msm4, Msm5, Msm6, Msm7, Bool, true, false, ◌&&◌, nat_le, nat_tests, ℕ, List, [], ◌∷◌, Option, Some, None, refl, arith, HeardCell, slot_count, Form}
-use Rattle.gnss_obs.specs.LockTimes.{LockTime}
+use Rattle.rtcm_inspect.proofs.Names.{map, get_or-replicate, Glonass, satellites, band_of, code_of, channel_hertz, hertz_in, CellValues, LosesUnknownCarriers, values_by, ◌≡◌, ◌-◌, ◌<◌, ap, ap₂, cons_option, every_channel, filter_map, if◌then◌else◌, is_some, lock_by, observed, option_and_then, option_map, seen_in, signal_of_id, ChannelsValue, Entry, Satellite, SignalAt, System, entries, Msm4, Msm5, Msm6, Msm7, Bool, true, false, ◌&&◌, nat_le, nat_tests, ℕ, List, [], ◌∷◌, Option, Some, None, refl, arith, HeardCell, slot_count, Form, LockTime}
 use Rattle.rtcm_inspect.specs.SignalLaws.{values_of}
 
 -- ---- with a channel for each slot each carrier is known

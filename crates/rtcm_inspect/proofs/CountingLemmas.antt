@@ -1,7 +1,5 @@
 -- Signal counts as a consumer of frames.
-use Rattle.rtcm_inspect.proofs.Names.{Printed, greatest_in, AreSaidIn, common_steps, ◌≡◌, ◌∙◌, inr, ◌+◌, ◌*◌, ◌<◌, ◌≤◌, ◌^◌, ap, sym, subst, arith, Bool, true, false, not, ◌&&◌, nat_lt, ℕ, List, [], ◌∷◌, ◌++◌, Option, Some, None, Result, Ok, Err, length, length-append, append-nil, refl, Framed, frames_of, known_frames, Device, Devices, StreamFault, ⊤, InspectFault, stream_fault, AtFault, Passes, BreaksReading, PassesAll, PassesToLimit, Reads, FramerValue, most_bytes, AreSignalCounts, CountsMessage, SignalCountsValue, inspected, message_at, MsgFault, Message, AreFirst, EndsStream, ReadsTooMuch, Counts, StopsCounting, HasCounted, IsCounted, AreSignals, NeverFails, StreamSignals, StreamCounts, AreFrameCounts, is_msm, msm_in, stream_counts, filter-append, length-filter, count_by-le-length, piece_bytes, forms_had, channels_in, HeardCell, Takes, StationParts, option_or, option_and_then, option_to_list, if◌then◌else◌, IfSome, InRange, point_of, sender, stations_of, first_two, inspected_at, inspected_in, inspected_of, option_map_or, valued, valued_of, tow_of, heard, every_channel, needs_all, MsmSet, is_in_set, FirstTwo, FirstTows, AreTows, ChannelsValue, channel_of_1020, sent_by, sent_channels, with_sent, Other, Station, FormedMsm, MsmHeader, formed, is_of_station, Forms, have_form, cond}
-use Rattle.std.specs.Prelude.{◌%◌}
-use Rattle.rtcm_msg.specs.Msm.{most_pairs}
+use Rattle.rtcm_inspect.proofs.Names.{Printed, greatest_in, AreSaidIn, common_steps, ◌≡◌, ◌∙◌, inr, ◌+◌, ◌*◌, ◌<◌, ◌≤◌, ◌^◌, ap, sym, subst, arith, Bool, true, false, not, ◌&&◌, nat_lt, ℕ, List, [], ◌∷◌, ◌++◌, Option, Some, None, Result, Ok, Err, length, length-append, append-nil, refl, Framed, frames_of, known_frames, Device, Devices, StreamFault, ⊤, InspectFault, stream_fault, AtFault, Passes, BreaksReading, PassesAll, PassesToLimit, Reads, FramerValue, most_bytes, AreSignalCounts, CountsMessage, SignalCountsValue, inspected, message_at, MsgFault, Message, AreFirst, EndsStream, ReadsTooMuch, Counts, StopsCounting, HasCounted, IsCounted, AreSignals, NeverFails, StreamSignals, StreamCounts, AreFrameCounts, is_msm, msm_in, stream_counts, filter-append, length-filter, count_by-le-length, piece_bytes, forms_had, channels_in, HeardCell, Takes, StationParts, option_or, option_and_then, option_to_list, if◌then◌else◌, IfSome, InRange, point_of, sender, stations_of, first_two, inspected_at, inspected_in, inspected_of, option_map_or, valued, valued_of, tow_of, heard, every_channel, needs_all, MsmSet, is_in_set, FirstTwo, FirstTows, AreTows, ChannelsValue, channel_of_1020, sent_by, sent_channels, with_sent, Other, Station, FormedMsm, MsmHeader, formed, is_of_station, Forms, have_form, cond, ◌%◌, most_pairs, is_of_other, SaidWeeks}
 use Rattle.rtcm_msg.specs.declared.number.Forms.TheVariants as forms
 use Rattle.rtcm_inspect.proofs.CountedLemmas.{filter_map-push}
 use Rattle.rtcm_inspect.proofs.FirstLemmas.{first_more, or_none}
@@ -9,8 +7,6 @@ use Rattle.rtcm_inspect.proofs.SetLemmas.{forms_kept, forms_more, if_same, tow_r
 use Rattle.rtcm_inspect.proofs.StreamChannelLemmas.{channels_more, msm_isnt_1020, sent_without_1020}
 use Rattle.rtcm_inspect.proofs.StreamLemmas.{Began}
 use Rattle.rtcm_inspect.proofs.TowLemmas.{tows_none}
-use Rattle.rtcm_inspect.specs.Signals.{is_of_other}
-use Rattle.rtcm_inspect.specs.declared.said_weeks.SaidWeeks.{SaidWeeks}
 use Rattle.rtcm_inspect.specs.declared.fault.InspectFault.TheVariants as faults
 use Rattle.rtcm_scan.specs.declared.feed.StreamFault.TheVariants as stream
 

@@ -1,6 +1,5 @@
 -- The channel of a slot is the first valid one.
-use Rattle.rtcm_inspect.proofs.Names.{option_or, get_or-replicate, length-replicate, common_steps, arith, Bool, ChannelsValue, List, None, Option, Some, [], ap, flat_map, if◌then◌else◌, length, most_number, nat_le, nat_tests, no_channels, number_at, sent_in, slot_count, sym, with_first, with_sent, ℕ, ◌&&◌, ◌-◌, ◌==◌, ◌∙◌, ◌∷◌, ◌≡◌, ◌≤◌}
-use Rattle.rtcm_inspect.specs.ChannelLaws.{AreFirstChannels, first_valid}
+use Rattle.rtcm_inspect.proofs.Names.{option_or, get_or-replicate, length-replicate, common_steps, arith, Bool, ChannelsValue, List, None, Option, Some, [], ap, flat_map, if◌then◌else◌, length, most_number, nat_le, nat_tests, no_channels, number_at, sent_in, slot_count, sym, with_first, with_sent, ℕ, ◌&&◌, ◌-◌, ◌==◌, ◌∙◌, ◌∷◌, ◌≡◌, ◌≤◌, AreFirstChannels, first_valid}
 use Rattle.rtcm_inspect.proofs.FirstLemmas.{or_none}
 
 abbrev is_first : ℕ → ℕ × ℕ → Bool

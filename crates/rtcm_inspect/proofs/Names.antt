@@ -58,7 +58,7 @@ unfoldable pub use Rattle.rtcm_inspect.specs.ShowLines.{fault_line, message_line
 pub use Rattle.rtcm_inspect.specs.ShowLines.{height_words, line_with, read_for, read_line, show_line}
 pub use Rattle.rtcm_inspect.specs.SignalLaws.{CellValues, LosesUnknownCarriers, ReadsAll, SkipsOnly, values_by}
 unfoldable pub use Rattle.rtcm_inspect.specs.Signals.{count_line}
-pub use Rattle.rtcm_inspect.specs.Signals.{AreSignalsOf, AreSignalsRefused, code_list, codes_word, count_lines, decodes, forms_had, had, had_below, has_counted, has_other_value, lines_below, needs_all, plan_had, plan_in, set_had, valued_in, valued_of}
+pub use Rattle.rtcm_inspect.specs.Signals.{AreSignalsOf, AreSignalsRefused, code_list, codes_word, count_lines, decodes, forms_had, had, had_below, has_counted, has_other_value, is_of_other, lines_below, needs_all, plan_had, plan_in, set_had, valued_in, valued_of}
 pub use Rattle.rtcm_inspect.specs.StreamChannels.{channels_in, sent_by, sent_in, sent_of, with_first, with_sent}
 pub use Rattle.rtcm_inspect.specs.StreamCounts.{is_msm, msm_in, stream_counts}
 pub use Rattle.rtcm_inspect.specs.StreamOutput.{EndsStream, ReadsTooMuch}
@@ -87,7 +87,7 @@ pub use Rattle.rtcm_msg.specs.Decoding.{message_at, message_by, message_in, mess
 pub use Rattle.rtcm_msg.specs.Encoding.{IsEncoding, IsMessage, ReadsMessage, message_bits, number_of, other_of}
 pub use Rattle.rtcm_msg.specs.Entries.{entries}
 pub use Rattle.rtcm_msg.specs.Equipment.{equipment_in, values_of}
-pub use Rattle.rtcm_msg.specs.Msm.{MasksValue, MsmValue, time_of_week}
+pub use Rattle.rtcm_msg.specs.Msm.{MasksValue, MsmValue, most_pairs, time_of_week}
 pub use Rattle.rtcm_msg.specs.Numbers.{have_form, kind_of, message_number, whole_set}
 pub use Rattle.rtcm_msg.specs.Sets.{has_msm, is_in_set}
 pub use Rattle.rtcm_msg.specs.Station.{InRange}
@@ -128,6 +128,17 @@ pub use Rattle.std.specs.Borrow.{Bor}
 pub use Rattle.std.specs.Io.KnownBytes.{Appends}
 pub use Rattle.std.specs.List.{before_first, cons_option, count_by, flat_map, list_all, list_any, position_or_len, sum_by}
 pub use Rattle.std.specs.Option.{option_map, option_map_or, option_or}
-pub use Rattle.std.specs.Prelude.{codes, cond, filter_map, fold, if◌then◌else◌, min, nat_le, nat_lt, option_and_then, option_to_list, position, unwrap_or, ⊤, ◌⊎◌}
+pub use Rattle.std.specs.Prelude.{codes, cond, filter_map, fold, if◌then◌else◌, min, nat_le, nat_lt, option_and_then, option_to_list, position, unwrap_or, ⊤, ◌%◌, ◌⊎◌}
 pub use Rattle.std.specs.Str.{bytes_eq}
 pub use mathlib.Core.Bool.{and-or_distrib_right, or-false}
+pub use Rattle.gnss_obs.specs.LockTimes.{LockTime}
+pub use Rattle.obs_epoch.specs.declared.week.Start.{Start}
+pub use Rattle.rtcm_inspect.specs.ChannelLaws.{AreFirstChannels, first_valid}
+pub use Rattle.rtcm_inspect.specs.FaultWords.{week_date}
+pub use Rattle.rtcm_inspect.specs.LengthLaws.{IsFirstInRange}
+pub use Rattle.rtcm_inspect.specs.SentWeekLaws.{IsCountedFromStart, IsInSentWeek, own_tows}
+pub use Rattle.rtcm_inspect.specs.declared.printed_week.WeekSource.{WeekSource}
+pub use Rattle.rtcm_inspect.specs.declared.said_weeks.SaidWeeks.{SaidWeeks}
+pub use Rattle.rtcm_msg.specs.Fields.{GivesViewed}
+pub use Rattle.rtcm_msg.specs.Weeks.{sent_week}
+pub use Rattle.rtcm_msg.specs.declared.view.View.{View}

@@ -1,8 +1,6 @@
 -- The week of the options.
-use Rattle.rtcm_inspect.proofs.Names.{min, week, weeks, greatest_at_first, leap_at, IsNearestRest, IsOtherTime, first_msm, is_denied, rests_in, whole_in, WeekDate, FirstMsm, AreOptionsRefused, HasSignals, IsWeekAt, IsWeekRefused, is_denied_at, InspectFault, FirstTows, PlacedTow, AreTows, earliest, greatest_among, systems, common_steps, ◌≡◌, ◌∙◌, ◌+◌, ◌-◌, ◌*◌, ◌/◌, ◌<◌, ℕ, false, true, List, Option, Some, IfSome, IsWeekFor, frames_of, ap₂, arith, first_tow, set_had, option_and_then, option_or, refl, subst, Framed, MsmSet}
-use Rattle.rtcm_inspect.specs.FaultWords.{week_date}
+use Rattle.rtcm_inspect.proofs.Names.{min, week, weeks, greatest_at_first, leap_at, IsNearestRest, IsOtherTime, first_msm, is_denied, rests_in, whole_in, WeekDate, FirstMsm, AreOptionsRefused, HasSignals, IsWeekAt, IsWeekRefused, is_denied_at, InspectFault, FirstTows, PlacedTow, AreTows, earliest, greatest_among, systems, common_steps, ◌≡◌, ◌∙◌, ◌+◌, ◌-◌, ◌*◌, ◌/◌, ◌<◌, ℕ, false, true, List, Option, Some, IfSome, IsWeekFor, frames_of, ap₂, arith, first_tow, set_had, option_and_then, option_or, refl, subst, Framed, MsmSet, week_date, WeekSource}
 use Rattle.rtcm_inspect.specs.declared.fault.InspectFault.TheVariants as faults
-use Rattle.rtcm_inspect.specs.declared.printed_week.WeekSource.{WeekSource}
 use Rattle.rtcm_inspect.specs.declared.printed_week.WeekSource.TheVariants.{Near}
 use Rattle.rtcm_inspect.proofs.CountedLemmas.{at_none}
 

@@ -1,6 +1,5 @@
 -- The first time of week and the first station message of a stream are in range.
-use Rattle.rtcm_inspect.proofs.Names.{message_value, value_with, IsMessage, point_of, IsBelowWeek, ◌≡◌, ◌<◌, subst, refl, arith, ℕ, List, [], ◌∷◌, Option, IfSome, Result, Ok, Err, option_and_then, option_or, Framed, MsgFault, Message, MsmSet, InRange, every_channel, first_in, first_tow, heard, heard_of, inspected_at, message_at, tow_of, week}
-use Rattle.rtcm_inspect.specs.LengthLaws.{IsFirstInRange}
+use Rattle.rtcm_inspect.proofs.Names.{message_value, value_with, IsMessage, point_of, IsBelowWeek, ◌≡◌, ◌<◌, subst, refl, arith, ℕ, List, [], ◌∷◌, Option, IfSome, Result, Ok, Err, option_and_then, option_or, Framed, MsgFault, Message, MsmSet, InRange, every_channel, first_in, first_tow, heard, heard_of, inspected_at, message_at, tow_of, week, IsFirstInRange}
 
 either : {A : Type 0} (P : A → Type 0) (a b : Option A) → IfSome a P → IfSome b P → IfSome (option_or a b) P
 either P a b h k = grind arith

@@ -1,7 +1,5 @@
 -- What the ephemerides of a stream say of the week, after one more frame.
-use Rattle.rtcm_inspect.proofs.Names.{suc, zero, get_or_past, Any-from_list_any, list_any_at, SentWeek, greatest_in, rest_by, rests_in, said_after, said_at, whole_by, whole_in, AreSaid, AreSaidIn, common_steps, ◌≡◌, ◌∙◌, ◌<◌, ◌==◌, ◌&&◌, ◌||◌, ◌++◌, ℕ, Bool, true, false, List, [], ◌∷◌, Option, Some, None, ap, arith, below, get_or, length, list_any, list_any-append, option_and_then, option_to_list, refl, subst, sym, Framed}
-use Rattle.rtcm_msg.specs.Weeks.{sent_week}
-use Rattle.rtcm_inspect.specs.declared.said_weeks.SaidWeeks.{SaidWeeks}
+use Rattle.rtcm_inspect.proofs.Names.{suc, zero, get_or_past, Any-from_list_any, list_any_at, SentWeek, greatest_in, rest_by, rests_in, said_after, said_at, whole_by, whole_in, AreSaid, AreSaidIn, common_steps, ◌≡◌, ◌∙◌, ◌<◌, ◌==◌, ◌&&◌, ◌||◌, ◌++◌, ℕ, Bool, true, false, List, [], ◌∷◌, Option, Some, None, ap, arith, below, get_or, length, list_any, list_any-append, option_and_then, option_to_list, refl, subst, sym, Framed, sent_week, SaidWeeks}
 
 -- ---- one more frame
 

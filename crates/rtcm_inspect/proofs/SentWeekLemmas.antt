@@ -1,7 +1,5 @@
 -- Times of a conversion are those counted from week 0, after the begin of the start week.
-use Rattle.rtcm_inspect.proofs.Names.{fold, week, weeks, SentWeek, with_tow, half_week, first_week, given, whole_by, ◌≡◌, ◌∙◌, ◌+◌, ◌*◌, ◌/◌, ◌<◌, ◌≤◌, ◌||◌, ◌++◌, ℕ, Bool, true, false, List, [], ◌∷◌, Option, Some, None, ahead, ap, arith, cons_option, greatest_time, is_own, is_past, max_known, nat_lt, option_map, refl, sym, taken_at, timed_after, if◌then◌else◌, GatherSetup, Heard, Timed}
-use Rattle.obs_epoch.specs.declared.week.Start.{Start}
-use Rattle.rtcm_inspect.specs.SentWeekLaws.{IsCountedFromStart, IsInSentWeek, own_tows}
+use Rattle.rtcm_inspect.proofs.Names.{fold, week, weeks, SentWeek, with_tow, half_week, first_week, given, whole_by, ◌≡◌, ◌∙◌, ◌+◌, ◌*◌, ◌/◌, ◌<◌, ◌≤◌, ◌||◌, ◌++◌, ℕ, Bool, true, false, List, [], ◌∷◌, Option, Some, None, ahead, ap, arith, cons_option, greatest_time, is_own, is_past, max_known, nat_lt, option_map, refl, sym, taken_at, timed_after, if◌then◌else◌, GatherSetup, Heard, Timed, Start, IsCountedFromStart, IsInSentWeek, own_tows}
 use Rattle.rtcm_inspect.proofs.WeekLemmas.{not_past, placed}
 
 -- ---- the greatest time so far

@@ -1,5 +1,5 @@
 -- The channels of one more frame.
-use Rattle.rtcm_inspect.proofs.Names.{length-set, All-replicate, All-set, fold-append, Glonass, system_same, message_by, number_of, kind_of, message_there, common_steps, AreChannels, Bool, ChannelsValue, Err, Form, Framed, IfSome, List, Message, MsgFault, MsmValue, None, Ok, Option, Other, Result, System, [], arith, channel_of_1020, channels_in, false, flat_map, flat_map-append, is_some, is_system, length, message_at, message_in, most_number, nat_le, no_channels, refl, sent_by, sent_channels, sent_in, slot_count, true, with_first, with_sent, ℕ, ◌++◌, ◌==◌, ◌∷◌, ◌≡◌, ◌≤◌, option_to_list, ap}
+use Rattle.rtcm_inspect.proofs.Names.{length-set, All-replicate, All-set, fold-append, Glonass, system_same, message_by, number_of, kind_of, message_there, common_steps, AreChannels, Bool, ChannelsValue, Err, Form, Framed, IfSome, List, Message, MsgFault, MsmValue, None, Ok, Option, Other, Result, System, [], arith, channel_of_1020, channels_in, false, flat_map, flat_map-append, is_some, is_system, length, message_at, message_in, most_number, nat_le, no_channels, refl, sent_by, sent_in, slot_count, true, with_first, with_sent, ℕ, ◌++◌, ◌==◌, ◌∷◌, ◌≡◌, ◌≤◌, option_to_list, ap}
 
 -- ---- only a message 1020 has the channel of one
 
@@ -24,9 +24,6 @@ msm_isnt_1020 f v = grind arith
 
 pub another_system : (s : System) → (s ≡ Glonass → ⊥) → is_system s Glonass ≡ false
 another_system s other = grind (arith, system_same)
-
-pub none_of_another : (f : Form) (v : MsmValue) → (v.system ≡ Glonass → ⊥) → sent_channels (message_in f v) ≡ []
-none_of_another f v other = grind (arith, another_system)
 
 -- those of a frame with another message
 pub sent_without_1020 : (wanted : Option ℕ) (f : Framed) (r : Result Message MsgFault) → message_at f.message ≡ r → is_1020 r ≡ false → option_to_list (channel_of_1020 f.message) ++ sent_by wanted r ≡ sent_by wanted r

@@ -1,6 +1,5 @@
 -- Reading columns: the bits of the columns that were read, reading encoded columns, and the fault.
-use Rattle.rtcm_msg.proofs.Names.{common_steps, ℕ, zero, suc, ◌≡◌, ◌+◌, ◌*◌, ◌/◌, ◌%◌, ◌^◌, Bool, List, [], ◌∷◌, ◌++◌, length, map, Ok, refl, sym, ap, subst, ◌∙◌, arith, append_assoc, replicate, add_comm, flat_map, length-map, map-id, map-map, div-eq_of_lt, div-one, shr_high, shr-shr, div-add-mod', mod_below, pow_pos, uint, Cursor, number_at, total_width, columns, column_at, columns_at, EachBelow, uint-low}
-use Rattle.std.proofs.lemmas.List.Folds.{flat_map-map}
+use Rattle.rtcm_msg.proofs.Names.{common_steps, ℕ, zero, suc, ◌≡◌, ◌+◌, ◌*◌, ◌/◌, ◌%◌, ◌^◌, Bool, List, [], ◌∷◌, ◌++◌, length, map, Ok, refl, sym, ap, subst, ◌∙◌, arith, append_assoc, replicate, add_comm, flat_map, length-map, map-id, map-map, div-eq_of_lt, div-one, shr_high, shr-shr, div-add-mod', mod_below, pow_pos, uint, Cursor, number_at, total_width, columns, column_at, columns_at, EachBelow, uint-low, flat_map-map}
 use Rattle.rtcm_msg.proofs.Binds.{bind_ok, ok_inj, number_consumed, Consumed}
 use Rattle.rtcm_msg.proofs.Combine.{cursor, number_again}
 

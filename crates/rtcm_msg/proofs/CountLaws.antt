@@ -1,6 +1,5 @@
 -- The number of IDs, pairs and cells.
-use Rattle.rtcm_msg.proofs.Names.{ℕ, zero, suc, ◌≡◌, ◌+◌, ◌*◌, ◌%◌, ◌^◌, ◌<◌, ◌≤◌, Bool, List, [], ◌∷◌, length, map, refl, ap, ◌∙◌, arith, count_ones, length-append, ones_cat, mod_below, ones, ones_in, mod-eq_of_lt, length-map, flat_map, enumerate_from, Pair, MasksValue, AreMasks, pair_count, uint, up_from, ids, chosen, pair, all_pairs, cell_pairs, length-uint, mod-suc}
-use Rattle.std.proofs.lemmas.List.FromFn.{length-enumerate_from}
+use Rattle.rtcm_msg.proofs.Names.{ℕ, zero, suc, ◌≡◌, ◌+◌, ◌*◌, ◌%◌, ◌^◌, ◌<◌, ◌≤◌, Bool, List, [], ◌∷◌, length, map, refl, ap, ◌∙◌, arith, count_ones, length-append, ones_cat, mod_below, ones, ones_in, mod-eq_of_lt, length-map, flat_map, enumerate_from, Pair, MasksValue, AreMasks, pair_count, uint, up_from, ids, chosen, pair, all_pairs, cell_pairs, length-uint, mod-suc, length-enumerate_from}
 
 -- ---- the number of IDs
 

@@ -1,6 +1,5 @@
 -- Texts of the equipment that follow each other.
-use Rattle.rtcm_msg.proofs.Names.{arith, ℕ, ◌≡◌, ◌+◌, ◌∷◌, ◌++◌, [], List, length, Result, Ok, Err, suc, refl, append_assoc, text_at, texts_at}
-use Rattle.rtcm_msg.specs.declared.fault.EquipmentFault.{EquipmentFault}
+use Rattle.rtcm_msg.proofs.Names.{arith, ℕ, ◌≡◌, ◌+◌, ◌∷◌, ◌++◌, [], List, length, Result, Ok, Err, suc, refl, append_assoc, text_at, texts_at, EquipmentFault}
 
 -- what was read before, and then this
 abbrev pub followed : List (List ℕ) → Result (List (List ℕ)) EquipmentFault → Result (List (List ℕ)) EquipmentFault

@@ -1,7 +1,6 @@
 -- Packing and unpacking undo each other.
-use Rattle.rtcm_msg.proofs.Names.{ap, ◌<◌, ℕ, ℤ, Bool, true, false, lit≤, ◌≡◌, ◌^◌, ◌≤◌, ◌∙◌, refl, arith, Form, Satellite, Cell, Contents, total_width, packed, unpacked, invalid_rough_rate, invalid_fine_rate, is_fine, has_rates, satellite_table_by, rate_table, cell_table_by, cell_table, satellite_contents, FitsIf, satellite_of, rate_in, cell_contents, cell_of, satellite_widths, cell_widths, IsSatelliteData, IsCellData, satellite_number, satellite_data, cell_number, cell_data}
+use Rattle.rtcm_msg.proofs.Names.{ap, ◌<◌, ℕ, ℤ, Bool, true, false, lit≤, ◌≡◌, ◌^◌, ◌≤◌, ◌∙◌, refl, arith, Form, Satellite, Cell, Contents, total_width, packed, unpacked, invalid_rough_rate, invalid_fine_rate, is_fine, has_rates, satellite_table_by, rate_table, cell_table_by, cell_table, satellite_contents, FitsIf, satellite_of, rate_in, cell_contents, cell_of, satellite_widths, cell_widths, IsSatelliteData, IsCellData, satellite_number, satellite_data, cell_number, cell_data, satellite_table, FitsSatellite, rate_contents}
 use Rattle.rtcm_msg.proofs.LayoutLaws.{FitAll, have_signs, packed_fits, unpacked_fit, packed-unpacked}
-use Rattle.rtcm_msg.specs.Forms.{satellite_table, FitsSatellite, rate_contents}
 use Rattle.rtcm_msg.specs.declared.view.Form.TheVariants as forms
 
 satellite_signs : (rates : Bool) → have_signs (satellite_table_by rates) ≡ true

@@ -1,8 +1,5 @@
 -- Contents and their numbers undo each other, field by field and packed in one number.
-use Rattle.rtcm_msg.proofs.Names.{ℕ, ◌≡◌, ◌+◌, ◌*◌, ◌/◌, ◌%◌, ◌^◌, ◌<◌, ◌==◌, ◌&&◌, Bool, true, false, [], ◌∷◌, refl, sym, ◌∙◌, arith, lit<, ◌⊎◌, inl, inr, nat_lt, add_comm, and_parts, shr_high, pow-add, pow_pos, mod_below, mod-eq_of_lt, FitsInt, FieldKind, Table, width, widths, Contents, content, total_width, packed, unpacked}
-use Rattle.std.proofs.lemmas.Nat.{mod-pow-add}
-use Rattle.std.proofs.Math.Nat.{add-mul-div_right, add-mul-mod_self_right, mul_assoc}
-use Rattle.rtcm_bits.specs.Bits.{bit}
+use Rattle.rtcm_msg.proofs.Names.{ℕ, ◌≡◌, ◌+◌, ◌*◌, ◌/◌, ◌%◌, ◌^◌, ◌<◌, ◌==◌, ◌&&◌, Bool, true, false, [], ◌∷◌, refl, sym, ◌∙◌, arith, lit<, ◌⊎◌, inl, inr, nat_lt, add_comm, and_parts, shr_high, pow-add, pow_pos, mod_below, mod-eq_of_lt, FitsInt, FieldKind, Table, width, widths, Contents, content, total_width, packed, unpacked, mod-pow-add, add-mul-div_right, add-mul-mod_self_right, mul_assoc, bit}
 use Rattle.rtcm_bits.proofs.BitLaws.{raw_fits, raw-signed, signed-raw, signed-fits}
 use Rattle.rtcm_msg.specs.Layout.{Uint, Int, Flag, Reserved, Content, number_of}
 

@@ -1,6 +1,5 @@
 -- A value and its meaning correspond one to one.
-use Rattle.rtcm_msg.proofs.Names.{ℕ, ◌≡◌, ◌+◌, ◌*◌, ◌≤◌, List, [], ◌∷◌, ◌++◌, length, map, refl, sym, ap, ◌∙◌, arith, flat_map, zip, enumerate_from, length-map, map-append, map-map, uint, number, Pair, MsmValue, MasksValue, AreMasks, IsValue, pair_count, ids, pair, all_pairs, cell_pairs, Rising, Meaning, meaning, ids_of, pair_number, cell_ids, length-uint, number_of-uint}
-use Rattle.std.proofs.lemmas.Slice.Zip.{firsts-zip, seconds-zip}
+use Rattle.rtcm_msg.proofs.Names.{ℕ, ◌≡◌, ◌+◌, ◌*◌, ◌≤◌, List, [], ◌∷◌, ◌++◌, length, map, refl, sym, ap, ◌∙◌, arith, flat_map, zip, enumerate_from, length-map, map-append, map-map, uint, number, Pair, MsmValue, MasksValue, AreMasks, IsValue, pair_count, ids, pair, all_pairs, cell_pairs, Rising, Meaning, meaning, ids_of, pair_number, cell_ids, length-uint, number_of-uint, firsts-zip, seconds-zip}
 use Rattle.rtcm_msg.proofs.IdLaws.{weaken, ids_rising, ids_one, chosen_rising, chosen_one}
 use Rattle.rtcm_msg.proofs.CountLaws.{ids_count, pairs_count, cell_pairs_count}
 

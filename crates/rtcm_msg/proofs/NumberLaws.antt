@@ -1,6 +1,5 @@
 -- The message numbers.
-use Rattle.rtcm_msg.proofs.Names.{common_steps, ℕ, ◌≡◌, ◌/◌, ◌%◌, ◌==◌, ◌^◌, ◌<◌, Bool, true, List, [], ◌∷◌, Option, refl, subst, arith, if◌then◌else◌, IfSome, find, System, Kind, kind_of, station_number, message_number, Form, msm_tens, system_of_tens, digit_of, form_of_digit, msm_kind}
-use Rattle.gnss_system.specs.Systems.{systems}
+use Rattle.rtcm_msg.proofs.Names.{common_steps, ℕ, ◌≡◌, ◌/◌, ◌%◌, ◌==◌, ◌^◌, ◌<◌, Bool, true, List, [], ◌∷◌, Option, refl, subst, arith, if◌then◌else◌, IfSome, find, System, Kind, kind_of, station_number, message_number, Form, msm_tens, system_of_tens, digit_of, form_of_digit, msm_kind, systems}
 use Rattle.rtcm_msg.specs.declared.view.Form.TheVariants as forms
 use Rattle.rtcm_msg.specs.declared.number.Kind.TheVariants as kinds
 

@@ -1,6 +1,5 @@
 -- Iteration over pairs: the first ID is removed from a set.
-use Rattle.rtcm_msg.proofs.Names.{ℕ, zero, suc, ◌≡◌, ◌≢◌, ◌+◌, ◌*◌, ◌-◌, ◌/◌, ◌%◌, ◌^◌, ◌<◌, ◌≤◌, Bool, List, [], ◌∷◌, ◌++◌, length, map, refl, sym, ap, ◌∙◌, subst, arith, count_ones, inl, inr, zero-add, count_leading_zeros, bit_xor, xor_add_and, leading_top, pow_pos, cases_lt, div-eq_of_lt, uint, Pair, up_from, ids, pair, chosen, MasksValue, AreMasks, pair_count, all_pairs_from, pairs_from, IndicesAreBelow, AreAll, uint-low, pow_mono, length-uint}
-use Rattle.std.proofs.lemmas.Nat.Bits.{and_pow}
+use Rattle.rtcm_msg.proofs.Names.{ℕ, zero, suc, ◌≡◌, ◌≢◌, ◌+◌, ◌*◌, ◌-◌, ◌/◌, ◌%◌, ◌^◌, ◌<◌, ◌≤◌, Bool, List, [], ◌∷◌, ◌++◌, length, map, refl, sym, ap, ◌∙◌, subst, arith, count_ones, inl, inr, zero-add, count_leading_zeros, bit_xor, xor_add_and, leading_top, pow_pos, cases_lt, div-eq_of_lt, uint, Pair, up_from, ids, pair, chosen, MasksValue, AreMasks, pair_count, all_pairs_from, pairs_from, IndicesAreBelow, AreAll, uint-low, pow_mono, length-uint, and_pow}
 use Rattle.rtcm_msg.proofs.CountLaws.{ids_count, pairs_count, cell_pairs_count}
 
 -- ---- the highest bit of a set

@@ -1,7 +1,5 @@
 -- Messages if the MSMs of a set are decoded.
-use Rattle.rtcm_msg.proofs.Names.{ℕ, ◌≡◌, arith, ◌&&◌, ◌≤◌, Bool, true, false, List, length, Ok, Err, refl, sym, ap, ◌∙◌, ◌⊎◌, inl, inr, if◌then◌else◌, cases_lt, bits_of, Message, MsgFault, MsmValue, Kind, MsmSet, kind_of, kind_with, kind_within, message_by, message_at, message_with, body_by, other_of, IsMessage, Form, message_in, satellite_widths, cell_widths, station_at, msm_at, cursor_at, Short, number_of, have_form, whole_set}
-use Rattle.gnss_system.specs.SystemValues.{value_of}
-use Rattle.rtcm_msg.specs.Sets.{is_in_set}
+use Rattle.rtcm_msg.proofs.Names.{ℕ, ◌≡◌, arith, ◌&&◌, ◌≤◌, Bool, true, false, List, length, Ok, Err, refl, sym, ap, ◌∙◌, ◌⊎◌, inl, inr, if◌then◌else◌, cases_lt, bits_of, Message, MsgFault, MsmValue, Kind, MsmSet, kind_of, kind_with, kind_within, message_by, message_at, message_with, body_by, other_of, IsMessage, Form, message_in, satellite_widths, cell_widths, station_at, msm_at, cursor_at, Short, number_of, have_form, whole_set, value_of, is_in_set}
 use Rattle.rtcm_msg.proofs.Binds.{bind_ok, of_read, ok_err}
 use Rattle.rtcm_msg.proofs.MsmLaws.{msm_consumed}
 use Rattle.rtcm_msg.proofs.MessageLaws.{message_there, message_none, message_found, other_is}

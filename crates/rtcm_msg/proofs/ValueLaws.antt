@@ -1,6 +1,5 @@
 -- Cells with a value are counted by signal.
-use Rattle.rtcm_msg.proofs.Names.{ℕ, zero, suc, ◌≡◌, ◌≢◌, ◌+◌, ◌-◌, ◌/◌, ◌%◌, ◌==◌, ◌&&◌, ◌||◌, ◌^◌, ◌<◌, ◌≤◌, Bool, true, false, List, [], ◌∷◌, length, get_or, set, map, drop, filter, drop-cons, replicate, refl, sym, ap, ◌∙◌, subst, arith, count_ones, cond, zip, flat_map, list_any, and_right, common_steps, uint, Entry, Pair, Pairs, CellsLeft, Form, MasksValue, MsmValue, ids, chosen, Rising, entries, pair, all_pairs, cell_pairs, pairs_from, pairs_left, cell_pairs_left, ArePairs, AreAll, HasFirst, IndicesAreBelow, entry_in, FormedMsm, formed, has_listed_value, value_count, has_id, entries_left, AreCells}
-use Rattle.std.proofs.lemmas.List.Folds.{list_any-append}
+use Rattle.rtcm_msg.proofs.Names.{ℕ, zero, suc, ◌≡◌, ◌≢◌, ◌+◌, ◌-◌, ◌/◌, ◌%◌, ◌==◌, ◌&&◌, ◌||◌, ◌^◌, ◌<◌, ◌≤◌, Bool, true, false, List, [], ◌∷◌, length, get_or, set, map, drop, filter, drop-cons, replicate, refl, sym, ap, ◌∙◌, subst, arith, count_ones, cond, zip, flat_map, list_any, and_right, common_steps, uint, Entry, Pair, Pairs, CellsLeft, Form, MasksValue, MsmValue, ids, chosen, Rising, entries, pair, all_pairs, cell_pairs, pairs_from, pairs_left, cell_pairs_left, ArePairs, AreAll, HasFirst, IndicesAreBelow, entry_in, FormedMsm, formed, has_listed_value, value_count, has_id, entries_left, AreCells, list_any-append}
 use Rattle.rtcm_msg.proofs.NextLaws.{no_more}
 use Rattle.rtcm_msg.proofs.IdLaws.{ids_rising}
 use Rattle.rtcm_msg.proofs.PairLaws.{found, passed, top_of, ids_split}

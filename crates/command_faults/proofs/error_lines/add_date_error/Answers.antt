@@ -1,8 +1,5 @@
-use Rattle.std.proofs.Common.{codes}
-use Rattle.command_faults.specs.declared.fault.DateOption.{DateOption}
 use Rattle.command_faults.specs.declared.fault.DateOption.TheVariants as dated
-use Rattle.command_faults.specs.ErrorLines.{date_words}
-use Rattle.command_faults.proofs.Names.{◌∙◌, ◌∷◌, words_in_one}
+use Rattle.command_faults.proofs.Names.{◌∙◌, ◌∷◌, words_in_one, codes, DateOption, date_words}
 use Rattle.command_faults.proofs.error_lines.add_date_error.Goals as goal
 
 pub returns-in-Week-clause-text : goal.returns-in-Week-clause-text

@@ -1,4 +1,4 @@
-use Rattle.std.proofs.Common.{refl}
+use Rattle.command_line.proofs.Names.{refl}
 use Rattle.command_line.proofs.commands.program_rows.Goals as goal
 
 pub returns : goal.returns

@@ -1,5 +1,5 @@
 use Rattle.std.proofs.Common.{◌≡◌, ◌-◌, ◌≤◌, ◌++◌, drop, length, map, string_bytes}
-use Rattle.command_line.specs.Words.{joined}
+use Rattle.command_line.proofs.Names.{joined}
 use Rattle.command_line.proofs.words.joined_words.Given as goal
 
 -- the words so far, and the others

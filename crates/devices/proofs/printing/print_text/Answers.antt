@@ -1,9 +1,5 @@
 use Rattle.devices.proofs.PrintingLaws.{then_delivered, unmapped}
-use Rattle.devices.specs.declared.counted.DeviceFailed.{DeviceFailed}
-use Rattle.devices.specs.Device.{WritesText}
-use Rattle.devices.specs.Devices.{writer_of}
-use Rattle.std.proofs.Common.{Result, subst}
-use Rattle.std.specs.Prelude.{⊤}
+use Rattle.devices.proofs.Names.{DeviceFailed, WritesText, writer_of, Result, subst, ⊤}
 use Rattle.devices.proofs.printing.print_text.Goals as goal
 
 pub returns : goal.returns

@@ -1,6 +1,5 @@
 use Rattle.rinex_file.proofs.ReaderLaws.{leaves_all}
-use Rattle.rinex_inspect.proofs.Names.{Write, printed_after, printed_later, AreInside, Completeness, FileSummary, FileValue, EpochReader, IsSummaryRead, EndsCheck, passed, Option, Stamped, subst, sym, ◌++◌, ap, List, ℕ, IfSome_then, devices_of, gaps_if, times_in, writer_of}
-use Rattle.rinex_inspect.specs.Checking.{AcceptsFiles}
+use Rattle.rinex_inspect.proofs.Names.{Write, printed_after, printed_later, AreInside, Completeness, FileSummary, FileValue, EpochReader, IsSummaryRead, EndsCheck, passed, Option, Stamped, subst, sym, ◌++◌, ap, List, ℕ, IfSome_then, devices_of, gaps_if, times_in, writer_of, AcceptsFiles}
 use Rattle.rinex_inspect.proofs.CheckLemmas.{checked, checked_or, kept_first, where_known}
 use Rattle.rinex_inspect.proofs.GapLemmas.{gaps_refused, gaps_stopped, whole_output}
 use Rattle.rinex_inspect.proofs.check.run_check_with.Goals as goal

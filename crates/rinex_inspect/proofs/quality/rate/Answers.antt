@@ -1,5 +1,4 @@
-use Rattle.rinex_inspect.specs.Quality.{RatesFiles}
-use Rattle.rinex_inspect.proofs.Names.{passed, ◌*◌, ◌<◌, ℕ, List, subst, sym, printed_after, devices_of, writer_of, EndsPrinting, week, weeks, plan_of, IfSome, IfSome_then, times_in, lines_before, last_of, Write, end_text}
+use Rattle.rinex_inspect.proofs.Names.{passed, ◌*◌, ◌<◌, ℕ, List, subst, sym, printed_after, devices_of, writer_of, EndsPrinting, week, weeks, plan_of, IfSome, IfSome_then, times_in, lines_before, last_of, Write, end_text, RatesFiles}
 use Rattle.rinex_inspect.proofs.EndLemmas.{ended, ended_early_or, ended_or}
 use Rattle.rinex_inspect.proofs.PeriodLemmas.{start_within}
 use Rattle.rinex_inspect.proofs.quality.rate.Goals as goal

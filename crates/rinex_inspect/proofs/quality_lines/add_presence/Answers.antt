@@ -1,4 +1,4 @@
-use Rattle.std.proofs.Common.{◌∙◌, ap, arith, codes, length}
+use Rattle.rinex_inspect.proofs.Names.{◌∙◌, ap, arith, codes, length}
 use Rattle.rinex_inspect.proofs.QualityTexts.{presence_is, size}
 use Rattle.rinex_inspect.proofs.quality_lines.add_presence.Goals as goal
 

@@ -1,8 +1,4 @@
-use Rattle.rtcm_msg.proofs.Names.{ℕ, ℤ, pos, ◌≡◌, ◌==◌, ◌∙◌, sym, ap, ◌*ℤ◌, ◌≤◌, ◌^◌, Bool, not, if◌then◌else◌, Option, Some, None, arith, w32, w64, to_z, of_z, FitsSigned, lit<, lit≤, ints, to_z-of_z}
-use Rattle.std.proofs.lemmas.Int.{fits_signed_mul}
-use Rattle.std.specs.Bool.{then_some}
-use Rattle.std.specs.Ordering.{int_eq}
-use Rattle.std.proofs.lemmas.Bool.Decides.{same_from_decides, Decides-like, Decides-eqb, Decides-int_eq}
+use Rattle.rtcm_msg.proofs.Names.{ℕ, ℤ, pos, ◌≡◌, ◌==◌, ◌∙◌, sym, ap, ◌*ℤ◌, ◌≤◌, ◌^◌, Bool, not, if◌then◌else◌, Option, Some, None, arith, w32, w64, to_z, of_z, FitsSigned, lit<, lit≤, ints, to_z-of_z, fits_signed_mul, then_some, int_eq, same_from_decides, Decides-like, Decides-eqb, Decides-int_eq}
 use Rattle.rtcm_msg.proofs.SignedLaws.{wider}
 use Rattle.rtcm_msg.proofs.data.scaled.Goals as goal
 

@@ -1,5 +1,4 @@
-use Rattle.rtcm_msg.proofs.Names.{Err, sym, subst, ◌≤◌, ◌≡◌, ◌+◌, ◌-◌, ◌∷◌, ◌++◌, ◌∙◌, [], ℕ, List, length, map, arith, ap, suc, append_assoc, map-append, err_from_is_err_and, AreShort, texts_at}
-use Rattle.std.proofs.lemmas.List.Elements.{All-push}
+use Rattle.rtcm_msg.proofs.Names.{Err, sym, subst, ◌≤◌, ◌≡◌, ◌+◌, ◌-◌, ◌∷◌, ◌++◌, ◌∙◌, [], ℕ, List, length, map, arith, ap, suc, append_assoc, map-append, err_from_is_err_and, AreShort, texts_at, All-push}
 use Rattle.rtcm_msg.proofs.EquipmentLaws.{followed, none_more, one_more}
 use Rattle.rtcm_msg.proofs.equipment.add_texts.Goals as goal
 

@@ -1,4 +1,4 @@
-use Rattle.std.proofs.Common.{◌≡◌, take}
+use Rattle.rtcm_msg.proofs.Names.{◌≡◌, take}
 use Rattle.rtcm_msg.proofs.msm.satellite_numbers.Given as goal
 
 abbrev pub invariant-loop-i : goal.invariant-loop-i

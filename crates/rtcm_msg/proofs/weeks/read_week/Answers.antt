@@ -1,5 +1,4 @@
-use Rattle.rtcm_msg.proofs.Names.{common_steps, eq-eqb, ne_eqb, sym, ℕ, ◌≡◌, ◌≢◌, ◌+◌, ◌-◌, ◌*◌, ◌^◌, ◌<◌, ◌≤◌, ◌==◌, ◌∙◌, false, true, List, None, Some, length, take, refl, ap, arith, le-leb, mul-le-mul, pow_mono, bits_of, field_at, week_by, week_place}
-use Rattle.rtcm_msg.specs.declared.weeks.WeekFields.{WeekFields}
+use Rattle.rtcm_msg.proofs.Names.{common_steps, eq-eqb, ne_eqb, sym, ℕ, ◌≡◌, ◌≢◌, ◌+◌, ◌-◌, ◌*◌, ◌^◌, ◌<◌, ◌≤◌, ◌==◌, ◌∙◌, false, true, List, None, Some, length, take, refl, ap, arith, le-leb, mul-le-mul, pow_mono, bits_of, field_at, week_by, week_place, WeekFields}
 use Rattle.rtcm_msg.proofs.LongLaws.{field_in_front}
 use Rattle.rtcm_msg.proofs.weeks.read_week.Goals as goal
 

@@ -48,9 +48,6 @@ loop-id-preserved c =
       few = λ i. rw same (c.loop-id.invariant.few i);
     }
 
-room : (a b : ℕ) → a < 2 ^ 62 → b ≤ 64 → a + b < 2 ^ 63
-room a b x y = omega (arith, x, y)
-
 pub returns-clause-counts : goal.returns-clause-counts
 returns-clause-counts c =
     let v = c.args.msm.now in
@@ -58,7 +55,7 @@ returns-clause-counts c =
     let same = sym (valued_msm v c.system-system.ensures) in
     record {
       counts = λ cells few h. subst (λ (l : List HeardCell). AreSignalCounts c.loop-id.self (cells ++ l)) same
-          (finished c.system-system.result _ _ v.form es c.in_default.ensures.none c.loop-id.invariant.numbers c.loop-id.invariant.adds cells (room _ _ few c.value_counts-counts.ensures.cells) h);
+          (finished c.system-system.result _ _ v.form es c.in_default.ensures.none c.loop-id.invariant.numbers c.loop-id.invariant.adds cells (omega (arith, few, c.value_counts-counts.ensures.cells)) h);
       few = subst (λ (l : List HeardCell). length l ≤ 64) same (few_valued v.form c.system-system.result es _ refl c.value_counts-counts.ensures.cells);
     }
 

@@ -1,4 +1,4 @@
-use Rattle.std.proofs.Common.{refl}
+use Rattle.rinex_inspect.proofs.Names.{refl}
 use Rattle.rinex_inspect.proofs.table.Table.new.Goals as goal
 
 pub returns : goal.returns

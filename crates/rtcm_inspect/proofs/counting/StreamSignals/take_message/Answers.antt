@@ -1,7 +1,5 @@
 use Rattle.rtcm_inspect.proofs.CountingLemmas.{takes_other, takes_refused}
-use Rattle.rtcm_inspect.proofs.Names.{subst, List, ℕ, ◌≡◌, Ok, Result, MsgFault, ◌∙◌, ap, sym, rules, message_at, viewed_message, Framed, with_sent, option_to_list, channel_of_1020}
-use Rattle.rtcm_msg.specs.Fields.{GivesViewed}
-use Rattle.rtcm_msg.specs.declared.view.View.{View}
+use Rattle.rtcm_inspect.proofs.Names.{subst, List, ℕ, ◌≡◌, Ok, Result, MsgFault, ◌∙◌, ap, sym, rules, message_at, viewed_message, Framed, with_sent, option_to_list, channel_of_1020, GivesViewed, View}
 use Rattle.rtcm_inspect.proofs.counting.StreamSignals.take_message.Goals as goal
 
 viewed : {v w : Result View MsgFault} {bytes : List ℕ} (f : Framed) → f.message ≡ bytes → v ≡ w → GivesViewed viewed_message v (message_at bytes) → GivesViewed viewed_message w (message_at f.message)

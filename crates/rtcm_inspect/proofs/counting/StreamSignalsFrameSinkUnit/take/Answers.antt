@@ -1,7 +1,5 @@
 use Rattle.rtcm_inspect.proofs.CountingLemmas.{one_more_counted}
-use Rattle.rtcm_inspect.proofs.Names.{whole_is, whole_set, MsmSet, subst, List, ℕ, ◌≡◌, Result, MsgFault, ◌∙◌, ap, refl, sym, message_at, message_with, viewed_message, framed}
-use Rattle.rtcm_msg.specs.Fields.{GivesViewed}
-use Rattle.rtcm_msg.specs.declared.view.View.{View}
+use Rattle.rtcm_inspect.proofs.Names.{whole_is, whole_set, MsmSet, subst, List, ℕ, ◌≡◌, Result, MsgFault, ◌∙◌, ap, refl, sym, message_at, message_with, viewed_message, framed, GivesViewed, View}
 use Rattle.rtcm_inspect.proofs.counting.StreamSignalsFrameSinkUnit.take.Goals as goal
 
 -- all messages are decoded

@@ -1,6 +1,4 @@
-use Rattle.rtcm_msg.proofs.Names.{ℕ, ◌≡◌, ◌∙◌, true, Option, count_ones, length, ap, arith, System, Form, MasksValue, MsmHeader, is_time, satellite_fault, cell_fault, header_fault, msm_refusal, out_of_range}
-use Rattle.std.specs.Option.{option_or}
-use Rattle.rtcm_msg.specs.declared.fault.Field.{Field}
+use Rattle.rtcm_msg.proofs.Names.{ℕ, ◌≡◌, ◌∙◌, true, Option, count_ones, length, ap, arith, System, Form, MasksValue, MsmHeader, is_time, satellite_fault, cell_fault, header_fault, msm_refusal, out_of_range, option_or, Field}
 use Rattle.rtcm_msg.proofs.msm.Msm.new.Goals as goal
 
 chained : {h a b h' a' b' q r : Option Field} → h' ≡ h → a' ≡ a → b' ≡ b → q ≡ option_or h' a' → r ≡ option_or q b' → option_or (option_or h a) b ≡ r

@@ -1,4 +1,4 @@
-use Rattle.std.proofs.Common.{◌∙◌, sym, rules}
+use Rattle.rtcm_msg.proofs.Names.{◌∙◌, sym, rules}
 use Rattle.rtcm_msg.proofs.ContentLaws.{cell_packed}
 use Rattle.rtcm_msg.proofs.view.Form.cell_number.Goals as goal
 

@@ -1,4 +1,4 @@
-use Rattle.std.proofs.Common.{◌∙◌, true, false, sym, rules, arith}
+use Rattle.rtcm_msg.proofs.Names.{◌∙◌, true, false, sym, rules, arith}
 use Rattle.rtcm_msg.proofs.ContentLaws.{satellite_packed}
 use Rattle.rtcm_msg.proofs.view.Form.satellite_number.Goals as goal
 

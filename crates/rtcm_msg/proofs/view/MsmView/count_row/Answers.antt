@@ -1,4 +1,4 @@
-use Rattle.std.proofs.Common.{◌∙◌, sym, count_ones}
+use Rattle.rtcm_msg.proofs.Names.{◌∙◌, sym, count_ones}
 use Rattle.rtcm_msg.proofs.ValueLaws.{first_below}
 use Rattle.rtcm_msg.proofs.view.MsmView.count_row.Goals as goal
 
