@@ -97,20 +97,25 @@ convert "$part" "$@" || alone "$part" "$@" || say "no file: $errors"
 # Messages of the day are late after a log beside it that runs far into the day: then the file without it has more.
 if has_neighbour && test "$(epochs "$part")" -lt 2880; then
     more=$(alone "$note" "$@" && epochs "$note") || more=0
-    test "$more" -le "$(epochs "$part")" || alone "$part" "$@" || say "no file: $errors"
+    test "${more:-0}" -le "$(epochs "$part")" || alone "$part" "$@" || say "no file: $errors"
 fi
+# A log of another week beside those of one: their ephemerides have several. A day is made without such a neighbour, and
+# one whose own logs are of several weeks is said.
+# shellcheck disable=SC2086 # there may be no station
+several() {
+    weeks=$(rtcm2rinex options --week $wanted 2>&1) || :
+    case $weeks in
+    *SeveralWeeks*) weeks=${weeks##*SeveralWeeks } ;;
+    *) weeks= && return 1 ;;
+    esac
+}
+if has_neighbour && logs | several; then alone "$part" "$@" || say "no file: $errors"; fi
+several < "$raw" || :
 gaps=$(rtcm2rinex check --gaps 30 --from "$day" --until "$after" < "$part" 2>&1) || say "no file: $gaps"
 has=$(rtcm2rinex quality < "$part")
 values=$(echo "$has" | grep '^signal ') || :
 # shellcheck disable=SC2086 # there may be no station
 heard=$(rtcm2rinex signals $wanted < "$raw" 2> /dev/null) || :
-# A log of another week beside those of this one: their ephemerides have several.
-# shellcheck disable=SC2086 # there may be no station
-weeks=$(logs | rtcm2rinex options --week $wanted 2>&1) || :
-case $weeks in
-*SeveralWeeks*) weeks=${weeks##*SeveralWeeks } ;;
-*) weeks= ;;
-esac
 
 # the bytes of the day's own logs that are in no frame, which has six besides its message
 size=$(wc -c < "$raw") lost=0
@@ -139,35 +144,31 @@ case $report in
     ;;
 esac
 
-# A file that was made of more is kept, also if it is compressed by now, and one that isn't as this script writes them.
-# One that is cut, as by a power cut, is made again.
-there=$made
-test -e "$made" || there=$made.gz
-if test -s "$there"; then
-    if had=$(plain "$there" | rtcm2rinex quality 2>&1); then
-        sizes() {
-            echo "$1" | awk '
-                $1 == "epochs" { counts = $2 " " $4 }
-                $1 == "signal" { values += $7 + $9 + $11 + $13 }
-                END { print counts, values + 0 }'
-        }
-        # shellcheck disable=SC2046 # the numbers of epochs, satellites and values of both
-        set -- $(sizes "$has") $(sizes "$had")
-        { test "$1" -ge "$4" && test "$2" -ge "$5" && test "$3" -ge "$6"; } ||
-            say "$1 epochs with $2 satellites and $3 values, and $4 with $5 and $6 in the file that there is, which is kept"
-    else
-        case $had in
-        *CutShort*) ;;
-        *) say "$there is kept, which is no file of this script: $had" ;;
-        esac
-    fi
-fi
+# A file that was made of more is kept, also if it is compressed by now, and one that can't be read or that isn't as this
+# script writes them. One that is cut, as by a power cut, is made again.
+sizes() {
+    echo "$1" | awk '
+        $1 == "epochs" { counts = $2 " " $4 }
+        $1 == "signal" { values += $7 + $9 + $11 + $13 }
+        END { print counts, values + 0 }'
+}
+for there in "$made" "$made.gz"; do
+    test -s "$there" || continue
+    had=$({ plain "$there" > "$note" && rtcm2rinex quality < "$note"; } 2>&1) || case $had in
+    *CutShort* | *"unexpected end of file"*) continue ;;
+    *) say "$there is kept, which is damaged or not of this script: $had" ;;
+    esac
+    # shellcheck disable=SC2046 # the numbers of epochs, satellites and values of both
+    set -- $(sizes "$has") $(sizes "$had")
+    { test "$1" -ge "$4" && test "$2" -ge "$5" && test "$3" -ge "$6"; } ||
+        say "$1 epochs with $2 satellites and $3 values, and $4 with $5 and $6 in the file that there is, which is kept"
+done
 
 # Each file has its name only when it is complete and on the disk; where this is interrupted, there is no report.
 rm -f "$kept.report"
 errors=$({ sync "$part" && mv -fT "$part" "$made" && rm -f "$made.gz"; } 2>&1) || say "no file: $errors"
 keep() {
-    errors=$({ echo "$2" > "$note" && mv -fT "$note" "$1"; } 2>&1) || say "no report: $errors"
+    errors=$({ echo "$2" > "$note" && sync "$note" && mv -fT "$note" "$1"; } 2>&1) || say "no report: $errors"
 }
 keep "$kept.signals" "$values"
 keep "$kept.report" "$report"

@@ -6,7 +6,7 @@ set -eu
 : "${1:?usage: days.sh STATION [N]}"
 station=$1 status=0 days=${2:-6} today=$(date -u +%F)
 case $days in
-*[!0-9]*)
+0?* | *[!0-9]*)
     echo "usage: days.sh STATION [N]" >&2
     exit 1
     ;;

@@ -7,14 +7,14 @@ set -eu
 : "${1:?usage: doppler.sh [--turn] OBS}"
 # some awks read and print decimals with the comma of the locale
 export LC_ALL=C
-test "$1" = --turn && obs=${2:?usage: doppler.sh --turn OBS} || obs=$1
-# a file that is cut isn't to become a whole one
-rtcm2rinex check < "$obs" > /dev/null || {
-    echo "$obs: no whole observation file" >&2
-    exit 1
-}
 # awk has the file as its input, since it takes names with = for assignments
 if test "$1" = --turn; then
+    obs=${2:?usage: doppler.sh --turn OBS}
+    # a file that is cut isn't to become a whole one
+    rtcm2rinex check < "$obs" > /dev/null || {
+        echo "$obs: not a whole file as rtcm2rinex writes it" >&2
+        exit 1
+    }
     awk '
         /END OF HEADER/ { body = 1 }
         body && /^[A-Z]/ {
@@ -42,7 +42,7 @@ awk '
     END {
         if (!(right + wrong)) exit 1
         print right + 0 " fit, " wrong + 0 " have the wrong sign"
-    }' < "$obs" || {
-    echo "$obs: no line to compare" >&2
+    }' < "$1" || {
+    echo "$1: no line to compare" >&2
     exit 1
 }

@@ -173,5 +173,5 @@ for kind in satellites strength; do
         echo "$name-$kind.png: not written as a whole" >&2
         exit 1
     }
-    mv -f -- "$part-$kind.png" "$name-$kind.png"
+    mv -fT -- "$part-$kind.png" "$name-$kind.png"
 done
