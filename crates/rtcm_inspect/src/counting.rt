@@ -81,7 +81,7 @@ impl StreamSignals {
         }
     }
 
-    /// Adds an MSM. Of that of another station, only the station is kept.
+    /// Adds an MSM. One of another station is counted, and only its station kept.
     fn take_msm(&mut self, msm: &MsmView<'_>)
         ensures { (f : Framed) → message_at f.message ≡ Ok (viewed_message (View.Msm msm.now))
             → Takes self.old self.new f (message_at f.message) }

@@ -21,7 +21,8 @@ use gnss_system::{BySystem, SYSTEMS, System};
 use obs_epoch::tow_of;
 use rtcm_msg::{Form, Forms, MsmSet, MsmView};
 
-/// The time of week of an MSM in milliseconds, and the number of MSMs before it.
+/// The time of week of an MSM in milliseconds, and the number of MSMs of the wanted station before
+/// it.
 #[derive(Clone, Copy)]
 pub struct PlacedTow {
     /// The number of MSMs of the wanted station before it.

@@ -49,7 +49,7 @@ pub record AreSignals (s : StreamSignals) (wanted : Option ℕ) (fs : List Frame
   pub weeks : AreSaidIn s.weeks wanted fs
   pub counts : AreFrameCounts s.counts fs
 
--- x became y by the message of a frame, which may be refused; what it says of the week isn't in them
+-- x became y by the message of a frame, which may be refused; the number of frames and the weeks are of before
 pub record Takes (x y : StreamSignals) (f : Framed) (r : Result Message MsgFault) : Type 0 where
   pub station : y.station ≡ x.station
   pub weeks : y.weeks ≡ x.weeks
