@@ -4,7 +4,7 @@
 #
 #   raw/STATION/    the raw logs, RTCM 3, also compressed by gzip, whose names begin with the day, of GPS time or UTC, and
 #                   all with the time of the day if it has several: 2024-02-04.rtcm3, or 2024-02-04-130000.rtcm3.gz and
-#                   others
+#                   others. Files of other endings aren't read
 #   headers/STATION options of `rtcm2rinex convert`, one a line, if there is such a file: --rec-type=SEPT POLARX5. They
 #                   are the header texts and others that this script and the plan of `options` don't give; --station
 #                   is given to `options`
@@ -13,10 +13,23 @@
 #
 # A STATION has nine characters for the RINEX name, as KIRU00SWE: site, monument, receiver and country. SKIPPED is the
 # largest percentage of bytes in no frame that isn't reported, 1 by default: more if the logs have other data too.
+# The commands date, mv and sync are those of GNU.
 set -eu
 export LC_ALL=C
 : "${2:?usage: day.sh STATION DAY}"
 station=$1 day=$2
+
+# shellcheck disable=SC2048,SC2086 # split into words, the lines of an error become one
+say() {
+    set -f
+    echo "$station $day:" $*
+    exit 1
+}
+
+case $station in
+[A-Z0-9][A-Z0-9][A-Z0-9][A-Z0-9][0-9][0-9][A-Z][A-Z][A-Z]) ;;
+*) say "no file: the name of a station has nine characters, as KIRU00SWE" ;;
+esac
 before=$(date -u -d "$day - 1 day" +%F)
 after=$(date -u -d "$day + 1 day" +%F)
 made=obs/$station/${station}_S_$(date -u -d "$day" +%Y%j)0000_01D_30S_MO.rnx
@@ -28,13 +41,6 @@ find "obs/$station" \( -name '????-??-??.[0-9]*.raw' -o -name '*.[0-9]*.part' \)
     -exec rm -f {} + 2> /dev/null || :
 trap 'rm -f "$part" "$raw" "$note"' EXIT
 trap 'exit 1' HUP INT TERM
-
-# shellcheck disable=SC2048,SC2086 # split into words, the lines of an error become one
-say() {
-    set -f
-    echo "$station $day:" $*
-    exit 1
-}
 
 # the options of the station
 header=headers/$station wanted=
@@ -60,23 +66,38 @@ plain() {
     *) cat "$1" ;;
     esac
 }
+# not what is kept beside logs, as their times or sums
+is_log() {
+    case $1 in
+    *.rtcm3 | *.rtcm3.gz) ;;
+    *) return 1 ;;
+    esac
+}
 
 # the logs of the day
 folder=raw/$station
 test ! -d "$folder" || { test -r "$folder" && test -x "$folder"; } || say "no file: $folder is not readable"
 : > "$raw"
-for log in "$folder/$day"*.rtcm3*; do
-    test "$log" != "$folder/$day*.rtcm3*" || say "no log"
+logs=0
+for log in "$folder/$day"*; do
+    is_log "$log" || continue
     errors=$(plain "$log" 2>&1 >> "$raw") || say "no file: $errors"
+    logs=$((logs + 1))
 done
+test "$logs" -gt 0 || say "no log"
 
 # The first and the last seconds of the day may be in the logs beside it: those of UTC begin 18 seconds after the GPS
 # day. If such a log is damaged or of another day, its own day says so, and this one is made without it.
-for last in "$folder/$before"*.rtcm3*; do :; done
-for next in "$folder/$after"*.rtcm3*; do break; done
+last='' next=''
+for log in "$folder/$before"*; do is_log "$log" && last=$log; done
+for log in "$folder/$after"*; do is_log "$log" && next=$log && break; done
 has_neighbour() { test -e "$last" || test -e "$next"; }
 logs() {
-    test ! -e "$last" || plain "$last" 2> /dev/null | tail -c 2000000
+    case $last in
+    # str2str begins the next log half a minute before an hour: one that begins later has the first hour of the day
+    *-2359[3-5]?.*) plain "$last" 2> /dev/null || : ;;
+    *) test ! -e "$last" || plain "$last" 2> /dev/null | tail -c 2000000 ;;
+    esac
     cat "$raw"
     test ! -e "$next" || plain "$next" 2> /dev/null | head -c 2000000
 }
