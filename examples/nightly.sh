@@ -1,16 +1,17 @@
 #!/bin/sh
-# nightly.sh [DAY [HOSTS]]: converts a day, by default yesterday, of each station in the file `stations`, one a line, by
-# day.sh in this folder, as many at once as there are processors. It prints a line for each station whose day lacks
-# something, and nothing of a good day; its status is the number of these, at most 101. The list is read each time; its
-# blank lines and those that begin with # are skipped.
+# nightly.sh [DAY [HOSTS]]: converts a day of each station in the file `stations`, one a line, by day.sh in this folder, as
+# many stations at once as there are processors. Without DAY, or where it is empty, it is yesterday, and with it days
+# before that were missed, by days.sh. It prints a line for each day that lacks something, and nothing of a good day; its
+# status is the number of stations with such a day, at most 101. The list is read each time; its blank lines and those
+# that begin with # are skipped.
 #
 # HOSTS, as `:,gnss@host`, in which `:` is this machine, take part by ssh. They see the current folder and this script
 # under the same names, and have rtcm2rinex and GNU parallel in the PATH of their shells.
 set -eu
-day=${1:-$(date -u -d yesterday +%F)}
+day=${1-}
 scripts=$(CDPATH='' cd -- "$(dirname -- "$0")" && pwd)
-# also of a list whose lines end as those of Windows
-list=$({ tr -d '\r' < stations | grep -v -e '^#' -e '^[[:blank:]]*$'; } 2> /dev/null) || {
+# also of a list whose lines end as those of Windows, or with blanks
+list=$({ tr -d '\r' < stations | sed 's/^[[:blank:]]*//; s/[[:blank:]]*$//' | grep -v -e '^#' -e '^$'; } 2> /dev/null) || {
     echo "stations: missing, unreadable or empty" >&2
     exit 1
 }
@@ -19,7 +20,12 @@ if test $# -gt 1; then
 else
     set --
 fi
+if test "$day"; then
+    set -- "$@" -q sh "$scripts/day.sh" {} "$day"
+else
+    set -- "$@" -q sh "$scripts/days.sh" {}
+fi
 # -q keeps the blanks of a path
-exec parallel "$@" -q sh "$scripts/day.sh" {} "$day" << END
+exec parallel "$@" << END
 $list
 END
