@@ -4,7 +4,8 @@
 # The week is the one that the recording's ephemerides have. For a recording without ephemerides give the date of its
 # begin:
 #   DAY=2024-02-04 sh convert.sh s.rtcm3 s.obs
-# Further options are those of `rtcm2rinex convert`, such as --interval 30. The report is printed.
+# and for one of several stations its number, as STATION=2003. Further options are those of `rtcm2rinex convert` that the
+# script and the plan of `options` don't give, such as --interval 30. The report is printed.
 set -eu
 : "${2:?usage: convert.sh RAW OBS [OPTION ..]}"
 raw=$1 obs=$2 part=$2.$$.part
@@ -15,11 +16,11 @@ if { test -e "$obs" && test ! -f "$obs"; } || test "$raw" -ef "$obs"; then
     exit 1
 fi
 
-# the options that fit the recording: week, signals, GLONASS channels, position
+# the options that fit the recording: week, station, signals, GLONASS channels, position
 if test "${DAY-}"; then
-    plan=$(rtcm2rinex options --near "$DAY" < "$raw")
+    plan=$(rtcm2rinex options --near "$DAY" ${STATION:+--station "$STATION"} < "$raw")
 else
-    plan=$(rtcm2rinex options --week < "$raw")
+    plan=$(rtcm2rinex options --week ${STATION:+--station "$STATION"} < "$raw")
 fi
 
 # The file has its name only when it is complete. Not every shell runs the trap of EXIT at a signal.
