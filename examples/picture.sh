@@ -21,7 +21,7 @@ last=$(date -u -d "$(echo "$times" | sed -n 's/^last //p')" +%s)
 step=$(echo "$times" | awk '
     BEGIN { step = 1 }
     $1 == "step" { step = $2 < 0.75 ? int($2 * 20 + 0.5) / 20 : int($2 + 0.5) }
-    END { print (step < 0.05 ? 0.05 : step) }')
+    END { print (step < 0.05 ? 0.05 : step > 86400 ? 86400 : step) }')
 for seconds in 1 2 5 10 30 60 120 300 600 900 1800 3600 7200 14400 43200 86400; do
     test "$seconds" -lt "${step%.*}" || test $((last - first)) -gt $((400 * seconds)) || break
 done
@@ -167,8 +167,11 @@ plot for [n = 0:lines - 1] $strength index n using 1:2 with linespoints lw 2 dt 
 END
 } | NAME=$part FILE=${obs##*/} gnuplot -e 'name = system("echo \"$NAME\""); file = system("echo \"$FILE\"")' -
 for kind in satellites strength; do
-    # without a strength there is no picture of it
-    test "$kind" = satellites || test -e "$part-$kind.png" || break
+    # without a strength there is no picture of it, also none of an earlier file
+    test "$kind" = satellites || test -e "$part-$kind.png" || {
+        rm -f -- "$name-$kind.png"
+        break
+    }
     tail -c 8 -- "$part-$kind.png" | grep -q IEND || {
         echo "$name-$kind.png: not written as a whole" >&2
         exit 1

@@ -7,10 +7,11 @@ status=0
 for file; do
     # read twice, since a pipe doesn't have the status of gzip
     if times=$(gzip -cdf -- "$file" 2>&1 > /dev/null && gzip -cdf -- "$file" | rtcm2rinex check --times 2>&1); then
-        echo "$times" | awk -v file="$file" '
+        # the name by the environment, as awk reads escapes of its variables
+        echo "$times" | file=$file awk '
             $1 == "epochs" { epochs = $2 }
             $1 == "first" { first = $2 " " $3 }
-            $1 == "last" { print file ": " epochs " epochs from " first " to " $2 " " $3 }'
+            $1 == "last" { print ENVIRON["file"] ": " epochs " epochs from " first " to " $2 " " $3 }'
     else
         # shellcheck disable=SC2086 # the lines of gzip become one
         echo "$file:" $times
