@@ -9,8 +9,8 @@
 # make install    builds it if it is missing, and installs program, manual page, completion for bash and examples to
 #                 PREFIX (/usr/local)
 # make read-back  builds it, has RTKLIB read back the converted recordings, and compares RTKLIB's own conversions
-# make test       runs the gate: documents, all proofs, must-fail mutants, tests, stored cases, the commands of the manual
-#                 page, random streams, fault injection (docs/GATE.md)
+# make test       runs the gate: all proofs, must-fail mutants, tests, stored cases, documents, and what else docs/GATE.md
+#                 lists
 # make bench      compares the instructions of the programs that make test left with stored ones; needs valgrind
 # make mutants    tries the mutants of crates/*/must-fail and crates/*/mutants over kept work, and their controls
 PROGRAM := crates/rtcm2rinex/out/rtcm2rinex
@@ -21,6 +21,8 @@ DATE := "20240204 000001 UTC"
 
 PREFIX ?= /usr/local
 EXAMPLES = $(PREFIX)/share/doc/rtcm2rinex/examples
+# the scripts that a unit runs, also on a machine without documents
+RUN = $(PREFIX)/share/rtcm2rinex
 
 # The prover's allocator returns memory to the kernel that it soon needs again; keeping it makes checks faster.
 export MIMALLOC_PURGE_DELAY ?= -1
@@ -66,7 +68,8 @@ install:
 	install -m 755 $(PROGRAM) $(DESTDIR)$(PREFIX)/bin/rtcm2rinex
 	install -m 644 docs/rtcm2rinex.1 $(DESTDIR)$(PREFIX)/share/man/man1/rtcm2rinex.1
 	install -m 644 docs/rtcm2rinex.bash $(DESTDIR)$(PREFIX)/share/bash-completion/completions/rtcm2rinex
-	install -d $(DESTDIR)$(EXAMPLES)/systemd
+	install -d $(DESTDIR)$(RUN) $(DESTDIR)$(EXAMPLES)/systemd
+	install -m 644 examples/day.sh examples/days.sh $(DESTDIR)$(RUN)
 	install -m 644 examples/*.sh $(DESTDIR)$(EXAMPLES)
 	install -m 644 examples/systemd/* $(DESTDIR)$(EXAMPLES)/systemd
 
