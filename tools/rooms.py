@@ -45,8 +45,6 @@ SSH = """\
 while test "$1" != host; do shift; done
 shift
 test "$1" != -- || shift
-mkdir -p {folder}
-cd {folder}
 HOME=$PWD SHELL=/bin/sh exec sh -c "$*"
 """
 
@@ -93,23 +91,20 @@ def of_station(message: bytes, number: int) -> bytes:
 class Room:
     """A folder in which commands run, with the program, `str2str` and `ssh` on the PATH."""
 
-    # The folder of the other machine, from that of the commands or as an absolute path.
-    host = "."
-
     def __init__(self, folder: Path, shell: str, program: Path) -> None:
         self.folder, self.shell = folder, shell
         (folder / "bin").mkdir()
         (folder / "bin/rtcm2rinex").symlink_to(program)
-        for name, script in (("str2str", STR2STR), ("ssh", SSH.format(folder=self.host))):
+        for name, script in (("str2str", STR2STR), ("ssh", SSH)):
             (folder / "bin" / name).write_text(script, encoding="utf-8")
             (folder / "bin" / name).chmod(0o755)
         fixed = {"PATH": f"{folder}/bin:{os.environ['PATH']}", "HOME": str(folder)}
         self.how = {"cwd": folder, "env": os.environ | fixed}
 
-    def start(self, text: str, words: tuple[str, ...] = ()) -> subprocess.Popen:
+    def start(self, text: str) -> subprocess.Popen:
         """Starts commands in a process group of their own."""
         return subprocess.Popen(
-            [self.shell, "-c", f"set -eu\n{text}", self.shell, *words],
+            [self.shell, "-c", f"set -eu\n{text}"],
             stdin=subprocess.PIPE,
             stdout=subprocess.PIPE,
             stderr=subprocess.PIPE,
@@ -118,9 +113,9 @@ class Room:
             **self.how,
         )
 
-    def run(self, text: str, *words: str, data: bytes = b"", seconds: float = SECONDS) -> subprocess.CompletedProcess:
-        with self.start(text, words) as started:
-            return finish(started, data, seconds)
+    def run(self, text: str, data: bytes = b"") -> subprocess.CompletedProcess:
+        with self.start(text) as started:
+            return finish(started, data)
 
     def signalled(self, text: str, is_ready: Callable[[], bool], *numbers: int) -> subprocess.CompletedProcess:
         """Runs commands until they are ready, and then sends these signals to all, one after another."""
@@ -129,7 +124,7 @@ class Room:
             for number in numbers:
                 os.killpg(started.pid, number)
                 time.sleep(MOMENT / 4)
-            return finish(started, b"", SECONDS)
+            return finish(started, b"")
 
     def replace_program(self, script: str) -> None:
         (self.folder / "bin/rtcm2rinex").unlink()
@@ -160,10 +155,10 @@ class Room:
         return self.epochs(name) == list(map(at, moments))
 
 
-def finish(started: subprocess.Popen, data: bytes, seconds: float) -> subprocess.CompletedProcess:
-    """Waits until commands end and close their outputs; after the given time all of them are killed."""
+def finish(started: subprocess.Popen, data: bytes) -> subprocess.CompletedProcess:
+    """Waits until commands end and close their outputs; after SECONDS all of them are killed."""
     try:
-        output, errors = started.communicate(data, seconds)
+        output, errors = started.communicate(data, SECONDS)
         status = started.returncode
     except subprocess.TimeoutExpired:
         os.killpg(started.pid, signal.SIGKILL)

@@ -1,8 +1,10 @@
 """Cases of the epochs that are written and of the header's optional records: chosen.json."""
-from reference_impl.fields import packed
+from pathlib import Path
 
-from .common import CONVERT, STATION, check_row, file_of, file_row, moved, msm, replaced, row, without
+from .common import CONVERT, check_row, file_of, file_row, moved, msm, replaced, row, without
+from .common import station as station_message
 
+TOP = Path(__file__).resolve().parent.parent.parent
 SAMPLE = "samples/zed-f9t-2019-10-17"
 STFU = "cases/input/stfu-2016-04-06.rtcm3"
 OF_1C = [*CONVERT, "--gps", "1C", "--galileo", "none"]
@@ -21,8 +23,7 @@ def second(n: int, form: int = 7, satellites: tuple[int, ...] = (5, 7), **values
 
 def station(height: int) -> bytes:
     """Returns a message 1006."""
-    fields = [(12, 1006), (12, STATION), (10, 0), (38, 11_141_045_999), (2, 0), (38, 48_507_297_108), (2, 0)]
-    return packed([*fields, (38, 39_755_214_643), (16, height)])
+    return station_message(height, y=48_507_297_108, systems=0)
 
 
 def seconds(changed: dict[int, bytes], form: int = 7) -> list[bytes]:
@@ -202,8 +203,8 @@ def check_rows() -> list[dict]:
 
 def recorded_rows() -> list[dict]:
     """The recordings: an interval, and windows that meet."""
-    with open(f"{SAMPLE}.plan", encoding="ascii") as plan:
-        sample = ["convert", "--date", "20240204 000001 UTC", *plan.read().split()]
+    plan = (TOP / f"{SAMPLE}.plan").read_text(encoding="ascii")
+    sample = ["convert", "--date", "20240204 000001 UTC", *plan.split()]
     stfu = ["convert", "--week", "1891", "--date", "20240204 000001 UTC", "--interval", "10"]
     return [
         file_row("sample-interval-5", [*sample, "--interval", "5"], f"{SAMPLE}.rtcm3", "obs"),

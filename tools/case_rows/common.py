@@ -1,7 +1,7 @@
 """Messages and rows of stored cases."""
 from reference_impl.commands import convert
 from reference_impl.epochs import Setup
-from reference_impl.fields import FORMS, SIGNED, Columns, Fields, pairs_of
+from reference_impl.fields import FORMS, SIGNED, Columns, Fields, packed, pairs_of
 from reference_impl.frames import frame_of
 from reference_impl.messages import Channels
 from reference_impl.options import COLUMNS, plan_of
@@ -31,6 +31,20 @@ def msm(
     of_satellites: Columns = {name: [known[name]] * len(satellites) for name in FORMS[number % 10].satellite}
     of_cells: Columns = {name: [known[name]] * len(pairs) for name in FORMS[number % 10].cell}
     return Fields(number, station, time, more, satellites, signals, pairs, of_satellites, of_cells).message()
+
+
+def station(
+    height: int | None = None,
+    x: int = 11_141_045_999,
+    number: int = STATION,
+    y: int = -48_507_297_108,
+    z: int = 39_755_214_643,
+    systems: int = 12,
+) -> bytes:
+    """Returns a message 1005, or with a height a 1006. The systems are DF021 to DF024 and DF141, 10 bits."""
+    fields = [(12, 1005 if height is None else 1006), (12, number), (10, systems), (38, x), (2, 0)]
+    fields += [(38, y), (2, 0), (38, z)]
+    return packed(fields + ([] if height is None else [(16, height)]))
 
 
 def limits(name: str, width: int) -> list[int]:

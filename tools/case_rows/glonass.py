@@ -261,15 +261,9 @@ def option_rows() -> list[dict]:
     return made
 
 
-def check_rows() -> list[dict]:
-    """Returns cases of `check`: files with channels, each with a line changed."""
-    messages = [msm(1074, 1000, [1], more=1), msm(1084, at(1000), [1, 27])]
-    plan = {"gps": "1C", "glonass": "1C,2P"}
-    files = {0: file_of(plan, messages), 1: file_of(plan, messages, {27: -7})}
-    files |= {count: file_of(plan, messages, {n: n % 14 - 7 for n in range(1, 2 * count, 2)}) for count in (8, 13)}
-    made = [check_row(f"check-glonass-{count}-channels", lines) for count, lines in files.items()]
-    none, one, full = files[0], files[1], files[13]
-    changes = {
+def changed_lines(none: list[str], one: list[str], full: list[str]) -> dict[str, tuple[list[str], str, str]]:
+    """Returns changes of the lines of channels in files without channels, with one, and with two lines of them."""
+    return {
         "a-channel-of-7": (one, "  1 R27 -7", "  1 R27  7"),
         "a-channel-of-minus-8": (one, "  1 R27 -7", "  1 R27 -8"),
         "a-channel-of-minus-0": (one, "  1 R27 -7", "  1 R27 -0"),
@@ -294,6 +288,17 @@ def check_rows() -> list[dict]:
         "a-bias": (one, f"{'':60}GLONASS COD", f" C1C    0.000{'':47}GLONASS COD"),
         "a-satellite-of-28": (one, "R27", "R28"),
     }
+
+
+def check_rows() -> list[dict]:
+    """Returns cases of `check`: files with channels, each with a line changed."""
+    messages = [msm(1074, 1000, [1], more=1), msm(1084, at(1000), [1, 27])]
+    plan = {"gps": "1C", "glonass": "1C,2P"}
+    files = {0: file_of(plan, messages), 1: file_of(plan, messages, {27: -7})}
+    files |= {count: file_of(plan, messages, {n: n % 14 - 7 for n in range(1, 2 * count, 2)}) for count in (8, 13)}
+    made = [check_row(f"check-glonass-{count}-channels", lines) for count, lines in files.items()]
+    none, one, full = files[0], files[1], files[13]
+    changes = changed_lines(none, one, full)
     made += [check_row(f"check-glonass-{name}", replaced(*change)) for name, change in changes.items()]
     made += [
         check_row("check-glonass-without-channels-line", without(one, "  1 R27")),
@@ -322,4 +327,4 @@ def streams() -> dict[str, bytes]:
 
 def rows() -> list[dict]:
     made = [row(name, words, messages) for name, words, messages in ROWS]
-    return [*made, *recording_rows(), *table_rows(["R"]), *option_rows(), *check_rows()]
+    return [*made, *recording_rows(), *table_rows("R"), *option_rows(), *check_rows()]

@@ -1,5 +1,5 @@
-"""Cases of BeiDou, QZSS and SBAS: systems.json. A case is made if the program reads the systems that it has."""
-from reference_impl.messages import FIRST_NUMBERS, READ_SYSTEMS, SATELLITES, SIGNALS, WEEK
+"""Cases of BeiDou, QZSS and SBAS: systems.json."""
+from reference_impl.messages import FIRST_NUMBERS, SATELLITES, SIGNALS, WEEK
 from reference_impl.options import OPTION_NAMES
 from reference_impl.stream import time_sent as time
 
@@ -10,17 +10,11 @@ SAMPLE = "samples/zed-f9t-2019-10-17.rtcm3"
 GMSD7 = "cases/input/gmsd7-2012-10-14.rtcm3"
 DATE = ["--date", "20240204 000001 UTC"]
 NEITHER = ["--gps", "none", "--galileo", "none"]
-# The systems of which there are cases here, as far as the program reads them.
-OTHERS = [system for system in "CJS" if system in READ_SYSTEMS]
+SYSTEMS = "CJS"
 
 
 def number(system: str, form: int = 4) -> int:
     return FIRST_NUMBERS[system] + form
-
-
-def read(rows: dict[str, list]) -> list:
-    """Returns the rows of the systems that the program reads; the key is the letters of those that a row has."""
-    return [row for systems, some in rows.items() if set(systems) <= set(READ_SYSTEMS) for row in some]
 
 
 def recording_rows() -> list[dict]:
@@ -29,22 +23,17 @@ def recording_rows() -> list[dict]:
     plan = ["--gps", "1C", "--galileo", "none", "--beidou", "2I,6I,7I", "--qzss", "1C,6L,2X,5X,1X"]
     of_2025 = ["--msm", "all", *of_beidou, "2I,6I,7I,5P,1P"]
     of_qzss = ["--week", "1709", *DATE, *NEITHER, "--qzss", "1C,6L,2X,5X,1X"]
-    rows = {
-        "J": [file_row("gmsd7-qzss", ["convert", *of_qzss], GMSD7)],
-        "C": [
-            file_row("zed-f9t-beidou", ["convert", "--week", "2075", *DATE, *of_beidou, "2I"], SAMPLE),
-            file_row("gr30-beidou", ["convert", "--week", "2361", *DATE, *of_2025], GR30, "obs"),
-        ],
-        "S": [file_row("stfu-sbas", ["convert", "--week", "1891", *DATE, *NEITHER, "--sbas", "1C,5I"], STFU)],
-        "CJ": [
-            file_row("gmsd7-convert", ["convert", "--week", "1709", *DATE, *plan], GMSD7, "obs"),
-            file_row("gmsd7-options", ["options", "--near", "2012-10-14"], GMSD7),
-        ],
-    }
-    return read(rows)
+    return [
+        file_row("gmsd7-qzss", ["convert", *of_qzss], GMSD7),
+        file_row("zed-f9t-beidou", ["convert", "--week", "2075", *DATE, *of_beidou, "2I"], SAMPLE),
+        file_row("gr30-beidou", ["convert", "--week", "2361", *DATE, *of_2025], GR30, "obs"),
+        file_row("stfu-sbas", ["convert", "--week", "1891", *DATE, *NEITHER, "--sbas", "1C,5I"], STFU),
+        file_row("gmsd7-convert", ["convert", "--week", "1709", *DATE, *plan], GMSD7, "obs"),
+        file_row("gmsd7-options", ["options", "--near", "2012-10-14"], GMSD7),
+    ]
 
 
-def table_rows(systems: list[str]) -> list[dict]:
+def table_rows(systems: str) -> list[dict]:
     """Returns cases of every signal ID, every satellite ID, and times at their limits, for each of these systems."""
     made = []
     for system in systems:
@@ -83,14 +72,11 @@ def longest_rows() -> list[dict]:
     words, messages = all_satellites("GECJS")
     four = [[4 * n + 1, 4 * n + 2, 4 * n + 3, 4 * n + 4] for n in range(4)]
     crowded = [msm(1124, 0, part, sorted(SIGNALS["C"]), more=1) for part in four] + [msm(1124, 0, [63], [2])]
-    rows = {
-        "C": [row("convert-257-cells-of-beidou", [*CONVERT, *NEITHER, "--beidou", "all"], crowded)],
-        "CJS": [
-            row("convert-all-satellites-of-five-systems", words, messages),
-            row("convert-all-satellites-in-falling-order", words, messages[::-1]),
-        ],
-    }
-    return read(rows)
+    return [
+        row("convert-257-cells-of-beidou", [*CONVERT, *NEITHER, "--beidou", "all"], crowded),
+        row("convert-all-satellites-of-five-systems", words, messages),
+        row("convert-all-satellites-in-falling-order", words, messages[::-1]),
+    ]
 
 
 SUNDAY = ["options", "--near", "2024-02-11"]
@@ -178,13 +164,13 @@ OF_THREE: list[Row] = [
     ("convert-two-codes-unknown", [*CONVERT, "--sbas", "x", "--beidou", "2I,y"], []),
     ("convert-a-code-of-another-system", [*CONVERT, "--sbas", "1C,2I", "--qzss", "all"], []),
 ]
-ROWS = {"J": OF_QZSS, "C": OF_BEIDOU, "S": OF_SBAS, "CJS": OF_THREE}
+ROWS = [*OF_QZSS, *OF_BEIDOU, *OF_SBAS, *OF_THREE]
 
 
 def check_rows() -> list[dict]:
     """Returns cases of `check`: files of each system, each with a line changed."""
     made = []
-    for system in OTHERS:
+    for system in SYSTEMS:
         codes = SIGNALS[system][2]
         lines = file_of(
             {OPTION_NAMES[system]: codes}, [msm(number(system), time(system, 1000), [1, SATELLITES[system]])]
@@ -252,6 +238,5 @@ def streams() -> dict[str, bytes]:
 
 
 def rows() -> list[dict]:
-    made = [row(name, words, messages) for name, words, messages in read(ROWS)]
-    made += [*recording_rows(), *table_rows(OTHERS), *longest_rows(), *check_rows()]
-    return made + (mixed_rows() if "C" in OTHERS and "S" in OTHERS else [])
+    made = [row(*one) for one in ROWS]
+    return [*made, *recording_rows(), *table_rows(SYSTEMS), *longest_rows(), *check_rows(), *mixed_rows()]

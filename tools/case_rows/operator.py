@@ -1,8 +1,6 @@
-#!/usr/bin/env python3
-"""operator_case
+"""Cases of a stream with the irregularities of a real night: operator.json.
 
-Generates cases/operator.json and its files: a stream with the irregularities of a real night, and the expected outputs
-by the reference implementation (tools/reference). The stream is the recording in samples/, changed as follows:
+The stream is the recording in samples/, changed as follows:
 
 - it is preceded by the text of a caster,
 - it begins and ends within a frame,
@@ -12,16 +10,14 @@ by the reference implementation (tools/reference). The stream is the recording i
 
 The UBX messages of the receiver remain between the frames.
 """
-import json
-import subprocess
-import sys
 from pathlib import Path
 
 from reference_impl.fields import Bits
 from reference_impl.frames import frame_of, frames_of
 from reference_impl.messages import DEFAULT, WEEK, number_of
 
-TOP = Path(__file__).resolve().parent.parent
+TOP = Path(__file__).resolve().parent.parent.parent
+STREAM, FILE = "cases/input/operator.rtcm3", "cases/expected/operator.obs"
 CASTER = b"ICY 200 OK\r\nServer: NTRIP Caster\r\nDate: Sat, 24 Oct 2019 23:59:54 GMT\r\n\r\n"
 CONVERT = ["convert", "--week", "2075", "--date", "20191020 000100 UTC", "--station", "0", "--marker", "ROOF"]
 EPOCHS, BEFORE_MIDNIGHT, BEFORE_MOVE = 12, 5, 8
@@ -54,7 +50,6 @@ def moved(message: bytes) -> bytes:
 
 
 def stream() -> bytes:
-    """Returns the changed stream."""
     recorded = (TOP / "samples/zed-f9t-2019-10-17.rtcm3").read_bytes()
     others = [frame_of(message) for _, message in frames_of((TOP / "samples/four-messages.rtcm3").read_bytes())]
     parts, end, epoch = [], 0, 0
@@ -78,37 +73,13 @@ def stream() -> bytes:
     return CASTER + first[len(first) // 2 :] + b"".join(parts[2:-1]) + last[: len(last) // 2]
 
 
-def answer(words: list[str], given: bytes) -> tuple[bytes, bytes]:
-    """Returns the output and error text of the reference implementation."""
-    reference = [sys.executable, TOP / "tools/reference", *words]
-    ran = subprocess.run(reference, input=given, capture_output=True, check=True)
-    return ran.stdout, ran.stderr
+def streams() -> dict[str, bytes]:
+    return {STREAM: stream()}
 
 
-def main() -> None:
-    """Writes the stream, the expected outputs and the cases."""
-    bytes_of = {"cases/input/operator.rtcm3": stream()}
-    rows = []
-
-    def store(words: list[str], given_file: str, output_file: str | None = None) -> None:
-        output, faults = answer(words, bytes_of[given_file])
-        row = {"name": f"operator-{words[0]}", "words": words, "input_file": given_file, "status": 0}
-        if output_file:
-            bytes_of[output_file] = output
-            row["output_file"] = output_file
-        else:
-            row["output"] = output.decode("ascii")
-        rows.append(row | ({"faults": faults.decode("ascii")} if faults else {}))
-
-    store(["frames"], "cases/input/operator.rtcm3", "cases/expected/operator-frames.txt")
-    store(["show"], "cases/input/operator.rtcm3", "cases/expected/operator-show.txt")
-    store(CONVERT, "cases/input/operator.rtcm3", "cases/expected/operator.obs")
-    store(["check"], "cases/expected/operator.obs")
-    for name, data in bytes_of.items():
-        (TOP / name).write_bytes(data)
-    text = ",\n".join(json.dumps(row) for row in rows)
-    (TOP / "cases/operator.json").write_text(f"[\n{text}\n]\n", encoding="utf-8")
-
-
-if __name__ == "__main__":
-    main()
+def rows() -> list[dict]:
+    outputs = {"frames": "cases/expected/operator-frames.txt", "show": "cases/expected/operator-show.txt"}
+    made = [{"words": [name], "input_file": STREAM, "output_file": file} for name, file in outputs.items()]
+    made.append({"words": CONVERT, "input_file": STREAM, "output_file": FILE})
+    made.append({"words": ["check"], "input_file": FILE})
+    return [{"name": f"operator-{row['words'][0]}"} | row for row in made]
