@@ -6,7 +6,7 @@ use gnss_obs::{
 };
 use gnss_system::System;
 
-static NUMBERS: [(System, u8, bool); 7] = [
+static NUMBERS: [(System, u8, bool); 19] = [
     (System::Gps, 0, false),
     (System::Gps, 1, true),
     (System::Gps, 32, true),
@@ -14,6 +14,18 @@ static NUMBERS: [(System, u8, bool); 7] = [
     (System::Galileo, 0, false),
     (System::Galileo, 36, true),
     (System::Galileo, 37, false),
+    (System::Glonass, 0, false),
+    (System::Glonass, 27, true),
+    (System::Glonass, 28, false),
+    (System::Beidou, 0, false),
+    (System::Beidou, 63, true),
+    (System::Beidou, 64, false),
+    (System::Qzss, 0, false),
+    (System::Qzss, 10, true),
+    (System::Qzss, 11, false),
+    (System::Sbas, 0, false),
+    (System::Sbas, 39, true),
+    (System::Sbas, 40, false),
 ];
 
 /// Whether each system has a satellite of its number, or has none.
@@ -39,7 +51,7 @@ fn numbers_satellites(rt: HostRuntime) {
 /// The ID of a signal, its code, its index and its carrier frequency.
 type Listed = (System, u8, &'static str, usize, u32);
 
-static SIGNALS: [Listed; 9] = [
+static SIGNALS: [Listed; 19] = [
     (System::Gps, 2, "1C", 0, 1_575_420_000),
     (System::Gps, 10, "2W", 5, 1_227_600_000),
     (System::Gps, 24, "5X", 11, 1_176_450_000),
@@ -49,6 +61,16 @@ static SIGNALS: [Listed; 9] = [
     (System::Galileo, 14, "7I", 10, 1_207_140_000),
     (System::Galileo, 19, "8Q", 14, 1_191_795_000),
     (System::Galileo, 24, "5X", 18, 1_176_450_000),
+    (System::Beidou, 2, "2I", 0, 1_561_098_000),
+    (System::Beidou, 10, "6X", 5, 1_268_520_000),
+    (System::Beidou, 14, "7I", 6, 1_207_140_000),
+    (System::Beidou, 23, "5P", 10, 1_176_450_000),
+    (System::Beidou, 32, "1X", 15, 1_575_420_000),
+    (System::Qzss, 2, "1C", 0, 1_575_420_000),
+    (System::Qzss, 10, "6L", 2, 1_278_750_000),
+    (System::Qzss, 17, "2X", 6, 1_227_600_000),
+    (System::Sbas, 2, "1C", 0, 1_575_420_000),
+    (System::Sbas, 24, "5X", 3, 1_176_450_000),
 ];
 
 /// Whether the signal has this row.
@@ -93,6 +115,30 @@ static GALILEO_MASK: [&str; 32] = [
     "--", "8I", "8Q", "8X", "--", "5I", "5Q", "5X", "--", "--", "--", "--", "--", "--", "--", "--",
 ];
 
+/// Those of GLONASS.
+static GLONASS_MASK: [&str; 32] = [
+    "--", "1C", "1P", "--", "--", "--", "--", "2C", "2P", "--", "--", "--", "--", "--", "--", "--",
+    "--", "--", "--", "--", "--", "--", "--", "--", "--", "--", "--", "--", "--", "--", "--", "--",
+];
+
+/// Those of BeiDou.
+static BEIDOU_MASK: [&str; 32] = [
+    "--", "2I", "2Q", "2X", "--", "--", "--", "6I", "6Q", "6X", "--", "--", "--", "7I", "7Q", "7X",
+    "--", "--", "--", "--", "--", "5D", "5P", "5X", "7D", "--", "--", "--", "--", "1D", "1P", "1X",
+];
+
+/// Those of QZSS.
+static QZSS_MASK: [&str; 32] = [
+    "--", "1C", "--", "--", "--", "--", "--", "--", "6S", "6L", "6X", "--", "--", "--", "2S", "2L",
+    "2X", "--", "--", "--", "--", "5I", "5Q", "5X", "--", "--", "--", "--", "--", "1S", "1L", "1X",
+];
+
+/// Those of SBAS.
+static SBAS_MASK: [&str; 32] = [
+    "--", "1C", "--", "--", "--", "--", "--", "--", "--", "--", "--", "--", "--", "--", "--", "--",
+    "--", "--", "--", "--", "--", "5I", "5Q", "5X", "--", "--", "--", "--", "--", "--", "--", "--",
+];
+
 /// Whether these are the codes of the IDs from 1 on, `--` that of an ID without a signal.
 fn is_mask(system: System, codes: &[&str; 32]) -> bool {
     for id in 1..33u8 {
@@ -108,6 +154,8 @@ fn is_mask(system: System, codes: &[&str; 32]) -> bool {
 #[test]
 fn fills_the_signal_masks(rt: HostRuntime) {
     assert!(rt; is_mask(System::Gps, &GPS_MASK) && is_mask(System::Galileo, &GALILEO_MASK));
+    assert!(rt; is_mask(System::Glonass, &GLONASS_MASK) && is_mask(System::Beidou, &BEIDOU_MASK));
+    assert!(rt; is_mask(System::Qzss, &QZSS_MASK) && is_mask(System::Sbas, &SBAS_MASK));
 }
 
 static OTHER_IDS: [(System, u8); 6] = [
