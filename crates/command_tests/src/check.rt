@@ -1,7 +1,9 @@
 //! Files that are checked.
 use super::scenario::Expected::{Fault, Good};
 use super::scenario::{Case, FAULTLESS, Setting, assert_come};
-use super::texts::ExpectedLine::{Above, NextTime, NextValues, Position, Time, TwoLines, Values};
+use super::texts::ExpectedLine::{
+    self, Above, NextTime, NextValues, Position, Time, TwoLines, Valid, Values,
+};
 use super::texts::FINE_FILE;
 use super::texts::Text::{File, Lines};
 
@@ -58,6 +60,104 @@ static OF_SPOILT: Setting = Setting {
 #[test]
 fn a_damaged_file_is_refused(rt: HostRuntime) {
     assert_come(&rt, rt.alloc(), &OF_SPOILT, &SPOILT);
+}
+
+const TIMES: [&str; 3] = ["rtcm2rinex", "check", "--times"];
+
+/// The line of an epoch half a minute after `Time`, of one a quarter of a second later, and of one a
+/// millisecond less than a day after that.
+const AT_31: ExpectedLine = Valid("> 2024 02 04 00 00 31.0000000  0  1");
+
+const AT_31_250: ExpectedLine = Valid("> 2024 02 04 00 00 31.2500000  0  1");
+
+const A_DAY_LATER: ExpectedLine = Valid("> 2024 02 05 00 00 31.2490000  0  1");
+
+/// Files of an epoch, of two with an event between, with gaps, of more than a day, and of none.
+static TIMES_OF: [Case; 5] = [
+    (
+        &[],
+        File(&[], &[Time, Values]),
+        Good(
+            Lines(
+                "epochs 1 satellites 1 events 0\n\
+                 first 2024-02-04 00:00:01.000\n\
+                 last 2024-02-04 00:00:01.000\n",
+            ),
+            "",
+        ),
+    ),
+    (
+        &[],
+        File(
+            &[],
+            &[
+                Time, Values, TwoLines, Position, Above, NextTime, NextValues,
+            ],
+        ),
+        Good(
+            Lines(
+                "epochs 2 satellites 2 events 1\n\
+                 first 2024-02-04 00:00:01.000\n\
+                 last 2024-02-04 00:00:02.000\n\
+                 step 1.000\n",
+            ),
+            "",
+        ),
+    ),
+    (
+        &[],
+        File(&[], &[Time, Values, AT_31, Values, AT_31_250, Values]),
+        Good(
+            Lines(
+                "epochs 3 satellites 3 events 0\n\
+                 first 2024-02-04 00:00:01.000\n\
+                 last 2024-02-04 00:00:31.250\n\
+                 step 0.250\n",
+            ),
+            "",
+        ),
+    ),
+    (
+        &[],
+        File(
+            &[],
+            &[
+                Time,
+                Values,
+                AT_31,
+                Values,
+                AT_31_250,
+                Values,
+                A_DAY_LATER,
+                Values,
+            ],
+        ),
+        Good(
+            Lines(
+                "epochs 4 satellites 4 events 0\n\
+                 first 2024-02-04 00:00:01.000\n\
+                 last 2024-02-05 00:00:31.249\n\
+                 step 0.250\n",
+            ),
+            "",
+        ),
+    ),
+    (
+        &[],
+        File(&[], &[]),
+        Fault(Lines(""), "rtcm2rinex: CutShort 15\n"),
+    ),
+];
+
+static OF_TIMES: Setting = Setting {
+    words: &TIMES,
+    sizes: &[&[7]],
+    ..FAULTLESS
+};
+
+#[test]
+fn the_times_of_a_file_are_printed(rt: HostRuntime) {
+    assert_come(&rt, rt.alloc(), &OF_TIMES, &TIMES_OF);
 }
 
 const GAPS: [&str; 4] = ["rtcm2rinex", "check", "--gaps", "0.4"];

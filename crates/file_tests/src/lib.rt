@@ -1,5 +1,5 @@
 //! Tests of observation files and of the converter, for what no contract states. Each module is
-//! named for the crate that it tests.
+//! named for the crate that it tests; `examples` has those of the crates' first pages.
 #![tactic(auto)]
 
 #[cfg(test)]

@@ -12,7 +12,6 @@ mod parts;
 mod pieces;
 mod reading;
 mod slots;
-mod times;
 mod writing;
 
 use arrayvec::ArrayVec;

@@ -1,5 +1,8 @@
 //! Values from outside: the rows of the tables, and fractions computed by hand.
 mod channels;
+mod dates;
+mod faults;
+mod plans;
 
 use gnss_obs::{
     Lock, Sat, Signal, Thousandths, doppler, is_lost, phase, pseudorange, strength, strength_digit,

@@ -3,6 +3,8 @@
 #![tactic(auto)]
 
 #[cfg(test)]
+mod devices_tests;
+#[cfg(test)]
 mod examples;
 #[cfg(test)]
 mod gnss_obs_tests;

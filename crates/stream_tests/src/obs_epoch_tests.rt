@@ -4,15 +4,12 @@
 //! owns a gatherer and runs the steps, since owners of one take long to prove.
 mod cells;
 mod choices;
-mod dates;
-mod faults;
 mod locks;
 mod messages;
-mod plans;
 mod signal_counts;
 mod starts;
 
-use gnss_obs::{Cell, Epoch, GpsTime, Plan, PlanFault, StationValues};
+use gnss_obs::{Cell, Epoch, GpsTime, Plan, PlanFault, StationValues, WEEK};
 use gnss_system::System;
 use messages::{Heard, message};
 use obs_epoch::{
@@ -20,8 +17,6 @@ use obs_epoch::{
 };
 use std::alloc::Global;
 use std::test::*;
-
-const WEEK: u64 = 604_800_000;
 
 /// The time of the messages at 1,000 if week 2,300 is the first.
 const FIRST: u64 = 2_300 * WEEK + 1_000;

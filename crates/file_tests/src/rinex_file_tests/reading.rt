@@ -342,9 +342,6 @@ fn an_epoch_in_the_wrong_place_is_refused(rt: HostRuntime) {
     assert!(rt; have_faults(rt.alloc(), &IN_THE_WRONG_PLACE));
 }
 
-/// A line that is too long.
-static LONG: [u8; 1220] = [b'a'; 1220];
-
 static TOO_SHORT: [(&[Part], Option<ReadFault>); 4] = [
     (&[Part::Header, Part::Cut], Some(ReadFault::CutShort(16))),
     (
@@ -355,17 +352,9 @@ static TOO_SHORT: [(&[Part], Option<ReadFault>); 4] = [
     (&[], Some(ReadFault::CutShort(1))),
 ];
 
-/// Whether the long line is refused, and without its last byte is too short.
-fn is_long_refused(alloc: Global) -> bool {
-    let long = LONG.as_slice();
-    fault_of(alloc, long) == Some(ReadFault::BadHeader(1))
-        && fault_of(alloc, &long[..1219]) == Some(ReadFault::CutShort(1))
-}
-
 #[test]
 fn a_file_that_ends_too_soon_is_refused(rt: HostRuntime) {
-    let alloc = rt.alloc();
-    assert!(rt; have_faults(alloc, &TOO_SHORT) && is_long_refused(alloc));
+    assert!(rt; have_faults(rt.alloc(), &TOO_SHORT));
 }
 
 static SEVEN: [usize; 1] = [7];

@@ -1,11 +1,12 @@
-//! Parts of messages: their faults, the largest message, and the cells of a view in order.
+//! Parts of messages: their faults, a known message, and the cells of a view in order.
+use super::forms::write;
 use super::known::{Known, bytes_of};
-use super::{CELL, HEADER, SATELLITE, STATION_PARTS, is_written_back};
+use super::{CELL, HEADER, SATELLITE, STATION_PARTS};
 use arrayvec::ArrayVec;
 use gnss_system::System;
 use rtcm_msg::{
-    Cell, Field, Grid, Grid4, Grid7, INVALID_FINE_RATE, INVALID_ROUGH_RATE, Masks, Message, Msm,
-    MsmHeader, Satellite, Station, StationParts, ValueFault, View, encode, look,
+    Cell, Field, Form, Grid, Grid4, Grid7, INVALID_FINE_RATE, INVALID_ROUGH_RATE, Masks, Msm,
+    MsmHeader, Satellite, Station, StationParts, ValueFault, View, look,
 };
 use std::test::*;
 
@@ -126,43 +127,32 @@ fn parts_are_judged(rt: HostRuntime) {
     );
 }
 
-/// Writes the message 1077 of these masks and data.
-fn write(
+/// Writes the message 1077 of these masks, and of up to three satellites and cells.
+fn write_1077(
     masks: (u64, u32, u64),
-    satellites: &[Satellite],
-    cells: &[Cell],
+    satellites: usize,
+    cells: usize,
     bytes: &mut ArrayVec<u8, 1023>,
 ) {
-    if let Ok(masks) = Masks::new(masks.0, masks.1, masks.2) {
-        if let Ok(msm) = Msm::<Grid7>::new(System::Gps, HEADER, masks, satellites, cells) {
-            encode(&Message::Msm7(msm), bytes);
-        }
-    }
+    let (satellites, cells) = (&SATELLITES[..satellites.min(3)], &CELL_DATA[..cells.min(3)]);
+    write(System::Gps, Form::Msm7, masks, satellites, cells, bytes);
 }
 
-static SATELLITES: [Satellite; 64] = [SATELLITE; 64];
+static SATELLITES: [Satellite; 3] = [SATELLITE; 3];
 
-static CELL_DATA: [Cell; 64] = [CELL; 64];
-
-/// Whether the message of 64 satellites with one signal has its size, and is written back.
-fn is_largest() -> bool {
-    let mut bytes = ArrayVec::new();
-    let masks = (u64::MAX, 1 << 30, u64::MAX);
-    write(masks, &SATELLITES, &CELL_DATA, &mut bytes);
-    bytes.len() == 958 && is_written_back(bytes.as_slice())
-}
+static CELL_DATA: [Cell; 3] = [CELL; 3];
 
 /// Whether the message of satellite 5 and signal 2 is written as known.
 fn is_known() -> bool {
     let mut bytes = ArrayVec::new();
     let masks = (1 << 59, 1 << 30, 1);
-    write(masks, &SATELLITES[..1], &CELL_DATA[..1], &mut bytes);
+    write_1077(masks, 1, 1, &mut bytes);
     bytes.as_slice() == bytes_of(Known::Fine)
 }
 
 #[test]
 fn values_are_written(rt: HostRuntime) {
-    assert!(rt; is_known() && is_largest());
+    assert!(rt; is_known());
 }
 
 /// Whether the cells of a message 1077 that is read are of these satellites and signals.
@@ -186,7 +176,7 @@ static CELLS: [(u8, u8); 3] = [(1, 32), (64, 2), (64, 32)];
 fn are_in_order() -> bool {
     let mut bytes = ArrayVec::new();
     let masks = (1 << 63 | 1, 1 << 30 | 1, 0b0111);
-    write(masks, &SATELLITES[..2], &CELL_DATA[..3], &mut bytes);
+    write_1077(masks, 2, 3, &mut bytes);
     has_cells(bytes.as_slice(), &CELLS)
 }
 

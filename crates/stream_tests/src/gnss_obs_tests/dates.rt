@@ -1,6 +1,5 @@
 //! Dates and times of day.
-use super::WEEK;
-use gnss_obs::{Civil, GpsTime};
+use gnss_obs::{Civil, GpsTime, WEEK};
 use std::test::*;
 
 /// Whether a time is the beginning of a day.
