@@ -8,8 +8,11 @@
 # script and the plan of `options` don't give, such as --interval 30. The report is printed.
 set -eu
 : "${2:?usage: convert.sh RAW OBS [OPTION ..]}"
-raw=$1 obs=$2 part=$2.$$.part
+raw=$1 obs=$2
 shift 2
+# a symbolic link stays one
+test ! -L "$obs" || obs=$(readlink -f -- "$obs")
+part=$obs.$$.part
 # shellcheck disable=SC3013 # -ef is in POSIX.1-2024
 if { test -e "$obs" && test ! -f "$obs"; } || test "$raw" -ef "$obs"; then
     echo "$obs: a folder, a device or the like, or the recording" >&2

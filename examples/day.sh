@@ -7,7 +7,7 @@
 #                   others. Files of other endings aren't read
 #   headers/STATION options of `rtcm2rinex convert`, one a line, if there is such a file: --rec-type=SEPT POLARX5. They
 #                   are the header texts and others that this script and the plan of `options` don't give; --station
-#                   is given to `options`
+#                   is given to `options`, and --marker is the name of the station if there is none
 #   obs/STATION/    the file with its RINEX name, the values of the signals of the file, and last, by which days.sh knows
 #                   that the day is done, the report of the conversion
 #
@@ -43,7 +43,7 @@ trap 'rm -f "$part" "$raw" "$note"' EXIT
 trap 'exit 1' HUP INT TERM
 
 # the options of the station
-header=headers/$station wanted=
+header=headers/$station wanted='' marker=--marker=$station
 end=$(printf '\r')
 set --
 if test -e "$header" || test -L "$header"; then
@@ -54,10 +54,12 @@ if test -e "$header" || test -L "$header"; then
         case $option in
         "" | "#"*) ;;
         --station=*) wanted=$option ;;
+        --marker=*) marker=$option ;;
         *) set -- "$@" "$option" ;;
         esac
     done < "$header"
 fi
+set -- "$@" "$marker"
 
 # By its name, as any bytes may be the first ones of a log.
 plain() {

@@ -52,7 +52,7 @@ def try_day(room: Room) -> Outcomes:
     whole = room.text(MADE)
     yield "its epochs", room.epochs(MADE) == day_times()
     header = header_of(whole)
-    yield "its header", all(part in header for part in ("10403M002  ", "SEPT POLARX5  ", "    30.000  "))
+    yield "its header", all(part in header for part in ("\nKIRU  ", "10403M002  ", "SEPT POLARX5  ", "    30.000  "))
     names = sorted([MADE.rsplit("/")[-1], f"{DAY}.report", f"{DAY}.signals"])
     yield "its files", room.names(f"obs/{STATION}") == names
     # in hours by name, one of them compressed, over a symbolic link; a frame is in two of them
@@ -94,6 +94,7 @@ def try_left(room: Room) -> Outcomes:
         os.utime(room.folder / name, (0, 0))
     room.write(LOG, day_log(DAY))
     is_good = says(room)
+    yield "a header without options", f"\n{STATION}  " in header_of(room.text(MADE))
     yield "what a power cut left", is_good and [(room.folder / name).exists() for name in left] == [False, False, True]
     # find fails, as on a file that another run removed meanwhile
     (room.folder / "bin/find").write_text("#!/bin/sh\necho find: no such file >&2; exit 1\n", encoding="ascii")

@@ -42,6 +42,11 @@ def try_convert(room: Room) -> Outcomes:
 def try_convert_to(room: Room) -> Outcomes:
     ran = room.run(script("convert.sh", DATED, "-s.obs"))
     yield "a leading hyphen", ran.returncode == 0 and room.text("-s.obs") != ""
+    (room.folder / "link.obs").symlink_to("-s.obs")
+    room.write("-s.obs", b"")
+    ran = room.run(script("convert.sh", DATED, "link.obs"))
+    is_made = ran.returncode == 0 and room.text("-s.obs") != "" and room.names(".") == ["-s.obs", "bin", "link.obs"]
+    yield "a symbolic link", is_made and (room.folder / "link.obs").is_symlink()
     (room.folder / "folder").mkdir()
     ran = room.run(script("convert.sh", DATED, "folder"))
     message = b"folder: a folder, a device or the like, or the recording\n"
