@@ -41,7 +41,7 @@ static CUT: Setting = Setting {
 };
 
 #[test]
-fn a_reader_that_fails_is_given(rt: HostRuntime) {
+fn a_failed_read_is_reported(rt: HostRuntime) {
     assert_come(&rt, rt.alloc(), &CUT, &CUT_OFF);
 }
 
@@ -51,7 +51,7 @@ static TWO_BYTES_WRITTEN: [Case; 2] = [
 ];
 
 #[test]
-fn a_writer_that_fails_is_given(rt: HostRuntime) {
+fn a_failed_write_is_reported(rt: HostRuntime) {
     for end in [
         WriteEnd::Fails(ErrorKind::Interrupted),
         WriteEnd::TakesNone,
@@ -142,7 +142,7 @@ static FLUSHED: [Failure; 7] = [
 
 // A buffer accepts every line, and its device fails when they are written.
 #[test]
-fn a_flush_that_fails_is_given(rt: HostRuntime) {
+fn a_failed_flush_is_reported(rt: HostRuntime) {
     assert_reported(&rt, rt.alloc(), &FLUSHED);
 }
 
@@ -157,7 +157,7 @@ static UNFLUSHED: [Failure; 6] = [
 
 // A writer accepts the output, and fails when it is flushed.
 #[test]
-fn a_flush_that_fails_after_the_output_is_given(rt: HostRuntime) {
+fn a_failed_flush_after_the_output_is_reported(rt: HostRuntime) {
     assert_reported(&rt, rt.alloc(), &UNFLUSHED);
 }
 
@@ -213,7 +213,7 @@ fn nothing_is_read_after_a_failure_or_the_end(rt: HostRuntime) {
     assert_reported(&rt, rt.alloc(), &STOPPED);
 }
 
-static UNTOLD: [Failure; 3] = [
+static UNREPORTED: [Failure; 3] = [
     (
         &FRAMES,
         Bytes(&[]),
@@ -232,5 +232,5 @@ static UNTOLD: [Failure; 3] = [
 // A failure of the writer for faults changes no status.
 #[test]
 fn a_fault_writer_may_fail(rt: HostRuntime) {
-    assert_reported(&rt, rt.alloc(), &UNTOLD);
+    assert_reported(&rt, rt.alloc(), &UNREPORTED);
 }

@@ -120,6 +120,6 @@ fn list_two(alloc: Global) -> bool {
 
 // The output that the bytes up to the limit decide is written.
 #[test]
-fn a_long_stream_is_given(rt: HostRuntime) {
+fn a_stream_over_the_limit_is_reported(rt: HostRuntime) {
     assert!(rt; list_two(rt.alloc()));
 }

@@ -59,6 +59,6 @@ static NO_START: [Case; 8] = [
 ];
 
 #[test]
-fn one_of_a_week_and_a_date_is_accepted(rt: HostRuntime) {
+fn other_starts_are_refused(rt: HostRuntime) {
     assert_come(&rt, rt.alloc(), &UNDATED, &NO_START);
 }

@@ -38,7 +38,7 @@ fn are_refused(alloc: Global, kind: ErrorKind, status: u8, text: &[u8]) -> bool 
 }
 
 #[test]
-fn words_that_cannot_be_had_are_given(rt: HostRuntime) {
+fn words_that_cannot_be_read_are_reported(rt: HostRuntime) {
     let invalid_text = b"error: a word of the command line isn't UTF-8\n";
     assert!(rt;
         are_refused(

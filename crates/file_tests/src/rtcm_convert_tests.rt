@@ -108,7 +108,7 @@ const TWO: Report = Report {
 };
 
 /// The report of the first message and of 24 bytes in no frame.
-const BEHIND_24: Report = Report {
+const AFTER_24_BYTES: Report = Report {
     bytes: 66,
     skipped_bytes: 24,
     ..ONE
@@ -164,7 +164,7 @@ static FILES: [Script; 7] = [
         frames: &[Frame::Full, Frame::Point],
         way: Way::Calls(&[
             Call::Feed(0, 66, Ok(())),
-            Call::Finish(Ok(BEHIND_24)),
+            Call::Finish(Ok(AFTER_24_BYTES)),
             Call::Looks(0, 143, 3),
         ]),
         sent: 1_236,

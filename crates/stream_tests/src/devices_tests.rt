@@ -160,6 +160,6 @@ fn is_flushed_once() -> bool {
 }
 
 #[test]
-fn flushes_are_handed_on(rt: HostRuntime) {
+fn flushes_reach_the_device(rt: HostRuntime) {
     assert!(rt; is_flushed_once());
 }

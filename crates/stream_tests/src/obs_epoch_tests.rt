@@ -385,7 +385,7 @@ fn a_lock_without_a_phase_is_passed_over(rt: HostRuntime) {
 }
 
 /// The values of the station message.
-const TOLD: StationValues = StationValues {
+const SENT_VALUES: StationValues = StationValues {
     x: 1,
     y: -2,
     z: 3,
@@ -399,7 +399,7 @@ fn a_message_past_the_weeks_closes_nothing(rt: HostRuntime) {
         Takes(Heard::Long(0, true, 64), Kind::PastWeeks, false),
         Takes(Heard::Station, Kind::Station, false),
         Ends(true),
-        Values(TOLD),
+        Values(SENT_VALUES),
     ];
     assert!(rt; goes_as_given(rt.alloc(), ALL, 99_999, Gather::Bit, &STEPS));
 }

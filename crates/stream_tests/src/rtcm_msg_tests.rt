@@ -439,7 +439,7 @@ static OTHERS: [(&[u8], u16, Option<(u16, bool)>); 7] = [
 ];
 
 #[test]
-fn other_messages_are_given(rt: HostRuntime) {
+fn other_messages_keep_their_number(rt: HostRuntime) {
     for (message, number, set) in &OTHERS {
         assert!(rt; is_other(message, *number, *set));
     }

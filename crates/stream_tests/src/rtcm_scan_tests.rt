@@ -21,7 +21,7 @@ const FOUR_FRAMES: &[u8; 130] = &[
 ];
 
 /// The frame of the message 1005 after three bytes that claim a longest message.
-const BEHIND_A_CLAIM: &[u8; 28] = &[
+const AFTER_A_FALSE_HEADER: &[u8; 28] = &[
     0xD3, 0xFF, 0xFF, 0xD3, 0x00, 0x13, 0x3E, 0xD7, 0xD3, 0x02, 0x02, 0x98, 0x0E, 0xDE, 0xEF, 0x34,
     0xB4, 0xBD, 0x62, 0xAC, 0x09, 0x41, 0x98, 0x6F, 0x33, 0x36, 0x0B, 0x98,
 ];
@@ -112,7 +112,7 @@ static STREAMS: [Stream<'static>; 13] = [
         after: (6, 23, 2),
     },
     Stream {
-        bytes: BEHIND_A_CLAIM,
+        bytes: AFTER_A_FALSE_HEADER,
         size: 28,
         frames: &[(3, 19)],
         before: Some((0, 28, (0, 28, 1))),
@@ -240,7 +240,7 @@ fn has_counts(framer: &Framer, counts: Counts) -> bool {
 
 /// Pushes these bytes of the stream in blocks of a size. Returns the number of frames, including
 /// `before` of earlier calls; None if the framer refuses a block, or returns other frames.
-fn hand_on(
+fn pass_pieces(
     framer: &mut Framer,
     stream: &Stream,
     bytes: &[u8],
@@ -258,11 +258,11 @@ fn hand_on(
 }
 
 /// Pushes the bytes of the stream up to a cut, and those after it. Returns the number of frames.
-fn hand_both(framer: &mut Framer, stream: &Stream, cut: usize, size: usize) -> Option<usize> {
+fn pass_both_parts(framer: &mut Framer, stream: &Stream, cut: usize, size: usize) -> Option<usize> {
     let bytes = stream.taken();
     let (front, back) = bytes.split_at(cut.min(bytes.len()));
-    let frames = hand_on(framer, stream, front, size, 0)?;
-    hand_on(framer, stream, back, size, frames)
+    let frames = pass_pieces(framer, stream, front, size, 0)?;
+    pass_pieces(framer, stream, back, size, frames)
 }
 
 fn is_before(framer: &Framer, stream: &Stream, frames: usize) -> bool {
@@ -287,7 +287,7 @@ fn is_after(framer: &mut Framer, stream: &Stream, frames: usize) -> bool {
 fn is_set(alloc: Global, stream: &Stream, cut: usize, size: usize) -> bool {
     match Framer::new(alloc, MOST_BYTES) {
         Ok(mut framer) => {
-            let is_given = match hand_both(&mut framer, stream, cut, size) {
+            let is_given = match pass_both_parts(&mut framer, stream, cut, size) {
                 Some(frames) => {
                     is_before(&framer, stream, frames) && is_after(&mut framer, stream, frames)
                 }

@@ -254,7 +254,7 @@ fn fault_with(alloc: Global, from: usize, to: usize, line: &str) -> Option<ReadF
 }
 
 /// Lines in place of those between two offsets of the small file.
-static SPELLED_OTHERWISE: [(usize, usize, &str, ReadFault); 11] = [
+static IN_ANOTHER_FORM: [(usize, usize, &str, ReadFault); 11] = [
     (
         81,
         162,
@@ -319,9 +319,9 @@ static SPELLED_OTHERWISE: [(usize, usize, &str, ReadFault); 11] = [
 ];
 
 #[test]
-fn a_line_spelled_otherwise_is_refused(rt: HostRuntime) {
+fn a_line_in_another_form_is_refused(rt: HostRuntime) {
     let alloc = rt.alloc();
-    for (from, to, line, fault) in &SPELLED_OTHERWISE {
+    for (from, to, line, fault) in &IN_ANOTHER_FORM {
         assert!(rt; fault_with(alloc, *from, *to, line) == Some(*fault));
     }
 }
@@ -377,6 +377,6 @@ fn are_failing(alloc: Global, text: &[u8]) -> bool {
 }
 
 #[test]
-fn a_reader_that_fails_is_given(rt: HostRuntime) {
+fn a_failed_read_is_reported(rt: HostRuntime) {
     assert!(rt; are_failing(rt.alloc(), text_of(Part::Header).as_bytes()));
 }

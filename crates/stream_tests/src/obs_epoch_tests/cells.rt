@@ -100,7 +100,7 @@ fn cells_past_the_bound_are_crowded(rt: HostRuntime) {
 }
 
 #[test]
-fn cells_stand_by_satellite_and_plan(rt: HostRuntime) {
+fn cells_are_ordered_by_satellite_and_plan(rt: HostRuntime) {
     static STEPS: [Step; 9] = [
         Keeps(
             Heard::Wide(true, 1 << 63 | 1 << 61, 1 << 30 | 1 << 22),

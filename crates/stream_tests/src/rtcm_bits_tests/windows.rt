@@ -27,7 +27,7 @@ fn check_range(window: &mut Window, start: usize, size: usize) -> Option<u32> {
 }
 
 /// Whether the bytes that are passed on are these.
-fn hands_over(window: &mut Window, start: usize, want: &[u8]) -> bool {
+fn copies(window: &mut Window, start: usize, want: &[u8]) -> bool {
     let size = want.len();
     if start > LONGEST_FRAME || size > LONGEST_MESSAGE || start + size > window.held() {
         return false;
@@ -73,7 +73,7 @@ fn goes(window: &mut Window, step: &Step) -> bool {
         Step::Looks(place, byte) => *place < window.held() && window.look(*place) == *byte,
         Step::Looked(place, times) => { *place < window.held() && window.looks(*place) == *times }
         Step::Checks(start, size, crc) => check_range(window, *start, *size) == Some(*crc),
-        Step::Passes(start, bytes) => hands_over(window, *start, bytes),
+        Step::Passes(start, bytes) => copies(window, *start, bytes),
         Step::Drops(size) if *size <= window.held() => {
             window.drop_front(*size);
             true
