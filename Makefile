@@ -9,8 +9,8 @@
 # make install    builds it if it is missing, and installs program, manual page, completion for bash and examples to
 #                 PREFIX (/usr/local)
 # make read-back  builds it, has RTKLIB read back the converted recordings, and compares RTKLIB's own conversions
-# make test       runs the gate: all proofs, must-fail mutants, tests, stored cases, documents, and what else docs/GATE.md
-#                 lists
+# make test       runs the gate: all proofs, must-fail mutants, tests, stored cases, documents, and what else
+#                 docs/GATE.md lists
 # make bench      compares the instructions of the programs that make test left with stored ones; needs valgrind
 # make mutants    tries the mutants of crates/*/must-fail and crates/*/mutants over kept work, and their controls
 PROGRAM := crates/rtcm2rinex/out/rtcm2rinex

@@ -4,8 +4,8 @@
 # The week is the one that the recording's ephemerides have. For a recording without ephemerides give the date of its
 # begin:
 #   DAY=2024-02-04 sh convert.sh s.rtcm3 s.obs
-# and for one of several stations its number, as STATION=2003. Further options are those of `rtcm2rinex convert` that the
-# script and the plan of `options` don't give, such as --interval 30. The report is printed.
+# and for one of several stations its number, as STATION=2003. Further options are those of `rtcm2rinex convert` that
+# the script and the plan of `options` don't give, such as --interval 30. The report is printed.
 set -eu
 : "${2:?usage: convert.sh RAW OBS [OPTION ..]}"
 raw=$1 obs=$2

@@ -2,14 +2,14 @@
 # day.sh STATION DAY: converts the raw logs of a station's day to its RINEX file of an epoch every 30 seconds, and
 # checks it. It prints one line if the day lacks something, and then fails. In the current folder are
 #
-#   raw/STATION/    the raw logs, RTCM 3, also compressed by gzip, whose names begin with the day, of GPS time or UTC, and
-#                   all with the time of the day if it has several: 2024-02-04.rtcm3, or 2024-02-04-130000.rtcm3.gz and
-#                   others. Files of other endings aren't read
+#   raw/STATION/    the raw logs, RTCM 3, also compressed by gzip, whose names begin with the day, of GPS time or UTC,
+#                   and all with the time of the day if it has several: 2024-02-04.rtcm3, or
+#                   2024-02-04-130000.rtcm3.gz and others. Files of other endings aren't read
 #   headers/STATION options of `rtcm2rinex convert`, one a line, if there is such a file: --rec-type=SEPT POLARX5. They
 #                   are the header texts and others that this script and the plan of `options` don't give; --station
 #                   is given to `options`, and --marker is the name of the station if there is none
-#   obs/STATION/    the file with its RINEX name, the values of the signals of the file, and last, by which days.sh knows
-#                   that the day is done, the report of the conversion
+#   obs/STATION/    the file with its RINEX name, the values of the signals of the file, and last, by which days.sh
+#                   knows that the day is done, the report of the conversion
 #
 # A STATION has nine characters for the RINEX name, as KIRU00SWE: site, monument, receiver and country. SKIPPED is the
 # largest percentage of bytes in no frame that isn't reported, 1 by default: more if the logs have other data too.
@@ -104,8 +104,8 @@ logs() {
     test ! -e "$next" || plain "$next" 2> /dev/null | head -c 2000000
 }
 
-# The options that fit them, of which a date that their ephemerides contradict is an error, and the file. Recordings have
-# no hurry: an epoch is closed by a later one, so that repeated messages can't end it.
+# The options that fit them, of which a date that their ephemerides contradict is an error, and the file. Recordings
+# have no hurry: an epoch is closed by a later one, so that repeated messages can't end it.
 # shellcheck disable=SC2086 # there may be no station, and the shell has to split a plan into options
 convert() {
     to=$1
@@ -148,8 +148,8 @@ case $report in
 esac
 
 # Logs that overlap repeat messages, which are counted as late. Lost is a message of an earlier time than one before it,
-# if it comes for the first time. Times of BeiDou are 14 seconds behind GPS time, those of GLONASS are of Moscow, without
-# leap seconds.
+# if it comes for the first time. Times of BeiDou are 14 seconds less than GPS time, those of GLONASS are of Moscow,
+# without leap seconds.
 late=0
 case $report in
 *" late 0 "*) ;;
@@ -167,8 +167,8 @@ case $report in
     ;;
 esac
 
-# A file that was made of more is kept, also if it is compressed by now, and one that can't be read or that isn't as this
-# script writes them. One that is cut, as by a power cut, is made again.
+# A file that was made of more is kept, also if it is compressed by now, and one that can't be read or that isn't as
+# this script writes them. One that is cut, as by a power cut, is made again.
 sizes() {
     echo "$1" | awk '
         $1 == "epochs" { counts = $2 " " $4 }

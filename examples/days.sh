@@ -1,7 +1,7 @@
 #!/bin/sh
-# days.sh STATION [N]: converts yesterday by day.sh in this folder, and before it each of the N days before, by default 6,
-# that has raw logs and no report, as after the machine was off or had no room. It prints a line for each day that lacks
-# something, and then fails.
+# days.sh STATION [N]: converts yesterday by day.sh in this folder, and before it each of the N days before, by default
+# 6, that has raw logs and no report, as after the machine was off or had no room. It prints a line for each day that
+# lacks something, and then fails.
 set -eu
 : "${1:?usage: days.sh STATION [N]}"
 station=$1 status=0 days=${2:-6} today=$(date -u +%F)

@@ -16,8 +16,8 @@ test "$plan" || {
 stream=$2 obs=$3-$(date -u +%Y%m%dT%H%M%SZ).obs
 shift 3
 
-# The first line in the pipe is the process number of str2str, which ignores SIGPIPE and would go on alone. Its status, if
-# it fails by itself, comes by descriptor 3; a stop ends the shell that waits for it.
+# The first line in the pipe is the process number of str2str, which ignores SIGPIPE and would go on alone. Its status,
+# if it fails by itself, comes by descriptor 3; a stop ends the shell that waits for it.
 failed=$(
     {
         { sh -c 'echo $$; exec str2str -in "$1"' sh "$stream" || echo $? >&3; } |

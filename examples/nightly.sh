@@ -1,9 +1,9 @@
 #!/bin/sh
-# nightly.sh [DAY [HOSTS]]: converts a day of each station in the file `stations`, one a line, by day.sh in this folder, as
-# many stations at once as there are processors. Without DAY, or where it is empty, it is yesterday, and with it days
-# before that were missed, by days.sh. It prints a line for each day that lacks something, and nothing of a good day; its
-# status is the number of stations with such a day, at most 101. The list is read each time; its blank lines and those
-# that begin with # are skipped.
+# nightly.sh [DAY [HOSTS]]: converts a day of each station in the file `stations`, one a line, by day.sh in this folder,
+# as many stations at once as there are processors. Without DAY, or where it is empty, it is yesterday, and with it days
+# before that were missed, by days.sh. It prints a line for each day that lacks something, and nothing of a good day;
+# its status is the number of stations with such a day, at most 101. The list is read each time; its blank lines and
+# those that begin with # are skipped.
 #
 # HOSTS, as `:,gnss@host`, in which `:` is this machine, take part by ssh. They see the current folder and this script
 # under the same names, and have rtcm2rinex and GNU parallel in the PATH of their shells.
@@ -11,7 +11,7 @@ set -eu
 day=${1-}
 scripts=$(CDPATH='' cd -- "$(dirname -- "$0")" && pwd)
 # also of a list whose lines end as those of Windows, or with blanks
-list=$({ tr -d '\r' < stations | sed 's/^[[:blank:]]*//; s/[[:blank:]]*$//' | grep -v -e '^#' -e '^$'; } 2> /dev/null) || {
+list=$(tr -d '\r' 2> /dev/null < stations | sed 's/^[[:blank:]]*//; s/[[:blank:]]*$//' | grep -v -e '^#' -e '^$') || {
     echo "stations: missing, unreadable or empty" >&2
     exit 1
 }

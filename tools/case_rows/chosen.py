@@ -118,8 +118,8 @@ TEXTS = {
     "2024-02-04T24:00:00 2024-02-04T23:60:00 2024-02-04T23:59:60 2024-02-04T00:00 2024-02-04t00:00:00 2024-02-04T "
     "2024-02-04T00:00:00Z 2024-02-04T00:00:0 2024-02-04T+0:00:00 2300 +2024-02-04 2024-02-04T00:00:00.0".split() + [""],
     "until": "2024-02-04T00:00:01 3896-07-18T23:59:59 1980-01-06 1980-01-05 2024-02-04T24:00:00 now".split() + [""],
-    "interval": "0.1 0.125 0.100 1 5 30 300 3600 86400 86400.000 0.099 0 7 0.7 86400.001 172800 43200 50000 1.5 +1 -1 1. "
-    ".5 1e1 0.0005 000000030 00000030 123456789".split() + [""],
+    "interval": "0.1 0.125 0.100 1 5 30 300 3600 86400 86400.000 0.099 0 7 0.7 86400.001 172800 43200 50000 1.5 +1 -1 "
+    "1. .5 1e1 0.0005 000000030 00000030 123456789".split() + [""],
     "tolerance": "0 0.000 0.5 0.499 0.005 0.501 1 0.0001 -0 +0.1 .1 00000000.5".split() + [""],
 }
 # Options of which the first fault is reported.
@@ -186,8 +186,8 @@ def check_rows() -> list[dict]:
         "two-marker-numbers": after(name, number, number),
         "a-comment-and-no-name": without(after(run, comment), name),
     }
-    intervals = "0.100 1.000 30.000 86400.000 0.125 0.099 0.000 7.000 -1.000 86400.001 172800.000 30.0 30.0000 30".split()
-    files |= {f"an-interval-of-{text}": after(unit, line(f"{text:>10}", "INTERVAL")) for text in intervals}
+    texts = "0.100 1.000 30.000 86400.000 0.125 0.099 0.000 7.000 -1.000 86400.001 172800.000 30.0 30.0000 30"
+    files |= {f"an-interval-of-{text}": after(unit, line(f"{text:>10}", "INTERVAL")) for text in texts.split()}
     files |= {
         "an-interval-on-the-left": after(unit, line("30.000", "INTERVAL")),
         "an-interval-after-11-columns": after(unit, line("     30.000", "INTERVAL")),

@@ -50,7 +50,7 @@ def words(near: str, *others: str) -> list[str]:
 
 
 def leap_rows() -> list[dict]:
-    """GLONASS first, at a time that is 0 at 18 leap seconds: dates of other leap seconds, and leap seconds that are given."""
+    """GLONASS first, at a time that is 0 at 18 leap seconds: dates of other leap seconds, and given leap seconds."""
     messages = [msm(1084, at(0)), msm(1077, 0)]
     dates = ("1980-01-06", "2012-06-30", "2012-07-01", "2012-07-04", "2016-12-31", "2017-01-01", "3896-07-18")
     made = [row(f"near-glonass-{date}", words(date, *BOTH), messages) for date in dates]

@@ -98,7 +98,11 @@ OF_QZSS: list[Row] = [
         [*CONVERT, "--gps", "1C", "--galileo", "none", "--qzss", "1C"],
         [msm(1114, 1000, [1, 10, 11], more=1), msm(1074, 1000)],
     ),
-    ("convert-an-end-by-unplanned-qzss", [*CONVERT, "--gps", "1C"], [msm(1077, 1000), msm(1114, 1000), msm(1077, 1000)]),
+    (
+        "convert-an-end-by-unplanned-qzss",
+        [*CONVERT, "--gps", "1C"],
+        [msm(1077, 1000), msm(1114, 1000), msm(1077, 1000)],
+    ),
     ("convert-refuses-qzss", [*CONVERT, "--qzss", "1C"], [msm(1077, 1000), msm(1114, 1000)[:12], msm(1114, WEEK)]),
     ("convert-msm6-of-qzss-by-default", [*CONVERT, "--qzss", "1C"], [msm(1077, 1000, more=1), msm(1116, 1000)[:12]]),
     ("convert-nothing-planned-of-qzss", [*CONVERT, *NEITHER, "--qzss", "none"], []),

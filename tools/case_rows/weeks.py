@@ -48,7 +48,8 @@ def border_rows() -> list[dict]:
             clock = NOON // 1000 // unit
             exact = 1000 * unit * clock + (time - NOON)
             for more in (-1, 0, 1):
-                rows += both(f"{number}-six-hours-{name}-by-{more}-ms", [at(exact + more), ephemeris(number, NOW, clock)])
+                messages = [at(exact + more), ephemeris(number, NOW, clock)]
+                rows += both(f"{number}-six-hours-{name}-by-{more}-ms", messages)
         last = 604_800 // unit - 1
         for clock in (last, last + 1, (1 << EPHEMERIDES[number][4]) - 1):
             end = at(WEEK - 1000)
@@ -71,7 +72,8 @@ def field_rows() -> list[dict]:
         rows += both(f"{number}-a-byte-short", [first, ephemeris(number, NOW - 1, size=size)[:-1]])
         rows += both(f"{number}-a-byte-longer", [first, ephemeris(number, NOW - 1, size=size + 1, last=1)])
         rows += both(f"{number}-before-an-msm", [ephemeris(number, NOW - 1), first])
-        rows += both(f"{number}-before-and-after-an-msm", [ephemeris(number, NOW - 2), first, ephemeris(number, NOW - 1)])
+        of_both = [ephemeris(number, NOW - 2), first, ephemeris(number, NOW - 1)]
+        rows += both(f"{number}-before-and-after-an-msm", of_both)
         rows += both(f"{number}-a-rollover-ago", [first, ephemeris(number, NOW - 1024)])
     for number in (1020, 1041, 1043, 1044, 1047):
         rows.append(row(f"{number}-is-not-read", SENT, [first, packed([(12, number), *ANY])]))
@@ -153,7 +155,11 @@ def first_rows() -> list[dict]:
         row("leap-seconds-of-2017", SENT, [glonass(0, 18), at(0), ephemeris(1045, 1931, 0)]),
         row("leap-seconds-of-1999", SENT, [glonass(0, 13), at(0), ephemeris(1045, 1025, 0)]),
         row("leap-seconds-without-glonass", SENT, [at(0), ephemeris(1045, 1930, 0)]),
-        row("leap-seconds-of-the-begin-of-2017-by-a-later-time", SENT, [glonass(0, 17), at(HOUR), ephemeris(1045, 1930, 60)]),
+        row(
+            "leap-seconds-of-the-begin-of-2017-by-a-later-time",
+            SENT,
+            [glonass(0, 17), at(HOUR), ephemeris(1045, 1930, 60)],
+        ),
     ]
 
 
@@ -178,7 +184,9 @@ def recorded_rows() -> list[dict]:
     rows = []
     for name, (path, day) in RECORDINGS.items():
         rows.append(file_row(f"{name}-options-week", SENT, path))
-        for near in (day, day[:-1] + str((int(day[-1]) + 3) % 10), f"{int(day[:4]) - 1}{day[4:]}", f"{int(day[:4]) + 19}{day[4:]}"):
+        year, rest = int(day[:4]), day[4:]
+        days = (day, day[:-1] + str((int(day[-1]) + 3) % 10), f"{year - 1}{rest}", f"{year + 19}{rest}")
+        for near in days:
             rows.append(file_row(f"{name}-options-near-{near}", ["options", "--near", near], path))
     return rows
 

@@ -81,7 +81,7 @@ class Station:
 
 @dataclass
 class Cell:
-    """The values of a cell in ms, m/s and dB-Hz, and the bounds of its lock time in ms. The key of an unlisted one is None."""
+    """The values of a cell in ms, m/s and dB-Hz, and the bounds of its lock time in ms; an unlisted one has no key."""
 
     key: Key | None
     pseudorange: Fraction | None
