@@ -1,10 +1,7 @@
 """Cases of the epochs that are written and of the header's optional records: chosen.json."""
-from pathlib import Path
-
-from .common import CONVERT, check_row, file_of, file_row, moved, msm, replaced, row, without
+from .common import CONVERT, TOP, check_row, file_of, file_row, moved, msm, replaced, row, without
 from .common import station as station_message
 
-TOP = Path(__file__).resolve().parent.parent.parent
 SAMPLE = "samples/zed-f9t-2019-10-17"
 STFU = "cases/input/stfu-2016-04-06.rtcm3"
 OF_1C = [*CONVERT, "--gps", "1C", "--galileo", "none"]

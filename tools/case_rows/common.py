@@ -1,4 +1,6 @@
 """Messages and rows of stored cases."""
+from pathlib import Path
+
 from reference_impl.commands import convert
 from reference_impl.epochs import Setup
 from reference_impl.fields import FORMS, SIGNED, Columns, Fields, packed, pairs_of
@@ -6,6 +8,7 @@ from reference_impl.frames import frame_of
 from reference_impl.messages import Channels
 from reference_impl.options import COLUMNS, plan_of
 
+TOP = Path(__file__).resolve().parent.parent.parent
 CONVERT = ["convert", "--week", "2300", "--date", "20240204 000001 UTC"]
 STATION = 2003
 # The values of the fields if no others are given: 70 ms, 100 m/s, a lock of 64 ms or more and 45 dB-Hz.

@@ -1,14 +1,11 @@
 """Cases of the forms of MSM: forms.json and its streams."""
-from pathlib import Path
-
 from reference_impl.fields import FORMS
 from reference_impl.frames import frame_of, frames_of
 from reference_impl.messages import number_of
 from reference_impl.recode import recoded
 
-from .common import CONVERT, file_row, inverted, limits, msm, prefixes, row, stream
+from .common import CONVERT, TOP, file_row, inverted, limits, msm, prefixes, row, stream
 
-TOP = Path(__file__).resolve().parent.parent.parent
 GR30 = "cases/input/gr30-2025-04-11.rtcm3"
 STFU = "cases/input/stfu-2016-04-06.rtcm3"
 RECODED_EPOCHS = 3

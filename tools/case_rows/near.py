@@ -1,7 +1,7 @@
 """Cases of the date near which a conversion begins: near.json."""
 from reference_impl.messages import WEEK
 
-from .common import file_row, msm, row
+from .common import TOP, file_row, msm, row
 from .forms import STFU
 from .glonass import CHANNELS_2012, at
 from .systems import DATE, GMSD7, NEITHER, SAMPLE
@@ -76,8 +76,7 @@ def choice_rows() -> list[dict]:
 def recorded_rows() -> list[dict]:
     """The recordings by their dates."""
     glonass = [*NEITHER, "--glonass", "1P,1C,2P", "--glonass-channels", CHANNELS_2012]
-    with open(SAMPLE.replace(".rtcm3", ".plan"), encoding="ascii") as plan:
-        sample = plan.read().split()[2:]
+    sample = (TOP / SAMPLE).with_suffix(".plan").read_text(encoding="ascii").split()[2:]
     return [
         file_row("sample-near", words("2019-10-17", *sample), SAMPLE, "obs"),
         file_row("stfu-near", words("2016-04-06"), STFU, "obs"),

@@ -10,13 +10,12 @@ The stream is the recording in samples/, changed as follows:
 
 The UBX messages of the receiver remain between the frames.
 """
-from pathlib import Path
-
 from reference_impl.fields import Bits
 from reference_impl.frames import frame_of, frames_of
 from reference_impl.messages import DEFAULT, WEEK, number_of
 
-TOP = Path(__file__).resolve().parent.parent.parent
+from .common import TOP
+
 STREAM, FILE = "cases/input/operator.rtcm3", "cases/expected/operator.obs"
 CASTER = b"ICY 200 OK\r\nServer: NTRIP Caster\r\nDate: Sat, 24 Oct 2019 23:59:54 GMT\r\n\r\n"
 CONVERT = ["convert", "--week", "2075", "--date", "20191020 000100 UTC", "--station", "0", "--marker", "ROOF"]
