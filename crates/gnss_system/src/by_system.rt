@@ -3,6 +3,7 @@ ghost use Rattle.std.specs.Prelude.{◌≡◌, Ok, IfOk};
 ghost use Rattle.gnss_system.specs.SystemValues.{value_of, lends_value_of, of_two};
 
 use crate::system::System;
+use crate::systems;
 use std::alloc::AllocError;
 
 /// A value for each satellite system.
@@ -24,28 +25,28 @@ pub struct BySystem<T> {
 
 /// What a function returns for each system, with `?` unless it returned an error.
 macro_rules! values {
-    ($f:ident $($try:tt)?) => {
+    ([$f:ident] $($index:literal $system:ident $value:ident $row:ident),*) => {
         BySystem {
-            gps: $f(System::Gps)$($try)?,
-            galileo: $f(System::Galileo)$($try)?,
-            glonass: $f(System::Glonass)$($try)?,
-            beidou: $f(System::Beidou)$($try)?,
-            qzss: $f(System::Qzss)$($try)?,
-            sbas: $f(System::Sbas)$($try)?,
+            $($value: $f(System::$system),)*
+        }
+    };
+    ([$f:ident ?] $($index:literal $system:ident $value:ident $row:ident),*) => {
+        BySystem {
+            $($value: $f(System::$system)?,)*
         }
     };
 }
 
 /// The value of a system, lent by these values.
 macro_rules! value {
-    ($system:expr, $($values:tt)+) => {
-        match $system {
-            System::Gps => $($values)+.gps,
-            System::Galileo => $($values)+.galileo,
-            System::Glonass => $($values)+.glonass,
-            System::Beidou => $($values)+.beidou,
-            System::Qzss => $($values)+.qzss,
-            System::Sbas => $($values)+.sbas,
+    ([$of:expr, & $values:ident] $($index:literal $system:ident $value:ident $row:ident),*) => {
+        match $of {
+            $(System::$system => &$values.$value,)*
+        }
+    };
+    ([$of:expr, &mut $values:ident] $($index:literal $system:ident $value:ident $row:ident),*) => {
+        match $of {
+            $(System::$system => &mut $values.$value,)*
         }
     };
 }
@@ -59,7 +60,7 @@ impl<T> BySystem<T> {
         requires { F.IsAlwaysCallable f }
         ensures { (s : System) → F.post f s (value_of s result) }
     {
-        values!(f)
+        systems!(values f)
     }
 
     /// Returns what a function returns for each system.
@@ -73,7 +74,7 @@ impl<T> BySystem<T> {
         requires { F.IsAlwaysCallable f }
         ensures { IfOk result (λ values. (s : System) → F.post f s (Ok (value_of s values))) }
     {
-        Ok(values!(f?))
+        Ok(systems!(values f?))
     }
 
     /// Returns the values of GPS and Galileo, and the same one for each other system.
@@ -93,7 +94,7 @@ impl<T> BySystem<T> {
     pub fn of(&self, system: System) -> &T
         ensures { result.now ≡ value_of system self.now }
     {
-        value!(system, &self)
+        systems!(value system, &self)
     }
 
     /// Returns the value of a system, to change it.
@@ -101,6 +102,6 @@ impl<T> BySystem<T> {
         ensures* lends { sem 𝓛 (lends_value_of T.row system self.entry result) }
         ensures value { result.now ≡ value_of system self.old }
     {
-        value!(system, &mut self)
+        systems!(value system, &mut self)
     }
 }

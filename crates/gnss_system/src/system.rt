@@ -1,6 +1,7 @@
 //! The satellite systems.
 ghost use Rattle.std.specs.Prelude.{ℕ, ◌≡◌, ◌<◌, ◌≤◌, length, IfSome, IfNone};
 
+use crate::systems;
 use crate::tables::{
     BEIDOU, BEIDOU_FIRST, GALILEO, GALILEO_FIRST, GLONASS, GLONASS_FIRST, GPS, QZSS, QZSS_FIRST,
     SBAS, SBAS_FIRST, SystemRow, TimeScale,
@@ -23,27 +24,54 @@ pub enum System {
     Sbas,
 }
 
+/// Passes all systems to a macro, in the order of a file: what is given in brackets, and then of
+/// each system its index, its name in `System`, that of its value in `BySystem`, and its row.
+#[macro_export]
+macro_rules! systems {
+    ($then:ident $($given:tt)*) => {
+        $then! {
+            [$($given)*]
+            0 Gps gps GPS,
+            1 Galileo galileo GALILEO,
+            2 Glonass glonass GLONASS,
+            3 Beidou beidou BEIDOU,
+            4 Qzss qzss QZSS,
+            5 Sbas sbas SBAS
+        }
+    };
+}
+
+/// Returns all systems.
+macro_rules! list {
+    ([] $($index:literal $system:ident $value:ident $row:ident),*) => {
+        [$(System::$system),*]
+    };
+}
+
 /// All systems, in the order of a file.
-pub const SYSTEMS: [System; 6] = [
-    System::Gps,
-    System::Galileo,
-    System::Glonass,
-    System::Beidou,
-    System::Qzss,
-    System::Sbas,
-];
+pub const SYSTEMS: [System; 6] = systems!(list);
+
+/// Returns the system at an index.
+macro_rules! system_at {
+    ([$of:ident] $($index:literal $system:ident $value:ident $row:ident),*) => {
+        match $of {
+            $($index => System::$system,)*
+            _ => unreachable!(),
+        }
+    };
+}
 
 /// Returns the row of a system, or a field of it. A field by a match of its own costs less than one
 /// of the result of `row`, by 3 % of the instructions of `convert` for `satellites`.
-macro_rules! of_row {
-    ($system:expr $(, $($field:tt)+)?) => {
-        match $system {
-            System::Gps => GPS $($($field)+)?,
-            System::Galileo => GALILEO $($($field)+)?,
-            System::Glonass => GLONASS $($($field)+)?,
-            System::Beidou => BEIDOU $($($field)+)?,
-            System::Qzss => QZSS $($($field)+)?,
-            System::Sbas => SBAS $($($field)+)?,
+macro_rules! row_of {
+    ([$of:ident] $($index:literal $system:ident $value:ident $row:ident),*) => {
+        match $of {
+            $(System::$system => $row,)*
+        }
+    };
+    ([$of:ident $field:ident] $($index:literal $system:ident $value:ident $row:ident),*) => {
+        match $of {
+            $(System::$system => $row.$field,)*
         }
     };
 }
@@ -57,14 +85,7 @@ impl System {
         ensures { index_of result ≡ index }
     {
         // Indexing `SYSTEMS` makes each loop over the systems copy the array to the stack.
-        match index {
-            0 => System::Gps,
-            1 => System::Galileo,
-            2 => System::Glonass,
-            3 => System::Beidou,
-            4 => System::Qzss,
-            _ => System::Sbas,
-        }
+        systems!(system_at index)
     }
 
     ghost use Rattle.gnss_system.specs.Satellites.{satellites, most_satellites, first_number, number_of, satellite_set};
@@ -84,7 +105,7 @@ impl System {
         ensures bound { length result.signals.now ≤ most_signals }
         ensures rows { result.rows_by_id.now ≡ rows self }
     {
-        of_row!(self)
+        systems!(row_of self)
     }
 
     /// Returns the name of the system in small letters.
@@ -130,14 +151,14 @@ impl System {
         ensures value { result ≡ msm_tens self }
         ensures bound { result < 400 }
     {
-        of_row!(self, .msm_tens)
+        systems!(row_of self msm_tens)
     }
 
     /// Returns the time scale of the epoch times of the system's MSMs.
     pub fn time_scale(self) -> TimeScale
         ensures { result ≡ time_scale self }
     {
-        of_row!(self, .time_scale)
+        systems!(row_of self time_scale)
     }
 
     /// Returns the number of keys of the systems before this one. A system has a key for each of
@@ -160,7 +181,7 @@ impl System {
         ensures value { result ≡ satellites self }
         ensures bound { result ≤ most_satellites }
     {
-        of_row!(self, .satellites)
+        systems!(row_of self satellites)
     }
 
     /// Returns the number of the first satellite of the system in RINEX.

@@ -4,8 +4,8 @@ ghost use Rattle.rinex_file.specs.inner.Header.{row_at, row_count, first_types};
 
 use crate::header::fields::HeaderField::{self, *};
 use HeaderRow::*;
-use gnss_system::SYSTEMS;
 use gnss_system::System::{self, *};
+use gnss_system::{SYSTEMS, systems};
 
 /// The content of the line of a row.
 #[derive(Clone, Copy)]
@@ -39,7 +39,7 @@ pub enum HeaderRow {
 // The rows of a file of these systems in order. The signals of a system have at most six lines of
 // types, and the slots of GLONASS at most four.
 macro_rules! rows {
-    ($($system:ident)*) => {
+    ([] $($index:literal $system:ident $value:ident $row:ident),*) => {
         [
             Version,
             Texts(RunBy), Texts(Comment), Texts(Marker), Texts(MarkerNumber), Texts(MarkerType),
@@ -58,7 +58,7 @@ macro_rules! rows {
 }
 
 /// The rows in order.
-pub(crate) const ROWS: &[HeaderRow] = &rows!(Gps Galileo Glonass Beidou Qzss Sbas);
+pub(crate) const ROWS: &[HeaderRow] = &systems!(rows);
 
 /// The number of rows.
 pub(crate) const ROW_COUNT: usize = ROWS.len();
