@@ -5,10 +5,9 @@ ghost use Rattle.rtcm_msg.specs.Msm.{week};
 ghost use Rattle.obs_epoch.specs.Heard.{ends_epoch, heard_summary, is_own};
 ghost use Rattle.obs_epoch.specs.Starts.{first_week, is_no_week};
 
-use crate::choice::Choice;
 use crate::setup::{Gather, GatherSetup};
 use crate::taken::{CellCounts, Kind};
-use gnss_obs::{GpsTime, Plan, WEEK, WEEKS};
+use gnss_obs::{GpsTime, WEEK, WEEKS};
 use rtcm_msg::Summary;
 use std::marker::Model;
 
@@ -54,25 +53,11 @@ impl Clock {
         }
     }
 
-    /// Returns the wanted signals.
-    pub fn plan(&self) -> &Plan
-        ensures { result.now ≡ self.now.setup.plan }
+    /// Returns the settings.
+    pub fn setup(&self) -> &GatherSetup
+        ensures { result.now ≡ self.now.setup }
     {
-        &self.setup.plan
-    }
-
-    /// Returns GPS time minus UTC, in seconds.
-    pub fn leap_seconds(&self) -> u8
-        ensures { result ≡ self.now.setup.leap_seconds }
-    {
-        self.setup.leap_seconds
-    }
-
-    /// Returns the choice of the epochs that are returned.
-    pub fn choice(&self) -> &Choice
-        ensures { result.now ≡ self.now.setup.choice }
-    {
-        &self.setup.choice
+        &self.setup
     }
 
     /// Returns whether an epoch is pending.

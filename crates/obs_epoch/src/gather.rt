@@ -146,7 +146,7 @@ impl Gatherer {
         requires { self.old.has_ended ≡ false }
         ensures { TakesMessage self.old self.new (heard_by self.old.clock.setup (viewed_message view.now)) result }
     {
-        let said = summary_of(view, self.clock.leap_seconds());
+        let said = summary_of(view, self.clock.setup().leap_seconds);
         let (kind, closed) = self.hear(&said);
         let kind = self.load(kind, view);
         self.note_closed(closed);
@@ -203,7 +203,7 @@ impl Gatherer {
     pub fn choice(&self) -> &Choice
         ensures { result.now ≡ self.now.clock.setup.choice }
     {
-        self.clock.choice()
+        &self.clock.setup().choice
     }
 
     /// Returns whether `end` was called.
@@ -247,14 +247,14 @@ impl Gatherer {
     pub fn leap_seconds(&self) -> u8
         ensures { result ≡ self.now.clock.setup.leap_seconds }
     {
-        self.clock.leap_seconds()
+        self.clock.setup().leap_seconds
     }
 
     /// Returns the wanted signals.
     pub fn plan(&self) -> &Plan
         ensures { result.now ≡ plan_in self.now }
     {
-        self.clock.plan()
+        &self.clock.setup().plan
     }
 
     // Processes the time and the station values of a message, and returns its outcome, with counts
@@ -284,8 +284,8 @@ impl Gatherer {
             return;
         }
         let at = self.clock.time();
-        self.closed
-            .close(&mut self.pending, self.clock.plan(), at, self.values);
+        let plan = &self.clock.setup().plan;
+        self.closed.close(&mut self.pending, plan, at, self.values);
         self.clock.end();
         let has_loss = note_systems(&mut self.locks, at.milliseconds(), &self.closed);
         self.thin(has_loss);
@@ -299,7 +299,7 @@ impl Gatherer {
         ensures { self.new ≡ thinned self.old }
     {
         let time = self.closed.time();
-        let choice = self.clock.choice();
+        let choice = &self.clock.setup().choice;
         let in_window = choice.window_includes(time);
         let on_grid = choice.grid_includes(time);
         let has_interval = choice.interval.is_some();
@@ -419,7 +419,7 @@ impl Gatherer {
             (outcome_in self.old (heard_cell x)) n.old }
         ensures step { self.new ≡ hold self.old (heard_cell x) }
     {
-        let carrier = self.clock.plan().channels().hertz(x.satellite, x.signal);
+        let carrier = self.clock.setup().plan.channels().hertz(x.satellite, x.signal);
         let has_phase = has_phase && carrier.is_some();
         x.lli = lli(has_phase, &x, time, self.locks.latest(system, &x));
         n.add(self.pending.add(x), carrier.is_none());
@@ -467,7 +467,7 @@ impl Gatherer {
         ensures step { record { state = self.new; counts = n.new }
             ≡ load_entry form system (record { state = self.old; counts = n.old }) entry.now }
     {
-        match observe(self.clock.plan(), form, system, entry) {
+        match observe(&self.clock.setup().plan, form, system, entry) {
             None => n.skipped += 1,
             Some(x) => self.take_cell(system, time, entry.phase.is_some(), x, n),
         }

@@ -1,4 +1,4 @@
-use Rattle.obs_epoch.proofs.Names.{◌≡◌, ◌∙◌, sym, ap, ap₂, subst, not, Bool, true, false, is_some, ChannelsValue, hertz_in, PlanValue, time_in, Cell, lacks_channel, planned_of, heard_cell, kept_cell, place_in, GathererValue, hold, outcome_in, count_in, lli_with, both_ways}
+use Rattle.obs_epoch.proofs.Names.{◌≡◌, ◌∙◌, sym, ap, ap₂, subst, not, Bool, true, false, is_some, ChannelsValue, hertz_in, GatherSetup, time_in, Cell, lacks_channel, planned_of, heard_cell, kept_cell, place_in, GathererValue, hold, outcome_in, count_in, lli_with, both_ways}
 use Rattle.obs_epoch.proofs.ValueLemmas.{gathered_of, held_is, open_is, outcome_is, planned_added, planned_is}
 use Rattle.obs_epoch.proofs.gather.Gatherer.take_cell.Goals as goal
 
@@ -39,7 +39,7 @@ returns-clause-counts c =
     let going : i.clock.pending ≡ true = ap (λ (v : GathererValue). v.clock.pending) c.self.view_is ∙ c.requires.pending in
     let lacks : c.is_none.result ≡ lacks_channel c.args.self.now.clock.setup x =
     turned c.is_none.result _ (sym c.is_none.ensures ∙ ap is_some (c.hertz-carrier.ensures.value
-    ∙ ap (λ (channels : ChannelsValue). hertz_in channels x.satellite x.signal) (c.channels.ensures ∙ ap (λ (p : PlanValue). p.channels) (c.plan.ensures ∙ ap (λ (v : GathererValue). v.clock.setup.plan) c.self.view_is)))) in
+    ∙ ap (λ (channels : ChannelsValue). hertz_in channels x.satellite x.signal) (c.channels.ensures ∙ ap (λ (s : GatherSetup). s.plan.channels) (c.setup.ensures ∙ ap (λ (v : GathererValue). v.clock.setup) c.self.view_is)))) in
     c.add-2.ensures
     ∙ ap₂ (λ b o. count_in b o c.args.n.now) lacks
     (outcome_is g x c.lli.result (open_is i.clock i.pending i.closed going) (planned_is g.clock.setup x c.requires.observed.key planned) c.add.ensures ∙ ap (λ v. outcome_in v x) c.self.view_is)
