@@ -243,13 +243,6 @@ impl Gatherer {
         self.values
     }
 
-    /// Returns GPS time minus UTC, in seconds.
-    pub fn leap_seconds(&self) -> u8
-        ensures { result ≡ self.now.clock.setup.leap_seconds }
-    {
-        self.clock.setup().leap_seconds
-    }
-
     /// Returns the wanted signals.
     pub fn plan(&self) -> &Plan
         ensures { result.now ≡ plan_in self.now }
