@@ -37,8 +37,8 @@ use crate::locks::{Locks, lli, note_systems};
 use crate::marks;
 use crate::marks::Marks;
 use crate::observe::observe;
+use crate::parts::new_parts;
 use crate::setup::GatherSetup;
-use crate::start::new_parts;
 use crate::taken::{CellCounts, Kind, Taken};
 use crate::tow::summary_of;
 use gnss_obs::{Cell, Epoch, EpochCells, Plan, PlanFault, StationValues};
@@ -111,13 +111,13 @@ impl Gatherer {
     {
         let initial = setup.initial;
         match new_parts(alloc, setup.start, setup.station) {
-            Ok((pending, closed, locks, marks)) => Ok(Gatherer {
+            Ok(parts) => Ok(Gatherer {
                 clock: Clock::new(setup),
-                pending,
-                closed,
+                pending: parts.pending,
+                closed: parts.closed,
                 values: initial,
-                locks,
-                marks,
+                locks: parts.locks,
+                marks: parts.marks,
                 counts: EpochCounts::default(),
                 chosen: false,
                 just_closed: false,
@@ -412,7 +412,12 @@ impl Gatherer {
             (outcome_in self.old (heard_cell x)) n.old }
         ensures step { self.new ≡ hold self.old (heard_cell x) }
     {
-        let carrier = self.clock.setup().plan.channels().hertz(x.satellite, x.signal);
+        let carrier = self
+            .clock
+            .setup()
+            .plan
+            .channels()
+            .hertz(x.satellite, x.signal);
         let has_phase = has_phase && carrier.is_some();
         x.lli = lli(has_phase, &x, time, self.locks.latest(system, &x));
         n.add(self.pending.add(x), carrier.is_none());

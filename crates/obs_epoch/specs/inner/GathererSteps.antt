@@ -6,7 +6,7 @@ use Rattle.gnss_system.specs.declared.system.System.{System}
 use Rattle.gnss_system.specs.declared.system.System.TheVariants.{Gps, Galileo}
 use Rattle.gnss_system.specs.Systems.{systems}
 use Rattle.gnss_obs.specs.declared.cell.StationValues.{StationValues}
-use Rattle.obs_epoch.specs.inner.Held.{CellOutcome, Kept, count_in, note_systems, outcome_of}
+use Rattle.obs_epoch.specs.inner.Held.{CellOutcome, Kept, count_in, no_locks, note_systems, outcome_of}
 use Rattle.obs_epoch.specs.GathererAfter.{lookup, GathererValue}
 use Rattle.rtcm_msg.specs.declared.entry.Entry.{Entry}
 use Rattle.rtcm_msg.specs.declared.view.Form.{Form}
@@ -14,11 +14,12 @@ use Rattle.obs_epoch.specs.Heard.{Heard, seen_in}
 use Rattle.gnss_obs.specs.HeardCells.{HeardCell, kept_cell}
 use Rattle.obs_epoch.specs.Cells.{lacks_channel, no_counts, with_skipped}
 use Rattle.obs_epoch.specs.Kinds.{is_accepted}
-use Rattle.gnss_obs.specs.Values.{PlanValue, planned_of, CellLists, Closed, EpochValue, cells_of, cleared, empty_epoch, no_cells}
+use Rattle.gnss_obs.specs.Values.{PlanValue, planned_of, CellLists, Closed, EpochValue, cells_of, cleared, empty_epoch, no_cells, no_values}
 use Rattle.gnss_obs.specs.Values.{satellites_written}
 use Rattle.obs_epoch.specs.Choices.{in_window, is_chosen, on_grid}
-use Rattle.obs_epoch.specs.inner.Marks.{carried_from, carried_to, counted_epoch}
+use Rattle.obs_epoch.specs.inner.Marks.{carried_from, carried_to, counted_epoch, no_marks}
 use Rattle.obs_epoch.specs.declared.choice.EpochCounts.{EpochCounts}
+use Rattle.obs_epoch.specs.declared.parts.Parts.{Parts}
 use Rattle.gnss_obs.specs.inner.PlanOrder.{HasPlannedCells}
 use Rattle.gnss_system.specs.SystemValues.{with_value_of}
 use Rattle.gnss_obs.specs.Plans.{place_in}
@@ -45,6 +46,13 @@ pub record IsGathering (clock : State) (pending : CellLists) (last : Closed) (va
   pub empty : clock.pending ≡ true → last.epoch.cells ≡ no_cells
   pub closed : just_closed ≡ true
       → (clock.pending ≡ false) × AreSortedByPlan clock.setup.plan last.epoch × (last.values ≡ values)
+
+-- What a gatherer starts with: no cells, no epoch closed, no lock records and no loss of lock.
+pub record AreNew (p : Parts) : Type 0 where
+  pub pending : p.pending ≡ no_cells
+  pub closed : p.closed ≡ record { epoch = empty_epoch 0; values = no_values }
+  pub locks : p.locks ≡ no_locks
+  pub marks : p.marks ≡ no_marks
 
 abbrev pub epoch_with : System → EpochValue → List Cell → EpochValue
 epoch_with s e cells = record e { cells = with_value_of s e.cells cells }
