@@ -1,10 +1,10 @@
 -- The frequency channels of GLONASS satellites, and the carriers of a satellite's signals.
-use Rattle.std.specs.Prelude.{◌≡◌, ℕ, ◌+◌, ◌-◌, ◌*◌, ◌≤◌, ◌==◌, List, All, length, get_or, replicate, set, IfSome}
+use Rattle.std.specs.Prelude.{◌≡◌, ℕ, ◌+◌, ◌-◌, ◌*◌, ◌<◌, ◌≤◌, ◌==◌, List, All, length, get_or, replicate, set, IfSome}
 use Rattle.std.specs.Prelude.{Option, Some, None, option_map, if◌then◌else◌}
 use Rattle.gnss_system.specs.declared.system.System.{System}
 use Rattle.gnss_system.specs.declared.system.System.TheVariants.{Glonass}
 use Rattle.gnss_system.specs.Satellites.{Satellite, satellites}
-use Rattle.gnss_system.specs.Signals.{SignalAt, band_of, carrier_of, carriers, code_of, hertz_of}
+use Rattle.gnss_system.specs.Signals.{SignalAt, band_of, carrier_of, carriers, code_of, hertz_of, most_hertz}
 
 -- The number of the channel of each slot from 1 on, if it is known: the channel plus 7 (DF040, DF419).
 abbrev pub ChannelsValue : Type 0
@@ -41,6 +41,10 @@ carrier_at band step number = carrier_of (carriers Glonass) band + step * number
 -- The carrier of a band of GLONASS at the channel of a number, in hertz: 562.5 kHz or 437.5 kHz from one to the next.
 abbrev pub channel_hertz : ℕ → ℕ → ℕ
 channel_hertz band number = if band == 1 then carrier_at 1 562_500 number else carrier_at 2 437_500 number
+
+-- A carrier frequency in hertz.
+abbrev pub IsCarrier : ℕ → Type 0
+IsCarrier hertz = (0 < hertz) × (hertz ≤ most_hertz)
 
 -- The carrier of a signal of a satellite in hertz, if it is known: that of GLONASS depends on the satellite's channel.
 abbrev pub hertz_by : System → Option ℕ → SignalAt → Option ℕ

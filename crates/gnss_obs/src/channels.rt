@@ -1,8 +1,8 @@
 //! The frequency channels of GLONASS satellites.
 ghost use Rattle.std.specs.Prelude.{◌≡◌, ◌<◌, ◌≤◌, IfSome, count_by, is_some};
-ghost use Rattle.gnss_system.specs.Signals.{band_of, code_of, most_hertz};
+ghost use Rattle.gnss_system.specs.Signals.{band_of, code_of};
 ghost use Rattle.gnss_obs.specs.Channels.{channel_hertz, hertz_in, most_number, no_channels, number_at, slot_count};
-ghost use Rattle.gnss_obs.specs.Channels.{AreChannels, with_number};
+ghost use Rattle.gnss_obs.specs.Channels.{AreChannels, IsCarrier, with_number};
 
 use crate::satellite::Sat;
 use crate::signal::Signal;
@@ -81,7 +81,7 @@ impl Channels {
     #[inline(always)]
     pub fn hertz(&self, satellite: Sat, signal: Signal) -> Option<u32>
         ensures value { result ≡ hertz_in self.now satellite signal }
-        ensures bound { IfSome result (λ h. (0 < h) × (h ≤ most_hertz)) }
+        ensures bound { IfSome result IsCarrier }
     {
         match satellite.system() {
             System::Glonass => match self.number(satellite.id()) {
@@ -98,7 +98,7 @@ impl Channels {
 fn channel_hertz(signal: Signal, number: u8) -> u32
     requires { number ≤ most_number }
     ensures value { result ≡ channel_hertz (band_of (code_of signal)) number }
-    ensures bound { (0 < result) × (result ≤ most_hertz) }
+    ensures bound { IsCarrier result }
 {
     if signal.code()[0] == b'1' {
         1_598_062_500 + 562_500 * number as u32

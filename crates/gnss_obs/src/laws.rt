@@ -7,6 +7,7 @@ ghost use Rattle.gnss_system.specs.Signals.{SignalAt, IsSignal, greatest_signal_
 ghost use Rattle.gnss_system.specs.Signals.{signal_of_id, signal_of_code};
 ghost use Rattle.gnss_system.specs.Satellites.{Satellite};
 ghost use Rattle.gnss_obs.specs.Channels.{AreChannels, ChannelsValue, hertz_in};
+ghost use Rattle.gnss_obs.specs.Values.{HasTwelveDigits};
 ghost use Rattle.gnss_obs.specs.Weeks.{week, weeks};
 ghost use Rattle.gnss_obs.specs.Dates.{IsCivilOf, civil_of};
 ghost use Rattle.gnss_obs.specs.Plans.{CodesNameTheirSignals};
@@ -39,13 +40,11 @@ pub fn lock_times()
 /// The range of the values of a message: below 10^12 thousandths in size, and a strength from 1 to
 /// 99,999 thousandths.
 pub fn sizes()
-    ensures metres { (r : ℤ) → unsigned_abs r ≤ 2 ^ 40 → unsigned_abs (nearest_pseudorange r) < 10 ^ 12 }
+    ensures metres { (r : ℤ) → unsigned_abs r ≤ 2 ^ 40 → HasTwelveDigits (nearest_pseudorange r) }
     ensures carriers { (channels : ChannelsValue) (satellite : Satellite) (s : SignalAt) → AreChannels channels
         → IfSome (hertz_in channels satellite s) (λ h. h ≤ most_hertz) }
-    ensures cycles { (h : ℕ) (p : ℤ) → h ≤ most_hertz → unsigned_abs p ≤ 2 ^ 39
-        → unsigned_abs (nearest_phase h p) < 10 ^ 12 }
-    ensures shift { (h : ℕ) (v : ℤ) → h ≤ most_hertz → unsigned_abs v ≤ 10 ^ 8
-        → unsigned_abs (nearest_doppler h v) < 10 ^ 12 }
+    ensures cycles { (h : ℕ) (p : ℤ) → h ≤ most_hertz → unsigned_abs p ≤ 2 ^ 39 → HasTwelveDigits (nearest_phase h p) }
+    ensures shift { (h : ℕ) (v : ℤ) → h ≤ most_hertz → unsigned_abs v ≤ 10 ^ 8 → HasTwelveDigits (nearest_doppler h v) }
     ensures decibels { (s : ℕ) → 0 < s → s < 2 ^ 10
         → (pos 1 ≤ℤ nearest_strength s) × (nearest_strength s ≤ℤ pos 99_999) }
 {}

@@ -1,10 +1,12 @@
 //! Pseudorange, carrier phase, Doppler shift and signal strength, rounded to thousandths.
 ghost use Rattle.std.specs.Prelude.{◌≡◌, ◌+◌, ◌*◌, ◌/◌, ◌^◌, ◌<◌, ◌≤◌, ◌*ℤ◌, ◌-ℤ◌, ◌≤ℤ◌, ◌<ℤ◌, unsigned_abs, pos, IfSome};
 ghost use Rattle.std.specs.Option.{option_map, ForSome};
+ghost use Rattle.gnss_obs.specs.Channels.{IsCarrier};
+ghost use Rattle.gnss_obs.specs.Values.{HasTwelveDigits};
 ghost use Rattle.gnss_obs.specs.Rounding.{IsRounded, nearest};
 ghost use Rattle.gnss_obs.specs.Observables.{light, nearest_pseudorange, nearest_phase, nearest_doppler, phase_by};
 ghost use Rattle.gnss_obs.specs.Observables.{doppler_by, nearest_strength, strength_digit};
-ghost use Rattle.gnss_system.specs.Signals.{hertz_of, most_hertz};
+ghost use Rattle.gnss_system.specs.Signals.{hertz_of};
 
 use crate::{Signal, Thousandths};
 
@@ -17,7 +19,7 @@ pub fn pseudorange(range: Option<i64>) -> Option<Thousandths>
     requires { ForSome range (λ r. unsigned_abs r ≤ 2 ^ 40) }
     ensures rounded { IsRounded (λ r. r *ℤ pos light) (2 ^ 31) range result }
     ensures value { result ≡ option_map nearest_pseudorange range }
-    ensures bound { IfSome result (λ t. unsigned_abs t < 10 ^ 12) }
+    ensures bound { IfSome result HasTwelveDigits }
 {
     match range {
         None => None,
@@ -32,7 +34,7 @@ pub fn phase(phase: Option<i64>, signal: Signal) -> Option<Thousandths>
     requires { ForSome phase (λ p. unsigned_abs p ≤ 2 ^ 39) }
     ensures rounded { IsRounded (λ p. p *ℤ pos (hertz_of signal)) (2 ^ 31) phase result }
     ensures value { result ≡ option_map (nearest_phase (hertz_of signal)) phase }
-    ensures bound { IfSome result (λ t. unsigned_abs t < 10 ^ 12) }
+    ensures bound { IfSome result HasTwelveDigits }
 {
     phase_at(phase, Some(signal.hertz()))
 }
@@ -42,9 +44,9 @@ pub fn phase(phase: Option<i64>, signal: Signal) -> Option<Thousandths>
 #[inline(always)]
 pub fn phase_at(phase: Option<i64>, hertz: Option<u32>) -> Option<Thousandths>
     requires range { ForSome phase (λ p. unsigned_abs p ≤ 2 ^ 39) }
-    requires carrier { IfSome hertz (λ h. (0 < h) × (h ≤ most_hertz)) }
+    requires carrier { IfSome hertz IsCarrier }
     ensures value { result ≡ phase_by hertz phase }
-    ensures bound { IfSome result (λ t. unsigned_abs t < 10 ^ 12) }
+    ensures bound { IfSome result HasTwelveDigits }
 {
     match (phase, hertz) {
         (Some(p), Some(h)) => Some(Thousandths::new(nearest_whole(p, h, 1 << 30))),
@@ -59,7 +61,7 @@ pub fn doppler(rate: Option<i32>, signal: Signal) -> Option<Thousandths>
     requires { ForSome rate (λ v. unsigned_abs v ≤ 10 ^ 8) }
     ensures rounded { IsRounded (λ v. pos 0 -ℤ (v *ℤ pos (hertz_of signal))) (10 * light) rate result }
     ensures value { result ≡ option_map (nearest_doppler (hertz_of signal)) rate }
-    ensures bound { IfSome result (λ t. unsigned_abs t < 10 ^ 12) }
+    ensures bound { IfSome result HasTwelveDigits }
 {
     doppler_at(rate, Some(signal.hertz()))
 }
@@ -69,9 +71,9 @@ pub fn doppler(rate: Option<i32>, signal: Signal) -> Option<Thousandths>
 #[inline(always)]
 pub fn doppler_at(rate: Option<i32>, hertz: Option<u32>) -> Option<Thousandths>
     requires range { ForSome rate (λ v. unsigned_abs v ≤ 10 ^ 8) }
-    requires carrier { IfSome hertz (λ h. (0 < h) × (h ≤ most_hertz)) }
+    requires carrier { IfSome hertz IsCarrier }
     ensures value { result ≡ doppler_by hertz rate }
-    ensures bound { IfSome result (λ t. unsigned_abs t < 10 ^ 12) }
+    ensures bound { IfSome result HasTwelveDigits }
 {
     match (rate, hertz) {
         (Some(v), Some(h)) => Some(Thousandths::new(nearest_whole(0 - v as i64, h, 5 * LIGHT))),
@@ -85,7 +87,7 @@ pub fn strength(strength: Option<u16>) -> Option<Thousandths>
     requires { ForSome strength (λ s. s < 1024) }
     ensures rounded { IsRounded (λ s. pos (s * 1000)) 16 strength result }
     ensures value { result ≡ option_map nearest_strength strength }
-    ensures bound { IfSome result (λ t. unsigned_abs t < 10 ^ 12) }
+    ensures bound { IfSome result HasTwelveDigits }
     ensures range { IfSome result (λ t. (pos 0 ≤ℤ t) × (t <ℤ pos 100000)) }
     ensures positive { ForSome strength (λ s. 0 < s → IfSome result (λ t. pos 0 <ℤ t)) }
 {
