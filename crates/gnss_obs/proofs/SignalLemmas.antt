@@ -66,13 +66,13 @@ found_more {places} {xs} i {place} found less room none at is = grind (arith, ge
 
 -- A signal found by its ID is listed, and has that ID.
 pub id_found : (system : System) (id : ℕ) (s : SignalAt) → signal_of_id system id ≡ Some s → (s.system ≡ system) × IsSignal s × (id_of s ≡ id)
-id_found system id s e = by (position (λ e. e.0 == id) (table system)) refl e where
-  by : (o : Option ℕ) → position (λ e. e.0 == id) (table system) ≡ o → option_map (λ i. record { system = system; index = i }) o ≡ Some s → (s.system ≡ system) × IsSignal s × (id_of s ≡ id)
+id_found system id s e = by (position (λ e. e.id == id) (table system)) refl e where
+  by : (o : Option ℕ) → position (λ e. e.id == id) (table system) ≡ o → option_map (λ i. record { system = system; index = i }) o ≡ Some s → (s.system ≡ system) × IsSignal s × (id_of s ≡ id)
   by None at e = cc
   by (Some i) at e =
-      let first : ListedSignal = record { 0 = 0; 1 = []; 2 = 0 } in
-      let (within, here, others) = position-Some (λ (e : ListedSignal). e.0 == id) (table system) i first at in
-      let own = ap (λ o. option_map_or (λ (e : ListedSignal). e.0) o 0) (slice_get-get_or (table system) i first within) ∙ eqb-true _ id here in
+      let first : ListedSignal = record { id = 0; code = []; hertz = 0 } in
+      let (within, here, others) = position-Some (λ (e : ListedSignal). e.id == id) (table system) i first at in
+      let own = ap (λ o. option_map_or (λ (e : ListedSignal). e.id) o 0) (slice_get-get_or (table system) i first within) ∙ eqb-true _ id here in
       let is : record { system = system; index = i } ≡ s = cc in
       subst (λ (t : SignalAt). (t.system ≡ system) × IsSignal t × (id_of t ≡ id)) is (refl, within, own)
 

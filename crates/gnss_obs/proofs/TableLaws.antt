@@ -32,7 +32,7 @@ from_at : (o : Option ℕ) (i : ℕ) → option_map_or (λ j. j == i) o false �
 from_at o i h = grind (arith, eqb-true)
 
 abbrev has_first_id : System → ℕ → Bool
-has_first_id system i = option_map_or (λ j. j == i) (position (λ e. e.0 == id_of (signal system i)) (table system)) false
+has_first_id system i = option_map_or (λ j. j == i) (position (λ e. e.id == id_of (signal system i)) (table system)) false
 
 pub id_back : (s : SignalAt) → IsSignal s → signal_of_id s.system (id_of s) ≡ Some s
 id_back s listed = ap (option_map (signal s.system)) (from_at _ s.index (at_each has_first_id refl s.system s.index listed))
@@ -43,7 +43,7 @@ is_row n None row = row == 255
 is_row n (Some i) row = nat_lt i n && (row == i)
 
 row_at : System → ℕ → Bool
-row_at system id = is_row (length (table system)) (position (λ e. e.0 == id) (table system)) (unwrap_or (slice_get (rows system) id) 255)
+row_at system id = is_row (length (table system)) (position (λ e. e.id == id) (table system)) (unwrap_or (slice_get (rows system) id) 255)
 
 rows_fit : (system : System) (id : ℕ) → id < 256 → row_at system id ≡ true
 unfolding row_at is_row
@@ -64,7 +64,7 @@ read_at xs id o some h = grind (arith, slice_get_past, slice_get_read, ltb-true)
 
 pub row_is : (system : System) (id : ℕ) (o : Option (Bor ℕ)) → id < 256 → is_some o ≡ nat_lt id (length (rows system)) → IfSome o (λ x. x.now ≡ slice_index_or (rows system) id x.now)
     → (row : ℕ) → row ≡ unwrap_or (option_copied o) 255
-    → (row ≡ 255 → position (λ e. e.0 == id) (table system) ≡ None) × ((row ≡ 255 → ⊥) → (Some row ≡ position (λ e. e.0 == id) (table system)) × (row < length (table system)))
+    → (row ≡ 255 → position (λ e. e.id == id) (table system) ≡ None) × ((row ≡ 255 → ⊥) → (Some row ≡ position (λ e. e.id == id) (table system)) × (row < length (table system)))
 unfolding row_at
 row_is system id o below some here row is =
     let fits = rw (← (is ∙ read_at (rows system) id o some here)) at (rows_fit system id below) in

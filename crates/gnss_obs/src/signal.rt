@@ -61,7 +61,7 @@ impl Signal {
         let entries = system.row().signals;
         let wanted = code.as_bytes();
         for index in 0..entries.len() {
-            if entries[index].1.as_slice() == wanted {
+            if entries[index].code.as_slice() == wanted {
                 return Signal::from_index(system, index);
             }
         }
@@ -88,14 +88,14 @@ impl Signal {
         ensures value { result ≡ id_of self }
         ensures bound { result ≤ greatest_signal_id }
     {
-        self.system.row().signals[self.index as usize].0
+        self.system.row().signals[self.index as usize].id
     }
 
     /// Returns the RINEX code in ASCII: the digit of the band and the letter of the attribute.
     pub fn code(self) -> [u8; 2]
         ensures { result ≡ code_of self }
     {
-        self.system.row().signals[self.index as usize].1
+        self.system.row().signals[self.index as usize].code
     }
 
     /// Returns the carrier frequency, in hertz: at most 1,602,000,000. For GLONASS it is that of
@@ -105,7 +105,7 @@ impl Signal {
         ensures positive { 0 < result }
         ensures bound { result ≤ 1_602_000_000 }
     {
-        self.system.row().signals[self.index as usize].2
+        self.system.row().signals[self.index as usize].hertz
     }
 
     /// Returns the system of the signal.

@@ -39,7 +39,8 @@ carrier_of (c ∷ others) band = if c.0 == band then c.1 else carrier_of others 
 
 -- IDs and their codes, with the carriers of the codes' bands
 abbrev pub signals : List (ℕ × ℕ) → List (ℕ × List ℕ) → List ListedSignal
-signals carriers rows = map (λ r. record { 0 = r.0; 1 = r.1; 2 = carrier_of carriers (band_of r.1) }) rows
+signals carriers rows =
+    map (λ r. record { id = r.0; code = r.1; hertz = carrier_of carriers (band_of r.1) }) rows
 
 abbrev pub gps_signals : List ListedSignal
 gps_signals = signals gps_carriers

@@ -40,11 +40,11 @@ signal_where system test = option_map (λ i. record { system = system; index = i
 
 -- the signal with this ID, if there is one
 abbrev pub signal_of_id : System → ℕ → Option SignalAt
-signal_of_id system id = signal_where system (λ e. e.0 == id)
+signal_of_id system id = signal_where system (λ e. e.id == id)
 
 -- the signal with this code, if there is one
 abbrev pub signal_of_code : System → List ℕ → Option SignalAt
-signal_of_code system code = signal_where system (λ e. bytes_eq e.1 code)
+signal_of_code system code = signal_where system (λ e. bytes_eq e.code code)
 
 -- the signal mask, DF395, has a bit for each ID
 abbrev pub greatest_signal_id : ℕ
@@ -60,15 +60,15 @@ values_below f (suc n) = values_below f n ++ f n ∷ []
 
 abbrev pub rows : System → List ℕ
 rows system =
-    values_below (λ id. unwrap_or (position (λ e. e.0 == id) (table system)) no_row) (greatest_signal_id + 1)
+    values_below (λ id. unwrap_or (position (λ e. e.id == id) (table system)) no_row) (greatest_signal_id + 1)
 
 -- the ID of a signal
 abbrev pub id_of : SignalAt → ℕ
-id_of s = option_map_or (λ e. e.0) (slice_get (table s.system) s.index) 0
+id_of s = option_map_or (λ e. e.id) (slice_get (table s.system) s.index) 0
 
 -- the code of a signal: the digit of its band and the letter of its attribute
 abbrev pub code_of : SignalAt → List ℕ
-code_of s = option_map_or (λ e. e.1) (slice_get (table s.system) s.index) []
+code_of s = option_map_or (λ e. e.code) (slice_get (table s.system) s.index) []
 
 -- the largest carrier frequency, in hertz: that of channel 6 of GLONASS in band 1
 abbrev pub most_hertz : ℕ

@@ -1,13 +1,17 @@
 //! A row for each system: what differs between the systems in RINEX 3.05 and RTCM 10403.3.
 
-/// A signal of a system: signal ID, RINEX code and carrier frequency.
-///
-/// The signal ID is the position in the signal mask DF395, 1 to 32 (RTCM 10403.3, the table of
-/// signal IDs of the system). The code is in ASCII: the digit of the band and the letter of the
-/// attribute (RINEX 3.05, the observation codes of the system). The frequency is in hertz, for
-/// GLONASS that of channel 0.
+/// A signal of a system.
 #[derive(Clone, Copy)]
-pub struct ListedSignal(pub u8, pub [u8; 2], pub u32);
+pub struct ListedSignal {
+    /// The position in the signal mask DF395, 1 to 32 (RTCM 10403.3, the table of signal IDs of the
+    /// system).
+    pub id: u8,
+    /// The RINEX code in ASCII: the digit of the band and the letter of the attribute (RINEX 3.05,
+    /// the observation codes of the system).
+    pub code: [u8; 2],
+    /// The carrier frequency in hertz, for GLONASS that of channel 0.
+    pub hertz: u32,
+}
 
 /// The time scale of the epoch times of a system's MSMs, in milliseconds.
 #[derive(Clone, Copy)]
@@ -127,7 +131,7 @@ const B3: u32 = 1_268_520_000;
 /// the code of each.
 macro_rules! signals {
     ($($carrier:expr => $($id:literal $code:literal),*;)*) => {
-        &[$($(ListedSignal($id, *$code, $carrier)),*),*]
+        &[$($(ListedSignal { id: $id, code: *$code, hertz: $carrier }),*),*]
     };
 }
 

@@ -14,18 +14,18 @@ one_way a b there back = grind arith
 some_same : {X : Type 0} (x y : X) (o : Option X) → o ≡ Some x → o ≡ Some y → x ≡ y
 some_same x y o e f = cc
 
-get_is : (xs : List ListedSignal) (i id : ℕ) → i < length xs → ((get_or xs i (0, (0 ∷ 0 ∷ []), 0)).0 == id) ≡ true → option_map_or (λ (e : ListedSignal). e.0) (slice_get xs i) 0 ≡ id
+get_is : (xs : List ListedSignal) (i id : ℕ) → i < length xs → ((get_or xs i (record { id = 0; code = []; hertz = 0 })).id == id) ≡ true → option_map_or (λ (e : ListedSignal). e.id) (slice_get xs i) 0 ≡ id
 get_is [] i id below is = absurd (omega (arith, below))
 get_is (x ∷ xs) zero id below is = grind (arith, common_steps)
 get_is (x ∷ xs) (suc i) id below is = get_is xs i id (omega (arith, below)) is
 
 -- The ID of the signal with an ID.
 id_forth : (system : System) (id : ℕ) (g : SignalAt) → signal_of_id system id ≡ Some g → id_of g ≡ id
-id_forth system id g h = by (position (λ (e : ListedSignal). e.0 == id) (table system)) refl h where
-  by : (o : Option ℕ) → o ≡ position (λ (e : ListedSignal). e.0 == id) (table system) → option_map (signal_in system) o ≡ Some g → id_of g ≡ id
+id_forth system id g h = by (position (λ (e : ListedSignal). e.id == id) (table system)) refl h where
+  by : (o : Option ℕ) → o ≡ position (λ (e : ListedSignal). e.id == id) (table system) → option_map (signal_in system) o ≡ Some g → id_of g ≡ id
   by None e h = absurd (grind (arith, refl, h))
   by (Some i) e h =
-      let p = position-Some (λ (e : ListedSignal). e.0 == id) (table system) i (0, (0 ∷ 0 ∷ []), 0) (sym e) in
+      let p = position-Some (λ (e : ListedSignal). e.id == id) (table system) i (record { id = 0; code = []; hertz = 0 }) (sym e) in
       subst (λ (x : SignalAt). id_of x ≡ id) (some_same (signal_in system i) g (Some (signal_in system i)) refl h) (get_is (table system) i id p.0 p.1)
 
 -- The signal with an ID is g, or not.

@@ -83,12 +83,12 @@ coordinate z is = grind (arith, ints)
 -- ---- types
 
 plain_code : TableEntry → Bool
-plain_code e = is_plain 2 e.1
+plain_code e = is_plain 2 e.code
 
-code_at : (es : List TableEntry) → list_all plain_code es ≡ true → (i : ℕ) → IsPlain 2 (option_map_or (λ e. e.1) (slice_get es i) [])
+code_at : (es : List TableEntry) → list_all plain_code es ≡ true → (i : ℕ) → IsPlain 2 (option_map_or (λ e. e.code) (slice_get es i) [])
 unfolding plain_code
 code_at [] h i = record { clean = refl; short = omega arith }
-code_at (e ∷ es) h zero = plain_text 2 e.1 (both (plain_code e) (list_all plain_code es) h).0
+code_at (e ∷ es) h zero = plain_text 2 e.code (both (plain_code e) (list_all plain_code es) h).0
 code_at (e ∷ es) h (suc i) = code_at es (both (plain_code e) (list_all plain_code es) h).1 i
 
 code_of_signal : (system : System) (i : ℕ) → IsPlain 2 (code_of (record { system = system; index = i }))
