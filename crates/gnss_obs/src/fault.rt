@@ -1,10 +1,10 @@
-//! The reasons why a plan or a gatherer is refused.
+//! The reasons why a plan, a start week or a station is refused.
 use gnss_system::System;
 use std::fmt::{self, Debug, Display, Formatter, Write};
 use thiserror::Error;
 
-/// The reason why a plan or a gatherer is refused. It is displayed, and printed by `Debug`, by its
-/// name and values, the system by its letter in RINEX.
+/// The reason why a plan, a start week or a station is refused. It is displayed, and printed by
+/// `Debug`, by its name and values, the system by its letter in RINEX.
 #[derive(Clone, Copy, PartialEq, Eq, Error)]
 pub enum PlanFault {
     /// The code or signal of this system at this index, from 0 on, isn't in the system's table.

@@ -101,7 +101,7 @@ impl Plan {
     }
 
     // Returns the plan of these signals, if they were added without a fault and there is one.
-    fn with(added: Added, signals: BySystem<Signals>) -> Result<Plan, PlanFault>
+    fn with(added: Result<(), PlanFault>, signals: BySystem<Signals>) -> Result<Plan, PlanFault>
         requires { IsOk added → (s : System) → IsOf s (value_of s signals) }
         ensures { IsMade added signals result }
     {
@@ -208,8 +208,7 @@ impl Plan {
     }
 }
 
-// The functions that can fail append to lists of the caller, so none of them has to free a list.
-type Added = Result<(), PlanFault>;
+// The functions below that can fail append to lists of the caller, so none of them has to free one.
 
 // Returns an empty list for each system.
 fn no_signals(alloc: Global) -> BySystem<Signals>
@@ -226,7 +225,7 @@ fn is_none_planned(lists: &BySystem<Signals>) -> bool
 }
 
 // Appends the signals of the text of each system.
-fn read_all(lists: &mut BySystem<Signals>, texts: &BySystem<&str>) -> Added
+fn read_all(lists: &mut BySystem<Signals>, texts: &BySystem<&str>) -> Result<(), PlanFault>
     requires { lists.old ≡ tabulate (λ s. []) }
     ensures { DoneOr (HasSignal (map_by (λ t. t.now) texts.now)) (λ e. plan_of (map_by (λ t. t.now) texts.now) ≡ Err e)
         (AreRead (map_by (λ t. t.now) texts.now) lists.new) result }
@@ -239,7 +238,7 @@ fn read_all(lists: &mut BySystem<Signals>, texts: &BySystem<&str>) -> Added
 }
 
 // Appends the signals of each system.
-fn add_all(lists: &mut BySystem<Signals>, signals: &BySystem<&[Signal]>) -> Added
+fn add_all(lists: &mut BySystem<Signals>, signals: &BySystem<&[Signal]>) -> Result<(), PlanFault>
     requires { lists.old ≡ tabulate (λ s. []) }
     ensures { DoneOr (HasOwn (map_by (λ l. l.now) signals.now)) (IsUnplanned (map_by (λ l. l.now) signals.now))
         (AreAdded (map_by (λ l. l.now) signals.now) lists.new) result }
@@ -252,7 +251,7 @@ fn add_all(lists: &mut BySystem<Signals>, signals: &BySystem<&[Signal]>) -> Adde
 }
 
 // Appends these signals of a system: none of another system, none twice.
-fn add_signals(added: &mut Signals, system: System, signals: &[Signal]) -> Added
+fn add_signals(added: &mut Signals, system: System, signals: &[Signal]) -> Result<(), PlanFault>
     requires { added.old ≡ [] }
     ensures { DoneOr (BeginsWithOwn system signals.now) (IsUnfit system signals.now)
         ((added.new ≡ signals.now) × IsOf system signals.now) result }
@@ -264,7 +263,7 @@ fn add_signals(added: &mut Signals, system: System, signals: &[Signal]) -> Added
 }
 
 // Appends a signal.
-fn add_signal(signals: &mut Signals, system: System, signal: Signal) -> Added
+fn add_signal(signals: &mut Signals, system: System, signal: Signal) -> Result<(), PlanFault>
     requires { IsOf system signals.old }
     ensures { DoneOr (MayAdd system signals.old signal) (IsUnfitAfter system signals.old signal)
         (IsPushed system signals.old signal signals.new) result }
@@ -281,7 +280,7 @@ fn add_signal(signals: &mut Signals, system: System, signal: Signal) -> Added
 }
 
 // Appends the signals of a text.
-fn read_signals(signals: &mut Signals, system: System, text: &str) -> Added
+fn read_signals(signals: &mut Signals, system: System, text: &str) -> Result<(), PlanFault>
     requires { signals.old ≡ [] }
     ensures { DoneOr (has_signal system text.now ≡ true) (λ e. signals_of system text.now ≡ Err e)
         (ArePlanned system (signals_of system text.now) signals.new) result }
@@ -294,7 +293,7 @@ fn read_signals(signals: &mut Signals, system: System, text: &str) -> Added
 }
 
 // Appends all signals of a table in its order.
-fn add_every(signals: &mut Signals, system: System) -> Added
+fn add_every(signals: &mut Signals, system: System) -> Result<(), PlanFault>
     requires { signals.old ≡ [] }
     ensures { HasEvery system signals.new result }
 {
@@ -306,7 +305,7 @@ fn add_every(signals: &mut Signals, system: System) -> Added
 }
 
 // Appends the signals of codes separated by commas.
-fn read_codes(signals: &mut Signals, system: System, text: &str) -> Added
+fn read_codes(signals: &mut Signals, system: System, text: &str) -> Result<(), PlanFault>
     requires { signals.old ≡ [] }
     ensures { DoneOr (is_first_listed system (between_commas text.now) ≡ true)
         (λ e. signals_coded system text.now ≡ Err e)
@@ -321,7 +320,7 @@ fn read_codes(signals: &mut Signals, system: System, text: &str) -> Added
 }
 
 // Appends the signal of a code.
-fn add_code(signals: &mut Signals, system: System, code: &str) -> Added
+fn add_code(signals: &mut Signals, system: System, code: &str) -> Result<(), PlanFault>
     requires { IsOf system signals.old }
     ensures { DoneOr (MayTakeCode system code.now signals.old) (RefusesCode system code.now signals.old)
         (TakesCode system code.now signals.old signals.new) result }

@@ -6,7 +6,7 @@ ghost use Rattle.gnss_system.specs.Signals.{SignalAt, signal_at};
 ghost use Rattle.gnss_obs.specs.Order.{Rise};
 ghost use Rattle.gnss_obs.specs.Plans.{place_in, planned_signal};
 ghost use Rattle.gnss_obs.specs.SignalLists.{indices};
-ghost use Rattle.gnss_obs.specs.inner.SignalLists.{IsAdded, IsOf};
+ghost use Rattle.gnss_obs.specs.inner.SignalLists.{IsAppended, IsOf};
 
 use crate::order::{UNSORTED, least_next_after};
 use crate::signal::Signal;
@@ -64,7 +64,7 @@ impl Signals {
     /// `AllocError` if an allocation failed, which there is only for a new signal.
     pub fn add(&mut self, signal: Signal) -> Result<bool, AllocError>
         requires { IsOf signal.system self.old }
-        ensures new { result ≡ Ok true → IsAdded self.old signal self.new }
+        ensures new { result ≡ Ok true → IsAppended self.old signal self.new }
         ensures old { result ≡ Ok false
             → (self.new ≡ self.old) × (list_any (λ s. signal.index == s.index) self.old ≡ true) }
         ensures failed { OnErr result (self.new ≡ self.old) }

@@ -13,7 +13,7 @@ pub use Rattle.gnss_obs.specs.Plans.{place_in, with_channels}
 pub use Rattle.gnss_system.specs.Satellites.{letter, most_satellites, number_of, satellites, satellites as satellites_in, system_of_letter}
 pub use Rattle.gnss_system.specs.Systems.{index_of, is_system, systems, after, before}
 pub use Rattle.gnss_obs.specs.SignalLists.{indices}
-pub use Rattle.gnss_obs.specs.inner.SignalLists.{IsAdded, IsOf}
+pub use Rattle.gnss_obs.specs.inner.SignalLists.{IsAppended, IsOf}
 pub use Rattle.gnss_system.specs.Signals.{IsSignal, SignalAt, code_of, most_signals, signal_of_code, table}
 pub use Rattle.gnss_system.specs.SystemValues.{value_of, map_by, tabulate}
 unfoldable pub use Rattle.gnss_obs.specs.Values.{written_among}

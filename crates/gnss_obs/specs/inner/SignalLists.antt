@@ -19,8 +19,8 @@ pub record IsOf (system : System) (ss : List SignalAt) : Type 0 where
   pub apart : IsDistinct nat_eq (indices ss)
 
 -- The list after one more signal, which isn't among those before it.
-abbrev pub IsAdded : List SignalAt → SignalAt → List SignalAt → Type 0
-IsAdded before s after =
+abbrev pub IsAppended : List SignalAt → SignalAt → List SignalAt → Type 0
+IsAppended before s after =
     (after ≡ before ++ s ∷ []) × (list_any (λ r. s.index == r.index) before ≡ false) × IsOf s.system after
 
 -- For each index in the longest table: the index of that signal among the planned ones.

@@ -1,6 +1,6 @@
 use Rattle.rinex_file.proofs.Judged.{at_some}
 use Rattle.rinex_file.proofs.HeaderRows.Types.{IsInLine, still_grows, read_here, index_read, taken_more, taken_before}
-use Rattle.rinex_file.proofs.Names.{unmapped, arith, ◌≡◌, ◌∙◌, sym, ap, refl, subst, none-some, ℕ, List, [], ◌∷◌, length, take, min, ◌+◌, ◌<◌, ◌≤◌, Ok, take_at, take_min, System, SignalAt, IsSignal, AreTypes, types_line, signals_begun, table, indices, IsAdded, IsOf, length_push, short_table}
+use Rattle.rinex_file.proofs.Names.{unmapped, arith, ◌≡◌, ◌∙◌, sym, ap, refl, subst, none-some, ℕ, List, [], ◌∷◌, length, take, min, ◌+◌, ◌<◌, ◌≤◌, Ok, take_at, take_min, System, SignalAt, IsSignal, AreTypes, types_line, signals_begun, table, indices, IsAppended, IsOf, length_push, short_table}
 use Rattle.rinex_file.proofs.read.types.take_signals.Goals as goal
 
 -- the index of the signal is below that of the first one of the next line, and there are that many
@@ -22,7 +22,7 @@ returns-then-not-branch-clause-bad c = λ refused before all l size.
 pub loop-place-preserved : goal.loop-place-preserved
 loop-place-preserved c =
     let inv = c.loop-place.invariant in
-    let added : IsAdded c.loop-place.signals _ c.add.new.self = c.add.ensures.new (unmapped _ _ _ _ c.map_err.ensures.cases c.in_ok-map_err.was ∙ ap Ok c.if-not-branch.false) in
+    let added : IsAppended c.loop-place.signals _ c.add.new.self = c.add.ensures.new (unmapped _ _ _ _ c.map_err.ensures.cases c.in_ok-map_err.was ∙ ap Ok c.if-not-branch.false) in
     record {
       of = subst (λ (t : System). IsOf t c.add.new.self) (at_some _ _ (λ (t : SignalAt). (t.system ≡ c.args.system) × IsSignal t) c.in_ok-signal.ensures.ok_part c.signal_in.ensures.system).0 added.2;
       grows = still_grows c.args.signals.now c.loop-place.signals c.add.new.self inv.grows (ap (take (length c.loop-place.signals)) added.0 ∙ take_at c.loop-place.signals (_ ∷ []) (length c.loop-place.signals) refl);
