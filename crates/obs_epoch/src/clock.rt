@@ -123,12 +123,13 @@ impl Clock {
             None if said.point.is_none() => Kind::Ignored,
             _ if !self.is_own(said) => Kind::OtherStation,
             None => Kind::Station,
-            Some(tow) => self.place(tow),
+            Some(tow) => self.outcome_at(tow),
         }
     }
 
-    // Processes observations of the station with this time of week in milliseconds.
-    fn place(&mut self, tow: u32) -> Kind
+    // Processes observations of the station with this time of week in milliseconds, and returns
+    // their outcome.
+    fn outcome_at(&mut self, tow: u32) -> Kind
         requires { tow < week }
         ensures kind { result ≡ kind_now self.old no_counts tow }
         ensures step { self.new ≡ open_at self.old tow }

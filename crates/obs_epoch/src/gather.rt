@@ -385,13 +385,13 @@ impl Gatherer {
             ≡ load_entries m.now.form m.now.msm.system (record { state = self.old; counts = no_counts })
             (entries (formed m.now)) }
     {
-        self.take_all::<S, F>(m.system(), &mut m.entries(), n);
+        self.load_entries::<S, F>(m.system(), &mut m.entries(), n);
     }
 
     // Keeps a cell of a planned signal, unless a cell of its key is kept or there is no room, and
     // counts its outcome. It is of an epoch of this time, and of an entry that has a phase or not.
     #[inline(always)]
-    fn take_cell(
+    fn load_cell(
         &mut self,
         system: System,
         time: u64,
@@ -426,7 +426,7 @@ impl Gatherer {
     // Processes the cells of a message of this system, which is `S`, and form `F`, and counts their
     // outcomes.
     // A function of its own: as a part of `load_as`, `convert` executes 2 % more instructions.
-    fn take_all<const S: usize, const F: usize>(
+    fn load_entries<const S: usize, const F: usize>(
         &mut self,
         system: System,
         cells: &mut Entries<'_>,
@@ -443,13 +443,13 @@ impl Gatherer {
         let (form, system) = (form_as::<F>(), system_as::<S>(system));
         let time = self.clock.time().milliseconds();
         while let Some(entry) = cells.next_in::<F>() {
-            self.take_entry(form, system, time, &entry, n);
+            self.load_entry(form, system, time, &entry, n);
         }
     }
 
     // Processes a cell of a message, and counts its outcome.
     #[inline(always)]
-    fn take_entry(
+    fn load_entry(
         &mut self,
         form: Form,
         system: System,
@@ -467,7 +467,7 @@ impl Gatherer {
     {
         match observe(&self.clock.setup().plan, form, system, entry) {
             None => n.skipped += 1,
-            Some(x) => self.take_cell(system, time, entry.phase.is_some(), x, n),
+            Some(x) => self.load_cell(system, time, entry.phase.is_some(), x, n),
         }
     }
 }

@@ -1,4 +1,4 @@
-use Rattle.obs_epoch.proofs.Names.{◌≡◌, ◌+◌, ◌<◌, ◌≤◌, ◌^◌, ◌++◌, length, HeardCell, AreSignalCounts, arith, false, refl, rules, ℕ, ◌-◌, ◌∙◌, List, get_or, nat_lt, ap, sym, subst, ids_within, entries, formed, value_count, satellite_set, has_id, id_of, signal_in, SignalAt, IsSignal, is_system}
+use Rattle.obs_epoch.proofs.Names.{◌≡◌, ◌+◌, ◌<◌, ◌≤◌, ◌++◌, length, HeardCell, AreSignalCounts, arith, false, refl, rules, ℕ, ◌-◌, ◌∙◌, List, get_or, nat_lt, ap, sym, subst, ids_within, entries, formed, value_count, satellite_set, has_id, id_of, signal_in, SignalAt, IsSignal, is_system}
 use Rattle.obs_epoch.proofs.SignalCountsLemmas.{few_valued}
 use Rattle.obs_epoch.proofs.SignalNumbers.{number, number_none, Adds, IsAny, adds_some, adds_none, any_some, any_same, all_any, finished, valued_msm}
 use Rattle.obs_epoch.proofs.signal_counts.SignalCounts.count_msm.Goals as goal

@@ -1,5 +1,5 @@
 use Rattle.obs_epoch.proofs.Names.{◌≡◌, ◌+◌, ◌≤◌, true, length, time_in, cells_counted, no_counts, load_entries}
-use Rattle.obs_epoch.proofs.gather.Gatherer.take_all.Given as goal
+use Rattle.obs_epoch.proofs.gather.Gatherer.load_entries.Given as goal
 
 abbrev pub invariant-loop-entry : goal.invariant-loop-entry
 invariant-loop-entry g l = record {

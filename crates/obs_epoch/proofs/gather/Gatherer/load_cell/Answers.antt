@@ -1,6 +1,6 @@
 use Rattle.obs_epoch.proofs.Names.{◌≡◌, ◌∙◌, sym, ap, ap₂, subst, not, Bool, true, false, is_some, ChannelsValue, hertz_in, GatherSetup, time_in, Cell, lacks_channel, planned_of, heard_cell, kept_cell, place_in, GathererValue, hold, outcome_in, count_in, lli_with, both_ways}
 use Rattle.obs_epoch.proofs.ValueLemmas.{gathered_of, held_is, open_is, outcome_is, planned_added, planned_is}
-use Rattle.obs_epoch.proofs.gather.Gatherer.take_cell.Goals as goal
+use Rattle.obs_epoch.proofs.gather.Gatherer.load_cell.Goals as goal
 
 pub invariant_of-self : goal.invariant_of-self
 invariant_of-self c =
