@@ -6,7 +6,7 @@ ghost use Rattle.devices.specs.inner.Delivering.{more_waits, none_waits};
 
 use arrayvec::ArrayVec;
 use std::fs::File;
-use std::io::{self, BufWriter, Cursor, Sink, Stderr, StderrLock, Stdout, StdoutLock, Write};
+use std::io::{self, BufWriter, Sink, Stderr, Stdout, Write};
 
 /// A writer in which no byte waits: it passes on each byte in `write`, or is itself where the bytes
 /// end, as a `Vec`.
@@ -98,24 +98,6 @@ impl<W: Deliver> Deliver for &mut W {
 
     fn deliver(&mut self) -> io::Result<()> {
         Deliver::deliver(&mut **self)
-    }
-}
-
-impl<W: Deliver> Deliver for Box<W> {
-    type Target = W::Target;
-
-    ghost target = { λ w. W.target w.value };
-
-    ghost waiting = { λ w. W.waiting w.value };
-
-    ghost parts = { λ w. W.parts w.value };
-
-    fn target(&self) -> &W::Target {
-        self.as_ref().target()
-    }
-
-    fn deliver(&mut self) -> io::Result<()> {
-        self.as_mut().deliver()
     }
 }
 
@@ -220,26 +202,6 @@ impl Deliver for Stdout {
     }
 }
 
-impl Destination for StdoutLock<'_> {}
-
-impl<'a> Deliver for StdoutLock<'a> {
-    type Target = StdoutLock<'a>;
-
-    ghost target = { λ w. w };
-
-    ghost waiting = { λ _. [] };
-
-    ghost parts = { λ w. none_waits (Self.contents w) };
-
-    fn target(&self) -> &StdoutLock<'a> {
-        self
-    }
-
-    fn deliver(&mut self) -> io::Result<()> {
-        self.flush()
-    }
-}
-
 impl Destination for Stderr {}
 
 impl Deliver for Stderr {
@@ -260,26 +222,6 @@ impl Deliver for Stderr {
     }
 }
 
-impl Destination for StderrLock<'_> {}
-
-impl<'a> Deliver for StderrLock<'a> {
-    type Target = StderrLock<'a>;
-
-    ghost target = { λ w. w };
-
-    ghost waiting = { λ _. [] };
-
-    ghost parts = { λ w. none_waits (Self.contents w) };
-
-    fn target(&self) -> &StderrLock<'a> {
-        self
-    }
-
-    fn deliver(&mut self) -> io::Result<()> {
-        self.flush()
-    }
-}
-
 impl Destination for Sink {}
 
 impl Deliver for Sink {
@@ -292,26 +234,6 @@ impl Deliver for Sink {
     ghost parts = { λ w. none_waits (Self.contents w) };
 
     fn target(&self) -> &Sink {
-        self
-    }
-
-    fn deliver(&mut self) -> io::Result<()> {
-        self.flush()
-    }
-}
-
-impl Destination for Cursor<Vec<u8>> {}
-
-impl Deliver for Cursor<Vec<u8>> {
-    type Target = Cursor<Vec<u8>>;
-
-    ghost target = { λ w. w };
-
-    ghost waiting = { λ _. [] };
-
-    ghost parts = { λ w. none_waits (Self.contents w) };
-
-    fn target(&self) -> &Cursor<Vec<u8>> {
         self
     }
 

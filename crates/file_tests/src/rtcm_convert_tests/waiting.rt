@@ -10,13 +10,14 @@ use devices_for_tests::{PieceReader, ReadEnd};
 use rtcm_convert::{Fault, Report};
 use std::alloc::Global;
 use std::io;
-use std::io::{Cursor, ErrorKind, Write};
+use std::io::{ErrorKind, Sink, Write};
 
 /// A writer that fails in one of its deliveries, counted from 1, and in no other.
 #[derive(Drop)]
 struct Holding {
     kept: Text,
-    delivered: Cursor<Vec<u8>>,
+    delivered: Vec<u8>,
+    device: Sink,
     fails_at: usize,
     deliveries: usize,
 }
@@ -25,7 +26,8 @@ impl Holding {
     fn new(alloc: Global, fails_at: usize) -> Holding {
         Holding {
             kept: Text::new(),
-            delivered: Cursor::new(Vec::new(alloc)),
+            delivered: Vec::new(alloc),
+            device: io::sink(),
             fails_at,
             deliveries: 0,
         }
@@ -51,16 +53,16 @@ impl Write for Holding {
 }
 
 impl Deliver for Holding {
-    type Target = Cursor<Vec<u8>>;
+    type Target = Sink;
 
-    ghost target = { λ h. h.delivered };
+    ghost target = { λ h. h.device };
 
     ghost waiting = { λ h. h.kept.items };
 
     ghost parts = { λ _. refl };
 
-    fn target(&self) -> &Cursor<Vec<u8>> {
-        &self.delivered
+    fn target(&self) -> &Sink {
+        &self.device
     }
 
     fn deliver(&mut self) -> io::Result<()> {
@@ -159,8 +161,7 @@ fn holds(alloc: Global, outcome: &Outcome) -> bool {
     let has_ended = run(alloc, outcome, &mut writer);
     let has_failed = writer.failures() == outcome.failures;
     let device = writer.into_inner();
-    let is_delivered = file().get(..outcome.delivered)
-        == Some(device.target().get_ref().as_slice());
+    let is_delivered = file().get(..outcome.delivered) == Some(device.delivered.as_slice());
     let is_kept = device.kept.len() == outcome.kept;
     drop(device);
     has_ended && has_failed && is_delivered && is_kept
