@@ -1,6 +1,6 @@
 -- Several bytes at once: the register is added to the first three of them; each byte has its own table, whose entries
 -- are the CRCs of that byte followed by zeros.
-use Rattle.rtcm_bits.proofs.Names.{◌≡◌, ℕ, ◌+◌, ◌-◌, ◌*◌, ◌/◌, ◌%◌, ◌^◌, ◌<◌, ◌≤◌, Bool, false, List, [], ◌∷◌, ◌++◌, length, drop, take, map, get_or, replicate, refl, sym, ap, ◌∙◌, arith, suc, zero, bit_and, bit_xor, length-append, lit<, lit≤, xor_zero_r, xor_comm, drop_more, length-drop, get_or-drop, get_or-map, get_or-take, length-take-le, replicate-append-replicate, xor_lt, and_mask, uint, bits_of, add_front, remainder, bits_remainder, crc, after_bits, TABLES, length-uint}
+use Rattle.rtcm_bits.proofs.Names.{◌≡◌, ℕ, ◌+◌, ◌-◌, ◌*◌, ◌/◌, ◌%◌, ◌^◌, ◌<◌, ◌≤◌, Bool, false, List, [], ◌∷◌, ◌++◌, length, drop, take, map, get_or, replicate, refl, sym, ap, ◌∙◌, arith, suc, zero, bit_and, bit_xor, length-append, lit<, lit≤, xor_zero_r, xor_comm, drop_more, length-drop, get_or-drop, get_or-map, get_or-take, length-take-le, replicate-append-replicate, xor_lt, and_mask, uint, bits_of, add_front, remainder, bits_remainder, crc, after_bits, ProcessesBits, TABLES, length-uint}
 use Rattle.rtcm_bits.proofs.RegisterBits.{uint-xor, uint-split}
 use Rattle.rtcm_bits.proofs.CheckLemmas.{divide_all, length-add_front}
 use Rattle.rtcm_bits.proofs.ResidueLemmas.{add_front-append}
@@ -40,18 +40,19 @@ entry_after j h =
     sym (get_or-drop 256 TABLES j 0) ∙ ap (λ (t : List ℕ). get_or t j 0) tables_go_on ∙ get_or-map next_entry (take 3840 TABLES) j 0 0 (omega (arith, h, length-take-le 3840 TABLES (lit≤ tt)))
     ∙ ap next_entry (get_or-take 3840 TABLES j 0 h)
 
-pub next_right : (x : ℕ) → x < 2 ^ 24 → (next_entry x < 2 ^ 24) × (uint 24 (next_entry x) ≡ after_bits (uint 24 x) (uint 8 0))
+pub next_right : (x : ℕ) → x < 2 ^ 24 → ProcessesBits (uint 8 0) x (next_entry x)
 next_right x b =
     let i : x / 65536 < 256 = omega (arith, b) in
     let e : get_or TABLES (x / 65536) 0 ≡ crc (bit_xor (x / 65536) 0 ∷ []) = table_right (x / 65536) i ∙ ap (λ (n : ℕ). crc (n ∷ [])) (sym (xor_zero_r (x / 65536))) in
     let l : bit_and x 65535 * 256 < 2 ^ 24 = omega (arith, and_mask x 16) in
-    let r : get_or TABLES (x / 65536) 0 < 2 ^ 24 = rw e (check_below (bit_xor (x / 65536) 0 ∷ [])) in (
-      xor_lt 24 (bit_and x 65535 * 256) (get_or TABLES (x / 65536) 0) l r,
-      table_step x (next_entry x) 0 (get_or TABLES (x / 65536) 0) b (lit< tt) e refl,
-    )
+    let r : get_or TABLES (x / 65536) 0 < 2 ^ 24 = rw e (check_below (bit_xor (x / 65536) 0 ∷ [])) in
+    record {
+      bound = xor_lt 24 (bit_and x 65535 * 256) (get_or TABLES (x / 65536) 0) l r;
+      steps = table_step x (next_entry x) 0 (get_or TABLES (x / 65536) 0) b (lit< tt) e refl;
+    }
 
 pub zero_after : (m : List ℕ) → next_entry (crc m) ≡ crc (m ++ 0 ∷ [])
-zero_after m = let r = next_right (crc m) (check_below m) in check_push m (crc m) (next_entry (crc m)) 0 refl r.0 r.1
+zero_after m = check_push m (crc m) (next_entry (crc m)) 0 refl (next_right (crc m) (check_below m))
 
 pub entry_right : (k i : ℕ) → i < 256 → k < 16 → get_or TABLES (k * 256 + i) 0 ≡ crc (i ∷ replicate k 0)
 entry_right zero i h l = let z : 0 * 256 + i ≡ i = omega arith in ap (λ (n : ℕ). get_or TABLES n 0) z ∙ table_right i h
@@ -72,7 +73,7 @@ entry_more xs k s e h p q = grind (arith, length-drop, front_sum, drop_more)
 pub some_right : {x k s u v w : ℕ} (xs : List ℕ) → x < 2 ^ 24 → 3 ≤ length xs → k ≡ length xs - 3 → s ≡ crc (drop (length xs - k) xs)
     → u ≡ crc (bit_xor (x % 256) (get_or xs 2 0) ∷ replicate (length xs - 3) 0) → v ≡ crc (bit_xor (x / 256 % 256) (get_or xs 1 0) ∷ replicate (length xs - 2) 0)
     → w ≡ crc (bit_xor (x / 65536) (get_or xs 0 0) ∷ replicate (length xs - 1) 0)
-    → (bit_xor (bit_xor (bit_xor s u) v) w < 2 ^ 24) × (uint 24 (bit_xor (bit_xor (bit_xor s u) v) w) ≡ after_bits (uint 24 x) (bits_of xs))
+    → ProcessesBits (bits_of xs) x (bit_xor (bit_xor (bit_xor s u) v) w)
 some_right [] h l i p q r t = absurd (omega (arith, l))
 some_right (a ∷ []) h l i p q r t = absurd (omega (arith, l))
 some_right (a ∷ b ∷ []) h l i p q r t = absurd (omega (arith, l))
@@ -84,7 +85,8 @@ some_right {x} {k} {s} {u} {v} {w} (a ∷ b ∷ c ∷ rest) h l i p q r t =
     let low : ℕ = bit_xor (x % 256) c in
     let g : bit_xor (bit_xor (bit_xor s u) v) w ≡ crc (hi ∷ mid ∷ low ∷ rest) =
     front_sum hi (n - 1) _ w (mid ∷ low ∷ rest) (omega arith) (front_sum mid (n - 2) _ v (low ∷ rest) (omega arith)
-    (front_sum low (n - 3) s u rest (omega arith) (p ∙ ap (λ (m : ℕ). crc (drop m (a ∷ b ∷ c ∷ rest))) d) q) r) t in (
-      rw g (check_below (hi ∷ mid ∷ low ∷ rest)),
-      ap (uint 24) g ∙ sym (into_bytes x (x / 65536) a b c rest (omega arith)),
-    )
+    (front_sum low (n - 3) s u rest (omega arith) (p ∙ ap (λ (m : ℕ). crc (drop m (a ∷ b ∷ c ∷ rest))) d) q) r) t in
+    record {
+      bound = rw g (check_below (hi ∷ mid ∷ low ∷ rest));
+      steps = ap (uint 24) g ∙ sym (into_bytes x (x / 65536) a b c rest (omega arith));
+    }

@@ -27,7 +27,7 @@ eight_zeros : (x : ℕ) → x < 2 ^ 24 → uint 24 (next_entry x) ≡ remainder 
 unfolding uint
 eight_zeros x h =
     let l : length (uint 24 x) ≡ 24 = length-uint 24 x in
-    (next_right x h).1 ∙ sym (divide_all (uint 24 x) (replicate 8 false) l) ∙ ap (remainder 8) (to_end (uint 24 x) l)
+    (next_right x h).steps ∙ sym (divide_all (uint 24 x) (replicate 8 false) l) ∙ ap (remainder 8) (to_end (uint 24 x) l)
 
 next_sum : (x y : ℕ) → x < 2 ^ 24 → y < 2 ^ 24 → next_entry (bit_xor x y) ≡ bit_xor (next_entry x) (next_entry y)
 unfolding add_front
@@ -40,7 +40,7 @@ next_sum x y h k =
     let s : bit_xor x y < 2 ^ 24 = xor_lt 24 x y h k in
     let p : length (uint 24 x ++ replicate 8 false) ≡ 32 = length-append a z ∙ ap (λ (n : ℕ). n + 8) la in
     let q : length (uint 24 y ++ replicate 8 false) ≡ 32 = length-append b z ∙ ap (λ (n : ℕ). n + 8) lb in
-    number_is (next_entry (bit_xor x y)) (bit_xor (next_entry x) (next_entry y)) (next_right (bit_xor x y) s).0 (xor_lt 24 (next_entry x) (next_entry y) (next_right x h).0 (next_right y k).0)
+    number_is (next_entry (bit_xor x y)) (bit_xor (next_entry x) (next_entry y)) (next_right (bit_xor x y) s).bound (xor_lt 24 (next_entry x) (next_entry y) (next_right x h).bound (next_right y k).bound)
     (eight_zeros (bit_xor x y) s ∙ ap (λ (t : List Bool). remainder 8 (t ++ replicate 8 false)) (uint-xor 24 x y)
     ∙ ap (remainder 8) (sym (add_split a b z z (la ∙ sym lb)))
     ∙ remainder_sum 8 (a ++ z) (b ++ z) (p ∙ sym q) (omega (arith, p))

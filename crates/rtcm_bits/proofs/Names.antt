@@ -9,6 +9,7 @@ unfoldable pub use Rattle.rtcm_bits.specs.inner.Folding.{add_bytes, fold_into}
 pub use Rattle.rtcm_bits.specs.inner.Folding.{Sixes}
 pub use Rattle.rtcm_bits.specs.FrameOf.{frame_bytes}
 unfoldable pub use Rattle.rtcm_bits.specs.inner.Register.{after_bit, after_bits}
+pub use Rattle.rtcm_bits.specs.inner.Register.{ProcessesBits}
 pub use Rattle.rtcm_bits.specs.Window.{WindowValue, counts_alone, filled_up, held_of, looked, looked_through, nothing_held, pushed, pushed_all, without_front}
 pub use Rattle.rtcm_bits.specs.declared.tables.TheConstants.{TABLES}
 pub use Rattle.std.proofs.Common.{Bool, List, Option, Some, [], add-zero, ap, arith, bit_and, bit_xor, drop, eqb, false, get_or, inl, inr, length, length-append, length-take, lit<, lit≤, map, max, min, negsuc, of_z, pos, refl, replicate, rules, slice_index, slice_range, slice_set, subst, suc, sym, take, to_z, true, vec_capacity, zero, ℕ, ℤ, ⊎_elim, ◌%◌, ◌*◌, ◌++◌, ◌+◌, ◌-◌, ◌/◌, ◌<◌, ◌^◌, ◌∙◌, ◌∷◌, ◌≡◌, ◌≢◌, ◌≤◌}

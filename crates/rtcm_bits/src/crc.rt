@@ -4,7 +4,7 @@ ghost use Rattle.std.specs.Prelude.{◌≡◌, ◌+◌, ◌*◌, ◌^◌, ◌<�
 ghost use Rattle.rtcm_bits.specs.Bits.{uint, bits_of};
 ghost use Rattle.rtcm_bits.specs.Crc.{crc};
 ghost use Rattle.rtcm_bits.specs.inner.Folding.{fold_into};
-ghost use Rattle.rtcm_bits.specs.inner.Register.{after_bits};
+ghost use Rattle.rtcm_bits.specs.inner.Register.{ProcessesBits};
 
 use crate::folding::Folded;
 use crate::tables::entry;
@@ -70,8 +70,7 @@ pub fn crc24q(bytes: &[u8]) -> u32
 /// Returns the register after these bytes. A long message is folded first.
 fn after_all(register: u32, bytes: &[u8]) -> u32
     requires { register < 2 ^ 24 }
-    ensures bound { result < 2 ^ 24 }
-    ensures steps { uint 24 result ≡ after_bits (uint 24 register) (bits_of bytes.now) }
+    ensures { ProcessesBits (bits_of bytes.now) register result }
 {
     if bytes.len() < SHORTEST_FOLDED {
         return after_short(register, bytes);
@@ -83,8 +82,7 @@ fn after_all(register: u32, bytes: &[u8]) -> u32
 /// one by one.
 fn after_short(register: u32, bytes: &[u8]) -> u32
     requires { register < 2 ^ 24 }
-    ensures bound { result < 2 ^ 24 }
-    ensures steps { uint 24 result ≡ after_bits (uint 24 register) (bits_of bytes.now) }
+    ensures { ProcessesBits (bits_of bytes.now) register result }
 {
     let mut after = register;
     let mut taken = 0;
@@ -99,8 +97,7 @@ fn after_short(register: u32, bytes: &[u8]) -> u32
 fn after_long(register: u32, bytes: &[u8]) -> u32
     requires below { register < 2 ^ 24 }
     requires long { 96 ≤ length bytes.now }
-    ensures bound { result < 2 ^ 24 }
-    ensures steps { uint 24 result ≡ after_bits (uint 24 register) (bits_of bytes.now) }
+    ensures { ProcessesBits (bits_of bytes.now) register result }
 {
     let mut folded = Folded::new(register);
     let mut taken = 0;
@@ -155,8 +152,7 @@ fn after_folded(start: Folded, bytes: &[u8]) -> u32
 /// the rest one by one.
 fn after_fewer(register: u32, bytes: &[u8]) -> u32
     requires { register < 2 ^ 24 }
-    ensures bound { result < 2 ^ 24 }
-    ensures steps { uint 24 result ≡ after_bits (uint 24 register) (bits_of bytes.now) }
+    ensures { ProcessesBits (bits_of bytes.now) register result }
 {
     if bytes.len() < 8 {
         return after_each(register, bytes);
@@ -167,8 +163,7 @@ fn after_fewer(register: u32, bytes: &[u8]) -> u32
 /// Returns the register after these bytes, processed one by one.
 fn after_each(register: u32, bytes: &[u8]) -> u32
     requires { register < 2 ^ 24 }
-    ensures bound { result < 2 ^ 24 }
-    ensures steps { uint 24 result ≡ after_bits (uint 24 register) (bits_of bytes.now) }
+    ensures { ProcessesBits (bits_of bytes.now) register result }
 {
     let mut after = register;
     for byte in bytes {
@@ -184,8 +179,7 @@ fn after_each(register: u32, bytes: &[u8]) -> u32
 fn after_some(register: u32, bytes: &[u8]) -> u32
     requires below { register < 2 ^ 24 }
     requires some { (3 ≤ length bytes.now) × (length bytes.now ≤ 16) }
-    ensures bound { result < 2 ^ 24 }
-    ensures steps { uint 24 result ≡ after_bits (uint 24 register) (bits_of bytes.now) }
+    ensures { ProcessesBits (bits_of bytes.now) register result }
 {
     let first = (register / 65536) as u8 ^ bytes[0];
     let second = (register / 256 % 256) as u8 ^ bytes[1];
@@ -201,8 +195,7 @@ fn after_some(register: u32, bytes: &[u8]) -> u32
 /// Returns the register after the eight bits of a byte, by the first table.
 fn by_table(register: u32, byte: u8) -> u32
     requires { register < 2 ^ 24 }
-    ensures bound { result < 2 ^ 24 }
-    ensures steps { uint 24 result ≡ after_bits (uint 24 register) (uint 8 byte) }
+    ensures { ProcessesBits (uint 8 byte) register result }
 {
     let index = (register >> 16) as u8 ^ byte;
     ((register & 0xFFFF) << 8) ^ entry(0, index)

@@ -11,8 +11,5 @@ loop-k-init c =
 pub loop-k-preserved : goal.loop-k-preserved
 loop-k-preserved c = entry_more c.args.bytes.now c.loop-k.k c.loop-k.sum c.entry-sum.result (omega arith) c.loop-k.invariant c.entry-sum.ensures.value
 
-pub returns-clause-bound : goal.returns-clause-bound
-returns-clause-bound c = (some_right {k = c.loop-k.k} c.args.bytes.now c.requires.below c.requires.some.0 (omega arith) c.loop-k.invariant c.entry.ensures.value c.entry-2.ensures.value c.entry-3.ensures.value).0
-
-pub returns-clause-steps : goal.returns-clause-steps
-returns-clause-steps c = (some_right {k = c.loop-k.k} c.args.bytes.now c.requires.below c.requires.some.0 (omega arith) c.loop-k.invariant c.entry.ensures.value c.entry-2.ensures.value c.entry-3.ensures.value).1
+pub returns : goal.returns
+returns c = some_right {k = c.loop-k.k} c.args.bytes.now c.requires.below c.requires.some.0 (omega arith) c.loop-k.invariant c.entry.ensures.value c.entry-2.ensures.value c.entry-3.ensures.value
