@@ -1,5 +1,5 @@
 -- The calls of a window and its ring, as the contracts state them.
-use Rattle.rtcm_bits.proofs.Names.{◌≡◌, ◌≢◌, ℕ, ◌+◌, ◌-◌, ◌<◌, ◌≤◌, min, max, List, ◌++◌, length, take, drop, slice_index, slice_range, slice_set, refl, sym, ap, ◌∙◌, arith, suc, zero, length-append, length-drop, length-set, cases_lt, drop-append-le, drop-drop, drop-set-add, get_or-drop, take_all, take_rest, take-append-add, drop-append-add, Buffer, buffer, WindowValue, held_of, counts_alone, looked_through, without_front}
+use Rattle.rtcm_bits.proofs.Names.{◌≡◌, ℕ, ◌+◌, ◌-◌, ◌<◌, ◌≤◌, min, max, List, ◌++◌, length, take, drop, slice_index, slice_range, slice_set, refl, sym, ap, ◌∙◌, arith, suc, zero, length-drop, length-set, cases_lt, drop-append-le, drop-drop, drop-set-add, get_or-drop, take_all, take_rest, take-append-add, drop-append-add, Buffer, buffer, WindowValue, held_of, counts_alone, looked_through, without_front}
 
 -- the counts of a range don't depend on the bytes, nor on the sum of all looks
 pub through_counts : (b xs : List ℕ) (e m start n : ℕ) → e ≤ 18446744073709551615 →
@@ -96,8 +96,3 @@ range_past f b s n from e l = grind (arith, range_seam, range_second, cases_lt)
 pub all_taken : (b b' : Buffer ℕ) (more : List ℕ) (n : ℕ) → length b.items + length more ≤ b.capacity → n ≡ min (length more) (b.capacity - length b.items)
     → b' ≡ buffer (b.items ++ take n more) b.capacity → b' ≡ buffer (b.items ++ more) b.capacity
 all_taken b b' more n h e g = grind (arith, take_all)
-
--- a search in two consecutive lists
-pub others_on : {w : List ℕ} {n byte : ℕ} (f b : List ℕ) → f ++ b ≡ w → n ≤ length f + length b → ((i : ℕ) → i < n → slice_index (f ++ b) i ≢ byte)
-    → (n < length f + length b → slice_index (f ++ b) n ≡ byte) → (n ≤ length w) × ((i : ℕ) → i < n → slice_index w i ≢ byte) × (n < length w → slice_index w n ≡ byte)
-others_on f b e h o s = grind (arith, length-append)

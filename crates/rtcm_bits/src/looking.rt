@@ -2,7 +2,7 @@
 ghost use Rattle.std.specs.Prelude.{◌≡◌, ◌≢◌, ◌+◌, ◌-◌, ◌*◌, ◌<◌, ◌≤◌, ◌++◌, ℕ, length, drop, slice_index, slice_range, max};
 ghost use Rattle.std.specs.Vec.{vec_capacity};
 ghost use Rattle.rtcm_bits.specs.FrameOf.{longest_frame};
-ghost use Rattle.rtcm_bits.specs.Window.{looked_through, counts_alone, filled_up};
+ghost use Rattle.rtcm_bits.specs.Window.{IsFirstOf, looked_through, counts_alone, filled_up};
 
 use crate::framing::LONGEST_FRAME;
 
@@ -120,9 +120,7 @@ pub(crate) fn part_of<'a>(
 
 /// Returns the number of bytes of two consecutive slices before the first one equal to `byte`.
 pub(crate) fn others_in(front: &[u8], back: &[u8], byte: u8) -> usize
-    ensures within { result ≤ length front.now + length back.now }
-    ensures others { (i : ℕ) → i < result → slice_index (front.now ++ back.now) i ≢ byte }
-    ensures stops { result < length front.now + length back.now → slice_index (front.now ++ back.now) result ≡ byte }
+    ensures { IsFirstOf byte (front.now ++ back.now) result }
 {
     let n = others_before(front, byte);
     if n < front.len() {
@@ -136,9 +134,7 @@ pub(crate) fn others_in(front: &[u8], back: &[u8], byte: u8) -> usize
 /// those before it are others.
 // Four bytes a turn take 2.8 instructions a byte, one a turn takes 5.
 fn others_before(bytes: &[u8], byte: u8) -> usize
-    ensures within { result ≤ length bytes.now }
-    ensures others { (i : ℕ) → i < result → slice_index bytes.now i ≢ byte }
-    ensures stops { result < length bytes.now → slice_index bytes.now result ≡ byte }
+    ensures { IsFirstOf byte bytes.now result }
 {
     let turns = bytes.len() / 4;
     for turn in 0..turns {
@@ -164,9 +160,7 @@ fn others_before(bytes: &[u8], byte: u8) -> usize
 fn others_from(bytes: &[u8], start: usize, byte: u8) -> usize
     requires within { start ≤ length bytes.now }
     requires others { (i : ℕ) → i < start → slice_index bytes.now i ≢ byte }
-    ensures within { result ≤ length bytes.now }
-    ensures others { (i : ℕ) → i < result → slice_index bytes.now i ≢ byte }
-    ensures stops { result < length bytes.now → slice_index bytes.now result ≡ byte }
+    ensures { IsFirstOf byte bytes.now result }
 {
     for i in start..bytes.len() {
         if bytes[i] == byte {

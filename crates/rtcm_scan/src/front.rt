@@ -1,8 +1,8 @@
 //! The candidate at the front of the held bytes: its held bytes are read, and then it is decided.
-ghost use Rattle.std.specs.Prelude.{◌≡◌, ◌≢◌, ◌+◌, ◌-◌, ◌<◌, ◌≤◌, ℕ, [], min, length, slice_index, take};
+ghost use Rattle.std.specs.Prelude.{◌≡◌, ◌+◌, ◌-◌, ◌<◌, ◌≤◌, ℕ, [], min, length, slice_index, take};
 ghost use Rattle.rtcm_scan.specs.inner.Candidate.{HasTaken, wanted_by};
 ghost use Rattle.rtcm_bits.specs.FrameOf.{preamble};
-ghost use Rattle.rtcm_bits.specs.Window.{looked_through, without_front};
+ghost use Rattle.rtcm_bits.specs.Window.{IsFirstOf, looked_through, without_front};
 ghost use Rattle.rtcm_scan.specs.inner.Results.{ComesTo};
 
 use crate::candidate::Candidate;
@@ -71,8 +71,7 @@ fn examine_header(window: &mut Window, candidate: &mut Candidate)
 /// and so is the preamble, which begins the candidate.
 pub(crate) fn pass_others(window: &mut Window, candidate: &mut Candidate) -> usize
     requires { HasTaken candidate.old [] }
-    ensures within { result ≤ length window.old.bytes }
-    ensures others { (i : ℕ) → i < result → slice_index window.old.bytes i ≢ preamble }
+    ensures first { IsFirstOf preamble window.old.bytes result }
     ensures taken { HasTaken candidate.new (take candidate.new.count window.new.bytes) }
     ensures count { candidate.new.count ≡ min 1 (length window.old.bytes - result) }
     ensures window { window.new ≡ without_front (looked_through window.old 0 (result + candidate.new.count)) result }

@@ -5,7 +5,7 @@ use Rattle.rtcm_scan.proofs.framer.Framer.pass_over.Goals as goal
 pub returns-clause-history : goal.returns-clause-history
 returns-clause-history c = λ b fs s.
     let o = c.pass_others.ensures in
-    let p = passed_on c.self.inside.place c.pass_others.new.candidate.count c.self.view_is c.requires c.drop_front.ensures o.window o.within o.others in
+    let p = passed_on c.self.inside.place c.pass_others.new.candidate.count c.self.view_is c.requires c.drop_front.ensures o.window o.first.within o.first.others in
     let k : length c.drop_front.new.self.bytes ≡ length (passed c.args.self.now).held =
     ap (λ w. length w.bytes) c.drop_front.ensures ∙ ap (λ (v : FramerValue). length (drop 1 v.held)) c.self.view_is in
     rw p.0 (to_counts (passed c.args.self.now) c.pass_others.new.candidate.count refl p.1 p.2 (omega (arith, o.count, k)) s)
@@ -21,7 +21,7 @@ returns-clause-same c =
     record {
       held = omega (arith, d, k, l, m);
       limit = ap (λ (v : FramerValue). v.limit) c.self.view_is;
-      taken = omega (arith, d, k, l, t, o.within, c.requires);
+      taken = omega (arith, d, k, l, t, o.first.within, c.requires);
       ended = ap (λ (v : FramerValue). v.has_ended) c.self.view_is;
     }
 
@@ -35,7 +35,7 @@ invariant_of-self c =
     let g : c.self.inside.given_up ≤ c.self.inside.place = c.self.invariant.2 in
     let m : length c.self.inside.window.bytes ≤ longest_frame = c.self.invariant.3 in
     let some : 0 < length c.self.inside.window.bytes = omega (arith, l, c.requires) in (
-      omega (arith, d, k, i, some, o.within),
+      omega (arith, d, k, i, some, o.first.within),
       c.self.invariant.1,
       omega (arith, g),
       omega (arith, d, k, m),
