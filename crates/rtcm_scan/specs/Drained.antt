@@ -1,5 +1,6 @@
 -- A framer after everything that can be decided was decided.
-use Rattle.std.specs.Prelude.{◌≡◌, ℕ, Bool, true, false, List, drop}
+use Rattle.std.specs.Prelude.{◌≡◌, ◌<◌, ℕ, Bool, true, false, List, drop, length}
+use Rattle.rtcm_bits.specs.FrameOf.{longest_frame}
 use Rattle.rtcm_scan.specs.Frames.{Framed, frames_of}
 use Rattle.rtcm_scan.specs.Decided.{skipped_before}
 use Rattle.rtcm_scan.specs.Known.{known_place, known_frames}
@@ -29,3 +30,9 @@ pub record IsDrained (v : FramerValue) (b : List ℕ) (fs : List Framed) : Type 
 abbrev pub DecidesAll : FramerValue → FramerValue → Type 0
 DecidesAll old new =
     (b : List ℕ) (fs : List Framed) → HasExamined old b fs → HasExamined new b fs × IsDrained new b fs
+
+-- a call that finds no further frame: everything that can be decided is decided, and bytes may be pushed
+pub record FindsNone (old new : FramerValue) : Type 0 where
+  pub decided : DecidesAll old new
+  pub ready : new.is_ready ≡ true
+  pub room : length new.held < longest_frame

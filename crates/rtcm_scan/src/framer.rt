@@ -11,13 +11,13 @@ ghost use Rattle.rtcm_scan.specs.Frames.{Framed};
 ghost use Rattle.rtcm_scan.specs.Scan.{IsScannedOn, most_bytes, first_held, window_of};
 ghost use Rattle.rtcm_scan.specs.Scan.{with_window, with_byte, with_bytes};
 ghost use Rattle.rtcm_scan.specs.inner.Candidate.{HasTaken};
-ghost use Rattle.rtcm_scan.specs.Examined.{HasExamined, KeepsHistory, AcceptsBytes, ReturnsFrame};
+ghost use Rattle.rtcm_scan.specs.Examined.{HasExamined, KeepsHistory, AcceptsBytes, FindsFrame};
 ghost use Rattle.rtcm_scan.specs.inner.Pending.{asked, HasFrame, with_candidate_examined, passed};
 ghost use Rattle.rtcm_bits.specs.FrameOf.{longest_frame};
 ghost use Rattle.rtcm_bits.specs.Window.{looked_through, without_front};
 ghost use Rattle.rtcm_scan.specs.Decided.{most_undecided};
 ghost use Rattle.rtcm_scan.specs.Looks.{most_looks};
-ghost use Rattle.rtcm_scan.specs.Drained.{IsDrained, DecidesAll};
+ghost use Rattle.rtcm_scan.specs.Drained.{IsDrained, FindsNone};
 ghost use Rattle.rtcm_scan.specs.inner.Results.{framed, frame_at, push_result, push_all_result, decision, new_scan};
 
 use crate::candidate::Candidate;
@@ -269,12 +269,8 @@ impl Framer {
 
     /// Returns the next frame that the accepted bytes decide, or `None` if they decide no more.
     pub fn next(&mut self) -> Option<Frame>
-        ensures some { IfSome result (λ f. ReturnsFrame self.old self.new (framed f)) }
-        ensures none { IfNone result (DecidesAll self.old self.new) }
-        ensures ready { IfNone result (self.new.is_ready ≡ true) }
-        ensures room { IfNone result (length self.new.held < longest_frame) }
-        ensures waits { OnSome result (self.new.is_ready ≡ self.old.is_ready) }
-        ensures less { OnSome result (length self.new.held < length self.old.held) }
+        ensures some { IfSome result (λ f. FindsFrame self.old self.new (framed f)) }
+        ensures none { IfNone result (FindsNone self.old self.new) }
         ensures same { IsScannedOn self.old self.new }
     {
         let mut message = ArrayVec::new();
@@ -285,12 +281,8 @@ impl Framer {
     /// Returns the offset of the next frame, as [`next`](Framer::next) does, and replaces the
     /// buffer's content by its message. If there is no frame, the buffer is unchanged.
     pub fn next_into(&mut self, message: &mut ArrayVec<u8, LONGEST_MESSAGE>) -> Option<u64>
-        ensures some { IfSome result (λ offset. ReturnsFrame self.old self.new (frame_at offset message.new.items)) }
-        ensures none { IfNone result (DecidesAll self.old self.new) }
-        ensures ready { IfNone result (self.new.is_ready ≡ true) }
-        ensures room { IfNone result (length self.new.held < longest_frame) }
-        ensures waits { OnSome result (self.new.is_ready ≡ self.old.is_ready) }
-        ensures less { OnSome result (length self.new.held < length self.old.held) }
+        ensures some { IfSome result (λ offset. FindsFrame self.old self.new (frame_at offset message.new.items)) }
+        ensures none { IfNone result (FindsNone self.old self.new) }
         ensures kept { IfNone result (message.new ≡ message.old) }
         ensures same { IsScannedOn self.old self.new }
     {
@@ -303,9 +295,7 @@ impl Framer {
     fn seek(&mut self) -> Option<usize>
         ensures begins { IfSome result (HasFrame self.new) }
         ensures history { OnSome result (KeepsHistory self.old self.new) }
-        ensures none { IfNone result (DecidesAll self.old self.new) }
-        ensures ready { IfNone result (self.new.is_ready ≡ true) }
-        ensures room { IfNone result (length self.new.held < longest_frame) }
+        ensures none { IfNone result (FindsNone self.old self.new) }
         ensures waits { OnSome result (self.new.is_ready ≡ self.old.is_ready) }
         ensures same { IsScannedOn self.old self.new }
     {

@@ -7,13 +7,12 @@ pub returns-clause-some : goal.returns-clause-some
 returns-clause-some c =
     let f = c.in_ok-size.ensures.begins in
     let is = same_framed (frame_at c.take_frame.result c.take_frame.new.message.items) (found c.seek.new.self) c.take_frame.ensures.offset c.take_frame.ensures.message in
-    λ b fs s. counts_found c.seek.new.self c.take_frame.ensures.taken f.1 f.0 is f.2 (c.in_ok-size.ensures.history b fs s)
-
-pub returns-clause-less : goal.returns-clause-less
-returns-clause-less c =
-    let f = c.in_ok-size.ensures.begins in
     let l = less_found c.seek.new.self c.take_frame.new.self c.in_ok-size.size c.take_frame.ensures.taken f.1 f.0 in
-    omega (arith, l, c.in_ok-size.ensures.same.held)
+    record {
+      returned = λ b fs s. counts_found c.seek.new.self c.take_frame.ensures.taken f.1 f.0 is f.2 (c.in_ok-size.ensures.history b fs s);
+      waits = ap (λ (v : FramerValue). v.is_ready) c.take_frame.ensures.taken ∙ c.in_ok-size.ensures.waits;
+      less = omega (arith, l, c.in_ok-size.ensures.same.held);
+    }
 
 pub returns-clause-same : goal.returns-clause-same
 returns-clause-same c =

@@ -49,13 +49,13 @@ invariant_of-self c =
     let i = c.self-2.invariant in
     (i.0, i.1, i.2, i.3, λ e. omega (arith, l, room c), i.5, i.6)
 
-pub returns-clause-room : goal.returns-clause-room
-returns-clause-room c =
-    omega (arith, ap (λ (y : FramerValue). length y.held) c.self-2.view_is, room c)
-
 pub returns-clause-none : goal.returns-clause-none
-returns-clause-none c = λ b fs s. elim c.loop-self-test.branch [
-  | else-loop-self-test w ↦ finish_empty w.self-is (ap with_ready c.self-2.view_is) (omega (arith, c.held.ensures.value, w.loop-self-test.false)) (c.loop-self.invariant.history b fs s)
-  | then-loop-self-test+in-Open w ↦ (let o = from_open c.loop-self.self.has_ended c.loop-self.self.held w.in-Open.ensures.decision in
-      finish_open w.in-Open.ensures.examined w.self-is (ap with_ready c.self-2.view_is) o.2 (omega (arith, c.held.ensures.value, w.loop-self-test.true)) o.1 w.in-Open.ensures.tried (c.loop-self.invariant.history b fs s))
-]
+returns-clause-none c = record {
+  decided = λ b fs s. elim c.loop-self-test.branch [
+    | else-loop-self-test w ↦ finish_empty w.self-is (ap with_ready c.self-2.view_is) (omega (arith, c.held.ensures.value, w.loop-self-test.false)) (c.loop-self.invariant.history b fs s)
+    | then-loop-self-test+in-Open w ↦ (let o = from_open c.loop-self.self.has_ended c.loop-self.self.held w.in-Open.ensures.decision in
+        finish_open w.in-Open.ensures.examined w.self-is (ap with_ready c.self-2.view_is) o.2 (omega (arith, c.held.ensures.value, w.loop-self-test.true)) o.1 w.in-Open.ensures.tried (c.loop-self.invariant.history b fs s))
+  ];
+  ready = refl;
+  room = omega (arith, ap (λ (y : FramerValue). length y.held) c.self-2.view_is, room c);
+}
