@@ -36,6 +36,7 @@ pub use Rattle.rtcm_msg.specs.declared.data.Satellite.{Satellite}
 pub use Rattle.rtcm_msg.specs.declared.entry.Entry.{Entry}
 pub use Rattle.rtcm_msg.specs.declared.fault.MsgFault.{MsgFault}
 pub use Rattle.rtcm_msg.specs.declared.fault.MsgFault.TheVariants.{BadTime, Short, TooManyCells}
+pub use Rattle.rtcm_msg.specs.declared.fault.ValueFault.TheVariants.{OutOfRange}
 pub use Rattle.rtcm_msg.specs.declared.header.MsmHeader.{MsmHeader}
 pub use Rattle.rtcm_msg.specs.declared.message.Message.{Message}
 pub use Rattle.rtcm_msg.specs.declared.number.Kind.{Kind}
@@ -50,7 +51,7 @@ pub use Rattle.rtcm_msg.specs.inner.Forms.{cell_fault, rateless, rateless_number
 pub use Rattle.rtcm_msg.specs.inner.LastBits.{AreLast}
 pub use Rattle.rtcm_msg.specs.inner.Pairs.{AreAll, ArePairs, HasFirst, IndicesAreBelow, all_pairs_from, cell_pairs_left, pairs_from, pairs_left}
 pub use Rattle.rtcm_msg.specs.inner.Ranges.{fits_int}
-pub use Rattle.rtcm_msg.specs.inner.Refusals.{first_of, header_fault, msm_refusal, out_of_range, station_fault}
+pub use Rattle.rtcm_msg.specs.inner.Refusals.{first_of, header_fault, msm_refusal, station_fault}
 unfoldable pub use Rattle.rtcm_msg.specs.inner.Rows.{end_of_rows, row_at}
 pub use Rattle.rtcm_msg.specs.inner.Rows.{numbers_in, rows_at}
 pub use Rattle.rtcm_msg.specs.inner.ValueCounts.{AddsCounts, AreAtMost, AreCells, entries_left, has_id, has_listed_value, value_count}
@@ -70,7 +71,7 @@ pub use Rattle.std.specs.Int.Bits.{bit_xor, xor_add_and}
 unfoldable pub use Rattle.std.specs.Int.Count.{ones, ones_in}
 pub use Rattle.std.specs.Int.Count.{count_leading_zeros}
 pub use Rattle.std.specs.List.{AllByRecursion, enumerate_from, find, flat_map, list_any, zip}
-pub use Rattle.std.specs.Prelude.{IfSome, cond, slice_index}
+pub use Rattle.std.specs.Prelude.{IfSome, cond, option_map, slice_index}
 pub use Rattle.gnss_system.specs.SystemValues.{value_of}
 pub use Rattle.gnss_system.specs.Systems.{systems}
 pub use Rattle.rtcm_msg.specs.Sets.{is_in_set}

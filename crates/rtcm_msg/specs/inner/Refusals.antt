@@ -1,6 +1,7 @@
 -- The parts that make a value, and the first fault of others.
 use Rattle.std.specs.Prelude.{ℕ, Bool, List, [], ◌∷◌, length, ◌^◌, ◌==◌, ◌&&◌, nat_lt, nat_le, if◌then◌else◌, not, Option, Some, None}
-use Rattle.std.specs.Prelude.{Result, Ok, Err, count_ones}
+use Rattle.std.specs.Prelude.{Result, Ok, Err, count_ones, option_map}
+use Rattle.std.specs.Option.{option_or}
 use Rattle.gnss_system.specs.declared.system.System.{System}
 use Rattle.rtcm_msg.specs.declared.fault.Field.{Field}
 use Rattle.rtcm_msg.specs.declared.header.MsmHeader.{MsmHeader}
@@ -25,13 +26,10 @@ first_of (x ∷ xs) = if x.0 then Some x.1 else first_of xs
 -- The first field of a station message, in the order of the layout, that is out of range.
 abbrev pub station_fault : StationParts → Option Field
 station_fault s =
-    if nat_le (2 ^ 12) s.station then Some fields.Station
-    else (if nat_le (2 ^ 6) s.realization then Some fields.Realization
-    else (if not (fits_int 38 s.x) then Some fields.X
-    else (if not (fits_int 38 s.y) then Some fields.Y
-    else (if nat_le (2 ^ 2) s.quarter then Some fields.Quarter
-    else (if not (fits_int 38 s.z) then Some fields.Z
-    else None)))))
+    first_of
+    ((nat_le (2 ^ 12) s.station, fields.Station) ∷ (nat_le (2 ^ 6) s.realization, fields.Realization)
+    ∷ (not (fits_int 38 s.x), fields.X) ∷ (not (fits_int 38 s.y), fields.Y)
+    ∷ (nat_le (2 ^ 2) s.quarter, fields.Quarter) ∷ (not (fits_int 38 s.z), fields.Z) ∷ [])
 
 abbrev pub station_made : Option Field → StationParts → Result StationParts ValueFault
 station_made None s = Ok s
@@ -40,28 +38,17 @@ station_made (Some f) s = Err (faults.OutOfRange f)
 -- The first field of a header other than the epoch time, in the order of the layout, that is out of range.
 abbrev pub header_fault : MsmHeader → Option Field
 header_fault h =
-    if nat_le (2 ^ 12) h.station then Some fields.Station
-    else (if nat_le (2 ^ 3) h.iods then Some fields.Iods
-    else (if nat_le (2 ^ 2) h.steering then Some fields.Steering
-    else (if nat_le (2 ^ 2) h.clock then Some fields.Clock
-    else (if nat_le (2 ^ 3) h.interval then Some fields.Interval
-    else None))))
-
--- The first of two faults.
-abbrev pub first_field : Option Field → Option Field → Option Field
-first_field None g = g
-first_field (Some f) g = Some f
-
-abbrev pub out_of_range : Option Field → Option ValueFault
-out_of_range None = None
-out_of_range (Some f) = Some (faults.OutOfRange f)
+    first_of
+    ((nat_le (2 ^ 12) h.station, fields.Station) ∷ (nat_le (2 ^ 3) h.iods, fields.Iods)
+    ∷ (nat_le (2 ^ 2) h.steering, fields.Steering) ∷ (nat_le (2 ^ 2) h.clock, fields.Clock)
+    ∷ (nat_le (2 ^ 3) h.interval, fields.Interval) ∷ [])
 
 -- The fault for which parts are refused; the last two arguments are the first bad field of satellites and of cells.
 abbrev pub msm_refusal : System → MsmHeader → MasksValue → ℕ → ℕ → Option Field → Option Field → Option ValueFault
 msm_refusal system h s satellites cells satellite_fault cell_fault =
     if not (is_time system h.time) then Some faults.BadTime
     else (if (satellites == count_ones s.satellites) && (cells == count_ones s.cells)
-    then out_of_range (first_field (header_fault h) (first_field satellite_fault cell_fault))
+    then option_map faults.OutOfRange (option_or (option_or (header_fault h) satellite_fault) cell_fault)
     else Some faults.CellCount)
 
 -- The fault for which data of satellites and cells are refused; the functions give the first bad field of each.
