@@ -31,7 +31,7 @@ unfoldable pub use Rattle.rtcm_msg.specs.Station.{station_at}
 pub use Rattle.rtcm_msg.specs.Station.{InRange, common_fields, field_widths, height_at, height_fields, height_table, parts_in, station_contents, station_fields, station_parts, station_table}
 pub use Rattle.rtcm_msg.specs.Weeks.{sent_week, week_by, week_fields, week_place}
 pub use Rattle.rtcm_msg.specs.declared.data.Cell.{Cell}
-pub use Rattle.rtcm_msg.specs.declared.data.LastBits.{LastBits}
+pub use Rattle.rtcm_msg.specs.declared.layout.LastBits.{LastBits}
 pub use Rattle.rtcm_msg.specs.declared.data.Satellite.{Satellite}
 pub use Rattle.rtcm_msg.specs.declared.entry.Entry.{Entry}
 pub use Rattle.rtcm_msg.specs.declared.fault.MsgFault.{MsgFault}

@@ -5,7 +5,8 @@ ghost use Rattle.rtcm_msg.specs.Forms as forms;
 ghost use Rattle.rtcm_msg.specs.Forms.{IsSatelliteData, IsCellData, precision};
 ghost use Rattle.rtcm_msg.specs.declared.view.Form.{Form};
 
-use crate::data::{Cell, Satellite, rate};
+use crate::data::{Cell, Satellite};
+use crate::meaning::rate;
 use crate::view::{Form, form_as};
 
 /// A form of MSMs as a type, so that messages of two forms have two types. The functions are those

@@ -18,6 +18,7 @@
 //! ```
 #![tactic(auto)]
 
+mod bounds;
 mod channels;
 mod data;
 mod entry;
@@ -27,6 +28,8 @@ mod field;
 mod grid;
 mod header;
 pub mod laws;
+mod layout;
+mod meaning;
 mod message;
 mod msm;
 mod number;

@@ -10,7 +10,8 @@ ghost use Rattle.rtcm_msg.specs.Forms.{satellite_number, satellite_data, cell_nu
 ghost use Rattle.rtcm_msg.specs.inner.Forms.{satellite_fault, cell_fault};
 ghost use Rattle.rtcm_msg.specs.Numbers.{message_number};
 
-use crate::data::{Cell, HasFields, Satellite};
+use crate::bounds::HasFields;
+use crate::data::{Cell, Satellite};
 use crate::fault::ValueFault;
 use crate::grid::Grid;
 use crate::header::{MOST_PAIRS, Masks, MsmHeader, header_fault, is_time};

@@ -7,6 +7,10 @@ ghost use Rattle.rtcm_msg.specs.Forms.{cell_number, cell_data};
 ghost use Rattle.rtcm_msg.specs.inner.Forms.{rateless, rateless_number};
 
 use crate::data::{Cell, INVALID_FINE_RATE, INVALID_ROUGH_RATE, Satellite};
+use crate::layout::{
+    DF397, DF398, DF399, DF400, DF401, DF402, DF403, DF404, DF405, DF406, DF407, DF408, DF419,
+    DF420,
+};
 use crate::view::Form;
 use rtcm_bits::{raw_of, signed_of};
 
@@ -18,10 +22,11 @@ impl Form {
     {
         let whole = satellite.whole as u64;
         if self.has_rates() {
-            let number = whole * 16 + satellite.extended as u64;
-            (number * 1024 + satellite.fraction as u64) * 16384 + raw_of(satellite.rate as i64, 14)
+            let number = whole * (1 << DF419) + satellite.extended as u64;
+            let number = number * (1 << DF398) + satellite.fraction as u64;
+            number * (1 << DF399) + raw_of(satellite.rate as i64, DF399)
         } else {
-            whole * 1024 + satellite.fraction as u64
+            whole * (1 << DF398) + satellite.fraction as u64
         }
     }
 
@@ -32,16 +37,16 @@ impl Form {
     {
         if self.has_rates() {
             Satellite {
-                whole: (number / (1 << 28) % 256) as u8,
-                extended: (number / (1 << 24) % 16) as u8,
-                fraction: (number / 16384 % 1024) as u16,
-                rate: signed_of(number % 16384, 14) as i16,
+                whole: (number / (1 << (DF419 + DF398 + DF399)) % (1 << DF397)) as u8,
+                extended: (number / (1 << (DF398 + DF399)) % (1 << DF419)) as u8,
+                fraction: (number / (1 << DF399) % (1 << DF398)) as u16,
+                rate: signed_of(number % (1 << DF399), DF399) as i16,
             }
         } else {
             Satellite {
-                whole: (number / 1024 % 256) as u8,
+                whole: (number / (1 << DF398) % (1 << DF397)) as u8,
                 extended: 0,
-                fraction: (number % 1024) as u16,
+                fraction: (number % (1 << DF398)) as u16,
                 rate: INVALID_ROUGH_RATE,
             }
         }
@@ -54,7 +59,7 @@ impl Form {
     {
         let number = self.rateless_number(cell);
         if self.has_rates() {
-            number * 32768 + raw_of(cell.rate as i64, 15) as u128
+            number * (1 << DF404) + raw_of(cell.rate as i64, DF404) as u128
         } else {
             number
         }
@@ -67,15 +72,15 @@ impl Form {
         ensures bound { result < 2 ^ 65 }
     {
         if self.is_fine() {
-            let range = raw_of(cell.range as i64, 20);
-            let first = range * (1 << 24) + raw_of(cell.phase as i64, 24);
-            let number = (first as u128 * 1024 + cell.lock as u128) * 2 + cell.half_cycle as u128;
-            number * 1024 + cell.strength as u128
+            let range = raw_of(cell.range as i64, DF405);
+            let first = range * (1 << DF406) + raw_of(cell.phase as i64, DF406);
+            let number = first as u128 * (1 << DF407) + cell.lock as u128;
+            (number * 2 + cell.half_cycle as u128) * (1 << DF408) + cell.strength as u128
         } else {
-            let range = raw_of(cell.range as i64, 15);
-            let first = range * (1 << 22) + raw_of(cell.phase as i64, 22);
-            let number = (first as u128 * 16 + cell.lock as u128) * 2 + cell.half_cycle as u128;
-            number * 64 + cell.strength as u128
+            let range = raw_of(cell.range as i64, DF400);
+            let first = range * (1 << DF401) + raw_of(cell.phase as i64, DF401);
+            let number = first as u128 * (1 << DF402) + cell.lock as u128;
+            (number * 2 + cell.half_cycle as u128) * (1 << DF403) + cell.strength as u128
         }
     }
 
@@ -86,8 +91,8 @@ impl Form {
     {
         if self.has_rates() {
             Cell {
-                rate: signed_of((number % 32768) as u64, 15) as i16,
-                ..self.rateless(number / 32768)
+                rate: signed_of((number % (1 << DF404)) as u64, DF404) as i16,
+                ..self.rateless(number / (1 << DF404))
             }
         } else {
             self.rateless(number)
@@ -99,21 +104,27 @@ impl Form {
         ensures { result ≡ rateless (forms.is_fine self) number }
     {
         if self.is_fine() {
+            let lock = DF420 + DF408;
+            let phase = DF407 + lock;
+            let range = DF406 + phase;
             Cell {
-                range: signed_of((number / (1 << 45) % (1 << 20)) as u64, 20) as i32,
-                phase: signed_of((number / (1 << 21) % (1 << 24)) as u64, 24) as i32,
-                lock: (number / (1 << 11) % 1024) as u16,
-                half_cycle: number / (1 << 10) % 2 == 1,
-                strength: (number % 1024) as u16,
+                range: signed_of((number / (1 << range) % (1 << DF405)) as u64, DF405) as i32,
+                phase: signed_of((number / (1 << phase) % (1 << DF406)) as u64, DF406) as i32,
+                lock: (number / (1 << lock) % (1 << DF407)) as u16,
+                half_cycle: number / (1 << DF408) % 2 == 1,
+                strength: (number % (1 << DF408)) as u16,
                 rate: INVALID_FINE_RATE,
             }
         } else {
+            let lock = DF420 + DF403;
+            let phase = DF402 + lock;
+            let range = DF401 + phase;
             Cell {
-                range: signed_of((number / (1 << 33) % (1 << 15)) as u64, 15) as i32,
-                phase: signed_of((number / (1 << 11) % (1 << 22)) as u64, 22) as i32,
-                lock: (number / (1 << 7) % 16) as u16,
-                half_cycle: number / (1 << 6) % 2 == 1,
-                strength: (number % 64) as u16,
+                range: signed_of((number / (1 << range) % (1 << DF400)) as u64, DF400) as i32,
+                phase: signed_of((number / (1 << phase) % (1 << DF401)) as u64, DF401) as i32,
+                lock: (number / (1 << lock) % (1 << DF402)) as u16,
+                half_cycle: number / (1 << DF403) % 2 == 1,
+                strength: (number % (1 << DF403)) as u16,
                 rate: INVALID_FINE_RATE,
             }
         }

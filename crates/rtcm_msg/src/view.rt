@@ -18,11 +18,12 @@ ghost use Rattle.rtcm_msg.specs.Encoding.{IsMessage};
 ghost use Rattle.rtcm_msg.specs.Decoding as decoding;
 ghost use Rattle.rtcm_msg.specs.inner.Views as views;
 
-use crate::data::{Cell, LastBits, Satellite};
+use crate::data::{Cell, Satellite};
 use crate::entry::Entry;
 use crate::fault::MsgFault;
 use crate::field::end_of_data;
 use crate::header::{Masks, MsmHeader, read_head};
+use crate::layout::LastBits;
 use crate::message::{Message, read_set};
 use crate::msm::msm_of;
 use crate::number::{Kind, MsmSet, message_number};
@@ -60,35 +61,6 @@ impl Form {
         ensures { result ≡ forms.has_rates self }
     {
         matches!(self, Form::Msm5 | Form::Msm7)
-    }
-
-    /// Returns the widths in bits of the fields of a satellite and of a cell, in the order of the
-    /// layout.
-    pub(crate) fn widths(self) -> (&'static [u32], &'static [u32])
-        ensures satellites { result.0.now ≡ forms.satellite_widths self }
-        ensures cells { result.1.now ≡ forms.cell_widths self }
-    {
-        match self {
-            Form::Msm4 => (&[8, 10], &[15, 22, 4, 1, 6]),
-            Form::Msm5 => (&[8, 4, 10, 14], &[15, 22, 4, 1, 6, 15]),
-            Form::Msm6 => (&[8, 10], &[20, 24, 10, 1, 10]),
-            Form::Msm7 => (&[8, 4, 10, 14], &[20, 24, 10, 1, 10, 15]),
-        }
-    }
-
-    /// Returns the sums of the widths in bits of the fields of a satellite and of a cell, as `widths`
-    /// has them.
-    pub(crate) fn total_widths(self) -> (usize, usize)
-        ensures satellite { result.0 ≡ total_width (forms.satellite_widths self) }
-        ensures cell { result.1 ≡ total_width (forms.cell_widths self) }
-        ensures narrow { (result.0 ≤ 36) × (result.1 ≤ 80) }
-    {
-        match self {
-            Form::Msm4 => (18, 48),
-            Form::Msm5 => (36, 63),
-            Form::Msm6 => (18, 65),
-            Form::Msm7 => (36, 80),
-        }
     }
 }
 

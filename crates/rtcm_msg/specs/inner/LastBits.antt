@@ -1,6 +1,6 @@
 -- The last bits of the fields of a message's cells.
 use Rattle.std.specs.Prelude.{◌≡◌, ℕ, ◌+◌, ◌*◌, List, [], ◌∷◌}
-use Rattle.rtcm_msg.specs.declared.data.LastBits.{LastBits}
+use Rattle.rtcm_msg.specs.declared.layout.LastBits.{LastBits}
 
 -- The fields of the first of `count` cells whose data begin at a bit end with these bits.
 abbrev pub EndWith : List ℕ → ℕ → ℕ → List ℕ → Type 0

@@ -4,7 +4,7 @@ use Rattle.rtcm_msg.specs.declared.message.Message.{Message}
 use Rattle.rtcm_msg.specs.declared.view.Form.{Form}
 use Rattle.rtcm_msg.specs.declared.view.Data.{Data}
 use Rattle.rtcm_msg.specs.declared.view.Data.TheVariants as datas
-use Rattle.rtcm_msg.specs.declared.data.LastBits.{LastBits}
+use Rattle.rtcm_msg.specs.declared.layout.LastBits.{LastBits}
 use Rattle.rtcm_msg.specs.inner.LastBits.{AreLast}
 use Rattle.rtcm_msg.specs.inner.Rows.{rows_at}
 use Rattle.rtcm_bits.specs.Bits.{bits_of}

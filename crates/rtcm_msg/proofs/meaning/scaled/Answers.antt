@@ -1,6 +1,6 @@
 use Rattle.rtcm_msg.proofs.Names.{ℕ, ℤ, pos, ◌≡◌, ◌==◌, ◌∙◌, sym, ap, ◌*ℤ◌, ◌≤◌, ◌^◌, Bool, not, if◌then◌else◌, Option, Some, None, arith, w32, w64, to_z, of_z, FitsSigned, lit<, lit≤, ints, to_z-of_z, fits_signed_mul, then_some, int_eq, same_from_decides, Decides-like, Decides-eqb, Decides-int_eq}
 use Rattle.rtcm_msg.proofs.SignedLaws.{wider}
-use Rattle.rtcm_msg.proofs.data.scaled.Goals as goal
+use Rattle.rtcm_msg.proofs.meaning.scaled.Goals as goal
 
 whole : (k : ℕ) → k ≤ 128 → to_z w64 k ≡ pos k
 whole k h = omega (arith, ints, h)

@@ -1,5 +1,5 @@
 use Rattle.rtcm_msg.proofs.Names.{common_steps, ℕ, ℤ, pos, ◌≡◌, ◌+◌, ◌*◌, ◌^◌, ◌<◌, ◌≤◌, ◌+ℤ◌, unsigned_abs, arith, w64, to_z, of_z, FitsSigned, ints}
-use Rattle.rtcm_msg.proofs.data.range_joined.Goals as goal
+use Rattle.rtcm_msg.proofs.meaning.range_joined.Goals as goal
 
 abbrev rough : ℕ → ℕ → ℕ
 rough w f = w * 2147483648 + f * 2097152
