@@ -26,7 +26,9 @@ mod writer;
 
 pub use complement::{raw_of, signed_of};
 pub use crc::{CheckRegister, crc24q};
-pub use framing::{LONGEST_FRAME, LONGEST_MESSAGE, PREAMBLE, frame_of};
+pub use framing::{
+    CRC_BYTES, HEADER_BYTES, LONGEST_FRAME, LONGEST_MESSAGE, PREAMBLE, SHORTEST_FRAME, frame_of,
+};
 pub use reader::{BitReader, bits_in_word, number_at, word_at};
 pub use window::Window;
 pub use writer::BitWriter;

@@ -23,7 +23,7 @@ ghost use Rattle.rtcm_scan.specs.inner.Results.{framed, frame_at, push_result, p
 use crate::candidate::Candidate;
 use crate::front::{Decision, examine, judge, pass_others};
 use arrayvec::ArrayVec;
-use rtcm_bits::{LONGEST_FRAME, LONGEST_MESSAGE, Window};
+use rtcm_bits::{HEADER_BYTES, LONGEST_FRAME, LONGEST_MESSAGE, SHORTEST_FRAME, Window};
 use std::alloc::Global;
 use std::marker::Model;
 use thiserror::Error;
@@ -346,7 +346,8 @@ impl Framer {
             ≡ with_window self.old (without_front (looked_through (window_of self.old) 3 (size - 6)) size) 0 }
     {
         let offset = self.place;
-        self.window.take_front(3, size - 6, size, message);
+        let n = size - SHORTEST_FRAME;
+        self.window.take_front(HEADER_BYTES, n, size, message);
         self.candidate = Candidate::new();
         self.place += size as u64;
         offset

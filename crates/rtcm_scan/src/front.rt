@@ -6,7 +6,7 @@ ghost use Rattle.rtcm_bits.specs.Window.{IsFirstOf, looked_through, without_fron
 ghost use Rattle.rtcm_scan.specs.inner.Results.{ComesTo};
 
 use crate::candidate::Candidate;
-use rtcm_bits::{PREAMBLE, Window, laws};
+use rtcm_bits::{HEADER_BYTES, PREAMBLE, Window, laws};
 
 /// What begins at the front of the held bytes.
 #[derive(Clone, Copy)]
@@ -59,7 +59,7 @@ fn examine_header(window: &mut Window, candidate: &mut Candidate)
     let end = if held - candidate.count == 1 {
         held
     } else {
-        held.min(3)
+        held.min(HEADER_BYTES)
     };
     while candidate.count < candidate.wanted && candidate.count < end {
         let byte = window.look(candidate.count);
