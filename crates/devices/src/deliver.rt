@@ -54,8 +54,8 @@ pub trait Destination: Write {}
 /// ```
 ///
 /// `flush` of this writer ensures `OnOk result (self.new.line.items ≡ [])`, and `more_waits` is of
-/// `devices/specs/Delivering`. For a destination the target is the writer itself, `waiting` is
-/// `λ _. []` and `parts` is `λ w. none_waits (Self.contents w)`.
+/// `devices/specs/inner/Delivering`. For a destination the target is the writer itself, `waiting`
+/// is `λ _. []` and `parts` is `λ w. none_waits (Self.contents w)`.
 pub trait Deliver: Write {
     /// Where the bytes end.
     type Target: Destination;

@@ -80,7 +80,7 @@ pub struct Framer {
     /// Largest number of bytes that are accepted.
     limit: u64,
     /// The offset of the first held byte in the stream.
-    place: u64,
+    offset: u64,
     /// Number of bytes before it that are in no frame.
     given_up: u64,
     /// Whether the stream has ended.
@@ -97,10 +97,10 @@ impl Model for Framer {
 
     ghost Value = { FramerValue };
 
-    ghost view = { λ f. scan_of f.limit f.place f.window f.ended f.drained f.given_up f.candidate.count };
+    ghost view = { λ f. scan_of f.limit f.offset f.window f.ended f.drained f.given_up f.candidate.count };
 
-    ghost invariant = { λ f. (f.place + length f.window.bytes ≤ f.limit) × (f.limit ≤ most_bytes)
-        × (f.given_up ≤ f.place)
+    ghost invariant = { λ f. (f.offset + length f.window.bytes ≤ f.limit) × (f.limit ≤ most_bytes)
+        × (f.given_up ≤ f.offset)
         × (length f.window.bytes ≤ longest_frame) × (f.drained ≡ true → length f.window.bytes < longest_frame)
         × HasTaken f.candidate (take f.candidate.count f.window.bytes) × (f.candidate.count ≤ length f.window.bytes) };
 }
@@ -127,7 +127,7 @@ impl Framer {
             window,
             candidate: Candidate::new(),
             limit,
-            place: 0,
+            offset: 0,
             given_up: 0,
             ended: false,
             drained: true,
@@ -142,8 +142,8 @@ impl Framer {
         self.drained
     }
 
-    /// Returns whether no byte was pushed since no more were decided, and the stream hasn't ended: then
-    /// no more are.
+    /// Returns whether the stream hasn't ended and no byte was pushed since `next_into` last returned
+    /// `None`: it would return `None` again.
     pub(crate) fn is_drained(&self) -> bool
         ensures { result ≡ self.now.is_ready && not self.now.has_ended }
     {
@@ -169,7 +169,7 @@ impl Framer {
         if self.ended {
             return Err(ScanFault::Ended);
         }
-        if self.place + self.window.held() as u64 == self.limit {
+        if self.offset + self.window.held() as u64 == self.limit {
             return Err(ScanFault::TooLong);
         }
         self.window.push(byte);
@@ -241,7 +241,7 @@ impl Framer {
         ensures value { result ≡ self.now.taken }
         ensures within { (result ≤ self.now.limit) × (self.now.limit ≤ most_bytes) }
     {
-        self.place + self.window.held() as u64
+        self.offset + self.window.held() as u64
     }
 
     /// Returns the number of decided bytes that are in no frame.
@@ -331,7 +331,7 @@ impl Framer {
         self.window.drop_front(1);
         self.candidate = Candidate::new();
         let n = 1 + pass_others(&mut self.window, &mut self.candidate) as u64;
-        self.place += n;
+        self.offset += n;
         self.given_up += n;
     }
 
@@ -345,11 +345,11 @@ impl Framer {
         ensures taken { self.new
             ≡ with_window self.old (without_front (looked_through (window_of self.old) 3 (size - 6)) size) 0 }
     {
-        let offset = self.place;
+        let offset = self.offset;
         let n = size - SHORTEST_FRAME;
         self.window.take_front(HEADER_BYTES, n, size, message);
         self.candidate = Candidate::new();
-        self.place += size as u64;
+        self.offset += size as u64;
         offset
     }
 }

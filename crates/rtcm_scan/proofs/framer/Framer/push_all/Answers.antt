@@ -5,5 +5,5 @@ use Rattle.rtcm_scan.proofs.framer.Framer.push_all.Goals as goal
 pub returns-else-self-taken-clause-history : goal.returns-else-self-taken-clause-history
 returns-else-self-taken-clause-history c = λ b fs s.
     let t = ap (λ (v : FramerValue). v.taken) c.self.view_is in
-    let r = has_room c.self.inside.place (length c.args.bytes.now) c.self.view_is c.if-self.false (omega (arith, t, c.self.invariant.0, c.taken.ensures.value, c.if-self-taken.false)) in
-    rw (view_pushed_all c.self.inside.place c.args.bytes.now c.self.view_is c.push_all.ensures) (step_push_all c.args.self.now b c.args.bytes.now fs r.0 r.1 s)
+    let r = has_room c.self.inside.offset (length c.args.bytes.now) c.self.view_is c.if-self.false (omega (arith, t, c.self.invariant.0, c.taken.ensures.value, c.if-self-taken.false)) in
+    rw (view_pushed_all c.self.inside.offset c.args.bytes.now c.self.view_is c.push_all.ensures) (step_push_all c.args.self.now b c.args.bytes.now fs r.0 r.1 s)
