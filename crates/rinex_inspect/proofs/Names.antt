@@ -37,14 +37,13 @@ unfoldable pub use Rattle.rinex_inspect.specs.DateTexts.{time_line}
 pub use Rattle.rinex_inspect.specs.DateTexts.{clock_text, date_text, moment_words}
 pub use Rattle.rinex_inspect.specs.Faults.{culprit}
 unfoldable pub use Rattle.rinex_inspect.specs.Gaps.{gap_line}
-pub use Rattle.rinex_inspect.specs.Gaps.{AreInside, IsCompleteness, all_gaps, all_placed, early, ends_in, first_of, gap_between, gaps_before, gaps_from, indexes_of, intervals_to, is_among, is_inside, number_among, origin_in, origin_of, placed, size_in, start, window_size}
+pub use Rattle.rinex_inspect.specs.Gaps.{AreInside, Completeness, IsCompleteness, all_gaps, all_placed, early, ends_in, first_of, gap_between, gaps_before, gaps_from, indexes_of, intervals_to, is_among, is_inside, number_among, origin_in, origin_of, placed, size_in, start, window_size}
 unfoldable pub use Rattle.rinex_inspect.specs.QualityOutput.{present_line, signal_line, tally_line, time_word}
 pub use Rattle.rinex_inspect.specs.QualityOutput.{Contents, code_at, contents_of, in_period, last_period, lines_before, lines_of, lost_in, period_line, period_lines, period_of, presence_words, quality_output, satellite_line, satellite_lines, satellite_word, signal_lines, tally_words, texts_below}
 pub use Rattle.rinex_inspect.specs.Tallies.{all_rows, from_first, has_line, has_values, is_half, is_lost, is_row_of, last_of, no_tally, presence_of, satellite_at, strength_of, tally, tally_of, times_of, total, up_to_last, values_in}
 pub use Rattle.rinex_inspect.specs.declared.check.CheckOptions.{CheckOptions}
 pub use Rattle.rinex_inspect.specs.declared.fault.FileFault.{FileFault}
 pub use Rattle.rinex_inspect.specs.declared.fault.FileFault.TheVariants.{File, OtherDay, Write}
-pub use Rattle.rinex_inspect.specs.declared.gaps.Completeness.{Completeness}
 pub use Rattle.rinex_inspect.specs.declared.gaps.Placed.{Placed}
 pub use Rattle.rinex_inspect.specs.declared.gaps.Window.{Window}
 pub use Rattle.rinex_inspect.specs.declared.quality.Tables.{Tables}

@@ -5,8 +5,7 @@ use Rattle.rinex_file.specs.Times.{AreTimes}
 use Rattle.rinex_file.specs.Value.{FileValue}
 use Rattle.rinex_file.specs.declared.read.times.EpochTimes.{EpochTimes}
 use Rattle.rinex_inspect.specs.CheckOutput.{all_gaps_if, gaps_if, size_of, times_in}
-use Rattle.rinex_inspect.specs.Gaps.{IsCompleteness, all_gaps, indexes_of, number_among}
-use Rattle.rinex_inspect.specs.declared.gaps.Completeness.{Completeness}
+use Rattle.rinex_inspect.specs.Gaps.{Completeness, IsCompleteness, all_gaps, indexes_of, number_among}
 
 -- at most all epochs of a complete file are there, and all of them exactly if no gap is printed
 pub record HasAllWithoutGap (g : Completeness) (ts : List ℕ) (t : EpochTimes) : Type 0 where

@@ -8,8 +8,7 @@ use Rattle.rinex_file.specs.Times.{AreTimes}
 use Rattle.rinex_file.specs.Value.{FileValue, Stamped}
 use Rattle.rinex_file.specs.declared.read.times.EpochTimes.{EpochTimes}
 use Rattle.rinex_inspect.specs.DateTexts.{times_lines}
-use Rattle.rinex_inspect.specs.Gaps.{all_gaps, gaps_before, indexes_of, number_among, origin_in, size_in}
-use Rattle.rinex_inspect.specs.declared.gaps.Completeness.{Completeness}
+use Rattle.rinex_inspect.specs.Gaps.{Completeness, all_gaps, gaps_before, indexes_of, number_among, origin_in, size_in}
 use Rattle.line_texts.specs.Lines.{line}
 use Rattle.rinex_inspect.specs.declared.check.CheckOptions.{CheckOptions}
 

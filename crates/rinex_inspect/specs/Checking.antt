@@ -13,8 +13,7 @@ use Rattle.rinex_file.specs.declared.read.fault.ReadFault.TheVariants as reading
 use Rattle.rinex_inspect.specs.CheckOutput.{IsOutput, gaps_if, times_in}
 use Rattle.devices.specs.Printing.{IsUnread}
 use Rattle.rinex_inspect.specs.Faults.{culprit}
-use Rattle.rinex_inspect.specs.Gaps.{AreInside, is_inside}
-use Rattle.rinex_inspect.specs.declared.gaps.Completeness.{Completeness}
+use Rattle.rinex_inspect.specs.Gaps.{AreInside, Completeness, is_inside}
 use Rattle.rinex_inspect.specs.declared.check.CheckOptions.{CheckOptions}
 use Rattle.rinex_inspect.specs.declared.fault.FileFault.{FileFault}
 use Rattle.rinex_inspect.specs.declared.fault.FileFault.TheVariants as faults

@@ -7,9 +7,13 @@ use Rattle.gnss_obs.specs.Plans.{below}
 use Rattle.line_texts.specs.Lengths.{longest_interval}
 use Rattle.line_texts.specs.Lines.{line}
 use Rattle.rinex_inspect.specs.DateTexts.{moment_words}
-use Rattle.rinex_inspect.specs.declared.gaps.Completeness.{Completeness}
 use Rattle.rinex_inspect.specs.declared.gaps.Placed.{Placed}
 use Rattle.rinex_inspect.specs.declared.gaps.Window.{Window}
+
+-- the interval of the epochs, and the window, if there is one
+pub record Completeness : Type 0 where
+  pub interval : ℕ
+  pub window : Option Window
 
 -- an interval of at most a day, and a window of one interval or more
 pub record IsCompleteness (g : Completeness) : Type 0 where

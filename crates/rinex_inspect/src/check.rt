@@ -89,7 +89,6 @@ pub fn run_check_with<R: Read, W: Deliver>(
     reader: &mut Counted<R>,
     writer: &mut Counted<W>,
 ) -> Result<(), FileFault>
-    requires { IfSome options.complete IsCompleteness }
     ensures ends { Changes R.remaining reader.old reader.new W.contents W.waiting writer.old writer.new
         (EndsCheck options result) }
 
@@ -112,7 +111,6 @@ pub fn run_check_with<R: Read, W: Deliver>(
 /// Returns what is written at the end of a file with this number of missing epochs before its last
 /// one.
 fn summary_text(options: &CheckOptions, summary: &FileSummary, missing: u64) -> OutputLine
-    requires { IfSome options.now.complete IsCompleteness }
     ensures { (v : FileValue) → IsFileValue v → IsSummary summary.now v
         → CountsMissing options.now.complete (times_in v.epochs) missing
         → IsEndOutput options.now v summary.now.times result }
@@ -138,7 +136,6 @@ fn print_gaps<R: Read, W: Deliver>(
     reader: &mut Counted<R>,
     writer: &mut Counted<W>,
 ) -> Result<(FileSummary, u64), FileFault>
-    requires fits { IfSome complete.now IsCompleteness }
     requires start { (input : Option (List ℕ)) → HasReadEpochs file.old [] input input }
     requires sent { W.waiting writer.old.inner ≡ [] }
     ensures gaps { Changes R.remaining reader.old reader.new W.contents W.waiting writer.old writer.new
@@ -181,8 +178,8 @@ fn print_gap<W: Deliver>(
     time: GpsTime,
     writer: &mut Counted<W>,
 ) -> Result<u64, FileFault>
-    requires fits { IfSome complete.now IsCompleteness }
     requires sent { W.waiting writer.old.inner ≡ [] }
+    ensures fits { IfSome complete.now IsCompleteness }
     ensures line { Writes W.contents W.waiting writer.old writer.new
         (EndsPrinting FileFault.Write result (gap_with complete.now before time)) }
     ensures missing { IfOk result (λ n. n ≡ missing_with complete.now before time) }
@@ -231,8 +228,8 @@ fn add_gap(text: &mut OutputLine, last: Placed, next: Placed) -> u64
 /// Adds the line of the gap after the last epoch, if there is one and it is asked for, and returns
 /// the number of missing epochs.
 fn add_last_gap(text: &mut OutputLine, complete: &Option<Completeness>, times: &EpochTimes) -> u64
-    requires empty { text.old ≡ [] }
-    requires fits { IfSome complete.now IsCompleteness }
+    requires { text.old ≡ [] }
+    ensures fits { IfSome complete.now IsCompleteness }
     ensures text { text.new ≡ end_gap_if complete.now times.now }
     ensures short { length text.new ≤ longest_gap }
     ensures missing { result ≡ end_missing_if complete.now times.now }
@@ -240,10 +237,10 @@ fn add_last_gap(text: &mut OutputLine, complete: &Option<Completeness>, times: &
     let Some(complete) = complete else {
         return 0;
     };
+    let origin = complete.origin(times.first);
     let Some(end) = complete.end() else {
         return 0;
     };
-    let origin = complete.origin(times.first);
     add_gap(text, complete.placed(origin, times.last), end)
 }
 
@@ -267,8 +264,7 @@ fn add_complete(
     missing: u64,
     after: u64,
 )
-    requires room { length text.old ≤ 300 }
-    requires fits { IfSome complete.now IsCompleteness }
+    requires { length text.old ≤ 300 }
     ensures { text.new ≡ text.old ++ complete_but complete.now times.now missing after }
 {
     if let Some(complete) = complete {

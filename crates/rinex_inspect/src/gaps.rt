@@ -2,20 +2,32 @@
 ghost use Rattle.std.specs.Prelude.{◌≡◌, ◌<◌, ◌≤◌, ◌*◌, option_to_list};
 ghost use Rattle.gnss_obs.specs.Weeks.{week, weeks};
 ghost use Rattle.rinex_inspect.specs.CheckOutput.{size_of};
-ghost use Rattle.rinex_inspect.specs.Gaps.{capped, early, ends_in, is_in_window, origin_in, placed, window_size};
+ghost use Rattle.rinex_inspect.specs.Gaps.{IsCompleteness, capped, early, ends_in, is_in_window, origin_in, placed};
+ghost use Rattle.rinex_inspect.specs.Gaps.{window_size};
 ghost use Rattle.rinex_inspect.specs.inner.Missing.{last_with};
 
 use gnss_obs::GpsTime;
 use rinex_file::EpochTimes;
+use std::marker::Model;
 
 /// What makes a file complete: an epoch at each interval from its first epoch to its last one, or
 /// in each interval of a window.
 #[derive(Clone, Copy)]
 pub struct Completeness {
-    /// The interval of the epochs in milliseconds.
-    pub interval: u64,
-    /// The window, if there is one. It has a whole number of intervals.
-    pub window: Option<Window>,
+    interval: u64,
+    window: Option<Window>,
+}
+
+impl Model for Completeness {
+    ghost use Rattle.rinex_inspect.specs.Gaps.{Completeness, IsCompleteness};
+
+    ghost Value = { Completeness };
+
+    ghost view = { λ g. record { interval = g.interval; window = g.window } };
+
+    ghost inverse = { λ g. record { interval = g.interval; window = g.window } };
+
+    ghost invariant = { λ g. IsCompleteness (record { interval = g.interval; window = g.window }) };
 }
 
 /// The times from which on and before which a file has epochs.
@@ -48,9 +60,19 @@ impl Window {
 }
 
 impl Completeness {
+    /// Returns what makes a file complete with epochs at an interval in milliseconds, of at most a
+    /// day: in a window of a whole number of intervals, if there is one.
+    pub fn new(interval: u64, window: Option<Window>) -> Completeness
+        requires { IsCompleteness (record { interval = interval; window = window }) }
+        ensures { result ≡ record { interval = interval; window = window } }
+    {
+        Completeness { interval, window }
+    }
+
     /// Returns the time from which on indexes are counted in a file that begins at this time.
     pub(crate) fn origin(&self, first: GpsTime) -> GpsTime
-        ensures { result ≡ origin_in self.now.window first }
+        ensures time { result ≡ origin_in self.now.window first }
+        ensures fits { IsCompleteness self.now }
     {
         self.window.map_or(first, |window| window.from)
     }
@@ -76,7 +98,6 @@ impl Completeness {
 
     /// Returns the place of an epoch at this time.
     pub(crate) fn placed(&self, origin: GpsTime, time: GpsTime) -> Placed
-        requires { 0 < self.now.interval }
         ensures { result ≡ placed self.now origin time }
     {
         let latest = time.milliseconds() + self.early();
@@ -90,7 +111,6 @@ impl Completeness {
 
     /// Returns the index of an epoch that is this number of intervals after the origin.
     fn capped(&self, intervals: u64) -> u64
-        requires { 0 < self.now.interval }
         ensures value { result ≡ capped self.now.window self.now intervals }
         ensures bound { result ≤ intervals }
     {
@@ -102,7 +122,6 @@ impl Completeness {
 
     /// Returns the end of the window, if there is one.
     pub(crate) fn end(&self) -> Option<Placed>
-        requires { 0 < self.now.interval }
         ensures { option_to_list result ≡ ends_in self.now.window self.now.interval }
     {
         let window = self.window?;
@@ -114,7 +133,6 @@ impl Completeness {
 
     /// Returns the number of epochs of a complete file with these times.
     pub(crate) fn size(&self, times: &EpochTimes) -> u64
-        requires { 0 < self.now.interval }
         ensures { result ≡ size_of self.now times.now }
     {
         match &self.window {
@@ -130,7 +148,6 @@ pub(crate) fn last_placed(
     origin: GpsTime,
     times: &Option<EpochTimes>,
 ) -> Placed
-    requires { 0 < complete.now.interval }
     ensures { result ≡ last_with complete.now origin times.now }
 {
     match times {

@@ -30,7 +30,7 @@ use Rattle.rtcm_inspect.specs.declared.printed_week.WeekSource.{WeekSource}
 use Rattle.rtcm_inspect.specs.declared.fault.InspectFault.{InspectFault}
 use Rattle.rtcm_inspect.specs.declared.fault.InspectFault.TheVariants as inspect
 use Rattle.rinex_inspect.specs.declared.fault.FileFault.{FileFault}
-use Rattle.rinex_inspect.specs.declared.gaps.Completeness.{Completeness}
+use Rattle.rinex_inspect.specs.Gaps.{Completeness}
 use Rattle.command_faults.specs.declared.fault.CommandFault.{CommandFault}
 use Rattle.command_faults.specs.declared.fault.CommandFault.TheVariants as faults
 use Rattle.command_line.specs.declared.cli.TheConstants.{VERSION}

@@ -2,7 +2,7 @@
 use Rattle.std.specs.Prelude.{◌≡◌, ◌==◌, ◌-◌, ◌%◌, nat_lt, ℕ, List, Bool, true, false, ◌&&◌, ◌||◌, not, codes, is_some}
 use Rattle.std.specs.Prelude.{if◌then◌else◌, Option, Some, None, Result, Ok, Err}
 use Rattle.clap.specs.Walk.{Row, first_of}
-use Rattle.rinex_inspect.specs.declared.gaps.Completeness.{Completeness}
+use Rattle.rinex_inspect.specs.Gaps.{Completeness}
 use Rattle.rinex_inspect.specs.declared.gaps.Window.{Window}
 use Rattle.command_faults.specs.declared.fault.CommandFault.{CommandFault}
 use Rattle.command_faults.specs.declared.fault.CommandFault.TheVariants as faults

@@ -15,7 +15,6 @@ ghost use Rattle.rtcm_command.specs.SetupOptions.{IsSetupOf, IsSourceRefused, Is
 ghost use Rattle.rtcm_command.specs.SetupOptions.{IsTimeBy, IsWindowSet, channels_set, forms_set, has_flag, options_of};
 ghost use Rattle.rtcm_command.specs.SetupOptions.{period_length_of, plan_set, plan_texts, text_set, texts_set};
 ghost use Rattle.rtcm_command.specs.SetupOptions.{tolerance_set, usual_leap, values_set};
-ghost use Rattle.rinex_inspect.specs.Gaps.{IsCompleteness};
 ghost use Rattle.rtcm_command.specs.CompleteOptions.{IsCompleteSet, IsWindowOf, is_given, lacks_one, whole_window};
 
 use clap::ArgMatches;
@@ -136,8 +135,7 @@ fn gaps_of(options: &ArgMatches) -> Result<Option<u64>, CommandFault>
 /// `AllOf` if one of `--gaps`, `--from` and `--until` lacks, `BadGaps`, `BadDate` or
 /// `BadGapsWindow` of the first of them that isn't valid.
 pub fn complete_of(options: &ArgMatches) -> Result<Option<Completeness>, CommandFault>
-    ensures set { IsCompleteSet (options_of options.now) result }
-    ensures fits { IfOk result (λ complete. IfSome complete IsCompleteness) }
+    ensures { IsCompleteSet (options_of options.now) result }
 {
     let gaps = gaps_of(options);
     if lacks_one(options) {
@@ -147,7 +145,7 @@ pub fn complete_of(options: &ArgMatches) -> Result<Option<Completeness>, Command
         return Ok(None);
     };
     let window = whole_window_of(options, interval)?;
-    Ok(Some(Completeness { interval, window }))
+    Ok(Some(Completeness::new(interval, window)))
 }
 
 /// Returns whether the begin or the end of a window is given, but not both with the interval.

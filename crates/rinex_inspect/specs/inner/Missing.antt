@@ -4,8 +4,8 @@ use Rattle.rinex_file.specs.declared.read.times.EpochTimes.{EpochTimes}
 use Rattle.line_texts.specs.Lines.{line}
 use Rattle.rinex_inspect.specs.CheckOutput.{size_of}
 use Rattle.rinex_inspect.specs.DateTexts.{moment_bytes}
-use Rattle.rinex_inspect.specs.Gaps.{all_placed, ends_in, gap_between, gaps_from, origin_in, origin_of, placed, start}
-use Rattle.rinex_inspect.specs.declared.gaps.Completeness.{Completeness}
+use Rattle.rinex_inspect.specs.Gaps.{Completeness, all_placed, ends_in, gap_between, gaps_from, origin_in, origin_of}
+use Rattle.rinex_inspect.specs.Gaps.{placed, start}
 use Rattle.rinex_inspect.specs.declared.gaps.Placed.{Placed}
 
 -- the number of places between two

@@ -14,11 +14,10 @@ use Rattle.rinex_file.specs.inner.Read.Steps.{StopsReading}
 use Rattle.rinex_inspect.specs.CheckOutput.{all_gaps_if, check_line, complete_if, gaps_if, times_if, times_in}
 use Rattle.rinex_inspect.specs.Checking.{IsOtherDay}
 use Rattle.rinex_inspect.specs.Faults.{culprit}
-use Rattle.rinex_inspect.specs.Gaps.{AreInside}
+use Rattle.rinex_inspect.specs.Gaps.{AreInside, Completeness}
 use Rattle.rinex_inspect.specs.declared.check.CheckOptions.{CheckOptions}
 use Rattle.rinex_inspect.specs.declared.fault.FileFault.{FileFault}
 use Rattle.rinex_inspect.specs.declared.fault.FileFault.TheVariants as faults
-use Rattle.rinex_inspect.specs.declared.gaps.Completeness.{Completeness}
 use Rattle.rinex_inspect.specs.inner.Missing.{Rise, missing_if}
 
 -- this number of places is missing before the epochs at these times, which rise

@@ -29,7 +29,7 @@ loop-before-preserved g c =
     let (e, same, next, first, least, plan) = c.in-Ok.ensures.rows es _ _ part in
     let time = same ∙ start in
     record {
-      read = (es ++ e ∷ [], next, printed_more (at c.args.writer.now) (at c.loop-before.writer) (at c.print_gap.new.writer) c.args.complete.now es e c.in-Ok-Epoch.before printed before time c.in_ok-print_gap-in-Ok-Epoch.was c.print_gap.ensures.line, counted_more c.args.complete.now es e c.in-Ok-Epoch.before c.requires.fits before time counts (rw c.in_ok-print_gap-in-Ok-Epoch.was at c.print_gap.ensures.missing) (λ fits. omega (arith, fits, c.saturating_add-missing.ensures)) (omega (arith, c.print_gap.ensures.range)), inside_more c.args.complete.now es e inside time (sym c.is_inside.ensures ∙ c.if-not-is_inside.false));
+      read = (es ++ e ∷ [], next, printed_more (at c.args.writer.now) (at c.loop-before.writer) (at c.print_gap.new.writer) c.args.complete.now es e c.in-Ok-Epoch.before printed before time c.in_ok-print_gap-in-Ok-Epoch.was c.print_gap.ensures.line, counted_more c.args.complete.now es e c.in-Ok-Epoch.before c.print_gap.ensures.fits before time counts (rw c.in_ok-print_gap-in-Ok-Epoch.was at c.print_gap.ensures.missing) (λ fits. omega (arith, fits, c.saturating_add-missing.ensures)) (omega (arith, c.print_gap.ensures.range)), inside_more c.args.complete.now es e inside time (sym c.is_inside.ensures ∙ c.if-not-is_inside.false));
       reads = more_read (more_read inv.reads c.in-Ok-Epoch.ensures.reads) c.in-Ok.ensures.reads;
     }
 

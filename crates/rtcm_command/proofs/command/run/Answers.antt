@@ -33,7 +33,7 @@ returns-in-convert g c =
 pub returns-in_ok-complete-in-check : goal.returns-in_ok-complete-in-check
 returns-in_ok-complete-in-check g c =
     file_found _ _ _ c.run_check_with.result c.of_file.ensures (sub_found _ c.in-Some.ensures.name c.in-Some.ensures.rows)
-    (inl (c.in-check.is, (c.in_ok-complete-in-check.complete, c.in_ok-complete-in-check.ensures.set, rw (← c.has_flag-times.ensures) c.run_check_with.ensures.ends)))
+    (inl (c.in-check.is, (c.in_ok-complete-in-check.complete, c.in_ok-complete-in-check.ensures, rw (← c.has_flag-times.ensures) c.run_check_with.ensures.ends)))
 
 pub returns-in_ok-every-in-quality : goal.returns-in_ok-every-in-quality
 returns-in_ok-every-in-quality g c =
@@ -51,7 +51,7 @@ returns-in_err-source-in-options g c =
 pub returns-in_err-complete-in-check : goal.returns-in_err-complete-in-check
 returns-in_err-complete-in-check g c =
     let d = devices_of g.R.Read.remaining g.W.Write.contents g.W.Deliver.waiting c.args.reader.now c.args.writer.now in
-    let set = c.in_err-complete-in-check.ensures.set in
+    let set = c.in_err-complete-in-check.ensures in
     option_refused d (writer_of g.E.Write.contents g.E.Deliver.waiting c.args.faults.now) c.from_residual-in_err-complete-in-check.result c.from_residual-in_err-complete-in-check.ensures.1 (sub_found _ c.in-Some.ensures.name c.in-Some.ensures.rows) refl (no_device c.in_err-complete-in-check.field-0.0 d (refused_complete (options_of c.in-Some.options.now) c.in_err-complete-in-check.field-0.0 set)) (inr (inr (inr (inr (inl (c.in-check.is, set), (refl, refl))))))
 
 pub returns-in_err-every-in-quality : goal.returns-in_err-every-in-quality
