@@ -38,10 +38,10 @@ pub fine_with : (r : EpochReader) (es : List Stamped) (whole : Stamped) (input l
 fine_with r es whole input left read = whole_fine r (es ++ whole ∷ []) read (last_some es whole)
 
 -- an epoch of the same period
-pub rated_same : {R W : Type 0} (every : Option ℕ) (old new : EpochReader) (t : Tables) (now : Table) (es : List Stamped) (time : ℕ) (input : Option (List ℕ)) (d d2 : Devices R W) (r : Result ⊤ FileFault) → IsEvery every → AreTables every t es
+pub rated_same : {R W : Type 0} (every : Option ℕ) (old new : EpochReader) (t : Tables) (now : Table) (es : List Stamped) (time : ℕ) (input : Option (List ℕ)) (d d2 : Devices R W) (r : Result ⊤ FileFault) → AreTables every t es
     → period_of every time ≡ t.period → d2.writer ≡ d.writer → d.writer.waiting ≡ [] → ReadsRows old new t.current now es time input d2.reader.unread r
     → RatesEpoch every old new (record t { current = now }) es time input r d d2
-rated_same {W = W} every old new t now es time input d d2 (Ok u) is tables same writer sent (whole, at, read, first, least, plan, added) =
+rated_same {W = W} every old new t now es time input d d2 (Ok u) tables same writer sent (whole, at, read, first, least, plan, added) =
     let fine = fine_with new es whole input d2.reader.unread read in
     let here : period_of every whole.time ≡ last_period every es = ap (period_of every) at ∙ same ∙ tables.period in
     let last : last_period every (es ++ whole ∷ []) ≡ last_period every es = period_with every es whole ∙ here in
@@ -52,15 +52,16 @@ rated_same {W = W} every old new t now es time input d d2 (Ok u) is tables same 
       least,
       plan,
       record {
+        interval = tables.interval;
         period = tables.period ∙ sym last;
         current = subst (IsTableOf now) (sym epochs) (added (in_last every es) (few_in every (last_period every es) es) tables.current);
         next = tables.next;
       },
-      ([], before_same (plan_of new) every es whole is fine.rising here ∙ sym (append-nil (lines_before (plan_of new) every es)), subst (λ (w : Writer W). PrintsText [] d.writer w) (sym writer) (refl, sent, Appends-nil d.writer.written)),
+      ([], before_same (plan_of new) every es whole tables.interval fine.rising here ∙ sym (append-nil (lines_before (plan_of new) every es)), subst (λ (w : Writer W). PrintsText [] d.writer w) (sym writer) (refl, sent, Appends-nil d.writer.written)),
     )
-rated_same every old new t now es time input d d2 (Err (faults.File e)) is tables same writer sent h = (h, writer)
-rated_same every old new t now es time input d d2 (Err (faults.OtherDay k)) is tables same writer sent h = absurd h
-rated_same every old new t now es time input d d2 (Err faults.Write) is tables same writer sent h = absurd h
+rated_same every old new t now es time input d d2 (Err (faults.File e)) tables same writer sent h = (h, writer)
+rated_same every old new t now es time input d d2 (Err (faults.OtherDay k)) tables same writer sent h = absurd h
+rated_same every old new t now es time input d d2 (Err faults.Write) tables same writer sent h = absurd h
 
 -- the first epoch of a later period
 pub rise_init : (xs : List ℕ) (y : ℕ) → IsStrictlyIncreasing (xs ++ y ∷ []) → IsStrictlyIncreasing xs
@@ -87,9 +88,9 @@ text_of : (every : Option ℕ) (p : PlanValue) (t : Table) (n : ℕ) (es : List 
 text_of None p t n es same few = refl
 text_of (Some k) p t n es same few = lines_same p (contents_in t) (contents_of (in_period (Some k) n es)) same few (Period (n * k)) ∙ period_is p (n * k) (contents_of (in_period (Some k) n es))
 
-pub later : (every : Option ℕ) (p : PlanValue) (t : Tables) (es : List Stamped) (whole : Stamped) → IsEvery every → AreTables every t es → AreFine p (es ++ whole ∷ []) → (period_of every whole.time ≡ t.period → ⊥) → IsLater every p t es whole
-later every p t es whole is tables fine apart =
-    let rises = period_rises every es whole is fine.rising in
+pub later : (every : Option ℕ) (p : PlanValue) (t : Tables) (es : List Stamped) (whole : Stamped) → AreTables every t es → AreFine p (es ++ whole ∷ []) → (period_of every whole.time ≡ t.period → ⊥) → IsLater every p t es whole
+later every p t es whole tables fine apart =
+    let rises = period_rises every es whole tables.interval fine.rising in
     let less : last_period every es < period_of every whole.time = lt_of rises (λ same. apart (sym same ∙ sym tables.period)) in
     let few : AreFew p (in_last every es) = subst (AreFew p) (period_other every (last_period every es) es whole less) (few_of p (λ (x : Stamped). period_of every x.time == last_period every es) (es ++ whole ∷ []) fine) in
     let same = table_contents p t.current (in_last every es) few tables.current in
@@ -100,7 +101,7 @@ later every p t es whole is tables fine apart =
       few = few;
       fits = printable p t.current (in_last every es) fine.plan few tables.current;
       text = text;
-      lines = before_later p every es whole is fine.rising (rising_front es whole fine.rising) less ∙ ap (λ (l : List ℕ). lines_before p every es ++ l) (sym text);
+      lines = before_later p every es whole tables.interval fine.rising (rising_front es whole fine.rising) less ∙ ap (λ (l : List ℕ). lines_before p every es ++ l) (sym text);
     } where
       lt_of : {a b : ℕ} → a ≤ b → (a ≡ b → ⊥) → a < b
       lt_of {a} {b} h apart = grind (arith, h, apart)
@@ -112,7 +113,7 @@ later_tables every es whole t is rise less at current next =
     let epochs : in_last every (es ++ whole ∷ []) ≡ whole ∷ [] =
     ap (λ (p : ℕ). in_period every p (es ++ whole ∷ [])) last ∙ period_same every (period_of every whole.time) es whole refl
     ∙ ap (λ (l : List Stamped). l ++ whole ∷ []) (none_later every (period_of every whole.time) es is (rising_front es whole rise) less) in
-    record { period = at ∙ sym last; current = subst (IsTableOf t.current) (sym epochs) current; next = next }
+    record { interval = is; period = at ∙ sym last; current = subst (IsTableOf t.current) (sym epochs) current; next = next }
 
 -- the writer failed in the lines of a period
 pub rated_in_part : {R W : Type 0} (t : Tables) {fault : FileFault} (every : Option ℕ) (old new : EpochReader) (es : List Stamped) (time : ℕ) (input : Option (List ℕ)) (d d2 : Devices R W) (r : Result ⊤ FileFault) → IsErrAnd r (λ f. f ≡ fault) → fault ≡ faults.Write
@@ -191,10 +192,10 @@ some_of : {A : Type 0} (xs ys : List A) → xs ≡ ys → 0 < length xs → ys �
 some_of xs ys same some none = let size = ap length (same ∙ none) in omega (arith, size, some)
 
 -- the end of the file
-pub all_rated : {R W : Type 0} (every : Option ℕ) (old new : EpochReader) (t t2 : Tables) (es : List Stamped) (n : Counts) (d d1 d2 : Devices R W) → IsEvery every → HasReadEpochs old es d.reader.unread d1.reader.unread → AreTables every t es → PrintsText (lines_before (plan_of old) every es) d.writer d1.writer
+pub all_rated : {R W : Type 0} (every : Option ℕ) (old new : EpochReader) (t t2 : Tables) (es : List Stamped) (n : Counts) (d d1 d2 : Devices R W) → HasReadEpochs old es d.reader.unread d1.reader.unread → AreTables every t es → PrintsText (lines_before (plan_of old) every es) d.writer d1.writer
     → RatesNext every old new t t2 es d.reader.unread (Ok (Some n)) d1 d2 → d2.reader.device.failures ≡ d.reader.device.failures → RatesPeriods every new t2 (Ok n) d d2
-all_rated every old new t t2 es n d d1 d2 is read tables printed (has, only, keeps, same, writer) fine =
-    let text = before_plan every (plan_of old) (plan_of new) es is (λ some. sym (keeps some)) in
+all_rated every old new t t2 es n d d1 d2 read tables printed (has, only, keeps, same, writer) fine =
+    let text = before_plan every (plan_of old) (plan_of new) es tables.interval (λ some. sym (keeps some)) in
     let some : es ≡ [] → ⊥ = some_of has.v.epochs es has.holds.1 has.is.some in
     let fine_old : AreFine (plan_of old) es = whole_fine old es read some in
     let fine_new : AreFine (plan_of new) es = subst (λ (p : PlanValue). AreFine p es) (sym (keeps some)) fine_old in

@@ -63,8 +63,7 @@ pub fn run_quality<R: Read, W: Deliver>(
         (RatesFiles every result) }
 {
     deliver_waiting(writer, FileFault::Write)?;
-    note_interval(&every);
-    let Ok(mut tables) = Tables::new(alloc) else {
+    let Ok(mut tables) = Tables::new(alloc, &every) else {
         return Err(FileFault::File(ReadFault::Memory));
     };
     let mut file = EpochReader::new(alloc);
@@ -72,15 +71,6 @@ pub fn run_quality<R: Read, W: Deliver>(
     drop(file);
     drop(tables);
     ended
-}
-
-/// States what every interval is, which a proof knows only after a call.
-fn note_interval(every: &Option<Interval>)
-    ensures { IfSome every.now IsInterval }
-{
-    if let Some(every) = every {
-        every.milliseconds();
-    }
 }
 
 /// Reads a file to its end with these tables, which have no epoch.
@@ -92,7 +82,6 @@ fn rate<R: Read, W: Deliver>(
     writer: &mut Counted<W>,
 ) -> Result<(), FileFault>
     requires sent { W.waiting writer.old.inner ≡ [] }
-    requires every { IfSome every.now IsInterval }
     requires start { (input : Option (List ℕ)) → HasReadEpochs file.old [] input input }
     requires tables { AreTables every.now tables.old [] }
     ensures ends { Changes R.remaining reader.old reader.new W.contents W.waiting writer.old writer.new
@@ -106,18 +95,18 @@ fn rate<R: Read, W: Deliver>(
 }
 
 impl Tables {
-    /// Returns tables without epochs.
+    /// Returns tables without epochs, of periods of this length.
     ///
     /// # Errors
     ///
     /// `AllocError` if an allocation failed.
-    fn new(alloc: Global) -> Result<Tables, AllocError>
-        ensures { IfOk result (λ t. (every : Option ℕ) → IfSome every IsInterval → AreTables every t []) }
+    fn new(alloc: Global, every: &Option<Interval>) -> Result<Tables, AllocError>
+        ensures { IfOk result (λ t. AreTables every.now t []) }
     {
         let current = Table::new(alloc)?;
         let next = Table::new(alloc)?;
         Ok(Tables {
-            period: 0,
+            period: period_of(every, GpsTime::within(0)),
             current,
             next,
         })
@@ -134,7 +123,6 @@ fn print_periods<R: Read, W: Deliver>(
     writer: &mut Counted<W>,
 ) -> Result<Counts, FileFault>
     requires start { (input : Option (List ℕ)) → HasReadEpochs file.old [] input input }
-    requires every { IfSome every.now IsInterval }
     requires tables { AreTables every.now tables.old [] }
     requires sent { W.waiting writer.old.inner ≡ [] }
     ensures rates { Changes R.remaining reader.old reader.new W.contents W.waiting writer.old writer.new
@@ -158,7 +146,6 @@ fn rate_next<R: Read, W: Deliver>(
     writer: &mut Counted<W>,
 ) -> Result<Option<Counts>, FileFault>
     requires sent { W.waiting writer.old.inner ≡ [] }
-    requires every { IfSome every.now IsInterval }
     requires read { (es : List Stamped) × (input : Option (List ℕ))
         × HasReadEpochs file.old es input (R.remaining reader.old.inner) × AreTables every.now tables.old es }
     ensures rates { (es : List Stamped) → (input : Option (List ℕ))
@@ -190,7 +177,6 @@ fn take_epoch<R: Read, W: Deliver>(
     writer: &mut Counted<W>,
 ) -> Result<(), FileFault>
     requires sent { W.waiting writer.old.inner ≡ [] }
-    requires every { IfSome every.now IsInterval }
     requires begun { (es : List Stamped) × (e : Stamped) × (input : Option (List ℕ)) × IsStart time e
         × HasReadRows file.old es e input (R.remaining reader.old.inner) × AreTables every.now tables.old es }
     ensures rates { (es : List Stamped) → (e : Stamped) → (input : Option (List ℕ)) → IsStart time e
@@ -238,7 +224,8 @@ fn read_rows<R: Read>(
 
 /// Returns the number of the period of an epoch at this time, counted from 0.
 fn period_of(every: &Option<Interval>, time: GpsTime) -> u64
-    ensures { result ≡ period_of every.now time }
+    ensures number { result ≡ period_of every.now time }
+    ensures interval { IfSome every.now IsInterval }
 {
     match every {
         Some(every) => nominal(time) / u64::from(every.milliseconds()),

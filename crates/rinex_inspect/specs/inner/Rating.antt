@@ -3,6 +3,7 @@ use Rattle.std.specs.Prelude.{◌≡◌, ◌≢◌, ℕ, ◌*◌, ◌<◌, ◌�
 use Rattle.std.specs.Prelude.{Err, IfSome, ⊤}
 use Rattle.devices.specs.Devices.{Devices, ReaderFailures}
 use Rattle.devices.specs.Printing.{PrintsPart, PrintsText}
+use Rattle.gnss_obs.specs.Intervals.{IsInterval}
 use Rattle.gnss_obs.specs.Values.{PlanValue}
 use Rattle.rinex_file.specs.Accepted.{AreEpochsBefore, AreEpochsRead, AreFirstEpochs}
 use Rattle.rinex_file.specs.Counting.{AreCounts, IsTextWith}
@@ -27,8 +28,9 @@ use Rattle.rinex_inspect.specs.declared.table.Table.{Table}
 use Rattle.rinex_inspect.specs.inner.QualityLines.{IsPrintable, all_lines}
 use Rattle.rinex_inspect.specs.inner.Tables.{IsBlankTable, IsTableOf, contents_in}
 
--- the tables are those of the last period of these epochs, and of no epoch
+-- the tables are those of the last period of these epochs, of periods of this length, and of no epoch
 pub record AreTables (every : Option ℕ) (t : Tables) (es : List Stamped) : Type 0 where
+  pub interval : IfSome every IsInterval
   pub period : t.period ≡ last_period every es
   pub current : IsTableOf t.current (in_period every (last_period every es) es)
   pub next : IsBlankTable t.next
