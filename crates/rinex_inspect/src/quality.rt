@@ -17,7 +17,7 @@ ghost use Rattle.rinex_inspect.specs.inner.Tables.{IsTableOf};
 
 use crate::check::add_counts;
 use crate::fault::FileFault;
-use crate::quality_lines::{Lines, print_lines};
+use crate::quality_lines::{Lines, Rated, print_lines};
 use crate::table::Table;
 use devices::{Counted, Deliver, deliver_waiting, print_text};
 use gnss_obs::{GpsTime, Interval, WEEK, WEEKS};
@@ -257,7 +257,7 @@ fn print_period<W: Deliver>(
     match every {
         Some(every) => {
             let start = GpsTime::within(period * u64::from(every.milliseconds()));
-            print_lines(&Lines::Period(start), table, file, writer)
+            print_lines(&Lines::Period(start), &Rated { table, file }, writer)
         }
         None => Ok(()),
     }
@@ -279,25 +279,26 @@ fn print_end<W: Deliver>(
 {
     match every {
         Some(_) => print_period(every, &tables.current, tables.period, file, writer),
-        None => print_whole(&tables.current, file, counts, writer),
+        None => {
+            let table = &tables.current;
+            print_whole(&Rated { table, file }, counts, writer)
+        }
     }
 }
 
 /// Writes the counts of a file, and the lines of its signals and satellites.
 fn print_whole<W: Deliver>(
-    table: &Table,
-    file: &EpochReader,
+    rated: &Rated,
     counts: &Counts,
     writer: &mut Counted<W>,
 ) -> Result<(), FileFault>
-    requires fits { IsPrintable table.now (plan_of file.now) }
     requires sent { W.waiting writer.old.inner ≡ [] }
     ensures { (v : FileValue) → AreCounts counts.now v → Writes W.contents W.waiting writer.old writer.new
-        (EndsPrinting FileFault.Write result (whole_text (plan_of file.now) table.now v)) }
+        (EndsPrinting FileFault.Write result (whole_text (plan_of rated.now.file.now) rated.now.table.now v)) }
 {
     let mut line = OutputLine::new();
     add_counts(&mut line, counts);
     print_text(line.as_bytes(), writer, FileFault::Write)?;
-    print_lines(&Lines::Signals, table, file, writer)?;
-    print_lines(&Lines::Satellites, table, file, writer)
+    print_lines(&Lines::Signals, rated, writer)?;
+    print_lines(&Lines::Satellites, rated, writer)
 }

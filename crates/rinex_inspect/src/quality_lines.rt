@@ -37,20 +37,27 @@ pub(crate) enum Lines {
     Period(GpsTime),
 }
 
+/// A table of a file, and the reader that has the file's planned signals.
+#[derive(Drop)]
+pub(crate) struct Rated<'a> {
+    pub(crate) table: &'a Table,
+    pub(crate) file: &'a EpochReader,
+    ghost fits: { IsPrintable table.now (plan_of file.now) },
+}
+
 /// Writes the lines of a table.
 pub(crate) fn print_lines<W: Deliver>(
     lines: &Lines,
-    table: &Table,
-    file: &EpochReader,
+    rated: &Rated,
     writer: &mut Counted<W>,
 ) -> Result<(), FileFault>
-    requires fits { IsPrintable table.now (plan_of file.now) }
     requires sent { W.waiting writer.old.inner ≡ [] }
     ensures { Writes W.contents W.waiting writer.old writer.new
-        (EndsPrinting FileFault.Write result (all_lines lines.now (plan_of file.now) (contents_in table.now))) }
+        (EndsPrinting FileFault.Write result
+        (all_lines lines.now (plan_of rated.now.file.now) (contents_in rated.now.table.now))) }
 {
     for i in 0..SYSTEMS.len() {
-        print_system(lines, table, file, System::at(i), writer)?;
+        print_system(lines, rated, System::at(i), writer)?;
     }
     Ok(())
 }
@@ -58,18 +65,17 @@ pub(crate) fn print_lines<W: Deliver>(
 /// Writes the lines of a system.
 fn print_system<W: Deliver>(
     lines: &Lines,
-    table: &Table,
-    file: &EpochReader,
+    rated: &Rated,
     system: System,
     writer: &mut Counted<W>,
 ) -> Result<(), FileFault>
-    requires fits { IsPrintable table.now (plan_of file.now) }
     requires sent { W.waiting writer.old.inner ≡ [] }
     ensures { Writes W.contents W.waiting writer.old writer.new
-        (EndsPrinting FileFault.Write result (system_lines lines.now (plan_of file.now) (contents_in table.now) system)) }
+        (EndsPrinting FileFault.Write result
+        (system_lines lines.now (plan_of rated.now.file.now) (contents_in rated.now.table.now) system)) }
 {
-    for index in 0..line_count(lines, file, system) {
-        print_if(&line_at(lines, table, file, system, index), writer)?;
+    for index in 0..line_count(lines, rated, system) {
+        print_if(&line_at(lines, rated, system, index), writer)?;
     }
     Ok(())
 }
@@ -87,11 +93,10 @@ fn print_if<W: Deliver>(text: &OutputLine, writer: &mut Counted<W>) -> Result<()
 }
 
 /// Returns how many lines a system has at most.
-fn line_count(lines: &Lines, file: &EpochReader, system: System) -> usize
-    requires { planned_in (plan_of file.now) system ≤ most_signals }
-    ensures { result ≡ line_count lines.now (plan_of file.now) system }
+fn line_count(lines: &Lines, rated: &Rated, system: System) -> usize
+    ensures { result ≡ line_count lines.now (plan_of rated.now.file.now) system }
 {
-    let planned = file.signals(system).len();
+    let planned = rated.file.signals(system).len();
     match lines {
         Lines::Signals => planned,
         Lines::Satellites => system.satellites() as usize,
@@ -100,45 +105,30 @@ fn line_count(lines: &Lines, file: &EpochReader, system: System) -> usize
 }
 
 /// Returns the line of a system at this index, or an empty text.
-fn line_at(
-    lines: &Lines,
-    table: &Table,
-    file: &EpochReader,
-    system: System,
-    index: usize,
-) -> OutputLine
-    requires fits { IsPrintable table.now (plan_of file.now) }
-    requires place { index < line_count lines.now (plan_of file.now) system }
-    ensures { result ≡ line_at lines.now (plan_of file.now) (contents_in table.now) system index }
+fn line_at(lines: &Lines, rated: &Rated, system: System, index: usize) -> OutputLine
+    requires place { index < line_count lines.now (plan_of rated.now.file.now) system }
+    ensures { result ≡ line_at lines.now (plan_of rated.now.file.now) (contents_in rated.now.table.now) system index }
 {
     match lines {
-        Lines::Signals => signal_line(table, file, system, index),
-        Lines::Satellites => satellite_line(table, file, system, index),
+        Lines::Signals => signal_line(rated, system, index),
+        Lines::Satellites => satellite_line(rated, system, index),
         Lines::Period(start) => {
-            let planned = file.signals(system).len();
-            period_line(
-                table,
-                file,
-                system,
-                index / planned,
-                index % planned,
-                *start,
-            )
+            let planned = rated.file.signals(system).len();
+            period_line(rated, system, index / planned, index % planned, *start)
         }
     }
 }
 
 /// Returns the line of a planned signal.
-fn signal_line(table: &Table, file: &EpochReader, system: System, k: usize) -> OutputLine
-    requires fits { IsPrintable table.now (plan_of file.now) }
-    requires place { k < planned_in (plan_of file.now) system }
-    ensures { result ≡ signal_line (plan_of file.now) (contents_in table.now) system k }
+fn signal_line(rated: &Rated, system: System, k: usize) -> OutputLine
+    requires place { k < planned_in (plan_of rated.now.file.now) system }
+    ensures { result ≡ signal_line (plan_of rated.now.file.now) (contents_in rated.now.table.now) system k }
 {
-    let (satellites, total) = total_of(table.records.of(system).as_slice(), k);
+    let (satellites, total) = total_of(rated.table.records.of(system).as_slice(), k);
     let mut line = OutputLine::new();
     line.put(b"signal");
     line.add_part(b' ', &[system.letter()]);
-    add_code(&mut line, file, system, k);
+    add_code(&mut line, rated, system, k);
     line.add_count("satellites", satellites);
     add_tally(&mut line, &total);
     line.finish();
@@ -175,15 +165,14 @@ fn tally_at(records: &[SatelliteRecord], i: usize, k: usize) -> Tally
 }
 
 /// Returns the line of a satellite, or an empty text if it has no line.
-fn satellite_line(table: &Table, file: &EpochReader, system: System, i: usize) -> OutputLine
-    requires fits { IsPrintable table.now (plan_of file.now) }
+fn satellite_line(rated: &Rated, system: System, i: usize) -> OutputLine
     requires place { i < satellites system }
-    ensures { result ≡ satellite_line (plan_of file.now) (contents_in table.now) system i }
+    ensures { result ≡ satellite_line (plan_of rated.now.file.now) (contents_in rated.now.table.now) system i }
 {
-    let record = table.records.of(system)[i];
+    let record = rated.table.records.of(system)[i];
     let mut line = OutputLine::new();
     if record.presence.epochs > 0 {
-        let lost = lost_of(&record.signals, file.signals(system).len());
+        let lost = lost_of(&record.signals, rated.file.signals(system).len());
         line.put(b"satellite");
         add_satellite(&mut line, system, i);
         add_presence(&mut line, &record.presence);
@@ -221,25 +210,17 @@ fn lost_of(signals: &[Tally], planned: usize) -> u64
 }
 
 /// Returns the line of a satellite and signal in a period, or an empty text without a value.
-fn period_line(
-    table: &Table,
-    file: &EpochReader,
-    system: System,
-    i: usize,
-    k: usize,
-    start: GpsTime,
-) -> OutputLine
-    requires fits { IsPrintable table.now (plan_of file.now) }
+fn period_line(rated: &Rated, system: System, i: usize, k: usize, start: GpsTime) -> OutputLine
     requires place { i < satellites system }
-    requires signal { k < planned_in (plan_of file.now) system }
-    ensures { result ≡ period_line (plan_of file.now) start (contents_in table.now) system i k }
+    requires signal { k < planned_in (plan_of rated.now.file.now) system }
+    ensures { result ≡ period_line (plan_of rated.now.file.now) start (contents_in rated.now.table.now) system i k }
 {
-    let tally = tally_at(table.records.of(system).as_slice(), i, k);
+    let tally = tally_at(rated.table.records.of(system).as_slice(), i, k);
     let mut line = OutputLine::new();
     if tally.has_values() {
         line.put(&time_word(start).as_bytes()[1..]);
         add_satellite(&mut line, system, i);
-        add_code(&mut line, file, system, k);
+        add_code(&mut line, rated, system, k);
         add_tally(&mut line, &tally);
         line.finish();
     }
@@ -247,13 +228,13 @@ fn period_line(
 }
 
 /// Adds the code of a planned signal after a blank.
-fn add_code(line: &mut OutputLine, file: &EpochReader, system: System, k: usize)
+fn add_code(line: &mut OutputLine, rated: &Rated, system: System, k: usize)
     requires room { length line.old ≤ 100 }
-    requires place { k < planned_in (plan_of file.now) system }
-    ensures text { line.new ≡ line.old ++ 0x20 ∷ code_at (plan_of file.now) system k }
+    requires place { k < planned_in (plan_of rated.now.file.now) system }
+    ensures text { line.new ≡ line.old ++ 0x20 ∷ code_at (plan_of rated.now.file.now) system k }
     ensures short { length line.new ≤ length line.old + 3 }
 {
-    let index = file.signals(system)[k].index();
+    let index = rated.file.signals(system)[k].index();
     line.put(b" ");
     if let Some(signal) = Signal::from_index(system, index) {
         line.put(&signal.code());

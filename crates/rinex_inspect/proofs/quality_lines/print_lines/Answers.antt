@@ -5,7 +5,7 @@ use Rattle.rinex_inspect.proofs.quality_lines.print_lines.Goals as goal
 pub returns-in_err-print_system : goal.returns-in_err-print_system
 returns-in_err-print_system g c =
     let at = writer_of g.W.Write.contents g.W.Deliver.waiting in
-    let f : System → List ℕ = system_lines c.args.lines.now (plan_of c.args.file.now) (contents_in c.args.table.now) in
+    let f : System → List ℕ = system_lines c.args.lines.now (plan_of c.args.rated.now.file.now) (contents_in c.args.rated.now.table.now) in
     let i = c.loop-i.i in
     let s = c.at.result in
     let front : flat_map f (take (i + 1) systems) ≡ flat_map f (take i systems) ++ f s = ap (flat_map f) (systems_taken i s c.at.ensures) ∙ flat_map-append f (take i systems) (s ∷ []) ∙ ap (λ (l : List ℕ). flat_map f (take i systems) ++ l) (append-nil (f s)) in
