@@ -13,7 +13,7 @@ use gnss_obs::{GpsTime, Interval, StationValues};
 use gnss_system::{BySystem, SYSTEMS, System};
 use rinex_columns::{Line, labelled, put, put_fixed, put_left, put_seconds, put_whole};
 
-// The labels, in columns 61 to 80, of the rows that are read and written by `labelled`.
+// The labels, in columns 61 to 80, of rows that are both written and read back.
 
 /// The height of the antenna above the marker.
 pub(crate) const DELTA: &[u8] = b"ANTENNA: DELTA H/E/N";

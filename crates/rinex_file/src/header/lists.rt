@@ -29,7 +29,7 @@ pub(crate) fn type_rows(signals: usize) -> usize
     requires { signals ≤ 1000 }
     ensures { result ≡ type_rows signals }
 {
-    (4 * signals + TYPES_IN_LINE - 1) / TYPES_IN_LINE
+    (4 * signals).div_ceil(TYPES_IN_LINE)
 }
 
 /// Appends the columns before the types of a line: the system's letter and the number of types on
@@ -110,7 +110,7 @@ pub(crate) fn slot_rows(count: usize) -> usize
     requires { count ≤ 1000 }
     ensures { result ≡ slot_rows count }
 {
-    (count + 7) / SLOTS_IN_LINE
+    count.div_ceil(SLOTS_IN_LINE)
 }
 
 /// Appends the columns before the slots of a line: their number on the first line, blanks on the

@@ -183,7 +183,7 @@ fn put_cells(row: &mut [u8; MOST_LINE], cells: &[Cell], plan: &Plan, system: Sys
     ensures front { take 3 row.new ≡ take 3 row.old }
     ensures few { result < 2 ^ most_signals }
 {
-    // By the contract of `of` no signal is planned twice, so each has one index.
+    // By the contract of `list` no signal is planned twice, so each has one index.
     let signals = plan.list(system);
     let mut own = 0;
     // The first cell of a signal is the one that is written, so it is written last.
