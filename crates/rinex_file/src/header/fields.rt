@@ -38,31 +38,62 @@ pub enum HeaderField {
     AntType,
 }
 
-/// Returns rows, one a line.
-macro_rules! field_rows {
-    ($($name:expr, $width:expr, $label:expr, $front:expr, [$($text:ident),*], $always:expr;)*) => {
-        &[$(($name, $width, $label, $front, &[$($text),*], $always)),*]
+/// A text: its name in [`Texts`](crate::Texts), its width in columns, and the row that begins with
+/// it.
+struct Field {
+    name: &'static str,
+    width: usize,
+    row: Row,
+}
+
+/// A row of texts, which is there if some text in it isn't empty; or no row, without a label.
+struct Row {
+    /// The label, in columns 61 to 80.
+    label: &'static [u8],
+    /// The columns before the texts.
+    front: &'static [u8],
+    fields: &'static [HeaderField],
+    /// Whether each header has it.
+    is_required: bool,
+}
+
+/// Returns a row, or no row.
+macro_rules! row {
+    () => {
+        row!(b"", b"", [], true)
+    };
+    ($label:expr, $front:expr, [$($field:ident),*], $is_required:expr) => {
+        Row {
+            label: $label,
+            front: $front,
+            fields: &[$($field),*],
+            is_required: $is_required,
+        }
     };
 }
 
-/// The texts, in the order in which they are validated: the name in [`Texts`](crate::Texts) and the
-/// width in columns; and, if a row begins with the text, the row's label, the columns before its
-/// texts, its texts, and whether each header has it. Another row is there if some text in it isn't
-/// empty.
-const FIELDS: &[(&str, usize, &[u8], &[u8], &[HeaderField], bool)] = field_rows! {
-    "run_by", 20, b"PGM / RUN BY / DATE", b"rtcm2rinex          ", [RunBy, Date], true;
-    "date", 20, b"", b"", [], true;
-    "comment", 60, b"COMMENT", b"", [Comment], false;
-    "marker", 60, b"MARKER NAME", b"", [Marker], true;
-    "marker_number", 20, b"MARKER NUMBER", b"", [MarkerNumber], false;
-    "marker_type", 20, b"MARKER TYPE", b"", [MarkerType], true;
-    "observer", 20, b"OBSERVER / AGENCY", b"", [Observer, Agency], true;
-    "agency", 40, b"", b"", [], true;
-    "rec_number", 20, b"REC # / TYPE / VERS", b"", [RecNumber, RecType, RecVersion], true;
-    "rec_type", 20, b"", b"", [], true;
-    "rec_version", 20, b"", b"", [], true;
-    "ant_number", 20, b"ANT # / TYPE", b"", [AntNumber, AntType], true;
-    "ant_type", 20, b"", b"", [], true;
+/// Returns texts, one a line.
+macro_rules! fields {
+    ($($name:expr, $width:expr, ($($row:tt)*);)*) => {
+        &[$(Field { name: $name, width: $width, row: row!($($row)*) }),*]
+    };
+}
+
+/// The texts, in the order in which they are validated.
+const FIELDS: &[Field] = fields! {
+    "run_by", 20, (b"PGM / RUN BY / DATE", b"rtcm2rinex          ", [RunBy, Date], true);
+    "date", 20, ();
+    "comment", 60, (b"COMMENT", b"", [Comment], false);
+    "marker", 60, (b"MARKER NAME", b"", [Marker], true);
+    "marker_number", 20, (b"MARKER NUMBER", b"", [MarkerNumber], false);
+    "marker_type", 20, (b"MARKER TYPE", b"", [MarkerType], true);
+    "observer", 20, (b"OBSERVER / AGENCY", b"", [Observer, Agency], true);
+    "agency", 40, ();
+    "rec_number", 20, (b"REC # / TYPE / VERS", b"", [RecNumber, RecType, RecVersion], true);
+    "rec_type", 20, ();
+    "rec_version", 20, ();
+    "ant_number", 20, (b"ANT # / TYPE", b"", [AntNumber, AntType], true);
+    "ant_type", 20, ();
 };
 
 impl HeaderField {
@@ -88,7 +119,7 @@ impl HeaderField {
         ensures value { result ≡ width_of self }
         ensures bound { result ≤ content_columns }
     {
-        FIELDS[self.place()].1
+        FIELDS[self.place()].width
     }
 
     /// Returns the name of the field in [`Texts`](crate::Texts).
@@ -96,7 +127,7 @@ impl HeaderField {
         ensures value { result.now ≡ field_name self }
         ensures short { length result.now ≤ 13 }
     {
-        FIELDS[self.place()].0
+        FIELDS[self.place()].name
     }
 
     /// Returns the index among all fields, counted from 0.
@@ -112,7 +143,7 @@ impl HeaderField {
         ensures value { result.now ≡ label_of self }
         ensures bound { length result.now ≤ label_columns }
     {
-        FIELDS[self.place()].2
+        FIELDS[self.place()].row.label
     }
 
     /// Returns the columns before the texts of that row.
@@ -120,14 +151,14 @@ impl HeaderField {
         ensures value { result.now ≡ front_of self }
         ensures bound { length result.now ≤ 20 }
     {
-        FIELDS[self.place()].3
+        FIELDS[self.place()].row.front
     }
 
     /// Returns whether each header has that row.
     pub(crate) fn is_required(self) -> bool
         ensures { result ≡ is_required self }
     {
-        FIELDS[self.place()].5
+        FIELDS[self.place()].row.is_required
     }
 
     /// Returns the texts of that row, in order.
@@ -135,7 +166,7 @@ impl HeaderField {
         ensures value { result.now ≡ fields_of self }
         ensures bound { length result.now ≤ 3 }
     {
-        FIELDS[self.place()].4
+        FIELDS[self.place()].row.fields
     }
 }
 
