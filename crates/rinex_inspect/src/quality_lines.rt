@@ -21,7 +21,7 @@ use crate::fault::FileFault;
 use crate::table::{SatelliteRecord, Table};
 use crate::tally::{Presence, Tally, one_if};
 use devices::{Counted, Deliver, print_text};
-use gnss_obs::{GpsTime, Signal};
+use gnss_obs::GpsTime;
 use gnss_system::{SYSTEMS, System};
 use line_texts::OutputLine;
 use rinex_file::EpochReader;
@@ -234,11 +234,8 @@ fn add_code(line: &mut OutputLine, rated: &Rated, system: System, k: usize)
     ensures text { line.new ≡ line.old ++ 0x20 ∷ code_at (plan_of rated.now.file.now) system k }
     ensures short { length line.new ≤ length line.old + 3 }
 {
-    let index = rated.file.signals(system)[k].index();
     line.put(b" ");
-    if let Some(signal) = Signal::from_index(system, index) {
-        line.put(&signal.code());
-    }
+    line.put(&rated.file.signals(system)[k].code());
 }
 
 /// Adds the letter of a system and the number of the satellite at this index, after a blank.

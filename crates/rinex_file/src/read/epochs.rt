@@ -9,6 +9,7 @@ ghost use Rattle.rinex_file.specs.Value.{Stamped};
 ghost use Rattle.rinex_file.specs.inner.Read.Steps.{GoesOnReading, HasRead};
 ghost use Rattle.gnss_obs.specs.SignalLists.{indices};
 ghost use Rattle.gnss_obs.specs.Values.{planned_of};
+ghost use Rattle.gnss_obs.specs.inner.SignalLists.{IsOf};
 ghost use Rattle.rinex_file.specs.inner.Read.EpochSteps.{BeginsEpoch, FinishesEpoch, HasReadEpochs, HasReadRows};
 ghost use Rattle.rinex_file.specs.inner.Read.EpochSteps.{ReadsRow, plan_of, row_of};
 
@@ -201,7 +202,8 @@ impl EpochReader {
     /// Returns the planned signals of a system, in the order of the file. They are read with the
     /// header, so none is planned before the first epoch was begun.
     pub fn signals(&self, system: System) -> &[Signal]
-        ensures { indices result.now ≡ planned_of system (plan_of self.now) }
+        ensures indices { indices result.now ≡ planned_of system (plan_of self.now) }
+        ensures system { IsOf system result.now }
     {
         self.parser_state.head.signals(system)
     }

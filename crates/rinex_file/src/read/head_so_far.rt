@@ -3,6 +3,7 @@ ghost use Rattle.std.specs.Prelude.{◌≡◌, ◌<◌, ◌≤◌, ◌+◌, true
 ghost use Rattle.gnss_system.specs.Signals.{table};
 ghost use Rattle.gnss_obs.specs.SignalLists.{indices};
 ghost use Rattle.gnss_obs.specs.Values.{planned_of};
+ghost use Rattle.gnss_obs.specs.inner.SignalLists.{IsOf};
 ghost use Rattle.rinex_file.specs.Header.{has_label, is_of_types, type_rows};
 ghost use Rattle.rinex_file.specs.inner.Header.{row_at};
 ghost use Rattle.rinex_columns.specs.Limits.{label_columns};
@@ -101,6 +102,7 @@ impl HeadSoFar {
         ensures count { result.now.count ≡ counted self.now system }
         ensures signals { indices result.now.signals ≡ planned_of system self.now.shown.plan }
         ensures few { result.now.count ≤ length (table system) }
+        ensures system { IsOf system result.now.signals }
     {
         self.types.of(system)
     }
@@ -114,7 +116,8 @@ impl HeadSoFar {
 
     /// Returns the signals of a system that were read.
     pub(crate) fn signals(&self, system: System) -> &[Signal]
-        ensures { indices result.now ≡ planned_of system self.now.shown.plan }
+        ensures indices { indices result.now ≡ planned_of system self.now.shown.plan }
+        ensures system { IsOf system result.now }
     {
         self.of(system).signals.as_slice()
     }
