@@ -19,7 +19,7 @@ ghost use Rattle.rinex_inspect.specs.inner.Tables.{contents_in, no_record, tally
 use crate::check::add_instant;
 use crate::fault::FileFault;
 use crate::table::{SatelliteRecord, Table};
-use crate::tally::{Presence, Tally, one_if};
+use crate::tally::{Presence, Tally};
 use devices::{Counted, Deliver, print_text};
 use gnss_obs::GpsTime;
 use gnss_system::{SYSTEMS, System};
@@ -149,7 +149,7 @@ fn total_of(records: &[SatelliteRecord], k: usize) -> (u64, Tally)
     let mut total = Tally::new();
     for i in 0..records.len() {
         let tally = tally_at(records, i, k);
-        satellites += u64::from(one_if(tally.has_values()));
+        satellites += u64::from(tally.has_values());
         total = total.plus(tally);
     }
     (satellites, total)

@@ -1,5 +1,5 @@
 //! What satellites and their signals have in the epochs so far.
-ghost use Rattle.std.specs.Prelude.{◌≡◌, ◌+◌, if◌then◌else◌, is_some};
+ghost use Rattle.std.specs.Prelude.{◌≡◌, ◌+◌, is_some};
 ghost use Rattle.rinex_inspect.specs.Tallies.{has_values, is_half, is_lost, no_tally, strength_of};
 ghost use Rattle.rinex_inspect.specs.inner.Tables.{plus, with_values};
 
@@ -68,12 +68,12 @@ impl Tally {
         ensures { result ≡ with_values self values.now }
     {
         Tally {
-            c: self.c.saturating_add(one_if(values.c.is_some())),
-            l: self.l.saturating_add(one_if(values.l.is_some())),
-            d: self.d.saturating_add(one_if(values.d.is_some())),
-            s: self.s.saturating_add(one_if(values.s.is_some())),
-            lost: self.lost.saturating_add(one_if(is_lost(values))),
-            half: self.half.saturating_add(one_if(is_half(values))),
+            c: self.c.saturating_add(u32::from(values.c.is_some())),
+            l: self.l.saturating_add(u32::from(values.l.is_some())),
+            d: self.d.saturating_add(u32::from(values.d.is_some())),
+            s: self.s.saturating_add(u32::from(values.s.is_some())),
+            lost: self.lost.saturating_add(u32::from(is_lost(values))),
+            half: self.half.saturating_add(u32::from(is_half(values))),
             strength: self.strength.saturating_add(strength_of(values.s)),
         }
     }
@@ -92,14 +92,6 @@ impl Tally {
             strength: self.strength.saturating_add(other.strength),
         }
     }
-}
-
-/// Returns 1 if it is so, and 0 otherwise.
-#[inline(always)]
-pub(crate) fn one_if(is_so: bool) -> u32
-    ensures { result ≡ (if is_so then 1 else 0) }
-{
-    if is_so { 1 } else { 0 }
 }
 
 /// Returns whether lock was lost at a phase.
