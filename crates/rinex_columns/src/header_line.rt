@@ -1,6 +1,7 @@
 //! A line of a header, written and read back: its content, and the label after it.
 ghost use Rattle.std.specs.Prelude.{◌≡◌, ◌↔◌, ◌+◌, ◌≤◌, IsTrue, is_some, length};
-ghost use Rattle.rinex_columns.specs.HeaderLine.{header_line};
+ghost use Rattle.rinex_columns.specs.HeaderLine.{has_label, header_line};
+ghost use Rattle.rinex_columns.specs.Limits.{label_columns};
 
 use crate::read::is_same;
 use crate::write::{Line, put_left};
@@ -30,4 +31,15 @@ pub fn read_labelled(line: &[u8], content: &[u8], label: &[u8]) -> Option<()>
     ensures { IsTrue (is_some result) ↔ (line.now ≡ header_line content.now label.now) }
 {
     is_same(line, labelled(content, label).as_slice()).then_some(())
+}
+
+/// Returns whether a line has this label.
+pub fn has_label(line: &[u8], label: &[u8]) -> bool
+    requires { length label.now ≤ label_columns }
+    ensures { result ≡ has_label label.now line.now }
+{
+    let mut end = Line::new();
+    put_left(&mut end, LABEL_COLUMNS, label);
+    end.push(b'\n');
+    line.ends_with(end.as_slice())
 }

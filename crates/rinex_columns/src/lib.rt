@@ -14,7 +14,7 @@ mod header_line;
 mod read;
 mod write;
 
-pub use header_line::{CONTENT_COLUMNS, labelled, read_labelled};
+pub use header_line::{CONTENT_COLUMNS, has_label, labelled, read_labelled};
 pub use read::{columns, digits_in, is_same, signed};
 pub use write::{
     Line, MOST_LINE, SIGNAL_COLUMNS, VALUE_COLUMNS, put, put_fixed, put_left, put_seconds, put_two,

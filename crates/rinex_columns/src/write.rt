@@ -12,7 +12,7 @@ use itoa::Buffer;
 pub const VALUE_COLUMNS: usize = 16;
 
 /// Width of a signal, in columns: pseudorange, phase, Doppler shift and strength.
-pub const SIGNAL_COLUMNS: usize = 64;
+pub const SIGNAL_COLUMNS: usize = 4 * VALUE_COLUMNS;
 
 /// Largest size of a line with its line feed, in bytes: three columns for a satellite, and
 /// those of its signals.

@@ -1,7 +1,7 @@
 -- The lines of a header, RINEX 3.05, table A2: content in columns 1 to 60, the label from column 61 on.
 use Rattle.std.specs.Prelude.{ℕ, zero, suc, ℤ, pos, ◌+◌, ◌*◌, ◌/◌, ◌==◌, if◌then◌else◌, List, [], ◌∷◌, ◌++◌}
-use Rattle.std.specs.Prelude.{Option, is_some, unwrap_or, length, take, drop, map, flat_map, replicate, decimal, codes, Bool, true, nat_eq, nat_lt}
-use Rattle.std.specs.List.{ends_with, filter}
+use Rattle.std.specs.Prelude.{Option, is_some, unwrap_or, length, take, drop, map, flat_map, replicate, decimal, codes, Bool, true, nat_lt}
+use Rattle.std.specs.List.{filter}
 use Rattle.gnss_system.specs.Satellites.{letter}
 use Rattle.gnss_system.specs.Systems.{systems}
 use Rattle.gnss_system.specs.Signals.{code_of}
@@ -17,8 +17,7 @@ use Rattle.rinex_file.specs.declared.header.fields.HeaderField.TheVariants.{Obse
 use Rattle.rinex_file.specs.declared.header.rows.HeaderRow.{HeaderRow}
 use Rattle.rinex_file.specs.declared.header.rows.HeaderRow.TheVariants.{Version, Texts, Position, Delta, Types}
 use Rattle.rinex_file.specs.declared.header.rows.HeaderRow.TheVariants.{StrengthUnit, Interval, First, Shift, Slots, Biases, End}
-use Rattle.rinex_columns.specs.HeaderLine.{header_line}
-use Rattle.rinex_columns.specs.Limits.{label_columns}
+use Rattle.rinex_columns.specs.HeaderLine.{has_label, header_line}
 use Rattle.rinex_columns.specs.Numbers.{joined, left, right, fixed}
 use Rattle.rinex_file.specs.Slots.{SlotNumber, slots_of, slots_columns, slot_rows}
 use Rattle.rinex_file.specs.Limits.{types_in_line}
@@ -212,10 +211,6 @@ unfoldable pub header_lines : Shown → List (List ℕ)
 header_lines h = flat_map (row_lines h) all_rows
 
 -- ---- line by line
-
--- a line, with its line feed, has this label
-abbrev pub has_label : List ℕ → List ℕ → Bool
-has_label label line = ends_with nat_eq line (left label_columns label ++ 10 ∷ [])
 
 -- a line has the label of observation types
 abbrev pub is_of_types : List ℕ → Bool

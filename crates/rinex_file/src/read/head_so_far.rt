@@ -4,9 +4,8 @@ ghost use Rattle.gnss_system.specs.Signals.{table};
 ghost use Rattle.gnss_obs.specs.SignalLists.{indices};
 ghost use Rattle.gnss_obs.specs.Values.{planned_of};
 ghost use Rattle.gnss_obs.specs.inner.SignalLists.{IsOf};
-ghost use Rattle.rinex_file.specs.Header.{has_label, is_of_types, type_rows};
+ghost use Rattle.rinex_file.specs.Header.{is_of_types, type_rows};
 ghost use Rattle.rinex_file.specs.inner.Header.{row_at};
-ghost use Rattle.rinex_columns.specs.Limits.{label_columns};
 ghost use Rattle.rinex_file.specs.inner.Read.Progress.{AreValid, IsHeadAt, counted, signals_begun, is_chosen, fits};
 ghost use Rattle.rinex_file.specs.inner.Read.HeaderSteps.{begins_with, expected_if, known_line, SameFrom};
 ghost use Rattle.rinex_file.specs.inner.Read.HeaderSteps.{TakesHeaderLine, TakesTypes, RefusesTypes, with_types};
@@ -25,12 +24,9 @@ use crate::read::slots::SlotsSoFar;
 use crate::read::types::TypesSoFar;
 use gnss_obs::{GpsTime, Interval, Signal, StationValues};
 use gnss_system::{BySystem, System};
-use rinex_columns::{Line, put_left, read_labelled};
+use rinex_columns::{has_label, read_labelled};
 use std::alloc::Global;
 use std::marker::Model;
-
-/// Width of the label of a line, in columns.
-const LABEL_COLUMNS: usize = 20;
 
 /// What was read of a header.
 #[derive(Drop)]
@@ -266,17 +262,6 @@ impl HeadSoFar {
             .then_some(Expected::Header(place))
             .ok_or(Refusal::Bad)
     }
-}
-
-/// Returns whether a line has this label.
-fn has_label(line: &[u8], label: &[u8]) -> bool
-    requires { length label.now ≤ label_columns }
-    ensures { result ≡ has_label label.now line.now }
-{
-    let mut end = Line::new();
-    put_left(&mut end, LABEL_COLUMNS, label);
-    end.push(b'\n');
-    line.ends_with(end.as_slice())
 }
 
 /// Returns whether a text begins with this byte.

@@ -25,7 +25,8 @@ use Rattle.rinex_file.specs.Texts.{HeaderLists, place_of, width_of, fault_of, fi
 use Rattle.rinex_file.specs.Texts.{has_row, is_required, label_of}
 use Rattle.rinex_file.specs.FileValues.{AreTexts}
 use Rattle.rinex_file.specs.Header.{header_lines, row_line, texts_line, type_rows, types_with, slots_with, has_line}
-use Rattle.rinex_file.specs.Header.{has_label, is_of_types}
+use Rattle.rinex_columns.specs.HeaderLine.{has_label}
+use Rattle.rinex_file.specs.Header.{is_of_types}
 use Rattle.rinex_file.specs.inner.Header.{row_at, row_place, row_count, most_type_rows, is_given, is_optional}
 use Rattle.rinex_file.specs.Slots.{SlotNumber, AreSlots, last_slot, slot_rows}
 use Rattle.rinex_file.specs.inner.Read.Progress.{Known, Shown, IsHeadAt, Has, HasRow, IsRowRead, IsRowUnread}
