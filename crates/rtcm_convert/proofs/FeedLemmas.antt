@@ -1,16 +1,32 @@
 -- A piece that a converter accepts, and the end of its stream.
-use Rattle.rtcm_convert.proofs.Names.{common_steps, fault_of_none, Fault, ap, FinishesEmptyNow, sym, ◌≡◌, ◌≢◌, ℕ, ◌<◌, ◌++◌, List, length, Bool, true, false, subst, ◌∙◌, [], Option, arith, refl, Device, HasExaminedSome, Passes, Breaks, PassesToLimit, AtFault, up_to_limit, FramerValue, StreamFault, Sink, Conversion, kept_of, KeepsNow, IsGoing, IsFit, HasConverted, HasFinished, TakesPiece, CutsAtLimit, WritesPrefixOfAdded, FinishesNow, SetupValue, IsKeptAtEnd, IsWithinBounds, skipped_before, frames_of, known_place, report_with, Report, FiledGrows, Files, BreaksFiling, EndsBytes, AppendsDecided, FileWriter}
-use Rattle.rtcm_scan.specs.declared.feed.StreamFault.TheVariants.{Read, TooLong}
+use Rattle.rtcm_convert.proofs.Names.{Err, FailsWithReader, FailsWithWriter, HasFailed, IsErrOf, longest_frame, common_steps, fault_of_none, Fault, ap, FinishesEmptyNow, sym, ◌≡◌, ◌≢◌, ℕ, ◌<◌, ◌++◌, List, length, Bool, true, false, subst, ◌∙◌, [], Option, arith, refl, Device, HasExaminedSome, Passes, Breaks, PassesToLimit, AtFault, up_to_limit, FramerValue, StreamFault, Conversion, kept_of, KeepsNow, IsGoing, IsFit, HasConverted, HasFinished, TakesPiece, CutsAtLimit, WritesPrefixOfAdded, FinishesNow, SetupValue, IsKeptAtEnd, IsWithinBounds, skipped_before, frames_of, known_place, report_with, Report, FiledGrows, Files, BreaksFiling, EndsBytes, AppendsDecided, FileWriter}
+use Rattle.rtcm_convert.specs.declared.fault.Fault.TheVariants as faults
+use Rattle.rtcm_convert.specs.Faults.{stream_fault}
+use Rattle.rtcm_scan.specs.inner.Passing.{CountsReads}
+use Rattle.rtcm_scan.specs.declared.feed.StreamFault.TheVariants as stream
 use Rattle.rtcm_convert.proofs.StreamLemmas.{piece_whole, piece_part, piece_fine, to_limit}
 
-pub read_of : {F : Type 0} (f : StreamFault F) (P Q R : Type 0) → f ≡ Read → AtFault f P Q R → P
-read_of f P Q R e a = subst (λ (x : StreamFault _). AtFault x P Q R) e a
+module _ {A F : Type 0} (f : StreamFault F) {k : Fault} (P Q R : Type 0) (is : k ≡ stream_fault f) (at : AtFault f P Q R) where
+  pub read_of : IsErrOf {T = A} (Err k) faults.Read → P
+  read_of e = grind (arith, common_steps)
 
-pub long_of : {F : Type 0} (f : StreamFault F) (P Q R : Type 0) → f ≡ TooLong → AtFault f P Q R → Q
-long_of f P Q R e a = subst (λ (x : StreamFault _). AtFault x P Q R) e a
+  pub long_of : IsErrOf {T = A} (Err k) faults.TooLong → Q
+  long_of e = grind (arith, common_steps)
 
-pub sink_of : {F : Type 0} (f : StreamFault F) (x : F) (P Q R : Type 0) → f ≡ Sink x → AtFault f P Q R → R
-sink_of f x P Q R e a = subst (λ (y : StreamFault _). AtFault y P Q R) e a
+  pub sink_of : IsErrOf {T = A} (Err k) faults.Write → R
+  sink_of e = grind (arith, common_steps)
+
+-- the devices after a fault
+pub writer_at : {W F P Q R : Type 0} (A : Type 0) (f : StreamFault F) {k : Fault} (old new : Device W) → k ≡ stream_fault f → AtFault f P Q R → (P → (new.failures ≡ old.failures) × (new.widest ≡ old.widest))
+    → (Q → (new.failures ≡ old.failures) × (new.widest ≡ old.widest)) → (R → HasFailed old.failures new.failures × (new.widest ≡ old.widest)) → FailsWithWriter {A = A} (Err k) old new
+writer_at A stream.Read old new is at p q r = subst (λ (e : Fault). FailsWithWriter {A = A} (Err e) old new) (sym is) ((p at).0, tt, (p at).1)
+writer_at A stream.TooLong old new is at p q r = subst (λ (e : Fault). FailsWithWriter {A = A} (Err e) old new) (sym is) ((q at).0, tt, (q at).1)
+writer_at A (stream.Sink x) old new is at p q r = subst (λ (e : Fault). FailsWithWriter {A = A} (Err e) old new) (sym is) ((r at).0, tt, (r at).1)
+
+pub reader_at : {R F : Type 0} (A B : Type 0) (f : StreamFault F) {k : Fault} (old new : Device R) → k ≡ stream_fault f → CountsReads {A = B} (Err f) old new longest_frame → FailsWithReader {A = A} (Err k) old new
+reader_at A B stream.Read old new is counts = subst (λ (e : Fault). FailsWithReader {A = A} (Err e) old new) (sym is) (counts.0, tt, counts.2)
+reader_at A B stream.TooLong old new is counts = subst (λ (e : Fault). FailsWithReader {A = A} (Err e) old new) (sym is) (counts.0, tt, counts.2)
+reader_at A B (stream.Sink x) old new is counts = subst (λ (e : Fault). FailsWithReader {A = A} (Err e) old new) (sym is) (counts.0, tt, counts.2)
 
 abbrev pub with_flags : Bool → Bool → FramerValue → FileWriter → Conversion
 with_flags failed over v w = record { scan = v; file_writer = w; has_failed = failed; has_ended = over }

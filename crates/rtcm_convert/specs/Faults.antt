@@ -3,6 +3,8 @@ use Rattle.std.specs.Prelude.{◌≡◌, ◌≤◌, ◌⊎◌, ◌==◌, if◌th
 use Rattle.devices.specs.Device.{Device}
 use Rattle.devices.specs.Devices.{Culprit, TheReader, TheWriter, NoDevice, ReaderFailures, WriterFailures}
 use Rattle.rtcm_bits.specs.FrameOf.{longest_frame}
+use Rattle.rtcm_scan.specs.declared.feed.StreamFault.{StreamFault}
+use Rattle.rtcm_scan.specs.declared.feed.StreamFault.TheVariants as stream
 use Rattle.rtcm_convert.specs.declared.fault.Fault.{Fault}
 use Rattle.rtcm_convert.specs.declared.fault.Fault.TheVariants.{BadSetup, Memory, Read, TooLong, NoEpoch, NoneChosen, Write}
 use Rattle.obs_epoch.specs.declared.choice.EpochCounts.{EpochCounts}
@@ -20,6 +22,12 @@ IsSentAtFault refusal before after = after ≡ before
 abbrev pub IsSentAfter : {A : Type 0} → Result A Fault → (before after : List ℕ) → Type 0
 IsSentAfter (Ok x) before after = after ≡ []
 IsSentAfter (Err fault) before after = IsSentAtFault fault before after
+
+-- the fault of a call for a fault of a stream
+abbrev pub stream_fault : {F : Type 0} → StreamFault F → Fault
+stream_fault stream.Read = Read
+stream_fault stream.TooLong = TooLong
+stream_fault (stream.Sink failed) = Write
 
 -- the device that failed at a fault
 abbrev pub culprit : Fault → Culprit

@@ -31,7 +31,7 @@ use crate::setup::Setup;
 use devices::{Counted, Deliver};
 use gnss_system::{BySystem, System};
 use rtcm_bits::LONGEST_FRAME;
-use rtcm_scan::{Frame, Framer, MOST_BYTES, StreamFault};
+use rtcm_scan::{Frame, Framer, MOST_BYTES};
 use std::alloc::Global;
 use std::io::Read;
 use std::marker::Model;
@@ -156,15 +156,10 @@ impl Converter {
                 let _ = self.kept();
                 Ok(())
             }
-            Err(StreamFault::TooLong) => {
+            Err(stopped) => {
                 self.failed = true;
-                Err(Fault::TooLong)
+                Err(Fault::from(stopped))
             }
-            Err(StreamFault::Sink(_)) => {
-                self.failed = true;
-                Err(Fault::Write)
-            }
-            Err(StreamFault::Read) => unreachable!(),
         }
     }
 
@@ -347,17 +342,9 @@ impl Converter {
                 let _ = self.kept();
                 self.finish(writer)
             }
-            Err(StreamFault::Read) => {
+            Err(fault) => {
                 self.failed = true;
-                Err(Fault::Read)
-            }
-            Err(StreamFault::TooLong) => {
-                self.failed = true;
-                Err(Fault::TooLong)
-            }
-            Err(StreamFault::Sink(_fault)) => {
-                self.failed = true;
-                Err(Fault::Write)
+                Err(Fault::from(fault))
             }
         }
     }

@@ -1,10 +1,10 @@
 -- Each end of a feed: refused at once, fed, or stopped by TooLong or the file's writer, with the record of what was
 -- made, for a value of the converter with its parts inside.
 use Rattle.rtcm_convert.proofs.FaultLemmas.{not_err}
-use Rattle.rtcm_convert.proofs.FeedLemmas.{with_flags, long_of, sink_of, fed_whole, fed_fit, fed_long, fed_part}
+use Rattle.rtcm_convert.proofs.FeedLemmas.{with_flags, long_of, sink_of, writer_at, fed_whole, fed_fit, fed_long, fed_part}
 use Rattle.rtcm_convert.proofs.RunLemmas.{going_on}
 use Rattle.rtcm_convert.proofs.StreamLemmas.{piece_fine, piece_failed}
-use Rattle.rtcm_convert.proofs.Names.{◌∙◌, subst, true, up_to_limit, Conversion, CutsAtLimit, TakesPiece, WritesPrefixOfAdded}
+use Rattle.rtcm_convert.proofs.Names.{⊤, ◌∙◌, subst, true, up_to_limit, Conversion, CutsAtLimit, TakesPiece, WritesPrefixOfAdded}
 use Rattle.rtcm_convert.proofs.converter.Converter.feed.Goals as goal
 
 pub invariant_of-self : goal.invariant_of-self
@@ -23,23 +23,19 @@ returns-in-Ok-clause-device g c =
 pub returns-in-Ok-clause-part : goal.returns-in-Ok-clause-part
 returns-in-Ok-clause-part g c = λ e. absurd (not_err _ _ e)
 
-pub returns-in-Err-TooLong-clause-long : goal.returns-in-Err-TooLong-clause-long
-returns-in-Err-TooLong-clause-long g c =
+pub returns-in-Err-clause-long : goal.returns-in-Err-clause-long
+returns-in-Err-clause-long g c =
     let go = going_on c.self.view_is c.in_ok-refuse.ensures.going in
-    let k = long_of c.in-Err-TooLong.field-0 _ _ _ c.in-Err-TooLong.field-0-is c.in-Err-TooLong.ensures.fault in
-    λ _. subst (λ (x : Conversion). CutsAtLimit x (with_flags true c.self.inside.finished c.feed.new.self c.feed.new.sink) (g.W.Write.contents c.args.writer.now.inner) (g.W.Write.contents c.feed.new.out.inner) c.args.piece.now) c.self.view_is (fed_long c.args.piece.now (c.self.invariant.listening go) (c.feed.ensures.same.ended ∙ c.self.invariant.listening go) k)
+    λ e. subst (λ (x : Conversion). CutsAtLimit x (with_flags true c.self.inside.finished c.feed.new.self c.feed.new.sink) (g.W.Write.contents c.args.writer.now.inner) (g.W.Write.contents c.feed.new.out.inner) c.args.piece.now) c.self.view_is
+    (fed_long c.args.piece.now (c.self.invariant.listening go) (c.feed.ensures.same.ended ∙ c.self.invariant.listening go) (long_of c.in-Err.stopped _ _ _ c.from.ensures c.in-Err.ensures.fault e))
 
-pub returns-in-Err-TooLong-clause-device : goal.returns-in-Err-TooLong-clause-device
-returns-in-Err-TooLong-clause-device g c =
-    let k = long_of c.in-Err-TooLong.field-0 _ _ _ c.in-Err-TooLong.field-0-is c.in-Err-TooLong.ensures.fault in
-    let d = piece_fine g.W.Write.contents (up_to_limit c.self.inside.framer c.args.piece.now) k.passes (c.self.invariant.drained (going_on c.self.view_is c.in_ok-refuse.ensures.going)) in (d.1, tt, d.2)
+pub returns-in-Err-clause-part : goal.returns-in-Err-clause-part
+returns-in-Err-clause-part g c =
+    λ e. subst (λ (x : Conversion). WritesPrefixOfAdded x (g.W.Write.contents c.args.writer.now.inner) (g.W.Write.contents c.feed.new.out.inner) c.args.piece.now) c.self.view_is
+    (fed_part c.args.piece.now c.filed.ensures.grows (c.self.invariant.listening (going_on c.self.view_is c.in_ok-refuse.ensures.going)) (sink_of c.in-Err.stopped _ _ _ c.from.ensures c.in-Err.ensures.fault e))
 
-pub returns-in-Err-Sink-clause-part : goal.returns-in-Err-Sink-clause-part
-returns-in-Err-Sink-clause-part g c =
-    let k = sink_of c.in-Err-Sink.field-0 c.in-Err-Sink.field-0-0 _ _ _ c.in-Err-Sink.field-0-is c.in-Err-Sink.ensures.fault in
-    λ _. subst (λ (x : Conversion). WritesPrefixOfAdded x (g.W.Write.contents c.args.writer.now.inner) (g.W.Write.contents c.feed.new.out.inner) c.args.piece.now) c.self.view_is (fed_part c.args.piece.now c.filed.ensures.grows (c.self.invariant.listening (going_on c.self.view_is c.in_ok-refuse.ensures.going)) k)
-
-pub returns-in-Err-Sink-clause-device : goal.returns-in-Err-Sink-clause-device
-returns-in-Err-Sink-clause-device g c =
-    let k = sink_of c.in-Err-Sink.field-0 c.in-Err-Sink.field-0-0 _ _ _ c.in-Err-Sink.field-0-is c.in-Err-Sink.ensures.fault in
-    let d = piece_failed g.W.Write.contents c.args.piece.now k (c.self.invariant.drained (going_on c.self.view_is c.in_ok-refuse.ensures.going)) in (d.0, tt, d.1)
+pub returns-in-Err-clause-device : goal.returns-in-Err-clause-device
+returns-in-Err-clause-device g c =
+    let d = c.self.invariant.drained (going_on c.self.view_is c.in_ok-refuse.ensures.going) in
+    writer_at ⊤ c.in-Err.stopped c.args.writer.now c.feed.new.out c.from.ensures c.in-Err.ensures.fault absurd
+    (λ k. let e = piece_fine g.W.Write.contents (up_to_limit c.self.inside.framer c.args.piece.now) k.passes d in (e.1, e.2)) (λ k. piece_failed g.W.Write.contents c.args.piece.now k d)

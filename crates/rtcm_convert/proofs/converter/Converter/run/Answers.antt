@@ -1,11 +1,11 @@
 -- Each end of a run: refused at once, finished, or stopped by Read, TooLong or the file's writer, with the record of
 -- what was made, for a value of the converter with its parts inside.
 use Rattle.rtcm_convert.proofs.FaultLemmas.{writer_after}
-use Rattle.rtcm_convert.proofs.FeedLemmas.{read_of, long_of, sink_of, fed_fit}
+use Rattle.rtcm_convert.proofs.FeedLemmas.{read_of, long_of, sink_of, writer_at, reader_at, fed_fit}
 use Rattle.rtcm_convert.proofs.FinishLemmas.{left_after, not_of_finish, reader_after, sent_after}
 use Rattle.rtcm_convert.proofs.RunLemmas.{going_on, ran_whole, ran_empty, run_finishing, rest_taken, rest_faulty, rest_long, rest_part, rest_device}
 use Rattle.rtcm_convert.proofs.StreamLemmas.{piece_fine}
-use Rattle.rtcm_convert.proofs.Names.{◌∙◌, ap, refl, rules, IfOk-weaker, IsRunFault, Read, TooLong, inl, inr, up_to_limit, Conversion}
+use Rattle.rtcm_convert.proofs.Names.{Report, ⊤, ◌∙◌, ap, refl, rules, IfOk-weaker, IsRunFault, Read, TooLong, inl, inr, up_to_limit, Conversion}
 use Rattle.rtcm_convert.proofs.converter.Converter.run.Goals as goal
 
 pub invariant_of-self : goal.invariant_of-self
@@ -35,49 +35,26 @@ returns-in-Ok g c =
       left = ((n.left.0.0 ∙ c.read_pieces.ensures.same.limit ∙ ap (λ (x : Conversion). x.scan.limit) c.self.view_is, λ _. left_after IsRunFault _ r (λ f k. inr (inr k)) left), n.left.1);
     }
 
-pub returns-in-Err-Read-clause-read : goal.returns-in-Err-Read-clause-read
-returns-in-Err-Read-clause-read g c =
+pub returns-in-Err-clause-read : goal.returns-in-Err-clause-read
+returns-in-Err-clause-read g c =
     let listening = c.self.invariant.listening (going_on c.self.view_is c.in_ok-refuse.ensures.going) in
-    let k = read_of c.in-Err-Read.field-0 _ _ _ c.in-Err-Read.field-0-is c.in-Err-Read.ensures.fault in
-    λ _. rw (← c.self.view_is) (rest_faulty g.W.Write.contents _ _ listening (c.read_pieces.ensures.same.ended ∙ listening) k)
+    λ e. rw (← c.self.view_is) (rest_faulty g.W.Write.contents _ _ listening (c.read_pieces.ensures.same.ended ∙ listening) (read_of c.in-Err.fault _ _ _ c.from.ensures c.in-Err.ensures.fault e))
 
-pub returns-in-Err-Read-clause-reader : goal.returns-in-Err-Read-clause-reader
-returns-in-Err-Read-clause-reader g c =
-    let n = c.in-Err-Read.ensures.reader in (read_of c.in-Err-Read.field-0 _ _ _ c.in-Err-Read.field-0-is n.0, tt, n.2)
-
-pub returns-in-Err-Read-clause-writer : goal.returns-in-Err-Read-clause-writer
-returns-in-Err-Read-clause-writer g c =
-    let k = read_of c.in-Err-Read.field-0 _ _ _ c.in-Err-Read.field-0-is c.in-Err-Read.ensures.fault in
-    let d = piece_fine g.W.Write.contents k.0 k.2.0 (c.self.invariant.drained (going_on c.self.view_is c.in_ok-refuse.ensures.going)) in
-    (d.1, tt, d.2)
-
-pub returns-in-Err-TooLong-clause-long : goal.returns-in-Err-TooLong-clause-long
-returns-in-Err-TooLong-clause-long g c =
+pub returns-in-Err-clause-long : goal.returns-in-Err-clause-long
+returns-in-Err-clause-long g c =
     let listening = c.self.invariant.listening (going_on c.self.view_is c.in_ok-refuse.ensures.going) in
-    let k = long_of c.in-Err-TooLong.field-0 _ _ _ c.in-Err-TooLong.field-0-is c.in-Err-TooLong.ensures.fault in
-    λ _. rw (← c.self.view_is) (rest_long g.W.Write.contents _ _ listening (c.read_pieces.ensures.same.ended ∙ listening) k)
+    λ e. rw (← c.self.view_is) (rest_long g.W.Write.contents _ _ listening (c.read_pieces.ensures.same.ended ∙ listening) (long_of c.in-Err.fault _ _ _ c.from.ensures c.in-Err.ensures.fault e))
 
-pub returns-in-Err-TooLong-clause-reader : goal.returns-in-Err-TooLong-clause-reader
-returns-in-Err-TooLong-clause-reader g c =
-    let n = c.in-Err-TooLong.ensures.reader in (long_of c.in-Err-TooLong.field-0 _ _ _ c.in-Err-TooLong.field-0-is n.0, tt, n.2)
+pub returns-in-Err-clause-write : goal.returns-in-Err-clause-write
+returns-in-Err-clause-write g c =
+    let listening = c.self.invariant.listening (going_on c.self.view_is c.in_ok-refuse.ensures.going) in
+    λ e. inl (rw (← c.self.view_is) (rest_part g.W.Write.contents _ _ c.filed.ensures.grows c.prefix.ensures.decided listening (sink_of c.in-Err.fault _ _ _ c.from.ensures c.in-Err.ensures.fault e)))
 
-pub returns-in-Err-TooLong-clause-writer : goal.returns-in-Err-TooLong-clause-writer
-returns-in-Err-TooLong-clause-writer g c =
-    let k = long_of c.in-Err-TooLong.field-0 _ _ _ c.in-Err-TooLong.field-0-is c.in-Err-TooLong.ensures.fault in
-    let d = piece_fine g.W.Write.contents (up_to_limit c.self.inside.framer k.0) k.2.passes (c.self.invariant.drained (going_on c.self.view_is c.in_ok-refuse.ensures.going)) in
-    (d.1, tt, d.2)
+pub returns-in-Err-clause-reader : goal.returns-in-Err-clause-reader
+returns-in-Err-clause-reader g c = reader_at Report ⊤ c.in-Err.fault c.args.reader.now c.read_pieces.new.reader c.from.ensures c.in-Err.ensures.reader
 
-pub returns-in-Err-Sink-clause-write : goal.returns-in-Err-Sink-clause-write
-returns-in-Err-Sink-clause-write g c =
-    let k = sink_of c.in-Err-Sink.field-0 _ _ _ _ c.in-Err-Sink.field-0-is c.in-Err-Sink.ensures.fault in
-    λ _. inl (rw (← c.self.view_is) (rest_part g.W.Write.contents _ _ c.filed.ensures.grows c.prefix.ensures.decided (c.self.invariant.listening (going_on c.self.view_is c.in_ok-refuse.ensures.going)) k))
-
-pub returns-in-Err-Sink-clause-reader : goal.returns-in-Err-Sink-clause-reader
-returns-in-Err-Sink-clause-reader g c =
-    let n = c.in-Err-Sink.ensures.reader in (sink_of c.in-Err-Sink.field-0 _ _ _ _ c.in-Err-Sink.field-0-is n.0, tt, n.2)
-
-pub returns-in-Err-Sink-clause-writer : goal.returns-in-Err-Sink-clause-writer
-returns-in-Err-Sink-clause-writer g c =
-    let k = sink_of c.in-Err-Sink.field-0 _ _ _ _ c.in-Err-Sink.field-0-is c.in-Err-Sink.ensures.fault in
-    let d = rest_device k (c.self.invariant.drained (going_on c.self.view_is c.in_ok-refuse.ensures.going)) in
-    (d.0, tt, d.1)
+pub returns-in-Err-clause-writer : goal.returns-in-Err-clause-writer
+returns-in-Err-clause-writer g c =
+    let d = c.self.invariant.drained (going_on c.self.view_is c.in_ok-refuse.ensures.going) in
+    writer_at Report c.in-Err.fault c.args.writer.now c.read_pieces.new.out c.from.ensures c.in-Err.ensures.fault
+    (λ k. let e = piece_fine g.W.Write.contents k.0 k.2.0 d in (e.1, e.2)) (λ k. let e = piece_fine g.W.Write.contents (up_to_limit c.self.inside.framer k.0) k.2.passes d in (e.1, e.2)) (λ k. rest_device k d)
