@@ -11,3 +11,9 @@ with_other a (Some b) = Several a b
 abbrev pub first_two : List ℕ → FirstTwo
 first_two [] = Unknown
 first_two (a ∷ ns) = with_other a (find (λ n. not (n == a)) ns)
+
+-- the first one
+abbrev pub first_of : FirstTwo → Option ℕ
+first_of Unknown = None
+first_of (One a) = Some a
+first_of (Several a b) = Some a

@@ -1,6 +1,6 @@
 //! The first of a list of numbers, and the first one that differs from it.
 ghost use Rattle.std.specs.Prelude.{◌≡◌, ◌∷◌, ◌++◌, [], ℕ, List};
-ghost use Rattle.rtcm_inspect.specs.FirstTwo.{first_two};
+ghost use Rattle.rtcm_inspect.specs.FirstTwo.{first_of, first_two};
 
 /// The first of a list of numbers, and the first one that differs from it.
 #[derive(Clone, Copy)]
@@ -23,6 +23,16 @@ impl FirstTwo {
             FirstTwo::One(first) if first != number => *self = FirstTwo::Several(first, number),
             FirstTwo::One(_) => {}
             FirstTwo::Several(_, _) => {}
+        }
+    }
+
+    /// Returns the first number.
+    pub fn first(self) -> Option<u16>
+        ensures { result ≡ first_of self }
+    {
+        match self {
+            FirstTwo::Unknown => None,
+            FirstTwo::One(first) | FirstTwo::Several(first, _) => Some(first),
         }
     }
 }

@@ -10,7 +10,7 @@ ghost use Rattle.rtcm_inspect.specs.OptionOutput.{IsPrinted, IsWeekRefused};
 ghost use Rattle.rtcm_inspect.specs.SentWeeks.{IsNearestRest, IsOtherTime, first_msm, is_denied, is_in};
 ghost use Rattle.rtcm_inspect.specs.SentWeeks.{leap_by, leap_with, rest_of, time_in, week_by, within_weeks};
 ghost use Rattle.rtcm_inspect.specs.inner.Counting.{AreSignals};
-ghost use Rattle.rtcm_inspect.specs.inner.SaidWeeks.{AreSaid, first_of};
+ghost use Rattle.rtcm_inspect.specs.inner.SaidWeeks.{AreSaid};
 
 use crate::counting::StreamSignals;
 use crate::decoded::set_had;
@@ -197,7 +197,7 @@ fn other_time(said: &SaidWeeks, first: &FirstMsm, noon: GpsTime, week: u32) -> O
     ensures none { (ds rs : List ℕ) → AreSaid said.now.whole 16_384 ds → AreSaid said.now.rests 1_024 rs
         → IfNone result (is_denied first.now ds rs week ≡ false) }
 {
-    match (first_of(&said.whole), first_of(&said.rests)) {
+    match (said.whole.first.first(), said.rests.first.first()) {
         (Some(zero), _) => {
             if has_week(&said.whole, true, first, week) {
                 None
@@ -213,16 +213,6 @@ fn other_time(said: &SaidWeeks, first: &FirstMsm, noon: GpsTime, week: u32) -> O
             }
         }
         (None, None) => None,
-    }
-}
-
-/// Returns the first week that was added.
-fn first_of(weeks: &WeekSet) -> Option<u16>
-    ensures { result ≡ first_of weeks.now.first }
-{
-    match weeks.first {
-        FirstTwo::Unknown => None,
-        FirstTwo::One(first) | FirstTwo::Several(first, _) => Some(first),
     }
 }
 

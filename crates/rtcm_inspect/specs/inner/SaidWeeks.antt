@@ -1,11 +1,9 @@
 -- The weeks that ephemerides say, while the stream is read.
-use Rattle.std.specs.Prelude.{◌≡◌, ℕ, ◌==◌, false, get_or, length, List, Option, Some, None}
+use Rattle.std.specs.Prelude.{◌≡◌, ℕ, ◌==◌, false, get_or, length, List, Option}
 use Rattle.std.specs.List.{list_any}
 use Rattle.rtcm_scan.specs.Frames.{Framed}
 use Rattle.rtcm_inspect.specs.FirstTwo.{first_two}
 use Rattle.rtcm_inspect.specs.SentWeeks.{rests_in, whole_in}
-use Rattle.rtcm_inspect.specs.declared.first_two.FirstTwo.{FirstTwo}
-use Rattle.rtcm_inspect.specs.declared.first_two.FirstTwo.TheVariants.{Unknown, One, Several}
 use Rattle.rtcm_inspect.specs.declared.said_weeks.SaidWeeks.{SaidWeeks}
 use Rattle.rtcm_inspect.specs.declared.said_weeks.WeekSet.{WeekSet}
 
@@ -19,9 +17,3 @@ pub record AreSaid (x : WeekSet) (size : ℕ) (ns : List ℕ) : Type 0 where
 pub record AreSaidIn (x : SaidWeeks) (wanted : Option ℕ) (fs : List Framed) : Type 0 where
   pub whole : AreSaid x.whole 16_384 (whole_in wanted fs)
   pub rests : AreSaid x.rests 1_024 (rests_in wanted fs)
-
--- the first number that was added
-abbrev pub first_of : FirstTwo → Option ℕ
-first_of Unknown = None
-first_of (One a) = Some a
-first_of (Several a b) = Some a
