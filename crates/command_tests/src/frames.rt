@@ -7,7 +7,6 @@ use super::texts::Text;
 use super::texts::Text::{Bytes, Lines, Stream};
 use devices::Counted;
 use rtcm_inspect::{InspectFault, Listing, list};
-use rtcm_scan::ScanFault;
 use std::alloc::Global;
 
 pub const FRAMES: [&str; 2] = ["rtcm2rinex", "frames"];
@@ -85,7 +84,7 @@ fn lists(alloc: Global, stream: &[u8], limit: u16, is_refused: bool, lines: &[u8
     has_lines
         && match answer {
             Ok(()) => !is_refused,
-            Err(InspectFault::Scan(ScanFault::TooLong)) => is_refused,
+            Err(InspectFault::TooLong) => is_refused,
             Err(_) => false,
         }
 }

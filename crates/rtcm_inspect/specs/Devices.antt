@@ -5,14 +5,13 @@ use Rattle.devices.specs.Device.{Device}
 use Rattle.devices.specs.Devices.{Culprit, Devices, NoDevice, ReaderFailures, TheReader, TheWriter}
 use Rattle.rtcm_scan.specs.declared.feed.StreamFault.{StreamFault}
 use Rattle.rtcm_scan.specs.declared.feed.StreamFault.TheVariants as stream
-use Rattle.rtcm_scan.specs.declared.framer.ScanFault.TheVariants as scan
 use Rattle.rtcm_inspect.specs.declared.fault.InspectFault.{InspectFault}
 use Rattle.rtcm_inspect.specs.declared.fault.InspectFault.TheVariants as faults
 
 -- the fault of a command for a fault of a stream whose frames are written to a device
 abbrev pub stream_fault : {F : Type 0} → StreamFault F → InspectFault
 stream_fault stream.Read = faults.Read
-stream_fault stream.TooLong = faults.Scan scan.TooLong
+stream_fault stream.TooLong = faults.TooLong
 stream_fault (stream.Sink failed) = faults.Write
 
 -- the device that failed at a fault

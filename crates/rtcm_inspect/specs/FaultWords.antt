@@ -5,8 +5,6 @@ use Rattle.gnss_obs.specs.Dates.{civil_of}
 use Rattle.gnss_obs.specs.Weeks.{week}
 use Rattle.gnss_obs.specs.declared.fault.PlanFault.{PlanFault}
 use Rattle.gnss_obs.specs.declared.fault.PlanFault.TheVariants as plans
-use Rattle.rtcm_scan.specs.declared.framer.ScanFault.{ScanFault}
-use Rattle.rtcm_scan.specs.declared.framer.ScanFault.TheVariants as scan
 use Rattle.rinex_file.specs.Texts.{field_name}
 use Rattle.rinex_file.specs.declared.header.fault.HeadFault.{HeadFault}
 use Rattle.rinex_file.specs.declared.header.fault.HeadFault.TheVariants as header
@@ -14,13 +12,6 @@ use Rattle.line_texts.specs.Digits.{calendar_text}
 use Rattle.rtcm_inspect.specs.declared.fault.InspectFault.{InspectFault}
 use Rattle.rtcm_inspect.specs.declared.fault.InspectFault.TheVariants as inspect
 use Rattle.rtcm_inspect.specs.declared.fault.WeekDate.{WeekDate}
-
--- a stream is too long, or memory ran out
-abbrev pub scan_word : ScanFault → List ℕ
-scan_word scan.Memory = codes "Memory"
-scan_word scan.BadLimit = codes "BadLimit"
-scan_word scan.TooLong = codes "TooLong"
-scan_word scan.Ended = codes "Ended"
 
 -- a text of the header, by the name of its option
 abbrev pub header_words : HeadFault → List (List ℕ)
@@ -48,7 +39,8 @@ week_words date = decimal date.week ∷ calendar_text date.year date.month date.
 abbrev pub inspection_words : InspectFault → List (List ℕ)
 inspection_words inspect.Read = codes "Read" ∷ []
 inspection_words inspect.Write = codes "Write" ∷ []
-inspection_words (inspect.Scan e) = scan_word e ∷ []
+inspection_words inspect.Memory = codes "Memory" ∷ []
+inspection_words inspect.TooLong = codes "TooLong" ∷ []
 inspection_words (inspect.SeveralStations a b) = codes "SeveralStations" ∷ decimal a ∷ decimal b ∷ []
 inspection_words (inspect.NoSignal counts) =
     codes "NoSignal" ∷ codes "bytes" ∷ decimal counts.bytes ∷ codes "frames" ∷ decimal counts.frames

@@ -6,7 +6,6 @@ use Rattle.devices.specs.Device.{Device, HasFailed, IsBetween}
 use Rattle.rtcm_scan.specs.Frames.{Framed, frames_of}
 use Rattle.rtcm_scan.specs.Decided.{decided_frames}
 use Rattle.rtcm_scan.specs.Known.{known_frames}
-use Rattle.rtcm_scan.specs.declared.framer.ScanFault.TheVariants as scan
 use Rattle.devices.specs.Devices.{AreUntouched, Devices, Ends}
 use Rattle.rtcm_inspect.specs.Devices.{ReadsStream, culprit}
 use Rattle.rtcm_inspect.specs.declared.fault.InspectFault.{InspectFault}
@@ -62,8 +61,8 @@ pub record ListsPart {R W : Type 0} (lines : List Framed → List ℕ) (d d' : D
 abbrev pub StopsListing : {R W : Type 0} → ℕ → (List Framed → List ℕ) → (d d' : Devices R W) → InspectFault → Type 0
 StopsListing limit lines d d' faults.Read = ListsDecided lines d d' × (d'.writer.waiting ≡ [])
 StopsListing limit lines d d' faults.Write = ListsPart lines d d'
-StopsListing limit lines d d' (faults.Scan scan.TooLong) = ListsToLimit limit lines d d' × (d'.writer.waiting ≡ [])
-StopsListing limit lines d d' (faults.Scan scan.Memory) = AreUntouched d d'
+StopsListing limit lines d d' faults.TooLong = ListsToLimit limit lines d d' × (d'.writer.waiting ≡ [])
+StopsListing limit lines d d' faults.Memory = AreUntouched d d'
 StopsListing limit lines d d' other = ⊥
 
 -- how such a listing ended

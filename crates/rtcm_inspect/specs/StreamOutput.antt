@@ -6,7 +6,6 @@ use Rattle.devices.specs.Device.{AppendsPrefix}
 use Rattle.devices.specs.Devices.{Devices, Ends}
 use Rattle.rtcm_scan.specs.Frames.{Framed, frames_of}
 use Rattle.rtcm_scan.specs.Scan.{most_bytes}
-use Rattle.rtcm_scan.specs.declared.framer.ScanFault.TheVariants as scan
 use Rattle.devices.specs.Printing.{IsDelivered, IsUnread}
 use Rattle.rtcm_inspect.specs.Devices.{ReadsStream, culprit}
 use Rattle.rtcm_inspect.specs.declared.fault.InspectFault.{InspectFault}
@@ -37,9 +36,9 @@ abbrev pub StopsStream : {R W : Type 0} → (List Framed → List ℕ → Type 0
 StopsStream IsText IsRefused d d' faults.Read = IsDelivered d.writer d'.writer
 StopsStream IsText IsRefused d d' faults.Write =
     IsUnread d d' ⊎ ReadsWithText IsText (AppendsPrefix d.writer.written d'.writer.written) d d'
-StopsStream IsText IsRefused d d' (faults.Scan scan.TooLong) =
+StopsStream IsText IsRefused d d' faults.TooLong =
     ReadsTooMuch most_bytes d.reader.unread d'.reader.unread × IsDelivered d.writer d'.writer
-StopsStream IsText IsRefused d d' (faults.Scan scan.Memory) =
+StopsStream IsText IsRefused d d' faults.Memory =
     (d'.reader.device ≡ d.reader.device) × IsDelivered d.writer d'.writer
 StopsStream IsText IsRefused d d' fault = RefusesStream IsRefused d d' fault
 

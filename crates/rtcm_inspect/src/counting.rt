@@ -18,7 +18,7 @@ use devices::{Counted, DeviceFailed};
 use gnss_obs::Channels;
 use obs_epoch::SignalCounts;
 use rtcm_msg::{Forms, MsgFault, MsmSet, MsmView, Station, View, look_in};
-use rtcm_scan::{Frame, FrameSink, Framer, MOST_BYTES, ScanFault, laws};
+use rtcm_scan::{Frame, FrameSink, Framer, MOST_BYTES, laws};
 use std::alloc::Global;
 use std::io::Read;
 
@@ -123,8 +123,7 @@ impl StreamSignals {
 ///
 /// # Errors
 ///
-/// `Read` if the reader failed, and `Scan` if the stream is longer than the limit or memory ran
-/// out.
+/// `Read` if the reader failed, `TooLong` if the stream is longer than the limit, and `Memory`.
 pub fn read_signals<R: Read>(
     alloc: Global,
     station: Option<u16>,
@@ -137,10 +136,10 @@ pub fn read_signals<R: Read>(
 {
     // The limit is valid, so a framer is refused only when out of memory.
     let Ok(mut framer) = Framer::new(alloc, MOST_BYTES) else {
-        return Err(InspectFault::Scan(ScanFault::Memory));
+        return Err(InspectFault::Memory);
     };
     let Ok(weeks) = SaidWeeks::new(alloc) else {
-        return Err(InspectFault::Scan(ScanFault::Memory));
+        return Err(InspectFault::Memory);
     };
     let mut signals = StreamSignals {
         station,

@@ -12,19 +12,21 @@ use gnss_obs::PlanFault;
 use gnss_system::System;
 use line_texts::OutputLine;
 use rinex_file::{HeadFault, HeaderField};
-use rtcm_scan::{ScanFault, StreamFault};
+use rtcm_scan::StreamFault;
 use std::fmt;
 use thiserror::Error;
 
-/// Why a call stopped. It is displayed by its name and the fault that it contains.
+/// Why a call stopped. It is displayed by its name and the values that it contains.
 #[derive(Clone, Copy, Debug, PartialEq, Eq, Error)]
 pub enum InspectFault {
     /// The reader failed.
     Read,
     /// The writer failed, or accepted none of the bytes of a write.
     Write,
-    /// The framer refused.
-    Scan(ScanFault),
+    /// Out of memory.
+    Memory,
+    /// The stream is longer than the limit.
+    TooLong,
     /// The MSMs and station messages of the stream are of these two stations, or more, and none was
     /// given.
     SeveralStations(u16, u16),
@@ -74,7 +76,7 @@ impl From<StreamFault<DeviceFailed>> for InspectFault {
     fn from(stream: StreamFault<DeviceFailed>) -> InspectFault {
         match stream {
             StreamFault::Read => InspectFault::Read,
-            StreamFault::TooLong => InspectFault::Scan(ScanFault::TooLong),
+            StreamFault::TooLong => InspectFault::TooLong,
             StreamFault::Sink(_) => InspectFault::Write,
         }
     }
@@ -90,10 +92,8 @@ pub fn add_inspection_error(line: &mut OutputLine, fault: InspectFault)
     match fault {
         InspectFault::Read => line.add_word("Read"),
         InspectFault::Write => line.add_word("Write"),
-        InspectFault::Scan(ScanFault::Memory) => line.add_word("Memory"),
-        InspectFault::Scan(ScanFault::BadLimit) => line.add_word("BadLimit"),
-        InspectFault::Scan(ScanFault::TooLong) => line.add_word("TooLong"),
-        InspectFault::Scan(ScanFault::Ended) => line.add_word("Ended"),
+        InspectFault::Memory => line.add_word("Memory"),
+        InspectFault::TooLong => line.add_word("TooLong"),
         InspectFault::SeveralStations(first, other) => {
             line.add_count("SeveralStations", u64::from(first));
             line.add_number(u64::from(other));

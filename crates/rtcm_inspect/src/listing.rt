@@ -27,7 +27,7 @@ use rtcm_msg::{
     Equipment, EquipmentFault, MsgFault, MsmSet, MsmView, StationParts, View, equipment_in, look,
     look_in, time_of_week,
 };
-use rtcm_scan::{Frame, FrameSink, Framer, MOST_BYTES, ScanFault, laws};
+use rtcm_scan::{Frame, FrameSink, Framer, MOST_BYTES, laws};
 use std::alloc::Global;
 use std::io::Read;
 
@@ -174,8 +174,8 @@ pub fn run_show<R: Read, W: Deliver>(
 ///
 /// # Errors
 ///
-/// `Read` if the reader failed, `Write` if the writer failed, and `Scan` if the stream is longer
-/// than the limit or memory ran out.
+/// `Read` if the reader failed, `Write` if the writer failed, `TooLong` if the stream is longer than
+/// the limit, and `Memory`.
 pub fn list<R: Read, W: Deliver>(
     alloc: Global,
     mut listing: Listing,
@@ -189,7 +189,7 @@ pub fn list<R: Read, W: Deliver>(
 {
     // The limit is valid, so a framer is refused only when out of memory.
     let Ok(mut framer) = Framer::new(alloc, limit) else {
-        return Err(InspectFault::Scan(ScanFault::Memory));
+        return Err(InspectFault::Memory);
     };
     let mut buffer = [0; PIECE_BYTES];
     laws::prefix();

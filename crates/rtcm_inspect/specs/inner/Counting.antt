@@ -7,7 +7,6 @@ use Rattle.devices.specs.Device.{Device}
 use Rattle.gnss_obs.specs.HeardCells.{HeardCell}
 use Rattle.rtcm_scan.specs.Frames.{Framed, frames_of}
 use Rattle.rtcm_scan.specs.Scan.{most_bytes}
-use Rattle.rtcm_scan.specs.declared.framer.ScanFault.TheVariants as scan
 use Rattle.rtcm_msg.specs.Channels.{channel_of_1020}
 use Rattle.rtcm_msg.specs.declared.fault.MsgFault.{MsgFault}
 use Rattle.rtcm_msg.specs.declared.message.Message.{Message}
@@ -76,8 +75,8 @@ HasCounted s wanted r r' =
 -- what was read when the counting was stopped by a fault
 abbrev pub StopsCounting : {R : Type 0} → (R → Option (List ℕ)) → (r r' : Device R) → InspectFault → Type 0
 StopsCounting left r r' faults.Read = ⊤
-StopsCounting left r r' (faults.Scan scan.TooLong) = ReadsTooMuch most_bytes (left r.inner) (left r'.inner)
-StopsCounting left r r' (faults.Scan scan.Memory) = r' ≡ r
+StopsCounting left r r' faults.TooLong = ReadsTooMuch most_bytes (left r.inner) (left r'.inner)
+StopsCounting left r r' faults.Memory = r' ≡ r
 StopsCounting left r r' other = ⊥
 
 -- ---- signal counts as a consumer of frames
