@@ -70,14 +70,14 @@ pub use Rattle.rtcm_inspect.specs.declared.fault.StreamCounts.{StreamCounts}
 pub use Rattle.rtcm_inspect.specs.declared.fault.WeekDate.{WeekDate}
 pub use Rattle.rtcm_inspect.specs.declared.first_messages.FirstMessages.{FirstMessages}
 pub use Rattle.rtcm_inspect.specs.declared.first_tows.FirstTows.{FirstTows}
-pub use Rattle.rtcm_inspect.specs.declared.first_tows.PlacedTow.{PlacedTow}
+pub use Rattle.rtcm_inspect.specs.declared.first_tows.MsmTow.{MsmTow}
 pub use Rattle.rtcm_inspect.specs.declared.first_tows.SystemTows.{SystemTows}
 pub use Rattle.rtcm_inspect.specs.declared.first_two.FirstTwo.{FirstTwo}
 pub use Rattle.rtcm_inspect.specs.declared.first_two.FirstTwo.TheVariants.{One, Several, Unknown}
 pub use Rattle.rtcm_inspect.specs.declared.listing.Listing.{Listing}
 pub use Rattle.rtcm_inspect.specs.declared.printed_week.FirstMsm.{FirstMsm}
 pub use Rattle.rtcm_inspect.specs.inner.Counting.{AreFrameCounts, AreSignals, Counts, HasCounted, IsCounted, NeverFails, StopsCounting, Takes}
-pub use Rattle.rtcm_inspect.specs.inner.FirstTows.{AreSettled, AreTows, CountsTow, IsGreatestAt, IsMsmOf, IsWith, PlacesTow, earlier, earliest, entry, greatest_among, later_by, placed_by, settled, settled_tows}
+pub use Rattle.rtcm_inspect.specs.inner.FirstTows.{AreTows, CountsTow, HaveGreatest, IsGreatestAt, IsMsmOf, IsWith, KeepsFirst, earlier_of, earliest, first_of_system, greatest_among, later_by, tow_by, tows_with_greatest, with_greatest}
 pub use Rattle.rtcm_inspect.specs.inner.Lines.{longest_head, longest_plan, longest_quoted}
 pub use Rattle.rtcm_inspect.specs.inner.SaidWeeks.{AreSaid, AreSaidIn}
 pub use Rattle.rtcm_msg.proofs.MessageLaws.{message_there, message_value, one_value, zero_read}

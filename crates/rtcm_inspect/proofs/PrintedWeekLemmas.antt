@@ -1,5 +1,5 @@
 -- The week of the options.
-use Rattle.rtcm_inspect.proofs.Names.{min, week, weeks, greatest_at_first, leap_at, IsNearestRest, IsOtherTime, first_msm, is_denied, rests_in, whole_in, WeekDate, FirstMsm, AreOptionsRefused, HasSignals, IsWeekAt, IsWeekRefused, is_denied_at, InspectFault, FirstTows, PlacedTow, AreTows, earliest, greatest_among, systems, common_steps, ◌≡◌, ◌∙◌, ◌+◌, ◌-◌, ◌*◌, ◌/◌, ◌<◌, ℕ, false, true, List, Option, Some, IfSome, IsWeekFor, frames_of, ap₂, arith, first_tow, set_had, option_and_then, option_or, refl, subst, Framed, MsmSet, week_date, WeekSource}
+use Rattle.rtcm_inspect.proofs.Names.{min, week, weeks, greatest_at_first, leap_at, IsNearestRest, IsOtherTime, first_msm, is_denied, rests_in, whole_in, WeekDate, FirstMsm, AreOptionsRefused, HasSignals, IsWeekAt, IsWeekRefused, is_denied_at, InspectFault, FirstTows, MsmTow, AreTows, earliest, greatest_among, systems, common_steps, ◌≡◌, ◌∙◌, ◌+◌, ◌-◌, ◌*◌, ◌/◌, ◌<◌, ℕ, false, true, List, Option, Some, IfSome, IsWeekFor, frames_of, ap₂, arith, first_tow, set_had, option_and_then, option_or, refl, subst, Framed, MsmSet, week_date, WeekSource}
 use Rattle.rtcm_inspect.specs.declared.fault.InspectFault.TheVariants as faults
 use Rattle.rtcm_inspect.specs.declared.printed_week.WeekSource.TheVariants.{Near}
 use Rattle.rtcm_inspect.proofs.CountedLemmas.{at_none}
@@ -9,7 +9,7 @@ use Rattle.rtcm_inspect.proofs.CountedLemmas.{at_none}
 module _ {x : FirstTows} {wanted : Option ℕ} {fs : List Framed} (h : AreTows x wanted fs) (set : MsmSet) where
   pub at_first_msm : IfSome (greatest_among set x.tows) (λ t. t < weeks * week) × (option_or (greatest_among set x.tows) x.greatest ≡ greatest_at_first set wanted fs)
   at_first_msm = by (earliest set x.tows systems) refl where
-    by : (o : Option PlacedTow) → earliest set x.tows systems ≡ o → IfSome (option_and_then (λ t. t.greatest) o) (λ t. t < weeks * week) × (option_or (option_and_then (λ t. t.greatest) o) x.greatest ≡ greatest_at_first set wanted fs)
+    by : (o : Option MsmTow) → earliest set x.tows systems ≡ o → IfSome (option_and_then (λ t. t.greatest) o) (λ t. t < weeks * week) × (option_or (option_and_then (λ t. t.greatest) o) x.greatest ≡ greatest_at_first set wanted fs)
     by o h1 = grind (arith, common_steps, at_none)
 
 -- ---- the nearest week with a rest

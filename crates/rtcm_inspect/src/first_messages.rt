@@ -6,19 +6,6 @@ use crate::first_tows::FirstTows;
 use crate::first_two::FirstTwo;
 use rtcm_msg::StationParts;
 
-impl FirstTwo {
-    /// Returns the first two stations, if the messages of several stations count: of all stations,
-    /// if none is given.
-    pub fn mixed(self, wanted: Option<u16>) -> Option<(u16, u16)>
-        ensures { result ≡ mixed_of wanted self }
-    {
-        match (wanted, self) {
-            (None, FirstTwo::Several(first, other)) => Some((first, other)),
-            _ => None,
-        }
-    }
-}
-
 /// What the first messages of a stream contain.
 #[derive(Clone, Copy)]
 pub struct FirstMessages {
@@ -39,6 +26,17 @@ impl FirstMessages {
             point: None,
             tows: FirstTows::new(),
             stations: FirstTwo::Unknown,
+        }
+    }
+
+    /// Returns the first two stations, if the messages of several stations count: of all stations,
+    /// if none is given.
+    pub fn mixed_stations(&self, wanted: Option<u16>) -> Option<(u16, u16)>
+        ensures { result ≡ mixed_of wanted self.now.stations }
+    {
+        match (wanted, self.stations) {
+            (None, FirstTwo::Several(first, other)) => Some((first, other)),
+            _ => None,
         }
     }
 }

@@ -11,9 +11,9 @@ ghost use Rattle.obs_epoch.specs.SignalCounts.{is_of_station};
 ghost use Rattle.obs_epoch.specs.Times.{ahead};
 ghost use Rattle.gnss_obs.specs.Weeks.{week, weeks};
 ghost use Rattle.rtcm_inspect.specs.Inspected.{inspected};
-ghost use Rattle.rtcm_inspect.specs.inner.FirstTows.{AreTows, IsWith, earlier, earliest, entry, CountsTow};
-ghost use Rattle.rtcm_inspect.specs.inner.FirstTows.{PlacesTow, SettlesTows, greatest_among, later_by, placed_by};
-ghost use Rattle.rtcm_inspect.specs.inner.FirstTows.{settled, settled_tows, tow_in};
+ghost use Rattle.rtcm_inspect.specs.inner.FirstTows.{AreTows, CountsTow, IsWith, KeepsFirst, SetsGreatest};
+ghost use Rattle.rtcm_inspect.specs.inner.FirstTows.{earlier_of, earliest, first_of_system, greatest_among, later_by};
+ghost use Rattle.rtcm_inspect.specs.inner.FirstTows.{tow_by, tow_in, tows_with_greatest, with_greatest};
 ghost use Rattle.rtcm_inspect.specs.CountedTimes.{with_tow};
 
 use gnss_obs::{GpsTime, WEEK};
@@ -21,12 +21,11 @@ use gnss_system::{BySystem, SYSTEMS, System};
 use obs_epoch::tow_of;
 use rtcm_msg::{Form, Forms, MsmSet, MsmView};
 
-/// The time of week of an MSM in milliseconds, and the number of MSMs of the wanted station before
-/// it.
+/// The time of week of an MSM in milliseconds, and what is before it.
 #[derive(Clone, Copy)]
-pub struct PlacedTow {
+pub struct MsmTow {
     /// The number of MSMs of the wanted station before it.
-    pub place: u64,
+    pub msms_before: u64,
     /// The system.
     pub system: System,
     /// The time of week, if GPS time were UTC.
@@ -40,27 +39,27 @@ pub struct PlacedTow {
 #[derive(Clone, Copy, Default)]
 pub struct SystemTows {
     /// The first MSM4 or MSM7.
-    pub four_and_seven: Option<PlacedTow>,
+    pub four_and_seven: Option<MsmTow>,
     /// The first one of any form.
-    pub all: Option<PlacedTow>,
+    pub all: Option<MsmTow>,
 }
 
 /// The first MSMs of each system.
 #[derive(Clone, Copy)]
 pub struct FirstTows {
     /// The number of MSMs of the wanted station.
-    pub messages: u64,
+    pub msms: u64,
     /// The first MSMs.
     pub tows: BySystem<SystemTows>,
     /// The greatest time of the MSMs that are counted: those of every system but GLONASS.
     pub greatest: Option<GpsTime>,
     /// Whether a first MSM may lack its greatest time.
-    pub is_waiting: bool,
+    pub may_lack_greatest: bool,
 }
 
 impl SystemTows {
     /// Returns the first one in these forms.
-    fn of(self, forms: Forms) -> Option<PlacedTow>
+    fn of(self, forms: Forms) -> Option<MsmTow>
         ensures { result ≡ tow_in forms self }
     {
         match forms {
@@ -70,7 +69,7 @@ impl SystemTows {
     }
 
     /// Adds one more MSM of this form, and returns whether it is a first one.
-    fn add(&mut self, form: Form, tow: PlacedTow) -> bool
+    fn add(&mut self, form: Form, tow: MsmTow) -> bool
         ensures with { (forms : Forms) → IsWith self.old form tow self.new forms }
         ensures same { result ≡ false → self.new ≡ self.old }
     {
@@ -86,12 +85,12 @@ impl SystemTows {
     }
 
     /// Returns them with this greatest time, if they have none.
-    fn settled(&self, time: u64) -> SystemTows
-        ensures { result ≡ settled_tows time self.now }
+    fn with_greatest(&self, time: u64) -> SystemTows
+        ensures { result ≡ tows_with_greatest time self.now }
     {
         SystemTows {
-            four_and_seven: settled(self.four_and_seven, time),
-            all: settled(self.all, time),
+            four_and_seven: tow_with_greatest(self.four_and_seven, time),
+            all: tow_with_greatest(self.all, time),
         }
     }
 }
@@ -102,10 +101,10 @@ impl FirstTows {
         ensures { (wanted : Option ℕ) → AreTows result wanted [] }
     {
         FirstTows {
-            messages: 0,
+            msms: 0,
             tows: BySystem::each(|_| SystemTows::default()),
             greatest: None,
-            is_waiting: false,
+            may_lack_greatest: false,
         }
     }
 
@@ -117,13 +116,13 @@ impl FirstTows {
     {
         let system = msm.system();
         let tow = tow_of(system, 0, msm.header().time);
-        let place = self.messages;
+        let msms_before = self.msms;
         // No stream has 2^64 messages.
-        self.messages = self.messages.wrapping_add(1);
-        self.place(
+        self.msms = self.msms.wrapping_add(1);
+        self.keep_first(
             msm.form(),
-            PlacedTow {
-                place,
+            MsmTow {
+                msms_before,
                 system,
                 tow,
                 greatest: None,
@@ -135,12 +134,12 @@ impl FirstTows {
         }
     }
 
-    /// Adds an MSM of this form to the first ones.
-    fn place(&mut self, form: Form, tow: PlacedTow)
-        ensures { PlacesTow self.old form tow self.new }
+    /// Keeps an MSM of this form if it is a first one.
+    fn keep_first(&mut self, form: Form, tow: MsmTow)
+        ensures { KeepsFirst self.old form tow self.new }
     {
         if self.tows.of_mut(tow.system).add(form, tow) {
-            self.is_waiting = true;
+            self.may_lack_greatest = true;
         }
     }
 
@@ -150,25 +149,25 @@ impl FirstTows {
     {
         let time = greatest_with(self.greatest, tow);
         self.greatest = Some(time);
-        if self.is_waiting {
-            self.settle(time.milliseconds());
+        if self.may_lack_greatest {
+            self.set_greatest(time.milliseconds());
         }
     }
 
     /// Gives this greatest time to the first MSMs that have none.
     // Inlined, it would take 40 instructions of each piece of a stream.
     #[inline(never)]
-    fn settle(&mut self, time: u64)
-        ensures { SettlesTows self.old time self.new }
+    fn set_greatest(&mut self, time: u64)
+        ensures { SetsGreatest self.old time self.new }
     {
         let tows = self.tows;
-        self.tows = BySystem::each(|system| tows.of(system).settled(time));
-        self.is_waiting = false;
+        self.tows = BySystem::each(|system| tows.of(system).with_greatest(time));
+        self.may_lack_greatest = false;
     }
 
     /// Returns the time of week of the first MSM of a set, with these leap seconds.
-    pub fn first(&self, set: &MsmSet, leap: u8) -> Option<u32>
-        ensures { result ≡ option_map (placed_by leap) (earliest set.now self.now.tows systems) }
+    pub fn first_tow(&self, set: &MsmSet, leap: u8) -> Option<u32>
+        ensures { result ≡ option_map (tow_by leap) (earliest set.now self.now.tows systems) }
     {
         let first = self.earliest(set)?;
         Some(later_by(first.system, leap, first.tow))
@@ -186,21 +185,21 @@ impl FirstTows {
     }
 
     /// Returns the first MSM of a set.
-    fn earliest(&self, set: &MsmSet) -> Option<PlacedTow>
+    fn earliest(&self, set: &MsmSet) -> Option<MsmTow>
         ensures { result ≡ earliest set.now self.now.tows systems }
     {
         let mut first = None;
         let mut i = SYSTEMS.len();
         while i > 0 {
             i -= 1;
-            first = earlier(self.entry(set, System::at(i)), first);
+            first = earlier_of(self.first_of_system(set, System::at(i)), first);
         }
         first
     }
 
     /// Returns the first MSM of a system, if it is in a set.
-    fn entry(&self, set: &MsmSet, system: System) -> Option<PlacedTow>
-        ensures { result ≡ entry set.now self.now.tows system }
+    fn first_of_system(&self, set: &MsmSet, system: System) -> Option<MsmTow>
+        ensures { result ≡ first_of_system set.now self.now.tows system }
     {
         if *set.systems.of(system) {
             self.tows.of(system).of(set.forms)
@@ -211,11 +210,11 @@ impl FirstTows {
 }
 
 /// Returns a first MSM with this greatest time, if it has none.
-fn settled(tow: Option<PlacedTow>, time: u64) -> Option<PlacedTow>
-    ensures { result ≡ option_map (settled time) tow }
+fn tow_with_greatest(tow: Option<MsmTow>, time: u64) -> Option<MsmTow>
+    ensures { result ≡ option_map (with_greatest time) tow }
 {
     let tow = tow?;
-    Some(PlacedTow {
+    Some(MsmTow {
         greatest: tow.greatest.or(Some(time)),
         ..tow
     })
@@ -261,12 +260,12 @@ fn later_by(system: System, leap: u8, tow: u32) -> u32
 }
 
 /// Returns the earlier one of two.
-fn earlier(a: Option<PlacedTow>, b: Option<PlacedTow>) -> Option<PlacedTow>
-    ensures { result ≡ earlier a b }
+fn earlier_of(a: Option<MsmTow>, b: Option<MsmTow>) -> Option<MsmTow>
+    ensures { result ≡ earlier_of a b }
 {
     match (a, b) {
         (None, b) => b,
-        (Some(x), Some(y)) if y.place < x.place => Some(y),
+        (Some(x), Some(y)) if y.msms_before < x.msms_before => Some(y),
         (Some(x), _) => Some(x),
     }
 }

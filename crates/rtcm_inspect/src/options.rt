@@ -84,7 +84,7 @@ fn options_of(signals: &StreamSignals, source: WeekSource) -> Result<OptionsText
     ensures refused { (b : List ℕ) → AreSignals signals.now signals.now.station (frames_of b)
         → signals.now.counts ≡ stream_counts b → IfErr result (AreOptionsRefused source signals.now.station b) }
 {
-    match signals.first.stations.mixed(signals.station) {
+    match signals.first.mixed_stations(signals.station) {
         Some((first, other)) => Err(InspectFault::SeveralStations(first, other)),
         None if !signals.signal_counts.has_any() => Err(InspectFault::NoSignal(signals.counts)),
         None => {

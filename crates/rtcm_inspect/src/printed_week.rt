@@ -136,7 +136,7 @@ fn first_msm(signals: &StreamSignals, leap: u8) -> FirstMsm
     let greatest = signals.first.tows.greatest_at_first(&set);
     FirstMsm {
         greatest: greatest.unwrap_or(GpsTime::within(0)),
-        tow: signals.first.tows.first(&set, leap).unwrap_or(0),
+        tow: signals.first.tows.first_tow(&set, leap).unwrap_or(0),
     }
 }
 
@@ -170,7 +170,7 @@ fn dated_week(signals: &StreamSignals, noon: GpsTime) -> Result<PrintedWeek, Ins
         → IfErr result (IsWeekRefused (WeekSource.Near noon) signals.now.station fs) }
 {
     let leap = leap_at(noon);
-    let week = week_for(noon, signals.first.tows.first(&set_had(signals), leap));
+    let week = week_for(noon, signals.first.tows.first_tow(&set_had(signals), leap));
     if let Some(week) = week {
         let first = first_msm(signals, leap);
         if let Some(time) = other_time(&signals.weeks, &first, noon, week) {

@@ -17,7 +17,7 @@ use Rattle.rtcm_scan.specs.Frames.{Framed}
 use Rattle.rtcm_msg.specs.Sets.{has_msm, is_in_set}
 use Rattle.rtcm_msg.specs.declared.message.Message.{Message}
 use Rattle.rtcm_inspect.specs.CountedTimes.{counted_before, counted_tows, greatest_in, greatest_of, with_tow}
-use Rattle.rtcm_inspect.specs.declared.first_tows.PlacedTow.{PlacedTow}
+use Rattle.rtcm_inspect.specs.declared.first_tows.MsmTow.{MsmTow}
 use Rattle.rtcm_inspect.specs.declared.first_tows.SystemTows.{SystemTows}
 use Rattle.rtcm_inspect.specs.declared.first_tows.FirstTows.{FirstTows}
 use Rattle.rtcm_inspect.specs.WeekLaws.{first_tow}
@@ -33,46 +33,46 @@ IsMsmOf m system form = (set : MsmSet) → is_in_set set m ≡ has_msm set form 
 
 -- ---- by system and form
 
--- the time of week by these leap seconds; it was placed without any
-abbrev pub placed_by : (leap : ℕ) → PlacedTow → ℕ
-placed_by leap t = later_by t.system leap t.tow
+-- the time of week by these leap seconds; it is kept without any
+abbrev pub tow_by : (leap : ℕ) → MsmTow → ℕ
+tow_by leap t = later_by t.system leap t.tow
 
 -- the first MSM of a system in these forms
-abbrev pub tow_in : Forms → SystemTows → Option PlacedTow
+abbrev pub tow_in : Forms → SystemTows → Option MsmTow
 tow_in FourAndSeven x = x.four_and_seven
 tow_in All x = x.all
 
 -- y are the first ones after one more MSM of this form
-abbrev pub IsWith : SystemTows → Form → PlacedTow → SystemTows → Forms → Type 0
+abbrev pub IsWith : SystemTows → Form → MsmTow → SystemTows → Forms → Type 0
 IsWith x form t y forms = tow_in forms y ≡ (if have_form forms form then option_or (tow_in forms x) (Some t) else tow_in forms x)
 
-abbrev pub earlier : Option PlacedTow → Option PlacedTow → Option PlacedTow
-earlier None b = b
-earlier (Some x) None = Some x
-earlier (Some x) (Some y) = if nat_lt y.place x.place then Some y else Some x
+abbrev pub earlier_of : Option MsmTow → Option MsmTow → Option MsmTow
+earlier_of None b = b
+earlier_of (Some x) None = Some x
+earlier_of (Some x) (Some y) = if nat_lt y.msms_before x.msms_before then Some y else Some x
 
 -- the first MSM of a system, if it is in the set
-abbrev pub entry : MsmSet → BySystem SystemTows → System → Option PlacedTow
-entry set tows s = if value_of s set.systems then tow_in set.forms (value_of s tows) else None
+abbrev pub first_of_system : MsmSet → BySystem SystemTows → System → Option MsmTow
+first_of_system set tows s = if value_of s set.systems then tow_in set.forms (value_of s tows) else None
 
 -- the first MSM of the set, of these systems
-abbrev pub earliest : MsmSet → BySystem SystemTows → List System → Option PlacedTow
+abbrev pub earliest : MsmSet → BySystem SystemTows → List System → Option MsmTow
 earliest set tows [] = None
-earliest set tows (s ∷ ss) = earlier (entry set tows s) (earliest set tows ss)
+earliest set tows (s ∷ ss) = earlier_of (first_of_system set tows s) (earliest set tows ss)
 
 -- ---- the greatest time at a first MSM
 
 -- a first MSM with this greatest time, if it has none
-abbrev pub settled : ℕ → PlacedTow → PlacedTow
-settled time t = record t { greatest = option_or t.greatest (Some time) }
+abbrev pub with_greatest : ℕ → MsmTow → MsmTow
+with_greatest time t = record t { greatest = option_or t.greatest (Some time) }
 
-abbrev pub settled_tows : ℕ → SystemTows → SystemTows
-settled_tows time x =
-    record { four_and_seven = option_map (settled time) x.four_and_seven; all = option_map (settled time) x.all }
+abbrev pub tows_with_greatest : ℕ → SystemTows → SystemTows
+tows_with_greatest time x =
+    record { four_and_seven = option_map (with_greatest time) x.four_and_seven; all = option_map (with_greatest time) x.all }
 
 -- every first MSM has one
-abbrev pub AreSettled : BySystem SystemTows → Type 0
-AreSettled tows =
+abbrev pub HaveGreatest : BySystem SystemTows → Type 0
+HaveGreatest tows =
     (s : System) (forms : Forms) → IfSome (tow_in forms (value_of s tows)) (λ t. is_some t.greatest ≡ true)
 
 -- that of the first MSM of a set
@@ -87,33 +87,33 @@ IsGreatestAt n tows (Some t) = (n < length tows) × (greatest_of (take (n + 1) t
 -- ---- one more message
 
 -- an MSM of this form was added to the first ones
-pub record PlacesTow (x : FirstTows) (form : Form) (t : PlacedTow) (y : FirstTows) : Type 0 where
-  pub messages : y.messages ≡ x.messages
+pub record KeepsFirst (x : FirstTows) (form : Form) (t : MsmTow) (y : FirstTows) : Type 0 where
+  pub msms : y.msms ≡ x.msms
   pub greatest : y.greatest ≡ x.greatest
   pub tows : (now : SystemTows) × (y.tows ≡ with_value_of t.system x.tows now)
       × ((forms : Forms) → IsWith (value_of t.system x.tows) form t now forms)
-  pub same : y.is_waiting ≡ false → (x.is_waiting ≡ false) × (y.tows ≡ x.tows)
+  pub same : y.may_lack_greatest ≡ false → (x.may_lack_greatest ≡ false) × (y.tows ≡ x.tows)
 
 -- the first ones were given a greatest time
-pub record SettlesTows (x : FirstTows) (time : ℕ) (y : FirstTows) : Type 0 where
-  pub messages : y.messages ≡ x.messages
+pub record SetsGreatest (x : FirstTows) (time : ℕ) (y : FirstTows) : Type 0 where
+  pub msms : y.msms ≡ x.msms
   pub greatest : y.greatest ≡ x.greatest
-  pub tows : y.tows ≡ tabulate (λ s. settled_tows time (value_of s x.tows))
+  pub tows : y.tows ≡ tabulate (λ s. tows_with_greatest time (value_of s x.tows))
 
 -- a time of week was counted
 pub record CountsTow (x : FirstTows) (tow : ℕ) (y : FirstTows) : Type 0 where
-  pub messages : y.messages ≡ x.messages
+  pub msms : y.msms ≡ x.msms
   pub greatest : y.greatest ≡ with_tow x.greatest tow
-  pub tows : (t : ℕ) × (y.greatest ≡ Some t) × (t < weeks * week) × ((x.is_waiting ≡ false → AreSettled x.tows)
-      → y.tows ≡ tabulate (λ s. settled_tows t (value_of s x.tows)))
+  pub tows : (t : ℕ) × (y.greatest ≡ Some t) × (t < weeks * week) × ((x.may_lack_greatest ≡ false → HaveGreatest x.tows)
+      → y.tows ≡ tabulate (λ s. tows_with_greatest t (value_of s x.tows)))
 
 -- x are the first ones of these frames, and the greatest time
 pub record AreTows (x : FirstTows) (wanted : Option ℕ) (fs : List Framed) : Type 0 where
-  pub few : x.messages ≤ length fs
-  pub before : (s : System) (forms : Forms) → IfSome (tow_in forms (value_of s x.tows)) (λ t. t.place < x.messages)
+  pub few : x.msms ≤ length fs
+  pub before : (s : System) (forms : Forms) → IfSome (tow_in forms (value_of s x.tows)) (λ t. t.msms_before < x.msms)
   pub first : (leap : ℕ) (set : MsmSet)
-      → option_map (placed_by leap) (earliest set x.tows systems) ≡ first_tow leap set wanted fs
+      → option_map (tow_by leap) (earliest set x.tows systems) ≡ first_tow leap set wanted fs
   pub greatest : x.greatest ≡ greatest_in wanted fs
-  pub settled : x.is_waiting ≡ false → AreSettled x.tows
+  pub have_greatest : x.may_lack_greatest ≡ false → HaveGreatest x.tows
   pub at_first : (set : MsmSet) → IfSome (earliest set x.tows systems)
       (λ t. IsGreatestAt (counted_before set wanted fs) (counted_tows wanted fs) t.greatest)

@@ -11,7 +11,7 @@ pub returns-in_ok-printed-in-None-2-clause-line : goal.returns-in_ok-printed-in-
 returns-in_ok-printed-in-None-2-clause-line c = λ fs h.
     let s = c.args.signals.now in (
       (
-        ap (λ (x : FirstTwo). mixed_of s.station x) (sym h.first.stations) ∙ sym c.mixed.ensures ∙ c.in-None.is,
+        ap (λ (x : FirstTwo). mixed_of s.station x) (sym h.first.stations) ∙ sym c.mixed_stations.ensures ∙ c.in-None.is,
         some_cells _ (valued_in s.station fs) h.counted.signal_counts (sym c.has_any.ensures ∙ c.if-not-has_any.false),
       ),
       (c.in_ok-printed-in-None-2.printed.week, c.in_ok-printed-in-None-2.printed.leap, c.in_ok-printed-in-None-2.ensures.printed fs h, c.options_line.ensures fs h),

@@ -13,4 +13,4 @@ returns c = λ fs h.
     let greatest = at_first_msm h.first.tows c.set_had-set.result in
     ap₂ made
     (c.unwrap_or.ensures ∙ ap₂ (λ (o : Option ℕ) (n : ℕ). unwrap_or o n) (c.greatest_at_first-greatest.ensures greatest.0 ∙ greatest.1 ∙ ap (λ (m : MsmSet). greatest_at_first m s.station fs) set) c.within.ensures)
-    (c.unwrap_or-2.ensures ∙ ap (λ (o : Option ℕ). unwrap_or o 0) (c.first.ensures ∙ h.first.tows.first c.args.leap c.set_had-set.result ∙ ap (λ (m : MsmSet). first_tow c.args.leap m s.station fs) set))
+    (c.unwrap_or-2.ensures ∙ ap (λ (o : Option ℕ). unwrap_or o 0) (c.first_tow.ensures ∙ h.first.tows.first c.args.leap c.set_had-set.result ∙ ap (λ (m : MsmSet). first_tow c.args.leap m s.station fs) set))
