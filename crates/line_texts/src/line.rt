@@ -141,7 +141,7 @@ impl OutputLine {
     }
 
     /// Appends a separator and the last four digits of a number.
-    pub fn add_four(&mut self, separator: u8, number: u64)
+    fn add_four(&mut self, separator: u8, number: u64)
         requires { length self.old + 5 ≤ longest_line }
         ensures text { self.new ≡ self.old ++ separator ∷ four_digits number }
         ensures short { length self.new ≡ length self.old + 5 }

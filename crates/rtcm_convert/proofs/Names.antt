@@ -31,7 +31,7 @@ pub use Rattle.rinex_file.specs.Texts.{HeaderLists}
 pub use Rattle.rtcm_bits.proofs.SmallLaws.{length-filter-le, length-filter_map-le, on_failure, passed}
 pub use Rattle.rtcm_bits.specs.FrameOf.{longest_frame}
 pub use Rattle.rtcm_bits.specs.Prefix.{IsPrefix}
-pub use Rattle.rtcm_convert.specs.Broken.{BrokeInPieces, FailedWriting, FailedWritingAtEnd, IsBroken, joined_pieces}
+pub use Rattle.rtcm_convert.specs.Broken.{FailedWriting, FailedWritingAtEnd, IsBroken, joined_pieces}
 pub use Rattle.rtcm_convert.specs.Conversion.{Completed, CompletedEmpty, CompletesEmptyFile, CompletesFile, Conversion, CutsAtLimit, FailsAtEnd, FailsAtPiece, FailsFeeding, FailsFinishing, HasConverted, HasFinished, IsGoing, LeftBy, RanToFault, RanToLimit, WritesAdded, kept_of, refusal}
 unfoldable pub use Rattle.rtcm_convert.specs.Converted.{text_of_epochs}
 pub use Rattle.rtcm_convert.specs.Converted.{SetupValue, epoch_counts, epochs_in, file, message_of, messages_of, so_far, text_with, written_epochs}
@@ -40,7 +40,7 @@ pub use Rattle.rtcm_convert.specs.Fed.{AppendsBetween, AppendsPrefixBetween, App
 pub use Rattle.rtcm_convert.specs.Filed.{HasFiledEpochs, HasFiledFrames, Settled, added, epochs_after, interval_in, last_values, opening, values_after, values_following_closed}
 pub use Rattle.rtcm_convert.specs.Kept.{IsKeptAtEnd, IsWithinBounds, locks_at, locks_in_all}
 pub use Rattle.rtcm_convert.specs.Laws.{AreMessagesPlain, FiledGrows, FiledStays, IsCountedOnce, IsFileText, NothingYet, WrittenGrows, WrittenStays}
-pub use Rattle.rtcm_convert.specs.Made.{AreMadeToLimit, IsMade, IsMadeEmpty, IsMadeToLimit, IsMadeWith}
+pub use Rattle.rtcm_convert.specs.Made.{IsMade, IsMadeEmpty, IsMadeToLimit, IsMadeWith}
 pub use Rattle.rtcm_convert.specs.Outcomes.{AreFew, IsFew, capped, capped_tally, outcome, outcomes, outcomes_after, report_of, report_with, sum_of_counts, tallies_added, tally_of, tally_of_one}
 pub use Rattle.rtcm_convert.specs.Pieces.{StopsInPieces}
 pub use Rattle.rtcm_convert.specs.Readable.{AreSound, HasValue, IsReadable}

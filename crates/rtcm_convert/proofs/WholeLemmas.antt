@@ -1,5 +1,5 @@
 -- Whole streams.
-use Rattle.rtcm_convert.proofs.Names.{Fault, ◌≡◌, ℕ, ◌+◌, ◌<◌, ◌≤◌, ◌⊎◌, inl, inr, List, [], subst, ◌∙◌, arith, Option, Result, IfOk, length, take, IfSome, IfSome_then, Vec, Appends, Consumes, frames_of, decided_frames, SetupValue, so_far, file, epochs_in, AppendsBetween, AppendsPrefixBetween, NothingYet, AppendsDecided, Setup, setup_value, HasValue, IsMade, IsMadeEmpty, IsMadeWith, IsMadeToLimit, AreMadeToLimit, StopsInPieces, IsBetween, IsBroken, FailedWriting, FailedWritingAtEnd, BrokeInPieces, joined_pieces, Conversion, HasConverted, WritesAdded, CutsAtLimit, Completed, CompletedEmpty, CompletesFile, CompletesEmptyFile, FailsAtPiece, RanToLimit, FailsFeeding, FailsFinishing, Report, common_steps}
+use Rattle.rtcm_convert.proofs.Names.{Fault, ◌≡◌, ℕ, ◌+◌, ◌<◌, ◌≤◌, ◌⊎◌, inl, inr, List, [], subst, ◌∙◌, arith, Option, Result, IfOk, length, take, IfSome, IfSome_then, Appends, Consumes, frames_of, decided_frames, SetupValue, so_far, file, epochs_in, AppendsBetween, AppendsPrefixBetween, NothingYet, AppendsDecided, Setup, setup_value, HasValue, IsMade, IsMadeEmpty, IsMadeWith, IsMadeToLimit, IsBetween, IsBroken, FailedWriting, FailedWritingAtEnd, Conversion, HasConverted, WritesAdded, Completed, CompletedEmpty, CompletesFile, CompletesEmptyFile, FailsAtPiece, RanToLimit, FailsFeeding, FailsFinishing, Report, common_steps}
 
 pub from_nothing : {a b : Option (List ℕ)} {y : List ℕ} → NothingYet → (s : SetupValue) → AppendsBetween a b (so_far s (decided_frames [])) y → Appends a b y
 from_nothing {a} {b} {y} nothing s g = grind (arith, common_steps)
@@ -68,11 +68,3 @@ pub run_write : {v w : Conversion} {x : Setup} {a b : Option (List ℕ)} (r r' :
     → FailedWriting r r' a b (setup_value x) ⊎ FailedWritingAtEnd r r' a b (setup_value x)
 run_write {x = x} r r' new (inl p) = inl (p.0, p.1, p.2, broken new.nothing (p.4 (setup_value x) [] new.history))
 run_write {x = x} r r' new (inr p) = inr (p.0, p.1, p.2, (let f = p.4 (setup_value x) [] new.history in between (setup_value x) p.0 new.nothing f.before f.last))
-
--- pieces that go over the limit, and pieces at which the writer failed
-pub pieces_cut : {Z : Type 0} {v w : Conversion} {x : Setup} {a b : Option (List ℕ)} (pieces : List (Vec ℕ Z)) → BeganNew v w x → v.scan.taken ≡ 0 → CutsAtLimit v w a b (joined_pieces pieces) → AreMadeToLimit x a b pieces
-pieces_cut {v = v} {x = x} {a} {b} pieces new none p = grind (arith, common_steps)
-
-pub pieces_failed : {Z : Type 0} {v w : Conversion} {x : Setup} {a b : Option (List ℕ)} (pieces : List (Vec ℕ Z)) → BeganNew v w x → StopsInPieces v a b pieces → BrokeInPieces a b (setup_value x) pieces
-pieces_failed {x = x} pieces new (inl p) = let f = p.2 (setup_value x) [] new.history in inl (p.0, p.1, between (setup_value x) (joined_pieces (take p.0 pieces)) new.nothing f.before f.last)
-pieces_failed {x = x} pieces new (inr p) = let f = p (setup_value x) [] new.history in inr (between (setup_value x) (joined_pieces pieces) new.nothing f.before f.last)

@@ -1,5 +1,5 @@
 -- What was written of a stream if the writer failed, or if the stream wasn't read or accepted to its end.
-use Rattle.std.specs.Prelude.{ℕ, List, length, take, ◌+◌, ◌-◌, ◌<◌, ◌≤◌, ◌⊎◌, ◌++◌, flat_map, Option, Vec}
+use Rattle.std.specs.Prelude.{ℕ, List, length, ◌+◌, ◌-◌, ◌≤◌, ◌++◌, flat_map, Option, Vec}
 use Rattle.std.specs.Io.KnownBytes.{Consumes, IsAtEnd}
 use Rattle.rtcm_bits.specs.FrameOf.{longest_frame}
 use Rattle.rtcm_scan.specs.Frames.{frames_of}
@@ -34,14 +34,3 @@ FailedWritingAtEnd r r' a b s =
 -- the bytes of these pieces
 abbrev pub joined_pieces : {Z : Type 0} → List (Vec ℕ Z) → List ℕ
 joined_pieces pieces = flat_map (λ piece. piece.items) pieces
-
--- what is written of the first k pieces
-abbrev pub of_first : {Z : Type 0} → SetupValue → ℕ → List (Vec ℕ Z) → List ℕ
-of_first s k pieces = so_far s (decided_frames (joined_pieces (take k pieces)))
-
--- The writer failed at one of the pieces or, after all were accepted, in the rest of the file. In the first case the
--- bytes written are at least what the pieces before it make, and at most what these make with it.
-abbrev pub BrokeInPieces : {Z : Type 0} → (a b : Option (List ℕ)) → SetupValue → List (Vec ℕ Z) → Type 0
-BrokeInPieces a b s pieces =
-    ((k : ℕ) × (k < length pieces) × IsBetween a b (of_first s k pieces) (of_first s (k + 1) pieces))
-    ⊎ IsBetweenDecidedAndWhole a b s (joined_pieces pieces)

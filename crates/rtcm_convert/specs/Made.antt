@@ -1,9 +1,9 @@
 -- The file written of a whole stream.
-use Rattle.std.specs.Prelude.{◌≡◌, ◌⊎◌, ℕ, ◌<◌, ◌≤◌, List, length, take, Option, IfSome, Vec}
+use Rattle.std.specs.Prelude.{◌≡◌, ◌⊎◌, ℕ, ◌<◌, ◌≤◌, List, length, take, Option, IfSome}
 use Rattle.std.specs.Io.KnownBytes.{Appends, Consumes}
 use Rattle.rtcm_scan.specs.Decided.{decided_frames}
 use Rattle.rtcm_scan.specs.Frames.{frames_of}
-use Rattle.rtcm_convert.specs.Broken.{FailedWriting, FailedWritingAtEnd, joined_pieces}
+use Rattle.rtcm_convert.specs.Broken.{FailedWriting, FailedWritingAtEnd}
 use Rattle.rtcm_convert.specs.Converted.{file, so_far, epoch_counts, epochs_in}
 use Rattle.rtcm_convert.specs.Faults.{fault_of_none}
 use Rattle.rtcm_convert.specs.declared.fault.Fault.{Fault}
@@ -35,11 +35,6 @@ pub record IsMadeToLimit (x : Setup) (r r' a b : Option (List ℕ)) : Type 0 whe
   pub over : IfSome r (λ bytes. x.limit < length bytes)
   pub out : (front : List ℕ) × Consumes r r' front
       × Appends a b (so_far (setup_value x) (decided_frames (take x.limit front)))
-
--- The same for pieces.
-pub record AreMadeToLimit {Z : Type 0} (x : Setup) (a b : Option (List ℕ)) (pieces : List (Vec ℕ Z)) : Type 0 where
-  pub over : x.limit < length (joined_pieces pieces)
-  pub out : Appends a b (so_far (setup_value x) (decided_frames (take x.limit (joined_pieces pieces))))
 
 -- the bytes written are the file of the epochs that the bytes read close
 abbrev pub IsMadeSoFar : Setup → (r r' a b : Option (List ℕ)) → Type 0

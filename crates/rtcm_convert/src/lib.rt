@@ -27,4 +27,4 @@ pub use converter::{Converter, Kept};
 pub use fault::Fault;
 pub use report::Report;
 pub use setup::Setup;
-pub use whole::{convert_pieces, convert_stream};
+pub use whole::convert_stream;

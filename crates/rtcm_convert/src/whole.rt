@@ -1,11 +1,9 @@
 //! Whole streams.
 ghost use Rattle.std.specs.Prelude.{◌≡◌, ◌≢◌, ◌↔◌, Err, IsErrOf, IfOk, IfErr, IfSome};
 ghost use Rattle.devices.specs.Device.{IsUntouched, Moves};
-ghost use Rattle.rtcm_convert.specs.Faults.{FailsWithDevices, FailsWithWriter, IsOfNone, IsSentAfter, IsSetupFault};
-ghost use Rattle.rtcm_convert.specs.Broken.{BrokeInPieces, joined_pieces};
-ghost use Rattle.rtcm_convert.specs.Made.{IsMadeWith, IsMadeEmpty, IsMadeToLimit, AreMadeToLimit, IsMadeSoFar};
-ghost use Rattle.rtcm_convert.specs.Made.{IsMadeInPart};
-ghost use Rattle.rtcm_convert.specs.SetupValues.{setup_value, IsBad};
+ghost use Rattle.rtcm_convert.specs.Faults.{FailsWithDevices, IsOfNone, IsSentAfter, IsSetupFault};
+ghost use Rattle.rtcm_convert.specs.Made.{IsMadeWith, IsMadeEmpty, IsMadeToLimit, IsMadeSoFar, IsMadeInPart};
+ghost use Rattle.rtcm_convert.specs.SetupValues.{IsBad};
 
 use crate::converter::Converter;
 use crate::fault::Fault;
@@ -65,51 +63,6 @@ pub fn convert_stream<R: Read, W: Deliver>(
     laws::read_back(&setup);
     let mut converter = Converter::new(alloc, setup)?;
     let answer = converter.run(reader, writer);
-    drop(converter);
-    answer
-}
-
-/// Writes the observation file of a stream of these pieces: [`Converter::take_pieces`] of a new
-/// converter.
-///
-/// # Errors
-///
-/// `BadSetup` and `Memory` of [`Converter::new`], before anything is written; `Write`, `TooLong`,
-/// `NoEpoch` and `NoneChosen` of [`Converter::take_pieces`].
-pub fn convert_pieces<W: Deliver>(
-    alloc: Global,
-    setup: Setup,
-    pieces: &[Vec<u8>],
-    writer: &mut Counted<W>,
-) -> Result<Report, Fault>
-    // For every way to cut the stream into pieces, the file that was written is the one of its
-    // frames in order, has an epoch, and is the text of a file value; and that is its report.
-    ensures made { IfOk result (λ report.
-        IsMadeWith setup report (W.contents writer.old.inner) (W.contents writer.new.inner)
-        (joined_pieces pieces.now)) }
-    // The file has no epoch and is empty, as no epoch of the stream has a value, or none that has
-    // one is chosen.
-    ensures empty { (fault : Fault) → IsOfNone fault → IsErrOf result fault
-        → IsMadeEmpty setup fault (W.contents writer.old.inner) (W.contents writer.new.inner)
-        (joined_pieces pieces.now) }
-    // The pieces go over the limit; the file of the epochs that the bytes up to it close was
-    // written.
-    ensures long { IsErrOf result Fault.TooLong
-        → AreMadeToLimit setup (W.contents writer.old.inner) (W.contents writer.new.inner) pieces.now }
-    // The writer failed at one of the pieces, or at the end.
-    ensures write { IsErrOf result Fault.Write
-        → BrokeInPieces (W.contents writer.old.inner) (W.contents writer.new.inner) (setup_value setup) pieces.now }
-    // Nothing waits in the writer, unless it failed.
-    ensures sent { IsSentAfter result (W.waiting writer.old.inner) (W.waiting writer.new.inner) }
-    ensures writer { FailsWithWriter result writer.old writer.new }
-    ensures bad_setup { result ≡ Err Fault.BadSetup ↔ IsBad setup }
-    ensures untouched { IfErr result (λ fault. IsSetupFault fault → writer.new ≡ writer.old) }
-    ensures only { (result ≢ Err Fault.Failed) × (result ≢ Err Fault.Finished) × (result ≢ Err Fault.Read) }
-{
-    laws::prefix();
-    laws::read_back(&setup);
-    let mut converter = Converter::new(alloc, setup)?;
-    let answer = converter.take_pieces(pieces, writer);
     drop(converter);
     answer
 }

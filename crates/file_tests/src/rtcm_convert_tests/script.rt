@@ -10,7 +10,7 @@ use gnss_obs::Plan;
 use gnss_system::System;
 use obs_epoch::Choice;
 use rinex_file::{HeaderTexts, Texts};
-use rtcm_convert::{Converter, Fault, Report, Setup, convert_pieces, convert_stream};
+use rtcm_convert::{Converter, Fault, Report, Setup, convert_stream};
 use rtcm_msg::Forms;
 use rtcm_scan::MOST_BYTES;
 use std::alloc::{AllocError, Global};
@@ -305,11 +305,23 @@ fn pieces<W: Deliver>(
         Err(Fault::Memory)
     } else {
         match setup(alloc, options) {
-            Ok(setup) => convert_pieces(alloc, setup, pieces.as_slice(), writer),
+            Ok(setup) => take_pieces(alloc, setup, pieces.as_slice(), writer),
             Err(fault) => Err(fault),
         }
     };
     drop(pieces);
+    made
+}
+
+fn take_pieces<W: Deliver>(
+    alloc: Global,
+    setup: Setup,
+    pieces: &[Vec<u8>],
+    writer: &mut Counted<W>,
+) -> Result<Report, Fault> {
+    let mut converter = Converter::new(alloc, setup)?;
+    let made = converter.take_pieces(pieces, writer);
+    drop(converter);
     made
 }
 
