@@ -9,9 +9,8 @@ use crate::fault::CommandFault;
 use devices::{Counted, Deliver, print_line};
 
 /// Prints the fault of a command, if any, on one line, and returns the exit status: 0 after
-/// success, 2 if not one of two options or not all of three are given, or a date, the position, the
-/// height, the list of channels, the window, an interval or the tolerance is invalid, else 1. A
-/// failure of this writer is ignored.
+/// success, 2 if an option is missing, excludes another one, or has an invalid value other than a
+/// text of the header or a list of signals, else 1. A failure of this writer is ignored.
 pub fn exit_status<E: Deliver>(ended: Result<(), CommandFault>, faults: &mut Counted<E>) -> u8
     ensures value { result ≡ status_of ended }
     ensures range { result ≤ 2 }

@@ -141,9 +141,8 @@ AreRefusedBy name options fault =
     ⊎ ((name ≡ codes "options") × IsSourceRefused options fault)
     ⊎ AreFileOptionsRefused name options fault
 
--- The words lead to an error other than the version's text, and a text was printed; or they ask for a command with an
--- option whose date, time, position, antenna height, list of channels, window, interval or tolerance is invalid, or with
--- two that exclude each other, and the line of that fault was printed.
+-- The words lead to an error other than the version's text, and a text was printed; or they ask for a command of which
+-- an option is missing, excludes another one, or has an invalid value, and the line of that fault was printed.
 abbrev pub AreRefused : {E : Type 0} → List Text → (e e' : Writer E) → Type 0
 AreRefused words e e' =
     ((k : ErrorKind) × FailsParsing words k × (k ≡ DisplayVersion → ⊥) × PrintsSome e e')

@@ -35,9 +35,9 @@ use std::alloc::Global;
 use std::io::{self, Read};
 
 /// Runs the command that the words ask for, the first of which is the program's name, and returns
-/// the exit status: 0 after success, 1 after a fault, and 2 if the words aren't accepted, ask for
-/// help, have an invalid date, time, position, height, list of channels, window, interval or
-/// tolerance, or two options that exclude each other.
+/// the exit status: 0 after success, 1 after a fault, and 2 if the words aren't accepted or ask for
+/// help, or if an option is missing, excludes another one, or has an invalid value other than a text
+/// of the header or a list of signals.
 pub fn command<R: Read, W: Deliver, E: Deliver>(
     alloc: Global,
     words: &[&str],
@@ -58,9 +58,9 @@ pub fn command<R: Read, W: Deliver, E: Deliver>(
     ensures stopped { result ≡ 1 → Runs R.remaining reader.old reader.new W.contents W.waiting writer.old writer.new
         E.contents E.waiting faults.old faults.new (HasStoppedEarly (texts words.now)) }
 
-    // They aren't accepted, ask for help, have an invalid date, time, position, height, list of
-    // channels, window, interval or tolerance, or two options that exclude each other, and a text
-    // was written to `faults`. Nothing was read, and nothing was written to the output.
+    // They aren't accepted or ask for help, or an option is missing, excludes another one, or has an
+    // invalid value, and a text was written to `faults`. Nothing was read, and nothing was written
+    // to the output.
     ensures refused { result ≡ 2 → Writes E.contents E.waiting faults.old faults.new (AreRefused (texts words.now))
         × IsUntouched reader.old reader.new writer.old writer.new }
 {
