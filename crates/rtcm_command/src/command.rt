@@ -18,10 +18,7 @@ ghost use Rattle.rtcm_command.specs.Converting.{EndsConverting};
 ghost use Rattle.rtcm_command.specs.SetupOptions.{options_of};
 
 use crate::convert::{report_line, run_convert};
-use crate::options::{
-    channels_of, choice_of, complete_of, every_of, has_flag, setup_of, source_of, start_of,
-    station_of, values_of,
-};
+use crate::options::{complete_of, every_of, has_flag, setup_of, source_of, station_of};
 use clap::ArgMatches;
 use clap::error::ErrorKind;
 use command_faults::{CommandFault, error_line, exit_status};
@@ -142,11 +139,7 @@ fn convert<R: Read, W: Deliver, E: Deliver>(
     ensures { Runs R.remaining reader.old reader.new W.contents W.waiting writer.old writer.new
         E.contents E.waiting faults.old faults.new (EndsConverting result (options_of options.now)) }
 {
-    let start = start_of(options)?;
-    let initial = values_of(options)?;
-    let channels = channels_of(options)?;
-    let choice = choice_of(options)?;
-    let setup = setup_of(alloc, options, start, initial, channels, choice)?;
+    let setup = setup_of(alloc, options)?;
     let has_glonass = setup.gatherer.plan.signals(System::Glonass) > 0;
     let report = run_convert(alloc, setup, reader, writer)?;
     print_line(report_line(&report, has_glonass).as_bytes(), faults);

@@ -9,9 +9,9 @@ ghost use Rattle.obs_epoch.specs.Heard.{is_by_bit};
 ghost use Rattle.rinex_file.specs.inner.TextsOf.{lists_of};
 ghost use Rattle.line_texts.specs.Dates.{IsHourOf, IsTimeOf};
 ghost use Rattle.line_texts.specs.Lengths.{longest_interval};
-ghost use Rattle.rtcm_command.specs.SetupOptions.{HasSetupFault, IsChoiceSet, IsEverySet, IsGapsSet, IsGiven};
+ghost use Rattle.rtcm_command.specs.SetupOptions.{IsChoiceSet, IsEverySet, IsGapsSet, IsGiven, IsSetupOf};
 ghost use Rattle.rtcm_command.specs.SetupOptions.{IsIntervalSet, IsNearSet, IsNumberOf, IsNumberOr, IsTimeSet};
-ghost use Rattle.rtcm_command.specs.SetupOptions.{IsSetupOf, IsSourceRefused, IsSourceSet, IsStartRefused, IsStartSet};
+ghost use Rattle.rtcm_command.specs.SetupOptions.{IsSetupRefused, IsSourceRefused, IsSourceSet, IsStartRefused, IsStartSet};
 ghost use Rattle.rtcm_command.specs.SetupOptions.{IsTimeBy, IsWindowSet, channels_set, forms_set, has_flag, options_of};
 ghost use Rattle.rtcm_command.specs.SetupOptions.{period_length_of, plan_set, plan_texts, text_set, texts_set};
 ghost use Rattle.rtcm_command.specs.SetupOptions.{tolerance_set, usual_leap, values_set};
@@ -39,7 +39,7 @@ use std::alloc::Global;
 ///
 /// `OneOf` if not exactly one of the options is given, and `BadDate` if its text isn't a week or a
 /// date.
-pub fn start_of(options: &ArgMatches) -> Result<Start, CommandFault>
+fn start_of(options: &ArgMatches) -> Result<Start, CommandFault>
     ensures { MatchResult result (IsStartSet (options_of options.now)) (IsStartRefused (options_of options.now)) }
 {
     match (options.get_str("week"), options.get_str("near")) {
@@ -236,7 +236,7 @@ fn period_length_of(text: &str) -> Option<Interval>
 /// # Errors
 ///
 /// `BadDate`, `BadWindow`, `BadInterval` or `BadTolerance` of the first option that isn't valid.
-pub fn choice_of(options: &ArgMatches) -> Result<Choice, CommandFault>
+fn choice_of(options: &ArgMatches) -> Result<Choice, CommandFault>
     ensures { IsChoiceSet (options_of options.now) result }
 {
     let (window, interval) = (window_of(options), epochs_of(options));
@@ -288,26 +288,19 @@ pub fn has_flag(options: &ArgMatches, name: &str) -> bool
     text(options, name) == "true"
 }
 
-/// Returns the settings of a conversion with this start, these station values, channels and epochs.
-/// The texts of the header are checked before the plan.
+/// Returns the settings of a conversion. The options are checked in the order of these calls.
 ///
 /// # Errors
 ///
-/// `Header` if a text of the header is refused, and `Plan` if the plan is.
-pub fn setup_of(
-    alloc: Global,
-    options: &ArgMatches,
-    start: Start,
-    initial: StationValues,
-    channels: Channels,
-    choice: Choice,
-) -> Result<Setup, CommandFault>
-    requires start { IsStartSet (options_of options.now) start }
-    requires values { values_set (options_of options.now) ≡ Ok initial }
-    requires channels { channels_set (options_of options.now) ≡ Ok channels }
-    requires choice { IsChoiceSet (options_of options.now) (Ok choice) }
-    ensures { MatchResult result (IsSetupOf (options_of options.now)) (HasSetupFault (options_of options.now)) }
+/// Those of `start_of`, `values_of`, `channels_of` and `choice_of`, then `Header` if a text of the
+/// header is refused, and `Plan` if the plan is.
+pub fn setup_of(alloc: Global, options: &ArgMatches) -> Result<Setup, CommandFault>
+    ensures { MatchResult result (IsSetupOf (options_of options.now)) (IsSetupRefused (options_of options.now)) }
 {
+    let start = start_of(options)?;
+    let initial = values_of(options)?;
+    let channels = channels_of(options)?;
+    let choice = choice_of(options)?;
     let texts = HeaderTexts::new(&texts_of(options)).map_err(CommandFault::Header)?;
     let plan = plan_of(alloc, options).map_err(CommandFault::Plan)?;
     let leap_seconds = leap_seconds_of(options, &start);
@@ -337,7 +330,7 @@ fn plan_of(alloc: Global, options: &ArgMatches) -> Result<Plan, PlanFault>
 }
 
 /// Returns the texts of the header.
-pub fn texts_of<'a>(options: &ArgMatches<'a>) -> Texts<'a>
+fn texts_of<'a>(options: &ArgMatches<'a>) -> Texts<'a>
     ensures { lists_of result ≡ texts_set (options_of options.now) }
 {
     Texts {
@@ -416,7 +409,7 @@ pub fn station_of(options: &ArgMatches) -> Option<u16>
 /// # Errors
 ///
 /// `BadPosition` or `BadHeight` if a text has another form, or a length that no message can have.
-pub fn values_of(options: &ArgMatches) -> Result<StationValues, CommandFault>
+fn values_of(options: &ArgMatches) -> Result<StationValues, CommandFault>
     ensures { result ≡ values_set (options_of options.now) }
 {
     let position = position_of(text(options, "position"));
@@ -431,7 +424,7 @@ pub fn values_of(options: &ArgMatches) -> Result<StationValues, CommandFault>
 /// # Errors
 ///
 /// `BadChannels` if the text has another form.
-pub fn channels_of(options: &ArgMatches) -> Result<Channels, CommandFault>
+fn channels_of(options: &ArgMatches) -> Result<Channels, CommandFault>
     ensures { result ≡ channels_set (options_of options.now) }
 {
     let channels = line_texts::channels_of(text(options, "glonass-channels"));
