@@ -72,7 +72,7 @@ const PROGRAM: CommandRow<'static> = CommandRow {
     about: "Reads an RTCM 3 stream from standard input and prints its content",
     examples: "Example:\n  \
                plan=$(rtcm2rinex options --near 2024-02-04 < stream.rtcm3) &&\n  \
-               rtcm2rinex convert --date \"20240204 000001 UTC\" $plan \\\n    \
+               rtcm2rinex convert --date \"20240204 000001 UTC\" --gather time $plan \\\n    \
                < stream.rtcm3 > station.obs",
     options: &[],
 };
@@ -133,7 +133,7 @@ const OPTIONS: CommandRow<'static> = CommandRow {
                stations is refused.\n\
                Example:\n  \
                plan=$(rtcm2rinex options --near 2024-02-04 < stream.rtcm3) &&\n  \
-               rtcm2rinex convert --date \"20240204 000001 UTC\" $plan \\\n    \
+               rtcm2rinex convert --date \"20240204 000001 UTC\" --gather time $plan \\\n    \
                < stream.rtcm3 > station.obs",
     options: option_rows! {
         None => {
