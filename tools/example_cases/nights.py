@@ -10,7 +10,7 @@ from .common import DAY, EXAMPLES, STATION, day_log, day_messages, script
 
 
 def past_day(days: int) -> str:
-    """Returns the date of so many days ago."""
+    """Returns the date of this number of days ago."""
     return str((datetime.now(timezone.utc) - timedelta(days=days)).date())
 
 
