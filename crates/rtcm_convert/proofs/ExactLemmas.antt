@@ -1,6 +1,6 @@
 -- No count of a stream reaches the greatest number that is counted: a frame has at least six bytes and at most 64
 -- cells.
-use Rattle.rtcm_convert.proofs.Names.{entries_in, Choice, whole_list, capped_counts, thin_after, epoch_counts, Closed, common_steps, ◌≡◌, ◌||◌, ℕ, ◌+◌, ◌*◌, ◌≤◌, most_bytes, List, [], ◌∷◌, ◌++◌, Bool, true, false, refl, sym, ap, subst, arith, rules, length, length-append, add-zero, suc, nat_lt, Option, Some, None, is_some, filter, if◌then◌else◌, zip, option_map_or, length-map, length-filter, count_by-le-length, System, Framed, Message, Entry, MasksValue, MsmValue, AreMasks, IsMessage, chosen, cell_pairs, all_pairs, entry_in, Kind, GatherSetup, Heard, heard, heard_by, ChannelsValue, heard_msm, is_own, unlisted_in, HeardCell, Timed, timed, timed_after, taken_at, times, counts_of, counts_of_message, no_counts, with_skipped, is_planned, offered, kind_of, kind_at, SetupValue, messages_of, epochs_in, outcomes_after, capped, capped_tally, sum_of_counts, tally_of, tally_of_one, IsFew, AreFew, Report, CellCounts, length-filter-le, length-filter_map-le}
+use Rattle.rtcm_convert.proofs.Names.{entries_in, Choice, whole_list, capped_counts, thin_after, epoch_counts, Closed, common_steps, ◌≡◌, ◌||◌, ℕ, ◌+◌, ◌*◌, ◌≤◌, most_bytes, List, [], ◌∷◌, ◌++◌, Bool, true, false, refl, sym, ap, subst, arith, rules, length, length-append, add-zero, suc, nat_lt, Option, Some, None, is_some, filter, if◌then◌else◌, zip, option_map_or, length-map, length-filter, count_by-le-length, System, Framed, Message, Entry, MasksValue, MsmValue, AreMasks, IsMessage, chosen, cell_pairs, all_pairs, entry_in, Kind, GatherSetup, Heard, heard, heard_by, ChannelsValue, heard_msm, is_own, unlisted_in, HeardCell, Timed, timed, timed_after, taken_at, times, counts_of, counts_of_message, no_counts, with_skipped, is_planned, offered, kind_of, kind_at, SetupValue, messages_of, epochs_in, outcomes_after, capped, tally_of, tally_with, cell_counts, AreFewCells, count_by, sum_by, AreFew, CellCounts, length-filter-le, length-filter_map-le}
 use Rattle.rtcm_msg.specs.declared.view.Form.{Form}
 use Rattle.rtcm_msg.specs.declared.view.Form.TheVariants as forms
 use Rattle.obs_epoch.proofs.CountLaws.{few_without}
@@ -50,62 +50,65 @@ heard_few channels leap (message.Other n set) h = record { cells = omega arith; 
 
 -- ---- the counts of a message
 
-record CountsFew (n : CellCounts) : Type 0 where
-  skipped : n.skipped ≤ 128
-  repeated : n.repeated ≤ 128
-  crowded : n.crowded ≤ 128
-  without : n.without_channel ≤ 128
-
 planned_few : (s : GatherSetup) (xs : List HeardCell) → length (filter (is_planned s) xs) ≤ length xs
 planned_few s xs = subst (λ (n : ℕ). n ≤ length xs) (sym (length-filter (is_planned s) xs)) (count_by-le-length (is_planned s) xs)
 
 without_few : (s : GatherSetup) (before : List HeardCell) (m : Heard) → HasFew m → (counts_of s before m.cells).without_channel ≤ 128
 without_few s before m h = omega (arith, few_without s before (filter (is_planned s) m.cells), planned_few s m.cells, h.cells)
 
-counts_few : (s : GatherSetup) (before : List HeardCell) (m : Heard) → HasFew m → CountsFew (with_skipped m.unlisted (counts_of s before m.cells))
+counts_few : (s : GatherSetup) (before : List HeardCell) (m : Heard) → HasFew m → AreFewCells (with_skipped m.unlisted (counts_of s before m.cells))
 counts_few s before m h = grind (arith, common_steps, count_by-le-length, planned_few, without_few)
 
 counts_few_at : (s : GatherSetup) (xs : List Timed) (m : Heard) (o : Option ℕ) → HasFew m
-    → CountsFew (option_map_or (λ u. with_skipped m.unlisted (counts_of s (offered s u xs) m.cells)) o no_counts)
+    → AreFewCells (option_map_or (λ u. with_skipped m.unlisted (counts_of s (offered s u xs) m.cells)) o no_counts)
 counts_few_at s xs m o h = grind (arith, common_steps, counts_few)
 
 -- ---- what a frame adds to each count
 
-pub refused_few : IsFew (tally_of_one None)
+pub refused_few : AreFewCells (cell_counts None)
 refused_few = search rules
 
-timed_few : (late past : Bool) (n : CellCounts) → CountsFew n → IsFew (tally_of_one (Some (if late then kind.Late else (if past then kind.PastWeeks else kind.Kept n))))
+timed_few : (late past : Bool) (n : CellCounts) → AreFewCells n → AreFewCells (cell_counts (Some (if late then kind.Late else (if past then kind.PastWeeks else kind.Kept n))))
 timed_few late past n h = grind (arith, common_steps)
 
-own_few : (s : GatherSetup) (xs : List Timed) (n : CellCounts) (tow : Option ℕ) → CountsFew n → IsFew (tally_of_one (Some (option_map_or (kind_at s xs n) tow kind.Station)))
+own_few : (s : GatherSetup) (xs : List Timed) (n : CellCounts) (tow : Option ℕ) → AreFewCells n → AreFewCells (cell_counts (Some (option_map_or (kind_at s xs n) tow kind.Station)))
 own_few s xs n tow h = grind (arith, common_steps, timed_few)
 
-kind_few : (known own : Bool) (k : Kind) → IsFew (tally_of_one (Some k)) → IsFew (tally_of_one (Some (if known then (if own then k else kind.OtherStation) else kind.Ignored)))
+kind_few : (known own : Bool) (k : Kind) → AreFewCells (cell_counts (Some k)) → AreFewCells (cell_counts (Some (if known then (if own then k else kind.OtherStation) else kind.Ignored)))
 kind_few known own k h = grind (arith, common_steps)
 
-heard_kind_few : (s : GatherSetup) (ms : List Heard) (m : Heard) → HasFew m → IsFew (tally_of_one (Some (kind_of s ms m)))
+heard_kind_few : (s : GatherSetup) (ms : List Heard) (m : Heard) → HasFew m → AreFewCells (cell_counts (Some (kind_of s ms m)))
 heard_kind_few s ms m h =
     let xs = timed s ms in
     kind_few (is_some m.tow || is_some m.point) (is_own s m) _ (own_few s xs (counts_of_message s xs m) m.tow (counts_few_at s xs m (taken_at s xs m) h))
 
-pub message_few : (s : GatherSetup) (ms : List Heard) (m : Message) → IsMessage m → IsFew (tally_of_one (Some (kind_of s ms (heard_by s m))))
+pub message_few : (s : GatherSetup) (ms : List Heard) (m : Message) → IsMessage m → AreFewCells (cell_counts (Some (kind_of s ms (heard_by s m))))
 message_few s ms m h = heard_kind_few s ms (heard_by s m) (heard_few s.plan.channels s.leap_seconds m h)
 
-pub few_more : (os : List (Option Kind)) (o : Option Kind) → AreFew os → IsFew (tally_of_one o) → AreFew (os ++ o ∷ [])
+pub few_more : (os : List (Option Kind)) (o : Option Kind) → AreFew os → AreFewCells (cell_counts o) → AreFew (os ++ o ∷ [])
 few_more [] o h k = (k, tt)
 few_more (p ∷ os) o h k = (h.0, few_more os o h.1 k)
 
 -- ---- so that no count is capped
 
-total_few : (count : Report → ℕ) → ((t : Report) → IsFew t → count t ≤ 128) → (os : List (Option Kind)) → AreFew os → sum_of_counts count os ≤ 128 * length os
+total_few : (count : CellCounts → ℕ) → ((n : CellCounts) → AreFewCells n → count n ≤ 128) → (os : List (Option Kind)) → AreFew os → sum_by (λ o. count (cell_counts o)) os ≤ 128 * length os
 total_few count below [] h = omega arith
 total_few count below (o ∷ os) h = grind (arith, common_steps, total_few count below os h.1)
+
+frames_few : (p : Option Kind → Bool) (os : List (Option Kind)) → count_by p os ≤ 128 * length os
+frames_few p os = omega (arith, count_by-le-length p os)
 
 whole_count : (n k most : ℕ) → n ≤ 128 * k → 6 * k ≤ most → most ≤ most_bytes → capped n ≡ n
 whole_count n k most a b c = omega arith
 
-pub tally_whole : (os : List (Option Kind)) (most : ℕ) → AreFew os → 6 * length os ≤ most → most ≤ most_bytes → capped_tally (tally_of os) ≡ tally_of os
-tally_whole os most few short small = grind (arith, common_steps, whole_count, total_few)
+same_tally : (f g : ℕ → ℕ) (os : List (Option Kind)) → AreFew os → ((n : ℕ) → n ≤ 128 * length os → f n ≡ g n) → tally_with f os ≡ tally_with g os
+same_tally f g os few same =
+    let frames : (p : Option Kind → Bool) → f (count_by p os) ≡ g (count_by p os) = λ p. same (count_by p os) (frames_few p os) in
+    let cells : (count : CellCounts → ℕ) → ((n : CellCounts) → AreFewCells n → count n ≤ 128) → f (sum_by (λ o. count (cell_counts o)) os) ≡ g (sum_by (λ o. count (cell_counts o)) os) = λ count below. same (sum_by (λ o. count (cell_counts o)) os) (total_few count below os few) in
+    simp (same (length os) (omega arith), frames, cells (λ n. n.skipped) (λ n h. h.skipped), cells (λ n. n.repeated) (λ n h. h.repeated), cells (λ n. n.crowded) (λ n h. h.crowded), cells (λ n. n.without_channel) (λ n h. h.without)) refl
+
+pub tally_whole : (os : List (Option Kind)) (most : ℕ) → AreFew os → 6 * length os ≤ most → most ≤ most_bytes → tally_with capped os ≡ tally_of os
+tally_whole os most few short small = same_tally capped (λ n. n) os few (λ n le. whole_count n (length os) most le short small)
 
 pub outcomes_length : (s : SetupValue) (before fs : List Framed) → length (outcomes_after s before fs) ≡ length fs
 outcomes_length s before [] = refl

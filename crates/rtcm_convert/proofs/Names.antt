@@ -41,7 +41,7 @@ pub use Rattle.rtcm_convert.specs.Filed.{HasFiledEpochs, HasFiledFrames, Settled
 pub use Rattle.rtcm_convert.specs.Kept.{IsKeptAtEnd, IsWithinBounds, locks_at, locks_in_all}
 pub use Rattle.rtcm_convert.specs.Laws.{AreMessagesPlain, FiledGrows, FiledStays, IsCountedOnce, IsFileText, NothingYet, WrittenGrows, WrittenStays}
 pub use Rattle.rtcm_convert.specs.Made.{IsMade, IsMadeEmpty, IsMadeToLimit, IsMadeWith}
-pub use Rattle.rtcm_convert.specs.Outcomes.{AreFew, IsFew, capped, capped_tally, outcome, outcomes, outcomes_after, report_of, report_with, sum_of_counts, tallies_added, tally_of, tally_of_one}
+pub use Rattle.rtcm_convert.specs.Outcomes.{AreFew, AreFewCells, capped, cell_counts, is_kind, outcome, outcomes, outcomes_after, report_of, report_with, tally_of, tally_with}
 pub use Rattle.rtcm_convert.specs.Pieces.{StopsInPieces}
 pub use Rattle.rtcm_convert.specs.Readable.{AreSound, HasValue, IsReadable}
 pub use Rattle.rtcm_convert.specs.SetupValues.{IsBad, IsBadStart, setup_value}
@@ -52,7 +52,7 @@ pub use Rattle.rtcm_convert.specs.declared.file_writer.FileWriter.{FileWriter}
 pub use Rattle.rtcm_convert.specs.declared.report.Report.{Report}
 pub use Rattle.rtcm_convert.specs.declared.setup.Setup.{Setup}
 pub use Rattle.rtcm_convert.specs.inner.Conversion.{FinishesEmptyNow, FinishesNow, IsFit, KeepsNow, StopsAtEnd, TakesFromReader, TakesPiece, WritesPrefixOfAdded}
-pub use Rattle.rtcm_convert.specs.inner.Steps.{BreaksInFrame, BreaksInMessage, BreaksInNext, BreaksInRest, EndsFile, IsFinalKind, IsKindOf, IsKindOfNext, IsTakenAgain, TakesFrame, TakesNext, WritesFirst}
+pub use Rattle.rtcm_convert.specs.inner.Steps.{BreaksInFrame, BreaksInMessage, BreaksInNext, BreaksInRest, CountsFrame, EndsFile, IsFinalKind, IsKindOf, IsKindOfNext, IsTakenAgain, TakesFrame, TakesNext, WritesFirst}
 pub use Rattle.rtcm_convert.specs.inner.Stream.{BreaksAtEndOf, BreaksFiling, EndsBytes, Files, HasDrainedSome}
 pub use Rattle.rtcm_msg.specs.Decoding.{message_with}
 pub use Rattle.rtcm_msg.specs.Encoding.{IsMessage}
@@ -84,10 +84,10 @@ pub use Rattle.std.proofs.lemmas.Bool.Decides.{Decides-int_eq}
 pub use Rattle.std.proofs.lemmas.Grind.{common_steps, flat_map-append}
 pub use Rattle.std.proofs.lemmas.List.{append_cancel_left, length-map, take-append-drop, take-append-le}
 pub use Rattle.std.proofs.lemmas.List.Elements.{filter-append, filter_map-append}
-pub use Rattle.std.proofs.lemmas.List.Sums.{count_by-le-length, length-filter, sum_by-cons}
+pub use Rattle.std.proofs.lemmas.List.Sums.{count_by-le-length, length-filter}
 pub use Rattle.std.proofs.lemmas.Option.{IfSome_then}
 pub use Rattle.std.proofs.lemmas.Result.{IfOk-weaker, on_err_weaker, on_ok_weaker}
 pub use Rattle.std.specs.Io.KnownBytes.{Appends, Consumes, IsAtEnd, Keeps}
 pub use Rattle.std.specs.List.{AllByRecursion, cons_option, filter_map, zip}
 pub use Rattle.std.specs.Option.{option_map_or}
-pub use Rattle.std.specs.Prelude.{IfSome, IsErrOf, OnErr, OnOk, Vec, filter, flat_map, if◌then◌else◌, length, max, option_map, option_to_list, sum_by, ⊤, ◌&&◌}
+pub use Rattle.std.specs.Prelude.{IfSome, IsErrOf, OnErr, OnOk, Vec, count_by, filter, flat_map, if◌then◌else◌, is_none, length, max, option_map, option_to_list, sum_by, ⊤, ◌&&◌}

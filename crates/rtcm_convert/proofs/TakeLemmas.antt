@@ -1,5 +1,5 @@
 -- A message and a frame that are processed whole.
-use Rattle.rtcm_convert.proofs.Names.{closed_list_at, whole_list, EndsPendingEpoch, AllClosed, NoneReturned, BreaksInFrame, BreaksInMessage, BreaksInNext, BreaksInRest, IsFinalKind, IsKindOf, IsKindOfNext, IsTakenAgain, TakesFrame, TakesNext, WritesFirst, capped_counts, counts_left_out, interval_in, ◌≡◌, ℕ, List, [], ◌∷◌, ◌++◌, true, false, refl, sym, ap, subst, ◌∙◌, Option, Some, None, Result, Ok, Err, IfOk, OnOk, append-nil, arith, common_steps, filter_map-append, AppendsPrefix, Framed, Message, MsgFault, MsmSet, message_with, IsMessage, Kind, Closed, Heard, heard_by, kind_of, GathererValue, HasGatheredEpochs, closed_by, closed_in, plan_in, closed_epochs, all_epochs, known_epochs, SetupValue, text_with, so_far, messages_of, outcome, outcomes, outcomes_after, capped_tally, tallies_added, tally_of, tally_of_one, IsFew, AreFew, AppendsBetween, AppendsPrefixBetween, added, HasFiledEpochs, Settled, HasFiledFrames, EndsFile, Report, FileWriter}
+use Rattle.rtcm_convert.proofs.Names.{closed_list_at, whole_list, EndsPendingEpoch, AllClosed, NoneReturned, BreaksInFrame, BreaksInMessage, BreaksInNext, BreaksInRest, IsFinalKind, IsKindOf, IsKindOfNext, IsTakenAgain, TakesFrame, TakesNext, WritesFirst, capped_counts, counts_left_out, interval_in, ◌≡◌, ℕ, List, [], ◌∷◌, ◌++◌, true, false, refl, sym, ap, subst, ◌∙◌, Option, Some, None, Result, Ok, Err, IfOk, OnOk, append-nil, arith, common_steps, filter_map-append, AppendsPrefix, Framed, Message, MsgFault, MsmSet, message_with, IsMessage, Kind, Closed, Heard, heard_by, kind_of, GathererValue, HasGatheredEpochs, closed_by, closed_in, plan_in, closed_epochs, all_epochs, known_epochs, SetupValue, text_with, so_far, messages_of, outcome, outcomes, outcomes_after, AreFew, AreFewCells, CountsFrame, capped, cell_counts, tally_with, AppendsBetween, AppendsPrefixBetween, added, HasFiledEpochs, Settled, HasFiledFrames, EndsFile, Report, FileWriter}
 use Rattle.rtcm_convert.specs.inner.Steps.{TakesMessage}
 use Rattle.rtcm_convert.proofs.KeptLemmas.{closed_all}
 use Rattle.rtcm_convert.proofs.PartLemmas.{goes_on-refl, goes_on-trans, breaks_off-after, breaks_off-by}
@@ -51,14 +51,11 @@ outcomes_after-one : (s : SetupValue) (before fs : List Framed) (f : Framed) →
 outcomes_after-one s before [] f = ap (λ l. outcome s l f ∷ []) (sym (append-nil before))
 outcomes_after-one s before (g ∷ fs) f = grind (arith, common_steps, outcomes_after-one s (before ++ g ∷ []) fs f)
 
-tally_more : (os : List (Option Kind)) (o : Option Kind) → tallies_added (capped_tally (tally_of os)) (tally_of_one o) ≡ capped_tally (tally_of (os ++ o ∷ []))
-tally_more os o = grind (arith, common_steps)
-
-tally_one : (s : SetupValue) (fs : List Framed) (f : Framed) {r r' : Report} {o : Option Kind} → o ≡ outcome s fs f → r ≡ capped_tally (tally_of (outcomes s fs)) → r' ≡ tallies_added r (tally_of_one o) → r' ≡ capped_tally (tally_of (outcomes s (fs ++ f ∷ [])))
-tally_one s fs f {o} is old new = grind (arith, common_steps, tallies_added, tally_of_one, tally_more, tally_of, outcomes_after-one)
+tally_one : (s : SetupValue) (fs : List Framed) (f : Framed) {r r' : Report} {o : Option Kind} → o ≡ outcome s fs f → r ≡ tally_with capped (outcomes s fs) → CountsFrame r r' o → r' ≡ tally_with capped (outcomes s (fs ++ f ∷ []))
+tally_one s fs f is old counts = counts (outcomes s fs) old ∙ ap (tally_with capped) (ap (λ x. outcomes s fs ++ x ∷ []) is ∙ sym (outcomes_after-one s [] fs f))
 
 -- one more frame has few cells, too, so that no count is capped
-few_one : (s : SetupValue) (fs : List Framed) (f : Framed) (o : Option Kind) → o ≡ outcome s fs f → AreFew (outcomes s fs) → IsFew (tally_of_one o) → AreFew (outcomes s (fs ++ f ∷ []))
+few_one : (s : SetupValue) (fs : List Framed) (f : Framed) (o : Option Kind) → o ≡ outcome s fs f → AreFew (outcomes s fs) → AreFewCells (cell_counts o) → AreFew (outcomes s (fs ++ f ∷ []))
 few_one s fs f o is few one = grind (arith, common_steps, outcomes_after-one, few_more)
 
 outcome_ok : (s : SetupValue) (fs : List Framed) (f : Framed) (m : Message) (k : Kind) → message_with s.set f.message ≡ Ok m → k ≡ kind_of s.gatherer (messages_of s fs) (heard_by s.gatherer m) → Some k ≡ outcome s fs f
@@ -67,29 +64,29 @@ outcome_ok s fs f m k e is = rw e (ap Some is)
 outcome_err : (s : SetupValue) (fs : List Framed) (f : Framed) (d : MsgFault) → message_with s.set f.message ≡ Err d → None ≡ outcome s fs f
 outcome_err s fs f d e = rw e refl
 
-pub files_more : {v w x : FileWriter} (f : Framed) {m : Message} {k : Kind} {a b : Option (List ℕ)} → message_with v.set f.message ≡ Ok m → IsMessage m → TakesNext v w m a b → IsKindOfNext v m k
-    → w.tally ≡ v.tally → x ≡ record w { tally = tallies_added w.tally (tally_of_one (Some k)) } → TakesFrame v x f a b
-files_more {w = w} f {m} {k} {a} {b} read valid t kind same now s fs y =
+pub files_more : {v w : FileWriter} (f : Framed) (t : Report) {m : Message} {k : Kind} {a b : Option (List ℕ)} → message_with v.set f.message ≡ Ok m → IsMessage m → TakesNext v w m a b → IsKindOfNext v m k
+    → w.tally ≡ v.tally → CountsFrame w.tally t (Some k) → TakesFrame v (record w { tally = t }) f a b
+files_more {w = w} f t {m} {k} {a} {b} read valid takes kind same counts s fs y =
     let e = in_set y f read in
-    let p = t s (messages_of s fs) y.settled in
+    let p = takes s (messages_of s fs) y.settled in
     let ms = sym (messages_more s fs f m e) in
     let z : Settled w s (messages_of s (fs ++ f ∷ [])) = subst (λ (ms : List Heard). Settled w s ms) ms p.0 in (
-      rw now record {
+      record {
         settled = record { texts = z.texts; set = z.set; gatherer = z.gatherer; epochs = z.epochs; values = z.values };
-        tally = tally_one s fs f (outcome_ok s fs f m k e (kind s (messages_of s fs) y.settled)) (same ∙ y.tally) refl;
+        tally = tally_one s fs f (outcome_ok s fs f m k e (kind s (messages_of s fs) y.settled)) (same ∙ y.tally) counts;
         few = few_one s fs f (Some (kind_of s.gatherer (messages_of s fs) (heard_by s.gatherer m))) (outcome_ok s fs f m _ e refl) y.few (message_few s.gatherer (messages_of s fs) m valid);
       },
       subst (λ (ns : List Heard). Goes a b s (messages_of s fs) ns) ms p.1,
     )
 
-pub files_same : {v x : FileWriter} (f : Framed) {d : MsgFault} {a : Option (List ℕ)} → message_with v.set f.message ≡ Err d → x ≡ record v { tally = tallies_added v.tally (tally_of_one None) } → TakesFrame v x f a a
-files_same {v} f {d} {a} read now s fs y =
+pub files_same : {v : FileWriter} (f : Framed) (t : Report) {d : MsgFault} {a : Option (List ℕ)} → message_with v.set f.message ≡ Err d → CountsFrame v.tally t None → TakesFrame v (record v { tally = t }) f a a
+files_same {v} f t {d} {a} read counts s fs y =
     let e = in_set y f read in
     let ms = sym (messages_same s fs f d e) in
     let z : Settled v s (messages_of s (fs ++ f ∷ [])) = subst (λ (ms : List Heard). Settled v s ms) ms y.settled in (
-      rw now record {
+      record {
         settled = record { texts = z.texts; set = z.set; gatherer = z.gatherer; epochs = z.epochs; values = z.values };
-        tally = tally_one s fs f (outcome_err s fs f d e) y.tally refl;
+        tally = tally_one s fs f (outcome_err s fs f d e) y.tally counts;
         few = few_one s fs f None (outcome_err s fs f d e) y.few refused_few;
       },
       subst (λ (ns : List Heard). Goes a a s (messages_of s fs) ns) ms (goes_on-refl a _),

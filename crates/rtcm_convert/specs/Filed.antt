@@ -9,7 +9,7 @@ use Rattle.obs_epoch.specs.GathererHistory.{HasGatheredEpochs, closed_epochs, cl
 use Rattle.rinex_file.specs.Texts.{HeaderLists}
 use Rattle.rinex_file.specs.File.{header_text, epoch_text, change_text}
 use Rattle.rtcm_convert.specs.Converted.{SetupValue, messages_of, written_epochs}
-use Rattle.rtcm_convert.specs.Outcomes.{outcomes, tally_of, capped, capped_tally, AreFew}
+use Rattle.rtcm_convert.specs.Outcomes.{outcomes, tally_with, capped, AreFew}
 use Rattle.rtcm_convert.specs.declared.file_writer.FileWriter.{FileWriter}
 
 -- the text before an epoch if these station values were written last: an event if they have changed, and the header if
@@ -85,5 +85,5 @@ pub record HasGathered (v : FileWriter) (s : SetupValue) (fs : List Framed) : Ty
 -- the file writer processed the messages of these frames and wrote the epochs that they close
 pub record HasFiledFrames (v : FileWriter) (s : SetupValue) (fs : List Framed) : Type 0 where
   pub settled : Settled v s (messages_of s fs)
-  pub tally : v.tally ≡ capped_tally (tally_of (outcomes s fs))
+  pub tally : v.tally ≡ tally_with capped (outcomes s fs)
   pub few : AreFew (outcomes s fs)

@@ -1,6 +1,7 @@
 //! The report of a conversion.
-ghost use Rattle.std.specs.Prelude.{◌≡◌};
-ghost use Rattle.rtcm_convert.specs.Outcomes.{tally_of_one, tallies_added};
+ghost use Rattle.std.specs.Prelude.{◌≡◌, ◌+◌};
+ghost use Rattle.rtcm_convert.specs.Outcomes.{capped};
+ghost use Rattle.rtcm_convert.specs.inner.Steps.{CountsFrame};
 
 use obs_epoch::Kind;
 
@@ -41,51 +42,33 @@ pub struct Report {
 }
 
 impl Report {
-    /// Returns the counts of one frame: `None` if its message was refused, else the outcome of the
-    /// message.
-    fn of(outcome: Option<Kind>) -> Report
-        ensures { result ≡ tally_of_one outcome }
+    /// Counts a frame: `None` if its message was refused, else the message's outcome.
+    pub(crate) fn count(&mut self, outcome: Option<Kind>)
+        ensures { CountsFrame self.old self.new outcome }
     {
-        let mut one = Report::default();
-        one.frames = 1;
+        add(&mut self.frames, 1);
         match outcome {
-            None => one.faulty = 1,
-            Some(Kind::Station) => one.station = 1,
-            Some(Kind::OtherStation) => one.other = 1,
-            Some(Kind::Ignored) => one.ignored = 1,
-            Some(Kind::Late) => one.late = 1,
-            Some(Kind::PastWeeks) => one.past = 1,
-            Some(Kind::Kept(n)) => {
-                one.taken = 1;
-                one.skipped = n.skipped as u64;
-                one.repeated = n.repeated as u64;
-                one.crowded = n.crowded as u64;
-                one.without_channel = n.without_channel as u64;
+            None => add(&mut self.faulty, 1),
+            Some(Kind::Station) => add(&mut self.station, 1),
+            Some(Kind::OtherStation) => add(&mut self.other, 1),
+            Some(Kind::Ignored) => add(&mut self.ignored, 1),
+            Some(Kind::Late) => add(&mut self.late, 1),
+            Some(Kind::PastWeeks) => add(&mut self.past, 1),
+            Some(Kind::Kept(cells)) => {
+                add(&mut self.taken, 1);
+                add(&mut self.skipped, cells.skipped);
+                add(&mut self.repeated, cells.repeated);
+                add(&mut self.crowded, cells.crowded);
+                add(&mut self.without_channel, cells.without_channel);
             }
             Some(Kind::CloseFirst) => {}
         }
-        one
     }
+}
 
-    /// Counts a frame: `None` if its message was refused, else the message's outcome.
-    pub(crate) fn count(&mut self, outcome: Option<Kind>)
-        ensures { self.new ≡ tallies_added self.old (tally_of_one outcome) }
-    {
-        let one = Report::of(outcome);
-        *self = Report {
-            frames: self.frames.saturating_add(one.frames),
-            faulty: self.faulty.saturating_add(one.faulty),
-            station: self.station.saturating_add(one.station),
-            other: self.other.saturating_add(one.other),
-            ignored: self.ignored.saturating_add(one.ignored),
-            late: self.late.saturating_add(one.late),
-            past: self.past.saturating_add(one.past),
-            taken: self.taken.saturating_add(one.taken),
-            skipped: self.skipped.saturating_add(one.skipped),
-            repeated: self.repeated.saturating_add(one.repeated),
-            crowded: self.crowded.saturating_add(one.crowded),
-            without_channel: self.without_channel.saturating_add(one.without_channel),
-            ..*self
-        };
-    }
+/// Adds a number to a count.
+fn add(count: &mut u64, number: usize)
+    ensures { count.new ≡ capped (count.old + number) }
+{
+    *count = count.saturating_add(number as u64);
 }

@@ -8,10 +8,11 @@ use Rattle.obs_epoch.specs.Kinds.{is_close_first, kind_of}
 use Rattle.obs_epoch.specs.declared.taken.Kind.{Kind}
 use Rattle.obs_epoch.specs.GathererHistory.{IsAwaited, closed_epochs, capped_counts}
 use Rattle.rtcm_convert.specs.Converted.{SetupValue, text_with, so_far, file, epoch_counts, epochs_in}
-use Rattle.rtcm_convert.specs.Outcomes.{capped}
+use Rattle.rtcm_convert.specs.Outcomes.{capped, tally_with}
 use Rattle.rtcm_convert.specs.Fed.{AppendsBetween, AppendsPrefixBetween}
 use Rattle.rtcm_convert.specs.Filed.{HasFiledEpochs, Settled, HasFiledFrames, HasGathered}
 use Rattle.rtcm_convert.specs.declared.file_writer.FileWriter.{FileWriter}
+use Rattle.rtcm_convert.specs.declared.report.Report.{Report}
 
 -- ---- a message that is passed, for the first time or again: it is heard by the setup of the gatherer
 
@@ -74,6 +75,10 @@ BreaksInNext v m a b = (s : SetupValue) (ms : List Heard) → Settled v s ms
     (text_with s (closed_epochs s.gatherer (ms ++ heard_by s.gatherer m ∷ [])))
 
 -- ---- the next frame, and the end
+
+-- the frame with this outcome was counted
+abbrev pub CountsFrame : Report → Report → Option Kind → Type 0
+CountsFrame r r' o = (os : List (Option Kind)) → r ≡ tally_with capped os → r' ≡ tally_with capped (os ++ o ∷ [])
 
 -- the frame was processed, and the epochs that it closes were written
 abbrev pub TakesFrame : FileWriter → FileWriter → Framed → Option (List ℕ) → Option (List ℕ) → Type 0
