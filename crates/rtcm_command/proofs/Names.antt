@@ -27,7 +27,7 @@ pub use Rattle.gnss_system.specs.Satellites.{name_of}
 pub use Rattle.gnss_system.specs.SystemValues.{map_by, tabulate}
 pub use Rattle.gnss_system.specs.declared.system.System.{System}
 pub use Rattle.gnss_system.specs.declared.system.System.TheVariants.{Beidou, Galileo, Glonass, Gps, Qzss, Sbas}
-pub use Rattle.line_texts.proofs.LineLaws.{add_count, add_text, add_word, end_line}
+pub use Rattle.line_texts.proofs.LineLaws.{end_line}
 pub use Rattle.line_texts.specs.ChannelTexts.{channels_of, channels_text}
 pub use Rattle.line_texts.specs.Dates.{IsHourOf, IsTimeOf, IsWeekOf}
 pub use Rattle.line_texts.specs.Lengths.{length_below, position_of}
@@ -44,7 +44,7 @@ pub use Rattle.rtcm_command.specs.Converting.{EndsConverting, StopsConversion}
 pub use Rattle.rtcm_command.specs.Devices.{culprit, of_file, of_inspection}
 pub use Rattle.rtcm_command.specs.PrintedPlan.{ArePrintedWords, HaveValues, IsDatedAsPrinted, IsDatedAsSent, IsDatedIn, IsStartedAsFound, StartsAsFound, after_prefix, default_of, given, has_equals, leap_option, printed_words}
 unfoldable pub use Rattle.rtcm_command.specs.Reports.{report_line}
-pub use Rattle.rtcm_command.specs.Reports.{channel_count, counts_named}
+pub use Rattle.rtcm_command.specs.Reports.{counts_named}
 unfoldable pub use Rattle.rtcm_command.specs.SetupOptions.{plan_set}
 pub use Rattle.rtcm_command.specs.SetupOptions.{HasSetupFault, IsChoiceSet, IsFromSet, IsGapsSet, IsGiven, IsIntervalSet, IsNumberOf, IsNumberOr, IsPlanSet, IsRefusedAfterChannels, IsRefusedAfterStart, IsSetupRefused, IsSourceRefused, IsStartFault, IsStartOf, IsStartSet, IsTimeBy, IsUntilSet, channels_set, choice_by, options_of, text_set, tolerance_set, usual_leap, values_by, values_in, values_set, window_by}
 pub use Rattle.rtcm_convert.specs.Faults.{IsOfNone, IsSentAfter, IsSetupFault}
