@@ -8,10 +8,14 @@
 # HOSTS, as `:,gnss@host`, in which `:` is this machine, take part by ssh. They see the current folder and this script
 # under the same names, and have rtcm2rinex and GNU parallel in the PATH of their shells.
 set -eu
+# in another locale bytes of another code are no text
+export LC_ALL=C
 day=${1-}
 scripts=$(CDPATH='' cd -- "$(dirname -- "$0")" && pwd)
-# also of a list whose lines end as those of Windows, or with blanks
-list=$(tr -d '\r' 2> /dev/null < stations | sed 's/^[[:blank:]]*//; s/[[:blank:]]*$//' | grep -v -e '^#' -e '^$') || {
+# also of a list that begins with a byte order mark, or whose lines end as those of Windows, or with blanks
+mark=$(printf '\357\273\277')
+list=$(tr -d '\r\0' 2> /dev/null < stations | sed "1s/^$mark//; s/^[[:blank:]]*//; s/[[:blank:]]*\$//" |
+    grep -av -e '^#' -e '^$') || {
     echo "stations: missing, unreadable or empty" >&2
     exit 1
 }

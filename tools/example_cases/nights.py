@@ -92,9 +92,12 @@ def try_lists(room: Room) -> Outcomes:
         ("skipped lines", b"# of the network\n\nKIRU00SWE\n  \n#MATE00ITA\n"),
         ("a list of Windows", b"KIRU00SWE\r\n\r\n"),
         ("blanks", b"  KIRU00SWE \n\t# none\n"),
+        ("another code", b"# S\xfcd\nKIRU00SWE\n"),
+        ("a byte order mark", b"\xef\xbb\xbfKIRU00SWE\n"),
+        ("a byte of zero", b"KIRU00SWE\0\n"),
     ):
         room.write("stations", lines)
-        ran = room.run(script("nightly.sh"))
+        ran = room.run("LC_ALL=C.UTF-8 " + script("nightly.sh"))
         yield name, (ran.returncode, ran.stdout.decode()) == (1, said)
     room.write("stations", b"\n# none\n")
     ran = room.run(script("nightly.sh"))
