@@ -10,8 +10,16 @@ set -eu
 : "${2:?usage: convert.sh RAW OBS [OPTION ..]}"
 raw=$1 obs=$2
 shift 2
+if test ! -f "$raw"; then
+    echo "$raw: missing, or no file, such as a pipe: it is read twice" >&2
+    exit 1
+fi
 # a symbolic link stays one
-test ! -L "$obs" || obs=$(readlink -f -- "$obs")
+link=$obs
+test ! -L "$obs" || obs=$(readlink -f -- "$link") || {
+    echo "$link: a link to a folder that is missing" >&2
+    exit 1
+}
 part=$obs.$$.part
 # shellcheck disable=SC3013 # -ef is in POSIX.1-2024
 if { test -e "$obs" && test ! -f "$obs"; } || test "$raw" -ef "$obs"; then

@@ -47,6 +47,11 @@ def try_convert_to(room: Room) -> Outcomes:
     ran = room.run(script("convert.sh", DATED, "link.obs"))
     is_made = ran.returncode == 0 and room.text("-s.obs") != "" and room.names(".") == ["-s.obs", "bin", "link.obs"]
     yield "a symbolic link", is_made and (room.folder / "link.obs").is_symlink()
+    (room.folder / "lost.obs").symlink_to("absent/s.obs")
+    ran = room.run(script("convert.sh", DATED, "lost.obs"))
+    yield "a link to nowhere", (ran.returncode, ran.stderr) == (1, b"lost.obs: a link to a folder that is missing\n")
+    ran = room.run(f"cat {DATED} | {script('convert.sh', '/dev/stdin', 'p.obs')}")
+    yield "no file", ran.returncode == 1 and b"/dev/stdin: " in ran.stderr and not (room.folder / "p.obs").exists()
     (room.folder / "folder").mkdir()
     ran = room.run(script("convert.sh", DATED, "folder"))
     message = b"folder: a folder, a device or the like, or the recording\n"
