@@ -93,7 +93,7 @@ data=$(printf '%s\n' "$whole" "$periods" "$gaps" | awk -v every="$every" -v step
         print "set xrange [" begin ":" end "]"
         print "set xtics time format \"" format "\" " steps[i]
         print "set xlabel \"GPS time from " day " 0 h\""
-        print "every = " every
+        print "every = " every "; period = \"" every " s\""
         print "rows = " rows
         print "lines = " lines + 0
         print "low = " int(low) - 1
@@ -132,7 +132,7 @@ set tics nomirror
 set grid xtics lc "#d0d0d0"
 
 set output name . "-satellites.png"
-set title file . ": satellites, periods of " . every . " s"
+set title file . ": satellites, periods of " . period
 set yrange [rows + 0.5:0.5]
 set y2range [rows + 0.5:0.5]
 set tics scale 0 font "Sans,8"
@@ -152,7 +152,7 @@ plot $cells using 1:2:1:($1 + width):($2 - 0.4):($2 + 0.4):($3 > 0 ? $3 : NaN) w
 
 if (lines == 0) exit
 set output name . "-strength.png"
-set title file . ": mean strength of the signals, periods of " . every . " s"
+set title file . ": mean strength of the signals, periods of " . period
 unset y2tics
 unset arrow
 unset ytics
@@ -165,7 +165,8 @@ set tics font "Sans,11"
 plot for [n = 0:lines - 1] $strength index n using 1:2 with linespoints lw 2 dt n / 8 + 1 pt 7 ps 0.3 \
     title columnheader(1)
 END
-} | NAME=$part FILE=${obs##*/} gnuplot -e 'name = system("echo \"$NAME\""); file = system("echo \"$FILE\"")' -
+} | NAME=$part FILE=${obs##*/} \
+    gnuplot -e 'name = system("printf %s \"$NAME\""); file = system("printf %s \"$FILE\"")' -
 for kind in satellites strength; do
     # without a strength there is no picture of it, also none of an earlier file
     test "$kind" = satellites || test -e "$part-$kind.png" || {

@@ -163,6 +163,8 @@ def try_picture_data(room: Room) -> Outcomes:
     yield "the day", "set xrange [0:86400]" in room.text("given")
     room.run(script("picture.sh", "s.obs", "s", "3600"))
     yield "hours", drawn(room)["gaps"][1:] == ["36000 38400", "43260 45060"]
+    room.run(script("picture.sh", "s.obs", "s", "2.5"))
+    yield "a part of a second", 'every = 2.5; period = "2.5 s"' in room.text("given")
 
 
 def try_picture_files(room: Room) -> Outcomes:
@@ -202,6 +204,8 @@ def try_picture(room: Room) -> Outcomes:
     ran = room.run(script("picture.sh", "s.obs", "a b"))
     names = [f"a b-{kind}.png" for kind in ("satellites", "strength")]
     yield "pictures", (ran.returncode, ran.stderr) == (0, b"") and sorted(room.names("."))[:2] == names
+    ran = room.run(script("picture.sh", "s.obs", r"bin/c\td", "2.5"))
+    yield "a backslash, and a part of a second", (ran.returncode, ran.stderr) == (0, b"")
     before = [(room.folder / name).read_bytes() for name in names]
     ran = room.run(f"trap '' XFSZ; ulimit -f 20; {script('picture.sh', 's.obs', 'a b')}")
     is_said = (ran.returncode, ran.stderr) == (1, b"a b-satellites.png: not written as a whole\n")
