@@ -8,8 +8,8 @@
 #   headers/STATION options of `rtcm2rinex convert`, one a line, if there is such a file: --rec-type=SEPT POLARX5. They
 #                   are the header texts and others that this script and the plan of `options` don't give; --station
 #                   is given to `options`, and --marker is the name of the station if there is none
-#   obs/STATION/    the file with its RINEX name, the values of the signals of the file, and last, by which days.sh
-#                   knows that the day is done, the report of the conversion
+#   obs/STATION/    the file with its RINEX name, the values of its signals with station and position, and last, by
+#                   which days.sh knows that the day is done, the report of the conversion
 #
 # A STATION has nine characters for the RINEX name, as KIRU00SWE: site, monument, receiver and country. SKIPPED is the
 # largest percentage of bytes in no frame that isn't reported, 1 by default: more if the logs have other data too.
@@ -22,7 +22,8 @@ station=$1 day=$2
 # shellcheck disable=SC2048,SC2086 # split into words, the lines of an error become one
 say() {
     set -f
-    echo "$station $day:" $*
+    set -- $*
+    printf '%s\n' "$station $day: $*"
     exit 1
 }
 
@@ -76,41 +77,71 @@ is_log() {
     esac
 }
 
-# the logs of the day
+# shellcheck disable=SC2086 # there may be no station
+options() { rtcm2rinex options "$@" $wanted 2>&1; }
+position_of() {
+    case $1 in
+    *--position=*) set -- "${1##*--position=}" && echo "${1%% *}" ;;
+    esac
+}
+# ephemerides of several weeks in one log
+several() {
+    weeks=$(options --week) || :
+    case $weeks in
+    *SeveralWeeks*) weeks=${weeks##*SeveralWeeks } ;;
+    *) weeks= && return 1 ;;
+    esac
+}
+
+# The logs of the day, without those of another week by their ephemerides. Each is asked by itself, as one right
+# ephemeris among all would do for a date.
 folder=raw/$station
 test ! -d "$folder" || { test -r "$folder" && test -x "$folder"; } || say "no file: $folder is not readable"
 : > "$raw"
-logs=0
+count=0 others=''
 for log in "$folder/$day"*; do
     is_log "$log" || continue
-    errors=$(plain "$log" 2>&1 >> "$raw") || say "no file: $errors"
-    logs=$((logs + 1))
+    errors=$(plain "$log" 2>&1 > "$note") || say "no file: $errors"
+    case $(options --near "$day" < "$note") in
+    *OtherWeek*) others="$others ${log##*/}" && continue ;;
+    esac
+    errors=$(cat "$note" 2>&1 >> "$raw") || say "no file: $errors"
+    count=$((count + 1))
 done
-test "$logs" -gt 0 || say "no log"
+test "$count" -gt 0 || test -z "$others" || say "no file: $(options --near "$day" < "$note")"
+test "$count" -gt 0 || say "no log"
 
 # The first and the last seconds of the day may be in the logs beside it: those of UTC begin 18 seconds after the GPS
-# day. If such a log is damaged or of another day, its own day says so, and this one is made without it.
+# day. The day is made without such a log if it is damaged, of another week, or of a station at another position.
 last='' next=''
 for log in "$folder/$before"*; do is_log "$log" && last=$log; done
 for log in "$folder/$after"*; do is_log "$log" && next=$log && break; done
 has_neighbour() { test -e "$last" || test -e "$next"; }
-logs() {
+earlier() {
     case $last in
     # str2str begins the next log half a minute before an hour: one that begins later has the first hour of the day
     *-2359[3-5]?.*) plain "$last" 2> /dev/null || : ;;
     *) test ! -e "$last" || plain "$last" 2> /dev/null | tail -c 2000000 ;;
     esac
-    cat "$raw"
-    test ! -e "$next" || plain "$next" 2> /dev/null | head -c 2000000
 }
+later() { test ! -e "$next" || plain "$next" 2> /dev/null | head -c 2000000; }
+logs() { earlier && cat "$raw" && later; }
+position=$(position_of "$(options --near "$day" < "$raw")")
+ends_at=$(position_of "$(tail -c 2000000 "$raw" | options --near "$day")")
+fits() {
+    beside=$(options --near "$day" < "$note") && ! several < "$note" || return 1
+    test -z "$1" || case $(position_of "$beside") in '' | "$1") ;; *) return 1 ;; esac
+}
+earlier > "$note" && fits "$position" || last=''
+later > "$note" && fits "$ends_at" || next=''
 
-# The options that fit them, of which a date that their ephemerides contradict is an error, and the file. Recordings
-# have no hurry: an epoch is closed by a later one, so that repeated messages can't end it.
-# shellcheck disable=SC2086 # there may be no station, and the shell has to split a plan into options
+# The options that fit them, and the file. Recordings have no hurry: an epoch is closed by a later one, so that repeated
+# messages can't end it.
+# shellcheck disable=SC2086 # the shell has to split a plan into options
 convert() {
     to=$1
     shift
-    plan=$(logs | rtcm2rinex options --near "$day" $wanted 2>&1) || { errors=$plan && return 1; }
+    plan=$(logs | options --near "$day") || { errors=$plan && return 1; }
     report=$(logs | rtcm2rinex convert --gather time --interval 30 --from "$day" --until "$after" \
         --date "$(date -u '+%Y%m%d %H%M%S UTC')" $plan "$@" 2>&1 > "$to") || { errors=$report && return 1; }
 }
@@ -122,17 +153,6 @@ if has_neighbour && test "$(epochs "$part")" -lt 2880; then
     more=$(alone "$note" "$@" && epochs "$note") || more=0
     test "${more:-0}" -le "$(epochs "$part")" || alone "$part" "$@" || say "no file: $errors"
 fi
-# A log of another week beside those of one: their ephemerides have several. A day is made without such a neighbour, and
-# one whose own logs are of several weeks is said.
-# shellcheck disable=SC2086 # there may be no station
-several() {
-    weeks=$(rtcm2rinex options --week $wanted 2>&1) || :
-    case $weeks in
-    *SeveralWeeks*) weeks=${weeks##*SeveralWeeks } ;;
-    *) weeks= && return 1 ;;
-    esac
-}
-if has_neighbour && logs | several; then alone "$part" "$@" || say "no file: $errors"; fi
 several < "$raw" || :
 gaps=$(rtcm2rinex check --gaps 30 --from "$day" --until "$after" < "$part" 2>&1) || say "no file: $gaps"
 has=$(rtcm2rinex quality < "$part")
@@ -147,21 +167,24 @@ case $report in
 *) lost=$(rtcm2rinex frames < "$raw" | awk -v size="$size" '{ size -= $2 + 6 } END { print size + 0 }') ;;
 esac
 
-# Logs that overlap repeat messages, which are counted as late. Lost is a message of an earlier time than one before it,
-# if it comes for the first time. Times of BeiDou are 14 seconds less than GPS time, those of GLONASS are of Moscow,
-# without leap seconds.
+# Logs that overlap repeat messages, which are counted as late. Lost is a message of the day and of an earlier time than
+# one before it, if it comes for the first time. Times of BeiDou are 14 seconds less than GPS time, those of GLONASS are
+# of Moscow, without leap seconds.
 late=0
 case $report in
 *" late 0 "*) ;;
 *)
     leap=${plan##*--leap-seconds }
     test "$leap" != "$plan" || leap=18
-    late=$(logs | rtcm2rinex show --all | awk -v own="${wanted#--station=}" -v leap="${leap%% *}" -v week=604800000 '
+    late=$(logs | rtcm2rinex show --all | awk -v own="${wanted#--station=}" -v leap="${leap%% *}" -v week=604800000 \
+        -v day=86400000 -v weekday="$(date -u -d "$day" +%w)" '
         own != "" && $3 != own { next }
         $2 ~ /^1(07|08|09|10|11|12)[4-7]$/ && NF == 8 && !seen[$2, $3, $4]++ {
             time = $4 + ($2 ~ /^112/ ? 14000 : $2 ~ /^108/ ? 1000 * leap - 10800000 : 0)
             back = (last - time + 2 * week) % week
-            if (started++ && back > 0 && back < week / 2) late++; else last = time
+            is_late = started++ && back > 0 && back < week / 2
+            if (!is_late) last = time
+            else if ((time - weekday * day + 2 * week) % week < day) late++
         }
         END { print late + 0 }')
     ;;
@@ -193,25 +216,43 @@ errors=$({ sync "$part" && mv -fT "$part" "$made" && rm -f "$made.gz"; } 2>&1) |
 keep() {
     errors=$({ echo "$2" > "$note" && sync "$note" && mv -fT "$note" "$1"; } 2>&1) || say "no report: $errors"
 }
-keep "$kept.signals" "$values"
+number=${wanted#--station=}
+# the number of an MSM or of a position, as for `options`
+test "$number" ||
+    number=$(rtcm2rinex show --all < "$raw" 2> /dev/null | awk '$2 !~ /^10(07|08|33)$/ && NF > 5 { print $3; exit }')
+keep "$kept.signals" "$values
+station ${number:-unknown} position ${position:-none}"
 keep "$kept.report" "$report"
 
-# What the day lacks, in one line: epochs, bytes, messages, and half of the values of a signal of the day before.
-previous=obs/$station/$before.signals
-test -e "$previous" || previous=/dev/null
-lacks=$(gaps=$gaps report=$report heard=$heard awk -v late="$late" -v weeks="$weeks" \
-    -v lost="$lost" -v size="$size" -v skipped="${SKIPPED:-1}" '
+# What the day lacks, in one line: epochs, bytes, messages, and half of the values that a signal had on the latest day
+# before that has a file, whose station and position are to be the same.
+previous=/dev/null
+for signals in "obs/$station"/????-??-??.signals; do
+    test "$signals" != "$kept.signals" || break
+    previous=$signals
+done
+day_before=${previous##*/}
+lacks=$(gaps=$gaps report=$report heard=$heard others=$others awk -v late="$late" -v weeks="$weeks" \
+    -v lost="$lost" -v size="$size" -v skipped="${SKIPPED:-1}" -v on="${day_before%.signals}" '
+    $1 == "station" { number[when] = $2; at[when] = $4; next }
     { signal = $2 " " $3; count = $7 + $9 + $11 + $13 }
     when == "before" { was[signal] = count; order[++signals] = signal }
     when == "now" { now[signal] = count }
     END {
+        if (ENVIRON["others"]) add("left out, as their ephemerides have another week:" ENVIRON["others"])
         count = split(ENVIRON["gaps"], lines, "\n")
         for (i = 1; i <= count; i++) {
             split(lines[i], words, " ")
             if (words[1] == "gap" && !holes++) first = words[2] " " words[3] " to " words[4] " " words[5]
+            if (words[1] == "epochs") changes = words[6]
             if (words[1] == "complete" && words[2] < words[4])
                 add(words[2] " of " words[4] " epochs, " holes " gaps, the first from " first)
         }
+        if (changes) add(changes " changes of the position or the height")
+        # a day without a position is said once
+        is_moved = at["before"] != "none" && at["before"] != at["now"]
+        if (number["before"] != "" && (number["before"] != number["now"] || is_moved))
+            add("station " place("now") ", which was " place("before") " on " on)
         count = split(ENVIRON["report"], words, " ")
         for (i = 1; i < count; i += 2) of[words[i]] = words[i + 1]
         if (weeks) add("the ephemerides have several weeks for the first message, " weeks)
@@ -233,10 +274,11 @@ lacks=$(gaps=$gaps report=$report heard=$heard awk -v late="$late" -v weeks="$we
         for (i = 1; i <= signals; i++) {
             signal = order[i]
             if (2 * now[signal] < was[signal])
-                add("signal " signal " has " now[signal] + 0 " values, " was[signal] " the day before")
+                add("signal " signal " has " now[signal] + 0 " values, " was[signal] " on " on)
         }
         print lacks
     }
     function add(what) { lacks = lacks (lacks == "" ? "" : "; ") what }
+    function place(when) { return number[when] (at[when] == "none" ? " without a position" : " at " at[when]) }
 ' when=before "$previous" when=now "$kept.signals")
 test -z "$lacks" || say "$lacks"

@@ -5,8 +5,9 @@ import re
 import shutil
 
 from case_rows.weeks import ephemeris
+from reference_impl.fields import packed
 from reference_impl.messages import WEEK
-from reference_impl.stream import FOUR
+from reference_impl.stream import FOUR, station_message
 from rooms import Outcomes, Room, at, messages_of, of_station, stream_of
 
 from .common import AFTER, BEFORE, DATED, DAY, EPOCHS, MADE, STATION, STEP
@@ -16,6 +17,10 @@ LOG = f"raw/{STATION}/{DAY}.rtcm3"
 HEADERS = f"headers/{STATION}"
 HEADER = "--marker=KIRU\n--marker-number=10403M002\n--rec-type=SEPT POLARX5\n"
 IN_NO_FRAME = "% of the bytes are in no frame"
+# another position, in 0.0001 m, and as it is printed
+ELSEWHERE, PLACE = (12_000_000_000, 50_000_000_000, 30_000_000_000), "1200000.0000,5000000.0000,3000000.0000"
+# the GPS week of DAY
+WEEK_OF_DAY = at(DAY) // WEEK
 
 
 def says(room: Room, *lines: str, day: str = DAY, given: str = "") -> bool:
@@ -125,6 +130,20 @@ def try_neighbours(room: Room) -> Outcomes:
     yield "a log of the last seconds before it", says(room) and room.epochs(MADE) == day_times()
 
 
+# the clock time of an hour in an ephemeris of Galileo, and in one of GPS, whose week has ten bits
+HOURS = {1045: 60, 1019: 225}
+
+
+def sent(messages: tuple[bytes, ...], number: int, week: int) -> bytes:
+    """Returns the log of a Sunday with an ephemeris of a week at its noon."""
+    return stream_of([*messages[:3000], ephemeris(number, week, 12 * HOURS[number]), *messages[3000:]])
+
+
+def elsewhere(messages: tuple[bytes, ...]) -> bytes:
+    """Returns the log of a station at another position."""
+    return stream_of([station_message(ELSEWHERE), *messages[1:]])
+
+
 def try_neighbours_left_out(room: Room) -> Outcomes:
     log, messages = day_log(DAY), day_messages(DAY)
     # the log of the day after has ended in the middle, and a good day is made without it
@@ -136,12 +155,16 @@ def try_neighbours_left_out(room: Room) -> Outcomes:
     room.write(f"raw/{STATION}/{BEFORE}.rtcm3", day_log("2024-02-07"))
     yield "the log of another day beside it", says(room) and body_of(room.text(MADE)) == body_of(whole)
     # a log beside it of the week before, with an ephemeris
-    week, noon = at(DAY) // WEEK, 12 * 450
-    says_of(room, stream_of([*messages[:3000], ephemeris(1042, week, noon), *messages[3000:]]))
-    weekly = day_messages("2024-02-03", 2000)
-    sent = [*weekly[:1200], ephemeris(1042, week - 2, 18 * 450), *weekly[1200:]]
-    room.write(f"raw/{STATION}/{BEFORE}.rtcm3", stream_of(sent))
-    yield "a log of another week beside it", says(room) and room.epochs(MADE) == day_times()
+    for number, hour in HOURS.items():
+        says_of(room, sent(messages, number, WEEK_OF_DAY))
+        weekly = day_messages("2024-02-03", 2000)
+        stale = [*weekly[:1200], ephemeris(number, WEEK_OF_DAY - 2, 18 * hour), *weekly[1200:]]
+        room.write(f"raw/{STATION}/{BEFORE}.rtcm3", stream_of(stale))
+        yield f"a log of another week beside it by {number}", says(room) and room.epochs(MADE) == day_times()
+    # one of a station elsewhere with the same number, which also has the first seconds of the day
+    says_of(room, log)
+    room.write(f"raw/{STATION}/{BEFORE}.rtcm3", elsewhere(day_messages(BEFORE, 2000, 2890)))
+    yield "the log of another station beside it", says(room) and body_of(room.text(MADE)) == body_of(whole)
     # a signal that begins a day later
     says_of(room, log)
     new = messages_of([at(AFTER) + STEP * n for n in range(1, 900)], FOUR)
@@ -190,11 +213,68 @@ def try_other_logs(room: Room) -> Outcomes:
     (room.folder / HEADERS).unlink()
     again = stream_of([copy for message in messages for copy in (message, message)])
     yield "two receivers of one number", says_of(room, again, r" cells are repeated in \d+ messages")
-    # the ephemerides of one of its logs are of the week before
-    week, noon = at(DAY) // WEEK, 12 * 450
-    sent = [*messages[:3000], ephemeris(1042, week, noon), ephemeris(1042, week - 1, noon), *messages[3000:]]
-    said = f": the ephemerides have several weeks for the first message, {week - 1} {week - 2}$"
-    yield "ephemerides of two weeks", says_of(room, stream_of(sent), said)
+
+
+def try_weeks(room: Room) -> Outcomes:
+    messages = day_messages(DAY)
+    noon = 12 * 450
+    both = [ephemeris(1042, week, noon) for week in (WEEK_OF_DAY, WEEK_OF_DAY - 1)]
+    said = f": the ephemerides have several weeks for the first message, {WEEK_OF_DAY - 1} {WEEK_OF_DAY - 2}$"
+    yield "ephemerides of two weeks", says_of(room, stream_of([*messages[:3000], *both, *messages[3000:]]), said)
+    for number in HOURS:
+        # the log has the data of the week before; that of the day after is right
+        says_of(room, b"")
+        room.write(LOG, sent(messages, number, WEEK_OF_DAY - 1))
+        room.write(f"raw/{STATION}/{AFTER}.rtcm3", sent(day_messages(AFTER), number, WEEK_OF_DAY))
+        said = rf": no file: rtcm2rinex: OtherWeek {WEEK_OF_DAY - 2} 2024-02-03$"
+        yield f"the day of another week by {number}", says(room, said) and not (room.folder / MADE).exists()
+        # one of its logs has
+        clear(room)
+        for name, first, end, week in (("000000", -1, 1400, 0), ("114000", 1400, 1480, 1), ("122000", 1480, 2881, 0)):
+            part = day_messages(DAY, first, end)
+            log = [*part[:60], ephemeris(number, WEEK_OF_DAY - week, 12 * HOURS[number]), *part[60:]]
+            room.write(f"raw/{STATION}/{DAY}-{name}.rtcm3", stream_of(log))
+        said = f": left out, as their ephemerides have another week: {DAY}-114000.rtcm3; 2800 of 2880 epochs, 1 gaps, "
+        yield f"a log of another week by {number}", says(room, said) and len(room.epochs(MADE)) == 2800
+
+
+def try_stations(room: Room) -> Outcomes:
+    messages = day_messages(DAY)
+    room.write(f"raw/{STATION}/{BEFORE}.rtcm3", day_log(BEFORE))
+    says(room, day=BEFORE)
+    was = (room.folder / f"obs/{STATION}/{BEFORE}.signals").read_text("ascii").splitlines()[-1]
+    place = was.rpartition(" ")[2]
+    yield "the station of a day", was == f"station 2003 position {place}" and "," in place
+    room.write(LOG, elsewhere(messages))
+    said = f": station 2003 at {PLACE}, which was 2003 at {place} on {BEFORE}$"
+    yield "another position", says(room, said) and room.epochs(MADE) == day_times()
+    # whose days are the same again, and which is another station by its number too
+    room.write(f"raw/{STATION}/{AFTER}.rtcm3", elsewhere(day_messages(AFTER)))
+    yield "the same position", says(room, day=AFTER)
+    (room.folder / MADE).unlink()
+    room.write(LOG, stream_of([of_station(message, 77) for message in messages]))
+    said = f": station 77 at {place}, which was 2003 at {place} on {BEFORE}$"
+    yield "another number", says(room, said)
+    (room.folder / MADE).unlink()
+    room.write(LOG, stream_of([*messages[1:]]))
+    yield "no position", says(room, f": station 2003 without a position, which was 2003 at {place} on {BEFORE}$")
+    room.write(f"raw/{STATION}/{AFTER}.rtcm3", day_log(AFTER))
+    shutil.rmtree(room.folder / f"obs/{STATION}/{AFTER}.signals", ignore_errors=True)
+    (room.folder / MADE.replace("0420000", "0430000")).unlink()
+    yield "the position again", says(room, day=AFTER)
+    # its antenna comes first, with another number of the station
+    (room.folder / MADE).unlink()
+    antenna = packed([(12, 1007), (12, 9), (8, 0), (8, 0)])
+    room.write(LOG, stream_of([antenna, *messages]))
+    yield "the number of an antenna", says(room)
+    # it moves at noon, and the last epochs are in the log of the day after
+    says_of(room, b"")
+    room.write(LOG, stream_of([*messages[:2900], station_message(ELSEWHERE), *messages[2900:5700]]))
+    room.write(f"raw/{STATION}/{AFTER}.rtcm3", elsewhere((b"", *messages[5600:], *day_messages(AFTER, 0, 300))))
+    is_said = says(room, ": 1 changes of the position or the height$")
+    yield "the end of a day after a move", is_said and room.text(MADE).count("\n> 2024 02 11 ") == EPOCHS
+    moved = [*messages[:3001], station_message(ELSEWHERE), *messages[3001:3101], station_message(), *messages[3101:]]
+    yield "logs of several stations", says_of(room, stream_of(moved), ": 2 changes of the position or the height$")
 
 
 def try_late(room: Room) -> Outcomes:
@@ -206,7 +286,13 @@ def try_late(room: Room) -> Outcomes:
     late = [*messages]
     for n in galileo[:-1]:
         late[n], late[n + 1] = late[n + 1], late[n]
-    yield "a system that is late", says_of(room, stream_of(late), f"{len(galileo) - 1} late messages are lost")
+    # of which the first is of the day before, and the last isn't late
+    yield "a system that is late", says_of(room, stream_of(late), f"{len(galileo) - 2} late messages are lost")
+    # those of the day after are said of it
+    says_of(room, day_log(DAY))
+    after = [*day_messages(AFTER, 0, 400)]
+    room.write(f"raw/{STATION}/{AFTER}.rtcm3", stream_of([*after[:300], *after[303:], *after[301:303]]))
+    yield "messages out of order beside it", says(room)
 
 
 def try_signals(room: Room) -> Outcomes:
@@ -223,7 +309,15 @@ def try_signals(room: Room) -> Outcomes:
     yield "the day before", says(room, day=BEFORE)
     kept = [message for n, message in enumerate(messages) if n < 2200 or n not in galileo]
     room.write(LOG, stream_of(kept))
-    yield "half of a system", says(room, r": signal E 1C has \d+ values, \d+ the day before; signal E")
+    fewer = rf": signal E 1C has \d+ values, \d+ on {BEFORE}; signal E"
+    yield "half of a system", says(room, fewer)
+    # the day after, if this one has no log
+    (room.folder / LOG).unlink()
+    shutil.rmtree(room.folder / f"obs/{STATION}")
+    says(room, day=BEFORE)
+    fewer_after = [message for n, message in enumerate(day_messages(AFTER)) if n not in galileo]
+    room.write(f"raw/{STATION}/{AFTER}.rtcm3", stream_of(fewer_after))
+    yield "a system lost over a day without logs", says(room, fewer.replace(r"\d+ values", "0 values"), day=AFTER)
 
 
 def try_headers(room: Room) -> Outcomes:

@@ -70,8 +70,8 @@ def frame_of(message: bytes) -> bytes:
     return frame + rest.to_bytes(3, "big")
 
 
-def station_message() -> bytes:
-    x, y, z = POSITION
+def station_message(position: tuple[int, int, int] = POSITION) -> bytes:
+    x, y, z = position
     return packed([(12, 1005), (12, STATION), (10, 0b1110), (38, x), (2, 0), (38, y), (2, 0), (38, z)])
 
 
