@@ -32,7 +32,7 @@ pub use Rattle.obs_epoch.specs.Clock.{HasHeardMessages, State, closes_first, is_
 pub use Rattle.obs_epoch.specs.Epochs.{cells_with_lli, closed_so_far, closed_times, epoch_at, epochs, is_shut, values_after_message, values_of}
 pub use Rattle.obs_epoch.specs.GathererAfter.{GathererValue, HasAsManyCells, HasTakenMessages, Locked, TracksLocks, epoch_in, held_at, lock_place, locked_in, lookup, most_locks, recorded, time_in}
 pub use Rattle.obs_epoch.specs.GathererHistory.{AreMarks, HasGatheredEpochs, IsAwaited, all_epochs, before_closing, capped_counts, closed_at, closed_by, closed_list, closed_list_at, closed_so_far_of, is_done, is_lost_in, known_epochs, open_after, returned_epoch, whole_list}
-pub use Rattle.obs_epoch.specs.Heard.{GatherSetup, Heard, ends_epoch, heard, heard_by, heard_msm, heard_of, heard_summary, is_own, lock_by, observed, seen_in, tow_of, unlisted_in, without_cells}
+pub use Rattle.obs_epoch.specs.Heard.{GatherSetup, Heard, ends_epoch, heard, heard_by, heard_of, heard_summary, is_own, lock_by, observed, seen_in, tow_of, unlisted_in, without_cells}
 pub use Rattle.obs_epoch.specs.Kinds.{is_accepted, is_close_first, kind_after, kind_of, with_counts}
 pub use Rattle.obs_epoch.specs.Loss.{has_lost, is_locked, last_of, latest_in, lli_of, lli_with, lock_of, locked_at, previous, times}
 pub use Rattle.obs_epoch.specs.Reach.{IsHeard, IsHeardCell}
@@ -63,11 +63,11 @@ pub use Rattle.rtcm_msg.specs.Entries.{entries}
 pub use Rattle.rtcm_msg.specs.Msm.{week}
 pub use Rattle.rtcm_msg.specs.declared.entry.Entry.{Entry}
 pub use Rattle.rtcm_msg.specs.declared.message.Message.{Message}
-pub use Rattle.rtcm_msg.specs.declared.message.Message.TheVariants.{Msm4, Msm5, Msm6, Msm7, Other, Station}
+pub use Rattle.rtcm_msg.specs.declared.message.Message.TheVariants.{Msm, Other, Station}
 pub use Rattle.rtcm_msg.specs.declared.view.Form.{Form}
 pub use Rattle.rtcm_msg.specs.inner.ValueCounts.{has_id, has_listed_value, is_in, value_count}
+pub use Rattle.rtcm_msg.specs.Forms.{FormedMsm}
 pub use Rattle.rtcm_msg.specs.inner.Viewed.{viewed_message}
-pub use Rattle.rtcm_msg.specs.inner.Views.{FormedMsm, formed}
 pub use Rattle.std.proofs.Common.{All, Bool, Err, IfSome, List, None, Ok, Option, Result, Some, [], ap, append-nil, append_assoc, ap₂, arith, cond, count_by, drop, false, filter, filter_map, find, flat_map, fold, get_or, if◌then◌else◌, inl, inr, is_some, length, length-append, length-set, length-take-le, map, nat_le, nat_lt, not, option_and_then, option_map, option_to_list, pos, position, refl, replicate, rules, set, slice_get, subst, suc, sym, take, take_all, true, unsigned_abs, unwrap_or, zero, ℕ, ℤ, ◌%◌, ◌&&◌, ◌*◌, ◌++◌, ◌+◌, ◌-◌, ◌/◌, ◌<◌, ◌==◌, ◌^◌, ◌||◌, ◌∙◌, ◌∷◌, ◌≡◌, ◌≤ℤ◌, ◌≤◌, ◌⊎◌}
 pub use Rattle.std.proofs.Math.Bool.{or-false}
 pub use Rattle.std.proofs.lemmas.Bool.{and_parts, cases_lt, eqb-true, le-ltb, leb-true, lt-ltb, ltb-false, ltb-true, true≢false, not-true, or_parts, or_right, both_ways, eq-eqb}

@@ -1,6 +1,5 @@
 -- Bounds of the values of epochs.
-use Rattle.rtcm_msg.specs.declared.view.Form.TheVariants as forms
-use Rattle.obs_epoch.proofs.Names.{System, Satellite, satellite_of_id, SignalAt, signal_of_id, nearest_pseudorange, nearest_phase, nearest_doppler, nearest_strength, Entry, Message, Station, Msm4, Msm5, Msm6, Msm7, Other, IsMessage, IsMeasured, EntriesAreMeasured, PointsAreInRange, entries, StationValues, weeks, Closed, cells_of, planned_of, most_cells, GatherSetup, Heard, heard, observed, seen_in, lock_by, HeardCell, kept_cell, Timed, is_at, timed, timed_after, taken_at, is_of_system, is_planned, offered, firsts_after, firsts, kept, cells_at, has_same_key, times, lli_with, lli_of, has_lost, cells_with_lli, epoch_at, values_after_message, open_after, before_closing, closed_list_at, all_epochs, IsHeardCell, IsHeard, IsGathered, same_place, AreGathered, AreStationValues, IsGatheredEpoch, TimesRise, AreGatheredEpochs, KnownLock, Form, ◌≡◌, ℕ, zero, suc, ℤ, pos, ◌+◌, ◌*◌, ◌^◌, ◌<◌, ◌≤◌, ◌≤ℤ◌, Bool, true, false, List, [], ◌∷◌, ◌++◌, filter, take, ap, arith, Option, Some, None, nat_lt, is_some, unsigned_abs, if◌then◌else◌, flat_map, filter_map, option_map, option_and_then, IfSome, fold, AllByRecursion, IsDistinct, week, most_hertz, AreChannels, ChannelsValue, hertz_in, common_steps, value_tabulated, ◌&&◌, ◌∙◌, map, refl, subst, sym, with_mark, Choice, Cell, PlanValue, has_phase, lost_before, mark_if, marked_after, thin_after, all_append, all_filter, all_passed}
+use Rattle.obs_epoch.proofs.Names.{System, Satellite, satellite_of_id, SignalAt, signal_of_id, nearest_pseudorange, nearest_phase, nearest_doppler, nearest_strength, Entry, Message, Station, Msm, Other, IsMessage, IsMeasured, EntriesAreMeasured, PointsAreInRange, entries, StationValues, weeks, Closed, cells_of, planned_of, most_cells, GatherSetup, Heard, heard, observed, seen_in, lock_by, HeardCell, kept_cell, Timed, is_at, timed, timed_after, taken_at, is_of_system, is_planned, offered, firsts_after, firsts, kept, cells_at, has_same_key, times, lli_with, lli_of, has_lost, cells_with_lli, epoch_at, values_after_message, open_after, before_closing, closed_list_at, all_epochs, IsHeardCell, IsHeard, IsGathered, same_place, AreGathered, AreStationValues, IsGatheredEpoch, TimesRise, AreGatheredEpochs, KnownLock, Form, ◌≡◌, ℕ, zero, suc, ℤ, pos, ◌+◌, ◌*◌, ◌^◌, ◌<◌, ◌≤◌, ◌≤ℤ◌, Bool, true, false, List, [], ◌∷◌, ◌++◌, filter, take, ap, arith, Option, Some, None, nat_lt, is_some, unsigned_abs, if◌then◌else◌, flat_map, filter_map, option_map, option_and_then, IfSome, fold, AllByRecursion, IsDistinct, week, most_hertz, AreChannels, ChannelsValue, hertz_in, common_steps, value_tabulated, ◌&&◌, ◌∙◌, map, refl, subst, sym, with_mark, Choice, Cell, PlanValue, has_phase, lost_before, mark_if, marked_after, thin_after, all_append, all_filter, all_passed}
 use Rattle.obs_epoch.proofs.OrderLemmas.{all-sorted, distinct-sorted}
 use Rattle.obs_epoch.proofs.NotingLemmas.{kept_distinct}
 use Rattle.obs_epoch.proofs.TimesLemmas.{next}
@@ -44,10 +43,7 @@ cells_given z channels form system (e ∷ es) valid h = grind (arith, seen_given
 
 pub message_heard : AreSizes → EntriesAreMeasured → PointsAreInRange → (channels : ChannelsValue) (leap : ℕ) (m : Message) → AreChannels channels → IsMessage m → IsHeard (heard channels leap m)
 message_heard z all points channels leap (Station p) v h = record { cells = tt; point = points p h }
-message_heard z all points channels leap (Msm4 m) v h = record { cells = cells_given z channels forms.Msm4 _ (entries (Msm4 m)) v (all (Msm4 m)); point = tt }
-message_heard z all points channels leap (Msm5 m) v h = record { cells = cells_given z channels forms.Msm5 _ (entries (Msm5 m)) v (all (Msm5 m)); point = tt }
-message_heard z all points channels leap (Msm6 m) v h = record { cells = cells_given z channels forms.Msm6 _ (entries (Msm6 m)) v (all (Msm6 m)); point = tt }
-message_heard z all points channels leap (Msm7 m) v h = record { cells = cells_given z channels forms.Msm7 _ (entries (Msm7 m)) v (all (Msm7 m)); point = tt }
+message_heard z all points channels leap (Msm m) v h = record { cells = cells_given z channels m.form _ (entries (Msm m)) v (all (Msm m)); point = tt }
 message_heard z all points channels leap (Other n set) v h = record { cells = tt; point = tt }
 
 -- ---- times

@@ -1,10 +1,9 @@
 -- Cells are counted signal by signal.
-use Rattle.obs_epoch.proofs.Names.{◌≡◌, ℕ, zero, suc, ◌+◌, ◌-◌, ◌<◌, ◌≤◌, ◌^◌, ◌==◌, ◌&&◌, ◌||◌, not, List, ◌∷◌, ◌++◌, length, get_or, filter, Bool, true, false, Option, Some, None, refl, sym, ap, ◌∙◌, subst, arith, is_some, inl, inr, position, if◌then◌else◌, cond, filter_map, option_map, option_and_then, slice_get, cases_lt, not-true, eqb-true, common_steps, System, ListedSignal, Satellite, is_system, satellite_of_id, SignalAt, IsSignal, id_of, table, signal_of_id, HeardCell, Entry, has_id, is_in, has_listed_value, value_count, seen_in, lock_by, observed, SignalCountsValue, signal_counts, counted, signal_in, counted_more, satellite_set, brings_value, is_of_signal, count_of, cons_option, option_map_or, Form, id_back, ids_within, system_self, each_system, system_same, short_table, listed_of, odd, ◌/◌, most_signals, hertz_in, every_channel, and_parts, eq-eqb, [], IfSome, nat_lt, AreSignalCounts, lt-ltb, ltb-true, ltb-false, ap₂, FormedMsm, formed, entries, heard, valued}
+use Rattle.obs_epoch.proofs.Names.{◌≡◌, ℕ, zero, suc, ◌+◌, ◌-◌, ◌<◌, ◌≤◌, ◌^◌, ◌==◌, ◌&&◌, ◌||◌, not, List, ◌∷◌, ◌++◌, length, get_or, filter, Bool, true, false, Option, Some, None, refl, sym, ap, ◌∙◌, subst, arith, is_some, inl, inr, position, if◌then◌else◌, cond, filter_map, option_map, option_and_then, slice_get, cases_lt, not-true, eqb-true, common_steps, System, ListedSignal, Satellite, is_system, satellite_of_id, SignalAt, IsSignal, id_of, table, signal_of_id, HeardCell, Entry, has_id, is_in, has_listed_value, value_count, seen_in, lock_by, observed, SignalCountsValue, signal_counts, counted, signal_in, counted_more, satellite_set, brings_value, is_of_signal, count_of, cons_option, option_map_or, Form, id_back, ids_within, system_self, each_system, system_same, short_table, listed_of, odd, ◌/◌, most_signals, hertz_in, every_channel, and_parts, eq-eqb, [], IfSome, nat_lt, AreSignalCounts, lt-ltb, ltb-true, ltb-false, ap₂, FormedMsm, Msm, entries, heard, valued}
 use Rattle.std.proofs.lemmas.List.Quantifiers.{position-Some}
 use Rattle.gnss_system.proofs.CheckedLaws.{passes_at, passes_below}
 use Rattle.rtcm_msg.proofs.ValueLaws.{count_first}
 use Rattle.obs_epoch.proofs.SignalCountsLemmas.{every_hertz, value_same, one_first, few_of}
-use Rattle.obs_epoch.proofs.ViewLemmas.{heard_formed}
 
 -- ---- signals and their IDs
 
@@ -214,8 +213,8 @@ abbrev pub listed_cells : Form → System → List Entry → List HeardCell
 listed_cells form system es = filter brings_value (filter_map (seen_in every_channel form system) es)
 
 -- Those of an MSM.
-pub valued_msm : (v : FormedMsm) {system : System} → system ≡ v.msm.system → valued None (heard every_channel 0 (formed v)) ≡ listed_cells v.form system (entries (formed v))
-valued_msm v is = ap (valued None) (heard_formed every_channel 0 v) ∙ ap (λ (s : System). listed_cells v.form s (entries (formed v))) (sym is)
+pub valued_msm : (v : FormedMsm) {system : System} → system ≡ v.msm.system → valued None (heard every_channel 0 (Msm v)) ≡ listed_cells v.form system (entries (Msm v))
+valued_msm v is = ap (λ (s : System). listed_cells v.form s (entries (Msm v))) (sym is)
 
 -- Each cell is of a signal.
 no_front : (o : Option HeardCell) → IfSome o (λ y. IsSignal y.signal) → ((g : SignalAt) → IsSignal g → count_of g (filter brings_value (cons_option o [])) ≡ 0) → filter brings_value (cons_option o []) ≡ []

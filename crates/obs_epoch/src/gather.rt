@@ -7,7 +7,7 @@ ghost use Rattle.rtcm_msg.specs.Entries.{IsEntry, entries};
 ghost use Rattle.rtcm_msg.specs.inner.Viewed.{viewed_message};
 ghost use Rattle.rtcm_msg.specs.Forms.{lock_codes};
 ghost use Rattle.rtcm_msg.specs.inner.Forms.{form_as};
-ghost use Rattle.rtcm_msg.specs.inner.Views.{formed};
+ghost use Rattle.rtcm_msg.specs.declared.message.Message.TheVariants as messages;
 ghost use Rattle.obs_epoch.specs.Heard.{Heard, heard_by, heard_summary};
 ghost use Rattle.obs_epoch.specs.declared.setup.GatherSetup.{GatherSetup};
 ghost use Rattle.gnss_obs.specs.Order.{AreSortedByPlan};
@@ -363,7 +363,7 @@ impl Gatherer {
         requires none { n.old ≡ no_counts }
         ensures { record { state = self.new; counts = n.new }
             ≡ load_entries m.now.form m.now.msm.system (record { state = self.old; counts = no_counts })
-            (entries (formed m.now)) }
+            (entries (messages.Msm m.now)) }
     {
         match m.form() {
             Form::Msm4 => self.load_as::<S, 4>(m, n),
@@ -383,7 +383,7 @@ impl Gatherer {
         requires none { n.old ≡ no_counts }
         ensures { record { state = self.new; counts = n.new }
             ≡ load_entries m.now.form m.now.msm.system (record { state = self.old; counts = no_counts })
-            (entries (formed m.now)) }
+            (entries (messages.Msm m.now)) }
     {
         self.load_entries::<S, F>(m.system(), &mut m.entries(), n);
     }

@@ -7,7 +7,7 @@ ghost use Rattle.obs_epoch.specs.SignalCounts.{every_channel, valued};
 ghost use Rattle.obs_epoch.specs.inner.SignalCounts.{counted, has_any, counted_more, up_by};
 ghost use Rattle.obs_epoch.specs.inner.SignalCounts.{CountsMessage, AreSignalCounts};
 ghost use Rattle.rtcm_msg.specs.inner.Viewed.{viewed_message};
-ghost use Rattle.rtcm_msg.specs.inner.Views.{formed};
+ghost use Rattle.rtcm_msg.specs.declared.message.Message.TheVariants as messages;
 
 use gnss_obs::Signal;
 use gnss_system::{BySystem, MOST_SIGNALS, SYSTEMS, System};
@@ -67,8 +67,8 @@ impl SignalCounts {
 
     /// Counts the cells of an MSM, and returns whether one was counted.
     pub fn count_msm(&mut self, msm: &MsmView<'_>) -> bool
-        ensures counts { CountsMessage self.old self.new None (heard every_channel 0 (formed msm.now)) }
-        ensures any { result ≡ nat_lt 0 (length (valued None (heard every_channel 0 (formed msm.now)))) }
+        ensures counts { CountsMessage self.old self.new None (heard every_channel 0 (messages.Msm msm.now)) }
+        ensures any { result ≡ nat_lt 0 (length (valued None (heard every_channel 0 (messages.Msm msm.now)))) }
     {
         let system = msm.system();
         let mut counts = msm.value_counts(system.satellite_mask());

@@ -2,7 +2,6 @@
 -- cells.
 use Rattle.rtcm_convert.proofs.Names.{entries_in, Choice, whole_list, capped_counts, thin_after, epoch_counts, Closed, common_steps, ◌≡◌, ◌||◌, ℕ, ◌+◌, ◌*◌, ◌≤◌, most_bytes, List, [], ◌∷◌, ◌++◌, Bool, true, false, refl, sym, ap, subst, arith, rules, length, length-append, add-zero, suc, nat_lt, Option, Some, None, is_some, filter, if◌then◌else◌, zip, option_map_or, length-map, length-filter, count_by-le-length, System, Framed, Message, Entry, MasksValue, MsmValue, AreMasks, IsMessage, chosen, cell_pairs, all_pairs, entry_in, Kind, GatherSetup, Heard, heard, heard_by, ChannelsValue, heard_msm, is_own, unlisted_in, HeardCell, Timed, timed, timed_after, taken_at, times, counts_of, counts_of_message, no_counts, with_skipped, is_planned, offered, kind_of, kind_at, SetupValue, messages_of, epochs_in, outcomes_after, capped, tally_of, tally_with, cell_counts, AreFewCells, count_by, sum_by, AreFew, CellCounts, length-filter-le, length-filter_map-le}
 use Rattle.rtcm_msg.specs.declared.view.Form.{Form}
-use Rattle.rtcm_msg.specs.declared.view.Form.TheVariants as forms
 use Rattle.obs_epoch.proofs.CountLaws.{few_without}
 use Rattle.rtcm_msg.specs.declared.message.Message.TheVariants as message
 use Rattle.obs_epoch.specs.declared.taken.Kind.TheVariants as kind
@@ -42,10 +41,7 @@ heard_msm_few channels leap form v es le = grind (arith, common_steps, length-fi
 
 heard_few : (channels : ChannelsValue) (leap : ℕ) (m : Message) → IsMessage m → HasFew (heard channels leap m)
 heard_few channels leap (message.Station s) h = record { cells = omega arith; unlisted = omega arith }
-heard_few channels leap (message.Msm4 v) h = heard_msm_few channels leap forms.Msm4 v (entries_in forms.Msm4 v) (entries_few forms.Msm4 v h.sets)
-heard_few channels leap (message.Msm5 v) h = heard_msm_few channels leap forms.Msm5 v (entries_in forms.Msm5 v) (entries_few forms.Msm5 v h.sets)
-heard_few channels leap (message.Msm6 v) h = heard_msm_few channels leap forms.Msm6 v (entries_in forms.Msm6 v) (entries_few forms.Msm6 v h.sets)
-heard_few channels leap (message.Msm7 v) h = heard_msm_few channels leap forms.Msm7 v (entries_in forms.Msm7 v) (entries_few forms.Msm7 v h.sets)
+heard_few channels leap (message.Msm v) h = heard_msm_few channels leap v.form v.msm (entries_in v.form v.msm) (entries_few v.form v.msm h.sets)
 heard_few channels leap (message.Other n set) h = record { cells = omega arith; unlisted = omega arith }
 
 -- ---- the counts of a message

@@ -1,6 +1,5 @@
 -- The values of a cell with and without its carrier.
-use Rattle.rtcm_msg.specs.declared.view.Form.TheVariants as forms
-use Rattle.rtcm_inspect.proofs.Names.{map, get_or-replicate, Glonass, satellites, band_of, code_of, channel_hertz, hertz_in, CellValues, LosesUnknownCarriers, values_by, ◌≡◌, ◌-◌, ◌<◌, ap, ap₂, cons_option, every_channel, filter_map, if◌then◌else◌, is_some, lock_by, observed, option_and_then, option_map, seen_in, signal_of_id, ChannelsValue, Entry, Satellite, SignalAt, System, entries, Msm4, Msm5, Msm6, Msm7, Bool, true, false, ◌&&◌, nat_le, nat_tests, ℕ, List, [], ◌∷◌, Option, Some, None, refl, arith, HeardCell, slot_count, Form, LockTime}
+use Rattle.rtcm_inspect.proofs.Names.{map, get_or-replicate, Glonass, satellites, band_of, code_of, channel_hertz, hertz_in, CellValues, LosesUnknownCarriers, values_by, ◌≡◌, ◌-◌, ◌<◌, ap, ap₂, cons_option, every_channel, filter_map, if◌then◌else◌, is_some, lock_by, observed, option_and_then, option_map, seen_in, signal_of_id, ChannelsValue, Entry, Satellite, SignalAt, System, entries, Msm, Bool, true, false, ◌&&◌, nat_le, nat_tests, ℕ, List, [], ◌∷◌, Option, Some, None, refl, arith, HeardCell, slot_count, Form, LockTime}
 use Rattle.rtcm_inspect.specs.SignalLaws.{values_of}
 
 -- ---- with a channel for each slot each carrier is known
@@ -40,8 +39,5 @@ module _ (channels : ChannelsValue) (form : Form) (system : System) where
   all_cells (e ∷ es) = one_cell e (filter_map (seen_in channels form system) es) (filter_map (seen_in every_channel form system) es) (all_cells es)
 
 pub unknown_carriers : LosesUnknownCarriers
-unknown_carriers s (Msm4 v) = all_cells s.plan.channels forms.Msm4 v.system (entries (Msm4 v))
-unknown_carriers s (Msm5 v) = all_cells s.plan.channels forms.Msm5 v.system (entries (Msm5 v))
-unknown_carriers s (Msm6 v) = all_cells s.plan.channels forms.Msm6 v.system (entries (Msm6 v))
-unknown_carriers s (Msm7 v) = all_cells s.plan.channels forms.Msm7 v.system (entries (Msm7 v))
+unknown_carriers s (Msm v) = all_cells s.plan.channels v.form v.msm.system (entries (Msm v))
 unknown_carriers s other = refl

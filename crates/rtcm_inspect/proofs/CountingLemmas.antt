@@ -1,10 +1,10 @@
 -- Signal counts as a consumer of frames.
-use Rattle.rtcm_inspect.proofs.Names.{Printed, greatest_in, AreSaidIn, common_steps, ◌≡◌, ◌∙◌, inr, ◌+◌, ◌*◌, ◌<◌, ◌≤◌, ◌^◌, ap, sym, subst, arith, Bool, true, false, not, ◌&&◌, nat_lt, ℕ, List, [], ◌∷◌, ◌++◌, Option, Some, None, Result, Ok, Err, length, length-append, append-nil, refl, Framed, frames_of, known_frames, Device, Devices, StreamFault, ⊤, InspectFault, stream_fault, AtFault, Passes, BreaksReading, PassesAll, PassesToLimit, Reads, FramerValue, most_bytes, AreSignalCounts, CountsMessage, SignalCountsValue, inspected, message_at, MsgFault, Message, AreFirst, EndsStream, ReadsTooMuch, Counts, StopsCounting, HasCounted, IsCounted, AreSignals, NeverFails, StreamSignals, StreamCounts, AreFrameCounts, is_msm, msm_in, stream_counts, filter-append, length-filter, count_by-le-length, piece_bytes, forms_had, channels_in, HeardCell, Takes, StationParts, option_or, option_and_then, option_to_list, if◌then◌else◌, IfSome, InRange, point_of, sender, stations_of, first_two, inspected_at, inspected_in, inspected_of, option_map_or, valued, valued_of, tow_of, heard, every_channel, needs_all, MsmSet, is_in_set, FirstTwo, FirstTows, AreTows, ChannelsValue, channel_of_1020, sent_by, sent_channels, with_sent, Other, Station, FormedMsm, MsmHeader, formed, is_of_station, Forms, have_form, cond, ◌%◌, most_pairs, is_of_other, SaidWeeks}
+use Rattle.rtcm_inspect.proofs.Names.{Printed, greatest_in, AreSaidIn, common_steps, ◌≡◌, ◌∙◌, inr, ◌+◌, ◌*◌, ◌<◌, ◌≤◌, ◌^◌, ap, sym, subst, arith, Bool, true, false, not, ◌&&◌, nat_lt, ℕ, List, [], ◌∷◌, ◌++◌, Option, Some, None, Result, Ok, Err, length, length-append, append-nil, refl, Framed, frames_of, known_frames, Device, Devices, StreamFault, ⊤, InspectFault, stream_fault, AtFault, Passes, BreaksReading, PassesAll, PassesToLimit, Reads, FramerValue, most_bytes, AreSignalCounts, CountsMessage, SignalCountsValue, inspected, message_at, MsgFault, Message, AreFirst, EndsStream, ReadsTooMuch, Counts, StopsCounting, HasCounted, IsCounted, AreSignals, NeverFails, StreamSignals, StreamCounts, AreFrameCounts, is_msm, msm_in, stream_counts, filter-append, length-filter, count_by-le-length, piece_bytes, forms_had, channels_in, HeardCell, Takes, StationParts, option_or, option_and_then, option_to_list, if◌then◌else◌, IfSome, InRange, point_of, sender, stations_of, first_two, inspected_at, inspected_in, inspected_of, option_map_or, valued, valued_of, tow_of, heard, every_channel, needs_all, MsmSet, is_in_set, FirstTwo, FirstTows, AreTows, ChannelsValue, channel_of_1020, sent_by, sent_channels, with_sent, Other, Station, FormedMsm, MsmHeader, Msm, is_of_station, Forms, have_form, cond, ◌%◌, most_pairs, SaidWeeks}
 use Rattle.rtcm_msg.specs.declared.number.Forms.TheVariants as forms
 use Rattle.rtcm_inspect.proofs.CountedLemmas.{filter_map-push}
 use Rattle.rtcm_inspect.proofs.FirstLemmas.{first_more, or_none}
 use Rattle.rtcm_inspect.proofs.SetLemmas.{forms_kept, forms_more, if_same, tow_read, tow_refused}
-use Rattle.rtcm_inspect.proofs.StreamChannelLemmas.{channels_more, msm_isnt_1020, sent_without_1020}
+use Rattle.rtcm_inspect.proofs.StreamChannelLemmas.{channels_more, sent_without_1020}
 use Rattle.rtcm_inspect.proofs.StreamLemmas.{Began}
 use Rattle.rtcm_inspect.proofs.TowLemmas.{tows_none}
 use Rattle.rtcm_inspect.specs.declared.fault.InspectFault.TheVariants as faults
@@ -117,41 +117,35 @@ takes_station x f p is point range stations =
     takes_none x f (Ok (Station p)) is (if_same own refl, λ leap. if_same own refl) refl (ap (with_sent x.channels) (sym (sent_without_1020 x.station f (Ok (Station p)) is refl ∙ if_same own refl))) point range stations
 
 -- an MSM
-pub msm_station : (v : FormedMsm) {header : MsmHeader} → header ≡ v.msm.header → (inspected (formed v)).station ≡ Some header.station
+pub msm_station : (v : FormedMsm) {header : MsmHeader} → header ≡ v.msm.header → (inspected (Msm v)).station ≡ Some header.station
 msm_station v same = grind arith
 
-module _ (x : StreamSignals) (f : Framed) (v : FormedMsm) (is : message_at f.message ≡ Ok (formed v)) {header : MsmHeader} (same : header ≡ v.msm.header) where
-  only_msm : is_msm (Ok (formed v)) ≡ true
-  only_msm = grind arith
-
-  msm_number : (x.counts.msm + 1) % 2 ^ 64 ≡ (if is_msm (Ok (formed v)) then (x.counts.msm + 1) % 2 ^ 64 else x.counts.msm)
-  msm_number = sym (ap (λ (b : Bool). if b then (x.counts.msm + 1) % 2 ^ 64 else x.counts.msm) only_msm)
-
-  msm_point : x.first.point ≡ option_or x.first.point (point_of x.station (inspected (formed v)))
+module _ (x : StreamSignals) (f : Framed) (v : FormedMsm) (is : message_at f.message ≡ Ok (Msm v)) {header : MsmHeader} (same : header ≡ v.msm.header) where
+  msm_point : x.first.point ≡ option_or x.first.point (point_of x.station (inspected (Msm v)))
   msm_point = grind (arith, if_same, or_none)
 
-  msm_sent : {own : Bool} → is_of_station x.station (inspected (formed v)) ≡ own → option_to_list (channel_of_1020 f.message) ++ sent_by x.station (Ok (formed v)) ≡ (if own then sent_channels (formed v) else [])
-  msm_sent own = sent_without_1020 x.station f (Ok (formed v)) is (msm_isnt_1020 v.form v.msm) ∙ ap (λ (b : Bool). if b then sent_channels (formed v) else []) own
+  msm_sent : {own : Bool} → is_of_station x.station (inspected (Msm v)) ≡ own → option_to_list (channel_of_1020 f.message) ++ sent_by x.station (Ok (Msm v)) ≡ (if own then sent_channels (Msm v) else [])
+  msm_sent own = sent_without_1020 x.station f (Ok (Msm v)) is refl ∙ ap (λ (b : Bool). if b then sent_channels (Msm v) else []) own
 
-  msm_sender : {stations : FirstTwo} → ((ns : List ℕ) → x.first.stations ≡ first_two ns → stations ≡ first_two (ns ++ header.station ∷ [])) → (ns : List ℕ) → x.first.stations ≡ first_two ns → stations ≡ first_two (ns ++ option_to_list (sender (inspected (formed v))))
+  msm_sender : {stations : FirstTwo} → ((ns : List ℕ) → x.first.stations ≡ first_two ns → stations ≡ first_two (ns ++ header.station ∷ [])) → (ns : List ℕ) → x.first.stations ≡ first_two ns → stations ≡ first_two (ns ++ option_to_list (sender (inspected (Msm v))))
   msm_sender stations ns h =
-      let is_sender : option_to_list (sender (inspected (formed v))) ≡ header.station ∷ [] = grind (arith, same) in
+      let is_sender : option_to_list (sender (inspected (Msm v))) ≡ header.station ∷ [] = grind (arith, same) in
       stations ns h ∙ ap (λ (l : List ℕ). first_two (ns ++ l)) (sym is_sender)
 
-  pub takes_another : {stations : FirstTwo} → is_of_station x.station (inspected (formed v)) ≡ false → ((ns : List ℕ) → x.first.stations ≡ first_two ns → stations ≡ first_two (ns ++ header.station ∷ []))
+  pub takes_another : {stations : FirstTwo} → is_of_station x.station (inspected (Msm v)) ≡ false → ((ns : List ℕ) → x.first.stations ≡ first_two ns → stations ≡ first_two (ns ++ header.station ∷ []))
       → Takes x (record x { first = record x.first { stations = stations }; counts = record x.counts { msm = (x.counts.msm + 1) % 2 ^ 64 } }) f (message_at f.message)
-  takes_another other stations = takes_none x f (Ok (formed v)) is (grind (arith, common_steps)) msm_number (ap (with_sent x.channels) (sym (msm_sent other))) msm_point (λ h. h) (msm_sender stations)
+  takes_another other stations = takes_none x f (Ok (Msm v)) is (grind (arith, common_steps)) refl (ap (with_sent x.channels) (sym (msm_sent other))) msm_point (λ h. h) (msm_sender stations)
 
-  pub takes_msm : {counts : SignalCountsValue} {had : Forms} {channels : ChannelsValue} {tows : FirstTows} {stations : FirstTwo} {any : Bool} → is_of_station x.station (inspected (formed v)) ≡ true
-      → ((ns : List ℕ) → x.first.stations ≡ first_two ns → stations ≡ first_two (ns ++ header.station ∷ [])) → CountsMessage x.signal_counts counts None (inspected (formed v)) → any ≡ nat_lt 0 (length (valued None (inspected (formed v))))
-      → had ≡ (if any && not (have_form x.forms v.form) then forms.All else x.forms) → channels ≡ with_sent x.channels (sent_channels (formed v))
+  pub takes_msm : {counts : SignalCountsValue} {had : Forms} {channels : ChannelsValue} {tows : FirstTows} {stations : FirstTwo} {any : Bool} → is_of_station x.station (inspected (Msm v)) ≡ true
+      → ((ns : List ℕ) → x.first.stations ≡ first_two ns → stations ≡ first_two (ns ++ header.station ∷ [])) → CountsMessage x.signal_counts counts None (inspected (Msm v)) → any ≡ nat_lt 0 (length (valued None (inspected (Msm v))))
+      → had ≡ (if any && not (have_form x.forms v.form) then forms.All else x.forms) → channels ≡ with_sent x.channels (sent_channels (Msm v))
       → ((fs : List Framed) → length fs < 2 ^ 56 → AreTows x.first.tows x.station fs → AreTows tows x.station (fs ++ f ∷ []))
       → Takes x (record x { signal_counts = counts; forms = had; channels = channels; first = record x.first { tows = tows; stations = stations }; counts = record x.counts { msm = (x.counts.msm + 1) % 2 ^ 64 } }) f (message_at f.message)
   takes_msm {counts} {any = any} own stations counted is_any had channels tows = rw is (record {
     station = refl;
     weeks = refl;
     frames = refl;
-    msm = msm_number;
+    msm = refl;
     counted = λ cells few h. subst (λ (l : List HeardCell). AreSignalCounts counts (cells ++ l)) (sym cells_own) (counted.counts cells few h);
     few = subst (λ (l : List HeardCell). length l ≤ most_pairs) (sym cells_own) counted.few;
     forms = had ∙ forms_kept x.forms any v.form ∙ ap (λ (b : Bool). if b then forms.All else x.forms) (sym needs);
@@ -161,14 +155,11 @@ module _ (x : StreamSignals) (f : Framed) (v : FormedMsm) (is : message_at f.mes
     stations = msm_sender stations;
     tows = tows;
   }) where
-    cells_own : valued x.station (inspected (formed v)) ≡ valued None (inspected (formed v))
-    cells_own = ap (λ (b : Bool). if b then valued None (inspected (formed v)) else []) own
+    cells_own : valued x.station (inspected (Msm v)) ≡ valued None (inspected (Msm v))
+    cells_own = ap (λ (b : Bool). if b then valued None (inspected (Msm v)) else []) own
 
-    other : is_of_other forms.FourAndSeven (formed v) ≡ not (have_form forms.FourAndSeven v.form)
-    other = grind arith
-
-    needs : needs_all x.station (Ok (formed v)) ≡ (not (have_form forms.FourAndSeven v.form) && any)
-    needs = rw (other, own, is_any) refl
+    needs : needs_all x.station (Ok (Msm v)) ≡ (not (have_form forms.FourAndSeven v.form) && any)
+    needs = rw (own, is_any) refl
 
 -- the numbers of a stream, of those of its bytes and of its frames
 pub all_numbers : {c : StreamCounts} (b : List ℕ) → c.bytes ≡ length b → AreFrameCounts c (frames_of b) → c ≡ stream_counts b

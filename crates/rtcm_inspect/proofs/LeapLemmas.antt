@@ -1,6 +1,5 @@
 -- The time of week of the first MSM of a set without GLONASS.
-use Rattle.rtcm_inspect.proofs.Names.{value_of, Glonass, has_msm, is_in_set, gps_tow, IsLeapFree, ◌≡◌, ◌∙◌, ◌&&◌, ap, ap₂, sym, subst, refl, ℕ, Bool, true, false, List, [], ◌∷◌, Option, Some, None, Result, Ok, Err, if◌then◌else◌, option_and_then, option_or, MsgFault, Message, Msm4, Msm5, Msm6, Msm7, Form, MsmSet, MsmValue, System, every_channel, have_form, heard, inspected_in, is_of_station, message_at, tow_of}
-use Rattle.rtcm_msg.specs.declared.view.Form.TheVariants as form
+use Rattle.rtcm_inspect.proofs.Names.{value_of, Glonass, has_msm, is_in_set, gps_tow, IsLeapFree, ◌≡◌, ◌∙◌, ◌&&◌, ap, ap₂, sym, subst, refl, ℕ, Bool, true, false, List, [], ◌∷◌, Option, Some, None, Result, Ok, Err, if◌then◌else◌, option_and_then, option_or, MsgFault, Message, Msm, Form, MsmSet, MsmValue, System, every_channel, have_form, heard, inspected_in, is_of_station, message_at, tow_of}
 use Rattle.rtcm_inspect.proofs.SetLemmas.{tow_read, tow_refused}
 
 tow_free : (set : MsmSet) (f : Form) (s : System) (a b time : ℕ) → value_of Glonass set.systems ≡ false → has_msm set f s ≡ true → gps_tow s a time ≡ gps_tow s b time
@@ -14,10 +13,7 @@ msm_free set f v wanted own a b none within = ap (λ (t : ℕ). if own then Some
 
 message_free : (set : MsmSet) (m : Message) (wanted : Option ℕ) (a b : ℕ) → value_of Glonass set.systems ≡ false → is_in_set set m ≡ true
     → tow_of wanted (heard every_channel a m) ≡ tow_of wanted (heard every_channel b m)
-message_free set (Msm4 v) wanted a b none within = msm_free set form.Msm4 v wanted (is_of_station wanted (heard every_channel a (Msm4 v))) a b none within
-message_free set (Msm5 v) wanted a b none within = msm_free set form.Msm5 v wanted (is_of_station wanted (heard every_channel a (Msm5 v))) a b none within
-message_free set (Msm6 v) wanted a b none within = msm_free set form.Msm6 v wanted (is_of_station wanted (heard every_channel a (Msm6 v))) a b none within
-message_free set (Msm7 v) wanted a b none within = msm_free set form.Msm7 v wanted (is_of_station wanted (heard every_channel a (Msm7 v))) a b none within
+message_free set (Msm v) wanted a b none within = msm_free set v.form v.msm wanted (is_of_station wanted (heard every_channel a (Msm v))) a b none within
 message_free set other wanted a b none within = refl
 
 frame_free : (set : MsmSet) (bytes : List ℕ) (wanted : Option ℕ) (a b : ℕ) → value_of Glonass set.systems ≡ false

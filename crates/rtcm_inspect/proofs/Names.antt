@@ -58,7 +58,7 @@ unfoldable pub use Rattle.rtcm_inspect.specs.ShowLines.{fault_line, message_line
 pub use Rattle.rtcm_inspect.specs.ShowLines.{height_words, line_with, read_for, read_line, show_line}
 pub use Rattle.rtcm_inspect.specs.SignalLaws.{CellValues, LosesUnknownCarriers, ReadsAll, SkipsOnly, values_by}
 unfoldable pub use Rattle.rtcm_inspect.specs.Signals.{count_line}
-pub use Rattle.rtcm_inspect.specs.Signals.{AreSignalsOf, AreSignalsRefused, code_list, codes_word, count_lines, decodes, forms_had, had, had_below, has_counted, has_other_value, is_of_other, lines_below, needs_all, plan_had, plan_in, set_had, valued_in, valued_of}
+pub use Rattle.rtcm_inspect.specs.Signals.{AreSignalsOf, AreSignalsRefused, code_list, codes_word, count_lines, decodes, forms_had, had, had_below, has_counted, has_other_value, lines_below, needs_all, plan_had, plan_in, set_had, valued_in, valued_of}
 pub use Rattle.rtcm_inspect.specs.StreamChannels.{channels_in, sent_by, sent_in, sent_of, with_first, with_sent}
 pub use Rattle.rtcm_inspect.specs.StreamCounts.{is_msm, msm_in, stream_counts}
 pub use Rattle.rtcm_inspect.specs.StreamOutput.{EndsStream, ReadsTooMuch}
@@ -83,27 +83,27 @@ pub use Rattle.rtcm_inspect.specs.inner.SaidWeeks.{AreSaid, AreSaidIn}
 pub use Rattle.rtcm_msg.proofs.MessageLaws.{message_there, message_value, one_value, zero_read}
 pub use Rattle.rtcm_msg.proofs.SetLaws.{inside, outside, refused, value_with, whole_is}
 pub use Rattle.rtcm_msg.specs.Channels.{channel_of_1020, sent_channels}
-pub use Rattle.rtcm_msg.specs.Decoding.{message_at, message_by, message_in, message_with}
+pub use Rattle.rtcm_msg.specs.Decoding.{message_at, message_by, message_with}
 pub use Rattle.rtcm_msg.specs.Encoding.{IsEncoding, IsMessage, ReadsMessage, message_bits, number_of, other_of}
 pub use Rattle.rtcm_msg.specs.Entries.{entries}
 pub use Rattle.rtcm_msg.specs.Equipment.{equipment_in, values_of}
 pub use Rattle.rtcm_msg.specs.Msm.{MasksValue, MsmValue, most_pairs, time_of_week}
-pub use Rattle.rtcm_msg.specs.Numbers.{have_form, kind_of, message_number, whole_set}
+pub use Rattle.rtcm_msg.specs.Numbers.{have_form, kind_of, whole_set}
 pub use Rattle.rtcm_msg.specs.Sets.{has_msm, is_in_set}
 pub use Rattle.rtcm_msg.specs.Station.{InRange}
 pub use Rattle.rtcm_msg.specs.declared.entry.Entry.{Entry}
 pub use Rattle.rtcm_msg.specs.declared.fault.MsgFault.{MsgFault}
 pub use Rattle.rtcm_msg.specs.declared.header.MsmHeader.{MsmHeader}
 pub use Rattle.rtcm_msg.specs.declared.message.Message.{Message}
-pub use Rattle.rtcm_msg.specs.declared.message.Message.TheVariants.{Msm4, Msm5, Msm6, Msm7, Other, Station}
+pub use Rattle.rtcm_msg.specs.declared.message.Message.TheVariants.{Msm, Other, Station}
 pub use Rattle.rtcm_msg.specs.declared.number.Forms.{Forms}
 pub use Rattle.rtcm_msg.specs.declared.number.Forms.TheVariants.{FourAndSeven}
 pub use Rattle.rtcm_msg.specs.declared.number.MsmSet.{MsmSet}
 pub use Rattle.rtcm_msg.specs.declared.station.StationParts.{StationParts}
 pub use Rattle.rtcm_msg.specs.declared.view.Form.{Form}
 pub use Rattle.rtcm_msg.specs.declared.weeks.SentWeek.{SentWeek}
+pub use Rattle.rtcm_msg.specs.Forms.{FormedMsm}
 pub use Rattle.rtcm_msg.specs.inner.Viewed.{viewed_message}
-pub use Rattle.rtcm_msg.specs.inner.Views.{FormedMsm, formed}
 pub use Rattle.rtcm_scan.specs.Decided.{decided_frames}
 pub use Rattle.rtcm_scan.specs.Drained.{IsDrained}
 pub use Rattle.rtcm_scan.specs.Examined.{HasExamined}

@@ -1,7 +1,6 @@
 -- What is read of messages if only the MSMs of a set are decoded.
-use Rattle.rtcm_inspect.proofs.Names.{or-false, ◌⊎◌, list_any_at, inside, outside, refused, other_of, has_msm, is_in_set, value_of, value_tabulated, is_decoded, ReadsAll, false_from_ne_true, true≢false, All-head, All-tail, GatherSetup, entries, is_planned, ◌≡◌, ◌∙◌, ◌++◌, ℕ, Bool, true, false, not, List, [], ◌∷◌, Option, None, Result, Ok, Err, All, All-cons, All-nil, ⊤, ◌&&◌, ap, arith, bits_of, length, list_any-append, nat_lt, option_and_then, option_map_or, refl, subst, sym, if◌then◌else◌, Framed, MsgFault, Message, Msm4, Msm5, Msm6, Msm7, Form, Forms, MsmSet, message_at, message_with, have_form, System, Heard, HeardCell, every_channel, heard, heard_of, inspected, inspected_in, inspected_of, is_of_station, set_of, valued, forms_had, has_other_value, needs_all, tow_of, valued_in, valued_of}
+use Rattle.rtcm_inspect.proofs.Names.{or-false, ◌⊎◌, list_any_at, inside, outside, refused, other_of, has_msm, is_in_set, value_of, value_tabulated, is_decoded, ReadsAll, false_from_ne_true, true≢false, All-head, All-tail, GatherSetup, entries, is_planned, ◌≡◌, ◌∙◌, ◌++◌, ℕ, Bool, true, false, not, List, [], ◌∷◌, Option, None, Result, Ok, Err, All, All-cons, All-nil, ⊤, ◌&&◌, ap, arith, bits_of, length, list_any-append, nat_lt, option_and_then, option_map_or, refl, subst, sym, if◌then◌else◌, Framed, MsgFault, Message, Msm, Form, Forms, MsmSet, message_at, message_with, have_form, System, Heard, HeardCell, every_channel, heard, heard_of, inspected, inspected_in, inspected_of, is_of_station, set_of, valued, forms_had, has_other_value, needs_all, tow_of, valued_in, valued_of}
 use Rattle.rtcm_msg.specs.declared.number.Forms.TheVariants as forms
-use Rattle.rtcm_msg.specs.declared.view.Form.TheVariants as form
 use Rattle.rtcm_inspect.proofs.ValuedLemmas.{valued_system}
 
 -- ---- a message that isn't decoded
@@ -92,10 +91,7 @@ kept_frame s fs f planned had = by (message_at f.message) refl had where
   cells m read = ap (λ (r : Result Message MsgFault). option_map_or (valued s.station) (inspected_of r) []) read
 
   none : (m : Message) → is_in_set (set_of s.plan fs) m ≡ false → has_other_value fs s.station m ≡ false → ArePlanned s (valued s.station (inspected m)) → valued s.station (inspected m) ≡ []
-  none (Msm4 v) out had h = no_cell s fs form.Msm4 v.system (valued s.station (inspected (Msm4 v))) (valued_system s.station form.Msm4 v (entries (Msm4 v))) h out had
-  none (Msm5 v) out had h = no_cell s fs form.Msm5 v.system (valued s.station (inspected (Msm5 v))) (valued_system s.station form.Msm5 v (entries (Msm5 v))) h out had
-  none (Msm6 v) out had h = no_cell s fs form.Msm6 v.system (valued s.station (inspected (Msm6 v))) (valued_system s.station form.Msm6 v (entries (Msm6 v))) h out had
-  none (Msm7 v) out had h = no_cell s fs form.Msm7 v.system (valued s.station (inspected (Msm7 v))) (valued_system s.station form.Msm7 v (entries (Msm7 v))) h out had
+  none (Msm v) out had h = no_cell s fs v.form v.msm.system (valued s.station (inspected (Msm v))) (valued_system s.station v.form v.msm (entries (Msm v))) h out had
   none other out had h = cc
 
   by_set : (m : Message) → message_at f.message ≡ Ok m → has_other_value fs s.station m ≡ false → (b : Bool) → is_in_set (set_of s.plan fs) m ≡ b → ReadsAll (set_of s.plan fs) s f

@@ -1,6 +1,5 @@
 -- The cells that a conversion skips with the plan of a stream's signals.
-use Rattle.rtcm_msg.specs.declared.view.Form.TheVariants as forms
-use Rattle.rtcm_inspect.proofs.Names.{other_of, is_in_set, common_steps, get_or, ◌≡◌, ◌∙◌, ◌+◌, ◌≤◌, ap, sym, bits_of, cons_option, every_channel, filter_map, heard_by, heard_msm, inspected, inspected_in, inspected_of, is_some, seen_in, unlisted_in, ChannelsValue, Entry, MsmValue, System, entries, Msm4, Msm5, Msm6, Msm7, message_at, Message, MsgFault, MsmSet, Result, Ok, Err, Bool, true, false, not, ℕ, List, [], ◌∷◌, filter, All, refl, subst, arith, cond, count_by, option_map_or, All-nil, All-head, All-tail, sum_by-cons, Framed, counts_of_message, is_planned, brings_value, valued, GatherSetup, Heard, HeardCell, Timed, SkipsOnly, valued_in, valued_of, Form}
+use Rattle.rtcm_inspect.proofs.Names.{other_of, is_in_set, common_steps, get_or, ◌≡◌, ◌∙◌, ◌+◌, ◌≤◌, ap, sym, bits_of, cons_option, every_channel, filter_map, heard_by, heard_msm, inspected, inspected_in, inspected_of, is_some, seen_in, unlisted_in, ChannelsValue, Entry, MsmValue, System, entries, Msm, message_at, Message, MsgFault, MsmSet, Result, Ok, Err, Bool, true, false, not, ℕ, List, [], ◌∷◌, filter, All, refl, subst, arith, cond, count_by, option_map_or, All-nil, All-head, All-tail, sum_by-cons, Framed, counts_of_message, is_planned, brings_value, valued, GatherSetup, Heard, HeardCell, Timed, SkipsOnly, valued_in, valued_of, Form}
 use Rattle.rtcm_inspect.proofs.SetLemmas.{ArePlanned, planned_each, found_inside, found_outside, found_refused, none_valued}
 use Rattle.rtcm_inspect.proofs.WeekLemmas.{own_counts}
 
@@ -55,10 +54,7 @@ msm_keys : (s : GatherSetup) (form : Form) (v : MsmValue) (es : List Entry) → 
 msm_keys s form v es = record { station = refl; unlisted = unlisted_same s s.plan.channels every_channel form v.system es; skipped = skipped_same s s.plan.channels every_channel form v.system es }
 
 same_keys : (s : GatherSetup) (m : Message) → SameKeys s (heard_by s m) (inspected m)
-same_keys s (Msm4 v) = msm_keys s forms.Msm4 v (entries (Msm4 v))
-same_keys s (Msm5 v) = msm_keys s forms.Msm5 v (entries (Msm5 v))
-same_keys s (Msm6 v) = msm_keys s forms.Msm6 v (entries (Msm6 v))
-same_keys s (Msm7 v) = msm_keys s forms.Msm7 v (entries (Msm7 v))
+same_keys s (Msm v) = msm_keys s v.form v.msm (entries (Msm v))
 same_keys s other = record { station = refl; unlisted = refl; skipped = refl }
 
 message_skips : (s : GatherSetup) (earlier : List Timed) (x y : Heard) → SameKeys s x y → ArePlanned s (valued s.station y)

@@ -1,5 +1,5 @@
 -- The channels of one more frame.
-use Rattle.rtcm_inspect.proofs.Names.{length-set, All-replicate, All-set, fold-append, Glonass, system_same, message_by, number_of, kind_of, message_there, common_steps, AreChannels, Bool, ChannelsValue, Err, Form, Framed, IfSome, List, Message, MsgFault, MsmValue, None, Ok, Option, Other, Result, System, [], arith, channel_of_1020, channels_in, false, flat_map, flat_map-append, is_some, is_system, length, message_at, message_in, most_number, nat_le, no_channels, refl, sent_by, sent_in, slot_count, true, with_first, with_sent, ℕ, ◌++◌, ◌==◌, ◌∷◌, ◌≡◌, ◌≤◌, option_to_list, ap}
+use Rattle.rtcm_inspect.proofs.Names.{length-set, All-replicate, All-set, fold-append, Glonass, system_same, message_by, number_of, kind_of, message_there, common_steps, AreChannels, Bool, ChannelsValue, Err, Framed, IfSome, List, Message, MsgFault, None, Ok, Option, Other, Result, System, [], arith, channel_of_1020, channels_in, false, flat_map, flat_map-append, is_some, is_system, length, message_at, most_number, nat_le, no_channels, refl, sent_by, sent_in, slot_count, true, with_first, with_sent, ℕ, ◌++◌, ◌==◌, ◌∷◌, ◌≡◌, ◌≤◌, option_to_list, ap}
 
 -- ---- only a message 1020 has the channel of one
 
@@ -18,9 +18,6 @@ pub no_1020 : (bytes : List ℕ) (r : Result Message MsgFault) → message_at by
 no_1020 bytes r is other = grind (arith, read_1020)
 
 -- ---- the channels of a message
-
-pub msm_isnt_1020 : (f : Form) (v : MsmValue) → is_1020 (Ok (message_in f v)) ≡ false
-msm_isnt_1020 f v = grind arith
 
 pub another_system : (s : System) → (s ≡ Glonass → ⊥) → is_system s Glonass ≡ false
 another_system s other = grind (arith, system_same)

@@ -1,5 +1,5 @@
 -- The first MSMs of each system, after one more message.
-use Rattle.rtcm_inspect.proofs.Names.{and-or_distrib_right, systems, index_of, is_system, length-take-le, tabulate, value_of, with_value_of, FourAndSeven, BySystem, any_system, each_after, index_less, is_tabulated, system_same, systems_split, value_after, value_of_other, value_tabulated, is_in_set, weeks, counted_before, counted_set, counted_tows, greatest_in, greatest_of, with_tow, counted_in, HaveGreatest, AreTows, CountsTow, IsGreatestAt, IsMsmOf, IsWith, KeepsFirst, earlier_of, earliest, first_of_system, later_by, tow_by, with_greatest, tows_with_greatest, FirstTows, MsmTow, SystemTows, common_steps, option_or, le-ltb, lt-ltb, Framed, Message, Ok, ◌++◌, ◌≤◌, first_tow, every_channel, heard, inspected_in, drop, length, length-append, message_at, tow_of, week, ◌*◌, ◌≡◌, ◌∙◌, ◌+◌, ◌<◌, ◌&&◌, ◌||◌, ℕ, Bool, true, false, List, [], ◌∷◌, Option, Some, None, IfSome, ap, ap₂, arith, list_any, option_map, is_some, refl, subst, sym, if◌then◌else◌, have_form, Form, Forms, MsmSet, System, option_and_then, FormedMsm, MsmHeader, formed, inspected, is_of_station, gps_tow}
+use Rattle.rtcm_inspect.proofs.Names.{and-or_distrib_right, systems, index_of, is_system, length-take-le, tabulate, value_of, with_value_of, FourAndSeven, BySystem, any_system, each_after, index_less, is_tabulated, system_same, systems_split, value_after, value_of_other, value_tabulated, is_in_set, weeks, counted_before, counted_set, counted_tows, greatest_in, greatest_of, with_tow, counted_in, HaveGreatest, AreTows, CountsTow, IsGreatestAt, IsMsmOf, IsWith, KeepsFirst, earlier_of, earliest, first_of_system, later_by, tow_by, with_greatest, tows_with_greatest, FirstTows, MsmTow, SystemTows, common_steps, option_or, le-ltb, lt-ltb, Framed, Message, Ok, ◌++◌, ◌≤◌, first_tow, every_channel, heard, inspected_in, drop, length, length-append, message_at, tow_of, week, ◌*◌, ◌≡◌, ◌∙◌, ◌+◌, ◌<◌, ◌&&◌, ◌||◌, ℕ, Bool, true, false, List, [], ◌∷◌, Option, Some, None, IfSome, ap, ap₂, arith, list_any, option_map, is_some, refl, subst, sym, if◌then◌else◌, have_form, Form, Forms, MsmSet, System, option_and_then, FormedMsm, MsmHeader, Msm, inspected, is_of_station, gps_tow}
 use Rattle.rtcm_msg.specs.declared.number.Forms.TheVariants.{All}
 use Rattle.gnss_system.specs.declared.system.System.TheVariants as listed
 use Rattle.rtcm_inspect.proofs.FirstLemmas.{first_more, or_none}
@@ -137,11 +137,11 @@ if_true : (b : Bool) (o : Option ℕ) → b ≡ true → (if b then o else None)
 if_true b o e = ap (λ (d : Bool). if d then o else None) e
 
 -- the system, the form and the time of week of an MSM
-pub msm_is : (v : FormedMsm) {system : System} {form : Form} → system ≡ v.msm.system → form ≡ v.form → IsMsmOf (formed v) system form
+pub msm_is : (v : FormedMsm) {system : System} {form : Form} → system ≡ v.msm.system → form ≡ v.form → IsMsmOf (Msm v) system form
 msm_is v system form set = grind arith
 
-pub msm_tow : (wanted : Option ℕ) (v : FormedMsm) {system : System} {header : MsmHeader} {tow : ℕ} → is_of_station wanted (inspected (formed v)) ≡ true → system ≡ v.msm.system → header ≡ v.msm.header → tow ≡ gps_tow system 0 header.time → (leap : ℕ)
-    → tow_of wanted (heard every_channel leap (formed v)) ≡ Some (later_by system leap tow)
+pub msm_tow : (wanted : Option ℕ) (v : FormedMsm) {system : System} {header : MsmHeader} {tow : ℕ} → is_of_station wanted (inspected (Msm v)) ≡ true → system ≡ v.msm.system → header ≡ v.msm.header → tow ≡ gps_tow system 0 header.time → (leap : ℕ)
+    → tow_of wanted (heard every_channel leap (Msm v)) ≡ Some (later_by system leap tow)
 msm_tow wanted v own system header tow leap = grind (arith, common_steps)
 
 pub tows_kept : {x y : FirstTows} {wanted : Option ℕ} {fs : List Framed} (f : Framed) {m : Message} (form : Form) (c : MsmTow) {n : ℕ} → n ≡ x.msms + 1 → message_at f.message ≡ Ok m → c.msms_before ≡ x.msms → c.greatest ≡ None

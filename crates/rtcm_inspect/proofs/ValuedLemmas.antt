@@ -1,6 +1,5 @@
 -- The cells with a value are of listed satellites and signals.
-use Rattle.rtcm_msg.specs.declared.view.Form.TheVariants as forms
-use Rattle.rtcm_inspect.proofs.Names.{common_steps, MsmValue, heard_msm, ◌≡◌, ℕ, Bool, true, false, List, [], ◌∷◌, arith, filter, All, Option, Result, Ok, Err, filter_map, cond, option_map_or, All-nil, All-cons, All-append, All-filter, System, Entry, Message, Msm4, Msm5, Msm6, Msm7, entries, MsgFault, message_at, Framed, Heard, inspected, every_channel, seen_in, HeardCell, IsKey, inspected_of, brings_value, is_of_station, valued, valued_of, valued_in, Form}
+use Rattle.rtcm_inspect.proofs.Names.{common_steps, MsmValue, heard_msm, ◌≡◌, ℕ, Bool, true, false, List, [], ◌∷◌, arith, filter, All, Option, Result, Ok, Err, filter_map, cond, option_map_or, All-nil, All-cons, All-append, All-filter, System, Entry, Message, Msm, entries, MsgFault, message_at, Framed, Heard, inspected, every_channel, seen_in, HeardCell, IsKey, inspected_of, brings_value, is_of_station, valued, valued_of, valued_in, Form}
 
 -- what holds for each cell that is seen, holds for those of entries and for those of them that count
 all_seen : (P : HeardCell → Type 0) (form : Form) (system : System) → ((x : HeardCell) → IsKey x × (x.satellite.system ≡ system) → P x) → (es : List Entry) → All P (filter_map (seen_in every_channel form system) es)
@@ -14,10 +13,7 @@ all_valued P wanted m h = by (is_of_station wanted m) where
   by false = All-nil P
 
 all_heard : (m : Message) → All IsKey (inspected m).cells
-all_heard (Msm4 m) = all_seen IsKey forms.Msm4 m.system (λ x h. h.0) (entries (Msm4 m))
-all_heard (Msm5 m) = all_seen IsKey forms.Msm5 m.system (λ x h. h.0) (entries (Msm5 m))
-all_heard (Msm6 m) = all_seen IsKey forms.Msm6 m.system (λ x h. h.0) (entries (Msm6 m))
-all_heard (Msm7 m) = all_seen IsKey forms.Msm7 m.system (λ x h. h.0) (entries (Msm7 m))
+all_heard (Msm m) = all_seen IsKey m.form m.msm.system (λ x h. h.0) (entries (Msm m))
 all_heard other = All-nil IsKey
 
 -- the cells of a message

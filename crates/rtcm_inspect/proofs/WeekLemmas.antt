@@ -1,5 +1,5 @@
 -- The nearest week, and the time of the first MSM.
-use Rattle.rtcm_inspect.proofs.Names.{first_week, is_no_week, of_weeks, ◌≡◌, ◌∙◌, ◌+◌, ◌-◌, ◌*◌, ◌/◌, ◌<◌, ◌≤◌, ◌==◌, ◌&&◌, ◌||◌, ◌++◌, ℕ, Bool, true, false, List, [], ◌∷◌, Option, Some, None, Result, Ok, Err, refl, sym, ap, arith, cons_option, filter_map, nat_lt, option_and_then, if◌then◌else◌, option_or, option_map_or, week, weeks, Framed, message_with, MsmSet, MsgFault, Message, Msm4, Msm5, Msm6, Msm7, GatherSetup, Heard, is_own, is_of_station, Timed, ahead, greatest_time, is_closed, is_past, taken_at, timed_after, first_tow, tow_of, ChannelsValue, every_channel, heard_in, heard_of, IsNearestWeek, IsWeekNear, half_week, first_time}
+use Rattle.rtcm_inspect.proofs.Names.{first_week, is_no_week, of_weeks, ◌≡◌, ◌∙◌, ◌+◌, ◌-◌, ◌*◌, ◌/◌, ◌<◌, ◌≤◌, ◌==◌, ◌&&◌, ◌||◌, ◌++◌, ℕ, Bool, true, false, List, [], ◌∷◌, Option, Some, None, Result, Ok, Err, refl, sym, ap, arith, cons_option, filter_map, nat_lt, option_and_then, if◌then◌else◌, option_or, option_map_or, week, weeks, Framed, message_with, MsmSet, MsgFault, Message, Msm, GatherSetup, Heard, is_own, is_of_station, Timed, ahead, greatest_time, is_closed, is_past, taken_at, timed_after, first_tow, tow_of, ChannelsValue, every_channel, heard_in, heard_of, IsNearestWeek, IsWeekNear, half_week, first_time}
 use Rattle.rtcm_inspect.proofs.FirstLemmas.{or_more, or_none}
 
 -- ---- the nearest week, by its quotient q: n = q * week + r
@@ -46,10 +46,7 @@ no_tow e = cc
 
 -- an MSM has a station
 has_station : (channels : ChannelsValue) (leap : ℕ) (r : Result Message MsgFault) (m : Heard) (tow : ℕ) → heard_of channels leap r ≡ Some m → m.tow ≡ Some tow → (n : ℕ) × (m.station ≡ Some n)
-has_station channels leap (Ok (Msm4 v)) m tow is t = (v.header.station, ap (λ (o : Option Heard). station_in o) (sym is))
-has_station channels leap (Ok (Msm5 v)) m tow is t = (v.header.station, ap (λ (o : Option Heard). station_in o) (sym is))
-has_station channels leap (Ok (Msm6 v)) m tow is t = (v.header.station, ap (λ (o : Option Heard). station_in o) (sym is))
-has_station channels leap (Ok (Msm7 v)) m tow is t = (v.header.station, ap (λ (o : Option Heard). station_in o) (sym is))
+has_station channels leap (Ok (Msm v)) m tow is t = (v.msm.header.station, ap (λ (o : Option Heard). station_in o) (sym is))
 has_station channels leap (Ok other) m tow is t = absurd (let e : m.tow ≡ None = ap (λ (o : Option Heard). tow_in o) (sym is) in no_tow (sym e ∙ t))
 has_station channels leap (Err e) m tow is t = cc
 

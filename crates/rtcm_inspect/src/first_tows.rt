@@ -4,7 +4,7 @@ ghost use Rattle.std.specs.Prelude.{length, option_map};
 ghost use Rattle.std.specs.Option.{option_or};
 ghost use Rattle.gnss_system.specs.Systems.{systems};
 ghost use Rattle.rtcm_msg.specs.Decoding.{message_at};
-ghost use Rattle.rtcm_msg.specs.inner.Views.{formed};
+ghost use Rattle.rtcm_msg.specs.declared.message.Message.TheVariants as messages;
 ghost use Rattle.rtcm_msg.specs.declared.number.Forms.{Forms};
 ghost use Rattle.rtcm_scan.specs.Frames.{Framed};
 ghost use Rattle.obs_epoch.specs.SignalCounts.{is_of_station};
@@ -110,8 +110,8 @@ impl FirstTows {
 
     /// Adds one more MSM.
     pub fn add(&mut self, msm: &MsmView<'_>)
-        ensures { (wanted : Option ℕ) (fs : List Framed) (f : Framed) → message_at f.message ≡ Ok (formed msm.now)
-            → is_of_station wanted (inspected (formed msm.now)) ≡ true → length fs < 2 ^ 56
+        ensures { (wanted : Option ℕ) (fs : List Framed) (f : Framed) → message_at f.message ≡ Ok (messages.Msm msm.now)
+            → is_of_station wanted (inspected (messages.Msm msm.now)) ≡ true → length fs < 2 ^ 56
             → AreTows self.old wanted fs → AreTows self.new wanted (fs ++ f ∷ []) }
     {
         let system = msm.system();

@@ -1,7 +1,7 @@
 //! The channels of GLONASS satellites that a stream has.
 ghost use Rattle.std.specs.Prelude.{◌≡◌, option_to_list};
 ghost use Rattle.rtcm_msg.specs.Channels.{channel_of_1020, sent_channels};
-ghost use Rattle.rtcm_msg.specs.inner.Views.{formed};
+ghost use Rattle.rtcm_msg.specs.declared.message.Message.TheVariants as messages;
 ghost use Rattle.rtcm_inspect.specs.StreamChannels.{with_first, with_sent};
 
 use gnss_obs::{Channels, GREATEST_CHANNEL_NUMBER, GREATEST_SLOT};
@@ -10,7 +10,7 @@ use rtcm_msg::{MsmView, SentChannels, channel_of_1020};
 
 /// Adds the channels that an MSM sends, each if it is the first one of its slot.
 pub fn add_channels(known: &mut Channels, msm: &MsmView<'_>)
-    ensures { known.new ≡ with_sent known.old (sent_channels (formed msm.now)) }
+    ensures { known.new ≡ with_sent known.old (sent_channels (messages.Msm msm.now)) }
 {
     // Those of other systems send none.
     if let System::Glonass = msm.system() {

@@ -1,8 +1,7 @@
 -- No message is longer than 1,023 bytes.
-use Rattle.rtcm_msg.proofs.Names.{ℕ, ◌≡◌, ◌+◌, ◌*◌, ◌/◌, ◌^◌, ◌≤◌, List, [], ◌∷◌, ◌++◌, length, refl, ◌∙◌, arith, lit≤, length-append, count_ones, Option, flat_map, mul-le, ones-le, uint, Message, field_bits, fields_width, total_width, columns, station_fields, MsmValue, IsValue, pair_count, msm_bits, header_fields, mask_fields, IsMessage, message_bits, message_number, satellite_widths, cell_widths, Form, longest_message_bits, length-uint}
+use Rattle.rtcm_msg.proofs.Names.{ℕ, ◌≡◌, ◌+◌, ◌*◌, ◌/◌, ◌^◌, ◌≤◌, List, [], ◌∷◌, ◌++◌, length, refl, ◌∙◌, arith, lit≤, length-append, count_ones, Option, flat_map, mul-le, ones-le, uint, Message, field_bits, fields_width, total_width, columns, station_fields, MsmValue, IsValue, pair_count, msm_bits, header_fields, mask_fields, IsMessage, message_bits, message_number, satellite_widths, cell_widths, longest_message_bits, length-uint}
 use Rattle.rtcm_msg.proofs.FormLaws.{narrow}
 use Rattle.rtcm_msg.specs.declared.message.Message.TheVariants as messages
-use Rattle.rtcm_msg.specs.declared.view.Form.TheVariants as forms
 
 length-field_bits : (fs : List (ℕ × ℕ)) → length (field_bits fs) ≡ fields_width fs
 unfolding field_bits
@@ -28,16 +27,10 @@ msm_short sw cw number v few h =
     rw (length-append (field_bits (header_fields number v.header 0)) (field_bits (mask_fields v.sets) ++ (columns sw v.satellites ++ columns cw v.cells)), length-append (field_bits (mask_fields v.sets)) (columns sw v.satellites ++ columns cw v.cells), length-append (columns sw v.satellites) (columns cw v.cells), head, sets)
     (omega (arith, h.sets.few, satellites, cells, few))
 
-formed_short : (form : Form) (m : MsmValue) → IsValue (satellite_widths form) (cell_widths form) m → length (msm_bits (satellite_widths form) (cell_widths form) (message_number form m.system) m 0) ≤ longest_message_bits
-formed_short form m h = let few = narrow form in msm_short (satellite_widths form) (cell_widths form) (message_number form m.system) m (omega (arith, few.0, few.1)) h
-
 pub message_short : (v : Message) → IsMessage v → length (message_bits v 0) ≤ longest_message_bits
 message_short (messages.Station s) h = rw (length-field_bits (station_fields s 0)) (by_height s.height)
   where
     by_height : (x : Option ℕ) → fields_width (station_fields (record s { height = x }) 0) ≤ longest_message_bits
     by_height x = grind (arith, lit≤)
-message_short (messages.Msm4 m) h = formed_short forms.Msm4 m h
-message_short (messages.Msm5 m) h = formed_short forms.Msm5 m h
-message_short (messages.Msm6 m) h = formed_short forms.Msm6 m h
-message_short (messages.Msm7 m) h = formed_short forms.Msm7 m h
+message_short (messages.Msm m) h = let few = narrow m.form in msm_short (satellite_widths m.form) (cell_widths m.form) (message_number m.form m.msm.system) m.msm (omega (arith, few.0, few.1)) h
 message_short (messages.Other n set) h = lit≤ tt

@@ -1,5 +1,5 @@
 -- Reading a message: the bits that were read, reading an encoding, and the fault.
-use Rattle.rtcm_msg.proofs.Names.{ℕ, ◌≡◌, ◌+◌, ◌==◌, ◌^◌, ◌<◌, ◌≤◌, ◌&&◌, Bool, true, false, List, [], ◌∷◌, ◌++◌, length, drop, Result, Ok, Err, Option, Some, None, refl, sym, ap, subst, ◌∙◌, arith, not, ◌⊎◌, inl, inr, append_assoc, nat_lt, nat_le, if◌then◌else◌, is_some, IsTrue, cases_lt, and_left, and_right, lt-leb, le-leb, lt-ltb, le-ltb, length-drop, System, bits_of, message_at, uint, filled, Cursor, MsgFault, BadTime, TooManyCells, Short, StationParts, Message, ◌>>=◌, field_bits, first_past, total_width, columns, station_at, station_table, station_parts, msm_at, msm_bits, MsmValue, IsValue, is_time, mask_fields, message_by, start, other_at, other_of, set_at, body_by, Kind, kind_of, is_msm_kind, station_number, ReadsMessage, IsMessage, IsFault, message_bits, reserved_width, is_other, is_read_msm, layout, layout_by, has_bad_time, has_too_many, is_bad_time, Form, satellite_widths, cell_widths, message_number, message_in, number_of}
+use Rattle.rtcm_msg.proofs.Names.{ℕ, ◌≡◌, ◌+◌, ◌==◌, ◌^◌, ◌<◌, ◌≤◌, ◌&&◌, Bool, true, false, List, [], ◌∷◌, ◌++◌, length, drop, Result, Ok, Err, Option, Some, None, refl, sym, ap, subst, ◌∙◌, arith, not, ◌⊎◌, inl, inr, append_assoc, nat_lt, nat_le, if◌then◌else◌, is_some, IsTrue, cases_lt, and_left, and_right, lt-leb, le-leb, lt-ltb, le-ltb, length-drop, System, bits_of, message_at, uint, filled, Cursor, MsgFault, BadTime, TooManyCells, Short, StationParts, Message, ◌>>=◌, field_bits, first_past, total_width, columns, station_at, station_table, station_parts, msm_at, MsmValue, is_time, mask_fields, message_by, start, other_at, other_of, set_at, body_by, Kind, kind_of, is_msm_kind, station_number, ReadsMessage, IsMessage, IsFault, message_bits, reserved_width, is_other, is_read_msm, layout, layout_by, has_bad_time, has_too_many, is_bad_time, Form, satellite_widths, cell_widths, message_number, number_of}
 use Rattle.rtcm_msg.proofs.NumberLaws.{number_is, of_station, of_msm}
 use Rattle.rtcm_msg.proofs.Binds.{bind_ok, ok_inj, of_read, number_consumed, number_short, ok_err}
 use Rattle.rtcm_msg.proofs.Combine.{cursor, number_again, past_here, past_next}
@@ -8,7 +8,6 @@ use Rattle.rtcm_msg.proofs.MsmLaws.{msm_consumed, msm_again, msm_tail, header_ta
 use Rattle.rtcm_msg.proofs.FieldLaws.{contents_at, fields_at, cursor_at, field_at, ShortAt, fields_read, number_there_at, short_at_more, short_at_after, past_none}
 use Rattle.rtcm_msg.proofs.FaultLaws.{MsmEnd, no_time, late, no_masks, many, short, good, msm_end, msm_widths, pair_count_of}
 use Rattle.rtcm_msg.specs.declared.message.Message.TheVariants as messages
-use Rattle.rtcm_msg.specs.declared.view.Form.TheVariants as forms
 use Rattle.rtcm_msg.specs.declared.number.Kind.TheVariants as kinds
 
 -- ---- the message number
@@ -36,27 +35,20 @@ again : (bits : List Bool) (n : ℕ) (tail rest : List Bool) → n < 2 ^ 12 → 
 unfolding message_by
 again bits n tail rest small is = rw (is, append_assoc (uint 12 n) tail rest, number_again 12 n 0 (tail ++ rest) small) refl
 
-msm_again_by : (form : Form) (bits rest : List Bool) (m : MsmValue) (reserved : ℕ) → IsValue (satellite_widths form) (cell_widths form) m → reserved < 128
-    → bits ≡ msm_bits (satellite_widths form) (cell_widths form) (message_number form m.system) m reserved ++ rest → message_by kind_of bits ≡ Ok (message_in form m)
-unfolding field_bits
-msm_again_by form bits rest m reserved h small is =
-    let sw = satellite_widths form in
-    let cw = cell_widths form in
-    let n = message_number form m.system in
-    let tail = msm_tail sw cw m reserved in
-    let read = msm_again sw cw m reserved 12 rest h small in
-    again bits n tail rest (of_msm form m.system).1 (is ∙ ap (λ t. t ++ rest) (append_assoc (uint 12 n) (field_bits (header_tail m.header reserved)) (field_bits (mask_fields m.sets) ++ (columns sw m.satellites ++ columns cw m.cells))))
-    ∙ rw ((of_msm form m.system).0, read.1) refl
-
 pub message_again : (bits rest : List Bool) (v : Message) (reserved : ℕ) → IsMessage v → is_other v ≡ false → reserved < 2 ^ reserved_width v → bits ≡ message_bits v reserved ++ rest → message_by kind_of bits ≡ Ok v
 unfolding field_bits
 message_again bits rest (messages.Station s) reserved h known small is =
     let n = station_number (is_some s.height) in
     again bits n (field_bits (station_tail s reserved)) rest (of_station (is_some s.height)).1 is ∙ rw ((of_station (is_some s.height)).0, station_again s reserved 12 rest h small) refl
-message_again bits rest (messages.Msm4 m) reserved h known small is = msm_again_by forms.Msm4 bits rest m reserved h small is
-message_again bits rest (messages.Msm5 m) reserved h known small is = msm_again_by forms.Msm5 bits rest m reserved h small is
-message_again bits rest (messages.Msm6 m) reserved h known small is = msm_again_by forms.Msm6 bits rest m reserved h small is
-message_again bits rest (messages.Msm7 m) reserved h known small is = msm_again_by forms.Msm7 bits rest m reserved h small is
+message_again bits rest (messages.Msm v) reserved h known small is =
+    let sw = satellite_widths v.form in
+    let cw = cell_widths v.form in
+    let m = v.msm in
+    let n = message_number v.form m.system in
+    let tail = msm_tail sw cw m reserved in
+    let read = msm_again sw cw m reserved 12 rest h small in
+    again bits n tail rest (of_msm v.form m.system).1 (is ∙ ap (λ t. t ++ rest) (append_assoc (uint 12 n) (field_bits (header_tail m.header reserved)) (field_bits (mask_fields m.sets) ++ (columns sw m.satellites ++ columns cw m.cells))))
+    ∙ rw ((of_msm v.form m.system).0, read.1) refl
 message_again bits rest (messages.Other n set) reserved h known small is = cc
 
 -- Bits that begin with the encoding of a value are read as the value.
@@ -89,20 +81,13 @@ found_station bits has s d prefix r =
     let number : station_number has ≡ station_number (is_some s.height) = ap station_number (sym r.height) in
     begins bits (messages.Station s) r.reserved d.rest r.in_range refl r.one (with_number bits (station_number (is_some s.height)) (field_bits (station_tail s r.reserved)) d.rest (prefix ∙ ap (λ (n : ℕ). uint 12 n ++ drop 12 bits) number) r.bits)
 
-begins_msm : (form : Form) (bits : List Bool) (m : MsmValue) (reserved : ℕ) (rest : List Bool) → IsValue (satellite_widths form) (cell_widths form) m → reserved < 128
-    → bits ≡ msm_bits (satellite_widths form) (cell_widths form) (message_number form m.system) m reserved ++ rest → Found bits (message_in form m)
-begins_msm forms.Msm4 bits m reserved rest h small is = begins bits (messages.Msm4 m) reserved rest h refl small is
-begins_msm forms.Msm5 bits m reserved rest h small is = begins bits (messages.Msm5 m) reserved rest h refl small is
-begins_msm forms.Msm6 bits m reserved rest h small is = begins bits (messages.Msm6 m) reserved rest h refl small is
-begins_msm forms.Msm7 bits m reserved rest h small is = begins bits (messages.Msm7 m) reserved rest h refl small is
-
-found_msm : (form : Form) (bits : List Bool) (g : System) (m : MsmValue) (d : Cursor) → bits ≡ uint 12 (message_number form g) ++ drop 12 bits → IsMsmRead (satellite_widths form) (cell_widths form) g m (cursor_at bits 12) d → Found bits (message_in form m)
+found_msm : (form : Form) (bits : List Bool) (g : System) (m : MsmValue) (d : Cursor) → bits ≡ uint 12 (message_number form g) ++ drop 12 bits → IsMsmRead (satellite_widths form) (cell_widths form) g m (cursor_at bits 12) d → Found bits (messages.Msm (record { form = form; msm = m }))
 unfolding field_bits
 found_msm form bits g m d prefix r =
     let n = message_number form m.system in
     let content = columns (satellite_widths form) m.satellites ++ columns (cell_widths form) m.cells in
     let number : message_number form g ≡ n = ap (message_number form) (sym r.system) in
-    begins_msm form bits m r.reserved d.rest r.is_value r.small (with_number bits n (msm_tail (satellite_widths form) (cell_widths form) m r.reserved) d.rest (prefix ∙ ap (λ (n : ℕ). uint 12 n ++ drop 12 bits) number) r.bits
+    begins bits (messages.Msm (record { form = form; msm = m })) r.reserved d.rest r.is_value refl r.small (with_number bits n (msm_tail (satellite_widths form) (cell_widths form) m r.reserved) d.rest (prefix ∙ ap (λ (n : ℕ). uint 12 n ++ drop 12 bits) number) r.bits
     ∙ ap (λ (t : List Bool). t ++ d.rest) (sym (append_assoc (uint 12 n) (field_bits (header_tail m.header r.reserved)) (field_bits (mask_fields m.sets) ++ content))))
 
 body_found : (bits : List Bool) (v : Message) → 12 ≤ length bits → (k : Kind) → kind_of (number_of bits) ≡ k → body_by k (number_of bits) (cursor_at bits 12) ≡ Ok v → Found bits v
@@ -112,7 +97,7 @@ body_found bits v h (kinds.Station has) e read =
     of_read (Found bits) x v body.2 (found_station bits has body.0.0 body.0.1 (begins_with_number bits h ∙ ap (λ (k : ℕ). uint 12 k ++ drop 12 bits) (number_is _ _ e)) (station_consumed has (cursor_at bits 12) body.0 body.1))
 body_found bits v h (kinds.Msm form g) e read =
     let body = bind_ok (msm_at (satellite_widths form) (cell_widths form) g (cursor_at bits 12)) _ v read in
-    of_read (Found bits) (message_in form body.0.0) v body.2 (found_msm form bits g body.0.0 body.0.1 (begins_with_number bits h ∙ ap (λ (k : ℕ). uint 12 k ++ drop 12 bits) (number_is _ _ e)) (msm_consumed (satellite_widths form) (cell_widths form) g (cursor_at bits 12) body.0 body.1))
+    of_read (Found bits) (messages.Msm (record { form = form; msm = body.0.0 })) v body.2 (found_msm form bits g body.0.0 body.0.1 (begins_with_number bits h ∙ ap (λ (k : ℕ). uint 12 k ++ drop 12 bits) (number_is _ _ e)) (msm_consumed (satellite_widths form) (cell_widths form) g (cursor_at bits 12) body.0 body.1))
 body_found bits v h kinds.Other e read = grind (arith, ok_inj, other_is)
 
 pub message_found : (bits : List Bool) (v : Message) → message_by kind_of bits ≡ Ok v → Found bits v
@@ -207,7 +192,7 @@ end_by bits h (kinds.Station has) e read =
       | inr fine ↦ sound (messages.Station fine.0.0) (no_fault bits h clean (past_all bits (station_widths ++ height_widths has) h lay fine.2)) (read ∙ rw fine.1 refl)
     ]
 end_by bits h (kinds.Msm form g) e read =
-    msm_message_end (message_in form) h (ap is_msm_kind e) (time_by bits (kinds.Msm form g) e) (ap (λ (k : Kind). layout_by k bits) e) read (msm_end (satellite_widths form) (cell_widths form) g bits h)
+    msm_message_end (λ m. messages.Msm (record { form = form; msm = m })) h (ap is_msm_kind e) (time_by bits (kinds.Msm form g) e) (ap (λ (k : Kind). layout_by k bits) e) read (msm_end (satellite_widths form) (cell_widths form) g bits h)
 end_by bits h kinds.Other e read =
     sound _ (no_fault bits h (no_msm_in_time bits kinds.Other e refl refl) (ap (λ (k : Kind). first_past (length bits) 0 (layout_by k bits)) e)) read
 

@@ -1,5 +1,5 @@
 -- Messages if the MSMs of a set are decoded.
-use Rattle.rtcm_msg.proofs.Names.{ℕ, ◌≡◌, arith, ◌&&◌, ◌≤◌, Bool, true, false, List, length, Ok, Err, refl, sym, ap, ◌∙◌, ◌⊎◌, inl, inr, if◌then◌else◌, cases_lt, bits_of, Message, MsgFault, MsmValue, Kind, MsmSet, kind_of, kind_with, kind_within, message_by, message_at, message_with, body_by, other_of, IsMessage, Form, message_in, satellite_widths, cell_widths, station_at, msm_at, cursor_at, Short, number_of, have_form, whole_set, value_of, is_in_set}
+use Rattle.rtcm_msg.proofs.Names.{ℕ, ◌≡◌, arith, ◌≤◌, Bool, true, false, List, length, Ok, Err, refl, sym, ap, ◌∙◌, ◌⊎◌, inl, inr, if◌then◌else◌, cases_lt, bits_of, Message, MsgFault, Kind, MsmSet, kind_of, kind_with, kind_within, message_by, message_at, message_with, body_by, other_of, IsMessage, satellite_widths, cell_widths, station_at, msm_at, cursor_at, Short, number_of, whole_set, is_in_set}
 use Rattle.rtcm_msg.proofs.Binds.{bind_ok, of_read, ok_err}
 use Rattle.rtcm_msg.proofs.MsmLaws.{msm_consumed}
 use Rattle.rtcm_msg.proofs.MessageLaws.{message_there, message_none, message_found, other_is}
@@ -42,16 +42,13 @@ whole_is bytes = message_known whole_set (bits_of bytes) (all_kept (kind_of (num
 
 -- ---- the messages in a set
 
-in_set : (set : MsmSet) (form : Form) (v : MsmValue) → is_in_set set (message_in form v) ≡ (value_of v.system set.systems && have_form set.forms form)
-in_set set form v = grind arith
-
 -- What a message of this value contains if the MSMs of a set are decoded.
 kind_read : (set : MsmSet) (k : Kind) (bits : List Bool) (m : Message) → body_by k (number_of bits) (cursor_at bits 12) ≡ Ok m → kind_within set k ≡ (if is_in_set set m then k else kinds.Other)
 kind_read set (kinds.Station h) bits m e = let body = bind_ok (station_at h (cursor_at bits 12)) _ m e in of_read (λ m. kinds.Station h ≡ (if is_in_set set m then kinds.Station h else kinds.Other)) (messages.Station body.0.0) m body.2 refl
 kind_read set (kinds.Msm f g) bits m e =
     let body = bind_ok (msm_at (satellite_widths f) (cell_widths f) g (cursor_at bits 12)) _ m e in
     let system = (msm_consumed (satellite_widths f) (cell_widths f) g (cursor_at bits 12) body.0 body.1).system in
-    of_read (λ m. kind_within set (kinds.Msm f g) ≡ (if is_in_set set m then kinds.Msm f g else kinds.Other)) (message_in f body.0.0) m body.2 (rw (in_set set f body.0.0, system) refl)
+    of_read (λ m. kind_within set (kinds.Msm f g) ≡ (if is_in_set set m then kinds.Msm f g else kinds.Other)) (messages.Msm (record { form = f; msm = body.0.0 })) m body.2 (rw system refl)
 kind_read set kinds.Other bits m e = of_read (λ m. kinds.Other ≡ (if is_in_set set m then kinds.Other else kinds.Other)) (messages.Other _ _) m e refl
 
 read_there : (bytes : List ℕ) (m : Message) → message_at bytes ≡ Ok m → 12 ≤ length (bits_of bytes)

@@ -1,5 +1,6 @@
 -- Cells with a value are counted by signal.
-use Rattle.rtcm_msg.proofs.Names.{ℕ, zero, suc, ◌≡◌, ◌≢◌, ◌+◌, ◌-◌, ◌/◌, ◌%◌, ◌==◌, ◌&&◌, ◌||◌, ◌^◌, ◌<◌, ◌≤◌, Bool, true, false, List, [], ◌∷◌, length, get_or, set, map, drop, filter, drop-cons, replicate, refl, sym, ap, ◌∙◌, subst, arith, count_ones, cond, zip, flat_map, list_any, and_right, common_steps, uint, Entry, Pair, Pairs, CellsLeft, Form, MasksValue, MsmValue, ids, chosen, Rising, entries, pair, all_pairs, cell_pairs, pairs_from, pairs_left, cell_pairs_left, ArePairs, AreAll, HasFirst, IndicesAreBelow, entry_in, FormedMsm, formed, has_listed_value, value_count, has_id, entries_left, AreCells, list_any-append}
+use Rattle.rtcm_msg.proofs.Names.{ℕ, zero, suc, ◌≡◌, ◌≢◌, ◌+◌, ◌-◌, ◌/◌, ◌%◌, ◌==◌, ◌&&◌, ◌||◌, ◌^◌, ◌<◌, ◌≤◌, Bool, true, false, List, [], ◌∷◌, length, get_or, set, map, drop, filter, drop-cons, replicate, refl, sym, ap, ◌∙◌, subst, arith, count_ones, cond, zip, flat_map, list_any, and_right, common_steps, uint, Entry, Pair, Pairs, CellsLeft, Form, MasksValue, MsmValue, ids, chosen, Rising, entries, pair, all_pairs, cell_pairs, pairs_from, pairs_left, cell_pairs_left, ArePairs, AreAll, HasFirst, IndicesAreBelow, entry_in, FormedMsm, has_listed_value, value_count, has_id, entries_left, AreCells, list_any-append}
+use Rattle.rtcm_msg.specs.declared.message.Message.TheVariants as messages
 use Rattle.rtcm_msg.proofs.NextLaws.{no_more}
 use Rattle.rtcm_msg.proofs.IdLaws.{ids_rising}
 use Rattle.rtcm_msg.proofs.PairLaws.{found, passed, top_of, ids_split}
@@ -54,14 +55,14 @@ unfolding chosen uint
 none_left v c e = rw e refl
 
 -- The entries of a message, from the pairs that have a cell.
-entries_are : (v : FormedMsm) (ps : List Pair) → ps ≡ cell_pairs v.msm.sets → entries (formed v) ≡ map (entry_in v.form v.msm) (zip ps v.msm.cells)
+entries_are : (v : FormedMsm) (ps : List Pair) → ps ≡ cell_pairs v.msm.sets → entries (messages.Msm v) ≡ map (entry_in v.form v.msm) (zip ps v.msm.cells)
 entries_are v ps e = grind arith
 
-pub few_entries : (v : FormedMsm) (n : ℕ) → n ≡ length v.msm.cells → n ≤ 64 → length (entries (formed v)) ≤ 64
+pub few_entries : (v : FormedMsm) (n : ℕ) → n ≡ length v.msm.cells → n ≤ 64 → length (entries (messages.Msm v)) ≤ 64
 few_entries v n same few = rw (entries_are v _ refl) (let h = no_more (entry_in v.form v.msm) (cell_pairs v.msm.sets) v.msm.cells in omega (arith, same, few, h))
 
 -- Before the first cell all are left.
-pub all_entries : (v : FormedMsm) (c : CellsLeft) → AreAll v.msm.sets c.left c.pairs → c.next ≡ 0 → entries_left v c ≡ entries (formed v)
+pub all_entries : (v : FormedMsm) (c : CellsLeft) → AreAll v.msm.sets c.left c.pairs → c.next ≡ 0 → entries_left v c ≡ entries (messages.Msm v)
 all_entries v c all none = rw none (sym (entries_are v _ all.cells))
 
 pub all_cells : (v : FormedMsm) (c : CellsLeft) (n : ℕ) → AreAll v.msm.sets c.left c.pairs → c.next ≡ 0 → n ≡ length v.msm.cells → n ≡ count_ones v.msm.sets.cells → AreCells v c
@@ -116,7 +117,7 @@ none_of listed g form v (x ∷ xs) [] h = refl
 none_of listed g form v (x ∷ xs) (n ∷ cells) h = grind (arith, common_steps, count_first, and_right, none_of listed g form v xs cells)
 
 -- A signal that is not in the message has no cell.
-pub no_cells : (listed g : ℕ) (v : FormedMsm) → has_id g (ids 32 v.msm.sets.signals) ≡ false → value_count listed g (entries (formed v)) ≡ zero
+pub no_cells : (listed g : ℕ) (v : FormedMsm) → has_id g (ids 32 v.msm.sets.signals) ≡ false → value_count listed g (entries (messages.Msm v)) ≡ zero
 no_cells listed g v h = rw (entries_are v _ refl) (none_of listed g v.form v.msm _ v.msm.cells (chosen_none (is_of g) _ (all_pairs v.msm.sets) (rows_none g (ids 32 v.msm.sets.signals) _ h)))
 
 -- ---- IDs

@@ -1,5 +1,6 @@
 -- The message of a view is the one that `decode` returns.
-use Rattle.rtcm_msg.proofs.Names.{ℕ, ◌≡◌, ◌+◌, ◌*◌, ◌^◌, ◌<◌, ◌≤◌, Bool, List, length, slice_index, Result, Ok, Err, refl, sym, ap, subst, ◌∙◌, arith, replicate, count_ones, System, bits_of, Cursor, MsgFault, MsmHeader, Form, cursor_at, total_width, columns_at, EachBelow, MasksValue, IsHeader, AreMasks, IsValue, header_at, masks_at, msm_at, LastBits, AreLast, rows_at, row_at, end_of_rows, Data, satellite_widths, cell_widths, satellite_rows, cell_rows, message_in, formed_at, AreWithin, AreDataOf, longest_message, length-bits_of}
+use Rattle.rtcm_msg.proofs.Names.{ℕ, ◌≡◌, ◌+◌, ◌*◌, ◌^◌, ◌<◌, ◌≤◌, Bool, List, length, slice_index, Result, Ok, Err, refl, sym, ap, subst, ◌∙◌, arith, replicate, count_ones, System, bits_of, Cursor, MsgFault, MsmHeader, Form, cursor_at, total_width, columns_at, EachBelow, MasksValue, IsHeader, AreMasks, header_at, masks_at, msm_at, LastBits, AreLast, rows_at, row_at, end_of_rows, Data, satellite_widths, cell_widths, satellite_rows, cell_rows, IsMsm, msm_of_parts, formed_at, AreWithin, AreDataOf, longest_message, length-bits_of}
+use Rattle.rtcm_msg.specs.declared.message.Message.TheVariants as messages
 use Rattle.rtcm_msg.proofs.ColumnSteps.{columns_fit}
 use Rattle.rtcm_msg.proofs.RowLaws.{Ends, rows_end, rows_count, end_is, row_is}
 
@@ -87,8 +88,8 @@ row_value {ws} bytes n place i same h there = ap (λ (us : List ℕ). row_at us 
 
 -- A message whose data are within the bits.
 pub record Found (form : Form) (g : System) (bits : List Bool) (c0 : Cursor) (h : MsmHeader) (s : MasksValue) (n place m at : ℕ) : Type 0 where
-  pub read : formed_at form g c0 ≡ Ok (message_in form (record { system = g; header = h; sets = s; satellites = rows_at (satellite_widths form) n bits place; cells = rows_at (cell_widths form) m bits at }))
-  pub value : IsValue (satellite_widths form) (cell_widths form) (record { system = g; header = h; sets = s; satellites = rows_at (satellite_widths form) n bits place; cells = rows_at (cell_widths form) m bits at })
+  pub read : formed_at form g c0 ≡ Ok (messages.Msm (msm_of_parts form g h s (rows_at (satellite_widths form) n bits place) (rows_at (cell_widths form) m bits at)))
+  pub value : IsMsm (msm_of_parts form g h s (rows_at (satellite_widths form) n bits place) (rows_at (cell_widths form) m bits at))
   pub order : place ≤ at
   pub satellites_there : place + n * total_width (satellite_widths form) ≤ length bits
   pub cells_there : at + m * total_width (cell_widths form) ≤ length bits

@@ -15,20 +15,13 @@ use Rattle.rtcm_msg.specs.declared.number.MsmSet.{MsmSet}
 use Rattle.rtcm_msg.specs.Numbers.{kind_of, kind_with}
 use Rattle.gnss_system.specs.declared.system.System.{System}
 use Rattle.rtcm_msg.specs.declared.view.Form.{Form}
-use Rattle.rtcm_msg.specs.declared.view.Form.TheVariants as forms
-use Rattle.rtcm_msg.specs.Msm.{MsmValue, msm_at}
+use Rattle.rtcm_msg.specs.Msm.{msm_at}
 use Rattle.rtcm_msg.specs.Forms.{satellite_widths, cell_widths}
-
-abbrev pub message_in : Form → MsmValue → Message
-message_in forms.Msm4 v = messages.Msm4 v
-message_in forms.Msm5 v = messages.Msm5 v
-message_in forms.Msm6 v = messages.Msm6 v
-message_in forms.Msm7 v = messages.Msm7 v
 
 -- The result of reading after the message number.
 abbrev pub formed_at : Form → System → Cursor → Result Message MsgFault
 formed_at form system c =
-    msm_at (satellite_widths form) (cell_widths form) system c >>= λ m. Ok (message_in form m.0)
+    msm_at (satellite_widths form) (cell_widths form) system c >>= λ m. Ok (messages.Msm (record { form = form; msm = m.0 }))
 
 -- The message numbers of the MSMs of the systems.
 abbrev pub is_any_msm : ℕ → Bool

@@ -5,17 +5,16 @@ use Rattle.rtcm_bits.specs.Bits.{bits_of, filled}
 use Rattle.rtcm_msg.specs.declared.fault.MsgFault.{MsgFault}
 use Rattle.rtcm_msg.specs.declared.fault.MsgFault.TheVariants.{Short, TooManyCells, BadTime}
 use Rattle.rtcm_msg.specs.declared.message.Message.{Message}
-use Rattle.rtcm_msg.specs.declared.message.Message.TheVariants.{Station, Msm4, Msm5, Msm6, Msm7, Other}
+use Rattle.rtcm_msg.specs.declared.message.Message.TheVariants.{Station, Msm, Other}
 use Rattle.rtcm_msg.specs.Messages.{by_message}
 use Rattle.rtcm_msg.specs.Fields.{field_bits, first_past, field_at}
 use Rattle.rtcm_msg.specs.Station.{station_fields, InRange, station_table, height_table}
-use Rattle.rtcm_msg.specs.Msm.{MsmValue, msm_bits, IsValue, is_time, time_table, header_table, mask_table}
+use Rattle.rtcm_msg.specs.Msm.{MsmValue, msm_bits, is_time, time_table, header_table, mask_table}
 use Rattle.rtcm_msg.specs.Msm.{cell_mask_table, satellite_mask_bits, signal_mask_bits, pair_count, most_pairs}
 use Rattle.rtcm_msg.specs.Layout.{widths, number_table}
 use Rattle.rtcm_msg.specs.Decoding.{is_any_msm}
 use Rattle.rtcm_msg.specs.declared.view.Form.{Form}
-use Rattle.rtcm_msg.specs.declared.view.Form.TheVariants as forms
-use Rattle.rtcm_msg.specs.Forms.{satellite_widths, cell_widths}
+use Rattle.rtcm_msg.specs.Forms.{satellite_widths, cell_widths, IsMsm}
 use Rattle.rtcm_msg.specs.declared.number.Kind.{Kind}
 use Rattle.rtcm_msg.specs.declared.number.Kind.TheVariants as kinds
 use Rattle.rtcm_msg.specs.Numbers.{kind_of, message_number}
@@ -23,20 +22,14 @@ use Rattle.rtcm_msg.specs.Numbers.{kind_of, message_number}
 abbrev pub is_other : Message → Bool
 is_other v = by_message (λ s. false) (λ f m. false) (λ n set. true) v
 
--- A value of this form, and its bits.
-abbrev pub IsMsm : Form → MsmValue → Type 0
-IsMsm f m = IsValue (satellite_widths f) (cell_widths f) m
-
+-- The bits of a multiple signal message of this form.
 abbrev pub form_bits : Form → MsmValue → ℕ → List Bool
 form_bits f m reserved = msm_bits (satellite_widths f) (cell_widths f) (message_number f m.system) m reserved
 
 -- A value.
 abbrev pub IsMessage : Message → Type 0
 IsMessage (Station s) = InRange s
-IsMessage (Msm4 m) = IsMsm forms.Msm4 m
-IsMessage (Msm5 m) = IsMsm forms.Msm5 m
-IsMessage (Msm6 m) = IsMsm forms.Msm6 m
-IsMessage (Msm7 m) = IsMsm forms.Msm7 m
+IsMessage (Msm m) = IsMsm m
 IsMessage (Other n set) = Unit {0}
 
 -- The number of reserved bits.

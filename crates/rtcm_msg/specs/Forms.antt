@@ -4,11 +4,14 @@ use Rattle.rtcm_bits.specs.Bits.{FitsInt}
 use Rattle.rtcm_msg.specs.Layout.{Table, Uint, Int, Flag, Contents, widths, ◌▸◌}
 use Rattle.rtcm_msg.specs.Fractions.{scaled, range_joined, rate_joined, invalid_rough_rate, invalid_fine_rate}
 use Rattle.rtcm_msg.specs.Packed.{packed, unpacked}
+use Rattle.rtcm_msg.specs.Msm.{MsmValue, MasksValue, IsValue}
+use Rattle.gnss_system.specs.declared.system.System.{System}
 use Rattle.rtcm_msg.specs.declared.view.Form.{Form}
 use Rattle.rtcm_msg.specs.declared.entry.Entry.{Entry}
 use Rattle.rtcm_msg.specs.declared.pairs.Pair.{Pair}
 use Rattle.rtcm_msg.specs.declared.data.Satellite.{Satellite}
 use Rattle.rtcm_msg.specs.declared.data.Cell.{Cell}
+use Rattle.rtcm_msg.specs.declared.header.MsmHeader.{MsmHeader}
 use Rattle.rtcm_msg.specs.declared.view.Form.TheVariants as forms
 use Rattle.rtcm_msg.specs.Fractions as fractions
 
@@ -206,3 +209,21 @@ entry f pair s c = record {
 -- The number of lock time indicators, DF402 or DF407.
 abbrev pub lock_codes : Form → ℕ
 lock_codes f = 2 ^ (precision (is_fine f)).lock
+
+-- ---- messages
+
+-- A multiple signal message of a form.
+pub record FormedMsm : Type 0 where
+  pub form : Form
+  pub msm : MsmValue
+
+-- A message with these parts.
+abbrev pub msm_of_parts : Form → System → MsmHeader → MasksValue → List ℕ → List ℕ → FormedMsm
+msm_of_parts form system header sets satellites cells = record {
+  form = form;
+  msm = record { system = system; header = header; sets = sets; satellites = satellites; cells = cells };
+}
+
+-- A value whose fields have the widths of its form.
+abbrev pub IsMsm : FormedMsm → Type 0
+IsMsm v = IsValue (satellite_widths v.form) (cell_widths v.form) v.msm

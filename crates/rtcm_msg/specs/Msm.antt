@@ -84,11 +84,6 @@ pub record AreMasks (s : MasksValue) : Type 0 where
   pub few : pair_count s.satellites s.signals ≤ most_pairs
   pub cells : s.cells < 2 ^ pair_count s.satellites s.signals
 
--- A message with these parts.
-abbrev pub msm_of_parts : System → MsmHeader → MasksValue → List ℕ → List ℕ → MsmValue
-msm_of_parts system header sets satellites cells =
-    record { system = system; header = header; sets = sets; satellites = satellites; cells = cells }
-
 -- A value whose fields have these widths.
 pub record IsValue (satellite_widths cell_widths : List ℕ) (v : MsmValue) : Type 0 where
   pub header : IsHeader v.system v.header

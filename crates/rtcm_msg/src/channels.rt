@@ -1,7 +1,7 @@
 //! The frequency channels of GLONASS satellites in messages.
 ghost use Rattle.std.specs.Prelude.{[], ◌≡◌, ◌∷◌, ◌<◌, ◌≤◌, ◌^◌, length, IfSome, IfNone};
 ghost use Rattle.rtcm_msg.specs.Msm.{satellite_mask_bits};
-ghost use Rattle.rtcm_msg.specs.inner.Views.{formed};
+ghost use Rattle.rtcm_msg.specs.declared.message.Message.TheVariants as messages;
 ghost use Rattle.rtcm_msg.specs.Channels as channels;
 
 use crate::field::byte_at;
@@ -44,7 +44,7 @@ impl<'a> MsmView<'a> {
     /// satellite information, DF419. It returns none if the message is of another system, or in a
     /// form without this information: MSM4 or MSM6.
     pub fn sent_channels(&self) -> SentChannels<'_>
-        ensures { result ≡ channels.sent_channels (formed self.now) }
+        ensures { result ≡ channels.sent_channels (messages.Msm self.now) }
     {
         // Brings the number of satellites into the proof.
         let _ = (self.satellites(), self.form());

@@ -6,7 +6,6 @@ ghost use Rattle.rtcm_msg.specs.Forms.{IsSatelliteData, IsCellData, fine_range, 
 ghost use Rattle.rtcm_msg.specs.inner.Forms.{has_range};
 ghost use Rattle.rtcm_msg.specs.Entries.{IsEntry};
 ghost use Rattle.rtcm_msg.specs.Fractions.{range_joined, scaled};
-ghost use Rattle.rtcm_msg.specs.declared.view.Form.{Form};
 
 use crate::data::{
     Cell, INVALID_COARSE_PHASE, INVALID_COARSE_RANGE, INVALID_FINE_PHASE, INVALID_FINE_RANGE,
@@ -57,7 +56,7 @@ impl Form {
     /// Returns the pseudorange in 2^-31 ms: the sum of the rough range and the fine pseudorange.
     /// `None` if either is invalid.
     #[inline(always)]
-    pub(crate) fn range(self, satellite: &Satellite, cell: &Cell) -> Option<i64>
+    pub fn range(self, satellite: &Satellite, cell: &Cell) -> Option<i64>
         ensures value { result ≡ forms.range_of self satellite.now cell.now }
         ensures bound { IsSatelliteData self satellite.now → IsCellData self cell.now
             → IfSome result (λ r. unsigned_abs r ≤ 2 ^ 39) }
@@ -68,7 +67,7 @@ impl Form {
     /// Returns the phase range in 2^-31 ms: the sum of the rough range and the fine phase range.
     /// `None` if either is invalid.
     #[inline(always)]
-    pub(crate) fn phase(self, satellite: &Satellite, cell: &Cell) -> Option<i64>
+    pub fn phase(self, satellite: &Satellite, cell: &Cell) -> Option<i64>
         ensures value { result ≡ forms.phase_of self satellite.now cell.now }
         ensures bound { IsSatelliteData self satellite.now → IsCellData self cell.now
             → IfSome result (λ r. unsigned_abs r ≤ 2 ^ 39) }
@@ -76,15 +75,36 @@ impl Form {
         range_joined(satellite.whole, satellite.fraction, self.fine_phase(cell))
     }
 
+    /// Returns the phase range rate in 0.0001 m/s: the sum of the rough and the fine rate. `None`
+    /// if either is invalid, and in MSM4 and MSM6.
+    pub fn rate(self, satellite: &Satellite, cell: &Cell) -> Option<i32>
+        ensures value { result ≡ forms.rate_of satellite.now cell.now }
+        ensures bound { IsSatelliteData self satellite.now → IsCellData self cell.now
+            → IfSome result (λ r. unsigned_abs r ≤ 10 ^ 8) }
+    {
+        if satellite.rate == INVALID_ROUGH_RATE || cell.rate == INVALID_FINE_RATE {
+            return None;
+        }
+        Some(satellite.rate as i32 * 10000 + cell.rate as i32)
+    }
+
     /// Returns the carrier to noise ratio in 1/16 dB-Hz, DF403 or DF408. `None` if not computed.
     #[inline(always)]
-    pub(crate) fn strength(self, cell: &Cell) -> Option<u16>
+    pub fn strength(self, cell: &Cell) -> Option<u16>
         requires fits { cell.now.strength * (precision (forms.is_fine self)).strength_unit < 2 ^ 16 }
         ensures value { result ≡ forms.strength_of self cell.now }
         ensures bound { IsCellData self cell.now → IfSome result (λ s. s < 2 ^ 10) }
     {
         let unit = if self.is_fine() { 1 } else { 16 };
         (cell.strength != 0).then_some(cell.strength * unit)
+    }
+
+    /// Returns the lock time indicator, DF402 or DF407.
+    pub fn lock_code(self, cell: &Cell) -> u16
+        ensures value { result ≡ cell.now.lock }
+        ensures bound { IsCellData self cell.now → result < forms.lock_codes self }
+    {
+        cell.lock
     }
 
     /// Returns the entry of a cell from its data and those of its satellite.
@@ -100,7 +120,7 @@ impl Form {
             signal: pair.signal,
             range: self.range(satellite, cell),
             phase: self.phase(satellite, cell),
-            rate: rate(satellite, cell),
+            rate: self.rate(satellite, cell),
             strength: self.strength(cell),
             lock: cell.lock,
             half_cycle: cell.half_cycle,
@@ -130,17 +150,4 @@ fn range_joined(whole: u8, fraction: u16, fine: Option<i64>) -> Option<i64>
         return None;
     }
     Some((whole as u64 * (1 << 31) + fraction as u64 * (1 << 21)) as i64 + fine?)
-}
-
-/// Returns the phase range rate in 0.0001 m/s: the sum of the rough and the fine rate. `None` if
-/// either is invalid, and in MSM4 and MSM6.
-pub(crate) fn rate(satellite: &Satellite, cell: &Cell) -> Option<i32>
-    ensures value { result ≡ forms.rate_of satellite.now cell.now }
-    ensures bound { (f : Form) → IsSatelliteData f satellite.now → IsCellData f cell.now
-        → IfSome result (λ r. unsigned_abs r ≤ 10 ^ 8) }
-{
-    if satellite.rate == INVALID_ROUGH_RATE || cell.rate == INVALID_FINE_RATE {
-        return None;
-    }
-    Some(satellite.rate as i32 * 10000 + cell.rate as i32)
 }

@@ -8,11 +8,9 @@ ghost use Rattle.rtcm_msg.specs.declared.message.Message.{Message};
 ghost use Rattle.rtcm_msg.specs.declared.fault.MsgFault.{MsgFault};
 ghost use Rattle.rtcm_msg.specs.inner.Viewed.{viewed_message};
 ghost use Rattle.rtcm_msg.specs.Decoding.{message_at, set_in};
-ghost use Rattle.rtcm_msg.specs.declared.message.Message.TheVariants as messages;
 
 use crate::fault::MsgFault;
 use crate::field::flag_at;
-use crate::grid::{Grid4, Grid5, Grid6, Grid7};
 use crate::msm::{Msm, view_of, write_msm};
 use crate::station::Station;
 use crate::view::{View, look};
@@ -26,14 +24,8 @@ use rtcm_bits::{BitWriter, LONGEST_MESSAGE, number_at};
 pub enum Message {
     /// Message 1005 or 1006.
     Station(Station),
-    /// MSM4, as 1074 of GPS.
-    Msm4(Msm<Grid4>),
-    /// MSM5, as 1075.
-    Msm5(Msm<Grid5>),
-    /// MSM6, as 1076.
-    Msm6(Msm<Grid6>),
-    /// MSM7, as 1077.
-    Msm7(Msm<Grid7>),
+    /// An MSM of one of the forms MSM4 to MSM7, as 1074 to 1077 of GPS.
+    Msm(Msm),
     /// A message of any other number, DF002. For an MSM of any type, MSM1 to MSM7, `set` is its
     /// station, DF003, and its multiple message bit, DF393, if the message contains them.
     Other {
@@ -84,10 +76,7 @@ impl Message {
     {
         match self {
             Message::Station(station) => View::Station(*station),
-            Message::Msm4(msm) => View::Msm(view_of(msm)),
-            Message::Msm5(msm) => View::Msm(view_of(msm)),
-            Message::Msm6(msm) => View::Msm(view_of(msm)),
-            Message::Msm7(msm) => View::Msm(view_of(msm)),
+            Message::Msm(msm) => View::Msm(view_of(msm)),
             &Message::Other { number, set } => View::Other { number, set },
         }
     }
@@ -110,10 +99,7 @@ pub fn encode(message: &Message, bytes: &mut ArrayVec<u8, LONGEST_MESSAGE>)
     let mut writer = BitWriter::new();
     match message {
         Message::Station(station) => write_station(&mut writer, &station.parts()),
-        Message::Msm4(msm) => write_msm(&mut writer, msm),
-        Message::Msm5(msm) => write_msm(&mut writer, msm),
-        Message::Msm6(msm) => write_msm(&mut writer, msm),
-        Message::Msm7(msm) => write_msm(&mut writer, msm),
+        Message::Msm(msm) => write_msm(&mut writer, msm),
         Message::Other { .. } => unreachable!(),
     }
     writer.finish(bytes);

@@ -1,19 +1,18 @@
 //! Values of MSMs, with the fields of each satellite and of each cell packed in one number.
 ghost use Rattle.std.specs.Prelude.{◌≡◌, ◌<◌, ◌^◌, ◌++◌, ◌≤◌, All, map, length, slice_index, count_ones};
 ghost use Rattle.std.specs.Prelude.{Some, None, IfOk, IfErr};
-ghost use Rattle.rtcm_msg.specs.Msm.{IsHeader, msm_bits, msm_of_parts, IsValue, satellite_mask_bits, most_pairs};
-ghost use Rattle.rtcm_msg.specs.Packed.{total_width};
+ghost use Rattle.rtcm_msg.specs.Msm.{IsHeader, satellite_mask_bits, most_pairs};
 ghost use Rattle.rtcm_msg.specs.inner.Refusals.{data_refusal};
 ghost use Rattle.rtcm_msg.specs.Columns.{EachBelow};
-ghost use Rattle.rtcm_msg.specs.Forms.{satellite_widths, cell_widths, IsSatelliteData, IsCellData};
+ghost use Rattle.rtcm_msg.specs.Forms.{IsMsm, IsSatelliteData, IsCellData, msm_of_parts};
 ghost use Rattle.rtcm_msg.specs.Forms.{satellite_number, satellite_data, cell_number, cell_data};
 ghost use Rattle.rtcm_msg.specs.inner.Forms.{satellite_fault, cell_fault};
 ghost use Rattle.rtcm_msg.specs.Numbers.{message_number};
+ghost use Rattle.rtcm_msg.specs.Encoding.{form_bits};
 
 use crate::bounds::HasFields;
 use crate::data::{Cell, Satellite};
 use crate::fault::ValueFault;
-use crate::grid::Grid;
 use crate::header::{MOST_PAIRS, Masks, MsmHeader, header_fault, is_time};
 use crate::number::message_number;
 use crate::view::{Data, Form, MsmView};
@@ -21,12 +20,14 @@ use crate::writing::{write_columns, write_head};
 use arrayvec::ArrayVec;
 use gnss_system::System;
 use rtcm_bits::BitWriter;
-use std::marker::{Model, PhantomData};
+use std::marker::Model;
 
-/// A multiple signal message in the form `G`: a header, the satellites and signals of the masks,
-/// data for each satellite, and a cell for each pair in the cell mask.
+/// A multiple signal message: a form, a header, the satellites and signals of the masks, data for
+/// each satellite, and a cell for each pair in the cell mask.
 #[derive(Drop)]
-pub struct Msm<G: Grid> {
+pub struct Msm {
+    /// The layout and precision.
+    form: Form,
     /// The satellite system.
     system: System,
     /// The header fields.
@@ -37,23 +38,19 @@ pub struct Msm<G: Grid> {
     satellites: ArrayVec<u128, MOST_PAIRS>,
     /// The fields of each cell, packed into one number.
     cells: ArrayVec<u128, MOST_PAIRS>,
-    /// The form.
-    grid: PhantomData<G>,
 }
 
-impl<G: Grid> Model for Msm<G> {
-    ghost use Rattle.rtcm_msg.specs.Msm.{MsmValue, IsValue, msm_of_parts};
-    ghost use Rattle.rtcm_msg.specs.Forms.{satellite_widths, cell_widths};
+impl Model for Msm {
+    ghost use Rattle.rtcm_msg.specs.Forms.{FormedMsm, IsMsm, msm_of_parts};
 
-    ghost Value = { MsmValue };
+    ghost Value = { FormedMsm };
 
-    ghost view = { λ m. msm_of_parts m.system m.header m.masks m.satellites.items m.cells.items };
+    ghost view = { λ m. msm_of_parts m.form m.system m.header m.masks m.satellites.items m.cells.items };
 
-    ghost invariant = { λ m. IsValue (satellite_widths G.form) (cell_widths G.form)
-        (msm_of_parts m.system m.header m.masks m.satellites.items m.cells.items) };
+    ghost invariant = { λ m. IsMsm (msm_of_parts m.form m.system m.header m.masks m.satellites.items m.cells.items) };
 }
 
-impl<G: Grid> Msm<G> {
+impl Msm {
     /// Returns the message with these parts. The satellites are in rising order of their IDs, the
     /// cells in the order of the cell mask.
     ///
@@ -63,18 +60,19 @@ impl<G: Grid> Msm<G> {
     /// of satellites or cells isn't the number in the masks; `OutOfRange` with the first field, in
     /// the order of the layout, that does not fit its bits.
     pub fn new(
+        form: Form,
         system: System,
         header: MsmHeader,
         masks: Masks,
         satellites: &[Satellite],
         cells: &[Cell],
-    ) -> Result<Msm<G>, ValueFault>
+    ) -> Result<Msm, ValueFault>
         ensures refused { IfErr result (λ e. data_refusal system header masks
-            (satellite_fault G.form) satellites.now (cell_fault G.form) cells.now ≡ Some e) }
+            (satellite_fault form) satellites.now (cell_fault form) cells.now ≡ Some e) }
         ensures accepted { IfOk result (λ _. data_refusal system header masks
-            (satellite_fault G.form) satellites.now (cell_fault G.form) cells.now ≡ None) }
-        ensures made { IfOk result (λ m. m ≡ msm_of_parts system header masks
-            (map (satellite_number G.form) satellites.now) (map (cell_number G.form) cells.now)) }
+            (satellite_fault form) satellites.now (cell_fault form) cells.now ≡ None) }
+        ensures made { IfOk result (λ m. m ≡ msm_of_parts form system header masks
+            (map (satellite_number form) satellites.now) (map (cell_number form) cells.now)) }
     {
         if !is_time(system, header.time) {
             return Err(ValueFault::BadTime);
@@ -83,63 +81,69 @@ impl<G: Grid> Msm<G> {
         if satellites.len() != counts.0 as usize || cells.len() != counts.1 as usize {
             return Err(ValueFault::CellCount);
         }
-        let form = G::form();
         let faults = (form.satellite_fault(satellites), form.cell_fault(cells));
         if let Some(field) = header_fault(&header).or(faults.0).or(faults.1) {
             return Err(ValueFault::OutOfRange(field));
         }
         Ok(Msm {
+            form,
             system,
             header,
             masks,
             satellites: pack(form, satellites),
             cells: pack(form, cells),
-            grid: PhantomData,
         })
+    }
+
+    /// Returns the layout and precision.
+    pub fn form(&self) -> Form
+        ensures { result ≡ self.now.form }
+    {
+        self.form
     }
 
     /// Returns the satellite system.
     pub fn system(&self) -> System
-        ensures { result ≡ self.now.system }
+        ensures { result ≡ self.now.msm.system }
     {
         self.system
     }
 
     /// Returns the message number, DF002.
     pub fn number(&self) -> u16
-        ensures value { result ≡ message_number G.form self.now.system }
+        ensures value { result ≡ message_number self.now.form self.now.msm.system }
         ensures bound { result < 2 ^ 12 }
     {
-        message_number(G::form(), self.system)
+        message_number(self.form, self.system)
     }
 
     /// Returns the header fields.
     pub fn header(&self) -> MsmHeader
-        ensures value { result ≡ self.now.header }
-        ensures in_range { IsHeader self.now.system result }
+        ensures value { result ≡ self.now.msm.header }
+        ensures in_range { IsHeader self.now.msm.system result }
     {
         self.header
     }
 
     /// Returns the masks: the satellites, the signals, and the pairs of both that have a cell.
     pub fn masks(&self) -> Masks
-        ensures { result ≡ self.now.sets }
+        ensures { result ≡ self.now.msm.sets }
     {
         self.masks
     }
 
     /// Returns the number of satellites, at most 64.
     pub fn satellites(&self) -> usize
-        ensures count { result ≡ length self.now.satellites }
-        ensures set { result ≡ count_ones self.now.sets.satellites }
+        ensures count { result ≡ length self.now.msm.satellites }
+        ensures set { result ≡ count_ones self.now.msm.sets.satellites }
     {
         self.satellites.len()
     }
 
     /// Returns the number of cells, at most 64.
     pub fn cells(&self) -> usize
-        ensures count { result ≡ length self.now.cells }
-        ensures set { result ≡ count_ones self.now.sets.cells }
+        ensures count { result ≡ length self.now.msm.cells }
+        ensures set { result ≡ count_ones self.now.msm.sets.cells }
     {
         self.cells.len()
     }
@@ -147,30 +151,30 @@ impl<G: Grid> Msm<G> {
     /// Returns the data of satellite `i`, counted from 0 in rising order of the IDs.
     #[tactic(auto, using(crate::proofs::FormLaws::satellite_in_range))]
     pub fn satellite(&self, i: usize) -> Satellite
-        requires { i < length self.now.satellites }
-        ensures value { result ≡ satellite_data G.form (slice_index self.now.satellites i) }
-        ensures in_range { IsSatelliteData G.form result }
+        requires { i < length self.now.msm.satellites }
+        ensures value { result ≡ satellite_data self.now.form (slice_index self.now.msm.satellites i) }
+        ensures in_range { IsSatelliteData self.now.form result }
     {
-        G::form().satellite_of(self.satellites[i] as u64)
+        self.form.satellite_of(self.satellites[i] as u64)
     }
 
     /// Returns the data of cell `i`, counted from 0 in the order of the cell mask.
     #[tactic(auto, using(crate::proofs::FormLaws::cell_in_range))]
     pub fn cell(&self, i: usize) -> Cell
-        requires { i < length self.now.cells }
-        ensures value { result ≡ cell_data G.form (slice_index self.now.cells i) }
-        ensures in_range { IsCellData G.form result }
+        requires { i < length self.now.msm.cells }
+        ensures value { result ≡ cell_data self.now.form (slice_index self.now.msm.cells i) }
+        ensures in_range { IsCellData self.now.form result }
     {
-        G::form().cell_of(self.cells[i])
+        self.form.cell_of(self.cells[i])
     }
 }
 
 /// Returns a view of the message.
-pub(crate) fn view_of<G: Grid>(msm: &Msm<G>) -> MsmView<'_>
-    ensures { result ≡ record { form = G.form; msm = msm.now } }
+pub(crate) fn view_of(msm: &Msm) -> MsmView<'_>
+    ensures { result ≡ msm.now }
 {
     MsmView {
-        form: G::form(),
+        form: msm.form,
         system: msm.system,
         header: msm.header,
         masks: msm.masks,
@@ -180,18 +184,17 @@ pub(crate) fn view_of<G: Grid>(msm: &Msm<G>) -> MsmView<'_>
     }
 }
 
-/// Returns the message of a view in the form `G`.
-pub(crate) fn msm_of<G: Grid>(view: &MsmView<'_>) -> Msm<G>
-    requires { G.form ≡ view.now.form }
-    ensures { result ≡ view.now.msm }
+/// Returns the message of a view.
+pub(crate) fn msm_of(view: &MsmView<'_>) -> Msm
+    ensures { result ≡ view.now }
 {
     Msm {
+        form: view.form(),
         system: view.system,
         header: view.header(),
         masks: view.masks(),
         satellites: satellite_numbers(view),
         cells: cell_numbers(view),
-        grid: PhantomData,
     }
 }
 
@@ -220,13 +223,12 @@ fn cell_numbers(view: &MsmView<'_>) -> ArrayVec<u128, MOST_PAIRS>
 }
 
 /// Writes an MSM with its message number, with reserved bits of zero.
-pub(crate) fn write_msm<G: Grid>(writer: &mut BitWriter, msm: &Msm<G>)
+pub(crate) fn write_msm(writer: &mut BitWriter, msm: &Msm)
     requires { length writer.old ≡ 0 }
-    ensures value { IsValue (satellite_widths G.form) (cell_widths G.form) msm.now }
-    ensures bits { writer.new ≡ writer.old
-        ++ msm_bits (satellite_widths G.form) (cell_widths G.form) (message_number G.form msm.now.system) msm.now 0 }
+    ensures value { IsMsm msm.now }
+    ensures bits { writer.new ≡ writer.old ++ form_bits msm.now.form msm.now.msm 0 }
 {
-    let (satellite_widths, cell_widths) = G::form().widths();
+    let (satellite_widths, cell_widths) = msm.form.widths();
     write_head(writer, msm.number(), &msm.header, &msm.masks);
     write_columns(writer, satellite_widths, msm.satellites.as_slice());
     write_columns(writer, cell_widths, msm.cells.as_slice());

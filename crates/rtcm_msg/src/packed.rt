@@ -16,7 +16,7 @@ use rtcm_bits::{raw_of, signed_of};
 
 impl Form {
     /// Returns a satellite's fields in one number, the first field in the most significant bits.
-    pub(crate) fn satellite_number(self, satellite: &Satellite) -> u64
+    pub fn satellite_number(self, satellite: &Satellite) -> u64
         requires { IsSatelliteData self satellite.now }
         ensures { result ≡ satellite_number self satellite.now }
     {
@@ -31,7 +31,7 @@ impl Form {
     }
 
     /// Returns the satellite whose fields are packed in the number.
-    pub(crate) fn satellite_of(self, number: u64) -> Satellite
+    pub fn satellite_of(self, number: u64) -> Satellite
         requires { number < 2 ^ total_width (forms.satellite_widths self) }
         ensures { result ≡ satellite_data self number }
     {
@@ -53,7 +53,7 @@ impl Form {
     }
 
     /// Returns a cell's fields in one number, the first field in the most significant bits.
-    pub(crate) fn cell_number(self, cell: &Cell) -> u128
+    pub fn cell_number(self, cell: &Cell) -> u128
         requires { IsCellData self cell.now }
         ensures { result ≡ cell_number self cell.now }
     {
@@ -85,7 +85,7 @@ impl Form {
     }
 
     /// Returns the cell whose fields are packed in the number.
-    pub(crate) fn cell_of(self, number: u128) -> Cell
+    pub fn cell_of(self, number: u128) -> Cell
         requires { number < 2 ^ total_width (forms.cell_widths self) }
         ensures { result ≡ cell_data self number }
     {

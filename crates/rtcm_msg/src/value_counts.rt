@@ -4,7 +4,7 @@ ghost use Rattle.std.specs.Prelude.{slice_index, IfSome, IfNone};
 ghost use Rattle.rtcm_msg.specs.Msm.{satellite_mask_bits, signal_mask_bits, most_pairs};
 ghost use Rattle.rtcm_msg.specs.Entries.{entries, entry_in, ids};
 ghost use Rattle.rtcm_msg.specs.inner.Pairs.{HasFirst};
-ghost use Rattle.rtcm_msg.specs.inner.Views as views;
+ghost use Rattle.rtcm_msg.specs.declared.message.Message.TheVariants as messages;
 ghost use Rattle.rtcm_msg.specs.Forms.{satellite_data};
 ghost use Rattle.rtcm_msg.specs.inner.Forms.{form_as};
 ghost use Rattle.rtcm_msg.specs.inner.Presences.{has_rest};
@@ -129,7 +129,7 @@ impl<'a> MsmView<'a> {
         requires form { form_as F ≡ self.now.form }
         ensures signals { result.left ≡ ids signal_mask_bits self.now.msm.sets.signals }
         ensures counts { (i : ℕ) → i < signal_mask_bits
-            → slice_index result.counts i ≡ value_count listed (i + 1) (entries (views.formed self.now)) }
+            → slice_index result.counts i ≡ value_count listed (i + 1) (entries (messages.Msm self.now)) }
         ensures few { AreAtMost most_pairs result.counts }
     {
         // Brings the number of cells into the proof.
@@ -161,11 +161,11 @@ impl<'a> MsmView<'a> {
     pub fn value_counts(&self, listed: u64) -> ValueCounts
         ensures signals { result.left ≡ ids signal_mask_bits self.now.msm.sets.signals }
         ensures counts { (i : ℕ) → i < signal_mask_bits
-            → slice_index result.counts i ≡ value_count listed (i + 1) (entries (views.formed self.now)) }
+            → slice_index result.counts i ≡ value_count listed (i + 1) (entries (messages.Msm self.now)) }
         ensures few { AreAtMost most_pairs result.counts }
         ensures others { (id : ℕ) → has_id id (ids signal_mask_bits self.now.msm.sets.signals) ≡ false
-            → value_count listed id (entries (views.formed self.now)) ≡ 0 }
-        ensures cells { length (entries (views.formed self.now)) ≤ most_pairs }
+            → value_count listed id (entries (messages.Msm self.now)) ≡ 0 }
+        ensures cells { length (entries (messages.Msm self.now)) ≤ most_pairs }
     {
         // Brings the number of cells into the proof.
         let _ = self.cells();

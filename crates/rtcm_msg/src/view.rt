@@ -4,19 +4,19 @@ ghost use Rattle.std.specs.Prelude.{IfOk, IfSome, IfNone};
 ghost use Rattle.rtcm_bits.specs.Bits.{bits_of};
 ghost use Rattle.rtcm_bits.specs.FrameOf.{longest_message};
 ghost use Rattle.rtcm_msg.specs.Fields.{GivesViewed, cursor_at};
-ghost use Rattle.rtcm_msg.specs.Msm.{IsHeader, IsValue, satellite_mask_bits, most_pairs};
+ghost use Rattle.rtcm_msg.specs.Msm.{IsHeader, satellite_mask_bits, most_pairs};
 ghost use Rattle.rtcm_msg.specs.Decoding.{body_by, message_at, message_with};
 ghost use Rattle.rtcm_msg.specs.inner.Viewed.{viewed_message};
 ghost use Rattle.rtcm_msg.specs.Forms as forms;
 ghost use Rattle.rtcm_msg.specs.inner.Forms as inner_forms;
 ghost use Rattle.rtcm_msg.specs.Forms.{lock_codes, satellite_data, satellite_number, cell_data, cell_number};
-ghost use Rattle.rtcm_msg.specs.Forms.{IsSatelliteData, IsCellData};
+ghost use Rattle.rtcm_msg.specs.Forms.{IsMsm, IsSatelliteData, IsCellData};
 ghost use Rattle.rtcm_msg.specs.Numbers.{message_number};
 ghost use Rattle.rtcm_msg.specs.Packed.{total_width};
 ghost use Rattle.rtcm_msg.specs.Entries.{IsEntry, entries, entry_in};
 ghost use Rattle.rtcm_msg.specs.Encoding.{IsMessage};
 ghost use Rattle.rtcm_msg.specs.Decoding as decoding;
-ghost use Rattle.rtcm_msg.specs.inner.Views as views;
+ghost use Rattle.rtcm_msg.specs.declared.message.Message.TheVariants as messages;
 
 use crate::data::{Cell, Satellite};
 use crate::entry::Entry;
@@ -108,31 +108,16 @@ pub struct MsmView<'a> {
 }
 
 impl<'a> Model for MsmView<'a> {
-    ghost use Rattle.rtcm_msg.specs.inner.Views.{FormedMsm, AreDataOf, satellite_rows, cell_rows};
-    ghost use Rattle.rtcm_msg.specs.Forms.{satellite_widths, cell_widths};
-    ghost use Rattle.rtcm_msg.specs.Msm.{IsValue};
+    ghost use Rattle.rtcm_msg.specs.inner.Views.{AreDataOf, satellite_rows, cell_rows};
+    ghost use Rattle.rtcm_msg.specs.Forms.{FormedMsm, IsMsm, msm_of_parts};
 
     ghost Value = { FormedMsm };
 
-    ghost view = { λ v. record {
-      form = v.form;
-      msm = record {
-        system = v.system;
-        header = v.header;
-        sets = v.masks;
-        satellites = satellite_rows v.form v.satellites v.rows;
-        cells = cell_rows v.form v.cells v.rows;
-      };
-    } };
+    ghost view = { λ v. msm_of_parts v.form v.system v.header v.masks
+        (satellite_rows v.form v.satellites v.rows) (cell_rows v.form v.cells v.rows) };
 
-    ghost invariant = { λ v. IsValue (satellite_widths v.form) (cell_widths v.form)
-        (record {
-          system = v.system;
-          header = v.header;
-          sets = v.masks;
-          satellites = satellite_rows v.form v.satellites v.rows;
-          cells = cell_rows v.form v.cells v.rows;
-        })
+    ghost invariant = { λ v. IsMsm (msm_of_parts v.form v.system v.header v.masks
+        (satellite_rows v.form v.satellites v.rows) (cell_rows v.form v.cells v.rows))
         × AreDataOf v.form v.satellites v.cells v.rows };
 }
 
@@ -140,7 +125,7 @@ impl<'a> MsmView<'a> {
     /// Returns the layout and precision.
     pub fn form(&self) -> Form
         ensures form { result ≡ self.now.form }
-        ensures value { IsValue (forms.satellite_widths self.now.form) (forms.cell_widths self.now.form) self.now.msm }
+        ensures value { IsMsm self.now }
     {
         self.form
     }
@@ -258,7 +243,7 @@ impl<'a> MsmView<'a> {
 
     /// Returns an iterator over the cells, in the order of the cell mask.
     pub fn entries(&self) -> Entries<'_>
-        ensures all { result ≡ record { form = self.now.form; left = entries (views.formed self.now) } }
+        ensures all { result ≡ record { form = self.now.form; left = entries (messages.Msm self.now) } }
         ensures few { length result.left ≤ most_pairs }
     {
         // Brings the number of cells into the proof.
@@ -363,12 +348,7 @@ impl<'a> View<'a> {
     {
         match self {
             View::Station(station) => Message::Station(station),
-            View::Msm(msm) => match msm.form() {
-                Form::Msm4 => Message::Msm4(msm_of(&msm)),
-                Form::Msm5 => Message::Msm5(msm_of(&msm)),
-                Form::Msm6 => Message::Msm6(msm_of(&msm)),
-                Form::Msm7 => Message::Msm7(msm_of(&msm)),
-            },
+            View::Msm(msm) => Message::Msm(msm_of(&msm)),
             View::Other { number, set } => Message::Other { number, set },
         }
     }

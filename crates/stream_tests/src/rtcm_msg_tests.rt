@@ -13,8 +13,8 @@ use arrayvec::ArrayVec;
 use gnss_system::System;
 use known::{Known, bytes_of};
 use rtcm_msg::{
-    Cell, Entry, Form, Grid7, Message, MsgFault, Msm, MsmHeader, MsmView, Satellite, StationParts,
-    View, decode, encode, look,
+    Cell, Entry, Form, Message, MsgFault, Msm, MsmHeader, MsmView, Satellite, StationParts, View,
+    decode, encode, look,
 };
 use std::test::*;
 
@@ -208,10 +208,11 @@ static HEADS: [(Sent, Form, u16, System); 5] = [
     ),
 ];
 
-/// Whether a message of a fine grid has this number, the known header, and the known data of its
+/// Whether a message is an MSM7 that has this number, the known header, and the known data of its
 /// first satellite and cell, and is of this system.
-fn is_known(msm: &Msm<Grid7>, number: u16, system: System) -> bool {
-    msm.number() == number
+fn is_known(msm: &Msm, number: u16, system: System) -> bool {
+    msm.form() == Form::Msm7
+        && msm.number() == number
         && msm.system() == system
         && msm.header() == HEAD
         && msm.satellites() > 0
@@ -223,7 +224,7 @@ fn is_known(msm: &Msm<Grid7>, number: u16, system: System) -> bool {
 fn have_data() -> bool {
     for (sent, _, number, system) in &HEADS[..2] {
         match &decode(sent.bytes().as_slice()) {
-            Ok(Message::Msm7(msm)) if is_known(msm, *number, *system) => {}
+            Ok(Message::Msm(msm)) if is_known(msm, *number, *system) => {}
             _ => return false,
         }
     }

@@ -9,7 +9,7 @@ use Rattle.rtcm_msg.specs.Msm.{signal_mask_bits, satellite_mask_bits}
 use Rattle.rtcm_msg.specs.inner.Pairs.{cell_pairs_left, AreLeft}
 use Rattle.rtcm_msg.specs.inner.Presences.{has_value}
 use Rattle.rtcm_msg.specs.Entries.{entry_in}
-use Rattle.rtcm_msg.specs.inner.Views.{FormedMsm}
+use Rattle.rtcm_msg.specs.Forms.{FormedMsm}
 
 -- The satellite is in the set, whose most significant of 64 bits is ID 1.
 abbrev pub is_in : ℕ → ℕ → Bool

@@ -7,12 +7,11 @@ use Rattle.rtcm_msg.specs.declared.view.View.TheVariants as views
 use Rattle.rtcm_msg.specs.declared.view.Form.{Form}
 use Rattle.rtcm_msg.specs.declared.entry.Entry.{Entry}
 use Rattle.rtcm_msg.specs.declared.data.Satellite.{Satellite}
-use Rattle.rtcm_msg.specs.inner.Views.{formed}
 use Rattle.rtcm_msg.specs.Forms.{satellite_data}
 
 abbrev pub viewed_message : View → Message
 viewed_message (views.Station s) = messages.Station s
-viewed_message (views.Msm m) = formed m
+viewed_message (views.Msm m) = messages.Msm m
 viewed_message (views.Other number set) = messages.Other number set
 
 -- The cached data are those of the satellite at an index, if there is one.

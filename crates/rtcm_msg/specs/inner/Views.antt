@@ -1,6 +1,5 @@
 -- Messages that are read from their bytes.
 use Rattle.std.specs.Prelude.{◌≡◌, ℕ, ◌+◌, ◌*◌, ◌≤◌, List, length}
-use Rattle.rtcm_msg.specs.declared.message.Message.{Message}
 use Rattle.rtcm_msg.specs.declared.view.Form.{Form}
 use Rattle.rtcm_msg.specs.declared.view.Data.{Data}
 use Rattle.rtcm_msg.specs.declared.view.Data.TheVariants as datas
@@ -9,19 +8,9 @@ use Rattle.rtcm_msg.specs.inner.LastBits.{AreLast}
 use Rattle.rtcm_msg.specs.inner.Rows.{rows_at}
 use Rattle.rtcm_bits.specs.Bits.{bits_of}
 use Rattle.rtcm_bits.specs.FrameOf.{longest_message}
-use Rattle.rtcm_msg.specs.Msm.{MsmValue, satellite_mask_bits, most_pairs}
+use Rattle.rtcm_msg.specs.Msm.{satellite_mask_bits, most_pairs}
 use Rattle.rtcm_msg.specs.Packed.{total_width}
 use Rattle.rtcm_msg.specs.Forms.{satellite_widths, cell_widths}
-use Rattle.rtcm_msg.specs.Decoding.{message_in}
-
--- ---- a multiple signal message of a form
-
-pub record FormedMsm : Type 0 where
-  pub form : Form
-  pub msm : MsmValue
-
-abbrev pub formed : FormedMsm → Message
-formed m = message_in m.form m.msm
 
 -- The data of n satellites or cells, the fields of each packed in one number.
 abbrev pub satellite_rows : Form → ℕ → Data → List ℕ

@@ -1,7 +1,7 @@
 //! The messages of the tests of a gatherer.
 use gnss_system::System;
 use rtcm_msg::{
-    Cell, INVALID_FINE_RATE, INVALID_ROUGH_RATE, Masks, Message, Msm, MsmHeader, Satellite,
+    Cell, Form, INVALID_FINE_RATE, INVALID_ROUGH_RATE, Masks, Message, Msm, MsmHeader, Satellite,
     Station, StationParts,
 };
 
@@ -104,8 +104,15 @@ fn long(system: System, header: MsmHeader, satellites: u64, signals: u32, lock: 
         strength: 721,
         rate: 0,
     }; 64];
-    match Msm::new(system, header, masks, satellites, &data[..cells]) {
-        Ok(msm) => Message::Msm7(msm),
+    match Msm::new(
+        Form::Msm7,
+        system,
+        header,
+        masks,
+        satellites,
+        &data[..cells],
+    ) {
+        Ok(msm) => Message::Msm(msm),
         Err(_) => nothing(),
     }
 }
@@ -130,8 +137,8 @@ fn short(header: MsmHeader, has_phase: bool, lock: u16, half_cycle: bool) -> Mes
     let Ok(masks) = Masks::new(1 << 59, 1 << 30, 1) else {
         return nothing();
     };
-    match Msm::new(System::Gps, header, masks, &COARSE, &[cell]) {
-        Ok(msm) => Message::Msm4(msm),
+    match Msm::new(Form::Msm4, System::Gps, header, masks, &COARSE, &[cell]) {
+        Ok(msm) => Message::Msm(msm),
         Err(_) => nothing(),
     }
 }

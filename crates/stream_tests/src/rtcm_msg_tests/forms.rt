@@ -5,24 +5,23 @@ use super::{HEADER, is_written_back};
 use arrayvec::ArrayVec;
 use gnss_system::System;
 use rtcm_msg::{
-    Cell, Entry, Field, Form, Forms, Grid, Grid4, Grid5, Grid6, Grid7, INVALID_FINE_RATE,
-    INVALID_ROUGH_RATE, Masks, Message, Msm, MsmSet, Satellite, ValueFault, View, decode, encode,
-    look, look_in,
+    Cell, Entry, Field, Form, Forms, INVALID_FINE_RATE, INVALID_ROUGH_RATE, Masks, Message, Msm,
+    MsmSet, Satellite, ValueFault, View, decode, encode, look, look_in,
 };
 use std::test::*;
 
 /// Whether a form refuses the field of one satellite and one cell, if it does.
-fn refuses<G: Grid>(satellite: Satellite, cell: Cell, field: Field, refused: bool) -> bool {
+fn refuses(form: Form, satellite: Satellite, cell: Cell, field: Field, refused: bool) -> bool {
     let want = if refused {
         Some(ValueFault::OutOfRange(field))
     } else {
         None
     };
-    msm_fault::<G>(1000, &[satellite], &[cell]) == want
+    msm_fault(form, 1000, &[satellite], &[cell]) == want
 }
 
 /// Whether a form refuses exactly the fields that it lacks, or that are wider in another one.
-fn has_fields<G: Grid>(fine: bool, rates: bool) -> bool {
+fn has_fields(form: Form, fine: bool, rates: bool) -> bool {
     let (satellite, cell) = (COARSE_SATELLITE, COARSE_CELL);
     let range = Cell {
         range: 1 << 14,
@@ -46,20 +45,20 @@ fn has_fields<G: Grid>(fine: bool, rates: bool) -> bool {
         rate: 0,
         ..satellite
     };
-    refuses::<G>(satellite, cell, Field::Lock, false)
-        && refuses::<G>(satellite, range, Field::FineRange, !fine)
-        && refuses::<G>(satellite, phase, Field::FinePhase, !fine)
-        && refuses::<G>(satellite, lock, Field::Lock, !fine)
-        && refuses::<G>(satellite, strength, Field::Strength, !fine)
-        && refuses::<G>(satellite, rate, Field::FineRate, !rates)
-        && refuses::<G>(extended, cell, Field::Extended, !rates)
-        && refuses::<G>(rough, cell, Field::RoughRate, !rates)
+    refuses(form, satellite, cell, Field::Lock, false)
+        && refuses(form, satellite, range, Field::FineRange, !fine)
+        && refuses(form, satellite, phase, Field::FinePhase, !fine)
+        && refuses(form, satellite, lock, Field::Lock, !fine)
+        && refuses(form, satellite, strength, Field::Strength, !fine)
+        && refuses(form, satellite, rate, Field::FineRate, !rates)
+        && refuses(form, extended, cell, Field::Extended, !rates)
+        && refuses(form, rough, cell, Field::RoughRate, !rates)
 }
 
 #[test]
 fn a_form_has_its_fields(rt: HostRuntime) {
-    assert!(rt; has_fields::<Grid4>(false, false) && has_fields::<Grid5>(false, true));
-    assert!(rt; has_fields::<Grid6>(true, false) && has_fields::<Grid7>(true, true));
+    assert!(rt; has_fields(Form::Msm4, false, false) && has_fields(Form::Msm5, false, true));
+    assert!(rt; has_fields(Form::Msm6, true, false) && has_fields(Form::Msm7, true, true));
 }
 
 /// Writes a message of a system and a form of these masks and data.
@@ -74,14 +73,8 @@ pub fn write(
     let Ok(masks) = Masks::new(masks.0, masks.1, masks.2) else {
         return;
     };
-    let made = match form {
-        Form::Msm4 => Msm::new(system, HEADER, masks, satellites, cells).map(|m| Message::Msm4(m)),
-        Form::Msm5 => Msm::new(system, HEADER, masks, satellites, cells).map(|m| Message::Msm5(m)),
-        Form::Msm6 => Msm::new(system, HEADER, masks, satellites, cells).map(|m| Message::Msm6(m)),
-        Form::Msm7 => Msm::new(system, HEADER, masks, satellites, cells).map(|m| Message::Msm7(m)),
-    };
-    if let Ok(message) = made {
-        encode(&message, bytes);
+    if let Ok(msm) = Msm::new(form, system, HEADER, masks, satellites, cells) {
+        encode(&Message::Msm(msm), bytes);
     }
 }
 
@@ -342,8 +335,7 @@ fn is_extended(message: Known, extended: u8) -> bool {
         _ => None,
     };
     let read = match decode(bytes.as_slice()) {
-        Ok(Message::Msm5(msm)) if msm.satellites() > 0 => msm.satellite(0).extended,
-        Ok(Message::Msm7(msm)) if msm.satellites() > 0 => msm.satellite(0).extended,
+        Ok(Message::Msm(msm)) if msm.satellites() > 0 => msm.satellite(0).extended,
         _ => 255,
     };
     read == extended && before.is_some() && before == after && is_written_back(bytes.as_slice())

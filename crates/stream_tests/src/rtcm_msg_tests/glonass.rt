@@ -5,8 +5,8 @@ use super::{CELL, HEADER, SATELLITE, is_written_back};
 use arrayvec::ArrayVec;
 use gnss_system::System;
 use rtcm_msg::{
-    Form, Grid7, INVALID_ROUGH_RATE, Masks, Message, MsgFault, Msm, MsmHeader, Satellite,
-    ValueFault, View, channel_of_1020, decode, look,
+    Form, INVALID_ROUGH_RATE, Masks, Message, MsgFault, Msm, MsmHeader, Satellite, ValueFault,
+    View, channel_of_1020, decode, look,
 };
 use std::test::*;
 
@@ -45,7 +45,7 @@ fn is_read(bytes: &[u8], time: u32) -> bool {
         return false;
     }
     match view.message() {
-        Message::Msm7(msm) => msm.number() == 1087 && is_written_back(bytes),
+        Message::Msm(msm) => msm.number() == 1087 && is_written_back(bytes),
         _ => false,
     }
 }
@@ -59,7 +59,7 @@ fn is_refused(bytes: &[u8]) -> bool {
 fn fault_of(system: System, time: u32) -> Option<ValueFault> {
     let header = MsmHeader { time, ..HEADER };
     match Masks::new(1 << 59, 1 << 30, 1) {
-        Ok(masks) => Msm::<Grid7>::new(system, header, masks, &[SATELLITE], &[CELL]).err(),
+        Ok(masks) => Msm::new(Form::Msm7, system, header, masks, &[SATELLITE], &[CELL]).err(),
         Err(_) => None,
     }
 }

@@ -5,8 +5,8 @@ use super::{CELL, HEADER, SATELLITE, STATION_PARTS};
 use arrayvec::ArrayVec;
 use gnss_system::System;
 use rtcm_msg::{
-    Cell, Field, Form, Grid, Grid4, Grid7, INVALID_FINE_RATE, INVALID_ROUGH_RATE, Masks, Msm,
-    MsmHeader, Satellite, Station, StationParts, ValueFault, View, look,
+    Cell, Field, Form, INVALID_FINE_RATE, INVALID_ROUGH_RATE, Masks, Msm, MsmHeader, Satellite,
+    Station, StationParts, ValueFault, View, look,
 };
 use std::test::*;
 
@@ -64,7 +64,8 @@ fn masks_are_judged(rt: HostRuntime) {
 }
 
 /// The fault of these parts of a message whose masks have one satellite and one cell.
-pub fn msm_fault<G: Grid>(
+pub fn msm_fault(
+    form: Form,
     time: u32,
     satellites: &[Satellite],
     cells: &[Cell],
@@ -72,7 +73,7 @@ pub fn msm_fault<G: Grid>(
     let header = MsmHeader { time, ..HEADER };
     // satellite 5 and signal 2
     match Masks::new(1 << 59, 1 << 30, 1) {
-        Ok(masks) => Msm::<G>::new(System::Gps, header, masks, satellites, cells).err(),
+        Ok(masks) => Msm::new(form, System::Gps, header, masks, satellites, cells).err(),
         Err(_) => None,
     }
 }
@@ -103,9 +104,9 @@ pub const COARSE_CELL: Cell = Cell {
     rate: INVALID_FINE_RATE,
 };
 
-/// Whether the fault is this one, of a message of a fine grid with the data of one satellite.
+/// Whether the fault is this one, of an MSM7 with the data of one satellite.
 fn has_fault(time: u32, cells: &[Cell], fault: ValueFault) -> bool {
-    msm_fault::<Grid7>(time, &[SATELLITE], cells) == Some(fault)
+    msm_fault(Form::Msm7, time, &[SATELLITE], cells) == Some(fault)
 }
 
 #[test]
@@ -118,7 +119,7 @@ fn parts_are_judged(rt: HostRuntime) {
         lock: 16,
         ..COARSE_CELL
     };
-    let coarse = msm_fault::<Grid4>(1000, &[far], &[long]);
+    let coarse = msm_fault(Form::Msm4, 1000, &[far], &[long]);
     assert!(rt;
         has_fault(604_800_000, &[], ValueFault::BadTime)
             && has_fault(1000, &[], ValueFault::CellCount)

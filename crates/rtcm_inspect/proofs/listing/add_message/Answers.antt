@@ -1,5 +1,5 @@
-use Rattle.rtcm_inspect.proofs.Names.{arith, common_steps, add_word, end_line, ◌∙◌, ◌++◌, ap, sym, append-nil, ℕ, List, framed, viewed_message, formed, Station, Other, station_line, fault_line}
-use Rattle.rtcm_inspect.proofs.ShowLemmas.{shown, shown_value, shown_msm}
+use Rattle.rtcm_inspect.proofs.Names.{arith, common_steps, add_word, end_line, ◌∙◌, ◌++◌, ap, sym, append-nil, ℕ, List, framed, viewed_message, Msm, Station, Other, station_line, fault_line}
+use Rattle.rtcm_inspect.proofs.ShowLemmas.{shown, shown_value}
 use Rattle.rtcm_inspect.proofs.listing.add_message.Goals as goal
 
 pub returns-in-Station : goal.returns-in-Station
@@ -15,7 +15,7 @@ returns-in-Msm c =
     let f = framed c.args.frame.now in
     c.add_msm.ensures
     ∙ ap (λ (l : List ℕ). c.args.line.now ++ l)
-    (sym (shown_value c.args.all f (viewed_message c.in-Ok.view) (formed c.in-Msm.msm) c.as_slice-message.ensures.value c.in-Ok.ensures (ap viewed_message c.in-Msm.is) ∙ shown_msm f c.in-Msm.msm))
+    (sym (shown_value c.args.all f (viewed_message c.in-Ok.view) (Msm c.in-Msm.msm) c.as_slice-message.ensures.value c.in-Ok.ensures (ap viewed_message c.in-Msm.is)))
 
 pub returns-in-Other : goal.returns-in-Other
 returns-in-Other c =

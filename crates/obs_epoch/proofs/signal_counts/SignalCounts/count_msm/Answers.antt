@@ -1,4 +1,4 @@
-use Rattle.obs_epoch.proofs.Names.{◌≡◌, ◌+◌, ◌<◌, ◌≤◌, ◌++◌, length, HeardCell, AreSignalCounts, arith, false, refl, rules, ℕ, ◌-◌, ◌∙◌, List, get_or, nat_lt, ap, sym, subst, ids_within, entries, formed, value_count, satellite_set, has_id, id_of, signal_in, SignalAt, IsSignal, is_system}
+use Rattle.obs_epoch.proofs.Names.{◌≡◌, ◌+◌, ◌<◌, ◌≤◌, ◌++◌, length, HeardCell, AreSignalCounts, arith, false, refl, rules, ℕ, ◌-◌, ◌∙◌, List, get_or, nat_lt, ap, sym, subst, ids_within, entries, Msm, value_count, satellite_set, has_id, id_of, signal_in, SignalAt, IsSignal, is_system}
 use Rattle.obs_epoch.proofs.SignalCountsLemmas.{few_valued}
 use Rattle.obs_epoch.proofs.SignalNumbers.{number, number_none, Adds, IsAny, adds_some, adds_none, any_some, any_same, all_any, finished, valued_msm}
 use Rattle.obs_epoch.proofs.signal_counts.SignalCounts.count_msm.Goals as goal
@@ -8,7 +8,7 @@ loop-id-init c =
     let system = c.system-system.result in
     let left = c.value_counts-counts.result.left in
     let counts = c.value_counts-counts.result.counts in
-    let es = entries (formed c.args.msm.now) in
+    let es = entries (Msm c.args.msm.now) in
     let numbers : (i : ℕ) → i < 32 → get_or counts i 0 ≡ value_count (satellite_set system) (i + 1) es = search rules in
     let others : (id : ℕ) → has_id id left ≡ false → value_count (satellite_set system) id es ≡ 0 = search rules in
     let zero : (r : SignalAt) → IsSignal r → number system left counts r ≡ 0 = λ r listed.
@@ -51,7 +51,7 @@ loop-id-preserved c =
 pub returns-clause-counts : goal.returns-clause-counts
 returns-clause-counts c =
     let v = c.args.msm.now in
-    let es = entries (formed v) in
+    let es = entries (Msm v) in
     let same = sym (valued_msm v c.system-system.ensures) in
     record {
       counts = λ cells few h. subst (λ (l : List HeardCell). AreSignalCounts c.loop-id.self (cells ++ l)) same
@@ -62,4 +62,4 @@ returns-clause-counts c =
 pub returns-clause-any : goal.returns-clause-any
 returns-clause-any c =
     let v = c.args.msm.now in
-    all_any c.system-system.result _ _ v.form (entries (formed v)) c.in_default.ensures.none c.loop-id.invariant.numbers _ c.loop-id.invariant.any ∙ ap (λ (l : List HeardCell). nat_lt 0 (length l)) (sym (valued_msm v c.system-system.ensures))
+    all_any c.system-system.result _ _ v.form (entries (Msm v)) c.in_default.ensures.none c.loop-id.invariant.numbers _ c.loop-id.invariant.any ∙ ap (λ (l : List HeardCell). nat_lt 0 (length l)) (sym (valued_msm v c.system-system.ensures))

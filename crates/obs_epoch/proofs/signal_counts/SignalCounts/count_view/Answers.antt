@@ -1,7 +1,6 @@
 use Rattle.obs_epoch.proofs.Names.{arith, common_steps}
 use Rattle.obs_epoch.proofs.SignalCountsLemmas.{own_counted}
-use Rattle.obs_epoch.proofs.ViewLemmas.{heard_formed}
 use Rattle.obs_epoch.proofs.signal_counts.SignalCounts.count_view.Goals as goal
 
 pub returns-then-unwrap_or-own : goal.returns-then-unwrap_or-own
-returns-then-unwrap_or-own c = grind (arith, common_steps, heard_formed, own_counted)
+returns-then-unwrap_or-own c = grind (arith, common_steps, own_counted)

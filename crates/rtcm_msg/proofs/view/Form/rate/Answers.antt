@@ -1,7 +1,7 @@
 use Rattle.rtcm_msg.proofs.Names.{common_steps, ℤ, pos, ◌≡◌, ◌*ℤ◌, ◌+ℤ◌, arith, w16, w32, to_z, of_z, FitsSigned, lit≤, ints, to_z-of_z}
 use Rattle.rtcm_msg.proofs.BoundsLaws.{rough_rate_small, fine_rate_small}
 use Rattle.rtcm_msg.proofs.SignedLaws.{wider}
-use Rattle.rtcm_msg.proofs.meaning.rate.Goals as goal
+use Rattle.rtcm_msg.proofs.view.Form.rate.Goals as goal
 
 product_fits : (s : ℤ) → FitsSigned w16 s → FitsSigned w32 (s *ℤ pos 10000)
 product_fits s f = omega (arith, ints, f)
