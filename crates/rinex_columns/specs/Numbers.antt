@@ -1,12 +1,17 @@
 -- Numbers of fixed width, as in the columns of a line.
-use Rattle.std.specs.Prelude.{ℕ, ℤ, ◌-◌, ◌/◌, ◌%◌, ◌^◌, List, ◌∷◌, ◌++◌, length, flat_map, replicate, decimal}
-use Rattle.std.specs.Prelude.{unsigned_abs}
+use Rattle.std.specs.Prelude.{◌≡◌, ℕ, ℤ, ◌+◌, ◌-◌, ◌/◌, ◌%◌, ◌^◌, ◌≤◌, List, ◌∷◌, ◌++◌, length, flat_map, replicate}
+use Rattle.std.specs.Prelude.{decimal, unsigned_abs}
 use Rattle.std.specs.Int.{is_negative}
 use Rattle.std.specs.Fmt.{sign_text}
 
 -- fields, one after the other; lines, one after the other
 abbrev pub joined : List (List ℕ) → List ℕ
 joined parts = flat_map (λ part. part) parts
+
+-- this text, of at most this number of bytes, was appended
+pub record Adds (added : List ℕ) (most : ℕ) (old new : List ℕ) : Type 0 where
+  pub text : new ≡ old ++ added
+  pub size : length new ≤ length old + most
 
 -- a text left-aligned in its columns, with blanks after
 abbrev pub left : ℕ → List ℕ → List ℕ

@@ -1,6 +1,6 @@
 //! The lists of a header, which have as many lines as they need: RINEX 3.05, table A2,
 //! "SYS / # / OBS TYPES" and "GLONASS SLOT / FRQ #".
-ghost use Rattle.std.specs.Prelude.{◌≡◌, ◌+◌, ◌*◌, ◌≤◌, ◌<◌, ◌++◌, ◌∷◌, codes, length, flat_map, take, drop};
+ghost use Rattle.std.specs.Prelude.{◌≡◌, ◌+◌, ◌*◌, ◌≤◌, ◌<◌, ◌∷◌, length, flat_map, take, drop};
 ghost use Rattle.arrayvec.specs.ArrayVec.{array_vec_len};
 ghost use Rattle.gnss_system.specs.Satellites.{letter};
 ghost use Rattle.gnss_system.specs.Signals.{table, code_of};
@@ -10,7 +10,7 @@ ghost use Rattle.gnss_obs.specs.inner.SignalLists.{IsOf};
 ghost use Rattle.rinex_file.specs.Header.{type_front, type_columns, type_rows, types_of};
 ghost use Rattle.rinex_file.specs.Header.{codes_of, slots_with, type_of, types_with};
 ghost use Rattle.rinex_file.specs.inner.Header.{most_type_rows};
-ghost use Rattle.rinex_columns.specs.HeaderLine.{header_line};
+ghost use Rattle.rinex_columns.specs.Numbers.{Adds};
 ghost use Rattle.rinex_columns.specs.Limits.{most_line};
 ghost use Rattle.rinex_file.specs.Slots.{slot_text, slot_rows, slots_front, slots_in_line, slots_of};
 
@@ -37,8 +37,7 @@ pub(crate) fn type_rows(signals: usize) -> usize
 fn put_types_front(content: &mut Line, letter: u8, types: usize, row: usize)
     requires room { array_vec_len content.old ≤ 100 }
     requires types { types ≤ 1000 }
-    ensures text { content.new.items ≡ content.old.items ++ type_front letter types row }
-    ensures size { array_vec_len content.new ≤ array_vec_len content.old + 63 }
+    ensures { Adds (type_front letter types row) 63 content.old.items content.new.items }
 {
     if row == 0 {
         content.push(letter);
@@ -54,8 +53,7 @@ fn put_types_front(content: &mut Line, letter: u8, types: usize, row: usize)
 fn put_type(content: &mut Line, signal: Signal, kind: usize)
     requires kind { kind < 4 }
     requires room { array_vec_len content.old + 4 ≤ most_line }
-    ensures text { content.new.items ≡ content.old.items ++ 32 ∷ type_of kind (code_of signal) }
-    ensures size { array_vec_len content.new ≡ array_vec_len content.old + 4 }
+    ensures { Adds (32 ∷ type_of kind (code_of signal)) 4 content.old.items content.new.items }
 {
     content.push(b' ');
     content.push(b"CLDS"[kind]);
@@ -67,9 +65,8 @@ fn put_types(content: &mut Line, system: System, signals: &[Signal], row: usize)
     requires of { IsOf system signals.now }
     requires row { row < most_type_rows }
     requires room { array_vec_len content.old ≤ 100 }
-    ensures text { content.new.items ≡ content.old.items
-        ++ type_columns (types_of (codes_of system (indices signals.now))) row }
-    ensures size { array_vec_len content.new ≤ array_vec_len content.old + 52 }
+    ensures { Adds (type_columns (types_of (codes_of system (indices signals.now))) row) 52
+        content.old.items content.new.items }
 {
     let types = 4 * signals.len();
     let first = TYPES_IN_LINE * row;
@@ -117,8 +114,7 @@ pub(crate) fn slot_rows(count: usize) -> usize
 /// others.
 fn put_slots_front(content: &mut Line, count: usize, row: usize)
     requires { array_vec_len content.old ≤ 100 }
-    ensures text { content.new.items ≡ content.old.items ++ slots_front count row }
-    ensures size { array_vec_len content.new ≤ array_vec_len content.old + 61 }
+    ensures { Adds (slots_front count row) 61 content.old.items content.new.items }
 {
     if row == 0 {
         put_whole(content, 3, count as u64);
@@ -133,8 +129,7 @@ fn put_slot(content: &mut Line, slot: u8, number: u8)
     requires slot { slot ≤ slot_count }
     requires number { number ≤ most_number }
     requires room { array_vec_len content.old + 7 ≤ most_line }
-    ensures text { content.new.items ≡ content.old.items ++ slot_text (record { slot = slot; number = number }) }
-    ensures size { array_vec_len content.new ≡ array_vec_len content.old + 7 }
+    ensures { Adds (slot_text (record { slot = slot; number = number })) 7 content.old.items content.new.items }
 {
     let tens = b'0' + slot / 10;
     let ones = b'0' + slot % 10;
@@ -147,9 +142,8 @@ fn put_slot(content: &mut Line, slot: u8, number: u8)
 fn put_slots(content: &mut Line, channels: &Channels, row: usize)
     requires row { row ≤ 100 }
     requires room { array_vec_len content.old ≤ 100 }
-    ensures text { content.new.items ≡ content.old.items
-        ++ flat_map slot_text (take slots_in_line (drop (slots_in_line * row) (slots_of channels.now))) }
-    ensures size { array_vec_len content.new ≤ array_vec_len content.old + 189 }
+    ensures { Adds (flat_map slot_text (take slots_in_line (drop (slots_in_line * row) (slots_of channels.now)))) 189
+        content.old.items content.new.items }
 {
     channels.are_channels();
     let mut before = 0;

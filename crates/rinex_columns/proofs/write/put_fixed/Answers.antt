@@ -17,5 +17,5 @@ push-requires-2 c = grind (arith, common_steps)
 pub put_padded-requires : goal.put_padded-requires
 put_padded-requires c = grind (arith, common_steps)
 
-pub returns-clause-text : goal.returns-clause-text
-returns-clause-text c = grind (arith, common_steps)
+pub returns : goal.returns
+returns c = record { text = grind (arith, common_steps); size = grind (arith, common_steps) }

@@ -10,8 +10,5 @@ loop-preserved g c = grind (arith, common_steps)
 pub put-requires : goal.put-requires
 put-requires g c = grind (arith, common_steps)
 
-pub returns-clause-text : goal.returns-clause-text
-returns-clause-text g c = grind (arith, common_steps)
-
-pub returns-clause-size : goal.returns-clause-size
-returns-clause-size g c = grind (arith, common_steps)
+pub returns : goal.returns
+returns g c = record { text = grind (arith, common_steps); size = grind (arith, common_steps) }

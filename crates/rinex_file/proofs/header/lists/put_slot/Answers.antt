@@ -11,8 +11,11 @@ below slot n few low sign size = ap₂ (shown slot) sign (size ∙ omega (arith,
 above : (slot n : ℕ) {sign size : ℕ} → slot ≤ slot_count → 7 ≤ n → sign ≡ 32 → size ≡ 48 + ((n - 7) + (7 - n)) → shown slot sign size ≡ slot_text (at slot n)
 above slot n few high sign size = ap₂ (shown slot) sign (size ∙ omega (arith, high)) ∙ slot_high slot n few high
 
-pub returns-clause-text : goal.returns-clause-text
-returns-clause-text c = c.put.ensures.text ∙ ap (λ t. c.args.content.now.items ++ t) (elim c.if-number-lt7.branch [
-  | goal.then-number-lt7 w ↦ below c.args.slot c.args.number c.requires.slot w.if-number-lt7.true w.sign-is (ap (λ k. 48 + k) c.abs_diff-size.ensures)
-  | goal.else-number-lt7 w ↦ above c.args.slot c.args.number c.requires.slot w.if-number-lt7.false w.sign-is (ap (λ k. 48 + k) c.abs_diff-size.ensures)
-])
+pub returns : goal.returns
+returns c = record {
+  text = c.put.ensures.text ∙ ap (λ t. c.args.content.now.items ++ t) (elim c.if-number-lt7.branch [
+    | goal.then-number-lt7 w ↦ below c.args.slot c.args.number c.requires.slot w.if-number-lt7.true w.sign-is (ap (λ k. 48 + k) c.abs_diff-size.ensures)
+    | goal.else-number-lt7 w ↦ above c.args.slot c.args.number c.requires.slot w.if-number-lt7.false w.sign-is (ap (λ k. 48 + k) c.abs_diff-size.ensures)
+  ]);
+  size = c.put.ensures.size;
+}

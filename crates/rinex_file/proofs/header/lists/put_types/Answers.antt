@@ -5,5 +5,5 @@ use Rattle.rinex_file.proofs.header.lists.put_types.Goals as goal
 pub loop-i-preserved : goal.loop-i-preserved
 loop-i-preserved c = grind (arith, length_indices, length-system_types, type_more, signal_type, index_here, system_here)
 
-pub returns-clause-text : goal.returns-clause-text
-returns-clause-text c = grind (arith, common_steps, c.loop-i.invariant, length-system_types, length_indices, types_done)
+pub returns : goal.returns
+returns c = record { text = grind (arith, common_steps, c.loop-i.invariant, length-system_types, length_indices, types_done); size = grind (arith, c.loop-i.invariant) }
