@@ -4,8 +4,8 @@ use Rattle.rinex_file.proofs.Rows.Trimmed.{filled, length-trimmed}
 use Rattle.rinex_file.proofs.FewRows.{few_most, few_rows}
 use Rattle.rinex_file.proofs.PlainTexts.{clean-fixed, IsPlain, plain-append, plain-padded, plain, plain-flat_map, plain-joined, also}
 use Rattle.rinex_file.proofs.Reading.Epochs.{few_signals_of}
-use Rattle.rinex_file.proofs.HeaderRows.Plain.{IsFileLine, as_line, of_80, whole_field, second_field, no_letter, IsShort, short_time, line_of_position, line_of_delta, lines_of_header}
-use Rattle.rinex_file.proofs.Names.{has-append, has-right, lacks-padded, length-right, length-padded, arith, lit≤, ◌≡◌, ◌∙◌, ap, refl, sym, subst, ℕ, ◌+◌, ◌*◌, ◌^◌, ◌<◌, ◌≤◌, ℤ, pos, false, Option, Some, None, IfSome, List, [], ◌∷◌, ◌++◌, length, replicate, decimal, get_or, append_assoc, ◌==◌, ◌||◌, map, flat_map, All, codes, AllByRecursion, or_parts, All-nil, All-head, All-tail, All-cons, All-append, All-map, satellites, System, StationValues, Civil, civil_of, trimmed, IsLine, event_line, stamped_lines, change_lines, file_lines, FitsColumns, AreSignalValues, IsRow, IsSatelliteRow, IsStamped, IsChange, AreChanges, IsFileValue, changed_by, planned_in, header_lines, position_line, delta_line, epoch_line, field, lli_byte, strength_byte, signal_text, letter, row_text, satellite_line, joined, right, padded, fixed, has, SignalValues, Row, SatelliteRow, Stamped, FileValue, most_line, most_signals, number_of, lines_of_parts, shown_of}
+use Rattle.rinex_file.proofs.HeaderRows.Plain.{IsFileLine, as_line, of_80, whole_field, second_field, no_letter, IsShort, short_time, height, labelled, lines_of_header, position}
+use Rattle.rinex_file.proofs.Names.{has-append, has-right, lacks-padded, length-right, length-padded, arith, lit≤, ◌≡◌, ◌∙◌, ap, refl, sym, subst, ℕ, ◌+◌, ◌*◌, ◌^◌, ◌<◌, ◌≤◌, ℤ, pos, false, Option, Some, None, IfSome, List, [], ◌∷◌, ◌++◌, length, replicate, decimal, get_or, append_assoc, ◌==◌, ◌||◌, map, flat_map, All, codes, AllByRecursion, or_parts, All-nil, All-head, All-tail, All-cons, All-append, All-map, satellites, System, StationValues, Civil, civil_of, trimmed, IsLine, event_line, stamped_lines, change_lines, file_lines, FitsColumns, AreSignalValues, IsRow, IsSatelliteRow, IsStamped, IsChange, AreChanges, IsFileValue, changed_by, planned_in, header_lines, position_line, height_line, epoch_line, field, lli_byte, strength_byte, signal_text, letter, row_text, satellite_line, joined, right, padded, fixed, has, SignalValues, Row, SatelliteRow, Stamped, FileValue, most_line, most_signals, number_of, lines_of_parts, shown_of, Position, Delta, position_content, height_content}
 
 -- ---- epochs
 
@@ -88,9 +88,9 @@ lines_of_change : (v : StationValues) (c : Option StationValues) → IsChange v 
 unfolding event_line
 lines_of_change v None is = All-nil IsFileLine
 lines_of_change v (Some w) is =
-    All-cons IsFileLine event_line (position_line w ∷ delta_line w ∷ []) (as_line 35 (codes ">" ++ (replicate 30 32 ++ codes "4  2")) (plain 35 _ refl (lit≤ tt)) (lit≤ tt))
-    (All-cons IsFileLine (position_line w) (delta_line w ∷ []) (line_of_position w is.0)
-    (All-cons IsFileLine (delta_line w) [] (line_of_delta w is.0) (All-nil IsFileLine)))
+    All-cons IsFileLine event_line (position_line w ∷ height_line w.height ∷ []) (as_line 35 (codes ">" ++ (replicate 30 32 ++ codes "4  2")) (plain 35 _ refl (lit≤ tt)) (lit≤ tt))
+    (All-cons IsFileLine (position_line w) (height_line w.height ∷ []) (labelled Position (position_content w) (position w is.0))
+    (All-cons IsFileLine (height_line w.height) [] (labelled Delta (height_content w.height) (height w is.0)) (All-nil IsFileLine)))
 
 lines_of_stamped : (signals : System → ℕ) (v : StationValues) (e : Stamped) → IsStamped signals e → IsChange v e.change → ((t : System) → signals t ≤ most_signals) → All IsFileLine (stamped_lines e)
 lines_of_stamped signals v e is change few =

@@ -42,7 +42,7 @@ unfoldable pub use Rattle.rinex_file.specs.Header.{header_lines, row_line}
 unfoldable pub use Rattle.rinex_columns.specs.HeaderLine.{header_line}
 pub use Rattle.rinex_columns.specs.HeaderLine.{has_label}
 pub use Rattle.rinex_columns.proofs.NumberLaws.{digits_in-fixed, digits_in-padded, digits_in-right, digits_in-whole, has-append, has-not, has-right, lacks-append, lacks-decimal, lacks-padded, length-fixed, length-fixed-le, length-padded, length-padded-le, length-right, length-sign, not_negative, number_in-fixed}
-pub use Rattle.rinex_file.specs.Header.{types_line, types_with, is_of_types, interval_line, Shown, all_rows, codes_of, delta_line, biases_line, end_line, flagged_letter, first_line, has_line, height_line, is_planned, letter_of, lengths, position_line, row_lines, slots_line, slots_with, strength_line, systems_letter, text_columns, texts_line, type_columns, type_front, type_of, type_rows, types_of, version_fields, version_by, version_line}
+pub use Rattle.rinex_file.specs.Header.{types_line, types_with, is_of_types, interval_content, line_with, row_content, row_label, Shown, all_rows, codes_of, flagged_letter, first_content, has_line, height_line, is_planned, letter_of, lengths, position_line, row_lines, slots_line, slots_with, systems_letter, text_columns, texts_content, texts_line, types_content, type_columns, type_front, type_of, type_rows, types_of, height_content, position_content, version_content}
 pub use Rattle.rinex_file.specs.inner.Header.{is_given, is_optional, first_types, lines_after, lines_before, most_type_rows, row_at, row_count, row_place, is_alike}
 pub use Rattle.rinex_file.specs.inner.Heads.{shown_by}
 pub use Rattle.rinex_columns.specs.Limits.{most_line, label_columns}
@@ -52,7 +52,7 @@ pub use Rattle.rinex_columns.specs.Numbers.{fixed, joined, left, padded, right}
 pub use Rattle.rinex_file.specs.inner.ParserState.{FollowsHistory, open_epochs, MayRunOut, ExpectsHeader, ExpectsRow, AddsAt, GoesOnWithLine, IsLast, IsNext, RefusesLine, ShowsLine, TakesLine, progress_at, stamped_at, with_last_read, with_satellite, with_whole_epoch}
 pub use Rattle.rinex_file.specs.inner.Read.EpochSteps.{HasReadRows, HasReadEpochs, IsSummaryRead, ReadsRow, BeginsEpoch, plan_of, with_read, with_rows, HasReadRowsAt, StopsStoring, file_of, begun_in, row_of as read_row}
 pub use Rattle.rinex_columns.specs.Read.{ReadsExactly, digits_in, has, number_in, some_if}
-pub use Rattle.rinex_file.specs.inner.Read.HeaderSteps.{AreItemsBefore, EndsHeader, IsLineOfSlots, TakesOrRefusesSlots, TakesSlots, with_slots, GoesOn, GoesTo, HasSignalAt, IsHeaderLineRead, NoneGoesOn, ReadsOrRefuses, ReadsOrRefusesTexts, ReadsTexts, RefusesHeaderLine, RefusesTexts, RefusesTypes, SameFrom, StepsTo, Takes, TakesHeaderLine, TakesTypes, begins_with, row_label, with_interval, expected_if, if_fine, known_line, texts_in, with_first, with_letter, with_texts, with_types, with_values, IsLineOf, IsLineOfTypes, IsThere, TakesItems}
+pub use Rattle.rinex_file.specs.inner.Read.HeaderSteps.{AreItemsBefore, EndsHeader, IsLineOfSlots, TakesOrRefusesSlots, TakesSlots, with_slots, GoesOn, GoesTo, HasSignalAt, IsHeaderLineRead, NoneGoesOn, ReadsOrRefuses, ReadsOrRefusesTexts, ReadsTexts, RefusesHeaderLine, RefusesTexts, RefusesTypes, SameFrom, StepsTo, Takes, TakesHeaderLine, TakesTypes, begins_with, ReadsHeaderRow, with_interval, expected_if, if_fine, known_line, texts_in, with_first, with_letter, with_texts, with_types, with_values, IsLineOf, IsLineOfTypes, IsThere, TakesItems}
 unfoldable pub use Rattle.rinex_file.specs.inner.Stored.{stamped_text}
 pub use Rattle.rinex_file.specs.inner.Stored.{HasRoom, HaveRowsRoom}
 unfoldable pub use Rattle.rinex_file.specs.inner.Read.Progress.{HasLinesLeft}

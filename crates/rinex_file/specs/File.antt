@@ -10,7 +10,7 @@ use Rattle.rinex_file.specs.Texts.{HeaderLists}
 use Rattle.rinex_file.specs.Value.{Stamped, FileValue, file_with, stamped_of, all_stamped, row_among, row_in_epoch}
 use Rattle.rinex_file.specs.Value.{written_satellites}
 use Rattle.gnss_obs.specs.declared.cell.Cell.{Cell}
-use Rattle.rinex_file.specs.Header.{Shown, header_lines, position_line, delta_line}
+use Rattle.rinex_file.specs.Header.{Shown, header_lines, position_line, height_line}
 use Rattle.rinex_file.specs.Lines.{epoch_line, satellite_line}
 use Rattle.rinex_columns.specs.Numbers.{joined}
 
@@ -29,7 +29,7 @@ event_line = codes ">" ++ (replicate 30 32 ++ codes "4  2\n")
 
 -- the lines of an event with station values
 abbrev pub event_lines : StationValues → List (List ℕ)
-event_lines v = event_line ∷ position_line v ∷ delta_line v ∷ []
+event_lines v = event_line ∷ position_line v ∷ height_line v.height ∷ []
 
 -- the lines before an epoch: an event if the station values change
 abbrev pub change_lines : Option StationValues → List (List ℕ)

@@ -31,6 +31,29 @@ pub record Shown : Type 0 where
   pub values : StationValues
   pub first : ℕ
 
+-- ---- a line: its content, and the label of its row
+
+abbrev pub types_label : List ℕ
+types_label = codes "SYS / # / OBS TYPES"
+
+abbrev pub row_label : HeaderRow → List ℕ
+row_label Version = codes "RINEX VERSION / TYPE"
+row_label (Texts row) = label_of row
+row_label Position = codes "APPROX POSITION XYZ"
+row_label Delta = codes "ANTENNA: DELTA H/E/N"
+row_label (Types system row) = types_label
+row_label StrengthUnit = codes "SIGNAL STRENGTH UNIT"
+row_label Interval = codes "INTERVAL"
+row_label First = codes "TIME OF FIRST OBS"
+row_label (Shift system) = codes "SYS / PHASE SHIFT"
+row_label (Slots row) = codes "GLONASS SLOT / FRQ #"
+row_label Biases = codes "GLONASS COD/PHS/BIS"
+row_label End = codes "END OF HEADER"
+
+-- the line of a row with this content
+abbrev pub line_with : HeaderRow → List ℕ → List ℕ
+line_with row content = header_line content (row_label row)
+
 -- three lengths, given in 0.0001 m and written as F14.4
 abbrev pub lengths : ℤ → ℤ → ℤ → List ℕ
 lengths a b c = joined (right 14 (fixed 4 a) ∷ right 14 (fixed 4 b) ∷ right 14 (fixed 4 c) ∷ [])
@@ -55,36 +78,35 @@ flagged_letter flags = letter_of (filter flags systems)
 abbrev pub systems_letter : PlanValue → ℕ
 systems_letter p = flagged_letter (is_planned p)
 
--- the fields of the first line of a file with this letter of its systems
-abbrev pub version_fields : ℕ → List (List ℕ)
-version_fields letter =
-    right 9 (fixed 2 (pos 305)) ∷ replicate 11 32 ∷ left 20 (codes "OBSERVATION DATA")
-    ∷ (letter ∷ []) ∷ []
-
-abbrev pub version_by : ℕ → List ℕ
-version_by letter = header_line (joined (version_fields letter)) (codes "RINEX VERSION / TYPE")
-
-abbrev pub version_line : PlanValue → List ℕ
-version_line p = version_by (systems_letter p)
+-- version 3.05, the file's type, and the letter of its systems
+abbrev pub version_content : ℕ → List ℕ
+version_content letter = joined
+    (right 9 (fixed 2 (pos 305)) ∷ replicate 11 32 ∷ left 20 (codes "OBSERVATION DATA") ∷ (letter ∷ []) ∷ [])
 
 -- the text of a field, in its columns
 abbrev pub text_columns : HeaderLists → HeaderField → List ℕ
 text_columns x field = left (width_of field) (text_of x field)
 
+abbrev pub texts_content : HeaderLists → HeaderField → List ℕ
+texts_content x row = front_of row ++ flat_map (text_columns x) (fields_of row)
+
 abbrev pub texts_line : HeaderLists → HeaderField → List ℕ
-texts_line x row = header_line (front_of row ++ flat_map (text_columns x) (fields_of row)) (label_of row)
+texts_line x row = line_with (Texts row) (texts_content x row)
 
 -- ---- station
 
+abbrev pub position_content : StationValues → List ℕ
+position_content v = lengths v.x v.y v.z
+
 abbrev pub position_line : StationValues → List ℕ
-position_line v = header_line (lengths v.x v.y v.z) (codes "APPROX POSITION XYZ")
+position_line v = line_with Position (position_content v)
 
 -- the height of the antenna; its east and north offsets from the marker are zero
-abbrev pub height_line : ℕ → List ℕ
-height_line height = header_line (lengths (pos height) (pos 0) (pos 0)) (codes "ANTENNA: DELTA H/E/N")
+abbrev pub height_content : ℕ → List ℕ
+height_content height = lengths (pos height) (pos 0) (pos 0)
 
-abbrev pub delta_line : StationValues → List ℕ
-delta_line v = height_line v.height
+abbrev pub height_line : ℕ → List ℕ
+height_line height = line_with Delta (height_content height)
 
 -- ---- signals
 
@@ -112,71 +134,62 @@ type_rows signals = (4 * signals + 12) / types_in_line
 abbrev pub codes_of : System → List ℕ → List (List ℕ)
 codes_of system signals = map (λ index. code_of (record { system = system; index = index })) signals
 
--- a line of types of a system with `count` signals, of which these are the first
+-- the content of a line of types of a system with `count` signals, of which these are the first
+abbrev pub types_content : System → ℕ → List ℕ → ℕ → List ℕ
+types_content system count signals row =
+    type_front (letter system) (4 * count) row ++ type_columns (types_of (codes_of system signals)) row
+
+-- its line
 abbrev pub types_with : System → ℕ → List ℕ → ℕ → List ℕ
-types_with system count signals row = header_line
-    (type_front (letter system) (4 * count) row ++ type_columns (types_of (codes_of system signals)) row)
-    (codes "SYS / # / OBS TYPES")
+types_with system count signals row = line_with (Types system row) (types_content system count signals row)
 
 -- a line of types of these signals of a system, all of them
 abbrev pub types_line : System → List ℕ → ℕ → List ℕ
 types_line system signals row = types_with system (length signals) signals row
 
--- the line of a system without phase shifts
-abbrev pub shift_line : System → List ℕ
-shift_line system = header_line (letter system ∷ []) (codes "SYS / PHASE SHIFT")
-
 -- ---- channels of GLONASS
 
 -- a line of slots with a channel; there are `count`, and these are the first of them
 abbrev pub slots_with : ℕ → List SlotNumber → ℕ → List ℕ
-slots_with count slots row = header_line (slots_columns count slots row) (codes "GLONASS SLOT / FRQ #")
+slots_with count slots row = line_with (Slots row) (slots_columns count slots row)
 
 -- a line of these slots, all of them
 abbrev pub slots_line : List SlotNumber → ℕ → List ℕ
 slots_line slots row = slots_with (length slots) slots row
 
--- the line of unknown biases
-abbrev pub biases_line : List ℕ
-biases_line = header_line [] (codes "GLONASS COD/PHS/BIS")
-
--- ---- units, time and end
-
-abbrev pub strength_line : List ℕ
-strength_line = header_line (codes "DBHZ") (codes "SIGNAL STRENGTH UNIT")
+-- ---- times
 
 -- the interval of the observations, given in milliseconds
-abbrev pub interval_line : ℕ → List ℕ
-interval_line interval = header_line (joined (right 10 (fixed 3 (pos interval)) ∷ [])) (codes "INTERVAL")
+abbrev pub interval_content : ℕ → List ℕ
+interval_content interval = joined (right 10 (fixed 3 (pos interval)) ∷ [])
 
 -- year, month, day, hour and minute in six columns each, and the second with seven decimals
-abbrev pub first_line : Civil → List ℕ
-first_line t = header_line
-    (joined
+abbrev pub first_content : Civil → List ℕ
+first_content t = joined
     (right 6 (decimal t.year) ∷ right 6 (decimal t.month) ∷ right 6 (decimal t.day) ∷ right 6 (decimal t.hour)
     ∷ right 6 (decimal t.minute)
-    ∷ right 13 (fixed 7 (pos (t.millisecond * 10_000))) ∷ codes "     GPS" ∷ []))
-    (codes "TIME OF FIRST OBS")
-
-abbrev pub end_line : List ℕ
-end_line = header_line [] (codes "END OF HEADER")
+    ∷ right 13 (fixed 7 (pos (t.millisecond * 10_000))) ∷ codes "     GPS" ∷ [])
 
 -- ---- the rows, each of one line or none
 
--- the line of a row
+-- the content of the line of a row: of a system without phase shifts only the letter, and of unknown biases nothing
+abbrev pub row_content : Shown → HeaderRow → List ℕ
+row_content h Version = version_content (systems_letter h.plan)
+row_content h (Texts row) = texts_content h.texts row
+row_content h Position = position_content h.values
+row_content h Delta = height_content h.values.height
+row_content h (Types system row) =
+    types_content system (length (planned_of system h.plan)) (planned_of system h.plan) row
+row_content h StrengthUnit = codes "DBHZ"
+row_content h Interval = interval_content (unwrap_or h.interval 0)
+row_content h First = first_content (civil_of h.first)
+row_content h (Shift system) = letter system ∷ []
+row_content h (Slots row) = slots_columns (length (slots_of h.plan.channels)) (slots_of h.plan.channels) row
+row_content h Biases = []
+row_content h End = []
+
 unfoldable pub row_line : Shown → HeaderRow → List ℕ
-row_line h Version = version_line h.plan
-row_line h (Texts row) = texts_line h.texts row
-row_line h Position = position_line h.values
-row_line h Delta = delta_line h.values
-row_line h (Types system row) = types_line system (planned_of system h.plan) row
-row_line h StrengthUnit = strength_line
-row_line h Interval = interval_line (unwrap_or h.interval 0)
-row_line h First = first_line (civil_of h.first)
-row_line h (Shift system) = shift_line system
-row_line h (Slots row) = slots_line (slots_of h.plan.channels) row
-row_line h Biases = biases_line
-row_line h End = end_line
+row_line h row = line_with row (row_content h row)
 
 -- whether a row is in the header: types and phase shifts are those of a planned system, channels those of GLONASS, and
 -- an optional row is there if it has a value
@@ -214,4 +227,4 @@ header_lines h = flat_map (row_lines h) all_rows
 
 -- a line has the label of observation types
 abbrev pub is_of_types : List ℕ → Bool
-is_of_types line = has_label (codes "SYS / # / OBS TYPES") line
+is_of_types line = has_label types_label line

@@ -1,11 +1,11 @@
 -- Version, position and height are read back from their lines; the lines of a header up to a row and from it on.
 use Rattle.rinex_file.proofs.Reading.Dates.{IsField, AreFields, field_at}
 use Rattle.rinex_file.proofs.HeaderRows.Types.{content_first}
-use Rattle.rinex_file.proofs.Names.{flat_map-append, number_in-fixed, digits_in-right, digits_in-fixed, length-fixed, length-right, length-sign, mod-eq_of_lt, IsInterval, arith, ◌≡◌, ◌∙◌, refl, sym, ap, ℕ, ◌+◌, ◌<◌, ◌≤◌, ◌^◌, List, [], ◌∷◌, ◌++◌, length, take, drop, append-nil, length-append, Bool, true, false, ℤ, pos, unsigned_abs, suc, lit<, ◌==◌, codes, if◌then◌else◌, flat_map, slice_get, unwrap_or, is_negative, digits, ints, take_more, take-append-drop, drop-cons, System, passes_at, is_equal, planned_of, joined, right, fixed, digits_in, number_in, header_line, lengths, height_line, row_line, row_lines, has_line, header_lines, all_rows, row_count, row_at, row_place, lines_after, version_by, Shown, lines_before, IsShown, AreTypes, IsCoordinate, End, HeaderRow, drop-append-le, interval_line}
+use Rattle.rinex_file.proofs.Names.{flat_map-append, number_in-fixed, digits_in-right, digits_in-fixed, length-fixed, length-right, length-sign, mod-eq_of_lt, IsInterval, arith, ◌≡◌, ◌∙◌, refl, sym, ap, ℕ, ◌+◌, ◌<◌, ◌≤◌, ◌^◌, List, [], ◌∷◌, ◌++◌, length, take, drop, append-nil, length-append, Bool, true, false, ℤ, pos, unsigned_abs, suc, lit<, ◌==◌, if◌then◌else◌, flat_map, slice_get, unwrap_or, is_negative, digits, ints, take_more, take-append-drop, drop-cons, System, passes_at, is_equal, planned_of, joined, right, fixed, digits_in, number_in, header_line, lengths, height_line, row_line, row_lines, has_line, header_lines, all_rows, row_count, row_at, row_place, lines_after, Shown, Version, Delta, Interval, line_with, row_label, version_content, interval_content, lines_before, IsShown, AreTypes, IsCoordinate, End, HeaderRow, drop-append-le}
 
 -- ---- version
 
-pub letter_at : (letter : ℕ) → unwrap_or (slice_get (take 1 (drop 40 (version_by letter))) 0) 0 ≡ letter
+pub letter_at : (letter : ℕ) → unwrap_or (slice_get (take 1 (drop 40 (line_with Version (version_content letter)))) 0) 0 ≡ letter
 unfolding header_line digits
 letter_at letter = refl
 
@@ -48,7 +48,7 @@ pub height-back : (h : ℕ) → h < 2 ^ 16 → digits_in (take 14 (drop 0 (heigh
 height-back h small =
     let f = right 14 (fixed 4 (pos h)) in
     let none = right 14 (fixed 4 (pos 0)) in
-    let (rest, shape) = content_first (joined (f ∷ none ∷ none ∷ [])) (codes "ANTENNA: DELTA H/E/N") in
+    let (rest, shape) = content_first (joined (f ∷ none ∷ none ∷ [])) (row_label Delta) in
     let zero = is_height 0 (lit< tt) in
     ap (λ l. digits_in (take 14 (drop 0 l))) shape ∙ field_at digits_in (f ∷ none ∷ none ∷ []) ((14, h) ∷ (14, 0) ∷ (14, 0) ∷ []) 0 (0, 0) rest (is_height h small, (zero, (zero, tt))) (lit< tt)
 
@@ -56,10 +56,10 @@ pub at_most_a_day : (n : ℕ) → IsInterval n → n ≤ 86_400_000
 at_most_a_day n is = grind (arith, mod-eq_of_lt)
 
 -- an interval is read back from its line
-pub interval-back : (n : ℕ) → n ≤ 86_400_000 → digits_in (take 10 (drop 0 (interval_line n))) ≡ n
+pub interval-back : (n : ℕ) → n ≤ 86_400_000 → digits_in (take 10 (drop 0 (line_with Interval (interval_content n)))) ≡ n
 interval-back n is =
     let f = right 10 (fixed 3 (pos n)) in
-    let (rest, shape) = content_first (joined (f ∷ [])) (codes "INTERVAL") in
+    let (rest, shape) = content_first (joined (f ∷ [])) (row_label Interval) in
     let text = length-fixed 3 5 (pos n) (omega arith) (omega arith) (omega (arith, is)) (omega (arith, is)) in
     let sign = length-sign (is_negative (pos n)) in
     let own : IsField digits_in f (10, n) = (length-right 10 (fixed 3 (pos n)) (omega (arith, text, sign)), digits_in-right 10 (fixed 3 (pos n)) ∙ digits_in-fixed 3 (pos n) (omega arith) (omega (arith, is))) in

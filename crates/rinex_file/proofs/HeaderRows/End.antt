@@ -8,7 +8,7 @@ use Rattle.rinex_file.proofs.HeaderRows.Places.{known_at, types_early, types_her
 use Rattle.rinex_file.proofs.HeaderRows.Steps.{left_over, rest_next}
 use Rattle.rinex_file.proofs.HeaderRows.Texts.{each_field, field_back, place_back, same_at, same_rows}
 use Rattle.rinex_file.proofs.PlainTexts.{both}
-use Rattle.rinex_file.proofs.Names.{equal_values, value_tabulated, short_table, tabulate, value_of, few_below, listed_by, is_alike, common_steps, AreListsAt, nat_le, ◌||◌, arith, ◌≡◌, ◌∙◌, sym, ap, ap₂, map, refl, subst, ℕ, pos, suc, lit<, lit≤, ◌<◌, true, List, [], ◌∷◌, ◌++◌, length, get_or, replicate, All, nat_eq, AllOfLen, IsDistinct, take_all, ext_get_or, SignalAt, table, System, indices, IsOf, planned_of, StationValues, HeaderField, Texts, Position, Delta, First, End, trimmed, HeaderLists, text_count, text_of, width_of, fields, fields_of, AntType, IsText, AreTexts, AreStationValues, IsTime, row_line, row_place, end_line, Known, Shown, IsShown, AreValid, IsHeadAt, shown_with, lines_before, RefusesHeaderLine, EndsHeader, none_of, row_at, AreSameTexts, Has, HasRow, fits, counted, StrengthUnit, SameFrom, position_of, PlanValue, Slots, Types, AreChannels, known_slots, no_channels, slots_of, HeaderRow, is_equal, is_less, nat_lt, ◌==◌, ◌&&◌, nil_from_length, not-true, flat_map, AreUnread, Interval, IfSome, IsInterval, None}
+use Rattle.rinex_file.proofs.Names.{equal_values, value_tabulated, short_table, tabulate, value_of, few_below, listed_by, is_alike, common_steps, AreListsAt, nat_le, ◌||◌, arith, ◌≡◌, ◌∙◌, sym, ap, ap₂, map, refl, subst, ℕ, pos, suc, lit<, lit≤, ◌<◌, true, List, [], ◌∷◌, ◌++◌, length, get_or, replicate, All, nat_eq, AllOfLen, IsDistinct, take_all, ext_get_or, SignalAt, table, System, indices, IsOf, planned_of, StationValues, HeaderField, Texts, Position, Delta, First, End, trimmed, HeaderLists, text_count, text_of, width_of, fields, fields_of, AntType, IsText, AreTexts, AreStationValues, IsTime, row_line, row_place, line_with, Known, Shown, IsShown, AreValid, IsHeadAt, shown_with, lines_before, RefusesHeaderLine, EndsHeader, none_of, row_at, AreSameTexts, Has, HasRow, fits, counted, StrengthUnit, SameFrom, position_of, PlanValue, Slots, Types, AreChannels, known_slots, no_channels, slots_of, HeaderRow, is_equal, is_less, nat_lt, ◌==◌, ◌&&◌, nil_from_length, not-true, flat_map, AreUnread, Interval, IfSome, IsInterval, None}
 
 -- ---- a header with all that was read is the one that was read
 
@@ -101,7 +101,7 @@ module _ (k : Known) (line : List ℕ) (from : ℕ) (at : IsHeadAt k from) (same
   is_shown : IsShown k.shown
   is_shown = subst IsShown whole some.is
 
-  pub ends : line ≡ end_line → EndsHeader k from line k
+  pub ends : line ≡ line_with End [] → EndsHeader k from line k
   unfolding row_line
   ends e = record {
     is = is_shown;
@@ -109,10 +109,10 @@ module _ (k : Known) (line : List ℕ) (from : ℕ) (at : IsHeadAt k from) (same
         let b = same.goes h others left on in
         (same_header k h b.is at.valid b.has, rest_next (lit< tt) b refl);
     has = same.back k.shown is_shown has_all;
-    lines = split_at k.shown (row_place End) ∙ ap (λ l. l ++ end_line ∷ []) (same.lines k.shown is_shown has_all) ∙ ap (λ l. lines_before k.shown from ++ l ∷ []) (sym e);
+    lines = split_at k.shown (row_place End) ∙ ap (λ l. l ++ line_with End [] ∷ []) (same.lines k.shown is_shown has_all) ∙ ap (λ l. lines_before k.shown from ++ l ∷ []) (sym e);
   }
 
-pub no_end_line : (k : Known) (line : List ℕ) → (line ≡ end_line → ⊥) → RefusesHeaderLine k End line
+pub no_end_line : (k : Known) (line : List ℕ) → (line ≡ line_with End [] → ⊥) → RefusesHeaderLine k End line
 unfolding row_line
 no_end_line k line never h is has there e = never (sym e)
 

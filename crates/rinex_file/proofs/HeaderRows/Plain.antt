@@ -6,7 +6,7 @@ use Rattle.rinex_file.proofs.Reading.Epochs.{few_signals_of}
 use Rattle.rinex_file.proofs.HeaderRows.Texts.{each_field, few_columns}
 use Rattle.rinex_file.proofs.HeaderRows.Slots.{slots_are, slots_room}
 use Rattle.rinex_file.proofs.PlainTexts.{both, IsPlain, plain-wider, plain-append, plain-left, plain-right, plain-decimal, plain-fixed, plain-padded, plain, plain-flat_map, plain-joined, also, plain-text}
-use Rattle.rinex_file.proofs.Names.{day_length, IsCivil, arith, lit≤, lit<, ◌≡◌, ap, refl, subst, ℕ, zero, suc, ◌+◌, ◌*◌, ◌/◌, ◌%◌, ◌^◌, ◌<◌, ◌≤◌, ℤ, pos, unsigned_abs, Bool, true, false, List, [], ◌∷◌, ◌++◌, length, take, drop, decimal, get_or, append_assoc, length-append, ◌==◌, ◌||◌, ◌&&◌, not, nat_le, flat_map, All, codes, slice_get, AllByRecursion, list_all, option_map_or, cond_both, ints, length-take, All-nil, All-head, All-tail, All-cons, All-append, All-map, All-take, All-drop, All-replicate, code_of, System, StationValues, Civil, civil_of, PlanValue, planned_of, HeaderField, HeaderRow, Version, Texts, Position, Delta, Types, StrengthUnit, First, Shift, End, IsLine, AreTexts, AreStationValues, IsTime, IsCoordinate, header_line, version_fields, version_line, lengths, first_line, text_columns, texts_line, types_of, type_front, type_columns, codes_of, row_line, row_lines, has_line, all_rows, header_lines, position_line, delta_line, letter, joined, left, right, fixed, has, HeaderLists, width_of, text_of, fields_of, label_of, front_of, common_steps, most_line, most_signals, systems_letter, padded, most_number, slot_count, nat_tests, AreSlots, SlotNumber, channel_text, slot_text, slots_columns, slots_front, slots_line, slots_of, Slots, Biases, Shown, IsShown, Interval, IsInterval, IfSome, Option, Some, None, unwrap_or, interval_line, types_line}
+use Rattle.rinex_file.proofs.Names.{day_length, IsCivil, arith, lit≤, lit<, ◌≡◌, ap, refl, subst, ℕ, zero, suc, ◌+◌, ◌*◌, ◌/◌, ◌%◌, ◌^◌, ◌<◌, ◌≤◌, ℤ, pos, unsigned_abs, Bool, true, false, List, [], ◌∷◌, ◌++◌, length, take, drop, decimal, get_or, append_assoc, length-append, ◌==◌, ◌||◌, ◌&&◌, not, nat_le, flat_map, All, codes, slice_get, AllByRecursion, list_all, option_map_or, cond_both, ints, length-take, All-nil, All-head, All-tail, All-cons, All-append, All-map, All-take, All-drop, All-replicate, code_of, System, StationValues, Civil, civil_of, PlanValue, planned_of, HeaderField, HeaderRow, Version, Texts, Position, Delta, Types, First, Shift, IsLine, AreTexts, AreStationValues, IsTime, IsCoordinate, header_line, version_content, lengths, first_content, text_columns, texts_content, types_of, type_front, type_columns, codes_of, row_line, row_lines, has_line, all_rows, header_lines, position_content, height_content, line_with, row_content, row_label, letter, joined, left, right, fixed, has, HeaderLists, width_of, text_of, fields_of, label_of, front_of, common_steps, most_line, most_signals, systems_letter, padded, most_number, slot_count, nat_tests, AreSlots, SlotNumber, channel_text, slot_text, slots_columns, slots_front, slots_of, Slots, Shown, IsShown, Interval, IsInterval, IfSome, Option, Some, None, unwrap_or, interval_content, types_content, replicate}
 
 -- ---- a line of a file
 
@@ -18,17 +18,11 @@ pub record IsFileLine (l : List ℕ) : Type 0 where
 pub as_line : (n : ℕ) (body : List ℕ) → IsPlain n body → n ≤ 1219 → IsFileLine (body ++ 10 ∷ [])
 as_line n body is few = grind (arith, length-append)
 
--- ---- lines of the header
-
-header : (n : ℕ) (content label : List ℕ) → IsPlain n content → IsPlain 20 label → n ≤ 600 → IsFileLine (header_line content label)
-unfolding header_line
-header n content label is also few =
-    subst IsFileLine (append_assoc (left 60 content) (left 20 label) (10 ∷ []))
-    (as_line ((n + 60) + 40) (left 60 content ++ left 20 label) (plain-append (n + 60) 40 (left 60 content) (left 20 label) (plain-left 60 n content is) (plain-left 20 20 label also)) (omega (arith, few)))
+-- ---- the content of a row, of at most 600 bytes
 
 -- fields of up to 80 bytes each
-header_fields : (parts : List (List ℕ)) (label : List ℕ) → AllByRecursion (IsPlain 80) parts → length parts ≤ 7 → IsPlain 20 label → IsFileLine (header_line (joined parts) label)
-header_fields parts label are few is = header (length parts * 80) (joined parts) label (plain-joined 80 parts are) is (omega (arith, few))
+plain_fields : (parts : List (List ℕ)) → AllByRecursion (IsPlain 80) parts → length parts ≤ 7 → IsPlain 600 (joined parts)
+plain_fields parts are few = plain-wider (length parts * 80) 600 (joined parts) (omega (arith, few)) (plain-joined 80 parts are)
 
 pub of_80 : (n : ℕ) (text : List ℕ) → IsPlain n text → n ≤ 80 → IsPlain 80 text
 of_80 n text is h = plain-wider n 80 text h is
@@ -56,13 +50,12 @@ record IsPlainRow (r : HeaderField) : Type 0 where
 plain_row : (r : HeaderField) → IsPlainRow r
 plain_row r = grind (arith, common_steps, each_field, plain_text)
 
-line_of_texts : (x : HeaderLists) → AreTexts x → (r : HeaderField) → IsFileLine (texts_line x r)
-line_of_texts x are r =
+texts : (x : HeaderLists) → AreTexts x → (r : HeaderField) → IsPlain 600 (texts_content x r)
+texts x are r =
     let row = plain_row r in
     let few = row.few in
-    header (20 + length (fields_of r) * 120) (front_of r ++ flat_map (text_columns x) (fields_of r)) (label_of r)
+    plain-wider (20 + length (fields_of r) * 120) 600 (texts_content x r) (omega (arith, few))
     (plain-append 20 (length (fields_of r) * 120) (front_of r) (flat_map (text_columns x) (fields_of r)) row.front (plain_texts x are (fields_of r)))
-    row.label (omega (arith, few))
 
 -- ---- numbers
 
@@ -72,10 +65,9 @@ whole_field width n few fits = of_80 (width + 20) (right width (decimal n)) (pla
 length_field : (z : ℤ) → unsigned_abs z < 2 ^ 64 → IsPlain 80 (right 14 (fixed 4 z))
 length_field z fits = of_80 (14 + 46) (right 14 (fixed 4 z)) (plain-right 14 46 (fixed 4 z) (plain-fixed 4 z fits)) (lit≤ tt)
 
-three_lengths : (a b c : ℤ) (label : List ℕ) → unsigned_abs a < 2 ^ 64 → unsigned_abs b < 2 ^ 64 → unsigned_abs c < 2 ^ 64 → IsPlain 20 label
-    → IsFileLine (header_line (lengths a b c) label)
-three_lengths a b c label p q r is =
-    header_fields (right 14 (fixed 4 a) ∷ right 14 (fixed 4 b) ∷ right 14 (fixed 4 c) ∷ []) label (length_field a p, (length_field b q, (length_field c r, tt))) (lit≤ tt) is
+three_lengths : (a b c : ℤ) → unsigned_abs a < 2 ^ 64 → unsigned_abs b < 2 ^ 64 → unsigned_abs c < 2 ^ 64 → IsPlain 600 (lengths a b c)
+three_lengths a b c p q r =
+    plain_fields (right 14 (fixed 4 a) ∷ right 14 (fixed 4 b) ∷ right 14 (fixed 4 c) ∷ []) (length_field a p, (length_field b q, (length_field c r, tt))) (lit≤ tt)
 
 coordinate : (z : ℤ) → IsCoordinate z → unsigned_abs z < 2 ^ 64
 coordinate z is = grind (arith, ints)
@@ -110,20 +102,16 @@ plain_columns types are =
     plain-wider (length (take 13 types) * 4) 52 (flat_map (λ t. 32 ∷ t) (take 13 types)) (omega (arith, length-take 13 types))
     (plain-flat_map 4 (λ t. 32 ∷ t) (take 13 types) (λ k d h. plain-append 1 3 (32 ∷ []) (get_or (take 13 types) k d) (plain 1 (32 ∷ []) refl (lit≤ tt)) (All-take (IsPlain 3) 13 types are k d h)))
 
-line_of_types : (letter n : ℕ) (types : List (List ℕ)) (line : ℕ) → (letter == 10) ≡ false → n < 2 ^ 64 → All (IsPlain 3) types → IsFileLine (header_line (type_front letter n line ++ type_columns types line) (codes "SYS / # / OBS TYPES"))
-line_of_types letter n types line other few are =
-    header (26 + 52) (type_front letter n line ++ type_columns types line) (codes "SYS / # / OBS TYPES")
-    (plain-append 26 52 (type_front letter n line) (type_columns types line) (front_of_types letter n line other few)
-    (plain_columns (drop (13 * line) types) (All-drop (IsPlain 3) (13 * line) types are)))
-    (plain 20 (codes "SYS / # / OBS TYPES") refl (lit≤ tt)) (lit≤ tt)
-
 pub no_letter : (system : System) → (letter system == 10) ≡ false
 no_letter system = grind arith
 
-one_of_types : (system : System) (signals : List ℕ) (row : ℕ) → length signals ≤ most_signals → IsFileLine (types_line system signals row)
-one_of_types system signals row few =
-    line_of_types (letter system) (4 * length signals) (types_of (codes_of system signals)) row (no_letter system) (omega (arith, few)) (types_are_plain (codes_of system signals)
-    (All-map (IsPlain 2) (λ index. code_of (record { system = system; index = index })) signals (λ k d h. code_of_signal system (get_or signals k d))))
+types : (system : System) (signals : List ℕ) (row : ℕ) → length signals ≤ most_signals → IsPlain 600 (types_content system (length signals) signals row)
+types system signals row few =
+    let codes = codes_of system signals in
+    let are = types_are_plain codes (All-map (IsPlain 2) (λ index. code_of (record { system = system; index = index })) signals (λ k d h. code_of_signal system (get_or signals k d))) in
+    plain-wider (26 + 52) 600 (types_content system (length signals) signals row) (lit≤ tt)
+    (plain-append 26 52 (type_front (letter system) (4 * length signals) row) (type_columns (types_of codes) row) (front_of_types (letter system) (4 * length signals) row (no_letter system) (omega (arith, few)))
+    (plain_columns (drop (13 * row) (types_of codes)) (All-drop (IsPlain 3) (13 * row) (types_of codes) are)))
 
 -- ---- slots
 
@@ -143,15 +131,14 @@ plain_front : (count row : ℕ) → count < 2 ^ 64 → IsPlain 24 (slots_front c
 plain_front count zero few = plain-append 23 1 (right 3 (decimal count)) (32 ∷ []) (plain-right 3 20 (decimal count) (plain-decimal count few)) (plain 1 _ refl (lit≤ tt))
 plain_front count (suc row) few = record { clean = refl; short = lit≤ tt }
 
-line_of_slots : (ss : List SlotNumber) (row : ℕ) → AreSlots 0 ss → IsFileLine (slots_line ss row)
-line_of_slots ss row are =
+slots : (ss : List SlotNumber) (row : ℕ) → AreSlots 0 ss → IsPlain 600 (slots_columns (length ss) ss row)
+slots ss row are =
     let room = slots_room 0 ss are in
     let here = take 8 (drop (8 * row) ss) in
     let each = All-take (λ s. IsPlain 27 (slot_text s)) 8 (drop (8 * row) ss) (All-drop (λ s. IsPlain 27 (slot_text s)) (8 * row) ss (plain_slots 0 ss are)) in
-    header (24 + 216) (slots_columns (length ss) ss row) (codes "GLONASS SLOT / FRQ #")
+    plain-wider (24 + 216) 600 (slots_columns (length ss) ss row) (lit≤ tt)
     (plain-append 24 216 (slots_front (length ss) row) (flat_map slot_text here) (plain_front (length ss) row (omega (arith, room)))
     (plain-wider (length here * 27) 216 (flat_map slot_text here) (omega (arith, length-take 8 (drop (8 * row) ss))) (plain-flat_map 27 slot_text here each)))
-    (plain 20 _ refl (lit≤ tt)) (lit≤ tt)
 
 -- ---- times
 
@@ -180,61 +167,67 @@ pub second_field : (width m : ℕ) → width ≤ 20 → m < 2 ^ 32 → IsPlain 8
 second_field width m few fits =
     of_80 (width + 49) (right width (fixed 7 (pos (m * 10_000)))) (plain-right width 49 (fixed 7 (pos (m * 10_000))) (plain-fixed 7 (pos (m * 10_000)) (omega (arith, fits)))) (omega (arith, few))
 
-line_of_first : (t : Civil) → IsShort t → IsFileLine (first_line t)
-line_of_first t is =
-    header_fields
+first : (t : Civil) → IsShort t → IsPlain 600 (first_content t)
+first t is =
+    plain_fields
     (right 6 (decimal t.year) ∷ right 6 (decimal t.month) ∷ right 6 (decimal t.day) ∷ right 6 (decimal t.hour) ∷ right 6 (decimal t.minute)
     ∷ right 13 (fixed 7 (pos (t.millisecond * 10_000))) ∷ codes "     GPS" ∷ [])
-    (codes "TIME OF FIRST OBS")
     (also (whole t.year is.year) (also (whole t.month is.month) (also (whole t.day is.day) (also (whole t.hour is.hour) (also (whole t.minute is.minute)
-    (also (second_field 13 t.millisecond (lit≤ tt) is.millisecond) (plain 80 (codes "     GPS") refl (lit≤ tt), tt))))))) (lit≤ tt) (plain 20 (codes "TIME OF FIRST OBS") refl (lit≤ tt)) where
+    (also (second_field 13 t.millisecond (lit≤ tt) is.millisecond) (plain 80 (codes "     GPS") refl (lit≤ tt), tt))))))) (lit≤ tt) where
       whole : (n : ℕ) → n < 2 ^ 32 → IsPlain 80 (right 6 (decimal n))
       whole n h = whole_field 6 n (lit≤ tt) (omega (arith, h))
 
--- ---- the other lines of the header
+-- ---- the other rows of the header
 
-version : (p : PlanValue) → IsFileLine (version_line p)
+version : (p : PlanValue) → IsPlain 600 (version_content (systems_letter p))
 version p =
-    header_fields (version_fields (systems_letter p)) (codes "RINEX VERSION / TYPE") (
+    plain_fields (right 9 (fixed 2 (pos 305)) ∷ replicate 11 32 ∷ left 20 (codes "OBSERVATION DATA") ∷ (systems_letter p ∷ []) ∷ []) (
       of_80 (9 + 44) (right 9 (fixed 2 (pos 305))) (plain-right 9 44 (fixed 2 (pos 305)) (plain-fixed 2 (pos 305) (lit< tt))) (lit≤ tt),
       (record { clean = refl; short = lit≤ tt }, (record { clean = refl; short = lit≤ tt }, (grind (arith, common_steps, plain, lit≤, no_letter), tt))),
     )
-    (lit≤ tt) (plain 20 _ refl (lit≤ tt))
+    (lit≤ tt)
 
--- ---- station
+pub position : (v : StationValues) → AreStationValues v → IsPlain 600 (position_content v)
+position v values = three_lengths v.x v.y v.z (coordinate v.x values.x) (coordinate v.y values.y) (coordinate v.z values.z)
 
-pub line_of_position : (v : StationValues) → AreStationValues v → IsFileLine (position_line v)
-line_of_position v values = three_lengths v.x v.y v.z (codes "APPROX POSITION XYZ")
-    (coordinate v.x values.x) (coordinate v.y values.y) (coordinate v.z values.z) (plain 20 _ refl (lit≤ tt))
+pub height : (v : StationValues) → AreStationValues v → IsPlain 600 (height_content v.height)
+height v values = three_lengths (pos v.height) (pos 0) (pos 0) (let few = values.height in omega (arith, few)) (lit< tt) (lit< tt)
 
-pub line_of_delta : (v : StationValues) → AreStationValues v → IsFileLine (delta_line v)
-line_of_delta v values = three_lengths (pos v.height) (pos 0) (pos 0) (codes "ANTENNA: DELTA H/E/N")
-    (let height = values.height in omega (arith, height)) (lit< tt) (lit< tt) (plain 20 _ refl (lit≤ tt))
+interval_fits : (n : ℕ) → n < 2 ^ 32 → IsPlain 600 (interval_content n)
+interval_fits n fits = plain_fields (right 10 (fixed 3 (pos n)) ∷ [])
+    (of_80 (10 + 45) (right 10 (fixed 3 (pos n))) (plain-right 10 45 (fixed 3 (pos n)) (plain-fixed 3 (pos n) (omega (arith, fits)))) (lit≤ tt), tt) (lit≤ tt)
 
-interval_fits : (n : ℕ) → n < 2 ^ 32 → IsFileLine (interval_line n)
-interval_fits n fits = header_fields (right 10 (fixed 3 (pos n)) ∷ []) (codes "INTERVAL")
-    (of_80 (10 + 45) (right 10 (fixed 3 (pos n))) (plain-right 10 45 (fixed 3 (pos n)) (plain-fixed 3 (pos n) (omega (arith, fits)))) (lit≤ tt), tt) (lit≤ tt) (plain 20 _ refl (lit≤ tt))
-
-line_of_interval : (interval : Option ℕ) → IfSome interval IsInterval → IsFileLine (interval_line (unwrap_or interval 0))
-line_of_interval None is = interval_fits 0 (lit< tt)
-line_of_interval (Some n) is = let less = at_most_a_day n is in interval_fits n (omega (arith, less))
+interval : (interval : Option ℕ) → IfSome interval IsInterval → IsPlain 600 (interval_content (unwrap_or interval 0))
+interval None is = interval_fits 0 (lit< tt)
+interval (Some n) is = let less = at_most_a_day n is in interval_fits n (omega (arith, less))
 
 -- ---- rows
 
+plain_label : (r : HeaderRow) → IsPlain 20 (row_label r)
+plain_label (Texts r) = (plain_row r).label
+plain_label other = plain 20 _ refl (lit≤ tt)
+
+pub labelled : (r : HeaderRow) (content : List ℕ) → IsPlain 600 content → IsFileLine (line_with r content)
+unfolding header_line
+labelled r content is =
+    subst IsFileLine (append_assoc (left 60 content) (left 20 (row_label r)) (10 ∷ []))
+    (as_line ((600 + 60) + 40) (left 60 content ++ left 20 (row_label r)) (plain-append (600 + 60) 40 (left 60 content) (left 20 (row_label r)) (plain-left 60 600 content is) (plain-left 20 20 (row_label r) (plain_label r))) (lit≤ tt))
+
+content_in : (h : Shown) → IsShown h → (r : HeaderRow) → IsPlain 600 (row_content h r)
+content_in h is Version = version h.plan
+content_in h is (Texts r) = texts h.texts is.texts r
+content_in h is Position = position h.values is.values
+content_in h is Delta = height h.values is.values
+content_in h is (Types s row) = types s (planned_of s h.plan) row (few_signals_of h.plan is.plan s)
+content_in h is Interval = interval h.interval is.interval
+content_in h is First = first (civil_of h.first) (short_time h.first is.first)
+content_in h is (Shift s) = plain 600 _ (ap (λ c. c || false) (no_letter s)) (lit≤ tt)
+content_in h is (Slots row) = slots (slots_of h.plan.channels) row (slots_are h.plan.channels is.plan.channels)
+content_in h is other = plain 600 _ refl (lit≤ tt)
+
 line_in : (h : Shown) → IsShown h → (r : HeaderRow) → IsFileLine (row_line h r)
 unfolding row_line
-line_in h is Version = version h.plan
-line_in h is (Texts r) = line_of_texts h.texts is.texts r
-line_in h is Position = line_of_position h.values is.values
-line_in h is Delta = line_of_delta h.values is.values
-line_in h is (Types s row) = one_of_types s (planned_of s h.plan) row (few_signals_of h.plan is.plan s)
-line_in h is StrengthUnit = header 4 (codes "DBHZ") (codes "SIGNAL STRENGTH UNIT") (record { clean = refl; short = lit≤ tt }) (plain 20 _ refl (lit≤ tt)) (lit≤ tt)
-line_in h is Interval = line_of_interval h.interval is.interval
-line_in h is First = line_of_first (civil_of h.first) (short_time h.first is.first)
-line_in h is (Shift s) = header 1 (letter s ∷ []) (codes "SYS / PHASE SHIFT") (plain 1 _ (ap (λ c. c || false) (no_letter s)) (lit≤ tt)) (plain 20 _ refl (lit≤ tt)) (lit≤ tt)
-line_in h is (Slots row) = line_of_slots (slots_of h.plan.channels) row (slots_are h.plan.channels is.plan.channels)
-line_in h is Biases = header 0 [] (codes "GLONASS COD/PHS/BIS") (record { clean = refl; short = lit≤ tt }) (plain 20 _ refl (lit≤ tt)) (lit≤ tt)
-line_in h is End = header 0 [] (codes "END OF HEADER") (record { clean = refl; short = lit≤ tt }) (plain 20 _ refl (lit≤ tt)) (lit≤ tt)
+line_in h is r = labelled r (row_content h r) (content_in h is r)
 
 lines_of_rows : (h : Shown) → ((r : HeaderRow) → IsFileLine (row_line h r)) → (rows : List HeaderRow) → All IsFileLine (flat_map (row_lines h) rows)
 lines_of_rows h each [] = All-nil IsFileLine

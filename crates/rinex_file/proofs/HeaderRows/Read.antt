@@ -6,7 +6,7 @@ use Rattle.rinex_file.proofs.HeaderRows.Types.{same_types_line}
 use Rattle.rinex_file.proofs.HeaderRows.Places.{either, slots_here, types_here}
 use Rattle.rinex_file.proofs.HeaderRows.Steps.{left_over}
 use Rattle.rinex_file.proofs.HeaderRows.Texts.{each_field, field_back, is_apart, same_here, same_line, same_some, kept_texts, same_texts, texts_back}
-use Rattle.rinex_file.proofs.Names.{value_after, value_of_other, IsLineOfTypes, IsThere, Glonass, AreSlots, common_steps, AreListsAt, IsRowRead, IsRowUnread, arith, ◌≡◌, ◌∙◌, sym, ap, refl, subst, ℕ, suc, ◌+◌, ◌<◌, ◌≤◌, Bool, true, false, List, [], ◌∷◌, length, take, min, ◌↔◌, ◌^◌, Option, Some, None, IsTrue, codes, list_all, take-map, SignalAt, table, System, is_less, is_system, indices, planned_of, civil_of, StationValues, length_indices, Types, Version, Texts, Position, Delta, StrengthUnit, First, Shift, row_line, has_line, type_rows, position_line, row_place, header_line, height_line, first_line, strength_line, version_by, Known, Has, HasRow, AreSameTexts, counted, systems_letter, AreTypes, signals_begun, IsPosition, position_of, Shown, IsShown, TakesTypes, RefusesTypes, with_types, IsHeaderLineRead, RefusesHeaderLine, ReadsOrRefuses, ReadsTexts, RefusesTexts, with_texts, with_values, with_first, with_letter, HeaderField, HeaderRow, HeaderLists, fields_of, front_of, IsTime, letter, ReadsExactly, same_Some, ⊤, Slots, Biases, biases_line, slots_line, slots_with, slots_of, slots_begun, known_slots, with_slots, AreItemsBefore, AreSameItems, types_with, most_type_rows, IsLineOfSlots, TakesSlots, TakesOrRefusesSlots, ChannelsValue, add-one, has_text, is_required, not-true, Interval, IsInterval, is_some, interval_line, with_interval, lit≤}
+use Rattle.rinex_file.proofs.Names.{value_after, value_of_other, IsLineOfTypes, IsThere, Glonass, AreSlots, common_steps, AreListsAt, IsRowRead, IsRowUnread, arith, ◌≡◌, ◌∙◌, sym, ap, refl, subst, ℕ, suc, ◌+◌, ◌<◌, ◌≤◌, Bool, true, false, List, [], length, take, min, ◌↔◌, ◌^◌, Option, Some, None, IsTrue, list_all, take-map, SignalAt, table, System, is_less, is_system, indices, planned_of, civil_of, StationValues, length_indices, Types, Version, Texts, Position, Delta, First, row_line, has_line, type_rows, position_line, row_place, Known, Has, HasRow, AreSameTexts, counted, systems_letter, AreTypes, signals_begun, IsPosition, position_of, Shown, IsShown, TakesTypes, RefusesTypes, with_types, IsHeaderLineRead, RefusesHeaderLine, ReadsOrRefuses, ReadsTexts, RefusesTexts, with_texts, with_values, with_first, with_letter, HeaderField, HeaderRow, HeaderLists, fields_of, front_of, IsTime, ReadsExactly, same_Some, ⊤, Slots, slots_line, slots_with, slots_of, slots_begun, known_slots, with_slots, AreItemsBefore, AreSameItems, types_with, most_type_rows, IsLineOfSlots, TakesSlots, TakesOrRefusesSlots, ChannelsValue, add-one, has_text, is_required, not-true, Interval, IsInterval, is_some, with_interval, lit≤, line_with, row_content, ReadsHeaderRow, version_content, interval_content, first_content, height_content, position_content, IfSome, unwrap_or}
 
 -- ---- types
 
@@ -109,6 +109,12 @@ module _ (s : System) (row : ℕ) (line : List ℕ) (k : Known) (before : AreIte
 exact : {V : Type 0} {Is : V → Type 0} {text : V → List ℕ} {line : List ℕ} {v : V} → ReadsExactly Is text line (Some v) → (w : V) → Is w → (text w ≡ line) ↔ (w ≡ v)
 exact {text = text} r w is = (λ e. r.2 w is (sym e), λ e. ap text e ∙ sym r.1)
 
+-- no header has the line, if the row's content in each is that of a value
+pub refuse_exactly : {V : Type 0} (r : HeaderRow) (Is : V → Type 0) (content : V → List ℕ) (k : Known) (line : List ℕ) → ((h : Shown) → IsShown h → has_line h r ≡ true → (v : V) × Is v × (row_content h r ≡ content v))
+    → ReadsHeaderRow r Is content line None → RefusesHeaderLine k r line
+unfolding row_line
+refuse_exactly r Is content k line own read h is before there e = let (v, fits, shows) = own h is there in read v fits (sym e ∙ ap (line_with r) shows)
+
 -- ---- texts
 
 -- no text is in two rows
@@ -153,7 +159,7 @@ refuse_texts k r line refuses h is before there e = refuses h.texts is.texts the
 no_height : (v : StationValues) → v.height ≡ 0 → v ≡ position_of v
 no_height v e = ap (λ (n : ℕ). record v { height = n }) e
 
-pub line_position : (k : Known) (v : StationValues) (line : List ℕ) → ReadsExactly IsPosition position_line line (Some v)
+pub line_position : (k : Known) (v : StationValues) (line : List ℕ) → ReadsHeaderRow Position IsPosition position_content line (Some v)
     → IsHeaderLineRead Position line k (with_values k (record v { height = k.shown.values.height }))
 unfolding row_line
 line_position k v line r = record { lists = λ w. w; read = tt; early = λ q less before. before; later = λ q less blank. blank; there = λ o. cc; own = own; kept = kept } where
@@ -165,28 +171,14 @@ line_position k v line r = record { lists = λ w. w; read = tt; early = λ q les
   kept : (h : Shown) (q : HeaderRow) → row_place q < row_place Position → HasRow k h q ↔ HasRow (with_values k (record v { height = k.shown.values.height })) h q
   kept h other less = grind (arith, common_steps)
 
-pub refuse_position : (k : Known) (line : List ℕ) → ReadsExactly IsPosition position_line line None → RefusesHeaderLine k Position line
-unfolding row_line
-refuse_position k line r h is before there e = r (position_of h.values) (is.values.x, is.values.y, is.values.z, refl) (sym e)
-
-abbrev Height : List ℕ → Option ℕ → Type 0
-Height line r = ReadsExactly (λ h. h < 2 ^ 16) height_line line r
-
-pub line_delta : (k : Known) (height : ℕ) (line : List ℕ) → Height line (Some height)
+pub line_delta : (k : Known) (height : ℕ) (line : List ℕ) → ReadsHeaderRow Delta (λ h. h < 2 ^ 16) height_content line (Some height)
     → IsHeaderLineRead Delta line k (with_values k (record k.shown.values { height = height }))
 unfolding row_line
 line_delta k height line r = grind (arith, exact)
 
-pub refuse_delta : (k : Known) (line : List ℕ) → Height line None → RefusesHeaderLine k Delta line
-unfolding row_line
-refuse_delta k line r h is before there e = r h.values.height is.values.height (sym e)
-
 -- ---- the interval
 
-abbrev IntervalIn : List ℕ → Option ℕ → Type 0
-IntervalIn line r = ReadsExactly IsInterval interval_line line r
-
-pub line_interval : (k : Known) (n : ℕ) (line : List ℕ) → IntervalIn line (Some n) → IsHeaderLineRead Interval line k (with_interval k n)
+pub line_interval : (k : Known) (n : ℕ) (line : List ℕ) → ReadsHeaderRow Interval IsInterval interval_content line (Some n) → IsHeaderLineRead Interval line k (with_interval k n)
 unfolding row_line
 line_interval k n line r = record { lists = λ w. w; read = tt; early = λ q less before. before; later = later; there = λ o. refl; own = own; kept = kept } where
   later : (q : HeaderRow) → row_place Interval < row_place q → IsRowUnread k q → IsRowUnread (with_interval k n) q
@@ -198,44 +190,28 @@ line_interval k n line r = record { lists = λ w. w; read = tt; early = λ q les
   kept : (h : Shown) (q : HeaderRow) → row_place q < row_place Interval → HasRow k h q ↔ HasRow (with_interval k n) h q
   kept h other less = grind (arith, common_steps)
 
-pub refuse_interval : (k : Known) (line : List ℕ) → IntervalIn line None → RefusesHeaderLine k Interval line
-unfolding row_line
-refuse_interval k line r = grind (arith, common_steps, is_some)
+-- a header with the line has an interval
+pub given_interval : (h : Shown) → IsShown h → has_line h Interval ≡ true → (n : ℕ) × IsInterval n × (row_content h Interval ≡ interval_content n)
+given_interval h is there = by h.interval is.interval there where
+  by : (o : Option ℕ) → IfSome o IsInterval → is_some o ≡ true → (n : ℕ) × IsInterval n × (interval_content (unwrap_or o 0) ≡ interval_content n)
+  by None is e = cc
+  by (Some n) is e = (n, is, refl)
 
 -- ---- the first epoch
 
-abbrev FirstTime : List ℕ → Option ℕ → Type 0
-FirstTime line r = ReadsExactly IsTime (λ t. first_line (civil_of t)) line r
-
-pub line_first : (k : Known) (t : ℕ) (line : List ℕ) → FirstTime line (Some t) → IsHeaderLineRead First line k (with_first k t)
+pub line_first : (k : Known) (t : ℕ) (line : List ℕ) → ReadsHeaderRow First IsTime (λ t. first_content (civil_of t)) line (Some t) → IsHeaderLineRead First line k (with_first k t)
 unfolding row_line
-line_first k t line r = record { lists = λ w. w; read = tt; early = λ q less before. before; later = λ q less blank. blank; there = λ o. cc; own = λ h is before there. exact {Is = IsTime} {text = λ t. first_line (civil_of t)} r h.first is.first; kept = kept } where
+line_first k t line r = record { lists = λ w. w; read = tt; early = λ q less before. before; later = λ q less blank. blank; there = λ o. cc; own = λ h is before there. exact {Is = IsTime} {text = λ t. line_with First (first_content (civil_of t))} r h.first is.first; kept = kept } where
   kept : (h : Shown) (q : HeaderRow) → row_place q < row_place First → HasRow k h q ↔ HasRow (with_first k t) h q
   kept h First less = absurd (omega (arith, less))
   kept h other less = (λ e. e, λ e. e)
 
-pub refuse_first : (k : Known) (line : List ℕ) → FirstTime line None → RefusesHeaderLine k First line
-unfolding row_line
-refuse_first k line r h is before there e = r h.first is.first (sym e)
-
 -- ---- lines that are always the same
 
-line_fixed : (r : HeaderRow) {text line : List ℕ} (k : Known) (b : Bool) → IsRowRead k r → IsThere k r → ((h : Shown) → row_line h r ≡ text) → ((h : Shown) → HasRow k h r)
-    → (IsTrue b ↔ (line ≡ text)) → ReadsOrRefuses r line k k b
-line_fixed r k b read there shows said is = grind (arith, common_steps)
-
-pub line_unit : (k : Known) (line : List ℕ) (b : Bool) → (IsTrue b ↔ (line ≡ strength_line)) → ReadsOrRefuses StrengthUnit line k k b
+pub line_fixed : {r : HeaderRow} (t : HeaderRow) {content line : List ℕ} → r ≡ t → (k : Known) (b : Bool) → IsRowRead k t → IsThere k t → ((h : Shown) → row_content h t ≡ content) → ((h : Shown) → HasRow k h t)
+    → (IsTrue b ↔ (line ≡ line_with r content)) → ReadsOrRefuses r line k k b
 unfolding row_line
-line_unit k line b is = line_fixed StrengthUnit k b tt (λ o. cc) (λ h. refl) (λ h. tt) is
-
-pub line_shift : (system : System) (byte : ℕ) (k : Known) (line : List ℕ) (b : Bool) → byte ≡ letter system
-    → (IsTrue b ↔ (line ≡ header_line (byte ∷ []) (codes "SYS / PHASE SHIFT"))) → ReadsOrRefuses (Shift system) line k k b
-unfolding row_line
-line_shift system byte k line b e is = grind (arith, line_fixed)
-
-pub line_biases : (k : Known) (line : List ℕ) (b : Bool) → (IsTrue b ↔ (line ≡ biases_line)) → ReadsOrRefuses Biases line k k b
-unfolding row_line
-line_biases k line b is = line_fixed Biases k b tt (λ o. cc) (λ h. refl) (λ h. tt) is
+line_fixed t same k b read there shows said is = grind (arith, common_steps)
 
 -- ---- slots
 
@@ -272,10 +248,6 @@ module _ (row : ℕ) (line : List ℕ) (k : Known) (before : AreItemsBefore k (S
 
 -- ---- version and systems
 
-pub line_version : (k : Known) (l : ℕ) (line : List ℕ) → ReadsExactly (λ byte. ⊤) version_by line (Some l) → IsHeaderLineRead Version line k (with_letter k l)
+pub line_version : (k : Known) (l : ℕ) (line : List ℕ) → ReadsHeaderRow Version (λ byte. ⊤) version_content line (Some l) → IsHeaderLineRead Version line k (with_letter k l)
 unfolding row_line
-line_version k l line r = record { lists = λ w. w; read = tt; early = λ q less before. before; later = λ q less blank. blank; there = λ o. cc; own = λ h is before there. exact {Is = λ byte. ⊤} {text = version_by} r (systems_letter h.plan) tt; kept = λ h q less. absurd (omega (arith, less)) }
-
-pub refuse_version : (k : Known) (line : List ℕ) → ReadsExactly (λ byte. ⊤) version_by line None → RefusesHeaderLine k Version line
-unfolding row_line
-refuse_version k line r h is before there e = r (systems_letter h.plan) tt (sym e)
+line_version k l line r = record { lists = λ w. w; read = tt; early = λ q less before. before; later = λ q less blank. blank; there = λ o. cc; own = λ h is before there. exact {Is = λ byte. ⊤} {text = λ byte. line_with Version (version_content byte)} r (systems_letter h.plan) tt; kept = λ h q less. absurd (omega (arith, less)) }

@@ -4,7 +4,7 @@ use Rattle.rinex_file.proofs.HeaderRows.Lists.{item_in_line, up_to}
 use Rattle.rinex_file.proofs.Judged.{refused}
 use Rattle.rinex_file.proofs.Digits.Padded.{two_digits}
 use Rattle.rinex_file.proofs.HeaderRows.Types.{content_first}
-use Rattle.rinex_file.proofs.Names.{All-set, length-filter, digits_in-padded, digits_in-whole, length-right, count_by, IsLineOfSlots, TakesOrRefusesSlots, AreSlots, SlotNumber, channel_text, last_slot, slot_text, slots_columns, slots_from, slots_front, slots_in_line, slots_of, AreChannels, ChannelsValue, most_number, no_channels, number_at, slot_count, with_number, slots_line, slots_with, common_steps, All, All-head, All-replicate, All-tail, IfSome, List, None, Option, Some, [], ap, append-nil, append_assoc, arith, codes, decimal, digits_in, drop, drop-append-le, drop-cons, drop-drop, drop-take, header_line, IsTrue, ◌↔◌, drop_all, flat_map, flat_map-append, get_or, length, length-append, length-decimal-le, length-drop, length-set, min, padded, refl, right, set, suc, sym, take, take-append-le, take_all, take_at, take_more, filter, is_some, zero, ◌*◌, ◌++◌, ◌+◌, ◌-◌, ◌/◌, ◌%◌, ◌<◌, ◌∙◌, ◌∷◌, ◌≡◌, ◌≤◌, ℕ, Bool, if◌then◌else◌, subst, lt-ltb, le-ltb}
+use Rattle.rinex_file.proofs.Names.{All-set, length-filter, digits_in-padded, digits_in-whole, length-right, count_by, IsLineOfSlots, TakesOrRefusesSlots, AreSlots, SlotNumber, channel_text, last_slot, slot_text, slots_columns, slots_from, slots_front, slots_in_line, slots_of, AreChannels, ChannelsValue, most_number, no_channels, number_at, slot_count, with_number, slots_line, slots_with, common_steps, All, All-head, All-replicate, All-tail, IfSome, List, None, Option, Some, [], ap, append-nil, append_assoc, arith, decimal, digits_in, drop, drop-append-le, drop-cons, drop-drop, drop-take, IsTrue, ◌↔◌, drop_all, flat_map, flat_map-append, get_or, length, length-append, length-decimal-le, length-drop, length-set, min, padded, refl, right, set, suc, sym, take, take-append-le, take_all, take_at, take_more, filter, is_some, zero, ◌*◌, ◌++◌, ◌+◌, ◌-◌, ◌/◌, ◌%◌, ◌<◌, ◌∙◌, ◌∷◌, ◌≡◌, ◌≤◌, ℕ, Bool, if◌then◌else◌, subst, lt-ltb, le-ltb, line_with, row_label, Slots}
 
 -- ---- slots that follow others
 
@@ -178,7 +178,7 @@ same_in_line row a b e = cut a ∙ ap (drop (8 * row)) e ∙ sym (cut b) where
   cut ss = let next : 8 * row + 8 ≡ 8 * suc row = omega arith in sym (drop-take (8 * row) 8 ss) ∙ ap (λ (n : ℕ). drop (8 * row) (take n ss)) next
 
 pub same_slots_line : (row count : ℕ) (a b : List SlotNumber) → take (8 * suc row) a ≡ take (8 * suc row) b → slots_with count a row ≡ slots_with count b row
-same_slots_line row count a b e = ap (λ (l : List SlotNumber). header_line (slots_front count row ++ flat_map slot_text l) (codes "GLONASS SLOT / FRQ #")) (same_in_line row a b e)
+same_slots_line row count a b e = ap (λ (l : List SlotNumber). line_with (Slots row) (slots_front count row ++ flat_map slot_text l)) (same_in_line row a b e)
 
 -- ---- the columns of a slot
 
@@ -218,7 +218,7 @@ module _ {row before : ℕ} {line : List ℕ} {old all : List SlotNumber} (l : I
       let few = few_slots in
       let size = length-decimal-le 3 (length all) (omega arith) (omega (arith, few)) (omega (arith, few)) in
       let slots = flat_map slot_text (in_line 0 all) in
-      let content = content_first (slots_columns (length all) all 0) (codes "GLONASS SLOT / FRQ #") in
+      let content = content_first (slots_columns (length all) all 0) (row_label (Slots 0)) in
       ap (λ (t : List ℕ). digits_in (take 3 t)) (l.is ∙ ap (slots_line all) first ∙ content.1 ∙ append_assoc (number ++ 32 ∷ []) slots content.0 ∙ append_assoc number (32 ∷ []) (slots ++ content.0))
       ∙ ap digits_in (take_at number (32 ∷ (slots ++ content.0)) 3 (length-right 3 (decimal (length all)) size)) ∙ digits_in-whole 3 (length all) (omega (arith, few))
 
@@ -240,7 +240,7 @@ module _ {row before : ℕ} {line : List ℕ} {old all : List SlotNumber} (l : I
     row_line =
         let count = few_slots in
         let low = λ (i : ℕ) (h : i < length all). let bound = (each_slot 0 all i d l.are h).0 in lower (get_or all i d).slot bound in
-        let item = item_in_line slot_text 7 4 8 (λ q. 7 * q) refl (λ q. omega arith) (slots_front (length all) row) (codes "GLONASS SLOT / FRQ #") all (8 * row) q d (length-front (length all) row (omega (arith, count)))
+        let item = item_in_line slot_text 7 4 8 (λ q. 7 * q) refl (λ q. omega arith) (slots_front (length all) row) (row_label (Slots row)) all (8 * row) q d (length-front (length all) row (omega (arith, count)))
         (λ i h. grind (arith, two_digits, length-append, low i h)) few less in
         subst (ShowsSlot slot_here) (sym (ap (drop (4 + 7 * q)) l.is ∙ item.1)) (grind (arith, two_digits, low (8 * row + q) less)) where
           lower : (slot : ℕ) → slot ≤ slot_count → slot < 100

@@ -8,7 +8,7 @@ use Rattle.rinex_file.proofs.HeaderRows.Types.{content_first}
 use Rattle.rinex_file.proofs.HeaderRows.Slots.{no_slots}
 use Rattle.rinex_file.proofs.PlainTexts.{both}
 use Rattle.rinex_file.proofs.HeaderRows.Places.{place_at, earlier_slots, earlier_types, few_rows, known_at, number_known, types_early}
-use Rattle.rinex_file.proofs.Names.{each_system, Glonass, not-false, bytes_eq, label_columns, common_steps, types_line, is_of_types, Result, Refusal, TakesHeaderLine, expected_if, drop, all_rows, arith, ◌≡◌, ◌∙◌, sym, ap, refl, subst, ℕ, zero, suc, ◌+◌, ◌<◌, ◌≤◌, Bool, true, false, List, [], ◌∷◌, ◌++◌, length, append-nil, not, ◌≢◌, ◌==◌, ◌&&◌, ◌↔◌, nat_lt, nat_tests, System, planned_of, Known, IsShown, AreValid, Shown, IsHeadAt, row_lines, row_line, lines_before, lines_after, signals_begun, HeaderRow, Types, StrengthUnit, Shift, End, Expected, has_line, row_at, row_count, row_place, type_rows, known_line, RefusesHeaderLine, NoneGoesOn, SameFrom, Has, HasRow, counted, fits, begins_with, IsHeaderLineRead, GoesOn, Takes, flat_map, header_line, letter, codes, is_less, nil_from_length, Slots, Biases, slots_of, slot_rows, known_slots, not-true, ltb-false, add-one, eq-eqb, Texts, First, is_given, is_optional, is_required, has_text, label_of, left, AreUnread, append_assoc, ap₂, or_parts, has_label, fields_of, length-append, ◌||◌, Interval, row_label, is_some, lit≤, Version, Position, Delta, at_most, most_type_rows, AreListsAt, AreReadAt, IsRowRead, IsRowUnread, slots_begun, lt-ltb, AreItemsBefore}
+use Rattle.rinex_file.proofs.Names.{each_system, Glonass, not-false, bytes_eq, label_columns, common_steps, types_line, is_of_types, Result, Refusal, TakesHeaderLine, expected_if, drop, all_rows, arith, ◌≡◌, ◌∙◌, sym, ap, refl, subst, ℕ, zero, suc, ◌+◌, ◌<◌, ◌≤◌, Bool, true, false, List, [], ◌∷◌, ◌++◌, length, append-nil, not, ◌≢◌, ◌==◌, ◌&&◌, ◌↔◌, nat_lt, nat_tests, System, planned_of, Known, IsShown, AreValid, Shown, IsHeadAt, row_lines, row_line, lines_before, lines_after, signals_begun, HeaderRow, Types, StrengthUnit, Shift, End, Expected, has_line, row_at, row_count, row_place, type_rows, known_line, RefusesHeaderLine, NoneGoesOn, SameFrom, Has, HasRow, counted, fits, begins_with, IsHeaderLineRead, GoesOn, Takes, flat_map, header_line, letter, codes, is_less, nil_from_length, Slots, Biases, slots_of, slot_rows, known_slots, not-true, ltb-false, add-one, eq-eqb, Texts, First, is_given, is_optional, is_required, has_text, label_of, left, AreUnread, append_assoc, ap₂, or_parts, has_label, fields_of, length-append, ◌||◌, Interval, row_content, row_label, is_some, lit≤, Version, Position, Delta, at_most, most_type_rows, AreListsAt, AreReadAt, IsRowRead, IsRowUnread, slots_begun, lt-ltb, AreItemsBefore}
 use Rattle.rinex_file.proofs.HeaderRows.Lists.{still_same}
 
 -- ---- the items before an expected line
@@ -171,12 +171,12 @@ first_byte content label b byte rest e = ap (begins_with byte) ((content_first c
 
 unit_byte : (h : Shown) (byte : ℕ) → begins_with byte (row_line h StrengthUnit) ≡ (68 == byte)
 unfolding row_line
-unit_byte h byte = first_byte (codes "DBHZ") (codes "SIGNAL STRENGTH UNIT") 68 byte _ refl
+unit_byte h byte = first_byte (codes "DBHZ") (row_label StrengthUnit) 68 byte _ refl
 
 pub types_byte : (h : Shown) (s : System) (row byte : ℕ) → begins_with byte (row_line h (Types s row)) ≡ (byte_of (Types s row) == byte)
 unfolding row_line
-types_byte h s zero byte = first_byte _ (codes "SYS / # / OBS TYPES") (letter s) byte _ refl
-types_byte h s (suc row) byte = first_byte _ (codes "SYS / # / OBS TYPES") 32 byte _ refl
+types_byte h s zero byte = first_byte _ (row_label (Types s 0)) (letter s) byte _ refl
+types_byte h s (suc row) byte = first_byte _ (row_label (Types s row)) 32 byte _ refl
 
 byte_law : (h : Shown) (byte : ℕ) (r : HeaderRow) → other_byte byte r ≡ true → begins_with byte (row_line h r) ≡ false
 byte_law h byte r e = grind (arith, common_steps, types_byte, not-true, unit_byte)
@@ -196,7 +196,7 @@ label_shown a content label short fits = grind (arith, common_steps, length-left
 
 -- a line of types has their label
 pub types_labelled : (system : System) (all : List ℕ) (row : ℕ) → is_of_types (types_line system all row) ≡ true
-types_labelled system all row = label_shown (codes "SYS / # / OBS TYPES") _ (codes "SYS / # / OBS TYPES") (lit≤ tt) (lit≤ tt)
+types_labelled system all row = label_shown (row_label (Types system row)) _ (row_label (Types system row)) (lit≤ tt) (lit≤ tt)
 
 short_row : (r : HeaderRow) → length (row_label r) ≤ label_columns
 short_row r = grind (arith, common_steps, at_most, each_field, lit≤)
@@ -204,18 +204,7 @@ short_row r = grind (arith, common_steps, at_most, each_field, lit≤)
 -- what a row's line shows of a label
 row_shown : (h : Shown) (a : List ℕ) (r : HeaderRow) → length a ≤ label_columns → has_label a (row_line h r) ≡ bytes_eq (label_end a) (label_end (row_label r))
 unfolding row_line
-row_shown h a Version short = label_shown a _ (row_label Version) short (short_row Version)
-row_shown h a (Texts row) short = label_shown a _ (row_label (Texts row)) short (short_row (Texts row))
-row_shown h a Position short = label_shown a _ (row_label Position) short (short_row Position)
-row_shown h a Delta short = label_shown a _ (row_label Delta) short (short_row Delta)
-row_shown h a (Types s row) short = label_shown a _ (row_label (Types s row)) short (short_row (Types s row))
-row_shown h a StrengthUnit short = label_shown a _ (row_label StrengthUnit) short (short_row StrengthUnit)
-row_shown h a Interval short = label_shown a _ (row_label Interval) short (short_row Interval)
-row_shown h a First short = label_shown a _ (row_label First) short (short_row First)
-row_shown h a (Shift s) short = label_shown a _ (row_label (Shift s)) short (short_row (Shift s))
-row_shown h a (Slots row) short = label_shown a _ (row_label (Slots row)) short (short_row (Slots row))
-row_shown h a Biases short = label_shown a _ (row_label Biases) short (short_row Biases)
-row_shown h a End short = label_shown a _ (row_label End) short (short_row End)
+row_shown h a r short = label_shown a (row_content h r) (row_label r) short (short_row r)
 
 abbrev other_label : HeaderRow → HeaderRow → Bool
 other_label row r = not (bytes_eq (label_end (row_label row)) (label_end (row_label r)))

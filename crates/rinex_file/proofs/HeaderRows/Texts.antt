@@ -3,7 +3,7 @@ use Rattle.rinex_file.proofs.Rows.Trimmed.{filled, trimmed-blank}
 use Rattle.rinex_file.proofs.PlainTexts.{both}
 use Rattle.rinex_file.proofs.HeaderRows.Types.{content_first}
 use Rattle.std.proofs.Math.ListN.{get_or-map, set, length-set}
-use Rattle.rinex_file.proofs.Names.{common_steps, AreSameTexts, arith, ◌≡◌, ◌∙◌, refl, sym, ap, ap₂, subst, ℕ, Option, suc, ◌+◌, ◌<◌, ◌≤◌, ◌≢◌, List, [], ◌∷◌, length, drop, get_or, add-one, true, Some, None, zero, ◌-◌, ◌++◌, take, replicate, append_assoc, append-nil, length-append, ◌==◌, map, flat_map, list_all, drop-cons, length-map, length-replicate, take_at, drop_at, get_or-set_same, get_or-set_other, get_or_default, ext_get_or, list_all-append, passes_at, is_equal, HeaderField, HeadFault, AntType, trimmed, HeaderLists, text_count, width_of, text_of, is_printable, fault_of, first_fault, fields, fields_of, trimmed_texts, place_of, front_of, label_of, IsText, AreTexts, left, header_line, text_columns, texts_line, texts_in, if_fine, RefusesTexts, same_Some, not, list_any, nat_lt, or_parts, ◌||◌, nat_tests, false, Bool, has_row, is_required, both_ways, nil_from_length, nat_le, at_most}
+use Rattle.rinex_file.proofs.Names.{common_steps, AreSameTexts, arith, ◌≡◌, ◌∙◌, refl, sym, ap, ap₂, subst, ℕ, Option, suc, ◌+◌, ◌<◌, ◌≤◌, ◌≢◌, List, [], ◌∷◌, length, drop, get_or, add-one, true, Some, None, zero, ◌-◌, ◌++◌, take, replicate, append_assoc, append-nil, length-append, ◌==◌, map, flat_map, list_all, drop-cons, length-map, length-replicate, take_at, drop_at, get_or-set_same, get_or-set_other, get_or_default, ext_get_or, list_all-append, passes_at, is_equal, HeaderField, HeadFault, AntType, trimmed, HeaderLists, text_count, width_of, text_of, is_printable, fault_of, first_fault, fields, fields_of, trimmed_texts, place_of, front_of, label_of, IsText, AreTexts, left, text_columns, texts_line, texts_in, if_fine, RefusesTexts, same_Some, not, list_any, nat_lt, or_parts, ◌||◌, nat_tests, false, Bool, has_row, is_required, both_ways, nil_from_length, nat_le, at_most, line_with, Texts}
 
 pub trimmed-blanks : (k : ℕ) (text : List ℕ) → trimmed (text ++ replicate k 32) ≡ trimmed text
 trimmed-blanks zero text = ap trimmed (append-nil text)
@@ -108,7 +108,7 @@ same_columns x y [] same = refl
 same_columns x y (f ∷ fs) same = ap₂ (λ t l. left (width_of f) t ++ l) same.0 (same_columns x y fs same.1)
 
 pub same_line : (x y : HeaderLists) (r : HeaderField) → AreSameTexts x y (fields_of r) → texts_line x r ≡ texts_line y r
-same_line x y r same = ap (λ l. header_line (front_of r ++ l) (label_of r)) (same_columns x y (fields_of r) same)
+same_line x y r same = ap (λ l. line_with (Texts r) (front_of r ++ l)) (same_columns x y (fields_of r) same)
 
 pub same_here : (x : HeaderLists) (fs : List HeaderField) → AreSameTexts x x fs
 same_here x [] = tt

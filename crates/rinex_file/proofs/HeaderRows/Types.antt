@@ -1,6 +1,6 @@
 -- A line of types: the columns of the signals that begin in it, and the signals that are read from it.
 use Rattle.std.proofs.lemmas.Str.Ascii.{IsAscii-from_all}
-use Rattle.rinex_file.proofs.Names.{get_or-map, flat_map-append, AllPass-from_list_all, length-right, digits_in-whole, each_system, few_below, passes_below, get_or-flat_map, common_steps, ◌-◌, length-take, length-drop, arith, rules, ◌≡◌, ◌∙◌, ap, refl, ℕ, zero, suc, ◌+◌, ◌<◌, ◌≤◌, ◌==◌, Bool, true, false, List, [], ◌∷◌, length, take, drop, Some, Option, nat_lt, sym, ◌*◌, ◌/◌, ◌%◌, ◌++◌, get_or, append_assoc, ap₂, subst, ◌||◌, decimal, nat_eq, IsAscii, IsUtf8, flat_map, slice_index, codes, list_any, IsDistinct, IsUtf8-from_ascii, cases_lt, length-map, take_more, get_or-drop, take_all, take_at, take-take, take-map, drop-drop, drop-take, All-get_or, apart_from_distinct, IsDistinct-tail, length-decimal-le, System, SignalAt, IsSignal, table, code_of, signal_of_code, passes_at, is_less, is_equal, indices, IsOf, any_index, indices-push, type_of, types_of, codes_of, type_columns, header_line, type_front, right, letter, digits_in, AreTypes, types_line, signals_begun, HasSignalAt, same_Some, list_all, All-weaker, most_signals, both_ways, flip_false, types_with, add-one}
+use Rattle.rinex_file.proofs.Names.{get_or-map, flat_map-append, AllPass-from_list_all, length-right, digits_in-whole, each_system, few_below, passes_below, get_or-flat_map, common_steps, ◌-◌, length-take, length-drop, arith, rules, ◌≡◌, ◌∙◌, ap, refl, ℕ, zero, suc, ◌+◌, ◌<◌, ◌≤◌, ◌==◌, Bool, true, false, List, [], ◌∷◌, length, take, drop, Some, Option, nat_lt, sym, ◌*◌, ◌/◌, ◌%◌, ◌++◌, get_or, append_assoc, ap₂, subst, ◌||◌, decimal, nat_eq, IsAscii, IsUtf8, flat_map, slice_index, list_any, IsDistinct, IsUtf8-from_ascii, cases_lt, length-map, take_more, get_or-drop, take_all, take_at, take-take, take-map, drop-drop, drop-take, All-get_or, apart_from_distinct, IsDistinct-tail, length-decimal-le, System, SignalAt, IsSignal, table, code_of, signal_of_code, passes_at, is_less, is_equal, indices, IsOf, any_index, indices-push, type_of, types_of, codes_of, type_columns, type_front, right, letter, digits_in, AreTypes, types_line, signals_begun, HasSignalAt, same_Some, list_all, All-weaker, most_signals, both_ways, flip_false, types_with, add-one, line_with, row_label, Types}
 pub use Rattle.rinex_file.proofs.HeaderRows.Lists.{content_first}
 use Rattle.rinex_file.proofs.HeaderRows.Lists.{item_in_line}
 
@@ -118,7 +118,7 @@ code_in_line {system} {all} row q k are few within place less =
     let line = types_line system all row in
     let s = signal_at system all k in
     let inside : 13 * row + q < 4 * length all = omega (arith, place, less) in
-    let item = item_in_line (λ t. 32 ∷ t) 4 6 13 (λ q. 4 * q) refl (λ q. omega arith) (type_front (letter system) (4 * length all) row) (codes "SYS / # / OBS TYPES") (types_of (codes_of system all)) (13 * row) q []
+    let item = item_in_line (λ t. 32 ∷ t) 4 6 13 (λ q. 4 * q) refl (λ q. omega arith) (type_front (letter system) (4 * length all) row) (row_label (Types system row)) (types_of (codes_of system all)) (13 * row) q []
     (length-front (letter system) (4 * length all) row few) (four_columns system all are) within (subst (λ (n : ℕ). 13 * row + q < n) (sym (length-system_types system all)) inside) in
     let letter : get_or (types_of (codes_of system all)) (13 * row + q) [] ≡ 67 ∷ code_of s = type_at system all (13 * row + q) inside ∙ ap (λ (n : ℕ). type_of (n % 4) (code_of (signal_at system all (n / 4)))) place
     ∙ ap₂ (λ (m n : ℕ). type_of m (code_of (signal_at system all n))) (none_left k) (fourth k) in
@@ -195,7 +195,7 @@ taken_before {all} place s old are same less twice before = both_ways _ (any_ind
 
 -- the line depends on the signals whose types begin in the lines up to it alone
 pub same_types_line : (system : System) (row count : ℕ) (a b : List ℕ) → take (signals_begun (suc row)) a ≡ take (signals_begun (suc row)) b → types_with system count a row ≡ types_with system count b row
-same_types_line system row count a b e = ap (λ l. header_line (type_front (letter system) (4 * count) row ++ l) (codes "SYS / # / OBS TYPES")) (cut a ∙ ap (λ l. type_columns (types_of (codes_of system l)) row) e ∙ sym (cut b)) where
+same_types_line system row count a b e = ap (λ l. line_with (Types system row) (type_front (letter system) (4 * count) row ++ l)) (cut a ∙ ap (λ l. type_columns (types_of (codes_of system l)) row) e ∙ sym (cut b)) where
   cut : (all : List ℕ) → type_columns (types_of (codes_of system all)) row ≡ type_columns (types_of (codes_of system (take (signals_begun (suc row)) all))) row
   cut all = sym (row_shown system all row) ∙ ap (λ n. type_columns (types_of (codes_of system (take (signals_begun n) all))) row) (add-one row)
 
@@ -213,7 +213,7 @@ count_shown system all line are bound is =
     let number = right 3 (decimal n) in
     let few = few_types system all are in
     let digits : length (decimal n) ≤ 3 = length-decimal-le 3 n (omega arith) (omega (arith, few, bound)) (omega (arith, few, bound)) in
-    let first = content_first (type_front (letter system) n 0 ++ type_columns types 0) (codes "SYS / # / OBS TYPES") in
+    let first = content_first (type_front (letter system) n 0 ++ type_columns types 0) (row_label (Types system 0)) in
     ap (λ l. take 3 (drop 3 l)) (is ∙ first.1 ∙ append_assoc (letter system ∷ 32 ∷ 32 ∷ number) (type_columns types 0) first.0)
     ∙ take_at number (type_columns types 0 ++ first.0) 3 (length-right 3 (decimal n) digits)
 

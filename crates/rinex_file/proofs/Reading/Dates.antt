@@ -1,6 +1,6 @@
 -- A date and time of day is read back from its columns.
 use Rattle.rinex_file.proofs.HeaderRows.Types.{content_first}
-use Rattle.rinex_file.proofs.Names.{length-right, length-padded, length-fixed, not_negative, digits_in-right, digits_in-fixed, digits_in-padded, digits_in-whole, arith, ◌≡◌, ℕ, zero, suc, ◌+◌, ◌*◌, ◌/◌, ◌^◌, ◌<◌, ◌≤◌, List, [], ◌∷◌, ◌++◌, refl, sym, ap, ◌∙◌, length, get_or, take, drop, append_assoc, decimal, pos, subst, lit<, codes, min, ⊤, is_negative, sign_text, length-decimal-le, take_at, drop_at, drop-drop, div-add-mod', Civil, IsCivilOf, civil_of, joined, right, padded, fixed, digits_in, epoch_line, first_line}
+use Rattle.rinex_file.proofs.Names.{length-right, length-padded, length-fixed, not_negative, digits_in-right, digits_in-fixed, digits_in-padded, digits_in-whole, arith, ◌≡◌, ℕ, zero, suc, ◌+◌, ◌*◌, ◌/◌, ◌^◌, ◌<◌, ◌≤◌, List, [], ◌∷◌, ◌++◌, refl, sym, ap, ◌∙◌, length, get_or, take, drop, append_assoc, decimal, pos, subst, lit<, codes, min, ⊤, is_negative, sign_text, length-decimal-le, take_at, drop_at, drop-drop, div-add-mod', Civil, IsCivilOf, civil_of, joined, right, padded, fixed, digits_in, epoch_line, line_with, row_label, First, first_content}
 pub use Rattle.std.proofs.lemmas.Option.{none-some as none_some, same_Some}
 pub use Rattle.gnss_obs.proofs.WalkLaws.{same_civil}
 
@@ -113,12 +113,12 @@ epoch_shown t n line is few e =
 
 -- ---- the header's line of the first epoch
 
-pub first_shown : (t : Civil) (line : List ℕ) → HasColumns t → line ≡ first_line t → ShowDate t 6 13 line
+pub first_shown : (t : Civil) (line : List ℕ) → HasColumns t → line ≡ line_with First (first_content t) → ShowDate t 6 13 line
 first_shown t line is e =
     let fs =
     right 6 (decimal t.year) ∷ right 6 (decimal t.month) ∷ right 6 (decimal t.day) ∷ right 6 (decimal t.hour) ∷ right 6 (decimal t.minute)
     ∷ right 13 (fixed 7 (pos (t.millisecond * 10_000))) ∷ codes "     GPS" ∷ [] in
-    let (tail, shape) = content_first (joined fs) (codes "TIME OF FIRST OBS") in
+    let (tail, shape) = content_first (joined fs) (row_label First) in
     let year = is_six t.year (omega (arith, is.year)) in
     let month = is_six t.month (omega (arith, is.month)) in
     let day = is_six t.day (omega (arith, is.day)) in

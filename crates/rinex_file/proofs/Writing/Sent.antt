@@ -1,12 +1,12 @@
 -- Lines that are written.
-use Rattle.rinex_file.proofs.Names.{IsErrAnd, flat_map-append, sum_by-cons, systems, index_of, before, after, satellites_in, systems_split, systems_taken, sum_by, common_steps, arith, ◌≡◌, ◌∙◌, sym, ap, refl, subst, ℕ, zero, suc, ◌+◌, ◌-◌, ◌≤◌, List, [], ◌∷◌, ◌++◌, length, append_assoc, append-nil, length-append, true, false, Result, OnOk, map, if◌then◌else◌, IfErr, map-append, length-map, filter-append, System, Cell, cells_of, flat_map, take, take_all, civil_of, PlanValue, EpochValue, is_written, written_among, satellites_written, joined, written_satellites, row_among, rows_of, satellite_line, epoch_line, StationValues, position_line, delta_line, event_line, event_text, line_among, line_or_none, lines_up_to, lines_of_systems, epoch_text}
+use Rattle.rinex_file.proofs.Names.{IsErrAnd, flat_map-append, sum_by-cons, systems, index_of, before, after, satellites_in, systems_split, systems_taken, sum_by, common_steps, arith, ◌≡◌, ◌∙◌, sym, ap, refl, subst, ℕ, zero, suc, ◌+◌, ◌-◌, ◌≤◌, List, [], ◌∷◌, ◌++◌, length, append_assoc, append-nil, length-append, true, false, Result, OnOk, map, if◌then◌else◌, IfErr, map-append, length-map, filter-append, System, Cell, cells_of, flat_map, take, take_all, civil_of, PlanValue, EpochValue, is_written, written_among, satellites_written, joined, written_satellites, row_among, rows_of, satellite_line, epoch_line, StationValues, position_line, height_line, event_line, event_text, line_among, line_or_none, lines_up_to, lines_of_systems, epoch_text}
 
 pub joined-append : (xs ys : List (List ℕ)) → joined (xs ++ ys) ≡ joined xs ++ joined ys
 joined-append xs ys = flat_map-append (λ l. l) xs ys
 
 -- ---- an event
 
-pub event_parts : (v : StationValues) → event_text v ≡ event_line ++ (position_line v ++ (delta_line v ++ []))
+pub event_parts : (v : StationValues) → event_text v ≡ event_line ++ (position_line v ++ (height_line v.height ++ []))
 unfolding event_text
 event_parts v = refl
 

@@ -6,15 +6,15 @@ ghost use Rattle.rinex_file.specs.inner.Header.{row_at, row_count, lines_after};
 ghost use Rattle.rinex_file.specs.inner.Heads.{shown_by};
 
 use crate::header::lines::{
-    BIASES, END, SHIFT, STRENGTH_UNIT, UNIT, delta_line, first_line, flagged_letter, interval_line,
-    position_line, texts_line, version_by,
+    UNIT, delta_line, first_line, flagged_letter, interval_line, position_line, texts_line,
+    version_line,
 };
 use crate::header::lists::{slot_rows, slots_in, slots_with, type_rows, types_with};
 use crate::header::rows::{HeaderRow, ROW_COUNT, row_at};
 use crate::header::texts::HeaderTexts;
 use gnss_obs::{GpsTime, Interval, Plan, StationValues};
 use gnss_system::{BySystem, System};
-use rinex_columns::{Line, labelled};
+use rinex_columns::Line;
 use std::marker::Model;
 
 /// The contents of a header.
@@ -77,7 +77,7 @@ fn line_of(head: &Head, row: HeaderRow) -> Line
     ensures { result.items ≡ row_line (shown_by head.now) row }
 {
     match row {
-        HeaderRow::Version => version_by(systems_letter(head.plan)),
+        HeaderRow::Version => version_line(systems_letter(head.plan)),
         HeaderRow::Texts(row) => texts_line(head.texts, row),
         HeaderRow::Position => position_line(&head.values),
         HeaderRow::Delta => delta_line(&head.values),
@@ -85,16 +85,15 @@ fn line_of(head: &Head, row: HeaderRow) -> Line
             let signals = head.plan.of(system);
             types_with(system, signals.len(), signals, row)
         }
-        HeaderRow::StrengthUnit => labelled(UNIT, STRENGTH_UNIT),
+        HeaderRow::StrengthUnit => row.line(UNIT),
         HeaderRow::Interval => interval_line(head.interval.unwrap()),
         HeaderRow::First => first_line(head.first),
-        HeaderRow::Shift(system) => labelled(&[system.letter()], SHIFT),
+        HeaderRow::Shift(system) => row.line(&[system.letter()]),
         HeaderRow::Slots(row) => {
             let channels = head.plan.channels();
             slots_with(slots_in(channels), channels, row)
         }
-        HeaderRow::Biases => labelled(b"", BIASES),
-        HeaderRow::End => labelled(b"", END),
+        HeaderRow::Biases | HeaderRow::End => row.line(b""),
     }
 }
 

@@ -14,15 +14,13 @@ ghost use Rattle.rinex_columns.specs.Numbers.{Adds};
 ghost use Rattle.rinex_columns.specs.Limits.{most_line};
 ghost use Rattle.rinex_file.specs.Slots.{slot_text, slot_rows, slots_front, slots_in_line, slots_of};
 
+use crate::header::rows::HeaderRow;
 use gnss_obs::{Channels, GREATEST_SLOT, Signal};
 use gnss_system::System;
-use rinex_columns::{Line, labelled, put, put_whole};
+use rinex_columns::{Line, put, put_whole};
 
 /// Largest number of types in a line.
 pub(crate) const TYPES_IN_LINE: usize = 13;
-
-/// The label of a line of types.
-pub(crate) const TYPES: &[u8] = b"SYS / # / OBS TYPES";
 
 /// Returns the number of lines that the types of this number of signals need.
 pub(crate) fn type_rows(signals: usize) -> usize
@@ -87,7 +85,7 @@ pub(crate) fn types_with(system: System, count: usize, signals: &[Signal], row: 
     let mut content = Line::new();
     put_types_front(&mut content, system.letter(), 4 * count, row);
     put_types(&mut content, system, signals, row);
-    labelled(content.as_slice(), TYPES)
+    HeaderRow::Types(system, row).line(content.as_slice())
 }
 
 /// Largest number of slots in a line.
@@ -165,5 +163,5 @@ pub(crate) fn slots_with(count: usize, channels: &Channels, row: usize) -> Line
     let mut content = Line::new();
     put_slots_front(&mut content, count, row);
     put_slots(&mut content, channels, row);
-    labelled(content.as_slice(), b"GLONASS SLOT / FRQ #")
+    HeaderRow::Slots(row).line(content.as_slice())
 }

@@ -1,11 +1,14 @@
 //! The rows of a header in their order, each of one line or none: RINEX 3.05, table A2.
-ghost use Rattle.std.specs.Prelude.{◌≡◌, ◌<◌};
+ghost use Rattle.std.specs.Prelude.{◌≡◌, ◌↔◌, ◌<◌, ◌≤◌, IsTrue, is_some, length};
+ghost use Rattle.rinex_columns.specs.Limits.{label_columns};
+ghost use Rattle.rinex_file.specs.Header.{line_with, row_label};
 ghost use Rattle.rinex_file.specs.inner.Header.{row_at, row_count, first_types};
 
 use crate::header::fields::HeaderField::{self, *};
 use HeaderRow::*;
 use gnss_system::System::{self, *};
 use gnss_system::{SYSTEMS, systems};
+use rinex_columns::{Line, labelled, read_labelled};
 
 /// The content of the line of a row.
 #[derive(Clone, Copy)]
@@ -34,6 +37,45 @@ pub enum HeaderRow {
     Biases,
     /// `END OF HEADER`.
     End,
+}
+
+impl HeaderRow {
+    /// Returns the label, in columns 61 to 80.
+    pub(crate) fn label(self) -> &'static [u8]
+        ensures value { result.now ≡ row_label self }
+        ensures bound { length result.now ≤ label_columns }
+    {
+        match self {
+            Version => b"RINEX VERSION / TYPE",
+            Texts(row) => row.label(),
+            Position => b"APPROX POSITION XYZ",
+            Delta => b"ANTENNA: DELTA H/E/N",
+            Types(_, _) => b"SYS / # / OBS TYPES",
+            StrengthUnit => b"SIGNAL STRENGTH UNIT",
+            Interval => b"INTERVAL",
+            First => b"TIME OF FIRST OBS",
+            Shift(_) => b"SYS / PHASE SHIFT",
+            Slots(_) => b"GLONASS SLOT / FRQ #",
+            Biases => b"GLONASS COD/PHS/BIS",
+            End => b"END OF HEADER",
+        }
+    }
+
+    /// Returns the line with this content.
+    pub(crate) fn line(self, content: &[u8]) -> Line
+        requires { length content.now ≤ 900 }
+        ensures { result.items ≡ line_with self content.now }
+    {
+        labelled(content, self.label())
+    }
+
+    /// Reads the line with this content, or returns None for any other line.
+    pub(crate) fn read(self, line: &[u8], content: &[u8]) -> Option<()>
+        requires { length content.now ≤ 900 }
+        ensures { IsTrue (is_some result) ↔ (line.now ≡ line_with self content.now) }
+    {
+        read_labelled(line, content, self.label())
+    }
 }
 
 // The rows of a file of these systems in order. The signals of a system have at most six lines of

@@ -12,8 +12,8 @@ ghost use Rattle.rinex_file.specs.inner.Read.HeaderSteps.{TakesHeaderLine, Takes
 ghost use Rattle.rinex_file.specs.inner.Read.HeaderSteps.{AreItemsBefore, IsHeaderLineRead, IsOnly, ReadsOrRefuses};
 ghost use Rattle.rinex_file.specs.inner.Read.HeaderSteps.{RefusesHeaderLine};
 
-use crate::header::lines::{BIASES, END, INTERVAL, SHIFT, STRENGTH_UNIT, UNIT, flagged_letter};
-use crate::header::lists::{TYPES, slot_rows, type_rows};
+use crate::header::lines::{UNIT, flagged_letter};
+use crate::header::lists::{slot_rows, type_rows};
 use crate::header::rows::{HeaderRow, first_types, row_at};
 use crate::header::texts::HeaderTexts;
 use crate::read::other_lines::{
@@ -24,7 +24,7 @@ use crate::read::slots::SlotsSoFar;
 use crate::read::types::TypesSoFar;
 use gnss_obs::{GpsTime, Interval, Signal, StationValues};
 use gnss_system::{BySystem, System};
-use rinex_columns::{has_label, read_labelled};
+use rinex_columns::has_label;
 use std::alloc::Global;
 use std::marker::Model;
 
@@ -134,7 +134,7 @@ impl HeadSoFar {
     {
         match row {
             HeaderRow::Texts(row) => row.is_required() || has_label(line, row.label()),
-            HeaderRow::Interval => has_label(line, INTERVAL),
+            HeaderRow::Interval => has_label(line, row.label()),
             HeaderRow::Types(system, 0) => begins_with(line, system.letter()),
             HeaderRow::Types(system, row) => row < type_rows(self.of(system).count),
             HeaderRow::Shift(system) => self.of(system).count > 0,
@@ -190,7 +190,7 @@ impl HeadSoFar {
         ensures memory { result ≡ Err Refusal.Memory → is_of_types line.now ≡ true }
     {
         // Memory is allocated only for a line with this label.
-        if !has_label(line, TYPES) {
+        if !has_label(line, HeaderRow::Types(system, row).label()) {
             return Err(Refusal::Bad);
         }
         self.types.of_mut(system).take(system, row, line)
@@ -225,12 +225,12 @@ impl HeadSoFar {
                 self.values.height = height;
             }
             HeaderRow::Delta => self.values.height = read_delta(line)?,
-            HeaderRow::StrengthUnit => return read_labelled(line, UNIT, STRENGTH_UNIT),
+            HeaderRow::StrengthUnit => return row.read(line, UNIT),
             HeaderRow::Interval => self.interval = Some(read_interval(line)?),
             HeaderRow::First => self.first = read_first(line)?,
-            HeaderRow::Shift(system) => return read_labelled(line, &[system.letter()], SHIFT),
+            HeaderRow::Shift(system) => return row.read(line, &[system.letter()]),
             HeaderRow::Slots(row) => return self.slots.take(row, line),
-            HeaderRow::Biases => return read_labelled(line, b"", BIASES),
+            HeaderRow::Biases => return row.read(line, b""),
             HeaderRow::Types(_, _) | HeaderRow::End => return None,
         }
         Some(())
@@ -244,7 +244,7 @@ impl HeadSoFar {
     {
         let place = self.place_from(from, line);
         match row_at(place) {
-            HeaderRow::End if read_labelled(line, b"", END).is_some() => Ok(Expected::Epoch),
+            HeaderRow::End if HeaderRow::End.read(line, b"").is_some() => Ok(Expected::Epoch),
             HeaderRow::End => Err(Refusal::Bad),
             row => {
                 self.read_row(row, line)?;

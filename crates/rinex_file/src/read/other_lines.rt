@@ -5,16 +5,18 @@ ghost use Rattle.gnss_obs.specs.Dates.{civil_of};
 ghost use Rattle.gnss_obs.specs.Intervals.{IsInterval};
 ghost use Rattle.gnss_obs.specs.GatheredEpochs.{IsCoordinate};
 ghost use Rattle.rinex_file.specs.FileValues.{IsTime};
-ghost use Rattle.rinex_file.specs.Header.{first_line, height_line, interval_line, position_line, version_by};
+ghost use Rattle.rinex_file.specs.Header.{first_content, height_content, interval_content, line_with};
+ghost use Rattle.rinex_file.specs.Header.{position_content, version_content};
 ghost use Rattle.rinex_file.specs.Lines.{epoch_line};
 ghost use Rattle.rinex_columns.specs.Read.{number_in, ReadsExactly};
-ghost use Rattle.rinex_file.specs.inner.Read.HeaderSteps.{ReadsOrRefusesTexts};
+ghost use Rattle.rinex_file.specs.inner.Read.HeaderSteps.{ReadsOrRefusesTexts, ReadsHeaderRow};
 ghost use Rattle.rinex_file.specs.inner.Read.Progress.{IsPosition};
 
 use crate::header::fields::HeaderField;
 use crate::header::lines::{
-    DELTA, first_line, interval_line, position_line, texts_line, three_lengths, version_by,
+    first_line, interval_line, position_line, texts_line, three_lengths, version_line,
 };
+use crate::header::rows::HeaderRow;
 use crate::header::texts::HeaderTexts;
 use crate::write::line::epoch_line;
 use gnss_obs::laws::calendar;
@@ -24,10 +26,10 @@ use rinex_columns::{Line, columns, digits_in, is_same, signed};
 /// Returns the byte in place of the letter of a file's systems, or None for a line that isn't the
 /// first.
 pub(crate) fn read_version(line: &[u8]) -> Option<u8>
-    ensures { ReadsExactly (λ letter. ⊤) version_by line.now result }
+    ensures { ReadsHeaderRow HeaderRow.Version (λ letter. ⊤) version_content line.now result }
 {
     let letter = columns(line, 40, 1).first().copied().unwrap_or(0);
-    is_same(line, version_by(letter).as_slice()).then_some(letter)
+    is_same(line, version_line(letter).as_slice()).then_some(letter)
 }
 
 /// Returns the number in the 14 columns of a line that begin at `from`, in 0.0001 m, limited to
@@ -44,7 +46,7 @@ fn coordinate_in(line: &[u8], from: usize) -> i64
 /// Returns the position of the antenna in 0.0001 m, with height zero, by its line, or None for any
 /// other line.
 pub(crate) fn read_position(line: &[u8]) -> Option<StationValues>
-    ensures { ReadsExactly IsPosition position_line line.now result }
+    ensures { ReadsHeaderRow HeaderRow.Position IsPosition position_content line.now result }
 {
     let position = StationValues {
         x: coordinate_in(line, 0),
@@ -58,17 +60,17 @@ pub(crate) fn read_position(line: &[u8]) -> Option<StationValues>
 /// Returns the height of the antenna above the marker in 0.0001 m by its line, or None for any
 /// other line.
 pub(crate) fn read_delta(line: &[u8]) -> Option<u16>
-    ensures { ReadsExactly (λ h. h < 2 ^ 16) height_line line.now result }
+    ensures { ReadsHeaderRow HeaderRow.Delta (λ h. h < 2 ^ 16) height_content line.now result }
 {
     // A number that doesn't fit differs from the limit, which is written again.
     let height = digits_in(columns(line, 0, 14)).min(65_535) as u16;
-    let again = three_lengths(height as i64, 0, 0, DELTA);
+    let again = three_lengths(HeaderRow::Delta, height as i64, 0, 0);
     is_same(line, again.as_slice()).then_some(height)
 }
 
 /// Returns the interval by its line, or None for any other line.
 pub(crate) fn read_interval(line: &[u8]) -> Option<Interval>
-    ensures { ReadsExactly IsInterval interval_line line.now result }
+    ensures { ReadsHeaderRow HeaderRow.Interval IsInterval interval_content line.now result }
 {
     // A number that doesn't fit is limited to one that is no interval.
     let milliseconds = digits_in(columns(line, 0, 10)).min(4_294_967_295) as u32;
@@ -99,8 +101,8 @@ pub(crate) fn read_texts(texts: &mut HeaderTexts, row: HeaderField, line: &[u8])
 fn time_in(line: &[u8], width: usize, second: usize) -> Option<GpsTime>
     requires width { width ≤ 6 }
     requires second { second ≤ 13 }
-    ensures first { (t : ℕ) → IsTime t → width ≡ 6 → second ≡ 13 → line.now ≡ first_line (civil_of t)
-        → result ≡ Some t }
+    ensures first { (t : ℕ) → IsTime t → width ≡ 6 → second ≡ 13
+        → line.now ≡ line_with HeaderRow.First (first_content (civil_of t)) → result ≡ Some t }
     ensures epoch { (t n : ℕ) → IsTime t → n ≤ 999 → width ≡ 3 → second ≡ 11 → line.now ≡ epoch_line (civil_of t) n
         → result ≡ Some t }
 {
@@ -118,7 +120,7 @@ fn time_in(line: &[u8], width: usize, second: usize) -> Option<GpsTime>
 
 /// Returns the time of the first epoch by its line in the header, or None for any other line.
 pub(crate) fn read_first(line: &[u8]) -> Option<GpsTime>
-    ensures { ReadsExactly IsTime (λ t. first_line (civil_of t)) line.now result }
+    ensures { ReadsHeaderRow HeaderRow.First IsTime (λ t. first_content (civil_of t)) line.now result }
 {
     let time = time_in(line, 6, 13)?;
     is_same(line, first_line(time).as_slice()).then_some(time)

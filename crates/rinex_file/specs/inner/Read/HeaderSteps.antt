@@ -1,6 +1,6 @@
 -- From one line of a header to the next while its lines are read.
 use Rattle.std.specs.Prelude.{◌≡◌, ℕ, zero, suc, ◌+◌, ◌<◌, ◌≤◌, ◌==◌, nat_lt, Bool, true, false, List, [], ◌∷◌, ◌++◌}
-use Rattle.std.specs.Prelude.{length, codes, ◌||◌, set, take, drop, min, Option, Some, None, Result, Ok, Err, ⊤, ◌↔◌}
+use Rattle.std.specs.Prelude.{length, ◌||◌, set, take, drop, min, Option, Some, None, Result, Ok, Err, ⊤, ◌↔◌}
 use Rattle.gnss_obs.specs.declared.cell.StationValues.{StationValues}
 use Rattle.gnss_system.specs.Signals.{SignalAt, IsSignal, code_of, table}
 use Rattle.gnss_system.specs.declared.system.System.{System}
@@ -13,9 +13,8 @@ use Rattle.gnss_system.specs.SystemValues.{with_value_of}
 use Rattle.rinex_file.specs.declared.header.fault.HeadFault.{HeadFault}
 use Rattle.rinex_file.specs.declared.header.fields.HeaderField.{HeaderField}
 use Rattle.rinex_file.specs.declared.header.rows.HeaderRow.{HeaderRow}
-use Rattle.rinex_file.specs.declared.header.rows.HeaderRow.TheVariants.{Texts, Types, Interval, First, Shift, Slots}
+use Rattle.rinex_file.specs.declared.header.rows.HeaderRow.TheVariants.{Texts, Types, Interval, Shift, Slots}
 use Rattle.rinex_file.specs.declared.header.rows.HeaderRow.TheVariants.{Biases, End}
-use Rattle.rinex_file.specs.declared.header.rows.HeaderRow.TheVariants.{Version, Position, Delta, StrengthUnit}
 use Rattle.rinex_file.specs.declared.read.parser_state.Expected.{Expected}
 use Rattle.rinex_file.specs.declared.read.parser_state.Expected.TheVariants.{Header, Epoch}
 use Rattle.rinex_file.specs.declared.read.parser_state.Refusal.{Refusal}
@@ -24,8 +23,9 @@ use Rattle.rinex_file.specs.Blanks.{trimmed}
 use Rattle.rinex_file.specs.Texts.{HeaderLists, place_of, width_of, fault_of, fields_of, front_of, text_count}
 use Rattle.rinex_file.specs.Texts.{has_row, is_required, label_of}
 use Rattle.rinex_file.specs.FileValues.{AreTexts}
-use Rattle.rinex_file.specs.Header.{header_lines, row_line, texts_line, type_rows, types_with, slots_with, has_line}
+use Rattle.rinex_file.specs.Header.{header_lines, row_label, row_line, line_with, texts_line, type_rows, types_with, slots_with, has_line}
 use Rattle.rinex_columns.specs.HeaderLine.{has_label}
+use Rattle.rinex_columns.specs.Read.{ReadsExactly}
 use Rattle.rinex_file.specs.Header.{is_of_types}
 use Rattle.rinex_file.specs.inner.Header.{row_at, row_place, row_count, most_type_rows, is_given, is_optional}
 use Rattle.rinex_file.specs.Slots.{SlotNumber, AreSlots, last_slot, slot_rows}
@@ -44,20 +44,6 @@ IsOnly other = ⊤
 abbrev pub begins_with : ℕ → List ℕ → Bool
 begins_with byte [] = false
 begins_with byte (b ∷ bs) = b == byte
-
-abbrev pub row_label : HeaderRow → List ℕ
-row_label Version = codes "RINEX VERSION / TYPE"
-row_label (Texts row) = label_of row
-row_label Position = codes "APPROX POSITION XYZ"
-row_label Delta = codes "ANTENNA: DELTA H/E/N"
-row_label (Types system row) = codes "SYS / # / OBS TYPES"
-row_label StrengthUnit = codes "SIGNAL STRENGTH UNIT"
-row_label Interval = codes "INTERVAL"
-row_label First = codes "TIME OF FIRST OBS"
-row_label (Shift system) = codes "SYS / PHASE SHIFT"
-row_label (Slots row) = codes "GLONASS SLOT / FRQ #"
-row_label Biases = codes "GLONASS COD/PHS/BIS"
-row_label End = codes "END OF HEADER"
 
 -- the items in the lines before a line of a list were read, and there are more
 abbrev pub AreItemsBefore : Known → HeaderRow → Type 0
@@ -216,6 +202,10 @@ pub record SameFrom (k : Known) (line : List ℕ) (place next : ℕ) : Type 0 wh
   pub read : AreReadAt k next
   pub unread : AreUnread k next
   pub expected : next < row_count
+
+-- Some if and only if the line is that of a row with the content of a value, and then this value
+abbrev pub ReadsHeaderRow : {V : Type 0} → HeaderRow → (V → Type 0) → (V → List ℕ) → List ℕ → Option V → Type 0
+ReadsHeaderRow row Is content = ReadsExactly Is (λ v. line_with row (content v))
 
 -- ---- texts
 

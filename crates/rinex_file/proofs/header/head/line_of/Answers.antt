@@ -1,22 +1,23 @@
 -- Each row's line is the one that the row's own function makes; a row that has no line for this plan has none here.
-use Rattle.rinex_file.proofs.Names.{common_steps, shown_by, unwrap_or, ◌∙◌, sym, ap, [], ◌∷◌, codes, row_line, header_line, length_indices, few_signals, arith, interval_line}
+use Rattle.rinex_file.proofs.Names.{common_steps, shown_by, unwrap_or, ◌∙◌, sym, ap, [], ◌∷◌, row_line, row_content, line_with, length_indices, few_signals, arith, interval_content, HeaderRow, Version, Texts, Position, Delta, First, Interval, Shift, Biases, End, inl, inr, List, Shown, ℕ, ◌≡◌, refl, version_content}
 use Rattle.rinex_file.proofs.header.head.line_of.Goals as goal
 
-pub returns-in-Version : goal.returns-in-Version
+-- the line that another row's function or this row makes, if it has this row's content
+own_line : (h : Shown) (s : HeaderRow) {r t : HeaderRow} {content line : List ℕ} → s ≡ t → r ≡ t → line ≡ line_with s content → row_content h t ≡ content → line ≡ row_line h r
 unfolding row_line
-returns-in-Version c = grind (arith, common_steps, c.version_by.ensures, c.systems_letter.ensures, c.in-Version.is)
+own_line h s {t = t} {content} same is made shows = made ∙ ap (λ q. line_with q content) same ∙ ap (line_with t) (sym shows) ∙ ap (row_line h) (sym is)
+
+pub returns-in-Version : goal.returns-in-Version
+returns-in-Version c = own_line (shown_by c.args.head.now) Version refl c.in-Version.is c.version_line.ensures (ap version_content (sym c.systems_letter.ensures))
 
 pub returns-in-Texts : goal.returns-in-Texts
-unfolding row_line
-returns-in-Texts c = let h = shown_by c.args.head.now in c.texts_line.ensures ∙ ap (row_line h) (sym c.in-Texts.is)
+returns-in-Texts c = own_line (shown_by c.args.head.now) (Texts c.in-Texts.row) refl c.in-Texts.is c.texts_line.ensures refl
 
 pub returns-in-Position : goal.returns-in-Position
-unfolding row_line
-returns-in-Position c = let h = shown_by c.args.head.now in c.position_line.ensures ∙ ap (row_line h) (sym c.in-Position.is)
+returns-in-Position c = own_line (shown_by c.args.head.now) Position refl c.in-Position.is c.position_line.ensures refl
 
 pub returns-in-Delta : goal.returns-in-Delta
-unfolding row_line
-returns-in-Delta c = let h = shown_by c.args.head.now in c.delta_line.ensures ∙ ap (row_line h) (sym c.in-Delta.is)
+returns-in-Delta c = own_line (shown_by c.args.head.now) Delta refl c.in-Delta.is c.delta_line.ensures refl
 
 pub types_with-requires-clause-count : goal.types_with-requires-clause-count
 types_with-requires-clause-count c = few_signals c.in-Types.system c.of-signals.result.now c.of-signals.ensures.system
@@ -26,20 +27,13 @@ unfolding row_line
 returns-in-Types c = grind (arith, common_steps, c.types_with.ensures, c.of-signals.ensures, c.in-Types.is, length_indices)
 
 pub returns-in-StrengthUnit : goal.returns-in-StrengthUnit
-unfolding row_line
-returns-in-StrengthUnit c = let h = shown_by c.args.head.now in c.labelled.ensures ∙ ap (row_line h) (sym c.in-StrengthUnit.is)
+returns-in-StrengthUnit c = own_line (shown_by c.args.head.now) c.args.row c.in-StrengthUnit.is c.in-StrengthUnit.is c.line.ensures refl
 
 pub returns-in-First : goal.returns-in-First
-unfolding row_line
-returns-in-First c = let h = shown_by c.args.head.now in c.first_line.ensures ∙ ap (row_line h) (sym c.in-First.is)
+returns-in-First c = own_line (shown_by c.args.head.now) First refl c.in-First.is c.first_line.ensures refl
 
 pub returns-in-Interval : goal.returns-in-Interval
-unfolding row_line
-returns-in-Interval c = let h = shown_by c.args.head.now in c.interval_line.ensures ∙ ap (λ o. interval_line (unwrap_or o 0)) (sym c.unwrap.ensures) ∙ ap (row_line h) (sym c.in-Interval.is)
-
-pub returns-in-End : goal.returns-in-End
-unfolding row_line
-returns-in-End c = let h = shown_by c.args.head.now in c.labelled-in-End.ensures ∙ ap (row_line h) (sym c.in-End.is)
+returns-in-Interval c = own_line (shown_by c.args.head.now) Interval refl c.in-Interval.is c.interval_line.ensures (ap (λ o. interval_content (unwrap_or o 0)) c.unwrap.ensures)
 
 pub slots_with-requires : goal.slots_with-requires
 slots_with-requires c = grind (arith, c.in-Slots.is, c.requires, c.slots_in.ensures.value, c.channels-channels.ensures, c.slots_in.ensures.bound)
@@ -49,11 +43,12 @@ unfolding row_line
 returns-in-Slots c = grind (arith, common_steps, c.slots_with.ensures, c.slots_in.ensures, c.channels-channels.ensures, c.in-Slots.is)
 
 pub returns-in-Biases : goal.returns-in-Biases
-unfolding row_line
-returns-in-Biases c = let h = shown_by c.args.head.now in c.labelled-in-Biases.ensures ∙ ap (row_line h) (sym c.in-Biases.is)
+returns-in-Biases c =
+    let own = λ (t : HeaderRow) (is : c.args.row ≡ t). own_line (shown_by c.args.head.now) c.args.row is is c.line-in-Biases.ensures in
+    elim c.in-Biases.is [
+      | inl is ↦ own Biases is refl
+      | inr is ↦ own End is refl
+    ]
 
 pub returns-in-Shift : goal.returns-in-Shift
-unfolding row_line
-returns-in-Shift c =
-    c.labelled-in-Shift.ensures ∙ ap (λ b. header_line (b ∷ []) (codes "SYS / PHASE SHIFT")) c.letter.ensures
-    ∙ ap (row_line (shown_by c.args.head.now)) (sym c.in-Shift.is)
+returns-in-Shift c = own_line (shown_by c.args.head.now) (Shift c.in-Shift.system) refl c.in-Shift.is c.line-in-Shift.ensures (ap (λ b. b ∷ []) (sym c.letter.ensures))

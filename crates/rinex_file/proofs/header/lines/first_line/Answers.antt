@@ -1,5 +1,5 @@
 use Rattle.rinex_file.proofs.Writing.Grown.{grown_whole}
-use Rattle.rinex_file.proofs.Names.{◌∙◌, ap, ◌∷◌, [], refl, ◌*◌, decimal, codes, pos, right, fixed, header_line, first_line}
+use Rattle.rinex_file.proofs.Names.{◌∙◌, ap, ◌∷◌, [], refl, ◌*◌, decimal, codes, pos, right, fixed, line_with, First, first_content}
 use Rattle.rinex_file.proofs.header.lines.first_line.Goals as goal
 
 pub returns : goal.returns
@@ -11,5 +11,4 @@ returns c =
     (right 6 (decimal t.year) ∷ right 6 (decimal t.month) ∷ right 6 (decimal t.day) ∷ right 6 (decimal t.hour) ∷ right 6 (decimal t.minute)
     ∷ right 13 (fixed 7 (pos (t.millisecond * 10_000))) ∷ codes "     GPS" ∷ []) c.put.new.line.items c.new-content.ensures
     (_, year, (_, month, (_, day, (_, hour, (_, minute, (_, second, (_, system, refl))))))) in
-    c.labelled.ensures ∙ ap (λ l. header_line l (codes "TIME OF FIRST OBS")) (c.as_slice.ensures.value ∙ content)
-    ∙ ap first_line c.civil-civil.ensures.walk
+    c.line.ensures ∙ ap (line_with First) (c.as_slice.ensures.value ∙ content ∙ ap first_content c.civil-civil.ensures.walk)

@@ -1,5 +1,5 @@
 use Rattle.rinex_file.proofs.Writing.Grown.{grown_whole}
-use Rattle.rinex_file.proofs.Names.{rules, ◌≡◌, ◌∙◌, ap, ◌∷◌, ◌++◌, [], refl, right, fixed, header_line}
+use Rattle.rinex_file.proofs.Names.{rules, ◌≡◌, ◌∙◌, ap, ◌∷◌, ◌++◌, [], refl, right, fixed, line_with}
 use Rattle.rinex_file.proofs.header.lines.three_lengths.Goals as goal
 
 pub returns : goal.returns
@@ -10,4 +10,4 @@ returns c =
     let two : c.put_fixed-2.new.line.items ≡ c.put_fixed.new.line.items ++ b = search rules in
     let three : c.put_fixed-3.new.line.items ≡ c.put_fixed-2.new.line.items ++ _ = search rules in
     let content = grown_whole c.new-content.result.items (a ∷ b ∷ _ ∷ []) c.put_fixed-3.new.line.items c.new-content.ensures (_, one, (_, two, (_, three, refl))) in
-    c.labelled.ensures ∙ ap (λ t. header_line t c.args.label.now) (c.as_slice.ensures.value ∙ content)
+    c.line.ensures ∙ ap (line_with c.args.row) (c.as_slice.ensures.value ∙ content)

@@ -1,13 +1,13 @@
 use Rattle.rinex_file.proofs.Judged.{exactly}
 use Rattle.rinex_file.proofs.HeaderRows.Agree.{height-back}
-use Rattle.rinex_file.proofs.Names.{arith, ◌≡◌, ◌∙◌, ap, w64, to_z, ◌<◌, ◌^◌, ℕ, List, take, drop, codes, pos, min, header_line, lengths, height_line, digits_in}
+use Rattle.rinex_file.proofs.Names.{arith, ◌≡◌, ◌∙◌, ap, w64, to_z, ◌<◌, ◌^◌, ℕ, List, take, drop, pos, min, Delta, line_with, lengths, height_line, digits_in}
 use Rattle.rinex_file.proofs.read.other_lines.read_delta.Goals as goal
 
 -- the first columns of the line of a height contain the height
 there : (line : List ℕ) (h : ℕ) → h < 2 ^ 16 → line ≡ height_line h → digits_in (take 14 (drop 0 line)) ≡ h
 there line h small e = ap (λ l. digits_in (take 14 (drop 0 l))) e ∙ height-back h small
 
-widened : (h : ℕ) → h < 2 ^ 16 → header_line (lengths (to_z w64 h) (pos 0) (pos 0)) (codes "ANTENNA: DELTA H/E/N") ≡ height_line h
+widened : (h : ℕ) → h < 2 ^ 16 → line_with Delta (lengths (to_z w64 h) (pos 0) (pos 0)) ≡ height_line h
 widened h small = grind arith
 
 small_min : (n height : ℕ) → height ≡ min n 65535 → height < 2 ^ 16

@@ -1,5 +1,5 @@
 use Rattle.rinex_file.proofs.Judged.{exactly}
-use Rattle.rinex_file.proofs.Names.{rules, ◌∙◌, sym, refl, none-some, same_Some, civil_of, IsTime, first_line}
+use Rattle.rinex_file.proofs.Names.{rules, ◌∙◌, sym, refl, none-some, same_Some, civil_of, IsTime, First, line_with, first_content}
 use Rattle.rinex_file.proofs.read.other_lines.read_first.Goals as goal
 
 pub returns-in_err-time : goal.returns-in_err-time
@@ -7,6 +7,6 @@ returns-in_err-time c = rw c.from_residual.ensures (λ v is e. none-some v (sym 
 
 pub returns : goal.returns
 returns c =
-    exactly IsTime (λ t. first_line (civil_of t)) c.in_ok-time.time c.then_some.ensures (search rules)
+    exactly IsTime (λ t. line_with First (first_content (civil_of t))) c.in_ok-time.time c.then_some.ensures (search rules)
     (λ w is e. same_Some w c.in_ok-time.time (sym (c.time_in.ensures.first w is refl refl e) ∙ c.in_ok-time.was))
     (c.as_slice.ensures.value ∙ c.first_line.ensures) c.is_same.ensures

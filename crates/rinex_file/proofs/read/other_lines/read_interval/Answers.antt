@@ -1,10 +1,10 @@
 use Rattle.rinex_file.proofs.Judged.{exactly}
 use Rattle.rinex_file.proofs.HeaderRows.Agree.{at_most_a_day, interval-back}
-use Rattle.rinex_file.proofs.Names.{IsSome, IfSome, ◌↔◌, Some, rules, arith, ◌≡◌, ◌∙◌, sym, ap, ℕ, List, take, drop, Option, IsInterval, interval_line, digits_in, min, none-some, same_Some}
+use Rattle.rinex_file.proofs.Names.{IsSome, IfSome, ◌↔◌, Some, rules, arith, ◌≡◌, ◌∙◌, sym, ap, ℕ, List, take, drop, Option, IsInterval, Interval, line_with, interval_content, digits_in, min, none-some, same_Some}
 use Rattle.rinex_file.proofs.read.other_lines.read_interval.Goals as goal
 
 -- the first columns of the line of an interval contain the interval
-there : (line : List ℕ) (n : ℕ) → IsInterval n → line ≡ interval_line n → digits_in (take 10 (drop 0 line)) ≡ n
+there : (line : List ℕ) (n : ℕ) → IsInterval n → line ≡ line_with Interval (interval_content n) → digits_in (take 10 (drop 0 line)) ≡ n
 there line n is e = ap (λ l. digits_in (take 10 (drop 0 l))) e ∙ interval-back n (at_most_a_day n is)
 
 -- an interval isn't limited
@@ -20,6 +20,6 @@ returns-in_err-interval c = rw c.from_residual.ensures (λ m fits e. none-some m
 
 pub returns : goal.returns
 returns c =
-    exactly IsInterval interval_line c.in_ok-interval.interval c.then_some.ensures (search rules)
+    exactly IsInterval (λ n. line_with Interval (interval_content n)) c.in_ok-interval.interval c.then_some.ensures (search rules)
     (λ m fits e. same_Some m c.in_ok-interval.interval (sym (is_made _ _ m c.new.ensures.some c.new.ensures.value (same_min _ _ m c.min-milliseconds.ensures (c.digits_in.ensures.value ∙ ap digits_in c.columns.ensures.value ∙ there c.args.line.now m fits e) fits) fits) ∙ c.in_ok-interval.was))
     (c.as_slice.ensures.value ∙ c.interval_line.ensures) c.is_same.ensures

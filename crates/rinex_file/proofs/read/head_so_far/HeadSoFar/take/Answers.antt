@@ -3,7 +3,7 @@ use Rattle.rinex_file.proofs.HeaderRows.End.{ends, no_end_line}
 use Rattle.rinex_file.proofs.HeaderRows.Steps.{decided, items_expected, none_at, none_from, read_next, row_law, takes_from, takes_row, unread_next}
 use Rattle.rinex_file.proofs.HeaderRows.Places.{place_at}
 use Rattle.rinex_file.proofs.Judged.{refused}
-use Rattle.rinex_file.proofs.Names.{arith, common_steps, is_of_types, is_some, ◌≡◌, ◌∙◌, sym, ap, subst, refl, ℕ, List, Result, Ok, Err, IsErrAnd, Expected, Refusal, Memory, Bad, End, end_line, row_place, Known, IsHeadAt, SameFrom, EndsHeader, NoneGoesOn, TakesHeaderLine, true}
+use Rattle.rinex_file.proofs.Names.{arith, common_steps, is_of_types, is_some, ◌≡◌, ◌∙◌, sym, ap, subst, refl, ℕ, List, Result, Ok, Err, IsErrAnd, Expected, Refusal, Memory, Bad, End, row_place, Known, IsHeadAt, SameFrom, EndsHeader, NoneGoesOn, TakesHeaderLine, true, line_with, []}
 use Rattle.rinex_file.proofs.read.head_so_far.HeadSoFar.take.Goals as goal
 
 -- a refusal that was passed on
@@ -17,16 +17,16 @@ pub returns-in-End-2 : goal.returns-in-End-2
 returns-in-End-2 c =
     let same = c.place_from-place.ensures.same in
     none_from same (none_at End same.expected c.place_from-place.ensures.here (sym c.row_at.ensures ∙ c.in-End.is)
-    (no_end_line c.args.self.now c.args.line.now (refused (is_some c.read_labelled.result) (c.args.line.now ≡ end_line) c.read_labelled.ensures (sym c.is_some.ensures ∙ c.if-is_some.false))))
+    (no_end_line c.args.self.now c.args.line.now (refused (is_some c.read.result) (c.args.line.now ≡ line_with End []) c.read.ensures (sym c.is_some.ensures ∙ c.if-is_some.false))))
 
-at_end : (k : Known) (n from : ℕ) (line : List ℕ) → n ≡ row_place End → IsHeadAt k from → SameFrom k line from n → line ≡ end_line → EndsHeader k from line k
+at_end : (k : Known) (n from : ℕ) (line : List ℕ) → n ≡ row_place End → IsHeadAt k from → SameFrom k line from n → line ≡ line_with End [] → EndsHeader k from line k
 at_end k n from line e at same is = ends k line from at (subst (SameFrom k line from) e same) is
 
 pub returns-in-End : goal.returns-in-End
 returns-in-End c =
     let same = c.place_from-place.ensures.same in
     at_end c.args.self.now c.place_from-place.result c.args.from c.args.line.now (place_at c.place_from-place.result End same.expected (sym c.row_at.ensures ∙ c.in-End.is)) c.requires same
-    (c.read_labelled.ensures.0 (sym c.is_some.ensures ∙ c.if-is_some.true))
+    (c.read.ensures.0 (sym c.is_some.ensures ∙ c.if-is_some.true))
 
 pub read_row-requires-clause-before : goal.read_row-requires-clause-before
 read_row-requires-clause-before c = grind (arith, common_steps, c.place_from-place.ensures, c.requires, c.row_at.ensures, items_expected)
