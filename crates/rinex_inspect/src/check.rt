@@ -13,13 +13,12 @@ ghost use Rattle.rinex_inspect.specs.CheckOutput.{check_line, counts_alone, time
 ghost use Rattle.rinex_inspect.specs.Checking.{AcceptsFiles, EndsCheck};
 ghost use Rattle.rinex_file.specs.inner.Read.EpochSteps.{HasReadEpochs};
 ghost use Rattle.gnss_obs.specs.Dates.{civil_of};
-ghost use Rattle.rinex_inspect.specs.DateTexts.{clock_text, date_text, longest_times, moment_bytes, moment_words};
-ghost use Rattle.rinex_inspect.specs.DateTexts.{step_line, time_line, times_lines};
+ghost use Rattle.rinex_inspect.specs.DateTexts.{clock_text, date_text, longest_times, moment_bytes};
+ghost use Rattle.rinex_inspect.specs.DateTexts.{step_line, time_line};
 ghost use Rattle.rinex_inspect.specs.Gaps.{IsCompleteness, gap_between, is_inside};
 ghost use Rattle.rinex_inspect.specs.inner.Missing.{complete_but, end_gap_if, end_missing_if, first_with, gap_with};
 ghost use Rattle.rinex_inspect.specs.inner.Missing.{longest_gap, missing_between, missing_with};
 ghost use Rattle.rinex_inspect.specs.inner.Reading.{CountsMissing, IsEndOutput, ReadsGaps};
-ghost use Rattle.line_texts.specs.Lines.{with_words};
 
 use crate::fault::FileFault;
 use crate::gaps::{Completeness, Placed, last_placed};
@@ -118,7 +117,7 @@ fn summary_text(options: &CheckOptions, summary: &FileSummary, missing: u64) -> 
     let mut text = OutputLine::new();
     let after = add_last_gap(&mut text, &options.complete, &summary.times);
     add_counts(&mut text, &summary.counts);
-    add_asked_times(&mut text, options.times, &summary.times);
+    add_times(&mut text, options.times, &summary.times);
     add_complete(&mut text, &options.complete, &summary.times, missing, after);
     text
 }
@@ -218,8 +217,8 @@ fn add_gap(text: &mut OutputLine, last: Placed, next: Placed) -> u64
     let missing = next.place.saturating_sub(last.place).saturating_sub(1);
     if missing > 0 {
         text.put(b"gap");
-        add_moment(text, last.time);
-        add_moment(text, next.time);
+        add_instant(text, b' ', last.time);
+        add_instant(text, b' ', next.time);
         text.finish();
     }
     missing
@@ -242,17 +241,6 @@ fn add_last_gap(text: &mut OutputLine, complete: &Option<Completeness>, times: &
         return 0;
     };
     add_gap(text, complete.placed(origin, times.last), end)
-}
-
-/// Adds the lines of the times, if they are asked for.
-fn add_asked_times(text: &mut OutputLine, with_times: bool, times: &EpochTimes)
-    requires { length text.old ≤ 200 }
-    ensures text { text.new ≡ text.old ++ times_if with_times times.now }
-    ensures short { length text.new ≤ length text.old + longest_times }
-{
-    if with_times {
-        add_times(text, times);
-    }
 }
 
 /// Adds the line of the number of epochs and that of a complete file, if it is asked for: those of
@@ -289,12 +277,15 @@ pub(crate) fn add_counts(text: &mut OutputLine, counts: &Counts)
     text.finish();
 }
 
-/// Adds the lines of the times of a file's epochs.
-fn add_times(text: &mut OutputLine, times: &EpochTimes)
+/// Adds the lines of the times of a file's epochs, if they are asked for.
+fn add_times(text: &mut OutputLine, with_times: bool, times: &EpochTimes)
     requires { length text.old ≤ 200 }
-    ensures text { text.new ≡ text.old ++ times_lines times.now }
+    ensures text { text.new ≡ text.old ++ times_if with_times times.now }
     ensures short { length text.new ≤ length text.old + longest_times }
 {
+    if !with_times {
+        return;
+    }
     add_time(text, "first", times.first);
     add_time(text, "last", times.last);
     add_step(text, times.step);
@@ -308,17 +299,8 @@ fn add_time(text: &mut OutputLine, name: &str, time: GpsTime)
     ensures short { length text.new ≤ length text.old + 40 }
 {
     text.put(name.as_bytes());
-    add_moment(text, time);
-    text.finish();
-}
-
-/// Adds the date and the time of day of a time, each after a blank.
-fn add_moment(text: &mut OutputLine, time: GpsTime)
-    requires { length text.old ≤ 300 }
-    ensures text { text.new ≡ with_words text.old (moment_words time) }
-    ensures short { length text.new ≤ length text.old + moment_bytes }
-{
     add_instant(text, b' ', time);
+    text.finish();
 }
 
 /// Adds the date of a time after a blank, and its time of day after a separator.

@@ -6,15 +6,15 @@ size old part e = ap length e ∙ length-append old part
 
 pub finish-requires : goal.finish-requires
 finish-requires c =
-    omega (arith, size c.args.text.now c.as_bytes.result.now c.put.ensures, ap length c.as_bytes.ensures.value, c.requires.room, c.requires.short, c.add_moment.ensures.short)
+    omega (arith, size c.args.text.now c.as_bytes.result.now c.put.ensures, ap length c.as_bytes.ensures.value, c.requires.room, c.requires.short, c.add_instant.ensures.short)
 
 pub returns-clause-text : goal.returns-clause-text
 unfolding time_line
 returns-clause-text c =
     let first = add_text c.put.ensures refl c.as_bytes.ensures.value in
-    end_line c.args.text.now c.args.name.now (moment_words c.args.time) c.finish.ensures (c.add_moment.ensures.text ∙ ap (λ (t : List ℕ). with_words t (moment_words c.args.time)) first)
+    end_line c.args.text.now c.args.name.now (moment_words c.args.time) c.finish.ensures (c.add_instant.ensures.text ∙ ap (λ (t : List ℕ). with_words t (moment_words c.args.time)) first)
 
 pub returns-clause-short : goal.returns-clause-short
 returns-clause-short c =
-    let all : length c.finish.new.self ≡ length c.add_moment.new.text + 1 = size c.add_moment.new.text (0x0A ∷ []) c.finish.ensures in
-    omega (arith, all, size c.args.text.now c.as_bytes.result.now c.put.ensures, ap length c.as_bytes.ensures.value, c.requires.short, c.add_moment.ensures.short)
+    let all : length c.finish.new.self ≡ length c.add_instant.new.text + 1 = size c.add_instant.new.text (0x0A ∷ []) c.finish.ensures in
+    omega (arith, all, size c.args.text.now c.as_bytes.result.now c.put.ensures, ap length c.as_bytes.ensures.value, c.requires.short, c.add_instant.ensures.short)
