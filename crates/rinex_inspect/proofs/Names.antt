@@ -60,7 +60,7 @@ pub use Rattle.rinex_inspect.specs.inner.Reading.{CountsMissing, IsEndOutput, Re
 pub use Rattle.rinex_inspect.specs.inner.Tables.{AreBlank, HasAdded, HasAddedRow, HasPlaces, IsBlankRecord, IsBlankTable, IsRecordOf, IsTableOf, added, before_with, begun, capped, capped_tally, contents_in, no_record, plus, present_with, record_at, records_in, tally_at, with_values}
 pub use Rattle.rtcm_bits.proofs.SmallLaws.{length-filter-le, passed}
 pub use Rattle.rtcm_bits.specs.Prefix.{IsPrefix}
-pub use Rattle.std.proofs.Common.{Bool, Err, IfSome, List, None, Ok, Option, Result, Some, [], add-one, ap, append-nil, append_assoc, ap₂, arith, codes, cond, decimal, drop, false, get_or, inl, inr, is_some, length, length-set, map, min, refl, set, subst, suc, sym, take, true, zero, ℕ, ◌%◌, ◌&&◌, ◌*◌, ◌++◌, ◌+◌, ◌-◌, ◌/◌, ◌<◌, ◌==◌, ◌^◌, ◌||◌, ◌∙◌, ◌∷◌, ◌≡◌, ◌≤◌}
+pub use Rattle.std.proofs.Common.{rules, Bool, Err, IfSome, List, None, Ok, Option, Result, Some, [], add-one, ap, append-nil, append_assoc, ap₂, arith, codes, cond, decimal, drop, false, get_or, inl, inr, is_some, length, length-set, map, min, refl, set, subst, suc, sym, take, true, zero, ℕ, ◌%◌, ◌&&◌, ◌*◌, ◌++◌, ◌+◌, ◌-◌, ◌/◌, ◌<◌, ◌==◌, ◌^◌, ◌||◌, ◌∙◌, ◌∷◌, ◌≡◌, ◌≤◌}
 pub use Rattle.std.proofs.KnownBytes.{Appends-nil, Keeps-trans}
 pub use Rattle.std.proofs.Math.Nat.{div-le_self, div-lt_iff_lt-mul, div-mul-le_self, le-div_iff_mul-le, mod-lt, zero-add}
 pub use Rattle.std.proofs.lemmas.Bool.{and_from, and_parts, eq-eqb, eqb-false, eqb-true, lt-ltb, ltb-false, ltb-true, or_parts}

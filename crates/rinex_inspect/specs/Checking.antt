@@ -5,6 +5,7 @@ use Rattle.std.specs.Io.KnownBytes.{Appends, Keeps}
 use Rattle.devices.specs.Device.{AppendsPrefix}
 use Rattle.devices.specs.Devices.{Devices, Ends}
 use Rattle.rinex_file.specs.Accepted.{AreEpochsBefore, AreEpochsRead, AreFirstEpochs, IsEpochLine}
+use Rattle.rinex_file.specs.Blocks.{LeavesRest}
 use Rattle.rinex_file.specs.Exact.{ExplainsFault, most_lines}
 use Rattle.rinex_file.specs.File.{file_text, file_lines}
 use Rattle.rinex_file.specs.FileValues.{IsFileValue}
@@ -69,3 +70,9 @@ IsCheckedOr o v (Err other) w w' = ⊥
 abbrev pub AcceptsFiles : {R W : Type 0} → CheckOptions → Result ⊤ FileFault → (d d' : Devices R W) → Type 0
 AcceptsFiles o result d d' = (v : FileValue) → IsFileValue v → length (file_lines v) ≤ most_lines
     → IfSome d.reader.unread (λ input. input ≡ file_text v → IsCheckedOr o v result d.writer.written d'.writer.written)
+
+-- A command ended as `Ended` says, after it read some prefix of the input, and accepts the text of each file value.
+pub record ReadsFile {R W : Type 0} (Ended Accepted : (d d' : Devices R W) → Type 0) (d d' : Devices R W) : Type 0 where
+  pub ends : Ended d d'
+  pub left : LeavesRest d.reader.unread d'.reader.unread
+  pub only : Accepted d d'

@@ -10,7 +10,7 @@ ghost use Rattle.rinex_file.specs.Value.{FileValue, Stamped};
 ghost use Rattle.devices.specs.Devices.{Changes, Writes};
 ghost use Rattle.devices.specs.Printing.{EndsPrinting};
 ghost use Rattle.rinex_inspect.specs.CheckOutput.{check_line, counts_alone, times_if, times_in};
-ghost use Rattle.rinex_inspect.specs.Checking.{AcceptsFiles, EndsCheck};
+ghost use Rattle.rinex_inspect.specs.Checking.{AcceptsFiles, EndsCheck, ReadsFile};
 ghost use Rattle.rinex_file.specs.inner.Read.EpochSteps.{HasReadEpochs};
 ghost use Rattle.gnss_obs.specs.Dates.{civil_of};
 ghost use Rattle.rinex_inspect.specs.DateTexts.{clock_text, date_text, longest_times, moment_bytes};
@@ -48,15 +48,8 @@ pub fn run_check<R: Read, W: Deliver>(
     reader: &mut Counted<R>,
     writer: &mut Counted<W>,
 ) -> Result<(), FileFault>
-    ensures ends { Changes R.remaining reader.old reader.new W.contents W.waiting writer.old writer.new
-        (EndsCheck counts_alone result) }
-
-    // Some prefix of the input was read.
-    ensures left { LeavesRest (R.remaining reader.old.inner) (R.remaining reader.new.inner) }
-
-    // The text of each file value is accepted.
-    ensures only { Changes R.remaining reader.old reader.new W.contents W.waiting writer.old writer.new
-        (AcceptsFiles counts_alone result) }
+    ensures { Changes R.remaining reader.old reader.new W.contents W.waiting writer.old writer.new
+        (ReadsFile (EndsCheck counts_alone result) (AcceptsFiles counts_alone result)) }
 {
     let counts_alone = CheckOptions {
         complete: None,
@@ -88,15 +81,8 @@ pub fn run_check_with<R: Read, W: Deliver>(
     reader: &mut Counted<R>,
     writer: &mut Counted<W>,
 ) -> Result<(), FileFault>
-    ensures ends { Changes R.remaining reader.old reader.new W.contents W.waiting writer.old writer.new
-        (EndsCheck options result) }
-
-    // Some prefix of the input was read.
-    ensures left { LeavesRest (R.remaining reader.old.inner) (R.remaining reader.new.inner) }
-
-    // The text of each file value is accepted.
-    ensures only { Changes R.remaining reader.old reader.new W.contents W.waiting writer.old writer.new
-        (AcceptsFiles options result) }
+    ensures { Changes R.remaining reader.old reader.new W.contents W.waiting writer.old writer.new
+        (ReadsFile (EndsCheck options result) (AcceptsFiles options result)) }
 {
     deliver_waiting(writer, FileFault::Write)?;
     let mut file = EpochReader::new(alloc);

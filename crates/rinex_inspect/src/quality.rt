@@ -7,6 +7,7 @@ ghost use Rattle.rinex_file.specs.Blocks.{LeavesRest, ReadsPrefix};
 ghost use Rattle.rinex_file.specs.Counting.{AreCounts};
 ghost use Rattle.rinex_file.specs.Value.{FileValue, Stamped};
 ghost use Rattle.rinex_file.specs.inner.Read.EpochSteps.{HasReadEpochs, HasReadRows, plan_of};
+ghost use Rattle.rinex_inspect.specs.Checking.{ReadsFile};
 ghost use Rattle.rinex_inspect.specs.Quality.{EndsQuality, RatesFiles};
 ghost use Rattle.rinex_inspect.specs.QualityOutput.{period_of};
 ghost use Rattle.rinex_inspect.specs.inner.QualityLines.{IsPrintable};
@@ -52,15 +53,8 @@ pub fn run_quality<R: Read, W: Deliver>(
     reader: &mut Counted<R>,
     writer: &mut Counted<W>,
 ) -> Result<(), FileFault>
-    ensures ends { Changes R.remaining reader.old reader.new W.contents W.waiting writer.old writer.new
-        (EndsQuality every result) }
-
-    // Some prefix of the input was read.
-    ensures left { LeavesRest (R.remaining reader.old.inner) (R.remaining reader.new.inner) }
-
-    // The text of each file value is accepted.
-    ensures only { Changes R.remaining reader.old reader.new W.contents W.waiting writer.old writer.new
-        (RatesFiles every result) }
+    ensures { Changes R.remaining reader.old reader.new W.contents W.waiting writer.old writer.new
+        (ReadsFile (EndsQuality every result) (RatesFiles every result)) }
 {
     deliver_waiting(writer, FileFault::Write)?;
     let Ok(mut tables) = Tables::new(alloc, &every) else {
@@ -84,11 +78,8 @@ fn rate<R: Read, W: Deliver>(
     requires sent { W.waiting writer.old.inner ≡ [] }
     requires start { (input : Option (List ℕ)) → HasReadEpochs file.old [] input input }
     requires tables { AreTables every.now tables.old [] }
-    ensures ends { Changes R.remaining reader.old reader.new W.contents W.waiting writer.old writer.new
-        (EndsQuality every.now result) }
-    ensures left { LeavesRest (R.remaining reader.old.inner) (R.remaining reader.new.inner) }
-    ensures only { Changes R.remaining reader.old reader.new W.contents W.waiting writer.old writer.new
-        (RatesFiles every.now result) }
+    ensures { Changes R.remaining reader.old reader.new W.contents W.waiting writer.old writer.new
+        (ReadsFile (EndsQuality every.now result) (RatesFiles every.now result)) }
 {
     let counts = print_periods(every, tables, file, reader, writer)?;
     print_end(every, tables, file, &counts, writer)

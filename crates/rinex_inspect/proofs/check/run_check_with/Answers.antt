@@ -1,5 +1,5 @@
 use Rattle.rinex_file.proofs.ReaderLaws.{leaves_all}
-use Rattle.rinex_inspect.proofs.Names.{Write, printed_after, printed_later, AreInside, Completeness, FileSummary, FileValue, EpochReader, IsSummaryRead, EndsCheck, passed, Option, Stamped, subst, sym, ◌++◌, ap, List, ℕ, IfSome_then, devices_of, gaps_if, times_in, writer_of, AcceptsFiles}
+use Rattle.rinex_inspect.proofs.Names.{Write, printed_after, printed_later, AreInside, Completeness, FileSummary, FileValue, EpochReader, IsSummaryRead, EndsCheck, passed, Option, Stamped, subst, sym, ◌++◌, ap, List, ℕ, IfSome_then, devices_of, gaps_if, times_in, writer_of, AcceptsFiles, rules}
 use Rattle.rinex_inspect.proofs.CheckLemmas.{checked, checked_or, kept_first, where_known}
 use Rattle.rinex_inspect.proofs.GapLemmas.{gaps_refused, gaps_stopped, whole_output}
 use Rattle.rinex_inspect.proofs.check.run_check_with.Goals as goal
@@ -8,51 +8,41 @@ use Rattle.rinex_inspect.proofs.check.run_check_with.Goals as goal
 inside_of : (r : EpochReader) {s : FileSummary} {es : List Stamped} {v : FileValue} (complete : Option Completeness) → AreInside complete (times_in es) → IsSummaryRead r es s v → AreInside complete (times_in v.epochs)
 inside_of r complete inside is = subst (λ (l : List Stamped). AreInside complete (times_in l)) (sym (ap (λ (f : FileValue). f.epochs) is.1)) inside
 
-pub returns-in_err-deliver_waiting-clause-only : goal.returns-in_err-deliver_waiting-clause-only
-returns-in_err-deliver_waiting-clause-only g c = λ v is few.
-    let end = c.in_err-deliver_waiting.ensures in
-    where_known _ (g.R.Read.remaining c.args.reader.now.inner) (λ input same. kept_first c.args.options _ _ c.from_residual.result v c.from_residual.ensures.1 end.0 end.2)
+pub returns-in_err-deliver_waiting : goal.returns-in_err-deliver_waiting
+returns-in_err-deliver_waiting g c = record {
+  ends = search rules;
+  left = leaves_all _;
+  only = λ v is few.
+      let end = c.in_err-deliver_waiting.ensures in
+      where_known _ (g.R.Read.remaining c.args.reader.now.inner) (λ input same. kept_first c.args.options _ _ c.from_residual.result v c.from_residual.ensures.1 end.0 end.2);
+}
 
-pub returns-clause-ends : goal.returns-clause-ends
-returns-clause-ends g c =
+pub returns : goal.returns
+returns g c =
     let (es, found, only, printed, same, counts, inside) = c.in_ok-summary.ensures.gaps in
     let at = devices_of g.R.Read.remaining g.W.Write.contents g.W.Deliver.waiting in
     let w = writer_of g.W.Write.contents g.W.Deliver.waiting in
-    checked c.args.options (at c.args.reader.now c.args.writer.now) (at c.print_gaps-read.new.reader c.print_text.new.writer) c.print_text.result
-    (found.v, found.is, found.text, inside_of c.print_gaps-read.new.file c.args.options.complete inside found.holds, whole_output c.print_gaps-read.new.file c.args.options _ found.v es _ found.holds found.is counts c.summary_text-text.ensures) same
-    (printed_later Write c.print_text.result (w c.deliver_waiting.new.writer) (w c.print_text.new.writer) c.in_ok-deliver_waiting.ensures (ap (λ (t : List ℕ). gaps_if c.args.options.complete (times_in es) ++ t) c.as_bytes.ensures.text)
-    (printed_after Write c.print_text.result (w c.deliver_waiting.new.writer) (w c.print_gaps-read.new.writer) (w c.print_text.new.writer) (gaps_if c.args.options.complete (times_in es)) _ printed c.print_text.ensures))
+    record {
+      ends = checked c.args.options (at c.args.reader.now c.args.writer.now) (at c.print_gaps-read.new.reader c.print_text.new.writer) c.print_text.result
+          (found.v, found.is, found.text, inside_of c.print_gaps-read.new.file c.args.options.complete inside found.holds, whole_output c.print_gaps-read.new.file c.args.options _ found.v es _ found.holds found.is counts c.summary_text-text.ensures) same
+          (printed_later Write c.print_text.result (w c.deliver_waiting.new.writer) (w c.print_text.new.writer) c.in_ok-deliver_waiting.ensures (ap (λ (t : List ℕ). gaps_if c.args.options.complete (times_in es) ++ t) c.as_bytes.ensures.text)
+          (printed_after Write c.print_text.result (w c.deliver_waiting.new.writer) (w c.print_gaps-read.new.writer) (w c.print_text.new.writer) (gaps_if c.args.options.complete (times_in es)) _ printed c.print_text.ensures));
+      left = c.in_ok-summary.ensures.left;
+      only = λ v is few. IfSome_then (g.R.Read.remaining c.args.reader.now.inner) (only v is few)
+          (λ input h text. checked_or {w = w c.args.writer.now} {w2 = w c.print_text.new.writer} c.args.options c.print_text.result v (inside_of c.print_gaps-read.new.file c.args.options.complete inside (h text)) (whole_output c.print_gaps-read.new.file c.args.options _ v es _ (h text) is counts c.summary_text-text.ensures)
+          (printed_later Write c.print_text.result (w c.deliver_waiting.new.writer) (w c.print_text.new.writer) c.in_ok-deliver_waiting.ensures (ap (λ (t : List ℕ). gaps_if c.args.options.complete (times_in es) ++ t) c.as_bytes.ensures.text)
+          (printed_after Write c.print_text.result (w c.deliver_waiting.new.writer) (w c.print_gaps-read.new.writer) (w c.print_text.new.writer) (gaps_if c.args.options.complete (times_in es)) _ printed c.print_text.ensures)));
+    }
 
-pub returns-clause-only : goal.returns-clause-only
-returns-clause-only g c = λ v is few.
-    let (es, found, only, printed, same, counts, inside) = c.in_ok-summary.ensures.gaps in
-    let w = writer_of g.W.Write.contents g.W.Deliver.waiting in
-    IfSome_then (g.R.Read.remaining c.args.reader.now.inner) (only v is few)
-    (λ input h text. checked_or {w = w c.args.writer.now} {w2 = w c.print_text.new.writer} c.args.options c.print_text.result v (inside_of c.print_gaps-read.new.file c.args.options.complete inside (h text)) (whole_output c.print_gaps-read.new.file c.args.options _ v es _ (h text) is counts c.summary_text-text.ensures)
-    (printed_later Write c.print_text.result (w c.deliver_waiting.new.writer) (w c.print_text.new.writer) c.in_ok-deliver_waiting.ensures (ap (λ (t : List ℕ). gaps_if c.args.options.complete (times_in es) ++ t) c.as_bytes.ensures.text)
-    (printed_after Write c.print_text.result (w c.deliver_waiting.new.writer) (w c.print_gaps-read.new.writer) (w c.print_text.new.writer) (gaps_if c.args.options.complete (times_in es)) _ printed c.print_text.ensures)))
-
-pub returns-in_err-summary-clause-only : goal.returns-in_err-summary-clause-only
-returns-in_err-summary-clause-only g c =
+pub returns-in_err-summary : goal.returns-in_err-summary
+returns-in_err-summary g c =
     let at = devices_of g.R.Read.remaining g.W.Write.contents g.W.Deliver.waiting in
     let d = at c.args.reader.now c.args.writer.now in
     let d2 = at c.print_gaps-read.new.reader c.print_gaps-read.new.writer in
-    passed c.from_residual-in_err-summary.result _ (λ r. AcceptsFiles c.args.options r d d2) c.from_residual-in_err-summary.ensures.1
-    (λ v is few. gaps_refused c.print_gaps-read.new.file c.args.options d d2 (writer_of g.W.Write.contents g.W.Deliver.waiting c.deliver_waiting.new.writer) _ v is few c.in_ok-deliver_waiting.ensures c.in_err-summary.ensures.gaps)
-
-pub returns-in_err-summary-clause-ends : goal.returns-in_err-summary-clause-ends
-returns-in_err-summary-clause-ends g c =
-    let at = devices_of g.R.Read.remaining g.W.Write.contents g.W.Deliver.waiting in
-    let d = at c.args.reader.now c.args.writer.now in
-    let d2 = at c.print_gaps-read.new.reader c.print_gaps-read.new.writer in
-    passed c.from_residual-in_err-summary.result _ (λ r. EndsCheck c.args.options r d d2) c.from_residual-in_err-summary.ensures.1
-    (gaps_stopped c.print_gaps-read.new.file c.args.options d d2 (writer_of g.W.Write.contents g.W.Deliver.waiting c.deliver_waiting.new.writer) _ c.in_ok-deliver_waiting.ensures c.in_err-summary.ensures.gaps)
-
-pub returns-in_err-summary-clause-left : goal.returns-in_err-summary-clause-left
-returns-in_err-summary-clause-left g c = c.in_err-summary.ensures.left
-
-pub returns-clause-left : goal.returns-clause-left
-returns-clause-left g c = c.in_ok-summary.ensures.left
-
-pub returns-in_err-deliver_waiting-clause-left : goal.returns-in_err-deliver_waiting-clause-left
-returns-in_err-deliver_waiting-clause-left g c = leaves_all _
+    record {
+      ends = passed c.from_residual-in_err-summary.result _ (λ r. EndsCheck c.args.options r d d2) c.from_residual-in_err-summary.ensures.1
+          (gaps_stopped c.print_gaps-read.new.file c.args.options d d2 (writer_of g.W.Write.contents g.W.Deliver.waiting c.deliver_waiting.new.writer) _ c.in_ok-deliver_waiting.ensures c.in_err-summary.ensures.gaps);
+      left = c.in_err-summary.ensures.left;
+      only = passed c.from_residual-in_err-summary.result _ (λ r. AcceptsFiles c.args.options r d d2) c.from_residual-in_err-summary.ensures.1
+          (λ v is few. gaps_refused c.print_gaps-read.new.file c.args.options d d2 (writer_of g.W.Write.contents g.W.Deliver.waiting c.deliver_waiting.new.writer) _ v is few c.in_ok-deliver_waiting.ensures c.in_err-summary.ensures.gaps);
+    }
