@@ -1,8 +1,8 @@
 //! The lines of errors, on standard error.
-ghost use Rattle.std.specs.Prelude.{◌≡◌, ◌+◌, ◌≤◌, ◌∷◌, codes, length};
+ghost use Rattle.std.specs.Prelude.{◌≡◌, ◌≤◌, ◌∷◌, codes, length};
 ghost use Rattle.command_faults.specs.ErrorLines.{conversion_counts, conversion_word, date_words, error_line};
 ghost use Rattle.command_faults.specs.ErrorLines.{error_words};
-ghost use Rattle.line_texts.specs.Lines.{with_words};
+ghost use Rattle.line_texts.specs.Lines.{AddsWords, IsTextWithin};
 ghost use Rattle.line_texts.specs.inner.Errors.{longest_error, longest_fault_name, longest_start};
 
 use crate::fault::{CommandFault, DateOption};
@@ -26,8 +26,7 @@ pub fn error_line(fault: CommandFault) -> OutputLine
 /// Adds the name of a fault and what follows it.
 fn add_error(line: &mut OutputLine, fault: CommandFault)
     requires { length line.old ≤ longest_start }
-    ensures text { line.new ≡ with_words line.old (error_words fault) }
-    ensures short { length line.new ≤ length line.old + longest_error }
+    ensures { AddsWords line.old line.new (error_words fault) longest_error }
 {
     match fault {
         CommandFault::Memory => line.add_word("Memory"),
@@ -75,8 +74,7 @@ fn add_error(line: &mut OutputLine, fault: CommandFault)
 /// Adds the name of the fault of a date, its option, and the form that this accepts.
 fn add_date_error(line: &mut OutputLine, option: DateOption)
     requires { length line.old ≤ longest_start }
-    ensures text { line.new ≡ with_words line.old (codes "BadDate" ∷ date_words option) }
-    ensures short { length line.new ≤ length line.old + longest_error }
+    ensures { AddsWords line.old line.new (codes "BadDate" ∷ date_words option) longest_error }
 {
     match option {
         DateOption::Week => line.add_word(
@@ -100,8 +98,7 @@ fn add_date_error(line: &mut OutputLine, option: DateOption)
 /// Adds the name of a fault of a conversion, and its numbers, each after its name.
 fn add_conversion_error(line: &mut OutputLine, fault: Fault)
     requires { length line.old ≤ longest_start }
-    ensures text { line.new ≡ with_words line.old (conversion_word fault ∷ conversion_counts fault) }
-    ensures short { length line.new ≤ length line.old + longest_error }
+    ensures { AddsWords line.old line.new (conversion_word fault ∷ conversion_counts fault) longest_error }
 {
     line.add_word(conversion_name(fault));
     if let Fault::NoneChosen(counts) = fault {
@@ -113,8 +110,7 @@ fn add_conversion_error(line: &mut OutputLine, fault: Fault)
 
 /// Returns the name of a fault of a conversion.
 fn conversion_name(fault: Fault) -> &'static str
-    ensures name { result.now ≡ conversion_word fault }
-    ensures short { length result.now ≤ longest_fault_name }
+    ensures { IsTextWithin result.now (conversion_word fault) longest_fault_name }
 {
     match fault {
         Fault::Memory => "Memory",

@@ -1,5 +1,5 @@
 -- Lines of text.
-use Rattle.std.specs.Prelude.{ℕ, ◌+◌, ◌*◌, List, [], ◌∷◌, ◌++◌}
+use Rattle.std.specs.Prelude.{◌≡◌, ◌≤◌, ℕ, ◌+◌, ◌*◌, List, [], ◌∷◌, ◌++◌, length}
 use Rattle.std.specs.List.{join_with_byte}
 
 -- the most digits of a number of 64 bits
@@ -19,3 +19,12 @@ line words = join_with_byte 0x20 words ++ 0x0A ∷ []
 abbrev pub with_words : List ℕ → List (List ℕ) → List ℕ
 with_words text [] = text
 with_words text (w ∷ ws) = with_words (text ++ 0x20 ∷ w) ws
+
+-- these bytes are the whole text, and at most this number of bytes
+pub record IsTextWithin (bytes whole : List ℕ) (most : ℕ) : Type 0 where
+  pub text : bytes ≡ whole
+  pub short : length bytes ≤ most
+
+-- a line with these words added, each after a blank, and at most this number of bytes more
+abbrev pub AddsWords : (old new : List ℕ) → List (List ℕ) → ℕ → Type 0
+AddsWords old new words most = IsTextWithin new (with_words old words) (length old + most)

@@ -4,6 +4,7 @@ ghost use Rattle.gnss_obs.specs.Channels.{most_number, slot_count};
 ghost use Rattle.line_texts.specs.ChannelTexts.{after_comma, channel_of, channels_of, channels_text};
 ghost use Rattle.line_texts.specs.ChannelTexts.{slot_channel_of, slot_of, slot_text, with_entry, within};
 ghost use Rattle.line_texts.specs.Lengths.{number_of};
+ghost use Rattle.line_texts.specs.Lines.{IsTextWithin};
 
 use crate::line::OutputLine;
 use crate::texts::{cut, number_of};
@@ -82,8 +83,7 @@ fn within(text: &str, digits: usize, least: u8, most: u8) -> Option<u8>
 
 /// Returns the text of channels, by rising slots.
 pub fn channels_text(channels: &Channels) -> OutputLine
-    ensures text { result ≡ channels_text channels.now }
-    ensures short { length result ≤ 6 * slot_count }
+    ensures { IsTextWithin result (channels_text channels.now) (6 * slot_count) }
 {
     channels.are_channels();
     let mut line = OutputLine::new();

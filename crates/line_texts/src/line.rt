@@ -1,7 +1,7 @@
 //! A line of output.
 ghost use Rattle.std.specs.Prelude.{◌≡◌, ◌+◌, ◌<◌, ◌≤◌, [], ◌∷◌, ◌++◌, length, decimal};
 ghost use Rattle.line_texts.specs.Digits.{calendar_text, digit, four_digits, three_digits, two_digits};
-ghost use Rattle.line_texts.specs.Lines.{longest_line, longest_number};
+ghost use Rattle.line_texts.specs.Lines.{AddsWords, IsTextWithin, longest_line, longest_number};
 ghost use Rattle.line_texts.specs.Metres.{metres, size_text};
 
 use arrayvec::ArrayVec;
@@ -50,8 +50,7 @@ impl OutputLine {
     /// Appends a number.
     pub fn put_number(&mut self, number: u64)
         requires { length self.old + longest_number ≤ longest_line }
-        ensures text { self.new ≡ self.old ++ decimal number }
-        ensures short { length self.new ≤ length self.old + longest_number }
+        ensures { IsTextWithin self.new (self.old ++ decimal number) (length self.old + longest_number) }
     {
         if number < 10 {
             self.put(&[digit(number)]);
@@ -63,8 +62,7 @@ impl OutputLine {
     /// Appends a blank and a number.
     pub fn add_number(&mut self, number: u64)
         requires { length self.old + 1 + longest_number ≤ longest_line }
-        ensures text { self.new ≡ self.old ++ 0x20 ∷ decimal number }
-        ensures short { length self.new ≤ length self.old + 1 + longest_number }
+        ensures { IsTextWithin self.new (self.old ++ 0x20 ∷ decimal number) (length self.old + 1 + longest_number) }
     {
         self.put(b" ");
         self.put_number(number);
@@ -73,8 +71,7 @@ impl OutputLine {
     /// Appends a blank and a word.
     pub fn add_word(&mut self, word: &str)
         requires { length self.old + length word.now + 1 ≤ longest_line }
-        ensures text { self.new ≡ self.old ++ 0x20 ∷ word.now }
-        ensures short { length self.new ≡ length self.old + length word.now + 1 }
+        ensures { IsTextWithin self.new (self.old ++ 0x20 ∷ word.now) (length self.old + length word.now + 1) }
     {
         self.put(b" ");
         self.put(word.as_bytes());
@@ -83,8 +80,7 @@ impl OutputLine {
     /// Appends a blank, a name, a blank and a number.
     pub fn add_count(&mut self, name: &str, number: u64)
         requires { length self.old + length name.now + 2 + longest_number ≤ longest_line }
-        ensures text { self.new ≡ (self.old ++ 0x20 ∷ name.now) ++ 0x20 ∷ decimal number }
-        ensures short { length self.new ≤ length self.old + length name.now + 2 + longest_number }
+        ensures { AddsWords self.old self.new (name.now ∷ decimal number ∷ []) (length name.now + 2 + longest_number) }
     {
         self.add_word(name);
         self.add_number(number);
@@ -93,8 +89,7 @@ impl OutputLine {
     /// Appends a separator and a text.
     pub fn add_part(&mut self, separator: u8, part: &[u8])
         requires { length self.old + length part.now + 1 ≤ longest_line }
-        ensures text { self.new ≡ self.old ++ separator ∷ part.now }
-        ensures short { length self.new ≡ length self.old + length part.now + 1 }
+        ensures { IsTextWithin self.new (self.old ++ separator ∷ part.now) (length self.old + length part.now + 1) }
     {
         self.put(&[separator]);
         self.put(part);
@@ -103,8 +98,7 @@ impl OutputLine {
     /// Appends a separator and a length, given in units of 0.0001 m, in metres with four decimals.
     pub fn add_metres(&mut self, separator: u8, value: i64)
         requires { length self.old + longest_number + 7 ≤ longest_line }
-        ensures text { self.new ≡ self.old ++ separator ∷ metres value }
-        ensures short { length self.new ≤ length self.old + longest_number + 7 }
+        ensures { IsTextWithin self.new (self.old ++ separator ∷ metres value) (length self.old + longest_number + 7) }
     {
         self.put(&[separator]);
         self.put(if value < 0 { b"-" } else { b"" });
@@ -114,8 +108,7 @@ impl OutputLine {
     /// Appends a length in metres with four decimals.
     fn put_size(&mut self, size: u64)
         requires { length self.old + longest_number + 5 ≤ longest_line }
-        ensures text { self.new ≡ self.old ++ size_text size }
-        ensures short { length self.new ≤ length self.old + longest_number + 5 }
+        ensures { IsTextWithin self.new (self.old ++ size_text size) (length self.old + longest_number + 5) }
     {
         self.put_number(size / 10_000);
         self.add_four(b'.', size);
@@ -124,8 +117,7 @@ impl OutputLine {
     /// Appends a separator and the last two digits of a number.
     pub fn add_two(&mut self, separator: u8, number: u64)
         requires { length self.old + 3 ≤ longest_line }
-        ensures text { self.new ≡ self.old ++ separator ∷ two_digits number }
-        ensures short { length self.new ≡ length self.old + 3 }
+        ensures { IsTextWithin self.new (self.old ++ separator ∷ two_digits number) (length self.old + 3) }
     {
         self.put(&[separator, digit(number / 10), digit(number)]);
     }
@@ -133,8 +125,7 @@ impl OutputLine {
     /// Appends a separator and the last three digits of a number.
     pub fn add_three(&mut self, separator: u8, number: u64)
         requires { length self.old + 4 ≤ longest_line }
-        ensures text { self.new ≡ self.old ++ separator ∷ three_digits number }
-        ensures short { length self.new ≡ length self.old + 4 }
+        ensures { IsTextWithin self.new (self.old ++ separator ∷ three_digits number) (length self.old + 4) }
     {
         self.add_two(separator, number / 10);
         self.put(&[digit(number)]);
@@ -143,8 +134,7 @@ impl OutputLine {
     /// Appends a separator and the last four digits of a number.
     fn add_four(&mut self, separator: u8, number: u64)
         requires { length self.old + 5 ≤ longest_line }
-        ensures text { self.new ≡ self.old ++ separator ∷ four_digits number }
-        ensures short { length self.new ≡ length self.old + 5 }
+        ensures { IsTextWithin self.new (self.old ++ separator ∷ four_digits number) (length self.old + 5) }
     {
         self.add_two(separator, number / 100);
         self.put(&[digit(number / 10), digit(number)]);
@@ -153,8 +143,7 @@ impl OutputLine {
     /// Appends a blank and a date.
     pub fn add_date(&mut self, year: u16, month: u8, day: u8)
         requires { length self.old + 11 ≤ longest_line }
-        ensures text { self.new ≡ self.old ++ 0x20 ∷ calendar_text year month day }
-        ensures short { length self.new ≡ length self.old + 11 }
+        ensures { IsTextWithin self.new (self.old ++ 0x20 ∷ calendar_text year month day) (length self.old + 11) }
     {
         self.add_four(b' ', u64::from(year));
         self.add_two(b'-', u64::from(month));
@@ -171,8 +160,7 @@ impl OutputLine {
 
     /// Returns the line's bytes.
     pub fn as_bytes(&self) -> &[u8]
-        ensures text { result.now ≡ self.now }
-        ensures short { length result.now ≤ longest_line }
+        ensures { IsTextWithin result.now self.now longest_line }
     {
         self.text.as_slice()
     }

@@ -4,7 +4,7 @@ ghost use Rattle.devices.specs.Device.{FailsWith};
 ghost use Rattle.rtcm_bits.specs.FrameOf.{longest_message};
 ghost use Rattle.rtcm_scan.specs.inner.Results.{framed};
 ghost use Rattle.rtcm_msg.specs.Equipment.{AreShort, equipment_value, longest_text};
-ghost use Rattle.line_texts.specs.Lines.{line, with_words};
+ghost use Rattle.line_texts.specs.Lines.{AddsWords, IsTextWithin, line, with_words};
 ghost use Rattle.rtcm_inspect.specs.EquipmentLines.{equipment_line, equipment_words, equipment_fault_words};
 ghost use Rattle.rtcm_inspect.specs.EquipmentLines.{escaped, hex_digit, quoted};
 ghost use Rattle.rtcm_inspect.specs.inner.Lines.{longest_head, longest_quoted};
@@ -68,8 +68,7 @@ fn add_texts(text: &mut EquipmentText, texts: &[&[u8]])
 /// Returns a text in quotation marks, after a blank.
 fn quoted(text: &[u8]) -> OutputLine
     requires { length text.now ≤ longest_text }
-    ensures text { result ≡ 0x20 ∷ quoted text.now }
-    ensures short { length result ≤ longest_quoted }
+    ensures { IsTextWithin result (0x20 ∷ quoted text.now) longest_quoted }
 {
     let mut line = OutputLine::new();
     line.put(b" \"");
@@ -84,8 +83,7 @@ fn quoted(text: &[u8]) -> OutputLine
 /// printable ASCII.
 fn add_escaped(line: &mut OutputLine, byte: u8)
     requires { length line.old ≤ longest_quoted }
-    ensures text { line.new ≡ line.old ++ escaped byte }
-    ensures short { length line.new ≤ length line.old + 4 }
+    ensures { IsTextWithin line.new (line.old ++ escaped byte) (length line.old + 4) }
 {
     if byte < 0x20 || byte >= 0x7F || byte == b'"' || byte == b'\\' {
         line.put(&[b'\\', b'x', hex_digit(byte / 16), hex_digit(byte % 16)]);
@@ -105,8 +103,7 @@ fn hex_digit(n: u8) -> u8
 /// Adds the name of a fault and the index of the first bit of the field.
 pub fn add_equipment_fault(line: &mut OutputLine, fault: EquipmentFault)
     requires { length line.old ≤ 200 }
-    ensures text { line.new ≡ with_words line.old (equipment_fault_words fault) }
-    ensures short { length line.new ≤ length line.old + 40 }
+    ensures { AddsWords line.old line.new (equipment_fault_words fault) 40 }
 {
     match fault {
         EquipmentFault::Short(bit) => line.add_count("Short", bit as u64),

@@ -1,10 +1,10 @@
 //! Why a call stopped, and the names of faults, with what they carry, as words of a line.
-ghost use Rattle.std.specs.Prelude.{◌≡◌, ◌+◌, ◌≤◌, [], ◌∷◌, decimal, length};
+ghost use Rattle.std.specs.Prelude.{◌≡◌, ◌≤◌, [], ◌∷◌, decimal, length};
 ghost use Rattle.gnss_system.specs.Satellites.{letter};
 ghost use Rattle.rinex_file.specs.Texts.{field_name};
 ghost use Rattle.rtcm_inspect.specs.Devices.{stream_fault};
 ghost use Rattle.rtcm_inspect.specs.FaultWords.{header_words, inspection_words, plan_words};
-ghost use Rattle.line_texts.specs.Lines.{with_words};
+ghost use Rattle.line_texts.specs.Lines.{AddsWords};
 ghost use Rattle.line_texts.specs.inner.Errors.{longest_error, longest_fault, longest_fault_name, longest_start};
 
 use devices::DeviceFailed;
@@ -86,8 +86,7 @@ impl From<StreamFault<DeviceFailed>> for InspectFault {
 /// and the date, if any.
 pub fn add_inspection_error(line: &mut OutputLine, fault: InspectFault)
     requires { length line.old ≤ longest_start }
-    ensures text { line.new ≡ with_words line.old (inspection_words fault) }
-    ensures short { length line.new ≤ length line.old + longest_error }
+    ensures { AddsWords line.old line.new (inspection_words fault) longest_error }
 {
     match fault {
         InspectFault::Read => line.add_word("Read"),
@@ -119,8 +118,7 @@ pub fn add_inspection_error(line: &mut OutputLine, fault: InspectFault)
 /// Adds the name of a fault of the texts of the header, and that of the text.
 pub fn add_header_error(line: &mut OutputLine, fault: HeadFault)
     requires { length line.old ≤ longest_start }
-    ensures text { line.new ≡ with_words line.old (header_words fault) }
-    ensures short { length line.new ≤ length line.old + longest_error }
+    ensures { AddsWords line.old line.new (header_words fault) longest_error }
 {
     match fault {
         HeadFault::TooLong(field) => add_field(line, "TooLong", field),
@@ -133,8 +131,7 @@ pub fn add_header_error(line: &mut OutputLine, fault: HeadFault)
 /// counted from 0.
 pub fn add_plan_error(line: &mut OutputLine, fault: PlanFault)
     requires { length line.old ≤ longest_start }
-    ensures text { line.new ≡ with_words line.old (plan_words fault) }
-    ensures short { length line.new ≤ length line.old + longest_error }
+    ensures { AddsWords line.old line.new (plan_words fault) longest_error }
 {
     match fault {
         PlanFault::UnknownCode(system, place) => add_code(line, "UnknownCode", system, place),
@@ -150,8 +147,7 @@ pub fn add_plan_error(line: &mut OutputLine, fault: PlanFault)
 fn add_field(line: &mut OutputLine, name: &str, field: HeaderField)
     requires room { length line.old ≤ longest_start }
     requires short { length name.now ≤ longest_fault_name }
-    ensures text { line.new ≡ with_words line.old (name.now ∷ field_name field ∷ []) }
-    ensures short { length line.new ≤ length line.old + longest_fault }
+    ensures { AddsWords line.old line.new (name.now ∷ field_name field ∷ []) longest_fault }
 {
     line.add_word(name);
     line.add_word(field.name());
@@ -161,8 +157,7 @@ fn add_field(line: &mut OutputLine, name: &str, field: HeaderField)
 fn add_code(line: &mut OutputLine, name: &str, system: System, place: usize)
     requires room { length line.old ≤ longest_start }
     requires short { length name.now ≤ longest_fault_name }
-    ensures text { line.new ≡ with_words line.old (name.now ∷ (letter system ∷ []) ∷ decimal place ∷ []) }
-    ensures short { length line.new ≤ length line.old + longest_fault }
+    ensures { AddsWords line.old line.new (name.now ∷ (letter system ∷ []) ∷ decimal place ∷ []) longest_fault }
 {
     line.add_word(name);
     line.add_part(b' ', &[system.letter()]);

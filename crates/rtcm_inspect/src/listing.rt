@@ -9,7 +9,7 @@ ghost use Rattle.rtcm_msg.specs.Equipment.{AreShort, values_of};
 ghost use Rattle.rtcm_msg.specs.Station.{InRange};
 ghost use Rattle.rtcm_msg.specs.Numbers.{message_number};
 ghost use Rattle.rtcm_inspect.specs.FrameLines.{frame_line, frame_lines, number_word};
-ghost use Rattle.line_texts.specs.Lines.{with_words};
+ghost use Rattle.line_texts.specs.Lines.{AddsWords, IsTextWithin};
 ghost use Rattle.rtcm_inspect.specs.inner.Lines.{longest_prefix};
 ghost use Rattle.rtcm_inspect.specs.ShowLines.{fault_words, read_for, message_line, msm_line, show_line, show_lines};
 ghost use Rattle.rtcm_inspect.specs.ShowLines.{station_line};
@@ -250,8 +250,7 @@ fn read_for(all: bool, message: &[u8]) -> Result<View<'_>, MsgFault>
 fn add_message_number(line: &mut OutputLine, message: &[u8])
     requires room { length line.old ≤ 235 }
     requires short { length message.now ≤ longest_message }
-    ensures text { line.new ≡ line.old ++ 0x20 ∷ number_word message.now }
-    ensures short { length line.new ≤ length line.old + 21 }
+    ensures { IsTextWithin line.new (line.old ++ 0x20 ∷ number_word message.now) (length line.old + 21) }
 {
     match BitReader::new(message).unsigned(12) {
         Some(number) => line.add_number(number),
@@ -300,8 +299,7 @@ fn add_msm(line: &mut OutputLine, offset: u64, msm: &MsmView<'_>)
 /// Adds the name of a fault and, for `Short`, the index of the first bit of the field.
 fn add_fault(line: &mut OutputLine, fault: MsgFault)
     requires { length line.old ≤ 200 }
-    ensures text { line.new ≡ with_words line.old (fault_words fault) }
-    ensures short { length line.new ≤ length line.old + 40 }
+    ensures { AddsWords line.old line.new (fault_words fault) 40 }
 {
     match fault {
         MsgFault::Short(bits) => line.add_count("Short", bits as u64),

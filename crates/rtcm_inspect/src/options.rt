@@ -9,7 +9,7 @@ ghost use Rattle.rtcm_msg.specs.Station.{InRange};
 ghost use Rattle.rtcm_scan.specs.Frames.{Framed, frames_of};
 ghost use Rattle.obs_epoch.specs.inner.SignalCounts.{AreSignalCounts};
 ghost use Rattle.line_texts.specs.ChannelTexts.{channels_text};
-ghost use Rattle.line_texts.specs.Lines.{longest_line, with_words};
+ghost use Rattle.line_texts.specs.Lines.{AddsWords, IsTextWithin, longest_line, with_words};
 ghost use Rattle.rtcm_inspect.specs.inner.Counting.{AreSignals};
 ghost use Rattle.rtcm_inspect.specs.Fitting.{channel_words, first_words, forms_words, further_words, number_start};
 ghost use Rattle.rtcm_inspect.specs.Fitting.{options_text, other_words, station_words};
@@ -176,8 +176,7 @@ fn add_other(text: &mut OptionsText, signals: &StreamSignals, leap: Option<u8>, 
 /// Adds the further options of GLONASS: the channels and the leap seconds, if they are known.
 fn add_further(line: &mut OutputLine, channels: &Channels, leap: Option<u8>, system: System)
     requires { length line.old ≤ longest_codes }
-    ensures text { line.new ≡ with_words line.old (further_words leap channels.now system) }
-    ensures short { length line.new ≤ longest_plan }
+    ensures { IsTextWithin line.new (with_words line.old (further_words leap channels.now system)) longest_plan }
 {
     if let System::Glonass = system {
         add_channels(line, channels);
@@ -190,8 +189,7 @@ fn add_further(line: &mut OutputLine, channels: &Channels, leap: Option<u8>, sys
 /// Adds the option of the channels, if one is known.
 fn add_channels(line: &mut OutputLine, channels: &Channels)
     requires { length line.old ≤ longest_codes }
-    ensures text { line.new ≡ with_words line.old (channel_words (channels_text channels.now)) }
-    ensures short { length line.new ≤ length line.old + 20 + 6 * slot_count }
+    ensures { AddsWords line.old line.new (channel_words (channels_text channels.now)) (20 + 6 * slot_count) }
 {
     let text = channels_text(channels);
     if !text.as_bytes().is_empty() {
@@ -212,8 +210,7 @@ fn put_line(text: &mut OptionsText, line: &OutputLine)
 fn add_number(line: &mut OutputLine, option: &str, number: Option<u32>)
     requires room { length line.old ≤ 100 }
     requires short { length option.now ≤ longest_name }
-    ensures text { line.new ≡ line.old ++ number_start option.now number }
-    ensures short { length line.new ≤ length line.old + longest_option }
+    ensures { IsTextWithin line.new (line.old ++ number_start option.now number) (length line.old + longest_option) }
 {
     if let Some(number) = number {
         line.put(option.as_bytes());
@@ -245,8 +242,7 @@ fn add_codes(line: &mut OutputLine, signal_counts: &SignalCounts, system: System
 /// Adds the option of the forms, if they aren't the default.
 fn add_forms(line: &mut OutputLine, forms: Forms)
     requires { length line.old ≤ 210 }
-    ensures text { line.new ≡ with_words line.old (forms_words forms) }
-    ensures short { length line.new ≤ length line.old + 10 }
+    ensures { AddsWords line.old line.new (forms_words forms) 10 }
 {
     if let Forms::All = forms {
         line.add_word("--msm");
@@ -259,8 +255,7 @@ fn add_forms(line: &mut OutputLine, forms: Forms)
 fn add_station(line: &mut OutputLine, station: Option<StationParts>)
     requires room { length line.old ≤ 220 }
     requires in_range { IfSome station InRange }
-    ensures text { line.new ≡ with_words line.old (station_words station) }
-    ensures short { length line.new ≤ length line.old + 160 }
+    ensures { AddsWords line.old line.new (station_words station) 160 }
 {
     if let Some(station) = station {
         line.add_word("--position");

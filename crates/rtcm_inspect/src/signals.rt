@@ -6,6 +6,7 @@ ghost use Rattle.gnss_system.specs.Systems.{systems};
 ghost use Rattle.obs_epoch.specs.SignalCounts.{signal_in};
 ghost use Rattle.obs_epoch.specs.inner.SignalCounts.{AreSignalCounts};
 ghost use Rattle.devices.specs.Devices.{Changes};
+ghost use Rattle.line_texts.specs.Lines.{IsTextWithin};
 ghost use Rattle.rtcm_inspect.specs.inner.Lines.{longest_signal, longest_signals};
 ghost use Rattle.rtcm_inspect.specs.StreamOutput.{EndsStream};
 ghost use Rattle.rtcm_inspect.specs.Signals.{AreSignalsOf, AreSignalsRefused, count_line, count_lines};
@@ -82,8 +83,7 @@ fn add_lines(text: &mut ArrayVec<u8, TEXT_BYTES>, signal_counts: &SignalCounts, 
 /// Returns the line of a signal: the letter of its system, its code, and the number of its cells.
 fn count_line(system: System, index: usize, count: u64) -> OutputLine
     requires { index < length (table system) }
-    ensures text { result ≡ count_line (signal_in system index) count }
-    ensures short { length result ≤ longest_signal }
+    ensures { IsTextWithin result (count_line (signal_in system index) count) longest_signal }
 {
     let mut line = OutputLine::new();
     line.put(&[system.letter()]);

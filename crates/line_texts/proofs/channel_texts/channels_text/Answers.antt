@@ -6,5 +6,7 @@ use Rattle.line_texts.proofs.channel_texts.channels_text.Goals as goal
 pub loop-i-preserved : goal.loop-i-preserved
 loop-i-preserved c = grind (arith, common_steps, in-Some, number_here, slot_short, slot_some, in_default, slot_none)
 
-pub returns-clause-text : goal.returns-clause-text
-returns-clause-text c = c.loop-i.invariant.text ∙ ap channels_text (take_all c.loop-i.i c.args.channels.now (omega (arith, c.are_channels.ensures.slots, c.loop-i-test.false)))
+pub returns : goal.returns
+returns c =
+    let whole = take_all c.loop-i.i c.args.channels.now (omega (arith, c.are_channels.ensures.slots, c.loop-i-test.false)) in
+    record { text = c.loop-i.invariant.text ∙ ap channels_text whole; short = omega arith }

@@ -1,10 +1,10 @@
 use Rattle.rtcm_inspect.proofs.Names.{arith, common_steps, le-leb, lt-leb, number_word}
 use Rattle.rtcm_inspect.proofs.listing.add_message_number.Goals as goal
 
-pub returns-in-Some-clause-text : goal.returns-in-Some-clause-text
+pub returns-in-Some : goal.returns-in-Some
 unfolding number_word
-returns-in-Some-clause-text c = grind (arith, common_steps, le-leb)
+returns-in-Some c = grind (arith, common_steps, le-leb)
 
-pub returns-in-None-clause-text : goal.returns-in-None-clause-text
+pub returns-in-None : goal.returns-in-None
 unfolding number_word
-returns-in-None-clause-text c = grind (arith, common_steps, lt-leb)
+returns-in-None c = grind (arith, common_steps, lt-leb)

@@ -1,4 +1,4 @@
-use Rattle.rtcm_inspect.proofs.Names.{add_word, append_assoc, ◌≡◌, ◌∙◌, ◌∷◌, ◌++◌, ap, sym, subst, refl, rules, ℕ, pos, List, Option, Some, None, IfSome, codes, w64, to_z, of_z, InRange, StationParts, antenna_words, position_word, station_words, with_words, metres}
+use Rattle.rtcm_inspect.proofs.Names.{add_word, arith, append_assoc, ◌≡◌, ◌∙◌, ◌∷◌, ◌++◌, ap, sym, subst, refl, rules, ℕ, pos, List, Option, Some, None, IfSome, codes, w64, to_z, of_z, InRange, StationParts, antenna_words, position_word, station_words, with_words, metres}
 use Rattle.rtcm_inspect.proofs.ShowLemmas.{as_passed}
 use Rattle.rtcm_inspect.proofs.options.add_station.Goals as goal
 
@@ -13,20 +13,20 @@ as_given : (start : List ℕ) (given : Option StationParts) (s : StationParts) (
 as_given start given s height is has =
     ap (λ (h : Option ℕ). with_words start (position_word s ∷ antenna_words h)) (sym has) ∙ ap (λ (o : Option StationParts). with_words start (station_words o)) (sym is)
 
-pub returns-in-Some-height-clause-text : goal.returns-in-Some-height-clause-text
-returns-in-Some-height-clause-text c =
+pub returns-in-Some-height : goal.returns-in-Some-height
+returns-in-Some-height c =
     let s = c.in-Some.station in
     let start = c.args.line.now in
     let range : InRange s = subst (λ (o : Option StationParts). IfSome o InRange) c.in-Some.is c.requires.in_range in
     let position = placed start s range c.add_word.ensures.text c.add_metres.ensures.text c.add_metres-in-Some.ensures.text c.add_metres-in-Some-2.ensures.text in
     let option = add_word c.add_word-in-Some-height.ensures.text position refl in
     let height : c.add_metres-in-Some-height.new.self ≡ c.add_word-in-Some-height.new.self ++ 0x20 ∷ metres (pos c.in-Some-height.height) = search rules in
-    add_word height option refl ∙ as_given start c.args.station s (Some c.in-Some-height.height) c.in-Some.is c.in-Some-height.is
+    record { text = add_word height option refl ∙ as_given start c.args.station s (Some c.in-Some-height.height) c.in-Some.is c.in-Some-height.is; short = omega arith }
 
-pub returns-in_default-height-clause-text : goal.returns-in_default-height-clause-text
-returns-in_default-height-clause-text c =
+pub returns-in_default-height : goal.returns-in_default-height
+returns-in_default-height c =
     let s = c.in-Some.station in
     let start = c.args.line.now in
     let range : InRange s = subst (λ (o : Option StationParts). IfSome o InRange) c.in-Some.is c.requires.in_range in
-    placed start s range c.add_word.ensures.text c.add_metres.ensures.text c.add_metres-in-Some.ensures.text c.add_metres-in-Some-2.ensures.text
-    ∙ as_given start c.args.station s None c.in-Some.is c.in_default-height.is
+    let position = placed start s range c.add_word.ensures.text c.add_metres.ensures.text c.add_metres-in-Some.ensures.text c.add_metres-in-Some-2.ensures.text in
+    record { text = position ∙ as_given start c.args.station s None c.in-Some.is c.in_default-height.is; short = omega arith }
