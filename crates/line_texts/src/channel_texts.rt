@@ -1,10 +1,11 @@
 //! GLONASS channels as text.
-ghost use Rattle.std.specs.Prelude.{◌≡◌, ◌+◌, ◌*◌, ◌≤◌, IfSome, length};
+ghost use Rattle.std.specs.Prelude.{◌≡◌, ◌+◌, ◌*◌, ◌≤◌, length};
 ghost use Rattle.gnss_obs.specs.Channels.{most_number, slot_count};
 ghost use Rattle.line_texts.specs.ChannelTexts.{after_comma, channel_of, channels_of, channels_text};
 ghost use Rattle.line_texts.specs.ChannelTexts.{slot_channel_of, slot_of, slot_text, with_entry, within};
 ghost use Rattle.line_texts.specs.Lengths.{number_of};
 ghost use Rattle.line_texts.specs.Lines.{IsTextWithin};
+ghost use Rattle.line_texts.specs.inner.Parsed.{IsParsed};
 
 use crate::line::OutputLine;
 use crate::texts::{cut, number_of};
@@ -42,8 +43,7 @@ fn with_entry(mut known: Channels, text: &str) -> Option<Channels>
 
 /// Parses a slot and the number of its channel, separated by a colon.
 fn slot_channel_of(text: &str) -> Option<(u8, u8)>
-    ensures value { result ≡ slot_channel_of text.now }
-    ensures bounds { IfSome result (λ p. (1 ≤ p.0) × (p.0 ≤ slot_count) × (p.1 ≤ most_number)) }
+    ensures { IsParsed result (slot_channel_of text.now) (λ p. (1 ≤ p.0) × (p.0 ≤ slot_count) × (p.1 ≤ most_number)) }
 {
     let (slot, channel) = cut(text, ':')?;
     Some((slot_of(slot)?, channel_of(channel)?))
@@ -51,8 +51,7 @@ fn slot_channel_of(text: &str) -> Option<(u8, u8)>
 
 /// Parses a slot from 1 to 27 without a leading zero.
 fn slot_of(text: &str) -> Option<u8>
-    ensures value { result ≡ slot_of text.now }
-    ensures bounds { IfSome result (λ n. (1 ≤ n) × (n ≤ slot_count)) }
+    ensures { IsParsed result (slot_of text.now) (λ n. (1 ≤ n) × (n ≤ slot_count)) }
 {
     if text.starts_with('0') {
         return None;
@@ -62,8 +61,7 @@ fn slot_of(text: &str) -> Option<u8>
 
 /// Parses a channel from -7 to 6, and returns its number: the channel plus 7.
 fn channel_of(text: &str) -> Option<u8>
-    ensures value { result ≡ channel_of text.now }
-    ensures bound { IfSome result (λ n. n ≤ most_number) }
+    ensures { IsParsed result (channel_of text.now) (λ n. n ≤ most_number) }
 {
     match text.strip_prefix('-') {
         Some(size) => Some(7 - within(size, 1, 1, 7)?),
@@ -74,8 +72,7 @@ fn channel_of(text: &str) -> Option<u8>
 /// Parses a number of at most this number of digits, within these bounds.
 fn within(text: &str, digits: usize, least: u8, most: u8) -> Option<u8>
     requires { digits ≤ 2 }
-    ensures value { result ≡ within least most (number_of digits text.now) }
-    ensures bounds { IfSome result (λ n. (least ≤ n) × (n ≤ most)) }
+    ensures { IsParsed result (within least most (number_of digits text.now)) (λ n. (least ≤ n) × (n ≤ most)) }
 {
     let number = u8::try_from(number_of(text, digits)?).ok()?;
     (least <= number && number <= most).then_some(number)

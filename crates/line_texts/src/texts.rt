@@ -1,10 +1,11 @@
 //! Weeks, dates, times, lengths and intervals, read from text.
-ghost use Rattle.std.specs.Prelude.{◌≡◌, ◌≤◌, ◌<◌, ◌^◌, ℕ, IfSome, MatchOption, None, Some};
+ghost use Rattle.std.specs.Prelude.{◌≡◌, ◌≤◌, ◌<◌, ◌^◌, ℕ, MatchOption, None, Some};
 ghost use Rattle.line_texts.specs.Dates.{IsHourOf, IsTimeOf, IsWeekNumber, IsWeekOf, civil_in, clock_in};
 ghost use Rattle.line_texts.specs.Dates.{fixed_number, moment_in, two_below};
 ghost use Rattle.line_texts.specs.Lengths.{coordinate_of, cut, decimals_of, epoch_interval_of, fixed_point};
 ghost use Rattle.line_texts.specs.Lengths.{interval_of, length_below, longest_interval, number_of, position_of};
 ghost use Rattle.line_texts.specs.Lengths.{tolerance_of};
+ghost use Rattle.line_texts.specs.inner.Parsed.{IsParsed};
 
 use gnss_obs::{Civil, GREATEST_COORDINATE, GpsTime, Interval, LEAST_COORDINATE, WEEK, WEEKS};
 
@@ -66,8 +67,7 @@ fn moment_in(text: &str) -> Option<Civil>
 
 /// Parses an hour, a minute and a second of two digits each, separated by colons.
 fn clock_in(text: &str) -> Option<(u8, u8, u8)>
-    ensures value { result ≡ clock_in text.now }
-    ensures small { IfSome result (λ t. t.2 < 60) }
+    ensures { IsParsed result (clock_in text.now) (λ t. t.2 < 60) }
 {
     let (hour, rest) = cut(text, ':')?;
     let (minute, second) = cut(rest, ':')?;
@@ -80,8 +80,7 @@ fn clock_in(text: &str) -> Option<(u8, u8, u8)>
 
 /// Parses a number of two digits that is below a bound.
 fn two_below(text: &str, bound: u64) -> Option<u8>
-    ensures value { result ≡ two_below bound text.now }
-    ensures below { IfSome result (λ n. n < bound) }
+    ensures { IsParsed result (two_below bound text.now) (λ n. n < bound) }
 {
     let number = fixed_number(text, 2)?;
     (number < bound).then_some(number as u8)
@@ -106,8 +105,7 @@ fn civil_in(text: &str, hour: u8) -> Option<Civil>
 /// Parses a number of exactly `width` digits.
 fn fixed_number(text: &str, width: usize) -> Option<u64>
     requires { width ≤ 8 }
-    ensures value { result ≡ fixed_number width text.now }
-    ensures small { IfSome result (λ n. n < 10 ^ width) }
+    ensures { IsParsed result (fixed_number width text.now) (λ n. n < 10 ^ width) }
 {
     if text.len() == width {
         number_of(text, width)
@@ -141,8 +139,7 @@ fn coordinate_of(text: &str) -> Option<i64>
 /// Returns the length in a text in 0.0001 m, given in metres with up to eight digits and four
 /// decimals. `None` for any other text, and for a length that isn't below the bound.
 pub fn length_below(text: &str, bound: u64) -> Option<u64>
-    ensures value { result ≡ length_below bound text.now }
-    ensures below { IfSome result (λ n. n < bound) }
+    ensures { IsParsed result (length_below bound text.now) (λ n. n < bound) }
 {
     fixed_point(text, 4).filter(|length| *length < bound)
 }
@@ -150,8 +147,7 @@ pub fn length_below(text: &str, bound: u64) -> Option<u64>
 /// Returns the interval in a text in milliseconds, given in seconds with up to three decimals, of
 /// 0.001 to 86,400. `None` for any other text.
 pub fn interval_of(text: &str) -> Option<u64>
-    ensures value { result ≡ interval_of text.now }
-    ensures fits { IfSome result (λ n. (0 < n) × (n ≤ longest_interval)) }
+    ensures { IsParsed result (interval_of text.now) (λ n. (0 < n) × (n ≤ longest_interval)) }
 {
     fixed_point(text, 3).filter(|interval| 0 < *interval && *interval <= 86_400_000)
 }
@@ -193,8 +189,7 @@ fn fixed_point(text: &str, most: usize) -> Option<u64>
 /// Parses one to `most` decimals, in units of the last.
 fn decimals_of(text: &str, most: usize) -> Option<u64>
     requires { most ≤ 4 }
-    ensures value { result ≡ decimals_of most text.now }
-    ensures small { IfSome result (λ n. n < 10 ^ 12) }
+    ensures { IsParsed result (decimals_of most text.now) (λ n. n < 10 ^ 12) }
 {
     let number = number_of(text, most)?;
     Some(number * 10u64.pow((most - text.len()) as u32))
@@ -212,8 +207,7 @@ pub(crate) fn cut(text: &str, separator: char) -> Option<(&str, &str)>
 /// Parses a number of one to `most` digits.
 pub(crate) fn number_of(text: &str, most: usize) -> Option<u64>
     requires { most ≤ 8 }
-    ensures value { result ≡ number_of most text.now }
-    ensures small { IfSome result (λ n. n < 10 ^ most) }
+    ensures { IsParsed result (number_of most text.now) (λ n. n < 10 ^ most) }
 {
     // A number may begin with a plus sign for `parse`.
     if text.len() > most || text.starts_with('+') {

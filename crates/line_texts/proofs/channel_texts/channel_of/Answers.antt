@@ -2,5 +2,5 @@ use Rattle.line_texts.proofs.LengthLaws.{no_sign}
 use Rattle.line_texts.proofs.Names.{arith, rules, strip_prefix_char}
 use Rattle.line_texts.proofs.channel_texts.channel_of.Goals as goal
 
-pub returns-in_err-within-in-None-clause-value : goal.returns-in_err-within-in-None-clause-value
-returns-in_err-within-in-None-clause-value c = rw (no_sign c.args.text.now _ (strip_prefix_char 45 _ _ c.strip_prefix.ensures.cases (omega arith)) c.in-None.is) (search rules)
+pub returns-in_err-within-in-None : goal.returns-in_err-within-in-None
+returns-in_err-within-in-None c = rw (no_sign c.args.text.now _ (strip_prefix_char 45 _ _ c.strip_prefix.ensures.cases (omega arith)) c.in-None.is) (search rules)
