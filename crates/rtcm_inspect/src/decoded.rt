@@ -1,7 +1,6 @@
 //! The MSMs that a conversion decodes with the options that fit a stream.
-ghost use Rattle.std.specs.Prelude.{◌≡◌, List};
-ghost use Rattle.rtcm_scan.specs.Frames.{Framed};
-ghost use Rattle.rtcm_inspect.specs.inner.Counting.{AreSignals};
+ghost use Rattle.std.specs.Prelude.{◌≡◌};
+ghost use Rattle.rtcm_inspect.specs.inner.Counting.{HoldsForFrames};
 ghost use Rattle.rtcm_inspect.specs.Signals.{decodes, has_counted, set_had};
 
 use crate::counting::StreamSignals;
@@ -11,8 +10,7 @@ use rtcm_msg::MsmSet;
 
 /// Returns the MSMs that a conversion decodes with the options that fit a stream.
 pub fn set_had(signals: &StreamSignals) -> MsmSet
-    ensures { (fs : List Framed) → AreSignals signals.now signals.now.station fs
-        → result ≡ set_had signals.now.station fs }
+    ensures { HoldsForFrames signals.now (λ station fs. result ≡ set_had station fs) }
 {
     MsmSet {
         systems: BySystem::each(|system| decodes(&signals.signal_counts, system)),

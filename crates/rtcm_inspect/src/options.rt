@@ -2,15 +2,13 @@
 ghost use Rattle.std.specs.Prelude.{◌≡◌, ◌+◌, ◌*◌, ◌<◌, ◌≤◌, ◌∷◌, ◌++◌, [], flat_map, List, Option, IfOk, IfErr};
 ghost use Rattle.std.specs.Prelude.{ℕ, IfSome, Some, length};
 ghost use Rattle.gnss_obs.specs.Channels.{slot_count};
-ghost use Rattle.gnss_obs.specs.HeardCells.{HeardCell};
 ghost use Rattle.gnss_system.specs.Systems.{systems};
 ghost use Rattle.devices.specs.Devices.{Changes};
 ghost use Rattle.rtcm_msg.specs.Station.{InRange};
-ghost use Rattle.rtcm_scan.specs.Frames.{Framed, frames_of};
-ghost use Rattle.obs_epoch.specs.inner.SignalCounts.{AreSignalCounts};
+ghost use Rattle.rtcm_scan.specs.Frames.{frames_of};
 ghost use Rattle.line_texts.specs.ChannelTexts.{channels_text};
 ghost use Rattle.line_texts.specs.Lines.{AddsWords, IsTextWithin, longest_line, with_words};
-ghost use Rattle.rtcm_inspect.specs.inner.Counting.{AreSignals};
+ghost use Rattle.rtcm_inspect.specs.inner.Counting.{AreSignals, HoldsForCells, HoldsForFrames};
 ghost use Rattle.rtcm_inspect.specs.Fitting.{channel_words, first_words, forms_words, further_words, number_start};
 ghost use Rattle.rtcm_inspect.specs.Fitting.{options_text, other_words, station_words};
 ghost use Rattle.rtcm_inspect.specs.inner.Lines.{longest_codes, longest_name, longest_option, longest_options};
@@ -79,8 +77,8 @@ pub fn run_options<R: Read, W: Deliver>(
 /// `SeveralStations`, `NoSignal`, and those of `printed_week`.
 fn options_of(signals: &StreamSignals, source: WeekSource) -> Result<OptionsText, InspectFault>
     requires { IfSome signals.now.first.point InRange }
-    ensures line { (fs : List Framed) → AreSignals signals.now signals.now.station fs
-        → IfOk result (λ text. AreOptionsOf source signals.now.station fs text.items) }
+    ensures line { HoldsForFrames signals.now (λ station fs.
+        IfOk result (λ text. AreOptionsOf source station fs text.items)) }
     ensures refused { (b : List ℕ) → AreSignals signals.now signals.now.station (frames_of b)
         → signals.now.counts ≡ stream_counts b → IfErr result (AreOptionsRefused source signals.now.station b) }
 {
@@ -98,8 +96,7 @@ fn options_of(signals: &StreamSignals, source: WeekSource) -> Result<OptionsText
 /// seconds.
 fn options_line(signals: &StreamSignals, week: Option<u32>, leap: Option<u8>) -> OptionsText
     requires { IfSome signals.now.first.point InRange }
-    ensures { (fs : List Framed) → AreSignals signals.now signals.now.station fs
-        → result.items ≡ options_text week leap signals.now.station fs }
+    ensures { HoldsForFrames signals.now (λ station fs. result.items ≡ options_text week leap station fs) }
 {
     let mut text = ArrayVec::new();
     put_line(&mut text, &first_words(signals, week));
@@ -110,8 +107,7 @@ fn options_line(signals: &StreamSignals, week: Option<u32>, leap: Option<u8>) ->
 
 /// Returns the first words of the options, up to the signals of Galileo.
 fn first_words(signals: &StreamSignals, week: Option<u32>) -> OutputLine
-    ensures text { (fs : List Framed) → AreSignals signals.now signals.now.station fs
-        → result ≡ first_words week signals.now.station (plan_in signals.now.station fs) }
+    ensures text { HoldsForFrames signals.now (λ station fs. result ≡ first_words week station (plan_in station fs)) }
     ensures short { length result ≤ longest_line }
 {
     let mut line = OutputLine::new();
@@ -141,9 +137,8 @@ fn last_words(signals: &StreamSignals) -> OutputLine
 /// Adds the options of the systems other than GPS and Galileo that have a signal.
 fn add_others(text: &mut OptionsText, signals: &StreamSignals, leap: Option<u8>)
     requires { length text.old.items ≤ longest_line }
-    ensures text { (cells : List HeardCell) → AreSignalCounts signals.now.signal_counts cells
-        → text.new.items
-        ≡ with_words text.old.items (flat_map (other_words leap (plan_had cells signals.now.channels)) systems) }
+    ensures text { HoldsForCells signals.now.signal_counts (λ cells. text.new.items
+        ≡ with_words text.old.items (flat_map (other_words leap (plan_had cells signals.now.channels)) systems)) }
     ensures short { length text.new.items + longest_line ≤ longest_options }
 {
     for i in 0..SYSTEMS.len() {
@@ -154,9 +149,8 @@ fn add_others(text: &mut OptionsText, signals: &StreamSignals, leap: Option<u8>)
 /// Adds the options of a system, if it is another than GPS and Galileo and has a signal.
 fn add_other(text: &mut OptionsText, signals: &StreamSignals, leap: Option<u8>, system: System)
     requires { length text.old.items + longest_plan ≤ longest_options }
-    ensures text { (cells : List HeardCell) → AreSignalCounts signals.now.signal_counts cells
-        → text.new.items
-        ≡ with_words text.old.items (other_words leap (plan_had cells signals.now.channels) system) }
+    ensures text { HoldsForCells signals.now.signal_counts (λ cells. text.new.items
+        ≡ with_words text.old.items (other_words leap (plan_had cells signals.now.channels) system)) }
     ensures short { length text.new.items ≤ length text.old.items + longest_plan }
 {
     if is_always_decoded(system) {
@@ -223,8 +217,8 @@ fn add_number(line: &mut OutputLine, option: &str, number: Option<u32>)
 /// `none`.
 fn add_codes(line: &mut OutputLine, signal_counts: &SignalCounts, system: System)
     requires { length line.old ≤ 150 }
-    ensures text { (cells : List HeardCell) → AreSignalCounts signal_counts.now cells
-        → line.new ≡ line.old ++ 0x20 ∷ codes_word system (had cells system) }
+    ensures text { HoldsForCells signal_counts.now (λ cells.
+        line.new ≡ line.old ++ 0x20 ∷ codes_word system (had cells system)) }
     ensures short { length line.new ≤ length line.old + 62 }
 {
     let mut separator = b' ';

@@ -1,15 +1,13 @@
 //! The week of the options: that nearest to a date, or that of the stream's ephemerides.
-ghost use Rattle.std.specs.Prelude.{◌≡◌, ◌+◌, ◌*◌, ◌/◌, ◌<◌, ◌≤◌, ◌^◌, ℕ, List, Option, Some, IfErr, IfNone, IfOk, IfSome};
+ghost use Rattle.std.specs.Prelude.{◌≡◌, ◌+◌, ◌*◌, ◌/◌, ◌<◌, ◌≤◌, ◌^◌, ℕ, List, Option, Some, IfNone, IfSome};
 ghost use Rattle.std.specs.Prelude.{false, true, if◌then◌else◌};
 ghost use Rattle.std.specs.List.{list_any};
 ghost use Rattle.gnss_obs.specs.Weeks.{week};
-ghost use Rattle.rtcm_scan.specs.Frames.{Framed};
 ghost use Rattle.rtcm_inspect.specs.FaultWords.{week_date};
 ghost use Rattle.rtcm_inspect.specs.NearWeek.{IsWeekFor};
-ghost use Rattle.rtcm_inspect.specs.OptionOutput.{IsPrinted, IsWeekRefused};
 ghost use Rattle.rtcm_inspect.specs.SentWeeks.{IsNearestRest, IsOtherTime, first_msm, is_denied, is_in};
 ghost use Rattle.rtcm_inspect.specs.SentWeeks.{leap_by, leap_with, rest_of, time_in, week_by, within_weeks};
-ghost use Rattle.rtcm_inspect.specs.inner.Counting.{AreSignals};
+ghost use Rattle.rtcm_inspect.specs.inner.Counting.{GivesWeek, HoldsForFrames};
 ghost use Rattle.rtcm_inspect.specs.inner.SaidWeeks.{AreSaid};
 
 use crate::counting::StreamSignals;
@@ -69,10 +67,7 @@ pub fn printed_week(
     signals: &StreamSignals,
     source: WeekSource,
 ) -> Result<PrintedWeek, InspectFault>
-    ensures printed { (fs : List Framed) → AreSignals signals.now signals.now.station fs
-        → IfOk result (λ x. IsPrinted source signals.now.station fs x.week x.leap) }
-    ensures refused { (fs : List Framed) → AreSignals signals.now signals.now.station fs
-        → IfErr result (IsWeekRefused source signals.now.station fs) }
+    ensures { GivesWeek signals.now source result }
 {
     match source {
         WeekSource::Unprinted => Ok(PrintedWeek::default()),
@@ -83,10 +78,7 @@ pub fn printed_week(
 
 /// Returns the week of the first MSM by the ephemerides.
 fn sent_week(signals: &StreamSignals) -> Result<PrintedWeek, InspectFault>
-    ensures printed { (fs : List Framed) → AreSignals signals.now signals.now.station fs
-        → IfOk result (λ x. IsPrinted WeekSource.Ephemerides signals.now.station fs x.week x.leap) }
-    ensures refused { (fs : List Framed) → AreSignals signals.now signals.now.station fs
-        → IfErr result (IsWeekRefused WeekSource.Ephemerides signals.now.station fs) }
+    ensures { GivesWeek signals.now WeekSource.Ephemerides result }
 {
     match signals.weeks.whole.first {
         FirstTwo::Unknown => Err(InspectFault::NoWeek),
@@ -103,8 +95,7 @@ fn sent_week(signals: &StreamSignals) -> Result<PrintedWeek, InspectFault>
 
 /// Returns the leap seconds on the date of the first MSM, if this GPS week was counted as week 0.
 fn leap_by(signals: &StreamSignals, zero: u16) -> u8
-    ensures { (fs : List Framed) → AreSignals signals.now signals.now.station fs
-        → result ≡ leap_by signals.now.station fs zero }
+    ensures { HoldsForFrames signals.now (λ station fs. result ≡ leap_by station fs zero) }
 {
     leap_with(signals, zero, leap_with(signals, zero, 0))
 }
@@ -112,16 +103,14 @@ fn leap_by(signals: &StreamSignals, zero: u16) -> u8
 /// Returns the leap seconds on the date of the first MSM, if its time is that by these leap seconds,
 /// which one of GLONASS depends on.
 fn leap_with(signals: &StreamSignals, zero: u16, leap: u8) -> u8
-    ensures { (fs : List Framed) → AreSignals signals.now signals.now.station fs
-        → result ≡ leap_with signals.now.station fs zero leap }
+    ensures { HoldsForFrames signals.now (λ station fs. result ≡ leap_with station fs zero leap) }
 {
     leap_at(within_weeks(time_in(u64::from(zero), &first_msm(signals, leap))))
 }
 
 /// Returns the week of the first MSM, if this GPS week was counted as week 0.
 fn week_by(signals: &StreamSignals, zero: u16) -> u32
-    ensures { (fs : List Framed) → AreSignals signals.now signals.now.station fs
-        → result ≡ week_by signals.now.station fs zero }
+    ensures { HoldsForFrames signals.now (λ station fs. result ≡ week_by station fs zero) }
 {
     let first = first_msm(signals, leap_by(signals, zero));
     (within_weeks(time_in(u64::from(zero), &first)).milliseconds() / WEEK) as u32
@@ -129,8 +118,7 @@ fn week_by(signals: &StreamSignals, zero: u16) -> u32
 
 /// Returns the first MSM, with these leap seconds.
 fn first_msm(signals: &StreamSignals, leap: u8) -> FirstMsm
-    ensures { (fs : List Framed) → AreSignals signals.now signals.now.station fs
-        → result ≡ first_msm leap signals.now.station fs }
+    ensures { HoldsForFrames signals.now (λ station fs. result ≡ first_msm leap station fs) }
 {
     let set = set_had(signals);
     let greatest = signals.first.tows.greatest_at_first(&set);
@@ -164,10 +152,7 @@ fn within_weeks(time: u64) -> GpsTime
 
 /// Returns the week of the first MSM near the noon of a date.
 fn dated_week(signals: &StreamSignals, noon: GpsTime) -> Result<PrintedWeek, InspectFault>
-    ensures printed { (fs : List Framed) → AreSignals signals.now signals.now.station fs
-        → IfOk result (λ x. IsPrinted (WeekSource.Near noon) signals.now.station fs x.week x.leap) }
-    ensures refused { (fs : List Framed) → AreSignals signals.now signals.now.station fs
-        → IfErr result (IsWeekRefused (WeekSource.Near noon) signals.now.station fs) }
+    ensures { GivesWeek signals.now (WeekSource.Near noon) result }
 {
     let leap = leap_at(noon);
     let week = week_for(noon, signals.first.tows.first_tow(&set_had(signals), leap));

@@ -1,12 +1,11 @@
 //! The command `signals`: the signals of a stream as a table.
-ghost use Rattle.std.specs.Prelude.{◌≡◌, ◌+◌, ◌*◌, ◌<◌, ◌≤◌, ◌++◌, [], List, flat_map, length};
-ghost use Rattle.gnss_obs.specs.HeardCells.{HeardCell};
+ghost use Rattle.std.specs.Prelude.{◌≡◌, ◌+◌, ◌*◌, ◌<◌, ◌≤◌, ◌++◌, [], flat_map, length};
 ghost use Rattle.gnss_system.specs.Signals.{table, code_of};
 ghost use Rattle.gnss_system.specs.Systems.{systems};
 ghost use Rattle.obs_epoch.specs.SignalCounts.{signal_in};
-ghost use Rattle.obs_epoch.specs.inner.SignalCounts.{AreSignalCounts};
 ghost use Rattle.devices.specs.Devices.{Changes};
 ghost use Rattle.line_texts.specs.Lines.{IsTextWithin};
+ghost use Rattle.rtcm_inspect.specs.inner.Counting.{HoldsForCells};
 ghost use Rattle.rtcm_inspect.specs.inner.Lines.{longest_signal, longest_signals};
 ghost use Rattle.rtcm_inspect.specs.StreamOutput.{EndsStream};
 ghost use Rattle.rtcm_inspect.specs.Signals.{AreSignalsOf, AreSignalsRefused, count_line, count_lines};
@@ -56,8 +55,7 @@ pub fn run_signals<R: Read, W: Deliver>(
 /// Adds the lines of each system.
 fn add_systems(text: &mut ArrayVec<u8, TEXT_BYTES>, signal_counts: &SignalCounts)
     requires { text.old.items ≡ [] }
-    ensures { (cells : List HeardCell) → AreSignalCounts signal_counts.now cells
-        → text.new.items ≡ flat_map (count_lines cells) systems }
+    ensures { HoldsForCells signal_counts.now (λ cells. text.new.items ≡ flat_map (count_lines cells) systems) }
 {
     for i in 0..SYSTEMS.len() {
         add_lines(text, signal_counts, System::at(i));
@@ -67,8 +65,8 @@ fn add_systems(text: &mut ArrayVec<u8, TEXT_BYTES>, signal_counts: &SignalCounts
 /// Adds a line for each signal of a system that has a cell.
 fn add_lines(text: &mut ArrayVec<u8, TEXT_BYTES>, signal_counts: &SignalCounts, system: System)
     requires { length text.old.items + longest_signal * length (table system) ≤ longest_signals }
-    ensures text { (cells : List HeardCell) → AreSignalCounts signal_counts.now cells
-        → text.new.items ≡ text.old.items ++ count_lines cells system }
+    ensures text { HoldsForCells signal_counts.now (λ cells.
+        text.new.items ≡ text.old.items ++ count_lines cells system) }
     ensures short { length text.new.items ≤ length text.old.items + longest_signal * length (table system) }
 {
     for index in 0..system.signals() {

@@ -1,6 +1,6 @@
 -- The counts of the cells of a stream, by signal, while the stream is read.
 use Rattle.std.specs.Prelude.{◌≡◌, ℕ, ◌+◌, ◌*◌, ◌%◌, ◌<◌, ◌≤◌, ◌^◌, List, [], ◌∷◌, ◌++◌, length, Option, Result, ⊤}
-use Rattle.std.specs.Prelude.{IfSome, option_and_then, option_to_list, if◌then◌else◌}
+use Rattle.std.specs.Prelude.{IfSome, MatchResult, option_and_then, option_to_list, if◌then◌else◌}
 use Rattle.std.specs.Option.{option_map_or, option_or}
 use Rattle.std.specs.Io.KnownBytes.{Consumes, IsAtEnd}
 use Rattle.devices.specs.Device.{Device}
@@ -20,6 +20,7 @@ use Rattle.rtcm_inspect.specs.FirstTwo.{first_two}
 use Rattle.rtcm_inspect.specs.Inspected.{inspected_of}
 use Rattle.rtcm_inspect.specs.inner.FirstTows.{AreTows}
 use Rattle.rtcm_inspect.specs.inner.SaidWeeks.{AreSaidIn}
+use Rattle.rtcm_inspect.specs.OptionOutput.{IsPrinted, IsWeekRefused}
 use Rattle.rtcm_inspect.specs.Signals.{forms_had, needs_all, valued_in}
 use Rattle.rtcm_inspect.specs.StreamChannels.{channels_in, sent_by, with_sent}
 use Rattle.rtcm_inspect.specs.StreamCounts.{is_msm, msm_in, stream_counts}
@@ -28,6 +29,8 @@ use Rattle.rtcm_inspect.specs.declared.fault.InspectFault.{InspectFault}
 use Rattle.rtcm_inspect.specs.declared.fault.InspectFault.TheVariants as faults
 use Rattle.rtcm_inspect.specs.declared.counting.StreamSignals.{StreamSignals}
 use Rattle.rtcm_inspect.specs.declared.fault.StreamCounts.{StreamCounts}
+use Rattle.rtcm_inspect.specs.declared.printed_week.PrintedWeek.{PrintedWeek}
+use Rattle.rtcm_inspect.specs.declared.printed_week.WeekSource.{WeekSource}
 
 -- the counts are those of the cells of these frames, each of which has at most `most_pairs`
 pub record IsCounted (c : SignalCountsValue) (wanted : Option ℕ) (fs : List Framed) : Type 0 where
@@ -47,6 +50,19 @@ pub record AreSignals (s : StreamSignals) (wanted : Option ℕ) (fs : List Frame
   pub first : AreFirst s.first wanted fs
   pub weeks : AreSaidIn s.weeks wanted fs
   pub counts : AreFrameCounts s.counts fs
+
+-- P holds for the station and all frames whose signals these are
+abbrev pub HoldsForFrames : StreamSignals → (Option ℕ → List Framed → Type 0) → Type 0
+HoldsForFrames s P = (fs : List Framed) → AreSignals s s.station fs → P s.station fs
+
+-- the week and the leap seconds that are printed, or why none are
+abbrev pub GivesWeek : StreamSignals → WeekSource → Result PrintedWeek InspectFault → Type 0
+GivesWeek s source result = HoldsForFrames s (λ station fs.
+    MatchResult result (λ x. IsPrinted source station fs x.week x.leap) (IsWeekRefused source station fs))
+
+-- P holds for all cells of which these are the counts
+abbrev pub HoldsForCells : SignalCountsValue → (List HeardCell → Type 0) → Type 0
+HoldsForCells counts P = (cells : List HeardCell) → AreSignalCounts counts cells → P cells
 
 -- x became y by the message of a frame, which may be refused; the number of frames and the weeks are of before
 pub record Takes (x y : StreamSignals) (f : Framed) (r : Result Message MsgFault) : Type 0 where

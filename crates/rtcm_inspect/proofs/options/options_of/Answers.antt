@@ -14,7 +14,7 @@ returns-in_ok-printed-in-None-2-clause-line c = λ fs h.
         ap (λ (x : FirstTwo). mixed_of s.station x) (sym h.first.stations) ∙ sym c.mixed_stations.ensures ∙ c.in-None.is,
         some_cells _ (valued_in s.station fs) h.counted.signal_counts (sym c.has_any.ensures ∙ c.if-not-has_any.false),
       ),
-      (c.in_ok-printed-in-None-2.printed.week, c.in_ok-printed-in-None-2.printed.leap, c.in_ok-printed-in-None-2.ensures.printed fs h, c.options_line.ensures fs h),
+      (c.in_ok-printed-in-None-2.printed.week, c.in_ok-printed-in-None-2.printed.leap, c.in_ok-printed-in-None-2.ensures fs h, c.options_line.ensures fs h),
     )
 
 pub returns-in_err-printed-in-None-2-clause-refused : goal.returns-in_err-printed-in-None-2-clause-refused
