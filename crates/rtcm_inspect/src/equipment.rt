@@ -1,11 +1,8 @@
 //! The lines of the antenna and the receiver of a station, messages 1007, 1008 and 1033.
-ghost use Rattle.std.specs.Prelude.{◌≡◌, ◌+◌, ◌*◌, ◌<◌, ◌≤◌, ◌∷◌, ◌++◌, [], Ok, Err, length, map, decimal};
-ghost use Rattle.devices.specs.Device.{FailsWith};
-ghost use Rattle.rtcm_bits.specs.FrameOf.{longest_message};
-ghost use Rattle.rtcm_scan.specs.inner.Results.{framed};
+ghost use Rattle.std.specs.Prelude.{◌≡◌, ◌+◌, ◌*◌, ◌<◌, ◌≤◌, ◌∷◌, ◌++◌, [], length, map, decimal};
 ghost use Rattle.rtcm_msg.specs.Equipment.{AreShort, equipment_value, longest_text};
 ghost use Rattle.line_texts.specs.Lines.{AddsWords, IsTextWithin, line, with_words};
-ghost use Rattle.rtcm_inspect.specs.EquipmentLines.{equipment_line, equipment_words, equipment_fault_words};
+ghost use Rattle.rtcm_inspect.specs.EquipmentLines.{equipment_words, equipment_fault_words};
 ghost use Rattle.rtcm_inspect.specs.EquipmentLines.{escaped, hex_digit, quoted};
 ghost use Rattle.rtcm_inspect.specs.inner.Lines.{longest_head, longest_quoted};
 
