@@ -1,8 +1,12 @@
 -- What a framer has accepted after each of its steps.
-use Rattle.rtcm_scan.proofs.Names.{ℕ, ◌≡◌, ◌+◌, ◌-◌, ◌<◌, ◌≤◌, Bool, true, false, List, [], ◌∷◌, ◌++◌, length, drop, ap, ◌∙◌, arith, length-append, sum_by, drop-append-le, length-drop, drop-drop, sum_by_push, begins_frame, message_length, frame_length, framed_message, Framed, IsFrameOf, WindowValue, pushed, without_front, FramerValue, scan_of, with_byte, with_window, HasFramed, first_held, IsPassed, Scanned}
+use Rattle.rtcm_scan.proofs.Names.{ℕ, ◌≡◌, ◌+◌, ◌-◌, ◌<◌, ◌≤◌, Bool, true, false, List, [], ◌∷◌, ◌++◌, length, drop, ap, ◌∙◌, arith, length-append, sum_by, drop-append-le, length-drop, drop-drop, sum_by_push, begins_frame, message_length, frame_length, framed_message, Framed, IsFrameOf, WindowValue, without_front, FramerValue, scan_of, with_window, HasFramed, first_held, IsPassed, Scanned}
 use Rattle.rtcm_scan.proofs.FrameLemmas.{begins_parts, length-message}
 use Rattle.rtcm_scan.proofs.ScanLemmas.{scanned_skip, scanned_frame, scanned_longer, scanned_ended}
 use Rattle.rtcm_scan.proofs.PrefixLemmas.{known_first}
+
+-- with one more byte, without a look
+abbrev pub with_byte : FramerValue → ℕ → FramerValue
+with_byte v byte = record v { taken = v.taken + 1; held = v.held ++ byte ∷ []; looks = v.looks ++ 0 ∷ []; is_ready = false }
 
 -- the bytes of a frame
 abbrev pub size_of : Framed → ℕ
@@ -71,17 +75,13 @@ history_take v b fs h s =
     (rw e (scanned_frame v.has_ended b 0 fs g s.scanned i))
     (rw (e, j) (omega arith))
 
--- the framer's view after each change of its window
-pub view_pushed : {v : FramerValue} {limit skipped tried : ℕ} {w w' : WindowValue} {ended ready : Bool} (place x : ℕ) → scan_of limit place w ended ready skipped tried ≡ v → w' ≡ pushed w x
-    → scan_of limit place w' ended false skipped tried ≡ with_byte v x
-view_pushed {limit} {skipped} {tried} {w} {ended} place x e f = grind (arith, length-append)
-
 pub whole_frame : (held bytes : List ℕ) (size : ℕ) → begins_frame held ≡ true → size ≡ frame_length held → bytes ≡ held → (6 ≤ size) × (size ≤ length bytes)
 whole_frame held bytes size h e f =
     let w : frame_length held ≤ length held = (begins_parts held h).1 in
     let l : length bytes ≡ length held = ap length f in
     (omega arith, omega arith)
 
+-- the framer's view after its window was changed
 pub view_dropped : {v : FramerValue} {limit skipped tried n : ℕ} {w w' : WindowValue} {ended ready : Bool} (place : ℕ) (u : WindowValue) → scan_of limit place w ended ready skipped tried ≡ v → u.bytes ≡ w.bytes
     → w' ≡ without_front u n → n ≤ length w.bytes → scan_of limit (place + n) w' ended ready skipped 0 ≡ with_window v (without_front u n) 0
 view_dropped {limit} {skipped} {n} {w} {ended} {ready} place u e g f h = grind (arith, length-drop)

@@ -4,7 +4,7 @@ unfoldable pub use Rattle.rtcm_bits.specs.Crc.{add_front, bits_remainder, crc, g
 pub use Rattle.rtcm_bits.specs.FrameOf.{frame_bytes, frame_header, longest_frame, longest_message, preamble, three_bytes}
 pub use Rattle.rtcm_bits.specs.Prefix.{IsPrefix}
 pub use Rattle.rtcm_bits.proofs.SmallLaws.{on_failure, prefix_self, prefix_trans, wrapped, all_append}
-pub use Rattle.rtcm_bits.specs.Window.{WindowValue, looked, looked_through, nothing_held, pushed, pushed_all, without_front}
+pub use Rattle.rtcm_bits.specs.Window.{WindowValue, looked, looked_through, nothing_held, pushed_all, without_front}
 pub use Rattle.rtcm_scan.specs.inner.Candidate.{HasTaken, wanted_by}
 unfoldable pub use Rattle.rtcm_scan.specs.Decided.{decided, decided_frames, frames_before, is_tried, places, tried}
 pub use Rattle.rtcm_scan.specs.Decided.{cost, is_inside, is_within, most_undecided, skipped_before}
@@ -22,7 +22,7 @@ pub use Rattle.rtcm_scan.specs.inner.Passing.{AtFault, Breaking, Breaks, BreaksA
 pub use Rattle.rtcm_scan.specs.inner.Pending.{asked, passed, with_candidate_examined}
 unfoldable pub use Rattle.rtcm_scan.specs.inner.Results.{decision}
 pub use Rattle.rtcm_scan.specs.inner.Results.{frame_at, if_missing, new_scan}
-pub use Rattle.rtcm_scan.specs.Scan.{AllPassed, FramerValue, HasFramed, IsPassed, IsScannedOn, Scanned, first_held, most_bytes, scan_of, window_of, with_byte, with_bytes, with_looks, with_window}
+pub use Rattle.rtcm_scan.specs.Scan.{AllPassed, FramerValue, HasFramed, IsPassed, IsScannedOn, Scanned, first_held, most_bytes, scan_of, window_of, with_bytes, with_looks, with_window}
 pub use Rattle.rtcm_scan.specs.declared.candidate.Candidate.{Candidate}
 pub use Rattle.rtcm_scan.specs.declared.feed.StreamFault.{StreamFault}
 pub use Rattle.rtcm_scan.specs.declared.front.Decision.TheVariants.{Found, Open, Passed}

@@ -1,6 +1,6 @@
 -- What a framer has accepted after many bytes.
-use Rattle.rtcm_scan.proofs.Names.{common_steps, ℕ, ◌≡◌, ◌+◌, ◌≤◌, Bool, false, List, [], ◌∷◌, ◌++◌, length, arith, length-append, append_assoc, WindowValue, pushed_all, Framed, FramerValue, scan_of, with_byte, with_bytes, HasExamined}
-use Rattle.rtcm_scan.proofs.HistoryLemmas.{history_ready}
+use Rattle.rtcm_scan.proofs.Names.{common_steps, ℕ, ◌≡◌, ◌+◌, ◌≤◌, Bool, false, List, [], ◌∷◌, ◌++◌, length, arith, length-append, append_assoc, WindowValue, pushed_all, Framed, FramerValue, scan_of, with_bytes, HasExamined}
+use Rattle.rtcm_scan.proofs.HistoryLemmas.{history_ready, with_byte}
 use Rattle.rtcm_scan.proofs.StepLemmas.{step_push}
 
 pub step_push_all : (v : FramerValue) (b xs : List ℕ) (fs : List Framed) → v.has_ended ≡ false → v.taken + length xs ≤ v.limit → HasExamined v b fs → HasExamined (with_bytes v xs) (b ++ xs) fs

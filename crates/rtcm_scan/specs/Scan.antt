@@ -57,11 +57,6 @@ abbrev pub with_window : FramerValue → WindowValue → ℕ → FramerValue
 with_window v w tried =
     record v { held = w.bytes; looks = w.looks; examined = w.examined; most = w.most; tried = tried }
 
--- with one more byte, without a look
-abbrev pub with_byte : FramerValue → ℕ → FramerValue
-with_byte v byte =
-    record v { taken = v.taken + 1; held = v.held ++ byte ∷ []; looks = v.looks ++ 0 ∷ []; is_ready = false }
-
 -- with these further bytes, without a look
 abbrev pub with_bytes : FramerValue → List ℕ → FramerValue
 with_bytes v bytes =

@@ -5,20 +5,20 @@
 //! continues one byte further; if bytes are missing, it waits for them. So a frame inside a damaged
 //! frame is found. Each byte of a candidate is read once, for every way to cut the stream.
 ghost use Rattle.std.specs.Prelude.{◌≡◌, ◌+◌, ◌-◌, ◌*◌, ◌<◌, ◌≤◌, ◌⊎◌, ◌&&◌, not, ℕ, List, [], ◌∷◌, min, length, take};
-ghost use Rattle.std.specs.Prelude.{true, false, IsTrue, IfOk, OnOk, OnErr, IfErr, IfSome, IfNone, OnSome, ◌↔◌};
+ghost use Rattle.std.specs.Prelude.{true, false, IsTrue, IfOk, IfErr, IfSome, IfNone, OnSome, ◌↔◌};
 ghost use Rattle.rtcm_scan.specs.Frame.{begins_frame, frame_length, framed_message};
 ghost use Rattle.rtcm_scan.specs.Frames.{Framed};
 ghost use Rattle.rtcm_scan.specs.Scan.{IsScannedOn, most_bytes, first_held, window_of};
-ghost use Rattle.rtcm_scan.specs.Scan.{with_window, with_byte, with_bytes};
+ghost use Rattle.rtcm_scan.specs.Scan.{with_window};
 ghost use Rattle.rtcm_scan.specs.inner.Candidate.{HasTaken};
-ghost use Rattle.rtcm_scan.specs.Examined.{HasExamined, KeepsHistory, AcceptsBytes, FindsFrame};
+ghost use Rattle.rtcm_scan.specs.Examined.{HasExamined, KeepsHistory, FindsFrame};
 ghost use Rattle.rtcm_scan.specs.inner.Pending.{asked, HasFrame, with_candidate_examined, passed};
 ghost use Rattle.rtcm_bits.specs.FrameOf.{longest_frame};
 ghost use Rattle.rtcm_bits.specs.Window.{looked_through, without_front};
 ghost use Rattle.rtcm_scan.specs.Decided.{most_undecided};
 ghost use Rattle.rtcm_scan.specs.Looks.{most_looks};
 ghost use Rattle.rtcm_scan.specs.Drained.{IsDrained, FindsNone};
-ghost use Rattle.rtcm_scan.specs.inner.Results.{framed, frame_at, push_result, push_all_result, decision, new_scan};
+ghost use Rattle.rtcm_scan.specs.inner.Results.{Pushes, framed, frame_at, decision, new_scan};
 
 use crate::candidate::Candidate;
 use crate::front::{Decision, examine, judge, pass_others};
@@ -158,23 +158,11 @@ impl Framer {
     /// `Ended` after `end`, and `TooLong` if the number of bytes accepted is the limit.
     pub fn push(&mut self, byte: u8) -> Result<(), ScanFault>
         requires { IsTrue self.old.is_ready }
-        ensures answer { result ≡ push_result self.old }
-        ensures history { OnOk result (AcceptsBytes self.old self.new (byte ∷ [])) }
-        ensures ok { OnOk result (self.new ≡ with_byte self.old byte) }
-        ensures full { OnErr result (self.old.has_ended ≡ false → self.old.taken ≡ self.old.limit) }
-        ensures err { OnErr result (self.new ≡ self.old) }
-        ensures within { self.new.taken ≤ self.new.limit }
-        ensures same { (self.new.limit ≡ self.old.limit) × (self.new.has_ended ≡ self.old.has_ended) }
+        ensures { Pushes result self.old self.new (byte ∷ []) }
     {
-        if self.ended {
-            return Err(ScanFault::Ended);
-        }
-        if self.offset + self.window.held() as u64 == self.limit {
-            return Err(ScanFault::TooLong);
-        }
-        self.window.push(byte);
-        self.drained = false;
-        Ok(())
+        // Brings the bound on the number of held bytes into the proof.
+        let _ = self.held();
+        self.push_all(&[byte])
     }
 
     /// Accepts these bytes, at most 1,029 with those held, and reads none. Call `next` or
@@ -187,13 +175,7 @@ impl Framer {
     pub fn push_all(&mut self, bytes: &[u8]) -> Result<(), ScanFault>
         requires ready { IsTrue self.old.is_ready }
         requires room { length self.old.held + length bytes.now ≤ longest_frame }
-        ensures answer { result ≡ push_all_result self.old (length bytes.now) }
-        ensures history { OnOk result (AcceptsBytes self.old self.new bytes.now) }
-        ensures ok { OnOk result (self.new ≡ with_bytes self.old bytes.now) }
-        ensures long { OnErr result (self.old.has_ended ≡ false → self.old.limit < self.old.taken + length bytes.now) }
-        ensures err { OnErr result (self.new ≡ self.old) }
-        ensures within { self.new.taken ≤ self.new.limit }
-        ensures same { (self.new.limit ≡ self.old.limit) × (self.new.has_ended ≡ self.old.has_ended) }
+        ensures { Pushes result self.old self.new bytes.now }
     {
         if self.ended {
             Err(ScanFault::Ended)

@@ -1,6 +1,6 @@
 -- What the calls of a framer return.
-use Rattle.std.specs.Prelude.{◌≡◌, ℕ, Bool, true, false, ◌+◌, ◌<◌, nat_lt, nat_le, min, List, [], length, take}
-use Rattle.std.specs.Prelude.{slice_index, Result, Ok, Err, if◌then◌else◌}
+use Rattle.std.specs.Prelude.{◌≡◌, ℕ, Bool, true, false, ◌+◌, ◌<◌, ◌≤◌, nat_lt, min, List, [], length, take}
+use Rattle.std.specs.Prelude.{slice_index, Result, Ok, Err, OnOk, OnErr, if◌then◌else◌}
 use Rattle.rtcm_scan.specs.declared.framer.Frame.{Frame}
 use Rattle.rtcm_scan.specs.declared.framer.ScanFault.{ScanFault}
 use Rattle.rtcm_scan.specs.declared.framer.ScanFault.TheVariants.{TooLong, Ended}
@@ -10,7 +10,8 @@ use Rattle.rtcm_scan.specs.Frame.{begins_frame, is_open, frame_length}
 use Rattle.rtcm_scan.specs.Frames.{Framed}
 use Rattle.rtcm_scan.specs.declared.candidate.Candidate.{Candidate}
 use Rattle.rtcm_scan.specs.inner.Candidate.{HasTaken, wanted_by}
-use Rattle.rtcm_scan.specs.Scan.{FramerValue}
+use Rattle.rtcm_scan.specs.Examined.{AcceptsBytes}
+use Rattle.rtcm_scan.specs.Scan.{FramerValue, with_bytes}
 
 -- a frame that was returned
 abbrev pub framed : Frame → Framed
@@ -36,13 +37,19 @@ new_scan limit =
       most = 0;
     }
 
--- what a push returns
-abbrev pub push_result : FramerValue → Result (Unit {0}) ScanFault
-push_result v = (if v.has_ended then Err Ended else if nat_le v.limit v.taken then Err TooLong else Ok tt)
-
 -- what a push of n bytes returns
-abbrev pub push_all_result : FramerValue → ℕ → Result (Unit {0}) ScanFault
-push_all_result v n = (if v.has_ended then Err Ended else if nat_lt v.limit (v.taken + n) then Err TooLong else Ok tt)
+abbrev pub push_result : FramerValue → ℕ → Result (Unit {0}) ScanFault
+push_result v n = (if v.has_ended then Err Ended else if nat_lt v.limit (v.taken + n) then Err TooLong else Ok tt)
+
+-- a push of these bytes: all were accepted, or the framer is unchanged
+pub record Pushes (result : Result (Unit {0}) ScanFault) (v v' : FramerValue) (bytes : List ℕ) : Type 0 where
+  pub answer : result ≡ push_result v (length bytes)
+  pub history : OnOk result (AcceptsBytes v v' bytes)
+  pub ok : OnOk result (v' ≡ with_bytes v bytes)
+  pub err : OnErr result (v' ≡ v)
+  pub long : OnErr result (v.has_ended ≡ false → v.limit < v.taken + length bytes)
+  pub within : v'.taken ≤ v'.limit
+  pub same : (v'.limit ≡ v.limit) × (v'.has_ended ≡ v.has_ended)
 
 -- the decision if bytes are missing
 abbrev pub if_missing : Bool → Decision
