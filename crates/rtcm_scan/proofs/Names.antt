@@ -5,7 +5,7 @@ pub use Rattle.rtcm_bits.specs.FrameOf.{frame_bytes, frame_header, longest_frame
 pub use Rattle.rtcm_bits.specs.Prefix.{IsPrefix}
 pub use Rattle.rtcm_bits.proofs.SmallLaws.{on_failure, prefix_self, prefix_trans, wrapped, all_append}
 pub use Rattle.rtcm_bits.specs.Window.{WindowValue, looked, looked_through, nothing_held, pushed_all, without_front}
-pub use Rattle.rtcm_scan.specs.inner.Candidate.{HasTaken, wanted_by}
+pub use Rattle.rtcm_scan.specs.inner.Candidate.{HasReadMore, HasTaken, wanted_by}
 unfoldable pub use Rattle.rtcm_scan.specs.Decided.{decided, decided_frames, frames_before, is_tried, places, tried}
 pub use Rattle.rtcm_scan.specs.Decided.{cost, is_inside, is_within, most_undecided, skipped_before}
 pub use Rattle.rtcm_scan.specs.Drained.{IsDrained, known_examined, known_most}

@@ -1,6 +1,6 @@
 //! The candidate at the front of the held bytes: its held bytes are read, and then it is decided.
 ghost use Rattle.std.specs.Prelude.{◌≡◌, ◌+◌, ◌-◌, ◌<◌, ◌≤◌, ℕ, [], min, length, slice_index, take};
-ghost use Rattle.rtcm_scan.specs.inner.Candidate.{HasTaken, wanted_by};
+ghost use Rattle.rtcm_scan.specs.inner.Candidate.{HasReadMore, HasTaken, wanted_by};
 ghost use Rattle.rtcm_bits.specs.FrameOf.{preamble};
 ghost use Rattle.rtcm_bits.specs.Window.{IsFirstOf, looked_through, without_front};
 ghost use Rattle.rtcm_scan.specs.inner.Results.{ComesTo};
@@ -24,12 +24,8 @@ pub(crate) fn examine(window: &mut Window, candidate: &mut Candidate)
     requires taken { HasTaken candidate.old (take candidate.old.count window.old.bytes) }
     requires within { candidate.old.count ≤ length window.old.bytes }
     requires some { 0 < length window.old.bytes }
-    ensures taken { HasTaken candidate.new (take candidate.new.count window.old.bytes) }
+    ensures read { HasReadMore window.old candidate.old window.new candidate.new }
     ensures all { candidate.new.count ≡ min (wanted_by window.old.bytes) (length window.old.bytes) }
-    ensures more { candidate.old.count ≤ candidate.new.count }
-    ensures window { window.new
-        ≡ looked_through window.old candidate.old.count (candidate.new.count - candidate.old.count) }
-    ensures bytes { window.new.bytes ≡ window.old.bytes }
     ensures numbers { (i : ℕ) → slice_index window.old.bytes i < 256 }
 {
     examine_header(window, candidate);
@@ -47,13 +43,8 @@ pub(crate) fn examine(window: &mut Window, candidate: &mut Candidate)
 fn examine_header(window: &mut Window, candidate: &mut Candidate)
     requires taken { HasTaken candidate.old (take candidate.old.count window.old.bytes) }
     requires within { candidate.old.count ≤ length window.old.bytes }
-    ensures taken { HasTaken candidate.new (take candidate.new.count window.old.bytes) }
-    ensures within { candidate.new.count ≤ length window.old.bytes }
+    ensures read { HasReadMore window.old candidate.old window.new candidate.new }
     ensures all { candidate.new.count < candidate.new.wanted → min (length window.old.bytes) 3 ≤ candidate.new.count }
-    ensures more { candidate.old.count ≤ candidate.new.count }
-    ensures window { window.new
-        ≡ looked_through window.old candidate.old.count (candidate.new.count - candidate.old.count) }
-    ensures bytes { window.new.bytes ≡ window.old.bytes }
 {
     let held = window.held();
     let end = if held - candidate.count == 1 {
