@@ -1,5 +1,5 @@
 -- A writer with a buffer before it.
-use Rattle.std.specs.Prelude.{ℕ, Bool, List, ◌++◌, Option}
+use Rattle.std.specs.Prelude.{◌≡◌, ℕ, Bool, true, false, List, ◌++◌, Option, Result, OnOk, OnErr, IsErr}
 use Rattle.std.specs.Io.KnownBytes.{append_known}
 
 -- the capacity of the buffer, in bytes
@@ -12,6 +12,12 @@ pub record Buffering (W : Type 0) : Type 0 where
   pub device : W
   pub waiting : List ℕ
   pub has_failed : Bool
+
+-- a call that fails exactly if the buffer has failed after it, and that changes nothing if it had failed before
+pub record StaysFailed {A E W : Type 0} (result : Result A E) (b b' : Buffering W) : Type 0 where
+  pub fine : OnOk result (b'.has_failed ≡ false)
+  pub failed : OnErr result (b'.has_failed ≡ true)
+  pub over : b.has_failed ≡ true → IsErr result × (b' ≡ b)
 
 -- the bytes that the device has, followed by those in the buffer
 abbrev pub contents_of : {W : Type 0} → (W → Option (List ℕ)) → Buffering W → Option (List ℕ)

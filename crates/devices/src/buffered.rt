@@ -1,9 +1,9 @@
 //! A buffer before a writer, so that many small writes make few calls of a device.
-ghost use Rattle.std.specs.Prelude.{◌≡◌, ◌+◌, ◌-◌, ◌<◌, ◌≤◌, [], ◌++◌, true, false, length, min, take, Ok, OnOk, OnErr};
-ghost use Rattle.std.specs.Prelude.{IfOk, IsErr, vec_len, vec_capacity};
+ghost use Rattle.std.specs.Prelude.{◌≡◌, ◌+◌, ◌-◌, ◌<◌, ◌≤◌, [], ◌++◌, false, length, min, take, Ok, OnOk};
+ghost use Rattle.std.specs.Prelude.{IfOk, vec_len, vec_capacity};
 ghost use Rattle.std.specs.Io.{WritesAtMost};
 ghost use Rattle.std.specs.Io.KnownBytes.{Keeps, Appends, WriteAppends};
-ghost use Rattle.devices.specs.Buffering.{buffer_bytes, contents_of, waiting_of};
+ghost use Rattle.devices.specs.Buffering.{StaysFailed, buffer_bytes, contents_of, waiting_of};
 ghost use Rattle.devices.specs.inner.Delivering.{more_waits};
 
 use crate::deliver::Deliver;
@@ -72,9 +72,8 @@ impl<W: Write> Buffered<W> {
     /// Writes the bytes in the buffer, up to a failure. Fails if the device has failed before.
     fn write_out(&mut self) -> io::Result<()>
         ensures bytes { Keeps (contents_of W.contents self.old) (contents_of W.contents self.new) }
-        ensures all { OnOk result ((self.new.waiting ≡ []) × (self.new.has_failed ≡ false)) }
-        ensures failed { OnErr result (self.new.has_failed ≡ true) }
-        ensures over { self.old.has_failed ≡ true → IsErr result × (self.new ≡ self.old) }
+        ensures all { OnOk result (self.new.waiting ≡ []) }
+        ensures stays { StaysFailed result self.old self.new }
     {
         if self.failed {
             return Err(io::Error::from(ErrorKind::Other));
@@ -100,9 +99,7 @@ impl<W: Deliver> Write for Buffered<W> {
         ensures bound { WritesAtMost result buf.now }
         ensures bytes { WriteAppends (contents_of W.contents self.old) (contents_of W.contents self.new) result
             buf.now }
-        ensures fine { OnOk result (self.new.has_failed ≡ false) }
-        ensures failed { OnErr result (self.new.has_failed ≡ true) }
-        ensures over { self.old.has_failed ≡ true → IsErr result × (self.new ≡ self.old) }
+        ensures stays { StaysFailed result self.old self.new }
         ensures room { self.old.has_failed ≡ false → length self.old.waiting < buffer_bytes
             → result ≡ Ok (min (length buf.now) (buffer_bytes - length self.old.waiting)) }
     {
@@ -118,9 +115,7 @@ impl<W: Deliver> Write for Buffered<W> {
         ensures bytes { Keeps (contents_of W.contents self.old) (contents_of W.contents self.new) }
         ensures all { OnOk result (self.new.waiting ≡ []) }
         ensures device { OnOk result (W.waiting self.new.device ≡ []) }
-        ensures fine { OnOk result (self.new.has_failed ≡ false) }
-        ensures failed { OnErr result (self.new.has_failed ≡ true) }
-        ensures over { self.old.has_failed ≡ true → IsErr result × (self.new ≡ self.old) }
+        ensures stays { StaysFailed result self.old self.new }
     {
         self.write_out()?;
         let result = self.device.deliver();
@@ -145,8 +140,7 @@ impl<W: Deliver> Deliver for Buffered<W> {
     fn deliver(&mut self) -> io::Result<()>
         ensures bytes { Keeps (contents_of W.contents self.old) (contents_of W.contents self.new) }
         ensures all { OnOk result (waiting_of W.waiting self.new ≡ []) }
-        ensures fine { OnOk result (self.new.has_failed ≡ false) }
-        ensures failed { OnErr result (self.new.has_failed ≡ true) }
+        ensures stays { StaysFailed result self.old self.new }
     {
         self.flush()
     }

@@ -9,7 +9,7 @@ returns-clause-bytes g c =
     let held = c.if-self in
     let device = ap (λ v. v.device) c.self-2.view_is in
     let fine : held.self.has_failed ≡ false = elim held.branch [
-      | then-self+in_ok-write_out w ↦ ap (λ v. v.has_failed) w.self-is ∙ w.in_ok-write_out.ensures.all.1
+      | then-self+in_ok-write_out w ↦ ap (λ v. v.has_failed) w.self-is ∙ w.in_ok-write_out.ensures.stays.fine
       | else-self+else-len-eq-BUFFER_BYTES w ↦ ap (λ v. v.has_failed) w.self-is ∙ ap (λ v. v.has_failed) (sym c.self.view_is) ∙ w.if-self.false
     ] in
     let none : c.self-2.inside.sent ≡ 0 = search rules in
