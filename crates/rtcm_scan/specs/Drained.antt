@@ -1,10 +1,10 @@
 -- A framer after everything that can be decided was decided.
-use Rattle.std.specs.Prelude.{◌≡◌, ◌<◌, ℕ, Bool, true, false, List, drop, length}
+use Rattle.std.specs.Prelude.{◌≡◌, ◌<◌, ℕ, Bool, true, false, List, Option, IfSome, IfNone, drop, length}
 use Rattle.rtcm_bits.specs.FrameOf.{longest_frame}
 use Rattle.rtcm_scan.specs.Frames.{Framed, frames_of}
 use Rattle.rtcm_scan.specs.Decided.{skipped_before}
 use Rattle.rtcm_scan.specs.Known.{known_place, known_frames}
-use Rattle.rtcm_scan.specs.Scan.{FramerValue}
+use Rattle.rtcm_scan.specs.Scan.{FramerValue, IsScannedOn}
 use Rattle.rtcm_scan.specs.Looks.{examined, most, examined_now, most_now}
 use Rattle.rtcm_scan.specs.Examined.{HasExamined}
 
@@ -36,3 +36,9 @@ pub record FindsNone (old new : FramerValue) : Type 0 where
   pub decided : DecidesAll old new
   pub ready : new.is_ready ≡ true
   pub room : length new.held < longest_frame
+
+-- a call that seeks a frame: Found holds for what it returns, or it finds no further frame; no byte was accepted
+pub record SeeksFrame {A : Type 0} (result : Option A) (old new : FramerValue) (Found : A → Type 0) : Type 0 where
+  pub some : IfSome result Found
+  pub none : IfNone result (FindsNone old new)
+  pub same : IsScannedOn old new

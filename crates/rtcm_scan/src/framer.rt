@@ -5,19 +5,19 @@
 //! continues one byte further; if bytes are missing, it waits for them. So a frame inside a damaged
 //! frame is found. Each byte of a candidate is read once, for every way to cut the stream.
 ghost use Rattle.std.specs.Prelude.{◌≡◌, ◌+◌, ◌-◌, ◌*◌, ◌<◌, ◌≤◌, ◌⊎◌, ◌&&◌, not, ℕ, List, [], ◌∷◌, min, length, take};
-ghost use Rattle.std.specs.Prelude.{true, false, IsTrue, IfOk, IfErr, IfSome, IfNone, OnSome, ◌↔◌};
+ghost use Rattle.std.specs.Prelude.{true, false, IsTrue, IfOk, IfErr, IfNone, ◌↔◌};
 ghost use Rattle.rtcm_scan.specs.Frame.{begins_frame, frame_length, framed_message};
 ghost use Rattle.rtcm_scan.specs.Frames.{Framed};
 ghost use Rattle.rtcm_scan.specs.Scan.{IsScannedOn, most_bytes, first_held, window_of};
 ghost use Rattle.rtcm_scan.specs.Scan.{with_window};
 ghost use Rattle.rtcm_scan.specs.inner.Candidate.{HasTaken};
 ghost use Rattle.rtcm_scan.specs.Examined.{HasExamined, KeepsHistory, FindsFrame};
-ghost use Rattle.rtcm_scan.specs.inner.Pending.{asked, HasFrame, with_candidate_examined, passed};
+ghost use Rattle.rtcm_scan.specs.inner.Pending.{asked, ComesToFrame, with_candidate_examined, passed};
 ghost use Rattle.rtcm_bits.specs.FrameOf.{longest_frame};
 ghost use Rattle.rtcm_bits.specs.Window.{looked_through, without_front};
 ghost use Rattle.rtcm_scan.specs.Decided.{most_undecided};
 ghost use Rattle.rtcm_scan.specs.Looks.{most_looks};
-ghost use Rattle.rtcm_scan.specs.Drained.{IsDrained, FindsNone};
+ghost use Rattle.rtcm_scan.specs.Drained.{IsDrained, SeeksFrame};
 ghost use Rattle.rtcm_scan.specs.inner.Results.{Pushes, framed, frame_at, decision, new_scan};
 
 use crate::candidate::Candidate;
@@ -251,9 +251,7 @@ impl Framer {
 
     /// Returns the next frame that the accepted bytes decide, or `None` if they decide no more.
     pub fn next(&mut self) -> Option<Frame>
-        ensures some { IfSome result (λ f. FindsFrame self.old self.new (framed f)) }
-        ensures none { IfNone result (FindsNone self.old self.new) }
-        ensures same { IsScannedOn self.old self.new }
+        ensures { SeeksFrame result self.old self.new (λ f. FindsFrame self.old self.new (framed f)) }
     {
         let mut message = ArrayVec::new();
         let offset = self.next_into(&mut message)?;
@@ -263,10 +261,9 @@ impl Framer {
     /// Returns the offset of the next frame, as [`next`](Framer::next) does, and replaces the
     /// buffer's content by its message. If there is no frame, the buffer is unchanged.
     pub fn next_into(&mut self, message: &mut ArrayVec<u8, LONGEST_MESSAGE>) -> Option<u64>
-        ensures some { IfSome result (λ offset. FindsFrame self.old self.new (frame_at offset message.new.items)) }
-        ensures none { IfNone result (FindsNone self.old self.new) }
+        ensures next { SeeksFrame result self.old self.new
+            (λ offset. FindsFrame self.old self.new (frame_at offset message.new.items)) }
         ensures kept { IfNone result (message.new ≡ message.old) }
-        ensures same { IsScannedOn self.old self.new }
     {
         let size = self.seek()?;
         Some(self.take_frame(size, message))
@@ -275,11 +272,7 @@ impl Framer {
     /// Drops bytes until a whole frame begins at the front, and returns its size, if the held bytes
     /// decide one.
     fn seek(&mut self) -> Option<usize>
-        ensures begins { IfSome result (HasFrame self.new) }
-        ensures history { OnSome result (KeepsHistory self.old self.new) }
-        ensures none { IfNone result (FindsNone self.old self.new) }
-        ensures waits { OnSome result (self.new.is_ready ≡ self.old.is_ready) }
-        ensures same { IsScannedOn self.old self.new }
+        ensures { SeeksFrame result self.old self.new (ComesToFrame self.old self.new) }
     {
         while self.held() > 0 {
             match self.decide() {

@@ -1,6 +1,7 @@
 -- The candidate at the front after it is examined.
 use Rattle.std.specs.Prelude.{◌≡◌, ℕ, ◌+◌, ◌-◌, min, true, List, length}
 use Rattle.rtcm_bits.specs.Window.{looked_through, without_front}
+use Rattle.rtcm_scan.specs.Examined.{KeepsHistory}
 use Rattle.rtcm_scan.specs.Frame.{begins_frame, frame_length}
 use Rattle.rtcm_scan.specs.inner.Candidate.{wanted_by}
 use Rattle.rtcm_scan.specs.Scan.{FramerValue, window_of, with_window, with_looks}
@@ -20,3 +21,9 @@ passed v = record (with_window v (without_front (window_of v) 1) 0) { skipped = 
 -- a frame of `size` bytes begins at the front, and was examined
 abbrev pub HasFrame : FramerValue → ℕ → Type 0
 HasFrame v size = (begins_frame v.held ≡ true) × (size ≡ frame_length v.held) × (v.tried ≡ asked v.held)
+
+-- bytes in no frame were dropped until a frame of `size` bytes begins at the front
+pub record ComesToFrame (old new : FramerValue) (size : ℕ) : Type 0 where
+  pub begins : HasFrame new size
+  pub history : KeepsHistory old new
+  pub waits : new.is_ready ≡ old.is_ready

@@ -5,7 +5,7 @@ use Rattle.rtcm_scan.proofs.framer.Framer.drain_into.Goals as goal
 pub loop-offset-preserved : goal.loop-offset-preserved
 loop-offset-preserved g c =
     let i = c.loop-offset.invariant in
-    let n = c.in-Some.ensures in
+    let n = c.in-Some.ensures.next in
     let f : Framed = frame_at c.in-Some.offset c.next_into.new.message.items in
     record {
       passed = λ s o ps b fs x. (let k = i.passed s o ps b fs x in

@@ -1,6 +1,7 @@
 -- Dropping a byte that begins no frame keeps the history. When the loop is left without a frame, none
 -- of the held bytes is decided, fewer than the longest frame are held, and the framer is marked as drained.
 use Rattle.rtcm_scan.proofs.Names.{true, ◌≡◌, ◌-◌, ◌<◌, ap, ◌∙◌, length, refl, arith, length-drop, FramerValue, passed, longest_frame}
+use Rattle.std.proofs.Common.{rules}
 use Rattle.rtcm_scan.proofs.DecisionLemmas.{from_found, from_passed, from_open, open_bound}
 use Rattle.rtcm_scan.proofs.NextLemmas.{counts_passed, found_begins, found_counts, finish_empty, finish_open}
 use Rattle.rtcm_scan.proofs.framer.Framer.seek.Goals.{else-loop-self-test, then-loop-self-test+in-Open}
@@ -22,12 +23,18 @@ loop-self-preserved c =
       ready = o.ready ∙ ap (λ (y : FramerValue). y.is_ready) c.in-Passed.ensures.examined ∙ c.loop-self.invariant.ready;
     }
 
-pub returns-in-Found-clause-begins : goal.returns-in-Found-clause-begins
-returns-in-Found-clause-begins c =
-    found_begins c.loop-self.self c.decide.new.self c.in-Found.size c.in-Found.ensures.examined (from_found c.loop-self.self.has_ended c.loop-self.self.held c.in-Found.size c.in-Found.ensures.decision)
-
-pub returns-in-Found-clause-history : goal.returns-in-Found-clause-history
-returns-in-Found-clause-history c = λ b fs s. found_counts c.loop-self.self c.decide.new.self b fs c.in-Found.ensures.examined c.in-Found.ensures.tried (c.loop-self.invariant.history b fs s)
+pub returns-in-Found : goal.returns-in-Found
+returns-in-Found c =
+    let o = c.in-Found.ensures in
+    record {
+      some = record {
+        begins = found_begins c.loop-self.self c.decide.new.self c.in-Found.size o.examined (from_found c.loop-self.self.has_ended c.loop-self.self.held c.in-Found.size o.decision);
+        history = λ b fs s. found_counts c.loop-self.self c.decide.new.self b fs o.examined o.tried (c.loop-self.invariant.history b fs s);
+        waits = search rules;
+      };
+      none = tt;
+      same = search rules;
+    }
 
 -- a framer that is marked as drained
 abbrev with_ready : FramerValue → FramerValue
@@ -49,13 +56,17 @@ invariant_of-self c =
     let i = c.self-2.invariant in
     (i.0, i.1, i.2, i.3, λ e. omega (arith, l, room c), i.5, i.6)
 
-pub returns-clause-none : goal.returns-clause-none
-returns-clause-none c = record {
-  decided = λ b fs s. elim c.loop-self-test.branch [
-    | else-loop-self-test w ↦ finish_empty w.self-is (ap with_ready c.self-2.view_is) (omega (arith, c.held.ensures.value, w.loop-self-test.false)) (c.loop-self.invariant.history b fs s)
-    | then-loop-self-test+in-Open w ↦ (let o = from_open c.loop-self.self.has_ended c.loop-self.self.held w.in-Open.ensures.decision in
-        finish_open w.in-Open.ensures.examined w.self-is (ap with_ready c.self-2.view_is) o.2 (omega (arith, c.held.ensures.value, w.loop-self-test.true)) o.1 w.in-Open.ensures.tried (c.loop-self.invariant.history b fs s))
-  ];
-  ready = refl;
-  room = omega (arith, ap (λ (y : FramerValue). length y.held) c.self-2.view_is, room c);
+pub returns : goal.returns
+returns c = record {
+  some = tt;
+  none = record {
+    decided = λ b fs s. elim c.loop-self-test.branch [
+      | else-loop-self-test w ↦ finish_empty w.self-is (ap with_ready c.self-2.view_is) (omega (arith, c.held.ensures.value, w.loop-self-test.false)) (c.loop-self.invariant.history b fs s)
+      | then-loop-self-test+in-Open w ↦ (let o = from_open c.loop-self.self.has_ended c.loop-self.self.held w.in-Open.ensures.decision in
+          finish_open w.in-Open.ensures.examined w.self-is (ap with_ready c.self-2.view_is) o.2 (omega (arith, c.held.ensures.value, w.loop-self-test.true)) o.1 w.in-Open.ensures.tried (c.loop-self.invariant.history b fs s))
+    ];
+    ready = refl;
+    room = omega (arith, ap (λ (y : FramerValue). length y.held) c.self-2.view_is, room c);
+  };
+  same = search rules;
 }
