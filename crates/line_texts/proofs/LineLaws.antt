@@ -24,10 +24,6 @@ words_in_one {A} words text x known is = grind (arith, words_after, append-nil)
 pub add_word : {old new text word same : List ℕ} → new ≡ old ++ 0x20 ∷ word → old ≡ text → word ≡ same → new ≡ text ++ 0x20 ∷ same
 add_word {old} {new} {text} {word} {same} e f g = e ∙ ap (λ (l : List ℕ). l ++ 0x20 ∷ word) f ∙ ap (λ (l : List ℕ). text ++ 0x20 ∷ l) g
 
--- one more name with its number
-pub add_count : {old new text : List ℕ} (name number : List ℕ) → new ≡ (old ++ 0x20 ∷ name) ++ 0x20 ∷ number → old ≡ text → new ≡ (text ++ 0x20 ∷ name) ++ 0x20 ∷ number
-add_count name number e f = e ∙ ap (λ (l : List ℕ). (l ++ 0x20 ∷ name) ++ 0x20 ∷ number) f
-
 -- the line feed, after a start and the words of a line
 pub end_line : (start first : List ℕ) (words : List (List ℕ)) {text all : List ℕ} → all ≡ text ++ 0x0A ∷ [] → text ≡ with_words (start ++ first) words → all ≡ start ++ line (first ∷ words)
 end_line start first words {text} {all} e f = grind (arith, words_joined, joined_after, append_assoc)
