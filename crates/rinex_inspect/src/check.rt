@@ -3,6 +3,7 @@
 ghost use Rattle.std.specs.Prelude.{◌≡◌, ◌+◌, ◌*◌, ◌<◌, ◌≤◌, ◌++◌, ◌∷◌, [], List, Option, ℕ, IfErr, IfOk, IfSome};
 ghost use Rattle.std.specs.Prelude.{is_some, true, length};
 ghost use Rattle.gnss_obs.specs.Weeks.{week, weeks};
+ghost use Rattle.line_texts.specs.Lines.{IsTextWithin};
 ghost use Rattle.rinex_file.specs.Blocks.{LeavesRest};
 ghost use Rattle.rinex_file.specs.Counting.{AreCounts, IsSummary};
 ghost use Rattle.rinex_file.specs.FileValues.{IsFileValue};
@@ -266,8 +267,7 @@ pub(crate) fn add_counts(text: &mut OutputLine, counts: &Counts)
 /// Adds the lines of the times of a file's epochs, if they are asked for.
 fn add_times(text: &mut OutputLine, with_times: bool, times: &EpochTimes)
     requires { length text.old ≤ 200 }
-    ensures text { text.new ≡ text.old ++ times_if with_times times.now }
-    ensures short { length text.new ≤ length text.old + longest_times }
+    ensures { IsTextWithin text.new (text.old ++ times_if with_times times.now) (length text.old + longest_times) }
 {
     if !with_times {
         return;
@@ -281,8 +281,7 @@ fn add_times(text: &mut OutputLine, with_times: bool, times: &EpochTimes)
 fn add_time(text: &mut OutputLine, name: &str, time: GpsTime)
     requires room { length text.old ≤ 250 }
     requires short { length name.now ≤ 10 }
-    ensures text { text.new ≡ text.old ++ time_line name.now time }
-    ensures short { length text.new ≤ length text.old + 40 }
+    ensures { IsTextWithin text.new (text.old ++ time_line name.now time) (length text.old + 40) }
 {
     text.put(name.as_bytes());
     add_instant(text, b' ', time);
@@ -292,8 +291,9 @@ fn add_time(text: &mut OutputLine, name: &str, time: GpsTime)
 /// Adds the date of a time after a blank, and its time of day after a separator.
 pub(crate) fn add_instant(text: &mut OutputLine, separator: u8, time: GpsTime)
     requires { length text.old ≤ 300 }
-    ensures text { text.new ≡ (text.old ++ 0x20 ∷ date_text (civil_of time)) ++ separator ∷ clock_text (civil_of time) }
-    ensures short { length text.new ≤ length text.old + moment_bytes }
+    ensures { IsTextWithin text.new
+        ((text.old ++ 0x20 ∷ date_text (civil_of time)) ++ separator ∷ clock_text (civil_of time))
+        (length text.old + moment_bytes) }
 {
     let civil = time.civil();
     let millisecond = u64::from(civil.millisecond);
@@ -307,8 +307,7 @@ pub(crate) fn add_instant(text: &mut OutputLine, separator: u8, time: GpsTime)
 /// Adds the line of the step in seconds, if there is one.
 fn add_step(text: &mut OutputLine, step: Option<u64>)
     requires { length text.old ≤ 300 }
-    ensures text { text.new ≡ text.old ++ step_line step }
-    ensures short { length text.new ≤ length text.old + 30 }
+    ensures { IsTextWithin text.new (text.old ++ step_line step) (length text.old + 30) }
 {
     if let Some(step) = step {
         text.put(b"step");

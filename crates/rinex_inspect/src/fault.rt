@@ -1,7 +1,7 @@
 //! Why a command that reads a file stopped, and the name of the fault, with what it carries, as
 //! words of a line.
 ghost use Rattle.std.specs.Prelude.{◌≡◌, ◌+◌, ◌≤◌, length};
-ghost use Rattle.line_texts.specs.Lines.{with_words};
+ghost use Rattle.line_texts.specs.Lines.{AddsWords};
 ghost use Rattle.line_texts.specs.inner.Errors.{longest_error, longest_start};
 ghost use Rattle.rinex_inspect.specs.Faults.{file_words, read_words};
 
@@ -31,8 +31,7 @@ impl fmt::Display for FileFault {
 /// Adds the name of a fault, with the number of the line, if any.
 pub fn add_file_error(line: &mut OutputLine, fault: FileFault)
     requires { length line.old ≤ longest_start }
-    ensures text { line.new ≡ with_words line.old (file_words fault) }
-    ensures short { length line.new ≤ length line.old + longest_error }
+    ensures { AddsWords line.old line.new (file_words fault) longest_error }
 {
     match fault {
         FileFault::File(fault) => add_read_error(line, fault),
@@ -44,8 +43,7 @@ pub fn add_file_error(line: &mut OutputLine, fault: FileFault)
 /// Adds the name of a fault of a file, and the number of the line, if any.
 fn add_read_error(line: &mut OutputLine, fault: ReadFault)
     requires { length line.old ≤ longest_start }
-    ensures text { line.new ≡ with_words line.old (read_words fault) }
-    ensures short { length line.new ≤ length line.old + longest_error }
+    ensures { AddsWords line.old line.new (read_words fault) longest_error }
 {
     match fault {
         ReadFault::Memory => line.add_word("Memory"),

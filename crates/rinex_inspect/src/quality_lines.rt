@@ -6,7 +6,7 @@ ghost use Rattle.devices.specs.Printing.{EndsPrinting};
 ghost use Rattle.gnss_obs.specs.Plans.{below};
 ghost use Rattle.gnss_system.specs.Satellites.{satellites};
 ghost use Rattle.gnss_system.specs.Signals.{most_signals};
-ghost use Rattle.line_texts.specs.Lines.{with_words};
+ghost use Rattle.line_texts.specs.Lines.{AddsWords, IsTextWithin};
 ghost use Rattle.rinex_file.specs.FileValues.{planned_in};
 ghost use Rattle.rinex_file.specs.inner.Read.EpochSteps.{plan_of};
 ghost use Rattle.rinex_inspect.specs.QualityOutput.{code_at, mean_text, period_line, satellite_line, satellite_word};
@@ -185,8 +185,7 @@ fn satellite_line(rated: &Rated, system: System, i: usize) -> OutputLine
 /// Adds the epochs of a satellite.
 fn add_presence(line: &mut OutputLine, presence: &Presence)
     requires { length line.old ≤ 100 }
-    ensures text { line.new ≡ with_words line.old (presence_words presence.now) }
-    ensures short { length line.new ≤ length line.old + 130 }
+    ensures { AddsWords line.old line.new (presence_words presence.now) 130 }
 {
     line.add_count("epochs", presence.epochs);
     line.add_count("of", presence.span);
@@ -231,8 +230,8 @@ fn period_line(rated: &Rated, system: System, i: usize, k: usize, start: GpsTime
 fn add_code(line: &mut OutputLine, rated: &Rated, system: System, k: usize)
     requires room { length line.old ≤ 100 }
     requires place { k < planned_in (plan_of rated.now.file.now) system }
-    ensures text { line.new ≡ line.old ++ 0x20 ∷ code_at (plan_of rated.now.file.now) system k }
-    ensures short { length line.new ≤ length line.old + 3 }
+    ensures { IsTextWithin line.new
+        (line.old ++ 0x20 ∷ code_at (plan_of rated.now.file.now) system k) (length line.old + 3) }
 {
     line.put(b" ");
     line.put(&rated.file.signals(system)[k].code());
@@ -242,8 +241,7 @@ fn add_code(line: &mut OutputLine, rated: &Rated, system: System, k: usize)
 fn add_satellite(line: &mut OutputLine, system: System, i: usize)
     requires room { length line.old ≤ 100 }
     requires place { i < satellites system }
-    ensures text { line.new ≡ line.old ++ 0x20 ∷ satellite_word system i }
-    ensures short { length line.new ≤ length line.old + 4 }
+    ensures { IsTextWithin line.new (line.old ++ 0x20 ∷ satellite_word system i) (length line.old + 4) }
 {
     let number = system.number_of(i as u8 + 1);
     line.put(b" ");
@@ -252,8 +250,7 @@ fn add_satellite(line: &mut OutputLine, system: System, i: usize)
 
 /// Returns a blank, and a time in one word.
 fn time_word(time: GpsTime) -> OutputLine
-    ensures text { result ≡ 0x20 ∷ time_word time }
-    ensures short { length result ≤ 24 }
+    ensures { IsTextWithin result (0x20 ∷ time_word time) 24 }
 {
     let mut word = OutputLine::new();
     add_instant(&mut word, b'T', time);
@@ -264,8 +261,7 @@ fn time_word(time: GpsTime) -> OutputLine
 fn add_tally(line: &mut OutputLine, tally: &Tally)
     requires room { length line.old ≤ 200 }
     requires small { tally.now.strength < 2 ^ 56 }
-    ensures text { line.new ≡ with_words line.old (tally_words tally.now) }
-    ensures short { length line.new ≤ length line.old + longest_tally }
+    ensures { AddsWords line.old line.new (tally_words tally.now) longest_tally }
 {
     line.add_count("c", u64::from(tally.c));
     line.add_count("l", u64::from(tally.l));
@@ -282,8 +278,7 @@ fn add_tally(line: &mut OutputLine, tally: &Tally)
 fn add_mean(line: &mut OutputLine, tally: &Tally)
     requires room { length line.old ≤ 400 }
     requires small { tally.now.strength < 2 ^ 56 }
-    ensures text { line.new ≡ line.old ++ 0x20 ∷ mean_text tally.now }
-    ensures short { length line.new ≤ length line.old + 25 }
+    ensures { IsTextWithin line.new (line.old ++ 0x20 ∷ mean_text tally.now) (length line.old + 25) }
 {
     if tally.s == 0 {
         line.put(b" -");

@@ -4,7 +4,7 @@ ghost use Rattle.devices.specs.Devices.{Changes};
 ghost use Rattle.rtcm_bits.specs.FrameOf.{longest_frame};
 ghost use Rattle.rtcm_convert.specs.SetupValues.{IsBad};
 ghost use Rattle.rtcm_command.specs.Converting.{EndsConversion};
-ghost use Rattle.line_texts.specs.Lines.{longest_number, with_words};
+ghost use Rattle.line_texts.specs.Lines.{AddsWords, longest_number};
 ghost use Rattle.rtcm_command.specs.Reports.{channel_count, report_line};
 
 use command_faults::CommandFault;
@@ -68,8 +68,7 @@ pub fn report_line(report: &Report, has_glonass: bool) -> OutputLine
 /// Adds the number of cells of GLONASS without a channel, if a signal of it is planned.
 fn add_channel_count(line: &mut OutputLine, report: &Report, has_glonass: bool)
     requires { length line.old ≤ 376 }
-    ensures text { line.new ≡ with_words line.old (channel_count has_glonass report.now) }
-    ensures short { length line.new ≤ length line.old + 17 + longest_number }
+    ensures { AddsWords line.old line.new (channel_count has_glonass report.now) (17 + longest_number) }
 {
     if has_glonass {
         line.add_count("without_channel", report.without_channel);

@@ -8,13 +8,12 @@ pub finish-requires : goal.finish-requires
 finish-requires c =
     omega (arith, size c.args.text.now c.as_bytes.result.now c.put.ensures, ap length c.as_bytes.ensures.value, c.requires.room, c.requires.short, c.add_instant.ensures.short)
 
-pub returns-clause-text : goal.returns-clause-text
+pub returns : goal.returns
 unfolding time_line
-returns-clause-text c =
+returns c =
     let first = add_text c.put.ensures refl c.as_bytes.ensures.value in
-    end_line c.args.text.now c.args.name.now (moment_words c.args.time) c.finish.ensures (c.add_instant.ensures.text ∙ ap (λ (t : List ℕ). with_words t (moment_words c.args.time)) first)
-
-pub returns-clause-short : goal.returns-clause-short
-returns-clause-short c =
     let all : length c.finish.new.self ≡ length c.add_instant.new.text + 1 = size c.add_instant.new.text (0x0A ∷ []) c.finish.ensures in
-    omega (arith, all, size c.args.text.now c.as_bytes.result.now c.put.ensures, ap length c.as_bytes.ensures.value, c.requires.short, c.add_instant.ensures.short)
+    record {
+      text = end_line c.args.text.now c.args.name.now (moment_words c.args.time) c.finish.ensures (c.add_instant.ensures.text ∙ ap (λ (t : List ℕ). with_words t (moment_words c.args.time)) first);
+      short = omega (arith, all, size c.args.text.now c.as_bytes.result.now c.put.ensures, ap length c.as_bytes.ensures.value, c.requires.short, c.add_instant.ensures.short);
+    }
