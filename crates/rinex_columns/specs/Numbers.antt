@@ -9,9 +9,9 @@ abbrev pub joined : List (List ℕ) → List ℕ
 joined parts = flat_map (λ part. part) parts
 
 -- this text, of at most this number of bytes, was appended
-pub record Adds (added : List ℕ) (most : ℕ) (old new : List ℕ) : Type 0 where
+pub record Adds (old new added : List ℕ) (most : ℕ) : Type 0 where
   pub text : new ≡ old ++ added
-  pub size : length new ≤ length old + most
+  pub short : length new ≤ length old + most
 
 -- a text left-aligned in its columns, with blanks after
 abbrev pub left : ℕ → List ℕ → List ℕ

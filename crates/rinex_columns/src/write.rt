@@ -24,7 +24,7 @@ pub type Line = ArrayVec<u8, MOST_LINE>;
 /// Appends the bytes.
 pub fn put<const N: usize>(line: &mut ArrayVec<u8, N>, bytes: &[u8])
     requires { array_vec_len line.old + length bytes.now ≤ N }
-    ensures { Adds bytes.now (length bytes.now) line.old.items line.new.items }
+    ensures { Adds line.old.items line.new.items bytes.now (length bytes.now) }
 {
     // Never fails: the contract requires room for the bytes.
     let _ = line.try_extend_from_slice(bytes);
@@ -35,7 +35,7 @@ static BLANKS: [u8; MOST_LINE] = [b' '; MOST_LINE];
 /// Appends blanks.
 fn put_blanks(line: &mut Line, count: usize)
     requires { array_vec_len line.old + count ≤ most_line }
-    ensures { Adds (replicate count 32) count line.old.items line.new.items }
+    ensures { Adds line.old.items line.new.items (replicate count 32) count }
 {
     // Usually none is missing, and a call that fills nothing costs as much as a short one.
     if count > 0 {
@@ -46,7 +46,7 @@ fn put_blanks(line: &mut Line, count: usize)
 /// Appends a number with leading zeros up to `places` digits.
 fn put_padded<const N: usize>(line: &mut ArrayVec<u8, N>, places: usize, number: u64)
     requires { array_vec_len line.old + places + 20 ≤ N }
-    ensures { Adds (padded places number) (places + 20) line.old.items line.new.items }
+    ensures { Adds line.old.items line.new.items (padded places number) (places + 20) }
 {
     let mut buffer = Buffer::new();
     let digits = buffer.format(number).as_bytes();
@@ -59,7 +59,7 @@ fn put_padded<const N: usize>(line: &mut ArrayVec<u8, N>, places: usize, number:
 /// Appends a text, left-aligned in `width` columns.
 pub fn put_left(line: &mut Line, width: usize, text: &[u8])
     requires room { array_vec_len line.old + width + length text.now ≤ most_line }
-    ensures { Adds (left width text.now) (width + length text.now) line.old.items line.new.items }
+    ensures { Adds line.old.items line.new.items (left width text.now) (width + length text.now) }
 {
     put(line, text);
     put_blanks(line, width.saturating_sub(text.len()));
@@ -68,7 +68,7 @@ pub fn put_left(line: &mut Line, width: usize, text: &[u8])
 /// Appends a text, right-aligned in `width` columns.
 fn put_right(line: &mut Line, width: usize, text: &[u8])
     requires room { array_vec_len line.old + width + length text.now ≤ most_line }
-    ensures { Adds (right width text.now) (width + length text.now) line.old.items line.new.items }
+    ensures { Adds line.old.items line.new.items (right width text.now) (width + length text.now) }
 {
     put_blanks(line, width.saturating_sub(text.len()));
     put(line, text);
@@ -78,7 +78,7 @@ fn put_right(line: &mut Line, width: usize, text: &[u8])
 pub fn put_whole(line: &mut Line, width: usize, number: u64)
     requires width { width ≤ 20 }
     requires room { array_vec_len line.old + 60 ≤ most_line }
-    ensures { Adds (right width (decimal number)) 60 line.old.items line.new.items }
+    ensures { Adds line.old.items line.new.items (right width (decimal number)) 60 }
 {
     put_right(line, width, Buffer::new().format(number).as_bytes());
 }
@@ -90,7 +90,7 @@ pub fn put_fixed(line: &mut Line, width: usize, places: usize, scale: u64, value
     requires room { array_vec_len line.old + 84 ≤ most_line }
     requires places { places ≤ 20 }
     requires scale { scale ≡ 10 ^ places }
-    ensures { Adds (right width (fixed places value)) 84 line.old.items line.new.items }
+    ensures { Adds line.old.items line.new.items (right width (fixed places value)) 84 }
 {
     let size = value.unsigned_abs();
     let mut text: ArrayVec<u8, 64> = ArrayVec::new();
@@ -108,7 +108,7 @@ pub fn put_fixed(line: &mut Line, width: usize, places: usize, scale: u64, value
 pub fn put_seconds(line: &mut Line, width: usize, milliseconds: u16)
     requires width { width ≤ 20 }
     requires room { array_vec_len line.old + 84 ≤ most_line }
-    ensures { Adds (right width (fixed 7 (pos (milliseconds * 10_000)))) 84 line.old.items line.new.items }
+    ensures { Adds line.old.items line.new.items (right width (fixed 7 (pos (milliseconds * 10_000)))) 84 }
 {
     put_fixed(line, width, 7, 10_000_000, milliseconds as i64 * 10_000);
 }
@@ -116,7 +116,7 @@ pub fn put_seconds(line: &mut Line, width: usize, milliseconds: u16)
 /// Appends a blank and a number with two digits.
 pub fn put_two(line: &mut Line, number: u8)
     requires { array_vec_len line.old + 23 ≤ most_line }
-    ensures { Adds (32 ∷ padded 2 number) 23 line.old.items line.new.items }
+    ensures { Adds line.old.items line.new.items (32 ∷ padded 2 number) 23 }
 {
     put(line, b" ");
     put_padded(line, 2, number as u64);

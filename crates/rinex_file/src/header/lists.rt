@@ -35,7 +35,7 @@ pub(crate) fn type_rows(signals: usize) -> usize
 fn put_types_front(content: &mut Line, letter: u8, types: usize, row: usize)
     requires room { array_vec_len content.old ≤ 100 }
     requires types { types ≤ 1000 }
-    ensures { Adds (type_front letter types row) 63 content.old.items content.new.items }
+    ensures { Adds content.old.items content.new.items (type_front letter types row) 63 }
 {
     if row == 0 {
         content.push(letter);
@@ -51,7 +51,7 @@ fn put_types_front(content: &mut Line, letter: u8, types: usize, row: usize)
 fn put_type(content: &mut Line, signal: Signal, kind: usize)
     requires kind { kind < 4 }
     requires room { array_vec_len content.old + 4 ≤ most_line }
-    ensures { Adds (32 ∷ type_of kind (code_of signal)) 4 content.old.items content.new.items }
+    ensures { Adds content.old.items content.new.items (32 ∷ type_of kind (code_of signal)) 4 }
 {
     content.push(b' ');
     content.push(b"CLDS"[kind]);
@@ -63,8 +63,8 @@ fn put_types(content: &mut Line, system: System, signals: &[Signal], row: usize)
     requires of { IsOf system signals.now }
     requires row { row < most_type_rows }
     requires room { array_vec_len content.old ≤ 100 }
-    ensures { Adds (type_columns (types_of (codes_of system (indices signals.now))) row) 52
-        content.old.items content.new.items }
+    ensures { Adds content.old.items content.new.items
+        (type_columns (types_of (codes_of system (indices signals.now))) row) 52 }
 {
     let types = 4 * signals.len();
     let first = TYPES_IN_LINE * row;
@@ -112,7 +112,7 @@ pub(crate) fn slot_rows(count: usize) -> usize
 /// others.
 fn put_slots_front(content: &mut Line, count: usize, row: usize)
     requires { array_vec_len content.old ≤ 100 }
-    ensures { Adds (slots_front count row) 61 content.old.items content.new.items }
+    ensures { Adds content.old.items content.new.items (slots_front count row) 61 }
 {
     if row == 0 {
         put_whole(content, 3, count as u64);
@@ -127,7 +127,7 @@ fn put_slot(content: &mut Line, slot: u8, number: u8)
     requires slot { slot ≤ slot_count }
     requires number { number ≤ most_number }
     requires room { array_vec_len content.old + 7 ≤ most_line }
-    ensures { Adds (slot_text (record { slot = slot; number = number })) 7 content.old.items content.new.items }
+    ensures { Adds content.old.items content.new.items (slot_text (record { slot = slot; number = number })) 7 }
 {
     let tens = b'0' + slot / 10;
     let ones = b'0' + slot % 10;
@@ -140,8 +140,8 @@ fn put_slot(content: &mut Line, slot: u8, number: u8)
 fn put_slots(content: &mut Line, channels: &Channels, row: usize)
     requires row { row ≤ 100 }
     requires room { array_vec_len content.old ≤ 100 }
-    ensures { Adds (flat_map slot_text (take slots_in_line (drop (slots_in_line * row) (slots_of channels.now)))) 189
-        content.old.items content.new.items }
+    ensures { Adds content.old.items content.new.items
+        (flat_map slot_text (take slots_in_line (drop (slots_in_line * row) (slots_of channels.now)))) 189 }
 {
     channels.are_channels();
     let mut before = 0;

@@ -18,4 +18,4 @@ pub put_padded-requires : goal.put_padded-requires
 put_padded-requires c = grind (arith, common_steps)
 
 pub returns : goal.returns
-returns c = record { text = grind (arith, common_steps); size = grind (arith, common_steps) }
+returns c = record { text = grind (arith, common_steps); short = grind (arith, common_steps) }

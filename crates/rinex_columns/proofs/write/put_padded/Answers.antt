@@ -11,4 +11,4 @@ pub put-requires : goal.put-requires
 put-requires g c = grind (arith, common_steps)
 
 pub returns : goal.returns
-returns g c = record { text = grind (arith, common_steps); size = grind (arith, common_steps) }
+returns g c = record { text = grind (arith, common_steps); short = grind (arith, common_steps) }

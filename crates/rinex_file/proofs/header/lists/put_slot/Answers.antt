@@ -17,5 +17,5 @@ returns c = record {
     | goal.then-number-lt7 w ↦ below c.args.slot c.args.number c.requires.slot w.if-number-lt7.true w.sign-is (ap (λ k. 48 + k) c.abs_diff-size.ensures)
     | goal.else-number-lt7 w ↦ above c.args.slot c.args.number c.requires.slot w.if-number-lt7.false w.sign-is (ap (λ k. 48 + k) c.abs_diff-size.ensures)
   ]);
-  size = c.put.ensures.size;
+  short = c.put.ensures.short;
 }

@@ -25,7 +25,7 @@ loop-i-preserved c =
               few = omega (arith, w.before-is, few);
               before = omega (arith, w.before-is, before, more);
               text = rw (w.content-is, v.content-is, grown) (put_here (slots_of (take i channels)) s c.args.content.now.items inv.text v.put_slot.ensures.text (ap (λ (k : ℕ). k / 8) (sym before) ∙ v.if-before-row.true));
-              size = rw (w.content-is, v.content-is) (let put = v.put_slot.ensures.size in omega (arith, put, size));
+              size = rw (w.content-is, v.content-is) (let put = v.put_slot.ensures.short in omega (arith, put, size));
             }
             | goal.else-before-row v ↦ record {
               range = omega (arith, c.loop-i-test.true);

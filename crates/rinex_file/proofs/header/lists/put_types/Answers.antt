@@ -6,4 +6,4 @@ pub loop-i-preserved : goal.loop-i-preserved
 loop-i-preserved c = grind (arith, length_indices, length-system_types, type_more, signal_type, index_here, system_here)
 
 pub returns : goal.returns
-returns c = record { text = grind (arith, common_steps, c.loop-i.invariant, length-system_types, length_indices, types_done); size = grind (arith, c.loop-i.invariant) }
+returns c = record { text = grind (arith, common_steps, c.loop-i.invariant, length-system_types, length_indices, types_done); short = grind (arith, c.loop-i.invariant) }
