@@ -82,7 +82,6 @@ test:
 bench:
 	@bench/instructions
 
-# The crates first, lowest first, so that each edit is tried over what they kept.
+# The crates are checked first, so that each edit is tried over what they kept.
 mutants:
-	rt all check
-	tools/mutants
+	tools/mutants --check

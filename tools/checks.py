@@ -1,10 +1,14 @@
-"""A check of a crate by the prover, and what it prints."""
+"""Checks by the prover: how many at once, and what one of a crate prints."""
 import os
 import re
 import subprocess
 from collections.abc import Iterable
 from dataclasses import dataclass
 from pathlib import Path
+
+# Peak memory of a check of these crates is 4.2 GB. Without RT_JOBS `rt ci` estimates 12 GB and leaves processors idle
+# until that much is free.
+BYTES_PER_CHECK = 4_500_000_000
 
 # How an error begins if a text couldn't be read, as opposed to a text that is read and false.
 UNREAD = re.compile(r"is not in scope|has no field|is no name|operand is missing|expected the end|cannot continue")
@@ -22,6 +26,13 @@ GONE = re.compile(
 IMPL = re.compile(r"^impl(?:<[^{]*?>)? (?P<type>\w+)", re.MULTILINE)
 # The first line of a function.
 FN = re.compile(r"^\s*(?:pub(?:\([a-z]+\))? )?(?:const )?fn (?P<name>\w+)", re.MULTILINE)
+
+
+def most_checks(bytes_each: int = BYTES_PER_CHECK) -> int:
+    """Returns the number of concurrent checks: one per processor, as far as memory allows."""
+    found = re.search(r"^MemAvailable:\s+(\d+) kB", Path("/proc/meminfo").read_text(), re.MULTILINE)
+    room = int(found[1]) * 1024 // bytes_each if found else 1
+    return max(1, min(len(os.sched_getaffinity(0)), room))
 
 
 @dataclass
@@ -53,7 +64,7 @@ class Checked:
         return [line for line in (self.unread, *found, *refused, self.verdict) if line]
 
     @property
-    def proof_errors(self) -> list[str]:
+    def own_errors(self) -> list[str]:
         """Returns the errors, without those of proofs that only name something removed."""
         return [line for line in self.lines if ERROR.match(line) and not GONE.search(line)]
 
