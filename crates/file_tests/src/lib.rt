@@ -8,5 +8,3 @@ mod examples;
 mod rinex_file_tests;
 #[cfg(test)]
 mod rtcm_convert_tests;
-#[cfg(test)]
-mod texts;

@@ -16,5 +16,3 @@ mod rtcm_bits_tests;
 mod rtcm_msg_tests;
 #[cfg(test)]
 mod rtcm_scan_tests;
-#[cfg(test)]
-mod texts;

@@ -1,6 +1,6 @@
 //! The texts of faults.
-use crate::texts::have_texts;
 use rinex_file::{HeadFault, HeaderField, ReadFault};
+use streams_for_tests::have_texts;
 
 static HEAD_FAULTS: [(HeadFault, &str); 3] = [
     (HeadFault::TooLong(HeaderField::Agency), "TooLong agency"),

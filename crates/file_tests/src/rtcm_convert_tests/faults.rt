@@ -1,12 +1,12 @@
 //! The faults of a converter: setups, limits, writers and readers that fail.
 use super::Frame;
 use super::script::{Call, IDLE, OPTIONS, Options, Script, Way, all_hold};
-use crate::texts::have_texts;
 use devices_for_tests::{ReadEnd, WriteEnd};
 use obs_epoch::EpochCounts;
 use rtcm_convert::Fault;
 use rtcm_scan::MOST_BYTES;
 use std::io::ErrorKind;
+use streams_for_tests::have_texts;
 
 /// A stream without an epoch, here an empty one.
 const EMPTY: Script = Script {

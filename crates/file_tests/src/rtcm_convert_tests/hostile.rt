@@ -1,11 +1,12 @@
 //! Streams truncated and damaged at each byte: file, report, held bytes and looks of a converter,
 //! before the end of a stream and after it, agree with the definitions.
 use super::ONE;
-use super::by_definition::{DefinedConversion, SIZE, defined_conversion, four_frames, piece};
+use super::by_definition::{DefinedConversion, defined_conversion, piece};
 use super::script::{OPTIONS, converter, feed, looks, writer};
 use devices_for_tests::WriteEnd;
 use rtcm_convert::{Converter, Fault, Report};
 use std::alloc::Global;
+use streams_for_tests::{agrees_on_each, four_frames};
 
 /// A stream, the size of the pieces in which it is fed, and whether it is ended.
 #[derive(Clone, Copy)]
@@ -65,49 +66,10 @@ fn agrees(alloc: Global, bytes: &[u8]) -> bool {
     agrees_at(alloc, bytes, false) && agrees_at(alloc, bytes, true)
 }
 
-/// Whether the truncated streams that begin there agree, with each end.
-fn agree_from(alloc: Global, from: usize) -> bool {
-    for end in from..=SIZE {
-        if !agrees(alloc, four_frames().get(from..end).unwrap_or(&[])) {
-            return false;
-        }
-    }
-    true
-}
-
-/// Whether the stream with this byte damaged agrees, and its third frame alone.
-fn agrees_damaged(alloc: Global, place: usize) -> bool {
-    let mut damaged = *four_frames();
-    if place < SIZE {
-        damaged[place] = !damaged[place];
-    }
-    agrees(alloc, &damaged) && agrees(alloc, &damaged[52..94])
-}
-
-fn agree_damaged(alloc: Global) -> bool {
-    for place in 0..SIZE {
-        if !agrees_damaged(alloc, place) {
-            return false;
-        }
-    }
-    true
-}
-
-static STARTS: [usize; 4] = [0, 25, 52, 94];
-
-fn agree_cut(alloc: Global) -> bool {
-    for from in &STARTS {
-        if !agree_from(alloc, *from) {
-            return false;
-        }
-    }
-    true
-}
-
 #[test]
 fn cut_and_damaged_streams_are_converted_by_the_definitions(rt: HostRuntime) {
     let alloc = rt.alloc();
-    assert!(rt; agree_cut(alloc) && agree_damaged(alloc));
+    assert!(rt; agrees_on_each(|bytes| agrees(alloc, bytes)));
 }
 
 /// The report of the four frames.

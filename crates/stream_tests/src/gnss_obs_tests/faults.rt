@@ -1,8 +1,8 @@
 //! The texts of faults.
-use crate::texts::have_texts;
 use gnss_obs::PlanFault;
 use gnss_system::System;
 use std::test::*;
+use streams_for_tests::have_texts;
 
 static TEXTS: [(PlanFault, &str); 6] = [
     (PlanFault::UnknownCode(System::Gps, 3), "UnknownCode G 3"),

@@ -1,7 +1,7 @@
 //! The texts of the faults of messages.
-use crate::texts::have_texts;
 use rtcm_msg::{Field, MsgFault, ValueFault};
 use std::test::*;
+use streams_for_tests::have_texts;
 
 static MESSAGE_TEXTS: [(MsgFault, &str); 3] = [
     (

@@ -1,14 +1,7 @@
 //! Streams truncated and damaged at each byte, framed by the definitions over whole lists.
-use super::{Counts, FOUR_FRAMES, Stream, is_listed, is_set};
-use rtcm_bits::crc24q;
+use super::{Counts, Stream, is_listed, is_set};
 use std::alloc::Global;
-
-const SIZE: usize = 130;
-
-// Bytes are named in one place, since each that names them carries them.
-fn four_frames() -> &'static [u8; SIZE] {
-    FOUR_FRAMES
-}
+use streams_for_tests::{SIZE, agrees_on_each, claimed, is_frame};
 
 /// More frames than fit in `SIZE` bytes.
 const MOST_FRAMES: usize = 24;
@@ -21,24 +14,6 @@ struct DefinedScan {
     /// The number of their bytes.
     framed: usize,
     looks: [u16; SIZE],
-}
-
-/// The number of bytes claimed: those of the frame that the first three bytes begin, or one.
-fn claimed(rest: &[u8]) -> usize {
-    match rest {
-        [0xD3, high, low, ..] => usize::from(*high % 4) * 256 + usize::from(*low) + 6,
-        [0xD3, ..] => SIZE,
-        _ => 1,
-    }
-}
-
-/// Whether a whole frame of `size` bytes begins there.
-fn is_frame(rest: &[u8], size: usize) -> bool {
-    if size < 6 || rest.len() < size {
-        return false;
-    }
-    let check = crc24q(&rest[..size - 3]).to_be_bytes();
-    rest[size - 3..size] == check[1..]
 }
 
 impl DefinedScan {
@@ -116,49 +91,8 @@ fn agrees(alloc: Global, bytes: &[u8]) -> bool {
     is_listed(&stream) && is_set(alloc, &stream, 0, 1) && is_set(alloc, &stream, 0, 2)
 }
 
-/// Whether the streams that begin there agree, with each end.
-fn agree_from(alloc: Global, from: usize) -> bool {
-    for end in from..=SIZE {
-        if !agrees(alloc, four_frames().get(from..end).unwrap_or(&[])) {
-            return false;
-        }
-    }
-    true
-}
-
-/// Whether the stream with this byte damaged agrees, and its third frame alone.
-fn agrees_damaged(alloc: Global, place: usize) -> bool {
-    let mut damaged = *four_frames();
-    if place < SIZE {
-        damaged[place] = !damaged[place];
-    }
-    agrees(alloc, &damaged) && agrees(alloc, &damaged[52..94])
-}
-
-/// Whether the stream agrees with each byte damaged.
-fn agree_damaged(alloc: Global) -> bool {
-    for place in 0..SIZE {
-        if !agrees_damaged(alloc, place) {
-            return false;
-        }
-    }
-    true
-}
-
-static STARTS: [usize; 4] = [0, 25, 52, 94];
-
-/// Whether the stream and those of its last frames agree, with each end.
-fn agree_cut(alloc: Global) -> bool {
-    for from in &STARTS {
-        if !agree_from(alloc, *from) {
-            return false;
-        }
-    }
-    true
-}
-
 #[test]
 fn cut_and_damaged_streams(rt: HostRuntime) {
     let alloc = rt.alloc();
-    assert!(rt; agree_cut(alloc) && agree_damaged(alloc));
+    assert!(rt; agrees_on_each(|bytes| agrees(alloc, bytes)));
 }

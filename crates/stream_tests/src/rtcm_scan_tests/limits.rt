@@ -1,8 +1,8 @@
 //! The limits of a framer, and the texts of its faults.
 use super::{push, push_all};
-use crate::texts::have_texts;
 use rtcm_scan::{Framer, MOST_BYTES, ScanFault};
 use std::alloc::Global;
+use streams_for_tests::have_texts;
 
 /// Whether pushing a byte is refused so.
 fn is_refused(framer: &mut Framer, fault: ScanFault) -> bool {

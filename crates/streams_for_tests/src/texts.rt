@@ -1,7 +1,7 @@
-//! The texts of faults.
+//! The texts that faults have for a user.
 use std::alloc::Global;
 
-/// Whether each fault has its text.
+/// Returns whether each fault has its text.
 pub fn have_texts<F: ToString>(alloc: Global, texts: &[(F, &str)]) -> bool {
     for (fault, text) in texts {
         if !has_text(alloc, fault, text) {
