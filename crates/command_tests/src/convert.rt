@@ -162,26 +162,14 @@ fn refused_options_read_nothing(rt: HostRuntime) {
     assert_come(&rt, rt.alloc(), &FITTING, &UNFIT);
 }
 
-/// The texts of the header of `FINE_FILE`.
-const TEXTS: Texts<'static> = Texts {
-    run_by: "",
-    date: "20240204 000001 UTC",
-    marker: "",
-    marker_number: "",
-    comment: "",
-    marker_type: "GEODETIC",
-    observer: "",
-    agency: "",
-    rec_number: "",
-    rec_type: "",
-    rec_version: "",
-    ant_number: "",
-    ant_type: "",
-};
-
 /// The setup of `OPTIONS`.
 fn setup(alloc: Global) -> Option<Setup> {
-    let texts = HeaderTexts::new(&TEXTS).ok()?;
+    let texts = Texts {
+        date: "20240204 000001 UTC",
+        marker_type: "GEODETIC",
+        ..Texts::default()
+    };
+    let texts = HeaderTexts::new(&texts).ok()?;
     let plan = Plan::parse(alloc, "1C", "none").ok()?;
     Some(Setup::new(plan, texts, 2300))
 }

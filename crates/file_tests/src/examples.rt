@@ -37,24 +37,13 @@ const FRAME: &[u8; 42] = &[
     0x00, 0x00, 0x00, 0x05, 0xA2, 0x00, 0x00, 0x04, 0x96, 0xD0,
 ];
 
-static TEXTS: Texts<'static> = Texts {
-    run_by: "",
-    date: "20240204 000001 UTC",
-    marker: "",
-    marker_number: "",
-    comment: "",
-    marker_type: "GEODETIC",
-    observer: "",
-    agency: "",
-    rec_number: "",
-    rec_type: "",
-    rec_version: "",
-    ant_number: "",
-    ant_type: "",
-};
-
 fn is_converted_and_read_back(alloc: Global) -> bool {
-    let Some((report, file)) = convert(alloc, &TEXTS, FRAME) else {
+    let texts = Texts {
+        date: "20240204 000001 UTC",
+        marker_type: "GEODETIC",
+        ..Texts::default()
+    };
+    let Some((report, file)) = convert(alloc, &texts, FRAME) else {
         return false;
     };
     let counts = counts_of(alloc, file.as_slice());

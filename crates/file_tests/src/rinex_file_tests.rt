@@ -30,7 +30,7 @@ const VALUES: StationValues = StationValues {
     height: 15_000,
 };
 
-const TEXTS: Texts<'static> = Texts {
+pub const TEXTS: Texts<'static> = Texts {
     run_by: "",
     date: "20240204 000001 UTC",
     marker: "",

@@ -4,12 +4,13 @@
 //! makes and drops each of them, and a test is a table of scripts.
 use super::by_definition::Text;
 use super::{Frame, bytes_of, file};
+use crate::rinex_file_tests::TEXTS;
 use devices::{Counted, Deliver};
 use devices_for_tests::{PieceReader, ReadEnd, ShortWriter, WriteEnd};
 use gnss_obs::Plan;
 use gnss_system::System;
 use obs_epoch::Choice;
-use rinex_file::{HeaderTexts, Texts};
+use rinex_file::HeaderTexts;
 use rtcm_convert::{Converter, Fault, Report, Setup, convert_stream};
 use rtcm_msg::Forms;
 use rtcm_scan::MOST_BYTES;
@@ -29,22 +30,6 @@ pub const OPTIONS: Options = Options {
     limit: MOST_BYTES,
     week: 2_300,
     station: None,
-};
-
-static TEXTS: Texts<'static> = Texts {
-    run_by: "",
-    date: "20240204 000001 UTC",
-    marker: "",
-    marker_number: "",
-    comment: "",
-    marker_type: "GEODETIC",
-    observer: "",
-    agency: "",
-    rec_number: "",
-    rec_type: "",
-    rec_version: "",
-    ant_number: "",
-    ant_type: "",
 };
 
 /// A call of a converter, with its result.

@@ -16,8 +16,9 @@ use arrayvec::ArrayVec;
 use rinex_columns::{CONTENT_COLUMNS, put};
 use std::marker::Model;
 
-/// The texts of a header, as the caller passes them. Trailing blanks are ignored.
-#[derive(Clone, Copy)]
+/// The texts of a header, as the caller passes them. Trailing blanks are ignored. Each is empty by
+/// default.
+#[derive(Clone, Copy, Default)]
 pub struct Texts<'a> {
     /// Who ran the program, at most 20 bytes.
     pub run_by: &'a str,
