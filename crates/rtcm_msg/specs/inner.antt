@@ -1,4 +1,5 @@
 -- Definitions that no promise to a user reaches: the vocabulary of private contracts and of proofs.
+pub mod MessageBits
 pub mod LastBits
 pub mod Rows
 pub mod Ranges

@@ -1,9 +1,9 @@
 //! Fields of a message at known places, and the check that they are within the message.
 ghost use Rattle.std.specs.Prelude.{◌≡◌, ◌==◌, ◌+◌, ◌*◌, ◌^◌, ◌<◌, ◌≤◌, ℕ, IfOk, length};
 ghost use Rattle.rtcm_bits.specs.Bits.{bits_of, signed, FitsInt};
-ghost use Rattle.rtcm_bits.specs.FrameOf.{longest_message};
 ghost use Rattle.rtcm_msg.specs.Fields.{field_at};
 ghost use Rattle.rtcm_msg.specs.Packed.{total_width};
+ghost use Rattle.rtcm_msg.specs.inner.MessageBits.{HasBits};
 ghost use Rattle.rtcm_msg.specs.inner.Rows as rows;
 
 use crate::fault::MsgFault;
@@ -22,11 +22,10 @@ pub(crate) fn end_of_fields(
     mut place: usize,
 ) -> Result<usize, MsgFault>
     requires few { count ≤ 64 }
-    requires within { place ≤ 8 * length bytes.now }
-    requires small { length bytes.now ≤ longest_message }
+    requires within { HasBits bytes.now place }
     ensures exact { result ≡ rows.end_of_rows widths.now count (8 * length bytes.now) place }
     ensures end { IfOk result (λ end. end ≡ place + count * total_width widths.now) }
-    ensures within { IfOk result (λ end. end ≤ 8 * length bytes.now) }
+    ensures within { IfOk result (HasBits bytes.now) }
 {
     let bits = 8 * bytes.len();
     for width in widths {
@@ -55,11 +54,10 @@ pub(crate) fn end_of_data(
     requires total { total ≡ total_width widths.now }
     requires narrow { total ≤ 80 }
     requires few { count ≤ 64 }
-    requires within { place ≤ 8 * length bytes.now }
-    requires small { length bytes.now ≤ longest_message }
+    requires within { HasBits bytes.now place }
     ensures exact { result ≡ rows.end_of_rows widths.now count (8 * length bytes.now) place }
     ensures end { IfOk result (λ end. end ≡ place + count * total_width widths.now) }
-    ensures within { IfOk result (λ end. end ≤ 8 * length bytes.now) }
+    ensures within { IfOk result (HasBits bytes.now) }
 {
     let end = place + count * total;
     if end <= 8 * bytes.len() {
@@ -70,8 +68,7 @@ pub(crate) fn end_of_data(
 
 /// Returns whether the bit at `place` is 1.
 pub(crate) fn flag_at(bytes: &[u8], place: usize) -> bool
-    requires there { place < 8 * length bytes.now }
-    requires small { length bytes.now ≤ longest_message }
+    requires { HasBits bytes.now (place + 1) }
     ensures { result ≡ (field_at (bits_of bytes.now) place 1 == 1) }
 {
     number_at(bytes, place, 1) == 1
@@ -80,8 +77,7 @@ pub(crate) fn flag_at(bytes: &[u8], place: usize) -> bool
 /// Returns the number in the `width` bits, at most 8, from bit `place` on.
 pub(crate) fn byte_at(bytes: &[u8], place: usize, width: u32) -> u8
     requires few { width ≤ 8 }
-    requires there { place + width ≤ 8 * length bytes.now }
-    requires small { length bytes.now ≤ longest_message }
+    requires there { HasBits bytes.now (place + width) }
     ensures value { result ≡ field_at (bits_of bytes.now) place width }
     ensures fits { result < 2 ^ width }
 {
@@ -95,8 +91,7 @@ pub(crate) fn byte_at(bytes: &[u8], place: usize, width: u32) -> u8
 pub(crate) fn short_to(bytes: &[u8], last: usize, i: usize, width: u32) -> u64
     requires some { 0 < width }
     requires few { width ≤ 57 }
-    requires there { last + i * width < 8 * length bytes.now }
-    requires small { length bytes.now ≤ longest_message }
+    requires there { HasBits bytes.now (last + i * width + 1) }
     requires after { 63 ≤ last }
     ensures value { (at : ℕ) → last + 1 ≡ at + width → result ≡ field_at (bits_of bytes.now) (at + i * width) width }
     ensures fits { result < 2 ^ width }
@@ -112,8 +107,7 @@ pub(crate) fn short_to(bytes: &[u8], last: usize, i: usize, width: u32) -> u64
 pub(crate) fn signed_to(bytes: &[u8], last: usize, i: usize, width: u32) -> i64
     requires some { 0 < width }
     requires few { width ≤ 57 }
-    requires there { last + i * width < 8 * length bytes.now }
-    requires small { length bytes.now ≤ longest_message }
+    requires there { HasBits bytes.now (last + i * width + 1) }
     requires after { 63 ≤ last }
     ensures value { (at : ℕ) → last + 1 ≡ at + width
         → result ≡ signed width (field_at (bits_of bytes.now) (at + i * width) width) }

@@ -2,12 +2,12 @@
 ghost use Rattle.std.specs.Prelude.{◌≡◌, ◌*◌, ◌<◌, ◌≤◌, Ok, Err, IfOk, IfErr, IfNone, IsTrue, length};
 ghost use Rattle.gnss_system.specs.declared.system.System.{System};
 ghost use Rattle.rtcm_bits.specs.Bits.{bits_of};
-ghost use Rattle.rtcm_bits.specs.FrameOf.{longest_message};
 ghost use Rattle.rtcm_msg.specs.Fields.{cursor_at};
 ghost use Rattle.rtcm_msg.specs.Msm.{header_at, header_in, masks_at, AreMasks, is_time, time_of_week, IsHeader};
 ghost use Rattle.rtcm_msg.specs.Decoding.{formed_at};
 ghost use Rattle.rtcm_msg.specs.declared.view.Form.{Form};
 ghost use Rattle.rtcm_msg.specs.inner.Refusals.{header_fault, masks_of};
+ghost use Rattle.rtcm_msg.specs.inner.MessageBits.{HasBits};
 
 use crate::fault::{Field, MsgFault, ValueFault, first_of};
 use crate::field::{byte_at, end_of_fields, flag_at};
@@ -74,8 +74,7 @@ pub fn time_of_week(system: System, time: u32) -> u32
 
 /// Returns the header of an MSM with this epoch time.
 pub(crate) fn header_in(bytes: &[u8], time: u32) -> MsmHeader
-    requires there { 73 ≤ 8 * length bytes.now }
-    requires small { length bytes.now ≤ longest_message }
+    requires { HasBits bytes.now 73 }
     ensures value { result ≡ header_in (bits_of bytes.now) time }
     ensures is_header { (system : System) → IsTrue (is_time system time) → IsHeader system result }
 {
@@ -209,8 +208,7 @@ const HEAD_WIDTHS: &[u32] = &[1, 3, 7, 2, 2, 1, 3, SATELLITE_MASK_BITS, SIGNAL_M
 /// `Short` if a field does not end within the message, `BadTime` for a time that isn't one of the
 /// system, `TooManyCells` for more than 64 pairs.
 pub(crate) fn read_head(system: System, bytes: &[u8]) -> Result<(MsmHeader, Masks, usize), MsgFault>
-    requires number { 12 ≤ 8 * length bytes.now }
-    requires small { length bytes.now ≤ longest_message }
+    requires { HasBits bytes.now 12 }
     ensures read { IfOk result (λ x.
         (header_at system (cursor_at (bits_of bytes.now) 12) ≡ Ok (x.0, cursor_at (bits_of bytes.now) 73))
         × (masks_at (cursor_at (bits_of bytes.now) 73) ≡ Ok (x.1, cursor_at (bits_of bytes.now) x.2))) }

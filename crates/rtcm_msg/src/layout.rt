@@ -1,10 +1,11 @@
 //! The layout of the data of an MSM: one field of all satellites or cells follows the other.
-ghost use Rattle.std.specs.Prelude.{◌≡◌, ◌+◌, ◌*◌, ◌<◌, ◌≤◌, length};
+ghost use Rattle.std.specs.Prelude.{◌≡◌, ◌+◌, ◌*◌, ◌<◌, ◌≤◌};
 ghost use Rattle.rtcm_bits.specs.Bits.{bits_of};
 ghost use Rattle.rtcm_bits.specs.FrameOf.{longest_message};
 ghost use Rattle.rtcm_msg.specs.Msm.{satellite_mask_bits, most_pairs};
 ghost use Rattle.rtcm_msg.specs.inner.Rows.{row_at};
 ghost use Rattle.rtcm_msg.specs.inner.LastBits.{AreLast};
+ghost use Rattle.rtcm_msg.specs.inner.MessageBits.{HasBits};
 ghost use Rattle.rtcm_msg.specs.Packed.{total_width};
 ghost use Rattle.rtcm_msg.specs.Forms as forms;
 ghost use Rattle.rtcm_msg.specs.Forms.{satellite_data, cell_data};
@@ -157,8 +158,7 @@ impl Form {
     ) -> Satellite
         requires there { i < count }
         requires few { count ≤ satellite_mask_bits }
-        requires within { place + count * total_width (forms.satellite_widths self) ≤ 8 * length bytes.now }
-        requires small { length bytes.now ≤ longest_message }
+        requires within { HasBits bytes.now (place + count * total_width (forms.satellite_widths self)) }
         requires after { 64 ≤ place }
         ensures { result ≡ satellite_data self (row_at (forms.satellite_widths self) count (bits_of bytes.now) place i 0) }
     {
@@ -189,8 +189,7 @@ impl Form {
         requires there { i < cells.now.count }
         requires few { cells.now.count ≤ most_pairs }
         requires last { AreLast (forms.cell_widths self) cells.now }
-        requires within { cells.now.place + cells.now.count * total_width (forms.cell_widths self) ≤ 8 * length bytes.now }
-        requires small { length bytes.now ≤ longest_message }
+        requires within { HasBits bytes.now (cells.now.place + cells.now.count * total_width (forms.cell_widths self)) }
         requires after { 64 ≤ cells.now.place }
         ensures { result ≡ (cell_data self
             (row_at (forms.cell_widths self) cells.now.count (bits_of bytes.now) cells.now.place i 0)).rate }
@@ -208,8 +207,7 @@ impl Form {
         requires there { i < cells.now.count }
         requires few { cells.now.count ≤ most_pairs }
         requires last { AreLast (forms.cell_widths self) cells.now }
-        requires within { cells.now.place + cells.now.count * total_width (forms.cell_widths self) ≤ 8 * length bytes.now }
-        requires small { length bytes.now ≤ longest_message }
+        requires within { HasBits bytes.now (cells.now.place + cells.now.count * total_width (forms.cell_widths self)) }
         requires after { 64 ≤ cells.now.place }
         ensures { result ≡ cell_data self
             (row_at (forms.cell_widths self) cells.now.count (bits_of bytes.now) cells.now.place i 0) }

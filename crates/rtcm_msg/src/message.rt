@@ -1,11 +1,11 @@
 //! Messages, decoded and encoded.
-ghost use Rattle.std.specs.Prelude.{◌≡◌, ◌*◌, ◌≤◌, IfOk, IfErr, length, false, Ok, Err};
+ghost use Rattle.std.specs.Prelude.{◌≡◌, IfOk, IfErr, false, Ok, Err};
 ghost use Rattle.rtcm_msg.specs.Fields.{GivesViewed, cursor_at};
 ghost use Rattle.rtcm_bits.specs.Bits.{bits_of};
-ghost use Rattle.rtcm_bits.specs.FrameOf.{longest_message};
 ghost use Rattle.rtcm_msg.specs.Encoding.{is_other, ReadsMessage, IsFault, IsMessage, IsEncoding};
 ghost use Rattle.rtcm_msg.specs.declared.message.Message.{Message};
 ghost use Rattle.rtcm_msg.specs.declared.fault.MsgFault.{MsgFault};
+ghost use Rattle.rtcm_msg.specs.inner.MessageBits.{HasBits};
 ghost use Rattle.rtcm_msg.specs.inner.Viewed.{viewed_message};
 ghost use Rattle.rtcm_msg.specs.Decoding.{message_at, set_in};
 
@@ -38,8 +38,7 @@ pub enum Message {
 /// to MSM7, after its message number. `None` for another number, or if the message does not contain
 /// them.
 pub(crate) fn read_set(number: u16, bytes: &[u8]) -> Option<(u16, bool)>
-    requires number { 12 ≤ 8 * length bytes.now }
-    requires small { length bytes.now ≤ longest_message }
+    requires { HasBits bytes.now 12 }
     ensures { result ≡ set_in number (cursor_at (bits_of bytes.now) 12) }
 {
     System::from_msm_tens(number / 10)?;

@@ -1,12 +1,12 @@
 //! The station messages 1005 and 1006.
 ghost use Rattle.std.specs.Prelude.{◌≡◌, ◌+◌, ◌*◌, ◌≤◌, IfNone, Ok, length};
 ghost use Rattle.rtcm_bits.specs.Bits.{bits_of, signed, FitsInt};
-ghost use Rattle.rtcm_bits.specs.FrameOf.{longest_message};
 ghost use Rattle.rtcm_msg.specs.inner.Ranges.{fits_int};
 ghost use Rattle.rtcm_msg.specs.Fields.{GivesViewed, cursor_at, field_at};
 ghost use Rattle.rtcm_msg.specs.Packed.{total_width};
 ghost use Rattle.rtcm_msg.specs.Station.{InRange, parts_in, field_widths};
 ghost use Rattle.rtcm_msg.specs.inner.Refusals.{station_made, station_fault};
+ghost use Rattle.rtcm_msg.specs.inner.MessageBits.{HasBits};
 ghost use Rattle.rtcm_msg.specs.inner.Viewed.{viewed_message};
 ghost use Rattle.rtcm_msg.specs.Decoding.{station_message_at};
 
@@ -120,8 +120,7 @@ const STATION_WIDTHS: &[u32] = &[12, 6, 1, 1, 1, 1, 38, 1, 1, 38, 2, 38, 16];
 
 /// Returns a coordinate of the antenna reference point, DF025 to DF027: 38 bits with a sign.
 fn coordinate_at(bytes: &[u8], place: usize) -> i64
-    requires there { place + 38 ≤ 8 * length bytes.now }
-    requires small { length bytes.now ≤ longest_message }
+    requires { HasBits bytes.now (place + 38) }
     ensures value { result ≡ signed 38 (field_at (bits_of bytes.now) place 38) }
     ensures fits { FitsInt 38 result }
 {
@@ -130,9 +129,8 @@ fn coordinate_at(bytes: &[u8], place: usize) -> i64
 
 /// Returns the fields of a station message.
 fn parts_in(bytes: &[u8], has_height: bool) -> StationParts
-    requires there { 12 + total_width (field_widths has_height) ≤ 8 * length bytes.now }
+    requires there { HasBits bytes.now (12 + total_width (field_widths has_height)) }
     requires common { 152 ≤ 8 * length bytes.now }
-    requires small { length bytes.now ≤ longest_message }
     ensures value { result ≡ parts_in has_height (bits_of bytes.now) }
     ensures in_range { InRange result }
 {
@@ -162,8 +160,7 @@ fn parts_in(bytes: &[u8], has_height: bool) -> StationParts
 ///
 /// `Short` if a field does not end within the message.
 pub(crate) fn view_station(bytes: &[u8], has_height: bool) -> Result<View<'_>, MsgFault>
-    requires number { 12 ≤ 8 * length bytes.now }
-    requires small { length bytes.now ≤ longest_message }
+    requires { HasBits bytes.now 12 }
     ensures { GivesViewed viewed_message result
         (station_message_at has_height (cursor_at (bits_of bytes.now) 12)) }
 {

@@ -2,10 +2,10 @@
 ghost use Rattle.std.specs.Prelude.{[], ◌≡◌, ◌*◌, ◌<◌, ◌≤◌, ◌^◌, ◌∷◌, length, slice_index, count_ones};
 ghost use Rattle.std.specs.Prelude.{IfOk, IfSome, IfNone};
 ghost use Rattle.rtcm_bits.specs.Bits.{bits_of};
-ghost use Rattle.rtcm_bits.specs.FrameOf.{longest_message};
 ghost use Rattle.rtcm_msg.specs.Fields.{GivesViewed, cursor_at};
 ghost use Rattle.rtcm_msg.specs.Msm.{IsHeader, satellite_mask_bits, most_pairs};
 ghost use Rattle.rtcm_msg.specs.Decoding.{body_by, message_at, message_with};
+ghost use Rattle.rtcm_msg.specs.inner.MessageBits.{HasBits};
 ghost use Rattle.rtcm_msg.specs.inner.Viewed.{viewed_message};
 ghost use Rattle.rtcm_msg.specs.Forms as forms;
 ghost use Rattle.rtcm_msg.specs.inner.Forms as inner_forms;
@@ -356,8 +356,7 @@ impl<'a> View<'a> {
 
 /// Reads the header and masks of an MSM after its message number.
 fn view_msm(bytes: &[u8], form: Form, system: System) -> Result<View<'_>, MsgFault>
-    requires small { length bytes.now ≤ longest_message }
-    requires number { 12 ≤ 8 * length bytes.now }
+    requires { HasBits bytes.now 12 }
     ensures { GivesViewed viewed_message result (decoding.formed_at form system (cursor_at (bits_of bytes.now) 12)) }
 {
     let (header, masks, satellites_at) = read_head(system, bytes)?;
@@ -386,8 +385,7 @@ fn view_msm(bytes: &[u8], form: Form, system: System) -> Result<View<'_>, MsgFau
 
 /// Reads a message of this kind after its message number.
 fn view_body(kind: Kind, number: u16, bytes: &[u8]) -> Result<View<'_>, MsgFault>
-    requires small { length bytes.now ≤ longest_message }
-    requires number { 12 ≤ 8 * length bytes.now }
+    requires { HasBits bytes.now 12 }
     ensures { GivesViewed viewed_message result (body_by kind number (cursor_at (bits_of bytes.now) 12)) }
 {
     match kind {

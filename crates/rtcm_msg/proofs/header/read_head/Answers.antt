@@ -11,7 +11,7 @@ tested g t u b d e f h = ap (is_time g) (sym e) ∙ (sym f ∙ h)
 pub returns-in_err-end_of_fields-clause-fault : goal.returns-in_err-end_of_fields-clause-fault
 returns-in_err-end_of_fields-clause-fault c =
     let p = err_from_is_err_and c.from_residual.result c.from_residual.ensures.1 in
-    rw (p.1, p.2) (λ form. no_header form c.args.system _ _ (time_missing c.args.bytes.now c.args.system _ c.requires.number c.in_err-end_of_fields.ensures.exact))
+    rw (p.1, p.2) (λ form. no_header form c.args.system _ _ (time_missing c.args.bytes.now c.args.system _ c.requires.there c.in_err-end_of_fields.ensures.exact))
 
 pub returns-then-not-is_time-clause-fault : goal.returns-then-not-is_time-clause-fault
 returns-then-not-is_time-clause-fault c =
@@ -45,7 +45,7 @@ pub returns-clause-read : goal.returns-clause-read
 returns-clause-read c =
     let p = count_ones c.number_at-satellites.result * count_ones c.number_at-signals.result in
     let end : c.in_ok-end.end ≡ 169 + p = omega (arith, c.in_ok-end.ensures.end) in
-    let room : 169 + p ≤ 8 * length c.args.bytes.now = rw (← end) c.in_ok-end.ensures.within in (
+    let room : 169 + p ≤ 8 * length c.args.bytes.now = rw (← end) c.in_ok-end.ensures.within.there in (
       rw (c.header_in.ensures.value, c.number_at-time.ensures.value) (header_whole c.args.bytes.now c.args.system (omega (arith, room)) (tested c.args.system _ _ _ _ c.number_at-time.ensures.value c.is_time.ensures c.if-not-is_time.false)),
       rw (end, c.number_at.ensures.value, c.number_at-satellites.ensures.value, c.number_at-signals.ensures.value)
           (masks_whole c.args.bytes.now (rw (c.number_at-satellites.ensures.value, c.number_at-signals.ensures.value) at c.if-pairs-gt-MOST_CELL_MASK_BITS.false) (rw (c.number_at-satellites.ensures.value, c.number_at-signals.ensures.value) at room)),

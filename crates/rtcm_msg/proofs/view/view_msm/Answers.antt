@@ -17,14 +17,14 @@ returns-in_err-end_of_data c =
     let p = err_from_is_err_and c.from_residual-in_err-end_of_data.result c.from_residual-in_err-end_of_data.ensures.1 in
     let head : AfterMasks c.args.system c.args.bytes.now c.in_ok-header.header c.in_ok-header.masks c.in_ok-header.satellites_at = record { header = c.in_ok-header.ensures.read.0; masks = c.in_ok-header.ensures.read.1; there = c.in_ok-header.ensures.within.1 } in
     rw (p.1, p.2) (second_short c.args.system head (record { satellite_fields = c.widths.ensures.satellites; cell_fields = c.widths.ensures.cells; satellites = c.satellites.ensures; cells = c.cells.ensures.value })
-    c.in_ok-cells_at.ensures.exact c.in_ok-cells_at.ensures.within c.in_err-end_of_data.ensures.exact)
+    c.in_ok-cells_at.ensures.exact c.in_ok-cells_at.ensures.within.there c.in_err-end_of_data.ensures.exact)
 
 pub invariant_of-result : goal.invariant_of-result
 invariant_of-result c =
     let head : AfterMasks c.args.system c.args.bytes.now c.in_ok-header.header c.in_ok-header.masks c.in_ok-header.satellites_at = record { header = c.in_ok-header.ensures.read.0; masks = c.in_ok-header.ensures.read.1; there = c.in_ok-header.ensures.within.1 } in
     let here = placed c.last_bits.ensures.place
     (whole head (record { satellite_fields = c.widths.ensures.satellites; cell_fields = c.widths.ensures.cells; satellites = c.satellites.ensures; cells = c.cells.ensures.value })
-    c.in_ok-cells_at.ensures.exact c.in_ok-cells_at.ensures.within c.in_ok-end_of_data.ensures.exact c.in_ok-end_of_data.ensures.within c.in_ok-header.ensures.is_header c.cells.ensures.sets) in (
+    c.in_ok-cells_at.ensures.exact c.in_ok-cells_at.ensures.within.there c.in_ok-end_of_data.ensures.exact c.in_ok-end_of_data.ensures.within.there c.in_ok-header.ensures.is_header c.cells.ensures.sets) in (
       here.value,
       record {
         satellites_few = rw c.satellites.ensures (ones-le 64 c.in_ok-header.masks.satellites c.cells.ensures.sets.satellites);
@@ -38,4 +38,4 @@ returns c =
     let head : AfterMasks c.args.system c.args.bytes.now c.in_ok-header.header c.in_ok-header.masks c.in_ok-header.satellites_at = record { header = c.in_ok-header.ensures.read.0; masks = c.in_ok-header.ensures.read.1; there = c.in_ok-header.ensures.within.1 } in
     (placed c.last_bits.ensures.place
     (whole head (record { satellite_fields = c.widths.ensures.satellites; cell_fields = c.widths.ensures.cells; satellites = c.satellites.ensures; cells = c.cells.ensures.value })
-    c.in_ok-cells_at.ensures.exact c.in_ok-cells_at.ensures.within c.in_ok-end_of_data.ensures.exact c.in_ok-end_of_data.ensures.within c.in_ok-header.ensures.is_header c.cells.ensures.sets)).read
+    c.in_ok-cells_at.ensures.exact c.in_ok-cells_at.ensures.within.there c.in_ok-end_of_data.ensures.exact c.in_ok-end_of_data.ensures.within.there c.in_ok-header.ensures.is_header c.cells.ensures.sets)).read
