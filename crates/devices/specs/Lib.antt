@@ -2,4 +2,3 @@ pub mod Device
 pub mod Devices
 pub mod Buffering
 pub mod Printing
-pub mod inner

@@ -4,7 +4,8 @@ ghost use Rattle.std.specs.Prelude.{IfOk, vec_len, vec_capacity};
 ghost use Rattle.std.specs.Io.{WritesAtMost};
 ghost use Rattle.std.specs.Io.KnownBytes.{Keeps, Appends, WriteAppends};
 ghost use Rattle.devices.specs.Buffering.{StaysFailed, buffer_bytes, contents_of, waiting_of};
-ghost use Rattle.devices.specs.inner.Delivering.{more_waits};
+ghost use Rattle.std.proofs.Common.{rules};
+ghost use Rattle.std.proofs.lemmas.Grind.{common_steps};
 
 use crate::deliver::Deliver;
 use std::alloc::{AllocError, Global};
@@ -131,7 +132,7 @@ impl<W: Deliver> Deliver for Buffered<W> {
 
     ghost waiting = { waiting_of W.waiting };
 
-    ghost parts = { λ b. more_waits _ _ _ b.waiting (W.parts b.device) };
+    ghost parts = { λ b. let device = W.parts b.device in Prim.search (rules, common_steps) };
 
     fn target(&self) -> &W::Target {
         self.device.target()

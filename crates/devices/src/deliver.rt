@@ -1,8 +1,9 @@
 //! Writers of which it is known which bytes wait in them, and where they end.
-ghost use Rattle.std.specs.Prelude.{◌≡◌, ℕ, List, [], ◌++◌, OnOk};
+ghost use Rattle.std.specs.Prelude.{◌≡◌, ℕ, List, [], ◌++◌, OnOk, refl};
 ghost use Rattle.std.specs.Io.Buffered.{writer_buffer, writer_inner};
 ghost use Rattle.std.specs.Io.KnownBytes.{Keeps, append_known};
-ghost use Rattle.devices.specs.inner.Delivering.{more_waits, none_waits};
+ghost use Rattle.std.proofs.Common.{rules};
+ghost use Rattle.std.proofs.lemmas.Grind.{common_steps};
 
 use arrayvec::ArrayVec;
 use std::fs::File;
@@ -40,7 +41,7 @@ pub trait Destination: Write {}
 ///
 ///     ghost waiting = { λ b. P.waiting b.port ++ b.line.items };
 ///
-///     ghost parts = { λ b. more_waits _ _ _ b.line.items (P.parts b.port) };
+///     ghost parts = { λ b. let port = P.parts b.port in Prim.search (rules, common_steps) };
 ///
 ///     fn target(&self) -> &P::Target {
 ///         self.port.target()
@@ -53,9 +54,10 @@ pub trait Destination: Write {}
 /// }
 /// ```
 ///
-/// `flush` of this writer ensures `OnOk result (self.new.line.items ≡ [])`, and `more_waits` is of
-/// `devices/specs/inner/Delivering`. For a destination the target is the writer itself, `waiting`
-/// is `λ _. []` and `parts` is `λ w. none_waits (Self.contents w)`.
+/// `flush` of this writer ensures `OnOk result (self.new.line.items ≡ [])`; `rules` is of
+/// `Rattle.std.proofs.Common`, `common_steps` of `Rattle.std.proofs.lemmas.Grind`. For a
+/// destination the target is the writer itself, `waiting` is `λ _. []`, and `parts` is searched
+/// too, or `refl` if its contents are not known.
 pub trait Deliver: Write {
     /// Where the bytes end.
     type Target: Destination;
@@ -108,7 +110,7 @@ impl<W: Deliver + Drop> Deliver for BufWriter<W> {
 
     ghost waiting = { λ w. W.waiting (writer_inner w) ++ writer_buffer w };
 
-    ghost parts = { λ w. more_waits _ _ _ (writer_buffer w) (W.parts (writer_inner w)) };
+    ghost parts = { λ w. let device = W.parts (writer_inner w) in Prim.search (rules, common_steps) };
 
     fn target(&self) -> &W::Target {
         self.get_ref().target()
@@ -129,7 +131,7 @@ impl Deliver for Vec<u8> {
 
     ghost waiting = { λ _. [] };
 
-    ghost parts = { λ w. none_waits (Self.contents w) };
+    ghost parts = { λ _. Prim.search (rules, common_steps) };
 
     fn target(&self) -> &Vec<u8> {
         self
@@ -149,7 +151,7 @@ impl<const CAP: usize> Deliver for ArrayVec<u8, CAP> {
 
     ghost waiting = { λ _. [] };
 
-    ghost parts = { λ w. none_waits (Self.contents w) };
+    ghost parts = { λ _. Prim.search (rules, common_steps) };
 
     fn target(&self) -> &ArrayVec<u8, CAP> {
         self
@@ -171,7 +173,7 @@ impl Deliver for File {
 
     ghost waiting = { λ _. [] };
 
-    ghost parts = { λ w. none_waits (Self.contents w) };
+    ghost parts = { λ _. refl };
 
     fn target(&self) -> &File {
         self
@@ -191,7 +193,7 @@ impl Deliver for Stdout {
 
     ghost waiting = { λ _. [] };
 
-    ghost parts = { λ w. none_waits (Self.contents w) };
+    ghost parts = { λ _. refl };
 
     fn target(&self) -> &Stdout {
         self
@@ -211,7 +213,7 @@ impl Deliver for Stderr {
 
     ghost waiting = { λ _. [] };
 
-    ghost parts = { λ w. none_waits (Self.contents w) };
+    ghost parts = { λ _. refl };
 
     fn target(&self) -> &Stderr {
         self
@@ -231,7 +233,7 @@ impl Deliver for Sink {
 
     ghost waiting = { λ _. [] };
 
-    ghost parts = { λ w. none_waits (Self.contents w) };
+    ghost parts = { λ _. refl };
 
     fn target(&self) -> &Sink {
         self

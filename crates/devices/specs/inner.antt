@@ -1,2 +1,0 @@
--- Definitions that no promise to a user reaches: the vocabulary of private contracts and of proofs.
-pub mod Delivering
