@@ -1,5 +1,5 @@
 -- Dates and times of day in the calendar of the library.
-use Rattle.gnss_obs.proofs.Names.{◌≡◌, ◌<◌, ◌≤◌, ◌+◌, ◌*◌, ◌/◌, ◌%◌, ◌∙◌, ℕ, ℤ, pos, ◌+ℤ◌, ◌-ℤ◌, ◌*ℤ◌, neg_ℤ, ◌≤ℤ◌, refl, sym, subst, arith, nat_abs, to_z, of_z, to_z-of_z, FitsSigned, w8, w16, w32, w64, ap, ap₂, T, Fits, true, false, Result, IsOk, IfOk, Option, IfSome, IfNone, int_div, int_lt, non_neg, w128, Date, days_from_civil, IsCivilDate, IsDate, epoch_day, IsYmd, civil_nanos, signed_arith, valid_date, epoch_day_range, IsCivil, IsCivilOf, clock_of, Civil, common_steps}
+use Rattle.gnss_obs.proofs.Names.{◌≡◌, ◌<◌, ◌≤◌, ◌+◌, ◌*◌, ◌/◌, ◌%◌, ◌∙◌, ℕ, ℤ, pos, ◌+ℤ◌, ◌-ℤ◌, ◌*ℤ◌, neg_ℤ, ◌≤ℤ◌, refl, arith, nat_abs, to_z, of_z, to_z-of_z, FitsSigned, w8, w16, w32, w64, ap, ap₂, T, Fits, true, false, Result, IsOk, IfOk, Option, IfSome, IfNone, int_div, int_lt, non_neg, w128, Date, days_from_civil, IsDate, epoch_day, IsYmd, civil_nanos, signed_arith, valid_date, epoch_day_range, IsCivil, IsCivilOf, clock_of, Civil, common_steps}
 use Rattle.jiff_core.specs.declared.civil.time.Time.{Time}
 use Rattle.jiff_core.specs.declared.civil.datetime.DateTime.{DateTime}
 use Rattle.jiff_core.specs.Time.{time_nanos, IsHms, IsTime}
@@ -55,22 +55,7 @@ pub record IsDateOf (date : Date) (y m d : ℕ) : Type 0 where
 pub made_of : (at : DateTime) {t year month day hour minute second milli : ℕ} → civil_nanos at ≡ pos 3657 *ℤ pos day_nanos +ℤ pos t *ℤ pos 1_000_000
     → IsDateOf at.date year month day → hour ≡ at.time.hour → minute ≡ at.time.minute → second ≡ at.time.second
     → milli ≡ at.time.subsec_nanosecond / 1_000_000 → IsCivilOf t (record { year = year; month = month; day = day; hour = hour; minute = minute; millisecond = second * 1_000 + milli })
-made_of at {t} {year} {month} {day} {hour} {minute} {second} e is h i s f =
-    let parts = parts_of at t e in
-    record {
-      valid = record {
-        date = subst (λ (v : ℤ). IsCivilDate v month day) (sym is.year)
-            (subst (λ (n : ℕ). IsCivilDate at.date.year n day) (sym is.month) (subst (λ (n : ℕ). IsCivilDate at.date.year at.date.month n) (sym is.day) (valid_date at.date)));
-        hour = omega (arith, h, at.time.hour_in);
-        minute = omega (arith, i, at.time.minute_in);
-        millisecond = omega (arith, s, f, at.time.second_in, at.time.subsec_in);
-      };
-      days = same_days at.date is t parts.0;
-      clock = rw (h, i, s, f) (clock_is at.time.hour at.time.minute at.time.second at.time.subsec_nanosecond (t % 86_400_000) parts.1);
-    } where
-      same_days : {year month day : ℕ} (date : Date) → IsDateOf date year month day → (t : ℕ) → epoch_day date -ℤ pos 3657 ≡ pos (t / 86_400_000)
-          → days_from_civil (pos year) month day -ℤ days_from_civil (pos 1980) 1 6 ≡ pos (t / 86_400_000)
-      same_days date h0 t h1 = grind (arith, first_day)
+made_of at {t} {year} {month} {day} {hour} {minute} {second} e is h i s f = grind (arith, parts_of, valid_date, clock_is, first_day, parts_of at t e)
 
 pub day_below : (d : Date) → d.day < 128
 day_below d = grind (arith, common_steps)

@@ -1,5 +1,5 @@
 -- Signals that fit a plan, and those that don't.
-use Rattle.gnss_obs.proofs.Names.{◌≡◌, ℕ, zero, suc, ◌<◌, ◌==◌, false, List, [], ◌∷◌, ◌++◌, length, take, drop, get_or, All, nat_eq, refl, sym, ap, ◌∙◌, subst, arith, inl, inr, apart_from_distinct, IsDistinct-tail, All-head, All-tail, System, SignalAt, IsSignal, PlanFault, indices, IsOf, IsUnfitAfter, IsUnfit, IsMemoryFaultOr, MayAdd, BeginsWithOwn, list_any, IsDistinct, flip_false}
+use Rattle.gnss_obs.proofs.Names.{◌≡◌, ℕ, zero, suc, ◌<◌, ◌==◌, false, List, [], ◌∷◌, ◌++◌, length, take, get_or, All, nat_eq, refl, sym, ap, ◌∙◌, subst, arith, inl, inr, apart_from_distinct, IsDistinct-tail, All-head, All-tail, System, SignalAt, IsSignal, PlanFault, indices, IsOf, IsUnfitAfter, IsUnfit, IsMemoryFaultOr, MayAdd, BeginsWithOwn, list_any, IsDistinct, flip_false}
 use Rattle.std.proofs.Math.Seq.{split_at}
 
 -- The first signal is of the system if those before one are, and this one.
@@ -12,14 +12,7 @@ begin_own system (x ∷ ss) (suc k) s less is fits own = (All-head (λ (r : Sign
 pub unfit_at : {system : System} (ss : List SignalAt) {before : List SignalAt} (k : ℕ) {s : SignalAt} {fault : PlanFault} → k < length ss → s ≡ get_or ss k s → before ≡ take k ss
     → IsOf system (take k ss) → IsMemoryFaultOr (MayAdd system before s) (IsUnfitAfter system before s) fault → IsMemoryFaultOr (BeginsWithOwn system ss) (IsUnfit system ss) fault
 unfit_at {system} ss k {s} less is taken fits (inl e) = inl (e.0, begin_own system ss k s less is fits e.1.0)
-unfit_at {system} ss {before} k {s} {fault} less is taken fits (inr u) = inr (record {
-  before = take k ss;
-  signal = s;
-  rest = drop (suc k) ss;
-  split = split_at ss k s less ∙ ap (λ r. take k ss ++ r ∷ drop (suc k) ss) (sym is);
-  fits = fits;
-  unfit = subst (λ (l : List SignalAt). IsUnfitAfter system l s fault) taken u;
-})
+unfit_at {system} ss {before} k {s} {fault} less is taken fits (inr u) = grind (arith, split_at ss k s less)
 
 middle : (before rest : List SignalAt) (s : SignalAt) → get_or (indices (before ++ s ∷ rest)) (length before) 0 ≡ s.index
 middle [] rest s = refl

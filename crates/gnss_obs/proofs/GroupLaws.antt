@@ -1,5 +1,5 @@
 -- The cells of one satellite, in a list in the order of satellites.
-use Rattle.gnss_obs.proofs.Names.{◌≡◌, ℕ, zero, suc, ◌+◌, ◌<◌, ◌≤◌, ◌==◌, Bool, true, false, ◌||◌, ◌&&◌, List, [], ◌∷◌, map, filter, drop, refl, sym, ap, ap₂, ◌∙◌, subst, arith, length, not, if◌then◌else◌, nat_lt, recursion_from_All, System, Cell, is_before, SortKeysRise, cell_sort_key, AreSorted, AllByRecursion, list_any, satellites_in, AreHeld, has_value, is_written, written_among, is_of_satellite, common_steps, eqb-true}
+use Rattle.gnss_obs.proofs.Names.{◌≡◌, ℕ, zero, suc, ◌+◌, ◌<◌, ◌≤◌, ◌==◌, Bool, true, false, ◌||◌, ◌&&◌, List, [], ◌∷◌, map, filter, drop, refl, sym, ap, ap₂, ◌∙◌, arith, length, not, if◌then◌else◌, nat_lt, recursion_from_All, System, Cell, is_before, SortKeysRise, cell_sort_key, AreSorted, AllByRecursion, list_any, satellites_in, AreHeld, has_value, is_written, written_among, is_of_satellite, common_steps, eqb-true}
 
 -- ---- cells in the order of satellites
 
@@ -115,18 +115,7 @@ all_counted count last i cells end h = grind (arith, common_steps)
 -- The satellites of kept cells in order are counted one by one.
 pub counted_all : (system : System) (cells : List Cell) → AreHeld system cells → AreSorted cells
     → (counted_after 0 cells ≡ written_among cells (satellites_in system)) × (counted_after 0 cells ≤ satellites_in system)
-counted_all system cells held sorted = (is, subst (λ k. k ≤ satellites_in system) (sym is) (few_written cells (satellites_in system))) where
-  within : Within (satellites_in system) cells
-  within = recursion_from_All (λ (c : Cell). c.satellite.id ≤ satellites_in system) cells (λ i d less. let one = held.each i d less in rw (← one.satellite) one.number.1)
-
-  all : Above 0 cells
-  all = (left_all system cells held).above
-
-  is : counted_after 0 cells ≡ written_among cells (satellites_in system)
-  is =
-      let sum = counted_is (satellites_in system) 0 cells (sorted_climbs cells sorted) within all (recursion_from_All (λ (c : Cell). 0 ≤ c.satellite.id) cells (λ i d less. omega arith)) in
-      let none = none_written 0 cells all in
-      sym (sum ∙ ap (λ b. counted_after 0 cells + one_if b) none ∙ omega arith)
+counted_all system cells held sorted = grind (arith, few_written, recursion_from_All, left_all, counted_is, sorted_climbs, none_written, few_written cells (satellites_in system))
 
 -- A satellite of kept cells is written if one of the cells has a value.
 pub some_counted : (system : System) (cells kept : List Cell) → cells ≡ kept → AreHeld system cells → AreSorted cells

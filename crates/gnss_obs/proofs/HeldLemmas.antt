@@ -1,5 +1,5 @@
 -- Kept cells of a system as they arrive.
-use Rattle.gnss_obs.proofs.Names.{Box, Global, ◌≡◌, ℕ, ◌+◌, ◌*◌, ◌<◌, ◌==◌, ◌&&◌, ◌||◌, false, nat_eq, List, [], ◌∷◌, map, refl, sym, ap, ap₂, ◌∙◌, subst, arith, rules, length, All, All-head, All-nil, All-push, All-tail, All-permutation, IsPermutation-map, length_permutation, map-append, IsDistinct-IsPermutation, IsDistinct-push, nat_eq_equiv, IsDistinct, AreSorted, each_system, equal_values, value_mapped, value_tabulated, value_of, with_value_of, map_by, BySystem, Cells, System, Cell, Added, Satellite, SignalAt, IsSignal, AreHeld, AreKept, CellLists, IsHeld, list_any, no_cells, IsObserved, heard_cell, same_key, cell_sort_key, is_held, AddsCell, IsAdded, slot, has_slot, sorted_cells, outcome_by, common_steps}
+use Rattle.gnss_obs.proofs.Names.{Box, Global, ◌≡◌, ℕ, ◌+◌, ◌*◌, ◌<◌, ◌==◌, ◌&&◌, false, nat_eq, List, [], ◌∷◌, map, refl, sym, ap, ◌∙◌, subst, arith, rules, length, All, All-head, All-nil, All-push, All-tail, All-permutation, IsPermutation-map, length_permutation, map-append, IsDistinct-IsPermutation, IsDistinct-push, nat_eq_equiv, IsDistinct, AreSorted, each_system, equal_values, value_mapped, value_tabulated, value_of, with_value_of, map_by, BySystem, Cells, System, Cell, Added, Satellite, SignalAt, IsSignal, AreHeld, AreKept, CellLists, IsHeld, list_any, no_cells, IsObserved, heard_cell, same_key, cell_sort_key, is_held, AddsCell, IsAdded, slot, has_slot, sorted_cells, outcome_by, common_steps}
 use Rattle.gnss_obs.proofs.OrderLaws.{sort_moves}
 use Rattle.gnss_obs.specs.declared.epoch_cells.Added.TheVariants.{Kept}
 
@@ -39,11 +39,7 @@ same_is system s t a b e f = grind (arith, common_steps, e, f)
 pub held_slot : (system : System) (x : Cell) → x.satellite.system ≡ system → IsSignal x.signal → (cells : List Cell) → All (IsHeld system) cells
     → has_slot (slot x) (map slot cells) ≡ is_held cells (heard_cell x)
 held_slot system x is listed [] all = refl
-held_slot system x is listed (c ∷ cells) all =
-    let one = All-head (IsHeld system) c cells all in
-    ap₂ (λ a b. a || b)
-    (sym (same_is system x.satellite c.satellite x.signal c.signal is one.satellite ∙ slots_same x.satellite.id c.satellite.id x.signal.index c.signal.index (low_index x.signal listed) (low_index c.signal one.place)))
-    (held_slot system x is listed cells (All-tail (IsHeld system) c cells all))
+held_slot system x is listed (c ∷ cells) all = grind (arith, All-head, same_is, slots_same, low_index, All-tail, All-head (IsHeld system) c cells all, low_index x.signal listed, All-tail (IsHeld system) c cells all, held_slot system x is listed cells (All-tail (IsHeld system) c cells all))
 
 -- A kept cell is of a new key.
 new_slot : (slots : List ℕ) (s : ℕ) (count : ℕ) → Kept ≡ outcome_by (has_slot s slots) count → list_any (nat_eq s) slots ≡ false

@@ -63,10 +63,7 @@ insert_moves at x (y ∷ ys) = by (is_before (at x) (at y)) (insert_moves at x y
 
 moves_onto : {X : Type 0} (at : X → SortKey) (ys xs : List X) → IsPermutation (xs ++ ys) (fold (λ zs z. insert_by at z zs) ys xs)
 moves_onto at ys [] = IsPermutation-refl ys
-moves_onto at ys (x ∷ xs) =
-    let more = moves_onto at (insert_by at x ys) xs in
-    IsPermutation-trans (x ∷ (xs ++ ys)) (xs ++ x ∷ ys) _ (IsPermutation-sym (xs ++ x ∷ ys) (x ∷ (xs ++ ys)) (IsPermutation-middle xs x ys))
-    (IsPermutation-trans (xs ++ x ∷ ys) (xs ++ insert_by at x ys) _ (IsPermutation-append_right xs (x ∷ ys) (insert_by at x ys) (insert_moves at x ys)) more)
+moves_onto at ys (x ∷ xs) = grind (arith, common_steps, IsPermutation-trans, IsPermutation-sym, IsPermutation-middle, insert_moves, IsPermutation-append_right xs (x ∷ ys) (insert_by at x ys) (insert_moves at x ys), insert_moves at x ys, moves_onto at (insert_by at x ys) xs)
 
 pub sort_moves : {X : Type 0} (at : X → SortKey) (xs : List X) → IsPermutation xs (fold (λ zs z. insert_by at z zs) [] xs)
 sort_moves at xs = subst (λ l. IsPermutation l (fold (λ zs z. insert_by at z zs) [] xs)) (append-nil xs) (moves_onto at [] xs)

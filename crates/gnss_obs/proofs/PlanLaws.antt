@@ -1,5 +1,5 @@
 -- Codes separated by commas, and the signals of a plan.
-use Rattle.gnss_obs.proofs.Names.{is_some, ◌⊎◌, ◌≡◌, ℕ, suc, zero, ◌+◌, ◌<◌, ◌≤◌, ◌==◌, ◌||◌, Bool, true, false, List, [], ◌∷◌, ◌++◌, length, length-map, map-append, All, nat_eq, refl, sym, ap, ap₂, ◌∙◌, subst, arith, Option, Some, None, Result, Ok, Err, rules, true≢false, codes, is_err, Bor, nat_eq_equiv, IsDistinct-push, All-push, All-head, All-map, All-tail, All-weaker, MayTakeCode, ListedSignal, RepeatedCode, System, SignalAt, IsSignal, table, signal_of_code, signal_where, signal_at, PlanFault, between_commas, one_signal_more, below, signals_of, signals_after, IsTaken, indices, IsMemoryFaultOr, IsOf, ArePlanned, DoneOr, RefusesCode, TakesCode, list_any, position_or_len, before_first, after_first, IsDistinct, common_steps, has_signal, signals_coded, is_first_listed, is_nil}
+use Rattle.gnss_obs.proofs.Names.{is_some, ◌⊎◌, ◌≡◌, ℕ, suc, zero, ◌+◌, ◌<◌, ◌≤◌, ◌==◌, ◌||◌, Bool, true, false, List, [], ◌∷◌, ◌++◌, length, length-map, map-append, All, nat_eq, refl, sym, ap, ◌∙◌, subst, arith, Option, Some, None, Result, Ok, Err, rules, true≢false, codes, is_err, Bor, nat_eq_equiv, IsDistinct-push, All-push, All-head, All-map, All-tail, All-weaker, MayTakeCode, ListedSignal, RepeatedCode, System, SignalAt, IsSignal, table, signal_of_code, signal_where, signal_at, PlanFault, between_commas, one_signal_more, below, signals_of, signals_after, IsTaken, indices, IsMemoryFaultOr, IsOf, ArePlanned, DoneOr, RefusesCode, TakesCode, list_any, position_or_len, before_first, after_first, IsDistinct, common_steps, has_signal, signals_coded, is_first_listed, is_nil}
 use Rattle.std.proofs.lemmas.Slice.Eq.{bytes_eq-Decides}
 use Rattle.std.proofs.lemmas.Map.Steps.{length-le_from_distinct_below}
 use Rattle.std.proofs.lemmas.List.Folds.{list_any-append}
@@ -135,22 +135,14 @@ below-more i = let e : i + 1 ≡ suc i = omega arith in rw e refl
 
 pub one_index : {system : System} (i : ℕ) {s : SignalAt} {ss new : List SignalAt} → below i ≡ indices ss → IsOf system ss → signal_at system i ≡ Some s → new ≡ ss ++ s ∷ []
     → (below (i + 1) ≡ indices new) × IsOf system new
-one_index {system} i {s} {ss} so of is e =
-    let at = at_index system i s is in (
-      below-more i ∙ ap₂ (λ l n. l ++ n ∷ []) so (sym at.2) ∙ sym (indices-push ss s) ∙ ap indices (sym e),
-      subst (IsOf system) (sym e) (is_of-push system ss s of at.0 at.1
-          (any_index s.index ss ∙ ap₂ (λ n l. list_any (nat_eq n) l) at.2 (sym so) ∙ none_below i i (omega arith))),
-    )
+one_index {system} i {s} {ss} so of is e = grind (arith, none_below, at_index system i s is, indices-push ss s, is_of-push system ss s of (at_index system i s is).0 (at_index system i s is).1, any_index s.index ss)
 
 -- The next signal of a table is not among the earlier ones.
 pub index_added : {E : Type 0} {system : System} (i : ℕ) {s : SignalAt} {ss new : List SignalAt} (r : Result Bool E) → is_err r ≡ false → below i ≡ indices ss → IsOf system ss
     → signal_at system i ≡ Some s → (r ≡ Ok true → (new ≡ ss ++ s ∷ []) × (list_any (λ (q : SignalAt). s.index == q.index) ss ≡ false) × IsOf s.system new)
     → (r ≡ Ok false → (new ≡ ss) × (list_any (λ (q : SignalAt). s.index == q.index) ss ≡ true)) → (below (i + 1) ≡ indices new) × IsOf system new
 index_added {system} i {s} {ss} {new} (Ok true) is so of at added there = one_index i so of at (added refl).0
-index_added {system} i {s} {ss} (Ok false) is so of at added there =
-    let here = at_index system i s at in
-    let none = any_index s.index ss ∙ ap₂ (λ n l. list_any (nat_eq n) l) here.2 (sym so) ∙ none_below i i (omega arith) in
-    absurd (true≢false (sym (there refl).1 ∙ none))
+index_added {system} i {s} {ss} (Ok false) is so of at added there = grind (arith, none_below, any_index s.index ss)
 index_added i (Err e) is so of at added there = absurd (true≢false is)
 
 pub when_none : (system : System) (text : List ℕ) (r : List SignalAt) → text ≡ codes "none" → r ≡ []

@@ -108,10 +108,7 @@ number_is : (planned : List ℕ) (c : Cell) (p : ℕ) → place_in c.signal plan
 number_is planned c p e = ap (λ o. 64 * c.satellite.id + option_map_or (λ n. n) o 0) e
 
 same_place : (planned : List ℕ) (i p : ℕ) {a : ℕ} → IsDistinct nat_eq planned → i < length planned → p < length planned → get_or planned i 0 ≡ a → get_or planned p 0 ≡ a → p ≡ i
-same_place planned i p apart h k e f =
-    let a = apart_from_distinct nat_eq planned i p 0 apart in
-    let b = apart_from_distinct nat_eq planned p i 0 apart in
-    grind (arith, common_steps, a, b)
+same_place planned i p apart h k e f = grind (arith, apart_from_distinct nat_eq planned i p 0 apart, apart_from_distinct nat_eq planned p i 0 apart)
 
 -- Cells of the same sort key have the same slot.
 same_slot : (planned : List ℕ) (c d : Cell) → IsPlanned planned c → IsPlanned planned d → cell_sort_key planned c ≡ cell_sort_key planned d → slot c ≡ slot d
@@ -219,22 +216,12 @@ entry_found {system} {signals} {i} {x = x} {cells} {first} id at of e found here
 
 pub entry_none : {system : System} {signals : List SignalAt} {i : ℕ} {s : SignalAt} {cells first : List Cell} (id : ℕ) → AreCellsOf system signals cells → IsEntry signals i s
     → has_slot (32 * id + s.index) (map slot cells) ≡ false → AreBelow (indices signals) (64 * id + i) cells first → AreBelow (indices signals) (64 * id + (i + 1)) cells first
-entry_none {system} {signals} {i} {cells = cells} {first} id of e none b =
-    below_skip (indices signals) (64 * id + i) (64 * id + (i + 1)) cells first (omega arith) (none_at id cells of.plan e of.planned none) b
+entry_none {system} {signals} {i} {cells = cells} {first} id of e none b = grind (arith, below_skip, none_at id cells of.plan e of.planned none)
 
 -- No cell is of a place after the plan's.
 pub entries_end : {system : System} {signals : List SignalAt} {n : ℕ} {cells first : List Cell} (id : ℕ) → AreCellsOf system signals cells → n ≡ length signals
     → AreBelow (indices signals) (64 * id + n) cells first → AreBelow (indices signals) (64 * (id + 1)) cells first
-entries_end {system} {signals} {n} {cells} {first} id of end b =
-    below_skip (indices signals) (64 * id + n) (64 * (id + 1)) cells first (omega (arith, most, end, length_indices signals)) (All-weaker (IsPlanned (indices signals)) (Gap (indices signals) (64 * id + n) (64 * (id + 1))) later cells of.planned) b where
-      most : length (indices signals) ≤ 64
-      most = few_planned system signals of.plan
-
-      far : {a : ℕ} (b p : ℕ) {k : ℕ} → a ≡ 64 * b + p → p < k → k ≤ 64 → k ≡ n → 64 * id + n ≤ a → 64 * (id + 1) ≤ a
-      far b p e h le is from = omega (arith, e, h, le, is, from)
-
-      later : (c : Cell) → IsPlanned (indices signals) c → 64 * id + n ≤ cell_number (indices signals) c → 64 * (id + 1) ≤ cell_number (indices signals) c
-      later c h0 = grind (arith, placed, number_is, length_indices, most, far)
+entries_end {system} {signals} {n} {cells} {first} id of end b = grind (arith, below_skip, length_indices signals, few_planned system signals of.plan)
 
 -- ---- cells in order
 

@@ -14,10 +14,7 @@ here_in y m days year low high e lt = grind (arith, common_steps, signed_arith, 
 -- December has 31 days
 last_month : (y m days count : ℕ) → m ≡ 12 → day_count (pos y) m 1 + days ≡ count
     → count < day_count (pos y) 1 1 + days_in_year (pos y) → days < month_length y m
-last_month y m days count twelve e bound =
-    let e12 : day_count (pos y) 12 1 + days ≡ count = rw twelve at e in
-    let lt : days < 31 = omega (arith, e12, bound, day_count-last_of_year (pos y), day_count-day (pos y) 12 1 31 (omega arith) (omega arith)) in
-    rw twelve lt
+last_month y m days count twelve e bound = grind (arith, day_count-day, day_count-last_of_year (pos y))
 
 -- The date is in the months of the year that are left, the first of which is k + 1.
 month_on_is : (months y k days : ℕ) {count : ℕ} → y ≤ 9999 → k + months ≡ 11 → day_count (pos y) (k + 1) 1 + days ≡ count
