@@ -108,38 +108,17 @@ Below-more u g (t ∷ ts) lt h = (omega (arith, lt, h.0), Below-more u g ts lt h
 -- A message that isn't accepted closes the pending epoch if it ends its epoch.
 pub closed-push_none : (s : GatherSetup) (xs : List Timed) (x : Timed) (g : ℕ) → x.time ≡ None → greatest_time xs ≡ Some g
     → closed_times s (xs ++ x ∷ []) ≡ closed_times s xs ++ when (not (is_closed s g xs) && ends_epoch s x.message) g
-closed-push_none s xs x g none e =
-    let last = ends xs g e in
-    let latest : greatest_time (xs ++ x ∷ []) ≡ Some g = greatest-push xs x ∙ ap (max_known (greatest_time xs)) none ∙ (grind (arith, common_steps)) ∙ e in
-    closed_is s (xs ++ x ∷ []) g last.init latest (times-push_none xs x none ∙ last.is) last.below
-    ∙ ap (λ b. last.init ++ when b g) (closed-push s g xs x (greatest-present xs g e))
-    ∙ either last.init (is_closed s g xs) (ends_epoch s x.message) g
-    ∙ ap (λ l. l ++ when (not (is_closed s g xs) && ends_epoch s x.message) g) (sym (closed_is s xs g last.init e last.is last.below)) where
-      either : (init : List ℕ) (c m : Bool) (g : ℕ) → init ++ when (c || m) g ≡ (init ++ when c g) ++ when (not c && m) g
-      either init c m g = grind (arith, append-nil)
+closed-push_none s xs x g none e = grind (arith, greatest-push, closed_is, times-push_none, closed-push, append-nil, closed_is s xs g (ends xs g e).init e (ends xs g e).is (ends xs g e).below, closed-push s g xs x (greatest-present xs g e))
 
 -- An accepted message of a greater time closes the pending epoch, and its own epoch if it ends that.
 pub closed-push_greater : (s : GatherSetup) (xs : List Timed) (x : Timed) (g u : ℕ) → x.time ≡ Some u → greatest_time xs ≡ Some g → g < u
     → closed_times s (xs ++ x ∷ []) ≡ (closed_times s xs ++ when (not (is_closed s g xs)) g) ++ when (ends_epoch s x.message) u
-closed-push_greater s xs x g u some e lt =
-    let last = ends xs g e in
-    let latest : greatest_time (xs ++ x ∷ []) ≡ Some u = greatest-push xs x ∙ ap₂ max_known e some ∙ ap Some (omega (arith, lt)) in
-    let less : IsLess u (greatest_time xs) = subst (IsLess u) (sym e) lt in
-    closed_is s (xs ++ x ∷ []) u (times xs) latest (times-push_new xs x u some less) (subst (Below u) (sym last.is) (Below-more u g last.init lt last.below))
-    ∙ ap (λ b. times xs ++ when b u) (closed-new s u xs x (greater-absent xs g u e lt) (at_self u x.time some))
-    ∙ ap (λ l. l ++ when (ends_epoch s x.message) u) (last.is ∙ all_of last.init (is_closed s g xs) g ∙ ap (λ l. l ++ when (not (is_closed s g xs)) g) (sym (closed_is s xs g last.init e last.is last.below))) where
-      all_of : (init : List ℕ) (c : Bool) (g : ℕ) → init ++ g ∷ [] ≡ (init ++ when c g) ++ when (not c) g
-      all_of init c g = grind (arith, append-nil)
+closed-push_greater s xs x g u some e lt = grind (arith, greatest-push, closed_is, times-push_new, Below-more, closed-new, at_self, append-nil, closed_is s xs g (ends xs g e).init e (ends xs g e).is (ends xs g e).below, Below-more u g (ends xs g e).init lt (ends xs g e).below, closed-new s u xs x (greater-absent xs g u e lt) (at_self u x.time some))
 
 -- An accepted message of the greatest time closes its epoch if it ends its epoch.
 pub closed-push_same : (s : GatherSetup) (xs : List Timed) (x : Timed) (g : ℕ) → x.time ≡ Some g → greatest_time xs ≡ Some g → is_closed s g xs ≡ false
     → closed_times s (xs ++ x ∷ []) ≡ closed_times s xs ++ when (ends_epoch s x.message) g
-closed-push_same s xs x g some e not_closed =
-    let last = ends xs g e in
-    let latest : greatest_time (xs ++ x ∷ []) ≡ Some g = greatest-push xs x ∙ ap₂ max_known e some ∙ ap Some (omega arith) in
-    closed_is s (xs ++ x ∷ []) g last.init latest (times-push_same xs x g some e ∙ last.is) last.below
-    ∙ ap (λ b. last.init ++ when b g) (closed-push s g xs x (greatest-present xs g e) ∙ ap (λ c. c || ends_epoch s x.message) not_closed)
-    ∙ ap (λ l. l ++ when (ends_epoch s x.message) g) (sym (append-nil last.init) ∙ ap (λ c. last.init ++ when c g) (sym not_closed) ∙ sym (closed_is s xs g last.init e last.is last.below))
+closed-push_same s xs x g some e not_closed = grind (arith, greatest-push, closed_is, times-push_same, closed-push, append-nil, closed_is s xs g (ends xs g e).init e (ends xs g e).is (ends xs g e).below, closed-push s g xs x (greatest-present xs g e))
 
 -- The first accepted message.
 pub closed-push_first : (s : GatherSetup) (xs : List Timed) (x : Timed) (u : ℕ) → x.time ≡ Some u → greatest_time xs ≡ None

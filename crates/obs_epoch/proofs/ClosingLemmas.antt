@@ -27,9 +27,6 @@ pub first_is : (s : GatherSetup) (xs : List Timed) (m : Heard) (u t : ℕ) → i
     → closes_first s xs m ≡ (not (is_closed s t xs) && nat_lt t u)
 first_is s xs m u t own some e = grind (arith, common_steps)
 
-shut_text : (c shut l : Bool) (t : ℕ) (g : Option ℕ) → g ≡ Some t → l ≡ true → (not c && l) ≡ shut → when (not c) t ≡ (if shut then option_to_list g else [])
-shut_text c shut l t g e lt h = grind (arith, e, lt, h)
-
 pub not_less : (c shut : Bool) (u : ℕ) → (not c && nat_lt u u) ≡ shut → shut ≡ false
 not_less c shut u h = grind (arith, h)
 
@@ -40,9 +37,7 @@ own_of s xs m u some = grind (arith, common_steps)
 pub taken_by : {s : GatherSetup} {xs : List Timed} (m : Heard) {u : ℕ} → is_own s m ≡ true → taken_at s xs m ≡ Some u → Follows s xs u
     → (shut : Bool) → closes_first s xs m ≡ shut
     → closed_times s (xs ++ next s xs m ∷ []) ≡ closed_so_far s xs shut ++ when (ends_epoch s m) u
-taken_by {s} {xs} m {u} own some (first e) shut h =
-    let open_still : shut ≡ false = grind (arith, h, e) in
-    closed-push_first s xs (next s xs m) u some e ∙ ap (λ l. l ++ when (ends_epoch s m) u) (sym (plain s xs) ∙ ap (closed_so_far s xs) (sym open_still))
+taken_by {s} {xs} m {u} own some (first e) shut h = grind (arith, closed-push_first, plain, closed-push_first s xs (next s xs m) u some e, plain s xs)
 taken_by {s} {xs} m {u} own some (equal e c) shut h =
     let open_still : shut ≡ false = not_less (is_closed s u xs) shut u (sym (first_is s xs m u u own some e) ∙ h) in
     closed-push_same s xs (next s xs m) u some e c ∙ ap (λ l. l ++ when (ends_epoch s m) u) (sym (plain s xs) ∙ ap (closed_so_far s xs) (sym open_still))
@@ -83,15 +78,7 @@ closing_none s xs m shut none h =
 
 closing_some : (s : GatherSetup) (xs : List Timed) (m : Heard) (u : ℕ) (shut : Bool) → taken_at s xs m ≡ Some u → closes_first s xs m ≡ shut
     → closed_so_far s (xs ++ next s xs m ∷ []) false ≡ closed_so_far s xs shut ++ option_to_list (closed_in s xs m shut)
-closing_some s xs m u shut some h =
-    let own = own_of s xs m u some in
-    let new = new_time s xs (next s xs m) u some (taken_follows s xs m u some) in
-    let kind = accepted s xs no_counts m u some in
-    plain s (xs ++ next s xs m ∷ []) ∙ taken_by m own some (taken_follows s xs m u some) shut h
-    ∙ ap (λ l. closed_so_far s xs shut ++ l) (kept_text (kind_after s xs no_counts m) (ends_epoch s m) (is_pending s xs && not shut) (greatest_time xs) kind.0 kind.1 new.0) where
-      kept_text : (k : Kind) (ends was : Bool) (before : Option ℕ) {after : Option ℕ} {v : ℕ} → is_close_first k ≡ false → is_accepted k ≡ true → after ≡ Some v
-          → when ends v ≡ option_to_list (closed_of k ends was before after)
-      kept_text k ends was before other kept at = grind (arith, common_steps)
+closing_some s xs m u shut some h = grind (arith, new_time s xs (next s xs m) u some (taken_follows s xs m u some), plain s (xs ++ next s xs m ∷ []), taken_by m (own_of s xs m u some) some (taken_follows s xs m u some) shut h)
 
 pub closing : (s : GatherSetup) (xs : List Timed) (m : Heard) (shut : Bool) → closes_first s xs m ≡ shut
     → closed_so_far s (xs ++ next s xs m ∷ []) false ≡ closed_so_far s xs shut ++ option_to_list (closed_time (standing s xs shut) m)

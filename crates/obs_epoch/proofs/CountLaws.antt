@@ -8,8 +8,4 @@ at_most_one a b = grind arith
 -- Each further cell is at most one more.
 pub few_without : (s : GatherSetup) (xs ys : List HeardCell) → kept_without s (xs ++ ys) ≤ kept_without s xs + length ys
 few_without s xs [] = let none : kept_without s (xs ++ []) ≡ kept_without s xs = ap (kept_without s) (append-nil xs) in omega (arith, none)
-few_without s xs (y ∷ ys) =
-    let a : Bool = is_among (kept y.satellite.system xs) y in
-    let n : Bool = nat_le most_cells (length (kept y.satellite.system xs)) in
-    let whole : kept_without s ((xs ++ y ∷ []) ++ ys) ≡ kept_without s (xs ++ y ∷ ys) = ap (kept_without s) (append_assoc xs (y ∷ []) ys) in
-    omega (arith, whole, few_without s (xs ++ y ∷ []) ys, without-push s xs y a n refl refl, at_most_one (not (a || n)) (lacks_channel s y))
+few_without s xs (y ∷ ys) = grind (arith, append_assoc, without-push, at_most_one, append_assoc xs (y ∷ []) ys, without-push s xs y (is_among (kept y.satellite.system xs) y) (nat_le most_cells (length (kept y.satellite.system xs))) refl refl, few_without s (xs ++ y ∷ []) ys)

@@ -68,22 +68,10 @@ pub without-push : (s : GatherSetup) (xs : List HeardCell) (y : HeardCell) (a n 
     → kept_without s (xs ++ y ∷ []) ≡ kept_without s xs + (if not (a || n) then (if lacks_channel s y then 1 else 0) else 0)
 without-push s xs y a n e f = grind (arith, kept-add, system_same, sum_by_push)
 
-self_system : (y : HeardCell) → is_of_system y.satellite.system y ≡ true
-self_system y = grind (arith, common_steps)
-
 -- Whether the key of the new cell is kept then.
 now-among : (xs ys : List HeardCell) (y : HeardCell) (a n : Bool) → is_among (kept y.satellite.system xs) y ≡ a → nat_le most_cells (length (kept y.satellite.system xs)) ≡ n
     → is_among (kept_of_all ((xs ++ y ∷ []) ++ ys)) y ≡ (a || not n)
-now-among xs ys y a n e f =
-    both-among ((xs ++ y ∷ []) ++ ys) y ∙ known-more y.satellite.system (xs ++ y ∷ []) ys y (self_system y) (among-push xs y y ∙ ap (λ b. is_among xs y || b) (same_key_laws.refl y) ∙ or_true (is_among xs y))
-    ∙ ap (λ l. is_among l y) (kept-add y.satellite.system xs y)
-    ∙ ap (λ b. is_among (if b && not (is_among (kept y.satellite.system xs) y || nat_le most_cells (length (kept y.satellite.system xs))) then kept y.satellite.system xs ++ y ∷ [] else kept y.satellite.system xs) y) (self_system y)
-    ∙ ap₂ (λ b c. is_among (if not (b || c) then kept y.satellite.system xs ++ y ∷ [] else kept y.satellite.system xs) y) e f ∙ by a n e where
-      or_true : (b : Bool) → (b || true) ≡ true
-      or_true b = grind (arith, common_steps)
-
-      by : (b c : Bool) → is_among (kept y.satellite.system xs) y ≡ b → is_among (if not (b || c) then kept y.satellite.system xs ++ y ∷ [] else kept y.satellite.system xs) y ≡ (b || not c)
-      by b c g = grind (arith, among-push, or_true)
+now-among xs ys y a n e f = grind (arith, both-among, known-more, among-push, same_key_laws, kept-add, among-push xs y y)
 
 -- ---- the sums
 
@@ -100,10 +88,7 @@ one_sum : {N n : CellCounts} (p a f g : Bool) {b b' e l l' k skipped known crowd
     → b' ≡ b + (if p then (if not (a || f) then 1 else 0) else 0)
     → l' ≡ l + (if p then (if not (a || f) then (if g then 1 else 0) else 0) else 0)
     → Sums N n b e l k ((if not p then 1 else 0) + skipped) ((if p then (if (a || not f) then 1 else 0) else 0) + known) ((if p then (if not (a || not f) then 1 else 0) else 0) + crowded)
-one_sum false a f g h i j = grind (arith, common_steps)
-one_sum true true f g h i j = grind (arith, common_steps)
-one_sum true false true g h i j = grind (arith, common_steps)
-one_sum true false false g h i j = grind (arith, common_steps)
+one_sum b a f g h i j = grind arith
 
 change : {N n : CellCounts} {b e l k u v w u' v' w' : ℕ} → u ≡ u' → v ≡ v' → w ≡ w' → Sums N n b e l k u v w → Sums N n b e l k u' v' w'
 change {n} p q r h = record { kept = h.kept; lacks = h.lacks; skips = h.skips ∙ ap (λ k. n.skipped + k) p; knows = h.knows ∙ ap (λ k. (n.repeated + n.kept) + k) q; crowds = h.crowds ∙ ap (λ k. n.crowded + k) r }

@@ -58,9 +58,7 @@ all_none (t ∷ ts) = (tt, all_none ts)
 
 pub closed_below : (s : GatherSetup) (xs : List Timed) (u : ℕ) → Follows s xs u → Below u (closed_times s xs)
 closed_below s xs u (first e) = subst (λ l. Below u (filter (is_shut s xs) l)) (sym (no_times xs e)) tt
-closed_below s xs u (greater g e lt) =
-    let last = ends xs g e in
-    all_filter (λ t. t < u) (is_shut s xs) (times xs) (subst (Below u) (sym last.is) (Below-more u g last.init lt last.below))
+closed_below s xs u (greater g e lt) = grind (arith, all_filter, Below-more u g (ends xs g e).init lt (ends xs g e).below)
 closed_below s xs u (equal e c) =
     let last = ends xs u e in
     subst (Below u) (sym (closed_is s xs u last.init e last.is last.below ∙ ap (λ b. last.init ++ when b u) c ∙ append-nil last.init)) last.below

@@ -77,9 +77,7 @@ each_back p (x ∷ xs) ys h = each_back p xs ys h.1
 
 pub closed_at-push : (s : GatherSetup) (ms : List Heard) (m : Heard) (t : ℕ) → IsLater t (taken_at s (timed s ms) m) → is_shut s (timed s (ms ++ m ∷ [])) t ≡ true
     → closed_at s (ms ++ m ∷ []) t ≡ closed_at s ms t
-closed_at-push s ms m t later shut =
-    let xs = timed s ms in
-    cc (timed-push s ms m, epoch_at-push s xs (next s xs m) t later (times_before s xs (next s xs m) t (taken_follows s xs m) later), before-push s t ms m shut)
+closed_at-push s ms m t later shut = grind (arith, timed-push s ms m, epoch_at-push s (timed s ms) (next s (timed s ms) m) t later (times_before s (timed s ms) (next s (timed s ms) m) t (taken_follows s (timed s ms) m) later), before-push s t ms m shut)
 
 pub list-push : (s : GatherSetup) (ms : List Heard) (m : Heard) (ts : List ℕ) → AllLater (taken_at s (timed s ms) m) ts → Each (is_shut s (timed s (ms ++ m ∷ []))) ts
     → closed_list_at s (ms ++ m ∷ []) ts ≡ closed_list_at s ms ts
@@ -91,14 +89,7 @@ each-push s ms m [] h = tt
 each-push s ms m (t ∷ ts) h = (shut-push s t ms m h.0, each-push s ms m ts h.1)
 
 pub epochs-push : (s : GatherSetup) (ms : List Heard) (m : Heard) → IsPrefix (closed_list s ms) (closed_list s (ms ++ m ∷ []))
-epochs-push s ms m =
-    let xs = timed s ms in
-    let grown = grows_by s ms m in (
-      closed_list_at s (ms ++ m ∷ []) grown.0,
-      ap (closed_list_at s (ms ++ m ∷ [])) grown.1 ∙ map-append (closed_at s (ms ++ m ∷ [])) (closed_times s xs) grown.0
-          ∙ ap (λ l. l ++ closed_list_at s (ms ++ m ∷ []) grown.0)
-          (list-push s ms m (closed_times s xs) (all_later s xs (next s xs m) (taken_follows s xs m)) (each-push s ms m (closed_times s xs) (each_filter (is_shut s xs) (times xs)))),
-    )
+epochs-push s ms m = grind (arith, map-append (closed_at s (ms ++ m ∷ [])) (closed_times s (timed s ms)) (grows_by s ms m).0, list-push s ms m (closed_times s (timed s ms)) (all_later s (timed s ms) (next s (timed s ms) m) (taken_follows s (timed s ms) m)) (each-push s ms m (closed_times s (timed s ms)) (each_filter (is_shut s (timed s ms)) (times (timed s ms)))))
 
 pub epochs-more : (s : GatherSetup) (ms more : List Heard) → IsPrefix (closed_list s ms) (closed_list s (ms ++ more))
 epochs-more s ms [] = subst (λ l. IsPrefix (closed_list s ms) (closed_list s l)) (sym (append-nil ms)) (prefix_self (closed_list s ms))

@@ -13,10 +13,7 @@ standing_of g s ms es again h going = subst (HasTakenMessages g s ms) (not_done 
 -- The message is expected again exactly if it closes an epoch first.
 pub exactly_first : {g : GathererValue} {s : GatherSetup} {ms : List Heard} {es : List Closed} (m : Heard) (n : CellCounts) → HasGatheredEpochs g s ms es None → g.has_ended ≡ false
     → (closes_first s (timed s ms) m ≡ true → m.point ≡ None) → is_close_first (kind_by g.clock n m) ≡ closes_first s (timed s ms) m
-exactly_first {g} {s} {ms} {es} m n h going point = by (closes_first s (timed s ms) m) refl where
-  by : (b : Bool) → closes_first s (timed s ms) m ≡ b → is_close_first (kind_by g.clock n m) ≡ b
-  by true e = ap is_close_first ((closes_it g s ms m (standing_of g s ms es None h going) e (point e)).kind n)
-  by false e = ap is_close_first ((taken g s ms m false (standing_of g s ms es None h going) e).kind n) ∙ not_first s (timed s ms) n m
+exactly_first {g} {s} {ms} {es} m n h going point = grind arith
 
 -- A message that is expected again is processed.
 pub again_taken : {g : GathererValue} {s : GatherSetup} {ms : List Heard} {es : List Closed} {m : Heard} (n : CellCounts) → HasGatheredEpochs g s ms es (Some m) → g.has_ended ≡ false
@@ -27,8 +24,7 @@ again_taken {g} {s} {ms} {es} {m} n h going = ap is_close_first ((taken g s ms m
 pub fits_now : {g : GathererValue} {s : GatherSetup} {ms : List Heard} {es : List Closed} (again : Option Heard) (m : Heard) (n : CellCounts) → HasGatheredEpochs g s ms es again → g.has_ended ≡ false
     → (closes_first s (timed s ms) m ≡ true → m.point ≡ None) → IsAwaited again m → is_close_first (kind_by g.clock n m) ≡ false
     → closes_first s (timed s ms) m ≡ is_some again
-fits_now None m n h going point fit other = sym (exactly_first m n h going point) ∙ other
-fits_now {s} {ms} (Some a) m n h going point fit other = ap (closes_first s (timed s ms)) fit ∙ h.fits
+fits_now {s} {ms} again m n h going point fit other = grind (arith, exactly_first)
 
 pub kind_taken : {g : GathererValue} {s : GatherSetup} {ms : List Heard} {es : List Closed} {again : Option Heard} (m : Heard) → HasGatheredEpochs g s ms es again → g.has_ended ≡ false
     → closes_first s (timed s ms) m ≡ is_some again → kind_by g.clock (take_step g m).counts m ≡ kind_of s ms m

@@ -25,7 +25,6 @@ pub mod ReachLemmas
 mod SignalCountsLemmas
 pub mod SignalNumbers
 pub mod ViewLemmas
-mod PlaceLemmas
 pub mod ThinLemmas
 pub mod MarksLemmas
 pub mod ThinnedLemmas

@@ -34,23 +34,8 @@ outcome_after s xs x =
 abbrev pub planned_one : GatherSetup → HeardCell → List HeardCell
 planned_one s x = if is_planned s x then x ∷ [] else []
 
-cells_in_of : (system : System) (p : PlanValue) (f : HeardCell → Option KnownLock) (t : ℕ) (xs : List HeardCell) → cells_of system (epoch_of p f t xs) ≡ with_lli_by f t (sorted (planned_of system p) (kept system xs))
-cells_in_of system p f t xs = value_tabulated system (λ system. with_lli_by f t (sorted (planned_of system p) (kept system xs)))
-
 pub outcome_is : (s : GatherSetup) (f : HeardCell → Option KnownLock) (t : ℕ) (xs : List HeardCell) (x : HeardCell) → outcome_of s (cells_of x.satellite.system (epoch_of s.plan f t xs)) x ≡ outcome_after s xs x
-outcome_is s f t xs x =
-    ap₂ (λ a n. if is_planned s x then outcome_of_added (outcome_by a n) else Skipped)
-    (ap (λ (l : List Cell). is_held l x) (cells_in_of system s.plan f t xs) ∙ with_lli_by-held f t (sorted planned (kept system xs)) x ∙ among-sorted planned (kept system xs) x)
-    (ap (λ (l : List Cell). length l) (cells_in_of system s.plan f t xs) ∙ length-map (sorted planned (kept system xs)) (λ y. kept_cell y (lli_with t y (f y))) ∙ length-sorted planned (kept system xs))
-    ∙ by (is_planned s x) (is_among (kept system xs) x) (nat_le most_cells (length (kept system xs))) where
-      system : System
-      system = x.satellite.system
-
-      planned : List ℕ
-      planned = planned_of system s.plan
-
-      by : (p a c : Bool) → (if p then outcome_of_added (if a then added.Repeated else (if c then added.Crowded else added.Kept)) else Skipped) ≡ (if p then (if a then Repeated else (if c then Crowded else Kept)) else Skipped)
-      by p a c = grind arith
+outcome_is s f t xs x = grind (arith, with_lli_by-held, among-sorted, length-map, length-sorted)
 
 abbrev pub epoch_by : PlanValue → CellOutcome → (HeardCell → Option KnownLock) → EpochValue → HeardCell → EpochValue
 epoch_by p Kept f e x = with_more p e (kept_cell x (lli_with e.time x (f x)))

@@ -8,9 +8,6 @@ use Rattle.obs_epoch.proofs.CellsLemmas.{same_key_laws, firsts-push, new_key, am
 abbrev answer : Bool → KnownLock → Option KnownLock → Option KnownLock
 answer same l o = if same then Some l else o
 
-abbrev lock_for : HeardCell → ℕ → HeardCell → Option KnownLock
-lock_for key t x = if has_same_key key x then lock_of t x else None
-
 pub note_size : (t : ℕ) (ts : List (Option KnownLock)) (x : HeardCell) → length (note t ts x) ≡ length ts
 note_size t ts x = grind (arith, common_steps)
 

@@ -1,6 +1,5 @@
 -- The entries of lost lock after one more epoch.
 use Rattle.obs_epoch.proofs.Names.{◌≡◌, ℕ, zero, suc, ◌+◌, ◌==◌, ◌%◌, ◌<◌, Bool, true, false, not, ◌&&◌, ◌||◌, List, ◌∷◌, ◌++◌, map, flat_map, length, get_or, set, refl, sym, ap, ◌∙◌, subst, arith, is_some, if◌then◌else◌, length-set, list_any, length-replicate, common_steps, value_after, value_tabulated, systems, Choice, on_grid, any_loss, carried_from, has_loss, mark_at, no_marks, note_losses, note_lost, note_systems_lost, with_mark_in, AreMarks, is_lost_in, Cell, Closed, EpochValue, System, cells_of, has_listed_key, has_same_key, heard_cell, lock_place, most_locks, all_cells, has_cell, has_phase, is_marked, lost_before, mark_if, marked_epoch, marked_at, marked_in, with_mark, with_value_of, or-false, all_append, get_or-set_same, get_or-set_other, list_any-append, get_or-same, []}
-use Rattle.obs_epoch.proofs.PlaceLemmas.{listed_from, place_one, place_within, same_place}
 use Rattle.obs_epoch.proofs.ThinLemmas.{AllListedCells, HasListedCells, no_phase, none_lost, after-push}
 use Rattle.obs_epoch.proofs.TimesLemmas.{list_any-push}
 
@@ -10,15 +9,7 @@ same_cell x y = has_same_key (heard_cell x) (heard_cell y)
 -- The entry of a cell's key after that of another cell is set.
 lost_set : (marks : List Bool) (x y : Cell) (b : Bool) → has_listed_key (heard_cell x) ≡ true → has_listed_key (heard_cell y) ≡ true → length marks ≡ most_locks
     → is_lost_in (set marks (lock_place (heard_cell y)) b) x ≡ (if same_cell x y then b else is_lost_in marks x)
-lost_set marks x y b k l size = by (same_cell x y) refl where
-  within : lock_place (heard_cell y) < length marks
-  within = subst (λ n. lock_place (heard_cell y) < n) (sym size) (place_within (heard_cell y) (listed_from (heard_cell y) l))
-
-  by : (c : Bool) → same_cell x y ≡ c → is_lost_in (set marks (lock_place (heard_cell y)) b) x ≡ (if c then b else is_lost_in marks x)
-  by true e = cc ((same_place (heard_cell x) (heard_cell y) e).0, get_or-set_same marks (lock_place (heard_cell y)) b false within)
-  by false e =
-      get_or-set_other marks (lock_place (heard_cell y)) (lock_place (heard_cell x)) b false
-      (λ same. grind (arith, e, place_one (heard_cell x) (heard_cell y) (listed_from (heard_cell x) k) (listed_from (heard_cell y) l) same))
+lost_set marks x y b k l size = grind (arith, common_steps)
 
 -- A cell that changes the entry of its key.
 abbrev changes : Bool → Cell → Bool
@@ -37,12 +28,7 @@ losses_size at marks (y ∷ ys) = losses_size at (note_lost at marks y) ys ∙ n
 lost_losses : (at : Bool) (marks : List Bool) (x : Cell) (ys : List Cell) → has_listed_key (heard_cell x) ≡ true → AllListedCells ys → length marks ≡ most_locks
     → is_lost_in (note_losses at marks ys) x ≡ (if any_changes at x ys then not at else is_lost_in marks x)
 lost_losses at marks x [] k l size = refl
-lost_losses at marks x (y ∷ ys) k l size =
-    lost_losses at (note_lost at marks y) x ys k l.1 (note_size at marks y ∙ size)
-    ∙ ap (λ b. if any_changes at x ys then not at else b) (grind (arith, lost_set marks x y (not at) k l.0 size))
-    ∙ by (same_cell x y && changes at y) (any_changes at x ys) where
-      by : (a b : Bool) → (if b then not at else (if a then not at else is_lost_in marks x)) ≡ (if (a || b) then not at else is_lost_in marks x)
-      by a b = grind arith
+lost_losses at marks x (y ∷ ys) k l size = grind (arith, lost_set, lost_losses at (note_lost at marks y) x ys k l.1 (note_size at marks y ∙ size))
 
 -- ---- all cells of an epoch
 

@@ -65,8 +65,7 @@ last_push (x ∷ xs) (Some l) = ap (λ o. Some (unwrap_or o x)) (last_push xs (S
 
 pub latest_in-push : (s : GatherSetup) (xs : List Timed) (ts : List ℕ) (t : ℕ) (key : HeardCell)
     → latest_in s xs (ts ++ t ∷ []) key ≡ option_or (locked_at s xs key t) (latest_in s xs ts key)
-latest_in-push s xs ts t key =
-    ap last_of (filter_map-append (locked_at s xs key) ts (t ∷ [])) ∙ last_push (filter_map (locked_at s xs key) ts) (locked_at s xs key t)
+latest_in-push s xs ts t key = grind (arith, filter_map-append, last_push)
 
 seens_with_lli : (s : GatherSetup) (xs : List Timed) (t : ℕ) (ks : List HeardCell) → seens (cells_with_lli s xs t ks) ≡ ks
 seens_with_lli s xs t [] = refl

@@ -67,8 +67,7 @@ timed_more s earlier (m ∷ ms) h k = timed_more s (earlier ++ next s earlier m 
 
 timed_within : (s : GatherSetup) (earlier : List Timed) (ms : List Heard) → AllByRecursion IsInTime earlier → AllByRecursion IsInTime (timed_after s earlier ms)
 timed_within s earlier [] h = h
-timed_within s earlier (m ∷ ms) h =
-    timed_within s (earlier ++ next s earlier m ∷ []) ms (all_append IsInTime earlier (next s earlier m ∷ []) h (taken_within s earlier m, tt))
+timed_within s earlier (m ∷ ms) h = grind (arith, timed_within s (earlier ++ next s earlier m ∷ []) ms (all_append IsInTime earlier (next s earlier m ∷ []) h (taken_within s earlier m, tt)))
 
 -- Each is less than all after it.
 abbrev Rise : List ℕ → Type 0
@@ -112,11 +111,7 @@ abbrev IsKept : GatherSetup → System → HeardCell → Type 0
 IsKept s system x = IsOffered s x × (is_of_system system x ≡ true)
 
 all_kept : (s : GatherSetup) (t : ℕ) (xs : List Timed) (system : System) → AllByRecursion IsTimed xs → AllByRecursion (IsKept s system) (cells_at s t xs system)
-all_kept s t xs system h =
-    all-sorted (IsKept s system) (planned_of system s.plan) (kept system (offered s t xs))
-    (all_take (IsKept s system) most_cells (filter (is_of_system system) (firsts (offered s t xs)))
-    (all_both (IsOffered s) (is_of_system system) (firsts (offered s t xs))
-    (all_firsts (IsOffered s) [] (offered s t xs) (all_offered s (filter (is_at t) xs) (all_filter IsTimed (is_at t) xs h)))))
+all_kept s t xs system h = grind (arith, all-sorted, all_take, all_both, all_firsts, all_offered, all_filter, all_take (IsKept s system) most_cells (filter (is_of_system system) (firsts (offered s t xs))))
 
 small_lli : (t : ℕ) (x : HeardCell) (before : Option KnownLock) → lli_with t x before < 4
 small_lli t x before = grind (arith, common_steps)
@@ -180,23 +175,7 @@ epochs_rise s ms (t ∷ ts) h = (all_later s ms t ts h.0, epochs_rise s ms ts h.
 -- ---- the chosen ones, marked
 
 mark_gathered : (lost : Cell → Bool) (system : System) (signals : List ℕ) (x : Cell) → IsGathered system signals x → IsGathered system signals (mark_if lost x)
-mark_gathered lost system signals x h = by x.l refl (lost x) where
-  some_none : {l : ℤ} → Some l ≡ None → ⊥
-  some_none e = cc
-
-  by : (o : Option ℤ) → x.l ≡ o → (b : Bool) → IsGathered system signals (if is_some o && b then with_mark x else x)
-  by None e b = h
-  by (Some l) e false = h
-  by (Some l) e true = record {
-    number = h.number;
-    planned = h.planned;
-    c = h.c;
-    l = h.l;
-    d = h.d;
-    s = h.s;
-    lli = grind (arith, h.lli);
-    without_phase = λ none. absurd (some_none (sym e ∙ none));
-  }
+mark_gathered lost system signals x h = grind arith
 
 marks_gathered : (lost : Cell → Bool) (system : System) (signals : List ℕ) (xs : List Cell) → AllByRecursion (IsGathered system signals) xs → AllByRecursion (IsGathered system signals) (map (mark_if lost) xs)
 marks_gathered lost system signals [] h = tt
@@ -214,16 +193,7 @@ marks_apart lost (x ∷ xs) d = (others (has_phase x && lost x) xs d.0, marks_ap
   others a (y ∷ ys) h = (one a (has_phase y && lost y) y h.0, others a ys h.1)
 
 epoch_marked : (plan : PlanValue) (c : Choice) (earlier : List Closed) (e : Closed) → IsGatheredEpoch plan e → IsGatheredEpoch plan (marked_after c earlier e)
-epoch_marked plan c earlier e h = record {
-  time = h.time;
-  cells = λ system.
-      let lost = lost_before c earlier in
-      subst (AreGathered system (planned_of system plan)) (sym (value_tabulated system (λ s. map (mark_if lost) (cells_of s e.epoch)))) (record {
-        each = marks_gathered lost system (planned_of system plan) (cells_of system e.epoch) (h.cells system).each;
-        apart = marks_apart lost (cells_of system e.epoch) (h.cells system).apart;
-      });
-  values = h.values;
-}
+epoch_marked plan c earlier e h = grind (arith, marks_gathered, marks_apart)
 
 thin_each : (plan : PlanValue) (c : Choice) (earlier es : List Closed) → AllByRecursion (IsGatheredEpoch plan) es → AllByRecursion (IsGatheredEpoch plan) (thin_after c earlier es)
 thin_each plan c earlier [] h = tt

@@ -46,11 +46,7 @@ new_open {g} {s} {ms} m {shut} h early t e = by (taken_at s xs m) refl where
 pub keeps : (s : GatherSetup) (ms : List Heard) (m : Heard) (shut : Bool) (o : Option ℕ) → closes_first s (timed s ms) m ≡ shut
     → closed_so_far s (timed s (ms ++ m ∷ [])) false ≡ closed_so_far s (timed s ms) shut ++ option_to_list o
     → closed_list_at s (ms ++ m ∷ []) (closed_so_far s (timed s (ms ++ m ∷ [])) false) ≡ closed_list_at s ms (closed_so_far s (timed s ms) shut) ++ closed_list_at s (ms ++ m ∷ []) (option_to_list o)
-keeps s ms m shut o early grown =
-    let ys = timed s (ms ++ m ∷ []) in
-    let before = closed_so_far s (timed s ms) shut in
-    let all = subst (Each (is_shut s ys)) (sym (append-nil (closed_times s ys)) ∙ grown) (each_filter (is_shut s ys) (times ys)) in
-    grind (arith, common_steps, map-append, list-push, closed_later, each_front)
+keeps s ms m shut o early grown = grind (arith, append-nil, each_filter, map-append, list-push, closed_later, each_front)
 
 shut_new : (s : GatherSetup) (ys : List Timed) (before : List ℕ) (t : ℕ) → closed_so_far s ys false ≡ before ++ t ∷ [] → is_shut s ys t ≡ true
 shut_new s ys before t grown = grind (arith, append-nil, each_back, each_filter, each_filter (is_shut s ys) (times ys))

@@ -43,10 +43,4 @@ abbrev no_cells : List ℕ
 no_cells = replicate most_signals 0
 
 pub none_counted : (c : SignalCountsValue) → ((s : System) → value_of s c ≡ no_cells) → AreSignalCounts c []
-none_counted c none = record {
-  size = λ s. ap length (none s) ∙ length-replicate {A = ℕ} most_signals 0;
-  each = λ s i listed. zero_at s i;
-  past = λ s i past. zero_at s i;
-} where
-  zero_at : (s : System) (i : ℕ) → get_or (value_of s c) i 0 ≡ 0
-  zero_at s i = ap (λ (l : List ℕ). get_or l i 0) (none s) ∙ get_or-same 0 most_signals i
+none_counted c none = grind arith

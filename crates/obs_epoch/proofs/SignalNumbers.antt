@@ -219,13 +219,7 @@ valued_msm v is = ap (λ (s : System). listed_cells v.form s (entries (Msm v))) 
 -- Each cell is of a signal.
 no_front : (o : Option HeardCell) → IfSome o (λ y. IsSignal y.signal) → ((g : SignalAt) → IsSignal g → count_of g (filter brings_value (cons_option o [])) ≡ 0) → filter brings_value (cons_option o []) ≡ []
 no_front None listed none = refl
-no_front (Some y) listed none = by (brings_value y) (none y.signal listed) where
-  own : is_of_signal y.signal y ≡ true
-  own = rw (system_self y.signal.system y.signal.system refl, eq-eqb y.signal.index y.signal.index refl) refl
-
-  by : (b : Bool) → count_of y.signal (cond b (y ∷ []) []) ≡ 0 → cond b (y ∷ []) [] ≡ []
-  by true e = absurd (omega (arith, sym e ∙ ap (λ (b : Bool). length (cond b (y ∷ []) [])) own))
-  by false e = refl
+no_front (Some y) listed none = grind arith
 
 seen_signal : (form : Form) (system : System) (e : Entry) → IfSome (seen_in every_channel form system e) (λ y. IsSignal y.signal)
 seen_signal form system e = grind (arith, common_steps, listed_of)

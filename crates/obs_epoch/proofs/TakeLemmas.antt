@@ -46,10 +46,6 @@ assemble {g} {s} {ms} {ts} (Some t) h at closed = record {
   values = h.values;
 }
 
--- An epoch that is closed by a message that isn't passed again is of the greatest time then.
-after_closed : (k : Kind) (b p : Bool) (before after : Option ℕ) (t : ℕ) → is_close_first k ≡ false → closed_of k b p before after ≡ Some t → after ≡ Some t
-after_closed k b p before after t other e = grind (arith, common_steps)
-
 pub not_first : (s : GatherSetup) (xs : List Timed) (n : CellCounts) (m : Heard) → is_close_first (kind_after s xs n m) ≡ false
 not_first s xs n m = grind (arith, common_steps)
 
@@ -127,12 +123,7 @@ times_taken g s ms m shut h early = grind (arith, common_steps, timed-push, clos
 -- That time is the greatest then.
 pub time_taken : {g : GathererValue} {s : GatherSetup} {ms : List Heard} (m : Heard) {shut : Bool} → HasTakenMessages g s ms shut → closes_first s (timed s ms) m ≡ shut
     → (t : ℕ) → closed_time g.clock m ≡ Some t → greatest_time (timed s (ms ++ m ∷ [])) ≡ Some t
-time_taken {g} {s} {ms} m {shut} h early t e =
-    let xs = timed s ms in
-    let was = clock_is g.clock s ms shut h.clock in
-    let kind : (n : CellCounts) → kind_by g.clock n m ≡ kind_after s xs n m = λ n. ap (λ c. kind_by c n m) was ∙ (takes s xs n m shut early).0 in
-    let now : step_by g.clock m ≡ standing s (xs ++ next s xs m ∷ []) false = ap (λ c. step_by c m) was ∙ (takes s xs no_counts m shut early).1 in
-    cc (timed-push s ms m, now, after_closed (kind_by g.clock no_counts m) _ _ _ _ t (ap is_close_first (kind no_counts) ∙ not_first s xs no_counts m) e)
+time_taken {g} {s} {ms} m {shut} h early t e = grind (arith, takes s (timed s ms) no_counts m shut early, timed-push s ms m, not_first s (timed s ms) no_counts m)
 
 pub record Taken (g : GathererValue) (s : GatherSetup) (ms : List Heard) (m : Heard) (shut : Bool) : Type 0 where
   pub kind : (n : CellCounts) → kind_by g.clock n m ≡ kind_after s (timed s ms) n m
@@ -142,17 +133,7 @@ pub record Taken (g : GathererValue) (s : GatherSetup) (ms : List Heard) (m : He
 
 -- A message is processed.
 pub taken : (g : GathererValue) (s : GatherSetup) (ms : List Heard) (m : Heard) (shut : Bool) → HasTakenMessages g s ms shut → closes_first s (timed s ms) m ≡ shut → Taken g s ms m shut
-taken g s ms m shut h early =
-    let xs = timed s ms in
-    let was = clock_is g.clock s ms shut h.clock in
-    let kind : (n : CellCounts) → kind_by g.clock n m ≡ kind_after s xs n m = λ n. ap (λ c. kind_by c n m) was ∙ (takes s xs n m shut early).0 in
-    let r = reached g s ms m shut h early in
-    record {
-      kind = kind;
-      counts = r.counts;
-      after = assemble (closed_time g.clock m) r.mid (time_taken m h early) (times_taken g s ms m shut h early);
-      closed = λ has. (grind arith) ∙ r.mid.held.closing has;
-    }
+taken g s ms m shut h early = grind (arith, common_steps, reached g s ms m shut h early, assemble (closed_time g.clock m) (reached g s ms m shut h early).mid (time_taken m h early) (times_taken g s ms m shut h early))
 
 -- A message with a point has neither a time nor a multiple message bit.
 abbrev pub IsSet : Heard → Type 0
@@ -253,11 +234,7 @@ ended_some g s ms h f = by (greatest_time (timed s ms)) refl where
 
 -- No message follows.
 pub ended : (g : GathererValue) (s : GatherSetup) (ms : List Heard) (shut : Bool) → HasTakenMessages g s ms shut → Ended g s ms shut
-ended g s ms true h = grind (arith, common_steps, ended_by, or-false)
-ended g s ms false h = by g.clock.pending refl where
-  by : (p : Bool) → g.clock.pending ≡ p → Ended g s ms false
-  by true f = ended_some g s ms h f
-  by false f = grind (arith, ended_by, or-false)
+ended g s ms shut h = grind (arith, ended_by, ended_some)
 
 -- A message with a time has no point.
 pub no_point : (s own : GatherSetup) (xs : List Timed) (m : Message) → closes_first s xs (heard_by own m) ≡ true → (heard_by own m).point ≡ None

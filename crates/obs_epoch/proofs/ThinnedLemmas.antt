@@ -26,11 +26,7 @@ last_of w = record { epoch = w.epoch; values = w.values }
 -- It is marked as it is in the list of all.
 marked_is : (w : GathererValue) (c : Choice) (before : List Closed) → w.clock.setup.choice ≡ c → HasListedCells w.epoch → AreMarks c w.marks before → on_grid c w.epoch.time ≡ true
     → (thinned w).epoch ≡ marked_epoch (lost_before c before) w.epoch
-marked_is w c before same listed h at =
-    ap (λ d. if is_some d.interval then carried_to (on_grid d w.epoch.time) w.marks w.epoch else w.epoch) same ∙ by (is_some c.interval) refl where
-      by : (b : Bool) → is_some c.interval ≡ b → (if b then carried_to (on_grid c w.epoch.time) w.marks w.epoch else w.epoch) ≡ marked_epoch (lost_before c before) w.epoch
-      by true some = ap (λ a. carried_to a w.marks w.epoch) at ∙ marks_same (is_lost_in w.marks) (lost_before c before) h.each w.epoch listed
-      by false none = sym (marks_none (lost_before c before) (λ x. none_lost c before x none) w.epoch)
+marked_is w c before same listed h at = grind (arith, marks_same, marks_none, none_lost)
 
 chosen_at : (c : Choice) (t : ℕ) → is_chosen c t ≡ true → on_grid c t ≡ true
 chosen_at c t h = (and_parts (in_window c t) (on_grid c t) h).1

@@ -34,9 +34,7 @@ sorted_after k p e m = grind (arith, common_steps, with_same)
 -- A cell that arrives is held.
 pub held_is : (g : GathererValue) {e : EpochValue} {new : CellLists} (x : HeardCell) {lli : ℕ} {k : Added} → g.epoch ≡ sorted_epoch g.clock.setup.plan e → is_planned g.clock.setup x ≡ true
     → lli ≡ lli_with g.epoch.time x (lookup g.locks x) → IsAdded e.cells (kept_cell x lli) k new → record g { epoch = sorted_epoch g.clock.setup.plan (record e { cells = new }) } ≡ hold g x
-held_is g {e} x {lli} {k} is planned mark added =
-    let p = g.clock.setup.plan in
-    grind (arith, common_steps, sorted_after, held_any, count_same)
+held_is g {e} x {lli} {k} is planned mark added = grind (arith, sorted_after, held_any, count_same)
 
 pub outcome_is : (g : GathererValue) {e : EpochValue} {new : CellLists} (x : HeardCell) (lli : ℕ) {k : Added} → g.epoch ≡ sorted_epoch g.clock.setup.plan e → is_planned g.clock.setup x ≡ true
     → IsAdded e.cells (kept_cell x lli) k new → outcome_of_added k ≡ outcome_in g x
