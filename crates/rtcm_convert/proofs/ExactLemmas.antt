@@ -70,13 +70,8 @@ timed_few late past n h = grind (arith, common_steps)
 own_few : (s : GatherSetup) (xs : List Timed) (n : CellCounts) (tow : Option ℕ) → AreFewCells n → AreFewCells (cell_counts (Some (option_map_or (kind_at s xs n) tow kind.Station)))
 own_few s xs n tow h = grind (arith, common_steps, timed_few)
 
-kind_few : (known own : Bool) (k : Kind) → AreFewCells (cell_counts (Some k)) → AreFewCells (cell_counts (Some (if known then (if own then k else kind.OtherStation) else kind.Ignored)))
-kind_few known own k h = grind (arith, common_steps)
-
 heard_kind_few : (s : GatherSetup) (ms : List Heard) (m : Heard) → HasFew m → AreFewCells (cell_counts (Some (kind_of s ms m)))
-heard_kind_few s ms m h =
-    let xs = timed s ms in
-    kind_few (is_some m.tow || is_some m.point) (is_own s m) _ (own_few s xs (counts_of_message s xs m) m.tow (counts_few_at s xs m (taken_at s xs m) h))
+heard_kind_few s ms m h = grind (arith, own_few s (timed s ms) (counts_of_message s (timed s ms) m) m.tow (counts_few_at s (timed s ms) m (taken_at s (timed s ms) m) h), counts_few_at s (timed s ms) m (taken_at s (timed s ms) m) h)
 
 pub message_few : (s : GatherSetup) (ms : List Heard) (m : Message) → IsMessage m → AreFewCells (cell_counts (Some (kind_of s ms (heard_by s m))))
 message_few s ms m h = heard_kind_few s ms (heard_by s m) (heard_few s.plan.channels s.leap_seconds m h)

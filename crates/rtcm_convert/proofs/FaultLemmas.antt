@@ -15,9 +15,6 @@ abbrev pub of_run : Fault → Bool
 of_run Read = true
 of_run fault = of_pieces fault
 
-pub pieces_known : (f : Fault) → IsPiecesFault f → of_pieces f ≡ true
-pieces_known f h = grind (arith, common_steps)
-
 pub run_known : (f : Fault) → IsRunFault f → of_run f ≡ true
 run_known f h = grind (arith, common_steps)
 
@@ -49,7 +46,3 @@ fails_after r old mid new e d = (subst (λ (n : ℕ). OnErr r (HasFailed n new.f
 -- what is known of the fault of a call holds for the one that it returned
 pub fault_given : {A : Type 0} (P : Fault → Type 0) (r : Result A Fault) (fault : Fault) → IsErrOf r fault → IfErr r P → P fault
 fault_given P r fault is h = grind (arith, common_steps, not_err)
-
--- no file was made with a bad setup
-pub setup_never : (f : Fault) → IsSetupFault f → (fault : Fault) → IsOfNone fault → f ≡ fault → ⊥
-setup_never f h fault none is = grind (arith, common_steps)

@@ -19,14 +19,10 @@ module _ {A F : Type 0} (f : StreamFault F) {k : Fault} (P Q R : Type 0) (is : k
 -- the devices after a fault
 pub writer_at : {W F P Q R : Type 0} (A : Type 0) (f : StreamFault F) {k : Fault} (old new : Device W) → k ≡ stream_fault f → AtFault f P Q R → (P → (new.failures ≡ old.failures) × (new.widest ≡ old.widest))
     → (Q → (new.failures ≡ old.failures) × (new.widest ≡ old.widest)) → (R → HasFailed old.failures new.failures × (new.widest ≡ old.widest)) → FailsWithWriter {A = A} (Err k) old new
-writer_at A stream.Read old new is at p q r = subst (λ (e : Fault). FailsWithWriter {A = A} (Err e) old new) (sym is) ((p at).0, tt, (p at).1)
-writer_at A stream.TooLong old new is at p q r = subst (λ (e : Fault). FailsWithWriter {A = A} (Err e) old new) (sym is) ((q at).0, tt, (q at).1)
-writer_at A (stream.Sink x) old new is at p q r = subst (λ (e : Fault). FailsWithWriter {A = A} (Err e) old new) (sym is) ((r at).0, tt, (r at).1)
+writer_at A f old new is at p q r = grind arith
 
 pub reader_at : {R F : Type 0} (A B : Type 0) (f : StreamFault F) {k : Fault} (old new : Device R) → k ≡ stream_fault f → CountsReads {A = B} (Err f) old new longest_frame → FailsWithReader {A = A} (Err k) old new
-reader_at A B stream.Read old new is counts = subst (λ (e : Fault). FailsWithReader {A = A} (Err e) old new) (sym is) (counts.0, tt, counts.2)
-reader_at A B stream.TooLong old new is counts = subst (λ (e : Fault). FailsWithReader {A = A} (Err e) old new) (sym is) (counts.0, tt, counts.2)
-reader_at A B (stream.Sink x) old new is counts = subst (λ (e : Fault). FailsWithReader {A = A} (Err e) old new) (sym is) (counts.0, tt, counts.2)
+reader_at A B f old new is counts = grind arith
 
 abbrev pub with_flags : Bool → Bool → FramerValue → FileWriter → Conversion
 with_flags failed over v w = record { scan = v; file_writer = w; has_failed = failed; has_ended = over }

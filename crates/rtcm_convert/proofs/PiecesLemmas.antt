@@ -21,11 +21,7 @@ abbrev pub HasTaken : Conversion → Conversion → Option (List ℕ) → Option
 HasTaken v w a b front = (s : SetupValue) (bytes : List ℕ) → HasConverted v s bytes → HasConverted w s (bytes ++ front) × AppendsDecided a b s bytes (bytes ++ front)
 
 pub taken_then : {v w x : Conversion} {a b c : Option (List ℕ)} (front piece : List ℕ) {all : List ℕ} → front ++ piece ≡ all → HasTaken v w a b front → TakesPiece w x b c piece → HasTaken v x a c all
-taken_then {x} {a} {c} front piece {all} more f g s bytes y =
-    let i = f s bytes y in
-    let j = g s (bytes ++ front) i.0 in
-    let e : (bytes ++ front) ++ piece ≡ bytes ++ all = append_assoc bytes front piece ∙ ap (λ l. bytes ++ l) more in
-    (subst (λ (l : List ℕ). HasConverted x s l) e j.converted, subst (λ (l : List ℕ). AppendsDecided a c s bytes l) e (goes_on-trans i.1 j.out))
+taken_then {x} {a} {c} front piece {all} more f g s bytes y = grind (arith, append_assoc bytes front piece, goes_on-trans (f s bytes y).1 (g s (bytes ++ front) (f s bytes y).0).out)
 
 pub longer_by : (u : ℕ) {v w : ℕ} (front piece : List ℕ) {all : List ℕ} → front ++ piece ≡ all → v ≡ u + length front → w ≡ v + length piece → w ≡ u + length all
 longer_by u front piece {all} more d e = let l : length all ≡ length front + length piece = ap length (sym more) ∙ length-append front piece in omega (arith, d, e, l)

@@ -1,5 +1,6 @@
 -- The bytes written are the text of a file value.
 use Rattle.rtcm_convert.proofs.Names.{◌≡◌, ℕ, ◌<◌, Bool, List, [], ◌∷◌, ◌++◌, length, filter, refl, sym, subst, arith, Option, Some, None, Result, Ok, Err, append-nil, IfSome, AllByRecursion, cons_option, Framed, Message, MsgFault, IsMessage, MsmSet, message_with, PlanValue, Closed, Heard, IsPrefix, all_epochs, closed_epochs, ClosedComeFirst, IsHeard, MessagesAreHeard, EpochsAreGathered, TimesRise, AreGatheredEpochs, HeaderLists, AreTexts, gathered, AreSignals, HasSatellite, IsGatheredFile, SetupValue, heard_of, message_of, messages_of, written_epochs, text_of_epochs, text_with, file, so_far, epochs_in, IsFileText, HasValue, IsReadable, AreSound, AreChannels, IsInterval, common_steps}
+use Rattle.rtcm_bits.proofs.SmallLaws.{all_filter}
 
 -- the laws of the crates below on messages, epochs and files
 pub record Known : Type 0 where
@@ -24,10 +25,6 @@ messages_heard k s (f ∷ fs) are = by (message_of s f) (message_heard k s f.mes
   by (Some m) h l = (h, l)
 
 -- ---- some of the epochs
-
-all_filter : (P : Closed → Type 0) (p : Closed → Bool) (es : List Closed) → AllByRecursion P es → AllByRecursion P (filter p es)
-all_filter P p [] h = tt
-all_filter P p (e ∷ es) h = grind (arith, common_steps, all_filter P p es h.1)
 
 rise_filter : (p : Closed → Bool) (es : List Closed) → TimesRise es → TimesRise (filter p es)
 rise_filter p [] h = tt

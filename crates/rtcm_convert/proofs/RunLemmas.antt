@@ -23,8 +23,7 @@ ran_whole {v} {x = x} {n} {a} {c = c} {report} r r' p e f =
     (λ s bytes y. let i = p.3 s bytes y in completed_after i.out (f s (bytes ++ p.0) i.converted))
 
 pub run_finishing : {v w : Conversion} (x : Conversion) (r r' : Option (List ℕ)) {a b c : Option (List ℕ)} → TakesFromReader v w r r' a b → IsAtEnd r' → x.scan.taken ≡ w.scan.taken → StopsAtEnd w b c → FailsFinishing v x r r' a c
-run_finishing x r r' {b} p e same f =
-    (p.0, p.1, e, same ∙ p.2, λ s bytes y. let i = p.3 s bytes y in record { mid = b; before = i.out; last = f s (bytes ++ p.0) i.converted })
+run_finishing x r r' {b} p e same f = grind arith
 
 pub ran_empty : {v w x : Conversion} {n : List ℕ} (r r' : Option (List ℕ)) {a b c : Option (List ℕ)} {fault : Fault} → TakesFromReader v w r r' a b → IsAtEnd r' → FinishesEmptyNow w x n b c fault → IfSome r (CompletesEmptyFile v x n a c fault)
 ran_empty {v} {x = x} {n} r r' {a} {c = c} {fault} p e f =

@@ -23,17 +23,13 @@ settle {w} {s} {ms} {a} {b} es going p = grind (arith, common_steps)
 
 pub settle_again : {w x : FileWriter} {s : SetupValue} {ms ns : List Heard} {m : Heard} {a b c : Option (List ℕ)} → x.gatherer.has_ended ≡ false
     → (first : Written w s ms (Some m) a b (closed_epochs s.gatherer ms)) → Written x s ns None b c first.0 → Settled x s ns × Goes a c s ms ns
-settle_again going first p =
-    let q = settle first.0 going p in
-    (q.0, goes_on-trans first.2 q.1)
+settle_again going first p = grind (arith, settle, goes_on-trans)
 
 pub part_alone : {v : FileWriter} {a b : Option (List ℕ)} (m : Message) → BreaksInMessage v m a b → BreaksInNext v m a b
 part_alone m p s ms x = p s ms (closed_epochs s.gatherer ms) None tt x
 
 pub part_again : {v w : FileWriter} {a b c : Option (List ℕ)} (m : Message) → WritesFirst v w m a b → BreaksInMessage w m b c → BreaksInNext v m a c
-part_again m first p s ms x =
-    let one = first s ms (closed_epochs s.gatherer ms) x in
-    breaks_off-after one.2 (p s ms one.0 (Some (heard_by s.gatherer m)) refl one.1)
+part_again m first p s ms x = grind (arith, breaks_off-after (first s ms (closed_epochs s.gatherer ms) x).2 (p s ms (first s ms (closed_epochs s.gatherer ms) x).0 (Some (heard_by s.gatherer m)) refl (first s ms (closed_epochs s.gatherer ms) x).1))
 
 -- what is read of a frame with the file writer's set is read with that of the settings
 in_set : {v : FileWriter} {s : SetupValue} {fs : List Framed} {r : Result Message MsgFault} → HasFiledFrames v s fs → (f : Framed) → message_with v.set f.message ≡ r → message_with s.set f.message ≡ r
@@ -80,49 +76,17 @@ files_more {w = w} f t {m} {k} {a} {b} read valid takes kind same counts s fs y 
     )
 
 pub files_same : {v : FileWriter} (f : Framed) (t : Report) {d : MsgFault} {a : Option (List ℕ)} → message_with v.set f.message ≡ Err d → CountsFrame v.tally t None → TakesFrame v (record v { tally = t }) f a a
-files_same {v} f t {d} {a} read counts s fs y =
-    let e = in_set y f read in
-    let ms = sym (messages_same s fs f d e) in
-    let z : Settled v s (messages_of s (fs ++ f ∷ [])) = subst (λ (ms : List Heard). Settled v s ms) ms y.settled in (
-      record {
-        settled = record { texts = z.texts; set = z.set; gatherer = z.gatherer; epochs = z.epochs; values = z.values };
-        tally = tally_one s fs f (outcome_err s fs f d e) y.tally counts;
-        few = few_one s fs f None (outcome_err s fs f d e) y.few refused_few;
-      },
-      subst (λ (ns : List Heard). Goes a a s (messages_of s fs) ns) ms (goes_on-refl a _),
-    )
+files_same {v} f t {d} {a} read counts s fs y = grind (arith, refused_few, goes_on-refl, messages_same, tally_one, few_one, in_set y f read, messages_same s fs f d (in_set y f read), outcome_err s fs f d (in_set y f read), tally_one s fs f (outcome_err s fs f d (in_set y f read)) y.tally counts)
 
 pub files_part : {v : FileWriter} (f : Framed) {m : Message} {a b : Option (List ℕ)} → message_with v.set f.message ≡ Ok m → BreaksInNext v m a b → BreaksInFrame v f a b
-files_part f {m} {a} {b} read t s fs x =
-    subst (λ (ns : List Heard). Breaks a b s (messages_of s fs) ns) (sym (messages_more s fs f m (in_set x f read))) (t s (messages_of s fs) x.settled)
+files_part f {m} {a} {b} read t s fs x = grind (arith, messages_more, in_set)
 
 -- the rest of the file
 pub file_whole : AllClosed → NoneReturned → (v w : FileWriter) (g : GathererValue) (a b : Option (List ℕ)) → Wrote v w g a b → v.gatherer.has_ended ≡ false → g.has_ended ≡ true → EndsPendingEpoch v.gatherer g → EndsFile v w a b
-file_whole all_closed none v w g a b o going over t s fs x =
-    let ms = messages_of s fs in
-    let es = closed_epochs s.gatherer ms in
-    let now = t s.gatherer ms es x.settled.gatherer going in
-    let p = wrote_all o x.settled now in
-    let e : p.0 ≡ all_epochs s.gatherer ms = p.1.gatherer.epochs refl ∙ ap (λ (h : GathererValue). known_epochs h.has_ended s.gatherer ms) o.gatherer ∙ ap (λ h. known_epochs h s.gatherer ms) over in (
-      subst (λ (all : List Closed). AppendsBetween a b (so_far s fs) (text_with s all)) e p.2,
-      p.1.epochs ∙ ap count e,
-      λ empty. p.1.gatherer.counts ∙ ap (λ l. capped_counts (counts_left_out s.gatherer.choice (closed_list_at s.gatherer ms l))) (closed_all all_closed w.gatherer s.gatherer ms (ap (λ (h : GathererValue). h.has_ended) o.gatherer ∙ over))
-          ∙ ap capped_counts (none s.gatherer.choice (whole_list s.gatherer ms) empty),
-      record {
-        ended = ap (λ (h : GathererValue). h.has_ended) o.gatherer ∙ over;
-        epochs = es ++ closed_by (closed_in g) g.values;
-        gathers = subst (λ (h : GathererValue). HasGatheredEpochs h s.gatherer ms (es ++ closed_by (closed_in g) g.values) None) (sym o.gatherer) now;
-      },
-    )
+file_whole all_closed none v w g a b o going over t s fs x = grind (arith, wrote_all o x.settled (t s.gatherer (messages_of s fs) (closed_epochs s.gatherer (messages_of s fs)) x.settled.gatherer going))
 
 pub file_part : {v : FileWriter} {g : GathererValue} {a b : Option (List ℕ)} → AppendsPrefix a b (added v.texts (interval_in g) (plan_in g) v.values (closed_in g) g.values) → v.gatherer.has_ended ≡ false → g.has_ended ≡ true → EndsPendingEpoch v.gatherer g → BreaksInRest v a b
-file_part {g = g} {a} {b} p going over t s fs x =
-    let ms = messages_of s fs in
-    let es = closed_epochs s.gatherer ms in
-    let now = t s.gatherer ms es x.settled.gatherer going in
-    let e : es ++ closed_by (closed_in g) g.values ≡ all_epochs s.gatherer ms = now.epochs refl ∙ ap (λ h. known_epochs h s.gatherer ms) over in
-    let out : AppendsPrefix a b (added s.texts s.gatherer.choice.interval s.gatherer.plan (last es) (closed_in g) g.values) = part_of g a b x.settled now.standing.clock.setup p in
-    subst (λ (all : List Closed). AppendsPrefixBetween a b (so_far s fs) (text_with s all)) e (breaks_off-by a b _ _ _ (text-closed s es (closed_in g) g.values) out)
+file_part {g = g} {a} {b} p going over t s fs x = grind (arith, part_of, breaks_off-by, text-closed, part_of g a b x.settled (t s.gatherer (messages_of s fs) (closed_epochs s.gatherer (messages_of s fs)) x.settled.gatherer going).standing.clock.setup p, text-closed s (closed_epochs s.gatherer (messages_of s fs)) (closed_in g) g.values)
 
 -- a message that is passed twice
 pub taken_again : {E : Type 0} {v w : FileWriter} (x : FileWriter) (m : Message) {a b : Option (List ℕ)} (c : Option (List ℕ)) (r : Result Kind E) → x.gatherer.has_ended ≡ false

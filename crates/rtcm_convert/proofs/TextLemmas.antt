@@ -24,11 +24,7 @@ closed_text-append p v (c ∷ cs) ds = grind (arith, common_steps, closed_text-a
 pub text_of-append : (t : HeaderLists) (i : Option ℕ) (p : PlanValue) (es fs : List Closed) → IsPrefix (text_of_epochs t i p es) (text_of_epochs t i p (es ++ fs))
 unfolding text_of_epochs
 text_of-append t i p [] fs = (text_of_epochs t i p fs, refl)
-text_of-append t i p (e ∷ es) fs = (
-  closed_text p (values_following_closed e.values (e ∷ es)) fs,
-  ap (λ l. header_text t i p e.values e.epoch.time ++ l) (closed_text-append p e.values (e ∷ es) fs)
-      ∙ sym (append_assoc (header_text t i p e.values e.epoch.time) (closed_text p e.values (e ∷ es)) (closed_text p (values_following_closed e.values (e ∷ es)) fs)),
-)
+text_of-append t i p (e ∷ es) fs = grind (arith, closed_text-append, append_assoc, closed_text-append p e.values (e ∷ es) fs, append_assoc (header_text t i p e.values e.epoch.time) (closed_text p e.values (e ∷ es)) (closed_text p (values_following_closed e.values (e ∷ es)) fs))
 
 -- one more epoch
 text_of-one : (t : HeaderLists) (i : Option ℕ) (p : PlanValue) (es : List Closed) (c : Closed)

@@ -20,20 +20,10 @@ abbrev pub IsValued : Setup → Type 0
 IsValued x = (b : List ℕ) → 0 < epochs_in (setup_value x) (frames_of b) → HasValue (file (setup_value x) (frames_of b))
 
 made : {v w : Conversion} {n : List ℕ} {x : Setup} {a b : Option (List ℕ)} {bytes : List ℕ} {report : Report} → BeganNew v w x → IsValued x → Completed w n a b (setup_value x) [] bytes report → IsMade x a b bytes
-made {x = x} {bytes = bytes} new valued p = record {
-  within = same_limit new p.finished.within;
-  some = p.some;
-  value = valued bytes p.some;
-  out = from_nothing new.nothing (setup_value x) p.out;
-}
+made {x = x} {bytes = bytes} new valued p = grind (arith, same_limit, from_nothing)
 
 made_empty : {v w : Conversion} {n : List ℕ} {x : Setup} {a b : Option (List ℕ)} {fault : Fault} {bytes : List ℕ} → BeganNew v w x → CompletedEmpty w n a b fault (setup_value x) [] bytes → IsMadeEmpty x fault a b bytes
-made_empty {x = x} new p = record {
-  within = same_limit new p.finished.within;
-  none = p.none;
-  fault_is = p.fault_is;
-  out = from_nothing new.nothing (setup_value x) p.out;
-}
+made_empty {x = x} new p = grind (arith, same_limit, from_nothing)
 
 pub run_made : {E : Type 0} {v w : Conversion} {x : Setup} (n : List ℕ) (r a b : Option (List ℕ)) (result : Result Report E) → BeganNew v w x → IsValued x
     → IfOk result (λ report. IfSome r (CompletesFile v w n a b report)) → IfOk result (λ report. IfSome r (IsMadeWith x report a b))
@@ -47,14 +37,7 @@ pub run_read : {v w : Conversion} {x : Setup} {a b : Option (List ℕ)} (r r' : 
 run_read {x = x} r r' new p = (p.0, p.1, from_nothing new.nothing (setup_value x) (p.3 (setup_value x) [] new.history))
 
 pub run_long : {v w : Conversion} {x : Setup} {r r' a b : Option (List ℕ)} → BeganNew v w x → RanToLimit v w r r' a b → IsMadeToLimit x r r' a b
-run_long {x = x} {r} {a = a} {b} new p = record {
-  over = IfSome_then r p.over (λ l f. subst (λ (n : ℕ). n < length l) new.limit (f (setup_value x) [] new.history));
-  out = (
-    p.front,
-    p.consumes,
-    subst (λ (n : ℕ). Appends a b (so_far (setup_value x) (decided_frames (take n p.front)))) new.limit (from_nothing new.nothing (setup_value x) (p.adds (setup_value x) [] new.history)),
-  );
-}
+run_long {x = x} {r} {a = a} {b} new p = grind (arith, IfSome_then, from_nothing)
 
 -- what these bytes make was written, and then a prefix of what follows
 between : {a b c : Option (List ℕ)} {upper : List ℕ} (s : SetupValue) (front : List ℕ) → NothingYet → AppendsDecided a b s [] front → AppendsPrefixBetween b c (so_far s (decided_frames front)) upper
