@@ -1,5 +1,6 @@
 -- The closed epochs of a list after one more message.
 use Rattle.obs_epoch.proofs.Names.{◌≡◌, ℕ, ◌<◌, ◌≤◌, ◌⊎◌, inl, inr, Bool, true, false, not, ◌||◌, ◌&&◌, List, ◌∷◌, ◌++◌, filter, refl, sym, ap, ap₂, ◌∙◌, subst, arith, Option, Some, None, nat_lt, append_assoc, append-nil, if◌then◌else◌, cond, filter-append, lt-ltb, le-ltb, GatherSetup, Heard, ends_epoch, Timed, max_known, greatest_time, is_closed, taken_at, timed, time_of, is_late, times, is_shut, closed_times, option_map_or, common_steps, AllByRecursion, all_filter, cases_lt, or_right, same_Some, []}
+use Rattle.std.proofs.ByRecursion.{All-append, All-weaker}
 use Rattle.obs_epoch.proofs.TimesLemmas.{greatest-push, greatest-present, greater-absent, none-absent, closed-push, closed-new, next, timed-push}
 use Rattle.obs_epoch.proofs.ClockLemmas.{at_self, Follows, follows, first, greater, equal}
 
@@ -102,8 +103,7 @@ pub closed_is : (s : GatherSetup) (ys : List Timed) (g : ℕ) (init : List ℕ) 
 closed_is s ys g init e is below = grind (arith, common_steps, filter-append, passes_all, or_right, lt-ltb, shut_at)
 
 pub Below-more : (u g : ℕ) (ts : List ℕ) → g < u → Below g ts → Below u (ts ++ g ∷ [])
-Below-more u g [] lt h = (lt, tt)
-Below-more u g (t ∷ ts) lt h = (omega (arith, lt, h.0), Below-more u g ts lt h.1)
+Below-more u g ts lt h = All-append (λ t. t < u) ts (g ∷ []) (All-weaker (λ t. t < g) (λ t. t < u) (λ t below. omega (arith, lt, below)) ts h) (lt, tt)
 
 -- A message that isn't accepted closes the pending epoch if it ends its epoch.
 pub closed-push_none : (s : GatherSetup) (xs : List Timed) (x : Timed) (g : ℕ) → x.time ≡ None → greatest_time xs ≡ Some g

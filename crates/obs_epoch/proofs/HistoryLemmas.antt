@@ -1,5 +1,6 @@
 -- The epochs of a list after one more message, with their station values.
 use Rattle.obs_epoch.proofs.Names.{◌≡◌, ℕ, Bool, true, false, not, List, ◌∷◌, ◌++◌, filter, refl, sym, ap, ap₂, ◌∙◌, subst, arith, Option, Some, None, append_assoc, append-nil, if◌then◌else◌, option_to_list, map-append, GatherSetup, Heard, Timed, greatest_time, is_closed, taken_at, timed, times, is_shut, closed_times, is_pending, option_map_or, IsPrefix, open_after, before_closing, closed_at, closed_list, closed_list_at, whole_list, common_steps, prefix_self, AllByRecursion, all_passed, both_ways, []}
+use Rattle.std.proofs.ByRecursion.{All-weaker, kept_by_passes}
 use Rattle.obs_epoch.proofs.TimesLemmas.{next, timed-push, greatest-push}
 use Rattle.obs_epoch.proofs.ClosedLemmas.{ends, no_times, closed_is, taken_follows, grows_by}
 use Rattle.obs_epoch.proofs.EpochLemmas.{AllLater, IsLater, epoch_at-push, times_before, all_later}
@@ -64,9 +65,6 @@ before-push s t ms m k = grind (arith, common_steps, open_same, open_last, befor
 abbrev pub Each : (ℕ → Bool) → List ℕ → Type 0
 Each p ts = AllByRecursion (λ t. p t ≡ true) ts
 
-pub each_filter : (p : ℕ → Bool) (ts : List ℕ) → Each p (filter p ts)
-each_filter p ts = all_passed (λ t. p t ≡ true) p (λ t e. e) ts
-
 pub each_front : (p : ℕ → Bool) (xs ys : List ℕ) → Each p (xs ++ ys) → Each p xs
 each_front p [] ys h = tt
 each_front p (x ∷ xs) ys h = (h.0, each_front p xs ys h.1)
@@ -85,11 +83,10 @@ list-push s ms m [] later shut = refl
 list-push s ms m (t ∷ ts) later shut = ap₂ (λ a l. a ∷ l) (closed_at-push s ms m t later.0 shut.0) (list-push s ms m ts later.1 shut.1)
 
 each-push : (s : GatherSetup) (ms : List Heard) (m : Heard) (ts : List ℕ) → Each (is_shut s (timed s ms)) ts → Each (is_shut s (timed s (ms ++ m ∷ []))) ts
-each-push s ms m [] h = tt
-each-push s ms m (t ∷ ts) h = (shut-push s t ms m h.0, each-push s ms m ts h.1)
+each-push s ms m ts h = All-weaker (λ t. is_shut s (timed s ms) t ≡ true) (λ t. is_shut s (timed s (ms ++ m ∷ [])) t ≡ true) (λ t. shut-push s t ms m) ts h
 
 pub epochs-push : (s : GatherSetup) (ms : List Heard) (m : Heard) → IsPrefix (closed_list s ms) (closed_list s (ms ++ m ∷ []))
-epochs-push s ms m = grind (arith, map-append (closed_at s (ms ++ m ∷ [])) (closed_times s (timed s ms)) (grows_by s ms m).0, list-push s ms m (closed_times s (timed s ms)) (all_later s (timed s ms) (next s (timed s ms) m) (taken_follows s (timed s ms) m)) (each-push s ms m (closed_times s (timed s ms)) (each_filter (is_shut s (timed s ms)) (times (timed s ms)))))
+epochs-push s ms m = grind (arith, map-append (closed_at s (ms ++ m ∷ [])) (closed_times s (timed s ms)) (grows_by s ms m).0, list-push s ms m (closed_times s (timed s ms)) (all_later s (timed s ms) (next s (timed s ms) m) (taken_follows s (timed s ms) m)) (each-push s ms m (closed_times s (timed s ms)) (kept_by_passes (is_shut s (timed s ms)) (times (timed s ms)))))
 
 pub epochs-more : (s : GatherSetup) (ms more : List Heard) → IsPrefix (closed_list s ms) (closed_list s (ms ++ more))
 epochs-more s ms [] = subst (λ l. IsPrefix (closed_list s ms) (closed_list s l)) (sym (append-nil ms)) (prefix_self (closed_list s ms))

@@ -1,5 +1,6 @@
 -- Bounds of the values of epochs.
-use Rattle.obs_epoch.proofs.Names.{System, Satellite, satellite_of_id, SignalAt, signal_of_id, nearest_pseudorange, nearest_phase, nearest_doppler, nearest_strength, Entry, Message, Station, Msm, Other, IsMessage, IsMeasured, EntriesAreMeasured, PointsAreInRange, entries, StationValues, weeks, Closed, cells_of, planned_of, most_cells, GatherSetup, Heard, heard, observed, seen_in, lock_by, HeardCell, kept_cell, Timed, is_at, timed, timed_after, taken_at, is_of_system, is_planned, offered, firsts_after, firsts, kept, cells_at, has_same_key, times, lli_with, lli_of, has_lost, cells_with_lli, epoch_at, values_after_message, open_after, before_closing, closed_list_at, all_epochs, IsHeardCell, IsHeard, IsGathered, same_place, AreGathered, AreStationValues, IsGatheredEpoch, TimesRise, AreGatheredEpochs, KnownLock, Form, ◌≡◌, ℕ, zero, suc, ℤ, pos, ◌+◌, ◌*◌, ◌^◌, ◌<◌, ◌≤◌, ◌≤ℤ◌, Bool, true, false, List, [], ◌∷◌, ◌++◌, filter, take, ap, arith, Option, Some, None, nat_lt, is_some, unsigned_abs, if◌then◌else◌, flat_map, filter_map, option_map, option_and_then, IfSome, fold, AllByRecursion, IsDistinct, week, most_hertz, AreChannels, ChannelsValue, hertz_in, common_steps, value_tabulated, ◌&&◌, ◌∙◌, map, refl, subst, sym, with_mark, Choice, Cell, PlanValue, has_phase, lost_before, mark_if, marked_after, thin_after, all_append, all_filter, all_passed}
+use Rattle.obs_epoch.proofs.Names.{System, Satellite, satellite_of_id, SignalAt, signal_of_id, nearest_pseudorange, nearest_phase, nearest_doppler, nearest_strength, Entry, Message, Station, Msm, Other, IsMessage, IsMeasured, EntriesAreMeasured, PointsAreInRange, entries, StationValues, weeks, Closed, cells_of, planned_of, most_cells, GatherSetup, Heard, heard, observed, seen_in, lock_by, HeardCell, kept_cell, Timed, is_at, timed, timed_after, taken_at, is_of_system, is_planned, offered, firsts_after, firsts, kept, cells_at, has_same_key, times, lli_with, lli_of, has_lost, cells_with_lli, epoch_at, values_after_message, open_after, before_closing, closed_at, closed_list_at, all_epochs, IsHeardCell, IsHeard, IsGathered, same_place, AreGathered, AreStationValues, IsGatheredEpoch, TimesRise, AreGatheredEpochs, KnownLock, Form, ◌≡◌, ℕ, zero, suc, ℤ, pos, ◌+◌, ◌*◌, ◌^◌, ◌<◌, ◌≤◌, ◌≤ℤ◌, Bool, true, false, List, [], ◌∷◌, ◌++◌, filter, take, ap, arith, Option, Some, None, nat_lt, is_some, unsigned_abs, if◌then◌else◌, flat_map, filter_map, option_map, option_and_then, IfSome, fold, AllByRecursion, IsDistinct, week, most_hertz, AreChannels, ChannelsValue, hertz_in, common_steps, value_tabulated, ◌&&◌, ◌∙◌, map, refl, subst, sym, with_mark, Choice, Cell, PlanValue, has_phase, lost_before, mark_if, marked_after, thin_after, all_append, all_filter, all_passed}
+use Rattle.std.proofs.ByRecursion.{All-map, All-take, All-weaker}
 use Rattle.obs_epoch.proofs.OrderLemmas.{all-sorted, distinct-sorted}
 use Rattle.obs_epoch.proofs.NotingLemmas.{kept_distinct}
 use Rattle.obs_epoch.proofs.TimesLemmas.{next}
@@ -10,11 +11,6 @@ use Rattle.obs_epoch.proofs.TimesLemmas.{next}
 all_both : {X : Type 0} (P : X → Type 0) (p : X → Bool) (xs : List X) → AllByRecursion P xs → AllByRecursion (λ x. P x × (p x ≡ true)) (filter p xs)
 all_both P p [] h = tt
 all_both P p (x ∷ xs) h = grind (arith, common_steps, all_both P p xs h.1)
-
-all_take : {X : Type 0} (P : X → Type 0) (n : ℕ) (xs : List X) → AllByRecursion P xs → AllByRecursion P (take n xs)
-all_take P zero xs h = tt
-all_take P (suc n) [] h = tt
-all_take P (suc n) (x ∷ xs) h = (h.0, all_take P n xs h.1)
 
 -- ---- the parts of a message
 
@@ -111,7 +107,7 @@ abbrev IsKept : GatherSetup → System → HeardCell → Type 0
 IsKept s system x = IsOffered s x × (is_of_system system x ≡ true)
 
 all_kept : (s : GatherSetup) (t : ℕ) (xs : List Timed) (system : System) → AllByRecursion IsTimed xs → AllByRecursion (IsKept s system) (cells_at s t xs system)
-all_kept s t xs system h = grind (arith, all-sorted, all_take, all_both, all_firsts, all_offered, all_filter, all_take (IsKept s system) most_cells (filter (is_of_system system) (firsts (offered s t xs))))
+all_kept s t xs system h = grind (arith, all-sorted, All-take, all_both, all_firsts, all_offered, all_filter, All-take (IsKept s system) most_cells (filter (is_of_system system) (firsts (offered s t xs))))
 
 small_lli : (t : ℕ) (x : HeardCell) (before : Option KnownLock) → lli_with t x before < 4
 small_lli t x before = grind (arith, common_steps)
@@ -164,13 +160,9 @@ each_epoch : (s : GatherSetup) (ms : List Heard) (ts : List ℕ) → AreStationV
 each_epoch s ms [] v h w = tt
 each_epoch s ms (t ∷ ts) v h w = grind (arith, gathered_at s (timed s ms) t (timed_more s [] ms tt h), values_from s s.initial (before_closing s t ms) (open_heard s t [] ms tt h) v, each_epoch s ms ts v h w.1)
 
-all_later : (s : GatherSetup) (ms : List Heard) (t : ℕ) (ts : List ℕ) → AllByRecursion (λ u. t < u) ts → AllByRecursion (λ (f : Closed). t < f.epoch.time) (closed_list_at s ms ts)
-all_later s ms t [] h = tt
-all_later s ms t (u ∷ ts) h = (h.0, all_later s ms t ts h.1)
-
 epochs_rise : (s : GatherSetup) (ms : List Heard) (ts : List ℕ) → Rise ts → TimesRise (closed_list_at s ms ts)
 epochs_rise s ms [] h = tt
-epochs_rise s ms (t ∷ ts) h = (all_later s ms t ts h.0, epochs_rise s ms ts h.1)
+epochs_rise s ms (t ∷ ts) h = (All-map (λ (f : Closed). t < f.epoch.time) (closed_at s ms) ts h.0, epochs_rise s ms ts h.1)
 
 -- ---- the chosen ones, marked
 
@@ -178,8 +170,7 @@ mark_gathered : (lost : Cell → Bool) (system : System) (signals : List ℕ) (x
 mark_gathered lost system signals x h = grind arith
 
 marks_gathered : (lost : Cell → Bool) (system : System) (signals : List ℕ) (xs : List Cell) → AllByRecursion (IsGathered system signals) xs → AllByRecursion (IsGathered system signals) (map (mark_if lost) xs)
-marks_gathered lost system signals [] h = tt
-marks_gathered lost system signals (x ∷ xs) h = (mark_gathered lost system signals x h.0, marks_gathered lost system signals xs h.1)
+marks_gathered lost system signals xs h = All-map (IsGathered system signals) (mark_if lost) xs (All-weaker (IsGathered system signals) (λ x. IsGathered system signals (mark_if lost x)) (mark_gathered lost system signals) xs h)
 
 marks_apart : (lost : Cell → Bool) (xs : List Cell) → IsDistinct same_place xs → IsDistinct same_place (map (mark_if lost) xs)
 unfolding IsDistinct

@@ -1,5 +1,6 @@
 -- A call of the gatherer returns the epoch that the longer list closes.
 use Rattle.obs_epoch.proofs.Names.{◌≡◌, ℕ, Bool, true, false, ◌||◌, ◌&&◌, List, [], ◌∷◌, ◌++◌, refl, sym, ap, ap₂, ◌∙◌, subst, arith, Option, Some, None, is_some, nat_lt, append-nil, if◌then◌else◌, option_to_list, map-append, GatherSetup, Heard, Closed, Timed, is_at, greatest_time, is_closed, taken_at, timed, times, is_shut, closed_times, closed_so_far, values_of, is_pending, closes_first, GathererValue, take_step, end_step, noted, HasTakenMessages, held_at, option_map_or, list_any, closes, IsPrefix, closed_at, closed_list, closed_list_at, closed_so_far_of, closed_by, returned_epoch, is_done, whole_list, HasGatheredEpochs, thinned_if, State, step_by, common_steps, prefix_self, same_Some, and_parts}
+use Rattle.std.proofs.ByRecursion.{kept_by_passes}
 use Rattle.obs_epoch.proofs.ThinnedLemmas.{Before, closed_one, thinned_gathers}
 use Rattle.obs_epoch.proofs.TimesLemmas.{next, timed-push, greater-absent, none-absent}
 use Rattle.obs_epoch.proofs.ClockLemmas.{Follows, first, greater, equal, new_time, same_time, standing as standing_at, takes}
@@ -7,7 +8,7 @@ use Rattle.obs_epoch.proofs.ClosedLemmas.{taken_follows}
 use Rattle.obs_epoch.proofs.ClosingLemmas.{closing, refused}
 use Rattle.obs_epoch.proofs.OneStepLemmas.{closed_later}
 use Rattle.obs_epoch.proofs.TakeLemmas.{taken, closes_it, ended, Ended, times_taken, time_taken, IsSet, no_point_given, same_values, clock_stepped, counts_stepped, handed_is, ended_is, marks_stepped, clock_is}
-use Rattle.obs_epoch.proofs.HistoryLemmas.{each_filter, each_front, each_back, list-push, before_all, before-push, pending_open, with_pending, Each}
+use Rattle.obs_epoch.proofs.HistoryLemmas.{each_front, each_back, list-push, before_all, before-push, pending_open, with_pending, Each}
 
 -- ---- which epoch is new
 
@@ -46,10 +47,10 @@ new_open {g} {s} {ms} m {shut} h early t e = by (taken_at s xs m) refl where
 pub keeps : (s : GatherSetup) (ms : List Heard) (m : Heard) (shut : Bool) (o : Option ℕ) → closes_first s (timed s ms) m ≡ shut
     → closed_so_far s (timed s (ms ++ m ∷ [])) false ≡ closed_so_far s (timed s ms) shut ++ option_to_list o
     → closed_list_at s (ms ++ m ∷ []) (closed_so_far s (timed s (ms ++ m ∷ [])) false) ≡ closed_list_at s ms (closed_so_far s (timed s ms) shut) ++ closed_list_at s (ms ++ m ∷ []) (option_to_list o)
-keeps s ms m shut o early grown = grind (arith, append-nil, each_filter, map-append, list-push, closed_later, each_front)
+keeps s ms m shut o early grown = grind (arith, append-nil, kept_by_passes, map-append, list-push, closed_later, each_front)
 
 shut_new : (s : GatherSetup) (ys : List Timed) (before : List ℕ) (t : ℕ) → closed_so_far s ys false ≡ before ++ t ∷ [] → is_shut s ys t ≡ true
-shut_new s ys before t grown = grind (arith, append-nil, each_back, each_filter, each_filter (is_shut s ys) (times ys))
+shut_new s ys before t grown = grind (arith, append-nil, each_back, kept_by_passes, kept_by_passes (is_shut s ys) (times ys))
 
 -- The epoch that a step closes.
 new_closed : {g : GathererValue} {s : GatherSetup} {ms : List Heard} (m : Heard) {shut : Bool} → HasTakenMessages g s ms shut → closes_first s (timed s ms) m ≡ shut → IsSet m
