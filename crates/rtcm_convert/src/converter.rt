@@ -20,6 +20,7 @@ ghost use Rattle.rtcm_convert.specs.Conversion.{refusal, CompletesFile, Complete
 ghost use Rattle.rtcm_convert.specs.Conversion.{CompletesEmptyFileOfAll, RanToFault, RanToLimit, StopsRunning};
 ghost use Rattle.rtcm_convert.specs.inner.Conversion.{KeepsNow, GoesOnBy, TakesPiece, WritesPrefixOfAdded, StopsAtEnd};
 ghost use Rattle.rtcm_convert.specs.inner.Conversion.{FinishesNow, FinishesEmptyNow};
+ghost use Rattle.rtcm_convert.specs.inner.Steps.{WritesBytes};
 ghost use Rattle.rtcm_convert.specs.Broken.{joined_pieces};
 ghost use Rattle.rtcm_convert.specs.Pieces.{StopsInPieces};
 
@@ -183,8 +184,7 @@ impl Converter {
             → FinishesEmptyNow self.old self.new (W.waiting writer.new.inner) (W.contents writer.old.inner)
             (W.contents writer.new.inner) fault }
         // A prefix of the rest of the file was written.
-        ensures part { IsErrOf result Fault.Write
-            → StopsAtEnd self.old (W.contents writer.old.inner) (W.contents writer.new.inner) }
+        ensures part { IsErrOf result Fault.Write → WritesBytes W.contents writer.old writer.new (StopsAtEnd self.old) }
         // Nothing waits in the writer, unless it failed.
         ensures sent { IsSentAfter result (W.waiting writer.old.inner) (W.waiting writer.new.inner) }
         ensures device { FailsWithWriter result writer.old writer.new }

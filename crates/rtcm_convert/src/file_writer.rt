@@ -7,7 +7,7 @@ ghost use Rattle.rtcm_convert.specs.SetupValues.{setup_value, IsBadStart};
 ghost use Rattle.rtcm_convert.specs.Filed.{HasFiledFrames, opening_of, added_by, HasCountedClosed};
 ghost use Rattle.rtcm_convert.specs.inner.Steps.{IsCloseFirst, IsFinalKind, WritesFirst, TakesMessage, IsTakenAgain};
 ghost use Rattle.rtcm_convert.specs.inner.Steps.{IsKindOf, BreaksInMessage, TakesNext, IsKindOfNext, BreaksInNext};
-ghost use Rattle.rtcm_convert.specs.inner.Steps.{EndsFile, BreaksInRest};
+ghost use Rattle.rtcm_convert.specs.inner.Steps.{EndsFile, BreaksInRest, WritesBytes};
 ghost use Rattle.rtcm_scan.specs.Examined.{HasExaminedSome};
 ghost use Rattle.rtcm_convert.specs.inner.Stream.{Files, BreaksFiling, HasDrainedSome, EndsBytes, BreaksAtEndOf};
 
@@ -124,20 +124,16 @@ impl FileWriter {
     ) -> Result<Kind, DeviceFailed>
         requires { self.old.gatherer.has_ended ≡ false }
         // The message is to be passed again.
-        ensures first { IfOk result
-            (λ kind. IsCloseFirst kind → WritesFirst self.old self.new (viewed_message message.now)
-            (W.contents writer.old.inner) (W.contents writer.new.inner)) }
+        ensures first { IfOk result (λ kind. IsCloseFirst kind → WritesBytes W.contents writer.old writer.new
+            (WritesFirst self.old self.new (viewed_message message.now))) }
         // It was accepted.
-        ensures taken { IfOk result
-            (λ kind. IsFinalKind kind → TakesMessage self.old self.new (viewed_message message.now)
-            (W.contents writer.old.inner) (W.contents writer.new.inner)) }
+        ensures taken { IfOk result (λ kind. IsFinalKind kind → WritesBytes W.contents writer.old writer.new
+            (TakesMessage self.old self.new (viewed_message message.now))) }
         ensures again { IfOk result (λ kind. IsTakenAgain self.old (viewed_message message.now) kind) }
-        ensures kind { IfOk result
-            (λ kind. IsFinalKind kind → IsKindOf self.old (viewed_message message.now) kind) }
+        ensures kind { IfOk result (λ kind. IsFinalKind kind → IsKindOf self.old (viewed_message message.now) kind) }
         ensures same { self.new.tally ≡ self.old.tally }
-        ensures part { OnErr result
-            (BreaksInMessage self.old (viewed_message message.now) (W.contents writer.old.inner)
-            (W.contents writer.new.inner)) }
+        ensures part { OnErr result (WritesBytes W.contents writer.old writer.new
+            (BreaksInMessage self.old (viewed_message message.now))) }
         ensures device { FailsWith result writer.old writer.new }
         ensures ended { self.new.gatherer.has_ended ≡ false }
     {
@@ -155,14 +151,12 @@ impl FileWriter {
         writer: &mut Counted<W>,
     ) -> Result<Kind, DeviceFailed>
         requires { self.old.gatherer.has_ended ≡ false }
-        ensures whole { OnOk result
-            (TakesNext self.old self.new (viewed_message message.now) (W.contents writer.old.inner)
-            (W.contents writer.new.inner)) }
+        ensures whole { OnOk result (WritesBytes W.contents writer.old writer.new
+            (TakesNext self.old self.new (viewed_message message.now))) }
         ensures kind { IfOk result (λ kind. IsKindOfNext self.old (viewed_message message.now) kind) }
         ensures same { self.new.tally ≡ self.old.tally }
-        ensures part { OnErr result
-            (BreaksInNext self.old (viewed_message message.now) (W.contents writer.old.inner)
-            (W.contents writer.new.inner)) }
+        ensures part { OnErr result (WritesBytes W.contents writer.old writer.new
+            (BreaksInNext self.old (viewed_message message.now))) }
         ensures device { FailsWith result writer.old writer.new }
         ensures ended { self.new.gatherer.has_ended ≡ false }
     {
@@ -176,11 +170,9 @@ impl FileWriter {
     /// Writes the rest of the file, and delivers it.
     pub(crate) fn end<W: Deliver>(&mut self, writer: &mut Counted<W>) -> Result<(), DeviceFailed>
         requires { self.old.gatherer.has_ended ≡ false }
-        ensures whole { OnOk result
-            (EndsFile self.old self.new (W.contents writer.old.inner) (W.contents writer.new.inner)) }
+        ensures whole { OnOk result (WritesBytes W.contents writer.old writer.new (EndsFile self.old self.new)) }
         ensures same { self.new.tally ≡ self.old.tally }
-        ensures part { OnErr result
-            (BreaksInRest self.old (W.contents writer.old.inner) (W.contents writer.new.inner)) }
+        ensures part { OnErr result (WritesBytes W.contents writer.old writer.new (BreaksInRest self.old)) }
         ensures device { FailsWith result writer.old writer.new }
         ensures sent { OnOk result (W.waiting writer.new.inner ≡ []) }
         ensures ended { self.new.gatherer.has_ended ≡ true }
@@ -235,11 +227,10 @@ pub(crate) fn end_stream<W: Deliver>(
     requires going { file_writer.old.gatherer.has_ended ≡ false }
     requires listening { framer.old.has_ended ≡ false }
     requires some { HasDrainedSome framer.old }
-    ensures whole { OnOk result
-        (EndsBytes framer.old file_writer.old framer.new file_writer.new (W.contents writer.old.inner)
-        (W.contents writer.new.inner)) }
-    ensures part { OnErr result
-        (BreaksAtEndOf framer.old file_writer.old (W.contents writer.old.inner) (W.contents writer.new.inner)) }
+    ensures whole { OnOk result (WritesBytes W.contents writer.old writer.new
+        (EndsBytes framer.old file_writer.old framer.new file_writer.new)) }
+    ensures part { OnErr result (WritesBytes W.contents writer.old writer.new
+        (BreaksAtEndOf framer.old file_writer.old)) }
     ensures device { FailsWith result writer.old writer.new }
     ensures sent { OnOk result (W.waiting writer.new.inner ≡ []) }
     ensures some { HasExaminedSome framer.new }
