@@ -1,5 +1,5 @@
 -- The closed epochs of a list after one more message.
-use Rattle.obs_epoch.proofs.Names.{◌≡◌, ℕ, ◌<◌, ◌≤◌, ◌⊎◌, inl, inr, Bool, true, false, not, ◌||◌, ◌&&◌, List, ◌∷◌, ◌++◌, filter, refl, sym, ap, ap₂, ◌∙◌, subst, arith, Option, Some, None, nat_lt, append_assoc, append-nil, if◌then◌else◌, cond, filter-append, lt-ltb, le-ltb, GatherSetup, Heard, ends_epoch, Timed, max_known, greatest_time, is_closed, taken_at, timed, time_of, is_late, times, is_shut, closed_times, option_map_or, common_steps, AllByRecursion, all_filter, cases_lt, or_right, same_Some, []}
+use Rattle.obs_epoch.proofs.Names.{◌≡◌, ℕ, ◌<◌, ◌≤◌, ◌⊎◌, inl, inr, Bool, true, false, not, ◌&&◌, List, ◌∷◌, ◌++◌, filter, refl, ap, ap₂, ◌∙◌, subst, arith, Option, Some, None, nat_lt, append_assoc, append-nil, if◌then◌else◌, cond, filter-append, lt-ltb, le-ltb, GatherSetup, Heard, ends_epoch, Timed, max_known, greatest_time, is_closed, taken_at, timed, time_of, is_late, times, is_shut, closed_times, option_map_or, common_steps, AllByRecursion, all_filter, cases_lt, or_right, same_Some, []}
 use Rattle.std.proofs.ByRecursion.{All-append, All-weaker}
 use Rattle.obs_epoch.proofs.TimesLemmas.{greatest-push, greatest-present, greater-absent, none-absent, closed-push, closed-new, next, timed-push}
 use Rattle.obs_epoch.proofs.ClockLemmas.{at_self, Follows, follows, first, greater, equal}

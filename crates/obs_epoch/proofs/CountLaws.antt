@@ -1,5 +1,5 @@
 -- How many cells of a message can lack a channel.
-use Rattle.obs_epoch.proofs.Names.{◌≡◌, ◌+◌, ◌≤◌, Bool, not, ◌||◌, List, [], ◌∷◌, ◌++◌, arith, length, append_assoc, append-nil, nat_le, if◌then◌else◌, ap, refl, GatherSetup, HeardCell, is_among, kept, kept_without, lacks_channel, most_cells}
+use Rattle.obs_epoch.proofs.Names.{◌≡◌, ◌+◌, ◌≤◌, Bool, List, [], ◌∷◌, ◌++◌, arith, length, append_assoc, append-nil, nat_le, if◌then◌else◌, ap, refl, GatherSetup, HeardCell, is_among, kept, kept_without, most_cells}
 use Rattle.obs_epoch.proofs.CountsLemmas.{without-push}
 
 at_most_one : (a b : Bool) → (if a then (if b then 1 else 0) else 0) ≤ 1

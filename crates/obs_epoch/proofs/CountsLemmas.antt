@@ -1,5 +1,5 @@
 -- Counting cell by cell gives the counts of the whole message.
-use Rattle.obs_epoch.proofs.Names.{◌≡◌, ℕ, ◌+◌, ◌≤◌, Bool, true, false, not, ◌||◌, ◌&&◌, List, [], ◌∷◌, ◌++◌, filter, refl, sym, ap, ap₂, ◌∙◌, subst, arith, length, append_assoc, append-nil, length-append, nat_le, if◌then◌else◌, cond, count_by, length-take-le, take_all, flat_map, systems, system_same, any_system, sum_grown, sum_by-cons, System, is_system, list_any, Crowded, Kept, Repeated, Skipped, count_in, GatherSetup, HeardCell, no_counts, counts_of, is_of_system, is_among, kept, kept_of_all, kept_without, lacks_channel, is_planned, has_same_key, most_cells, CellCounts, common_steps, or-false, sum_by_push, list_any-append}
+use Rattle.obs_epoch.proofs.Names.{◌≡◌, ℕ, ◌+◌, ◌≤◌, Bool, true, false, not, ◌||◌, ◌&&◌, List, [], ◌∷◌, ◌++◌, filter, refl, sym, ap, ◌∙◌, subst, arith, length, append_assoc, append-nil, length-append, nat_le, if◌then◌else◌, cond, count_by, length-take-le, take_all, flat_map, systems, system_same, any_system, sum_grown, sum_by-cons, System, is_system, list_any, Crowded, Kept, Repeated, Skipped, count_in, GatherSetup, HeardCell, no_counts, counts_of, is_of_system, is_among, kept, kept_of_all, kept_without, lacks_channel, is_planned, has_same_key, most_cells, CellCounts, common_steps, or-false, sum_by_push, list_any-append}
 use Rattle.std.proofs.lemmas.List.Concat.{length-flat_map}
 use Rattle.obs_epoch.proofs.CellsLemmas.{kept-add, mine, mine-among, among-push, key_system, same_key_laws}
 use Rattle.obs_epoch.proofs.NotingLemmas.{kept_apart}

@@ -1,5 +1,5 @@
 -- The epochs of a list after one more message, with their station values.
-use Rattle.obs_epoch.proofs.Names.{◌≡◌, ℕ, Bool, true, false, not, List, ◌∷◌, ◌++◌, filter, refl, sym, ap, ap₂, ◌∙◌, subst, arith, Option, Some, None, append_assoc, append-nil, if◌then◌else◌, option_to_list, map-append, GatherSetup, Heard, Timed, greatest_time, is_closed, taken_at, timed, times, is_shut, closed_times, is_pending, option_map_or, IsPrefix, open_after, before_closing, closed_at, closed_list, closed_list_at, whole_list, common_steps, prefix_self, AllByRecursion, all_passed, both_ways, []}
+use Rattle.obs_epoch.proofs.Names.{◌≡◌, ℕ, Bool, true, false, not, List, ◌∷◌, ◌++◌, refl, sym, ap, ap₂, ◌∙◌, subst, arith, Option, Some, None, append_assoc, append-nil, if◌then◌else◌, option_to_list, map-append, GatherSetup, Heard, Timed, greatest_time, is_closed, taken_at, timed, times, is_shut, closed_times, is_pending, option_map_or, IsPrefix, open_after, before_closing, closed_at, closed_list, closed_list_at, whole_list, common_steps, prefix_self, AllByRecursion, both_ways, []}
 use Rattle.std.proofs.ByRecursion.{All-weaker, kept_by_passes}
 use Rattle.obs_epoch.proofs.TimesLemmas.{next, timed-push, greatest-push}
 use Rattle.obs_epoch.proofs.ClosedLemmas.{ends, no_times, closed_is, taken_follows, grows_by}

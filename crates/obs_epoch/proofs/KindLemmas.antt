@@ -1,6 +1,6 @@
 -- The outcome of a message: whether it is expected again.
-use Rattle.obs_epoch.proofs.Names.{◌≡◌, Bool, true, false, List, refl, sym, ap, ◌∙◌, subst, arith, Option, Some, None, is_some, GatherSetup, Heard, Closed, timed, State, closes_first, kind_by, is_close_first, kind_of, with_counts, no_counts, GathererValue, take_step, HasTakenMessages, HasGatheredEpochs, IsAwaited, CellCounts, common_steps}
-use Rattle.obs_epoch.proofs.TakeLemmas.{taken, closes_it, not_first}
+use Rattle.obs_epoch.proofs.Names.{◌≡◌, true, false, List, ap, ◌∙◌, subst, arith, Option, Some, None, is_some, GatherSetup, Heard, Closed, timed, State, closes_first, kind_by, is_close_first, kind_of, with_counts, no_counts, GathererValue, take_step, HasTakenMessages, HasGatheredEpochs, IsAwaited, CellCounts, common_steps}
+use Rattle.obs_epoch.proofs.TakeLemmas.{taken, not_first}
 use Rattle.obs_epoch.proofs.ReturnedLemmas.{not_done}
 
 -- The counts are only in the outcome of an accepted message.

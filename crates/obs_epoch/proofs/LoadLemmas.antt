@@ -1,6 +1,5 @@
 -- The cells of one more message, kept one by one, are the kept cells of the longer list.
-use Rattle.obs_epoch.proofs.Names.{[], ◌≡◌, ℕ, Bool, true, false, ◌||◌, List, ◌∷◌, ◌++◌, filter, refl, sym, ap, ap₂, ◌∙◌, arith, length, append_assoc, append-nil, Option, nat_le, if◌then◌else◌, cond, System, CellOutcome, Crowded, Kept, Repeated, Skipped, count_in, lookup, outcome_by, outcome_of, outcome_of_added, is_held, GatherSetup, HeardCell, kept_cell, is_among, kept, is_planned, lacks_channel, has_same_key, lli_with, GathererValue, with_more, outcome_in, hold, hold_by, load, PlanValue, planned_of, most_cells, EpochValue, cells_of, insert_by, sort_key_of, sorted, cell_sort_key, Cell, KnownLock, CellCounts, tabulate, value_tabulated, system_same, system_self, common_steps, map, length-map}
-use Rattle.gnss_obs.specs.declared.epoch_cells.Added.TheVariants as added
+use Rattle.obs_epoch.proofs.Names.{[], ◌≡◌, ℕ, Bool, true, false, ◌||◌, List, ◌∷◌, ◌++◌, filter, refl, sym, ap, ap₂, ◌∙◌, arith, length, append_assoc, append-nil, Option, nat_le, if◌then◌else◌, cond, System, CellOutcome, Crowded, Kept, Repeated, Skipped, count_in, lookup, outcome_of, is_held, GatherSetup, HeardCell, kept_cell, is_among, kept, is_planned, lacks_channel, has_same_key, lli_with, GathererValue, with_more, outcome_in, hold, hold_by, load, PlanValue, planned_of, most_cells, EpochValue, cells_of, insert_by, sort_key_of, sorted, cell_sort_key, Cell, KnownLock, CellCounts, tabulate, system_same, system_self, common_steps, map, length-map}
 use Rattle.obs_epoch.proofs.CellsLemmas.{kept-add}
 use Rattle.obs_epoch.proofs.OrderLemmas.{among-sorted, length-sorted}
 

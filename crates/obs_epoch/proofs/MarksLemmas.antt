@@ -1,5 +1,5 @@
 -- The entries of lost lock after one more epoch.
-use Rattle.obs_epoch.proofs.Names.{◌≡◌, ℕ, zero, suc, ◌+◌, ◌==◌, ◌%◌, ◌<◌, Bool, true, false, not, ◌&&◌, ◌||◌, List, ◌∷◌, ◌++◌, map, flat_map, length, get_or, set, refl, sym, ap, ◌∙◌, subst, arith, is_some, if◌then◌else◌, length-set, list_any, length-replicate, common_steps, value_after, value_tabulated, systems, Choice, on_grid, any_loss, carried_from, has_loss, mark_at, no_marks, note_losses, note_lost, note_systems_lost, with_mark_in, AreMarks, is_lost_in, Cell, Closed, EpochValue, System, cells_of, has_listed_key, has_same_key, heard_cell, lock_place, most_locks, all_cells, has_cell, has_phase, is_marked, lost_before, mark_if, marked_epoch, marked_at, marked_in, with_mark, with_value_of, or-false, all_append, get_or-set_same, get_or-set_other, list_any-append, get_or-same, []}
+use Rattle.obs_epoch.proofs.Names.{◌≡◌, ℕ, zero, suc, ◌+◌, ◌==◌, ◌%◌, ◌<◌, Bool, true, false, not, ◌&&◌, ◌||◌, List, ◌∷◌, ◌++◌, map, flat_map, length, get_or, set, refl, sym, ap, ◌∙◌, subst, arith, is_some, if◌then◌else◌, length-set, list_any, length-replicate, common_steps, value_after, value_tabulated, systems, Choice, on_grid, any_loss, carried_from, has_loss, mark_at, no_marks, note_losses, note_lost, note_systems_lost, with_mark_in, AreMarks, is_lost_in, Cell, Closed, EpochValue, System, cells_of, has_listed_key, has_same_key, heard_cell, lock_place, most_locks, all_cells, has_cell, has_phase, is_marked, lost_before, mark_if, marked_epoch, marked_at, marked_in, with_mark, with_value_of, or-false, all_append, list_any-append, get_or-same, []}
 use Rattle.obs_epoch.proofs.ThinLemmas.{AllListedCells, HasListedCells, no_phase, none_lost, after-push}
 use Rattle.obs_epoch.proofs.TimesLemmas.{list_any-push}
 

@@ -1,5 +1,5 @@
 -- A closing: the locks of the pending epoch are recorded.
-use Rattle.obs_epoch.proofs.Names.{◌≡◌, ℕ, true, false, List, [], ◌∷◌, ◌++◌, filter, refl, sym, ap, ap₂, ◌∙◌, subst, arith, length, append_assoc, append-nil, Option, Some, None, flat_map, find, option_and_then, filter_map, unwrap_or, fold, ◌||◌, Bool, if◌then◌else◌, option_or, IsDistinct, cons_option, list_any, systems, system_same, any_system, note_systems, filter-append, flat_map-append, IsDistinct-push, System, is_system, GatherSetup, HeardCell, Timed, is_at, is_of_system, has_listed_key, is_planned, is_among, kept, cells_at, add, offered, has_same_key, planned_of, EpochValue, lock_of, locked_at, latest_in, last_of, is_locked, cells_with_lli, epoch_at, lookup, note_all, most_locks, TracksLocks, GathererValue, noted, locked_in, Locked, Cell, KnownLock, common_steps, all_append, all_passed, filter_map-append}
+use Rattle.obs_epoch.proofs.Names.{◌≡◌, ℕ, true, false, List, [], ◌∷◌, ◌++◌, filter, refl, sym, ap, ap₂, ◌∙◌, subst, arith, length, append_assoc, append-nil, Option, Some, None, flat_map, find, option_and_then, unwrap_or, fold, ◌||◌, Bool, if◌then◌else◌, option_or, IsDistinct, cons_option, list_any, systems, system_same, any_system, note_systems, filter-append, flat_map-append, IsDistinct-push, System, is_system, GatherSetup, HeardCell, Timed, is_at, is_of_system, has_listed_key, is_planned, is_among, kept, cells_at, add, offered, has_same_key, planned_of, EpochValue, lock_of, locked_at, latest_in, last_of, is_locked, cells_with_lli, epoch_at, lookup, note_all, most_locks, TracksLocks, GathererValue, noted, locked_in, Locked, Cell, KnownLock, common_steps, all_append, all_passed, filter_map-append}
 use Rattle.obs_epoch.proofs.OrderLemmas.{among-sorted, all-sorted, distinct-sorted}
 use Rattle.obs_epoch.proofs.CellsLemmas.{kept-add, same_key_laws}
 use Rattle.obs_epoch.proofs.LockLemmas.{seens, lookup-note_all, note_all_size, tracks_all, locked, find_none, AllListed}

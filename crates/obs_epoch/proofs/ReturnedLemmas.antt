@@ -8,7 +8,7 @@ use Rattle.obs_epoch.proofs.ClosedLemmas.{taken_follows}
 use Rattle.obs_epoch.proofs.ClosingLemmas.{closing, refused}
 use Rattle.obs_epoch.proofs.OneStepLemmas.{closed_later}
 use Rattle.obs_epoch.proofs.TakeLemmas.{taken, closes_it, ended, Ended, times_taken, time_taken, IsSet, no_point_given, same_values, clock_stepped, counts_stepped, handed_is, ended_is, marks_stepped, clock_is}
-use Rattle.obs_epoch.proofs.HistoryLemmas.{each_front, each_back, list-push, before_all, before-push, pending_open, with_pending, Each}
+use Rattle.obs_epoch.proofs.HistoryLemmas.{each_front, each_back, list-push, before_all, before-push, pending_open, with_pending}
 
 -- ---- which epoch is new
 

@@ -1,5 +1,5 @@
 -- The counts of the cells with a value, and of those of a message.
-use Rattle.obs_epoch.proofs.Names.{System, Satellite, SignalAt, LockTime, Entry, Heard, seen_in, observed, HeardCell, SignalCountsValue, brings_value, is_of_signal, count_of, AreSignalCounts, cons_option, Form, satellite_of_id, every_channel, hertz_by, hertz_in, number_at, slot_count, IsSatellite, satellites, Glonass, ◌<◌, ◌-◌, None, true, refl, get_or-replicate, length-replicate, most_signals, value_of, ◌≡◌, ◌∙◌, ap, get_or, replicate, ℕ, ◌≤◌, List, [], ◌++◌, length, arith, Option, Some, filter, is_some, filter_map, unwrap_or, common_steps, length-filter-le, length-filter_map-le, get_or-same, CountsMessage}
+use Rattle.obs_epoch.proofs.Names.{System, Satellite, SignalAt, LockTime, Entry, Heard, seen_in, observed, HeardCell, SignalCountsValue, brings_value, is_of_signal, count_of, AreSignalCounts, cons_option, Form, satellite_of_id, every_channel, hertz_by, hertz_in, number_at, slot_count, IsSatellite, satellites, Glonass, ◌<◌, ◌-◌, None, true, refl, get_or-replicate, most_signals, value_of, ◌≡◌, get_or, replicate, ℕ, ◌≤◌, List, [], ◌++◌, length, arith, Option, Some, filter, is_some, filter_map, unwrap_or, common_steps, length-filter-le, length-filter_map-le, CountsMessage}
 use Rattle.rtcm_msg.specs.inner.Presences.{has_value}
 
 -- ---- the cells of a signal

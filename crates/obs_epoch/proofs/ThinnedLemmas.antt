@@ -1,5 +1,5 @@
 -- The epoch closed last, as it is returned.
-use Rattle.obs_epoch.proofs.Names.{◌≡◌, ℕ, Bool, true, false, ◌||◌, ◌&&◌, List, [], ◌∷◌, ◌++◌, refl, sym, ap, ap₂, ◌∙◌, subst, Option, Some, None, is_some, IfSome, nat_lt, not, append-nil, if◌then◌else◌, option_to_list, arith, value_tabulated, IsPrefix, satellites_written, Choice, in_window, is_chosen, on_grid, closes_first, is_pending, closed_by, closed_list, closed_list_at, closed_so_far_of, is_done, known_epochs, returned_epoch, whole_list, HasGatheredEpochs, thinned, thinned_if, carried_from, carried_to, counted_epoch, AreMarks, capped_counts, is_lost_in, Cell, Closed, GatherSetup, GathererValue, HasTakenMessages, Heard, Timed, closed_so_far, held_at, timed, counts_left_out, lost_before, marked_epoch, thin, and_parts}
+use Rattle.obs_epoch.proofs.Names.{◌≡◌, ℕ, Bool, true, false, ◌||◌, ◌&&◌, List, [], ◌∷◌, ◌++◌, refl, sym, ap, ap₂, ◌∙◌, subst, Option, Some, None, is_some, IfSome, nat_lt, not, append-nil, if◌then◌else◌, option_to_list, arith, value_tabulated, IsPrefix, satellites_written, Choice, in_window, is_chosen, on_grid, closes_first, is_pending, closed_by, closed_list, closed_list_at, closed_so_far_of, is_done, known_epochs, returned_epoch, whole_list, HasGatheredEpochs, thinned, thinned_if, carried_from, counted_epoch, AreMarks, capped_counts, Cell, Closed, GatherSetup, GathererValue, HasTakenMessages, Heard, Timed, closed_so_far, held_at, timed, counts_left_out, lost_before, marked_epoch, thin, and_parts}
 use Rattle.obs_epoch.proofs.LockLemmas.{AllListed, seens}
 use Rattle.obs_epoch.proofs.MarksLemmas.{marks_push}
 use Rattle.obs_epoch.proofs.NotingLemmas.{are_listed}

@@ -101,8 +101,7 @@ impl Gatherer {
         ensures history { IfOk result (λ g. HasGatheredEpochs g setup [] [] None) }
         ensures going { IfOk result (λ g. g.has_ended ≡ false) }
         ensures none { IfOk result (λ g. closed_in g ≡ None) }
-        ensures accepted { IsOk result
-            → (is_no_week setup.start ≡ false) × (is_no_station setup.station ≡ false) }
+        ensures accepted { IsOk result → (is_no_week setup.start ≡ false) × (is_no_station setup.station ≡ false) }
         ensures week { (result ≡ Err PlanFault.BadWeek) ↔ (is_no_week setup.start ≡ true) }
         ensures station { (result ≡ Err PlanFault.BadStation)
             ↔ ((is_no_week setup.start ≡ false) × (is_no_station setup.station ≡ true)) }

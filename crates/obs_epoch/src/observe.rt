@@ -15,8 +15,7 @@ use rtcm_msg::{Entry, Form};
 #[inline(always)]
 pub fn observe(plan: &Plan, form: Form, system: System, entry: &Entry) -> Option<Cell>
     requires { IsEntry (lock_codes form) entry.now }
-    ensures value { result
-        ≡ option_and_then (planned_cell plan.now) (seen_in plan.now.channels form system entry.now) }
+    ensures value { result ≡ option_and_then (planned_cell plan.now) (seen_in plan.now.channels form system entry.now) }
     ensures observed { IfSome result (λ x. IsObserved (heard_cell x)) }
     ensures system { IfSome result (λ x. x.satellite.system ≡ system) }
 {

@@ -37,8 +37,7 @@ pub fn new_parts(alloc: Global, start: Start, station: Option<u16>) -> Result<Pa
     ensures week { (result ≡ Err PlanFault.BadWeek) ↔ (is_no_week start ≡ true) }
     ensures station { (result ≡ Err PlanFault.BadStation)
         ↔ ((is_no_week start ≡ false) × (is_no_station station ≡ true)) }
-    ensures only { IfErr result
-        (λ e. (e ≡ PlanFault.BadWeek) ⊎ ((e ≡ PlanFault.BadStation) ⊎ (e ≡ PlanFault.Memory))) }
+    ensures only { IfErr result (λ e. (e ≡ PlanFault.BadWeek) ⊎ ((e ≡ PlanFault.BadStation) ⊎ (e ≡ PlanFault.Memory))) }
 {
     if start.is_no_week() {
         return Err(PlanFault::BadWeek);
