@@ -51,8 +51,8 @@ pub use Rattle.rtcm_convert.specs.declared.fault.Fault.TheVariants.{BadSetup, Fa
 pub use Rattle.rtcm_convert.specs.declared.file_writer.FileWriter.{FileWriter}
 pub use Rattle.rtcm_convert.specs.declared.report.Report.{Report}
 pub use Rattle.rtcm_convert.specs.declared.setup.Setup.{Setup}
-pub use Rattle.rtcm_convert.specs.inner.Conversion.{FinishesEmptyNow, FinishesNow, IsFit, KeepsNow, StopsAtEnd, TakesFromReader, TakesPiece, WritesPrefixOfAdded}
-pub use Rattle.rtcm_convert.specs.inner.Steps.{BreaksInFrame, BreaksInMessage, BreaksInNext, BreaksInRest, CountsFrame, EndsFile, IsFinalKind, IsKindOf, IsKindOfNext, IsTakenAgain, TakesFrame, TakesNext, WritesFirst}
+pub use Rattle.rtcm_convert.specs.inner.Conversion.{FinishesEmptyNow, FinishesNow, IsFit, KeepsNow, StopsAtEnd, TakesPiece, WritesPrefixOfAdded}
+pub use Rattle.rtcm_convert.specs.inner.Steps.{BreaksInMessage, BreaksInNext, BreaksInRest, CountsFrame, EndsFile, IsFinalKind, IsKindOf, IsKindOfNext, IsTakenAgain, TakesNext, WritesFirst}
 pub use Rattle.rtcm_convert.specs.inner.Stream.{BreaksAtEndOf, BreaksFiling, EndsBytes, Files, HasDrainedSome}
 pub use Rattle.rtcm_msg.specs.Decoding.{message_with}
 pub use Rattle.rtcm_msg.specs.Encoding.{IsMessage}

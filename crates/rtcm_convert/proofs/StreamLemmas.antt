@@ -1,6 +1,16 @@
 -- The file writer as a sink of frames, and a piece of a stream.
 use Rattle.rtcm_convert.proofs.PartLemmas.{goes_on-refl, goes_on-trans, goes_on-kept, goes_on-front, breaks_off-before, up_to_whole}
-use Rattle.rtcm_convert.proofs.Names.{◌≡◌, ℕ, List, [], ◌∷◌, ◌++◌, ◌+◌, ◌-◌, ◌≤◌, false, refl, sym, ap, subst, suc, arith, length, take, ◌∙◌, Option, Keeps, Device, HasFailed, IsPrefix, Framed, known_frames, Passes, Breaks, HasPassedAll, up_to_limit, FramerValue, SetupValue, so_far, FiledGrows, TakesFrame, BreaksInFrame, Drained, HasDrained, HasDrainedSome, Files, BreaksFiling, AppendsDecided, AppendsPrefixOfDecided, FileWriter}
+use Rattle.rtcm_convert.proofs.Names.{HasFiledFrames, AppendsBetween, AppendsPrefixBetween, ◌≡◌, ℕ, List, [], ◌∷◌, ◌++◌, ◌+◌, ◌-◌, ◌≤◌, false, refl, sym, ap, subst, suc, arith, length, take, ◌∙◌, Option, Keeps, Device, HasFailed, IsPrefix, Framed, known_frames, Passes, Breaks, HasPassedAll, up_to_limit, FramerValue, SetupValue, so_far, FiledGrows, Drained, HasDrained, HasDrainedSome, Files, BreaksFiling, AppendsDecided, AppendsPrefixOfDecided, FileWriter}
+
+-- the frame was processed, and the epochs that it closes were written
+abbrev pub TakesFrame : FileWriter → FileWriter → Framed → Option (List ℕ) → Option (List ℕ) → Type 0
+TakesFrame v w f a b = (s : SetupValue) (fs : List Framed) → HasFiledFrames v s fs
+    → HasFiledFrames w s (fs ++ f ∷ []) × AppendsBetween a b (so_far s fs) (so_far s (fs ++ f ∷ []))
+
+-- a prefix of what it closes was written
+abbrev pub BreaksInFrame : FileWriter → Framed → Option (List ℕ) → Option (List ℕ) → Type 0
+BreaksInFrame v f a b = (s : SetupValue) (fs : List Framed) → HasFiledFrames v s fs
+    → AppendsPrefixBetween a b (so_far s fs) (so_far s (fs ++ f ∷ []))
 
 pub so_far-front : FiledGrows → (s : SetupValue) (fs gs : List Framed) → IsPrefix fs gs → IsPrefix (so_far s fs) (so_far s gs)
 so_far-front grows s fs gs p = rw p.1 (grows s fs p.0)

@@ -1,6 +1,5 @@
 -- The state of a converter that contracts cite, and the bytes that it may have accepted.
 use Rattle.std.specs.Prelude.{◌≡◌, ℕ, ◌+◌, ◌<◌, ◌≤◌, List, ◌++◌, length, true, false, Option}
-use Rattle.std.specs.Io.KnownBytes.{Consumes}
 use Rattle.rtcm_convert.specs.Converted.{SetupValue}
 use Rattle.rtcm_convert.specs.Kept.{IsWithinBounds, IsKeptNow}
 use Rattle.rtcm_scan.specs.Examined.{HasExaminedSome}
@@ -49,11 +48,6 @@ WritesPrefixOfAdded v a b piece = ForAccepted v (λ s bytes. AppendsPrefixOfDeci
 -- the stream ends here, and a prefix of the rest of its file was written
 abbrev pub StopsAtEnd : Conversion → (a b : Option (List ℕ)) → Type 0
 StopsAtEnd v a b = ForAccepted v (λ s bytes. AppendsPrefixOfRest a b s bytes bytes)
-
--- some further bytes were read and accepted, and what they add was written
-abbrev pub TakesFromReader : (v w : Conversion) (r r' a b : Option (List ℕ)) → Type 0
-TakesFromReader v w r r' a b =
-    (front : List ℕ) × Consumes r r' front × (w.scan.taken ≡ v.scan.taken + length front) × TakesPiece v w a b front
 
 -- the stream ends here, and the file was completed
 abbrev pub FinishesNow : (v w : Conversion) → List ℕ → (a b : Option (List ℕ)) → Report → Type 0

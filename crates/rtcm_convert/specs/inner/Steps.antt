@@ -86,16 +86,6 @@ BreaksInNext v m a b = (s : SetupValue) (ms : List Heard) → Settled v s ms
 abbrev pub CountsFrame : Report → Report → Option Kind → Type 0
 CountsFrame r r' o = (os : List (Option Kind)) → r ≡ tally_with capped os → r' ≡ tally_with capped (os ++ o ∷ [])
 
--- the frame was processed, and the epochs that it closes were written
-abbrev pub TakesFrame : FileWriter → FileWriter → Framed → Option (List ℕ) → Option (List ℕ) → Type 0
-TakesFrame v w f a b = (s : SetupValue) (fs : List Framed) → HasFiledFrames v s fs
-    → HasFiledFrames w s (fs ++ f ∷ []) × AppendsBetween a b (so_far s fs) (so_far s (fs ++ f ∷ []))
-
--- a prefix of what it closes was written
-abbrev pub BreaksInFrame : FileWriter → Framed → Option (List ℕ) → Option (List ℕ) → Type 0
-BreaksInFrame v f a b = (s : SetupValue) (fs : List Framed) → HasFiledFrames v s fs
-    → AppendsPrefixBetween a b (so_far s fs) (so_far s (fs ++ f ∷ []))
-
 -- the rest of the file was written, its epochs were counted, those of the stream if there are none, and all messages of
 -- its frames were gathered
 abbrev pub EndsFile : FileWriter → FileWriter → Option (List ℕ) → Option (List ℕ) → Type 0
