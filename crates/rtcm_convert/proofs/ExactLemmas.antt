@@ -1,6 +1,6 @@
 -- No count of a stream reaches the greatest number that is counted: a frame has at least six bytes and at most 64
 -- cells.
-use Rattle.rtcm_convert.proofs.Names.{entries_in, Choice, whole_list, capped_counts, thin_after, epoch_counts, Closed, common_steps, ◌≡◌, ◌||◌, ℕ, ◌+◌, ◌*◌, ◌≤◌, most_bytes, List, [], ◌∷◌, ◌++◌, Bool, true, false, refl, sym, ap, subst, arith, rules, length, length-append, add-zero, suc, nat_lt, Option, Some, None, is_some, filter, if◌then◌else◌, zip, option_map_or, length-map, length-filter, count_by-le-length, System, Framed, Message, Entry, MasksValue, MsmValue, AreMasks, IsMessage, chosen, cell_pairs, all_pairs, entry_in, Kind, GatherSetup, Heard, heard, heard_by, ChannelsValue, heard_msm, is_own, unlisted_in, HeardCell, Timed, timed, timed_after, taken_at, times, counts_of, counts_of_message, no_counts, with_skipped, is_planned, offered, kind_of, kind_at, SetupValue, messages_of, epochs_in, outcomes_after, capped, tally_of, tally_with, cell_counts, AreFewCells, count_by, sum_by, AreFew, CellCounts, length-filter-le, length-filter_map-le}
+use Rattle.rtcm_convert.proofs.Names.{entries_in, Choice, whole_list, capped_counts, thin_after, epoch_counts, Closed, common_steps, ◌≡◌, ℕ, ◌+◌, ◌*◌, ◌≤◌, most_bytes, List, [], ◌∷◌, ◌++◌, Bool, true, false, refl, sym, ap, subst, arith, rules, length, length-append, add-zero, suc, nat_lt, Option, Some, None, filter, if◌then◌else◌, zip, option_map_or, length-map, length-filter, count_by-le-length, System, Framed, Message, Entry, MasksValue, MsmValue, AreMasks, IsMessage, chosen, cell_pairs, all_pairs, entry_in, Kind, GatherSetup, Heard, heard, heard_by, ChannelsValue, heard_msm, unlisted_in, HeardCell, Timed, timed, timed_after, taken_at, times, counts_of, counts_of_message, no_counts, with_skipped, is_planned, offered, kind_of, kind_at, SetupValue, messages_of, epochs_in, outcomes_after, capped, tally_of, tally_with, cell_counts, AreFewCells, count_by, sum_by, AreFew, CellCounts, length-filter-le, length-filter_map-le}
 use Rattle.rtcm_msg.specs.declared.view.Form.{Form}
 use Rattle.obs_epoch.proofs.CountLaws.{few_without}
 use Rattle.rtcm_msg.specs.declared.message.Message.TheVariants as message

@@ -1,5 +1,5 @@
 -- The faults of a call, by the results that it never has.
-use Rattle.rtcm_convert.proofs.Names.{IsOfNone, arith, ◌≡◌, ℕ, Bool, true, false, sym, ap, subst, ◌∙◌, Result, Ok, Err, IfErr, false≢true, IsErrOf, OnErr, OnOk, Device, HasFailed, FailsWith, FailsWithWriter, IsSetupFault, IsPiecesFault, IsRunFault, Fault, BadSetup, Memory, Read, TooLong, Write, NoEpoch, NoneChosen, ⊤, common_steps}
+use Rattle.rtcm_convert.proofs.Names.{arith, ◌≡◌, ℕ, Bool, true, false, sym, ap, subst, ◌∙◌, Result, Ok, Err, IfErr, false≢true, IsErrOf, OnErr, OnOk, Device, HasFailed, FailsWith, FailsWithWriter, IsSetupFault, IsRunFault, Fault, BadSetup, Memory, Read, TooLong, Write, NoEpoch, NoneChosen, ⊤, common_steps}
 
 abbrev pub of_finish : Fault → Bool
 of_finish NoEpoch = true

@@ -3,7 +3,6 @@ use Rattle.rtcm_convert.proofs.Names.{Err, FailsWithReader, FailsWithWriter, Has
 use Rattle.rtcm_convert.specs.declared.fault.Fault.TheVariants as faults
 use Rattle.rtcm_convert.specs.Faults.{stream_fault}
 use Rattle.rtcm_scan.specs.inner.Passing.{CountsReads}
-use Rattle.rtcm_scan.specs.declared.feed.StreamFault.TheVariants as stream
 use Rattle.rtcm_convert.proofs.StreamLemmas.{piece_whole, piece_part, piece_fine, to_limit}
 
 module _ {A F : Type 0} (f : StreamFault F) {k : Fault} (P Q R : Type 0) (is : k ≡ stream_fault f) (at : AtFault f P Q R) where

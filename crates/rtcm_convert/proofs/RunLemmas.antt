@@ -1,5 +1,5 @@
 -- A stream that is read to its end.
-use Rattle.rtcm_convert.proofs.Names.{length, ◌+◌, TakesPiece, Fault, ◌≡◌, ℕ, List, ◌++◌, sym, subst, ◌∙◌, Option, append_assoc, Bool, true, false, None, Some, arith, IfSome, if◌then◌else◌, Consumes, IsAtEnd, Consumes-whole, Device, HasFailed, IsPrefix, longest_frame, decided_frames, Framed, known_frames, PassesToLimit, BreaksAfter, Reads, ReadsOn, FramerValue, SetupValue, so_far, AppendsUpTo, FiledGrows, FileWriter, Report, AppendsDecided, BreaksFiling, Files, HasDrainedSome, Conversion, KeepsNow, IsGoing, refusal, CutsAtLimit, RanToFault, RanToLimit, Completed, CompletedEmpty, FinishesNow, FinishesEmptyNow, CompletesFile, CompletesEmptyFile, StopsAtEnd, FailsFeeding, FailsFinishing, Failed, Finished, common_steps}
+use Rattle.rtcm_convert.proofs.Names.{length, ◌+◌, TakesPiece, Fault, ◌≡◌, ℕ, List, ◌++◌, sym, subst, Option, append_assoc, Bool, true, false, None, Some, arith, IfSome, if◌then◌else◌, Consumes, IsAtEnd, Consumes-whole, Device, HasFailed, IsPrefix, longest_frame, decided_frames, Framed, known_frames, PassesToLimit, BreaksAfter, Reads, ReadsOn, FramerValue, SetupValue, so_far, AppendsUpTo, FiledGrows, FileWriter, Report, AppendsDecided, BreaksFiling, Files, HasDrainedSome, Conversion, KeepsNow, IsGoing, refusal, CutsAtLimit, RanToFault, RanToLimit, Completed, CompletedEmpty, FinishesNow, FinishesEmptyNow, CompletesFile, CompletesEmptyFile, StopsAtEnd, FailsFeeding, FailsFinishing, Failed, Finished, common_steps}
 use Rattle.rtcm_convert.proofs.FeedLemmas.{with_flags, fed_whole, fed_long}
 use Rattle.rtcm_convert.proofs.PartLemmas.{goes_on-trans, up_to_earlier, up_to_later}
 use Rattle.rtcm_convert.proofs.StreamLemmas.{passed_here, piece_whole, so_far-front}

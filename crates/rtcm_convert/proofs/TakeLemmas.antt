@@ -1,9 +1,8 @@
 -- A message and a frame that are processed whole.
-use Rattle.rtcm_convert.proofs.Names.{closed_list_at, whole_list, EndsPendingEpoch, AllClosed, NoneReturned, BreaksInMessage, BreaksInNext, BreaksInRest, IsFinalKind, IsKindOf, IsKindOfNext, IsTakenAgain, TakesNext, WritesFirst, capped_counts, counts_left_out, interval_in, ◌≡◌, ℕ, List, [], ◌∷◌, ◌++◌, true, false, refl, sym, ap, subst, ◌∙◌, Option, Some, None, Result, Ok, Err, IfOk, OnOk, append-nil, arith, common_steps, filter_map-append, AppendsPrefix, Framed, Message, MsgFault, MsmSet, message_with, IsMessage, Kind, Closed, Heard, heard_by, kind_of, GathererValue, HasGatheredEpochs, closed_by, closed_in, plan_in, closed_epochs, all_epochs, known_epochs, SetupValue, text_with, so_far, messages_of, outcome, outcomes, outcomes_after, AreFew, AreFewCells, CountsFrame, capped, cell_counts, tally_with, AppendsBetween, AppendsPrefixBetween, added, HasFiledEpochs, Settled, HasFiledFrames, EndsFile, Report, FileWriter}
+use Rattle.rtcm_convert.proofs.Names.{EndsPendingEpoch, AllClosed, NoneReturned, BreaksInMessage, BreaksInNext, BreaksInRest, IsFinalKind, IsKindOf, IsKindOfNext, IsTakenAgain, TakesNext, WritesFirst, interval_in, ◌≡◌, ℕ, List, [], ◌∷◌, ◌++◌, true, false, refl, sym, ap, subst, ◌∙◌, Option, Some, None, Result, Ok, Err, IfOk, OnOk, append-nil, arith, common_steps, filter_map-append, AppendsPrefix, Framed, Message, MsgFault, MsmSet, message_with, IsMessage, Kind, Closed, Heard, heard_by, kind_of, GathererValue, closed_in, plan_in, closed_epochs, SetupValue, text_with, messages_of, outcome, outcomes, outcomes_after, AreFew, AreFewCells, CountsFrame, capped, cell_counts, tally_with, AppendsBetween, AppendsPrefixBetween, added, HasFiledEpochs, Settled, HasFiledFrames, EndsFile, Report, FileWriter}
 use Rattle.rtcm_convert.specs.inner.Steps.{TakesMessage}
-use Rattle.rtcm_convert.proofs.KeptLemmas.{closed_all}
 use Rattle.rtcm_convert.proofs.PartLemmas.{goes_on-refl, goes_on-trans, breaks_off-after, breaks_off-by}
-use Rattle.rtcm_convert.proofs.TextLemmas.{count, last, text-closed}
+use Rattle.rtcm_convert.proofs.TextLemmas.{text-closed}
 use Rattle.rtcm_convert.proofs.ExactLemmas.{few_more, message_few, refused_few}
 use Rattle.rtcm_convert.proofs.StepLemmas.{Wrote, wrote_all, part_of}
 use Rattle.rtcm_convert.proofs.StreamLemmas.{BreaksInFrame, TakesFrame}

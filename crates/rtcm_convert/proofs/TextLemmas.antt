@@ -1,5 +1,5 @@
 -- The text of a file, epoch by epoch.
-use Rattle.rtcm_convert.proofs.Names.{Decides-int_eq, ◌≡◌, ℕ, List, [], ◌∷◌, ◌++◌, Bool, true, refl, sym, ap, ◌∙◌, arith, Option, Some, append_assoc, append-nil, nat_lt, length, length-append, ◌+◌, if◌then◌else◌, filter-append, filter_map-append, Framed, IsPrefix, PlanValue, EpochValue, Closed, same_values, satellites_written, StationValues, GatherSetup, Heard, closed_epochs, all_epochs, closed_by, HeaderLists, header_text, epoch_text, event_text, change_text, closed_text, file_text, gathered, SetupValue, messages_of, written_epochs, text_of_epochs, text_with, so_far, file, capped, opening, added, epochs_after, values_after, values_following_closed, last_values, common_steps}
+use Rattle.rtcm_convert.proofs.Names.{Decides-int_eq, ◌≡◌, ℕ, List, [], ◌∷◌, ◌++◌, Bool, true, refl, ap, arith, Option, Some, append_assoc, append-nil, nat_lt, length, length-append, ◌+◌, if◌then◌else◌, filter-append, filter_map-append, Framed, IsPrefix, PlanValue, EpochValue, Closed, same_values, satellites_written, StationValues, GatherSetup, Heard, closed_epochs, all_epochs, closed_by, HeaderLists, header_text, epoch_text, event_text, change_text, closed_text, file_text, gathered, SetupValue, messages_of, written_epochs, text_of_epochs, text_with, so_far, file, capped, opening, added, epochs_after, values_after, values_following_closed, last_values, common_steps}
 
 -- a capped count that is increased
 pub cap_more : (n k : ℕ) → capped (capped n + k) ≡ capped (n + k)

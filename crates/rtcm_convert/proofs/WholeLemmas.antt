@@ -1,5 +1,5 @@
 -- Whole streams.
-use Rattle.rtcm_convert.proofs.Names.{Fault, ◌≡◌, ℕ, ◌+◌, ◌<◌, ◌≤◌, ◌⊎◌, inl, inr, List, [], subst, ◌∙◌, arith, Option, Result, IfOk, length, take, IfSome, IfSome_then, Appends, Consumes, frames_of, decided_frames, SetupValue, so_far, file, epochs_in, AppendsBetween, AppendsPrefixBetween, NothingYet, AppendsDecided, Setup, setup_value, HasValue, IsMade, IsMadeEmpty, IsMadeWith, IsMadeToLimit, IsBetween, IsBroken, FailedWriting, FailedWritingAtEnd, Conversion, HasConverted, WritesAdded, Completed, CompletedEmpty, CompletesFile, CompletesEmptyFile, FailsAtPiece, RanToLimit, FailsFeeding, FailsFinishing, Report, common_steps}
+use Rattle.rtcm_convert.proofs.Names.{Fault, ◌≡◌, ℕ, ◌+◌, ◌<◌, ◌≤◌, ◌⊎◌, inl, inr, List, [], subst, ◌∙◌, arith, Option, Result, IfOk, length, IfSome, IfSome_then, Appends, Consumes, frames_of, decided_frames, SetupValue, so_far, file, epochs_in, AppendsBetween, AppendsPrefixBetween, NothingYet, AppendsDecided, Setup, setup_value, HasValue, IsMade, IsMadeEmpty, IsMadeWith, IsMadeToLimit, IsBetween, IsBroken, FailedWriting, FailedWritingAtEnd, Conversion, HasConverted, WritesAdded, Completed, CompletedEmpty, CompletesFile, CompletesEmptyFile, FailsAtPiece, RanToLimit, FailsFeeding, FailsFinishing, Report, common_steps}
 
 pub from_nothing : {a b : Option (List ℕ)} {y : List ℕ} → NothingYet → (s : SetupValue) → AppendsBetween a b (so_far s (decided_frames [])) y → Appends a b y
 from_nothing {a} {b} {y} nothing s g = grind (arith, common_steps)
