@@ -20,6 +20,7 @@ pub mod HistoryLemmas
 pub mod ReturnedLemmas
 pub mod KindLemmas
 mod OrderLemmas
+pub mod WholeSteps
 mod ValueLemmas
 pub mod ReachLemmas
 mod SignalCountsLemmas

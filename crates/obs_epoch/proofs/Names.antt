@@ -26,6 +26,7 @@ pub use Rattle.gnss_system.specs.declared.by_system.BySystem.{BySystem}
 pub use Rattle.gnss_system.specs.declared.system.System.{System}
 pub use Rattle.gnss_system.specs.declared.system.System.TheVariants.{Galileo, Glonass, Gps}
 pub use Rattle.gnss_system.specs.declared.tables.ListedSignal.{ListedSignal}
+pub use Rattle.obs_epoch.proofs.WholeSteps.{closed_if, end_step, loaded_if, take_step}
 pub use Rattle.obs_epoch.specs.Cells.{add, cells_at, cells_counted, counts_of, counts_of_message, firsts, firsts_after, has_listed_key, is_among, is_of_system, is_planned, kept, kept_of_all, kept_without, lacks_channel, no_counts, offered, with_skipped}
 pub use Rattle.obs_epoch.specs.Choices.{every_epoch, in_window, is_chosen, on_grid}
 pub use Rattle.obs_epoch.specs.Clock.{HasHeardMessages, State, closes_first, is_pending}
@@ -48,7 +49,7 @@ pub use Rattle.obs_epoch.specs.declared.taken.CellCounts.{CellCounts}
 pub use Rattle.obs_epoch.specs.declared.taken.Kind.{Kind}
 pub use Rattle.obs_epoch.specs.declared.taken.Kind.TheVariants.{CloseFirst}
 pub use Rattle.obs_epoch.specs.inner.Calls.{IsCloseFirstExactly}
-pub use Rattle.obs_epoch.specs.inner.GathererSteps.{Loaded, begun_by, cleared_if, closed_if, closed_noted, end_step, epoch_begun, epoch_with, hold, hold_by, load, load_entries, load_entry, load_one, loaded_if, loaded_where, noted, outcome_in, planned_cell, shut_where, take_step, thinned, thinned_if, with_more, with_time, with_unlisted}
+pub use Rattle.obs_epoch.specs.inner.GathererSteps.{Loaded, begun_by, cleared_if, closed_noted, epoch_begun, epoch_with, hold, hold_by, load, load_entries, load_entry, load_one, loaded_where, noted, outcome_in, planned_cell, shut_where, thinned, thinned_if, with_more, with_time, with_unlisted}
 pub use Rattle.obs_epoch.specs.inner.Held.{CellOutcome, Crowded, Kept, Repeated, Skipped, count_in, no_locks, note, note_all, note_systems, outcome_of, outcome_of_added, put}
 pub use Rattle.obs_epoch.specs.inner.Marks.{any_loss, carried_from, carried_to, counted_epoch, has_loss, mark_at, no_marks, note_losses, note_lost, note_systems_lost, with_mark_in}
 pub use Rattle.obs_epoch.specs.inner.SignalCounts.{AreSignalCounts, CountsMessage, SignalCountsValue, counted, counted_more, signal_counts}

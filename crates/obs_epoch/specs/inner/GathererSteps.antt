@@ -13,7 +13,6 @@ use Rattle.rtcm_msg.specs.declared.view.Form.{Form}
 use Rattle.obs_epoch.specs.Heard.{Heard, seen_in}
 use Rattle.gnss_obs.specs.HeardCells.{HeardCell, kept_cell}
 use Rattle.obs_epoch.specs.Cells.{lacks_channel, no_counts, with_skipped}
-use Rattle.obs_epoch.specs.Kinds.{is_accepted}
 use Rattle.gnss_obs.specs.Values.{PlanValue, planned_of, CellLists, Closed, EpochValue, cells_of, cleared, empty_epoch, no_cells, no_values}
 use Rattle.gnss_obs.specs.Values.{satellites_written}
 use Rattle.obs_epoch.specs.Choices.{in_window, is_chosen, on_grid}
@@ -27,7 +26,7 @@ use Rattle.gnss_obs.specs.Order.{AreSortedByPlan, insert_by, cell_sort_key}
 use Rattle.obs_epoch.specs.Loss.{lli_with}
 use Rattle.obs_epoch.specs.Epochs.{values_after_message}
 use Rattle.obs_epoch.specs.Clock.{State}
-use Rattle.obs_epoch.specs.inner.Step.{kind_by, step_by, open_by, ended_where, is_same, closed_time}
+use Rattle.obs_epoch.specs.inner.Step.{step_by, open_by, ended_where, is_same, closed_time}
 use Rattle.gnss_obs.specs.declared.cell.Cell.{Cell}
 use Rattle.obs_epoch.specs.declared.taken.CellCounts.{CellCounts}
 
@@ -131,12 +130,6 @@ epoch_begun before g =
     if is_same before g.clock.latest then g
     else record g { epoch = empty_epoch (option_map_or (λ t. t) g.clock.latest 0) }
 
--- The cells of a message are kept if it is accepted.
-abbrev pub loaded_if : Bool → Option ℕ → GathererValue → Heard → Loaded
-loaded_if accepted before g m =
-    if accepted then load_heard (record { state = epoch_begun before g; counts = no_counts }) m
-    else record { state = g; counts = no_counts }
-
 -- The cells of a message are kept in the epoch that has begun, if it is accepted.
 abbrev pub loaded_where : Bool → GathererValue → Heard → Loaded
 loaded_where accepted g m =
@@ -155,14 +148,6 @@ with_time g m =
 -- The same before the cells of the message, and before its epoch is closed.
 abbrev pub begun_by : GathererValue → Heard → GathererValue
 begun_by g m = record (epoch_begun g.clock.latest (with_time g m)) { clock = open_by g.clock m; just_closed = false }
-
-abbrev pub closed_if : Bool → Loaded → Loaded
-closed_if b l = record { state = if b then noted l.state else l.state; counts = l.counts }
-
-abbrev pub take_step : GathererValue → Heard → Loaded
-take_step g m =
-    closed_if (is_some (closed_time g.clock m))
-    (loaded_if (is_accepted (kind_by g.clock no_counts m)) g.clock.latest (with_time g m) m)
 
 -- The pending epoch is closed, or no epoch.
 abbrev pub shut_where : Bool → GathererValue → GathererValue
@@ -199,9 +184,3 @@ thinned g =
 
 abbrev pub thinned_if : Bool → GathererValue → GathererValue
 thinned_if closed g = if closed then thinned g else g
-
--- The step of `end`: no message follows.
-abbrev pub end_step : GathererValue → GathererValue
-end_step g =
-    let h = record g { clock = stopped g.clock; just_closed = g.clock.pending; has_ended = true } in
-    if g.clock.pending then noted h else h
