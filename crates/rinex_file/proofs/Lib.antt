@@ -8,7 +8,6 @@ mod Writing
 mod HeaderRows
 mod Reading
 mod Judged
-mod Taken
 mod FewRows
 mod PlainTexts
 mod FileLines

@@ -26,6 +26,7 @@ pub use Rattle.gnss_system.specs.declared.system.System.{System}
 pub use Rattle.gnss_system.specs.declared.system.System.TheVariants.{Gps, Glonass}
 pub use Rattle.memchr.specs.Find.{IsFirstByte, is_byte}
 pub use Rattle.devices.proofs.PrintingLaws.{unmapped}
+pub use Rattle.devices.proofs.WritingLaws.{HasWrittenBut, all_written, more_written, none_written, part_written}
 pub use Rattle.rtcm_bits.specs.Prefix.{IsPrefix}
 pub use Rattle.rinex_file.specs.Accepted.{AreBegunWith, AreEpochsRead, AreFirstEpochs, HasPlan, IsEpochLine, IsFaultAfter}
 pub use Rattle.rinex_file.specs.Begun.{AreBegun, IsEpochBegun, IsHeaderBegun, IsEventBegun, part_lines, whole_lines, IsShown, StartsAt}
@@ -128,3 +129,5 @@ pub use Rattle.std.specs.Prelude.{All, Any, Bool, Err, IfErr, IfNone, IfSome, Is
 pub use Rattle.std.specs.Result.{IsErrAnd, result_err}
 pub use Rattle.std.specs.Str.{IsAscii, IsUtf8, bytes_eq}
 pub use lib.Lanes.{Each1, chunk, digits_l, mask_l, number_l, pick_l, top, zip2}
+pub use Rattle.rinex_file.proofs.Judged.{at_some, exactly, is_taken, refused, taken}
+pub use Rattle.rinex_file.proofs.ReaderLaws.{HasReadOn, failed_read, fine_read, leaves_all, leaves_more, more_read, none_read}

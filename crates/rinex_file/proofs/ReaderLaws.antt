@@ -1,5 +1,10 @@
 -- Calls that read, one after the other.
-use Rattle.rinex_file.proofs.Names.{◌≡◌, ◌∙◌, ap, refl, subst, ℕ, List, Option, Result, Ok, Err, Device, HasFailed, IsErrAnd, LeavesRest, ReadsPrefix, ◌++◌, [], Consumes-nil, Consumes-trans}
+use Rattle.devices.specs.Device.{Device, HasFailed}
+use Rattle.rinex_file.specs.Blocks.{LeavesRest, ReadsPrefix}
+use Rattle.std.proofs.Common.{List, Option, [], ap, refl, subst, ℕ, ◌++◌, ◌∙◌, ◌≡◌}
+use Rattle.std.proofs.KnownBytes.{Consumes-nil, Consumes-trans}
+use Rattle.std.specs.Prelude.{Err, Ok, Result}
+use Rattle.std.specs.Result.{IsErrAnd}
 
 pub leaves_more : (a b c : Option (List ℕ)) → LeavesRest a b → LeavesRest b c → LeavesRest a c
 leaves_more a b c (xs, first) (ys, next) = (xs ++ ys, Consumes-trans a b c xs ys first next)

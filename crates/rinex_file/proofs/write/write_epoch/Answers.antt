@@ -1,6 +1,5 @@
-use Rattle.devices.proofs.WritingLaws.{all_written, more_written, none_written, part_written}
 use Rattle.rinex_file.proofs.Writing.Sent.{epoch_parts}
-use Rattle.rinex_file.proofs.Names.{◌≡◌, ◌∙◌, [], append-nil, ap₂, refl, sym, ℕ, List, civil_of, epoch_line}
+use Rattle.rinex_file.proofs.Names.{all_written, more_written, none_written, part_written, ◌≡◌, ◌∙◌, [], append-nil, ap₂, refl, sym, ℕ, List, civil_of, epoch_line}
 use Rattle.rinex_file.proofs.write.write_epoch.Goals as goal
 
 first_line : {line buffer : List ℕ} {t n time count : ℕ} → line ≡ buffer → buffer ≡ epoch_line (civil_of t) n → t ≡ time → n ≡ count → line ≡ epoch_line (civil_of time) count

@@ -1,6 +1,5 @@
-use Rattle.devices.proofs.WritingLaws.{all_written, more_written, none_written, part_written}
 use Rattle.rinex_file.proofs.Writing.Sent.{event_parts}
-use Rattle.rinex_file.proofs.Names.{◌∙◌, ◌++◌, [], refl, height_line, position_line}
+use Rattle.rinex_file.proofs.Names.{all_written, more_written, none_written, part_written, ◌∙◌, ◌++◌, [], refl, height_line, position_line}
 use Rattle.rinex_file.proofs.write.write_event.Goals as goal
 
 pub returns-in_err-write_whole-clause-written : goal.returns-in_err-write_whole-clause-written

@@ -1,5 +1,4 @@
-use Rattle.devices.proofs.WritingLaws.{more_written, part_written}
-use Rattle.rinex_file.proofs.Names.{common_steps, arith, ap, refl, [], Appends-nil, joined, shown_text}
+use Rattle.rinex_file.proofs.Names.{more_written, part_written, common_steps, arith, ap, refl, [], Appends-nil, joined, shown_text}
 use Rattle.rinex_file.proofs.write.write_header.Goals as goal
 
 pub loop-line-init : goal.loop-line-init

@@ -1,5 +1,4 @@
-use Rattle.devices.proofs.WritingLaws.{HasWrittenBut}
-use Rattle.rinex_file.proofs.Names.{shown_by, joined, shown_text}
+use Rattle.rinex_file.proofs.Names.{HasWrittenBut, shown_by, joined, shown_text}
 use Rattle.rinex_file.proofs.write.write_header.Given as goal
 
 -- the lines so far were written

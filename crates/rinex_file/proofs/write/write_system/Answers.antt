@@ -1,8 +1,7 @@
 -- The lines of the satellites before the cell at `from` are written.
 use Rattle.rinex_file.proofs.Writing.Skipped.{all_sent, next_sent, one_sent}
-use Rattle.devices.proofs.WritingLaws.{part_written}
 use Rattle.rinex_file.proofs.Writing.Sent.{no_lines, lines_around, not_written, is_shown}
-use Rattle.rinex_file.proofs.Names.{arith, ◌∙◌, ◌++◌, ap, sym, subst, refl, take, drop, ◌-◌, Appends, Appends-nil, satellites, left_all}
+use Rattle.rinex_file.proofs.Names.{part_written, arith, ◌∙◌, ◌++◌, ap, sym, subst, refl, take, drop, ◌-◌, Appends, Appends-nil, satellites, left_all}
 use Rattle.rinex_file.proofs.write.write_system.Goals as goal
 
 pub loop-from-init : goal.loop-from-init

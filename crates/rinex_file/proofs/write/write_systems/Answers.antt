@@ -1,7 +1,6 @@
 use Rattle.rinex_file.proofs.Rows.Columns.{blank_row}
-use Rattle.devices.proofs.WritingLaws.{part_written}
 use Rattle.rinex_file.proofs.Writing.Sent.{lines_next, lines_after, lines_all}
-use Rattle.rinex_file.proofs.Names.{after, arith, refl, Appends-nil, Appends-trans, lines_of_systems}
+use Rattle.rinex_file.proofs.Names.{part_written, after, arith, refl, Appends-nil, Appends-trans, lines_of_systems}
 use Rattle.rinex_file.proofs.write.write_systems.Goals as goal
 
 pub loop-i-init : goal.loop-i-init

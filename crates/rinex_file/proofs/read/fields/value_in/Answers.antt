@@ -2,11 +2,10 @@
 -- the text of the value of their digits.
 use Rattle.rinex_file.proofs.Fields.Lanes.{bytes_below, taken}
 use Rattle.rinex_file.proofs.Fields.Values.{AreColumns, Begins, IsShown, IsValue, shown, value_is, within, no_zero, no_zero_first, first_is, within_nine, zero_first}
-use Rattle.rinex_file.proofs.Judged.{refused}
 use Rattle.rinex_file.proofs.Fields.Templates.{front}
 use Rattle.rinex_file.proofs.OneReading.{value_once}
 use Rattle.rinex_file.proofs.Rows.Sizes.{stays}
-use Rattle.rinex_file.proofs.Names.{zip2, arith, ◌≡◌, ◌∙◌, ap, sym, subst, ℤ, ◌+◌, ◌≤◌, ◌<◌, take, true, to_z, of_z, w64, Some, slice_index, if◌then◌else◌, get_or, FitsColumns, blanks, field, leading}
+use Rattle.rinex_file.proofs.Names.{refused, zip2, arith, ◌≡◌, ◌∙◌, ap, sym, subst, ℤ, ◌+◌, ◌≤◌, ◌<◌, take, true, to_z, of_z, w64, Some, slice_index, if◌then◌else◌, get_or, FitsColumns, blanks, field, leading}
 use Rattle.rinex_file.proofs.read.fields.value_in.Goals.{After-template, Start, else-first-eq48, then-first-eq48+else-start-lt9+else-negative, else-negative-via-then-negative+else-size-eq0, else-negative-via-else-negative}
 use Rattle.rinex_file.proofs.read.fields.value_in.Goals as goal
 

@@ -1,8 +1,7 @@
-use Rattle.rinex_file.proofs.ReaderLaws.{failed_read, fine_read, more_read, none_read}
 use Rattle.rinex_file.proofs.Reading.Accepted.{line_is}
 use Rattle.rinex_file.proofs.Reading.Lines.{said_of}
 use Rattle.rinex_file.proofs.Reading.Summary.{counted, only_with, text_with}
-use Rattle.rinex_file.proofs.Names.{AreCounts, Ok, ap, arith, err_from_is_err_and}
+use Rattle.rinex_file.proofs.Names.{failed_read, fine_read, more_read, none_read, AreCounts, Ok, ap, arith, err_from_is_err_and}
 use Rattle.rinex_file.proofs.read.file.check_file.Goals as goal
 
 pub loop-file-init : goal.loop-file-init

@@ -1,5 +1,4 @@
-use Rattle.rinex_file.proofs.ReaderLaws.{HasReadOn}
-use Rattle.rinex_file.proofs.Names.{◌-◌, ◌+◌, History, HasRead, most_lines}
+use Rattle.rinex_file.proofs.Names.{HasReadOn, ◌-◌, ◌+◌, History, HasRead, most_lines}
 use Rattle.rinex_file.proofs.read.file.check_file.Given as goal
 
 -- a history was read

@@ -1,7 +1,6 @@
-use Rattle.rinex_file.proofs.ReaderLaws.{failed_read, fine_read, more_read, none_read}
 use Rattle.rinex_file.proofs.Reading.Accepted.{begins_is, not_pushed, whole_header}
 use Rattle.rinex_file.proofs.Reading.Lines.{explained, out_of_memory}
-use Rattle.rinex_file.proofs.Names.{arith, common_steps, subst, sym, List, HasReadEpochs, Stamped, err_from_is_err_and}
+use Rattle.rinex_file.proofs.Names.{failed_read, fine_read, more_read, none_read, arith, common_steps, subst, sym, List, HasReadEpochs, Stamped, err_from_is_err_and}
 use Rattle.rinex_file.proofs.read.file.read_epochs.Goals as goal
 
 pub loop-summary-init : goal.loop-summary-init

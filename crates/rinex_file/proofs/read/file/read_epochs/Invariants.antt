@@ -1,5 +1,4 @@
-use Rattle.rinex_file.proofs.ReaderLaws.{HasReadOn}
-use Rattle.rinex_file.proofs.Names.{◌-◌, ◌+◌, HasReadEpochs, most_lines}
+use Rattle.rinex_file.proofs.Names.{HasReadOn, ◌-◌, ◌+◌, HasReadEpochs, most_lines}
 use Rattle.rinex_file.proofs.read.file.read_epochs.Given as goal
 
 -- the epochs that were read are stored

@@ -1,7 +1,6 @@
-use Rattle.rinex_file.proofs.ReaderLaws.{failed_read, fine_read, more_read, none_read}
 use Rattle.rinex_file.proofs.Reading.Accepted.{few_lines, not_pushed, row_header, row_is}
 use Rattle.rinex_file.proofs.Reading.Lines.{explained, out_of_memory}
-use Rattle.rinex_file.proofs.Names.{ap, arith, common_steps, subst, sym, List, Ok, HasReadRows, SatelliteRow, begun_in, err_from_is_err_and, read_row, with_rows}
+use Rattle.rinex_file.proofs.Names.{failed_read, fine_read, more_read, none_read, ap, arith, common_steps, subst, sym, List, Ok, HasReadRows, SatelliteRow, begun_in, err_from_is_err_and, read_row, with_rows}
 use Rattle.rinex_file.proofs.read.file.read_rows.Goals as goal
 
 pub loop-rows-init : goal.loop-rows-init

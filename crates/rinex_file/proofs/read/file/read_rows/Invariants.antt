@@ -1,5 +1,4 @@
-use Rattle.rinex_file.proofs.ReaderLaws.{HasReadOn}
-use Rattle.rinex_file.proofs.Names.{◌-◌, ◌+◌, ◌≤◌, List, ℕ, Option, HasReadRows, Stamped, begun_in, most_lines, with_rows}
+use Rattle.rinex_file.proofs.Names.{HasReadOn, ◌-◌, ◌+◌, ◌≤◌, List, ℕ, Option, HasReadRows, Stamped, begun_in, most_lines, with_rows}
 use Rattle.rinex_file.proofs.read.file.read_rows.Given as goal
 
 -- the satellites that were read are stored

@@ -1,6 +1,5 @@
-use Rattle.rinex_file.proofs.ReaderLaws.{leaves_all, leaves_more}
 use Rattle.rinex_file.proofs.Reading.Lines.{not_nil, consumed_none, moved_taken, line_whole, still_endless}
-use Rattle.rinex_file.proofs.Names.{arith, ◌≡◌, ◌∙◌, subst, ℕ, ◌<◌, [], Bool, false, List, length, Option, Found, IsFound, has, MovesBytes, Consumes-nil, most_line, common_steps}
+use Rattle.rinex_file.proofs.Names.{leaves_all, leaves_more, arith, ◌≡◌, ◌∙◌, subst, ℕ, ◌<◌, [], Bool, false, List, length, Option, Found, IsFound, has, MovesBytes, Consumes-nil, most_line, common_steps}
 use Rattle.rinex_file.proofs.read.lines.next_line.Goals as goal
 
 -- what was found in the place of more bytes is found after those so far

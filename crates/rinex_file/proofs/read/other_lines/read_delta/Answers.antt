@@ -1,6 +1,5 @@
-use Rattle.rinex_file.proofs.Judged.{exactly}
 use Rattle.rinex_file.proofs.HeaderRows.Agree.{height-back}
-use Rattle.rinex_file.proofs.Names.{arith, ◌≡◌, ◌∙◌, ap, w64, to_z, ◌<◌, ◌^◌, ℕ, List, take, drop, pos, min, Delta, line_with, lengths, height_line, digits_in}
+use Rattle.rinex_file.proofs.Names.{exactly, arith, ◌≡◌, ◌∙◌, ap, w64, to_z, ◌<◌, ◌^◌, ℕ, List, take, drop, pos, min, Delta, line_with, lengths, height_line, digits_in}
 use Rattle.rinex_file.proofs.read.other_lines.read_delta.Goals as goal
 
 -- the first columns of the line of a height contain the height

@@ -1,6 +1,5 @@
-use Rattle.rinex_file.proofs.Judged.{exactly}
 use Rattle.rinex_file.proofs.Reading.Dates.{epoch_shown, has_columns}
-use Rattle.rinex_file.proofs.Names.{arith, rules, ◌≡◌, ◌∙◌, ◌≤◌, ◌<◌, ◌^◌, ap, sym, refl, suc, ℕ, none-some, same_Some, civil_of, IsTime, epoch_line, digits_in}
+use Rattle.rinex_file.proofs.Names.{exactly, arith, rules, ◌≡◌, ◌∙◌, ◌≤◌, ◌<◌, ◌^◌, ap, sym, refl, suc, ℕ, none-some, same_Some, civil_of, IsTime, epoch_line, digits_in}
 use Rattle.rinex_file.proofs.read.other_lines.read_epoch_line.Goals.{After-is_same}
 use Rattle.rinex_file.proofs.read.other_lines.read_epoch_line.Goals as goal
 

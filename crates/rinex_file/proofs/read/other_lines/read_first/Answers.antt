@@ -1,5 +1,4 @@
-use Rattle.rinex_file.proofs.Judged.{exactly}
-use Rattle.rinex_file.proofs.Names.{rules, ◌∙◌, sym, refl, none-some, same_Some, civil_of, IsTime, First, line_with, first_content}
+use Rattle.rinex_file.proofs.Names.{exactly, rules, ◌∙◌, sym, refl, none-some, same_Some, civil_of, IsTime, First, line_with, first_content}
 use Rattle.rinex_file.proofs.read.other_lines.read_first.Goals as goal
 
 pub returns-in_err-time : goal.returns-in_err-time

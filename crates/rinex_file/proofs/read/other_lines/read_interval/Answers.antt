@@ -1,6 +1,5 @@
-use Rattle.rinex_file.proofs.Judged.{exactly}
 use Rattle.rinex_file.proofs.HeaderRows.Agree.{at_most_a_day, interval-back}
-use Rattle.rinex_file.proofs.Names.{IsSome, IfSome, ◌↔◌, Some, rules, arith, ◌≡◌, ◌∙◌, sym, ap, ℕ, List, take, drop, Option, IsInterval, Interval, line_with, interval_content, digits_in, min, none-some, same_Some}
+use Rattle.rinex_file.proofs.Names.{exactly, IsSome, IfSome, ◌↔◌, Some, rules, arith, ◌≡◌, ◌∙◌, sym, ap, ℕ, List, take, drop, Option, IsInterval, Interval, line_with, interval_content, digits_in, min, none-some, same_Some}
 use Rattle.rinex_file.proofs.read.other_lines.read_interval.Goals as goal
 
 -- the first columns of the line of an interval contain the interval

@@ -1,6 +1,5 @@
-use Rattle.rinex_file.proofs.Judged.{exactly}
 use Rattle.rinex_file.proofs.HeaderRows.Agree.{lengths-back, coordinate-fits, number_at}
-use Rattle.rinex_file.proofs.Names.{arith, refl, ◌≡◌, ◌∙◌, ap, ℤ, ℕ, List, w64, to_z, of_z, fits_signed_from_abs, to_z-of_z, row_label, Position, then_some, StationValues, IsCoordinate, position_line, IsPosition, common_steps}
+use Rattle.rinex_file.proofs.Names.{exactly, arith, refl, ◌≡◌, ◌∙◌, ap, ℤ, ℕ, List, w64, to_z, of_z, fits_signed_from_abs, to_z-of_z, row_label, Position, then_some, StationValues, IsCoordinate, position_line, IsPosition, common_steps}
 use Rattle.rinex_file.proofs.read.other_lines.read_position.Goals as goal
 
 abbrev at : ℤ → ℤ → ℤ → StationValues

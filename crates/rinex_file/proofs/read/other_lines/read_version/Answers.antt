@@ -1,5 +1,4 @@
-use Rattle.rinex_file.proofs.Names.{◌≡◌, ◌∙◌, sym, ap, ⊤, ℕ, List, Option, drop, slice_get, take, unwrap_or, line_with, Version, version_content}
-use Rattle.rinex_file.proofs.Judged.{exactly}
+use Rattle.rinex_file.proofs.Names.{exactly, ◌≡◌, ◌∙◌, sym, ap, ⊤, ℕ, List, Option, drop, slice_get, take, unwrap_or, line_with, Version, version_content}
 use Rattle.rinex_file.proofs.HeaderRows.Agree.{letter_at}
 use Rattle.rinex_file.proofs.read.other_lines.read_version.Goals as goal
 

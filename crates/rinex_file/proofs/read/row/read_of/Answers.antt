@@ -1,10 +1,8 @@
 -- A line without a line feed, of another length, or with no letter and number of a satellite of the system is no
 -- row's text; else it is one exactly if its columns are.
-use Rattle.rinex_file.proofs.Judged.{refused}
-use Rattle.rinex_file.proofs.Taken.{is_taken}
 use Rattle.rinex_file.proofs.Rows.Cut.{cut_line_is, filled_over}
 use Rattle.rinex_file.proofs.OneReading.{IsSatelliteText, line_ended, line_once, text_of_line}
-use Rattle.rinex_file.proofs.Names.{◌/◌, arith, ◌≡◌, ◌∙◌, sym, ap, refl, subst, ℕ, ◌*◌, ◌≤◌, List, Bool, ◌-◌, ◌++◌, append-nil, length, take, drop, replicate, flat_map, SignalValues, drop_all, take_all, take_rest, System, satellites, SatelliteRow, satellite_line, signal_text, filled_to, ReadsExactly, some_if, AreEntries, IsRowOf, number_of, padded, common_steps}
+use Rattle.rinex_file.proofs.Names.{refused, is_taken, ◌/◌, arith, ◌≡◌, ◌∙◌, sym, ap, refl, subst, ℕ, ◌*◌, ◌≤◌, List, Bool, ◌-◌, ◌++◌, append-nil, length, take, drop, replicate, flat_map, SignalValues, drop_all, take_all, take_rest, System, satellites, SatelliteRow, satellite_line, signal_text, filled_to, ReadsExactly, some_if, AreEntries, IsRowOf, number_of, padded, common_steps}
 use Rattle.rinex_file.proofs.read.row.read_of.Goals.{After-saturating_sub, then-not-is_ended-via-then-not-is_ended, then-not-is_ended-via-else-not-is_ended+then-text-lt3, then-not-is_ended-via-else-not-is_ended+else-text-lt3+then-text-signals}
 use Rattle.rinex_file.proofs.read.row.read_of.Goals as goal
 

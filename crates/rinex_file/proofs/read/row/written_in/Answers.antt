@@ -1,16 +1,13 @@
-use Rattle.rinex_file.proofs.Judged.{refused}
 use Rattle.rinex_file.proofs.OneReading.{has_fields, lli_column, signal_read, blank_read, none_read}
 use Rattle.rinex_file.proofs.Rows.Sizes.{strength_fits}
 use Rattle.rinex_file.proofs.Rows.Written.{signal_is}
-use Rattle.rinex_file.proofs.Names.{◌≡◌, ◌∙◌, sym, ap, ap₂, subst, [], ◌∷◌, get_or, ℤ, pos, Option, IfSome, SignalValues, AreSignalValues, IsFrom, field, strength_byte, signal_text}
+use Rattle.rinex_file.proofs.Names.{refused, ◌≡◌, ◌∙◌, sym, ap, ap₂, subst, [], ◌∷◌, get_or, ℤ, pos, Option, IfSome, SignalValues, AreSignalValues, IsFrom, field, strength_byte, signal_text, arith}
 use Rattle.rinex_file.proofs.read.row.written_in.Goals.{After-strength_column-strength}
 use Rattle.rinex_file.proofs.read.row.written_in.Goals as goal
 
 -- the strength column of values that are written here
 strength : (c : After-strength_column-strength) (e : SignalValues) → AreSignalValues e → c.args.text.now ≡ signal_text e → c.strength_column-strength.result ≡ strength_byte e.s
-strength c e is shows =
-    let fields = has_fields c.args.text.now e is shows in
-    c.strength_column-strength.ensures ∙ ap strength_byte (sym (c.in_ok-s.ensures.2 e.s (strength_fits e.s is.s) fields.3))
+strength c e is shows = grind (arith, has_fields c.args.text.now e is shows)
 
 pub returns-then-is_blank : goal.returns-then-is_blank
 returns-then-is_blank c = blank_read _ c.no_values.result c.no_values.ensures (c.is_blank.ensures c.if-is_blank.true)

@@ -1,6 +1,5 @@
-use Rattle.rinex_file.proofs.Judged.{at_some}
 use Rattle.rinex_file.proofs.HeaderRows.Types.{IsInLine, still_grows, read_here, index_read, taken_more, taken_before}
-use Rattle.rinex_file.proofs.Names.{unmapped, arith, ◌≡◌, ◌∙◌, sym, ap, refl, subst, none-some, ℕ, List, [], ◌∷◌, length, take, min, ◌+◌, ◌<◌, ◌≤◌, Ok, take_at, take_min, System, SignalAt, IsSignal, AreTypes, types_line, signals_begun, table, indices, IsAppended, IsOf, length_push, short_table}
+use Rattle.rinex_file.proofs.Names.{at_some, unmapped, arith, ◌≡◌, ◌∙◌, sym, ap, refl, subst, none-some, ℕ, List, [], ◌∷◌, length, take, min, ◌+◌, ◌<◌, ◌≤◌, Ok, take_at, take_min, System, SignalAt, IsSignal, AreTypes, types_line, signals_begun, table, indices, IsAppended, IsOf, length_push, short_table}
 use Rattle.rinex_file.proofs.read.types.take_signals.Goals as goal
 
 -- the index of the signal is below that of the first one of the next line, and there are that many

@@ -1,8 +1,7 @@
-use Rattle.rinex_file.proofs.ReaderLaws.{failed_read, fine_read, more_read}
 use Rattle.rinex_file.proofs.Reading.Accepted.{epoch_begun, is_part, line_is, none_added}
 use Rattle.rinex_file.proofs.Reading.Header.{past_header}
 use Rattle.rinex_file.proofs.Reading.Summary.{ended, has_times, summed}
-use Rattle.rinex_file.proofs.Names.{Bool, IsTrue, ◌↔◌, true, false, ◌≡◌, ◌∙◌, ◌+◌, [], ℕ, List, Option, arith, ap, refl, subst, HasRead, HasReadEpochs, History, Known, ParserState, progress_at, ReadsNextLine, EpochReader, Stamped, Ok, err_from_is_err_and}
+use Rattle.rinex_file.proofs.Names.{failed_read, fine_read, more_read, Bool, IsTrue, ◌↔◌, true, false, ◌≡◌, ◌∙◌, ◌+◌, [], ℕ, List, Option, arith, ap, refl, subst, HasRead, HasReadEpochs, History, Known, ParserState, progress_at, ReadsNextLine, EpochReader, Stamped, Ok, err_from_is_err_and}
 use Rattle.rinex_file.proofs.read.epochs.EpochReader.begin.Goals as goal
 
 pub next_line-requires : goal.next_line-requires

@@ -1,5 +1,4 @@
-use Rattle.rinex_file.proofs.ReaderLaws.{HasReadOn}
-use Rattle.rinex_file.proofs.Names.{◌≡◌, ◌-◌, ◌+◌, ◌≤◌, [], List, ℕ, Option, HasReadEpochs, Stamped, most_lines}
+use Rattle.rinex_file.proofs.Names.{HasReadOn, ◌≡◌, ◌-◌, ◌+◌, ◌≤◌, [], List, ℕ, Option, HasReadEpochs, Stamped, most_lines}
 use Rattle.rinex_file.proofs.read.epochs.EpochReader.begin.Given as goal
 
 -- the epochs that were read before

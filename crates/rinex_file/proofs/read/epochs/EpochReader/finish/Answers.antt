@@ -1,6 +1,5 @@
-use Rattle.rinex_file.proofs.ReaderLaws.{failed_read, fine_read, more_read}
 use Rattle.rinex_file.proofs.Reading.Accepted.{few_lines, row_is}
-use Rattle.rinex_file.proofs.Names.{◌∙◌, ap, arith, Ok, err_from_is_err_and}
+use Rattle.rinex_file.proofs.Names.{failed_read, fine_read, more_read, ◌∙◌, ap, arith, Ok, err_from_is_err_and}
 use Rattle.rinex_file.proofs.read.epochs.EpochReader.finish.Goals as goal
 
 pub next_row-requires : goal.next_row-requires

@@ -1,5 +1,4 @@
-use Rattle.rinex_file.proofs.ReaderLaws.{HasReadOn}
-use Rattle.rinex_file.proofs.Names.{◌≡◌, ◌-◌, ◌+◌, ◌≤◌, List, ℕ, Option, HasReadRows, Stamped, most_lines, plan_of}
+use Rattle.rinex_file.proofs.Names.{HasReadOn, ◌≡◌, ◌-◌, ◌+◌, ◌≤◌, List, ℕ, Option, HasReadRows, Stamped, most_lines, plan_of}
 use Rattle.rinex_file.proofs.read.epochs.EpochReader.finish.Given as goal
 
 -- satellites of the epoch that was begun

@@ -1,13 +1,11 @@
 -- What the next line is decides the end of the step: the end of the input, a line that is too long, or a line that
 -- the parser takes or refuses. The lines taken so far go on by one.
-use Rattle.rinex_file.proofs.ReaderLaws.{fine_read}
 use Rattle.rinex_file.proofs.FileLines.{lines_are_lines}
-use Rattle.rinex_file.proofs.Judged.{refused as judged}
 use Rattle.rinex_file.proofs.Reading.Accepted.{epochs_read, stopped}
 use Rattle.rinex_file.specs.declared.read.fault.ReadFault.TheVariants.{Memory}
 use Rattle.rinex_file.proofs.Reading.Header.{no_epochs_yet, run_out, unfinished, file_shown, only_file, file_read, sound_rows, begun, expected_at}
 use Rattle.rinex_file.proofs.Reading.Lines.{at_types, one_more, refused, over_long, cut, whole, both_said, too_long, line_some, is_empty, not_empty}
-use Rattle.rinex_file.proofs.Names.{common_steps, ◌≡◌, ExplainsFault, HasRead, History, IfSome, IsFaultAfter, EpochReader, List, Option, Read, ReadFault, StopsReading, ⊤, is_of_types, refl, ◌∙◌, sym, ap, subst, ℕ, ◌^◌, ◌+◌, ◌<◌, ◌≤◌, length, Err, arith, Refusal, GoesOnWithLine, ShowsLine, RefusesLine, TakesLine, progress_at}
+use Rattle.rinex_file.proofs.Names.{fine_read, refused as judged, common_steps, ◌≡◌, ExplainsFault, HasRead, History, IfSome, IsFaultAfter, EpochReader, List, Option, Read, ReadFault, StopsReading, ⊤, is_of_types, refl, ◌∙◌, sym, ap, subst, ℕ, ◌^◌, ◌+◌, ◌<◌, ◌≤◌, length, Err, arith, Refusal, GoesOnWithLine, ShowsLine, RefusesLine, TakesLine, progress_at}
 use Rattle.rinex_file.proofs.read.epochs.EpochReader.next_line.Goals as goal
 
 -- a fault that is neither the reader's nor one of memory

@@ -1,6 +1,5 @@
 use Rattle.rinex_file.proofs.Reading.Accepted.{first_epochs, open_part, row_planned, row_read, whole_part}
-use Rattle.rinex_file.proofs.Judged.{refused}
-use Rattle.rinex_file.proofs.Names.{Bool, Err, ExpectsRow, HasReadRows, List, Ok, Option, EpochReader, ReadFault, ReadsNextLine, ReadsRow, Result, Stamped, arith, common_steps, false, refl, subst, true, ℕ}
+use Rattle.rinex_file.proofs.Names.{refused, Bool, Err, ExpectsRow, HasReadRows, List, Ok, Option, EpochReader, ReadFault, ReadsNextLine, ReadsRow, Result, Stamped, arith, common_steps, false, refl, subst, true, ℕ}
 use Rattle.rinex_file.proofs.read.epochs.EpochReader.next_row.Goals as goal
 
 pub returns-then-not-expects_row-clause-rows : goal.returns-then-not-expects_row-clause-rows

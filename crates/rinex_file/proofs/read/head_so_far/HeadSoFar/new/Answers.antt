@@ -1,6 +1,5 @@
-use Rattle.rinex_file.proofs.Judged.{at_some}
 use Rattle.rinex_file.proofs.HeaderRows.End.{begins, none_read, zero_time, zero_values}
-use Rattle.rinex_file.proofs.Names.{value_of, value_mapped, arith, rules, ◌≡◌, ◌∙◌, [], ap, subst, sym, indices, AreStationValues, refl}
+use Rattle.rinex_file.proofs.Names.{at_some, value_of, value_mapped, arith, rules, ◌≡◌, ◌∙◌, [], ap, subst, sym, indices, AreStationValues, refl}
 use Rattle.rinex_file.proofs.read.head_so_far.HeadSoFar.new.Goals as goal
 
 pub returns : goal.returns

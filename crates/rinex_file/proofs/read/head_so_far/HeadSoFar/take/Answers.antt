@@ -2,8 +2,7 @@
 use Rattle.rinex_file.proofs.HeaderRows.End.{ends, no_end_line}
 use Rattle.rinex_file.proofs.HeaderRows.Steps.{decided, items_expected, none_at, none_from, read_next, row_law, takes_from, takes_row, unread_next}
 use Rattle.rinex_file.proofs.HeaderRows.Places.{place_at}
-use Rattle.rinex_file.proofs.Judged.{refused}
-use Rattle.rinex_file.proofs.Names.{arith, common_steps, is_of_types, is_some, ◌≡◌, ◌∙◌, sym, ap, subst, refl, ℕ, List, Result, Ok, Err, IsErrAnd, Expected, Refusal, Memory, Bad, End, row_place, Known, IsHeadAt, SameFrom, EndsHeader, NoneGoesOn, TakesHeaderLine, true, line_with, []}
+use Rattle.rinex_file.proofs.Names.{refused, arith, common_steps, is_of_types, is_some, ◌≡◌, ◌∙◌, sym, ap, subst, refl, ℕ, List, Result, Ok, Err, IsErrAnd, Expected, Refusal, Memory, Bad, End, row_place, Known, IsHeadAt, SameFrom, EndsHeader, NoneGoesOn, TakesHeaderLine, true, line_with, []}
 use Rattle.rinex_file.proofs.read.head_so_far.HeadSoFar.take.Goals as goal
 
 -- a refusal that was passed on

@@ -1,6 +1,5 @@
-use Rattle.rinex_file.proofs.ReaderLaws.{leaves_all}
 use Rattle.rinex_file.proofs.Reading.Lines.{ahead_moved}
-use Rattle.rinex_file.proofs.Names.{arith, take-append-drop}
+use Rattle.rinex_file.proofs.Names.{leaves_all, arith, take-append-drop}
 use Rattle.rinex_file.proofs.read.lines.Lines.next.Goals as goal
 
 pub returns-then-self-gt0-clause-taken : goal.returns-then-self-gt0-clause-taken

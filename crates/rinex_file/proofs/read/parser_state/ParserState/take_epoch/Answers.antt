@@ -1,6 +1,5 @@
 use Rattle.rinex_file.proofs.Reading.Epochs.{Begins, bad_of, goes_on, stopped, epoch_taken, epoch_shows, few_satellites, no_epoch, sound_begun, sound_epoch, outside_after}
-use Rattle.rinex_file.proofs.Judged.{refused}
-use Rattle.rinex_file.proofs.Names.{◌∙◌, planned_in, civil_of, epoch_line, List, Option, ReadsExactly, ◌<◌, ◌≤◌, ℕ, subst, sym, IsTime, progress_at, Progress, MayBegin, Satellite, refl}
+use Rattle.rinex_file.proofs.Names.{refused, ◌∙◌, planned_in, civil_of, epoch_line, List, Option, ReadsExactly, ◌<◌, ◌≤◌, ℕ, subst, sym, IsTime, progress_at, Progress, MayBegin, Satellite, refl}
 use Rattle.rinex_file.proofs.read.parser_state.ParserState.take_epoch.Goals as goal
 
 pub may_begin-requires : goal.may_begin-requires

@@ -1,7 +1,6 @@
-use Rattle.rinex_file.proofs.Judged.{refused}
 use Rattle.rinex_file.proofs.Reading.Epochs.{bad_of, goes_on, stopped}
 use Rattle.rinex_file.proofs.Reading.Events.{height_taken, height_shows, no_height, same_height, sound_height}
-use Rattle.rinex_file.proofs.Names.{◌≡◌, ◌∙◌, ◌<◌, ◌^◌, ReadsExactly, height_line, sym, ap, subst, refl, ℕ, List, Option, unwrap_or, StationValues, changed_by, ParserState, Expected, EventEpoch, History, IsNext, ExpectsRow, progress_at, common_steps, arith}
+use Rattle.rinex_file.proofs.Names.{refused, ◌≡◌, ◌∙◌, ◌<◌, ◌^◌, ReadsExactly, height_line, sym, ap, subst, refl, ℕ, List, Option, unwrap_or, StationValues, changed_by, ParserState, Expected, EventEpoch, History, IsNext, ExpectsRow, progress_at, common_steps, arith}
 use Rattle.rinex_file.proofs.read.parser_state.ParserState.take_height.Goals as goal
 
 -- the current station values, by those that changed last

@@ -1,6 +1,5 @@
 use Rattle.rinex_file.proofs.HeaderRows.Slots.{count_is, line_judged, no_room, too_many}
-use Rattle.rinex_file.proofs.Taken.{is_taken}
-use Rattle.rinex_file.proofs.Names.{arith, refl, ◌≡◌, ◌∙◌, ◌*◌, ap, suc, length, min, take, take_min, slots_of}
+use Rattle.rinex_file.proofs.Names.{is_taken, arith, refl, ◌≡◌, ◌∙◌, ◌*◌, ap, suc, length, min, take, take_min, slots_of}
 use Rattle.rinex_file.proofs.read.slots.SlotsSoFar.take.Goals as goal
 
 pub returns-then-count : goal.returns-then-count

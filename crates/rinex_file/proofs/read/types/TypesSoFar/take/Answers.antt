@@ -1,8 +1,7 @@
 use Rattle.rinex_file.proofs.HeaderRows.Read.{row_taken}
-use Rattle.rinex_file.proofs.Judged.{at_some, refused}
 use Rattle.rinex_file.proofs.HeaderRows.Lists.{up_to}
 use Rattle.rinex_file.proofs.HeaderRows.Types.{same_types_line}
-use Rattle.rinex_file.proofs.Names.{List, System, add-one, signals_begun, take, types_with, ℕ, ◌+◌, ◌≡◌, ◌∙◌, sym, ap, Bool, true, Option, then_some, ok_or, ⊤, OnOk, Result, Err, Refusal, Bad, err_from_is_err_and, indices, none-some, same_Some, common_steps, arith}
+use Rattle.rinex_file.proofs.Names.{at_some, refused, List, System, add-one, signals_begun, take, types_with, ℕ, ◌+◌, ◌≡◌, ◌∙◌, sym, ap, Bool, true, Option, then_some, ok_or, ⊤, OnOk, Result, Err, Refusal, Bad, err_from_is_err_and, indices, none-some, same_Some, common_steps, arith}
 use Rattle.rinex_file.proofs.read.types.TypesSoFar.take.Goals as goal
 
 -- signals that begin in the lines up to one have the line of all
