@@ -26,9 +26,7 @@ pub has-point : (places : ℕ) (z : ℤ) → has 46 (fixed places z) ≡ true
 has-point places z = has-append 46 (sign_text (is_negative z) ++ decimal (unsigned_abs z / 10 ^ places)) (46 ∷ padded places (unsigned_abs z % 10 ^ places)) ∙ or_right _ true refl
 
 no_value : (v : ℤ) (a b c d : ℕ) → FitsColumns v → field None a b ≡ field (Some v) c d → ⊥
-no_value v a b c d h e =
-    let blank : has 46 (take 14 (replicate 16 32)) ≡ true = ap (λ t. has 46 (take 14 t)) (no_field a b ∙ e) ∙ ap (has 46) (field_parts v c d h).0 ∙ has-right 46 14 (fixed 3 v) refl ∙ has-point 3 v in
-    cc
+no_value v a b c d h e = grind (arith, ap (λ t. has 46 (take 14 t)) (no_field a b ∙ e) ∙ ap (has 46) (field_parts v c d h).0 ∙ has-right 46 14 (fixed 3 v) refl ∙ has-point 3 v)
 
 pub field_once : {v w : Option ℤ} (a b c d : ℕ) → IfSome v FitsColumns → IfSome w FitsColumns → field v a b ≡ field w c d → v ≡ w
 field_once {v = None} {w = None} a b c d h k e = refl

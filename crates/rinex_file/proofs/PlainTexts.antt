@@ -46,13 +46,10 @@ plain n text clean short = record { clean = clean; short = short }
 
 -- ---- fields, one after the other
 
-one_more : (n k : ℕ) → n + k * n ≡ suc k * n
-one_more n k = omega arith
-
 pub plain-flat_map : {X : Type 0} (n : ℕ) (f : X → List ℕ) (xs : List X) → All (λ x. IsPlain n (f x)) xs → IsPlain (length xs * n) (flat_map f xs)
 plain-flat_map n f [] are = record { clean = refl; short = omega arith }
 plain-flat_map n f (x ∷ xs) are =
-    plain-wider (n + length xs * n) (suc (length xs) * n) (f x ++ flat_map f xs) (let e = one_more n (length xs) in omega (arith, e))
+    plain-wider (n + length xs * n) (suc (length xs) * n) (f x ++ flat_map f xs) (let e : n + length xs * n ≡ suc (length xs) * n = omega arith in omega (arith, e))
     (plain-append n (length xs * n) (f x) (flat_map f xs) (All-head (λ x. IsPlain n (f x)) x xs are) (plain-flat_map n f xs (All-tail (λ x. IsPlain n (f x)) x xs are)))
 
 pub plain-joined : (n : ℕ) (ts : List (List ℕ)) → AllByRecursion (IsPlain n) ts → IsPlain (length ts * n) (joined ts)

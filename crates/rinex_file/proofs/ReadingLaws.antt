@@ -3,7 +3,7 @@ use Rattle.rinex_file.proofs.FileLines.{lines_are_lines}
 use Rattle.rinex_file.proofs.Reading.Accepted.{are_read, not_pushed, plan_read}
 use Rattle.rinex_file.proofs.Reading.Epochs.{sound_open}
 use Rattle.rinex_file.proofs.Reading.Lines.{consumed, splits}
-use Rattle.rinex_file.proofs.Names.{length-append, ◌≤◌, arith, length, map, IsStrictlyIncreasing, All-append, All-cons, All-head, All-nil, All-tail, map-append, sum_by-append, PlanValue, rows_in, most_lines, file_text, AreSatelliteRows, IsFileValue, IsPlan, IsTime, time_stamped, HasReadRowsAt, common_steps, open_epochs, HasPlan, HasLinesLeft, HasReadRows, IsAt, IsSoundAt, IsStamped, All, plan_of, planned_in, ◌∙◌, ◌≡◌, sym, ap, refl, subst, ℕ, List, [], ◌∷◌, ◌++◌, ◌+◌, Option, IfSome, Expected, Header, Epoch, EventPosition, EventHeight, EventEpoch, Satellite, EpochReader, Progress, HasReadEpochs, progress_at, Stamped, FileValue, joined, file_lines}
+use Rattle.rinex_file.proofs.Names.{length-append, ◌≤◌, arith, length, map, IsStrictlyIncreasing, All-append, All-cons, All-nil, map-append, sum_by-append, PlanValue, rows_in, most_lines, file_text, AreSatelliteRows, IsFileValue, IsPlan, IsTime, time_stamped, HasReadRowsAt, common_steps, open_epochs, HasPlan, HasLinesLeft, HasReadRows, IsAt, IsSoundAt, IsStamped, All, plan_of, planned_in, ◌∙◌, ◌≡◌, sym, ap, refl, subst, ℕ, List, [], ◌∷◌, ◌++◌, ◌+◌, Option, IfSome, Expected, Header, Satellite, EpochReader, Progress, HasReadEpochs, progress_at, Stamped, FileValue, joined, file_lines}
 
 -- epochs of a file with this plan, which don't have more lines than a file has
 pub record AreFine (p : PlanValue) (es : List Stamped) : Type 0 where
@@ -14,12 +14,10 @@ pub record AreFine (p : PlanValue) (es : List Stamped) : Type 0 where
   pub few : length es + rows_in es ≤ most_lines
 
 all_rows : (p : PlanValue) (es : List Stamped) → All (IsStamped (planned_in p)) es → All (λ e. AreSatelliteRows (planned_in p) e.rows) es
-all_rows p [] all = All-nil (λ (e : Stamped). AreSatelliteRows (planned_in p) e.rows)
-all_rows p (e ∷ es) all = All-cons (λ (e : Stamped). AreSatelliteRows (planned_in p) e.rows) e es (All-head (IsStamped (planned_in p)) e es all).rows (all_rows p es (All-tail (IsStamped (planned_in p)) e es all))
+all_rows p es all = λ k d less. (all k d less).rows
 
 all_times : (p : PlanValue) (es : List Stamped) → All (IsStamped (planned_in p)) es → All (λ e. IsTime e.time) es
-all_times p [] all = All-nil (λ (e : Stamped). IsTime e.time)
-all_times p (e ∷ es) all = All-cons (λ (e : Stamped). IsTime e.time) e es (All-head (IsStamped (planned_in p)) e es all).time (all_times p es (All-tail (IsStamped (planned_in p)) e es all))
+all_times p es all = λ k d less. (all k d less).time
 
 -- whole epochs
 pub whole_fine : (r : EpochReader) (es : List Stamped) {input left : Option (List ℕ)} → HasReadEpochs r es input left → (es ≡ [] → ⊥) → AreFine (plan_of r) es
@@ -55,11 +53,7 @@ plan_known r es read some = plan_read read.0 (λ none rows. some none)
 
 plan_at : (s : Progress) (expected : Expected) (v : FileValue) (left : List (List ℕ)) → IsSoundAt s expected → (s.epochs ≡ [] → ⊥) → IsAt s expected v left → v.plan ≡ s.known.shown.plan
 plan_at s (Header place) v left sound some at = absurd (some sound.0)
-plan_at s Epoch v left sound some at = ap (λ (f : FileValue). f.plan) at.value
-plan_at s EventPosition v left sound some at = ap (λ (f : FileValue). f.plan) at.value
-plan_at s (EventHeight position) v left sound some at = ap (λ (f : FileValue). f.plan) at.value
-plan_at s (EventEpoch values) v left sound some at = ap (λ (f : FileValue). f.plan) at.value
-plan_at s (Satellite n) v left sound some at = ap (λ (f : FileValue). f.plan) at.value
+plan_at s other v left sound some at = ap (λ (f : FileValue). f.plan) at.value
 
 plan_left : (s : Progress) (v : FileValue) (left : List (List ℕ)) → IsSoundAt s s.expected → (s.epochs ≡ [] → ⊥) → HasLinesLeft s v left → v.plan ≡ s.known.shown.plan
 unfolding HasLinesLeft

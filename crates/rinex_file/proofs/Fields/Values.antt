@@ -117,12 +117,7 @@ value_begins v lost strength fits =
 
 -- no value has more than nine blanks before it
 pub few_before : (columns : List ℕ) (v : ℤ) (lost strength : ℕ) → FitsColumns v → columns ≡ field (Some v) lost strength → blanks columns ≤ 9
-few_before columns v lost strength fits is =
-    let (sign, start) = value_begins v lost strength fits in
-    let less = at_least (is_negative v) (blanks (field (Some v) lost strength)) in
-    omega (arith, ap blanks is, start, leading-le (front (unsigned_abs v)), less) where
-      at_least : (b : Bool) (n : ℕ) → n ≤ (if b then n + 1 else n)
-      at_least b n = grind (arith, common_steps)
+few_before columns v lost strength fits is = grind (arith, value_begins v lost strength fits)
 
 -- the digits that are left of the columns of a value
 pub record IsShown (ds : List ℕ) (start : ℕ) (b : Bool) (v : ℤ) : Type 0 where
@@ -218,8 +213,7 @@ zero_first b are lead row digits none = grind (arith, common_steps, below_at, ge
 pub no_zero_first : (b : Bool) (n start : ℕ) (xs : List ℕ) → start < n → get_or xs start 0 ≡ 48 → leading (take n (zip2 taken xs (template b n start))) ≡ start → ⊥
 no_zero_first b n start [] small none is = absurd (omega (arith, none))
 no_zero_first b zero start (x ∷ xs) small none is = omega (arith, small)
-no_zero_first b (suc n) zero (x ∷ xs) small none is =
-    omega (arith, ap (λ d. leading (taken d 48 ∷ take n (zip2 taken xs (template b n 0)))) (sym none) ∙ is)
+no_zero_first b (suc n) zero (x ∷ xs) small none is = grind (arith, common_steps, taken)
 no_zero_first b (suc n) (suc start) (x ∷ xs) small none is =
     no_zero_first b n start xs (omega (arith, small)) none (grind (arith, common_steps))
 

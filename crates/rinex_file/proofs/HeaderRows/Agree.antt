@@ -1,7 +1,7 @@
 -- Version, position and height are read back from their lines; the lines of a header up to a row and from it on.
 use Rattle.rinex_file.proofs.Reading.Dates.{IsField, AreFields, field_at}
 use Rattle.rinex_file.proofs.HeaderRows.Types.{content_first}
-use Rattle.rinex_file.proofs.Names.{flat_map-append, number_in-fixed, digits_in-right, digits_in-fixed, length-fixed, length-right, length-sign, mod-eq_of_lt, IsInterval, arith, ◌≡◌, ◌∙◌, refl, sym, ap, ℕ, ◌+◌, ◌<◌, ◌≤◌, ◌^◌, List, [], ◌∷◌, ◌++◌, length, take, drop, append-nil, length-append, Bool, true, false, ℤ, pos, unsigned_abs, suc, lit<, ◌==◌, if◌then◌else◌, flat_map, slice_get, unwrap_or, is_negative, digits, ints, take_more, take-append-drop, drop-cons, System, passes_at, is_equal, planned_of, joined, right, fixed, digits_in, number_in, header_line, lengths, height_line, row_line, row_lines, has_line, header_lines, all_rows, row_count, row_at, row_place, lines_after, Shown, Version, Delta, Interval, line_with, row_label, version_content, interval_content, lines_before, IsShown, AreTypes, IsCoordinate, End, HeaderRow, drop-append-le}
+use Rattle.rinex_file.proofs.Names.{flat_map-append, number_in-fixed, digits_in-right, digits_in-fixed, length-fixed, length-right, length-sign, mod-eq_of_lt, IsInterval, arith, ◌≡◌, ◌∙◌, refl, sym, ap, ℕ, ◌+◌, ◌<◌, ◌≤◌, ◌^◌, List, [], ◌∷◌, ◌++◌, length, take, drop, append-nil, length-append, Bool, true, false, ℤ, pos, unsigned_abs, suc, lit<, ◌==◌, if◌then◌else◌, flat_map, slice_get, unwrap_or, is_negative, digits, ints, take_more, take-append-drop, drop-cons, System, passes_at, is_equal, planned_of, joined, right, fixed, digits_in, number_in, header_line, lengths, height_line, row_line, row_lines, has_line, header_lines, all_rows, row_count, row_at, row_place, lines_after, Shown, Version, Delta, Interval, line_with, row_label, version_content, interval_content, lines_before, IsShown, AreTypes, IsCoordinate, End, HeaderRow, drop-append-le, common_steps}
 
 -- ---- version
 
@@ -19,9 +19,7 @@ fits_64 : (n : ℕ) → n < 10 ^ 12 → n < 2 ^ 64
 fits_64 n h = omega (arith, h)
 
 length-column : (z : ℤ) → Fits14 z → length (right 14 (fixed 4 z)) ≡ 14
-length-column z h =
-    let text = length-fixed 4 8 z (omega arith) (omega arith) (fits_64 (unsigned_abs z) h) (omega (arith, h)) in
-    length-right 14 (fixed 4 z) (omega (arith, text, length-sign (is_negative z)))
+length-column z h = grind (arith, common_steps, length-right, length-sign, length-fixed 4 8 z (omega arith) (omega arith) (fits_64 (unsigned_abs z) h) (omega (arith, h)))
 
 is_length : (z : ℤ) → Fits14 z → IsField number_in (right 14 (fixed 4 z)) (14, z)
 is_length z h = (length-column z h, number_in-fixed 14 4 z (omega arith) (fits_64 (unsigned_abs z) h))

@@ -43,7 +43,7 @@ module _ (k : Known) (h : Shown) (is : IsShown h) (valid : AreValid k) (has : Ha
     row_of : (r : HeaderField) → AreSameTexts h.texts k.shown.texts (fields_of r)
     row_of r = by (fields_of r) (λ some. let at = text_here r some in subst (HasRow k h) at.0 (has.rows (row_place (Texts r)) at.1)) where
       by : (fs : List HeaderField) → ((fs ≡ [] → ⊥) → AreSameTexts h.texts k.shown.texts fs) → AreSameTexts h.texts k.shown.texts fs
-      by [] same = tt
+      by [] same = refl
       by (f ∷ fs) same = same (λ e. cc)
 
     at : (i : ℕ) → i < text_count → get_or h.texts i [] ≡ get_or k.shown.texts i []

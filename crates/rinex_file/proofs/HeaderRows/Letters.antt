@@ -12,16 +12,12 @@ one_letter s t e = same_Some s t (sym (letter_back s) ∙ ap system_of_letter e 
 
 -- ---- the letter of a list
 
--- with one system more
-joined_letter : (ss : List System) (s : System) → letter_of (ss ++ s ∷ []) ≡ (if letter_of ss == 0 then letter s else 77)
-joined_letter ss s = grind arith
-
 -- of the systems before an index, with the one at it
 pub letter_next : (f : System → Bool) (n : ℕ) (s : System) → index_of s ≡ n
     → letter_of (filter f (take (n + 1) systems)) ≡ (if f s then (if letter_of (filter f (take n systems)) == 0 then letter s else 77) else letter_of (filter f (take n systems)))
 letter_next f n s at = ap (λ ss. letter_of (filter f ss)) (systems_taken n s at) ∙ ap letter_of (filter-append f (take n systems) (s ∷ [])) ∙ by (f s) where
   by : (b : Bool) → letter_of (filter f (take n systems) ++ cond b (s ∷ []) []) ≡ (if b then (if letter_of (filter f (take n systems)) == 0 then letter s else 77) else letter_of (filter f (take n systems)))
-  by b = grind (arith, common_steps, joined_letter)
+  by b = grind (arith, common_steps)
 
 -- ---- flags
 
@@ -39,9 +35,6 @@ has_flag f s e = any-filter_same (is_system s) f true (λ t h. subst (λ r. f r 
 -- a letter other than `M` is that of each system with a flag
 own_letter : (f : System → Bool) (m : ℕ) → (m ≡ 77 → ⊥) → flagged_letter f ≡ m → (s : System) → f s ≡ true → letter s ≡ m
 own_letter f m far is s e = grind (arith, has_flag, equal_indices)
-
-several_size : (ss : List System) → letter_of ss ≡ 77 → 2 ≤ length ss
-several_size ss e = grind arith
 
 several_from : (ss : List System) → 2 ≤ length ss → letter_of ss ≡ 77
 several_from ss l = grind arith
@@ -61,7 +54,7 @@ chosen_letter : (f some may : System → Bool) (m : ℕ) → flagged_letter f �
     → flagged_letter (chosen_by m some may) ≡ m
 chosen_letter f some may m is positive sub sup = equal_or (flagged_letter (chosen_by m some may) ≡ m) m 77 several one where
   several : m ≡ 77 → flagged_letter (chosen_by m some may) ≡ m
-  several h1 = grind (arith, common_steps, more_flags, several_size, several_from)
+  several h1 = grind (arith, common_steps, more_flags, several_from)
 
   one : (m ≡ 77 → ⊥) → flagged_letter (chosen_by m some may) ≡ m
   one far = same_flags (chosen_by m some may) f (λ s. by (f s) (some s) (may s) (m == 77 || m == letter s) (sub s) (sup s) (λ h. here s (own_letter f m far is s h)) (λ h. again s h)) ∙ is where

@@ -204,8 +204,7 @@ interval (Some n) is = let less = at_most_a_day n is in interval_fits n (omega (
 -- ---- rows
 
 plain_label : (r : HeaderRow) → IsPlain 20 (row_label r)
-plain_label (Texts r) = (plain_row r).label
-plain_label other = plain 20 _ refl (lit≤ tt)
+plain_label r = grind (arith, plain_row, plain)
 
 pub labelled : (r : HeaderRow) (content : List ℕ) → IsPlain 600 content → IsFileLine (line_with r content)
 unfolding header_line

@@ -5,8 +5,8 @@ use Rattle.rinex_file.proofs.HeaderRows.Slots.{same_slots_line, slots_are}
 use Rattle.rinex_file.proofs.HeaderRows.Types.{same_types_line}
 use Rattle.rinex_file.proofs.HeaderRows.Places.{either, slots_here, types_here}
 use Rattle.rinex_file.proofs.HeaderRows.Steps.{left_over}
-use Rattle.rinex_file.proofs.HeaderRows.Texts.{each_field, field_back, is_apart, same_here, same_line, same_some, kept_texts, same_texts, texts_back}
-use Rattle.rinex_file.proofs.Names.{value_after, value_of_other, IsLineOfTypes, IsThere, Glonass, AreSlots, common_steps, AreListsAt, IsRowRead, IsRowUnread, arith, ◌≡◌, ◌∙◌, sym, ap, refl, subst, ℕ, suc, ◌+◌, ◌<◌, ◌≤◌, Bool, true, false, List, [], length, take, min, ◌↔◌, ◌^◌, Option, Some, None, IsTrue, list_all, take-map, SignalAt, table, System, is_less, is_system, indices, planned_of, civil_of, StationValues, length_indices, Types, Version, Texts, Position, Delta, First, row_line, has_line, type_rows, position_line, row_place, Known, Has, HasRow, AreSameTexts, counted, systems_letter, AreTypes, signals_begun, IsPosition, position_of, Shown, IsShown, TakesTypes, RefusesTypes, with_types, IsHeaderLineRead, RefusesHeaderLine, ReadsOrRefuses, ReadsTexts, RefusesTexts, with_texts, with_values, with_first, with_letter, HeaderField, HeaderRow, HeaderLists, fields_of, front_of, IsTime, ReadsExactly, same_Some, ⊤, Slots, slots_line, slots_with, slots_of, slots_begun, known_slots, with_slots, AreItemsBefore, AreSameItems, types_with, most_type_rows, IsLineOfSlots, TakesSlots, TakesOrRefusesSlots, ChannelsValue, add-one, has_text, is_required, not-true, Interval, IsInterval, is_some, with_interval, lit≤, line_with, row_content, ReadsHeaderRow, version_content, interval_content, first_content, height_content, position_content, IfSome, unwrap_or}
+use Rattle.rinex_file.proofs.HeaderRows.Texts.{each_field, field_back, is_apart, same_line, same_some, kept_texts, texts_back}
+use Rattle.rinex_file.proofs.Names.{value_after, value_of_other, IsLineOfTypes, IsThere, common_steps, AreListsAt, IsRowRead, IsRowUnread, arith, ◌≡◌, ◌∙◌, sym, ap, refl, subst, ℕ, suc, ◌+◌, ◌<◌, ◌≤◌, Bool, true, false, List, length, take, min, ◌↔◌, ◌^◌, Some, None, IsTrue, list_all, take-map, SignalAt, table, System, is_less, is_system, indices, planned_of, civil_of, StationValues, length_indices, Types, Version, Texts, Position, Delta, First, row_line, has_line, type_rows, position_line, row_place, Known, Has, HasRow, AreSameTexts, counted, systems_letter, AreTypes, signals_begun, IsPosition, position_of, Shown, IsShown, TakesTypes, RefusesTypes, with_types, IsHeaderLineRead, RefusesHeaderLine, ReadsOrRefuses, ReadsTexts, RefusesTexts, with_texts, with_values, with_first, with_letter, HeaderField, HeaderRow, HeaderLists, fields_of, front_of, IsTime, ReadsExactly, same_Some, ⊤, Slots, slots_line, slots_of, slots_begun, known_slots, with_slots, AreItemsBefore, AreSameItems, types_with, most_type_rows, IsLineOfSlots, TakesSlots, TakesOrRefusesSlots, ChannelsValue, add-one, has_text, is_required, not-true, Interval, IsInterval, with_interval, line_with, row_content, ReadsHeaderRow, version_content, interval_content, first_content, height_content, position_content}
 
 -- ---- types
 
@@ -14,17 +14,7 @@ use Rattle.rinex_file.proofs.Names.{value_after, value_of_other, IsLineOfTypes, 
 pub row_taken : {system : System} {count before row : ℕ} {line : List ℕ} {old : List SignalAt} (new : List SignalAt) → count ≤ length (table system) → row < type_rows count → (0 < row → before ≡ count)
     → take (length old) new ≡ old → length old ≡ signals_begun row → length new ≡ min (signals_begun (row + 1)) count → line ≡ types_with system count (indices new) row
     → ((all : List ℕ) → IsLineOfTypes system row line before (indices old) all → (length all ≡ count) × (indices new ≡ take (signals_begun (row + 1)) all)) → TakesTypes system row line before (indices old) count (indices new)
-row_taken {count = count} {row = row} {old = old} new few rows later grows begun size is taken = record {
-  items = record {
-    later = later;
-    size = length_indices new ∙ size ∙ ap (λ n. min (signals_begun n) count) (add-one row);
-    grows = ap (λ n. take n (indices new)) (sym begun) ∙ take-map _ (length old) new ∙ ap indices grows;
-    is = is;
-    taken = λ all l. let (number, first) = taken all l in (number, first ∙ ap (λ n. take (signals_begun n) all) (add-one row));
-  };
-  few = few;
-  rows = rows;
-}
+row_taken new few rows later grows begun size is taken = grind (arith, length_indices, add-one, take-map)
 
 same_made : (P : ℕ → List ℕ → Type 0) {a b : ℕ} {xs ys : List ℕ} → a ≡ b → xs ≡ ys → P a xs ↔ P b ys
 same_made P {a} {b} {xs} {ys} e f = (λ p. subst (λ n. P n ys) e (subst (P a) f p), λ p. subst (P a) (sym f) (subst (λ n. P n ys) (sym e) p))
@@ -64,15 +54,7 @@ module _ (s : System) (row : ℕ) (line : List ℕ) (k : Known) (before : AreIte
     size = t.items.size
 
     lists : AreListsAt k → AreListsAt after
-    lists w = record {
-      read = each_made (λ u c xs. length xs ≤ c) (omega (arith, size)) w.read;
-      few = each_made (λ u c xs. c ≤ length (table u)) t.few w.few;
-      slots_read = w.slots_read;
-      room = w.room;
-      unplanned = λ none. w.unplanned (none_planned none);
-    } where
-      none_planned : counted after Glonass ≡ 0 → counted k Glonass ≡ 0
-      none_planned none = grind (arith, common_steps, either, value_after, value_of_other)
+    lists w = grind (arith, common_steps, each_made, size, either, value_after, value_of_other)
 
     pub types_read : IsHeaderLineRead (Types s row) line k after
     unfolding row_line
@@ -121,9 +103,6 @@ refuse_exactly r Is content k line own read h is before there e = let (v, fits, 
 rows_apart : (q r : HeaderField) → (q ≡ r → ⊥) → list_all (is_apart (fields_of r)) (fields_of q) ≡ true
 rows_apart q r other = grind (arith, common_steps, left_over, each_field, field_back)
 
-turned : (x y : HeaderLists) (fs : List HeaderField) → AreSameTexts x y fs → AreSameTexts y x fs
-turned x y fs a = same_texts x y x fs a (same_here x fs)
-
 pub line_texts : (r : HeaderField) (line : List ℕ) (k : Known) (x : HeaderLists) → ReadsTexts r line k.shown.texts x → IsHeaderLineRead (Texts r) line k (with_texts k x)
 unfolding row_line
 line_texts r line k x read = record { lists = λ w. w; read = tt; early = λ q less before. before; later = later; there = λ o. left_over (is_required r) (has_text x r) read.some (λ e. let f = not-true (is_required r) o in cc); own = own; kept = kept } where
@@ -138,16 +117,14 @@ line_texts r line k x read = record { lists = λ w. w; read = tt; early = λ q l
   own h is before there = (
     λ e.
         let back = texts_back h.texts is.texts r line k.shown.texts read.size e in
-        turned x h.texts (fields_of r) (subst (λ y. AreSameTexts y h.texts (fields_of r)) (same_Some back.new x (sym back.read ∙ read.read)) back.same),
+        sym (subst (λ y. AreSameTexts y h.texts (fields_of r)) (same_Some back.new x (sym back.read ∙ read.read)) back.same),
     λ a. same_line h.texts x r a ∙ read.shown,
   )
 
   kept : (h : Shown) (q : HeaderRow) → row_place q < row_place (Texts r) → HasRow k h q ↔ HasRow (with_texts k x) h q
   kept h (Texts q) less =
-      let same = stay q (λ e. omega (arith, less, ap (λ f. row_place (Texts f)) e)) in (
-        λ a. turned x h.texts (fields_of q) (same_texts k.shown.texts x h.texts (fields_of q) (turned x k.shown.texts (fields_of q) same) (turned h.texts k.shown.texts (fields_of q) a)),
-        λ a. turned k.shown.texts h.texts (fields_of q) (same_texts x k.shown.texts h.texts (fields_of q) same (turned h.texts x (fields_of q) a)),
-      )
+      let same = stay q (λ e. omega (arith, less, ap (λ f. row_place (Texts f)) e)) in
+      (λ a. a ∙ sym same, λ a. a ∙ same)
   kept h other less = (λ e. e, λ e. e)
 
 pub refuse_texts : (k : Known) (r : HeaderField) (line : List ℕ) → RefusesTexts r line → RefusesHeaderLine k (Texts r) line
@@ -180,22 +157,11 @@ line_delta k height line r = grind (arith, exact)
 
 pub line_interval : (k : Known) (n : ℕ) (line : List ℕ) → ReadsHeaderRow Interval IsInterval interval_content line (Some n) → IsHeaderLineRead Interval line k (with_interval k n)
 unfolding row_line
-line_interval k n line r = record { lists = λ w. w; read = tt; early = λ q less before. before; later = later; there = λ o. refl; own = own; kept = kept } where
-  later : (q : HeaderRow) → row_place Interval < row_place q → IsRowUnread k q → IsRowUnread (with_interval k n) q
-  later q less blank = grind (arith, common_steps)
-
-  own : (h : Shown) → IsShown h → Has k (row_place Interval) h → has_line h Interval ≡ true → (row_line h Interval ≡ line) ↔ (h.interval ≡ Some n)
-  own h is before there = grind (arith, common_steps, interval-back, lit≤, at_most_a_day, exact, is.interval)
-
-  kept : (h : Shown) (q : HeaderRow) → row_place q < row_place Interval → HasRow k h q ↔ HasRow (with_interval k n) h q
-  kept h other less = grind (arith, common_steps)
+line_interval k n line r = grind (arith, interval-back, at_most_a_day, exact)
 
 -- a header with the line has an interval
 pub given_interval : (h : Shown) → IsShown h → has_line h Interval ≡ true → (n : ℕ) × IsInterval n × (row_content h Interval ≡ interval_content n)
-given_interval h is there = by h.interval is.interval there where
-  by : (o : Option ℕ) → IfSome o IsInterval → is_some o ≡ true → (n : ℕ) × IsInterval n × (interval_content (unwrap_or o 0) ≡ interval_content n)
-  by None is e = cc
-  by (Some n) is e = (n, is, refl)
+given_interval h is there = grind arith
 
 -- ---- the first epoch
 
@@ -226,21 +192,7 @@ module _ (row : ℕ) (line : List ℕ) (k : Known) (before : AreItemsBefore k (S
 
   slots_read : (count : ℕ) (channels : ChannelsValue) → TakesSlots row line k.slots (known_slots k) count (slots_of channels) → IsHeaderLineRead (Slots row) line k (with_slots k count channels)
   unfolding row_line
-  slots_read count channels t = record { lists = lists; read = omega (arith, size); early = early; later = later; there = λ o. cc; own = λ h is has there. (λ e. same_after (AreSlots 0) slots_begun slots_with t.items (slots_of h.plan.channels) (slots_line_of h is has e), λ a. line_after_same (AreSlots 0) slots_begun slots_with t.items (slots_of h.plan.channels) (same_slots_line row count) a); kept = kept } where
-    size : length (slots_of channels) ≡ min (slots_begun (suc row)) count
-    size = t.items.size
-
-    lists : AreListsAt k → AreListsAt (with_slots k count channels)
-    lists w = record { read = w.read; few = w.few; slots_read = omega (arith, size); room = t.room; unplanned = λ none. absurd (omega (arith, none)) }
-
-    early : (q : HeaderRow) → row_place q < row_place (Slots row) → IsRowRead k q → IsRowRead (with_slots k count channels) q
-    early q less before = grind (arith, common_steps, size)
-
-    later : (q : HeaderRow) → row_place (Slots row) < row_place q → IsRowUnread k q → IsRowUnread (with_slots k count channels) q
-    later q less before = grind (arith, common_steps, size)
-
-    kept : (h : Shown) (q : HeaderRow) → row_place q < row_place (Slots row) → HasRow k h q ↔ HasRow (with_slots k count channels) h q
-    kept h other less = grind (arith, common_steps, same_before)
+  slots_read count channels t = grind (arith, common_steps, same_after, slots_line_of, line_after_same, same_slots_line, same_before)
 
   pub line_slots : (count : ℕ) (channels : ChannelsValue) (b : Bool) → TakesOrRefusesSlots row line k.slots (known_slots k) count (slots_of channels) b → ReadsOrRefuses (Slots row) line k (with_slots k count channels) b
   unfolding row_line

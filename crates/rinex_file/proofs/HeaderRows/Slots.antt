@@ -1,10 +1,9 @@
 -- Slots with a channel: which may follow others, their line, and what is read from it.
 use Rattle.rinex_file.proofs.HeaderRows.Agree.{less_or}
 use Rattle.rinex_file.proofs.HeaderRows.Lists.{item_in_line, up_to}
-use Rattle.rinex_file.proofs.Judged.{refused}
 use Rattle.rinex_file.proofs.Digits.Padded.{two_digits}
 use Rattle.rinex_file.proofs.HeaderRows.Types.{content_first}
-use Rattle.rinex_file.proofs.Names.{All-set, length-filter, digits_in-padded, digits_in-whole, length-right, count_by, IsLineOfSlots, TakesOrRefusesSlots, AreSlots, SlotNumber, channel_text, last_slot, slot_text, slots_columns, slots_from, slots_front, slots_in_line, slots_of, AreChannels, ChannelsValue, most_number, no_channels, number_at, slot_count, with_number, slots_line, slots_with, common_steps, All, All-head, All-replicate, All-tail, IfSome, List, None, Option, Some, [], ap, append-nil, append_assoc, arith, decimal, digits_in, drop, drop-append-le, drop-cons, drop-drop, drop-take, IsTrue, ◌↔◌, drop_all, flat_map, flat_map-append, get_or, length, length-append, length-decimal-le, length-drop, length-set, min, padded, refl, right, set, suc, sym, take, take-append-le, take_all, take_at, take_more, filter, is_some, zero, ◌*◌, ◌++◌, ◌+◌, ◌-◌, ◌/◌, ◌%◌, ◌<◌, ◌∙◌, ◌∷◌, ◌≡◌, ◌≤◌, ℕ, Bool, if◌then◌else◌, subst, lt-ltb, le-ltb, line_with, row_label, Slots}
+use Rattle.rinex_file.proofs.Names.{refused, All-set, length-filter, digits_in-padded, digits_in-whole, length-right, count_by, IsLineOfSlots, TakesOrRefusesSlots, AreSlots, SlotNumber, channel_text, last_slot, slot_text, slots_columns, slots_from, slots_front, slots_in_line, slots_of, AreChannels, ChannelsValue, most_number, no_channels, number_at, slot_count, with_number, slots_line, slots_with, common_steps, All, All-head, All-replicate, All-tail, IfSome, List, None, Option, Some, [], ap, append-nil, append_assoc, arith, decimal, digits_in, drop, drop-append-le, drop-cons, drop-drop, drop-take, IsTrue, ◌↔◌, drop_all, flat_map, flat_map-append, get_or, length, length-append, length-decimal-le, length-drop, length-set, min, padded, refl, right, set, suc, sym, take, take-append-le, take_all, take_at, take_more, filter, is_some, zero, ◌*◌, ◌++◌, ◌+◌, ◌-◌, ◌/◌, ◌%◌, ◌<◌, ◌∙◌, ◌∷◌, ◌≡◌, ◌≤◌, ℕ, Bool, if◌then◌else◌, subst, lt-ltb, le-ltb, line_with, row_label, Slots}
 
 -- ---- slots that follow others
 
@@ -201,9 +200,7 @@ each_slot last (s ∷ ss) zero d are less = let room = slots_room s.slot ss are.
 each_slot last (s ∷ ss) (suc i) d are less = each_slot s.slot ss i d are.2 (omega (arith, less))
 
 length-front : (count row : ℕ) → count < 1000 → length (slots_front count row) ≡ 4
-length-front count zero few =
-    let size = length-right 3 (decimal count) (length-decimal-le 3 count (omega arith) (omega (arith, few)) (omega (arith, few))) in
-    omega (arith, size, length-append (right 3 (decimal count)) (32 ∷ []))
+length-front count zero few = grind (arith, length-append, length-right 3 (decimal count) (length-decimal-le 3 count (omega arith) (omega (arith, few)) (omega (arith, few))))
 length-front count (suc row) few = refl
 
 -- ---- what a line of slots has

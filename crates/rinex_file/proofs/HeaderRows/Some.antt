@@ -1,10 +1,10 @@
 -- Some header has what was read.
 use Rattle.rinex_file.proofs.HeaderRows.Letters.{flagged, same_flags}
-use Rattle.rinex_file.proofs.HeaderRows.Texts.{equal_or, same_here}
+use Rattle.rinex_file.proofs.HeaderRows.Texts.{equal_or}
 use Rattle.rinex_file.proofs.HeaderRows.Slots.{More, more_slots, no_channels_are, same_channels}
 use Rattle.rinex_file.proofs.HeaderRows.Places.{place_at}
 use Rattle.rinex_file.proofs.PlainTexts.{both}
-use Rattle.rinex_file.proofs.Names.{value_tabulated, tabulate, Glonass, common_steps, not, nat_le, first_types, slots_begun, IsRowRead, take_at, Types, All, All-cons, All-nil, All-push, Bool, Delta, First, Has, HasRow, HeaderRow, IsDistinct, IsDistinct-push, IsHeadAt, IsShown, Known, List, PlanValue, Position, System, Texts, ap, arith, counted, eqb, false, fields_of, flagged_letter, is_chosen, is_equal, is_less, is_planned, le-length_from_below, length, length-append, letter, list_any, min, nat_eq, nat_eq_equiv, nat_lt, nat_tests, nil_from_length, planned_of, refl, row_at, shown_with, signals_begun, subst, suc, sym, systems_letter, table, take, take-append_seam, take-take, take_all, true, zero, ◌&&◌, ◌++◌, ◌+◌, ◌-◌, ◌<◌, ◌==◌, ◌||◌, ◌∙◌, ◌∷◌, ◌≡◌, ◌≤◌, [], ℕ, lit<, Slots, SlotNumber, known_slots, slots_of, no_channels, lt-ltb, or_right, Interval}
+use Rattle.rinex_file.proofs.Names.{value_tabulated, tabulate, Glonass, common_steps, not, nat_le, first_types, slots_begun, IsRowRead, take_at, Types, All, All-cons, All-nil, All-push, Bool, Has, HasRow, HeaderRow, IsDistinct, IsDistinct-push, IsHeadAt, IsShown, Known, List, PlanValue, System, ap, arith, counted, eqb, false, flagged_letter, is_chosen, is_equal, is_less, is_planned, le-length_from_below, length, length-append, letter, list_any, min, nat_eq, nat_eq_equiv, nat_lt, nat_tests, nil_from_length, planned_of, refl, row_at, shown_with, signals_begun, subst, suc, sym, systems_letter, table, take, take-append_seam, take-take, take_all, true, zero, ◌&&◌, ◌++◌, ◌+◌, ◌-◌, ◌<◌, ◌==◌, ◌||◌, ◌∙◌, ◌∷◌, ◌≡◌, ◌≤◌, [], ℕ, lit<, Slots, SlotNumber, known_slots, slots_of, no_channels, lt-ltb, or_right}
 
 -- ---- signals of a system, with others up to a number
 
@@ -59,16 +59,7 @@ record Choice (s : System) (known : Bool) (count : ℕ) (signals : List ℕ) (ch
 choose : (s : System) (chosen known : Bool) (count : ℕ) (signals : List ℕ) → AreBelow (length (table s)) signals → IsDistinct nat_eq signals → length signals ≤ count → count ≤ length (table s)
     → (known ≡ false → count ≡ 0) → (chosen ≡ true → (not known || nat_lt 0 count) ≡ true) → (count == 0 || chosen) ≡ true → Choice s known count signals chosen
 unfolding IsDistinct
-choose s false known count signals below apart read few unread may none = record {
-  all = [];
-  below = All-nil (λ i. i < length (table s));
-  apart = tt;
-  some = refl;
-  number = λ l. zero_count;
-  begins = nil_from_length signals (omega (arith, read, zero_count)) ∙ sym (take_all (length signals) [] (omega arith));
-} where
-  zero_count : count ≡ 0
-  zero_count = grind (arith, nat_tests, none)
+choose s false known count signals below apart read few unread may none = grind (arith, common_steps, All-nil, nil_from_length, take_all, nat_tests)
 choose s true false count signals below apart read few unread may none = record {
   all = 0 ∷ [];
   below = All-cons (λ i. i < length (table s)) 0 [] (grind arith) (All-nil (λ i. i < length (table s)));
@@ -99,11 +90,6 @@ module _ (k : Known) (n : ℕ) (at : IsHeadAt k n) (p : PlanValue) (letter_is : 
   slots_number = let read = at.lists.slots_read in omega (arith, size, read, ap length slots, length-append (known_slots k) more)
 
   own_row : (i : ℕ) → i < n → (r : HeaderRow) → row_at i ≡ r → HasRow k (shown_with k p) r
-  own_row i less (Texts row) here = same_here k.shown.texts (fields_of row)
-  own_row i less Position here = refl
-  own_row i less Delta here = refl
-  own_row i less Interval here = refl
-  own_row i less First here = refl
   own_row i less (Slots row) here =
       let read : IsRowRead k (Slots row) = subst (IsRowRead k) here (at.read i less) in
       record { number = slots_number; same = same_begun (slots_begun (suc row)) (known_slots k) (slots_of p.channels) (sym (take_at (known_slots k) more (length (known_slots k)) refl) ∙ ap (take (length (known_slots k))) (sym slots)) (subst (λ c. min (slots_begun (suc row)) c ≤ length (known_slots k)) slots_number read) }

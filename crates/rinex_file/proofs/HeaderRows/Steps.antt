@@ -106,8 +106,6 @@ is_first other = false
 
 -- apart from first lines of types and optional rows, what is known says it
 pub plain_present : {n : ℕ} (less : n < row_count) (r : HeaderRow) → row_at n ≡ r → is_first r ≡ false → is_optional r ≡ false → (k : Known) (line : List ℕ) (h : Shown) → Has k n h → has_line h r ≡ known_line k line r
-plain_present less Interval at plain fixed k line h has = cc
-plain_present less (Types s zero) at plain fixed k line h has = cc
 plain_present less (Types s (suc row)) at plain fixed k line h has = ap (λ m. nat_lt (suc row) (type_rows m)) (sym (types_known less s row k h at has).number)
 plain_present {n} less (Shift s) at plain fixed k line h has = let e = place_at n (Shift s) less at in planned_known n (omega (arith, e)) s k h has
 plain_present {n} less (Slots zero) at plain fixed k line h has = planned_known n (far_slots n 0 (place_at n (Slots 0) less at)) Glonass k h has

@@ -2,8 +2,8 @@
 use Rattle.rinex_file.proofs.Rows.Trimmed.{filled, trimmed-blank}
 use Rattle.rinex_file.proofs.PlainTexts.{both}
 use Rattle.rinex_file.proofs.HeaderRows.Types.{content_first}
-use Rattle.std.proofs.Math.ListN.{get_or-map, set, length-set}
-use Rattle.rinex_file.proofs.Names.{common_steps, AreSameTexts, arith, ◌≡◌, ◌∙◌, refl, sym, ap, ap₂, subst, ℕ, Option, suc, ◌+◌, ◌<◌, ◌≤◌, ◌≢◌, List, [], ◌∷◌, length, drop, get_or, add-one, true, Some, None, zero, ◌-◌, ◌++◌, take, replicate, append_assoc, append-nil, length-append, ◌==◌, map, flat_map, list_all, drop-cons, length-map, length-replicate, take_at, drop_at, get_or-set_same, get_or-set_other, get_or_default, ext_get_or, list_all-append, passes_at, is_equal, HeaderField, HeadFault, AntType, trimmed, HeaderLists, text_count, width_of, text_of, is_printable, fault_of, first_fault, fields, fields_of, trimmed_texts, place_of, front_of, label_of, IsText, AreTexts, left, text_columns, texts_line, texts_in, if_fine, RefusesTexts, same_Some, not, list_any, nat_lt, or_parts, ◌||◌, nat_tests, false, Bool, has_row, is_required, both_ways, nil_from_length, nat_le, at_most, line_with, Texts}
+use Rattle.std.proofs.Math.ListN.{set, length-set}
+use Rattle.rinex_file.proofs.Names.{get_or-map, AllPass-from_list_all, map-append, common_steps, AreSameTexts, arith, ◌≡◌, ◌∙◌, refl, sym, ap, ap₂, subst, ℕ, Option, suc, ◌+◌, ◌<◌, ◌≤◌, ◌≢◌, List, [], ◌∷◌, length, drop, get_or, add-one, true, Some, None, zero, ◌-◌, ◌++◌, take, replicate, append_assoc, append-nil, length-append, ◌==◌, map, flat_map, list_all, drop-cons, length-map, length-replicate, take_at, drop_at, get_or-set_same, get_or-set_other, get_or_default, ext_get_or, list_all-append, passes_at, is_equal, HeaderField, HeadFault, AntType, trimmed, HeaderLists, text_count, width_of, text_of, is_printable, fault_of, first_fault, fields, fields_of, trimmed_texts, place_of, front_of, label_of, IsText, AreTexts, left, text_columns, texts_line, texts_in, if_fine, RefusesTexts, same_Some, not, list_any, nat_lt, or_parts, ◌||◌, nat_tests, false, Bool, has_row, nil_from_length, nat_le, at_most, line_with, Texts}
 
 pub trimmed-blanks : (k : ℕ) (text : List ℕ) → trimmed (text ++ replicate k 32) ≡ trimmed text
 trimmed-blanks zero text = ap trimmed (append-nil text)
@@ -27,14 +27,9 @@ field_here field d = grind arith
 pub field_back : (f g : HeaderField) → place_of f ≡ place_of g → f ≡ g
 field_back f g e = sym (field_here f f) ∙ ap (λ i. get_or fields i f) e ∙ field_here g f
 
-all_at : {X : Type 0} (test : X → Bool) (xs : List X) (i : ℕ) (d : X) → list_all test xs ≡ true → i < length xs → test (get_or xs i d) ≡ true
-all_at test [] i d all less = absurd (omega (arith, less))
-all_at test (x ∷ xs) zero d all less = (both (test x) (list_all test xs) all).0
-all_at test (x ∷ xs) (suc i) d all less = all_at test xs i d (both (test x) (list_all test xs) all).1 (omega (arith, less))
-
 -- what the table says of each field
 pub each_field : (test : HeaderField → Bool) → list_all test fields ≡ true → (field : HeaderField) → test field ≡ true
-each_field test all field = sym (ap test (field_here field field)) ∙ all_at test fields (place_of field) field all (field_less field)
+each_field test all field = sym (ap test (field_here field field)) ∙ AllPass-from_list_all test fields all (place_of field) field (field_less field)
 
 pub place_back : (i : ℕ) → i < text_count → place_of (get_or fields i AntType) ≡ i
 place_back i less = is_equal (place_of (get_or fields i AntType)) i (passes_at (λ j. place_of (get_or fields j AntType) == j) text_count i refl less)
@@ -76,7 +71,7 @@ pub record Back (x : HeaderLists) (fs : List HeaderField) (column : ℕ) (line :
 
 read_back : {x : HeaderLists} (fs : List HeaderField) {column : ℕ} (front rest : List ℕ) {line : List ℕ} {old : HeaderLists} → AreTexts x → length old ≡ text_count → length front ≡ column
     → line ≡ front ++ (flat_map (text_columns x) fs ++ rest) → Back x fs column line old
-read_back [] front rest {old = old} are size at shape = record { new = old; read = refl; same = tt; stays = λ g e. e }
+read_back [] front rest {old = old} are size at shape = record { new = old; read = refl; same = refl; stays = λ g e. e }
 read_back {x} (f ∷ fs) {column} front rest {line} {old} are size at shape =
     let w = width_of f in
     let own = text_columns x f in
@@ -92,58 +87,37 @@ read_back {x} (f ∷ fs) {column} front rest {line} {old} are size at shape =
     record {
       new = next.new;
       read = ap (λ fault. if_fine fault (texts_in fs (column + w) line (set old (place_of f) text))) (ap (fault_of f) columns ∙ no_fault f (text_of x f) (are.each f)) ∙ next.read;
-      same = (next.stays f (set_here old f text size ∙ is), next.same);
+      same = ap₂ (λ t l. t ∷ l) (next.stays f (set_here old f text size ∙ is)) next.same;
       stays = λ g e. next.stays g (set_each old f text size (λ h t. t ≡ text_of x h) is g e);
     }
 
 -- the texts of a header are read back from the line of a row
 pub texts_back : (x : HeaderLists) → AreTexts x → (r : HeaderField) (line : List ℕ) (old : HeaderLists) → length old ≡ text_count → texts_line x r ≡ line → Back x (fields_of r) (length (front_of r)) line old
-texts_back x are r line old size e =
-    let texts = flat_map (text_columns x) (fields_of r) in
-    let first = content_first (front_of r ++ texts) (label_of r) in
-    read_back (fields_of r) (front_of r) first.0 are size refl (sym e ∙ first.1 ∙ append_assoc (front_of r) texts first.0)
+texts_back x are r line old size e = grind (arith, read_back, append_assoc, content_first (front_of r ++ flat_map (text_columns x) (fields_of r)) (label_of r))
 
 same_columns : (x y : HeaderLists) (fs : List HeaderField) → AreSameTexts x y fs → flat_map (text_columns x) fs ≡ flat_map (text_columns y) fs
 same_columns x y [] same = refl
-same_columns x y (f ∷ fs) same = ap₂ (λ t l. left (width_of f) t ++ l) same.0 (same_columns x y fs same.1)
+same_columns x y (f ∷ fs) same = ap₂ (λ t l. left (width_of f) t ++ l) (cc) (same_columns x y fs (cc))
 
 pub same_line : (x y : HeaderLists) (r : HeaderField) → AreSameTexts x y (fields_of r) → texts_line x r ≡ texts_line y r
 same_line x y r same = ap (λ l. line_with (Texts r) (front_of r ++ l)) (same_columns x y (fields_of r) same)
 
-pub same_here : (x : HeaderLists) (fs : List HeaderField) → AreSameTexts x x fs
-same_here x [] = tt
-same_here x (f ∷ fs) = (refl, same_here x fs)
-
--- two headers with what was read have the same texts
-pub same_texts : (new x y : HeaderLists) (fs : List HeaderField) → AreSameTexts new x fs → AreSameTexts new y fs → AreSameTexts x y fs
-same_texts new x y [] a b = tt
-same_texts new x y (f ∷ fs) a b = (sym a.0 ∙ b.0, same_texts new x y fs a.1 b.1)
-
-same_append : (x y : HeaderLists) (fs gs : List HeaderField) → AreSameTexts x y fs → AreSameTexts x y gs → AreSameTexts x y (fs ++ gs)
-same_append x y [] gs a b = b
-same_append x y (f ∷ fs) gs a b = (a.0, same_append x y fs gs a.1 b)
-
 -- texts that are the same in each row
 pub same_rows : (x y : HeaderLists) → ((r : HeaderField) → AreSameTexts x y (fields_of r)) → (rows : List HeaderField) → AreSameTexts x y (flat_map fields_of rows)
-same_rows x y each [] = tt
-same_rows x y each (r ∷ rows) = same_append x y (fields_of r) (flat_map fields_of rows) (each r) (same_rows x y each rows)
+same_rows x y each [] = refl
+same_rows x y each (r ∷ rows) = grind (arith, map-append, each r, same_rows x y each rows)
 
 pub same_at : (x y : HeaderLists) (fs : List HeaderField) (i : ℕ) (d : HeaderField) → i < length fs → AreSameTexts x y fs → text_of x (get_or fs i d) ≡ text_of y (get_or fs i d)
-same_at x y [] i d less same = absurd (omega (arith, less))
-same_at x y (f ∷ fs) zero d less same = same.0
-same_at x y (f ∷ fs) (suc i) d less same = same_at x y fs i d (omega (arith, less)) same.1
+same_at x y fs i d less same = sym (get_or-map (text_of x) fs i d [] less) ∙ ap (λ l. get_or l i []) same ∙ get_or-map (text_of y) fs i d [] less
 
 -- texts that are the same in a row are empty or not in both, and empty ones are the same
 pub same_some : (x y : HeaderLists) (fs : List HeaderField) → AreSameTexts x y fs → list_any (λ f. nat_lt 0 (length (text_of x f))) fs ≡ list_any (λ f. nat_lt 0 (length (text_of y f))) fs
 same_some x y [] same = refl
-same_some x y (f ∷ fs) same = ap₂ (λ t b. nat_lt 0 (length t) || b) same.0 (same_some x y fs same.1)
+same_some x y (f ∷ fs) same = ap₂ (λ t b. nat_lt 0 (length t) || b) (cc) (same_some x y fs (cc))
 
 pub none_same : (x y : HeaderLists) (fs : List HeaderField) → list_any (λ f. nat_lt 0 (length (text_of x f))) fs ≡ false → list_any (λ f. nat_lt 0 (length (text_of y f))) fs ≡ false → AreSameTexts x y fs
-none_same x y [] p q = tt
-none_same x y (f ∷ fs) p q =
-    let own = or_parts _ (list_any (λ f. nat_lt 0 (length (text_of x f))) fs) p in
-    let other = or_parts _ (list_any (λ f. nat_lt 0 (length (text_of y f))) fs) q in
-    (grind (arith, nat_tests, nil_from_length, own.0, other.0), none_same x y fs own.1 other.1)
+none_same x y [] p q = refl
+none_same x y (f ∷ fs) p q = grind (arith, nat_tests, nil_from_length, or_parts, none_same x y fs)
 
 -- ---- read
 
@@ -152,16 +126,11 @@ not_printable r line old size none x are some e = let back = texts_back x are r 
 
 pub not_same : (r : HeaderField) (line : List ℕ) (old new : HeaderLists) → length old ≡ text_count → texts_in (fields_of r) (length (front_of r)) line old ≡ Some new
     → (line ≡ texts_line new r → ⊥) → RefusesTexts r line
-not_same r line old new size read other x are some e =
-    let back = texts_back x are r line old size e in
-    other (sym e ∙ sym (same_line back.new x r back.same) ∙ ap (λ y. texts_line y r) (same_Some back.new new (sym back.read ∙ read)))
+not_same r line old new size read other x are some e = grind (arith, same_line, texts_back x are r line old size e)
 
 -- a line of these texts has none
 pub no_line : (r : HeaderField) (line : List ℕ) (old new : HeaderLists) → length old ≡ text_count → texts_in (fields_of r) (length (front_of r)) line old ≡ Some new → has_row new r ≡ false → RefusesTexts r line
-no_line r line old new size read none x are some e =
-    let back = texts_back x are r line old size e in
-    let same = subst (λ y. AreSameTexts y x (fields_of r)) (same_Some back.new new (sym back.read ∙ read)) back.same in
-    absurd (both_ways (has_row new r) none (ap (λ b. is_required r || b) (same_some new x (fields_of r) same) ∙ some))
+no_line r line old new size read none x are some e = grind (arith, same_some, texts_back x are r line old size e)
 
 -- the field at an index and those after it
 pub fields_from : {items fs : List HeaderField} (i : ℕ) (d : HeaderField) → items ≡ fs → i < length items → drop i fs ≡ get_or items i d ∷ drop (i + 1) fs
@@ -193,10 +162,10 @@ kept_text (f ∷ fs) column line old {new} g all read =
     ∙ get_or-set_other old (place_of f) (place_of g) (trimmed (take (width_of f) (drop column line))) [] (grind (arith, nat_tests, parts.0))
 
 pub kept_texts : (fs : List HeaderField) (column : ℕ) (line : List ℕ) (old : HeaderLists) {new : HeaderLists} → texts_in fs column line old ≡ Some new → (gs : List HeaderField) → list_all (is_apart fs) gs ≡ true → AreSameTexts new old gs
-kept_texts fs column line old read [] all = tt
+kept_texts fs column line old read [] all = refl
 kept_texts fs column line old read (g ∷ gs) all =
     let parts = both (is_apart fs g) (list_all (is_apart fs) gs) all in
-    (kept_text fs column line old g parts.0 read, kept_texts fs column line old read gs parts.1)
+    ap₂ (λ t l. t ∷ l) (kept_text fs column line old g parts.0 read) (kept_texts fs column line old read gs parts.1)
 
 -- ---- texts are printable without trailing blanks
 
@@ -239,4 +208,4 @@ one_stored t x d less size cut is value = grind (arith, get_or_default, place_ba
 pub all_cut : (t x : HeaderLists) → length t ≡ text_count → length x ≡ text_count → AreCut text_count t x → x ≡ trimmed_texts t
 unfolding trimmed
 all_cut t x size count cut =
-    ext_get_or [] x (map trimmed t) (count ∙ sym size ∙ sym (length-map t trimmed)) (λ j less. cut j (subst (λ n. j < n) count less) ∙ sym (get_or-map trimmed t j []))
+    ext_get_or [] x (map trimmed t) (count ∙ sym size ∙ sym (length-map t trimmed)) (λ j less. cut j (subst (λ n. j < n) count less) ∙ sym (get_or-map trimmed t j [] [] (omega (arith, less, size, count))))

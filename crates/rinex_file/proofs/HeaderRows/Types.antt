@@ -1,6 +1,6 @@
 -- A line of types: the columns of the signals that begin in it, and the signals that are read from it.
 use Rattle.std.proofs.lemmas.Str.Ascii.{IsAscii-from_all}
-use Rattle.rinex_file.proofs.Names.{get_or-map, flat_map-append, AllPass-from_list_all, length-right, digits_in-whole, each_system, few_below, passes_below, get_or-flat_map, common_steps, ◌-◌, length-take, length-drop, arith, rules, ◌≡◌, ◌∙◌, ap, refl, ℕ, zero, suc, ◌+◌, ◌<◌, ◌≤◌, ◌==◌, Bool, true, false, List, [], ◌∷◌, length, take, drop, Some, Option, nat_lt, sym, ◌*◌, ◌/◌, ◌%◌, ◌++◌, get_or, append_assoc, ap₂, subst, ◌||◌, decimal, nat_eq, IsAscii, IsUtf8, flat_map, slice_index, list_any, IsDistinct, IsUtf8-from_ascii, cases_lt, length-map, take_more, get_or-drop, take_all, take_at, take-take, take-map, drop-drop, drop-take, All-get_or, apart_from_distinct, IsDistinct-tail, length-decimal-le, System, SignalAt, IsSignal, table, code_of, signal_of_code, passes_at, is_less, is_equal, indices, IsOf, any_index, indices-push, type_of, types_of, codes_of, type_columns, type_front, right, letter, digits_in, AreTypes, types_line, signals_begun, HasSignalAt, same_Some, list_all, All-weaker, most_signals, both_ways, flip_false, types_with, add-one, line_with, row_label, Types}
+use Rattle.rinex_file.proofs.Names.{get_or-map, flat_map-append, AllPass-from_list_all, length-right, digits_in-whole, each_system, few_below, passes_below, get_or-flat_map, common_steps, ◌-◌, length-take, length-drop, arith, rules, ◌≡◌, ◌∙◌, ap, refl, ℕ, zero, suc, ◌+◌, ◌<◌, ◌≤◌, ◌==◌, Bool, true, false, List, [], ◌∷◌, length, take, drop, Some, Option, nat_lt, sym, ◌*◌, ◌/◌, ◌%◌, ◌++◌, get_or, append_assoc, ap₂, subst, decimal, nat_eq, IsAscii, IsUtf8, flat_map, slice_index, list_any, IsDistinct, IsUtf8-from_ascii, cases_lt, length-map, take_more, get_or-drop, take_all, take_at, take-take, take-map, drop-drop, drop-take, All-get_or, apart_from_distinct, IsDistinct-tail, length-decimal-le, System, SignalAt, IsSignal, table, code_of, signal_of_code, passes_at, is_less, is_equal, indices, IsOf, any_index, indices-push, type_of, types_of, codes_of, type_columns, type_front, right, letter, digits_in, AreTypes, types_line, signals_begun, HasSignalAt, same_Some, list_all, All-weaker, most_signals, both_ways, flip_false, types_with, add-one, line_with, row_label, Types}
 pub use Rattle.rinex_file.proofs.HeaderRows.Lists.{content_first}
 use Rattle.rinex_file.proofs.HeaderRows.Lists.{item_in_line}
 
@@ -153,9 +153,7 @@ row_shown system all row =
 pub not_before : (all : List ℕ) (k : ℕ) → IsDistinct nat_eq all → k < length all → list_any (nat_eq (slice_index all k)) (take k all) ≡ false
 not_before [] k apart less = absurd (omega (arith, less))
 not_before (x ∷ all) zero apart less = refl
-not_before (x ∷ all) (suc k) apart less =
-    let other = flip_false x (slice_index all k) (apart_from_distinct nat_eq (x ∷ all) 0 (suc k) 0 apart (omega arith) less) in
-    ap₂ (λ a b. a || b) other (not_before all k (IsDistinct-tail nat_eq x all apart) (omega (arith, less)))
+not_before (x ∷ all) (suc k) apart less = grind (arith, not_before all k (IsDistinct-tail nat_eq x all apart) (omega (arith, less)), flip_false x (slice_index all k) (apart_from_distinct nat_eq (x ∷ all) 0 (suc k) 0 apart (omega arith) less))
 
 -- ---- one more signal
 

@@ -5,16 +5,14 @@ use Rattle.rinex_file.proofs.FileLines.{lines_are_lines, lines_are_short}
 use Rattle.rinex_file.proofs.Reading.Header.{begin_whole, begun_with, row_expected}
 use Rattle.rinex_file.proofs.Reading.Epochs.{sound_open}
 use Rattle.rinex_file.proofs.Reading.Lines.{both_said, only_faults, said_of, consumed, none_ahead, splits}
-use Rattle.rinex_file.proofs.Names.{AddsAt, with_last_read, stamped_at, ap₂, StationValues, Known, HasReadRowsAt, arith, common_steps, append_assoc, ReadsNextLine, Ok, ReadFault, ExpectsHeader, ExpectsRow, HasReadRows, ExplainsFault, IsFaultAfter, StopsReading, HasPlan, IsEpochLine, System, IsSatelliteRow, IsStamped, AreRead, All, All-head, All-tail, plan_of, planned_in, with_read, Read, ◌∙◌, header_lines, Memory, HasHeader, shown_text, ◌≡◌, sym, ap, refl, subst, ℕ, List, [], ◌∷◌, ◌++◌, Option, IfSome, Expected, Header, Epoch, EventPosition, EventHeight, EventEpoch, Satellite, ParserState, EpochReader, Progress, History, HasRead, HasReadEpochs, IsSoundAt, IsAt, IsSound, HasLinesLeft, progress_at, SatelliteRow, Stamped, FileValue, stamped, joined, Result, Bool, ReadsRow, NextEpoch, BeginsEpoch, most_lines, ◌≤◌, file_lines, AreEpochsRead, AreFirstEpochs, Consumes, IsPrefix, false, has, prepend_known}
+use Rattle.rinex_file.proofs.Names.{AddsAt, with_last_read, Known, HasReadRowsAt, arith, common_steps, append_assoc, ReadsNextLine, Ok, ReadFault, ExpectsHeader, ExpectsRow, HasReadRows, ExplainsFault, IsFaultAfter, StopsReading, HasPlan, IsEpochLine, System, IsSatelliteRow, IsStamped, AreRead, All, All-head, All-tail, plan_of, planned_in, with_read, Read, ◌∙◌, header_lines, Memory, HasHeader, shown_text, ◌≡◌, sym, ap, refl, subst, ℕ, List, [], ◌∷◌, ◌++◌, Option, IfSome, Expected, Header, Epoch, Satellite, ParserState, EpochReader, Progress, History, HasRead, HasReadEpochs, IsSoundAt, IsAt, IsSound, HasLinesLeft, progress_at, SatelliteRow, Stamped, FileValue, stamped, joined, Result, Bool, ReadsRow, NextEpoch, BeginsEpoch, most_lines, ◌≤◌, file_lines, AreEpochsRead, AreFirstEpochs, Consumes, IsPrefix, false, has, prepend_known}
 
 -- a file that continues after what was read begins with the epochs that were read
 at_left : (s : Progress) (expected : Expected) (v : FileValue) (left : List (List ℕ)) → IsSoundAt s expected → IsAt s expected v left → IsPrefix s.epochs v.epochs
 at_left s (Header place) v left sound at = (v.epochs, ap (λ es. es ++ v.epochs) (sym sound.0))
 at_left s Epoch v left sound at = (at.others, ap (λ (f : FileValue). f.epochs) at.value)
-at_left s EventPosition v left sound at = (at.next ∷ at.others, ap (λ (f : FileValue). f.epochs) at.value)
-at_left s (EventHeight position) v left sound at = (at.next ∷ at.others, ap (λ (f : FileValue). f.epochs) at.value)
-at_left s (EventEpoch values) v left sound at = (at.next ∷ at.others, ap (λ (f : FileValue). f.epochs) at.value)
 at_left s (Satellite n) v left sound at = (stamped s (s.rows ++ at.more) ∷ at.others, ap (λ (f : FileValue). f.epochs) at.value)
+at_left s other v left sound at = (at.next ∷ at.others, ap (λ (f : FileValue). f.epochs) at.value)
 
 epochs_left : (s : Progress) (v : FileValue) (left : List (List ℕ)) → IsSound s → HasLinesLeft s v left → IsPrefix s.epochs v.epochs
 unfolding HasLinesLeft
@@ -77,11 +75,7 @@ row_at : (d f : Expected) (old new : EpochReader) (es : List Stamped) (e : Stamp
 row_at (Satellite n) (Satellite m) old new es e input before left after inside part is read ((head, change, time), same) =
     let one = same ∙ ap (λ (d : Expected). with_last_read d new.parser_state (record { epochs = es; rows = e.rows })) is in
     ((subst (λ (h : History). HasRead new h input left) one read, change ∙ part.1, time ∙ part.2), ap (λ (k : Known). k.shown.plan) head)
-row_at (Satellite n) other old new es e input before left after inside part is read ((head, change, time), same) =
-    let seen = new.parser_state.last_read in
-    let whole = same ∙ ap (λ (d : Expected). with_last_read d new.parser_state (record { epochs = es; rows = e.rows })) is
-    ∙ ap₂ (λ (c : Option StationValues) (t : ℕ). record { epochs = es ++ stamped_at c t (e.rows ++ seen ∷ []) ∷ []; rows = [] }) (change ∙ part.1) (time ∙ part.2) in
-    ((subst (λ (h : History). HasRead new h input left) whole read, λ row. subst ExpectsRow is row), ap (λ (k : Known). k.shown.plan) head)
+row_at (Satellite n) other old new es e input before left after inside part is read ((head, change, time), same) = grind (arith, common_steps)
 row_at other f old new es e input before left after inside part is read adds = absurd inside
 
 pub row_read : (old new : EpochReader) (es : List Stamped) (e : Stamped) (input before left : Option (List ℕ)) (after : History) → ExpectsRow old.parser_state.expected → HasReadRows old es e input before
@@ -191,7 +185,4 @@ begins_is old new es input left is begins = subst (λ (n : NextEpoch). BeginsEpo
 
 -- no more lines were read than a file has
 pub few_lines : (r : EpochReader) (es : List Stamped) (e : Stamped) (input left : Option (List ℕ)) → HasReadRows r es e input left → r.count ≤ most_lines
-few_lines r es e input left part = by r.parser_state.expected part where
-  by : (d : Expected) → HasReadRowsAt d r es e input left → r.count ≤ most_lines
-  by (Satellite n) part = part.0.within.1
-  by other part = part.0.within.1
+few_lines r es e input left part = grind (arith, common_steps)

@@ -1,6 +1,6 @@
 -- The steps of a reading from one line of an epoch to the next.
 use Rattle.rinex_file.proofs.FewRows.{few_most, few_rows}
-use Rattle.rinex_file.proofs.Names.{AddsAt, ⊤, le_trans, few_below, open_epochs, ExpectsHeader, ExpectsRow, ok_or, MayRunOut, Err, Memory, arith, ◌≡◌, refl, ℕ, ◌<◌, List, [], ◌∷◌, ◌++◌, length, length-append, suc, ◌+◌, ◌≤◌, sym, ap, ap₂, subst, ◌∙◌, append_assoc, append-nil, zero-add, drop, get_or, Option, Some, None, Expected, IsStrictlyIncreasing, All, map, flat_map, Result, IsErrAnd, get_or_append_left, map-append, common_steps, All-head, All-tail, All-nil, All-push, flat_map-append, System, PlanValue, planned_of, civil_of, StationValues, Stamped, SatelliteRow, FileValue, time_stamped, IsFileValue, IsPlan, IsStamped, IsSatelliteRow, AreSatelliteRows, IsTime, IsChange, AreChanges, IsFirstSame, changed_by, values_following, rank_of, most_rows, planned_in, Epoch, Satellite, epoch_line, satellite_line, stamped_lines, change_lines, event_line, Progress, file_with, stamped, StartsAt, IsAt, IsAtEpoch, IsInEvent, IsInEpoch, HasLinesLeft, epoch_after, begun_at, with_row, with_epoch, AreRead, IsBegun, IsSoundAt, IsSound, MayBegin, values_now, AreLinesAt, header_lines, whole_lines, part_lines, Refusal, Bad, ParserState, History, FollowsHistory, GoesOnWithLine, ShowsLine, RefusesLine, TakesLine, progress_at, Known, IsNext, most_signals, table, short_table}
+use Rattle.rinex_file.proofs.Names.{⊤, le_trans, few_below, open_epochs, ExpectsHeader, ExpectsRow, ok_or, MayRunOut, Err, Memory, arith, ◌≡◌, refl, ℕ, ◌<◌, List, [], ◌∷◌, ◌++◌, length, length-append, suc, ◌+◌, ◌≤◌, sym, ap, ap₂, subst, ◌∙◌, append_assoc, append-nil, zero-add, drop, get_or, Option, Some, None, Expected, IsStrictlyIncreasing, All, map, flat_map, Result, IsErrAnd, get_or_append_left, map-append, common_steps, All-head, All-tail, All-nil, All-push, flat_map-append, System, PlanValue, planned_of, civil_of, StationValues, Stamped, SatelliteRow, FileValue, time_stamped, IsFileValue, IsPlan, IsStamped, IsSatelliteRow, AreSatelliteRows, IsTime, IsChange, AreChanges, IsFirstSame, changed_by, values_following, rank_of, most_rows, planned_in, Epoch, Satellite, epoch_line, satellite_line, stamped_lines, change_lines, event_line, Progress, file_with, stamped, StartsAt, IsAt, IsAtEpoch, IsInEvent, IsInEpoch, HasLinesLeft, epoch_after, begun_at, with_row, with_epoch, AreRead, IsBegun, IsSoundAt, IsSound, MayBegin, values_now, AreLinesAt, header_lines, whole_lines, part_lines, Refusal, Bad, ParserState, History, FollowsHistory, GoesOnWithLine, ShowsLine, RefusesLine, TakesLine, progress_at, Known, IsNext, most_signals, table, short_table}
 
 -- a line was refused: memory ran out, or no file continues with it
 pub passed : {Q : Refusal → Type 0} (old new : ParserState) (line : List ℕ) (r : Result ⊤ Refusal) → IsErrAnd r Q → ((e : Refusal) → Q e → e ≡ Bad → (h : History) → FollowsHistory old h → RefusesLine (progress_at old h) line)
@@ -271,21 +271,7 @@ module _ (s : Progress) (n : ℕ) (line : List ℕ) (expected : s.expected ≡ S
   pub row_taken : (row : SatelliteRow) → line ≡ satellite_line row → ((w : SatelliteRow) → IsSatelliteRow (planned_in s.known.shown.plan) w → line ≡ satellite_line w → w ≡ row)
       → GoesOnWithLine s (with_row s row n) line
   unfolding HasLinesLeft
-  row_taken row shown only v left on =
-      let next = row_next s n v line left expected on in
-      let same : next.row ≡ row = only next.row next.is next.shown in
-      let rows : s.rows ++ next.row ∷ next.more ≡ (s.rows ++ row ∷ []) ++ next.more =
-      ap (λ w. s.rows ++ w ∷ next.more) same ∙ sym (append_assoc s.rows (row ∷ []) next.more) in (
-        on.0,
-        record {
-          more = next.more;
-          others = next.others;
-          count = next.count;
-          value = next.value ∙ ap (λ r. file_with s (s.epochs ++ stamped s r ∷ next.others)) rows;
-          starts = subst (λ r. StartsAt s.known.shown.first (s.epochs ++ stamped s r ∷ next.others)) rows next.starts;
-          rest = next.rest;
-        },
-      )
+  row_taken row shown only v left on = grind (arith, common_steps, append_assoc, row_next s n v line left expected on)
 
 -- the lines with that of a satellite
 satellite_lines : (whole : List (List ℕ)) {taken : List (List ℕ)} {line : List ℕ} (c : Option StationValues) (t : ℕ) {k n : ℕ} (rows : List SatelliteRow) (row : SatelliteRow) → taken ≡ whole ++ part_lines (at_time c t rows) k
@@ -378,10 +364,7 @@ pub goes_on : {c : ParserState} {h : History} (e : Expected) (k : Known) (change
     → IsSound (progress_at (state_with c e k change t) h) → GoesOnWithLine (progress_at c h) (progress_at (state_with c e k change t) h) line
     → ShowsLine (progress_at c h) (progress_at (state_with c e k change t) h) line → (ExpectsRow c.expected → ⊥) → ((ExpectsHeader c.expected → ⊥) → k ≡ c.head)
     → (after : History) × IsNext c (state_with c e k change t) line h after
-goes_on {c} {h} e k change t history sound follows shows outside same =
-    let few = few_open e in
-    let adds : AddsAt c.expected c (state_with c e k change t) h h = grind (arith, common_steps, outside, same) in
-    (h, grind (arith, few, adds))
+goes_on e k change t history sound follows shows outside same = grind (arith, common_steps, few_open e)
 
 -- another line is expected than that of a satellite
 pub outside_after : (expected : Expected) (change : Option StationValues) → expected ≡ epoch_after change → ExpectsRow expected → ⊥

@@ -13,16 +13,13 @@ has_field [] k less h = absurd (omega (arith, less))
 has_field (f ∷ fs) zero less h = has-append 46 f (joined fs) ∙ ap (λ x. x || has 46 (joined fs)) h
 has_field (f ∷ fs) (suc k) less h = has_after f (joined fs) (has_field fs k (omega (arith, less)) h)
 
-has_point : (t : Civil) (n : ℕ) → has 46 (epoch_line t n) ≡ true
-unfolding epoch_line
-has_point t n = grind (arith, common_steps, has_field, lit<, has_after, has-point)
-
 no_point : has 46 event_line ≡ false
 unfolding event_line
 no_point = refl
 
 not_epoch : (t : Civil) (n : ℕ) → event_line ≡ epoch_line t n → ⊥
-not_epoch t n e = grind (arith, has_point, no_point)
+unfolding epoch_line
+not_epoch t n e = grind (arith, common_steps, has_field, lit<, has_after, has-point, no_point)
 
 -- ---- the line of an event
 

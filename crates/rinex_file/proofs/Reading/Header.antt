@@ -5,7 +5,7 @@ use Rattle.rinex_file.proofs.HeaderRows.Some.{some_shown}
 use Rattle.rinex_file.proofs.HeaderRows.End.{zero_values}
 use Rattle.rinex_file.proofs.Reading.Lines.{consumed}
 use Rattle.rinex_file.proofs.Reading.Epochs.{lines_with, lines_are, sound_open, sound_between, at_expected, file_value}
-use Rattle.rinex_file.proofs.Names.{joined, ExpectsHeader, ExpectsRow, IsEpochBegun, true, file_text, is_of_types, HasHeader, IsHeaderBegun, shown_text, append_assoc, MayRunOut, common_steps, Has, GoesOn, shown_of, arith, ◌≡◌, ◌∙◌, sym, ap, refl, ℕ, zero, suc, ◌+◌, ◌<◌, pos, List, [], ◌∷◌, ◌++◌, length, Option, IfSome, lit<, subst, take, drop, append-nil, inl, inr, AreBegunWith, None, Some, ⊤, map, flat_map, All-head, All-nil, length-map, StationValues, ParserState, Expected, Header, Epoch, EventPosition, EventHeight, EventEpoch, Satellite, IsChange, IsFileValue, AreBegun, IsEventBegun, header_lines, whole_lines, AreBefore, IsExpectedAt, Progress, IsPosition, shown_with, lines_after, stamped, Known, Shown, IsShown, IsHeadAt, file_with, StartsAt, IsInHeader, IsAt, IsAtEpoch, IsInEvent, position_of, HasLinesLeft, RefusesLine, IsSound, IsSoundAt, IsEventExpected, AreLinesAt, values_now, AreRead, AreLinesOf, History, FollowsHistory, progress_at, GoesOnWithLine, ShowsLine, IsTaken, SatelliteRow, Stamped, FileValue, satellite_line, event_lines, stamped_lines, file_lines, lines_of_parts, GoesTo, EndsHeader, NoneGoesOn}
+use Rattle.rinex_file.proofs.Names.{joined, ExpectsHeader, ExpectsRow, IsEpochBegun, true, file_text, is_of_types, HasHeader, IsHeaderBegun, shown_text, append_assoc, MayRunOut, common_steps, Has, GoesOn, shown_of, arith, ◌≡◌, ◌∙◌, sym, ap, refl, ℕ, zero, suc, ◌+◌, ◌<◌, pos, List, [], ◌∷◌, ◌++◌, length, Option, IfSome, lit<, subst, take, drop, append-nil, inl, inr, AreBegunWith, None, Some, map, flat_map, All-head, All-nil, length-map, StationValues, ParserState, Expected, Header, Epoch, EventPosition, EventHeight, EventEpoch, Satellite, IsChange, IsFileValue, AreBegun, IsEventBegun, header_lines, whole_lines, AreBefore, IsExpectedAt, Progress, IsPosition, shown_with, lines_after, stamped, Known, Shown, IsShown, IsHeadAt, file_with, StartsAt, IsInHeader, IsAt, IsAtEpoch, IsInEvent, HasLinesLeft, RefusesLine, IsSound, IsSoundAt, IsEventExpected, AreLinesAt, values_now, AreRead, AreLinesOf, History, FollowsHistory, progress_at, GoesOnWithLine, ShowsLine, IsTaken, SatelliteRow, Stamped, FileValue, satellite_line, event_lines, stamped_lines, file_lines, lines_of_parts, GoesTo, EndsHeader, NoneGoesOn}
 
 -- ---- station values of a position that aren't these
 
@@ -101,10 +101,9 @@ pub begin_whole : (s : Progress) (expected : Expected) (lines : List (List ℕ))
     → (others : List (List ℕ)) × IsShown s.known.shown × (lines ≡ header_lines s.known.shown ++ others)
 begin_whole s (Header place) lines sound are some = absurd (some sound.0 sound.1)
 begin_whole s Epoch lines sound are some = (_, sound.0.shown, are)
-begin_whole s EventPosition lines sound are some = (_, sound.0.shown, are ∙ append_assoc (header_lines s.known.shown) _ _)
 begin_whole s (EventHeight p) lines sound are some = (_, sound.0.0.shown, are ∙ append_assoc (header_lines s.known.shown) _ _)
 begin_whole s (EventEpoch w) lines sound are some = (_, sound.0.0.shown, are ∙ append_assoc (header_lines s.known.shown) _ _)
-begin_whole s (Satellite n) lines sound are some = (_, sound.0.shown, are ∙ append_assoc (header_lines s.known.shown) _ _)
+begin_whole s other lines sound are some = (_, sound.0.shown, are ∙ append_assoc (header_lines s.known.shown) _ _)
 
 -- the header of a file value is a header
 pub shown_is : (v : FileValue) (e : Stamped) (es : List Stamped) → v.epochs ≡ e ∷ es → IsFileValue v → IsShown (shown_of v e.time)
@@ -258,10 +257,8 @@ file_shown s taken expected sound some are =
 pub unfinished : (c : ParserState) (h : History) (expected : Expected) → c.expected ≡ expected → FollowsHistory c h → ((expected ≡ Epoch) × (0 < c.counts.epochs) → ⊥) → (v : FileValue) → HasLinesLeft (progress_at c h) v [] → ⊥
 unfinished c h (Header place) same history never v on = header_unfinished (progress_at c h) place same history.sound v on
 unfinished c h Epoch same history never v on = grind (arith, only_file, file_value)
-unfinished c h EventPosition same history never v on = event_unfinished (progress_at c h) 1 (λ w. ⊤) (lit< tt) v (at_expected (progress_at c h) EventPosition same v [] on)
-unfinished c h (EventHeight p) same history never v on = event_unfinished (progress_at c h) 2 (λ w. position_of w ≡ p) (lit< tt) v (at_expected (progress_at c h) (EventHeight p) same v [] on)
-unfinished c h (EventEpoch w) same history never v on = event_unfinished (progress_at c h) 3 (λ x. x ≡ w) (lit< tt) v (at_expected (progress_at c h) (EventEpoch w) same v [] on)
 unfinished c h (Satellite n) same history never v on = epoch_unfinished (progress_at c h) n same history.sound v on
+unfinished c h event same history never v on = event_unfinished (progress_at c h) _ _ (lit< tt) v (at_expected (progress_at c h) event same v [] on)
 
 -- no satellite was read if an epoch is expected
 pub sound_rows : (s : Progress) → s.expected ≡ Epoch → IsSound s → s.rows ≡ []

@@ -73,9 +73,7 @@ same_body : (a b x y : List ℕ) → has 10 a ≡ false → has 10 b ≡ false �
 same_body [] [] x y h k e = (refl, cc)
 same_body [] (b ∷ bs) x y h k e = grind (arith, or_parts)
 same_body (a ∷ us) [] x y h k e = grind (arith, or_parts)
-same_body (a ∷ us) (b ∷ bs) x y h k e =
-    let more = same_body us bs x y (or_parts (a == 10) (has 10 us) h).1 (or_parts (b == 10) (has 10 bs) k).1 cc in
-    (cc, more.1)
+same_body (a ∷ us) (b ∷ bs) x y h k e = grind (arith, common_steps, or_parts, same_body us bs x y)
 
 shape : (l body x : List ℕ) → l ≡ body ++ 10 ∷ [] → l ++ x ≡ body ++ 10 ∷ x
 shape l body x e = ap (λ t. t ++ x) e ∙ append_assoc body (10 ∷ []) x
@@ -93,8 +91,7 @@ splits all [] rest h k e = (all, refl, sym e)
 splits [] (d ∷ ds) rest h k e = absurd (not_nil d (joined ds ++ rest) (All-head IsLine d ds k) (e ∙ append_assoc d (joined ds) rest))
 splits (l ∷ ls) (d ∷ ds) rest h k e =
     let one = first_line l d (joined ls) (joined ds ++ rest) (All-head IsLine l ls h) (All-head IsLine d ds k) (e ∙ append_assoc d (joined ds) rest) in
-    let (more, lines, text) = splits ls ds rest (All-tail IsLine l ls h) (All-tail IsLine d ds k) one.1 in
-    (more, cc, text)
+    grind (arith, one, splits ls ds rest (All-tail IsLine l ls h) (All-tail IsLine d ds k) one.1)
 
 -- a line has a line feed, so bytes that begin with a line have one
 pub has-line : (line x : List ℕ) → IsLine line → has 10 (line ++ x) ≡ true
@@ -274,8 +271,7 @@ said_of a P Q h p = grind arith
 
 -- a fault of the file is one of its storing
 stored_fault : (fault : ReadFault) (input : List ℕ) → ExplainsFault input fault → ExplainsStored input fault
-stored_fault Memory input why = inl why
-stored_fault other input why = why
+stored_fault v0 input why = grind (arith, common_steps)
 
 pub explained : {es : List Stamped} {input left : Option (List ℕ)} {fault : ReadFault} → StopsReading es input left fault → StopsStoring input fault
 explained {input = input} {fault = fault} stops = said_of input _ _ (λ bytes h. stored_fault fault bytes h.0) stops.0

@@ -1,4 +1,5 @@
 -- The columns of signals in a row, of which those of the signals in a set are left from the line before.
+use Rattle.rtcm_bits.proofs.SmallLaws.{get_or-same}
 use Rattle.rinex_file.proofs.HeaderRows.Texts.{trimmed-blanks}
 use Rattle.rinex_file.proofs.Rows.Cells.{none_fit, none_put, none_text, replaced}
 use Rattle.rinex_file.proofs.Rows.Sizes.{length-signals}
@@ -129,9 +130,7 @@ recast h few short same only = record { shown = h.shown; size = h.size; room = h
 -- ---- from the cells that are written to the columns that are left
 
 over : (used own q : ℕ) → own < 2 ^ most_signals → q < most_signals → bit_at (bit_and used (bit_not w64 own)) q + bit_at own q ≡ max (bit_at used q) (bit_at own q)
-over used own q few low =
-    let not = bit_at_not w64 own q (omega (arith, few)) (omega (arith, low)) in
-    omega (arith, bit_at_and used (bit_not w64 own) q, not, bit_at-lt used q, bit_at-lt own q)
+over used own q few low = grind (arith, common_steps, bit_at_and, bit_at-lt, bit_at_not w64 own q (omega (arith, few)) (omega (arith, low)))
 
 pub left_over : {used own : ℕ} {all : List SignalValues} {row : List ℕ} → own < 2 ^ most_signals → HasColumns used own all row → HasColumns (bit_and used (bit_not w64 own)) own all row
 left_over few h = grind (arith, recast, and_le_l, over, bit_at-lt, none_above)
@@ -157,17 +156,10 @@ text_filled some all (k, is) = (64 * k, ap (flat_map signal_text) is ∙ flat_ma
 trimmed_filled : (front : List ℕ) (some all : List SignalValues) → Fills some all → trimmed (front ++ flat_map signal_text all) ≡ trimmed (front ++ flat_map signal_text some)
 trimmed_filled front some all f = grind (arith, common_steps, (text_filled some all f).0, (text_filled some all f).1, trimmed-blanks)
 
-none_at : (n p : ℕ) → values_at (replicate n no_signal_values) p ≡ no_signal_values
-none_at zero p = refl
-none_at (suc n) zero = refl
-none_at (suc n) (suc p) = none_at n p
-
 -- nothing is shown from the number m on
 module _ {own m : ℕ} {all : List SignalValues} {row : List ℕ} (h : HasColumns 0 own all row) (few : own < 2 ^ m) (most : m ≤ most_signals) where
   after : Fills (take m h.shown) h.shown
-  after =
-      let (k, is) = fills [] (drop m h.shown) (omega arith) (λ p. get_or-drop m h.shown p no_signal_values ∙ h.same (m + p) (omega arith) ∙ h.only (m + p) (bit_at_above own m (m + p) few (omega arith))) in
-      (k, sym (take-append-drop m h.shown) ∙ ap (λ l. take m h.shown ++ l) is)
+  after = grind (arith, common_steps, take-append-drop, fills [] (drop m h.shown) (omega arith) (λ p. get_or-drop m h.shown p no_signal_values ∙ h.same (m + p) (omega arith) ∙ h.only (m + p) (bit_at_above own m (m + p) few (omega arith))))
 
   abbrev first : List ℕ
   first = flat_map signal_text (take m h.shown)
@@ -193,7 +185,7 @@ module _ {own m : ℕ} {all : List SignalValues} {row : List ℕ} (h : HasColumn
 
 -- before any cell
 pub no_cells : {used : ℕ} {row : List ℕ} (cells : List Cell) (id : ℕ) (signals : List ℕ) → length signals ≤ most_signals → IsBlankBut used row → HasColumns used 0 (map (signal_values_at (drop (length cells) cells) id) signals) row
-no_cells cells id signals short h = grind (arith, recast, length-map, drop_all, none_put, none_at)
+no_cells cells id signals short h = grind (arith, recast, length-map, drop_all, none_put, get_or-same)
 
 pub few_with : (own p : ℕ) → own < 2 ^ most_signals → p < most_signals → bit_or own (1 * 2 ^ p % 2 ^ 64) < 2 ^ most_signals
 few_with own p few low = or_lt most_signals own (1 * 2 ^ p % 2 ^ 64) few (subst (λ n. n < 2 ^ most_signals) (sym (one_shl p 64 (omega (arith, low)))) (pow-lt low))
@@ -219,7 +211,7 @@ blank_row = record {
   columns = ap (λ t. t ++ 32 ∷ []) (sym (none_text most_signals));
   few = omega arith;
   short = omega arith;
-  same = λ p covers. none_at most_signals p;
+  same = λ p covers. get_or-same no_signal_values most_signals p;
   only = λ p out. refl;
 }
 

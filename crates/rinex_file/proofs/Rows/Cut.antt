@@ -82,11 +82,7 @@ length-signal at text = grind (arith, common_steps, length-take 64 (drop at text
 -- entries in the columns in which they are written
 entries_read : (n : ℕ) (text : List ℕ) (values : List SignalValues) (some : Bool) → length values ≡ n → All AreSignalValues values → some ≡ list_any has_some_value values → text ≡ flat_map signal_text values
     → ReadsExactly (AreEntries n) (flat_map signal_text) text (some_if some values)
-entries_read n text values true size each is shows = (
-  record { each = each; whole = size; some = Any-from_list_any has_some_value values (sym is) },
-  shows,
-  λ es are e. signals_once es values are.each each (are.whole ∙ sym size) (sym e ∙ shows),
-)
+entries_read n text values true size each is shows = grind (arith, common_steps, Any-from_list_any, signals_once)
 entries_read n text values false size each is shows = λ es are e.
     let same = signals_once es values are.each each (are.whole ∙ sym size) (sym e ∙ shows) in
     let never : false ≡ true = is ∙ ap (list_any has_some_value) (sym same) ∙ list_any-from_Any has_some_value es are.some in cc

@@ -1,6 +1,6 @@
 -- The sizes of the parts of a satellite's line, and its first letter.
 use Rattle.rinex_file.proofs.Rows.Trimmed.{trimmed-front}
-use Rattle.rinex_file.proofs.Names.{length-fixed, length-right, not_negative, each_system, arith, ◌≡◌, ℕ, suc, ◌*◌, ◌^◌, ◌<◌, ◌≤◌, List, [], ◌∷◌, ◌++◌, length, refl, ap, length-append, ℤ, pos, negsuc, unsigned_abs, to_z, of_z, w64, Option, IfSome, flat_map, All, sign_text, ints, to_z-of_z, fits_signed_from_abs, All-head, All-tail, All-weaker, padded, fixed, most_satellites, satellites, System, HasTwelveDigits, SignalValues, SatelliteRow, FitsColumns, HaveRoom, AreSignalValues, IsFrom, trimmed, field, signal_text, satellite_line, letter, number_of}
+use Rattle.rinex_file.proofs.Names.{length-fixed, length-right, not_negative, each_system, arith, ◌≡◌, ℕ, suc, ◌*◌, ◌^◌, ◌<◌, ◌≤◌, List, [], ◌∷◌, ◌++◌, length, refl, ap, length-append, ℤ, pos, negsuc, unsigned_abs, to_z, of_z, w64, Option, IfSome, flat_map, All, ints, to_z-of_z, fits_signed_from_abs, All-head, All-tail, All-weaker, padded, fixed, most_satellites, satellites, System, HasTwelveDigits, SignalValues, SatelliteRow, FitsColumns, HaveRoom, AreSignalValues, IsFrom, trimmed, field, signal_text, satellite_line, letter, number_of, common_steps}
 
 most : (n : ℕ) → FitsColumns (pos n) → n ≤ 9_999_999_999_999
 most n h = let high = h.1 in omega (arith, ints)
@@ -13,10 +13,7 @@ pub if_fits : (o : Option ℤ) → IfSome o HasTwelveDigits → IfSome o FitsCol
 if_fits o h = grind (arith, ints)
 
 pub length-value : (v : ℤ) → FitsColumns v → length (fixed 3 v) ≤ 14
-length-value (pos n) h =
-    let bound = most n h in
-    let l = length-fixed 3 10 (pos n) (omega arith) (omega arith) (omega (arith, bound)) (omega (arith, bound)) in
-    omega (arith, l, ap (λ b. length (sign_text b)) (not_negative n))
+length-value (pos n) h = grind (arith, common_steps, not_negative, most n h, length-fixed 3 10 (pos n) (omega arith) (omega arith) (omega (arith, most n h)) (omega (arith, most n h)))
 length-value (negsuc n) h = let bound = least n h in length-fixed 3 9 (negsuc n) (omega arith) (omega arith) (omega (arith, bound)) (omega (arith, bound))
 
 pub small_value : (v : ℤ) → FitsColumns v → unsigned_abs v < 2 ^ 64

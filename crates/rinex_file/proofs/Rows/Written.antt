@@ -2,7 +2,7 @@
 use Rattle.rinex_file.proofs.Rows.Trimmed.{length-trimmed, cut_more, cut_enough}
 use Rattle.rinex_file.proofs.Digits.Padded.{two_digits}
 use Rattle.rinex_file.proofs.HeaderRows.Texts.{trimmed-blanks}
-use Rattle.rinex_file.proofs.Names.{common_steps, arith, ◌≡◌, ◌≢◌, ◌∙◌, sym, ap, ap₂, ℕ, ◌+◌, ◌-◌, ◌*◌, ◌≤◌, ◌<◌, List, [], ◌∷◌, ◌++◌, length, take, drop, replicate, get_or, take-append-drop, Bool, flat_map, ◌||◌, IsTrue, ◌↔◌, not, nat_eq, list_any, take-add, drop-drop, take_all, take_more, length-drop, length-take-le, length_push, get_or-take, get_or_append_left, ne_eqb, flat_map-append, list_any-append, SignalValues, SatelliteRow, has_some_value, trimmed, IsEnded, padded, field, signal_text, lli_byte, strength_byte, row_text, satellite_line, letter, number_of}
+use Rattle.rinex_file.proofs.Names.{common_steps, arith, ◌≡◌, ◌≢◌, ◌∙◌, sym, ap, ap₂, ℕ, ◌+◌, ◌-◌, ◌*◌, ◌≤◌, ◌<◌, List, [], ◌∷◌, ◌++◌, length, take, drop, replicate, get_or, take-append-drop, Bool, flat_map, ◌||◌, IsTrue, ◌↔◌, not, nat_eq, list_any, take-add, drop-drop, take_all, take_more, length-drop, length-take-le, length_push, get_or-take, get_or_append_left, ne_eqb, flat_map-append, list_any-append, SignalValues, SatelliteRow, has_some_value, IsEnded, padded, field, signal_text, lli_byte, strength_byte, row_text, satellite_line, letter, number_of}
 use Rattle.std.proofs.Math.Bool.{or-false}
 
 -- ---- the columns of a signal
@@ -45,28 +45,11 @@ digits_shown t o n h e = grind (arith, two_digits)
 -- ---- the end of a line
 
 ended : (line : List ℕ) → 2 ≤ length line → get_or line (length line - 1) 0 ≡ 10 → get_or line (length line - 2) 0 ≢ 32 → IsEnded line
-ended line long feed other =
-    let n = length line - 1 in
-    let t = take n line in
-    let size : length t ≡ n = length-take-le n line (omega arith) in
-    let all : line ≡ take (n + 1) line = sym (take_all (n + 1) line (omega (arith, long))) in
-    let last : get_or t (length t - 1) 0 ≡ get_or line (length line - 2) 0 =
-    ap (λ k. get_or t (k - 1) 0) size ∙ get_or-take n line (n - 1) 0 (omega (arith, long)) ∙ ap (λ k. get_or line k 0) (omega (arith, long)) in (
-      t,
-      all ∙ take_more line n 0 (omega (arith, long)) ∙ ap (λ b. t ++ b ∷ []) feed,
-      omega (arith, size, long),
-      sym (grind (arith, common_steps, take_all, cut_enough)),
-    )
+ended line long feed other = grind (arith, common_steps, length-take-le, take_all, get_or-take, take_more, cut_enough)
 
 -- a line that is ended has no blank before its line feed
 blank_end : (line : List ℕ) → IsEnded line → get_or line (length line - 2) 0 ≡ 32 → ⊥
-blank_end line (text, is, some, whole) blank =
-    let n = length text in
-    let size : length line ≡ n + 1 = ap length is ∙ length_push text 10 in
-    let at : get_or text (n - 1) 0 ≡ 32 =
-    sym (get_or_append_left text (10 ∷ []) 0 (n - 1) (omega (arith, some))) ∙ ap₂ (λ (l : List ℕ) (k : ℕ). get_or l k 0) (sym is) (omega (arith, size)) ∙ blank in
-    let shorter : length (trimmed (take (n - 1) text)) ≡ n = ap length ((grind (arith, common_steps, cut_more, take_all)) ∙ whole) in
-    omega (arith, shorter, length-trimmed (take (n - 1) text), length-take-le (n - 1) text (omega arith), some)
+blank_end line (text, is, some, whole) blank = grind (arith, common_steps, length_push, get_or_append_left, cut_more, take_all, length-trimmed, length-take-le)
 
 other_byte : (b : ℕ) → IsTrue (not (nat_eq b 32)) → b ≡ 32 → ⊥
 other_byte b held e = grind arith

@@ -85,8 +85,7 @@ pub record AreValid (k : Known) : Type 0 where
 
 -- these texts are the same in these fields
 abbrev pub AreSameTexts : HeaderLists → HeaderLists → List HeaderField → Type 0
-AreSameTexts x y [] = ⊤
-AreSameTexts x y (f ∷ fs) = (text_of x f ≡ text_of y f) × AreSameTexts x y fs
+AreSameTexts x y fs = map (text_of x) fs ≡ map (text_of y) fs
 
 abbrev pub position_of : StationValues → StationValues
 position_of v = record v { height = 0 }

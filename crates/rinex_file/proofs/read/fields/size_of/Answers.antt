@@ -1,5 +1,5 @@
 use Rattle.rinex_file.proofs.Fields.Lanes.{below_at, ordered, ordered_below, size_is, size_l, twos_below}
-use Rattle.rinex_file.proofs.Names.{arith, ◌≡◌, ◌∙◌, ap, subst, sym, ◌+◌, ◌*◌, ◌<◌, ◌^◌, ℕ, get_or, AreBelow, twos_of}
+use Rattle.rinex_file.proofs.Names.{arith, ◌≡◌, ◌∙◌, ap, subst, sym, ◌+◌, ◌*◌, ◌<◌, ◌^◌, ℕ, get_or, AreBelow, twos_of, common_steps}
 use Rattle.rinex_file.proofs.read.fields.size_of.Goals.{After-twos, After-fours, After-eights}
 use Rattle.rinex_file.proofs.read.fields.size_of.Goals as goal
 
@@ -14,9 +14,7 @@ thousands : (c : After-fours) → AreBelow 10_000 c.fours.result
 thousands c = subst (AreBelow 10_000) (sym c.fours.ensures) (twos_below 100 10_000 (λ a b h k. omega (arith, h, k)) c.twos.result (hundreds c.before))
 
 halves : (c : After-eights) (i : ℕ) → get_or c.eights.result i 0 < 10 ^ 8
-halves c i =
-    below_at (10 ^ 8) c.eights.result (omega arith)
-    (subst (AreBelow (10 ^ 8)) (sym c.eights.ensures) (twos_below 10_000 (10 ^ 8) (λ a b h k. omega (arith, h, k)) c.fours.result (thousands c.before))) i
+halves c i = grind (arith, common_steps, below_at, twos_below, thousands)
 
 pub fours-requires : goal.fours-requires
 fours-requires c = hundreds ((goal.at.fours-requires c).After-twos)

@@ -1,6 +1,6 @@
 use Rattle.rinex_file.proofs.Writing.Stored.{epoch_whole, one_more}
 use Rattle.rinex_file.proofs.Rows.Sizes.{all_values_fit}
-use Rattle.rinex_file.proofs.Names.{◌∙◌, ◌++◌, refl, ap, ap₂, subst, sym, length, append-nil, List, All, flat_map, take_all, civil_of, joined, change_lines, AreSignalValues, epoch_line, satellite_line, HasRoom, SignalValues, SatelliteRow, Stamped, satellite_row, common_steps, arith}
+use Rattle.rinex_file.proofs.Names.{◌∙◌, ◌++◌, refl, ap, ap₂, subst, sym, length, append-nil, List, All, flat_map, take_all, civil_of, joined, change_lines, epoch_line, satellite_line, HasRoom, SignalValues, SatelliteRow, Stamped, satellite_row, common_steps, arith}
 use Rattle.rinex_file.proofs.write.file.write_stored.Goals.{After-as_slice-values}
 use Rattle.rinex_file.proofs.write.file.write_stored.Goals as goal
 
@@ -13,17 +13,13 @@ loop-stored-init c =
 
 -- the line has room for the satellite
 room : (c : After-as_slice-values) → HasRoom (satellite_row c.stored.inside.system c.stored.inside.satellite c.stored.inside.signal_values.items)
-room c =
-    let rooms = subst (All HasRoom) (sym (c.as_slice-rows.ensures.value ∙ ap (λ (e : Stamped). e.rows) c.epoch.view_is)) c.requires in
-    subst HasRoom (sym (c.stored.view_is ∙ c.stored-item.is)) (rooms c.loop-stored.stored-index c.stored-item.result c.loop-stored-test.true)
+room c = grind (arith, subst (All HasRoom) (sym (c.as_slice-rows.ensures.value ∙ ap (λ (e : Stamped). e.rows) c.epoch.view_is)) c.requires)
 
 pub put_values-size-requires-clause-id : goal.put_values-size-requires-clause-id
 put_values-size-requires-clause-id c = let (id, values, few) = room ((goal.at.put_values-size-requires-clause-id c).After-as_slice-values) in id
 
 pub put_values-size-requires-clause-room : goal.put_values-size-requires-clause-room
-put_values-size-requires-clause-room c =
-    let (id, values, few) = room ((goal.at.put_values-size-requires-clause-room c).After-as_slice-values) in
-    all_values_fit _ (subst (All AreSignalValues) (sym c.as_slice-values.ensures.value) values)
+put_values-size-requires-clause-room c = grind (arith, common_steps, all_values_fit, room ((goal.at.put_values-size-requires-clause-room c).After-as_slice-values))
 
 pub put_values-size-requires-clause-few : goal.put_values-size-requires-clause-few
 put_values-size-requires-clause-few c = grind (arith, common_steps, c.as_slice-values.ensures.value, room)

@@ -1,6 +1,6 @@
 use Rattle.rinex_file.proofs.Digits.Lanes.{ends, flags, first_flag, few_flags}
 use Rattle.rinex_file.proofs.Fields.Templates.{leading-le}
-use Rattle.rinex_file.proofs.Names.{arith, ◌≡◌, ◌∙◌, ap, ℕ, ◌<◌, ◌%◌, ◌^◌, List, [], ◌∷◌, get_or, length, take, length-take, leading}
+use Rattle.rinex_file.proofs.Names.{arith, ◌≡◌, ◌∙◌, ap, ℕ, ◌<◌, ◌%◌, ◌^◌, List, [], ◌∷◌, get_or, length, take, length-take, leading, common_steps}
 use lib.Count.{count_trailing_zeros}
 use Rattle.rinex_file.proofs.write.lanes.columns_with.Goals as goal
 
@@ -10,9 +10,7 @@ zeros_are ds size small =
     ap (count_trailing_zeros 64) (few_flags ds (ends 9 rest) size (omega (arith, size))) ∙ first_flag 9 54 ds rest (omega (arith, size)) (omega (arith, small))
 
 pub columns_from-requires : goal.columns_from-requires
-columns_from-requires c =
-    let zeros = zeros_are c.args.digits c.fits-digits.0 c.requires in
-    omega (arith, zeros, leading-le (take 9 c.args.digits), length-take 9 c.args.digits)
+columns_from-requires c = grind (arith, common_steps, leading-le, length-take, zeros_are c.args.digits c.fits-digits.0 c.requires)
 
 pub returns-clause-text : goal.returns-clause-text
 returns-clause-text c v fits sign are = c.columns_from.ensures.text v fits sign are (zeros_are c.args.digits c.fits-digits.0 c.requires)

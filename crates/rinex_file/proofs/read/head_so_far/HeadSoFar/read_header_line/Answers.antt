@@ -1,7 +1,7 @@
 -- Each kind of row is read by its own function: what it takes is kept, and a line that it refuses is no line of the
 -- row, so that the header so far is as it was.
 use Rattle.rinex_file.proofs.HeaderRows.Read.{given_interval, line_delta, line_first, line_fixed, line_interval, line_position, line_slots, line_texts, line_version, refuse_exactly, refuse_texts}
-use Rattle.rinex_file.proofs.Names.{ap, Option, Some, ◌≡◌, subst, refl, ℕ, List, Bool, true, false, is_some, ⊤, HeaderField, HeaderRow, Texts, HeaderLists, Known, ReadsOrRefuses, ReadsOrRefusesTexts, with_texts, AreItemsBefore, Slots, sym, Version, Position, Delta, StrengthUnit, Interval, First, Shift, Biases, version_content, position_content, height_content, interval_content, first_content, IsPosition, IsTime, IsInterval, position_of, systems_letter, civil_of, ◌<◌, ◌^◌, [], ◌∷◌}
+use Rattle.rinex_file.proofs.Names.{arith, ap, Option, Some, ◌≡◌, subst, refl, ℕ, List, Bool, is_some, ⊤, HeaderField, HeaderRow, Texts, HeaderLists, Known, ReadsOrRefuses, ReadsOrRefusesTexts, with_texts, AreItemsBefore, Slots, sym, Version, Position, Delta, StrengthUnit, Interval, First, Shift, Biases, version_content, position_content, height_content, interval_content, first_content, IsPosition, IsTime, IsInterval, position_of, systems_letter, civil_of, ◌<◌, ◌^◌, [], ◌∷◌}
 use Rattle.rinex_file.proofs.read.head_so_far.HeadSoFar.read_header_line.Goals as goal
 
 -- the row, what was known before it and what was returned, by other names
@@ -10,8 +10,7 @@ of_row : {r t : HeaderRow} (line : List ℕ) {old k : Known} (new : Known) {take
 of_row {t} line new {taken} result e is same l = rw (e, is) (subst (λ o. ReadsOrRefuses t line o new taken) same l)
 
 of_texts : (r : HeaderField) (line : List ℕ) (k : Known) (x : HeaderLists) (b : Bool) → ReadsOrRefusesTexts r line k.shown.texts x b → ReadsOrRefuses (Texts r) line k (with_texts k x) b
-of_texts r line k x true read = line_texts r line k x read
-of_texts r line k x false refuses = refuse_texts k r line refuses
+of_texts r line k x b read = grind (arith, line_texts, refuse_texts)
 
 pub returns-in_err-self-inside-in-Version : goal.returns-in_err-self-inside-in-Version
 returns-in_err-self-inside-in-Version c = of_row c.args.line.now c.args.self.now _ (ap is_some c.from_residual.ensures) c.in-Version.is refl (refuse_exactly Version (λ byte. ⊤) version_content c.args.self.now c.args.line.now (λ h is there. (systems_letter h.plan, tt, refl)) c.in_err-self-inside-in-Version.ensures)

@@ -1,5 +1,5 @@
 use Rattle.rinex_file.proofs.Reading.Lines.{no_feed}
-use Rattle.rinex_file.proofs.Names.{arith, ◌∙◌, sym, ap, ℕ, ◌+◌, ◌≤◌, take, length, subst, List, [], ◌∷◌, ◌++◌, Some, min-le_left, eqb-true, take_more, take-take, length-take-le, IsFirstByte, is_byte, IsLine}
+use Rattle.rinex_file.proofs.Names.{arith, ◌∙◌, sym, ap, ℕ, ◌+◌, ◌≤◌, take, length, List, [], ◌∷◌, ◌++◌, Some, min-le_left, eqb-true, take_more, take-take, length-take-le, IsFirstByte, is_byte, IsLine, common_steps}
 use Rattle.rinex_file.proofs.read.lines.Block.line_size.Goals as goal
 
 -- the bytes up to the first line feed
@@ -13,5 +13,4 @@ line_at held room n within (none, feed) =
     )
 
 pub returns-in-Some-clause-whole : goal.returns-in-Some-clause-whole
-returns-in-Some-clause-whole c = λ some.
-    subst (λ (l : List ℕ). IsLine (take (c.in-Some.feed + 1) l)) c.self.view_is (grind (arith, min-le_left, line_at, c.min.ensures, c.memchr.ensures, c.in-Some.is))
+returns-in-Some-clause-whole c = grind (arith, common_steps, min-le_left, line_at)
