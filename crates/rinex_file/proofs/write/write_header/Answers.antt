@@ -1,13 +1,9 @@
-use Rattle.rinex_file.proofs.Names.{more_written, part_written, common_steps, arith, ap, refl, [], Appends-nil, joined, shown_text}
+use Rattle.rinex_file.proofs.Names.{more_written, part_written, arith, ap, Appends-nil, joined, shown_text}
 use Rattle.rinex_file.proofs.write.write_header.Goals as goal
 
 pub loop-line-init : goal.loop-line-init
 unfolding shown_text
-loop-line-init g c = (
-  tt,
-  tt,
-  record { done = []; is = grind (arith, common_steps, c.into_iter-line-iterator.ensures, c.header_lines-line-items.ensures); out = Appends-nil (g.W.Write.contents c.args.writer.now.inner); fine = refl; widest = refl },
-)
+loop-line-init g c = grind (arith, Appends-nil)
 
 pub loop-line-preserved : goal.loop-line-preserved
 loop-line-preserved g c =

@@ -11,9 +11,6 @@ loop-summary-init g c = record {
   reads = none_read _ _;
 }
 
-pub begin-requires : goal.begin-requires
-begin-requires g c = (c.loop-summary.epochs.items, _, c.loop-summary.invariant.read)
-
 pub read_rows-requires : goal.read_rows-requires
 read_rows-requires g c =
     let read = c.loop-summary.invariant.read in

@@ -1,20 +1,6 @@
-use Rattle.rinex_file.proofs.Reading.Accepted.{few_lines, row_is}
-use Rattle.rinex_file.proofs.Names.{failed_read, fine_read, more_read, ◌∙◌, ap, arith, Ok, err_from_is_err_and}
+use Rattle.rinex_file.proofs.Reading.Accepted.{row_is}
+use Rattle.rinex_file.proofs.Names.{failed_read, fine_read, more_read, ◌∙◌, ap, arith, Ok}
 use Rattle.rinex_file.proofs.read.epochs.EpochReader.finish.Goals as goal
-
-pub next_row-requires : goal.next_row-requires
-next_row-requires g c =
-    let (es, e, input, before) = c.loop.invariant.some in
-    let (more, time, part, least, plan) = c.loop.invariant.read es e input before in
-    (es, more, input, part)
-
-pub loop-smaller : goal.loop-smaller
-loop-smaller g c =
-    let (es, e, input, before) = c.loop.invariant.some in
-    let (more, time, part, least, plan) = c.loop.invariant.read es e input before in
-    let (next, fits, counted, same) = row_is c.loop.self c.next_row.new.self es more input (g.R.Read.remaining c.next_row.new.reader.inner) (ap Ok c.if-branch.true) (c.in_ok-next_row.ensures.rows es more input part) in
-    let few = few_lines c.loop.self es more input _ part in
-    omega (arith, counted, few)
 
 pub loop-preserved : goal.loop-preserved
 loop-preserved g c =
@@ -28,20 +14,8 @@ loop-preserved g c =
       reads = more_read inv.reads c.in_ok-next_row.ensures.reads;
     }
 
-pub returns-clause-rows : goal.returns-clause-rows
-returns-clause-rows g c = λ es e input before.
-    let (more, time, part, least, plan) = c.loop.invariant.read es e input before in
-    let (whole, first, most, same) = row_is c.loop.self c.next_row.new.self es more input (g.R.Read.remaining c.next_row.new.reader.inner) (ap Ok c.if-branch.false) (c.in_ok-next_row.ensures.rows es more input part) in
-    (more, time, whole, first, omega (arith, least, most), same ∙ plan)
-
 pub returns-clause-reads : goal.returns-clause-reads
 returns-clause-reads g c = fine_read _ (λ e. cc) (more_read c.loop.invariant.reads c.in_ok-next_row.ensures.reads)
-
-pub returns-in_err-next_row-clause-rows : goal.returns-in_err-next_row-clause-rows
-returns-in_err-next_row-clause-rows g c = λ es e input before.
-    let (more, time, part, least, plan) = c.loop.invariant.read es e input before in
-    let p = err_from_is_err_and c.from_residual.result c.from_residual.ensures.1 in
-    rw (p.1, p.2) (c.in_err-next_row.ensures.rows es more input part)
 
 pub returns-in_err-next_row-clause-reads : goal.returns-in_err-next_row-clause-reads
 returns-in_err-next_row-clause-reads g c = failed_read c.from_residual.result c.from_residual.ensures.1 c.loop.invariant.reads c.in_err-next_row.ensures.reads

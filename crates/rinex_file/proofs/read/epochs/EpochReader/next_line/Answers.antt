@@ -95,9 +95,6 @@ pub returns-in-Failed-clause-goes : goal.returns-in-Failed-clause-goes
 returns-in-Failed-clause-goes g c = λ h input read. stopped _ Read read (unexplained input) tt (λ e. cc)
     (λ e. epochs_read (g.R.Read.remaining c.next.new.reader.inner) c.next.new.self.line read c.in-Failed.ensures.taken.0 (c.in-Failed.ensures.failed refl) c.in-Failed.ensures.found.1)
 
-pub returns-in_default-clause-reads : goal.returns-in_default-clause-reads
-returns-in_default-clause-reads g c = fine_read _ (λ e. cc) (record { left = c.next.ensures.taken.1; same = grind (arith, common_steps, c.next.ensures.found, c.in_default.not-Failed) })
-
 pub returns-clause-reads : goal.returns-clause-reads
 returns-clause-reads g c = fine_read _ (λ e. cc) (record { left = c.next.ensures.taken.1; same = c.in-Line.ensures.found.1 })
 

@@ -1,14 +1,11 @@
 use Rattle.rinex_file.proofs.Reading.Epochs.{bad_of, goes_on, passed, stopped}
 use Rattle.rinex_file.proofs.Reading.Events.{event_taken, event_shows, sound_event, position_taken, position_shows, no_position, sound_position}
 use Rattle.rinex_file.proofs.Reading.Header.{no_header, header_taken, header_shows, header_ended, ended_shows, sound_start, sound_header}
-use Rattle.rinex_file.proofs.Names.{arith, common_steps, MayRunOut, IsPosition, Option, ReadsExactly, StationValues, position_line, ◌≡◌, ◌<◌, ℕ, List, subst, sym, ◌∙◌, Err, ParserState, Expected, Header, Epoch, EventPosition, EventHeight, Refusal, History, FollowsHistory, IsNext, progress_at, Known, StepsTo, TakesHeaderLine, ExpectsRow, ExpectsHeader, refl}
+use Rattle.rinex_file.proofs.Names.{arith, common_steps, IsPosition, Option, ReadsExactly, StationValues, position_line, ◌≡◌, ◌<◌, ℕ, List, subst, sym, ◌∙◌, ParserState, Expected, Header, Epoch, EventPosition, EventHeight, History, FollowsHistory, IsNext, progress_at, Known, StepsTo, ExpectsRow, ExpectsHeader, refl}
 use Rattle.rinex_file.proofs.read.parser_state.ParserState.take.Goals as goal
 
 pub returns-in_err-self-in-Header : goal.returns-in_err-self-in-Header
-returns-in_err-self-in-Header c = passed c.args.self.now _ c.args.line.now _ c.from_residual.ensures.1 (λ e same bad h history.
-    no_header _ c.args.line.now c.in-Header.is (subst (λ (r : Refusal). TakesHeaderLine c.args.self.now.head c.in-Header.place c.args.line.now c.take.new.self (Err r)) (sym same ∙ bad) c.in_err-self-in-Header.ensures))
-    (λ e same run. subst (λ (d : Expected). MayRunOut d c.args.line.now) (sym c.in-Header.is)
-    (subst (λ (r : Refusal). TakesHeaderLine c.args.self.now.head c.in-Header.place c.args.line.now c.take.new.self (Err r)) (sym same ∙ run) c.in_err-self-in-Header.ensures))
+returns-in_err-self-in-Header c = grind (arith, passed, no_header)
 
 abbrev at_head : ParserState → Known → Expected → ParserState
 at_head c k expected = record c { expected = expected; head = k }
