@@ -164,10 +164,9 @@ epochs_are plan v (e ∷ es) h k =
     All-cons (IsStamped (planned_in plan)) (stamped_after plan v e) (all_stamped plan e.values es) (epoch_is plan v e h.0 k.0) (epochs_are plan e.values es h.1 k.1)
 
 times_rise : (plan : PlanValue) (v : StationValues) (es : List Closed) → TimesRise es → IsStrictlyIncreasing (map time_stamped (all_stamped plan v es))
-times_rise plan v [] h k less = absurd (omega (arith, less))
-times_rise plan v (e ∷ []) h k less = absurd (omega (arith, less))
 times_rise plan v (e ∷ f ∷ es) h zero less = h.0.0
 times_rise plan v (e ∷ f ∷ es) h (suc k) less = grind (arith, (times_rise plan e.values (f ∷ es) h.1 k (omega (arith, less))))
+times_rise plan v es h k less = absurd (omega (arith, less))
 
 -- ---- station values
 

@@ -43,7 +43,7 @@ unfoldable pub use Rattle.rinex_file.specs.Header.{header_lines, row_line}
 unfoldable pub use Rattle.rinex_columns.specs.HeaderLine.{header_line}
 pub use Rattle.rinex_columns.specs.HeaderLine.{has_label}
 pub use Rattle.rinex_columns.proofs.NumberLaws.{digits_in-fixed, digits_in-padded, digits_in-right, digits_in-whole, has-append, has-not, has-right, lacks-append, lacks-decimal, lacks-padded, length-fixed, length-fixed-le, length-padded, length-padded-le, length-right, length-sign, not_negative, number_in-fixed}
-pub use Rattle.rinex_file.specs.Header.{types_line, types_with, is_of_types, interval_content, line_with, row_content, row_label, Shown, all_rows, codes_of, flagged_letter, first_content, has_line, height_line, is_planned, letter_of, lengths, position_line, row_lines, slots_line, slots_with, systems_letter, text_columns, texts_content, texts_line, types_content, type_columns, type_front, type_of, type_rows, types_of, height_content, position_content, version_content}
+pub use Rattle.rinex_file.specs.Header.{types_with, is_of_types, interval_content, line_with, row_content, row_label, Shown, all_rows, codes_of, flagged_letter, first_content, has_line, height_line, is_planned, letter_of, lengths, position_line, row_lines, slots_with, systems_letter, text_columns, texts_content, texts_line, types_content, type_columns, type_front, type_of, type_rows, types_of, height_content, position_content, version_content}
 pub use Rattle.rinex_file.specs.inner.Header.{is_given, is_optional, first_types, lines_after, lines_before, most_type_rows, row_at, row_count, row_place, is_alike}
 pub use Rattle.rinex_file.specs.inner.Heads.{shown_by}
 pub use Rattle.rinex_columns.specs.Limits.{most_line, label_columns}

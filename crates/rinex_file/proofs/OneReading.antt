@@ -105,8 +105,6 @@ length-one e is = length-room e (values_fit e is)
 
 pub signals_once : (es fs : List SignalValues) → All AreSignalValues es → All AreSignalValues fs → length es ≡ length fs → flat_map signal_text es ≡ flat_map signal_text fs → es ≡ fs
 signals_once [] [] are also size same = refl
-signals_once [] (f ∷ fs) are also size same = absurd (omega (arith, size))
-signals_once (e ∷ es) [] are also size same = absurd (omega (arith, size))
 signals_once (e ∷ es) (f ∷ fs) are also size same =
     let is = All-head AreSignalValues e es are in
     let it = All-head AreSignalValues f fs also in
@@ -115,6 +113,7 @@ signals_once (e ∷ es) (f ∷ fs) are also size same =
     let first : signal_text e ≡ signal_text f = sym (take_at (signal_text e) (flat_map signal_text es) 64 k) ∙ ap (take 64) same ∙ take_at (signal_text f) (flat_map signal_text fs) 64 l in
     let rest : flat_map signal_text es ≡ flat_map signal_text fs = sym (drop_at (signal_text e) (flat_map signal_text es) 64 k) ∙ ap (drop 64) same ∙ drop_at (signal_text f) (flat_map signal_text fs) 64 l in
     ap₂ (λ x xs. x ∷ xs) (signal_once e f is it first) (signals_once es fs (All-tail AreSignalValues e es are) (All-tail AreSignalValues f fs also) (omega (arith, size)) rest)
+signals_once es fs are also size same = absurd (omega (arith, size))
 
 -- the columns of one of the signals
 pub signal_at : (es : List SignalValues) (i : ℕ) → All AreSignalValues es → i < length es

@@ -4,6 +4,5 @@ pub mod Dates
 pub mod Epochs
 pub mod Events
 pub mod Header
-pub mod Times
 pub mod Summary
 pub mod Accepted

@@ -2,7 +2,6 @@
 pub mod Sent
 pub mod Skipped
 pub mod Satellites
-pub mod OwnCells
 pub mod Stored
 pub mod Text
 pub mod Grown

@@ -143,19 +143,11 @@ types_content system count signals row =
 abbrev pub types_with : System → ℕ → List ℕ → ℕ → List ℕ
 types_with system count signals row = line_with (Types system row) (types_content system count signals row)
 
--- a line of types of these signals of a system, all of them
-abbrev pub types_line : System → List ℕ → ℕ → List ℕ
-types_line system signals row = types_with system (length signals) signals row
-
 -- ---- channels of GLONASS
 
 -- a line of slots with a channel; there are `count`, and these are the first of them
 abbrev pub slots_with : ℕ → List SlotNumber → ℕ → List ℕ
 slots_with count slots row = line_with (Slots row) (slots_columns count slots row)
-
--- a line of these slots, all of them
-abbrev pub slots_line : List SlotNumber → ℕ → List ℕ
-slots_line slots row = slots_with (length slots) slots row
 
 -- ---- times
 

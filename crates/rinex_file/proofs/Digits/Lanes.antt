@@ -62,9 +62,8 @@ more_bits (suc n) k = suc (more_bits n k)
 -- the first lane that differs is that of the first digit other than zero
 pub first_flag : (n k : ℕ) (xs rest : List ℕ) → n < length xs → get_or xs n 0 < 255 → count_trailing_zeros (more_bits n k) (flags xs (ends n rest)) ≡ leading (take n xs)
 first_flag n k [] rest h small = absurd (omega (arith, h))
-first_flag zero k (x ∷ xs) rest h small = grind (arith, ne_eqb, odd)
 first_flag (suc n) k (zero ∷ xs) rest h small = grind (arith, even, (first_flag n k xs rest (omega (arith, h)) small))
-first_flag (suc n) k (suc d ∷ xs) rest h small = grind (arith, ne_eqb, odd)
+first_flag n k (x ∷ xs) rest h small = grind (arith, ne_eqb, odd)
 
 -- a mask of at most 64 lanes
 pub few_flags : (xs ys : List ℕ) → length xs ≡ length ys → length xs ≤ 64 → flags xs ys % 2 ^ 64 ≡ flags xs ys

@@ -16,10 +16,8 @@ record ArePaired (byte base width factor part : ℕ) : Type 0 where
 pairs_by : {byte base width factor part : ℕ} → ArePaired byte base width factor part → (k : ℕ) (xs : List ℕ) → length xs ≡ 2 * k → AreBelow base xs
     → pairs_l width factor part k (number_l byte xs) ≡ twos_of base xs
 pairs_by are zero [] l h = refl
-pairs_by are zero (a ∷ xs) l h = absurd (omega (arith, l))
-pairs_by are (suc k) [] l h = absurd (omega (arith, l))
-pairs_by are (suc k) (a ∷ []) l h = absurd (omega (arith, l))
 pairs_by {byte} {base} {width} {factor} {part} are (suc k) (a ∷ b ∷ xs) l h = grind (arith, (pairs_by are k xs (omega (arith, l)) h.1.1))
+pairs_by are k xs l h = absurd (omega (arith, l))
 
 pub pairs_are : (k : ℕ) (xs : List ℕ) → length xs ≡ 2 * k → AreBelow 10 xs → pairs_l 65536 2561 256 k (number_l 256 xs) ≡ twos_of 10 xs
 pairs_are k xs l h = pairs_by {byte = 256} {base = 10} {width = 65536} {factor = 2561} {part = 256} (record { lane = λ a b w p q. (omega (arith, p, q), omega (arith, p, q)) }) k xs l h
@@ -57,9 +55,8 @@ ordered_below ds size h =
 
 -- numbers of two digits to a base are below its square
 pub twos_below : (base n : ℕ) → ((a b : ℕ) → a < base → b < base → a * base + b < n) → (xs : List ℕ) → AreBelow base xs → AreBelow n (twos_of base xs)
-twos_below base n small [] h = tt
-twos_below base n small (a ∷ []) h = tt
 twos_below base n small (a ∷ b ∷ xs) h = (small a b h.0 h.1.0, twos_below base n small xs h.1.1)
+twos_below base n small xs h = tt
 
 -- the size of the digits in lanes
 abbrev pub size_l : List ℕ → ℕ

@@ -18,9 +18,8 @@ digits_added b (zero ∷ ds) xs h = ap₂ (λ x l. x ∷ l) (grind arith) (digit
 digits_added b (suc d ∷ ds) xs h = all_added b (suc d ∷ ds) xs h
 
 pub leading-le : (ds : List ℕ) → leading ds ≤ length ds
-leading-le [] = omega arith
 leading-le (zero ∷ ds) = let more = leading-le ds in omega (arith, more)
-leading-le (suc d ∷ ds) = omega arith
+leading-le ds = omega arith
 
 pub length-template : (b : Bool) (n z : ℕ) → length (template b n z) ≡ n + 7
 length-template b zero z = refl

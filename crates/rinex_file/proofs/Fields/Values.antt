@@ -13,9 +13,8 @@ abbrev pub above : List ℕ → List ℕ → ℕ
 above ls ds = mask_l (map (top 7) (zip2 (λ a b. cond (nat_lt a b) 255 0) ls ds))
 
 none_above : (ls ds : List ℕ) → AreWithin ls ds → above ls ds ≡ 0
-none_above [] ds h = refl
-none_above (l ∷ ls) [] h = refl
 none_above (l ∷ ls) (d ∷ ds) h = grind (arith, le-ltb, (none_above ls ds h.1))
+none_above ls ds h = refl
 
 all_within : (ls ds : List ℕ) → above ls ds ≡ 0 → AreWithin ls ds
 all_within [] ds e = tt

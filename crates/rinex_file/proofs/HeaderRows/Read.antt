@@ -6,7 +6,7 @@ use Rattle.rinex_file.proofs.HeaderRows.Types.{same_types_line}
 use Rattle.rinex_file.proofs.HeaderRows.Places.{either, slots_here, types_here}
 use Rattle.rinex_file.proofs.HeaderRows.Steps.{left_over}
 use Rattle.rinex_file.proofs.HeaderRows.Texts.{each_field, field_back, is_apart, same_line, same_some, kept_texts, texts_back}
-use Rattle.rinex_file.proofs.Names.{value_after, value_of_other, IsLineOfTypes, IsThere, common_steps, AreListsAt, IsRowRead, IsRowUnread, arith, ◌≡◌, ◌∙◌, sym, ap, refl, subst, ℕ, suc, ◌+◌, ◌<◌, ◌≤◌, Bool, true, false, List, length, take, min, ◌↔◌, ◌^◌, Some, None, IsTrue, list_all, take-map, SignalAt, table, System, is_less, is_system, indices, planned_of, civil_of, StationValues, length_indices, Types, Version, Texts, Position, Delta, First, row_line, has_line, type_rows, position_line, row_place, Known, Has, HasRow, AreSameTexts, counted, systems_letter, AreTypes, signals_begun, IsPosition, position_of, Shown, IsShown, TakesTypes, RefusesTypes, with_types, IsHeaderLineRead, RefusesHeaderLine, ReadsOrRefuses, ReadsTexts, RefusesTexts, with_texts, with_values, with_first, with_letter, HeaderField, HeaderRow, HeaderLists, fields_of, front_of, IsTime, ReadsExactly, same_Some, ⊤, Slots, slots_line, slots_of, slots_begun, known_slots, with_slots, AreItemsBefore, AreSameItems, types_with, most_type_rows, IsLineOfSlots, TakesSlots, TakesOrRefusesSlots, ChannelsValue, add-one, has_text, is_required, not-true, Interval, IsInterval, with_interval, line_with, row_content, ReadsHeaderRow, version_content, interval_content, first_content, height_content, position_content}
+use Rattle.rinex_file.proofs.Names.{value_after, value_of_other, IsLineOfTypes, IsThere, common_steps, AreListsAt, IsRowRead, IsRowUnread, arith, ◌≡◌, ◌∙◌, sym, ap, refl, subst, ℕ, suc, ◌+◌, ◌<◌, ◌≤◌, Bool, true, false, List, length, take, min, ◌↔◌, ◌^◌, Some, None, IsTrue, list_all, take-map, SignalAt, table, System, is_less, is_system, indices, planned_of, civil_of, StationValues, length_indices, Types, Version, Texts, Position, Delta, First, row_line, has_line, type_rows, position_line, row_place, Known, Has, HasRow, AreSameTexts, counted, systems_letter, signals_begun, IsPosition, position_of, Shown, IsShown, TakesTypes, RefusesTypes, with_types, IsHeaderLineRead, RefusesHeaderLine, ReadsOrRefuses, ReadsTexts, RefusesTexts, with_texts, with_values, with_first, with_letter, HeaderField, HeaderRow, HeaderLists, fields_of, front_of, IsTime, ReadsExactly, same_Some, ⊤, Slots, slots_of, slots_begun, known_slots, with_slots, AreItemsBefore, types_with, most_type_rows, IsLineOfSlots, TakesSlots, TakesOrRefusesSlots, ChannelsValue, add-one, has_text, is_required, not-true, Interval, IsInterval, with_interval, line_with, row_content, ReadsHeaderRow, version_content, interval_content, first_content, height_content, position_content, slots_with}
 
 -- ---- types
 
@@ -68,22 +68,10 @@ module _ (s : System) (row : ℕ) (line : List ℕ) (k : Known) (before : AreIte
       later q less before = before
 
       own : (h : Shown) → IsShown h → Has k (row_place (Types s row)) h → has_line h (Types s row) ≡ true → (row_line h (Types s row) ≡ line) ↔ HasRow after h (Types s row)
-      own h is has there =
-          let all = planned_of s h.plan in
-          let made = own_made (λ c xs. AreSameItems signals_begun row c xs all) in (
-            λ e. made.0 (same_after (AreTypes s) signals_begun (types_with s) t.items all (types_line_of h is has there e)),
-            λ a. line_after_same (AreTypes s) signals_begun (types_with s) t.items all (same_types_line s row count) (made.1 a),
-          )
+      own h is has there = grind (arith, common_steps, own_made, same_after, types_line_of, line_after_same, same_types_line)
 
       kept : (h : Shown) (q : HeaderRow) → row_place q < row_place (Types s row) → HasRow k h q ↔ HasRow after h q
-      kept h (Types u i) less = either (HasRow k h (Types u i) ↔ HasRow after h (Types u i)) s u
-          (λ e. subst (λ v. HasRow k h (Types v i) ↔ HasRow after h (Types v i)) (sym e) (mine (let low = subst (λ v. row_place (Types v i) < row_place (Types s row)) e less in omega (arith, low))))
-          (λ other. other_made (λ c xs. AreSameItems signals_begun i c xs (planned_of u h.plan)) u other) where
-            mine : i < row → HasRow k h (Types s i) ↔ HasRow after h (Types s i)
-            mine low =
-                let b = same_before (AreTypes s) signals_begun (types_with s) t.items (planned_of s h.plan) i low (omega (arith, low)) in
-                let made = own_made (λ c xs. AreSameItems signals_begun i c xs (planned_of s h.plan)) in
-                (λ a. made.0 (b.0 a), λ a. b.1 (made.1 a))
+      kept h (Types u i) less = grind (arith, common_steps, either, other_made, same_before, own_made)
       kept h other less = (λ e. e, λ e. e)
 
 -- ---- rows that are read exactly
@@ -110,8 +98,7 @@ line_texts r line k x read = record { lists = λ w. w; read = tt; early = λ q l
   stay q other = kept_texts (fields_of r) (length (front_of r)) line k.shown.texts read.read (fields_of q) (rows_apart q r other)
 
   later : (q : HeaderRow) → row_place (Texts r) < row_place q → IsRowUnread k q → IsRowUnread (with_texts k x) q
-  later (Texts q) less blank = same_some x k.shown.texts (fields_of q) (stay q (λ e. omega (arith, less, ap (λ f. row_place (Texts f)) e))) ∙ blank
-  later q less blank = blank
+  later q less blank = grind (arith, same_some, stay)
 
   own : (h : Shown) → IsShown h → Has k (row_place (Texts r)) h → has_line h (Texts r) ≡ true → (row_line h (Texts r) ≡ line) ↔ AreSameTexts h.texts x (fields_of r)
   own h is before there = (
@@ -122,10 +109,7 @@ line_texts r line k x read = record { lists = λ w. w; read = tt; early = λ q l
   )
 
   kept : (h : Shown) (q : HeaderRow) → row_place q < row_place (Texts r) → HasRow k h q ↔ HasRow (with_texts k x) h q
-  kept h (Texts q) less =
-      let same = stay q (λ e. omega (arith, less, ap (λ f. row_place (Texts f)) e)) in
-      (λ a. a ∙ sym same, λ a. a ∙ same)
-  kept h other less = (λ e. e, λ e. e)
+  kept h q less = grind (arith, stay)
 
 pub refuse_texts : (k : Known) (r : HeaderField) (line : List ℕ) → RefusesTexts r line → RefusesHeaderLine k (Texts r) line
 unfolding row_line
@@ -183,7 +167,7 @@ line_fixed t same k b read there shows said is = grind (arith, common_steps)
 
 -- the slots of a header with what was read before its line
 module _ (row : ℕ) (line : List ℕ) (k : Known) (before : AreItemsBefore k (Slots row)) where
-  slots_line_of : (h : Shown) → IsShown h → Has k (row_place (Slots row)) h → slots_line (slots_of h.plan.channels) row ≡ line → IsLineOfSlots row line k.slots (known_slots k) (slots_of h.plan.channels)
+  slots_line_of : (h : Shown) → IsShown h → Has k (row_place (Slots row)) h → slots_with (length (slots_of h.plan.channels)) (slots_of h.plan.channels) row ≡ line → IsLineOfSlots row line k.slots (known_slots k) (slots_of h.plan.channels)
   slots_line_of h is has e =
       let b = go_on slots_begun row k.slots (known_slots k) (slots_of h.plan.channels) refl before.1 (λ i next. subst (HasRow k h) (slots_here i (earlier i next)) (has.rows (row_place (Slots i)) (omega (arith, next)))) in
       record { are = slots_are h.plan.channels is.plan.channels; later = b.0; before = b.1; is = sym e } where

@@ -3,7 +3,7 @@ use Rattle.rinex_file.proofs.HeaderRows.Agree.{less_or}
 use Rattle.rinex_file.proofs.HeaderRows.Lists.{item_in_line, up_to}
 use Rattle.rinex_file.proofs.Digits.Padded.{two_digits}
 use Rattle.rinex_file.proofs.HeaderRows.Types.{content_first}
-use Rattle.rinex_file.proofs.Names.{refused, All-set, length-filter, digits_in-padded, digits_in-whole, length-right, count_by, IsLineOfSlots, TakesOrRefusesSlots, AreSlots, SlotNumber, channel_text, last_slot, slot_text, slots_columns, slots_from, slots_front, slots_in_line, slots_of, AreChannels, ChannelsValue, most_number, no_channels, number_at, slot_count, with_number, slots_line, slots_with, common_steps, All, All-head, All-replicate, All-tail, IfSome, List, None, Option, Some, [], ap, append-nil, append_assoc, arith, decimal, digits_in, drop, drop-append-le, drop-cons, drop-drop, drop-take, IsTrue, ◌↔◌, drop_all, flat_map, flat_map-append, get_or, length, length-append, length-decimal-le, length-drop, length-set, min, padded, refl, right, set, suc, sym, take, take-append-le, take_all, take_at, take_more, filter, is_some, zero, ◌*◌, ◌++◌, ◌+◌, ◌-◌, ◌/◌, ◌%◌, ◌<◌, ◌∙◌, ◌∷◌, ◌≡◌, ◌≤◌, ℕ, Bool, if◌then◌else◌, subst, lt-ltb, le-ltb, line_with, row_label, Slots}
+use Rattle.rinex_file.proofs.Names.{refused, All-set, length-filter, digits_in-padded, digits_in-whole, length-right, count_by, IsLineOfSlots, TakesOrRefusesSlots, AreSlots, SlotNumber, channel_text, last_slot, slot_text, slots_columns, slots_from, slots_front, slots_in_line, slots_of, AreChannels, ChannelsValue, most_number, no_channels, number_at, slot_count, with_number, slots_with, common_steps, All, All-head, All-replicate, All-tail, IfSome, List, None, Option, Some, [], ap, append-nil, append_assoc, arith, decimal, digits_in, drop, drop-append-le, drop-cons, drop-drop, drop-take, IsTrue, ◌↔◌, drop_all, flat_map, flat_map-append, get_or, length, length-append, length-decimal-le, length-drop, length-set, min, padded, refl, right, set, suc, sym, take, take-append-le, take_all, take_at, take_more, filter, is_some, zero, ◌*◌, ◌++◌, ◌+◌, ◌-◌, ◌/◌, ◌%◌, ◌<◌, ◌∙◌, ◌∷◌, ◌≡◌, ◌≤◌, ℕ, Bool, if◌then◌else◌, subst, lt-ltb, le-ltb, line_with, row_label, Slots}
 
 -- ---- slots that follow others
 
@@ -18,9 +18,8 @@ slots_after a b (s ∷ ss) low are = let less = are.0 in (omega (arith, low, les
 
 -- the rest of slots are after the last of the others
 pub rest_are : (last j : ℕ) (ss : List SlotNumber) → AreSlots last ss → AreSlots (last_slot last (take j ss)) (drop j ss)
-rest_are last zero ss are = are
-rest_are last (suc j) [] are = are
 rest_are last (suc j) (s ∷ ss) are = rest_are s.slot j ss are.2
+rest_are last j ss are = are
 
 pub last_bound : (last : ℕ) (ss : List SlotNumber) → AreSlots last ss → last_slot last ss ≤ slot_count
 last_bound last [] are = are
@@ -51,12 +50,11 @@ first_from low (Some n ∷ c) s ss e = let same : low ≡ s.slot = ap (λ (l : L
 
 same_from : (low : ℕ) (c d : ChannelsValue) → length c ≡ length d → slots_from low c ≡ slots_from low d → c ≡ d
 same_from low [] [] size e = refl
-same_from low [] (y ∷ d) size e = absurd (omega (arith, size))
-same_from low (x ∷ c) [] size e = absurd (omega (arith, size))
 same_from low (None ∷ c) (None ∷ d) size e = ap (λ (l : ChannelsValue). None ∷ l) (same_from (suc low) c d (omega (arith, size)) e)
 same_from low (None ∷ c) (Some n ∷ d) size e = let l = first_from (suc low) c _ _ e in absurd (omega (arith, l))
 same_from low (Some m ∷ c) (None ∷ d) size e = let l = first_from (suc low) d _ _ (sym e) in absurd (omega (arith, l))
 same_from low (Some m ∷ c) (Some n ∷ d) size e = grind (arith, (same_from (suc low) c d (omega (arith, size)) (ap (λ (l : List SlotNumber). drop 1 l) e)))
+same_from low c d size e = absurd (omega (arith, size))
 
 pub same_channels : (c d : ChannelsValue) → AreChannels c → AreChannels d → slots_of c ≡ slots_of d → c ≡ d
 same_channels c d a b e = same_from 1 c d (a.slots ∙ sym b.slots) e
@@ -128,8 +126,7 @@ taken_from : (low k : ℕ) (c : ChannelsValue) → k < length c → slots_from l
 taken_from low k [] less = absurd (omega (arith, less))
 taken_from low zero (None ∷ c) less = refl
 taken_from low zero (Some n ∷ c) less = let same : low ≡ low + 0 = omega arith in ap (λ (k : ℕ). at k n ∷ []) same
-taken_from low (suc k) (None ∷ c) less = grind (arith, (taken_from (suc low) k c (omega (arith, less))))
-taken_from low (suc k) (Some n ∷ c) less = grind (arith, (taken_from (suc low) k c (omega (arith, less))))
+taken_from low (suc k) (number ∷ c) less = grind (arith, (taken_from (suc low) k c (omega (arith, less))))
 
 -- the slots of one number more
 pub slots_taken : (c : ChannelsValue) (k : ℕ) → k < length c → slots_of (take (k + 1) c) ≡ slots_of (take k c) ++ one_slot (k + 1) (number_at c (k + 1))
@@ -216,7 +213,7 @@ module _ {row before : ℕ} {line : List ℕ} {old all : List SlotNumber} (l : I
       let size = length-decimal-le 3 (length all) (omega arith) (omega (arith, few)) (omega (arith, few)) in
       let slots = flat_map slot_text (in_line 0 all) in
       let content = content_first (slots_columns (length all) all 0) (row_label (Slots 0)) in
-      ap (λ (t : List ℕ). digits_in (take 3 t)) (l.is ∙ ap (slots_line all) first ∙ content.1 ∙ append_assoc (number ++ 32 ∷ []) slots content.0 ∙ append_assoc number (32 ∷ []) (slots ++ content.0))
+      ap (λ (t : List ℕ). digits_in (take 3 t)) (l.is ∙ ap (slots_with (length all) all) first ∙ content.1 ∙ append_assoc (number ++ 32 ∷ []) slots content.0 ∙ append_assoc number (32 ∷ []) (slots ++ content.0))
       ∙ ap digits_in (take_at number (32 ∷ (slots ++ content.0)) 3 (length-right 3 (decimal (length all)) size)) ∙ digits_in-whole 3 (length all) (omega (arith, few))
 
   -- the slots that are left after the last

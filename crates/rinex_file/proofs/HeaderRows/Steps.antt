@@ -8,7 +8,7 @@ use Rattle.rinex_file.proofs.HeaderRows.Types.{content_first}
 use Rattle.rinex_file.proofs.HeaderRows.Slots.{no_slots}
 use Rattle.rinex_file.proofs.PlainTexts.{both}
 use Rattle.rinex_file.proofs.HeaderRows.Places.{place_at, earlier_slots, earlier_types, few_rows, known_at, number_known, types_early}
-use Rattle.rinex_file.proofs.Names.{each_system, Glonass, not-false, bytes_eq, label_columns, common_steps, types_line, is_of_types, Result, Refusal, TakesHeaderLine, expected_if, drop, all_rows, arith, ◌≡◌, ◌∙◌, sym, ap, refl, subst, ℕ, zero, suc, ◌+◌, ◌<◌, ◌≤◌, Bool, true, false, List, [], ◌∷◌, ◌++◌, length, append-nil, not, ◌≢◌, ◌==◌, ◌&&◌, ◌↔◌, nat_lt, nat_tests, System, planned_of, Known, IsShown, AreValid, Shown, IsHeadAt, row_lines, row_line, lines_before, lines_after, signals_begun, HeaderRow, Types, StrengthUnit, Shift, End, Expected, has_line, row_at, row_count, row_place, type_rows, known_line, RefusesHeaderLine, NoneGoesOn, SameFrom, Has, HasRow, counted, fits, begins_with, IsHeaderLineRead, GoesOn, Takes, flat_map, header_line, letter, codes, is_less, nil_from_length, Slots, Biases, slots_of, slot_rows, known_slots, not-true, ltb-false, add-one, eq-eqb, Texts, First, is_given, is_optional, is_required, has_text, label_of, left, AreUnread, append_assoc, ap₂, or_parts, has_label, fields_of, length-append, ◌||◌, Interval, row_content, row_label, is_some, lit≤, Version, Position, Delta, at_most, most_type_rows, AreListsAt, AreReadAt, IsRowRead, IsRowUnread, slots_begun, lt-ltb, AreItemsBefore}
+use Rattle.rinex_file.proofs.Names.{each_system, Glonass, not-false, bytes_eq, label_columns, common_steps, is_of_types, Result, Refusal, TakesHeaderLine, expected_if, drop, all_rows, arith, ◌≡◌, ◌∙◌, sym, ap, refl, subst, ℕ, zero, suc, ◌+◌, ◌<◌, ◌≤◌, Bool, true, false, List, [], ◌∷◌, ◌++◌, length, append-nil, not, ◌≢◌, ◌==◌, ◌&&◌, ◌↔◌, nat_lt, nat_tests, System, planned_of, Known, IsShown, AreValid, Shown, IsHeadAt, row_lines, row_line, lines_before, lines_after, signals_begun, HeaderRow, Types, StrengthUnit, Shift, End, Expected, has_line, row_at, row_count, row_place, type_rows, known_line, RefusesHeaderLine, NoneGoesOn, SameFrom, Has, HasRow, counted, fits, begins_with, IsHeaderLineRead, GoesOn, Takes, flat_map, header_line, letter, codes, is_less, nil_from_length, Slots, Biases, slots_of, slot_rows, known_slots, not-true, ltb-false, add-one, eq-eqb, Texts, First, is_given, is_optional, is_required, has_text, label_of, left, AreUnread, append_assoc, ap₂, or_parts, has_label, fields_of, length-append, ◌||◌, Interval, row_content, row_label, is_some, lit≤, Version, Position, Delta, at_most, most_type_rows, AreListsAt, AreReadAt, IsRowRead, IsRowUnread, slots_begun, lt-ltb, AreItemsBefore, types_with}
 use Rattle.rinex_file.proofs.HeaderRows.Lists.{still_same}
 
 -- ---- the items before an expected line
@@ -193,7 +193,7 @@ unfolding header_line
 label_shown a content label short fits = grind (arith, common_steps, length-left, length-append)
 
 -- a line of types has their label
-pub types_labelled : (system : System) (all : List ℕ) (row : ℕ) → is_of_types (types_line system all row) ≡ true
+pub types_labelled : (system : System) (all : List ℕ) (row : ℕ) → is_of_types (types_with system (length all) all row) ≡ true
 types_labelled system all row = label_shown (row_label (Types system row)) _ (row_label (Types system row)) (lit≤ tt) (lit≤ tt)
 
 short_row : (r : HeaderRow) → length (row_label r) ≤ label_columns

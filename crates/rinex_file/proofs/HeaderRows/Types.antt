@@ -1,6 +1,6 @@
 -- A line of types: the columns of the signals that begin in it, and the signals that are read from it.
 use Rattle.std.proofs.lemmas.Str.Ascii.{IsAscii-from_all}
-use Rattle.rinex_file.proofs.Names.{get_or-map, flat_map-append, AllPass-from_list_all, length-right, digits_in-whole, each_system, few_below, passes_below, get_or-flat_map, common_steps, ◌-◌, length-take, length-drop, arith, rules, ◌≡◌, ◌∙◌, ap, refl, ℕ, zero, suc, ◌+◌, ◌<◌, ◌≤◌, ◌==◌, Bool, true, false, List, [], ◌∷◌, length, take, drop, Some, Option, nat_lt, sym, ◌*◌, ◌/◌, ◌%◌, ◌++◌, get_or, append_assoc, ap₂, subst, decimal, nat_eq, IsAscii, IsUtf8, flat_map, slice_index, list_any, IsDistinct, IsUtf8-from_ascii, cases_lt, length-map, take_more, get_or-drop, take_all, take_at, take-take, take-map, drop-drop, drop-take, All-get_or, apart_from_distinct, IsDistinct-tail, length-decimal-le, System, SignalAt, IsSignal, table, code_of, signal_of_code, passes_at, is_less, is_equal, indices, IsOf, any_index, indices-push, type_of, types_of, codes_of, type_columns, type_front, right, letter, digits_in, AreTypes, types_line, signals_begun, HasSignalAt, same_Some, list_all, All-weaker, most_signals, both_ways, flip_false, types_with, add-one, line_with, row_label, Types}
+use Rattle.rinex_file.proofs.Names.{get_or-map, flat_map-append, AllPass-from_list_all, length-right, digits_in-whole, each_system, few_below, passes_below, get_or-flat_map, common_steps, ◌-◌, length-take, length-drop, arith, rules, ◌≡◌, ◌∙◌, ap, refl, ℕ, zero, suc, ◌+◌, ◌<◌, ◌≤◌, ◌==◌, Bool, true, false, List, [], ◌∷◌, length, take, drop, Some, Option, nat_lt, sym, ◌*◌, ◌/◌, ◌%◌, ◌++◌, get_or, append_assoc, ap₂, subst, decimal, nat_eq, IsAscii, IsUtf8, flat_map, slice_index, list_any, IsDistinct, IsUtf8-from_ascii, cases_lt, length-map, take_more, get_or-drop, take_all, take_at, take-take, take-map, drop-drop, drop-take, All-get_or, apart_from_distinct, IsDistinct-tail, length-decimal-le, System, SignalAt, IsSignal, table, code_of, signal_of_code, passes_at, is_less, is_equal, indices, IsOf, any_index, indices-push, type_of, types_of, codes_of, type_columns, type_front, right, letter, digits_in, AreTypes, signals_begun, HasSignalAt, same_Some, list_all, All-weaker, most_signals, both_ways, flip_false, types_with, add-one, line_with, row_label, Types}
 pub use Rattle.rinex_file.proofs.HeaderRows.Lists.{content_first}
 use Rattle.rinex_file.proofs.HeaderRows.Lists.{item_in_line}
 
@@ -113,9 +113,9 @@ four_columns system all are i less = grind (arith, length-system_types, type_at,
 
 -- the code of a signal is in the line in which its types begin
 code_in_line : {system : System} {all : List ℕ} (row q k : ℕ) → AreTypes system all → 4 * length all < 1000 → q < 13 → 13 * row + q ≡ 4 * k → k < length all
-    → take 2 (drop (6 + 4 * q + 2) (types_line system all row)) ≡ code_of (signal_at system all k)
+    → take 2 (drop (6 + 4 * q + 2) (types_with system (length all) all row)) ≡ code_of (signal_at system all k)
 code_in_line {system} {all} row q k are few within place less =
-    let line = types_line system all row in
+    let line = types_with system (length all) all row in
     let s = signal_at system all k in
     let inside : 13 * row + q < 4 * length all = omega (arith, place, less) in
     let item = item_in_line (λ t. 32 ∷ t) 4 6 13 (λ q. 4 * q) refl (λ q. omega arith) (type_front (letter system) (4 * length all) row) (row_label (Types system row)) (types_of (codes_of system all)) (13 * row) q []
@@ -165,7 +165,7 @@ column_of row place = 6 + 4 * (4 * place - 13 * row) + 2
 pub record IsInLine (system : System) (all line : List ℕ) (row place : ℕ) : Type 0 where
   pub are : AreTypes system all
   pub few : 4 * length all < 1000
-  pub is : line ≡ types_line system all row
+  pub is : line ≡ types_with system (length all) all row
   pub low : signals_begun row ≤ place
   pub high : place < signals_begun (row + 1)
   pub less : place < length all
@@ -203,7 +203,7 @@ pub few_types : (system : System) (all : List ℕ) → AreTypes system all → l
 few_types system all are = few_below (length (table system)) all are.listed are.apart
 
 -- the first line has the number in its columns
-pub count_shown : (system : System) (all line : List ℕ) → AreTypes system all → length (table system) ≤ most_signals → line ≡ types_line system all 0
+pub count_shown : (system : System) (all line : List ℕ) → AreTypes system all → length (table system) ≤ most_signals → line ≡ types_with system (length all) all 0
     → take 3 (drop 3 line) ≡ right 3 (decimal (4 * length all))
 count_shown system all line are bound is =
     let types = types_of (codes_of system all) in
@@ -215,7 +215,7 @@ count_shown system all line are bound is =
     ap (λ l. take 3 (drop 3 l)) (is ∙ first.1 ∙ append_assoc (letter system ∷ 32 ∷ 32 ∷ number) (type_columns types 0) first.0)
     ∙ take_at number (type_columns types 0 ++ first.0) 3 (length-right 3 (decimal n) digits)
 
-pub count_read : (system : System) (all line : List ℕ) → AreTypes system all → length (table system) ≤ most_signals → line ≡ types_line system all 0
+pub count_read : (system : System) (all line : List ℕ) → AreTypes system all → length (table system) ≤ most_signals → line ≡ types_with system (length all) all 0
     → digits_in (take 3 (drop 3 line)) / 4 ≡ length all
 count_read system all line are bound is = grind (arith, common_steps, few_types, count_shown, digits_in-whole, fourth)
 

@@ -71,9 +71,8 @@ SameFront a b x y = (a ≡ b) × (x ≡ y)
 
 same_body : (a b x y : List ℕ) → has 10 a ≡ false → has 10 b ≡ false → a ++ 10 ∷ x ≡ b ++ 10 ∷ y → SameFront a b x y
 same_body [] [] x y h k e = (refl, cc)
-same_body [] (b ∷ bs) x y h k e = grind (arith, or_parts)
-same_body (a ∷ us) [] x y h k e = grind (arith, or_parts)
 same_body (a ∷ us) (b ∷ bs) x y h k e = grind (arith, common_steps, or_parts, same_body us bs x y)
+same_body a b x y h k e = grind (arith, or_parts)
 
 shape : (l body x : List ℕ) → l ≡ body ++ 10 ∷ [] → l ++ x ≡ body ++ 10 ∷ x
 shape l body x e = ap (λ t. t ++ x) e ∙ append_assoc body (10 ∷ []) x

@@ -1,9 +1,19 @@
 -- The lines of satellites in ascending order, of which those without cells have none.
-use Rattle.rinex_file.proofs.Writing.OwnCells.{same_line}
 use Rattle.rinex_file.proofs.Writing.Satellites.{any_from, climb-drop, further, none_above}
 use Rattle.gnss_obs.specs.Order.{AreSorted}
 use Rattle.rinex_file.proofs.Writing.Sent.{lines_more, not_written}
-use Rattle.rinex_file.proofs.Names.{AreHeld, arith, ◌≡◌, ◌∙◌, sym, ap, refl, subst, ℕ, zero, suc, ◌+◌, ◌-◌, ◌<◌, ◌≤◌, false, List, [], ◌∷◌, ◌++◌, append-nil, length, take, drop, drop_all, drop_more, slice_index_or, Option, Appends, Appends-trans, System, Cell, PlanValue, EpochValue, Above, Climb, Left, satellites, cells_of, is_written, run, sorted_climbs, line_among, lines_up_to, line_or_none, all_above}
+use Rattle.rinex_file.proofs.Names.{AreHeld, arith, ◌≡◌, ◌∙◌, sym, ap, refl, subst, ℕ, zero, suc, ◌+◌, ◌-◌, ◌<◌, ◌≤◌, false, List, [], ◌∷◌, ◌++◌, append-nil, length, take, drop, drop_all, drop_more, slice_index_or, Option, Appends, Appends-trans, System, Cell, PlanValue, EpochValue, Above, Climb, Left, satellites, cells_of, is_written, run, sorted_climbs, line_among, lines_up_to, line_or_none, all_above, filter, find, is_of_satellite, is_of_key}
+
+-- ---- the line of a satellite by its own cells
+
+find_from : (id index : ℕ) (cells : List Cell) → find (is_of_key id index) (filter (is_of_satellite id) cells) ≡ find (is_of_key id index) cells
+find_from id index [] = refl
+find_from id index (c ∷ cells) = grind (arith, (find_from id index cells))
+
+pub same_line : (p : PlanValue) (system : System) (cells all : List Cell) (id : ℕ) (group : List Cell) → filter (is_of_satellite id) cells ≡ group → cells ≡ all
+    → line_among p system group id ≡ line_among p system all id
+unfolding line_among
+same_line p system cells all id group is same = grind (arith, any_from, find_from)
 
 -- the lines of the satellites up to `last` were written, and the cells from `from` on are all of later ones
 pub record AreSent (p : PlanValue) (e : EpochValue) (s : System) (from : ℕ) (cells : List Cell) (a b : Option (List ℕ)) : Type 0 where

@@ -1,4 +1,4 @@
-use Rattle.rinex_file.proofs.Reading.Times.{times_more}
+use Rattle.rinex_file.proofs.Reading.Summary.{times_more}
 use Rattle.rinex_file.proofs.Names.{subst, AreTimesOrNone}
 use Rattle.rinex_file.proofs.read.times.with_later.Goals as goal
 

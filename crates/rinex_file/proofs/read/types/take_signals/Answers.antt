@@ -1,9 +1,9 @@
 use Rattle.rinex_file.proofs.HeaderRows.Types.{IsInLine, still_grows, read_here, index_read, taken_more, taken_before}
-use Rattle.rinex_file.proofs.Names.{at_some, unmapped, arith, ◌≡◌, ◌∙◌, sym, ap, refl, subst, none-some, ℕ, List, [], ◌∷◌, length, take, min, ◌+◌, ◌<◌, ◌≤◌, Ok, take_at, take_min, System, SignalAt, IsSignal, AreTypes, types_line, signals_begun, table, indices, IsAppended, IsOf, length_push, short_table}
+use Rattle.rinex_file.proofs.Names.{at_some, unmapped, arith, ◌≡◌, ◌∙◌, sym, ap, refl, subst, none-some, ℕ, List, [], ◌∷◌, length, take, min, ◌+◌, ◌<◌, ◌≤◌, Ok, take_at, take_min, System, SignalAt, IsSignal, AreTypes, signals_begun, table, indices, IsAppended, IsOf, length_push, short_table, types_with}
 use Rattle.rinex_file.proofs.read.types.take_signals.Goals as goal
 
 -- the index of the signal is below that of the first one of the next line, and there are that many
-there : {system : System} {all line : List ℕ} {row place end a count : ℕ} → AreTypes system all → line ≡ types_line system all row → signals_begun row ≤ place → place < end → end ≡ min a count → a ≡ signals_begun (row + 1)
+there : {system : System} {all line : List ℕ} {row place end a count : ℕ} → AreTypes system all → line ≡ types_with system (length all) all row → signals_begun row ≤ place → place < end → end ≡ min a count → a ≡ signals_begun (row + 1)
     → length all ≡ count → count ≤ length (table system) → IsInLine system all line row place
 there {system} are is low less least next size bound = grind (arith, short_table)
 

@@ -1,9 +1,9 @@
 use Rattle.rinex_file.proofs.HeaderRows.Types.{few_types, count_read}
-use Rattle.rinex_file.proofs.Names.{arith, ◌≡◌, ◌∙◌, ap, ℕ, List, ◌/◌, ◌≤◌, Some, System, digits_in, types_line, short_table, common_steps}
+use Rattle.rinex_file.proofs.Names.{arith, ◌≡◌, ◌∙◌, ap, ℕ, List, ◌/◌, ◌≤◌, Some, System, digits_in, short_table, common_steps, length, types_with}
 use Rattle.rinex_file.proofs.read.types.TypesSoFar.read_count.Goals as goal
 
-first_row : (system : System) (all line : List ℕ) (row : ℕ) → row ≤ 0 → line ≡ types_line system all row → line ≡ types_line system all 0
-first_row system all line row none is = let e : row ≡ 0 = omega (arith, none) in is ∙ ap (types_line system all) e
+first_row : (system : System) (all line : List ℕ) (row : ℕ) → row ≤ 0 → line ≡ types_with system (length all) all row → line ≡ types_with system (length all) all 0
+first_row system all line row none is = let e : row ≡ 0 = omega (arith, none) in is ∙ ap (types_with system (length all) all) e
 
 pub returns-then-count-eq0-clause-count : goal.returns-then-count-eq0-clause-count
 returns-then-count-eq0-clause-count c = λ old all l.
