@@ -27,6 +27,8 @@ pub length-field : (v : Option ℤ) (lost strength : ℕ) → IfSome v FitsColum
 unfolding field
 length-field v lost strength h = grind (arith, length-append, length-right, length-value)
 
+pub ruleset sizes = (length-field, stays)
+
 -- ---- the four fields of a signal
 
 pub strength_fits : (s : Option ℤ) → IfSome s (IsFrom (pos 1) (pos 99_999)) → IfSome s FitsColumns

@@ -135,8 +135,7 @@ pub(crate) fn template(start: usize, negative: bool) -> u8x16
 #[inline(always)]
 fn columns_from(digits: u8x16, zeros: usize, negative: bool) -> u8x16
     requires { zeros ≤ 9 }
-    ensures lanes { length result ≡ 16 }
-    ensures text { (v : ℤ) → FitsColumns v → is_negative v ≡ negative → digits ≡ digit_columns (unsigned_abs v) 0 0
+    ensures { (v : ℤ) → FitsColumns v → is_negative v ≡ negative → digits ≡ digit_columns (unsigned_abs v) 0 0
         → zeros ≡ leading (take 9 digits) → result ≡ field (Some v) 32 32 }
 {
     digits + template(zeros, negative)
@@ -146,8 +145,7 @@ fn columns_from(digits: u8x16, zeros: usize, negative: bool) -> u8x16
 #[inline(always)]
 fn columns_with(digits: u8x16, negative: bool) -> u8x16
     requires { slice_index digits 9 < 10 }
-    ensures lanes { length result ≡ 16 }
-    ensures text { (v : ℤ) → FitsColumns v → is_negative v ≡ negative → digits ≡ digit_columns (unsigned_abs v) 0 0
+    ensures { (v : ℤ) → FitsColumns v → is_negative v ≡ negative → digits ≡ digit_columns (unsigned_abs v) 0 0
         → result ≡ field (Some v) 32 32 }
 {
     // The number of leading zeros among the first nine digits.
@@ -162,8 +160,7 @@ fn columns_with(digits: u8x16, negative: bool) -> u8x16
 #[inline(always)]
 pub(crate) fn columns_in(value: i64) -> u8x16
     requires { FitsColumns value }
-    ensures lanes { length result ≡ 16 }
-    ensures text { result ≡ field (Some value) 32 32 }
+    ensures { result ≡ field (Some value) 32 32 }
 {
     columns_with(digits(value.unsigned_abs()), value < 0)
 }
@@ -173,8 +170,7 @@ pub(crate) fn columns_in(value: i64) -> u8x16
 #[inline(always)]
 pub(crate) fn columns_of_range(value: i64) -> u8x16
     requires { FitsColumns value }
-    ensures lanes { length result ≡ 16 }
-    ensures text { result ≡ field (Some value) 32 32 }
+    ensures { result ≡ field (Some value) 32 32 }
 {
     if 10_000_000_000 <= value && value < 100_000_000_000 {
         return columns_from(digits(value as u64), 2, false);
@@ -187,8 +183,7 @@ pub(crate) fn columns_of_range(value: i64) -> u8x16
 #[inline(never)]
 fn columns_of_other(value: i64) -> u8x16
     requires { FitsColumns value }
-    ensures lanes { length result ≡ 16 }
-    ensures text { result ≡ field (Some value) 32 32 }
+    ensures { result ≡ field (Some value) 32 32 }
 {
     columns_in(value)
 }
@@ -198,8 +193,7 @@ fn columns_of_other(value: i64) -> u8x16
 fn columns_of_strength(digits: u8x16, value: i64) -> u8x16
     requires digits { digits ≡ digit_columns (unsigned_abs value) 0 0 }
     requires fits { FitsColumns value }
-    ensures lanes { length result ≡ 16 }
-    ensures text { result ≡ field (Some value) 32 32 }
+    ensures { result ≡ field (Some value) 32 32 }
 {
     if 10_000 <= value && value < 100_000 {
         return columns_from(digits, 8, false);
@@ -214,7 +208,6 @@ pub(crate) fn columns_in_two(first: i64, second: i64) -> (u8x16, u8x16)
     requires second { unsigned_abs second < 10 ^ 8 }
     ensures first { result.0 ≡ field (Some first) 32 32 }
     ensures second { result.1 ≡ field (Some second) 32 32 }
-    ensures lanes { (length result.0 ≡ 16) × (length result.1 ≡ 16) }
 {
     let (low, high) = digits_of_two(first.unsigned_abs() as u32, second.unsigned_abs() as u32);
     let shift = columns_with(low, first < 0);

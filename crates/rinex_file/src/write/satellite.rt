@@ -24,7 +24,7 @@ use std::simd::prelude::*;
 /// Writes a value as F14.3 and the LLI and SSI columns after it, or 16 blanks if it is absent. Its
 /// whole part may have ten digits, or nine and a minus.
 #[inline(always)]
-#[tactic(auto, unfolding(crate::specs::Lines::field))]
+#[tactic(auto, unfolding(crate::specs::Lines::field), using(crate::proofs::Rows::Sizes::sizes))]
 fn put_value(columns: &mut [u8], value: &Option<Thousandths>, lost: u8, strength: u8)
     requires fits { IfSome value.now FitsColumns }
     requires room { length columns.old ≡ value_columns }
@@ -41,7 +41,7 @@ fn put_value(columns: &mut [u8], value: &Option<Thousandths>, lost: u8, strength
 
 /// Writes a pseudorange as [`put_value`] does.
 #[inline(always)]
-#[tactic(auto, unfolding(crate::specs::Lines::field))]
+#[tactic(auto, unfolding(crate::specs::Lines::field), using(crate::proofs::Rows::Sizes::sizes))]
 fn put_range(columns: &mut [u8], value: &Option<Thousandths>, strength: u8)
     requires fits { IfSome value.now FitsColumns }
     requires room { length columns.old ≡ value_columns }
@@ -69,6 +69,7 @@ pub(crate) fn strength_column(strength: &Option<Thousandths>) -> u8
 /// sizes is below 100,000, as most are. A strength alone takes fewer steps if it is from 0 to
 /// 99.999.
 #[inline(always)]
+#[tactic(auto, using(crate::proofs::Rows::Sizes::sizes))]
 fn put_doppler_and_strength(columns: &mut [u8], values: &ValueRefs)
     requires fits { HaveRoom values.now }
     requires room { length columns.old ≡ 32 }

@@ -12,5 +12,5 @@ zeros_are ds size small =
 pub columns_from-requires : goal.columns_from-requires
 columns_from-requires c = grind (arith, common_steps, leading-le, length-take, zeros_are c.args.digits c.fits-digits.0 c.requires)
 
-pub returns-clause-text : goal.returns-clause-text
-returns-clause-text c v fits sign are = c.columns_from.ensures.text v fits sign are (zeros_are c.args.digits c.fits-digits.0 c.requires)
+pub returns : goal.returns
+returns c v fits sign are = c.columns_from.ensures v fits sign are (zeros_are c.args.digits c.fits-digits.0 c.requires)
