@@ -1,5 +1,5 @@
 -- Each row's line is the one that the row's own function makes; a row that has no line for this plan has none here.
-use Rattle.rinex_file.proofs.Names.{common_steps, shown_by, unwrap_or, ◌∙◌, sym, ap, [], ◌∷◌, row_line, row_content, line_with, length_indices, few_signals, arith, interval_content, HeaderRow, Version, Texts, Position, Delta, First, Interval, Shift, Biases, End, inl, inr, List, Shown, ℕ, ◌≡◌, refl, version_content}
+use Rattle.rinex_file.proofs.Names.{shown_by, unwrap_or, ◌∙◌, sym, ap, [], ◌∷◌, row_line, row_content, line_with, few_signals, interval_content, HeaderRow, Version, Texts, Position, Delta, First, Interval, Shift, Biases, End, inl, inr, List, Shown, ℕ, ◌≡◌, refl, version_content}
 use Rattle.rinex_file.proofs.header.head.line_of.Goals as goal
 
 -- the line that another row's function or this row makes, if it has this row's content
@@ -22,10 +22,6 @@ returns-in-Delta c = own_line (shown_by c.args.head.now) Delta refl c.in-Delta.i
 pub types_with-requires-clause-count : goal.types_with-requires-clause-count
 types_with-requires-clause-count c = few_signals c.in-Types.system c.of-signals.result.now c.of-signals.ensures.system
 
-pub returns-in-Types : goal.returns-in-Types
-unfolding row_line
-returns-in-Types c = grind (arith, common_steps, c.types_with.ensures, c.of-signals.ensures, c.in-Types.is, length_indices)
-
 pub returns-in-StrengthUnit : goal.returns-in-StrengthUnit
 returns-in-StrengthUnit c = own_line (shown_by c.args.head.now) c.args.row c.in-StrengthUnit.is c.in-StrengthUnit.is c.line.ensures refl
 
@@ -34,13 +30,6 @@ returns-in-First c = own_line (shown_by c.args.head.now) First refl c.in-First.i
 
 pub returns-in-Interval : goal.returns-in-Interval
 returns-in-Interval c = own_line (shown_by c.args.head.now) Interval refl c.in-Interval.is c.interval_line.ensures (ap (λ o. interval_content (unwrap_or o 0)) c.unwrap.ensures)
-
-pub slots_with-requires : goal.slots_with-requires
-slots_with-requires c = grind (arith, c.in-Slots.is, c.requires, c.slots_in.ensures.value, c.channels-channels.ensures, c.slots_in.ensures.bound)
-
-pub returns-in-Slots : goal.returns-in-Slots
-unfolding row_line
-returns-in-Slots c = grind (arith, common_steps, c.slots_with.ensures, c.slots_in.ensures, c.channels-channels.ensures, c.in-Slots.is)
 
 pub returns-in-Biases : goal.returns-in-Biases
 returns-in-Biases c =

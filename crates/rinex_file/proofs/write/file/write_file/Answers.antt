@@ -1,5 +1,5 @@
-use Rattle.rinex_file.proofs.Writing.Stored.{lines_have_room, all_written, one_more}
-use Rattle.rinex_file.proofs.Names.{arith, common_steps, sym, subst, All, HaveRowsRoom}
+use Rattle.rinex_file.proofs.Writing.Stored.{lines_have_room, all_written}
+use Rattle.rinex_file.proofs.Names.{sym, subst, All, HaveRowsRoom}
 use Rattle.rinex_file.proofs.write.file.write_file.Goals as goal
 
 pub write_stored-requires : goal.write_stored-requires
@@ -12,6 +12,3 @@ returns c =
     let (first, at, written) = c.loop-epoch.invariant in
     all_written c.args.text.now.inner.items c.loop-epoch.epoch-index c.file.view_is c.file.invariant.0 c.as_slice-epochs.ensures.value at
     c.loop-epoch-test.false written
-
-pub loop-epoch-preserved : goal.loop-epoch-preserved
-loop-epoch-preserved c = grind (arith, common_steps, c.loop-epoch.invariant, c.loop-epoch-test.true, c.epoch-item.is, c.in_ok-write_stored.ensures, one_more)

@@ -13,9 +13,7 @@ next_line-requires g c = grind (arith, common_steps, c.requires, c.expects_row.e
 -- the line of a satellite was read, or there is a fault
 row_or_fault : (old new : EpochReader) (es : List Stamped) (e : Stamped) (input before left : Option (List ℕ)) (r : Result Bool ReadFault) → ExpectsRow old.parser_state.expected → HasReadRows old es e input before
     → ReadsNextLine old new (record { epochs = es; rows = e.rows }) input left r → ReadsRow old new es e input left r
-row_or_fault old new es e input before left (Ok true) inside part (after, read, counted, adds) =
-    let (more, plan) = row_read old new es e input before left after inside part read adds in
-    (more, row_planned new es e input left more, omega (arith, counted), plan)
+row_or_fault old new es e input before left (Ok true) inside part (after, read, counted, adds) = grind (arith, common_steps, row_planned, row_read old new es e input before left after inside part read adds)
 row_or_fault old new es e input before left (Ok false) inside part (whole, expected, same) = absurd (subst ExpectsRow expected inside)
 row_or_fault old new es e input before left (Err fault) inside part stops = stops
 
