@@ -28,8 +28,7 @@ use std::simd::prelude::*;
 fn put_value(columns: &mut [u8], value: &Option<Thousandths>, lost: u8, strength: u8)
     requires fits { IfSome value.now FitsColumns }
     requires room { length columns.old ≡ value_columns }
-    ensures text { columns.new ≡ field value.now lost strength }
-    ensures size { length columns.new ≡ value_columns }
+    ensures { columns.new ≡ field value.now lost strength }
 {
     let Some(value) = value else {
         return columns.fill(b' ');
@@ -45,8 +44,7 @@ fn put_value(columns: &mut [u8], value: &Option<Thousandths>, lost: u8, strength
 fn put_range(columns: &mut [u8], value: &Option<Thousandths>, strength: u8)
     requires fits { IfSome value.now FitsColumns }
     requires room { length columns.old ≡ value_columns }
-    ensures text { columns.new ≡ field value.now 32 strength }
-    ensures size { length columns.new ≡ value_columns }
+    ensures { columns.new ≡ field value.now 32 strength }
 {
     let Some(value) = value else {
         return columns.fill(b' ');
@@ -73,8 +71,7 @@ pub(crate) fn strength_column(strength: &Option<Thousandths>) -> u8
 fn put_doppler_and_strength(columns: &mut [u8], values: &ValueRefs)
     requires fits { HaveRoom values.now }
     requires room { length columns.old ≡ 32 }
-    ensures text { columns.new ≡ field values.now.d 32 32 ++ field values.now.s 32 32 }
-    ensures size { length columns.new ≡ 32 }
+    ensures { columns.new ≡ field values.now.d 32 32 ++ field values.now.s 32 32 }
 {
     let (front, back) = columns.split_at_mut(VALUE_COLUMNS);
     if let (Some(shift), Some(density)) = (values.d, values.s) {
