@@ -4,6 +4,3 @@ use Rattle.line_texts.proofs.texts.coordinate_of.Goals as goal
 
 pub returns-in_err-length_below-in-None : goal.returns-in_err-length_below-in-None
 returns-in_err-length_below-in-None c = rw (no_sign c.args.text.now _ (strip_prefix_char 45 _ _ c.strip_prefix.ensures.cases (omega arith)) c.in-None.is) (search rules)
-
-pub returns-in_ok-length_below-in-None : goal.returns-in_ok-length_below-in-None
-returns-in_ok-length_below-in-None c = rw (no_sign c.args.text.now _ (strip_prefix_char 45 _ _ c.strip_prefix.ensures.cases (omega arith)) c.in-None.is) (search rules)

@@ -1,9 +1,5 @@
 use Rattle.std.proofs.Common.{◌∙◌, rules, sym}
-use Rattle.line_texts.proofs.LengthLaws.{no_time}
 use Rattle.line_texts.proofs.texts.hour_of.Goals as goal
 
 pub returns : goal.returns
 returns c = (c.in_ok-civil_in.field-0, sym c.civil_in.ensures ∙ c.in_ok-civil_in.was, c.in_ok-time.ensures.some, search rules)
-
-pub returns-in_err-time : goal.returns-in_err-time
-returns-in_err-time c = rw c.from_residual-in_err-time.ensures (no_time c.in_ok-civil_in.field-0 (sym c.civil_in.ensures ∙ c.in_ok-civil_in.was) c.in_err-time.ensures.none)
