@@ -109,8 +109,7 @@ last_entry o = grind arith
 
 module _ (known : ChannelsValue) (rest text : List ℕ) (same : channels_after known (between_commas rest) ≡ channels_after no_channels (between_commas text)) where
   pub entry_refused : (entry after : List ℕ) → 0 < length text → between_commas rest ≡ entry ∷ between_commas after → with_entry known entry ≡ None → channels_of text ≡ None
-  entry_refused entry after some split none =
-      of_text text some ∙ sym same ∙ ap (channels_after known) split ∙ ap (option_and_then (λ channels. channels_after channels (between_commas after))) none
+  entry_refused entry after some split none = grind (arith, common_steps, of_text)
 
   pub entry_taken : (entry after : List ℕ) {channels : ChannelsValue} → between_commas rest ≡ entry ∷ between_commas after → with_entry known entry ≡ Some channels
       → channels_after channels (between_commas after) ≡ channels_after no_channels (between_commas text)
@@ -136,17 +135,13 @@ joined_more (x ∷ xs) t h = after_some (join_with_byte 0x2C (x ∷ xs)) t (join
 -- the texts of the slots before the one at place i, and of that one, which has this number or none
 module _ (channels : ChannelsValue) (i : ℕ) (are : AreChannels channels) (within : i < length channels) where
   next_texts : slot_texts 1 (take (i + 1) channels) ≡ slot_texts 1 (take i channels) ++ slot_texts (i + 1) (get_or channels i None ∷ [])
-  next_texts =
-      ap (slot_texts 1) (take_more channels i None within) ∙ texts_more 1 (take i channels) (get_or channels i None)
-      ∙ ap (λ (k : ℕ). slot_texts 1 (take i channels) ++ slot_texts k (get_or channels i None ∷ [])) (omega (arith, length-take-le i channels (omega (arith, within))))
+  next_texts = grind (arith, common_steps, take_more, texts_more, length-take-le)
 
   pub slot_none : get_or channels i None ≡ None → channels_text (take (i + 1) channels) ≡ channels_text (take i channels)
   slot_none none = ap (join_with_byte 0x2C) (next_texts ∙ ap (λ (x : Option ℕ). slot_texts 1 (take i channels) ++ slot_texts (i + 1) (x ∷ [])) none ∙ append-nil (slot_texts 1 (take i channels)))
 
   pub slot_some : (n : ℕ) → get_or channels i None ≡ Some n → channels_text (take (i + 1) channels) ≡ after_comma (channels_text (take i channels)) (slot_text (i + 1) n)
-  slot_some n is =
-      ap (join_with_byte 0x2C) (next_texts ∙ ap (λ (x : Option ℕ). slot_texts 1 (take i channels) ++ slot_texts (i + 1) (x ∷ [])) is)
-      ∙ sym (joined_more (slot_texts 1 (take i channels)) (slot_text (i + 1) n) (slots_plain 1 (take i channels) (omega (arith, length-take-le i channels (omega (arith, within)), are.slots, within)) (All-take (λ number. IfSome number (λ n. n ≤ most_number)) i channels are.each)))
+  slot_some n is = grind (arith, common_steps, next_texts, joined_more, slots_plain, length-take-le, All-take)
 
 pub number_here : (channels : ChannelsValue) (i : ℕ) → number_at channels (i + 1) ≡ get_or channels i None
 number_here channels i = ap (λ (k : ℕ). get_or channels k None) (omega arith)

@@ -1,5 +1,5 @@
 -- Numbers, dates and lengths that are read from text, and lengths that were written.
-use Rattle.line_texts.proofs.Names.{and_from, and_parts, le-leb, le-ltb, lt-ltb, inl, inr, ◌↔◌, IsNumeral, digits_value, signed_digits_value, without_leading_sign, decimal_is_IsNumeral, ParsesUnsigned, IsCivilOf, week, weeks, Civil, IsHourOf, IsTimeAt, IsWeekNumber, IsWeekOf, civil_in, if◌then◌else◌, option_and_then, nat_lt, nat_tests, common_steps, list_all, result_ok, is_digit, digits_from, digits_in, next_digit, number_of as digits_number, number_of, MatchOption, IsNumeralModel, numerals_by_fold, parse_plain, digits_value_short, position_or_len, position_or_len_is, get_or_append_left, get_or_at, take_at, drop_at, length_push, decimal_nonempty, digits_decimal, digits_value-decimal, length-decimal-le, list_all-append, AllPass-from_list_all, after_byte, cut, decimals_of, fixed_by, fixed_point, length_below, four_digits, size_text, ◌≡◌, ◌≢◌, ◌∙◌, ◌≤◌, ◌<◌, ◌+◌, ◌-◌, ◌*◌, ◌/◌, ◌%◌, ◌^◌, ◌==◌, ◌++◌, ℕ, pos, Bool, true, false, not, List, [], ◌∷◌, Option, Some, None, Result, Ok, Err, IfSome, Bor, option_map, length, length-append, get_or, drop, decimal, codes, append_assoc, arith, rules, refl, sym, ap, subst, lit≤}
+use Rattle.line_texts.proofs.Names.{and_from, and_parts, le-leb, le-ltb, lt-ltb, inl, inr, ◌↔◌, IsNumeral, digits_value, signed_digits_value, without_leading_sign, decimal_is_IsNumeral, ParsesUnsigned, IsCivilOf, week, weeks, Civil, IsHourOf, IsTimeAt, IsWeekNumber, IsWeekOf, civil_in, nat_tests, common_steps, list_all, result_ok, is_digit, digits_from, digits_in, next_digit, number_of as digits_number, number_of, MatchOption, IsNumeralModel, numerals_by_fold, parse_plain, digits_value_short, position_or_len, position_or_len_is, get_or_append_left, get_or_at, take_at, drop_at, length_push, decimal_nonempty, digits_decimal, digits_value-decimal, length-decimal-le, list_all-append, AllPass-from_list_all, after_byte, cut, decimals_of, fixed_point, length_below, four_digits, size_text, ◌≡◌, ◌≢◌, ◌∙◌, ◌≤◌, ◌<◌, ◌+◌, ◌*◌, ◌/◌, ◌%◌, ◌^◌, ◌==◌, ◌++◌, ℕ, pos, true, false, not, List, [], ◌∷◌, Option, Some, None, Result, Ok, Err, IfSome, Bor, length, length-append, get_or, drop, decimal, codes, append_assoc, arith, rules, refl, sym, ap, subst, lit≤}
 
 -- ---- numbers of digits alone
 
@@ -134,26 +134,16 @@ module _ (n : ℕ) (small : n < 10 ^ 12) where
   whole_read = decimal_read 8 (n / 10000) (omega arith) whole_small whole_fits
 
   decimals_read : decimals_of 4 (four_digits n) ≡ Some (n % 10000)
-  decimals_read =
-      let four = number_read 4 (four_digits n) (lit≤ tt) (lit≤ tt) (four_are_digits n) ∙ ap (λ (k : ℕ). Some k) (four_read n) in
-      ap (option_map (λ k. k * 10 ^ (4 - length (four_digits n)))) four ∙ ap (λ (k : ℕ). Some k) (times_one (n % 10000) (10 ^ (4 - length (four_digits n))) refl)
+  decimals_read = grind (arith, common_steps, number_read, lit≤, four_are_digits, four_read, times_one)
 
   pub size_read : fixed_point 4 (size_text n) ≡ Some n
-  size_read =
-      let whole = decimal (n / 10000) in
-      let text = whole ++ 0x2E ∷ four_digits n in
-      let parted : cut 0x2E text ≡ Some (whole, four_digits n) = cut_first 0x2E whole (four_digits n) (no_byte 0x2E whole refl all_digits) in
-      ap (fixed_point 4) (size_shape n) ∙ ap (fixed_by 4 text) parted
-      ∙ ap (option_and_then (λ k. option_map (λ d. k * 10000 + d) (decimals_of 4 (four_digits n)))) whole_read
-      ∙ ap (option_map (λ d. n / 10000 * 10000 + d)) decimals_read ∙ ap (λ (k : ℕ). Some k) (joined n)
+  size_read = grind (arith, common_steps, cut_first, no_byte, all_digits, size_shape, whole_read, decimals_read, joined)
 
   pub size_below : (bound : ℕ) → n < bound → length_below bound (size_text n) ≡ Some n
-  size_below bound less =
-      ap (option_and_then (λ k. if nat_lt k bound then Some k else None)) size_read ∙ ap (λ (b : Bool). if b then Some n else None) (lt-ltb n bound less)
+  size_below bound less = grind (arith, common_steps, size_read, lt-ltb)
 
   pub size_unsigned : after_byte 45 (size_text n) ≡ None
-  size_unsigned =
-      ap (after_byte 45) (size_shape n) ∙ no_minus (decimal (n / 10000)) (0x2E ∷ four_digits n) (decimal_nonempty (n / 10000) whole_fits) all_digits
+  size_unsigned = grind (arith, common_steps, size_shape, no_minus, decimal_nonempty, whole_fits, all_digits)
 
   -- no comma is in it
   pub size_whole : list_all (λ x. not (x == 0x2C)) (size_text n) ≡ true
