@@ -1,5 +1,5 @@
 -- Signal counts as a consumer of frames.
-use Rattle.rtcm_inspect.proofs.Names.{Printed, greatest_in, AreSaidIn, common_steps, ◌≡◌, ◌∙◌, inr, ◌+◌, ◌*◌, ◌<◌, ◌≤◌, ◌^◌, ap, sym, subst, arith, Bool, true, false, not, ◌&&◌, nat_lt, ℕ, List, [], ◌∷◌, ◌++◌, Option, Some, None, Result, Ok, Err, length, length-append, append-nil, refl, Framed, frames_of, known_frames, Device, Devices, StreamFault, ⊤, InspectFault, stream_fault, AtFault, Passes, BreaksReading, PassesAll, PassesToLimit, Reads, FramerValue, most_bytes, AreSignalCounts, CountsMessage, SignalCountsValue, inspected, message_at, MsgFault, Message, AreFirst, EndsStream, ReadsTooMuch, Counts, StopsCounting, HasCounted, IsCounted, AreSignals, NeverFails, StreamSignals, StreamCounts, AreFrameCounts, is_msm, msm_in, stream_counts, filter-append, length-filter, count_by-le-length, piece_bytes, forms_had, channels_in, HeardCell, Takes, StationParts, option_or, option_and_then, option_to_list, if◌then◌else◌, IfSome, InRange, point_of, sender, stations_of, first_two, inspected_at, inspected_in, inspected_of, option_map_or, valued, valued_of, tow_of, heard, every_channel, needs_all, MsmSet, is_in_set, FirstTwo, FirstTows, AreTows, ChannelsValue, channel_of_1020, sent_by, sent_channels, with_sent, Other, Station, FormedMsm, MsmHeader, Msm, is_of_station, Forms, have_form, cond, ◌%◌, most_pairs, SaidWeeks}
+use Rattle.rtcm_inspect.proofs.Names.{Printed, greatest_in, AreSaidIn, common_steps, ◌≡◌, ◌∙◌, ◌+◌, ◌*◌, ◌<◌, ◌≤◌, ◌^◌, ap, sym, subst, arith, Bool, true, false, not, ◌&&◌, nat_lt, ℕ, List, [], ◌∷◌, ◌++◌, Option, Some, None, Result, Ok, Err, length, length-append, append-nil, refl, Framed, frames_of, known_frames, Device, Devices, StreamFault, ⊤, InspectFault, stream_fault, AtFault, Passes, BreaksReading, PassesAll, PassesToLimit, Reads, FramerValue, most_bytes, AreSignalCounts, CountsMessage, SignalCountsValue, inspected, message_at, MsgFault, Message, AreFirst, EndsStream, ReadsTooMuch, Counts, StopsCounting, HasCounted, IsCounted, AreSignals, NeverFails, StreamSignals, StreamCounts, AreFrameCounts, is_msm, msm_in, stream_counts, filter-append, length-filter, count_by-le-length, piece_bytes, forms_had, channels_in, HeardCell, Takes, StationParts, option_or, option_and_then, option_to_list, if◌then◌else◌, IfSome, InRange, point_of, sender, stations_of, first_two, inspected_at, inspected_in, inspected_of, option_map_or, valued, valued_of, tow_of, heard, every_channel, needs_all, MsmSet, is_in_set, FirstTwo, FirstTows, AreTows, ChannelsValue, channel_of_1020, sent_by, sent_channels, with_sent, Other, Station, FormedMsm, MsmHeader, Msm, is_of_station, Forms, have_form, ◌%◌, most_pairs, SaidWeeks}
 use Rattle.rtcm_msg.specs.declared.number.Forms.TheVariants as forms
 use Rattle.rtcm_inspect.proofs.CountedLemmas.{filter_map-push}
 use Rattle.rtcm_inspect.proofs.FirstLemmas.{first_more, or_none}
@@ -20,13 +20,7 @@ msm_few : (fs : List Framed) → length (msm_in fs) ≤ length fs
 msm_few fs = let e = length-filter (λ g. is_msm (message_at g.message)) fs in let few = count_by-le-length (λ g. is_msm (message_at g.message)) fs in omega (arith, e, few)
 
 numbers_more : {x y : StreamCounts} (fs : List Framed) (f : Framed) → y.frames ≡ (x.frames + 1) % 2 ^ 64 → y.msm ≡ (if is_msm (message_at f.message) then (x.msm + 1) % 2 ^ 64 else x.msm) → length fs < 2 ^ 56 → AreFrameCounts x fs → AreFrameCounts y (fs ++ f ∷ [])
-numbers_more {x} {y} fs f frames msm few h = record { frames = frames ∙ omega (arith, h.frames, few, length-append fs (f ∷ [])); msm = by (is_msm (message_at f.message)) refl msm } where
-  msm_more : {has : Bool} → is_msm (message_at f.message) ≡ has → length (msm_in (fs ++ f ∷ [])) ≡ length (msm_in fs) + length (cond has (f ∷ []) [])
-  msm_more is = grind (arith, filter-append, length-append {A = Framed})
-
-  by : (has : Bool) → is_msm (message_at f.message) ≡ has → y.msm ≡ (if has then (x.msm + 1) % 2 ^ 64 else x.msm) → y.msm ≡ length (msm_in (fs ++ f ∷ []))
-  by true is e = e ∙ omega (arith, h.msm, few, msm_few fs, msm_more is)
-  by false is e = e ∙ omega (arith, h.msm, msm_more is)
+numbers_more {x} {y} fs f frames msm few h = grind (arith, common_steps, length-append, filter-append, msm_few)
 
 -- a frame was counted; its message is read after what it says of the week
 abbrev begun : StreamSignals → SaidWeeks → ℕ → StreamSignals
@@ -128,9 +122,7 @@ module _ (x : StreamSignals) (f : Framed) (v : FormedMsm) (is : message_at f.mes
   msm_sent own = sent_without_1020 x.station f (Ok (Msm v)) is refl ∙ ap (λ (b : Bool). if b then sent_channels (Msm v) else []) own
 
   msm_sender : {stations : FirstTwo} → ((ns : List ℕ) → x.first.stations ≡ first_two ns → stations ≡ first_two (ns ++ header.station ∷ [])) → (ns : List ℕ) → x.first.stations ≡ first_two ns → stations ≡ first_two (ns ++ option_to_list (sender (inspected (Msm v))))
-  msm_sender stations ns h =
-      let is_sender : option_to_list (sender (inspected (Msm v))) ≡ header.station ∷ [] = grind (arith, same) in
-      stations ns h ∙ ap (λ (l : List ℕ). first_two (ns ++ l)) (sym is_sender)
+  msm_sender stations ns h = grind (arith, common_steps)
 
   pub takes_another : {stations : FirstTwo} → is_of_station x.station (inspected (Msm v)) ≡ false → ((ns : List ℕ) → x.first.stations ≡ first_two ns → stations ≡ first_two (ns ++ header.station ∷ []))
       → Takes x (record x { first = record x.first { stations = stations }; counts = record x.counts { msm = (x.counts.msm + 1) % 2 ^ 64 } }) f (message_at f.message)
@@ -141,25 +133,7 @@ module _ (x : StreamSignals) (f : Framed) (v : FormedMsm) (is : message_at f.mes
       → had ≡ (if any && not (have_form x.forms v.form) then forms.All else x.forms) → channels ≡ with_sent x.channels (sent_channels (Msm v))
       → ((fs : List Framed) → length fs < 2 ^ 56 → AreTows x.first.tows x.station fs → AreTows tows x.station (fs ++ f ∷ []))
       → Takes x (record x { signal_counts = counts; forms = had; channels = channels; first = record x.first { tows = tows; stations = stations }; counts = record x.counts { msm = (x.counts.msm + 1) % 2 ^ 64 } }) f (message_at f.message)
-  takes_msm {counts} {any = any} own stations counted is_any had channels tows = rw is (record {
-    station = refl;
-    weeks = refl;
-    frames = refl;
-    msm = refl;
-    counted = λ cells few h. subst (λ (l : List HeardCell). AreSignalCounts counts (cells ++ l)) (sym cells_own) (counted.counts cells few h);
-    few = subst (λ (l : List HeardCell). length l ≤ most_pairs) (sym cells_own) counted.few;
-    forms = had ∙ forms_kept x.forms any v.form ∙ ap (λ (b : Bool). if b then forms.All else x.forms) (sym needs);
-    channels = channels ∙ ap (with_sent x.channels) (sym (msm_sent own));
-    point = msm_point;
-    in_range = λ h. h;
-    stations = msm_sender stations;
-    tows = tows;
-  }) where
-    cells_own : valued x.station (inspected (Msm v)) ≡ valued None (inspected (Msm v))
-    cells_own = ap (λ (b : Bool). if b then valued None (inspected (Msm v)) else []) own
-
-    needs : needs_all x.station (Ok (Msm v)) ≡ (not (have_form forms.FourAndSeven v.form) && any)
-    needs = rw (own, is_any) refl
+  takes_msm {counts} {any = any} own stations counted is_any had channels tows = grind (arith, common_steps, forms_kept, msm_sent, msm_point, msm_sender)
 
 -- the numbers of a stream, of those of its bytes and of its frames
 pub all_numbers : {c : StreamCounts} (b : List ℕ) → c.bytes ≡ length b → AreFrameCounts c (frames_of b) → c ≡ stream_counts b
@@ -213,6 +187,5 @@ counting_stopped left v2 c2 rd rd2 (stream.Sink fault) began broke = absurd (cou
 pub stream_printed : {R W : Type 0} {text : List ℕ} (IsText : List Framed → List ℕ → Type 0) (IsRefused : List ℕ → InspectFault → Type 0) (d d2 : Devices R W) (ended : Result ⊤ InspectFault) {s : StreamSignals} {wanted : Option ℕ}
     (h : HasCounted s wanted d.reader.unread d2.reader.unread) → IsText (frames_of h.0) text → d2.reader.device.failures ≡ d.reader.device.failures → Printed faults.Write ended d.writer d2.writer text
     → EndsStream ended IsText IsRefused d d2
-stream_printed {text = text} IsText IsRefused d d2 (Ok u) h is same p = ((same, p.ends.0, p.ends.1), (h.0, h.1, h.2, (text, is, p.ends.2)))
-stream_printed {text = text} IsText IsRefused d d2 (Err fault) h is same p =
-    subst (λ (f : InspectFault). EndsStream {A = ⊤} (Err f) IsText IsRefused d d2) (sym p.ends.0) ((same, p.ends.1.0), inr (h.0, h.1, h.2, (text, is, p.ends.1.1)))
+stream_printed {text = text} IsText IsRefused d d2 (Ok u) h is same p = grind (arith, common_steps)
+stream_printed {text = text} IsText IsRefused d d2 (Err fault) h is same p = grind (arith, common_steps)

@@ -1,5 +1,5 @@
 -- The channel of a slot is the first valid one.
-use Rattle.rtcm_inspect.proofs.Names.{option_or, get_or-replicate, length-replicate, common_steps, arith, Bool, ChannelsValue, List, None, Option, Some, [], ap, flat_map, if◌then◌else◌, length, most_number, nat_le, nat_tests, no_channels, number_at, sent_in, slot_count, sym, with_first, with_sent, ℕ, ◌&&◌, ◌-◌, ◌==◌, ◌∙◌, ◌∷◌, ◌≡◌, ◌≤◌, AreFirstChannels, first_valid}
+use Rattle.rtcm_inspect.proofs.Names.{option_or, get_or-replicate, length-replicate, common_steps, arith, Bool, ChannelsValue, List, None, Option, Some, [], if◌then◌else◌, length, most_number, nat_le, nat_tests, no_channels, number_at, slot_count, sym, with_first, with_sent, ℕ, ◌&&◌, ◌-◌, ◌==◌, ◌∷◌, ◌≡◌, ◌≤◌, AreFirstChannels, first_valid}
 use Rattle.rtcm_inspect.proofs.FirstLemmas.{or_none}
 
 abbrev is_first : ℕ → ℕ × ℕ → Bool
@@ -30,6 +30,4 @@ nothing_known : (slot : ℕ) → 1 ≤ slot → slot ≤ slot_count → number_a
 nothing_known slot low high = get_or-replicate slot_count (slot - 1) None None (omega (arith, low, high))
 
 pub first_channels : AreFirstChannels
-first_channels wanted fs slot low high =
-    after_all no_channels (flat_map (sent_in wanted) fs) slot (length-replicate {A = Option ℕ} slot_count None) low high
-    ∙ ap (λ (o : Option ℕ). option_or o (first_valid slot (flat_map (sent_in wanted) fs))) (nothing_known slot low high)
+first_channels wanted fs slot low high = grind (arith, common_steps, after_all, length-replicate, nothing_known)

@@ -1,5 +1,5 @@
 -- The line of the options, of its parts.
-use Rattle.rtcm_inspect.proofs.Names.{end_line, words_after, ◌≡◌, ◌∙◌, [], ◌∷◌, ◌++◌, ℕ, List, Option, Some, None, ap, sym, append_assoc, append-nil, codes, refl, flat_map, flat_map-append, PlanValue, Gps, Galileo, System, StationParts, codes_word, Forms, forms_words, number_start, number_words, options_line, station_words, line, with_words, systems, first_words, other_words}
+use Rattle.rtcm_inspect.proofs.Names.{end_line, words_after, ◌≡◌, ◌∙◌, [], ◌∷◌, ◌++◌, ℕ, List, Option, Some, None, ap, sym, append_assoc, append-nil, codes, refl, flat_map, flat_map-append, PlanValue, Gps, Galileo, System, StationParts, codes_word, Forms, forms_words, number_start, number_words, options_line, station_words, line, with_words, systems, first_words, other_words, arith, common_steps}
 
 -- an option with a number before the words of a line
 first_option : (name : List ℕ) (n : Option ℕ) (w : List ℕ) (ws : List (List ℕ)) → number_start name n ++ line (w ∷ ws) ≡ line (number_words name n ++ w ∷ ws)
@@ -20,9 +20,7 @@ words_more text (w ∷ ws) more = words_more (text ++ 0x20 ∷ w) ws more
 -- the words of one more system
 pub others_more : (leap : Option ℕ) (p : PlanValue) (t : List ℕ) (ss : List System) (s : System)
     → with_words (with_words t (flat_map (other_words leap p) ss)) (other_words leap p s) ≡ with_words t (flat_map (other_words leap p) (ss ++ s ∷ []))
-others_more leap p t ss s =
-    words_more t (flat_map (other_words leap p) ss) (other_words leap p s)
-    ∙ ap (with_words t) (ap (λ (l : List (List ℕ)). flat_map (other_words leap p) ss ++ l) (sym (append-nil (other_words leap p s))) ∙ sym (flat_map-append (other_words leap p) ss (s ∷ [])))
+others_more leap p t ss s = grind (arith, common_steps, words_more, append-nil, flat_map-append)
 
 -- the line, of its first words, those of the other systems, and the last ones
 pub line_made : (week leap own : Option ℕ) (p : PlanValue) (forms : Forms) (point : Option StationParts) {one two all : List ℕ} → one ≡ first_words week own p → two ≡ with_words one (flat_map (other_words leap p) systems)

@@ -1,5 +1,5 @@
 -- The plan of the signals of a stream has a column for each of its values, and their line is parsed as that plan.
-use Rattle.rtcm_inspect.proofs.Names.{first_code, is_comma, last_code, lt-ltb, ltb-true, ◌≡◌, ℕ, zero, suc, ◌+◌, ◌<◌, ◌≤◌, ◌==◌, ◌&&◌, ◌||◌, Bool, true, false, not, List, [], ◌∷◌, ◌++◌, length, refl, sym, ap, ap₂, ◌∙◌, subst, arith, filter, map, All, Some, Result, Ok, Err, nat_eq, get_or, append-nil, append_assoc, is_some, AllPass-from_list_all, common_steps, nat_tests, slice_get-get_or, cond, nat_lt, position, list_any, position_or_len, bytes_eq, filter-append, list_any-append, System, SignalAt, IsSignal, table, code_of, signal_of_code, PlanFault, RepeatedCode, is_planned, has_listed_key, GatherSetup, HeardCell, IsKey, below, place_in, between_commas, one_signal_more, signals_after, signals_of, plan_of, planned_of, is_of_signal, count_of, signal_in, had, plan_had, plan_with, ChannelsValue, code_list, codes_word, list_any_at, tabulate, not_all, tabulated_same, value_tabulated, plan_by, signals_in}
+use Rattle.rtcm_inspect.proofs.Names.{first_code, is_comma, last_code, lt-ltb, ltb-true, ◌≡◌, ℕ, zero, suc, ◌+◌, ◌<◌, ◌≤◌, ◌==◌, ◌&&◌, ◌||◌, Bool, true, false, not, List, [], ◌∷◌, ◌++◌, length, refl, sym, ap, ap₂, ◌∙◌, arith, filter, map, All, Some, Result, Ok, Err, nat_eq, get_or, append-nil, append_assoc, is_some, AllPass-from_list_all, common_steps, nat_tests, slice_get-get_or, cond, nat_lt, position, list_any, position_or_len, bytes_eq, filter-append, list_any-append, System, SignalAt, IsSignal, table, code_of, signal_of_code, PlanFault, RepeatedCode, is_planned, has_listed_key, GatherSetup, HeardCell, IsKey, below, place_in, between_commas, one_signal_more, signals_after, signals_of, plan_of, planned_of, is_of_signal, count_of, signal_in, had, plan_had, plan_with, ChannelsValue, code_list, codes_word, list_any_at, tabulate, not_all, tabulated_same, value_tabulated, plan_by, signals_in}
 use Rattle.rtcm_inspect.proofs.SignalLemmas.{any_filter, own_signal}
 
 -- ---- rising indices
@@ -19,10 +19,7 @@ climbs-more low n (i ∷ is) h = (h.0, omega (arith, h.1), climbs-more (i + 1) n
 
 filter-climbs : (p : ℕ → Bool) (n : ℕ) → Climbs 0 n (filter p (below n))
 filter-climbs p zero = tt
-filter-climbs p (suc n) = subst (Climbs 0 (suc n)) (sym (filter-append p (below n) (n ∷ []))) (by (p n) (filter-climbs p n)) where
-  by : (b : Bool) → Climbs 0 n (filter p (below n)) → Climbs 0 (suc n) (filter p (below n) ++ cond b (n ∷ []) [])
-  by true h = climbs-push 0 n (filter p (below n)) (omega arith) h
-  by false h = subst (Climbs 0 (suc n)) (sym (append-nil (filter p (below n)))) (climbs-more 0 n (filter p (below n)) h)
+filter-climbs p (suc n) = grind (arith, common_steps, filter-append, climbs-push, append-nil, climbs-more, filter-climbs p n)
 
 -- ---- codes between commas
 

@@ -1,5 +1,5 @@
 -- The first time of week and the first station message of a stream are in range.
-use Rattle.rtcm_inspect.proofs.Names.{message_value, value_with, IsMessage, point_of, IsBelowWeek, ◌≡◌, ◌<◌, subst, refl, arith, ℕ, List, [], ◌∷◌, Option, IfSome, Result, Ok, Err, option_and_then, option_or, Framed, MsgFault, Message, MsmSet, InRange, every_channel, first_in, first_tow, heard, heard_of, inspected_at, message_at, tow_of, week, IsFirstInRange}
+use Rattle.rtcm_inspect.proofs.Names.{message_value, value_with, IsMessage, point_of, IsBelowWeek, ◌≡◌, ◌<◌, subst, refl, arith, ℕ, List, [], ◌∷◌, Option, IfSome, Result, Ok, Err, option_and_then, option_or, Framed, MsgFault, Message, MsmSet, InRange, every_channel, first_tow, heard, heard_of, tow_of, week, IsFirstInRange, common_steps}
 
 either : {A : Type 0} (P : A → Type 0) (a b : Option A) → IfSome a P → IfSome b P → IfSome (option_or a b) P
 either P a b h k = grind arith
@@ -33,6 +33,4 @@ read_in_range wanted (Err e) value = tt
 
 pub first_in_range : IsFirstInRange
 first_in_range wanted [] = tt
-first_in_range wanted (f ∷ fs) =
-    either InRange (option_and_then (point_of wanted) (inspected_at f.message)) (first_in inspected_at (point_of wanted) fs)
-    (read_in_range wanted (message_at f.message) (message_value f.message)) (first_in_range wanted fs)
+first_in_range wanted (f ∷ fs) = grind (arith, common_steps, either, read_in_range, message_value, first_in_range wanted fs)

@@ -1,5 +1,5 @@
 -- What the ephemerides of a stream say of the week, after one more frame.
-use Rattle.rtcm_inspect.proofs.Names.{suc, zero, get_or_past, Any-from_list_any, list_any_at, SentWeek, greatest_in, rest_by, rests_in, said_after, said_at, whole_by, whole_in, AreSaid, AreSaidIn, common_steps, ◌≡◌, ◌∙◌, ◌<◌, ◌==◌, ◌&&◌, ◌||◌, ◌++◌, ℕ, Bool, true, false, List, [], ◌∷◌, Option, Some, None, ap, arith, below, get_or, length, list_any, list_any-append, option_and_then, option_to_list, refl, subst, sym, Framed, sent_week, SaidWeeks}
+use Rattle.rtcm_inspect.proofs.Names.{suc, zero, get_or_past, Any-from_list_any, list_any_at, SentWeek, greatest_in, rest_by, rests_in, said_after, said_at, whole_by, whole_in, AreSaid, AreSaidIn, common_steps, ◌≡◌, ◌∙◌, ◌<◌, ◌==◌, ◌&&◌, ◌||◌, ◌++◌, ℕ, Bool, true, false, List, [], ◌∷◌, Option, Some, None, arith, below, get_or, length, list_any, list_any-append, option_and_then, option_to_list, refl, subst, sym, Framed, sent_week, SaidWeeks}
 
 -- ---- one more frame
 
@@ -19,8 +19,7 @@ no_sender o says = grind arith
 pub said_now : (says : ℕ → SentWeek → Option ℕ) (wanted : Option ℕ) (fs : List Framed) (f : Framed) (message : List ℕ) {t : Option ℕ} {e : Option SentWeek} {said : Option ℕ} → f.message ≡ message → e ≡ sent_week message
     → t ≡ greatest_in wanted fs → option_and_then (λ t. option_and_then (says t) e) t ≡ said
     → said_after says wanted [] (fs ++ f ∷ []) ≡ said_after says wanted [] fs ++ option_to_list said
-said_now says wanted fs f message is sent greatest said =
-    said_more says wanted [] fs f ∙ ap (λ (o : Option ℕ). said_after says wanted [] fs ++ option_to_list o) (said_of says wanted fs f message is sent greatest ∙ said)
+said_now says wanted fs f message is sent greatest said = grind (arith, common_steps, said_more, said_of)
 
 -- a frame that says nothing
 pub nothing_said : {x : SaidWeeks} {wanted : Option ℕ} {fs : List Framed} (f : Framed) (message : List ℕ) {t : Option ℕ} {e : Option SentWeek} → f.message ≡ message → e ≡ sent_week message → t ≡ greatest_in wanted fs
@@ -31,10 +30,7 @@ nothing_said f message is sent greatest none h = grind (arith, common_steps, sai
 pub both_said : {x y : SaidWeeks} {wanted : Option ℕ} {fs : List Framed} (f : Framed) (message : List ℕ) (t : ℕ) (e : SentWeek) {whole rest : Option ℕ} → f.message ≡ message → Some e ≡ sent_week message → Some t ≡ greatest_in wanted fs
     → whole ≡ whole_by t e → rest ≡ rest_by t e → (AreSaid x.whole 16_384 (whole_in wanted fs) → AreSaid y.whole 16_384 (whole_in wanted fs ++ option_to_list whole))
     → (AreSaid x.rests 1_024 (rests_in wanted fs) → AreSaid y.rests 1_024 (rests_in wanted fs ++ option_to_list rest)) → AreSaidIn x wanted fs → AreSaidIn y wanted (fs ++ f ∷ [])
-both_said {x} {y} {wanted} {fs} f message t e is sent greatest whole rest more rests h = record {
-  whole = subst (AreSaid y.whole 16_384) (sym (said_now whole_by wanted fs f message is sent greatest (sym whole))) (more h.whole);
-  rests = subst (AreSaid y.rests 1_024) (sym (said_now rest_by wanted fs f message is sent greatest (sym rest))) (rests h.rests);
-}
+both_said {x} {y} {wanted} {fs} f message t e is sent greatest whole rest more rests h = grind (arith, common_steps, said_now)
 
 -- ---- the weeks of a set
 

@@ -1,5 +1,5 @@
 -- The text of the signals of a stream, signal by signal.
-use Rattle.rtcm_inspect.proofs.Names.{le-ltb, lt-ltb, ltb-false, ltb-true, ◌≡◌, ℕ, zero, suc, ◌+◌, ◌<◌, ◌≤◌, ◌||◌, All, Bool, true, false, List, [], ◌∷◌, ◌++◌, length, get_or, refl, sym, ap, ◌∙◌, arith, filter, append-nil, flat_map-append, cond, nat_lt, list_any, All-head, filter-append, length-filter, count_by-le-length, System, table, code_of, below, SignalCountsValue, AreSignalCounts, common_steps, counted, signal_counts, has_any, signal_in, count_of, is_of_signal, had_below, had, code_list, count_line, lines_below, IsKey, HeardCell, list_any-append, has_counted, systems, none_any, some_system, join-push}
+use Rattle.rtcm_inspect.proofs.Names.{le-ltb, lt-ltb, ltb-false, ltb-true, ◌≡◌, ℕ, zero, suc, ◌+◌, ◌<◌, ◌≤◌, ◌||◌, All, Bool, true, false, List, [], ◌∷◌, ◌++◌, length, get_or, refl, ap, ◌∙◌, arith, filter, append-nil, flat_map-append, cond, nat_lt, list_any, All-head, filter-append, length-filter, count_by-le-length, System, table, code_of, below, SignalCountsValue, AreSignalCounts, common_steps, counted, signal_counts, has_any, signal_in, count_of, is_of_signal, had_below, had, code_list, count_line, lines_below, IsKey, HeardCell, list_any-append, has_counted, systems, none_any, some_system, join-push}
 
 below-more : (i : ℕ) → below (i + 1) ≡ below i ++ i ∷ []
 below-more i = let e : i + 1 ≡ suc i = omega arith in rw e refl
@@ -13,9 +13,7 @@ pub record IsCount (c : SignalCountsValue) (cells : List HeardCell) (system : Sy
 -- one more signal of the table: it is in the list if it has cells
 had_more : {c : SignalCountsValue} {cells : List HeardCell} {system : System} {i n : ℕ} → IsCount c cells system i n
     → had_below cells system (i + 1) ≡ had_below cells system i ++ cond (nat_lt 0 n) (i ∷ []) []
-had_more {cells = cells} {system} {i} {n} h =
-    ap (filter (λ i. nat_lt 0 (count_of (signal_in system i) cells))) (below-more i) ∙ filter-append (λ i. nat_lt 0 (count_of (signal_in system i) cells)) (below i) (i ∷ [])
-    ∙ ap (λ (m : ℕ). had_below cells system i ++ cond (nat_lt 0 m) (i ∷ []) []) (sym (h.is ∙ h.counts.each system i h.within))
+had_more {cells = cells} {system} {i} {n} h = grind (arith, common_steps, below-more, filter-append)
 
 pub had_one : {c : SignalCountsValue} {cells : List HeardCell} {system : System} {i n : ℕ} → IsCount c cells system i n → 0 < n → had_below cells system (i + 1) ≡ had_below cells system i ++ i ∷ []
 had_one {cells = cells} {system} {i} {n} h some = had_more h ∙ ap (λ (b : Bool). had_below cells system i ++ cond b (i ∷ []) []) (lt-ltb 0 n some)
@@ -42,10 +40,7 @@ partly_more start text separator system is j h e = grind (arith, common_steps, c
 
 pub lines_one : {c : SignalCountsValue} {cells : List HeardCell} {system : System} {i n : ℕ} {text more line : List ℕ} (start : List ℕ) → IsCount c cells system i n → 0 < n
     → text ≡ start ++ lines_below cells system i → more ≡ text ++ line → line ≡ count_line (signal_in system i) n → more ≡ start ++ lines_below cells system (i + 1)
-lines_one {cells = cells} {system} {i} {line = line} start h some before e same =
-    let f = λ (i : ℕ). count_line (signal_in system i) (count_of (signal_in system i) cells) in
-    let last : line ≡ f i ++ [] = same ∙ ap (count_line (signal_in system i)) (h.is ∙ h.counts.each system i h.within) ∙ sym (append-nil (f i)) in
-    grind (arith, common_steps, flat_map-append, had_one)
+lines_one {cells = cells} {system} {i} {line = line} start h some before e same = grind (arith, common_steps, append-nil, flat_map-append, had_one)
 
 pub lines_none : {c : SignalCountsValue} {cells : List HeardCell} {system : System} {i n : ℕ} {text : List ℕ} (start : List ℕ) → IsCount c cells system i n → n ≤ 0
     → text ≡ start ++ lines_below cells system i → text ≡ start ++ lines_below cells system (i + 1)
